@@ -4,5 +4,6 @@ use mathlib.Core.List
 
 abbrev pub ps : List.List (Kinds.PK 0)
 ps = List.[]
+
 abbrev pub r : Kinds.RK 0
 r = Kinds.rUnit

@@ -68,1970 +68,3840 @@ use mathlib.Core.List.{_∷_}
 
 abbrev ref0 : Syntax.Ty
 ref0 = Syntax.tyRef Syntax.erased Syntax.imm (Syntax.tyArray (Syntax.tyInt Syntax.w8) 12)
+
 abbrev ref1 : Syntax.Ty
 ref1 = Syntax.tyRef Syntax.erased Syntax.imm (Syntax.tyInt Syntax.w8)
+
 abbrev ref2 : Syntax.Ty
 ref2 = Syntax.tyRef Syntax.erased Syntax.mut (Syntax.tyArray RelayPending.to 2)
+
 abbrev ref3 : Syntax.Ty
 ref3 = Syntax.tyRef Syntax.erased Syntax.mut RelayPending.to
+
 abbrev ref4 : Syntax.Ty
 ref4 = Syntax.tyRef Syntax.erased Syntax.mut (Syntax.tyArray RelayCircuit.to 2)
+
 abbrev ref5 : Syntax.Ty
 ref5 = Syntax.tyRef Syntax.erased Syntax.mut RelayCircuit.to
+
 abbrev ref6 : Syntax.Ty
 ref6 = Syntax.tyRef Syntax.erased Syntax.mut (Syntax.tyArray ReservationUsage.to 1)
+
 abbrev ref7 : Syntax.Ty
 ref7 = Syntax.tyRef Syntax.erased Syntax.mut ReservationUsage.to
+
 abbrev ref8 : Syntax.Ty
 ref8 = Syntax.tyRef Syntax.erased Syntax.mut (Syntax.tyArray InflightAction.to 8)
+
 abbrev ref9 : Syntax.Ty
 ref9 = Syntax.tyRef Syntax.erased Syntax.mut InflightAction.to
+
 abbrev ref10 : Syntax.Ty
 ref10 = Syntax.tyRef Syntax.erased Syntax.mut (Syntax.tyArray (Syntax.tyInt Syntax.w32) 4136)
+
 abbrev ref11 : Syntax.Ty
 ref11 = Syntax.tyRef Syntax.erased Syntax.mut (Syntax.tyInt Syntax.w32)
+
 abbrev ref12 : Syntax.Ty
 ref12 = Syntax.tyRef Syntax.erased Syntax.mut (Syntax.tyArray (Syntax.tyInt Syntax.w8) 16385)
+
 abbrev ref13 : Syntax.Ty
 ref13 = Syntax.tyRef Syntax.erased Syntax.mut (Syntax.tyInt Syntax.w8)
+
+abbrev slice1 : Syntax.Ty
+slice1 = Syntax.tyStruct (38 ∷ 91 ∷ 93 ∷ List.[]) (Syntax.tcons ref1
+    (Syntax.tcons (Syntax.tyInt Syntax.w64) Syntax.tnil))
+
+abbrev slice3 : Syntax.Ty
+slice3 = Syntax.tyStruct (38 ∷ 91 ∷ 93 ∷ List.[]) (Syntax.tcons ref3
+    (Syntax.tcons (Syntax.tyInt Syntax.w64) Syntax.tnil))
+
+abbrev slice5 : Syntax.Ty
+slice5 = Syntax.tyStruct (38 ∷ 91 ∷ 93 ∷ List.[]) (Syntax.tcons ref5
+    (Syntax.tcons (Syntax.tyInt Syntax.w64) Syntax.tnil))
+
+abbrev slice7 : Syntax.Ty
+slice7 = Syntax.tyStruct (38 ∷ 91 ∷ 93 ∷ List.[]) (Syntax.tcons ref7
+    (Syntax.tcons (Syntax.tyInt Syntax.w64) Syntax.tnil))
+
+abbrev slice9 : Syntax.Ty
+slice9 = Syntax.tyStruct (38 ∷ 91 ∷ 93 ∷ List.[]) (Syntax.tcons ref9
+    (Syntax.tcons (Syntax.tyInt Syntax.w64) Syntax.tnil))
+
+abbrev slice11 : Syntax.Ty
+slice11 = Syntax.tyStruct (38 ∷ 91 ∷ 93 ∷ List.[]) (Syntax.tcons ref11
+    (Syntax.tcons (Syntax.tyInt Syntax.w64) Syntax.tnil))
+
+abbrev slice13 : Syntax.Ty
+slice13 = Syntax.tyStruct (38 ∷ 91 ∷ 93 ∷ List.[]) (Syntax.tcons ref13
+    (Syntax.tcons (Syntax.tyInt Syntax.w64) Syntax.tnil))
+
 abbrev pub ps : List.List (Kinds.PK 0)
 ps = List.[]
+
 abbrev pub r : Kinds.RK 0
 r = Unit.rUnit
+
 abbrev pub xs : List.List Syntax.Ty
-xs = (Syntax.tyArray RelayPending.ty 2) ∷ (Syntax.tyArray RelayCircuit.ty 2) ∷ (Syntax.tyArray ReservationUsage.ty 1) ∷ (Syntax.tyArray
-    InflightAction.ty 8) ∷ (Syntax.tyArray (Syntax.tyInt Syntax.w32) 4136) ∷ (Syntax.tyArray (Syntax.tyInt Syntax.w8) 16385) ∷ (Syntax.tyArray
-    (Syntax.tyInt Syntax.w8) 12) ∷ RelayPending.ty ∷ RelayCircuit.ty ∷ ReservationUsage.ty ∷ InflightAction.ty ∷ Syntax.tyBool ∷ ref0 ∷
-    (Syntax.tyStruct (38 ∷ 91 ∷ 93 ∷ List.[]) (Syntax.tcons ref1 (Syntax.tcons (Syntax.tyInt Syntax.w64) Syntax.tnil))) ∷ Syntax.tyUnit ∷ ref2 ∷
-    (Syntax.tyStruct (38 ∷ 91 ∷ 93 ∷ List.[]) (Syntax.tcons ref3 (Syntax.tcons (Syntax.tyInt Syntax.w64) Syntax.tnil))) ∷ ref4 ∷ (Syntax.tyStruct (38
-    ∷ 91 ∷ 93 ∷ List.[]) (Syntax.tcons ref5 (Syntax.tcons (Syntax.tyInt Syntax.w64) Syntax.tnil))) ∷ ref6 ∷ (Syntax.tyStruct (38 ∷ 91 ∷ 93 ∷ List.[])
-    (Syntax.tcons ref7 (Syntax.tcons (Syntax.tyInt Syntax.w64) Syntax.tnil))) ∷ ref8 ∷ (Syntax.tyStruct (38 ∷ 91 ∷ 93 ∷ List.[]) (Syntax.tcons ref9
-    (Syntax.tcons (Syntax.tyInt Syntax.w64) Syntax.tnil))) ∷ ref10 ∷ (Syntax.tyStruct (38 ∷ 91 ∷ 93 ∷ List.[]) (Syntax.tcons ref11 (Syntax.tcons
-    (Syntax.tyInt Syntax.w64) Syntax.tnil))) ∷ ref12 ∷ (Syntax.tyStruct (38 ∷ 91 ∷ 93 ∷ List.[]) (Syntax.tcons ref13 (Syntax.tcons (Syntax.tyInt
-    Syntax.w64) Syntax.tnil))) ∷ List.[]
+xs = (Syntax.tyArray RelayPending.ty 2) ∷ (Syntax.tyArray RelayCircuit.ty 2) ∷ (Syntax.tyArray ReservationUsage.ty 1) ∷
+    (Syntax.tyArray InflightAction.ty 8) ∷ (Syntax.tyArray (Syntax.tyInt Syntax.w32) 4136) ∷
+    (Syntax.tyArray (Syntax.tyInt Syntax.w8) 16385) ∷ (Syntax.tyArray (Syntax.tyInt Syntax.w8) 12) ∷ RelayPending.ty ∷
+    RelayCircuit.ty ∷ ReservationUsage.ty ∷ InflightAction.ty ∷ Syntax.tyBool ∷ ref0 ∷ slice1 ∷ Syntax.tyUnit ∷ ref2 ∷
+    slice3 ∷ ref4 ∷ slice5 ∷ ref6 ∷ slice7 ∷ ref8 ∷ slice9 ∷ ref10 ∷ slice11 ∷ ref12 ∷ slice13 ∷ List.[]
+
 abbrev pub m : Nat.ℕ
 m = 7
+
 abbrev pub ps·0 : List.List (Kinds.PK 0)
 ps·0 = List.[]
+
 abbrev pub r·0 : Kinds.RK 0
 r·0 = RelayPending.result
+
 abbrev pub ps·1 : List.List (Kinds.PK 0)
 ps·1 = List.[]
+
 abbrev pub r·1 : Kinds.RK 0
 r·1 = RelayCircuit.result
+
 abbrev pub ps·2 : List.List (Kinds.PK 0)
 ps·2 = List.[]
+
 abbrev pub r·2 : Kinds.RK 0
 r·2 = ReservationUsage.result
+
 abbrev pub ps·3 : List.List (Kinds.PK 0)
 ps·3 = List.[]
+
 abbrev pub r·3 : Kinds.RK 0
 r·3 = InflightAction.result
+
 abbrev pub ps·4 : List.List (Kinds.PK 1)
 ps·4 = (Kinds.pSNum Syntax.w32) ∷ (ShrSlice.pShrS (Referent.rtF (Referent.fInt Syntax.w8)) 0 tt) ∷ List.[]
+
 abbrev pub r·4 : Kinds.RK 1
 r·4 = Bool.rBool
+
 abbrev pub ps·5 : List.List (Kinds.PK 6)
-ps·5 = (MutSlice.pMutS RelayPending.row 0 tt) ∷ (MutSlice.pMutS RelayCircuit.row 1 tt) ∷ (MutSlice.pMutS ReservationUsage.row 2 tt) ∷ (MutSlice.pMutS
-    InflightAction.row 3 tt) ∷ (MutSlice.pMutS (Referent.rtF (Referent.fInt Syntax.w32)) 4 tt) ∷ (MutSlice.pMutS (Referent.rtF (Referent.fInt
-    Syntax.w8)) 5 tt) ∷ List.[]
+ps·5 = (MutSlice.pMutS RelayPending.row 0 tt) ∷ (MutSlice.pMutS RelayCircuit.row 1 tt) ∷
+    (MutSlice.pMutS ReservationUsage.row 2 tt) ∷ (MutSlice.pMutS InflightAction.row 3 tt) ∷ (MutSlice.pMutS
+    (Referent.rtF (Referent.fInt Syntax.w32)) 4 tt) ∷ (MutSlice.pMutS (Referent.rtF (Referent.fInt Syntax.w8)) 5 tt) ∷
+    List.[]
+
 abbrev pub r·5 : Kinds.RK 6
 r·5 = Unit.rUnit
+
 abbrev pub ps·6 : List.List (Kinds.PK 0)
 ps·6 = List.[]
+
 abbrev pub r·6 : Kinds.RK 0
 r·6 = Unit.rUnit
+
 abbrev pub hs : List.List Syntax.Home
-hs = Syntax.valueLocal ∷ Syntax.memorySlot ∷ Syntax.memorySlot ∷ Syntax.memorySlot ∷ Syntax.memorySlot ∷ Syntax.memorySlot ∷ Syntax.memorySlot ∷
-    Syntax.memorySlot ∷ Syntax.valueLocal ∷ Syntax.valueLocal ∷ Syntax.valueLocal ∷ Syntax.valueLocal ∷ Syntax.valueLocal ∷ Syntax.valueLocal ∷
-    Syntax.valueLocal ∷ Syntax.valueLocal ∷ Syntax.valueLocal ∷ Syntax.valueLocal ∷ Syntax.valueLocal ∷ Syntax.valueLocal ∷ Syntax.valueLocal ∷
-    Syntax.valueLocal ∷ Syntax.valueLocal ∷ Syntax.valueLocal ∷ Syntax.valueLocal ∷ Syntax.valueLocal ∷ Syntax.valueLocal ∷ Syntax.valueLocal ∷
-    List.[]
+hs = Syntax.valueLocal ∷ Syntax.memorySlot ∷ Syntax.memorySlot ∷ Syntax.memorySlot ∷ Syntax.memorySlot ∷
+    Syntax.memorySlot ∷ Syntax.memorySlot ∷ Syntax.memorySlot ∷ Syntax.valueLocal ∷ Syntax.valueLocal ∷
+    Syntax.valueLocal ∷ Syntax.valueLocal ∷ Syntax.valueLocal ∷ Syntax.valueLocal ∷ Syntax.valueLocal ∷
+    Syntax.valueLocal ∷ Syntax.valueLocal ∷ Syntax.valueLocal ∷ Syntax.valueLocal ∷ Syntax.valueLocal ∷
+    Syntax.valueLocal ∷ Syntax.valueLocal ∷ Syntax.valueLocal ∷ Syntax.valueLocal ∷ Syntax.valueLocal ∷
+    Syntax.valueLocal ∷ Syntax.valueLocal ∷ Syntax.valueLocal ∷ List.[]
+
 abbrev b0 : Syntax.Body
-b0 = Syntax.assign (Syntax.place 7 List.[]) (Syntax.aggregate ((Syntax.int Syntax.w8 99) ∷ (Syntax.int Syntax.w8 97) ∷ (Syntax.int Syntax.w8 115) ∷
-    (Syntax.int Syntax.w8 101) ∷ (Syntax.int Syntax.w8 32) ∷ (Syntax.int Syntax.w8 97) ∷ (Syntax.int Syntax.w8 110) ∷ (Syntax.int Syntax.w8 115) ∷
-    (Syntax.int Syntax.w8 119) ∷ (Syntax.int Syntax.w8 101) ∷ (Syntax.int Syntax.w8 114) ∷ (Syntax.int Syntax.w8 10) ∷ List.[]))
+b0 = Syntax.assign (Syntax.place 7 List.[]) (Syntax.aggregate ((Syntax.int Syntax.w8 99) ∷ (Syntax.int Syntax.w8 97) ∷
+    (Syntax.int Syntax.w8 115) ∷ (Syntax.int Syntax.w8 101) ∷ (Syntax.int Syntax.w8 32) ∷ (Syntax.int Syntax.w8 97) ∷
+    (Syntax.int Syntax.w8 110) ∷ (Syntax.int Syntax.w8 115) ∷ (Syntax.int Syntax.w8 119) ∷ (Syntax.int Syntax.w8 101) ∷
+    (Syntax.int Syntax.w8 114) ∷ (Syntax.int Syntax.w8 10) ∷ List.[]))
+
 abbrev b1 : Syntax.Body
 b1 = Syntax.call "cases::script::empty_pending" List.[] (Syntax.place 8 List.[])
+
 abbrev b2 : Syntax.Body
 b2 = Syntax.assign (Syntax.place 1 List.[]) (Syntax.repeat (Syntax.copy (Syntax.place 8 List.[])) 2)
+
 abbrev b3 : Syntax.Body
 b3 = Syntax.call "cases::script::empty_circuit" List.[] (Syntax.place 9 List.[])
+
 abbrev b4 : Syntax.Body
 b4 = Syntax.assign (Syntax.place 2 List.[]) (Syntax.repeat (Syntax.copy (Syntax.place 9 List.[])) 2)
+
 abbrev b5 : Syntax.Body
 b5 = Syntax.call "cases::script::empty_usage" List.[] (Syntax.place 10 List.[])
+
 abbrev b6 : Syntax.Body
 b6 = Syntax.assign (Syntax.place 3 List.[]) (Syntax.aggregate ((Syntax.copy (Syntax.place 10 List.[])) ∷ List.[]))
+
 abbrev b7 : Syntax.Body
 b7 = Syntax.call "cases::script::empty_action" List.[] (Syntax.place 11 List.[])
+
 abbrev b8 : Syntax.Body
 b8 = Syntax.assign (Syntax.place 4 List.[]) (Syntax.repeat (Syntax.copy (Syntax.place 11 List.[])) 8)
+
 abbrev b9 : Syntax.Body
 b9 = Syntax.assign (Syntax.place 5 List.[]) (Syntax.repeat (Syntax.int Syntax.w32 0) 4136)
+
 abbrev b10 : Syntax.Body
 b10 = Syntax.assign (Syntax.place 6 List.[]) (Syntax.repeat (Syntax.int Syntax.w8 65) 16385)
+
 abbrev b11 : Syntax.Body
 b11 = Syntax.assign (Syntax.place 13 List.[]) (Syntax.addrOf (Syntax.place 7 List.[]))
+
 abbrev b12 : Syntax.Body
-b12 = Syntax.assign (Syntax.place 14 List.[]) (Syntax.aggregate ((Syntax.copy (Syntax.place 13 List.[])) ∷ (Syntax.int Syntax.w64 12) ∷ List.[]))
+b12 = Syntax.assign (Syntax.place 14 List.[]) (Syntax.aggregate ((Syntax.copy (Syntax.place 13 List.[])) ∷
+    (Syntax.int Syntax.w64 12) ∷ List.[]))
+
 abbrev b13 : Syntax.Body
-b13 = Syntax.call "io::write_all" ((Syntax.int Syntax.w32 1) ∷ (Syntax.copy (Syntax.place 14 List.[])) ∷ List.[]) (Syntax.place 12 List.[])
+b13 = Syntax.call "io::write_all" ((Syntax.int Syntax.w32 1) ∷ (Syntax.copy (Syntax.place 14 List.[])) ∷ List.[])
+    (Syntax.place 12 List.[])
+
 abbrev b14 : Syntax.Body
 b14 = Syntax.assign (Syntax.place 16 List.[]) (Syntax.addrOf (Syntax.place 1 List.[]))
+
 abbrev b15 : Syntax.Body
-b15 = Syntax.assign (Syntax.place 17 List.[]) (Syntax.aggregate ((Syntax.copy (Syntax.place 16 List.[])) ∷ (Syntax.int Syntax.w64 2) ∷ List.[]))
+b15 = Syntax.assign (Syntax.place 17 List.[]) (Syntax.aggregate ((Syntax.copy (Syntax.place 16 List.[])) ∷
+    (Syntax.int Syntax.w64 2) ∷ List.[]))
+
 abbrev b16 : Syntax.Body
 b16 = Syntax.assign (Syntax.place 18 List.[]) (Syntax.addrOf (Syntax.place 2 List.[]))
+
 abbrev b17 : Syntax.Body
-b17 = Syntax.assign (Syntax.place 19 List.[]) (Syntax.aggregate ((Syntax.copy (Syntax.place 18 List.[])) ∷ (Syntax.int Syntax.w64 2) ∷ List.[]))
+b17 = Syntax.assign (Syntax.place 19 List.[]) (Syntax.aggregate ((Syntax.copy (Syntax.place 18 List.[])) ∷
+    (Syntax.int Syntax.w64 2) ∷ List.[]))
+
 abbrev b18 : Syntax.Body
 b18 = Syntax.assign (Syntax.place 20 List.[]) (Syntax.addrOf (Syntax.place 3 List.[]))
+
 abbrev b19 : Syntax.Body
-b19 = Syntax.assign (Syntax.place 21 List.[]) (Syntax.aggregate ((Syntax.copy (Syntax.place 20 List.[])) ∷ (Syntax.int Syntax.w64 1) ∷ List.[]))
+b19 = Syntax.assign (Syntax.place 21 List.[]) (Syntax.aggregate ((Syntax.copy (Syntax.place 20 List.[])) ∷
+    (Syntax.int Syntax.w64 1) ∷ List.[]))
+
 abbrev b20 : Syntax.Body
 b20 = Syntax.assign (Syntax.place 22 List.[]) (Syntax.addrOf (Syntax.place 4 List.[]))
+
 abbrev b21 : Syntax.Body
-b21 = Syntax.assign (Syntax.place 23 List.[]) (Syntax.aggregate ((Syntax.copy (Syntax.place 22 List.[])) ∷ (Syntax.int Syntax.w64 8) ∷ List.[]))
+b21 = Syntax.assign (Syntax.place 23 List.[]) (Syntax.aggregate ((Syntax.copy (Syntax.place 22 List.[])) ∷
+    (Syntax.int Syntax.w64 8) ∷ List.[]))
+
 abbrev b22 : Syntax.Body
 b22 = Syntax.assign (Syntax.place 24 List.[]) (Syntax.addrOf (Syntax.place 5 List.[]))
+
 abbrev b23 : Syntax.Body
-b23 = Syntax.assign (Syntax.place 25 List.[]) (Syntax.aggregate ((Syntax.copy (Syntax.place 24 List.[])) ∷ (Syntax.intBig Syntax.w64 4136) ∷ List.[]))
+b23 = Syntax.assign (Syntax.place 25 List.[]) (Syntax.aggregate ((Syntax.copy (Syntax.place 24 List.[])) ∷
+    (Syntax.intBig Syntax.w64 4136) ∷ List.[]))
+
 abbrev b24 : Syntax.Body
 b24 = Syntax.assign (Syntax.place 26 List.[]) (Syntax.addrOf (Syntax.place 6 List.[]))
+
 abbrev b25 : Syntax.Body
-b25 = Syntax.assign (Syntax.place 27 List.[]) (Syntax.aggregate ((Syntax.copy (Syntax.place 26 List.[])) ∷ (Syntax.intBig Syntax.w64 16385) ∷
-    List.[]))
+b25 = Syntax.assign (Syntax.place 27 List.[]) (Syntax.aggregate ((Syntax.copy (Syntax.place 26 List.[])) ∷
+    (Syntax.intBig Syntax.w64 16385) ∷ List.[]))
+
 abbrev b26 : Syntax.Body
-b26 = Syntax.call "cases::machine::run_all" ((Syntax.copy (Syntax.place 17 List.[])) ∷ (Syntax.copy (Syntax.place 19 List.[])) ∷ (Syntax.copy
-    (Syntax.place 21 List.[])) ∷ (Syntax.copy (Syntax.place 23 List.[])) ∷ (Syntax.copy (Syntax.place 25 List.[])) ∷ (Syntax.copy (Syntax.place 27
-    List.[])) ∷ List.[]) (Syntax.place 15 List.[])
+b26 = Syntax.call "cases::machine::run_all" ((Syntax.copy (Syntax.place 17 List.[])) ∷
+    (Syntax.copy (Syntax.place 19 List.[])) ∷ (Syntax.copy (Syntax.place 21 List.[])) ∷
+    (Syntax.copy (Syntax.place 23 List.[])) ∷ (Syntax.copy (Syntax.place 25 List.[])) ∷
+    (Syntax.copy (Syntax.place 27 List.[])) ∷ List.[]) (Syntax.place 15 List.[])
+
 abbrev b27 : Syntax.Body
 b27 = Syntax.call "cases::samples::run_samples" List.[] (Syntax.place 15 List.[])
+
 abbrev b28 : Syntax.Body
 b28 = Syntax.assign (Syntax.place 0 List.[]) (Syntax.rvOpd Syntax.opdUnit)
+
 abbrev b29 : Syntax.Body
 b29 = Syntax.return
+
 abbrev b30 : Syntax.Body
 b30 = Syntax.seq b28 b29
+
 abbrev b31 : Syntax.Body
 b31 = Syntax.seq b27 b30
+
 abbrev b32 : Syntax.Body
 b32 = Syntax.seq b26 b31
+
 abbrev b33 : Syntax.Body
 b33 = Syntax.seq b25 b32
+
 abbrev b34 : Syntax.Body
 b34 = Syntax.seq b24 b33
+
 abbrev b35 : Syntax.Body
 b35 = Syntax.seq b23 b34
+
 abbrev b36 : Syntax.Body
 b36 = Syntax.seq b22 b35
+
 abbrev b37 : Syntax.Body
 b37 = Syntax.seq b21 b36
+
 abbrev b38 : Syntax.Body
 b38 = Syntax.seq b20 b37
+
 abbrev b39 : Syntax.Body
 b39 = Syntax.seq b19 b38
+
 abbrev b40 : Syntax.Body
 b40 = Syntax.seq b18 b39
+
 abbrev b41 : Syntax.Body
 b41 = Syntax.seq b17 b40
+
 abbrev b42 : Syntax.Body
 b42 = Syntax.seq b16 b41
+
 abbrev b43 : Syntax.Body
 b43 = Syntax.seq b15 b42
+
 abbrev b44 : Syntax.Body
 b44 = Syntax.seq b14 b43
+
 abbrev b45 : Syntax.Body
 b45 = Syntax.seq b13 b44
+
 abbrev b46 : Syntax.Body
 b46 = Syntax.seq b12 b45
+
 abbrev b47 : Syntax.Body
 b47 = Syntax.seq b11 b46
+
 abbrev b48 : Syntax.Body
 b48 = Syntax.seq b10 b47
+
 abbrev b49 : Syntax.Body
 b49 = Syntax.seq b9 b48
+
 abbrev b50 : Syntax.Body
 b50 = Syntax.seq b8 b49
+
 abbrev b51 : Syntax.Body
 b51 = Syntax.seq b7 b50
+
 abbrev b52 : Syntax.Body
 b52 = Syntax.seq b6 b51
+
 abbrev b53 : Syntax.Body
 b53 = Syntax.seq b5 b52
+
 abbrev b54 : Syntax.Body
 b54 = Syntax.seq b4 b53
+
 abbrev b55 : Syntax.Body
 b55 = Syntax.seq b3 b54
+
 abbrev b56 : Syntax.Body
 b56 = Syntax.seq b2 b55
+
 abbrev b57 : Syntax.Body
 b57 = Syntax.seq b1 b56
+
 abbrev b58 : Syntax.Body
 b58 = Syntax.seq b0 b57
+
 abbrev pub body : Syntax.Body
 body = b58
+
 abbrev pub Claims : Type 1
-Claims = Kinds.In 0 ps·0 × Kinds.Out 0 ps·0 r·0 × Kinds.In 0 ps·1 × Kinds.Out 0 ps·1 r·1 × Kinds.In 0 ps·2 × Kinds.Out 0 ps·2 r·2 × Kinds.In 0 ps·3 ×
-    Kinds.Out 0 ps·3 r·3 × Kinds.In 1 ps·4 × Kinds.Out 1 ps·4 r·4 × Kinds.In 6 ps·5 × Kinds.Out 6 ps·5 r·5 × Kinds.In 0 ps·6 × Kinds.Out 0 ps·6 r·6
+Claims = Kinds.In 0 ps·0 × Kinds.Out 0 ps·0 r·0 × Kinds.In 0 ps·1 × Kinds.Out 0 ps·1 r·1 × Kinds.In 0 ps·2 × Kinds.Out
+    0 ps·2 r·2 × Kinds.In 0 ps·3 × Kinds.Out 0 ps·3 r·3 × Kinds.In 1 ps·4 × Kinds.Out 1 ps·4 r·4 × Kinds.In 6 ps·5 ×
+    Kinds.Out 6 ps·5 r·5 × Kinds.In 0 ps·6 × Kinds.Out 0 ps·6 r·6
+
 abbrev e0 : Row.Entry
 e0 = (0, Rows'.any-gone Syntax.tyUnit)
+
 abbrev e1 : Row.Entry
 e1 = (1, Rows'.any-gone (Syntax.tyArray RelayPending.ty 2))
+
 abbrev e2 : Row.Entry
 e2 = (2, Rows'.any-gone (Syntax.tyArray RelayCircuit.ty 2))
+
 abbrev e3 : Row.Entry
 e3 = (3, Rows'.any-gone (Syntax.tyArray ReservationUsage.ty 1))
+
 abbrev e4 : Row.Entry
 e4 = (4, Rows'.any-gone (Syntax.tyArray InflightAction.ty 8))
+
 abbrev e5 : Row.Entry
 e5 = (5, Rows'.any-gone (Syntax.tyArray (Syntax.tyInt Syntax.w32) 4136))
+
 abbrev e6 : Row.Entry
 e6 = (6, Rows'.any-gone (Syntax.tyArray (Syntax.tyInt Syntax.w8) 16385))
+
 abbrev e7 : Row.Entry
 e7 = (7, Rows'.any-gone (Syntax.tyArray (Syntax.tyInt Syntax.w8) 12))
+
 abbrev e8 : Row.Entry
 e8 = (8, Rows'.any-gone RelayPending.ty)
+
 abbrev e9 : Row.Entry
 e9 = (9, Rows'.any-gone RelayCircuit.ty)
+
 abbrev e10 : Row.Entry
 e10 = (10, Rows'.any-gone ReservationUsage.ty)
+
 abbrev e11 : Row.Entry
 e11 = (11, Rows'.any-gone InflightAction.ty)
+
 abbrev e12 : Row.Entry
 e12 = (12, Rows'.any-gone Syntax.tyBool)
+
 abbrev e13 : Row.Entry
 e13 = (13, Rows'.any-gone ref0)
+
 abbrev e14 : Row.Entry
-e14 = (14, Rows'.any-gone (Syntax.tyStruct (38 ∷ 91 ∷ 93 ∷ List.[]) (Syntax.tcons ref1 (Syntax.tcons (Syntax.tyInt Syntax.w64) Syntax.tnil))))
+e14 = (14, Rows'.any-gone slice1)
+
 abbrev e15 : Row.Entry
 e15 = (15, Rows'.any-gone Syntax.tyUnit)
+
 abbrev e16 : Row.Entry
 e16 = (16, Rows'.any-gone ref2)
+
 abbrev e17 : Row.Entry
-e17 = (17, Rows'.any-gone (Syntax.tyStruct (38 ∷ 91 ∷ 93 ∷ List.[]) (Syntax.tcons ref3 (Syntax.tcons (Syntax.tyInt Syntax.w64) Syntax.tnil))))
+e17 = (17, Rows'.any-gone slice3)
+
 abbrev e18 : Row.Entry
 e18 = (18, Rows'.any-gone ref4)
+
 abbrev e19 : Row.Entry
-e19 = (19, Rows'.any-gone (Syntax.tyStruct (38 ∷ 91 ∷ 93 ∷ List.[]) (Syntax.tcons ref5 (Syntax.tcons (Syntax.tyInt Syntax.w64) Syntax.tnil))))
+e19 = (19, Rows'.any-gone slice5)
+
 abbrev e20 : Row.Entry
 e20 = (20, Rows'.any-gone ref6)
+
 abbrev e21 : Row.Entry
-e21 = (21, Rows'.any-gone (Syntax.tyStruct (38 ∷ 91 ∷ 93 ∷ List.[]) (Syntax.tcons ref7 (Syntax.tcons (Syntax.tyInt Syntax.w64) Syntax.tnil))))
+e21 = (21, Rows'.any-gone slice7)
+
 abbrev e22 : Row.Entry
 e22 = (22, Rows'.any-gone ref8)
+
 abbrev e23 : Row.Entry
-e23 = (23, Rows'.any-gone (Syntax.tyStruct (38 ∷ 91 ∷ 93 ∷ List.[]) (Syntax.tcons ref9 (Syntax.tcons (Syntax.tyInt Syntax.w64) Syntax.tnil))))
+e23 = (23, Rows'.any-gone slice9)
+
 abbrev e24 : Row.Entry
 e24 = (24, Rows'.any-gone ref10)
+
 abbrev e25 : Row.Entry
-e25 = (25, Rows'.any-gone (Syntax.tyStruct (38 ∷ 91 ∷ 93 ∷ List.[]) (Syntax.tcons ref11 (Syntax.tcons (Syntax.tyInt Syntax.w64) Syntax.tnil))))
+e25 = (25, Rows'.any-gone slice11)
+
 abbrev e26 : Row.Entry
 e26 = (26, Rows'.any-gone ref12)
+
 abbrev e27 : Row.Entry
-e27 = (27, Rows'.any-gone (Syntax.tyStruct (38 ∷ 91 ∷ 93 ∷ List.[]) (Syntax.tcons ref13 (Syntax.tcons (Syntax.tyInt Syntax.w64) Syntax.tnil))))
+e27 = (27, Rows'.any-gone slice13)
+
 abbrev e0·1 : Row.Entry
 e0·1 = (0, Rows'.sc-here Row.sUnit)
+
 abbrev e7·1 : Row.Entry
 e7·1 = (7, Rows'.whole (Array.Array (Referent.rtF (Referent.fInt Syntax.w8)) 12))
+
 abbrev e7·2 : Row.Entry
 e7·2 = (7, Rows.arrF (Referent.rtF (Referent.fInt Syntax.w8)) 12 0)
+
 abbrev e8·1 : Row.Entry
 e8·1 = (8, RelayPending.held)
+
 abbrev e1·1 : Row.Entry
 e1·1 = (1, Rows'.whole (Array.Array RelayPending.row 2))
+
 abbrev e1·2 : Row.Entry
 e1·2 = (1, Rows.arrF RelayPending.row 2 0)
+
 abbrev e9·1 : Row.Entry
 e9·1 = (9, RelayCircuit.held)
+
 abbrev e2·1 : Row.Entry
 e2·1 = (2, Rows'.whole (Array.Array RelayCircuit.row 2))
+
 abbrev e2·2 : Row.Entry
 e2·2 = (2, Rows.arrF RelayCircuit.row 2 0)
+
 abbrev e10·1 : Row.Entry
 e10·1 = (10, ReservationUsage.held)
+
 abbrev e3·1 : Row.Entry
 e3·1 = (3, Rows'.whole (Array.Array ReservationUsage.row 1))
+
 abbrev e3·2 : Row.Entry
 e3·2 = (3, Rows.arrF ReservationUsage.row 1 0)
+
 abbrev e11·1 : Row.Entry
 e11·1 = (11, InflightAction.held)
+
 abbrev e4·1 : Row.Entry
 e4·1 = (4, Rows'.whole (Array.Array InflightAction.row 8))
+
 abbrev e4·2 : Row.Entry
 e4·2 = (4, Rows.arrF InflightAction.row 8 0)
+
 abbrev e5·1 : Row.Entry
 e5·1 = (5, Rows'.whole (Array.Array (Referent.rtF (Referent.fInt Syntax.w32)) 4136))
+
 abbrev e5·2 : Row.Entry
 e5·2 = (5, Rows.arrF (Referent.rtF (Referent.fInt Syntax.w32)) 4136 0)
+
 abbrev e6·1 : Row.Entry
 e6·1 = (6, Rows'.whole (Array.Array (Referent.rtF (Referent.fInt Syntax.w8)) 16385))
+
 abbrev e6·2 : Row.Entry
 e6·2 = (6, Rows.arrF (Referent.rtF (Referent.fInt Syntax.w8)) 16385 0)
+
 abbrev e7·3 : Row.Entry
 e7·3 = (7, Rows.arr-shr (Referent.rtF (Referent.fInt Syntax.w8)) 12 0)
+
 abbrev e13·1 : Row.Entry
 e13·1 = (13, Relend.ssptr (Referent.rtF (Referent.fInt Syntax.w8)) ref0 0)
+
 abbrev e14·1 : Row.Entry
 e14·1 = (14, Rows'.sslice (Referent.rtF (Referent.fInt Syntax.w8)) ref1 0)
+
 abbrev e12·1 : Row.Entry
 e12·1 = (12, Rows'.sc-here Row.sBool)
+
 abbrev e1·3 : Row.Entry
 e1·3 = (1, Rows.arr-owed RelayPending.row 2 1)
+
 abbrev e16·1 : Row.Entry
 e16·1 = (16, Relend.msptr RelayPending.row ref2 1)
+
 abbrev e17·1 : Row.Entry
 e17·1 = (17, Mut.mslice RelayPending.row ref3 1)
+
 abbrev e2·3 : Row.Entry
 e2·3 = (2, Rows.arr-owed RelayCircuit.row 2 2)
+
 abbrev e18·1 : Row.Entry
 e18·1 = (18, Relend.msptr RelayCircuit.row ref4 2)
+
 abbrev e19·1 : Row.Entry
 e19·1 = (19, Mut.mslice RelayCircuit.row ref5 2)
+
 abbrev e3·3 : Row.Entry
 e3·3 = (3, Rows.arr-owed ReservationUsage.row 1 3)
+
 abbrev e20·1 : Row.Entry
 e20·1 = (20, Relend.msptr ReservationUsage.row ref6 3)
+
 abbrev e21·1 : Row.Entry
 e21·1 = (21, Mut.mslice ReservationUsage.row ref7 3)
+
 abbrev e4·3 : Row.Entry
 e4·3 = (4, Rows.arr-owed InflightAction.row 8 4)
+
 abbrev e22·1 : Row.Entry
 e22·1 = (22, Relend.msptr InflightAction.row ref8 4)
+
 abbrev e23·1 : Row.Entry
 e23·1 = (23, Mut.mslice InflightAction.row ref9 4)
+
 abbrev e5·3 : Row.Entry
 e5·3 = (5, Rows.arr-owed (Referent.rtF (Referent.fInt Syntax.w32)) 4136 5)
+
 abbrev e24·1 : Row.Entry
 e24·1 = (24, Relend.msptr (Referent.rtF (Referent.fInt Syntax.w32)) ref10 5)
+
 abbrev e25·1 : Row.Entry
 e25·1 = (25, Mut.mslice (Referent.rtF (Referent.fInt Syntax.w32)) ref11 5)
+
 abbrev e6·3 : Row.Entry
 e6·3 = (6, Rows.arr-owed (Referent.rtF (Referent.fInt Syntax.w8)) 16385 6)
+
 abbrev e26·1 : Row.Entry
 e26·1 = (26, Relend.msptr (Referent.rtF (Referent.fInt Syntax.w8)) ref12 6)
+
 abbrev e27·1 : Row.Entry
 e27·1 = (27, Mut.mslice (Referent.rtF (Referent.fInt Syntax.w8)) ref13 6)
+
 abbrev e15·1 : Row.Entry
 e15·1 = (15, Rows'.sc-here Row.sUnit)
+
 abbrev e17·2 : Row.Entry
 e17·2 = (17, Mut.msleft RelayPending.row ref3)
+
 abbrev e19·2 : Row.Entry
 e19·2 = (19, Mut.msleft RelayCircuit.row ref5)
+
 abbrev e21·2 : Row.Entry
 e21·2 = (21, Mut.msleft ReservationUsage.row ref7)
+
 abbrev e23·2 : Row.Entry
 e23·2 = (23, Mut.msleft InflightAction.row ref9)
+
 abbrev e25·2 : Row.Entry
 e25·2 = (25, Mut.msleft (Referent.rtF (Referent.fInt Syntax.w32)) ref11)
+
 abbrev e27·2 : Row.Entry
 e27·2 = (27, Mut.msleft (Referent.rtF (Referent.fInt Syntax.w8)) ref13)
+
 abbrev pub t0 : List.List Row.Entry
 t0 = e0 ∷ e1 ∷ e2 ∷ e3 ∷ e4 ∷ e5 ∷ e6 ∷ e7 ∷ e8 ∷ e9 ∷ e10 ∷ e11 ∷ e12 ∷ e13 ∷ e14 ∷ e15 ∷ List.[]
+
 abbrev pub t1 : List.List Row.Entry
 t1 = e16 ∷ e17 ∷ e18 ∷ e19 ∷ e20 ∷ e21 ∷ e22 ∷ e23 ∷ e24 ∷ e25 ∷ e26 ∷ e27 ∷ List.[]
+
 abbrev pub t2 : List.List Row.Entry
 t2 = e0·1 ∷ e1 ∷ e2 ∷ e3 ∷ e4 ∷ e5 ∷ e6 ∷ e7 ∷ e8 ∷ e9 ∷ e10 ∷ e11 ∷ e12 ∷ e13 ∷ e14 ∷ e15 ∷ List.[]
+
 abbrev pub t3 : List.List Row.Entry
 t3 = e0 ∷ e1 ∷ e2 ∷ e3 ∷ e4 ∷ e5 ∷ e6 ∷ e7·1 ∷ e8 ∷ e9 ∷ e10 ∷ e11 ∷ e12 ∷ e13 ∷ e14 ∷ e15 ∷ List.[]
+
 abbrev pub t4 : List.List Row.Entry
 t4 = e0 ∷ e1 ∷ e2 ∷ e3 ∷ e4 ∷ e5 ∷ e6 ∷ e7·2 ∷ e8 ∷ e9 ∷ e10 ∷ e11 ∷ e12 ∷ e13 ∷ e14 ∷ e15 ∷ List.[]
+
 abbrev pub t5 : List.List Row.Entry
 t5 = e0 ∷ e1 ∷ e2 ∷ e3 ∷ e4 ∷ e5 ∷ e6 ∷ e7·2 ∷ e8·1 ∷ e9 ∷ e10 ∷ e11 ∷ e12 ∷ e13 ∷ e14 ∷ e15 ∷ List.[]
+
 abbrev pub t6 : List.List Row.Entry
 t6 = e0 ∷ e1·1 ∷ e2 ∷ e3 ∷ e4 ∷ e5 ∷ e6 ∷ e7·2 ∷ e8·1 ∷ e9 ∷ e10 ∷ e11 ∷ e12 ∷ e13 ∷ e14 ∷ e15 ∷ List.[]
+
 abbrev pub t7 : List.List Row.Entry
 t7 = e0 ∷ e1·2 ∷ e2 ∷ e3 ∷ e4 ∷ e5 ∷ e6 ∷ e7·2 ∷ e8·1 ∷ e9 ∷ e10 ∷ e11 ∷ e12 ∷ e13 ∷ e14 ∷ e15 ∷ List.[]
+
 abbrev pub t8 : List.List Row.Entry
 t8 = e0 ∷ e1·2 ∷ e2 ∷ e3 ∷ e4 ∷ e5 ∷ e6 ∷ e7·2 ∷ e8 ∷ e9 ∷ e10 ∷ e11 ∷ e12 ∷ e13 ∷ e14 ∷ e15 ∷ List.[]
+
 abbrev pub t9 : List.List Row.Entry
 t9 = e0 ∷ e1·2 ∷ e2 ∷ e3 ∷ e4 ∷ e5 ∷ e6 ∷ e7·2 ∷ e8 ∷ e9·1 ∷ e10 ∷ e11 ∷ e12 ∷ e13 ∷ e14 ∷ e15 ∷ List.[]
+
 abbrev pub t10 : List.List Row.Entry
 t10 = e0 ∷ e1·2 ∷ e2·1 ∷ e3 ∷ e4 ∷ e5 ∷ e6 ∷ e7·2 ∷ e8 ∷ e9·1 ∷ e10 ∷ e11 ∷ e12 ∷ e13 ∷ e14 ∷ e15 ∷ List.[]
+
 abbrev pub t11 : List.List Row.Entry
 t11 = e0 ∷ e1·2 ∷ e2·2 ∷ e3 ∷ e4 ∷ e5 ∷ e6 ∷ e7·2 ∷ e8 ∷ e9·1 ∷ e10 ∷ e11 ∷ e12 ∷ e13 ∷ e14 ∷ e15 ∷ List.[]
+
 abbrev pub t12 : List.List Row.Entry
 t12 = e0 ∷ e1·2 ∷ e2·2 ∷ e3 ∷ e4 ∷ e5 ∷ e6 ∷ e7·2 ∷ e8 ∷ e9 ∷ e10 ∷ e11 ∷ e12 ∷ e13 ∷ e14 ∷ e15 ∷ List.[]
+
 abbrev pub t13 : List.List Row.Entry
 t13 = e0 ∷ e1·2 ∷ e2·2 ∷ e3 ∷ e4 ∷ e5 ∷ e6 ∷ e7·2 ∷ e8 ∷ e9 ∷ e10·1 ∷ e11 ∷ e12 ∷ e13 ∷ e14 ∷ e15 ∷ List.[]
+
 abbrev pub t14 : List.List Row.Entry
 t14 = e0 ∷ e1·2 ∷ e2·2 ∷ e3·1 ∷ e4 ∷ e5 ∷ e6 ∷ e7·2 ∷ e8 ∷ e9 ∷ e10·1 ∷ e11 ∷ e12 ∷ e13 ∷ e14 ∷ e15 ∷ List.[]
+
 abbrev pub t15 : List.List Row.Entry
 t15 = e0 ∷ e1·2 ∷ e2·2 ∷ e3·2 ∷ e4 ∷ e5 ∷ e6 ∷ e7·2 ∷ e8 ∷ e9 ∷ e10·1 ∷ e11 ∷ e12 ∷ e13 ∷ e14 ∷ e15 ∷ List.[]
+
 abbrev pub t16 : List.List Row.Entry
 t16 = e0 ∷ e1·2 ∷ e2·2 ∷ e3·2 ∷ e4 ∷ e5 ∷ e6 ∷ e7·2 ∷ e8 ∷ e9 ∷ e10 ∷ e11 ∷ e12 ∷ e13 ∷ e14 ∷ e15 ∷ List.[]
+
 abbrev pub t17 : List.List Row.Entry
 t17 = e0 ∷ e1·2 ∷ e2·2 ∷ e3·2 ∷ e4 ∷ e5 ∷ e6 ∷ e7·2 ∷ e8 ∷ e9 ∷ e10 ∷ e11·1 ∷ e12 ∷ e13 ∷ e14 ∷ e15 ∷ List.[]
+
 abbrev pub t18 : List.List Row.Entry
 t18 = e0 ∷ e1·2 ∷ e2·2 ∷ e3·2 ∷ e4·1 ∷ e5 ∷ e6 ∷ e7·2 ∷ e8 ∷ e9 ∷ e10 ∷ e11·1 ∷ e12 ∷ e13 ∷ e14 ∷ e15 ∷ List.[]
+
 abbrev pub t19 : List.List Row.Entry
 t19 = e0 ∷ e1·2 ∷ e2·2 ∷ e3·2 ∷ e4·2 ∷ e5 ∷ e6 ∷ e7·2 ∷ e8 ∷ e9 ∷ e10 ∷ e11·1 ∷ e12 ∷ e13 ∷ e14 ∷ e15 ∷ List.[]
+
 abbrev pub t20 : List.List Row.Entry
 t20 = e0 ∷ e1·2 ∷ e2·2 ∷ e3·2 ∷ e4·2 ∷ e5 ∷ e6 ∷ e7·2 ∷ e8 ∷ e9 ∷ e10 ∷ e11 ∷ e12 ∷ e13 ∷ e14 ∷ e15 ∷ List.[]
+
 abbrev pub t21 : List.List Row.Entry
 t21 = e0 ∷ e1·2 ∷ e2·2 ∷ e3·2 ∷ e4·2 ∷ e5·1 ∷ e6 ∷ e7·2 ∷ e8 ∷ e9 ∷ e10 ∷ e11 ∷ e12 ∷ e13 ∷ e14 ∷ e15 ∷ List.[]
+
 abbrev pub t22 : List.List Row.Entry
 t22 = e0 ∷ e1·2 ∷ e2·2 ∷ e3·2 ∷ e4·2 ∷ e5·2 ∷ e6 ∷ e7·2 ∷ e8 ∷ e9 ∷ e10 ∷ e11 ∷ e12 ∷ e13 ∷ e14 ∷ e15 ∷ List.[]
+
 abbrev pub t23 : List.List Row.Entry
 t23 = e0 ∷ e1·2 ∷ e2·2 ∷ e3·2 ∷ e4·2 ∷ e5·2 ∷ e6·1 ∷ e7·2 ∷ e8 ∷ e9 ∷ e10 ∷ e11 ∷ e12 ∷ e13 ∷ e14 ∷ e15 ∷ List.[]
+
 abbrev pub t24 : List.List Row.Entry
 t24 = e0 ∷ e1·2 ∷ e2·2 ∷ e3·2 ∷ e4·2 ∷ e5·2 ∷ e6·2 ∷ e7·2 ∷ e8 ∷ e9 ∷ e10 ∷ e11 ∷ e12 ∷ e13 ∷ e14 ∷ e15 ∷ List.[]
+
 abbrev pub t25 : List.List Row.Entry
 t25 = e0 ∷ e1·2 ∷ e2·2 ∷ e3·2 ∷ e4·2 ∷ e5·2 ∷ e6·2 ∷ e7·3 ∷ e8 ∷ e9 ∷ e10 ∷ e11 ∷ e12 ∷ e13·1 ∷ e14 ∷ e15 ∷ List.[]
+
 abbrev pub t26 : List.List Row.Entry
 t26 = e0 ∷ e1·2 ∷ e2·2 ∷ e3·2 ∷ e4·2 ∷ e5·2 ∷ e6·2 ∷ e7·3 ∷ e8 ∷ e9 ∷ e10 ∷ e11 ∷ e12 ∷ e13 ∷ e14·1 ∷ e15 ∷ List.[]
+
 abbrev pub t27 : List.List Row.Entry
 t27 = e0 ∷ e1·2 ∷ e2·2 ∷ e3·2 ∷ e4·2 ∷ e5·2 ∷ e6·2 ∷ e7·3 ∷ e8 ∷ e9 ∷ e10 ∷ e11 ∷ e12·1 ∷ e13 ∷ e14·1 ∷ e15 ∷ List.[]
+
 abbrev pub t28 : List.List Row.Entry
 t28 = e0 ∷ e1·2 ∷ e2·2 ∷ e3·2 ∷ e4·2 ∷ e5·2 ∷ e6·2 ∷ e7·3 ∷ e8 ∷ e9 ∷ e10 ∷ e11 ∷ e12·1 ∷ e13 ∷ e14 ∷ e15 ∷ List.[]
+
 abbrev pub t29 : List.List Row.Entry
 t29 = e0 ∷ e1·2 ∷ e2·2 ∷ e3·2 ∷ e4·2 ∷ e5·2 ∷ e6·2 ∷ e7·3 ∷ e8 ∷ e9 ∷ e10 ∷ e11 ∷ e12 ∷ e13 ∷ e14 ∷ e15 ∷ List.[]
+
 abbrev pub t30 : List.List Row.Entry
 t30 = e0 ∷ e1·2 ∷ e2·2 ∷ e3·2 ∷ e4·2 ∷ e5·2 ∷ e6·2 ∷ e7 ∷ e8 ∷ e9 ∷ e10 ∷ e11 ∷ e12 ∷ e13 ∷ e14 ∷ e15 ∷ List.[]
+
 abbrev pub t31 : List.List Row.Entry
 t31 = e0 ∷ e1·3 ∷ e2·2 ∷ e3·2 ∷ e4·2 ∷ e5·2 ∷ e6·2 ∷ e7 ∷ e8 ∷ e9 ∷ e10 ∷ e11 ∷ e12 ∷ e13 ∷ e14 ∷ e15 ∷ List.[]
+
 abbrev pub t32 : List.List Row.Entry
 t32 = e16·1 ∷ e17 ∷ e18 ∷ e19 ∷ e20 ∷ e21 ∷ e22 ∷ e23 ∷ e24 ∷ e25 ∷ e26 ∷ e27 ∷ List.[]
+
 abbrev pub t33 : List.List Row.Entry
 t33 = e16 ∷ e17·1 ∷ e18 ∷ e19 ∷ e20 ∷ e21 ∷ e22 ∷ e23 ∷ e24 ∷ e25 ∷ e26 ∷ e27 ∷ List.[]
+
 abbrev pub t34 : List.List Row.Entry
 t34 = e0 ∷ e1·3 ∷ e2·3 ∷ e3·2 ∷ e4·2 ∷ e5·2 ∷ e6·2 ∷ e7 ∷ e8 ∷ e9 ∷ e10 ∷ e11 ∷ e12 ∷ e13 ∷ e14 ∷ e15 ∷ List.[]
+
 abbrev pub t35 : List.List Row.Entry
 t35 = e16 ∷ e17·1 ∷ e18·1 ∷ e19 ∷ e20 ∷ e21 ∷ e22 ∷ e23 ∷ e24 ∷ e25 ∷ e26 ∷ e27 ∷ List.[]
+
 abbrev pub t36 : List.List Row.Entry
 t36 = e16 ∷ e17·1 ∷ e18 ∷ e19·1 ∷ e20 ∷ e21 ∷ e22 ∷ e23 ∷ e24 ∷ e25 ∷ e26 ∷ e27 ∷ List.[]
+
 abbrev pub t37 : List.List Row.Entry
 t37 = e0 ∷ e1·3 ∷ e2·3 ∷ e3·3 ∷ e4·2 ∷ e5·2 ∷ e6·2 ∷ e7 ∷ e8 ∷ e9 ∷ e10 ∷ e11 ∷ e12 ∷ e13 ∷ e14 ∷ e15 ∷ List.[]
+
 abbrev pub t38 : List.List Row.Entry
 t38 = e16 ∷ e17·1 ∷ e18 ∷ e19·1 ∷ e20·1 ∷ e21 ∷ e22 ∷ e23 ∷ e24 ∷ e25 ∷ e26 ∷ e27 ∷ List.[]
+
 abbrev pub t39 : List.List Row.Entry
 t39 = e16 ∷ e17·1 ∷ e18 ∷ e19·1 ∷ e20 ∷ e21·1 ∷ e22 ∷ e23 ∷ e24 ∷ e25 ∷ e26 ∷ e27 ∷ List.[]
+
 abbrev pub t40 : List.List Row.Entry
 t40 = e0 ∷ e1·3 ∷ e2·3 ∷ e3·3 ∷ e4·3 ∷ e5·2 ∷ e6·2 ∷ e7 ∷ e8 ∷ e9 ∷ e10 ∷ e11 ∷ e12 ∷ e13 ∷ e14 ∷ e15 ∷ List.[]
+
 abbrev pub t41 : List.List Row.Entry
 t41 = e16 ∷ e17·1 ∷ e18 ∷ e19·1 ∷ e20 ∷ e21·1 ∷ e22·1 ∷ e23 ∷ e24 ∷ e25 ∷ e26 ∷ e27 ∷ List.[]
+
 abbrev pub t42 : List.List Row.Entry
 t42 = e16 ∷ e17·1 ∷ e18 ∷ e19·1 ∷ e20 ∷ e21·1 ∷ e22 ∷ e23·1 ∷ e24 ∷ e25 ∷ e26 ∷ e27 ∷ List.[]
+
 abbrev pub t43 : List.List Row.Entry
 t43 = e0 ∷ e1·3 ∷ e2·3 ∷ e3·3 ∷ e4·3 ∷ e5·3 ∷ e6·2 ∷ e7 ∷ e8 ∷ e9 ∷ e10 ∷ e11 ∷ e12 ∷ e13 ∷ e14 ∷ e15 ∷ List.[]
+
 abbrev pub t44 : List.List Row.Entry
 t44 = e16 ∷ e17·1 ∷ e18 ∷ e19·1 ∷ e20 ∷ e21·1 ∷ e22 ∷ e23·1 ∷ e24·1 ∷ e25 ∷ e26 ∷ e27 ∷ List.[]
+
 abbrev pub t45 : List.List Row.Entry
 t45 = e16 ∷ e17·1 ∷ e18 ∷ e19·1 ∷ e20 ∷ e21·1 ∷ e22 ∷ e23·1 ∷ e24 ∷ e25·1 ∷ e26 ∷ e27 ∷ List.[]
+
 abbrev pub t46 : List.List Row.Entry
 t46 = e0 ∷ e1·3 ∷ e2·3 ∷ e3·3 ∷ e4·3 ∷ e5·3 ∷ e6·3 ∷ e7 ∷ e8 ∷ e9 ∷ e10 ∷ e11 ∷ e12 ∷ e13 ∷ e14 ∷ e15 ∷ List.[]
+
 abbrev pub t47 : List.List Row.Entry
 t47 = e16 ∷ e17·1 ∷ e18 ∷ e19·1 ∷ e20 ∷ e21·1 ∷ e22 ∷ e23·1 ∷ e24 ∷ e25·1 ∷ e26·1 ∷ e27 ∷ List.[]
+
 abbrev pub t48 : List.List Row.Entry
 t48 = e16 ∷ e17·1 ∷ e18 ∷ e19·1 ∷ e20 ∷ e21·1 ∷ e22 ∷ e23·1 ∷ e24 ∷ e25·1 ∷ e26 ∷ e27·1 ∷ List.[]
+
 abbrev pub t49 : List.List Row.Entry
 t49 = e0 ∷ e1·3 ∷ e2·3 ∷ e3·3 ∷ e4·3 ∷ e5·3 ∷ e6·3 ∷ e7 ∷ e8 ∷ e9 ∷ e10 ∷ e11 ∷ e12 ∷ e13 ∷ e14 ∷ e15·1 ∷ List.[]
+
 abbrev pub t50 : List.List Row.Entry
 t50 = e16 ∷ e17·2 ∷ e18 ∷ e19·2 ∷ e20 ∷ e21·2 ∷ e22 ∷ e23·2 ∷ e24 ∷ e25·2 ∷ e26 ∷ e27·2 ∷ List.[]
+
 abbrev pub t51 : List.List Row.Entry
 t51 = e0 ∷ e1·2 ∷ e2·3 ∷ e3·3 ∷ e4·3 ∷ e5·3 ∷ e6·3 ∷ e7 ∷ e8 ∷ e9 ∷ e10 ∷ e11 ∷ e12 ∷ e13 ∷ e14 ∷ e15 ∷ List.[]
+
 abbrev pub t52 : List.List Row.Entry
 t52 = e16 ∷ e17 ∷ e18 ∷ e19·2 ∷ e20 ∷ e21·2 ∷ e22 ∷ e23·2 ∷ e24 ∷ e25·2 ∷ e26 ∷ e27·2 ∷ List.[]
+
 abbrev pub t53 : List.List Row.Entry
 t53 = e0 ∷ e1 ∷ e2·3 ∷ e3·3 ∷ e4·3 ∷ e5·3 ∷ e6·3 ∷ e7 ∷ e8 ∷ e9 ∷ e10 ∷ e11 ∷ e12 ∷ e13 ∷ e14 ∷ e15 ∷ List.[]
+
 abbrev pub t54 : List.List Row.Entry
 t54 = e0 ∷ e1 ∷ e2·2 ∷ e3·3 ∷ e4·3 ∷ e5·3 ∷ e6·3 ∷ e7 ∷ e8 ∷ e9 ∷ e10 ∷ e11 ∷ e12 ∷ e13 ∷ e14 ∷ e15 ∷ List.[]
+
 abbrev pub t55 : List.List Row.Entry
 t55 = e16 ∷ e17 ∷ e18 ∷ e19 ∷ e20 ∷ e21·2 ∷ e22 ∷ e23·2 ∷ e24 ∷ e25·2 ∷ e26 ∷ e27·2 ∷ List.[]
+
 abbrev pub t56 : List.List Row.Entry
 t56 = e0 ∷ e1 ∷ e2 ∷ e3·3 ∷ e4·3 ∷ e5·3 ∷ e6·3 ∷ e7 ∷ e8 ∷ e9 ∷ e10 ∷ e11 ∷ e12 ∷ e13 ∷ e14 ∷ e15 ∷ List.[]
+
 abbrev pub t57 : List.List Row.Entry
 t57 = e0 ∷ e1 ∷ e2 ∷ e3·2 ∷ e4·3 ∷ e5·3 ∷ e6·3 ∷ e7 ∷ e8 ∷ e9 ∷ e10 ∷ e11 ∷ e12 ∷ e13 ∷ e14 ∷ e15 ∷ List.[]
+
 abbrev pub t58 : List.List Row.Entry
 t58 = e16 ∷ e17 ∷ e18 ∷ e19 ∷ e20 ∷ e21 ∷ e22 ∷ e23·2 ∷ e24 ∷ e25·2 ∷ e26 ∷ e27·2 ∷ List.[]
+
 abbrev pub t59 : List.List Row.Entry
 t59 = e0 ∷ e1 ∷ e2 ∷ e3 ∷ e4·3 ∷ e5·3 ∷ e6·3 ∷ e7 ∷ e8 ∷ e9 ∷ e10 ∷ e11 ∷ e12 ∷ e13 ∷ e14 ∷ e15 ∷ List.[]
+
 abbrev pub t60 : List.List Row.Entry
 t60 = e0 ∷ e1 ∷ e2 ∷ e3 ∷ e4·2 ∷ e5·3 ∷ e6·3 ∷ e7 ∷ e8 ∷ e9 ∷ e10 ∷ e11 ∷ e12 ∷ e13 ∷ e14 ∷ e15 ∷ List.[]
+
 abbrev pub t61 : List.List Row.Entry
 t61 = e16 ∷ e17 ∷ e18 ∷ e19 ∷ e20 ∷ e21 ∷ e22 ∷ e23 ∷ e24 ∷ e25·2 ∷ e26 ∷ e27·2 ∷ List.[]
+
 abbrev pub t62 : List.List Row.Entry
 t62 = e0 ∷ e1 ∷ e2 ∷ e3 ∷ e4 ∷ e5·3 ∷ e6·3 ∷ e7 ∷ e8 ∷ e9 ∷ e10 ∷ e11 ∷ e12 ∷ e13 ∷ e14 ∷ e15 ∷ List.[]
+
 abbrev pub t63 : List.List Row.Entry
 t63 = e0 ∷ e1 ∷ e2 ∷ e3 ∷ e4 ∷ e5·2 ∷ e6·3 ∷ e7 ∷ e8 ∷ e9 ∷ e10 ∷ e11 ∷ e12 ∷ e13 ∷ e14 ∷ e15 ∷ List.[]
+
 abbrev pub t64 : List.List Row.Entry
 t64 = e16 ∷ e17 ∷ e18 ∷ e19 ∷ e20 ∷ e21 ∷ e22 ∷ e23 ∷ e24 ∷ e25 ∷ e26 ∷ e27·2 ∷ List.[]
+
 abbrev pub t65 : List.List Row.Entry
 t65 = e0 ∷ e1 ∷ e2 ∷ e3 ∷ e4 ∷ e5 ∷ e6·3 ∷ e7 ∷ e8 ∷ e9 ∷ e10 ∷ e11 ∷ e12 ∷ e13 ∷ e14 ∷ e15 ∷ List.[]
+
 abbrev pub t66 : List.List Row.Entry
 t66 = e0 ∷ e1 ∷ e2 ∷ e3 ∷ e4 ∷ e5 ∷ e6·2 ∷ e7 ∷ e8 ∷ e9 ∷ e10 ∷ e11 ∷ e12 ∷ e13 ∷ e14 ∷ e15 ∷ List.[]
+
 abbrev pub t67 : List.List Row.Entry
 t67 = e0 ∷ e1 ∷ e2 ∷ e3 ∷ e4 ∷ e5 ∷ e6 ∷ e7 ∷ e8 ∷ e9 ∷ e10 ∷ e11 ∷ e12 ∷ e13 ∷ e14 ∷ e15·1 ∷ List.[]
+
 abbrev pub T0 : Row.Cx
 T0 = record { locals = List._++_ t0 t1; slots = List.[] }
+
 abbrev pub T1 : Row.Cx
 T1 = record { locals = List._++_ t2 t1; slots = List.[] }
+
 abbrev pub T2 : Row.Cx
 T2 = record { locals = List._++_ t3 t1; slots = List.[] }
+
 abbrev pub T3 : Row.Cx
 T3 = record { locals = List._++_ t4 t1; slots = List.[] }
+
 abbrev pub T4 : Row.Cx
 T4 = record { locals = List._++_ t5 t1; slots = List.[] }
+
 abbrev pub T5 : Row.Cx
 T5 = record { locals = List._++_ t6 t1; slots = List.[] }
+
 abbrev pub T6 : Row.Cx
 T6 = record { locals = List._++_ t7 t1; slots = List.[] }
+
 abbrev pub T7 : Row.Cx
 T7 = record { locals = List._++_ t8 t1; slots = List.[] }
+
 abbrev pub T8 : Row.Cx
 T8 = record { locals = List._++_ t9 t1; slots = List.[] }
+
 abbrev pub T9 : Row.Cx
 T9 = record { locals = List._++_ t10 t1; slots = List.[] }
+
 abbrev pub T10 : Row.Cx
 T10 = record { locals = List._++_ t11 t1; slots = List.[] }
+
 abbrev pub T11 : Row.Cx
 T11 = record { locals = List._++_ t12 t1; slots = List.[] }
+
 abbrev pub T12 : Row.Cx
 T12 = record { locals = List._++_ t13 t1; slots = List.[] }
+
 abbrev pub T13 : Row.Cx
 T13 = record { locals = List._++_ t14 t1; slots = List.[] }
+
 abbrev pub T14 : Row.Cx
 T14 = record { locals = List._++_ t15 t1; slots = List.[] }
+
 abbrev pub T15 : Row.Cx
 T15 = record { locals = List._++_ t16 t1; slots = List.[] }
+
 abbrev pub T16 : Row.Cx
 T16 = record { locals = List._++_ t17 t1; slots = List.[] }
+
 abbrev pub T17 : Row.Cx
 T17 = record { locals = List._++_ t18 t1; slots = List.[] }
+
 abbrev pub T18 : Row.Cx
 T18 = record { locals = List._++_ t19 t1; slots = List.[] }
+
 abbrev pub T19 : Row.Cx
 T19 = record { locals = List._++_ t20 t1; slots = List.[] }
+
 abbrev pub T20 : Row.Cx
 T20 = record { locals = List._++_ t21 t1; slots = List.[] }
+
 abbrev pub T21 : Row.Cx
 T21 = record { locals = List._++_ t22 t1; slots = List.[] }
+
 abbrev pub T22 : Row.Cx
 T22 = record { locals = List._++_ t23 t1; slots = List.[] }
+
 abbrev pub T23 : Row.Cx
 T23 = record { locals = List._++_ t24 t1; slots = List.[] }
+
 abbrev pub T25 : Row.Cx
 T25 = record { locals = List._++_ t25 t1; slots = List.[] }
+
 abbrev pub T26 : Row.Cx
 T26 = record { locals = List._++_ t26 t1; slots = List.[] }
+
 abbrev pub T27 : Row.Cx
 T27 = record { locals = List._++_ t27 t1; slots = List.[] }
+
 abbrev pub T28 : Row.Cx
 T28 = record { locals = List._++_ t28 t1; slots = List.[] }
+
 abbrev pub T29 : Row.Cx
 T29 = record { locals = List._++_ t29 t1; slots = List.[] }
+
 abbrev pub T31 : Row.Cx
 T31 = record { locals = List._++_ t24 t1; slots = List.[] }
+
 abbrev pub T33 : Row.Cx
 T33 = record { locals = List._++_ t30 t1; slots = List.[] }
+
 abbrev pub T35 : Row.Cx
 T35 = record { locals = List._++_ t31 t32; slots = List.[] }
+
 abbrev pub T36 : Row.Cx
 T36 = record { locals = List._++_ t31 t33; slots = List.[] }
+
 abbrev pub T38 : Row.Cx
 T38 = record { locals = List._++_ t34 t35; slots = List.[] }
+
 abbrev pub T39 : Row.Cx
 T39 = record { locals = List._++_ t34 t36; slots = List.[] }
+
 abbrev pub T41 : Row.Cx
 T41 = record { locals = List._++_ t37 t38; slots = List.[] }
+
 abbrev pub T42 : Row.Cx
 T42 = record { locals = List._++_ t37 t39; slots = List.[] }
+
 abbrev pub T44 : Row.Cx
 T44 = record { locals = List._++_ t40 t41; slots = List.[] }
+
 abbrev pub T45 : Row.Cx
 T45 = record { locals = List._++_ t40 t42; slots = List.[] }
+
 abbrev pub T47 : Row.Cx
 T47 = record { locals = List._++_ t43 t44; slots = List.[] }
+
 abbrev pub T48 : Row.Cx
 T48 = record { locals = List._++_ t43 t45; slots = List.[] }
+
 abbrev pub T50 : Row.Cx
 T50 = record { locals = List._++_ t46 t47; slots = List.[] }
+
 abbrev pub T51 : Row.Cx
 T51 = record { locals = List._++_ t46 t48; slots = List.[] }
+
 abbrev pub T52 : Row.Cx
 T52 = record { locals = List._++_ t49 t50; slots = List.[] }
+
 abbrev pub T53 : Row.Cx
 T53 = record { locals = List._++_ t46 t50; slots = List.[] }
+
 abbrev pub T55 : Row.Cx
 T55 = record { locals = List._++_ t51 t52; slots = List.[] }
+
 abbrev pub T57 : Row.Cx
 T57 = record { locals = List._++_ t53 t52; slots = List.[] }
+
 abbrev pub T59 : Row.Cx
 T59 = record { locals = List._++_ t54 t55; slots = List.[] }
+
 abbrev pub T61 : Row.Cx
 T61 = record { locals = List._++_ t56 t55; slots = List.[] }
+
 abbrev pub T63 : Row.Cx
 T63 = record { locals = List._++_ t57 t58; slots = List.[] }
+
 abbrev pub T65 : Row.Cx
 T65 = record { locals = List._++_ t59 t58; slots = List.[] }
+
 abbrev pub T67 : Row.Cx
 T67 = record { locals = List._++_ t60 t61; slots = List.[] }
+
 abbrev pub T69 : Row.Cx
 T69 = record { locals = List._++_ t62 t61; slots = List.[] }
+
 abbrev pub T71 : Row.Cx
 T71 = record { locals = List._++_ t63 t64; slots = List.[] }
+
 abbrev pub T73 : Row.Cx
 T73 = record { locals = List._++_ t65 t64; slots = List.[] }
+
 abbrev pub T75 : Row.Cx
 T75 = record { locals = List._++_ t66 t1; slots = List.[] }
+
 abbrev pub T77 : Row.Cx
 T77 = record { locals = List._++_ t0 t1; slots = List.[] }
+
 abbrev pub T78 : Row.Cx
 T78 = record { locals = List._++_ t67 t1; slots = List.[] }
+
 abbrev pub T79 : Row.Cx
 T79 = record { locals = List._++_ t0 t1; slots = List.[] }
+
 abbrev pub T80 : Row.Cx
 T80 = record { locals = List._++_ t2 t1; slots = List.[] }
+
 abbrev pub O0 : Typed.Outs
 O0 = record { next = Option.none; exits = List.[]; returns = Option.some T1 }
+
 module _ (claims· : Claims) where
   abbrev s0 : (bs : List.List Nat.ℕ) → Typed.Mo T0 → Typed.Mo T2
-  s0 = λ bs. Make.n-make (Array.Array (Referent.rtF (Referent.fInt Syntax.w8)) 12) T0 7 λ m. 99 ∷ 97 ∷ 115 ∷ 101 ∷ 32 ∷ 97 ∷ 110 ∷ 115 ∷ 119 ∷ 101 ∷
-      114 ∷ 10 ∷ List.[]
+  s0 = λ bs. Make.n-make (Array.Array (Referent.rtF (Referent.fInt Syntax.w8)) 12) T0 7 λ m. 99 ∷ 97 ∷ 115 ∷ 101 ∷ 32 ∷
+      97 ∷ 110 ∷ 115 ∷ 119 ∷ 101 ∷ 114 ∷ 10 ∷ List.[]
+
   abbrev s1 : (bs : List.List Nat.ℕ) → Typed.Mo T2 → Typed.Mo T3
   s1 = λ bs. AtSlots.n-as-by T2 7 (Rows.arrF (Referent.rtF (Referent.fInt Syntax.w8)) 12 0) λ x. x
+
   abbrev s2 : (bs : List.List Nat.ℕ) → Typed.Both T3 T4
   s2 = λ bs. Call.callB ps·0 r·0 (claims· .0) (claims· .1) T3 tt 8 List.[] RelayPending.ty
+
   abbrev s3 : (bs : List.List Nat.ℕ) → Typed.Mo T4 → Typed.Mo T5
   s3 = λ bs. Repeat.n-repeat RelayPending.row 2 T4 1 λ m. m .1 .1 .1 .1 .1 .1 .1 .1 .0
+
   abbrev s4 : (bs : List.List Nat.ℕ) → Typed.Mo T5 → Typed.Mo T6
   s4 = λ bs. AtSlots.n-as-by T5 1 (Rows.arrF RelayPending.row 2 0) λ x. x
+
   abbrev s5 : (bs : List.List Nat.ℕ) → Typed.Mo T6 → Typed.Mo T7
   s5 = λ bs. Scalar.n-room T6 8 RelayPending.ty
+
   abbrev s6 : (bs : List.List Nat.ℕ) → Typed.Both T7 T8
   s6 = λ bs. Call.callB ps·1 r·1 (claims· .2) (claims· .3) T7 tt 9 List.[] RelayCircuit.ty
+
   abbrev s7 : (bs : List.List Nat.ℕ) → Typed.Mo T8 → Typed.Mo T9
   s7 = λ bs. Repeat.n-repeat RelayCircuit.row 2 T8 2 λ m. m .1 .1 .1 .1 .1 .1 .1 .1 .1 .0
+
   abbrev s8 : (bs : List.List Nat.ℕ) → Typed.Mo T9 → Typed.Mo T10
   s8 = λ bs. AtSlots.n-as-by T9 2 (Rows.arrF RelayCircuit.row 2 0) λ x. x
+
   abbrev s9 : (bs : List.List Nat.ℕ) → Typed.Mo T10 → Typed.Mo T11
   s9 = λ bs. Scalar.n-room T10 9 RelayCircuit.ty
+
   abbrev s10 : (bs : List.List Nat.ℕ) → Typed.Both T11 T12
   s10 = λ bs. Call.callB ps·2 r·2 (claims· .4) (claims· .5) T11 tt 10 List.[] ReservationUsage.ty
+
   abbrev s11 : (bs : List.List Nat.ℕ) → Typed.Asks T12 T13
-  s11 = λ bs. Make.k-make (Array.Array ReservationUsage.row 1) T12 3 (λ m. (m .1 .1 .1 .1 .1 .1 .1 .1 .1 .1 .0) ∷ List.[]) λ m. Unit
+  s11 = λ bs. Make.k-make (Array.Array ReservationUsage.row 1) T12 3
+      (λ m. (m .1 .1 .1 .1 .1 .1 .1 .1 .1 .1 .0) ∷ List.[]) λ m. Unit
+
   abbrev s12 : (bs : List.List Nat.ℕ) → Typed.Mo T13 → Typed.Mo T14
   s12 = λ bs. AtSlots.n-as-by T13 3 (Rows.arrF ReservationUsage.row 1 0) λ x. x
+
   abbrev s13 : (bs : List.List Nat.ℕ) → Typed.Mo T14 → Typed.Mo T15
   s13 = λ bs. Scalar.n-room T14 10 ReservationUsage.ty
+
   abbrev s14 : (bs : List.List Nat.ℕ) → Typed.Both T15 T16
   s14 = λ bs. Call.callB ps·3 r·3 (claims· .6) (claims· .7) T15 tt 11 List.[] InflightAction.ty
+
   abbrev s15 : (bs : List.List Nat.ℕ) → Typed.Mo T16 → Typed.Mo T17
   s15 = λ bs. Repeat.n-repeat InflightAction.row 8 T16 4 λ m. m .1 .1 .1 .1 .1 .1 .1 .1 .1 .1 .1 .0
+
   abbrev s16 : (bs : List.List Nat.ℕ) → Typed.Mo T17 → Typed.Mo T18
   s16 = λ bs. AtSlots.n-as-by T17 4 (Rows.arrF InflightAction.row 8 0) λ x. x
+
   abbrev s17 : (bs : List.List Nat.ℕ) → Typed.Mo T18 → Typed.Mo T19
   s17 = λ bs. Scalar.n-room T18 11 InflightAction.ty
+
   abbrev s18 : (bs : List.List Nat.ℕ) → Typed.Mo T19 → Typed.Mo T20
   s18 = λ bs. Repeat.n-repeat (Referent.rtF (Referent.fInt Syntax.w32)) 4136 T19 5 λ m. 0
+
   abbrev s19 : (bs : List.List Nat.ℕ) → Typed.Mo T20 → Typed.Mo T21
   s19 = λ bs. AtSlots.n-as-by T20 5 (Rows.arrF (Referent.rtF (Referent.fInt Syntax.w32)) 4136 0) λ x. x
+
   abbrev s20 : (bs : List.List Nat.ℕ) → Typed.Mo T21 → Typed.Mo T22
   s20 = λ bs. Repeat.n-repeat (Referent.rtF (Referent.fInt Syntax.w8)) 16385 T21 6 λ m. 65
+
   abbrev s21 : (bs : List.List Nat.ℕ) → Typed.Mo T22 → Typed.Mo T23
   s21 = λ bs. AtSlots.n-as-by T22 6 (Rows.arrF (Referent.rtF (Referent.fInt Syntax.w8)) 16385 0) λ x. x
+
   abbrev s23 : (bs : List.List Nat.ℕ) → Typed.Gives T23 T25
   s23 = λ bs. Share.k-arr-share (Referent.rtF (Referent.fInt Syntax.w8)) T23 7 13 12 0 ref0 λ x. x
+
   abbrev s24 : (bs : List.List Nat.ℕ) → Typed.Asks T25 T26
-  s24 = λ bs. Relend.k-sl-aggregate (Referent.rtF (Referent.fInt Syntax.w8)) (Relend.asShr (Referent.rtF (Referent.fInt Syntax.w8))) T25 13 14 0 ref0
-      ref1 (λ x. x) (Scalar.oInt Syntax.w64 12)
+  s24 = λ bs. Relend.k-sl-aggregate (Referent.rtF (Referent.fInt Syntax.w8))
+      (Relend.asShr (Referent.rtF (Referent.fInt Syntax.w8))) T25 13 14 0 ref0 ref1 (λ x. x)
+      (Scalar.oInt Syntax.w64 12)
+
   abbrev s25 : (bs : List.List Nat.ℕ) → Typed.Both T26 T27
-  s25 = λ bs. Call.callB ps·4 r·4 (claims· .8) (claims· .9) T26 (Num.vLit 1, (record { pos = 14; ty = Syntax.tyRef Syntax.erased Syntax.imm
-      (Syntax.tyInt Syntax.w8); ref = λ x. x; }, tt,),) 12 (0 ∷ List.[]) Syntax.tyBool
+  s25 = λ bs. Call.callB ps·4 r·4 (claims· .8) (claims· .9) T26 (
+    Num.vLit 1,
+    (record { pos = 14; ty = ref1; ref = λ x. x }, tt),
+  ) 12 (0 ∷ List.[]) Syntax.tyBool
+
   abbrev s26 : (bs : List.List Nat.ℕ) → Typed.Mo T27 → Typed.Mo T28
-  s26 = λ bs. Scalar.n-room T27 14 (Syntax.tyStruct (38 ∷ 91 ∷ 93 ∷ List.[]) (Syntax.tcons ref1 (Syntax.tcons (Syntax.tyInt Syntax.w64) Syntax.tnil)))
+  s26 = λ bs. Scalar.n-room T27 14 slice1
+
   abbrev s27 : (bs : List.List Nat.ℕ) → Typed.Mo T28 → Typed.Mo T29
   s27 = λ bs. Scalar.n-room T28 12 Syntax.tyBool
+
   abbrev s29 : (bs : List.List Nat.ℕ) → Typed.Mo T29 → Typed.Mo T31
   s29 = λ bs. Share.n-back-arr-shr (Referent.rtF (Referent.fInt Syntax.w8)) T29 7 12 0 λ x. x
+
   abbrev s31 : (bs : List.List Nat.ℕ) → Typed.Mo T31 → Typed.Mo T33
   s31 = λ bs. Scalar.n-room T31 7 (Syntax.tyArray (Syntax.tyInt Syntax.w8) 12)
+
   abbrev s33 : (bs : List.List Nat.ℕ) → Typed.Gives T33 T35
   s33 = λ bs. Borrow.k-arr-borrow RelayPending.row T33 (Row.hd 0 (Row.tl bs)) 1 16 2 1 ref2 λ x. x
+
   abbrev s34 : (bs : List.List Nat.ℕ) → Typed.Asks T35 T36
-  s34 = λ bs. Relend.k-sl-aggregate RelayPending.row (Relend.asMut RelayPending.row) T35 16 17 1 ref2 ref3 (λ x. x) (Scalar.oInt Syntax.w64 2)
+  s34 = λ bs. Relend.k-sl-aggregate RelayPending.row (Relend.asMut RelayPending.row) T35 16 17 1 ref2 ref3 (λ x. x)
+      (Scalar.oInt Syntax.w64 2)
+
   abbrev s36 : (bs : List.List Nat.ℕ) → Typed.Gives T36 T38
   s36 = λ bs. Borrow.k-arr-borrow RelayCircuit.row T36 (Row.hd 0 (Row.tl (Row.tl bs))) 2 18 2 2 ref4 λ x. x
+
   abbrev s37 : (bs : List.List Nat.ℕ) → Typed.Asks T38 T39
-  s37 = λ bs. Relend.k-sl-aggregate RelayCircuit.row (Relend.asMut RelayCircuit.row) T38 18 19 2 ref4 ref5 (λ x. x) (Scalar.oInt Syntax.w64 2)
+  s37 = λ bs. Relend.k-sl-aggregate RelayCircuit.row (Relend.asMut RelayCircuit.row) T38 18 19 2 ref4 ref5 (λ x. x)
+      (Scalar.oInt Syntax.w64 2)
+
   abbrev s39 : (bs : List.List Nat.ℕ) → Typed.Gives T39 T41
-  s39 = λ bs. Borrow.k-arr-borrow ReservationUsage.row T39 (Row.hd 0 (Row.tl (Row.tl (Row.tl bs)))) 3 20 1 3 ref6 λ x. x
+  s39 = λ bs. Borrow.k-arr-borrow ReservationUsage.row T39 (Row.hd 0 (Row.tl (Row.tl (Row.tl bs)))) 3 20 1 3 ref6 λ x.
+      x
+
   abbrev s40 : (bs : List.List Nat.ℕ) → Typed.Asks T41 T42
-  s40 = λ bs. Relend.k-sl-aggregate ReservationUsage.row (Relend.asMut ReservationUsage.row) T41 20 21 3 ref6 ref7 (λ x. x) (Scalar.oInt Syntax.w64 1)
+  s40 = λ bs. Relend.k-sl-aggregate ReservationUsage.row (Relend.asMut ReservationUsage.row) T41 20 21 3 ref6 ref7
+      (λ x. x) (Scalar.oInt Syntax.w64 1)
+
   abbrev s42 : (bs : List.List Nat.ℕ) → Typed.Gives T42 T44
-  s42 = λ bs. Borrow.k-arr-borrow InflightAction.row T42 (Row.hd 0 (Row.tl (Row.tl (Row.tl (Row.tl bs))))) 4 22 8 4 ref8 λ x. x
+  s42 = λ bs. Borrow.k-arr-borrow InflightAction.row T42 (Row.hd 0 (Row.tl (Row.tl (Row.tl (Row.tl bs))))) 4 22 8 4
+      ref8 λ x. x
+
   abbrev s43 : (bs : List.List Nat.ℕ) → Typed.Asks T44 T45
-  s43 = λ bs. Relend.k-sl-aggregate InflightAction.row (Relend.asMut InflightAction.row) T44 22 23 4 ref8 ref9 (λ x. x) (Scalar.oInt Syntax.w64 8)
+  s43 = λ bs. Relend.k-sl-aggregate InflightAction.row (Relend.asMut InflightAction.row) T44 22 23 4 ref8 ref9 (λ x. x)
+      (Scalar.oInt Syntax.w64 8)
+
   abbrev s45 : (bs : List.List Nat.ℕ) → Typed.Gives T45 T47
-  s45 = λ bs. Borrow.k-arr-borrow (Referent.rtF (Referent.fInt Syntax.w32)) T45 (Row.hd 0 (Row.tl (Row.tl (Row.tl (Row.tl (Row.tl bs)))))) 5 24 4136 5
-      ref10 λ x. x
+  s45 = λ bs. Borrow.k-arr-borrow (Referent.rtF (Referent.fInt Syntax.w32)) T45
+      (Row.hd 0 (Row.tl (Row.tl (Row.tl (Row.tl (Row.tl bs)))))) 5 24 4136 5 ref10 λ x. x
+
   abbrev s46 : (bs : List.List Nat.ℕ) → Typed.Asks T47 T48
-  s46 = λ bs. Relend.k-sl-aggregate (Referent.rtF (Referent.fInt Syntax.w32)) (Relend.asMut (Referent.rtF (Referent.fInt Syntax.w32))) T47 24 25 5
-      ref10 ref11 (λ x. x) (Scalar.oBig Syntax.w64 4136)
+  s46 = λ bs. Relend.k-sl-aggregate (Referent.rtF (Referent.fInt Syntax.w32))
+      (Relend.asMut (Referent.rtF (Referent.fInt Syntax.w32))) T47 24 25 5 ref10 ref11 (λ x. x)
+      (Scalar.oBig Syntax.w64 4136)
+
   abbrev s48 : (bs : List.List Nat.ℕ) → Typed.Gives T48 T50
-  s48 = λ bs. Borrow.k-arr-borrow (Referent.rtF (Referent.fInt Syntax.w8)) T48 (Row.hd 0 (Row.tl (Row.tl (Row.tl (Row.tl (Row.tl (Row.tl bs))))))) 6
-      26 16385 6 ref12 λ x. x
+  s48 = λ bs. Borrow.k-arr-borrow (Referent.rtF (Referent.fInt Syntax.w8)) T48 (Row.hd 0
+      (Row.tl (Row.tl (Row.tl (Row.tl (Row.tl (Row.tl bs))))))) 6 26 16385 6 ref12 λ x. x
+
   abbrev s49 : (bs : List.List Nat.ℕ) → Typed.Asks T50 T51
-  s49 = λ bs. Relend.k-sl-aggregate (Referent.rtF (Referent.fInt Syntax.w8)) (Relend.asMut (Referent.rtF (Referent.fInt Syntax.w8))) T50 26 27 6 ref12
-      ref13 (λ x. x) (Scalar.oBig Syntax.w64 16385)
+  s49 = λ bs. Relend.k-sl-aggregate (Referent.rtF (Referent.fInt Syntax.w8))
+      (Relend.asMut (Referent.rtF (Referent.fInt Syntax.w8))) T50 26 27 6 ref12 ref13 (λ x. x)
+      (Scalar.oBig Syntax.w64 16385)
+
   abbrev s50 : (bs : List.List Nat.ℕ) → Typed.Both T51 T52
-  s50 = λ bs. Call.callB ps·5 r·5 (claims· .10) (claims· .11) T51 (record { pos = 17; ty = Syntax.tyRef Syntax.erased Syntax.mut RelayPending.to; ref
-      = λ x. x; }, (record { pos = 19; ty = Syntax.tyRef Syntax.erased Syntax.mut RelayCircuit.to; ref = λ x. x; }, (record { pos = 21; ty =
-      Syntax.tyRef Syntax.erased Syntax.mut ReservationUsage.to; ref = λ x. x; }, (record { pos = 23; ty = Syntax.tyRef Syntax.erased Syntax.mut
-      InflightAction.to; ref = λ x. x; }, (record { pos = 25; ty = Syntax.tyRef Syntax.erased Syntax.mut (Syntax.tyInt Syntax.w32); ref = λ x. x; },
-      (record { pos = 27; ty = Syntax.tyRef Syntax.erased Syntax.mut (Syntax.tyInt Syntax.w8); ref = λ x. x; }, tt,),),),),),) 15 (1 ∷ 2 ∷ 3 ∷ 4 ∷ 5 ∷
-      6 ∷ List.[]) Syntax.tyUnit
+  s50 = λ bs. Call.callB ps·5 r·5 (claims· .10) (claims· .11) T51 (
+    record { pos = 17; ty = ref3; ref = λ x. x },
+    (
+      record { pos = 19; ty = ref5; ref = λ x. x },
+      (
+        record { pos = 21; ty = ref7; ref = λ x. x },
+        (
+          record { pos = 23; ty = ref9; ref = λ x. x },
+          (record { pos = 25; ty = ref11; ref = λ x. x }, (record { pos = 27; ty = ref13; ref = λ x. x }, tt)),
+        ),
+      ),
+    ),
+  ) 15 (1 ∷ 2 ∷ 3 ∷ 4 ∷ 5 ∷ 6 ∷ List.[]) Syntax.tyUnit
+
   abbrev s51 : (bs : List.List Nat.ℕ) → Typed.Mo T52 → Typed.Mo T53
   s51 = λ bs. Scalar.n-room T52 15 Syntax.tyUnit
+
   abbrev s53 : (bs : List.List Nat.ℕ) → Typed.Both T53 T55
   s53 = λ bs. Borrow.k-back-arr RelayPending.row T53 17 1 1 2 ref3 (λ x. x) λ x. x
+
   abbrev s55 : (bs : List.List Nat.ℕ) → Typed.Mo T55 → Typed.Mo T57
   s55 = λ bs. Scalar.n-room T55 1 (Syntax.tyArray RelayPending.ty 2)
+
   abbrev s57 : (bs : List.List Nat.ℕ) → Typed.Both T57 T59
   s57 = λ bs. Borrow.k-back-arr RelayCircuit.row T57 19 2 2 2 ref5 (λ x. x) λ x. x
+
   abbrev s59 : (bs : List.List Nat.ℕ) → Typed.Mo T59 → Typed.Mo T61
   s59 = λ bs. Scalar.n-room T59 2 (Syntax.tyArray RelayCircuit.ty 2)
+
   abbrev s61 : (bs : List.List Nat.ℕ) → Typed.Both T61 T63
   s61 = λ bs. Borrow.k-back-arr ReservationUsage.row T61 21 3 3 1 ref7 (λ x. x) λ x. x
+
   abbrev s63 : (bs : List.List Nat.ℕ) → Typed.Mo T63 → Typed.Mo T65
   s63 = λ bs. Scalar.n-room T63 3 (Syntax.tyArray ReservationUsage.ty 1)
+
   abbrev s65 : (bs : List.List Nat.ℕ) → Typed.Both T65 T67
   s65 = λ bs. Borrow.k-back-arr InflightAction.row T65 23 4 4 8 ref9 (λ x. x) λ x. x
+
   abbrev s67 : (bs : List.List Nat.ℕ) → Typed.Mo T67 → Typed.Mo T69
   s67 = λ bs. Scalar.n-room T67 4 (Syntax.tyArray InflightAction.ty 8)
+
   abbrev s69 : (bs : List.List Nat.ℕ) → Typed.Both T69 T71
   s69 = λ bs. Borrow.k-back-arr (Referent.rtF (Referent.fInt Syntax.w32)) T69 25 5 5 4136 ref11 (λ x. x) λ x. x
+
   abbrev s71 : (bs : List.List Nat.ℕ) → Typed.Mo T71 → Typed.Mo T73
   s71 = λ bs. Scalar.n-room T71 5 (Syntax.tyArray (Syntax.tyInt Syntax.w32) 4136)
+
   abbrev s73 : (bs : List.List Nat.ℕ) → Typed.Both T73 T75
   s73 = λ bs. Borrow.k-back-arr (Referent.rtF (Referent.fInt Syntax.w8)) T73 27 6 6 16385 ref13 (λ x. x) λ x. x
+
   abbrev s75 : (bs : List.List Nat.ℕ) → Typed.Mo T75 → Typed.Mo T77
   s75 = λ bs. Scalar.n-room T75 6 (Syntax.tyArray (Syntax.tyInt Syntax.w8) 16385)
+
   abbrev s76 : (bs : List.List Nat.ℕ) → Typed.Both T77 T78
   s76 = λ bs. Call.callB ps·6 r·6 (claims· .12) (claims· .13) T77 tt 15 List.[] Syntax.tyUnit
+
   abbrev s77 : (bs : List.List Nat.ℕ) → Typed.Mo T78 → Typed.Mo T79
   s77 = λ bs. Scalar.n-room T78 15 Syntax.tyUnit
+
   abbrev s78 : (bs : List.List Nat.ℕ) → Typed.Mo T79 → Typed.Mo T80
   s78 = λ bs. Scalar.n-use T79 Scalar.oUnit 0 (Rows'.sc-here Row.sUnit) (Row.sUnit .of)
-  module _ (Pre· : (κs : Lifetimes.Lfts 0) → Kinds.Dens κs ps → Type 0) (Post· : (κs : Lifetimes.Lfts 0) → (a : Kinds.Dens κs ps) → Kinds.Plain 0 ps r
-      κs) where
+
+  module _ (Pre· : (κs : Lifetimes.Lfts 0) → Kinds.Dens κs ps → Type 0) (Post· : (κs : Lifetimes.Lfts 0) →
+      (a : Kinds.Dens κs ps) → Kinds.Plain 0 ps r κs) where
     module _ (M : Type 1) where
       abbrev pub Closed : Type 2
-      Closed = (𝓤 : URA.URA M) (H : Wp.Heap 𝓤) (A : Atoms.Atoms 𝓤) (W : Kit.Given 𝓤 H A) (𝓣 : Wp.Tables 𝓤 H) (known0 : Plain.Known 𝓤 H A W 𝓣 0 ps·0
-          r·0 (claims· .0) (claims· .1) "cases::script::empty_pending") (known1 : Plain.Known 𝓤 H A W 𝓣 0 ps·1 r·1 (claims· .2) (claims· .3)
-          "cases::script::empty_circuit") (known2 : Plain.Known 𝓤 H A W 𝓣 0 ps·2 r·2 (claims· .4) (claims· .5) "cases::script::empty_usage") (known3 :
-          Plain.Known 𝓤 H A W 𝓣 0 ps·3 r·3 (claims· .6) (claims· .7) "cases::script::empty_action") (known4 : Plain.Known 𝓤 H A W 𝓣 1 ps·4 r·4
-          (claims· .8) (claims· .9) "io::write_all") (known5 : Plain.Known 𝓤 H A W 𝓣 6 ps·5 r·5 (claims· .10) (claims· .11) "cases::machine::run_all")
-          (known6 : Plain.Known 𝓤 H A W 𝓣 0 ps·6 r·6 (claims· .12) (claims· .13) "cases::samples::run_samples") → Statement.Triple 𝓤 (Wp.WpFn 𝓤 H (𝓣
-          .C) (𝓣 .Λ) (Function.fnOf 0 ps r xs m hs body)) (Function.plainOf 𝓤 H A 0 ps r Pre· Post·)
+      Closed = (𝓤 : URA.URA M) (H : Wp.Heap 𝓤) (A : Atoms.Atoms 𝓤) (W : Kit.Given 𝓤 H A) (𝓣 : Wp.Tables 𝓤 H) (known0 :
+          Plain.Known 𝓤 H A W 𝓣 0 ps·0 r·0 (claims· .0) (claims· .1) "cases::script::empty_pending") (known1 :
+          Plain.Known 𝓤 H A W 𝓣 0 ps·1 r·1 (claims· .2) (claims· .3) "cases::script::empty_circuit") (known2 :
+          Plain.Known 𝓤 H A W 𝓣 0 ps·2 r·2 (claims· .4) (claims· .5) "cases::script::empty_usage") (known3 :
+          Plain.Known 𝓤 H A W 𝓣 0 ps·3 r·3 (claims· .6) (claims· .7) "cases::script::empty_action") (known4 :
+          Plain.Known 𝓤 H A W 𝓣 1 ps·4 r·4 (claims· .8) (claims· .9) "io::write_all") (known5 : Plain.Known 𝓤 H A W 𝓣 6
+          ps·5 r·5 (claims· .10) (claims· .11) "cases::machine::run_all") (known6 : Plain.Known 𝓤 H A W 𝓣 0 ps·6 r·6
+          (claims· .12) (claims· .13) "cases::samples::run_samples") → Statement.Triple 𝓤 (Wp.WpFn 𝓤 H (𝓣 .C) (𝓣 .Λ)
+          (Function.fnOf 0 ps r xs m hs body)) (Function.plainOf 𝓤 H A 0 ps r Pre· Post·)
+
     module _ where
       abbrev at0 : (bs : List.List Nat.ℕ) → Typed.TF T80 O0
       at0 = λ bs. Typed.atRet O0
+
       abbrev at1 : (bs : List.List Nat.ℕ) → Typed.TF T79 O0
       at1 = λ bs. λ Ψ. Typed.pass T79 T80 (s78 bs) (at0 bs Ψ)
+
       abbrev at2 : (bs : List.List Nat.ℕ) → Typed.TF T78 O0
       at2 = λ bs. λ Ψ. Typed.pass T78 T79 (s77 bs) (at1 bs Ψ)
+
       abbrev at3 : (bs : List.List Nat.ℕ) → Typed.TF T77 O0
       at3 = λ bs. λ Ψ. Typed.both (s76 bs) (at2 bs Ψ)
+
       abbrev at4 : (bs : List.List Nat.ℕ) → Typed.TF T75 O0
       at4 = λ bs. λ Ψ. Typed.pass T75 T77 (s75 bs) (at3 bs Ψ)
+
       abbrev at5 : (bs : List.List Nat.ℕ) → Typed.TF T75 O0
       at5 = λ bs. λ Ψ. at4 bs Ψ
+
       abbrev at6 : (bs : List.List Nat.ℕ) → Typed.TF T73 O0
       at6 = λ bs. λ Ψ. Typed.both (s73 bs) (at5 bs Ψ)
+
       abbrev at7 : (bs : List.List Nat.ℕ) → Typed.TF T73 O0
       at7 = λ bs. λ Ψ. at6 bs Ψ
+
       abbrev at8 : (bs : List.List Nat.ℕ) → Typed.TF T71 O0
       at8 = λ bs. λ Ψ. Typed.pass T71 T73 (s71 bs) (at7 bs Ψ)
+
       abbrev at9 : (bs : List.List Nat.ℕ) → Typed.TF T71 O0
       at9 = λ bs. λ Ψ. at8 bs Ψ
+
       abbrev at10 : (bs : List.List Nat.ℕ) → Typed.TF T69 O0
       at10 = λ bs. λ Ψ. Typed.both (s69 bs) (at9 bs Ψ)
+
       abbrev at11 : (bs : List.List Nat.ℕ) → Typed.TF T69 O0
       at11 = λ bs. λ Ψ. at10 bs Ψ
+
       abbrev at12 : (bs : List.List Nat.ℕ) → Typed.TF T67 O0
       at12 = λ bs. λ Ψ. Typed.pass T67 T69 (s67 bs) (at11 bs Ψ)
+
       abbrev at13 : (bs : List.List Nat.ℕ) → Typed.TF T67 O0
       at13 = λ bs. λ Ψ. at12 bs Ψ
+
       abbrev at14 : (bs : List.List Nat.ℕ) → Typed.TF T65 O0
       at14 = λ bs. λ Ψ. Typed.both (s65 bs) (at13 bs Ψ)
+
       abbrev at15 : (bs : List.List Nat.ℕ) → Typed.TF T65 O0
       at15 = λ bs. λ Ψ. at14 bs Ψ
+
       abbrev at16 : (bs : List.List Nat.ℕ) → Typed.TF T63 O0
       at16 = λ bs. λ Ψ. Typed.pass T63 T65 (s63 bs) (at15 bs Ψ)
+
       abbrev at17 : (bs : List.List Nat.ℕ) → Typed.TF T63 O0
       at17 = λ bs. λ Ψ. at16 bs Ψ
+
       abbrev at18 : (bs : List.List Nat.ℕ) → Typed.TF T61 O0
       at18 = λ bs. λ Ψ. Typed.both (s61 bs) (at17 bs Ψ)
+
       abbrev at19 : (bs : List.List Nat.ℕ) → Typed.TF T61 O0
       at19 = λ bs. λ Ψ. at18 bs Ψ
+
       abbrev at20 : (bs : List.List Nat.ℕ) → Typed.TF T59 O0
       at20 = λ bs. λ Ψ. Typed.pass T59 T61 (s59 bs) (at19 bs Ψ)
+
       abbrev at21 : (bs : List.List Nat.ℕ) → Typed.TF T59 O0
       at21 = λ bs. λ Ψ. at20 bs Ψ
+
       abbrev at22 : (bs : List.List Nat.ℕ) → Typed.TF T57 O0
       at22 = λ bs. λ Ψ. Typed.both (s57 bs) (at21 bs Ψ)
+
       abbrev at23 : (bs : List.List Nat.ℕ) → Typed.TF T57 O0
       at23 = λ bs. λ Ψ. at22 bs Ψ
+
       abbrev at24 : (bs : List.List Nat.ℕ) → Typed.TF T55 O0
       at24 = λ bs. λ Ψ. Typed.pass T55 T57 (s55 bs) (at23 bs Ψ)
+
       abbrev at25 : (bs : List.List Nat.ℕ) → Typed.TF T55 O0
       at25 = λ bs. λ Ψ. at24 bs Ψ
+
       abbrev at26 : (bs : List.List Nat.ℕ) → Typed.TF T53 O0
       at26 = λ bs. λ Ψ. Typed.both (s53 bs) (at25 bs Ψ)
+
       abbrev at27 : (bs : List.List Nat.ℕ) → Typed.TF T53 O0
       at27 = λ bs. λ Ψ. at26 bs Ψ
+
       abbrev at28 : (bs : List.List Nat.ℕ) → Typed.TF T52 O0
       at28 = λ bs. λ Ψ. Typed.pass T52 T53 (s51 bs) (at27 bs Ψ)
+
       abbrev at29 : (bs : List.List Nat.ℕ) → Typed.TF T51 O0
       at29 = λ bs. λ Ψ. Typed.both (s50 bs) (at28 bs Ψ)
+
       abbrev at30 : (bs : List.List Nat.ℕ) → Typed.TF T50 O0
       at30 = λ bs. λ Ψ. Typed.ask (s49 bs) (at29 bs Ψ)
+
       abbrev at31 : (bs : List.List Nat.ℕ) → Typed.TF T48 O0
       at31 = λ bs. λ Ψ. Typed.give (s48 bs) (at30 bs Ψ)
+
       abbrev at32 : (bs : List.List Nat.ℕ) → Typed.TF T48 O0
       at32 = λ bs. λ Ψ. at31 bs Ψ
+
       abbrev at33 : (bs : List.List Nat.ℕ) → Typed.TF T47 O0
       at33 = λ bs. λ Ψ. Typed.ask (s46 bs) (at32 bs Ψ)
+
       abbrev at34 : (bs : List.List Nat.ℕ) → Typed.TF T45 O0
       at34 = λ bs. λ Ψ. Typed.give (s45 bs) (at33 bs Ψ)
+
       abbrev at35 : (bs : List.List Nat.ℕ) → Typed.TF T45 O0
       at35 = λ bs. λ Ψ. at34 bs Ψ
+
       abbrev at36 : (bs : List.List Nat.ℕ) → Typed.TF T44 O0
       at36 = λ bs. λ Ψ. Typed.ask (s43 bs) (at35 bs Ψ)
+
       abbrev at37 : (bs : List.List Nat.ℕ) → Typed.TF T42 O0
       at37 = λ bs. λ Ψ. Typed.give (s42 bs) (at36 bs Ψ)
+
       abbrev at38 : (bs : List.List Nat.ℕ) → Typed.TF T42 O0
       at38 = λ bs. λ Ψ. at37 bs Ψ
+
       abbrev at39 : (bs : List.List Nat.ℕ) → Typed.TF T41 O0
       at39 = λ bs. λ Ψ. Typed.ask (s40 bs) (at38 bs Ψ)
+
       abbrev at40 : (bs : List.List Nat.ℕ) → Typed.TF T39 O0
       at40 = λ bs. λ Ψ. Typed.give (s39 bs) (at39 bs Ψ)
+
       abbrev at41 : (bs : List.List Nat.ℕ) → Typed.TF T39 O0
       at41 = λ bs. λ Ψ. at40 bs Ψ
+
       abbrev at42 : (bs : List.List Nat.ℕ) → Typed.TF T38 O0
       at42 = λ bs. λ Ψ. Typed.ask (s37 bs) (at41 bs Ψ)
+
       abbrev at43 : (bs : List.List Nat.ℕ) → Typed.TF T36 O0
       at43 = λ bs. λ Ψ. Typed.give (s36 bs) (at42 bs Ψ)
+
       abbrev at44 : (bs : List.List Nat.ℕ) → Typed.TF T36 O0
       at44 = λ bs. λ Ψ. at43 bs Ψ
+
       abbrev at45 : (bs : List.List Nat.ℕ) → Typed.TF T35 O0
       at45 = λ bs. λ Ψ. Typed.ask (s34 bs) (at44 bs Ψ)
+
       abbrev at46 : (bs : List.List Nat.ℕ) → Typed.TF T33 O0
       at46 = λ bs. λ Ψ. Typed.give (s33 bs) (at45 bs Ψ)
+
       abbrev at47 : (bs : List.List Nat.ℕ) → Typed.TF T33 O0
       at47 = λ bs. λ Ψ. at46 bs Ψ
+
       abbrev at48 : (bs : List.List Nat.ℕ) → Typed.TF T31 O0
       at48 = λ bs. λ Ψ. Typed.pass T31 T33 (s31 bs) (at47 bs Ψ)
+
       abbrev at49 : (bs : List.List Nat.ℕ) → Typed.TF T31 O0
       at49 = λ bs. λ Ψ. at48 bs Ψ
+
       abbrev at50 : (bs : List.List Nat.ℕ) → Typed.TF T29 O0
       at50 = λ bs. λ Ψ. Typed.pass T29 T31 (s29 bs) (at49 bs Ψ)
+
       abbrev at51 : (bs : List.List Nat.ℕ) → Typed.TF T29 O0
       at51 = λ bs. λ Ψ. at50 bs Ψ
+
       abbrev at52 : (bs : List.List Nat.ℕ) → Typed.TF T28 O0
       at52 = λ bs. λ Ψ. Typed.pass T28 T29 (s27 bs) (at51 bs Ψ)
+
       abbrev at53 : (bs : List.List Nat.ℕ) → Typed.TF T27 O0
       at53 = λ bs. λ Ψ. Typed.pass T27 T28 (s26 bs) (at52 bs Ψ)
+
       abbrev at54 : (bs : List.List Nat.ℕ) → Typed.TF T26 O0
       at54 = λ bs. λ Ψ. Typed.both (s25 bs) (at53 bs Ψ)
+
       abbrev at55 : (bs : List.List Nat.ℕ) → Typed.TF T25 O0
       at55 = λ bs. λ Ψ. Typed.ask (s24 bs) (at54 bs Ψ)
+
       abbrev at56 : (bs : List.List Nat.ℕ) → Typed.TF T23 O0
       at56 = λ bs. λ Ψ. Typed.give (s23 bs) (at55 bs Ψ)
+
       abbrev at57 : (bs : List.List Nat.ℕ) → Typed.TF T23 O0
       at57 = λ bs. λ Ψ. at56 bs Ψ
+
       abbrev at58 : (bs : List.List Nat.ℕ) → Typed.TF T22 O0
       at58 = λ bs. λ Ψ. Typed.pass T22 T23 (s21 bs) (at57 bs Ψ)
+
       abbrev at59 : (bs : List.List Nat.ℕ) → Typed.TF T21 O0
       at59 = λ bs. λ Ψ. Typed.pass T21 T22 (s20 bs) (at58 bs Ψ)
+
       abbrev at60 : (bs : List.List Nat.ℕ) → Typed.TF T20 O0
       at60 = λ bs. λ Ψ. Typed.pass T20 T21 (s19 bs) (at59 bs Ψ)
+
       abbrev at61 : (bs : List.List Nat.ℕ) → Typed.TF T19 O0
       at61 = λ bs. λ Ψ. Typed.pass T19 T20 (s18 bs) (at60 bs Ψ)
+
       abbrev at62 : (bs : List.List Nat.ℕ) → Typed.TF T18 O0
       at62 = λ bs. λ Ψ. Typed.pass T18 T19 (s17 bs) (at61 bs Ψ)
+
       abbrev at63 : (bs : List.List Nat.ℕ) → Typed.TF T17 O0
       at63 = λ bs. λ Ψ. Typed.pass T17 T18 (s16 bs) (at62 bs Ψ)
+
       abbrev at64 : (bs : List.List Nat.ℕ) → Typed.TF T16 O0
       at64 = λ bs. λ Ψ. Typed.pass T16 T17 (s15 bs) (at63 bs Ψ)
+
       abbrev at65 : (bs : List.List Nat.ℕ) → Typed.TF T15 O0
       at65 = λ bs. λ Ψ. Typed.both (s14 bs) (at64 bs Ψ)
+
       abbrev at66 : (bs : List.List Nat.ℕ) → Typed.TF T14 O0
       at66 = λ bs. λ Ψ. Typed.pass T14 T15 (s13 bs) (at65 bs Ψ)
+
       abbrev at67 : (bs : List.List Nat.ℕ) → Typed.TF T13 O0
       at67 = λ bs. λ Ψ. Typed.pass T13 T14 (s12 bs) (at66 bs Ψ)
+
       abbrev at68 : (bs : List.List Nat.ℕ) → Typed.TF T12 O0
       at68 = λ bs. λ Ψ. Typed.ask (s11 bs) (at67 bs Ψ)
+
       abbrev at69 : (bs : List.List Nat.ℕ) → Typed.TF T11 O0
       at69 = λ bs. λ Ψ. Typed.both (s10 bs) (at68 bs Ψ)
+
       abbrev at70 : (bs : List.List Nat.ℕ) → Typed.TF T10 O0
       at70 = λ bs. λ Ψ. Typed.pass T10 T11 (s9 bs) (at69 bs Ψ)
+
       abbrev at71 : (bs : List.List Nat.ℕ) → Typed.TF T9 O0
       at71 = λ bs. λ Ψ. Typed.pass T9 T10 (s8 bs) (at70 bs Ψ)
+
       abbrev at72 : (bs : List.List Nat.ℕ) → Typed.TF T8 O0
       at72 = λ bs. λ Ψ. Typed.pass T8 T9 (s7 bs) (at71 bs Ψ)
+
       abbrev at73 : (bs : List.List Nat.ℕ) → Typed.TF T7 O0
       at73 = λ bs. λ Ψ. Typed.both (s6 bs) (at72 bs Ψ)
+
       abbrev at74 : (bs : List.List Nat.ℕ) → Typed.TF T6 O0
       at74 = λ bs. λ Ψ. Typed.pass T6 T7 (s5 bs) (at73 bs Ψ)
+
       abbrev at75 : (bs : List.List Nat.ℕ) → Typed.TF T5 O0
       at75 = λ bs. λ Ψ. Typed.pass T5 T6 (s4 bs) (at74 bs Ψ)
+
       abbrev at76 : (bs : List.List Nat.ℕ) → Typed.TF T4 O0
       at76 = λ bs. λ Ψ. Typed.pass T4 T5 (s3 bs) (at75 bs Ψ)
+
       abbrev at77 : (bs : List.List Nat.ℕ) → Typed.TF T3 O0
       at77 = λ bs. λ Ψ. Typed.both (s2 bs) (at76 bs Ψ)
+
       abbrev at78 : (bs : List.List Nat.ℕ) → Typed.TF T2 O0
       at78 = λ bs. λ Ψ. Typed.pass T2 T3 (s1 bs) (at77 bs Ψ)
+
       abbrev at79 : (bs : List.List Nat.ℕ) → Typed.TF T0 O0
       at79 = λ bs. λ Ψ. Typed.pass T0 T2 (s0 bs) (at78 bs Ψ)
+
       abbrev pub Φ : (bs : List.List Nat.ℕ) → Typed.TF T0 O0
       Φ = λ bs. at79 bs
-      module _ { M : Type 1 } (𝓤 : URA.URA M) (H : Wp.Heap 𝓤) (A : Atoms.Atoms 𝓤) (W : Kit.Given 𝓤 H A) (𝓣 : Wp.Tables 𝓤 H) where
+
+      module _ {M : Type 1} (𝓤 : URA.URA M) (H : Wp.Heap 𝓤) (A : Atoms.Atoms 𝓤) (W : Kit.Given 𝓤 H A)
+          (𝓣 : Wp.Tables 𝓤 H) where
         abbrev Knowns : Type 1
-        Knowns = Plain.Known 𝓤 H A W 𝓣 0 ps·0 r·0 (claims· .0) (claims· .1) "cases::script::empty_pending" × Plain.Known 𝓤 H A W 𝓣 0 ps·1 r·1 (claims·
-            .2) (claims· .3) "cases::script::empty_circuit" × Plain.Known 𝓤 H A W 𝓣 0 ps·2 r·2 (claims· .4) (claims· .5) "cases::script::empty_usage"
-            × Plain.Known 𝓤 H A W 𝓣 0 ps·3 r·3 (claims· .6) (claims· .7) "cases::script::empty_action" × Plain.Known 𝓤 H A W 𝓣 1 ps·4 r·4 (claims· .8)
-            (claims· .9) "io::write_all" × Plain.Known 𝓤 H A W 𝓣 6 ps·5 r·5 (claims· .10) (claims· .11) "cases::machine::run_all" × Plain.Known 𝓤 H A
-            W 𝓣 0 ps·6 r·6 (claims· .12) (claims· .13) "cases::samples::run_samples"
+        Knowns = Plain.Known 𝓤 H A W 𝓣 0 ps·0 r·0 (claims· .0) (claims· .1) "cases::script::empty_pending" ×
+            Plain.Known 𝓤 H A W 𝓣 0 ps·1 r·1 (claims· .2) (claims· .3) "cases::script::empty_circuit" × Plain.Known 𝓤 H
+            A W 𝓣 0 ps·2 r·2 (claims· .4) (claims· .5) "cases::script::empty_usage" × Plain.Known 𝓤 H A W 𝓣 0 ps·3 r·3
+            (claims· .6) (claims· .7) "cases::script::empty_action" × Plain.Known 𝓤 H A W 𝓣 1 ps·4 r·4 (claims· .8)
+            (claims· .9) "io::write_all" × Plain.Known 𝓤 H A W 𝓣 6 ps·5 r·5 (claims· .10) (claims· .11)
+            "cases::machine::run_all" × Plain.Known 𝓤 H A W 𝓣 0 ps·6 r·6 (claims· .12) (claims· .13)
+            "cases::samples::run_samples"
+
       module _ (κs : Lifetimes.Lfts 0) (qs : Lifetimes.Shares 0) where
         abbrev G0 : Row.Cx
-        G0 = record { locals = List._++_ t0 t1; slots = Row.off ∷ Row.off ∷ Row.off ∷ Row.off ∷ Row.off ∷ Row.off ∷ Row.off ∷ List.[]; }
+        G0 = record {
+          locals = List._++_ t0 t1;
+          slots = Row.off ∷ Row.off ∷ Row.off ∷ Row.off ∷ Row.off ∷ Row.off ∷ Row.off ∷ List.[];
+        }
+
         abbrev G1 : Row.Cx
-        G1 = record { locals = List._++_ t2 t1; slots = Row.off ∷ Row.off ∷ Row.off ∷ Row.off ∷ Row.off ∷ Row.off ∷ Row.off ∷ List.[]; }
+        G1 = record {
+          locals = List._++_ t2 t1;
+          slots = Row.off ∷ Row.off ∷ Row.off ∷ Row.off ∷ Row.off ∷ Row.off ∷ Row.off ∷ List.[];
+        }
+
         abbrev G2 : Row.Cx
-        G2 = record { locals = List._++_ t3 t1; slots = Row.off ∷ Row.off ∷ Row.off ∷ Row.off ∷ Row.off ∷ Row.off ∷ Row.off ∷ List.[]; }
+        G2 = record {
+          locals = List._++_ t3 t1;
+          slots = Row.off ∷ Row.off ∷ Row.off ∷ Row.off ∷ Row.off ∷ Row.off ∷ Row.off ∷ List.[];
+        }
+
         abbrev G3 : Row.Cx
-        G3 = record { locals = List._++_ t4 t1; slots = Row.off ∷ Row.off ∷ Row.off ∷ Row.off ∷ Row.off ∷ Row.off ∷ Row.off ∷ List.[]; }
+        G3 = record {
+          locals = List._++_ t4 t1;
+          slots = Row.off ∷ Row.off ∷ Row.off ∷ Row.off ∷ Row.off ∷ Row.off ∷ Row.off ∷ List.[];
+        }
+
         abbrev G4 : Row.Cx
-        G4 = record { locals = List._++_ t5 t1; slots = Row.off ∷ Row.off ∷ Row.off ∷ Row.off ∷ Row.off ∷ Row.off ∷ Row.off ∷ List.[]; }
+        G4 = record {
+          locals = List._++_ t5 t1;
+          slots = Row.off ∷ Row.off ∷ Row.off ∷ Row.off ∷ Row.off ∷ Row.off ∷ Row.off ∷ List.[];
+        }
+
         abbrev G5 : Row.Cx
-        G5 = record { locals = List._++_ t6 t1; slots = Row.off ∷ Row.off ∷ Row.off ∷ Row.off ∷ Row.off ∷ Row.off ∷ Row.off ∷ List.[]; }
+        G5 = record {
+          locals = List._++_ t6 t1;
+          slots = Row.off ∷ Row.off ∷ Row.off ∷ Row.off ∷ Row.off ∷ Row.off ∷ Row.off ∷ List.[];
+        }
+
         abbrev G6 : Row.Cx
-        G6 = record { locals = List._++_ t7 t1; slots = Row.off ∷ Row.off ∷ Row.off ∷ Row.off ∷ Row.off ∷ Row.off ∷ Row.off ∷ List.[]; }
+        G6 = record {
+          locals = List._++_ t7 t1;
+          slots = Row.off ∷ Row.off ∷ Row.off ∷ Row.off ∷ Row.off ∷ Row.off ∷ Row.off ∷ List.[];
+        }
+
         abbrev G7 : Row.Cx
-        G7 = record { locals = List._++_ t8 t1; slots = Row.off ∷ Row.off ∷ Row.off ∷ Row.off ∷ Row.off ∷ Row.off ∷ Row.off ∷ List.[]; }
+        G7 = record {
+          locals = List._++_ t8 t1;
+          slots = Row.off ∷ Row.off ∷ Row.off ∷ Row.off ∷ Row.off ∷ Row.off ∷ Row.off ∷ List.[];
+        }
+
         abbrev G8 : Row.Cx
-        G8 = record { locals = List._++_ t9 t1; slots = Row.off ∷ Row.off ∷ Row.off ∷ Row.off ∷ Row.off ∷ Row.off ∷ Row.off ∷ List.[]; }
+        G8 = record {
+          locals = List._++_ t9 t1;
+          slots = Row.off ∷ Row.off ∷ Row.off ∷ Row.off ∷ Row.off ∷ Row.off ∷ Row.off ∷ List.[];
+        }
+
         abbrev G9 : Row.Cx
-        G9 = record { locals = List._++_ t10 t1; slots = Row.off ∷ Row.off ∷ Row.off ∷ Row.off ∷ Row.off ∷ Row.off ∷ Row.off ∷ List.[]; }
+        G9 = record {
+          locals = List._++_ t10 t1;
+          slots = Row.off ∷ Row.off ∷ Row.off ∷ Row.off ∷ Row.off ∷ Row.off ∷ Row.off ∷ List.[];
+        }
+
         abbrev G10 : Row.Cx
-        G10 = record { locals = List._++_ t11 t1; slots = Row.off ∷ Row.off ∷ Row.off ∷ Row.off ∷ Row.off ∷ Row.off ∷ Row.off ∷ List.[]; }
+        G10 = record {
+          locals = List._++_ t11 t1;
+          slots = Row.off ∷ Row.off ∷ Row.off ∷ Row.off ∷ Row.off ∷ Row.off ∷ Row.off ∷ List.[];
+        }
+
         abbrev G11 : Row.Cx
-        G11 = record { locals = List._++_ t12 t1; slots = Row.off ∷ Row.off ∷ Row.off ∷ Row.off ∷ Row.off ∷ Row.off ∷ Row.off ∷ List.[]; }
+        G11 = record {
+          locals = List._++_ t12 t1;
+          slots = Row.off ∷ Row.off ∷ Row.off ∷ Row.off ∷ Row.off ∷ Row.off ∷ Row.off ∷ List.[];
+        }
+
         abbrev G12 : Row.Cx
-        G12 = record { locals = List._++_ t13 t1; slots = Row.off ∷ Row.off ∷ Row.off ∷ Row.off ∷ Row.off ∷ Row.off ∷ Row.off ∷ List.[]; }
+        G12 = record {
+          locals = List._++_ t13 t1;
+          slots = Row.off ∷ Row.off ∷ Row.off ∷ Row.off ∷ Row.off ∷ Row.off ∷ Row.off ∷ List.[];
+        }
+
         abbrev G13 : Row.Cx
-        G13 = record { locals = List._++_ t14 t1; slots = Row.off ∷ Row.off ∷ Row.off ∷ Row.off ∷ Row.off ∷ Row.off ∷ Row.off ∷ List.[]; }
+        G13 = record {
+          locals = List._++_ t14 t1;
+          slots = Row.off ∷ Row.off ∷ Row.off ∷ Row.off ∷ Row.off ∷ Row.off ∷ Row.off ∷ List.[];
+        }
+
         abbrev G14 : Row.Cx
-        G14 = record { locals = List._++_ t15 t1; slots = Row.off ∷ Row.off ∷ Row.off ∷ Row.off ∷ Row.off ∷ Row.off ∷ Row.off ∷ List.[]; }
+        G14 = record {
+          locals = List._++_ t15 t1;
+          slots = Row.off ∷ Row.off ∷ Row.off ∷ Row.off ∷ Row.off ∷ Row.off ∷ Row.off ∷ List.[];
+        }
+
         abbrev G15 : Row.Cx
-        G15 = record { locals = List._++_ t16 t1; slots = Row.off ∷ Row.off ∷ Row.off ∷ Row.off ∷ Row.off ∷ Row.off ∷ Row.off ∷ List.[]; }
+        G15 = record {
+          locals = List._++_ t16 t1;
+          slots = Row.off ∷ Row.off ∷ Row.off ∷ Row.off ∷ Row.off ∷ Row.off ∷ Row.off ∷ List.[];
+        }
+
         abbrev G16 : Row.Cx
-        G16 = record { locals = List._++_ t17 t1; slots = Row.off ∷ Row.off ∷ Row.off ∷ Row.off ∷ Row.off ∷ Row.off ∷ Row.off ∷ List.[]; }
+        G16 = record {
+          locals = List._++_ t17 t1;
+          slots = Row.off ∷ Row.off ∷ Row.off ∷ Row.off ∷ Row.off ∷ Row.off ∷ Row.off ∷ List.[];
+        }
+
         abbrev G17 : Row.Cx
-        G17 = record { locals = List._++_ t18 t1; slots = Row.off ∷ Row.off ∷ Row.off ∷ Row.off ∷ Row.off ∷ Row.off ∷ Row.off ∷ List.[]; }
+        G17 = record {
+          locals = List._++_ t18 t1;
+          slots = Row.off ∷ Row.off ∷ Row.off ∷ Row.off ∷ Row.off ∷ Row.off ∷ Row.off ∷ List.[];
+        }
+
         abbrev G18 : Row.Cx
-        G18 = record { locals = List._++_ t19 t1; slots = Row.off ∷ Row.off ∷ Row.off ∷ Row.off ∷ Row.off ∷ Row.off ∷ Row.off ∷ List.[]; }
+        G18 = record {
+          locals = List._++_ t19 t1;
+          slots = Row.off ∷ Row.off ∷ Row.off ∷ Row.off ∷ Row.off ∷ Row.off ∷ Row.off ∷ List.[];
+        }
+
         abbrev G19 : Row.Cx
-        G19 = record { locals = List._++_ t20 t1; slots = Row.off ∷ Row.off ∷ Row.off ∷ Row.off ∷ Row.off ∷ Row.off ∷ Row.off ∷ List.[]; }
+        G19 = record {
+          locals = List._++_ t20 t1;
+          slots = Row.off ∷ Row.off ∷ Row.off ∷ Row.off ∷ Row.off ∷ Row.off ∷ Row.off ∷ List.[];
+        }
+
         abbrev G20 : Row.Cx
-        G20 = record { locals = List._++_ t21 t1; slots = Row.off ∷ Row.off ∷ Row.off ∷ Row.off ∷ Row.off ∷ Row.off ∷ Row.off ∷ List.[]; }
+        G20 = record {
+          locals = List._++_ t21 t1;
+          slots = Row.off ∷ Row.off ∷ Row.off ∷ Row.off ∷ Row.off ∷ Row.off ∷ Row.off ∷ List.[];
+        }
+
         abbrev G21 : Row.Cx
-        G21 = record { locals = List._++_ t22 t1; slots = Row.off ∷ Row.off ∷ Row.off ∷ Row.off ∷ Row.off ∷ Row.off ∷ Row.off ∷ List.[]; }
+        G21 = record {
+          locals = List._++_ t22 t1;
+          slots = Row.off ∷ Row.off ∷ Row.off ∷ Row.off ∷ Row.off ∷ Row.off ∷ Row.off ∷ List.[];
+        }
+
         abbrev G22 : Row.Cx
-        G22 = record { locals = List._++_ t23 t1; slots = Row.off ∷ Row.off ∷ Row.off ∷ Row.off ∷ Row.off ∷ Row.off ∷ Row.off ∷ List.[]; }
+        G22 = record {
+          locals = List._++_ t23 t1;
+          slots = Row.off ∷ Row.off ∷ Row.off ∷ Row.off ∷ Row.off ∷ Row.off ∷ Row.off ∷ List.[];
+        }
+
         abbrev G23 : Row.Cx
-        G23 = record { locals = List._++_ t24 t1; slots = Row.off ∷ Row.off ∷ Row.off ∷ Row.off ∷ Row.off ∷ Row.off ∷ Row.off ∷ List.[]; }
+        G23 = record {
+          locals = List._++_ t24 t1;
+          slots = Row.off ∷ Row.off ∷ Row.off ∷ Row.off ∷ Row.off ∷ Row.off ∷ Row.off ∷ List.[];
+        }
+
         abbrev G24 : Row.Cx
-        G24 = record { locals = List._++_ t24 t1; slots = Row.alive ∷ Row.off ∷ Row.off ∷ Row.off ∷ Row.off ∷ Row.off ∷ Row.off ∷ List.[]; }
+        G24 = record {
+          locals = List._++_ t24 t1;
+          slots = Row.alive ∷ Row.off ∷ Row.off ∷ Row.off ∷ Row.off ∷ Row.off ∷ Row.off ∷ List.[];
+        }
+
         abbrev G25 : Row.Cx
-        G25 = record { locals = List._++_ t25 t1; slots = Row.alive ∷ Row.off ∷ Row.off ∷ Row.off ∷ Row.off ∷ Row.off ∷ Row.off ∷ List.[]; }
+        G25 = record {
+          locals = List._++_ t25 t1;
+          slots = Row.alive ∷ Row.off ∷ Row.off ∷ Row.off ∷ Row.off ∷ Row.off ∷ Row.off ∷ List.[];
+        }
+
         abbrev G26 : Row.Cx
-        G26 = record { locals = List._++_ t26 t1; slots = Row.alive ∷ Row.off ∷ Row.off ∷ Row.off ∷ Row.off ∷ Row.off ∷ Row.off ∷ List.[]; }
+        G26 = record {
+          locals = List._++_ t26 t1;
+          slots = Row.alive ∷ Row.off ∷ Row.off ∷ Row.off ∷ Row.off ∷ Row.off ∷ Row.off ∷ List.[];
+        }
+
         abbrev G27 : Row.Cx
-        G27 = record { locals = List._++_ t27 t1; slots = Row.alive ∷ Row.off ∷ Row.off ∷ Row.off ∷ Row.off ∷ Row.off ∷ Row.off ∷ List.[]; }
+        G27 = record {
+          locals = List._++_ t27 t1;
+          slots = Row.alive ∷ Row.off ∷ Row.off ∷ Row.off ∷ Row.off ∷ Row.off ∷ Row.off ∷ List.[];
+        }
+
         abbrev G28 : Row.Cx
-        G28 = record { locals = List._++_ t28 t1; slots = Row.alive ∷ Row.off ∷ Row.off ∷ Row.off ∷ Row.off ∷ Row.off ∷ Row.off ∷ List.[]; }
+        G28 = record {
+          locals = List._++_ t28 t1;
+          slots = Row.alive ∷ Row.off ∷ Row.off ∷ Row.off ∷ Row.off ∷ Row.off ∷ Row.off ∷ List.[];
+        }
+
         abbrev G29 : Row.Cx
-        G29 = record { locals = List._++_ t29 t1; slots = Row.alive ∷ Row.off ∷ Row.off ∷ Row.off ∷ Row.off ∷ Row.off ∷ Row.off ∷ List.[]; }
+        G29 = record {
+          locals = List._++_ t29 t1;
+          slots = Row.alive ∷ Row.off ∷ Row.off ∷ Row.off ∷ Row.off ∷ Row.off ∷ Row.off ∷ List.[];
+        }
+
         abbrev G30 : Row.Cx
-        G30 = record { locals = List._++_ t29 t1; slots = Row.dead ∷ Row.off ∷ Row.off ∷ Row.off ∷ Row.off ∷ Row.off ∷ Row.off ∷ List.[]; }
+        G30 = record {
+          locals = List._++_ t29 t1;
+          slots = Row.dead ∷ Row.off ∷ Row.off ∷ Row.off ∷ Row.off ∷ Row.off ∷ Row.off ∷ List.[];
+        }
+
         abbrev G31 : Row.Cx
-        G31 = record { locals = List._++_ t24 t1; slots = Row.dead ∷ Row.off ∷ Row.off ∷ Row.off ∷ Row.off ∷ Row.off ∷ Row.off ∷ List.[]; }
+        G31 = record {
+          locals = List._++_ t24 t1;
+          slots = Row.dead ∷ Row.off ∷ Row.off ∷ Row.off ∷ Row.off ∷ Row.off ∷ Row.off ∷ List.[];
+        }
+
         abbrev G32 : Row.Cx
-        G32 = record { locals = List._++_ t24 t1; slots = Row.off ∷ Row.off ∷ Row.off ∷ Row.off ∷ Row.off ∷ Row.off ∷ Row.off ∷ List.[]; }
+        G32 = record {
+          locals = List._++_ t24 t1;
+          slots = Row.off ∷ Row.off ∷ Row.off ∷ Row.off ∷ Row.off ∷ Row.off ∷ Row.off ∷ List.[];
+        }
+
         abbrev G33 : Row.Cx
-        G33 = record { locals = List._++_ t30 t1; slots = Row.off ∷ Row.off ∷ Row.off ∷ Row.off ∷ Row.off ∷ Row.off ∷ Row.off ∷ List.[]; }
+        G33 = record {
+          locals = List._++_ t30 t1;
+          slots = Row.off ∷ Row.off ∷ Row.off ∷ Row.off ∷ Row.off ∷ Row.off ∷ Row.off ∷ List.[];
+        }
+
         abbrev G34 : Row.Cx
-        G34 = record { locals = List._++_ t30 t1; slots = Row.off ∷ Row.alive ∷ Row.off ∷ Row.off ∷ Row.off ∷ Row.off ∷ Row.off ∷ List.[]; }
+        G34 = record {
+          locals = List._++_ t30 t1;
+          slots = Row.off ∷ Row.alive ∷ Row.off ∷ Row.off ∷ Row.off ∷ Row.off ∷ Row.off ∷ List.[];
+        }
+
         abbrev G35 : Row.Cx
-        G35 = record { locals = List._++_ t31 t32; slots = Row.off ∷ Row.alive ∷ Row.off ∷ Row.off ∷ Row.off ∷ Row.off ∷ Row.off ∷ List.[]; }
+        G35 = record {
+          locals = List._++_ t31 t32;
+          slots = Row.off ∷ Row.alive ∷ Row.off ∷ Row.off ∷ Row.off ∷ Row.off ∷ Row.off ∷ List.[];
+        }
+
         abbrev G36 : Row.Cx
-        G36 = record { locals = List._++_ t31 t33; slots = Row.off ∷ Row.alive ∷ Row.off ∷ Row.off ∷ Row.off ∷ Row.off ∷ Row.off ∷ List.[]; }
+        G36 = record {
+          locals = List._++_ t31 t33;
+          slots = Row.off ∷ Row.alive ∷ Row.off ∷ Row.off ∷ Row.off ∷ Row.off ∷ Row.off ∷ List.[];
+        }
+
         abbrev G37 : Row.Cx
-        G37 = record { locals = List._++_ t31 t33; slots = Row.off ∷ Row.alive ∷ Row.alive ∷ Row.off ∷ Row.off ∷ Row.off ∷ Row.off ∷ List.[]; }
+        G37 = record {
+          locals = List._++_ t31 t33;
+          slots = Row.off ∷ Row.alive ∷ Row.alive ∷ Row.off ∷ Row.off ∷ Row.off ∷ Row.off ∷ List.[];
+        }
+
         abbrev G38 : Row.Cx
-        G38 = record { locals = List._++_ t34 t35; slots = Row.off ∷ Row.alive ∷ Row.alive ∷ Row.off ∷ Row.off ∷ Row.off ∷ Row.off ∷ List.[]; }
+        G38 = record {
+          locals = List._++_ t34 t35;
+          slots = Row.off ∷ Row.alive ∷ Row.alive ∷ Row.off ∷ Row.off ∷ Row.off ∷ Row.off ∷ List.[];
+        }
+
         abbrev G39 : Row.Cx
-        G39 = record { locals = List._++_ t34 t36; slots = Row.off ∷ Row.alive ∷ Row.alive ∷ Row.off ∷ Row.off ∷ Row.off ∷ Row.off ∷ List.[]; }
+        G39 = record {
+          locals = List._++_ t34 t36;
+          slots = Row.off ∷ Row.alive ∷ Row.alive ∷ Row.off ∷ Row.off ∷ Row.off ∷ Row.off ∷ List.[];
+        }
+
         abbrev G40 : Row.Cx
-        G40 = record { locals = List._++_ t34 t36; slots = Row.off ∷ Row.alive ∷ Row.alive ∷ Row.alive ∷ Row.off ∷ Row.off ∷ Row.off ∷ List.[]; }
+        G40 = record {
+          locals = List._++_ t34 t36;
+          slots = Row.off ∷ Row.alive ∷ Row.alive ∷ Row.alive ∷ Row.off ∷ Row.off ∷ Row.off ∷ List.[];
+        }
+
         abbrev G41 : Row.Cx
-        G41 = record { locals = List._++_ t37 t38; slots = Row.off ∷ Row.alive ∷ Row.alive ∷ Row.alive ∷ Row.off ∷ Row.off ∷ Row.off ∷ List.[]; }
+        G41 = record {
+          locals = List._++_ t37 t38;
+          slots = Row.off ∷ Row.alive ∷ Row.alive ∷ Row.alive ∷ Row.off ∷ Row.off ∷ Row.off ∷ List.[];
+        }
+
         abbrev G42 : Row.Cx
-        G42 = record { locals = List._++_ t37 t39; slots = Row.off ∷ Row.alive ∷ Row.alive ∷ Row.alive ∷ Row.off ∷ Row.off ∷ Row.off ∷ List.[]; }
+        G42 = record {
+          locals = List._++_ t37 t39;
+          slots = Row.off ∷ Row.alive ∷ Row.alive ∷ Row.alive ∷ Row.off ∷ Row.off ∷ Row.off ∷ List.[];
+        }
+
         abbrev G43 : Row.Cx
-        G43 = record { locals = List._++_ t37 t39; slots = Row.off ∷ Row.alive ∷ Row.alive ∷ Row.alive ∷ Row.alive ∷ Row.off ∷ Row.off ∷ List.[]; }
+        G43 = record {
+          locals = List._++_ t37 t39;
+          slots = Row.off ∷ Row.alive ∷ Row.alive ∷ Row.alive ∷ Row.alive ∷ Row.off ∷ Row.off ∷ List.[];
+        }
+
         abbrev G44 : Row.Cx
-        G44 = record { locals = List._++_ t40 t41; slots = Row.off ∷ Row.alive ∷ Row.alive ∷ Row.alive ∷ Row.alive ∷ Row.off ∷ Row.off ∷ List.[]; }
+        G44 = record {
+          locals = List._++_ t40 t41;
+          slots = Row.off ∷ Row.alive ∷ Row.alive ∷ Row.alive ∷ Row.alive ∷ Row.off ∷ Row.off ∷ List.[];
+        }
+
         abbrev G45 : Row.Cx
-        G45 = record { locals = List._++_ t40 t42; slots = Row.off ∷ Row.alive ∷ Row.alive ∷ Row.alive ∷ Row.alive ∷ Row.off ∷ Row.off ∷ List.[]; }
+        G45 = record {
+          locals = List._++_ t40 t42;
+          slots = Row.off ∷ Row.alive ∷ Row.alive ∷ Row.alive ∷ Row.alive ∷ Row.off ∷ Row.off ∷ List.[];
+        }
+
         abbrev G46 : Row.Cx
-        G46 = record { locals = List._++_ t40 t42; slots = Row.off ∷ Row.alive ∷ Row.alive ∷ Row.alive ∷ Row.alive ∷ Row.alive ∷ Row.off ∷ List.[]; }
+        G46 = record {
+          locals = List._++_ t40 t42;
+          slots = Row.off ∷ Row.alive ∷ Row.alive ∷ Row.alive ∷ Row.alive ∷ Row.alive ∷ Row.off ∷ List.[];
+        }
+
         abbrev G47 : Row.Cx
-        G47 = record { locals = List._++_ t43 t44; slots = Row.off ∷ Row.alive ∷ Row.alive ∷ Row.alive ∷ Row.alive ∷ Row.alive ∷ Row.off ∷ List.[]; }
+        G47 = record {
+          locals = List._++_ t43 t44;
+          slots = Row.off ∷ Row.alive ∷ Row.alive ∷ Row.alive ∷ Row.alive ∷ Row.alive ∷ Row.off ∷ List.[];
+        }
+
         abbrev G48 : Row.Cx
-        G48 = record { locals = List._++_ t43 t45; slots = Row.off ∷ Row.alive ∷ Row.alive ∷ Row.alive ∷ Row.alive ∷ Row.alive ∷ Row.off ∷ List.[]; }
+        G48 = record {
+          locals = List._++_ t43 t45;
+          slots = Row.off ∷ Row.alive ∷ Row.alive ∷ Row.alive ∷ Row.alive ∷ Row.alive ∷ Row.off ∷ List.[];
+        }
+
         abbrev G49 : Row.Cx
-        G49 = record { locals = List._++_ t43 t45; slots = Row.off ∷ Row.alive ∷ Row.alive ∷ Row.alive ∷ Row.alive ∷ Row.alive ∷ Row.alive ∷ List.[];
-            }
+        G49 = record {
+          locals = List._++_ t43 t45;
+          slots = Row.off ∷ Row.alive ∷ Row.alive ∷ Row.alive ∷ Row.alive ∷ Row.alive ∷ Row.alive ∷ List.[];
+        }
+
         abbrev G50 : Row.Cx
-        G50 = record { locals = List._++_ t46 t47; slots = Row.off ∷ Row.alive ∷ Row.alive ∷ Row.alive ∷ Row.alive ∷ Row.alive ∷ Row.alive ∷ List.[];
-            }
+        G50 = record {
+          locals = List._++_ t46 t47;
+          slots = Row.off ∷ Row.alive ∷ Row.alive ∷ Row.alive ∷ Row.alive ∷ Row.alive ∷ Row.alive ∷ List.[];
+        }
+
         abbrev G51 : Row.Cx
-        G51 = record { locals = List._++_ t46 t48; slots = Row.off ∷ Row.alive ∷ Row.alive ∷ Row.alive ∷ Row.alive ∷ Row.alive ∷ Row.alive ∷ List.[];
-            }
+        G51 = record {
+          locals = List._++_ t46 t48;
+          slots = Row.off ∷ Row.alive ∷ Row.alive ∷ Row.alive ∷ Row.alive ∷ Row.alive ∷ Row.alive ∷ List.[];
+        }
+
         abbrev G52 : Row.Cx
-        G52 = record { locals = List._++_ t49 t50; slots = Row.off ∷ Row.alive ∷ Row.alive ∷ Row.alive ∷ Row.alive ∷ Row.alive ∷ Row.alive ∷ List.[];
-            }
+        G52 = record {
+          locals = List._++_ t49 t50;
+          slots = Row.off ∷ Row.alive ∷ Row.alive ∷ Row.alive ∷ Row.alive ∷ Row.alive ∷ Row.alive ∷ List.[];
+        }
+
         abbrev G53 : Row.Cx
-        G53 = record { locals = List._++_ t46 t50; slots = Row.off ∷ Row.alive ∷ Row.alive ∷ Row.alive ∷ Row.alive ∷ Row.alive ∷ Row.alive ∷ List.[];
-            }
+        G53 = record {
+          locals = List._++_ t46 t50;
+          slots = Row.off ∷ Row.alive ∷ Row.alive ∷ Row.alive ∷ Row.alive ∷ Row.alive ∷ Row.alive ∷ List.[];
+        }
+
         abbrev G54 : Row.Cx
-        G54 = record { locals = List._++_ t46 t50; slots = Row.off ∷ Row.dead ∷ Row.alive ∷ Row.alive ∷ Row.alive ∷ Row.alive ∷ Row.alive ∷ List.[]; }
+        G54 = record {
+          locals = List._++_ t46 t50;
+          slots = Row.off ∷ Row.dead ∷ Row.alive ∷ Row.alive ∷ Row.alive ∷ Row.alive ∷ Row.alive ∷ List.[];
+        }
+
         abbrev G55 : Row.Cx
-        G55 = record { locals = List._++_ t51 t52; slots = Row.off ∷ Row.dead ∷ Row.alive ∷ Row.alive ∷ Row.alive ∷ Row.alive ∷ Row.alive ∷ List.[]; }
+        G55 = record {
+          locals = List._++_ t51 t52;
+          slots = Row.off ∷ Row.dead ∷ Row.alive ∷ Row.alive ∷ Row.alive ∷ Row.alive ∷ Row.alive ∷ List.[];
+        }
+
         abbrev G56 : Row.Cx
-        G56 = record { locals = List._++_ t51 t52; slots = Row.off ∷ Row.off ∷ Row.alive ∷ Row.alive ∷ Row.alive ∷ Row.alive ∷ Row.alive ∷ List.[]; }
+        G56 = record {
+          locals = List._++_ t51 t52;
+          slots = Row.off ∷ Row.off ∷ Row.alive ∷ Row.alive ∷ Row.alive ∷ Row.alive ∷ Row.alive ∷ List.[];
+        }
+
         abbrev G57 : Row.Cx
-        G57 = record { locals = List._++_ t53 t52; slots = Row.off ∷ Row.off ∷ Row.alive ∷ Row.alive ∷ Row.alive ∷ Row.alive ∷ Row.alive ∷ List.[]; }
+        G57 = record {
+          locals = List._++_ t53 t52;
+          slots = Row.off ∷ Row.off ∷ Row.alive ∷ Row.alive ∷ Row.alive ∷ Row.alive ∷ Row.alive ∷ List.[];
+        }
+
         abbrev G58 : Row.Cx
-        G58 = record { locals = List._++_ t53 t52; slots = Row.off ∷ Row.off ∷ Row.dead ∷ Row.alive ∷ Row.alive ∷ Row.alive ∷ Row.alive ∷ List.[]; }
+        G58 = record {
+          locals = List._++_ t53 t52;
+          slots = Row.off ∷ Row.off ∷ Row.dead ∷ Row.alive ∷ Row.alive ∷ Row.alive ∷ Row.alive ∷ List.[];
+        }
+
         abbrev G59 : Row.Cx
-        G59 = record { locals = List._++_ t54 t55; slots = Row.off ∷ Row.off ∷ Row.dead ∷ Row.alive ∷ Row.alive ∷ Row.alive ∷ Row.alive ∷ List.[]; }
+        G59 = record {
+          locals = List._++_ t54 t55;
+          slots = Row.off ∷ Row.off ∷ Row.dead ∷ Row.alive ∷ Row.alive ∷ Row.alive ∷ Row.alive ∷ List.[];
+        }
+
         abbrev G60 : Row.Cx
-        G60 = record { locals = List._++_ t54 t55; slots = Row.off ∷ Row.off ∷ Row.off ∷ Row.alive ∷ Row.alive ∷ Row.alive ∷ Row.alive ∷ List.[]; }
+        G60 = record {
+          locals = List._++_ t54 t55;
+          slots = Row.off ∷ Row.off ∷ Row.off ∷ Row.alive ∷ Row.alive ∷ Row.alive ∷ Row.alive ∷ List.[];
+        }
+
         abbrev G61 : Row.Cx
-        G61 = record { locals = List._++_ t56 t55; slots = Row.off ∷ Row.off ∷ Row.off ∷ Row.alive ∷ Row.alive ∷ Row.alive ∷ Row.alive ∷ List.[]; }
+        G61 = record {
+          locals = List._++_ t56 t55;
+          slots = Row.off ∷ Row.off ∷ Row.off ∷ Row.alive ∷ Row.alive ∷ Row.alive ∷ Row.alive ∷ List.[];
+        }
+
         abbrev G62 : Row.Cx
-        G62 = record { locals = List._++_ t56 t55; slots = Row.off ∷ Row.off ∷ Row.off ∷ Row.dead ∷ Row.alive ∷ Row.alive ∷ Row.alive ∷ List.[]; }
+        G62 = record {
+          locals = List._++_ t56 t55;
+          slots = Row.off ∷ Row.off ∷ Row.off ∷ Row.dead ∷ Row.alive ∷ Row.alive ∷ Row.alive ∷ List.[];
+        }
+
         abbrev G63 : Row.Cx
-        G63 = record { locals = List._++_ t57 t58; slots = Row.off ∷ Row.off ∷ Row.off ∷ Row.dead ∷ Row.alive ∷ Row.alive ∷ Row.alive ∷ List.[]; }
+        G63 = record {
+          locals = List._++_ t57 t58;
+          slots = Row.off ∷ Row.off ∷ Row.off ∷ Row.dead ∷ Row.alive ∷ Row.alive ∷ Row.alive ∷ List.[];
+        }
+
         abbrev G64 : Row.Cx
-        G64 = record { locals = List._++_ t57 t58; slots = Row.off ∷ Row.off ∷ Row.off ∷ Row.off ∷ Row.alive ∷ Row.alive ∷ Row.alive ∷ List.[]; }
+        G64 = record {
+          locals = List._++_ t57 t58;
+          slots = Row.off ∷ Row.off ∷ Row.off ∷ Row.off ∷ Row.alive ∷ Row.alive ∷ Row.alive ∷ List.[];
+        }
+
         abbrev G65 : Row.Cx
-        G65 = record { locals = List._++_ t59 t58; slots = Row.off ∷ Row.off ∷ Row.off ∷ Row.off ∷ Row.alive ∷ Row.alive ∷ Row.alive ∷ List.[]; }
+        G65 = record {
+          locals = List._++_ t59 t58;
+          slots = Row.off ∷ Row.off ∷ Row.off ∷ Row.off ∷ Row.alive ∷ Row.alive ∷ Row.alive ∷ List.[];
+        }
+
         abbrev G66 : Row.Cx
-        G66 = record { locals = List._++_ t59 t58; slots = Row.off ∷ Row.off ∷ Row.off ∷ Row.off ∷ Row.dead ∷ Row.alive ∷ Row.alive ∷ List.[]; }
+        G66 = record {
+          locals = List._++_ t59 t58;
+          slots = Row.off ∷ Row.off ∷ Row.off ∷ Row.off ∷ Row.dead ∷ Row.alive ∷ Row.alive ∷ List.[];
+        }
+
         abbrev G67 : Row.Cx
-        G67 = record { locals = List._++_ t60 t61; slots = Row.off ∷ Row.off ∷ Row.off ∷ Row.off ∷ Row.dead ∷ Row.alive ∷ Row.alive ∷ List.[]; }
+        G67 = record {
+          locals = List._++_ t60 t61;
+          slots = Row.off ∷ Row.off ∷ Row.off ∷ Row.off ∷ Row.dead ∷ Row.alive ∷ Row.alive ∷ List.[];
+        }
+
         abbrev G68 : Row.Cx
-        G68 = record { locals = List._++_ t60 t61; slots = Row.off ∷ Row.off ∷ Row.off ∷ Row.off ∷ Row.off ∷ Row.alive ∷ Row.alive ∷ List.[]; }
+        G68 = record {
+          locals = List._++_ t60 t61;
+          slots = Row.off ∷ Row.off ∷ Row.off ∷ Row.off ∷ Row.off ∷ Row.alive ∷ Row.alive ∷ List.[];
+        }
+
         abbrev G69 : Row.Cx
-        G69 = record { locals = List._++_ t62 t61; slots = Row.off ∷ Row.off ∷ Row.off ∷ Row.off ∷ Row.off ∷ Row.alive ∷ Row.alive ∷ List.[]; }
+        G69 = record {
+          locals = List._++_ t62 t61;
+          slots = Row.off ∷ Row.off ∷ Row.off ∷ Row.off ∷ Row.off ∷ Row.alive ∷ Row.alive ∷ List.[];
+        }
+
         abbrev G70 : Row.Cx
-        G70 = record { locals = List._++_ t62 t61; slots = Row.off ∷ Row.off ∷ Row.off ∷ Row.off ∷ Row.off ∷ Row.dead ∷ Row.alive ∷ List.[]; }
+        G70 = record {
+          locals = List._++_ t62 t61;
+          slots = Row.off ∷ Row.off ∷ Row.off ∷ Row.off ∷ Row.off ∷ Row.dead ∷ Row.alive ∷ List.[];
+        }
+
         abbrev G71 : Row.Cx
-        G71 = record { locals = List._++_ t63 t64; slots = Row.off ∷ Row.off ∷ Row.off ∷ Row.off ∷ Row.off ∷ Row.dead ∷ Row.alive ∷ List.[]; }
+        G71 = record {
+          locals = List._++_ t63 t64;
+          slots = Row.off ∷ Row.off ∷ Row.off ∷ Row.off ∷ Row.off ∷ Row.dead ∷ Row.alive ∷ List.[];
+        }
+
         abbrev G72 : Row.Cx
-        G72 = record { locals = List._++_ t63 t64; slots = Row.off ∷ Row.off ∷ Row.off ∷ Row.off ∷ Row.off ∷ Row.off ∷ Row.alive ∷ List.[]; }
+        G72 = record {
+          locals = List._++_ t63 t64;
+          slots = Row.off ∷ Row.off ∷ Row.off ∷ Row.off ∷ Row.off ∷ Row.off ∷ Row.alive ∷ List.[];
+        }
+
         abbrev G73 : Row.Cx
-        G73 = record { locals = List._++_ t65 t64; slots = Row.off ∷ Row.off ∷ Row.off ∷ Row.off ∷ Row.off ∷ Row.off ∷ Row.alive ∷ List.[]; }
+        G73 = record {
+          locals = List._++_ t65 t64;
+          slots = Row.off ∷ Row.off ∷ Row.off ∷ Row.off ∷ Row.off ∷ Row.off ∷ Row.alive ∷ List.[];
+        }
+
         abbrev G74 : Row.Cx
-        G74 = record { locals = List._++_ t65 t64; slots = Row.off ∷ Row.off ∷ Row.off ∷ Row.off ∷ Row.off ∷ Row.off ∷ Row.dead ∷ List.[]; }
+        G74 = record {
+          locals = List._++_ t65 t64;
+          slots = Row.off ∷ Row.off ∷ Row.off ∷ Row.off ∷ Row.off ∷ Row.off ∷ Row.dead ∷ List.[];
+        }
+
         abbrev G75 : Row.Cx
-        G75 = record { locals = List._++_ t66 t1; slots = Row.off ∷ Row.off ∷ Row.off ∷ Row.off ∷ Row.off ∷ Row.off ∷ Row.dead ∷ List.[]; }
+        G75 = record {
+          locals = List._++_ t66 t1;
+          slots = Row.off ∷ Row.off ∷ Row.off ∷ Row.off ∷ Row.off ∷ Row.off ∷ Row.dead ∷ List.[];
+        }
+
         abbrev G76 : Row.Cx
-        G76 = record { locals = List._++_ t66 t1; slots = Row.off ∷ Row.off ∷ Row.off ∷ Row.off ∷ Row.off ∷ Row.off ∷ Row.off ∷ List.[]; }
+        G76 = record {
+          locals = List._++_ t66 t1;
+          slots = Row.off ∷ Row.off ∷ Row.off ∷ Row.off ∷ Row.off ∷ Row.off ∷ Row.off ∷ List.[];
+        }
+
         abbrev G77 : Row.Cx
-        G77 = record { locals = List._++_ t0 t1; slots = Row.off ∷ Row.off ∷ Row.off ∷ Row.off ∷ Row.off ∷ Row.off ∷ Row.off ∷ List.[]; }
+        G77 = record {
+          locals = List._++_ t0 t1;
+          slots = Row.off ∷ Row.off ∷ Row.off ∷ Row.off ∷ Row.off ∷ Row.off ∷ Row.off ∷ List.[];
+        }
+
         abbrev G78 : Row.Cx
-        G78 = record { locals = List._++_ t67 t1; slots = Row.off ∷ Row.off ∷ Row.off ∷ Row.off ∷ Row.off ∷ Row.off ∷ Row.off ∷ List.[]; }
+        G78 = record {
+          locals = List._++_ t67 t1;
+          slots = Row.off ∷ Row.off ∷ Row.off ∷ Row.off ∷ Row.off ∷ Row.off ∷ Row.off ∷ List.[];
+        }
+
         abbrev G79 : Row.Cx
-        G79 = record { locals = List._++_ t0 t1; slots = Row.off ∷ Row.off ∷ Row.off ∷ Row.off ∷ Row.off ∷ Row.off ∷ Row.off ∷ List.[]; }
+        G79 = record {
+          locals = List._++_ t0 t1;
+          slots = Row.off ∷ Row.off ∷ Row.off ∷ Row.off ∷ Row.off ∷ Row.off ∷ Row.off ∷ List.[];
+        }
+
         abbrev G80 : Row.Cx
-        G80 = record { locals = List._++_ t2 t1; slots = Row.off ∷ Row.off ∷ Row.off ∷ Row.off ∷ Row.off ∷ Row.off ∷ Row.off ∷ List.[]; }
+        G80 = record {
+          locals = List._++_ t2 t1;
+          slots = Row.off ∷ Row.off ∷ Row.off ∷ Row.off ∷ Row.off ∷ Row.off ∷ Row.off ∷ List.[];
+        }
+
         abbrev Δ0 : Typed.Outs
         Δ0 = record { next = Option.none; exits = List.[]; returns = Option.some G1 }
-        module _ { M : Type 1 } (𝓤 : URA.URA M) (H : Wp.Heap 𝓤) (A : Atoms.Atoms 𝓤) (W : Kit.Given 𝓤 H A) (𝓣 : Wp.Tables 𝓤 H) (known : Knowns 𝓤 H A W
-            𝓣) (bs : List.List Nat.ℕ) (bd : Lifetimes.AllOutlive 0 (Kinds.osR r) κs) where
+
+        module _ {M : Type 1} (𝓤 : URA.URA M) (H : Wp.Heap 𝓤) (A : Atoms.Atoms 𝓤) (W : Kit.Given 𝓤 H A)
+            (𝓣 : Wp.Tables 𝓤 H) (known : Knowns 𝓤 H A W 𝓣) (bs : List.List Nat.ℕ)
+            (bd : Lifetimes.AllOutlive 0 (Kinds.osR r) κs) where
           abbrev E : Wp.Env 𝓤 H
           E = Frame.EnvOf 𝓤 H ((Kinds.tyR r) ∷ (Enter.tysP ps xs)) bs
+
           d0 : Typed.Typed 𝓤 H A 𝓣 E G80 b29 Δ0 (at0 bs)
           d0 = Typed.t-return 𝓤 H A W 𝓣 E Δ0 tt
+
           d1 : Typed.Typed 𝓤 H A 𝓣 E G79 b30 Δ0 (at1 bs)
-          d1 = Typed.s-seq 𝓤 H A W 𝓣 E G79 G80 b28 b29 Δ0 (Typed.pass T79 T80 (s78 bs)) (at0 bs) (Scalar.t-use 𝓤 H A W E 𝓣 G79 Scalar.oUnit 0
-              (Rows'.sc-here Row.sUnit) Syntax.tyUnit (Row.valS Row.sUnit) (Row.sUnit .of) tt (Reads'.room-gone 𝓤 H A Syntax.tyUnit) (Scalar.holds-sc
-              𝓤 H A W Row.sUnit) Path.refl (λ u. Path.refl) λ u. tt) d0
+          d1 = Typed.s-seq 𝓤 H A W 𝓣 E G79 G80 b28 b29 Δ0 (Typed.pass T79 T80 (s78 bs)) (at0 bs) (Scalar.t-use 𝓤 H A W
+              E 𝓣 G79 Scalar.oUnit 0 (Rows'.sc-here Row.sUnit) Syntax.tyUnit (Row.valS Row.sUnit) (Row.sUnit .of) tt
+              (Reads'.room-gone 𝓤 H A Syntax.tyUnit) (Scalar.holds-sc 𝓤 H A W Row.sUnit) Path.refl (λ u. Path.refl) λ
+              u. tt) d0
+
           d2 : Typed.Typed 𝓤 H A 𝓣 E G78 b30 Δ0 (at2 bs)
-          d2 = Typed.g-pre 𝓤 H A W 𝓣 E G78 G79 b30 Δ0 (Typed.pass T78 T79 (s77 bs)) (at1 bs) (Scalar.g-room 𝓤 H A W E G78 15 Syntax.tyUnit
-              (Scalar.room-sc 𝓤 H A W Row.sUnit)) d1
+          d2 = Typed.g-pre 𝓤 H A W 𝓣 E G78 G79 b30 Δ0 (Typed.pass T78 T79 (s77 bs)) (at1 bs) (Scalar.g-room 𝓤 H A W E
+              G78 15 Syntax.tyUnit (Scalar.room-sc 𝓤 H A W Row.sUnit)) d1
+
           d3 : Typed.Typed 𝓤 H A 𝓣 E G77 b31 Δ0 (at3 bs)
-          d3 = Typed.s-seq 𝓤 H A W 𝓣 E G77 G78 b27 b30 Δ0 (Typed.both (s76 bs)) (at2 bs) (Plain.t-call-plain 𝓤 H A W 𝓣 0 ps·6 r·6 (claims· .12)
-              (claims· .13) "cases::samples::run_samples" (known .6) E (λ pos β. β) G77 tt 15 List.[] (Call.sub-id 𝓤 H A W (G77 .slots)) tt
-              (Reads'.room-gone 𝓤 H A Syntax.tyUnit) tt Path.refl) d2
+          d3 = Typed.s-seq 𝓤 H A W 𝓣 E G77 G78 b27 b30 Δ0 (Typed.both (s76 bs)) (at2 bs) (Plain.t-call-plain 𝓤 H A W 𝓣
+              0 ps·6 r·6 (claims· .12) (claims· .13) "cases::samples::run_samples" (known .6) E (λ pos β. β) G77 tt 15
+              List.[] (Call.sub-id 𝓤 H A W (G77 .slots)) tt (Reads'.room-gone 𝓤 H A Syntax.tyUnit) tt Path.refl) d2
+
           d4 : Typed.Typed 𝓤 H A 𝓣 E G76 b31 Δ0 (at4 bs)
-          d4 = Typed.g-pre 𝓤 H A W 𝓣 E G76 G77 b31 Δ0 (Typed.pass T75 T77 (s75 bs)) (at3 bs) (Scalar.g-room 𝓤 H A W E G76 6 (Syntax.tyArray
-              (Syntax.tyInt Syntax.w8) 16385) (Init.room-arr 𝓤 H A W (Referent.rtF (Referent.fInt Syntax.w8)) 16385 0 16385 Path.refl)) d3
+          d4 = Typed.g-pre 𝓤 H A W 𝓣 E G76 G77 b31 Δ0 (Typed.pass T75 T77 (s75 bs)) (at3 bs) (Scalar.g-room 𝓤 H A W E
+              G76 6 (Syntax.tyArray (Syntax.tyInt Syntax.w8) 16385) (Init.room-arr 𝓤 H A W
+              (Referent.rtF (Referent.fInt Syntax.w8)) 16385 0 16385 Path.refl)) d3
+
           d5 : Typed.Typed 𝓤 H A 𝓣 E G75 b31 Δ0 (at5 bs)
-          d5 = Typed.g-pre 𝓤 H A W 𝓣 E G75 G76 b31 Δ0 (λ Ψ. Ψ) (at4 bs) (Lifetime.g-forget 𝓤 H A W E G75 6 Row.dead Path.refl) d4
+          d5 = Typed.g-pre 𝓤 H A W 𝓣 E G75 G76 b31 Δ0 (λ Ψ. Ψ) (at4 bs)
+              (Lifetime.g-forget 𝓤 H A W E G75 6 Row.dead Path.refl) d4
+
           d6 : Typed.Typed 𝓤 H A 𝓣 E G74 b31 Δ0 (at6 bs)
-          d6 = Typed.g-pre 𝓤 H A W 𝓣 E G74 G75 b31 Δ0 (Typed.both (s73 bs)) (at5 bs) (Borrow.g-back-arr 𝓤 H A W E (Referent.rtF (Referent.fInt
-              Syntax.w8)) G74 27 6 6 16385 ref13 (λ x. x) (λ x. x) (Reads'.as-is 𝓤 H A (Mut.msleft (Referent.rtF (Referent.fInt Syntax.w8)) ref13))
-              (Reads'.as-is 𝓤 H A (Rows.arr-owed (Referent.rtF (Referent.fInt Syntax.w8)) 16385 6)) Path.refl) d5
+          d6 = Typed.g-pre 𝓤 H A W 𝓣 E G74 G75 b31 Δ0 (Typed.both (s73 bs)) (at5 bs) (Borrow.g-back-arr 𝓤 H A W E
+              (Referent.rtF (Referent.fInt Syntax.w8)) G74 27 6 6 16385 ref13 (λ x. x) (λ x. x) (Reads'.as-is 𝓤 H A (Mut.msleft
+              (Referent.rtF (Referent.fInt Syntax.w8)) ref13)) (Reads'.as-is 𝓤 H A (Rows.arr-owed
+              (Referent.rtF (Referent.fInt Syntax.w8)) 16385 6)) Path.refl) d5
+
           d7 : Typed.Typed 𝓤 H A 𝓣 E G73 b31 Δ0 (at7 bs)
           d7 = Typed.g-pre 𝓤 H A W 𝓣 E G73 G74 b31 Δ0 (λ Ψ. Ψ) (at6 bs) (Lifetime.g-end 𝓤 H A W E G73 6 Path.refl) d6
+
           d8 : Typed.Typed 𝓤 H A 𝓣 E G72 b31 Δ0 (at8 bs)
-          d8 = Typed.g-pre 𝓤 H A W 𝓣 E G72 G73 b31 Δ0 (Typed.pass T71 T73 (s71 bs)) (at7 bs) (Scalar.g-room 𝓤 H A W E G72 5 (Syntax.tyArray
-              (Syntax.tyInt Syntax.w32) 4136) (Init.room-arr 𝓤 H A W (Referent.rtF (Referent.fInt Syntax.w32)) 4136 0 4136 Path.refl)) d7
+          d8 = Typed.g-pre 𝓤 H A W 𝓣 E G72 G73 b31 Δ0 (Typed.pass T71 T73 (s71 bs)) (at7 bs) (Scalar.g-room 𝓤 H A W E
+              G72 5 (Syntax.tyArray (Syntax.tyInt Syntax.w32) 4136) (Init.room-arr 𝓤 H A W
+              (Referent.rtF (Referent.fInt Syntax.w32)) 4136 0 4136 Path.refl)) d7
+
           d9 : Typed.Typed 𝓤 H A 𝓣 E G71 b31 Δ0 (at9 bs)
-          d9 = Typed.g-pre 𝓤 H A W 𝓣 E G71 G72 b31 Δ0 (λ Ψ. Ψ) (at8 bs) (Lifetime.g-forget 𝓤 H A W E G71 5 Row.dead Path.refl) d8
+          d9 = Typed.g-pre 𝓤 H A W 𝓣 E G71 G72 b31 Δ0 (λ Ψ. Ψ) (at8 bs)
+              (Lifetime.g-forget 𝓤 H A W E G71 5 Row.dead Path.refl) d8
+
           d10 : Typed.Typed 𝓤 H A 𝓣 E G70 b31 Δ0 (at10 bs)
-          d10 = Typed.g-pre 𝓤 H A W 𝓣 E G70 G71 b31 Δ0 (Typed.both (s69 bs)) (at9 bs) (Borrow.g-back-arr 𝓤 H A W E (Referent.rtF (Referent.fInt
-              Syntax.w32)) G70 25 5 5 4136 ref11 (λ x. x) (λ x. x) (Reads'.as-is 𝓤 H A (Mut.msleft (Referent.rtF (Referent.fInt Syntax.w32)) ref11))
-              (Reads'.as-is 𝓤 H A (Rows.arr-owed (Referent.rtF (Referent.fInt Syntax.w32)) 4136 5)) Path.refl) d9
+          d10 = Typed.g-pre 𝓤 H A W 𝓣 E G70 G71 b31 Δ0 (Typed.both (s69 bs)) (at9 bs) (Borrow.g-back-arr 𝓤 H A W E
+              (Referent.rtF (Referent.fInt Syntax.w32)) G70 25 5 5 4136 ref11 (λ x. x) (λ x. x) (Reads'.as-is 𝓤 H A (Mut.msleft
+              (Referent.rtF (Referent.fInt Syntax.w32)) ref11)) (Reads'.as-is 𝓤 H A (Rows.arr-owed
+              (Referent.rtF (Referent.fInt Syntax.w32)) 4136 5)) Path.refl) d9
+
           d11 : Typed.Typed 𝓤 H A 𝓣 E G69 b31 Δ0 (at11 bs)
-          d11 = Typed.g-pre 𝓤 H A W 𝓣 E G69 G70 b31 Δ0 (λ Ψ. Ψ) (at10 bs) (Lifetime.g-end 𝓤 H A W E G69 5 Path.refl) d10
+          d11 = Typed.g-pre 𝓤 H A W 𝓣 E G69 G70 b31 Δ0 (λ Ψ. Ψ) (at10 bs) (Lifetime.g-end 𝓤 H A W E G69 5 Path.refl)
+              d10
+
           d12 : Typed.Typed 𝓤 H A 𝓣 E G68 b31 Δ0 (at12 bs)
-          d12 = Typed.g-pre 𝓤 H A W 𝓣 E G68 G69 b31 Δ0 (Typed.pass T67 T69 (s67 bs)) (at11 bs) (Scalar.g-room 𝓤 H A W E G68 4 (Syntax.tyArray
-              InflightAction.ty 8) (Init.room-arr 𝓤 H A W InflightAction.row 8 0 8 Path.refl)) d11
+          d12 = Typed.g-pre 𝓤 H A W 𝓣 E G68 G69 b31 Δ0 (Typed.pass T67 T69 (s67 bs)) (at11 bs) (Scalar.g-room 𝓤 H A W E
+              G68 4 (Syntax.tyArray InflightAction.ty 8) (Init.room-arr 𝓤 H A W InflightAction.row 8 0 8 Path.refl))
+              d11
+
           d13 : Typed.Typed 𝓤 H A 𝓣 E G67 b31 Δ0 (at13 bs)
-          d13 = Typed.g-pre 𝓤 H A W 𝓣 E G67 G68 b31 Δ0 (λ Ψ. Ψ) (at12 bs) (Lifetime.g-forget 𝓤 H A W E G67 4 Row.dead Path.refl) d12
+          d13 = Typed.g-pre 𝓤 H A W 𝓣 E G67 G68 b31 Δ0 (λ Ψ. Ψ) (at12 bs)
+              (Lifetime.g-forget 𝓤 H A W E G67 4 Row.dead Path.refl) d12
+
           d14 : Typed.Typed 𝓤 H A 𝓣 E G66 b31 Δ0 (at14 bs)
-          d14 = Typed.g-pre 𝓤 H A W 𝓣 E G66 G67 b31 Δ0 (Typed.both (s65 bs)) (at13 bs) (Borrow.g-back-arr 𝓤 H A W E InflightAction.row G66 23 4 4 8
-              ref9 (λ x. x) (λ x. x) (Reads'.as-is 𝓤 H A (Mut.msleft InflightAction.row ref9)) (Reads'.as-is 𝓤 H A (Rows.arr-owed InflightAction.row 8
-              4)) Path.refl) d13
+          d14 = Typed.g-pre 𝓤 H A W 𝓣 E G66 G67 b31 Δ0 (Typed.both (s65 bs)) (at13 bs) (Borrow.g-back-arr 𝓤 H A W E
+              InflightAction.row G66 23 4 4 8 ref9 (λ x. x) (λ x. x)
+              (Reads'.as-is 𝓤 H A (Mut.msleft InflightAction.row ref9))
+              (Reads'.as-is 𝓤 H A (Rows.arr-owed InflightAction.row 8 4)) Path.refl) d13
+
           d15 : Typed.Typed 𝓤 H A 𝓣 E G65 b31 Δ0 (at15 bs)
-          d15 = Typed.g-pre 𝓤 H A W 𝓣 E G65 G66 b31 Δ0 (λ Ψ. Ψ) (at14 bs) (Lifetime.g-end 𝓤 H A W E G65 4 Path.refl) d14
+          d15 = Typed.g-pre 𝓤 H A W 𝓣 E G65 G66 b31 Δ0 (λ Ψ. Ψ) (at14 bs) (Lifetime.g-end 𝓤 H A W E G65 4 Path.refl)
+              d14
+
           d16 : Typed.Typed 𝓤 H A 𝓣 E G64 b31 Δ0 (at16 bs)
-          d16 = Typed.g-pre 𝓤 H A W 𝓣 E G64 G65 b31 Δ0 (Typed.pass T63 T65 (s63 bs)) (at15 bs) (Scalar.g-room 𝓤 H A W E G64 3 (Syntax.tyArray
-              ReservationUsage.ty 1) (Init.room-arr 𝓤 H A W ReservationUsage.row 1 0 1 Path.refl)) d15
+          d16 = Typed.g-pre 𝓤 H A W 𝓣 E G64 G65 b31 Δ0 (Typed.pass T63 T65 (s63 bs)) (at15 bs) (Scalar.g-room 𝓤 H A W E
+              G64 3 (Syntax.tyArray ReservationUsage.ty 1) (Init.room-arr 𝓤 H A W ReservationUsage.row 1 0 1 Path.refl))
+              d15
+
           d17 : Typed.Typed 𝓤 H A 𝓣 E G63 b31 Δ0 (at17 bs)
-          d17 = Typed.g-pre 𝓤 H A W 𝓣 E G63 G64 b31 Δ0 (λ Ψ. Ψ) (at16 bs) (Lifetime.g-forget 𝓤 H A W E G63 3 Row.dead Path.refl) d16
+          d17 = Typed.g-pre 𝓤 H A W 𝓣 E G63 G64 b31 Δ0 (λ Ψ. Ψ) (at16 bs)
+              (Lifetime.g-forget 𝓤 H A W E G63 3 Row.dead Path.refl) d16
+
           d18 : Typed.Typed 𝓤 H A 𝓣 E G62 b31 Δ0 (at18 bs)
-          d18 = Typed.g-pre 𝓤 H A W 𝓣 E G62 G63 b31 Δ0 (Typed.both (s61 bs)) (at17 bs) (Borrow.g-back-arr 𝓤 H A W E ReservationUsage.row G62 21 3 3 1
-              ref7 (λ x. x) (λ x. x) (Reads'.as-is 𝓤 H A (Mut.msleft ReservationUsage.row ref7)) (Reads'.as-is 𝓤 H A (Rows.arr-owed
-              ReservationUsage.row 1 3)) Path.refl) d17
+          d18 = Typed.g-pre 𝓤 H A W 𝓣 E G62 G63 b31 Δ0 (Typed.both (s61 bs)) (at17 bs) (Borrow.g-back-arr 𝓤 H A W E
+              ReservationUsage.row G62 21 3 3 1 ref7 (λ x. x) (λ x. x)
+              (Reads'.as-is 𝓤 H A (Mut.msleft ReservationUsage.row ref7)) (Reads'.as-is 𝓤 H A
+              (Rows.arr-owed ReservationUsage.row 1 3)) Path.refl) d17
+
           d19 : Typed.Typed 𝓤 H A 𝓣 E G61 b31 Δ0 (at19 bs)
-          d19 = Typed.g-pre 𝓤 H A W 𝓣 E G61 G62 b31 Δ0 (λ Ψ. Ψ) (at18 bs) (Lifetime.g-end 𝓤 H A W E G61 3 Path.refl) d18
+          d19 = Typed.g-pre 𝓤 H A W 𝓣 E G61 G62 b31 Δ0 (λ Ψ. Ψ) (at18 bs) (Lifetime.g-end 𝓤 H A W E G61 3 Path.refl)
+              d18
+
           d20 : Typed.Typed 𝓤 H A 𝓣 E G60 b31 Δ0 (at20 bs)
-          d20 = Typed.g-pre 𝓤 H A W 𝓣 E G60 G61 b31 Δ0 (Typed.pass T59 T61 (s59 bs)) (at19 bs) (Scalar.g-room 𝓤 H A W E G60 2 (Syntax.tyArray
-              RelayCircuit.ty 2) (Init.room-arr 𝓤 H A W RelayCircuit.row 2 0 2 Path.refl)) d19
+          d20 = Typed.g-pre 𝓤 H A W 𝓣 E G60 G61 b31 Δ0 (Typed.pass T59 T61 (s59 bs)) (at19 bs) (Scalar.g-room 𝓤 H A W E
+              G60 2 (Syntax.tyArray RelayCircuit.ty 2) (Init.room-arr 𝓤 H A W RelayCircuit.row 2 0 2 Path.refl)) d19
+
           d21 : Typed.Typed 𝓤 H A 𝓣 E G59 b31 Δ0 (at21 bs)
-          d21 = Typed.g-pre 𝓤 H A W 𝓣 E G59 G60 b31 Δ0 (λ Ψ. Ψ) (at20 bs) (Lifetime.g-forget 𝓤 H A W E G59 2 Row.dead Path.refl) d20
+          d21 = Typed.g-pre 𝓤 H A W 𝓣 E G59 G60 b31 Δ0 (λ Ψ. Ψ) (at20 bs)
+              (Lifetime.g-forget 𝓤 H A W E G59 2 Row.dead Path.refl) d20
+
           d22 : Typed.Typed 𝓤 H A 𝓣 E G58 b31 Δ0 (at22 bs)
-          d22 = Typed.g-pre 𝓤 H A W 𝓣 E G58 G59 b31 Δ0 (Typed.both (s57 bs)) (at21 bs) (Borrow.g-back-arr 𝓤 H A W E RelayCircuit.row G58 19 2 2 2 ref5
-              (λ x. x) (λ x. x) (Reads'.as-is 𝓤 H A (Mut.msleft RelayCircuit.row ref5)) (Reads'.as-is 𝓤 H A (Rows.arr-owed RelayCircuit.row 2 2))
-              Path.refl) d21
+          d22 = Typed.g-pre 𝓤 H A W 𝓣 E G58 G59 b31 Δ0 (Typed.both (s57 bs)) (at21 bs) (Borrow.g-back-arr 𝓤 H A W E
+              RelayCircuit.row G58 19 2 2 2 ref5 (λ x. x) (λ x. x)
+              (Reads'.as-is 𝓤 H A (Mut.msleft RelayCircuit.row ref5))
+              (Reads'.as-is 𝓤 H A (Rows.arr-owed RelayCircuit.row 2 2)) Path.refl) d21
+
           d23 : Typed.Typed 𝓤 H A 𝓣 E G57 b31 Δ0 (at23 bs)
-          d23 = Typed.g-pre 𝓤 H A W 𝓣 E G57 G58 b31 Δ0 (λ Ψ. Ψ) (at22 bs) (Lifetime.g-end 𝓤 H A W E G57 2 Path.refl) d22
+          d23 = Typed.g-pre 𝓤 H A W 𝓣 E G57 G58 b31 Δ0 (λ Ψ. Ψ) (at22 bs) (Lifetime.g-end 𝓤 H A W E G57 2 Path.refl)
+              d22
+
           d24 : Typed.Typed 𝓤 H A 𝓣 E G56 b31 Δ0 (at24 bs)
-          d24 = Typed.g-pre 𝓤 H A W 𝓣 E G56 G57 b31 Δ0 (Typed.pass T55 T57 (s55 bs)) (at23 bs) (Scalar.g-room 𝓤 H A W E G56 1 (Syntax.tyArray
-              RelayPending.ty 2) (Init.room-arr 𝓤 H A W RelayPending.row 2 0 2 Path.refl)) d23
+          d24 = Typed.g-pre 𝓤 H A W 𝓣 E G56 G57 b31 Δ0 (Typed.pass T55 T57 (s55 bs)) (at23 bs) (Scalar.g-room 𝓤 H A W E
+              G56 1 (Syntax.tyArray RelayPending.ty 2) (Init.room-arr 𝓤 H A W RelayPending.row 2 0 2 Path.refl)) d23
+
           d25 : Typed.Typed 𝓤 H A 𝓣 E G55 b31 Δ0 (at25 bs)
-          d25 = Typed.g-pre 𝓤 H A W 𝓣 E G55 G56 b31 Δ0 (λ Ψ. Ψ) (at24 bs) (Lifetime.g-forget 𝓤 H A W E G55 1 Row.dead Path.refl) d24
+          d25 = Typed.g-pre 𝓤 H A W 𝓣 E G55 G56 b31 Δ0 (λ Ψ. Ψ) (at24 bs)
+              (Lifetime.g-forget 𝓤 H A W E G55 1 Row.dead Path.refl) d24
+
           d26 : Typed.Typed 𝓤 H A 𝓣 E G54 b31 Δ0 (at26 bs)
-          d26 = Typed.g-pre 𝓤 H A W 𝓣 E G54 G55 b31 Δ0 (Typed.both (s53 bs)) (at25 bs) (Borrow.g-back-arr 𝓤 H A W E RelayPending.row G54 17 1 1 2 ref3
-              (λ x. x) (λ x. x) (Reads'.as-is 𝓤 H A (Mut.msleft RelayPending.row ref3)) (Reads'.as-is 𝓤 H A (Rows.arr-owed RelayPending.row 2 1))
-              Path.refl) d25
+          d26 = Typed.g-pre 𝓤 H A W 𝓣 E G54 G55 b31 Δ0 (Typed.both (s53 bs)) (at25 bs) (Borrow.g-back-arr 𝓤 H A W E
+              RelayPending.row G54 17 1 1 2 ref3 (λ x. x) (λ x. x)
+              (Reads'.as-is 𝓤 H A (Mut.msleft RelayPending.row ref3))
+              (Reads'.as-is 𝓤 H A (Rows.arr-owed RelayPending.row 2 1)) Path.refl) d25
+
           d27 : Typed.Typed 𝓤 H A 𝓣 E G53 b31 Δ0 (at27 bs)
-          d27 = Typed.g-pre 𝓤 H A W 𝓣 E G53 G54 b31 Δ0 (λ Ψ. Ψ) (at26 bs) (Lifetime.g-end 𝓤 H A W E G53 1 Path.refl) d26
+          d27 = Typed.g-pre 𝓤 H A W 𝓣 E G53 G54 b31 Δ0 (λ Ψ. Ψ) (at26 bs) (Lifetime.g-end 𝓤 H A W E G53 1 Path.refl)
+              d26
+
           d28 : Typed.Typed 𝓤 H A 𝓣 E G52 b31 Δ0 (at28 bs)
-          d28 = Typed.g-pre 𝓤 H A W 𝓣 E G52 G53 b31 Δ0 (Typed.pass T52 T53 (s51 bs)) (at27 bs) (Scalar.g-room 𝓤 H A W E G52 15 Syntax.tyUnit
-              (Scalar.room-sc 𝓤 H A W Row.sUnit)) d27
+          d28 = Typed.g-pre 𝓤 H A W 𝓣 E G52 G53 b31 Δ0 (Typed.pass T52 T53 (s51 bs)) (at27 bs) (Scalar.g-room 𝓤 H A W E
+              G52 15 Syntax.tyUnit (Scalar.room-sc 𝓤 H A W Row.sUnit)) d27
+
           d29 : Typed.Typed 𝓤 H A 𝓣 E G51 b32 Δ0 (at29 bs)
-          d29 = Typed.s-seq 𝓤 H A W 𝓣 E G51 G52 b26 b31 Δ0 (Typed.both (s50 bs)) (at28 bs) (Plain.t-call-plain 𝓤 H A W 𝓣 6 ps·5 r·5 (claims· .10)
-              (claims· .11) "cases::machine::run_all" (known .5) E (λ pos β. β) G51 (record { pos = 17; ty = Syntax.tyRef Syntax.erased Syntax.mut
-              RelayPending.to; ref = λ x. x; }, (record { pos = 19; ty = Syntax.tyRef Syntax.erased Syntax.mut RelayCircuit.to; ref = λ x. x; },
-              (record { pos = 21; ty = Syntax.tyRef Syntax.erased Syntax.mut ReservationUsage.to; ref = λ x. x; }, (record { pos = 23; ty =
-              Syntax.tyRef Syntax.erased Syntax.mut InflightAction.to; ref = λ x. x; }, (record { pos = 25; ty = Syntax.tyRef Syntax.erased Syntax.mut
-              (Syntax.tyInt Syntax.w32); ref = λ x. x; }, (record { pos = 27; ty = Syntax.tyRef Syntax.erased Syntax.mut (Syntax.tyInt Syntax.w8); ref
-              = λ x. x; }, tt,),),),),),) 15 (1 ∷ 2 ∷ 3 ∷ 4 ∷ 5 ∷ 6 ∷ List.[]) (Call.sub-id 𝓤 H A W (G51 .slots)) (Reads'.as-is 𝓤 H A (Mut.mslice
-              RelayPending.row ref3 1), Mut.reads-mslice 𝓤 H A W RelayPending.row ref3 1, Path.refl, (Reads'.as-is 𝓤 H A (Mut.mslice RelayCircuit.row
-              ref5 2), Mut.reads-mslice 𝓤 H A W RelayCircuit.row ref5 2, Path.refl, (Reads'.as-is 𝓤 H A (Mut.mslice ReservationUsage.row ref7 3),
-              Mut.reads-mslice 𝓤 H A W ReservationUsage.row ref7 3, Path.refl, (Reads'.as-is 𝓤 H A (Mut.mslice InflightAction.row ref9 4),
-              Mut.reads-mslice 𝓤 H A W InflightAction.row ref9 4, Path.refl, (Reads'.as-is 𝓤 H A (Mut.mslice (Referent.rtF (Referent.fInt Syntax.w32))
-              ref11 5), Mut.reads-mslice 𝓤 H A W (Referent.rtF (Referent.fInt Syntax.w32)) ref11 5, Path.refl, (Reads'.as-is 𝓤 H A (Mut.mslice
-              (Referent.rtF (Referent.fInt Syntax.w8)) ref13 6), Mut.reads-mslice 𝓤 H A W (Referent.rtF (Referent.fInt Syntax.w8)) ref13 6, Path.refl,
-              tt,),),),),),) (Reads'.room-gone 𝓤 H A Syntax.tyUnit) (tt, (tt, (tt, (tt, (tt, (tt, tt)))))) Path.refl) d28
+          d29 = Typed.s-seq 𝓤 H A W 𝓣 E G51 G52 b26 b31 Δ0 (Typed.both (s50 bs)) (at28 bs) (Plain.t-call-plain 𝓤 H A W
+              𝓣 6 ps·5 r·5 (claims· .10) (claims· .11) "cases::machine::run_all" (known .5) E (λ pos β. β) G51 (
+                record { pos = 17; ty = ref3; ref = λ x. x },
+                (
+                  record { pos = 19; ty = ref5; ref = λ x. x },
+                  (
+                    record { pos = 21; ty = ref7; ref = λ x. x },
+                    (
+                      record { pos = 23; ty = ref9; ref = λ x. x },
+                      (
+                        record { pos = 25; ty = ref11; ref = λ x. x },
+                        (record { pos = 27; ty = ref13; ref = λ x. x }, tt),
+                      ),
+                    ),
+                  ),
+                ),
+              ) 15 (1 ∷ 2 ∷ 3 ∷ 4 ∷ 5 ∷ 6 ∷ List.[]) (Call.sub-id 𝓤 H A W (G51 .slots)) (
+                Reads'.as-is 𝓤 H A (Mut.mslice RelayPending.row ref3 1),
+                Mut.reads-mslice 𝓤 H A W RelayPending.row ref3 1,
+                Path.refl,
+                (
+                  Reads'.as-is 𝓤 H A (Mut.mslice RelayCircuit.row ref5 2),
+                  Mut.reads-mslice 𝓤 H A W RelayCircuit.row ref5 2,
+                  Path.refl,
+                  (
+                    Reads'.as-is 𝓤 H A (Mut.mslice ReservationUsage.row ref7 3),
+                    Mut.reads-mslice 𝓤 H A W ReservationUsage.row ref7 3,
+                    Path.refl,
+                    (
+                      Reads'.as-is 𝓤 H A (Mut.mslice InflightAction.row ref9 4),
+                      Mut.reads-mslice 𝓤 H A W InflightAction.row ref9 4,
+                      Path.refl,
+                      (
+                        Reads'.as-is 𝓤 H A (Mut.mslice (Referent.rtF (Referent.fInt Syntax.w32)) ref11 5),
+                        Mut.reads-mslice 𝓤 H A W (Referent.rtF (Referent.fInt Syntax.w32)) ref11 5,
+                        Path.refl,
+                        (
+                          Reads'.as-is 𝓤 H A (Mut.mslice (Referent.rtF (Referent.fInt Syntax.w8)) ref13 6),
+                          Mut.reads-mslice 𝓤 H A W (Referent.rtF (Referent.fInt Syntax.w8)) ref13 6,
+                          Path.refl,
+                          tt,
+                        ),
+                      ),
+                    ),
+                  ),
+                ),
+              ) (Reads'.room-gone 𝓤 H A Syntax.tyUnit) (tt, (tt, (tt, (tt, (tt, (tt, tt)))))) Path.refl) d28
+
           d30 : Typed.Typed 𝓤 H A 𝓣 E G50 b33 Δ0 (at30 bs)
-          d30 = Typed.s-seq 𝓤 H A W 𝓣 E G50 G51 b25 b32 Δ0 (Typed.ask (s49 bs)) (at29 bs) (Relend.t-sl-aggregate 𝓤 H A W E (Referent.rtF
-              (Referent.fInt Syntax.w8)) 𝓣 (Relend.asMut (Referent.rtF (Referent.fInt Syntax.w8))) G50 26 27 6 ref12 ref13 (λ x. x) (Scalar.oBig
-              Syntax.w64 16385) (Reads'.as-is 𝓤 H A (Relend.msptr (Referent.rtF (Referent.fInt Syntax.w8)) ref12 6)) (Reads'.room-gone 𝓤 H A
-              (Syntax.tyStruct (38 ∷ 91 ∷ 93 ∷ List.[]) (Syntax.tcons ref13 (Syntax.tcons (Syntax.tyInt Syntax.w64) Syntax.tnil)))) record { lower =
-              record { fits = Dec.lit< tt } } Path.refl Path.refl λ b o k. tt) d29
+          d30 = Typed.s-seq 𝓤 H A W 𝓣 E G50 G51 b25 b32 Δ0 (Typed.ask (s49 bs)) (at29 bs) (Relend.t-sl-aggregate 𝓤 H A
+              W E (Referent.rtF (Referent.fInt Syntax.w8)) 𝓣 (Relend.asMut (Referent.rtF (Referent.fInt Syntax.w8)))
+              G50 26 27 6 ref12 ref13 (λ x. x) (Scalar.oBig Syntax.w64 16385) (Reads'.as-is 𝓤 H A (Relend.msptr
+              (Referent.rtF (Referent.fInt Syntax.w8)) ref12 6)) (Reads'.room-gone 𝓤 H A slice13)
+              record { lower = record { fits = Dec.lit< tt } } Path.refl Path.refl λ b o k. tt) d29
+
           d31 : Typed.Typed 𝓤 H A 𝓣 E G49 b34 Δ0 (at31 bs)
-          d31 = Typed.s-seq 𝓤 H A W 𝓣 E G49 G50 b24 b33 Δ0 (Typed.give (s48 bs)) (at30 bs) (Borrow.t-arr-borrow 𝓤 H A W E 𝓣 (Referent.rtF
-              (Referent.fInt Syntax.w8)) G49 6 26 16385 6 ref12 (λ x. x) (Reads'.as-is 𝓤 H A (Rows.arrF (Referent.rtF (Referent.fInt Syntax.w8)) 16385
-              0)) (Reads'.room-gone 𝓤 H A ref12) Path.refl (λ b o. tt) (Dec.lit< tt, Dec.lit< tt)) d30
+          d31 = Typed.s-seq 𝓤 H A W 𝓣 E G49 G50 b24 b33 Δ0 (Typed.give (s48 bs)) (at30 bs) (Borrow.t-arr-borrow 𝓤 H A W
+              E 𝓣 (Referent.rtF (Referent.fInt Syntax.w8)) G49 6 26 16385 6 ref12 (λ x. x) (Reads'.as-is 𝓤 H A (Rows.arrF
+              (Referent.rtF (Referent.fInt Syntax.w8)) 16385 0)) (Reads'.room-gone 𝓤 H A ref12) Path.refl (λ b o. tt)
+              (Dec.lit< tt, Dec.lit< tt)) d30
+
           d32 : Typed.Typed 𝓤 H A 𝓣 E G48 b34 Δ0 (at32 bs)
-          d32 = Typed.g-pre 𝓤 H A W 𝓣 E G48 G49 b34 Δ0 (λ Ψ. Ψ) (at31 bs) (Lifetime.g-begin 𝓤 H A W E G48 6 (tt, (tt, (tt, (tt, (tt, (tt, (tt, (tt,
-              (tt, (tt, (tt, (tt, (tt, (tt, (tt, (tt, (tt, (tt, (tt, (tt, (tt, (tt, (tt, (tt, (tt, (tt, (tt, (tt,
-              tt))))),),),),),),),),),),),),),),),),),),),),),),),)) d31
+          d32 = Typed.g-pre 𝓤 H A W 𝓣 E G48 G49 b34 Δ0 (λ Ψ. Ψ) (at31 bs) (Lifetime.g-begin 𝓤 H A W E G48 6 (
+            tt,
+            (
+              tt,
+              (
+                tt,
+                (
+                  tt,
+                  (
+                    tt,
+                    (
+                      tt,
+                      (
+                        tt,
+                        (
+                          tt,
+                          (
+                            tt,
+                            (
+                              tt,
+                              (
+                                tt,
+                                (
+                                  tt,
+                                  (
+                                    tt,
+                                    (
+                                      tt,
+                                      (
+                                        tt,
+                                        (
+                                          tt,
+                                          (tt, (tt, (tt, (tt, (tt, (tt, (tt, (tt, (tt, (tt, (tt, (tt, tt)))))))))))),
+                                        ),
+                                      ),
+                                    ),
+                                  ),
+                                ),
+                              ),
+                            ),
+                          ),
+                        ),
+                      ),
+                    ),
+                  ),
+                ),
+              ),
+            ),
+          )) d31
+
           d33 : Typed.Typed 𝓤 H A 𝓣 E G47 b35 Δ0 (at33 bs)
-          d33 = Typed.s-seq 𝓤 H A W 𝓣 E G47 G48 b23 b34 Δ0 (Typed.ask (s46 bs)) (at32 bs) (Relend.t-sl-aggregate 𝓤 H A W E (Referent.rtF
-              (Referent.fInt Syntax.w32)) 𝓣 (Relend.asMut (Referent.rtF (Referent.fInt Syntax.w32))) G47 24 25 5 ref10 ref11 (λ x. x) (Scalar.oBig
-              Syntax.w64 4136) (Reads'.as-is 𝓤 H A (Relend.msptr (Referent.rtF (Referent.fInt Syntax.w32)) ref10 5)) (Reads'.room-gone 𝓤 H A
-              (Syntax.tyStruct (38 ∷ 91 ∷ 93 ∷ List.[]) (Syntax.tcons ref11 (Syntax.tcons (Syntax.tyInt Syntax.w64) Syntax.tnil)))) record { lower =
-              record { fits = Dec.lit< tt } } Path.refl Path.refl λ b o k. tt) d32
+          d33 = Typed.s-seq 𝓤 H A W 𝓣 E G47 G48 b23 b34 Δ0 (Typed.ask (s46 bs)) (at32 bs) (Relend.t-sl-aggregate 𝓤 H A
+              W E (Referent.rtF (Referent.fInt Syntax.w32)) 𝓣 (Relend.asMut (Referent.rtF (Referent.fInt Syntax.w32)))
+              G47 24 25 5 ref10 ref11 (λ x. x) (Scalar.oBig Syntax.w64 4136) (Reads'.as-is 𝓤 H A (Relend.msptr
+              (Referent.rtF (Referent.fInt Syntax.w32)) ref10 5)) (Reads'.room-gone 𝓤 H A slice11)
+              record { lower = record { fits = Dec.lit< tt } } Path.refl Path.refl λ b o k. tt) d32
+
           d34 : Typed.Typed 𝓤 H A 𝓣 E G46 b36 Δ0 (at34 bs)
-          d34 = Typed.s-seq 𝓤 H A W 𝓣 E G46 G47 b22 b35 Δ0 (Typed.give (s45 bs)) (at33 bs) (Borrow.t-arr-borrow 𝓤 H A W E 𝓣 (Referent.rtF
-              (Referent.fInt Syntax.w32)) G46 5 24 4136 5 ref10 (λ x. x) (Reads'.as-is 𝓤 H A (Rows.arrF (Referent.rtF (Referent.fInt Syntax.w32)) 4136
-              0)) (Reads'.room-gone 𝓤 H A ref10) Path.refl (λ b o. tt) (Dec.lit< tt, Dec.lit< tt)) d33
+          d34 = Typed.s-seq 𝓤 H A W 𝓣 E G46 G47 b22 b35 Δ0 (Typed.give (s45 bs)) (at33 bs) (Borrow.t-arr-borrow 𝓤 H A W
+              E 𝓣 (Referent.rtF (Referent.fInt Syntax.w32)) G46 5 24 4136 5 ref10 (λ x. x) (Reads'.as-is 𝓤 H A (Rows.arrF
+              (Referent.rtF (Referent.fInt Syntax.w32)) 4136 0)) (Reads'.room-gone 𝓤 H A ref10) Path.refl (λ b o. tt)
+              (Dec.lit< tt, Dec.lit< tt)) d33
+
           d35 : Typed.Typed 𝓤 H A 𝓣 E G45 b36 Δ0 (at35 bs)
-          d35 = Typed.g-pre 𝓤 H A W 𝓣 E G45 G46 b36 Δ0 (λ Ψ. Ψ) (at34 bs) (Lifetime.g-begin 𝓤 H A W E G45 5 (tt, (tt, (tt, (tt, (tt, (tt, (tt, (tt,
-              (tt, (tt, (tt, (tt, (tt, (tt, (tt, (tt, (tt, (tt, (tt, (tt, (tt, (tt, (tt, (tt, (tt, (tt, (tt, (tt,
-              tt))))),),),),),),),),),),),),),),),),),),),),),),),)) d34
+          d35 = Typed.g-pre 𝓤 H A W 𝓣 E G45 G46 b36 Δ0 (λ Ψ. Ψ) (at34 bs) (Lifetime.g-begin 𝓤 H A W E G45 5 (
+            tt,
+            (
+              tt,
+              (
+                tt,
+                (
+                  tt,
+                  (
+                    tt,
+                    (
+                      tt,
+                      (
+                        tt,
+                        (
+                          tt,
+                          (
+                            tt,
+                            (
+                              tt,
+                              (
+                                tt,
+                                (
+                                  tt,
+                                  (
+                                    tt,
+                                    (
+                                      tt,
+                                      (
+                                        tt,
+                                        (
+                                          tt,
+                                          (tt, (tt, (tt, (tt, (tt, (tt, (tt, (tt, (tt, (tt, (tt, (tt, tt)))))))))))),
+                                        ),
+                                      ),
+                                    ),
+                                  ),
+                                ),
+                              ),
+                            ),
+                          ),
+                        ),
+                      ),
+                    ),
+                  ),
+                ),
+              ),
+            ),
+          )) d34
+
           d36 : Typed.Typed 𝓤 H A 𝓣 E G44 b37 Δ0 (at36 bs)
-          d36 = Typed.s-seq 𝓤 H A W 𝓣 E G44 G45 b21 b36 Δ0 (Typed.ask (s43 bs)) (at35 bs) (Relend.t-sl-aggregate 𝓤 H A W E InflightAction.row 𝓣
-              (Relend.asMut InflightAction.row) G44 22 23 4 ref8 ref9 (λ x. x) (Scalar.oInt Syntax.w64 8) (Reads'.as-is 𝓤 H A (Relend.msptr
-              InflightAction.row ref8 4)) (Reads'.room-gone 𝓤 H A (Syntax.tyStruct (38 ∷ 91 ∷ 93 ∷ List.[]) (Syntax.tcons ref9 (Syntax.tcons
-              (Syntax.tyInt Syntax.w64) Syntax.tnil)))) tt Path.refl Path.refl λ b o k. tt) d35
+          d36 = Typed.s-seq 𝓤 H A W 𝓣 E G44 G45 b21 b36 Δ0 (Typed.ask (s43 bs)) (at35 bs) (Relend.t-sl-aggregate 𝓤 H A
+              W E InflightAction.row 𝓣 (Relend.asMut InflightAction.row) G44 22 23 4 ref8 ref9 (λ x. x)
+              (Scalar.oInt Syntax.w64 8) (Reads'.as-is 𝓤 H A (Relend.msptr InflightAction.row ref8 4))
+              (Reads'.room-gone 𝓤 H A slice9) tt Path.refl Path.refl λ b o k. tt) d35
+
           d37 : Typed.Typed 𝓤 H A 𝓣 E G43 b38 Δ0 (at37 bs)
-          d37 = Typed.s-seq 𝓤 H A W 𝓣 E G43 G44 b20 b37 Δ0 (Typed.give (s42 bs)) (at36 bs) (Borrow.t-arr-borrow 𝓤 H A W E 𝓣 InflightAction.row G43 4
-              22 8 4 ref8 (λ x. x) (Reads'.as-is 𝓤 H A (Rows.arrF InflightAction.row 8 0)) (Reads'.room-gone 𝓤 H A ref8) Path.refl (λ b o. tt)
-              (Dec.lit< tt, Dec.lit< tt)) d36
+          d37 = Typed.s-seq 𝓤 H A W 𝓣 E G43 G44 b20 b37 Δ0 (Typed.give (s42 bs)) (at36 bs) (Borrow.t-arr-borrow 𝓤 H A W
+              E 𝓣 InflightAction.row G43 4 22 8 4 ref8 (λ x. x) (Reads'.as-is 𝓤 H A (Rows.arrF InflightAction.row 8 0))
+              (Reads'.room-gone 𝓤 H A ref8) Path.refl (λ b o. tt) (Dec.lit< tt, Dec.lit< tt)) d36
+
           d38 : Typed.Typed 𝓤 H A 𝓣 E G42 b38 Δ0 (at38 bs)
-          d38 = Typed.g-pre 𝓤 H A W 𝓣 E G42 G43 b38 Δ0 (λ Ψ. Ψ) (at37 bs) (Lifetime.g-begin 𝓤 H A W E G42 4 (tt, (tt, (tt, (tt, (tt, (tt, (tt, (tt,
-              (tt, (tt, (tt, (tt, (tt, (tt, (tt, (tt, (tt, (tt, (tt, (tt, (tt, (tt, (tt, (tt, (tt, (tt, (tt, (tt,
-              tt))))),),),),),),),),),),),),),),),),),),),),),),),)) d37
+          d38 = Typed.g-pre 𝓤 H A W 𝓣 E G42 G43 b38 Δ0 (λ Ψ. Ψ) (at37 bs) (Lifetime.g-begin 𝓤 H A W E G42 4 (
+            tt,
+            (
+              tt,
+              (
+                tt,
+                (
+                  tt,
+                  (
+                    tt,
+                    (
+                      tt,
+                      (
+                        tt,
+                        (
+                          tt,
+                          (
+                            tt,
+                            (
+                              tt,
+                              (
+                                tt,
+                                (
+                                  tt,
+                                  (
+                                    tt,
+                                    (
+                                      tt,
+                                      (
+                                        tt,
+                                        (
+                                          tt,
+                                          (tt, (tt, (tt, (tt, (tt, (tt, (tt, (tt, (tt, (tt, (tt, (tt, tt)))))))))))),
+                                        ),
+                                      ),
+                                    ),
+                                  ),
+                                ),
+                              ),
+                            ),
+                          ),
+                        ),
+                      ),
+                    ),
+                  ),
+                ),
+              ),
+            ),
+          )) d37
+
           d39 : Typed.Typed 𝓤 H A 𝓣 E G41 b39 Δ0 (at39 bs)
-          d39 = Typed.s-seq 𝓤 H A W 𝓣 E G41 G42 b19 b38 Δ0 (Typed.ask (s40 bs)) (at38 bs) (Relend.t-sl-aggregate 𝓤 H A W E ReservationUsage.row 𝓣
-              (Relend.asMut ReservationUsage.row) G41 20 21 3 ref6 ref7 (λ x. x) (Scalar.oInt Syntax.w64 1) (Reads'.as-is 𝓤 H A (Relend.msptr
-              ReservationUsage.row ref6 3)) (Reads'.room-gone 𝓤 H A (Syntax.tyStruct (38 ∷ 91 ∷ 93 ∷ List.[]) (Syntax.tcons ref7 (Syntax.tcons
-              (Syntax.tyInt Syntax.w64) Syntax.tnil)))) tt Path.refl Path.refl λ b o k. tt) d38
+          d39 = Typed.s-seq 𝓤 H A W 𝓣 E G41 G42 b19 b38 Δ0 (Typed.ask (s40 bs)) (at38 bs) (Relend.t-sl-aggregate 𝓤 H A
+              W E ReservationUsage.row 𝓣 (Relend.asMut ReservationUsage.row) G41 20 21 3 ref6 ref7 (λ x. x)
+              (Scalar.oInt Syntax.w64 1) (Reads'.as-is 𝓤 H A (Relend.msptr ReservationUsage.row ref6 3))
+              (Reads'.room-gone 𝓤 H A slice7) tt Path.refl Path.refl λ b o k. tt) d38
+
           d40 : Typed.Typed 𝓤 H A 𝓣 E G40 b40 Δ0 (at40 bs)
-          d40 = Typed.s-seq 𝓤 H A W 𝓣 E G40 G41 b18 b39 Δ0 (Typed.give (s39 bs)) (at39 bs) (Borrow.t-arr-borrow 𝓤 H A W E 𝓣 ReservationUsage.row G40 3
-              20 1 3 ref6 (λ x. x) (Reads'.as-is 𝓤 H A (Rows.arrF ReservationUsage.row 1 0)) (Reads'.room-gone 𝓤 H A ref6) Path.refl (λ b o. tt)
-              (Dec.lit< tt, Dec.lit< tt)) d39
+          d40 = Typed.s-seq 𝓤 H A W 𝓣 E G40 G41 b18 b39 Δ0 (Typed.give (s39 bs)) (at39 bs) (Borrow.t-arr-borrow 𝓤 H A W
+              E 𝓣 ReservationUsage.row G40 3 20 1 3 ref6 (λ x. x)
+              (Reads'.as-is 𝓤 H A (Rows.arrF ReservationUsage.row 1 0)) (Reads'.room-gone 𝓤 H A ref6) Path.refl
+              (λ b o. tt) (Dec.lit< tt, Dec.lit< tt)) d39
+
           d41 : Typed.Typed 𝓤 H A 𝓣 E G39 b40 Δ0 (at41 bs)
-          d41 = Typed.g-pre 𝓤 H A W 𝓣 E G39 G40 b40 Δ0 (λ Ψ. Ψ) (at40 bs) (Lifetime.g-begin 𝓤 H A W E G39 3 (tt, (tt, (tt, (tt, (tt, (tt, (tt, (tt,
-              (tt, (tt, (tt, (tt, (tt, (tt, (tt, (tt, (tt, (tt, (tt, (tt, (tt, (tt, (tt, (tt, (tt, (tt, (tt, (tt,
-              tt))))),),),),),),),),),),),),),),),),),),),),),),),)) d40
+          d41 = Typed.g-pre 𝓤 H A W 𝓣 E G39 G40 b40 Δ0 (λ Ψ. Ψ) (at40 bs) (Lifetime.g-begin 𝓤 H A W E G39 3 (
+            tt,
+            (
+              tt,
+              (
+                tt,
+                (
+                  tt,
+                  (
+                    tt,
+                    (
+                      tt,
+                      (
+                        tt,
+                        (
+                          tt,
+                          (
+                            tt,
+                            (
+                              tt,
+                              (
+                                tt,
+                                (
+                                  tt,
+                                  (
+                                    tt,
+                                    (
+                                      tt,
+                                      (
+                                        tt,
+                                        (
+                                          tt,
+                                          (tt, (tt, (tt, (tt, (tt, (tt, (tt, (tt, (tt, (tt, (tt, (tt, tt)))))))))))),
+                                        ),
+                                      ),
+                                    ),
+                                  ),
+                                ),
+                              ),
+                            ),
+                          ),
+                        ),
+                      ),
+                    ),
+                  ),
+                ),
+              ),
+            ),
+          )) d40
+
           d42 : Typed.Typed 𝓤 H A 𝓣 E G38 b41 Δ0 (at42 bs)
-          d42 = Typed.s-seq 𝓤 H A W 𝓣 E G38 G39 b17 b40 Δ0 (Typed.ask (s37 bs)) (at41 bs) (Relend.t-sl-aggregate 𝓤 H A W E RelayCircuit.row 𝓣
-              (Relend.asMut RelayCircuit.row) G38 18 19 2 ref4 ref5 (λ x. x) (Scalar.oInt Syntax.w64 2) (Reads'.as-is 𝓤 H A (Relend.msptr
-              RelayCircuit.row ref4 2)) (Reads'.room-gone 𝓤 H A (Syntax.tyStruct (38 ∷ 91 ∷ 93 ∷ List.[]) (Syntax.tcons ref5 (Syntax.tcons
-              (Syntax.tyInt Syntax.w64) Syntax.tnil)))) tt Path.refl Path.refl λ b o k. tt) d41
+          d42 = Typed.s-seq 𝓤 H A W 𝓣 E G38 G39 b17 b40 Δ0 (Typed.ask (s37 bs)) (at41 bs) (Relend.t-sl-aggregate 𝓤 H A
+              W E RelayCircuit.row 𝓣 (Relend.asMut RelayCircuit.row) G38 18 19 2 ref4 ref5 (λ x. x)
+              (Scalar.oInt Syntax.w64 2) (Reads'.as-is 𝓤 H A (Relend.msptr RelayCircuit.row ref4 2))
+              (Reads'.room-gone 𝓤 H A slice5) tt Path.refl Path.refl λ b o k. tt) d41
+
           d43 : Typed.Typed 𝓤 H A 𝓣 E G37 b42 Δ0 (at43 bs)
-          d43 = Typed.s-seq 𝓤 H A W 𝓣 E G37 G38 b16 b41 Δ0 (Typed.give (s36 bs)) (at42 bs) (Borrow.t-arr-borrow 𝓤 H A W E 𝓣 RelayCircuit.row G37 2 18
-              2 2 ref4 (λ x. x) (Reads'.as-is 𝓤 H A (Rows.arrF RelayCircuit.row 2 0)) (Reads'.room-gone 𝓤 H A ref4) Path.refl (λ b o. tt) (Dec.lit<
-              tt, Dec.lit< tt)) d42
+          d43 = Typed.s-seq 𝓤 H A W 𝓣 E G37 G38 b16 b41 Δ0 (Typed.give (s36 bs)) (at42 bs) (Borrow.t-arr-borrow 𝓤 H A W
+              E 𝓣 RelayCircuit.row G37 2 18 2 2 ref4 (λ x. x) (Reads'.as-is 𝓤 H A (Rows.arrF RelayCircuit.row 2 0))
+              (Reads'.room-gone 𝓤 H A ref4) Path.refl (λ b o. tt) (Dec.lit< tt, Dec.lit< tt)) d42
+
           d44 : Typed.Typed 𝓤 H A 𝓣 E G36 b42 Δ0 (at44 bs)
-          d44 = Typed.g-pre 𝓤 H A W 𝓣 E G36 G37 b42 Δ0 (λ Ψ. Ψ) (at43 bs) (Lifetime.g-begin 𝓤 H A W E G36 2 (tt, (tt, (tt, (tt, (tt, (tt, (tt, (tt,
-              (tt, (tt, (tt, (tt, (tt, (tt, (tt, (tt, (tt, (tt, (tt, (tt, (tt, (tt, (tt, (tt, (tt, (tt, (tt, (tt,
-              tt))))),),),),),),),),),),),),),),),),),),),),),),),)) d43
+          d44 = Typed.g-pre 𝓤 H A W 𝓣 E G36 G37 b42 Δ0 (λ Ψ. Ψ) (at43 bs) (Lifetime.g-begin 𝓤 H A W E G36 2 (
+            tt,
+            (
+              tt,
+              (
+                tt,
+                (
+                  tt,
+                  (
+                    tt,
+                    (
+                      tt,
+                      (
+                        tt,
+                        (
+                          tt,
+                          (
+                            tt,
+                            (
+                              tt,
+                              (
+                                tt,
+                                (
+                                  tt,
+                                  (
+                                    tt,
+                                    (
+                                      tt,
+                                      (
+                                        tt,
+                                        (
+                                          tt,
+                                          (tt, (tt, (tt, (tt, (tt, (tt, (tt, (tt, (tt, (tt, (tt, (tt, tt)))))))))))),
+                                        ),
+                                      ),
+                                    ),
+                                  ),
+                                ),
+                              ),
+                            ),
+                          ),
+                        ),
+                      ),
+                    ),
+                  ),
+                ),
+              ),
+            ),
+          )) d43
+
           d45 : Typed.Typed 𝓤 H A 𝓣 E G35 b43 Δ0 (at45 bs)
-          d45 = Typed.s-seq 𝓤 H A W 𝓣 E G35 G36 b15 b42 Δ0 (Typed.ask (s34 bs)) (at44 bs) (Relend.t-sl-aggregate 𝓤 H A W E RelayPending.row 𝓣
-              (Relend.asMut RelayPending.row) G35 16 17 1 ref2 ref3 (λ x. x) (Scalar.oInt Syntax.w64 2) (Reads'.as-is 𝓤 H A (Relend.msptr
-              RelayPending.row ref2 1)) (Reads'.room-gone 𝓤 H A (Syntax.tyStruct (38 ∷ 91 ∷ 93 ∷ List.[]) (Syntax.tcons ref3 (Syntax.tcons
-              (Syntax.tyInt Syntax.w64) Syntax.tnil)))) tt Path.refl Path.refl λ b o k. tt) d44
+          d45 = Typed.s-seq 𝓤 H A W 𝓣 E G35 G36 b15 b42 Δ0 (Typed.ask (s34 bs)) (at44 bs) (Relend.t-sl-aggregate 𝓤 H A
+              W E RelayPending.row 𝓣 (Relend.asMut RelayPending.row) G35 16 17 1 ref2 ref3 (λ x. x)
+              (Scalar.oInt Syntax.w64 2) (Reads'.as-is 𝓤 H A (Relend.msptr RelayPending.row ref2 1))
+              (Reads'.room-gone 𝓤 H A slice3) tt Path.refl Path.refl λ b o k. tt) d44
+
           d46 : Typed.Typed 𝓤 H A 𝓣 E G34 b44 Δ0 (at46 bs)
-          d46 = Typed.s-seq 𝓤 H A W 𝓣 E G34 G35 b14 b43 Δ0 (Typed.give (s33 bs)) (at45 bs) (Borrow.t-arr-borrow 𝓤 H A W E 𝓣 RelayPending.row G34 1 16
-              2 1 ref2 (λ x. x) (Reads'.as-is 𝓤 H A (Rows.arrF RelayPending.row 2 0)) (Reads'.room-gone 𝓤 H A ref2) Path.refl (λ b o. tt) (Dec.lit<
-              tt, Dec.lit< tt)) d45
+          d46 = Typed.s-seq 𝓤 H A W 𝓣 E G34 G35 b14 b43 Δ0 (Typed.give (s33 bs)) (at45 bs) (Borrow.t-arr-borrow 𝓤 H A W
+              E 𝓣 RelayPending.row G34 1 16 2 1 ref2 (λ x. x) (Reads'.as-is 𝓤 H A (Rows.arrF RelayPending.row 2 0))
+              (Reads'.room-gone 𝓤 H A ref2) Path.refl (λ b o. tt) (Dec.lit< tt, Dec.lit< tt)) d45
+
           d47 : Typed.Typed 𝓤 H A 𝓣 E G33 b44 Δ0 (at47 bs)
-          d47 = Typed.g-pre 𝓤 H A W 𝓣 E G33 G34 b44 Δ0 (λ Ψ. Ψ) (at46 bs) (Lifetime.g-begin 𝓤 H A W E G33 1 (tt, (tt, (tt, (tt, (tt, (tt, (tt, (tt,
-              (tt, (tt, (tt, (tt, (tt, (tt, (tt, (tt, (tt, (tt, (tt, (tt, (tt, (tt, (tt, (tt, (tt, (tt, (tt, (tt,
-              tt))))),),),),),),),),),),),),),),),),),),),),),),),)) d46
+          d47 = Typed.g-pre 𝓤 H A W 𝓣 E G33 G34 b44 Δ0 (λ Ψ. Ψ) (at46 bs) (Lifetime.g-begin 𝓤 H A W E G33 1 (
+            tt,
+            (
+              tt,
+              (
+                tt,
+                (
+                  tt,
+                  (
+                    tt,
+                    (
+                      tt,
+                      (
+                        tt,
+                        (
+                          tt,
+                          (
+                            tt,
+                            (
+                              tt,
+                              (
+                                tt,
+                                (
+                                  tt,
+                                  (
+                                    tt,
+                                    (
+                                      tt,
+                                      (
+                                        tt,
+                                        (
+                                          tt,
+                                          (tt, (tt, (tt, (tt, (tt, (tt, (tt, (tt, (tt, (tt, (tt, (tt, tt)))))))))))),
+                                        ),
+                                      ),
+                                    ),
+                                  ),
+                                ),
+                              ),
+                            ),
+                          ),
+                        ),
+                      ),
+                    ),
+                  ),
+                ),
+              ),
+            ),
+          )) d46
+
           d48 : Typed.Typed 𝓤 H A 𝓣 E G32 b44 Δ0 (at48 bs)
-          d48 = Typed.g-pre 𝓤 H A W 𝓣 E G32 G33 b44 Δ0 (Typed.pass T31 T33 (s31 bs)) (at47 bs) (Scalar.g-room 𝓤 H A W E G32 7 (Syntax.tyArray
-              (Syntax.tyInt Syntax.w8) 12) (Init.room-arr 𝓤 H A W (Referent.rtF (Referent.fInt Syntax.w8)) 12 0 12 Path.refl)) d47
+          d48 = Typed.g-pre 𝓤 H A W 𝓣 E G32 G33 b44 Δ0 (Typed.pass T31 T33 (s31 bs)) (at47 bs) (Scalar.g-room 𝓤 H A W E
+              G32 7 (Syntax.tyArray (Syntax.tyInt Syntax.w8) 12) (Init.room-arr 𝓤 H A W
+              (Referent.rtF (Referent.fInt Syntax.w8)) 12 0 12 Path.refl)) d47
+
           d49 : Typed.Typed 𝓤 H A 𝓣 E G31 b44 Δ0 (at49 bs)
-          d49 = Typed.g-pre 𝓤 H A W 𝓣 E G31 G32 b44 Δ0 (λ Ψ. Ψ) (at48 bs) (Lifetime.g-forget 𝓤 H A W E G31 0 Row.dead Path.refl) d48
+          d49 = Typed.g-pre 𝓤 H A W 𝓣 E G31 G32 b44 Δ0 (λ Ψ. Ψ) (at48 bs)
+              (Lifetime.g-forget 𝓤 H A W E G31 0 Row.dead Path.refl) d48
+
           d50 : Typed.Typed 𝓤 H A 𝓣 E G30 b44 Δ0 (at50 bs)
-          d50 = Typed.g-pre 𝓤 H A W 𝓣 E G30 G31 b44 Δ0 (Typed.pass T29 T31 (s29 bs)) (at49 bs) (Share.g-back-arr-shr 𝓤 H A W E (Referent.rtF
-              (Referent.fInt Syntax.w8)) G30 7 12 0 (λ x. x) (Reads'.as-is 𝓤 H A (Rows.arr-shr (Referent.rtF (Referent.fInt Syntax.w8)) 12 0))
-              Path.refl) d49
+          d50 = Typed.g-pre 𝓤 H A W 𝓣 E G30 G31 b44 Δ0 (Typed.pass T29 T31 (s29 bs)) (at49 bs) (Share.g-back-arr-shr 𝓤
+              H A W E (Referent.rtF (Referent.fInt Syntax.w8)) G30 7 12 0 (λ x. x) (Reads'.as-is 𝓤 H A (Rows.arr-shr
+              (Referent.rtF (Referent.fInt Syntax.w8)) 12 0)) Path.refl) d49
+
           d51 : Typed.Typed 𝓤 H A 𝓣 E G29 b44 Δ0 (at51 bs)
-          d51 = Typed.g-pre 𝓤 H A W 𝓣 E G29 G30 b44 Δ0 (λ Ψ. Ψ) (at50 bs) (Lifetime.g-end 𝓤 H A W E G29 0 Path.refl) d50
+          d51 = Typed.g-pre 𝓤 H A W 𝓣 E G29 G30 b44 Δ0 (λ Ψ. Ψ) (at50 bs) (Lifetime.g-end 𝓤 H A W E G29 0 Path.refl)
+              d50
+
           d52 : Typed.Typed 𝓤 H A 𝓣 E G28 b44 Δ0 (at52 bs)
-          d52 = Typed.g-pre 𝓤 H A W 𝓣 E G28 G29 b44 Δ0 (Typed.pass T28 T29 (s27 bs)) (at51 bs) (Scalar.g-room 𝓤 H A W E G28 12 Syntax.tyBool
-              (Scalar.room-sc 𝓤 H A W Row.sBool)) d51
+          d52 = Typed.g-pre 𝓤 H A W 𝓣 E G28 G29 b44 Δ0 (Typed.pass T28 T29 (s27 bs)) (at51 bs) (Scalar.g-room 𝓤 H A W E
+              G28 12 Syntax.tyBool (Scalar.room-sc 𝓤 H A W Row.sBool)) d51
+
           d53 : Typed.Typed 𝓤 H A 𝓣 E G27 b44 Δ0 (at53 bs)
-          d53 = Typed.g-pre 𝓤 H A W 𝓣 E G27 G28 b44 Δ0 (Typed.pass T27 T28 (s26 bs)) (at52 bs) (Scalar.g-room 𝓤 H A W E G27 14 (Syntax.tyStruct (38 ∷
-              91 ∷ 93 ∷ List.[]) (Syntax.tcons ref1 (Syntax.tcons (Syntax.tyInt Syntax.w64) Syntax.tnil))) (Shared.room-sslice 𝓤 H A W (Referent.rtF
-              (Referent.fInt Syntax.w8)) ref1 0)) d52
+          d53 = Typed.g-pre 𝓤 H A W 𝓣 E G27 G28 b44 Δ0 (Typed.pass T27 T28 (s26 bs)) (at52 bs) (Scalar.g-room 𝓤 H A W E
+              G27 14 slice1 (Shared.room-sslice 𝓤 H A W (Referent.rtF (Referent.fInt Syntax.w8)) ref1 0)) d52
+
           d54 : Typed.Typed 𝓤 H A 𝓣 E G26 b45 Δ0 (at54 bs)
-          d54 = Typed.s-seq 𝓤 H A W 𝓣 E G26 G27 b13 b44 Δ0 (Typed.both (s25 bs)) (at53 bs) (Plain.t-call-plain 𝓤 H A W 𝓣 1 ps·4 r·4 (claims· .8)
-              (claims· .9) "io::write_all" (known .4) E (λ pos β. β) G26 (Num.vLit 1, (record { pos = 14; ty = Syntax.tyRef Syntax.erased Syntax.imm
-              (Syntax.tyInt Syntax.w8); ref = λ x. x; }, tt,),) 12 (0 ∷ List.[]) (Call.sub-id 𝓤 H A W (G26 .slots)) (tt, (ShrSlice.spares-sslice 𝓤 H A
-              W (Referent.rtF (Referent.fInt Syntax.w8)) ref1 0, Shared.reads-sslice 𝓤 H A W (Referent.rtF (Referent.fInt Syntax.w8)) ref1 0,
-              Path.refl, tt,),) (Reads'.room-gone 𝓤 H A Syntax.tyBool) (tt, tt) Path.refl) d53
+          d54 = Typed.s-seq 𝓤 H A W 𝓣 E G26 G27 b13 b44 Δ0 (Typed.both (s25 bs)) (at53 bs) (Plain.t-call-plain 𝓤 H A W
+              𝓣 1 ps·4 r·4 (claims· .8) (claims· .9) "io::write_all" (known .4) E (λ pos β. β) G26 (
+                Num.vLit 1,
+                (record { pos = 14; ty = ref1; ref = λ x. x }, tt),
+              ) 12 (0 ∷ List.[]) (Call.sub-id 𝓤 H A W (G26 .slots)) (
+                tt,
+                (
+                  ShrSlice.spares-sslice 𝓤 H A W (Referent.rtF (Referent.fInt Syntax.w8)) ref1 0,
+                  Shared.reads-sslice 𝓤 H A W (Referent.rtF (Referent.fInt Syntax.w8)) ref1 0,
+                  Path.refl,
+                  tt,
+                ),
+              ) (Reads'.room-gone 𝓤 H A Syntax.tyBool) (tt, tt) Path.refl) d53
+
           d55 : Typed.Typed 𝓤 H A 𝓣 E G25 b46 Δ0 (at55 bs)
-          d55 = Typed.s-seq 𝓤 H A W 𝓣 E G25 G26 b12 b45 Δ0 (Typed.ask (s24 bs)) (at54 bs) (Relend.t-sl-aggregate 𝓤 H A W E (Referent.rtF
-              (Referent.fInt Syntax.w8)) 𝓣 (Relend.asShr (Referent.rtF (Referent.fInt Syntax.w8))) G25 13 14 0 ref0 ref1 (λ x. x) (Scalar.oInt
-              Syntax.w64 12) (Reads'.as-is 𝓤 H A (Relend.ssptr (Referent.rtF (Referent.fInt Syntax.w8)) ref0 0)) (Reads'.room-gone 𝓤 H A
-              (Syntax.tyStruct (38 ∷ 91 ∷ 93 ∷ List.[]) (Syntax.tcons ref1 (Syntax.tcons (Syntax.tyInt Syntax.w64) Syntax.tnil)))) tt Path.refl
-              Path.refl λ b o k. tt) d54
+          d55 = Typed.s-seq 𝓤 H A W 𝓣 E G25 G26 b12 b45 Δ0 (Typed.ask (s24 bs)) (at54 bs) (Relend.t-sl-aggregate 𝓤 H A
+              W E (Referent.rtF (Referent.fInt Syntax.w8)) 𝓣 (Relend.asShr (Referent.rtF (Referent.fInt Syntax.w8)))
+              G25 13 14 0 ref0 ref1 (λ x. x) (Scalar.oInt Syntax.w64 12) (Reads'.as-is 𝓤 H A (Relend.ssptr
+              (Referent.rtF (Referent.fInt Syntax.w8)) ref0 0)) (Reads'.room-gone 𝓤 H A slice1) tt Path.refl Path.refl
+              λ b o k. tt) d54
+
           d56 : Typed.Typed 𝓤 H A 𝓣 E G24 b47 Δ0 (at56 bs)
-          d56 = Typed.s-seq 𝓤 H A W 𝓣 E G24 G25 b11 b46 Δ0 (Typed.give (s23 bs)) (at55 bs) (Share.t-arr-share 𝓤 H A W E 𝓣 (Referent.rtF (Referent.fInt
-              Syntax.w8)) G24 7 13 12 0 ref0 (λ x. x) (Reads'.as-is 𝓤 H A (Rows.arrF (Referent.rtF (Referent.fInt Syntax.w8)) 12 0)) (Reads'.room-gone
-              𝓤 H A ref0) Path.refl (λ b o. tt) (Dec.lit< tt, Dec.lit< tt)) d55
+          d56 = Typed.s-seq 𝓤 H A W 𝓣 E G24 G25 b11 b46 Δ0 (Typed.give (s23 bs)) (at55 bs) (Share.t-arr-share 𝓤 H A W E
+              𝓣 (Referent.rtF (Referent.fInt Syntax.w8)) G24 7 13 12 0 ref0 (λ x. x) (Reads'.as-is 𝓤 H A
+              (Rows.arrF (Referent.rtF (Referent.fInt Syntax.w8)) 12 0)) (Reads'.room-gone 𝓤 H A ref0) Path.refl
+              (λ b o. tt) (Dec.lit< tt, Dec.lit< tt)) d55
+
           d57 : Typed.Typed 𝓤 H A 𝓣 E G23 b47 Δ0 (at57 bs)
-          d57 = Typed.g-pre 𝓤 H A W 𝓣 E G23 G24 b47 Δ0 (λ Ψ. Ψ) (at56 bs) (Lifetime.g-begin 𝓤 H A W E G23 0 (tt, (tt, (tt, (tt, (tt, (tt, (tt, (tt,
-              (tt, (tt, (tt, (tt, (tt, (tt, (tt, (tt, (tt, (tt, (tt, (tt, (tt, (tt, (tt, (tt, (tt, (tt, (tt, (tt,
-              tt))))),),),),),),),),),),),),),),),),),),),),),),),)) d56
+          d57 = Typed.g-pre 𝓤 H A W 𝓣 E G23 G24 b47 Δ0 (λ Ψ. Ψ) (at56 bs) (Lifetime.g-begin 𝓤 H A W E G23 0 (
+            tt,
+            (
+              tt,
+              (
+                tt,
+                (
+                  tt,
+                  (
+                    tt,
+                    (
+                      tt,
+                      (
+                        tt,
+                        (
+                          tt,
+                          (
+                            tt,
+                            (
+                              tt,
+                              (
+                                tt,
+                                (
+                                  tt,
+                                  (
+                                    tt,
+                                    (
+                                      tt,
+                                      (
+                                        tt,
+                                        (
+                                          tt,
+                                          (tt, (tt, (tt, (tt, (tt, (tt, (tt, (tt, (tt, (tt, (tt, (tt, tt)))))))))))),
+                                        ),
+                                      ),
+                                    ),
+                                  ),
+                                ),
+                              ),
+                            ),
+                          ),
+                        ),
+                      ),
+                    ),
+                  ),
+                ),
+              ),
+            ),
+          )) d56
+
           d58 : Typed.Typed 𝓤 H A 𝓣 E G22 b47 Δ0 (at58 bs)
-          d58 = Typed.g-pre 𝓤 H A W 𝓣 E G22 G23 b47 Δ0 (Typed.pass T22 T23 (s21 bs)) (at57 bs) (AtSlots.g-as-by 𝓤 H A W E (λ ρ. Unit) G22 6 (Rows.arrF
-              (Referent.rtF (Referent.fInt Syntax.w8)) 16385 0) (λ x. x) (Own.told-none 𝓤 H A (G22 .slots)) λ ρ told. Repeat.whole-arr 𝓤 H A W
+          d58 = Typed.g-pre 𝓤 H A W 𝓣 E G22 G23 b47 Δ0 (Typed.pass T22 T23 (s21 bs)) (at57 bs) (AtSlots.g-as-by 𝓤 H A W
+              E (λ ρ. Unit) G22 6 (Rows.arrF (Referent.rtF (Referent.fInt Syntax.w8)) 16385 0) (λ x. x)
+              (Own.told-none 𝓤 H A (G22 .slots)) λ ρ told. Repeat.whole-arr 𝓤 H A W
               (Referent.rtF (Referent.fInt Syntax.w8)) 16385 tt ρ) d57
+
           d59 : Typed.Typed 𝓤 H A 𝓣 E G21 b48 Δ0 (at59 bs)
-          d59 = Typed.s-seq 𝓤 H A W 𝓣 E G21 G22 b10 b47 Δ0 (Typed.pass T21 T22 (s20 bs)) (at58 bs) (Repeat.t-repeat 𝓤 H A W E 𝓣 (Referent.rtF
-              (Referent.fInt Syntax.w8)) (Plain'.uint-lawful 𝓤 H A W Syntax.w8) (Copies.cRf (Referent.fInt Syntax.w8) .copy 𝓤 H A W)
-              (Plain'.uint-makes 𝓤 H A W Syntax.w8) 16385 G21 6 (Scalar.oInt Syntax.w8 65) (λ m. 65) (Reads'.room-gone 𝓤 H A (Syntax.tyArray
-              (Syntax.tyInt Syntax.w8) 16385)) tt Path.refl λ m wa. (Path.refl, Dec.lit< tt)) d58
+          d59 = Typed.s-seq 𝓤 H A W 𝓣 E G21 G22 b10 b47 Δ0 (Typed.pass T21 T22 (s20 bs)) (at58 bs) (Repeat.t-repeat 𝓤 H
+              A W E 𝓣 (Referent.rtF (Referent.fInt Syntax.w8)) (Plain'.uint-lawful 𝓤 H A W Syntax.w8)
+              (Copies.cRf (Referent.fInt Syntax.w8) .copy 𝓤 H A W) (Plain'.uint-makes 𝓤 H A W Syntax.w8) 16385 G21 6
+              (Scalar.oInt Syntax.w8 65) (λ m. 65) (Reads'.room-gone 𝓤 H A
+              (Syntax.tyArray (Syntax.tyInt Syntax.w8) 16385)) tt Path.refl λ m wa. (Path.refl, Dec.lit< tt)) d58
+
           d60 : Typed.Typed 𝓤 H A 𝓣 E G20 b48 Δ0 (at60 bs)
-          d60 = Typed.g-pre 𝓤 H A W 𝓣 E G20 G21 b48 Δ0 (Typed.pass T20 T21 (s19 bs)) (at59 bs) (AtSlots.g-as-by 𝓤 H A W E (λ ρ. Unit) G20 5 (Rows.arrF
-              (Referent.rtF (Referent.fInt Syntax.w32)) 4136 0) (λ x. x) (Own.told-none 𝓤 H A (G20 .slots)) λ ρ told. Repeat.whole-arr 𝓤 H A W
+          d60 = Typed.g-pre 𝓤 H A W 𝓣 E G20 G21 b48 Δ0 (Typed.pass T20 T21 (s19 bs)) (at59 bs) (AtSlots.g-as-by 𝓤 H A W
+              E (λ ρ. Unit) G20 5 (Rows.arrF (Referent.rtF (Referent.fInt Syntax.w32)) 4136 0) (λ x. x)
+              (Own.told-none 𝓤 H A (G20 .slots)) λ ρ told. Repeat.whole-arr 𝓤 H A W
               (Referent.rtF (Referent.fInt Syntax.w32)) 4136 tt ρ) d59
+
           d61 : Typed.Typed 𝓤 H A 𝓣 E G19 b49 Δ0 (at61 bs)
-          d61 = Typed.s-seq 𝓤 H A W 𝓣 E G19 G20 b9 b48 Δ0 (Typed.pass T19 T20 (s18 bs)) (at60 bs) (Repeat.t-repeat 𝓤 H A W E 𝓣 (Referent.rtF
-              (Referent.fInt Syntax.w32)) (Plain'.uint-lawful 𝓤 H A W Syntax.w32) (Copies.cRf (Referent.fInt Syntax.w32) .copy 𝓤 H A W)
-              (Plain'.uint-makes 𝓤 H A W Syntax.w32) 4136 G19 5 (Scalar.oInt Syntax.w32 0) (λ m. 0) (Reads'.room-gone 𝓤 H A (Syntax.tyArray
-              (Syntax.tyInt Syntax.w32) 4136)) tt Path.refl λ m wa. (Path.refl, Dec.lit< tt)) d60
+          d61 = Typed.s-seq 𝓤 H A W 𝓣 E G19 G20 b9 b48 Δ0 (Typed.pass T19 T20 (s18 bs)) (at60 bs) (Repeat.t-repeat 𝓤 H
+              A W E 𝓣 (Referent.rtF (Referent.fInt Syntax.w32)) (Plain'.uint-lawful 𝓤 H A W Syntax.w32)
+              (Copies.cRf (Referent.fInt Syntax.w32) .copy 𝓤 H A W) (Plain'.uint-makes 𝓤 H A W Syntax.w32) 4136 G19 5
+              (Scalar.oInt Syntax.w32 0) (λ m. 0) (Reads'.room-gone 𝓤 H A
+              (Syntax.tyArray (Syntax.tyInt Syntax.w32) 4136)) tt Path.refl λ m wa. (Path.refl, Dec.lit< tt)) d60
+
           d62 : Typed.Typed 𝓤 H A 𝓣 E G18 b49 Δ0 (at62 bs)
-          d62 = Typed.g-pre 𝓤 H A W 𝓣 E G18 G19 b49 Δ0 (Typed.pass T18 T19 (s17 bs)) (at61 bs) (Scalar.g-room 𝓤 H A W E G18 11 InflightAction.ty
-              (Local.room-whole 𝓤 H A W InflightAction.row InflightAction.ty Path.refl)) d61
+          d62 = Typed.g-pre 𝓤 H A W 𝓣 E G18 G19 b49 Δ0 (Typed.pass T18 T19 (s17 bs)) (at61 bs) (Scalar.g-room 𝓤 H A W E
+              G18 11 InflightAction.ty (Local.room-whole 𝓤 H A W InflightAction.row InflightAction.ty Path.refl)) d61
+
           d63 : Typed.Typed 𝓤 H A 𝓣 E G17 b49 Δ0 (at63 bs)
-          d63 = Typed.g-pre 𝓤 H A W 𝓣 E G17 G18 b49 Δ0 (Typed.pass T17 T18 (s16 bs)) (at62 bs) (AtSlots.g-as-by 𝓤 H A W E (λ ρ. Unit) G17 4 (Rows.arrF
-              InflightAction.row 8 0) (λ x. x) (Own.told-none 𝓤 H A (G17 .slots)) λ ρ told. Repeat.whole-arr 𝓤 H A W InflightAction.row 8 tt ρ) d62
+          d63 = Typed.g-pre 𝓤 H A W 𝓣 E G17 G18 b49 Δ0 (Typed.pass T17 T18 (s16 bs)) (at62 bs) (AtSlots.g-as-by 𝓤 H A W
+              E (λ ρ. Unit) G17 4 (Rows.arrF InflightAction.row 8 0) (λ x. x) (Own.told-none 𝓤 H A (G17 .slots)) λ ρ
+              told. Repeat.whole-arr 𝓤 H A W InflightAction.row 8 tt ρ) d62
+
           d64 : Typed.Typed 𝓤 H A 𝓣 E G16 b50 Δ0 (at64 bs)
-          d64 = Typed.s-seq 𝓤 H A W 𝓣 E G16 G17 b8 b49 Δ0 (Typed.pass T16 T17 (s15 bs)) (at63 bs) (Repeat.t-repeat-by 𝓤 H A W E 𝓣 InflightAction.row
-              (Laws''''.lawful InflightAction'.the-type Laws.the-laws 𝓤 H A W) (InflightAction.copies .copy 𝓤 H A W) 8 G16 4 (Scalar.oAt 11
-              InflightAction.ty λ x. Steps.only (InflightAction.copies .vals x)) (λ m. m .1 .1 .1 .1 .1 .1 .1 .1 .1 .1 .1 .0) (λ ρ. Unit)
-              (Reads'.room-gone 𝓤 H A (Syntax.tyArray InflightAction.ty 8)) (Reads.reads-struct 𝓤 H A W InflightAction'.the-type Laws.the-laws,
-              Path.refl,) Path.refl (Own.told-none 𝓤 H A (G16 .slots)) λ ρ m pf wa. Gives.elem-local 𝓤 H A W E ρ InflightAction.row (λ x. Steps.only
-              (InflightAction.copies .vals x)) (InflightAction.copies .tells) (Row.out 4 (G16 .locals)) m (λ ρ. Unit) pf 11 InflightAction.ty (λ x. x)
-              (Yields.yields-copy 𝓤 H A W (λ ρ. Unit) InflightAction.row Path.refl (InflightAction.copies .copy 𝓤 H A W) InflightAction.held (λ x. x)
-              (λ x. x) (λ ρ told. Local.mem-whole 𝓤 H A W InflightAction.row ρ) λ ρ told. Local.whole-mem 𝓤 H A W InflightAction.row ρ)) d63
+          d64 = Typed.s-seq 𝓤 H A W 𝓣 E G16 G17 b8 b49 Δ0 (Typed.pass T16 T17 (s15 bs)) (at63 bs) (Repeat.t-repeat-by 𝓤
+              H A W E 𝓣 InflightAction.row (Laws''''.lawful InflightAction'.the-type Laws.the-laws 𝓤 H A W)
+              (InflightAction.copies .copy 𝓤 H A W) 8 G16 4 (Scalar.oAt 11 InflightAction.ty λ x. Steps.only
+              (InflightAction.copies .vals x)) (λ m. m .1 .1 .1 .1 .1 .1 .1 .1 .1 .1 .1 .0) (λ ρ. Unit) (Reads'.room-gone
+              𝓤 H A (Syntax.tyArray InflightAction.ty 8)) (
+                Reads.reads-struct 𝓤 H A W InflightAction'.the-type Laws.the-laws,
+                Path.refl,
+              ) Path.refl (Own.told-none 𝓤 H A (G16 .slots)) λ ρ m pf wa. Gives.elem-local 𝓤 H A W E ρ
+              InflightAction.row (λ x. Steps.only (InflightAction.copies .vals x)) (InflightAction.copies .tells)
+              (Row.out 4 (G16 .locals)) m (λ ρ. Unit) pf 11 InflightAction.ty (λ x. x) (Yields.yields-copy 𝓤 H A W
+              (λ ρ. Unit) InflightAction.row Path.refl (InflightAction.copies .copy 𝓤 H A W) InflightAction.held
+              (λ x. x) (λ x. x) (λ ρ told. Local.mem-whole 𝓤 H A W InflightAction.row ρ) λ ρ told. Local.whole-mem 𝓤 H
+              A W InflightAction.row ρ)) d63
+
           d65 : Typed.Typed 𝓤 H A 𝓣 E G15 b51 Δ0 (at65 bs)
-          d65 = Typed.s-seq 𝓤 H A W 𝓣 E G15 G16 b7 b50 Δ0 (Typed.both (s14 bs)) (at64 bs) (Plain.t-call-plain 𝓤 H A W 𝓣 0 ps·3 r·3 (claims· .6)
-              (claims· .7) "cases::script::empty_action" (known .3) E (λ pos β. β) G15 tt 11 List.[] (Call.sub-id 𝓤 H A W (G15 .slots)) tt
-              (Reads'.room-gone 𝓤 H A InflightAction.ty) tt Path.refl) d64
+          d65 = Typed.s-seq 𝓤 H A W 𝓣 E G15 G16 b7 b50 Δ0 (Typed.both (s14 bs)) (at64 bs) (Plain.t-call-plain 𝓤 H A W 𝓣
+              0 ps·3 r·3 (claims· .6) (claims· .7) "cases::script::empty_action" (known .3) E (λ pos β. β) G15 tt 11
+              List.[] (Call.sub-id 𝓤 H A W (G15 .slots)) tt (Reads'.room-gone 𝓤 H A InflightAction.ty) tt Path.refl)
+              d64
+
           d66 : Typed.Typed 𝓤 H A 𝓣 E G14 b51 Δ0 (at66 bs)
-          d66 = Typed.g-pre 𝓤 H A W 𝓣 E G14 G15 b51 Δ0 (Typed.pass T14 T15 (s13 bs)) (at65 bs) (Scalar.g-room 𝓤 H A W E G14 10 ReservationUsage.ty
-              (Local.room-whole 𝓤 H A W ReservationUsage.row ReservationUsage.ty Path.refl)) d65
+          d66 = Typed.g-pre 𝓤 H A W 𝓣 E G14 G15 b51 Δ0 (Typed.pass T14 T15 (s13 bs)) (at65 bs) (Scalar.g-room 𝓤 H A W E
+              G14 10 ReservationUsage.ty (Local.room-whole 𝓤 H A W ReservationUsage.row ReservationUsage.ty Path.refl))
+              d65
+
           d67 : Typed.Typed 𝓤 H A 𝓣 E G13 b51 Δ0 (at67 bs)
-          d67 = Typed.g-pre 𝓤 H A W 𝓣 E G13 G14 b51 Δ0 (Typed.pass T13 T14 (s12 bs)) (at66 bs) (AtSlots.g-as-by 𝓤 H A W E (λ ρ. Unit) G13 3 (Rows.arrF
-              ReservationUsage.row 1 0) (λ x. x) (Own.told-none 𝓤 H A (G13 .slots)) λ ρ told. Repeat.whole-arr 𝓤 H A W ReservationUsage.row 1 tt ρ)
-              d66
+          d67 = Typed.g-pre 𝓤 H A W 𝓣 E G13 G14 b51 Δ0 (Typed.pass T13 T14 (s12 bs)) (at66 bs) (AtSlots.g-as-by 𝓤 H A W
+              E (λ ρ. Unit) G13 3 (Rows.arrF ReservationUsage.row 1 0) (λ x. x) (Own.told-none 𝓤 H A (G13 .slots)) λ ρ
+              told. Repeat.whole-arr 𝓤 H A W ReservationUsage.row 1 tt ρ) d66
+
           d68 : Typed.Typed 𝓤 H A 𝓣 E G12 b52 Δ0 (at68 bs)
-          d68 = Typed.s-seq 𝓤 H A W 𝓣 E G12 G13 b6 b51 Δ0 (Typed.ask (s11 bs)) (at67 bs) (Make.t-make-by 𝓤 H A W E 𝓣 (Array.Array ReservationUsage.row
-              1) Path.refl (Gives.arrayValOf λ x. Steps.only (ReservationUsage.copies .vals x)) (Array.array-lawful 𝓤 H A W ReservationUsage.row
-              (Laws''''.lawful ReservationUsage'.the-type Laws'''.the-laws 𝓤 H A W) 1) G12 3 ((Scalar.oAt 10 ReservationUsage.ty λ x. Steps.only
-              (ReservationUsage.copies .vals x)) ∷ List.[]) (λ m. (m .1 .1 .1 .1 .1 .1 .1 .1 .1 .1 .0) ∷ List.[]) (λ m. Unit) (λ m. Unit) (λ ρ. Unit)
-              (Reads'.room-gone 𝓤 H A (Syntax.tyArray ReservationUsage.ty 1)) ((Reads.reads-struct 𝓤 H A W ReservationUsage'.the-type
-              Laws'''.the-laws, Path.refl,), tt,) Path.refl (λ ρ m. Make.tells-none 𝓤 H A W E ρ (Row.out 3 (G12 .locals)) m) (Own.told-none 𝓤 H A (G12
-              .slots)) (λ m q k wa. Path.refl) λ ρ m pf q k wa. Gives.gives-array 𝓤 H A W E ρ ReservationUsage.row (λ x. Steps.only
-              (ReservationUsage.copies .vals x)) 1 (Row.out 3 (G12 .locals)) m ((m .1 .1 .1 .1 .1 .1 .1 .1 .1 .1 .0) ∷ List.[]) (Row.out 3 (G12
-              .locals)) m Path.refl (Gives.each-cons 𝓤 H A W E ρ ReservationUsage.row (λ x. Steps.only (ReservationUsage.copies .vals x)) (Row.out 3
-              (G12 .locals)) m (m .1 .1 .1 .1 .1 .1 .1 .1 .1 .1 .0) (Row.out 3 (G12 .locals)) m List.[] (Row.out 3 (G12 .locals)) m (Gives.elem-local
-              𝓤 H A W E ρ ReservationUsage.row (λ x. Steps.only (ReservationUsage.copies .vals x)) (ReservationUsage.copies .tells) (Row.out 3 (G12
-              .locals)) m (λ ρ. Unit) pf 10 ReservationUsage.ty (λ x. x) (Yields.yields-copy 𝓤 H A W (λ ρ. Unit) ReservationUsage.row Path.refl
-              (ReservationUsage.copies .copy 𝓤 H A W) ReservationUsage.held (λ x. x) (λ x. x) (λ ρ told. Local.mem-whole 𝓤 H A W ReservationUsage.row
-              ρ) λ ρ told. Local.whole-mem 𝓤 H A W ReservationUsage.row ρ)) (Gives.each-nil 𝓤 H A W E ρ ReservationUsage.row (λ x. Steps.only
-              (ReservationUsage.copies .vals x)) (Row.out 3 (G12 .locals)) m))) d67
+          d68 = Typed.s-seq 𝓤 H A W 𝓣 E G12 G13 b6 b51 Δ0 (Typed.ask (s11 bs)) (at67 bs) (Make.t-make-by 𝓤 H A W E 𝓣
+              (Array.Array ReservationUsage.row 1) Path.refl (Gives.arrayValOf λ x. Steps.only
+              (ReservationUsage.copies .vals x)) (Array.array-lawful 𝓤 H A W ReservationUsage.row (Laws''''.lawful
+              ReservationUsage'.the-type Laws'''.the-laws 𝓤 H A W) 1) G12 3 ((Scalar.oAt 10 ReservationUsage.ty λ x.
+              Steps.only (ReservationUsage.copies .vals x)) ∷ List.[])
+              (λ m. (m .1 .1 .1 .1 .1 .1 .1 .1 .1 .1 .0) ∷ List.[]) (λ m. Unit) (λ m. Unit) (λ ρ. Unit) (Reads'.room-gone
+              𝓤 H A (Syntax.tyArray ReservationUsage.ty 1)) (
+                (Reads.reads-struct 𝓤 H A W ReservationUsage'.the-type Laws'''.the-laws, Path.refl),
+                tt,
+              ) Path.refl (λ ρ m. Make.tells-none 𝓤 H A W E ρ (Row.out 3 (G12 .locals)) m)
+              (Own.told-none 𝓤 H A (G12 .slots)) (λ m q k wa. Path.refl) λ ρ m pf q k wa. Gives.gives-array 𝓤 H A W E ρ
+              ReservationUsage.row (λ x. Steps.only (ReservationUsage.copies .vals x)) 1 (Row.out 3 (G12 .locals)) m
+              ((m .1 .1 .1 .1 .1 .1 .1 .1 .1 .1 .0) ∷ List.[]) (Row.out 3 (G12 .locals)) m Path.refl (Gives.each-cons 𝓤
+              H A W E ρ ReservationUsage.row (λ x. Steps.only (ReservationUsage.copies .vals x))
+              (Row.out 3 (G12 .locals)) m (m .1 .1 .1 .1 .1 .1 .1 .1 .1 .1 .0) (Row.out 3 (G12 .locals)) m List.[]
+              (Row.out 3 (G12 .locals)) m (Gives.elem-local 𝓤 H A W E ρ ReservationUsage.row
+              (λ x. Steps.only (ReservationUsage.copies .vals x)) (ReservationUsage.copies .tells)
+              (Row.out 3 (G12 .locals)) m (λ ρ. Unit) pf 10 ReservationUsage.ty (λ x. x) (Yields.yields-copy 𝓤 H A W
+              (λ ρ. Unit) ReservationUsage.row Path.refl (ReservationUsage.copies .copy 𝓤 H A W) ReservationUsage.held
+              (λ x. x) (λ x. x) (λ ρ told. Local.mem-whole 𝓤 H A W ReservationUsage.row ρ) λ ρ told. Local.whole-mem 𝓤
+              H A W ReservationUsage.row ρ)) (Gives.each-nil 𝓤 H A W E ρ ReservationUsage.row
+              (λ x. Steps.only (ReservationUsage.copies .vals x)) (Row.out 3 (G12 .locals)) m))) d67
+
           d69 : Typed.Typed 𝓤 H A 𝓣 E G11 b53 Δ0 (at69 bs)
-          d69 = Typed.s-seq 𝓤 H A W 𝓣 E G11 G12 b5 b52 Δ0 (Typed.both (s10 bs)) (at68 bs) (Plain.t-call-plain 𝓤 H A W 𝓣 0 ps·2 r·2 (claims· .4)
-              (claims· .5) "cases::script::empty_usage" (known .2) E (λ pos β. β) G11 tt 10 List.[] (Call.sub-id 𝓤 H A W (G11 .slots)) tt
-              (Reads'.room-gone 𝓤 H A ReservationUsage.ty) tt Path.refl) d68
+          d69 = Typed.s-seq 𝓤 H A W 𝓣 E G11 G12 b5 b52 Δ0 (Typed.both (s10 bs)) (at68 bs) (Plain.t-call-plain 𝓤 H A W 𝓣
+              0 ps·2 r·2 (claims· .4) (claims· .5) "cases::script::empty_usage" (known .2) E (λ pos β. β) G11 tt 10
+              List.[] (Call.sub-id 𝓤 H A W (G11 .slots)) tt (Reads'.room-gone 𝓤 H A ReservationUsage.ty) tt Path.refl)
+              d68
+
           d70 : Typed.Typed 𝓤 H A 𝓣 E G10 b53 Δ0 (at70 bs)
-          d70 = Typed.g-pre 𝓤 H A W 𝓣 E G10 G11 b53 Δ0 (Typed.pass T10 T11 (s9 bs)) (at69 bs) (Scalar.g-room 𝓤 H A W E G10 9 RelayCircuit.ty
-              (Local.room-whole 𝓤 H A W RelayCircuit.row RelayCircuit.ty Path.refl)) d69
+          d70 = Typed.g-pre 𝓤 H A W 𝓣 E G10 G11 b53 Δ0 (Typed.pass T10 T11 (s9 bs)) (at69 bs) (Scalar.g-room 𝓤 H A W E
+              G10 9 RelayCircuit.ty (Local.room-whole 𝓤 H A W RelayCircuit.row RelayCircuit.ty Path.refl)) d69
+
           d71 : Typed.Typed 𝓤 H A 𝓣 E G9 b53 Δ0 (at71 bs)
-          d71 = Typed.g-pre 𝓤 H A W 𝓣 E G9 G10 b53 Δ0 (Typed.pass T9 T10 (s8 bs)) (at70 bs) (AtSlots.g-as-by 𝓤 H A W E (λ ρ. Unit) G9 2 (Rows.arrF
-              RelayCircuit.row 2 0) (λ x. x) (Own.told-none 𝓤 H A (G9 .slots)) λ ρ told. Repeat.whole-arr 𝓤 H A W RelayCircuit.row 2 tt ρ) d70
+          d71 = Typed.g-pre 𝓤 H A W 𝓣 E G9 G10 b53 Δ0 (Typed.pass T9 T10 (s8 bs)) (at70 bs) (AtSlots.g-as-by 𝓤 H A W E
+              (λ ρ. Unit) G9 2 (Rows.arrF RelayCircuit.row 2 0) (λ x. x) (Own.told-none 𝓤 H A (G9 .slots)) λ ρ told.
+              Repeat.whole-arr 𝓤 H A W RelayCircuit.row 2 tt ρ) d70
+
           d72 : Typed.Typed 𝓤 H A 𝓣 E G8 b54 Δ0 (at72 bs)
-          d72 = Typed.s-seq 𝓤 H A W 𝓣 E G8 G9 b4 b53 Δ0 (Typed.pass T8 T9 (s7 bs)) (at71 bs) (Repeat.t-repeat-by 𝓤 H A W E 𝓣 RelayCircuit.row
-              (Laws''''.lawful RelayCircuit'.the-type Laws'.the-laws 𝓤 H A W) (RelayCircuit.copies .copy 𝓤 H A W) 2 G8 2 (Scalar.oAt 9 RelayCircuit.ty
-              λ x. Steps.only (RelayCircuit.copies .vals x)) (λ m. m .1 .1 .1 .1 .1 .1 .1 .1 .1 .0) (λ ρ. Unit) (Reads'.room-gone 𝓤 H A
-              (Syntax.tyArray RelayCircuit.ty 2)) (Reads.reads-struct 𝓤 H A W RelayCircuit'.the-type Laws'.the-laws, Path.refl,) Path.refl
-              (Own.told-none 𝓤 H A (G8 .slots)) λ ρ m pf wa. Gives.elem-local 𝓤 H A W E ρ RelayCircuit.row (λ x. Steps.only (RelayCircuit.copies .vals
-              x)) (RelayCircuit.copies .tells) (Row.out 2 (G8 .locals)) m (λ ρ. Unit) pf 9 RelayCircuit.ty (λ x. x) (Yields.yields-copy 𝓤 H A W (λ ρ.
-              Unit) RelayCircuit.row Path.refl (RelayCircuit.copies .copy 𝓤 H A W) RelayCircuit.held (λ x. x) (λ x. x) (λ ρ told. Local.mem-whole 𝓤 H
-              A W RelayCircuit.row ρ) λ ρ told. Local.whole-mem 𝓤 H A W RelayCircuit.row ρ)) d71
+          d72 = Typed.s-seq 𝓤 H A W 𝓣 E G8 G9 b4 b53 Δ0 (Typed.pass T8 T9 (s7 bs)) (at71 bs) (Repeat.t-repeat-by 𝓤 H A
+              W E 𝓣 RelayCircuit.row (Laws''''.lawful RelayCircuit'.the-type Laws'.the-laws 𝓤 H A W)
+              (RelayCircuit.copies .copy 𝓤 H A W) 2 G8 2 (Scalar.oAt 9 RelayCircuit.ty λ x. Steps.only
+              (RelayCircuit.copies .vals x)) (λ m. m .1 .1 .1 .1 .1 .1 .1 .1 .1 .0) (λ ρ. Unit)
+              (Reads'.room-gone 𝓤 H A (Syntax.tyArray RelayCircuit.ty 2)) (
+                Reads.reads-struct 𝓤 H A W RelayCircuit'.the-type Laws'.the-laws,
+                Path.refl,
+              ) Path.refl (Own.told-none 𝓤 H A (G8 .slots)) λ ρ m pf wa. Gives.elem-local 𝓤 H A W E ρ RelayCircuit.row
+              (λ x. Steps.only (RelayCircuit.copies .vals x)) (RelayCircuit.copies .tells) (Row.out 2 (G8 .locals)) m
+              (λ ρ. Unit) pf 9 RelayCircuit.ty (λ x. x) (Yields.yields-copy 𝓤 H A W (λ ρ. Unit) RelayCircuit.row
+              Path.refl (RelayCircuit.copies .copy 𝓤 H A W) RelayCircuit.held (λ x. x) (λ x. x)
+              (λ ρ told. Local.mem-whole 𝓤 H A W RelayCircuit.row ρ) λ ρ told. Local.whole-mem 𝓤 H A W RelayCircuit.row
+              ρ)) d71
+
           d73 : Typed.Typed 𝓤 H A 𝓣 E G7 b55 Δ0 (at73 bs)
-          d73 = Typed.s-seq 𝓤 H A W 𝓣 E G7 G8 b3 b54 Δ0 (Typed.both (s6 bs)) (at72 bs) (Plain.t-call-plain 𝓤 H A W 𝓣 0 ps·1 r·1 (claims· .2) (claims·
-              .3) "cases::script::empty_circuit" (known .1) E (λ pos β. β) G7 tt 9 List.[] (Call.sub-id 𝓤 H A W (G7 .slots)) tt (Reads'.room-gone 𝓤 H
-              A RelayCircuit.ty) tt Path.refl) d72
+          d73 = Typed.s-seq 𝓤 H A W 𝓣 E G7 G8 b3 b54 Δ0 (Typed.both (s6 bs)) (at72 bs) (Plain.t-call-plain 𝓤 H A W 𝓣 0
+              ps·1 r·1 (claims· .2) (claims· .3) "cases::script::empty_circuit" (known .1) E (λ pos β. β) G7 tt 9
+              List.[] (Call.sub-id 𝓤 H A W (G7 .slots)) tt (Reads'.room-gone 𝓤 H A RelayCircuit.ty) tt Path.refl) d72
+
           d74 : Typed.Typed 𝓤 H A 𝓣 E G6 b55 Δ0 (at74 bs)
-          d74 = Typed.g-pre 𝓤 H A W 𝓣 E G6 G7 b55 Δ0 (Typed.pass T6 T7 (s5 bs)) (at73 bs) (Scalar.g-room 𝓤 H A W E G6 8 RelayPending.ty
-              (Local.room-whole 𝓤 H A W RelayPending.row RelayPending.ty Path.refl)) d73
+          d74 = Typed.g-pre 𝓤 H A W 𝓣 E G6 G7 b55 Δ0 (Typed.pass T6 T7 (s5 bs)) (at73 bs) (Scalar.g-room 𝓤 H A W E G6 8
+              RelayPending.ty (Local.room-whole 𝓤 H A W RelayPending.row RelayPending.ty Path.refl)) d73
+
           d75 : Typed.Typed 𝓤 H A 𝓣 E G5 b55 Δ0 (at75 bs)
-          d75 = Typed.g-pre 𝓤 H A W 𝓣 E G5 G6 b55 Δ0 (Typed.pass T5 T6 (s4 bs)) (at74 bs) (AtSlots.g-as-by 𝓤 H A W E (λ ρ. Unit) G5 1 (Rows.arrF
-              RelayPending.row 2 0) (λ x. x) (Own.told-none 𝓤 H A (G5 .slots)) λ ρ told. Repeat.whole-arr 𝓤 H A W RelayPending.row 2 tt ρ) d74
+          d75 = Typed.g-pre 𝓤 H A W 𝓣 E G5 G6 b55 Δ0 (Typed.pass T5 T6 (s4 bs)) (at74 bs) (AtSlots.g-as-by 𝓤 H A W E
+              (λ ρ. Unit) G5 1 (Rows.arrF RelayPending.row 2 0) (λ x. x) (Own.told-none 𝓤 H A (G5 .slots)) λ ρ told.
+              Repeat.whole-arr 𝓤 H A W RelayPending.row 2 tt ρ) d74
+
           d76 : Typed.Typed 𝓤 H A 𝓣 E G4 b56 Δ0 (at76 bs)
-          d76 = Typed.s-seq 𝓤 H A W 𝓣 E G4 G5 b2 b55 Δ0 (Typed.pass T4 T5 (s3 bs)) (at75 bs) (Repeat.t-repeat-by 𝓤 H A W E 𝓣 RelayPending.row
-              (Laws''''.lawful RelayPending'.the-type Laws''.the-laws 𝓤 H A W) (RelayPending.copies .copy 𝓤 H A W) 2 G4 1 (Scalar.oAt 8
-              RelayPending.ty λ x. Steps.only (RelayPending.copies .vals x)) (λ m. m .1 .1 .1 .1 .1 .1 .1 .1 .0) (λ ρ. Unit) (Reads'.room-gone 𝓤 H A
-              (Syntax.tyArray RelayPending.ty 2)) (Reads.reads-struct 𝓤 H A W RelayPending'.the-type Laws''.the-laws, Path.refl,) Path.refl
-              (Own.told-none 𝓤 H A (G4 .slots)) λ ρ m pf wa. Gives.elem-local 𝓤 H A W E ρ RelayPending.row (λ x. Steps.only (RelayPending.copies .vals
-              x)) (RelayPending.copies .tells) (Row.out 1 (G4 .locals)) m (λ ρ. Unit) pf 8 RelayPending.ty (λ x. x) (Yields.yields-copy 𝓤 H A W (λ ρ.
-              Unit) RelayPending.row Path.refl (RelayPending.copies .copy 𝓤 H A W) RelayPending.held (λ x. x) (λ x. x) (λ ρ told. Local.mem-whole 𝓤 H
-              A W RelayPending.row ρ) λ ρ told. Local.whole-mem 𝓤 H A W RelayPending.row ρ)) d75
+          d76 = Typed.s-seq 𝓤 H A W 𝓣 E G4 G5 b2 b55 Δ0 (Typed.pass T4 T5 (s3 bs)) (at75 bs) (Repeat.t-repeat-by 𝓤 H A
+              W E 𝓣 RelayPending.row (Laws''''.lawful RelayPending'.the-type Laws''.the-laws 𝓤 H A W)
+              (RelayPending.copies .copy 𝓤 H A W) 2 G4 1 (Scalar.oAt 8 RelayPending.ty λ x. Steps.only
+              (RelayPending.copies .vals x)) (λ m. m .1 .1 .1 .1 .1 .1 .1 .1 .0) (λ ρ. Unit)
+              (Reads'.room-gone 𝓤 H A (Syntax.tyArray RelayPending.ty 2)) (
+                Reads.reads-struct 𝓤 H A W RelayPending'.the-type Laws''.the-laws,
+                Path.refl,
+              ) Path.refl (Own.told-none 𝓤 H A (G4 .slots)) λ ρ m pf wa. Gives.elem-local 𝓤 H A W E ρ RelayPending.row
+              (λ x. Steps.only (RelayPending.copies .vals x)) (RelayPending.copies .tells) (Row.out 1 (G4 .locals)) m
+              (λ ρ. Unit) pf 8 RelayPending.ty (λ x. x) (Yields.yields-copy 𝓤 H A W (λ ρ. Unit) RelayPending.row
+              Path.refl (RelayPending.copies .copy 𝓤 H A W) RelayPending.held (λ x. x) (λ x. x)
+              (λ ρ told. Local.mem-whole 𝓤 H A W RelayPending.row ρ) λ ρ told. Local.whole-mem 𝓤 H A W RelayPending.row
+              ρ)) d75
+
           d77 : Typed.Typed 𝓤 H A 𝓣 E G3 b57 Δ0 (at77 bs)
-          d77 = Typed.s-seq 𝓤 H A W 𝓣 E G3 G4 b1 b56 Δ0 (Typed.both (s2 bs)) (at76 bs) (Plain.t-call-plain 𝓤 H A W 𝓣 0 ps·0 r·0 (claims· .0) (claims·
-              .1) "cases::script::empty_pending" (known .0) E (λ pos β. β) G3 tt 8 List.[] (Call.sub-id 𝓤 H A W (G3 .slots)) tt (Reads'.room-gone 𝓤 H
-              A RelayPending.ty) tt Path.refl) d76
+          d77 = Typed.s-seq 𝓤 H A W 𝓣 E G3 G4 b1 b56 Δ0 (Typed.both (s2 bs)) (at76 bs) (Plain.t-call-plain 𝓤 H A W 𝓣 0
+              ps·0 r·0 (claims· .0) (claims· .1) "cases::script::empty_pending" (known .0) E (λ pos β. β) G3 tt 8
+              List.[] (Call.sub-id 𝓤 H A W (G3 .slots)) tt (Reads'.room-gone 𝓤 H A RelayPending.ty) tt Path.refl) d76
+
           d78 : Typed.Typed 𝓤 H A 𝓣 E G2 b57 Δ0 (at78 bs)
-          d78 = Typed.g-pre 𝓤 H A W 𝓣 E G2 G3 b57 Δ0 (Typed.pass T2 T3 (s1 bs)) (at77 bs) (AtSlots.g-as-by 𝓤 H A W E (λ ρ. Unit) G2 7 (Rows.arrF
-              (Referent.rtF (Referent.fInt Syntax.w8)) 12 0) (λ x. x) (Own.told-none 𝓤 H A (G2 .slots)) λ ρ told. Repeat.whole-arr 𝓤 H A W
+          d78 = Typed.g-pre 𝓤 H A W 𝓣 E G2 G3 b57 Δ0 (Typed.pass T2 T3 (s1 bs)) (at77 bs) (AtSlots.g-as-by 𝓤 H A W E
+              (λ ρ. Unit) G2 7 (Rows.arrF (Referent.rtF (Referent.fInt Syntax.w8)) 12 0) (λ x. x)
+              (Own.told-none 𝓤 H A (G2 .slots)) λ ρ told. Repeat.whole-arr 𝓤 H A W
               (Referent.rtF (Referent.fInt Syntax.w8)) 12 tt ρ) d77
+
           d79 : Typed.Typed 𝓤 H A 𝓣 E G0 b58 Δ0 (at79 bs)
-          d79 = Typed.s-seq 𝓤 H A W 𝓣 E G0 G2 b0 b57 Δ0 (Typed.pass T0 T2 (s0 bs)) (at78 bs) (Make.t-make-wt 𝓤 H A W E 𝓣 (Array.Array (Referent.rtF
-              (Referent.fInt Syntax.w8)) 12) Path.refl (Gives.arrayValOf λ x. Steps.only (Copies.cRf (Referent.fInt Syntax.w8) .vals x))
-              (Array.array-lawful 𝓤 H A W (Referent.rtF (Referent.fInt Syntax.w8)) (Plain'.uint-lawful 𝓤 H A W Syntax.w8) 12) (Array.array-makes 𝓤 H A
-              W (Referent.rtF (Referent.fInt Syntax.w8)) (Plain'.uint-makes 𝓤 H A W Syntax.w8) 12) G0 7 ((Scalar.oInt Syntax.w8 99) ∷ (Scalar.oInt
-              Syntax.w8 97) ∷ (Scalar.oInt Syntax.w8 115) ∷ (Scalar.oInt Syntax.w8 101) ∷ (Scalar.oInt Syntax.w8 32) ∷ (Scalar.oInt Syntax.w8 97) ∷
-              (Scalar.oInt Syntax.w8 110) ∷ (Scalar.oInt Syntax.w8 115) ∷ (Scalar.oInt Syntax.w8 119) ∷ (Scalar.oInt Syntax.w8 101) ∷ (Scalar.oInt
-              Syntax.w8 114) ∷ (Scalar.oInt Syntax.w8 10) ∷ List.[]) (λ m. 99 ∷ 97 ∷ 115 ∷ 101 ∷ 32 ∷ 97 ∷ 110 ∷ 115 ∷ 119 ∷ 101 ∷ 114 ∷ 10 ∷ List.[])
-              (Reads'.room-gone 𝓤 H A (Syntax.tyArray (Syntax.tyInt Syntax.w8) 12)) (tt, (tt, (tt, (tt, (tt, (tt, (tt, (tt, (tt, (tt, (tt, (tt,
-              tt))))))))))),) Path.refl (λ m wa. Path.refl) λ m wa. ((Row.valS (Row.sInt Syntax.w8) 99) ∷ (Row.valS (Row.sInt Syntax.w8) 97) ∷
-              (Row.valS (Row.sInt Syntax.w8) 115) ∷ (Row.valS (Row.sInt Syntax.w8) 101) ∷ (Row.valS (Row.sInt Syntax.w8) 32) ∷ (Row.valS (Row.sInt
-              Syntax.w8) 97) ∷ (Row.valS (Row.sInt Syntax.w8) 110) ∷ (Row.valS (Row.sInt Syntax.w8) 115) ∷ (Row.valS (Row.sInt Syntax.w8) 119) ∷
-              (Row.valS (Row.sInt Syntax.w8) 101) ∷ (Row.valS (Row.sInt Syntax.w8) 114) ∷ (Row.valS (Row.sInt Syntax.w8) 10) ∷ List.[], ((Path.refl,
-              Path.refl), ((Path.refl, Dec.lit< tt), ((Path.refl, Dec.lit< tt), ((Path.refl, Dec.lit< tt), ((Path.refl, Dec.lit< tt), ((Path.refl,
-              Dec.lit< tt), ((Path.refl, Dec.lit< tt), ((Path.refl, Dec.lit< tt), ((Path.refl, Dec.lit< tt), ((Path.refl, Dec.lit< tt), ((Path.refl,
-              Dec.lit< tt), ((Path.refl, Dec.lit< tt), ((Path.refl, Dec.lit< tt), tt),),),),),),),),),),),),),)) d78
-          pub typed : Typed.Typed 𝓤 H A 𝓣 E (Function.Γin 0 ps r xs m κs qs) b58 (Function.Δret 0 ps r xs m κs qs) (Φ bs)
+          d79 = Typed.s-seq 𝓤 H A W 𝓣 E G0 G2 b0 b57 Δ0 (Typed.pass T0 T2 (s0 bs)) (at78 bs) (Make.t-make-wt 𝓤 H A W E
+              𝓣 (Array.Array (Referent.rtF (Referent.fInt Syntax.w8)) 12) Path.refl (Gives.arrayValOf λ x. Steps.only
+              (Copies.cRf (Referent.fInt Syntax.w8) .vals x)) (Array.array-lawful 𝓤 H A W
+              (Referent.rtF (Referent.fInt Syntax.w8)) (Plain'.uint-lawful 𝓤 H A W Syntax.w8) 12) (Array.array-makes 𝓤
+              H A W (Referent.rtF (Referent.fInt Syntax.w8)) (Plain'.uint-makes 𝓤 H A W Syntax.w8) 12) G0 7 ((Scalar.oInt
+              Syntax.w8 99) ∷ (Scalar.oInt Syntax.w8 97) ∷ (Scalar.oInt Syntax.w8 115) ∷ (Scalar.oInt Syntax.w8 101) ∷
+              (Scalar.oInt Syntax.w8 32) ∷ (Scalar.oInt Syntax.w8 97) ∷ (Scalar.oInt Syntax.w8 110) ∷
+              (Scalar.oInt Syntax.w8 115) ∷ (Scalar.oInt Syntax.w8 119) ∷ (Scalar.oInt Syntax.w8 101) ∷
+              (Scalar.oInt Syntax.w8 114) ∷ (Scalar.oInt Syntax.w8 10) ∷ List.[]) (λ m. 99 ∷ 97 ∷ 115 ∷ 101 ∷ 32 ∷ 97 ∷
+              110 ∷ 115 ∷ 119 ∷ 101 ∷ 114 ∷ 10 ∷ List.[]) (Reads'.room-gone 𝓤 H A
+              (Syntax.tyArray (Syntax.tyInt Syntax.w8) 12)) (
+                tt,
+                (tt, (tt, (tt, (tt, (tt, (tt, (tt, (tt, (tt, (tt, (tt, tt))))))))))),
+              ) Path.refl (λ m wa. Path.refl) λ m wa. (
+                (Row.valS (Row.sInt Syntax.w8) 99) ∷ (Row.valS (Row.sInt Syntax.w8) 97) ∷
+                    (Row.valS (Row.sInt Syntax.w8) 115) ∷ (Row.valS (Row.sInt Syntax.w8) 101) ∷
+                    (Row.valS (Row.sInt Syntax.w8) 32) ∷ (Row.valS (Row.sInt Syntax.w8) 97) ∷
+                    (Row.valS (Row.sInt Syntax.w8) 110) ∷ (Row.valS (Row.sInt Syntax.w8) 115) ∷
+                    (Row.valS (Row.sInt Syntax.w8) 119) ∷ (Row.valS (Row.sInt Syntax.w8) 101) ∷
+                    (Row.valS (Row.sInt Syntax.w8) 114) ∷ (Row.valS (Row.sInt Syntax.w8) 10) ∷ List.[],
+                (
+                  (Path.refl, Path.refl),
+                  (
+                    (Path.refl, Dec.lit< tt),
+                    (
+                      (Path.refl, Dec.lit< tt),
+                      (
+                        (Path.refl, Dec.lit< tt),
+                        (
+                          (Path.refl, Dec.lit< tt),
+                          (
+                            (Path.refl, Dec.lit< tt),
+                            (
+                              (Path.refl, Dec.lit< tt),
+                              (
+                                (Path.refl, Dec.lit< tt),
+                                (
+                                  (Path.refl, Dec.lit< tt),
+                                  (
+                                    (Path.refl, Dec.lit< tt),
+                                    (
+                                      (Path.refl, Dec.lit< tt),
+                                      ((Path.refl, Dec.lit< tt), ((Path.refl, Dec.lit< tt), tt)),
+                                    ),
+                                  ),
+                                ),
+                              ),
+                            ),
+                          ),
+                        ),
+                      ),
+                    ),
+                  ),
+                ),
+              )) d78
+
+          pub typed : Typed.Typed 𝓤 H A 𝓣 E (Function.Γin 0 ps r xs m κs qs) b58 (Function.Δret 0 ps r xs m κs qs)
+              (Φ bs)
           typed = d79
+
       pub record Args : Type 0 where
+
       abbrev pub dens : (a : Args) → Kinds.Dens tt ps
       dens = λ a. tt
+
       abbrev pub m0 : (args : Args) → (blocks : List.List Nat.ℕ) → Typed.Mo T0
       m0 = λ args blocks. (tt, Enter.partsP tt 1 ps xs (dens args))
+
       abbrev W0 : (args : Args) → (blocks : List.List Nat.ℕ) → Typed.Want O0
-      W0 = λ args blocks. (λ u. ⊥, tt, λ u. Enter.Fixs tt 1 ps xs (dens args) (u .1) × Post· tt (dens args) (Function.resV r tt (u .0))
-          (Clauses.atExit (Kinds.endedOf 0 ps r) tt (dens args) (Enter.lastsP tt 1 ps xs (dens args) (u .1))),)
+      W0 = λ args blocks. (
+        λ u. ⊥,
+        tt,
+        λ u. Enter.Fixs tt 1 ps xs (dens args) (u .1) × Post· tt (dens args) (Function.resV r tt (u .0)) (Clauses.atExit
+            (Kinds.endedOf 0 ps r) tt (dens args) (Enter.lastsP tt 1 ps xs (dens args) (u .1))),
+      )
+
       pub record Start : Type 0 where
         pub args : Args
         pub blocks : List.List Nat.ℕ
         pub good : Kinds.GoodsP tt ps (dens args)
         pub pre : Pre· tt (dens args)
+
       abbrev pub m1 : (args : Args) → (blocks : List.List Nat.ℕ) → Typed.Mo T2
       m1 = λ args blocks. s0 blocks (m0 args blocks)
+
       abbrev pub m2 : (args : Args) → (blocks : List.List Nat.ℕ) → Typed.Mo T3
       m2 = λ args blocks. s1 blocks (m1 args blocks)
+
       abbrev pub Need-empty-pending-requires : Type 0
       Need-empty-pending-requires = (c : Start) → s2 (c .blocks) .asks (m2 (c .args) (c .blocks))
-      abbrev pub m3 : (before : Start) → (given : s2 (before .blocks) .gives (m2 (before .args) (before .blocks))) → Typed.Mo T4
+
+      abbrev pub m3 : (before : Start) → (given : s2 (before .blocks) .gives (m2 (before .args) (before .blocks))) →
+          Typed.Mo T4
       m3 = λ before given. s2 (before .blocks) .next (m2 (before .args) (before .blocks)) given
+
       module _ (before· : Start) where
         abbrev pub After-empty-pending·own : Type 0
         After-empty-pending·own = Called.Called ps·0 r·0 (claims· .1) T3 tt (m2 (before· .args) (before· .blocks))
+
       pub record After-empty-pending : Type 0 where
         pub before : Start
         pub empty-pending : After-empty-pending·own before
-      abbrev pub After-empty-pending·gave : (c : After-empty-pending) → s2 (c .before .blocks) .gives (m2 (c .before .args) (c .before .blocks))
-      After-empty-pending·gave = λ c. Called.given ps·0 r·0 (claims· .1) T3 tt (m2 (c .before .args) (c .before .blocks)) (c .empty-pending)
-      abbrev pub m4 : (before : Start) → (given : s2 (before .blocks) .gives (m2 (before .args) (before .blocks))) → Typed.Mo T5
+
+      abbrev pub After-empty-pending·gave : (c : After-empty-pending) → s2 (c .before .blocks) .gives
+          (m2 (c .before .args) (c .before .blocks))
+      After-empty-pending·gave = λ c. Called.given ps·0 r·0 (claims· .1) T3 tt
+          (m2 (c .before .args) (c .before .blocks)) (c .empty-pending)
+
+      abbrev pub m4 : (before : Start) → (given : s2 (before .blocks) .gives (m2 (before .args) (before .blocks))) →
+          Typed.Mo T5
       m4 = λ before given. s3 (before .blocks) (m3 before given)
-      abbrev pub m5 : (before : Start) → (given : s2 (before .blocks) .gives (m2 (before .args) (before .blocks))) → Typed.Mo T6
+
+      abbrev pub m5 : (before : Start) → (given : s2 (before .blocks) .gives (m2 (before .args) (before .blocks))) →
+          Typed.Mo T6
       m5 = λ before given. s4 (before .blocks) (m4 before given)
-      abbrev pub m6 : (before : Start) → (given : s2 (before .blocks) .gives (m2 (before .args) (before .blocks))) → Typed.Mo T7
+
+      abbrev pub m6 : (before : Start) → (given : s2 (before .blocks) .gives (m2 (before .args) (before .blocks))) →
+          Typed.Mo T7
       m6 = λ before given. s5 (before .blocks) (m5 before given)
+
       abbrev pub Need-empty-circuit-requires : Type 0
-      Need-empty-circuit-requires = (c : After-empty-pending) → s6 (c .before .blocks) .asks (m6 (c .before) (After-empty-pending·gave c))
-      abbrev pub m7 : (before : After-empty-pending) → (given : s6 (before .before .blocks) .gives (m6 (before .before) (After-empty-pending·gave
-          before))) → Typed.Mo T8
-      m7 = λ before given. s6 (before .before .blocks) .next (m6 (before .before) (After-empty-pending·gave before)) given
+      Need-empty-circuit-requires = (c : After-empty-pending) → s6 (c .before .blocks) .asks
+          (m6 (c .before) (After-empty-pending·gave c))
+
+      abbrev pub m7 : (before : After-empty-pending) → (given : s6 (before .before .blocks) .gives
+          (m6 (before .before) (After-empty-pending·gave before))) → Typed.Mo T8
+      m7 = λ before given. s6 (before .before .blocks) .next (m6 (before .before) (After-empty-pending·gave before))
+          given
+
       module _ (before· : After-empty-pending) where
         abbrev pub After-empty-circuit·own : Type 0
-        After-empty-circuit·own = Called.Called ps·1 r·1 (claims· .3) T7 tt (m6 (before· .before) (After-empty-pending·gave before·))
+        After-empty-circuit·own = Called.Called ps·1 r·1 (claims· .3) T7 tt
+            (m6 (before· .before) (After-empty-pending·gave before·))
+
       pub record After-empty-circuit : Type 0 where
         pub before : After-empty-pending
         pub empty-circuit : After-empty-circuit·own before
-      abbrev pub After-empty-circuit·gave : (c : After-empty-circuit) → s6 (c .before .before .blocks) .gives (m6 (c .before .before)
-          (After-empty-pending·gave (c .before)))
-      After-empty-circuit·gave = λ c. Called.given ps·1 r·1 (claims· .3) T7 tt (m6 (c .before .before) (After-empty-pending·gave (c .before))) (c
-          .empty-circuit)
-      abbrev pub m8 : (before : After-empty-pending) → (given : s6 (before .before .blocks) .gives (m6 (before .before) (After-empty-pending·gave
-          before))) → Typed.Mo T9
+
+      abbrev pub After-empty-circuit·gave : (c : After-empty-circuit) → s6 (c .before .before .blocks) .gives (m6
+          (c .before .before) (After-empty-pending·gave (c .before)))
+      After-empty-circuit·gave = λ c. Called.given ps·1 r·1 (claims· .3) T7 tt (m6 (c .before .before)
+          (After-empty-pending·gave (c .before))) (c .empty-circuit)
+
+      abbrev pub m8 : (before : After-empty-pending) → (given : s6 (before .before .blocks) .gives
+          (m6 (before .before) (After-empty-pending·gave before))) → Typed.Mo T9
       m8 = λ before given. s7 (before .before .blocks) (m7 before given)
-      abbrev pub m9 : (before : After-empty-pending) → (given : s6 (before .before .blocks) .gives (m6 (before .before) (After-empty-pending·gave
-          before))) → Typed.Mo T10
+
+      abbrev pub m9 : (before : After-empty-pending) → (given : s6 (before .before .blocks) .gives
+          (m6 (before .before) (After-empty-pending·gave before))) → Typed.Mo T10
       m9 = λ before given. s8 (before .before .blocks) (m8 before given)
-      abbrev pub m10 : (before : After-empty-pending) → (given : s6 (before .before .blocks) .gives (m6 (before .before) (After-empty-pending·gave
-          before))) → Typed.Mo T11
+
+      abbrev pub m10 : (before : After-empty-pending) → (given : s6 (before .before .blocks) .gives
+          (m6 (before .before) (After-empty-pending·gave before))) → Typed.Mo T11
       m10 = λ before given. s9 (before .before .blocks) (m9 before given)
+
       abbrev pub Need-empty-usage-requires : Type 0
-      Need-empty-usage-requires = (c : After-empty-circuit) → s10 (c .before .before .blocks) .asks (m10 (c .before) (After-empty-circuit·gave c))
-      abbrev pub m11 : (before : After-empty-circuit) → (given : s10 (before .before .before .blocks) .gives (m10 (before .before)
-          (After-empty-circuit·gave before))) → Typed.Mo T12
-      m11 = λ before given. s10 (before .before .before .blocks) .next (m10 (before .before) (After-empty-circuit·gave before)) given
+      Need-empty-usage-requires = (c : After-empty-circuit) → s10 (c .before .before .blocks) .asks
+          (m10 (c .before) (After-empty-circuit·gave c))
+
+      abbrev pub m11 : (before : After-empty-circuit) → (given : s10 (before .before .before .blocks) .gives
+          (m10 (before .before) (After-empty-circuit·gave before))) → Typed.Mo T12
+      m11 = λ before given. s10 (before .before .before .blocks) .next
+          (m10 (before .before) (After-empty-circuit·gave before)) given
+
       module _ (before· : After-empty-circuit) where
         abbrev pub After-empty-usage·own : Type 0
-        After-empty-usage·own = Called.Called ps·2 r·2 (claims· .5) T11 tt (m10 (before· .before) (After-empty-circuit·gave before·))
+        After-empty-usage·own = Called.Called ps·2 r·2 (claims· .5) T11 tt
+            (m10 (before· .before) (After-empty-circuit·gave before·))
+
       pub record After-empty-usage : Type 0 where
         pub before : After-empty-circuit
         pub empty-usage : After-empty-usage·own before
-      abbrev pub After-empty-usage·gave : (c : After-empty-usage) → s10 (c .before .before .before .blocks) .gives (m10 (c .before .before)
-          (After-empty-circuit·gave (c .before)))
-      After-empty-usage·gave = λ c. Called.given ps·2 r·2 (claims· .5) T11 tt (m10 (c .before .before) (After-empty-circuit·gave (c .before))) (c
-          .empty-usage)
-      abbrev pub m12 : (before : After-empty-circuit) → (given : s10 (before .before .before .blocks) .gives (m10 (before .before)
-          (After-empty-circuit·gave before))) → Typed.Mo T13
+
+      abbrev pub After-empty-usage·gave : (c : After-empty-usage) → s10 (c .before .before .before .blocks) .gives (m10
+          (c .before .before) (After-empty-circuit·gave (c .before)))
+      After-empty-usage·gave = λ c. Called.given ps·2 r·2 (claims· .5) T11 tt (m10 (c .before .before)
+          (After-empty-circuit·gave (c .before))) (c .empty-usage)
+
+      abbrev pub m12 : (before : After-empty-circuit) → (given : s10 (before .before .before .blocks) .gives
+          (m10 (before .before) (After-empty-circuit·gave before))) → Typed.Mo T13
       m12 = λ before given. s11 (before .before .before .blocks) .next (m11 before given)
-      abbrev pub m13 : (before : After-empty-circuit) → (given : s10 (before .before .before .blocks) .gives (m10 (before .before)
-          (After-empty-circuit·gave before))) → Typed.Mo T14
+
+      abbrev pub m13 : (before : After-empty-circuit) → (given : s10 (before .before .before .blocks) .gives
+          (m10 (before .before) (After-empty-circuit·gave before))) → Typed.Mo T14
       m13 = λ before given. s12 (before .before .before .blocks) (m12 before given)
-      abbrev pub m14 : (before : After-empty-circuit) → (given : s10 (before .before .before .blocks) .gives (m10 (before .before)
-          (After-empty-circuit·gave before))) → Typed.Mo T15
+
+      abbrev pub m14 : (before : After-empty-circuit) → (given : s10 (before .before .before .blocks) .gives
+          (m10 (before .before) (After-empty-circuit·gave before))) → Typed.Mo T15
       m14 = λ before given. s13 (before .before .before .blocks) (m13 before given)
+
       abbrev pub Need-empty-action-requires : Type 0
-      Need-empty-action-requires = (c : After-empty-usage) → s14 (c .before .before .before .blocks) .asks (m14 (c .before) (After-empty-usage·gave
-          c))
-      abbrev pub m15 : (before : After-empty-usage) → (given : s14 (before .before .before .before .blocks) .gives (m14 (before .before)
-          (After-empty-usage·gave before))) → Typed.Mo T16
-      m15 = λ before given. s14 (before .before .before .before .blocks) .next (m14 (before .before) (After-empty-usage·gave before)) given
+      Need-empty-action-requires = (c : After-empty-usage) → s14 (c .before .before .before .blocks) .asks
+          (m14 (c .before) (After-empty-usage·gave c))
+
+      abbrev pub m15 : (before : After-empty-usage) → (given : s14 (before .before .before .before .blocks) .gives
+          (m14 (before .before) (After-empty-usage·gave before))) → Typed.Mo T16
+      m15 = λ before given. s14 (before .before .before .before .blocks) .next
+          (m14 (before .before) (After-empty-usage·gave before)) given
+
       module _ (before· : After-empty-usage) where
         abbrev pub After-empty-action·own : Type 0
-        After-empty-action·own = Called.Called ps·3 r·3 (claims· .7) T15 tt (m14 (before· .before) (After-empty-usage·gave before·))
+        After-empty-action·own = Called.Called ps·3 r·3 (claims· .7) T15 tt
+            (m14 (before· .before) (After-empty-usage·gave before·))
+
       pub record After-empty-action : Type 0 where
         pub before : After-empty-usage
         pub empty-action : After-empty-action·own before
-      abbrev pub After-empty-action·gave : (c : After-empty-action) → s14 (c .before .before .before .before .blocks) .gives (m14 (c .before .before)
-          (After-empty-usage·gave (c .before)))
-      After-empty-action·gave = λ c. Called.given ps·3 r·3 (claims· .7) T15 tt (m14 (c .before .before) (After-empty-usage·gave (c .before))) (c
-          .empty-action)
-      abbrev pub m16 : (before : After-empty-usage) → (given : s14 (before .before .before .before .blocks) .gives (m14 (before .before)
-          (After-empty-usage·gave before))) → Typed.Mo T17
+
+      abbrev pub After-empty-action·gave : (c : After-empty-action) → s14 (c .before .before .before .before .blocks)
+          .gives (m14 (c .before .before) (After-empty-usage·gave (c .before)))
+      After-empty-action·gave = λ c. Called.given ps·3 r·3 (claims· .7) T15 tt (m14 (c .before .before)
+          (After-empty-usage·gave (c .before))) (c .empty-action)
+
+      abbrev pub m16 : (before : After-empty-usage) → (given : s14 (before .before .before .before .blocks) .gives
+          (m14 (before .before) (After-empty-usage·gave before))) → Typed.Mo T17
       m16 = λ before given. s15 (before .before .before .before .blocks) (m15 before given)
-      abbrev pub m17 : (before : After-empty-usage) → (given : s14 (before .before .before .before .blocks) .gives (m14 (before .before)
-          (After-empty-usage·gave before))) → Typed.Mo T18
+
+      abbrev pub m17 : (before : After-empty-usage) → (given : s14 (before .before .before .before .blocks) .gives
+          (m14 (before .before) (After-empty-usage·gave before))) → Typed.Mo T18
       m17 = λ before given. s16 (before .before .before .before .blocks) (m16 before given)
-      abbrev pub m18 : (before : After-empty-usage) → (given : s14 (before .before .before .before .blocks) .gives (m14 (before .before)
-          (After-empty-usage·gave before))) → Typed.Mo T19
+
+      abbrev pub m18 : (before : After-empty-usage) → (given : s14 (before .before .before .before .blocks) .gives
+          (m14 (before .before) (After-empty-usage·gave before))) → Typed.Mo T19
       m18 = λ before given. s17 (before .before .before .before .blocks) (m17 before given)
-      abbrev pub m19 : (before : After-empty-usage) → (given : s14 (before .before .before .before .blocks) .gives (m14 (before .before)
-          (After-empty-usage·gave before))) → Typed.Mo T20
+
+      abbrev pub m19 : (before : After-empty-usage) → (given : s14 (before .before .before .before .blocks) .gives
+          (m14 (before .before) (After-empty-usage·gave before))) → Typed.Mo T20
       m19 = λ before given. s18 (before .before .before .before .blocks) (m18 before given)
-      abbrev pub m20 : (before : After-empty-usage) → (given : s14 (before .before .before .before .blocks) .gives (m14 (before .before)
-          (After-empty-usage·gave before))) → Typed.Mo T21
+
+      abbrev pub m20 : (before : After-empty-usage) → (given : s14 (before .before .before .before .blocks) .gives
+          (m14 (before .before) (After-empty-usage·gave before))) → Typed.Mo T21
       m20 = λ before given. s19 (before .before .before .before .blocks) (m19 before given)
-      abbrev pub m21 : (before : After-empty-usage) → (given : s14 (before .before .before .before .blocks) .gives (m14 (before .before)
-          (After-empty-usage·gave before))) → Typed.Mo T22
+
+      abbrev pub m21 : (before : After-empty-usage) → (given : s14 (before .before .before .before .blocks) .gives
+          (m14 (before .before) (After-empty-usage·gave before))) → Typed.Mo T22
       m21 = λ before given. s20 (before .before .before .before .blocks) (m20 before given)
-      abbrev pub m22 : (before : After-empty-usage) → (given : s14 (before .before .before .before .blocks) .gives (m14 (before .before)
-          (After-empty-usage·gave before))) → Typed.Mo T23
+
+      abbrev pub m22 : (before : After-empty-usage) → (given : s14 (before .before .before .before .blocks) .gives
+          (m14 (before .before) (After-empty-usage·gave before))) → Typed.Mo T23
       m22 = λ before given. s21 (before .before .before .before .blocks) (m21 before given)
-      abbrev pub m23 : (before : After-empty-action) → (given : s23 (before .before .before .before .before .blocks) .gives (m22 (before .before)
-          (After-empty-action·gave before))) → Typed.Mo T25
-      m23 = λ before given. s23 (before .before .before .before .before .blocks) .next (m22 (before .before) (After-empty-action·gave before)) given
+
+      abbrev pub m23 : (before : After-empty-action) → (given : s23 (before .before .before .before .before .blocks)
+          .gives (m22 (before .before) (After-empty-action·gave before))) → Typed.Mo T25
+      m23 = λ before given. s23 (before .before .before .before .before .blocks) .next
+          (m22 (before .before) (After-empty-action·gave before)) given
+
       module _ (before· : After-empty-action) where
         pub record After-write-all-arg·own : Type 0 where
-          pub given : s23 (before· .before .before .before .before .blocks) .gives (m22 (before· .before) (After-empty-action·gave before·))
+          pub given : s23 (before· .before .before .before .before .blocks) .gives
+              (m22 (before· .before) (After-empty-action·gave before·))
+
       pub record After-write-all-arg : Type 0 where
         pub before : After-empty-action
         pub write-all-arg : After-write-all-arg·own before
+
       abbrev pub Need-slice-aggregate-write-all : Type 0
-      Need-slice-aggregate-write-all = (c : After-write-all-arg) → Relend.CountIs T25 13 14 (λ x. x) (λ u. 12) (m23 (c .before) (c .write-all-arg
-          .given))
-      abbrev pub m24 : (before : After-empty-action) → (given : s23 (before .before .before .before .before .blocks) .gives (m22 (before .before)
-          (After-empty-action·gave before))) → Typed.Mo T26
+      Need-slice-aggregate-write-all = (c : After-write-all-arg) → Relend.CountIs T25 13 14 (λ x. x) (λ u. 12)
+          (m23 (c .before) (c .write-all-arg .given))
+
+      abbrev pub m24 : (before : After-empty-action) → (given : s23 (before .before .before .before .before .blocks)
+          .gives (m22 (before .before) (After-empty-action·gave before))) → Typed.Mo T26
       m24 = λ before given. s24 (before .before .before .before .before .blocks) .next (m23 before given)
+
       abbrev pub Need-write-all-requires : Type 0
-      Need-write-all-requires = (c : After-write-all-arg) → s25 (c .before .before .before .before .before .blocks) .asks (m24 (c .before) (c
-          .write-all-arg .given))
-      abbrev pub m25 : (before : After-write-all-arg) → (given : s25 (before .before .before .before .before .before .blocks) .gives (m24 (before
-          .before) (before .write-all-arg .given))) → Typed.Mo T27
-      m25 = λ before given. s25 (before .before .before .before .before .before .blocks) .next (m24 (before .before) (before .write-all-arg .given))
-          given
+      Need-write-all-requires = (c : After-write-all-arg) → s25 (c .before .before .before .before .before .blocks)
+          .asks (m24 (c .before) (c .write-all-arg .given))
+
+      abbrev pub m25 : (before : After-write-all-arg) → (given : s25
+          (before .before .before .before .before .before .blocks) .gives
+          (m24 (before .before) (before .write-all-arg .given))) → Typed.Mo T27
+      m25 = λ before given. s25 (before .before .before .before .before .before .blocks) .next
+          (m24 (before .before) (before .write-all-arg .given)) given
+
       module _ (before· : After-write-all-arg) where
         abbrev pub After-write-all·own : Type 0
-        After-write-all·own = Called.Called ps·4 r·4 (claims· .9) T26 (Num.vLit 1, (record { pos = 14; ty = Syntax.tyRef Syntax.erased Syntax.imm
-            (Syntax.tyInt Syntax.w8); ref = λ x. x; }, tt,),) (m24 (before· .before) (before· .write-all-arg .given))
+        After-write-all·own = Called.Called ps·4 r·4 (claims· .9) T26 (
+          Num.vLit 1,
+          (record { pos = 14; ty = ref1; ref = λ x. x }, tt),
+        ) (m24 (before· .before) (before· .write-all-arg .given))
+
       pub record After-write-all : Type 0 where
         pub before : After-write-all-arg
         pub write-all : After-write-all·own before
-      abbrev pub After-write-all·gave : (c : After-write-all) → s25 (c .before .before .before .before .before .before .blocks) .gives (m24 (c .before
-          .before) (c .before .write-all-arg .given))
-      After-write-all·gave = λ c. Called.given ps·4 r·4 (claims· .9) T26 (Num.vLit 1, (record { pos = 14; ty = Syntax.tyRef Syntax.erased Syntax.imm
-          (Syntax.tyInt Syntax.w8); ref = λ x. x; }, tt,),) (m24 (c .before .before) (c .before .write-all-arg .given)) (c .write-all)
-      abbrev pub m26 : (before : After-write-all-arg) → (given : s25 (before .before .before .before .before .before .blocks) .gives (m24 (before
-          .before) (before .write-all-arg .given))) → Typed.Mo T28
+
+      abbrev pub After-write-all·gave : (c : After-write-all) → s25
+          (c .before .before .before .before .before .before .blocks) .gives
+          (m24 (c .before .before) (c .before .write-all-arg .given))
+      After-write-all·gave = λ c. Called.given ps·4 r·4 (claims· .9) T26 (
+        Num.vLit 1,
+        (record { pos = 14; ty = ref1; ref = λ x. x }, tt),
+      ) (m24 (c .before .before) (c .before .write-all-arg .given)) (c .write-all)
+
+      abbrev pub m26 : (before : After-write-all-arg) → (given : s25
+          (before .before .before .before .before .before .blocks) .gives
+          (m24 (before .before) (before .write-all-arg .given))) → Typed.Mo T28
       m26 = λ before given. s26 (before .before .before .before .before .before .blocks) (m25 before given)
-      abbrev pub m27 : (before : After-write-all-arg) → (given : s25 (before .before .before .before .before .before .blocks) .gives (m24 (before
-          .before) (before .write-all-arg .given))) → Typed.Mo T29
+
+      abbrev pub m27 : (before : After-write-all-arg) → (given : s25
+          (before .before .before .before .before .before .blocks) .gives
+          (m24 (before .before) (before .write-all-arg .given))) → Typed.Mo T29
       m27 = λ before given. s27 (before .before .before .before .before .before .blocks) (m26 before given)
-      abbrev pub m28 : (before : After-write-all-arg) → (given : s25 (before .before .before .before .before .before .blocks) .gives (m24 (before
-          .before) (before .write-all-arg .given))) → Typed.Mo T31
+
+      abbrev pub m28 : (before : After-write-all-arg) → (given : s25
+          (before .before .before .before .before .before .blocks) .gives
+          (m24 (before .before) (before .write-all-arg .given))) → Typed.Mo T31
       m28 = λ before given. s29 (before .before .before .before .before .before .blocks) (m27 before given)
-      abbrev pub m29 : (before : After-write-all-arg) → (given : s25 (before .before .before .before .before .before .blocks) .gives (m24 (before
-          .before) (before .write-all-arg .given))) → Typed.Mo T33
+
+      abbrev pub m29 : (before : After-write-all-arg) → (given : s25
+          (before .before .before .before .before .before .blocks) .gives
+          (m24 (before .before) (before .write-all-arg .given))) → Typed.Mo T33
       m29 = λ before given. s31 (before .before .before .before .before .before .blocks) (m28 before given)
-      abbrev pub m30 : (before : After-write-all) → (given : s33 (before .before .before .before .before .before .before .blocks) .gives (m29 (before
-          .before) (After-write-all·gave before))) → Typed.Mo T35
-      m30 = λ before given. s33 (before .before .before .before .before .before .before .blocks) .next (m29 (before .before) (After-write-all·gave
-          before)) given
+
+      abbrev pub m30 : (before : After-write-all) → (given : s33 (before .before .before .before .before .before
+          .before .blocks) .gives (m29 (before .before) (After-write-all·gave before))) → Typed.Mo T35
+      m30 = λ before given. s33 (before .before .before .before .before .before .before .blocks) .next
+          (m29 (before .before) (After-write-all·gave before)) given
+
       module _ (before· : After-write-all) where
         pub record After-pending·own : Type 0 where
-          pub given : s33 (before· .before .before .before .before .before .before .blocks) .gives (m29 (before· .before) (After-write-all·gave
-              before·))
+          pub given : s33 (before· .before .before .before .before .before .before .blocks) .gives
+              (m29 (before· .before) (After-write-all·gave before·))
+
       pub record After-pending : Type 0 where
         pub before : After-write-all
         pub pending : After-pending·own before
+
       abbrev pub Need-slice-aggregate-run-all : Type 0
-      Need-slice-aggregate-run-all = (c : After-pending) → Relend.CountIs T35 16 17 (λ x. x) (λ u. 2) (m30 (c .before) (c .pending .given))
-      abbrev pub m31 : (before : After-write-all) → (given : s33 (before .before .before .before .before .before .before .blocks) .gives (m29 (before
-          .before) (After-write-all·gave before))) → Typed.Mo T36
-      m31 = λ before given. s34 (before .before .before .before .before .before .before .blocks) .next (m30 before given)
-      abbrev pub m32 : (before : After-pending) → (given : s36 (before .before .before .before .before .before .before .before .blocks) .gives (m31
-          (before .before) (before .pending .given))) → Typed.Mo T38
-      m32 = λ before given. s36 (before .before .before .before .before .before .before .before .blocks) .next (m31 (before .before) (before .pending
-          .given)) given
+      Need-slice-aggregate-run-all = (c : After-pending) → Relend.CountIs T35 16 17 (λ x. x) (λ u. 2)
+          (m30 (c .before) (c .pending .given))
+
+      abbrev pub m31 : (before : After-write-all) → (given : s33 (before .before .before .before .before .before
+          .before .blocks) .gives (m29 (before .before) (After-write-all·gave before))) → Typed.Mo T36
+      m31 = λ before given. s34 (before .before .before .before .before .before .before .blocks) .next
+          (m30 before given)
+
+      abbrev pub m32 : (before : After-pending) → (given : s36 (before .before .before .before .before .before .before
+          .before .blocks) .gives (m31 (before .before) (before .pending .given))) → Typed.Mo T38
+      m32 = λ before given. s36 (before .before .before .before .before .before .before .before .blocks) .next
+          (m31 (before .before) (before .pending .given)) given
+
       module _ (before· : After-pending) where
         pub record After-circuits·own : Type 0 where
-          pub given : s36 (before· .before .before .before .before .before .before .before .blocks) .gives (m31 (before· .before) (before· .pending
-              .given))
+          pub given : s36 (before· .before .before .before .before .before .before .before .blocks) .gives
+              (m31 (before· .before) (before· .pending .given))
+
       pub record After-circuits : Type 0 where
         pub before : After-pending
         pub circuits : After-circuits·own before
+
       abbrev pub Need-slice-aggregate-run-all-2 : Type 0
-      Need-slice-aggregate-run-all-2 = (c : After-circuits) → Relend.CountIs T38 18 19 (λ x. x) (λ u. 2) (m32 (c .before) (c .circuits .given))
-      abbrev pub m33 : (before : After-pending) → (given : s36 (before .before .before .before .before .before .before .before .blocks) .gives (m31
-          (before .before) (before .pending .given))) → Typed.Mo T39
-      m33 = λ before given. s37 (before .before .before .before .before .before .before .before .blocks) .next (m32 before given)
-      abbrev pub m34 : (before : After-circuits) → (given : s39 (before .before .before .before .before .before .before .before .before .blocks)
-          .gives (m33 (before .before) (before .circuits .given))) → Typed.Mo T41
-      m34 = λ before given. s39 (before .before .before .before .before .before .before .before .before .blocks) .next (m33 (before .before) (before
-          .circuits .given)) given
+      Need-slice-aggregate-run-all-2 = (c : After-circuits) → Relend.CountIs T38 18 19 (λ x. x) (λ u. 2)
+          (m32 (c .before) (c .circuits .given))
+
+      abbrev pub m33 : (before : After-pending) → (given : s36 (before .before .before .before .before .before .before
+          .before .blocks) .gives (m31 (before .before) (before .pending .given))) → Typed.Mo T39
+      m33 = λ before given. s37 (before .before .before .before .before .before .before .before .blocks) .next
+          (m32 before given)
+
+      abbrev pub m34 : (before : After-circuits) → (given : s39 (before .before .before .before .before .before .before
+          .before .before .blocks) .gives (m33 (before .before) (before .circuits .given))) → Typed.Mo T41
+      m34 = λ before given. s39 (before .before .before .before .before .before .before .before .before .blocks) .next
+          (m33 (before .before) (before .circuits .given)) given
+
       module _ (before· : After-circuits) where
         pub record After-ledger·own : Type 0 where
-          pub given : s39 (before· .before .before .before .before .before .before .before .before .blocks) .gives (m33 (before· .before) (before·
-              .circuits .given))
+          pub given : s39 (before· .before .before .before .before .before .before .before .before .blocks) .gives
+              (m33 (before· .before) (before· .circuits .given))
+
       pub record After-ledger : Type 0 where
         pub before : After-circuits
         pub ledger : After-ledger·own before
+
       abbrev pub Need-slice-aggregate-run-all-3 : Type 0
-      Need-slice-aggregate-run-all-3 = (c : After-ledger) → Relend.CountIs T41 20 21 (λ x. x) (λ u. 1) (m34 (c .before) (c .ledger .given))
-      abbrev pub m35 : (before : After-circuits) → (given : s39 (before .before .before .before .before .before .before .before .before .blocks)
-          .gives (m33 (before .before) (before .circuits .given))) → Typed.Mo T42
-      m35 = λ before given. s40 (before .before .before .before .before .before .before .before .before .blocks) .next (m34 before given)
-      abbrev pub m36 : (before : After-ledger) → (given : s42 (before .before .before .before .before .before .before .before .before .before .blocks)
-          .gives (m35 (before .before) (before .ledger .given))) → Typed.Mo T44
-      m36 = λ before given. s42 (before .before .before .before .before .before .before .before .before .before .blocks) .next (m35 (before .before)
-          (before .ledger .given)) given
+      Need-slice-aggregate-run-all-3 = (c : After-ledger) → Relend.CountIs T41 20 21 (λ x. x) (λ u. 1)
+          (m34 (c .before) (c .ledger .given))
+
+      abbrev pub m35 : (before : After-circuits) → (given : s39 (before .before .before .before .before .before .before
+          .before .before .blocks) .gives (m33 (before .before) (before .circuits .given))) → Typed.Mo T42
+      m35 = λ before given. s40 (before .before .before .before .before .before .before .before .before .blocks) .next
+          (m34 before given)
+
+      abbrev pub m36 : (before : After-ledger) → (given : s42 (before .before .before .before .before .before .before
+          .before .before .before .blocks) .gives (m35 (before .before) (before .ledger .given))) → Typed.Mo T44
+      m36 = λ before given. s42 (before .before .before .before .before .before .before .before .before .before .blocks)
+          .next (m35 (before .before) (before .ledger .given)) given
+
       module _ (before· : After-ledger) where
         pub record After-inflight·own : Type 0 where
-          pub given : s42 (before· .before .before .before .before .before .before .before .before .before .blocks) .gives (m35 (before· .before)
-              (before· .ledger .given))
+          pub given : s42 (before· .before .before .before .before .before .before .before .before .before .blocks)
+              .gives (m35 (before· .before) (before· .ledger .given))
+
       pub record After-inflight : Type 0 where
         pub before : After-ledger
         pub inflight : After-inflight·own before
+
       abbrev pub Need-slice-aggregate-run-all-4 : Type 0
-      Need-slice-aggregate-run-all-4 = (c : After-inflight) → Relend.CountIs T44 22 23 (λ x. x) (λ u. 8) (m36 (c .before) (c .inflight .given))
-      abbrev pub m37 : (before : After-ledger) → (given : s42 (before .before .before .before .before .before .before .before .before .before .blocks)
-          .gives (m35 (before .before) (before .ledger .given))) → Typed.Mo T45
-      m37 = λ before given. s43 (before .before .before .before .before .before .before .before .before .before .blocks) .next (m36 before given)
-      abbrev pub m38 : (before : After-inflight) → (given : s45 (before .before .before .before .before .before .before .before .before .before
-          .before .blocks) .gives (m37 (before .before) (before .inflight .given))) → Typed.Mo T47
-      m38 = λ before given. s45 (before .before .before .before .before .before .before .before .before .before .before .blocks) .next (m37 (before
-          .before) (before .inflight .given)) given
+      Need-slice-aggregate-run-all-4 = (c : After-inflight) → Relend.CountIs T44 22 23 (λ x. x) (λ u. 8)
+          (m36 (c .before) (c .inflight .given))
+
+      abbrev pub m37 : (before : After-ledger) → (given : s42 (before .before .before .before .before .before .before
+          .before .before .before .blocks) .gives (m35 (before .before) (before .ledger .given))) → Typed.Mo T45
+      m37 = λ before given. s43 (before .before .before .before .before .before .before .before .before .before .blocks)
+          .next (m36 before given)
+
+      abbrev pub m38 : (before : After-inflight) → (given : s45 (before .before .before .before .before .before .before
+          .before .before .before .before .blocks) .gives (m37 (before .before) (before .inflight .given))) → Typed.Mo
+          T47
+      m38 = λ before given. s45 (before .before .before .before .before .before .before .before .before .before .before
+          .blocks) .next (m37 (before .before) (before .inflight .given)) given
+
       module _ (before· : After-inflight) where
         pub record After-out·own : Type 0 where
-          pub given : s45 (before· .before .before .before .before .before .before .before .before .before .before .blocks) .gives (m37 (before·
-              .before) (before· .inflight .given))
+          pub given : s45 (before· .before .before .before .before .before .before .before .before .before .before
+              .blocks) .gives (m37 (before· .before) (before· .inflight .given))
+
       pub record After-out : Type 0 where
         pub before : After-inflight
         pub out : After-out·own before
+
       abbrev pub Need-slice-aggregate-run-all-5 : Type 0
-      Need-slice-aggregate-run-all-5 = (c : After-out) → Relend.CountIs T47 24 25 (λ x. x) (λ u. 4136) (m38 (c .before) (c .out .given))
-      abbrev pub m39 : (before : After-inflight) → (given : s45 (before .before .before .before .before .before .before .before .before .before
-          .before .blocks) .gives (m37 (before .before) (before .inflight .given))) → Typed.Mo T48
-      m39 = λ before given. s46 (before .before .before .before .before .before .before .before .before .before .before .blocks) .next (m38 before
-          given)
-      abbrev pub m40 : (before : After-out) → (given : s48 (before .before .before .before .before .before .before .before .before .before .before
-          .before .blocks) .gives (m39 (before .before) (before .out .given))) → Typed.Mo T50
-      m40 = λ before given. s48 (before .before .before .before .before .before .before .before .before .before .before .before .blocks) .next (m39
-          (before .before) (before .out .given)) given
+      Need-slice-aggregate-run-all-5 = (c : After-out) → Relend.CountIs T47 24 25 (λ x. x) (λ u. 4136)
+          (m38 (c .before) (c .out .given))
+
+      abbrev pub m39 : (before : After-inflight) → (given : s45 (before .before .before .before .before .before .before
+          .before .before .before .before .blocks) .gives (m37 (before .before) (before .inflight .given))) → Typed.Mo
+          T48
+      m39 = λ before given. s46 (before .before .before .before .before .before .before .before .before .before .before
+          .blocks) .next (m38 before given)
+
+      abbrev pub m40 : (before : After-out) → (given : s48 (before .before .before .before .before .before .before
+          .before .before .before .before .before .blocks) .gives (m39 (before .before) (before .out .given))) →
+          Typed.Mo T50
+      m40 = λ before given. s48 (before .before .before .before .before .before .before .before .before .before .before
+          .before .blocks) .next (m39 (before .before) (before .out .given)) given
+
       module _ (before· : After-out) where
         pub record After-body·own : Type 0 where
-          pub given : s48 (before· .before .before .before .before .before .before .before .before .before .before .before .blocks) .gives (m39
-              (before· .before) (before· .out .given))
+          pub given : s48 (before· .before .before .before .before .before .before .before .before .before .before
+              .before .blocks) .gives (m39 (before· .before) (before· .out .given))
+
       pub record After-body : Type 0 where
         pub before : After-out
         pub body : After-body·own before
+
       abbrev pub Need-slice-aggregate-run-all-6 : Type 0
-      Need-slice-aggregate-run-all-6 = (c : After-body) → Relend.CountIs T50 26 27 (λ x. x) (λ u. 16385) (m40 (c .before) (c .body .given))
-      abbrev pub m41 : (before : After-out) → (given : s48 (before .before .before .before .before .before .before .before .before .before .before
-          .before .blocks) .gives (m39 (before .before) (before .out .given))) → Typed.Mo T51
-      m41 = λ before given. s49 (before .before .before .before .before .before .before .before .before .before .before .before .blocks) .next (m40
-          before given)
+      Need-slice-aggregate-run-all-6 = (c : After-body) → Relend.CountIs T50 26 27 (λ x. x) (λ u. 16385)
+          (m40 (c .before) (c .body .given))
+
+      abbrev pub m41 : (before : After-out) → (given : s48 (before .before .before .before .before .before .before
+          .before .before .before .before .before .blocks) .gives (m39 (before .before) (before .out .given))) →
+          Typed.Mo T51
+      m41 = λ before given. s49 (before .before .before .before .before .before .before .before .before .before .before
+          .before .blocks) .next (m40 before given)
+
       abbrev pub Need-run-all-requires : Type 0
-      Need-run-all-requires = (c : After-body) → s50 (c .before .before .before .before .before .before .before .before .before .before .before
-          .before .blocks) .asks (m41 (c .before) (c .body .given))
-      abbrev pub m42 : (before : After-body) → (given : s50 (before .before .before .before .before .before .before .before .before .before .before
-          .before .before .blocks) .gives (m41 (before .before) (before .body .given))) → Typed.Mo T52
-      m42 = λ before given. s50 (before .before .before .before .before .before .before .before .before .before .before .before .before .blocks) .next
-          (m41 (before .before) (before .body .given)) given
+      Need-run-all-requires = (c : After-body) → s50 (c .before .before .before .before .before .before .before .before
+          .before .before .before .before .blocks) .asks (m41 (c .before) (c .body .given))
+
+      abbrev pub m42 : (before : After-body) → (given : s50 (before .before .before .before .before .before .before
+          .before .before .before .before .before .before .blocks) .gives (m41 (before .before) (before .body .given)))
+          → Typed.Mo T52
+      m42 = λ before given. s50 (before .before .before .before .before .before .before .before .before .before .before
+          .before .before .blocks) .next (m41 (before .before) (before .body .given)) given
+
       module _ (before· : After-body) where
         abbrev pub After-run-all·own : Type 0
-        After-run-all·own = Called.Called ps·5 r·5 (claims· .11) T51 (record { pos = 17; ty = Syntax.tyRef Syntax.erased Syntax.mut RelayPending.to;
-            ref = λ x. x; }, (record { pos = 19; ty = Syntax.tyRef Syntax.erased Syntax.mut RelayCircuit.to; ref = λ x. x; }, (record { pos = 21; ty =
-            Syntax.tyRef Syntax.erased Syntax.mut ReservationUsage.to; ref = λ x. x; }, (record { pos = 23; ty = Syntax.tyRef Syntax.erased Syntax.mut
-            InflightAction.to; ref = λ x. x; }, (record { pos = 25; ty = Syntax.tyRef Syntax.erased Syntax.mut (Syntax.tyInt Syntax.w32); ref = λ x.
-            x; }, (record { pos = 27; ty = Syntax.tyRef Syntax.erased Syntax.mut (Syntax.tyInt Syntax.w8); ref = λ x. x; }, tt,),),),),),) (m41
-            (before· .before) (before· .body .given))
+        After-run-all·own = Called.Called ps·5 r·5 (claims· .11) T51 (
+          record { pos = 17; ty = ref3; ref = λ x. x },
+          (
+            record { pos = 19; ty = ref5; ref = λ x. x },
+            (
+              record { pos = 21; ty = ref7; ref = λ x. x },
+              (
+                record { pos = 23; ty = ref9; ref = λ x. x },
+                (record { pos = 25; ty = ref11; ref = λ x. x }, (record { pos = 27; ty = ref13; ref = λ x. x }, tt)),
+              ),
+            ),
+          ),
+        ) (m41 (before· .before) (before· .body .given))
+
       pub record After-run-all : Type 0 where
         pub before : After-body
         pub run-all : After-run-all·own before
-      abbrev pub After-run-all·gave : (c : After-run-all) → s50 (c .before .before .before .before .before .before .before .before .before .before
-          .before .before .before .blocks) .gives (m41 (c .before .before) (c .before .body .given))
-      After-run-all·gave = λ c. Called.given ps·5 r·5 (claims· .11) T51 (record { pos = 17; ty = Syntax.tyRef Syntax.erased Syntax.mut
-          RelayPending.to; ref = λ x. x; }, (record { pos = 19; ty = Syntax.tyRef Syntax.erased Syntax.mut RelayCircuit.to; ref = λ x. x; }, (record {
-          pos = 21; ty = Syntax.tyRef Syntax.erased Syntax.mut ReservationUsage.to; ref = λ x. x; }, (record { pos = 23; ty = Syntax.tyRef
-          Syntax.erased Syntax.mut InflightAction.to; ref = λ x. x; }, (record { pos = 25; ty = Syntax.tyRef Syntax.erased Syntax.mut (Syntax.tyInt
-          Syntax.w32); ref = λ x. x; }, (record { pos = 27; ty = Syntax.tyRef Syntax.erased Syntax.mut (Syntax.tyInt Syntax.w8); ref = λ x. x; },
-          tt,),),),),),) (m41 (c .before .before) (c .before .body .given)) (c .run-all)
-      abbrev pub m43 : (before : After-body) → (given : s50 (before .before .before .before .before .before .before .before .before .before .before
-          .before .before .blocks) .gives (m41 (before .before) (before .body .given))) → Typed.Mo T53
-      m43 = λ before given. s51 (before .before .before .before .before .before .before .before .before .before .before .before .before .blocks) (m42
-          before given)
-      abbrev pub m44 : (before : After-run-all) → (given : s53 (before .before .before .before .before .before .before .before .before .before .before
-          .before .before .before .blocks) .gives (m43 (before .before) (After-run-all·gave before))) → Typed.Mo T55
-      m44 = λ before given. s53 (before .before .before .before .before .before .before .before .before .before .before .before .before .before
-          .blocks) .next (m43 (before .before) (After-run-all·gave before)) given
-      abbrev pub m45 : (before : After-run-all) → (given : s53 (before .before .before .before .before .before .before .before .before .before .before
-          .before .before .before .blocks) .gives (m43 (before .before) (After-run-all·gave before))) → Typed.Mo T57
-      m45 = λ before given. s55 (before .before .before .before .before .before .before .before .before .before .before .before .before .before
-          .blocks) (m44 before given)
+
+      abbrev pub After-run-all·gave : (c : After-run-all) → s50 (c .before .before .before .before .before .before
+          .before .before .before .before .before .before .before .blocks) .gives
+          (m41 (c .before .before) (c .before .body .given))
+      After-run-all·gave = λ c. Called.given ps·5 r·5 (claims· .11) T51 (
+        record { pos = 17; ty = ref3; ref = λ x. x },
+        (
+          record { pos = 19; ty = ref5; ref = λ x. x },
+          (
+            record { pos = 21; ty = ref7; ref = λ x. x },
+            (
+              record { pos = 23; ty = ref9; ref = λ x. x },
+              (record { pos = 25; ty = ref11; ref = λ x. x }, (record { pos = 27; ty = ref13; ref = λ x. x }, tt)),
+            ),
+          ),
+        ),
+      ) (m41 (c .before .before) (c .before .body .given)) (c .run-all)
+
+      abbrev pub m43 : (before : After-body) → (given : s50 (before .before .before .before .before .before .before
+          .before .before .before .before .before .before .blocks) .gives (m41 (before .before) (before .body .given)))
+          → Typed.Mo T53
+      m43 = λ before given. s51 (before .before .before .before .before .before .before .before .before .before .before
+          .before .before .blocks) (m42 before given)
+
+      abbrev pub m44 : (before : After-run-all) → (given : s53 (before .before .before .before .before .before .before
+          .before .before .before .before .before .before .before .blocks) .gives
+          (m43 (before .before) (After-run-all·gave before))) → Typed.Mo T55
+      m44 = λ before given. s53 (before .before .before .before .before .before .before .before .before .before .before
+          .before .before .before .blocks) .next (m43 (before .before) (After-run-all·gave before)) given
+
+      abbrev pub m45 : (before : After-run-all) → (given : s53 (before .before .before .before .before .before .before
+          .before .before .before .before .before .before .before .blocks) .gives
+          (m43 (before .before) (After-run-all·gave before))) → Typed.Mo T57
+      m45 = λ before given. s55 (before .before .before .before .before .before .before .before .before .before .before
+          .before .before .before .blocks) (m44 before given)
+
       module _ (before· : After-run-all) where
         pub record After-pending2·own : Type 0 where
-          pub given : s53 (before· .before .before .before .before .before .before .before .before .before .before .before .before .before .blocks)
-              .gives (m43 (before· .before) (After-run-all·gave before·))
+          pub given : s53 (before· .before .before .before .before .before .before .before .before .before .before
+              .before .before .before .blocks) .gives (m43 (before· .before) (After-run-all·gave before·))
+
       pub record After-pending2 : Type 0 where
         pub before : After-run-all
         pub pending2 : After-pending2·own before
-      abbrev pub m46 : (before : After-pending2) → (given : s57 (before .before .before .before .before .before .before .before .before .before
-          .before .before .before .before .before .blocks) .gives (m45 (before .before) (before .pending2 .given))) → Typed.Mo T59
-      m46 = λ before given. s57 (before .before .before .before .before .before .before .before .before .before .before .before .before .before
-          .before .blocks) .next (m45 (before .before) (before .pending2 .given)) given
-      abbrev pub m47 : (before : After-pending2) → (given : s57 (before .before .before .before .before .before .before .before .before .before
-          .before .before .before .before .before .blocks) .gives (m45 (before .before) (before .pending2 .given))) → Typed.Mo T61
-      m47 = λ before given. s59 (before .before .before .before .before .before .before .before .before .before .before .before .before .before
-          .before .blocks) (m46 before given)
+
+      abbrev pub m46 : (before : After-pending2) → (given : s57 (before .before .before .before .before .before .before
+          .before .before .before .before .before .before .before .before .blocks) .gives
+          (m45 (before .before) (before .pending2 .given))) → Typed.Mo T59
+      m46 = λ before given. s57 (before .before .before .before .before .before .before .before .before .before .before
+          .before .before .before .before .blocks) .next (m45 (before .before) (before .pending2 .given)) given
+
+      abbrev pub m47 : (before : After-pending2) → (given : s57 (before .before .before .before .before .before .before
+          .before .before .before .before .before .before .before .before .blocks) .gives
+          (m45 (before .before) (before .pending2 .given))) → Typed.Mo T61
+      m47 = λ before given. s59 (before .before .before .before .before .before .before .before .before .before .before
+          .before .before .before .before .blocks) (m46 before given)
+
       module _ (before· : After-pending2) where
         pub record After-circuits2·own : Type 0 where
-          pub given : s57 (before· .before .before .before .before .before .before .before .before .before .before .before .before .before .before
-              .blocks) .gives (m45 (before· .before) (before· .pending2 .given))
+          pub given : s57 (before· .before .before .before .before .before .before .before .before .before .before
+              .before .before .before .before .blocks) .gives (m45 (before· .before) (before· .pending2 .given))
+
       pub record After-circuits2 : Type 0 where
         pub before : After-pending2
         pub circuits2 : After-circuits2·own before
-      abbrev pub m48 : (before : After-circuits2) → (given : s61 (before .before .before .before .before .before .before .before .before .before
-          .before .before .before .before .before .before .blocks) .gives (m47 (before .before) (before .circuits2 .given))) → Typed.Mo T63
-      m48 = λ before given. s61 (before .before .before .before .before .before .before .before .before .before .before .before .before .before
-          .before .before .blocks) .next (m47 (before .before) (before .circuits2 .given)) given
-      abbrev pub m49 : (before : After-circuits2) → (given : s61 (before .before .before .before .before .before .before .before .before .before
-          .before .before .before .before .before .before .blocks) .gives (m47 (before .before) (before .circuits2 .given))) → Typed.Mo T65
-      m49 = λ before given. s63 (before .before .before .before .before .before .before .before .before .before .before .before .before .before
-          .before .before .blocks) (m48 before given)
+
+      abbrev pub m48 : (before : After-circuits2) → (given : s61 (before .before .before .before .before .before
+          .before .before .before .before .before .before .before .before .before .before .blocks) .gives
+          (m47 (before .before) (before .circuits2 .given))) → Typed.Mo T63
+      m48 = λ before given. s61 (before .before .before .before .before .before .before .before .before .before .before
+          .before .before .before .before .before .blocks) .next (m47 (before .before) (before .circuits2 .given))
+          given
+
+      abbrev pub m49 : (before : After-circuits2) → (given : s61 (before .before .before .before .before .before
+          .before .before .before .before .before .before .before .before .before .before .blocks) .gives
+          (m47 (before .before) (before .circuits2 .given))) → Typed.Mo T65
+      m49 = λ before given. s63 (before .before .before .before .before .before .before .before .before .before .before
+          .before .before .before .before .before .blocks) (m48 before given)
+
       module _ (before· : After-circuits2) where
         pub record After-ledger2·own : Type 0 where
-          pub given : s61 (before· .before .before .before .before .before .before .before .before .before .before .before .before .before .before
-              .before .blocks) .gives (m47 (before· .before) (before· .circuits2 .given))
+          pub given : s61 (before· .before .before .before .before .before .before .before .before .before .before
+              .before .before .before .before .before .blocks) .gives
+              (m47 (before· .before) (before· .circuits2 .given))
+
       pub record After-ledger2 : Type 0 where
         pub before : After-circuits2
         pub ledger2 : After-ledger2·own before
-      abbrev pub m50 : (before : After-ledger2) → (given : s65 (before .before .before .before .before .before .before .before .before .before .before
-          .before .before .before .before .before .before .blocks) .gives (m49 (before .before) (before .ledger2 .given))) → Typed.Mo T67
-      m50 = λ before given. s65 (before .before .before .before .before .before .before .before .before .before .before .before .before .before
-          .before .before .before .blocks) .next (m49 (before .before) (before .ledger2 .given)) given
-      abbrev pub m51 : (before : After-ledger2) → (given : s65 (before .before .before .before .before .before .before .before .before .before .before
-          .before .before .before .before .before .before .blocks) .gives (m49 (before .before) (before .ledger2 .given))) → Typed.Mo T69
-      m51 = λ before given. s67 (before .before .before .before .before .before .before .before .before .before .before .before .before .before
-          .before .before .before .blocks) (m50 before given)
+
+      abbrev pub m50 : (before : After-ledger2) → (given : s65 (before .before .before .before .before .before .before
+          .before .before .before .before .before .before .before .before .before .before .blocks) .gives
+          (m49 (before .before) (before .ledger2 .given))) → Typed.Mo T67
+      m50 = λ before given. s65 (before .before .before .before .before .before .before .before .before .before .before
+          .before .before .before .before .before .before .blocks) .next
+          (m49 (before .before) (before .ledger2 .given)) given
+
+      abbrev pub m51 : (before : After-ledger2) → (given : s65 (before .before .before .before .before .before .before
+          .before .before .before .before .before .before .before .before .before .before .blocks) .gives
+          (m49 (before .before) (before .ledger2 .given))) → Typed.Mo T69
+      m51 = λ before given. s67 (before .before .before .before .before .before .before .before .before .before .before
+          .before .before .before .before .before .before .blocks) (m50 before given)
+
       module _ (before· : After-ledger2) where
         pub record After-inflight2·own : Type 0 where
-          pub given : s65 (before· .before .before .before .before .before .before .before .before .before .before .before .before .before .before
-              .before .before .blocks) .gives (m49 (before· .before) (before· .ledger2 .given))
+          pub given : s65 (before· .before .before .before .before .before .before .before .before .before .before
+              .before .before .before .before .before .before .blocks) .gives
+              (m49 (before· .before) (before· .ledger2 .given))
+
       pub record After-inflight2 : Type 0 where
         pub before : After-ledger2
         pub inflight2 : After-inflight2·own before
-      abbrev pub m52 : (before : After-inflight2) → (given : s69 (before .before .before .before .before .before .before .before .before .before
-          .before .before .before .before .before .before .before .before .blocks) .gives (m51 (before .before) (before .inflight2 .given))) →
-          Typed.Mo T71
-      m52 = λ before given. s69 (before .before .before .before .before .before .before .before .before .before .before .before .before .before
-          .before .before .before .before .blocks) .next (m51 (before .before) (before .inflight2 .given)) given
-      abbrev pub m53 : (before : After-inflight2) → (given : s69 (before .before .before .before .before .before .before .before .before .before
-          .before .before .before .before .before .before .before .before .blocks) .gives (m51 (before .before) (before .inflight2 .given))) →
-          Typed.Mo T73
-      m53 = λ before given. s71 (before .before .before .before .before .before .before .before .before .before .before .before .before .before
-          .before .before .before .before .blocks) (m52 before given)
+
+      abbrev pub m52 : (before : After-inflight2) → (given : s69 (before .before .before .before .before .before
+          .before .before .before .before .before .before .before .before .before .before .before .before .blocks)
+          .gives (m51 (before .before) (before .inflight2 .given))) → Typed.Mo T71
+      m52 = λ before given. s69 (before .before .before .before .before .before .before .before .before .before .before
+          .before .before .before .before .before .before .before .blocks) .next
+          (m51 (before .before) (before .inflight2 .given)) given
+
+      abbrev pub m53 : (before : After-inflight2) → (given : s69 (before .before .before .before .before .before
+          .before .before .before .before .before .before .before .before .before .before .before .before .blocks)
+          .gives (m51 (before .before) (before .inflight2 .given))) → Typed.Mo T73
+      m53 = λ before given. s71 (before .before .before .before .before .before .before .before .before .before .before
+          .before .before .before .before .before .before .before .blocks) (m52 before given)
+
       module _ (before· : After-inflight2) where
         pub record After-out2·own : Type 0 where
-          pub given : s69 (before· .before .before .before .before .before .before .before .before .before .before .before .before .before .before
-              .before .before .before .blocks) .gives (m51 (before· .before) (before· .inflight2 .given))
+          pub given : s69 (before· .before .before .before .before .before .before .before .before .before .before
+              .before .before .before .before .before .before .before .blocks) .gives
+              (m51 (before· .before) (before· .inflight2 .given))
+
       pub record After-out2 : Type 0 where
         pub before : After-inflight2
         pub out2 : After-out2·own before
-      abbrev pub m54 : (before : After-out2) → (given : s73 (before .before .before .before .before .before .before .before .before .before .before
-          .before .before .before .before .before .before .before .before .blocks) .gives (m53 (before .before) (before .out2 .given))) → Typed.Mo T75
-      m54 = λ before given. s73 (before .before .before .before .before .before .before .before .before .before .before .before .before .before
-          .before .before .before .before .before .blocks) .next (m53 (before .before) (before .out2 .given)) given
-      abbrev pub m55 : (before : After-out2) → (given : s73 (before .before .before .before .before .before .before .before .before .before .before
-          .before .before .before .before .before .before .before .before .blocks) .gives (m53 (before .before) (before .out2 .given))) → Typed.Mo T77
-      m55 = λ before given. s75 (before .before .before .before .before .before .before .before .before .before .before .before .before .before
-          .before .before .before .before .before .blocks) (m54 before given)
+
+      abbrev pub m54 : (before : After-out2) → (given : s73 (before .before .before .before .before .before .before
+          .before .before .before .before .before .before .before .before .before .before .before .before .blocks)
+          .gives (m53 (before .before) (before .out2 .given))) → Typed.Mo T75
+      m54 = λ before given. s73 (before .before .before .before .before .before .before .before .before .before .before
+          .before .before .before .before .before .before .before .before .blocks) .next
+          (m53 (before .before) (before .out2 .given)) given
+
+      abbrev pub m55 : (before : After-out2) → (given : s73 (before .before .before .before .before .before .before
+          .before .before .before .before .before .before .before .before .before .before .before .before .blocks)
+          .gives (m53 (before .before) (before .out2 .given))) → Typed.Mo T77
+      m55 = λ before given. s75 (before .before .before .before .before .before .before .before .before .before .before
+          .before .before .before .before .before .before .before .before .blocks) (m54 before given)
+
       module _ (before· : After-out2) where
         pub record After-body2·own : Type 0 where
-          pub given : s73 (before· .before .before .before .before .before .before .before .before .before .before .before .before .before .before
-              .before .before .before .before .blocks) .gives (m53 (before· .before) (before· .out2 .given))
+          pub given : s73 (before· .before .before .before .before .before .before .before .before .before .before
+              .before .before .before .before .before .before .before .before .blocks) .gives
+              (m53 (before· .before) (before· .out2 .given))
+
       pub record After-body2 : Type 0 where
         pub before : After-out2
         pub body2 : After-body2·own before
+
       abbrev pub Need-run-samples-requires : Type 0
-      Need-run-samples-requires = (c : After-body2) → s76 (c .before .before .before .before .before .before .before .before .before .before .before
-          .before .before .before .before .before .before .before .before .blocks) .asks (m55 (c .before) (c .body2 .given))
-      abbrev pub m56 : (before : After-body2) → (given : s76 (before .before .before .before .before .before .before .before .before .before .before
-          .before .before .before .before .before .before .before .before .before .blocks) .gives (m55 (before .before) (before .body2 .given))) →
-          Typed.Mo T78
-      m56 = λ before given. s76 (before .before .before .before .before .before .before .before .before .before .before .before .before .before
-          .before .before .before .before .before .before .blocks) .next (m55 (before .before) (before .body2 .given)) given
+      Need-run-samples-requires = (c : After-body2) → s76 (c .before .before .before .before .before .before .before
+          .before .before .before .before .before .before .before .before .before .before .before .before .blocks)
+          .asks (m55 (c .before) (c .body2 .given))
+
+      abbrev pub m56 : (before : After-body2) → (given : s76 (before .before .before .before .before .before .before
+          .before .before .before .before .before .before .before .before .before .before .before .before .before
+          .blocks) .gives (m55 (before .before) (before .body2 .given))) → Typed.Mo T78
+      m56 = λ before given. s76 (before .before .before .before .before .before .before .before .before .before .before
+          .before .before .before .before .before .before .before .before .before .blocks) .next
+          (m55 (before .before) (before .body2 .given)) given
+
       module _ (before· : After-body2) where
         abbrev pub After-run-samples·own : Type 0
-        After-run-samples·own = Called.Called ps·6 r·6 (claims· .13) T77 tt (m55 (before· .before) (before· .body2 .given))
+        After-run-samples·own = Called.Called ps·6 r·6 (claims· .13) T77 tt
+            (m55 (before· .before) (before· .body2 .given))
+
       pub record After-run-samples : Type 0 where
         pub before : After-body2
         pub run-samples : After-run-samples·own before
-      abbrev pub After-run-samples·gave : (c : After-run-samples) → s76 (c .before .before .before .before .before .before .before .before .before
-          .before .before .before .before .before .before .before .before .before .before .before .blocks) .gives (m55 (c .before .before) (c .before
-          .body2 .given))
-      After-run-samples·gave = λ c. Called.given ps·6 r·6 (claims· .13) T77 tt (m55 (c .before .before) (c .before .body2 .given)) (c .run-samples)
-      abbrev pub m57 : (before : After-body2) → (given : s76 (before .before .before .before .before .before .before .before .before .before .before
-          .before .before .before .before .before .before .before .before .before .blocks) .gives (m55 (before .before) (before .body2 .given))) →
-          Typed.Mo T79
-      m57 = λ before given. s77 (before .before .before .before .before .before .before .before .before .before .before .before .before .before
-          .before .before .before .before .before .before .blocks) (m56 before given)
-      abbrev pub m58 : (before : After-body2) → (given : s76 (before .before .before .before .before .before .before .before .before .before .before
-          .before .before .before .before .before .before .before .before .before .blocks) .gives (m55 (before .before) (before .body2 .given))) →
-          Typed.Mo T80
-      m58 = λ before given. s78 (before .before .before .before .before .before .before .before .before .before .before .before .before .before
-          .before .before .before .before .before .before .blocks) (m57 before given)
+
+      abbrev pub After-run-samples·gave : (c : After-run-samples) → s76 (c .before .before .before .before .before
+          .before .before .before .before .before .before .before .before .before .before .before .before .before
+          .before .before .blocks) .gives (m55 (c .before .before) (c .before .body2 .given))
+      After-run-samples·gave = λ c. Called.given ps·6 r·6 (claims· .13) T77 tt
+          (m55 (c .before .before) (c .before .body2 .given)) (c .run-samples)
+
+      abbrev pub m57 : (before : After-body2) → (given : s76 (before .before .before .before .before .before .before
+          .before .before .before .before .before .before .before .before .before .before .before .before .before
+          .blocks) .gives (m55 (before .before) (before .body2 .given))) → Typed.Mo T79
+      m57 = λ before given. s77 (before .before .before .before .before .before .before .before .before .before .before
+          .before .before .before .before .before .before .before .before .before .blocks) (m56 before given)
+
+      abbrev pub m58 : (before : After-body2) → (given : s76 (before .before .before .before .before .before .before
+          .before .before .before .before .before .before .before .before .before .before .before .before .before
+          .blocks) .gives (m55 (before .before) (before .body2 .given))) → Typed.Mo T80
+      m58 = λ before given. s78 (before .before .before .before .before .before .before .before .before .before .before
+          .before .before .before .before .before .before .before .before .before .blocks) (m57 before given)
+
       abbrev pub Need-returns : Type 0
-      Need-returns = (c : After-run-samples) → Post· tt (dens (c .before .before .before .before .before .before .before .before .before .before
-          .before .before .before .before .before .before .before .before .before .before .args)) (Function.resV r tt (m58 (c .before)
-          (After-run-samples·gave c) .0)) (Clauses.atExit (Kinds.endedOf 0 ps r) tt (dens (c .before .before .before .before .before .before .before
-          .before .before .before .before .before .before .before .before .before .before .before .before .before .args)) (Enter.lastsP tt 1 ps xs
-          (dens (c .before .before .before .before .before .before .before .before .before .before .before .before .before .before .before .before
-          .before .before .before .before .args)) (m58 (c .before) (After-run-samples·gave c) .1)))
-      module _ (empty-pending-requires : Need-empty-pending-requires) (empty-circuit-requires : Need-empty-circuit-requires) (empty-usage-requires :
-          Need-empty-usage-requires) (empty-action-requires : Need-empty-action-requires) (slice-aggregate-write-all : Need-slice-aggregate-write-all)
-          (write-all-requires : Need-write-all-requires) (slice-aggregate-run-all : Need-slice-aggregate-run-all) (slice-aggregate-run-all-2 :
-          Need-slice-aggregate-run-all-2) (slice-aggregate-run-all-3 : Need-slice-aggregate-run-all-3) (slice-aggregate-run-all-4 :
-          Need-slice-aggregate-run-all-4) (slice-aggregate-run-all-5 : Need-slice-aggregate-run-all-5) (slice-aggregate-run-all-6 :
-          Need-slice-aggregate-run-all-6) (run-all-requires : Need-run-all-requires) (run-samples-requires : Need-run-samples-requires) (returns :
-          Need-returns) where
-        lay7 : (c : After-run-samples) → at2 (c .before .before .before .before .before .before .before .before .before .before .before .before
-            .before .before .before .before .before .before .before .before .blocks) (W0 (c .before .before .before .before .before .before .before
-            .before .before .before .before .before .before .before .before .before .before .before .before .before .args) (c .before .before .before
-            .before .before .before .before .before .before .before .before .before .before .before .before .before .before .before .before .before
-            .blocks)) (m56 (c .before) (After-run-samples·gave c))
+      Need-returns = (c : After-run-samples) → Post· tt (dens (c .before .before .before .before .before .before
+          .before .before .before .before .before .before .before .before .before .before .before .before .before
+          .before .args)) (Function.resV r tt (m58 (c .before) (After-run-samples·gave c) .0)) (Clauses.atExit
+          (Kinds.endedOf 0 ps r) tt (dens (c .before .before .before .before .before .before .before .before .before
+          .before .before .before .before .before .before .before .before .before .before .before .args)) (Enter.lastsP
+          tt 1 ps xs (dens (c .before .before .before .before .before .before .before .before .before .before .before
+          .before .before .before .before .before .before .before .before .before .args))
+          (m58 (c .before) (After-run-samples·gave c) .1)))
+
+      module _ (empty-pending-requires : Need-empty-pending-requires)
+          (empty-circuit-requires : Need-empty-circuit-requires) (empty-usage-requires : Need-empty-usage-requires)
+          (empty-action-requires : Need-empty-action-requires) (slice-aggregate-write-all :
+          Need-slice-aggregate-write-all) (write-all-requires : Need-write-all-requires)
+          (slice-aggregate-run-all : Need-slice-aggregate-run-all) (slice-aggregate-run-all-2 :
+          Need-slice-aggregate-run-all-2) (slice-aggregate-run-all-3 : Need-slice-aggregate-run-all-3) (slice-aggregate-run-all-4
+          : Need-slice-aggregate-run-all-4) (slice-aggregate-run-all-5 : Need-slice-aggregate-run-all-5) (slice-aggregate-run-all-6
+          : Need-slice-aggregate-run-all-6) (run-all-requires : Need-run-all-requires)
+          (run-samples-requires : Need-run-samples-requires) (returns : Need-returns) where
+        lay7 : (c : After-run-samples) → at2 (c .before .before .before .before .before .before .before .before .before
+            .before .before .before .before .before .before .before .before .before .before .before .blocks) (W0 (c
+            .before .before .before .before .before .before .before .before .before .before .before .before .before
+            .before .before .before .before .before .before .before .args) (c .before .before .before .before .before
+            .before .before .before .before .before .before .before .before .before .before .before .before .before
+            .before .before .blocks)) (m56 (c .before) (After-run-samples·gave c))
         lay7 = λ c. (tt, returns record { before = c .before; run-samples = c .run-samples })
-        lay6 : (c : After-run-all) → at28 (c .before .before .before .before .before .before .before .before .before .before .before .before .before
-            .blocks) (W0 (c .before .before .before .before .before .before .before .before .before .before .before .before .before .args) (c .before
-            .before .before .before .before .before .before .before .before .before .before .before .before .blocks)) (m42 (c .before)
-            (After-run-all·gave c))
-        lay6 = λ c. (Path.refl, λ g. (Path.refl, λ g'. (Path.refl, λ g''. (Path.refl, λ g'3. (Path.refl, λ g'4. (Path.refl, λ g'5.
-            (run-samples-requires record { before = record { before = record { before = record { before = record { before = record { before = record {
-            before = c .before; run-all = c .run-all }; pending2 = record { given = g }; }; circuits2 = record { given = g' }; }; ledger2 = record {
-            given = g'' }; }; inflight2 = record { given = g'3 }; }; out2 = record { given = g'4 }; }; body2 = record { given = g'5 }; }, λ g'6. lay7
-            record { before = record { before = record { before = record { before = record { before = record { before = record { before = record {
-            before = c .before; run-all = c .run-all }; pending2 = record { given = g }; }; circuits2 = record { given = g' }; }; ledger2 = record {
-            given = g'' }; }; inflight2 = record { given = g'3 }; }; out2 = record { given = g'4 }; }; body2 = record { given = g'5 }; }; run-samples
-            = Called.called ps·6 r·6 (claims· .13) T77 tt (m55 record { before = record { before = record { before = record { before = record { before
-            = record { before = c .before; run-all = c .run-all }; pending2 = record { given = g }; }; circuits2 = record { given = g' }; }; ledger2 =
-            record { given = g'' }; }; inflight2 = record { given = g'3 }; }; out2 = record { given = g'4 }; } g'5) g'6; },),),),),),),)
-        lay5 : (c : After-write-all) → at53 (c .before .before .before .before .before .before .blocks) (W0 (c .before .before .before .before .before
-            .before .args) (c .before .before .before .before .before .before .blocks)) (m25 (c .before) (After-write-all·gave c))
-        lay5 = λ c. λ g. (Relend.count-is T35 16 17 (λ x. x) (λ u. 2) (m30 record { before = c .before; write-all = c .write-all; } g)
-            (slice-aggregate-run-all record { before = record { before = c .before; write-all = c .write-all }; pending = record { given = g }; }), λ
-            g'. (Relend.count-is T38 18 19 (λ x. x) (λ u. 2) (m32 record { before = record { before = c .before; write-all = c .write-all }; pending =
-            record { given = g }; } g') (slice-aggregate-run-all-2 record { before = record { before = record { before = c .before; write-all = c
-            .write-all }; pending = record { given = g }; }; circuits = record { given = g' }; }), λ g''. (Relend.count-is T41 20 21 (λ x. x) (λ u. 1)
-            (m34 record { before = record { before = record { before = c .before; write-all = c .write-all }; pending = record { given = g }; };
-            circuits = record { given = g' }; } g'') (slice-aggregate-run-all-3 record { before = record { before = record { before = record { before
-            = c .before; write-all = c .write-all }; pending = record { given = g }; }; circuits = record { given = g' }; }; ledger = record { given =
-            g'' }; }), λ g'3. (Relend.count-is T44 22 23 (λ x. x) (λ u. 8) (m36 record { before = record { before = record { before = record { before
-            = c .before; write-all = c .write-all }; pending = record { given = g }; }; circuits = record { given = g' }; }; ledger = record { given =
-            g'' }; } g'3) (slice-aggregate-run-all-4 record { before = record { before = record { before = record { before = record { before = c
-            .before; write-all = c .write-all }; pending = record { given = g }; }; circuits = record { given = g' }; }; ledger = record { given = g''
-            }; }; inflight = record { given = g'3 }; }), λ g'4. (Relend.count-is T47 24 25 (λ x. x) (λ u. 4136) (m38 record { before = record { before
-            = record { before = record { before = record { before = c .before; write-all = c .write-all }; pending = record { given = g }; }; circuits
-            = record { given = g' }; }; ledger = record { given = g'' }; }; inflight = record { given = g'3 }; } g'4) (slice-aggregate-run-all-5
-            record { before = record { before = record { before = record { before = record { before = record { before = c .before; write-all = c
-            .write-all }; pending = record { given = g }; }; circuits = record { given = g' }; }; ledger = record { given = g'' }; }; inflight =
-            record { given = g'3 }; }; out = record { given = g'4 }; }), λ g'5. (Relend.count-is T50 26 27 (λ x. x) (λ u. 16385) (m40 record { before
-            = record { before = record { before = record { before = record { before = record { before = c .before; write-all = c .write-all }; pending
-            = record { given = g }; }; circuits = record { given = g' }; }; ledger = record { given = g'' }; }; inflight = record { given = g'3 }; };
-            out = record { given = g'4 }; } g'5) (slice-aggregate-run-all-6 record { before = record { before = record { before = record { before =
-            record { before = record { before = record { before = c .before; write-all = c .write-all }; pending = record { given = g }; }; circuits =
-            record { given = g' }; }; ledger = record { given = g'' }; }; inflight = record { given = g'3 }; }; out = record { given = g'4 }; }; body
-            = record { given = g'5 }; }), (run-all-requires record { before = record { before = record { before = record { before = record { before =
-            record { before = record { before = c .before; write-all = c .write-all; }; pending = record { given = g }; }; circuits = record { given =
-            g' }; }; ledger = record { given = g'' }; }; inflight = record { given = g'3 }; }; out = record { given = g'4 }; }; body = record { given
-            = g'5 }; }, λ g'6. lay6 record { before = record { before = record { before = record { before = record { before = record { before = record
-            { before = record { before = c .before; write-all = c .write-all; }; pending = record { given = g }; }; circuits = record { given = g' };
-            }; ledger = record { given = g'' }; }; inflight = record { given = g'3 }; }; out = record { given = g'4 }; }; body = record { given = g'5
-            }; }; run-all = Called.called ps·5 r·5 (claims· .11) T51 (record { pos = 17; ty = Syntax.tyRef Syntax.erased Syntax.mut RelayPending.to;
-            ref = λ x. x; }, (record { pos = 19; ty = Syntax.tyRef Syntax.erased Syntax.mut RelayCircuit.to; ref = λ x. x; }, (record { pos = 21; ty =
-            Syntax.tyRef Syntax.erased Syntax.mut ReservationUsage.to; ref = λ x. x; }, (record { pos = 23; ty = Syntax.tyRef Syntax.erased Syntax.mut
-            InflightAction.to; ref = λ x. x; }, (record { pos = 25; ty = Syntax.tyRef Syntax.erased Syntax.mut (Syntax.tyInt Syntax.w32); ref = λ x.
-            x; }, (record { pos = 27; ty = Syntax.tyRef Syntax.erased Syntax.mut (Syntax.tyInt Syntax.w8); ref = λ x. x; }, tt,),),),),),) (m41 record
-            { before = record { before = record { before = record { before = record { before = record { before = c .before; write-all = c .write-all;
-            }; pending = record { given = g }; }; circuits = record { given = g' }; }; ledger = record { given = g'' }; }; inflight = record { given =
-            g'3 }; }; out = record { given = g'4 }; } g'5) g'6; },),),),),),),)
-        lay4 : (c : After-empty-action) → at64 (c .before .before .before .before .blocks) (W0 (c .before .before .before .before .args) (c .before
-            .before .before .before .blocks)) (m15 (c .before) (After-empty-action·gave c))
-        lay4 = λ c. λ g. (Relend.count-is T25 13 14 (λ x. x) (λ u. 12) (m23 record { before = c .before; empty-action = c .empty-action; } g)
-            (slice-aggregate-write-all record { before = record { before = c .before; empty-action = c .empty-action }; write-all-arg = record { given
-            = g }; }), (write-all-requires record { before = record { before = c .before; empty-action = c .empty-action }; write-all-arg = record {
-            given = g }; }, λ g'. lay5 record { before = record { before = record { before = c .before; empty-action = c .empty-action };
-            write-all-arg = record { given = g }; }; write-all = Called.called ps·4 r·4 (claims· .9) T26 (Num.vLit 1, (record { pos = 14; ty =
-            Syntax.tyRef Syntax.erased Syntax.imm (Syntax.tyInt Syntax.w8); ref = λ x. x; }, tt,),) (m24 record { before = c .before; empty-action = c
-            .empty-action } g) g'; },),)
-        lay3 : (c : After-empty-usage) → at68 (c .before .before .before .blocks) (W0 (c .before .before .before .args) (c .before .before .before
-            .blocks)) (m11 (c .before) (After-empty-usage·gave c))
-        lay3 = λ c. (tt, (empty-action-requires record { before = c .before; empty-usage = c .empty-usage }, λ g. lay4 record { before = record {
-            before = c .before; empty-usage = c .empty-usage }; empty-action = Called.called ps·3 r·3 (claims· .7) T15 tt (m14 (c .before)
-            (After-empty-usage·gave c)) g; },),)
-        lay2 : (c : After-empty-circuit) → at72 (c .before .before .blocks) (W0 (c .before .before .args) (c .before .before .blocks)) (m7 (c .before)
-            (After-empty-circuit·gave c))
-        lay2 = λ c. (empty-usage-requires record { before = c .before; empty-circuit = c .empty-circuit }, λ g. lay3 record { before = record { before
-            = c .before; empty-circuit = c .empty-circuit }; empty-usage = Called.called ps·2 r·2 (claims· .5) T11 tt (m10 (c .before)
-            (After-empty-circuit·gave c)) g; },)
-        lay1 : (c : After-empty-pending) → at76 (c .before .blocks) (W0 (c .before .args) (c .before .blocks)) (m3 (c .before)
-            (After-empty-pending·gave c))
-        lay1 = λ c. (empty-circuit-requires record { before = c .before; empty-pending = c .empty-pending }, λ g. lay2 record { before = record {
-            before = c .before; empty-pending = c .empty-pending }; empty-circuit = Called.called ps·1 r·1 (claims· .3) T7 tt (m6 (c .before)
-            (After-empty-pending·gave c)) g; },)
+
+        lay6 : (c : After-run-all) → at28 (c .before .before .before .before .before .before .before .before .before
+            .before .before .before .before .blocks) (W0 (c .before .before .before .before .before .before .before
+            .before .before .before .before .before .before .args) (c .before .before .before .before .before .before
+            .before .before .before .before .before .before .before .blocks)) (m42 (c .before) (After-run-all·gave c))
+        lay6 = λ c. (
+          Path.refl,
+          λ g. (
+            Path.refl,
+            λ g'. (
+              Path.refl,
+              λ g''. (
+                Path.refl,
+                λ g'3. (
+                  Path.refl,
+                  λ g'4. (
+                    Path.refl,
+                    λ g'5. (
+                      run-samples-requires record {
+                        before = record {
+                          before = record {
+                            before = record {
+                              before = record {
+                                before = record {
+                                  before = record { before = c .before; run-all = c .run-all };
+                                  pending2 = record { given = g };
+                                };
+                                circuits2 = record { given = g' };
+                              };
+                              ledger2 = record { given = g'' };
+                            };
+                            inflight2 = record { given = g'3 };
+                          };
+                          out2 = record { given = g'4 };
+                        };
+                        body2 = record { given = g'5 };
+                      },
+                      λ g'6. lay7 record {
+                        before = record {
+                          before = record {
+                            before = record {
+                              before = record {
+                                before = record {
+                                  before = record {
+                                    before = record { before = c .before; run-all = c .run-all };
+                                    pending2 = record { given = g };
+                                  };
+                                  circuits2 = record { given = g' };
+                                };
+                                ledger2 = record { given = g'' };
+                              };
+                              inflight2 = record { given = g'3 };
+                            };
+                            out2 = record { given = g'4 };
+                          };
+                          body2 = record { given = g'5 };
+                        };
+                        run-samples = Called.called ps·6 r·6 (claims· .13) T77 tt (m55
+                            record {
+                              before = record {
+                                before = record {
+                                  before = record {
+                                    before = record {
+                                      before = record { before = c .before; run-all = c .run-all };
+                                      pending2 = record { given = g };
+                                    };
+                                    circuits2 = record { given = g' };
+                                  };
+                                  ledger2 = record { given = g'' };
+                                };
+                                inflight2 = record { given = g'3 };
+                              };
+                              out2 = record { given = g'4 };
+                            } g'5) g'6;
+                      },
+                    ),
+                  ),
+                ),
+              ),
+            ),
+          ),
+        )
+
+        lay5 : (c : After-write-all) → at53 (c .before .before .before .before .before .before .blocks) (W0
+            (c .before .before .before .before .before .before .args) (c .before .before .before .before .before
+            .before .blocks)) (m25 (c .before) (After-write-all·gave c))
+        lay5 = λ c. λ g. (
+          Relend.count-is T35 16 17 (λ x. x) (λ u. 2) (m30 record { before = c .before; write-all = c .write-all } g) (slice-aggregate-run-all
+              record {
+                before = record { before = c .before; write-all = c .write-all };
+                pending = record { given = g };
+              }),
+          λ g'. (
+            Relend.count-is T38 18 19 (λ x. x) (λ u. 2) (m32
+                record {
+                  before = record { before = c .before; write-all = c .write-all };
+                  pending = record { given = g };
+                } g') (slice-aggregate-run-all-2 record {
+                  before = record {
+                    before = record { before = c .before; write-all = c .write-all };
+                    pending = record { given = g };
+                  };
+                  circuits = record { given = g' };
+                }),
+            λ g''. (
+              Relend.count-is T41 20 21 (λ x. x) (λ u. 1) (m34
+                  record {
+                    before = record {
+                      before = record { before = c .before; write-all = c .write-all };
+                      pending = record { given = g };
+                    };
+                    circuits = record { given = g' };
+                  } g'') (slice-aggregate-run-all-3 record {
+                    before = record {
+                      before = record {
+                        before = record { before = c .before; write-all = c .write-all };
+                        pending = record { given = g };
+                      };
+                      circuits = record { given = g' };
+                    };
+                    ledger = record { given = g'' };
+                  }),
+              λ g'3. (
+                Relend.count-is T44 22 23 (λ x. x) (λ u. 8) (m36
+                    record {
+                      before = record {
+                        before = record {
+                          before = record { before = c .before; write-all = c .write-all };
+                          pending = record { given = g };
+                        };
+                        circuits = record { given = g' };
+                      };
+                      ledger = record { given = g'' };
+                    } g'3) (slice-aggregate-run-all-4
+                    record {
+                      before = record {
+                        before = record {
+                          before = record {
+                            before = record { before = c .before; write-all = c .write-all };
+                            pending = record { given = g };
+                          };
+                          circuits = record { given = g' };
+                        };
+                        ledger = record { given = g'' };
+                      };
+                      inflight = record { given = g'3 };
+                    }),
+                λ g'4. (
+                  Relend.count-is T47 24 25 (λ x. x) (λ u. 4136) (m38
+                      record {
+                        before = record {
+                          before = record {
+                            before = record {
+                              before = record { before = c .before; write-all = c .write-all };
+                              pending = record { given = g };
+                            };
+                            circuits = record { given = g' };
+                          };
+                          ledger = record { given = g'' };
+                        };
+                        inflight = record { given = g'3 };
+                      } g'4) (slice-aggregate-run-all-5
+                      record {
+                        before = record {
+                          before = record {
+                            before = record {
+                              before = record {
+                                before = record { before = c .before; write-all = c .write-all };
+                                pending = record { given = g };
+                              };
+                              circuits = record { given = g' };
+                            };
+                            ledger = record { given = g'' };
+                          };
+                          inflight = record { given = g'3 };
+                        };
+                        out = record { given = g'4 };
+                      }),
+                  λ g'5. (
+                    Relend.count-is T50 26 27 (λ x. x) (λ u. 16385) (m40
+                        record {
+                          before = record {
+                            before = record {
+                              before = record {
+                                before = record {
+                                  before = record { before = c .before; write-all = c .write-all };
+                                  pending = record { given = g };
+                                };
+                                circuits = record { given = g' };
+                              };
+                              ledger = record { given = g'' };
+                            };
+                            inflight = record { given = g'3 };
+                          };
+                          out = record { given = g'4 };
+                        } g'5) (slice-aggregate-run-all-6
+                        record {
+                          before = record {
+                            before = record {
+                              before = record {
+                                before = record {
+                                  before = record {
+                                    before = record { before = c .before; write-all = c .write-all };
+                                    pending = record { given = g };
+                                  };
+                                  circuits = record { given = g' };
+                                };
+                                ledger = record { given = g'' };
+                              };
+                              inflight = record { given = g'3 };
+                            };
+                            out = record { given = g'4 };
+                          };
+                          body = record { given = g'5 };
+                        }),
+                    (
+                      run-all-requires record {
+                        before = record {
+                          before = record {
+                            before = record {
+                              before = record {
+                                before = record {
+                                  before = record { before = c .before; write-all = c .write-all };
+                                  pending = record { given = g };
+                                };
+                                circuits = record { given = g' };
+                              };
+                              ledger = record { given = g'' };
+                            };
+                            inflight = record { given = g'3 };
+                          };
+                          out = record { given = g'4 };
+                        };
+                        body = record { given = g'5 };
+                      },
+                      λ g'6. lay6 record {
+                        before = record {
+                          before = record {
+                            before = record {
+                              before = record {
+                                before = record {
+                                  before = record {
+                                    before = record { before = c .before; write-all = c .write-all };
+                                    pending = record { given = g };
+                                  };
+                                  circuits = record { given = g' };
+                                };
+                                ledger = record { given = g'' };
+                              };
+                              inflight = record { given = g'3 };
+                            };
+                            out = record { given = g'4 };
+                          };
+                          body = record { given = g'5 };
+                        };
+                        run-all = Called.called ps·5 r·5 (claims· .11) T51 (
+                          record { pos = 17; ty = ref3; ref = λ x. x },
+                          (
+                            record { pos = 19; ty = ref5; ref = λ x. x },
+                            (
+                              record { pos = 21; ty = ref7; ref = λ x. x },
+                              (
+                                record { pos = 23; ty = ref9; ref = λ x. x },
+                                (
+                                  record { pos = 25; ty = ref11; ref = λ x. x },
+                                  (record { pos = 27; ty = ref13; ref = λ x. x }, tt),
+                                ),
+                              ),
+                            ),
+                          ),
+                        ) (m41 record {
+                          before = record {
+                            before = record {
+                              before = record {
+                                before = record {
+                                  before = record { before = c .before; write-all = c .write-all };
+                                  pending = record { given = g };
+                                };
+                                circuits = record { given = g' };
+                              };
+                              ledger = record { given = g'' };
+                            };
+                            inflight = record { given = g'3 };
+                          };
+                          out = record { given = g'4 };
+                        } g'5) g'6;
+                      },
+                    ),
+                  ),
+                ),
+              ),
+            ),
+          ),
+        )
+
+        lay4 : (c : After-empty-action) → at64 (c .before .before .before .before .blocks) (W0
+            (c .before .before .before .before .args) (c .before .before .before .before .blocks))
+            (m15 (c .before) (After-empty-action·gave c))
+        lay4 = λ c. λ g. (
+          Relend.count-is T25 13 14 (λ x. x) (λ u. 12) (m23
+              record { before = c .before; empty-action = c .empty-action } g) (slice-aggregate-write-all
+              record {
+                before = record { before = c .before; empty-action = c .empty-action };
+                write-all-arg = record { given = g };
+              }),
+          (
+            write-all-requires record {
+              before = record { before = c .before; empty-action = c .empty-action };
+              write-all-arg = record { given = g };
+            },
+            λ g'. lay5 record {
+              before = record {
+                before = record { before = c .before; empty-action = c .empty-action };
+                write-all-arg = record { given = g };
+              };
+              write-all = Called.called ps·4 r·4 (claims· .9) T26 (
+                Num.vLit 1,
+                (record { pos = 14; ty = ref1; ref = λ x. x }, tt),
+              ) (m24 record { before = c .before; empty-action = c .empty-action } g) g';
+            },
+          ),
+        )
+
+        lay3 : (c : After-empty-usage) → at68 (c .before .before .before .blocks) (W0 (c .before .before .before .args)
+            (c .before .before .before .blocks)) (m11 (c .before) (After-empty-usage·gave c))
+        lay3 = λ c. (
+          tt,
+          (
+            empty-action-requires record { before = c .before; empty-usage = c .empty-usage },
+            λ g. lay4 record {
+              before = record { before = c .before; empty-usage = c .empty-usage };
+              empty-action = Called.called ps·3 r·3 (claims· .7) T15 tt (m14 (c .before) (After-empty-usage·gave c)) g;
+            },
+          ),
+        )
+
+        lay2 : (c : After-empty-circuit) → at72 (c .before .before .blocks)
+            (W0 (c .before .before .args) (c .before .before .blocks)) (m7 (c .before) (After-empty-circuit·gave c))
+        lay2 = λ c. (
+          empty-usage-requires record { before = c .before; empty-circuit = c .empty-circuit },
+          λ g. lay3 record {
+            before = record { before = c .before; empty-circuit = c .empty-circuit };
+            empty-usage = Called.called ps·2 r·2 (claims· .5) T11 tt (m10 (c .before) (After-empty-circuit·gave c)) g;
+          },
+        )
+
+        lay1 : (c : After-empty-pending) → at76 (c .before .blocks) (W0 (c .before .args) (c .before .blocks))
+            (m3 (c .before) (After-empty-pending·gave c))
+        lay1 = λ c. (
+          empty-circuit-requires record { before = c .before; empty-pending = c .empty-pending },
+          λ g. lay2 record {
+            before = record { before = c .before; empty-pending = c .empty-pending };
+            empty-circuit = Called.called ps·1 r·1 (claims· .3) T7 tt (m6 (c .before) (After-empty-pending·gave c)) g;
+          },
+        )
+
         pub laid : (c : Start) → at79 (c .blocks) (W0 (c .args) (c .blocks)) (m0 (c .args) (c .blocks))
-        laid = λ c. (empty-pending-requires c, λ g. lay1 record { before = c; empty-pending = Called.called ps·0 r·0 (claims· .1) T3 tt (m2 (c .args)
-            (c .blocks)) g; },)
+        laid = λ c. (
+          empty-pending-requires c,
+          λ g. lay1 record {
+            before = c;
+            empty-pending = Called.called ps·0 r·0 (claims· .1) T3 tt (m2 (c .args) (c .blocks)) g;
+          },
+        )
+
         module _ (κs : Lifetimes.Lfts 0) (qs : Lifetimes.Shares 0) where
-          pub asked : (a : Kinds.Dens κs ps) → (good : Kinds.GoodsP κs ps a) → (pre : Pre· κs a) → (bs : List.List Nat.ℕ) → Φ bs (Any.wantQ 0 ps r xs
-              m κs qs a (Post· κs a)) (Function.init 0 ps r xs m κs qs a)
-          asked = λ a good pre bs. laid record { args = record { }; blocks = bs; good = good; pre = pre; }
-        module _ { M : Type 1 } (𝓤 : URA.URA M) (H : Wp.Heap 𝓤) (A : Atoms.Atoms 𝓤) (W : Kit.Given 𝓤 H A) (𝓣 : Wp.Tables 𝓤 H) (known0 : Plain.Known 𝓤
-            H A W 𝓣 0 ps·0 r·0 (claims· .0) (claims· .1) "cases::script::empty_pending") (known1 : Plain.Known 𝓤 H A W 𝓣 0 ps·1 r·1 (claims· .2)
-            (claims· .3) "cases::script::empty_circuit") (known2 : Plain.Known 𝓤 H A W 𝓣 0 ps·2 r·2 (claims· .4) (claims· .5)
-            "cases::script::empty_usage") (known3 : Plain.Known 𝓤 H A W 𝓣 0 ps·3 r·3 (claims· .6) (claims· .7) "cases::script::empty_action") (known4
-            : Plain.Known 𝓤 H A W 𝓣 1 ps·4 r·4 (claims· .8) (claims· .9) "io::write_all") (known5 : Plain.Known 𝓤 H A W 𝓣 6 ps·5 r·5 (claims· .10)
-            (claims· .11) "cases::machine::run_all") (known6 : Plain.Known 𝓤 H A W 𝓣 0 ps·6 r·6 (claims· .12) (claims· .13)
+          pub asked : (a : Kinds.Dens κs ps) → (good : Kinds.GoodsP κs ps a) → (pre : Pre· κs a) →
+              (bs : List.List Nat.ℕ) → Φ bs (Any.wantQ 0 ps r xs m κs qs a (Post· κs a))
+              (Function.init 0 ps r xs m κs qs a)
+          asked = λ a good pre bs. laid record { args = record {}; blocks = bs; good = good; pre = pre }
+
+        module _ {M : Type 1} (𝓤 : URA.URA M) (H : Wp.Heap 𝓤) (A : Atoms.Atoms 𝓤) (W : Kit.Given 𝓤 H A)
+            (𝓣 : Wp.Tables 𝓤 H) (known0 : Plain.Known 𝓤 H A W 𝓣 0 ps·0 r·0 (claims· .0) (claims· .1)
+            "cases::script::empty_pending") (known1 : Plain.Known 𝓤 H A W 𝓣 0 ps·1 r·1 (claims· .2) (claims· .3)
+            "cases::script::empty_circuit") (known2 : Plain.Known 𝓤 H A W 𝓣 0 ps·2 r·2 (claims· .4) (claims· .5)
+            "cases::script::empty_usage") (known3 : Plain.Known 𝓤 H A W 𝓣 0 ps·3 r·3 (claims· .6) (claims· .7)
+            "cases::script::empty_action") (known4 : Plain.Known 𝓤 H A W 𝓣 1 ps·4 r·4 (claims· .8) (claims· .9)
+            "io::write_all") (known5 : Plain.Known 𝓤 H A W 𝓣 6 ps·5 r·5 (claims· .10) (claims· .11)
+            "cases::machine::run_all") (known6 : Plain.Known 𝓤 H A W 𝓣 0 ps·6 r·6 (claims· .12) (claims· .13)
             "cases::samples::run_samples") where
-          pub spec : Statement.Triple 𝓤 (Wp.WpFn 𝓤 H (𝓣 .C) (𝓣 .Λ) (Function.fnOf 0 ps r xs m hs body)) (Function.plainOf 𝓤 H A 0 ps r Pre· Post·)
-          spec = Plain.t-fn-plain 𝓤 H A W 𝓣 0 ps r xs m hs body (λ κs qs bs. Φ bs) (λ κs qs bs bd. typed κs qs 𝓤 H A W 𝓣 (known0, known1, known2,
-              known3, known4, known5, known6,) bs bd) Pre· Post· asked
+          pub spec : Statement.Triple 𝓤 (Wp.WpFn 𝓤 H (𝓣 .C) (𝓣 .Λ) (Function.fnOf 0 ps r xs m hs body))
+              (Function.plainOf 𝓤 H A 0 ps r Pre· Post·)
+          spec = Plain.t-fn-plain 𝓤 H A W 𝓣 0 ps r xs m hs body (λ κs qs bs. Φ bs) (λ κs qs bs bd. typed κs qs 𝓤 H A W
+              𝓣 (known0, known1, known2, known3, known4, known5, known6) bs bd) Pre· Post· asked

@@ -30,8 +30,8 @@ use borrow.Fn.Run
 use borrow.Fn.Written
 use contract.Running
 
-abbrev pub Start : Type 0
-Start = Lts.Start (
+abbrev pub readings : Lts.Claims
+readings = (
   Reads'''''.Asked,
   Reads'''''.Learnt,
   Reads''''.Asked,
@@ -46,742 +46,147 @@ Start = Lts.Start (
   Reads.Learnt,
   Reads''.Asked,
   Reads''.Learnt,
-) Reads'.Pre Reads'.Post
+)
+
+abbrev pub Start : Type 0
+Start = Lts.Start readings Reads'.Pre Reads'.Post
 
 abbrev pub After-empty-pending : Type 0
-After-empty-pending = Lts.After-empty-pending (
-  Reads'''''.Asked,
-  Reads'''''.Learnt,
-  Reads''''.Asked,
-  Reads''''.Learnt,
-  Reads''''''.Asked,
-  Reads''''''.Learnt,
-  Reads'''.Asked,
-  Reads'''.Learnt,
-  Reads'''''''.Asked,
-  Reads'''''''.Learnt,
-  Reads.Asked,
-  Reads.Learnt,
-  Reads''.Asked,
-  Reads''.Learnt,
-) Reads'.Pre Reads'.Post
+After-empty-pending = Lts.After-empty-pending readings Reads'.Pre Reads'.Post
 
 abbrev pub After-empty-circuit : Type 0
-After-empty-circuit = Lts.After-empty-circuit (
-  Reads'''''.Asked,
-  Reads'''''.Learnt,
-  Reads''''.Asked,
-  Reads''''.Learnt,
-  Reads''''''.Asked,
-  Reads''''''.Learnt,
-  Reads'''.Asked,
-  Reads'''.Learnt,
-  Reads'''''''.Asked,
-  Reads'''''''.Learnt,
-  Reads.Asked,
-  Reads.Learnt,
-  Reads''.Asked,
-  Reads''.Learnt,
-) Reads'.Pre Reads'.Post
+After-empty-circuit = Lts.After-empty-circuit readings Reads'.Pre Reads'.Post
 
 abbrev pub After-empty-usage : Type 0
-After-empty-usage = Lts.After-empty-usage (
-  Reads'''''.Asked,
-  Reads'''''.Learnt,
-  Reads''''.Asked,
-  Reads''''.Learnt,
-  Reads''''''.Asked,
-  Reads''''''.Learnt,
-  Reads'''.Asked,
-  Reads'''.Learnt,
-  Reads'''''''.Asked,
-  Reads'''''''.Learnt,
-  Reads.Asked,
-  Reads.Learnt,
-  Reads''.Asked,
-  Reads''.Learnt,
-) Reads'.Pre Reads'.Post
+After-empty-usage = Lts.After-empty-usage readings Reads'.Pre Reads'.Post
 
 abbrev pub After-empty-action : Type 0
-After-empty-action = Lts.After-empty-action (
-  Reads'''''.Asked,
-  Reads'''''.Learnt,
-  Reads''''.Asked,
-  Reads''''.Learnt,
-  Reads''''''.Asked,
-  Reads''''''.Learnt,
-  Reads'''.Asked,
-  Reads'''.Learnt,
-  Reads'''''''.Asked,
-  Reads'''''''.Learnt,
-  Reads.Asked,
-  Reads.Learnt,
-  Reads''.Asked,
-  Reads''.Learnt,
-) Reads'.Pre Reads'.Post
+After-empty-action = Lts.After-empty-action readings Reads'.Pre Reads'.Post
 
 abbrev pub After-write-all-arg : Type 0
-After-write-all-arg = Lts.After-write-all-arg (
-  Reads'''''.Asked,
-  Reads'''''.Learnt,
-  Reads''''.Asked,
-  Reads''''.Learnt,
-  Reads''''''.Asked,
-  Reads''''''.Learnt,
-  Reads'''.Asked,
-  Reads'''.Learnt,
-  Reads'''''''.Asked,
-  Reads'''''''.Learnt,
-  Reads.Asked,
-  Reads.Learnt,
-  Reads''.Asked,
-  Reads''.Learnt,
-) Reads'.Pre Reads'.Post
+After-write-all-arg = Lts.After-write-all-arg readings Reads'.Pre Reads'.Post
 
 abbrev pub After-write-all : Type 0
-After-write-all = Lts.After-write-all (
-  Reads'''''.Asked,
-  Reads'''''.Learnt,
-  Reads''''.Asked,
-  Reads''''.Learnt,
-  Reads''''''.Asked,
-  Reads''''''.Learnt,
-  Reads'''.Asked,
-  Reads'''.Learnt,
-  Reads'''''''.Asked,
-  Reads'''''''.Learnt,
-  Reads.Asked,
-  Reads.Learnt,
-  Reads''.Asked,
-  Reads''.Learnt,
-) Reads'.Pre
-    Reads'.Post
+After-write-all = Lts.After-write-all readings Reads'.Pre Reads'.Post
 
 abbrev pub After-pending : Type 0
-After-pending = Lts.After-pending (
-  Reads'''''.Asked,
-  Reads'''''.Learnt,
-  Reads''''.Asked,
-  Reads''''.Learnt,
-  Reads''''''.Asked,
-  Reads''''''.Learnt,
-  Reads'''.Asked,
-  Reads'''.Learnt,
-  Reads'''''''.Asked,
-  Reads'''''''.Learnt,
-  Reads.Asked,
-  Reads.Learnt,
-  Reads''.Asked,
-  Reads''.Learnt,
-) Reads'.Pre
-    Reads'.Post
+After-pending = Lts.After-pending readings Reads'.Pre Reads'.Post
 
 abbrev pub After-circuits : Type 0
-After-circuits = Lts.After-circuits (
-  Reads'''''.Asked,
-  Reads'''''.Learnt,
-  Reads''''.Asked,
-  Reads''''.Learnt,
-  Reads''''''.Asked,
-  Reads''''''.Learnt,
-  Reads'''.Asked,
-  Reads'''.Learnt,
-  Reads'''''''.Asked,
-  Reads'''''''.Learnt,
-  Reads.Asked,
-  Reads.Learnt,
-  Reads''.Asked,
-  Reads''.Learnt,
-) Reads'.Pre
-    Reads'.Post
+After-circuits = Lts.After-circuits readings Reads'.Pre Reads'.Post
 
 abbrev pub After-ledger : Type 0
-After-ledger = Lts.After-ledger (
-  Reads'''''.Asked,
-  Reads'''''.Learnt,
-  Reads''''.Asked,
-  Reads''''.Learnt,
-  Reads''''''.Asked,
-  Reads''''''.Learnt,
-  Reads'''.Asked,
-  Reads'''.Learnt,
-  Reads'''''''.Asked,
-  Reads'''''''.Learnt,
-  Reads.Asked,
-  Reads.Learnt,
-  Reads''.Asked,
-  Reads''.Learnt,
-) Reads'.Pre
-    Reads'.Post
+After-ledger = Lts.After-ledger readings Reads'.Pre Reads'.Post
 
 abbrev pub After-inflight : Type 0
-After-inflight = Lts.After-inflight (
-  Reads'''''.Asked,
-  Reads'''''.Learnt,
-  Reads''''.Asked,
-  Reads''''.Learnt,
-  Reads''''''.Asked,
-  Reads''''''.Learnt,
-  Reads'''.Asked,
-  Reads'''.Learnt,
-  Reads'''''''.Asked,
-  Reads'''''''.Learnt,
-  Reads.Asked,
-  Reads.Learnt,
-  Reads''.Asked,
-  Reads''.Learnt,
-) Reads'.Pre
-    Reads'.Post
+After-inflight = Lts.After-inflight readings Reads'.Pre Reads'.Post
 
 abbrev pub After-out : Type 0
-After-out = Lts.After-out (
-  Reads'''''.Asked,
-  Reads'''''.Learnt,
-  Reads''''.Asked,
-  Reads''''.Learnt,
-  Reads''''''.Asked,
-  Reads''''''.Learnt,
-  Reads'''.Asked,
-  Reads'''.Learnt,
-  Reads'''''''.Asked,
-  Reads'''''''.Learnt,
-  Reads.Asked,
-  Reads.Learnt,
-  Reads''.Asked,
-  Reads''.Learnt,
-) Reads'.Pre
-    Reads'.Post
+After-out = Lts.After-out readings Reads'.Pre Reads'.Post
 
 abbrev pub After-body : Type 0
-After-body = Lts.After-body (
-  Reads'''''.Asked,
-  Reads'''''.Learnt,
-  Reads''''.Asked,
-  Reads''''.Learnt,
-  Reads''''''.Asked,
-  Reads''''''.Learnt,
-  Reads'''.Asked,
-  Reads'''.Learnt,
-  Reads'''''''.Asked,
-  Reads'''''''.Learnt,
-  Reads.Asked,
-  Reads.Learnt,
-  Reads''.Asked,
-  Reads''.Learnt,
-) Reads'.Pre
-    Reads'.Post
+After-body = Lts.After-body readings Reads'.Pre Reads'.Post
 
 abbrev pub After-run-all : Type 0
-After-run-all = Lts.After-run-all (
-  Reads'''''.Asked,
-  Reads'''''.Learnt,
-  Reads''''.Asked,
-  Reads''''.Learnt,
-  Reads''''''.Asked,
-  Reads''''''.Learnt,
-  Reads'''.Asked,
-  Reads'''.Learnt,
-  Reads'''''''.Asked,
-  Reads'''''''.Learnt,
-  Reads.Asked,
-  Reads.Learnt,
-  Reads''.Asked,
-  Reads''.Learnt,
-) Reads'.Pre
-    Reads'.Post
+After-run-all = Lts.After-run-all readings Reads'.Pre Reads'.Post
 
 abbrev pub After-pending2 : Type 0
-After-pending2 = Lts.After-pending2 (
-  Reads'''''.Asked,
-  Reads'''''.Learnt,
-  Reads''''.Asked,
-  Reads''''.Learnt,
-  Reads''''''.Asked,
-  Reads''''''.Learnt,
-  Reads'''.Asked,
-  Reads'''.Learnt,
-  Reads'''''''.Asked,
-  Reads'''''''.Learnt,
-  Reads.Asked,
-  Reads.Learnt,
-  Reads''.Asked,
-  Reads''.Learnt,
-) Reads'.Pre
-    Reads'.Post
+After-pending2 = Lts.After-pending2 readings Reads'.Pre Reads'.Post
 
 abbrev pub After-circuits2 : Type 0
-After-circuits2 = Lts.After-circuits2 (
-  Reads'''''.Asked,
-  Reads'''''.Learnt,
-  Reads''''.Asked,
-  Reads''''.Learnt,
-  Reads''''''.Asked,
-  Reads''''''.Learnt,
-  Reads'''.Asked,
-  Reads'''.Learnt,
-  Reads'''''''.Asked,
-  Reads'''''''.Learnt,
-  Reads.Asked,
-  Reads.Learnt,
-  Reads''.Asked,
-  Reads''.Learnt,
-) Reads'.Pre
-    Reads'.Post
+After-circuits2 = Lts.After-circuits2 readings Reads'.Pre Reads'.Post
 
 abbrev pub After-ledger2 : Type 0
-After-ledger2 = Lts.After-ledger2 (
-  Reads'''''.Asked,
-  Reads'''''.Learnt,
-  Reads''''.Asked,
-  Reads''''.Learnt,
-  Reads''''''.Asked,
-  Reads''''''.Learnt,
-  Reads'''.Asked,
-  Reads'''.Learnt,
-  Reads'''''''.Asked,
-  Reads'''''''.Learnt,
-  Reads.Asked,
-  Reads.Learnt,
-  Reads''.Asked,
-  Reads''.Learnt,
-) Reads'.Pre
-    Reads'.Post
+After-ledger2 = Lts.After-ledger2 readings Reads'.Pre Reads'.Post
 
 abbrev pub After-inflight2 : Type 0
-After-inflight2 = Lts.After-inflight2 (
-  Reads'''''.Asked,
-  Reads'''''.Learnt,
-  Reads''''.Asked,
-  Reads''''.Learnt,
-  Reads''''''.Asked,
-  Reads''''''.Learnt,
-  Reads'''.Asked,
-  Reads'''.Learnt,
-  Reads'''''''.Asked,
-  Reads'''''''.Learnt,
-  Reads.Asked,
-  Reads.Learnt,
-  Reads''.Asked,
-  Reads''.Learnt,
-) Reads'.Pre
-    Reads'.Post
+After-inflight2 = Lts.After-inflight2 readings Reads'.Pre Reads'.Post
 
 abbrev pub After-out2 : Type 0
-After-out2 = Lts.After-out2 (
-  Reads'''''.Asked,
-  Reads'''''.Learnt,
-  Reads''''.Asked,
-  Reads''''.Learnt,
-  Reads''''''.Asked,
-  Reads''''''.Learnt,
-  Reads'''.Asked,
-  Reads'''.Learnt,
-  Reads'''''''.Asked,
-  Reads'''''''.Learnt,
-  Reads.Asked,
-  Reads.Learnt,
-  Reads''.Asked,
-  Reads''.Learnt,
-) Reads'.Pre
-    Reads'.Post
+After-out2 = Lts.After-out2 readings Reads'.Pre Reads'.Post
 
 abbrev pub After-body2 : Type 0
-After-body2 = Lts.After-body2 (
-  Reads'''''.Asked,
-  Reads'''''.Learnt,
-  Reads''''.Asked,
-  Reads''''.Learnt,
-  Reads''''''.Asked,
-  Reads''''''.Learnt,
-  Reads'''.Asked,
-  Reads'''.Learnt,
-  Reads'''''''.Asked,
-  Reads'''''''.Learnt,
-  Reads.Asked,
-  Reads.Learnt,
-  Reads''.Asked,
-  Reads''.Learnt,
-) Reads'.Pre
-    Reads'.Post
+After-body2 = Lts.After-body2 readings Reads'.Pre Reads'.Post
 
 abbrev pub After-run-samples : Type 0
-After-run-samples = Lts.After-run-samples (
-  Reads'''''.Asked,
-  Reads'''''.Learnt,
-  Reads''''.Asked,
-  Reads''''.Learnt,
-  Reads''''''.Asked,
-  Reads''''''.Learnt,
-  Reads'''.Asked,
-  Reads'''.Learnt,
-  Reads'''''''.Asked,
-  Reads'''''''.Learnt,
-  Reads.Asked,
-  Reads.Learnt,
-  Reads''.Asked,
-  Reads''.Learnt,
-) Reads'.Pre Reads'.Post
+After-run-samples = Lts.After-run-samples readings Reads'.Pre Reads'.Post
 
 abbrev pub Need-empty-pending-requires : Type 0
-Need-empty-pending-requires = Lts.Need-empty-pending-requires (
-  Reads'''''.Asked,
-  Reads'''''.Learnt,
-  Reads''''.Asked,
-  Reads''''.Learnt,
-  Reads''''''.Asked,
-  Reads''''''.Learnt,
-  Reads'''.Asked,
-  Reads'''.Learnt,
-  Reads'''''''.Asked,
-  Reads'''''''.Learnt,
-  Reads.Asked,
-  Reads.Learnt,
-  Reads''.Asked,
-  Reads''.Learnt,
-) Reads'.Pre Reads'.Post
+Need-empty-pending-requires = Lts.Need-empty-pending-requires readings Reads'.Pre Reads'.Post
 
 abbrev pub Need-empty-circuit-requires : Type 0
-Need-empty-circuit-requires = Lts.Need-empty-circuit-requires (
-  Reads'''''.Asked,
-  Reads'''''.Learnt,
-  Reads''''.Asked,
-  Reads''''.Learnt,
-  Reads''''''.Asked,
-  Reads''''''.Learnt,
-  Reads'''.Asked,
-  Reads'''.Learnt,
-  Reads'''''''.Asked,
-  Reads'''''''.Learnt,
-  Reads.Asked,
-  Reads.Learnt,
-  Reads''.Asked,
-  Reads''.Learnt,
-) Reads'.Pre Reads'.Post
+Need-empty-circuit-requires = Lts.Need-empty-circuit-requires readings Reads'.Pre Reads'.Post
 
 abbrev pub Need-empty-usage-requires : Type 0
-Need-empty-usage-requires = Lts.Need-empty-usage-requires (
-  Reads'''''.Asked,
-  Reads'''''.Learnt,
-  Reads''''.Asked,
-  Reads''''.Learnt,
-  Reads''''''.Asked,
-  Reads''''''.Learnt,
-  Reads'''.Asked,
-  Reads'''.Learnt,
-  Reads'''''''.Asked,
-  Reads'''''''.Learnt,
-  Reads.Asked,
-  Reads.Learnt,
-  Reads''.Asked,
-  Reads''.Learnt,
-) Reads'.Pre Reads'.Post
+Need-empty-usage-requires = Lts.Need-empty-usage-requires readings Reads'.Pre Reads'.Post
 
 abbrev pub Need-empty-action-requires : Type 0
-Need-empty-action-requires = Lts.Need-empty-action-requires (
-  Reads'''''.Asked,
-  Reads'''''.Learnt,
-  Reads''''.Asked,
-  Reads''''.Learnt,
-  Reads''''''.Asked,
-  Reads''''''.Learnt,
-  Reads'''.Asked,
-  Reads'''.Learnt,
-  Reads'''''''.Asked,
-  Reads'''''''.Learnt,
-  Reads.Asked,
-  Reads.Learnt,
-  Reads''.Asked,
-  Reads''.Learnt,
-) Reads'.Pre Reads'.Post
+Need-empty-action-requires = Lts.Need-empty-action-requires readings Reads'.Pre Reads'.Post
 
 abbrev pub Need-slice-aggregate-write-all : Type 0
-Need-slice-aggregate-write-all = Lts.Need-slice-aggregate-write-all (
-  Reads'''''.Asked,
-  Reads'''''.Learnt,
-  Reads''''.Asked,
-  Reads''''.Learnt,
-  Reads''''''.Asked,
-  Reads''''''.Learnt,
-  Reads'''.Asked,
-  Reads'''.Learnt,
-  Reads'''''''.Asked,
-  Reads'''''''.Learnt,
-  Reads.Asked,
-  Reads.Learnt,
-  Reads''.Asked,
-  Reads''.Learnt,
-) Reads'.Pre Reads'.Post
+Need-slice-aggregate-write-all = Lts.Need-slice-aggregate-write-all readings Reads'.Pre Reads'.Post
 
 abbrev pub Need-write-all-requires : Type 0
-Need-write-all-requires = Lts.Need-write-all-requires (
-  Reads'''''.Asked,
-  Reads'''''.Learnt,
-  Reads''''.Asked,
-  Reads''''.Learnt,
-  Reads''''''.Asked,
-  Reads''''''.Learnt,
-  Reads'''.Asked,
-  Reads'''.Learnt,
-  Reads'''''''.Asked,
-  Reads'''''''.Learnt,
-  Reads.Asked,
-  Reads.Learnt,
-  Reads''.Asked,
-  Reads''.Learnt,
-) Reads'.Pre Reads'.Post
+Need-write-all-requires = Lts.Need-write-all-requires readings Reads'.Pre Reads'.Post
 
 abbrev pub Need-slice-aggregate-run-all : Type 0
-Need-slice-aggregate-run-all = Lts.Need-slice-aggregate-run-all (
-  Reads'''''.Asked,
-  Reads'''''.Learnt,
-  Reads''''.Asked,
-  Reads''''.Learnt,
-  Reads''''''.Asked,
-  Reads''''''.Learnt,
-  Reads'''.Asked,
-  Reads'''.Learnt,
-  Reads'''''''.Asked,
-  Reads'''''''.Learnt,
-  Reads.Asked,
-  Reads.Learnt,
-  Reads''.Asked,
-  Reads''.Learnt,
-) Reads'.Pre Reads'.Post
+Need-slice-aggregate-run-all = Lts.Need-slice-aggregate-run-all readings Reads'.Pre Reads'.Post
 
 abbrev pub Need-slice-aggregate-run-all-2 : Type 0
-Need-slice-aggregate-run-all-2 = Lts.Need-slice-aggregate-run-all-2 (
-  Reads'''''.Asked,
-  Reads'''''.Learnt,
-  Reads''''.Asked,
-  Reads''''.Learnt,
-  Reads''''''.Asked,
-  Reads''''''.Learnt,
-  Reads'''.Asked,
-  Reads'''.Learnt,
-  Reads'''''''.Asked,
-  Reads'''''''.Learnt,
-  Reads.Asked,
-  Reads.Learnt,
-  Reads''.Asked,
-  Reads''.Learnt,
-) Reads'.Pre Reads'.Post
+Need-slice-aggregate-run-all-2 = Lts.Need-slice-aggregate-run-all-2 readings Reads'.Pre Reads'.Post
 
 abbrev pub Need-slice-aggregate-run-all-3 : Type 0
-Need-slice-aggregate-run-all-3 = Lts.Need-slice-aggregate-run-all-3 (
-  Reads'''''.Asked,
-  Reads'''''.Learnt,
-  Reads''''.Asked,
-  Reads''''.Learnt,
-  Reads''''''.Asked,
-  Reads''''''.Learnt,
-  Reads'''.Asked,
-  Reads'''.Learnt,
-  Reads'''''''.Asked,
-  Reads'''''''.Learnt,
-  Reads.Asked,
-  Reads.Learnt,
-  Reads''.Asked,
-  Reads''.Learnt,
-) Reads'.Pre Reads'.Post
+Need-slice-aggregate-run-all-3 = Lts.Need-slice-aggregate-run-all-3 readings Reads'.Pre Reads'.Post
 
 abbrev pub Need-slice-aggregate-run-all-4 : Type 0
-Need-slice-aggregate-run-all-4 = Lts.Need-slice-aggregate-run-all-4 (
-  Reads'''''.Asked,
-  Reads'''''.Learnt,
-  Reads''''.Asked,
-  Reads''''.Learnt,
-  Reads''''''.Asked,
-  Reads''''''.Learnt,
-  Reads'''.Asked,
-  Reads'''.Learnt,
-  Reads'''''''.Asked,
-  Reads'''''''.Learnt,
-  Reads.Asked,
-  Reads.Learnt,
-  Reads''.Asked,
-  Reads''.Learnt,
-) Reads'.Pre Reads'.Post
+Need-slice-aggregate-run-all-4 = Lts.Need-slice-aggregate-run-all-4 readings Reads'.Pre Reads'.Post
 
 abbrev pub Need-slice-aggregate-run-all-5 : Type 0
-Need-slice-aggregate-run-all-5 = Lts.Need-slice-aggregate-run-all-5 (
-  Reads'''''.Asked,
-  Reads'''''.Learnt,
-  Reads''''.Asked,
-  Reads''''.Learnt,
-  Reads''''''.Asked,
-  Reads''''''.Learnt,
-  Reads'''.Asked,
-  Reads'''.Learnt,
-  Reads'''''''.Asked,
-  Reads'''''''.Learnt,
-  Reads.Asked,
-  Reads.Learnt,
-  Reads''.Asked,
-  Reads''.Learnt,
-) Reads'.Pre Reads'.Post
+Need-slice-aggregate-run-all-5 = Lts.Need-slice-aggregate-run-all-5 readings Reads'.Pre Reads'.Post
 
 abbrev pub Need-slice-aggregate-run-all-6 : Type 0
-Need-slice-aggregate-run-all-6 = Lts.Need-slice-aggregate-run-all-6 (
-  Reads'''''.Asked,
-  Reads'''''.Learnt,
-  Reads''''.Asked,
-  Reads''''.Learnt,
-  Reads''''''.Asked,
-  Reads''''''.Learnt,
-  Reads'''.Asked,
-  Reads'''.Learnt,
-  Reads'''''''.Asked,
-  Reads'''''''.Learnt,
-  Reads.Asked,
-  Reads.Learnt,
-  Reads''.Asked,
-  Reads''.Learnt,
-) Reads'.Pre Reads'.Post
+Need-slice-aggregate-run-all-6 = Lts.Need-slice-aggregate-run-all-6 readings Reads'.Pre Reads'.Post
 
 abbrev pub Need-run-all-requires : Type 0
-Need-run-all-requires = Lts.Need-run-all-requires (
-  Reads'''''.Asked,
-  Reads'''''.Learnt,
-  Reads''''.Asked,
-  Reads''''.Learnt,
-  Reads''''''.Asked,
-  Reads''''''.Learnt,
-  Reads'''.Asked,
-  Reads'''.Learnt,
-  Reads'''''''.Asked,
-  Reads'''''''.Learnt,
-  Reads.Asked,
-  Reads.Learnt,
-  Reads''.Asked,
-  Reads''.Learnt,
-) Reads'.Pre Reads'.Post
+Need-run-all-requires = Lts.Need-run-all-requires readings Reads'.Pre Reads'.Post
 
 abbrev pub Need-run-samples-requires : Type 0
-Need-run-samples-requires = Lts.Need-run-samples-requires (
-  Reads'''''.Asked,
-  Reads'''''.Learnt,
-  Reads''''.Asked,
-  Reads''''.Learnt,
-  Reads''''''.Asked,
-  Reads''''''.Learnt,
-  Reads'''.Asked,
-  Reads'''.Learnt,
-  Reads'''''''.Asked,
-  Reads'''''''.Learnt,
-  Reads.Asked,
-  Reads.Learnt,
-  Reads''.Asked,
-  Reads''.Learnt,
-) Reads'.Pre Reads'.Post
+Need-run-samples-requires = Lts.Need-run-samples-requires readings Reads'.Pre Reads'.Post
 
 abbrev pub Need-returns : Type 0
-Need-returns = Lts.Need-returns (
-  Reads'''''.Asked,
-  Reads'''''.Learnt,
-  Reads''''.Asked,
-  Reads''''.Learnt,
-  Reads''''''.Asked,
-  Reads''''''.Learnt,
-  Reads'''.Asked,
-  Reads'''.Learnt,
-  Reads'''''''.Asked,
-  Reads'''''''.Learnt,
-  Reads.Asked,
-  Reads.Learnt,
-  Reads''.Asked,
-  Reads''.Learnt,
-) Reads'.Pre
-    Reads'.Post
+Need-returns = Lts.Need-returns readings Reads'.Pre Reads'.Post
 
 module _ {M : Type 1} where
-  pub spec : (answer : Need-empty-pending-requires) → (answer : Need-empty-circuit-requires) → (answer : Need-empty-usage-requires) → (answer :
-      Need-empty-action-requires) → (answer : Need-slice-aggregate-write-all) → (answer : Need-write-all-requires) → (answer :
-      Need-slice-aggregate-run-all) → (answer : Need-slice-aggregate-run-all-2) → (answer : Need-slice-aggregate-run-all-3) → (answer :
-      Need-slice-aggregate-run-all-4) → (answer : Need-slice-aggregate-run-all-5) → (answer : Need-slice-aggregate-run-all-6) → (answer :
-      Need-run-all-requires) → (answer : Need-run-samples-requires) → (answer : Need-returns) → Lts.Closed (
-        Reads'''''.Asked,
-        Reads'''''.Learnt,
-        Reads''''.Asked,
-        Reads''''.Learnt,
-        Reads''''''.Asked,
-        Reads''''''.Learnt,
-        Reads'''.Asked,
-        Reads'''.Learnt,
-        Reads'''''''.Asked,
-        Reads'''''''.Learnt,
-        Reads.Asked,
-        Reads.Learnt,
-        Reads''.Asked,
-        Reads''.Learnt,
-      ) Reads'.Pre Reads'.Post M
-  spec = λ answer answer' answer'' answer'3 answer'4 answer'5 answer'6 answer'7 answer'8 answer'9 answer'10 answer'11 answer'12 answer'13 answer'14.
-      Lts.spec (
-        Reads'''''.Asked,
-        Reads'''''.Learnt,
-        Reads''''.Asked,
-        Reads''''.Learnt,
-        Reads''''''.Asked,
-        Reads''''''.Learnt,
-        Reads'''.Asked,
-        Reads'''.Learnt,
-        Reads'''''''.Asked,
-        Reads'''''''.Learnt,
-        Reads.Asked,
-        Reads.Learnt,
-        Reads''.Asked,
-        Reads''.Learnt,
-      ) Reads'.Pre Reads'.Post
-      answer answer' answer'' answer'3 answer'4 answer'5 answer'6 answer'7 answer'8 answer'9 answer'10 answer'11 answer'12 answer'13 answer'14
+  pub spec : (answer : Need-empty-pending-requires) → (answer : Need-empty-circuit-requires) →
+      (answer : Need-empty-usage-requires) → (answer : Need-empty-action-requires) →
+      (answer : Need-slice-aggregate-write-all) → (answer : Need-write-all-requires) →
+      (answer : Need-slice-aggregate-run-all) → (answer : Need-slice-aggregate-run-all-2) →
+      (answer : Need-slice-aggregate-run-all-3) → (answer : Need-slice-aggregate-run-all-4) →
+      (answer : Need-slice-aggregate-run-all-5) → (answer : Need-slice-aggregate-run-all-6) →
+      (answer : Need-run-all-requires) → (answer : Need-run-samples-requires) → (answer : Need-returns) → Lts.Closed
+      readings Reads'.Pre Reads'.Post M
+  spec = λ answer answer' answer'' answer'3 answer'4 answer'5 answer'6 answer'7 answer'8 answer'9 answer'10 answer'11
+      answer'12 answer'13 answer'14. Lts.spec readings Reads'.Pre Reads'.Post answer answer' answer'' answer'3 answer'4
+      answer'5 answer'6 answer'7 answer'8 answer'9 answer'10 answer'11 answer'12 answer'13 answer'14
 
-  pub close : Lts.Closed (
-    Reads'''''.Asked,
-    Reads'''''.Learnt,
-    Reads''''.Asked,
-    Reads''''.Learnt,
-    Reads''''''.Asked,
-    Reads''''''.Learnt,
-    Reads'''.Asked,
-    Reads'''.Learnt,
-    Reads'''''''.Asked,
-    Reads'''''''.Learnt,
-    Reads.Asked,
-    Reads.Learnt,
-    Reads''.Asked,
-    Reads''.Learnt,
-  ) Reads'.Pre
-      Reads'.Post M → Statement.statement M
+  pub close : Lts.Closed readings Reads'.Pre Reads'.Post M → Statement.statement M
   unfolding Code.routine Running.tablesOf
-  close = λ closed 𝓤 H 𝓜 𝓖 𝓡. Written.close 0 Kinds.ps Kinds.r Reads'.Ghost Reads'.requires Reads'.ensures Reads'.pre-read Reads'.Pinned Reads'.Owned
-      Reads'.post-read record { M = M; 𝓤 = 𝓤; H = H; 𝓜 = 𝓜; 𝓖 = 𝓖; 𝓡 = 𝓡 } Code.env Key.name Code.function (Code.unfolded 𝓤 H 𝓜 𝓡) (λ κs a g. tt) (λ
-      κs. Reads'.owns κs record { M = M; 𝓤 = 𝓤; H = H; 𝓜 = 𝓜; 𝓖 = 𝓖; 𝓡 = 𝓡 }) (Reads'.passes record { M = M; 𝓤 = 𝓤; H = H; 𝓜 = 𝓜; 𝓖 = 𝓖; 𝓡 = 𝓡 }) λ g.
-      closed 𝓤 H (𝓖 .A) (Running.givenOf 𝓤 H 𝓜 𝓖) (Run.Over 𝓤 H 𝓜 𝓖 𝓡 Code.env) (Reads'''''.known record { M = M; 𝓤 = 𝓤; H = H; 𝓜 = 𝓜; 𝓖 = 𝓖; 𝓡 = 𝓡 }
-      Code.env Symbol''''.name Symbol''''.routine Code.calls-cases·script·empty-pending (Met''''.met 𝓤 H 𝓜 𝓖 𝓡)) (Reads''''.known record {
-        M = M;
-        𝓤 =
-            𝓤;
-        H = H;
-        𝓜 = 𝓜;
-        𝓖 = 𝓖;
-        𝓡 = 𝓡;
-      } Code.env Symbol'''.name Symbol'''.routine Code.calls-cases·script·empty-circuit (Met'''.met 𝓤 H 𝓜 𝓖 𝓡))
-      (Reads''''''.known record { M = M; 𝓤 = 𝓤; H = H; 𝓜 = 𝓜; 𝓖 = 𝓖; 𝓡 = 𝓡 } Code.env Symbol'''''.name Symbol'''''.routine
-      Code.calls-cases·script·empty-usage (Met'''''.met 𝓤 H 𝓜 𝓖 𝓡)) (Reads'''.known record { M = M; 𝓤 = 𝓤; H = H; 𝓜 = 𝓜; 𝓖 = 𝓖; 𝓡 = 𝓡 } Code.env
-      Symbol''.name Symbol''.routine Code.calls-cases·script·empty-action (Met''.met 𝓤 H 𝓜 𝓖 𝓡)) (Reads'''''''.known record {
-        M = M;
-        𝓤 = 𝓤;
-        H = H;
-        𝓜 =
-            𝓜;
-        𝓖 = 𝓖;
-        𝓡 = 𝓡;
-      } Code.env Symbol''''''.name Symbol''''''.routine Code.calls-io·write-all (Met''''''.met 𝓤 H 𝓜 𝓖 𝓡)) (Reads.known record {
-        M =
-            M;
-        𝓤 = 𝓤;
-        H = H;
-        𝓜 = 𝓜;
-        𝓖 = 𝓖;
-        𝓡 = 𝓡;
-      } Code.env Symbol.name Symbol.routine Code.calls-cases·machine·run-all (Met.met 𝓤 H 𝓜 𝓖 𝓡)) (Reads''.known
-      record { M = M; 𝓤 = 𝓤; H = H; 𝓜 = 𝓜; 𝓖 = 𝓖; 𝓡 = 𝓡 } Code.env Symbol'.name Symbol'.routine Code.calls-cases·samples·run-samples (Met'.met 𝓤 H 𝓜 𝓖
-      𝓡))
+  close = λ closed 𝓤 H 𝓜 𝓖 𝓡. Written.close 0 Kinds.ps Kinds.r Reads'.Ghost Reads'.requires Reads'.ensures
+      Reads'.pre-read Reads'.Pinned Reads'.Owned Reads'.post-read record { M = M; 𝓤 = 𝓤; H = H; 𝓜 = 𝓜; 𝓖 = 𝓖; 𝓡 = 𝓡 }
+      Code.env Key.name Code.function (Code.unfolded 𝓤 H 𝓜 𝓡) (λ κs a g. tt) (λ κs. Reads'.owns κs
+      record { M = M; 𝓤 = 𝓤; H = H; 𝓜 = 𝓜; 𝓖 = 𝓖; 𝓡 = 𝓡 }) (Reads'.passes
+      record { M = M; 𝓤 = 𝓤; H = H; 𝓜 = 𝓜; 𝓖 = 𝓖; 𝓡 = 𝓡 }) λ g. closed 𝓤 H (𝓖 .A) (Running.givenOf 𝓤 H 𝓜 𝓖)
+      (Run.Over 𝓤 H 𝓜 𝓖 𝓡 Code.env) (Reads'''''.known record { M = M; 𝓤 = 𝓤; H = H; 𝓜 = 𝓜; 𝓖 = 𝓖; 𝓡 = 𝓡 } Code.env
+      Symbol''''.name Symbol''''.routine Code.calls-cases·script·empty-pending (Met''''.met 𝓤 H 𝓜 𝓖 𝓡)) (Reads''''.known
+      record { M = M; 𝓤 = 𝓤; H = H; 𝓜 = 𝓜; 𝓖 = 𝓖; 𝓡 = 𝓡 } Code.env Symbol'''.name Symbol'''.routine
+      Code.calls-cases·script·empty-circuit (Met'''.met 𝓤 H 𝓜 𝓖 𝓡)) (Reads''''''.known
+      record { M = M; 𝓤 = 𝓤; H = H; 𝓜 = 𝓜; 𝓖 = 𝓖; 𝓡 = 𝓡 } Code.env Symbol'''''.name Symbol'''''.routine
+      Code.calls-cases·script·empty-usage (Met'''''.met 𝓤 H 𝓜 𝓖 𝓡)) (Reads'''.known
+      record { M = M; 𝓤 = 𝓤; H = H; 𝓜 = 𝓜; 𝓖 = 𝓖; 𝓡 = 𝓡 } Code.env Symbol''.name Symbol''.routine
+      Code.calls-cases·script·empty-action (Met''.met 𝓤 H 𝓜 𝓖 𝓡)) (Reads'''''''.known
+      record { M = M; 𝓤 = 𝓤; H = H; 𝓜 = 𝓜; 𝓖 = 𝓖; 𝓡 = 𝓡 } Code.env Symbol''''''.name Symbol''''''.routine
+      Code.calls-io·write-all (Met''''''.met 𝓤 H 𝓜 𝓖 𝓡)) (Reads.known
+      record { M = M; 𝓤 = 𝓤; H = H; 𝓜 = 𝓜; 𝓖 = 𝓖; 𝓡 = 𝓡 } Code.env Symbol.name Symbol.routine
+      Code.calls-cases·machine·run-all (Met.met 𝓤 H 𝓜 𝓖 𝓡)) (Reads''.known
+      record { M = M; 𝓤 = 𝓤; H = H; 𝓜 = 𝓜; 𝓖 = 𝓖; 𝓡 = 𝓡 } Code.env Symbol'.name Symbol'.routine
+      Code.calls-cases·samples·run-samples (Met'.met 𝓤 H 𝓜 𝓖 𝓡))

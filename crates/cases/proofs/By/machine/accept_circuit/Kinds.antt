@@ -3,33 +3,21 @@ use Rattle.cases.proofs.By.InflightAction
 use Rattle.cases.proofs.By.RelayCircuit
 use Rattle.cases.proofs.By.RelayPending
 use Rattle.cases.proofs.By.ReservationUsage
+use Rattle.cases.proofs.StructRow
 use Rattle.hnsr_circuit.proofs.runtime.Relayed
 use Rattle.hnsr_circuit.proofs.runtime.Relayed.Laws
 use borrow.Fn.Kinds
 use borrow.Kind.MutSlice
-use borrow.Kind.Value
-use borrow.Rule.Local
 use borrow.Table.Referent
-use borrow.Table.Rows
-use denote.Exit
-use denote.Struct.Declared
-use denote.Struct.Laws as Laws'
 use mathlib.Core.List
-use mathlib.Core.Path
 use mir.Syntax
 use mathlib.Core.List.{_∷_}
 
 abbrev pub ps : List.List (Kinds.PK 5)
-ps = (MutSlice.pMutS RelayPending.row 0 tt) ∷ (MutSlice.pMutS RelayCircuit.row 1 tt) ∷ (MutSlice.pMutS ReservationUsage.row 2 tt) ∷ (MutSlice.pMutS
-    InflightAction.row 3 tt) ∷ (MutSlice.pMutS (Referent.rtF (Referent.fInt Syntax.w32)) 4 tt) ∷ (Value.pVal record { ty = Declared.row
-    Relayed.the-type; one = Path.refl; val = Laws'.val Relayed.the-type Laws.the-laws; tells = Laws'.tells Relayed.the-type Laws.the-laws; still =
-    Laws'.still Relayed.the-type Laws.the-copy Exit.yes; row = Rows.whole (Declared.row Relayed.the-type); rd = λ x. x; mk = λ x. x; } λ M 𝓤 H A W.
-    record { copies = Laws'.copy Relayed.the-type Laws.the-copy 𝓤 H A W; lawful = Laws'.lawful Relayed.the-type Laws.the-laws 𝓤 H A W; makes =
-    Laws'.makes Relayed.the-type Laws.the-plain 𝓤 H A; in-mem = Local.mem-whole 𝓤 H A W (Declared.row Relayed.the-type); of-mem = Local.whole-mem 𝓤 H
-    A W (Declared.row Relayed.the-type); }) ∷ (Kinds.pNum Syntax.w64) ∷ List.[]
+ps = (MutSlice.pMutS RelayPending.row 0 tt) ∷ (MutSlice.pMutS RelayCircuit.row 1 tt) ∷
+    (MutSlice.pMutS ReservationUsage.row 2 tt) ∷ (MutSlice.pMutS InflightAction.row 3 tt) ∷ (MutSlice.pMutS
+    (Referent.rtF (Referent.fInt Syntax.w32)) 4 tt) ∷ (StructRow.param Relayed.the-type Laws.the-laws Laws.the-copy
+    Laws.the-plain) ∷ (Kinds.pNum Syntax.w64) ∷ List.[]
+
 abbrev pub r : Kinds.RK 5
-r = Value.rVal record { ty = Declared.row Relayed.the-type; one = Path.refl; val = Laws'.val Relayed.the-type Laws.the-laws; tells = Laws'.tells
-    Relayed.the-type Laws.the-laws; still = Laws'.still Relayed.the-type Laws.the-copy Exit.yes; row = Rows.whole (Declared.row Relayed.the-type); rd
-    = λ x. x; mk = λ x. x; } λ M 𝓤 H A W. record { copies = Laws'.copy Relayed.the-type Laws.the-copy 𝓤 H A W; lawful = Laws'.lawful Relayed.the-type
-    Laws.the-laws 𝓤 H A W; makes = Laws'.makes Relayed.the-type Laws.the-plain 𝓤 H A; in-mem = Local.mem-whole 𝓤 H A W (Declared.row
-    Relayed.the-type); of-mem = Local.whole-mem 𝓤 H A W (Declared.row Relayed.the-type); }
+r = StructRow.result Relayed.the-type Laws.the-laws Laws.the-copy Laws.the-plain

@@ -4,12 +4,14 @@ use Rattle.cases.proofs.By.InflightAction
 use Rattle.cases.proofs.By.RelayCircuit
 use Rattle.cases.proofs.By.RelayPending
 use Rattle.cases.proofs.By.ReservationUsage
+use Rattle.cases.proofs.StructRow
 use Rattle.hnsr_circuit.proofs.records.RelayPacket
 use Rattle.hnsr_circuit.proofs.records.RelayPacket.Laws
 use Rattle.hnsr_circuit.proofs.runtime.Relayed
 use Rattle.hnsr_circuit.proofs.runtime.Relayed.Laws as Laws'
 use borrow.Author.Called
 use borrow.Fn.Any
+use borrow.Fn.Args as Args'
 use borrow.Fn.Call
 use borrow.Fn.Enter
 use borrow.Fn.Frame
@@ -20,7 +22,6 @@ use borrow.Kind.Array
 use borrow.Kind.MutSlice
 use borrow.Kind.Num
 use borrow.Kind.ShrSlice
-use borrow.Kind.Value
 use borrow.Rule.Array.Init
 use borrow.Rule.Array.Rows
 use borrow.Rule.Array.Share
@@ -43,9 +44,7 @@ use borrow.Table.Rows as Rows'
 use borrow.Table.Typed
 use contract.Lifetimes
 use denote.Array as Array'
-use denote.Exit
 use denote.Struct.Declared
-use denote.Struct.Laws as Laws''
 use denote.Triple.Clauses
 use denote.Triple.Statement
 use ghost.Atoms
@@ -62,1453 +61,2743 @@ use mathlib.Core.List.{_∷_}
 
 abbrev ref0 : Syntax.Ty
 ref0 = Syntax.tyRef Syntax.erased Syntax.mut RelayPending.to
+
 abbrev ref1 : Syntax.Ty
 ref1 = Syntax.tyRef Syntax.erased Syntax.mut RelayCircuit.to
+
 abbrev ref2 : Syntax.Ty
 ref2 = Syntax.tyRef Syntax.erased Syntax.mut ReservationUsage.to
+
 abbrev ref3 : Syntax.Ty
 ref3 = Syntax.tyRef Syntax.erased Syntax.mut InflightAction.to
+
 abbrev ref4 : Syntax.Ty
 ref4 = Syntax.tyRef Syntax.erased Syntax.mut (Syntax.tyInt Syntax.w32)
+
 abbrev ref5 : Syntax.Ty
 ref5 = Syntax.tyRef Syntax.erased Syntax.imm (Syntax.tyArray (Syntax.tyInt Syntax.w8) 20)
+
 abbrev ref6 : Syntax.Ty
 ref6 = Syntax.tyRef Syntax.erased Syntax.imm (Syntax.tyInt Syntax.w8)
+
 abbrev ref7 : Syntax.Ty
 ref7 = Syntax.tyRef (Syntax.named 0) Syntax.mut RelayPending.to
+
 abbrev ref8 : Syntax.Ty
 ref8 = Syntax.tyRef (Syntax.named 1) Syntax.mut RelayCircuit.to
+
 abbrev ref9 : Syntax.Ty
 ref9 = Syntax.tyRef (Syntax.named 2) Syntax.mut ReservationUsage.to
+
 abbrev ref10 : Syntax.Ty
 ref10 = Syntax.tyRef (Syntax.named 3) Syntax.mut InflightAction.to
+
 abbrev ref11 : Syntax.Ty
 ref11 = Syntax.tyRef (Syntax.named 4) Syntax.mut (Syntax.tyInt Syntax.w32)
+
+abbrev slice0 : Syntax.Ty
+slice0 = Syntax.tyStruct (38 ∷ 91 ∷ 93 ∷ List.[]) (Syntax.tcons ref0
+    (Syntax.tcons (Syntax.tyInt Syntax.w64) Syntax.tnil))
+
+abbrev slice1 : Syntax.Ty
+slice1 = Syntax.tyStruct (38 ∷ 91 ∷ 93 ∷ List.[]) (Syntax.tcons ref1
+    (Syntax.tcons (Syntax.tyInt Syntax.w64) Syntax.tnil))
+
+abbrev slice2 : Syntax.Ty
+slice2 = Syntax.tyStruct (38 ∷ 91 ∷ 93 ∷ List.[]) (Syntax.tcons ref2
+    (Syntax.tcons (Syntax.tyInt Syntax.w64) Syntax.tnil))
+
+abbrev slice3 : Syntax.Ty
+slice3 = Syntax.tyStruct (38 ∷ 91 ∷ 93 ∷ List.[]) (Syntax.tcons ref3
+    (Syntax.tcons (Syntax.tyInt Syntax.w64) Syntax.tnil))
+
+abbrev slice4 : Syntax.Ty
+slice4 = Syntax.tyStruct (38 ∷ 91 ∷ 93 ∷ List.[]) (Syntax.tcons ref4
+    (Syntax.tcons (Syntax.tyInt Syntax.w64) Syntax.tnil))
+
+abbrev slice6 : Syntax.Ty
+slice6 = Syntax.tyStruct (38 ∷ 91 ∷ 93 ∷ List.[]) (Syntax.tcons ref6
+    (Syntax.tcons (Syntax.tyInt Syntax.w64) Syntax.tnil))
+
 abbrev pub ps : List.List (Kinds.PK 5)
-ps = (MutSlice.pMutS RelayPending.row 0 tt) ∷ (MutSlice.pMutS RelayCircuit.row 1 tt) ∷ (MutSlice.pMutS ReservationUsage.row 2 tt) ∷ (MutSlice.pMutS
-    InflightAction.row 3 tt) ∷ (MutSlice.pMutS (Referent.rtF (Referent.fInt Syntax.w32)) 4 tt) ∷ (Value.pVal record { ty = Declared.row
-    Relayed.the-type; one = Path.refl; val = Laws''.val Relayed.the-type Laws'.the-laws; tells = Laws''.tells Relayed.the-type Laws'.the-laws; still =
-    Laws''.still Relayed.the-type Laws'.the-copy Exit.yes; row = Rows'.whole (Declared.row Relayed.the-type); rd = λ x. x; mk = λ x. x; } λ M 𝓤 H A W.
-    record { copies = Laws''.copy Relayed.the-type Laws'.the-copy 𝓤 H A W; lawful = Laws''.lawful Relayed.the-type Laws'.the-laws 𝓤 H A W; makes =
-    Laws''.makes Relayed.the-type Laws'.the-plain 𝓤 H A; in-mem = Local.mem-whole 𝓤 H A W (Declared.row Relayed.the-type); of-mem = Local.whole-mem 𝓤
-    H A W (Declared.row Relayed.the-type); }) ∷ (Num.pNum Syntax.w64) ∷ List.[]
+ps = (MutSlice.pMutS RelayPending.row 0 tt) ∷ (MutSlice.pMutS RelayCircuit.row 1 tt) ∷
+    (MutSlice.pMutS ReservationUsage.row 2 tt) ∷ (MutSlice.pMutS InflightAction.row 3 tt) ∷ (MutSlice.pMutS
+    (Referent.rtF (Referent.fInt Syntax.w32)) 4 tt) ∷ (StructRow.param Relayed.the-type Laws'.the-laws Laws'.the-copy
+    Laws'.the-plain) ∷ (Num.pNum Syntax.w64) ∷ List.[]
+
 abbrev pub r : Kinds.RK 5
-r = Value.rVal record { ty = Declared.row Relayed.the-type; one = Path.refl; val = Laws''.val Relayed.the-type Laws'.the-laws; tells = Laws''.tells
-    Relayed.the-type Laws'.the-laws; still = Laws''.still Relayed.the-type Laws'.the-copy Exit.yes; row = Rows'.whole (Declared.row Relayed.the-type);
-    rd = λ x. x; mk = λ x. x; } λ M 𝓤 H A W. record { copies = Laws''.copy Relayed.the-type Laws'.the-copy 𝓤 H A W; lawful = Laws''.lawful
-    Relayed.the-type Laws'.the-laws 𝓤 H A W; makes = Laws''.makes Relayed.the-type Laws'.the-plain 𝓤 H A; in-mem = Local.mem-whole 𝓤 H A W
-    (Declared.row Relayed.the-type); of-mem = Local.whole-mem 𝓤 H A W (Declared.row Relayed.the-type); }
+r = StructRow.result Relayed.the-type Laws'.the-laws Laws'.the-copy Laws'.the-plain
+
 abbrev pub xs : List.List Syntax.Ty
-xs = Laws.mir ∷ (Syntax.tyArray (Syntax.tyInt Syntax.w8) 20) ∷ (Syntax.tyArray (Syntax.tyInt Syntax.w8) 20) ∷ ref0 ∷ (Syntax.tyStruct (38 ∷ 91 ∷ 93 ∷
-    List.[]) (Syntax.tcons ref0 (Syntax.tcons (Syntax.tyInt Syntax.w64) Syntax.tnil))) ∷ ref1 ∷ (Syntax.tyStruct (38 ∷ 91 ∷ 93 ∷ List.[])
-    (Syntax.tcons ref1 (Syntax.tcons (Syntax.tyInt Syntax.w64) Syntax.tnil))) ∷ ref2 ∷ (Syntax.tyStruct (38 ∷ 91 ∷ 93 ∷ List.[]) (Syntax.tcons ref2
-    (Syntax.tcons (Syntax.tyInt Syntax.w64) Syntax.tnil))) ∷ ref3 ∷ (Syntax.tyStruct (38 ∷ 91 ∷ 93 ∷ List.[]) (Syntax.tcons ref3 (Syntax.tcons
-    (Syntax.tyInt Syntax.w64) Syntax.tnil))) ∷ ref4 ∷ (Syntax.tyStruct (38 ∷ 91 ∷ 93 ∷ List.[]) (Syntax.tcons ref4 (Syntax.tcons (Syntax.tyInt
-    Syntax.w64) Syntax.tnil))) ∷ ref5 ∷ (Syntax.tyStruct (38 ∷ 91 ∷ 93 ∷ List.[]) (Syntax.tcons ref6 (Syntax.tcons (Syntax.tyInt Syntax.w64)
-    Syntax.tnil))) ∷ List.[]
+xs = Laws.mir ∷ (Syntax.tyArray (Syntax.tyInt Syntax.w8) 20) ∷ (Syntax.tyArray (Syntax.tyInt Syntax.w8) 20) ∷ ref0 ∷
+    slice0 ∷ ref1 ∷ slice1 ∷ ref2 ∷ slice2 ∷ ref3 ∷ slice3 ∷ ref4 ∷ slice4 ∷ ref5 ∷ slice6 ∷ List.[]
+
 abbrev pub m : Nat.ℕ
 m = 6
+
 abbrev pub ps·0 : List.List (Kinds.PK 0)
 ps·0 = (Num.pNum Syntax.w8) ∷ (Num.pNum Syntax.w64) ∷ List.[]
+
 abbrev pub r·0 : Kinds.RK 0
-r·0 = Value.rVal record { ty = Declared.row RelayPacket.the-type; one = Path.refl; val = Laws''.val RelayPacket.the-type Laws.the-laws; tells =
-    Laws''.tells RelayPacket.the-type Laws.the-laws; still = Laws''.still RelayPacket.the-type Laws.the-copy Exit.yes; row = Rows'.whole (Declared.row
-    RelayPacket.the-type); rd = λ x. x; mk = λ x. x; } λ M 𝓤 H A W. record { copies = Laws''.copy RelayPacket.the-type Laws.the-copy 𝓤 H A W; lawful =
-    Laws''.lawful RelayPacket.the-type Laws.the-laws 𝓤 H A W; makes = Laws''.makes RelayPacket.the-type Laws.the-plain 𝓤 H A; in-mem = Local.mem-whole
-    𝓤 H A W (Declared.row RelayPacket.the-type); of-mem = Local.whole-mem 𝓤 H A W (Declared.row RelayPacket.the-type); }
+r·0 = StructRow.result RelayPacket.the-type Laws.the-laws Laws.the-copy Laws.the-plain
+
 abbrev pub ps·1 : List.List (Kinds.PK 0)
 ps·1 = List.[]
+
 abbrev pub r·1 : Kinds.RK 0
 r·1 = Array.rArr (Array.eInt Syntax.w8) (Array.eInt-laws Syntax.w8) 20
+
 abbrev pub ps·2 : List.List (Kinds.PK 6)
-ps·2 = (MutSlice.pMutS RelayPending.row 0 tt) ∷ (MutSlice.pMutS RelayCircuit.row 1 tt) ∷ (MutSlice.pMutS ReservationUsage.row 2 tt) ∷ (MutSlice.pMutS
-    InflightAction.row 3 tt) ∷ (MutSlice.pMutS (Referent.rtF (Referent.fInt Syntax.w32)) 4 tt) ∷ (Value.pVal record { ty = Declared.row
-    Relayed.the-type; one = Path.refl; val = Laws''.val Relayed.the-type Laws'.the-laws; tells = Laws''.tells Relayed.the-type Laws'.the-laws; still =
-    Laws''.still Relayed.the-type Laws'.the-copy Exit.yes; row = Rows'.whole (Declared.row Relayed.the-type); rd = λ x. x; mk = λ x. x; } λ M 𝓤 H A W.
-    record { copies = Laws''.copy Relayed.the-type Laws'.the-copy 𝓤 H A W; lawful = Laws''.lawful Relayed.the-type Laws'.the-laws 𝓤 H A W; makes =
-    Laws''.makes Relayed.the-type Laws'.the-plain 𝓤 H A; in-mem = Local.mem-whole 𝓤 H A W (Declared.row Relayed.the-type); of-mem = Local.whole-mem 𝓤
-    H A W (Declared.row Relayed.the-type); }) ∷ (Value.pVal record { ty = Declared.row RelayPacket.the-type; one = Path.refl; val = Laws''.val
-    RelayPacket.the-type Laws.the-laws; tells = Laws''.tells RelayPacket.the-type Laws.the-laws; still = Laws''.still RelayPacket.the-type
-    Laws.the-copy Exit.yes; row = Rows'.whole (Declared.row RelayPacket.the-type); rd = λ x. x; mk = λ x. x; } λ M 𝓤 H A W. record { copies =
-    Laws''.copy RelayPacket.the-type Laws.the-copy 𝓤 H A W; lawful = Laws''.lawful RelayPacket.the-type Laws.the-laws 𝓤 H A W; makes = Laws''.makes
-    RelayPacket.the-type Laws.the-plain 𝓤 H A; in-mem = Local.mem-whole 𝓤 H A W (Declared.row RelayPacket.the-type); of-mem = Local.whole-mem 𝓤 H A W
-    (Declared.row RelayPacket.the-type); }) ∷ (Num.pNum Syntax.w8) ∷ (ShrSlice.pShrS (Referent.rtF (Referent.fInt Syntax.w8)) 5 tt) ∷ List.[]
+ps·2 = (MutSlice.pMutS RelayPending.row 0 tt) ∷ (MutSlice.pMutS RelayCircuit.row 1 tt) ∷
+    (MutSlice.pMutS ReservationUsage.row 2 tt) ∷ (MutSlice.pMutS InflightAction.row 3 tt) ∷ (MutSlice.pMutS
+    (Referent.rtF (Referent.fInt Syntax.w32)) 4 tt) ∷ (StructRow.param Relayed.the-type Laws'.the-laws Laws'.the-copy
+    Laws'.the-plain) ∷ (StructRow.param RelayPacket.the-type Laws.the-laws Laws.the-copy Laws.the-plain) ∷
+    (Num.pNum Syntax.w8) ∷ (ShrSlice.pShrS (Referent.rtF (Referent.fInt Syntax.w8)) 5 tt) ∷ List.[]
+
 abbrev pub r·2 : Kinds.RK 6
-r·2 = Value.rVal record { ty = Declared.row Relayed.the-type; one = Path.refl; val = Laws''.val Relayed.the-type Laws'.the-laws; tells = Laws''.tells
-    Relayed.the-type Laws'.the-laws; still = Laws''.still Relayed.the-type Laws'.the-copy Exit.yes; row = Rows'.whole (Declared.row Relayed.the-type);
-    rd = λ x. x; mk = λ x. x; } λ M 𝓤 H A W. record { copies = Laws''.copy Relayed.the-type Laws'.the-copy 𝓤 H A W; lawful = Laws''.lawful
-    Relayed.the-type Laws'.the-laws 𝓤 H A W; makes = Laws''.makes Relayed.the-type Laws'.the-plain 𝓤 H A; in-mem = Local.mem-whole 𝓤 H A W
-    (Declared.row Relayed.the-type); of-mem = Local.whole-mem 𝓤 H A W (Declared.row Relayed.the-type); }
+r·2 = StructRow.result Relayed.the-type Laws'.the-laws Laws'.the-copy Laws'.the-plain
+
 abbrev pub hs : List.List Syntax.Home
-hs = Syntax.valueLocal ∷ Syntax.valueLocal ∷ Syntax.valueLocal ∷ Syntax.valueLocal ∷ Syntax.valueLocal ∷ Syntax.valueLocal ∷ Syntax.valueLocal ∷
-    Syntax.valueLocal ∷ Syntax.valueLocal ∷ Syntax.memorySlot ∷ Syntax.valueLocal ∷ Syntax.valueLocal ∷ Syntax.valueLocal ∷ Syntax.valueLocal ∷
-    Syntax.valueLocal ∷ Syntax.valueLocal ∷ Syntax.valueLocal ∷ Syntax.valueLocal ∷ Syntax.valueLocal ∷ Syntax.valueLocal ∷ Syntax.valueLocal ∷
-    Syntax.valueLocal ∷ Syntax.valueLocal ∷ List.[]
+hs = Syntax.valueLocal ∷ Syntax.valueLocal ∷ Syntax.valueLocal ∷ Syntax.valueLocal ∷ Syntax.valueLocal ∷
+    Syntax.valueLocal ∷ Syntax.valueLocal ∷ Syntax.valueLocal ∷ Syntax.valueLocal ∷ Syntax.memorySlot ∷
+    Syntax.valueLocal ∷ Syntax.valueLocal ∷ Syntax.valueLocal ∷ Syntax.valueLocal ∷ Syntax.valueLocal ∷
+    Syntax.valueLocal ∷ Syntax.valueLocal ∷ Syntax.valueLocal ∷ Syntax.valueLocal ∷ Syntax.valueLocal ∷
+    Syntax.valueLocal ∷ Syntax.valueLocal ∷ Syntax.valueLocal ∷ List.[]
+
 abbrev b0 : Syntax.Body
-b0 = Syntax.call "cases::script::packet" ((Syntax.int Syntax.w8 15) ∷ (Syntax.copy (Syntax.place 7 List.[])) ∷ List.[]) (Syntax.place 8 List.[])
+b0 = Syntax.call "cases::script::packet" ((Syntax.int Syntax.w8 15) ∷ (Syntax.copy (Syntax.place 7 List.[])) ∷ List.[])
+    (Syntax.place 8 List.[])
+
 abbrev b1 : Syntax.Body
 b1 = Syntax.call "cases::script::accept_body" List.[] (Syntax.place 10 List.[])
+
 abbrev b2 : Syntax.Body
 b2 = Syntax.assign (Syntax.place 9 List.[]) (Syntax.rvOpd (Syntax.copy (Syntax.place 10 List.[])))
+
 abbrev b3 : Syntax.Body
-b3 = Syntax.assign (Syntax.place 11 List.[]) (Syntax.addrOf (Syntax.place 1 ((Syntax.field 0) ∷ (Syntax.deref RelayPending.ty) ∷ List.[])))
+b3 = Syntax.assign (Syntax.place 11 List.[]) (Syntax.addrOf (Syntax.place 1 ((Syntax.field 0) ∷
+    (Syntax.deref RelayPending.ty) ∷ List.[])))
+
 abbrev b4 : Syntax.Body
-b4 = Syntax.assign (Syntax.place 12 List.[]) (Syntax.aggregate ((Syntax.copy (Syntax.place 11 List.[])) ∷ (Syntax.copy (Syntax.place 1 ((Syntax.field
-    1) ∷ List.[]))) ∷ List.[]))
+b4 = Syntax.assign (Syntax.place 12 List.[]) (Syntax.aggregate ((Syntax.copy (Syntax.place 11 List.[])) ∷
+    (Syntax.copy (Syntax.place 1 ((Syntax.field 1) ∷ List.[]))) ∷ List.[]))
+
 abbrev b5 : Syntax.Body
-b5 = Syntax.assign (Syntax.place 13 List.[]) (Syntax.addrOf (Syntax.place 2 ((Syntax.field 0) ∷ (Syntax.deref RelayCircuit.ty) ∷ List.[])))
+b5 = Syntax.assign (Syntax.place 13 List.[]) (Syntax.addrOf (Syntax.place 2 ((Syntax.field 0) ∷
+    (Syntax.deref RelayCircuit.ty) ∷ List.[])))
+
 abbrev b6 : Syntax.Body
-b6 = Syntax.assign (Syntax.place 14 List.[]) (Syntax.aggregate ((Syntax.copy (Syntax.place 13 List.[])) ∷ (Syntax.copy (Syntax.place 2 ((Syntax.field
-    1) ∷ List.[]))) ∷ List.[]))
+b6 = Syntax.assign (Syntax.place 14 List.[]) (Syntax.aggregate ((Syntax.copy (Syntax.place 13 List.[])) ∷
+    (Syntax.copy (Syntax.place 2 ((Syntax.field 1) ∷ List.[]))) ∷ List.[]))
+
 abbrev b7 : Syntax.Body
-b7 = Syntax.assign (Syntax.place 15 List.[]) (Syntax.addrOf (Syntax.place 3 ((Syntax.field 0) ∷ (Syntax.deref ReservationUsage.ty) ∷ List.[])))
+b7 = Syntax.assign (Syntax.place 15 List.[]) (Syntax.addrOf (Syntax.place 3 ((Syntax.field 0) ∷
+    (Syntax.deref ReservationUsage.ty) ∷ List.[])))
+
 abbrev b8 : Syntax.Body
-b8 = Syntax.assign (Syntax.place 16 List.[]) (Syntax.aggregate ((Syntax.copy (Syntax.place 15 List.[])) ∷ (Syntax.copy (Syntax.place 3 ((Syntax.field
-    1) ∷ List.[]))) ∷ List.[]))
+b8 = Syntax.assign (Syntax.place 16 List.[]) (Syntax.aggregate ((Syntax.copy (Syntax.place 15 List.[])) ∷
+    (Syntax.copy (Syntax.place 3 ((Syntax.field 1) ∷ List.[]))) ∷ List.[]))
+
 abbrev b9 : Syntax.Body
-b9 = Syntax.assign (Syntax.place 17 List.[]) (Syntax.addrOf (Syntax.place 4 ((Syntax.field 0) ∷ (Syntax.deref InflightAction.ty) ∷ List.[])))
+b9 = Syntax.assign (Syntax.place 17 List.[]) (Syntax.addrOf (Syntax.place 4 ((Syntax.field 0) ∷
+    (Syntax.deref InflightAction.ty) ∷ List.[])))
+
 abbrev b10 : Syntax.Body
-b10 = Syntax.assign (Syntax.place 18 List.[]) (Syntax.aggregate ((Syntax.copy (Syntax.place 17 List.[])) ∷ (Syntax.copy (Syntax.place 4 ((Syntax.field
-    1) ∷ List.[]))) ∷ List.[]))
+b10 = Syntax.assign (Syntax.place 18 List.[]) (Syntax.aggregate ((Syntax.copy (Syntax.place 17 List.[])) ∷
+    (Syntax.copy (Syntax.place 4 ((Syntax.field 1) ∷ List.[]))) ∷ List.[]))
+
 abbrev b11 : Syntax.Body
-b11 = Syntax.assign (Syntax.place 19 List.[]) (Syntax.addrOf (Syntax.place 5 ((Syntax.field 0) ∷ (Syntax.deref (Syntax.tyInt Syntax.w32)) ∷ List.[])))
+b11 = Syntax.assign (Syntax.place 19 List.[]) (Syntax.addrOf (Syntax.place 5 ((Syntax.field 0) ∷
+    (Syntax.deref (Syntax.tyInt Syntax.w32)) ∷ List.[])))
+
 abbrev b12 : Syntax.Body
-b12 = Syntax.assign (Syntax.place 20 List.[]) (Syntax.aggregate ((Syntax.copy (Syntax.place 19 List.[])) ∷ (Syntax.copy (Syntax.place 5 ((Syntax.field
-    1) ∷ List.[]))) ∷ List.[]))
+b12 = Syntax.assign (Syntax.place 20 List.[]) (Syntax.aggregate ((Syntax.copy (Syntax.place 19 List.[])) ∷
+    (Syntax.copy (Syntax.place 5 ((Syntax.field 1) ∷ List.[]))) ∷ List.[]))
+
 abbrev b13 : Syntax.Body
 b13 = Syntax.assign (Syntax.place 21 List.[]) (Syntax.addrOf (Syntax.place 9 List.[]))
+
 abbrev b14 : Syntax.Body
-b14 = Syntax.assign (Syntax.place 22 List.[]) (Syntax.aggregate ((Syntax.copy (Syntax.place 21 List.[])) ∷ (Syntax.int Syntax.w64 20) ∷ List.[]))
+b14 = Syntax.assign (Syntax.place 22 List.[]) (Syntax.aggregate ((Syntax.copy (Syntax.place 21 List.[])) ∷
+    (Syntax.int Syntax.w64 20) ∷ List.[]))
+
 abbrev b15 : Syntax.Body
-b15 = Syntax.call "cases::machine::deliver" ((Syntax.copy (Syntax.place 12 List.[])) ∷ (Syntax.copy (Syntax.place 14 List.[])) ∷ (Syntax.copy
-    (Syntax.place 16 List.[])) ∷ (Syntax.copy (Syntax.place 18 List.[])) ∷ (Syntax.copy (Syntax.place 20 List.[])) ∷ (Syntax.copy (Syntax.place 6
-    List.[])) ∷ (Syntax.copy (Syntax.place 8 List.[])) ∷ (Syntax.int Syntax.w8 2) ∷ (Syntax.copy (Syntax.place 22 List.[])) ∷ List.[]) (Syntax.place 0
-    List.[])
+b15 = Syntax.call "cases::machine::deliver" ((Syntax.copy (Syntax.place 12 List.[])) ∷
+    (Syntax.copy (Syntax.place 14 List.[])) ∷ (Syntax.copy (Syntax.place 16 List.[])) ∷
+    (Syntax.copy (Syntax.place 18 List.[])) ∷ (Syntax.copy (Syntax.place 20 List.[])) ∷
+    (Syntax.copy (Syntax.place 6 List.[])) ∷ (Syntax.copy (Syntax.place 8 List.[])) ∷ (Syntax.int Syntax.w8 2) ∷
+    (Syntax.copy (Syntax.place 22 List.[])) ∷ List.[]) (Syntax.place 0 List.[])
+
 abbrev b16 : Syntax.Body
 b16 = Syntax.return
+
 abbrev b17 : Syntax.Body
 b17 = Syntax.seq b15 b16
+
 abbrev b18 : Syntax.Body
 b18 = Syntax.seq b14 b17
+
 abbrev b19 : Syntax.Body
 b19 = Syntax.seq b13 b18
+
 abbrev b20 : Syntax.Body
 b20 = Syntax.seq b12 b19
+
 abbrev b21 : Syntax.Body
 b21 = Syntax.seq b11 b20
+
 abbrev b22 : Syntax.Body
 b22 = Syntax.seq b10 b21
+
 abbrev b23 : Syntax.Body
 b23 = Syntax.seq b9 b22
+
 abbrev b24 : Syntax.Body
 b24 = Syntax.seq b8 b23
+
 abbrev b25 : Syntax.Body
 b25 = Syntax.seq b7 b24
+
 abbrev b26 : Syntax.Body
 b26 = Syntax.seq b6 b25
+
 abbrev b27 : Syntax.Body
 b27 = Syntax.seq b5 b26
+
 abbrev b28 : Syntax.Body
 b28 = Syntax.seq b4 b27
+
 abbrev b29 : Syntax.Body
 b29 = Syntax.seq b3 b28
+
 abbrev b30 : Syntax.Body
 b30 = Syntax.seq b2 b29
+
 abbrev b31 : Syntax.Body
 b31 = Syntax.seq b1 b30
+
 abbrev b32 : Syntax.Body
 b32 = Syntax.seq b0 b31
+
 abbrev pub body : Syntax.Body
 body = b32
+
 abbrev pub Claims : Type 1
-Claims = Kinds.In 0 ps·0 × Kinds.Out 0 ps·0 r·0 × Kinds.In 0 ps·1 × Kinds.Out 0 ps·1 r·1 × Kinds.In 6 ps·2 × Kinds.Out 6 ps·2 r·2
+Claims = Kinds.In 0 ps·0 × Kinds.Out 0 ps·0 r·0 × Kinds.In 0 ps·1 × Kinds.Out 0 ps·1 r·1 × Kinds.In 6 ps·2 × Kinds.Out
+    6 ps·2 r·2
+
 abbrev e0 : Row.Entry
 e0 = (0, Rows'.any-gone Laws'.mir)
+
 abbrev e1 : Row.Entry
 e1 = (1, Mut.mslice RelayPending.row ref7 0)
+
 abbrev e2 : Row.Entry
 e2 = (2, Mut.mslice RelayCircuit.row ref8 1)
+
 abbrev e3 : Row.Entry
 e3 = (3, Mut.mslice ReservationUsage.row ref9 2)
+
 abbrev e4 : Row.Entry
 e4 = (4, Mut.mslice InflightAction.row ref10 3)
+
 abbrev e5 : Row.Entry
 e5 = (5, Mut.mslice (Referent.rtF (Referent.fInt Syntax.w32)) ref11 4)
+
 abbrev e6 : Row.Entry
 e6 = (6, Rows'.whole (Declared.row Relayed.the-type))
+
 abbrev e7 : Row.Entry
 e7 = (7, Rows'.sc-here (Row.sInt Syntax.w64))
+
 abbrev e8 : Row.Entry
 e8 = (8, Rows'.any-gone Laws.mir)
+
 abbrev e9 : Row.Entry
 e9 = (9, Rows'.any-gone (Syntax.tyArray (Syntax.tyInt Syntax.w8) 20))
+
 abbrev e10 : Row.Entry
 e10 = (10, Rows'.any-gone (Syntax.tyArray (Syntax.tyInt Syntax.w8) 20))
+
 abbrev e11 : Row.Entry
 e11 = (11, Rows'.any-gone ref0)
+
 abbrev e12 : Row.Entry
-e12 = (12, Rows'.any-gone (Syntax.tyStruct (38 ∷ 91 ∷ 93 ∷ List.[]) (Syntax.tcons ref0 (Syntax.tcons (Syntax.tyInt Syntax.w64) Syntax.tnil))))
+e12 = (12, Rows'.any-gone slice0)
+
 abbrev e13 : Row.Entry
 e13 = (13, Rows'.any-gone ref1)
+
 abbrev e14 : Row.Entry
-e14 = (14, Rows'.any-gone (Syntax.tyStruct (38 ∷ 91 ∷ 93 ∷ List.[]) (Syntax.tcons ref1 (Syntax.tcons (Syntax.tyInt Syntax.w64) Syntax.tnil))))
+e14 = (14, Rows'.any-gone slice1)
+
 abbrev e15 : Row.Entry
 e15 = (15, Rows'.any-gone ref2)
+
 abbrev e16 : Row.Entry
-e16 = (16, Rows'.any-gone (Syntax.tyStruct (38 ∷ 91 ∷ 93 ∷ List.[]) (Syntax.tcons ref2 (Syntax.tcons (Syntax.tyInt Syntax.w64) Syntax.tnil))))
+e16 = (16, Rows'.any-gone slice2)
+
 abbrev e17 : Row.Entry
 e17 = (17, Rows'.any-gone ref3)
+
 abbrev e18 : Row.Entry
-e18 = (18, Rows'.any-gone (Syntax.tyStruct (38 ∷ 91 ∷ 93 ∷ List.[]) (Syntax.tcons ref3 (Syntax.tcons (Syntax.tyInt Syntax.w64) Syntax.tnil))))
+e18 = (18, Rows'.any-gone slice3)
+
 abbrev e19 : Row.Entry
 e19 = (19, Rows'.any-gone ref4)
+
 abbrev e20 : Row.Entry
-e20 = (20, Rows'.any-gone (Syntax.tyStruct (38 ∷ 91 ∷ 93 ∷ List.[]) (Syntax.tcons ref4 (Syntax.tcons (Syntax.tyInt Syntax.w64) Syntax.tnil))))
+e20 = (20, Rows'.any-gone slice4)
+
 abbrev e21 : Row.Entry
 e21 = (21, Rows'.any-gone ref5)
+
 abbrev e22 : Row.Entry
-e22 = (22, Rows'.any-gone (Syntax.tyStruct (38 ∷ 91 ∷ 93 ∷ List.[]) (Syntax.tcons ref6 (Syntax.tcons (Syntax.tyInt Syntax.w64) Syntax.tnil))))
+e22 = (22, Rows'.any-gone slice6)
+
 abbrev e0·1 : Row.Entry
 e0·1 = (0, Rows'.whole (Declared.row Relayed.the-type))
+
 abbrev e6·1 : Row.Entry
 e6·1 = (6, Rows'.any-gone Laws'.mir)
+
 abbrev e7·1 : Row.Entry
 e7·1 = (7, Rows'.any-gone (Syntax.tyInt Syntax.w64))
+
 abbrev e8·1 : Row.Entry
 e8·1 = (8, Rows'.whole (Declared.row RelayPacket.the-type))
+
 abbrev e10·1 : Row.Entry
 e10·1 = (10, Rows.arrF (Referent.rtF (Referent.fInt Syntax.w8)) 20 0)
+
 abbrev e9·1 : Row.Entry
 e9·1 = (9, Rows.arrF (Referent.rtF (Referent.fInt Syntax.w8)) 20 0)
+
 abbrev e1·1 : Row.Entry
 e1·1 = (1, Relend.mslice-owed RelayPending.row ref7 0 5 Row.off)
+
 abbrev e11·1 : Row.Entry
 e11·1 = (11, Relend.msptr RelayPending.row ref0 5)
+
 abbrev e12·1 : Row.Entry
 e12·1 = (12, Mut.mslice RelayPending.row ref0 5)
+
 abbrev e2·1 : Row.Entry
 e2·1 = (2, Relend.mslice-owed RelayCircuit.row ref8 1 6 Row.off)
+
 abbrev e13·1 : Row.Entry
 e13·1 = (13, Relend.msptr RelayCircuit.row ref1 6)
+
 abbrev e14·1 : Row.Entry
 e14·1 = (14, Mut.mslice RelayCircuit.row ref1 6)
+
 abbrev e3·1 : Row.Entry
 e3·1 = (3, Relend.mslice-owed ReservationUsage.row ref9 2 7 Row.off)
+
 abbrev e15·1 : Row.Entry
 e15·1 = (15, Relend.msptr ReservationUsage.row ref2 7)
+
 abbrev e16·1 : Row.Entry
 e16·1 = (16, Mut.mslice ReservationUsage.row ref2 7)
+
 abbrev e4·1 : Row.Entry
 e4·1 = (4, Relend.mslice-owed InflightAction.row ref10 3 8 Row.off)
+
 abbrev e17·1 : Row.Entry
 e17·1 = (17, Relend.msptr InflightAction.row ref3 8)
+
 abbrev e18·1 : Row.Entry
 e18·1 = (18, Mut.mslice InflightAction.row ref3 8)
+
 abbrev e5·1 : Row.Entry
 e5·1 = (5, Relend.mslice-owed (Referent.rtF (Referent.fInt Syntax.w32)) ref11 4 9 Row.off)
+
 abbrev e19·1 : Row.Entry
 e19·1 = (19, Relend.msptr (Referent.rtF (Referent.fInt Syntax.w32)) ref4 9)
+
 abbrev e20·1 : Row.Entry
 e20·1 = (20, Mut.mslice (Referent.rtF (Referent.fInt Syntax.w32)) ref4 9)
+
 abbrev e9·2 : Row.Entry
 e9·2 = (9, Rows.arr-shr (Referent.rtF (Referent.fInt Syntax.w8)) 20 10)
+
 abbrev e21·1 : Row.Entry
 e21·1 = (21, Relend.ssptr (Referent.rtF (Referent.fInt Syntax.w8)) ref5 10)
+
 abbrev e22·1 : Row.Entry
 e22·1 = (22, Rows'.sslice (Referent.rtF (Referent.fInt Syntax.w8)) ref6 10)
+
 abbrev e12·2 : Row.Entry
 e12·2 = (12, Mut.msleft RelayPending.row ref0)
+
 abbrev e14·2 : Row.Entry
 e14·2 = (14, Mut.msleft RelayCircuit.row ref1)
+
 abbrev e16·2 : Row.Entry
 e16·2 = (16, Mut.msleft ReservationUsage.row ref2)
+
 abbrev e18·2 : Row.Entry
 e18·2 = (18, Mut.msleft InflightAction.row ref3)
+
 abbrev e20·2 : Row.Entry
 e20·2 = (20, Mut.msleft (Referent.rtF (Referent.fInt Syntax.w32)) ref4)
+
 abbrev pub t0 : List.List Row.Entry
 t0 = e0 ∷ e1 ∷ e2 ∷ e3 ∷ e4 ∷ e5 ∷ e6 ∷ e7 ∷ e8 ∷ e9 ∷ e10 ∷ e11 ∷ e12 ∷ e13 ∷ e14 ∷ e15 ∷ List.[]
+
 abbrev pub t1 : List.List Row.Entry
 t1 = e16 ∷ e17 ∷ e18 ∷ e19 ∷ e20 ∷ e21 ∷ e22 ∷ List.[]
+
 abbrev pub t2 : List.List Row.Entry
 t2 = e0·1 ∷ e1 ∷ e2 ∷ e3 ∷ e4 ∷ e5 ∷ e6·1 ∷ e7·1 ∷ e8 ∷ e9 ∷ e10 ∷ e11 ∷ e12 ∷ e13 ∷ e14 ∷ e15 ∷ List.[]
+
 abbrev pub t3 : List.List Row.Entry
 t3 = e0 ∷ e1 ∷ e2 ∷ e3 ∷ e4 ∷ e5 ∷ e6 ∷ e7 ∷ e8·1 ∷ e9 ∷ e10 ∷ e11 ∷ e12 ∷ e13 ∷ e14 ∷ e15 ∷ List.[]
+
 abbrev pub t4 : List.List Row.Entry
 t4 = e0 ∷ e1 ∷ e2 ∷ e3 ∷ e4 ∷ e5 ∷ e6 ∷ e7 ∷ e8·1 ∷ e9 ∷ e10·1 ∷ e11 ∷ e12 ∷ e13 ∷ e14 ∷ e15 ∷ List.[]
+
 abbrev pub t5 : List.List Row.Entry
 t5 = e0 ∷ e1 ∷ e2 ∷ e3 ∷ e4 ∷ e5 ∷ e6 ∷ e7 ∷ e8·1 ∷ e9·1 ∷ e10·1 ∷ e11 ∷ e12 ∷ e13 ∷ e14 ∷ e15 ∷ List.[]
+
 abbrev pub t6 : List.List Row.Entry
 t6 = e0 ∷ e1 ∷ e2 ∷ e3 ∷ e4 ∷ e5 ∷ e6 ∷ e7 ∷ e8·1 ∷ e9·1 ∷ e10 ∷ e11 ∷ e12 ∷ e13 ∷ e14 ∷ e15 ∷ List.[]
+
 abbrev pub t7 : List.List Row.Entry
 t7 = e0 ∷ e1·1 ∷ e2 ∷ e3 ∷ e4 ∷ e5 ∷ e6 ∷ e7 ∷ e8·1 ∷ e9·1 ∷ e10 ∷ e11·1 ∷ e12 ∷ e13 ∷ e14 ∷ e15 ∷ List.[]
+
 abbrev pub t8 : List.List Row.Entry
 t8 = e0 ∷ e1·1 ∷ e2 ∷ e3 ∷ e4 ∷ e5 ∷ e6 ∷ e7 ∷ e8·1 ∷ e9·1 ∷ e10 ∷ e11 ∷ e12·1 ∷ e13 ∷ e14 ∷ e15 ∷ List.[]
+
 abbrev pub t9 : List.List Row.Entry
 t9 = e0 ∷ e1·1 ∷ e2·1 ∷ e3 ∷ e4 ∷ e5 ∷ e6 ∷ e7 ∷ e8·1 ∷ e9·1 ∷ e10 ∷ e11 ∷ e12·1 ∷ e13·1 ∷ e14 ∷ e15 ∷ List.[]
+
 abbrev pub t10 : List.List Row.Entry
 t10 = e0 ∷ e1·1 ∷ e2·1 ∷ e3 ∷ e4 ∷ e5 ∷ e6 ∷ e7 ∷ e8·1 ∷ e9·1 ∷ e10 ∷ e11 ∷ e12·1 ∷ e13 ∷ e14·1 ∷ e15 ∷ List.[]
+
 abbrev pub t11 : List.List Row.Entry
 t11 = e0 ∷ e1·1 ∷ e2·1 ∷ e3·1 ∷ e4 ∷ e5 ∷ e6 ∷ e7 ∷ e8·1 ∷ e9·1 ∷ e10 ∷ e11 ∷ e12·1 ∷ e13 ∷ e14·1 ∷ e15·1 ∷ List.[]
+
 abbrev pub t12 : List.List Row.Entry
 t12 = e0 ∷ e1·1 ∷ e2·1 ∷ e3·1 ∷ e4 ∷ e5 ∷ e6 ∷ e7 ∷ e8·1 ∷ e9·1 ∷ e10 ∷ e11 ∷ e12·1 ∷ e13 ∷ e14·1 ∷ e15 ∷ List.[]
+
 abbrev pub t13 : List.List Row.Entry
 t13 = e16·1 ∷ e17 ∷ e18 ∷ e19 ∷ e20 ∷ e21 ∷ e22 ∷ List.[]
+
 abbrev pub t14 : List.List Row.Entry
 t14 = e0 ∷ e1·1 ∷ e2·1 ∷ e3·1 ∷ e4·1 ∷ e5 ∷ e6 ∷ e7 ∷ e8·1 ∷ e9·1 ∷ e10 ∷ e11 ∷ e12·1 ∷ e13 ∷ e14·1 ∷ e15 ∷ List.[]
+
 abbrev pub t15 : List.List Row.Entry
 t15 = e16·1 ∷ e17·1 ∷ e18 ∷ e19 ∷ e20 ∷ e21 ∷ e22 ∷ List.[]
+
 abbrev pub t16 : List.List Row.Entry
 t16 = e16·1 ∷ e17 ∷ e18·1 ∷ e19 ∷ e20 ∷ e21 ∷ e22 ∷ List.[]
+
 abbrev pub t17 : List.List Row.Entry
 t17 = e0 ∷ e1·1 ∷ e2·1 ∷ e3·1 ∷ e4·1 ∷ e5·1 ∷ e6 ∷ e7 ∷ e8·1 ∷ e9·1 ∷ e10 ∷ e11 ∷ e12·1 ∷ e13 ∷ e14·1 ∷ e15 ∷ List.[]
+
 abbrev pub t18 : List.List Row.Entry
 t18 = e16·1 ∷ e17 ∷ e18·1 ∷ e19·1 ∷ e20 ∷ e21 ∷ e22 ∷ List.[]
+
 abbrev pub t19 : List.List Row.Entry
 t19 = e16·1 ∷ e17 ∷ e18·1 ∷ e19 ∷ e20·1 ∷ e21 ∷ e22 ∷ List.[]
+
 abbrev pub t20 : List.List Row.Entry
 t20 = e0 ∷ e1·1 ∷ e2·1 ∷ e3·1 ∷ e4·1 ∷ e5·1 ∷ e6 ∷ e7 ∷ e8·1 ∷ e9·2 ∷ e10 ∷ e11 ∷ e12·1 ∷ e13 ∷ e14·1 ∷ e15 ∷ List.[]
+
 abbrev pub t21 : List.List Row.Entry
 t21 = e16·1 ∷ e17 ∷ e18·1 ∷ e19 ∷ e20·1 ∷ e21·1 ∷ e22 ∷ List.[]
+
 abbrev pub t22 : List.List Row.Entry
 t22 = e16·1 ∷ e17 ∷ e18·1 ∷ e19 ∷ e20·1 ∷ e21 ∷ e22·1 ∷ List.[]
+
 abbrev pub t23 : List.List Row.Entry
 t23 = e0·1 ∷ e1·1 ∷ e2·1 ∷ e3·1 ∷ e4·1 ∷ e5·1 ∷ e6 ∷ e7 ∷ e8·1 ∷ e9·2 ∷ e10 ∷ e11 ∷ e12·2 ∷ e13 ∷ e14·2 ∷ e15 ∷ List.[]
+
 abbrev pub t24 : List.List Row.Entry
 t24 = e16·2 ∷ e17 ∷ e18·2 ∷ e19 ∷ e20·2 ∷ e21 ∷ e22·1 ∷ List.[]
+
 abbrev pub t25 : List.List Row.Entry
 t25 = e16·2 ∷ e17 ∷ e18·2 ∷ e19 ∷ e20·2 ∷ e21 ∷ e22 ∷ List.[]
+
 abbrev pub t26 : List.List Row.Entry
-t26 = e0·1 ∷ e1·1 ∷ e2·1 ∷ e3·1 ∷ e4·1 ∷ e5·1 ∷ e6·1 ∷ e7 ∷ e8·1 ∷ e9·2 ∷ e10 ∷ e11 ∷ e12·2 ∷ e13 ∷ e14·2 ∷ e15 ∷ List.[]
+t26 = e0·1 ∷ e1·1 ∷ e2·1 ∷ e3·1 ∷ e4·1 ∷ e5·1 ∷ e6·1 ∷ e7 ∷ e8·1 ∷ e9·2 ∷ e10 ∷ e11 ∷ e12·2 ∷ e13 ∷ e14·2 ∷ e15 ∷
+    List.[]
+
 abbrev pub t27 : List.List Row.Entry
 t27 = e0·1 ∷ e1·1 ∷ e2·1 ∷ e3·1 ∷ e4·1 ∷ e5·1 ∷ e6·1 ∷ e7 ∷ e8 ∷ e9·2 ∷ e10 ∷ e11 ∷ e12·2 ∷ e13 ∷ e14·2 ∷ e15 ∷ List.[]
+
 abbrev pub t28 : List.List Row.Entry
 t28 = e0·1 ∷ e1 ∷ e2·1 ∷ e3·1 ∷ e4·1 ∷ e5·1 ∷ e6·1 ∷ e7 ∷ e8 ∷ e9·2 ∷ e10 ∷ e11 ∷ e12 ∷ e13 ∷ e14·2 ∷ e15 ∷ List.[]
+
 abbrev pub t29 : List.List Row.Entry
 t29 = e0·1 ∷ e1 ∷ e2 ∷ e3·1 ∷ e4·1 ∷ e5·1 ∷ e6·1 ∷ e7 ∷ e8 ∷ e9·2 ∷ e10 ∷ e11 ∷ e12 ∷ e13 ∷ e14 ∷ e15 ∷ List.[]
+
 abbrev pub t30 : List.List Row.Entry
 t30 = e0·1 ∷ e1 ∷ e2 ∷ e3 ∷ e4·1 ∷ e5·1 ∷ e6·1 ∷ e7 ∷ e8 ∷ e9·2 ∷ e10 ∷ e11 ∷ e12 ∷ e13 ∷ e14 ∷ e15 ∷ List.[]
+
 abbrev pub t31 : List.List Row.Entry
 t31 = e16 ∷ e17 ∷ e18·2 ∷ e19 ∷ e20·2 ∷ e21 ∷ e22 ∷ List.[]
+
 abbrev pub t32 : List.List Row.Entry
 t32 = e0·1 ∷ e1 ∷ e2 ∷ e3 ∷ e4 ∷ e5·1 ∷ e6·1 ∷ e7 ∷ e8 ∷ e9·2 ∷ e10 ∷ e11 ∷ e12 ∷ e13 ∷ e14 ∷ e15 ∷ List.[]
+
 abbrev pub t33 : List.List Row.Entry
 t33 = e16 ∷ e17 ∷ e18 ∷ e19 ∷ e20·2 ∷ e21 ∷ e22 ∷ List.[]
+
 abbrev pub t34 : List.List Row.Entry
 t34 = e0·1 ∷ e1 ∷ e2 ∷ e3 ∷ e4 ∷ e5 ∷ e6·1 ∷ e7 ∷ e8 ∷ e9·2 ∷ e10 ∷ e11 ∷ e12 ∷ e13 ∷ e14 ∷ e15 ∷ List.[]
+
 abbrev pub t35 : List.List Row.Entry
 t35 = e0·1 ∷ e1 ∷ e2 ∷ e3 ∷ e4 ∷ e5 ∷ e6·1 ∷ e7 ∷ e8 ∷ e9·1 ∷ e10 ∷ e11 ∷ e12 ∷ e13 ∷ e14 ∷ e15 ∷ List.[]
+
 abbrev pub t36 : List.List Row.Entry
 t36 = e0·1 ∷ e1 ∷ e2 ∷ e3 ∷ e4 ∷ e5 ∷ e6·1 ∷ e7 ∷ e8 ∷ e9 ∷ e10 ∷ e11 ∷ e12 ∷ e13 ∷ e14 ∷ e15 ∷ List.[]
+
 abbrev pub T0 : Row.Cx
 T0 = record { locals = List._++_ t0 t1; slots = List.[] }
+
 abbrev pub T1 : Row.Cx
 T1 = record { locals = List._++_ t2 t1; slots = List.[] }
+
 abbrev pub T2 : Row.Cx
 T2 = record { locals = List._++_ t0 t1; slots = List.[] }
+
 abbrev pub T3 : Row.Cx
 T3 = record { locals = List._++_ t3 t1; slots = List.[] }
+
 abbrev pub T4 : Row.Cx
 T4 = record { locals = List._++_ t4 t1; slots = List.[] }
+
 abbrev pub T5 : Row.Cx
 T5 = record { locals = List._++_ t5 t1; slots = List.[] }
+
 abbrev pub T6 : Row.Cx
 T6 = record { locals = List._++_ t6 t1; slots = List.[] }
+
 abbrev pub T8 : Row.Cx
 T8 = record { locals = List._++_ t7 t1; slots = List.[] }
+
 abbrev pub T9 : Row.Cx
 T9 = record { locals = List._++_ t8 t1; slots = List.[] }
+
 abbrev pub T11 : Row.Cx
 T11 = record { locals = List._++_ t9 t1; slots = List.[] }
+
 abbrev pub T12 : Row.Cx
 T12 = record { locals = List._++_ t10 t1; slots = List.[] }
+
 abbrev pub T14 : Row.Cx
 T14 = record { locals = List._++_ t11 t1; slots = List.[] }
+
 abbrev pub T15 : Row.Cx
 T15 = record { locals = List._++_ t12 t13; slots = List.[] }
+
 abbrev pub T17 : Row.Cx
 T17 = record { locals = List._++_ t14 t15; slots = List.[] }
+
 abbrev pub T18 : Row.Cx
 T18 = record { locals = List._++_ t14 t16; slots = List.[] }
+
 abbrev pub T20 : Row.Cx
 T20 = record { locals = List._++_ t17 t18; slots = List.[] }
+
 abbrev pub T21 : Row.Cx
 T21 = record { locals = List._++_ t17 t19; slots = List.[] }
+
 abbrev pub T23 : Row.Cx
 T23 = record { locals = List._++_ t20 t21; slots = List.[] }
+
 abbrev pub T24 : Row.Cx
 T24 = record { locals = List._++_ t20 t22; slots = List.[] }
+
 abbrev pub T25 : Row.Cx
 T25 = record { locals = List._++_ t23 t24; slots = List.[] }
+
 abbrev pub T26 : Row.Cx
 T26 = record { locals = List._++_ t23 t25; slots = List.[] }
+
 abbrev pub T27 : Row.Cx
 T27 = record { locals = List._++_ t26 t25; slots = List.[] }
+
 abbrev pub T28 : Row.Cx
 T28 = record { locals = List._++_ t27 t25; slots = List.[] }
+
 abbrev pub T30 : Row.Cx
 T30 = record { locals = List._++_ t28 t25; slots = List.[] }
+
 abbrev pub T33 : Row.Cx
 T33 = record { locals = List._++_ t29 t25; slots = List.[] }
+
 abbrev pub T36 : Row.Cx
 T36 = record { locals = List._++_ t30 t31; slots = List.[] }
+
 abbrev pub T39 : Row.Cx
 T39 = record { locals = List._++_ t32 t33; slots = List.[] }
+
 abbrev pub T42 : Row.Cx
 T42 = record { locals = List._++_ t34 t1; slots = List.[] }
+
 abbrev pub T43 : Row.Cx
 T43 = record { locals = List._++_ t34 t1; slots = List.[] }
+
 abbrev pub T46 : Row.Cx
 T46 = record { locals = List._++_ t35 t1; slots = List.[] }
+
 abbrev pub T48 : Row.Cx
 T48 = record { locals = List._++_ t36 t1; slots = List.[] }
+
 abbrev pub T49 : Row.Cx
 T49 = record { locals = List._++_ t2 t1; slots = List.[] }
+
 abbrev pub O0 : Typed.Outs
 O0 = record { next = Option.none; exits = List.[]; returns = Option.some T1 }
+
 module _ (claims· : Claims) where
   abbrev s0 : Typed.Gives T0 T2
   s0 = Know.k-sl-known (Referent.fInt Syntax.w32) T0 5 4 ref11 Row.off 0 λ x. x
+
+  abbrev args1 : Args'.ArgsT ps·0 (T2 .locals)
+  args1 = (Num.vLit 15, (Num.vAt 7 λ x. x, tt))
+
   abbrev s1 : Typed.Both T2 T3
-  s1 = Call.callB ps·0 r·0 (claims· .0) (claims· .1) T2 (Num.vLit 15, (Num.vAt 7 λ x. x, tt)) 8 List.[] Laws.mir
+  s1 = Call.callB ps·0 r·0 (claims· .0) (claims· .1) T2 args1 8 List.[] Laws.mir
+
   abbrev s2 : Typed.Both T3 T4
   s2 = Call.callB ps·1 r·1 (claims· .2) (claims· .3) T3 tt 10 List.[] (Syntax.tyArray (Syntax.tyInt Syntax.w8) 20)
+
   abbrev s3 : Typed.Mo T4 → Typed.Mo T5
-  s3 = LocalCopy.n-val-copy T4 10 9 (Array'.Array (Referent.rtF (Referent.fInt Syntax.w8)) 20) (Rows.arrF (Referent.rtF (Referent.fInt Syntax.w8)) 20
-      0) (Rows.arrF (Referent.rtF (Referent.fInt Syntax.w8)) 20 0) (λ x. x) (λ x. x) λ x. x
+  s3 = LocalCopy.n-val-copy T4 10 9 (Array'.Array (Referent.rtF (Referent.fInt Syntax.w8)) 20)
+      (Rows.arrF (Referent.rtF (Referent.fInt Syntax.w8)) 20 0)
+      (Rows.arrF (Referent.rtF (Referent.fInt Syntax.w8)) 20 0) (λ x. x) (λ x. x) λ x. x
+
   abbrev s4 : Typed.Mo T5 → Typed.Mo T6
   s4 = Scalar.n-room T5 10 (Syntax.tyArray (Syntax.tyInt Syntax.w8) 20)
+
   abbrev s6 : Typed.Gives T6 T8
   s6 = Relend.k-sl-relend RelayPending.row T6 1 11 0 5 ref7 ref0 Row.off λ x. x
+
   abbrev s7 : Typed.Asks T8 T9
-  s7 = Relend.k-sl-aggregate RelayPending.row (Relend.asMut RelayPending.row) T8 11 12 5 ref0 ref0 (λ x. x) (Scalar.oFld 1 ((Syntax.field 1) ∷
-      List.[]) (Syntax.tyInt Syntax.w64) 8 λ v. Shared.lenV (v .0))
+  s7 = Relend.k-sl-aggregate RelayPending.row (Relend.asMut RelayPending.row) T8 11 12 5 ref0 ref0 (λ x. x) (Scalar.oFld
+      1 ((Syntax.field 1) ∷ List.[]) (Syntax.tyInt Syntax.w64) 8 λ v. Shared.lenV (v .0))
+
   abbrev s9 : Typed.Gives T9 T11
   s9 = Relend.k-sl-relend RelayCircuit.row T9 2 13 1 6 ref8 ref1 Row.off λ x. x
+
   abbrev s10 : Typed.Asks T11 T12
-  s10 = Relend.k-sl-aggregate RelayCircuit.row (Relend.asMut RelayCircuit.row) T11 13 14 6 ref1 ref1 (λ x. x) (Scalar.oFld 2 ((Syntax.field 1) ∷
-      List.[]) (Syntax.tyInt Syntax.w64) 8 λ v. Shared.lenV (v .0))
+  s10 = Relend.k-sl-aggregate RelayCircuit.row (Relend.asMut RelayCircuit.row) T11 13 14 6 ref1 ref1 (λ x. x) (Scalar.oFld
+      2 ((Syntax.field 1) ∷ List.[]) (Syntax.tyInt Syntax.w64) 8 λ v. Shared.lenV (v .0))
+
   abbrev s12 : Typed.Gives T12 T14
   s12 = Relend.k-sl-relend ReservationUsage.row T12 3 15 2 7 ref9 ref2 Row.off λ x. x
+
   abbrev s13 : Typed.Asks T14 T15
-  s13 = Relend.k-sl-aggregate ReservationUsage.row (Relend.asMut ReservationUsage.row) T14 15 16 7 ref2 ref2 (λ x. x) (Scalar.oFld 3 ((Syntax.field 1)
-      ∷ List.[]) (Syntax.tyInt Syntax.w64) 8 λ v. Shared.lenV (v .0))
+  s13 = Relend.k-sl-aggregate ReservationUsage.row (Relend.asMut ReservationUsage.row) T14 15 16 7 ref2 ref2 (λ x. x) (Scalar.oFld
+      3 ((Syntax.field 1) ∷ List.[]) (Syntax.tyInt Syntax.w64) 8 λ v. Shared.lenV (v .0))
+
   abbrev s15 : Typed.Gives T15 T17
   s15 = Relend.k-sl-relend InflightAction.row T15 4 17 3 8 ref10 ref3 Row.off λ x. x
+
   abbrev s16 : Typed.Asks T17 T18
-  s16 = Relend.k-sl-aggregate InflightAction.row (Relend.asMut InflightAction.row) T17 17 18 8 ref3 ref3 (λ x. x) (Scalar.oFld 4 ((Syntax.field 1) ∷
-      List.[]) (Syntax.tyInt Syntax.w64) 8 λ v. Shared.lenV (v .0))
+  s16 = Relend.k-sl-aggregate InflightAction.row (Relend.asMut InflightAction.row) T17 17 18 8 ref3 ref3 (λ x. x) (Scalar.oFld
+      4 ((Syntax.field 1) ∷ List.[]) (Syntax.tyInt Syntax.w64) 8 λ v. Shared.lenV (v .0))
+
   abbrev s18 : Typed.Gives T18 T20
   s18 = Relend.k-sl-relend (Referent.rtF (Referent.fInt Syntax.w32)) T18 5 19 4 9 ref11 ref4 Row.off λ x. x
+
   abbrev s19 : Typed.Asks T20 T21
-  s19 = Relend.k-sl-aggregate (Referent.rtF (Referent.fInt Syntax.w32)) (Relend.asMut (Referent.rtF (Referent.fInt Syntax.w32))) T20 19 20 9 ref4 ref4
-      (λ x. x) (Scalar.oFld 5 ((Syntax.field 1) ∷ List.[]) (Syntax.tyInt Syntax.w64) 8 λ v. Shared.lenV (v .0))
+  s19 = Relend.k-sl-aggregate (Referent.rtF (Referent.fInt Syntax.w32))
+      (Relend.asMut (Referent.rtF (Referent.fInt Syntax.w32))) T20 19 20 9 ref4 ref4 (λ x. x) (Scalar.oFld 5
+      ((Syntax.field 1) ∷ List.[]) (Syntax.tyInt Syntax.w64) 8 λ v. Shared.lenV (v .0))
+
   abbrev s21 : Typed.Gives T21 T23
   s21 = Share.k-arr-share (Referent.rtF (Referent.fInt Syntax.w8)) T21 9 21 20 10 ref5 λ x. x
+
   abbrev s22 : Typed.Asks T23 T24
-  s22 = Relend.k-sl-aggregate (Referent.rtF (Referent.fInt Syntax.w8)) (Relend.asShr (Referent.rtF (Referent.fInt Syntax.w8))) T23 21 22 10 ref5 ref6
-      (λ x. x) (Scalar.oInt Syntax.w64 20)
+  s22 = Relend.k-sl-aggregate (Referent.rtF (Referent.fInt Syntax.w8))
+      (Relend.asShr (Referent.rtF (Referent.fInt Syntax.w8))) T23 21 22 10 ref5 ref6 (λ x. x)
+      (Scalar.oInt Syntax.w64 20)
+
+  abbrev args23 : Args'.ArgsT ps·2 (T24 .locals)
+  args23 = (
+    record { pos = 12; ty = ref0; ref = λ x. x },
+    (
+      record { pos = 14; ty = ref1; ref = λ x. x },
+      (
+        record { pos = 16; ty = ref2; ref = λ x. x },
+        (
+          record { pos = 18; ty = ref3; ref = λ x. x },
+          (
+            record { pos = 20; ty = ref4; ref = λ x. x },
+            (
+              record { pos = 6; st = List.[]; d = 0; at = λ x. x },
+              (
+                record { pos = 8; st = List.[]; d = 0; at = λ x. x },
+                (Num.vLit 2, (record { pos = 22; ty = ref6; ref = λ x. x }, tt)),
+              ),
+            ),
+          ),
+        ),
+      ),
+    ),
+  )
+
   abbrev s23 : Typed.Both T24 T25
-  s23 = Call.callB ps·2 r·2 (claims· .4) (claims· .5) T24 (record { pos = 12; ty = Syntax.tyRef Syntax.erased Syntax.mut RelayPending.to; ref = λ x.
-      x; }, (record { pos = 14; ty = Syntax.tyRef Syntax.erased Syntax.mut RelayCircuit.to; ref = λ x. x; }, (record { pos = 16; ty = Syntax.tyRef
-      Syntax.erased Syntax.mut ReservationUsage.to; ref = λ x. x; }, (record { pos = 18; ty = Syntax.tyRef Syntax.erased Syntax.mut InflightAction.to;
-      ref = λ x. x; }, (record { pos = 20; ty = Syntax.tyRef Syntax.erased Syntax.mut (Syntax.tyInt Syntax.w32); ref = λ x. x; }, (record { pos = 6;
-      st = List.[]; d = 0; at = λ x. x }, (record { pos = 8; st = List.[]; d = 0; at = λ x. x }, (Num.vLit 2, (record { pos = 22; ty = Syntax.tyRef
-      Syntax.erased Syntax.imm (Syntax.tyInt Syntax.w8); ref = λ x. x; }, tt,),),),),),),),),) 0 (5 ∷ 6 ∷ 7 ∷ 8 ∷ 9 ∷ 10 ∷ List.[]) Laws'.mir
+  s23 = Call.callB ps·2 r·2 (claims· .4) (claims· .5) T24 args23 0 (5 ∷ 6 ∷ 7 ∷ 8 ∷ 9 ∷ 10 ∷ List.[]) Laws'.mir
+
   abbrev s24 : Typed.Mo T25 → Typed.Mo T26
-  s24 = Scalar.n-room T25 22 (Syntax.tyStruct (38 ∷ 91 ∷ 93 ∷ List.[]) (Syntax.tcons ref6 (Syntax.tcons (Syntax.tyInt Syntax.w64) Syntax.tnil)))
+  s24 = Scalar.n-room T25 22 slice6
+
   abbrev s25 : Typed.Mo T26 → Typed.Mo T27
   s25 = Scalar.n-room T26 6 Laws'.mir
+
   abbrev s26 : Typed.Mo T27 → Typed.Mo T28
   s26 = Scalar.n-room T27 8 Laws.mir
+
   abbrev s28 : Typed.Both T28 T30
   s28 = Relend.k-back-sl RelayPending.row T28 12 1 0 5 ref7 ref0 Row.off (λ x. x) λ x. x
+
   abbrev s31 : Typed.Both T30 T33
   s31 = Relend.k-back-sl RelayCircuit.row T30 14 2 1 6 ref8 ref1 Row.off (λ x. x) λ x. x
+
   abbrev s34 : Typed.Both T33 T36
   s34 = Relend.k-back-sl ReservationUsage.row T33 16 3 2 7 ref9 ref2 Row.off (λ x. x) λ x. x
+
   abbrev s37 : Typed.Both T36 T39
   s37 = Relend.k-back-sl InflightAction.row T36 18 4 3 8 ref10 ref3 Row.off (λ x. x) λ x. x
+
   abbrev s40 : Typed.Both T39 T42
   s40 = Relend.k-back-sl (Referent.rtF (Referent.fInt Syntax.w32)) T39 20 5 4 9 ref11 ref4 Row.off (λ x. x) λ x. x
+
   abbrev s41 : Typed.Gives T42 T43
   s41 = Know.k-sl-known (Referent.fInt Syntax.w32) T42 5 4 ref11 Row.off 0 λ x. x
+
   abbrev s44 : Typed.Mo T43 → Typed.Mo T46
   s44 = Share.n-back-arr-shr (Referent.rtF (Referent.fInt Syntax.w8)) T43 9 20 10 λ x. x
+
   abbrev s46 : Typed.Mo T46 → Typed.Mo T48
   s46 = Scalar.n-room T46 9 (Syntax.tyArray (Syntax.tyInt Syntax.w8) 20)
+
   abbrev s47 : Typed.Mo T48 → Typed.Mo T49
   s47 = Scalar.n-room T48 7 (Syntax.tyInt Syntax.w64)
-  module _ (Pre· : (κs : Lifetimes.Lfts 5) → Kinds.Dens κs ps → Type 0) (Post· : (κs : Lifetimes.Lfts 5) → (a : Kinds.Dens κs ps) → Kinds.Plain 5 ps r
-      κs) where
+
+  module _ (Pre· : (κs : Lifetimes.Lfts 5) → Kinds.Dens κs ps → Type 0) (Post· : (κs : Lifetimes.Lfts 5) →
+      (a : Kinds.Dens κs ps) → Kinds.Plain 5 ps r κs) where
     module _ (M : Type 1) where
       abbrev pub Closed : Type 2
-      Closed = (𝓤 : URA.URA M) (H : Wp.Heap 𝓤) (A : Atoms.Atoms 𝓤) (W : Kit.Given 𝓤 H A) (𝓣 : Wp.Tables 𝓤 H) (known0 : Plain.Known 𝓤 H A W 𝓣 0 ps·0
-          r·0 (claims· .0) (claims· .1) "cases::script::packet") (known1 : Plain.Known 𝓤 H A W 𝓣 0 ps·1 r·1 (claims· .2) (claims· .3)
-          "cases::script::accept_body") (known2 : Plain.Known 𝓤 H A W 𝓣 6 ps·2 r·2 (claims· .4) (claims· .5) "cases::machine::deliver") →
-          Statement.Triple 𝓤 (Wp.WpFn 𝓤 H (𝓣 .C) (𝓣 .Λ) (Function.fnOf 5 ps r xs m hs body)) (Function.plainOf 𝓤 H A 5 ps r Pre· Post·)
+      Closed = (𝓤 : URA.URA M) (H : Wp.Heap 𝓤) (A : Atoms.Atoms 𝓤) (W : Kit.Given 𝓤 H A) (𝓣 : Wp.Tables 𝓤 H) (known0 :
+          Plain.Known 𝓤 H A W 𝓣 0 ps·0 r·0 (claims· .0) (claims· .1) "cases::script::packet") (known1 : Plain.Known 𝓤 H
+          A W 𝓣 0 ps·1 r·1 (claims· .2) (claims· .3) "cases::script::accept_body") (known2 : Plain.Known 𝓤 H A W 𝓣 6
+          ps·2 r·2 (claims· .4) (claims· .5) "cases::machine::deliver") → Statement.Triple 𝓤 (Wp.WpFn 𝓤 H (𝓣 .C) (𝓣 .Λ)
+          (Function.fnOf 5 ps r xs m hs body)) (Function.plainOf 𝓤 H A 5 ps r Pre· Post·)
+
     module _ where
       abbrev at0 : Typed.TF T49 O0
       at0 = Typed.atRet O0
+
       abbrev at1 : Typed.TF T48 O0
       at1 = λ Ψ. Typed.pass T48 T49 s47 (at0 Ψ)
+
       abbrev at2 : Typed.TF T46 O0
       at2 = λ Ψ. Typed.pass T46 T48 s46 (at1 Ψ)
+
       abbrev at3 : Typed.TF T46 O0
       at3 = λ Ψ. at2 Ψ
+
       abbrev at4 : Typed.TF T43 O0
       at4 = λ Ψ. Typed.pass T43 T46 s44 (at3 Ψ)
+
       abbrev at5 : Typed.TF T43 O0
       at5 = λ Ψ. at4 Ψ
+
       abbrev at6 : Typed.TF T43 O0
       at6 = λ Ψ. at5 Ψ
+
       abbrev at7 : Typed.TF T42 O0
       at7 = λ Ψ. Typed.give s41 (at6 Ψ)
+
       abbrev at8 : Typed.TF T39 O0
       at8 = λ Ψ. Typed.both s40 (at7 Ψ)
+
       abbrev at9 : Typed.TF T39 O0
       at9 = λ Ψ. at8 Ψ
+
       abbrev at10 : Typed.TF T39 O0
       at10 = λ Ψ. at9 Ψ
+
       abbrev at11 : Typed.TF T36 O0
       at11 = λ Ψ. Typed.both s37 (at10 Ψ)
+
       abbrev at12 : Typed.TF T36 O0
       at12 = λ Ψ. at11 Ψ
+
       abbrev at13 : Typed.TF T36 O0
       at13 = λ Ψ. at12 Ψ
+
       abbrev at14 : Typed.TF T33 O0
       at14 = λ Ψ. Typed.both s34 (at13 Ψ)
+
       abbrev at15 : Typed.TF T33 O0
       at15 = λ Ψ. at14 Ψ
+
       abbrev at16 : Typed.TF T33 O0
       at16 = λ Ψ. at15 Ψ
+
       abbrev at17 : Typed.TF T30 O0
       at17 = λ Ψ. Typed.both s31 (at16 Ψ)
+
       abbrev at18 : Typed.TF T30 O0
       at18 = λ Ψ. at17 Ψ
+
       abbrev at19 : Typed.TF T30 O0
       at19 = λ Ψ. at18 Ψ
+
       abbrev at20 : Typed.TF T28 O0
       at20 = λ Ψ. Typed.both s28 (at19 Ψ)
+
       abbrev at21 : Typed.TF T28 O0
       at21 = λ Ψ. at20 Ψ
+
       abbrev at22 : Typed.TF T27 O0
       at22 = λ Ψ. Typed.pass T27 T28 s26 (at21 Ψ)
+
       abbrev at23 : Typed.TF T26 O0
       at23 = λ Ψ. Typed.pass T26 T27 s25 (at22 Ψ)
+
       abbrev at24 : Typed.TF T25 O0
       at24 = λ Ψ. Typed.pass T25 T26 s24 (at23 Ψ)
+
       abbrev at25 : Typed.TF T24 O0
       at25 = λ Ψ. Typed.both s23 (at24 Ψ)
+
       abbrev at26 : Typed.TF T23 O0
       at26 = λ Ψ. Typed.ask s22 (at25 Ψ)
+
       abbrev at27 : Typed.TF T21 O0
       at27 = λ Ψ. Typed.give s21 (at26 Ψ)
+
       abbrev at28 : Typed.TF T21 O0
       at28 = λ Ψ. at27 Ψ
+
       abbrev at29 : Typed.TF T20 O0
       at29 = λ Ψ. Typed.ask s19 (at28 Ψ)
+
       abbrev at30 : Typed.TF T18 O0
       at30 = λ Ψ. Typed.give s18 (at29 Ψ)
+
       abbrev at31 : Typed.TF T18 O0
       at31 = λ Ψ. at30 Ψ
+
       abbrev at32 : Typed.TF T17 O0
       at32 = λ Ψ. Typed.ask s16 (at31 Ψ)
+
       abbrev at33 : Typed.TF T15 O0
       at33 = λ Ψ. Typed.give s15 (at32 Ψ)
+
       abbrev at34 : Typed.TF T15 O0
       at34 = λ Ψ. at33 Ψ
+
       abbrev at35 : Typed.TF T14 O0
       at35 = λ Ψ. Typed.ask s13 (at34 Ψ)
+
       abbrev at36 : Typed.TF T12 O0
       at36 = λ Ψ. Typed.give s12 (at35 Ψ)
+
       abbrev at37 : Typed.TF T12 O0
       at37 = λ Ψ. at36 Ψ
+
       abbrev at38 : Typed.TF T11 O0
       at38 = λ Ψ. Typed.ask s10 (at37 Ψ)
+
       abbrev at39 : Typed.TF T9 O0
       at39 = λ Ψ. Typed.give s9 (at38 Ψ)
+
       abbrev at40 : Typed.TF T9 O0
       at40 = λ Ψ. at39 Ψ
+
       abbrev at41 : Typed.TF T8 O0
       at41 = λ Ψ. Typed.ask s7 (at40 Ψ)
+
       abbrev at42 : Typed.TF T6 O0
       at42 = λ Ψ. Typed.give s6 (at41 Ψ)
+
       abbrev at43 : Typed.TF T6 O0
       at43 = λ Ψ. at42 Ψ
+
       abbrev at44 : Typed.TF T5 O0
       at44 = λ Ψ. Typed.pass T5 T6 s4 (at43 Ψ)
+
       abbrev at45 : Typed.TF T4 O0
       at45 = λ Ψ. Typed.pass T4 T5 s3 (at44 Ψ)
+
       abbrev at46 : Typed.TF T3 O0
       at46 = λ Ψ. Typed.both s2 (at45 Ψ)
+
       abbrev at47 : Typed.TF T2 O0
       at47 = λ Ψ. Typed.both s1 (at46 Ψ)
+
       abbrev at48 : Typed.TF T0 O0
       at48 = λ Ψ. Typed.give s0 (at47 Ψ)
+
       abbrev pub Φ : Typed.TF T0 O0
       Φ = at48
-      module _ { M : Type 1 } (𝓤 : URA.URA M) (H : Wp.Heap 𝓤) (A : Atoms.Atoms 𝓤) (W : Kit.Given 𝓤 H A) (𝓣 : Wp.Tables 𝓤 H) where
+
+      module _ {M : Type 1} (𝓤 : URA.URA M) (H : Wp.Heap 𝓤) (A : Atoms.Atoms 𝓤) (W : Kit.Given 𝓤 H A)
+          (𝓣 : Wp.Tables 𝓤 H) where
         abbrev Knowns : Type 1
-        Knowns = Plain.Known 𝓤 H A W 𝓣 0 ps·0 r·0 (claims· .0) (claims· .1) "cases::script::packet" × Plain.Known 𝓤 H A W 𝓣 0 ps·1 r·1 (claims· .2)
-            (claims· .3) "cases::script::accept_body" × Plain.Known 𝓤 H A W 𝓣 6 ps·2 r·2 (claims· .4) (claims· .5) "cases::machine::deliver"
+        Knowns = Plain.Known 𝓤 H A W 𝓣 0 ps·0 r·0 (claims· .0) (claims· .1) "cases::script::packet" × Plain.Known 𝓤 H A
+            W 𝓣 0 ps·1 r·1 (claims· .2) (claims· .3) "cases::script::accept_body" × Plain.Known 𝓤 H A W 𝓣 6 ps·2 r·2
+            (claims· .4) (claims· .5) "cases::machine::deliver"
+
       module _ (κs : Lifetimes.Lfts 5) (qs : Lifetimes.Shares 5) where
         abbrev life0 : Row.Life
         life0 = Row.lease (κs .0) (qs .0)
+
         abbrev life1 : Row.Life
         life1 = Row.lease (κs .1 .0) (qs .1 .0)
+
         abbrev life2 : Row.Life
         life2 = Row.lease (κs .1 .1 .0) (qs .1 .1 .0)
+
         abbrev life3 : Row.Life
         life3 = Row.lease (κs .1 .1 .1 .0) (qs .1 .1 .1 .0)
+
         abbrev life4 : Row.Life
         life4 = Row.lease (κs .1 .1 .1 .1 .0) (qs .1 .1 .1 .1 .0)
+
+        abbrev l1 : Row.Entry
+        l1 = (1, Relend.mslice-owed RelayPending.row ref7 0 5 life0)
+
+        abbrev l2 : Row.Entry
+        l2 = (2, Relend.mslice-owed RelayCircuit.row ref8 1 6 life1)
+
+        abbrev l3 : Row.Entry
+        l3 = (3, Relend.mslice-owed ReservationUsage.row ref9 2 7 life2)
+
+        abbrev l4 : Row.Entry
+        l4 = (4, Relend.mslice-owed InflightAction.row ref10 3 8 life3)
+
+        abbrev l5 : Row.Entry
+        l5 = (5, Relend.mslice-owed (Referent.rtF (Referent.fInt Syntax.w32)) ref11 4 9 life4)
+
         abbrev g7 : List.List Row.Entry
-        g7 = (0, Rows'.any-gone Laws'.mir,) ∷ (1, Relend.mslice-owed RelayPending.row ref7 0 5 life0,) ∷ (2, Mut.mslice RelayCircuit.row ref8 1,) ∷
-            (3, Mut.mslice ReservationUsage.row ref9 2,) ∷ (4, Mut.mslice InflightAction.row ref10 3,) ∷ (5, Mut.mslice (Referent.rtF (Referent.fInt
-            Syntax.w32)) ref11 4,) ∷ (6, Rows'.whole (Declared.row Relayed.the-type)) ∷ (7, Rows'.sc-here (Row.sInt Syntax.w64),) ∷ (8, Rows'.whole
-            (Declared.row RelayPacket.the-type)) ∷ (9, Rows.arrF (Referent.rtF (Referent.fInt Syntax.w8)) 20 0,) ∷ (10, Rows'.any-gone (Syntax.tyArray
-            (Syntax.tyInt Syntax.w8) 20)) ∷ (11, Relend.msptr RelayPending.row ref0 5,) ∷ (12, Rows'.any-gone (Syntax.tyStruct (38 ∷ 91 ∷ 93 ∷
-            List.[]) (Syntax.tcons ref0 (Syntax.tcons (Syntax.tyInt Syntax.w64) Syntax.tnil))),) ∷ (13, Rows'.any-gone ref1,) ∷ (14, Rows'.any-gone
-            (Syntax.tyStruct (38 ∷ 91 ∷ 93 ∷ List.[]) (Syntax.tcons ref1 (Syntax.tcons (Syntax.tyInt Syntax.w64) Syntax.tnil))),) ∷ (15,
-            Rows'.any-gone ref2,) ∷ List.[]
+        g7 = e0 ∷ l1 ∷ e2 ∷ e3 ∷ e4 ∷ e5 ∷ e6 ∷ e7 ∷ e8·1 ∷ e9·1 ∷ e10 ∷ e11·1 ∷ e12 ∷ e13 ∷ e14 ∷ e15 ∷ List.[]
+
         abbrev g8 : List.List Row.Entry
-        g8 = (0, Rows'.any-gone Laws'.mir,) ∷ (1, Relend.mslice-owed RelayPending.row ref7 0 5 life0,) ∷ (2, Mut.mslice RelayCircuit.row ref8 1,) ∷
-            (3, Mut.mslice ReservationUsage.row ref9 2,) ∷ (4, Mut.mslice InflightAction.row ref10 3,) ∷ (5, Mut.mslice (Referent.rtF (Referent.fInt
-            Syntax.w32)) ref11 4,) ∷ (6, Rows'.whole (Declared.row Relayed.the-type)) ∷ (7, Rows'.sc-here (Row.sInt Syntax.w64),) ∷ (8, Rows'.whole
-            (Declared.row RelayPacket.the-type)) ∷ (9, Rows.arrF (Referent.rtF (Referent.fInt Syntax.w8)) 20 0,) ∷ (10, Rows'.any-gone (Syntax.tyArray
-            (Syntax.tyInt Syntax.w8) 20)) ∷ (11, Rows'.any-gone ref0,) ∷ (12, Mut.mslice RelayPending.row ref0 5,) ∷ (13, Rows'.any-gone ref1,) ∷ (14,
-            Rows'.any-gone (Syntax.tyStruct (38 ∷ 91 ∷ 93 ∷ List.[]) (Syntax.tcons ref1 (Syntax.tcons (Syntax.tyInt Syntax.w64) Syntax.tnil))),) ∷
-            (15, Rows'.any-gone ref2,) ∷ List.[]
+        g8 = e0 ∷ l1 ∷ e2 ∷ e3 ∷ e4 ∷ e5 ∷ e6 ∷ e7 ∷ e8·1 ∷ e9·1 ∷ e10 ∷ e11 ∷ e12·1 ∷ e13 ∷ e14 ∷ e15 ∷ List.[]
+
         abbrev g9 : List.List Row.Entry
-        g9 = (0, Rows'.any-gone Laws'.mir,) ∷ (1, Relend.mslice-owed RelayPending.row ref7 0 5 life0,) ∷ (2, Relend.mslice-owed RelayCircuit.row ref8
-            1 6 life1,) ∷ (3, Mut.mslice ReservationUsage.row ref9 2,) ∷ (4, Mut.mslice InflightAction.row ref10 3,) ∷ (5, Mut.mslice (Referent.rtF
-            (Referent.fInt Syntax.w32)) ref11 4,) ∷ (6, Rows'.whole (Declared.row Relayed.the-type)) ∷ (7, Rows'.sc-here (Row.sInt Syntax.w64),) ∷ (8,
-            Rows'.whole (Declared.row RelayPacket.the-type)) ∷ (9, Rows.arrF (Referent.rtF (Referent.fInt Syntax.w8)) 20 0,) ∷ (10, Rows'.any-gone
-            (Syntax.tyArray (Syntax.tyInt Syntax.w8) 20)) ∷ (11, Rows'.any-gone ref0,) ∷ (12, Mut.mslice RelayPending.row ref0 5,) ∷ (13, Relend.msptr
-            RelayCircuit.row ref1 6,) ∷ (14, Rows'.any-gone (Syntax.tyStruct (38 ∷ 91 ∷ 93 ∷ List.[]) (Syntax.tcons ref1 (Syntax.tcons (Syntax.tyInt
-            Syntax.w64) Syntax.tnil))),) ∷ (15, Rows'.any-gone ref2,) ∷ List.[]
+        g9 = e0 ∷ l1 ∷ l2 ∷ e3 ∷ e4 ∷ e5 ∷ e6 ∷ e7 ∷ e8·1 ∷ e9·1 ∷ e10 ∷ e11 ∷ e12·1 ∷ e13·1 ∷ e14 ∷ e15 ∷ List.[]
+
         abbrev g10 : List.List Row.Entry
-        g10 = (0, Rows'.any-gone Laws'.mir,) ∷ (1, Relend.mslice-owed RelayPending.row ref7 0 5 life0,) ∷ (2, Relend.mslice-owed RelayCircuit.row ref8
-            1 6 life1,) ∷ (3, Mut.mslice ReservationUsage.row ref9 2,) ∷ (4, Mut.mslice InflightAction.row ref10 3,) ∷ (5, Mut.mslice (Referent.rtF
-            (Referent.fInt Syntax.w32)) ref11 4,) ∷ (6, Rows'.whole (Declared.row Relayed.the-type)) ∷ (7, Rows'.sc-here (Row.sInt Syntax.w64),) ∷ (8,
-            Rows'.whole (Declared.row RelayPacket.the-type)) ∷ (9, Rows.arrF (Referent.rtF (Referent.fInt Syntax.w8)) 20 0,) ∷ (10, Rows'.any-gone
-            (Syntax.tyArray (Syntax.tyInt Syntax.w8) 20)) ∷ (11, Rows'.any-gone ref0,) ∷ (12, Mut.mslice RelayPending.row ref0 5,) ∷ (13,
-            Rows'.any-gone ref1,) ∷ (14, Mut.mslice RelayCircuit.row ref1 6,) ∷ (15, Rows'.any-gone ref2,) ∷ List.[]
+        g10 = e0 ∷ l1 ∷ l2 ∷ e3 ∷ e4 ∷ e5 ∷ e6 ∷ e7 ∷ e8·1 ∷ e9·1 ∷ e10 ∷ e11 ∷ e12·1 ∷ e13 ∷ e14·1 ∷ e15 ∷ List.[]
+
         abbrev g11 : List.List Row.Entry
-        g11 = (0, Rows'.any-gone Laws'.mir,) ∷ (1, Relend.mslice-owed RelayPending.row ref7 0 5 life0,) ∷ (2, Relend.mslice-owed RelayCircuit.row ref8
-            1 6 life1,) ∷ (3, Relend.mslice-owed ReservationUsage.row ref9 2 7 life2,) ∷ (4, Mut.mslice InflightAction.row ref10 3,) ∷ (5, Mut.mslice
-            (Referent.rtF (Referent.fInt Syntax.w32)) ref11 4,) ∷ (6, Rows'.whole (Declared.row Relayed.the-type)) ∷ (7, Rows'.sc-here (Row.sInt
-            Syntax.w64),) ∷ (8, Rows'.whole (Declared.row RelayPacket.the-type)) ∷ (9, Rows.arrF (Referent.rtF (Referent.fInt Syntax.w8)) 20 0,) ∷
-            (10, Rows'.any-gone (Syntax.tyArray (Syntax.tyInt Syntax.w8) 20)) ∷ (11, Rows'.any-gone ref0,) ∷ (12, Mut.mslice RelayPending.row ref0 5,)
-            ∷ (13, Rows'.any-gone ref1,) ∷ (14, Mut.mslice RelayCircuit.row ref1 6,) ∷ (15, Relend.msptr ReservationUsage.row ref2 7,) ∷ List.[]
+        g11 = e0 ∷ l1 ∷ l2 ∷ l3 ∷ e4 ∷ e5 ∷ e6 ∷ e7 ∷ e8·1 ∷ e9·1 ∷ e10 ∷ e11 ∷ e12·1 ∷ e13 ∷ e14·1 ∷ e15·1 ∷ List.[]
+
         abbrev g12 : List.List Row.Entry
-        g12 = (0, Rows'.any-gone Laws'.mir,) ∷ (1, Relend.mslice-owed RelayPending.row ref7 0 5 life0,) ∷ (2, Relend.mslice-owed RelayCircuit.row ref8
-            1 6 life1,) ∷ (3, Relend.mslice-owed ReservationUsage.row ref9 2 7 life2,) ∷ (4, Mut.mslice InflightAction.row ref10 3,) ∷ (5, Mut.mslice
-            (Referent.rtF (Referent.fInt Syntax.w32)) ref11 4,) ∷ (6, Rows'.whole (Declared.row Relayed.the-type)) ∷ (7, Rows'.sc-here (Row.sInt
-            Syntax.w64),) ∷ (8, Rows'.whole (Declared.row RelayPacket.the-type)) ∷ (9, Rows.arrF (Referent.rtF (Referent.fInt Syntax.w8)) 20 0,) ∷
-            (10, Rows'.any-gone (Syntax.tyArray (Syntax.tyInt Syntax.w8) 20)) ∷ (11, Rows'.any-gone ref0,) ∷ (12, Mut.mslice RelayPending.row ref0 5,)
-            ∷ (13, Rows'.any-gone ref1,) ∷ (14, Mut.mslice RelayCircuit.row ref1 6,) ∷ (15, Rows'.any-gone ref2,) ∷ List.[]
+        g12 = e0 ∷ l1 ∷ l2 ∷ l3 ∷ e4 ∷ e5 ∷ e6 ∷ e7 ∷ e8·1 ∷ e9·1 ∷ e10 ∷ e11 ∷ e12·1 ∷ e13 ∷ e14·1 ∷ e15 ∷ List.[]
+
         abbrev g14 : List.List Row.Entry
-        g14 = (0, Rows'.any-gone Laws'.mir,) ∷ (1, Relend.mslice-owed RelayPending.row ref7 0 5 life0,) ∷ (2, Relend.mslice-owed RelayCircuit.row ref8
-            1 6 life1,) ∷ (3, Relend.mslice-owed ReservationUsage.row ref9 2 7 life2,) ∷ (4, Relend.mslice-owed InflightAction.row ref10 3 8 life3,) ∷
-            (5, Mut.mslice (Referent.rtF (Referent.fInt Syntax.w32)) ref11 4,) ∷ (6, Rows'.whole (Declared.row Relayed.the-type)) ∷ (7, Rows'.sc-here
-            (Row.sInt Syntax.w64),) ∷ (8, Rows'.whole (Declared.row RelayPacket.the-type)) ∷ (9, Rows.arrF (Referent.rtF (Referent.fInt Syntax.w8)) 20
-            0,) ∷ (10, Rows'.any-gone (Syntax.tyArray (Syntax.tyInt Syntax.w8) 20)) ∷ (11, Rows'.any-gone ref0,) ∷ (12, Mut.mslice RelayPending.row
-            ref0 5,) ∷ (13, Rows'.any-gone ref1,) ∷ (14, Mut.mslice RelayCircuit.row ref1 6,) ∷ (15, Rows'.any-gone ref2,) ∷ List.[]
+        g14 = e0 ∷ l1 ∷ l2 ∷ l3 ∷ l4 ∷ e5 ∷ e6 ∷ e7 ∷ e8·1 ∷ e9·1 ∷ e10 ∷ e11 ∷ e12·1 ∷ e13 ∷ e14·1 ∷ e15 ∷ List.[]
+
         abbrev g17 : List.List Row.Entry
-        g17 = (0, Rows'.any-gone Laws'.mir,) ∷ (1, Relend.mslice-owed RelayPending.row ref7 0 5 life0,) ∷ (2, Relend.mslice-owed RelayCircuit.row ref8
-            1 6 life1,) ∷ (3, Relend.mslice-owed ReservationUsage.row ref9 2 7 life2,) ∷ (4, Relend.mslice-owed InflightAction.row ref10 3 8 life3,) ∷
-            (5, Relend.mslice-owed (Referent.rtF (Referent.fInt Syntax.w32)) ref11 4 9 life4,) ∷ (6, Rows'.whole (Declared.row Relayed.the-type)) ∷
-            (7, Rows'.sc-here (Row.sInt Syntax.w64),) ∷ (8, Rows'.whole (Declared.row RelayPacket.the-type)) ∷ (9, Rows.arrF (Referent.rtF
-            (Referent.fInt Syntax.w8)) 20 0,) ∷ (10, Rows'.any-gone (Syntax.tyArray (Syntax.tyInt Syntax.w8) 20)) ∷ (11, Rows'.any-gone ref0,) ∷ (12,
-            Mut.mslice RelayPending.row ref0 5,) ∷ (13, Rows'.any-gone ref1,) ∷ (14, Mut.mslice RelayCircuit.row ref1 6,) ∷ (15, Rows'.any-gone ref2,)
-            ∷ List.[]
+        g17 = e0 ∷ l1 ∷ l2 ∷ l3 ∷ l4 ∷ l5 ∷ e6 ∷ e7 ∷ e8·1 ∷ e9·1 ∷ e10 ∷ e11 ∷ e12·1 ∷ e13 ∷ e14·1 ∷ e15 ∷ List.[]
+
         abbrev g20 : List.List Row.Entry
-        g20 = (0, Rows'.any-gone Laws'.mir,) ∷ (1, Relend.mslice-owed RelayPending.row ref7 0 5 life0,) ∷ (2, Relend.mslice-owed RelayCircuit.row ref8
-            1 6 life1,) ∷ (3, Relend.mslice-owed ReservationUsage.row ref9 2 7 life2,) ∷ (4, Relend.mslice-owed InflightAction.row ref10 3 8 life3,) ∷
-            (5, Relend.mslice-owed (Referent.rtF (Referent.fInt Syntax.w32)) ref11 4 9 life4,) ∷ (6, Rows'.whole (Declared.row Relayed.the-type)) ∷
-            (7, Rows'.sc-here (Row.sInt Syntax.w64),) ∷ (8, Rows'.whole (Declared.row RelayPacket.the-type)) ∷ (9, Rows.arr-shr (Referent.rtF
-            (Referent.fInt Syntax.w8)) 20 10,) ∷ (10, Rows'.any-gone (Syntax.tyArray (Syntax.tyInt Syntax.w8) 20)) ∷ (11, Rows'.any-gone ref0,) ∷ (12,
-            Mut.mslice RelayPending.row ref0 5,) ∷ (13, Rows'.any-gone ref1,) ∷ (14, Mut.mslice RelayCircuit.row ref1 6,) ∷ (15, Rows'.any-gone ref2,)
-            ∷ List.[]
+        g20 = e0 ∷ l1 ∷ l2 ∷ l3 ∷ l4 ∷ l5 ∷ e6 ∷ e7 ∷ e8·1 ∷ e9·2 ∷ e10 ∷ e11 ∷ e12·1 ∷ e13 ∷ e14·1 ∷ e15 ∷ List.[]
+
         abbrev g23 : List.List Row.Entry
-        g23 = (0, Rows'.whole (Declared.row Relayed.the-type)) ∷ (1, Relend.mslice-owed RelayPending.row ref7 0 5 life0,) ∷ (2, Relend.mslice-owed
-            RelayCircuit.row ref8 1 6 life1,) ∷ (3, Relend.mslice-owed ReservationUsage.row ref9 2 7 life2,) ∷ (4, Relend.mslice-owed
-            InflightAction.row ref10 3 8 life3,) ∷ (5, Relend.mslice-owed (Referent.rtF (Referent.fInt Syntax.w32)) ref11 4 9 life4,) ∷ (6,
-            Rows'.whole (Declared.row Relayed.the-type)) ∷ (7, Rows'.sc-here (Row.sInt Syntax.w64),) ∷ (8, Rows'.whole (Declared.row
-            RelayPacket.the-type)) ∷ (9, Rows.arr-shr (Referent.rtF (Referent.fInt Syntax.w8)) 20 10,) ∷ (10, Rows'.any-gone (Syntax.tyArray
-            (Syntax.tyInt Syntax.w8) 20)) ∷ (11, Rows'.any-gone ref0,) ∷ (12, Mut.msleft RelayPending.row ref0,) ∷ (13, Rows'.any-gone ref1,) ∷ (14,
-            Mut.msleft RelayCircuit.row ref1,) ∷ (15, Rows'.any-gone ref2,) ∷ List.[]
+        g23 = e0·1 ∷ l1 ∷ l2 ∷ l3 ∷ l4 ∷ l5 ∷ e6 ∷ e7 ∷ e8·1 ∷ e9·2 ∷ e10 ∷ e11 ∷ e12·2 ∷ e13 ∷ e14·2 ∷ e15 ∷ List.[]
+
         abbrev g26 : List.List Row.Entry
-        g26 = (0, Rows'.whole (Declared.row Relayed.the-type)) ∷ (1, Relend.mslice-owed RelayPending.row ref7 0 5 life0,) ∷ (2, Relend.mslice-owed
-            RelayCircuit.row ref8 1 6 life1,) ∷ (3, Relend.mslice-owed ReservationUsage.row ref9 2 7 life2,) ∷ (4, Relend.mslice-owed
-            InflightAction.row ref10 3 8 life3,) ∷ (5, Relend.mslice-owed (Referent.rtF (Referent.fInt Syntax.w32)) ref11 4 9 life4,) ∷ (6,
-            Rows'.any-gone Laws'.mir,) ∷ (7, Rows'.sc-here (Row.sInt Syntax.w64)) ∷ (8, Rows'.whole (Declared.row RelayPacket.the-type),) ∷ (9,
-            Rows.arr-shr (Referent.rtF (Referent.fInt Syntax.w8)) 20 10) ∷ (10, Rows'.any-gone (Syntax.tyArray (Syntax.tyInt Syntax.w8) 20),) ∷ (11,
-            Rows'.any-gone ref0,) ∷ (12, Mut.msleft RelayPending.row ref0,) ∷ (13, Rows'.any-gone ref1,) ∷ (14, Mut.msleft RelayCircuit.row ref1,) ∷
-            (15, Rows'.any-gone ref2,) ∷ List.[]
+        g26 = e0·1 ∷ l1 ∷ l2 ∷ l3 ∷ l4 ∷ l5 ∷ e6·1 ∷ e7 ∷ e8·1 ∷ e9·2 ∷ e10 ∷ e11 ∷ e12·2 ∷ e13 ∷ e14·2 ∷ e15 ∷ List.[]
+
         abbrev g27 : List.List Row.Entry
-        g27 = (0, Rows'.whole (Declared.row Relayed.the-type)) ∷ (1, Relend.mslice-owed RelayPending.row ref7 0 5 life0,) ∷ (2, Relend.mslice-owed
-            RelayCircuit.row ref8 1 6 life1,) ∷ (3, Relend.mslice-owed ReservationUsage.row ref9 2 7 life2,) ∷ (4, Relend.mslice-owed
-            InflightAction.row ref10 3 8 life3,) ∷ (5, Relend.mslice-owed (Referent.rtF (Referent.fInt Syntax.w32)) ref11 4 9 life4,) ∷ (6,
-            Rows'.any-gone Laws'.mir,) ∷ (7, Rows'.sc-here (Row.sInt Syntax.w64)) ∷ (8, Rows'.any-gone Laws.mir,) ∷ (9, Rows.arr-shr (Referent.rtF
-            (Referent.fInt Syntax.w8)) 20 10) ∷ (10, Rows'.any-gone (Syntax.tyArray (Syntax.tyInt Syntax.w8) 20),) ∷ (11, Rows'.any-gone ref0,) ∷ (12,
-            Mut.msleft RelayPending.row ref0,) ∷ (13, Rows'.any-gone ref1,) ∷ (14, Mut.msleft RelayCircuit.row ref1,) ∷ (15, Rows'.any-gone ref2,) ∷
-            List.[]
+        g27 = e0·1 ∷ l1 ∷ l2 ∷ l3 ∷ l4 ∷ l5 ∷ e6·1 ∷ e7 ∷ e8 ∷ e9·2 ∷ e10 ∷ e11 ∷ e12·2 ∷ e13 ∷ e14·2 ∷ e15 ∷ List.[]
+
         abbrev g28 : List.List Row.Entry
-        g28 = (0, Rows'.whole (Declared.row Relayed.the-type)) ∷ (1, Mut.mslice RelayPending.row ref7 0,) ∷ (2, Relend.mslice-owed RelayCircuit.row
-            ref8 1 6 life1,) ∷ (3, Relend.mslice-owed ReservationUsage.row ref9 2 7 life2,) ∷ (4, Relend.mslice-owed InflightAction.row ref10 3 8
-            life3,) ∷ (5, Relend.mslice-owed (Referent.rtF (Referent.fInt Syntax.w32)) ref11 4 9 life4,) ∷ (6, Rows'.any-gone Laws'.mir,) ∷ (7,
-            Rows'.sc-here (Row.sInt Syntax.w64)) ∷ (8, Rows'.any-gone Laws.mir,) ∷ (9, Rows.arr-shr (Referent.rtF (Referent.fInt Syntax.w8)) 20 10) ∷
-            (10, Rows'.any-gone (Syntax.tyArray (Syntax.tyInt Syntax.w8) 20),) ∷ (11, Rows'.any-gone ref0,) ∷ (12, Rows'.any-gone (Syntax.tyStruct (38
-            ∷ 91 ∷ 93 ∷ List.[]) (Syntax.tcons ref0 (Syntax.tcons (Syntax.tyInt Syntax.w64) Syntax.tnil))),) ∷ (13, Rows'.any-gone ref1,) ∷ (14,
-            Mut.msleft RelayCircuit.row ref1,) ∷ (15, Rows'.any-gone ref2,) ∷ List.[]
+        g28 = e0·1 ∷ e1 ∷ l2 ∷ l3 ∷ l4 ∷ l5 ∷ e6·1 ∷ e7 ∷ e8 ∷ e9·2 ∷ e10 ∷ e11 ∷ e12 ∷ e13 ∷ e14·2 ∷ e15 ∷ List.[]
+
         abbrev g29 : List.List Row.Entry
-        g29 = (0, Rows'.whole (Declared.row Relayed.the-type)) ∷ (1, Mut.mslice RelayPending.row ref7 0,) ∷ (2, Mut.mslice RelayCircuit.row ref8 1,) ∷
-            (3, Relend.mslice-owed ReservationUsage.row ref9 2 7 life2,) ∷ (4, Relend.mslice-owed InflightAction.row ref10 3 8 life3,) ∷ (5,
-            Relend.mslice-owed (Referent.rtF (Referent.fInt Syntax.w32)) ref11 4 9 life4,) ∷ (6, Rows'.any-gone Laws'.mir,) ∷ (7, Rows'.sc-here
-            (Row.sInt Syntax.w64)) ∷ (8, Rows'.any-gone Laws.mir,) ∷ (9, Rows.arr-shr (Referent.rtF (Referent.fInt Syntax.w8)) 20 10) ∷ (10,
-            Rows'.any-gone (Syntax.tyArray (Syntax.tyInt Syntax.w8) 20),) ∷ (11, Rows'.any-gone ref0,) ∷ (12, Rows'.any-gone (Syntax.tyStruct (38 ∷ 91
-            ∷ 93 ∷ List.[]) (Syntax.tcons ref0 (Syntax.tcons (Syntax.tyInt Syntax.w64) Syntax.tnil))),) ∷ (13, Rows'.any-gone ref1,) ∷ (14,
-            Rows'.any-gone (Syntax.tyStruct (38 ∷ 91 ∷ 93 ∷ List.[]) (Syntax.tcons ref1 (Syntax.tcons (Syntax.tyInt Syntax.w64) Syntax.tnil))),) ∷
-            (15, Rows'.any-gone ref2,) ∷ List.[]
+        g29 = e0·1 ∷ e1 ∷ e2 ∷ l3 ∷ l4 ∷ l5 ∷ e6·1 ∷ e7 ∷ e8 ∷ e9·2 ∷ e10 ∷ e11 ∷ e12 ∷ e13 ∷ e14 ∷ e15 ∷ List.[]
+
         abbrev g30 : List.List Row.Entry
-        g30 = (0, Rows'.whole (Declared.row Relayed.the-type)) ∷ (1, Mut.mslice RelayPending.row ref7 0,) ∷ (2, Mut.mslice RelayCircuit.row ref8 1,) ∷
-            (3, Mut.mslice ReservationUsage.row ref9 2,) ∷ (4, Relend.mslice-owed InflightAction.row ref10 3 8 life3,) ∷ (5, Relend.mslice-owed
-            (Referent.rtF (Referent.fInt Syntax.w32)) ref11 4 9 life4,) ∷ (6, Rows'.any-gone Laws'.mir,) ∷ (7, Rows'.sc-here (Row.sInt Syntax.w64)) ∷
-            (8, Rows'.any-gone Laws.mir,) ∷ (9, Rows.arr-shr (Referent.rtF (Referent.fInt Syntax.w8)) 20 10) ∷ (10, Rows'.any-gone (Syntax.tyArray
-            (Syntax.tyInt Syntax.w8) 20),) ∷ (11, Rows'.any-gone ref0,) ∷ (12, Rows'.any-gone (Syntax.tyStruct (38 ∷ 91 ∷ 93 ∷ List.[]) (Syntax.tcons
-            ref0 (Syntax.tcons (Syntax.tyInt Syntax.w64) Syntax.tnil))),) ∷ (13, Rows'.any-gone ref1,) ∷ (14, Rows'.any-gone (Syntax.tyStruct (38 ∷ 91
-            ∷ 93 ∷ List.[]) (Syntax.tcons ref1 (Syntax.tcons (Syntax.tyInt Syntax.w64) Syntax.tnil))),) ∷ (15, Rows'.any-gone ref2,) ∷ List.[]
+        g30 = e0·1 ∷ e1 ∷ e2 ∷ e3 ∷ l4 ∷ l5 ∷ e6·1 ∷ e7 ∷ e8 ∷ e9·2 ∷ e10 ∷ e11 ∷ e12 ∷ e13 ∷ e14 ∷ e15 ∷ List.[]
+
         abbrev g32 : List.List Row.Entry
-        g32 = (0, Rows'.whole (Declared.row Relayed.the-type)) ∷ (1, Mut.mslice RelayPending.row ref7 0,) ∷ (2, Mut.mslice RelayCircuit.row ref8 1,) ∷
-            (3, Mut.mslice ReservationUsage.row ref9 2,) ∷ (4, Mut.mslice InflightAction.row ref10 3,) ∷ (5, Relend.mslice-owed (Referent.rtF
-            (Referent.fInt Syntax.w32)) ref11 4 9 life4,) ∷ (6, Rows'.any-gone Laws'.mir,) ∷ (7, Rows'.sc-here (Row.sInt Syntax.w64)) ∷ (8,
-            Rows'.any-gone Laws.mir,) ∷ (9, Rows.arr-shr (Referent.rtF (Referent.fInt Syntax.w8)) 20 10) ∷ (10, Rows'.any-gone (Syntax.tyArray
-            (Syntax.tyInt Syntax.w8) 20),) ∷ (11, Rows'.any-gone ref0,) ∷ (12, Rows'.any-gone (Syntax.tyStruct (38 ∷ 91 ∷ 93 ∷ List.[]) (Syntax.tcons
-            ref0 (Syntax.tcons (Syntax.tyInt Syntax.w64) Syntax.tnil))),) ∷ (13, Rows'.any-gone ref1,) ∷ (14, Rows'.any-gone (Syntax.tyStruct (38 ∷ 91
-            ∷ 93 ∷ List.[]) (Syntax.tcons ref1 (Syntax.tcons (Syntax.tyInt Syntax.w64) Syntax.tnil))),) ∷ (15, Rows'.any-gone ref2,) ∷ List.[]
+        g32 = e0·1 ∷ e1 ∷ e2 ∷ e3 ∷ e4 ∷ l5 ∷ e6·1 ∷ e7 ∷ e8 ∷ e9·2 ∷ e10 ∷ e11 ∷ e12 ∷ e13 ∷ e14 ∷ e15 ∷ List.[]
+
         abbrev G0 : Row.Cx
-        G0 = record { locals = List._++_ t0 t1; slots = life0 ∷ life1 ∷ life2 ∷ life3 ∷ life4 ∷ Row.off ∷ Row.off ∷ Row.off ∷ Row.off ∷ Row.off ∷
-            Row.off ∷ List.[]; }
+        G0 = record {
+          locals = List._++_ t0 t1;
+          slots = life0 ∷ life1 ∷ life2 ∷ life3 ∷ life4 ∷ Row.off ∷ Row.off ∷ Row.off ∷ Row.off ∷ Row.off ∷ Row.off ∷
+              List.[];
+        }
+
         abbrev G1 : Row.Cx
-        G1 = record { locals = List._++_ t2 t1; slots = life0 ∷ life1 ∷ life2 ∷ life3 ∷ life4 ∷ Row.off ∷ Row.off ∷ Row.off ∷ Row.off ∷ Row.off ∷
-            Row.off ∷ List.[]; }
+        G1 = record {
+          locals = List._++_ t2 t1;
+          slots = life0 ∷ life1 ∷ life2 ∷ life3 ∷ life4 ∷ Row.off ∷ Row.off ∷ Row.off ∷ Row.off ∷ Row.off ∷ Row.off ∷
+              List.[];
+        }
+
         abbrev G2 : Row.Cx
-        G2 = record { locals = List._++_ t0 t1; slots = life0 ∷ life1 ∷ life2 ∷ life3 ∷ life4 ∷ Row.off ∷ Row.off ∷ Row.off ∷ Row.off ∷ Row.off ∷
-            Row.off ∷ List.[]; }
+        G2 = record {
+          locals = List._++_ t0 t1;
+          slots = life0 ∷ life1 ∷ life2 ∷ life3 ∷ life4 ∷ Row.off ∷ Row.off ∷ Row.off ∷ Row.off ∷ Row.off ∷ Row.off ∷
+              List.[];
+        }
+
         abbrev G3 : Row.Cx
-        G3 = record { locals = List._++_ t3 t1; slots = life0 ∷ life1 ∷ life2 ∷ life3 ∷ life4 ∷ Row.off ∷ Row.off ∷ Row.off ∷ Row.off ∷ Row.off ∷
-            Row.off ∷ List.[]; }
+        G3 = record {
+          locals = List._++_ t3 t1;
+          slots = life0 ∷ life1 ∷ life2 ∷ life3 ∷ life4 ∷ Row.off ∷ Row.off ∷ Row.off ∷ Row.off ∷ Row.off ∷ Row.off ∷
+              List.[];
+        }
+
         abbrev G4 : Row.Cx
-        G4 = record { locals = List._++_ t4 t1; slots = life0 ∷ life1 ∷ life2 ∷ life3 ∷ life4 ∷ Row.off ∷ Row.off ∷ Row.off ∷ Row.off ∷ Row.off ∷
-            Row.off ∷ List.[]; }
+        G4 = record {
+          locals = List._++_ t4 t1;
+          slots = life0 ∷ life1 ∷ life2 ∷ life3 ∷ life4 ∷ Row.off ∷ Row.off ∷ Row.off ∷ Row.off ∷ Row.off ∷ Row.off ∷
+              List.[];
+        }
+
         abbrev G5 : Row.Cx
-        G5 = record { locals = List._++_ t5 t1; slots = life0 ∷ life1 ∷ life2 ∷ life3 ∷ life4 ∷ Row.off ∷ Row.off ∷ Row.off ∷ Row.off ∷ Row.off ∷
-            Row.off ∷ List.[]; }
+        G5 = record {
+          locals = List._++_ t5 t1;
+          slots = life0 ∷ life1 ∷ life2 ∷ life3 ∷ life4 ∷ Row.off ∷ Row.off ∷ Row.off ∷ Row.off ∷ Row.off ∷ Row.off ∷
+              List.[];
+        }
+
         abbrev G6 : Row.Cx
-        G6 = record { locals = List._++_ t6 t1; slots = life0 ∷ life1 ∷ life2 ∷ life3 ∷ life4 ∷ Row.off ∷ Row.off ∷ Row.off ∷ Row.off ∷ Row.off ∷
-            Row.off ∷ List.[]; }
+        G6 = record {
+          locals = List._++_ t6 t1;
+          slots = life0 ∷ life1 ∷ life2 ∷ life3 ∷ life4 ∷ Row.off ∷ Row.off ∷ Row.off ∷ Row.off ∷ Row.off ∷ Row.off ∷
+              List.[];
+        }
+
         abbrev G7 : Row.Cx
-        G7 = record { locals = List._++_ t6 t1; slots = life0 ∷ life1 ∷ life2 ∷ life3 ∷ life4 ∷ Row.alive ∷ Row.off ∷ Row.off ∷ Row.off ∷ Row.off ∷
-            Row.off ∷ List.[]; }
+        G7 = record {
+          locals = List._++_ t6 t1;
+          slots = life0 ∷ life1 ∷ life2 ∷ life3 ∷ life4 ∷ Row.alive ∷ Row.off ∷ Row.off ∷ Row.off ∷ Row.off ∷ Row.off ∷
+              List.[];
+        }
+
         abbrev G8 : Row.Cx
-        G8 = record { locals = List._++_ g7 t1; slots = Row.off ∷ life1 ∷ life2 ∷ life3 ∷ life4 ∷ Row.alive ∷ Row.off ∷ Row.off ∷ Row.off ∷ Row.off ∷
-            Row.off ∷ List.[]; }
+        G8 = record {
+          locals = List._++_ g7 t1;
+          slots = Row.off ∷ life1 ∷ life2 ∷ life3 ∷ life4 ∷ Row.alive ∷ Row.off ∷ Row.off ∷ Row.off ∷ Row.off ∷ Row.off
+              ∷ List.[];
+        }
+
         abbrev G9 : Row.Cx
-        G9 = record { locals = List._++_ g8 t1; slots = Row.off ∷ life1 ∷ life2 ∷ life3 ∷ life4 ∷ Row.alive ∷ Row.off ∷ Row.off ∷ Row.off ∷ Row.off ∷
-            Row.off ∷ List.[]; }
+        G9 = record {
+          locals = List._++_ g8 t1;
+          slots = Row.off ∷ life1 ∷ life2 ∷ life3 ∷ life4 ∷ Row.alive ∷ Row.off ∷ Row.off ∷ Row.off ∷ Row.off ∷ Row.off
+              ∷ List.[];
+        }
+
         abbrev G10 : Row.Cx
-        G10 = record { locals = List._++_ g8 t1; slots = Row.off ∷ life1 ∷ life2 ∷ life3 ∷ life4 ∷ Row.alive ∷ Row.alive ∷ Row.off ∷ Row.off ∷ Row.off
-            ∷ Row.off ∷ List.[]; }
+        G10 = record {
+          locals = List._++_ g8 t1;
+          slots = Row.off ∷ life1 ∷ life2 ∷ life3 ∷ life4 ∷ Row.alive ∷ Row.alive ∷ Row.off ∷ Row.off ∷ Row.off ∷
+              Row.off ∷ List.[];
+        }
+
         abbrev G11 : Row.Cx
-        G11 = record { locals = List._++_ g9 t1; slots = Row.off ∷ Row.off ∷ life2 ∷ life3 ∷ life4 ∷ Row.alive ∷ Row.alive ∷ Row.off ∷ Row.off ∷
-            Row.off ∷ Row.off ∷ List.[]; }
+        G11 = record {
+          locals = List._++_ g9 t1;
+          slots = Row.off ∷ Row.off ∷ life2 ∷ life3 ∷ life4 ∷ Row.alive ∷ Row.alive ∷ Row.off ∷ Row.off ∷ Row.off ∷
+              Row.off ∷ List.[];
+        }
+
         abbrev G12 : Row.Cx
-        G12 = record { locals = List._++_ g10 t1; slots = Row.off ∷ Row.off ∷ life2 ∷ life3 ∷ life4 ∷ Row.alive ∷ Row.alive ∷ Row.off ∷ Row.off ∷
-            Row.off ∷ Row.off ∷ List.[]; }
+        G12 = record {
+          locals = List._++_ g10 t1;
+          slots = Row.off ∷ Row.off ∷ life2 ∷ life3 ∷ life4 ∷ Row.alive ∷ Row.alive ∷ Row.off ∷ Row.off ∷ Row.off ∷
+              Row.off ∷ List.[];
+        }
+
         abbrev G13 : Row.Cx
-        G13 = record { locals = List._++_ g10 t1; slots = Row.off ∷ Row.off ∷ life2 ∷ life3 ∷ life4 ∷ Row.alive ∷ Row.alive ∷ Row.alive ∷ Row.off ∷
-            Row.off ∷ Row.off ∷ List.[]; }
+        G13 = record {
+          locals = List._++_ g10 t1;
+          slots = Row.off ∷ Row.off ∷ life2 ∷ life3 ∷ life4 ∷ Row.alive ∷ Row.alive ∷ Row.alive ∷ Row.off ∷ Row.off ∷
+              Row.off ∷ List.[];
+        }
+
         abbrev G14 : Row.Cx
-        G14 = record { locals = List._++_ g11 t1; slots = Row.off ∷ Row.off ∷ Row.off ∷ life3 ∷ life4 ∷ Row.alive ∷ Row.alive ∷ Row.alive ∷ Row.off ∷
-            Row.off ∷ Row.off ∷ List.[]; }
+        G14 = record {
+          locals = List._++_ g11 t1;
+          slots = Row.off ∷ Row.off ∷ Row.off ∷ life3 ∷ life4 ∷ Row.alive ∷ Row.alive ∷ Row.alive ∷ Row.off ∷ Row.off ∷
+              Row.off ∷ List.[];
+        }
+
         abbrev G15 : Row.Cx
-        G15 = record { locals = List._++_ g12 t13; slots = Row.off ∷ Row.off ∷ Row.off ∷ life3 ∷ life4 ∷ Row.alive ∷ Row.alive ∷ Row.alive ∷ Row.off ∷
-            Row.off ∷ Row.off ∷ List.[]; }
+        G15 = record {
+          locals = List._++_ g12 t13;
+          slots = Row.off ∷ Row.off ∷ Row.off ∷ life3 ∷ life4 ∷ Row.alive ∷ Row.alive ∷ Row.alive ∷ Row.off ∷ Row.off ∷
+              Row.off ∷ List.[];
+        }
+
         abbrev G16 : Row.Cx
-        G16 = record { locals = List._++_ g12 t13; slots = Row.off ∷ Row.off ∷ Row.off ∷ life3 ∷ life4 ∷ Row.alive ∷ Row.alive ∷ Row.alive ∷ Row.alive
-            ∷ Row.off ∷ Row.off ∷ List.[]; }
+        G16 = record {
+          locals = List._++_ g12 t13;
+          slots = Row.off ∷ Row.off ∷ Row.off ∷ life3 ∷ life4 ∷ Row.alive ∷ Row.alive ∷ Row.alive ∷ Row.alive ∷ Row.off
+              ∷ Row.off ∷ List.[];
+        }
+
         abbrev G17 : Row.Cx
-        G17 = record { locals = List._++_ g14 t15; slots = Row.off ∷ Row.off ∷ Row.off ∷ Row.off ∷ life4 ∷ Row.alive ∷ Row.alive ∷ Row.alive ∷
-            Row.alive ∷ Row.off ∷ Row.off ∷ List.[]; }
+        G17 = record {
+          locals = List._++_ g14 t15;
+          slots = Row.off ∷ Row.off ∷ Row.off ∷ Row.off ∷ life4 ∷ Row.alive ∷ Row.alive ∷ Row.alive ∷ Row.alive ∷
+              Row.off ∷ Row.off ∷ List.[];
+        }
+
         abbrev G18 : Row.Cx
-        G18 = record { locals = List._++_ g14 t16; slots = Row.off ∷ Row.off ∷ Row.off ∷ Row.off ∷ life4 ∷ Row.alive ∷ Row.alive ∷ Row.alive ∷
-            Row.alive ∷ Row.off ∷ Row.off ∷ List.[]; }
+        G18 = record {
+          locals = List._++_ g14 t16;
+          slots = Row.off ∷ Row.off ∷ Row.off ∷ Row.off ∷ life4 ∷ Row.alive ∷ Row.alive ∷ Row.alive ∷ Row.alive ∷
+              Row.off ∷ Row.off ∷ List.[];
+        }
+
         abbrev G19 : Row.Cx
-        G19 = record { locals = List._++_ g14 t16; slots = Row.off ∷ Row.off ∷ Row.off ∷ Row.off ∷ life4 ∷ Row.alive ∷ Row.alive ∷ Row.alive ∷
-            Row.alive ∷ Row.alive ∷ Row.off ∷ List.[]; }
+        G19 = record {
+          locals = List._++_ g14 t16;
+          slots = Row.off ∷ Row.off ∷ Row.off ∷ Row.off ∷ life4 ∷ Row.alive ∷ Row.alive ∷ Row.alive ∷ Row.alive ∷
+              Row.alive ∷ Row.off ∷ List.[];
+        }
+
         abbrev G20 : Row.Cx
-        G20 = record { locals = List._++_ g17 t18; slots = Row.off ∷ Row.off ∷ Row.off ∷ Row.off ∷ Row.off ∷ Row.alive ∷ Row.alive ∷ Row.alive ∷
-            Row.alive ∷ Row.alive ∷ Row.off ∷ List.[]; }
+        G20 = record {
+          locals = List._++_ g17 t18;
+          slots = Row.off ∷ Row.off ∷ Row.off ∷ Row.off ∷ Row.off ∷ Row.alive ∷ Row.alive ∷ Row.alive ∷ Row.alive ∷
+              Row.alive ∷ Row.off ∷ List.[];
+        }
+
         abbrev G21 : Row.Cx
-        G21 = record { locals = List._++_ g17 t19; slots = Row.off ∷ Row.off ∷ Row.off ∷ Row.off ∷ Row.off ∷ Row.alive ∷ Row.alive ∷ Row.alive ∷
-            Row.alive ∷ Row.alive ∷ Row.off ∷ List.[]; }
+        G21 = record {
+          locals = List._++_ g17 t19;
+          slots = Row.off ∷ Row.off ∷ Row.off ∷ Row.off ∷ Row.off ∷ Row.alive ∷ Row.alive ∷ Row.alive ∷ Row.alive ∷
+              Row.alive ∷ Row.off ∷ List.[];
+        }
+
         abbrev G22 : Row.Cx
-        G22 = record { locals = List._++_ g17 t19; slots = Row.off ∷ Row.off ∷ Row.off ∷ Row.off ∷ Row.off ∷ Row.alive ∷ Row.alive ∷ Row.alive ∷
-            Row.alive ∷ Row.alive ∷ Row.alive ∷ List.[]; }
+        G22 = record {
+          locals = List._++_ g17 t19;
+          slots = Row.off ∷ Row.off ∷ Row.off ∷ Row.off ∷ Row.off ∷ Row.alive ∷ Row.alive ∷ Row.alive ∷ Row.alive ∷
+              Row.alive ∷ Row.alive ∷ List.[];
+        }
+
         abbrev G23 : Row.Cx
-        G23 = record { locals = List._++_ g20 t21; slots = Row.off ∷ Row.off ∷ Row.off ∷ Row.off ∷ Row.off ∷ Row.alive ∷ Row.alive ∷ Row.alive ∷
-            Row.alive ∷ Row.alive ∷ Row.alive ∷ List.[]; }
+        G23 = record {
+          locals = List._++_ g20 t21;
+          slots = Row.off ∷ Row.off ∷ Row.off ∷ Row.off ∷ Row.off ∷ Row.alive ∷ Row.alive ∷ Row.alive ∷ Row.alive ∷
+              Row.alive ∷ Row.alive ∷ List.[];
+        }
+
         abbrev G24 : Row.Cx
-        G24 = record { locals = List._++_ g20 t22; slots = Row.off ∷ Row.off ∷ Row.off ∷ Row.off ∷ Row.off ∷ Row.alive ∷ Row.alive ∷ Row.alive ∷
-            Row.alive ∷ Row.alive ∷ Row.alive ∷ List.[]; }
+        G24 = record {
+          locals = List._++_ g20 t22;
+          slots = Row.off ∷ Row.off ∷ Row.off ∷ Row.off ∷ Row.off ∷ Row.alive ∷ Row.alive ∷ Row.alive ∷ Row.alive ∷
+              Row.alive ∷ Row.alive ∷ List.[];
+        }
+
         abbrev G25 : Row.Cx
-        G25 = record { locals = List._++_ g23 t24; slots = Row.off ∷ Row.off ∷ Row.off ∷ Row.off ∷ Row.off ∷ Row.alive ∷ Row.alive ∷ Row.alive ∷
-            Row.alive ∷ Row.alive ∷ Row.alive ∷ List.[]; }
+        G25 = record {
+          locals = List._++_ g23 t24;
+          slots = Row.off ∷ Row.off ∷ Row.off ∷ Row.off ∷ Row.off ∷ Row.alive ∷ Row.alive ∷ Row.alive ∷ Row.alive ∷
+              Row.alive ∷ Row.alive ∷ List.[];
+        }
+
         abbrev G26 : Row.Cx
-        G26 = record { locals = List._++_ g23 t25; slots = Row.off ∷ Row.off ∷ Row.off ∷ Row.off ∷ Row.off ∷ Row.alive ∷ Row.alive ∷ Row.alive ∷
-            Row.alive ∷ Row.alive ∷ Row.alive ∷ List.[]; }
+        G26 = record {
+          locals = List._++_ g23 t25;
+          slots = Row.off ∷ Row.off ∷ Row.off ∷ Row.off ∷ Row.off ∷ Row.alive ∷ Row.alive ∷ Row.alive ∷ Row.alive ∷
+              Row.alive ∷ Row.alive ∷ List.[];
+        }
+
         abbrev G27 : Row.Cx
-        G27 = record { locals = List._++_ g26 t25; slots = Row.off ∷ Row.off ∷ Row.off ∷ Row.off ∷ Row.off ∷ Row.alive ∷ Row.alive ∷ Row.alive ∷
-            Row.alive ∷ Row.alive ∷ Row.alive ∷ List.[]; }
+        G27 = record {
+          locals = List._++_ g26 t25;
+          slots = Row.off ∷ Row.off ∷ Row.off ∷ Row.off ∷ Row.off ∷ Row.alive ∷ Row.alive ∷ Row.alive ∷ Row.alive ∷
+              Row.alive ∷ Row.alive ∷ List.[];
+        }
+
         abbrev G28 : Row.Cx
-        G28 = record { locals = List._++_ g27 t25; slots = Row.off ∷ Row.off ∷ Row.off ∷ Row.off ∷ Row.off ∷ Row.alive ∷ Row.alive ∷ Row.alive ∷
-            Row.alive ∷ Row.alive ∷ Row.alive ∷ List.[]; }
+        G28 = record {
+          locals = List._++_ g27 t25;
+          slots = Row.off ∷ Row.off ∷ Row.off ∷ Row.off ∷ Row.off ∷ Row.alive ∷ Row.alive ∷ Row.alive ∷ Row.alive ∷
+              Row.alive ∷ Row.alive ∷ List.[];
+        }
+
         abbrev G29 : Row.Cx
-        G29 = record { locals = List._++_ g27 t25; slots = Row.off ∷ Row.off ∷ Row.off ∷ Row.off ∷ Row.off ∷ Row.dead ∷ Row.alive ∷ Row.alive ∷
-            Row.alive ∷ Row.alive ∷ Row.alive ∷ List.[]; }
+        G29 = record {
+          locals = List._++_ g27 t25;
+          slots = Row.off ∷ Row.off ∷ Row.off ∷ Row.off ∷ Row.off ∷ Row.dead ∷ Row.alive ∷ Row.alive ∷ Row.alive ∷
+              Row.alive ∷ Row.alive ∷ List.[];
+        }
+
         abbrev G30 : Row.Cx
-        G30 = record { locals = List._++_ g28 t25; slots = life0 ∷ Row.off ∷ Row.off ∷ Row.off ∷ Row.off ∷ Row.dead ∷ Row.alive ∷ Row.alive ∷
-            Row.alive ∷ Row.alive ∷ Row.alive ∷ List.[]; }
+        G30 = record {
+          locals = List._++_ g28 t25;
+          slots = life0 ∷ Row.off ∷ Row.off ∷ Row.off ∷ Row.off ∷ Row.dead ∷ Row.alive ∷ Row.alive ∷ Row.alive ∷
+              Row.alive ∷ Row.alive ∷ List.[];
+        }
+
         abbrev G31 : Row.Cx
-        G31 = record { locals = List._++_ g28 t25; slots = life0 ∷ Row.off ∷ Row.off ∷ Row.off ∷ Row.off ∷ Row.off ∷ Row.alive ∷ Row.alive ∷ Row.alive
-            ∷ Row.alive ∷ Row.alive ∷ List.[]; }
+        G31 = record {
+          locals = List._++_ g28 t25;
+          slots = life0 ∷ Row.off ∷ Row.off ∷ Row.off ∷ Row.off ∷ Row.off ∷ Row.alive ∷ Row.alive ∷ Row.alive ∷
+              Row.alive ∷ Row.alive ∷ List.[];
+        }
+
         abbrev G32 : Row.Cx
-        G32 = record { locals = List._++_ g28 t25; slots = life0 ∷ Row.off ∷ Row.off ∷ Row.off ∷ Row.off ∷ Row.off ∷ Row.dead ∷ Row.alive ∷ Row.alive
-            ∷ Row.alive ∷ Row.alive ∷ List.[]; }
+        G32 = record {
+          locals = List._++_ g28 t25;
+          slots = life0 ∷ Row.off ∷ Row.off ∷ Row.off ∷ Row.off ∷ Row.off ∷ Row.dead ∷ Row.alive ∷ Row.alive ∷
+              Row.alive ∷ Row.alive ∷ List.[];
+        }
+
         abbrev G33 : Row.Cx
-        G33 = record { locals = List._++_ g29 t25; slots = life0 ∷ life1 ∷ Row.off ∷ Row.off ∷ Row.off ∷ Row.off ∷ Row.dead ∷ Row.alive ∷ Row.alive ∷
-            Row.alive ∷ Row.alive ∷ List.[]; }
+        G33 = record {
+          locals = List._++_ g29 t25;
+          slots = life0 ∷ life1 ∷ Row.off ∷ Row.off ∷ Row.off ∷ Row.off ∷ Row.dead ∷ Row.alive ∷ Row.alive ∷ Row.alive
+              ∷ Row.alive ∷ List.[];
+        }
+
         abbrev G34 : Row.Cx
-        G34 = record { locals = List._++_ g29 t25; slots = life0 ∷ life1 ∷ Row.off ∷ Row.off ∷ Row.off ∷ Row.off ∷ Row.off ∷ Row.alive ∷ Row.alive ∷
-            Row.alive ∷ Row.alive ∷ List.[]; }
+        G34 = record {
+          locals = List._++_ g29 t25;
+          slots = life0 ∷ life1 ∷ Row.off ∷ Row.off ∷ Row.off ∷ Row.off ∷ Row.off ∷ Row.alive ∷ Row.alive ∷ Row.alive ∷
+              Row.alive ∷ List.[];
+        }
+
         abbrev G35 : Row.Cx
-        G35 = record { locals = List._++_ g29 t25; slots = life0 ∷ life1 ∷ Row.off ∷ Row.off ∷ Row.off ∷ Row.off ∷ Row.off ∷ Row.dead ∷ Row.alive ∷
-            Row.alive ∷ Row.alive ∷ List.[]; }
+        G35 = record {
+          locals = List._++_ g29 t25;
+          slots = life0 ∷ life1 ∷ Row.off ∷ Row.off ∷ Row.off ∷ Row.off ∷ Row.off ∷ Row.dead ∷ Row.alive ∷ Row.alive ∷
+              Row.alive ∷ List.[];
+        }
+
         abbrev G36 : Row.Cx
-        G36 = record { locals = List._++_ g30 t31; slots = life0 ∷ life1 ∷ life2 ∷ Row.off ∷ Row.off ∷ Row.off ∷ Row.off ∷ Row.dead ∷ Row.alive ∷
-            Row.alive ∷ Row.alive ∷ List.[]; }
+        G36 = record {
+          locals = List._++_ g30 t31;
+          slots = life0 ∷ life1 ∷ life2 ∷ Row.off ∷ Row.off ∷ Row.off ∷ Row.off ∷ Row.dead ∷ Row.alive ∷ Row.alive ∷
+              Row.alive ∷ List.[];
+        }
+
         abbrev G37 : Row.Cx
-        G37 = record { locals = List._++_ g30 t31; slots = life0 ∷ life1 ∷ life2 ∷ Row.off ∷ Row.off ∷ Row.off ∷ Row.off ∷ Row.off ∷ Row.alive ∷
-            Row.alive ∷ Row.alive ∷ List.[]; }
+        G37 = record {
+          locals = List._++_ g30 t31;
+          slots = life0 ∷ life1 ∷ life2 ∷ Row.off ∷ Row.off ∷ Row.off ∷ Row.off ∷ Row.off ∷ Row.alive ∷ Row.alive ∷
+              Row.alive ∷ List.[];
+        }
+
         abbrev G38 : Row.Cx
-        G38 = record { locals = List._++_ g30 t31; slots = life0 ∷ life1 ∷ life2 ∷ Row.off ∷ Row.off ∷ Row.off ∷ Row.off ∷ Row.off ∷ Row.dead ∷
-            Row.alive ∷ Row.alive ∷ List.[]; }
+        G38 = record {
+          locals = List._++_ g30 t31;
+          slots = life0 ∷ life1 ∷ life2 ∷ Row.off ∷ Row.off ∷ Row.off ∷ Row.off ∷ Row.off ∷ Row.dead ∷ Row.alive ∷
+              Row.alive ∷ List.[];
+        }
+
         abbrev G39 : Row.Cx
-        G39 = record { locals = List._++_ g32 t33; slots = life0 ∷ life1 ∷ life2 ∷ life3 ∷ Row.off ∷ Row.off ∷ Row.off ∷ Row.off ∷ Row.dead ∷
-            Row.alive ∷ Row.alive ∷ List.[]; }
+        G39 = record {
+          locals = List._++_ g32 t33;
+          slots = life0 ∷ life1 ∷ life2 ∷ life3 ∷ Row.off ∷ Row.off ∷ Row.off ∷ Row.off ∷ Row.dead ∷ Row.alive ∷
+              Row.alive ∷ List.[];
+        }
+
         abbrev G40 : Row.Cx
-        G40 = record { locals = List._++_ g32 t33; slots = life0 ∷ life1 ∷ life2 ∷ life3 ∷ Row.off ∷ Row.off ∷ Row.off ∷ Row.off ∷ Row.off ∷ Row.alive
-            ∷ Row.alive ∷ List.[]; }
+        G40 = record {
+          locals = List._++_ g32 t33;
+          slots = life0 ∷ life1 ∷ life2 ∷ life3 ∷ Row.off ∷ Row.off ∷ Row.off ∷ Row.off ∷ Row.off ∷ Row.alive ∷
+              Row.alive ∷ List.[];
+        }
+
         abbrev G41 : Row.Cx
-        G41 = record { locals = List._++_ g32 t33; slots = life0 ∷ life1 ∷ life2 ∷ life3 ∷ Row.off ∷ Row.off ∷ Row.off ∷ Row.off ∷ Row.off ∷ Row.dead
-            ∷ Row.alive ∷ List.[]; }
+        G41 = record {
+          locals = List._++_ g32 t33;
+          slots = life0 ∷ life1 ∷ life2 ∷ life3 ∷ Row.off ∷ Row.off ∷ Row.off ∷ Row.off ∷ Row.off ∷ Row.dead ∷
+              Row.alive ∷ List.[];
+        }
+
         abbrev G42 : Row.Cx
-        G42 = record { locals = List._++_ t34 t1; slots = life0 ∷ life1 ∷ life2 ∷ life3 ∷ life4 ∷ Row.off ∷ Row.off ∷ Row.off ∷ Row.off ∷ Row.dead ∷
-            Row.alive ∷ List.[]; }
+        G42 = record {
+          locals = List._++_ t34 t1;
+          slots = life0 ∷ life1 ∷ life2 ∷ life3 ∷ life4 ∷ Row.off ∷ Row.off ∷ Row.off ∷ Row.off ∷ Row.dead ∷ Row.alive
+              ∷ List.[];
+        }
+
         abbrev G43 : Row.Cx
-        G43 = record { locals = List._++_ t34 t1; slots = life0 ∷ life1 ∷ life2 ∷ life3 ∷ life4 ∷ Row.off ∷ Row.off ∷ Row.off ∷ Row.off ∷ Row.dead ∷
-            Row.alive ∷ List.[]; }
+        G43 = record {
+          locals = List._++_ t34 t1;
+          slots = life0 ∷ life1 ∷ life2 ∷ life3 ∷ life4 ∷ Row.off ∷ Row.off ∷ Row.off ∷ Row.off ∷ Row.dead ∷ Row.alive
+              ∷ List.[];
+        }
+
         abbrev G44 : Row.Cx
-        G44 = record { locals = List._++_ t34 t1; slots = life0 ∷ life1 ∷ life2 ∷ life3 ∷ life4 ∷ Row.off ∷ Row.off ∷ Row.off ∷ Row.off ∷ Row.off ∷
-            Row.alive ∷ List.[]; }
+        G44 = record {
+          locals = List._++_ t34 t1;
+          slots = life0 ∷ life1 ∷ life2 ∷ life3 ∷ life4 ∷ Row.off ∷ Row.off ∷ Row.off ∷ Row.off ∷ Row.off ∷ Row.alive ∷
+              List.[];
+        }
+
         abbrev G45 : Row.Cx
-        G45 = record { locals = List._++_ t34 t1; slots = life0 ∷ life1 ∷ life2 ∷ life3 ∷ life4 ∷ Row.off ∷ Row.off ∷ Row.off ∷ Row.off ∷ Row.off ∷
-            Row.dead ∷ List.[]; }
+        G45 = record {
+          locals = List._++_ t34 t1;
+          slots = life0 ∷ life1 ∷ life2 ∷ life3 ∷ life4 ∷ Row.off ∷ Row.off ∷ Row.off ∷ Row.off ∷ Row.off ∷ Row.dead ∷
+              List.[];
+        }
+
         abbrev G46 : Row.Cx
-        G46 = record { locals = List._++_ t35 t1; slots = life0 ∷ life1 ∷ life2 ∷ life3 ∷ life4 ∷ Row.off ∷ Row.off ∷ Row.off ∷ Row.off ∷ Row.off ∷
-            Row.dead ∷ List.[]; }
+        G46 = record {
+          locals = List._++_ t35 t1;
+          slots = life0 ∷ life1 ∷ life2 ∷ life3 ∷ life4 ∷ Row.off ∷ Row.off ∷ Row.off ∷ Row.off ∷ Row.off ∷ Row.dead ∷
+              List.[];
+        }
+
         abbrev G47 : Row.Cx
-        G47 = record { locals = List._++_ t35 t1; slots = life0 ∷ life1 ∷ life2 ∷ life3 ∷ life4 ∷ Row.off ∷ Row.off ∷ Row.off ∷ Row.off ∷ Row.off ∷
-            Row.off ∷ List.[]; }
+        G47 = record {
+          locals = List._++_ t35 t1;
+          slots = life0 ∷ life1 ∷ life2 ∷ life3 ∷ life4 ∷ Row.off ∷ Row.off ∷ Row.off ∷ Row.off ∷ Row.off ∷ Row.off ∷
+              List.[];
+        }
+
         abbrev G48 : Row.Cx
-        G48 = record { locals = List._++_ t36 t1; slots = life0 ∷ life1 ∷ life2 ∷ life3 ∷ life4 ∷ Row.off ∷ Row.off ∷ Row.off ∷ Row.off ∷ Row.off ∷
-            Row.off ∷ List.[]; }
+        G48 = record {
+          locals = List._++_ t36 t1;
+          slots = life0 ∷ life1 ∷ life2 ∷ life3 ∷ life4 ∷ Row.off ∷ Row.off ∷ Row.off ∷ Row.off ∷ Row.off ∷ Row.off ∷
+              List.[];
+        }
+
         abbrev G49 : Row.Cx
-        G49 = record { locals = List._++_ t2 t1; slots = life0 ∷ life1 ∷ life2 ∷ life3 ∷ life4 ∷ Row.off ∷ Row.off ∷ Row.off ∷ Row.off ∷ Row.off ∷
-            Row.off ∷ List.[]; }
+        G49 = record {
+          locals = List._++_ t2 t1;
+          slots = life0 ∷ life1 ∷ life2 ∷ life3 ∷ life4 ∷ Row.off ∷ Row.off ∷ Row.off ∷ Row.off ∷ Row.off ∷ Row.off ∷
+              List.[];
+        }
+
         abbrev Δ0 : Typed.Outs
         Δ0 = record { next = Option.none; exits = List.[]; returns = Option.some G1 }
-        module _ { M : Type 1 } (𝓤 : URA.URA M) (H : Wp.Heap 𝓤) (A : Atoms.Atoms 𝓤) (W : Kit.Given 𝓤 H A) (𝓣 : Wp.Tables 𝓤 H) (known : Knowns 𝓤 H A W
-            𝓣) (bs : List.List Nat.ℕ) (bd : Lifetimes.AllOutlive 5 (Kinds.osR r) κs) where
+
+        module _ {M : Type 1} (𝓤 : URA.URA M) (H : Wp.Heap 𝓤) (A : Atoms.Atoms 𝓤) (W : Kit.Given 𝓤 H A)
+            (𝓣 : Wp.Tables 𝓤 H) (known : Knowns 𝓤 H A W 𝓣) (bs : List.List Nat.ℕ)
+            (bd : Lifetimes.AllOutlive 5 (Kinds.osR r) κs) where
           abbrev E : Wp.Env 𝓤 H
           E = Frame.EnvOf 𝓤 H ((Kinds.tyR r) ∷ (Enter.tysP ps xs)) bs
+
           d0 : Typed.Typed 𝓤 H A 𝓣 E G49 b16 Δ0 at0
           d0 = Typed.t-return 𝓤 H A W 𝓣 E Δ0 tt
+
           d1 : Typed.Typed 𝓤 H A 𝓣 E G48 b16 Δ0 at1
-          d1 = Typed.g-pre 𝓤 H A W 𝓣 E G48 G49 b16 Δ0 (Typed.pass T48 T49 s47) at0 (Scalar.g-room 𝓤 H A W E G48 7 (Syntax.tyInt Syntax.w64)
-              (Scalar.room-sc 𝓤 H A W (Row.sInt Syntax.w64))) d0
+          d1 = Typed.g-pre 𝓤 H A W 𝓣 E G48 G49 b16 Δ0 (Typed.pass T48 T49 s47) at0 (Scalar.g-room 𝓤 H A W E G48 7
+              (Syntax.tyInt Syntax.w64) (Scalar.room-sc 𝓤 H A W (Row.sInt Syntax.w64))) d0
+
           d2 : Typed.Typed 𝓤 H A 𝓣 E G47 b16 Δ0 at2
-          d2 = Typed.g-pre 𝓤 H A W 𝓣 E G47 G48 b16 Δ0 (Typed.pass T46 T48 s46) at1 (Scalar.g-room 𝓤 H A W E G47 9 (Syntax.tyArray (Syntax.tyInt
-              Syntax.w8) 20) (Init.room-arr 𝓤 H A W (Referent.rtF (Referent.fInt Syntax.w8)) 20 0 20 Path.refl)) d1
+          d2 = Typed.g-pre 𝓤 H A W 𝓣 E G47 G48 b16 Δ0 (Typed.pass T46 T48 s46) at1 (Scalar.g-room 𝓤 H A W E G47 9
+              (Syntax.tyArray (Syntax.tyInt Syntax.w8) 20) (Init.room-arr 𝓤 H A W
+              (Referent.rtF (Referent.fInt Syntax.w8)) 20 0 20 Path.refl)) d1
+
           d3 : Typed.Typed 𝓤 H A 𝓣 E G46 b16 Δ0 at3
-          d3 = Typed.g-pre 𝓤 H A W 𝓣 E G46 G47 b16 Δ0 (λ Ψ. Ψ) at2 (Lifetime.g-forget 𝓤 H A W E G46 10 Row.dead Path.refl) d2
+          d3 = Typed.g-pre 𝓤 H A W 𝓣 E G46 G47 b16 Δ0 (λ Ψ. Ψ) at2
+              (Lifetime.g-forget 𝓤 H A W E G46 10 Row.dead Path.refl) d2
+
           d4 : Typed.Typed 𝓤 H A 𝓣 E G45 b16 Δ0 at4
-          d4 = Typed.g-pre 𝓤 H A W 𝓣 E G45 G46 b16 Δ0 (Typed.pass T43 T46 s44) at3 (Share.g-back-arr-shr 𝓤 H A W E (Referent.rtF (Referent.fInt
-              Syntax.w8)) G45 9 20 10 (λ x. x) (Reads.as-is 𝓤 H A (Rows.arr-shr (Referent.rtF (Referent.fInt Syntax.w8)) 20 10)) Path.refl) d3
+          d4 = Typed.g-pre 𝓤 H A W 𝓣 E G45 G46 b16 Δ0 (Typed.pass T43 T46 s44) at3 (Share.g-back-arr-shr 𝓤 H A W E
+              (Referent.rtF (Referent.fInt Syntax.w8)) G45 9 20 10 (λ x. x) (Reads.as-is 𝓤 H A (Rows.arr-shr
+              (Referent.rtF (Referent.fInt Syntax.w8)) 20 10)) Path.refl) d3
+
           d5 : Typed.Typed 𝓤 H A 𝓣 E G44 b16 Δ0 at5
           d5 = Typed.g-pre 𝓤 H A W 𝓣 E G44 G45 b16 Δ0 (λ Ψ. Ψ) at4 (Lifetime.g-end 𝓤 H A W E G44 10 Path.refl) d4
+
           d6 : Typed.Typed 𝓤 H A 𝓣 E G43 b16 Δ0 at6
-          d6 = Typed.g-pre 𝓤 H A W 𝓣 E G43 G44 b16 Δ0 (λ Ψ. Ψ) at5 (Lifetime.g-forget 𝓤 H A W E G43 9 Row.dead Path.refl) d5
+          d6 = Typed.g-pre 𝓤 H A W 𝓣 E G43 G44 b16 Δ0 (λ Ψ. Ψ) at5
+              (Lifetime.g-forget 𝓤 H A W E G43 9 Row.dead Path.refl) d5
+
           d7 : Typed.Typed 𝓤 H A 𝓣 E G42 b16 Δ0 at7
-          d7 = Typed.g-pre 𝓤 H A W 𝓣 E G42 G43 b16 Δ0 (Typed.give s41) at6 (Know.g-sl-known 𝓤 H A W (Referent.fInt Syntax.w32) E G42 5 4 ref11 life4 0
-              (λ x. x) record { fits = Dec.lit< tt } (Reads.as-is 𝓤 H A (Mut.mslice (Referent.rtF (Referent.fInt Syntax.w32)) ref11 4)) Path.refl tt)
-              d6
+          d7 = Typed.g-pre 𝓤 H A W 𝓣 E G42 G43 b16 Δ0 (Typed.give s41) at6 (Know.g-sl-known 𝓤 H A W
+              (Referent.fInt Syntax.w32) E G42 5 4 ref11 life4 0 (λ x. x) record { fits = Dec.lit< tt } (Reads.as-is 𝓤
+              H A (Mut.mslice (Referent.rtF (Referent.fInt Syntax.w32)) ref11 4)) Path.refl tt) d6
+
           d8 : Typed.Typed 𝓤 H A 𝓣 E G41 b16 Δ0 at8
-          d8 = Typed.g-pre 𝓤 H A W 𝓣 E G41 G42 b16 Δ0 (Typed.both s40) at7 (Relend.g-back-sl 𝓤 H A W E (Referent.rtF (Referent.fInt Syntax.w32)) G41
-              20 5 4 9 ref11 ref4 life4 (λ x. x) (λ x. x) (Reads.as-is 𝓤 H A (Mut.msleft (Referent.rtF (Referent.fInt Syntax.w32)) ref4)) (Reads.as-is
-              𝓤 H A (Relend.mslice-owed (Referent.rtF (Referent.fInt Syntax.w32)) ref11 4 9 life4)) Path.refl Path.refl) d7
+          d8 = Typed.g-pre 𝓤 H A W 𝓣 E G41 G42 b16 Δ0 (Typed.both s40) at7 (Relend.g-back-sl 𝓤 H A W E
+              (Referent.rtF (Referent.fInt Syntax.w32)) G41 20 5 4 9 ref11 ref4 life4 (λ x. x) (λ x. x) (Reads.as-is 𝓤
+              H A (Mut.msleft (Referent.rtF (Referent.fInt Syntax.w32)) ref4)) (Reads.as-is 𝓤 H A (Relend.mslice-owed
+              (Referent.rtF (Referent.fInt Syntax.w32)) ref11 4 9 life4)) Path.refl Path.refl) d7
+
           d9 : Typed.Typed 𝓤 H A 𝓣 E G40 b16 Δ0 at9
           d9 = Typed.g-pre 𝓤 H A W 𝓣 E G40 G41 b16 Δ0 (λ Ψ. Ψ) at8 (Lifetime.g-end 𝓤 H A W E G40 9 Path.refl) d8
+
           d10 : Typed.Typed 𝓤 H A 𝓣 E G39 b16 Δ0 at10
-          d10 = Typed.g-pre 𝓤 H A W 𝓣 E G39 G40 b16 Δ0 (λ Ψ. Ψ) at9 (Lifetime.g-forget 𝓤 H A W E G39 8 Row.dead Path.refl) d9
+          d10 = Typed.g-pre 𝓤 H A W 𝓣 E G39 G40 b16 Δ0 (λ Ψ. Ψ) at9
+              (Lifetime.g-forget 𝓤 H A W E G39 8 Row.dead Path.refl) d9
+
           d11 : Typed.Typed 𝓤 H A 𝓣 E G38 b16 Δ0 at11
-          d11 = Typed.g-pre 𝓤 H A W 𝓣 E G38 G39 b16 Δ0 (Typed.both s37) at10 (Relend.g-back-sl 𝓤 H A W E InflightAction.row G38 18 4 3 8 ref10 ref3
-              life3 (λ x. x) (λ x. x) (Reads.as-is 𝓤 H A (Mut.msleft InflightAction.row ref3)) (Reads.as-is 𝓤 H A (Relend.mslice-owed
-              InflightAction.row ref10 3 8 life3)) Path.refl Path.refl) d10
+          d11 = Typed.g-pre 𝓤 H A W 𝓣 E G38 G39 b16 Δ0 (Typed.both s37) at10 (Relend.g-back-sl 𝓤 H A W E
+              InflightAction.row G38 18 4 3 8 ref10 ref3 life3 (λ x. x) (λ x. x)
+              (Reads.as-is 𝓤 H A (Mut.msleft InflightAction.row ref3)) (Reads.as-is 𝓤 H A
+              (Relend.mslice-owed InflightAction.row ref10 3 8 life3)) Path.refl Path.refl) d10
+
           d12 : Typed.Typed 𝓤 H A 𝓣 E G37 b16 Δ0 at12
           d12 = Typed.g-pre 𝓤 H A W 𝓣 E G37 G38 b16 Δ0 (λ Ψ. Ψ) at11 (Lifetime.g-end 𝓤 H A W E G37 8 Path.refl) d11
+
           d13 : Typed.Typed 𝓤 H A 𝓣 E G36 b16 Δ0 at13
-          d13 = Typed.g-pre 𝓤 H A W 𝓣 E G36 G37 b16 Δ0 (λ Ψ. Ψ) at12 (Lifetime.g-forget 𝓤 H A W E G36 7 Row.dead Path.refl) d12
+          d13 = Typed.g-pre 𝓤 H A W 𝓣 E G36 G37 b16 Δ0 (λ Ψ. Ψ) at12
+              (Lifetime.g-forget 𝓤 H A W E G36 7 Row.dead Path.refl) d12
+
           d14 : Typed.Typed 𝓤 H A 𝓣 E G35 b16 Δ0 at14
-          d14 = Typed.g-pre 𝓤 H A W 𝓣 E G35 G36 b16 Δ0 (Typed.both s34) at13 (Relend.g-back-sl 𝓤 H A W E ReservationUsage.row G35 16 3 2 7 ref9 ref2
-              life2 (λ x. x) (λ x. x) (Reads.as-is 𝓤 H A (Mut.msleft ReservationUsage.row ref2)) (Reads.as-is 𝓤 H A (Relend.mslice-owed
-              ReservationUsage.row ref9 2 7 life2)) Path.refl Path.refl) d13
+          d14 = Typed.g-pre 𝓤 H A W 𝓣 E G35 G36 b16 Δ0 (Typed.both s34) at13 (Relend.g-back-sl 𝓤 H A W E
+              ReservationUsage.row G35 16 3 2 7 ref9 ref2 life2 (λ x. x) (λ x. x)
+              (Reads.as-is 𝓤 H A (Mut.msleft ReservationUsage.row ref2)) (Reads.as-is 𝓤 H A
+              (Relend.mslice-owed ReservationUsage.row ref9 2 7 life2)) Path.refl Path.refl) d13
+
           d15 : Typed.Typed 𝓤 H A 𝓣 E G34 b16 Δ0 at15
           d15 = Typed.g-pre 𝓤 H A W 𝓣 E G34 G35 b16 Δ0 (λ Ψ. Ψ) at14 (Lifetime.g-end 𝓤 H A W E G34 7 Path.refl) d14
+
           d16 : Typed.Typed 𝓤 H A 𝓣 E G33 b16 Δ0 at16
-          d16 = Typed.g-pre 𝓤 H A W 𝓣 E G33 G34 b16 Δ0 (λ Ψ. Ψ) at15 (Lifetime.g-forget 𝓤 H A W E G33 6 Row.dead Path.refl) d15
+          d16 = Typed.g-pre 𝓤 H A W 𝓣 E G33 G34 b16 Δ0 (λ Ψ. Ψ) at15
+              (Lifetime.g-forget 𝓤 H A W E G33 6 Row.dead Path.refl) d15
+
           d17 : Typed.Typed 𝓤 H A 𝓣 E G32 b16 Δ0 at17
-          d17 = Typed.g-pre 𝓤 H A W 𝓣 E G32 G33 b16 Δ0 (Typed.both s31) at16 (Relend.g-back-sl 𝓤 H A W E RelayCircuit.row G32 14 2 1 6 ref8 ref1 life1
-              (λ x. x) (λ x. x) (Reads.as-is 𝓤 H A (Mut.msleft RelayCircuit.row ref1)) (Reads.as-is 𝓤 H A (Relend.mslice-owed RelayCircuit.row ref8 1
-              6 life1)) Path.refl Path.refl) d16
+          d17 = Typed.g-pre 𝓤 H A W 𝓣 E G32 G33 b16 Δ0 (Typed.both s31) at16 (Relend.g-back-sl 𝓤 H A W E
+              RelayCircuit.row G32 14 2 1 6 ref8 ref1 life1 (λ x. x) (λ x. x)
+              (Reads.as-is 𝓤 H A (Mut.msleft RelayCircuit.row ref1)) (Reads.as-is 𝓤 H A
+              (Relend.mslice-owed RelayCircuit.row ref8 1 6 life1)) Path.refl Path.refl) d16
+
           d18 : Typed.Typed 𝓤 H A 𝓣 E G31 b16 Δ0 at18
           d18 = Typed.g-pre 𝓤 H A W 𝓣 E G31 G32 b16 Δ0 (λ Ψ. Ψ) at17 (Lifetime.g-end 𝓤 H A W E G31 6 Path.refl) d17
+
           d19 : Typed.Typed 𝓤 H A 𝓣 E G30 b16 Δ0 at19
-          d19 = Typed.g-pre 𝓤 H A W 𝓣 E G30 G31 b16 Δ0 (λ Ψ. Ψ) at18 (Lifetime.g-forget 𝓤 H A W E G30 5 Row.dead Path.refl) d18
+          d19 = Typed.g-pre 𝓤 H A W 𝓣 E G30 G31 b16 Δ0 (λ Ψ. Ψ) at18
+              (Lifetime.g-forget 𝓤 H A W E G30 5 Row.dead Path.refl) d18
+
           d20 : Typed.Typed 𝓤 H A 𝓣 E G29 b16 Δ0 at20
-          d20 = Typed.g-pre 𝓤 H A W 𝓣 E G29 G30 b16 Δ0 (Typed.both s28) at19 (Relend.g-back-sl 𝓤 H A W E RelayPending.row G29 12 1 0 5 ref7 ref0 life0
-              (λ x. x) (λ x. x) (Reads.as-is 𝓤 H A (Mut.msleft RelayPending.row ref0)) (Reads.as-is 𝓤 H A (Relend.mslice-owed RelayPending.row ref7 0
-              5 life0)) Path.refl Path.refl) d19
+          d20 = Typed.g-pre 𝓤 H A W 𝓣 E G29 G30 b16 Δ0 (Typed.both s28) at19 (Relend.g-back-sl 𝓤 H A W E
+              RelayPending.row G29 12 1 0 5 ref7 ref0 life0 (λ x. x) (λ x. x)
+              (Reads.as-is 𝓤 H A (Mut.msleft RelayPending.row ref0)) (Reads.as-is 𝓤 H A
+              (Relend.mslice-owed RelayPending.row ref7 0 5 life0)) Path.refl Path.refl) d19
+
           d21 : Typed.Typed 𝓤 H A 𝓣 E G28 b16 Δ0 at21
           d21 = Typed.g-pre 𝓤 H A W 𝓣 E G28 G29 b16 Δ0 (λ Ψ. Ψ) at20 (Lifetime.g-end 𝓤 H A W E G28 5 Path.refl) d20
+
           d22 : Typed.Typed 𝓤 H A 𝓣 E G27 b16 Δ0 at22
-          d22 = Typed.g-pre 𝓤 H A W 𝓣 E G27 G28 b16 Δ0 (Typed.pass T27 T28 s26) at21 (Scalar.g-room 𝓤 H A W E G27 8 Laws.mir (Local.room-whole 𝓤 H A W
-              (Declared.row RelayPacket.the-type) Laws.mir Path.refl)) d21
+          d22 = Typed.g-pre 𝓤 H A W 𝓣 E G27 G28 b16 Δ0 (Typed.pass T27 T28 s26) at21 (Scalar.g-room 𝓤 H A W E G27 8
+              Laws.mir (Local.room-whole 𝓤 H A W (Declared.row RelayPacket.the-type) Laws.mir Path.refl)) d21
+
           d23 : Typed.Typed 𝓤 H A 𝓣 E G26 b16 Δ0 at23
-          d23 = Typed.g-pre 𝓤 H A W 𝓣 E G26 G27 b16 Δ0 (Typed.pass T26 T27 s25) at22 (Scalar.g-room 𝓤 H A W E G26 6 Laws'.mir (Local.room-whole 𝓤 H A
-              W (Declared.row Relayed.the-type) Laws'.mir Path.refl)) d22
+          d23 = Typed.g-pre 𝓤 H A W 𝓣 E G26 G27 b16 Δ0 (Typed.pass T26 T27 s25) at22 (Scalar.g-room 𝓤 H A W E G26 6
+              Laws'.mir (Local.room-whole 𝓤 H A W (Declared.row Relayed.the-type) Laws'.mir Path.refl)) d22
+
           d24 : Typed.Typed 𝓤 H A 𝓣 E G25 b16 Δ0 at24
-          d24 = Typed.g-pre 𝓤 H A W 𝓣 E G25 G26 b16 Δ0 (Typed.pass T25 T26 s24) at23 (Scalar.g-room 𝓤 H A W E G25 22 (Syntax.tyStruct (38 ∷ 91 ∷ 93 ∷
-              List.[]) (Syntax.tcons ref6 (Syntax.tcons (Syntax.tyInt Syntax.w64) Syntax.tnil))) (Shared.room-sslice 𝓤 H A W (Referent.rtF
-              (Referent.fInt Syntax.w8)) ref6 10)) d23
+          d24 = Typed.g-pre 𝓤 H A W 𝓣 E G25 G26 b16 Δ0 (Typed.pass T25 T26 s24) at23 (Scalar.g-room 𝓤 H A W E G25 22
+              slice6 (Shared.room-sslice 𝓤 H A W (Referent.rtF (Referent.fInt Syntax.w8)) ref6 10)) d23
+
           d25 : Typed.Typed 𝓤 H A 𝓣 E G24 b17 Δ0 at25
-          d25 = Typed.s-seq 𝓤 H A W 𝓣 E G24 G25 b15 b16 Δ0 (Typed.both s23) at24 (Plain.t-call-plain 𝓤 H A W 𝓣 6 ps·2 r·2 (claims· .4) (claims· .5)
-              "cases::machine::deliver" (known .2) E (λ pos β. β) G24 (record { pos = 12; ty = Syntax.tyRef Syntax.erased Syntax.mut RelayPending.to;
-              ref = λ x. x; }, (record { pos = 14; ty = Syntax.tyRef Syntax.erased Syntax.mut RelayCircuit.to; ref = λ x. x; }, (record { pos = 16; ty
-              = Syntax.tyRef Syntax.erased Syntax.mut ReservationUsage.to; ref = λ x. x; }, (record { pos = 18; ty = Syntax.tyRef Syntax.erased
-              Syntax.mut InflightAction.to; ref = λ x. x; }, (record { pos = 20; ty = Syntax.tyRef Syntax.erased Syntax.mut (Syntax.tyInt Syntax.w32);
-              ref = λ x. x; }, (record { pos = 6; st = List.[]; d = 0; at = λ x. x }, (record { pos = 8; st = List.[]; d = 0; at = λ x. x }, (Num.vLit
-              2, (record { pos = 22; ty = Syntax.tyRef Syntax.erased Syntax.imm (Syntax.tyInt Syntax.w8); ref = λ x. x; }, tt,),),),),),),),),) 0 (5 ∷
-              6 ∷ 7 ∷ 8 ∷ 9 ∷ 10 ∷ List.[]) (Call.sub-id 𝓤 H A W (G24 .slots)) (Reads.as-is 𝓤 H A (Mut.mslice RelayPending.row ref0 5),
-              Mut.reads-mslice 𝓤 H A W RelayPending.row ref0 5, Path.refl, (Reads.as-is 𝓤 H A (Mut.mslice RelayCircuit.row ref1 6), Mut.reads-mslice 𝓤
-              H A W RelayCircuit.row ref1 6, Path.refl, (Reads.as-is 𝓤 H A (Mut.mslice ReservationUsage.row ref2 7), Mut.reads-mslice 𝓤 H A W
-              ReservationUsage.row ref2 7, Path.refl, (Reads.as-is 𝓤 H A (Mut.mslice InflightAction.row ref3 8), Mut.reads-mslice 𝓤 H A W
-              InflightAction.row ref3 8, Path.refl, (Reads.as-is 𝓤 H A (Mut.mslice (Referent.rtF (Referent.fInt Syntax.w32)) ref4 9), Mut.reads-mslice
-              𝓤 H A W (Referent.rtF (Referent.fInt Syntax.w32)) ref4 9, Path.refl, ((Yields.yields-copy 𝓤 H A W (λ ρ. Unit) (Declared.row
-              Relayed.the-type) Path.refl (Copies.cStruct Relayed.the-type Laws'.the-laws Laws'.the-copy .copy 𝓤 H A W) (Rows'.whole (Declared.row
-              Relayed.the-type)) (λ x. x) (λ x. x) (λ ρ told. Local.mem-whole 𝓤 H A W (Declared.row Relayed.the-type) ρ) λ ρ told. Local.whole-mem 𝓤 H
-              A W (Declared.row Relayed.the-type) ρ, Path.refl,), ((Yields.yields-copy 𝓤 H A W (λ ρ. Unit) (Declared.row RelayPacket.the-type)
-              Path.refl (Copies.cStruct RelayPacket.the-type Laws.the-laws Laws.the-copy .copy 𝓤 H A W) (Rows'.whole (Declared.row
-              RelayPacket.the-type)) (λ x. x) (λ x. x) (λ ρ told. Local.mem-whole 𝓤 H A W (Declared.row RelayPacket.the-type) ρ) λ ρ told.
-              Local.whole-mem 𝓤 H A W (Declared.row RelayPacket.the-type) ρ, Path.refl,), (tt, (ShrSlice.spares-sslice 𝓤 H A W (Referent.rtF
-              (Referent.fInt Syntax.w8)) ref6 10, Shared.reads-sslice 𝓤 H A W (Referent.rtF (Referent.fInt Syntax.w8)) ref6 10, Path.refl,
-              tt,),),),),),),),),) (Reads.room-gone 𝓤 H A Laws'.mir) (tt, (tt, (tt, (tt, (tt, (tt, tt)))))) Path.refl) d24
+          d25 = Typed.s-seq 𝓤 H A W 𝓣 E G24 G25 b15 b16 Δ0 (Typed.both s23) at24 (Plain.t-call-plain 𝓤 H A W 𝓣 6 ps·2
+              r·2 (claims· .4) (claims· .5) "cases::machine::deliver" (known .2) E (λ pos β. β) G24 (
+                record { pos = 12; ty = ref0; ref = λ x. x },
+                (
+                  record { pos = 14; ty = ref1; ref = λ x. x },
+                  (
+                    record { pos = 16; ty = ref2; ref = λ x. x },
+                    (
+                      record { pos = 18; ty = ref3; ref = λ x. x },
+                      (
+                        record { pos = 20; ty = ref4; ref = λ x. x },
+                        (
+                          record { pos = 6; st = List.[]; d = 0; at = λ x. x },
+                          (
+                            record { pos = 8; st = List.[]; d = 0; at = λ x. x },
+                            (Num.vLit 2, (record { pos = 22; ty = ref6; ref = λ x. x }, tt)),
+                          ),
+                        ),
+                      ),
+                    ),
+                  ),
+                ),
+              ) 0 (5 ∷ 6 ∷ 7 ∷ 8 ∷ 9 ∷ 10 ∷ List.[]) (Call.sub-id 𝓤 H A W (G24 .slots)) (
+                Reads.as-is 𝓤 H A (Mut.mslice RelayPending.row ref0 5),
+                Mut.reads-mslice 𝓤 H A W RelayPending.row ref0 5,
+                Path.refl,
+                (
+                  Reads.as-is 𝓤 H A (Mut.mslice RelayCircuit.row ref1 6),
+                  Mut.reads-mslice 𝓤 H A W RelayCircuit.row ref1 6,
+                  Path.refl,
+                  (
+                    Reads.as-is 𝓤 H A (Mut.mslice ReservationUsage.row ref2 7),
+                    Mut.reads-mslice 𝓤 H A W ReservationUsage.row ref2 7,
+                    Path.refl,
+                    (
+                      Reads.as-is 𝓤 H A (Mut.mslice InflightAction.row ref3 8),
+                      Mut.reads-mslice 𝓤 H A W InflightAction.row ref3 8,
+                      Path.refl,
+                      (
+                        Reads.as-is 𝓤 H A (Mut.mslice (Referent.rtF (Referent.fInt Syntax.w32)) ref4 9),
+                        Mut.reads-mslice 𝓤 H A W (Referent.rtF (Referent.fInt Syntax.w32)) ref4 9,
+                        Path.refl,
+                        (
+                          (
+                            Yields.yields-copy 𝓤 H A W (λ ρ. Unit) (Declared.row Relayed.the-type) Path.refl (Copies.cStruct
+                                Relayed.the-type Laws'.the-laws Laws'.the-copy .copy 𝓤 H A W)
+                                (Rows'.whole (Declared.row Relayed.the-type)) (λ x. x) (λ x. x) (λ ρ told.
+                                Local.mem-whole 𝓤 H A W (Declared.row Relayed.the-type) ρ) λ ρ told. Local.whole-mem 𝓤
+                                H A W (Declared.row Relayed.the-type) ρ,
+                            Path.refl,
+                          ),
+                          (
+                            (
+                              Yields.yields-copy 𝓤 H A W (λ ρ. Unit) (Declared.row RelayPacket.the-type) Path.refl (Copies.cStruct
+                                  RelayPacket.the-type Laws.the-laws Laws.the-copy .copy 𝓤 H A W)
+                                  (Rows'.whole (Declared.row RelayPacket.the-type)) (λ x. x) (λ x. x) (λ ρ told.
+                                  Local.mem-whole 𝓤 H A W (Declared.row RelayPacket.the-type) ρ) λ ρ told.
+                                  Local.whole-mem 𝓤 H A W (Declared.row RelayPacket.the-type) ρ,
+                              Path.refl,
+                            ),
+                            (
+                              tt,
+                              (
+                                ShrSlice.spares-sslice 𝓤 H A W (Referent.rtF (Referent.fInt Syntax.w8)) ref6 10,
+                                Shared.reads-sslice 𝓤 H A W (Referent.rtF (Referent.fInt Syntax.w8)) ref6 10,
+                                Path.refl,
+                                tt,
+                              ),
+                            ),
+                          ),
+                        ),
+                      ),
+                    ),
+                  ),
+                ),
+              ) (Reads.room-gone 𝓤 H A Laws'.mir) (tt, (tt, (tt, (tt, (tt, (tt, tt)))))) Path.refl) d24
+
           d26 : Typed.Typed 𝓤 H A 𝓣 E G23 b18 Δ0 at26
-          d26 = Typed.s-seq 𝓤 H A W 𝓣 E G23 G24 b14 b17 Δ0 (Typed.ask s22) at25 (Relend.t-sl-aggregate 𝓤 H A W E (Referent.rtF (Referent.fInt
-              Syntax.w8)) 𝓣 (Relend.asShr (Referent.rtF (Referent.fInt Syntax.w8))) G23 21 22 10 ref5 ref6 (λ x. x) (Scalar.oInt Syntax.w64 20)
-              (Reads.as-is 𝓤 H A (Relend.ssptr (Referent.rtF (Referent.fInt Syntax.w8)) ref5 10)) (Reads.room-gone 𝓤 H A (Syntax.tyStruct (38 ∷ 91 ∷
-              93 ∷ List.[]) (Syntax.tcons ref6 (Syntax.tcons (Syntax.tyInt Syntax.w64) Syntax.tnil)))) tt Path.refl Path.refl λ b o k. tt) d25
+          d26 = Typed.s-seq 𝓤 H A W 𝓣 E G23 G24 b14 b17 Δ0 (Typed.ask s22) at25 (Relend.t-sl-aggregate 𝓤 H A W E
+              (Referent.rtF (Referent.fInt Syntax.w8)) 𝓣 (Relend.asShr (Referent.rtF (Referent.fInt Syntax.w8))) G23 21
+              22 10 ref5 ref6 (λ x. x) (Scalar.oInt Syntax.w64 20) (Reads.as-is 𝓤 H A (Relend.ssptr
+              (Referent.rtF (Referent.fInt Syntax.w8)) ref5 10)) (Reads.room-gone 𝓤 H A slice6) tt Path.refl Path.refl
+              λ b o k. tt) d25
+
           d27 : Typed.Typed 𝓤 H A 𝓣 E G22 b19 Δ0 at27
-          d27 = Typed.s-seq 𝓤 H A W 𝓣 E G22 G23 b13 b18 Δ0 (Typed.give s21) at26 (Share.t-arr-share 𝓤 H A W E 𝓣 (Referent.rtF (Referent.fInt
-              Syntax.w8)) G22 9 21 20 10 ref5 (λ x. x) (Reads.as-is 𝓤 H A (Rows.arrF (Referent.rtF (Referent.fInt Syntax.w8)) 20 0)) (Reads.room-gone
-              𝓤 H A ref5) Path.refl (λ b o. tt) (Dec.lit< tt, Dec.lit< tt)) d26
+          d27 = Typed.s-seq 𝓤 H A W 𝓣 E G22 G23 b13 b18 Δ0 (Typed.give s21) at26 (Share.t-arr-share 𝓤 H A W E 𝓣
+              (Referent.rtF (Referent.fInt Syntax.w8)) G22 9 21 20 10 ref5 (λ x. x) (Reads.as-is 𝓤 H A
+              (Rows.arrF (Referent.rtF (Referent.fInt Syntax.w8)) 20 0)) (Reads.room-gone 𝓤 H A ref5) Path.refl
+              (λ b o. tt) (Dec.lit< tt, Dec.lit< tt)) d26
+
           d28 : Typed.Typed 𝓤 H A 𝓣 E G21 b19 Δ0 at28
-          d28 = Typed.g-pre 𝓤 H A W 𝓣 E G21 G22 b19 Δ0 (λ Ψ. Ψ) at27 (Lifetime.g-begin 𝓤 H A W E G21 10 (tt, ((tt, tt), ((tt, tt), ((tt, tt), ((tt,
-              tt), ((tt, tt), (tt, (tt, (tt, (tt, (tt, (tt, (tt, (tt, (tt, (tt, (tt, (tt, (tt, (tt, (tt, (tt, (tt,
-              tt))))))),),),),),),),),),),),),),),),),)) d27
+          d28 = Typed.g-pre 𝓤 H A W 𝓣 E G21 G22 b19 Δ0 (λ Ψ. Ψ) at27 (Lifetime.g-begin 𝓤 H A W E G21 10 (
+            tt,
+            (
+              (tt, tt),
+              (
+                (tt, tt),
+                (
+                  (tt, tt),
+                  (
+                    (tt, tt),
+                    (
+                      (tt, tt),
+                      (
+                        tt,
+                        (
+                          tt,
+                          (tt, (tt, (tt, (tt, (tt, (tt, (tt, (tt, (tt, (tt, (tt, (tt, (tt, (tt, (tt, tt))))))))))))))),
+                        ),
+                      ),
+                    ),
+                  ),
+                ),
+              ),
+            ),
+          )) d27
+
           d29 : Typed.Typed 𝓤 H A 𝓣 E G20 b20 Δ0 at29
-          d29 = Typed.s-seq 𝓤 H A W 𝓣 E G20 G21 b12 b19 Δ0 (Typed.ask s19) at28 (Relend.t-sl-aggregate 𝓤 H A W E (Referent.rtF (Referent.fInt
-              Syntax.w32)) 𝓣 (Relend.asMut (Referent.rtF (Referent.fInt Syntax.w32))) G20 19 20 9 ref4 ref4 (λ x. x) (Scalar.oFld 5 ((Syntax.field 1)
-              ∷ List.[]) (Syntax.tyInt Syntax.w64) 8 λ v. Shared.lenV (v .0)) (Reads.as-is 𝓤 H A (Relend.msptr (Referent.rtF (Referent.fInt
-              Syntax.w32)) ref4 9)) (Reads.room-gone 𝓤 H A (Syntax.tyStruct (38 ∷ 91 ∷ 93 ∷ List.[]) (Syntax.tcons ref4 (Syntax.tcons (Syntax.tyInt
-              Syntax.w64) Syntax.tnil)))) (Relend.reads-owed-len 𝓤 H A W (Referent.rtF (Referent.fInt Syntax.w32)) ref11 4 9 life4 8 Path.refl,
-              Path.refl,) Path.refl Path.refl λ b o k. tt) d28
+          d29 = Typed.s-seq 𝓤 H A W 𝓣 E G20 G21 b12 b19 Δ0 (Typed.ask s19) at28 (Relend.t-sl-aggregate 𝓤 H A W E
+              (Referent.rtF (Referent.fInt Syntax.w32)) 𝓣 (Relend.asMut (Referent.rtF (Referent.fInt Syntax.w32))) G20
+              19 20 9 ref4 ref4 (λ x. x) (Scalar.oFld 5 ((Syntax.field 1) ∷ List.[]) (Syntax.tyInt Syntax.w64) 8 λ v.
+              Shared.lenV (v .0)) (Reads.as-is 𝓤 H A (Relend.msptr (Referent.rtF (Referent.fInt Syntax.w32)) ref4 9))
+              (Reads.room-gone 𝓤 H A slice4) (
+                Relend.reads-owed-len 𝓤 H A W (Referent.rtF (Referent.fInt Syntax.w32)) ref11 4 9 life4 8 Path.refl,
+                Path.refl,
+              ) Path.refl Path.refl λ b o k. tt) d28
+
           d30 : Typed.Typed 𝓤 H A 𝓣 E G19 b21 Δ0 at30
-          d30 = Typed.s-seq 𝓤 H A W 𝓣 E G19 G20 b11 b20 Δ0 (Typed.give s18) at29 (Relend.t-sl-relend 𝓤 H A W E (Referent.rtF (Referent.fInt
-              Syntax.w32)) 𝓣 G19 5 19 4 9 ref11 ref4 life4 0 (λ x. x) (Reads.as-is 𝓤 H A (Mut.mslice (Referent.rtF (Referent.fInt Syntax.w32)) ref11
-              4)) (Reads.room-gone 𝓤 H A ref4) Path.refl tt Path.refl Path.refl Path.refl λ b o. tt) d29
+          d30 = Typed.s-seq 𝓤 H A W 𝓣 E G19 G20 b11 b20 Δ0 (Typed.give s18) at29 (Relend.t-sl-relend 𝓤 H A W E
+              (Referent.rtF (Referent.fInt Syntax.w32)) 𝓣 G19 5 19 4 9 ref11 ref4 life4 0 (λ x. x) (Reads.as-is 𝓤 H A (Mut.mslice
+              (Referent.rtF (Referent.fInt Syntax.w32)) ref11 4)) (Reads.room-gone 𝓤 H A ref4) Path.refl tt Path.refl
+              Path.refl Path.refl λ b o. tt) d29
+
           d31 : Typed.Typed 𝓤 H A 𝓣 E G18 b21 Δ0 at31
-          d31 = Typed.g-pre 𝓤 H A W 𝓣 E G18 G19 b21 Δ0 (λ Ψ. Ψ) at30 (Lifetime.g-begin 𝓤 H A W E G18 9 (tt, ((tt, tt), ((tt, tt), ((tt, tt), ((tt,
-              tt), (tt, (tt, (tt, (tt, (tt, (tt, (tt, (tt, (tt, (tt, (tt, (tt, (tt, (tt, (tt, (tt, (tt, (tt,
-              tt))))))),),),),),),),),),),),),),),),),)) d30
+          d31 = Typed.g-pre 𝓤 H A W 𝓣 E G18 G19 b21 Δ0 (λ Ψ. Ψ) at30 (Lifetime.g-begin 𝓤 H A W E G18 9 (
+            tt,
+            (
+              (tt, tt),
+              (
+                (tt, tt),
+                (
+                  (tt, tt),
+                  (
+                    (tt, tt),
+                    (
+                      tt,
+                      (
+                        tt,
+                        (
+                          tt,
+                          (tt, (tt, (tt, (tt, (tt, (tt, (tt, (tt, (tt, (tt, (tt, (tt, (tt, (tt, (tt, tt))))))))))))))),
+                        ),
+                      ),
+                    ),
+                  ),
+                ),
+              ),
+            ),
+          )) d30
+
           d32 : Typed.Typed 𝓤 H A 𝓣 E G17 b22 Δ0 at32
-          d32 = Typed.s-seq 𝓤 H A W 𝓣 E G17 G18 b10 b21 Δ0 (Typed.ask s16) at31 (Relend.t-sl-aggregate 𝓤 H A W E InflightAction.row 𝓣 (Relend.asMut
-              InflightAction.row) G17 17 18 8 ref3 ref3 (λ x. x) (Scalar.oFld 4 ((Syntax.field 1) ∷ List.[]) (Syntax.tyInt Syntax.w64) 8 λ v.
-              Shared.lenV (v .0)) (Reads.as-is 𝓤 H A (Relend.msptr InflightAction.row ref3 8)) (Reads.room-gone 𝓤 H A (Syntax.tyStruct (38 ∷ 91 ∷ 93 ∷
-              List.[]) (Syntax.tcons ref3 (Syntax.tcons (Syntax.tyInt Syntax.w64) Syntax.tnil)))) (Relend.reads-owed-len 𝓤 H A W InflightAction.row
-              ref10 3 8 life3 8 Path.refl, Path.refl,) Path.refl Path.refl λ b o k. tt) d31
+          d32 = Typed.s-seq 𝓤 H A W 𝓣 E G17 G18 b10 b21 Δ0 (Typed.ask s16) at31 (Relend.t-sl-aggregate 𝓤 H A W E
+              InflightAction.row 𝓣 (Relend.asMut InflightAction.row) G17 17 18 8 ref3 ref3 (λ x. x) (Scalar.oFld 4
+              ((Syntax.field 1) ∷ List.[]) (Syntax.tyInt Syntax.w64) 8 λ v. Shared.lenV (v .0)) (Reads.as-is 𝓤 H A
+              (Relend.msptr InflightAction.row ref3 8)) (Reads.room-gone 𝓤 H A slice3) (
+                Relend.reads-owed-len 𝓤 H A W InflightAction.row ref10 3 8 life3 8 Path.refl,
+                Path.refl,
+              ) Path.refl Path.refl λ b o k. tt) d31
+
           d33 : Typed.Typed 𝓤 H A 𝓣 E G16 b23 Δ0 at33
-          d33 = Typed.s-seq 𝓤 H A W 𝓣 E G16 G17 b9 b22 Δ0 (Typed.give s15) at32 (Relend.t-sl-relend 𝓤 H A W E InflightAction.row 𝓣 G16 4 17 3 8 ref10
-              ref3 life3 0 (λ x. x) (Reads.as-is 𝓤 H A (Mut.mslice InflightAction.row ref10 3)) (Reads.room-gone 𝓤 H A ref3) Path.refl tt Path.refl
-              Path.refl Path.refl λ b o. tt) d32
+          d33 = Typed.s-seq 𝓤 H A W 𝓣 E G16 G17 b9 b22 Δ0 (Typed.give s15) at32 (Relend.t-sl-relend 𝓤 H A W E
+              InflightAction.row 𝓣 G16 4 17 3 8 ref10 ref3 life3 0 (λ x. x)
+              (Reads.as-is 𝓤 H A (Mut.mslice InflightAction.row ref10 3)) (Reads.room-gone 𝓤 H A ref3) Path.refl tt
+              Path.refl Path.refl Path.refl λ b o. tt) d32
+
           d34 : Typed.Typed 𝓤 H A 𝓣 E G15 b23 Δ0 at34
-          d34 = Typed.g-pre 𝓤 H A W 𝓣 E G15 G16 b23 Δ0 (λ Ψ. Ψ) at33 (Lifetime.g-begin 𝓤 H A W E G15 8 (tt, ((tt, tt), ((tt, tt), ((tt, tt), (tt, (tt,
-              (tt, (tt, (tt, (tt, (tt, (tt, (tt, (tt, (tt, (tt, (tt, (tt, (tt, (tt, (tt, (tt, (tt, tt))))))),),),),),),),),),),),),),),),),)) d33
+          d34 = Typed.g-pre 𝓤 H A W 𝓣 E G15 G16 b23 Δ0 (λ Ψ. Ψ) at33 (Lifetime.g-begin 𝓤 H A W E G15 8 (
+            tt,
+            (
+              (tt, tt),
+              (
+                (tt, tt),
+                (
+                  (tt, tt),
+                  (
+                    tt,
+                    (
+                      tt,
+                      (
+                        tt,
+                        (
+                          tt,
+                          (tt, (tt, (tt, (tt, (tt, (tt, (tt, (tt, (tt, (tt, (tt, (tt, (tt, (tt, (tt, tt))))))))))))))),
+                        ),
+                      ),
+                    ),
+                  ),
+                ),
+              ),
+            ),
+          )) d33
+
           d35 : Typed.Typed 𝓤 H A 𝓣 E G14 b24 Δ0 at35
-          d35 = Typed.s-seq 𝓤 H A W 𝓣 E G14 G15 b8 b23 Δ0 (Typed.ask s13) at34 (Relend.t-sl-aggregate 𝓤 H A W E ReservationUsage.row 𝓣 (Relend.asMut
-              ReservationUsage.row) G14 15 16 7 ref2 ref2 (λ x. x) (Scalar.oFld 3 ((Syntax.field 1) ∷ List.[]) (Syntax.tyInt Syntax.w64) 8 λ v.
-              Shared.lenV (v .0)) (Reads.as-is 𝓤 H A (Relend.msptr ReservationUsage.row ref2 7)) (Reads.room-gone 𝓤 H A (Syntax.tyStruct (38 ∷ 91 ∷ 93
-              ∷ List.[]) (Syntax.tcons ref2 (Syntax.tcons (Syntax.tyInt Syntax.w64) Syntax.tnil)))) (Relend.reads-owed-len 𝓤 H A W
-              ReservationUsage.row ref9 2 7 life2 8 Path.refl, Path.refl,) Path.refl Path.refl λ b o k. tt) d34
+          d35 = Typed.s-seq 𝓤 H A W 𝓣 E G14 G15 b8 b23 Δ0 (Typed.ask s13) at34 (Relend.t-sl-aggregate 𝓤 H A W E
+              ReservationUsage.row 𝓣 (Relend.asMut ReservationUsage.row) G14 15 16 7 ref2 ref2 (λ x. x) (Scalar.oFld 3
+              ((Syntax.field 1) ∷ List.[]) (Syntax.tyInt Syntax.w64) 8 λ v. Shared.lenV (v .0)) (Reads.as-is 𝓤 H A
+              (Relend.msptr ReservationUsage.row ref2 7)) (Reads.room-gone 𝓤 H A slice2) (
+                Relend.reads-owed-len 𝓤 H A W ReservationUsage.row ref9 2 7 life2 8 Path.refl,
+                Path.refl,
+              ) Path.refl Path.refl λ b o k. tt) d34
+
           d36 : Typed.Typed 𝓤 H A 𝓣 E G13 b25 Δ0 at36
-          d36 = Typed.s-seq 𝓤 H A W 𝓣 E G13 G14 b7 b24 Δ0 (Typed.give s12) at35 (Relend.t-sl-relend 𝓤 H A W E ReservationUsage.row 𝓣 G13 3 15 2 7 ref9
-              ref2 life2 0 (λ x. x) (Reads.as-is 𝓤 H A (Mut.mslice ReservationUsage.row ref9 2)) (Reads.room-gone 𝓤 H A ref2) Path.refl tt Path.refl
-              Path.refl Path.refl λ b o. tt) d35
+          d36 = Typed.s-seq 𝓤 H A W 𝓣 E G13 G14 b7 b24 Δ0 (Typed.give s12) at35 (Relend.t-sl-relend 𝓤 H A W E
+              ReservationUsage.row 𝓣 G13 3 15 2 7 ref9 ref2 life2 0 (λ x. x) (Reads.as-is 𝓤 H A
+              (Mut.mslice ReservationUsage.row ref9 2)) (Reads.room-gone 𝓤 H A ref2) Path.refl tt Path.refl Path.refl
+              Path.refl λ b o. tt) d35
+
           d37 : Typed.Typed 𝓤 H A 𝓣 E G12 b25 Δ0 at37
-          d37 = Typed.g-pre 𝓤 H A W 𝓣 E G12 G13 b25 Δ0 (λ Ψ. Ψ) at36 (Lifetime.g-begin 𝓤 H A W E G12 7 (tt, ((tt, tt), ((tt, tt), (tt, (tt, (tt, (tt,
-              (tt, (tt, (tt, (tt, (tt, (tt, (tt, (tt, (tt, (tt, (tt, (tt, (tt, (tt, (tt, (tt, tt))))))),),),),),),),),),),),),),),),),)) d36
+          d37 = Typed.g-pre 𝓤 H A W 𝓣 E G12 G13 b25 Δ0 (λ Ψ. Ψ) at36 (Lifetime.g-begin 𝓤 H A W E G12 7 (
+            tt,
+            (
+              (tt, tt),
+              (
+                (tt, tt),
+                (
+                  tt,
+                  (
+                    tt,
+                    (
+                      tt,
+                      (
+                        tt,
+                        (
+                          tt,
+                          (tt, (tt, (tt, (tt, (tt, (tt, (tt, (tt, (tt, (tt, (tt, (tt, (tt, (tt, (tt, tt))))))))))))))),
+                        ),
+                      ),
+                    ),
+                  ),
+                ),
+              ),
+            ),
+          )) d36
+
           d38 : Typed.Typed 𝓤 H A 𝓣 E G11 b26 Δ0 at38
-          d38 = Typed.s-seq 𝓤 H A W 𝓣 E G11 G12 b6 b25 Δ0 (Typed.ask s10) at37 (Relend.t-sl-aggregate 𝓤 H A W E RelayCircuit.row 𝓣 (Relend.asMut
-              RelayCircuit.row) G11 13 14 6 ref1 ref1 (λ x. x) (Scalar.oFld 2 ((Syntax.field 1) ∷ List.[]) (Syntax.tyInt Syntax.w64) 8 λ v.
-              Shared.lenV (v .0)) (Reads.as-is 𝓤 H A (Relend.msptr RelayCircuit.row ref1 6)) (Reads.room-gone 𝓤 H A (Syntax.tyStruct (38 ∷ 91 ∷ 93 ∷
-              List.[]) (Syntax.tcons ref1 (Syntax.tcons (Syntax.tyInt Syntax.w64) Syntax.tnil)))) (Relend.reads-owed-len 𝓤 H A W RelayCircuit.row ref8
-              1 6 life1 8 Path.refl, Path.refl,) Path.refl Path.refl λ b o k. tt) d37
+          d38 = Typed.s-seq 𝓤 H A W 𝓣 E G11 G12 b6 b25 Δ0 (Typed.ask s10) at37 (Relend.t-sl-aggregate 𝓤 H A W E
+              RelayCircuit.row 𝓣 (Relend.asMut RelayCircuit.row) G11 13 14 6 ref1 ref1 (λ x. x) (Scalar.oFld 2
+              ((Syntax.field 1) ∷ List.[]) (Syntax.tyInt Syntax.w64) 8 λ v. Shared.lenV (v .0))
+              (Reads.as-is 𝓤 H A (Relend.msptr RelayCircuit.row ref1 6)) (Reads.room-gone 𝓤 H A slice1) (
+                Relend.reads-owed-len 𝓤 H A W RelayCircuit.row ref8 1 6 life1 8 Path.refl,
+                Path.refl,
+              ) Path.refl Path.refl λ b o k. tt) d37
+
           d39 : Typed.Typed 𝓤 H A 𝓣 E G10 b27 Δ0 at39
-          d39 = Typed.s-seq 𝓤 H A W 𝓣 E G10 G11 b5 b26 Δ0 (Typed.give s9) at38 (Relend.t-sl-relend 𝓤 H A W E RelayCircuit.row 𝓣 G10 2 13 1 6 ref8 ref1
-              life1 0 (λ x. x) (Reads.as-is 𝓤 H A (Mut.mslice RelayCircuit.row ref8 1)) (Reads.room-gone 𝓤 H A ref1) Path.refl tt Path.refl Path.refl
-              Path.refl λ b o. tt) d38
+          d39 = Typed.s-seq 𝓤 H A W 𝓣 E G10 G11 b5 b26 Δ0 (Typed.give s9) at38 (Relend.t-sl-relend 𝓤 H A W E
+              RelayCircuit.row 𝓣 G10 2 13 1 6 ref8 ref1 life1 0 (λ x. x)
+              (Reads.as-is 𝓤 H A (Mut.mslice RelayCircuit.row ref8 1)) (Reads.room-gone 𝓤 H A ref1) Path.refl tt
+              Path.refl Path.refl Path.refl λ b o. tt) d38
+
           d40 : Typed.Typed 𝓤 H A 𝓣 E G9 b27 Δ0 at40
-          d40 = Typed.g-pre 𝓤 H A W 𝓣 E G9 G10 b27 Δ0 (λ Ψ. Ψ) at39 (Lifetime.g-begin 𝓤 H A W E G9 6 (tt, ((tt, tt), (tt, (tt, (tt, (tt, (tt, (tt,
-              (tt, (tt, (tt, (tt, (tt, (tt, (tt, (tt, (tt, (tt, (tt, (tt, (tt, (tt, (tt, tt))))))),),),),),),),),),),),),),),),),)) d39
+          d40 = Typed.g-pre 𝓤 H A W 𝓣 E G9 G10 b27 Δ0 (λ Ψ. Ψ) at39 (Lifetime.g-begin 𝓤 H A W E G9 6 (
+            tt,
+            (
+              (tt, tt),
+              (
+                tt,
+                (
+                  tt,
+                  (
+                    tt,
+                    (
+                      tt,
+                      (
+                        tt,
+                        (
+                          tt,
+                          (tt, (tt, (tt, (tt, (tt, (tt, (tt, (tt, (tt, (tt, (tt, (tt, (tt, (tt, (tt, tt))))))))))))))),
+                        ),
+                      ),
+                    ),
+                  ),
+                ),
+              ),
+            ),
+          )) d39
+
           d41 : Typed.Typed 𝓤 H A 𝓣 E G8 b28 Δ0 at41
-          d41 = Typed.s-seq 𝓤 H A W 𝓣 E G8 G9 b4 b27 Δ0 (Typed.ask s7) at40 (Relend.t-sl-aggregate 𝓤 H A W E RelayPending.row 𝓣 (Relend.asMut
-              RelayPending.row) G8 11 12 5 ref0 ref0 (λ x. x) (Scalar.oFld 1 ((Syntax.field 1) ∷ List.[]) (Syntax.tyInt Syntax.w64) 8 λ v. Shared.lenV
-              (v .0)) (Reads.as-is 𝓤 H A (Relend.msptr RelayPending.row ref0 5)) (Reads.room-gone 𝓤 H A (Syntax.tyStruct (38 ∷ 91 ∷ 93 ∷ List.[])
-              (Syntax.tcons ref0 (Syntax.tcons (Syntax.tyInt Syntax.w64) Syntax.tnil)))) (Relend.reads-owed-len 𝓤 H A W RelayPending.row ref7 0 5
-              life0 8 Path.refl, Path.refl,) Path.refl Path.refl λ b o k. tt) d40
+          d41 = Typed.s-seq 𝓤 H A W 𝓣 E G8 G9 b4 b27 Δ0 (Typed.ask s7) at40 (Relend.t-sl-aggregate 𝓤 H A W E
+              RelayPending.row 𝓣 (Relend.asMut RelayPending.row) G8 11 12 5 ref0 ref0 (λ x. x) (Scalar.oFld 1
+              ((Syntax.field 1) ∷ List.[]) (Syntax.tyInt Syntax.w64) 8 λ v. Shared.lenV (v .0))
+              (Reads.as-is 𝓤 H A (Relend.msptr RelayPending.row ref0 5)) (Reads.room-gone 𝓤 H A slice0) (
+                Relend.reads-owed-len 𝓤 H A W RelayPending.row ref7 0 5 life0 8 Path.refl,
+                Path.refl,
+              ) Path.refl Path.refl λ b o k. tt) d40
+
           d42 : Typed.Typed 𝓤 H A 𝓣 E G7 b29 Δ0 at42
-          d42 = Typed.s-seq 𝓤 H A W 𝓣 E G7 G8 b3 b28 Δ0 (Typed.give s6) at41 (Relend.t-sl-relend 𝓤 H A W E RelayPending.row 𝓣 G7 1 11 0 5 ref7 ref0
-              life0 0 (λ x. x) (Reads.as-is 𝓤 H A (Mut.mslice RelayPending.row ref7 0)) (Reads.room-gone 𝓤 H A ref0) Path.refl tt Path.refl Path.refl
-              Path.refl λ b o. tt) d41
+          d42 = Typed.s-seq 𝓤 H A W 𝓣 E G7 G8 b3 b28 Δ0 (Typed.give s6) at41 (Relend.t-sl-relend 𝓤 H A W E
+              RelayPending.row 𝓣 G7 1 11 0 5 ref7 ref0 life0 0 (λ x. x)
+              (Reads.as-is 𝓤 H A (Mut.mslice RelayPending.row ref7 0)) (Reads.room-gone 𝓤 H A ref0) Path.refl tt
+              Path.refl Path.refl Path.refl λ b o. tt) d41
+
           d43 : Typed.Typed 𝓤 H A 𝓣 E G6 b29 Δ0 at43
-          d43 = Typed.g-pre 𝓤 H A W 𝓣 E G6 G7 b29 Δ0 (λ Ψ. Ψ) at42 (Lifetime.g-begin 𝓤 H A W E G6 5 (tt, (tt, (tt, (tt, (tt, (tt, (tt, (tt, (tt, (tt,
-              (tt, (tt, (tt, (tt, (tt, (tt, (tt, (tt, (tt, (tt, (tt, (tt, (tt, tt))))))),),),),),),),),),),),),),),),),)) d42
+          d43 = Typed.g-pre 𝓤 H A W 𝓣 E G6 G7 b29 Δ0 (λ Ψ. Ψ) at42 (Lifetime.g-begin 𝓤 H A W E G6 5 (
+            tt,
+            (
+              tt,
+              (
+                tt,
+                (
+                  tt,
+                  (
+                    tt,
+                    (
+                      tt,
+                      (
+                        tt,
+                        (
+                          tt,
+                          (tt, (tt, (tt, (tt, (tt, (tt, (tt, (tt, (tt, (tt, (tt, (tt, (tt, (tt, (tt, tt))))))))))))))),
+                        ),
+                      ),
+                    ),
+                  ),
+                ),
+              ),
+            ),
+          )) d42
+
           d44 : Typed.Typed 𝓤 H A 𝓣 E G5 b29 Δ0 at44
-          d44 = Typed.g-pre 𝓤 H A W 𝓣 E G5 G6 b29 Δ0 (Typed.pass T5 T6 s4) at43 (Scalar.g-room 𝓤 H A W E G5 10 (Syntax.tyArray (Syntax.tyInt
-              Syntax.w8) 20) (Init.room-arr 𝓤 H A W (Referent.rtF (Referent.fInt Syntax.w8)) 20 0 20 Path.refl)) d43
+          d44 = Typed.g-pre 𝓤 H A W 𝓣 E G5 G6 b29 Δ0 (Typed.pass T5 T6 s4) at43 (Scalar.g-room 𝓤 H A W E G5 10
+              (Syntax.tyArray (Syntax.tyInt Syntax.w8) 20) (Init.room-arr 𝓤 H A W
+              (Referent.rtF (Referent.fInt Syntax.w8)) 20 0 20 Path.refl)) d43
+
           d45 : Typed.Typed 𝓤 H A 𝓣 E G4 b30 Δ0 at45
-          d45 = Typed.s-seq 𝓤 H A W 𝓣 E G4 G5 b2 b29 Δ0 (Typed.pass T4 T5 s3) at44 (LocalCopy.t-val-copy 𝓤 H A W E 𝓣 (λ ρ. Unit) G4 10 9 (Array'.Array
-              (Referent.rtF (Referent.fInt Syntax.w8)) 20) (Syntax.tyArray (Syntax.tyInt Syntax.w8) 20) (Syntax.tyArray (Syntax.tyInt Syntax.w8) 20)
-              (Rows.arrF (Referent.rtF (Referent.fInt Syntax.w8)) 20 0) (Rows.arrF (Referent.rtF (Referent.fInt Syntax.w8)) 20 0) (λ x. x) (λ x. x) (λ
-              x. x) Path.refl (Own.told-none 𝓤 H A (G4 .slots)) (Yields.yields-copy 𝓤 H A W (λ ρ. Unit) (Array'.Array (Referent.rtF (Referent.fInt
-              Syntax.w8)) 20) Path.refl (Copies.cArr (Referent.rtF (Referent.fInt Syntax.w8)) (Copies.cRf (Referent.fInt Syntax.w8)) 20 .copy 𝓤 H A W)
-              (Rows.arrF (Referent.rtF (Referent.fInt Syntax.w8)) 20 0) (λ x. x) (λ x. x) (λ ρ told. Whole.mem-arr 𝓤 H A W (Referent.rtF
-              (Referent.fInt Syntax.w8)) 20 ρ) λ ρ told. Whole.arr-mem 𝓤 H A W (Referent.rtF (Referent.fInt Syntax.w8)) 20 tt ρ) (Reads.room-gone 𝓤 H
-              A (Syntax.tyArray (Syntax.tyInt Syntax.w8) 20)) (Yields.makes-mem 𝓤 H A W (λ ρ. Unit) (Array'.Array (Referent.rtF (Referent.fInt
-              Syntax.w8)) 20) Path.refl (Rows.arrF (Referent.rtF (Referent.fInt Syntax.w8)) 20 0) (λ x. x) λ ρ told. Whole.arr-mem 𝓤 H A W
+          d45 = Typed.s-seq 𝓤 H A W 𝓣 E G4 G5 b2 b29 Δ0 (Typed.pass T4 T5 s3) at44 (LocalCopy.t-val-copy 𝓤 H A W E 𝓣
+              (λ ρ. Unit) G4 10 9 (Array'.Array (Referent.rtF (Referent.fInt Syntax.w8)) 20)
+              (Syntax.tyArray (Syntax.tyInt Syntax.w8) 20) (Syntax.tyArray (Syntax.tyInt Syntax.w8) 20)
+              (Rows.arrF (Referent.rtF (Referent.fInt Syntax.w8)) 20 0)
+              (Rows.arrF (Referent.rtF (Referent.fInt Syntax.w8)) 20 0) (λ x. x) (λ x. x) (λ x. x) Path.refl
+              (Own.told-none 𝓤 H A (G4 .slots)) (Yields.yields-copy 𝓤 H A W (λ ρ. Unit)
+              (Array'.Array (Referent.rtF (Referent.fInt Syntax.w8)) 20) Path.refl (Copies.cArr
+              (Referent.rtF (Referent.fInt Syntax.w8)) (Copies.cRf (Referent.fInt Syntax.w8)) 20 .copy 𝓤 H A W)
+              (Rows.arrF (Referent.rtF (Referent.fInt Syntax.w8)) 20 0) (λ x. x) (λ x. x) (λ ρ told. Whole.mem-arr 𝓤 H
+              A W (Referent.rtF (Referent.fInt Syntax.w8)) 20 ρ) λ ρ told. Whole.arr-mem 𝓤 H A W
+              (Referent.rtF (Referent.fInt Syntax.w8)) 20 tt ρ) (Reads.room-gone 𝓤 H A
+              (Syntax.tyArray (Syntax.tyInt Syntax.w8) 20)) (Yields.makes-mem 𝓤 H A W (λ ρ. Unit)
+              (Array'.Array (Referent.rtF (Referent.fInt Syntax.w8)) 20) Path.refl
+              (Rows.arrF (Referent.rtF (Referent.fInt Syntax.w8)) 20 0) (λ x. x) λ ρ told. Whole.arr-mem 𝓤 H A W
               (Referent.rtF (Referent.fInt Syntax.w8)) 20 tt ρ) Path.refl Path.refl) d44
+
           d46 : Typed.Typed 𝓤 H A 𝓣 E G3 b31 Δ0 at46
-          d46 = Typed.s-seq 𝓤 H A W 𝓣 E G3 G4 b1 b30 Δ0 (Typed.both s2) at45 (Plain.t-call-plain 𝓤 H A W 𝓣 0 ps·1 r·1 (claims· .2) (claims· .3)
-              "cases::script::accept_body" (known .1) E (λ pos β. β) G3 tt 10 List.[] (Call.sub-id 𝓤 H A W (G3 .slots)) tt (Reads.room-gone 𝓤 H A
-              (Syntax.tyArray (Syntax.tyInt Syntax.w8) 20)) tt Path.refl) d45
+          d46 = Typed.s-seq 𝓤 H A W 𝓣 E G3 G4 b1 b30 Δ0 (Typed.both s2) at45 (Plain.t-call-plain 𝓤 H A W 𝓣 0 ps·1 r·1
+              (claims· .2) (claims· .3) "cases::script::accept_body" (known .1) E (λ pos β. β) G3 tt 10 List.[]
+              (Call.sub-id 𝓤 H A W (G3 .slots)) tt (Reads.room-gone 𝓤 H A (Syntax.tyArray (Syntax.tyInt Syntax.w8) 20))
+              tt Path.refl) d45
+
           d47 : Typed.Typed 𝓤 H A 𝓣 E G2 b32 Δ0 at47
-          d47 = Typed.s-seq 𝓤 H A W 𝓣 E G2 G3 b0 b31 Δ0 (Typed.both s1) at46 (Plain.t-call-plain 𝓤 H A W 𝓣 0 ps·0 r·0 (claims· .0) (claims· .1)
-              "cases::script::packet" (known .0) E (λ pos β. β) G2 (Num.vLit 15, (Num.vAt 7 λ x. x, tt)) 8 List.[] (Call.sub-id 𝓤 H A W (G2 .slots))
-              (tt, ((Scalar.reads-sc 𝓤 H A W (Row.sInt Syntax.w64), Path.refl), tt)) (Reads.room-gone 𝓤 H A Laws.mir) tt Path.refl) d46
+          d47 = Typed.s-seq 𝓤 H A W 𝓣 E G2 G3 b0 b31 Δ0 (Typed.both s1) at46 (Plain.t-call-plain 𝓤 H A W 𝓣 0 ps·0 r·0
+              (claims· .0) (claims· .1) "cases::script::packet" (known .0) E (λ pos β. β) G2
+              (Num.vLit 15, (Num.vAt 7 λ x. x, tt)) 8 List.[] (Call.sub-id 𝓤 H A W (G2 .slots)) (
+                tt,
+                ((Scalar.reads-sc 𝓤 H A W (Row.sInt Syntax.w64), Path.refl), tt),
+              ) (Reads.room-gone 𝓤 H A Laws.mir) tt Path.refl) d46
+
           d48 : Typed.Typed 𝓤 H A 𝓣 E G0 b32 Δ0 at48
-          d48 = Typed.g-pre 𝓤 H A W 𝓣 E G0 G2 b32 Δ0 (Typed.give s0) at47 (Know.g-sl-known 𝓤 H A W (Referent.fInt Syntax.w32) E G0 5 4 ref11 life4 0
-              (λ x. x) record { fits = Dec.lit< tt } (Reads.as-is 𝓤 H A (Mut.mslice (Referent.rtF (Referent.fInt Syntax.w32)) ref11 4)) Path.refl tt)
-              d47
+          d48 = Typed.g-pre 𝓤 H A W 𝓣 E G0 G2 b32 Δ0 (Typed.give s0) at47 (Know.g-sl-known 𝓤 H A W
+              (Referent.fInt Syntax.w32) E G0 5 4 ref11 life4 0 (λ x. x) record { fits = Dec.lit< tt } (Reads.as-is 𝓤 H
+              A (Mut.mslice (Referent.rtF (Referent.fInt Syntax.w32)) ref11 4)) Path.refl tt) d47
+
           pub typed : Typed.Typed 𝓤 H A 𝓣 E (Function.Γin 5 ps r xs m κs qs) b32 (Function.Δret 5 ps r xs m κs qs) Φ
           typed = d48
+
       module _ (κs : Lifetimes.Lfts 5) where
         pub record Args : Type 0 where
-          pub pending : Kinds.Den { n = 5 } κs (MutSlice.pMutS RelayPending.row 0 tt)
-          pub circuits : Kinds.Den { n = 5 } κs (MutSlice.pMutS RelayCircuit.row 1 tt)
-          pub ledger : Kinds.Den { n = 5 } κs (MutSlice.pMutS ReservationUsage.row 2 tt)
-          pub inflight : Kinds.Den { n = 5 } κs (MutSlice.pMutS InflightAction.row 3 tt)
-          pub out : Kinds.Den { n = 5 } κs (MutSlice.pMutS (Referent.rtF (Referent.fInt Syntax.w32)) 4 tt)
-          pub kept : Kinds.Den { n = 5 } κs (Value.pVal record { ty = Declared.row Relayed.the-type; one = Path.refl; val = Laws''.val
-              Relayed.the-type Laws'.the-laws; tells = Laws''.tells Relayed.the-type Laws'.the-laws; still = Laws''.still Relayed.the-type
-              Laws'.the-copy Exit.yes; row = Rows'.whole (Declared.row Relayed.the-type); rd = λ x. x; mk = λ x. x; } λ M 𝓤 H A W. record { copies =
-              Laws''.copy Relayed.the-type Laws'.the-copy 𝓤 H A W; lawful = Laws''.lawful Relayed.the-type Laws'.the-laws 𝓤 H A W; makes =
-              Laws''.makes Relayed.the-type Laws'.the-plain 𝓤 H A; in-mem = Local.mem-whole 𝓤 H A W (Declared.row Relayed.the-type); of-mem =
-              Local.whole-mem 𝓤 H A W (Declared.row Relayed.the-type); })
-          pub time : Kinds.Den { n = 5 } κs (Num.pNum Syntax.w64)
+          pub pending : Kinds.Den {n = 5} κs (MutSlice.pMutS RelayPending.row 0 tt)
+          pub circuits : Kinds.Den {n = 5} κs (MutSlice.pMutS RelayCircuit.row 1 tt)
+          pub ledger : Kinds.Den {n = 5} κs (MutSlice.pMutS ReservationUsage.row 2 tt)
+          pub inflight : Kinds.Den {n = 5} κs (MutSlice.pMutS InflightAction.row 3 tt)
+          pub out : Kinds.Den {n = 5} κs (MutSlice.pMutS (Referent.rtF (Referent.fInt Syntax.w32)) 4 tt)
+          pub kept : Kinds.Den {n = 5} κs (StructRow.param Relayed.the-type Laws'.the-laws Laws'.the-copy
+              Laws'.the-plain)
+          pub time : Kinds.Den {n = 5} κs (Num.pNum Syntax.w64)
+
         abbrev pub dens : (a : Args) → Kinds.Dens κs ps
-        dens = λ a. (a .pending, (a .circuits, (a .ledger, (a .inflight, (a .out, (a .kept, (a .time, tt)))))),)
+        dens = λ a. (a .pending, (a .circuits, (a .ledger, (a .inflight, (a .out, (a .kept, (a .time, tt)))))))
+
         module _ (args· : Args) where
           pub record Ranges : Type 0 where
             pub time : Val.Fits Syntax.w64 (args· .time)
+
       abbrev pub m0 : (κs : Lifetimes.Lfts 5) → (args : Args κs) → Typed.Mo T0
       m0 = λ κs args. (tt, Enter.partsP κs 1 ps xs (dens κs args))
+
       abbrev W0 : (κs : Lifetimes.Lfts 5) → (args : Args κs) → Typed.Want O0
-      W0 = λ κs args. (λ u. ⊥, tt, λ u. Enter.Fixs κs 1 ps xs (dens κs args) (u .1) × Post· κs (dens κs args) (Function.resV r κs (u .0))
-          (Clauses.atExit (Kinds.endedOf 5 ps r) κs (dens κs args) (Enter.lastsP κs 1 ps xs (dens κs args) (u .1))),)
+      W0 = λ κs args. (
+        λ u. ⊥,
+        tt,
+        λ u. Enter.Fixs κs 1 ps xs (dens κs args) (u .1) × Post· κs (dens κs args) (Function.resV r κs (u .0)) (Clauses.atExit
+            (Kinds.endedOf 5 ps r) κs (dens κs args) (Enter.lastsP κs 1 ps xs (dens κs args) (u .1))),
+      )
+
       pub record Start : Type 0 where
         pub κs : Lifetimes.Lfts 5
         pub args : Args κs
         pub good : Kinds.GoodsP κs ps (dens κs args)
         pub fits : Ranges κs args
         pub pre : Pre· κs (dens κs args)
+
       abbrev pub m1 : (before : Start) → (given : s0 .gives (m0 (before .κs) (before .args))) → Typed.Mo T2
       m1 = λ before given. s0 .next (m0 (before .κs) (before .args)) given
+
       module _ (before· : Start) where
         pub record After-slice-known·own : Type 0 where
           pub given : s0 .gives (m0 (before· .κs) (before· .args))
+
       pub record After-slice-known : Type 0 where
         pub before : Start
         pub slice-known : After-slice-known·own before
+
       abbrev pub Need-packet-requires : Type 0
       Need-packet-requires = (c : After-slice-known) → s1 .asks (m1 (c .before) (c .slice-known .given))
-      abbrev pub m2 : (before : After-slice-known) → (given : s1 .gives (m1 (before .before) (before .slice-known .given))) → Typed.Mo T3
+
+      abbrev pub m2 : (before : After-slice-known) → (given : s1 .gives
+          (m1 (before .before) (before .slice-known .given))) → Typed.Mo T3
       m2 = λ before given. s1 .next (m1 (before .before) (before .slice-known .given)) given
+
       module _ (before· : After-slice-known) where
         abbrev pub After-packet·own : Type 0
-        After-packet·own = Called.Called ps·0 r·0 (claims· .1) T2 (Num.vLit 15, (Num.vAt 7 λ x. x, tt),) (m1 (before· .before) (before· .slice-known
-            .given))
+        After-packet·own = Called.Called ps·0 r·0 (claims· .1) T2 args1
+            (m1 (before· .before) (before· .slice-known .given))
+
       pub record After-packet : Type 0 where
         pub before : After-slice-known
         pub packet : After-packet·own before
-      abbrev pub After-packet·gave : (c : After-packet) → s1 .gives (m1 (c .before .before) (c .before .slice-known .given))
-      After-packet·gave = λ c. Called.given ps·0 r·0 (claims· .1) T2 (Num.vLit 15, (Num.vAt 7 λ x. x, tt),) (m1 (c .before .before) (c .before
-          .slice-known .given)) (c .packet)
+
+      abbrev pub After-packet·gave : (c : After-packet) → s1 .gives
+          (m1 (c .before .before) (c .before .slice-known .given))
+      After-packet·gave = λ c. Called.given ps·0 r·0 (claims· .1) T2 args1
+          (m1 (c .before .before) (c .before .slice-known .given)) (c .packet)
+
       abbrev pub Need-accept-body-requires : Type 0
       Need-accept-body-requires = (c : After-packet) → s2 .asks (m2 (c .before) (After-packet·gave c))
-      abbrev pub m3 : (before : After-packet) → (given : s2 .gives (m2 (before .before) (After-packet·gave before))) → Typed.Mo T4
+
+      abbrev pub m3 : (before : After-packet) → (given : s2 .gives (m2 (before .before) (After-packet·gave before))) →
+          Typed.Mo T4
       m3 = λ before given. s2 .next (m2 (before .before) (After-packet·gave before)) given
+
       module _ (before· : After-packet) where
         abbrev pub After-accept-body·own : Type 0
-        After-accept-body·own = Called.Called ps·1 r·1 (claims· .3) T3 tt (m2 (before· .before) (After-packet·gave before·))
+        After-accept-body·own = Called.Called ps·1 r·1 (claims· .3) T3 tt
+            (m2 (before· .before) (After-packet·gave before·))
+
       pub record After-accept-body : Type 0 where
         pub before : After-packet
         pub accept-body : After-accept-body·own before
-      abbrev pub After-accept-body·gave : (c : After-accept-body) → s2 .gives (m2 (c .before .before) (After-packet·gave (c .before)))
-      After-accept-body·gave = λ c. Called.given ps·1 r·1 (claims· .3) T3 tt (m2 (c .before .before) (After-packet·gave (c .before))) (c .accept-body)
-      abbrev pub m4 : (before : After-packet) → (given : s2 .gives (m2 (before .before) (After-packet·gave before))) → Typed.Mo T5
+
+      abbrev pub After-accept-body·gave : (c : After-accept-body) → s2 .gives
+          (m2 (c .before .before) (After-packet·gave (c .before)))
+      After-accept-body·gave = λ c. Called.given ps·1 r·1 (claims· .3) T3 tt
+          (m2 (c .before .before) (After-packet·gave (c .before))) (c .accept-body)
+
+      abbrev pub m4 : (before : After-packet) → (given : s2 .gives (m2 (before .before) (After-packet·gave before))) →
+          Typed.Mo T5
       m4 = λ before given. s3 (m3 before given)
-      abbrev pub m5 : (before : After-packet) → (given : s2 .gives (m2 (before .before) (After-packet·gave before))) → Typed.Mo T6
+
+      abbrev pub m5 : (before : After-packet) → (given : s2 .gives (m2 (before .before) (After-packet·gave before))) →
+          Typed.Mo T6
       m5 = λ before given. s4 (m4 before given)
-      abbrev pub m6 : (before : After-accept-body) → (given : s6 .gives (m5 (before .before) (After-accept-body·gave before))) → Typed.Mo T8
+
+      abbrev pub m6 : (before : After-accept-body) → (given : s6 .gives
+          (m5 (before .before) (After-accept-body·gave before))) → Typed.Mo T8
       m6 = λ before given. s6 .next (m5 (before .before) (After-accept-body·gave before)) given
-      abbrev pub m7 : (before : After-accept-body) → (given : s6 .gives (m5 (before .before) (After-accept-body·gave before))) → Typed.Mo T9
+
+      abbrev pub m7 : (before : After-accept-body) → (given : s6 .gives
+          (m5 (before .before) (After-accept-body·gave before))) → Typed.Mo T9
       m7 = λ before given. s7 .next (m6 before given)
+
       module _ (before· : After-accept-body) where
         pub record After-deliver-arg·own : Type 0 where
           pub given : s6 .gives (m5 (before· .before) (After-accept-body·gave before·))
+
       pub record After-deliver-arg : Type 0 where
         pub before : After-accept-body
         pub deliver-arg : After-deliver-arg·own before
-      abbrev pub m8 : (before : After-deliver-arg) → (given : s9 .gives (m7 (before .before) (before .deliver-arg .given))) → Typed.Mo T11
+
+      abbrev pub m8 : (before : After-deliver-arg) → (given : s9 .gives
+          (m7 (before .before) (before .deliver-arg .given))) → Typed.Mo T11
       m8 = λ before given. s9 .next (m7 (before .before) (before .deliver-arg .given)) given
-      abbrev pub m9 : (before : After-deliver-arg) → (given : s9 .gives (m7 (before .before) (before .deliver-arg .given))) → Typed.Mo T12
+
+      abbrev pub m9 : (before : After-deliver-arg) → (given : s9 .gives
+          (m7 (before .before) (before .deliver-arg .given))) → Typed.Mo T12
       m9 = λ before given. s10 .next (m8 before given)
+
       module _ (before· : After-deliver-arg) where
         pub record After-deliver-arg2·own : Type 0 where
           pub given : s9 .gives (m7 (before· .before) (before· .deliver-arg .given))
+
       pub record After-deliver-arg2 : Type 0 where
         pub before : After-deliver-arg
         pub deliver-arg2 : After-deliver-arg2·own before
-      abbrev pub m10 : (before : After-deliver-arg2) → (given : s12 .gives (m9 (before .before) (before .deliver-arg2 .given))) → Typed.Mo T14
+
+      abbrev pub m10 : (before : After-deliver-arg2) → (given : s12 .gives
+          (m9 (before .before) (before .deliver-arg2 .given))) → Typed.Mo T14
       m10 = λ before given. s12 .next (m9 (before .before) (before .deliver-arg2 .given)) given
-      abbrev pub m11 : (before : After-deliver-arg2) → (given : s12 .gives (m9 (before .before) (before .deliver-arg2 .given))) → Typed.Mo T15
+
+      abbrev pub m11 : (before : After-deliver-arg2) → (given : s12 .gives
+          (m9 (before .before) (before .deliver-arg2 .given))) → Typed.Mo T15
       m11 = λ before given. s13 .next (m10 before given)
+
       module _ (before· : After-deliver-arg2) where
         pub record After-deliver-arg3·own : Type 0 where
           pub given : s12 .gives (m9 (before· .before) (before· .deliver-arg2 .given))
+
       pub record After-deliver-arg3 : Type 0 where
         pub before : After-deliver-arg2
         pub deliver-arg3 : After-deliver-arg3·own before
-      abbrev pub m12 : (before : After-deliver-arg3) → (given : s15 .gives (m11 (before .before) (before .deliver-arg3 .given))) → Typed.Mo T17
+
+      abbrev pub m12 : (before : After-deliver-arg3) → (given : s15 .gives
+          (m11 (before .before) (before .deliver-arg3 .given))) → Typed.Mo T17
       m12 = λ before given. s15 .next (m11 (before .before) (before .deliver-arg3 .given)) given
-      abbrev pub m13 : (before : After-deliver-arg3) → (given : s15 .gives (m11 (before .before) (before .deliver-arg3 .given))) → Typed.Mo T18
+
+      abbrev pub m13 : (before : After-deliver-arg3) → (given : s15 .gives
+          (m11 (before .before) (before .deliver-arg3 .given))) → Typed.Mo T18
       m13 = λ before given. s16 .next (m12 before given)
+
       module _ (before· : After-deliver-arg3) where
         pub record After-deliver-arg4·own : Type 0 where
           pub given : s15 .gives (m11 (before· .before) (before· .deliver-arg3 .given))
+
       pub record After-deliver-arg4 : Type 0 where
         pub before : After-deliver-arg3
         pub deliver-arg4 : After-deliver-arg4·own before
-      abbrev pub m14 : (before : After-deliver-arg4) → (given : s18 .gives (m13 (before .before) (before .deliver-arg4 .given))) → Typed.Mo T20
+
+      abbrev pub m14 : (before : After-deliver-arg4) → (given : s18 .gives
+          (m13 (before .before) (before .deliver-arg4 .given))) → Typed.Mo T20
       m14 = λ before given. s18 .next (m13 (before .before) (before .deliver-arg4 .given)) given
-      abbrev pub m15 : (before : After-deliver-arg4) → (given : s18 .gives (m13 (before .before) (before .deliver-arg4 .given))) → Typed.Mo T21
+
+      abbrev pub m15 : (before : After-deliver-arg4) → (given : s18 .gives
+          (m13 (before .before) (before .deliver-arg4 .given))) → Typed.Mo T21
       m15 = λ before given. s19 .next (m14 before given)
+
       module _ (before· : After-deliver-arg4) where
         pub record After-deliver-arg5·own : Type 0 where
           pub given : s18 .gives (m13 (before· .before) (before· .deliver-arg4 .given))
+
       pub record After-deliver-arg5 : Type 0 where
         pub before : After-deliver-arg4
         pub deliver-arg5 : After-deliver-arg5·own before
-      abbrev pub m16 : (before : After-deliver-arg5) → (given : s21 .gives (m15 (before .before) (before .deliver-arg5 .given))) → Typed.Mo T23
+
+      abbrev pub m16 : (before : After-deliver-arg5) → (given : s21 .gives
+          (m15 (before .before) (before .deliver-arg5 .given))) → Typed.Mo T23
       m16 = λ before given. s21 .next (m15 (before .before) (before .deliver-arg5 .given)) given
+
       module _ (before· : After-deliver-arg5) where
         pub record After-body·own : Type 0 where
           pub given : s21 .gives (m15 (before· .before) (before· .deliver-arg5 .given))
+
       pub record After-body : Type 0 where
         pub before : After-deliver-arg5
         pub body : After-body·own before
+
       abbrev pub Need-slice-aggregate-deliver : Type 0
-      Need-slice-aggregate-deliver = (c : After-body) → Relend.CountIs T23 21 22 (λ x. x) (λ u. 20) (m16 (c .before) (c .body .given))
-      abbrev pub m17 : (before : After-deliver-arg5) → (given : s21 .gives (m15 (before .before) (before .deliver-arg5 .given))) → Typed.Mo T24
+      Need-slice-aggregate-deliver = (c : After-body) → Relend.CountIs T23 21 22 (λ x. x) (λ u. 20)
+          (m16 (c .before) (c .body .given))
+
+      abbrev pub m17 : (before : After-deliver-arg5) → (given : s21 .gives
+          (m15 (before .before) (before .deliver-arg5 .given))) → Typed.Mo T24
       m17 = λ before given. s22 .next (m16 before given)
+
       abbrev pub Need-deliver-requires : Type 0
       Need-deliver-requires = (c : After-body) → s23 .asks (m17 (c .before) (c .body .given))
-      abbrev pub m18 : (before : After-body) → (given : s23 .gives (m17 (before .before) (before .body .given))) → Typed.Mo T25
+
+      abbrev pub m18 : (before : After-body) → (given : s23 .gives (m17 (before .before) (before .body .given))) →
+          Typed.Mo T25
       m18 = λ before given. s23 .next (m17 (before .before) (before .body .given)) given
+
       module _ (before· : After-body) where
         abbrev pub After-deliver·own : Type 0
-        After-deliver·own = Called.Called ps·2 r·2 (claims· .5) T24 (record { pos = 12; ty = Syntax.tyRef Syntax.erased Syntax.mut RelayPending.to;
-            ref = λ x. x; }, (record { pos = 14; ty = Syntax.tyRef Syntax.erased Syntax.mut RelayCircuit.to; ref = λ x. x; }, (record { pos = 16; ty =
-            Syntax.tyRef Syntax.erased Syntax.mut ReservationUsage.to; ref = λ x. x; }, (record { pos = 18; ty = Syntax.tyRef Syntax.erased Syntax.mut
-            InflightAction.to; ref = λ x. x; }, (record { pos = 20; ty = Syntax.tyRef Syntax.erased Syntax.mut (Syntax.tyInt Syntax.w32); ref = λ x.
-            x; }, (record { pos = 6; st = List.[]; d = 0; at = λ x. x }, (record { pos = 8; st = List.[]; d = 0; at = λ x. x }, (Num.vLit 2, (record {
-            pos = 22; ty = Syntax.tyRef Syntax.erased Syntax.imm (Syntax.tyInt Syntax.w8); ref = λ x. x; }, tt,),),),),),),),),) (m17 (before·
-            .before) (before· .body .given))
+        After-deliver·own = Called.Called ps·2 r·2 (claims· .5) T24 args23
+            (m17 (before· .before) (before· .body .given))
+
       pub record After-deliver : Type 0 where
         pub before : After-body
         pub deliver : After-deliver·own before
-      abbrev pub After-deliver·gave : (c : After-deliver) → s23 .gives (m17 (c .before .before) (c .before .body .given))
-      After-deliver·gave = λ c. Called.given ps·2 r·2 (claims· .5) T24 (record { pos = 12; ty = Syntax.tyRef Syntax.erased Syntax.mut RelayPending.to;
-          ref = λ x. x; }, (record { pos = 14; ty = Syntax.tyRef Syntax.erased Syntax.mut RelayCircuit.to; ref = λ x. x; }, (record { pos = 16; ty =
-          Syntax.tyRef Syntax.erased Syntax.mut ReservationUsage.to; ref = λ x. x; }, (record { pos = 18; ty = Syntax.tyRef Syntax.erased Syntax.mut
-          InflightAction.to; ref = λ x. x; }, (record { pos = 20; ty = Syntax.tyRef Syntax.erased Syntax.mut (Syntax.tyInt Syntax.w32); ref = λ x. x;
-          }, (record { pos = 6; st = List.[]; d = 0; at = λ x. x }, (record { pos = 8; st = List.[]; d = 0; at = λ x. x }, (Num.vLit 2, (record { pos
-          = 22; ty = Syntax.tyRef Syntax.erased Syntax.imm (Syntax.tyInt Syntax.w8); ref = λ x. x; }, tt,),),),),),),),),) (m17 (c .before .before) (c
-          .before .body .given)) (c .deliver)
-      abbrev pub m19 : (before : After-body) → (given : s23 .gives (m17 (before .before) (before .body .given))) → Typed.Mo T26
+
+      abbrev pub After-deliver·gave : (c : After-deliver) → s23 .gives
+          (m17 (c .before .before) (c .before .body .given))
+      After-deliver·gave = λ c. Called.given ps·2 r·2 (claims· .5) T24 args23
+          (m17 (c .before .before) (c .before .body .given)) (c .deliver)
+
+      abbrev pub m19 : (before : After-body) → (given : s23 .gives (m17 (before .before) (before .body .given))) →
+          Typed.Mo T26
       m19 = λ before given. s24 (m18 before given)
-      abbrev pub m20 : (before : After-body) → (given : s23 .gives (m17 (before .before) (before .body .given))) → Typed.Mo T27
+
+      abbrev pub m20 : (before : After-body) → (given : s23 .gives (m17 (before .before) (before .body .given))) →
+          Typed.Mo T27
       m20 = λ before given. s25 (m19 before given)
-      abbrev pub m21 : (before : After-body) → (given : s23 .gives (m17 (before .before) (before .body .given))) → Typed.Mo T28
+
+      abbrev pub m21 : (before : After-body) → (given : s23 .gives (m17 (before .before) (before .body .given))) →
+          Typed.Mo T28
       m21 = λ before given. s26 (m20 before given)
-      abbrev pub m22 : (before : After-deliver) → (given : s28 .gives (m21 (before .before) (After-deliver·gave before))) → Typed.Mo T30
+
+      abbrev pub m22 : (before : After-deliver) → (given : s28 .gives
+          (m21 (before .before) (After-deliver·gave before))) → Typed.Mo T30
       m22 = λ before given. s28 .next (m21 (before .before) (After-deliver·gave before)) given
+
       module _ (before· : After-deliver) where
         pub record After-pending·own : Type 0 where
           pub given : s28 .gives (m21 (before· .before) (After-deliver·gave before·))
+
       pub record After-pending : Type 0 where
         pub before : After-deliver
         pub pending : After-pending·own before
-      abbrev pub m23 : (before : After-pending) → (given : s31 .gives (m22 (before .before) (before .pending .given))) → Typed.Mo T33
+
+      abbrev pub m23 : (before : After-pending) → (given : s31 .gives (m22 (before .before) (before .pending .given)))
+          → Typed.Mo T33
       m23 = λ before given. s31 .next (m22 (before .before) (before .pending .given)) given
+
       module _ (before· : After-pending) where
         pub record After-circuits·own : Type 0 where
           pub given : s31 .gives (m22 (before· .before) (before· .pending .given))
+
       pub record After-circuits : Type 0 where
         pub before : After-pending
         pub circuits : After-circuits·own before
-      abbrev pub m24 : (before : After-circuits) → (given : s34 .gives (m23 (before .before) (before .circuits .given))) → Typed.Mo T36
+
+      abbrev pub m24 : (before : After-circuits) → (given : s34 .gives (m23 (before .before) (before .circuits .given)))
+          → Typed.Mo T36
       m24 = λ before given. s34 .next (m23 (before .before) (before .circuits .given)) given
+
       module _ (before· : After-circuits) where
         pub record After-ledger·own : Type 0 where
           pub given : s34 .gives (m23 (before· .before) (before· .circuits .given))
+
       pub record After-ledger : Type 0 where
         pub before : After-circuits
         pub ledger : After-ledger·own before
-      abbrev pub m25 : (before : After-ledger) → (given : s37 .gives (m24 (before .before) (before .ledger .given))) → Typed.Mo T39
+
+      abbrev pub m25 : (before : After-ledger) → (given : s37 .gives (m24 (before .before) (before .ledger .given))) →
+          Typed.Mo T39
       m25 = λ before given. s37 .next (m24 (before .before) (before .ledger .given)) given
+
       module _ (before· : After-ledger) where
         pub record After-inflight·own : Type 0 where
           pub given : s37 .gives (m24 (before· .before) (before· .ledger .given))
+
       pub record After-inflight : Type 0 where
         pub before : After-ledger
         pub inflight : After-inflight·own before
-      abbrev pub m26 : (before : After-inflight) → (given : s40 .gives (m25 (before .before) (before .inflight .given))) → Typed.Mo T42
+
+      abbrev pub m26 : (before : After-inflight) → (given : s40 .gives (m25 (before .before) (before .inflight .given)))
+          → Typed.Mo T42
       m26 = λ before given. s40 .next (m25 (before .before) (before .inflight .given)) given
+
       module _ (before· : After-inflight) where
         pub record After-out·own : Type 0 where
           pub given : s40 .gives (m25 (before· .before) (before· .inflight .given))
+
       pub record After-out : Type 0 where
         pub before : After-inflight
         pub out : After-out·own before
-      abbrev pub m27 : (before : After-out) → (given : s41 .gives (m26 (before .before) (before .out .given))) → Typed.Mo T43
+
+      abbrev pub m27 : (before : After-out) → (given : s41 .gives (m26 (before .before) (before .out .given))) →
+          Typed.Mo T43
       m27 = λ before given. s41 .next (m26 (before .before) (before .out .given)) given
-      abbrev pub m28 : (before : After-out) → (given : s41 .gives (m26 (before .before) (before .out .given))) → Typed.Mo T46
+
+      abbrev pub m28 : (before : After-out) → (given : s41 .gives (m26 (before .before) (before .out .given))) →
+          Typed.Mo T46
       m28 = λ before given. s44 (m27 before given)
-      abbrev pub m29 : (before : After-out) → (given : s41 .gives (m26 (before .before) (before .out .given))) → Typed.Mo T48
+
+      abbrev pub m29 : (before : After-out) → (given : s41 .gives (m26 (before .before) (before .out .given))) →
+          Typed.Mo T48
       m29 = λ before given. s46 (m28 before given)
-      abbrev pub m30 : (before : After-out) → (given : s41 .gives (m26 (before .before) (before .out .given))) → Typed.Mo T49
+
+      abbrev pub m30 : (before : After-out) → (given : s41 .gives (m26 (before .before) (before .out .given))) →
+          Typed.Mo T49
       m30 = λ before given. s47 (m29 before given)
+
       module _ (before· : After-out) where
         pub record After-slice-known2·own : Type 0 where
           pub given : s41 .gives (m26 (before· .before) (before· .out .given))
+
       pub record After-slice-known2 : Type 0 where
         pub before : After-out
         pub slice-known2 : After-slice-known2·own before
+
       abbrev pub Need-same-length : Type 0
-      Need-same-length = (c : After-slice-known2) → MutSlice.SameLen (Row.get 1 (T49 .locals) (m30 (c .before) (c .slice-known2 .given))) (dens (c
-          .before .before .before .before .before .before .before .before .before .before .before .before .before .before .before .before .κs) (c
-          .before .before .before .before .before .before .before .before .before .before .before .before .before .before .before .before .args) .0)
+      Need-same-length = (c : After-slice-known2) → MutSlice.SameLen (Row.get 1 (T49 .locals)
+          (m30 (c .before) (c .slice-known2 .given))) (dens (c .before .before .before .before .before .before .before
+          .before .before .before .before .before .before .before .before .before .κs) (c .before .before .before
+          .before .before .before .before .before .before .before .before .before .before .before .before .before .args)
+          .0)
+
       abbrev pub Need-same-length-2 : Type 0
-      Need-same-length-2 = (c : After-slice-known2) → MutSlice.SameLen (Row.get 2 (T49 .locals) (m30 (c .before) (c .slice-known2 .given))) (dens (c
-          .before .before .before .before .before .before .before .before .before .before .before .before .before .before .before .before .κs) (c
-          .before .before .before .before .before .before .before .before .before .before .before .before .before .before .before .before .args) .1
-          .0)
-      abbrev pub Need-same-length-3 : Type 0
-      Need-same-length-3 = (c : After-slice-known2) → MutSlice.SameLen (Row.get 3 (T49 .locals) (m30 (c .before) (c .slice-known2 .given))) (dens (c
-          .before .before .before .before .before .before .before .before .before .before .before .before .before .before .before .before .κs) (c
-          .before .before .before .before .before .before .before .before .before .before .before .before .before .before .before .before .args) .1 .1
-          .0)
-      abbrev pub Need-same-length-4 : Type 0
-      Need-same-length-4 = (c : After-slice-known2) → MutSlice.SameLen (Row.get 4 (T49 .locals) (m30 (c .before) (c .slice-known2 .given))) (dens (c
-          .before .before .before .before .before .before .before .before .before .before .before .before .before .before .before .before .κs) (c
-          .before .before .before .before .before .before .before .before .before .before .before .before .before .before .before .before .args) .1 .1
+      Need-same-length-2 = (c : After-slice-known2) → MutSlice.SameLen (Row.get 2 (T49 .locals)
+          (m30 (c .before) (c .slice-known2 .given))) (dens (c .before .before .before .before .before .before .before
+          .before .before .before .before .before .before .before .before .before .κs) (c .before .before .before
+          .before .before .before .before .before .before .before .before .before .before .before .before .before .args)
           .1 .0)
-      abbrev pub Need-same-length-5 : Type 0
-      Need-same-length-5 = (c : After-slice-known2) → MutSlice.SameLen (Row.get 5 (T49 .locals) (m30 (c .before) (c .slice-known2 .given))) (dens (c
-          .before .before .before .before .before .before .before .before .before .before .before .before .before .before .before .before .κs) (c
-          .before .before .before .before .before .before .before .before .before .before .before .before .before .before .before .before .args) .1 .1
+
+      abbrev pub Need-same-length-3 : Type 0
+      Need-same-length-3 = (c : After-slice-known2) → MutSlice.SameLen (Row.get 3 (T49 .locals)
+          (m30 (c .before) (c .slice-known2 .given))) (dens (c .before .before .before .before .before .before .before
+          .before .before .before .before .before .before .before .before .before .κs) (c .before .before .before
+          .before .before .before .before .before .before .before .before .before .before .before .before .before .args)
           .1 .1 .0)
+
+      abbrev pub Need-same-length-4 : Type 0
+      Need-same-length-4 = (c : After-slice-known2) → MutSlice.SameLen (Row.get 4 (T49 .locals)
+          (m30 (c .before) (c .slice-known2 .given))) (dens (c .before .before .before .before .before .before .before
+          .before .before .before .before .before .before .before .before .before .κs) (c .before .before .before
+          .before .before .before .before .before .before .before .before .before .before .before .before .before .args)
+          .1 .1 .1 .0)
+
+      abbrev pub Need-same-length-5 : Type 0
+      Need-same-length-5 = (c : After-slice-known2) → MutSlice.SameLen (Row.get 5 (T49 .locals)
+          (m30 (c .before) (c .slice-known2 .given))) (dens (c .before .before .before .before .before .before .before
+          .before .before .before .before .before .before .before .before .before .κs) (c .before .before .before
+          .before .before .before .before .before .before .before .before .before .before .before .before .before .args)
+          .1 .1 .1 .1 .0)
+
       abbrev pub Need-returns : Type 0
-      Need-returns = (c : After-slice-known2) → Post· (c .before .before .before .before .before .before .before .before .before .before .before
-          .before .before .before .before .before .κs) (dens (c .before .before .before .before .before .before .before .before .before .before
-          .before .before .before .before .before .before .κs) (c .before .before .before .before .before .before .before .before .before .before
-          .before .before .before .before .before .before .args)) (Function.resV r (c .before .before .before .before .before .before .before .before
-          .before .before .before .before .before .before .before .before .κs) (m30 (c .before) (c .slice-known2 .given) .0)) (Clauses.atExit
-          (Kinds.endedOf 5 ps r) (c .before .before .before .before .before .before .before .before .before .before .before .before .before .before
-          .before .before .κs) (dens (c .before .before .before .before .before .before .before .before .before .before .before .before .before
-          .before .before .before .κs) (c .before .before .before .before .before .before .before .before .before .before .before .before .before
-          .before .before .before .args)) (Enter.lastsP (c .before .before .before .before .before .before .before .before .before .before .before
-          .before .before .before .before .before .κs) 1 ps xs (dens (c .before .before .before .before .before .before .before .before .before
-          .before .before .before .before .before .before .before .κs) (c .before .before .before .before .before .before .before .before .before
-          .before .before .before .before .before .before .before .args)) (m30 (c .before) (c .slice-known2 .given) .1)))
-      module _ (packet-requires : Need-packet-requires) (accept-body-requires : Need-accept-body-requires) (slice-aggregate-deliver :
-          Need-slice-aggregate-deliver) (deliver-requires : Need-deliver-requires) (same-length : Need-same-length) (same-length-2 :
-          Need-same-length-2) (same-length-3 : Need-same-length-3) (same-length-4 : Need-same-length-4) (same-length-5 : Need-same-length-5) (returns
-          : Need-returns) where
-        lay3 : (c : After-deliver) → at24 (W0 (c .before .before .before .before .before .before .before .before .before .before .κs) (c .before
-            .before .before .before .before .before .before .before .before .before .args)) (m18 (c .before) (After-deliver·gave c))
-        lay3 = λ c. (Path.refl, λ g. (Path.refl, λ g'. (Path.refl, λ g''. (Path.refl, λ g'3. (Path.refl, λ g'4. λ g'5. ((MutSlice.fix-len (Row.get 1
-            (T49 .locals) (m30 record { before = record { before = record { before = record { before = record { before = record { before = c .before;
-            deliver = c .deliver }; pending = record { given = g }; }; circuits = record { given = g' }; }; ledger = record { given = g'' }; };
-            inflight = record { given = g'3 }; }; out = record { given = g'4 }; } g'5) .ptr) (Row.get 1 (T49 .locals) (m30 record { before = record {
-            before = record { before = record { before = record { before = record { before = c .before; deliver = c .deliver }; pending = record {
-            given = g }; }; circuits = record { given = g' }; }; ledger = record { given = g'' }; }; inflight = record { given = g'3 }; }; out =
-            record { given = g'4 }; } g'5) .name) (Row.get 1 (T49 .locals) (m30 record { before = record { before = record { before = record { before
-            = record { before = record { before = c .before; deliver = c .deliver }; pending = record { given = g }; }; circuits = record { given = g'
-            }; }; ledger = record { given = g'' }; }; inflight = record { given = g'3 }; }; out = record { given = g'4 }; } g'5) .now) (dens (c
-            .before .before .before .before .before .before .before .before .before .before .κs) (c .before .before .before .before .before .before
-            .before .before .before .before .args) .0 .now) (same-length record { before = record { before = record { before = record { before =
-            record { before = record { before = record { before = c .before; deliver = c .deliver; }; pending = record { given = g }; }; circuits =
-            record { given = g' }; }; ledger = record { given = g'' }; }; inflight = record { given = g'3 }; }; out = record { given = g'4 }; };
-            slice-known2 = record { given = g'5 }; }), (MutSlice.fix-len (Row.get 2 (T49 .locals) (m30 record { before = record { before = record {
-            before = record { before = record { before = record { before = c .before; deliver = c .deliver }; pending = record { given = g }; };
-            circuits = record { given = g' }; }; ledger = record { given = g'' }; }; inflight = record { given = g'3 }; }; out = record { given = g'4
-            }; } g'5) .ptr) (Row.get 2 (T49 .locals) (m30 record { before = record { before = record { before = record { before = record { before =
-            record { before = c .before; deliver = c .deliver }; pending = record { given = g }; }; circuits = record { given = g' }; }; ledger =
-            record { given = g'' }; }; inflight = record { given = g'3 }; }; out = record { given = g'4 }; } g'5) .name) (Row.get 2 (T49 .locals) (m30
-            record { before = record { before = record { before = record { before = record { before = record { before = c .before; deliver = c
-            .deliver }; pending = record { given = g }; }; circuits = record { given = g' }; }; ledger = record { given = g'' }; }; inflight = record
-            { given = g'3 }; }; out = record { given = g'4 }; } g'5) .now) (dens (c .before .before .before .before .before .before .before .before
-            .before .before .κs) (c .before .before .before .before .before .before .before .before .before .before .args) .1 .0 .now) (same-length-2
-            record { before = record { before = record { before = record { before = record { before = record { before = record { before = c .before;
-            deliver = c .deliver; }; pending = record { given = g }; }; circuits = record { given = g' }; }; ledger = record { given = g'' }; };
-            inflight = record { given = g'3 }; }; out = record { given = g'4 }; }; slice-known2 = record { given = g'5 }; }), (MutSlice.fix-len
-            (Row.get 3 (T49 .locals) (m30 record { before = record { before = record { before = record { before = record { before = record { before =
-            c .before; deliver = c .deliver }; pending = record { given = g }; }; circuits = record { given = g' }; }; ledger = record { given = g''
-            }; }; inflight = record { given = g'3 }; }; out = record { given = g'4 }; } g'5) .ptr) (Row.get 3 (T49 .locals) (m30 record { before =
-            record { before = record { before = record { before = record { before = record { before = c .before; deliver = c .deliver }; pending =
-            record { given = g }; }; circuits = record { given = g' }; }; ledger = record { given = g'' }; }; inflight = record { given = g'3 }; };
-            out = record { given = g'4 }; } g'5) .name) (Row.get 3 (T49 .locals) (m30 record { before = record { before = record { before = record {
-            before = record { before = record { before = c .before; deliver = c .deliver }; pending = record { given = g }; }; circuits = record {
-            given = g' }; }; ledger = record { given = g'' }; }; inflight = record { given = g'3 }; }; out = record { given = g'4 }; } g'5) .now)
-            (dens (c .before .before .before .before .before .before .before .before .before .before .κs) (c .before .before .before .before .before
-            .before .before .before .before .before .args) .1 .1 .0 .now) (same-length-3 record { before = record { before = record { before = record
-            { before = record { before = record { before = record { before = c .before; deliver = c .deliver; }; pending = record { given = g }; };
-            circuits = record { given = g' }; }; ledger = record { given = g'' }; }; inflight = record { given = g'3 }; }; out = record { given = g'4
-            }; }; slice-known2 = record { given = g'5 }; }), (MutSlice.fix-len (Row.get 4 (T49 .locals) (m30 record { before = record { before =
-            record { before = record { before = record { before = record { before = c .before; deliver = c .deliver; }; pending = record { given = g
-            }; }; circuits = record { given = g' }; }; ledger = record { given = g'' }; }; inflight = record { given = g'3 }; }; out = record { given
-            = g'4 }; } g'5) .ptr) (Row.get 4 (T49 .locals) (m30 record { before = record { before = record { before = record { before = record {
-            before = record { before = c .before; deliver = c .deliver; }; pending = record { given = g }; }; circuits = record { given = g' }; };
-            ledger = record { given = g'' }; }; inflight = record { given = g'3 }; }; out = record { given = g'4 }; } g'5) .name) (Row.get 4 (T49
-            .locals) (m30 record { before = record { before = record { before = record { before = record { before = record { before = c .before;
-            deliver = c .deliver; }; pending = record { given = g }; }; circuits = record { given = g' }; }; ledger = record { given = g'' }; };
-            inflight = record { given = g'3 }; }; out = record { given = g'4 }; } g'5) .now) (dens (c .before .before .before .before .before .before
-            .before .before .before .before .κs) (c .before .before .before .before .before .before .before .before .before .before .args) .1 .1 .1 .0
-            .now) (same-length-4 record { before = record { before = record { before = record { before = record { before = record { before = record {
-            before = c .before; deliver = c .deliver; }; pending = record { given = g }; }; circuits = record { given = g' }; }; ledger = record {
-            given = g'' }; }; inflight = record { given = g'3 }; }; out = record { given = g'4 }; }; slice-known2 = record { given = g'5 }; }),
-            (MutSlice.fix-len (Row.get 5 (T49 .locals) (m30 record { before = record { before = record { before = record { before = record { before =
-            record { before = c .before; deliver = c .deliver; }; pending = record { given = g }; }; circuits = record { given = g' }; }; ledger =
-            record { given = g'' }; }; inflight = record { given = g'3 }; }; out = record { given = g'4 }; } g'5) .ptr) (Row.get 5 (T49 .locals) (m30
-            record { before = record { before = record { before = record { before = record { before = record { before = c .before; deliver = c
-            .deliver; }; pending = record { given = g }; }; circuits = record { given = g' }; }; ledger = record { given = g'' }; }; inflight = record
-            { given = g'3 }; }; out = record { given = g'4 }; } g'5) .name) (Row.get 5 (T49 .locals) (m30 record { before = record { before = record {
-            before = record { before = record { before = record { before = c .before; deliver = c .deliver; }; pending = record { given = g }; };
-            circuits = record { given = g' }; }; ledger = record { given = g'' }; }; inflight = record { given = g'3 }; }; out = record { given = g'4
-            }; } g'5) .now) (dens (c .before .before .before .before .before .before .before .before .before .before .κs) (c .before .before .before
-            .before .before .before .before .before .before .before .args) .1 .1 .1 .1 .0 .now) (same-length-5 record { before = record { before =
-            record { before = record { before = record { before = record { before = record { before = c .before; deliver = c .deliver; }; pending =
-            record { given = g }; }; circuits = record { given = g' }; }; ledger = record { given = g'' }; }; inflight = record { given = g'3 }; };
-            out = record { given = g'4 }; }; slice-known2 = record { given = g'5 }; }), (tt, (tt, tt)),),),),),), returns record { before = record {
-            before = record { before = record { before = record { before = record { before = record { before = c .before; deliver = c .deliver };
-            pending = record { given = g }; }; circuits = record { given = g' }; }; ledger = record { given = g'' }; }; inflight = record { given =
-            g'3 }; }; out = record { given = g'4 }; }; slice-known2 = record { given = g'5 }; },),),),),),)
-        lay2 : (c : After-accept-body) → at45 (W0 (c .before .before .before .κs) (c .before .before .before .args)) (m3 (c .before)
-            (After-accept-body·gave c))
-        lay2 = λ c. λ g. (Path.refl, λ g'. (Path.refl, λ g''. (Path.refl, λ g'3. (Path.refl, λ g'4. (Path.refl, λ g'5. (Relend.count-is T23 21 22 (λ
-            x. x) (λ u. 20) (m16 record { before = record { before = record { before = record { before = record { before = record { before = c
-            .before; accept-body = c .accept-body; }; deliver-arg = record { given = g }; }; deliver-arg2 = record { given = g' }; }; deliver-arg3 =
-            record { given = g'' }; }; deliver-arg4 = record { given = g'3 }; }; deliver-arg5 = record { given = g'4 }; } g'5)
-            (slice-aggregate-deliver record { before = record { before = record { before = record { before = record { before = record { before =
-            record { before = c .before; accept-body = c .accept-body; }; deliver-arg = record { given = g }; }; deliver-arg2 = record { given = g' };
-            }; deliver-arg3 = record { given = g'' }; }; deliver-arg4 = record { given = g'3 }; }; deliver-arg5 = record { given = g'4 }; }; body =
-            record { given = g'5 }; }), (deliver-requires record { before = record { before = record { before = record { before = record { before =
-            record { before = record { before = c .before; accept-body = c .accept-body; }; deliver-arg = record { given = g }; }; deliver-arg2 =
-            record { given = g' }; }; deliver-arg3 = record { given = g'' }; }; deliver-arg4 = record { given = g'3 }; }; deliver-arg5 = record {
-            given = g'4 }; }; body = record { given = g'5 }; }, λ g'6. lay3 record { before = record { before = record { before = record { before =
-            record { before = record { before = record { before = record { before = c .before; accept-body = c .accept-body; }; deliver-arg = record {
-            given = g }; }; deliver-arg2 = record { given = g' }; }; deliver-arg3 = record { given = g'' }; }; deliver-arg4 = record { given = g'3 };
-            }; deliver-arg5 = record { given = g'4 }; }; body = record { given = g'5 }; }; deliver = Called.called ps·2 r·2 (claims· .5) T24 (record {
-            pos = 12; ty = Syntax.tyRef Syntax.erased Syntax.mut RelayPending.to; ref = λ x. x; }, (record { pos = 14; ty = Syntax.tyRef Syntax.erased
-            Syntax.mut RelayCircuit.to; ref = λ x. x; }, (record { pos = 16; ty = Syntax.tyRef Syntax.erased Syntax.mut ReservationUsage.to; ref = λ
-            x. x; }, (record { pos = 18; ty = Syntax.tyRef Syntax.erased Syntax.mut InflightAction.to; ref = λ x. x; }, (record { pos = 20; ty =
-            Syntax.tyRef Syntax.erased Syntax.mut (Syntax.tyInt Syntax.w32); ref = λ x. x; }, (record { pos = 6; st = List.[]; d = 0; at = λ x. x },
-            (record { pos = 8; st = List.[]; d = 0; at = λ x. x }, (Num.vLit 2, (record { pos = 22; ty = Syntax.tyRef Syntax.erased Syntax.imm
-            (Syntax.tyInt Syntax.w8); ref = λ x. x; }, tt,),),),),),),),),) (m17 record { before = record { before = record { before = record { before
-            = record { before = record { before = c .before; accept-body = c .accept-body; }; deliver-arg = record { given = g }; }; deliver-arg2 =
-            record { given = g' }; }; deliver-arg3 = record { given = g'' }; }; deliver-arg4 = record { given = g'3 }; }; deliver-arg5 = record {
-            given = g'4 }; } g'5) g'6; },),),),),),),)
-        lay1 : (c : After-packet) → at46 (W0 (c .before .before .κs) (c .before .before .args)) (m2 (c .before) (After-packet·gave c))
-        lay1 = λ c. (accept-body-requires record { before = c .before; packet = c .packet }, λ g. lay2 record { before = record { before = c .before;
-            packet = c .packet }; accept-body = Called.called ps·1 r·1 (claims· .3) T3 tt (m2 (c .before) (After-packet·gave c)) g; },)
+      Need-returns = (c : After-slice-known2) → Post· (c .before .before .before .before .before .before .before
+          .before .before .before .before .before .before .before .before .before .κs) (dens (c .before .before .before
+          .before .before .before .before .before .before .before .before .before .before .before .before .before .κs) (c
+          .before .before .before .before .before .before .before .before .before .before .before .before .before
+          .before .before .before .args)) (Function.resV r (c .before .before .before .before .before .before .before
+          .before .before .before .before .before .before .before .before .before .κs)
+          (m30 (c .before) (c .slice-known2 .given) .0)) (Clauses.atExit (Kinds.endedOf 5 ps r) (c .before .before
+          .before .before .before .before .before .before .before .before .before .before .before .before .before
+          .before .κs) (dens (c .before .before .before .before .before .before .before .before .before .before .before
+          .before .before .before .before .before .κs) (c .before .before .before .before .before .before .before
+          .before .before .before .before .before .before .before .before .before .args)) (Enter.lastsP (c .before
+          .before .before .before .before .before .before .before .before .before .before .before .before .before
+          .before .before .κs) 1 ps xs (dens (c .before .before .before .before .before .before .before .before .before
+          .before .before .before .before .before .before .before .κs) (c .before .before .before .before .before
+          .before .before .before .before .before .before .before .before .before .before .before .args))
+          (m30 (c .before) (c .slice-known2 .given) .1)))
+
+      module _ (packet-requires : Need-packet-requires) (accept-body-requires : Need-accept-body-requires)
+          (slice-aggregate-deliver : Need-slice-aggregate-deliver) (deliver-requires : Need-deliver-requires)
+          (same-length : Need-same-length) (same-length-2 : Need-same-length-2) (same-length-3 : Need-same-length-3)
+          (same-length-4 : Need-same-length-4) (same-length-5 : Need-same-length-5) (returns : Need-returns) where
+        lay3 : (c : After-deliver) → at24 (W0 (c .before .before .before .before .before .before .before .before
+            .before .before .κs) (c .before .before .before .before .before .before .before .before .before .before
+            .args)) (m18 (c .before) (After-deliver·gave c))
+        lay3 = λ c. (
+          Path.refl,
+          λ g. (
+            Path.refl,
+            λ g'. (
+              Path.refl,
+              λ g''. (
+                Path.refl,
+                λ g'3. (
+                  Path.refl,
+                  λ g'4. λ g'5. (
+                    (
+                      MutSlice.fix-len (Row.get 1 (T49 .locals) (m30
+                          record {
+                            before = record {
+                              before = record {
+                                before = record {
+                                  before = record {
+                                    before = record { before = c .before; deliver = c .deliver };
+                                    pending = record { given = g };
+                                  };
+                                  circuits = record { given = g' };
+                                };
+                                ledger = record { given = g'' };
+                              };
+                              inflight = record { given = g'3 };
+                            };
+                            out = record { given = g'4 };
+                          } g'5) .ptr) (Row.get 1 (T49 .locals) (m30
+                          record {
+                            before = record {
+                              before = record {
+                                before = record {
+                                  before = record {
+                                    before = record { before = c .before; deliver = c .deliver };
+                                    pending = record { given = g };
+                                  };
+                                  circuits = record { given = g' };
+                                };
+                                ledger = record { given = g'' };
+                              };
+                              inflight = record { given = g'3 };
+                            };
+                            out = record { given = g'4 };
+                          } g'5) .name) (Row.get 1 (T49 .locals) (m30
+                          record {
+                            before = record {
+                              before = record {
+                                before = record {
+                                  before = record {
+                                    before = record { before = c .before; deliver = c .deliver };
+                                    pending = record { given = g };
+                                  };
+                                  circuits = record { given = g' };
+                                };
+                                ledger = record { given = g'' };
+                              };
+                              inflight = record { given = g'3 };
+                            };
+                            out = record { given = g'4 };
+                          } g'5) .now) (dens (c .before .before .before .before .before .before .before .before .before
+                          .before .κs) (c .before .before .before .before .before .before .before .before .before
+                          .before .args) .0 .now) (same-length
+                          record {
+                            before = record {
+                              before = record {
+                                before = record {
+                                  before = record {
+                                    before = record {
+                                      before = record { before = c .before; deliver = c .deliver };
+                                      pending = record { given = g };
+                                    };
+                                    circuits = record { given = g' };
+                                  };
+                                  ledger = record { given = g'' };
+                                };
+                                inflight = record { given = g'3 };
+                              };
+                              out = record { given = g'4 };
+                            };
+                            slice-known2 = record { given = g'5 };
+                          }),
+                      (
+                        MutSlice.fix-len (Row.get 2 (T49 .locals) (m30
+                            record {
+                              before = record {
+                                before = record {
+                                  before = record {
+                                    before = record {
+                                      before = record { before = c .before; deliver = c .deliver };
+                                      pending = record { given = g };
+                                    };
+                                    circuits = record { given = g' };
+                                  };
+                                  ledger = record { given = g'' };
+                                };
+                                inflight = record { given = g'3 };
+                              };
+                              out = record { given = g'4 };
+                            } g'5) .ptr) (Row.get 2 (T49 .locals) (m30
+                            record {
+                              before = record {
+                                before = record {
+                                  before = record {
+                                    before = record {
+                                      before = record { before = c .before; deliver = c .deliver };
+                                      pending = record { given = g };
+                                    };
+                                    circuits = record { given = g' };
+                                  };
+                                  ledger = record { given = g'' };
+                                };
+                                inflight = record { given = g'3 };
+                              };
+                              out = record { given = g'4 };
+                            } g'5) .name) (Row.get 2 (T49 .locals) (m30
+                            record {
+                              before = record {
+                                before = record {
+                                  before = record {
+                                    before = record {
+                                      before = record { before = c .before; deliver = c .deliver };
+                                      pending = record { given = g };
+                                    };
+                                    circuits = record { given = g' };
+                                  };
+                                  ledger = record { given = g'' };
+                                };
+                                inflight = record { given = g'3 };
+                              };
+                              out = record { given = g'4 };
+                            } g'5) .now) (dens (c .before .before .before .before .before .before .before .before
+                            .before .before .κs) (c .before .before .before .before .before .before .before .before
+                            .before .before .args) .1 .0 .now) (same-length-2
+                            record {
+                              before = record {
+                                before = record {
+                                  before = record {
+                                    before = record {
+                                      before = record {
+                                        before = record { before = c .before; deliver = c .deliver };
+                                        pending = record { given = g };
+                                      };
+                                      circuits = record { given = g' };
+                                    };
+                                    ledger = record { given = g'' };
+                                  };
+                                  inflight = record { given = g'3 };
+                                };
+                                out = record { given = g'4 };
+                              };
+                              slice-known2 = record { given = g'5 };
+                            }),
+                        (
+                          MutSlice.fix-len (Row.get 3 (T49 .locals) (m30
+                              record {
+                                before = record {
+                                  before = record {
+                                    before = record {
+                                      before = record {
+                                        before = record { before = c .before; deliver = c .deliver };
+                                        pending = record { given = g };
+                                      };
+                                      circuits = record { given = g' };
+                                    };
+                                    ledger = record { given = g'' };
+                                  };
+                                  inflight = record { given = g'3 };
+                                };
+                                out = record { given = g'4 };
+                              } g'5) .ptr) (Row.get 3 (T49 .locals) (m30
+                              record {
+                                before = record {
+                                  before = record {
+                                    before = record {
+                                      before = record {
+                                        before = record { before = c .before; deliver = c .deliver };
+                                        pending = record { given = g };
+                                      };
+                                      circuits = record { given = g' };
+                                    };
+                                    ledger = record { given = g'' };
+                                  };
+                                  inflight = record { given = g'3 };
+                                };
+                                out = record { given = g'4 };
+                              } g'5) .name) (Row.get 3 (T49 .locals) (m30
+                              record {
+                                before = record {
+                                  before = record {
+                                    before = record {
+                                      before = record {
+                                        before = record { before = c .before; deliver = c .deliver };
+                                        pending = record { given = g };
+                                      };
+                                      circuits = record { given = g' };
+                                    };
+                                    ledger = record { given = g'' };
+                                  };
+                                  inflight = record { given = g'3 };
+                                };
+                                out = record { given = g'4 };
+                              } g'5) .now) (dens (c .before .before .before .before .before .before .before .before
+                              .before .before .κs) (c .before .before .before .before .before .before .before .before
+                              .before .before .args) .1 .1 .0 .now) (same-length-3
+                              record {
+                                before = record {
+                                  before = record {
+                                    before = record {
+                                      before = record {
+                                        before = record {
+                                          before = record { before = c .before; deliver = c .deliver };
+                                          pending = record { given = g };
+                                        };
+                                        circuits = record { given = g' };
+                                      };
+                                      ledger = record { given = g'' };
+                                    };
+                                    inflight = record { given = g'3 };
+                                  };
+                                  out = record { given = g'4 };
+                                };
+                                slice-known2 = record { given = g'5 };
+                              }),
+                          (
+                            MutSlice.fix-len (Row.get 4 (T49 .locals) (m30
+                                record {
+                                  before = record {
+                                    before = record {
+                                      before = record {
+                                        before = record {
+                                          before = record { before = c .before; deliver = c .deliver };
+                                          pending = record { given = g };
+                                        };
+                                        circuits = record { given = g' };
+                                      };
+                                      ledger = record { given = g'' };
+                                    };
+                                    inflight = record { given = g'3 };
+                                  };
+                                  out = record { given = g'4 };
+                                } g'5) .ptr) (Row.get 4 (T49 .locals) (m30
+                                record {
+                                  before = record {
+                                    before = record {
+                                      before = record {
+                                        before = record {
+                                          before = record { before = c .before; deliver = c .deliver };
+                                          pending = record { given = g };
+                                        };
+                                        circuits = record { given = g' };
+                                      };
+                                      ledger = record { given = g'' };
+                                    };
+                                    inflight = record { given = g'3 };
+                                  };
+                                  out = record { given = g'4 };
+                                } g'5) .name) (Row.get 4 (T49 .locals) (m30
+                                record {
+                                  before = record {
+                                    before = record {
+                                      before = record {
+                                        before = record {
+                                          before = record { before = c .before; deliver = c .deliver };
+                                          pending = record { given = g };
+                                        };
+                                        circuits = record { given = g' };
+                                      };
+                                      ledger = record { given = g'' };
+                                    };
+                                    inflight = record { given = g'3 };
+                                  };
+                                  out = record { given = g'4 };
+                                } g'5) .now) (dens (c .before .before .before .before .before .before .before .before
+                                .before .before .κs) (c .before .before .before .before .before .before .before .before
+                                .before .before .args) .1 .1 .1 .0 .now) (same-length-4
+                                record {
+                                  before = record {
+                                    before = record {
+                                      before = record {
+                                        before = record {
+                                          before = record {
+                                            before = record { before = c .before; deliver = c .deliver };
+                                            pending = record { given = g };
+                                          };
+                                          circuits = record { given = g' };
+                                        };
+                                        ledger = record { given = g'' };
+                                      };
+                                      inflight = record { given = g'3 };
+                                    };
+                                    out = record { given = g'4 };
+                                  };
+                                  slice-known2 = record { given = g'5 };
+                                }),
+                            (
+                              MutSlice.fix-len (Row.get 5 (T49 .locals) (m30
+                                  record {
+                                    before = record {
+                                      before = record {
+                                        before = record {
+                                          before = record {
+                                            before = record { before = c .before; deliver = c .deliver };
+                                            pending = record { given = g };
+                                          };
+                                          circuits = record { given = g' };
+                                        };
+                                        ledger = record { given = g'' };
+                                      };
+                                      inflight = record { given = g'3 };
+                                    };
+                                    out = record { given = g'4 };
+                                  } g'5) .ptr) (Row.get 5 (T49 .locals) (m30
+                                  record {
+                                    before = record {
+                                      before = record {
+                                        before = record {
+                                          before = record {
+                                            before = record { before = c .before; deliver = c .deliver };
+                                            pending = record { given = g };
+                                          };
+                                          circuits = record { given = g' };
+                                        };
+                                        ledger = record { given = g'' };
+                                      };
+                                      inflight = record { given = g'3 };
+                                    };
+                                    out = record { given = g'4 };
+                                  } g'5) .name) (Row.get 5 (T49 .locals) (m30
+                                  record {
+                                    before = record {
+                                      before = record {
+                                        before = record {
+                                          before = record {
+                                            before = record { before = c .before; deliver = c .deliver };
+                                            pending = record { given = g };
+                                          };
+                                          circuits = record { given = g' };
+                                        };
+                                        ledger = record { given = g'' };
+                                      };
+                                      inflight = record { given = g'3 };
+                                    };
+                                    out = record { given = g'4 };
+                                  } g'5) .now) (dens (c .before .before .before .before .before .before .before .before
+                                  .before .before .κs) (c .before .before .before .before .before .before .before
+                                  .before .before .before .args) .1 .1 .1 .1 .0 .now) (same-length-5
+                                  record {
+                                    before = record {
+                                      before = record {
+                                        before = record {
+                                          before = record {
+                                            before = record {
+                                              before = record { before = c .before; deliver = c .deliver };
+                                              pending = record { given = g };
+                                            };
+                                            circuits = record { given = g' };
+                                          };
+                                          ledger = record { given = g'' };
+                                        };
+                                        inflight = record { given = g'3 };
+                                      };
+                                      out = record { given = g'4 };
+                                    };
+                                    slice-known2 = record { given = g'5 };
+                                  }),
+                              (tt, (tt, tt)),
+                            ),
+                          ),
+                        ),
+                      ),
+                    ),
+                    returns record {
+                      before = record {
+                        before = record {
+                          before = record {
+                            before = record {
+                              before = record {
+                                before = record { before = c .before; deliver = c .deliver };
+                                pending = record { given = g };
+                              };
+                              circuits = record { given = g' };
+                            };
+                            ledger = record { given = g'' };
+                          };
+                          inflight = record { given = g'3 };
+                        };
+                        out = record { given = g'4 };
+                      };
+                      slice-known2 = record { given = g'5 };
+                    },
+                  ),
+                ),
+              ),
+            ),
+          ),
+        )
+
+        lay2 : (c : After-accept-body) → at45 (W0 (c .before .before .before .κs) (c .before .before .before .args))
+            (m3 (c .before) (After-accept-body·gave c))
+        lay2 = λ c. λ g. (
+          Path.refl,
+          λ g'. (
+            Path.refl,
+            λ g''. (
+              Path.refl,
+              λ g'3. (
+                Path.refl,
+                λ g'4. (
+                  Path.refl,
+                  λ g'5. (
+                    Relend.count-is T23 21 22 (λ x. x) (λ u. 20) (m16
+                        record {
+                          before = record {
+                            before = record {
+                              before = record {
+                                before = record {
+                                  before = record { before = c .before; accept-body = c .accept-body };
+                                  deliver-arg = record { given = g };
+                                };
+                                deliver-arg2 = record { given = g' };
+                              };
+                              deliver-arg3 = record { given = g'' };
+                            };
+                            deliver-arg4 = record { given = g'3 };
+                          };
+                          deliver-arg5 = record { given = g'4 };
+                        } g'5) (slice-aggregate-deliver
+                        record {
+                          before = record {
+                            before = record {
+                              before = record {
+                                before = record {
+                                  before = record {
+                                    before = record { before = c .before; accept-body = c .accept-body };
+                                    deliver-arg = record { given = g };
+                                  };
+                                  deliver-arg2 = record { given = g' };
+                                };
+                                deliver-arg3 = record { given = g'' };
+                              };
+                              deliver-arg4 = record { given = g'3 };
+                            };
+                            deliver-arg5 = record { given = g'4 };
+                          };
+                          body = record { given = g'5 };
+                        }),
+                    (
+                      deliver-requires record {
+                        before = record {
+                          before = record {
+                            before = record {
+                              before = record {
+                                before = record {
+                                  before = record { before = c .before; accept-body = c .accept-body };
+                                  deliver-arg = record { given = g };
+                                };
+                                deliver-arg2 = record { given = g' };
+                              };
+                              deliver-arg3 = record { given = g'' };
+                            };
+                            deliver-arg4 = record { given = g'3 };
+                          };
+                          deliver-arg5 = record { given = g'4 };
+                        };
+                        body = record { given = g'5 };
+                      },
+                      λ g'6. lay3 record {
+                        before = record {
+                          before = record {
+                            before = record {
+                              before = record {
+                                before = record {
+                                  before = record {
+                                    before = record { before = c .before; accept-body = c .accept-body };
+                                    deliver-arg = record { given = g };
+                                  };
+                                  deliver-arg2 = record { given = g' };
+                                };
+                                deliver-arg3 = record { given = g'' };
+                              };
+                              deliver-arg4 = record { given = g'3 };
+                            };
+                            deliver-arg5 = record { given = g'4 };
+                          };
+                          body = record { given = g'5 };
+                        };
+                        deliver = Called.called ps·2 r·2 (claims· .5) T24 args23 (m17
+                            record {
+                              before = record {
+                                before = record {
+                                  before = record {
+                                    before = record {
+                                      before = record { before = c .before; accept-body = c .accept-body };
+                                      deliver-arg = record { given = g };
+                                    };
+                                    deliver-arg2 = record { given = g' };
+                                  };
+                                  deliver-arg3 = record { given = g'' };
+                                };
+                                deliver-arg4 = record { given = g'3 };
+                              };
+                              deliver-arg5 = record { given = g'4 };
+                            } g'5) g'6;
+                      },
+                    ),
+                  ),
+                ),
+              ),
+            ),
+          ),
+        )
+
+        lay1 : (c : After-packet) → at46 (W0 (c .before .before .κs) (c .before .before .args))
+            (m2 (c .before) (After-packet·gave c))
+        lay1 = λ c. (
+          accept-body-requires record { before = c .before; packet = c .packet },
+          λ g. lay2 record {
+            before = record { before = c .before; packet = c .packet };
+            accept-body = Called.called ps·1 r·1 (claims· .3) T3 tt (m2 (c .before) (After-packet·gave c)) g;
+          },
+        )
+
         pub laid : (c : Start) → at48 (W0 (c .κs) (c .args)) (m0 (c .κs) (c .args))
-        laid = λ c. λ g. (packet-requires record { before = c; slice-known = record { given = g } }, λ g'. lay1 record { before = record { before = c;
-            slice-known = record { given = g } }; packet = Called.called ps·0 r·0 (claims· .1) T2 (Num.vLit 15, (Num.vAt 7 λ x. x, tt)) (m1 c g) g';
-            },)
+        laid = λ c. λ g. (
+          packet-requires record { before = c; slice-known = record { given = g } },
+          λ g'. lay1 record {
+            before = record { before = c; slice-known = record { given = g } };
+            packet = Called.called ps·0 r·0 (claims· .1) T2 args1 (m1 c g) g';
+          },
+        )
+
         module _ (κs : Lifetimes.Lfts 5) (qs : Lifetimes.Shares 5) where
-          pub asked : (a : Kinds.Dens κs ps) → (good : Kinds.GoodsP κs ps a) → (pre : Pre· κs a) → (bs : List.List Nat.ℕ) → Φ (Any.wantQ 5 ps r xs m
-              κs qs a (Post· κs a)) (Function.init 5 ps r xs m κs qs a)
-          asked = λ a good pre bs. laid record { κs = κs; args = record { pending = a .0; circuits = a .1 .0; ledger = a .1 .1 .0; inflight = a .1 .1
-              .1 .0; out = a .1 .1 .1 .1 .0; kept = a .1 .1 .1 .1 .1 .0; time = a .1 .1 .1 .1 .1 .1 .0; }; good = good; fits = record { time = record
-              { fits = good .1 .1 .1 .1 .1 .1 .0 .1 } }; pre = pre; }
-        module _ { M : Type 1 } (𝓤 : URA.URA M) (H : Wp.Heap 𝓤) (A : Atoms.Atoms 𝓤) (W : Kit.Given 𝓤 H A) (𝓣 : Wp.Tables 𝓤 H) (known0 : Plain.Known 𝓤
-            H A W 𝓣 0 ps·0 r·0 (claims· .0) (claims· .1) "cases::script::packet") (known1 : Plain.Known 𝓤 H A W 𝓣 0 ps·1 r·1 (claims· .2) (claims· .3)
-            "cases::script::accept_body") (known2 : Plain.Known 𝓤 H A W 𝓣 6 ps·2 r·2 (claims· .4) (claims· .5) "cases::machine::deliver") where
-          pub spec : Statement.Triple 𝓤 (Wp.WpFn 𝓤 H (𝓣 .C) (𝓣 .Λ) (Function.fnOf 5 ps r xs m hs body)) (Function.plainOf 𝓤 H A 5 ps r Pre· Post·)
-          spec = Plain.t-fn-plain 𝓤 H A W 𝓣 5 ps r xs m hs body (λ κs qs bs. Φ) (λ κs qs bs bd. typed κs qs 𝓤 H A W 𝓣 (known0, known1, known2) bs bd)
-              Pre· Post· asked
+          pub asked : (a : Kinds.Dens κs ps) → (good : Kinds.GoodsP κs ps a) → (pre : Pre· κs a) →
+              (bs : List.List Nat.ℕ) → Φ (Any.wantQ 5 ps r xs m κs qs a (Post· κs a))
+              (Function.init 5 ps r xs m κs qs a)
+          asked = λ a good pre bs. laid record {
+            κs = κs;
+            args = record {
+              pending = a .0;
+              circuits = a .1 .0;
+              ledger = a .1 .1 .0;
+              inflight = a .1 .1 .1 .0;
+              out = a .1 .1 .1 .1 .0;
+              kept = a .1 .1 .1 .1 .1 .0;
+              time = a .1 .1 .1 .1 .1 .1 .0;
+            };
+            good = good;
+            fits = record { time = record { fits = good .1 .1 .1 .1 .1 .1 .0 .1 } };
+            pre = pre;
+          }
+
+        module _ {M : Type 1} (𝓤 : URA.URA M) (H : Wp.Heap 𝓤) (A : Atoms.Atoms 𝓤) (W : Kit.Given 𝓤 H A)
+            (𝓣 : Wp.Tables 𝓤 H) (known0 : Plain.Known 𝓤 H A W 𝓣 0 ps·0 r·0 (claims· .0) (claims· .1)
+            "cases::script::packet") (known1 : Plain.Known 𝓤 H A W 𝓣 0 ps·1 r·1 (claims· .2) (claims· .3)
+            "cases::script::accept_body") (known2 : Plain.Known 𝓤 H A W 𝓣 6 ps·2 r·2 (claims· .4) (claims· .5)
+            "cases::machine::deliver") where
+          pub spec : Statement.Triple 𝓤 (Wp.WpFn 𝓤 H (𝓣 .C) (𝓣 .Λ) (Function.fnOf 5 ps r xs m hs body))
+              (Function.plainOf 𝓤 H A 5 ps r Pre· Post·)
+          spec = Plain.t-fn-plain 𝓤 H A W 𝓣 5 ps r xs m hs body (λ κs qs bs. Φ) (λ κs qs bs bd. typed κs qs 𝓤 H A W 𝓣
+              (known0, known1, known2) bs bd) Pre· Post· asked

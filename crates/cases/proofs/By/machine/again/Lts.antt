@@ -4,6 +4,7 @@ use Rattle.cases.proofs.By.InflightAction
 use Rattle.cases.proofs.By.RelayCircuit
 use Rattle.cases.proofs.By.RelayPending
 use Rattle.cases.proofs.By.ReservationUsage
+use Rattle.cases.proofs.StructRow
 use Rattle.hnsr_circuit.proofs.answer.HnsrAnswer
 use Rattle.hnsr_circuit.proofs.answer.HnsrAnswer.Laws
 use Rattle.hnsr_circuit.proofs.places.Places
@@ -26,7 +27,6 @@ use borrow.Kind.Bool
 use borrow.Kind.MutSlice
 use borrow.Kind.Num
 use borrow.Kind.ShrSlice
-use borrow.Kind.Value
 use borrow.Rule.DerefMove
 use borrow.Rule.Lifetime
 use borrow.Rule.Local
@@ -54,7 +54,6 @@ use borrow.Table.Typed
 use contract.Lifetimes
 use denote.Enum.Declared
 use denote.Enum.Laws as Laws'''''
-use denote.Exit
 use denote.Laws as Laws''''''
 use denote.Struct.At
 use denote.Struct.Declared as Declared'
@@ -75,3449 +74,7581 @@ use mathlib.Core.List.{_∷_}
 
 abbrev ref0 : Syntax.Ty
 ref0 = Syntax.tyRef Syntax.erased Syntax.mut RelayPending.to
+
 abbrev ref1 : Syntax.Ty
 ref1 = Syntax.tyRef Syntax.erased Syntax.mut RelayCircuit.to
+
 abbrev ref2 : Syntax.Ty
 ref2 = Syntax.tyRef Syntax.erased Syntax.mut InflightAction.to
+
 abbrev ref3 : Syntax.Ty
 ref3 = Syntax.tyRef Syntax.erased Syntax.mut (Syntax.tyInt Syntax.w32)
+
 abbrev ref4 : Syntax.Ty
 ref4 = Syntax.tyRef Syntax.erased Syntax.mut ReservationUsage.to
+
 abbrev ref5 : Syntax.Ty
 ref5 = Syntax.tyRef (Syntax.named 0) Syntax.mut RelayPending.to
+
 abbrev ref6 : Syntax.Ty
 ref6 = Syntax.tyRef (Syntax.named 1) Syntax.mut RelayCircuit.to
+
 abbrev ref7 : Syntax.Ty
 ref7 = Syntax.tyRef (Syntax.named 2) Syntax.mut ReservationUsage.to
+
 abbrev ref8 : Syntax.Ty
 ref8 = Syntax.tyRef (Syntax.named 3) Syntax.mut InflightAction.to
+
 abbrev ref9 : Syntax.Ty
 ref9 = Syntax.tyRef (Syntax.named 4) Syntax.mut (Syntax.tyInt Syntax.w32)
+
 abbrev ref10 : Syntax.Ty
 ref10 = Syntax.tyRef (Syntax.named 5) Syntax.imm (Syntax.tyInt Syntax.w8)
+
+abbrev slice0 : Syntax.Ty
+slice0 = Syntax.tyStruct (38 ∷ 91 ∷ 93 ∷ List.[]) (Syntax.tcons ref0
+    (Syntax.tcons (Syntax.tyInt Syntax.w64) Syntax.tnil))
+
+abbrev slice1 : Syntax.Ty
+slice1 = Syntax.tyStruct (38 ∷ 91 ∷ 93 ∷ List.[]) (Syntax.tcons ref1
+    (Syntax.tcons (Syntax.tyInt Syntax.w64) Syntax.tnil))
+
+abbrev slice2 : Syntax.Ty
+slice2 = Syntax.tyStruct (38 ∷ 91 ∷ 93 ∷ List.[]) (Syntax.tcons ref2
+    (Syntax.tcons (Syntax.tyInt Syntax.w64) Syntax.tnil))
+
+abbrev slice3 : Syntax.Ty
+slice3 = Syntax.tyStruct (38 ∷ 91 ∷ 93 ∷ List.[]) (Syntax.tcons ref3
+    (Syntax.tcons (Syntax.tyInt Syntax.w64) Syntax.tnil))
+
+abbrev slice4 : Syntax.Ty
+slice4 = Syntax.tyStruct (38 ∷ 91 ∷ 93 ∷ List.[]) (Syntax.tcons ref4
+    (Syntax.tcons (Syntax.tyInt Syntax.w64) Syntax.tnil))
+
 abbrev pub ps : List.List (Kinds.PK 6)
-ps = (MutSlice.pMutS RelayPending.row 0 tt) ∷ (MutSlice.pMutS RelayCircuit.row 1 tt) ∷ (MutSlice.pMutS ReservationUsage.row 2 tt) ∷ (MutSlice.pMutS
-    InflightAction.row 3 tt) ∷ (MutSlice.pMutS (Referent.rtF (Referent.fInt Syntax.w32)) 4 tt) ∷ (Value.pVal record { ty = Declared'.row
-    Relayed.the-type; one = Path.refl; val = Laws'''''''.val Relayed.the-type Laws''''.the-laws; tells = Laws'''''''.tells Relayed.the-type
-    Laws''''.the-laws; still = Laws'''''''.still Relayed.the-type Laws''''.the-copy Exit.yes; row = Rows.whole (Declared'.row Relayed.the-type); rd =
-    λ x. x; mk = λ x. x; } λ M 𝓤 H A W. record { copies = Laws'''''''.copy Relayed.the-type Laws''''.the-copy 𝓤 H A W; lawful = Laws'''''''.lawful
-    Relayed.the-type Laws''''.the-laws 𝓤 H A W; makes = Laws'''''''.makes Relayed.the-type Laws''''.the-plain 𝓤 H A; in-mem = Local.mem-whole 𝓤 H A W
-    (Declared'.row Relayed.the-type); of-mem = Local.whole-mem 𝓤 H A W (Declared'.row Relayed.the-type); }) ∷ (Value.pVal record { ty = Declared'.row
-    RelayPacket.the-type; one = Path.refl; val = Laws'''''''.val RelayPacket.the-type Laws''.the-laws; tells = Laws'''''''.tells RelayPacket.the-type
-    Laws''.the-laws; still = Laws'''''''.still RelayPacket.the-type Laws''.the-copy Exit.yes; row = Rows.whole (Declared'.row RelayPacket.the-type);
-    rd = λ x. x; mk = λ x. x; } λ M 𝓤 H A W. record { copies = Laws'''''''.copy RelayPacket.the-type Laws''.the-copy 𝓤 H A W; lawful =
-    Laws'''''''.lawful RelayPacket.the-type Laws''.the-laws 𝓤 H A W; makes = Laws'''''''.makes RelayPacket.the-type Laws''.the-plain 𝓤 H A; in-mem =
-    Local.mem-whole 𝓤 H A W (Declared'.row RelayPacket.the-type); of-mem = Local.whole-mem 𝓤 H A W (Declared'.row RelayPacket.the-type); }) ∷
-    (ShrSlice.pShrS (Referent.rtF (Referent.fInt Syntax.w8)) 5 tt) ∷ Bool.pBool ∷ List.[]
+ps = (MutSlice.pMutS RelayPending.row 0 tt) ∷ (MutSlice.pMutS RelayCircuit.row 1 tt) ∷
+    (MutSlice.pMutS ReservationUsage.row 2 tt) ∷ (MutSlice.pMutS InflightAction.row 3 tt) ∷ (MutSlice.pMutS
+    (Referent.rtF (Referent.fInt Syntax.w32)) 4 tt) ∷ (StructRow.param Relayed.the-type Laws''''.the-laws
+    Laws''''.the-copy Laws''''.the-plain) ∷ (StructRow.param RelayPacket.the-type Laws''.the-laws Laws''.the-copy
+    Laws''.the-plain) ∷ (ShrSlice.pShrS (Referent.rtF (Referent.fInt Syntax.w8)) 5 tt) ∷ Bool.pBool ∷ List.[]
+
 abbrev pub r : Kinds.RK 6
 r = Num.rNum Syntax.w64
+
 abbrev pub xs : List.List Syntax.Ty
-xs = Laws'''.mir ∷ Laws'.mir ∷ Laws''''.mir ∷ Laws''''.mir ∷ Laws.mir ∷ Laws''''.mir ∷ Laws.mir ∷ Syntax.tyBool ∷ ref0 ∷ (Syntax.tyStruct (38 ∷ 91 ∷
-    93 ∷ List.[]) (Syntax.tcons ref0 (Syntax.tcons (Syntax.tyInt Syntax.w64) Syntax.tnil))) ∷ ref1 ∷ (Syntax.tyStruct (38 ∷ 91 ∷ 93 ∷ List.[])
-    (Syntax.tcons ref1 (Syntax.tcons (Syntax.tyInt Syntax.w64) Syntax.tnil))) ∷ ref2 ∷ (Syntax.tyStruct (38 ∷ 91 ∷ 93 ∷ List.[]) (Syntax.tcons ref2
-    (Syntax.tcons (Syntax.tyInt Syntax.w64) Syntax.tnil))) ∷ ref3 ∷ (Syntax.tyStruct (38 ∷ 91 ∷ 93 ∷ List.[]) (Syntax.tcons ref3 (Syntax.tcons
-    (Syntax.tyInt Syntax.w64) Syntax.tnil))) ∷ ref0 ∷ (Syntax.tyStruct (38 ∷ 91 ∷ 93 ∷ List.[]) (Syntax.tcons ref0 (Syntax.tcons (Syntax.tyInt
-    Syntax.w64) Syntax.tnil))) ∷ ref1 ∷ (Syntax.tyStruct (38 ∷ 91 ∷ 93 ∷ List.[]) (Syntax.tcons ref1 (Syntax.tcons (Syntax.tyInt Syntax.w64)
-    Syntax.tnil))) ∷ ref4 ∷ (Syntax.tyStruct (38 ∷ 91 ∷ 93 ∷ List.[]) (Syntax.tcons ref4 (Syntax.tcons (Syntax.tyInt Syntax.w64) Syntax.tnil))) ∷ ref2
-    ∷ (Syntax.tyStruct (38 ∷ 91 ∷ 93 ∷ List.[]) (Syntax.tcons ref2 (Syntax.tcons (Syntax.tyInt Syntax.w64) Syntax.tnil))) ∷ ref3 ∷ (Syntax.tyStruct
-    (38 ∷ 91 ∷ 93 ∷ List.[]) (Syntax.tcons ref3 (Syntax.tcons (Syntax.tyInt Syntax.w64) Syntax.tnil))) ∷ ref0 ∷ (Syntax.tyStruct (38 ∷ 91 ∷ 93 ∷
-    List.[]) (Syntax.tcons ref0 (Syntax.tcons (Syntax.tyInt Syntax.w64) Syntax.tnil))) ∷ ref1 ∷ (Syntax.tyStruct (38 ∷ 91 ∷ 93 ∷ List.[])
-    (Syntax.tcons ref1 (Syntax.tcons (Syntax.tyInt Syntax.w64) Syntax.tnil))) ∷ ref4 ∷ (Syntax.tyStruct (38 ∷ 91 ∷ 93 ∷ List.[]) (Syntax.tcons ref4
-    (Syntax.tcons (Syntax.tyInt Syntax.w64) Syntax.tnil))) ∷ ref2 ∷ (Syntax.tyStruct (38 ∷ 91 ∷ 93 ∷ List.[]) (Syntax.tcons ref2 (Syntax.tcons
-    (Syntax.tyInt Syntax.w64) Syntax.tnil))) ∷ ref3 ∷ (Syntax.tyStruct (38 ∷ 91 ∷ 93 ∷ List.[]) (Syntax.tcons ref3 (Syntax.tcons (Syntax.tyInt
-    Syntax.w64) Syntax.tnil))) ∷ List.[]
+xs = Laws'''.mir ∷ Laws'.mir ∷ Laws''''.mir ∷ Laws''''.mir ∷ Laws.mir ∷ Laws''''.mir ∷ Laws.mir ∷ Syntax.tyBool ∷ ref0
+    ∷ slice0 ∷ ref1 ∷ slice1 ∷ ref2 ∷ slice2 ∷ ref3 ∷ slice3 ∷ ref0 ∷ slice0 ∷ ref1 ∷ slice1 ∷ ref4 ∷ slice4 ∷ ref2 ∷
+    slice2 ∷ ref3 ∷ slice3 ∷ ref0 ∷ slice0 ∷ ref1 ∷ slice1 ∷ ref4 ∷ slice4 ∷ ref2 ∷ slice2 ∷ ref3 ∷ slice3 ∷ List.[]
+
 abbrev pub m : Nat.ℕ
 m = 14
+
 abbrev pub ps·0 : List.List (Kinds.PK 4)
-ps·0 = (MutSlice.pMutS RelayPending.row 0 tt) ∷ (MutSlice.pMutS RelayCircuit.row 1 tt) ∷ (MutSlice.pMutS InflightAction.row 2 tt) ∷ (MutSlice.pMutS
-    (Referent.rtF (Referent.fInt Syntax.w32)) 3 tt) ∷ (Value.pVal record { ty = Declared'.row OpaqueRelayRuntime.the-type; one = Path.refl; val =
-    Laws'''''''.val OpaqueRelayRuntime.the-type Laws'''.the-laws; tells = Laws'''''''.tells OpaqueRelayRuntime.the-type Laws'''.the-laws; still =
-    Laws'''''''.still OpaqueRelayRuntime.the-type Laws'''.the-copy Exit.yes; row = Rows.whole (Declared'.row OpaqueRelayRuntime.the-type); rd = λ x.
-    x; mk = λ x. x; } λ M 𝓤 H A W. record { copies = Laws'''''''.copy OpaqueRelayRuntime.the-type Laws'''.the-copy 𝓤 H A W; lawful =
-    Laws'''''''.lawful OpaqueRelayRuntime.the-type Laws'''.the-laws 𝓤 H A W; makes = Laws'''''''.makes OpaqueRelayRuntime.the-type Laws'''.the-plain 𝓤
-    H A; in-mem = Local.mem-whole 𝓤 H A W (Declared'.row OpaqueRelayRuntime.the-type); of-mem = Local.whole-mem 𝓤 H A W (Declared'.row
-    OpaqueRelayRuntime.the-type); }) ∷ (Value.pVal record { ty = Declared'.row Places.the-type; one = Path.refl; val = Laws'''''''.val Places.the-type
-    Laws'.the-laws; tells = Laws'''''''.tells Places.the-type Laws'.the-laws; still = Laws'''''''.still Places.the-type Laws'.the-copy Exit.yes; row =
-    Rows.whole (Declared'.row Places.the-type); rd = λ x. x; mk = λ x. x; } λ M 𝓤 H A W. record { copies = Laws'''''''.copy Places.the-type
-    Laws'.the-copy 𝓤 H A W; lawful = Laws'''''''.lawful Places.the-type Laws'.the-laws 𝓤 H A W; makes = Laws'''''''.makes Places.the-type
-    Laws'.the-plain 𝓤 H A; in-mem = Local.mem-whole 𝓤 H A W (Declared'.row Places.the-type); of-mem = Local.whole-mem 𝓤 H A W (Declared'.row
-    Places.the-type); }) ∷ (Num.pNum Syntax.w64) ∷ (Num.pNum Syntax.w64) ∷ Bool.pBool ∷ List.[]
-abbrev pub r·0 : Kinds.RK 4
-r·0 = Value.rVal record { ty = Declared'.row Relayed.the-type; one = Path.refl; val = Laws'''''''.val Relayed.the-type Laws''''.the-laws; tells =
-    Laws'''''''.tells Relayed.the-type Laws''''.the-laws; still = Laws'''''''.still Relayed.the-type Laws''''.the-copy Exit.yes; row = Rows.whole
-    (Declared'.row Relayed.the-type); rd = λ x. x; mk = λ x. x; } λ M 𝓤 H A W. record { copies = Laws'''''''.copy Relayed.the-type Laws''''.the-copy 𝓤
-    H A W; lawful = Laws'''''''.lawful Relayed.the-type Laws''''.the-laws 𝓤 H A W; makes = Laws'''''''.makes Relayed.the-type Laws''''.the-plain 𝓤 H
-    A; in-mem = Local.mem-whole 𝓤 H A W (Declared'.row Relayed.the-type); of-mem = Local.whole-mem 𝓤 H A W (Declared'.row Relayed.the-type); }
-abbrev pub ps·1 : List.List (Kinds.PK 6)
-ps·1 = (MutSlice.pMutS RelayPending.row 0 tt) ∷ (MutSlice.pMutS RelayCircuit.row 1 tt) ∷ (MutSlice.pMutS ReservationUsage.row 2 tt) ∷ (MutSlice.pMutS
-    InflightAction.row 3 tt) ∷ (MutSlice.pMutS (Referent.rtF (Referent.fInt Syntax.w32)) 4 tt) ∷ (Value.pVal record { ty = Declared'.row
-    Relayed.the-type; one = Path.refl; val = Laws'''''''.val Relayed.the-type Laws''''.the-laws; tells = Laws'''''''.tells Relayed.the-type
-    Laws''''.the-laws; still = Laws'''''''.still Relayed.the-type Laws''''.the-copy Exit.yes; row = Rows.whole (Declared'.row Relayed.the-type); rd =
-    λ x. x; mk = λ x. x; } λ M 𝓤 H A W. record { copies = Laws'''''''.copy Relayed.the-type Laws''''.the-copy 𝓤 H A W; lawful = Laws'''''''.lawful
-    Relayed.the-type Laws''''.the-laws 𝓤 H A W; makes = Laws'''''''.makes Relayed.the-type Laws''''.the-plain 𝓤 H A; in-mem = Local.mem-whole 𝓤 H A W
-    (Declared'.row Relayed.the-type); of-mem = Local.whole-mem 𝓤 H A W (Declared'.row Relayed.the-type); }) ∷ (Value.pVal record { ty = Declared'.row
-    RelayPacket.the-type; one = Path.refl; val = Laws'''''''.val RelayPacket.the-type Laws''.the-laws; tells = Laws'''''''.tells RelayPacket.the-type
-    Laws''.the-laws; still = Laws'''''''.still RelayPacket.the-type Laws''.the-copy Exit.yes; row = Rows.whole (Declared'.row RelayPacket.the-type);
-    rd = λ x. x; mk = λ x. x; } λ M 𝓤 H A W. record { copies = Laws'''''''.copy RelayPacket.the-type Laws''.the-copy 𝓤 H A W; lawful =
-    Laws'''''''.lawful RelayPacket.the-type Laws''.the-laws 𝓤 H A W; makes = Laws'''''''.makes RelayPacket.the-type Laws''.the-plain 𝓤 H A; in-mem =
-    Local.mem-whole 𝓤 H A W (Declared'.row RelayPacket.the-type); of-mem = Local.whole-mem 𝓤 H A W (Declared'.row RelayPacket.the-type); }) ∷
-    (Num.pNum Syntax.w8) ∷ (ShrSlice.pShrS (Referent.rtF (Referent.fInt Syntax.w8)) 5 tt) ∷ List.[]
-abbrev pub r·1 : Kinds.RK 6
-r·1 = Value.rVal record { ty = Declared'.row Relayed.the-type; one = Path.refl; val = Laws'''''''.val Relayed.the-type Laws''''.the-laws; tells =
-    Laws'''''''.tells Relayed.the-type Laws''''.the-laws; still = Laws'''''''.still Relayed.the-type Laws''''.the-copy Exit.yes; row = Rows.whole
-    (Declared'.row Relayed.the-type); rd = λ x. x; mk = λ x. x; } λ M 𝓤 H A W. record { copies = Laws'''''''.copy Relayed.the-type Laws''''.the-copy 𝓤
-    H A W; lawful = Laws'''''''.lawful Relayed.the-type Laws''''.the-laws 𝓤 H A W; makes = Laws'''''''.makes Relayed.the-type Laws''''.the-plain 𝓤 H
-    A; in-mem = Local.mem-whole 𝓤 H A W (Declared'.row Relayed.the-type); of-mem = Local.whole-mem 𝓤 H A W (Declared'.row Relayed.the-type); }
-abbrev pub ps·2 : List.List (Kinds.PK 0)
-ps·2 = (Value.pVal record { ty = Declared.row HnsrAnswer.the-type; one = Path.refl; val = Laws'''''.val HnsrAnswer.the-type Laws.the-laws; tells =
-    Laws'''''.tells HnsrAnswer.the-type Laws.the-laws; still = Laws'''''.still HnsrAnswer.the-type Laws.the-copy Exit.yes; row = Rows.whole
-    (Declared.row HnsrAnswer.the-type); rd = λ x. x; mk = λ x. x; } λ M 𝓤 H A W. record { copies = Laws'''''.copy HnsrAnswer.the-type Laws.the-copy 𝓤
-    H A W; lawful = Laws'''''.lawful HnsrAnswer.the-type Laws.the-laws 𝓤 H A W tt; makes = Laws'''''.makes HnsrAnswer.the-type Laws.the-plain 𝓤 H A;
-    in-mem = Local.mem-whole 𝓤 H A W (Declared.row HnsrAnswer.the-type); of-mem = Local.whole-mem 𝓤 H A W (Declared.row HnsrAnswer.the-type); }) ∷
+ps·0 = (MutSlice.pMutS RelayPending.row 0 tt) ∷ (MutSlice.pMutS RelayCircuit.row 1 tt) ∷
+    (MutSlice.pMutS InflightAction.row 2 tt) ∷ (MutSlice.pMutS (Referent.rtF (Referent.fInt Syntax.w32)) 3 tt) ∷ (StructRow.param
+    OpaqueRelayRuntime.the-type Laws'''.the-laws Laws'''.the-copy Laws'''.the-plain) ∷ (StructRow.param Places.the-type
+    Laws'.the-laws Laws'.the-copy Laws'.the-plain) ∷ (Num.pNum Syntax.w64) ∷ (Num.pNum Syntax.w64) ∷ Bool.pBool ∷
     List.[]
+
+abbrev pub r·0 : Kinds.RK 4
+r·0 = StructRow.result Relayed.the-type Laws''''.the-laws Laws''''.the-copy Laws''''.the-plain
+
+abbrev pub ps·1 : List.List (Kinds.PK 6)
+ps·1 = (MutSlice.pMutS RelayPending.row 0 tt) ∷ (MutSlice.pMutS RelayCircuit.row 1 tt) ∷
+    (MutSlice.pMutS ReservationUsage.row 2 tt) ∷ (MutSlice.pMutS InflightAction.row 3 tt) ∷ (MutSlice.pMutS
+    (Referent.rtF (Referent.fInt Syntax.w32)) 4 tt) ∷ (StructRow.param Relayed.the-type Laws''''.the-laws
+    Laws''''.the-copy Laws''''.the-plain) ∷ (StructRow.param RelayPacket.the-type Laws''.the-laws Laws''.the-copy
+    Laws''.the-plain) ∷ (Num.pNum Syntax.w8) ∷ (ShrSlice.pShrS (Referent.rtF (Referent.fInt Syntax.w8)) 5 tt) ∷ List.[]
+
+abbrev pub r·1 : Kinds.RK 6
+r·1 = StructRow.result Relayed.the-type Laws''''.the-laws Laws''''.the-copy Laws''''.the-plain
+
+abbrev pub ps·2 : List.List (Kinds.PK 0)
+ps·2 = (StructRow.enum-param HnsrAnswer.the-type Laws.the-laws Laws.the-copy Laws.the-plain tt) ∷ List.[]
+
 abbrev pub r·2 : Kinds.RK 0
 r·2 = Num.rNum Syntax.w64
+
 abbrev pub hs : List.List Syntax.Home
-hs = Syntax.valueLocal ∷ Syntax.valueLocal ∷ Syntax.valueLocal ∷ Syntax.valueLocal ∷ Syntax.valueLocal ∷ Syntax.valueLocal ∷ Syntax.valueLocal ∷
-    Syntax.valueLocal ∷ Syntax.valueLocal ∷ Syntax.valueLocal ∷ Syntax.valueLocal ∷ Syntax.valueLocal ∷ Syntax.valueLocal ∷ Syntax.valueLocal ∷
-    Syntax.valueLocal ∷ Syntax.valueLocal ∷ Syntax.valueLocal ∷ Syntax.valueLocal ∷ Syntax.valueLocal ∷ Syntax.valueLocal ∷ Syntax.valueLocal ∷
-    Syntax.valueLocal ∷ Syntax.valueLocal ∷ Syntax.valueLocal ∷ Syntax.valueLocal ∷ Syntax.valueLocal ∷ Syntax.valueLocal ∷ Syntax.valueLocal ∷
-    Syntax.valueLocal ∷ Syntax.valueLocal ∷ Syntax.valueLocal ∷ Syntax.valueLocal ∷ Syntax.valueLocal ∷ Syntax.valueLocal ∷ Syntax.valueLocal ∷
-    Syntax.valueLocal ∷ Syntax.valueLocal ∷ Syntax.valueLocal ∷ Syntax.valueLocal ∷ Syntax.valueLocal ∷ Syntax.valueLocal ∷ Syntax.valueLocal ∷
-    Syntax.valueLocal ∷ Syntax.valueLocal ∷ Syntax.valueLocal ∷ Syntax.valueLocal ∷ List.[]
+hs = Syntax.valueLocal ∷ Syntax.valueLocal ∷ Syntax.valueLocal ∷ Syntax.valueLocal ∷ Syntax.valueLocal ∷
+    Syntax.valueLocal ∷ Syntax.valueLocal ∷ Syntax.valueLocal ∷ Syntax.valueLocal ∷ Syntax.valueLocal ∷
+    Syntax.valueLocal ∷ Syntax.valueLocal ∷ Syntax.valueLocal ∷ Syntax.valueLocal ∷ Syntax.valueLocal ∷
+    Syntax.valueLocal ∷ Syntax.valueLocal ∷ Syntax.valueLocal ∷ Syntax.valueLocal ∷ Syntax.valueLocal ∷
+    Syntax.valueLocal ∷ Syntax.valueLocal ∷ Syntax.valueLocal ∷ Syntax.valueLocal ∷ Syntax.valueLocal ∷
+    Syntax.valueLocal ∷ Syntax.valueLocal ∷ Syntax.valueLocal ∷ Syntax.valueLocal ∷ Syntax.valueLocal ∷
+    Syntax.valueLocal ∷ Syntax.valueLocal ∷ Syntax.valueLocal ∷ Syntax.valueLocal ∷ Syntax.valueLocal ∷
+    Syntax.valueLocal ∷ Syntax.valueLocal ∷ Syntax.valueLocal ∷ Syntax.valueLocal ∷ Syntax.valueLocal ∷
+    Syntax.valueLocal ∷ Syntax.valueLocal ∷ Syntax.valueLocal ∷ Syntax.valueLocal ∷ Syntax.valueLocal ∷
+    Syntax.valueLocal ∷ List.[]
+
 abbrev b0 : Syntax.Body
 b0 = Syntax.assign (Syntax.place 17 List.[]) (Syntax.rvOpd (Syntax.copy (Syntax.place 9 List.[])))
+
 abbrev b1 : Syntax.Body
 b1 = Syntax.assign (Syntax.place 10 List.[]) (Syntax.rvOpd (Syntax.copy (Syntax.place 6 ((Syntax.field 0) ∷ List.[]))))
+
 abbrev b2 : Syntax.Body
 b2 = Syntax.assign (Syntax.place 11 List.[]) (Syntax.rvOpd (Syntax.copy (Syntax.place 6 ((Syntax.field 3) ∷ List.[]))))
+
 abbrev b3 : Syntax.Body
-b3 = Syntax.assign (Syntax.place 18 List.[]) (Syntax.addrOf (Syntax.place 1 ((Syntax.field 0) ∷ (Syntax.deref RelayPending.ty) ∷ List.[])))
+b3 = Syntax.assign (Syntax.place 18 List.[]) (Syntax.addrOf (Syntax.place 1 ((Syntax.field 0) ∷
+    (Syntax.deref RelayPending.ty) ∷ List.[])))
+
 abbrev b4 : Syntax.Body
-b4 = Syntax.assign (Syntax.place 19 List.[]) (Syntax.aggregate ((Syntax.copy (Syntax.place 18 List.[])) ∷ (Syntax.copy (Syntax.place 1 ((Syntax.field
-    1) ∷ List.[]))) ∷ List.[]))
+b4 = Syntax.assign (Syntax.place 19 List.[]) (Syntax.aggregate ((Syntax.copy (Syntax.place 18 List.[])) ∷
+    (Syntax.copy (Syntax.place 1 ((Syntax.field 1) ∷ List.[]))) ∷ List.[]))
+
 abbrev b5 : Syntax.Body
-b5 = Syntax.assign (Syntax.place 20 List.[]) (Syntax.addrOf (Syntax.place 2 ((Syntax.field 0) ∷ (Syntax.deref RelayCircuit.ty) ∷ List.[])))
+b5 = Syntax.assign (Syntax.place 20 List.[]) (Syntax.addrOf (Syntax.place 2 ((Syntax.field 0) ∷
+    (Syntax.deref RelayCircuit.ty) ∷ List.[])))
+
 abbrev b6 : Syntax.Body
-b6 = Syntax.assign (Syntax.place 21 List.[]) (Syntax.aggregate ((Syntax.copy (Syntax.place 20 List.[])) ∷ (Syntax.copy (Syntax.place 2 ((Syntax.field
-    1) ∷ List.[]))) ∷ List.[]))
+b6 = Syntax.assign (Syntax.place 21 List.[]) (Syntax.aggregate ((Syntax.copy (Syntax.place 20 List.[])) ∷
+    (Syntax.copy (Syntax.place 2 ((Syntax.field 1) ∷ List.[]))) ∷ List.[]))
+
 abbrev b7 : Syntax.Body
-b7 = Syntax.assign (Syntax.place 22 List.[]) (Syntax.addrOf (Syntax.place 4 ((Syntax.field 0) ∷ (Syntax.deref InflightAction.ty) ∷ List.[])))
+b7 = Syntax.assign (Syntax.place 22 List.[]) (Syntax.addrOf (Syntax.place 4 ((Syntax.field 0) ∷
+    (Syntax.deref InflightAction.ty) ∷ List.[])))
+
 abbrev b8 : Syntax.Body
-b8 = Syntax.assign (Syntax.place 23 List.[]) (Syntax.aggregate ((Syntax.copy (Syntax.place 22 List.[])) ∷ (Syntax.copy (Syntax.place 4 ((Syntax.field
-    1) ∷ List.[]))) ∷ List.[]))
+b8 = Syntax.assign (Syntax.place 23 List.[]) (Syntax.aggregate ((Syntax.copy (Syntax.place 22 List.[])) ∷
+    (Syntax.copy (Syntax.place 4 ((Syntax.field 1) ∷ List.[]))) ∷ List.[]))
+
 abbrev b9 : Syntax.Body
-b9 = Syntax.assign (Syntax.place 24 List.[]) (Syntax.addrOf (Syntax.place 5 ((Syntax.field 0) ∷ (Syntax.deref (Syntax.tyInt Syntax.w32)) ∷ List.[])))
+b9 = Syntax.assign (Syntax.place 24 List.[]) (Syntax.addrOf (Syntax.place 5 ((Syntax.field 0) ∷
+    (Syntax.deref (Syntax.tyInt Syntax.w32)) ∷ List.[])))
+
 abbrev b10 : Syntax.Body
-b10 = Syntax.assign (Syntax.place 25 List.[]) (Syntax.aggregate ((Syntax.copy (Syntax.place 24 List.[])) ∷ (Syntax.copy (Syntax.place 5 ((Syntax.field
-    1) ∷ List.[]))) ∷ List.[]))
+b10 = Syntax.assign (Syntax.place 25 List.[]) (Syntax.aggregate ((Syntax.copy (Syntax.place 24 List.[])) ∷
+    (Syntax.copy (Syntax.place 5 ((Syntax.field 1) ∷ List.[]))) ∷ List.[]))
+
 abbrev b11 : Syntax.Body
-b11 = Syntax.call "hnsr_circuit::acknowledge::acknowledge" ((Syntax.copy (Syntax.place 19 List.[])) ∷ (Syntax.copy (Syntax.place 21 List.[])) ∷
-    (Syntax.copy (Syntax.place 23 List.[])) ∷ (Syntax.copy (Syntax.place 25 List.[])) ∷ (Syntax.copy (Syntax.place 10 List.[])) ∷ (Syntax.copy
-    (Syntax.place 11 List.[])) ∷ (Syntax.int Syntax.w64 1) ∷ (Syntax.int Syntax.w64 3) ∷ Syntax.opdTrue ∷ List.[]) (Syntax.place 12 List.[])
+b11 = Syntax.call "hnsr_circuit::acknowledge::acknowledge" ((Syntax.copy (Syntax.place 19 List.[])) ∷
+    (Syntax.copy (Syntax.place 21 List.[])) ∷ (Syntax.copy (Syntax.place 23 List.[])) ∷
+    (Syntax.copy (Syntax.place 25 List.[])) ∷ (Syntax.copy (Syntax.place 10 List.[])) ∷
+    (Syntax.copy (Syntax.place 11 List.[])) ∷ (Syntax.int Syntax.w64 1) ∷ (Syntax.int Syntax.w64 3) ∷ Syntax.opdTrue ∷
+    List.[]) (Syntax.place 12 List.[])
+
 abbrev b12 : Syntax.Body
-b12 = Syntax.assign (Syntax.place 26 List.[]) (Syntax.addrOf (Syntax.place 1 ((Syntax.field 0) ∷ (Syntax.deref RelayPending.ty) ∷ List.[])))
+b12 = Syntax.assign (Syntax.place 26 List.[]) (Syntax.addrOf (Syntax.place 1 ((Syntax.field 0) ∷
+    (Syntax.deref RelayPending.ty) ∷ List.[])))
+
 abbrev b13 : Syntax.Body
-b13 = Syntax.assign (Syntax.place 27 List.[]) (Syntax.aggregate ((Syntax.copy (Syntax.place 26 List.[])) ∷ (Syntax.copy (Syntax.place 1 ((Syntax.field
-    1) ∷ List.[]))) ∷ List.[]))
+b13 = Syntax.assign (Syntax.place 27 List.[]) (Syntax.aggregate ((Syntax.copy (Syntax.place 26 List.[])) ∷
+    (Syntax.copy (Syntax.place 1 ((Syntax.field 1) ∷ List.[]))) ∷ List.[]))
+
 abbrev b14 : Syntax.Body
-b14 = Syntax.assign (Syntax.place 28 List.[]) (Syntax.addrOf (Syntax.place 2 ((Syntax.field 0) ∷ (Syntax.deref RelayCircuit.ty) ∷ List.[])))
+b14 = Syntax.assign (Syntax.place 28 List.[]) (Syntax.addrOf (Syntax.place 2 ((Syntax.field 0) ∷
+    (Syntax.deref RelayCircuit.ty) ∷ List.[])))
+
 abbrev b15 : Syntax.Body
-b15 = Syntax.assign (Syntax.place 29 List.[]) (Syntax.aggregate ((Syntax.copy (Syntax.place 28 List.[])) ∷ (Syntax.copy (Syntax.place 2 ((Syntax.field
-    1) ∷ List.[]))) ∷ List.[]))
+b15 = Syntax.assign (Syntax.place 29 List.[]) (Syntax.aggregate ((Syntax.copy (Syntax.place 28 List.[])) ∷
+    (Syntax.copy (Syntax.place 2 ((Syntax.field 1) ∷ List.[]))) ∷ List.[]))
+
 abbrev b16 : Syntax.Body
-b16 = Syntax.assign (Syntax.place 30 List.[]) (Syntax.addrOf (Syntax.place 3 ((Syntax.field 0) ∷ (Syntax.deref ReservationUsage.ty) ∷ List.[])))
+b16 = Syntax.assign (Syntax.place 30 List.[]) (Syntax.addrOf (Syntax.place 3 ((Syntax.field 0) ∷
+    (Syntax.deref ReservationUsage.ty) ∷ List.[])))
+
 abbrev b17 : Syntax.Body
-b17 = Syntax.assign (Syntax.place 31 List.[]) (Syntax.aggregate ((Syntax.copy (Syntax.place 30 List.[])) ∷ (Syntax.copy (Syntax.place 3 ((Syntax.field
-    1) ∷ List.[]))) ∷ List.[]))
+b17 = Syntax.assign (Syntax.place 31 List.[]) (Syntax.aggregate ((Syntax.copy (Syntax.place 30 List.[])) ∷
+    (Syntax.copy (Syntax.place 3 ((Syntax.field 1) ∷ List.[]))) ∷ List.[]))
+
 abbrev b18 : Syntax.Body
-b18 = Syntax.assign (Syntax.place 32 List.[]) (Syntax.addrOf (Syntax.place 4 ((Syntax.field 0) ∷ (Syntax.deref InflightAction.ty) ∷ List.[])))
+b18 = Syntax.assign (Syntax.place 32 List.[]) (Syntax.addrOf (Syntax.place 4 ((Syntax.field 0) ∷
+    (Syntax.deref InflightAction.ty) ∷ List.[])))
+
 abbrev b19 : Syntax.Body
-b19 = Syntax.assign (Syntax.place 33 List.[]) (Syntax.aggregate ((Syntax.copy (Syntax.place 32 List.[])) ∷ (Syntax.copy (Syntax.place 4 ((Syntax.field
-    1) ∷ List.[]))) ∷ List.[]))
+b19 = Syntax.assign (Syntax.place 33 List.[]) (Syntax.aggregate ((Syntax.copy (Syntax.place 32 List.[])) ∷
+    (Syntax.copy (Syntax.place 4 ((Syntax.field 1) ∷ List.[]))) ∷ List.[]))
+
 abbrev b20 : Syntax.Body
-b20 = Syntax.assign (Syntax.place 34 List.[]) (Syntax.addrOf (Syntax.place 5 ((Syntax.field 0) ∷ (Syntax.deref (Syntax.tyInt Syntax.w32)) ∷ List.[])))
+b20 = Syntax.assign (Syntax.place 34 List.[]) (Syntax.addrOf (Syntax.place 5 ((Syntax.field 0) ∷
+    (Syntax.deref (Syntax.tyInt Syntax.w32)) ∷ List.[])))
+
 abbrev b21 : Syntax.Body
-b21 = Syntax.assign (Syntax.place 35 List.[]) (Syntax.aggregate ((Syntax.copy (Syntax.place 34 List.[])) ∷ (Syntax.copy (Syntax.place 5 ((Syntax.field
-    1) ∷ List.[]))) ∷ List.[]))
+b21 = Syntax.assign (Syntax.place 35 List.[]) (Syntax.aggregate ((Syntax.copy (Syntax.place 34 List.[])) ∷
+    (Syntax.copy (Syntax.place 5 ((Syntax.field 1) ∷ List.[]))) ∷ List.[]))
+
 abbrev b22 : Syntax.Body
-b22 = Syntax.call "cases::machine::deliver" ((Syntax.copy (Syntax.place 27 List.[])) ∷ (Syntax.copy (Syntax.place 29 List.[])) ∷ (Syntax.copy
-    (Syntax.place 31 List.[])) ∷ (Syntax.copy (Syntax.place 33 List.[])) ∷ (Syntax.copy (Syntax.place 35 List.[])) ∷ (Syntax.copy (Syntax.place 12
-    List.[])) ∷ (Syntax.copy (Syntax.place 7 List.[])) ∷ (Syntax.int Syntax.w8 1) ∷ (Syntax.copy (Syntax.place 8 List.[])) ∷ List.[]) (Syntax.place 13
-    List.[])
+b22 = Syntax.call "cases::machine::deliver" ((Syntax.copy (Syntax.place 27 List.[])) ∷
+    (Syntax.copy (Syntax.place 29 List.[])) ∷ (Syntax.copy (Syntax.place 31 List.[])) ∷
+    (Syntax.copy (Syntax.place 33 List.[])) ∷ (Syntax.copy (Syntax.place 35 List.[])) ∷
+    (Syntax.copy (Syntax.place 12 List.[])) ∷ (Syntax.copy (Syntax.place 7 List.[])) ∷ (Syntax.int Syntax.w8 1) ∷
+    (Syntax.copy (Syntax.place 8 List.[])) ∷ List.[]) (Syntax.place 13 List.[])
+
 abbrev b23 : Syntax.Body
-b23 = Syntax.assign (Syntax.place 14 List.[]) (Syntax.rvOpd (Syntax.copy (Syntax.place 13 ((Syntax.field 1) ∷ List.[]))))
+b23 = Syntax.assign (Syntax.place 14 List.[]) (Syntax.rvOpd (Syntax.copy
+    (Syntax.place 13 ((Syntax.field 1) ∷ List.[]))))
+
 abbrev b24 : Syntax.Body
-b24 = Syntax.call "cases::script::answer_number" ((Syntax.copy (Syntax.place 14 List.[])) ∷ List.[]) (Syntax.place 0 List.[])
+b24 = Syntax.call "cases::script::answer_number" ((Syntax.copy (Syntax.place 14 List.[])) ∷ List.[])
+    (Syntax.place 0 List.[])
+
 abbrev b25 : Syntax.Body
 b25 = Syntax.return
+
 abbrev b26 : Syntax.Body
 b26 = Syntax.seq b24 b25
+
 abbrev b27 : Syntax.Body
 b27 = Syntax.seq b23 b26
+
 abbrev b28 : Syntax.Body
 b28 = Syntax.seq b22 b27
+
 abbrev b29 : Syntax.Body
 b29 = Syntax.seq b21 b28
+
 abbrev b30 : Syntax.Body
 b30 = Syntax.seq b20 b29
+
 abbrev b31 : Syntax.Body
 b31 = Syntax.seq b19 b30
+
 abbrev b32 : Syntax.Body
 b32 = Syntax.seq b18 b31
+
 abbrev b33 : Syntax.Body
 b33 = Syntax.seq b17 b32
+
 abbrev b34 : Syntax.Body
 b34 = Syntax.seq b16 b33
+
 abbrev b35 : Syntax.Body
 b35 = Syntax.seq b15 b34
+
 abbrev b36 : Syntax.Body
 b36 = Syntax.seq b14 b35
+
 abbrev b37 : Syntax.Body
 b37 = Syntax.seq b13 b36
+
 abbrev b38 : Syntax.Body
 b38 = Syntax.seq b12 b37
+
 abbrev b39 : Syntax.Body
 b39 = Syntax.seq b11 b38
+
 abbrev b40 : Syntax.Body
 b40 = Syntax.seq b10 b39
+
 abbrev b41 : Syntax.Body
 b41 = Syntax.seq b9 b40
+
 abbrev b42 : Syntax.Body
 b42 = Syntax.seq b8 b41
+
 abbrev b43 : Syntax.Body
 b43 = Syntax.seq b7 b42
+
 abbrev b44 : Syntax.Body
 b44 = Syntax.seq b6 b43
+
 abbrev b45 : Syntax.Body
 b45 = Syntax.seq b5 b44
+
 abbrev b46 : Syntax.Body
 b46 = Syntax.seq b4 b45
+
 abbrev b47 : Syntax.Body
 b47 = Syntax.seq b3 b46
+
 abbrev b48 : Syntax.Body
 b48 = Syntax.seq b2 b47
+
 abbrev b49 : Syntax.Body
 b49 = Syntax.seq b1 b48
+
 abbrev b50 : Syntax.Body
 b50 = Syntax.skip
+
 abbrev b51 : Syntax.Body
 b51 = Syntax.cond (Syntax.copy (Syntax.place 17 List.[])) b49 b50
+
 abbrev b52 : Syntax.Body
-b52 = Syntax.assign (Syntax.place 36 List.[]) (Syntax.addrOf (Syntax.place 1 ((Syntax.field 0) ∷ (Syntax.deref RelayPending.ty) ∷ List.[])))
+b52 = Syntax.assign (Syntax.place 36 List.[]) (Syntax.addrOf (Syntax.place 1 ((Syntax.field 0) ∷
+    (Syntax.deref RelayPending.ty) ∷ List.[])))
+
 abbrev b53 : Syntax.Body
-b53 = Syntax.assign (Syntax.place 37 List.[]) (Syntax.aggregate ((Syntax.copy (Syntax.place 36 List.[])) ∷ (Syntax.copy (Syntax.place 1 ((Syntax.field
-    1) ∷ List.[]))) ∷ List.[]))
+b53 = Syntax.assign (Syntax.place 37 List.[]) (Syntax.aggregate ((Syntax.copy (Syntax.place 36 List.[])) ∷
+    (Syntax.copy (Syntax.place 1 ((Syntax.field 1) ∷ List.[]))) ∷ List.[]))
+
 abbrev b54 : Syntax.Body
-b54 = Syntax.assign (Syntax.place 38 List.[]) (Syntax.addrOf (Syntax.place 2 ((Syntax.field 0) ∷ (Syntax.deref RelayCircuit.ty) ∷ List.[])))
+b54 = Syntax.assign (Syntax.place 38 List.[]) (Syntax.addrOf (Syntax.place 2 ((Syntax.field 0) ∷
+    (Syntax.deref RelayCircuit.ty) ∷ List.[])))
+
 abbrev b55 : Syntax.Body
-b55 = Syntax.assign (Syntax.place 39 List.[]) (Syntax.aggregate ((Syntax.copy (Syntax.place 38 List.[])) ∷ (Syntax.copy (Syntax.place 2 ((Syntax.field
-    1) ∷ List.[]))) ∷ List.[]))
+b55 = Syntax.assign (Syntax.place 39 List.[]) (Syntax.aggregate ((Syntax.copy (Syntax.place 38 List.[])) ∷
+    (Syntax.copy (Syntax.place 2 ((Syntax.field 1) ∷ List.[]))) ∷ List.[]))
+
 abbrev b56 : Syntax.Body
-b56 = Syntax.assign (Syntax.place 40 List.[]) (Syntax.addrOf (Syntax.place 3 ((Syntax.field 0) ∷ (Syntax.deref ReservationUsage.ty) ∷ List.[])))
+b56 = Syntax.assign (Syntax.place 40 List.[]) (Syntax.addrOf (Syntax.place 3 ((Syntax.field 0) ∷
+    (Syntax.deref ReservationUsage.ty) ∷ List.[])))
+
 abbrev b57 : Syntax.Body
-b57 = Syntax.assign (Syntax.place 41 List.[]) (Syntax.aggregate ((Syntax.copy (Syntax.place 40 List.[])) ∷ (Syntax.copy (Syntax.place 3 ((Syntax.field
-    1) ∷ List.[]))) ∷ List.[]))
+b57 = Syntax.assign (Syntax.place 41 List.[]) (Syntax.aggregate ((Syntax.copy (Syntax.place 40 List.[])) ∷
+    (Syntax.copy (Syntax.place 3 ((Syntax.field 1) ∷ List.[]))) ∷ List.[]))
+
 abbrev b58 : Syntax.Body
-b58 = Syntax.assign (Syntax.place 42 List.[]) (Syntax.addrOf (Syntax.place 4 ((Syntax.field 0) ∷ (Syntax.deref InflightAction.ty) ∷ List.[])))
+b58 = Syntax.assign (Syntax.place 42 List.[]) (Syntax.addrOf (Syntax.place 4 ((Syntax.field 0) ∷
+    (Syntax.deref InflightAction.ty) ∷ List.[])))
+
 abbrev b59 : Syntax.Body
-b59 = Syntax.assign (Syntax.place 43 List.[]) (Syntax.aggregate ((Syntax.copy (Syntax.place 42 List.[])) ∷ (Syntax.copy (Syntax.place 4 ((Syntax.field
-    1) ∷ List.[]))) ∷ List.[]))
+b59 = Syntax.assign (Syntax.place 43 List.[]) (Syntax.aggregate ((Syntax.copy (Syntax.place 42 List.[])) ∷
+    (Syntax.copy (Syntax.place 4 ((Syntax.field 1) ∷ List.[]))) ∷ List.[]))
+
 abbrev b60 : Syntax.Body
-b60 = Syntax.assign (Syntax.place 44 List.[]) (Syntax.addrOf (Syntax.place 5 ((Syntax.field 0) ∷ (Syntax.deref (Syntax.tyInt Syntax.w32)) ∷ List.[])))
+b60 = Syntax.assign (Syntax.place 44 List.[]) (Syntax.addrOf (Syntax.place 5 ((Syntax.field 0) ∷
+    (Syntax.deref (Syntax.tyInt Syntax.w32)) ∷ List.[])))
+
 abbrev b61 : Syntax.Body
-b61 = Syntax.assign (Syntax.place 45 List.[]) (Syntax.aggregate ((Syntax.copy (Syntax.place 44 List.[])) ∷ (Syntax.copy (Syntax.place 5 ((Syntax.field
-    1) ∷ List.[]))) ∷ List.[]))
+b61 = Syntax.assign (Syntax.place 45 List.[]) (Syntax.aggregate ((Syntax.copy (Syntax.place 44 List.[])) ∷
+    (Syntax.copy (Syntax.place 5 ((Syntax.field 1) ∷ List.[]))) ∷ List.[]))
+
 abbrev b62 : Syntax.Body
-b62 = Syntax.call "cases::machine::deliver" ((Syntax.copy (Syntax.place 37 List.[])) ∷ (Syntax.copy (Syntax.place 39 List.[])) ∷ (Syntax.copy
-    (Syntax.place 41 List.[])) ∷ (Syntax.copy (Syntax.place 43 List.[])) ∷ (Syntax.copy (Syntax.place 45 List.[])) ∷ (Syntax.copy (Syntax.place 6
-    List.[])) ∷ (Syntax.copy (Syntax.place 7 List.[])) ∷ (Syntax.int Syntax.w8 1) ∷ (Syntax.copy (Syntax.place 8 List.[])) ∷ List.[]) (Syntax.place 15
-    List.[])
+b62 = Syntax.call "cases::machine::deliver" ((Syntax.copy (Syntax.place 37 List.[])) ∷
+    (Syntax.copy (Syntax.place 39 List.[])) ∷ (Syntax.copy (Syntax.place 41 List.[])) ∷
+    (Syntax.copy (Syntax.place 43 List.[])) ∷ (Syntax.copy (Syntax.place 45 List.[])) ∷
+    (Syntax.copy (Syntax.place 6 List.[])) ∷ (Syntax.copy (Syntax.place 7 List.[])) ∷ (Syntax.int Syntax.w8 1) ∷
+    (Syntax.copy (Syntax.place 8 List.[])) ∷ List.[]) (Syntax.place 15 List.[])
+
 abbrev b63 : Syntax.Body
-b63 = Syntax.assign (Syntax.place 16 List.[]) (Syntax.rvOpd (Syntax.copy (Syntax.place 15 ((Syntax.field 1) ∷ List.[]))))
+b63 = Syntax.assign (Syntax.place 16 List.[]) (Syntax.rvOpd (Syntax.copy
+    (Syntax.place 15 ((Syntax.field 1) ∷ List.[]))))
+
 abbrev b64 : Syntax.Body
-b64 = Syntax.call "cases::script::answer_number" ((Syntax.copy (Syntax.place 16 List.[])) ∷ List.[]) (Syntax.place 0 List.[])
+b64 = Syntax.call "cases::script::answer_number" ((Syntax.copy (Syntax.place 16 List.[])) ∷ List.[])
+    (Syntax.place 0 List.[])
+
 abbrev b65 : Syntax.Body
 b65 = Syntax.return
+
 abbrev b66 : Syntax.Body
 b66 = Syntax.seq b64 b65
+
 abbrev b67 : Syntax.Body
 b67 = Syntax.seq b63 b66
+
 abbrev b68 : Syntax.Body
 b68 = Syntax.seq b62 b67
+
 abbrev b69 : Syntax.Body
 b69 = Syntax.seq b61 b68
+
 abbrev b70 : Syntax.Body
 b70 = Syntax.seq b60 b69
+
 abbrev b71 : Syntax.Body
 b71 = Syntax.seq b59 b70
+
 abbrev b72 : Syntax.Body
 b72 = Syntax.seq b58 b71
+
 abbrev b73 : Syntax.Body
 b73 = Syntax.seq b57 b72
+
 abbrev b74 : Syntax.Body
 b74 = Syntax.seq b56 b73
+
 abbrev b75 : Syntax.Body
 b75 = Syntax.seq b55 b74
+
 abbrev b76 : Syntax.Body
 b76 = Syntax.seq b54 b75
+
 abbrev b77 : Syntax.Body
 b77 = Syntax.seq b53 b76
+
 abbrev b78 : Syntax.Body
 b78 = Syntax.seq b52 b77
+
 abbrev b79 : Syntax.Body
 b79 = Syntax.seq b51 b78
+
 abbrev b80 : Syntax.Body
 b80 = Syntax.seq b0 b79
+
 abbrev pub body : Syntax.Body
 body = b80
+
 abbrev pub Claims : Type 1
-Claims = Kinds.In 4 ps·0 × Kinds.Out 4 ps·0 r·0 × Kinds.In 6 ps·1 × Kinds.Out 6 ps·1 r·1 × Kinds.In 0 ps·2 × Kinds.Out 0 ps·2 r·2
+Claims = Kinds.In 4 ps·0 × Kinds.Out 4 ps·0 r·0 × Kinds.In 6 ps·1 × Kinds.Out 6 ps·1 r·1 × Kinds.In 0 ps·2 × Kinds.Out
+    0 ps·2 r·2
+
 abbrev e0 : Row.Entry
 e0 = (0, Rows.any-gone (Syntax.tyInt Syntax.w64))
+
 abbrev e1 : Row.Entry
 e1 = (1, Mut.mslice RelayPending.row ref5 0)
+
 abbrev e2 : Row.Entry
 e2 = (2, Mut.mslice RelayCircuit.row ref6 1)
+
 abbrev e3 : Row.Entry
 e3 = (3, Mut.mslice ReservationUsage.row ref7 2)
+
 abbrev e4 : Row.Entry
 e4 = (4, Mut.mslice InflightAction.row ref8 3)
+
 abbrev e5 : Row.Entry
 e5 = (5, Mut.mslice (Referent.rtF (Referent.fInt Syntax.w32)) ref9 4)
+
 abbrev e6 : Row.Entry
 e6 = (6, Rows.whole (Declared'.row Relayed.the-type))
+
 abbrev e7 : Row.Entry
 e7 = (7, Rows.whole (Declared'.row RelayPacket.the-type))
+
 abbrev e8 : Row.Entry
 e8 = (8, Rows.sslice (Referent.rtF (Referent.fInt Syntax.w8)) ref10 5)
+
 abbrev e9 : Row.Entry
 e9 = (9, Rows.sc-here Row.sBool)
+
 abbrev e10 : Row.Entry
 e10 = (10, Rows.any-gone Laws'''.mir)
+
 abbrev e11 : Row.Entry
 e11 = (11, Rows.any-gone Laws'.mir)
+
 abbrev e12 : Row.Entry
 e12 = (12, Rows.any-gone Laws''''.mir)
+
 abbrev e13 : Row.Entry
 e13 = (13, Rows.any-gone Laws''''.mir)
+
 abbrev e14 : Row.Entry
 e14 = (14, Rows.any-gone Laws.mir)
+
 abbrev e15 : Row.Entry
 e15 = (15, Rows.any-gone Laws''''.mir)
+
 abbrev e16 : Row.Entry
 e16 = (16, Rows.any-gone Laws.mir)
+
 abbrev e17 : Row.Entry
 e17 = (17, Rows.any-gone Syntax.tyBool)
+
 abbrev e18 : Row.Entry
 e18 = (18, Rows.any-gone ref0)
+
 abbrev e19 : Row.Entry
-e19 = (19, Rows.any-gone (Syntax.tyStruct (38 ∷ 91 ∷ 93 ∷ List.[]) (Syntax.tcons ref0 (Syntax.tcons (Syntax.tyInt Syntax.w64) Syntax.tnil))))
+e19 = (19, Rows.any-gone slice0)
+
 abbrev e20 : Row.Entry
 e20 = (20, Rows.any-gone ref1)
+
 abbrev e21 : Row.Entry
-e21 = (21, Rows.any-gone (Syntax.tyStruct (38 ∷ 91 ∷ 93 ∷ List.[]) (Syntax.tcons ref1 (Syntax.tcons (Syntax.tyInt Syntax.w64) Syntax.tnil))))
+e21 = (21, Rows.any-gone slice1)
+
 abbrev e22 : Row.Entry
 e22 = (22, Rows.any-gone ref2)
+
 abbrev e23 : Row.Entry
-e23 = (23, Rows.any-gone (Syntax.tyStruct (38 ∷ 91 ∷ 93 ∷ List.[]) (Syntax.tcons ref2 (Syntax.tcons (Syntax.tyInt Syntax.w64) Syntax.tnil))))
+e23 = (23, Rows.any-gone slice2)
+
 abbrev e24 : Row.Entry
 e24 = (24, Rows.any-gone ref3)
+
 abbrev e25 : Row.Entry
-e25 = (25, Rows.any-gone (Syntax.tyStruct (38 ∷ 91 ∷ 93 ∷ List.[]) (Syntax.tcons ref3 (Syntax.tcons (Syntax.tyInt Syntax.w64) Syntax.tnil))))
+e25 = (25, Rows.any-gone slice3)
+
 abbrev e26 : Row.Entry
 e26 = (26, Rows.any-gone ref0)
+
 abbrev e27 : Row.Entry
-e27 = (27, Rows.any-gone (Syntax.tyStruct (38 ∷ 91 ∷ 93 ∷ List.[]) (Syntax.tcons ref0 (Syntax.tcons (Syntax.tyInt Syntax.w64) Syntax.tnil))))
+e27 = (27, Rows.any-gone slice0)
+
 abbrev e28 : Row.Entry
 e28 = (28, Rows.any-gone ref1)
+
 abbrev e29 : Row.Entry
-e29 = (29, Rows.any-gone (Syntax.tyStruct (38 ∷ 91 ∷ 93 ∷ List.[]) (Syntax.tcons ref1 (Syntax.tcons (Syntax.tyInt Syntax.w64) Syntax.tnil))))
+e29 = (29, Rows.any-gone slice1)
+
 abbrev e30 : Row.Entry
 e30 = (30, Rows.any-gone ref4)
+
 abbrev e31 : Row.Entry
-e31 = (31, Rows.any-gone (Syntax.tyStruct (38 ∷ 91 ∷ 93 ∷ List.[]) (Syntax.tcons ref4 (Syntax.tcons (Syntax.tyInt Syntax.w64) Syntax.tnil))))
+e31 = (31, Rows.any-gone slice4)
+
 abbrev e32 : Row.Entry
 e32 = (32, Rows.any-gone ref2)
+
 abbrev e33 : Row.Entry
-e33 = (33, Rows.any-gone (Syntax.tyStruct (38 ∷ 91 ∷ 93 ∷ List.[]) (Syntax.tcons ref2 (Syntax.tcons (Syntax.tyInt Syntax.w64) Syntax.tnil))))
+e33 = (33, Rows.any-gone slice2)
+
 abbrev e34 : Row.Entry
 e34 = (34, Rows.any-gone ref3)
+
 abbrev e35 : Row.Entry
-e35 = (35, Rows.any-gone (Syntax.tyStruct (38 ∷ 91 ∷ 93 ∷ List.[]) (Syntax.tcons ref3 (Syntax.tcons (Syntax.tyInt Syntax.w64) Syntax.tnil))))
+e35 = (35, Rows.any-gone slice3)
+
 abbrev e36 : Row.Entry
 e36 = (36, Rows.any-gone ref0)
+
 abbrev e37 : Row.Entry
-e37 = (37, Rows.any-gone (Syntax.tyStruct (38 ∷ 91 ∷ 93 ∷ List.[]) (Syntax.tcons ref0 (Syntax.tcons (Syntax.tyInt Syntax.w64) Syntax.tnil))))
+e37 = (37, Rows.any-gone slice0)
+
 abbrev e38 : Row.Entry
 e38 = (38, Rows.any-gone ref1)
+
 abbrev e39 : Row.Entry
-e39 = (39, Rows.any-gone (Syntax.tyStruct (38 ∷ 91 ∷ 93 ∷ List.[]) (Syntax.tcons ref1 (Syntax.tcons (Syntax.tyInt Syntax.w64) Syntax.tnil))))
+e39 = (39, Rows.any-gone slice1)
+
 abbrev e40 : Row.Entry
 e40 = (40, Rows.any-gone ref4)
+
 abbrev e41 : Row.Entry
-e41 = (41, Rows.any-gone (Syntax.tyStruct (38 ∷ 91 ∷ 93 ∷ List.[]) (Syntax.tcons ref4 (Syntax.tcons (Syntax.tyInt Syntax.w64) Syntax.tnil))))
+e41 = (41, Rows.any-gone slice4)
+
 abbrev e42 : Row.Entry
 e42 = (42, Rows.any-gone ref2)
+
 abbrev e43 : Row.Entry
-e43 = (43, Rows.any-gone (Syntax.tyStruct (38 ∷ 91 ∷ 93 ∷ List.[]) (Syntax.tcons ref2 (Syntax.tcons (Syntax.tyInt Syntax.w64) Syntax.tnil))))
+e43 = (43, Rows.any-gone slice2)
+
 abbrev e44 : Row.Entry
 e44 = (44, Rows.any-gone ref3)
+
 abbrev e45 : Row.Entry
-e45 = (45, Rows.any-gone (Syntax.tyStruct (38 ∷ 91 ∷ 93 ∷ List.[]) (Syntax.tcons ref3 (Syntax.tcons (Syntax.tyInt Syntax.w64) Syntax.tnil))))
+e45 = (45, Rows.any-gone slice3)
+
 abbrev e0·1 : Row.Entry
 e0·1 = (0, Rows.sc-here (Row.sInt Syntax.w64))
+
 abbrev e6·1 : Row.Entry
 e6·1 = (6, Rows.any-gone Laws''''.mir)
+
 abbrev e7·1 : Row.Entry
 e7·1 = (7, Rows.any-gone Laws''.mir)
+
 abbrev e9·1 : Row.Entry
 e9·1 = (9, Rows.any-gone Syntax.tyBool)
+
 abbrev e17·1 : Row.Entry
 e17·1 = (17, Rows.sc-here Row.sBool)
+
 abbrev e10·1 : Row.Entry
 e10·1 = (10, Rows.whole (Declared'.row OpaqueRelayRuntime.the-type))
+
 abbrev e11·1 : Row.Entry
 e11·1 = (11, Rows.whole (Declared'.row Places.the-type))
+
 abbrev e1·1 : Row.Entry
 e1·1 = (1, Relend.mslice-owed RelayPending.row ref5 0 6 Row.off)
+
 abbrev e18·1 : Row.Entry
 e18·1 = (18, Relend.msptr RelayPending.row ref0 6)
+
 abbrev e19·1 : Row.Entry
 e19·1 = (19, Mut.mslice RelayPending.row ref0 6)
+
 abbrev e2·1 : Row.Entry
 e2·1 = (2, Relend.mslice-owed RelayCircuit.row ref6 1 7 Row.off)
+
 abbrev e20·1 : Row.Entry
 e20·1 = (20, Relend.msptr RelayCircuit.row ref1 7)
+
 abbrev e21·1 : Row.Entry
 e21·1 = (21, Mut.mslice RelayCircuit.row ref1 7)
+
 abbrev e4·1 : Row.Entry
 e4·1 = (4, Relend.mslice-owed InflightAction.row ref8 3 8 Row.off)
+
 abbrev e22·1 : Row.Entry
 e22·1 = (22, Relend.msptr InflightAction.row ref2 8)
+
 abbrev e23·1 : Row.Entry
 e23·1 = (23, Mut.mslice InflightAction.row ref2 8)
+
 abbrev e5·1 : Row.Entry
 e5·1 = (5, Relend.mslice-owed (Referent.rtF (Referent.fInt Syntax.w32)) ref9 4 9 Row.off)
+
 abbrev e24·1 : Row.Entry
 e24·1 = (24, Relend.msptr (Referent.rtF (Referent.fInt Syntax.w32)) ref3 9)
+
 abbrev e25·1 : Row.Entry
 e25·1 = (25, Mut.mslice (Referent.rtF (Referent.fInt Syntax.w32)) ref3 9)
+
 abbrev e12·1 : Row.Entry
 e12·1 = (12, Rows.whole (Declared'.row Relayed.the-type))
+
 abbrev e19·2 : Row.Entry
 e19·2 = (19, Mut.msleft RelayPending.row ref0)
+
 abbrev e21·2 : Row.Entry
 e21·2 = (21, Mut.msleft RelayCircuit.row ref1)
+
 abbrev e23·2 : Row.Entry
 e23·2 = (23, Mut.msleft InflightAction.row ref2)
+
 abbrev e25·2 : Row.Entry
 e25·2 = (25, Mut.msleft (Referent.rtF (Referent.fInt Syntax.w32)) ref3)
+
 abbrev e1·2 : Row.Entry
 e1·2 = (1, Relend.mslice-owed RelayPending.row ref5 0 10 Row.off)
+
 abbrev e26·1 : Row.Entry
 e26·1 = (26, Relend.msptr RelayPending.row ref0 10)
+
 abbrev e27·1 : Row.Entry
 e27·1 = (27, Mut.mslice RelayPending.row ref0 10)
+
 abbrev e2·2 : Row.Entry
 e2·2 = (2, Relend.mslice-owed RelayCircuit.row ref6 1 11 Row.off)
+
 abbrev e28·1 : Row.Entry
 e28·1 = (28, Relend.msptr RelayCircuit.row ref1 11)
+
 abbrev e29·1 : Row.Entry
 e29·1 = (29, Mut.mslice RelayCircuit.row ref1 11)
+
 abbrev e3·1 : Row.Entry
 e3·1 = (3, Relend.mslice-owed ReservationUsage.row ref7 2 12 Row.off)
+
 abbrev e30·1 : Row.Entry
 e30·1 = (30, Relend.msptr ReservationUsage.row ref4 12)
+
 abbrev e31·1 : Row.Entry
 e31·1 = (31, Mut.mslice ReservationUsage.row ref4 12)
+
 abbrev e4·2 : Row.Entry
 e4·2 = (4, Relend.mslice-owed InflightAction.row ref8 3 13 Row.off)
+
 abbrev e32·1 : Row.Entry
 e32·1 = (32, Relend.msptr InflightAction.row ref2 13)
+
 abbrev e33·1 : Row.Entry
 e33·1 = (33, Mut.mslice InflightAction.row ref2 13)
+
 abbrev e5·2 : Row.Entry
 e5·2 = (5, Relend.mslice-owed (Referent.rtF (Referent.fInt Syntax.w32)) ref9 4 14 Row.off)
+
 abbrev e34·1 : Row.Entry
 e34·1 = (34, Relend.msptr (Referent.rtF (Referent.fInt Syntax.w32)) ref3 14)
+
 abbrev e35·1 : Row.Entry
 e35·1 = (35, Mut.mslice (Referent.rtF (Referent.fInt Syntax.w32)) ref3 14)
+
 abbrev e13·1 : Row.Entry
 e13·1 = (13, Rows.whole (Declared'.row Relayed.the-type))
+
 abbrev e27·2 : Row.Entry
 e27·2 = (27, Mut.msleft RelayPending.row ref0)
+
 abbrev e29·2 : Row.Entry
 e29·2 = (29, Mut.msleft RelayCircuit.row ref1)
+
 abbrev e31·2 : Row.Entry
 e31·2 = (31, Mut.msleft ReservationUsage.row ref4)
+
 abbrev e33·2 : Row.Entry
 e33·2 = (33, Mut.msleft InflightAction.row ref2)
+
 abbrev e35·2 : Row.Entry
 e35·2 = (35, Mut.msleft (Referent.rtF (Referent.fInt Syntax.w32)) ref3)
+
 abbrev e14·1 : Row.Entry
 e14·1 = (14, Rows.whole (Declared.row HnsrAnswer.the-type))
+
 abbrev e1·3 : Row.Entry
 e1·3 = (1, Relend.mslice-owed RelayPending.row ref5 0 15 Row.off)
+
 abbrev e36·1 : Row.Entry
 e36·1 = (36, Relend.msptr RelayPending.row ref0 15)
+
 abbrev e37·1 : Row.Entry
 e37·1 = (37, Mut.mslice RelayPending.row ref0 15)
+
 abbrev e2·3 : Row.Entry
 e2·3 = (2, Relend.mslice-owed RelayCircuit.row ref6 1 16 Row.off)
+
 abbrev e38·1 : Row.Entry
 e38·1 = (38, Relend.msptr RelayCircuit.row ref1 16)
+
 abbrev e39·1 : Row.Entry
 e39·1 = (39, Mut.mslice RelayCircuit.row ref1 16)
+
 abbrev e3·2 : Row.Entry
 e3·2 = (3, Relend.mslice-owed ReservationUsage.row ref7 2 17 Row.off)
+
 abbrev e40·1 : Row.Entry
 e40·1 = (40, Relend.msptr ReservationUsage.row ref4 17)
+
 abbrev e41·1 : Row.Entry
 e41·1 = (41, Mut.mslice ReservationUsage.row ref4 17)
+
 abbrev e4·3 : Row.Entry
 e4·3 = (4, Relend.mslice-owed InflightAction.row ref8 3 18 Row.off)
+
 abbrev e42·1 : Row.Entry
 e42·1 = (42, Relend.msptr InflightAction.row ref2 18)
+
 abbrev e43·1 : Row.Entry
 e43·1 = (43, Mut.mslice InflightAction.row ref2 18)
+
 abbrev e5·3 : Row.Entry
 e5·3 = (5, Relend.mslice-owed (Referent.rtF (Referent.fInt Syntax.w32)) ref9 4 19 Row.off)
+
 abbrev e44·1 : Row.Entry
 e44·1 = (44, Relend.msptr (Referent.rtF (Referent.fInt Syntax.w32)) ref3 19)
+
 abbrev e45·1 : Row.Entry
 e45·1 = (45, Mut.mslice (Referent.rtF (Referent.fInt Syntax.w32)) ref3 19)
+
 abbrev e15·1 : Row.Entry
 e15·1 = (15, Rows.whole (Declared'.row Relayed.the-type))
+
 abbrev e37·2 : Row.Entry
 e37·2 = (37, Mut.msleft RelayPending.row ref0)
+
 abbrev e39·2 : Row.Entry
 e39·2 = (39, Mut.msleft RelayCircuit.row ref1)
+
 abbrev e41·2 : Row.Entry
 e41·2 = (41, Mut.msleft ReservationUsage.row ref4)
+
 abbrev e43·2 : Row.Entry
 e43·2 = (43, Mut.msleft InflightAction.row ref2)
+
 abbrev e45·2 : Row.Entry
 e45·2 = (45, Mut.msleft (Referent.rtF (Referent.fInt Syntax.w32)) ref3)
+
 abbrev e16·1 : Row.Entry
 e16·1 = (16, Rows.whole (Declared.row HnsrAnswer.the-type))
+
 abbrev pub t0 : List.List Row.Entry
 t0 = e0 ∷ e1 ∷ e2 ∷ e3 ∷ e4 ∷ e5 ∷ e6 ∷ e7 ∷ e8 ∷ e9 ∷ e10 ∷ e11 ∷ e12 ∷ e13 ∷ e14 ∷ e15 ∷ List.[]
+
 abbrev pub t1 : List.List Row.Entry
 t1 = e16 ∷ e17 ∷ e18 ∷ e19 ∷ e20 ∷ e21 ∷ e22 ∷ e23 ∷ e24 ∷ e25 ∷ e26 ∷ e27 ∷ e28 ∷ e29 ∷ e30 ∷ e31 ∷ List.[]
+
 abbrev pub t2 : List.List Row.Entry
 t2 = e32 ∷ e33 ∷ e34 ∷ e35 ∷ e36 ∷ e37 ∷ e38 ∷ e39 ∷ e40 ∷ e41 ∷ e42 ∷ e43 ∷ e44 ∷ e45 ∷ List.[]
+
 abbrev pub t3 : List.List Row.Entry
 t3 = e0·1 ∷ e1 ∷ e2 ∷ e3 ∷ e4 ∷ e5 ∷ e6·1 ∷ e7·1 ∷ e8 ∷ e9·1 ∷ e10 ∷ e11 ∷ e12 ∷ e13 ∷ e14 ∷ e15 ∷ List.[]
+
 abbrev pub t4 : List.List Row.Entry
 t4 = e16 ∷ e17·1 ∷ e18 ∷ e19 ∷ e20 ∷ e21 ∷ e22 ∷ e23 ∷ e24 ∷ e25 ∷ e26 ∷ e27 ∷ e28 ∷ e29 ∷ e30 ∷ e31 ∷ List.[]
+
 abbrev pub t5 : List.List Row.Entry
 t5 = e0 ∷ e1 ∷ e2 ∷ e3 ∷ e4 ∷ e5 ∷ e6 ∷ e7 ∷ e8 ∷ e9 ∷ e10·1 ∷ e11 ∷ e12 ∷ e13 ∷ e14 ∷ e15 ∷ List.[]
+
 abbrev pub t6 : List.List Row.Entry
 t6 = e0 ∷ e1 ∷ e2 ∷ e3 ∷ e4 ∷ e5 ∷ e6 ∷ e7 ∷ e8 ∷ e9 ∷ e10·1 ∷ e11·1 ∷ e12 ∷ e13 ∷ e14 ∷ e15 ∷ List.[]
+
 abbrev pub t7 : List.List Row.Entry
 t7 = e0 ∷ e1 ∷ e2 ∷ e3 ∷ e4 ∷ e5 ∷ e6·1 ∷ e7 ∷ e8 ∷ e9 ∷ e10·1 ∷ e11·1 ∷ e12 ∷ e13 ∷ e14 ∷ e15 ∷ List.[]
+
 abbrev pub t8 : List.List Row.Entry
 t8 = e0 ∷ e1·1 ∷ e2 ∷ e3 ∷ e4 ∷ e5 ∷ e6·1 ∷ e7 ∷ e8 ∷ e9 ∷ e10·1 ∷ e11·1 ∷ e12 ∷ e13 ∷ e14 ∷ e15 ∷ List.[]
+
 abbrev pub t9 : List.List Row.Entry
 t9 = e16 ∷ e17 ∷ e18·1 ∷ e19 ∷ e20 ∷ e21 ∷ e22 ∷ e23 ∷ e24 ∷ e25 ∷ e26 ∷ e27 ∷ e28 ∷ e29 ∷ e30 ∷ e31 ∷ List.[]
+
 abbrev pub t10 : List.List Row.Entry
 t10 = e16 ∷ e17 ∷ e18 ∷ e19·1 ∷ e20 ∷ e21 ∷ e22 ∷ e23 ∷ e24 ∷ e25 ∷ e26 ∷ e27 ∷ e28 ∷ e29 ∷ e30 ∷ e31 ∷ List.[]
+
 abbrev pub t11 : List.List Row.Entry
 t11 = e0 ∷ e1·1 ∷ e2·1 ∷ e3 ∷ e4 ∷ e5 ∷ e6·1 ∷ e7 ∷ e8 ∷ e9 ∷ e10·1 ∷ e11·1 ∷ e12 ∷ e13 ∷ e14 ∷ e15 ∷ List.[]
+
 abbrev pub t12 : List.List Row.Entry
 t12 = e16 ∷ e17 ∷ e18 ∷ e19·1 ∷ e20·1 ∷ e21 ∷ e22 ∷ e23 ∷ e24 ∷ e25 ∷ e26 ∷ e27 ∷ e28 ∷ e29 ∷ e30 ∷ e31 ∷ List.[]
+
 abbrev pub t13 : List.List Row.Entry
 t13 = e16 ∷ e17 ∷ e18 ∷ e19·1 ∷ e20 ∷ e21·1 ∷ e22 ∷ e23 ∷ e24 ∷ e25 ∷ e26 ∷ e27 ∷ e28 ∷ e29 ∷ e30 ∷ e31 ∷ List.[]
+
 abbrev pub t14 : List.List Row.Entry
 t14 = e0 ∷ e1·1 ∷ e2·1 ∷ e3 ∷ e4·1 ∷ e5 ∷ e6·1 ∷ e7 ∷ e8 ∷ e9 ∷ e10·1 ∷ e11·1 ∷ e12 ∷ e13 ∷ e14 ∷ e15 ∷ List.[]
+
 abbrev pub t15 : List.List Row.Entry
 t15 = e16 ∷ e17 ∷ e18 ∷ e19·1 ∷ e20 ∷ e21·1 ∷ e22·1 ∷ e23 ∷ e24 ∷ e25 ∷ e26 ∷ e27 ∷ e28 ∷ e29 ∷ e30 ∷ e31 ∷ List.[]
+
 abbrev pub t16 : List.List Row.Entry
 t16 = e16 ∷ e17 ∷ e18 ∷ e19·1 ∷ e20 ∷ e21·1 ∷ e22 ∷ e23·1 ∷ e24 ∷ e25 ∷ e26 ∷ e27 ∷ e28 ∷ e29 ∷ e30 ∷ e31 ∷ List.[]
+
 abbrev pub t17 : List.List Row.Entry
 t17 = e0 ∷ e1·1 ∷ e2·1 ∷ e3 ∷ e4·1 ∷ e5·1 ∷ e6·1 ∷ e7 ∷ e8 ∷ e9 ∷ e10·1 ∷ e11·1 ∷ e12 ∷ e13 ∷ e14 ∷ e15 ∷ List.[]
+
 abbrev pub t18 : List.List Row.Entry
 t18 = e16 ∷ e17 ∷ e18 ∷ e19·1 ∷ e20 ∷ e21·1 ∷ e22 ∷ e23·1 ∷ e24·1 ∷ e25 ∷ e26 ∷ e27 ∷ e28 ∷ e29 ∷ e30 ∷ e31 ∷ List.[]
+
 abbrev pub t19 : List.List Row.Entry
 t19 = e16 ∷ e17 ∷ e18 ∷ e19·1 ∷ e20 ∷ e21·1 ∷ e22 ∷ e23·1 ∷ e24 ∷ e25·1 ∷ e26 ∷ e27 ∷ e28 ∷ e29 ∷ e30 ∷ e31 ∷ List.[]
+
 abbrev pub t20 : List.List Row.Entry
 t20 = e0 ∷ e1·1 ∷ e2·1 ∷ e3 ∷ e4·1 ∷ e5·1 ∷ e6·1 ∷ e7 ∷ e8 ∷ e9 ∷ e10·1 ∷ e11·1 ∷ e12·1 ∷ e13 ∷ e14 ∷ e15 ∷ List.[]
+
 abbrev pub t21 : List.List Row.Entry
 t21 = e16 ∷ e17 ∷ e18 ∷ e19·2 ∷ e20 ∷ e21·2 ∷ e22 ∷ e23·2 ∷ e24 ∷ e25·2 ∷ e26 ∷ e27 ∷ e28 ∷ e29 ∷ e30 ∷ e31 ∷ List.[]
+
 abbrev pub t22 : List.List Row.Entry
 t22 = e0 ∷ e1·1 ∷ e2·1 ∷ e3 ∷ e4·1 ∷ e5·1 ∷ e6·1 ∷ e7 ∷ e8 ∷ e9 ∷ e10 ∷ e11·1 ∷ e12·1 ∷ e13 ∷ e14 ∷ e15 ∷ List.[]
+
 abbrev pub t23 : List.List Row.Entry
 t23 = e0 ∷ e1·1 ∷ e2·1 ∷ e3 ∷ e4·1 ∷ e5·1 ∷ e6·1 ∷ e7 ∷ e8 ∷ e9 ∷ e10 ∷ e11 ∷ e12·1 ∷ e13 ∷ e14 ∷ e15 ∷ List.[]
+
 abbrev pub t24 : List.List Row.Entry
 t24 = e0 ∷ e1 ∷ e2·1 ∷ e3 ∷ e4·1 ∷ e5·1 ∷ e6·1 ∷ e7 ∷ e8 ∷ e9 ∷ e10 ∷ e11 ∷ e12·1 ∷ e13 ∷ e14 ∷ e15 ∷ List.[]
+
 abbrev pub t25 : List.List Row.Entry
 t25 = e16 ∷ e17 ∷ e18 ∷ e19 ∷ e20 ∷ e21·2 ∷ e22 ∷ e23·2 ∷ e24 ∷ e25·2 ∷ e26 ∷ e27 ∷ e28 ∷ e29 ∷ e30 ∷ e31 ∷ List.[]
+
 abbrev pub t26 : List.List Row.Entry
 t26 = e0 ∷ e1 ∷ e2 ∷ e3 ∷ e4·1 ∷ e5·1 ∷ e6·1 ∷ e7 ∷ e8 ∷ e9 ∷ e10 ∷ e11 ∷ e12·1 ∷ e13 ∷ e14 ∷ e15 ∷ List.[]
+
 abbrev pub t27 : List.List Row.Entry
 t27 = e16 ∷ e17 ∷ e18 ∷ e19 ∷ e20 ∷ e21 ∷ e22 ∷ e23·2 ∷ e24 ∷ e25·2 ∷ e26 ∷ e27 ∷ e28 ∷ e29 ∷ e30 ∷ e31 ∷ List.[]
+
 abbrev pub t28 : List.List Row.Entry
 t28 = e0 ∷ e1 ∷ e2 ∷ e3 ∷ e4 ∷ e5·1 ∷ e6·1 ∷ e7 ∷ e8 ∷ e9 ∷ e10 ∷ e11 ∷ e12·1 ∷ e13 ∷ e14 ∷ e15 ∷ List.[]
+
 abbrev pub t29 : List.List Row.Entry
 t29 = e16 ∷ e17 ∷ e18 ∷ e19 ∷ e20 ∷ e21 ∷ e22 ∷ e23 ∷ e24 ∷ e25·2 ∷ e26 ∷ e27 ∷ e28 ∷ e29 ∷ e30 ∷ e31 ∷ List.[]
+
 abbrev pub t30 : List.List Row.Entry
 t30 = e0 ∷ e1 ∷ e2 ∷ e3 ∷ e4 ∷ e5 ∷ e6·1 ∷ e7 ∷ e8 ∷ e9 ∷ e10 ∷ e11 ∷ e12·1 ∷ e13 ∷ e14 ∷ e15 ∷ List.[]
+
 abbrev pub t31 : List.List Row.Entry
 t31 = e0 ∷ e1·2 ∷ e2 ∷ e3 ∷ e4 ∷ e5 ∷ e6·1 ∷ e7 ∷ e8 ∷ e9 ∷ e10 ∷ e11 ∷ e12·1 ∷ e13 ∷ e14 ∷ e15 ∷ List.[]
+
 abbrev pub t32 : List.List Row.Entry
 t32 = e16 ∷ e17 ∷ e18 ∷ e19 ∷ e20 ∷ e21 ∷ e22 ∷ e23 ∷ e24 ∷ e25 ∷ e26·1 ∷ e27 ∷ e28 ∷ e29 ∷ e30 ∷ e31 ∷ List.[]
+
 abbrev pub t33 : List.List Row.Entry
 t33 = e16 ∷ e17 ∷ e18 ∷ e19 ∷ e20 ∷ e21 ∷ e22 ∷ e23 ∷ e24 ∷ e25 ∷ e26 ∷ e27·1 ∷ e28 ∷ e29 ∷ e30 ∷ e31 ∷ List.[]
+
 abbrev pub t34 : List.List Row.Entry
 t34 = e0 ∷ e1·2 ∷ e2·2 ∷ e3 ∷ e4 ∷ e5 ∷ e6·1 ∷ e7 ∷ e8 ∷ e9 ∷ e10 ∷ e11 ∷ e12·1 ∷ e13 ∷ e14 ∷ e15 ∷ List.[]
+
 abbrev pub t35 : List.List Row.Entry
 t35 = e16 ∷ e17 ∷ e18 ∷ e19 ∷ e20 ∷ e21 ∷ e22 ∷ e23 ∷ e24 ∷ e25 ∷ e26 ∷ e27·1 ∷ e28·1 ∷ e29 ∷ e30 ∷ e31 ∷ List.[]
+
 abbrev pub t36 : List.List Row.Entry
 t36 = e16 ∷ e17 ∷ e18 ∷ e19 ∷ e20 ∷ e21 ∷ e22 ∷ e23 ∷ e24 ∷ e25 ∷ e26 ∷ e27·1 ∷ e28 ∷ e29·1 ∷ e30 ∷ e31 ∷ List.[]
+
 abbrev pub t37 : List.List Row.Entry
 t37 = e0 ∷ e1·2 ∷ e2·2 ∷ e3·1 ∷ e4 ∷ e5 ∷ e6·1 ∷ e7 ∷ e8 ∷ e9 ∷ e10 ∷ e11 ∷ e12·1 ∷ e13 ∷ e14 ∷ e15 ∷ List.[]
+
 abbrev pub t38 : List.List Row.Entry
 t38 = e16 ∷ e17 ∷ e18 ∷ e19 ∷ e20 ∷ e21 ∷ e22 ∷ e23 ∷ e24 ∷ e25 ∷ e26 ∷ e27·1 ∷ e28 ∷ e29·1 ∷ e30·1 ∷ e31 ∷ List.[]
+
 abbrev pub t39 : List.List Row.Entry
 t39 = e16 ∷ e17 ∷ e18 ∷ e19 ∷ e20 ∷ e21 ∷ e22 ∷ e23 ∷ e24 ∷ e25 ∷ e26 ∷ e27·1 ∷ e28 ∷ e29·1 ∷ e30 ∷ e31·1 ∷ List.[]
+
 abbrev pub t40 : List.List Row.Entry
 t40 = e0 ∷ e1·2 ∷ e2·2 ∷ e3·1 ∷ e4·2 ∷ e5 ∷ e6·1 ∷ e7 ∷ e8 ∷ e9 ∷ e10 ∷ e11 ∷ e12·1 ∷ e13 ∷ e14 ∷ e15 ∷ List.[]
+
 abbrev pub t41 : List.List Row.Entry
 t41 = e32·1 ∷ e33 ∷ e34 ∷ e35 ∷ e36 ∷ e37 ∷ e38 ∷ e39 ∷ e40 ∷ e41 ∷ e42 ∷ e43 ∷ e44 ∷ e45 ∷ List.[]
+
 abbrev pub t42 : List.List Row.Entry
 t42 = e32 ∷ e33·1 ∷ e34 ∷ e35 ∷ e36 ∷ e37 ∷ e38 ∷ e39 ∷ e40 ∷ e41 ∷ e42 ∷ e43 ∷ e44 ∷ e45 ∷ List.[]
+
 abbrev pub t43 : List.List Row.Entry
 t43 = e0 ∷ e1·2 ∷ e2·2 ∷ e3·1 ∷ e4·2 ∷ e5·2 ∷ e6·1 ∷ e7 ∷ e8 ∷ e9 ∷ e10 ∷ e11 ∷ e12·1 ∷ e13 ∷ e14 ∷ e15 ∷ List.[]
+
 abbrev pub t44 : List.List Row.Entry
 t44 = e32 ∷ e33·1 ∷ e34·1 ∷ e35 ∷ e36 ∷ e37 ∷ e38 ∷ e39 ∷ e40 ∷ e41 ∷ e42 ∷ e43 ∷ e44 ∷ e45 ∷ List.[]
+
 abbrev pub t45 : List.List Row.Entry
 t45 = e32 ∷ e33·1 ∷ e34 ∷ e35·1 ∷ e36 ∷ e37 ∷ e38 ∷ e39 ∷ e40 ∷ e41 ∷ e42 ∷ e43 ∷ e44 ∷ e45 ∷ List.[]
+
 abbrev pub t46 : List.List Row.Entry
 t46 = e0 ∷ e1·2 ∷ e2·2 ∷ e3·1 ∷ e4·2 ∷ e5·2 ∷ e6·1 ∷ e7 ∷ e8 ∷ e9 ∷ e10 ∷ e11 ∷ e12·1 ∷ e13·1 ∷ e14 ∷ e15 ∷ List.[]
+
 abbrev pub t47 : List.List Row.Entry
 t47 = e16 ∷ e17 ∷ e18 ∷ e19 ∷ e20 ∷ e21 ∷ e22 ∷ e23 ∷ e24 ∷ e25 ∷ e26 ∷ e27·2 ∷ e28 ∷ e29·2 ∷ e30 ∷ e31·2 ∷ List.[]
+
 abbrev pub t48 : List.List Row.Entry
 t48 = e32 ∷ e33·2 ∷ e34 ∷ e35·2 ∷ e36 ∷ e37 ∷ e38 ∷ e39 ∷ e40 ∷ e41 ∷ e42 ∷ e43 ∷ e44 ∷ e45 ∷ List.[]
+
 abbrev pub t49 : List.List Row.Entry
 t49 = e0 ∷ e1·2 ∷ e2·2 ∷ e3·1 ∷ e4·2 ∷ e5·2 ∷ e6·1 ∷ e7·1 ∷ e8 ∷ e9 ∷ e10 ∷ e11 ∷ e12·1 ∷ e13·1 ∷ e14 ∷ e15 ∷ List.[]
+
 abbrev pub t50 : List.List Row.Entry
 t50 = e0 ∷ e1·2 ∷ e2·2 ∷ e3·1 ∷ e4·2 ∷ e5·2 ∷ e6·1 ∷ e7·1 ∷ e8 ∷ e9 ∷ e10 ∷ e11 ∷ e12 ∷ e13·1 ∷ e14 ∷ e15 ∷ List.[]
+
 abbrev pub t51 : List.List Row.Entry
 t51 = e0 ∷ e1 ∷ e2·2 ∷ e3·1 ∷ e4·2 ∷ e5·2 ∷ e6·1 ∷ e7·1 ∷ e8 ∷ e9 ∷ e10 ∷ e11 ∷ e12 ∷ e13·1 ∷ e14 ∷ e15 ∷ List.[]
+
 abbrev pub t52 : List.List Row.Entry
 t52 = e16 ∷ e17 ∷ e18 ∷ e19 ∷ e20 ∷ e21 ∷ e22 ∷ e23 ∷ e24 ∷ e25 ∷ e26 ∷ e27 ∷ e28 ∷ e29·2 ∷ e30 ∷ e31·2 ∷ List.[]
+
 abbrev pub t53 : List.List Row.Entry
 t53 = e0 ∷ e1 ∷ e2 ∷ e3·1 ∷ e4·2 ∷ e5·2 ∷ e6·1 ∷ e7·1 ∷ e8 ∷ e9 ∷ e10 ∷ e11 ∷ e12 ∷ e13·1 ∷ e14 ∷ e15 ∷ List.[]
+
 abbrev pub t54 : List.List Row.Entry
 t54 = e16 ∷ e17 ∷ e18 ∷ e19 ∷ e20 ∷ e21 ∷ e22 ∷ e23 ∷ e24 ∷ e25 ∷ e26 ∷ e27 ∷ e28 ∷ e29 ∷ e30 ∷ e31·2 ∷ List.[]
+
 abbrev pub t55 : List.List Row.Entry
 t55 = e0 ∷ e1 ∷ e2 ∷ e3 ∷ e4·2 ∷ e5·2 ∷ e6·1 ∷ e7·1 ∷ e8 ∷ e9 ∷ e10 ∷ e11 ∷ e12 ∷ e13·1 ∷ e14 ∷ e15 ∷ List.[]
+
 abbrev pub t56 : List.List Row.Entry
 t56 = e0 ∷ e1 ∷ e2 ∷ e3 ∷ e4 ∷ e5·2 ∷ e6·1 ∷ e7·1 ∷ e8 ∷ e9 ∷ e10 ∷ e11 ∷ e12 ∷ e13·1 ∷ e14 ∷ e15 ∷ List.[]
+
 abbrev pub t57 : List.List Row.Entry
 t57 = e32 ∷ e33 ∷ e34 ∷ e35·2 ∷ e36 ∷ e37 ∷ e38 ∷ e39 ∷ e40 ∷ e41 ∷ e42 ∷ e43 ∷ e44 ∷ e45 ∷ List.[]
+
 abbrev pub t58 : List.List Row.Entry
 t58 = e0 ∷ e1 ∷ e2 ∷ e3 ∷ e4 ∷ e5 ∷ e6·1 ∷ e7·1 ∷ e8 ∷ e9 ∷ e10 ∷ e11 ∷ e12 ∷ e13·1 ∷ e14 ∷ e15 ∷ List.[]
+
 abbrev pub t59 : List.List Row.Entry
 t59 = e0 ∷ e1 ∷ e2 ∷ e3 ∷ e4 ∷ e5 ∷ e6·1 ∷ e7·1 ∷ e8 ∷ e9 ∷ e10 ∷ e11 ∷ e12 ∷ e13·1 ∷ e14·1 ∷ e15 ∷ List.[]
+
 abbrev pub t60 : List.List Row.Entry
 t60 = e0 ∷ e1 ∷ e2 ∷ e3 ∷ e4 ∷ e5 ∷ e6·1 ∷ e7·1 ∷ e8 ∷ e9 ∷ e10 ∷ e11 ∷ e12 ∷ e13 ∷ e14·1 ∷ e15 ∷ List.[]
+
 abbrev pub t61 : List.List Row.Entry
 t61 = e0·1 ∷ e1 ∷ e2 ∷ e3 ∷ e4 ∷ e5 ∷ e6·1 ∷ e7·1 ∷ e8 ∷ e9 ∷ e10 ∷ e11 ∷ e12 ∷ e13 ∷ e14·1 ∷ e15 ∷ List.[]
+
 abbrev pub t62 : List.List Row.Entry
 t62 = e0·1 ∷ e1 ∷ e2 ∷ e3 ∷ e4 ∷ e5 ∷ e6·1 ∷ e7·1 ∷ e8 ∷ e9 ∷ e10 ∷ e11 ∷ e12 ∷ e13 ∷ e14 ∷ e15 ∷ List.[]
+
 abbrev pub t63 : List.List Row.Entry
 t63 = e0 ∷ e1·3 ∷ e2 ∷ e3 ∷ e4 ∷ e5 ∷ e6 ∷ e7 ∷ e8 ∷ e9 ∷ e10 ∷ e11 ∷ e12 ∷ e13 ∷ e14 ∷ e15 ∷ List.[]
+
 abbrev pub t64 : List.List Row.Entry
 t64 = e32 ∷ e33 ∷ e34 ∷ e35 ∷ e36·1 ∷ e37 ∷ e38 ∷ e39 ∷ e40 ∷ e41 ∷ e42 ∷ e43 ∷ e44 ∷ e45 ∷ List.[]
+
 abbrev pub t65 : List.List Row.Entry
 t65 = e32 ∷ e33 ∷ e34 ∷ e35 ∷ e36 ∷ e37·1 ∷ e38 ∷ e39 ∷ e40 ∷ e41 ∷ e42 ∷ e43 ∷ e44 ∷ e45 ∷ List.[]
+
 abbrev pub t66 : List.List Row.Entry
 t66 = e0 ∷ e1·3 ∷ e2·3 ∷ e3 ∷ e4 ∷ e5 ∷ e6 ∷ e7 ∷ e8 ∷ e9 ∷ e10 ∷ e11 ∷ e12 ∷ e13 ∷ e14 ∷ e15 ∷ List.[]
+
 abbrev pub t67 : List.List Row.Entry
 t67 = e32 ∷ e33 ∷ e34 ∷ e35 ∷ e36 ∷ e37·1 ∷ e38·1 ∷ e39 ∷ e40 ∷ e41 ∷ e42 ∷ e43 ∷ e44 ∷ e45 ∷ List.[]
+
 abbrev pub t68 : List.List Row.Entry
 t68 = e32 ∷ e33 ∷ e34 ∷ e35 ∷ e36 ∷ e37·1 ∷ e38 ∷ e39·1 ∷ e40 ∷ e41 ∷ e42 ∷ e43 ∷ e44 ∷ e45 ∷ List.[]
+
 abbrev pub t69 : List.List Row.Entry
 t69 = e0 ∷ e1·3 ∷ e2·3 ∷ e3·2 ∷ e4 ∷ e5 ∷ e6 ∷ e7 ∷ e8 ∷ e9 ∷ e10 ∷ e11 ∷ e12 ∷ e13 ∷ e14 ∷ e15 ∷ List.[]
+
 abbrev pub t70 : List.List Row.Entry
 t70 = e32 ∷ e33 ∷ e34 ∷ e35 ∷ e36 ∷ e37·1 ∷ e38 ∷ e39·1 ∷ e40·1 ∷ e41 ∷ e42 ∷ e43 ∷ e44 ∷ e45 ∷ List.[]
+
 abbrev pub t71 : List.List Row.Entry
 t71 = e32 ∷ e33 ∷ e34 ∷ e35 ∷ e36 ∷ e37·1 ∷ e38 ∷ e39·1 ∷ e40 ∷ e41·1 ∷ e42 ∷ e43 ∷ e44 ∷ e45 ∷ List.[]
+
 abbrev pub t72 : List.List Row.Entry
 t72 = e0 ∷ e1·3 ∷ e2·3 ∷ e3·2 ∷ e4·3 ∷ e5 ∷ e6 ∷ e7 ∷ e8 ∷ e9 ∷ e10 ∷ e11 ∷ e12 ∷ e13 ∷ e14 ∷ e15 ∷ List.[]
+
 abbrev pub t73 : List.List Row.Entry
 t73 = e32 ∷ e33 ∷ e34 ∷ e35 ∷ e36 ∷ e37·1 ∷ e38 ∷ e39·1 ∷ e40 ∷ e41·1 ∷ e42·1 ∷ e43 ∷ e44 ∷ e45 ∷ List.[]
+
 abbrev pub t74 : List.List Row.Entry
 t74 = e32 ∷ e33 ∷ e34 ∷ e35 ∷ e36 ∷ e37·1 ∷ e38 ∷ e39·1 ∷ e40 ∷ e41·1 ∷ e42 ∷ e43·1 ∷ e44 ∷ e45 ∷ List.[]
+
 abbrev pub t75 : List.List Row.Entry
 t75 = e0 ∷ e1·3 ∷ e2·3 ∷ e3·2 ∷ e4·3 ∷ e5·3 ∷ e6 ∷ e7 ∷ e8 ∷ e9 ∷ e10 ∷ e11 ∷ e12 ∷ e13 ∷ e14 ∷ e15 ∷ List.[]
+
 abbrev pub t76 : List.List Row.Entry
 t76 = e32 ∷ e33 ∷ e34 ∷ e35 ∷ e36 ∷ e37·1 ∷ e38 ∷ e39·1 ∷ e40 ∷ e41·1 ∷ e42 ∷ e43·1 ∷ e44·1 ∷ e45 ∷ List.[]
+
 abbrev pub t77 : List.List Row.Entry
 t77 = e32 ∷ e33 ∷ e34 ∷ e35 ∷ e36 ∷ e37·1 ∷ e38 ∷ e39·1 ∷ e40 ∷ e41·1 ∷ e42 ∷ e43·1 ∷ e44 ∷ e45·1 ∷ List.[]
+
 abbrev pub t78 : List.List Row.Entry
 t78 = e0 ∷ e1·3 ∷ e2·3 ∷ e3·2 ∷ e4·3 ∷ e5·3 ∷ e6 ∷ e7 ∷ e8 ∷ e9 ∷ e10 ∷ e11 ∷ e12 ∷ e13 ∷ e14 ∷ e15·1 ∷ List.[]
+
 abbrev pub t79 : List.List Row.Entry
 t79 = e32 ∷ e33 ∷ e34 ∷ e35 ∷ e36 ∷ e37·2 ∷ e38 ∷ e39·2 ∷ e40 ∷ e41·2 ∷ e42 ∷ e43·2 ∷ e44 ∷ e45·2 ∷ List.[]
+
 abbrev pub t80 : List.List Row.Entry
 t80 = e0 ∷ e1·3 ∷ e2·3 ∷ e3·2 ∷ e4·3 ∷ e5·3 ∷ e6·1 ∷ e7 ∷ e8 ∷ e9 ∷ e10 ∷ e11 ∷ e12 ∷ e13 ∷ e14 ∷ e15·1 ∷ List.[]
+
 abbrev pub t81 : List.List Row.Entry
 t81 = e0 ∷ e1·3 ∷ e2·3 ∷ e3·2 ∷ e4·3 ∷ e5·3 ∷ e6·1 ∷ e7·1 ∷ e8 ∷ e9 ∷ e10 ∷ e11 ∷ e12 ∷ e13 ∷ e14 ∷ e15·1 ∷ List.[]
+
 abbrev pub t82 : List.List Row.Entry
 t82 = e0 ∷ e1 ∷ e2·3 ∷ e3·2 ∷ e4·3 ∷ e5·3 ∷ e6·1 ∷ e7·1 ∷ e8 ∷ e9 ∷ e10 ∷ e11 ∷ e12 ∷ e13 ∷ e14 ∷ e15·1 ∷ List.[]
+
 abbrev pub t83 : List.List Row.Entry
 t83 = e32 ∷ e33 ∷ e34 ∷ e35 ∷ e36 ∷ e37 ∷ e38 ∷ e39·2 ∷ e40 ∷ e41·2 ∷ e42 ∷ e43·2 ∷ e44 ∷ e45·2 ∷ List.[]
+
 abbrev pub t84 : List.List Row.Entry
 t84 = e0 ∷ e1 ∷ e2 ∷ e3·2 ∷ e4·3 ∷ e5·3 ∷ e6·1 ∷ e7·1 ∷ e8 ∷ e9 ∷ e10 ∷ e11 ∷ e12 ∷ e13 ∷ e14 ∷ e15·1 ∷ List.[]
+
 abbrev pub t85 : List.List Row.Entry
 t85 = e32 ∷ e33 ∷ e34 ∷ e35 ∷ e36 ∷ e37 ∷ e38 ∷ e39 ∷ e40 ∷ e41·2 ∷ e42 ∷ e43·2 ∷ e44 ∷ e45·2 ∷ List.[]
+
 abbrev pub t86 : List.List Row.Entry
 t86 = e0 ∷ e1 ∷ e2 ∷ e3 ∷ e4·3 ∷ e5·3 ∷ e6·1 ∷ e7·1 ∷ e8 ∷ e9 ∷ e10 ∷ e11 ∷ e12 ∷ e13 ∷ e14 ∷ e15·1 ∷ List.[]
+
 abbrev pub t87 : List.List Row.Entry
 t87 = e32 ∷ e33 ∷ e34 ∷ e35 ∷ e36 ∷ e37 ∷ e38 ∷ e39 ∷ e40 ∷ e41 ∷ e42 ∷ e43·2 ∷ e44 ∷ e45·2 ∷ List.[]
+
 abbrev pub t88 : List.List Row.Entry
 t88 = e0 ∷ e1 ∷ e2 ∷ e3 ∷ e4 ∷ e5·3 ∷ e6·1 ∷ e7·1 ∷ e8 ∷ e9 ∷ e10 ∷ e11 ∷ e12 ∷ e13 ∷ e14 ∷ e15·1 ∷ List.[]
+
 abbrev pub t89 : List.List Row.Entry
 t89 = e32 ∷ e33 ∷ e34 ∷ e35 ∷ e36 ∷ e37 ∷ e38 ∷ e39 ∷ e40 ∷ e41 ∷ e42 ∷ e43 ∷ e44 ∷ e45·2 ∷ List.[]
+
 abbrev pub t90 : List.List Row.Entry
 t90 = e0 ∷ e1 ∷ e2 ∷ e3 ∷ e4 ∷ e5 ∷ e6·1 ∷ e7·1 ∷ e8 ∷ e9 ∷ e10 ∷ e11 ∷ e12 ∷ e13 ∷ e14 ∷ e15·1 ∷ List.[]
+
 abbrev pub t91 : List.List Row.Entry
 t91 = e16·1 ∷ e17 ∷ e18 ∷ e19 ∷ e20 ∷ e21 ∷ e22 ∷ e23 ∷ e24 ∷ e25 ∷ e26 ∷ e27 ∷ e28 ∷ e29 ∷ e30 ∷ e31 ∷ List.[]
+
 abbrev pub t92 : List.List Row.Entry
 t92 = e0 ∷ e1 ∷ e2 ∷ e3 ∷ e4 ∷ e5 ∷ e6·1 ∷ e7·1 ∷ e8 ∷ e9 ∷ e10 ∷ e11 ∷ e12 ∷ e13 ∷ e14 ∷ e15 ∷ List.[]
+
 abbrev pub T0 : Row.Cx
 T0 = record { locals = List._++_ t0 (List._++_ t1 t2); slots = List.[] }
+
 abbrev pub T1 : Row.Cx
 T1 = record { locals = List._++_ t3 (List._++_ t1 t2); slots = List.[] }
+
 abbrev pub T2 : Row.Cx
 T2 = record { locals = List._++_ t0 (List._++_ t1 t2); slots = List.[] }
+
 abbrev pub T3 : Row.Cx
 T3 = record { locals = List._++_ t0 (List._++_ t1 t2); slots = List.[] }
+
 abbrev pub T4 : Row.Cx
 T4 = record { locals = List._++_ t0 (List._++_ t4 t2); slots = List.[] }
+
 abbrev pub T5 : Row.Cx
 T5 = record { locals = List._++_ t0 (List._++_ t1 t2); slots = List.[] }
+
 abbrev pub T6 : Row.Cx
 T6 = record { locals = List._++_ t0 (List._++_ t1 t2); slots = List.[] }
+
 abbrev pub T7 : Row.Cx
 T7 = record { locals = List._++_ t5 (List._++_ t1 t2); slots = List.[] }
+
 abbrev pub T8 : Row.Cx
 T8 = record { locals = List._++_ t6 (List._++_ t1 t2); slots = List.[] }
+
 abbrev pub T9 : Row.Cx
 T9 = record { locals = List._++_ t7 (List._++_ t1 t2); slots = List.[] }
+
 abbrev pub T11 : Row.Cx
 T11 = record { locals = List._++_ t8 (List._++_ t9 t2); slots = List.[] }
+
 abbrev pub T12 : Row.Cx
 T12 = record { locals = List._++_ t8 (List._++_ t10 t2); slots = List.[] }
+
 abbrev pub T14 : Row.Cx
 T14 = record { locals = List._++_ t11 (List._++_ t12 t2); slots = List.[] }
+
 abbrev pub T15 : Row.Cx
 T15 = record { locals = List._++_ t11 (List._++_ t13 t2); slots = List.[] }
+
 abbrev pub T17 : Row.Cx
 T17 = record { locals = List._++_ t14 (List._++_ t15 t2); slots = List.[] }
+
 abbrev pub T18 : Row.Cx
 T18 = record { locals = List._++_ t14 (List._++_ t16 t2); slots = List.[] }
+
 abbrev pub T20 : Row.Cx
 T20 = record { locals = List._++_ t17 (List._++_ t18 t2); slots = List.[] }
+
 abbrev pub T21 : Row.Cx
 T21 = record { locals = List._++_ t17 (List._++_ t19 t2); slots = List.[] }
+
 abbrev pub T22 : Row.Cx
 T22 = record { locals = List._++_ t20 (List._++_ t21 t2); slots = List.[] }
+
 abbrev pub T23 : Row.Cx
 T23 = record { locals = List._++_ t22 (List._++_ t21 t2); slots = List.[] }
+
 abbrev pub T24 : Row.Cx
 T24 = record { locals = List._++_ t23 (List._++_ t21 t2); slots = List.[] }
+
 abbrev pub T26 : Row.Cx
 T26 = record { locals = List._++_ t24 (List._++_ t25 t2); slots = List.[] }
+
 abbrev pub T29 : Row.Cx
 T29 = record { locals = List._++_ t26 (List._++_ t27 t2); slots = List.[] }
+
 abbrev pub T32 : Row.Cx
 T32 = record { locals = List._++_ t28 (List._++_ t29 t2); slots = List.[] }
+
 abbrev pub T35 : Row.Cx
 T35 = record { locals = List._++_ t30 (List._++_ t1 t2); slots = List.[] }
+
 abbrev pub T36 : Row.Cx
 T36 = record { locals = List._++_ t30 (List._++_ t1 t2); slots = List.[] }
+
 abbrev pub T39 : Row.Cx
 T39 = record { locals = List._++_ t31 (List._++_ t32 t2); slots = List.[] }
+
 abbrev pub T40 : Row.Cx
 T40 = record { locals = List._++_ t31 (List._++_ t33 t2); slots = List.[] }
+
 abbrev pub T42 : Row.Cx
 T42 = record { locals = List._++_ t34 (List._++_ t35 t2); slots = List.[] }
+
 abbrev pub T43 : Row.Cx
 T43 = record { locals = List._++_ t34 (List._++_ t36 t2); slots = List.[] }
+
 abbrev pub T45 : Row.Cx
 T45 = record { locals = List._++_ t37 (List._++_ t38 t2); slots = List.[] }
+
 abbrev pub T46 : Row.Cx
 T46 = record { locals = List._++_ t37 (List._++_ t39 t2); slots = List.[] }
+
 abbrev pub T48 : Row.Cx
 T48 = record { locals = List._++_ t40 (List._++_ t39 t41); slots = List.[] }
+
 abbrev pub T49 : Row.Cx
 T49 = record { locals = List._++_ t40 (List._++_ t39 t42); slots = List.[] }
+
 abbrev pub T51 : Row.Cx
 T51 = record { locals = List._++_ t43 (List._++_ t39 t44); slots = List.[] }
+
 abbrev pub T52 : Row.Cx
 T52 = record { locals = List._++_ t43 (List._++_ t39 t45); slots = List.[] }
+
 abbrev pub T53 : Row.Cx
 T53 = record { locals = List._++_ t46 (List._++_ t47 t48); slots = List.[] }
+
 abbrev pub T54 : Row.Cx
 T54 = record { locals = List._++_ t49 (List._++_ t47 t48); slots = List.[] }
+
 abbrev pub T55 : Row.Cx
 T55 = record { locals = List._++_ t50 (List._++_ t47 t48); slots = List.[] }
+
 abbrev pub T57 : Row.Cx
 T57 = record { locals = List._++_ t51 (List._++_ t52 t48); slots = List.[] }
+
 abbrev pub T60 : Row.Cx
 T60 = record { locals = List._++_ t53 (List._++_ t54 t48); slots = List.[] }
+
 abbrev pub T63 : Row.Cx
 T63 = record { locals = List._++_ t55 (List._++_ t1 t48); slots = List.[] }
+
 abbrev pub T66 : Row.Cx
 T66 = record { locals = List._++_ t56 (List._++_ t1 t57); slots = List.[] }
+
 abbrev pub T69 : Row.Cx
 T69 = record { locals = List._++_ t58 (List._++_ t1 t2); slots = List.[] }
+
 abbrev pub T70 : Row.Cx
 T70 = record { locals = List._++_ t58 (List._++_ t1 t2); slots = List.[] }
+
 abbrev pub T72 : Row.Cx
 T72 = record { locals = List._++_ t59 (List._++_ t1 t2); slots = List.[] }
+
 abbrev pub T73 : Row.Cx
 T73 = record { locals = List._++_ t60 (List._++_ t1 t2); slots = List.[] }
+
 abbrev pub T74 : Row.Cx
 T74 = record { locals = List._++_ t61 (List._++_ t1 t2); slots = List.[] }
+
 abbrev pub T75 : Row.Cx
 T75 = record { locals = List._++_ t62 (List._++_ t1 t2); slots = List.[] }
+
 abbrev pub T76 : Row.Cx
 T76 = record { locals = List._++_ t3 (List._++_ t1 t2); slots = List.[] }
+
 abbrev pub T77 : Row.Cx
 T77 = record { locals = List._++_ t0 (List._++_ t1 t2); slots = List.[] }
+
 abbrev pub T79 : Row.Cx
 T79 = record { locals = List._++_ t63 (List._++_ t1 t64); slots = List.[] }
+
 abbrev pub T80 : Row.Cx
 T80 = record { locals = List._++_ t63 (List._++_ t1 t65); slots = List.[] }
+
 abbrev pub T82 : Row.Cx
 T82 = record { locals = List._++_ t66 (List._++_ t1 t67); slots = List.[] }
+
 abbrev pub T83 : Row.Cx
 T83 = record { locals = List._++_ t66 (List._++_ t1 t68); slots = List.[] }
+
 abbrev pub T85 : Row.Cx
 T85 = record { locals = List._++_ t69 (List._++_ t1 t70); slots = List.[] }
+
 abbrev pub T86 : Row.Cx
 T86 = record { locals = List._++_ t69 (List._++_ t1 t71); slots = List.[] }
+
 abbrev pub T88 : Row.Cx
 T88 = record { locals = List._++_ t72 (List._++_ t1 t73); slots = List.[] }
+
 abbrev pub T89 : Row.Cx
 T89 = record { locals = List._++_ t72 (List._++_ t1 t74); slots = List.[] }
+
 abbrev pub T91 : Row.Cx
 T91 = record { locals = List._++_ t75 (List._++_ t1 t76); slots = List.[] }
+
 abbrev pub T92 : Row.Cx
 T92 = record { locals = List._++_ t75 (List._++_ t1 t77); slots = List.[] }
+
 abbrev pub T93 : Row.Cx
 T93 = record { locals = List._++_ t78 (List._++_ t1 t79); slots = List.[] }
+
 abbrev pub T94 : Row.Cx
 T94 = record { locals = List._++_ t80 (List._++_ t1 t79); slots = List.[] }
+
 abbrev pub T95 : Row.Cx
 T95 = record { locals = List._++_ t81 (List._++_ t1 t79); slots = List.[] }
+
 abbrev pub T97 : Row.Cx
 T97 = record { locals = List._++_ t82 (List._++_ t1 t83); slots = List.[] }
+
 abbrev pub T100 : Row.Cx
 T100 = record { locals = List._++_ t84 (List._++_ t1 t85); slots = List.[] }
+
 abbrev pub T103 : Row.Cx
 T103 = record { locals = List._++_ t86 (List._++_ t1 t87); slots = List.[] }
+
 abbrev pub T106 : Row.Cx
 T106 = record { locals = List._++_ t88 (List._++_ t1 t89); slots = List.[] }
+
 abbrev pub T109 : Row.Cx
 T109 = record { locals = List._++_ t90 (List._++_ t1 t2); slots = List.[] }
+
 abbrev pub T110 : Row.Cx
 T110 = record { locals = List._++_ t90 (List._++_ t1 t2); slots = List.[] }
+
 abbrev pub T112 : Row.Cx
 T112 = record { locals = List._++_ t90 (List._++_ t91 t2); slots = List.[] }
+
 abbrev pub T113 : Row.Cx
 T113 = record { locals = List._++_ t92 (List._++_ t91 t2); slots = List.[] }
+
 abbrev pub T114 : Row.Cx
 T114 = record { locals = List._++_ t62 (List._++_ t91 t2); slots = List.[] }
+
 abbrev pub T115 : Row.Cx
 T115 = record { locals = List._++_ t62 (List._++_ t1 t2); slots = List.[] }
+
 abbrev pub T116 : Row.Cx
 T116 = record { locals = List._++_ t3 (List._++_ t1 t2); slots = List.[] }
+
 abbrev pub O0 : Typed.Outs
 O0 = record { next = Option.none; exits = List.[]; returns = Option.some T1 }
+
 abbrev pub O1 : Typed.Outs
 O1 = Typed.withNext (Option.some T5) O0
+
 module _ (claims· : Claims) where
   abbrev s0 : (bs : List.List Nat.ℕ) → Typed.Gives T0 T2
   s0 = λ bs. Know.k-sl-known (Referent.fInt Syntax.w32) T0 5 4 ref9 Row.off 0 λ x. x
+
   abbrev s1 : (bs : List.List Nat.ℕ) → Typed.Gives T2 T3
   s1 = λ bs. Know.k-shs-known (Referent.fInt Syntax.w8) T2 8 5 ref10 Row.off 0 λ x. x
+
   abbrev s2 : (bs : List.List Nat.ℕ) → Typed.Mo T3 → Typed.Mo T4
-  s2 = λ bs. Scalar.n-use T3 (Scalar.oAt 9 Syntax.tyBool (Row.valS Row.sBool)) 17 (Rows.sc-here Row.sBool) (Row.sBool .of)
+  s2 = λ bs. Scalar.n-use T3 (Scalar.oAt 9 Syntax.tyBool (Row.valS Row.sBool)) 17 (Rows.sc-here Row.sBool)
+      (Row.sBool .of)
+
   abbrev s3 : (bs : List.List Nat.ℕ) → Typed.Mo T4 → Typed.Mo T6
   s3 = λ bs. Scalar.n-room T4 17 Syntax.tyBool
+
   abbrev s4 : (bs : List.List Nat.ℕ) → Typed.Both T6 T7
-  s4 = λ bs. WayStmt.k-way-copy-out T6 (Row.out 6 (T6 .locals)) (λ u. Row.drop 6 (T6 .locals) u) 10 (Rows.whole (Declared'.row
-      OpaqueRelayRuntime.the-type)) (λ u. At.getAt (Relayed.the-type .parts) 0 (Relayed.struct .as-values (u .1 .1 .1 .1 .1 .1 .0))) (λ T′. record {
-      locals = Row.setRow 6 (6, Rows.whole (Declared'.row Relayed.the-type)) T′; slots = List.[]; }) (λ u T′ m′. Row.set 6 (6, Rows.whole
-      (Declared'.row Relayed.the-type)) (u .1 .1 .1 .1 .1 .1 .0) T′ m′) (λ u. Unit) λ u. Unit
+  s4 = λ bs. WayStmt.k-way-copy-out T6 (Row.out 6 (T6 .locals)) (λ u. Row.drop 6 (T6 .locals) u) 10
+      (Rows.whole (Declared'.row OpaqueRelayRuntime.the-type)) (λ u. At.getAt (Relayed.the-type .parts) 0
+      (Relayed.struct .as-values (u .1 .1 .1 .1 .1 .1 .0))) (λ T′.
+      record { locals = Row.setRow 6 (6, Rows.whole (Declared'.row Relayed.the-type)) T′; slots = List.[] }) (λ u T′
+      m′. Row.set 6 (6, Rows.whole (Declared'.row Relayed.the-type)) (u .1 .1 .1 .1 .1 .1 .0) T′ m′) (λ u. Unit) λ u.
+      Unit
+
   abbrev s5 : (bs : List.List Nat.ℕ) → Typed.Both T7 T8
-  s5 = λ bs. WayStmt.k-way-copy-out T7 (Row.out 6 (T7 .locals)) (λ u. Row.drop 6 (T7 .locals) u) 11 (Rows.whole (Declared'.row Places.the-type)) (λ u.
-      At.getAt (Relayed.the-type .parts) 3 (Relayed.struct .as-values (u .1 .1 .1 .1 .1 .1 .0))) (λ T′. record { locals = Row.setRow 6 (6, Rows.whole
-      (Declared'.row Relayed.the-type)) T′; slots = List.[]; }) (λ u T′ m′. Row.set 6 (6, Rows.whole (Declared'.row Relayed.the-type)) (u .1 .1 .1 .1
-      .1 .1 .0) T′ m′) (λ u. Unit) λ u. Unit
+  s5 = λ bs. WayStmt.k-way-copy-out T7 (Row.out 6 (T7 .locals)) (λ u. Row.drop 6 (T7 .locals) u) 11
+      (Rows.whole (Declared'.row Places.the-type)) (λ u. At.getAt (Relayed.the-type .parts) 3
+      (Relayed.struct .as-values (u .1 .1 .1 .1 .1 .1 .0))) (λ T′.
+      record { locals = Row.setRow 6 (6, Rows.whole (Declared'.row Relayed.the-type)) T′; slots = List.[] }) (λ u T′
+      m′. Row.set 6 (6, Rows.whole (Declared'.row Relayed.the-type)) (u .1 .1 .1 .1 .1 .1 .0) T′ m′) (λ u. Unit) λ u.
+      Unit
+
   abbrev s6 : (bs : List.List Nat.ℕ) → Typed.Mo T8 → Typed.Mo T9
   s6 = λ bs. Scalar.n-room T8 6 Laws''''.mir
+
   abbrev s8 : (bs : List.List Nat.ℕ) → Typed.Gives T9 T11
   s8 = λ bs. Relend.k-sl-relend RelayPending.row T9 1 18 0 6 ref5 ref0 Row.off λ x. x
+
   abbrev s9 : (bs : List.List Nat.ℕ) → Typed.Asks T11 T12
-  s9 = λ bs. Relend.k-sl-aggregate RelayPending.row (Relend.asMut RelayPending.row) T11 18 19 6 ref0 ref0 (λ x. x) (Scalar.oFld 1 ((Syntax.field 1) ∷
-      List.[]) (Syntax.tyInt Syntax.w64) 8 λ v. Shared.lenV (v .0))
+  s9 = λ bs. Relend.k-sl-aggregate RelayPending.row (Relend.asMut RelayPending.row) T11 18 19 6 ref0 ref0 (λ x. x) (Scalar.oFld
+      1 ((Syntax.field 1) ∷ List.[]) (Syntax.tyInt Syntax.w64) 8 λ v. Shared.lenV (v .0))
+
   abbrev s11 : (bs : List.List Nat.ℕ) → Typed.Gives T12 T14
   s11 = λ bs. Relend.k-sl-relend RelayCircuit.row T12 2 20 1 7 ref6 ref1 Row.off λ x. x
+
   abbrev s12 : (bs : List.List Nat.ℕ) → Typed.Asks T14 T15
-  s12 = λ bs. Relend.k-sl-aggregate RelayCircuit.row (Relend.asMut RelayCircuit.row) T14 20 21 7 ref1 ref1 (λ x. x) (Scalar.oFld 2 ((Syntax.field 1) ∷
-      List.[]) (Syntax.tyInt Syntax.w64) 8 λ v. Shared.lenV (v .0))
+  s12 = λ bs. Relend.k-sl-aggregate RelayCircuit.row (Relend.asMut RelayCircuit.row) T14 20 21 7 ref1 ref1 (λ x. x) (Scalar.oFld
+      2 ((Syntax.field 1) ∷ List.[]) (Syntax.tyInt Syntax.w64) 8 λ v. Shared.lenV (v .0))
+
   abbrev s14 : (bs : List.List Nat.ℕ) → Typed.Gives T15 T17
   s14 = λ bs. Relend.k-sl-relend InflightAction.row T15 4 22 3 8 ref8 ref2 Row.off λ x. x
+
   abbrev s15 : (bs : List.List Nat.ℕ) → Typed.Asks T17 T18
-  s15 = λ bs. Relend.k-sl-aggregate InflightAction.row (Relend.asMut InflightAction.row) T17 22 23 8 ref2 ref2 (λ x. x) (Scalar.oFld 4 ((Syntax.field
-      1) ∷ List.[]) (Syntax.tyInt Syntax.w64) 8 λ v. Shared.lenV (v .0))
+  s15 = λ bs. Relend.k-sl-aggregate InflightAction.row (Relend.asMut InflightAction.row) T17 22 23 8 ref2 ref2 (λ x. x) (Scalar.oFld
+      4 ((Syntax.field 1) ∷ List.[]) (Syntax.tyInt Syntax.w64) 8 λ v. Shared.lenV (v .0))
+
   abbrev s17 : (bs : List.List Nat.ℕ) → Typed.Gives T18 T20
   s17 = λ bs. Relend.k-sl-relend (Referent.rtF (Referent.fInt Syntax.w32)) T18 5 24 4 9 ref9 ref3 Row.off λ x. x
+
   abbrev s18 : (bs : List.List Nat.ℕ) → Typed.Asks T20 T21
-  s18 = λ bs. Relend.k-sl-aggregate (Referent.rtF (Referent.fInt Syntax.w32)) (Relend.asMut (Referent.rtF (Referent.fInt Syntax.w32))) T20 24 25 9
-      ref3 ref3 (λ x. x) (Scalar.oFld 5 ((Syntax.field 1) ∷ List.[]) (Syntax.tyInt Syntax.w64) 8 λ v. Shared.lenV (v .0))
+  s18 = λ bs. Relend.k-sl-aggregate (Referent.rtF (Referent.fInt Syntax.w32))
+      (Relend.asMut (Referent.rtF (Referent.fInt Syntax.w32))) T20 24 25 9 ref3 ref3 (λ x. x) (Scalar.oFld 5
+      ((Syntax.field 1) ∷ List.[]) (Syntax.tyInt Syntax.w64) 8 λ v. Shared.lenV (v .0))
+
   abbrev s19 : (bs : List.List Nat.ℕ) → Typed.Both T21 T22
-  s19 = λ bs. Call.callB ps·0 r·0 (claims· .0) (claims· .1) T21 (record { pos = 19; ty = Syntax.tyRef Syntax.erased Syntax.mut RelayPending.to; ref =
-      λ x. x; }, (record { pos = 21; ty = Syntax.tyRef Syntax.erased Syntax.mut RelayCircuit.to; ref = λ x. x; }, (record { pos = 23; ty =
-      Syntax.tyRef Syntax.erased Syntax.mut InflightAction.to; ref = λ x. x; }, (record { pos = 25; ty = Syntax.tyRef Syntax.erased Syntax.mut
-      (Syntax.tyInt Syntax.w32); ref = λ x. x; }, (record { pos = 10; st = List.[]; d = 0; at = λ x. x }, (record { pos = 11; st = List.[]; d = 0; at
-      = λ x. x }, (Num.vLit 1, (Num.vLit 3, (Bool.bLit Bool'.true, tt))),),),),),),) 12 (6 ∷ 7 ∷ 8 ∷ 9 ∷ List.[]) Laws''''.mir
+  s19 = λ bs. Call.callB ps·0 r·0 (claims· .0) (claims· .1) T21 (
+    record { pos = 19; ty = ref0; ref = λ x. x },
+    (
+      record { pos = 21; ty = ref1; ref = λ x. x },
+      (
+        record { pos = 23; ty = ref2; ref = λ x. x },
+        (
+          record { pos = 25; ty = ref3; ref = λ x. x },
+          (
+            record { pos = 10; st = List.[]; d = 0; at = λ x. x },
+            (
+              record { pos = 11; st = List.[]; d = 0; at = λ x. x },
+              (Num.vLit 1, (Num.vLit 3, (Bool.bLit Bool'.true, tt))),
+            ),
+          ),
+        ),
+      ),
+    ),
+  ) 12 (6 ∷ 7 ∷ 8 ∷ 9 ∷ List.[]) Laws''''.mir
+
   abbrev s20 : (bs : List.List Nat.ℕ) → Typed.Mo T22 → Typed.Mo T23
   s20 = λ bs. Scalar.n-room T22 10 Laws'''.mir
+
   abbrev s21 : (bs : List.List Nat.ℕ) → Typed.Mo T23 → Typed.Mo T24
   s21 = λ bs. Scalar.n-room T23 11 Laws'.mir
+
   abbrev s23 : (bs : List.List Nat.ℕ) → Typed.Both T24 T26
   s23 = λ bs. Relend.k-back-sl RelayPending.row T24 19 1 0 6 ref5 ref0 Row.off (λ x. x) λ x. x
+
   abbrev s26 : (bs : List.List Nat.ℕ) → Typed.Both T26 T29
   s26 = λ bs. Relend.k-back-sl RelayCircuit.row T26 21 2 1 7 ref6 ref1 Row.off (λ x. x) λ x. x
+
   abbrev s29 : (bs : List.List Nat.ℕ) → Typed.Both T29 T32
   s29 = λ bs. Relend.k-back-sl InflightAction.row T29 23 4 3 8 ref8 ref2 Row.off (λ x. x) λ x. x
+
   abbrev s32 : (bs : List.List Nat.ℕ) → Typed.Both T32 T35
   s32 = λ bs. Relend.k-back-sl (Referent.rtF (Referent.fInt Syntax.w32)) T32 25 5 4 9 ref9 ref3 Row.off (λ x. x) λ x. x
+
   abbrev s33 : (bs : List.List Nat.ℕ) → Typed.Gives T35 T36
   s33 = λ bs. Know.k-sl-known (Referent.fInt Syntax.w32) T35 5 4 ref9 Row.off 0 λ x. x
+
   abbrev s36 : (bs : List.List Nat.ℕ) → Typed.Gives T36 T39
   s36 = λ bs. Relend.k-sl-relend RelayPending.row T36 1 26 0 10 ref5 ref0 Row.off λ x. x
+
   abbrev s37 : (bs : List.List Nat.ℕ) → Typed.Asks T39 T40
-  s37 = λ bs. Relend.k-sl-aggregate RelayPending.row (Relend.asMut RelayPending.row) T39 26 27 10 ref0 ref0 (λ x. x) (Scalar.oFld 1 ((Syntax.field 1)
-      ∷ List.[]) (Syntax.tyInt Syntax.w64) 8 λ v. Shared.lenV (v .0))
+  s37 = λ bs. Relend.k-sl-aggregate RelayPending.row (Relend.asMut RelayPending.row) T39 26 27 10 ref0 ref0 (λ x. x) (Scalar.oFld
+      1 ((Syntax.field 1) ∷ List.[]) (Syntax.tyInt Syntax.w64) 8 λ v. Shared.lenV (v .0))
+
   abbrev s39 : (bs : List.List Nat.ℕ) → Typed.Gives T40 T42
   s39 = λ bs. Relend.k-sl-relend RelayCircuit.row T40 2 28 1 11 ref6 ref1 Row.off λ x. x
+
   abbrev s40 : (bs : List.List Nat.ℕ) → Typed.Asks T42 T43
-  s40 = λ bs. Relend.k-sl-aggregate RelayCircuit.row (Relend.asMut RelayCircuit.row) T42 28 29 11 ref1 ref1 (λ x. x) (Scalar.oFld 2 ((Syntax.field 1)
-      ∷ List.[]) (Syntax.tyInt Syntax.w64) 8 λ v. Shared.lenV (v .0))
+  s40 = λ bs. Relend.k-sl-aggregate RelayCircuit.row (Relend.asMut RelayCircuit.row) T42 28 29 11 ref1 ref1 (λ x. x) (Scalar.oFld
+      2 ((Syntax.field 1) ∷ List.[]) (Syntax.tyInt Syntax.w64) 8 λ v. Shared.lenV (v .0))
+
   abbrev s42 : (bs : List.List Nat.ℕ) → Typed.Gives T43 T45
   s42 = λ bs. Relend.k-sl-relend ReservationUsage.row T43 3 30 2 12 ref7 ref4 Row.off λ x. x
+
   abbrev s43 : (bs : List.List Nat.ℕ) → Typed.Asks T45 T46
-  s43 = λ bs. Relend.k-sl-aggregate ReservationUsage.row (Relend.asMut ReservationUsage.row) T45 30 31 12 ref4 ref4 (λ x. x) (Scalar.oFld 3
-      ((Syntax.field 1) ∷ List.[]) (Syntax.tyInt Syntax.w64) 8 λ v. Shared.lenV (v .0))
+  s43 = λ bs. Relend.k-sl-aggregate ReservationUsage.row (Relend.asMut ReservationUsage.row) T45 30 31 12 ref4 ref4
+      (λ x. x) (Scalar.oFld 3 ((Syntax.field 1) ∷ List.[]) (Syntax.tyInt Syntax.w64) 8 λ v. Shared.lenV (v .0))
+
   abbrev s45 : (bs : List.List Nat.ℕ) → Typed.Gives T46 T48
   s45 = λ bs. Relend.k-sl-relend InflightAction.row T46 4 32 3 13 ref8 ref2 Row.off λ x. x
+
   abbrev s46 : (bs : List.List Nat.ℕ) → Typed.Asks T48 T49
-  s46 = λ bs. Relend.k-sl-aggregate InflightAction.row (Relend.asMut InflightAction.row) T48 32 33 13 ref2 ref2 (λ x. x) (Scalar.oFld 4 ((Syntax.field
-      1) ∷ List.[]) (Syntax.tyInt Syntax.w64) 8 λ v. Shared.lenV (v .0))
+  s46 = λ bs. Relend.k-sl-aggregate InflightAction.row (Relend.asMut InflightAction.row) T48 32 33 13 ref2 ref2
+      (λ x. x) (Scalar.oFld 4 ((Syntax.field 1) ∷ List.[]) (Syntax.tyInt Syntax.w64) 8 λ v. Shared.lenV (v .0))
+
   abbrev s48 : (bs : List.List Nat.ℕ) → Typed.Gives T49 T51
   s48 = λ bs. Relend.k-sl-relend (Referent.rtF (Referent.fInt Syntax.w32)) T49 5 34 4 14 ref9 ref3 Row.off λ x. x
+
   abbrev s49 : (bs : List.List Nat.ℕ) → Typed.Asks T51 T52
-  s49 = λ bs. Relend.k-sl-aggregate (Referent.rtF (Referent.fInt Syntax.w32)) (Relend.asMut (Referent.rtF (Referent.fInt Syntax.w32))) T51 34 35 14
-      ref3 ref3 (λ x. x) (Scalar.oFld 5 ((Syntax.field 1) ∷ List.[]) (Syntax.tyInt Syntax.w64) 8 λ v. Shared.lenV (v .0))
+  s49 = λ bs. Relend.k-sl-aggregate (Referent.rtF (Referent.fInt Syntax.w32))
+      (Relend.asMut (Referent.rtF (Referent.fInt Syntax.w32))) T51 34 35 14 ref3 ref3 (λ x. x) (Scalar.oFld 5
+      ((Syntax.field 1) ∷ List.[]) (Syntax.tyInt Syntax.w64) 8 λ v. Shared.lenV (v .0))
+
   abbrev s50 : (bs : List.List Nat.ℕ) → Typed.Both T52 T53
-  s50 = λ bs. Call.callB ps·1 r·1 (claims· .2) (claims· .3) T52 (record { pos = 27; ty = Syntax.tyRef Syntax.erased Syntax.mut RelayPending.to; ref =
-      λ x. x; }, (record { pos = 29; ty = Syntax.tyRef Syntax.erased Syntax.mut RelayCircuit.to; ref = λ x. x; }, (record { pos = 31; ty =
-      Syntax.tyRef Syntax.erased Syntax.mut ReservationUsage.to; ref = λ x. x; }, (record { pos = 33; ty = Syntax.tyRef Syntax.erased Syntax.mut
-      InflightAction.to; ref = λ x. x; }, (record { pos = 35; ty = Syntax.tyRef Syntax.erased Syntax.mut (Syntax.tyInt Syntax.w32); ref = λ x. x; },
-      (record { pos = 12; st = List.[]; d = 0; at = λ x. x }, (record { pos = 7; st = List.[]; d = 0; at = λ x. x }, (Num.vLit 1, (record { pos = 8;
-      ty = Syntax.tyRef (Syntax.named 5) Syntax.imm (Syntax.tyInt Syntax.w8); ref = λ x. x; }, tt,),),),),),),),),) 13 (10 ∷ 11 ∷ 12 ∷ 13 ∷ 14 ∷ 5 ∷
-      List.[]) Laws''''.mir
+  s50 = λ bs. Call.callB ps·1 r·1 (claims· .2) (claims· .3) T52 (
+    record { pos = 27; ty = ref0; ref = λ x. x },
+    (
+      record { pos = 29; ty = ref1; ref = λ x. x },
+      (
+        record { pos = 31; ty = ref4; ref = λ x. x },
+        (
+          record { pos = 33; ty = ref2; ref = λ x. x },
+          (
+            record { pos = 35; ty = ref3; ref = λ x. x },
+            (
+              record { pos = 12; st = List.[]; d = 0; at = λ x. x },
+              (
+                record { pos = 7; st = List.[]; d = 0; at = λ x. x },
+                (Num.vLit 1, (record { pos = 8; ty = ref10; ref = λ x. x }, tt)),
+              ),
+            ),
+          ),
+        ),
+      ),
+    ),
+  ) 13 (10 ∷ 11 ∷ 12 ∷ 13 ∷ 14 ∷ 5 ∷ List.[]) Laws''''.mir
+
   abbrev s51 : (bs : List.List Nat.ℕ) → Typed.Mo T53 → Typed.Mo T54
   s51 = λ bs. Scalar.n-room T53 7 Laws''.mir
+
   abbrev s52 : (bs : List.List Nat.ℕ) → Typed.Mo T54 → Typed.Mo T55
   s52 = λ bs. Scalar.n-room T54 12 Laws''''.mir
+
   abbrev s54 : (bs : List.List Nat.ℕ) → Typed.Both T55 T57
   s54 = λ bs. Relend.k-back-sl RelayPending.row T55 27 1 0 10 ref5 ref0 Row.off (λ x. x) λ x. x
+
   abbrev s57 : (bs : List.List Nat.ℕ) → Typed.Both T57 T60
   s57 = λ bs. Relend.k-back-sl RelayCircuit.row T57 29 2 1 11 ref6 ref1 Row.off (λ x. x) λ x. x
+
   abbrev s60 : (bs : List.List Nat.ℕ) → Typed.Both T60 T63
   s60 = λ bs. Relend.k-back-sl ReservationUsage.row T60 31 3 2 12 ref7 ref4 Row.off (λ x. x) λ x. x
+
   abbrev s63 : (bs : List.List Nat.ℕ) → Typed.Both T63 T66
   s63 = λ bs. Relend.k-back-sl InflightAction.row T63 33 4 3 13 ref8 ref2 Row.off (λ x. x) λ x. x
+
   abbrev s66 : (bs : List.List Nat.ℕ) → Typed.Both T66 T69
-  s66 = λ bs. Relend.k-back-sl (Referent.rtF (Referent.fInt Syntax.w32)) T66 35 5 4 14 ref9 ref3 Row.off (λ x. x) λ x. x
+  s66 = λ bs. Relend.k-back-sl (Referent.rtF (Referent.fInt Syntax.w32)) T66 35 5 4 14 ref9 ref3 Row.off (λ x. x) λ x.
+      x
+
   abbrev s67 : (bs : List.List Nat.ℕ) → Typed.Gives T69 T70
   s67 = λ bs. Know.k-sl-known (Referent.fInt Syntax.w32) T69 5 4 ref9 Row.off 0 λ x. x
+
   abbrev s69 : (bs : List.List Nat.ℕ) → Typed.Mo T70 → Typed.Mo T72
-  s69 = λ bs. Make.n-make (Declared.row HnsrAnswer.the-type) T70 14 λ m. Relayed.struct .as-values (m .1 .1 .1 .1 .1 .1 .1 .1 .1 .1 .1 .1 .1 .0) .1 .0
+  s69 = λ bs. Make.n-make (Declared.row HnsrAnswer.the-type) T70 14 λ m. Relayed.struct .as-values
+      (m .1 .1 .1 .1 .1 .1 .1 .1 .1 .1 .1 .1 .1 .0) .1 .0
+
   abbrev s70 : (bs : List.List Nat.ℕ) → Typed.Mo T72 → Typed.Mo T73
   s70 = λ bs. Scalar.n-room T72 13 Laws''''.mir
+
   abbrev s71 : (bs : List.List Nat.ℕ) → Typed.Both T73 T74
-  s71 = λ bs. Call.callB ps·2 r·2 (claims· .4) (claims· .5) T73 (record { pos = 14; st = List.[]; d = 0; at = λ x. x }, tt,) 0 List.[] (Syntax.tyInt
-      Syntax.w64)
+  s71 = λ bs. Call.callB ps·2 r·2 (claims· .4) (claims· .5) T73
+      (record { pos = 14; st = List.[]; d = 0; at = λ x. x }, tt) 0 List.[] (Syntax.tyInt Syntax.w64)
+
   abbrev s72 : (bs : List.List Nat.ℕ) → Typed.Mo T74 → Typed.Mo T75
   s72 = λ bs. Scalar.n-room T74 14 Laws.mir
+
   abbrev s73 : (bs : List.List Nat.ℕ) → Typed.Mo T75 → Typed.Mo T76
   s73 = λ bs. Scalar.n-room T75 9 Syntax.tyBool
+
   abbrev s74 : (bs : List.List Nat.ℕ) → Typed.Mo T4 → Typed.Mo T77
   s74 = λ bs. Scalar.n-room T4 17 Syntax.tyBool
+
   abbrev s76 : (bs : List.List Nat.ℕ) → Typed.Gives T5 T79
   s76 = λ bs. Relend.k-sl-relend RelayPending.row T5 1 36 0 15 ref5 ref0 Row.off λ x. x
+
   abbrev s77 : (bs : List.List Nat.ℕ) → Typed.Asks T79 T80
-  s77 = λ bs. Relend.k-sl-aggregate RelayPending.row (Relend.asMut RelayPending.row) T79 36 37 15 ref0 ref0 (λ x. x) (Scalar.oFld 1 ((Syntax.field 1)
-      ∷ List.[]) (Syntax.tyInt Syntax.w64) 8 λ v. Shared.lenV (v .0))
+  s77 = λ bs. Relend.k-sl-aggregate RelayPending.row (Relend.asMut RelayPending.row) T79 36 37 15 ref0 ref0 (λ x. x) (Scalar.oFld
+      1 ((Syntax.field 1) ∷ List.[]) (Syntax.tyInt Syntax.w64) 8 λ v. Shared.lenV (v .0))
+
   abbrev s79 : (bs : List.List Nat.ℕ) → Typed.Gives T80 T82
   s79 = λ bs. Relend.k-sl-relend RelayCircuit.row T80 2 38 1 16 ref6 ref1 Row.off λ x. x
+
   abbrev s80 : (bs : List.List Nat.ℕ) → Typed.Asks T82 T83
-  s80 = λ bs. Relend.k-sl-aggregate RelayCircuit.row (Relend.asMut RelayCircuit.row) T82 38 39 16 ref1 ref1 (λ x. x) (Scalar.oFld 2 ((Syntax.field 1)
-      ∷ List.[]) (Syntax.tyInt Syntax.w64) 8 λ v. Shared.lenV (v .0))
+  s80 = λ bs. Relend.k-sl-aggregate RelayCircuit.row (Relend.asMut RelayCircuit.row) T82 38 39 16 ref1 ref1 (λ x. x) (Scalar.oFld
+      2 ((Syntax.field 1) ∷ List.[]) (Syntax.tyInt Syntax.w64) 8 λ v. Shared.lenV (v .0))
+
   abbrev s82 : (bs : List.List Nat.ℕ) → Typed.Gives T83 T85
   s82 = λ bs. Relend.k-sl-relend ReservationUsage.row T83 3 40 2 17 ref7 ref4 Row.off λ x. x
+
   abbrev s83 : (bs : List.List Nat.ℕ) → Typed.Asks T85 T86
-  s83 = λ bs. Relend.k-sl-aggregate ReservationUsage.row (Relend.asMut ReservationUsage.row) T85 40 41 17 ref4 ref4 (λ x. x) (Scalar.oFld 3
-      ((Syntax.field 1) ∷ List.[]) (Syntax.tyInt Syntax.w64) 8 λ v. Shared.lenV (v .0))
+  s83 = λ bs. Relend.k-sl-aggregate ReservationUsage.row (Relend.asMut ReservationUsage.row) T85 40 41 17 ref4 ref4
+      (λ x. x) (Scalar.oFld 3 ((Syntax.field 1) ∷ List.[]) (Syntax.tyInt Syntax.w64) 8 λ v. Shared.lenV (v .0))
+
   abbrev s85 : (bs : List.List Nat.ℕ) → Typed.Gives T86 T88
   s85 = λ bs. Relend.k-sl-relend InflightAction.row T86 4 42 3 18 ref8 ref2 Row.off λ x. x
+
   abbrev s86 : (bs : List.List Nat.ℕ) → Typed.Asks T88 T89
-  s86 = λ bs. Relend.k-sl-aggregate InflightAction.row (Relend.asMut InflightAction.row) T88 42 43 18 ref2 ref2 (λ x. x) (Scalar.oFld 4 ((Syntax.field
-      1) ∷ List.[]) (Syntax.tyInt Syntax.w64) 8 λ v. Shared.lenV (v .0))
+  s86 = λ bs. Relend.k-sl-aggregate InflightAction.row (Relend.asMut InflightAction.row) T88 42 43 18 ref2 ref2
+      (λ x. x) (Scalar.oFld 4 ((Syntax.field 1) ∷ List.[]) (Syntax.tyInt Syntax.w64) 8 λ v. Shared.lenV (v .0))
+
   abbrev s88 : (bs : List.List Nat.ℕ) → Typed.Gives T89 T91
   s88 = λ bs. Relend.k-sl-relend (Referent.rtF (Referent.fInt Syntax.w32)) T89 5 44 4 19 ref9 ref3 Row.off λ x. x
+
   abbrev s89 : (bs : List.List Nat.ℕ) → Typed.Asks T91 T92
-  s89 = λ bs. Relend.k-sl-aggregate (Referent.rtF (Referent.fInt Syntax.w32)) (Relend.asMut (Referent.rtF (Referent.fInt Syntax.w32))) T91 44 45 19
-      ref3 ref3 (λ x. x) (Scalar.oFld 5 ((Syntax.field 1) ∷ List.[]) (Syntax.tyInt Syntax.w64) 8 λ v. Shared.lenV (v .0))
+  s89 = λ bs. Relend.k-sl-aggregate (Referent.rtF (Referent.fInt Syntax.w32))
+      (Relend.asMut (Referent.rtF (Referent.fInt Syntax.w32))) T91 44 45 19 ref3 ref3 (λ x. x) (Scalar.oFld 5
+      ((Syntax.field 1) ∷ List.[]) (Syntax.tyInt Syntax.w64) 8 λ v. Shared.lenV (v .0))
+
   abbrev s90 : (bs : List.List Nat.ℕ) → Typed.Both T92 T93
-  s90 = λ bs. Call.callB ps·1 r·1 (claims· .2) (claims· .3) T92 (record { pos = 37; ty = Syntax.tyRef Syntax.erased Syntax.mut RelayPending.to; ref =
-      λ x. x; }, (record { pos = 39; ty = Syntax.tyRef Syntax.erased Syntax.mut RelayCircuit.to; ref = λ x. x; }, (record { pos = 41; ty =
-      Syntax.tyRef Syntax.erased Syntax.mut ReservationUsage.to; ref = λ x. x; }, (record { pos = 43; ty = Syntax.tyRef Syntax.erased Syntax.mut
-      InflightAction.to; ref = λ x. x; }, (record { pos = 45; ty = Syntax.tyRef Syntax.erased Syntax.mut (Syntax.tyInt Syntax.w32); ref = λ x. x; },
-      (record { pos = 6; st = List.[]; d = 0; at = λ x. x }, (record { pos = 7; st = List.[]; d = 0; at = λ x. x }, (Num.vLit 1, (record { pos = 8; ty
-      = Syntax.tyRef (Syntax.named 5) Syntax.imm (Syntax.tyInt Syntax.w8); ref = λ x. x; }, tt,),),),),),),),),) 15 (15 ∷ 16 ∷ 17 ∷ 18 ∷ 19 ∷ 5 ∷
-      List.[]) Laws''''.mir
+  s90 = λ bs. Call.callB ps·1 r·1 (claims· .2) (claims· .3) T92 (
+    record { pos = 37; ty = ref0; ref = λ x. x },
+    (
+      record { pos = 39; ty = ref1; ref = λ x. x },
+      (
+        record { pos = 41; ty = ref4; ref = λ x. x },
+        (
+          record { pos = 43; ty = ref2; ref = λ x. x },
+          (
+            record { pos = 45; ty = ref3; ref = λ x. x },
+            (
+              record { pos = 6; st = List.[]; d = 0; at = λ x. x },
+              (
+                record { pos = 7; st = List.[]; d = 0; at = λ x. x },
+                (Num.vLit 1, (record { pos = 8; ty = ref10; ref = λ x. x }, tt)),
+              ),
+            ),
+          ),
+        ),
+      ),
+    ),
+  ) 15 (15 ∷ 16 ∷ 17 ∷ 18 ∷ 19 ∷ 5 ∷ List.[]) Laws''''.mir
+
   abbrev s91 : (bs : List.List Nat.ℕ) → Typed.Mo T93 → Typed.Mo T94
   s91 = λ bs. Scalar.n-room T93 6 Laws''''.mir
+
   abbrev s92 : (bs : List.List Nat.ℕ) → Typed.Mo T94 → Typed.Mo T95
   s92 = λ bs. Scalar.n-room T94 7 Laws''.mir
+
   abbrev s94 : (bs : List.List Nat.ℕ) → Typed.Both T95 T97
   s94 = λ bs. Relend.k-back-sl RelayPending.row T95 37 1 0 15 ref5 ref0 Row.off (λ x. x) λ x. x
+
   abbrev s97 : (bs : List.List Nat.ℕ) → Typed.Both T97 T100
   s97 = λ bs. Relend.k-back-sl RelayCircuit.row T97 39 2 1 16 ref6 ref1 Row.off (λ x. x) λ x. x
+
   abbrev s100 : (bs : List.List Nat.ℕ) → Typed.Both T100 T103
   s100 = λ bs. Relend.k-back-sl ReservationUsage.row T100 41 3 2 17 ref7 ref4 Row.off (λ x. x) λ x. x
+
   abbrev s103 : (bs : List.List Nat.ℕ) → Typed.Both T103 T106
   s103 = λ bs. Relend.k-back-sl InflightAction.row T103 43 4 3 18 ref8 ref2 Row.off (λ x. x) λ x. x
+
   abbrev s106 : (bs : List.List Nat.ℕ) → Typed.Both T106 T109
-  s106 = λ bs. Relend.k-back-sl (Referent.rtF (Referent.fInt Syntax.w32)) T106 45 5 4 19 ref9 ref3 Row.off (λ x. x) λ x. x
+  s106 = λ bs. Relend.k-back-sl (Referent.rtF (Referent.fInt Syntax.w32)) T106 45 5 4 19 ref9 ref3 Row.off (λ x. x) λ
+      x. x
+
   abbrev s107 : (bs : List.List Nat.ℕ) → Typed.Gives T109 T110
   s107 = λ bs. Know.k-sl-known (Referent.fInt Syntax.w32) T109 5 4 ref9 Row.off 0 λ x. x
+
   abbrev s109 : (bs : List.List Nat.ℕ) → Typed.Mo T110 → Typed.Mo T112
-  s109 = λ bs. Make.n-make (Declared.row HnsrAnswer.the-type) T110 16 λ m. Relayed.struct .as-values (m .1 .1 .1 .1 .1 .1 .1 .1 .1 .1 .1 .1 .1 .1 .1
-      .0) .1 .0
+  s109 = λ bs. Make.n-make (Declared.row HnsrAnswer.the-type) T110 16 λ m. Relayed.struct .as-values
+      (m .1 .1 .1 .1 .1 .1 .1 .1 .1 .1 .1 .1 .1 .1 .1 .0) .1 .0
+
   abbrev s110 : (bs : List.List Nat.ℕ) → Typed.Mo T112 → Typed.Mo T113
   s110 = λ bs. Scalar.n-room T112 15 Laws''''.mir
+
   abbrev s111 : (bs : List.List Nat.ℕ) → Typed.Both T113 T114
-  s111 = λ bs. Call.callB ps·2 r·2 (claims· .4) (claims· .5) T113 (record { pos = 16; st = List.[]; d = 0; at = λ x. x }, tt,) 0 List.[] (Syntax.tyInt
-      Syntax.w64)
+  s111 = λ bs. Call.callB ps·2 r·2 (claims· .4) (claims· .5) T113
+      (record { pos = 16; st = List.[]; d = 0; at = λ x. x }, tt) 0 List.[] (Syntax.tyInt Syntax.w64)
+
   abbrev s112 : (bs : List.List Nat.ℕ) → Typed.Mo T114 → Typed.Mo T115
   s112 = λ bs. Scalar.n-room T114 16 Laws.mir
+
   abbrev s113 : (bs : List.List Nat.ℕ) → Typed.Mo T115 → Typed.Mo T116
   s113 = λ bs. Scalar.n-room T115 9 Syntax.tyBool
-  module _ (Pre· : (κs : Lifetimes.Lfts 6) → Kinds.Dens κs ps → Type 0) (Post· : (κs : Lifetimes.Lfts 6) → (a : Kinds.Dens κs ps) → Kinds.Plain 6 ps r
-      κs) where
+
+  module _ (Pre· : (κs : Lifetimes.Lfts 6) → Kinds.Dens κs ps → Type 0) (Post· : (κs : Lifetimes.Lfts 6) →
+      (a : Kinds.Dens κs ps) → Kinds.Plain 6 ps r κs) where
     module _ (M : Type 1) where
       abbrev pub Closed : Type 2
-      Closed = (𝓤 : URA.URA M) (H : Wp.Heap 𝓤) (A : Atoms.Atoms 𝓤) (W : Kit.Given 𝓤 H A) (𝓣 : Wp.Tables 𝓤 H) (known0 : Plain.Known 𝓤 H A W 𝓣 4 ps·0
-          r·0 (claims· .0) (claims· .1) "hnsr_circuit::acknowledge::acknowledge") (known1 : Plain.Known 𝓤 H A W 𝓣 6 ps·1 r·1 (claims· .2) (claims· .3)
-          "cases::machine::deliver") (known2 : Plain.Known 𝓤 H A W 𝓣 0 ps·2 r·2 (claims· .4) (claims· .5) "cases::script::answer_number") →
-          Statement.Triple 𝓤 (Wp.WpFn 𝓤 H (𝓣 .C) (𝓣 .Λ) (Function.fnOf 6 ps r xs m hs body)) (Function.plainOf 𝓤 H A 6 ps r Pre· Post·)
+      Closed = (𝓤 : URA.URA M) (H : Wp.Heap 𝓤) (A : Atoms.Atoms 𝓤) (W : Kit.Given 𝓤 H A) (𝓣 : Wp.Tables 𝓤 H) (known0 :
+          Plain.Known 𝓤 H A W 𝓣 4 ps·0 r·0 (claims· .0) (claims· .1) "hnsr_circuit::acknowledge::acknowledge") (known1
+          : Plain.Known 𝓤 H A W 𝓣 6 ps·1 r·1 (claims· .2) (claims· .3) "cases::machine::deliver") (known2 : Plain.Known
+          𝓤 H A W 𝓣 0 ps·2 r·2 (claims· .4) (claims· .5) "cases::script::answer_number") → Statement.Triple 𝓤 (Wp.WpFn
+          𝓤 H (𝓣 .C) (𝓣 .Λ) (Function.fnOf 6 ps r xs m hs body)) (Function.plainOf 𝓤 H A 6 ps r Pre· Post·)
+
     module _ where
       abbrev at0 : (bs : List.List Nat.ℕ) → Typed.TF T76 O1
       at0 = λ bs. Typed.atRet O1
+
       abbrev at1 : (bs : List.List Nat.ℕ) → Typed.TF T75 O1
       at1 = λ bs. λ Ψ. Typed.pass T75 T76 (s73 bs) (at0 bs Ψ)
+
       abbrev at2 : (bs : List.List Nat.ℕ) → Typed.TF T74 O1
       at2 = λ bs. λ Ψ. Typed.pass T74 T75 (s72 bs) (at1 bs Ψ)
+
       abbrev at3 : (bs : List.List Nat.ℕ) → Typed.TF T73 O1
       at3 = λ bs. λ Ψ. Typed.both (s71 bs) (at2 bs Ψ)
+
       abbrev at4 : (bs : List.List Nat.ℕ) → Typed.TF T72 O1
       at4 = λ bs. λ Ψ. Typed.pass T72 T73 (s70 bs) (at3 bs Ψ)
+
       abbrev at5 : (bs : List.List Nat.ℕ) → Typed.TF T70 O1
       at5 = λ bs. λ Ψ. Typed.pass T70 T72 (s69 bs) (at4 bs Ψ)
+
       abbrev at6 : (bs : List.List Nat.ℕ) → Typed.TF T70 O1
       at6 = λ bs. λ Ψ. at5 bs Ψ
+
       abbrev at7 : (bs : List.List Nat.ℕ) → Typed.TF T69 O1
       at7 = λ bs. λ Ψ. Typed.give (s67 bs) (at6 bs Ψ)
+
       abbrev at8 : (bs : List.List Nat.ℕ) → Typed.TF T66 O1
       at8 = λ bs. λ Ψ. Typed.both (s66 bs) (at7 bs Ψ)
+
       abbrev at9 : (bs : List.List Nat.ℕ) → Typed.TF T66 O1
       at9 = λ bs. λ Ψ. at8 bs Ψ
+
       abbrev at10 : (bs : List.List Nat.ℕ) → Typed.TF T66 O1
       at10 = λ bs. λ Ψ. at9 bs Ψ
+
       abbrev at11 : (bs : List.List Nat.ℕ) → Typed.TF T63 O1
       at11 = λ bs. λ Ψ. Typed.both (s63 bs) (at10 bs Ψ)
+
       abbrev at12 : (bs : List.List Nat.ℕ) → Typed.TF T63 O1
       at12 = λ bs. λ Ψ. at11 bs Ψ
+
       abbrev at13 : (bs : List.List Nat.ℕ) → Typed.TF T63 O1
       at13 = λ bs. λ Ψ. at12 bs Ψ
+
       abbrev at14 : (bs : List.List Nat.ℕ) → Typed.TF T60 O1
       at14 = λ bs. λ Ψ. Typed.both (s60 bs) (at13 bs Ψ)
+
       abbrev at15 : (bs : List.List Nat.ℕ) → Typed.TF T60 O1
       at15 = λ bs. λ Ψ. at14 bs Ψ
+
       abbrev at16 : (bs : List.List Nat.ℕ) → Typed.TF T60 O1
       at16 = λ bs. λ Ψ. at15 bs Ψ
+
       abbrev at17 : (bs : List.List Nat.ℕ) → Typed.TF T57 O1
       at17 = λ bs. λ Ψ. Typed.both (s57 bs) (at16 bs Ψ)
+
       abbrev at18 : (bs : List.List Nat.ℕ) → Typed.TF T57 O1
       at18 = λ bs. λ Ψ. at17 bs Ψ
+
       abbrev at19 : (bs : List.List Nat.ℕ) → Typed.TF T57 O1
       at19 = λ bs. λ Ψ. at18 bs Ψ
+
       abbrev at20 : (bs : List.List Nat.ℕ) → Typed.TF T55 O1
       at20 = λ bs. λ Ψ. Typed.both (s54 bs) (at19 bs Ψ)
+
       abbrev at21 : (bs : List.List Nat.ℕ) → Typed.TF T55 O1
       at21 = λ bs. λ Ψ. at20 bs Ψ
+
       abbrev at22 : (bs : List.List Nat.ℕ) → Typed.TF T54 O1
       at22 = λ bs. λ Ψ. Typed.pass T54 T55 (s52 bs) (at21 bs Ψ)
+
       abbrev at23 : (bs : List.List Nat.ℕ) → Typed.TF T53 O1
       at23 = λ bs. λ Ψ. Typed.pass T53 T54 (s51 bs) (at22 bs Ψ)
+
       abbrev at24 : (bs : List.List Nat.ℕ) → Typed.TF T52 O1
       at24 = λ bs. λ Ψ. Typed.both (s50 bs) (at23 bs Ψ)
+
       abbrev at25 : (bs : List.List Nat.ℕ) → Typed.TF T51 O1
       at25 = λ bs. λ Ψ. Typed.ask (s49 bs) (at24 bs Ψ)
+
       abbrev at26 : (bs : List.List Nat.ℕ) → Typed.TF T49 O1
       at26 = λ bs. λ Ψ. Typed.give (s48 bs) (at25 bs Ψ)
+
       abbrev at27 : (bs : List.List Nat.ℕ) → Typed.TF T49 O1
       at27 = λ bs. λ Ψ. at26 bs Ψ
+
       abbrev at28 : (bs : List.List Nat.ℕ) → Typed.TF T48 O1
       at28 = λ bs. λ Ψ. Typed.ask (s46 bs) (at27 bs Ψ)
+
       abbrev at29 : (bs : List.List Nat.ℕ) → Typed.TF T46 O1
       at29 = λ bs. λ Ψ. Typed.give (s45 bs) (at28 bs Ψ)
+
       abbrev at30 : (bs : List.List Nat.ℕ) → Typed.TF T46 O1
       at30 = λ bs. λ Ψ. at29 bs Ψ
+
       abbrev at31 : (bs : List.List Nat.ℕ) → Typed.TF T45 O1
       at31 = λ bs. λ Ψ. Typed.ask (s43 bs) (at30 bs Ψ)
+
       abbrev at32 : (bs : List.List Nat.ℕ) → Typed.TF T43 O1
       at32 = λ bs. λ Ψ. Typed.give (s42 bs) (at31 bs Ψ)
+
       abbrev at33 : (bs : List.List Nat.ℕ) → Typed.TF T43 O1
       at33 = λ bs. λ Ψ. at32 bs Ψ
+
       abbrev at34 : (bs : List.List Nat.ℕ) → Typed.TF T42 O1
       at34 = λ bs. λ Ψ. Typed.ask (s40 bs) (at33 bs Ψ)
+
       abbrev at35 : (bs : List.List Nat.ℕ) → Typed.TF T40 O1
       at35 = λ bs. λ Ψ. Typed.give (s39 bs) (at34 bs Ψ)
+
       abbrev at36 : (bs : List.List Nat.ℕ) → Typed.TF T40 O1
       at36 = λ bs. λ Ψ. at35 bs Ψ
+
       abbrev at37 : (bs : List.List Nat.ℕ) → Typed.TF T39 O1
       at37 = λ bs. λ Ψ. Typed.ask (s37 bs) (at36 bs Ψ)
+
       abbrev at38 : (bs : List.List Nat.ℕ) → Typed.TF T36 O1
       at38 = λ bs. λ Ψ. Typed.give (s36 bs) (at37 bs Ψ)
+
       abbrev at39 : (bs : List.List Nat.ℕ) → Typed.TF T36 O1
       at39 = λ bs. λ Ψ. at38 bs Ψ
+
       abbrev at40 : (bs : List.List Nat.ℕ) → Typed.TF T36 O1
       at40 = λ bs. λ Ψ. at39 bs Ψ
+
       abbrev at41 : (bs : List.List Nat.ℕ) → Typed.TF T35 O1
       at41 = λ bs. λ Ψ. Typed.give (s33 bs) (at40 bs Ψ)
+
       abbrev at42 : (bs : List.List Nat.ℕ) → Typed.TF T32 O1
       at42 = λ bs. λ Ψ. Typed.both (s32 bs) (at41 bs Ψ)
+
       abbrev at43 : (bs : List.List Nat.ℕ) → Typed.TF T32 O1
       at43 = λ bs. λ Ψ. at42 bs Ψ
+
       abbrev at44 : (bs : List.List Nat.ℕ) → Typed.TF T32 O1
       at44 = λ bs. λ Ψ. at43 bs Ψ
+
       abbrev at45 : (bs : List.List Nat.ℕ) → Typed.TF T29 O1
       at45 = λ bs. λ Ψ. Typed.both (s29 bs) (at44 bs Ψ)
+
       abbrev at46 : (bs : List.List Nat.ℕ) → Typed.TF T29 O1
       at46 = λ bs. λ Ψ. at45 bs Ψ
+
       abbrev at47 : (bs : List.List Nat.ℕ) → Typed.TF T29 O1
       at47 = λ bs. λ Ψ. at46 bs Ψ
+
       abbrev at48 : (bs : List.List Nat.ℕ) → Typed.TF T26 O1
       at48 = λ bs. λ Ψ. Typed.both (s26 bs) (at47 bs Ψ)
+
       abbrev at49 : (bs : List.List Nat.ℕ) → Typed.TF T26 O1
       at49 = λ bs. λ Ψ. at48 bs Ψ
+
       abbrev at50 : (bs : List.List Nat.ℕ) → Typed.TF T26 O1
       at50 = λ bs. λ Ψ. at49 bs Ψ
+
       abbrev at51 : (bs : List.List Nat.ℕ) → Typed.TF T24 O1
       at51 = λ bs. λ Ψ. Typed.both (s23 bs) (at50 bs Ψ)
+
       abbrev at52 : (bs : List.List Nat.ℕ) → Typed.TF T24 O1
       at52 = λ bs. λ Ψ. at51 bs Ψ
+
       abbrev at53 : (bs : List.List Nat.ℕ) → Typed.TF T23 O1
       at53 = λ bs. λ Ψ. Typed.pass T23 T24 (s21 bs) (at52 bs Ψ)
+
       abbrev at54 : (bs : List.List Nat.ℕ) → Typed.TF T22 O1
       at54 = λ bs. λ Ψ. Typed.pass T22 T23 (s20 bs) (at53 bs Ψ)
+
       abbrev at55 : (bs : List.List Nat.ℕ) → Typed.TF T21 O1
       at55 = λ bs. λ Ψ. Typed.both (s19 bs) (at54 bs Ψ)
+
       abbrev at56 : (bs : List.List Nat.ℕ) → Typed.TF T20 O1
       at56 = λ bs. λ Ψ. Typed.ask (s18 bs) (at55 bs Ψ)
+
       abbrev at57 : (bs : List.List Nat.ℕ) → Typed.TF T18 O1
       at57 = λ bs. λ Ψ. Typed.give (s17 bs) (at56 bs Ψ)
+
       abbrev at58 : (bs : List.List Nat.ℕ) → Typed.TF T18 O1
       at58 = λ bs. λ Ψ. at57 bs Ψ
+
       abbrev at59 : (bs : List.List Nat.ℕ) → Typed.TF T17 O1
       at59 = λ bs. λ Ψ. Typed.ask (s15 bs) (at58 bs Ψ)
+
       abbrev at60 : (bs : List.List Nat.ℕ) → Typed.TF T15 O1
       at60 = λ bs. λ Ψ. Typed.give (s14 bs) (at59 bs Ψ)
+
       abbrev at61 : (bs : List.List Nat.ℕ) → Typed.TF T15 O1
       at61 = λ bs. λ Ψ. at60 bs Ψ
+
       abbrev at62 : (bs : List.List Nat.ℕ) → Typed.TF T14 O1
       at62 = λ bs. λ Ψ. Typed.ask (s12 bs) (at61 bs Ψ)
+
       abbrev at63 : (bs : List.List Nat.ℕ) → Typed.TF T12 O1
       at63 = λ bs. λ Ψ. Typed.give (s11 bs) (at62 bs Ψ)
+
       abbrev at64 : (bs : List.List Nat.ℕ) → Typed.TF T12 O1
       at64 = λ bs. λ Ψ. at63 bs Ψ
+
       abbrev at65 : (bs : List.List Nat.ℕ) → Typed.TF T11 O1
       at65 = λ bs. λ Ψ. Typed.ask (s9 bs) (at64 bs Ψ)
+
       abbrev at66 : (bs : List.List Nat.ℕ) → Typed.TF T9 O1
       at66 = λ bs. λ Ψ. Typed.give (s8 bs) (at65 bs Ψ)
+
       abbrev at67 : (bs : List.List Nat.ℕ) → Typed.TF T9 O1
       at67 = λ bs. λ Ψ. at66 bs Ψ
+
       abbrev at68 : (bs : List.List Nat.ℕ) → Typed.TF T8 O1
       at68 = λ bs. λ Ψ. Typed.pass T8 T9 (s6 bs) (at67 bs Ψ)
+
       abbrev at69 : (bs : List.List Nat.ℕ) → Typed.TF T7 O1
       at69 = λ bs. λ Ψ. Typed.both (s5 bs) (at68 bs Ψ)
+
       abbrev at70 : (bs : List.List Nat.ℕ) → Typed.TF T6 O1
       at70 = λ bs. λ Ψ. Typed.both (s4 bs) (at69 bs Ψ)
+
       abbrev at71 : (bs : List.List Nat.ℕ) → Typed.TF T4 O1
       at71 = λ bs. λ Ψ. Typed.pass T4 T6 (s3 bs) (at70 bs Ψ)
+
       abbrev at72 : (bs : List.List Nat.ℕ) → Typed.TF T77 O1
       at72 = λ bs. Typed.atNext O1
+
       abbrev at73 : (bs : List.List Nat.ℕ) → Typed.TF T4 O1
       at73 = λ bs. λ Ψ. Typed.pass T4 T77 (s74 bs) (at72 bs Ψ)
+
       abbrev at74 : (bs : List.List Nat.ℕ) → Typed.TF T4 O1
       at74 = λ bs. Scalar.Φcond T4 O1 17 (λ x. x) (at71 bs) (at73 bs)
+
       abbrev at75 : (bs : List.List Nat.ℕ) → Typed.TF T116 O0
       at75 = λ bs. Typed.atRet O0
+
       abbrev at76 : (bs : List.List Nat.ℕ) → Typed.TF T115 O0
       at76 = λ bs. λ Ψ. Typed.pass T115 T116 (s113 bs) (at75 bs Ψ)
+
       abbrev at77 : (bs : List.List Nat.ℕ) → Typed.TF T114 O0
       at77 = λ bs. λ Ψ. Typed.pass T114 T115 (s112 bs) (at76 bs Ψ)
+
       abbrev at78 : (bs : List.List Nat.ℕ) → Typed.TF T113 O0
       at78 = λ bs. λ Ψ. Typed.both (s111 bs) (at77 bs Ψ)
+
       abbrev at79 : (bs : List.List Nat.ℕ) → Typed.TF T112 O0
       at79 = λ bs. λ Ψ. Typed.pass T112 T113 (s110 bs) (at78 bs Ψ)
+
       abbrev at80 : (bs : List.List Nat.ℕ) → Typed.TF T110 O0
       at80 = λ bs. λ Ψ. Typed.pass T110 T112 (s109 bs) (at79 bs Ψ)
+
       abbrev at81 : (bs : List.List Nat.ℕ) → Typed.TF T110 O0
       at81 = λ bs. λ Ψ. at80 bs Ψ
+
       abbrev at82 : (bs : List.List Nat.ℕ) → Typed.TF T109 O0
       at82 = λ bs. λ Ψ. Typed.give (s107 bs) (at81 bs Ψ)
+
       abbrev at83 : (bs : List.List Nat.ℕ) → Typed.TF T106 O0
       at83 = λ bs. λ Ψ. Typed.both (s106 bs) (at82 bs Ψ)
+
       abbrev at84 : (bs : List.List Nat.ℕ) → Typed.TF T106 O0
       at84 = λ bs. λ Ψ. at83 bs Ψ
+
       abbrev at85 : (bs : List.List Nat.ℕ) → Typed.TF T106 O0
       at85 = λ bs. λ Ψ. at84 bs Ψ
+
       abbrev at86 : (bs : List.List Nat.ℕ) → Typed.TF T103 O0
       at86 = λ bs. λ Ψ. Typed.both (s103 bs) (at85 bs Ψ)
+
       abbrev at87 : (bs : List.List Nat.ℕ) → Typed.TF T103 O0
       at87 = λ bs. λ Ψ. at86 bs Ψ
+
       abbrev at88 : (bs : List.List Nat.ℕ) → Typed.TF T103 O0
       at88 = λ bs. λ Ψ. at87 bs Ψ
+
       abbrev at89 : (bs : List.List Nat.ℕ) → Typed.TF T100 O0
       at89 = λ bs. λ Ψ. Typed.both (s100 bs) (at88 bs Ψ)
+
       abbrev at90 : (bs : List.List Nat.ℕ) → Typed.TF T100 O0
       at90 = λ bs. λ Ψ. at89 bs Ψ
+
       abbrev at91 : (bs : List.List Nat.ℕ) → Typed.TF T100 O0
       at91 = λ bs. λ Ψ. at90 bs Ψ
+
       abbrev at92 : (bs : List.List Nat.ℕ) → Typed.TF T97 O0
       at92 = λ bs. λ Ψ. Typed.both (s97 bs) (at91 bs Ψ)
+
       abbrev at93 : (bs : List.List Nat.ℕ) → Typed.TF T97 O0
       at93 = λ bs. λ Ψ. at92 bs Ψ
+
       abbrev at94 : (bs : List.List Nat.ℕ) → Typed.TF T97 O0
       at94 = λ bs. λ Ψ. at93 bs Ψ
+
       abbrev at95 : (bs : List.List Nat.ℕ) → Typed.TF T95 O0
       at95 = λ bs. λ Ψ. Typed.both (s94 bs) (at94 bs Ψ)
+
       abbrev at96 : (bs : List.List Nat.ℕ) → Typed.TF T95 O0
       at96 = λ bs. λ Ψ. at95 bs Ψ
+
       abbrev at97 : (bs : List.List Nat.ℕ) → Typed.TF T94 O0
       at97 = λ bs. λ Ψ. Typed.pass T94 T95 (s92 bs) (at96 bs Ψ)
+
       abbrev at98 : (bs : List.List Nat.ℕ) → Typed.TF T93 O0
       at98 = λ bs. λ Ψ. Typed.pass T93 T94 (s91 bs) (at97 bs Ψ)
+
       abbrev at99 : (bs : List.List Nat.ℕ) → Typed.TF T92 O0
       at99 = λ bs. λ Ψ. Typed.both (s90 bs) (at98 bs Ψ)
+
       abbrev at100 : (bs : List.List Nat.ℕ) → Typed.TF T91 O0
       at100 = λ bs. λ Ψ. Typed.ask (s89 bs) (at99 bs Ψ)
+
       abbrev at101 : (bs : List.List Nat.ℕ) → Typed.TF T89 O0
       at101 = λ bs. λ Ψ. Typed.give (s88 bs) (at100 bs Ψ)
+
       abbrev at102 : (bs : List.List Nat.ℕ) → Typed.TF T89 O0
       at102 = λ bs. λ Ψ. at101 bs Ψ
+
       abbrev at103 : (bs : List.List Nat.ℕ) → Typed.TF T88 O0
       at103 = λ bs. λ Ψ. Typed.ask (s86 bs) (at102 bs Ψ)
+
       abbrev at104 : (bs : List.List Nat.ℕ) → Typed.TF T86 O0
       at104 = λ bs. λ Ψ. Typed.give (s85 bs) (at103 bs Ψ)
+
       abbrev at105 : (bs : List.List Nat.ℕ) → Typed.TF T86 O0
       at105 = λ bs. λ Ψ. at104 bs Ψ
+
       abbrev at106 : (bs : List.List Nat.ℕ) → Typed.TF T85 O0
       at106 = λ bs. λ Ψ. Typed.ask (s83 bs) (at105 bs Ψ)
+
       abbrev at107 : (bs : List.List Nat.ℕ) → Typed.TF T83 O0
       at107 = λ bs. λ Ψ. Typed.give (s82 bs) (at106 bs Ψ)
+
       abbrev at108 : (bs : List.List Nat.ℕ) → Typed.TF T83 O0
       at108 = λ bs. λ Ψ. at107 bs Ψ
+
       abbrev at109 : (bs : List.List Nat.ℕ) → Typed.TF T82 O0
       at109 = λ bs. λ Ψ. Typed.ask (s80 bs) (at108 bs Ψ)
+
       abbrev at110 : (bs : List.List Nat.ℕ) → Typed.TF T80 O0
       at110 = λ bs. λ Ψ. Typed.give (s79 bs) (at109 bs Ψ)
+
       abbrev at111 : (bs : List.List Nat.ℕ) → Typed.TF T80 O0
       at111 = λ bs. λ Ψ. at110 bs Ψ
+
       abbrev at112 : (bs : List.List Nat.ℕ) → Typed.TF T79 O0
       at112 = λ bs. λ Ψ. Typed.ask (s77 bs) (at111 bs Ψ)
+
       abbrev at113 : (bs : List.List Nat.ℕ) → Typed.TF T5 O0
       at113 = λ bs. λ Ψ. Typed.give (s76 bs) (at112 bs Ψ)
+
       abbrev at114 : (bs : List.List Nat.ℕ) → Typed.TF T5 O0
       at114 = λ bs. λ Ψ. at113 bs Ψ
+
       abbrev at115 : (bs : List.List Nat.ℕ) → Typed.TF T4 O0
       at115 = λ bs. λ Ψ. at74 bs (Typed.wantNext T5 O0 (at114 bs Ψ) Ψ)
+
       abbrev at116 : (bs : List.List Nat.ℕ) → Typed.TF T3 O0
       at116 = λ bs. λ Ψ. Typed.pass T3 T4 (s2 bs) (at115 bs Ψ)
+
       abbrev at117 : (bs : List.List Nat.ℕ) → Typed.TF T2 O0
       at117 = λ bs. λ Ψ. Typed.give (s1 bs) (at116 bs Ψ)
+
       abbrev at118 : (bs : List.List Nat.ℕ) → Typed.TF T0 O0
       at118 = λ bs. λ Ψ. Typed.give (s0 bs) (at117 bs Ψ)
+
       abbrev pub Φ : (bs : List.List Nat.ℕ) → Typed.TF T0 O0
       Φ = λ bs. at118 bs
-      module _ { M : Type 1 } (𝓤 : URA.URA M) (H : Wp.Heap 𝓤) (A : Atoms.Atoms 𝓤) (W : Kit.Given 𝓤 H A) (𝓣 : Wp.Tables 𝓤 H) where
+
+      module _ {M : Type 1} (𝓤 : URA.URA M) (H : Wp.Heap 𝓤) (A : Atoms.Atoms 𝓤) (W : Kit.Given 𝓤 H A)
+          (𝓣 : Wp.Tables 𝓤 H) where
         abbrev Knowns : Type 1
-        Knowns = Plain.Known 𝓤 H A W 𝓣 4 ps·0 r·0 (claims· .0) (claims· .1) "hnsr_circuit::acknowledge::acknowledge" × Plain.Known 𝓤 H A W 𝓣 6 ps·1
-            r·1 (claims· .2) (claims· .3) "cases::machine::deliver" × Plain.Known 𝓤 H A W 𝓣 0 ps·2 r·2 (claims· .4) (claims· .5)
-            "cases::script::answer_number"
+        Knowns = Plain.Known 𝓤 H A W 𝓣 4 ps·0 r·0 (claims· .0) (claims· .1) "hnsr_circuit::acknowledge::acknowledge" ×
+            Plain.Known 𝓤 H A W 𝓣 6 ps·1 r·1 (claims· .2) (claims· .3) "cases::machine::deliver" × Plain.Known 𝓤 H A W
+            𝓣 0 ps·2 r·2 (claims· .4) (claims· .5) "cases::script::answer_number"
+
       module _ (κs : Lifetimes.Lfts 6) (qs : Lifetimes.Shares 6) where
         abbrev life0 : Row.Life
         life0 = Row.lease (κs .0) (qs .0)
+
         abbrev life1 : Row.Life
         life1 = Row.lease (κs .1 .0) (qs .1 .0)
+
         abbrev life2 : Row.Life
         life2 = Row.lease (κs .1 .1 .1 .0) (qs .1 .1 .1 .0)
+
         abbrev life3 : Row.Life
         life3 = Row.lease (κs .1 .1 .1 .1 .0) (qs .1 .1 .1 .1 .0)
+
         abbrev life4 : Row.Life
         life4 = Row.lease (κs .1 .1 .0) (qs .1 .1 .0)
+
         abbrev life5 : Row.Life
         life5 = Row.lease (κs .1 .1 .1 .1 .1 .0) (qs .1 .1 .1 .1 .1 .0)
+
+        abbrev l1 : Row.Entry
+        l1 = (1, Relend.mslice-owed RelayPending.row ref5 0 6 life0)
+
+        abbrev l2 : Row.Entry
+        l2 = (2, Relend.mslice-owed RelayCircuit.row ref6 1 7 life1)
+
+        abbrev l4 : Row.Entry
+        l4 = (4, Relend.mslice-owed InflightAction.row ref8 3 8 life2)
+
+        abbrev l5 : Row.Entry
+        l5 = (5, Relend.mslice-owed (Referent.rtF (Referent.fInt Syntax.w32)) ref9 4 9 life3)
+
+        abbrev l1·1 : Row.Entry
+        l1·1 = (1, Relend.mslice-owed RelayPending.row ref5 0 10 life0)
+
+        abbrev l2·1 : Row.Entry
+        l2·1 = (2, Relend.mslice-owed RelayCircuit.row ref6 1 11 life1)
+
+        abbrev l3 : Row.Entry
+        l3 = (3, Relend.mslice-owed ReservationUsage.row ref7 2 12 life4)
+
+        abbrev l4·1 : Row.Entry
+        l4·1 = (4, Relend.mslice-owed InflightAction.row ref8 3 13 life2)
+
+        abbrev l5·1 : Row.Entry
+        l5·1 = (5, Relend.mslice-owed (Referent.rtF (Referent.fInt Syntax.w32)) ref9 4 14 life3)
+
+        abbrev l1·2 : Row.Entry
+        l1·2 = (1, Relend.mslice-owed RelayPending.row ref5 0 15 life0)
+
+        abbrev l2·2 : Row.Entry
+        l2·2 = (2, Relend.mslice-owed RelayCircuit.row ref6 1 16 life1)
+
+        abbrev l3·1 : Row.Entry
+        l3·1 = (3, Relend.mslice-owed ReservationUsage.row ref7 2 17 life4)
+
+        abbrev l4·2 : Row.Entry
+        l4·2 = (4, Relend.mslice-owed InflightAction.row ref8 3 18 life2)
+
+        abbrev l5·2 : Row.Entry
+        l5·2 = (5, Relend.mslice-owed (Referent.rtF (Referent.fInt Syntax.w32)) ref9 4 19 life3)
+
         abbrev g8 : List.List Row.Entry
-        g8 = (0, Rows.any-gone (Syntax.tyInt Syntax.w64)) ∷ (1, Relend.mslice-owed RelayPending.row ref5 0 6 life0,) ∷ (2, Mut.mslice RelayCircuit.row
-            ref6 1,) ∷ (3, Mut.mslice ReservationUsage.row ref7 2,) ∷ (4, Mut.mslice InflightAction.row ref8 3,) ∷ (5, Mut.mslice (Referent.rtF
-            (Referent.fInt Syntax.w32)) ref9 4,) ∷ (6, Rows.any-gone Laws''''.mir,) ∷ (7, Rows.whole (Declared'.row RelayPacket.the-type)) ∷ (8,
-            Rows.sslice (Referent.rtF (Referent.fInt Syntax.w8)) ref10 5,) ∷ (9, Rows.sc-here Row.sBool) ∷ (10, Rows.whole (Declared'.row
-            OpaqueRelayRuntime.the-type),) ∷ (11, Rows.whole (Declared'.row Places.the-type)) ∷ (12, Rows.any-gone Laws''''.mir,) ∷ (13, Rows.any-gone
-            Laws''''.mir,) ∷ (14, Rows.any-gone Laws.mir,) ∷ (15, Rows.any-gone Laws''''.mir,) ∷ List.[]
+        g8 = e0 ∷ l1 ∷ e2 ∷ e3 ∷ e4 ∷ e5 ∷ e6·1 ∷ e7 ∷ e8 ∷ e9 ∷ e10·1 ∷ e11·1 ∷ e12 ∷ e13 ∷ e14 ∷ e15 ∷ List.[]
+
         abbrev g11 : List.List Row.Entry
-        g11 = (0, Rows.any-gone (Syntax.tyInt Syntax.w64)) ∷ (1, Relend.mslice-owed RelayPending.row ref5 0 6 life0,) ∷ (2, Relend.mslice-owed
-            RelayCircuit.row ref6 1 7 life1,) ∷ (3, Mut.mslice ReservationUsage.row ref7 2,) ∷ (4, Mut.mslice InflightAction.row ref8 3,) ∷ (5,
-            Mut.mslice (Referent.rtF (Referent.fInt Syntax.w32)) ref9 4,) ∷ (6, Rows.any-gone Laws''''.mir,) ∷ (7, Rows.whole (Declared'.row
-            RelayPacket.the-type)) ∷ (8, Rows.sslice (Referent.rtF (Referent.fInt Syntax.w8)) ref10 5,) ∷ (9, Rows.sc-here Row.sBool) ∷ (10,
-            Rows.whole (Declared'.row OpaqueRelayRuntime.the-type),) ∷ (11, Rows.whole (Declared'.row Places.the-type)) ∷ (12, Rows.any-gone
-            Laws''''.mir,) ∷ (13, Rows.any-gone Laws''''.mir,) ∷ (14, Rows.any-gone Laws.mir,) ∷ (15, Rows.any-gone Laws''''.mir,) ∷ List.[]
+        g11 = e0 ∷ l1 ∷ l2 ∷ e3 ∷ e4 ∷ e5 ∷ e6·1 ∷ e7 ∷ e8 ∷ e9 ∷ e10·1 ∷ e11·1 ∷ e12 ∷ e13 ∷ e14 ∷ e15 ∷ List.[]
+
         abbrev g14 : List.List Row.Entry
-        g14 = (0, Rows.any-gone (Syntax.tyInt Syntax.w64)) ∷ (1, Relend.mslice-owed RelayPending.row ref5 0 6 life0,) ∷ (2, Relend.mslice-owed
-            RelayCircuit.row ref6 1 7 life1,) ∷ (3, Mut.mslice ReservationUsage.row ref7 2,) ∷ (4, Relend.mslice-owed InflightAction.row ref8 3 8
-            life2,) ∷ (5, Mut.mslice (Referent.rtF (Referent.fInt Syntax.w32)) ref9 4,) ∷ (6, Rows.any-gone Laws''''.mir,) ∷ (7, Rows.whole
-            (Declared'.row RelayPacket.the-type)) ∷ (8, Rows.sslice (Referent.rtF (Referent.fInt Syntax.w8)) ref10 5,) ∷ (9, Rows.sc-here Row.sBool) ∷
-            (10, Rows.whole (Declared'.row OpaqueRelayRuntime.the-type),) ∷ (11, Rows.whole (Declared'.row Places.the-type)) ∷ (12, Rows.any-gone
-            Laws''''.mir,) ∷ (13, Rows.any-gone Laws''''.mir,) ∷ (14, Rows.any-gone Laws.mir,) ∷ (15, Rows.any-gone Laws''''.mir,) ∷ List.[]
+        g14 = e0 ∷ l1 ∷ l2 ∷ e3 ∷ l4 ∷ e5 ∷ e6·1 ∷ e7 ∷ e8 ∷ e9 ∷ e10·1 ∷ e11·1 ∷ e12 ∷ e13 ∷ e14 ∷ e15 ∷ List.[]
+
         abbrev g17 : List.List Row.Entry
-        g17 = (0, Rows.any-gone (Syntax.tyInt Syntax.w64)) ∷ (1, Relend.mslice-owed RelayPending.row ref5 0 6 life0,) ∷ (2, Relend.mslice-owed
-            RelayCircuit.row ref6 1 7 life1,) ∷ (3, Mut.mslice ReservationUsage.row ref7 2,) ∷ (4, Relend.mslice-owed InflightAction.row ref8 3 8
-            life2,) ∷ (5, Relend.mslice-owed (Referent.rtF (Referent.fInt Syntax.w32)) ref9 4 9 life3,) ∷ (6, Rows.any-gone Laws''''.mir,) ∷ (7,
-            Rows.whole (Declared'.row RelayPacket.the-type)) ∷ (8, Rows.sslice (Referent.rtF (Referent.fInt Syntax.w8)) ref10 5,) ∷ (9, Rows.sc-here
-            Row.sBool) ∷ (10, Rows.whole (Declared'.row OpaqueRelayRuntime.the-type),) ∷ (11, Rows.whole (Declared'.row Places.the-type)) ∷ (12,
-            Rows.any-gone Laws''''.mir,) ∷ (13, Rows.any-gone Laws''''.mir,) ∷ (14, Rows.any-gone Laws.mir,) ∷ (15, Rows.any-gone Laws''''.mir,) ∷
-            List.[]
+        g17 = e0 ∷ l1 ∷ l2 ∷ e3 ∷ l4 ∷ l5 ∷ e6·1 ∷ e7 ∷ e8 ∷ e9 ∷ e10·1 ∷ e11·1 ∷ e12 ∷ e13 ∷ e14 ∷ e15 ∷ List.[]
+
         abbrev g20 : List.List Row.Entry
-        g20 = (0, Rows.any-gone (Syntax.tyInt Syntax.w64)) ∷ (1, Relend.mslice-owed RelayPending.row ref5 0 6 life0,) ∷ (2, Relend.mslice-owed
-            RelayCircuit.row ref6 1 7 life1,) ∷ (3, Mut.mslice ReservationUsage.row ref7 2,) ∷ (4, Relend.mslice-owed InflightAction.row ref8 3 8
-            life2,) ∷ (5, Relend.mslice-owed (Referent.rtF (Referent.fInt Syntax.w32)) ref9 4 9 life3,) ∷ (6, Rows.any-gone Laws''''.mir,) ∷ (7,
-            Rows.whole (Declared'.row RelayPacket.the-type)) ∷ (8, Rows.sslice (Referent.rtF (Referent.fInt Syntax.w8)) ref10 5,) ∷ (9, Rows.sc-here
-            Row.sBool) ∷ (10, Rows.whole (Declared'.row OpaqueRelayRuntime.the-type),) ∷ (11, Rows.whole (Declared'.row Places.the-type)) ∷ (12,
-            Rows.whole (Declared'.row Relayed.the-type),) ∷ (13, Rows.any-gone Laws''''.mir,) ∷ (14, Rows.any-gone Laws.mir,) ∷ (15, Rows.any-gone
-            Laws''''.mir,) ∷ List.[]
+        g20 = e0 ∷ l1 ∷ l2 ∷ e3 ∷ l4 ∷ l5 ∷ e6·1 ∷ e7 ∷ e8 ∷ e9 ∷ e10·1 ∷ e11·1 ∷ e12·1 ∷ e13 ∷ e14 ∷ e15 ∷ List.[]
+
         abbrev g22 : List.List Row.Entry
-        g22 = (0, Rows.any-gone (Syntax.tyInt Syntax.w64)) ∷ (1, Relend.mslice-owed RelayPending.row ref5 0 6 life0,) ∷ (2, Relend.mslice-owed
-            RelayCircuit.row ref6 1 7 life1,) ∷ (3, Mut.mslice ReservationUsage.row ref7 2,) ∷ (4, Relend.mslice-owed InflightAction.row ref8 3 8
-            life2,) ∷ (5, Relend.mslice-owed (Referent.rtF (Referent.fInt Syntax.w32)) ref9 4 9 life3,) ∷ (6, Rows.any-gone Laws''''.mir,) ∷ (7,
-            Rows.whole (Declared'.row RelayPacket.the-type)) ∷ (8, Rows.sslice (Referent.rtF (Referent.fInt Syntax.w8)) ref10 5,) ∷ (9, Rows.sc-here
-            Row.sBool) ∷ (10, Rows.any-gone Laws'''.mir,) ∷ (11, Rows.whole (Declared'.row Places.the-type)) ∷ (12, Rows.whole (Declared'.row
-            Relayed.the-type),) ∷ (13, Rows.any-gone Laws''''.mir,) ∷ (14, Rows.any-gone Laws.mir,) ∷ (15, Rows.any-gone Laws''''.mir,) ∷ List.[]
+        g22 = e0 ∷ l1 ∷ l2 ∷ e3 ∷ l4 ∷ l5 ∷ e6·1 ∷ e7 ∷ e8 ∷ e9 ∷ e10 ∷ e11·1 ∷ e12·1 ∷ e13 ∷ e14 ∷ e15 ∷ List.[]
+
         abbrev g23 : List.List Row.Entry
-        g23 = (0, Rows.any-gone (Syntax.tyInt Syntax.w64)) ∷ (1, Relend.mslice-owed RelayPending.row ref5 0 6 life0,) ∷ (2, Relend.mslice-owed
-            RelayCircuit.row ref6 1 7 life1,) ∷ (3, Mut.mslice ReservationUsage.row ref7 2,) ∷ (4, Relend.mslice-owed InflightAction.row ref8 3 8
-            life2,) ∷ (5, Relend.mslice-owed (Referent.rtF (Referent.fInt Syntax.w32)) ref9 4 9 life3,) ∷ (6, Rows.any-gone Laws''''.mir,) ∷ (7,
-            Rows.whole (Declared'.row RelayPacket.the-type)) ∷ (8, Rows.sslice (Referent.rtF (Referent.fInt Syntax.w8)) ref10 5,) ∷ (9, Rows.sc-here
-            Row.sBool) ∷ (10, Rows.any-gone Laws'''.mir,) ∷ (11, Rows.any-gone Laws'.mir,) ∷ (12, Rows.whole (Declared'.row Relayed.the-type)) ∷ (13,
-            Rows.any-gone Laws''''.mir,) ∷ (14, Rows.any-gone Laws.mir,) ∷ (15, Rows.any-gone Laws''''.mir,) ∷ List.[]
+        g23 = e0 ∷ l1 ∷ l2 ∷ e3 ∷ l4 ∷ l5 ∷ e6·1 ∷ e7 ∷ e8 ∷ e9 ∷ e10 ∷ e11 ∷ e12·1 ∷ e13 ∷ e14 ∷ e15 ∷ List.[]
+
         abbrev g24 : List.List Row.Entry
-        g24 = (0, Rows.any-gone (Syntax.tyInt Syntax.w64)) ∷ (1, Mut.mslice RelayPending.row ref5 0,) ∷ (2, Relend.mslice-owed RelayCircuit.row ref6 1
-            7 life1,) ∷ (3, Mut.mslice ReservationUsage.row ref7 2,) ∷ (4, Relend.mslice-owed InflightAction.row ref8 3 8 life2,) ∷ (5,
-            Relend.mslice-owed (Referent.rtF (Referent.fInt Syntax.w32)) ref9 4 9 life3,) ∷ (6, Rows.any-gone Laws''''.mir,) ∷ (7, Rows.whole
-            (Declared'.row RelayPacket.the-type)) ∷ (8, Rows.sslice (Referent.rtF (Referent.fInt Syntax.w8)) ref10 5,) ∷ (9, Rows.sc-here Row.sBool) ∷
-            (10, Rows.any-gone Laws'''.mir,) ∷ (11, Rows.any-gone Laws'.mir,) ∷ (12, Rows.whole (Declared'.row Relayed.the-type)) ∷ (13, Rows.any-gone
-            Laws''''.mir,) ∷ (14, Rows.any-gone Laws.mir,) ∷ (15, Rows.any-gone Laws''''.mir,) ∷ List.[]
+        g24 = e0 ∷ e1 ∷ l2 ∷ e3 ∷ l4 ∷ l5 ∷ e6·1 ∷ e7 ∷ e8 ∷ e9 ∷ e10 ∷ e11 ∷ e12·1 ∷ e13 ∷ e14 ∷ e15 ∷ List.[]
+
         abbrev g26 : List.List Row.Entry
-        g26 = (0, Rows.any-gone (Syntax.tyInt Syntax.w64)) ∷ (1, Mut.mslice RelayPending.row ref5 0,) ∷ (2, Mut.mslice RelayCircuit.row ref6 1,) ∷ (3,
-            Mut.mslice ReservationUsage.row ref7 2,) ∷ (4, Relend.mslice-owed InflightAction.row ref8 3 8 life2,) ∷ (5, Relend.mslice-owed
-            (Referent.rtF (Referent.fInt Syntax.w32)) ref9 4 9 life3,) ∷ (6, Rows.any-gone Laws''''.mir,) ∷ (7, Rows.whole (Declared'.row
-            RelayPacket.the-type)) ∷ (8, Rows.sslice (Referent.rtF (Referent.fInt Syntax.w8)) ref10 5,) ∷ (9, Rows.sc-here Row.sBool) ∷ (10,
-            Rows.any-gone Laws'''.mir,) ∷ (11, Rows.any-gone Laws'.mir,) ∷ (12, Rows.whole (Declared'.row Relayed.the-type)) ∷ (13, Rows.any-gone
-            Laws''''.mir,) ∷ (14, Rows.any-gone Laws.mir,) ∷ (15, Rows.any-gone Laws''''.mir,) ∷ List.[]
+        g26 = e0 ∷ e1 ∷ e2 ∷ e3 ∷ l4 ∷ l5 ∷ e6·1 ∷ e7 ∷ e8 ∷ e9 ∷ e10 ∷ e11 ∷ e12·1 ∷ e13 ∷ e14 ∷ e15 ∷ List.[]
+
         abbrev g28 : List.List Row.Entry
-        g28 = (0, Rows.any-gone (Syntax.tyInt Syntax.w64)) ∷ (1, Mut.mslice RelayPending.row ref5 0,) ∷ (2, Mut.mslice RelayCircuit.row ref6 1,) ∷ (3,
-            Mut.mslice ReservationUsage.row ref7 2,) ∷ (4, Mut.mslice InflightAction.row ref8 3,) ∷ (5, Relend.mslice-owed (Referent.rtF
-            (Referent.fInt Syntax.w32)) ref9 4 9 life3,) ∷ (6, Rows.any-gone Laws''''.mir,) ∷ (7, Rows.whole (Declared'.row RelayPacket.the-type)) ∷
-            (8, Rows.sslice (Referent.rtF (Referent.fInt Syntax.w8)) ref10 5,) ∷ (9, Rows.sc-here Row.sBool) ∷ (10, Rows.any-gone Laws'''.mir,) ∷ (11,
-            Rows.any-gone Laws'.mir,) ∷ (12, Rows.whole (Declared'.row Relayed.the-type)) ∷ (13, Rows.any-gone Laws''''.mir,) ∷ (14, Rows.any-gone
-            Laws.mir,) ∷ (15, Rows.any-gone Laws''''.mir,) ∷ List.[]
+        g28 = e0 ∷ e1 ∷ e2 ∷ e3 ∷ e4 ∷ l5 ∷ e6·1 ∷ e7 ∷ e8 ∷ e9 ∷ e10 ∷ e11 ∷ e12·1 ∷ e13 ∷ e14 ∷ e15 ∷ List.[]
+
         abbrev g31 : List.List Row.Entry
-        g31 = (0, Rows.any-gone (Syntax.tyInt Syntax.w64)) ∷ (1, Relend.mslice-owed RelayPending.row ref5 0 10 life0,) ∷ (2, Mut.mslice
-            RelayCircuit.row ref6 1,) ∷ (3, Mut.mslice ReservationUsage.row ref7 2,) ∷ (4, Mut.mslice InflightAction.row ref8 3,) ∷ (5, Mut.mslice
-            (Referent.rtF (Referent.fInt Syntax.w32)) ref9 4,) ∷ (6, Rows.any-gone Laws''''.mir,) ∷ (7, Rows.whole (Declared'.row
-            RelayPacket.the-type)) ∷ (8, Rows.sslice (Referent.rtF (Referent.fInt Syntax.w8)) ref10 5,) ∷ (9, Rows.sc-here Row.sBool) ∷ (10,
-            Rows.any-gone Laws'''.mir,) ∷ (11, Rows.any-gone Laws'.mir,) ∷ (12, Rows.whole (Declared'.row Relayed.the-type)) ∷ (13, Rows.any-gone
-            Laws''''.mir,) ∷ (14, Rows.any-gone Laws.mir,) ∷ (15, Rows.any-gone Laws''''.mir,) ∷ List.[]
+        g31 = e0 ∷ l1·1 ∷ e2 ∷ e3 ∷ e4 ∷ e5 ∷ e6·1 ∷ e7 ∷ e8 ∷ e9 ∷ e10 ∷ e11 ∷ e12·1 ∷ e13 ∷ e14 ∷ e15 ∷ List.[]
+
         abbrev g34 : List.List Row.Entry
-        g34 = (0, Rows.any-gone (Syntax.tyInt Syntax.w64)) ∷ (1, Relend.mslice-owed RelayPending.row ref5 0 10 life0,) ∷ (2, Relend.mslice-owed
-            RelayCircuit.row ref6 1 11 life1,) ∷ (3, Mut.mslice ReservationUsage.row ref7 2,) ∷ (4, Mut.mslice InflightAction.row ref8 3,) ∷ (5,
-            Mut.mslice (Referent.rtF (Referent.fInt Syntax.w32)) ref9 4,) ∷ (6, Rows.any-gone Laws''''.mir,) ∷ (7, Rows.whole (Declared'.row
-            RelayPacket.the-type)) ∷ (8, Rows.sslice (Referent.rtF (Referent.fInt Syntax.w8)) ref10 5,) ∷ (9, Rows.sc-here Row.sBool) ∷ (10,
-            Rows.any-gone Laws'''.mir,) ∷ (11, Rows.any-gone Laws'.mir,) ∷ (12, Rows.whole (Declared'.row Relayed.the-type)) ∷ (13, Rows.any-gone
-            Laws''''.mir,) ∷ (14, Rows.any-gone Laws.mir,) ∷ (15, Rows.any-gone Laws''''.mir,) ∷ List.[]
+        g34 = e0 ∷ l1·1 ∷ l2·1 ∷ e3 ∷ e4 ∷ e5 ∷ e6·1 ∷ e7 ∷ e8 ∷ e9 ∷ e10 ∷ e11 ∷ e12·1 ∷ e13 ∷ e14 ∷ e15 ∷ List.[]
+
         abbrev g37 : List.List Row.Entry
-        g37 = (0, Rows.any-gone (Syntax.tyInt Syntax.w64)) ∷ (1, Relend.mslice-owed RelayPending.row ref5 0 10 life0,) ∷ (2, Relend.mslice-owed
-            RelayCircuit.row ref6 1 11 life1,) ∷ (3, Relend.mslice-owed ReservationUsage.row ref7 2 12 life4,) ∷ (4, Mut.mslice InflightAction.row
-            ref8 3,) ∷ (5, Mut.mslice (Referent.rtF (Referent.fInt Syntax.w32)) ref9 4,) ∷ (6, Rows.any-gone Laws''''.mir,) ∷ (7, Rows.whole
-            (Declared'.row RelayPacket.the-type)) ∷ (8, Rows.sslice (Referent.rtF (Referent.fInt Syntax.w8)) ref10 5,) ∷ (9, Rows.sc-here Row.sBool) ∷
-            (10, Rows.any-gone Laws'''.mir,) ∷ (11, Rows.any-gone Laws'.mir,) ∷ (12, Rows.whole (Declared'.row Relayed.the-type)) ∷ (13, Rows.any-gone
-            Laws''''.mir,) ∷ (14, Rows.any-gone Laws.mir,) ∷ (15, Rows.any-gone Laws''''.mir,) ∷ List.[]
+        g37 = e0 ∷ l1·1 ∷ l2·1 ∷ l3 ∷ e4 ∷ e5 ∷ e6·1 ∷ e7 ∷ e8 ∷ e9 ∷ e10 ∷ e11 ∷ e12·1 ∷ e13 ∷ e14 ∷ e15 ∷ List.[]
+
         abbrev g40 : List.List Row.Entry
-        g40 = (0, Rows.any-gone (Syntax.tyInt Syntax.w64)) ∷ (1, Relend.mslice-owed RelayPending.row ref5 0 10 life0,) ∷ (2, Relend.mslice-owed
-            RelayCircuit.row ref6 1 11 life1,) ∷ (3, Relend.mslice-owed ReservationUsage.row ref7 2 12 life4,) ∷ (4, Relend.mslice-owed
-            InflightAction.row ref8 3 13 life2,) ∷ (5, Mut.mslice (Referent.rtF (Referent.fInt Syntax.w32)) ref9 4,) ∷ (6, Rows.any-gone
-            Laws''''.mir,) ∷ (7, Rows.whole (Declared'.row RelayPacket.the-type)) ∷ (8, Rows.sslice (Referent.rtF (Referent.fInt Syntax.w8)) ref10 5,)
-            ∷ (9, Rows.sc-here Row.sBool) ∷ (10, Rows.any-gone Laws'''.mir,) ∷ (11, Rows.any-gone Laws'.mir,) ∷ (12, Rows.whole (Declared'.row
-            Relayed.the-type)) ∷ (13, Rows.any-gone Laws''''.mir,) ∷ (14, Rows.any-gone Laws.mir,) ∷ (15, Rows.any-gone Laws''''.mir,) ∷ List.[]
+        g40 = e0 ∷ l1·1 ∷ l2·1 ∷ l3 ∷ l4·1 ∷ e5 ∷ e6·1 ∷ e7 ∷ e8 ∷ e9 ∷ e10 ∷ e11 ∷ e12·1 ∷ e13 ∷ e14 ∷ e15 ∷ List.[]
+
         abbrev g43 : List.List Row.Entry
-        g43 = (0, Rows.any-gone (Syntax.tyInt Syntax.w64)) ∷ (1, Relend.mslice-owed RelayPending.row ref5 0 10 life0,) ∷ (2, Relend.mslice-owed
-            RelayCircuit.row ref6 1 11 life1,) ∷ (3, Relend.mslice-owed ReservationUsage.row ref7 2 12 life4,) ∷ (4, Relend.mslice-owed
-            InflightAction.row ref8 3 13 life2,) ∷ (5, Relend.mslice-owed (Referent.rtF (Referent.fInt Syntax.w32)) ref9 4 14 life3,) ∷ (6,
-            Rows.any-gone Laws''''.mir,) ∷ (7, Rows.whole (Declared'.row RelayPacket.the-type)) ∷ (8, Rows.sslice (Referent.rtF (Referent.fInt
-            Syntax.w8)) ref10 5,) ∷ (9, Rows.sc-here Row.sBool) ∷ (10, Rows.any-gone Laws'''.mir,) ∷ (11, Rows.any-gone Laws'.mir,) ∷ (12, Rows.whole
-            (Declared'.row Relayed.the-type)) ∷ (13, Rows.any-gone Laws''''.mir,) ∷ (14, Rows.any-gone Laws.mir,) ∷ (15, Rows.any-gone Laws''''.mir,)
-            ∷ List.[]
+        g43 = e0 ∷ l1·1 ∷ l2·1 ∷ l3 ∷ l4·1 ∷ l5·1 ∷ e6·1 ∷ e7 ∷ e8 ∷ e9 ∷ e10 ∷ e11 ∷ e12·1 ∷ e13 ∷ e14 ∷ e15 ∷ List.[]
+
         abbrev g46 : List.List Row.Entry
-        g46 = (0, Rows.any-gone (Syntax.tyInt Syntax.w64)) ∷ (1, Relend.mslice-owed RelayPending.row ref5 0 10 life0,) ∷ (2, Relend.mslice-owed
-            RelayCircuit.row ref6 1 11 life1,) ∷ (3, Relend.mslice-owed ReservationUsage.row ref7 2 12 life4,) ∷ (4, Relend.mslice-owed
-            InflightAction.row ref8 3 13 life2,) ∷ (5, Relend.mslice-owed (Referent.rtF (Referent.fInt Syntax.w32)) ref9 4 14 life3,) ∷ (6,
-            Rows.any-gone Laws''''.mir,) ∷ (7, Rows.whole (Declared'.row RelayPacket.the-type)) ∷ (8, Rows.sslice (Referent.rtF (Referent.fInt
-            Syntax.w8)) ref10 5,) ∷ (9, Rows.sc-here Row.sBool) ∷ (10, Rows.any-gone Laws'''.mir,) ∷ (11, Rows.any-gone Laws'.mir,) ∷ (12, Rows.whole
-            (Declared'.row Relayed.the-type)) ∷ (13, Rows.whole (Declared'.row Relayed.the-type),) ∷ (14, Rows.any-gone Laws.mir,) ∷ (15,
-            Rows.any-gone Laws''''.mir,) ∷ List.[]
-        abbrev g49 : List.List Row.Entry
-        g49 = (0, Rows.any-gone (Syntax.tyInt Syntax.w64)) ∷ (1, Relend.mslice-owed RelayPending.row ref5 0 10 life0,) ∷ (2, Relend.mslice-owed
-            RelayCircuit.row ref6 1 11 life1,) ∷ (3, Relend.mslice-owed ReservationUsage.row ref7 2 12 life4,) ∷ (4, Relend.mslice-owed
-            InflightAction.row ref8 3 13 life2,) ∷ (5, Relend.mslice-owed (Referent.rtF (Referent.fInt Syntax.w32)) ref9 4 14 life3,) ∷ (6,
-            Rows.any-gone Laws''''.mir,) ∷ (7, Rows.any-gone Laws''.mir,) ∷ (8, Rows.sslice (Referent.rtF (Referent.fInt Syntax.w8)) ref10 5,) ∷ (9,
-            Rows.sc-here Row.sBool) ∷ (10, Rows.any-gone Laws'''.mir,) ∷ (11, Rows.any-gone Laws'.mir,) ∷ (12, Rows.whole (Declared'.row
-            Relayed.the-type)) ∷ (13, Rows.whole (Declared'.row Relayed.the-type),) ∷ (14, Rows.any-gone Laws.mir,) ∷ (15, Rows.any-gone
-            Laws''''.mir,) ∷ List.[]
-        abbrev g50 : List.List Row.Entry
-        g50 = (0, Rows.any-gone (Syntax.tyInt Syntax.w64)) ∷ (1, Relend.mslice-owed RelayPending.row ref5 0 10 life0,) ∷ (2, Relend.mslice-owed
-            RelayCircuit.row ref6 1 11 life1,) ∷ (3, Relend.mslice-owed ReservationUsage.row ref7 2 12 life4,) ∷ (4, Relend.mslice-owed
-            InflightAction.row ref8 3 13 life2,) ∷ (5, Relend.mslice-owed (Referent.rtF (Referent.fInt Syntax.w32)) ref9 4 14 life3,) ∷ (6,
-            Rows.any-gone Laws''''.mir,) ∷ (7, Rows.any-gone Laws''.mir,) ∷ (8, Rows.sslice (Referent.rtF (Referent.fInt Syntax.w8)) ref10 5,) ∷ (9,
-            Rows.sc-here Row.sBool) ∷ (10, Rows.any-gone Laws'''.mir,) ∷ (11, Rows.any-gone Laws'.mir,) ∷ (12, Rows.any-gone Laws''''.mir,) ∷ (13,
-            Rows.whole (Declared'.row Relayed.the-type)) ∷ (14, Rows.any-gone Laws.mir,) ∷ (15, Rows.any-gone Laws''''.mir,) ∷ List.[]
-        abbrev g51 : List.List Row.Entry
-        g51 = (0, Rows.any-gone (Syntax.tyInt Syntax.w64)) ∷ (1, Mut.mslice RelayPending.row ref5 0,) ∷ (2, Relend.mslice-owed RelayCircuit.row ref6 1
-            11 life1,) ∷ (3, Relend.mslice-owed ReservationUsage.row ref7 2 12 life4,) ∷ (4, Relend.mslice-owed InflightAction.row ref8 3 13 life2,) ∷
-            (5, Relend.mslice-owed (Referent.rtF (Referent.fInt Syntax.w32)) ref9 4 14 life3,) ∷ (6, Rows.any-gone Laws''''.mir,) ∷ (7, Rows.any-gone
-            Laws''.mir,) ∷ (8, Rows.sslice (Referent.rtF (Referent.fInt Syntax.w8)) ref10 5,) ∷ (9, Rows.sc-here Row.sBool) ∷ (10, Rows.any-gone
-            Laws'''.mir,) ∷ (11, Rows.any-gone Laws'.mir,) ∷ (12, Rows.any-gone Laws''''.mir,) ∷ (13, Rows.whole (Declared'.row Relayed.the-type)) ∷
-            (14, Rows.any-gone Laws.mir,) ∷ (15, Rows.any-gone Laws''''.mir,) ∷ List.[]
-        abbrev g53 : List.List Row.Entry
-        g53 = (0, Rows.any-gone (Syntax.tyInt Syntax.w64)) ∷ (1, Mut.mslice RelayPending.row ref5 0,) ∷ (2, Mut.mslice RelayCircuit.row ref6 1,) ∷ (3,
-            Relend.mslice-owed ReservationUsage.row ref7 2 12 life4,) ∷ (4, Relend.mslice-owed InflightAction.row ref8 3 13 life2,) ∷ (5,
-            Relend.mslice-owed (Referent.rtF (Referent.fInt Syntax.w32)) ref9 4 14 life3,) ∷ (6, Rows.any-gone Laws''''.mir,) ∷ (7, Rows.any-gone
-            Laws''.mir,) ∷ (8, Rows.sslice (Referent.rtF (Referent.fInt Syntax.w8)) ref10 5,) ∷ (9, Rows.sc-here Row.sBool) ∷ (10, Rows.any-gone
-            Laws'''.mir,) ∷ (11, Rows.any-gone Laws'.mir,) ∷ (12, Rows.any-gone Laws''''.mir,) ∷ (13, Rows.whole (Declared'.row Relayed.the-type)) ∷
-            (14, Rows.any-gone Laws.mir,) ∷ (15, Rows.any-gone Laws''''.mir,) ∷ List.[]
-        abbrev g55 : List.List Row.Entry
-        g55 = (0, Rows.any-gone (Syntax.tyInt Syntax.w64)) ∷ (1, Mut.mslice RelayPending.row ref5 0,) ∷ (2, Mut.mslice RelayCircuit.row ref6 1,) ∷ (3,
-            Mut.mslice ReservationUsage.row ref7 2,) ∷ (4, Relend.mslice-owed InflightAction.row ref8 3 13 life2,) ∷ (5, Relend.mslice-owed
-            (Referent.rtF (Referent.fInt Syntax.w32)) ref9 4 14 life3,) ∷ (6, Rows.any-gone Laws''''.mir,) ∷ (7, Rows.any-gone Laws''.mir,) ∷ (8,
-            Rows.sslice (Referent.rtF (Referent.fInt Syntax.w8)) ref10 5,) ∷ (9, Rows.sc-here Row.sBool) ∷ (10, Rows.any-gone Laws'''.mir,) ∷ (11,
-            Rows.any-gone Laws'.mir,) ∷ (12, Rows.any-gone Laws''''.mir,) ∷ (13, Rows.whole (Declared'.row Relayed.the-type)) ∷ (14, Rows.any-gone
-            Laws.mir,) ∷ (15, Rows.any-gone Laws''''.mir,) ∷ List.[]
-        abbrev g56 : List.List Row.Entry
-        g56 = (0, Rows.any-gone (Syntax.tyInt Syntax.w64)) ∷ (1, Mut.mslice RelayPending.row ref5 0,) ∷ (2, Mut.mslice RelayCircuit.row ref6 1,) ∷ (3,
-            Mut.mslice ReservationUsage.row ref7 2,) ∷ (4, Mut.mslice InflightAction.row ref8 3,) ∷ (5, Relend.mslice-owed (Referent.rtF
-            (Referent.fInt Syntax.w32)) ref9 4 14 life3,) ∷ (6, Rows.any-gone Laws''''.mir,) ∷ (7, Rows.any-gone Laws''.mir,) ∷ (8, Rows.sslice
-            (Referent.rtF (Referent.fInt Syntax.w8)) ref10 5,) ∷ (9, Rows.sc-here Row.sBool) ∷ (10, Rows.any-gone Laws'''.mir,) ∷ (11, Rows.any-gone
-            Laws'.mir,) ∷ (12, Rows.any-gone Laws''''.mir,) ∷ (13, Rows.whole (Declared'.row Relayed.the-type)) ∷ (14, Rows.any-gone Laws.mir,) ∷ (15,
-            Rows.any-gone Laws''''.mir,) ∷ List.[]
-        abbrev g63 : List.List Row.Entry
-        g63 = (0, Rows.any-gone (Syntax.tyInt Syntax.w64)) ∷ (1, Relend.mslice-owed RelayPending.row ref5 0 15 life0,) ∷ (2, Mut.mslice
-            RelayCircuit.row ref6 1,) ∷ (3, Mut.mslice ReservationUsage.row ref7 2,) ∷ (4, Mut.mslice InflightAction.row ref8 3,) ∷ (5, Mut.mslice
-            (Referent.rtF (Referent.fInt Syntax.w32)) ref9 4,) ∷ (6, Rows.whole (Declared'.row Relayed.the-type)) ∷ (7, Rows.whole (Declared'.row
-            RelayPacket.the-type),) ∷ (8, Rows.sslice (Referent.rtF (Referent.fInt Syntax.w8)) ref10 5,) ∷ (9, Rows.sc-here Row.sBool) ∷ (10,
-            Rows.any-gone Laws'''.mir,) ∷ (11, Rows.any-gone Laws'.mir,) ∷ (12, Rows.any-gone Laws''''.mir,) ∷ (13, Rows.any-gone Laws''''.mir,) ∷
-            (14, Rows.any-gone Laws.mir,) ∷ (15, Rows.any-gone Laws''''.mir,) ∷ List.[]
-        abbrev g66 : List.List Row.Entry
-        g66 = (0, Rows.any-gone (Syntax.tyInt Syntax.w64)) ∷ (1, Relend.mslice-owed RelayPending.row ref5 0 15 life0,) ∷ (2, Relend.mslice-owed
-            RelayCircuit.row ref6 1 16 life1,) ∷ (3, Mut.mslice ReservationUsage.row ref7 2,) ∷ (4, Mut.mslice InflightAction.row ref8 3,) ∷ (5,
-            Mut.mslice (Referent.rtF (Referent.fInt Syntax.w32)) ref9 4,) ∷ (6, Rows.whole (Declared'.row Relayed.the-type)) ∷ (7, Rows.whole
-            (Declared'.row RelayPacket.the-type),) ∷ (8, Rows.sslice (Referent.rtF (Referent.fInt Syntax.w8)) ref10 5,) ∷ (9, Rows.sc-here Row.sBool)
-            ∷ (10, Rows.any-gone Laws'''.mir,) ∷ (11, Rows.any-gone Laws'.mir,) ∷ (12, Rows.any-gone Laws''''.mir,) ∷ (13, Rows.any-gone
-            Laws''''.mir,) ∷ (14, Rows.any-gone Laws.mir,) ∷ (15, Rows.any-gone Laws''''.mir,) ∷ List.[]
-        abbrev g69 : List.List Row.Entry
-        g69 = (0, Rows.any-gone (Syntax.tyInt Syntax.w64)) ∷ (1, Relend.mslice-owed RelayPending.row ref5 0 15 life0,) ∷ (2, Relend.mslice-owed
-            RelayCircuit.row ref6 1 16 life1,) ∷ (3, Relend.mslice-owed ReservationUsage.row ref7 2 17 life4,) ∷ (4, Mut.mslice InflightAction.row
-            ref8 3,) ∷ (5, Mut.mslice (Referent.rtF (Referent.fInt Syntax.w32)) ref9 4,) ∷ (6, Rows.whole (Declared'.row Relayed.the-type)) ∷ (7,
-            Rows.whole (Declared'.row RelayPacket.the-type),) ∷ (8, Rows.sslice (Referent.rtF (Referent.fInt Syntax.w8)) ref10 5,) ∷ (9, Rows.sc-here
-            Row.sBool) ∷ (10, Rows.any-gone Laws'''.mir,) ∷ (11, Rows.any-gone Laws'.mir,) ∷ (12, Rows.any-gone Laws''''.mir,) ∷ (13, Rows.any-gone
-            Laws''''.mir,) ∷ (14, Rows.any-gone Laws.mir,) ∷ (15, Rows.any-gone Laws''''.mir,) ∷ List.[]
-        abbrev g72 : List.List Row.Entry
-        g72 = (0, Rows.any-gone (Syntax.tyInt Syntax.w64)) ∷ (1, Relend.mslice-owed RelayPending.row ref5 0 15 life0,) ∷ (2, Relend.mslice-owed
-            RelayCircuit.row ref6 1 16 life1,) ∷ (3, Relend.mslice-owed ReservationUsage.row ref7 2 17 life4,) ∷ (4, Relend.mslice-owed
-            InflightAction.row ref8 3 18 life2,) ∷ (5, Mut.mslice (Referent.rtF (Referent.fInt Syntax.w32)) ref9 4,) ∷ (6, Rows.whole (Declared'.row
-            Relayed.the-type)) ∷ (7, Rows.whole (Declared'.row RelayPacket.the-type),) ∷ (8, Rows.sslice (Referent.rtF (Referent.fInt Syntax.w8))
-            ref10 5,) ∷ (9, Rows.sc-here Row.sBool) ∷ (10, Rows.any-gone Laws'''.mir,) ∷ (11, Rows.any-gone Laws'.mir,) ∷ (12, Rows.any-gone
-            Laws''''.mir,) ∷ (13, Rows.any-gone Laws''''.mir,) ∷ (14, Rows.any-gone Laws.mir,) ∷ (15, Rows.any-gone Laws''''.mir,) ∷ List.[]
-        abbrev g75 : List.List Row.Entry
-        g75 = (0, Rows.any-gone (Syntax.tyInt Syntax.w64)) ∷ (1, Relend.mslice-owed RelayPending.row ref5 0 15 life0,) ∷ (2, Relend.mslice-owed
-            RelayCircuit.row ref6 1 16 life1,) ∷ (3, Relend.mslice-owed ReservationUsage.row ref7 2 17 life4,) ∷ (4, Relend.mslice-owed
-            InflightAction.row ref8 3 18 life2,) ∷ (5, Relend.mslice-owed (Referent.rtF (Referent.fInt Syntax.w32)) ref9 4 19 life3,) ∷ (6, Rows.whole
-            (Declared'.row Relayed.the-type)) ∷ (7, Rows.whole (Declared'.row RelayPacket.the-type),) ∷ (8, Rows.sslice (Referent.rtF (Referent.fInt
-            Syntax.w8)) ref10 5,) ∷ (9, Rows.sc-here Row.sBool) ∷ (10, Rows.any-gone Laws'''.mir,) ∷ (11, Rows.any-gone Laws'.mir,) ∷ (12,
-            Rows.any-gone Laws''''.mir,) ∷ (13, Rows.any-gone Laws''''.mir,) ∷ (14, Rows.any-gone Laws.mir,) ∷ (15, Rows.any-gone Laws''''.mir,) ∷
+        g46 = e0 ∷ l1·1 ∷ l2·1 ∷ l3 ∷ l4·1 ∷ l5·1 ∷ e6·1 ∷ e7 ∷ e8 ∷ e9 ∷ e10 ∷ e11 ∷ e12·1 ∷ e13·1 ∷ e14 ∷ e15 ∷
             List.[]
+
+        abbrev g49 : List.List Row.Entry
+        g49 = e0 ∷ l1·1 ∷ l2·1 ∷ l3 ∷ l4·1 ∷ l5·1 ∷ e6·1 ∷ e7·1 ∷ e8 ∷ e9 ∷ e10 ∷ e11 ∷ e12·1 ∷ e13·1 ∷ e14 ∷ e15 ∷
+            List.[]
+
+        abbrev g50 : List.List Row.Entry
+        g50 = e0 ∷ l1·1 ∷ l2·1 ∷ l3 ∷ l4·1 ∷ l5·1 ∷ e6·1 ∷ e7·1 ∷ e8 ∷ e9 ∷ e10 ∷ e11 ∷ e12 ∷ e13·1 ∷ e14 ∷ e15 ∷
+            List.[]
+
+        abbrev g51 : List.List Row.Entry
+        g51 = e0 ∷ e1 ∷ l2·1 ∷ l3 ∷ l4·1 ∷ l5·1 ∷ e6·1 ∷ e7·1 ∷ e8 ∷ e9 ∷ e10 ∷ e11 ∷ e12 ∷ e13·1 ∷ e14 ∷ e15 ∷ List.[]
+
+        abbrev g53 : List.List Row.Entry
+        g53 = e0 ∷ e1 ∷ e2 ∷ l3 ∷ l4·1 ∷ l5·1 ∷ e6·1 ∷ e7·1 ∷ e8 ∷ e9 ∷ e10 ∷ e11 ∷ e12 ∷ e13·1 ∷ e14 ∷ e15 ∷ List.[]
+
+        abbrev g55 : List.List Row.Entry
+        g55 = e0 ∷ e1 ∷ e2 ∷ e3 ∷ l4·1 ∷ l5·1 ∷ e6·1 ∷ e7·1 ∷ e8 ∷ e9 ∷ e10 ∷ e11 ∷ e12 ∷ e13·1 ∷ e14 ∷ e15 ∷ List.[]
+
+        abbrev g56 : List.List Row.Entry
+        g56 = e0 ∷ e1 ∷ e2 ∷ e3 ∷ e4 ∷ l5·1 ∷ e6·1 ∷ e7·1 ∷ e8 ∷ e9 ∷ e10 ∷ e11 ∷ e12 ∷ e13·1 ∷ e14 ∷ e15 ∷ List.[]
+
+        abbrev g63 : List.List Row.Entry
+        g63 = e0 ∷ l1·2 ∷ e2 ∷ e3 ∷ e4 ∷ e5 ∷ e6 ∷ e7 ∷ e8 ∷ e9 ∷ e10 ∷ e11 ∷ e12 ∷ e13 ∷ e14 ∷ e15 ∷ List.[]
+
+        abbrev g66 : List.List Row.Entry
+        g66 = e0 ∷ l1·2 ∷ l2·2 ∷ e3 ∷ e4 ∷ e5 ∷ e6 ∷ e7 ∷ e8 ∷ e9 ∷ e10 ∷ e11 ∷ e12 ∷ e13 ∷ e14 ∷ e15 ∷ List.[]
+
+        abbrev g69 : List.List Row.Entry
+        g69 = e0 ∷ l1·2 ∷ l2·2 ∷ l3·1 ∷ e4 ∷ e5 ∷ e6 ∷ e7 ∷ e8 ∷ e9 ∷ e10 ∷ e11 ∷ e12 ∷ e13 ∷ e14 ∷ e15 ∷ List.[]
+
+        abbrev g72 : List.List Row.Entry
+        g72 = e0 ∷ l1·2 ∷ l2·2 ∷ l3·1 ∷ l4·2 ∷ e5 ∷ e6 ∷ e7 ∷ e8 ∷ e9 ∷ e10 ∷ e11 ∷ e12 ∷ e13 ∷ e14 ∷ e15 ∷ List.[]
+
+        abbrev g75 : List.List Row.Entry
+        g75 = e0 ∷ l1·2 ∷ l2·2 ∷ l3·1 ∷ l4·2 ∷ l5·2 ∷ e6 ∷ e7 ∷ e8 ∷ e9 ∷ e10 ∷ e11 ∷ e12 ∷ e13 ∷ e14 ∷ e15 ∷ List.[]
+
         abbrev g78 : List.List Row.Entry
-        g78 = (0, Rows.any-gone (Syntax.tyInt Syntax.w64)) ∷ (1, Relend.mslice-owed RelayPending.row ref5 0 15 life0,) ∷ (2, Relend.mslice-owed
-            RelayCircuit.row ref6 1 16 life1,) ∷ (3, Relend.mslice-owed ReservationUsage.row ref7 2 17 life4,) ∷ (4, Relend.mslice-owed
-            InflightAction.row ref8 3 18 life2,) ∷ (5, Relend.mslice-owed (Referent.rtF (Referent.fInt Syntax.w32)) ref9 4 19 life3,) ∷ (6, Rows.whole
-            (Declared'.row Relayed.the-type)) ∷ (7, Rows.whole (Declared'.row RelayPacket.the-type),) ∷ (8, Rows.sslice (Referent.rtF (Referent.fInt
-            Syntax.w8)) ref10 5,) ∷ (9, Rows.sc-here Row.sBool) ∷ (10, Rows.any-gone Laws'''.mir,) ∷ (11, Rows.any-gone Laws'.mir,) ∷ (12,
-            Rows.any-gone Laws''''.mir,) ∷ (13, Rows.any-gone Laws''''.mir,) ∷ (14, Rows.any-gone Laws.mir,) ∷ (15, Rows.whole (Declared'.row
-            Relayed.the-type)) ∷ List.[]
+        g78 = e0 ∷ l1·2 ∷ l2·2 ∷ l3·1 ∷ l4·2 ∷ l5·2 ∷ e6 ∷ e7 ∷ e8 ∷ e9 ∷ e10 ∷ e11 ∷ e12 ∷ e13 ∷ e14 ∷ e15·1 ∷ List.[]
+
         abbrev g80 : List.List Row.Entry
-        g80 = (0, Rows.any-gone (Syntax.tyInt Syntax.w64)) ∷ (1, Relend.mslice-owed RelayPending.row ref5 0 15 life0,) ∷ (2, Relend.mslice-owed
-            RelayCircuit.row ref6 1 16 life1,) ∷ (3, Relend.mslice-owed ReservationUsage.row ref7 2 17 life4,) ∷ (4, Relend.mslice-owed
-            InflightAction.row ref8 3 18 life2,) ∷ (5, Relend.mslice-owed (Referent.rtF (Referent.fInt Syntax.w32)) ref9 4 19 life3,) ∷ (6,
-            Rows.any-gone Laws''''.mir,) ∷ (7, Rows.whole (Declared'.row RelayPacket.the-type)) ∷ (8, Rows.sslice (Referent.rtF (Referent.fInt
-            Syntax.w8)) ref10 5,) ∷ (9, Rows.sc-here Row.sBool) ∷ (10, Rows.any-gone Laws'''.mir,) ∷ (11, Rows.any-gone Laws'.mir,) ∷ (12,
-            Rows.any-gone Laws''''.mir,) ∷ (13, Rows.any-gone Laws''''.mir,) ∷ (14, Rows.any-gone Laws.mir,) ∷ (15, Rows.whole (Declared'.row
-            Relayed.the-type)) ∷ List.[]
+        g80 = e0 ∷ l1·2 ∷ l2·2 ∷ l3·1 ∷ l4·2 ∷ l5·2 ∷ e6·1 ∷ e7 ∷ e8 ∷ e9 ∷ e10 ∷ e11 ∷ e12 ∷ e13 ∷ e14 ∷ e15·1 ∷
+            List.[]
+
         abbrev g81 : List.List Row.Entry
-        g81 = (0, Rows.any-gone (Syntax.tyInt Syntax.w64)) ∷ (1, Relend.mslice-owed RelayPending.row ref5 0 15 life0,) ∷ (2, Relend.mslice-owed
-            RelayCircuit.row ref6 1 16 life1,) ∷ (3, Relend.mslice-owed ReservationUsage.row ref7 2 17 life4,) ∷ (4, Relend.mslice-owed
-            InflightAction.row ref8 3 18 life2,) ∷ (5, Relend.mslice-owed (Referent.rtF (Referent.fInt Syntax.w32)) ref9 4 19 life3,) ∷ (6,
-            Rows.any-gone Laws''''.mir,) ∷ (7, Rows.any-gone Laws''.mir,) ∷ (8, Rows.sslice (Referent.rtF (Referent.fInt Syntax.w8)) ref10 5,) ∷ (9,
-            Rows.sc-here Row.sBool) ∷ (10, Rows.any-gone Laws'''.mir,) ∷ (11, Rows.any-gone Laws'.mir,) ∷ (12, Rows.any-gone Laws''''.mir,) ∷ (13,
-            Rows.any-gone Laws''''.mir,) ∷ (14, Rows.any-gone Laws.mir,) ∷ (15, Rows.whole (Declared'.row Relayed.the-type)) ∷ List.[]
+        g81 = e0 ∷ l1·2 ∷ l2·2 ∷ l3·1 ∷ l4·2 ∷ l5·2 ∷ e6·1 ∷ e7·1 ∷ e8 ∷ e9 ∷ e10 ∷ e11 ∷ e12 ∷ e13 ∷ e14 ∷ e15·1 ∷
+            List.[]
+
         abbrev g82 : List.List Row.Entry
-        g82 = (0, Rows.any-gone (Syntax.tyInt Syntax.w64)) ∷ (1, Mut.mslice RelayPending.row ref5 0,) ∷ (2, Relend.mslice-owed RelayCircuit.row ref6 1
-            16 life1,) ∷ (3, Relend.mslice-owed ReservationUsage.row ref7 2 17 life4,) ∷ (4, Relend.mslice-owed InflightAction.row ref8 3 18 life2,) ∷
-            (5, Relend.mslice-owed (Referent.rtF (Referent.fInt Syntax.w32)) ref9 4 19 life3,) ∷ (6, Rows.any-gone Laws''''.mir,) ∷ (7, Rows.any-gone
-            Laws''.mir,) ∷ (8, Rows.sslice (Referent.rtF (Referent.fInt Syntax.w8)) ref10 5,) ∷ (9, Rows.sc-here Row.sBool) ∷ (10, Rows.any-gone
-            Laws'''.mir,) ∷ (11, Rows.any-gone Laws'.mir,) ∷ (12, Rows.any-gone Laws''''.mir,) ∷ (13, Rows.any-gone Laws''''.mir,) ∷ (14,
-            Rows.any-gone Laws.mir,) ∷ (15, Rows.whole (Declared'.row Relayed.the-type)) ∷ List.[]
+        g82 = e0 ∷ e1 ∷ l2·2 ∷ l3·1 ∷ l4·2 ∷ l5·2 ∷ e6·1 ∷ e7·1 ∷ e8 ∷ e9 ∷ e10 ∷ e11 ∷ e12 ∷ e13 ∷ e14 ∷ e15·1 ∷
+            List.[]
+
         abbrev g84 : List.List Row.Entry
-        g84 = (0, Rows.any-gone (Syntax.tyInt Syntax.w64)) ∷ (1, Mut.mslice RelayPending.row ref5 0,) ∷ (2, Mut.mslice RelayCircuit.row ref6 1,) ∷ (3,
-            Relend.mslice-owed ReservationUsage.row ref7 2 17 life4,) ∷ (4, Relend.mslice-owed InflightAction.row ref8 3 18 life2,) ∷ (5,
-            Relend.mslice-owed (Referent.rtF (Referent.fInt Syntax.w32)) ref9 4 19 life3,) ∷ (6, Rows.any-gone Laws''''.mir,) ∷ (7, Rows.any-gone
-            Laws''.mir,) ∷ (8, Rows.sslice (Referent.rtF (Referent.fInt Syntax.w8)) ref10 5,) ∷ (9, Rows.sc-here Row.sBool) ∷ (10, Rows.any-gone
-            Laws'''.mir,) ∷ (11, Rows.any-gone Laws'.mir,) ∷ (12, Rows.any-gone Laws''''.mir,) ∷ (13, Rows.any-gone Laws''''.mir,) ∷ (14,
-            Rows.any-gone Laws.mir,) ∷ (15, Rows.whole (Declared'.row Relayed.the-type)) ∷ List.[]
+        g84 = e0 ∷ e1 ∷ e2 ∷ l3·1 ∷ l4·2 ∷ l5·2 ∷ e6·1 ∷ e7·1 ∷ e8 ∷ e9 ∷ e10 ∷ e11 ∷ e12 ∷ e13 ∷ e14 ∷ e15·1 ∷ List.[]
+
         abbrev g86 : List.List Row.Entry
-        g86 = (0, Rows.any-gone (Syntax.tyInt Syntax.w64)) ∷ (1, Mut.mslice RelayPending.row ref5 0,) ∷ (2, Mut.mslice RelayCircuit.row ref6 1,) ∷ (3,
-            Mut.mslice ReservationUsage.row ref7 2,) ∷ (4, Relend.mslice-owed InflightAction.row ref8 3 18 life2,) ∷ (5, Relend.mslice-owed
-            (Referent.rtF (Referent.fInt Syntax.w32)) ref9 4 19 life3,) ∷ (6, Rows.any-gone Laws''''.mir,) ∷ (7, Rows.any-gone Laws''.mir,) ∷ (8,
-            Rows.sslice (Referent.rtF (Referent.fInt Syntax.w8)) ref10 5,) ∷ (9, Rows.sc-here Row.sBool) ∷ (10, Rows.any-gone Laws'''.mir,) ∷ (11,
-            Rows.any-gone Laws'.mir,) ∷ (12, Rows.any-gone Laws''''.mir,) ∷ (13, Rows.any-gone Laws''''.mir,) ∷ (14, Rows.any-gone Laws.mir,) ∷ (15,
-            Rows.whole (Declared'.row Relayed.the-type)) ∷ List.[]
+        g86 = e0 ∷ e1 ∷ e2 ∷ e3 ∷ l4·2 ∷ l5·2 ∷ e6·1 ∷ e7·1 ∷ e8 ∷ e9 ∷ e10 ∷ e11 ∷ e12 ∷ e13 ∷ e14 ∷ e15·1 ∷ List.[]
+
         abbrev g88 : List.List Row.Entry
-        g88 = (0, Rows.any-gone (Syntax.tyInt Syntax.w64)) ∷ (1, Mut.mslice RelayPending.row ref5 0,) ∷ (2, Mut.mslice RelayCircuit.row ref6 1,) ∷ (3,
-            Mut.mslice ReservationUsage.row ref7 2,) ∷ (4, Mut.mslice InflightAction.row ref8 3,) ∷ (5, Relend.mslice-owed (Referent.rtF
-            (Referent.fInt Syntax.w32)) ref9 4 19 life3,) ∷ (6, Rows.any-gone Laws''''.mir,) ∷ (7, Rows.any-gone Laws''.mir,) ∷ (8, Rows.sslice
-            (Referent.rtF (Referent.fInt Syntax.w8)) ref10 5,) ∷ (9, Rows.sc-here Row.sBool) ∷ (10, Rows.any-gone Laws'''.mir,) ∷ (11, Rows.any-gone
-            Laws'.mir,) ∷ (12, Rows.any-gone Laws''''.mir,) ∷ (13, Rows.any-gone Laws''''.mir,) ∷ (14, Rows.any-gone Laws.mir,) ∷ (15, Rows.whole
-            (Declared'.row Relayed.the-type)) ∷ List.[]
+        g88 = e0 ∷ e1 ∷ e2 ∷ e3 ∷ e4 ∷ l5·2 ∷ e6·1 ∷ e7·1 ∷ e8 ∷ e9 ∷ e10 ∷ e11 ∷ e12 ∷ e13 ∷ e14 ∷ e15·1 ∷ List.[]
+
         abbrev G0 : Row.Cx
-        G0 = record { locals = List._++_ t0 (List._++_ t1 t2); slots = life0 ∷ life1 ∷ life4 ∷ life2 ∷ life3 ∷ life5 ∷ Row.off ∷ Row.off ∷ Row.off ∷
-            Row.off ∷ Row.off ∷ Row.off ∷ Row.off ∷ Row.off ∷ Row.off ∷ Row.off ∷ Row.off ∷ Row.off ∷ Row.off ∷ Row.off ∷ List.[]; }
+        G0 = record {
+          locals = List._++_ t0 (List._++_ t1 t2);
+          slots = life0 ∷ life1 ∷ life4 ∷ life2 ∷ life3 ∷ life5 ∷ Row.off ∷ Row.off ∷ Row.off ∷ Row.off ∷ Row.off ∷
+              Row.off ∷ Row.off ∷ Row.off ∷ Row.off ∷ Row.off ∷ Row.off ∷ Row.off ∷ Row.off ∷ Row.off ∷ List.[];
+        }
+
         abbrev G1 : Row.Cx
-        G1 = record { locals = List._++_ t3 (List._++_ t1 t2); slots = life0 ∷ life1 ∷ life4 ∷ life2 ∷ life3 ∷ life5 ∷ Row.off ∷ Row.off ∷ Row.off ∷
-            Row.off ∷ Row.off ∷ Row.off ∷ Row.off ∷ Row.off ∷ Row.off ∷ Row.off ∷ Row.off ∷ Row.off ∷ Row.off ∷ Row.off ∷ List.[]; }
+        G1 = record {
+          locals = List._++_ t3 (List._++_ t1 t2);
+          slots = life0 ∷ life1 ∷ life4 ∷ life2 ∷ life3 ∷ life5 ∷ Row.off ∷ Row.off ∷ Row.off ∷ Row.off ∷ Row.off ∷
+              Row.off ∷ Row.off ∷ Row.off ∷ Row.off ∷ Row.off ∷ Row.off ∷ Row.off ∷ Row.off ∷ Row.off ∷ List.[];
+        }
+
         abbrev G2 : Row.Cx
-        G2 = record { locals = List._++_ t0 (List._++_ t1 t2); slots = life0 ∷ life1 ∷ life4 ∷ life2 ∷ life3 ∷ life5 ∷ Row.off ∷ Row.off ∷ Row.off ∷
-            Row.off ∷ Row.off ∷ Row.off ∷ Row.off ∷ Row.off ∷ Row.off ∷ Row.off ∷ Row.off ∷ Row.off ∷ Row.off ∷ Row.off ∷ List.[]; }
+        G2 = record {
+          locals = List._++_ t0 (List._++_ t1 t2);
+          slots = life0 ∷ life1 ∷ life4 ∷ life2 ∷ life3 ∷ life5 ∷ Row.off ∷ Row.off ∷ Row.off ∷ Row.off ∷ Row.off ∷
+              Row.off ∷ Row.off ∷ Row.off ∷ Row.off ∷ Row.off ∷ Row.off ∷ Row.off ∷ Row.off ∷ Row.off ∷ List.[];
+        }
+
         abbrev G3 : Row.Cx
-        G3 = record { locals = List._++_ t0 (List._++_ t1 t2); slots = life0 ∷ life1 ∷ life4 ∷ life2 ∷ life3 ∷ life5 ∷ Row.off ∷ Row.off ∷ Row.off ∷
-            Row.off ∷ Row.off ∷ Row.off ∷ Row.off ∷ Row.off ∷ Row.off ∷ Row.off ∷ Row.off ∷ Row.off ∷ Row.off ∷ Row.off ∷ List.[]; }
+        G3 = record {
+          locals = List._++_ t0 (List._++_ t1 t2);
+          slots = life0 ∷ life1 ∷ life4 ∷ life2 ∷ life3 ∷ life5 ∷ Row.off ∷ Row.off ∷ Row.off ∷ Row.off ∷ Row.off ∷
+              Row.off ∷ Row.off ∷ Row.off ∷ Row.off ∷ Row.off ∷ Row.off ∷ Row.off ∷ Row.off ∷ Row.off ∷ List.[];
+        }
+
         abbrev G4 : Row.Cx
-        G4 = record { locals = List._++_ t0 (List._++_ t4 t2); slots = life0 ∷ life1 ∷ life4 ∷ life2 ∷ life3 ∷ life5 ∷ Row.off ∷ Row.off ∷ Row.off ∷
-            Row.off ∷ Row.off ∷ Row.off ∷ Row.off ∷ Row.off ∷ Row.off ∷ Row.off ∷ Row.off ∷ Row.off ∷ Row.off ∷ Row.off ∷ List.[]; }
+        G4 = record {
+          locals = List._++_ t0 (List._++_ t4 t2);
+          slots = life0 ∷ life1 ∷ life4 ∷ life2 ∷ life3 ∷ life5 ∷ Row.off ∷ Row.off ∷ Row.off ∷ Row.off ∷ Row.off ∷
+              Row.off ∷ Row.off ∷ Row.off ∷ Row.off ∷ Row.off ∷ Row.off ∷ Row.off ∷ Row.off ∷ Row.off ∷ List.[];
+        }
+
         abbrev G5 : Row.Cx
-        G5 = record { locals = List._++_ t0 (List._++_ t1 t2); slots = life0 ∷ life1 ∷ life4 ∷ life2 ∷ life3 ∷ life5 ∷ Row.off ∷ Row.off ∷ Row.off ∷
-            Row.off ∷ Row.off ∷ Row.off ∷ Row.off ∷ Row.off ∷ Row.off ∷ Row.off ∷ Row.off ∷ Row.off ∷ Row.off ∷ Row.off ∷ List.[]; }
+        G5 = record {
+          locals = List._++_ t0 (List._++_ t1 t2);
+          slots = life0 ∷ life1 ∷ life4 ∷ life2 ∷ life3 ∷ life5 ∷ Row.off ∷ Row.off ∷ Row.off ∷ Row.off ∷ Row.off ∷
+              Row.off ∷ Row.off ∷ Row.off ∷ Row.off ∷ Row.off ∷ Row.off ∷ Row.off ∷ Row.off ∷ Row.off ∷ List.[];
+        }
+
         abbrev G6 : Row.Cx
-        G6 = record { locals = List._++_ t0 (List._++_ t1 t2); slots = life0 ∷ life1 ∷ life4 ∷ life2 ∷ life3 ∷ life5 ∷ Row.off ∷ Row.off ∷ Row.off ∷
-            Row.off ∷ Row.off ∷ Row.off ∷ Row.off ∷ Row.off ∷ Row.off ∷ Row.off ∷ Row.off ∷ Row.off ∷ Row.off ∷ Row.off ∷ List.[]; }
+        G6 = record {
+          locals = List._++_ t0 (List._++_ t1 t2);
+          slots = life0 ∷ life1 ∷ life4 ∷ life2 ∷ life3 ∷ life5 ∷ Row.off ∷ Row.off ∷ Row.off ∷ Row.off ∷ Row.off ∷
+              Row.off ∷ Row.off ∷ Row.off ∷ Row.off ∷ Row.off ∷ Row.off ∷ Row.off ∷ Row.off ∷ Row.off ∷ List.[];
+        }
+
         abbrev G7 : Row.Cx
-        G7 = record { locals = List._++_ t5 (List._++_ t1 t2); slots = life0 ∷ life1 ∷ life4 ∷ life2 ∷ life3 ∷ life5 ∷ Row.off ∷ Row.off ∷ Row.off ∷
-            Row.off ∷ Row.off ∷ Row.off ∷ Row.off ∷ Row.off ∷ Row.off ∷ Row.off ∷ Row.off ∷ Row.off ∷ Row.off ∷ Row.off ∷ List.[]; }
+        G7 = record {
+          locals = List._++_ t5 (List._++_ t1 t2);
+          slots = life0 ∷ life1 ∷ life4 ∷ life2 ∷ life3 ∷ life5 ∷ Row.off ∷ Row.off ∷ Row.off ∷ Row.off ∷ Row.off ∷
+              Row.off ∷ Row.off ∷ Row.off ∷ Row.off ∷ Row.off ∷ Row.off ∷ Row.off ∷ Row.off ∷ Row.off ∷ List.[];
+        }
+
         abbrev G8 : Row.Cx
-        G8 = record { locals = List._++_ t6 (List._++_ t1 t2); slots = life0 ∷ life1 ∷ life4 ∷ life2 ∷ life3 ∷ life5 ∷ Row.off ∷ Row.off ∷ Row.off ∷
-            Row.off ∷ Row.off ∷ Row.off ∷ Row.off ∷ Row.off ∷ Row.off ∷ Row.off ∷ Row.off ∷ Row.off ∷ Row.off ∷ Row.off ∷ List.[]; }
+        G8 = record {
+          locals = List._++_ t6 (List._++_ t1 t2);
+          slots = life0 ∷ life1 ∷ life4 ∷ life2 ∷ life3 ∷ life5 ∷ Row.off ∷ Row.off ∷ Row.off ∷ Row.off ∷ Row.off ∷
+              Row.off ∷ Row.off ∷ Row.off ∷ Row.off ∷ Row.off ∷ Row.off ∷ Row.off ∷ Row.off ∷ Row.off ∷ List.[];
+        }
+
         abbrev G9 : Row.Cx
-        G9 = record { locals = List._++_ t7 (List._++_ t1 t2); slots = life0 ∷ life1 ∷ life4 ∷ life2 ∷ life3 ∷ life5 ∷ Row.off ∷ Row.off ∷ Row.off ∷
-            Row.off ∷ Row.off ∷ Row.off ∷ Row.off ∷ Row.off ∷ Row.off ∷ Row.off ∷ Row.off ∷ Row.off ∷ Row.off ∷ Row.off ∷ List.[]; }
+        G9 = record {
+          locals = List._++_ t7 (List._++_ t1 t2);
+          slots = life0 ∷ life1 ∷ life4 ∷ life2 ∷ life3 ∷ life5 ∷ Row.off ∷ Row.off ∷ Row.off ∷ Row.off ∷ Row.off ∷
+              Row.off ∷ Row.off ∷ Row.off ∷ Row.off ∷ Row.off ∷ Row.off ∷ Row.off ∷ Row.off ∷ Row.off ∷ List.[];
+        }
+
         abbrev G10 : Row.Cx
-        G10 = record { locals = List._++_ t7 (List._++_ t1 t2); slots = life0 ∷ life1 ∷ life4 ∷ life2 ∷ life3 ∷ life5 ∷ Row.alive ∷ Row.off ∷ Row.off
-            ∷ Row.off ∷ Row.off ∷ Row.off ∷ Row.off ∷ Row.off ∷ Row.off ∷ Row.off ∷ Row.off ∷ Row.off ∷ Row.off ∷ Row.off ∷ List.[]; }
+        G10 = record {
+          locals = List._++_ t7 (List._++_ t1 t2);
+          slots = life0 ∷ life1 ∷ life4 ∷ life2 ∷ life3 ∷ life5 ∷ Row.alive ∷ Row.off ∷ Row.off ∷ Row.off ∷ Row.off ∷
+              Row.off ∷ Row.off ∷ Row.off ∷ Row.off ∷ Row.off ∷ Row.off ∷ Row.off ∷ Row.off ∷ Row.off ∷ List.[];
+        }
+
         abbrev G11 : Row.Cx
-        G11 = record { locals = List._++_ g8 (List._++_ t9 t2); slots = Row.off ∷ life1 ∷ life4 ∷ life2 ∷ life3 ∷ life5 ∷ Row.alive ∷ Row.off ∷
-            Row.off ∷ Row.off ∷ Row.off ∷ Row.off ∷ Row.off ∷ Row.off ∷ Row.off ∷ Row.off ∷ Row.off ∷ Row.off ∷ Row.off ∷ Row.off ∷ List.[]; }
+        G11 = record {
+          locals = List._++_ g8 (List._++_ t9 t2);
+          slots = Row.off ∷ life1 ∷ life4 ∷ life2 ∷ life3 ∷ life5 ∷ Row.alive ∷ Row.off ∷ Row.off ∷ Row.off ∷ Row.off ∷
+              Row.off ∷ Row.off ∷ Row.off ∷ Row.off ∷ Row.off ∷ Row.off ∷ Row.off ∷ Row.off ∷ Row.off ∷ List.[];
+        }
+
         abbrev G12 : Row.Cx
-        G12 = record { locals = List._++_ g8 (List._++_ t10 t2); slots = Row.off ∷ life1 ∷ life4 ∷ life2 ∷ life3 ∷ life5 ∷ Row.alive ∷ Row.off ∷
-            Row.off ∷ Row.off ∷ Row.off ∷ Row.off ∷ Row.off ∷ Row.off ∷ Row.off ∷ Row.off ∷ Row.off ∷ Row.off ∷ Row.off ∷ Row.off ∷ List.[]; }
+        G12 = record {
+          locals = List._++_ g8 (List._++_ t10 t2);
+          slots = Row.off ∷ life1 ∷ life4 ∷ life2 ∷ life3 ∷ life5 ∷ Row.alive ∷ Row.off ∷ Row.off ∷ Row.off ∷ Row.off ∷
+              Row.off ∷ Row.off ∷ Row.off ∷ Row.off ∷ Row.off ∷ Row.off ∷ Row.off ∷ Row.off ∷ Row.off ∷ List.[];
+        }
+
         abbrev G13 : Row.Cx
-        G13 = record { locals = List._++_ g8 (List._++_ t10 t2); slots = Row.off ∷ life1 ∷ life4 ∷ life2 ∷ life3 ∷ life5 ∷ Row.alive ∷ Row.alive ∷
-            Row.off ∷ Row.off ∷ Row.off ∷ Row.off ∷ Row.off ∷ Row.off ∷ Row.off ∷ Row.off ∷ Row.off ∷ Row.off ∷ Row.off ∷ Row.off ∷ List.[]; }
+        G13 = record {
+          locals = List._++_ g8 (List._++_ t10 t2);
+          slots = Row.off ∷ life1 ∷ life4 ∷ life2 ∷ life3 ∷ life5 ∷ Row.alive ∷ Row.alive ∷ Row.off ∷ Row.off ∷ Row.off
+              ∷ Row.off ∷ Row.off ∷ Row.off ∷ Row.off ∷ Row.off ∷ Row.off ∷ Row.off ∷ Row.off ∷ Row.off ∷ List.[];
+        }
+
         abbrev G14 : Row.Cx
-        G14 = record { locals = List._++_ g11 (List._++_ t12 t2); slots = Row.off ∷ Row.off ∷ life4 ∷ life2 ∷ life3 ∷ life5 ∷ Row.alive ∷ Row.alive ∷
-            Row.off ∷ Row.off ∷ Row.off ∷ Row.off ∷ Row.off ∷ Row.off ∷ Row.off ∷ Row.off ∷ Row.off ∷ Row.off ∷ Row.off ∷ Row.off ∷ List.[]; }
+        G14 = record {
+          locals = List._++_ g11 (List._++_ t12 t2);
+          slots = Row.off ∷ Row.off ∷ life4 ∷ life2 ∷ life3 ∷ life5 ∷ Row.alive ∷ Row.alive ∷ Row.off ∷ Row.off ∷
+              Row.off ∷ Row.off ∷ Row.off ∷ Row.off ∷ Row.off ∷ Row.off ∷ Row.off ∷ Row.off ∷ Row.off ∷ Row.off ∷
+              List.[];
+        }
+
         abbrev G15 : Row.Cx
-        G15 = record { locals = List._++_ g11 (List._++_ t13 t2); slots = Row.off ∷ Row.off ∷ life4 ∷ life2 ∷ life3 ∷ life5 ∷ Row.alive ∷ Row.alive ∷
-            Row.off ∷ Row.off ∷ Row.off ∷ Row.off ∷ Row.off ∷ Row.off ∷ Row.off ∷ Row.off ∷ Row.off ∷ Row.off ∷ Row.off ∷ Row.off ∷ List.[]; }
+        G15 = record {
+          locals = List._++_ g11 (List._++_ t13 t2);
+          slots = Row.off ∷ Row.off ∷ life4 ∷ life2 ∷ life3 ∷ life5 ∷ Row.alive ∷ Row.alive ∷ Row.off ∷ Row.off ∷
+              Row.off ∷ Row.off ∷ Row.off ∷ Row.off ∷ Row.off ∷ Row.off ∷ Row.off ∷ Row.off ∷ Row.off ∷ Row.off ∷
+              List.[];
+        }
+
         abbrev G16 : Row.Cx
-        G16 = record { locals = List._++_ g11 (List._++_ t13 t2); slots = Row.off ∷ Row.off ∷ life4 ∷ life2 ∷ life3 ∷ life5 ∷ Row.alive ∷ Row.alive ∷
-            Row.alive ∷ Row.off ∷ Row.off ∷ Row.off ∷ Row.off ∷ Row.off ∷ Row.off ∷ Row.off ∷ Row.off ∷ Row.off ∷ Row.off ∷ Row.off ∷ List.[]; }
+        G16 = record {
+          locals = List._++_ g11 (List._++_ t13 t2);
+          slots = Row.off ∷ Row.off ∷ life4 ∷ life2 ∷ life3 ∷ life5 ∷ Row.alive ∷ Row.alive ∷ Row.alive ∷ Row.off ∷
+              Row.off ∷ Row.off ∷ Row.off ∷ Row.off ∷ Row.off ∷ Row.off ∷ Row.off ∷ Row.off ∷ Row.off ∷ Row.off ∷
+              List.[];
+        }
+
         abbrev G17 : Row.Cx
-        G17 = record { locals = List._++_ g14 (List._++_ t15 t2); slots = Row.off ∷ Row.off ∷ life4 ∷ Row.off ∷ life3 ∷ life5 ∷ Row.alive ∷ Row.alive
-            ∷ Row.alive ∷ Row.off ∷ Row.off ∷ Row.off ∷ Row.off ∷ Row.off ∷ Row.off ∷ Row.off ∷ Row.off ∷ Row.off ∷ Row.off ∷ Row.off ∷ List.[]; }
+        G17 = record {
+          locals = List._++_ g14 (List._++_ t15 t2);
+          slots = Row.off ∷ Row.off ∷ life4 ∷ Row.off ∷ life3 ∷ life5 ∷ Row.alive ∷ Row.alive ∷ Row.alive ∷ Row.off ∷
+              Row.off ∷ Row.off ∷ Row.off ∷ Row.off ∷ Row.off ∷ Row.off ∷ Row.off ∷ Row.off ∷ Row.off ∷ Row.off ∷
+              List.[];
+        }
+
         abbrev G18 : Row.Cx
-        G18 = record { locals = List._++_ g14 (List._++_ t16 t2); slots = Row.off ∷ Row.off ∷ life4 ∷ Row.off ∷ life3 ∷ life5 ∷ Row.alive ∷ Row.alive
-            ∷ Row.alive ∷ Row.off ∷ Row.off ∷ Row.off ∷ Row.off ∷ Row.off ∷ Row.off ∷ Row.off ∷ Row.off ∷ Row.off ∷ Row.off ∷ Row.off ∷ List.[]; }
+        G18 = record {
+          locals = List._++_ g14 (List._++_ t16 t2);
+          slots = Row.off ∷ Row.off ∷ life4 ∷ Row.off ∷ life3 ∷ life5 ∷ Row.alive ∷ Row.alive ∷ Row.alive ∷ Row.off ∷
+              Row.off ∷ Row.off ∷ Row.off ∷ Row.off ∷ Row.off ∷ Row.off ∷ Row.off ∷ Row.off ∷ Row.off ∷ Row.off ∷
+              List.[];
+        }
+
         abbrev G19 : Row.Cx
-        G19 = record { locals = List._++_ g14 (List._++_ t16 t2); slots = Row.off ∷ Row.off ∷ life4 ∷ Row.off ∷ life3 ∷ life5 ∷ Row.alive ∷ Row.alive
-            ∷ Row.alive ∷ Row.alive ∷ Row.off ∷ Row.off ∷ Row.off ∷ Row.off ∷ Row.off ∷ Row.off ∷ Row.off ∷ Row.off ∷ Row.off ∷ Row.off ∷ List.[]; }
+        G19 = record {
+          locals = List._++_ g14 (List._++_ t16 t2);
+          slots = Row.off ∷ Row.off ∷ life4 ∷ Row.off ∷ life3 ∷ life5 ∷ Row.alive ∷ Row.alive ∷ Row.alive ∷ Row.alive ∷
+              Row.off ∷ Row.off ∷ Row.off ∷ Row.off ∷ Row.off ∷ Row.off ∷ Row.off ∷ Row.off ∷ Row.off ∷ Row.off ∷
+              List.[];
+        }
+
         abbrev G20 : Row.Cx
-        G20 = record { locals = List._++_ g17 (List._++_ t18 t2); slots = Row.off ∷ Row.off ∷ life4 ∷ Row.off ∷ Row.off ∷ life5 ∷ Row.alive ∷
-            Row.alive ∷ Row.alive ∷ Row.alive ∷ Row.off ∷ Row.off ∷ Row.off ∷ Row.off ∷ Row.off ∷ Row.off ∷ Row.off ∷ Row.off ∷ Row.off ∷ Row.off ∷
-            List.[]; }
+        G20 = record {
+          locals = List._++_ g17 (List._++_ t18 t2);
+          slots = Row.off ∷ Row.off ∷ life4 ∷ Row.off ∷ Row.off ∷ life5 ∷ Row.alive ∷ Row.alive ∷ Row.alive ∷ Row.alive
+              ∷ Row.off ∷ Row.off ∷ Row.off ∷ Row.off ∷ Row.off ∷ Row.off ∷ Row.off ∷ Row.off ∷ Row.off ∷ Row.off ∷
+              List.[];
+        }
+
         abbrev G21 : Row.Cx
-        G21 = record { locals = List._++_ g17 (List._++_ t19 t2); slots = Row.off ∷ Row.off ∷ life4 ∷ Row.off ∷ Row.off ∷ life5 ∷ Row.alive ∷
-            Row.alive ∷ Row.alive ∷ Row.alive ∷ Row.off ∷ Row.off ∷ Row.off ∷ Row.off ∷ Row.off ∷ Row.off ∷ Row.off ∷ Row.off ∷ Row.off ∷ Row.off ∷
-            List.[]; }
+        G21 = record {
+          locals = List._++_ g17 (List._++_ t19 t2);
+          slots = Row.off ∷ Row.off ∷ life4 ∷ Row.off ∷ Row.off ∷ life5 ∷ Row.alive ∷ Row.alive ∷ Row.alive ∷ Row.alive
+              ∷ Row.off ∷ Row.off ∷ Row.off ∷ Row.off ∷ Row.off ∷ Row.off ∷ Row.off ∷ Row.off ∷ Row.off ∷ Row.off ∷
+              List.[];
+        }
+
         abbrev G22 : Row.Cx
-        G22 = record { locals = List._++_ g20 (List._++_ t21 t2); slots = Row.off ∷ Row.off ∷ life4 ∷ Row.off ∷ Row.off ∷ life5 ∷ Row.alive ∷
-            Row.alive ∷ Row.alive ∷ Row.alive ∷ Row.off ∷ Row.off ∷ Row.off ∷ Row.off ∷ Row.off ∷ Row.off ∷ Row.off ∷ Row.off ∷ Row.off ∷ Row.off ∷
-            List.[]; }
+        G22 = record {
+          locals = List._++_ g20 (List._++_ t21 t2);
+          slots = Row.off ∷ Row.off ∷ life4 ∷ Row.off ∷ Row.off ∷ life5 ∷ Row.alive ∷ Row.alive ∷ Row.alive ∷ Row.alive
+              ∷ Row.off ∷ Row.off ∷ Row.off ∷ Row.off ∷ Row.off ∷ Row.off ∷ Row.off ∷ Row.off ∷ Row.off ∷ Row.off ∷
+              List.[];
+        }
+
         abbrev G23 : Row.Cx
-        G23 = record { locals = List._++_ g22 (List._++_ t21 t2); slots = Row.off ∷ Row.off ∷ life4 ∷ Row.off ∷ Row.off ∷ life5 ∷ Row.alive ∷
-            Row.alive ∷ Row.alive ∷ Row.alive ∷ Row.off ∷ Row.off ∷ Row.off ∷ Row.off ∷ Row.off ∷ Row.off ∷ Row.off ∷ Row.off ∷ Row.off ∷ Row.off ∷
-            List.[]; }
+        G23 = record {
+          locals = List._++_ g22 (List._++_ t21 t2);
+          slots = Row.off ∷ Row.off ∷ life4 ∷ Row.off ∷ Row.off ∷ life5 ∷ Row.alive ∷ Row.alive ∷ Row.alive ∷ Row.alive
+              ∷ Row.off ∷ Row.off ∷ Row.off ∷ Row.off ∷ Row.off ∷ Row.off ∷ Row.off ∷ Row.off ∷ Row.off ∷ Row.off ∷
+              List.[];
+        }
+
         abbrev G24 : Row.Cx
-        G24 = record { locals = List._++_ g23 (List._++_ t21 t2); slots = Row.off ∷ Row.off ∷ life4 ∷ Row.off ∷ Row.off ∷ life5 ∷ Row.alive ∷
-            Row.alive ∷ Row.alive ∷ Row.alive ∷ Row.off ∷ Row.off ∷ Row.off ∷ Row.off ∷ Row.off ∷ Row.off ∷ Row.off ∷ Row.off ∷ Row.off ∷ Row.off ∷
-            List.[]; }
+        G24 = record {
+          locals = List._++_ g23 (List._++_ t21 t2);
+          slots = Row.off ∷ Row.off ∷ life4 ∷ Row.off ∷ Row.off ∷ life5 ∷ Row.alive ∷ Row.alive ∷ Row.alive ∷ Row.alive
+              ∷ Row.off ∷ Row.off ∷ Row.off ∷ Row.off ∷ Row.off ∷ Row.off ∷ Row.off ∷ Row.off ∷ Row.off ∷ Row.off ∷
+              List.[];
+        }
+
         abbrev G25 : Row.Cx
-        G25 = record { locals = List._++_ g23 (List._++_ t21 t2); slots = Row.off ∷ Row.off ∷ life4 ∷ Row.off ∷ Row.off ∷ life5 ∷ Row.dead ∷ Row.alive
-            ∷ Row.alive ∷ Row.alive ∷ Row.off ∷ Row.off ∷ Row.off ∷ Row.off ∷ Row.off ∷ Row.off ∷ Row.off ∷ Row.off ∷ Row.off ∷ Row.off ∷ List.[]; }
+        G25 = record {
+          locals = List._++_ g23 (List._++_ t21 t2);
+          slots = Row.off ∷ Row.off ∷ life4 ∷ Row.off ∷ Row.off ∷ life5 ∷ Row.dead ∷ Row.alive ∷ Row.alive ∷ Row.alive
+              ∷ Row.off ∷ Row.off ∷ Row.off ∷ Row.off ∷ Row.off ∷ Row.off ∷ Row.off ∷ Row.off ∷ Row.off ∷ Row.off ∷
+              List.[];
+        }
+
         abbrev G26 : Row.Cx
-        G26 = record { locals = List._++_ g24 (List._++_ t25 t2); slots = life0 ∷ Row.off ∷ life4 ∷ Row.off ∷ Row.off ∷ life5 ∷ Row.dead ∷ Row.alive ∷
-            Row.alive ∷ Row.alive ∷ Row.off ∷ Row.off ∷ Row.off ∷ Row.off ∷ Row.off ∷ Row.off ∷ Row.off ∷ Row.off ∷ Row.off ∷ Row.off ∷ List.[]; }
+        G26 = record {
+          locals = List._++_ g24 (List._++_ t25 t2);
+          slots = life0 ∷ Row.off ∷ life4 ∷ Row.off ∷ Row.off ∷ life5 ∷ Row.dead ∷ Row.alive ∷ Row.alive ∷ Row.alive ∷
+              Row.off ∷ Row.off ∷ Row.off ∷ Row.off ∷ Row.off ∷ Row.off ∷ Row.off ∷ Row.off ∷ Row.off ∷ Row.off ∷
+              List.[];
+        }
+
         abbrev G27 : Row.Cx
-        G27 = record { locals = List._++_ g24 (List._++_ t25 t2); slots = life0 ∷ Row.off ∷ life4 ∷ Row.off ∷ Row.off ∷ life5 ∷ Row.off ∷ Row.alive ∷
-            Row.alive ∷ Row.alive ∷ Row.off ∷ Row.off ∷ Row.off ∷ Row.off ∷ Row.off ∷ Row.off ∷ Row.off ∷ Row.off ∷ Row.off ∷ Row.off ∷ List.[]; }
+        G27 = record {
+          locals = List._++_ g24 (List._++_ t25 t2);
+          slots = life0 ∷ Row.off ∷ life4 ∷ Row.off ∷ Row.off ∷ life5 ∷ Row.off ∷ Row.alive ∷ Row.alive ∷ Row.alive ∷
+              Row.off ∷ Row.off ∷ Row.off ∷ Row.off ∷ Row.off ∷ Row.off ∷ Row.off ∷ Row.off ∷ Row.off ∷ Row.off ∷
+              List.[];
+        }
+
         abbrev G28 : Row.Cx
-        G28 = record { locals = List._++_ g24 (List._++_ t25 t2); slots = life0 ∷ Row.off ∷ life4 ∷ Row.off ∷ Row.off ∷ life5 ∷ Row.off ∷ Row.dead ∷
-            Row.alive ∷ Row.alive ∷ Row.off ∷ Row.off ∷ Row.off ∷ Row.off ∷ Row.off ∷ Row.off ∷ Row.off ∷ Row.off ∷ Row.off ∷ Row.off ∷ List.[]; }
+        G28 = record {
+          locals = List._++_ g24 (List._++_ t25 t2);
+          slots = life0 ∷ Row.off ∷ life4 ∷ Row.off ∷ Row.off ∷ life5 ∷ Row.off ∷ Row.dead ∷ Row.alive ∷ Row.alive ∷
+              Row.off ∷ Row.off ∷ Row.off ∷ Row.off ∷ Row.off ∷ Row.off ∷ Row.off ∷ Row.off ∷ Row.off ∷ Row.off ∷
+              List.[];
+        }
+
         abbrev G29 : Row.Cx
-        G29 = record { locals = List._++_ g26 (List._++_ t27 t2); slots = life0 ∷ life1 ∷ life4 ∷ Row.off ∷ Row.off ∷ life5 ∷ Row.off ∷ Row.dead ∷
-            Row.alive ∷ Row.alive ∷ Row.off ∷ Row.off ∷ Row.off ∷ Row.off ∷ Row.off ∷ Row.off ∷ Row.off ∷ Row.off ∷ Row.off ∷ Row.off ∷ List.[]; }
+        G29 = record {
+          locals = List._++_ g26 (List._++_ t27 t2);
+          slots = life0 ∷ life1 ∷ life4 ∷ Row.off ∷ Row.off ∷ life5 ∷ Row.off ∷ Row.dead ∷ Row.alive ∷ Row.alive ∷
+              Row.off ∷ Row.off ∷ Row.off ∷ Row.off ∷ Row.off ∷ Row.off ∷ Row.off ∷ Row.off ∷ Row.off ∷ Row.off ∷
+              List.[];
+        }
+
         abbrev G30 : Row.Cx
-        G30 = record { locals = List._++_ g26 (List._++_ t27 t2); slots = life0 ∷ life1 ∷ life4 ∷ Row.off ∷ Row.off ∷ life5 ∷ Row.off ∷ Row.off ∷
-            Row.alive ∷ Row.alive ∷ Row.off ∷ Row.off ∷ Row.off ∷ Row.off ∷ Row.off ∷ Row.off ∷ Row.off ∷ Row.off ∷ Row.off ∷ Row.off ∷ List.[]; }
+        G30 = record {
+          locals = List._++_ g26 (List._++_ t27 t2);
+          slots = life0 ∷ life1 ∷ life4 ∷ Row.off ∷ Row.off ∷ life5 ∷ Row.off ∷ Row.off ∷ Row.alive ∷ Row.alive ∷
+              Row.off ∷ Row.off ∷ Row.off ∷ Row.off ∷ Row.off ∷ Row.off ∷ Row.off ∷ Row.off ∷ Row.off ∷ Row.off ∷
+              List.[];
+        }
+
         abbrev G31 : Row.Cx
-        G31 = record { locals = List._++_ g26 (List._++_ t27 t2); slots = life0 ∷ life1 ∷ life4 ∷ Row.off ∷ Row.off ∷ life5 ∷ Row.off ∷ Row.off ∷
-            Row.dead ∷ Row.alive ∷ Row.off ∷ Row.off ∷ Row.off ∷ Row.off ∷ Row.off ∷ Row.off ∷ Row.off ∷ Row.off ∷ Row.off ∷ Row.off ∷ List.[]; }
+        G31 = record {
+          locals = List._++_ g26 (List._++_ t27 t2);
+          slots = life0 ∷ life1 ∷ life4 ∷ Row.off ∷ Row.off ∷ life5 ∷ Row.off ∷ Row.off ∷ Row.dead ∷ Row.alive ∷
+              Row.off ∷ Row.off ∷ Row.off ∷ Row.off ∷ Row.off ∷ Row.off ∷ Row.off ∷ Row.off ∷ Row.off ∷ Row.off ∷
+              List.[];
+        }
+
         abbrev G32 : Row.Cx
-        G32 = record { locals = List._++_ g28 (List._++_ t29 t2); slots = life0 ∷ life1 ∷ life4 ∷ life2 ∷ Row.off ∷ life5 ∷ Row.off ∷ Row.off ∷
-            Row.dead ∷ Row.alive ∷ Row.off ∷ Row.off ∷ Row.off ∷ Row.off ∷ Row.off ∷ Row.off ∷ Row.off ∷ Row.off ∷ Row.off ∷ Row.off ∷ List.[]; }
+        G32 = record {
+          locals = List._++_ g28 (List._++_ t29 t2);
+          slots = life0 ∷ life1 ∷ life4 ∷ life2 ∷ Row.off ∷ life5 ∷ Row.off ∷ Row.off ∷ Row.dead ∷ Row.alive ∷ Row.off
+              ∷ Row.off ∷ Row.off ∷ Row.off ∷ Row.off ∷ Row.off ∷ Row.off ∷ Row.off ∷ Row.off ∷ Row.off ∷ List.[];
+        }
+
         abbrev G33 : Row.Cx
-        G33 = record { locals = List._++_ g28 (List._++_ t29 t2); slots = life0 ∷ life1 ∷ life4 ∷ life2 ∷ Row.off ∷ life5 ∷ Row.off ∷ Row.off ∷
-            Row.off ∷ Row.alive ∷ Row.off ∷ Row.off ∷ Row.off ∷ Row.off ∷ Row.off ∷ Row.off ∷ Row.off ∷ Row.off ∷ Row.off ∷ Row.off ∷ List.[]; }
+        G33 = record {
+          locals = List._++_ g28 (List._++_ t29 t2);
+          slots = life0 ∷ life1 ∷ life4 ∷ life2 ∷ Row.off ∷ life5 ∷ Row.off ∷ Row.off ∷ Row.off ∷ Row.alive ∷ Row.off ∷
+              Row.off ∷ Row.off ∷ Row.off ∷ Row.off ∷ Row.off ∷ Row.off ∷ Row.off ∷ Row.off ∷ Row.off ∷ List.[];
+        }
+
         abbrev G34 : Row.Cx
-        G34 = record { locals = List._++_ g28 (List._++_ t29 t2); slots = life0 ∷ life1 ∷ life4 ∷ life2 ∷ Row.off ∷ life5 ∷ Row.off ∷ Row.off ∷
-            Row.off ∷ Row.dead ∷ Row.off ∷ Row.off ∷ Row.off ∷ Row.off ∷ Row.off ∷ Row.off ∷ Row.off ∷ Row.off ∷ Row.off ∷ Row.off ∷ List.[]; }
+        G34 = record {
+          locals = List._++_ g28 (List._++_ t29 t2);
+          slots = life0 ∷ life1 ∷ life4 ∷ life2 ∷ Row.off ∷ life5 ∷ Row.off ∷ Row.off ∷ Row.off ∷ Row.dead ∷ Row.off ∷
+              Row.off ∷ Row.off ∷ Row.off ∷ Row.off ∷ Row.off ∷ Row.off ∷ Row.off ∷ Row.off ∷ Row.off ∷ List.[];
+        }
+
         abbrev G35 : Row.Cx
-        G35 = record { locals = List._++_ t30 (List._++_ t1 t2); slots = life0 ∷ life1 ∷ life4 ∷ life2 ∷ life3 ∷ life5 ∷ Row.off ∷ Row.off ∷ Row.off ∷
-            Row.dead ∷ Row.off ∷ Row.off ∷ Row.off ∷ Row.off ∷ Row.off ∷ Row.off ∷ Row.off ∷ Row.off ∷ Row.off ∷ Row.off ∷ List.[]; }
+        G35 = record {
+          locals = List._++_ t30 (List._++_ t1 t2);
+          slots = life0 ∷ life1 ∷ life4 ∷ life2 ∷ life3 ∷ life5 ∷ Row.off ∷ Row.off ∷ Row.off ∷ Row.dead ∷ Row.off ∷
+              Row.off ∷ Row.off ∷ Row.off ∷ Row.off ∷ Row.off ∷ Row.off ∷ Row.off ∷ Row.off ∷ Row.off ∷ List.[];
+        }
+
         abbrev G36 : Row.Cx
-        G36 = record { locals = List._++_ t30 (List._++_ t1 t2); slots = life0 ∷ life1 ∷ life4 ∷ life2 ∷ life3 ∷ life5 ∷ Row.off ∷ Row.off ∷ Row.off ∷
-            Row.dead ∷ Row.off ∷ Row.off ∷ Row.off ∷ Row.off ∷ Row.off ∷ Row.off ∷ Row.off ∷ Row.off ∷ Row.off ∷ Row.off ∷ List.[]; }
+        G36 = record {
+          locals = List._++_ t30 (List._++_ t1 t2);
+          slots = life0 ∷ life1 ∷ life4 ∷ life2 ∷ life3 ∷ life5 ∷ Row.off ∷ Row.off ∷ Row.off ∷ Row.dead ∷ Row.off ∷
+              Row.off ∷ Row.off ∷ Row.off ∷ Row.off ∷ Row.off ∷ Row.off ∷ Row.off ∷ Row.off ∷ Row.off ∷ List.[];
+        }
+
         abbrev G37 : Row.Cx
-        G37 = record { locals = List._++_ t30 (List._++_ t1 t2); slots = life0 ∷ life1 ∷ life4 ∷ life2 ∷ life3 ∷ life5 ∷ Row.off ∷ Row.off ∷ Row.off ∷
-            Row.off ∷ Row.off ∷ Row.off ∷ Row.off ∷ Row.off ∷ Row.off ∷ Row.off ∷ Row.off ∷ Row.off ∷ Row.off ∷ Row.off ∷ List.[]; }
+        G37 = record {
+          locals = List._++_ t30 (List._++_ t1 t2);
+          slots = life0 ∷ life1 ∷ life4 ∷ life2 ∷ life3 ∷ life5 ∷ Row.off ∷ Row.off ∷ Row.off ∷ Row.off ∷ Row.off ∷
+              Row.off ∷ Row.off ∷ Row.off ∷ Row.off ∷ Row.off ∷ Row.off ∷ Row.off ∷ Row.off ∷ Row.off ∷ List.[];
+        }
+
         abbrev G38 : Row.Cx
-        G38 = record { locals = List._++_ t30 (List._++_ t1 t2); slots = life0 ∷ life1 ∷ life4 ∷ life2 ∷ life3 ∷ life5 ∷ Row.off ∷ Row.off ∷ Row.off ∷
-            Row.off ∷ Row.alive ∷ Row.off ∷ Row.off ∷ Row.off ∷ Row.off ∷ Row.off ∷ Row.off ∷ Row.off ∷ Row.off ∷ Row.off ∷ List.[]; }
+        G38 = record {
+          locals = List._++_ t30 (List._++_ t1 t2);
+          slots = life0 ∷ life1 ∷ life4 ∷ life2 ∷ life3 ∷ life5 ∷ Row.off ∷ Row.off ∷ Row.off ∷ Row.off ∷ Row.alive ∷
+              Row.off ∷ Row.off ∷ Row.off ∷ Row.off ∷ Row.off ∷ Row.off ∷ Row.off ∷ Row.off ∷ Row.off ∷ List.[];
+        }
+
         abbrev G39 : Row.Cx
-        G39 = record { locals = List._++_ g31 (List._++_ t32 t2); slots = Row.off ∷ life1 ∷ life4 ∷ life2 ∷ life3 ∷ life5 ∷ Row.off ∷ Row.off ∷
-            Row.off ∷ Row.off ∷ Row.alive ∷ Row.off ∷ Row.off ∷ Row.off ∷ Row.off ∷ Row.off ∷ Row.off ∷ Row.off ∷ Row.off ∷ Row.off ∷ List.[]; }
+        G39 = record {
+          locals = List._++_ g31 (List._++_ t32 t2);
+          slots = Row.off ∷ life1 ∷ life4 ∷ life2 ∷ life3 ∷ life5 ∷ Row.off ∷ Row.off ∷ Row.off ∷ Row.off ∷ Row.alive ∷
+              Row.off ∷ Row.off ∷ Row.off ∷ Row.off ∷ Row.off ∷ Row.off ∷ Row.off ∷ Row.off ∷ Row.off ∷ List.[];
+        }
+
         abbrev G40 : Row.Cx
-        G40 = record { locals = List._++_ g31 (List._++_ t33 t2); slots = Row.off ∷ life1 ∷ life4 ∷ life2 ∷ life3 ∷ life5 ∷ Row.off ∷ Row.off ∷
-            Row.off ∷ Row.off ∷ Row.alive ∷ Row.off ∷ Row.off ∷ Row.off ∷ Row.off ∷ Row.off ∷ Row.off ∷ Row.off ∷ Row.off ∷ Row.off ∷ List.[]; }
+        G40 = record {
+          locals = List._++_ g31 (List._++_ t33 t2);
+          slots = Row.off ∷ life1 ∷ life4 ∷ life2 ∷ life3 ∷ life5 ∷ Row.off ∷ Row.off ∷ Row.off ∷ Row.off ∷ Row.alive ∷
+              Row.off ∷ Row.off ∷ Row.off ∷ Row.off ∷ Row.off ∷ Row.off ∷ Row.off ∷ Row.off ∷ Row.off ∷ List.[];
+        }
+
         abbrev G41 : Row.Cx
-        G41 = record { locals = List._++_ g31 (List._++_ t33 t2); slots = Row.off ∷ life1 ∷ life4 ∷ life2 ∷ life3 ∷ life5 ∷ Row.off ∷ Row.off ∷
-            Row.off ∷ Row.off ∷ Row.alive ∷ Row.alive ∷ Row.off ∷ Row.off ∷ Row.off ∷ Row.off ∷ Row.off ∷ Row.off ∷ Row.off ∷ Row.off ∷ List.[]; }
+        G41 = record {
+          locals = List._++_ g31 (List._++_ t33 t2);
+          slots = Row.off ∷ life1 ∷ life4 ∷ life2 ∷ life3 ∷ life5 ∷ Row.off ∷ Row.off ∷ Row.off ∷ Row.off ∷ Row.alive ∷
+              Row.alive ∷ Row.off ∷ Row.off ∷ Row.off ∷ Row.off ∷ Row.off ∷ Row.off ∷ Row.off ∷ Row.off ∷ List.[];
+        }
+
         abbrev G42 : Row.Cx
-        G42 = record { locals = List._++_ g34 (List._++_ t35 t2); slots = Row.off ∷ Row.off ∷ life4 ∷ life2 ∷ life3 ∷ life5 ∷ Row.off ∷ Row.off ∷
-            Row.off ∷ Row.off ∷ Row.alive ∷ Row.alive ∷ Row.off ∷ Row.off ∷ Row.off ∷ Row.off ∷ Row.off ∷ Row.off ∷ Row.off ∷ Row.off ∷ List.[]; }
+        G42 = record {
+          locals = List._++_ g34 (List._++_ t35 t2);
+          slots = Row.off ∷ Row.off ∷ life4 ∷ life2 ∷ life3 ∷ life5 ∷ Row.off ∷ Row.off ∷ Row.off ∷ Row.off ∷ Row.alive
+              ∷ Row.alive ∷ Row.off ∷ Row.off ∷ Row.off ∷ Row.off ∷ Row.off ∷ Row.off ∷ Row.off ∷ Row.off ∷ List.[];
+        }
+
         abbrev G43 : Row.Cx
-        G43 = record { locals = List._++_ g34 (List._++_ t36 t2); slots = Row.off ∷ Row.off ∷ life4 ∷ life2 ∷ life3 ∷ life5 ∷ Row.off ∷ Row.off ∷
-            Row.off ∷ Row.off ∷ Row.alive ∷ Row.alive ∷ Row.off ∷ Row.off ∷ Row.off ∷ Row.off ∷ Row.off ∷ Row.off ∷ Row.off ∷ Row.off ∷ List.[]; }
+        G43 = record {
+          locals = List._++_ g34 (List._++_ t36 t2);
+          slots = Row.off ∷ Row.off ∷ life4 ∷ life2 ∷ life3 ∷ life5 ∷ Row.off ∷ Row.off ∷ Row.off ∷ Row.off ∷ Row.alive
+              ∷ Row.alive ∷ Row.off ∷ Row.off ∷ Row.off ∷ Row.off ∷ Row.off ∷ Row.off ∷ Row.off ∷ Row.off ∷ List.[];
+        }
+
         abbrev G44 : Row.Cx
-        G44 = record { locals = List._++_ g34 (List._++_ t36 t2); slots = Row.off ∷ Row.off ∷ life4 ∷ life2 ∷ life3 ∷ life5 ∷ Row.off ∷ Row.off ∷
-            Row.off ∷ Row.off ∷ Row.alive ∷ Row.alive ∷ Row.alive ∷ Row.off ∷ Row.off ∷ Row.off ∷ Row.off ∷ Row.off ∷ Row.off ∷ Row.off ∷ List.[]; }
+        G44 = record {
+          locals = List._++_ g34 (List._++_ t36 t2);
+          slots = Row.off ∷ Row.off ∷ life4 ∷ life2 ∷ life3 ∷ life5 ∷ Row.off ∷ Row.off ∷ Row.off ∷ Row.off ∷ Row.alive
+              ∷ Row.alive ∷ Row.alive ∷ Row.off ∷ Row.off ∷ Row.off ∷ Row.off ∷ Row.off ∷ Row.off ∷ Row.off ∷ List.[];
+        }
+
         abbrev G45 : Row.Cx
-        G45 = record { locals = List._++_ g37 (List._++_ t38 t2); slots = Row.off ∷ Row.off ∷ Row.off ∷ life2 ∷ life3 ∷ life5 ∷ Row.off ∷ Row.off ∷
-            Row.off ∷ Row.off ∷ Row.alive ∷ Row.alive ∷ Row.alive ∷ Row.off ∷ Row.off ∷ Row.off ∷ Row.off ∷ Row.off ∷ Row.off ∷ Row.off ∷ List.[]; }
+        G45 = record {
+          locals = List._++_ g37 (List._++_ t38 t2);
+          slots = Row.off ∷ Row.off ∷ Row.off ∷ life2 ∷ life3 ∷ life5 ∷ Row.off ∷ Row.off ∷ Row.off ∷ Row.off ∷
+              Row.alive ∷ Row.alive ∷ Row.alive ∷ Row.off ∷ Row.off ∷ Row.off ∷ Row.off ∷ Row.off ∷ Row.off ∷ Row.off ∷
+              List.[];
+        }
+
         abbrev G46 : Row.Cx
-        G46 = record { locals = List._++_ g37 (List._++_ t39 t2); slots = Row.off ∷ Row.off ∷ Row.off ∷ life2 ∷ life3 ∷ life5 ∷ Row.off ∷ Row.off ∷
-            Row.off ∷ Row.off ∷ Row.alive ∷ Row.alive ∷ Row.alive ∷ Row.off ∷ Row.off ∷ Row.off ∷ Row.off ∷ Row.off ∷ Row.off ∷ Row.off ∷ List.[]; }
+        G46 = record {
+          locals = List._++_ g37 (List._++_ t39 t2);
+          slots = Row.off ∷ Row.off ∷ Row.off ∷ life2 ∷ life3 ∷ life5 ∷ Row.off ∷ Row.off ∷ Row.off ∷ Row.off ∷
+              Row.alive ∷ Row.alive ∷ Row.alive ∷ Row.off ∷ Row.off ∷ Row.off ∷ Row.off ∷ Row.off ∷ Row.off ∷ Row.off ∷
+              List.[];
+        }
+
         abbrev G47 : Row.Cx
-        G47 = record { locals = List._++_ g37 (List._++_ t39 t2); slots = Row.off ∷ Row.off ∷ Row.off ∷ life2 ∷ life3 ∷ life5 ∷ Row.off ∷ Row.off ∷
-            Row.off ∷ Row.off ∷ Row.alive ∷ Row.alive ∷ Row.alive ∷ Row.alive ∷ Row.off ∷ Row.off ∷ Row.off ∷ Row.off ∷ Row.off ∷ Row.off ∷ List.[]; }
+        G47 = record {
+          locals = List._++_ g37 (List._++_ t39 t2);
+          slots = Row.off ∷ Row.off ∷ Row.off ∷ life2 ∷ life3 ∷ life5 ∷ Row.off ∷ Row.off ∷ Row.off ∷ Row.off ∷
+              Row.alive ∷ Row.alive ∷ Row.alive ∷ Row.alive ∷ Row.off ∷ Row.off ∷ Row.off ∷ Row.off ∷ Row.off ∷ Row.off
+              ∷ List.[];
+        }
+
         abbrev G48 : Row.Cx
-        G48 = record { locals = List._++_ g40 (List._++_ t39 t41); slots = Row.off ∷ Row.off ∷ Row.off ∷ Row.off ∷ life3 ∷ life5 ∷ Row.off ∷ Row.off ∷
-            Row.off ∷ Row.off ∷ Row.alive ∷ Row.alive ∷ Row.alive ∷ Row.alive ∷ Row.off ∷ Row.off ∷ Row.off ∷ Row.off ∷ Row.off ∷ Row.off ∷ List.[]; }
+        G48 = record {
+          locals = List._++_ g40 (List._++_ t39 t41);
+          slots = Row.off ∷ Row.off ∷ Row.off ∷ Row.off ∷ life3 ∷ life5 ∷ Row.off ∷ Row.off ∷ Row.off ∷ Row.off ∷
+              Row.alive ∷ Row.alive ∷ Row.alive ∷ Row.alive ∷ Row.off ∷ Row.off ∷ Row.off ∷ Row.off ∷ Row.off ∷ Row.off
+              ∷ List.[];
+        }
+
         abbrev G49 : Row.Cx
-        G49 = record { locals = List._++_ g40 (List._++_ t39 t42); slots = Row.off ∷ Row.off ∷ Row.off ∷ Row.off ∷ life3 ∷ life5 ∷ Row.off ∷ Row.off ∷
-            Row.off ∷ Row.off ∷ Row.alive ∷ Row.alive ∷ Row.alive ∷ Row.alive ∷ Row.off ∷ Row.off ∷ Row.off ∷ Row.off ∷ Row.off ∷ Row.off ∷ List.[]; }
+        G49 = record {
+          locals = List._++_ g40 (List._++_ t39 t42);
+          slots = Row.off ∷ Row.off ∷ Row.off ∷ Row.off ∷ life3 ∷ life5 ∷ Row.off ∷ Row.off ∷ Row.off ∷ Row.off ∷
+              Row.alive ∷ Row.alive ∷ Row.alive ∷ Row.alive ∷ Row.off ∷ Row.off ∷ Row.off ∷ Row.off ∷ Row.off ∷ Row.off
+              ∷ List.[];
+        }
+
         abbrev G50 : Row.Cx
-        G50 = record { locals = List._++_ g40 (List._++_ t39 t42); slots = Row.off ∷ Row.off ∷ Row.off ∷ Row.off ∷ life3 ∷ life5 ∷ Row.off ∷ Row.off ∷
-            Row.off ∷ Row.off ∷ Row.alive ∷ Row.alive ∷ Row.alive ∷ Row.alive ∷ Row.alive ∷ Row.off ∷ Row.off ∷ Row.off ∷ Row.off ∷ Row.off ∷ List.[];
-            }
+        G50 = record {
+          locals = List._++_ g40 (List._++_ t39 t42);
+          slots = Row.off ∷ Row.off ∷ Row.off ∷ Row.off ∷ life3 ∷ life5 ∷ Row.off ∷ Row.off ∷ Row.off ∷ Row.off ∷
+              Row.alive ∷ Row.alive ∷ Row.alive ∷ Row.alive ∷ Row.alive ∷ Row.off ∷ Row.off ∷ Row.off ∷ Row.off ∷
+              Row.off ∷ List.[];
+        }
+
         abbrev G51 : Row.Cx
-        G51 = record { locals = List._++_ g43 (List._++_ t39 t44); slots = Row.off ∷ Row.off ∷ Row.off ∷ Row.off ∷ Row.off ∷ life5 ∷ Row.off ∷ Row.off
-            ∷ Row.off ∷ Row.off ∷ Row.alive ∷ Row.alive ∷ Row.alive ∷ Row.alive ∷ Row.alive ∷ Row.off ∷ Row.off ∷ Row.off ∷ Row.off ∷ Row.off ∷
-            List.[]; }
+        G51 = record {
+          locals = List._++_ g43 (List._++_ t39 t44);
+          slots = Row.off ∷ Row.off ∷ Row.off ∷ Row.off ∷ Row.off ∷ life5 ∷ Row.off ∷ Row.off ∷ Row.off ∷ Row.off ∷
+              Row.alive ∷ Row.alive ∷ Row.alive ∷ Row.alive ∷ Row.alive ∷ Row.off ∷ Row.off ∷ Row.off ∷ Row.off ∷
+              Row.off ∷ List.[];
+        }
+
         abbrev G52 : Row.Cx
-        G52 = record { locals = List._++_ g43 (List._++_ t39 t45); slots = Row.off ∷ Row.off ∷ Row.off ∷ Row.off ∷ Row.off ∷ life5 ∷ Row.off ∷ Row.off
-            ∷ Row.off ∷ Row.off ∷ Row.alive ∷ Row.alive ∷ Row.alive ∷ Row.alive ∷ Row.alive ∷ Row.off ∷ Row.off ∷ Row.off ∷ Row.off ∷ Row.off ∷
-            List.[]; }
+        G52 = record {
+          locals = List._++_ g43 (List._++_ t39 t45);
+          slots = Row.off ∷ Row.off ∷ Row.off ∷ Row.off ∷ Row.off ∷ life5 ∷ Row.off ∷ Row.off ∷ Row.off ∷ Row.off ∷
+              Row.alive ∷ Row.alive ∷ Row.alive ∷ Row.alive ∷ Row.alive ∷ Row.off ∷ Row.off ∷ Row.off ∷ Row.off ∷
+              Row.off ∷ List.[];
+        }
+
         abbrev G53 : Row.Cx
-        G53 = record { locals = List._++_ g46 (List._++_ t47 t48); slots = Row.off ∷ Row.off ∷ Row.off ∷ Row.off ∷ Row.off ∷ life5 ∷ Row.off ∷ Row.off
-            ∷ Row.off ∷ Row.off ∷ Row.alive ∷ Row.alive ∷ Row.alive ∷ Row.alive ∷ Row.alive ∷ Row.off ∷ Row.off ∷ Row.off ∷ Row.off ∷ Row.off ∷
-            List.[]; }
+        G53 = record {
+          locals = List._++_ g46 (List._++_ t47 t48);
+          slots = Row.off ∷ Row.off ∷ Row.off ∷ Row.off ∷ Row.off ∷ life5 ∷ Row.off ∷ Row.off ∷ Row.off ∷ Row.off ∷
+              Row.alive ∷ Row.alive ∷ Row.alive ∷ Row.alive ∷ Row.alive ∷ Row.off ∷ Row.off ∷ Row.off ∷ Row.off ∷
+              Row.off ∷ List.[];
+        }
+
         abbrev G54 : Row.Cx
-        G54 = record { locals = List._++_ g49 (List._++_ t47 t48); slots = Row.off ∷ Row.off ∷ Row.off ∷ Row.off ∷ Row.off ∷ life5 ∷ Row.off ∷ Row.off
-            ∷ Row.off ∷ Row.off ∷ Row.alive ∷ Row.alive ∷ Row.alive ∷ Row.alive ∷ Row.alive ∷ Row.off ∷ Row.off ∷ Row.off ∷ Row.off ∷ Row.off ∷
-            List.[]; }
+        G54 = record {
+          locals = List._++_ g49 (List._++_ t47 t48);
+          slots = Row.off ∷ Row.off ∷ Row.off ∷ Row.off ∷ Row.off ∷ life5 ∷ Row.off ∷ Row.off ∷ Row.off ∷ Row.off ∷
+              Row.alive ∷ Row.alive ∷ Row.alive ∷ Row.alive ∷ Row.alive ∷ Row.off ∷ Row.off ∷ Row.off ∷ Row.off ∷
+              Row.off ∷ List.[];
+        }
+
         abbrev G55 : Row.Cx
-        G55 = record { locals = List._++_ g50 (List._++_ t47 t48); slots = Row.off ∷ Row.off ∷ Row.off ∷ Row.off ∷ Row.off ∷ life5 ∷ Row.off ∷ Row.off
-            ∷ Row.off ∷ Row.off ∷ Row.alive ∷ Row.alive ∷ Row.alive ∷ Row.alive ∷ Row.alive ∷ Row.off ∷ Row.off ∷ Row.off ∷ Row.off ∷ Row.off ∷
-            List.[]; }
+        G55 = record {
+          locals = List._++_ g50 (List._++_ t47 t48);
+          slots = Row.off ∷ Row.off ∷ Row.off ∷ Row.off ∷ Row.off ∷ life5 ∷ Row.off ∷ Row.off ∷ Row.off ∷ Row.off ∷
+              Row.alive ∷ Row.alive ∷ Row.alive ∷ Row.alive ∷ Row.alive ∷ Row.off ∷ Row.off ∷ Row.off ∷ Row.off ∷
+              Row.off ∷ List.[];
+        }
+
         abbrev G56 : Row.Cx
-        G56 = record { locals = List._++_ g50 (List._++_ t47 t48); slots = Row.off ∷ Row.off ∷ Row.off ∷ Row.off ∷ Row.off ∷ life5 ∷ Row.off ∷ Row.off
-            ∷ Row.off ∷ Row.off ∷ Row.dead ∷ Row.alive ∷ Row.alive ∷ Row.alive ∷ Row.alive ∷ Row.off ∷ Row.off ∷ Row.off ∷ Row.off ∷ Row.off ∷
-            List.[]; }
+        G56 = record {
+          locals = List._++_ g50 (List._++_ t47 t48);
+          slots = Row.off ∷ Row.off ∷ Row.off ∷ Row.off ∷ Row.off ∷ life5 ∷ Row.off ∷ Row.off ∷ Row.off ∷ Row.off ∷
+              Row.dead ∷ Row.alive ∷ Row.alive ∷ Row.alive ∷ Row.alive ∷ Row.off ∷ Row.off ∷ Row.off ∷ Row.off ∷
+              Row.off ∷ List.[];
+        }
+
         abbrev G57 : Row.Cx
-        G57 = record { locals = List._++_ g51 (List._++_ t52 t48); slots = life0 ∷ Row.off ∷ Row.off ∷ Row.off ∷ Row.off ∷ life5 ∷ Row.off ∷ Row.off ∷
-            Row.off ∷ Row.off ∷ Row.dead ∷ Row.alive ∷ Row.alive ∷ Row.alive ∷ Row.alive ∷ Row.off ∷ Row.off ∷ Row.off ∷ Row.off ∷ Row.off ∷ List.[];
-            }
+        G57 = record {
+          locals = List._++_ g51 (List._++_ t52 t48);
+          slots = life0 ∷ Row.off ∷ Row.off ∷ Row.off ∷ Row.off ∷ life5 ∷ Row.off ∷ Row.off ∷ Row.off ∷ Row.off ∷
+              Row.dead ∷ Row.alive ∷ Row.alive ∷ Row.alive ∷ Row.alive ∷ Row.off ∷ Row.off ∷ Row.off ∷ Row.off ∷
+              Row.off ∷ List.[];
+        }
+
         abbrev G58 : Row.Cx
-        G58 = record { locals = List._++_ g51 (List._++_ t52 t48); slots = life0 ∷ Row.off ∷ Row.off ∷ Row.off ∷ Row.off ∷ life5 ∷ Row.off ∷ Row.off ∷
-            Row.off ∷ Row.off ∷ Row.off ∷ Row.alive ∷ Row.alive ∷ Row.alive ∷ Row.alive ∷ Row.off ∷ Row.off ∷ Row.off ∷ Row.off ∷ Row.off ∷ List.[]; }
+        G58 = record {
+          locals = List._++_ g51 (List._++_ t52 t48);
+          slots = life0 ∷ Row.off ∷ Row.off ∷ Row.off ∷ Row.off ∷ life5 ∷ Row.off ∷ Row.off ∷ Row.off ∷ Row.off ∷
+              Row.off ∷ Row.alive ∷ Row.alive ∷ Row.alive ∷ Row.alive ∷ Row.off ∷ Row.off ∷ Row.off ∷ Row.off ∷ Row.off
+              ∷ List.[];
+        }
+
         abbrev G59 : Row.Cx
-        G59 = record { locals = List._++_ g51 (List._++_ t52 t48); slots = life0 ∷ Row.off ∷ Row.off ∷ Row.off ∷ Row.off ∷ life5 ∷ Row.off ∷ Row.off ∷
-            Row.off ∷ Row.off ∷ Row.off ∷ Row.dead ∷ Row.alive ∷ Row.alive ∷ Row.alive ∷ Row.off ∷ Row.off ∷ Row.off ∷ Row.off ∷ Row.off ∷ List.[]; }
+        G59 = record {
+          locals = List._++_ g51 (List._++_ t52 t48);
+          slots = life0 ∷ Row.off ∷ Row.off ∷ Row.off ∷ Row.off ∷ life5 ∷ Row.off ∷ Row.off ∷ Row.off ∷ Row.off ∷
+              Row.off ∷ Row.dead ∷ Row.alive ∷ Row.alive ∷ Row.alive ∷ Row.off ∷ Row.off ∷ Row.off ∷ Row.off ∷ Row.off
+              ∷ List.[];
+        }
+
         abbrev G60 : Row.Cx
-        G60 = record { locals = List._++_ g53 (List._++_ t54 t48); slots = life0 ∷ life1 ∷ Row.off ∷ Row.off ∷ Row.off ∷ life5 ∷ Row.off ∷ Row.off ∷
-            Row.off ∷ Row.off ∷ Row.off ∷ Row.dead ∷ Row.alive ∷ Row.alive ∷ Row.alive ∷ Row.off ∷ Row.off ∷ Row.off ∷ Row.off ∷ Row.off ∷ List.[]; }
+        G60 = record {
+          locals = List._++_ g53 (List._++_ t54 t48);
+          slots = life0 ∷ life1 ∷ Row.off ∷ Row.off ∷ Row.off ∷ life5 ∷ Row.off ∷ Row.off ∷ Row.off ∷ Row.off ∷ Row.off
+              ∷ Row.dead ∷ Row.alive ∷ Row.alive ∷ Row.alive ∷ Row.off ∷ Row.off ∷ Row.off ∷ Row.off ∷ Row.off ∷
+              List.[];
+        }
+
         abbrev G61 : Row.Cx
-        G61 = record { locals = List._++_ g53 (List._++_ t54 t48); slots = life0 ∷ life1 ∷ Row.off ∷ Row.off ∷ Row.off ∷ life5 ∷ Row.off ∷ Row.off ∷
-            Row.off ∷ Row.off ∷ Row.off ∷ Row.off ∷ Row.alive ∷ Row.alive ∷ Row.alive ∷ Row.off ∷ Row.off ∷ Row.off ∷ Row.off ∷ Row.off ∷ List.[]; }
+        G61 = record {
+          locals = List._++_ g53 (List._++_ t54 t48);
+          slots = life0 ∷ life1 ∷ Row.off ∷ Row.off ∷ Row.off ∷ life5 ∷ Row.off ∷ Row.off ∷ Row.off ∷ Row.off ∷ Row.off
+              ∷ Row.off ∷ Row.alive ∷ Row.alive ∷ Row.alive ∷ Row.off ∷ Row.off ∷ Row.off ∷ Row.off ∷ Row.off ∷ List.[];
+        }
+
         abbrev G62 : Row.Cx
-        G62 = record { locals = List._++_ g53 (List._++_ t54 t48); slots = life0 ∷ life1 ∷ Row.off ∷ Row.off ∷ Row.off ∷ life5 ∷ Row.off ∷ Row.off ∷
-            Row.off ∷ Row.off ∷ Row.off ∷ Row.off ∷ Row.dead ∷ Row.alive ∷ Row.alive ∷ Row.off ∷ Row.off ∷ Row.off ∷ Row.off ∷ Row.off ∷ List.[]; }
+        G62 = record {
+          locals = List._++_ g53 (List._++_ t54 t48);
+          slots = life0 ∷ life1 ∷ Row.off ∷ Row.off ∷ Row.off ∷ life5 ∷ Row.off ∷ Row.off ∷ Row.off ∷ Row.off ∷ Row.off
+              ∷ Row.off ∷ Row.dead ∷ Row.alive ∷ Row.alive ∷ Row.off ∷ Row.off ∷ Row.off ∷ Row.off ∷ Row.off ∷ List.[];
+        }
+
         abbrev G63 : Row.Cx
-        G63 = record { locals = List._++_ g55 (List._++_ t1 t48); slots = life0 ∷ life1 ∷ life4 ∷ Row.off ∷ Row.off ∷ life5 ∷ Row.off ∷ Row.off ∷
-            Row.off ∷ Row.off ∷ Row.off ∷ Row.off ∷ Row.dead ∷ Row.alive ∷ Row.alive ∷ Row.off ∷ Row.off ∷ Row.off ∷ Row.off ∷ Row.off ∷ List.[]; }
+        G63 = record {
+          locals = List._++_ g55 (List._++_ t1 t48);
+          slots = life0 ∷ life1 ∷ life4 ∷ Row.off ∷ Row.off ∷ life5 ∷ Row.off ∷ Row.off ∷ Row.off ∷ Row.off ∷ Row.off ∷
+              Row.off ∷ Row.dead ∷ Row.alive ∷ Row.alive ∷ Row.off ∷ Row.off ∷ Row.off ∷ Row.off ∷ Row.off ∷ List.[];
+        }
+
         abbrev G64 : Row.Cx
-        G64 = record { locals = List._++_ g55 (List._++_ t1 t48); slots = life0 ∷ life1 ∷ life4 ∷ Row.off ∷ Row.off ∷ life5 ∷ Row.off ∷ Row.off ∷
-            Row.off ∷ Row.off ∷ Row.off ∷ Row.off ∷ Row.off ∷ Row.alive ∷ Row.alive ∷ Row.off ∷ Row.off ∷ Row.off ∷ Row.off ∷ Row.off ∷ List.[]; }
+        G64 = record {
+          locals = List._++_ g55 (List._++_ t1 t48);
+          slots = life0 ∷ life1 ∷ life4 ∷ Row.off ∷ Row.off ∷ life5 ∷ Row.off ∷ Row.off ∷ Row.off ∷ Row.off ∷ Row.off ∷
+              Row.off ∷ Row.off ∷ Row.alive ∷ Row.alive ∷ Row.off ∷ Row.off ∷ Row.off ∷ Row.off ∷ Row.off ∷ List.[];
+        }
+
         abbrev G65 : Row.Cx
-        G65 = record { locals = List._++_ g55 (List._++_ t1 t48); slots = life0 ∷ life1 ∷ life4 ∷ Row.off ∷ Row.off ∷ life5 ∷ Row.off ∷ Row.off ∷
-            Row.off ∷ Row.off ∷ Row.off ∷ Row.off ∷ Row.off ∷ Row.dead ∷ Row.alive ∷ Row.off ∷ Row.off ∷ Row.off ∷ Row.off ∷ Row.off ∷ List.[]; }
+        G65 = record {
+          locals = List._++_ g55 (List._++_ t1 t48);
+          slots = life0 ∷ life1 ∷ life4 ∷ Row.off ∷ Row.off ∷ life5 ∷ Row.off ∷ Row.off ∷ Row.off ∷ Row.off ∷ Row.off ∷
+              Row.off ∷ Row.off ∷ Row.dead ∷ Row.alive ∷ Row.off ∷ Row.off ∷ Row.off ∷ Row.off ∷ Row.off ∷ List.[];
+        }
+
         abbrev G66 : Row.Cx
-        G66 = record { locals = List._++_ g56 (List._++_ t1 t57); slots = life0 ∷ life1 ∷ life4 ∷ life2 ∷ Row.off ∷ life5 ∷ Row.off ∷ Row.off ∷
-            Row.off ∷ Row.off ∷ Row.off ∷ Row.off ∷ Row.off ∷ Row.dead ∷ Row.alive ∷ Row.off ∷ Row.off ∷ Row.off ∷ Row.off ∷ Row.off ∷ List.[]; }
+        G66 = record {
+          locals = List._++_ g56 (List._++_ t1 t57);
+          slots = life0 ∷ life1 ∷ life4 ∷ life2 ∷ Row.off ∷ life5 ∷ Row.off ∷ Row.off ∷ Row.off ∷ Row.off ∷ Row.off ∷
+              Row.off ∷ Row.off ∷ Row.dead ∷ Row.alive ∷ Row.off ∷ Row.off ∷ Row.off ∷ Row.off ∷ Row.off ∷ List.[];
+        }
+
         abbrev G67 : Row.Cx
-        G67 = record { locals = List._++_ g56 (List._++_ t1 t57); slots = life0 ∷ life1 ∷ life4 ∷ life2 ∷ Row.off ∷ life5 ∷ Row.off ∷ Row.off ∷
-            Row.off ∷ Row.off ∷ Row.off ∷ Row.off ∷ Row.off ∷ Row.off ∷ Row.alive ∷ Row.off ∷ Row.off ∷ Row.off ∷ Row.off ∷ Row.off ∷ List.[]; }
+        G67 = record {
+          locals = List._++_ g56 (List._++_ t1 t57);
+          slots = life0 ∷ life1 ∷ life4 ∷ life2 ∷ Row.off ∷ life5 ∷ Row.off ∷ Row.off ∷ Row.off ∷ Row.off ∷ Row.off ∷
+              Row.off ∷ Row.off ∷ Row.off ∷ Row.alive ∷ Row.off ∷ Row.off ∷ Row.off ∷ Row.off ∷ Row.off ∷ List.[];
+        }
+
         abbrev G68 : Row.Cx
-        G68 = record { locals = List._++_ g56 (List._++_ t1 t57); slots = life0 ∷ life1 ∷ life4 ∷ life2 ∷ Row.off ∷ life5 ∷ Row.off ∷ Row.off ∷
-            Row.off ∷ Row.off ∷ Row.off ∷ Row.off ∷ Row.off ∷ Row.off ∷ Row.dead ∷ Row.off ∷ Row.off ∷ Row.off ∷ Row.off ∷ Row.off ∷ List.[]; }
+        G68 = record {
+          locals = List._++_ g56 (List._++_ t1 t57);
+          slots = life0 ∷ life1 ∷ life4 ∷ life2 ∷ Row.off ∷ life5 ∷ Row.off ∷ Row.off ∷ Row.off ∷ Row.off ∷ Row.off ∷
+              Row.off ∷ Row.off ∷ Row.off ∷ Row.dead ∷ Row.off ∷ Row.off ∷ Row.off ∷ Row.off ∷ Row.off ∷ List.[];
+        }
+
         abbrev G69 : Row.Cx
-        G69 = record { locals = List._++_ t58 (List._++_ t1 t2); slots = life0 ∷ life1 ∷ life4 ∷ life2 ∷ life3 ∷ life5 ∷ Row.off ∷ Row.off ∷ Row.off ∷
-            Row.off ∷ Row.off ∷ Row.off ∷ Row.off ∷ Row.off ∷ Row.dead ∷ Row.off ∷ Row.off ∷ Row.off ∷ Row.off ∷ Row.off ∷ List.[]; }
+        G69 = record {
+          locals = List._++_ t58 (List._++_ t1 t2);
+          slots = life0 ∷ life1 ∷ life4 ∷ life2 ∷ life3 ∷ life5 ∷ Row.off ∷ Row.off ∷ Row.off ∷ Row.off ∷ Row.off ∷
+              Row.off ∷ Row.off ∷ Row.off ∷ Row.dead ∷ Row.off ∷ Row.off ∷ Row.off ∷ Row.off ∷ Row.off ∷ List.[];
+        }
+
         abbrev G70 : Row.Cx
-        G70 = record { locals = List._++_ t58 (List._++_ t1 t2); slots = life0 ∷ life1 ∷ life4 ∷ life2 ∷ life3 ∷ life5 ∷ Row.off ∷ Row.off ∷ Row.off ∷
-            Row.off ∷ Row.off ∷ Row.off ∷ Row.off ∷ Row.off ∷ Row.dead ∷ Row.off ∷ Row.off ∷ Row.off ∷ Row.off ∷ Row.off ∷ List.[]; }
+        G70 = record {
+          locals = List._++_ t58 (List._++_ t1 t2);
+          slots = life0 ∷ life1 ∷ life4 ∷ life2 ∷ life3 ∷ life5 ∷ Row.off ∷ Row.off ∷ Row.off ∷ Row.off ∷ Row.off ∷
+              Row.off ∷ Row.off ∷ Row.off ∷ Row.dead ∷ Row.off ∷ Row.off ∷ Row.off ∷ Row.off ∷ Row.off ∷ List.[];
+        }
+
         abbrev G71 : Row.Cx
-        G71 = record { locals = List._++_ t58 (List._++_ t1 t2); slots = life0 ∷ life1 ∷ life4 ∷ life2 ∷ life3 ∷ life5 ∷ Row.off ∷ Row.off ∷ Row.off ∷
-            Row.off ∷ Row.off ∷ Row.off ∷ Row.off ∷ Row.off ∷ Row.off ∷ Row.off ∷ Row.off ∷ Row.off ∷ Row.off ∷ Row.off ∷ List.[]; }
+        G71 = record {
+          locals = List._++_ t58 (List._++_ t1 t2);
+          slots = life0 ∷ life1 ∷ life4 ∷ life2 ∷ life3 ∷ life5 ∷ Row.off ∷ Row.off ∷ Row.off ∷ Row.off ∷ Row.off ∷
+              Row.off ∷ Row.off ∷ Row.off ∷ Row.off ∷ Row.off ∷ Row.off ∷ Row.off ∷ Row.off ∷ Row.off ∷ List.[];
+        }
+
         abbrev G72 : Row.Cx
-        G72 = record { locals = List._++_ t59 (List._++_ t1 t2); slots = life0 ∷ life1 ∷ life4 ∷ life2 ∷ life3 ∷ life5 ∷ Row.off ∷ Row.off ∷ Row.off ∷
-            Row.off ∷ Row.off ∷ Row.off ∷ Row.off ∷ Row.off ∷ Row.off ∷ Row.off ∷ Row.off ∷ Row.off ∷ Row.off ∷ Row.off ∷ List.[]; }
+        G72 = record {
+          locals = List._++_ t59 (List._++_ t1 t2);
+          slots = life0 ∷ life1 ∷ life4 ∷ life2 ∷ life3 ∷ life5 ∷ Row.off ∷ Row.off ∷ Row.off ∷ Row.off ∷ Row.off ∷
+              Row.off ∷ Row.off ∷ Row.off ∷ Row.off ∷ Row.off ∷ Row.off ∷ Row.off ∷ Row.off ∷ Row.off ∷ List.[];
+        }
+
         abbrev G73 : Row.Cx
-        G73 = record { locals = List._++_ t60 (List._++_ t1 t2); slots = life0 ∷ life1 ∷ life4 ∷ life2 ∷ life3 ∷ life5 ∷ Row.off ∷ Row.off ∷ Row.off ∷
-            Row.off ∷ Row.off ∷ Row.off ∷ Row.off ∷ Row.off ∷ Row.off ∷ Row.off ∷ Row.off ∷ Row.off ∷ Row.off ∷ Row.off ∷ List.[]; }
+        G73 = record {
+          locals = List._++_ t60 (List._++_ t1 t2);
+          slots = life0 ∷ life1 ∷ life4 ∷ life2 ∷ life3 ∷ life5 ∷ Row.off ∷ Row.off ∷ Row.off ∷ Row.off ∷ Row.off ∷
+              Row.off ∷ Row.off ∷ Row.off ∷ Row.off ∷ Row.off ∷ Row.off ∷ Row.off ∷ Row.off ∷ Row.off ∷ List.[];
+        }
+
         abbrev G74 : Row.Cx
-        G74 = record { locals = List._++_ t61 (List._++_ t1 t2); slots = life0 ∷ life1 ∷ life4 ∷ life2 ∷ life3 ∷ life5 ∷ Row.off ∷ Row.off ∷ Row.off ∷
-            Row.off ∷ Row.off ∷ Row.off ∷ Row.off ∷ Row.off ∷ Row.off ∷ Row.off ∷ Row.off ∷ Row.off ∷ Row.off ∷ Row.off ∷ List.[]; }
+        G74 = record {
+          locals = List._++_ t61 (List._++_ t1 t2);
+          slots = life0 ∷ life1 ∷ life4 ∷ life2 ∷ life3 ∷ life5 ∷ Row.off ∷ Row.off ∷ Row.off ∷ Row.off ∷ Row.off ∷
+              Row.off ∷ Row.off ∷ Row.off ∷ Row.off ∷ Row.off ∷ Row.off ∷ Row.off ∷ Row.off ∷ Row.off ∷ List.[];
+        }
+
         abbrev G75 : Row.Cx
-        G75 = record { locals = List._++_ t62 (List._++_ t1 t2); slots = life0 ∷ life1 ∷ life4 ∷ life2 ∷ life3 ∷ life5 ∷ Row.off ∷ Row.off ∷ Row.off ∷
-            Row.off ∷ Row.off ∷ Row.off ∷ Row.off ∷ Row.off ∷ Row.off ∷ Row.off ∷ Row.off ∷ Row.off ∷ Row.off ∷ Row.off ∷ List.[]; }
+        G75 = record {
+          locals = List._++_ t62 (List._++_ t1 t2);
+          slots = life0 ∷ life1 ∷ life4 ∷ life2 ∷ life3 ∷ life5 ∷ Row.off ∷ Row.off ∷ Row.off ∷ Row.off ∷ Row.off ∷
+              Row.off ∷ Row.off ∷ Row.off ∷ Row.off ∷ Row.off ∷ Row.off ∷ Row.off ∷ Row.off ∷ Row.off ∷ List.[];
+        }
+
         abbrev G76 : Row.Cx
-        G76 = record { locals = List._++_ t3 (List._++_ t1 t2); slots = life0 ∷ life1 ∷ life4 ∷ life2 ∷ life3 ∷ life5 ∷ Row.off ∷ Row.off ∷ Row.off ∷
-            Row.off ∷ Row.off ∷ Row.off ∷ Row.off ∷ Row.off ∷ Row.off ∷ Row.off ∷ Row.off ∷ Row.off ∷ Row.off ∷ Row.off ∷ List.[]; }
+        G76 = record {
+          locals = List._++_ t3 (List._++_ t1 t2);
+          slots = life0 ∷ life1 ∷ life4 ∷ life2 ∷ life3 ∷ life5 ∷ Row.off ∷ Row.off ∷ Row.off ∷ Row.off ∷ Row.off ∷
+              Row.off ∷ Row.off ∷ Row.off ∷ Row.off ∷ Row.off ∷ Row.off ∷ Row.off ∷ Row.off ∷ Row.off ∷ List.[];
+        }
+
         abbrev G77 : Row.Cx
-        G77 = record { locals = List._++_ t0 (List._++_ t1 t2); slots = life0 ∷ life1 ∷ life4 ∷ life2 ∷ life3 ∷ life5 ∷ Row.off ∷ Row.off ∷ Row.off ∷
-            Row.off ∷ Row.off ∷ Row.off ∷ Row.off ∷ Row.off ∷ Row.off ∷ Row.off ∷ Row.off ∷ Row.off ∷ Row.off ∷ Row.off ∷ List.[]; }
+        G77 = record {
+          locals = List._++_ t0 (List._++_ t1 t2);
+          slots = life0 ∷ life1 ∷ life4 ∷ life2 ∷ life3 ∷ life5 ∷ Row.off ∷ Row.off ∷ Row.off ∷ Row.off ∷ Row.off ∷
+              Row.off ∷ Row.off ∷ Row.off ∷ Row.off ∷ Row.off ∷ Row.off ∷ Row.off ∷ Row.off ∷ Row.off ∷ List.[];
+        }
+
         abbrev G78 : Row.Cx
-        G78 = record { locals = List._++_ t0 (List._++_ t1 t2); slots = life0 ∷ life1 ∷ life4 ∷ life2 ∷ life3 ∷ life5 ∷ Row.off ∷ Row.off ∷ Row.off ∷
-            Row.off ∷ Row.off ∷ Row.off ∷ Row.off ∷ Row.off ∷ Row.off ∷ Row.alive ∷ Row.off ∷ Row.off ∷ Row.off ∷ Row.off ∷ List.[]; }
+        G78 = record {
+          locals = List._++_ t0 (List._++_ t1 t2);
+          slots = life0 ∷ life1 ∷ life4 ∷ life2 ∷ life3 ∷ life5 ∷ Row.off ∷ Row.off ∷ Row.off ∷ Row.off ∷ Row.off ∷
+              Row.off ∷ Row.off ∷ Row.off ∷ Row.off ∷ Row.alive ∷ Row.off ∷ Row.off ∷ Row.off ∷ Row.off ∷ List.[];
+        }
+
         abbrev G79 : Row.Cx
-        G79 = record { locals = List._++_ g63 (List._++_ t1 t64); slots = Row.off ∷ life1 ∷ life4 ∷ life2 ∷ life3 ∷ life5 ∷ Row.off ∷ Row.off ∷
-            Row.off ∷ Row.off ∷ Row.off ∷ Row.off ∷ Row.off ∷ Row.off ∷ Row.off ∷ Row.alive ∷ Row.off ∷ Row.off ∷ Row.off ∷ Row.off ∷ List.[]; }
+        G79 = record {
+          locals = List._++_ g63 (List._++_ t1 t64);
+          slots = Row.off ∷ life1 ∷ life4 ∷ life2 ∷ life3 ∷ life5 ∷ Row.off ∷ Row.off ∷ Row.off ∷ Row.off ∷ Row.off ∷
+              Row.off ∷ Row.off ∷ Row.off ∷ Row.off ∷ Row.alive ∷ Row.off ∷ Row.off ∷ Row.off ∷ Row.off ∷ List.[];
+        }
+
         abbrev G80 : Row.Cx
-        G80 = record { locals = List._++_ g63 (List._++_ t1 t65); slots = Row.off ∷ life1 ∷ life4 ∷ life2 ∷ life3 ∷ life5 ∷ Row.off ∷ Row.off ∷
-            Row.off ∷ Row.off ∷ Row.off ∷ Row.off ∷ Row.off ∷ Row.off ∷ Row.off ∷ Row.alive ∷ Row.off ∷ Row.off ∷ Row.off ∷ Row.off ∷ List.[]; }
+        G80 = record {
+          locals = List._++_ g63 (List._++_ t1 t65);
+          slots = Row.off ∷ life1 ∷ life4 ∷ life2 ∷ life3 ∷ life5 ∷ Row.off ∷ Row.off ∷ Row.off ∷ Row.off ∷ Row.off ∷
+              Row.off ∷ Row.off ∷ Row.off ∷ Row.off ∷ Row.alive ∷ Row.off ∷ Row.off ∷ Row.off ∷ Row.off ∷ List.[];
+        }
+
         abbrev G81 : Row.Cx
-        G81 = record { locals = List._++_ g63 (List._++_ t1 t65); slots = Row.off ∷ life1 ∷ life4 ∷ life2 ∷ life3 ∷ life5 ∷ Row.off ∷ Row.off ∷
-            Row.off ∷ Row.off ∷ Row.off ∷ Row.off ∷ Row.off ∷ Row.off ∷ Row.off ∷ Row.alive ∷ Row.alive ∷ Row.off ∷ Row.off ∷ Row.off ∷ List.[]; }
+        G81 = record {
+          locals = List._++_ g63 (List._++_ t1 t65);
+          slots = Row.off ∷ life1 ∷ life4 ∷ life2 ∷ life3 ∷ life5 ∷ Row.off ∷ Row.off ∷ Row.off ∷ Row.off ∷ Row.off ∷
+              Row.off ∷ Row.off ∷ Row.off ∷ Row.off ∷ Row.alive ∷ Row.alive ∷ Row.off ∷ Row.off ∷ Row.off ∷ List.[];
+        }
+
         abbrev G82 : Row.Cx
-        G82 = record { locals = List._++_ g66 (List._++_ t1 t67); slots = Row.off ∷ Row.off ∷ life4 ∷ life2 ∷ life3 ∷ life5 ∷ Row.off ∷ Row.off ∷
-            Row.off ∷ Row.off ∷ Row.off ∷ Row.off ∷ Row.off ∷ Row.off ∷ Row.off ∷ Row.alive ∷ Row.alive ∷ Row.off ∷ Row.off ∷ Row.off ∷ List.[]; }
+        G82 = record {
+          locals = List._++_ g66 (List._++_ t1 t67);
+          slots = Row.off ∷ Row.off ∷ life4 ∷ life2 ∷ life3 ∷ life5 ∷ Row.off ∷ Row.off ∷ Row.off ∷ Row.off ∷ Row.off ∷
+              Row.off ∷ Row.off ∷ Row.off ∷ Row.off ∷ Row.alive ∷ Row.alive ∷ Row.off ∷ Row.off ∷ Row.off ∷ List.[];
+        }
+
         abbrev G83 : Row.Cx
-        G83 = record { locals = List._++_ g66 (List._++_ t1 t68); slots = Row.off ∷ Row.off ∷ life4 ∷ life2 ∷ life3 ∷ life5 ∷ Row.off ∷ Row.off ∷
-            Row.off ∷ Row.off ∷ Row.off ∷ Row.off ∷ Row.off ∷ Row.off ∷ Row.off ∷ Row.alive ∷ Row.alive ∷ Row.off ∷ Row.off ∷ Row.off ∷ List.[]; }
+        G83 = record {
+          locals = List._++_ g66 (List._++_ t1 t68);
+          slots = Row.off ∷ Row.off ∷ life4 ∷ life2 ∷ life3 ∷ life5 ∷ Row.off ∷ Row.off ∷ Row.off ∷ Row.off ∷ Row.off ∷
+              Row.off ∷ Row.off ∷ Row.off ∷ Row.off ∷ Row.alive ∷ Row.alive ∷ Row.off ∷ Row.off ∷ Row.off ∷ List.[];
+        }
+
         abbrev G84 : Row.Cx
-        G84 = record { locals = List._++_ g66 (List._++_ t1 t68); slots = Row.off ∷ Row.off ∷ life4 ∷ life2 ∷ life3 ∷ life5 ∷ Row.off ∷ Row.off ∷
-            Row.off ∷ Row.off ∷ Row.off ∷ Row.off ∷ Row.off ∷ Row.off ∷ Row.off ∷ Row.alive ∷ Row.alive ∷ Row.alive ∷ Row.off ∷ Row.off ∷ List.[]; }
+        G84 = record {
+          locals = List._++_ g66 (List._++_ t1 t68);
+          slots = Row.off ∷ Row.off ∷ life4 ∷ life2 ∷ life3 ∷ life5 ∷ Row.off ∷ Row.off ∷ Row.off ∷ Row.off ∷ Row.off ∷
+              Row.off ∷ Row.off ∷ Row.off ∷ Row.off ∷ Row.alive ∷ Row.alive ∷ Row.alive ∷ Row.off ∷ Row.off ∷ List.[];
+        }
+
         abbrev G85 : Row.Cx
-        G85 = record { locals = List._++_ g69 (List._++_ t1 t70); slots = Row.off ∷ Row.off ∷ Row.off ∷ life2 ∷ life3 ∷ life5 ∷ Row.off ∷ Row.off ∷
-            Row.off ∷ Row.off ∷ Row.off ∷ Row.off ∷ Row.off ∷ Row.off ∷ Row.off ∷ Row.alive ∷ Row.alive ∷ Row.alive ∷ Row.off ∷ Row.off ∷ List.[]; }
+        G85 = record {
+          locals = List._++_ g69 (List._++_ t1 t70);
+          slots = Row.off ∷ Row.off ∷ Row.off ∷ life2 ∷ life3 ∷ life5 ∷ Row.off ∷ Row.off ∷ Row.off ∷ Row.off ∷ Row.off
+              ∷ Row.off ∷ Row.off ∷ Row.off ∷ Row.off ∷ Row.alive ∷ Row.alive ∷ Row.alive ∷ Row.off ∷ Row.off ∷ List.[];
+        }
+
         abbrev G86 : Row.Cx
-        G86 = record { locals = List._++_ g69 (List._++_ t1 t71); slots = Row.off ∷ Row.off ∷ Row.off ∷ life2 ∷ life3 ∷ life5 ∷ Row.off ∷ Row.off ∷
-            Row.off ∷ Row.off ∷ Row.off ∷ Row.off ∷ Row.off ∷ Row.off ∷ Row.off ∷ Row.alive ∷ Row.alive ∷ Row.alive ∷ Row.off ∷ Row.off ∷ List.[]; }
+        G86 = record {
+          locals = List._++_ g69 (List._++_ t1 t71);
+          slots = Row.off ∷ Row.off ∷ Row.off ∷ life2 ∷ life3 ∷ life5 ∷ Row.off ∷ Row.off ∷ Row.off ∷ Row.off ∷ Row.off
+              ∷ Row.off ∷ Row.off ∷ Row.off ∷ Row.off ∷ Row.alive ∷ Row.alive ∷ Row.alive ∷ Row.off ∷ Row.off ∷ List.[];
+        }
+
         abbrev G87 : Row.Cx
-        G87 = record { locals = List._++_ g69 (List._++_ t1 t71); slots = Row.off ∷ Row.off ∷ Row.off ∷ life2 ∷ life3 ∷ life5 ∷ Row.off ∷ Row.off ∷
-            Row.off ∷ Row.off ∷ Row.off ∷ Row.off ∷ Row.off ∷ Row.off ∷ Row.off ∷ Row.alive ∷ Row.alive ∷ Row.alive ∷ Row.alive ∷ Row.off ∷ List.[]; }
+        G87 = record {
+          locals = List._++_ g69 (List._++_ t1 t71);
+          slots = Row.off ∷ Row.off ∷ Row.off ∷ life2 ∷ life3 ∷ life5 ∷ Row.off ∷ Row.off ∷ Row.off ∷ Row.off ∷ Row.off
+              ∷ Row.off ∷ Row.off ∷ Row.off ∷ Row.off ∷ Row.alive ∷ Row.alive ∷ Row.alive ∷ Row.alive ∷ Row.off ∷
+              List.[];
+        }
+
         abbrev G88 : Row.Cx
-        G88 = record { locals = List._++_ g72 (List._++_ t1 t73); slots = Row.off ∷ Row.off ∷ Row.off ∷ Row.off ∷ life3 ∷ life5 ∷ Row.off ∷ Row.off ∷
-            Row.off ∷ Row.off ∷ Row.off ∷ Row.off ∷ Row.off ∷ Row.off ∷ Row.off ∷ Row.alive ∷ Row.alive ∷ Row.alive ∷ Row.alive ∷ Row.off ∷ List.[]; }
+        G88 = record {
+          locals = List._++_ g72 (List._++_ t1 t73);
+          slots = Row.off ∷ Row.off ∷ Row.off ∷ Row.off ∷ life3 ∷ life5 ∷ Row.off ∷ Row.off ∷ Row.off ∷ Row.off ∷
+              Row.off ∷ Row.off ∷ Row.off ∷ Row.off ∷ Row.off ∷ Row.alive ∷ Row.alive ∷ Row.alive ∷ Row.alive ∷ Row.off
+              ∷ List.[];
+        }
+
         abbrev G89 : Row.Cx
-        G89 = record { locals = List._++_ g72 (List._++_ t1 t74); slots = Row.off ∷ Row.off ∷ Row.off ∷ Row.off ∷ life3 ∷ life5 ∷ Row.off ∷ Row.off ∷
-            Row.off ∷ Row.off ∷ Row.off ∷ Row.off ∷ Row.off ∷ Row.off ∷ Row.off ∷ Row.alive ∷ Row.alive ∷ Row.alive ∷ Row.alive ∷ Row.off ∷ List.[]; }
+        G89 = record {
+          locals = List._++_ g72 (List._++_ t1 t74);
+          slots = Row.off ∷ Row.off ∷ Row.off ∷ Row.off ∷ life3 ∷ life5 ∷ Row.off ∷ Row.off ∷ Row.off ∷ Row.off ∷
+              Row.off ∷ Row.off ∷ Row.off ∷ Row.off ∷ Row.off ∷ Row.alive ∷ Row.alive ∷ Row.alive ∷ Row.alive ∷ Row.off
+              ∷ List.[];
+        }
+
         abbrev G90 : Row.Cx
-        G90 = record { locals = List._++_ g72 (List._++_ t1 t74); slots = Row.off ∷ Row.off ∷ Row.off ∷ Row.off ∷ life3 ∷ life5 ∷ Row.off ∷ Row.off ∷
-            Row.off ∷ Row.off ∷ Row.off ∷ Row.off ∷ Row.off ∷ Row.off ∷ Row.off ∷ Row.alive ∷ Row.alive ∷ Row.alive ∷ Row.alive ∷ Row.alive ∷ List.[];
-            }
+        G90 = record {
+          locals = List._++_ g72 (List._++_ t1 t74);
+          slots = Row.off ∷ Row.off ∷ Row.off ∷ Row.off ∷ life3 ∷ life5 ∷ Row.off ∷ Row.off ∷ Row.off ∷ Row.off ∷
+              Row.off ∷ Row.off ∷ Row.off ∷ Row.off ∷ Row.off ∷ Row.alive ∷ Row.alive ∷ Row.alive ∷ Row.alive ∷
+              Row.alive ∷ List.[];
+        }
+
         abbrev G91 : Row.Cx
-        G91 = record { locals = List._++_ g75 (List._++_ t1 t76); slots = Row.off ∷ Row.off ∷ Row.off ∷ Row.off ∷ Row.off ∷ life5 ∷ Row.off ∷ Row.off
-            ∷ Row.off ∷ Row.off ∷ Row.off ∷ Row.off ∷ Row.off ∷ Row.off ∷ Row.off ∷ Row.alive ∷ Row.alive ∷ Row.alive ∷ Row.alive ∷ Row.alive ∷
-            List.[]; }
+        G91 = record {
+          locals = List._++_ g75 (List._++_ t1 t76);
+          slots = Row.off ∷ Row.off ∷ Row.off ∷ Row.off ∷ Row.off ∷ life5 ∷ Row.off ∷ Row.off ∷ Row.off ∷ Row.off ∷
+              Row.off ∷ Row.off ∷ Row.off ∷ Row.off ∷ Row.off ∷ Row.alive ∷ Row.alive ∷ Row.alive ∷ Row.alive ∷
+              Row.alive ∷ List.[];
+        }
+
         abbrev G92 : Row.Cx
-        G92 = record { locals = List._++_ g75 (List._++_ t1 t77); slots = Row.off ∷ Row.off ∷ Row.off ∷ Row.off ∷ Row.off ∷ life5 ∷ Row.off ∷ Row.off
-            ∷ Row.off ∷ Row.off ∷ Row.off ∷ Row.off ∷ Row.off ∷ Row.off ∷ Row.off ∷ Row.alive ∷ Row.alive ∷ Row.alive ∷ Row.alive ∷ Row.alive ∷
-            List.[]; }
+        G92 = record {
+          locals = List._++_ g75 (List._++_ t1 t77);
+          slots = Row.off ∷ Row.off ∷ Row.off ∷ Row.off ∷ Row.off ∷ life5 ∷ Row.off ∷ Row.off ∷ Row.off ∷ Row.off ∷
+              Row.off ∷ Row.off ∷ Row.off ∷ Row.off ∷ Row.off ∷ Row.alive ∷ Row.alive ∷ Row.alive ∷ Row.alive ∷
+              Row.alive ∷ List.[];
+        }
+
         abbrev G93 : Row.Cx
-        G93 = record { locals = List._++_ g78 (List._++_ t1 t79); slots = Row.off ∷ Row.off ∷ Row.off ∷ Row.off ∷ Row.off ∷ life5 ∷ Row.off ∷ Row.off
-            ∷ Row.off ∷ Row.off ∷ Row.off ∷ Row.off ∷ Row.off ∷ Row.off ∷ Row.off ∷ Row.alive ∷ Row.alive ∷ Row.alive ∷ Row.alive ∷ Row.alive ∷
-            List.[]; }
+        G93 = record {
+          locals = List._++_ g78 (List._++_ t1 t79);
+          slots = Row.off ∷ Row.off ∷ Row.off ∷ Row.off ∷ Row.off ∷ life5 ∷ Row.off ∷ Row.off ∷ Row.off ∷ Row.off ∷
+              Row.off ∷ Row.off ∷ Row.off ∷ Row.off ∷ Row.off ∷ Row.alive ∷ Row.alive ∷ Row.alive ∷ Row.alive ∷
+              Row.alive ∷ List.[];
+        }
+
         abbrev G94 : Row.Cx
-        G94 = record { locals = List._++_ g80 (List._++_ t1 t79); slots = Row.off ∷ Row.off ∷ Row.off ∷ Row.off ∷ Row.off ∷ life5 ∷ Row.off ∷ Row.off
-            ∷ Row.off ∷ Row.off ∷ Row.off ∷ Row.off ∷ Row.off ∷ Row.off ∷ Row.off ∷ Row.alive ∷ Row.alive ∷ Row.alive ∷ Row.alive ∷ Row.alive ∷
-            List.[]; }
+        G94 = record {
+          locals = List._++_ g80 (List._++_ t1 t79);
+          slots = Row.off ∷ Row.off ∷ Row.off ∷ Row.off ∷ Row.off ∷ life5 ∷ Row.off ∷ Row.off ∷ Row.off ∷ Row.off ∷
+              Row.off ∷ Row.off ∷ Row.off ∷ Row.off ∷ Row.off ∷ Row.alive ∷ Row.alive ∷ Row.alive ∷ Row.alive ∷
+              Row.alive ∷ List.[];
+        }
+
         abbrev G95 : Row.Cx
-        G95 = record { locals = List._++_ g81 (List._++_ t1 t79); slots = Row.off ∷ Row.off ∷ Row.off ∷ Row.off ∷ Row.off ∷ life5 ∷ Row.off ∷ Row.off
-            ∷ Row.off ∷ Row.off ∷ Row.off ∷ Row.off ∷ Row.off ∷ Row.off ∷ Row.off ∷ Row.alive ∷ Row.alive ∷ Row.alive ∷ Row.alive ∷ Row.alive ∷
-            List.[]; }
+        G95 = record {
+          locals = List._++_ g81 (List._++_ t1 t79);
+          slots = Row.off ∷ Row.off ∷ Row.off ∷ Row.off ∷ Row.off ∷ life5 ∷ Row.off ∷ Row.off ∷ Row.off ∷ Row.off ∷
+              Row.off ∷ Row.off ∷ Row.off ∷ Row.off ∷ Row.off ∷ Row.alive ∷ Row.alive ∷ Row.alive ∷ Row.alive ∷
+              Row.alive ∷ List.[];
+        }
+
         abbrev G96 : Row.Cx
-        G96 = record { locals = List._++_ g81 (List._++_ t1 t79); slots = Row.off ∷ Row.off ∷ Row.off ∷ Row.off ∷ Row.off ∷ life5 ∷ Row.off ∷ Row.off
-            ∷ Row.off ∷ Row.off ∷ Row.off ∷ Row.off ∷ Row.off ∷ Row.off ∷ Row.off ∷ Row.dead ∷ Row.alive ∷ Row.alive ∷ Row.alive ∷ Row.alive ∷
-            List.[]; }
+        G96 = record {
+          locals = List._++_ g81 (List._++_ t1 t79);
+          slots = Row.off ∷ Row.off ∷ Row.off ∷ Row.off ∷ Row.off ∷ life5 ∷ Row.off ∷ Row.off ∷ Row.off ∷ Row.off ∷
+              Row.off ∷ Row.off ∷ Row.off ∷ Row.off ∷ Row.off ∷ Row.dead ∷ Row.alive ∷ Row.alive ∷ Row.alive ∷
+              Row.alive ∷ List.[];
+        }
+
         abbrev G97 : Row.Cx
-        G97 = record { locals = List._++_ g82 (List._++_ t1 t83); slots = life0 ∷ Row.off ∷ Row.off ∷ Row.off ∷ Row.off ∷ life5 ∷ Row.off ∷ Row.off ∷
-            Row.off ∷ Row.off ∷ Row.off ∷ Row.off ∷ Row.off ∷ Row.off ∷ Row.off ∷ Row.dead ∷ Row.alive ∷ Row.alive ∷ Row.alive ∷ Row.alive ∷ List.[];
-            }
+        G97 = record {
+          locals = List._++_ g82 (List._++_ t1 t83);
+          slots = life0 ∷ Row.off ∷ Row.off ∷ Row.off ∷ Row.off ∷ life5 ∷ Row.off ∷ Row.off ∷ Row.off ∷ Row.off ∷
+              Row.off ∷ Row.off ∷ Row.off ∷ Row.off ∷ Row.off ∷ Row.dead ∷ Row.alive ∷ Row.alive ∷ Row.alive ∷
+              Row.alive ∷ List.[];
+        }
+
         abbrev G98 : Row.Cx
-        G98 = record { locals = List._++_ g82 (List._++_ t1 t83); slots = life0 ∷ Row.off ∷ Row.off ∷ Row.off ∷ Row.off ∷ life5 ∷ Row.off ∷ Row.off ∷
-            Row.off ∷ Row.off ∷ Row.off ∷ Row.off ∷ Row.off ∷ Row.off ∷ Row.off ∷ Row.off ∷ Row.alive ∷ Row.alive ∷ Row.alive ∷ Row.alive ∷ List.[]; }
+        G98 = record {
+          locals = List._++_ g82 (List._++_ t1 t83);
+          slots = life0 ∷ Row.off ∷ Row.off ∷ Row.off ∷ Row.off ∷ life5 ∷ Row.off ∷ Row.off ∷ Row.off ∷ Row.off ∷
+              Row.off ∷ Row.off ∷ Row.off ∷ Row.off ∷ Row.off ∷ Row.off ∷ Row.alive ∷ Row.alive ∷ Row.alive ∷ Row.alive
+              ∷ List.[];
+        }
+
         abbrev G99 : Row.Cx
-        G99 = record { locals = List._++_ g82 (List._++_ t1 t83); slots = life0 ∷ Row.off ∷ Row.off ∷ Row.off ∷ Row.off ∷ life5 ∷ Row.off ∷ Row.off ∷
-            Row.off ∷ Row.off ∷ Row.off ∷ Row.off ∷ Row.off ∷ Row.off ∷ Row.off ∷ Row.off ∷ Row.dead ∷ Row.alive ∷ Row.alive ∷ Row.alive ∷ List.[]; }
+        G99 = record {
+          locals = List._++_ g82 (List._++_ t1 t83);
+          slots = life0 ∷ Row.off ∷ Row.off ∷ Row.off ∷ Row.off ∷ life5 ∷ Row.off ∷ Row.off ∷ Row.off ∷ Row.off ∷
+              Row.off ∷ Row.off ∷ Row.off ∷ Row.off ∷ Row.off ∷ Row.off ∷ Row.dead ∷ Row.alive ∷ Row.alive ∷ Row.alive
+              ∷ List.[];
+        }
+
         abbrev G100 : Row.Cx
-        G100 = record { locals = List._++_ g84 (List._++_ t1 t85); slots = life0 ∷ life1 ∷ Row.off ∷ Row.off ∷ Row.off ∷ life5 ∷ Row.off ∷ Row.off ∷
-            Row.off ∷ Row.off ∷ Row.off ∷ Row.off ∷ Row.off ∷ Row.off ∷ Row.off ∷ Row.off ∷ Row.dead ∷ Row.alive ∷ Row.alive ∷ Row.alive ∷ List.[]; }
+        G100 = record {
+          locals = List._++_ g84 (List._++_ t1 t85);
+          slots = life0 ∷ life1 ∷ Row.off ∷ Row.off ∷ Row.off ∷ life5 ∷ Row.off ∷ Row.off ∷ Row.off ∷ Row.off ∷ Row.off
+              ∷ Row.off ∷ Row.off ∷ Row.off ∷ Row.off ∷ Row.off ∷ Row.dead ∷ Row.alive ∷ Row.alive ∷ Row.alive ∷
+              List.[];
+        }
+
         abbrev G101 : Row.Cx
-        G101 = record { locals = List._++_ g84 (List._++_ t1 t85); slots = life0 ∷ life1 ∷ Row.off ∷ Row.off ∷ Row.off ∷ life5 ∷ Row.off ∷ Row.off ∷
-            Row.off ∷ Row.off ∷ Row.off ∷ Row.off ∷ Row.off ∷ Row.off ∷ Row.off ∷ Row.off ∷ Row.off ∷ Row.alive ∷ Row.alive ∷ Row.alive ∷ List.[]; }
+        G101 = record {
+          locals = List._++_ g84 (List._++_ t1 t85);
+          slots = life0 ∷ life1 ∷ Row.off ∷ Row.off ∷ Row.off ∷ life5 ∷ Row.off ∷ Row.off ∷ Row.off ∷ Row.off ∷ Row.off
+              ∷ Row.off ∷ Row.off ∷ Row.off ∷ Row.off ∷ Row.off ∷ Row.off ∷ Row.alive ∷ Row.alive ∷ Row.alive ∷ List.[];
+        }
+
         abbrev G102 : Row.Cx
-        G102 = record { locals = List._++_ g84 (List._++_ t1 t85); slots = life0 ∷ life1 ∷ Row.off ∷ Row.off ∷ Row.off ∷ life5 ∷ Row.off ∷ Row.off ∷
-            Row.off ∷ Row.off ∷ Row.off ∷ Row.off ∷ Row.off ∷ Row.off ∷ Row.off ∷ Row.off ∷ Row.off ∷ Row.dead ∷ Row.alive ∷ Row.alive ∷ List.[]; }
+        G102 = record {
+          locals = List._++_ g84 (List._++_ t1 t85);
+          slots = life0 ∷ life1 ∷ Row.off ∷ Row.off ∷ Row.off ∷ life5 ∷ Row.off ∷ Row.off ∷ Row.off ∷ Row.off ∷ Row.off
+              ∷ Row.off ∷ Row.off ∷ Row.off ∷ Row.off ∷ Row.off ∷ Row.off ∷ Row.dead ∷ Row.alive ∷ Row.alive ∷ List.[];
+        }
+
         abbrev G103 : Row.Cx
-        G103 = record { locals = List._++_ g86 (List._++_ t1 t87); slots = life0 ∷ life1 ∷ life4 ∷ Row.off ∷ Row.off ∷ life5 ∷ Row.off ∷ Row.off ∷
-            Row.off ∷ Row.off ∷ Row.off ∷ Row.off ∷ Row.off ∷ Row.off ∷ Row.off ∷ Row.off ∷ Row.off ∷ Row.dead ∷ Row.alive ∷ Row.alive ∷ List.[]; }
+        G103 = record {
+          locals = List._++_ g86 (List._++_ t1 t87);
+          slots = life0 ∷ life1 ∷ life4 ∷ Row.off ∷ Row.off ∷ life5 ∷ Row.off ∷ Row.off ∷ Row.off ∷ Row.off ∷ Row.off ∷
+              Row.off ∷ Row.off ∷ Row.off ∷ Row.off ∷ Row.off ∷ Row.off ∷ Row.dead ∷ Row.alive ∷ Row.alive ∷ List.[];
+        }
+
         abbrev G104 : Row.Cx
-        G104 = record { locals = List._++_ g86 (List._++_ t1 t87); slots = life0 ∷ life1 ∷ life4 ∷ Row.off ∷ Row.off ∷ life5 ∷ Row.off ∷ Row.off ∷
-            Row.off ∷ Row.off ∷ Row.off ∷ Row.off ∷ Row.off ∷ Row.off ∷ Row.off ∷ Row.off ∷ Row.off ∷ Row.off ∷ Row.alive ∷ Row.alive ∷ List.[]; }
+        G104 = record {
+          locals = List._++_ g86 (List._++_ t1 t87);
+          slots = life0 ∷ life1 ∷ life4 ∷ Row.off ∷ Row.off ∷ life5 ∷ Row.off ∷ Row.off ∷ Row.off ∷ Row.off ∷ Row.off ∷
+              Row.off ∷ Row.off ∷ Row.off ∷ Row.off ∷ Row.off ∷ Row.off ∷ Row.off ∷ Row.alive ∷ Row.alive ∷ List.[];
+        }
+
         abbrev G105 : Row.Cx
-        G105 = record { locals = List._++_ g86 (List._++_ t1 t87); slots = life0 ∷ life1 ∷ life4 ∷ Row.off ∷ Row.off ∷ life5 ∷ Row.off ∷ Row.off ∷
-            Row.off ∷ Row.off ∷ Row.off ∷ Row.off ∷ Row.off ∷ Row.off ∷ Row.off ∷ Row.off ∷ Row.off ∷ Row.off ∷ Row.dead ∷ Row.alive ∷ List.[]; }
+        G105 = record {
+          locals = List._++_ g86 (List._++_ t1 t87);
+          slots = life0 ∷ life1 ∷ life4 ∷ Row.off ∷ Row.off ∷ life5 ∷ Row.off ∷ Row.off ∷ Row.off ∷ Row.off ∷ Row.off ∷
+              Row.off ∷ Row.off ∷ Row.off ∷ Row.off ∷ Row.off ∷ Row.off ∷ Row.off ∷ Row.dead ∷ Row.alive ∷ List.[];
+        }
+
         abbrev G106 : Row.Cx
-        G106 = record { locals = List._++_ g88 (List._++_ t1 t89); slots = life0 ∷ life1 ∷ life4 ∷ life2 ∷ Row.off ∷ life5 ∷ Row.off ∷ Row.off ∷
-            Row.off ∷ Row.off ∷ Row.off ∷ Row.off ∷ Row.off ∷ Row.off ∷ Row.off ∷ Row.off ∷ Row.off ∷ Row.off ∷ Row.dead ∷ Row.alive ∷ List.[]; }
+        G106 = record {
+          locals = List._++_ g88 (List._++_ t1 t89);
+          slots = life0 ∷ life1 ∷ life4 ∷ life2 ∷ Row.off ∷ life5 ∷ Row.off ∷ Row.off ∷ Row.off ∷ Row.off ∷ Row.off ∷
+              Row.off ∷ Row.off ∷ Row.off ∷ Row.off ∷ Row.off ∷ Row.off ∷ Row.off ∷ Row.dead ∷ Row.alive ∷ List.[];
+        }
+
         abbrev G107 : Row.Cx
-        G107 = record { locals = List._++_ g88 (List._++_ t1 t89); slots = life0 ∷ life1 ∷ life4 ∷ life2 ∷ Row.off ∷ life5 ∷ Row.off ∷ Row.off ∷
-            Row.off ∷ Row.off ∷ Row.off ∷ Row.off ∷ Row.off ∷ Row.off ∷ Row.off ∷ Row.off ∷ Row.off ∷ Row.off ∷ Row.off ∷ Row.alive ∷ List.[]; }
+        G107 = record {
+          locals = List._++_ g88 (List._++_ t1 t89);
+          slots = life0 ∷ life1 ∷ life4 ∷ life2 ∷ Row.off ∷ life5 ∷ Row.off ∷ Row.off ∷ Row.off ∷ Row.off ∷ Row.off ∷
+              Row.off ∷ Row.off ∷ Row.off ∷ Row.off ∷ Row.off ∷ Row.off ∷ Row.off ∷ Row.off ∷ Row.alive ∷ List.[];
+        }
+
         abbrev G108 : Row.Cx
-        G108 = record { locals = List._++_ g88 (List._++_ t1 t89); slots = life0 ∷ life1 ∷ life4 ∷ life2 ∷ Row.off ∷ life5 ∷ Row.off ∷ Row.off ∷
-            Row.off ∷ Row.off ∷ Row.off ∷ Row.off ∷ Row.off ∷ Row.off ∷ Row.off ∷ Row.off ∷ Row.off ∷ Row.off ∷ Row.off ∷ Row.dead ∷ List.[]; }
+        G108 = record {
+          locals = List._++_ g88 (List._++_ t1 t89);
+          slots = life0 ∷ life1 ∷ life4 ∷ life2 ∷ Row.off ∷ life5 ∷ Row.off ∷ Row.off ∷ Row.off ∷ Row.off ∷ Row.off ∷
+              Row.off ∷ Row.off ∷ Row.off ∷ Row.off ∷ Row.off ∷ Row.off ∷ Row.off ∷ Row.off ∷ Row.dead ∷ List.[];
+        }
+
         abbrev G109 : Row.Cx
-        G109 = record { locals = List._++_ t90 (List._++_ t1 t2); slots = life0 ∷ life1 ∷ life4 ∷ life2 ∷ life3 ∷ life5 ∷ Row.off ∷ Row.off ∷ Row.off
-            ∷ Row.off ∷ Row.off ∷ Row.off ∷ Row.off ∷ Row.off ∷ Row.off ∷ Row.off ∷ Row.off ∷ Row.off ∷ Row.off ∷ Row.dead ∷ List.[]; }
+        G109 = record {
+          locals = List._++_ t90 (List._++_ t1 t2);
+          slots = life0 ∷ life1 ∷ life4 ∷ life2 ∷ life3 ∷ life5 ∷ Row.off ∷ Row.off ∷ Row.off ∷ Row.off ∷ Row.off ∷
+              Row.off ∷ Row.off ∷ Row.off ∷ Row.off ∷ Row.off ∷ Row.off ∷ Row.off ∷ Row.off ∷ Row.dead ∷ List.[];
+        }
+
         abbrev G110 : Row.Cx
-        G110 = record { locals = List._++_ t90 (List._++_ t1 t2); slots = life0 ∷ life1 ∷ life4 ∷ life2 ∷ life3 ∷ life5 ∷ Row.off ∷ Row.off ∷ Row.off
-            ∷ Row.off ∷ Row.off ∷ Row.off ∷ Row.off ∷ Row.off ∷ Row.off ∷ Row.off ∷ Row.off ∷ Row.off ∷ Row.off ∷ Row.dead ∷ List.[]; }
+        G110 = record {
+          locals = List._++_ t90 (List._++_ t1 t2);
+          slots = life0 ∷ life1 ∷ life4 ∷ life2 ∷ life3 ∷ life5 ∷ Row.off ∷ Row.off ∷ Row.off ∷ Row.off ∷ Row.off ∷
+              Row.off ∷ Row.off ∷ Row.off ∷ Row.off ∷ Row.off ∷ Row.off ∷ Row.off ∷ Row.off ∷ Row.dead ∷ List.[];
+        }
+
         abbrev G111 : Row.Cx
-        G111 = record { locals = List._++_ t90 (List._++_ t1 t2); slots = life0 ∷ life1 ∷ life4 ∷ life2 ∷ life3 ∷ life5 ∷ Row.off ∷ Row.off ∷ Row.off
-            ∷ Row.off ∷ Row.off ∷ Row.off ∷ Row.off ∷ Row.off ∷ Row.off ∷ Row.off ∷ Row.off ∷ Row.off ∷ Row.off ∷ Row.off ∷ List.[]; }
+        G111 = record {
+          locals = List._++_ t90 (List._++_ t1 t2);
+          slots = life0 ∷ life1 ∷ life4 ∷ life2 ∷ life3 ∷ life5 ∷ Row.off ∷ Row.off ∷ Row.off ∷ Row.off ∷ Row.off ∷
+              Row.off ∷ Row.off ∷ Row.off ∷ Row.off ∷ Row.off ∷ Row.off ∷ Row.off ∷ Row.off ∷ Row.off ∷ List.[];
+        }
+
         abbrev G112 : Row.Cx
-        G112 = record { locals = List._++_ t90 (List._++_ t91 t2); slots = life0 ∷ life1 ∷ life4 ∷ life2 ∷ life3 ∷ life5 ∷ Row.off ∷ Row.off ∷ Row.off
-            ∷ Row.off ∷ Row.off ∷ Row.off ∷ Row.off ∷ Row.off ∷ Row.off ∷ Row.off ∷ Row.off ∷ Row.off ∷ Row.off ∷ Row.off ∷ List.[]; }
+        G112 = record {
+          locals = List._++_ t90 (List._++_ t91 t2);
+          slots = life0 ∷ life1 ∷ life4 ∷ life2 ∷ life3 ∷ life5 ∷ Row.off ∷ Row.off ∷ Row.off ∷ Row.off ∷ Row.off ∷
+              Row.off ∷ Row.off ∷ Row.off ∷ Row.off ∷ Row.off ∷ Row.off ∷ Row.off ∷ Row.off ∷ Row.off ∷ List.[];
+        }
+
         abbrev G113 : Row.Cx
-        G113 = record { locals = List._++_ t92 (List._++_ t91 t2); slots = life0 ∷ life1 ∷ life4 ∷ life2 ∷ life3 ∷ life5 ∷ Row.off ∷ Row.off ∷ Row.off
-            ∷ Row.off ∷ Row.off ∷ Row.off ∷ Row.off ∷ Row.off ∷ Row.off ∷ Row.off ∷ Row.off ∷ Row.off ∷ Row.off ∷ Row.off ∷ List.[]; }
+        G113 = record {
+          locals = List._++_ t92 (List._++_ t91 t2);
+          slots = life0 ∷ life1 ∷ life4 ∷ life2 ∷ life3 ∷ life5 ∷ Row.off ∷ Row.off ∷ Row.off ∷ Row.off ∷ Row.off ∷
+              Row.off ∷ Row.off ∷ Row.off ∷ Row.off ∷ Row.off ∷ Row.off ∷ Row.off ∷ Row.off ∷ Row.off ∷ List.[];
+        }
+
         abbrev G114 : Row.Cx
-        G114 = record { locals = List._++_ t62 (List._++_ t91 t2); slots = life0 ∷ life1 ∷ life4 ∷ life2 ∷ life3 ∷ life5 ∷ Row.off ∷ Row.off ∷ Row.off
-            ∷ Row.off ∷ Row.off ∷ Row.off ∷ Row.off ∷ Row.off ∷ Row.off ∷ Row.off ∷ Row.off ∷ Row.off ∷ Row.off ∷ Row.off ∷ List.[]; }
+        G114 = record {
+          locals = List._++_ t62 (List._++_ t91 t2);
+          slots = life0 ∷ life1 ∷ life4 ∷ life2 ∷ life3 ∷ life5 ∷ Row.off ∷ Row.off ∷ Row.off ∷ Row.off ∷ Row.off ∷
+              Row.off ∷ Row.off ∷ Row.off ∷ Row.off ∷ Row.off ∷ Row.off ∷ Row.off ∷ Row.off ∷ Row.off ∷ List.[];
+        }
+
         abbrev G115 : Row.Cx
-        G115 = record { locals = List._++_ t62 (List._++_ t1 t2); slots = life0 ∷ life1 ∷ life4 ∷ life2 ∷ life3 ∷ life5 ∷ Row.off ∷ Row.off ∷ Row.off
-            ∷ Row.off ∷ Row.off ∷ Row.off ∷ Row.off ∷ Row.off ∷ Row.off ∷ Row.off ∷ Row.off ∷ Row.off ∷ Row.off ∷ Row.off ∷ List.[]; }
+        G115 = record {
+          locals = List._++_ t62 (List._++_ t1 t2);
+          slots = life0 ∷ life1 ∷ life4 ∷ life2 ∷ life3 ∷ life5 ∷ Row.off ∷ Row.off ∷ Row.off ∷ Row.off ∷ Row.off ∷
+              Row.off ∷ Row.off ∷ Row.off ∷ Row.off ∷ Row.off ∷ Row.off ∷ Row.off ∷ Row.off ∷ Row.off ∷ List.[];
+        }
+
         abbrev G116 : Row.Cx
-        G116 = record { locals = List._++_ t3 (List._++_ t1 t2); slots = life0 ∷ life1 ∷ life4 ∷ life2 ∷ life3 ∷ life5 ∷ Row.off ∷ Row.off ∷ Row.off ∷
-            Row.off ∷ Row.off ∷ Row.off ∷ Row.off ∷ Row.off ∷ Row.off ∷ Row.off ∷ Row.off ∷ Row.off ∷ Row.off ∷ Row.off ∷ List.[]; }
+        G116 = record {
+          locals = List._++_ t3 (List._++_ t1 t2);
+          slots = life0 ∷ life1 ∷ life4 ∷ life2 ∷ life3 ∷ life5 ∷ Row.off ∷ Row.off ∷ Row.off ∷ Row.off ∷ Row.off ∷
+              Row.off ∷ Row.off ∷ Row.off ∷ Row.off ∷ Row.off ∷ Row.off ∷ Row.off ∷ Row.off ∷ Row.off ∷ List.[];
+        }
+
         abbrev Δ0 : Typed.Outs
         Δ0 = record { next = Option.none; exits = List.[]; returns = Option.some G1 }
+
         abbrev Δ1 : Typed.Outs
         Δ1 = Typed.withNext (Option.some G5) Δ0
-        module _ { M : Type 1 } (𝓤 : URA.URA M) (H : Wp.Heap 𝓤) (A : Atoms.Atoms 𝓤) (W : Kit.Given 𝓤 H A) (𝓣 : Wp.Tables 𝓤 H) (known : Knowns 𝓤 H A W
-            𝓣) (bs : List.List Nat.ℕ) (bd : Lifetimes.AllOutlive 6 (Kinds.osR r) κs) where
+
+        module _ {M : Type 1} (𝓤 : URA.URA M) (H : Wp.Heap 𝓤) (A : Atoms.Atoms 𝓤) (W : Kit.Given 𝓤 H A)
+            (𝓣 : Wp.Tables 𝓤 H) (known : Knowns 𝓤 H A W 𝓣) (bs : List.List Nat.ℕ)
+            (bd : Lifetimes.AllOutlive 6 (Kinds.osR r) κs) where
           abbrev E : Wp.Env 𝓤 H
           E = Frame.EnvOf 𝓤 H ((Kinds.tyR r) ∷ (Enter.tysP ps xs)) bs
+
           d0 : Typed.Typed 𝓤 H A 𝓣 E G76 b25 Δ1 (at0 bs)
           d0 = Typed.t-return 𝓤 H A W 𝓣 E Δ1 tt
+
           d1 : Typed.Typed 𝓤 H A 𝓣 E G75 b25 Δ1 (at1 bs)
-          d1 = Typed.g-pre 𝓤 H A W 𝓣 E G75 G76 b25 Δ1 (Typed.pass T75 T76 (s73 bs)) (at0 bs) (Scalar.g-room 𝓤 H A W E G75 9 Syntax.tyBool
-              (Scalar.room-sc 𝓤 H A W Row.sBool)) d0
+          d1 = Typed.g-pre 𝓤 H A W 𝓣 E G75 G76 b25 Δ1 (Typed.pass T75 T76 (s73 bs)) (at0 bs) (Scalar.g-room 𝓤 H A W E
+              G75 9 Syntax.tyBool (Scalar.room-sc 𝓤 H A W Row.sBool)) d0
+
           d2 : Typed.Typed 𝓤 H A 𝓣 E G74 b25 Δ1 (at2 bs)
-          d2 = Typed.g-pre 𝓤 H A W 𝓣 E G74 G75 b25 Δ1 (Typed.pass T74 T75 (s72 bs)) (at1 bs) (Scalar.g-room 𝓤 H A W E G74 14 Laws.mir
-              (Local.room-whole 𝓤 H A W (Declared.row HnsrAnswer.the-type) Laws.mir Path.refl)) d1
+          d2 = Typed.g-pre 𝓤 H A W 𝓣 E G74 G75 b25 Δ1 (Typed.pass T74 T75 (s72 bs)) (at1 bs) (Scalar.g-room 𝓤 H A W E
+              G74 14 Laws.mir (Local.room-whole 𝓤 H A W (Declared.row HnsrAnswer.the-type) Laws.mir Path.refl)) d1
+
           d3 : Typed.Typed 𝓤 H A 𝓣 E G73 b26 Δ1 (at3 bs)
-          d3 = Typed.s-seq 𝓤 H A W 𝓣 E G73 G74 b24 b25 Δ1 (Typed.both (s71 bs)) (at2 bs) (Plain.t-call-plain 𝓤 H A W 𝓣 0 ps·2 r·2 (claims· .4)
-              (claims· .5) "cases::script::answer_number" (known .2) E (λ pos β. β) G73 (record { pos = 14; st = List.[]; d = 0; at = λ x. x }, tt) 0
-              List.[] (Call.sub-id 𝓤 H A W (G73 .slots)) ((Yields.yields-copy 𝓤 H A W (λ ρ. Unit) (Declared.row HnsrAnswer.the-type) Path.refl
-              (Copies.cEnum HnsrAnswer.the-type Laws.the-laws Laws.the-copy .copy 𝓤 H A W) (Rows.whole (Declared.row HnsrAnswer.the-type)) (λ x. x) (λ
-              x. x) (λ ρ told. Local.mem-whole 𝓤 H A W (Declared.row HnsrAnswer.the-type) ρ) λ ρ told. Local.whole-mem 𝓤 H A W (Declared.row
-              HnsrAnswer.the-type) ρ, Path.refl,), tt,) (Reads'.room-gone 𝓤 H A (Syntax.tyInt Syntax.w64)) tt Path.refl) d2
+          d3 = Typed.s-seq 𝓤 H A W 𝓣 E G73 G74 b24 b25 Δ1 (Typed.both (s71 bs)) (at2 bs) (Plain.t-call-plain 𝓤 H A W 𝓣
+              0 ps·2 r·2 (claims· .4) (claims· .5) "cases::script::answer_number" (known .2) E (λ pos β. β) G73
+              (record { pos = 14; st = List.[]; d = 0; at = λ x. x }, tt) 0 List.[] (Call.sub-id 𝓤 H A W (G73 .slots)) (
+                (
+                  Yields.yields-copy 𝓤 H A W (λ ρ. Unit) (Declared.row HnsrAnswer.the-type) Path.refl (Copies.cEnum
+                      HnsrAnswer.the-type Laws.the-laws Laws.the-copy .copy 𝓤 H A W)
+                      (Rows.whole (Declared.row HnsrAnswer.the-type)) (λ x. x) (λ x. x) (λ ρ told. Local.mem-whole 𝓤 H
+                      A W (Declared.row HnsrAnswer.the-type) ρ) λ ρ told. Local.whole-mem 𝓤 H A W
+                      (Declared.row HnsrAnswer.the-type) ρ,
+                  Path.refl,
+                ),
+                tt,
+              ) (Reads'.room-gone 𝓤 H A (Syntax.tyInt Syntax.w64)) tt Path.refl) d2
+
           d4 : Typed.Typed 𝓤 H A 𝓣 E G72 b26 Δ1 (at4 bs)
-          d4 = Typed.g-pre 𝓤 H A W 𝓣 E G72 G73 b26 Δ1 (Typed.pass T72 T73 (s70 bs)) (at3 bs) (Scalar.g-room 𝓤 H A W E G72 13 Laws''''.mir
-              (Local.room-whole 𝓤 H A W (Declared'.row Relayed.the-type) Laws''''.mir Path.refl)) d3
+          d4 = Typed.g-pre 𝓤 H A W 𝓣 E G72 G73 b26 Δ1 (Typed.pass T72 T73 (s70 bs)) (at3 bs) (Scalar.g-room 𝓤 H A W E
+              G72 13 Laws''''.mir (Local.room-whole 𝓤 H A W (Declared'.row Relayed.the-type) Laws''''.mir Path.refl))
+              d3
+
           d5 : Typed.Typed 𝓤 H A 𝓣 E G71 b27 Δ1 (at5 bs)
-          d5 = Typed.s-seq 𝓤 H A W 𝓣 E G71 G72 b23 b26 Δ1 (Typed.pass T70 T72 (s69 bs)) (at4 bs) (CopyOut.t-copy-told 𝓤 H A W E 𝓣 (Declared.row
-              HnsrAnswer.the-type) Path.refl (Laws'''''.val HnsrAnswer.the-type Laws.the-laws) (Laws'''''.lawful HnsrAnswer.the-type Laws.the-laws 𝓤 H
-              A W tt) (Laws'''''.makes HnsrAnswer.the-type Laws.the-plain 𝓤 H A) G71 14 (Scalar.oFld 13 ((Syntax.field 1) ∷ List.[]) Laws.mir 160 λ x.
-              Laws'''''.val HnsrAnswer.the-type Laws.the-laws (Relayed.struct .as-values x .1 .0)) (λ m. Relayed.struct .as-values (m .1 .1 .1 .1 .1
-              .1 .1 .1 .1 .1 .1 .1 .1 .0) .1 .0) (λ m. Laws''''''.Is (Declared'.row Relayed.the-type) (m .1 .1 .1 .1 .1 .1 .1 .1 .1 .1 .1 .1 .1 .0)
-              (Laws'''''''.vals Relayed.the-type Laws''''.the-laws (m .1 .1 .1 .1 .1 .1 .1 .1 .1 .1 .1 .1 .1 .0))) (Reads'.room-gone 𝓤 H A Laws.mir)
-              (Reads.reads-field 𝓤 H A W Relayed.the-type Laws''''.the-laws 1 Laws.mir 160 Path.refl, Path.refl,) Path.refl (λ ρ m. Make.tells-row 𝓤 H
-              A W E ρ (Row.out 14 (G71 .locals)) m 13 (Laws''''''.Is (Declared'.row Relayed.the-type) (m .1 .1 .1 .1 .1 .1 .1 .1 .1 .1 .1 .1 .1 .0)
-              (Laws'''''''.vals Relayed.the-type Laws''''.the-laws (m .1 .1 .1 .1 .1 .1 .1 .1 .1 .1 .1 .1 .1 .0))) (Make.whole-is 𝓤 H A W E
-              (Declared'.row Relayed.the-type) Path.refl (Laws'''''''.val Relayed.the-type Laws''''.the-laws) (Laws'''''''.tells Relayed.the-type
-              Laws''''.the-laws) ρ 13 (m .1 .1 .1 .1 .1 .1 .1 .1 .1 .1 .1 .1 .1 .0))) (λ m k wa. Path.refl) λ m k wa. Laws'''''''.owed
-              Relayed.the-type Laws''''.the-laws (m .1 .1 .1 .1 .1 .1 .1 .1 .1 .1 .1 .1 .1 .0) (Laws'''''''.vals Relayed.the-type Laws''''.the-laws (m
-              .1 .1 .1 .1 .1 .1 .1 .1 .1 .1 .1 .1 .1 .0)) k .1 .0) d4
+          d5 = Typed.s-seq 𝓤 H A W 𝓣 E G71 G72 b23 b26 Δ1 (Typed.pass T70 T72 (s69 bs)) (at4 bs) (CopyOut.t-copy-told 𝓤
+              H A W E 𝓣 (Declared.row HnsrAnswer.the-type) Path.refl (Laws'''''.val HnsrAnswer.the-type Laws.the-laws) (Laws'''''.lawful
+              HnsrAnswer.the-type Laws.the-laws 𝓤 H A W tt) (Laws'''''.makes HnsrAnswer.the-type Laws.the-plain 𝓤 H A)
+              G71 14 (Scalar.oFld 13 ((Syntax.field 1) ∷ List.[]) Laws.mir 160 λ x. Laws'''''.val HnsrAnswer.the-type
+              Laws.the-laws (Relayed.struct .as-values x .1 .0)) (λ m. Relayed.struct .as-values
+              (m .1 .1 .1 .1 .1 .1 .1 .1 .1 .1 .1 .1 .1 .0) .1 .0) (λ m. Laws''''''.Is (Declared'.row Relayed.the-type)
+              (m .1 .1 .1 .1 .1 .1 .1 .1 .1 .1 .1 .1 .1 .0) (Laws'''''''.vals Relayed.the-type Laws''''.the-laws
+              (m .1 .1 .1 .1 .1 .1 .1 .1 .1 .1 .1 .1 .1 .0))) (Reads'.room-gone 𝓤 H A Laws.mir) (
+                Reads.reads-field 𝓤 H A W Relayed.the-type Laws''''.the-laws 1 Laws.mir 160 Path.refl,
+                Path.refl,
+              ) Path.refl (λ ρ m. Make.tells-row 𝓤 H A W E ρ (Row.out 14 (G71 .locals)) m 13 (Laws''''''.Is
+              (Declared'.row Relayed.the-type) (m .1 .1 .1 .1 .1 .1 .1 .1 .1 .1 .1 .1 .1 .0) (Laws'''''''.vals
+              Relayed.the-type Laws''''.the-laws (m .1 .1 .1 .1 .1 .1 .1 .1 .1 .1 .1 .1 .1 .0))) (Make.whole-is 𝓤 H A W
+              E (Declared'.row Relayed.the-type) Path.refl (Laws'''''''.val Relayed.the-type Laws''''.the-laws)
+              (Laws'''''''.tells Relayed.the-type Laws''''.the-laws) ρ 13
+              (m .1 .1 .1 .1 .1 .1 .1 .1 .1 .1 .1 .1 .1 .0))) (λ m k wa. Path.refl) λ m k wa. Laws'''''''.owed
+              Relayed.the-type Laws''''.the-laws (m .1 .1 .1 .1 .1 .1 .1 .1 .1 .1 .1 .1 .1 .0) (Laws'''''''.vals
+              Relayed.the-type Laws''''.the-laws (m .1 .1 .1 .1 .1 .1 .1 .1 .1 .1 .1 .1 .1 .0)) k .1 .0) d4
+
           d6 : Typed.Typed 𝓤 H A 𝓣 E G70 b27 Δ1 (at6 bs)
-          d6 = Typed.g-pre 𝓤 H A W 𝓣 E G70 G71 b27 Δ1 (λ Ψ. Ψ) (at5 bs) (Lifetime.g-forget 𝓤 H A W E G70 14 Row.dead Path.refl) d5
+          d6 = Typed.g-pre 𝓤 H A W 𝓣 E G70 G71 b27 Δ1 (λ Ψ. Ψ) (at5 bs)
+              (Lifetime.g-forget 𝓤 H A W E G70 14 Row.dead Path.refl) d5
+
           d7 : Typed.Typed 𝓤 H A 𝓣 E G69 b27 Δ1 (at7 bs)
-          d7 = Typed.g-pre 𝓤 H A W 𝓣 E G69 G70 b27 Δ1 (Typed.give (s67 bs)) (at6 bs) (Know.g-sl-known 𝓤 H A W (Referent.fInt Syntax.w32) E G69 5 4
-              ref9 life3 0 (λ x. x) record { fits = Dec.lit< tt } (Reads'.as-is 𝓤 H A (Mut.mslice (Referent.rtF (Referent.fInt Syntax.w32)) ref9 4))
-              Path.refl tt) d6
+          d7 = Typed.g-pre 𝓤 H A W 𝓣 E G69 G70 b27 Δ1 (Typed.give (s67 bs)) (at6 bs) (Know.g-sl-known 𝓤 H A W
+              (Referent.fInt Syntax.w32) E G69 5 4 ref9 life3 0 (λ x. x) record { fits = Dec.lit< tt } (Reads'.as-is 𝓤
+              H A (Mut.mslice (Referent.rtF (Referent.fInt Syntax.w32)) ref9 4)) Path.refl tt) d6
+
           d8 : Typed.Typed 𝓤 H A 𝓣 E G68 b27 Δ1 (at8 bs)
-          d8 = Typed.g-pre 𝓤 H A W 𝓣 E G68 G69 b27 Δ1 (Typed.both (s66 bs)) (at7 bs) (Relend.g-back-sl 𝓤 H A W E (Referent.rtF (Referent.fInt
-              Syntax.w32)) G68 35 5 4 14 ref9 ref3 life3 (λ x. x) (λ x. x) (Reads'.as-is 𝓤 H A (Mut.msleft (Referent.rtF (Referent.fInt Syntax.w32))
-              ref3)) (Reads'.as-is 𝓤 H A (Relend.mslice-owed (Referent.rtF (Referent.fInt Syntax.w32)) ref9 4 14 life3)) Path.refl Path.refl) d7
+          d8 = Typed.g-pre 𝓤 H A W 𝓣 E G68 G69 b27 Δ1 (Typed.both (s66 bs)) (at7 bs) (Relend.g-back-sl 𝓤 H A W E
+              (Referent.rtF (Referent.fInt Syntax.w32)) G68 35 5 4 14 ref9 ref3 life3 (λ x. x) (λ x. x) (Reads'.as-is 𝓤
+              H A (Mut.msleft (Referent.rtF (Referent.fInt Syntax.w32)) ref3)) (Reads'.as-is 𝓤 H A (Relend.mslice-owed
+              (Referent.rtF (Referent.fInt Syntax.w32)) ref9 4 14 life3)) Path.refl Path.refl) d7
+
           d9 : Typed.Typed 𝓤 H A 𝓣 E G67 b27 Δ1 (at9 bs)
           d9 = Typed.g-pre 𝓤 H A W 𝓣 E G67 G68 b27 Δ1 (λ Ψ. Ψ) (at8 bs) (Lifetime.g-end 𝓤 H A W E G67 14 Path.refl) d8
+
           d10 : Typed.Typed 𝓤 H A 𝓣 E G66 b27 Δ1 (at10 bs)
-          d10 = Typed.g-pre 𝓤 H A W 𝓣 E G66 G67 b27 Δ1 (λ Ψ. Ψ) (at9 bs) (Lifetime.g-forget 𝓤 H A W E G66 13 Row.dead Path.refl) d9
+          d10 = Typed.g-pre 𝓤 H A W 𝓣 E G66 G67 b27 Δ1 (λ Ψ. Ψ) (at9 bs)
+              (Lifetime.g-forget 𝓤 H A W E G66 13 Row.dead Path.refl) d9
+
           d11 : Typed.Typed 𝓤 H A 𝓣 E G65 b27 Δ1 (at11 bs)
-          d11 = Typed.g-pre 𝓤 H A W 𝓣 E G65 G66 b27 Δ1 (Typed.both (s63 bs)) (at10 bs) (Relend.g-back-sl 𝓤 H A W E InflightAction.row G65 33 4 3 13
-              ref8 ref2 life2 (λ x. x) (λ x. x) (Reads'.as-is 𝓤 H A (Mut.msleft InflightAction.row ref2)) (Reads'.as-is 𝓤 H A (Relend.mslice-owed
-              InflightAction.row ref8 3 13 life2)) Path.refl Path.refl) d10
+          d11 = Typed.g-pre 𝓤 H A W 𝓣 E G65 G66 b27 Δ1 (Typed.both (s63 bs)) (at10 bs) (Relend.g-back-sl 𝓤 H A W E
+              InflightAction.row G65 33 4 3 13 ref8 ref2 life2 (λ x. x) (λ x. x)
+              (Reads'.as-is 𝓤 H A (Mut.msleft InflightAction.row ref2)) (Reads'.as-is 𝓤 H A
+              (Relend.mslice-owed InflightAction.row ref8 3 13 life2)) Path.refl Path.refl) d10
+
           d12 : Typed.Typed 𝓤 H A 𝓣 E G64 b27 Δ1 (at12 bs)
-          d12 = Typed.g-pre 𝓤 H A W 𝓣 E G64 G65 b27 Δ1 (λ Ψ. Ψ) (at11 bs) (Lifetime.g-end 𝓤 H A W E G64 13 Path.refl) d11
+          d12 = Typed.g-pre 𝓤 H A W 𝓣 E G64 G65 b27 Δ1 (λ Ψ. Ψ) (at11 bs) (Lifetime.g-end 𝓤 H A W E G64 13 Path.refl)
+              d11
+
           d13 : Typed.Typed 𝓤 H A 𝓣 E G63 b27 Δ1 (at13 bs)
-          d13 = Typed.g-pre 𝓤 H A W 𝓣 E G63 G64 b27 Δ1 (λ Ψ. Ψ) (at12 bs) (Lifetime.g-forget 𝓤 H A W E G63 12 Row.dead Path.refl) d12
+          d13 = Typed.g-pre 𝓤 H A W 𝓣 E G63 G64 b27 Δ1 (λ Ψ. Ψ) (at12 bs)
+              (Lifetime.g-forget 𝓤 H A W E G63 12 Row.dead Path.refl) d12
+
           d14 : Typed.Typed 𝓤 H A 𝓣 E G62 b27 Δ1 (at14 bs)
-          d14 = Typed.g-pre 𝓤 H A W 𝓣 E G62 G63 b27 Δ1 (Typed.both (s60 bs)) (at13 bs) (Relend.g-back-sl 𝓤 H A W E ReservationUsage.row G62 31 3 2 12
-              ref7 ref4 life4 (λ x. x) (λ x. x) (Reads'.as-is 𝓤 H A (Mut.msleft ReservationUsage.row ref4)) (Reads'.as-is 𝓤 H A (Relend.mslice-owed
-              ReservationUsage.row ref7 2 12 life4)) Path.refl Path.refl) d13
+          d14 = Typed.g-pre 𝓤 H A W 𝓣 E G62 G63 b27 Δ1 (Typed.both (s60 bs)) (at13 bs) (Relend.g-back-sl 𝓤 H A W E
+              ReservationUsage.row G62 31 3 2 12 ref7 ref4 life4 (λ x. x) (λ x. x)
+              (Reads'.as-is 𝓤 H A (Mut.msleft ReservationUsage.row ref4)) (Reads'.as-is 𝓤 H A
+              (Relend.mslice-owed ReservationUsage.row ref7 2 12 life4)) Path.refl Path.refl) d13
+
           d15 : Typed.Typed 𝓤 H A 𝓣 E G61 b27 Δ1 (at15 bs)
-          d15 = Typed.g-pre 𝓤 H A W 𝓣 E G61 G62 b27 Δ1 (λ Ψ. Ψ) (at14 bs) (Lifetime.g-end 𝓤 H A W E G61 12 Path.refl) d14
+          d15 = Typed.g-pre 𝓤 H A W 𝓣 E G61 G62 b27 Δ1 (λ Ψ. Ψ) (at14 bs) (Lifetime.g-end 𝓤 H A W E G61 12 Path.refl)
+              d14
+
           d16 : Typed.Typed 𝓤 H A 𝓣 E G60 b27 Δ1 (at16 bs)
-          d16 = Typed.g-pre 𝓤 H A W 𝓣 E G60 G61 b27 Δ1 (λ Ψ. Ψ) (at15 bs) (Lifetime.g-forget 𝓤 H A W E G60 11 Row.dead Path.refl) d15
+          d16 = Typed.g-pre 𝓤 H A W 𝓣 E G60 G61 b27 Δ1 (λ Ψ. Ψ) (at15 bs)
+              (Lifetime.g-forget 𝓤 H A W E G60 11 Row.dead Path.refl) d15
+
           d17 : Typed.Typed 𝓤 H A 𝓣 E G59 b27 Δ1 (at17 bs)
-          d17 = Typed.g-pre 𝓤 H A W 𝓣 E G59 G60 b27 Δ1 (Typed.both (s57 bs)) (at16 bs) (Relend.g-back-sl 𝓤 H A W E RelayCircuit.row G59 29 2 1 11 ref6
-              ref1 life1 (λ x. x) (λ x. x) (Reads'.as-is 𝓤 H A (Mut.msleft RelayCircuit.row ref1)) (Reads'.as-is 𝓤 H A (Relend.mslice-owed
-              RelayCircuit.row ref6 1 11 life1)) Path.refl Path.refl) d16
+          d17 = Typed.g-pre 𝓤 H A W 𝓣 E G59 G60 b27 Δ1 (Typed.both (s57 bs)) (at16 bs) (Relend.g-back-sl 𝓤 H A W E
+              RelayCircuit.row G59 29 2 1 11 ref6 ref1 life1 (λ x. x) (λ x. x)
+              (Reads'.as-is 𝓤 H A (Mut.msleft RelayCircuit.row ref1)) (Reads'.as-is 𝓤 H A
+              (Relend.mslice-owed RelayCircuit.row ref6 1 11 life1)) Path.refl Path.refl) d16
+
           d18 : Typed.Typed 𝓤 H A 𝓣 E G58 b27 Δ1 (at18 bs)
-          d18 = Typed.g-pre 𝓤 H A W 𝓣 E G58 G59 b27 Δ1 (λ Ψ. Ψ) (at17 bs) (Lifetime.g-end 𝓤 H A W E G58 11 Path.refl) d17
+          d18 = Typed.g-pre 𝓤 H A W 𝓣 E G58 G59 b27 Δ1 (λ Ψ. Ψ) (at17 bs) (Lifetime.g-end 𝓤 H A W E G58 11 Path.refl)
+              d17
+
           d19 : Typed.Typed 𝓤 H A 𝓣 E G57 b27 Δ1 (at19 bs)
-          d19 = Typed.g-pre 𝓤 H A W 𝓣 E G57 G58 b27 Δ1 (λ Ψ. Ψ) (at18 bs) (Lifetime.g-forget 𝓤 H A W E G57 10 Row.dead Path.refl) d18
+          d19 = Typed.g-pre 𝓤 H A W 𝓣 E G57 G58 b27 Δ1 (λ Ψ. Ψ) (at18 bs)
+              (Lifetime.g-forget 𝓤 H A W E G57 10 Row.dead Path.refl) d18
+
           d20 : Typed.Typed 𝓤 H A 𝓣 E G56 b27 Δ1 (at20 bs)
-          d20 = Typed.g-pre 𝓤 H A W 𝓣 E G56 G57 b27 Δ1 (Typed.both (s54 bs)) (at19 bs) (Relend.g-back-sl 𝓤 H A W E RelayPending.row G56 27 1 0 10 ref5
-              ref0 life0 (λ x. x) (λ x. x) (Reads'.as-is 𝓤 H A (Mut.msleft RelayPending.row ref0)) (Reads'.as-is 𝓤 H A (Relend.mslice-owed
-              RelayPending.row ref5 0 10 life0)) Path.refl Path.refl) d19
+          d20 = Typed.g-pre 𝓤 H A W 𝓣 E G56 G57 b27 Δ1 (Typed.both (s54 bs)) (at19 bs) (Relend.g-back-sl 𝓤 H A W E
+              RelayPending.row G56 27 1 0 10 ref5 ref0 life0 (λ x. x) (λ x. x)
+              (Reads'.as-is 𝓤 H A (Mut.msleft RelayPending.row ref0)) (Reads'.as-is 𝓤 H A
+              (Relend.mslice-owed RelayPending.row ref5 0 10 life0)) Path.refl Path.refl) d19
+
           d21 : Typed.Typed 𝓤 H A 𝓣 E G55 b27 Δ1 (at21 bs)
-          d21 = Typed.g-pre 𝓤 H A W 𝓣 E G55 G56 b27 Δ1 (λ Ψ. Ψ) (at20 bs) (Lifetime.g-end 𝓤 H A W E G55 10 Path.refl) d20
+          d21 = Typed.g-pre 𝓤 H A W 𝓣 E G55 G56 b27 Δ1 (λ Ψ. Ψ) (at20 bs) (Lifetime.g-end 𝓤 H A W E G55 10 Path.refl)
+              d20
+
           d22 : Typed.Typed 𝓤 H A 𝓣 E G54 b27 Δ1 (at22 bs)
-          d22 = Typed.g-pre 𝓤 H A W 𝓣 E G54 G55 b27 Δ1 (Typed.pass T54 T55 (s52 bs)) (at21 bs) (Scalar.g-room 𝓤 H A W E G54 12 Laws''''.mir
-              (Local.room-whole 𝓤 H A W (Declared'.row Relayed.the-type) Laws''''.mir Path.refl)) d21
+          d22 = Typed.g-pre 𝓤 H A W 𝓣 E G54 G55 b27 Δ1 (Typed.pass T54 T55 (s52 bs)) (at21 bs) (Scalar.g-room 𝓤 H A W E
+              G54 12 Laws''''.mir (Local.room-whole 𝓤 H A W (Declared'.row Relayed.the-type) Laws''''.mir Path.refl))
+              d21
+
           d23 : Typed.Typed 𝓤 H A 𝓣 E G53 b27 Δ1 (at23 bs)
-          d23 = Typed.g-pre 𝓤 H A W 𝓣 E G53 G54 b27 Δ1 (Typed.pass T53 T54 (s51 bs)) (at22 bs) (Scalar.g-room 𝓤 H A W E G53 7 Laws''.mir
-              (Local.room-whole 𝓤 H A W (Declared'.row RelayPacket.the-type) Laws''.mir Path.refl)) d22
+          d23 = Typed.g-pre 𝓤 H A W 𝓣 E G53 G54 b27 Δ1 (Typed.pass T53 T54 (s51 bs)) (at22 bs) (Scalar.g-room 𝓤 H A W E
+              G53 7 Laws''.mir (Local.room-whole 𝓤 H A W (Declared'.row RelayPacket.the-type) Laws''.mir Path.refl))
+              d22
+
           d24 : Typed.Typed 𝓤 H A 𝓣 E G52 b28 Δ1 (at24 bs)
-          d24 = Typed.s-seq 𝓤 H A W 𝓣 E G52 G53 b22 b27 Δ1 (Typed.both (s50 bs)) (at23 bs) (Plain.t-call-plain 𝓤 H A W 𝓣 6 ps·1 r·1 (claims· .2)
-              (claims· .3) "cases::machine::deliver" (known .1) E (λ pos β. β) G52 (record { pos = 27; ty = Syntax.tyRef Syntax.erased Syntax.mut
-              RelayPending.to; ref = λ x. x; }, (record { pos = 29; ty = Syntax.tyRef Syntax.erased Syntax.mut RelayCircuit.to; ref = λ x. x; },
-              (record { pos = 31; ty = Syntax.tyRef Syntax.erased Syntax.mut ReservationUsage.to; ref = λ x. x; }, (record { pos = 33; ty =
-              Syntax.tyRef Syntax.erased Syntax.mut InflightAction.to; ref = λ x. x; }, (record { pos = 35; ty = Syntax.tyRef Syntax.erased Syntax.mut
-              (Syntax.tyInt Syntax.w32); ref = λ x. x; }, (record { pos = 12; st = List.[]; d = 0; at = λ x. x }, (record { pos = 7; st = List.[]; d =
-              0; at = λ x. x }, (Num.vLit 1, (record { pos = 8; ty = Syntax.tyRef (Syntax.named 5) Syntax.imm (Syntax.tyInt Syntax.w8); ref = λ x. x;
-              }, tt,),),),),),),),),) 13 (10 ∷ 11 ∷ 12 ∷ 13 ∷ 14 ∷ 5 ∷ List.[]) (Call.sub-id 𝓤 H A W (G52 .slots)) (Reads'.as-is 𝓤 H A (Mut.mslice
-              RelayPending.row ref0 10), Mut.reads-mslice 𝓤 H A W RelayPending.row ref0 10, Path.refl, (Reads'.as-is 𝓤 H A (Mut.mslice
-              RelayCircuit.row ref1 11), Mut.reads-mslice 𝓤 H A W RelayCircuit.row ref1 11, Path.refl, (Reads'.as-is 𝓤 H A (Mut.mslice
-              ReservationUsage.row ref4 12), Mut.reads-mslice 𝓤 H A W ReservationUsage.row ref4 12, Path.refl, (Reads'.as-is 𝓤 H A (Mut.mslice
-              InflightAction.row ref2 13), Mut.reads-mslice 𝓤 H A W InflightAction.row ref2 13, Path.refl, (Reads'.as-is 𝓤 H A (Mut.mslice
-              (Referent.rtF (Referent.fInt Syntax.w32)) ref3 14), Mut.reads-mslice 𝓤 H A W (Referent.rtF (Referent.fInt Syntax.w32)) ref3 14,
-              Path.refl, ((Yields.yields-copy 𝓤 H A W (λ ρ. Unit) (Declared'.row Relayed.the-type) Path.refl (Copies.cStruct Relayed.the-type
-              Laws''''.the-laws Laws''''.the-copy .copy 𝓤 H A W) (Rows.whole (Declared'.row Relayed.the-type)) (λ x. x) (λ x. x) (λ ρ told.
-              Local.mem-whole 𝓤 H A W (Declared'.row Relayed.the-type) ρ) λ ρ told. Local.whole-mem 𝓤 H A W (Declared'.row Relayed.the-type) ρ,
-              Path.refl,), ((Yields.yields-copy 𝓤 H A W (λ ρ. Unit) (Declared'.row RelayPacket.the-type) Path.refl (Copies.cStruct
-              RelayPacket.the-type Laws''.the-laws Laws''.the-copy .copy 𝓤 H A W) (Rows.whole (Declared'.row RelayPacket.the-type)) (λ x. x) (λ x. x)
-              (λ ρ told. Local.mem-whole 𝓤 H A W (Declared'.row RelayPacket.the-type) ρ) λ ρ told. Local.whole-mem 𝓤 H A W (Declared'.row
-              RelayPacket.the-type) ρ, Path.refl,), (tt, (ShrSlice.spares-sslice 𝓤 H A W (Referent.rtF (Referent.fInt Syntax.w8)) ref10 5,
-              Shared.reads-sslice 𝓤 H A W (Referent.rtF (Referent.fInt Syntax.w8)) ref10 5, Path.refl, tt,),),),),),),),),) (Reads'.room-gone 𝓤 H A
-              Laws''''.mir) (tt, (tt, (tt, (tt, (tt, (tt, tt)))))) Path.refl) d23
+          d24 = Typed.s-seq 𝓤 H A W 𝓣 E G52 G53 b22 b27 Δ1 (Typed.both (s50 bs)) (at23 bs) (Plain.t-call-plain 𝓤 H A W
+              𝓣 6 ps·1 r·1 (claims· .2) (claims· .3) "cases::machine::deliver" (known .1) E (λ pos β. β) G52 (
+                record { pos = 27; ty = ref0; ref = λ x. x },
+                (
+                  record { pos = 29; ty = ref1; ref = λ x. x },
+                  (
+                    record { pos = 31; ty = ref4; ref = λ x. x },
+                    (
+                      record { pos = 33; ty = ref2; ref = λ x. x },
+                      (
+                        record { pos = 35; ty = ref3; ref = λ x. x },
+                        (
+                          record { pos = 12; st = List.[]; d = 0; at = λ x. x },
+                          (
+                            record { pos = 7; st = List.[]; d = 0; at = λ x. x },
+                            (Num.vLit 1, (record { pos = 8; ty = ref10; ref = λ x. x }, tt)),
+                          ),
+                        ),
+                      ),
+                    ),
+                  ),
+                ),
+              ) 13 (10 ∷ 11 ∷ 12 ∷ 13 ∷ 14 ∷ 5 ∷ List.[]) (Call.sub-id 𝓤 H A W (G52 .slots)) (
+                Reads'.as-is 𝓤 H A (Mut.mslice RelayPending.row ref0 10),
+                Mut.reads-mslice 𝓤 H A W RelayPending.row ref0 10,
+                Path.refl,
+                (
+                  Reads'.as-is 𝓤 H A (Mut.mslice RelayCircuit.row ref1 11),
+                  Mut.reads-mslice 𝓤 H A W RelayCircuit.row ref1 11,
+                  Path.refl,
+                  (
+                    Reads'.as-is 𝓤 H A (Mut.mslice ReservationUsage.row ref4 12),
+                    Mut.reads-mslice 𝓤 H A W ReservationUsage.row ref4 12,
+                    Path.refl,
+                    (
+                      Reads'.as-is 𝓤 H A (Mut.mslice InflightAction.row ref2 13),
+                      Mut.reads-mslice 𝓤 H A W InflightAction.row ref2 13,
+                      Path.refl,
+                      (
+                        Reads'.as-is 𝓤 H A (Mut.mslice (Referent.rtF (Referent.fInt Syntax.w32)) ref3 14),
+                        Mut.reads-mslice 𝓤 H A W (Referent.rtF (Referent.fInt Syntax.w32)) ref3 14,
+                        Path.refl,
+                        (
+                          (
+                            Yields.yields-copy 𝓤 H A W (λ ρ. Unit) (Declared'.row Relayed.the-type) Path.refl (Copies.cStruct
+                                Relayed.the-type Laws''''.the-laws Laws''''.the-copy .copy 𝓤 H A W)
+                                (Rows.whole (Declared'.row Relayed.the-type)) (λ x. x) (λ x. x) (λ ρ told.
+                                Local.mem-whole 𝓤 H A W (Declared'.row Relayed.the-type) ρ) λ ρ told. Local.whole-mem 𝓤
+                                H A W (Declared'.row Relayed.the-type) ρ,
+                            Path.refl,
+                          ),
+                          (
+                            (
+                              Yields.yields-copy 𝓤 H A W (λ ρ. Unit) (Declared'.row RelayPacket.the-type) Path.refl (Copies.cStruct
+                                  RelayPacket.the-type Laws''.the-laws Laws''.the-copy .copy 𝓤 H A W)
+                                  (Rows.whole (Declared'.row RelayPacket.the-type)) (λ x. x) (λ x. x) (λ ρ told.
+                                  Local.mem-whole 𝓤 H A W (Declared'.row RelayPacket.the-type) ρ) λ ρ told.
+                                  Local.whole-mem 𝓤 H A W (Declared'.row RelayPacket.the-type) ρ,
+                              Path.refl,
+                            ),
+                            (
+                              tt,
+                              (
+                                ShrSlice.spares-sslice 𝓤 H A W (Referent.rtF (Referent.fInt Syntax.w8)) ref10 5,
+                                Shared.reads-sslice 𝓤 H A W (Referent.rtF (Referent.fInt Syntax.w8)) ref10 5,
+                                Path.refl,
+                                tt,
+                              ),
+                            ),
+                          ),
+                        ),
+                      ),
+                    ),
+                  ),
+                ),
+              ) (Reads'.room-gone 𝓤 H A Laws''''.mir) (tt, (tt, (tt, (tt, (tt, (tt, tt)))))) Path.refl) d23
+
           d25 : Typed.Typed 𝓤 H A 𝓣 E G51 b29 Δ1 (at25 bs)
-          d25 = Typed.s-seq 𝓤 H A W 𝓣 E G51 G52 b21 b28 Δ1 (Typed.ask (s49 bs)) (at24 bs) (Relend.t-sl-aggregate 𝓤 H A W E (Referent.rtF
-              (Referent.fInt Syntax.w32)) 𝓣 (Relend.asMut (Referent.rtF (Referent.fInt Syntax.w32))) G51 34 35 14 ref3 ref3 (λ x. x) (Scalar.oFld 5
-              ((Syntax.field 1) ∷ List.[]) (Syntax.tyInt Syntax.w64) 8 λ v. Shared.lenV (v .0)) (Reads'.as-is 𝓤 H A (Relend.msptr (Referent.rtF
-              (Referent.fInt Syntax.w32)) ref3 14)) (Reads'.room-gone 𝓤 H A (Syntax.tyStruct (38 ∷ 91 ∷ 93 ∷ List.[]) (Syntax.tcons ref3 (Syntax.tcons
-              (Syntax.tyInt Syntax.w64) Syntax.tnil)))) (Relend.reads-owed-len 𝓤 H A W (Referent.rtF (Referent.fInt Syntax.w32)) ref9 4 14 life3 8
-              Path.refl, Path.refl,) Path.refl Path.refl λ b o k. tt) d24
+          d25 = Typed.s-seq 𝓤 H A W 𝓣 E G51 G52 b21 b28 Δ1 (Typed.ask (s49 bs)) (at24 bs) (Relend.t-sl-aggregate 𝓤 H A
+              W E (Referent.rtF (Referent.fInt Syntax.w32)) 𝓣 (Relend.asMut (Referent.rtF (Referent.fInt Syntax.w32)))
+              G51 34 35 14 ref3 ref3 (λ x. x) (Scalar.oFld 5 ((Syntax.field 1) ∷ List.[]) (Syntax.tyInt Syntax.w64) 8
+              λ v. Shared.lenV (v .0)) (Reads'.as-is 𝓤 H A (Relend.msptr (Referent.rtF (Referent.fInt Syntax.w32)) ref3
+              14)) (Reads'.room-gone 𝓤 H A slice3) (
+                Relend.reads-owed-len 𝓤 H A W (Referent.rtF (Referent.fInt Syntax.w32)) ref9 4 14 life3 8 Path.refl,
+                Path.refl,
+              ) Path.refl Path.refl λ b o k. tt) d24
+
           d26 : Typed.Typed 𝓤 H A 𝓣 E G50 b30 Δ1 (at26 bs)
-          d26 = Typed.s-seq 𝓤 H A W 𝓣 E G50 G51 b20 b29 Δ1 (Typed.give (s48 bs)) (at25 bs) (Relend.t-sl-relend 𝓤 H A W E (Referent.rtF (Referent.fInt
-              Syntax.w32)) 𝓣 G50 5 34 4 14 ref9 ref3 life3 0 (λ x. x) (Reads'.as-is 𝓤 H A (Mut.mslice (Referent.rtF (Referent.fInt Syntax.w32)) ref9
-              4)) (Reads'.room-gone 𝓤 H A ref3) Path.refl tt Path.refl Path.refl Path.refl λ b o. tt) d25
+          d26 = Typed.s-seq 𝓤 H A W 𝓣 E G50 G51 b20 b29 Δ1 (Typed.give (s48 bs)) (at25 bs) (Relend.t-sl-relend 𝓤 H A W
+              E (Referent.rtF (Referent.fInt Syntax.w32)) 𝓣 G50 5 34 4 14 ref9 ref3 life3 0 (λ x. x) (Reads'.as-is 𝓤 H
+              A (Mut.mslice (Referent.rtF (Referent.fInt Syntax.w32)) ref9 4)) (Reads'.room-gone 𝓤 H A ref3) Path.refl
+              tt Path.refl Path.refl Path.refl λ b o. tt) d25
+
           d27 : Typed.Typed 𝓤 H A 𝓣 E G49 b30 Δ1 (at27 bs)
-          d27 = Typed.g-pre 𝓤 H A W 𝓣 E G49 G50 b30 Δ1 (λ Ψ. Ψ) (at26 bs) (Lifetime.g-begin 𝓤 H A W E G49 14 (tt, ((tt, tt), ((tt, tt), ((tt, tt),
-              ((tt, tt), (tt, (tt, (tt, (tt, (tt, (tt, (tt, (tt, (tt, (tt, (tt, (tt, (tt, (tt, (tt, (tt, (tt, (tt, (tt, (tt, (tt, (tt, (tt, (tt, (tt,
-              (tt, (tt, (tt, (tt, (tt, (tt, (tt, (tt, (tt, (tt, (tt, (tt, (tt, (tt, (tt, (tt,
-              tt,),),),),),),),),),),),),),),),),),),),),),),),),),),),),),),),),),),),),),),),),),),),),),)) d26
+          d27 = Typed.g-pre 𝓤 H A W 𝓣 E G49 G50 b30 Δ1 (λ Ψ. Ψ) (at26 bs) (Lifetime.g-begin 𝓤 H A W E G49 14 (
+            tt,
+            (
+              (tt, tt),
+              (
+                (tt, tt),
+                (
+                  (tt, tt),
+                  (
+                    (tt, tt),
+                    (
+                      tt,
+                      (
+                        tt,
+                        (
+                          tt,
+                          (
+                            tt,
+                            (
+                              tt,
+                              (
+                                tt,
+                                (
+                                  tt,
+                                  (
+                                    tt,
+                                    (
+                                      tt,
+                                      (
+                                        tt,
+                                        (
+                                          tt,
+                                          (
+                                            tt,
+                                            (
+                                              tt,
+                                              (
+                                                tt,
+                                                (
+                                                  tt,
+                                                  (
+                                                    tt,
+                                                    (
+                                                      tt,
+                                                      (
+                                                        tt,
+                                                        (
+                                                          tt,
+                                                          (
+                                                            tt,
+                                                            (
+                                                              tt,
+                                                              (
+                                                                tt,
+                                                                (
+                                                                  tt,
+                                                                  (
+                                                                    tt,
+                                                                    (
+                                                                      tt,
+                                                                      (
+                                                                        tt,
+                                                                        (
+                                                                          tt,
+                                                                          (
+                                                                            tt,
+                                                                            (
+                                                                              tt,
+                                                                              (
+                                                                                tt,
+                                                                                (
+                                                                                  tt,
+                                                                                  (
+                                                                                    tt,
+                                                                                    (
+                                                                                      tt,
+                                                                                      (
+                                                                                        tt,
+                                                                                        (
+                                                                                          tt,
+                                                                                          (
+                                                                                            tt,
+                                                                                            (
+                                                                                              tt,
+                                                                                              (
+                                                                                                tt,
+                                                                                                (tt, (tt, (tt, tt))),
+                                                                                              ),
+                                                                                            ),
+                                                                                          ),
+                                                                                        ),
+                                                                                      ),
+                                                                                    ),
+                                                                                  ),
+                                                                                ),
+                                                                              ),
+                                                                            ),
+                                                                          ),
+                                                                        ),
+                                                                      ),
+                                                                    ),
+                                                                  ),
+                                                                ),
+                                                              ),
+                                                            ),
+                                                          ),
+                                                        ),
+                                                      ),
+                                                    ),
+                                                  ),
+                                                ),
+                                              ),
+                                            ),
+                                          ),
+                                        ),
+                                      ),
+                                    ),
+                                  ),
+                                ),
+                              ),
+                            ),
+                          ),
+                        ),
+                      ),
+                    ),
+                  ),
+                ),
+              ),
+            ),
+          )) d26
+
           d28 : Typed.Typed 𝓤 H A 𝓣 E G48 b31 Δ1 (at28 bs)
-          d28 = Typed.s-seq 𝓤 H A W 𝓣 E G48 G49 b19 b30 Δ1 (Typed.ask (s46 bs)) (at27 bs) (Relend.t-sl-aggregate 𝓤 H A W E InflightAction.row 𝓣
-              (Relend.asMut InflightAction.row) G48 32 33 13 ref2 ref2 (λ x. x) (Scalar.oFld 4 ((Syntax.field 1) ∷ List.[]) (Syntax.tyInt Syntax.w64)
-              8 λ v. Shared.lenV (v .0)) (Reads'.as-is 𝓤 H A (Relend.msptr InflightAction.row ref2 13)) (Reads'.room-gone 𝓤 H A (Syntax.tyStruct (38 ∷
-              91 ∷ 93 ∷ List.[]) (Syntax.tcons ref2 (Syntax.tcons (Syntax.tyInt Syntax.w64) Syntax.tnil)))) (Relend.reads-owed-len 𝓤 H A W
-              InflightAction.row ref8 3 13 life2 8 Path.refl, Path.refl,) Path.refl Path.refl λ b o k. tt) d27
+          d28 = Typed.s-seq 𝓤 H A W 𝓣 E G48 G49 b19 b30 Δ1 (Typed.ask (s46 bs)) (at27 bs) (Relend.t-sl-aggregate 𝓤 H A
+              W E InflightAction.row 𝓣 (Relend.asMut InflightAction.row) G48 32 33 13 ref2 ref2 (λ x. x) (Scalar.oFld 4
+              ((Syntax.field 1) ∷ List.[]) (Syntax.tyInt Syntax.w64) 8 λ v. Shared.lenV (v .0)) (Reads'.as-is 𝓤 H A
+              (Relend.msptr InflightAction.row ref2 13)) (Reads'.room-gone 𝓤 H A slice2) (
+                Relend.reads-owed-len 𝓤 H A W InflightAction.row ref8 3 13 life2 8 Path.refl,
+                Path.refl,
+              ) Path.refl Path.refl λ b o k. tt) d27
+
           d29 : Typed.Typed 𝓤 H A 𝓣 E G47 b32 Δ1 (at29 bs)
-          d29 = Typed.s-seq 𝓤 H A W 𝓣 E G47 G48 b18 b31 Δ1 (Typed.give (s45 bs)) (at28 bs) (Relend.t-sl-relend 𝓤 H A W E InflightAction.row 𝓣 G47 4 32
-              3 13 ref8 ref2 life2 0 (λ x. x) (Reads'.as-is 𝓤 H A (Mut.mslice InflightAction.row ref8 3)) (Reads'.room-gone 𝓤 H A ref2) Path.refl tt
+          d29 = Typed.s-seq 𝓤 H A W 𝓣 E G47 G48 b18 b31 Δ1 (Typed.give (s45 bs)) (at28 bs) (Relend.t-sl-relend 𝓤 H A W
+              E InflightAction.row 𝓣 G47 4 32 3 13 ref8 ref2 life2 0 (λ x. x)
+              (Reads'.as-is 𝓤 H A (Mut.mslice InflightAction.row ref8 3)) (Reads'.room-gone 𝓤 H A ref2) Path.refl tt
               Path.refl Path.refl Path.refl λ b o. tt) d28
+
           d30 : Typed.Typed 𝓤 H A 𝓣 E G46 b32 Δ1 (at30 bs)
-          d30 = Typed.g-pre 𝓤 H A W 𝓣 E G46 G47 b32 Δ1 (λ Ψ. Ψ) (at29 bs) (Lifetime.g-begin 𝓤 H A W E G46 13 (tt, ((tt, tt), ((tt, tt), ((tt, tt),
-              (tt, (tt, (tt, (tt, (tt, (tt, (tt, (tt, (tt, (tt, (tt, (tt, (tt, (tt, (tt, (tt, (tt, (tt, (tt, (tt, (tt, (tt, (tt, (tt, (tt, (tt, (tt,
-              (tt, (tt, (tt, (tt, (tt, (tt, (tt, (tt, (tt, (tt, (tt, (tt, (tt, (tt, (tt,
-              tt,),),),),),),),),),),),),),),),),),),),),),),),),),),),),),),),),),),),),),),),),),),),),),)) d29
+          d30 = Typed.g-pre 𝓤 H A W 𝓣 E G46 G47 b32 Δ1 (λ Ψ. Ψ) (at29 bs) (Lifetime.g-begin 𝓤 H A W E G46 13 (
+            tt,
+            (
+              (tt, tt),
+              (
+                (tt, tt),
+                (
+                  (tt, tt),
+                  (
+                    tt,
+                    (
+                      tt,
+                      (
+                        tt,
+                        (
+                          tt,
+                          (
+                            tt,
+                            (
+                              tt,
+                              (
+                                tt,
+                                (
+                                  tt,
+                                  (
+                                    tt,
+                                    (
+                                      tt,
+                                      (
+                                        tt,
+                                        (
+                                          tt,
+                                          (
+                                            tt,
+                                            (
+                                              tt,
+                                              (
+                                                tt,
+                                                (
+                                                  tt,
+                                                  (
+                                                    tt,
+                                                    (
+                                                      tt,
+                                                      (
+                                                        tt,
+                                                        (
+                                                          tt,
+                                                          (
+                                                            tt,
+                                                            (
+                                                              tt,
+                                                              (
+                                                                tt,
+                                                                (
+                                                                  tt,
+                                                                  (
+                                                                    tt,
+                                                                    (
+                                                                      tt,
+                                                                      (
+                                                                        tt,
+                                                                        (
+                                                                          tt,
+                                                                          (
+                                                                            tt,
+                                                                            (
+                                                                              tt,
+                                                                              (
+                                                                                tt,
+                                                                                (
+                                                                                  tt,
+                                                                                  (
+                                                                                    tt,
+                                                                                    (
+                                                                                      tt,
+                                                                                      (
+                                                                                        tt,
+                                                                                        (
+                                                                                          tt,
+                                                                                          (
+                                                                                            tt,
+                                                                                            (
+                                                                                              tt,
+                                                                                              (
+                                                                                                tt,
+                                                                                                (tt, (tt, (tt, tt))),
+                                                                                              ),
+                                                                                            ),
+                                                                                          ),
+                                                                                        ),
+                                                                                      ),
+                                                                                    ),
+                                                                                  ),
+                                                                                ),
+                                                                              ),
+                                                                            ),
+                                                                          ),
+                                                                        ),
+                                                                      ),
+                                                                    ),
+                                                                  ),
+                                                                ),
+                                                              ),
+                                                            ),
+                                                          ),
+                                                        ),
+                                                      ),
+                                                    ),
+                                                  ),
+                                                ),
+                                              ),
+                                            ),
+                                          ),
+                                        ),
+                                      ),
+                                    ),
+                                  ),
+                                ),
+                              ),
+                            ),
+                          ),
+                        ),
+                      ),
+                    ),
+                  ),
+                ),
+              ),
+            ),
+          )) d29
+
           d31 : Typed.Typed 𝓤 H A 𝓣 E G45 b33 Δ1 (at31 bs)
-          d31 = Typed.s-seq 𝓤 H A W 𝓣 E G45 G46 b17 b32 Δ1 (Typed.ask (s43 bs)) (at30 bs) (Relend.t-sl-aggregate 𝓤 H A W E ReservationUsage.row 𝓣
-              (Relend.asMut ReservationUsage.row) G45 30 31 12 ref4 ref4 (λ x. x) (Scalar.oFld 3 ((Syntax.field 1) ∷ List.[]) (Syntax.tyInt
-              Syntax.w64) 8 λ v. Shared.lenV (v .0)) (Reads'.as-is 𝓤 H A (Relend.msptr ReservationUsage.row ref4 12)) (Reads'.room-gone 𝓤 H A
-              (Syntax.tyStruct (38 ∷ 91 ∷ 93 ∷ List.[]) (Syntax.tcons ref4 (Syntax.tcons (Syntax.tyInt Syntax.w64) Syntax.tnil))))
-              (Relend.reads-owed-len 𝓤 H A W ReservationUsage.row ref7 2 12 life4 8 Path.refl, Path.refl,) Path.refl Path.refl λ b o k. tt) d30
+          d31 = Typed.s-seq 𝓤 H A W 𝓣 E G45 G46 b17 b32 Δ1 (Typed.ask (s43 bs)) (at30 bs) (Relend.t-sl-aggregate 𝓤 H A
+              W E ReservationUsage.row 𝓣 (Relend.asMut ReservationUsage.row) G45 30 31 12 ref4 ref4 (λ x. x) (Scalar.oFld
+              3 ((Syntax.field 1) ∷ List.[]) (Syntax.tyInt Syntax.w64) 8 λ v. Shared.lenV (v .0)) (Reads'.as-is 𝓤 H A
+              (Relend.msptr ReservationUsage.row ref4 12)) (Reads'.room-gone 𝓤 H A slice4) (
+                Relend.reads-owed-len 𝓤 H A W ReservationUsage.row ref7 2 12 life4 8 Path.refl,
+                Path.refl,
+              ) Path.refl Path.refl λ b o k. tt) d30
+
           d32 : Typed.Typed 𝓤 H A 𝓣 E G44 b34 Δ1 (at32 bs)
-          d32 = Typed.s-seq 𝓤 H A W 𝓣 E G44 G45 b16 b33 Δ1 (Typed.give (s42 bs)) (at31 bs) (Relend.t-sl-relend 𝓤 H A W E ReservationUsage.row 𝓣 G44 3
-              30 2 12 ref7 ref4 life4 0 (λ x. x) (Reads'.as-is 𝓤 H A (Mut.mslice ReservationUsage.row ref7 2)) (Reads'.room-gone 𝓤 H A ref4) Path.refl
-              tt Path.refl Path.refl Path.refl λ b o. tt) d31
+          d32 = Typed.s-seq 𝓤 H A W 𝓣 E G44 G45 b16 b33 Δ1 (Typed.give (s42 bs)) (at31 bs) (Relend.t-sl-relend 𝓤 H A W
+              E ReservationUsage.row 𝓣 G44 3 30 2 12 ref7 ref4 life4 0 (λ x. x) (Reads'.as-is 𝓤 H A
+              (Mut.mslice ReservationUsage.row ref7 2)) (Reads'.room-gone 𝓤 H A ref4) Path.refl tt Path.refl Path.refl
+              Path.refl λ b o. tt) d31
+
           d33 : Typed.Typed 𝓤 H A 𝓣 E G43 b34 Δ1 (at33 bs)
-          d33 = Typed.g-pre 𝓤 H A W 𝓣 E G43 G44 b34 Δ1 (λ Ψ. Ψ) (at32 bs) (Lifetime.g-begin 𝓤 H A W E G43 12 (tt, ((tt, tt), ((tt, tt), (tt, (tt, (tt,
-              (tt, (tt, (tt, (tt, (tt, (tt, (tt, (tt, (tt, (tt, (tt, (tt, (tt, (tt, (tt, (tt, (tt, (tt, (tt, (tt, (tt, (tt, (tt, (tt, (tt, (tt, (tt,
-              (tt, (tt, (tt, (tt, (tt, (tt, (tt, (tt, (tt, (tt, (tt, (tt, (tt,
-              tt,),),),),),),),),),),),),),),),),),),),),),),),),),),),),),),),),),),),),),),),),),),),),),)) d32
+          d33 = Typed.g-pre 𝓤 H A W 𝓣 E G43 G44 b34 Δ1 (λ Ψ. Ψ) (at32 bs) (Lifetime.g-begin 𝓤 H A W E G43 12 (
+            tt,
+            (
+              (tt, tt),
+              (
+                (tt, tt),
+                (
+                  tt,
+                  (
+                    tt,
+                    (
+                      tt,
+                      (
+                        tt,
+                        (
+                          tt,
+                          (
+                            tt,
+                            (
+                              tt,
+                              (
+                                tt,
+                                (
+                                  tt,
+                                  (
+                                    tt,
+                                    (
+                                      tt,
+                                      (
+                                        tt,
+                                        (
+                                          tt,
+                                          (
+                                            tt,
+                                            (
+                                              tt,
+                                              (
+                                                tt,
+                                                (
+                                                  tt,
+                                                  (
+                                                    tt,
+                                                    (
+                                                      tt,
+                                                      (
+                                                        tt,
+                                                        (
+                                                          tt,
+                                                          (
+                                                            tt,
+                                                            (
+                                                              tt,
+                                                              (
+                                                                tt,
+                                                                (
+                                                                  tt,
+                                                                  (
+                                                                    tt,
+                                                                    (
+                                                                      tt,
+                                                                      (
+                                                                        tt,
+                                                                        (
+                                                                          tt,
+                                                                          (
+                                                                            tt,
+                                                                            (
+                                                                              tt,
+                                                                              (
+                                                                                tt,
+                                                                                (
+                                                                                  tt,
+                                                                                  (
+                                                                                    tt,
+                                                                                    (
+                                                                                      tt,
+                                                                                      (
+                                                                                        tt,
+                                                                                        (
+                                                                                          tt,
+                                                                                          (
+                                                                                            tt,
+                                                                                            (
+                                                                                              tt,
+                                                                                              (
+                                                                                                tt,
+                                                                                                (tt, (tt, (tt, tt))),
+                                                                                              ),
+                                                                                            ),
+                                                                                          ),
+                                                                                        ),
+                                                                                      ),
+                                                                                    ),
+                                                                                  ),
+                                                                                ),
+                                                                              ),
+                                                                            ),
+                                                                          ),
+                                                                        ),
+                                                                      ),
+                                                                    ),
+                                                                  ),
+                                                                ),
+                                                              ),
+                                                            ),
+                                                          ),
+                                                        ),
+                                                      ),
+                                                    ),
+                                                  ),
+                                                ),
+                                              ),
+                                            ),
+                                          ),
+                                        ),
+                                      ),
+                                    ),
+                                  ),
+                                ),
+                              ),
+                            ),
+                          ),
+                        ),
+                      ),
+                    ),
+                  ),
+                ),
+              ),
+            ),
+          )) d32
+
           d34 : Typed.Typed 𝓤 H A 𝓣 E G42 b35 Δ1 (at34 bs)
-          d34 = Typed.s-seq 𝓤 H A W 𝓣 E G42 G43 b15 b34 Δ1 (Typed.ask (s40 bs)) (at33 bs) (Relend.t-sl-aggregate 𝓤 H A W E RelayCircuit.row 𝓣
-              (Relend.asMut RelayCircuit.row) G42 28 29 11 ref1 ref1 (λ x. x) (Scalar.oFld 2 ((Syntax.field 1) ∷ List.[]) (Syntax.tyInt Syntax.w64) 8
-              λ v. Shared.lenV (v .0)) (Reads'.as-is 𝓤 H A (Relend.msptr RelayCircuit.row ref1 11)) (Reads'.room-gone 𝓤 H A (Syntax.tyStruct (38 ∷ 91
-              ∷ 93 ∷ List.[]) (Syntax.tcons ref1 (Syntax.tcons (Syntax.tyInt Syntax.w64) Syntax.tnil)))) (Relend.reads-owed-len 𝓤 H A W
-              RelayCircuit.row ref6 1 11 life1 8 Path.refl, Path.refl,) Path.refl Path.refl λ b o k. tt) d33
+          d34 = Typed.s-seq 𝓤 H A W 𝓣 E G42 G43 b15 b34 Δ1 (Typed.ask (s40 bs)) (at33 bs) (Relend.t-sl-aggregate 𝓤 H A
+              W E RelayCircuit.row 𝓣 (Relend.asMut RelayCircuit.row) G42 28 29 11 ref1 ref1 (λ x. x) (Scalar.oFld 2
+              ((Syntax.field 1) ∷ List.[]) (Syntax.tyInt Syntax.w64) 8 λ v. Shared.lenV (v .0)) (Reads'.as-is 𝓤 H A
+              (Relend.msptr RelayCircuit.row ref1 11)) (Reads'.room-gone 𝓤 H A slice1) (
+                Relend.reads-owed-len 𝓤 H A W RelayCircuit.row ref6 1 11 life1 8 Path.refl,
+                Path.refl,
+              ) Path.refl Path.refl λ b o k. tt) d33
+
           d35 : Typed.Typed 𝓤 H A 𝓣 E G41 b36 Δ1 (at35 bs)
-          d35 = Typed.s-seq 𝓤 H A W 𝓣 E G41 G42 b14 b35 Δ1 (Typed.give (s39 bs)) (at34 bs) (Relend.t-sl-relend 𝓤 H A W E RelayCircuit.row 𝓣 G41 2 28 1
-              11 ref6 ref1 life1 0 (λ x. x) (Reads'.as-is 𝓤 H A (Mut.mslice RelayCircuit.row ref6 1)) (Reads'.room-gone 𝓤 H A ref1) Path.refl tt
+          d35 = Typed.s-seq 𝓤 H A W 𝓣 E G41 G42 b14 b35 Δ1 (Typed.give (s39 bs)) (at34 bs) (Relend.t-sl-relend 𝓤 H A W
+              E RelayCircuit.row 𝓣 G41 2 28 1 11 ref6 ref1 life1 0 (λ x. x)
+              (Reads'.as-is 𝓤 H A (Mut.mslice RelayCircuit.row ref6 1)) (Reads'.room-gone 𝓤 H A ref1) Path.refl tt
               Path.refl Path.refl Path.refl λ b o. tt) d34
+
           d36 : Typed.Typed 𝓤 H A 𝓣 E G40 b36 Δ1 (at36 bs)
-          d36 = Typed.g-pre 𝓤 H A W 𝓣 E G40 G41 b36 Δ1 (λ Ψ. Ψ) (at35 bs) (Lifetime.g-begin 𝓤 H A W E G40 11 (tt, ((tt, tt), (tt, (tt, (tt, (tt, (tt,
-              (tt, (tt, (tt, (tt, (tt, (tt, (tt, (tt, (tt, (tt, (tt, (tt, (tt, (tt, (tt, (tt, (tt, (tt, (tt, (tt, (tt, (tt, (tt, (tt, (tt, (tt, (tt,
-              (tt, (tt, (tt, (tt, (tt, (tt, (tt, (tt, (tt, (tt, (tt, (tt,
-              tt,),),),),),),),),),),),),),),),),),),),),),),),),),),),),),),),),),),),),),),),),),),),),),)) d35
+          d36 = Typed.g-pre 𝓤 H A W 𝓣 E G40 G41 b36 Δ1 (λ Ψ. Ψ) (at35 bs) (Lifetime.g-begin 𝓤 H A W E G40 11 (
+            tt,
+            (
+              (tt, tt),
+              (
+                tt,
+                (
+                  tt,
+                  (
+                    tt,
+                    (
+                      tt,
+                      (
+                        tt,
+                        (
+                          tt,
+                          (
+                            tt,
+                            (
+                              tt,
+                              (
+                                tt,
+                                (
+                                  tt,
+                                  (
+                                    tt,
+                                    (
+                                      tt,
+                                      (
+                                        tt,
+                                        (
+                                          tt,
+                                          (
+                                            tt,
+                                            (
+                                              tt,
+                                              (
+                                                tt,
+                                                (
+                                                  tt,
+                                                  (
+                                                    tt,
+                                                    (
+                                                      tt,
+                                                      (
+                                                        tt,
+                                                        (
+                                                          tt,
+                                                          (
+                                                            tt,
+                                                            (
+                                                              tt,
+                                                              (
+                                                                tt,
+                                                                (
+                                                                  tt,
+                                                                  (
+                                                                    tt,
+                                                                    (
+                                                                      tt,
+                                                                      (
+                                                                        tt,
+                                                                        (
+                                                                          tt,
+                                                                          (
+                                                                            tt,
+                                                                            (
+                                                                              tt,
+                                                                              (
+                                                                                tt,
+                                                                                (
+                                                                                  tt,
+                                                                                  (
+                                                                                    tt,
+                                                                                    (
+                                                                                      tt,
+                                                                                      (
+                                                                                        tt,
+                                                                                        (
+                                                                                          tt,
+                                                                                          (
+                                                                                            tt,
+                                                                                            (
+                                                                                              tt,
+                                                                                              (
+                                                                                                tt,
+                                                                                                (tt, (tt, (tt, tt))),
+                                                                                              ),
+                                                                                            ),
+                                                                                          ),
+                                                                                        ),
+                                                                                      ),
+                                                                                    ),
+                                                                                  ),
+                                                                                ),
+                                                                              ),
+                                                                            ),
+                                                                          ),
+                                                                        ),
+                                                                      ),
+                                                                    ),
+                                                                  ),
+                                                                ),
+                                                              ),
+                                                            ),
+                                                          ),
+                                                        ),
+                                                      ),
+                                                    ),
+                                                  ),
+                                                ),
+                                              ),
+                                            ),
+                                          ),
+                                        ),
+                                      ),
+                                    ),
+                                  ),
+                                ),
+                              ),
+                            ),
+                          ),
+                        ),
+                      ),
+                    ),
+                  ),
+                ),
+              ),
+            ),
+          )) d35
+
           d37 : Typed.Typed 𝓤 H A 𝓣 E G39 b37 Δ1 (at37 bs)
-          d37 = Typed.s-seq 𝓤 H A W 𝓣 E G39 G40 b13 b36 Δ1 (Typed.ask (s37 bs)) (at36 bs) (Relend.t-sl-aggregate 𝓤 H A W E RelayPending.row 𝓣
-              (Relend.asMut RelayPending.row) G39 26 27 10 ref0 ref0 (λ x. x) (Scalar.oFld 1 ((Syntax.field 1) ∷ List.[]) (Syntax.tyInt Syntax.w64) 8
-              λ v. Shared.lenV (v .0)) (Reads'.as-is 𝓤 H A (Relend.msptr RelayPending.row ref0 10)) (Reads'.room-gone 𝓤 H A (Syntax.tyStruct (38 ∷ 91
-              ∷ 93 ∷ List.[]) (Syntax.tcons ref0 (Syntax.tcons (Syntax.tyInt Syntax.w64) Syntax.tnil)))) (Relend.reads-owed-len 𝓤 H A W
-              RelayPending.row ref5 0 10 life0 8 Path.refl, Path.refl,) Path.refl Path.refl λ b o k. tt) d36
+          d37 = Typed.s-seq 𝓤 H A W 𝓣 E G39 G40 b13 b36 Δ1 (Typed.ask (s37 bs)) (at36 bs) (Relend.t-sl-aggregate 𝓤 H A
+              W E RelayPending.row 𝓣 (Relend.asMut RelayPending.row) G39 26 27 10 ref0 ref0 (λ x. x) (Scalar.oFld 1
+              ((Syntax.field 1) ∷ List.[]) (Syntax.tyInt Syntax.w64) 8 λ v. Shared.lenV (v .0)) (Reads'.as-is 𝓤 H A
+              (Relend.msptr RelayPending.row ref0 10)) (Reads'.room-gone 𝓤 H A slice0) (
+                Relend.reads-owed-len 𝓤 H A W RelayPending.row ref5 0 10 life0 8 Path.refl,
+                Path.refl,
+              ) Path.refl Path.refl λ b o k. tt) d36
+
           d38 : Typed.Typed 𝓤 H A 𝓣 E G38 b38 Δ1 (at38 bs)
-          d38 = Typed.s-seq 𝓤 H A W 𝓣 E G38 G39 b12 b37 Δ1 (Typed.give (s36 bs)) (at37 bs) (Relend.t-sl-relend 𝓤 H A W E RelayPending.row 𝓣 G38 1 26 0
-              10 ref5 ref0 life0 0 (λ x. x) (Reads'.as-is 𝓤 H A (Mut.mslice RelayPending.row ref5 0)) (Reads'.room-gone 𝓤 H A ref0) Path.refl tt
+          d38 = Typed.s-seq 𝓤 H A W 𝓣 E G38 G39 b12 b37 Δ1 (Typed.give (s36 bs)) (at37 bs) (Relend.t-sl-relend 𝓤 H A W
+              E RelayPending.row 𝓣 G38 1 26 0 10 ref5 ref0 life0 0 (λ x. x)
+              (Reads'.as-is 𝓤 H A (Mut.mslice RelayPending.row ref5 0)) (Reads'.room-gone 𝓤 H A ref0) Path.refl tt
               Path.refl Path.refl Path.refl λ b o. tt) d37
+
           d39 : Typed.Typed 𝓤 H A 𝓣 E G37 b38 Δ1 (at39 bs)
-          d39 = Typed.g-pre 𝓤 H A W 𝓣 E G37 G38 b38 Δ1 (λ Ψ. Ψ) (at38 bs) (Lifetime.g-begin 𝓤 H A W E G37 10 (tt, (tt, (tt, (tt, (tt, (tt, (tt, (tt,
-              (tt, (tt, (tt, (tt, (tt, (tt, (tt, (tt, (tt, (tt, (tt, (tt, (tt, (tt, (tt, (tt, (tt, (tt, (tt, (tt, (tt, (tt, (tt, (tt, (tt, (tt, (tt,
-              (tt, (tt, (tt, (tt, (tt, (tt, (tt, (tt, (tt, (tt, (tt,
-              tt,),),),),),),),),),),),),),),),),),),),),),),),),),),),),),),),),),),),),),),),),),),),),),)) d38
+          d39 = Typed.g-pre 𝓤 H A W 𝓣 E G37 G38 b38 Δ1 (λ Ψ. Ψ) (at38 bs) (Lifetime.g-begin 𝓤 H A W E G37 10 (
+            tt,
+            (
+              tt,
+              (
+                tt,
+                (
+                  tt,
+                  (
+                    tt,
+                    (
+                      tt,
+                      (
+                        tt,
+                        (
+                          tt,
+                          (
+                            tt,
+                            (
+                              tt,
+                              (
+                                tt,
+                                (
+                                  tt,
+                                  (
+                                    tt,
+                                    (
+                                      tt,
+                                      (
+                                        tt,
+                                        (
+                                          tt,
+                                          (
+                                            tt,
+                                            (
+                                              tt,
+                                              (
+                                                tt,
+                                                (
+                                                  tt,
+                                                  (
+                                                    tt,
+                                                    (
+                                                      tt,
+                                                      (
+                                                        tt,
+                                                        (
+                                                          tt,
+                                                          (
+                                                            tt,
+                                                            (
+                                                              tt,
+                                                              (
+                                                                tt,
+                                                                (
+                                                                  tt,
+                                                                  (
+                                                                    tt,
+                                                                    (
+                                                                      tt,
+                                                                      (
+                                                                        tt,
+                                                                        (
+                                                                          tt,
+                                                                          (
+                                                                            tt,
+                                                                            (
+                                                                              tt,
+                                                                              (
+                                                                                tt,
+                                                                                (
+                                                                                  tt,
+                                                                                  (
+                                                                                    tt,
+                                                                                    (
+                                                                                      tt,
+                                                                                      (
+                                                                                        tt,
+                                                                                        (
+                                                                                          tt,
+                                                                                          (
+                                                                                            tt,
+                                                                                            (
+                                                                                              tt,
+                                                                                              (
+                                                                                                tt,
+                                                                                                (tt, (tt, (tt, tt))),
+                                                                                              ),
+                                                                                            ),
+                                                                                          ),
+                                                                                        ),
+                                                                                      ),
+                                                                                    ),
+                                                                                  ),
+                                                                                ),
+                                                                              ),
+                                                                            ),
+                                                                          ),
+                                                                        ),
+                                                                      ),
+                                                                    ),
+                                                                  ),
+                                                                ),
+                                                              ),
+                                                            ),
+                                                          ),
+                                                        ),
+                                                      ),
+                                                    ),
+                                                  ),
+                                                ),
+                                              ),
+                                            ),
+                                          ),
+                                        ),
+                                      ),
+                                    ),
+                                  ),
+                                ),
+                              ),
+                            ),
+                          ),
+                        ),
+                      ),
+                    ),
+                  ),
+                ),
+              ),
+            ),
+          )) d38
+
           d40 : Typed.Typed 𝓤 H A 𝓣 E G36 b38 Δ1 (at40 bs)
-          d40 = Typed.g-pre 𝓤 H A W 𝓣 E G36 G37 b38 Δ1 (λ Ψ. Ψ) (at39 bs) (Lifetime.g-forget 𝓤 H A W E G36 9 Row.dead Path.refl) d39
+          d40 = Typed.g-pre 𝓤 H A W 𝓣 E G36 G37 b38 Δ1 (λ Ψ. Ψ) (at39 bs)
+              (Lifetime.g-forget 𝓤 H A W E G36 9 Row.dead Path.refl) d39
+
           d41 : Typed.Typed 𝓤 H A 𝓣 E G35 b38 Δ1 (at41 bs)
-          d41 = Typed.g-pre 𝓤 H A W 𝓣 E G35 G36 b38 Δ1 (Typed.give (s33 bs)) (at40 bs) (Know.g-sl-known 𝓤 H A W (Referent.fInt Syntax.w32) E G35 5 4
-              ref9 life3 0 (λ x. x) record { fits = Dec.lit< tt } (Reads'.as-is 𝓤 H A (Mut.mslice (Referent.rtF (Referent.fInt Syntax.w32)) ref9 4))
-              Path.refl tt) d40
+          d41 = Typed.g-pre 𝓤 H A W 𝓣 E G35 G36 b38 Δ1 (Typed.give (s33 bs)) (at40 bs) (Know.g-sl-known 𝓤 H A W
+              (Referent.fInt Syntax.w32) E G35 5 4 ref9 life3 0 (λ x. x) record { fits = Dec.lit< tt } (Reads'.as-is 𝓤
+              H A (Mut.mslice (Referent.rtF (Referent.fInt Syntax.w32)) ref9 4)) Path.refl tt) d40
+
           d42 : Typed.Typed 𝓤 H A 𝓣 E G34 b38 Δ1 (at42 bs)
-          d42 = Typed.g-pre 𝓤 H A W 𝓣 E G34 G35 b38 Δ1 (Typed.both (s32 bs)) (at41 bs) (Relend.g-back-sl 𝓤 H A W E (Referent.rtF (Referent.fInt
-              Syntax.w32)) G34 25 5 4 9 ref9 ref3 life3 (λ x. x) (λ x. x) (Reads'.as-is 𝓤 H A (Mut.msleft (Referent.rtF (Referent.fInt Syntax.w32))
-              ref3)) (Reads'.as-is 𝓤 H A (Relend.mslice-owed (Referent.rtF (Referent.fInt Syntax.w32)) ref9 4 9 life3)) Path.refl Path.refl) d41
+          d42 = Typed.g-pre 𝓤 H A W 𝓣 E G34 G35 b38 Δ1 (Typed.both (s32 bs)) (at41 bs) (Relend.g-back-sl 𝓤 H A W E
+              (Referent.rtF (Referent.fInt Syntax.w32)) G34 25 5 4 9 ref9 ref3 life3 (λ x. x) (λ x. x) (Reads'.as-is 𝓤
+              H A (Mut.msleft (Referent.rtF (Referent.fInt Syntax.w32)) ref3)) (Reads'.as-is 𝓤 H A (Relend.mslice-owed
+              (Referent.rtF (Referent.fInt Syntax.w32)) ref9 4 9 life3)) Path.refl Path.refl) d41
+
           d43 : Typed.Typed 𝓤 H A 𝓣 E G33 b38 Δ1 (at43 bs)
-          d43 = Typed.g-pre 𝓤 H A W 𝓣 E G33 G34 b38 Δ1 (λ Ψ. Ψ) (at42 bs) (Lifetime.g-end 𝓤 H A W E G33 9 Path.refl) d42
+          d43 = Typed.g-pre 𝓤 H A W 𝓣 E G33 G34 b38 Δ1 (λ Ψ. Ψ) (at42 bs) (Lifetime.g-end 𝓤 H A W E G33 9 Path.refl)
+              d42
+
           d44 : Typed.Typed 𝓤 H A 𝓣 E G32 b38 Δ1 (at44 bs)
-          d44 = Typed.g-pre 𝓤 H A W 𝓣 E G32 G33 b38 Δ1 (λ Ψ. Ψ) (at43 bs) (Lifetime.g-forget 𝓤 H A W E G32 8 Row.dead Path.refl) d43
+          d44 = Typed.g-pre 𝓤 H A W 𝓣 E G32 G33 b38 Δ1 (λ Ψ. Ψ) (at43 bs)
+              (Lifetime.g-forget 𝓤 H A W E G32 8 Row.dead Path.refl) d43
+
           d45 : Typed.Typed 𝓤 H A 𝓣 E G31 b38 Δ1 (at45 bs)
-          d45 = Typed.g-pre 𝓤 H A W 𝓣 E G31 G32 b38 Δ1 (Typed.both (s29 bs)) (at44 bs) (Relend.g-back-sl 𝓤 H A W E InflightAction.row G31 23 4 3 8
-              ref8 ref2 life2 (λ x. x) (λ x. x) (Reads'.as-is 𝓤 H A (Mut.msleft InflightAction.row ref2)) (Reads'.as-is 𝓤 H A (Relend.mslice-owed
-              InflightAction.row ref8 3 8 life2)) Path.refl Path.refl) d44
+          d45 = Typed.g-pre 𝓤 H A W 𝓣 E G31 G32 b38 Δ1 (Typed.both (s29 bs)) (at44 bs) (Relend.g-back-sl 𝓤 H A W E
+              InflightAction.row G31 23 4 3 8 ref8 ref2 life2 (λ x. x) (λ x. x)
+              (Reads'.as-is 𝓤 H A (Mut.msleft InflightAction.row ref2)) (Reads'.as-is 𝓤 H A
+              (Relend.mslice-owed InflightAction.row ref8 3 8 life2)) Path.refl Path.refl) d44
+
           d46 : Typed.Typed 𝓤 H A 𝓣 E G30 b38 Δ1 (at46 bs)
-          d46 = Typed.g-pre 𝓤 H A W 𝓣 E G30 G31 b38 Δ1 (λ Ψ. Ψ) (at45 bs) (Lifetime.g-end 𝓤 H A W E G30 8 Path.refl) d45
+          d46 = Typed.g-pre 𝓤 H A W 𝓣 E G30 G31 b38 Δ1 (λ Ψ. Ψ) (at45 bs) (Lifetime.g-end 𝓤 H A W E G30 8 Path.refl)
+              d45
+
           d47 : Typed.Typed 𝓤 H A 𝓣 E G29 b38 Δ1 (at47 bs)
-          d47 = Typed.g-pre 𝓤 H A W 𝓣 E G29 G30 b38 Δ1 (λ Ψ. Ψ) (at46 bs) (Lifetime.g-forget 𝓤 H A W E G29 7 Row.dead Path.refl) d46
+          d47 = Typed.g-pre 𝓤 H A W 𝓣 E G29 G30 b38 Δ1 (λ Ψ. Ψ) (at46 bs)
+              (Lifetime.g-forget 𝓤 H A W E G29 7 Row.dead Path.refl) d46
+
           d48 : Typed.Typed 𝓤 H A 𝓣 E G28 b38 Δ1 (at48 bs)
-          d48 = Typed.g-pre 𝓤 H A W 𝓣 E G28 G29 b38 Δ1 (Typed.both (s26 bs)) (at47 bs) (Relend.g-back-sl 𝓤 H A W E RelayCircuit.row G28 21 2 1 7 ref6
-              ref1 life1 (λ x. x) (λ x. x) (Reads'.as-is 𝓤 H A (Mut.msleft RelayCircuit.row ref1)) (Reads'.as-is 𝓤 H A (Relend.mslice-owed
-              RelayCircuit.row ref6 1 7 life1)) Path.refl Path.refl) d47
+          d48 = Typed.g-pre 𝓤 H A W 𝓣 E G28 G29 b38 Δ1 (Typed.both (s26 bs)) (at47 bs) (Relend.g-back-sl 𝓤 H A W E
+              RelayCircuit.row G28 21 2 1 7 ref6 ref1 life1 (λ x. x) (λ x. x)
+              (Reads'.as-is 𝓤 H A (Mut.msleft RelayCircuit.row ref1)) (Reads'.as-is 𝓤 H A
+              (Relend.mslice-owed RelayCircuit.row ref6 1 7 life1)) Path.refl Path.refl) d47
+
           d49 : Typed.Typed 𝓤 H A 𝓣 E G27 b38 Δ1 (at49 bs)
-          d49 = Typed.g-pre 𝓤 H A W 𝓣 E G27 G28 b38 Δ1 (λ Ψ. Ψ) (at48 bs) (Lifetime.g-end 𝓤 H A W E G27 7 Path.refl) d48
+          d49 = Typed.g-pre 𝓤 H A W 𝓣 E G27 G28 b38 Δ1 (λ Ψ. Ψ) (at48 bs) (Lifetime.g-end 𝓤 H A W E G27 7 Path.refl)
+              d48
+
           d50 : Typed.Typed 𝓤 H A 𝓣 E G26 b38 Δ1 (at50 bs)
-          d50 = Typed.g-pre 𝓤 H A W 𝓣 E G26 G27 b38 Δ1 (λ Ψ. Ψ) (at49 bs) (Lifetime.g-forget 𝓤 H A W E G26 6 Row.dead Path.refl) d49
+          d50 = Typed.g-pre 𝓤 H A W 𝓣 E G26 G27 b38 Δ1 (λ Ψ. Ψ) (at49 bs)
+              (Lifetime.g-forget 𝓤 H A W E G26 6 Row.dead Path.refl) d49
+
           d51 : Typed.Typed 𝓤 H A 𝓣 E G25 b38 Δ1 (at51 bs)
-          d51 = Typed.g-pre 𝓤 H A W 𝓣 E G25 G26 b38 Δ1 (Typed.both (s23 bs)) (at50 bs) (Relend.g-back-sl 𝓤 H A W E RelayPending.row G25 19 1 0 6 ref5
-              ref0 life0 (λ x. x) (λ x. x) (Reads'.as-is 𝓤 H A (Mut.msleft RelayPending.row ref0)) (Reads'.as-is 𝓤 H A (Relend.mslice-owed
-              RelayPending.row ref5 0 6 life0)) Path.refl Path.refl) d50
+          d51 = Typed.g-pre 𝓤 H A W 𝓣 E G25 G26 b38 Δ1 (Typed.both (s23 bs)) (at50 bs) (Relend.g-back-sl 𝓤 H A W E
+              RelayPending.row G25 19 1 0 6 ref5 ref0 life0 (λ x. x) (λ x. x)
+              (Reads'.as-is 𝓤 H A (Mut.msleft RelayPending.row ref0)) (Reads'.as-is 𝓤 H A
+              (Relend.mslice-owed RelayPending.row ref5 0 6 life0)) Path.refl Path.refl) d50
+
           d52 : Typed.Typed 𝓤 H A 𝓣 E G24 b38 Δ1 (at52 bs)
-          d52 = Typed.g-pre 𝓤 H A W 𝓣 E G24 G25 b38 Δ1 (λ Ψ. Ψ) (at51 bs) (Lifetime.g-end 𝓤 H A W E G24 6 Path.refl) d51
+          d52 = Typed.g-pre 𝓤 H A W 𝓣 E G24 G25 b38 Δ1 (λ Ψ. Ψ) (at51 bs) (Lifetime.g-end 𝓤 H A W E G24 6 Path.refl)
+              d51
+
           d53 : Typed.Typed 𝓤 H A 𝓣 E G23 b38 Δ1 (at53 bs)
-          d53 = Typed.g-pre 𝓤 H A W 𝓣 E G23 G24 b38 Δ1 (Typed.pass T23 T24 (s21 bs)) (at52 bs) (Scalar.g-room 𝓤 H A W E G23 11 Laws'.mir
-              (Local.room-whole 𝓤 H A W (Declared'.row Places.the-type) Laws'.mir Path.refl)) d52
+          d53 = Typed.g-pre 𝓤 H A W 𝓣 E G23 G24 b38 Δ1 (Typed.pass T23 T24 (s21 bs)) (at52 bs) (Scalar.g-room 𝓤 H A W E
+              G23 11 Laws'.mir (Local.room-whole 𝓤 H A W (Declared'.row Places.the-type) Laws'.mir Path.refl)) d52
+
           d54 : Typed.Typed 𝓤 H A 𝓣 E G22 b38 Δ1 (at54 bs)
-          d54 = Typed.g-pre 𝓤 H A W 𝓣 E G22 G23 b38 Δ1 (Typed.pass T22 T23 (s20 bs)) (at53 bs) (Scalar.g-room 𝓤 H A W E G22 10 Laws'''.mir
-              (Local.room-whole 𝓤 H A W (Declared'.row OpaqueRelayRuntime.the-type) Laws'''.mir Path.refl)) d53
+          d54 = Typed.g-pre 𝓤 H A W 𝓣 E G22 G23 b38 Δ1 (Typed.pass T22 T23 (s20 bs)) (at53 bs) (Scalar.g-room 𝓤 H A W E
+              G22 10 Laws'''.mir (Local.room-whole 𝓤 H A W (Declared'.row OpaqueRelayRuntime.the-type) Laws'''.mir
+              Path.refl)) d53
+
           d55 : Typed.Typed 𝓤 H A 𝓣 E G21 b39 Δ1 (at55 bs)
-          d55 = Typed.s-seq 𝓤 H A W 𝓣 E G21 G22 b11 b38 Δ1 (Typed.both (s19 bs)) (at54 bs) (Plain.t-call-plain 𝓤 H A W 𝓣 4 ps·0 r·0 (claims· .0)
-              (claims· .1) "hnsr_circuit::acknowledge::acknowledge" (known .0) E (λ pos β. β) G21 (record { pos = 19; ty = Syntax.tyRef Syntax.erased
-              Syntax.mut RelayPending.to; ref = λ x. x; }, (record { pos = 21; ty = Syntax.tyRef Syntax.erased Syntax.mut RelayCircuit.to; ref = λ x.
-              x; }, (record { pos = 23; ty = Syntax.tyRef Syntax.erased Syntax.mut InflightAction.to; ref = λ x. x; }, (record { pos = 25; ty =
-              Syntax.tyRef Syntax.erased Syntax.mut (Syntax.tyInt Syntax.w32); ref = λ x. x; }, (record { pos = 10; st = List.[]; d = 0; at = λ x. x
-              }, (record { pos = 11; st = List.[]; d = 0; at = λ x. x }, (Num.vLit 1, (Num.vLit 3, (Bool.bLit Bool'.true, tt))),),),),),),) 12 (6 ∷ 7
-              ∷ 8 ∷ 9 ∷ List.[]) (Call.sub-id 𝓤 H A W (G21 .slots)) (Reads'.as-is 𝓤 H A (Mut.mslice RelayPending.row ref0 6), Mut.reads-mslice 𝓤 H A W
-              RelayPending.row ref0 6, Path.refl, (Reads'.as-is 𝓤 H A (Mut.mslice RelayCircuit.row ref1 7), Mut.reads-mslice 𝓤 H A W RelayCircuit.row
-              ref1 7, Path.refl, (Reads'.as-is 𝓤 H A (Mut.mslice InflightAction.row ref2 8), Mut.reads-mslice 𝓤 H A W InflightAction.row ref2 8,
-              Path.refl, (Reads'.as-is 𝓤 H A (Mut.mslice (Referent.rtF (Referent.fInt Syntax.w32)) ref3 9), Mut.reads-mslice 𝓤 H A W (Referent.rtF
-              (Referent.fInt Syntax.w32)) ref3 9, Path.refl, ((Yields.yields-copy 𝓤 H A W (λ ρ. Unit) (Declared'.row OpaqueRelayRuntime.the-type)
-              Path.refl (Copies.cStruct OpaqueRelayRuntime.the-type Laws'''.the-laws Laws'''.the-copy .copy 𝓤 H A W) (Rows.whole (Declared'.row
-              OpaqueRelayRuntime.the-type)) (λ x. x) (λ x. x) (λ ρ told. Local.mem-whole 𝓤 H A W (Declared'.row OpaqueRelayRuntime.the-type) ρ) λ ρ
-              told. Local.whole-mem 𝓤 H A W (Declared'.row OpaqueRelayRuntime.the-type) ρ, Path.refl,), ((Yields.yields-copy 𝓤 H A W (λ ρ. Unit)
-              (Declared'.row Places.the-type) Path.refl (Copies.cStruct Places.the-type Laws'.the-laws Laws'.the-copy .copy 𝓤 H A W) (Rows.whole
-              (Declared'.row Places.the-type)) (λ x. x) (λ x. x) (λ ρ told. Local.mem-whole 𝓤 H A W (Declared'.row Places.the-type) ρ) λ ρ told.
-              Local.whole-mem 𝓤 H A W (Declared'.row Places.the-type) ρ, Path.refl,), (tt, (tt, (tt, tt))),),),),),),) (Reads'.room-gone 𝓤 H A
-              Laws''''.mir) (tt, (tt, (tt, (tt, tt)))) Path.refl) d54
+          d55 = Typed.s-seq 𝓤 H A W 𝓣 E G21 G22 b11 b38 Δ1 (Typed.both (s19 bs)) (at54 bs) (Plain.t-call-plain 𝓤 H A W
+              𝓣 4 ps·0 r·0 (claims· .0) (claims· .1) "hnsr_circuit::acknowledge::acknowledge" (known .0) E (λ pos β. β)
+              G21 (
+                record { pos = 19; ty = ref0; ref = λ x. x },
+                (
+                  record { pos = 21; ty = ref1; ref = λ x. x },
+                  (
+                    record { pos = 23; ty = ref2; ref = λ x. x },
+                    (
+                      record { pos = 25; ty = ref3; ref = λ x. x },
+                      (
+                        record { pos = 10; st = List.[]; d = 0; at = λ x. x },
+                        (
+                          record { pos = 11; st = List.[]; d = 0; at = λ x. x },
+                          (Num.vLit 1, (Num.vLit 3, (Bool.bLit Bool'.true, tt))),
+                        ),
+                      ),
+                    ),
+                  ),
+                ),
+              ) 12 (6 ∷ 7 ∷ 8 ∷ 9 ∷ List.[]) (Call.sub-id 𝓤 H A W (G21 .slots)) (
+                Reads'.as-is 𝓤 H A (Mut.mslice RelayPending.row ref0 6),
+                Mut.reads-mslice 𝓤 H A W RelayPending.row ref0 6,
+                Path.refl,
+                (
+                  Reads'.as-is 𝓤 H A (Mut.mslice RelayCircuit.row ref1 7),
+                  Mut.reads-mslice 𝓤 H A W RelayCircuit.row ref1 7,
+                  Path.refl,
+                  (
+                    Reads'.as-is 𝓤 H A (Mut.mslice InflightAction.row ref2 8),
+                    Mut.reads-mslice 𝓤 H A W InflightAction.row ref2 8,
+                    Path.refl,
+                    (
+                      Reads'.as-is 𝓤 H A (Mut.mslice (Referent.rtF (Referent.fInt Syntax.w32)) ref3 9),
+                      Mut.reads-mslice 𝓤 H A W (Referent.rtF (Referent.fInt Syntax.w32)) ref3 9,
+                      Path.refl,
+                      (
+                        (
+                          Yields.yields-copy 𝓤 H A W (λ ρ. Unit) (Declared'.row OpaqueRelayRuntime.the-type) Path.refl (Copies.cStruct
+                              OpaqueRelayRuntime.the-type Laws'''.the-laws Laws'''.the-copy .copy 𝓤 H A W)
+                              (Rows.whole (Declared'.row OpaqueRelayRuntime.the-type)) (λ x. x) (λ x. x) (λ ρ told.
+                              Local.mem-whole 𝓤 H A W (Declared'.row OpaqueRelayRuntime.the-type) ρ) λ ρ told.
+                              Local.whole-mem 𝓤 H A W (Declared'.row OpaqueRelayRuntime.the-type) ρ,
+                          Path.refl,
+                        ),
+                        (
+                          (
+                            Yields.yields-copy 𝓤 H A W (λ ρ. Unit) (Declared'.row Places.the-type) Path.refl (Copies.cStruct
+                                Places.the-type Laws'.the-laws Laws'.the-copy .copy 𝓤 H A W)
+                                (Rows.whole (Declared'.row Places.the-type)) (λ x. x) (λ x. x) (λ ρ told.
+                                Local.mem-whole 𝓤 H A W (Declared'.row Places.the-type) ρ) λ ρ told. Local.whole-mem 𝓤
+                                H A W (Declared'.row Places.the-type) ρ,
+                            Path.refl,
+                          ),
+                          (tt, (tt, (tt, tt))),
+                        ),
+                      ),
+                    ),
+                  ),
+                ),
+              ) (Reads'.room-gone 𝓤 H A Laws''''.mir) (tt, (tt, (tt, (tt, tt)))) Path.refl) d54
+
           d56 : Typed.Typed 𝓤 H A 𝓣 E G20 b40 Δ1 (at56 bs)
-          d56 = Typed.s-seq 𝓤 H A W 𝓣 E G20 G21 b10 b39 Δ1 (Typed.ask (s18 bs)) (at55 bs) (Relend.t-sl-aggregate 𝓤 H A W E (Referent.rtF
-              (Referent.fInt Syntax.w32)) 𝓣 (Relend.asMut (Referent.rtF (Referent.fInt Syntax.w32))) G20 24 25 9 ref3 ref3 (λ x. x) (Scalar.oFld 5
-              ((Syntax.field 1) ∷ List.[]) (Syntax.tyInt Syntax.w64) 8 λ v. Shared.lenV (v .0)) (Reads'.as-is 𝓤 H A (Relend.msptr (Referent.rtF
-              (Referent.fInt Syntax.w32)) ref3 9)) (Reads'.room-gone 𝓤 H A (Syntax.tyStruct (38 ∷ 91 ∷ 93 ∷ List.[]) (Syntax.tcons ref3 (Syntax.tcons
-              (Syntax.tyInt Syntax.w64) Syntax.tnil)))) (Relend.reads-owed-len 𝓤 H A W (Referent.rtF (Referent.fInt Syntax.w32)) ref9 4 9 life3 8
-              Path.refl, Path.refl,) Path.refl Path.refl λ b o k. tt) d55
+          d56 = Typed.s-seq 𝓤 H A W 𝓣 E G20 G21 b10 b39 Δ1 (Typed.ask (s18 bs)) (at55 bs) (Relend.t-sl-aggregate 𝓤 H A
+              W E (Referent.rtF (Referent.fInt Syntax.w32)) 𝓣 (Relend.asMut (Referent.rtF (Referent.fInt Syntax.w32)))
+              G20 24 25 9 ref3 ref3 (λ x. x) (Scalar.oFld 5 ((Syntax.field 1) ∷ List.[]) (Syntax.tyInt Syntax.w64) 8
+              λ v. Shared.lenV (v .0)) (Reads'.as-is 𝓤 H A (Relend.msptr (Referent.rtF (Referent.fInt Syntax.w32)) ref3
+              9)) (Reads'.room-gone 𝓤 H A slice3) (
+                Relend.reads-owed-len 𝓤 H A W (Referent.rtF (Referent.fInt Syntax.w32)) ref9 4 9 life3 8 Path.refl,
+                Path.refl,
+              ) Path.refl Path.refl λ b o k. tt) d55
+
           d57 : Typed.Typed 𝓤 H A 𝓣 E G19 b41 Δ1 (at57 bs)
-          d57 = Typed.s-seq 𝓤 H A W 𝓣 E G19 G20 b9 b40 Δ1 (Typed.give (s17 bs)) (at56 bs) (Relend.t-sl-relend 𝓤 H A W E (Referent.rtF (Referent.fInt
-              Syntax.w32)) 𝓣 G19 5 24 4 9 ref9 ref3 life3 0 (λ x. x) (Reads'.as-is 𝓤 H A (Mut.mslice (Referent.rtF (Referent.fInt Syntax.w32)) ref9
-              4)) (Reads'.room-gone 𝓤 H A ref3) Path.refl tt Path.refl Path.refl Path.refl λ b o. tt) d56
+          d57 = Typed.s-seq 𝓤 H A W 𝓣 E G19 G20 b9 b40 Δ1 (Typed.give (s17 bs)) (at56 bs) (Relend.t-sl-relend 𝓤 H A W E
+              (Referent.rtF (Referent.fInt Syntax.w32)) 𝓣 G19 5 24 4 9 ref9 ref3 life3 0 (λ x. x) (Reads'.as-is 𝓤 H A (Mut.mslice
+              (Referent.rtF (Referent.fInt Syntax.w32)) ref9 4)) (Reads'.room-gone 𝓤 H A ref3) Path.refl tt Path.refl
+              Path.refl Path.refl λ b o. tt) d56
+
           d58 : Typed.Typed 𝓤 H A 𝓣 E G18 b41 Δ1 (at58 bs)
-          d58 = Typed.g-pre 𝓤 H A W 𝓣 E G18 G19 b41 Δ1 (λ Ψ. Ψ) (at57 bs) (Lifetime.g-begin 𝓤 H A W E G18 9 (tt, ((tt, tt), ((tt, tt), (tt, ((tt, tt),
-              (tt, (tt, (tt, (tt, (tt, (tt, (tt, (tt, (tt, (tt, (tt, (tt, (tt, (tt, (tt, (tt, (tt, (tt, (tt, (tt, (tt, (tt, (tt, (tt, (tt, (tt, (tt,
-              (tt, (tt, (tt, (tt, (tt, (tt, (tt, (tt, (tt, (tt, (tt, (tt, (tt, (tt,
-              tt,),),),),),),),),),),),),),),),),),),),),),),),),),),),),),),),),),),),),),),),),),),),),),)) d57
+          d58 = Typed.g-pre 𝓤 H A W 𝓣 E G18 G19 b41 Δ1 (λ Ψ. Ψ) (at57 bs) (Lifetime.g-begin 𝓤 H A W E G18 9 (
+            tt,
+            (
+              (tt, tt),
+              (
+                (tt, tt),
+                (
+                  tt,
+                  (
+                    (tt, tt),
+                    (
+                      tt,
+                      (
+                        tt,
+                        (
+                          tt,
+                          (
+                            tt,
+                            (
+                              tt,
+                              (
+                                tt,
+                                (
+                                  tt,
+                                  (
+                                    tt,
+                                    (
+                                      tt,
+                                      (
+                                        tt,
+                                        (
+                                          tt,
+                                          (
+                                            tt,
+                                            (
+                                              tt,
+                                              (
+                                                tt,
+                                                (
+                                                  tt,
+                                                  (
+                                                    tt,
+                                                    (
+                                                      tt,
+                                                      (
+                                                        tt,
+                                                        (
+                                                          tt,
+                                                          (
+                                                            tt,
+                                                            (
+                                                              tt,
+                                                              (
+                                                                tt,
+                                                                (
+                                                                  tt,
+                                                                  (
+                                                                    tt,
+                                                                    (
+                                                                      tt,
+                                                                      (
+                                                                        tt,
+                                                                        (
+                                                                          tt,
+                                                                          (
+                                                                            tt,
+                                                                            (
+                                                                              tt,
+                                                                              (
+                                                                                tt,
+                                                                                (
+                                                                                  tt,
+                                                                                  (
+                                                                                    tt,
+                                                                                    (
+                                                                                      tt,
+                                                                                      (
+                                                                                        tt,
+                                                                                        (
+                                                                                          tt,
+                                                                                          (
+                                                                                            tt,
+                                                                                            (
+                                                                                              tt,
+                                                                                              (
+                                                                                                tt,
+                                                                                                (tt, (tt, (tt, tt))),
+                                                                                              ),
+                                                                                            ),
+                                                                                          ),
+                                                                                        ),
+                                                                                      ),
+                                                                                    ),
+                                                                                  ),
+                                                                                ),
+                                                                              ),
+                                                                            ),
+                                                                          ),
+                                                                        ),
+                                                                      ),
+                                                                    ),
+                                                                  ),
+                                                                ),
+                                                              ),
+                                                            ),
+                                                          ),
+                                                        ),
+                                                      ),
+                                                    ),
+                                                  ),
+                                                ),
+                                              ),
+                                            ),
+                                          ),
+                                        ),
+                                      ),
+                                    ),
+                                  ),
+                                ),
+                              ),
+                            ),
+                          ),
+                        ),
+                      ),
+                    ),
+                  ),
+                ),
+              ),
+            ),
+          )) d57
+
           d59 : Typed.Typed 𝓤 H A 𝓣 E G17 b42 Δ1 (at59 bs)
-          d59 = Typed.s-seq 𝓤 H A W 𝓣 E G17 G18 b8 b41 Δ1 (Typed.ask (s15 bs)) (at58 bs) (Relend.t-sl-aggregate 𝓤 H A W E InflightAction.row 𝓣
-              (Relend.asMut InflightAction.row) G17 22 23 8 ref2 ref2 (λ x. x) (Scalar.oFld 4 ((Syntax.field 1) ∷ List.[]) (Syntax.tyInt Syntax.w64) 8
-              λ v. Shared.lenV (v .0)) (Reads'.as-is 𝓤 H A (Relend.msptr InflightAction.row ref2 8)) (Reads'.room-gone 𝓤 H A (Syntax.tyStruct (38 ∷ 91
-              ∷ 93 ∷ List.[]) (Syntax.tcons ref2 (Syntax.tcons (Syntax.tyInt Syntax.w64) Syntax.tnil)))) (Relend.reads-owed-len 𝓤 H A W
-              InflightAction.row ref8 3 8 life2 8 Path.refl, Path.refl,) Path.refl Path.refl λ b o k. tt) d58
+          d59 = Typed.s-seq 𝓤 H A W 𝓣 E G17 G18 b8 b41 Δ1 (Typed.ask (s15 bs)) (at58 bs) (Relend.t-sl-aggregate 𝓤 H A W
+              E InflightAction.row 𝓣 (Relend.asMut InflightAction.row) G17 22 23 8 ref2 ref2 (λ x. x) (Scalar.oFld 4
+              ((Syntax.field 1) ∷ List.[]) (Syntax.tyInt Syntax.w64) 8 λ v. Shared.lenV (v .0)) (Reads'.as-is 𝓤 H A
+              (Relend.msptr InflightAction.row ref2 8)) (Reads'.room-gone 𝓤 H A slice2) (
+                Relend.reads-owed-len 𝓤 H A W InflightAction.row ref8 3 8 life2 8 Path.refl,
+                Path.refl,
+              ) Path.refl Path.refl λ b o k. tt) d58
+
           d60 : Typed.Typed 𝓤 H A 𝓣 E G16 b43 Δ1 (at60 bs)
-          d60 = Typed.s-seq 𝓤 H A W 𝓣 E G16 G17 b7 b42 Δ1 (Typed.give (s14 bs)) (at59 bs) (Relend.t-sl-relend 𝓤 H A W E InflightAction.row 𝓣 G16 4 22
-              3 8 ref8 ref2 life2 0 (λ x. x) (Reads'.as-is 𝓤 H A (Mut.mslice InflightAction.row ref8 3)) (Reads'.room-gone 𝓤 H A ref2) Path.refl tt
+          d60 = Typed.s-seq 𝓤 H A W 𝓣 E G16 G17 b7 b42 Δ1 (Typed.give (s14 bs)) (at59 bs) (Relend.t-sl-relend 𝓤 H A W E
+              InflightAction.row 𝓣 G16 4 22 3 8 ref8 ref2 life2 0 (λ x. x)
+              (Reads'.as-is 𝓤 H A (Mut.mslice InflightAction.row ref8 3)) (Reads'.room-gone 𝓤 H A ref2) Path.refl tt
               Path.refl Path.refl Path.refl λ b o. tt) d59
+
           d61 : Typed.Typed 𝓤 H A 𝓣 E G15 b43 Δ1 (at61 bs)
-          d61 = Typed.g-pre 𝓤 H A W 𝓣 E G15 G16 b43 Δ1 (λ Ψ. Ψ) (at60 bs) (Lifetime.g-begin 𝓤 H A W E G15 8 (tt, ((tt, tt), ((tt, tt), (tt, (tt, (tt,
-              (tt, (tt, (tt, (tt, (tt, (tt, (tt, (tt, (tt, (tt, (tt, (tt, (tt, (tt, (tt, (tt, (tt, (tt, (tt, (tt, (tt, (tt, (tt, (tt, (tt, (tt, (tt,
-              (tt, (tt, (tt, (tt, (tt, (tt, (tt, (tt, (tt, (tt, (tt, (tt, (tt,
-              tt,),),),),),),),),),),),),),),),),),),),),),),),),),),),),),),),),),),),),),),),),),),),),),)) d60
+          d61 = Typed.g-pre 𝓤 H A W 𝓣 E G15 G16 b43 Δ1 (λ Ψ. Ψ) (at60 bs) (Lifetime.g-begin 𝓤 H A W E G15 8 (
+            tt,
+            (
+              (tt, tt),
+              (
+                (tt, tt),
+                (
+                  tt,
+                  (
+                    tt,
+                    (
+                      tt,
+                      (
+                        tt,
+                        (
+                          tt,
+                          (
+                            tt,
+                            (
+                              tt,
+                              (
+                                tt,
+                                (
+                                  tt,
+                                  (
+                                    tt,
+                                    (
+                                      tt,
+                                      (
+                                        tt,
+                                        (
+                                          tt,
+                                          (
+                                            tt,
+                                            (
+                                              tt,
+                                              (
+                                                tt,
+                                                (
+                                                  tt,
+                                                  (
+                                                    tt,
+                                                    (
+                                                      tt,
+                                                      (
+                                                        tt,
+                                                        (
+                                                          tt,
+                                                          (
+                                                            tt,
+                                                            (
+                                                              tt,
+                                                              (
+                                                                tt,
+                                                                (
+                                                                  tt,
+                                                                  (
+                                                                    tt,
+                                                                    (
+                                                                      tt,
+                                                                      (
+                                                                        tt,
+                                                                        (
+                                                                          tt,
+                                                                          (
+                                                                            tt,
+                                                                            (
+                                                                              tt,
+                                                                              (
+                                                                                tt,
+                                                                                (
+                                                                                  tt,
+                                                                                  (
+                                                                                    tt,
+                                                                                    (
+                                                                                      tt,
+                                                                                      (
+                                                                                        tt,
+                                                                                        (
+                                                                                          tt,
+                                                                                          (
+                                                                                            tt,
+                                                                                            (
+                                                                                              tt,
+                                                                                              (
+                                                                                                tt,
+                                                                                                (tt, (tt, (tt, tt))),
+                                                                                              ),
+                                                                                            ),
+                                                                                          ),
+                                                                                        ),
+                                                                                      ),
+                                                                                    ),
+                                                                                  ),
+                                                                                ),
+                                                                              ),
+                                                                            ),
+                                                                          ),
+                                                                        ),
+                                                                      ),
+                                                                    ),
+                                                                  ),
+                                                                ),
+                                                              ),
+                                                            ),
+                                                          ),
+                                                        ),
+                                                      ),
+                                                    ),
+                                                  ),
+                                                ),
+                                              ),
+                                            ),
+                                          ),
+                                        ),
+                                      ),
+                                    ),
+                                  ),
+                                ),
+                              ),
+                            ),
+                          ),
+                        ),
+                      ),
+                    ),
+                  ),
+                ),
+              ),
+            ),
+          )) d60
+
           d62 : Typed.Typed 𝓤 H A 𝓣 E G14 b44 Δ1 (at62 bs)
-          d62 = Typed.s-seq 𝓤 H A W 𝓣 E G14 G15 b6 b43 Δ1 (Typed.ask (s12 bs)) (at61 bs) (Relend.t-sl-aggregate 𝓤 H A W E RelayCircuit.row 𝓣
-              (Relend.asMut RelayCircuit.row) G14 20 21 7 ref1 ref1 (λ x. x) (Scalar.oFld 2 ((Syntax.field 1) ∷ List.[]) (Syntax.tyInt Syntax.w64) 8 λ
-              v. Shared.lenV (v .0)) (Reads'.as-is 𝓤 H A (Relend.msptr RelayCircuit.row ref1 7)) (Reads'.room-gone 𝓤 H A (Syntax.tyStruct (38 ∷ 91 ∷
-              93 ∷ List.[]) (Syntax.tcons ref1 (Syntax.tcons (Syntax.tyInt Syntax.w64) Syntax.tnil)))) (Relend.reads-owed-len 𝓤 H A W RelayCircuit.row
-              ref6 1 7 life1 8 Path.refl, Path.refl,) Path.refl Path.refl λ b o k. tt) d61
+          d62 = Typed.s-seq 𝓤 H A W 𝓣 E G14 G15 b6 b43 Δ1 (Typed.ask (s12 bs)) (at61 bs) (Relend.t-sl-aggregate 𝓤 H A W
+              E RelayCircuit.row 𝓣 (Relend.asMut RelayCircuit.row) G14 20 21 7 ref1 ref1 (λ x. x) (Scalar.oFld 2
+              ((Syntax.field 1) ∷ List.[]) (Syntax.tyInt Syntax.w64) 8 λ v. Shared.lenV (v .0))
+              (Reads'.as-is 𝓤 H A (Relend.msptr RelayCircuit.row ref1 7)) (Reads'.room-gone 𝓤 H A slice1) (
+                Relend.reads-owed-len 𝓤 H A W RelayCircuit.row ref6 1 7 life1 8 Path.refl,
+                Path.refl,
+              ) Path.refl Path.refl λ b o k. tt) d61
+
           d63 : Typed.Typed 𝓤 H A 𝓣 E G13 b45 Δ1 (at63 bs)
-          d63 = Typed.s-seq 𝓤 H A W 𝓣 E G13 G14 b5 b44 Δ1 (Typed.give (s11 bs)) (at62 bs) (Relend.t-sl-relend 𝓤 H A W E RelayCircuit.row 𝓣 G13 2 20 1
-              7 ref6 ref1 life1 0 (λ x. x) (Reads'.as-is 𝓤 H A (Mut.mslice RelayCircuit.row ref6 1)) (Reads'.room-gone 𝓤 H A ref1) Path.refl tt
+          d63 = Typed.s-seq 𝓤 H A W 𝓣 E G13 G14 b5 b44 Δ1 (Typed.give (s11 bs)) (at62 bs) (Relend.t-sl-relend 𝓤 H A W E
+              RelayCircuit.row 𝓣 G13 2 20 1 7 ref6 ref1 life1 0 (λ x. x)
+              (Reads'.as-is 𝓤 H A (Mut.mslice RelayCircuit.row ref6 1)) (Reads'.room-gone 𝓤 H A ref1) Path.refl tt
               Path.refl Path.refl Path.refl λ b o. tt) d62
+
           d64 : Typed.Typed 𝓤 H A 𝓣 E G12 b45 Δ1 (at64 bs)
-          d64 = Typed.g-pre 𝓤 H A W 𝓣 E G12 G13 b45 Δ1 (λ Ψ. Ψ) (at63 bs) (Lifetime.g-begin 𝓤 H A W E G12 7 (tt, ((tt, tt), (tt, (tt, (tt, (tt, (tt,
-              (tt, (tt, (tt, (tt, (tt, (tt, (tt, (tt, (tt, (tt, (tt, (tt, (tt, (tt, (tt, (tt, (tt, (tt, (tt, (tt, (tt, (tt, (tt, (tt, (tt, (tt, (tt,
-              (tt, (tt, (tt, (tt, (tt, (tt, (tt, (tt, (tt, (tt, (tt, (tt,
-              tt,),),),),),),),),),),),),),),),),),),),),),),),),),),),),),),),),),),),),),),),),),),),),),)) d63
+          d64 = Typed.g-pre 𝓤 H A W 𝓣 E G12 G13 b45 Δ1 (λ Ψ. Ψ) (at63 bs) (Lifetime.g-begin 𝓤 H A W E G12 7 (
+            tt,
+            (
+              (tt, tt),
+              (
+                tt,
+                (
+                  tt,
+                  (
+                    tt,
+                    (
+                      tt,
+                      (
+                        tt,
+                        (
+                          tt,
+                          (
+                            tt,
+                            (
+                              tt,
+                              (
+                                tt,
+                                (
+                                  tt,
+                                  (
+                                    tt,
+                                    (
+                                      tt,
+                                      (
+                                        tt,
+                                        (
+                                          tt,
+                                          (
+                                            tt,
+                                            (
+                                              tt,
+                                              (
+                                                tt,
+                                                (
+                                                  tt,
+                                                  (
+                                                    tt,
+                                                    (
+                                                      tt,
+                                                      (
+                                                        tt,
+                                                        (
+                                                          tt,
+                                                          (
+                                                            tt,
+                                                            (
+                                                              tt,
+                                                              (
+                                                                tt,
+                                                                (
+                                                                  tt,
+                                                                  (
+                                                                    tt,
+                                                                    (
+                                                                      tt,
+                                                                      (
+                                                                        tt,
+                                                                        (
+                                                                          tt,
+                                                                          (
+                                                                            tt,
+                                                                            (
+                                                                              tt,
+                                                                              (
+                                                                                tt,
+                                                                                (
+                                                                                  tt,
+                                                                                  (
+                                                                                    tt,
+                                                                                    (
+                                                                                      tt,
+                                                                                      (
+                                                                                        tt,
+                                                                                        (
+                                                                                          tt,
+                                                                                          (
+                                                                                            tt,
+                                                                                            (
+                                                                                              tt,
+                                                                                              (
+                                                                                                tt,
+                                                                                                (tt, (tt, (tt, tt))),
+                                                                                              ),
+                                                                                            ),
+                                                                                          ),
+                                                                                        ),
+                                                                                      ),
+                                                                                    ),
+                                                                                  ),
+                                                                                ),
+                                                                              ),
+                                                                            ),
+                                                                          ),
+                                                                        ),
+                                                                      ),
+                                                                    ),
+                                                                  ),
+                                                                ),
+                                                              ),
+                                                            ),
+                                                          ),
+                                                        ),
+                                                      ),
+                                                    ),
+                                                  ),
+                                                ),
+                                              ),
+                                            ),
+                                          ),
+                                        ),
+                                      ),
+                                    ),
+                                  ),
+                                ),
+                              ),
+                            ),
+                          ),
+                        ),
+                      ),
+                    ),
+                  ),
+                ),
+              ),
+            ),
+          )) d63
+
           d65 : Typed.Typed 𝓤 H A 𝓣 E G11 b46 Δ1 (at65 bs)
-          d65 = Typed.s-seq 𝓤 H A W 𝓣 E G11 G12 b4 b45 Δ1 (Typed.ask (s9 bs)) (at64 bs) (Relend.t-sl-aggregate 𝓤 H A W E RelayPending.row 𝓣
-              (Relend.asMut RelayPending.row) G11 18 19 6 ref0 ref0 (λ x. x) (Scalar.oFld 1 ((Syntax.field 1) ∷ List.[]) (Syntax.tyInt Syntax.w64) 8 λ
-              v. Shared.lenV (v .0)) (Reads'.as-is 𝓤 H A (Relend.msptr RelayPending.row ref0 6)) (Reads'.room-gone 𝓤 H A (Syntax.tyStruct (38 ∷ 91 ∷
-              93 ∷ List.[]) (Syntax.tcons ref0 (Syntax.tcons (Syntax.tyInt Syntax.w64) Syntax.tnil)))) (Relend.reads-owed-len 𝓤 H A W RelayPending.row
-              ref5 0 6 life0 8 Path.refl, Path.refl,) Path.refl Path.refl λ b o k. tt) d64
+          d65 = Typed.s-seq 𝓤 H A W 𝓣 E G11 G12 b4 b45 Δ1 (Typed.ask (s9 bs)) (at64 bs) (Relend.t-sl-aggregate 𝓤 H A W
+              E RelayPending.row 𝓣 (Relend.asMut RelayPending.row) G11 18 19 6 ref0 ref0 (λ x. x) (Scalar.oFld 1
+              ((Syntax.field 1) ∷ List.[]) (Syntax.tyInt Syntax.w64) 8 λ v. Shared.lenV (v .0))
+              (Reads'.as-is 𝓤 H A (Relend.msptr RelayPending.row ref0 6)) (Reads'.room-gone 𝓤 H A slice0) (
+                Relend.reads-owed-len 𝓤 H A W RelayPending.row ref5 0 6 life0 8 Path.refl,
+                Path.refl,
+              ) Path.refl Path.refl λ b o k. tt) d64
+
           d66 : Typed.Typed 𝓤 H A 𝓣 E G10 b47 Δ1 (at66 bs)
-          d66 = Typed.s-seq 𝓤 H A W 𝓣 E G10 G11 b3 b46 Δ1 (Typed.give (s8 bs)) (at65 bs) (Relend.t-sl-relend 𝓤 H A W E RelayPending.row 𝓣 G10 1 18 0 6
-              ref5 ref0 life0 0 (λ x. x) (Reads'.as-is 𝓤 H A (Mut.mslice RelayPending.row ref5 0)) (Reads'.room-gone 𝓤 H A ref0) Path.refl tt
+          d66 = Typed.s-seq 𝓤 H A W 𝓣 E G10 G11 b3 b46 Δ1 (Typed.give (s8 bs)) (at65 bs) (Relend.t-sl-relend 𝓤 H A W E
+              RelayPending.row 𝓣 G10 1 18 0 6 ref5 ref0 life0 0 (λ x. x)
+              (Reads'.as-is 𝓤 H A (Mut.mslice RelayPending.row ref5 0)) (Reads'.room-gone 𝓤 H A ref0) Path.refl tt
               Path.refl Path.refl Path.refl λ b o. tt) d65
+
           d67 : Typed.Typed 𝓤 H A 𝓣 E G9 b47 Δ1 (at67 bs)
-          d67 = Typed.g-pre 𝓤 H A W 𝓣 E G9 G10 b47 Δ1 (λ Ψ. Ψ) (at66 bs) (Lifetime.g-begin 𝓤 H A W E G9 6 (tt, (tt, (tt, (tt, (tt, (tt, (tt, (tt, (tt,
-              (tt, (tt, (tt, (tt, (tt, (tt, (tt, (tt, (tt, (tt, (tt, (tt, (tt, (tt, (tt, (tt, (tt, (tt, (tt, (tt, (tt, (tt, (tt, (tt, (tt, (tt, (tt,
-              (tt, (tt, (tt, (tt, (tt, (tt, (tt, (tt, (tt, (tt,
-              tt,),),),),),),),),),),),),),),),),),),),),),),),),),),),),),),),),),),),),),),),),),),),),),)) d66
+          d67 = Typed.g-pre 𝓤 H A W 𝓣 E G9 G10 b47 Δ1 (λ Ψ. Ψ) (at66 bs) (Lifetime.g-begin 𝓤 H A W E G9 6 (
+            tt,
+            (
+              tt,
+              (
+                tt,
+                (
+                  tt,
+                  (
+                    tt,
+                    (
+                      tt,
+                      (
+                        tt,
+                        (
+                          tt,
+                          (
+                            tt,
+                            (
+                              tt,
+                              (
+                                tt,
+                                (
+                                  tt,
+                                  (
+                                    tt,
+                                    (
+                                      tt,
+                                      (
+                                        tt,
+                                        (
+                                          tt,
+                                          (
+                                            tt,
+                                            (
+                                              tt,
+                                              (
+                                                tt,
+                                                (
+                                                  tt,
+                                                  (
+                                                    tt,
+                                                    (
+                                                      tt,
+                                                      (
+                                                        tt,
+                                                        (
+                                                          tt,
+                                                          (
+                                                            tt,
+                                                            (
+                                                              tt,
+                                                              (
+                                                                tt,
+                                                                (
+                                                                  tt,
+                                                                  (
+                                                                    tt,
+                                                                    (
+                                                                      tt,
+                                                                      (
+                                                                        tt,
+                                                                        (
+                                                                          tt,
+                                                                          (
+                                                                            tt,
+                                                                            (
+                                                                              tt,
+                                                                              (
+                                                                                tt,
+                                                                                (
+                                                                                  tt,
+                                                                                  (
+                                                                                    tt,
+                                                                                    (
+                                                                                      tt,
+                                                                                      (
+                                                                                        tt,
+                                                                                        (
+                                                                                          tt,
+                                                                                          (
+                                                                                            tt,
+                                                                                            (
+                                                                                              tt,
+                                                                                              (
+                                                                                                tt,
+                                                                                                (tt, (tt, (tt, tt))),
+                                                                                              ),
+                                                                                            ),
+                                                                                          ),
+                                                                                        ),
+                                                                                      ),
+                                                                                    ),
+                                                                                  ),
+                                                                                ),
+                                                                              ),
+                                                                            ),
+                                                                          ),
+                                                                        ),
+                                                                      ),
+                                                                    ),
+                                                                  ),
+                                                                ),
+                                                              ),
+                                                            ),
+                                                          ),
+                                                        ),
+                                                      ),
+                                                    ),
+                                                  ),
+                                                ),
+                                              ),
+                                            ),
+                                          ),
+                                        ),
+                                      ),
+                                    ),
+                                  ),
+                                ),
+                              ),
+                            ),
+                          ),
+                        ),
+                      ),
+                    ),
+                  ),
+                ),
+              ),
+            ),
+          )) d66
+
           d68 : Typed.Typed 𝓤 H A 𝓣 E G8 b47 Δ1 (at68 bs)
-          d68 = Typed.g-pre 𝓤 H A W 𝓣 E G8 G9 b47 Δ1 (Typed.pass T8 T9 (s6 bs)) (at67 bs) (Scalar.g-room 𝓤 H A W E G8 6 Laws''''.mir (Local.room-whole
-              𝓤 H A W (Declared'.row Relayed.the-type) Laws''''.mir Path.refl)) d67
+          d68 = Typed.g-pre 𝓤 H A W 𝓣 E G8 G9 b47 Δ1 (Typed.pass T8 T9 (s6 bs)) (at67 bs) (Scalar.g-room 𝓤 H A W E G8 6
+              Laws''''.mir (Local.room-whole 𝓤 H A W (Declared'.row Relayed.the-type) Laws''''.mir Path.refl)) d67
+
           d69 : Typed.Typed 𝓤 H A 𝓣 E G7 b48 Δ1 (at69 bs)
-          d69 = Typed.s-seq 𝓤 H A W 𝓣 E G7 G8 b2 b47 Δ1 (Typed.both (s5 bs)) (at68 bs) (WayStmt.t-way-copy-out 𝓤 H A W E 𝓣 (Declared'.row
-              Places.the-type) Path.refl (Copies.cStruct Places.the-type Laws'.the-laws Laws'.the-copy .copy 𝓤 H A W) (λ ρ. Unit) G7 (Row.out 6 (G7
-              .locals)) (λ u. Row.drop 6 (G7 .locals) u) (G7 .slots) 6 (λ t. (Syntax.field 3) ∷ t) Laws'.mir Laws'.mir 11 (Rows.whole (Declared'.row
-              Places.the-type)) (λ x. x) (λ u. At.getAt (Relayed.the-type .parts) 3 (Relayed.struct .as-values (u .1 .1 .1 .1 .1 .1 .0))) (λ u.
-              (Row.hd 0 (Row.tl (Row.tl (Row.tl (Row.tl (Row.tl (Row.tl bs)))))), Nat._+_ 0 216,)) (λ T′. record { locals = Row.setRow 6 (6,
-              Rows.whole (Declared'.row Relayed.the-type)) T′; slots = G7 .slots; }) (λ u T′ m′. Row.set 6 (6, Rows.whole (Declared'.row
-              Relayed.the-type)) (u .1 .1 .1 .1 .1 .1 .0) T′ m′) (λ u. Unit) (λ x. Unit) (Own.told-none 𝓤 H A (G7 .slots)) (DerefMove.learns-nothing 𝓤
-              H A (Declared'.row Places.the-type)) (λ ρ told u asked. Way'.w-partˢ 𝓤 H A W E (Declared'.row Relayed.the-type) (Declared'.row
-              Places.the-type) Laws''''.mir Laws'.mir 3 216 (u .1 .1 .1 .1 .1 .1 .0) (At.getAt (Relayed.the-type .parts) 3 (Relayed.struct .as-values
-              (u .1 .1 .1 .1 .1 .1 .0))) (Row.hd 0 (Row.tl (Row.tl (Row.tl (Row.tl (Row.tl (Row.tl bs)))))), 0) (Way.w-look 𝓤 H A W E (Way.w-local 𝓤 H
-              A W E G7 ρ u (G7 .slots) 6 (Declared'.row Relayed.the-type) (Rows.whole (Declared'.row Relayed.the-type)) (λ x. x) (λ x. x) (u .1 .1 .1
-              .1 .1 .1 .0) (Local.mem-whole 𝓤 H A W (Declared'.row Relayed.the-type) ρ (u .1 .1 .1 .1 .1 .1 .0) (Row.hd 0 (Row.tl (Row.tl (Row.tl
-              (Row.tl (Row.tl (Row.tl bs)))))))) (Local.whole-mem 𝓤 H A W (Declared'.row Relayed.the-type) ρ (u .1 .1 .1 .1 .1 .1 .0) (Row.hd 0
-              (Row.tl (Row.tl (Row.tl (Row.tl (Row.tl (Row.tl bs)))))))))) Path.refl λ q. Inner.cut-record 𝓤 H A q (Declared'.row Relayed.the-type)
-              Places.the-type 216 (u .1 .1 .1 .1 .1 .1 .0) (u .1 .1 .1 .1 .1 .1 .0) (At.getAt (Relayed.the-type .parts) 3 (Relayed.struct .as-values
-              (u .1 .1 .1 .1 .1 .1 .0))) (At.getAt (Relayed.the-type .parts) 3 (Relayed.struct .as-values (u .1 .1 .1 .1 .1 .1 .0))) (Row.hd 0 (Row.tl
-              (Row.tl (Row.tl (Row.tl (Row.tl (Row.tl bs)))))), 0) (Behind.look-at 𝓤 H A W q Relayed.the-type Laws''''.the-laws 3 216 Path.refl
-              Path.refl (Row.hd 0 (Row.tl (Row.tl (Row.tl (Row.tl (Row.tl (Row.tl bs)))))), 0) (u .1 .1 .1 .1 .1 .1 .0) (Relayed.struct .as-values (u
-              .1 .1 .1 .1 .1 .1 .0)) Path.refl)) (Reads'.room-gone 𝓤 H A Laws'.mir) (Yields.makes-mem 𝓤 H A W (λ ρ. Unit) (Declared'.row
-              Places.the-type) Path.refl (Rows.whole (Declared'.row Places.the-type)) (λ x. x) λ ρ told. Local.whole-mem 𝓤 H A W (Declared'.row
-              Places.the-type) ρ) Path.refl Path.refl Path.refl) d68
+          d69 = Typed.s-seq 𝓤 H A W 𝓣 E G7 G8 b2 b47 Δ1 (Typed.both (s5 bs)) (at68 bs) (WayStmt.t-way-copy-out 𝓤 H A W
+              E 𝓣 (Declared'.row Places.the-type) Path.refl (Copies.cStruct Places.the-type Laws'.the-laws
+              Laws'.the-copy .copy 𝓤 H A W) (λ ρ. Unit) G7 (Row.out 6 (G7 .locals)) (λ u. Row.drop 6 (G7 .locals) u)
+              (G7 .slots) 6 (λ t. (Syntax.field 3) ∷ t) Laws'.mir Laws'.mir 11
+              (Rows.whole (Declared'.row Places.the-type)) (λ x. x) (λ u. At.getAt (Relayed.the-type .parts) 3
+              (Relayed.struct .as-values (u .1 .1 .1 .1 .1 .1 .0))) (λ u. (
+                Row.hd 0 (Row.tl (Row.tl (Row.tl (Row.tl (Row.tl (Row.tl bs)))))),
+                Nat._+_ 0 216,
+              )) (λ T′. record {
+                locals = Row.setRow 6 (6, Rows.whole (Declared'.row Relayed.the-type)) T′;
+                slots = G7 .slots;
+              }) (λ u T′ m′. Row.set 6 (6, Rows.whole (Declared'.row Relayed.the-type)) (u .1 .1 .1 .1 .1 .1 .0) T′ m′)
+              (λ u. Unit) (λ x. Unit) (Own.told-none 𝓤 H A (G7 .slots)) (DerefMove.learns-nothing 𝓤 H A
+              (Declared'.row Places.the-type)) (λ ρ told u asked. Way'.w-partˢ 𝓤 H A W E
+              (Declared'.row Relayed.the-type) (Declared'.row Places.the-type) Laws''''.mir Laws'.mir 3 216
+              (u .1 .1 .1 .1 .1 .1 .0) (At.getAt (Relayed.the-type .parts) 3
+              (Relayed.struct .as-values (u .1 .1 .1 .1 .1 .1 .0))) (
+                Row.hd 0 (Row.tl (Row.tl (Row.tl (Row.tl (Row.tl (Row.tl bs)))))),
+                0,
+              ) (Way.w-look 𝓤 H A W E (Way.w-local 𝓤 H A W E G7 ρ u (G7 .slots) 6 (Declared'.row Relayed.the-type)
+              (Rows.whole (Declared'.row Relayed.the-type)) (λ x. x) (λ x. x) (u .1 .1 .1 .1 .1 .1 .0) (Local.mem-whole
+              𝓤 H A W (Declared'.row Relayed.the-type) ρ (u .1 .1 .1 .1 .1 .1 .0) (Row.hd 0
+              (Row.tl (Row.tl (Row.tl (Row.tl (Row.tl (Row.tl bs)))))))) (Local.whole-mem 𝓤 H A W
+              (Declared'.row Relayed.the-type) ρ (u .1 .1 .1 .1 .1 .1 .0) (Row.hd 0 (Row.tl
+              (Row.tl (Row.tl (Row.tl (Row.tl (Row.tl bs)))))))))) Path.refl λ q. Inner.cut-record 𝓤 H A q
+              (Declared'.row Relayed.the-type) Places.the-type 216 (u .1 .1 .1 .1 .1 .1 .0) (u .1 .1 .1 .1 .1 .1 .0) (At.getAt
+              (Relayed.the-type .parts) 3 (Relayed.struct .as-values (u .1 .1 .1 .1 .1 .1 .0))) (At.getAt
+              (Relayed.the-type .parts) 3 (Relayed.struct .as-values (u .1 .1 .1 .1 .1 .1 .0))) (
+                Row.hd 0 (Row.tl (Row.tl (Row.tl (Row.tl (Row.tl (Row.tl bs)))))),
+                0,
+              ) (Behind.look-at 𝓤 H A W q Relayed.the-type Laws''''.the-laws 3 216 Path.refl Path.refl (
+                Row.hd 0 (Row.tl (Row.tl (Row.tl (Row.tl (Row.tl (Row.tl bs)))))),
+                0,
+              ) (u .1 .1 .1 .1 .1 .1 .0) (Relayed.struct .as-values (u .1 .1 .1 .1 .1 .1 .0)) Path.refl))
+              (Reads'.room-gone 𝓤 H A Laws'.mir) (Yields.makes-mem 𝓤 H A W (λ ρ. Unit) (Declared'.row Places.the-type)
+              Path.refl (Rows.whole (Declared'.row Places.the-type)) (λ x. x) λ ρ told. Local.whole-mem 𝓤 H A W
+              (Declared'.row Places.the-type) ρ) Path.refl Path.refl Path.refl) d68
+
           d70 : Typed.Typed 𝓤 H A 𝓣 E G6 b49 Δ1 (at70 bs)
-          d70 = Typed.s-seq 𝓤 H A W 𝓣 E G6 G7 b1 b48 Δ1 (Typed.both (s4 bs)) (at69 bs) (WayStmt.t-way-copy-out 𝓤 H A W E 𝓣 (Declared'.row
-              OpaqueRelayRuntime.the-type) Path.refl (Copies.cStruct OpaqueRelayRuntime.the-type Laws'''.the-laws Laws'''.the-copy .copy 𝓤 H A W) (λ
-              ρ. Unit) G6 (Row.out 6 (G6 .locals)) (λ u. Row.drop 6 (G6 .locals) u) (G6 .slots) 6 (λ t. (Syntax.field 0) ∷ t) Laws'''.mir Laws'''.mir
-              10 (Rows.whole (Declared'.row OpaqueRelayRuntime.the-type)) (λ x. x) (λ u. At.getAt (Relayed.the-type .parts) 0 (Relayed.struct
-              .as-values (u .1 .1 .1 .1 .1 .1 .0))) (λ u. (Row.hd 0 (Row.tl (Row.tl (Row.tl (Row.tl (Row.tl (Row.tl bs)))))), Nat._+_ 0 0,)) (λ T′.
-              record { locals = Row.setRow 6 (6, Rows.whole (Declared'.row Relayed.the-type)) T′; slots = G6 .slots; }) (λ u T′ m′. Row.set 6 (6,
-              Rows.whole (Declared'.row Relayed.the-type)) (u .1 .1 .1 .1 .1 .1 .0) T′ m′) (λ u. Unit) (λ x. Unit) (Own.told-none 𝓤 H A (G6 .slots))
-              (DerefMove.learns-nothing 𝓤 H A (Declared'.row OpaqueRelayRuntime.the-type)) (λ ρ told u asked. Way'.w-partˢ 𝓤 H A W E (Declared'.row
-              Relayed.the-type) (Declared'.row OpaqueRelayRuntime.the-type) Laws''''.mir Laws'''.mir 0 0 (u .1 .1 .1 .1 .1 .1 .0) (At.getAt
-              (Relayed.the-type .parts) 0 (Relayed.struct .as-values (u .1 .1 .1 .1 .1 .1 .0))) (Row.hd 0 (Row.tl (Row.tl (Row.tl (Row.tl (Row.tl
-              (Row.tl bs)))))), 0) (Way.w-look 𝓤 H A W E (Way.w-local 𝓤 H A W E G6 ρ u (G6 .slots) 6 (Declared'.row Relayed.the-type) (Rows.whole
-              (Declared'.row Relayed.the-type)) (λ x. x) (λ x. x) (u .1 .1 .1 .1 .1 .1 .0) (Local.mem-whole 𝓤 H A W (Declared'.row Relayed.the-type) ρ
-              (u .1 .1 .1 .1 .1 .1 .0) (Row.hd 0 (Row.tl (Row.tl (Row.tl (Row.tl (Row.tl (Row.tl bs)))))))) (Local.whole-mem 𝓤 H A W (Declared'.row
-              Relayed.the-type) ρ (u .1 .1 .1 .1 .1 .1 .0) (Row.hd 0 (Row.tl (Row.tl (Row.tl (Row.tl (Row.tl (Row.tl bs)))))))))) Path.refl λ q.
-              Inner.cut-record 𝓤 H A q (Declared'.row Relayed.the-type) OpaqueRelayRuntime.the-type 0 (u .1 .1 .1 .1 .1 .1 .0) (u .1 .1 .1 .1 .1 .1
-              .0) (At.getAt (Relayed.the-type .parts) 0 (Relayed.struct .as-values (u .1 .1 .1 .1 .1 .1 .0))) (At.getAt (Relayed.the-type .parts) 0
-              (Relayed.struct .as-values (u .1 .1 .1 .1 .1 .1 .0))) (Row.hd 0 (Row.tl (Row.tl (Row.tl (Row.tl (Row.tl (Row.tl bs)))))), 0)
-              (Behind.look-at 𝓤 H A W q Relayed.the-type Laws''''.the-laws 0 0 Path.refl Path.refl (Row.hd 0 (Row.tl (Row.tl (Row.tl (Row.tl (Row.tl
-              (Row.tl bs)))))), 0,) (u .1 .1 .1 .1 .1 .1 .0) (Relayed.struct .as-values (u .1 .1 .1 .1 .1 .1 .0)) Path.refl)) (Reads'.room-gone 𝓤 H A
-              Laws'''.mir) (Yields.makes-mem 𝓤 H A W (λ ρ. Unit) (Declared'.row OpaqueRelayRuntime.the-type) Path.refl (Rows.whole (Declared'.row
-              OpaqueRelayRuntime.the-type)) (λ x. x) λ ρ told. Local.whole-mem 𝓤 H A W (Declared'.row OpaqueRelayRuntime.the-type) ρ) Path.refl
-              Path.refl Path.refl) d69
+          d70 = Typed.s-seq 𝓤 H A W 𝓣 E G6 G7 b1 b48 Δ1 (Typed.both (s4 bs)) (at69 bs) (WayStmt.t-way-copy-out 𝓤 H A W
+              E 𝓣 (Declared'.row OpaqueRelayRuntime.the-type) Path.refl (Copies.cStruct OpaqueRelayRuntime.the-type
+              Laws'''.the-laws Laws'''.the-copy .copy 𝓤 H A W) (λ ρ. Unit) G6 (Row.out 6 (G6 .locals))
+              (λ u. Row.drop 6 (G6 .locals) u) (G6 .slots) 6 (λ t. (Syntax.field 0) ∷ t) Laws'''.mir Laws'''.mir 10
+              (Rows.whole (Declared'.row OpaqueRelayRuntime.the-type)) (λ x. x) (λ u. At.getAt
+              (Relayed.the-type .parts) 0 (Relayed.struct .as-values (u .1 .1 .1 .1 .1 .1 .0))) (λ u. (
+                Row.hd 0 (Row.tl (Row.tl (Row.tl (Row.tl (Row.tl (Row.tl bs)))))),
+                Nat._+_ 0 0,
+              )) (λ T′. record {
+                locals = Row.setRow 6 (6, Rows.whole (Declared'.row Relayed.the-type)) T′;
+                slots = G6 .slots;
+              }) (λ u T′ m′. Row.set 6 (6, Rows.whole (Declared'.row Relayed.the-type)) (u .1 .1 .1 .1 .1 .1 .0) T′ m′)
+              (λ u. Unit) (λ x. Unit) (Own.told-none 𝓤 H A (G6 .slots)) (DerefMove.learns-nothing 𝓤 H A
+              (Declared'.row OpaqueRelayRuntime.the-type)) (λ ρ told u asked. Way'.w-partˢ 𝓤 H A W E
+              (Declared'.row Relayed.the-type) (Declared'.row OpaqueRelayRuntime.the-type) Laws''''.mir Laws'''.mir 0 0
+              (u .1 .1 .1 .1 .1 .1 .0) (At.getAt (Relayed.the-type .parts) 0
+              (Relayed.struct .as-values (u .1 .1 .1 .1 .1 .1 .0))) (
+                Row.hd 0 (Row.tl (Row.tl (Row.tl (Row.tl (Row.tl (Row.tl bs)))))),
+                0,
+              ) (Way.w-look 𝓤 H A W E (Way.w-local 𝓤 H A W E G6 ρ u (G6 .slots) 6 (Declared'.row Relayed.the-type)
+              (Rows.whole (Declared'.row Relayed.the-type)) (λ x. x) (λ x. x) (u .1 .1 .1 .1 .1 .1 .0) (Local.mem-whole
+              𝓤 H A W (Declared'.row Relayed.the-type) ρ (u .1 .1 .1 .1 .1 .1 .0) (Row.hd 0
+              (Row.tl (Row.tl (Row.tl (Row.tl (Row.tl (Row.tl bs)))))))) (Local.whole-mem 𝓤 H A W
+              (Declared'.row Relayed.the-type) ρ (u .1 .1 .1 .1 .1 .1 .0) (Row.hd 0 (Row.tl
+              (Row.tl (Row.tl (Row.tl (Row.tl (Row.tl bs)))))))))) Path.refl λ q. Inner.cut-record 𝓤 H A q
+              (Declared'.row Relayed.the-type) OpaqueRelayRuntime.the-type 0 (u .1 .1 .1 .1 .1 .1 .0)
+              (u .1 .1 .1 .1 .1 .1 .0) (At.getAt (Relayed.the-type .parts) 0
+              (Relayed.struct .as-values (u .1 .1 .1 .1 .1 .1 .0))) (At.getAt (Relayed.the-type .parts) 0
+              (Relayed.struct .as-values (u .1 .1 .1 .1 .1 .1 .0))) (
+                Row.hd 0 (Row.tl (Row.tl (Row.tl (Row.tl (Row.tl (Row.tl bs)))))),
+                0,
+              ) (Behind.look-at 𝓤 H A W q Relayed.the-type Laws''''.the-laws 0 0 Path.refl Path.refl (
+                Row.hd 0 (Row.tl (Row.tl (Row.tl (Row.tl (Row.tl (Row.tl bs)))))),
+                0,
+              ) (u .1 .1 .1 .1 .1 .1 .0) (Relayed.struct .as-values (u .1 .1 .1 .1 .1 .1 .0)) Path.refl))
+              (Reads'.room-gone 𝓤 H A Laws'''.mir) (Yields.makes-mem 𝓤 H A W (λ ρ. Unit)
+              (Declared'.row OpaqueRelayRuntime.the-type) Path.refl
+              (Rows.whole (Declared'.row OpaqueRelayRuntime.the-type)) (λ x. x) λ ρ told. Local.whole-mem 𝓤 H A W
+              (Declared'.row OpaqueRelayRuntime.the-type) ρ) Path.refl Path.refl Path.refl) d69
+
           d71 : Typed.Typed 𝓤 H A 𝓣 E G4 b49 Δ1 (at71 bs)
-          d71 = Typed.g-pre 𝓤 H A W 𝓣 E G4 G6 b49 Δ1 (Typed.pass T4 T6 (s3 bs)) (at70 bs) (Scalar.g-room 𝓤 H A W E G4 17 Syntax.tyBool (Scalar.room-sc
-              𝓤 H A W Row.sBool)) d70
+          d71 = Typed.g-pre 𝓤 H A W 𝓣 E G4 G6 b49 Δ1 (Typed.pass T4 T6 (s3 bs)) (at70 bs) (Scalar.g-room 𝓤 H A W E G4
+              17 Syntax.tyBool (Scalar.room-sc 𝓤 H A W Row.sBool)) d70
+
           d72 : Typed.Typed 𝓤 H A 𝓣 E G77 b50 Δ1 (at72 bs)
           d72 = Typed.t-skip 𝓤 H A W 𝓣 E Δ1 tt
+
           d73 : Typed.Typed 𝓤 H A 𝓣 E G4 b50 Δ1 (at73 bs)
-          d73 = Typed.g-pre 𝓤 H A W 𝓣 E G4 G77 b50 Δ1 (Typed.pass T4 T77 (s74 bs)) (at72 bs) (Scalar.g-room 𝓤 H A W E G4 17 Syntax.tyBool
-              (Scalar.room-sc 𝓤 H A W Row.sBool)) d72
+          d73 = Typed.g-pre 𝓤 H A W 𝓣 E G4 G77 b50 Δ1 (Typed.pass T4 T77 (s74 bs)) (at72 bs) (Scalar.g-room 𝓤 H A W E
+              G4 17 Syntax.tyBool (Scalar.room-sc 𝓤 H A W Row.sBool)) d72
+
           d74 : Typed.Typed 𝓤 H A 𝓣 E G4 b51 Δ1 (at74 bs)
-          d74 = Scalar.t-cond 𝓤 H A W E 𝓣 G4 17 (λ x. x) b49 b50 Δ1 (at71 bs) (at73 bs) (Scalar.reads-sc 𝓤 H A W Row.sBool) Path.refl d71 d73
+          d74 = Scalar.t-cond 𝓤 H A W E 𝓣 G4 17 (λ x. x) b49 b50 Δ1 (at71 bs) (at73 bs)
+              (Scalar.reads-sc 𝓤 H A W Row.sBool) Path.refl d71 d73
+
           d75 : Typed.Typed 𝓤 H A 𝓣 E G116 b65 Δ0 (at75 bs)
           d75 = Typed.t-return 𝓤 H A W 𝓣 E Δ0 tt
+
           d76 : Typed.Typed 𝓤 H A 𝓣 E G115 b65 Δ0 (at76 bs)
-          d76 = Typed.g-pre 𝓤 H A W 𝓣 E G115 G116 b65 Δ0 (Typed.pass T115 T116 (s113 bs)) (at75 bs) (Scalar.g-room 𝓤 H A W E G115 9 Syntax.tyBool
-              (Scalar.room-sc 𝓤 H A W Row.sBool)) d75
+          d76 = Typed.g-pre 𝓤 H A W 𝓣 E G115 G116 b65 Δ0 (Typed.pass T115 T116 (s113 bs)) (at75 bs) (Scalar.g-room 𝓤 H
+              A W E G115 9 Syntax.tyBool (Scalar.room-sc 𝓤 H A W Row.sBool)) d75
+
           d77 : Typed.Typed 𝓤 H A 𝓣 E G114 b65 Δ0 (at77 bs)
-          d77 = Typed.g-pre 𝓤 H A W 𝓣 E G114 G115 b65 Δ0 (Typed.pass T114 T115 (s112 bs)) (at76 bs) (Scalar.g-room 𝓤 H A W E G114 16 Laws.mir
-              (Local.room-whole 𝓤 H A W (Declared.row HnsrAnswer.the-type) Laws.mir Path.refl)) d76
+          d77 = Typed.g-pre 𝓤 H A W 𝓣 E G114 G115 b65 Δ0 (Typed.pass T114 T115 (s112 bs)) (at76 bs) (Scalar.g-room 𝓤 H
+              A W E G114 16 Laws.mir (Local.room-whole 𝓤 H A W (Declared.row HnsrAnswer.the-type) Laws.mir Path.refl))
+              d76
+
           d78 : Typed.Typed 𝓤 H A 𝓣 E G113 b66 Δ0 (at78 bs)
-          d78 = Typed.s-seq 𝓤 H A W 𝓣 E G113 G114 b64 b65 Δ0 (Typed.both (s111 bs)) (at77 bs) (Plain.t-call-plain 𝓤 H A W 𝓣 0 ps·2 r·2 (claims· .4)
-              (claims· .5) "cases::script::answer_number" (known .2) E (λ pos β. β) G113 (record { pos = 16; st = List.[]; d = 0; at = λ x. x }, tt) 0
-              List.[] (Call.sub-id 𝓤 H A W (G113 .slots)) ((Yields.yields-copy 𝓤 H A W (λ ρ. Unit) (Declared.row HnsrAnswer.the-type) Path.refl
-              (Copies.cEnum HnsrAnswer.the-type Laws.the-laws Laws.the-copy .copy 𝓤 H A W) (Rows.whole (Declared.row HnsrAnswer.the-type)) (λ x. x) (λ
-              x. x) (λ ρ told. Local.mem-whole 𝓤 H A W (Declared.row HnsrAnswer.the-type) ρ) λ ρ told. Local.whole-mem 𝓤 H A W (Declared.row
-              HnsrAnswer.the-type) ρ, Path.refl,), tt,) (Reads'.room-gone 𝓤 H A (Syntax.tyInt Syntax.w64)) tt Path.refl) d77
+          d78 = Typed.s-seq 𝓤 H A W 𝓣 E G113 G114 b64 b65 Δ0 (Typed.both (s111 bs)) (at77 bs) (Plain.t-call-plain 𝓤 H A
+              W 𝓣 0 ps·2 r·2 (claims· .4) (claims· .5) "cases::script::answer_number" (known .2) E (λ pos β. β) G113
+              (record { pos = 16; st = List.[]; d = 0; at = λ x. x }, tt) 0 List.[] (Call.sub-id 𝓤 H A W (G113 .slots)) (
+                (
+                  Yields.yields-copy 𝓤 H A W (λ ρ. Unit) (Declared.row HnsrAnswer.the-type) Path.refl (Copies.cEnum
+                      HnsrAnswer.the-type Laws.the-laws Laws.the-copy .copy 𝓤 H A W)
+                      (Rows.whole (Declared.row HnsrAnswer.the-type)) (λ x. x) (λ x. x) (λ ρ told. Local.mem-whole 𝓤 H
+                      A W (Declared.row HnsrAnswer.the-type) ρ) λ ρ told. Local.whole-mem 𝓤 H A W
+                      (Declared.row HnsrAnswer.the-type) ρ,
+                  Path.refl,
+                ),
+                tt,
+              ) (Reads'.room-gone 𝓤 H A (Syntax.tyInt Syntax.w64)) tt Path.refl) d77
+
           d79 : Typed.Typed 𝓤 H A 𝓣 E G112 b66 Δ0 (at79 bs)
-          d79 = Typed.g-pre 𝓤 H A W 𝓣 E G112 G113 b66 Δ0 (Typed.pass T112 T113 (s110 bs)) (at78 bs) (Scalar.g-room 𝓤 H A W E G112 15 Laws''''.mir
-              (Local.room-whole 𝓤 H A W (Declared'.row Relayed.the-type) Laws''''.mir Path.refl)) d78
+          d79 = Typed.g-pre 𝓤 H A W 𝓣 E G112 G113 b66 Δ0 (Typed.pass T112 T113 (s110 bs)) (at78 bs) (Scalar.g-room 𝓤 H
+              A W E G112 15 Laws''''.mir (Local.room-whole 𝓤 H A W (Declared'.row Relayed.the-type) Laws''''.mir
+              Path.refl)) d78
+
           d80 : Typed.Typed 𝓤 H A 𝓣 E G111 b67 Δ0 (at80 bs)
-          d80 = Typed.s-seq 𝓤 H A W 𝓣 E G111 G112 b63 b66 Δ0 (Typed.pass T110 T112 (s109 bs)) (at79 bs) (CopyOut.t-copy-told 𝓤 H A W E 𝓣 (Declared.row
-              HnsrAnswer.the-type) Path.refl (Laws'''''.val HnsrAnswer.the-type Laws.the-laws) (Laws'''''.lawful HnsrAnswer.the-type Laws.the-laws 𝓤 H
-              A W tt) (Laws'''''.makes HnsrAnswer.the-type Laws.the-plain 𝓤 H A) G111 16 (Scalar.oFld 15 ((Syntax.field 1) ∷ List.[]) Laws.mir 160 λ
-              x. Laws'''''.val HnsrAnswer.the-type Laws.the-laws (Relayed.struct .as-values x .1 .0)) (λ m. Relayed.struct .as-values (m .1 .1 .1 .1
-              .1 .1 .1 .1 .1 .1 .1 .1 .1 .1 .1 .0) .1 .0) (λ m. Laws''''''.Is (Declared'.row Relayed.the-type) (m .1 .1 .1 .1 .1 .1 .1 .1 .1 .1 .1 .1
-              .1 .1 .1 .0) (Laws'''''''.vals Relayed.the-type Laws''''.the-laws (m .1 .1 .1 .1 .1 .1 .1 .1 .1 .1 .1 .1 .1 .1 .1 .0)))
-              (Reads'.room-gone 𝓤 H A Laws.mir) (Reads.reads-field 𝓤 H A W Relayed.the-type Laws''''.the-laws 1 Laws.mir 160 Path.refl, Path.refl,)
-              Path.refl (λ ρ m. Make.tells-row 𝓤 H A W E ρ (Row.out 16 (G111 .locals)) m 15 (Laws''''''.Is (Declared'.row Relayed.the-type) (m .1 .1
-              .1 .1 .1 .1 .1 .1 .1 .1 .1 .1 .1 .1 .1 .0) (Laws'''''''.vals Relayed.the-type Laws''''.the-laws (m .1 .1 .1 .1 .1 .1 .1 .1 .1 .1 .1 .1
-              .1 .1 .1 .0))) (Make.whole-is 𝓤 H A W E (Declared'.row Relayed.the-type) Path.refl (Laws'''''''.val Relayed.the-type Laws''''.the-laws)
-              (Laws'''''''.tells Relayed.the-type Laws''''.the-laws) ρ 15 (m .1 .1 .1 .1 .1 .1 .1 .1 .1 .1 .1 .1 .1 .1 .1 .0))) (λ m k wa. Path.refl)
-              λ m k wa. Laws'''''''.owed Relayed.the-type Laws''''.the-laws (m .1 .1 .1 .1 .1 .1 .1 .1 .1 .1 .1 .1 .1 .1 .1 .0) (Laws'''''''.vals
+          d80 = Typed.s-seq 𝓤 H A W 𝓣 E G111 G112 b63 b66 Δ0 (Typed.pass T110 T112 (s109 bs)) (at79 bs) (CopyOut.t-copy-told
+              𝓤 H A W E 𝓣 (Declared.row HnsrAnswer.the-type) Path.refl
+              (Laws'''''.val HnsrAnswer.the-type Laws.the-laws) (Laws'''''.lawful HnsrAnswer.the-type Laws.the-laws 𝓤 H
+              A W tt) (Laws'''''.makes HnsrAnswer.the-type Laws.the-plain 𝓤 H A) G111 16 (Scalar.oFld 15
+              ((Syntax.field 1) ∷ List.[]) Laws.mir 160 λ x. Laws'''''.val HnsrAnswer.the-type Laws.the-laws
+              (Relayed.struct .as-values x .1 .0)) (λ m. Relayed.struct .as-values
+              (m .1 .1 .1 .1 .1 .1 .1 .1 .1 .1 .1 .1 .1 .1 .1 .0) .1 .0) (λ m. Laws''''''.Is
+              (Declared'.row Relayed.the-type) (m .1 .1 .1 .1 .1 .1 .1 .1 .1 .1 .1 .1 .1 .1 .1 .0) (Laws'''''''.vals
+              Relayed.the-type Laws''''.the-laws (m .1 .1 .1 .1 .1 .1 .1 .1 .1 .1 .1 .1 .1 .1 .1 .0)))
+              (Reads'.room-gone 𝓤 H A Laws.mir) (
+                Reads.reads-field 𝓤 H A W Relayed.the-type Laws''''.the-laws 1 Laws.mir 160 Path.refl,
+                Path.refl,
+              ) Path.refl (λ ρ m. Make.tells-row 𝓤 H A W E ρ (Row.out 16 (G111 .locals)) m 15 (Laws''''''.Is
+              (Declared'.row Relayed.the-type) (m .1 .1 .1 .1 .1 .1 .1 .1 .1 .1 .1 .1 .1 .1 .1 .0) (Laws'''''''.vals
+              Relayed.the-type Laws''''.the-laws (m .1 .1 .1 .1 .1 .1 .1 .1 .1 .1 .1 .1 .1 .1 .1 .0))) (Make.whole-is 𝓤
+              H A W E (Declared'.row Relayed.the-type) Path.refl (Laws'''''''.val Relayed.the-type Laws''''.the-laws)
+              (Laws'''''''.tells Relayed.the-type Laws''''.the-laws) ρ 15
+              (m .1 .1 .1 .1 .1 .1 .1 .1 .1 .1 .1 .1 .1 .1 .1 .0))) (λ m k wa. Path.refl) λ m k wa. Laws'''''''.owed
+              Relayed.the-type Laws''''.the-laws (m .1 .1 .1 .1 .1 .1 .1 .1 .1 .1 .1 .1 .1 .1 .1 .0) (Laws'''''''.vals
               Relayed.the-type Laws''''.the-laws (m .1 .1 .1 .1 .1 .1 .1 .1 .1 .1 .1 .1 .1 .1 .1 .0)) k .1 .0) d79
+
           d81 : Typed.Typed 𝓤 H A 𝓣 E G110 b67 Δ0 (at81 bs)
-          d81 = Typed.g-pre 𝓤 H A W 𝓣 E G110 G111 b67 Δ0 (λ Ψ. Ψ) (at80 bs) (Lifetime.g-forget 𝓤 H A W E G110 19 Row.dead Path.refl) d80
+          d81 = Typed.g-pre 𝓤 H A W 𝓣 E G110 G111 b67 Δ0 (λ Ψ. Ψ) (at80 bs)
+              (Lifetime.g-forget 𝓤 H A W E G110 19 Row.dead Path.refl) d80
+
           d82 : Typed.Typed 𝓤 H A 𝓣 E G109 b67 Δ0 (at82 bs)
-          d82 = Typed.g-pre 𝓤 H A W 𝓣 E G109 G110 b67 Δ0 (Typed.give (s107 bs)) (at81 bs) (Know.g-sl-known 𝓤 H A W (Referent.fInt Syntax.w32) E G109 5
-              4 ref9 life3 0 (λ x. x) record { fits = Dec.lit< tt } (Reads'.as-is 𝓤 H A (Mut.mslice (Referent.rtF (Referent.fInt Syntax.w32)) ref9 4))
-              Path.refl tt) d81
+          d82 = Typed.g-pre 𝓤 H A W 𝓣 E G109 G110 b67 Δ0 (Typed.give (s107 bs)) (at81 bs) (Know.g-sl-known 𝓤 H A W
+              (Referent.fInt Syntax.w32) E G109 5 4 ref9 life3 0 (λ x. x) record { fits = Dec.lit< tt } (Reads'.as-is 𝓤
+              H A (Mut.mslice (Referent.rtF (Referent.fInt Syntax.w32)) ref9 4)) Path.refl tt) d81
+
           d83 : Typed.Typed 𝓤 H A 𝓣 E G108 b67 Δ0 (at83 bs)
-          d83 = Typed.g-pre 𝓤 H A W 𝓣 E G108 G109 b67 Δ0 (Typed.both (s106 bs)) (at82 bs) (Relend.g-back-sl 𝓤 H A W E (Referent.rtF (Referent.fInt
-              Syntax.w32)) G108 45 5 4 19 ref9 ref3 life3 (λ x. x) (λ x. x) (Reads'.as-is 𝓤 H A (Mut.msleft (Referent.rtF (Referent.fInt Syntax.w32))
-              ref3)) (Reads'.as-is 𝓤 H A (Relend.mslice-owed (Referent.rtF (Referent.fInt Syntax.w32)) ref9 4 19 life3)) Path.refl Path.refl) d82
+          d83 = Typed.g-pre 𝓤 H A W 𝓣 E G108 G109 b67 Δ0 (Typed.both (s106 bs)) (at82 bs) (Relend.g-back-sl 𝓤 H A W E
+              (Referent.rtF (Referent.fInt Syntax.w32)) G108 45 5 4 19 ref9 ref3 life3 (λ x. x) (λ x. x) (Reads'.as-is
+              𝓤 H A (Mut.msleft (Referent.rtF (Referent.fInt Syntax.w32)) ref3)) (Reads'.as-is 𝓤 H A (Relend.mslice-owed
+              (Referent.rtF (Referent.fInt Syntax.w32)) ref9 4 19 life3)) Path.refl Path.refl) d82
+
           d84 : Typed.Typed 𝓤 H A 𝓣 E G107 b67 Δ0 (at84 bs)
-          d84 = Typed.g-pre 𝓤 H A W 𝓣 E G107 G108 b67 Δ0 (λ Ψ. Ψ) (at83 bs) (Lifetime.g-end 𝓤 H A W E G107 19 Path.refl) d83
+          d84 = Typed.g-pre 𝓤 H A W 𝓣 E G107 G108 b67 Δ0 (λ Ψ. Ψ) (at83 bs)
+              (Lifetime.g-end 𝓤 H A W E G107 19 Path.refl) d83
+
           d85 : Typed.Typed 𝓤 H A 𝓣 E G106 b67 Δ0 (at85 bs)
-          d85 = Typed.g-pre 𝓤 H A W 𝓣 E G106 G107 b67 Δ0 (λ Ψ. Ψ) (at84 bs) (Lifetime.g-forget 𝓤 H A W E G106 18 Row.dead Path.refl) d84
+          d85 = Typed.g-pre 𝓤 H A W 𝓣 E G106 G107 b67 Δ0 (λ Ψ. Ψ) (at84 bs)
+              (Lifetime.g-forget 𝓤 H A W E G106 18 Row.dead Path.refl) d84
+
           d86 : Typed.Typed 𝓤 H A 𝓣 E G105 b67 Δ0 (at86 bs)
-          d86 = Typed.g-pre 𝓤 H A W 𝓣 E G105 G106 b67 Δ0 (Typed.both (s103 bs)) (at85 bs) (Relend.g-back-sl 𝓤 H A W E InflightAction.row G105 43 4 3
-              18 ref8 ref2 life2 (λ x. x) (λ x. x) (Reads'.as-is 𝓤 H A (Mut.msleft InflightAction.row ref2)) (Reads'.as-is 𝓤 H A (Relend.mslice-owed
-              InflightAction.row ref8 3 18 life2)) Path.refl Path.refl) d85
+          d86 = Typed.g-pre 𝓤 H A W 𝓣 E G105 G106 b67 Δ0 (Typed.both (s103 bs)) (at85 bs) (Relend.g-back-sl 𝓤 H A W E
+              InflightAction.row G105 43 4 3 18 ref8 ref2 life2 (λ x. x) (λ x. x)
+              (Reads'.as-is 𝓤 H A (Mut.msleft InflightAction.row ref2)) (Reads'.as-is 𝓤 H A
+              (Relend.mslice-owed InflightAction.row ref8 3 18 life2)) Path.refl Path.refl) d85
+
           d87 : Typed.Typed 𝓤 H A 𝓣 E G104 b67 Δ0 (at87 bs)
-          d87 = Typed.g-pre 𝓤 H A W 𝓣 E G104 G105 b67 Δ0 (λ Ψ. Ψ) (at86 bs) (Lifetime.g-end 𝓤 H A W E G104 18 Path.refl) d86
+          d87 = Typed.g-pre 𝓤 H A W 𝓣 E G104 G105 b67 Δ0 (λ Ψ. Ψ) (at86 bs)
+              (Lifetime.g-end 𝓤 H A W E G104 18 Path.refl) d86
+
           d88 : Typed.Typed 𝓤 H A 𝓣 E G103 b67 Δ0 (at88 bs)
-          d88 = Typed.g-pre 𝓤 H A W 𝓣 E G103 G104 b67 Δ0 (λ Ψ. Ψ) (at87 bs) (Lifetime.g-forget 𝓤 H A W E G103 17 Row.dead Path.refl) d87
+          d88 = Typed.g-pre 𝓤 H A W 𝓣 E G103 G104 b67 Δ0 (λ Ψ. Ψ) (at87 bs)
+              (Lifetime.g-forget 𝓤 H A W E G103 17 Row.dead Path.refl) d87
+
           d89 : Typed.Typed 𝓤 H A 𝓣 E G102 b67 Δ0 (at89 bs)
-          d89 = Typed.g-pre 𝓤 H A W 𝓣 E G102 G103 b67 Δ0 (Typed.both (s100 bs)) (at88 bs) (Relend.g-back-sl 𝓤 H A W E ReservationUsage.row G102 41 3 2
-              17 ref7 ref4 life4 (λ x. x) (λ x. x) (Reads'.as-is 𝓤 H A (Mut.msleft ReservationUsage.row ref4)) (Reads'.as-is 𝓤 H A (Relend.mslice-owed
-              ReservationUsage.row ref7 2 17 life4)) Path.refl Path.refl) d88
+          d89 = Typed.g-pre 𝓤 H A W 𝓣 E G102 G103 b67 Δ0 (Typed.both (s100 bs)) (at88 bs) (Relend.g-back-sl 𝓤 H A W E
+              ReservationUsage.row G102 41 3 2 17 ref7 ref4 life4 (λ x. x) (λ x. x)
+              (Reads'.as-is 𝓤 H A (Mut.msleft ReservationUsage.row ref4)) (Reads'.as-is 𝓤 H A
+              (Relend.mslice-owed ReservationUsage.row ref7 2 17 life4)) Path.refl Path.refl) d88
+
           d90 : Typed.Typed 𝓤 H A 𝓣 E G101 b67 Δ0 (at90 bs)
-          d90 = Typed.g-pre 𝓤 H A W 𝓣 E G101 G102 b67 Δ0 (λ Ψ. Ψ) (at89 bs) (Lifetime.g-end 𝓤 H A W E G101 17 Path.refl) d89
+          d90 = Typed.g-pre 𝓤 H A W 𝓣 E G101 G102 b67 Δ0 (λ Ψ. Ψ) (at89 bs)
+              (Lifetime.g-end 𝓤 H A W E G101 17 Path.refl) d89
+
           d91 : Typed.Typed 𝓤 H A 𝓣 E G100 b67 Δ0 (at91 bs)
-          d91 = Typed.g-pre 𝓤 H A W 𝓣 E G100 G101 b67 Δ0 (λ Ψ. Ψ) (at90 bs) (Lifetime.g-forget 𝓤 H A W E G100 16 Row.dead Path.refl) d90
+          d91 = Typed.g-pre 𝓤 H A W 𝓣 E G100 G101 b67 Δ0 (λ Ψ. Ψ) (at90 bs)
+              (Lifetime.g-forget 𝓤 H A W E G100 16 Row.dead Path.refl) d90
+
           d92 : Typed.Typed 𝓤 H A 𝓣 E G99 b67 Δ0 (at92 bs)
-          d92 = Typed.g-pre 𝓤 H A W 𝓣 E G99 G100 b67 Δ0 (Typed.both (s97 bs)) (at91 bs) (Relend.g-back-sl 𝓤 H A W E RelayCircuit.row G99 39 2 1 16
-              ref6 ref1 life1 (λ x. x) (λ x. x) (Reads'.as-is 𝓤 H A (Mut.msleft RelayCircuit.row ref1)) (Reads'.as-is 𝓤 H A (Relend.mslice-owed
-              RelayCircuit.row ref6 1 16 life1)) Path.refl Path.refl) d91
+          d92 = Typed.g-pre 𝓤 H A W 𝓣 E G99 G100 b67 Δ0 (Typed.both (s97 bs)) (at91 bs) (Relend.g-back-sl 𝓤 H A W E
+              RelayCircuit.row G99 39 2 1 16 ref6 ref1 life1 (λ x. x) (λ x. x)
+              (Reads'.as-is 𝓤 H A (Mut.msleft RelayCircuit.row ref1)) (Reads'.as-is 𝓤 H A
+              (Relend.mslice-owed RelayCircuit.row ref6 1 16 life1)) Path.refl Path.refl) d91
+
           d93 : Typed.Typed 𝓤 H A 𝓣 E G98 b67 Δ0 (at93 bs)
-          d93 = Typed.g-pre 𝓤 H A W 𝓣 E G98 G99 b67 Δ0 (λ Ψ. Ψ) (at92 bs) (Lifetime.g-end 𝓤 H A W E G98 16 Path.refl) d92
+          d93 = Typed.g-pre 𝓤 H A W 𝓣 E G98 G99 b67 Δ0 (λ Ψ. Ψ) (at92 bs) (Lifetime.g-end 𝓤 H A W E G98 16 Path.refl)
+              d92
+
           d94 : Typed.Typed 𝓤 H A 𝓣 E G97 b67 Δ0 (at94 bs)
-          d94 = Typed.g-pre 𝓤 H A W 𝓣 E G97 G98 b67 Δ0 (λ Ψ. Ψ) (at93 bs) (Lifetime.g-forget 𝓤 H A W E G97 15 Row.dead Path.refl) d93
+          d94 = Typed.g-pre 𝓤 H A W 𝓣 E G97 G98 b67 Δ0 (λ Ψ. Ψ) (at93 bs)
+              (Lifetime.g-forget 𝓤 H A W E G97 15 Row.dead Path.refl) d93
+
           d95 : Typed.Typed 𝓤 H A 𝓣 E G96 b67 Δ0 (at95 bs)
-          d95 = Typed.g-pre 𝓤 H A W 𝓣 E G96 G97 b67 Δ0 (Typed.both (s94 bs)) (at94 bs) (Relend.g-back-sl 𝓤 H A W E RelayPending.row G96 37 1 0 15 ref5
-              ref0 life0 (λ x. x) (λ x. x) (Reads'.as-is 𝓤 H A (Mut.msleft RelayPending.row ref0)) (Reads'.as-is 𝓤 H A (Relend.mslice-owed
-              RelayPending.row ref5 0 15 life0)) Path.refl Path.refl) d94
+          d95 = Typed.g-pre 𝓤 H A W 𝓣 E G96 G97 b67 Δ0 (Typed.both (s94 bs)) (at94 bs) (Relend.g-back-sl 𝓤 H A W E
+              RelayPending.row G96 37 1 0 15 ref5 ref0 life0 (λ x. x) (λ x. x)
+              (Reads'.as-is 𝓤 H A (Mut.msleft RelayPending.row ref0)) (Reads'.as-is 𝓤 H A
+              (Relend.mslice-owed RelayPending.row ref5 0 15 life0)) Path.refl Path.refl) d94
+
           d96 : Typed.Typed 𝓤 H A 𝓣 E G95 b67 Δ0 (at96 bs)
-          d96 = Typed.g-pre 𝓤 H A W 𝓣 E G95 G96 b67 Δ0 (λ Ψ. Ψ) (at95 bs) (Lifetime.g-end 𝓤 H A W E G95 15 Path.refl) d95
+          d96 = Typed.g-pre 𝓤 H A W 𝓣 E G95 G96 b67 Δ0 (λ Ψ. Ψ) (at95 bs) (Lifetime.g-end 𝓤 H A W E G95 15 Path.refl)
+              d95
+
           d97 : Typed.Typed 𝓤 H A 𝓣 E G94 b67 Δ0 (at97 bs)
-          d97 = Typed.g-pre 𝓤 H A W 𝓣 E G94 G95 b67 Δ0 (Typed.pass T94 T95 (s92 bs)) (at96 bs) (Scalar.g-room 𝓤 H A W E G94 7 Laws''.mir
-              (Local.room-whole 𝓤 H A W (Declared'.row RelayPacket.the-type) Laws''.mir Path.refl)) d96
+          d97 = Typed.g-pre 𝓤 H A W 𝓣 E G94 G95 b67 Δ0 (Typed.pass T94 T95 (s92 bs)) (at96 bs) (Scalar.g-room 𝓤 H A W E
+              G94 7 Laws''.mir (Local.room-whole 𝓤 H A W (Declared'.row RelayPacket.the-type) Laws''.mir Path.refl))
+              d96
+
           d98 : Typed.Typed 𝓤 H A 𝓣 E G93 b67 Δ0 (at98 bs)
-          d98 = Typed.g-pre 𝓤 H A W 𝓣 E G93 G94 b67 Δ0 (Typed.pass T93 T94 (s91 bs)) (at97 bs) (Scalar.g-room 𝓤 H A W E G93 6 Laws''''.mir
-              (Local.room-whole 𝓤 H A W (Declared'.row Relayed.the-type) Laws''''.mir Path.refl)) d97
+          d98 = Typed.g-pre 𝓤 H A W 𝓣 E G93 G94 b67 Δ0 (Typed.pass T93 T94 (s91 bs)) (at97 bs) (Scalar.g-room 𝓤 H A W E
+              G93 6 Laws''''.mir (Local.room-whole 𝓤 H A W (Declared'.row Relayed.the-type) Laws''''.mir Path.refl))
+              d97
+
           d99 : Typed.Typed 𝓤 H A 𝓣 E G92 b68 Δ0 (at99 bs)
-          d99 = Typed.s-seq 𝓤 H A W 𝓣 E G92 G93 b62 b67 Δ0 (Typed.both (s90 bs)) (at98 bs) (Plain.t-call-plain 𝓤 H A W 𝓣 6 ps·1 r·1 (claims· .2)
-              (claims· .3) "cases::machine::deliver" (known .1) E (λ pos β. β) G92 (record { pos = 37; ty = Syntax.tyRef Syntax.erased Syntax.mut
-              RelayPending.to; ref = λ x. x; }, (record { pos = 39; ty = Syntax.tyRef Syntax.erased Syntax.mut RelayCircuit.to; ref = λ x. x; },
-              (record { pos = 41; ty = Syntax.tyRef Syntax.erased Syntax.mut ReservationUsage.to; ref = λ x. x; }, (record { pos = 43; ty =
-              Syntax.tyRef Syntax.erased Syntax.mut InflightAction.to; ref = λ x. x; }, (record { pos = 45; ty = Syntax.tyRef Syntax.erased Syntax.mut
-              (Syntax.tyInt Syntax.w32); ref = λ x. x; }, (record { pos = 6; st = List.[]; d = 0; at = λ x. x }, (record { pos = 7; st = List.[]; d =
-              0; at = λ x. x }, (Num.vLit 1, (record { pos = 8; ty = Syntax.tyRef (Syntax.named 5) Syntax.imm (Syntax.tyInt Syntax.w8); ref = λ x. x;
-              }, tt,),),),),),),),),) 15 (15 ∷ 16 ∷ 17 ∷ 18 ∷ 19 ∷ 5 ∷ List.[]) (Call.sub-id 𝓤 H A W (G92 .slots)) (Reads'.as-is 𝓤 H A (Mut.mslice
-              RelayPending.row ref0 15), Mut.reads-mslice 𝓤 H A W RelayPending.row ref0 15, Path.refl, (Reads'.as-is 𝓤 H A (Mut.mslice
-              RelayCircuit.row ref1 16), Mut.reads-mslice 𝓤 H A W RelayCircuit.row ref1 16, Path.refl, (Reads'.as-is 𝓤 H A (Mut.mslice
-              ReservationUsage.row ref4 17), Mut.reads-mslice 𝓤 H A W ReservationUsage.row ref4 17, Path.refl, (Reads'.as-is 𝓤 H A (Mut.mslice
-              InflightAction.row ref2 18), Mut.reads-mslice 𝓤 H A W InflightAction.row ref2 18, Path.refl, (Reads'.as-is 𝓤 H A (Mut.mslice
-              (Referent.rtF (Referent.fInt Syntax.w32)) ref3 19), Mut.reads-mslice 𝓤 H A W (Referent.rtF (Referent.fInt Syntax.w32)) ref3 19,
-              Path.refl, ((Yields.yields-copy 𝓤 H A W (λ ρ. Unit) (Declared'.row Relayed.the-type) Path.refl (Copies.cStruct Relayed.the-type
-              Laws''''.the-laws Laws''''.the-copy .copy 𝓤 H A W) (Rows.whole (Declared'.row Relayed.the-type)) (λ x. x) (λ x. x) (λ ρ told.
-              Local.mem-whole 𝓤 H A W (Declared'.row Relayed.the-type) ρ) λ ρ told. Local.whole-mem 𝓤 H A W (Declared'.row Relayed.the-type) ρ,
-              Path.refl,), ((Yields.yields-copy 𝓤 H A W (λ ρ. Unit) (Declared'.row RelayPacket.the-type) Path.refl (Copies.cStruct
-              RelayPacket.the-type Laws''.the-laws Laws''.the-copy .copy 𝓤 H A W) (Rows.whole (Declared'.row RelayPacket.the-type)) (λ x. x) (λ x. x)
-              (λ ρ told. Local.mem-whole 𝓤 H A W (Declared'.row RelayPacket.the-type) ρ) λ ρ told. Local.whole-mem 𝓤 H A W (Declared'.row
-              RelayPacket.the-type) ρ, Path.refl,), (tt, (ShrSlice.spares-sslice 𝓤 H A W (Referent.rtF (Referent.fInt Syntax.w8)) ref10 5,
-              Shared.reads-sslice 𝓤 H A W (Referent.rtF (Referent.fInt Syntax.w8)) ref10 5, Path.refl, tt,),),),),),),),),) (Reads'.room-gone 𝓤 H A
-              Laws''''.mir) (tt, (tt, (tt, (tt, (tt, (tt, tt)))))) Path.refl) d98
+          d99 = Typed.s-seq 𝓤 H A W 𝓣 E G92 G93 b62 b67 Δ0 (Typed.both (s90 bs)) (at98 bs) (Plain.t-call-plain 𝓤 H A W
+              𝓣 6 ps·1 r·1 (claims· .2) (claims· .3) "cases::machine::deliver" (known .1) E (λ pos β. β) G92 (
+                record { pos = 37; ty = ref0; ref = λ x. x },
+                (
+                  record { pos = 39; ty = ref1; ref = λ x. x },
+                  (
+                    record { pos = 41; ty = ref4; ref = λ x. x },
+                    (
+                      record { pos = 43; ty = ref2; ref = λ x. x },
+                      (
+                        record { pos = 45; ty = ref3; ref = λ x. x },
+                        (
+                          record { pos = 6; st = List.[]; d = 0; at = λ x. x },
+                          (
+                            record { pos = 7; st = List.[]; d = 0; at = λ x. x },
+                            (Num.vLit 1, (record { pos = 8; ty = ref10; ref = λ x. x }, tt)),
+                          ),
+                        ),
+                      ),
+                    ),
+                  ),
+                ),
+              ) 15 (15 ∷ 16 ∷ 17 ∷ 18 ∷ 19 ∷ 5 ∷ List.[]) (Call.sub-id 𝓤 H A W (G92 .slots)) (
+                Reads'.as-is 𝓤 H A (Mut.mslice RelayPending.row ref0 15),
+                Mut.reads-mslice 𝓤 H A W RelayPending.row ref0 15,
+                Path.refl,
+                (
+                  Reads'.as-is 𝓤 H A (Mut.mslice RelayCircuit.row ref1 16),
+                  Mut.reads-mslice 𝓤 H A W RelayCircuit.row ref1 16,
+                  Path.refl,
+                  (
+                    Reads'.as-is 𝓤 H A (Mut.mslice ReservationUsage.row ref4 17),
+                    Mut.reads-mslice 𝓤 H A W ReservationUsage.row ref4 17,
+                    Path.refl,
+                    (
+                      Reads'.as-is 𝓤 H A (Mut.mslice InflightAction.row ref2 18),
+                      Mut.reads-mslice 𝓤 H A W InflightAction.row ref2 18,
+                      Path.refl,
+                      (
+                        Reads'.as-is 𝓤 H A (Mut.mslice (Referent.rtF (Referent.fInt Syntax.w32)) ref3 19),
+                        Mut.reads-mslice 𝓤 H A W (Referent.rtF (Referent.fInt Syntax.w32)) ref3 19,
+                        Path.refl,
+                        (
+                          (
+                            Yields.yields-copy 𝓤 H A W (λ ρ. Unit) (Declared'.row Relayed.the-type) Path.refl (Copies.cStruct
+                                Relayed.the-type Laws''''.the-laws Laws''''.the-copy .copy 𝓤 H A W)
+                                (Rows.whole (Declared'.row Relayed.the-type)) (λ x. x) (λ x. x) (λ ρ told.
+                                Local.mem-whole 𝓤 H A W (Declared'.row Relayed.the-type) ρ) λ ρ told. Local.whole-mem 𝓤
+                                H A W (Declared'.row Relayed.the-type) ρ,
+                            Path.refl,
+                          ),
+                          (
+                            (
+                              Yields.yields-copy 𝓤 H A W (λ ρ. Unit) (Declared'.row RelayPacket.the-type) Path.refl (Copies.cStruct
+                                  RelayPacket.the-type Laws''.the-laws Laws''.the-copy .copy 𝓤 H A W)
+                                  (Rows.whole (Declared'.row RelayPacket.the-type)) (λ x. x) (λ x. x) (λ ρ told.
+                                  Local.mem-whole 𝓤 H A W (Declared'.row RelayPacket.the-type) ρ) λ ρ told.
+                                  Local.whole-mem 𝓤 H A W (Declared'.row RelayPacket.the-type) ρ,
+                              Path.refl,
+                            ),
+                            (
+                              tt,
+                              (
+                                ShrSlice.spares-sslice 𝓤 H A W (Referent.rtF (Referent.fInt Syntax.w8)) ref10 5,
+                                Shared.reads-sslice 𝓤 H A W (Referent.rtF (Referent.fInt Syntax.w8)) ref10 5,
+                                Path.refl,
+                                tt,
+                              ),
+                            ),
+                          ),
+                        ),
+                      ),
+                    ),
+                  ),
+                ),
+              ) (Reads'.room-gone 𝓤 H A Laws''''.mir) (tt, (tt, (tt, (tt, (tt, (tt, tt)))))) Path.refl) d98
+
           d100 : Typed.Typed 𝓤 H A 𝓣 E G91 b69 Δ0 (at100 bs)
-          d100 = Typed.s-seq 𝓤 H A W 𝓣 E G91 G92 b61 b68 Δ0 (Typed.ask (s89 bs)) (at99 bs) (Relend.t-sl-aggregate 𝓤 H A W E (Referent.rtF
-              (Referent.fInt Syntax.w32)) 𝓣 (Relend.asMut (Referent.rtF (Referent.fInt Syntax.w32))) G91 44 45 19 ref3 ref3 (λ x. x) (Scalar.oFld 5
-              ((Syntax.field 1) ∷ List.[]) (Syntax.tyInt Syntax.w64) 8 λ v. Shared.lenV (v .0)) (Reads'.as-is 𝓤 H A (Relend.msptr (Referent.rtF
-              (Referent.fInt Syntax.w32)) ref3 19)) (Reads'.room-gone 𝓤 H A (Syntax.tyStruct (38 ∷ 91 ∷ 93 ∷ List.[]) (Syntax.tcons ref3 (Syntax.tcons
-              (Syntax.tyInt Syntax.w64) Syntax.tnil)))) (Relend.reads-owed-len 𝓤 H A W (Referent.rtF (Referent.fInt Syntax.w32)) ref9 4 19 life3 8
-              Path.refl, Path.refl,) Path.refl Path.refl λ b o k. tt) d99
+          d100 = Typed.s-seq 𝓤 H A W 𝓣 E G91 G92 b61 b68 Δ0 (Typed.ask (s89 bs)) (at99 bs) (Relend.t-sl-aggregate 𝓤 H A
+              W E (Referent.rtF (Referent.fInt Syntax.w32)) 𝓣 (Relend.asMut (Referent.rtF (Referent.fInt Syntax.w32)))
+              G91 44 45 19 ref3 ref3 (λ x. x) (Scalar.oFld 5 ((Syntax.field 1) ∷ List.[]) (Syntax.tyInt Syntax.w64) 8
+              λ v. Shared.lenV (v .0)) (Reads'.as-is 𝓤 H A (Relend.msptr (Referent.rtF (Referent.fInt Syntax.w32)) ref3
+              19)) (Reads'.room-gone 𝓤 H A slice3) (
+                Relend.reads-owed-len 𝓤 H A W (Referent.rtF (Referent.fInt Syntax.w32)) ref9 4 19 life3 8 Path.refl,
+                Path.refl,
+              ) Path.refl Path.refl λ b o k. tt) d99
+
           d101 : Typed.Typed 𝓤 H A 𝓣 E G90 b70 Δ0 (at101 bs)
-          d101 = Typed.s-seq 𝓤 H A W 𝓣 E G90 G91 b60 b69 Δ0 (Typed.give (s88 bs)) (at100 bs) (Relend.t-sl-relend 𝓤 H A W E (Referent.rtF
-              (Referent.fInt Syntax.w32)) 𝓣 G90 5 44 4 19 ref9 ref3 life3 0 (λ x. x) (Reads'.as-is 𝓤 H A (Mut.mslice (Referent.rtF (Referent.fInt
-              Syntax.w32)) ref9 4)) (Reads'.room-gone 𝓤 H A ref3) Path.refl tt Path.refl Path.refl Path.refl λ b o. tt) d100
+          d101 = Typed.s-seq 𝓤 H A W 𝓣 E G90 G91 b60 b69 Δ0 (Typed.give (s88 bs)) (at100 bs) (Relend.t-sl-relend 𝓤 H A
+              W E (Referent.rtF (Referent.fInt Syntax.w32)) 𝓣 G90 5 44 4 19 ref9 ref3 life3 0 (λ x. x) (Reads'.as-is 𝓤
+              H A (Mut.mslice (Referent.rtF (Referent.fInt Syntax.w32)) ref9 4)) (Reads'.room-gone 𝓤 H A ref3)
+              Path.refl tt Path.refl Path.refl Path.refl λ b o. tt) d100
+
           d102 : Typed.Typed 𝓤 H A 𝓣 E G89 b70 Δ0 (at102 bs)
-          d102 = Typed.g-pre 𝓤 H A W 𝓣 E G89 G90 b70 Δ0 (λ Ψ. Ψ) (at101 bs) (Lifetime.g-begin 𝓤 H A W E G89 19 (tt, ((tt, tt), ((tt, tt), ((tt, tt),
-              ((tt, tt), (tt, (tt, (tt, (tt, (tt, (tt, (tt, (tt, (tt, (tt, (tt, (tt, (tt, (tt, (tt, (tt, (tt, (tt, (tt, (tt, (tt, (tt, (tt, (tt, (tt,
-              (tt, (tt, (tt, (tt, (tt, (tt, (tt, (tt, (tt, (tt, (tt, (tt, (tt, (tt, (tt, (tt,
-              tt,),),),),),),),),),),),),),),),),),),),),),),),),),),),),),),),),),),),),),),),),),),),),),)) d101
+          d102 = Typed.g-pre 𝓤 H A W 𝓣 E G89 G90 b70 Δ0 (λ Ψ. Ψ) (at101 bs) (Lifetime.g-begin 𝓤 H A W E G89 19 (
+            tt,
+            (
+              (tt, tt),
+              (
+                (tt, tt),
+                (
+                  (tt, tt),
+                  (
+                    (tt, tt),
+                    (
+                      tt,
+                      (
+                        tt,
+                        (
+                          tt,
+                          (
+                            tt,
+                            (
+                              tt,
+                              (
+                                tt,
+                                (
+                                  tt,
+                                  (
+                                    tt,
+                                    (
+                                      tt,
+                                      (
+                                        tt,
+                                        (
+                                          tt,
+                                          (
+                                            tt,
+                                            (
+                                              tt,
+                                              (
+                                                tt,
+                                                (
+                                                  tt,
+                                                  (
+                                                    tt,
+                                                    (
+                                                      tt,
+                                                      (
+                                                        tt,
+                                                        (
+                                                          tt,
+                                                          (
+                                                            tt,
+                                                            (
+                                                              tt,
+                                                              (
+                                                                tt,
+                                                                (
+                                                                  tt,
+                                                                  (
+                                                                    tt,
+                                                                    (
+                                                                      tt,
+                                                                      (
+                                                                        tt,
+                                                                        (
+                                                                          tt,
+                                                                          (
+                                                                            tt,
+                                                                            (
+                                                                              tt,
+                                                                              (
+                                                                                tt,
+                                                                                (
+                                                                                  tt,
+                                                                                  (
+                                                                                    tt,
+                                                                                    (
+                                                                                      tt,
+                                                                                      (
+                                                                                        tt,
+                                                                                        (
+                                                                                          tt,
+                                                                                          (
+                                                                                            tt,
+                                                                                            (
+                                                                                              tt,
+                                                                                              (
+                                                                                                tt,
+                                                                                                (tt, (tt, (tt, tt))),
+                                                                                              ),
+                                                                                            ),
+                                                                                          ),
+                                                                                        ),
+                                                                                      ),
+                                                                                    ),
+                                                                                  ),
+                                                                                ),
+                                                                              ),
+                                                                            ),
+                                                                          ),
+                                                                        ),
+                                                                      ),
+                                                                    ),
+                                                                  ),
+                                                                ),
+                                                              ),
+                                                            ),
+                                                          ),
+                                                        ),
+                                                      ),
+                                                    ),
+                                                  ),
+                                                ),
+                                              ),
+                                            ),
+                                          ),
+                                        ),
+                                      ),
+                                    ),
+                                  ),
+                                ),
+                              ),
+                            ),
+                          ),
+                        ),
+                      ),
+                    ),
+                  ),
+                ),
+              ),
+            ),
+          )) d101
+
           d103 : Typed.Typed 𝓤 H A 𝓣 E G88 b71 Δ0 (at103 bs)
-          d103 = Typed.s-seq 𝓤 H A W 𝓣 E G88 G89 b59 b70 Δ0 (Typed.ask (s86 bs)) (at102 bs) (Relend.t-sl-aggregate 𝓤 H A W E InflightAction.row 𝓣
-              (Relend.asMut InflightAction.row) G88 42 43 18 ref2 ref2 (λ x. x) (Scalar.oFld 4 ((Syntax.field 1) ∷ List.[]) (Syntax.tyInt Syntax.w64)
-              8 λ v. Shared.lenV (v .0)) (Reads'.as-is 𝓤 H A (Relend.msptr InflightAction.row ref2 18)) (Reads'.room-gone 𝓤 H A (Syntax.tyStruct (38 ∷
-              91 ∷ 93 ∷ List.[]) (Syntax.tcons ref2 (Syntax.tcons (Syntax.tyInt Syntax.w64) Syntax.tnil)))) (Relend.reads-owed-len 𝓤 H A W
-              InflightAction.row ref8 3 18 life2 8 Path.refl, Path.refl,) Path.refl Path.refl λ b o k. tt) d102
+          d103 = Typed.s-seq 𝓤 H A W 𝓣 E G88 G89 b59 b70 Δ0 (Typed.ask (s86 bs)) (at102 bs) (Relend.t-sl-aggregate 𝓤 H
+              A W E InflightAction.row 𝓣 (Relend.asMut InflightAction.row) G88 42 43 18 ref2 ref2 (λ x. x) (Scalar.oFld
+              4 ((Syntax.field 1) ∷ List.[]) (Syntax.tyInt Syntax.w64) 8 λ v. Shared.lenV (v .0)) (Reads'.as-is 𝓤 H A
+              (Relend.msptr InflightAction.row ref2 18)) (Reads'.room-gone 𝓤 H A slice2) (
+                Relend.reads-owed-len 𝓤 H A W InflightAction.row ref8 3 18 life2 8 Path.refl,
+                Path.refl,
+              ) Path.refl Path.refl λ b o k. tt) d102
+
           d104 : Typed.Typed 𝓤 H A 𝓣 E G87 b72 Δ0 (at104 bs)
-          d104 = Typed.s-seq 𝓤 H A W 𝓣 E G87 G88 b58 b71 Δ0 (Typed.give (s85 bs)) (at103 bs) (Relend.t-sl-relend 𝓤 H A W E InflightAction.row 𝓣 G87 4
-              42 3 18 ref8 ref2 life2 0 (λ x. x) (Reads'.as-is 𝓤 H A (Mut.mslice InflightAction.row ref8 3)) (Reads'.room-gone 𝓤 H A ref2) Path.refl
-              tt Path.refl Path.refl Path.refl λ b o. tt) d103
+          d104 = Typed.s-seq 𝓤 H A W 𝓣 E G87 G88 b58 b71 Δ0 (Typed.give (s85 bs)) (at103 bs) (Relend.t-sl-relend 𝓤 H A
+              W E InflightAction.row 𝓣 G87 4 42 3 18 ref8 ref2 life2 0 (λ x. x)
+              (Reads'.as-is 𝓤 H A (Mut.mslice InflightAction.row ref8 3)) (Reads'.room-gone 𝓤 H A ref2) Path.refl tt
+              Path.refl Path.refl Path.refl λ b o. tt) d103
+
           d105 : Typed.Typed 𝓤 H A 𝓣 E G86 b72 Δ0 (at105 bs)
-          d105 = Typed.g-pre 𝓤 H A W 𝓣 E G86 G87 b72 Δ0 (λ Ψ. Ψ) (at104 bs) (Lifetime.g-begin 𝓤 H A W E G86 18 (tt, ((tt, tt), ((tt, tt), ((tt, tt),
-              (tt, (tt, (tt, (tt, (tt, (tt, (tt, (tt, (tt, (tt, (tt, (tt, (tt, (tt, (tt, (tt, (tt, (tt, (tt, (tt, (tt, (tt, (tt, (tt, (tt, (tt, (tt,
-              (tt, (tt, (tt, (tt, (tt, (tt, (tt, (tt, (tt, (tt, (tt, (tt, (tt, (tt, (tt,
-              tt,),),),),),),),),),),),),),),),),),),),),),),),),),),),),),),),),),),),),),),),),),),),),),)) d104
+          d105 = Typed.g-pre 𝓤 H A W 𝓣 E G86 G87 b72 Δ0 (λ Ψ. Ψ) (at104 bs) (Lifetime.g-begin 𝓤 H A W E G86 18 (
+            tt,
+            (
+              (tt, tt),
+              (
+                (tt, tt),
+                (
+                  (tt, tt),
+                  (
+                    tt,
+                    (
+                      tt,
+                      (
+                        tt,
+                        (
+                          tt,
+                          (
+                            tt,
+                            (
+                              tt,
+                              (
+                                tt,
+                                (
+                                  tt,
+                                  (
+                                    tt,
+                                    (
+                                      tt,
+                                      (
+                                        tt,
+                                        (
+                                          tt,
+                                          (
+                                            tt,
+                                            (
+                                              tt,
+                                              (
+                                                tt,
+                                                (
+                                                  tt,
+                                                  (
+                                                    tt,
+                                                    (
+                                                      tt,
+                                                      (
+                                                        tt,
+                                                        (
+                                                          tt,
+                                                          (
+                                                            tt,
+                                                            (
+                                                              tt,
+                                                              (
+                                                                tt,
+                                                                (
+                                                                  tt,
+                                                                  (
+                                                                    tt,
+                                                                    (
+                                                                      tt,
+                                                                      (
+                                                                        tt,
+                                                                        (
+                                                                          tt,
+                                                                          (
+                                                                            tt,
+                                                                            (
+                                                                              tt,
+                                                                              (
+                                                                                tt,
+                                                                                (
+                                                                                  tt,
+                                                                                  (
+                                                                                    tt,
+                                                                                    (
+                                                                                      tt,
+                                                                                      (
+                                                                                        tt,
+                                                                                        (
+                                                                                          tt,
+                                                                                          (
+                                                                                            tt,
+                                                                                            (
+                                                                                              tt,
+                                                                                              (
+                                                                                                tt,
+                                                                                                (tt, (tt, (tt, tt))),
+                                                                                              ),
+                                                                                            ),
+                                                                                          ),
+                                                                                        ),
+                                                                                      ),
+                                                                                    ),
+                                                                                  ),
+                                                                                ),
+                                                                              ),
+                                                                            ),
+                                                                          ),
+                                                                        ),
+                                                                      ),
+                                                                    ),
+                                                                  ),
+                                                                ),
+                                                              ),
+                                                            ),
+                                                          ),
+                                                        ),
+                                                      ),
+                                                    ),
+                                                  ),
+                                                ),
+                                              ),
+                                            ),
+                                          ),
+                                        ),
+                                      ),
+                                    ),
+                                  ),
+                                ),
+                              ),
+                            ),
+                          ),
+                        ),
+                      ),
+                    ),
+                  ),
+                ),
+              ),
+            ),
+          )) d104
+
           d106 : Typed.Typed 𝓤 H A 𝓣 E G85 b73 Δ0 (at106 bs)
-          d106 = Typed.s-seq 𝓤 H A W 𝓣 E G85 G86 b57 b72 Δ0 (Typed.ask (s83 bs)) (at105 bs) (Relend.t-sl-aggregate 𝓤 H A W E ReservationUsage.row 𝓣
-              (Relend.asMut ReservationUsage.row) G85 40 41 17 ref4 ref4 (λ x. x) (Scalar.oFld 3 ((Syntax.field 1) ∷ List.[]) (Syntax.tyInt
-              Syntax.w64) 8 λ v. Shared.lenV (v .0)) (Reads'.as-is 𝓤 H A (Relend.msptr ReservationUsage.row ref4 17)) (Reads'.room-gone 𝓤 H A
-              (Syntax.tyStruct (38 ∷ 91 ∷ 93 ∷ List.[]) (Syntax.tcons ref4 (Syntax.tcons (Syntax.tyInt Syntax.w64) Syntax.tnil))))
-              (Relend.reads-owed-len 𝓤 H A W ReservationUsage.row ref7 2 17 life4 8 Path.refl, Path.refl,) Path.refl Path.refl λ b o k. tt) d105
+          d106 = Typed.s-seq 𝓤 H A W 𝓣 E G85 G86 b57 b72 Δ0 (Typed.ask (s83 bs)) (at105 bs) (Relend.t-sl-aggregate 𝓤 H
+              A W E ReservationUsage.row 𝓣 (Relend.asMut ReservationUsage.row) G85 40 41 17 ref4 ref4 (λ x. x) (Scalar.oFld
+              3 ((Syntax.field 1) ∷ List.[]) (Syntax.tyInt Syntax.w64) 8 λ v. Shared.lenV (v .0)) (Reads'.as-is 𝓤 H A
+              (Relend.msptr ReservationUsage.row ref4 17)) (Reads'.room-gone 𝓤 H A slice4) (
+                Relend.reads-owed-len 𝓤 H A W ReservationUsage.row ref7 2 17 life4 8 Path.refl,
+                Path.refl,
+              ) Path.refl Path.refl λ b o k. tt) d105
+
           d107 : Typed.Typed 𝓤 H A 𝓣 E G84 b74 Δ0 (at107 bs)
-          d107 = Typed.s-seq 𝓤 H A W 𝓣 E G84 G85 b56 b73 Δ0 (Typed.give (s82 bs)) (at106 bs) (Relend.t-sl-relend 𝓤 H A W E ReservationUsage.row 𝓣 G84
-              3 40 2 17 ref7 ref4 life4 0 (λ x. x) (Reads'.as-is 𝓤 H A (Mut.mslice ReservationUsage.row ref7 2)) (Reads'.room-gone 𝓤 H A ref4)
-              Path.refl tt Path.refl Path.refl Path.refl λ b o. tt) d106
+          d107 = Typed.s-seq 𝓤 H A W 𝓣 E G84 G85 b56 b73 Δ0 (Typed.give (s82 bs)) (at106 bs) (Relend.t-sl-relend 𝓤 H A
+              W E ReservationUsage.row 𝓣 G84 3 40 2 17 ref7 ref4 life4 0 (λ x. x) (Reads'.as-is 𝓤 H A
+              (Mut.mslice ReservationUsage.row ref7 2)) (Reads'.room-gone 𝓤 H A ref4) Path.refl tt Path.refl Path.refl
+              Path.refl λ b o. tt) d106
+
           d108 : Typed.Typed 𝓤 H A 𝓣 E G83 b74 Δ0 (at108 bs)
-          d108 = Typed.g-pre 𝓤 H A W 𝓣 E G83 G84 b74 Δ0 (λ Ψ. Ψ) (at107 bs) (Lifetime.g-begin 𝓤 H A W E G83 17 (tt, ((tt, tt), ((tt, tt), (tt, (tt,
-              (tt, (tt, (tt, (tt, (tt, (tt, (tt, (tt, (tt, (tt, (tt, (tt, (tt, (tt, (tt, (tt, (tt, (tt, (tt, (tt, (tt, (tt, (tt, (tt, (tt, (tt, (tt,
-              (tt, (tt, (tt, (tt, (tt, (tt, (tt, (tt, (tt, (tt, (tt, (tt, (tt, (tt,
-              tt,),),),),),),),),),),),),),),),),),),),),),),),),),),),),),),),),),),),),),),),),),),),),),)) d107
+          d108 = Typed.g-pre 𝓤 H A W 𝓣 E G83 G84 b74 Δ0 (λ Ψ. Ψ) (at107 bs) (Lifetime.g-begin 𝓤 H A W E G83 17 (
+            tt,
+            (
+              (tt, tt),
+              (
+                (tt, tt),
+                (
+                  tt,
+                  (
+                    tt,
+                    (
+                      tt,
+                      (
+                        tt,
+                        (
+                          tt,
+                          (
+                            tt,
+                            (
+                              tt,
+                              (
+                                tt,
+                                (
+                                  tt,
+                                  (
+                                    tt,
+                                    (
+                                      tt,
+                                      (
+                                        tt,
+                                        (
+                                          tt,
+                                          (
+                                            tt,
+                                            (
+                                              tt,
+                                              (
+                                                tt,
+                                                (
+                                                  tt,
+                                                  (
+                                                    tt,
+                                                    (
+                                                      tt,
+                                                      (
+                                                        tt,
+                                                        (
+                                                          tt,
+                                                          (
+                                                            tt,
+                                                            (
+                                                              tt,
+                                                              (
+                                                                tt,
+                                                                (
+                                                                  tt,
+                                                                  (
+                                                                    tt,
+                                                                    (
+                                                                      tt,
+                                                                      (
+                                                                        tt,
+                                                                        (
+                                                                          tt,
+                                                                          (
+                                                                            tt,
+                                                                            (
+                                                                              tt,
+                                                                              (
+                                                                                tt,
+                                                                                (
+                                                                                  tt,
+                                                                                  (
+                                                                                    tt,
+                                                                                    (
+                                                                                      tt,
+                                                                                      (
+                                                                                        tt,
+                                                                                        (
+                                                                                          tt,
+                                                                                          (
+                                                                                            tt,
+                                                                                            (
+                                                                                              tt,
+                                                                                              (
+                                                                                                tt,
+                                                                                                (tt, (tt, (tt, tt))),
+                                                                                              ),
+                                                                                            ),
+                                                                                          ),
+                                                                                        ),
+                                                                                      ),
+                                                                                    ),
+                                                                                  ),
+                                                                                ),
+                                                                              ),
+                                                                            ),
+                                                                          ),
+                                                                        ),
+                                                                      ),
+                                                                    ),
+                                                                  ),
+                                                                ),
+                                                              ),
+                                                            ),
+                                                          ),
+                                                        ),
+                                                      ),
+                                                    ),
+                                                  ),
+                                                ),
+                                              ),
+                                            ),
+                                          ),
+                                        ),
+                                      ),
+                                    ),
+                                  ),
+                                ),
+                              ),
+                            ),
+                          ),
+                        ),
+                      ),
+                    ),
+                  ),
+                ),
+              ),
+            ),
+          )) d107
+
           d109 : Typed.Typed 𝓤 H A 𝓣 E G82 b75 Δ0 (at109 bs)
-          d109 = Typed.s-seq 𝓤 H A W 𝓣 E G82 G83 b55 b74 Δ0 (Typed.ask (s80 bs)) (at108 bs) (Relend.t-sl-aggregate 𝓤 H A W E RelayCircuit.row 𝓣
-              (Relend.asMut RelayCircuit.row) G82 38 39 16 ref1 ref1 (λ x. x) (Scalar.oFld 2 ((Syntax.field 1) ∷ List.[]) (Syntax.tyInt Syntax.w64) 8
-              λ v. Shared.lenV (v .0)) (Reads'.as-is 𝓤 H A (Relend.msptr RelayCircuit.row ref1 16)) (Reads'.room-gone 𝓤 H A (Syntax.tyStruct (38 ∷ 91
-              ∷ 93 ∷ List.[]) (Syntax.tcons ref1 (Syntax.tcons (Syntax.tyInt Syntax.w64) Syntax.tnil)))) (Relend.reads-owed-len 𝓤 H A W
-              RelayCircuit.row ref6 1 16 life1 8 Path.refl, Path.refl,) Path.refl Path.refl λ b o k. tt) d108
+          d109 = Typed.s-seq 𝓤 H A W 𝓣 E G82 G83 b55 b74 Δ0 (Typed.ask (s80 bs)) (at108 bs) (Relend.t-sl-aggregate 𝓤 H
+              A W E RelayCircuit.row 𝓣 (Relend.asMut RelayCircuit.row) G82 38 39 16 ref1 ref1 (λ x. x) (Scalar.oFld 2
+              ((Syntax.field 1) ∷ List.[]) (Syntax.tyInt Syntax.w64) 8 λ v. Shared.lenV (v .0)) (Reads'.as-is 𝓤 H A
+              (Relend.msptr RelayCircuit.row ref1 16)) (Reads'.room-gone 𝓤 H A slice1) (
+                Relend.reads-owed-len 𝓤 H A W RelayCircuit.row ref6 1 16 life1 8 Path.refl,
+                Path.refl,
+              ) Path.refl Path.refl λ b o k. tt) d108
+
           d110 : Typed.Typed 𝓤 H A 𝓣 E G81 b76 Δ0 (at110 bs)
-          d110 = Typed.s-seq 𝓤 H A W 𝓣 E G81 G82 b54 b75 Δ0 (Typed.give (s79 bs)) (at109 bs) (Relend.t-sl-relend 𝓤 H A W E RelayCircuit.row 𝓣 G81 2 38
-              1 16 ref6 ref1 life1 0 (λ x. x) (Reads'.as-is 𝓤 H A (Mut.mslice RelayCircuit.row ref6 1)) (Reads'.room-gone 𝓤 H A ref1) Path.refl tt
+          d110 = Typed.s-seq 𝓤 H A W 𝓣 E G81 G82 b54 b75 Δ0 (Typed.give (s79 bs)) (at109 bs) (Relend.t-sl-relend 𝓤 H A
+              W E RelayCircuit.row 𝓣 G81 2 38 1 16 ref6 ref1 life1 0 (λ x. x)
+              (Reads'.as-is 𝓤 H A (Mut.mslice RelayCircuit.row ref6 1)) (Reads'.room-gone 𝓤 H A ref1) Path.refl tt
               Path.refl Path.refl Path.refl λ b o. tt) d109
+
           d111 : Typed.Typed 𝓤 H A 𝓣 E G80 b76 Δ0 (at111 bs)
-          d111 = Typed.g-pre 𝓤 H A W 𝓣 E G80 G81 b76 Δ0 (λ Ψ. Ψ) (at110 bs) (Lifetime.g-begin 𝓤 H A W E G80 16 (tt, ((tt, tt), (tt, (tt, (tt, (tt,
-              (tt, (tt, (tt, (tt, (tt, (tt, (tt, (tt, (tt, (tt, (tt, (tt, (tt, (tt, (tt, (tt, (tt, (tt, (tt, (tt, (tt, (tt, (tt, (tt, (tt, (tt, (tt,
-              (tt, (tt, (tt, (tt, (tt, (tt, (tt, (tt, (tt, (tt, (tt, (tt, (tt,
-              tt,),),),),),),),),),),),),),),),),),),),),),),),),),),),),),),),),),),),),),),),),),),),),),)) d110
+          d111 = Typed.g-pre 𝓤 H A W 𝓣 E G80 G81 b76 Δ0 (λ Ψ. Ψ) (at110 bs) (Lifetime.g-begin 𝓤 H A W E G80 16 (
+            tt,
+            (
+              (tt, tt),
+              (
+                tt,
+                (
+                  tt,
+                  (
+                    tt,
+                    (
+                      tt,
+                      (
+                        tt,
+                        (
+                          tt,
+                          (
+                            tt,
+                            (
+                              tt,
+                              (
+                                tt,
+                                (
+                                  tt,
+                                  (
+                                    tt,
+                                    (
+                                      tt,
+                                      (
+                                        tt,
+                                        (
+                                          tt,
+                                          (
+                                            tt,
+                                            (
+                                              tt,
+                                              (
+                                                tt,
+                                                (
+                                                  tt,
+                                                  (
+                                                    tt,
+                                                    (
+                                                      tt,
+                                                      (
+                                                        tt,
+                                                        (
+                                                          tt,
+                                                          (
+                                                            tt,
+                                                            (
+                                                              tt,
+                                                              (
+                                                                tt,
+                                                                (
+                                                                  tt,
+                                                                  (
+                                                                    tt,
+                                                                    (
+                                                                      tt,
+                                                                      (
+                                                                        tt,
+                                                                        (
+                                                                          tt,
+                                                                          (
+                                                                            tt,
+                                                                            (
+                                                                              tt,
+                                                                              (
+                                                                                tt,
+                                                                                (
+                                                                                  tt,
+                                                                                  (
+                                                                                    tt,
+                                                                                    (
+                                                                                      tt,
+                                                                                      (
+                                                                                        tt,
+                                                                                        (
+                                                                                          tt,
+                                                                                          (
+                                                                                            tt,
+                                                                                            (
+                                                                                              tt,
+                                                                                              (
+                                                                                                tt,
+                                                                                                (tt, (tt, (tt, tt))),
+                                                                                              ),
+                                                                                            ),
+                                                                                          ),
+                                                                                        ),
+                                                                                      ),
+                                                                                    ),
+                                                                                  ),
+                                                                                ),
+                                                                              ),
+                                                                            ),
+                                                                          ),
+                                                                        ),
+                                                                      ),
+                                                                    ),
+                                                                  ),
+                                                                ),
+                                                              ),
+                                                            ),
+                                                          ),
+                                                        ),
+                                                      ),
+                                                    ),
+                                                  ),
+                                                ),
+                                              ),
+                                            ),
+                                          ),
+                                        ),
+                                      ),
+                                    ),
+                                  ),
+                                ),
+                              ),
+                            ),
+                          ),
+                        ),
+                      ),
+                    ),
+                  ),
+                ),
+              ),
+            ),
+          )) d110
+
           d112 : Typed.Typed 𝓤 H A 𝓣 E G79 b77 Δ0 (at112 bs)
-          d112 = Typed.s-seq 𝓤 H A W 𝓣 E G79 G80 b53 b76 Δ0 (Typed.ask (s77 bs)) (at111 bs) (Relend.t-sl-aggregate 𝓤 H A W E RelayPending.row 𝓣
-              (Relend.asMut RelayPending.row) G79 36 37 15 ref0 ref0 (λ x. x) (Scalar.oFld 1 ((Syntax.field 1) ∷ List.[]) (Syntax.tyInt Syntax.w64) 8
-              λ v. Shared.lenV (v .0)) (Reads'.as-is 𝓤 H A (Relend.msptr RelayPending.row ref0 15)) (Reads'.room-gone 𝓤 H A (Syntax.tyStruct (38 ∷ 91
-              ∷ 93 ∷ List.[]) (Syntax.tcons ref0 (Syntax.tcons (Syntax.tyInt Syntax.w64) Syntax.tnil)))) (Relend.reads-owed-len 𝓤 H A W
-              RelayPending.row ref5 0 15 life0 8 Path.refl, Path.refl,) Path.refl Path.refl λ b o k. tt) d111
+          d112 = Typed.s-seq 𝓤 H A W 𝓣 E G79 G80 b53 b76 Δ0 (Typed.ask (s77 bs)) (at111 bs) (Relend.t-sl-aggregate 𝓤 H
+              A W E RelayPending.row 𝓣 (Relend.asMut RelayPending.row) G79 36 37 15 ref0 ref0 (λ x. x) (Scalar.oFld 1
+              ((Syntax.field 1) ∷ List.[]) (Syntax.tyInt Syntax.w64) 8 λ v. Shared.lenV (v .0)) (Reads'.as-is 𝓤 H A
+              (Relend.msptr RelayPending.row ref0 15)) (Reads'.room-gone 𝓤 H A slice0) (
+                Relend.reads-owed-len 𝓤 H A W RelayPending.row ref5 0 15 life0 8 Path.refl,
+                Path.refl,
+              ) Path.refl Path.refl λ b o k. tt) d111
+
           d113 : Typed.Typed 𝓤 H A 𝓣 E G78 b78 Δ0 (at113 bs)
-          d113 = Typed.s-seq 𝓤 H A W 𝓣 E G78 G79 b52 b77 Δ0 (Typed.give (s76 bs)) (at112 bs) (Relend.t-sl-relend 𝓤 H A W E RelayPending.row 𝓣 G78 1 36
-              0 15 ref5 ref0 life0 0 (λ x. x) (Reads'.as-is 𝓤 H A (Mut.mslice RelayPending.row ref5 0)) (Reads'.room-gone 𝓤 H A ref0) Path.refl tt
+          d113 = Typed.s-seq 𝓤 H A W 𝓣 E G78 G79 b52 b77 Δ0 (Typed.give (s76 bs)) (at112 bs) (Relend.t-sl-relend 𝓤 H A
+              W E RelayPending.row 𝓣 G78 1 36 0 15 ref5 ref0 life0 0 (λ x. x)
+              (Reads'.as-is 𝓤 H A (Mut.mslice RelayPending.row ref5 0)) (Reads'.room-gone 𝓤 H A ref0) Path.refl tt
               Path.refl Path.refl Path.refl λ b o. tt) d112
+
           d114 : Typed.Typed 𝓤 H A 𝓣 E G5 b78 Δ0 (at114 bs)
-          d114 = Typed.g-pre 𝓤 H A W 𝓣 E G5 G78 b78 Δ0 (λ Ψ. Ψ) (at113 bs) (Lifetime.g-begin 𝓤 H A W E G5 15 (tt, (tt, (tt, (tt, (tt, (tt, (tt, (tt,
-              (tt, (tt, (tt, (tt, (tt, (tt, (tt, (tt, (tt, (tt, (tt, (tt, (tt, (tt, (tt, (tt, (tt, (tt, (tt, (tt, (tt, (tt, (tt, (tt, (tt, (tt, (tt,
-              (tt, (tt, (tt, (tt, (tt, (tt, (tt, (tt, (tt, (tt, (tt,
-              tt,),),),),),),),),),),),),),),),),),),),),),),),),),),),),),),),),),),),),),),),),),),),),),)) d113
+          d114 = Typed.g-pre 𝓤 H A W 𝓣 E G5 G78 b78 Δ0 (λ Ψ. Ψ) (at113 bs) (Lifetime.g-begin 𝓤 H A W E G5 15 (
+            tt,
+            (
+              tt,
+              (
+                tt,
+                (
+                  tt,
+                  (
+                    tt,
+                    (
+                      tt,
+                      (
+                        tt,
+                        (
+                          tt,
+                          (
+                            tt,
+                            (
+                              tt,
+                              (
+                                tt,
+                                (
+                                  tt,
+                                  (
+                                    tt,
+                                    (
+                                      tt,
+                                      (
+                                        tt,
+                                        (
+                                          tt,
+                                          (
+                                            tt,
+                                            (
+                                              tt,
+                                              (
+                                                tt,
+                                                (
+                                                  tt,
+                                                  (
+                                                    tt,
+                                                    (
+                                                      tt,
+                                                      (
+                                                        tt,
+                                                        (
+                                                          tt,
+                                                          (
+                                                            tt,
+                                                            (
+                                                              tt,
+                                                              (
+                                                                tt,
+                                                                (
+                                                                  tt,
+                                                                  (
+                                                                    tt,
+                                                                    (
+                                                                      tt,
+                                                                      (
+                                                                        tt,
+                                                                        (
+                                                                          tt,
+                                                                          (
+                                                                            tt,
+                                                                            (
+                                                                              tt,
+                                                                              (
+                                                                                tt,
+                                                                                (
+                                                                                  tt,
+                                                                                  (
+                                                                                    tt,
+                                                                                    (
+                                                                                      tt,
+                                                                                      (
+                                                                                        tt,
+                                                                                        (
+                                                                                          tt,
+                                                                                          (
+                                                                                            tt,
+                                                                                            (
+                                                                                              tt,
+                                                                                              (
+                                                                                                tt,
+                                                                                                (tt, (tt, (tt, tt))),
+                                                                                              ),
+                                                                                            ),
+                                                                                          ),
+                                                                                        ),
+                                                                                      ),
+                                                                                    ),
+                                                                                  ),
+                                                                                ),
+                                                                              ),
+                                                                            ),
+                                                                          ),
+                                                                        ),
+                                                                      ),
+                                                                    ),
+                                                                  ),
+                                                                ),
+                                                              ),
+                                                            ),
+                                                          ),
+                                                        ),
+                                                      ),
+                                                    ),
+                                                  ),
+                                                ),
+                                              ),
+                                            ),
+                                          ),
+                                        ),
+                                      ),
+                                    ),
+                                  ),
+                                ),
+                              ),
+                            ),
+                          ),
+                        ),
+                      ),
+                    ),
+                  ),
+                ),
+              ),
+            ),
+          )) d113
+
           d115 : Typed.Typed 𝓤 H A 𝓣 E G4 b79 Δ0 (at115 bs)
           d115 = Typed.t-seq 𝓤 H A W 𝓣 E G4 G5 b51 b78 Δ0 (at74 bs) (at114 bs) d74 d114
+
           d116 : Typed.Typed 𝓤 H A 𝓣 E G3 b80 Δ0 (at116 bs)
-          d116 = Typed.s-seq 𝓤 H A W 𝓣 E G3 G4 b0 b79 Δ0 (Typed.pass T3 T4 (s2 bs)) (at115 bs) (Scalar.t-use 𝓤 H A W E 𝓣 G3 (Scalar.oAt 9
-              Syntax.tyBool (Row.valS Row.sBool)) 17 (Rows.sc-here Row.sBool) Syntax.tyBool (Row.valS Row.sBool) (Row.sBool .of) (Scalar.reads-sc 𝓤 H
-              A W Row.sBool, Path.refl) (Reads'.room-gone 𝓤 H A Syntax.tyBool) (Scalar.holds-sc 𝓤 H A W Row.sBool) Path.refl (λ u. Path.refl) λ u. tt)
-              d115
+          d116 = Typed.s-seq 𝓤 H A W 𝓣 E G3 G4 b0 b79 Δ0 (Typed.pass T3 T4 (s2 bs)) (at115 bs) (Scalar.t-use 𝓤 H A W E
+              𝓣 G3 (Scalar.oAt 9 Syntax.tyBool (Row.valS Row.sBool)) 17 (Rows.sc-here Row.sBool) Syntax.tyBool
+              (Row.valS Row.sBool) (Row.sBool .of) (Scalar.reads-sc 𝓤 H A W Row.sBool, Path.refl)
+              (Reads'.room-gone 𝓤 H A Syntax.tyBool) (Scalar.holds-sc 𝓤 H A W Row.sBool) Path.refl (λ u. Path.refl) λ
+              u. tt) d115
+
           d117 : Typed.Typed 𝓤 H A 𝓣 E G2 b80 Δ0 (at117 bs)
-          d117 = Typed.g-pre 𝓤 H A W 𝓣 E G2 G3 b80 Δ0 (Typed.give (s1 bs)) (at116 bs) (Know.g-shs-known 𝓤 H A W (Referent.fInt Syntax.w8) E G2 8 5
-              ref10 life5 0 (λ x. x) record { fits = Dec.lit< tt } (Reads'.as-is 𝓤 H A (Rows.sslice (Referent.rtF (Referent.fInt Syntax.w8)) ref10 5))
-              Path.refl tt) d116
+          d117 = Typed.g-pre 𝓤 H A W 𝓣 E G2 G3 b80 Δ0 (Typed.give (s1 bs)) (at116 bs) (Know.g-shs-known 𝓤 H A W
+              (Referent.fInt Syntax.w8) E G2 8 5 ref10 life5 0 (λ x. x) record { fits = Dec.lit< tt } (Reads'.as-is 𝓤 H
+              A (Rows.sslice (Referent.rtF (Referent.fInt Syntax.w8)) ref10 5)) Path.refl tt) d116
+
           d118 : Typed.Typed 𝓤 H A 𝓣 E G0 b80 Δ0 (at118 bs)
-          d118 = Typed.g-pre 𝓤 H A W 𝓣 E G0 G2 b80 Δ0 (Typed.give (s0 bs)) (at117 bs) (Know.g-sl-known 𝓤 H A W (Referent.fInt Syntax.w32) E G0 5 4
-              ref9 life3 0 (λ x. x) record { fits = Dec.lit< tt } (Reads'.as-is 𝓤 H A (Mut.mslice (Referent.rtF (Referent.fInt Syntax.w32)) ref9 4))
-              Path.refl tt) d117
-          pub typed : Typed.Typed 𝓤 H A 𝓣 E (Function.Γin 6 ps r xs m κs qs) b80 (Function.Δret 6 ps r xs m κs qs) (Φ bs)
+          d118 = Typed.g-pre 𝓤 H A W 𝓣 E G0 G2 b80 Δ0 (Typed.give (s0 bs)) (at117 bs) (Know.g-sl-known 𝓤 H A W
+              (Referent.fInt Syntax.w32) E G0 5 4 ref9 life3 0 (λ x. x) record { fits = Dec.lit< tt } (Reads'.as-is 𝓤 H
+              A (Mut.mslice (Referent.rtF (Referent.fInt Syntax.w32)) ref9 4)) Path.refl tt) d117
+
+          pub typed : Typed.Typed 𝓤 H A 𝓣 E (Function.Γin 6 ps r xs m κs qs) b80 (Function.Δret 6 ps r xs m κs qs)
+              (Φ bs)
           typed = d118
+
       module _ (κs : Lifetimes.Lfts 6) where
         pub record Args : Type 0 where
-          pub pending : Kinds.Den { n = 6 } κs (MutSlice.pMutS RelayPending.row 0 tt)
-          pub circuits : Kinds.Den { n = 6 } κs (MutSlice.pMutS RelayCircuit.row 1 tt)
-          pub ledger : Kinds.Den { n = 6 } κs (MutSlice.pMutS ReservationUsage.row 2 tt)
-          pub inflight : Kinds.Den { n = 6 } κs (MutSlice.pMutS InflightAction.row 3 tt)
-          pub out : Kinds.Den { n = 6 } κs (MutSlice.pMutS (Referent.rtF (Referent.fInt Syntax.w32)) 4 tt)
-          pub kept : Kinds.Den { n = 6 } κs (Value.pVal record { ty = Declared'.row Relayed.the-type; one = Path.refl; val = Laws'''''''.val
-              Relayed.the-type Laws''''.the-laws; tells = Laws'''''''.tells Relayed.the-type Laws''''.the-laws; still = Laws'''''''.still
-              Relayed.the-type Laws''''.the-copy Exit.yes; row = Rows.whole (Declared'.row Relayed.the-type); rd = λ x. x; mk = λ x. x; } λ M 𝓤 H A W.
-              record { copies = Laws'''''''.copy Relayed.the-type Laws''''.the-copy 𝓤 H A W; lawful = Laws'''''''.lawful Relayed.the-type
-              Laws''''.the-laws 𝓤 H A W; makes = Laws'''''''.makes Relayed.the-type Laws''''.the-plain 𝓤 H A; in-mem = Local.mem-whole 𝓤 H A W
-              (Declared'.row Relayed.the-type); of-mem = Local.whole-mem 𝓤 H A W (Declared'.row Relayed.the-type); })
-          pub sent : Kinds.Den { n = 6 } κs (Value.pVal record { ty = Declared'.row RelayPacket.the-type; one = Path.refl; val = Laws'''''''.val
-              RelayPacket.the-type Laws''.the-laws; tells = Laws'''''''.tells RelayPacket.the-type Laws''.the-laws; still = Laws'''''''.still
-              RelayPacket.the-type Laws''.the-copy Exit.yes; row = Rows.whole (Declared'.row RelayPacket.the-type); rd = λ x. x; mk = λ x. x; } λ M 𝓤
-              H A W. record { copies = Laws'''''''.copy RelayPacket.the-type Laws''.the-copy 𝓤 H A W; lawful = Laws'''''''.lawful RelayPacket.the-type
-              Laws''.the-laws 𝓤 H A W; makes = Laws'''''''.makes RelayPacket.the-type Laws''.the-plain 𝓤 H A; in-mem = Local.mem-whole 𝓤 H A W
-              (Declared'.row RelayPacket.the-type); of-mem = Local.whole-mem 𝓤 H A W (Declared'.row RelayPacket.the-type); })
-          pub body : Kinds.Den { n = 6 } κs (ShrSlice.pShrS (Referent.rtF (Referent.fInt Syntax.w8)) 5 tt)
-          pub delivered : Kinds.Den { n = 6 } κs Bool.pBool
+          pub pending : Kinds.Den {n = 6} κs (MutSlice.pMutS RelayPending.row 0 tt)
+          pub circuits : Kinds.Den {n = 6} κs (MutSlice.pMutS RelayCircuit.row 1 tt)
+          pub ledger : Kinds.Den {n = 6} κs (MutSlice.pMutS ReservationUsage.row 2 tt)
+          pub inflight : Kinds.Den {n = 6} κs (MutSlice.pMutS InflightAction.row 3 tt)
+          pub out : Kinds.Den {n = 6} κs (MutSlice.pMutS (Referent.rtF (Referent.fInt Syntax.w32)) 4 tt)
+          pub kept : Kinds.Den {n = 6} κs (StructRow.param Relayed.the-type Laws''''.the-laws Laws''''.the-copy
+              Laws''''.the-plain)
+          pub sent : Kinds.Den {n = 6} κs (StructRow.param RelayPacket.the-type Laws''.the-laws Laws''.the-copy
+              Laws''.the-plain)
+          pub body : Kinds.Den {n = 6} κs (ShrSlice.pShrS (Referent.rtF (Referent.fInt Syntax.w8)) 5 tt)
+          pub delivered : Kinds.Den {n = 6} κs Bool.pBool
+
         abbrev pub dens : (a : Args) → Kinds.Dens κs ps
-        dens = λ a. (a .pending, (a .circuits, (a .ledger, (a .inflight, (a .out, (a .kept, (a .sent, (a .body, (a .delivered, tt)))))),),),)
+        dens = λ a. (
+          a .pending,
+          (a .circuits, (a .ledger, (a .inflight, (a .out, (a .kept, (a .sent, (a .body, (a .delivered, tt)))))))),
+        )
+
       abbrev pub m0 : (κs : Lifetimes.Lfts 6) → (args : Args κs) → (blocks : List.List Nat.ℕ) → Typed.Mo T0
       m0 = λ κs args blocks. (tt, Enter.partsP κs 1 ps xs (dens κs args))
+
       abbrev W0 : (κs : Lifetimes.Lfts 6) → (args : Args κs) → (blocks : List.List Nat.ℕ) → Typed.Want O0
-      W0 = λ κs args blocks. (λ u. ⊥, tt, λ u. Enter.Fixs κs 1 ps xs (dens κs args) (u .1) × Post· κs (dens κs args) (Function.resV r κs (u .0))
-          (Clauses.atExit (Kinds.endedOf 6 ps r) κs (dens κs args) (Enter.lastsP κs 1 ps xs (dens κs args) (u .1))),)
+      W0 = λ κs args blocks. (
+        λ u. ⊥,
+        tt,
+        λ u. Enter.Fixs κs 1 ps xs (dens κs args) (u .1) × Post· κs (dens κs args) (Function.resV r κs (u .0)) (Clauses.atExit
+            (Kinds.endedOf 6 ps r) κs (dens κs args) (Enter.lastsP κs 1 ps xs (dens κs args) (u .1))),
+      )
+
       pub record Start : Type 0 where
         pub κs : Lifetimes.Lfts 6
         pub args : Args κs
         pub blocks : List.List Nat.ℕ
         pub good : Kinds.GoodsP κs ps (dens κs args)
         pub pre : Pre· κs (dens κs args)
-      abbrev pub m1 : (before : Start) → (given : s0 (before .blocks) .gives (m0 (before .κs) (before .args) (before .blocks))) → Typed.Mo T2
+
+      abbrev pub m1 : (before : Start) → (given : s0 (before .blocks) .gives
+          (m0 (before .κs) (before .args) (before .blocks))) → Typed.Mo T2
       m1 = λ before given. s0 (before .blocks) .next (m0 (before .κs) (before .args) (before .blocks)) given
+
       module _ (before· : Start) where
         pub record After-slice-known·own : Type 0 where
           pub given : s0 (before· .blocks) .gives (m0 (before· .κs) (before· .args) (before· .blocks))
+
       pub record After-slice-known : Type 0 where
         pub before : Start
         pub slice-known : After-slice-known·own before
-      abbrev pub m2 : (before : After-slice-known) → (given : s1 (before .before .blocks) .gives (m1 (before .before) (before .slice-known .given))) →
-          Typed.Mo T3
+
+      abbrev pub m2 : (before : After-slice-known) → (given : s1 (before .before .blocks) .gives
+          (m1 (before .before) (before .slice-known .given))) → Typed.Mo T3
       m2 = λ before given. s1 (before .before .blocks) .next (m1 (before .before) (before .slice-known .given)) given
-      abbrev pub m3 : (before : After-slice-known) → (given : s1 (before .before .blocks) .gives (m1 (before .before) (before .slice-known .given))) →
-          Typed.Mo T4
+
+      abbrev pub m3 : (before : After-slice-known) → (given : s1 (before .before .blocks) .gives
+          (m1 (before .before) (before .slice-known .given))) → Typed.Mo T4
       m3 = λ before given. s2 (before .before .blocks) (m2 before given)
-      abbrev W1 : (before : After-slice-known) → (given : s1 (before .before .blocks) .gives (m1 (before .before) (before .slice-known .given))) →
-          Typed.Want O1
-      W1 = λ before given. Typed.wantNext T5 O0 (at114 (before .before .blocks) (W0 (before .before .κs) (before .before .args) (before .before
-          .blocks))) (W0 (before .before .κs) (before .before .args) (before .before .blocks))
+
+      abbrev W1 : (before : After-slice-known) → (given : s1 (before .before .blocks) .gives
+          (m1 (before .before) (before .slice-known .given))) → Typed.Want O1
+      W1 = λ before given. Typed.wantNext T5 O0 (at114 (before .before .blocks) (W0 (before .before .κs)
+          (before .before .args) (before .before .blocks))) (W0 (before .before .κs) (before .before .args)
+          (before .before .blocks))
+
       module _ (before· : After-slice-known) where
         pub record After-shared-slice-known·own : Type 0 where
           pub given : s1 (before· .before .blocks) .gives (m1 (before· .before) (before· .slice-known .given))
+
       pub record After-shared-slice-known : Type 0 where
         pub before : After-slice-known
         pub shared-slice-known : After-shared-slice-known·own before
+
       abbrev pub m4 : (before : After-shared-slice-known) → Typed.Mo T6
       m4 = λ before. s3 (before .before .before .blocks) (m3 (before .before) (before .shared-slice-known .given))
+
       module _ (before· : After-shared-slice-known) where
         pub record Then1·own : Type 0 where
-          pub taken : Path._≡_ (Row.get 17 (T4 .locals) (m3 (before· .before) (before· .shared-slice-known .given))) Bool'.true
+          pub taken : Path._≡_ (Row.get 17 (T4 .locals) (m3 (before· .before) (before· .shared-slice-known .given)))
+              Bool'.true
+
       pub record Then1 : Type 0 where
         pub before : After-shared-slice-known
         pub if1 : Then1·own before
-      abbrev pub m5 : (before : Then1) → (given : s4 (before .before .before .before .blocks) .gives (m4 (before .before))) → Typed.Mo T7
+
+      abbrev pub m5 : (before : Then1) → (given : s4 (before .before .before .before .blocks) .gives
+          (m4 (before .before))) → Typed.Mo T7
       m5 = λ before given. s4 (before .before .before .before .blocks) .next (m4 (before .before)) given
+
       module _ (before· : Then1) where
         pub record After-runtime·own : Type 0 where
           pub given : s4 (before· .before .before .before .blocks) .gives (m4 (before· .before))
+
       pub record After-runtime : Type 0 where
         pub before : Then1
         pub runtime : After-runtime·own before
-      abbrev pub m6 : (before : After-runtime) → (given : s5 (before .before .before .before .before .blocks) .gives (m5 (before .before) (before
-          .runtime .given))) → Typed.Mo T8
-      m6 = λ before given. s5 (before .before .before .before .before .blocks) .next (m5 (before .before) (before .runtime .given)) given
-      abbrev pub m7 : (before : After-runtime) → (given : s5 (before .before .before .before .before .blocks) .gives (m5 (before .before) (before
-          .runtime .given))) → Typed.Mo T9
+
+      abbrev pub m6 : (before : After-runtime) → (given : s5 (before .before .before .before .before .blocks) .gives
+          (m5 (before .before) (before .runtime .given))) → Typed.Mo T8
+      m6 = λ before given. s5 (before .before .before .before .before .blocks) .next
+          (m5 (before .before) (before .runtime .given)) given
+
+      abbrev pub m7 : (before : After-runtime) → (given : s5 (before .before .before .before .before .blocks) .gives
+          (m5 (before .before) (before .runtime .given))) → Typed.Mo T9
       m7 = λ before given. s6 (before .before .before .before .before .blocks) (m6 before given)
+
       module _ (before· : After-runtime) where
         pub record After-places·own : Type 0 where
-          pub given : s5 (before· .before .before .before .before .blocks) .gives (m5 (before· .before) (before· .runtime .given))
+          pub given : s5 (before· .before .before .before .before .blocks) .gives
+              (m5 (before· .before) (before· .runtime .given))
+
       pub record After-places : Type 0 where
         pub before : After-runtime
         pub places : After-places·own before
-      abbrev pub m8 : (before : After-places) → (given : s8 (before .before .before .before .before .before .blocks) .gives (m7 (before .before)
-          (before .places .given))) → Typed.Mo T11
-      m8 = λ before given. s8 (before .before .before .before .before .before .blocks) .next (m7 (before .before) (before .places .given)) given
-      abbrev pub m9 : (before : After-places) → (given : s8 (before .before .before .before .before .before .blocks) .gives (m7 (before .before)
-          (before .places .given))) → Typed.Mo T12
+
+      abbrev pub m8 : (before : After-places) → (given : s8 (before .before .before .before .before .before .blocks)
+          .gives (m7 (before .before) (before .places .given))) → Typed.Mo T11
+      m8 = λ before given. s8 (before .before .before .before .before .before .blocks) .next
+          (m7 (before .before) (before .places .given)) given
+
+      abbrev pub m9 : (before : After-places) → (given : s8 (before .before .before .before .before .before .blocks)
+          .gives (m7 (before .before) (before .places .given))) → Typed.Mo T12
       m9 = λ before given. s9 (before .before .before .before .before .before .blocks) .next (m8 before given)
+
       module _ (before· : After-places) where
         pub record After-acknowledge-arg·own : Type 0 where
-          pub given : s8 (before· .before .before .before .before .before .blocks) .gives (m7 (before· .before) (before· .places .given))
+          pub given : s8 (before· .before .before .before .before .before .blocks) .gives
+              (m7 (before· .before) (before· .places .given))
+
       pub record After-acknowledge-arg : Type 0 where
         pub before : After-places
         pub acknowledge-arg : After-acknowledge-arg·own before
-      abbrev pub m10 : (before : After-acknowledge-arg) → (given : s11 (before .before .before .before .before .before .before .blocks) .gives (m9
-          (before .before) (before .acknowledge-arg .given))) → Typed.Mo T14
-      m10 = λ before given. s11 (before .before .before .before .before .before .before .blocks) .next (m9 (before .before) (before .acknowledge-arg
-          .given)) given
-      abbrev pub m11 : (before : After-acknowledge-arg) → (given : s11 (before .before .before .before .before .before .before .blocks) .gives (m9
-          (before .before) (before .acknowledge-arg .given))) → Typed.Mo T15
-      m11 = λ before given. s12 (before .before .before .before .before .before .before .blocks) .next (m10 before given)
+
+      abbrev pub m10 : (before : After-acknowledge-arg) → (given : s11 (before .before .before .before .before .before
+          .before .blocks) .gives (m9 (before .before) (before .acknowledge-arg .given))) → Typed.Mo T14
+      m10 = λ before given. s11 (before .before .before .before .before .before .before .blocks) .next
+          (m9 (before .before) (before .acknowledge-arg .given)) given
+
+      abbrev pub m11 : (before : After-acknowledge-arg) → (given : s11 (before .before .before .before .before .before
+          .before .blocks) .gives (m9 (before .before) (before .acknowledge-arg .given))) → Typed.Mo T15
+      m11 = λ before given. s12 (before .before .before .before .before .before .before .blocks) .next
+          (m10 before given)
+
       module _ (before· : After-acknowledge-arg) where
         pub record After-acknowledge-arg2·own : Type 0 where
-          pub given : s11 (before· .before .before .before .before .before .before .blocks) .gives (m9 (before· .before) (before· .acknowledge-arg
-              .given))
+          pub given : s11 (before· .before .before .before .before .before .before .blocks) .gives
+              (m9 (before· .before) (before· .acknowledge-arg .given))
+
       pub record After-acknowledge-arg2 : Type 0 where
         pub before : After-acknowledge-arg
         pub acknowledge-arg2 : After-acknowledge-arg2·own before
-      abbrev pub m12 : (before : After-acknowledge-arg2) → (given : s14 (before .before .before .before .before .before .before .before .blocks)
-          .gives (m11 (before .before) (before .acknowledge-arg2 .given))) → Typed.Mo T17
-      m12 = λ before given. s14 (before .before .before .before .before .before .before .before .blocks) .next (m11 (before .before) (before
-          .acknowledge-arg2 .given)) given
-      abbrev pub m13 : (before : After-acknowledge-arg2) → (given : s14 (before .before .before .before .before .before .before .before .blocks)
-          .gives (m11 (before .before) (before .acknowledge-arg2 .given))) → Typed.Mo T18
-      m13 = λ before given. s15 (before .before .before .before .before .before .before .before .blocks) .next (m12 before given)
+
+      abbrev pub m12 : (before : After-acknowledge-arg2) → (given : s14 (before .before .before .before .before .before
+          .before .before .blocks) .gives (m11 (before .before) (before .acknowledge-arg2 .given))) → Typed.Mo T17
+      m12 = λ before given. s14 (before .before .before .before .before .before .before .before .blocks) .next
+          (m11 (before .before) (before .acknowledge-arg2 .given)) given
+
+      abbrev pub m13 : (before : After-acknowledge-arg2) → (given : s14 (before .before .before .before .before .before
+          .before .before .blocks) .gives (m11 (before .before) (before .acknowledge-arg2 .given))) → Typed.Mo T18
+      m13 = λ before given. s15 (before .before .before .before .before .before .before .before .blocks) .next
+          (m12 before given)
+
       module _ (before· : After-acknowledge-arg2) where
         pub record After-acknowledge-arg3·own : Type 0 where
-          pub given : s14 (before· .before .before .before .before .before .before .before .blocks) .gives (m11 (before· .before) (before·
-              .acknowledge-arg2 .given))
+          pub given : s14 (before· .before .before .before .before .before .before .before .blocks) .gives
+              (m11 (before· .before) (before· .acknowledge-arg2 .given))
+
       pub record After-acknowledge-arg3 : Type 0 where
         pub before : After-acknowledge-arg2
         pub acknowledge-arg3 : After-acknowledge-arg3·own before
-      abbrev pub m14 : (before : After-acknowledge-arg3) → (given : s17 (before .before .before .before .before .before .before .before .before
-          .blocks) .gives (m13 (before .before) (before .acknowledge-arg3 .given))) → Typed.Mo T20
-      m14 = λ before given. s17 (before .before .before .before .before .before .before .before .before .blocks) .next (m13 (before .before) (before
-          .acknowledge-arg3 .given)) given
-      abbrev pub m15 : (before : After-acknowledge-arg3) → (given : s17 (before .before .before .before .before .before .before .before .before
-          .blocks) .gives (m13 (before .before) (before .acknowledge-arg3 .given))) → Typed.Mo T21
-      m15 = λ before given. s18 (before .before .before .before .before .before .before .before .before .blocks) .next (m14 before given)
+
+      abbrev pub m14 : (before : After-acknowledge-arg3) → (given : s17 (before .before .before .before .before .before
+          .before .before .before .blocks) .gives (m13 (before .before) (before .acknowledge-arg3 .given))) → Typed.Mo
+          T20
+      m14 = λ before given. s17 (before .before .before .before .before .before .before .before .before .blocks) .next
+          (m13 (before .before) (before .acknowledge-arg3 .given)) given
+
+      abbrev pub m15 : (before : After-acknowledge-arg3) → (given : s17 (before .before .before .before .before .before
+          .before .before .before .blocks) .gives (m13 (before .before) (before .acknowledge-arg3 .given))) → Typed.Mo
+          T21
+      m15 = λ before given. s18 (before .before .before .before .before .before .before .before .before .blocks) .next
+          (m14 before given)
+
       module _ (before· : After-acknowledge-arg3) where
         pub record After-acknowledge-arg4·own : Type 0 where
-          pub given : s17 (before· .before .before .before .before .before .before .before .before .blocks) .gives (m13 (before· .before) (before·
-              .acknowledge-arg3 .given))
+          pub given : s17 (before· .before .before .before .before .before .before .before .before .blocks) .gives
+              (m13 (before· .before) (before· .acknowledge-arg3 .given))
+
       pub record After-acknowledge-arg4 : Type 0 where
         pub before : After-acknowledge-arg3
         pub acknowledge-arg4 : After-acknowledge-arg4·own before
+
       abbrev pub Need-acknowledge-requires : Type 0
-      Need-acknowledge-requires = (c : After-acknowledge-arg4) → s19 (c .before .before .before .before .before .before .before .before .before
-          .blocks) .asks (m15 (c .before) (c .acknowledge-arg4 .given))
-      abbrev pub m16 : (before : After-acknowledge-arg4) → (given : s19 (before .before .before .before .before .before .before .before .before
-          .before .blocks) .gives (m15 (before .before) (before .acknowledge-arg4 .given))) → Typed.Mo T22
-      m16 = λ before given. s19 (before .before .before .before .before .before .before .before .before .before .blocks) .next (m15 (before .before)
-          (before .acknowledge-arg4 .given)) given
+      Need-acknowledge-requires = (c : After-acknowledge-arg4) → s19 (c .before .before .before .before .before .before
+          .before .before .before .blocks) .asks (m15 (c .before) (c .acknowledge-arg4 .given))
+
+      abbrev pub m16 : (before : After-acknowledge-arg4) → (given : s19 (before .before .before .before .before .before
+          .before .before .before .before .blocks) .gives (m15 (before .before) (before .acknowledge-arg4 .given))) →
+          Typed.Mo T22
+      m16 = λ before given. s19 (before .before .before .before .before .before .before .before .before .before .blocks)
+          .next (m15 (before .before) (before .acknowledge-arg4 .given)) given
+
       module _ (before· : After-acknowledge-arg4) where
         abbrev pub After-acknowledge·own : Type 0
-        After-acknowledge·own = Called.Called ps·0 r·0 (claims· .1) T21 (record { pos = 19; ty = Syntax.tyRef Syntax.erased Syntax.mut
-            RelayPending.to; ref = λ x. x; }, (record { pos = 21; ty = Syntax.tyRef Syntax.erased Syntax.mut RelayCircuit.to; ref = λ x. x; }, (record
-            { pos = 23; ty = Syntax.tyRef Syntax.erased Syntax.mut InflightAction.to; ref = λ x. x; }, (record { pos = 25; ty = Syntax.tyRef
-            Syntax.erased Syntax.mut (Syntax.tyInt Syntax.w32); ref = λ x. x; }, (record { pos = 10; st = List.[]; d = 0; at = λ x. x }, (record { pos
-            = 11; st = List.[]; d = 0; at = λ x. x }, (Num.vLit 1, (Num.vLit 3, (Bool.bLit Bool'.true, tt))),),),),),),) (m15 (before· .before)
-            (before· .acknowledge-arg4 .given))
+        After-acknowledge·own = Called.Called ps·0 r·0 (claims· .1) T21 (
+          record { pos = 19; ty = ref0; ref = λ x. x },
+          (
+            record { pos = 21; ty = ref1; ref = λ x. x },
+            (
+              record { pos = 23; ty = ref2; ref = λ x. x },
+              (
+                record { pos = 25; ty = ref3; ref = λ x. x },
+                (
+                  record { pos = 10; st = List.[]; d = 0; at = λ x. x },
+                  (
+                    record { pos = 11; st = List.[]; d = 0; at = λ x. x },
+                    (Num.vLit 1, (Num.vLit 3, (Bool.bLit Bool'.true, tt))),
+                  ),
+                ),
+              ),
+            ),
+          ),
+        ) (m15 (before· .before) (before· .acknowledge-arg4 .given))
+
       pub record After-acknowledge : Type 0 where
         pub before : After-acknowledge-arg4
         pub acknowledge : After-acknowledge·own before
-      abbrev pub After-acknowledge·gave : (c : After-acknowledge) → s19 (c .before .before .before .before .before .before .before .before .before
-          .before .blocks) .gives (m15 (c .before .before) (c .before .acknowledge-arg4 .given))
-      After-acknowledge·gave = λ c. Called.given ps·0 r·0 (claims· .1) T21 (record { pos = 19; ty = Syntax.tyRef Syntax.erased Syntax.mut
-          RelayPending.to; ref = λ x. x; }, (record { pos = 21; ty = Syntax.tyRef Syntax.erased Syntax.mut RelayCircuit.to; ref = λ x. x; }, (record {
-          pos = 23; ty = Syntax.tyRef Syntax.erased Syntax.mut InflightAction.to; ref = λ x. x; }, (record { pos = 25; ty = Syntax.tyRef Syntax.erased
-          Syntax.mut (Syntax.tyInt Syntax.w32); ref = λ x. x; }, (record { pos = 10; st = List.[]; d = 0; at = λ x. x }, (record { pos = 11; st =
-          List.[]; d = 0; at = λ x. x }, (Num.vLit 1, (Num.vLit 3, (Bool.bLit Bool'.true, tt))),),),),),),) (m15 (c .before .before) (c .before
-          .acknowledge-arg4 .given)) (c .acknowledge)
-      abbrev pub m17 : (before : After-acknowledge-arg4) → (given : s19 (before .before .before .before .before .before .before .before .before
-          .before .blocks) .gives (m15 (before .before) (before .acknowledge-arg4 .given))) → Typed.Mo T23
-      m17 = λ before given. s20 (before .before .before .before .before .before .before .before .before .before .blocks) (m16 before given)
-      abbrev pub m18 : (before : After-acknowledge-arg4) → (given : s19 (before .before .before .before .before .before .before .before .before
-          .before .blocks) .gives (m15 (before .before) (before .acknowledge-arg4 .given))) → Typed.Mo T24
-      m18 = λ before given. s21 (before .before .before .before .before .before .before .before .before .before .blocks) (m17 before given)
-      abbrev pub m19 : (before : After-acknowledge) → (given : s23 (before .before .before .before .before .before .before .before .before .before
-          .before .blocks) .gives (m18 (before .before) (After-acknowledge·gave before))) → Typed.Mo T26
-      m19 = λ before given. s23 (before .before .before .before .before .before .before .before .before .before .before .blocks) .next (m18 (before
-          .before) (After-acknowledge·gave before)) given
+
+      abbrev pub After-acknowledge·gave : (c : After-acknowledge) → s19 (c .before .before .before .before .before
+          .before .before .before .before .before .blocks) .gives (m15 (c .before .before)
+          (c .before .acknowledge-arg4 .given))
+      After-acknowledge·gave = λ c. Called.given ps·0 r·0 (claims· .1) T21 (
+        record { pos = 19; ty = ref0; ref = λ x. x },
+        (
+          record { pos = 21; ty = ref1; ref = λ x. x },
+          (
+            record { pos = 23; ty = ref2; ref = λ x. x },
+            (
+              record { pos = 25; ty = ref3; ref = λ x. x },
+              (
+                record { pos = 10; st = List.[]; d = 0; at = λ x. x },
+                (
+                  record { pos = 11; st = List.[]; d = 0; at = λ x. x },
+                  (Num.vLit 1, (Num.vLit 3, (Bool.bLit Bool'.true, tt))),
+                ),
+              ),
+            ),
+          ),
+        ),
+      ) (m15 (c .before .before) (c .before .acknowledge-arg4 .given)) (c .acknowledge)
+
+      abbrev pub m17 : (before : After-acknowledge-arg4) → (given : s19 (before .before .before .before .before .before
+          .before .before .before .before .blocks) .gives (m15 (before .before) (before .acknowledge-arg4 .given))) →
+          Typed.Mo T23
+      m17 = λ before given. s20 (before .before .before .before .before .before .before .before .before .before .blocks)
+          (m16 before given)
+
+      abbrev pub m18 : (before : After-acknowledge-arg4) → (given : s19 (before .before .before .before .before .before
+          .before .before .before .before .blocks) .gives (m15 (before .before) (before .acknowledge-arg4 .given))) →
+          Typed.Mo T24
+      m18 = λ before given. s21 (before .before .before .before .before .before .before .before .before .before .blocks)
+          (m17 before given)
+
+      abbrev pub m19 : (before : After-acknowledge) → (given : s23 (before .before .before .before .before .before
+          .before .before .before .before .before .blocks) .gives
+          (m18 (before .before) (After-acknowledge·gave before))) → Typed.Mo T26
+      m19 = λ before given. s23 (before .before .before .before .before .before .before .before .before .before .before
+          .blocks) .next (m18 (before .before) (After-acknowledge·gave before)) given
+
       module _ (before· : After-acknowledge) where
         pub record After-pending·own : Type 0 where
-          pub given : s23 (before· .before .before .before .before .before .before .before .before .before .before .blocks) .gives (m18 (before·
-              .before) (After-acknowledge·gave before·))
+          pub given : s23 (before· .before .before .before .before .before .before .before .before .before .before
+              .blocks) .gives (m18 (before· .before) (After-acknowledge·gave before·))
+
       pub record After-pending : Type 0 where
         pub before : After-acknowledge
         pub pending : After-pending·own before
-      abbrev pub m20 : (before : After-pending) → (given : s26 (before .before .before .before .before .before .before .before .before .before .before
-          .before .blocks) .gives (m19 (before .before) (before .pending .given))) → Typed.Mo T29
-      m20 = λ before given. s26 (before .before .before .before .before .before .before .before .before .before .before .before .blocks) .next (m19
-          (before .before) (before .pending .given)) given
+
+      abbrev pub m20 : (before : After-pending) → (given : s26 (before .before .before .before .before .before .before
+          .before .before .before .before .before .blocks) .gives (m19 (before .before) (before .pending .given))) →
+          Typed.Mo T29
+      m20 = λ before given. s26 (before .before .before .before .before .before .before .before .before .before .before
+          .before .blocks) .next (m19 (before .before) (before .pending .given)) given
+
       module _ (before· : After-pending) where
         pub record After-circuits·own : Type 0 where
-          pub given : s26 (before· .before .before .before .before .before .before .before .before .before .before .before .blocks) .gives (m19
-              (before· .before) (before· .pending .given))
+          pub given : s26 (before· .before .before .before .before .before .before .before .before .before .before
+              .before .blocks) .gives (m19 (before· .before) (before· .pending .given))
+
       pub record After-circuits : Type 0 where
         pub before : After-pending
         pub circuits : After-circuits·own before
-      abbrev pub m21 : (before : After-circuits) → (given : s29 (before .before .before .before .before .before .before .before .before .before
-          .before .before .before .blocks) .gives (m20 (before .before) (before .circuits .given))) → Typed.Mo T32
-      m21 = λ before given. s29 (before .before .before .before .before .before .before .before .before .before .before .before .before .blocks) .next
-          (m20 (before .before) (before .circuits .given)) given
+
+      abbrev pub m21 : (before : After-circuits) → (given : s29 (before .before .before .before .before .before .before
+          .before .before .before .before .before .before .blocks) .gives
+          (m20 (before .before) (before .circuits .given))) → Typed.Mo T32
+      m21 = λ before given. s29 (before .before .before .before .before .before .before .before .before .before .before
+          .before .before .blocks) .next (m20 (before .before) (before .circuits .given)) given
+
       module _ (before· : After-circuits) where
         pub record After-inflight·own : Type 0 where
-          pub given : s29 (before· .before .before .before .before .before .before .before .before .before .before .before .before .blocks) .gives
-              (m20 (before· .before) (before· .circuits .given))
+          pub given : s29 (before· .before .before .before .before .before .before .before .before .before .before
+              .before .before .blocks) .gives (m20 (before· .before) (before· .circuits .given))
+
       pub record After-inflight : Type 0 where
         pub before : After-circuits
         pub inflight : After-inflight·own before
-      abbrev pub m22 : (before : After-inflight) → (given : s32 (before .before .before .before .before .before .before .before .before .before
-          .before .before .before .before .blocks) .gives (m21 (before .before) (before .inflight .given))) → Typed.Mo T35
-      m22 = λ before given. s32 (before .before .before .before .before .before .before .before .before .before .before .before .before .before
-          .blocks) .next (m21 (before .before) (before .inflight .given)) given
+
+      abbrev pub m22 : (before : After-inflight) → (given : s32 (before .before .before .before .before .before .before
+          .before .before .before .before .before .before .before .blocks) .gives
+          (m21 (before .before) (before .inflight .given))) → Typed.Mo T35
+      m22 = λ before given. s32 (before .before .before .before .before .before .before .before .before .before .before
+          .before .before .before .blocks) .next (m21 (before .before) (before .inflight .given)) given
+
       module _ (before· : After-inflight) where
         pub record After-out·own : Type 0 where
-          pub given : s32 (before· .before .before .before .before .before .before .before .before .before .before .before .before .before .blocks)
-              .gives (m21 (before· .before) (before· .inflight .given))
+          pub given : s32 (before· .before .before .before .before .before .before .before .before .before .before
+              .before .before .before .blocks) .gives (m21 (before· .before) (before· .inflight .given))
+
       pub record After-out : Type 0 where
         pub before : After-inflight
         pub out : After-out·own before
-      abbrev pub m23 : (before : After-out) → (given : s33 (before .before .before .before .before .before .before .before .before .before .before
-          .before .before .before .before .blocks) .gives (m22 (before .before) (before .out .given))) → Typed.Mo T36
-      m23 = λ before given. s33 (before .before .before .before .before .before .before .before .before .before .before .before .before .before
-          .before .blocks) .next (m22 (before .before) (before .out .given)) given
+
+      abbrev pub m23 : (before : After-out) → (given : s33 (before .before .before .before .before .before .before
+          .before .before .before .before .before .before .before .before .blocks) .gives
+          (m22 (before .before) (before .out .given))) → Typed.Mo T36
+      m23 = λ before given. s33 (before .before .before .before .before .before .before .before .before .before .before
+          .before .before .before .before .blocks) .next (m22 (before .before) (before .out .given)) given
+
       module _ (before· : After-out) where
         pub record After-slice-known2·own : Type 0 where
-          pub given : s33 (before· .before .before .before .before .before .before .before .before .before .before .before .before .before .before
-              .blocks) .gives (m22 (before· .before) (before· .out .given))
+          pub given : s33 (before· .before .before .before .before .before .before .before .before .before .before
+              .before .before .before .before .blocks) .gives (m22 (before· .before) (before· .out .given))
+
       pub record After-slice-known2 : Type 0 where
         pub before : After-out
         pub slice-known2 : After-slice-known2·own before
-      abbrev pub m24 : (before : After-slice-known2) → (given : s36 (before .before .before .before .before .before .before .before .before .before
-          .before .before .before .before .before .before .blocks) .gives (m23 (before .before) (before .slice-known2 .given))) → Typed.Mo T39
-      m24 = λ before given. s36 (before .before .before .before .before .before .before .before .before .before .before .before .before .before
-          .before .before .blocks) .next (m23 (before .before) (before .slice-known2 .given)) given
-      abbrev pub m25 : (before : After-slice-known2) → (given : s36 (before .before .before .before .before .before .before .before .before .before
-          .before .before .before .before .before .before .blocks) .gives (m23 (before .before) (before .slice-known2 .given))) → Typed.Mo T40
-      m25 = λ before given. s37 (before .before .before .before .before .before .before .before .before .before .before .before .before .before
-          .before .before .blocks) .next (m24 before given)
+
+      abbrev pub m24 : (before : After-slice-known2) → (given : s36 (before .before .before .before .before .before
+          .before .before .before .before .before .before .before .before .before .before .blocks) .gives
+          (m23 (before .before) (before .slice-known2 .given))) → Typed.Mo T39
+      m24 = λ before given. s36 (before .before .before .before .before .before .before .before .before .before .before
+          .before .before .before .before .before .blocks) .next (m23 (before .before) (before .slice-known2 .given))
+          given
+
+      abbrev pub m25 : (before : After-slice-known2) → (given : s36 (before .before .before .before .before .before
+          .before .before .before .before .before .before .before .before .before .before .blocks) .gives
+          (m23 (before .before) (before .slice-known2 .given))) → Typed.Mo T40
+      m25 = λ before given. s37 (before .before .before .before .before .before .before .before .before .before .before
+          .before .before .before .before .before .blocks) .next (m24 before given)
+
       module _ (before· : After-slice-known2) where
         pub record After-deliver-arg·own : Type 0 where
-          pub given : s36 (before· .before .before .before .before .before .before .before .before .before .before .before .before .before .before
-              .before .blocks) .gives (m23 (before· .before) (before· .slice-known2 .given))
+          pub given : s36 (before· .before .before .before .before .before .before .before .before .before .before
+              .before .before .before .before .before .blocks) .gives
+              (m23 (before· .before) (before· .slice-known2 .given))
+
       pub record After-deliver-arg : Type 0 where
         pub before : After-slice-known2
         pub deliver-arg : After-deliver-arg·own before
-      abbrev pub m26 : (before : After-deliver-arg) → (given : s39 (before .before .before .before .before .before .before .before .before .before
-          .before .before .before .before .before .before .before .blocks) .gives (m25 (before .before) (before .deliver-arg .given))) → Typed.Mo T42
-      m26 = λ before given. s39 (before .before .before .before .before .before .before .before .before .before .before .before .before .before
-          .before .before .before .blocks) .next (m25 (before .before) (before .deliver-arg .given)) given
-      abbrev pub m27 : (before : After-deliver-arg) → (given : s39 (before .before .before .before .before .before .before .before .before .before
-          .before .before .before .before .before .before .before .blocks) .gives (m25 (before .before) (before .deliver-arg .given))) → Typed.Mo T43
-      m27 = λ before given. s40 (before .before .before .before .before .before .before .before .before .before .before .before .before .before
-          .before .before .before .blocks) .next (m26 before given)
+
+      abbrev pub m26 : (before : After-deliver-arg) → (given : s39 (before .before .before .before .before .before
+          .before .before .before .before .before .before .before .before .before .before .before .blocks) .gives
+          (m25 (before .before) (before .deliver-arg .given))) → Typed.Mo T42
+      m26 = λ before given. s39 (before .before .before .before .before .before .before .before .before .before .before
+          .before .before .before .before .before .before .blocks) .next
+          (m25 (before .before) (before .deliver-arg .given)) given
+
+      abbrev pub m27 : (before : After-deliver-arg) → (given : s39 (before .before .before .before .before .before
+          .before .before .before .before .before .before .before .before .before .before .before .blocks) .gives
+          (m25 (before .before) (before .deliver-arg .given))) → Typed.Mo T43
+      m27 = λ before given. s40 (before .before .before .before .before .before .before .before .before .before .before
+          .before .before .before .before .before .before .blocks) .next (m26 before given)
+
       module _ (before· : After-deliver-arg) where
         pub record After-deliver-arg2·own : Type 0 where
-          pub given : s39 (before· .before .before .before .before .before .before .before .before .before .before .before .before .before .before
-              .before .before .blocks) .gives (m25 (before· .before) (before· .deliver-arg .given))
+          pub given : s39 (before· .before .before .before .before .before .before .before .before .before .before
+              .before .before .before .before .before .before .blocks) .gives
+              (m25 (before· .before) (before· .deliver-arg .given))
+
       pub record After-deliver-arg2 : Type 0 where
         pub before : After-deliver-arg
         pub deliver-arg2 : After-deliver-arg2·own before
-      abbrev pub m28 : (before : After-deliver-arg2) → (given : s42 (before .before .before .before .before .before .before .before .before .before
-          .before .before .before .before .before .before .before .before .blocks) .gives (m27 (before .before) (before .deliver-arg2 .given))) →
-          Typed.Mo T45
-      m28 = λ before given. s42 (before .before .before .before .before .before .before .before .before .before .before .before .before .before
-          .before .before .before .before .blocks) .next (m27 (before .before) (before .deliver-arg2 .given)) given
-      abbrev pub m29 : (before : After-deliver-arg2) → (given : s42 (before .before .before .before .before .before .before .before .before .before
-          .before .before .before .before .before .before .before .before .blocks) .gives (m27 (before .before) (before .deliver-arg2 .given))) →
-          Typed.Mo T46
-      m29 = λ before given. s43 (before .before .before .before .before .before .before .before .before .before .before .before .before .before
-          .before .before .before .before .blocks) .next (m28 before given)
+
+      abbrev pub m28 : (before : After-deliver-arg2) → (given : s42 (before .before .before .before .before .before
+          .before .before .before .before .before .before .before .before .before .before .before .before .blocks)
+          .gives (m27 (before .before) (before .deliver-arg2 .given))) → Typed.Mo T45
+      m28 = λ before given. s42 (before .before .before .before .before .before .before .before .before .before .before
+          .before .before .before .before .before .before .before .blocks) .next
+          (m27 (before .before) (before .deliver-arg2 .given)) given
+
+      abbrev pub m29 : (before : After-deliver-arg2) → (given : s42 (before .before .before .before .before .before
+          .before .before .before .before .before .before .before .before .before .before .before .before .blocks)
+          .gives (m27 (before .before) (before .deliver-arg2 .given))) → Typed.Mo T46
+      m29 = λ before given. s43 (before .before .before .before .before .before .before .before .before .before .before
+          .before .before .before .before .before .before .before .blocks) .next (m28 before given)
+
       module _ (before· : After-deliver-arg2) where
         pub record After-deliver-arg3·own : Type 0 where
-          pub given : s42 (before· .before .before .before .before .before .before .before .before .before .before .before .before .before .before
-              .before .before .before .blocks) .gives (m27 (before· .before) (before· .deliver-arg2 .given))
+          pub given : s42 (before· .before .before .before .before .before .before .before .before .before .before
+              .before .before .before .before .before .before .before .blocks) .gives
+              (m27 (before· .before) (before· .deliver-arg2 .given))
+
       pub record After-deliver-arg3 : Type 0 where
         pub before : After-deliver-arg2
         pub deliver-arg3 : After-deliver-arg3·own before
-      abbrev pub m30 : (before : After-deliver-arg3) → (given : s45 (before .before .before .before .before .before .before .before .before .before
-          .before .before .before .before .before .before .before .before .before .blocks) .gives (m29 (before .before) (before .deliver-arg3
-          .given))) → Typed.Mo T48
-      m30 = λ before given. s45 (before .before .before .before .before .before .before .before .before .before .before .before .before .before
-          .before .before .before .before .before .blocks) .next (m29 (before .before) (before .deliver-arg3 .given)) given
-      abbrev pub m31 : (before : After-deliver-arg3) → (given : s45 (before .before .before .before .before .before .before .before .before .before
-          .before .before .before .before .before .before .before .before .before .blocks) .gives (m29 (before .before) (before .deliver-arg3
-          .given))) → Typed.Mo T49
-      m31 = λ before given. s46 (before .before .before .before .before .before .before .before .before .before .before .before .before .before
-          .before .before .before .before .before .blocks) .next (m30 before given)
+
+      abbrev pub m30 : (before : After-deliver-arg3) → (given : s45 (before .before .before .before .before .before
+          .before .before .before .before .before .before .before .before .before .before .before .before .before
+          .blocks) .gives (m29 (before .before) (before .deliver-arg3 .given))) → Typed.Mo T48
+      m30 = λ before given. s45 (before .before .before .before .before .before .before .before .before .before .before
+          .before .before .before .before .before .before .before .before .blocks) .next
+          (m29 (before .before) (before .deliver-arg3 .given)) given
+
+      abbrev pub m31 : (before : After-deliver-arg3) → (given : s45 (before .before .before .before .before .before
+          .before .before .before .before .before .before .before .before .before .before .before .before .before
+          .blocks) .gives (m29 (before .before) (before .deliver-arg3 .given))) → Typed.Mo T49
+      m31 = λ before given. s46 (before .before .before .before .before .before .before .before .before .before .before
+          .before .before .before .before .before .before .before .before .blocks) .next (m30 before given)
+
       module _ (before· : After-deliver-arg3) where
         pub record After-deliver-arg4·own : Type 0 where
-          pub given : s45 (before· .before .before .before .before .before .before .before .before .before .before .before .before .before .before
-              .before .before .before .before .blocks) .gives (m29 (before· .before) (before· .deliver-arg3 .given))
+          pub given : s45 (before· .before .before .before .before .before .before .before .before .before .before
+              .before .before .before .before .before .before .before .before .blocks) .gives
+              (m29 (before· .before) (before· .deliver-arg3 .given))
+
       pub record After-deliver-arg4 : Type 0 where
         pub before : After-deliver-arg3
         pub deliver-arg4 : After-deliver-arg4·own before
-      abbrev pub m32 : (before : After-deliver-arg4) → (given : s48 (before .before .before .before .before .before .before .before .before .before
-          .before .before .before .before .before .before .before .before .before .before .blocks) .gives (m31 (before .before) (before .deliver-arg4
-          .given))) → Typed.Mo T51
-      m32 = λ before given. s48 (before .before .before .before .before .before .before .before .before .before .before .before .before .before
-          .before .before .before .before .before .before .blocks) .next (m31 (before .before) (before .deliver-arg4 .given)) given
-      abbrev pub m33 : (before : After-deliver-arg4) → (given : s48 (before .before .before .before .before .before .before .before .before .before
-          .before .before .before .before .before .before .before .before .before .before .blocks) .gives (m31 (before .before) (before .deliver-arg4
-          .given))) → Typed.Mo T52
-      m33 = λ before given. s49 (before .before .before .before .before .before .before .before .before .before .before .before .before .before
-          .before .before .before .before .before .before .blocks) .next (m32 before given)
+
+      abbrev pub m32 : (before : After-deliver-arg4) → (given : s48 (before .before .before .before .before .before
+          .before .before .before .before .before .before .before .before .before .before .before .before .before
+          .before .blocks) .gives (m31 (before .before) (before .deliver-arg4 .given))) → Typed.Mo T51
+      m32 = λ before given. s48 (before .before .before .before .before .before .before .before .before .before .before
+          .before .before .before .before .before .before .before .before .before .blocks) .next
+          (m31 (before .before) (before .deliver-arg4 .given)) given
+
+      abbrev pub m33 : (before : After-deliver-arg4) → (given : s48 (before .before .before .before .before .before
+          .before .before .before .before .before .before .before .before .before .before .before .before .before
+          .before .blocks) .gives (m31 (before .before) (before .deliver-arg4 .given))) → Typed.Mo T52
+      m33 = λ before given. s49 (before .before .before .before .before .before .before .before .before .before .before
+          .before .before .before .before .before .before .before .before .before .blocks) .next (m32 before given)
+
       module _ (before· : After-deliver-arg4) where
         pub record After-deliver-arg5·own : Type 0 where
-          pub given : s48 (before· .before .before .before .before .before .before .before .before .before .before .before .before .before .before
-              .before .before .before .before .before .blocks) .gives (m31 (before· .before) (before· .deliver-arg4 .given))
+          pub given : s48 (before· .before .before .before .before .before .before .before .before .before .before
+              .before .before .before .before .before .before .before .before .before .blocks) .gives
+              (m31 (before· .before) (before· .deliver-arg4 .given))
+
       pub record After-deliver-arg5 : Type 0 where
         pub before : After-deliver-arg4
         pub deliver-arg5 : After-deliver-arg5·own before
+
       abbrev pub Need-deliver-requires : Type 0
-      Need-deliver-requires = (c : After-deliver-arg5) → s50 (c .before .before .before .before .before .before .before .before .before .before
-          .before .before .before .before .before .before .before .before .before .before .blocks) .asks (m33 (c .before) (c .deliver-arg5 .given))
-      abbrev pub m34 : (before : After-deliver-arg5) → (given : s50 (before .before .before .before .before .before .before .before .before .before
-          .before .before .before .before .before .before .before .before .before .before .before .blocks) .gives (m33 (before .before) (before
-          .deliver-arg5 .given))) → Typed.Mo T53
-      m34 = λ before given. s50 (before .before .before .before .before .before .before .before .before .before .before .before .before .before
-          .before .before .before .before .before .before .before .blocks) .next (m33 (before .before) (before .deliver-arg5 .given)) given
+      Need-deliver-requires = (c : After-deliver-arg5) → s50 (c .before .before .before .before .before .before .before
+          .before .before .before .before .before .before .before .before .before .before .before .before .before
+          .blocks) .asks (m33 (c .before) (c .deliver-arg5 .given))
+
+      abbrev pub m34 : (before : After-deliver-arg5) → (given : s50 (before .before .before .before .before .before
+          .before .before .before .before .before .before .before .before .before .before .before .before .before
+          .before .before .blocks) .gives (m33 (before .before) (before .deliver-arg5 .given))) → Typed.Mo T53
+      m34 = λ before given. s50 (before .before .before .before .before .before .before .before .before .before .before
+          .before .before .before .before .before .before .before .before .before .before .blocks) .next
+          (m33 (before .before) (before .deliver-arg5 .given)) given
+
       module _ (before· : After-deliver-arg5) where
         abbrev pub After-deliver·own : Type 0
-        After-deliver·own = Called.Called ps·1 r·1 (claims· .3) T52 (record { pos = 27; ty = Syntax.tyRef Syntax.erased Syntax.mut RelayPending.to;
-            ref = λ x. x; }, (record { pos = 29; ty = Syntax.tyRef Syntax.erased Syntax.mut RelayCircuit.to; ref = λ x. x; }, (record { pos = 31; ty =
-            Syntax.tyRef Syntax.erased Syntax.mut ReservationUsage.to; ref = λ x. x; }, (record { pos = 33; ty = Syntax.tyRef Syntax.erased Syntax.mut
-            InflightAction.to; ref = λ x. x; }, (record { pos = 35; ty = Syntax.tyRef Syntax.erased Syntax.mut (Syntax.tyInt Syntax.w32); ref = λ x.
-            x; }, (record { pos = 12; st = List.[]; d = 0; at = λ x. x }, (record { pos = 7; st = List.[]; d = 0; at = λ x. x }, (Num.vLit 1, (record
-            { pos = 8; ty = Syntax.tyRef (Syntax.named 5) Syntax.imm (Syntax.tyInt Syntax.w8); ref = λ x. x; }, tt,),),),),),),),),) (m33 (before·
-            .before) (before· .deliver-arg5 .given))
+        After-deliver·own = Called.Called ps·1 r·1 (claims· .3) T52 (
+          record { pos = 27; ty = ref0; ref = λ x. x },
+          (
+            record { pos = 29; ty = ref1; ref = λ x. x },
+            (
+              record { pos = 31; ty = ref4; ref = λ x. x },
+              (
+                record { pos = 33; ty = ref2; ref = λ x. x },
+                (
+                  record { pos = 35; ty = ref3; ref = λ x. x },
+                  (
+                    record { pos = 12; st = List.[]; d = 0; at = λ x. x },
+                    (
+                      record { pos = 7; st = List.[]; d = 0; at = λ x. x },
+                      (Num.vLit 1, (record { pos = 8; ty = ref10; ref = λ x. x }, tt)),
+                    ),
+                  ),
+                ),
+              ),
+            ),
+          ),
+        ) (m33 (before· .before) (before· .deliver-arg5 .given))
+
       pub record After-deliver : Type 0 where
         pub before : After-deliver-arg5
         pub deliver : After-deliver·own before
-      abbrev pub After-deliver·gave : (c : After-deliver) → s50 (c .before .before .before .before .before .before .before .before .before .before
-          .before .before .before .before .before .before .before .before .before .before .before .blocks) .gives (m33 (c .before .before) (c .before
-          .deliver-arg5 .given))
-      After-deliver·gave = λ c. Called.given ps·1 r·1 (claims· .3) T52 (record { pos = 27; ty = Syntax.tyRef Syntax.erased Syntax.mut RelayPending.to;
-          ref = λ x. x; }, (record { pos = 29; ty = Syntax.tyRef Syntax.erased Syntax.mut RelayCircuit.to; ref = λ x. x; }, (record { pos = 31; ty =
-          Syntax.tyRef Syntax.erased Syntax.mut ReservationUsage.to; ref = λ x. x; }, (record { pos = 33; ty = Syntax.tyRef Syntax.erased Syntax.mut
-          InflightAction.to; ref = λ x. x; }, (record { pos = 35; ty = Syntax.tyRef Syntax.erased Syntax.mut (Syntax.tyInt Syntax.w32); ref = λ x. x;
-          }, (record { pos = 12; st = List.[]; d = 0; at = λ x. x }, (record { pos = 7; st = List.[]; d = 0; at = λ x. x }, (Num.vLit 1, (record { pos
-          = 8; ty = Syntax.tyRef (Syntax.named 5) Syntax.imm (Syntax.tyInt Syntax.w8); ref = λ x. x; }, tt,),),),),),),),),) (m33 (c .before .before)
-          (c .before .deliver-arg5 .given)) (c .deliver)
-      abbrev pub m35 : (before : After-deliver-arg5) → (given : s50 (before .before .before .before .before .before .before .before .before .before
-          .before .before .before .before .before .before .before .before .before .before .before .blocks) .gives (m33 (before .before) (before
-          .deliver-arg5 .given))) → Typed.Mo T54
-      m35 = λ before given. s51 (before .before .before .before .before .before .before .before .before .before .before .before .before .before
-          .before .before .before .before .before .before .before .blocks) (m34 before given)
-      abbrev pub m36 : (before : After-deliver-arg5) → (given : s50 (before .before .before .before .before .before .before .before .before .before
-          .before .before .before .before .before .before .before .before .before .before .before .blocks) .gives (m33 (before .before) (before
-          .deliver-arg5 .given))) → Typed.Mo T55
-      m36 = λ before given. s52 (before .before .before .before .before .before .before .before .before .before .before .before .before .before
-          .before .before .before .before .before .before .before .blocks) (m35 before given)
-      abbrev pub m37 : (before : After-deliver) → (given : s54 (before .before .before .before .before .before .before .before .before .before .before
-          .before .before .before .before .before .before .before .before .before .before .before .blocks) .gives (m36 (before .before)
-          (After-deliver·gave before))) → Typed.Mo T57
-      m37 = λ before given. s54 (before .before .before .before .before .before .before .before .before .before .before .before .before .before
-          .before .before .before .before .before .before .before .before .blocks) .next (m36 (before .before) (After-deliver·gave before)) given
+
+      abbrev pub After-deliver·gave : (c : After-deliver) → s50 (c .before .before .before .before .before .before
+          .before .before .before .before .before .before .before .before .before .before .before .before .before
+          .before .before .blocks) .gives (m33 (c .before .before) (c .before .deliver-arg5 .given))
+      After-deliver·gave = λ c. Called.given ps·1 r·1 (claims· .3) T52 (
+        record { pos = 27; ty = ref0; ref = λ x. x },
+        (
+          record { pos = 29; ty = ref1; ref = λ x. x },
+          (
+            record { pos = 31; ty = ref4; ref = λ x. x },
+            (
+              record { pos = 33; ty = ref2; ref = λ x. x },
+              (
+                record { pos = 35; ty = ref3; ref = λ x. x },
+                (
+                  record { pos = 12; st = List.[]; d = 0; at = λ x. x },
+                  (
+                    record { pos = 7; st = List.[]; d = 0; at = λ x. x },
+                    (Num.vLit 1, (record { pos = 8; ty = ref10; ref = λ x. x }, tt)),
+                  ),
+                ),
+              ),
+            ),
+          ),
+        ),
+      ) (m33 (c .before .before) (c .before .deliver-arg5 .given)) (c .deliver)
+
+      abbrev pub m35 : (before : After-deliver-arg5) → (given : s50 (before .before .before .before .before .before
+          .before .before .before .before .before .before .before .before .before .before .before .before .before
+          .before .before .blocks) .gives (m33 (before .before) (before .deliver-arg5 .given))) → Typed.Mo T54
+      m35 = λ before given. s51 (before .before .before .before .before .before .before .before .before .before .before
+          .before .before .before .before .before .before .before .before .before .before .blocks) (m34 before given)
+
+      abbrev pub m36 : (before : After-deliver-arg5) → (given : s50 (before .before .before .before .before .before
+          .before .before .before .before .before .before .before .before .before .before .before .before .before
+          .before .before .blocks) .gives (m33 (before .before) (before .deliver-arg5 .given))) → Typed.Mo T55
+      m36 = λ before given. s52 (before .before .before .before .before .before .before .before .before .before .before
+          .before .before .before .before .before .before .before .before .before .before .blocks) (m35 before given)
+
+      abbrev pub m37 : (before : After-deliver) → (given : s54 (before .before .before .before .before .before .before
+          .before .before .before .before .before .before .before .before .before .before .before .before .before
+          .before .before .blocks) .gives (m36 (before .before) (After-deliver·gave before))) → Typed.Mo T57
+      m37 = λ before given. s54 (before .before .before .before .before .before .before .before .before .before .before
+          .before .before .before .before .before .before .before .before .before .before .before .blocks) .next
+          (m36 (before .before) (After-deliver·gave before)) given
+
       module _ (before· : After-deliver) where
         pub record After-pending2·own : Type 0 where
-          pub given : s54 (before· .before .before .before .before .before .before .before .before .before .before .before .before .before .before
-              .before .before .before .before .before .before .before .blocks) .gives (m36 (before· .before) (After-deliver·gave before·))
+          pub given : s54 (before· .before .before .before .before .before .before .before .before .before .before
+              .before .before .before .before .before .before .before .before .before .before .before .blocks) .gives
+              (m36 (before· .before) (After-deliver·gave before·))
+
       pub record After-pending2 : Type 0 where
         pub before : After-deliver
         pub pending2 : After-pending2·own before
-      abbrev pub m38 : (before : After-pending2) → (given : s57 (before .before .before .before .before .before .before .before .before .before
-          .before .before .before .before .before .before .before .before .before .before .before .before .before .blocks) .gives (m37 (before
-          .before) (before .pending2 .given))) → Typed.Mo T60
-      m38 = λ before given. s57 (before .before .before .before .before .before .before .before .before .before .before .before .before .before
-          .before .before .before .before .before .before .before .before .before .blocks) .next (m37 (before .before) (before .pending2 .given))
-          given
+
+      abbrev pub m38 : (before : After-pending2) → (given : s57 (before .before .before .before .before .before .before
+          .before .before .before .before .before .before .before .before .before .before .before .before .before
+          .before .before .before .blocks) .gives (m37 (before .before) (before .pending2 .given))) → Typed.Mo T60
+      m38 = λ before given. s57 (before .before .before .before .before .before .before .before .before .before .before
+          .before .before .before .before .before .before .before .before .before .before .before .before .blocks)
+          .next (m37 (before .before) (before .pending2 .given)) given
+
       module _ (before· : After-pending2) where
         pub record After-circuits2·own : Type 0 where
-          pub given : s57 (before· .before .before .before .before .before .before .before .before .before .before .before .before .before .before
-              .before .before .before .before .before .before .before .before .blocks) .gives (m37 (before· .before) (before· .pending2 .given))
+          pub given : s57 (before· .before .before .before .before .before .before .before .before .before .before
+              .before .before .before .before .before .before .before .before .before .before .before .before .blocks)
+              .gives (m37 (before· .before) (before· .pending2 .given))
+
       pub record After-circuits2 : Type 0 where
         pub before : After-pending2
         pub circuits2 : After-circuits2·own before
-      abbrev pub m39 : (before : After-circuits2) → (given : s60 (before .before .before .before .before .before .before .before .before .before
-          .before .before .before .before .before .before .before .before .before .before .before .before .before .before .blocks) .gives (m38 (before
-          .before) (before .circuits2 .given))) → Typed.Mo T63
-      m39 = λ before given. s60 (before .before .before .before .before .before .before .before .before .before .before .before .before .before
-          .before .before .before .before .before .before .before .before .before .before .blocks) .next (m38 (before .before) (before .circuits2
-          .given)) given
+
+      abbrev pub m39 : (before : After-circuits2) → (given : s60 (before .before .before .before .before .before
+          .before .before .before .before .before .before .before .before .before .before .before .before .before
+          .before .before .before .before .before .blocks) .gives (m38 (before .before) (before .circuits2 .given))) →
+          Typed.Mo T63
+      m39 = λ before given. s60 (before .before .before .before .before .before .before .before .before .before .before
+          .before .before .before .before .before .before .before .before .before .before .before .before .before
+          .blocks) .next (m38 (before .before) (before .circuits2 .given)) given
+
       module _ (before· : After-circuits2) where
         pub record After-ledger·own : Type 0 where
-          pub given : s60 (before· .before .before .before .before .before .before .before .before .before .before .before .before .before .before
-              .before .before .before .before .before .before .before .before .before .blocks) .gives (m38 (before· .before) (before· .circuits2
-              .given))
+          pub given : s60 (before· .before .before .before .before .before .before .before .before .before .before
+              .before .before .before .before .before .before .before .before .before .before .before .before .before
+              .blocks) .gives (m38 (before· .before) (before· .circuits2 .given))
+
       pub record After-ledger : Type 0 where
         pub before : After-circuits2
         pub ledger : After-ledger·own before
-      abbrev pub m40 : (before : After-ledger) → (given : s63 (before .before .before .before .before .before .before .before .before .before .before
-          .before .before .before .before .before .before .before .before .before .before .before .before .before .before .blocks) .gives (m39 (before
-          .before) (before .ledger .given))) → Typed.Mo T66
-      m40 = λ before given. s63 (before .before .before .before .before .before .before .before .before .before .before .before .before .before
-          .before .before .before .before .before .before .before .before .before .before .before .blocks) .next (m39 (before .before) (before .ledger
-          .given)) given
+
+      abbrev pub m40 : (before : After-ledger) → (given : s63 (before .before .before .before .before .before .before
+          .before .before .before .before .before .before .before .before .before .before .before .before .before
+          .before .before .before .before .before .blocks) .gives (m39 (before .before) (before .ledger .given))) →
+          Typed.Mo T66
+      m40 = λ before given. s63 (before .before .before .before .before .before .before .before .before .before .before
+          .before .before .before .before .before .before .before .before .before .before .before .before .before
+          .before .blocks) .next (m39 (before .before) (before .ledger .given)) given
+
       module _ (before· : After-ledger) where
         pub record After-inflight2·own : Type 0 where
-          pub given : s63 (before· .before .before .before .before .before .before .before .before .before .before .before .before .before .before
-              .before .before .before .before .before .before .before .before .before .before .blocks) .gives (m39 (before· .before) (before· .ledger
-              .given))
+          pub given : s63 (before· .before .before .before .before .before .before .before .before .before .before
+              .before .before .before .before .before .before .before .before .before .before .before .before .before
+              .before .blocks) .gives (m39 (before· .before) (before· .ledger .given))
+
       pub record After-inflight2 : Type 0 where
         pub before : After-ledger
         pub inflight2 : After-inflight2·own before
-      abbrev pub m41 : (before : After-inflight2) → (given : s66 (before .before .before .before .before .before .before .before .before .before
-          .before .before .before .before .before .before .before .before .before .before .before .before .before .before .before .before .blocks)
-          .gives (m40 (before .before) (before .inflight2 .given))) → Typed.Mo T69
-      m41 = λ before given. s66 (before .before .before .before .before .before .before .before .before .before .before .before .before .before
-          .before .before .before .before .before .before .before .before .before .before .before .before .blocks) .next (m40 (before .before) (before
-          .inflight2 .given)) given
+
+      abbrev pub m41 : (before : After-inflight2) → (given : s66 (before .before .before .before .before .before
+          .before .before .before .before .before .before .before .before .before .before .before .before .before
+          .before .before .before .before .before .before .before .blocks) .gives
+          (m40 (before .before) (before .inflight2 .given))) → Typed.Mo T69
+      m41 = λ before given. s66 (before .before .before .before .before .before .before .before .before .before .before
+          .before .before .before .before .before .before .before .before .before .before .before .before .before
+          .before .before .blocks) .next (m40 (before .before) (before .inflight2 .given)) given
+
       module _ (before· : After-inflight2) where
         pub record After-out2·own : Type 0 where
-          pub given : s66 (before· .before .before .before .before .before .before .before .before .before .before .before .before .before .before
-              .before .before .before .before .before .before .before .before .before .before .before .blocks) .gives (m40 (before· .before) (before·
-              .inflight2 .given))
+          pub given : s66 (before· .before .before .before .before .before .before .before .before .before .before
+              .before .before .before .before .before .before .before .before .before .before .before .before .before
+              .before .before .blocks) .gives (m40 (before· .before) (before· .inflight2 .given))
+
       pub record After-out2 : Type 0 where
         pub before : After-inflight2
         pub out2 : After-out2·own before
-      abbrev pub m42 : (before : After-out2) → (given : s67 (before .before .before .before .before .before .before .before .before .before .before
-          .before .before .before .before .before .before .before .before .before .before .before .before .before .before .before .before .blocks)
-          .gives (m41 (before .before) (before .out2 .given))) → Typed.Mo T70
-      m42 = λ before given. s67 (before .before .before .before .before .before .before .before .before .before .before .before .before .before
-          .before .before .before .before .before .before .before .before .before .before .before .before .before .blocks) .next (m41 (before .before)
-          (before .out2 .given)) given
-      abbrev pub m43 : (before : After-out2) → (given : s67 (before .before .before .before .before .before .before .before .before .before .before
-          .before .before .before .before .before .before .before .before .before .before .before .before .before .before .before .before .blocks)
-          .gives (m41 (before .before) (before .out2 .given))) → Typed.Mo T72
-      m43 = λ before given. s69 (before .before .before .before .before .before .before .before .before .before .before .before .before .before
-          .before .before .before .before .before .before .before .before .before .before .before .before .before .blocks) (m42 before given)
-      abbrev pub m44 : (before : After-out2) → (given : s67 (before .before .before .before .before .before .before .before .before .before .before
-          .before .before .before .before .before .before .before .before .before .before .before .before .before .before .before .before .blocks)
-          .gives (m41 (before .before) (before .out2 .given))) → Typed.Mo T73
-      m44 = λ before given. s70 (before .before .before .before .before .before .before .before .before .before .before .before .before .before
-          .before .before .before .before .before .before .before .before .before .before .before .before .before .blocks) (m43 before given)
+
+      abbrev pub m42 : (before : After-out2) → (given : s67 (before .before .before .before .before .before .before
+          .before .before .before .before .before .before .before .before .before .before .before .before .before
+          .before .before .before .before .before .before .before .blocks) .gives
+          (m41 (before .before) (before .out2 .given))) → Typed.Mo T70
+      m42 = λ before given. s67 (before .before .before .before .before .before .before .before .before .before .before
+          .before .before .before .before .before .before .before .before .before .before .before .before .before
+          .before .before .before .blocks) .next (m41 (before .before) (before .out2 .given)) given
+
+      abbrev pub m43 : (before : After-out2) → (given : s67 (before .before .before .before .before .before .before
+          .before .before .before .before .before .before .before .before .before .before .before .before .before
+          .before .before .before .before .before .before .before .blocks) .gives
+          (m41 (before .before) (before .out2 .given))) → Typed.Mo T72
+      m43 = λ before given. s69 (before .before .before .before .before .before .before .before .before .before .before
+          .before .before .before .before .before .before .before .before .before .before .before .before .before
+          .before .before .before .blocks) (m42 before given)
+
+      abbrev pub m44 : (before : After-out2) → (given : s67 (before .before .before .before .before .before .before
+          .before .before .before .before .before .before .before .before .before .before .before .before .before
+          .before .before .before .before .before .before .before .blocks) .gives
+          (m41 (before .before) (before .out2 .given))) → Typed.Mo T73
+      m44 = λ before given. s70 (before .before .before .before .before .before .before .before .before .before .before
+          .before .before .before .before .before .before .before .before .before .before .before .before .before
+          .before .before .before .blocks) (m43 before given)
+
       module _ (before· : After-out2) where
         pub record After-slice-known3·own : Type 0 where
-          pub given : s67 (before· .before .before .before .before .before .before .before .before .before .before .before .before .before .before
-              .before .before .before .before .before .before .before .before .before .before .before .before .blocks) .gives (m41 (before· .before)
-              (before· .out2 .given))
+          pub given : s67 (before· .before .before .before .before .before .before .before .before .before .before
+              .before .before .before .before .before .before .before .before .before .before .before .before .before
+              .before .before .before .blocks) .gives (m41 (before· .before) (before· .out2 .given))
+
       pub record After-slice-known3 : Type 0 where
         pub before : After-out2
         pub slice-known3 : After-slice-known3·own before
+
       abbrev pub Need-answer-number-requires : Type 0
-      Need-answer-number-requires = (c : After-slice-known3) → s71 (c .before .before .before .before .before .before .before .before .before .before
-          .before .before .before .before .before .before .before .before .before .before .before .before .before .before .before .before .before
-          .blocks) .asks (m44 (c .before) (c .slice-known3 .given))
-      abbrev pub m45 : (before : After-slice-known3) → (given : s71 (before .before .before .before .before .before .before .before .before .before
-          .before .before .before .before .before .before .before .before .before .before .before .before .before .before .before .before .before
-          .before .blocks) .gives (m44 (before .before) (before .slice-known3 .given))) → Typed.Mo T74
-      m45 = λ before given. s71 (before .before .before .before .before .before .before .before .before .before .before .before .before .before
-          .before .before .before .before .before .before .before .before .before .before .before .before .before .before .blocks) .next (m44 (before
-          .before) (before .slice-known3 .given)) given
+      Need-answer-number-requires = (c : After-slice-known3) → s71 (c .before .before .before .before .before .before
+          .before .before .before .before .before .before .before .before .before .before .before .before .before
+          .before .before .before .before .before .before .before .before .blocks) .asks
+          (m44 (c .before) (c .slice-known3 .given))
+
+      abbrev pub m45 : (before : After-slice-known3) → (given : s71 (before .before .before .before .before .before
+          .before .before .before .before .before .before .before .before .before .before .before .before .before
+          .before .before .before .before .before .before .before .before .before .blocks) .gives
+          (m44 (before .before) (before .slice-known3 .given))) → Typed.Mo T74
+      m45 = λ before given. s71 (before .before .before .before .before .before .before .before .before .before .before
+          .before .before .before .before .before .before .before .before .before .before .before .before .before
+          .before .before .before .before .blocks) .next (m44 (before .before) (before .slice-known3 .given)) given
+
       module _ (before· : After-slice-known3) where
         abbrev pub After-answer-number·own : Type 0
-        After-answer-number·own = Called.Called ps·2 r·2 (claims· .5) T73 (record { pos = 14; st = List.[]; d = 0; at = λ x. x }, tt,) (m44 (before·
-            .before) (before· .slice-known3 .given))
+        After-answer-number·own = Called.Called ps·2 r·2 (claims· .5) T73
+            (record { pos = 14; st = List.[]; d = 0; at = λ x. x }, tt)
+            (m44 (before· .before) (before· .slice-known3 .given))
+
       pub record After-answer-number : Type 0 where
         pub before : After-slice-known3
         pub answer-number : After-answer-number·own before
-      abbrev pub After-answer-number·gave : (c : After-answer-number) → s71 (c .before .before .before .before .before .before .before .before .before
-          .before .before .before .before .before .before .before .before .before .before .before .before .before .before .before .before .before
-          .before .before .blocks) .gives (m44 (c .before .before) (c .before .slice-known3 .given))
-      After-answer-number·gave = λ c. Called.given ps·2 r·2 (claims· .5) T73 (record { pos = 14; st = List.[]; d = 0; at = λ x. x }, tt,) (m44 (c
-          .before .before) (c .before .slice-known3 .given)) (c .answer-number)
-      abbrev pub m46 : (before : After-slice-known3) → (given : s71 (before .before .before .before .before .before .before .before .before .before
-          .before .before .before .before .before .before .before .before .before .before .before .before .before .before .before .before .before
-          .before .blocks) .gives (m44 (before .before) (before .slice-known3 .given))) → Typed.Mo T75
-      m46 = λ before given. s72 (before .before .before .before .before .before .before .before .before .before .before .before .before .before
-          .before .before .before .before .before .before .before .before .before .before .before .before .before .before .blocks) (m45 before given)
-      abbrev pub m47 : (before : After-slice-known3) → (given : s71 (before .before .before .before .before .before .before .before .before .before
-          .before .before .before .before .before .before .before .before .before .before .before .before .before .before .before .before .before
-          .before .blocks) .gives (m44 (before .before) (before .slice-known3 .given))) → Typed.Mo T76
-      m47 = λ before given. s73 (before .before .before .before .before .before .before .before .before .before .before .before .before .before
-          .before .before .before .before .before .before .before .before .before .before .before .before .before .before .blocks) (m46 before given)
+
+      abbrev pub After-answer-number·gave : (c : After-answer-number) → s71 (c .before .before .before .before .before
+          .before .before .before .before .before .before .before .before .before .before .before .before .before
+          .before .before .before .before .before .before .before .before .before .before .blocks) .gives
+          (m44 (c .before .before) (c .before .slice-known3 .given))
+      After-answer-number·gave = λ c. Called.given ps·2 r·2 (claims· .5) T73
+          (record { pos = 14; st = List.[]; d = 0; at = λ x. x }, tt)
+          (m44 (c .before .before) (c .before .slice-known3 .given)) (c .answer-number)
+
+      abbrev pub m46 : (before : After-slice-known3) → (given : s71 (before .before .before .before .before .before
+          .before .before .before .before .before .before .before .before .before .before .before .before .before
+          .before .before .before .before .before .before .before .before .before .blocks) .gives
+          (m44 (before .before) (before .slice-known3 .given))) → Typed.Mo T75
+      m46 = λ before given. s72 (before .before .before .before .before .before .before .before .before .before .before
+          .before .before .before .before .before .before .before .before .before .before .before .before .before
+          .before .before .before .before .blocks) (m45 before given)
+
+      abbrev pub m47 : (before : After-slice-known3) → (given : s71 (before .before .before .before .before .before
+          .before .before .before .before .before .before .before .before .before .before .before .before .before
+          .before .before .before .before .before .before .before .before .before .blocks) .gives
+          (m44 (before .before) (before .slice-known3 .given))) → Typed.Mo T76
+      m47 = λ before given. s73 (before .before .before .before .before .before .before .before .before .before .before
+          .before .before .before .before .before .before .before .before .before .before .before .before .before
+          .before .before .before .before .blocks) (m46 before given)
+
       abbrev pub Need-same-length : Type 0
-      Need-same-length = (c : After-answer-number) → MutSlice.SameLen (Row.get 1 (T76 .locals) (m47 (c .before) (After-answer-number·gave c))) (dens
-          (c .before .before .before .before .before .before .before .before .before .before .before .before .before .before .before .before .before
-          .before .before .before .before .before .before .before .before .before .before .before .κs) (c .before .before .before .before .before
-          .before .before .before .before .before .before .before .before .before .before .before .before .before .before .before .before .before
-          .before .before .before .before .before .before .args) .0)
+      Need-same-length = (c : After-answer-number) → MutSlice.SameLen (Row.get 1 (T76 .locals)
+          (m47 (c .before) (After-answer-number·gave c))) (dens (c .before .before .before .before .before .before
+          .before .before .before .before .before .before .before .before .before .before .before .before .before
+          .before .before .before .before .before .before .before .before .before .κs) (c .before .before .before
+          .before .before .before .before .before .before .before .before .before .before .before .before .before
+          .before .before .before .before .before .before .before .before .before .before .before .before .args) .0)
+
       abbrev pub Need-same-length-2 : Type 0
-      Need-same-length-2 = (c : After-answer-number) → MutSlice.SameLen (Row.get 2 (T76 .locals) (m47 (c .before) (After-answer-number·gave c))) (dens
-          (c .before .before .before .before .before .before .before .before .before .before .before .before .before .before .before .before .before
-          .before .before .before .before .before .before .before .before .before .before .before .κs) (c .before .before .before .before .before
-          .before .before .before .before .before .before .before .before .before .before .before .before .before .before .before .before .before
-          .before .before .before .before .before .before .args) .1 .0)
+      Need-same-length-2 = (c : After-answer-number) → MutSlice.SameLen (Row.get 2 (T76 .locals)
+          (m47 (c .before) (After-answer-number·gave c))) (dens (c .before .before .before .before .before .before
+          .before .before .before .before .before .before .before .before .before .before .before .before .before
+          .before .before .before .before .before .before .before .before .before .κs) (c .before .before .before
+          .before .before .before .before .before .before .before .before .before .before .before .before .before
+          .before .before .before .before .before .before .before .before .before .before .before .before .args) .1 .0)
+
       abbrev pub Need-same-length-3 : Type 0
-      Need-same-length-3 = (c : After-answer-number) → MutSlice.SameLen (Row.get 3 (T76 .locals) (m47 (c .before) (After-answer-number·gave c))) (dens
-          (c .before .before .before .before .before .before .before .before .before .before .before .before .before .before .before .before .before
-          .before .before .before .before .before .before .before .before .before .before .before .κs) (c .before .before .before .before .before
-          .before .before .before .before .before .before .before .before .before .before .before .before .before .before .before .before .before
-          .before .before .before .before .before .before .args) .1 .1 .0)
+      Need-same-length-3 = (c : After-answer-number) → MutSlice.SameLen (Row.get 3 (T76 .locals)
+          (m47 (c .before) (After-answer-number·gave c))) (dens (c .before .before .before .before .before .before
+          .before .before .before .before .before .before .before .before .before .before .before .before .before
+          .before .before .before .before .before .before .before .before .before .κs) (c .before .before .before
+          .before .before .before .before .before .before .before .before .before .before .before .before .before
+          .before .before .before .before .before .before .before .before .before .before .before .before .args) .1 .1
+          .0)
+
       abbrev pub Need-same-length-4 : Type 0
-      Need-same-length-4 = (c : After-answer-number) → MutSlice.SameLen (Row.get 4 (T76 .locals) (m47 (c .before) (After-answer-number·gave c))) (dens
-          (c .before .before .before .before .before .before .before .before .before .before .before .before .before .before .before .before .before
-          .before .before .before .before .before .before .before .before .before .before .before .κs) (c .before .before .before .before .before
-          .before .before .before .before .before .before .before .before .before .before .before .before .before .before .before .before .before
-          .before .before .before .before .before .before .args) .1 .1 .1 .0)
+      Need-same-length-4 = (c : After-answer-number) → MutSlice.SameLen (Row.get 4 (T76 .locals)
+          (m47 (c .before) (After-answer-number·gave c))) (dens (c .before .before .before .before .before .before
+          .before .before .before .before .before .before .before .before .before .before .before .before .before
+          .before .before .before .before .before .before .before .before .before .κs) (c .before .before .before
+          .before .before .before .before .before .before .before .before .before .before .before .before .before
+          .before .before .before .before .before .before .before .before .before .before .before .before .args) .1 .1
+          .1 .0)
+
       abbrev pub Need-same-length-5 : Type 0
-      Need-same-length-5 = (c : After-answer-number) → MutSlice.SameLen (Row.get 5 (T76 .locals) (m47 (c .before) (After-answer-number·gave c))) (dens
-          (c .before .before .before .before .before .before .before .before .before .before .before .before .before .before .before .before .before
-          .before .before .before .before .before .before .before .before .before .before .before .κs) (c .before .before .before .before .before
-          .before .before .before .before .before .before .before .before .before .before .before .before .before .before .before .before .before
-          .before .before .before .before .before .before .args) .1 .1 .1 .1 .0)
+      Need-same-length-5 = (c : After-answer-number) → MutSlice.SameLen (Row.get 5 (T76 .locals)
+          (m47 (c .before) (After-answer-number·gave c))) (dens (c .before .before .before .before .before .before
+          .before .before .before .before .before .before .before .before .before .before .before .before .before
+          .before .before .before .before .before .before .before .before .before .κs) (c .before .before .before
+          .before .before .before .before .before .before .before .before .before .before .before .before .before
+          .before .before .before .before .before .before .before .before .before .before .before .before .args) .1 .1
+          .1 .1 .0)
+
       abbrev pub Need-returns : Type 0
-      Need-returns = (c : After-answer-number) → Post· (c .before .before .before .before .before .before .before .before .before .before .before
-          .before .before .before .before .before .before .before .before .before .before .before .before .before .before .before .before .before .κs)
-          (dens (c .before .before .before .before .before .before .before .before .before .before .before .before .before .before .before .before
-          .before .before .before .before .before .before .before .before .before .before .before .before .κs) (c .before .before .before .before
-          .before .before .before .before .before .before .before .before .before .before .before .before .before .before .before .before .before
-          .before .before .before .before .before .before .before .args)) (Function.resV r (c .before .before .before .before .before .before .before
-          .before .before .before .before .before .before .before .before .before .before .before .before .before .before .before .before .before
-          .before .before .before .before .κs) (m47 (c .before) (After-answer-number·gave c) .0)) (Clauses.atExit (Kinds.endedOf 6 ps r) (c .before
-          .before .before .before .before .before .before .before .before .before .before .before .before .before .before .before .before .before
-          .before .before .before .before .before .before .before .before .before .before .κs) (dens (c .before .before .before .before .before
-          .before .before .before .before .before .before .before .before .before .before .before .before .before .before .before .before .before
-          .before .before .before .before .before .before .κs) (c .before .before .before .before .before .before .before .before .before .before
-          .before .before .before .before .before .before .before .before .before .before .before .before .before .before .before .before .before
-          .before .args)) (Enter.lastsP (c .before .before .before .before .before .before .before .before .before .before .before .before .before
-          .before .before .before .before .before .before .before .before .before .before .before .before .before .before .before .κs) 1 ps xs (dens
-          (c .before .before .before .before .before .before .before .before .before .before .before .before .before .before .before .before .before
-          .before .before .before .before .before .before .before .before .before .before .before .κs) (c .before .before .before .before .before
-          .before .before .before .before .before .before .before .before .before .before .before .before .before .before .before .before .before
-          .before .before .before .before .before .before .args)) (m47 (c .before) (After-answer-number·gave c) .1)))
+      Need-returns = (c : After-answer-number) → Post· (c .before .before .before .before .before .before .before
+          .before .before .before .before .before .before .before .before .before .before .before .before .before
+          .before .before .before .before .before .before .before .before .κs) (dens (c .before .before .before .before
+          .before .before .before .before .before .before .before .before .before .before .before .before .before
+          .before .before .before .before .before .before .before .before .before .before .before .κs) (c .before
+          .before .before .before .before .before .before .before .before .before .before .before .before .before
+          .before .before .before .before .before .before .before .before .before .before .before .before .before
+          .before .args)) (Function.resV r (c .before .before .before .before .before .before .before .before .before
+          .before .before .before .before .before .before .before .before .before .before .before .before .before
+          .before .before .before .before .before .before .κs) (m47 (c .before) (After-answer-number·gave c) .0)) (Clauses.atExit
+          (Kinds.endedOf 6 ps r) (c .before .before .before .before .before .before .before .before .before .before
+          .before .before .before .before .before .before .before .before .before .before .before .before .before
+          .before .before .before .before .before .κs) (dens (c .before .before .before .before .before .before .before
+          .before .before .before .before .before .before .before .before .before .before .before .before .before
+          .before .before .before .before .before .before .before .before .κs) (c .before .before .before .before
+          .before .before .before .before .before .before .before .before .before .before .before .before .before
+          .before .before .before .before .before .before .before .before .before .before .before .args)) (Enter.lastsP (c
+          .before .before .before .before .before .before .before .before .before .before .before .before .before
+          .before .before .before .before .before .before .before .before .before .before .before .before .before
+          .before .before .κs) 1 ps xs (dens (c .before .before .before .before .before .before .before .before .before
+          .before .before .before .before .before .before .before .before .before .before .before .before .before
+          .before .before .before .before .before .before .κs) (c .before .before .before .before .before .before
+          .before .before .before .before .before .before .before .before .before .before .before .before .before
+          .before .before .before .before .before .before .before .before .before .args))
+          (m47 (c .before) (After-answer-number·gave c) .1)))
+
       abbrev pub m48 : (before : After-shared-slice-known) → Typed.Mo T77
       m48 = λ before. s74 (before .before .before .blocks) (m3 (before .before) (before .shared-slice-known .given))
+
       module _ (before· : After-shared-slice-known) where
         pub record Else1·own : Type 0 where
-          pub left : Path._≡_ (Row.get 17 (T4 .locals) (m3 (before· .before) (before· .shared-slice-known .given))) Bool'.false
+          pub left : Path._≡_ (Row.get 17 (T4 .locals) (m3 (before· .before) (before· .shared-slice-known .given)))
+              Bool'.false
+
       pub record Else1 : Type 0 where
         pub before : After-shared-slice-known
         pub if1 : Else1·own before
-      abbrev pub m49 : (before : Else1) → (given : s76 (before .before .before .before .blocks) .gives (m48 (before .before))) → Typed.Mo T79
+
+      abbrev pub m49 : (before : Else1) → (given : s76 (before .before .before .before .blocks) .gives
+          (m48 (before .before))) → Typed.Mo T79
       m49 = λ before given. s76 (before .before .before .before .blocks) .next (m48 (before .before)) given
-      abbrev pub m50 : (before : Else1) → (given : s76 (before .before .before .before .blocks) .gives (m48 (before .before))) → Typed.Mo T80
+
+      abbrev pub m50 : (before : Else1) → (given : s76 (before .before .before .before .blocks) .gives
+          (m48 (before .before))) → Typed.Mo T80
       m50 = λ before given. s77 (before .before .before .before .blocks) .next (m49 before given)
+
       module _ (before· : Else1) where
         pub record After-deliver-arg6·own : Type 0 where
           pub given : s76 (before· .before .before .before .blocks) .gives (m48 (before· .before))
+
       pub record After-deliver-arg6 : Type 0 where
         pub before : Else1
         pub deliver-arg6 : After-deliver-arg6·own before
-      abbrev pub m51 : (before : After-deliver-arg6) → (given : s79 (before .before .before .before .before .blocks) .gives (m50 (before .before)
-          (before .deliver-arg6 .given))) → Typed.Mo T82
-      m51 = λ before given. s79 (before .before .before .before .before .blocks) .next (m50 (before .before) (before .deliver-arg6 .given)) given
-      abbrev pub m52 : (before : After-deliver-arg6) → (given : s79 (before .before .before .before .before .blocks) .gives (m50 (before .before)
-          (before .deliver-arg6 .given))) → Typed.Mo T83
+
+      abbrev pub m51 : (before : After-deliver-arg6) → (given : s79 (before .before .before .before .before .blocks)
+          .gives (m50 (before .before) (before .deliver-arg6 .given))) → Typed.Mo T82
+      m51 = λ before given. s79 (before .before .before .before .before .blocks) .next
+          (m50 (before .before) (before .deliver-arg6 .given)) given
+
+      abbrev pub m52 : (before : After-deliver-arg6) → (given : s79 (before .before .before .before .before .blocks)
+          .gives (m50 (before .before) (before .deliver-arg6 .given))) → Typed.Mo T83
       m52 = λ before given. s80 (before .before .before .before .before .blocks) .next (m51 before given)
+
       module _ (before· : After-deliver-arg6) where
         pub record After-deliver-arg7·own : Type 0 where
-          pub given : s79 (before· .before .before .before .before .blocks) .gives (m50 (before· .before) (before· .deliver-arg6 .given))
+          pub given : s79 (before· .before .before .before .before .blocks) .gives
+              (m50 (before· .before) (before· .deliver-arg6 .given))
+
       pub record After-deliver-arg7 : Type 0 where
         pub before : After-deliver-arg6
         pub deliver-arg7 : After-deliver-arg7·own before
-      abbrev pub m53 : (before : After-deliver-arg7) → (given : s82 (before .before .before .before .before .before .blocks) .gives (m52 (before
-          .before) (before .deliver-arg7 .given))) → Typed.Mo T85
-      m53 = λ before given. s82 (before .before .before .before .before .before .blocks) .next (m52 (before .before) (before .deliver-arg7 .given))
-          given
-      abbrev pub m54 : (before : After-deliver-arg7) → (given : s82 (before .before .before .before .before .before .blocks) .gives (m52 (before
-          .before) (before .deliver-arg7 .given))) → Typed.Mo T86
+
+      abbrev pub m53 : (before : After-deliver-arg7) → (given : s82
+          (before .before .before .before .before .before .blocks) .gives
+          (m52 (before .before) (before .deliver-arg7 .given))) → Typed.Mo T85
+      m53 = λ before given. s82 (before .before .before .before .before .before .blocks) .next
+          (m52 (before .before) (before .deliver-arg7 .given)) given
+
+      abbrev pub m54 : (before : After-deliver-arg7) → (given : s82
+          (before .before .before .before .before .before .blocks) .gives
+          (m52 (before .before) (before .deliver-arg7 .given))) → Typed.Mo T86
       m54 = λ before given. s83 (before .before .before .before .before .before .blocks) .next (m53 before given)
+
       module _ (before· : After-deliver-arg7) where
         pub record After-deliver-arg8·own : Type 0 where
-          pub given : s82 (before· .before .before .before .before .before .blocks) .gives (m52 (before· .before) (before· .deliver-arg7 .given))
+          pub given : s82 (before· .before .before .before .before .before .blocks) .gives
+              (m52 (before· .before) (before· .deliver-arg7 .given))
+
       pub record After-deliver-arg8 : Type 0 where
         pub before : After-deliver-arg7
         pub deliver-arg8 : After-deliver-arg8·own before
-      abbrev pub m55 : (before : After-deliver-arg8) → (given : s85 (before .before .before .before .before .before .before .blocks) .gives (m54
-          (before .before) (before .deliver-arg8 .given))) → Typed.Mo T88
-      m55 = λ before given. s85 (before .before .before .before .before .before .before .blocks) .next (m54 (before .before) (before .deliver-arg8
-          .given)) given
-      abbrev pub m56 : (before : After-deliver-arg8) → (given : s85 (before .before .before .before .before .before .before .blocks) .gives (m54
-          (before .before) (before .deliver-arg8 .given))) → Typed.Mo T89
-      m56 = λ before given. s86 (before .before .before .before .before .before .before .blocks) .next (m55 before given)
+
+      abbrev pub m55 : (before : After-deliver-arg8) → (given : s85 (before .before .before .before .before .before
+          .before .blocks) .gives (m54 (before .before) (before .deliver-arg8 .given))) → Typed.Mo T88
+      m55 = λ before given. s85 (before .before .before .before .before .before .before .blocks) .next
+          (m54 (before .before) (before .deliver-arg8 .given)) given
+
+      abbrev pub m56 : (before : After-deliver-arg8) → (given : s85 (before .before .before .before .before .before
+          .before .blocks) .gives (m54 (before .before) (before .deliver-arg8 .given))) → Typed.Mo T89
+      m56 = λ before given. s86 (before .before .before .before .before .before .before .blocks) .next
+          (m55 before given)
+
       module _ (before· : After-deliver-arg8) where
         pub record After-deliver-arg9·own : Type 0 where
-          pub given : s85 (before· .before .before .before .before .before .before .blocks) .gives (m54 (before· .before) (before· .deliver-arg8
-              .given))
+          pub given : s85 (before· .before .before .before .before .before .before .blocks) .gives
+              (m54 (before· .before) (before· .deliver-arg8 .given))
+
       pub record After-deliver-arg9 : Type 0 where
         pub before : After-deliver-arg8
         pub deliver-arg9 : After-deliver-arg9·own before
-      abbrev pub m57 : (before : After-deliver-arg9) → (given : s88 (before .before .before .before .before .before .before .before .blocks) .gives
-          (m56 (before .before) (before .deliver-arg9 .given))) → Typed.Mo T91
-      m57 = λ before given. s88 (before .before .before .before .before .before .before .before .blocks) .next (m56 (before .before) (before
-          .deliver-arg9 .given)) given
-      abbrev pub m58 : (before : After-deliver-arg9) → (given : s88 (before .before .before .before .before .before .before .before .blocks) .gives
-          (m56 (before .before) (before .deliver-arg9 .given))) → Typed.Mo T92
-      m58 = λ before given. s89 (before .before .before .before .before .before .before .before .blocks) .next (m57 before given)
+
+      abbrev pub m57 : (before : After-deliver-arg9) → (given : s88 (before .before .before .before .before .before
+          .before .before .blocks) .gives (m56 (before .before) (before .deliver-arg9 .given))) → Typed.Mo T91
+      m57 = λ before given. s88 (before .before .before .before .before .before .before .before .blocks) .next
+          (m56 (before .before) (before .deliver-arg9 .given)) given
+
+      abbrev pub m58 : (before : After-deliver-arg9) → (given : s88 (before .before .before .before .before .before
+          .before .before .blocks) .gives (m56 (before .before) (before .deliver-arg9 .given))) → Typed.Mo T92
+      m58 = λ before given. s89 (before .before .before .before .before .before .before .before .blocks) .next
+          (m57 before given)
+
       module _ (before· : After-deliver-arg9) where
         pub record After-deliver-arg10·own : Type 0 where
-          pub given : s88 (before· .before .before .before .before .before .before .before .blocks) .gives (m56 (before· .before) (before·
-              .deliver-arg9 .given))
+          pub given : s88 (before· .before .before .before .before .before .before .before .blocks) .gives
+              (m56 (before· .before) (before· .deliver-arg9 .given))
+
       pub record After-deliver-arg10 : Type 0 where
         pub before : After-deliver-arg9
         pub deliver-arg10 : After-deliver-arg10·own before
+
       abbrev pub Need-deliver-requires-2 : Type 0
-      Need-deliver-requires-2 = (c : After-deliver-arg10) → s90 (c .before .before .before .before .before .before .before .before .blocks) .asks (m58
-          (c .before) (c .deliver-arg10 .given))
-      abbrev pub m59 : (before : After-deliver-arg10) → (given : s90 (before .before .before .before .before .before .before .before .before .blocks)
-          .gives (m58 (before .before) (before .deliver-arg10 .given))) → Typed.Mo T93
-      m59 = λ before given. s90 (before .before .before .before .before .before .before .before .before .blocks) .next (m58 (before .before) (before
-          .deliver-arg10 .given)) given
+      Need-deliver-requires-2 = (c : After-deliver-arg10) → s90 (c .before .before .before .before .before .before
+          .before .before .blocks) .asks (m58 (c .before) (c .deliver-arg10 .given))
+
+      abbrev pub m59 : (before : After-deliver-arg10) → (given : s90 (before .before .before .before .before .before
+          .before .before .before .blocks) .gives (m58 (before .before) (before .deliver-arg10 .given))) → Typed.Mo T93
+      m59 = λ before given. s90 (before .before .before .before .before .before .before .before .before .blocks) .next
+          (m58 (before .before) (before .deliver-arg10 .given)) given
+
       module _ (before· : After-deliver-arg10) where
         abbrev pub After-deliver2·own : Type 0
-        After-deliver2·own = Called.Called ps·1 r·1 (claims· .3) T92 (record { pos = 37; ty = Syntax.tyRef Syntax.erased Syntax.mut RelayPending.to;
-            ref = λ x. x; }, (record { pos = 39; ty = Syntax.tyRef Syntax.erased Syntax.mut RelayCircuit.to; ref = λ x. x; }, (record { pos = 41; ty =
-            Syntax.tyRef Syntax.erased Syntax.mut ReservationUsage.to; ref = λ x. x; }, (record { pos = 43; ty = Syntax.tyRef Syntax.erased Syntax.mut
-            InflightAction.to; ref = λ x. x; }, (record { pos = 45; ty = Syntax.tyRef Syntax.erased Syntax.mut (Syntax.tyInt Syntax.w32); ref = λ x.
-            x; }, (record { pos = 6; st = List.[]; d = 0; at = λ x. x }, (record { pos = 7; st = List.[]; d = 0; at = λ x. x }, (Num.vLit 1, (record {
-            pos = 8; ty = Syntax.tyRef (Syntax.named 5) Syntax.imm (Syntax.tyInt Syntax.w8); ref = λ x. x; }, tt,),),),),),),),),) (m58 (before·
-            .before) (before· .deliver-arg10 .given))
+        After-deliver2·own = Called.Called ps·1 r·1 (claims· .3) T92 (
+          record { pos = 37; ty = ref0; ref = λ x. x },
+          (
+            record { pos = 39; ty = ref1; ref = λ x. x },
+            (
+              record { pos = 41; ty = ref4; ref = λ x. x },
+              (
+                record { pos = 43; ty = ref2; ref = λ x. x },
+                (
+                  record { pos = 45; ty = ref3; ref = λ x. x },
+                  (
+                    record { pos = 6; st = List.[]; d = 0; at = λ x. x },
+                    (
+                      record { pos = 7; st = List.[]; d = 0; at = λ x. x },
+                      (Num.vLit 1, (record { pos = 8; ty = ref10; ref = λ x. x }, tt)),
+                    ),
+                  ),
+                ),
+              ),
+            ),
+          ),
+        ) (m58 (before· .before) (before· .deliver-arg10 .given))
+
       pub record After-deliver2 : Type 0 where
         pub before : After-deliver-arg10
         pub deliver2 : After-deliver2·own before
-      abbrev pub After-deliver2·gave : (c : After-deliver2) → s90 (c .before .before .before .before .before .before .before .before .before .blocks)
-          .gives (m58 (c .before .before) (c .before .deliver-arg10 .given))
-      After-deliver2·gave = λ c. Called.given ps·1 r·1 (claims· .3) T92 (record { pos = 37; ty = Syntax.tyRef Syntax.erased Syntax.mut
-          RelayPending.to; ref = λ x. x; }, (record { pos = 39; ty = Syntax.tyRef Syntax.erased Syntax.mut RelayCircuit.to; ref = λ x. x; }, (record {
-          pos = 41; ty = Syntax.tyRef Syntax.erased Syntax.mut ReservationUsage.to; ref = λ x. x; }, (record { pos = 43; ty = Syntax.tyRef
-          Syntax.erased Syntax.mut InflightAction.to; ref = λ x. x; }, (record { pos = 45; ty = Syntax.tyRef Syntax.erased Syntax.mut (Syntax.tyInt
-          Syntax.w32); ref = λ x. x; }, (record { pos = 6; st = List.[]; d = 0; at = λ x. x }, (record { pos = 7; st = List.[]; d = 0; at = λ x. x },
-          (Num.vLit 1, (record { pos = 8; ty = Syntax.tyRef (Syntax.named 5) Syntax.imm (Syntax.tyInt Syntax.w8); ref = λ x. x; },
-          tt,),),),),),),),),) (m58 (c .before .before) (c .before .deliver-arg10 .given)) (c .deliver2)
-      abbrev pub m60 : (before : After-deliver-arg10) → (given : s90 (before .before .before .before .before .before .before .before .before .blocks)
-          .gives (m58 (before .before) (before .deliver-arg10 .given))) → Typed.Mo T94
-      m60 = λ before given. s91 (before .before .before .before .before .before .before .before .before .blocks) (m59 before given)
-      abbrev pub m61 : (before : After-deliver-arg10) → (given : s90 (before .before .before .before .before .before .before .before .before .blocks)
-          .gives (m58 (before .before) (before .deliver-arg10 .given))) → Typed.Mo T95
-      m61 = λ before given. s92 (before .before .before .before .before .before .before .before .before .blocks) (m60 before given)
-      abbrev pub m62 : (before : After-deliver2) → (given : s94 (before .before .before .before .before .before .before .before .before .before
-          .blocks) .gives (m61 (before .before) (After-deliver2·gave before))) → Typed.Mo T97
-      m62 = λ before given. s94 (before .before .before .before .before .before .before .before .before .before .blocks) .next (m61 (before .before)
-          (After-deliver2·gave before)) given
+
+      abbrev pub After-deliver2·gave : (c : After-deliver2) → s90 (c .before .before .before .before .before .before
+          .before .before .before .blocks) .gives (m58 (c .before .before) (c .before .deliver-arg10 .given))
+      After-deliver2·gave = λ c. Called.given ps·1 r·1 (claims· .3) T92 (
+        record { pos = 37; ty = ref0; ref = λ x. x },
+        (
+          record { pos = 39; ty = ref1; ref = λ x. x },
+          (
+            record { pos = 41; ty = ref4; ref = λ x. x },
+            (
+              record { pos = 43; ty = ref2; ref = λ x. x },
+              (
+                record { pos = 45; ty = ref3; ref = λ x. x },
+                (
+                  record { pos = 6; st = List.[]; d = 0; at = λ x. x },
+                  (
+                    record { pos = 7; st = List.[]; d = 0; at = λ x. x },
+                    (Num.vLit 1, (record { pos = 8; ty = ref10; ref = λ x. x }, tt)),
+                  ),
+                ),
+              ),
+            ),
+          ),
+        ),
+      ) (m58 (c .before .before) (c .before .deliver-arg10 .given)) (c .deliver2)
+
+      abbrev pub m60 : (before : After-deliver-arg10) → (given : s90 (before .before .before .before .before .before
+          .before .before .before .blocks) .gives (m58 (before .before) (before .deliver-arg10 .given))) → Typed.Mo T94
+      m60 = λ before given. s91 (before .before .before .before .before .before .before .before .before .blocks)
+          (m59 before given)
+
+      abbrev pub m61 : (before : After-deliver-arg10) → (given : s90 (before .before .before .before .before .before
+          .before .before .before .blocks) .gives (m58 (before .before) (before .deliver-arg10 .given))) → Typed.Mo T95
+      m61 = λ before given. s92 (before .before .before .before .before .before .before .before .before .blocks)
+          (m60 before given)
+
+      abbrev pub m62 : (before : After-deliver2) → (given : s94 (before .before .before .before .before .before .before
+          .before .before .before .blocks) .gives (m61 (before .before) (After-deliver2·gave before))) → Typed.Mo T97
+      m62 = λ before given. s94 (before .before .before .before .before .before .before .before .before .before .blocks)
+          .next (m61 (before .before) (After-deliver2·gave before)) given
+
       module _ (before· : After-deliver2) where
         pub record After-pending3·own : Type 0 where
-          pub given : s94 (before· .before .before .before .before .before .before .before .before .before .blocks) .gives (m61 (before· .before)
-              (After-deliver2·gave before·))
+          pub given : s94 (before· .before .before .before .before .before .before .before .before .before .blocks)
+              .gives (m61 (before· .before) (After-deliver2·gave before·))
+
       pub record After-pending3 : Type 0 where
         pub before : After-deliver2
         pub pending3 : After-pending3·own before
-      abbrev pub m63 : (before : After-pending3) → (given : s97 (before .before .before .before .before .before .before .before .before .before
-          .before .blocks) .gives (m62 (before .before) (before .pending3 .given))) → Typed.Mo T100
-      m63 = λ before given. s97 (before .before .before .before .before .before .before .before .before .before .before .blocks) .next (m62 (before
-          .before) (before .pending3 .given)) given
+
+      abbrev pub m63 : (before : After-pending3) → (given : s97 (before .before .before .before .before .before .before
+          .before .before .before .before .blocks) .gives (m62 (before .before) (before .pending3 .given))) → Typed.Mo
+          T100
+      m63 = λ before given. s97 (before .before .before .before .before .before .before .before .before .before .before
+          .blocks) .next (m62 (before .before) (before .pending3 .given)) given
+
       module _ (before· : After-pending3) where
         pub record After-circuits3·own : Type 0 where
-          pub given : s97 (before· .before .before .before .before .before .before .before .before .before .before .blocks) .gives (m62 (before·
-              .before) (before· .pending3 .given))
+          pub given : s97 (before· .before .before .before .before .before .before .before .before .before .before
+              .blocks) .gives (m62 (before· .before) (before· .pending3 .given))
+
       pub record After-circuits3 : Type 0 where
         pub before : After-pending3
         pub circuits3 : After-circuits3·own before
-      abbrev pub m64 : (before : After-circuits3) → (given : s100 (before .before .before .before .before .before .before .before .before .before
-          .before .before .blocks) .gives (m63 (before .before) (before .circuits3 .given))) → Typed.Mo T103
-      m64 = λ before given. s100 (before .before .before .before .before .before .before .before .before .before .before .before .blocks) .next (m63
-          (before .before) (before .circuits3 .given)) given
+
+      abbrev pub m64 : (before : After-circuits3) → (given : s100 (before .before .before .before .before .before
+          .before .before .before .before .before .before .blocks) .gives
+          (m63 (before .before) (before .circuits3 .given))) → Typed.Mo T103
+      m64 = λ before given. s100 (before .before .before .before .before .before .before .before .before .before
+          .before .before .blocks) .next (m63 (before .before) (before .circuits3 .given)) given
+
       module _ (before· : After-circuits3) where
         pub record After-ledger2·own : Type 0 where
-          pub given : s100 (before· .before .before .before .before .before .before .before .before .before .before .before .blocks) .gives (m63
-              (before· .before) (before· .circuits3 .given))
+          pub given : s100 (before· .before .before .before .before .before .before .before .before .before .before
+              .before .blocks) .gives (m63 (before· .before) (before· .circuits3 .given))
+
       pub record After-ledger2 : Type 0 where
         pub before : After-circuits3
         pub ledger2 : After-ledger2·own before
-      abbrev pub m65 : (before : After-ledger2) → (given : s103 (before .before .before .before .before .before .before .before .before .before
-          .before .before .before .blocks) .gives (m64 (before .before) (before .ledger2 .given))) → Typed.Mo T106
-      m65 = λ before given. s103 (before .before .before .before .before .before .before .before .before .before .before .before .before .blocks)
-          .next (m64 (before .before) (before .ledger2 .given)) given
+
+      abbrev pub m65 : (before : After-ledger2) → (given : s103 (before .before .before .before .before .before .before
+          .before .before .before .before .before .before .blocks) .gives
+          (m64 (before .before) (before .ledger2 .given))) → Typed.Mo T106
+      m65 = λ before given. s103 (before .before .before .before .before .before .before .before .before .before
+          .before .before .before .blocks) .next (m64 (before .before) (before .ledger2 .given)) given
+
       module _ (before· : After-ledger2) where
         pub record After-inflight3·own : Type 0 where
-          pub given : s103 (before· .before .before .before .before .before .before .before .before .before .before .before .before .blocks) .gives
-              (m64 (before· .before) (before· .ledger2 .given))
+          pub given : s103 (before· .before .before .before .before .before .before .before .before .before .before
+              .before .before .blocks) .gives (m64 (before· .before) (before· .ledger2 .given))
+
       pub record After-inflight3 : Type 0 where
         pub before : After-ledger2
         pub inflight3 : After-inflight3·own before
-      abbrev pub m66 : (before : After-inflight3) → (given : s106 (before .before .before .before .before .before .before .before .before .before
-          .before .before .before .before .blocks) .gives (m65 (before .before) (before .inflight3 .given))) → Typed.Mo T109
-      m66 = λ before given. s106 (before .before .before .before .before .before .before .before .before .before .before .before .before .before
-          .blocks) .next (m65 (before .before) (before .inflight3 .given)) given
+
+      abbrev pub m66 : (before : After-inflight3) → (given : s106 (before .before .before .before .before .before
+          .before .before .before .before .before .before .before .before .blocks) .gives
+          (m65 (before .before) (before .inflight3 .given))) → Typed.Mo T109
+      m66 = λ before given. s106 (before .before .before .before .before .before .before .before .before .before
+          .before .before .before .before .blocks) .next (m65 (before .before) (before .inflight3 .given)) given
+
       module _ (before· : After-inflight3) where
         pub record After-out3·own : Type 0 where
-          pub given : s106 (before· .before .before .before .before .before .before .before .before .before .before .before .before .before .blocks)
-              .gives (m65 (before· .before) (before· .inflight3 .given))
+          pub given : s106 (before· .before .before .before .before .before .before .before .before .before .before
+              .before .before .before .blocks) .gives (m65 (before· .before) (before· .inflight3 .given))
+
       pub record After-out3 : Type 0 where
         pub before : After-inflight3
         pub out3 : After-out3·own before
-      abbrev pub m67 : (before : After-out3) → (given : s107 (before .before .before .before .before .before .before .before .before .before .before
-          .before .before .before .before .blocks) .gives (m66 (before .before) (before .out3 .given))) → Typed.Mo T110
-      m67 = λ before given. s107 (before .before .before .before .before .before .before .before .before .before .before .before .before .before
-          .before .blocks) .next (m66 (before .before) (before .out3 .given)) given
-      abbrev pub m68 : (before : After-out3) → (given : s107 (before .before .before .before .before .before .before .before .before .before .before
-          .before .before .before .before .blocks) .gives (m66 (before .before) (before .out3 .given))) → Typed.Mo T112
-      m68 = λ before given. s109 (before .before .before .before .before .before .before .before .before .before .before .before .before .before
-          .before .blocks) (m67 before given)
-      abbrev pub m69 : (before : After-out3) → (given : s107 (before .before .before .before .before .before .before .before .before .before .before
-          .before .before .before .before .blocks) .gives (m66 (before .before) (before .out3 .given))) → Typed.Mo T113
-      m69 = λ before given. s110 (before .before .before .before .before .before .before .before .before .before .before .before .before .before
-          .before .blocks) (m68 before given)
+
+      abbrev pub m67 : (before : After-out3) → (given : s107 (before .before .before .before .before .before .before
+          .before .before .before .before .before .before .before .before .blocks) .gives
+          (m66 (before .before) (before .out3 .given))) → Typed.Mo T110
+      m67 = λ before given. s107 (before .before .before .before .before .before .before .before .before .before
+          .before .before .before .before .before .blocks) .next (m66 (before .before) (before .out3 .given)) given
+
+      abbrev pub m68 : (before : After-out3) → (given : s107 (before .before .before .before .before .before .before
+          .before .before .before .before .before .before .before .before .blocks) .gives
+          (m66 (before .before) (before .out3 .given))) → Typed.Mo T112
+      m68 = λ before given. s109 (before .before .before .before .before .before .before .before .before .before
+          .before .before .before .before .before .blocks) (m67 before given)
+
+      abbrev pub m69 : (before : After-out3) → (given : s107 (before .before .before .before .before .before .before
+          .before .before .before .before .before .before .before .before .blocks) .gives
+          (m66 (before .before) (before .out3 .given))) → Typed.Mo T113
+      m69 = λ before given. s110 (before .before .before .before .before .before .before .before .before .before
+          .before .before .before .before .before .blocks) (m68 before given)
+
       module _ (before· : After-out3) where
         pub record After-slice-known4·own : Type 0 where
-          pub given : s107 (before· .before .before .before .before .before .before .before .before .before .before .before .before .before .before
-              .blocks) .gives (m66 (before· .before) (before· .out3 .given))
+          pub given : s107 (before· .before .before .before .before .before .before .before .before .before .before
+              .before .before .before .before .blocks) .gives (m66 (before· .before) (before· .out3 .given))
+
       pub record After-slice-known4 : Type 0 where
         pub before : After-out3
         pub slice-known4 : After-slice-known4·own before
+
       abbrev pub Need-answer-number-requires-2 : Type 0
-      Need-answer-number-requires-2 = (c : After-slice-known4) → s111 (c .before .before .before .before .before .before .before .before .before
-          .before .before .before .before .before .before .blocks) .asks (m69 (c .before) (c .slice-known4 .given))
-      abbrev pub m70 : (before : After-slice-known4) → (given : s111 (before .before .before .before .before .before .before .before .before .before
-          .before .before .before .before .before .before .blocks) .gives (m69 (before .before) (before .slice-known4 .given))) → Typed.Mo T114
-      m70 = λ before given. s111 (before .before .before .before .before .before .before .before .before .before .before .before .before .before
-          .before .before .blocks) .next (m69 (before .before) (before .slice-known4 .given)) given
+      Need-answer-number-requires-2 = (c : After-slice-known4) → s111 (c .before .before .before .before .before
+          .before .before .before .before .before .before .before .before .before .before .blocks) .asks
+          (m69 (c .before) (c .slice-known4 .given))
+
+      abbrev pub m70 : (before : After-slice-known4) → (given : s111 (before .before .before .before .before .before
+          .before .before .before .before .before .before .before .before .before .before .blocks) .gives
+          (m69 (before .before) (before .slice-known4 .given))) → Typed.Mo T114
+      m70 = λ before given. s111 (before .before .before .before .before .before .before .before .before .before
+          .before .before .before .before .before .before .blocks) .next
+          (m69 (before .before) (before .slice-known4 .given)) given
+
       module _ (before· : After-slice-known4) where
         abbrev pub After-answer-number2·own : Type 0
-        After-answer-number2·own = Called.Called ps·2 r·2 (claims· .5) T113 (record { pos = 16; st = List.[]; d = 0; at = λ x. x }, tt,) (m69 (before·
-            .before) (before· .slice-known4 .given))
+        After-answer-number2·own = Called.Called ps·2 r·2 (claims· .5) T113
+            (record { pos = 16; st = List.[]; d = 0; at = λ x. x }, tt)
+            (m69 (before· .before) (before· .slice-known4 .given))
+
       pub record After-answer-number2 : Type 0 where
         pub before : After-slice-known4
         pub answer-number2 : After-answer-number2·own before
-      abbrev pub After-answer-number2·gave : (c : After-answer-number2) → s111 (c .before .before .before .before .before .before .before .before
-          .before .before .before .before .before .before .before .before .blocks) .gives (m69 (c .before .before) (c .before .slice-known4 .given))
-      After-answer-number2·gave = λ c. Called.given ps·2 r·2 (claims· .5) T113 (record { pos = 16; st = List.[]; d = 0; at = λ x. x }, tt,) (m69 (c
-          .before .before) (c .before .slice-known4 .given)) (c .answer-number2)
-      abbrev pub m71 : (before : After-slice-known4) → (given : s111 (before .before .before .before .before .before .before .before .before .before
-          .before .before .before .before .before .before .blocks) .gives (m69 (before .before) (before .slice-known4 .given))) → Typed.Mo T115
-      m71 = λ before given. s112 (before .before .before .before .before .before .before .before .before .before .before .before .before .before
-          .before .before .blocks) (m70 before given)
-      abbrev pub m72 : (before : After-slice-known4) → (given : s111 (before .before .before .before .before .before .before .before .before .before
-          .before .before .before .before .before .before .blocks) .gives (m69 (before .before) (before .slice-known4 .given))) → Typed.Mo T116
-      m72 = λ before given. s113 (before .before .before .before .before .before .before .before .before .before .before .before .before .before
-          .before .before .blocks) (m71 before given)
+
+      abbrev pub After-answer-number2·gave : (c : After-answer-number2) → s111 (c .before .before .before .before
+          .before .before .before .before .before .before .before .before .before .before .before .before .blocks)
+          .gives (m69 (c .before .before) (c .before .slice-known4 .given))
+      After-answer-number2·gave = λ c. Called.given ps·2 r·2 (claims· .5) T113
+          (record { pos = 16; st = List.[]; d = 0; at = λ x. x }, tt)
+          (m69 (c .before .before) (c .before .slice-known4 .given)) (c .answer-number2)
+
+      abbrev pub m71 : (before : After-slice-known4) → (given : s111 (before .before .before .before .before .before
+          .before .before .before .before .before .before .before .before .before .before .blocks) .gives
+          (m69 (before .before) (before .slice-known4 .given))) → Typed.Mo T115
+      m71 = λ before given. s112 (before .before .before .before .before .before .before .before .before .before
+          .before .before .before .before .before .before .blocks) (m70 before given)
+
+      abbrev pub m72 : (before : After-slice-known4) → (given : s111 (before .before .before .before .before .before
+          .before .before .before .before .before .before .before .before .before .before .blocks) .gives
+          (m69 (before .before) (before .slice-known4 .given))) → Typed.Mo T116
+      m72 = λ before given. s113 (before .before .before .before .before .before .before .before .before .before
+          .before .before .before .before .before .before .blocks) (m71 before given)
+
       abbrev pub Need-same-length-6 : Type 0
-      Need-same-length-6 = (c : After-answer-number2) → MutSlice.SameLen (Row.get 1 (T116 .locals) (m72 (c .before) (After-answer-number2·gave c)))
-          (dens (c .before .before .before .before .before .before .before .before .before .before .before .before .before .before .before .before
-          .κs) (c .before .before .before .before .before .before .before .before .before .before .before .before .before .before .before .before
-          .args) .0)
+      Need-same-length-6 = (c : After-answer-number2) → MutSlice.SameLen (Row.get 1 (T116 .locals)
+          (m72 (c .before) (After-answer-number2·gave c))) (dens (c .before .before .before .before .before .before
+          .before .before .before .before .before .before .before .before .before .before .κs) (c .before .before
+          .before .before .before .before .before .before .before .before .before .before .before .before .before
+          .before .args) .0)
+
       abbrev pub Need-same-length-7 : Type 0
-      Need-same-length-7 = (c : After-answer-number2) → MutSlice.SameLen (Row.get 2 (T116 .locals) (m72 (c .before) (After-answer-number2·gave c)))
-          (dens (c .before .before .before .before .before .before .before .before .before .before .before .before .before .before .before .before
-          .κs) (c .before .before .before .before .before .before .before .before .before .before .before .before .before .before .before .before
-          .args) .1 .0)
+      Need-same-length-7 = (c : After-answer-number2) → MutSlice.SameLen (Row.get 2 (T116 .locals)
+          (m72 (c .before) (After-answer-number2·gave c))) (dens (c .before .before .before .before .before .before
+          .before .before .before .before .before .before .before .before .before .before .κs) (c .before .before
+          .before .before .before .before .before .before .before .before .before .before .before .before .before
+          .before .args) .1 .0)
+
       abbrev pub Need-same-length-8 : Type 0
-      Need-same-length-8 = (c : After-answer-number2) → MutSlice.SameLen (Row.get 3 (T116 .locals) (m72 (c .before) (After-answer-number2·gave c)))
-          (dens (c .before .before .before .before .before .before .before .before .before .before .before .before .before .before .before .before
-          .κs) (c .before .before .before .before .before .before .before .before .before .before .before .before .before .before .before .before
-          .args) .1 .1 .0)
+      Need-same-length-8 = (c : After-answer-number2) → MutSlice.SameLen (Row.get 3 (T116 .locals)
+          (m72 (c .before) (After-answer-number2·gave c))) (dens (c .before .before .before .before .before .before
+          .before .before .before .before .before .before .before .before .before .before .κs) (c .before .before
+          .before .before .before .before .before .before .before .before .before .before .before .before .before
+          .before .args) .1 .1 .0)
+
       abbrev pub Need-same-length-9 : Type 0
-      Need-same-length-9 = (c : After-answer-number2) → MutSlice.SameLen (Row.get 4 (T116 .locals) (m72 (c .before) (After-answer-number2·gave c)))
-          (dens (c .before .before .before .before .before .before .before .before .before .before .before .before .before .before .before .before
-          .κs) (c .before .before .before .before .before .before .before .before .before .before .before .before .before .before .before .before
-          .args) .1 .1 .1 .0)
+      Need-same-length-9 = (c : After-answer-number2) → MutSlice.SameLen (Row.get 4 (T116 .locals)
+          (m72 (c .before) (After-answer-number2·gave c))) (dens (c .before .before .before .before .before .before
+          .before .before .before .before .before .before .before .before .before .before .κs) (c .before .before
+          .before .before .before .before .before .before .before .before .before .before .before .before .before
+          .before .args) .1 .1 .1 .0)
+
       abbrev pub Need-same-length-10 : Type 0
-      Need-same-length-10 = (c : After-answer-number2) → MutSlice.SameLen (Row.get 5 (T116 .locals) (m72 (c .before) (After-answer-number2·gave c)))
-          (dens (c .before .before .before .before .before .before .before .before .before .before .before .before .before .before .before .before
-          .κs) (c .before .before .before .before .before .before .before .before .before .before .before .before .before .before .before .before
-          .args) .1 .1 .1 .1 .0)
+      Need-same-length-10 = (c : After-answer-number2) → MutSlice.SameLen (Row.get 5 (T116 .locals)
+          (m72 (c .before) (After-answer-number2·gave c))) (dens (c .before .before .before .before .before .before
+          .before .before .before .before .before .before .before .before .before .before .κs) (c .before .before
+          .before .before .before .before .before .before .before .before .before .before .before .before .before
+          .before .args) .1 .1 .1 .1 .0)
+
       abbrev pub Need-returns-2 : Type 0
-      Need-returns-2 = (c : After-answer-number2) → Post· (c .before .before .before .before .before .before .before .before .before .before .before
-          .before .before .before .before .before .κs) (dens (c .before .before .before .before .before .before .before .before .before .before
-          .before .before .before .before .before .before .κs) (c .before .before .before .before .before .before .before .before .before .before
-          .before .before .before .before .before .before .args)) (Function.resV r (c .before .before .before .before .before .before .before .before
-          .before .before .before .before .before .before .before .before .κs) (m72 (c .before) (After-answer-number2·gave c) .0)) (Clauses.atExit
-          (Kinds.endedOf 6 ps r) (c .before .before .before .before .before .before .before .before .before .before .before .before .before .before
-          .before .before .κs) (dens (c .before .before .before .before .before .before .before .before .before .before .before .before .before
-          .before .before .before .κs) (c .before .before .before .before .before .before .before .before .before .before .before .before .before
-          .before .before .before .args)) (Enter.lastsP (c .before .before .before .before .before .before .before .before .before .before .before
-          .before .before .before .before .before .κs) 1 ps xs (dens (c .before .before .before .before .before .before .before .before .before
-          .before .before .before .before .before .before .before .κs) (c .before .before .before .before .before .before .before .before .before
-          .before .before .before .before .before .before .before .args)) (m72 (c .before) (After-answer-number2·gave c) .1)))
-      module _ (acknowledge-requires : Need-acknowledge-requires) (deliver-requires : Need-deliver-requires) (answer-number-requires :
-          Need-answer-number-requires) (same-length : Need-same-length) (same-length-2 : Need-same-length-2) (same-length-3 : Need-same-length-3)
-          (same-length-4 : Need-same-length-4) (same-length-5 : Need-same-length-5) (returns : Need-returns) (deliver-requires-2 :
-          Need-deliver-requires-2) (answer-number-requires-2 : Need-answer-number-requires-2) (same-length-6 : Need-same-length-6) (same-length-7 :
-          Need-same-length-7) (same-length-8 : Need-same-length-8) (same-length-9 : Need-same-length-9) (same-length-10 : Need-same-length-10)
-          (returns-2 : Need-returns-2) where
-        lay6 : (c : After-answer-number2) → at77 (c .before .before .before .before .before .before .before .before .before .before .before .before
-            .before .before .before .before .blocks) (W0 (c .before .before .before .before .before .before .before .before .before .before .before
-            .before .before .before .before .before .κs) (c .before .before .before .before .before .before .before .before .before .before .before
-            .before .before .before .before .before .args) (c .before .before .before .before .before .before .before .before .before .before .before
-            .before .before .before .before .before .blocks)) (m70 (c .before) (After-answer-number2·gave c))
-        lay6 = λ c. ((MutSlice.fix-len (Row.get 1 (T116 .locals) (m72 (c .before) (After-answer-number2·gave c)) .ptr) (Row.get 1 (T116 .locals) (m72
-            (c .before) (After-answer-number2·gave c)) .name) (Row.get 1 (T116 .locals) (m72 (c .before) (After-answer-number2·gave c)) .now) (dens (c
-            .before .before .before .before .before .before .before .before .before .before .before .before .before .before .before .before .κs) (c
-            .before .before .before .before .before .before .before .before .before .before .before .before .before .before .before .before .args) .0
-            .now) (same-length-6 record { before = c .before; answer-number2 = c .answer-number2 }), (MutSlice.fix-len (Row.get 2 (T116 .locals) (m72
-            (c .before) (After-answer-number2·gave c)) .ptr) (Row.get 2 (T116 .locals) (m72 (c .before) (After-answer-number2·gave c)) .name) (Row.get
-            2 (T116 .locals) (m72 (c .before) (After-answer-number2·gave c)) .now) (dens (c .before .before .before .before .before .before .before
-            .before .before .before .before .before .before .before .before .before .κs) (c .before .before .before .before .before .before .before
-            .before .before .before .before .before .before .before .before .before .args) .1 .0 .now) (same-length-7 record { before = c .before;
-            answer-number2 = c .answer-number2 }), (MutSlice.fix-len (Row.get 3 (T116 .locals) (m72 (c .before) (After-answer-number2·gave c)) .ptr)
-            (Row.get 3 (T116 .locals) (m72 (c .before) (After-answer-number2·gave c)) .name) (Row.get 3 (T116 .locals) (m72 (c .before)
-            (After-answer-number2·gave c)) .now) (dens (c .before .before .before .before .before .before .before .before .before .before .before
-            .before .before .before .before .before .κs) (c .before .before .before .before .before .before .before .before .before .before .before
-            .before .before .before .before .before .args) .1 .1 .0 .now) (same-length-8 record { before = c .before; answer-number2 = c
-            .answer-number2 }), (MutSlice.fix-len (Row.get 4 (T116 .locals) (m72 (c .before) (After-answer-number2·gave c)) .ptr) (Row.get 4 (T116
-            .locals) (m72 (c .before) (After-answer-number2·gave c)) .name) (Row.get 4 (T116 .locals) (m72 (c .before) (After-answer-number2·gave c))
-            .now) (dens (c .before .before .before .before .before .before .before .before .before .before .before .before .before .before .before
-            .before .κs) (c .before .before .before .before .before .before .before .before .before .before .before .before .before .before .before
-            .before .args) .1 .1 .1 .0 .now) (same-length-9 record { before = c .before; answer-number2 = c .answer-number2 }), (MutSlice.fix-len
-            (Row.get 5 (T116 .locals) (m72 (c .before) (After-answer-number2·gave c)) .ptr) (Row.get 5 (T116 .locals) (m72 (c .before)
-            (After-answer-number2·gave c)) .name) (Row.get 5 (T116 .locals) (m72 (c .before) (After-answer-number2·gave c)) .now) (dens (c .before
-            .before .before .before .before .before .before .before .before .before .before .before .before .before .before .before .κs) (c .before
-            .before .before .before .before .before .before .before .before .before .before .before .before .before .before .before .args) .1 .1 .1 .1
-            .0 .now) (same-length-10 record { before = c .before; answer-number2 = c .answer-number2 }), (tt, (tt, (Path.refl, (tt, tt)))),),),),),),
-            returns-2 record { before = c .before; answer-number2 = c .answer-number2 },)
-        lay5 : (c : After-deliver2) → at98 (c .before .before .before .before .before .before .before .before .before .blocks) (W0 (c .before .before
-            .before .before .before .before .before .before .before .κs) (c .before .before .before .before .before .before .before .before .before
-            .args) (c .before .before .before .before .before .before .before .before .before .blocks)) (m59 (c .before) (After-deliver2·gave c))
-        lay5 = λ c. (Path.refl, λ g. (Path.refl, λ g'. (Path.refl, λ g''. (Path.refl, λ g'3. (Path.refl, λ g'4. λ g'5. (answer-number-requires-2
-            record { before = record { before = record { before = record { before = record { before = record { before = record { before = c .before;
-            deliver2 = c .deliver2 }; pending3 = record { given = g }; }; circuits3 = record { given = g' }; }; ledger2 = record { given = g'' }; };
-            inflight3 = record { given = g'3 }; }; out3 = record { given = g'4 }; }; slice-known4 = record { given = g'5 }; }, λ g'6. lay6 record {
-            before = record { before = record { before = record { before = record { before = record { before = record { before = record { before = c
-            .before; deliver2 = c .deliver2 }; pending3 = record { given = g }; }; circuits3 = record { given = g' }; }; ledger2 = record { given =
-            g'' }; }; inflight3 = record { given = g'3 }; }; out3 = record { given = g'4 }; }; slice-known4 = record { given = g'5 }; };
-            answer-number2 = Called.called ps·2 r·2 (claims· .5) T113 (record { pos = 16; st = List.[]; d = 0; at = λ x. x }, tt,) (m69 record {
-            before = record { before = record { before = record { before = record { before = record { before = c .before; deliver2 = c .deliver2 };
-            pending3 = record { given = g }; }; circuits3 = record { given = g' }; }; ledger2 = record { given = g'' }; }; inflight3 = record { given
-            = g'3 }; }; out3 = record { given = g'4 }; } g'5) g'6; },),),),),),)
-        lay4 : (c : Else1) → at114 (c .before .before .before .blocks) (W0 (c .before .before .before .κs) (c .before .before .before .args) (c
-            .before .before .before .blocks)) (m48 (c .before))
-        lay4 = λ c. λ g. (Path.refl, λ g'. (Path.refl, λ g''. (Path.refl, λ g'3. (Path.refl, λ g'4. (Path.refl, (deliver-requires-2 record { before =
-            record { before = record { before = record { before = record { before = record { before = c .before; if1 = c .if1 }; deliver-arg6 = record
-            { given = g }; }; deliver-arg7 = record { given = g' }; }; deliver-arg8 = record { given = g'' }; }; deliver-arg9 = record { given = g'3
-            }; }; deliver-arg10 = record { given = g'4 }; }, λ g'5. lay5 record { before = record { before = record { before = record { before =
-            record { before = record { before = record { before = c .before; if1 = c .if1 }; deliver-arg6 = record { given = g }; }; deliver-arg7 =
-            record { given = g' }; }; deliver-arg8 = record { given = g'' }; }; deliver-arg9 = record { given = g'3 }; }; deliver-arg10 = record {
-            given = g'4 }; }; deliver2 = Called.called ps·1 r·1 (claims· .3) T92 (record { pos = 37; ty = Syntax.tyRef Syntax.erased Syntax.mut
-            RelayPending.to; ref = λ x. x; }, (record { pos = 39; ty = Syntax.tyRef Syntax.erased Syntax.mut RelayCircuit.to; ref = λ x. x; }, (record
-            { pos = 41; ty = Syntax.tyRef Syntax.erased Syntax.mut ReservationUsage.to; ref = λ x. x; }, (record { pos = 43; ty = Syntax.tyRef
-            Syntax.erased Syntax.mut InflightAction.to; ref = λ x. x; }, (record { pos = 45; ty = Syntax.tyRef Syntax.erased Syntax.mut (Syntax.tyInt
-            Syntax.w32); ref = λ x. x; }, (record { pos = 6; st = List.[]; d = 0; at = λ x. x }, (record { pos = 7; st = List.[]; d = 0; at = λ x. x
-            }, (Num.vLit 1, (record { pos = 8; ty = Syntax.tyRef (Syntax.named 5) Syntax.imm (Syntax.tyInt Syntax.w8); ref = λ x. x; },
-            tt,),),),),),),),),) (m58 record { before = record { before = record { before = record { before = record { before = c .before; if1 = c
-            .if1 }; deliver-arg6 = record { given = g }; }; deliver-arg7 = record { given = g' }; }; deliver-arg8 = record { given = g'' }; };
-            deliver-arg9 = record { given = g'3 }; } g'4) g'5; },),),),),),)
-        lay3 : (c : After-answer-number) → at2 (c .before .before .before .before .before .before .before .before .before .before .before .before
-            .before .before .before .before .before .before .before .before .before .before .before .before .before .before .before .before .blocks)
-            (W1 (c .before .before .before .before .before .before .before .before .before .before .before .before .before .before .before .before
-            .before .before .before .before .before .before .before .before .before .before .before) (c .before .before .before .before .before
-            .before .before .before .before .before .before .before .before .before .before .before .before .before .before .before .before .before
-            .before .before .before .before .shared-slice-known .given)) (m45 (c .before) (After-answer-number·gave c))
-        lay3 = λ c. ((MutSlice.fix-len (Row.get 1 (T76 .locals) (m47 (c .before) (After-answer-number·gave c)) .ptr) (Row.get 1 (T76 .locals) (m47 (c
-            .before) (After-answer-number·gave c)) .name) (Row.get 1 (T76 .locals) (m47 (c .before) (After-answer-number·gave c)) .now) (dens (c
-            .before .before .before .before .before .before .before .before .before .before .before .before .before .before .before .before .before
-            .before .before .before .before .before .before .before .before .before .before .before .κs) (c .before .before .before .before .before
-            .before .before .before .before .before .before .before .before .before .before .before .before .before .before .before .before .before
-            .before .before .before .before .before .before .args) .0 .now) (same-length record { before = c .before; answer-number = c .answer-number
-            }), (MutSlice.fix-len (Row.get 2 (T76 .locals) (m47 (c .before) (After-answer-number·gave c)) .ptr) (Row.get 2 (T76 .locals) (m47 (c
-            .before) (After-answer-number·gave c)) .name) (Row.get 2 (T76 .locals) (m47 (c .before) (After-answer-number·gave c)) .now) (dens (c
-            .before .before .before .before .before .before .before .before .before .before .before .before .before .before .before .before .before
-            .before .before .before .before .before .before .before .before .before .before .before .κs) (c .before .before .before .before .before
-            .before .before .before .before .before .before .before .before .before .before .before .before .before .before .before .before .before
-            .before .before .before .before .before .before .args) .1 .0 .now) (same-length-2 record { before = c .before; answer-number = c
-            .answer-number }), (MutSlice.fix-len (Row.get 3 (T76 .locals) (m47 (c .before) (After-answer-number·gave c)) .ptr) (Row.get 3 (T76
-            .locals) (m47 (c .before) (After-answer-number·gave c)) .name) (Row.get 3 (T76 .locals) (m47 (c .before) (After-answer-number·gave c))
-            .now) (dens (c .before .before .before .before .before .before .before .before .before .before .before .before .before .before .before
-            .before .before .before .before .before .before .before .before .before .before .before .before .before .κs) (c .before .before .before
-            .before .before .before .before .before .before .before .before .before .before .before .before .before .before .before .before .before
-            .before .before .before .before .before .before .before .before .args) .1 .1 .0 .now) (same-length-3 record { before = c .before;
-            answer-number = c .answer-number }), (MutSlice.fix-len (Row.get 4 (T76 .locals) (m47 (c .before) (After-answer-number·gave c)) .ptr)
-            (Row.get 4 (T76 .locals) (m47 (c .before) (After-answer-number·gave c)) .name) (Row.get 4 (T76 .locals) (m47 (c .before)
-            (After-answer-number·gave c)) .now) (dens (c .before .before .before .before .before .before .before .before .before .before .before
-            .before .before .before .before .before .before .before .before .before .before .before .before .before .before .before .before .before
-            .κs) (c .before .before .before .before .before .before .before .before .before .before .before .before .before .before .before .before
-            .before .before .before .before .before .before .before .before .before .before .before .before .args) .1 .1 .1 .0 .now) (same-length-4
-            record { before = c .before; answer-number = c .answer-number }), (MutSlice.fix-len (Row.get 5 (T76 .locals) (m47 (c .before)
-            (After-answer-number·gave c)) .ptr) (Row.get 5 (T76 .locals) (m47 (c .before) (After-answer-number·gave c)) .name) (Row.get 5 (T76
-            .locals) (m47 (c .before) (After-answer-number·gave c)) .now) (dens (c .before .before .before .before .before .before .before .before
-            .before .before .before .before .before .before .before .before .before .before .before .before .before .before .before .before .before
-            .before .before .before .κs) (c .before .before .before .before .before .before .before .before .before .before .before .before .before
-            .before .before .before .before .before .before .before .before .before .before .before .before .before .before .before .args) .1 .1 .1 .1
-            .0 .now) (same-length-5 record { before = c .before; answer-number = c .answer-number }), (tt, (tt, (Path.refl, (tt, tt)))),),),),),),
-            returns record { before = c .before; answer-number = c .answer-number },)
-        lay2 : (c : After-deliver) → at23 (c .before .before .before .before .before .before .before .before .before .before .before .before .before
-            .before .before .before .before .before .before .before .before .blocks) (W1 (c .before .before .before .before .before .before .before
-            .before .before .before .before .before .before .before .before .before .before .before .before .before) (c .before .before .before
-            .before .before .before .before .before .before .before .before .before .before .before .before .before .before .before .before
+      Need-returns-2 = (c : After-answer-number2) → Post· (c .before .before .before .before .before .before .before
+          .before .before .before .before .before .before .before .before .before .κs) (dens (c .before .before .before
+          .before .before .before .before .before .before .before .before .before .before .before .before .before .κs) (c
+          .before .before .before .before .before .before .before .before .before .before .before .before .before
+          .before .before .before .args)) (Function.resV r (c .before .before .before .before .before .before .before
+          .before .before .before .before .before .before .before .before .before .κs)
+          (m72 (c .before) (After-answer-number2·gave c) .0)) (Clauses.atExit (Kinds.endedOf 6 ps r) (c .before .before
+          .before .before .before .before .before .before .before .before .before .before .before .before .before
+          .before .κs) (dens (c .before .before .before .before .before .before .before .before .before .before .before
+          .before .before .before .before .before .κs) (c .before .before .before .before .before .before .before
+          .before .before .before .before .before .before .before .before .before .args)) (Enter.lastsP (c .before
+          .before .before .before .before .before .before .before .before .before .before .before .before .before
+          .before .before .κs) 1 ps xs (dens (c .before .before .before .before .before .before .before .before .before
+          .before .before .before .before .before .before .before .κs) (c .before .before .before .before .before
+          .before .before .before .before .before .before .before .before .before .before .before .args))
+          (m72 (c .before) (After-answer-number2·gave c) .1)))
+
+      module _ (acknowledge-requires : Need-acknowledge-requires) (deliver-requires : Need-deliver-requires)
+          (answer-number-requires : Need-answer-number-requires) (same-length : Need-same-length)
+          (same-length-2 : Need-same-length-2) (same-length-3 : Need-same-length-3)
+          (same-length-4 : Need-same-length-4) (same-length-5 : Need-same-length-5) (returns : Need-returns)
+          (deliver-requires-2 : Need-deliver-requires-2) (answer-number-requires-2 : Need-answer-number-requires-2)
+          (same-length-6 : Need-same-length-6) (same-length-7 : Need-same-length-7)
+          (same-length-8 : Need-same-length-8) (same-length-9 : Need-same-length-9)
+          (same-length-10 : Need-same-length-10) (returns-2 : Need-returns-2) where
+        lay6 : (c : After-answer-number2) → at77 (c .before .before .before .before .before .before .before .before
+            .before .before .before .before .before .before .before .before .blocks) (W0 (c .before .before .before
+            .before .before .before .before .before .before .before .before .before .before .before .before .before .κs) (c
+            .before .before .before .before .before .before .before .before .before .before .before .before .before
+            .before .before .before .args) (c .before .before .before .before .before .before .before .before .before
+            .before .before .before .before .before .before .before .blocks))
+            (m70 (c .before) (After-answer-number2·gave c))
+        lay6 = λ c. (
+          (
+            MutSlice.fix-len (Row.get 1 (T116 .locals) (m72 (c .before) (After-answer-number2·gave c)) .ptr) (Row.get 1
+                (T116 .locals) (m72 (c .before) (After-answer-number2·gave c)) .name) (Row.get 1 (T116 .locals)
+                (m72 (c .before) (After-answer-number2·gave c)) .now) (dens (c .before .before .before .before .before
+                .before .before .before .before .before .before .before .before .before .before .before .κs) (c .before
+                .before .before .before .before .before .before .before .before .before .before .before .before .before
+                .before .before .args) .0 .now) (same-length-6
+                record { before = c .before; answer-number2 = c .answer-number2 }),
+            (
+              MutSlice.fix-len (Row.get 2 (T116 .locals) (m72 (c .before) (After-answer-number2·gave c)) .ptr) (Row.get
+                  2 (T116 .locals) (m72 (c .before) (After-answer-number2·gave c)) .name) (Row.get 2 (T116 .locals)
+                  (m72 (c .before) (After-answer-number2·gave c)) .now) (dens (c .before .before .before .before
+                  .before .before .before .before .before .before .before .before .before .before .before .before .κs) (c
+                  .before .before .before .before .before .before .before .before .before .before .before .before
+                  .before .before .before .before .args) .1 .0 .now) (same-length-7
+                  record { before = c .before; answer-number2 = c .answer-number2 }),
+              (
+                MutSlice.fix-len (Row.get 3 (T116 .locals) (m72 (c .before) (After-answer-number2·gave c)) .ptr) (Row.get
+                    3 (T116 .locals) (m72 (c .before) (After-answer-number2·gave c)) .name) (Row.get 3 (T116 .locals)
+                    (m72 (c .before) (After-answer-number2·gave c)) .now) (dens (c .before .before .before .before
+                    .before .before .before .before .before .before .before .before .before .before .before .before .κs) (c
+                    .before .before .before .before .before .before .before .before .before .before .before .before
+                    .before .before .before .before .args) .1 .1 .0 .now) (same-length-8
+                    record { before = c .before; answer-number2 = c .answer-number2 }),
+                (
+                  MutSlice.fix-len (Row.get 4 (T116 .locals) (m72 (c .before) (After-answer-number2·gave c)) .ptr) (Row.get
+                      4 (T116 .locals) (m72 (c .before) (After-answer-number2·gave c)) .name) (Row.get 4 (T116 .locals)
+                      (m72 (c .before) (After-answer-number2·gave c)) .now) (dens (c .before .before .before .before
+                      .before .before .before .before .before .before .before .before .before .before .before .before
+                      .κs) (c .before .before .before .before .before .before .before .before .before .before .before
+                      .before .before .before .before .before .args) .1 .1 .1 .0 .now) (same-length-9
+                      record { before = c .before; answer-number2 = c .answer-number2 }),
+                  (
+                    MutSlice.fix-len (Row.get 5 (T116 .locals) (m72 (c .before) (After-answer-number2·gave c)) .ptr) (Row.get
+                        5 (T116 .locals) (m72 (c .before) (After-answer-number2·gave c)) .name) (Row.get 5
+                        (T116 .locals) (m72 (c .before) (After-answer-number2·gave c)) .now) (dens (c .before .before
+                        .before .before .before .before .before .before .before .before .before .before .before .before
+                        .before .before .κs) (c .before .before .before .before .before .before .before .before .before
+                        .before .before .before .before .before .before .before .args) .1 .1 .1 .1 .0 .now) (same-length-10
+                        record { before = c .before; answer-number2 = c .answer-number2 }),
+                    (tt, (tt, (Path.refl, (tt, tt)))),
+                  ),
+                ),
+              ),
+            ),
+          ),
+          returns-2 record { before = c .before; answer-number2 = c .answer-number2 },
+        )
+
+        lay5 : (c : After-deliver2) → at98 (c .before .before .before .before .before .before .before .before .before
+            .blocks) (W0 (c .before .before .before .before .before .before .before .before .before .κs) (c .before
+            .before .before .before .before .before .before .before .before .args) (c .before .before .before .before
+            .before .before .before .before .before .blocks)) (m59 (c .before) (After-deliver2·gave c))
+        lay5 = λ c. (
+          Path.refl,
+          λ g. (
+            Path.refl,
+            λ g'. (
+              Path.refl,
+              λ g''. (
+                Path.refl,
+                λ g'3. (
+                  Path.refl,
+                  λ g'4. λ g'5. (
+                    answer-number-requires-2 record {
+                      before = record {
+                        before = record {
+                          before = record {
+                            before = record {
+                              before = record {
+                                before = record { before = c .before; deliver2 = c .deliver2 };
+                                pending3 = record { given = g };
+                              };
+                              circuits3 = record { given = g' };
+                            };
+                            ledger2 = record { given = g'' };
+                          };
+                          inflight3 = record { given = g'3 };
+                        };
+                        out3 = record { given = g'4 };
+                      };
+                      slice-known4 = record { given = g'5 };
+                    },
+                    λ g'6. lay6 record {
+                      before = record {
+                        before = record {
+                          before = record {
+                            before = record {
+                              before = record {
+                                before = record {
+                                  before = record { before = c .before; deliver2 = c .deliver2 };
+                                  pending3 = record { given = g };
+                                };
+                                circuits3 = record { given = g' };
+                              };
+                              ledger2 = record { given = g'' };
+                            };
+                            inflight3 = record { given = g'3 };
+                          };
+                          out3 = record { given = g'4 };
+                        };
+                        slice-known4 = record { given = g'5 };
+                      };
+                      answer-number2 = Called.called ps·2 r·2 (claims· .5) T113
+                          (record { pos = 16; st = List.[]; d = 0; at = λ x. x }, tt) (m69
+                          record {
+                            before = record {
+                              before = record {
+                                before = record {
+                                  before = record {
+                                    before = record { before = c .before; deliver2 = c .deliver2 };
+                                    pending3 = record { given = g };
+                                  };
+                                  circuits3 = record { given = g' };
+                                };
+                                ledger2 = record { given = g'' };
+                              };
+                              inflight3 = record { given = g'3 };
+                            };
+                            out3 = record { given = g'4 };
+                          } g'5) g'6;
+                    },
+                  ),
+                ),
+              ),
+            ),
+          ),
+        )
+
+        lay4 : (c : Else1) → at114 (c .before .before .before .blocks) (W0 (c .before .before .before .κs)
+            (c .before .before .before .args) (c .before .before .before .blocks)) (m48 (c .before))
+        lay4 = λ c. λ g. (
+          Path.refl,
+          λ g'. (
+            Path.refl,
+            λ g''. (
+              Path.refl,
+              λ g'3. (
+                Path.refl,
+                λ g'4. (
+                  Path.refl,
+                  (
+                    deliver-requires-2 record {
+                      before = record {
+                        before = record {
+                          before = record {
+                            before = record {
+                              before = record { before = c .before; if1 = c .if1 };
+                              deliver-arg6 = record { given = g };
+                            };
+                            deliver-arg7 = record { given = g' };
+                          };
+                          deliver-arg8 = record { given = g'' };
+                        };
+                        deliver-arg9 = record { given = g'3 };
+                      };
+                      deliver-arg10 = record { given = g'4 };
+                    },
+                    λ g'5. lay5 record {
+                      before = record {
+                        before = record {
+                          before = record {
+                            before = record {
+                              before = record {
+                                before = record { before = c .before; if1 = c .if1 };
+                                deliver-arg6 = record { given = g };
+                              };
+                              deliver-arg7 = record { given = g' };
+                            };
+                            deliver-arg8 = record { given = g'' };
+                          };
+                          deliver-arg9 = record { given = g'3 };
+                        };
+                        deliver-arg10 = record { given = g'4 };
+                      };
+                      deliver2 = Called.called ps·1 r·1 (claims· .3) T92 (
+                        record { pos = 37; ty = ref0; ref = λ x. x },
+                        (
+                          record { pos = 39; ty = ref1; ref = λ x. x },
+                          (
+                            record { pos = 41; ty = ref4; ref = λ x. x },
+                            (
+                              record { pos = 43; ty = ref2; ref = λ x. x },
+                              (
+                                record { pos = 45; ty = ref3; ref = λ x. x },
+                                (
+                                  record { pos = 6; st = List.[]; d = 0; at = λ x. x },
+                                  (
+                                    record { pos = 7; st = List.[]; d = 0; at = λ x. x },
+                                    (Num.vLit 1, (record { pos = 8; ty = ref10; ref = λ x. x }, tt)),
+                                  ),
+                                ),
+                              ),
+                            ),
+                          ),
+                        ),
+                      ) (m58 record {
+                        before = record {
+                          before = record {
+                            before = record {
+                              before = record { before = c .before; if1 = c .if1 };
+                              deliver-arg6 = record { given = g };
+                            };
+                            deliver-arg7 = record { given = g' };
+                          };
+                          deliver-arg8 = record { given = g'' };
+                        };
+                        deliver-arg9 = record { given = g'3 };
+                      } g'4) g'5;
+                    },
+                  ),
+                ),
+              ),
+            ),
+          ),
+        )
+
+        lay3 : (c : After-answer-number) → at2 (c .before .before .before .before .before .before .before .before
+            .before .before .before .before .before .before .before .before .before .before .before .before .before
+            .before .before .before .before .before .before .before .blocks) (W1 (c .before .before .before .before
+            .before .before .before .before .before .before .before .before .before .before .before .before .before
+            .before .before .before .before .before .before .before .before .before .before) (c .before .before .before
+            .before .before .before .before .before .before .before .before .before .before .before .before .before
+            .before .before .before .before .before .before .before .before .before .before .shared-slice-known .given))
+            (m45 (c .before) (After-answer-number·gave c))
+        lay3 = λ c. (
+          (
+            MutSlice.fix-len (Row.get 1 (T76 .locals) (m47 (c .before) (After-answer-number·gave c)) .ptr) (Row.get 1
+                (T76 .locals) (m47 (c .before) (After-answer-number·gave c)) .name) (Row.get 1 (T76 .locals)
+                (m47 (c .before) (After-answer-number·gave c)) .now) (dens (c .before .before .before .before .before
+                .before .before .before .before .before .before .before .before .before .before .before .before .before
+                .before .before .before .before .before .before .before .before .before .before .κs) (c .before .before
+                .before .before .before .before .before .before .before .before .before .before .before .before .before
+                .before .before .before .before .before .before .before .before .before .before .before .before .before
+                .args) .0 .now) (same-length record { before = c .before; answer-number = c .answer-number }),
+            (
+              MutSlice.fix-len (Row.get 2 (T76 .locals) (m47 (c .before) (After-answer-number·gave c)) .ptr) (Row.get 2
+                  (T76 .locals) (m47 (c .before) (After-answer-number·gave c)) .name) (Row.get 2 (T76 .locals)
+                  (m47 (c .before) (After-answer-number·gave c)) .now) (dens (c .before .before .before .before .before
+                  .before .before .before .before .before .before .before .before .before .before .before .before
+                  .before .before .before .before .before .before .before .before .before .before .before .κs) (c
+                  .before .before .before .before .before .before .before .before .before .before .before .before
+                  .before .before .before .before .before .before .before .before .before .before .before .before
+                  .before .before .before .before .args) .1 .0 .now) (same-length-2
+                  record { before = c .before; answer-number = c .answer-number }),
+              (
+                MutSlice.fix-len (Row.get 3 (T76 .locals) (m47 (c .before) (After-answer-number·gave c)) .ptr) (Row.get
+                    3 (T76 .locals) (m47 (c .before) (After-answer-number·gave c)) .name) (Row.get 3 (T76 .locals)
+                    (m47 (c .before) (After-answer-number·gave c)) .now) (dens (c .before .before .before .before
+                    .before .before .before .before .before .before .before .before .before .before .before .before
+                    .before .before .before .before .before .before .before .before .before .before .before .before .κs) (c
+                    .before .before .before .before .before .before .before .before .before .before .before .before
+                    .before .before .before .before .before .before .before .before .before .before .before .before
+                    .before .before .before .before .args) .1 .1 .0 .now) (same-length-3
+                    record { before = c .before; answer-number = c .answer-number }),
+                (
+                  MutSlice.fix-len (Row.get 4 (T76 .locals) (m47 (c .before) (After-answer-number·gave c)) .ptr) (Row.get
+                      4 (T76 .locals) (m47 (c .before) (After-answer-number·gave c)) .name) (Row.get 4 (T76 .locals)
+                      (m47 (c .before) (After-answer-number·gave c)) .now) (dens (c .before .before .before .before
+                      .before .before .before .before .before .before .before .before .before .before .before .before
+                      .before .before .before .before .before .before .before .before .before .before .before .before
+                      .κs) (c .before .before .before .before .before .before .before .before .before .before .before
+                      .before .before .before .before .before .before .before .before .before .before .before .before
+                      .before .before .before .before .before .args) .1 .1 .1 .0 .now) (same-length-4
+                      record { before = c .before; answer-number = c .answer-number }),
+                  (
+                    MutSlice.fix-len (Row.get 5 (T76 .locals) (m47 (c .before) (After-answer-number·gave c)) .ptr) (Row.get
+                        5 (T76 .locals) (m47 (c .before) (After-answer-number·gave c)) .name) (Row.get 5 (T76 .locals)
+                        (m47 (c .before) (After-answer-number·gave c)) .now) (dens (c .before .before .before .before
+                        .before .before .before .before .before .before .before .before .before .before .before .before
+                        .before .before .before .before .before .before .before .before .before .before .before .before
+                        .κs) (c .before .before .before .before .before .before .before .before .before .before .before
+                        .before .before .before .before .before .before .before .before .before .before .before .before
+                        .before .before .before .before .before .args) .1 .1 .1 .1 .0 .now) (same-length-5
+                        record { before = c .before; answer-number = c .answer-number }),
+                    (tt, (tt, (Path.refl, (tt, tt)))),
+                  ),
+                ),
+              ),
+            ),
+          ),
+          returns record { before = c .before; answer-number = c .answer-number },
+        )
+
+        lay2 : (c : After-deliver) → at23 (c .before .before .before .before .before .before .before .before .before
+            .before .before .before .before .before .before .before .before .before .before .before .before .blocks) (W1 (c
+            .before .before .before .before .before .before .before .before .before .before .before .before .before
+            .before .before .before .before .before .before .before) (c .before .before .before .before .before .before
+            .before .before .before .before .before .before .before .before .before .before .before .before .before
             .shared-slice-known .given)) (m34 (c .before) (After-deliver·gave c))
-        lay2 = λ c. (Path.refl, λ g. (Path.refl, λ g'. (Path.refl, λ g''. (Path.refl, λ g'3. (Path.refl, λ g'4. λ g'5. (answer-number-requires record
-            { before = record { before = record { before = record { before = record { before = record { before = record { before = c .before; deliver
-            = c .deliver }; pending2 = record { given = g }; }; circuits2 = record { given = g' }; }; ledger = record { given = g'' }; }; inflight2 =
-            record { given = g'3 }; }; out2 = record { given = g'4 }; }; slice-known3 = record { given = g'5 }; }, λ g'6. lay3 record { before =
-            record { before = record { before = record { before = record { before = record { before = record { before = record { before = c .before;
-            deliver = c .deliver }; pending2 = record { given = g }; }; circuits2 = record { given = g' }; }; ledger = record { given = g'' }; };
-            inflight2 = record { given = g'3 }; }; out2 = record { given = g'4 }; }; slice-known3 = record { given = g'5 }; }; answer-number =
-            Called.called ps·2 r·2 (claims· .5) T73 (record { pos = 14; st = List.[]; d = 0; at = λ x. x }, tt,) (m44 record { before = record {
-            before = record { before = record { before = record { before = record { before = c .before; deliver = c .deliver }; pending2 = record {
-            given = g }; }; circuits2 = record { given = g' }; }; ledger = record { given = g'' }; }; inflight2 = record { given = g'3 }; }; out2 =
-            record { given = g'4 }; } g'5) g'6; },),),),),),)
-        lay1 : (c : After-acknowledge) → at54 (c .before .before .before .before .before .before .before .before .before .before .blocks) (W1 (c
-            .before .before .before .before .before .before .before .before .before) (c .before .before .before .before .before .before .before
-            .before .shared-slice-known .given)) (m16 (c .before) (After-acknowledge·gave c))
-        lay1 = λ c. (Path.refl, λ g. (Path.refl, λ g'. (Path.refl, λ g''. (Path.refl, λ g'3. λ g'4. λ g'5. (Path.refl, λ g'6. (Path.refl, λ g'7.
-            (Path.refl, λ g'8. (Path.refl, λ g'9. (Path.refl, (deliver-requires record { before = record { before = record { before = record { before
-            = record { before = record { before = record { before = record { before = record { before = record { before = record { before = c .before;
-            acknowledge = c .acknowledge; }; pending = record { given = g }; }; circuits = record { given = g' }; }; inflight = record { given = g''
-            }; }; out = record { given = g'3 }; }; slice-known2 = record { given = g'4 }; }; deliver-arg = record { given = g'5 }; }; deliver-arg2 =
-            record { given = g'6 }; }; deliver-arg3 = record { given = g'7 }; }; deliver-arg4 = record { given = g'8 }; }; deliver-arg5 = record {
-            given = g'9 }; }, λ g'10. lay2 record { before = record { before = record { before = record { before = record { before = record { before =
-            record { before = record { before = record { before = record { before = record { before = record { before = c .before; acknowledge = c
-            .acknowledge; }; pending = record { given = g }; }; circuits = record { given = g' }; }; inflight = record { given = g'' }; }; out =
-            record { given = g'3 }; }; slice-known2 = record { given = g'4 }; }; deliver-arg = record { given = g'5 }; }; deliver-arg2 = record {
-            given = g'6 }; }; deliver-arg3 = record { given = g'7 }; }; deliver-arg4 = record { given = g'8 }; }; deliver-arg5 = record { given = g'9
-            }; }; deliver = Called.called ps·1 r·1 (claims· .3) T52 (record { pos = 27; ty = Syntax.tyRef Syntax.erased Syntax.mut RelayPending.to;
-            ref = λ x. x; }, (record { pos = 29; ty = Syntax.tyRef Syntax.erased Syntax.mut RelayCircuit.to; ref = λ x. x; }, (record { pos = 31; ty =
-            Syntax.tyRef Syntax.erased Syntax.mut ReservationUsage.to; ref = λ x. x; }, (record { pos = 33; ty = Syntax.tyRef Syntax.erased Syntax.mut
-            InflightAction.to; ref = λ x. x; }, (record { pos = 35; ty = Syntax.tyRef Syntax.erased Syntax.mut (Syntax.tyInt Syntax.w32); ref = λ x.
-            x; }, (record { pos = 12; st = List.[]; d = 0; at = λ x. x }, (record { pos = 7; st = List.[]; d = 0; at = λ x. x }, (Num.vLit 1, (record
-            { pos = 8; ty = Syntax.tyRef (Syntax.named 5) Syntax.imm (Syntax.tyInt Syntax.w8); ref = λ x. x; }, tt,),),),),),),),),) (m33 record {
-            before = record { before = record { before = record { before = record { before = record { before = record { before = record { before =
-            record { before = record { before = c .before; acknowledge = c .acknowledge; }; pending = record { given = g }; }; circuits = record {
-            given = g' }; }; inflight = record { given = g'' }; }; out = record { given = g'3 }; }; slice-known2 = record { given = g'4 }; };
-            deliver-arg = record { given = g'5 }; }; deliver-arg2 = record { given = g'6 }; }; deliver-arg3 = record { given = g'7 }; }; deliver-arg4
-            = record { given = g'8 }; } g'9) g'10; },),),),),),),),),),)
-        pub laid : (c : Start) → at118 (c .blocks) (W0 (c .κs) (c .args) (c .blocks)) (m0 (c .κs) (c .args) (c .blocks))
-        laid = λ c. λ g. λ g'. (λ taken. (tt, λ g''. (tt, λ g'3. λ g'4. (Path.refl, λ g'5. (Path.refl, λ g'6. (Path.refl, λ g'7. (Path.refl,
-            (acknowledge-requires record { before = record { before = record { before = record { before = record { before = record { before = record {
-            before = record { before = record { before = c; slice-known = record { given = g }; }; shared-slice-known = record { given = g' }; }; if1
-            = record { taken = taken }; }; runtime = record { given = g'' }; }; places = record { given = g'3 }; }; acknowledge-arg = record { given =
-            g'4 }; }; acknowledge-arg2 = record { given = g'5 }; }; acknowledge-arg3 = record { given = g'6 }; }; acknowledge-arg4 = record { given =
-            g'7 }; }, λ g'8. lay1 record { before = record { before = record { before = record { before = record { before = record { before = record {
-            before = record { before = record { before = record { before = c; slice-known = record { given = g }; }; shared-slice-known = record {
-            given = g' }; }; if1 = record { taken = taken }; }; runtime = record { given = g'' }; }; places = record { given = g'3 }; };
-            acknowledge-arg = record { given = g'4 }; }; acknowledge-arg2 = record { given = g'5 }; }; acknowledge-arg3 = record { given = g'6 }; };
-            acknowledge-arg4 = record { given = g'7 }; }; acknowledge = Called.called ps·0 r·0 (claims· .1) T21 (record { pos = 19; ty = Syntax.tyRef
-            Syntax.erased Syntax.mut RelayPending.to; ref = λ x. x; }, (record { pos = 21; ty = Syntax.tyRef Syntax.erased Syntax.mut RelayCircuit.to;
-            ref = λ x. x; }, (record { pos = 23; ty = Syntax.tyRef Syntax.erased Syntax.mut InflightAction.to; ref = λ x. x; }, (record { pos = 25; ty
-            = Syntax.tyRef Syntax.erased Syntax.mut (Syntax.tyInt Syntax.w32); ref = λ x. x; }, (record { pos = 10; st = List.[]; d = 0; at = λ x. x
-            }, (record { pos = 11; st = List.[]; d = 0; at = λ x. x }, (Num.vLit 1, (Num.vLit 3, (Bool.bLit Bool'.true, tt))),),),),),),) (m15 record
-            { before = record { before = record { before = record { before = record { before = record { before = record { before = record { before =
-            c; slice-known = record { given = g }; }; shared-slice-known = record { given = g' }; }; if1 = record { taken = taken }; }; runtime =
-            record { given = g'' }; }; places = record { given = g'3 }; }; acknowledge-arg = record { given = g'4 }; }; acknowledge-arg2 = record {
-            given = g'5 }; }; acknowledge-arg3 = record { given = g'6 }; } g'7) g'8; },),),),),),),), λ left. lay4 record { before = record { before =
-            record { before = c; slice-known = record { given = g } }; shared-slice-known = record { given = g' }; }; if1 = record { left = left };
-            },)
+        lay2 = λ c. (
+          Path.refl,
+          λ g. (
+            Path.refl,
+            λ g'. (
+              Path.refl,
+              λ g''. (
+                Path.refl,
+                λ g'3. (
+                  Path.refl,
+                  λ g'4. λ g'5. (
+                    answer-number-requires record {
+                      before = record {
+                        before = record {
+                          before = record {
+                            before = record {
+                              before = record {
+                                before = record { before = c .before; deliver = c .deliver };
+                                pending2 = record { given = g };
+                              };
+                              circuits2 = record { given = g' };
+                            };
+                            ledger = record { given = g'' };
+                          };
+                          inflight2 = record { given = g'3 };
+                        };
+                        out2 = record { given = g'4 };
+                      };
+                      slice-known3 = record { given = g'5 };
+                    },
+                    λ g'6. lay3 record {
+                      before = record {
+                        before = record {
+                          before = record {
+                            before = record {
+                              before = record {
+                                before = record {
+                                  before = record { before = c .before; deliver = c .deliver };
+                                  pending2 = record { given = g };
+                                };
+                                circuits2 = record { given = g' };
+                              };
+                              ledger = record { given = g'' };
+                            };
+                            inflight2 = record { given = g'3 };
+                          };
+                          out2 = record { given = g'4 };
+                        };
+                        slice-known3 = record { given = g'5 };
+                      };
+                      answer-number = Called.called ps·2 r·2 (claims· .5) T73
+                          (record { pos = 14; st = List.[]; d = 0; at = λ x. x }, tt) (m44
+                          record {
+                            before = record {
+                              before = record {
+                                before = record {
+                                  before = record {
+                                    before = record { before = c .before; deliver = c .deliver };
+                                    pending2 = record { given = g };
+                                  };
+                                  circuits2 = record { given = g' };
+                                };
+                                ledger = record { given = g'' };
+                              };
+                              inflight2 = record { given = g'3 };
+                            };
+                            out2 = record { given = g'4 };
+                          } g'5) g'6;
+                    },
+                  ),
+                ),
+              ),
+            ),
+          ),
+        )
+
+        lay1 : (c : After-acknowledge) → at54 (c .before .before .before .before .before .before .before .before
+            .before .before .blocks) (W1 (c .before .before .before .before .before .before .before .before .before) (c
+            .before .before .before .before .before .before .before .before .shared-slice-known .given))
+            (m16 (c .before) (After-acknowledge·gave c))
+        lay1 = λ c. (
+          Path.refl,
+          λ g. (
+            Path.refl,
+            λ g'. (
+              Path.refl,
+              λ g''. (
+                Path.refl,
+                λ g'3. λ g'4. λ g'5. (
+                  Path.refl,
+                  λ g'6. (
+                    Path.refl,
+                    λ g'7. (
+                      Path.refl,
+                      λ g'8. (
+                        Path.refl,
+                        λ g'9. (
+                          Path.refl,
+                          (
+                            deliver-requires record {
+                              before = record {
+                                before = record {
+                                  before = record {
+                                    before = record {
+                                      before = record {
+                                        before = record {
+                                          before = record {
+                                            before = record {
+                                              before =
+                                                  record {
+                                                    before = record {
+                                                      before = c .before;
+                                                      acknowledge = c .acknowledge;
+                                                    };
+                                                    pending = record { given = g };
+                                                  };
+                                              circuits = record { given = g' };
+                                            };
+                                            inflight = record { given = g'' };
+                                          };
+                                          out = record { given = g'3 };
+                                        };
+                                        slice-known2 = record { given = g'4 };
+                                      };
+                                      deliver-arg = record { given = g'5 };
+                                    };
+                                    deliver-arg2 = record { given = g'6 };
+                                  };
+                                  deliver-arg3 = record { given = g'7 };
+                                };
+                                deliver-arg4 = record { given = g'8 };
+                              };
+                              deliver-arg5 = record { given = g'9 };
+                            },
+                            λ g'10. lay2 record {
+                              before = record {
+                                before = record {
+                                  before = record {
+                                    before = record {
+                                      before = record {
+                                        before = record {
+                                          before = record {
+                                            before = record {
+                                              before =
+                                                  record {
+                                                    before =
+                                                        record {
+                                                          before =
+                                                              record {
+                                                                before = c .before;
+                                                                acknowledge = c .acknowledge;
+                                                              };
+                                                          pending = record { given = g };
+                                                        };
+                                                    circuits = record { given = g' };
+                                                  };
+                                              inflight = record { given = g'' };
+                                            };
+                                            out = record { given = g'3 };
+                                          };
+                                          slice-known2 = record { given = g'4 };
+                                        };
+                                        deliver-arg = record { given = g'5 };
+                                      };
+                                      deliver-arg2 = record { given = g'6 };
+                                    };
+                                    deliver-arg3 = record { given = g'7 };
+                                  };
+                                  deliver-arg4 = record { given = g'8 };
+                                };
+                                deliver-arg5 = record { given = g'9 };
+                              };
+                              deliver = Called.called ps·1 r·1 (claims· .3) T52 (
+                                record { pos = 27; ty = ref0; ref = λ x. x },
+                                (
+                                  record { pos = 29; ty = ref1; ref = λ x. x },
+                                  (
+                                    record { pos = 31; ty = ref4; ref = λ x. x },
+                                    (
+                                      record { pos = 33; ty = ref2; ref = λ x. x },
+                                      (
+                                        record { pos = 35; ty = ref3; ref = λ x. x },
+                                        (
+                                          record { pos = 12; st = List.[]; d = 0; at = λ x. x },
+                                          (
+                                            record { pos = 7; st = List.[]; d = 0; at = λ x. x },
+                                            (Num.vLit 1, (record { pos = 8; ty = ref10; ref = λ x. x }, tt)),
+                                          ),
+                                        ),
+                                      ),
+                                    ),
+                                  ),
+                                ),
+                              ) (m33 record {
+                                before = record {
+                                  before = record {
+                                    before = record {
+                                      before = record {
+                                        before = record {
+                                          before = record {
+                                            before = record {
+                                              before =
+                                                  record {
+                                                    before = record {
+                                                      before = c .before;
+                                                      acknowledge = c .acknowledge;
+                                                    };
+                                                    pending = record { given = g };
+                                                  };
+                                              circuits = record { given = g' };
+                                            };
+                                            inflight = record { given = g'' };
+                                          };
+                                          out = record { given = g'3 };
+                                        };
+                                        slice-known2 = record { given = g'4 };
+                                      };
+                                      deliver-arg = record { given = g'5 };
+                                    };
+                                    deliver-arg2 = record { given = g'6 };
+                                  };
+                                  deliver-arg3 = record { given = g'7 };
+                                };
+                                deliver-arg4 = record { given = g'8 };
+                              } g'9) g'10;
+                            },
+                          ),
+                        ),
+                      ),
+                    ),
+                  ),
+                ),
+              ),
+            ),
+          ),
+        )
+
+        pub laid : (c : Start) → at118 (c .blocks) (W0 (c .κs) (c .args) (c .blocks))
+            (m0 (c .κs) (c .args) (c .blocks))
+        laid = λ c. λ g. λ g'. (
+          λ taken. (
+            tt,
+            λ g''. (
+              tt,
+              λ g'3. λ g'4. (
+                Path.refl,
+                λ g'5. (
+                  Path.refl,
+                  λ g'6. (
+                    Path.refl,
+                    λ g'7. (
+                      Path.refl,
+                      (
+                        acknowledge-requires record {
+                          before = record {
+                            before = record {
+                              before = record {
+                                before = record {
+                                  before = record {
+                                    before = record {
+                                      before = record {
+                                        before = record { before = c; slice-known = record { given = g } };
+                                        shared-slice-known = record { given = g' };
+                                      };
+                                      if1 = record { taken = taken };
+                                    };
+                                    runtime = record { given = g'' };
+                                  };
+                                  places = record { given = g'3 };
+                                };
+                                acknowledge-arg = record { given = g'4 };
+                              };
+                              acknowledge-arg2 = record { given = g'5 };
+                            };
+                            acknowledge-arg3 = record { given = g'6 };
+                          };
+                          acknowledge-arg4 = record { given = g'7 };
+                        },
+                        λ g'8. lay1 record {
+                          before = record {
+                            before = record {
+                              before = record {
+                                before = record {
+                                  before = record {
+                                    before = record {
+                                      before = record {
+                                        before = record {
+                                          before = record { before = c; slice-known = record { given = g } };
+                                          shared-slice-known = record { given = g' };
+                                        };
+                                        if1 = record { taken = taken };
+                                      };
+                                      runtime = record { given = g'' };
+                                    };
+                                    places = record { given = g'3 };
+                                  };
+                                  acknowledge-arg = record { given = g'4 };
+                                };
+                                acknowledge-arg2 = record { given = g'5 };
+                              };
+                              acknowledge-arg3 = record { given = g'6 };
+                            };
+                            acknowledge-arg4 = record { given = g'7 };
+                          };
+                          acknowledge = Called.called ps·0 r·0 (claims· .1) T21 (
+                            record { pos = 19; ty = ref0; ref = λ x. x },
+                            (
+                              record { pos = 21; ty = ref1; ref = λ x. x },
+                              (
+                                record { pos = 23; ty = ref2; ref = λ x. x },
+                                (
+                                  record { pos = 25; ty = ref3; ref = λ x. x },
+                                  (
+                                    record { pos = 10; st = List.[]; d = 0; at = λ x. x },
+                                    (
+                                      record { pos = 11; st = List.[]; d = 0; at = λ x. x },
+                                      (Num.vLit 1, (Num.vLit 3, (Bool.bLit Bool'.true, tt))),
+                                    ),
+                                  ),
+                                ),
+                              ),
+                            ),
+                          ) (m15 record {
+                            before = record {
+                              before = record {
+                                before = record {
+                                  before = record {
+                                    before = record {
+                                      before = record {
+                                        before = record { before = c; slice-known = record { given = g } };
+                                        shared-slice-known = record { given = g' };
+                                      };
+                                      if1 = record { taken = taken };
+                                    };
+                                    runtime = record { given = g'' };
+                                  };
+                                  places = record { given = g'3 };
+                                };
+                                acknowledge-arg = record { given = g'4 };
+                              };
+                              acknowledge-arg2 = record { given = g'5 };
+                            };
+                            acknowledge-arg3 = record { given = g'6 };
+                          } g'7) g'8;
+                        },
+                      ),
+                    ),
+                  ),
+                ),
+              ),
+            ),
+          ),
+          λ left. lay4 record {
+            before = record {
+              before = record { before = c; slice-known = record { given = g } };
+              shared-slice-known = record { given = g' };
+            };
+            if1 = record { left = left };
+          },
+        )
+
         module _ (κs : Lifetimes.Lfts 6) (qs : Lifetimes.Shares 6) where
-          pub asked : (a : Kinds.Dens κs ps) → (good : Kinds.GoodsP κs ps a) → (pre : Pre· κs a) → (bs : List.List Nat.ℕ) → Φ bs (Any.wantQ 6 ps r xs
-              m κs qs a (Post· κs a)) (Function.init 6 ps r xs m κs qs a)
-          asked = λ a good pre bs. laid record { κs = κs; args = record { pending = a .0; circuits = a .1 .0; ledger = a .1 .1 .0; inflight = a .1 .1
-              .1 .0; out = a .1 .1 .1 .1 .0; kept = a .1 .1 .1 .1 .1 .0; sent = a .1 .1 .1 .1 .1 .1 .0; body = a .1 .1 .1 .1 .1 .1 .1 .0; delivered =
-              a .1 .1 .1 .1 .1 .1 .1 .1 .0; }; blocks = bs; good = good; pre = pre; }
-        module _ { M : Type 1 } (𝓤 : URA.URA M) (H : Wp.Heap 𝓤) (A : Atoms.Atoms 𝓤) (W : Kit.Given 𝓤 H A) (𝓣 : Wp.Tables 𝓤 H) (known0 : Plain.Known 𝓤
-            H A W 𝓣 4 ps·0 r·0 (claims· .0) (claims· .1) "hnsr_circuit::acknowledge::acknowledge") (known1 : Plain.Known 𝓤 H A W 𝓣 6 ps·1 r·1 (claims·
-            .2) (claims· .3) "cases::machine::deliver") (known2 : Plain.Known 𝓤 H A W 𝓣 0 ps·2 r·2 (claims· .4) (claims· .5)
-            "cases::script::answer_number") where
-          pub spec : Statement.Triple 𝓤 (Wp.WpFn 𝓤 H (𝓣 .C) (𝓣 .Λ) (Function.fnOf 6 ps r xs m hs body)) (Function.plainOf 𝓤 H A 6 ps r Pre· Post·)
-          spec = Plain.t-fn-plain 𝓤 H A W 𝓣 6 ps r xs m hs body (λ κs qs bs. Φ bs) (λ κs qs bs bd. typed κs qs 𝓤 H A W 𝓣 (known0, known1, known2) bs
-              bd) Pre· Post· asked
+          pub asked : (a : Kinds.Dens κs ps) → (good : Kinds.GoodsP κs ps a) → (pre : Pre· κs a) →
+              (bs : List.List Nat.ℕ) → Φ bs (Any.wantQ 6 ps r xs m κs qs a (Post· κs a))
+              (Function.init 6 ps r xs m κs qs a)
+          asked = λ a good pre bs. laid record {
+            κs = κs;
+            args = record {
+              pending = a .0;
+              circuits = a .1 .0;
+              ledger = a .1 .1 .0;
+              inflight = a .1 .1 .1 .0;
+              out = a .1 .1 .1 .1 .0;
+              kept = a .1 .1 .1 .1 .1 .0;
+              sent = a .1 .1 .1 .1 .1 .1 .0;
+              body = a .1 .1 .1 .1 .1 .1 .1 .0;
+              delivered = a .1 .1 .1 .1 .1 .1 .1 .1 .0;
+            };
+            blocks = bs;
+            good = good;
+            pre = pre;
+          }
+
+        module _ {M : Type 1} (𝓤 : URA.URA M) (H : Wp.Heap 𝓤) (A : Atoms.Atoms 𝓤) (W : Kit.Given 𝓤 H A)
+            (𝓣 : Wp.Tables 𝓤 H) (known0 : Plain.Known 𝓤 H A W 𝓣 4 ps·0 r·0 (claims· .0) (claims· .1)
+            "hnsr_circuit::acknowledge::acknowledge") (known1 : Plain.Known 𝓤 H A W 𝓣 6 ps·1 r·1 (claims· .2)
+            (claims· .3) "cases::machine::deliver") (known2 : Plain.Known 𝓤 H A W 𝓣 0 ps·2 r·2 (claims· .4)
+            (claims· .5) "cases::script::answer_number") where
+          pub spec : Statement.Triple 𝓤 (Wp.WpFn 𝓤 H (𝓣 .C) (𝓣 .Λ) (Function.fnOf 6 ps r xs m hs body))
+              (Function.plainOf 𝓤 H A 6 ps r Pre· Post·)
+          spec = Plain.t-fn-plain 𝓤 H A W 𝓣 6 ps r xs m hs body (λ κs qs bs. Φ bs) (λ κs qs bs bd. typed κs qs 𝓤 H A W
+              𝓣 (known0, known1, known2) bs bd) Pre· Post· asked

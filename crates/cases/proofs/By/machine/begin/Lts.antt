@@ -4,12 +4,14 @@ use Rattle.cases.proofs.By.InflightAction
 use Rattle.cases.proofs.By.RelayCircuit
 use Rattle.cases.proofs.By.RelayPending
 use Rattle.cases.proofs.By.ReservationUsage
+use Rattle.cases.proofs.StructRow
 use Rattle.hnsr_circuit.proofs.config.OpaqueRelayConfig
 use Rattle.hnsr_circuit.proofs.config.OpaqueRelayConfig.Laws
 use Rattle.hnsr_circuit.proofs.runtime.Relayed
 use Rattle.hnsr_circuit.proofs.runtime.Relayed.Laws as Laws'
 use borrow.Author.Called
 use borrow.Fn.Any
+use borrow.Fn.Args as Args'
 use borrow.Fn.Call
 use borrow.Fn.Enter
 use borrow.Fn.Frame
@@ -19,7 +21,6 @@ use borrow.Fn.Plain
 use borrow.Kind.Array
 use borrow.Kind.Num
 use borrow.Kind.ShrSlice
-use borrow.Kind.Value
 use borrow.Rule.Array.Init
 use borrow.Rule.Array.Repeat
 use borrow.Rule.Array.Rows
@@ -37,10 +38,8 @@ use borrow.Table.Rows as Rows'
 use borrow.Table.Typed
 use contract.Lifetimes
 use denote.Array as Array'
-use denote.Exit
 use denote.Plain as Plain'
 use denote.Struct.Declared
-use denote.Struct.Laws as Laws''
 use denote.Triple.Clauses
 use denote.Triple.Statement
 use ghost.Atoms
@@ -57,351 +56,550 @@ use mathlib.Core.List.{_∷_}
 
 abbrev ref0 : Syntax.Ty
 ref0 = Syntax.tyRef (Syntax.named 0) Syntax.imm RelayPending.to
+
 abbrev ref1 : Syntax.Ty
 ref1 = Syntax.tyRef (Syntax.named 1) Syntax.imm RelayCircuit.to
+
 abbrev ref2 : Syntax.Ty
 ref2 = Syntax.tyRef (Syntax.named 2) Syntax.imm ReservationUsage.to
+
 abbrev ref3 : Syntax.Ty
 ref3 = Syntax.tyRef (Syntax.named 3) Syntax.imm InflightAction.to
+
 abbrev pub ps : List.List (Kinds.PK 4)
-ps = (ShrSlice.pShrS RelayPending.row 0 tt) ∷ (ShrSlice.pShrS RelayCircuit.row 1 tt) ∷ (ShrSlice.pShrS ReservationUsage.row 2 tt) ∷ (ShrSlice.pShrS
-    InflightAction.row 3 tt) ∷ (Num.pNum Syntax.w64) ∷ List.[]
+ps = (ShrSlice.pShrS RelayPending.row 0 tt) ∷ (ShrSlice.pShrS RelayCircuit.row 1 tt) ∷
+    (ShrSlice.pShrS ReservationUsage.row 2 tt) ∷ (ShrSlice.pShrS InflightAction.row 3 tt) ∷ (Num.pNum Syntax.w64) ∷
+    List.[]
+
 abbrev pub r : Kinds.RK 4
-r = Value.rVal record { ty = Declared.row Relayed.the-type; one = Path.refl; val = Laws''.val Relayed.the-type Laws'.the-laws; tells = Laws''.tells
-    Relayed.the-type Laws'.the-laws; still = Laws''.still Relayed.the-type Laws'.the-copy Exit.yes; row = Rows'.whole (Declared.row Relayed.the-type);
-    rd = λ x. x; mk = λ x. x; } λ M 𝓤 H A W. record { copies = Laws''.copy Relayed.the-type Laws'.the-copy 𝓤 H A W; lawful = Laws''.lawful
-    Relayed.the-type Laws'.the-laws 𝓤 H A W; makes = Laws''.makes Relayed.the-type Laws'.the-plain 𝓤 H A; in-mem = Local.mem-whole 𝓤 H A W
-    (Declared.row Relayed.the-type); of-mem = Local.whole-mem 𝓤 H A W (Declared.row Relayed.the-type); }
+r = StructRow.result Relayed.the-type Laws'.the-laws Laws'.the-copy Laws'.the-plain
+
 abbrev pub xs : List.List Syntax.Ty
 xs = Laws.mir ∷ (Syntax.tyArray (Syntax.tyInt Syntax.w8) 16) ∷ List.[]
+
 abbrev pub m : Nat.ℕ
 m = 0
+
 abbrev pub ps·0 : List.List (Kinds.PK 0)
 ps·0 = (Num.pNum Syntax.w64) ∷ List.[]
+
 abbrev pub r·0 : Kinds.RK 0
-r·0 = Value.rVal record { ty = Declared.row OpaqueRelayConfig.the-type; one = Path.refl; val = Laws''.val OpaqueRelayConfig.the-type Laws.the-laws;
-    tells = Laws''.tells OpaqueRelayConfig.the-type Laws.the-laws; still = Laws''.still OpaqueRelayConfig.the-type Laws.the-copy Exit.yes; row =
-    Rows'.whole (Declared.row OpaqueRelayConfig.the-type); rd = λ x. x; mk = λ x. x; } λ M 𝓤 H A W. record { copies = Laws''.copy
-    OpaqueRelayConfig.the-type Laws.the-copy 𝓤 H A W; lawful = Laws''.lawful OpaqueRelayConfig.the-type Laws.the-laws 𝓤 H A W; makes = Laws''.makes
-    OpaqueRelayConfig.the-type Laws.the-plain 𝓤 H A; in-mem = Local.mem-whole 𝓤 H A W (Declared.row OpaqueRelayConfig.the-type); of-mem =
-    Local.whole-mem 𝓤 H A W (Declared.row OpaqueRelayConfig.the-type); }
+r·0 = StructRow.result OpaqueRelayConfig.the-type Laws.the-laws Laws.the-copy Laws.the-plain
+
 abbrev pub ps·1 : List.List (Kinds.PK 4)
-ps·1 = (ShrSlice.pShrS RelayPending.row 0 tt) ∷ (ShrSlice.pShrS RelayCircuit.row 1 tt) ∷ (ShrSlice.pShrS ReservationUsage.row 2 tt) ∷ (ShrSlice.pShrS
-    InflightAction.row 3 tt) ∷ (Array.pArr (Array.eInt Syntax.w8) (Array.eInt-laws Syntax.w8) 16) ∷ (Num.pNum Syntax.w64) ∷ (Value.pVal record { ty =
-    Declared.row OpaqueRelayConfig.the-type; one = Path.refl; val = Laws''.val OpaqueRelayConfig.the-type Laws.the-laws; tells = Laws''.tells
-    OpaqueRelayConfig.the-type Laws.the-laws; still = Laws''.still OpaqueRelayConfig.the-type Laws.the-copy Exit.yes; row = Rows'.whole (Declared.row
-    OpaqueRelayConfig.the-type); rd = λ x. x; mk = λ x. x; } λ M 𝓤 H A W. record { copies = Laws''.copy OpaqueRelayConfig.the-type Laws.the-copy 𝓤 H A
-    W; lawful = Laws''.lawful OpaqueRelayConfig.the-type Laws.the-laws 𝓤 H A W; makes = Laws''.makes OpaqueRelayConfig.the-type Laws.the-plain 𝓤 H A;
-    in-mem = Local.mem-whole 𝓤 H A W (Declared.row OpaqueRelayConfig.the-type); of-mem = Local.whole-mem 𝓤 H A W (Declared.row
-    OpaqueRelayConfig.the-type); }) ∷ (Num.pNum Syntax.w64) ∷ List.[]
+ps·1 = (ShrSlice.pShrS RelayPending.row 0 tt) ∷ (ShrSlice.pShrS RelayCircuit.row 1 tt) ∷
+    (ShrSlice.pShrS ReservationUsage.row 2 tt) ∷ (ShrSlice.pShrS InflightAction.row 3 tt) ∷ (Array.pArr
+    (Array.eInt Syntax.w8) (Array.eInt-laws Syntax.w8) 16) ∷ (Num.pNum Syntax.w64) ∷ (StructRow.param
+    OpaqueRelayConfig.the-type Laws.the-laws Laws.the-copy Laws.the-plain) ∷ (Num.pNum Syntax.w64) ∷ List.[]
+
 abbrev pub r·1 : Kinds.RK 4
-r·1 = Value.rVal record { ty = Declared.row Relayed.the-type; one = Path.refl; val = Laws''.val Relayed.the-type Laws'.the-laws; tells = Laws''.tells
-    Relayed.the-type Laws'.the-laws; still = Laws''.still Relayed.the-type Laws'.the-copy Exit.yes; row = Rows'.whole (Declared.row Relayed.the-type);
-    rd = λ x. x; mk = λ x. x; } λ M 𝓤 H A W. record { copies = Laws''.copy Relayed.the-type Laws'.the-copy 𝓤 H A W; lawful = Laws''.lawful
-    Relayed.the-type Laws'.the-laws 𝓤 H A W; makes = Laws''.makes Relayed.the-type Laws'.the-plain 𝓤 H A; in-mem = Local.mem-whole 𝓤 H A W
-    (Declared.row Relayed.the-type); of-mem = Local.whole-mem 𝓤 H A W (Declared.row Relayed.the-type); }
+r·1 = StructRow.result Relayed.the-type Laws'.the-laws Laws'.the-copy Laws'.the-plain
+
 abbrev pub hs : List.List Syntax.Home
-hs = Syntax.valueLocal ∷ Syntax.valueLocal ∷ Syntax.valueLocal ∷ Syntax.valueLocal ∷ Syntax.valueLocal ∷ Syntax.valueLocal ∷ Syntax.valueLocal ∷
-    Syntax.valueLocal ∷ List.[]
+hs = Syntax.valueLocal ∷ Syntax.valueLocal ∷ Syntax.valueLocal ∷ Syntax.valueLocal ∷ Syntax.valueLocal ∷
+    Syntax.valueLocal ∷ Syntax.valueLocal ∷ Syntax.valueLocal ∷ List.[]
+
 abbrev b0 : Syntax.Body
-b0 = Syntax.call "cases::script::configured" ((Syntax.copy (Syntax.place 5 List.[])) ∷ List.[]) (Syntax.place 6 List.[])
+b0 = Syntax.call "cases::script::configured" ((Syntax.copy (Syntax.place 5 List.[])) ∷ List.[])
+    (Syntax.place 6 List.[])
+
 abbrev b1 : Syntax.Body
 b1 = Syntax.assign (Syntax.place 7 List.[]) (Syntax.repeat (Syntax.int Syntax.w8 1) 16)
+
 abbrev b2 : Syntax.Body
-b2 = Syntax.call "hnsr_circuit::calls::new" ((Syntax.copy (Syntax.place 1 List.[])) ∷ (Syntax.copy (Syntax.place 2 List.[])) ∷ (Syntax.copy
-    (Syntax.place 3 List.[])) ∷ (Syntax.copy (Syntax.place 4 List.[])) ∷ (Syntax.copy (Syntax.place 7 List.[])) ∷ (Syntax.int Syntax.w64 1) ∷
+b2 = Syntax.call "hnsr_circuit::calls::new" ((Syntax.copy (Syntax.place 1 List.[])) ∷
+    (Syntax.copy (Syntax.place 2 List.[])) ∷ (Syntax.copy (Syntax.place 3 List.[])) ∷
+    (Syntax.copy (Syntax.place 4 List.[])) ∷ (Syntax.copy (Syntax.place 7 List.[])) ∷ (Syntax.int Syntax.w64 1) ∷
     (Syntax.copy (Syntax.place 6 List.[])) ∷ (Syntax.int Syntax.w64 100) ∷ List.[]) (Syntax.place 0 List.[])
+
 abbrev b3 : Syntax.Body
 b3 = Syntax.return
+
 abbrev b4 : Syntax.Body
 b4 = Syntax.seq b2 b3
+
 abbrev b5 : Syntax.Body
 b5 = Syntax.seq b1 b4
+
 abbrev b6 : Syntax.Body
 b6 = Syntax.seq b0 b5
+
 abbrev pub body : Syntax.Body
 body = b6
+
 abbrev pub Claims : Type 1
 Claims = Kinds.In 0 ps·0 × Kinds.Out 0 ps·0 r·0 × Kinds.In 4 ps·1 × Kinds.Out 4 ps·1 r·1
+
 abbrev e0 : Row.Entry
 e0 = (0, Rows'.any-gone Laws'.mir)
+
 abbrev e1 : Row.Entry
 e1 = (1, Rows'.sslice RelayPending.row ref0 0)
+
 abbrev e2 : Row.Entry
 e2 = (2, Rows'.sslice RelayCircuit.row ref1 1)
+
 abbrev e3 : Row.Entry
 e3 = (3, Rows'.sslice ReservationUsage.row ref2 2)
+
 abbrev e4 : Row.Entry
 e4 = (4, Rows'.sslice InflightAction.row ref3 3)
+
 abbrev e5 : Row.Entry
 e5 = (5, Rows'.sc-here (Row.sInt Syntax.w64))
+
 abbrev e6 : Row.Entry
 e6 = (6, Rows'.any-gone Laws.mir)
+
 abbrev e7 : Row.Entry
 e7 = (7, Rows'.any-gone (Syntax.tyArray (Syntax.tyInt Syntax.w8) 16))
+
 abbrev e0·1 : Row.Entry
 e0·1 = (0, Rows'.whole (Declared.row Relayed.the-type))
+
 abbrev e5·1 : Row.Entry
 e5·1 = (5, Rows'.any-gone (Syntax.tyInt Syntax.w64))
+
 abbrev e6·1 : Row.Entry
 e6·1 = (6, Rows'.whole (Declared.row OpaqueRelayConfig.the-type))
+
 abbrev e7·1 : Row.Entry
 e7·1 = (7, Rows'.whole (Array'.Array (Referent.rtF (Referent.fInt Syntax.w8)) 16))
+
 abbrev e7·2 : Row.Entry
 e7·2 = (7, Rows.arrF (Referent.rtF (Referent.fInt Syntax.w8)) 16 0)
+
 abbrev pub t0 : List.List Row.Entry
 t0 = e0 ∷ e1 ∷ e2 ∷ e3 ∷ e4 ∷ e5 ∷ e6 ∷ e7 ∷ List.[]
+
 abbrev pub t1 : List.List Row.Entry
 t1 = e0·1 ∷ e1 ∷ e2 ∷ e3 ∷ e4 ∷ e5·1 ∷ e6 ∷ e7 ∷ List.[]
+
 abbrev pub t2 : List.List Row.Entry
 t2 = e0 ∷ e1 ∷ e2 ∷ e3 ∷ e4 ∷ e5 ∷ e6·1 ∷ e7 ∷ List.[]
+
 abbrev pub t3 : List.List Row.Entry
 t3 = e0 ∷ e1 ∷ e2 ∷ e3 ∷ e4 ∷ e5 ∷ e6·1 ∷ e7·1 ∷ List.[]
+
 abbrev pub t4 : List.List Row.Entry
 t4 = e0 ∷ e1 ∷ e2 ∷ e3 ∷ e4 ∷ e5 ∷ e6·1 ∷ e7·2 ∷ List.[]
+
 abbrev pub t5 : List.List Row.Entry
 t5 = e0·1 ∷ e1 ∷ e2 ∷ e3 ∷ e4 ∷ e5 ∷ e6·1 ∷ e7·2 ∷ List.[]
+
 abbrev pub t6 : List.List Row.Entry
 t6 = e0·1 ∷ e1 ∷ e2 ∷ e3 ∷ e4 ∷ e5 ∷ e6 ∷ e7·2 ∷ List.[]
+
 abbrev pub t7 : List.List Row.Entry
 t7 = e0·1 ∷ e1 ∷ e2 ∷ e3 ∷ e4 ∷ e5 ∷ e6 ∷ e7 ∷ List.[]
+
 abbrev pub T0 : Row.Cx
 T0 = record { locals = t0; slots = List.[] }
+
 abbrev pub T1 : Row.Cx
 T1 = record { locals = t1; slots = List.[] }
+
 abbrev pub T2 : Row.Cx
 T2 = record { locals = t2; slots = List.[] }
+
 abbrev pub T3 : Row.Cx
 T3 = record { locals = t3; slots = List.[] }
+
 abbrev pub T4 : Row.Cx
 T4 = record { locals = t4; slots = List.[] }
+
 abbrev pub T5 : Row.Cx
 T5 = record { locals = t5; slots = List.[] }
+
 abbrev pub T6 : Row.Cx
 T6 = record { locals = t6; slots = List.[] }
+
 abbrev pub T7 : Row.Cx
 T7 = record { locals = t7; slots = List.[] }
+
 abbrev pub T8 : Row.Cx
 T8 = record { locals = t1; slots = List.[] }
+
 abbrev pub O0 : Typed.Outs
 O0 = record { next = Option.none; exits = List.[]; returns = Option.some T1 }
+
 module _ (claims· : Claims) where
+  abbrev args0 : Args'.ArgsT ps·0 (T0 .locals)
+  args0 = (Num.vAt 5 λ x. x, tt)
+
   abbrev s0 : Typed.Both T0 T2
-  s0 = Call.callB ps·0 r·0 (claims· .0) (claims· .1) T0 (Num.vAt 5 λ x. x, tt) 6 List.[] Laws.mir
+  s0 = Call.callB ps·0 r·0 (claims· .0) (claims· .1) T0 args0 6 List.[] Laws.mir
+
   abbrev s1 : Typed.Mo T2 → Typed.Mo T3
   s1 = Repeat.n-repeat (Referent.rtF (Referent.fInt Syntax.w8)) 16 T2 7 λ m. 1
+
   abbrev s2 : Typed.Mo T3 → Typed.Mo T4
   s2 = AtSlots.n-as-by T3 7 (Rows.arrF (Referent.rtF (Referent.fInt Syntax.w8)) 16 0) λ x. x
+
+  abbrev args3 : Args'.ArgsT ps·1 (T4 .locals)
+  args3 = (
+    record { pos = 1; ty = ref0; ref = λ x. x },
+    (
+      record { pos = 2; ty = ref1; ref = λ x. x },
+      (
+        record { pos = 3; ty = ref2; ref = λ x. x },
+        (
+          record { pos = 4; ty = ref3; ref = λ x. x },
+          (
+            record { pos = 7; st = List.[]; d = 0; at = λ x. x },
+            (Num.vLit 1, (record { pos = 6; st = List.[]; d = 0; at = λ x. x }, (Num.vLit 100, tt))),
+          ),
+        ),
+      ),
+    ),
+  )
+
   abbrev s3 : Typed.Both T4 T5
-  s3 = Call.callB ps·1 r·1 (claims· .2) (claims· .3) T4 (record { pos = 1; ty = Syntax.tyRef (Syntax.named 0) Syntax.imm RelayPending.to; ref = λ x.
-      x; }, (record { pos = 2; ty = Syntax.tyRef (Syntax.named 1) Syntax.imm RelayCircuit.to; ref = λ x. x; }, (record { pos = 3; ty = Syntax.tyRef
-      (Syntax.named 2) Syntax.imm ReservationUsage.to; ref = λ x. x; }, (record { pos = 4; ty = Syntax.tyRef (Syntax.named 3) Syntax.imm
-      InflightAction.to; ref = λ x. x; }, (record { pos = 7; st = List.[]; d = 0; at = λ x. x }, (Num.vLit 1, (record { pos = 6; st = List.[]; d = 0;
-      at = λ x. x }, (Num.vLit 100, tt)),),),),),),) 0 (0 ∷ 1 ∷ 2 ∷ 3 ∷ List.[]) Laws'.mir
+  s3 = Call.callB ps·1 r·1 (claims· .2) (claims· .3) T4 args3 0 (0 ∷ 1 ∷ 2 ∷ 3 ∷ List.[]) Laws'.mir
+
   abbrev s4 : Typed.Mo T5 → Typed.Mo T6
   s4 = Scalar.n-room T5 6 Laws.mir
+
   abbrev s5 : Typed.Mo T6 → Typed.Mo T7
   s5 = Scalar.n-room T6 7 (Syntax.tyArray (Syntax.tyInt Syntax.w8) 16)
+
   abbrev s6 : Typed.Mo T7 → Typed.Mo T8
   s6 = Scalar.n-room T7 5 (Syntax.tyInt Syntax.w64)
-  module _ (Pre· : (κs : Lifetimes.Lfts 4) → Kinds.Dens κs ps → Type 0) (Post· : (κs : Lifetimes.Lfts 4) → (a : Kinds.Dens κs ps) → Kinds.Plain 4 ps r
-      κs) where
+
+  module _ (Pre· : (κs : Lifetimes.Lfts 4) → Kinds.Dens κs ps → Type 0) (Post· : (κs : Lifetimes.Lfts 4) →
+      (a : Kinds.Dens κs ps) → Kinds.Plain 4 ps r κs) where
     module _ (M : Type 1) where
       abbrev pub Closed : Type 2
-      Closed = (𝓤 : URA.URA M) (H : Wp.Heap 𝓤) (A : Atoms.Atoms 𝓤) (W : Kit.Given 𝓤 H A) (𝓣 : Wp.Tables 𝓤 H) (known0 : Plain.Known 𝓤 H A W 𝓣 0 ps·0
-          r·0 (claims· .0) (claims· .1) "cases::script::configured") (known1 : Plain.Known 𝓤 H A W 𝓣 4 ps·1 r·1 (claims· .2) (claims· .3)
-          "hnsr_circuit::calls::new") → Statement.Triple 𝓤 (Wp.WpFn 𝓤 H (𝓣 .C) (𝓣 .Λ) (Function.fnOf 4 ps r xs m hs body)) (Function.plainOf 𝓤 H A 4
-          ps r Pre· Post·)
+      Closed = (𝓤 : URA.URA M) (H : Wp.Heap 𝓤) (A : Atoms.Atoms 𝓤) (W : Kit.Given 𝓤 H A) (𝓣 : Wp.Tables 𝓤 H) (known0 :
+          Plain.Known 𝓤 H A W 𝓣 0 ps·0 r·0 (claims· .0) (claims· .1) "cases::script::configured") (known1 : Plain.Known
+          𝓤 H A W 𝓣 4 ps·1 r·1 (claims· .2) (claims· .3) "hnsr_circuit::calls::new") → Statement.Triple 𝓤 (Wp.WpFn 𝓤 H
+          (𝓣 .C) (𝓣 .Λ) (Function.fnOf 4 ps r xs m hs body)) (Function.plainOf 𝓤 H A 4 ps r Pre· Post·)
+
     module _ where
       abbrev at0 : Typed.TF T8 O0
       at0 = Typed.atRet O0
+
       abbrev at1 : Typed.TF T7 O0
       at1 = λ Ψ. Typed.pass T7 T8 s6 (at0 Ψ)
+
       abbrev at2 : Typed.TF T6 O0
       at2 = λ Ψ. Typed.pass T6 T7 s5 (at1 Ψ)
+
       abbrev at3 : Typed.TF T5 O0
       at3 = λ Ψ. Typed.pass T5 T6 s4 (at2 Ψ)
+
       abbrev at4 : Typed.TF T4 O0
       at4 = λ Ψ. Typed.both s3 (at3 Ψ)
+
       abbrev at5 : Typed.TF T3 O0
       at5 = λ Ψ. Typed.pass T3 T4 s2 (at4 Ψ)
+
       abbrev at6 : Typed.TF T2 O0
       at6 = λ Ψ. Typed.pass T2 T3 s1 (at5 Ψ)
+
       abbrev at7 : Typed.TF T0 O0
       at7 = λ Ψ. Typed.both s0 (at6 Ψ)
+
       abbrev pub Φ : Typed.TF T0 O0
       Φ = at7
-      module _ { M : Type 1 } (𝓤 : URA.URA M) (H : Wp.Heap 𝓤) (A : Atoms.Atoms 𝓤) (W : Kit.Given 𝓤 H A) (𝓣 : Wp.Tables 𝓤 H) where
+
+      module _ {M : Type 1} (𝓤 : URA.URA M) (H : Wp.Heap 𝓤) (A : Atoms.Atoms 𝓤) (W : Kit.Given 𝓤 H A)
+          (𝓣 : Wp.Tables 𝓤 H) where
         abbrev Knowns : Type 1
-        Knowns = Plain.Known 𝓤 H A W 𝓣 0 ps·0 r·0 (claims· .0) (claims· .1) "cases::script::configured" × Plain.Known 𝓤 H A W 𝓣 4 ps·1 r·1 (claims·
-            .2) (claims· .3) "hnsr_circuit::calls::new"
+        Knowns = Plain.Known 𝓤 H A W 𝓣 0 ps·0 r·0 (claims· .0) (claims· .1) "cases::script::configured" × Plain.Known 𝓤
+            H A W 𝓣 4 ps·1 r·1 (claims· .2) (claims· .3) "hnsr_circuit::calls::new"
+
       module _ (κs : Lifetimes.Lfts 4) (qs : Lifetimes.Shares 4) where
         abbrev life0 : Row.Life
         life0 = Row.lease (κs .0) (qs .0)
+
         abbrev life1 : Row.Life
         life1 = Row.lease (κs .1 .0) (qs .1 .0)
+
         abbrev life2 : Row.Life
         life2 = Row.lease (κs .1 .1 .0) (qs .1 .1 .0)
+
         abbrev life3 : Row.Life
         life3 = Row.lease (κs .1 .1 .1 .0) (qs .1 .1 .1 .0)
+
         abbrev G0 : Row.Cx
-        G0 = record { locals = t0; slots = life0 ∷ life1 ∷ life2 ∷ life3 ∷ List.[]; }
+        G0 = record { locals = t0; slots = life0 ∷ life1 ∷ life2 ∷ life3 ∷ List.[] }
+
         abbrev G1 : Row.Cx
-        G1 = record { locals = t1; slots = life0 ∷ life1 ∷ life2 ∷ life3 ∷ List.[]; }
+        G1 = record { locals = t1; slots = life0 ∷ life1 ∷ life2 ∷ life3 ∷ List.[] }
+
         abbrev G2 : Row.Cx
-        G2 = record { locals = t2; slots = life0 ∷ life1 ∷ life2 ∷ life3 ∷ List.[]; }
+        G2 = record { locals = t2; slots = life0 ∷ life1 ∷ life2 ∷ life3 ∷ List.[] }
+
         abbrev G3 : Row.Cx
-        G3 = record { locals = t3; slots = life0 ∷ life1 ∷ life2 ∷ life3 ∷ List.[]; }
+        G3 = record { locals = t3; slots = life0 ∷ life1 ∷ life2 ∷ life3 ∷ List.[] }
+
         abbrev G4 : Row.Cx
-        G4 = record { locals = t4; slots = life0 ∷ life1 ∷ life2 ∷ life3 ∷ List.[]; }
+        G4 = record { locals = t4; slots = life0 ∷ life1 ∷ life2 ∷ life3 ∷ List.[] }
+
         abbrev G5 : Row.Cx
-        G5 = record { locals = t5; slots = life0 ∷ life1 ∷ life2 ∷ life3 ∷ List.[]; }
+        G5 = record { locals = t5; slots = life0 ∷ life1 ∷ life2 ∷ life3 ∷ List.[] }
+
         abbrev G6 : Row.Cx
-        G6 = record { locals = t6; slots = life0 ∷ life1 ∷ life2 ∷ life3 ∷ List.[]; }
+        G6 = record { locals = t6; slots = life0 ∷ life1 ∷ life2 ∷ life3 ∷ List.[] }
+
         abbrev G7 : Row.Cx
-        G7 = record { locals = t7; slots = life0 ∷ life1 ∷ life2 ∷ life3 ∷ List.[]; }
+        G7 = record { locals = t7; slots = life0 ∷ life1 ∷ life2 ∷ life3 ∷ List.[] }
+
         abbrev G8 : Row.Cx
-        G8 = record { locals = t1; slots = life0 ∷ life1 ∷ life2 ∷ life3 ∷ List.[]; }
+        G8 = record { locals = t1; slots = life0 ∷ life1 ∷ life2 ∷ life3 ∷ List.[] }
+
         abbrev Δ0 : Typed.Outs
         Δ0 = record { next = Option.none; exits = List.[]; returns = Option.some G1 }
-        module _ { M : Type 1 } (𝓤 : URA.URA M) (H : Wp.Heap 𝓤) (A : Atoms.Atoms 𝓤) (W : Kit.Given 𝓤 H A) (𝓣 : Wp.Tables 𝓤 H) (known : Knowns 𝓤 H A W
-            𝓣) (bs : List.List Nat.ℕ) (bd : Lifetimes.AllOutlive 4 (Kinds.osR r) κs) where
+
+        module _ {M : Type 1} (𝓤 : URA.URA M) (H : Wp.Heap 𝓤) (A : Atoms.Atoms 𝓤) (W : Kit.Given 𝓤 H A)
+            (𝓣 : Wp.Tables 𝓤 H) (known : Knowns 𝓤 H A W 𝓣) (bs : List.List Nat.ℕ)
+            (bd : Lifetimes.AllOutlive 4 (Kinds.osR r) κs) where
           abbrev E : Wp.Env 𝓤 H
           E = Frame.EnvOf 𝓤 H ((Kinds.tyR r) ∷ (Enter.tysP ps xs)) bs
+
           d0 : Typed.Typed 𝓤 H A 𝓣 E G8 b3 Δ0 at0
           d0 = Typed.t-return 𝓤 H A W 𝓣 E Δ0 tt
+
           d1 : Typed.Typed 𝓤 H A 𝓣 E G7 b3 Δ0 at1
-          d1 = Typed.g-pre 𝓤 H A W 𝓣 E G7 G8 b3 Δ0 (Typed.pass T7 T8 s6) at0 (Scalar.g-room 𝓤 H A W E G7 5 (Syntax.tyInt Syntax.w64) (Scalar.room-sc 𝓤
-              H A W (Row.sInt Syntax.w64))) d0
+          d1 = Typed.g-pre 𝓤 H A W 𝓣 E G7 G8 b3 Δ0 (Typed.pass T7 T8 s6) at0 (Scalar.g-room 𝓤 H A W E G7 5
+              (Syntax.tyInt Syntax.w64) (Scalar.room-sc 𝓤 H A W (Row.sInt Syntax.w64))) d0
+
           d2 : Typed.Typed 𝓤 H A 𝓣 E G6 b3 Δ0 at2
-          d2 = Typed.g-pre 𝓤 H A W 𝓣 E G6 G7 b3 Δ0 (Typed.pass T6 T7 s5) at1 (Scalar.g-room 𝓤 H A W E G6 7 (Syntax.tyArray (Syntax.tyInt Syntax.w8)
-              16) (Init.room-arr 𝓤 H A W (Referent.rtF (Referent.fInt Syntax.w8)) 16 0 16 Path.refl)) d1
+          d2 = Typed.g-pre 𝓤 H A W 𝓣 E G6 G7 b3 Δ0 (Typed.pass T6 T7 s5) at1 (Scalar.g-room 𝓤 H A W E G6 7
+              (Syntax.tyArray (Syntax.tyInt Syntax.w8) 16) (Init.room-arr 𝓤 H A W
+              (Referent.rtF (Referent.fInt Syntax.w8)) 16 0 16 Path.refl)) d1
+
           d3 : Typed.Typed 𝓤 H A 𝓣 E G5 b3 Δ0 at3
-          d3 = Typed.g-pre 𝓤 H A W 𝓣 E G5 G6 b3 Δ0 (Typed.pass T5 T6 s4) at2 (Scalar.g-room 𝓤 H A W E G5 6 Laws.mir (Local.room-whole 𝓤 H A W
-              (Declared.row OpaqueRelayConfig.the-type) Laws.mir Path.refl)) d2
+          d3 = Typed.g-pre 𝓤 H A W 𝓣 E G5 G6 b3 Δ0 (Typed.pass T5 T6 s4) at2 (Scalar.g-room 𝓤 H A W E G5 6 Laws.mir (Local.room-whole
+              𝓤 H A W (Declared.row OpaqueRelayConfig.the-type) Laws.mir Path.refl)) d2
+
           d4 : Typed.Typed 𝓤 H A 𝓣 E G4 b4 Δ0 at4
-          d4 = Typed.s-seq 𝓤 H A W 𝓣 E G4 G5 b2 b3 Δ0 (Typed.both s3) at3 (Plain.t-call-plain 𝓤 H A W 𝓣 4 ps·1 r·1 (claims· .2) (claims· .3)
-              "hnsr_circuit::calls::new" (known .1) E (λ pos β. β) G4 (record { pos = 1; ty = Syntax.tyRef (Syntax.named 0) Syntax.imm
-              RelayPending.to; ref = λ x. x; }, (record { pos = 2; ty = Syntax.tyRef (Syntax.named 1) Syntax.imm RelayCircuit.to; ref = λ x. x; },
-              (record { pos = 3; ty = Syntax.tyRef (Syntax.named 2) Syntax.imm ReservationUsage.to; ref = λ x. x; }, (record { pos = 4; ty =
-              Syntax.tyRef (Syntax.named 3) Syntax.imm InflightAction.to; ref = λ x. x; }, (record { pos = 7; st = List.[]; d = 0; at = λ x. x },
-              (Num.vLit 1, (record { pos = 6; st = List.[]; d = 0; at = λ x. x }, (Num.vLit 100, tt),),),),),),),) 0 (0 ∷ 1 ∷ 2 ∷ 3 ∷ List.[])
-              (Call.sub-id 𝓤 H A W (G4 .slots)) (ShrSlice.spares-sslice 𝓤 H A W RelayPending.row ref0 0, Shared.reads-sslice 𝓤 H A W RelayPending.row
-              ref0 0, Path.refl, (ShrSlice.spares-sslice 𝓤 H A W RelayCircuit.row ref1 1, Shared.reads-sslice 𝓤 H A W RelayCircuit.row ref1 1,
-              Path.refl, (ShrSlice.spares-sslice 𝓤 H A W ReservationUsage.row ref2 2, Shared.reads-sslice 𝓤 H A W ReservationUsage.row ref2 2,
-              Path.refl, (ShrSlice.spares-sslice 𝓤 H A W InflightAction.row ref3 3, Shared.reads-sslice 𝓤 H A W InflightAction.row ref3 3, Path.refl,
-              ((Array.arr-yields 𝓤 H A W (Array.eInt Syntax.w8) (Array.eInt-laws Syntax.w8) 16, Path.refl,), (tt, ((Yields.yields-copy 𝓤 H A W (λ ρ.
-              Unit) (Declared.row OpaqueRelayConfig.the-type) Path.refl (Copies.cStruct OpaqueRelayConfig.the-type Laws.the-laws Laws.the-copy .copy 𝓤
-              H A W) (Rows'.whole (Declared.row OpaqueRelayConfig.the-type)) (λ x. x) (λ x. x) (λ ρ told. Local.mem-whole 𝓤 H A W (Declared.row
-              OpaqueRelayConfig.the-type) ρ) λ ρ told. Local.whole-mem 𝓤 H A W (Declared.row OpaqueRelayConfig.the-type) ρ, Path.refl,), (tt,
-              tt),),),),),),),) (Reads.room-gone 𝓤 H A Laws'.mir) (tt, (tt, (tt, (tt, tt)))) Path.refl) d3
+          d4 = Typed.s-seq 𝓤 H A W 𝓣 E G4 G5 b2 b3 Δ0 (Typed.both s3) at3 (Plain.t-call-plain 𝓤 H A W 𝓣 4 ps·1 r·1
+              (claims· .2) (claims· .3) "hnsr_circuit::calls::new" (known .1) E (λ pos β. β) G4 (
+                record { pos = 1; ty = ref0; ref = λ x. x },
+                (
+                  record { pos = 2; ty = ref1; ref = λ x. x },
+                  (
+                    record { pos = 3; ty = ref2; ref = λ x. x },
+                    (
+                      record { pos = 4; ty = ref3; ref = λ x. x },
+                      (
+                        record { pos = 7; st = List.[]; d = 0; at = λ x. x },
+                        (Num.vLit 1, (record { pos = 6; st = List.[]; d = 0; at = λ x. x }, (Num.vLit 100, tt))),
+                      ),
+                    ),
+                  ),
+                ),
+              ) 0 (0 ∷ 1 ∷ 2 ∷ 3 ∷ List.[]) (Call.sub-id 𝓤 H A W (G4 .slots)) (
+                ShrSlice.spares-sslice 𝓤 H A W RelayPending.row ref0 0,
+                Shared.reads-sslice 𝓤 H A W RelayPending.row ref0 0,
+                Path.refl,
+                (
+                  ShrSlice.spares-sslice 𝓤 H A W RelayCircuit.row ref1 1,
+                  Shared.reads-sslice 𝓤 H A W RelayCircuit.row ref1 1,
+                  Path.refl,
+                  (
+                    ShrSlice.spares-sslice 𝓤 H A W ReservationUsage.row ref2 2,
+                    Shared.reads-sslice 𝓤 H A W ReservationUsage.row ref2 2,
+                    Path.refl,
+                    (
+                      ShrSlice.spares-sslice 𝓤 H A W InflightAction.row ref3 3,
+                      Shared.reads-sslice 𝓤 H A W InflightAction.row ref3 3,
+                      Path.refl,
+                      (
+                        (Array.arr-yields 𝓤 H A W (Array.eInt Syntax.w8) (Array.eInt-laws Syntax.w8) 16, Path.refl),
+                        (
+                          tt,
+                          (
+                            (
+                              Yields.yields-copy 𝓤 H A W (λ ρ. Unit) (Declared.row OpaqueRelayConfig.the-type)
+                                  Path.refl (Copies.cStruct OpaqueRelayConfig.the-type Laws.the-laws Laws.the-copy
+                                  .copy 𝓤 H A W) (Rows'.whole (Declared.row OpaqueRelayConfig.the-type)) (λ x. x)
+                                  (λ x. x) (λ ρ told. Local.mem-whole 𝓤 H A W (Declared.row OpaqueRelayConfig.the-type)
+                                  ρ) λ ρ told. Local.whole-mem 𝓤 H A W (Declared.row OpaqueRelayConfig.the-type) ρ,
+                              Path.refl,
+                            ),
+                            (tt, tt),
+                          ),
+                        ),
+                      ),
+                    ),
+                  ),
+                ),
+              ) (Reads.room-gone 𝓤 H A Laws'.mir) (tt, (tt, (tt, (tt, tt)))) Path.refl) d3
+
           d5 : Typed.Typed 𝓤 H A 𝓣 E G3 b4 Δ0 at5
-          d5 = Typed.g-pre 𝓤 H A W 𝓣 E G3 G4 b4 Δ0 (Typed.pass T3 T4 s2) at4 (AtSlots.g-as-by 𝓤 H A W E (λ ρ. Unit) G3 7 (Rows.arrF (Referent.rtF
-              (Referent.fInt Syntax.w8)) 16 0) (λ x. x) (Own.told-none 𝓤 H A (G3 .slots)) λ ρ told. Repeat.whole-arr 𝓤 H A W (Referent.rtF
-              (Referent.fInt Syntax.w8)) 16 tt ρ) d4
+          d5 = Typed.g-pre 𝓤 H A W 𝓣 E G3 G4 b4 Δ0 (Typed.pass T3 T4 s2) at4 (AtSlots.g-as-by 𝓤 H A W E (λ ρ. Unit) G3
+              7 (Rows.arrF (Referent.rtF (Referent.fInt Syntax.w8)) 16 0) (λ x. x) (Own.told-none 𝓤 H A (G3 .slots)) λ
+              ρ told. Repeat.whole-arr 𝓤 H A W (Referent.rtF (Referent.fInt Syntax.w8)) 16 tt ρ) d4
+
           d6 : Typed.Typed 𝓤 H A 𝓣 E G2 b5 Δ0 at6
-          d6 = Typed.s-seq 𝓤 H A W 𝓣 E G2 G3 b1 b4 Δ0 (Typed.pass T2 T3 s1) at5 (Repeat.t-repeat 𝓤 H A W E 𝓣 (Referent.rtF (Referent.fInt Syntax.w8))
-              (Plain'.uint-lawful 𝓤 H A W Syntax.w8) (Copies.cRf (Referent.fInt Syntax.w8) .copy 𝓤 H A W) (Plain'.uint-makes 𝓤 H A W Syntax.w8) 16 G2
-              7 (Scalar.oInt Syntax.w8 1) (λ m. 1) (Reads.room-gone 𝓤 H A (Syntax.tyArray (Syntax.tyInt Syntax.w8) 16)) tt Path.refl λ m wa.
-              (Path.refl, Dec.lit< tt)) d5
+          d6 = Typed.s-seq 𝓤 H A W 𝓣 E G2 G3 b1 b4 Δ0 (Typed.pass T2 T3 s1) at5 (Repeat.t-repeat 𝓤 H A W E 𝓣
+              (Referent.rtF (Referent.fInt Syntax.w8)) (Plain'.uint-lawful 𝓤 H A W Syntax.w8)
+              (Copies.cRf (Referent.fInt Syntax.w8) .copy 𝓤 H A W) (Plain'.uint-makes 𝓤 H A W Syntax.w8) 16 G2 7
+              (Scalar.oInt Syntax.w8 1) (λ m. 1) (Reads.room-gone 𝓤 H A (Syntax.tyArray (Syntax.tyInt Syntax.w8) 16))
+              tt Path.refl λ m wa. (Path.refl, Dec.lit< tt)) d5
+
           d7 : Typed.Typed 𝓤 H A 𝓣 E G0 b6 Δ0 at7
-          d7 = Typed.s-seq 𝓤 H A W 𝓣 E G0 G2 b0 b5 Δ0 (Typed.both s0) at6 (Plain.t-call-plain 𝓤 H A W 𝓣 0 ps·0 r·0 (claims· .0) (claims· .1)
-              "cases::script::configured" (known .0) E (λ pos β. β) G0 (Num.vAt 5 λ x. x, tt) 6 List.[] (Call.sub-id 𝓤 H A W (G0 .slots))
-              ((Scalar.reads-sc 𝓤 H A W (Row.sInt Syntax.w64), Path.refl), tt) (Reads.room-gone 𝓤 H A Laws.mir) tt Path.refl) d6
+          d7 = Typed.s-seq 𝓤 H A W 𝓣 E G0 G2 b0 b5 Δ0 (Typed.both s0) at6 (Plain.t-call-plain 𝓤 H A W 𝓣 0 ps·0 r·0
+              (claims· .0) (claims· .1) "cases::script::configured" (known .0) E (λ pos β. β) G0 (Num.vAt 5 λ x. x, tt)
+              6 List.[] (Call.sub-id 𝓤 H A W (G0 .slots)) (
+                (Scalar.reads-sc 𝓤 H A W (Row.sInt Syntax.w64), Path.refl),
+                tt,
+              ) (Reads.room-gone 𝓤 H A Laws.mir) tt Path.refl) d6
+
           pub typed : Typed.Typed 𝓤 H A 𝓣 E (Function.Γin 4 ps r xs m κs qs) b6 (Function.Δret 4 ps r xs m κs qs) Φ
           typed = d7
+
       module _ (κs : Lifetimes.Lfts 4) where
         pub record Args : Type 0 where
-          pub pending : Kinds.Den { n = 4 } κs (ShrSlice.pShrS RelayPending.row 0 tt)
-          pub circuits : Kinds.Den { n = 4 } κs (ShrSlice.pShrS RelayCircuit.row 1 tt)
-          pub ledger : Kinds.Den { n = 4 } κs (ShrSlice.pShrS ReservationUsage.row 2 tt)
-          pub inflight : Kinds.Den { n = 4 } κs (ShrSlice.pShrS InflightAction.row 3 tt)
-          pub queue : Kinds.Den { n = 4 } κs (Num.pNum Syntax.w64)
+          pub pending : Kinds.Den {n = 4} κs (ShrSlice.pShrS RelayPending.row 0 tt)
+          pub circuits : Kinds.Den {n = 4} κs (ShrSlice.pShrS RelayCircuit.row 1 tt)
+          pub ledger : Kinds.Den {n = 4} κs (ShrSlice.pShrS ReservationUsage.row 2 tt)
+          pub inflight : Kinds.Den {n = 4} κs (ShrSlice.pShrS InflightAction.row 3 tt)
+          pub queue : Kinds.Den {n = 4} κs (Num.pNum Syntax.w64)
+
         abbrev pub dens : (a : Args) → Kinds.Dens κs ps
         dens = λ a. (a .pending, (a .circuits, (a .ledger, (a .inflight, (a .queue, tt)))))
+
         module _ (args· : Args) where
           pub record Ranges : Type 0 where
             pub queue : Val.Fits Syntax.w64 (args· .queue)
+
       abbrev pub m0 : (κs : Lifetimes.Lfts 4) → (args : Args κs) → Typed.Mo T0
       m0 = λ κs args. (tt, Enter.partsP κs 1 ps xs (dens κs args))
+
       abbrev W0 : (κs : Lifetimes.Lfts 4) → (args : Args κs) → Typed.Want O0
-      W0 = λ κs args. (λ u. ⊥, tt, λ u. Enter.Fixs κs 1 ps xs (dens κs args) (u .1) × Post· κs (dens κs args) (Function.resV r κs (u .0))
-          (Clauses.atExit (Kinds.endedOf 4 ps r) κs (dens κs args) (Enter.lastsP κs 1 ps xs (dens κs args) (u .1))),)
+      W0 = λ κs args. (
+        λ u. ⊥,
+        tt,
+        λ u. Enter.Fixs κs 1 ps xs (dens κs args) (u .1) × Post· κs (dens κs args) (Function.resV r κs (u .0)) (Clauses.atExit
+            (Kinds.endedOf 4 ps r) κs (dens κs args) (Enter.lastsP κs 1 ps xs (dens κs args) (u .1))),
+      )
+
       pub record Start : Type 0 where
         pub κs : Lifetimes.Lfts 4
         pub args : Args κs
         pub good : Kinds.GoodsP κs ps (dens κs args)
         pub fits : Ranges κs args
         pub pre : Pre· κs (dens κs args)
+
       abbrev pub Need-configured-requires : Type 0
       Need-configured-requires = (c : Start) → s0 .asks (m0 (c .κs) (c .args))
+
       abbrev pub m1 : (before : Start) → (given : s0 .gives (m0 (before .κs) (before .args))) → Typed.Mo T2
       m1 = λ before given. s0 .next (m0 (before .κs) (before .args)) given
+
       module _ (before· : Start) where
         abbrev pub After-configured·own : Type 0
-        After-configured·own = Called.Called ps·0 r·0 (claims· .1) T0 (Num.vAt 5 λ x. x, tt) (m0 (before· .κs) (before· .args))
+        After-configured·own = Called.Called ps·0 r·0 (claims· .1) T0 args0 (m0 (before· .κs) (before· .args))
+
       pub record After-configured : Type 0 where
         pub before : Start
         pub configured : After-configured·own before
+
       abbrev pub After-configured·gave : (c : After-configured) → s0 .gives (m0 (c .before .κs) (c .before .args))
-      After-configured·gave = λ c. Called.given ps·0 r·0 (claims· .1) T0 (Num.vAt 5 λ x. x, tt) (m0 (c .before .κs) (c .before .args)) (c .configured)
+      After-configured·gave = λ c. Called.given ps·0 r·0 (claims· .1) T0 args0 (m0 (c .before .κs) (c .before .args))
+          (c .configured)
+
       abbrev pub m2 : (before : Start) → (given : s0 .gives (m0 (before .κs) (before .args))) → Typed.Mo T3
       m2 = λ before given. s1 (m1 before given)
+
       abbrev pub m3 : (before : Start) → (given : s0 .gives (m0 (before .κs) (before .args))) → Typed.Mo T4
       m3 = λ before given. s2 (m2 before given)
+
       abbrev pub Need-new-requires : Type 0
       Need-new-requires = (c : After-configured) → s3 .asks (m3 (c .before) (After-configured·gave c))
-      abbrev pub m4 : (before : After-configured) → (given : s3 .gives (m3 (before .before) (After-configured·gave before))) → Typed.Mo T5
+
+      abbrev pub m4 : (before : After-configured) → (given : s3 .gives
+          (m3 (before .before) (After-configured·gave before))) → Typed.Mo T5
       m4 = λ before given. s3 .next (m3 (before .before) (After-configured·gave before)) given
+
       module _ (before· : After-configured) where
         abbrev pub After-new·own : Type 0
-        After-new·own = Called.Called ps·1 r·1 (claims· .3) T4 (record { pos = 1; ty = Syntax.tyRef (Syntax.named 0) Syntax.imm RelayPending.to; ref =
-            λ x. x; }, (record { pos = 2; ty = Syntax.tyRef (Syntax.named 1) Syntax.imm RelayCircuit.to; ref = λ x. x; }, (record { pos = 3; ty =
-            Syntax.tyRef (Syntax.named 2) Syntax.imm ReservationUsage.to; ref = λ x. x; }, (record { pos = 4; ty = Syntax.tyRef (Syntax.named 3)
-            Syntax.imm InflightAction.to; ref = λ x. x; }, (record { pos = 7; st = List.[]; d = 0; at = λ x. x }, (Num.vLit 1, (record { pos = 6; st =
-            List.[]; d = 0; at = λ x. x }, (Num.vLit 100, tt)),),),),),),) (m3 (before· .before) (After-configured·gave before·))
+        After-new·own = Called.Called ps·1 r·1 (claims· .3) T4 args3
+            (m3 (before· .before) (After-configured·gave before·))
+
       pub record After-new : Type 0 where
         pub before : After-configured
         pub new : After-new·own before
-      abbrev pub After-new·gave : (c : After-new) → s3 .gives (m3 (c .before .before) (After-configured·gave (c .before)))
-      After-new·gave = λ c. Called.given ps·1 r·1 (claims· .3) T4 (record { pos = 1; ty = Syntax.tyRef (Syntax.named 0) Syntax.imm RelayPending.to;
-          ref = λ x. x; }, (record { pos = 2; ty = Syntax.tyRef (Syntax.named 1) Syntax.imm RelayCircuit.to; ref = λ x. x; }, (record { pos = 3; ty =
-          Syntax.tyRef (Syntax.named 2) Syntax.imm ReservationUsage.to; ref = λ x. x; }, (record { pos = 4; ty = Syntax.tyRef (Syntax.named 3)
-          Syntax.imm InflightAction.to; ref = λ x. x; }, (record { pos = 7; st = List.[]; d = 0; at = λ x. x }, (Num.vLit 1, (record { pos = 6; st =
-          List.[]; d = 0; at = λ x. x }, (Num.vLit 100, tt)),),),),),),) (m3 (c .before .before) (After-configured·gave (c .before))) (c .new)
-      abbrev pub m5 : (before : After-configured) → (given : s3 .gives (m3 (before .before) (After-configured·gave before))) → Typed.Mo T6
+
+      abbrev pub After-new·gave : (c : After-new) → s3 .gives (m3 (c .before .before)
+          (After-configured·gave (c .before)))
+      After-new·gave = λ c. Called.given ps·1 r·1 (claims· .3) T4 args3 (m3 (c .before .before)
+          (After-configured·gave (c .before))) (c .new)
+
+      abbrev pub m5 : (before : After-configured) → (given : s3 .gives
+          (m3 (before .before) (After-configured·gave before))) → Typed.Mo T6
       m5 = λ before given. s4 (m4 before given)
-      abbrev pub m6 : (before : After-configured) → (given : s3 .gives (m3 (before .before) (After-configured·gave before))) → Typed.Mo T7
+
+      abbrev pub m6 : (before : After-configured) → (given : s3 .gives
+          (m3 (before .before) (After-configured·gave before))) → Typed.Mo T7
       m6 = λ before given. s5 (m5 before given)
-      abbrev pub m7 : (before : After-configured) → (given : s3 .gives (m3 (before .before) (After-configured·gave before))) → Typed.Mo T8
+
+      abbrev pub m7 : (before : After-configured) → (given : s3 .gives
+          (m3 (before .before) (After-configured·gave before))) → Typed.Mo T8
       m7 = λ before given. s6 (m6 before given)
+
       abbrev pub Need-returns : Type 0
-      Need-returns = (c : After-new) → Post· (c .before .before .κs) (dens (c .before .before .κs) (c .before .before .args)) (Function.resV r (c
-          .before .before .κs) (m7 (c .before) (After-new·gave c) .0)) (Clauses.atExit (Kinds.endedOf 4 ps r) (c .before .before .κs) (dens (c .before
-          .before .κs) (c .before .before .args)) (Enter.lastsP (c .before .before .κs) 1 ps xs (dens (c .before .before .κs) (c .before .before
-          .args)) (m7 (c .before) (After-new·gave c) .1)))
-      module _ (configured-requires : Need-configured-requires) (new-requires : Need-new-requires) (returns : Need-returns) where
-        lay2 : (c : After-new) → at3 (W0 (c .before .before .κs) (c .before .before .args)) (m4 (c .before) (After-new·gave c))
-        lay2 = λ c. ((Path.refl, (Path.refl, (Path.refl, (Path.refl, (tt, tt))))), returns record { before = c .before; new = c .new },)
-        lay1 : (c : After-configured) → at6 (W0 (c .before .κs) (c .before .args)) (m1 (c .before) (After-configured·gave c))
-        lay1 = λ c. (new-requires record { before = c .before; configured = c .configured }, λ g. lay2 record { before = record { before = c .before;
-            configured = c .configured }; new = Called.called ps·1 r·1 (claims· .3) T4 (record { pos = 1; ty = Syntax.tyRef (Syntax.named 0)
-            Syntax.imm RelayPending.to; ref = λ x. x; }, (record { pos = 2; ty = Syntax.tyRef (Syntax.named 1) Syntax.imm RelayCircuit.to; ref = λ x.
-            x; }, (record { pos = 3; ty = Syntax.tyRef (Syntax.named 2) Syntax.imm ReservationUsage.to; ref = λ x. x; }, (record { pos = 4; ty =
-            Syntax.tyRef (Syntax.named 3) Syntax.imm InflightAction.to; ref = λ x. x; }, (record { pos = 7; st = List.[]; d = 0; at = λ x. x },
-            (Num.vLit 1, (record { pos = 6; st = List.[]; d = 0; at = λ x. x }, (Num.vLit 100, tt),),),),),),),) (m3 (c .before)
-            (After-configured·gave c)) g; },)
+      Need-returns = (c : After-new) → Post· (c .before .before .κs)
+          (dens (c .before .before .κs) (c .before .before .args)) (Function.resV r (c .before .before .κs)
+          (m7 (c .before) (After-new·gave c) .0)) (Clauses.atExit (Kinds.endedOf 4 ps r) (c .before .before .κs)
+          (dens (c .before .before .κs) (c .before .before .args)) (Enter.lastsP (c .before .before .κs) 1 ps xs
+          (dens (c .before .before .κs) (c .before .before .args)) (m7 (c .before) (After-new·gave c) .1)))
+
+      module _ (configured-requires : Need-configured-requires) (new-requires : Need-new-requires)
+          (returns : Need-returns) where
+        lay2 : (c : After-new) → at3 (W0 (c .before .before .κs) (c .before .before .args))
+            (m4 (c .before) (After-new·gave c))
+        lay2 = λ c. (
+          (Path.refl, (Path.refl, (Path.refl, (Path.refl, (tt, tt))))),
+          returns record { before = c .before; new = c .new },
+        )
+
+        lay1 : (c : After-configured) → at6 (W0 (c .before .κs) (c .before .args))
+            (m1 (c .before) (After-configured·gave c))
+        lay1 = λ c. (
+          new-requires record { before = c .before; configured = c .configured },
+          λ g. lay2 record {
+            before = record { before = c .before; configured = c .configured };
+            new = Called.called ps·1 r·1 (claims· .3) T4 args3 (m3 (c .before) (After-configured·gave c)) g;
+          },
+        )
+
         pub laid : (c : Start) → at7 (W0 (c .κs) (c .args)) (m0 (c .κs) (c .args))
-        laid = λ c. (configured-requires c, λ g. lay1 record { before = c; configured = Called.called ps·0 r·0 (claims· .1) T0 (Num.vAt 5 λ x. x, tt)
-            (m0 (c .κs) (c .args)) g; },)
+        laid = λ c. (
+          configured-requires c,
+          λ g. lay1 record {
+            before = c;
+            configured = Called.called ps·0 r·0 (claims· .1) T0 args0 (m0 (c .κs) (c .args)) g;
+          },
+        )
+
         module _ (κs : Lifetimes.Lfts 4) (qs : Lifetimes.Shares 4) where
-          pub asked : (a : Kinds.Dens κs ps) → (good : Kinds.GoodsP κs ps a) → (pre : Pre· κs a) → (bs : List.List Nat.ℕ) → Φ (Any.wantQ 4 ps r xs m
-              κs qs a (Post· κs a)) (Function.init 4 ps r xs m κs qs a)
-          asked = λ a good pre bs. laid record { κs = κs; args = record { pending = a .0; circuits = a .1 .0; ledger = a .1 .1 .0; inflight = a .1 .1
-              .1 .0; queue = a .1 .1 .1 .1 .0; }; good = good; fits = record { queue = record { fits = good .1 .1 .1 .1 .0 .1 } }; pre = pre; }
-        module _ { M : Type 1 } (𝓤 : URA.URA M) (H : Wp.Heap 𝓤) (A : Atoms.Atoms 𝓤) (W : Kit.Given 𝓤 H A) (𝓣 : Wp.Tables 𝓤 H) (known0 : Plain.Known 𝓤
-            H A W 𝓣 0 ps·0 r·0 (claims· .0) (claims· .1) "cases::script::configured") (known1 : Plain.Known 𝓤 H A W 𝓣 4 ps·1 r·1 (claims· .2) (claims·
-            .3) "hnsr_circuit::calls::new") where
-          pub spec : Statement.Triple 𝓤 (Wp.WpFn 𝓤 H (𝓣 .C) (𝓣 .Λ) (Function.fnOf 4 ps r xs m hs body)) (Function.plainOf 𝓤 H A 4 ps r Pre· Post·)
-          spec = Plain.t-fn-plain 𝓤 H A W 𝓣 4 ps r xs m hs body (λ κs qs bs. Φ) (λ κs qs bs bd. typed κs qs 𝓤 H A W 𝓣 (known0, known1) bs bd) Pre·
-              Post· asked
+          pub asked : (a : Kinds.Dens κs ps) → (good : Kinds.GoodsP κs ps a) → (pre : Pre· κs a) →
+              (bs : List.List Nat.ℕ) → Φ (Any.wantQ 4 ps r xs m κs qs a (Post· κs a))
+              (Function.init 4 ps r xs m κs qs a)
+          asked = λ a good pre bs. laid record {
+            κs = κs;
+            args = record {
+              pending = a .0;
+              circuits = a .1 .0;
+              ledger = a .1 .1 .0;
+              inflight = a .1 .1 .1 .0;
+              queue = a .1 .1 .1 .1 .0;
+            };
+            good = good;
+            fits = record { queue = record { fits = good .1 .1 .1 .1 .0 .1 } };
+            pre = pre;
+          }
+
+        module _ {M : Type 1} (𝓤 : URA.URA M) (H : Wp.Heap 𝓤) (A : Atoms.Atoms 𝓤) (W : Kit.Given 𝓤 H A)
+            (𝓣 : Wp.Tables 𝓤 H) (known0 : Plain.Known 𝓤 H A W 𝓣 0 ps·0 r·0 (claims· .0) (claims· .1)
+            "cases::script::configured") (known1 : Plain.Known 𝓤 H A W 𝓣 4 ps·1 r·1 (claims· .2) (claims· .3)
+            "hnsr_circuit::calls::new") where
+          pub spec : Statement.Triple 𝓤 (Wp.WpFn 𝓤 H (𝓣 .C) (𝓣 .Λ) (Function.fnOf 4 ps r xs m hs body))
+              (Function.plainOf 𝓤 H A 4 ps r Pre· Post·)
+          spec = Plain.t-fn-plain 𝓤 H A W 𝓣 4 ps r xs m hs body (λ κs qs bs. Φ) (λ κs qs bs bd. typed κs qs 𝓤 H A W 𝓣
+              (known0, known1) bs bd) Pre· Post· asked

@@ -4,6 +4,7 @@ use Rattle.cases.proofs.By.InflightAction
 use Rattle.cases.proofs.By.RelayCircuit
 use Rattle.cases.proofs.By.RelayPending
 use Rattle.cases.proofs.By.ReservationUsage
+use Rattle.cases.proofs.StructRow
 use Rattle.hnsr_circuit.proofs.places.Places
 use Rattle.hnsr_circuit.proofs.places.Places.Laws
 use Rattle.hnsr_circuit.proofs.records.RelayPacket
@@ -23,7 +24,6 @@ use borrow.Fn.Plain
 use borrow.Kind.MutSlice
 use borrow.Kind.Num
 use borrow.Kind.ShrSlice
-use borrow.Kind.Value
 use borrow.Rule.Array.Gives
 use borrow.Rule.Array.Init
 use borrow.Rule.Array.Repeat
@@ -55,12 +55,10 @@ use borrow.Table.Rows as Rows'
 use borrow.Table.Typed
 use contract.Lifetimes
 use denote.Array
-use denote.Exit
 use denote.Plain as Plain'
 use denote.Steps
 use denote.Struct.At
 use denote.Struct.Declared
-use denote.Struct.Laws as Laws''''
 use denote.Triple.Clauses
 use denote.Triple.Statement
 use ghost.Atoms
@@ -77,1470 +75,2679 @@ use mathlib.Core.List.{_∷_}
 
 abbrev ref0 : Syntax.Ty
 ref0 = Syntax.tyRef Syntax.erased Syntax.mut RelayPending.to
+
 abbrev ref1 : Syntax.Ty
 ref1 = Syntax.tyRef Syntax.erased Syntax.mut RelayCircuit.to
+
 abbrev ref2 : Syntax.Ty
 ref2 = Syntax.tyRef Syntax.erased Syntax.mut ReservationUsage.to
+
 abbrev ref3 : Syntax.Ty
 ref3 = Syntax.tyRef Syntax.erased Syntax.mut InflightAction.to
+
 abbrev ref4 : Syntax.Ty
 ref4 = Syntax.tyRef Syntax.erased Syntax.mut (Syntax.tyInt Syntax.w32)
+
 abbrev ref5 : Syntax.Ty
 ref5 = Syntax.tyRef Syntax.erased Syntax.imm (Syntax.tyArray (Syntax.tyInt Syntax.w8) 1)
+
 abbrev ref6 : Syntax.Ty
 ref6 = Syntax.tyRef Syntax.erased Syntax.imm (Syntax.tyInt Syntax.w8)
+
 abbrev ref7 : Syntax.Ty
 ref7 = Syntax.tyRef (Syntax.named 0) Syntax.mut RelayPending.to
+
 abbrev ref8 : Syntax.Ty
 ref8 = Syntax.tyRef (Syntax.named 1) Syntax.mut RelayCircuit.to
+
 abbrev ref9 : Syntax.Ty
 ref9 = Syntax.tyRef (Syntax.named 2) Syntax.mut ReservationUsage.to
+
 abbrev ref10 : Syntax.Ty
 ref10 = Syntax.tyRef (Syntax.named 3) Syntax.mut InflightAction.to
+
 abbrev ref11 : Syntax.Ty
 ref11 = Syntax.tyRef (Syntax.named 4) Syntax.mut (Syntax.tyInt Syntax.w32)
+
 abbrev ref12 : Syntax.Ty
 ref12 = Syntax.tyRef (Syntax.named 5) Syntax.imm (Syntax.tyInt Syntax.w8)
+
+abbrev slice0 : Syntax.Ty
+slice0 = Syntax.tyStruct (38 ∷ 91 ∷ 93 ∷ List.[]) (Syntax.tcons ref0
+    (Syntax.tcons (Syntax.tyInt Syntax.w64) Syntax.tnil))
+
+abbrev slice1 : Syntax.Ty
+slice1 = Syntax.tyStruct (38 ∷ 91 ∷ 93 ∷ List.[]) (Syntax.tcons ref1
+    (Syntax.tcons (Syntax.tyInt Syntax.w64) Syntax.tnil))
+
+abbrev slice2 : Syntax.Ty
+slice2 = Syntax.tyStruct (38 ∷ 91 ∷ 93 ∷ List.[]) (Syntax.tcons ref2
+    (Syntax.tcons (Syntax.tyInt Syntax.w64) Syntax.tnil))
+
+abbrev slice3 : Syntax.Ty
+slice3 = Syntax.tyStruct (38 ∷ 91 ∷ 93 ∷ List.[]) (Syntax.tcons ref3
+    (Syntax.tcons (Syntax.tyInt Syntax.w64) Syntax.tnil))
+
+abbrev slice4 : Syntax.Ty
+slice4 = Syntax.tyStruct (38 ∷ 91 ∷ 93 ∷ List.[]) (Syntax.tcons ref4
+    (Syntax.tcons (Syntax.tyInt Syntax.w64) Syntax.tnil))
+
+abbrev slice6 : Syntax.Ty
+slice6 = Syntax.tyStruct (38 ∷ 91 ∷ 93 ∷ List.[]) (Syntax.tcons ref6
+    (Syntax.tcons (Syntax.tyInt Syntax.w64) Syntax.tnil))
+
 abbrev pub ps : List.List (Kinds.PK 6)
-ps = (MutSlice.pMutS RelayPending.row 0 tt) ∷ (MutSlice.pMutS RelayCircuit.row 1 tt) ∷ (MutSlice.pMutS ReservationUsage.row 2 tt) ∷ (MutSlice.pMutS
-    InflightAction.row 3 tt) ∷ (MutSlice.pMutS (Referent.rtF (Referent.fInt Syntax.w32)) 4 tt) ∷ (Value.pVal record { ty = Declared.row
-    Relayed.the-type; one = Path.refl; val = Laws''''.val Relayed.the-type Laws'''.the-laws; tells = Laws''''.tells Relayed.the-type Laws'''.the-laws;
-    still = Laws''''.still Relayed.the-type Laws'''.the-copy Exit.yes; row = Rows'.whole (Declared.row Relayed.the-type); rd = λ x. x; mk = λ x. x; }
-    λ M 𝓤 H A W. record { copies = Laws''''.copy Relayed.the-type Laws'''.the-copy 𝓤 H A W; lawful = Laws''''.lawful Relayed.the-type Laws'''.the-laws
-    𝓤 H A W; makes = Laws''''.makes Relayed.the-type Laws'''.the-plain 𝓤 H A; in-mem = Local.mem-whole 𝓤 H A W (Declared.row Relayed.the-type); of-mem
-    = Local.whole-mem 𝓤 H A W (Declared.row Relayed.the-type); }) ∷ (Value.pVal record { ty = Declared.row RelayPacket.the-type; one = Path.refl; val
-    = Laws''''.val RelayPacket.the-type Laws'.the-laws; tells = Laws''''.tells RelayPacket.the-type Laws'.the-laws; still = Laws''''.still
-    RelayPacket.the-type Laws'.the-copy Exit.yes; row = Rows'.whole (Declared.row RelayPacket.the-type); rd = λ x. x; mk = λ x. x; } λ M 𝓤 H A W.
-    record { copies = Laws''''.copy RelayPacket.the-type Laws'.the-copy 𝓤 H A W; lawful = Laws''''.lawful RelayPacket.the-type Laws'.the-laws 𝓤 H A W;
-    makes = Laws''''.makes RelayPacket.the-type Laws'.the-plain 𝓤 H A; in-mem = Local.mem-whole 𝓤 H A W (Declared.row RelayPacket.the-type); of-mem =
-    Local.whole-mem 𝓤 H A W (Declared.row RelayPacket.the-type); }) ∷ (Num.pNum Syntax.w8) ∷ (ShrSlice.pShrS (Referent.rtF (Referent.fInt Syntax.w8))
-    5 tt) ∷ List.[]
+ps = (MutSlice.pMutS RelayPending.row 0 tt) ∷ (MutSlice.pMutS RelayCircuit.row 1 tt) ∷
+    (MutSlice.pMutS ReservationUsage.row 2 tt) ∷ (MutSlice.pMutS InflightAction.row 3 tt) ∷ (MutSlice.pMutS
+    (Referent.rtF (Referent.fInt Syntax.w32)) 4 tt) ∷ (StructRow.param Relayed.the-type Laws'''.the-laws
+    Laws'''.the-copy Laws'''.the-plain) ∷ (StructRow.param RelayPacket.the-type Laws'.the-laws Laws'.the-copy
+    Laws'.the-plain) ∷ (Num.pNum Syntax.w8) ∷ (ShrSlice.pShrS (Referent.rtF (Referent.fInt Syntax.w8)) 5 tt) ∷ List.[]
+
 abbrev pub r : Kinds.RK 6
-r = Value.rVal record { ty = Declared.row Relayed.the-type; one = Path.refl; val = Laws''''.val Relayed.the-type Laws'''.the-laws; tells =
-    Laws''''.tells Relayed.the-type Laws'''.the-laws; still = Laws''''.still Relayed.the-type Laws'''.the-copy Exit.yes; row = Rows'.whole
-    (Declared.row Relayed.the-type); rd = λ x. x; mk = λ x. x; } λ M 𝓤 H A W. record { copies = Laws''''.copy Relayed.the-type Laws'''.the-copy 𝓤 H A
-    W; lawful = Laws''''.lawful Relayed.the-type Laws'''.the-laws 𝓤 H A W; makes = Laws''''.makes Relayed.the-type Laws'''.the-plain 𝓤 H A; in-mem =
-    Local.mem-whole 𝓤 H A W (Declared.row Relayed.the-type); of-mem = Local.whole-mem 𝓤 H A W (Declared.row Relayed.the-type); }
+r = StructRow.result Relayed.the-type Laws'''.the-laws Laws'''.the-copy Laws'''.the-plain
+
 abbrev pub xs : List.List Syntax.Ty
-xs = (Syntax.tyArray (Syntax.tyInt Syntax.w8) 1) ∷ (Syntax.tyArray (Syntax.tyInt Syntax.w8) 1) ∷ Laws''.mir ∷ Laws.mir ∷ ref0 ∷ (Syntax.tyStruct (38 ∷
-    91 ∷ 93 ∷ List.[]) (Syntax.tcons ref0 (Syntax.tcons (Syntax.tyInt Syntax.w64) Syntax.tnil))) ∷ ref1 ∷ (Syntax.tyStruct (38 ∷ 91 ∷ 93 ∷ List.[])
-    (Syntax.tcons ref1 (Syntax.tcons (Syntax.tyInt Syntax.w64) Syntax.tnil))) ∷ ref2 ∷ (Syntax.tyStruct (38 ∷ 91 ∷ 93 ∷ List.[]) (Syntax.tcons ref2
-    (Syntax.tcons (Syntax.tyInt Syntax.w64) Syntax.tnil))) ∷ ref3 ∷ (Syntax.tyStruct (38 ∷ 91 ∷ 93 ∷ List.[]) (Syntax.tcons ref3 (Syntax.tcons
-    (Syntax.tyInt Syntax.w64) Syntax.tnil))) ∷ ref4 ∷ (Syntax.tyStruct (38 ∷ 91 ∷ 93 ∷ List.[]) (Syntax.tcons ref4 (Syntax.tcons (Syntax.tyInt
-    Syntax.w64) Syntax.tnil))) ∷ ref5 ∷ (Syntax.tyStruct (38 ∷ 91 ∷ 93 ∷ List.[]) (Syntax.tcons ref6 (Syntax.tcons (Syntax.tyInt Syntax.w64)
-    Syntax.tnil))) ∷ ref5 ∷ (Syntax.tyStruct (38 ∷ 91 ∷ 93 ∷ List.[]) (Syntax.tcons ref6 (Syntax.tcons (Syntax.tyInt Syntax.w64) Syntax.tnil))) ∷ ref5
-    ∷ (Syntax.tyStruct (38 ∷ 91 ∷ 93 ∷ List.[]) (Syntax.tcons ref6 (Syntax.tcons (Syntax.tyInt Syntax.w64) Syntax.tnil))) ∷ List.[]
+xs = (Syntax.tyArray (Syntax.tyInt Syntax.w8) 1) ∷ (Syntax.tyArray (Syntax.tyInt Syntax.w8) 1) ∷ Laws''.mir ∷ Laws.mir
+    ∷ ref0 ∷ slice0 ∷ ref1 ∷ slice1 ∷ ref2 ∷ slice2 ∷ ref3 ∷ slice3 ∷ ref4 ∷ slice4 ∷ ref5 ∷ slice6 ∷ ref5 ∷ slice6 ∷
+    ref5 ∷ slice6 ∷ List.[]
+
 abbrev pub m : Nat.ℕ
 m = 7
+
 abbrev pub ps·0 : List.List (Kinds.PK 9)
-ps·0 = (MutSlice.pMutS RelayPending.row 0 tt) ∷ (MutSlice.pMutS RelayCircuit.row 1 tt) ∷ (MutSlice.pMutS ReservationUsage.row 2 tt) ∷ (MutSlice.pMutS
-    InflightAction.row 3 tt) ∷ (MutSlice.pMutS (Referent.rtF (Referent.fInt Syntax.w32)) 4 tt) ∷ (Value.pVal record { ty = Declared.row
-    OpaqueRelayRuntime.the-type; one = Path.refl; val = Laws''''.val OpaqueRelayRuntime.the-type Laws''.the-laws; tells = Laws''''.tells
-    OpaqueRelayRuntime.the-type Laws''.the-laws; still = Laws''''.still OpaqueRelayRuntime.the-type Laws''.the-copy Exit.yes; row = Rows'.whole
-    (Declared.row OpaqueRelayRuntime.the-type); rd = λ x. x; mk = λ x. x; } λ M 𝓤 H A W. record { copies = Laws''''.copy OpaqueRelayRuntime.the-type
-    Laws''.the-copy 𝓤 H A W; lawful = Laws''''.lawful OpaqueRelayRuntime.the-type Laws''.the-laws 𝓤 H A W; makes = Laws''''.makes
-    OpaqueRelayRuntime.the-type Laws''.the-plain 𝓤 H A; in-mem = Local.mem-whole 𝓤 H A W (Declared.row OpaqueRelayRuntime.the-type); of-mem =
-    Local.whole-mem 𝓤 H A W (Declared.row OpaqueRelayRuntime.the-type); }) ∷ (Value.pVal record { ty = Declared.row Places.the-type; one = Path.refl;
-    val = Laws''''.val Places.the-type Laws.the-laws; tells = Laws''''.tells Places.the-type Laws.the-laws; still = Laws''''.still Places.the-type
-    Laws.the-copy Exit.yes; row = Rows'.whole (Declared.row Places.the-type); rd = λ x. x; mk = λ x. x; } λ M 𝓤 H A W. record { copies = Laws''''.copy
-    Places.the-type Laws.the-copy 𝓤 H A W; lawful = Laws''''.lawful Places.the-type Laws.the-laws 𝓤 H A W; makes = Laws''''.makes Places.the-type
-    Laws.the-plain 𝓤 H A; in-mem = Local.mem-whole 𝓤 H A W (Declared.row Places.the-type); of-mem = Local.whole-mem 𝓤 H A W (Declared.row
-    Places.the-type); }) ∷ (Value.pVal record { ty = Declared.row RelayPacket.the-type; one = Path.refl; val = Laws''''.val RelayPacket.the-type
-    Laws'.the-laws; tells = Laws''''.tells RelayPacket.the-type Laws'.the-laws; still = Laws''''.still RelayPacket.the-type Laws'.the-copy Exit.yes;
-    row = Rows'.whole (Declared.row RelayPacket.the-type); rd = λ x. x; mk = λ x. x; } λ M 𝓤 H A W. record { copies = Laws''''.copy
-    RelayPacket.the-type Laws'.the-copy 𝓤 H A W; lawful = Laws''''.lawful RelayPacket.the-type Laws'.the-laws 𝓤 H A W; makes = Laws''''.makes
-    RelayPacket.the-type Laws'.the-plain 𝓤 H A; in-mem = Local.mem-whole 𝓤 H A W (Declared.row RelayPacket.the-type); of-mem = Local.whole-mem 𝓤 H A W
-    (Declared.row RelayPacket.the-type); }) ∷ (ShrSlice.pShrS (Referent.rtF (Referent.fInt Syntax.w8)) 5 tt) ∷ (ShrSlice.pShrS (Referent.rtF
-    (Referent.fInt Syntax.w8)) 6 tt) ∷ (ShrSlice.pShrS (Referent.rtF (Referent.fInt Syntax.w8)) 7 tt) ∷ (ShrSlice.pShrS (Referent.rtF (Referent.fInt
-    Syntax.w8)) 8 tt) ∷ List.[]
+ps·0 = (MutSlice.pMutS RelayPending.row 0 tt) ∷ (MutSlice.pMutS RelayCircuit.row 1 tt) ∷
+    (MutSlice.pMutS ReservationUsage.row 2 tt) ∷ (MutSlice.pMutS InflightAction.row 3 tt) ∷ (MutSlice.pMutS
+    (Referent.rtF (Referent.fInt Syntax.w32)) 4 tt) ∷ (StructRow.param OpaqueRelayRuntime.the-type Laws''.the-laws
+    Laws''.the-copy Laws''.the-plain) ∷ (StructRow.param Places.the-type Laws.the-laws Laws.the-copy Laws.the-plain) ∷ (StructRow.param
+    RelayPacket.the-type Laws'.the-laws Laws'.the-copy Laws'.the-plain) ∷ (ShrSlice.pShrS
+    (Referent.rtF (Referent.fInt Syntax.w8)) 5 tt) ∷ (ShrSlice.pShrS (Referent.rtF (Referent.fInt Syntax.w8)) 6 tt) ∷ (ShrSlice.pShrS
+    (Referent.rtF (Referent.fInt Syntax.w8)) 7 tt) ∷ (ShrSlice.pShrS (Referent.rtF (Referent.fInt Syntax.w8)) 8 tt) ∷
+    List.[]
+
 abbrev pub r·0 : Kinds.RK 9
-r·0 = Value.rVal record { ty = Declared.row Relayed.the-type; one = Path.refl; val = Laws''''.val Relayed.the-type Laws'''.the-laws; tells =
-    Laws''''.tells Relayed.the-type Laws'''.the-laws; still = Laws''''.still Relayed.the-type Laws'''.the-copy Exit.yes; row = Rows'.whole
-    (Declared.row Relayed.the-type); rd = λ x. x; mk = λ x. x; } λ M 𝓤 H A W. record { copies = Laws''''.copy Relayed.the-type Laws'''.the-copy 𝓤 H A
-    W; lawful = Laws''''.lawful Relayed.the-type Laws'''.the-laws 𝓤 H A W; makes = Laws''''.makes Relayed.the-type Laws'''.the-plain 𝓤 H A; in-mem =
-    Local.mem-whole 𝓤 H A W (Declared.row Relayed.the-type); of-mem = Local.whole-mem 𝓤 H A W (Declared.row Relayed.the-type); }
+r·0 = StructRow.result Relayed.the-type Laws'''.the-laws Laws'''.the-copy Laws'''.the-plain
+
 abbrev pub hs : List.List Syntax.Home
-hs = Syntax.valueLocal ∷ Syntax.valueLocal ∷ Syntax.valueLocal ∷ Syntax.valueLocal ∷ Syntax.valueLocal ∷ Syntax.valueLocal ∷ Syntax.valueLocal ∷
-    Syntax.valueLocal ∷ Syntax.valueLocal ∷ Syntax.valueLocal ∷ Syntax.memorySlot ∷ Syntax.memorySlot ∷ Syntax.valueLocal ∷ Syntax.valueLocal ∷
-    Syntax.valueLocal ∷ Syntax.valueLocal ∷ Syntax.valueLocal ∷ Syntax.valueLocal ∷ Syntax.valueLocal ∷ Syntax.valueLocal ∷ Syntax.valueLocal ∷
-    Syntax.valueLocal ∷ Syntax.valueLocal ∷ Syntax.valueLocal ∷ Syntax.valueLocal ∷ Syntax.valueLocal ∷ Syntax.valueLocal ∷ Syntax.valueLocal ∷
-    Syntax.valueLocal ∷ Syntax.valueLocal ∷ List.[]
+hs = Syntax.valueLocal ∷ Syntax.valueLocal ∷ Syntax.valueLocal ∷ Syntax.valueLocal ∷ Syntax.valueLocal ∷
+    Syntax.valueLocal ∷ Syntax.valueLocal ∷ Syntax.valueLocal ∷ Syntax.valueLocal ∷ Syntax.valueLocal ∷
+    Syntax.memorySlot ∷ Syntax.memorySlot ∷ Syntax.valueLocal ∷ Syntax.valueLocal ∷ Syntax.valueLocal ∷
+    Syntax.valueLocal ∷ Syntax.valueLocal ∷ Syntax.valueLocal ∷ Syntax.valueLocal ∷ Syntax.valueLocal ∷
+    Syntax.valueLocal ∷ Syntax.valueLocal ∷ Syntax.valueLocal ∷ Syntax.valueLocal ∷ Syntax.valueLocal ∷
+    Syntax.valueLocal ∷ Syntax.valueLocal ∷ Syntax.valueLocal ∷ Syntax.valueLocal ∷ Syntax.valueLocal ∷ List.[]
+
 abbrev b0 : Syntax.Body
 b0 = Syntax.assign (Syntax.place 10 List.[]) (Syntax.aggregate ((Syntax.copy (Syntax.place 8 List.[])) ∷ List.[]))
+
 abbrev b1 : Syntax.Body
 b1 = Syntax.assign (Syntax.place 11 List.[]) (Syntax.aggregate ((Syntax.int Syntax.w8 0) ∷ List.[]))
+
 abbrev b2 : Syntax.Body
 b2 = Syntax.assign (Syntax.place 12 List.[]) (Syntax.rvOpd (Syntax.copy (Syntax.place 6 ((Syntax.field 0) ∷ List.[]))))
+
 abbrev b3 : Syntax.Body
 b3 = Syntax.assign (Syntax.place 13 List.[]) (Syntax.rvOpd (Syntax.copy (Syntax.place 6 ((Syntax.field 3) ∷ List.[]))))
+
 abbrev b4 : Syntax.Body
-b4 = Syntax.assign (Syntax.place 14 List.[]) (Syntax.addrOf (Syntax.place 1 ((Syntax.field 0) ∷ (Syntax.deref RelayPending.ty) ∷ List.[])))
+b4 = Syntax.assign (Syntax.place 14 List.[]) (Syntax.addrOf (Syntax.place 1 ((Syntax.field 0) ∷
+    (Syntax.deref RelayPending.ty) ∷ List.[])))
+
 abbrev b5 : Syntax.Body
-b5 = Syntax.assign (Syntax.place 15 List.[]) (Syntax.aggregate ((Syntax.copy (Syntax.place 14 List.[])) ∷ (Syntax.copy (Syntax.place 1 ((Syntax.field
-    1) ∷ List.[]))) ∷ List.[]))
+b5 = Syntax.assign (Syntax.place 15 List.[]) (Syntax.aggregate ((Syntax.copy (Syntax.place 14 List.[])) ∷
+    (Syntax.copy (Syntax.place 1 ((Syntax.field 1) ∷ List.[]))) ∷ List.[]))
+
 abbrev b6 : Syntax.Body
-b6 = Syntax.assign (Syntax.place 16 List.[]) (Syntax.addrOf (Syntax.place 2 ((Syntax.field 0) ∷ (Syntax.deref RelayCircuit.ty) ∷ List.[])))
+b6 = Syntax.assign (Syntax.place 16 List.[]) (Syntax.addrOf (Syntax.place 2 ((Syntax.field 0) ∷
+    (Syntax.deref RelayCircuit.ty) ∷ List.[])))
+
 abbrev b7 : Syntax.Body
-b7 = Syntax.assign (Syntax.place 17 List.[]) (Syntax.aggregate ((Syntax.copy (Syntax.place 16 List.[])) ∷ (Syntax.copy (Syntax.place 2 ((Syntax.field
-    1) ∷ List.[]))) ∷ List.[]))
+b7 = Syntax.assign (Syntax.place 17 List.[]) (Syntax.aggregate ((Syntax.copy (Syntax.place 16 List.[])) ∷
+    (Syntax.copy (Syntax.place 2 ((Syntax.field 1) ∷ List.[]))) ∷ List.[]))
+
 abbrev b8 : Syntax.Body
-b8 = Syntax.assign (Syntax.place 18 List.[]) (Syntax.addrOf (Syntax.place 3 ((Syntax.field 0) ∷ (Syntax.deref ReservationUsage.ty) ∷ List.[])))
+b8 = Syntax.assign (Syntax.place 18 List.[]) (Syntax.addrOf (Syntax.place 3 ((Syntax.field 0) ∷
+    (Syntax.deref ReservationUsage.ty) ∷ List.[])))
+
 abbrev b9 : Syntax.Body
-b9 = Syntax.assign (Syntax.place 19 List.[]) (Syntax.aggregate ((Syntax.copy (Syntax.place 18 List.[])) ∷ (Syntax.copy (Syntax.place 3 ((Syntax.field
-    1) ∷ List.[]))) ∷ List.[]))
+b9 = Syntax.assign (Syntax.place 19 List.[]) (Syntax.aggregate ((Syntax.copy (Syntax.place 18 List.[])) ∷
+    (Syntax.copy (Syntax.place 3 ((Syntax.field 1) ∷ List.[]))) ∷ List.[]))
+
 abbrev b10 : Syntax.Body
-b10 = Syntax.assign (Syntax.place 20 List.[]) (Syntax.addrOf (Syntax.place 4 ((Syntax.field 0) ∷ (Syntax.deref InflightAction.ty) ∷ List.[])))
+b10 = Syntax.assign (Syntax.place 20 List.[]) (Syntax.addrOf (Syntax.place 4 ((Syntax.field 0) ∷
+    (Syntax.deref InflightAction.ty) ∷ List.[])))
+
 abbrev b11 : Syntax.Body
-b11 = Syntax.assign (Syntax.place 21 List.[]) (Syntax.aggregate ((Syntax.copy (Syntax.place 20 List.[])) ∷ (Syntax.copy (Syntax.place 4 ((Syntax.field
-    1) ∷ List.[]))) ∷ List.[]))
+b11 = Syntax.assign (Syntax.place 21 List.[]) (Syntax.aggregate ((Syntax.copy (Syntax.place 20 List.[])) ∷
+    (Syntax.copy (Syntax.place 4 ((Syntax.field 1) ∷ List.[]))) ∷ List.[]))
+
 abbrev b12 : Syntax.Body
-b12 = Syntax.assign (Syntax.place 22 List.[]) (Syntax.addrOf (Syntax.place 5 ((Syntax.field 0) ∷ (Syntax.deref (Syntax.tyInt Syntax.w32)) ∷ List.[])))
+b12 = Syntax.assign (Syntax.place 22 List.[]) (Syntax.addrOf (Syntax.place 5 ((Syntax.field 0) ∷
+    (Syntax.deref (Syntax.tyInt Syntax.w32)) ∷ List.[])))
+
 abbrev b13 : Syntax.Body
-b13 = Syntax.assign (Syntax.place 23 List.[]) (Syntax.aggregate ((Syntax.copy (Syntax.place 22 List.[])) ∷ (Syntax.copy (Syntax.place 5 ((Syntax.field
-    1) ∷ List.[]))) ∷ List.[]))
+b13 = Syntax.assign (Syntax.place 23 List.[]) (Syntax.aggregate ((Syntax.copy (Syntax.place 22 List.[])) ∷
+    (Syntax.copy (Syntax.place 5 ((Syntax.field 1) ∷ List.[]))) ∷ List.[]))
+
 abbrev b14 : Syntax.Body
 b14 = Syntax.assign (Syntax.place 24 List.[]) (Syntax.addrOf (Syntax.place 10 List.[]))
+
 abbrev b15 : Syntax.Body
-b15 = Syntax.assign (Syntax.place 25 List.[]) (Syntax.aggregate ((Syntax.copy (Syntax.place 24 List.[])) ∷ (Syntax.int Syntax.w64 1) ∷ List.[]))
+b15 = Syntax.assign (Syntax.place 25 List.[]) (Syntax.aggregate ((Syntax.copy (Syntax.place 24 List.[])) ∷
+    (Syntax.int Syntax.w64 1) ∷ List.[]))
+
 abbrev b16 : Syntax.Body
 b16 = Syntax.assign (Syntax.place 26 List.[]) (Syntax.addrOf (Syntax.place 11 List.[]))
+
 abbrev b17 : Syntax.Body
-b17 = Syntax.assign (Syntax.place 27 List.[]) (Syntax.aggregate ((Syntax.copy (Syntax.place 26 List.[])) ∷ (Syntax.int Syntax.w64 1) ∷ List.[]))
+b17 = Syntax.assign (Syntax.place 27 List.[]) (Syntax.aggregate ((Syntax.copy (Syntax.place 26 List.[])) ∷
+    (Syntax.int Syntax.w64 1) ∷ List.[]))
+
 abbrev b18 : Syntax.Body
 b18 = Syntax.assign (Syntax.place 28 List.[]) (Syntax.addrOf (Syntax.place 11 List.[]))
+
 abbrev b19 : Syntax.Body
-b19 = Syntax.assign (Syntax.place 29 List.[]) (Syntax.aggregate ((Syntax.copy (Syntax.place 28 List.[])) ∷ (Syntax.int Syntax.w64 1) ∷ List.[]))
+b19 = Syntax.assign (Syntax.place 29 List.[]) (Syntax.aggregate ((Syntax.copy (Syntax.place 28 List.[])) ∷
+    (Syntax.int Syntax.w64 1) ∷ List.[]))
+
 abbrev b20 : Syntax.Body
-b20 = Syntax.call "hnsr_circuit::handle::handle" ((Syntax.copy (Syntax.place 15 List.[])) ∷ (Syntax.copy (Syntax.place 17 List.[])) ∷ (Syntax.copy
-    (Syntax.place 19 List.[])) ∷ (Syntax.copy (Syntax.place 21 List.[])) ∷ (Syntax.copy (Syntax.place 23 List.[])) ∷ (Syntax.copy (Syntax.place 12
-    List.[])) ∷ (Syntax.copy (Syntax.place 13 List.[])) ∷ (Syntax.copy (Syntax.place 7 List.[])) ∷ (Syntax.copy (Syntax.place 25 List.[])) ∷
-    (Syntax.copy (Syntax.place 9 List.[])) ∷ (Syntax.copy (Syntax.place 27 List.[])) ∷ (Syntax.copy (Syntax.place 29 List.[])) ∷ List.[])
-    (Syntax.place 0 List.[])
+b20 = Syntax.call "hnsr_circuit::handle::handle" ((Syntax.copy (Syntax.place 15 List.[])) ∷
+    (Syntax.copy (Syntax.place 17 List.[])) ∷ (Syntax.copy (Syntax.place 19 List.[])) ∷
+    (Syntax.copy (Syntax.place 21 List.[])) ∷ (Syntax.copy (Syntax.place 23 List.[])) ∷
+    (Syntax.copy (Syntax.place 12 List.[])) ∷ (Syntax.copy (Syntax.place 13 List.[])) ∷
+    (Syntax.copy (Syntax.place 7 List.[])) ∷ (Syntax.copy (Syntax.place 25 List.[])) ∷
+    (Syntax.copy (Syntax.place 9 List.[])) ∷ (Syntax.copy (Syntax.place 27 List.[])) ∷
+    (Syntax.copy (Syntax.place 29 List.[])) ∷ List.[]) (Syntax.place 0 List.[])
+
 abbrev b21 : Syntax.Body
 b21 = Syntax.return
+
 abbrev b22 : Syntax.Body
 b22 = Syntax.seq b20 b21
+
 abbrev b23 : Syntax.Body
 b23 = Syntax.seq b19 b22
+
 abbrev b24 : Syntax.Body
 b24 = Syntax.seq b18 b23
+
 abbrev b25 : Syntax.Body
 b25 = Syntax.seq b17 b24
+
 abbrev b26 : Syntax.Body
 b26 = Syntax.seq b16 b25
+
 abbrev b27 : Syntax.Body
 b27 = Syntax.seq b15 b26
+
 abbrev b28 : Syntax.Body
 b28 = Syntax.seq b14 b27
+
 abbrev b29 : Syntax.Body
 b29 = Syntax.seq b13 b28
+
 abbrev b30 : Syntax.Body
 b30 = Syntax.seq b12 b29
+
 abbrev b31 : Syntax.Body
 b31 = Syntax.seq b11 b30
+
 abbrev b32 : Syntax.Body
 b32 = Syntax.seq b10 b31
+
 abbrev b33 : Syntax.Body
 b33 = Syntax.seq b9 b32
+
 abbrev b34 : Syntax.Body
 b34 = Syntax.seq b8 b33
+
 abbrev b35 : Syntax.Body
 b35 = Syntax.seq b7 b34
+
 abbrev b36 : Syntax.Body
 b36 = Syntax.seq b6 b35
+
 abbrev b37 : Syntax.Body
 b37 = Syntax.seq b5 b36
+
 abbrev b38 : Syntax.Body
 b38 = Syntax.seq b4 b37
+
 abbrev b39 : Syntax.Body
 b39 = Syntax.seq b3 b38
+
 abbrev b40 : Syntax.Body
 b40 = Syntax.seq b2 b39
+
 abbrev b41 : Syntax.Body
 b41 = Syntax.seq b1 b40
+
 abbrev b42 : Syntax.Body
 b42 = Syntax.seq b0 b41
+
 abbrev pub body : Syntax.Body
 body = b42
+
 abbrev pub Claims : Type 1
 Claims = Kinds.In 9 ps·0 × Kinds.Out 9 ps·0 r·0
+
 abbrev e0 : Row.Entry
 e0 = (0, Rows'.any-gone Laws'''.mir)
+
 abbrev e1 : Row.Entry
 e1 = (1, Mut.mslice RelayPending.row ref7 0)
+
 abbrev e2 : Row.Entry
 e2 = (2, Mut.mslice RelayCircuit.row ref8 1)
+
 abbrev e3 : Row.Entry
 e3 = (3, Mut.mslice ReservationUsage.row ref9 2)
+
 abbrev e4 : Row.Entry
 e4 = (4, Mut.mslice InflightAction.row ref10 3)
+
 abbrev e5 : Row.Entry
 e5 = (5, Mut.mslice (Referent.rtF (Referent.fInt Syntax.w32)) ref11 4)
+
 abbrev e6 : Row.Entry
 e6 = (6, Rows'.whole (Declared.row Relayed.the-type))
+
 abbrev e7 : Row.Entry
 e7 = (7, Rows'.whole (Declared.row RelayPacket.the-type))
+
 abbrev e8 : Row.Entry
 e8 = (8, Rows'.sc-here (Row.sInt Syntax.w8))
+
 abbrev e9 : Row.Entry
 e9 = (9, Rows'.sslice (Referent.rtF (Referent.fInt Syntax.w8)) ref12 5)
+
 abbrev e10 : Row.Entry
 e10 = (10, Rows'.any-gone (Syntax.tyArray (Syntax.tyInt Syntax.w8) 1))
+
 abbrev e11 : Row.Entry
 e11 = (11, Rows'.any-gone (Syntax.tyArray (Syntax.tyInt Syntax.w8) 1))
+
 abbrev e12 : Row.Entry
 e12 = (12, Rows'.any-gone Laws''.mir)
+
 abbrev e13 : Row.Entry
 e13 = (13, Rows'.any-gone Laws.mir)
+
 abbrev e14 : Row.Entry
 e14 = (14, Rows'.any-gone ref0)
+
 abbrev e15 : Row.Entry
-e15 = (15, Rows'.any-gone (Syntax.tyStruct (38 ∷ 91 ∷ 93 ∷ List.[]) (Syntax.tcons ref0 (Syntax.tcons (Syntax.tyInt Syntax.w64) Syntax.tnil))))
+e15 = (15, Rows'.any-gone slice0)
+
 abbrev e16 : Row.Entry
 e16 = (16, Rows'.any-gone ref1)
+
 abbrev e17 : Row.Entry
-e17 = (17, Rows'.any-gone (Syntax.tyStruct (38 ∷ 91 ∷ 93 ∷ List.[]) (Syntax.tcons ref1 (Syntax.tcons (Syntax.tyInt Syntax.w64) Syntax.tnil))))
+e17 = (17, Rows'.any-gone slice1)
+
 abbrev e18 : Row.Entry
 e18 = (18, Rows'.any-gone ref2)
+
 abbrev e19 : Row.Entry
-e19 = (19, Rows'.any-gone (Syntax.tyStruct (38 ∷ 91 ∷ 93 ∷ List.[]) (Syntax.tcons ref2 (Syntax.tcons (Syntax.tyInt Syntax.w64) Syntax.tnil))))
+e19 = (19, Rows'.any-gone slice2)
+
 abbrev e20 : Row.Entry
 e20 = (20, Rows'.any-gone ref3)
+
 abbrev e21 : Row.Entry
-e21 = (21, Rows'.any-gone (Syntax.tyStruct (38 ∷ 91 ∷ 93 ∷ List.[]) (Syntax.tcons ref3 (Syntax.tcons (Syntax.tyInt Syntax.w64) Syntax.tnil))))
+e21 = (21, Rows'.any-gone slice3)
+
 abbrev e22 : Row.Entry
 e22 = (22, Rows'.any-gone ref4)
+
 abbrev e23 : Row.Entry
-e23 = (23, Rows'.any-gone (Syntax.tyStruct (38 ∷ 91 ∷ 93 ∷ List.[]) (Syntax.tcons ref4 (Syntax.tcons (Syntax.tyInt Syntax.w64) Syntax.tnil))))
+e23 = (23, Rows'.any-gone slice4)
+
 abbrev e24 : Row.Entry
 e24 = (24, Rows'.any-gone ref5)
+
 abbrev e25 : Row.Entry
-e25 = (25, Rows'.any-gone (Syntax.tyStruct (38 ∷ 91 ∷ 93 ∷ List.[]) (Syntax.tcons ref6 (Syntax.tcons (Syntax.tyInt Syntax.w64) Syntax.tnil))))
+e25 = (25, Rows'.any-gone slice6)
+
 abbrev e26 : Row.Entry
 e26 = (26, Rows'.any-gone ref5)
+
 abbrev e27 : Row.Entry
-e27 = (27, Rows'.any-gone (Syntax.tyStruct (38 ∷ 91 ∷ 93 ∷ List.[]) (Syntax.tcons ref6 (Syntax.tcons (Syntax.tyInt Syntax.w64) Syntax.tnil))))
+e27 = (27, Rows'.any-gone slice6)
+
 abbrev e28 : Row.Entry
 e28 = (28, Rows'.any-gone ref5)
+
 abbrev e29 : Row.Entry
-e29 = (29, Rows'.any-gone (Syntax.tyStruct (38 ∷ 91 ∷ 93 ∷ List.[]) (Syntax.tcons ref6 (Syntax.tcons (Syntax.tyInt Syntax.w64) Syntax.tnil))))
+e29 = (29, Rows'.any-gone slice6)
+
 abbrev e0·1 : Row.Entry
 e0·1 = (0, Rows'.whole (Declared.row Relayed.the-type))
+
 abbrev e6·1 : Row.Entry
 e6·1 = (6, Rows'.any-gone Laws'''.mir)
+
 abbrev e7·1 : Row.Entry
 e7·1 = (7, Rows'.any-gone Laws'.mir)
+
 abbrev e8·1 : Row.Entry
 e8·1 = (8, Rows'.any-gone (Syntax.tyInt Syntax.w8))
+
 abbrev e10·1 : Row.Entry
 e10·1 = (10, Rows'.whole (Array.Array (Referent.rtF (Referent.fInt Syntax.w8)) 1))
+
 abbrev e10·2 : Row.Entry
 e10·2 = (10, Rows.arrF (Referent.rtF (Referent.fInt Syntax.w8)) 1 0)
+
 abbrev e11·1 : Row.Entry
 e11·1 = (11, Rows'.whole (Array.Array (Referent.rtF (Referent.fInt Syntax.w8)) 1))
+
 abbrev e11·2 : Row.Entry
 e11·2 = (11, Rows.arrF (Referent.rtF (Referent.fInt Syntax.w8)) 1 0)
+
 abbrev e12·1 : Row.Entry
 e12·1 = (12, Rows'.whole (Declared.row OpaqueRelayRuntime.the-type))
+
 abbrev e13·1 : Row.Entry
 e13·1 = (13, Rows'.whole (Declared.row Places.the-type))
+
 abbrev e1·1 : Row.Entry
 e1·1 = (1, Relend.mslice-owed RelayPending.row ref7 0 6 Row.off)
+
 abbrev e14·1 : Row.Entry
 e14·1 = (14, Relend.msptr RelayPending.row ref0 6)
+
 abbrev e15·1 : Row.Entry
 e15·1 = (15, Mut.mslice RelayPending.row ref0 6)
+
 abbrev e2·1 : Row.Entry
 e2·1 = (2, Relend.mslice-owed RelayCircuit.row ref8 1 7 Row.off)
+
 abbrev e16·1 : Row.Entry
 e16·1 = (16, Relend.msptr RelayCircuit.row ref1 7)
+
 abbrev e17·1 : Row.Entry
 e17·1 = (17, Mut.mslice RelayCircuit.row ref1 7)
+
 abbrev e3·1 : Row.Entry
 e3·1 = (3, Relend.mslice-owed ReservationUsage.row ref9 2 8 Row.off)
+
 abbrev e18·1 : Row.Entry
 e18·1 = (18, Relend.msptr ReservationUsage.row ref2 8)
+
 abbrev e19·1 : Row.Entry
 e19·1 = (19, Mut.mslice ReservationUsage.row ref2 8)
+
 abbrev e4·1 : Row.Entry
 e4·1 = (4, Relend.mslice-owed InflightAction.row ref10 3 9 Row.off)
+
 abbrev e20·1 : Row.Entry
 e20·1 = (20, Relend.msptr InflightAction.row ref3 9)
+
 abbrev e21·1 : Row.Entry
 e21·1 = (21, Mut.mslice InflightAction.row ref3 9)
+
 abbrev e5·1 : Row.Entry
 e5·1 = (5, Relend.mslice-owed (Referent.rtF (Referent.fInt Syntax.w32)) ref11 4 10 Row.off)
+
 abbrev e22·1 : Row.Entry
 e22·1 = (22, Relend.msptr (Referent.rtF (Referent.fInt Syntax.w32)) ref4 10)
+
 abbrev e23·1 : Row.Entry
 e23·1 = (23, Mut.mslice (Referent.rtF (Referent.fInt Syntax.w32)) ref4 10)
+
 abbrev e10·3 : Row.Entry
 e10·3 = (10, Rows.arr-shr (Referent.rtF (Referent.fInt Syntax.w8)) 1 11)
+
 abbrev e24·1 : Row.Entry
 e24·1 = (24, Relend.ssptr (Referent.rtF (Referent.fInt Syntax.w8)) ref5 11)
+
 abbrev e25·1 : Row.Entry
 e25·1 = (25, Rows'.sslice (Referent.rtF (Referent.fInt Syntax.w8)) ref6 11)
+
 abbrev e11·3 : Row.Entry
 e11·3 = (11, Rows.arr-shr (Referent.rtF (Referent.fInt Syntax.w8)) 1 12)
+
 abbrev e26·1 : Row.Entry
 e26·1 = (26, Relend.ssptr (Referent.rtF (Referent.fInt Syntax.w8)) ref5 12)
+
 abbrev e27·1 : Row.Entry
 e27·1 = (27, Rows'.sslice (Referent.rtF (Referent.fInt Syntax.w8)) ref6 12)
+
 abbrev e28·1 : Row.Entry
 e28·1 = (28, Relend.ssptr (Referent.rtF (Referent.fInt Syntax.w8)) ref5 12)
+
 abbrev e29·1 : Row.Entry
 e29·1 = (29, Rows'.sslice (Referent.rtF (Referent.fInt Syntax.w8)) ref6 12)
+
 abbrev e15·2 : Row.Entry
 e15·2 = (15, Mut.msleft RelayPending.row ref0)
+
 abbrev e17·2 : Row.Entry
 e17·2 = (17, Mut.msleft RelayCircuit.row ref1)
+
 abbrev e19·2 : Row.Entry
 e19·2 = (19, Mut.msleft ReservationUsage.row ref2)
+
 abbrev e21·2 : Row.Entry
 e21·2 = (21, Mut.msleft InflightAction.row ref3)
+
 abbrev e23·2 : Row.Entry
 e23·2 = (23, Mut.msleft (Referent.rtF (Referent.fInt Syntax.w32)) ref4)
+
 abbrev pub t0 : List.List Row.Entry
 t0 = e0 ∷ e1 ∷ e2 ∷ e3 ∷ e4 ∷ e5 ∷ e6 ∷ e7 ∷ e8 ∷ e9 ∷ e10 ∷ e11 ∷ e12 ∷ e13 ∷ e14 ∷ e15 ∷ List.[]
+
 abbrev pub t1 : List.List Row.Entry
 t1 = e16 ∷ e17 ∷ e18 ∷ e19 ∷ e20 ∷ e21 ∷ e22 ∷ e23 ∷ e24 ∷ e25 ∷ e26 ∷ e27 ∷ e28 ∷ e29 ∷ List.[]
+
 abbrev pub t2 : List.List Row.Entry
 t2 = e0·1 ∷ e1 ∷ e2 ∷ e3 ∷ e4 ∷ e5 ∷ e6·1 ∷ e7·1 ∷ e8·1 ∷ e9 ∷ e10 ∷ e11 ∷ e12 ∷ e13 ∷ e14 ∷ e15 ∷ List.[]
+
 abbrev pub t3 : List.List Row.Entry
 t3 = e0 ∷ e1 ∷ e2 ∷ e3 ∷ e4 ∷ e5 ∷ e6 ∷ e7 ∷ e8 ∷ e9 ∷ e10·1 ∷ e11 ∷ e12 ∷ e13 ∷ e14 ∷ e15 ∷ List.[]
+
 abbrev pub t4 : List.List Row.Entry
 t4 = e0 ∷ e1 ∷ e2 ∷ e3 ∷ e4 ∷ e5 ∷ e6 ∷ e7 ∷ e8 ∷ e9 ∷ e10·2 ∷ e11 ∷ e12 ∷ e13 ∷ e14 ∷ e15 ∷ List.[]
+
 abbrev pub t5 : List.List Row.Entry
 t5 = e0 ∷ e1 ∷ e2 ∷ e3 ∷ e4 ∷ e5 ∷ e6 ∷ e7 ∷ e8 ∷ e9 ∷ e10·2 ∷ e11·1 ∷ e12 ∷ e13 ∷ e14 ∷ e15 ∷ List.[]
+
 abbrev pub t6 : List.List Row.Entry
 t6 = e0 ∷ e1 ∷ e2 ∷ e3 ∷ e4 ∷ e5 ∷ e6 ∷ e7 ∷ e8 ∷ e9 ∷ e10·2 ∷ e11·2 ∷ e12 ∷ e13 ∷ e14 ∷ e15 ∷ List.[]
+
 abbrev pub t7 : List.List Row.Entry
 t7 = e0 ∷ e1 ∷ e2 ∷ e3 ∷ e4 ∷ e5 ∷ e6 ∷ e7 ∷ e8 ∷ e9 ∷ e10·2 ∷ e11·2 ∷ e12·1 ∷ e13 ∷ e14 ∷ e15 ∷ List.[]
+
 abbrev pub t8 : List.List Row.Entry
 t8 = e0 ∷ e1 ∷ e2 ∷ e3 ∷ e4 ∷ e5 ∷ e6 ∷ e7 ∷ e8 ∷ e9 ∷ e10·2 ∷ e11·2 ∷ e12·1 ∷ e13·1 ∷ e14 ∷ e15 ∷ List.[]
+
 abbrev pub t9 : List.List Row.Entry
 t9 = e0 ∷ e1 ∷ e2 ∷ e3 ∷ e4 ∷ e5 ∷ e6·1 ∷ e7 ∷ e8 ∷ e9 ∷ e10·2 ∷ e11·2 ∷ e12·1 ∷ e13·1 ∷ e14 ∷ e15 ∷ List.[]
+
 abbrev pub t10 : List.List Row.Entry
 t10 = e0 ∷ e1·1 ∷ e2 ∷ e3 ∷ e4 ∷ e5 ∷ e6·1 ∷ e7 ∷ e8 ∷ e9 ∷ e10·2 ∷ e11·2 ∷ e12·1 ∷ e13·1 ∷ e14·1 ∷ e15 ∷ List.[]
+
 abbrev pub t11 : List.List Row.Entry
 t11 = e0 ∷ e1·1 ∷ e2 ∷ e3 ∷ e4 ∷ e5 ∷ e6·1 ∷ e7 ∷ e8 ∷ e9 ∷ e10·2 ∷ e11·2 ∷ e12·1 ∷ e13·1 ∷ e14 ∷ e15·1 ∷ List.[]
+
 abbrev pub t12 : List.List Row.Entry
 t12 = e0 ∷ e1·1 ∷ e2·1 ∷ e3 ∷ e4 ∷ e5 ∷ e6·1 ∷ e7 ∷ e8 ∷ e9 ∷ e10·2 ∷ e11·2 ∷ e12·1 ∷ e13·1 ∷ e14 ∷ e15·1 ∷ List.[]
+
 abbrev pub t13 : List.List Row.Entry
 t13 = e16·1 ∷ e17 ∷ e18 ∷ e19 ∷ e20 ∷ e21 ∷ e22 ∷ e23 ∷ e24 ∷ e25 ∷ e26 ∷ e27 ∷ e28 ∷ e29 ∷ List.[]
+
 abbrev pub t14 : List.List Row.Entry
 t14 = e16 ∷ e17·1 ∷ e18 ∷ e19 ∷ e20 ∷ e21 ∷ e22 ∷ e23 ∷ e24 ∷ e25 ∷ e26 ∷ e27 ∷ e28 ∷ e29 ∷ List.[]
+
 abbrev pub t15 : List.List Row.Entry
 t15 = e0 ∷ e1·1 ∷ e2·1 ∷ e3·1 ∷ e4 ∷ e5 ∷ e6·1 ∷ e7 ∷ e8 ∷ e9 ∷ e10·2 ∷ e11·2 ∷ e12·1 ∷ e13·1 ∷ e14 ∷ e15·1 ∷ List.[]
+
 abbrev pub t16 : List.List Row.Entry
 t16 = e16 ∷ e17·1 ∷ e18·1 ∷ e19 ∷ e20 ∷ e21 ∷ e22 ∷ e23 ∷ e24 ∷ e25 ∷ e26 ∷ e27 ∷ e28 ∷ e29 ∷ List.[]
+
 abbrev pub t17 : List.List Row.Entry
 t17 = e16 ∷ e17·1 ∷ e18 ∷ e19·1 ∷ e20 ∷ e21 ∷ e22 ∷ e23 ∷ e24 ∷ e25 ∷ e26 ∷ e27 ∷ e28 ∷ e29 ∷ List.[]
+
 abbrev pub t18 : List.List Row.Entry
 t18 = e0 ∷ e1·1 ∷ e2·1 ∷ e3·1 ∷ e4·1 ∷ e5 ∷ e6·1 ∷ e7 ∷ e8 ∷ e9 ∷ e10·2 ∷ e11·2 ∷ e12·1 ∷ e13·1 ∷ e14 ∷ e15·1 ∷ List.[]
+
 abbrev pub t19 : List.List Row.Entry
 t19 = e16 ∷ e17·1 ∷ e18 ∷ e19·1 ∷ e20·1 ∷ e21 ∷ e22 ∷ e23 ∷ e24 ∷ e25 ∷ e26 ∷ e27 ∷ e28 ∷ e29 ∷ List.[]
+
 abbrev pub t20 : List.List Row.Entry
 t20 = e16 ∷ e17·1 ∷ e18 ∷ e19·1 ∷ e20 ∷ e21·1 ∷ e22 ∷ e23 ∷ e24 ∷ e25 ∷ e26 ∷ e27 ∷ e28 ∷ e29 ∷ List.[]
+
 abbrev pub t21 : List.List Row.Entry
-t21 = e0 ∷ e1·1 ∷ e2·1 ∷ e3·1 ∷ e4·1 ∷ e5·1 ∷ e6·1 ∷ e7 ∷ e8 ∷ e9 ∷ e10·2 ∷ e11·2 ∷ e12·1 ∷ e13·1 ∷ e14 ∷ e15·1 ∷ List.[]
+t21 = e0 ∷ e1·1 ∷ e2·1 ∷ e3·1 ∷ e4·1 ∷ e5·1 ∷ e6·1 ∷ e7 ∷ e8 ∷ e9 ∷ e10·2 ∷ e11·2 ∷ e12·1 ∷ e13·1 ∷ e14 ∷ e15·1 ∷
+    List.[]
+
 abbrev pub t22 : List.List Row.Entry
 t22 = e16 ∷ e17·1 ∷ e18 ∷ e19·1 ∷ e20 ∷ e21·1 ∷ e22·1 ∷ e23 ∷ e24 ∷ e25 ∷ e26 ∷ e27 ∷ e28 ∷ e29 ∷ List.[]
+
 abbrev pub t23 : List.List Row.Entry
 t23 = e16 ∷ e17·1 ∷ e18 ∷ e19·1 ∷ e20 ∷ e21·1 ∷ e22 ∷ e23·1 ∷ e24 ∷ e25 ∷ e26 ∷ e27 ∷ e28 ∷ e29 ∷ List.[]
+
 abbrev pub t24 : List.List Row.Entry
-t24 = e0 ∷ e1·1 ∷ e2·1 ∷ e3·1 ∷ e4·1 ∷ e5·1 ∷ e6·1 ∷ e7 ∷ e8 ∷ e9 ∷ e10·3 ∷ e11·2 ∷ e12·1 ∷ e13·1 ∷ e14 ∷ e15·1 ∷ List.[]
+t24 = e0 ∷ e1·1 ∷ e2·1 ∷ e3·1 ∷ e4·1 ∷ e5·1 ∷ e6·1 ∷ e7 ∷ e8 ∷ e9 ∷ e10·3 ∷ e11·2 ∷ e12·1 ∷ e13·1 ∷ e14 ∷ e15·1 ∷
+    List.[]
+
 abbrev pub t25 : List.List Row.Entry
 t25 = e16 ∷ e17·1 ∷ e18 ∷ e19·1 ∷ e20 ∷ e21·1 ∷ e22 ∷ e23·1 ∷ e24·1 ∷ e25 ∷ e26 ∷ e27 ∷ e28 ∷ e29 ∷ List.[]
+
 abbrev pub t26 : List.List Row.Entry
 t26 = e16 ∷ e17·1 ∷ e18 ∷ e19·1 ∷ e20 ∷ e21·1 ∷ e22 ∷ e23·1 ∷ e24 ∷ e25·1 ∷ e26 ∷ e27 ∷ e28 ∷ e29 ∷ List.[]
+
 abbrev pub t27 : List.List Row.Entry
-t27 = e0 ∷ e1·1 ∷ e2·1 ∷ e3·1 ∷ e4·1 ∷ e5·1 ∷ e6·1 ∷ e7 ∷ e8 ∷ e9 ∷ e10·3 ∷ e11·3 ∷ e12·1 ∷ e13·1 ∷ e14 ∷ e15·1 ∷ List.[]
+t27 = e0 ∷ e1·1 ∷ e2·1 ∷ e3·1 ∷ e4·1 ∷ e5·1 ∷ e6·1 ∷ e7 ∷ e8 ∷ e9 ∷ e10·3 ∷ e11·3 ∷ e12·1 ∷ e13·1 ∷ e14 ∷ e15·1 ∷
+    List.[]
+
 abbrev pub t28 : List.List Row.Entry
 t28 = e16 ∷ e17·1 ∷ e18 ∷ e19·1 ∷ e20 ∷ e21·1 ∷ e22 ∷ e23·1 ∷ e24 ∷ e25·1 ∷ e26·1 ∷ e27 ∷ e28 ∷ e29 ∷ List.[]
+
 abbrev pub t29 : List.List Row.Entry
 t29 = e16 ∷ e17·1 ∷ e18 ∷ e19·1 ∷ e20 ∷ e21·1 ∷ e22 ∷ e23·1 ∷ e24 ∷ e25·1 ∷ e26 ∷ e27·1 ∷ e28 ∷ e29 ∷ List.[]
+
 abbrev pub t30 : List.List Row.Entry
 t30 = e16 ∷ e17·1 ∷ e18 ∷ e19·1 ∷ e20 ∷ e21·1 ∷ e22 ∷ e23·1 ∷ e24 ∷ e25·1 ∷ e26 ∷ e27·1 ∷ e28·1 ∷ e29 ∷ List.[]
+
 abbrev pub t31 : List.List Row.Entry
 t31 = e16 ∷ e17·1 ∷ e18 ∷ e19·1 ∷ e20 ∷ e21·1 ∷ e22 ∷ e23·1 ∷ e24 ∷ e25·1 ∷ e26 ∷ e27·1 ∷ e28 ∷ e29·1 ∷ List.[]
+
 abbrev pub t32 : List.List Row.Entry
-t32 = e0·1 ∷ e1·1 ∷ e2·1 ∷ e3·1 ∷ e4·1 ∷ e5·1 ∷ e6·1 ∷ e7 ∷ e8 ∷ e9 ∷ e10·3 ∷ e11·3 ∷ e12·1 ∷ e13·1 ∷ e14 ∷ e15·2 ∷ List.[]
+t32 = e0·1 ∷ e1·1 ∷ e2·1 ∷ e3·1 ∷ e4·1 ∷ e5·1 ∷ e6·1 ∷ e7 ∷ e8 ∷ e9 ∷ e10·3 ∷ e11·3 ∷ e12·1 ∷ e13·1 ∷ e14 ∷ e15·2 ∷
+    List.[]
+
 abbrev pub t33 : List.List Row.Entry
 t33 = e16 ∷ e17·2 ∷ e18 ∷ e19·2 ∷ e20 ∷ e21·2 ∷ e22 ∷ e23·2 ∷ e24 ∷ e25·1 ∷ e26 ∷ e27·1 ∷ e28 ∷ e29·1 ∷ List.[]
+
 abbrev pub t34 : List.List Row.Entry
 t34 = e16 ∷ e17·2 ∷ e18 ∷ e19·2 ∷ e20 ∷ e21·2 ∷ e22 ∷ e23·2 ∷ e24 ∷ e25 ∷ e26 ∷ e27·1 ∷ e28 ∷ e29·1 ∷ List.[]
+
 abbrev pub t35 : List.List Row.Entry
 t35 = e16 ∷ e17·2 ∷ e18 ∷ e19·2 ∷ e20 ∷ e21·2 ∷ e22 ∷ e23·2 ∷ e24 ∷ e25 ∷ e26 ∷ e27 ∷ e28 ∷ e29·1 ∷ List.[]
+
 abbrev pub t36 : List.List Row.Entry
 t36 = e16 ∷ e17·2 ∷ e18 ∷ e19·2 ∷ e20 ∷ e21·2 ∷ e22 ∷ e23·2 ∷ e24 ∷ e25 ∷ e26 ∷ e27 ∷ e28 ∷ e29 ∷ List.[]
+
 abbrev pub t37 : List.List Row.Entry
-t37 = e0·1 ∷ e1·1 ∷ e2·1 ∷ e3·1 ∷ e4·1 ∷ e5·1 ∷ e6·1 ∷ e7·1 ∷ e8 ∷ e9 ∷ e10·3 ∷ e11·3 ∷ e12·1 ∷ e13·1 ∷ e14 ∷ e15·2 ∷ List.[]
+t37 = e0·1 ∷ e1·1 ∷ e2·1 ∷ e3·1 ∷ e4·1 ∷ e5·1 ∷ e6·1 ∷ e7·1 ∷ e8 ∷ e9 ∷ e10·3 ∷ e11·3 ∷ e12·1 ∷ e13·1 ∷ e14 ∷ e15·2 ∷
+    List.[]
+
 abbrev pub t38 : List.List Row.Entry
-t38 = e0·1 ∷ e1·1 ∷ e2·1 ∷ e3·1 ∷ e4·1 ∷ e5·1 ∷ e6·1 ∷ e7·1 ∷ e8 ∷ e9 ∷ e10·3 ∷ e11·3 ∷ e12 ∷ e13·1 ∷ e14 ∷ e15·2 ∷ List.[]
+t38 = e0·1 ∷ e1·1 ∷ e2·1 ∷ e3·1 ∷ e4·1 ∷ e5·1 ∷ e6·1 ∷ e7·1 ∷ e8 ∷ e9 ∷ e10·3 ∷ e11·3 ∷ e12 ∷ e13·1 ∷ e14 ∷ e15·2 ∷
+    List.[]
+
 abbrev pub t39 : List.List Row.Entry
-t39 = e0·1 ∷ e1·1 ∷ e2·1 ∷ e3·1 ∷ e4·1 ∷ e5·1 ∷ e6·1 ∷ e7·1 ∷ e8 ∷ e9 ∷ e10·3 ∷ e11·3 ∷ e12 ∷ e13 ∷ e14 ∷ e15·2 ∷ List.[]
+t39 = e0·1 ∷ e1·1 ∷ e2·1 ∷ e3·1 ∷ e4·1 ∷ e5·1 ∷ e6·1 ∷ e7·1 ∷ e8 ∷ e9 ∷ e10·3 ∷ e11·3 ∷ e12 ∷ e13 ∷ e14 ∷ e15·2 ∷
+    List.[]
+
 abbrev pub t40 : List.List Row.Entry
 t40 = e0·1 ∷ e1 ∷ e2·1 ∷ e3·1 ∷ e4·1 ∷ e5·1 ∷ e6·1 ∷ e7·1 ∷ e8 ∷ e9 ∷ e10·3 ∷ e11·3 ∷ e12 ∷ e13 ∷ e14 ∷ e15 ∷ List.[]
+
 abbrev pub t41 : List.List Row.Entry
 t41 = e0·1 ∷ e1 ∷ e2 ∷ e3·1 ∷ e4·1 ∷ e5·1 ∷ e6·1 ∷ e7·1 ∷ e8 ∷ e9 ∷ e10·3 ∷ e11·3 ∷ e12 ∷ e13 ∷ e14 ∷ e15 ∷ List.[]
+
 abbrev pub t42 : List.List Row.Entry
 t42 = e16 ∷ e17 ∷ e18 ∷ e19·2 ∷ e20 ∷ e21·2 ∷ e22 ∷ e23·2 ∷ e24 ∷ e25 ∷ e26 ∷ e27 ∷ e28 ∷ e29 ∷ List.[]
+
 abbrev pub t43 : List.List Row.Entry
 t43 = e0·1 ∷ e1 ∷ e2 ∷ e3 ∷ e4·1 ∷ e5·1 ∷ e6·1 ∷ e7·1 ∷ e8 ∷ e9 ∷ e10·3 ∷ e11·3 ∷ e12 ∷ e13 ∷ e14 ∷ e15 ∷ List.[]
+
 abbrev pub t44 : List.List Row.Entry
 t44 = e16 ∷ e17 ∷ e18 ∷ e19 ∷ e20 ∷ e21·2 ∷ e22 ∷ e23·2 ∷ e24 ∷ e25 ∷ e26 ∷ e27 ∷ e28 ∷ e29 ∷ List.[]
+
 abbrev pub t45 : List.List Row.Entry
 t45 = e0·1 ∷ e1 ∷ e2 ∷ e3 ∷ e4 ∷ e5·1 ∷ e6·1 ∷ e7·1 ∷ e8 ∷ e9 ∷ e10·3 ∷ e11·3 ∷ e12 ∷ e13 ∷ e14 ∷ e15 ∷ List.[]
+
 abbrev pub t46 : List.List Row.Entry
 t46 = e16 ∷ e17 ∷ e18 ∷ e19 ∷ e20 ∷ e21 ∷ e22 ∷ e23·2 ∷ e24 ∷ e25 ∷ e26 ∷ e27 ∷ e28 ∷ e29 ∷ List.[]
+
 abbrev pub t47 : List.List Row.Entry
 t47 = e0·1 ∷ e1 ∷ e2 ∷ e3 ∷ e4 ∷ e5 ∷ e6·1 ∷ e7·1 ∷ e8 ∷ e9 ∷ e10·3 ∷ e11·3 ∷ e12 ∷ e13 ∷ e14 ∷ e15 ∷ List.[]
+
 abbrev pub t48 : List.List Row.Entry
 t48 = e0·1 ∷ e1 ∷ e2 ∷ e3 ∷ e4 ∷ e5 ∷ e6·1 ∷ e7·1 ∷ e8 ∷ e9 ∷ e10·2 ∷ e11·3 ∷ e12 ∷ e13 ∷ e14 ∷ e15 ∷ List.[]
+
 abbrev pub t49 : List.List Row.Entry
 t49 = e0·1 ∷ e1 ∷ e2 ∷ e3 ∷ e4 ∷ e5 ∷ e6·1 ∷ e7·1 ∷ e8 ∷ e9 ∷ e10 ∷ e11·3 ∷ e12 ∷ e13 ∷ e14 ∷ e15 ∷ List.[]
+
 abbrev pub t50 : List.List Row.Entry
 t50 = e0·1 ∷ e1 ∷ e2 ∷ e3 ∷ e4 ∷ e5 ∷ e6·1 ∷ e7·1 ∷ e8 ∷ e9 ∷ e10 ∷ e11·2 ∷ e12 ∷ e13 ∷ e14 ∷ e15 ∷ List.[]
+
 abbrev pub t51 : List.List Row.Entry
 t51 = e0·1 ∷ e1 ∷ e2 ∷ e3 ∷ e4 ∷ e5 ∷ e6·1 ∷ e7·1 ∷ e8 ∷ e9 ∷ e10 ∷ e11 ∷ e12 ∷ e13 ∷ e14 ∷ e15 ∷ List.[]
+
 abbrev pub T0 : Row.Cx
 T0 = record { locals = List._++_ t0 t1; slots = List.[] }
+
 abbrev pub T1 : Row.Cx
 T1 = record { locals = List._++_ t2 t1; slots = List.[] }
+
 abbrev pub T2 : Row.Cx
 T2 = record { locals = List._++_ t0 t1; slots = List.[] }
+
 abbrev pub T3 : Row.Cx
 T3 = record { locals = List._++_ t0 t1; slots = List.[] }
+
 abbrev pub T4 : Row.Cx
 T4 = record { locals = List._++_ t3 t1; slots = List.[] }
+
 abbrev pub T5 : Row.Cx
 T5 = record { locals = List._++_ t4 t1; slots = List.[] }
+
 abbrev pub T6 : Row.Cx
 T6 = record { locals = List._++_ t5 t1; slots = List.[] }
+
 abbrev pub T7 : Row.Cx
 T7 = record { locals = List._++_ t6 t1; slots = List.[] }
+
 abbrev pub T8 : Row.Cx
 T8 = record { locals = List._++_ t7 t1; slots = List.[] }
+
 abbrev pub T9 : Row.Cx
 T9 = record { locals = List._++_ t8 t1; slots = List.[] }
+
 abbrev pub T10 : Row.Cx
 T10 = record { locals = List._++_ t9 t1; slots = List.[] }
+
 abbrev pub T12 : Row.Cx
 T12 = record { locals = List._++_ t10 t1; slots = List.[] }
+
 abbrev pub T13 : Row.Cx
 T13 = record { locals = List._++_ t11 t1; slots = List.[] }
+
 abbrev pub T15 : Row.Cx
 T15 = record { locals = List._++_ t12 t13; slots = List.[] }
+
 abbrev pub T16 : Row.Cx
 T16 = record { locals = List._++_ t12 t14; slots = List.[] }
+
 abbrev pub T18 : Row.Cx
 T18 = record { locals = List._++_ t15 t16; slots = List.[] }
+
 abbrev pub T19 : Row.Cx
 T19 = record { locals = List._++_ t15 t17; slots = List.[] }
+
 abbrev pub T21 : Row.Cx
 T21 = record { locals = List._++_ t18 t19; slots = List.[] }
+
 abbrev pub T22 : Row.Cx
 T22 = record { locals = List._++_ t18 t20; slots = List.[] }
+
 abbrev pub T24 : Row.Cx
 T24 = record { locals = List._++_ t21 t22; slots = List.[] }
+
 abbrev pub T25 : Row.Cx
 T25 = record { locals = List._++_ t21 t23; slots = List.[] }
+
 abbrev pub T27 : Row.Cx
 T27 = record { locals = List._++_ t24 t25; slots = List.[] }
+
 abbrev pub T28 : Row.Cx
 T28 = record { locals = List._++_ t24 t26; slots = List.[] }
+
 abbrev pub T30 : Row.Cx
 T30 = record { locals = List._++_ t27 t28; slots = List.[] }
+
 abbrev pub T31 : Row.Cx
 T31 = record { locals = List._++_ t27 t29; slots = List.[] }
+
 abbrev pub T32 : Row.Cx
 T32 = record { locals = List._++_ t27 t30; slots = List.[] }
+
 abbrev pub T33 : Row.Cx
 T33 = record { locals = List._++_ t27 t31; slots = List.[] }
+
 abbrev pub T34 : Row.Cx
 T34 = record { locals = List._++_ t32 t33; slots = List.[] }
+
 abbrev pub T35 : Row.Cx
 T35 = record { locals = List._++_ t32 t34; slots = List.[] }
+
 abbrev pub T36 : Row.Cx
 T36 = record { locals = List._++_ t32 t35; slots = List.[] }
+
 abbrev pub T37 : Row.Cx
 T37 = record { locals = List._++_ t32 t36; slots = List.[] }
+
 abbrev pub T38 : Row.Cx
 T38 = record { locals = List._++_ t37 t36; slots = List.[] }
+
 abbrev pub T39 : Row.Cx
 T39 = record { locals = List._++_ t38 t36; slots = List.[] }
+
 abbrev pub T40 : Row.Cx
 T40 = record { locals = List._++_ t39 t36; slots = List.[] }
+
 abbrev pub T42 : Row.Cx
 T42 = record { locals = List._++_ t40 t36; slots = List.[] }
+
 abbrev pub T45 : Row.Cx
 T45 = record { locals = List._++_ t41 t42; slots = List.[] }
+
 abbrev pub T48 : Row.Cx
 T48 = record { locals = List._++_ t43 t44; slots = List.[] }
+
 abbrev pub T51 : Row.Cx
 T51 = record { locals = List._++_ t45 t46; slots = List.[] }
+
 abbrev pub T54 : Row.Cx
 T54 = record { locals = List._++_ t47 t1; slots = List.[] }
+
 abbrev pub T55 : Row.Cx
 T55 = record { locals = List._++_ t47 t1; slots = List.[] }
+
 abbrev pub T58 : Row.Cx
 T58 = record { locals = List._++_ t48 t1; slots = List.[] }
+
 abbrev pub T60 : Row.Cx
 T60 = record { locals = List._++_ t49 t1; slots = List.[] }
+
 abbrev pub T62 : Row.Cx
 T62 = record { locals = List._++_ t50 t1; slots = List.[] }
+
 abbrev pub T64 : Row.Cx
 T64 = record { locals = List._++_ t51 t1; slots = List.[] }
+
 abbrev pub T65 : Row.Cx
 T65 = record { locals = List._++_ t2 t1; slots = List.[] }
+
 abbrev pub O0 : Typed.Outs
 O0 = record { next = Option.none; exits = List.[]; returns = Option.some T1 }
+
 module _ (claims· : Claims) where
   abbrev s0 : (bs : List.List Nat.ℕ) → Typed.Gives T0 T2
   s0 = λ bs. Know.k-sl-known (Referent.fInt Syntax.w32) T0 5 4 ref11 Row.off 0 λ x. x
+
   abbrev s1 : (bs : List.List Nat.ℕ) → Typed.Gives T2 T3
   s1 = λ bs. Know.k-shs-known (Referent.fInt Syntax.w8) T2 9 5 ref12 Row.off 0 λ x. x
+
   abbrev s2 : (bs : List.List Nat.ℕ) → Typed.Mo T3 → Typed.Mo T4
-  s2 = λ bs. Make.n-make (Array.Array (Referent.rtF (Referent.fInt Syntax.w8)) 1) T3 10 λ m. (m .1 .1 .1 .1 .1 .1 .1 .1 .0) ∷ List.[]
+  s2 = λ bs. Make.n-make (Array.Array (Referent.rtF (Referent.fInt Syntax.w8)) 1) T3 10 λ m.
+      (m .1 .1 .1 .1 .1 .1 .1 .1 .0) ∷ List.[]
+
   abbrev s3 : (bs : List.List Nat.ℕ) → Typed.Mo T4 → Typed.Mo T5
   s3 = λ bs. AtSlots.n-as-by T4 10 (Rows.arrF (Referent.rtF (Referent.fInt Syntax.w8)) 1 0) λ x. x
+
   abbrev s4 : (bs : List.List Nat.ℕ) → Typed.Mo T5 → Typed.Mo T6
   s4 = λ bs. Make.n-make (Array.Array (Referent.rtF (Referent.fInt Syntax.w8)) 1) T5 11 λ m. 0 ∷ List.[]
+
   abbrev s5 : (bs : List.List Nat.ℕ) → Typed.Mo T6 → Typed.Mo T7
   s5 = λ bs. AtSlots.n-as-by T6 11 (Rows.arrF (Referent.rtF (Referent.fInt Syntax.w8)) 1 0) λ x. x
+
   abbrev s6 : (bs : List.List Nat.ℕ) → Typed.Both T7 T8
-  s6 = λ bs. WayStmt.k-way-copy-out T7 (Row.out 6 (T7 .locals)) (λ u. Row.drop 6 (T7 .locals) u) 12 (Rows'.whole (Declared.row
-      OpaqueRelayRuntime.the-type)) (λ u. At.getAt (Relayed.the-type .parts) 0 (Relayed.struct .as-values (u .1 .1 .1 .1 .1 .1 .0))) (λ T′. record {
-      locals = Row.setRow 6 (6, Rows'.whole (Declared.row Relayed.the-type)) T′; slots = List.[]; }) (λ u T′ m′. Row.set 6 (6, Rows'.whole
-      (Declared.row Relayed.the-type)) (u .1 .1 .1 .1 .1 .1 .0) T′ m′) (λ u. Unit) λ u. Unit
+  s6 = λ bs. WayStmt.k-way-copy-out T7 (Row.out 6 (T7 .locals)) (λ u. Row.drop 6 (T7 .locals) u) 12
+      (Rows'.whole (Declared.row OpaqueRelayRuntime.the-type)) (λ u. At.getAt (Relayed.the-type .parts) 0
+      (Relayed.struct .as-values (u .1 .1 .1 .1 .1 .1 .0))) (λ T′.
+      record { locals = Row.setRow 6 (6, Rows'.whole (Declared.row Relayed.the-type)) T′; slots = List.[] }) (λ u T′
+      m′. Row.set 6 (6, Rows'.whole (Declared.row Relayed.the-type)) (u .1 .1 .1 .1 .1 .1 .0) T′ m′) (λ u. Unit) λ u.
+      Unit
+
   abbrev s7 : (bs : List.List Nat.ℕ) → Typed.Both T8 T9
-  s7 = λ bs. WayStmt.k-way-copy-out T8 (Row.out 6 (T8 .locals)) (λ u. Row.drop 6 (T8 .locals) u) 13 (Rows'.whole (Declared.row Places.the-type)) (λ u.
-      At.getAt (Relayed.the-type .parts) 3 (Relayed.struct .as-values (u .1 .1 .1 .1 .1 .1 .0))) (λ T′. record { locals = Row.setRow 6 (6, Rows'.whole
-      (Declared.row Relayed.the-type)) T′; slots = List.[]; }) (λ u T′ m′. Row.set 6 (6, Rows'.whole (Declared.row Relayed.the-type)) (u .1 .1 .1 .1
-      .1 .1 .0) T′ m′) (λ u. Unit) λ u. Unit
+  s7 = λ bs. WayStmt.k-way-copy-out T8 (Row.out 6 (T8 .locals)) (λ u. Row.drop 6 (T8 .locals) u) 13
+      (Rows'.whole (Declared.row Places.the-type)) (λ u. At.getAt (Relayed.the-type .parts) 3
+      (Relayed.struct .as-values (u .1 .1 .1 .1 .1 .1 .0))) (λ T′.
+      record { locals = Row.setRow 6 (6, Rows'.whole (Declared.row Relayed.the-type)) T′; slots = List.[] }) (λ u T′
+      m′. Row.set 6 (6, Rows'.whole (Declared.row Relayed.the-type)) (u .1 .1 .1 .1 .1 .1 .0) T′ m′) (λ u. Unit) λ u.
+      Unit
+
   abbrev s8 : (bs : List.List Nat.ℕ) → Typed.Mo T9 → Typed.Mo T10
   s8 = λ bs. Scalar.n-room T9 6 Laws'''.mir
+
   abbrev s10 : (bs : List.List Nat.ℕ) → Typed.Gives T10 T12
   s10 = λ bs. Relend.k-sl-relend RelayPending.row T10 1 14 0 6 ref7 ref0 Row.off λ x. x
+
   abbrev s11 : (bs : List.List Nat.ℕ) → Typed.Asks T12 T13
-  s11 = λ bs. Relend.k-sl-aggregate RelayPending.row (Relend.asMut RelayPending.row) T12 14 15 6 ref0 ref0 (λ x. x) (Scalar.oFld 1 ((Syntax.field 1) ∷
-      List.[]) (Syntax.tyInt Syntax.w64) 8 λ v. Shared.lenV (v .0))
+  s11 = λ bs. Relend.k-sl-aggregate RelayPending.row (Relend.asMut RelayPending.row) T12 14 15 6 ref0 ref0 (λ x. x) (Scalar.oFld
+      1 ((Syntax.field 1) ∷ List.[]) (Syntax.tyInt Syntax.w64) 8 λ v. Shared.lenV (v .0))
+
   abbrev s13 : (bs : List.List Nat.ℕ) → Typed.Gives T13 T15
   s13 = λ bs. Relend.k-sl-relend RelayCircuit.row T13 2 16 1 7 ref8 ref1 Row.off λ x. x
+
   abbrev s14 : (bs : List.List Nat.ℕ) → Typed.Asks T15 T16
-  s14 = λ bs. Relend.k-sl-aggregate RelayCircuit.row (Relend.asMut RelayCircuit.row) T15 16 17 7 ref1 ref1 (λ x. x) (Scalar.oFld 2 ((Syntax.field 1) ∷
-      List.[]) (Syntax.tyInt Syntax.w64) 8 λ v. Shared.lenV (v .0))
+  s14 = λ bs. Relend.k-sl-aggregate RelayCircuit.row (Relend.asMut RelayCircuit.row) T15 16 17 7 ref1 ref1 (λ x. x) (Scalar.oFld
+      2 ((Syntax.field 1) ∷ List.[]) (Syntax.tyInt Syntax.w64) 8 λ v. Shared.lenV (v .0))
+
   abbrev s16 : (bs : List.List Nat.ℕ) → Typed.Gives T16 T18
   s16 = λ bs. Relend.k-sl-relend ReservationUsage.row T16 3 18 2 8 ref9 ref2 Row.off λ x. x
+
   abbrev s17 : (bs : List.List Nat.ℕ) → Typed.Asks T18 T19
-  s17 = λ bs. Relend.k-sl-aggregate ReservationUsage.row (Relend.asMut ReservationUsage.row) T18 18 19 8 ref2 ref2 (λ x. x) (Scalar.oFld 3
-      ((Syntax.field 1) ∷ List.[]) (Syntax.tyInt Syntax.w64) 8 λ v. Shared.lenV (v .0))
+  s17 = λ bs. Relend.k-sl-aggregate ReservationUsage.row (Relend.asMut ReservationUsage.row) T18 18 19 8 ref2 ref2
+      (λ x. x) (Scalar.oFld 3 ((Syntax.field 1) ∷ List.[]) (Syntax.tyInt Syntax.w64) 8 λ v. Shared.lenV (v .0))
+
   abbrev s19 : (bs : List.List Nat.ℕ) → Typed.Gives T19 T21
   s19 = λ bs. Relend.k-sl-relend InflightAction.row T19 4 20 3 9 ref10 ref3 Row.off λ x. x
+
   abbrev s20 : (bs : List.List Nat.ℕ) → Typed.Asks T21 T22
-  s20 = λ bs. Relend.k-sl-aggregate InflightAction.row (Relend.asMut InflightAction.row) T21 20 21 9 ref3 ref3 (λ x. x) (Scalar.oFld 4 ((Syntax.field
-      1) ∷ List.[]) (Syntax.tyInt Syntax.w64) 8 λ v. Shared.lenV (v .0))
+  s20 = λ bs. Relend.k-sl-aggregate InflightAction.row (Relend.asMut InflightAction.row) T21 20 21 9 ref3 ref3 (λ x. x) (Scalar.oFld
+      4 ((Syntax.field 1) ∷ List.[]) (Syntax.tyInt Syntax.w64) 8 λ v. Shared.lenV (v .0))
+
   abbrev s22 : (bs : List.List Nat.ℕ) → Typed.Gives T22 T24
   s22 = λ bs. Relend.k-sl-relend (Referent.rtF (Referent.fInt Syntax.w32)) T22 5 22 4 10 ref11 ref4 Row.off λ x. x
+
   abbrev s23 : (bs : List.List Nat.ℕ) → Typed.Asks T24 T25
-  s23 = λ bs. Relend.k-sl-aggregate (Referent.rtF (Referent.fInt Syntax.w32)) (Relend.asMut (Referent.rtF (Referent.fInt Syntax.w32))) T24 22 23 10
-      ref4 ref4 (λ x. x) (Scalar.oFld 5 ((Syntax.field 1) ∷ List.[]) (Syntax.tyInt Syntax.w64) 8 λ v. Shared.lenV (v .0))
+  s23 = λ bs. Relend.k-sl-aggregate (Referent.rtF (Referent.fInt Syntax.w32))
+      (Relend.asMut (Referent.rtF (Referent.fInt Syntax.w32))) T24 22 23 10 ref4 ref4 (λ x. x) (Scalar.oFld 5
+      ((Syntax.field 1) ∷ List.[]) (Syntax.tyInt Syntax.w64) 8 λ v. Shared.lenV (v .0))
+
   abbrev s25 : (bs : List.List Nat.ℕ) → Typed.Gives T25 T27
   s25 = λ bs. Share.k-arr-share (Referent.rtF (Referent.fInt Syntax.w8)) T25 10 24 1 11 ref5 λ x. x
+
   abbrev s26 : (bs : List.List Nat.ℕ) → Typed.Asks T27 T28
-  s26 = λ bs. Relend.k-sl-aggregate (Referent.rtF (Referent.fInt Syntax.w8)) (Relend.asShr (Referent.rtF (Referent.fInt Syntax.w8))) T27 24 25 11 ref5
-      ref6 (λ x. x) (Scalar.oInt Syntax.w64 1)
+  s26 = λ bs. Relend.k-sl-aggregate (Referent.rtF (Referent.fInt Syntax.w8))
+      (Relend.asShr (Referent.rtF (Referent.fInt Syntax.w8))) T27 24 25 11 ref5 ref6 (λ x. x)
+      (Scalar.oInt Syntax.w64 1)
+
   abbrev s28 : (bs : List.List Nat.ℕ) → Typed.Gives T28 T30
   s28 = λ bs. Share.k-arr-share (Referent.rtF (Referent.fInt Syntax.w8)) T28 11 26 1 12 ref5 λ x. x
+
   abbrev s29 : (bs : List.List Nat.ℕ) → Typed.Asks T30 T31
-  s29 = λ bs. Relend.k-sl-aggregate (Referent.rtF (Referent.fInt Syntax.w8)) (Relend.asShr (Referent.rtF (Referent.fInt Syntax.w8))) T30 26 27 12 ref5
-      ref6 (λ x. x) (Scalar.oInt Syntax.w64 1)
+  s29 = λ bs. Relend.k-sl-aggregate (Referent.rtF (Referent.fInt Syntax.w8))
+      (Relend.asShr (Referent.rtF (Referent.fInt Syntax.w8))) T30 26 27 12 ref5 ref6 (λ x. x)
+      (Scalar.oInt Syntax.w64 1)
+
   abbrev s30 : (bs : List.List Nat.ℕ) → Typed.Gives T31 T32
   s30 = λ bs. Share.k-arr-share² (Referent.rtF (Referent.fInt Syntax.w8)) T31 11 28 1 12 ref5 λ x. x
+
   abbrev s31 : (bs : List.List Nat.ℕ) → Typed.Asks T32 T33
-  s31 = λ bs. Relend.k-sl-aggregate (Referent.rtF (Referent.fInt Syntax.w8)) (Relend.asShr (Referent.rtF (Referent.fInt Syntax.w8))) T32 28 29 12 ref5
-      ref6 (λ x. x) (Scalar.oInt Syntax.w64 1)
+  s31 = λ bs. Relend.k-sl-aggregate (Referent.rtF (Referent.fInt Syntax.w8))
+      (Relend.asShr (Referent.rtF (Referent.fInt Syntax.w8))) T32 28 29 12 ref5 ref6 (λ x. x)
+      (Scalar.oInt Syntax.w64 1)
+
   abbrev s32 : (bs : List.List Nat.ℕ) → Typed.Both T33 T34
-  s32 = λ bs. Call.callB ps·0 r·0 (claims· .0) (claims· .1) T33 (record { pos = 15; ty = Syntax.tyRef Syntax.erased Syntax.mut RelayPending.to; ref =
-      λ x. x; }, (record { pos = 17; ty = Syntax.tyRef Syntax.erased Syntax.mut RelayCircuit.to; ref = λ x. x; }, (record { pos = 19; ty =
-      Syntax.tyRef Syntax.erased Syntax.mut ReservationUsage.to; ref = λ x. x; }, (record { pos = 21; ty = Syntax.tyRef Syntax.erased Syntax.mut
-      InflightAction.to; ref = λ x. x; }, (record { pos = 23; ty = Syntax.tyRef Syntax.erased Syntax.mut (Syntax.tyInt Syntax.w32); ref = λ x. x; },
-      (record { pos = 12; st = List.[]; d = 0; at = λ x. x }, (record { pos = 13; st = List.[]; d = 0; at = λ x. x }, (record { pos = 7; st = List.[];
-      d = 0; at = λ x. x }, (record { pos = 25; ty = Syntax.tyRef Syntax.erased Syntax.imm (Syntax.tyInt Syntax.w8); ref = λ x. x; }, (record { pos =
-      9; ty = Syntax.tyRef (Syntax.named 5) Syntax.imm (Syntax.tyInt Syntax.w8); ref = λ x. x; }, (record { pos = 27; ty = Syntax.tyRef Syntax.erased
-      Syntax.imm (Syntax.tyInt Syntax.w8); ref = λ x. x; }, (record { pos = 29; ty = Syntax.tyRef Syntax.erased Syntax.imm (Syntax.tyInt Syntax.w8);
-      ref = λ x. x; }, tt,),),),),),),),),),),),) 0 (6 ∷ 7 ∷ 8 ∷ 9 ∷ 10 ∷ 11 ∷ 5 ∷ 12 ∷ 12 ∷ List.[]) Laws'''.mir
+  s32 = λ bs. Call.callB ps·0 r·0 (claims· .0) (claims· .1) T33 (
+    record { pos = 15; ty = ref0; ref = λ x. x },
+    (
+      record { pos = 17; ty = ref1; ref = λ x. x },
+      (
+        record { pos = 19; ty = ref2; ref = λ x. x },
+        (
+          record { pos = 21; ty = ref3; ref = λ x. x },
+          (
+            record { pos = 23; ty = ref4; ref = λ x. x },
+            (
+              record { pos = 12; st = List.[]; d = 0; at = λ x. x },
+              (
+                record { pos = 13; st = List.[]; d = 0; at = λ x. x },
+                (
+                  record { pos = 7; st = List.[]; d = 0; at = λ x. x },
+                  (
+                    record { pos = 25; ty = ref6; ref = λ x. x },
+                    (
+                      record { pos = 9; ty = ref12; ref = λ x. x },
+                      (
+                        record { pos = 27; ty = ref6; ref = λ x. x },
+                        (record { pos = 29; ty = ref6; ref = λ x. x }, tt),
+                      ),
+                    ),
+                  ),
+                ),
+              ),
+            ),
+          ),
+        ),
+      ),
+    ),
+  ) 0 (6 ∷ 7 ∷ 8 ∷ 9 ∷ 10 ∷ 11 ∷ 5 ∷ 12 ∷ 12 ∷ List.[]) Laws'''.mir
+
   abbrev s33 : (bs : List.List Nat.ℕ) → Typed.Mo T34 → Typed.Mo T35
-  s33 = λ bs. Scalar.n-room T34 25 (Syntax.tyStruct (38 ∷ 91 ∷ 93 ∷ List.[]) (Syntax.tcons ref6 (Syntax.tcons (Syntax.tyInt Syntax.w64) Syntax.tnil)))
+  s33 = λ bs. Scalar.n-room T34 25 slice6
+
   abbrev s34 : (bs : List.List Nat.ℕ) → Typed.Mo T35 → Typed.Mo T36
-  s34 = λ bs. Scalar.n-room T35 27 (Syntax.tyStruct (38 ∷ 91 ∷ 93 ∷ List.[]) (Syntax.tcons ref6 (Syntax.tcons (Syntax.tyInt Syntax.w64) Syntax.tnil)))
+  s34 = λ bs. Scalar.n-room T35 27 slice6
+
   abbrev s35 : (bs : List.List Nat.ℕ) → Typed.Mo T36 → Typed.Mo T37
-  s35 = λ bs. Scalar.n-room T36 29 (Syntax.tyStruct (38 ∷ 91 ∷ 93 ∷ List.[]) (Syntax.tcons ref6 (Syntax.tcons (Syntax.tyInt Syntax.w64) Syntax.tnil)))
+  s35 = λ bs. Scalar.n-room T36 29 slice6
+
   abbrev s36 : (bs : List.List Nat.ℕ) → Typed.Mo T37 → Typed.Mo T38
   s36 = λ bs. Scalar.n-room T37 7 Laws'.mir
+
   abbrev s37 : (bs : List.List Nat.ℕ) → Typed.Mo T38 → Typed.Mo T39
   s37 = λ bs. Scalar.n-room T38 12 Laws''.mir
+
   abbrev s38 : (bs : List.List Nat.ℕ) → Typed.Mo T39 → Typed.Mo T40
   s38 = λ bs. Scalar.n-room T39 13 Laws.mir
+
   abbrev s40 : (bs : List.List Nat.ℕ) → Typed.Both T40 T42
   s40 = λ bs. Relend.k-back-sl RelayPending.row T40 15 1 0 6 ref7 ref0 Row.off (λ x. x) λ x. x
+
   abbrev s43 : (bs : List.List Nat.ℕ) → Typed.Both T42 T45
   s43 = λ bs. Relend.k-back-sl RelayCircuit.row T42 17 2 1 7 ref8 ref1 Row.off (λ x. x) λ x. x
+
   abbrev s46 : (bs : List.List Nat.ℕ) → Typed.Both T45 T48
   s46 = λ bs. Relend.k-back-sl ReservationUsage.row T45 19 3 2 8 ref9 ref2 Row.off (λ x. x) λ x. x
+
   abbrev s49 : (bs : List.List Nat.ℕ) → Typed.Both T48 T51
   s49 = λ bs. Relend.k-back-sl InflightAction.row T48 21 4 3 9 ref10 ref3 Row.off (λ x. x) λ x. x
+
   abbrev s52 : (bs : List.List Nat.ℕ) → Typed.Both T51 T54
-  s52 = λ bs. Relend.k-back-sl (Referent.rtF (Referent.fInt Syntax.w32)) T51 23 5 4 10 ref11 ref4 Row.off (λ x. x) λ x. x
+  s52 = λ bs. Relend.k-back-sl (Referent.rtF (Referent.fInt Syntax.w32)) T51 23 5 4 10 ref11 ref4 Row.off (λ x. x) λ x.
+      x
+
   abbrev s53 : (bs : List.List Nat.ℕ) → Typed.Gives T54 T55
   s53 = λ bs. Know.k-sl-known (Referent.fInt Syntax.w32) T54 5 4 ref11 Row.off 0 λ x. x
+
   abbrev s56 : (bs : List.List Nat.ℕ) → Typed.Mo T55 → Typed.Mo T58
   s56 = λ bs. Share.n-back-arr-shr (Referent.rtF (Referent.fInt Syntax.w8)) T55 10 1 11 λ x. x
+
   abbrev s58 : (bs : List.List Nat.ℕ) → Typed.Mo T58 → Typed.Mo T60
   s58 = λ bs. Scalar.n-room T58 10 (Syntax.tyArray (Syntax.tyInt Syntax.w8) 1)
+
   abbrev s60 : (bs : List.List Nat.ℕ) → Typed.Mo T60 → Typed.Mo T62
   s60 = λ bs. Share.n-back-arr-shr (Referent.rtF (Referent.fInt Syntax.w8)) T60 11 1 12 λ x. x
+
   abbrev s62 : (bs : List.List Nat.ℕ) → Typed.Mo T62 → Typed.Mo T64
   s62 = λ bs. Scalar.n-room T62 11 (Syntax.tyArray (Syntax.tyInt Syntax.w8) 1)
+
   abbrev s63 : (bs : List.List Nat.ℕ) → Typed.Mo T64 → Typed.Mo T65
   s63 = λ bs. Scalar.n-room T64 8 (Syntax.tyInt Syntax.w8)
-  module _ (Pre· : (κs : Lifetimes.Lfts 6) → Kinds.Dens κs ps → Type 0) (Post· : (κs : Lifetimes.Lfts 6) → (a : Kinds.Dens κs ps) → Kinds.Plain 6 ps r
-      κs) where
+
+  module _ (Pre· : (κs : Lifetimes.Lfts 6) → Kinds.Dens κs ps → Type 0) (Post· : (κs : Lifetimes.Lfts 6) →
+      (a : Kinds.Dens κs ps) → Kinds.Plain 6 ps r κs) where
     module _ (M : Type 1) where
       abbrev pub Closed : Type 2
-      Closed = (𝓤 : URA.URA M) (H : Wp.Heap 𝓤) (A : Atoms.Atoms 𝓤) (W : Kit.Given 𝓤 H A) (𝓣 : Wp.Tables 𝓤 H) (known0 : Plain.Known 𝓤 H A W 𝓣 9 ps·0
-          r·0 (claims· .0) (claims· .1) "hnsr_circuit::handle::handle") → Statement.Triple 𝓤 (Wp.WpFn 𝓤 H (𝓣 .C) (𝓣 .Λ) (Function.fnOf 6 ps r xs m hs
-          body)) (Function.plainOf 𝓤 H A 6 ps r Pre· Post·)
+      Closed = (𝓤 : URA.URA M) (H : Wp.Heap 𝓤) (A : Atoms.Atoms 𝓤) (W : Kit.Given 𝓤 H A) (𝓣 : Wp.Tables 𝓤 H) (known0 :
+          Plain.Known 𝓤 H A W 𝓣 9 ps·0 r·0 (claims· .0) (claims· .1) "hnsr_circuit::handle::handle") → Statement.Triple
+          𝓤 (Wp.WpFn 𝓤 H (𝓣 .C) (𝓣 .Λ) (Function.fnOf 6 ps r xs m hs body)) (Function.plainOf 𝓤 H A 6 ps r Pre· Post·)
+
     module _ where
       abbrev at0 : (bs : List.List Nat.ℕ) → Typed.TF T65 O0
       at0 = λ bs. Typed.atRet O0
+
       abbrev at1 : (bs : List.List Nat.ℕ) → Typed.TF T64 O0
       at1 = λ bs. λ Ψ. Typed.pass T64 T65 (s63 bs) (at0 bs Ψ)
+
       abbrev at2 : (bs : List.List Nat.ℕ) → Typed.TF T62 O0
       at2 = λ bs. λ Ψ. Typed.pass T62 T64 (s62 bs) (at1 bs Ψ)
+
       abbrev at3 : (bs : List.List Nat.ℕ) → Typed.TF T62 O0
       at3 = λ bs. λ Ψ. at2 bs Ψ
+
       abbrev at4 : (bs : List.List Nat.ℕ) → Typed.TF T60 O0
       at4 = λ bs. λ Ψ. Typed.pass T60 T62 (s60 bs) (at3 bs Ψ)
+
       abbrev at5 : (bs : List.List Nat.ℕ) → Typed.TF T60 O0
       at5 = λ bs. λ Ψ. at4 bs Ψ
+
       abbrev at6 : (bs : List.List Nat.ℕ) → Typed.TF T58 O0
       at6 = λ bs. λ Ψ. Typed.pass T58 T60 (s58 bs) (at5 bs Ψ)
+
       abbrev at7 : (bs : List.List Nat.ℕ) → Typed.TF T58 O0
       at7 = λ bs. λ Ψ. at6 bs Ψ
+
       abbrev at8 : (bs : List.List Nat.ℕ) → Typed.TF T55 O0
       at8 = λ bs. λ Ψ. Typed.pass T55 T58 (s56 bs) (at7 bs Ψ)
+
       abbrev at9 : (bs : List.List Nat.ℕ) → Typed.TF T55 O0
       at9 = λ bs. λ Ψ. at8 bs Ψ
+
       abbrev at10 : (bs : List.List Nat.ℕ) → Typed.TF T55 O0
       at10 = λ bs. λ Ψ. at9 bs Ψ
+
       abbrev at11 : (bs : List.List Nat.ℕ) → Typed.TF T54 O0
       at11 = λ bs. λ Ψ. Typed.give (s53 bs) (at10 bs Ψ)
+
       abbrev at12 : (bs : List.List Nat.ℕ) → Typed.TF T51 O0
       at12 = λ bs. λ Ψ. Typed.both (s52 bs) (at11 bs Ψ)
+
       abbrev at13 : (bs : List.List Nat.ℕ) → Typed.TF T51 O0
       at13 = λ bs. λ Ψ. at12 bs Ψ
+
       abbrev at14 : (bs : List.List Nat.ℕ) → Typed.TF T51 O0
       at14 = λ bs. λ Ψ. at13 bs Ψ
+
       abbrev at15 : (bs : List.List Nat.ℕ) → Typed.TF T48 O0
       at15 = λ bs. λ Ψ. Typed.both (s49 bs) (at14 bs Ψ)
+
       abbrev at16 : (bs : List.List Nat.ℕ) → Typed.TF T48 O0
       at16 = λ bs. λ Ψ. at15 bs Ψ
+
       abbrev at17 : (bs : List.List Nat.ℕ) → Typed.TF T48 O0
       at17 = λ bs. λ Ψ. at16 bs Ψ
+
       abbrev at18 : (bs : List.List Nat.ℕ) → Typed.TF T45 O0
       at18 = λ bs. λ Ψ. Typed.both (s46 bs) (at17 bs Ψ)
+
       abbrev at19 : (bs : List.List Nat.ℕ) → Typed.TF T45 O0
       at19 = λ bs. λ Ψ. at18 bs Ψ
+
       abbrev at20 : (bs : List.List Nat.ℕ) → Typed.TF T45 O0
       at20 = λ bs. λ Ψ. at19 bs Ψ
+
       abbrev at21 : (bs : List.List Nat.ℕ) → Typed.TF T42 O0
       at21 = λ bs. λ Ψ. Typed.both (s43 bs) (at20 bs Ψ)
+
       abbrev at22 : (bs : List.List Nat.ℕ) → Typed.TF T42 O0
       at22 = λ bs. λ Ψ. at21 bs Ψ
+
       abbrev at23 : (bs : List.List Nat.ℕ) → Typed.TF T42 O0
       at23 = λ bs. λ Ψ. at22 bs Ψ
+
       abbrev at24 : (bs : List.List Nat.ℕ) → Typed.TF T40 O0
       at24 = λ bs. λ Ψ. Typed.both (s40 bs) (at23 bs Ψ)
+
       abbrev at25 : (bs : List.List Nat.ℕ) → Typed.TF T40 O0
       at25 = λ bs. λ Ψ. at24 bs Ψ
+
       abbrev at26 : (bs : List.List Nat.ℕ) → Typed.TF T39 O0
       at26 = λ bs. λ Ψ. Typed.pass T39 T40 (s38 bs) (at25 bs Ψ)
+
       abbrev at27 : (bs : List.List Nat.ℕ) → Typed.TF T38 O0
       at27 = λ bs. λ Ψ. Typed.pass T38 T39 (s37 bs) (at26 bs Ψ)
+
       abbrev at28 : (bs : List.List Nat.ℕ) → Typed.TF T37 O0
       at28 = λ bs. λ Ψ. Typed.pass T37 T38 (s36 bs) (at27 bs Ψ)
+
       abbrev at29 : (bs : List.List Nat.ℕ) → Typed.TF T36 O0
       at29 = λ bs. λ Ψ. Typed.pass T36 T37 (s35 bs) (at28 bs Ψ)
+
       abbrev at30 : (bs : List.List Nat.ℕ) → Typed.TF T35 O0
       at30 = λ bs. λ Ψ. Typed.pass T35 T36 (s34 bs) (at29 bs Ψ)
+
       abbrev at31 : (bs : List.List Nat.ℕ) → Typed.TF T34 O0
       at31 = λ bs. λ Ψ. Typed.pass T34 T35 (s33 bs) (at30 bs Ψ)
+
       abbrev at32 : (bs : List.List Nat.ℕ) → Typed.TF T33 O0
       at32 = λ bs. λ Ψ. Typed.both (s32 bs) (at31 bs Ψ)
+
       abbrev at33 : (bs : List.List Nat.ℕ) → Typed.TF T32 O0
       at33 = λ bs. λ Ψ. Typed.ask (s31 bs) (at32 bs Ψ)
+
       abbrev at34 : (bs : List.List Nat.ℕ) → Typed.TF T31 O0
       at34 = λ bs. λ Ψ. Typed.give (s30 bs) (at33 bs Ψ)
+
       abbrev at35 : (bs : List.List Nat.ℕ) → Typed.TF T30 O0
       at35 = λ bs. λ Ψ. Typed.ask (s29 bs) (at34 bs Ψ)
+
       abbrev at36 : (bs : List.List Nat.ℕ) → Typed.TF T28 O0
       at36 = λ bs. λ Ψ. Typed.give (s28 bs) (at35 bs Ψ)
+
       abbrev at37 : (bs : List.List Nat.ℕ) → Typed.TF T28 O0
       at37 = λ bs. λ Ψ. at36 bs Ψ
+
       abbrev at38 : (bs : List.List Nat.ℕ) → Typed.TF T27 O0
       at38 = λ bs. λ Ψ. Typed.ask (s26 bs) (at37 bs Ψ)
+
       abbrev at39 : (bs : List.List Nat.ℕ) → Typed.TF T25 O0
       at39 = λ bs. λ Ψ. Typed.give (s25 bs) (at38 bs Ψ)
+
       abbrev at40 : (bs : List.List Nat.ℕ) → Typed.TF T25 O0
       at40 = λ bs. λ Ψ. at39 bs Ψ
+
       abbrev at41 : (bs : List.List Nat.ℕ) → Typed.TF T24 O0
       at41 = λ bs. λ Ψ. Typed.ask (s23 bs) (at40 bs Ψ)
+
       abbrev at42 : (bs : List.List Nat.ℕ) → Typed.TF T22 O0
       at42 = λ bs. λ Ψ. Typed.give (s22 bs) (at41 bs Ψ)
+
       abbrev at43 : (bs : List.List Nat.ℕ) → Typed.TF T22 O0
       at43 = λ bs. λ Ψ. at42 bs Ψ
+
       abbrev at44 : (bs : List.List Nat.ℕ) → Typed.TF T21 O0
       at44 = λ bs. λ Ψ. Typed.ask (s20 bs) (at43 bs Ψ)
+
       abbrev at45 : (bs : List.List Nat.ℕ) → Typed.TF T19 O0
       at45 = λ bs. λ Ψ. Typed.give (s19 bs) (at44 bs Ψ)
+
       abbrev at46 : (bs : List.List Nat.ℕ) → Typed.TF T19 O0
       at46 = λ bs. λ Ψ. at45 bs Ψ
+
       abbrev at47 : (bs : List.List Nat.ℕ) → Typed.TF T18 O0
       at47 = λ bs. λ Ψ. Typed.ask (s17 bs) (at46 bs Ψ)
+
       abbrev at48 : (bs : List.List Nat.ℕ) → Typed.TF T16 O0
       at48 = λ bs. λ Ψ. Typed.give (s16 bs) (at47 bs Ψ)
+
       abbrev at49 : (bs : List.List Nat.ℕ) → Typed.TF T16 O0
       at49 = λ bs. λ Ψ. at48 bs Ψ
+
       abbrev at50 : (bs : List.List Nat.ℕ) → Typed.TF T15 O0
       at50 = λ bs. λ Ψ. Typed.ask (s14 bs) (at49 bs Ψ)
+
       abbrev at51 : (bs : List.List Nat.ℕ) → Typed.TF T13 O0
       at51 = λ bs. λ Ψ. Typed.give (s13 bs) (at50 bs Ψ)
+
       abbrev at52 : (bs : List.List Nat.ℕ) → Typed.TF T13 O0
       at52 = λ bs. λ Ψ. at51 bs Ψ
+
       abbrev at53 : (bs : List.List Nat.ℕ) → Typed.TF T12 O0
       at53 = λ bs. λ Ψ. Typed.ask (s11 bs) (at52 bs Ψ)
+
       abbrev at54 : (bs : List.List Nat.ℕ) → Typed.TF T10 O0
       at54 = λ bs. λ Ψ. Typed.give (s10 bs) (at53 bs Ψ)
+
       abbrev at55 : (bs : List.List Nat.ℕ) → Typed.TF T10 O0
       at55 = λ bs. λ Ψ. at54 bs Ψ
+
       abbrev at56 : (bs : List.List Nat.ℕ) → Typed.TF T9 O0
       at56 = λ bs. λ Ψ. Typed.pass T9 T10 (s8 bs) (at55 bs Ψ)
+
       abbrev at57 : (bs : List.List Nat.ℕ) → Typed.TF T8 O0
       at57 = λ bs. λ Ψ. Typed.both (s7 bs) (at56 bs Ψ)
+
       abbrev at58 : (bs : List.List Nat.ℕ) → Typed.TF T7 O0
       at58 = λ bs. λ Ψ. Typed.both (s6 bs) (at57 bs Ψ)
+
       abbrev at59 : (bs : List.List Nat.ℕ) → Typed.TF T6 O0
       at59 = λ bs. λ Ψ. Typed.pass T6 T7 (s5 bs) (at58 bs Ψ)
+
       abbrev at60 : (bs : List.List Nat.ℕ) → Typed.TF T5 O0
       at60 = λ bs. λ Ψ. Typed.pass T5 T6 (s4 bs) (at59 bs Ψ)
+
       abbrev at61 : (bs : List.List Nat.ℕ) → Typed.TF T4 O0
       at61 = λ bs. λ Ψ. Typed.pass T4 T5 (s3 bs) (at60 bs Ψ)
+
       abbrev at62 : (bs : List.List Nat.ℕ) → Typed.TF T3 O0
       at62 = λ bs. λ Ψ. Typed.pass T3 T4 (s2 bs) (at61 bs Ψ)
+
       abbrev at63 : (bs : List.List Nat.ℕ) → Typed.TF T2 O0
       at63 = λ bs. λ Ψ. Typed.give (s1 bs) (at62 bs Ψ)
+
       abbrev at64 : (bs : List.List Nat.ℕ) → Typed.TF T0 O0
       at64 = λ bs. λ Ψ. Typed.give (s0 bs) (at63 bs Ψ)
+
       abbrev pub Φ : (bs : List.List Nat.ℕ) → Typed.TF T0 O0
       Φ = λ bs. at64 bs
-      module _ { M : Type 1 } (𝓤 : URA.URA M) (H : Wp.Heap 𝓤) (A : Atoms.Atoms 𝓤) (W : Kit.Given 𝓤 H A) (𝓣 : Wp.Tables 𝓤 H) where
+
+      module _ {M : Type 1} (𝓤 : URA.URA M) (H : Wp.Heap 𝓤) (A : Atoms.Atoms 𝓤) (W : Kit.Given 𝓤 H A)
+          (𝓣 : Wp.Tables 𝓤 H) where
         abbrev Knowns : Type 1
         Knowns = Plain.Known 𝓤 H A W 𝓣 9 ps·0 r·0 (claims· .0) (claims· .1) "hnsr_circuit::handle::handle"
+
       module _ (κs : Lifetimes.Lfts 6) (qs : Lifetimes.Shares 6) where
         abbrev life0 : Row.Life
         life0 = Row.lease (κs .0) (qs .0)
+
         abbrev life1 : Row.Life
         life1 = Row.lease (κs .1 .0) (qs .1 .0)
+
         abbrev life2 : Row.Life
         life2 = Row.lease (κs .1 .1 .0) (qs .1 .1 .0)
+
         abbrev life3 : Row.Life
         life3 = Row.lease (κs .1 .1 .1 .0) (qs .1 .1 .1 .0)
+
         abbrev life4 : Row.Life
         life4 = Row.lease (κs .1 .1 .1 .1 .0) (qs .1 .1 .1 .1 .0)
+
         abbrev life5 : Row.Life
         life5 = Row.lease (κs .1 .1 .1 .1 .1 .0) (qs .1 .1 .1 .1 .1 .0)
+
+        abbrev l1 : Row.Entry
+        l1 = (1, Relend.mslice-owed RelayPending.row ref7 0 6 life0)
+
+        abbrev l2 : Row.Entry
+        l2 = (2, Relend.mslice-owed RelayCircuit.row ref8 1 7 life1)
+
+        abbrev l3 : Row.Entry
+        l3 = (3, Relend.mslice-owed ReservationUsage.row ref9 2 8 life2)
+
+        abbrev l4 : Row.Entry
+        l4 = (4, Relend.mslice-owed InflightAction.row ref10 3 9 life3)
+
+        abbrev l5 : Row.Entry
+        l5 = (5, Relend.mslice-owed (Referent.rtF (Referent.fInt Syntax.w32)) ref11 4 10 life4)
+
         abbrev g10 : List.List Row.Entry
-        g10 = (0, Rows'.any-gone Laws'''.mir,) ∷ (1, Relend.mslice-owed RelayPending.row ref7 0 6 life0,) ∷ (2, Mut.mslice RelayCircuit.row ref8 1,) ∷
-            (3, Mut.mslice ReservationUsage.row ref9 2,) ∷ (4, Mut.mslice InflightAction.row ref10 3,) ∷ (5, Mut.mslice (Referent.rtF (Referent.fInt
-            Syntax.w32)) ref11 4,) ∷ (6, Rows'.any-gone Laws'''.mir,) ∷ (7, Rows'.whole (Declared.row RelayPacket.the-type)) ∷ (8, Rows'.sc-here
-            (Row.sInt Syntax.w8),) ∷ (9, Rows'.sslice (Referent.rtF (Referent.fInt Syntax.w8)) ref12 5,) ∷ (10, Rows.arrF (Referent.rtF (Referent.fInt
-            Syntax.w8)) 1 0) ∷ (11, Rows.arrF (Referent.rtF (Referent.fInt Syntax.w8)) 1 0,) ∷ (12, Rows'.whole (Declared.row
-            OpaqueRelayRuntime.the-type)) ∷ (13, Rows'.whole (Declared.row Places.the-type),) ∷ (14, Relend.msptr RelayPending.row ref0 6,) ∷ (15,
-            Rows'.any-gone (Syntax.tyStruct (38 ∷ 91 ∷ 93 ∷ List.[]) (Syntax.tcons ref0 (Syntax.tcons (Syntax.tyInt Syntax.w64) Syntax.tnil))),) ∷
-            List.[]
+        g10 = e0 ∷ l1 ∷ e2 ∷ e3 ∷ e4 ∷ e5 ∷ e6·1 ∷ e7 ∷ e8 ∷ e9 ∷ e10·2 ∷ e11·2 ∷ e12·1 ∷ e13·1 ∷ e14·1 ∷ e15 ∷ List.[]
+
         abbrev g11 : List.List Row.Entry
-        g11 = (0, Rows'.any-gone Laws'''.mir,) ∷ (1, Relend.mslice-owed RelayPending.row ref7 0 6 life0,) ∷ (2, Mut.mslice RelayCircuit.row ref8 1,) ∷
-            (3, Mut.mslice ReservationUsage.row ref9 2,) ∷ (4, Mut.mslice InflightAction.row ref10 3,) ∷ (5, Mut.mslice (Referent.rtF (Referent.fInt
-            Syntax.w32)) ref11 4,) ∷ (6, Rows'.any-gone Laws'''.mir,) ∷ (7, Rows'.whole (Declared.row RelayPacket.the-type)) ∷ (8, Rows'.sc-here
-            (Row.sInt Syntax.w8),) ∷ (9, Rows'.sslice (Referent.rtF (Referent.fInt Syntax.w8)) ref12 5,) ∷ (10, Rows.arrF (Referent.rtF (Referent.fInt
-            Syntax.w8)) 1 0) ∷ (11, Rows.arrF (Referent.rtF (Referent.fInt Syntax.w8)) 1 0,) ∷ (12, Rows'.whole (Declared.row
-            OpaqueRelayRuntime.the-type)) ∷ (13, Rows'.whole (Declared.row Places.the-type),) ∷ (14, Rows'.any-gone ref0,) ∷ (15, Mut.mslice
-            RelayPending.row ref0 6,) ∷ List.[]
+        g11 = e0 ∷ l1 ∷ e2 ∷ e3 ∷ e4 ∷ e5 ∷ e6·1 ∷ e7 ∷ e8 ∷ e9 ∷ e10·2 ∷ e11·2 ∷ e12·1 ∷ e13·1 ∷ e14 ∷ e15·1 ∷ List.[]
+
         abbrev g12 : List.List Row.Entry
-        g12 = (0, Rows'.any-gone Laws'''.mir,) ∷ (1, Relend.mslice-owed RelayPending.row ref7 0 6 life0,) ∷ (2, Relend.mslice-owed RelayCircuit.row
-            ref8 1 7 life1,) ∷ (3, Mut.mslice ReservationUsage.row ref9 2,) ∷ (4, Mut.mslice InflightAction.row ref10 3,) ∷ (5, Mut.mslice
-            (Referent.rtF (Referent.fInt Syntax.w32)) ref11 4,) ∷ (6, Rows'.any-gone Laws'''.mir,) ∷ (7, Rows'.whole (Declared.row
-            RelayPacket.the-type)) ∷ (8, Rows'.sc-here (Row.sInt Syntax.w8),) ∷ (9, Rows'.sslice (Referent.rtF (Referent.fInt Syntax.w8)) ref12 5,) ∷
-            (10, Rows.arrF (Referent.rtF (Referent.fInt Syntax.w8)) 1 0) ∷ (11, Rows.arrF (Referent.rtF (Referent.fInt Syntax.w8)) 1 0,) ∷ (12,
-            Rows'.whole (Declared.row OpaqueRelayRuntime.the-type)) ∷ (13, Rows'.whole (Declared.row Places.the-type),) ∷ (14, Rows'.any-gone ref0,) ∷
-            (15, Mut.mslice RelayPending.row ref0 6,) ∷ List.[]
+        g12 = e0 ∷ l1 ∷ l2 ∷ e3 ∷ e4 ∷ e5 ∷ e6·1 ∷ e7 ∷ e8 ∷ e9 ∷ e10·2 ∷ e11·2 ∷ e12·1 ∷ e13·1 ∷ e14 ∷ e15·1 ∷ List.[]
+
         abbrev g15 : List.List Row.Entry
-        g15 = (0, Rows'.any-gone Laws'''.mir,) ∷ (1, Relend.mslice-owed RelayPending.row ref7 0 6 life0,) ∷ (2, Relend.mslice-owed RelayCircuit.row
-            ref8 1 7 life1,) ∷ (3, Relend.mslice-owed ReservationUsage.row ref9 2 8 life2,) ∷ (4, Mut.mslice InflightAction.row ref10 3,) ∷ (5,
-            Mut.mslice (Referent.rtF (Referent.fInt Syntax.w32)) ref11 4,) ∷ (6, Rows'.any-gone Laws'''.mir,) ∷ (7, Rows'.whole (Declared.row
-            RelayPacket.the-type)) ∷ (8, Rows'.sc-here (Row.sInt Syntax.w8),) ∷ (9, Rows'.sslice (Referent.rtF (Referent.fInt Syntax.w8)) ref12 5,) ∷
-            (10, Rows.arrF (Referent.rtF (Referent.fInt Syntax.w8)) 1 0) ∷ (11, Rows.arrF (Referent.rtF (Referent.fInt Syntax.w8)) 1 0,) ∷ (12,
-            Rows'.whole (Declared.row OpaqueRelayRuntime.the-type)) ∷ (13, Rows'.whole (Declared.row Places.the-type),) ∷ (14, Rows'.any-gone ref0,) ∷
-            (15, Mut.mslice RelayPending.row ref0 6,) ∷ List.[]
+        g15 = e0 ∷ l1 ∷ l2 ∷ l3 ∷ e4 ∷ e5 ∷ e6·1 ∷ e7 ∷ e8 ∷ e9 ∷ e10·2 ∷ e11·2 ∷ e12·1 ∷ e13·1 ∷ e14 ∷ e15·1 ∷ List.[]
+
         abbrev g18 : List.List Row.Entry
-        g18 = (0, Rows'.any-gone Laws'''.mir,) ∷ (1, Relend.mslice-owed RelayPending.row ref7 0 6 life0,) ∷ (2, Relend.mslice-owed RelayCircuit.row
-            ref8 1 7 life1,) ∷ (3, Relend.mslice-owed ReservationUsage.row ref9 2 8 life2,) ∷ (4, Relend.mslice-owed InflightAction.row ref10 3 9
-            life3,) ∷ (5, Mut.mslice (Referent.rtF (Referent.fInt Syntax.w32)) ref11 4,) ∷ (6, Rows'.any-gone Laws'''.mir,) ∷ (7, Rows'.whole
-            (Declared.row RelayPacket.the-type)) ∷ (8, Rows'.sc-here (Row.sInt Syntax.w8),) ∷ (9, Rows'.sslice (Referent.rtF (Referent.fInt
-            Syntax.w8)) ref12 5,) ∷ (10, Rows.arrF (Referent.rtF (Referent.fInt Syntax.w8)) 1 0) ∷ (11, Rows.arrF (Referent.rtF (Referent.fInt
-            Syntax.w8)) 1 0,) ∷ (12, Rows'.whole (Declared.row OpaqueRelayRuntime.the-type)) ∷ (13, Rows'.whole (Declared.row Places.the-type),) ∷
-            (14, Rows'.any-gone ref0,) ∷ (15, Mut.mslice RelayPending.row ref0 6,) ∷ List.[]
+        g18 = e0 ∷ l1 ∷ l2 ∷ l3 ∷ l4 ∷ e5 ∷ e6·1 ∷ e7 ∷ e8 ∷ e9 ∷ e10·2 ∷ e11·2 ∷ e12·1 ∷ e13·1 ∷ e14 ∷ e15·1 ∷ List.[]
+
         abbrev g21 : List.List Row.Entry
-        g21 = (0, Rows'.any-gone Laws'''.mir,) ∷ (1, Relend.mslice-owed RelayPending.row ref7 0 6 life0,) ∷ (2, Relend.mslice-owed RelayCircuit.row
-            ref8 1 7 life1,) ∷ (3, Relend.mslice-owed ReservationUsage.row ref9 2 8 life2,) ∷ (4, Relend.mslice-owed InflightAction.row ref10 3 9
-            life3,) ∷ (5, Relend.mslice-owed (Referent.rtF (Referent.fInt Syntax.w32)) ref11 4 10 life4,) ∷ (6, Rows'.any-gone Laws'''.mir,) ∷ (7,
-            Rows'.whole (Declared.row RelayPacket.the-type)) ∷ (8, Rows'.sc-here (Row.sInt Syntax.w8),) ∷ (9, Rows'.sslice (Referent.rtF
-            (Referent.fInt Syntax.w8)) ref12 5,) ∷ (10, Rows.arrF (Referent.rtF (Referent.fInt Syntax.w8)) 1 0) ∷ (11, Rows.arrF (Referent.rtF
-            (Referent.fInt Syntax.w8)) 1 0,) ∷ (12, Rows'.whole (Declared.row OpaqueRelayRuntime.the-type)) ∷ (13, Rows'.whole (Declared.row
-            Places.the-type),) ∷ (14, Rows'.any-gone ref0,) ∷ (15, Mut.mslice RelayPending.row ref0 6,) ∷ List.[]
+        g21 = e0 ∷ l1 ∷ l2 ∷ l3 ∷ l4 ∷ l5 ∷ e6·1 ∷ e7 ∷ e8 ∷ e9 ∷ e10·2 ∷ e11·2 ∷ e12·1 ∷ e13·1 ∷ e14 ∷ e15·1 ∷ List.[]
+
         abbrev g24 : List.List Row.Entry
-        g24 = (0, Rows'.any-gone Laws'''.mir,) ∷ (1, Relend.mslice-owed RelayPending.row ref7 0 6 life0,) ∷ (2, Relend.mslice-owed RelayCircuit.row
-            ref8 1 7 life1,) ∷ (3, Relend.mslice-owed ReservationUsage.row ref9 2 8 life2,) ∷ (4, Relend.mslice-owed InflightAction.row ref10 3 9
-            life3,) ∷ (5, Relend.mslice-owed (Referent.rtF (Referent.fInt Syntax.w32)) ref11 4 10 life4,) ∷ (6, Rows'.any-gone Laws'''.mir,) ∷ (7,
-            Rows'.whole (Declared.row RelayPacket.the-type)) ∷ (8, Rows'.sc-here (Row.sInt Syntax.w8),) ∷ (9, Rows'.sslice (Referent.rtF
-            (Referent.fInt Syntax.w8)) ref12 5,) ∷ (10, Rows.arr-shr (Referent.rtF (Referent.fInt Syntax.w8)) 1 11) ∷ (11, Rows.arrF (Referent.rtF
-            (Referent.fInt Syntax.w8)) 1 0,) ∷ (12, Rows'.whole (Declared.row OpaqueRelayRuntime.the-type)) ∷ (13, Rows'.whole (Declared.row
-            Places.the-type),) ∷ (14, Rows'.any-gone ref0,) ∷ (15, Mut.mslice RelayPending.row ref0 6,) ∷ List.[]
+        g24 = e0 ∷ l1 ∷ l2 ∷ l3 ∷ l4 ∷ l5 ∷ e6·1 ∷ e7 ∷ e8 ∷ e9 ∷ e10·3 ∷ e11·2 ∷ e12·1 ∷ e13·1 ∷ e14 ∷ e15·1 ∷ List.[]
+
         abbrev g27 : List.List Row.Entry
-        g27 = (0, Rows'.any-gone Laws'''.mir,) ∷ (1, Relend.mslice-owed RelayPending.row ref7 0 6 life0,) ∷ (2, Relend.mslice-owed RelayCircuit.row
-            ref8 1 7 life1,) ∷ (3, Relend.mslice-owed ReservationUsage.row ref9 2 8 life2,) ∷ (4, Relend.mslice-owed InflightAction.row ref10 3 9
-            life3,) ∷ (5, Relend.mslice-owed (Referent.rtF (Referent.fInt Syntax.w32)) ref11 4 10 life4,) ∷ (6, Rows'.any-gone Laws'''.mir,) ∷ (7,
-            Rows'.whole (Declared.row RelayPacket.the-type)) ∷ (8, Rows'.sc-here (Row.sInt Syntax.w8),) ∷ (9, Rows'.sslice (Referent.rtF
-            (Referent.fInt Syntax.w8)) ref12 5,) ∷ (10, Rows.arr-shr (Referent.rtF (Referent.fInt Syntax.w8)) 1 11) ∷ (11, Rows.arr-shr (Referent.rtF
-            (Referent.fInt Syntax.w8)) 1 12,) ∷ (12, Rows'.whole (Declared.row OpaqueRelayRuntime.the-type)) ∷ (13, Rows'.whole (Declared.row
-            Places.the-type),) ∷ (14, Rows'.any-gone ref0,) ∷ (15, Mut.mslice RelayPending.row ref0 6,) ∷ List.[]
+        g27 = e0 ∷ l1 ∷ l2 ∷ l3 ∷ l4 ∷ l5 ∷ e6·1 ∷ e7 ∷ e8 ∷ e9 ∷ e10·3 ∷ e11·3 ∷ e12·1 ∷ e13·1 ∷ e14 ∷ e15·1 ∷ List.[]
+
         abbrev g32 : List.List Row.Entry
-        g32 = (0, Rows'.whole (Declared.row Relayed.the-type)) ∷ (1, Relend.mslice-owed RelayPending.row ref7 0 6 life0,) ∷ (2, Relend.mslice-owed
-            RelayCircuit.row ref8 1 7 life1,) ∷ (3, Relend.mslice-owed ReservationUsage.row ref9 2 8 life2,) ∷ (4, Relend.mslice-owed
-            InflightAction.row ref10 3 9 life3,) ∷ (5, Relend.mslice-owed (Referent.rtF (Referent.fInt Syntax.w32)) ref11 4 10 life4,) ∷ (6,
-            Rows'.any-gone Laws'''.mir,) ∷ (7, Rows'.whole (Declared.row RelayPacket.the-type)) ∷ (8, Rows'.sc-here (Row.sInt Syntax.w8),) ∷ (9,
-            Rows'.sslice (Referent.rtF (Referent.fInt Syntax.w8)) ref12 5,) ∷ (10, Rows.arr-shr (Referent.rtF (Referent.fInt Syntax.w8)) 1 11) ∷ (11,
-            Rows.arr-shr (Referent.rtF (Referent.fInt Syntax.w8)) 1 12,) ∷ (12, Rows'.whole (Declared.row OpaqueRelayRuntime.the-type)) ∷ (13,
-            Rows'.whole (Declared.row Places.the-type),) ∷ (14, Rows'.any-gone ref0,) ∷ (15, Mut.msleft RelayPending.row ref0,) ∷ List.[]
+        g32 = e0·1 ∷ l1 ∷ l2 ∷ l3 ∷ l4 ∷ l5 ∷ e6·1 ∷ e7 ∷ e8 ∷ e9 ∷ e10·3 ∷ e11·3 ∷ e12·1 ∷ e13·1 ∷ e14 ∷ e15·2 ∷
+            List.[]
+
         abbrev g37 : List.List Row.Entry
-        g37 = (0, Rows'.whole (Declared.row Relayed.the-type)) ∷ (1, Relend.mslice-owed RelayPending.row ref7 0 6 life0,) ∷ (2, Relend.mslice-owed
-            RelayCircuit.row ref8 1 7 life1,) ∷ (3, Relend.mslice-owed ReservationUsage.row ref9 2 8 life2,) ∷ (4, Relend.mslice-owed
-            InflightAction.row ref10 3 9 life3,) ∷ (5, Relend.mslice-owed (Referent.rtF (Referent.fInt Syntax.w32)) ref11 4 10 life4,) ∷ (6,
-            Rows'.any-gone Laws'''.mir,) ∷ (7, Rows'.any-gone Laws'.mir,) ∷ (8, Rows'.sc-here (Row.sInt Syntax.w8)) ∷ (9, Rows'.sslice (Referent.rtF
-            (Referent.fInt Syntax.w8)) ref12 5,) ∷ (10, Rows.arr-shr (Referent.rtF (Referent.fInt Syntax.w8)) 1 11) ∷ (11, Rows.arr-shr (Referent.rtF
-            (Referent.fInt Syntax.w8)) 1 12,) ∷ (12, Rows'.whole (Declared.row OpaqueRelayRuntime.the-type)) ∷ (13, Rows'.whole (Declared.row
-            Places.the-type),) ∷ (14, Rows'.any-gone ref0,) ∷ (15, Mut.msleft RelayPending.row ref0,) ∷ List.[]
+        g37 = e0·1 ∷ l1 ∷ l2 ∷ l3 ∷ l4 ∷ l5 ∷ e6·1 ∷ e7·1 ∷ e8 ∷ e9 ∷ e10·3 ∷ e11·3 ∷ e12·1 ∷ e13·1 ∷ e14 ∷ e15·2 ∷
+            List.[]
+
         abbrev g38 : List.List Row.Entry
-        g38 = (0, Rows'.whole (Declared.row Relayed.the-type)) ∷ (1, Relend.mslice-owed RelayPending.row ref7 0 6 life0,) ∷ (2, Relend.mslice-owed
-            RelayCircuit.row ref8 1 7 life1,) ∷ (3, Relend.mslice-owed ReservationUsage.row ref9 2 8 life2,) ∷ (4, Relend.mslice-owed
-            InflightAction.row ref10 3 9 life3,) ∷ (5, Relend.mslice-owed (Referent.rtF (Referent.fInt Syntax.w32)) ref11 4 10 life4,) ∷ (6,
-            Rows'.any-gone Laws'''.mir,) ∷ (7, Rows'.any-gone Laws'.mir,) ∷ (8, Rows'.sc-here (Row.sInt Syntax.w8)) ∷ (9, Rows'.sslice (Referent.rtF
-            (Referent.fInt Syntax.w8)) ref12 5,) ∷ (10, Rows.arr-shr (Referent.rtF (Referent.fInt Syntax.w8)) 1 11) ∷ (11, Rows.arr-shr (Referent.rtF
-            (Referent.fInt Syntax.w8)) 1 12,) ∷ (12, Rows'.any-gone Laws''.mir,) ∷ (13, Rows'.whole (Declared.row Places.the-type)) ∷ (14,
-            Rows'.any-gone ref0,) ∷ (15, Mut.msleft RelayPending.row ref0,) ∷ List.[]
+        g38 = e0·1 ∷ l1 ∷ l2 ∷ l3 ∷ l4 ∷ l5 ∷ e6·1 ∷ e7·1 ∷ e8 ∷ e9 ∷ e10·3 ∷ e11·3 ∷ e12 ∷ e13·1 ∷ e14 ∷ e15·2 ∷
+            List.[]
+
         abbrev g39 : List.List Row.Entry
-        g39 = (0, Rows'.whole (Declared.row Relayed.the-type)) ∷ (1, Relend.mslice-owed RelayPending.row ref7 0 6 life0,) ∷ (2, Relend.mslice-owed
-            RelayCircuit.row ref8 1 7 life1,) ∷ (3, Relend.mslice-owed ReservationUsage.row ref9 2 8 life2,) ∷ (4, Relend.mslice-owed
-            InflightAction.row ref10 3 9 life3,) ∷ (5, Relend.mslice-owed (Referent.rtF (Referent.fInt Syntax.w32)) ref11 4 10 life4,) ∷ (6,
-            Rows'.any-gone Laws'''.mir,) ∷ (7, Rows'.any-gone Laws'.mir,) ∷ (8, Rows'.sc-here (Row.sInt Syntax.w8)) ∷ (9, Rows'.sslice (Referent.rtF
-            (Referent.fInt Syntax.w8)) ref12 5,) ∷ (10, Rows.arr-shr (Referent.rtF (Referent.fInt Syntax.w8)) 1 11) ∷ (11, Rows.arr-shr (Referent.rtF
-            (Referent.fInt Syntax.w8)) 1 12,) ∷ (12, Rows'.any-gone Laws''.mir,) ∷ (13, Rows'.any-gone Laws.mir,) ∷ (14, Rows'.any-gone ref0,) ∷ (15,
-            Mut.msleft RelayPending.row ref0,) ∷ List.[]
+        g39 = e0·1 ∷ l1 ∷ l2 ∷ l3 ∷ l4 ∷ l5 ∷ e6·1 ∷ e7·1 ∷ e8 ∷ e9 ∷ e10·3 ∷ e11·3 ∷ e12 ∷ e13 ∷ e14 ∷ e15·2 ∷ List.[]
+
         abbrev g40 : List.List Row.Entry
-        g40 = (0, Rows'.whole (Declared.row Relayed.the-type)) ∷ (1, Mut.mslice RelayPending.row ref7 0,) ∷ (2, Relend.mslice-owed RelayCircuit.row
-            ref8 1 7 life1,) ∷ (3, Relend.mslice-owed ReservationUsage.row ref9 2 8 life2,) ∷ (4, Relend.mslice-owed InflightAction.row ref10 3 9
-            life3,) ∷ (5, Relend.mslice-owed (Referent.rtF (Referent.fInt Syntax.w32)) ref11 4 10 life4,) ∷ (6, Rows'.any-gone Laws'''.mir,) ∷ (7,
-            Rows'.any-gone Laws'.mir,) ∷ (8, Rows'.sc-here (Row.sInt Syntax.w8)) ∷ (9, Rows'.sslice (Referent.rtF (Referent.fInt Syntax.w8)) ref12 5,)
-            ∷ (10, Rows.arr-shr (Referent.rtF (Referent.fInt Syntax.w8)) 1 11) ∷ (11, Rows.arr-shr (Referent.rtF (Referent.fInt Syntax.w8)) 1 12,) ∷
-            (12, Rows'.any-gone Laws''.mir,) ∷ (13, Rows'.any-gone Laws.mir,) ∷ (14, Rows'.any-gone ref0,) ∷ (15, Rows'.any-gone (Syntax.tyStruct (38
-            ∷ 91 ∷ 93 ∷ List.[]) (Syntax.tcons ref0 (Syntax.tcons (Syntax.tyInt Syntax.w64) Syntax.tnil))),) ∷ List.[]
+        g40 = e0·1 ∷ e1 ∷ l2 ∷ l3 ∷ l4 ∷ l5 ∷ e6·1 ∷ e7·1 ∷ e8 ∷ e9 ∷ e10·3 ∷ e11·3 ∷ e12 ∷ e13 ∷ e14 ∷ e15 ∷ List.[]
+
         abbrev g41 : List.List Row.Entry
-        g41 = (0, Rows'.whole (Declared.row Relayed.the-type)) ∷ (1, Mut.mslice RelayPending.row ref7 0,) ∷ (2, Mut.mslice RelayCircuit.row ref8 1,) ∷
-            (3, Relend.mslice-owed ReservationUsage.row ref9 2 8 life2,) ∷ (4, Relend.mslice-owed InflightAction.row ref10 3 9 life3,) ∷ (5,
-            Relend.mslice-owed (Referent.rtF (Referent.fInt Syntax.w32)) ref11 4 10 life4,) ∷ (6, Rows'.any-gone Laws'''.mir,) ∷ (7, Rows'.any-gone
-            Laws'.mir,) ∷ (8, Rows'.sc-here (Row.sInt Syntax.w8)) ∷ (9, Rows'.sslice (Referent.rtF (Referent.fInt Syntax.w8)) ref12 5,) ∷ (10,
-            Rows.arr-shr (Referent.rtF (Referent.fInt Syntax.w8)) 1 11) ∷ (11, Rows.arr-shr (Referent.rtF (Referent.fInt Syntax.w8)) 1 12,) ∷ (12,
-            Rows'.any-gone Laws''.mir,) ∷ (13, Rows'.any-gone Laws.mir,) ∷ (14, Rows'.any-gone ref0,) ∷ (15, Rows'.any-gone (Syntax.tyStruct (38 ∷ 91
-            ∷ 93 ∷ List.[]) (Syntax.tcons ref0 (Syntax.tcons (Syntax.tyInt Syntax.w64) Syntax.tnil))),) ∷ List.[]
+        g41 = e0·1 ∷ e1 ∷ e2 ∷ l3 ∷ l4 ∷ l5 ∷ e6·1 ∷ e7·1 ∷ e8 ∷ e9 ∷ e10·3 ∷ e11·3 ∷ e12 ∷ e13 ∷ e14 ∷ e15 ∷ List.[]
+
         abbrev g43 : List.List Row.Entry
-        g43 = (0, Rows'.whole (Declared.row Relayed.the-type)) ∷ (1, Mut.mslice RelayPending.row ref7 0,) ∷ (2, Mut.mslice RelayCircuit.row ref8 1,) ∷
-            (3, Mut.mslice ReservationUsage.row ref9 2,) ∷ (4, Relend.mslice-owed InflightAction.row ref10 3 9 life3,) ∷ (5, Relend.mslice-owed
-            (Referent.rtF (Referent.fInt Syntax.w32)) ref11 4 10 life4,) ∷ (6, Rows'.any-gone Laws'''.mir,) ∷ (7, Rows'.any-gone Laws'.mir,) ∷ (8,
-            Rows'.sc-here (Row.sInt Syntax.w8)) ∷ (9, Rows'.sslice (Referent.rtF (Referent.fInt Syntax.w8)) ref12 5,) ∷ (10, Rows.arr-shr
-            (Referent.rtF (Referent.fInt Syntax.w8)) 1 11) ∷ (11, Rows.arr-shr (Referent.rtF (Referent.fInt Syntax.w8)) 1 12,) ∷ (12, Rows'.any-gone
-            Laws''.mir,) ∷ (13, Rows'.any-gone Laws.mir,) ∷ (14, Rows'.any-gone ref0,) ∷ (15, Rows'.any-gone (Syntax.tyStruct (38 ∷ 91 ∷ 93 ∷ List.[])
-            (Syntax.tcons ref0 (Syntax.tcons (Syntax.tyInt Syntax.w64) Syntax.tnil))),) ∷ List.[]
+        g43 = e0·1 ∷ e1 ∷ e2 ∷ e3 ∷ l4 ∷ l5 ∷ e6·1 ∷ e7·1 ∷ e8 ∷ e9 ∷ e10·3 ∷ e11·3 ∷ e12 ∷ e13 ∷ e14 ∷ e15 ∷ List.[]
+
         abbrev g45 : List.List Row.Entry
-        g45 = (0, Rows'.whole (Declared.row Relayed.the-type)) ∷ (1, Mut.mslice RelayPending.row ref7 0,) ∷ (2, Mut.mslice RelayCircuit.row ref8 1,) ∷
-            (3, Mut.mslice ReservationUsage.row ref9 2,) ∷ (4, Mut.mslice InflightAction.row ref10 3,) ∷ (5, Relend.mslice-owed (Referent.rtF
-            (Referent.fInt Syntax.w32)) ref11 4 10 life4,) ∷ (6, Rows'.any-gone Laws'''.mir,) ∷ (7, Rows'.any-gone Laws'.mir,) ∷ (8, Rows'.sc-here
-            (Row.sInt Syntax.w8)) ∷ (9, Rows'.sslice (Referent.rtF (Referent.fInt Syntax.w8)) ref12 5,) ∷ (10, Rows.arr-shr (Referent.rtF
-            (Referent.fInt Syntax.w8)) 1 11) ∷ (11, Rows.arr-shr (Referent.rtF (Referent.fInt Syntax.w8)) 1 12,) ∷ (12, Rows'.any-gone Laws''.mir,) ∷
-            (13, Rows'.any-gone Laws.mir,) ∷ (14, Rows'.any-gone ref0,) ∷ (15, Rows'.any-gone (Syntax.tyStruct (38 ∷ 91 ∷ 93 ∷ List.[]) (Syntax.tcons
-            ref0 (Syntax.tcons (Syntax.tyInt Syntax.w64) Syntax.tnil))),) ∷ List.[]
+        g45 = e0·1 ∷ e1 ∷ e2 ∷ e3 ∷ e4 ∷ l5 ∷ e6·1 ∷ e7·1 ∷ e8 ∷ e9 ∷ e10·3 ∷ e11·3 ∷ e12 ∷ e13 ∷ e14 ∷ e15 ∷ List.[]
+
         abbrev G0 : Row.Cx
-        G0 = record { locals = List._++_ t0 t1; slots = life0 ∷ life1 ∷ life2 ∷ life3 ∷ life4 ∷ life5 ∷ Row.off ∷ Row.off ∷ Row.off ∷ Row.off ∷
-            Row.off ∷ Row.off ∷ Row.off ∷ List.[]; }
+        G0 = record {
+          locals = List._++_ t0 t1;
+          slots = life0 ∷ life1 ∷ life2 ∷ life3 ∷ life4 ∷ life5 ∷ Row.off ∷ Row.off ∷ Row.off ∷ Row.off ∷ Row.off ∷
+              Row.off ∷ Row.off ∷ List.[];
+        }
+
         abbrev G1 : Row.Cx
-        G1 = record { locals = List._++_ t2 t1; slots = life0 ∷ life1 ∷ life2 ∷ life3 ∷ life4 ∷ life5 ∷ Row.off ∷ Row.off ∷ Row.off ∷ Row.off ∷
-            Row.off ∷ Row.off ∷ Row.off ∷ List.[]; }
+        G1 = record {
+          locals = List._++_ t2 t1;
+          slots = life0 ∷ life1 ∷ life2 ∷ life3 ∷ life4 ∷ life5 ∷ Row.off ∷ Row.off ∷ Row.off ∷ Row.off ∷ Row.off ∷
+              Row.off ∷ Row.off ∷ List.[];
+        }
+
         abbrev G2 : Row.Cx
-        G2 = record { locals = List._++_ t0 t1; slots = life0 ∷ life1 ∷ life2 ∷ life3 ∷ life4 ∷ life5 ∷ Row.off ∷ Row.off ∷ Row.off ∷ Row.off ∷
-            Row.off ∷ Row.off ∷ Row.off ∷ List.[]; }
+        G2 = record {
+          locals = List._++_ t0 t1;
+          slots = life0 ∷ life1 ∷ life2 ∷ life3 ∷ life4 ∷ life5 ∷ Row.off ∷ Row.off ∷ Row.off ∷ Row.off ∷ Row.off ∷
+              Row.off ∷ Row.off ∷ List.[];
+        }
+
         abbrev G3 : Row.Cx
-        G3 = record { locals = List._++_ t0 t1; slots = life0 ∷ life1 ∷ life2 ∷ life3 ∷ life4 ∷ life5 ∷ Row.off ∷ Row.off ∷ Row.off ∷ Row.off ∷
-            Row.off ∷ Row.off ∷ Row.off ∷ List.[]; }
+        G3 = record {
+          locals = List._++_ t0 t1;
+          slots = life0 ∷ life1 ∷ life2 ∷ life3 ∷ life4 ∷ life5 ∷ Row.off ∷ Row.off ∷ Row.off ∷ Row.off ∷ Row.off ∷
+              Row.off ∷ Row.off ∷ List.[];
+        }
+
         abbrev G4 : Row.Cx
-        G4 = record { locals = List._++_ t3 t1; slots = life0 ∷ life1 ∷ life2 ∷ life3 ∷ life4 ∷ life5 ∷ Row.off ∷ Row.off ∷ Row.off ∷ Row.off ∷
-            Row.off ∷ Row.off ∷ Row.off ∷ List.[]; }
+        G4 = record {
+          locals = List._++_ t3 t1;
+          slots = life0 ∷ life1 ∷ life2 ∷ life3 ∷ life4 ∷ life5 ∷ Row.off ∷ Row.off ∷ Row.off ∷ Row.off ∷ Row.off ∷
+              Row.off ∷ Row.off ∷ List.[];
+        }
+
         abbrev G5 : Row.Cx
-        G5 = record { locals = List._++_ t4 t1; slots = life0 ∷ life1 ∷ life2 ∷ life3 ∷ life4 ∷ life5 ∷ Row.off ∷ Row.off ∷ Row.off ∷ Row.off ∷
-            Row.off ∷ Row.off ∷ Row.off ∷ List.[]; }
+        G5 = record {
+          locals = List._++_ t4 t1;
+          slots = life0 ∷ life1 ∷ life2 ∷ life3 ∷ life4 ∷ life5 ∷ Row.off ∷ Row.off ∷ Row.off ∷ Row.off ∷ Row.off ∷
+              Row.off ∷ Row.off ∷ List.[];
+        }
+
         abbrev G6 : Row.Cx
-        G6 = record { locals = List._++_ t5 t1; slots = life0 ∷ life1 ∷ life2 ∷ life3 ∷ life4 ∷ life5 ∷ Row.off ∷ Row.off ∷ Row.off ∷ Row.off ∷
-            Row.off ∷ Row.off ∷ Row.off ∷ List.[]; }
+        G6 = record {
+          locals = List._++_ t5 t1;
+          slots = life0 ∷ life1 ∷ life2 ∷ life3 ∷ life4 ∷ life5 ∷ Row.off ∷ Row.off ∷ Row.off ∷ Row.off ∷ Row.off ∷
+              Row.off ∷ Row.off ∷ List.[];
+        }
+
         abbrev G7 : Row.Cx
-        G7 = record { locals = List._++_ t6 t1; slots = life0 ∷ life1 ∷ life2 ∷ life3 ∷ life4 ∷ life5 ∷ Row.off ∷ Row.off ∷ Row.off ∷ Row.off ∷
-            Row.off ∷ Row.off ∷ Row.off ∷ List.[]; }
+        G7 = record {
+          locals = List._++_ t6 t1;
+          slots = life0 ∷ life1 ∷ life2 ∷ life3 ∷ life4 ∷ life5 ∷ Row.off ∷ Row.off ∷ Row.off ∷ Row.off ∷ Row.off ∷
+              Row.off ∷ Row.off ∷ List.[];
+        }
+
         abbrev G8 : Row.Cx
-        G8 = record { locals = List._++_ t7 t1; slots = life0 ∷ life1 ∷ life2 ∷ life3 ∷ life4 ∷ life5 ∷ Row.off ∷ Row.off ∷ Row.off ∷ Row.off ∷
-            Row.off ∷ Row.off ∷ Row.off ∷ List.[]; }
+        G8 = record {
+          locals = List._++_ t7 t1;
+          slots = life0 ∷ life1 ∷ life2 ∷ life3 ∷ life4 ∷ life5 ∷ Row.off ∷ Row.off ∷ Row.off ∷ Row.off ∷ Row.off ∷
+              Row.off ∷ Row.off ∷ List.[];
+        }
+
         abbrev G9 : Row.Cx
-        G9 = record { locals = List._++_ t8 t1; slots = life0 ∷ life1 ∷ life2 ∷ life3 ∷ life4 ∷ life5 ∷ Row.off ∷ Row.off ∷ Row.off ∷ Row.off ∷
-            Row.off ∷ Row.off ∷ Row.off ∷ List.[]; }
+        G9 = record {
+          locals = List._++_ t8 t1;
+          slots = life0 ∷ life1 ∷ life2 ∷ life3 ∷ life4 ∷ life5 ∷ Row.off ∷ Row.off ∷ Row.off ∷ Row.off ∷ Row.off ∷
+              Row.off ∷ Row.off ∷ List.[];
+        }
+
         abbrev G10 : Row.Cx
-        G10 = record { locals = List._++_ t9 t1; slots = life0 ∷ life1 ∷ life2 ∷ life3 ∷ life4 ∷ life5 ∷ Row.off ∷ Row.off ∷ Row.off ∷ Row.off ∷
-            Row.off ∷ Row.off ∷ Row.off ∷ List.[]; }
+        G10 = record {
+          locals = List._++_ t9 t1;
+          slots = life0 ∷ life1 ∷ life2 ∷ life3 ∷ life4 ∷ life5 ∷ Row.off ∷ Row.off ∷ Row.off ∷ Row.off ∷ Row.off ∷
+              Row.off ∷ Row.off ∷ List.[];
+        }
+
         abbrev G11 : Row.Cx
-        G11 = record { locals = List._++_ t9 t1; slots = life0 ∷ life1 ∷ life2 ∷ life3 ∷ life4 ∷ life5 ∷ Row.alive ∷ Row.off ∷ Row.off ∷ Row.off ∷
-            Row.off ∷ Row.off ∷ Row.off ∷ List.[]; }
+        G11 = record {
+          locals = List._++_ t9 t1;
+          slots = life0 ∷ life1 ∷ life2 ∷ life3 ∷ life4 ∷ life5 ∷ Row.alive ∷ Row.off ∷ Row.off ∷ Row.off ∷ Row.off ∷
+              Row.off ∷ Row.off ∷ List.[];
+        }
+
         abbrev G12 : Row.Cx
-        G12 = record { locals = List._++_ g10 t1; slots = Row.off ∷ life1 ∷ life2 ∷ life3 ∷ life4 ∷ life5 ∷ Row.alive ∷ Row.off ∷ Row.off ∷ Row.off ∷
-            Row.off ∷ Row.off ∷ Row.off ∷ List.[]; }
+        G12 = record {
+          locals = List._++_ g10 t1;
+          slots = Row.off ∷ life1 ∷ life2 ∷ life3 ∷ life4 ∷ life5 ∷ Row.alive ∷ Row.off ∷ Row.off ∷ Row.off ∷ Row.off ∷
+              Row.off ∷ Row.off ∷ List.[];
+        }
+
         abbrev G13 : Row.Cx
-        G13 = record { locals = List._++_ g11 t1; slots = Row.off ∷ life1 ∷ life2 ∷ life3 ∷ life4 ∷ life5 ∷ Row.alive ∷ Row.off ∷ Row.off ∷ Row.off ∷
-            Row.off ∷ Row.off ∷ Row.off ∷ List.[]; }
+        G13 = record {
+          locals = List._++_ g11 t1;
+          slots = Row.off ∷ life1 ∷ life2 ∷ life3 ∷ life4 ∷ life5 ∷ Row.alive ∷ Row.off ∷ Row.off ∷ Row.off ∷ Row.off ∷
+              Row.off ∷ Row.off ∷ List.[];
+        }
+
         abbrev G14 : Row.Cx
-        G14 = record { locals = List._++_ g11 t1; slots = Row.off ∷ life1 ∷ life2 ∷ life3 ∷ life4 ∷ life5 ∷ Row.alive ∷ Row.alive ∷ Row.off ∷ Row.off
-            ∷ Row.off ∷ Row.off ∷ Row.off ∷ List.[]; }
+        G14 = record {
+          locals = List._++_ g11 t1;
+          slots = Row.off ∷ life1 ∷ life2 ∷ life3 ∷ life4 ∷ life5 ∷ Row.alive ∷ Row.alive ∷ Row.off ∷ Row.off ∷ Row.off
+              ∷ Row.off ∷ Row.off ∷ List.[];
+        }
+
         abbrev G15 : Row.Cx
-        G15 = record { locals = List._++_ g12 t13; slots = Row.off ∷ Row.off ∷ life2 ∷ life3 ∷ life4 ∷ life5 ∷ Row.alive ∷ Row.alive ∷ Row.off ∷
-            Row.off ∷ Row.off ∷ Row.off ∷ Row.off ∷ List.[]; }
+        G15 = record {
+          locals = List._++_ g12 t13;
+          slots = Row.off ∷ Row.off ∷ life2 ∷ life3 ∷ life4 ∷ life5 ∷ Row.alive ∷ Row.alive ∷ Row.off ∷ Row.off ∷
+              Row.off ∷ Row.off ∷ Row.off ∷ List.[];
+        }
+
         abbrev G16 : Row.Cx
-        G16 = record { locals = List._++_ g12 t14; slots = Row.off ∷ Row.off ∷ life2 ∷ life3 ∷ life4 ∷ life5 ∷ Row.alive ∷ Row.alive ∷ Row.off ∷
-            Row.off ∷ Row.off ∷ Row.off ∷ Row.off ∷ List.[]; }
+        G16 = record {
+          locals = List._++_ g12 t14;
+          slots = Row.off ∷ Row.off ∷ life2 ∷ life3 ∷ life4 ∷ life5 ∷ Row.alive ∷ Row.alive ∷ Row.off ∷ Row.off ∷
+              Row.off ∷ Row.off ∷ Row.off ∷ List.[];
+        }
+
         abbrev G17 : Row.Cx
-        G17 = record { locals = List._++_ g12 t14; slots = Row.off ∷ Row.off ∷ life2 ∷ life3 ∷ life4 ∷ life5 ∷ Row.alive ∷ Row.alive ∷ Row.alive ∷
-            Row.off ∷ Row.off ∷ Row.off ∷ Row.off ∷ List.[]; }
+        G17 = record {
+          locals = List._++_ g12 t14;
+          slots = Row.off ∷ Row.off ∷ life2 ∷ life3 ∷ life4 ∷ life5 ∷ Row.alive ∷ Row.alive ∷ Row.alive ∷ Row.off ∷
+              Row.off ∷ Row.off ∷ Row.off ∷ List.[];
+        }
+
         abbrev G18 : Row.Cx
-        G18 = record { locals = List._++_ g15 t16; slots = Row.off ∷ Row.off ∷ Row.off ∷ life3 ∷ life4 ∷ life5 ∷ Row.alive ∷ Row.alive ∷ Row.alive ∷
-            Row.off ∷ Row.off ∷ Row.off ∷ Row.off ∷ List.[]; }
+        G18 = record {
+          locals = List._++_ g15 t16;
+          slots = Row.off ∷ Row.off ∷ Row.off ∷ life3 ∷ life4 ∷ life5 ∷ Row.alive ∷ Row.alive ∷ Row.alive ∷ Row.off ∷
+              Row.off ∷ Row.off ∷ Row.off ∷ List.[];
+        }
+
         abbrev G19 : Row.Cx
-        G19 = record { locals = List._++_ g15 t17; slots = Row.off ∷ Row.off ∷ Row.off ∷ life3 ∷ life4 ∷ life5 ∷ Row.alive ∷ Row.alive ∷ Row.alive ∷
-            Row.off ∷ Row.off ∷ Row.off ∷ Row.off ∷ List.[]; }
+        G19 = record {
+          locals = List._++_ g15 t17;
+          slots = Row.off ∷ Row.off ∷ Row.off ∷ life3 ∷ life4 ∷ life5 ∷ Row.alive ∷ Row.alive ∷ Row.alive ∷ Row.off ∷
+              Row.off ∷ Row.off ∷ Row.off ∷ List.[];
+        }
+
         abbrev G20 : Row.Cx
-        G20 = record { locals = List._++_ g15 t17; slots = Row.off ∷ Row.off ∷ Row.off ∷ life3 ∷ life4 ∷ life5 ∷ Row.alive ∷ Row.alive ∷ Row.alive ∷
-            Row.alive ∷ Row.off ∷ Row.off ∷ Row.off ∷ List.[]; }
+        G20 = record {
+          locals = List._++_ g15 t17;
+          slots = Row.off ∷ Row.off ∷ Row.off ∷ life3 ∷ life4 ∷ life5 ∷ Row.alive ∷ Row.alive ∷ Row.alive ∷ Row.alive ∷
+              Row.off ∷ Row.off ∷ Row.off ∷ List.[];
+        }
+
         abbrev G21 : Row.Cx
-        G21 = record { locals = List._++_ g18 t19; slots = Row.off ∷ Row.off ∷ Row.off ∷ Row.off ∷ life4 ∷ life5 ∷ Row.alive ∷ Row.alive ∷ Row.alive ∷
-            Row.alive ∷ Row.off ∷ Row.off ∷ Row.off ∷ List.[]; }
+        G21 = record {
+          locals = List._++_ g18 t19;
+          slots = Row.off ∷ Row.off ∷ Row.off ∷ Row.off ∷ life4 ∷ life5 ∷ Row.alive ∷ Row.alive ∷ Row.alive ∷ Row.alive
+              ∷ Row.off ∷ Row.off ∷ Row.off ∷ List.[];
+        }
+
         abbrev G22 : Row.Cx
-        G22 = record { locals = List._++_ g18 t20; slots = Row.off ∷ Row.off ∷ Row.off ∷ Row.off ∷ life4 ∷ life5 ∷ Row.alive ∷ Row.alive ∷ Row.alive ∷
-            Row.alive ∷ Row.off ∷ Row.off ∷ Row.off ∷ List.[]; }
+        G22 = record {
+          locals = List._++_ g18 t20;
+          slots = Row.off ∷ Row.off ∷ Row.off ∷ Row.off ∷ life4 ∷ life5 ∷ Row.alive ∷ Row.alive ∷ Row.alive ∷ Row.alive
+              ∷ Row.off ∷ Row.off ∷ Row.off ∷ List.[];
+        }
+
         abbrev G23 : Row.Cx
-        G23 = record { locals = List._++_ g18 t20; slots = Row.off ∷ Row.off ∷ Row.off ∷ Row.off ∷ life4 ∷ life5 ∷ Row.alive ∷ Row.alive ∷ Row.alive ∷
-            Row.alive ∷ Row.alive ∷ Row.off ∷ Row.off ∷ List.[]; }
+        G23 = record {
+          locals = List._++_ g18 t20;
+          slots = Row.off ∷ Row.off ∷ Row.off ∷ Row.off ∷ life4 ∷ life5 ∷ Row.alive ∷ Row.alive ∷ Row.alive ∷ Row.alive
+              ∷ Row.alive ∷ Row.off ∷ Row.off ∷ List.[];
+        }
+
         abbrev G24 : Row.Cx
-        G24 = record { locals = List._++_ g21 t22; slots = Row.off ∷ Row.off ∷ Row.off ∷ Row.off ∷ Row.off ∷ life5 ∷ Row.alive ∷ Row.alive ∷ Row.alive
-            ∷ Row.alive ∷ Row.alive ∷ Row.off ∷ Row.off ∷ List.[]; }
+        G24 = record {
+          locals = List._++_ g21 t22;
+          slots = Row.off ∷ Row.off ∷ Row.off ∷ Row.off ∷ Row.off ∷ life5 ∷ Row.alive ∷ Row.alive ∷ Row.alive ∷
+              Row.alive ∷ Row.alive ∷ Row.off ∷ Row.off ∷ List.[];
+        }
+
         abbrev G25 : Row.Cx
-        G25 = record { locals = List._++_ g21 t23; slots = Row.off ∷ Row.off ∷ Row.off ∷ Row.off ∷ Row.off ∷ life5 ∷ Row.alive ∷ Row.alive ∷ Row.alive
-            ∷ Row.alive ∷ Row.alive ∷ Row.off ∷ Row.off ∷ List.[]; }
+        G25 = record {
+          locals = List._++_ g21 t23;
+          slots = Row.off ∷ Row.off ∷ Row.off ∷ Row.off ∷ Row.off ∷ life5 ∷ Row.alive ∷ Row.alive ∷ Row.alive ∷
+              Row.alive ∷ Row.alive ∷ Row.off ∷ Row.off ∷ List.[];
+        }
+
         abbrev G26 : Row.Cx
-        G26 = record { locals = List._++_ g21 t23; slots = Row.off ∷ Row.off ∷ Row.off ∷ Row.off ∷ Row.off ∷ life5 ∷ Row.alive ∷ Row.alive ∷ Row.alive
-            ∷ Row.alive ∷ Row.alive ∷ Row.alive ∷ Row.off ∷ List.[]; }
+        G26 = record {
+          locals = List._++_ g21 t23;
+          slots = Row.off ∷ Row.off ∷ Row.off ∷ Row.off ∷ Row.off ∷ life5 ∷ Row.alive ∷ Row.alive ∷ Row.alive ∷
+              Row.alive ∷ Row.alive ∷ Row.alive ∷ Row.off ∷ List.[];
+        }
+
         abbrev G27 : Row.Cx
-        G27 = record { locals = List._++_ g24 t25; slots = Row.off ∷ Row.off ∷ Row.off ∷ Row.off ∷ Row.off ∷ life5 ∷ Row.alive ∷ Row.alive ∷ Row.alive
-            ∷ Row.alive ∷ Row.alive ∷ Row.alive ∷ Row.off ∷ List.[]; }
+        G27 = record {
+          locals = List._++_ g24 t25;
+          slots = Row.off ∷ Row.off ∷ Row.off ∷ Row.off ∷ Row.off ∷ life5 ∷ Row.alive ∷ Row.alive ∷ Row.alive ∷
+              Row.alive ∷ Row.alive ∷ Row.alive ∷ Row.off ∷ List.[];
+        }
+
         abbrev G28 : Row.Cx
-        G28 = record { locals = List._++_ g24 t26; slots = Row.off ∷ Row.off ∷ Row.off ∷ Row.off ∷ Row.off ∷ life5 ∷ Row.alive ∷ Row.alive ∷ Row.alive
-            ∷ Row.alive ∷ Row.alive ∷ Row.alive ∷ Row.off ∷ List.[]; }
+        G28 = record {
+          locals = List._++_ g24 t26;
+          slots = Row.off ∷ Row.off ∷ Row.off ∷ Row.off ∷ Row.off ∷ life5 ∷ Row.alive ∷ Row.alive ∷ Row.alive ∷
+              Row.alive ∷ Row.alive ∷ Row.alive ∷ Row.off ∷ List.[];
+        }
+
         abbrev G29 : Row.Cx
-        G29 = record { locals = List._++_ g24 t26; slots = Row.off ∷ Row.off ∷ Row.off ∷ Row.off ∷ Row.off ∷ life5 ∷ Row.alive ∷ Row.alive ∷ Row.alive
-            ∷ Row.alive ∷ Row.alive ∷ Row.alive ∷ Row.alive ∷ List.[]; }
+        G29 = record {
+          locals = List._++_ g24 t26;
+          slots = Row.off ∷ Row.off ∷ Row.off ∷ Row.off ∷ Row.off ∷ life5 ∷ Row.alive ∷ Row.alive ∷ Row.alive ∷
+              Row.alive ∷ Row.alive ∷ Row.alive ∷ Row.alive ∷ List.[];
+        }
+
         abbrev G30 : Row.Cx
-        G30 = record { locals = List._++_ g27 t28; slots = Row.off ∷ Row.off ∷ Row.off ∷ Row.off ∷ Row.off ∷ life5 ∷ Row.alive ∷ Row.alive ∷ Row.alive
-            ∷ Row.alive ∷ Row.alive ∷ Row.alive ∷ Row.alive ∷ List.[]; }
+        G30 = record {
+          locals = List._++_ g27 t28;
+          slots = Row.off ∷ Row.off ∷ Row.off ∷ Row.off ∷ Row.off ∷ life5 ∷ Row.alive ∷ Row.alive ∷ Row.alive ∷
+              Row.alive ∷ Row.alive ∷ Row.alive ∷ Row.alive ∷ List.[];
+        }
+
         abbrev G31 : Row.Cx
-        G31 = record { locals = List._++_ g27 t29; slots = Row.off ∷ Row.off ∷ Row.off ∷ Row.off ∷ Row.off ∷ life5 ∷ Row.alive ∷ Row.alive ∷ Row.alive
-            ∷ Row.alive ∷ Row.alive ∷ Row.alive ∷ Row.alive ∷ List.[]; }
+        G31 = record {
+          locals = List._++_ g27 t29;
+          slots = Row.off ∷ Row.off ∷ Row.off ∷ Row.off ∷ Row.off ∷ life5 ∷ Row.alive ∷ Row.alive ∷ Row.alive ∷
+              Row.alive ∷ Row.alive ∷ Row.alive ∷ Row.alive ∷ List.[];
+        }
+
         abbrev G32 : Row.Cx
-        G32 = record { locals = List._++_ g27 t30; slots = Row.off ∷ Row.off ∷ Row.off ∷ Row.off ∷ Row.off ∷ life5 ∷ Row.alive ∷ Row.alive ∷ Row.alive
-            ∷ Row.alive ∷ Row.alive ∷ Row.alive ∷ Row.alive ∷ List.[]; }
+        G32 = record {
+          locals = List._++_ g27 t30;
+          slots = Row.off ∷ Row.off ∷ Row.off ∷ Row.off ∷ Row.off ∷ life5 ∷ Row.alive ∷ Row.alive ∷ Row.alive ∷
+              Row.alive ∷ Row.alive ∷ Row.alive ∷ Row.alive ∷ List.[];
+        }
+
         abbrev G33 : Row.Cx
-        G33 = record { locals = List._++_ g27 t31; slots = Row.off ∷ Row.off ∷ Row.off ∷ Row.off ∷ Row.off ∷ life5 ∷ Row.alive ∷ Row.alive ∷ Row.alive
-            ∷ Row.alive ∷ Row.alive ∷ Row.alive ∷ Row.alive ∷ List.[]; }
+        G33 = record {
+          locals = List._++_ g27 t31;
+          slots = Row.off ∷ Row.off ∷ Row.off ∷ Row.off ∷ Row.off ∷ life5 ∷ Row.alive ∷ Row.alive ∷ Row.alive ∷
+              Row.alive ∷ Row.alive ∷ Row.alive ∷ Row.alive ∷ List.[];
+        }
+
         abbrev G34 : Row.Cx
-        G34 = record { locals = List._++_ g32 t33; slots = Row.off ∷ Row.off ∷ Row.off ∷ Row.off ∷ Row.off ∷ life5 ∷ Row.alive ∷ Row.alive ∷ Row.alive
-            ∷ Row.alive ∷ Row.alive ∷ Row.alive ∷ Row.alive ∷ List.[]; }
+        G34 = record {
+          locals = List._++_ g32 t33;
+          slots = Row.off ∷ Row.off ∷ Row.off ∷ Row.off ∷ Row.off ∷ life5 ∷ Row.alive ∷ Row.alive ∷ Row.alive ∷
+              Row.alive ∷ Row.alive ∷ Row.alive ∷ Row.alive ∷ List.[];
+        }
+
         abbrev G35 : Row.Cx
-        G35 = record { locals = List._++_ g32 t34; slots = Row.off ∷ Row.off ∷ Row.off ∷ Row.off ∷ Row.off ∷ life5 ∷ Row.alive ∷ Row.alive ∷ Row.alive
-            ∷ Row.alive ∷ Row.alive ∷ Row.alive ∷ Row.alive ∷ List.[]; }
+        G35 = record {
+          locals = List._++_ g32 t34;
+          slots = Row.off ∷ Row.off ∷ Row.off ∷ Row.off ∷ Row.off ∷ life5 ∷ Row.alive ∷ Row.alive ∷ Row.alive ∷
+              Row.alive ∷ Row.alive ∷ Row.alive ∷ Row.alive ∷ List.[];
+        }
+
         abbrev G36 : Row.Cx
-        G36 = record { locals = List._++_ g32 t35; slots = Row.off ∷ Row.off ∷ Row.off ∷ Row.off ∷ Row.off ∷ life5 ∷ Row.alive ∷ Row.alive ∷ Row.alive
-            ∷ Row.alive ∷ Row.alive ∷ Row.alive ∷ Row.alive ∷ List.[]; }
+        G36 = record {
+          locals = List._++_ g32 t35;
+          slots = Row.off ∷ Row.off ∷ Row.off ∷ Row.off ∷ Row.off ∷ life5 ∷ Row.alive ∷ Row.alive ∷ Row.alive ∷
+              Row.alive ∷ Row.alive ∷ Row.alive ∷ Row.alive ∷ List.[];
+        }
+
         abbrev G37 : Row.Cx
-        G37 = record { locals = List._++_ g32 t36; slots = Row.off ∷ Row.off ∷ Row.off ∷ Row.off ∷ Row.off ∷ life5 ∷ Row.alive ∷ Row.alive ∷ Row.alive
-            ∷ Row.alive ∷ Row.alive ∷ Row.alive ∷ Row.alive ∷ List.[]; }
+        G37 = record {
+          locals = List._++_ g32 t36;
+          slots = Row.off ∷ Row.off ∷ Row.off ∷ Row.off ∷ Row.off ∷ life5 ∷ Row.alive ∷ Row.alive ∷ Row.alive ∷
+              Row.alive ∷ Row.alive ∷ Row.alive ∷ Row.alive ∷ List.[];
+        }
+
         abbrev G38 : Row.Cx
-        G38 = record { locals = List._++_ g37 t36; slots = Row.off ∷ Row.off ∷ Row.off ∷ Row.off ∷ Row.off ∷ life5 ∷ Row.alive ∷ Row.alive ∷ Row.alive
-            ∷ Row.alive ∷ Row.alive ∷ Row.alive ∷ Row.alive ∷ List.[]; }
+        G38 = record {
+          locals = List._++_ g37 t36;
+          slots = Row.off ∷ Row.off ∷ Row.off ∷ Row.off ∷ Row.off ∷ life5 ∷ Row.alive ∷ Row.alive ∷ Row.alive ∷
+              Row.alive ∷ Row.alive ∷ Row.alive ∷ Row.alive ∷ List.[];
+        }
+
         abbrev G39 : Row.Cx
-        G39 = record { locals = List._++_ g38 t36; slots = Row.off ∷ Row.off ∷ Row.off ∷ Row.off ∷ Row.off ∷ life5 ∷ Row.alive ∷ Row.alive ∷ Row.alive
-            ∷ Row.alive ∷ Row.alive ∷ Row.alive ∷ Row.alive ∷ List.[]; }
+        G39 = record {
+          locals = List._++_ g38 t36;
+          slots = Row.off ∷ Row.off ∷ Row.off ∷ Row.off ∷ Row.off ∷ life5 ∷ Row.alive ∷ Row.alive ∷ Row.alive ∷
+              Row.alive ∷ Row.alive ∷ Row.alive ∷ Row.alive ∷ List.[];
+        }
+
         abbrev G40 : Row.Cx
-        G40 = record { locals = List._++_ g39 t36; slots = Row.off ∷ Row.off ∷ Row.off ∷ Row.off ∷ Row.off ∷ life5 ∷ Row.alive ∷ Row.alive ∷ Row.alive
-            ∷ Row.alive ∷ Row.alive ∷ Row.alive ∷ Row.alive ∷ List.[]; }
+        G40 = record {
+          locals = List._++_ g39 t36;
+          slots = Row.off ∷ Row.off ∷ Row.off ∷ Row.off ∷ Row.off ∷ life5 ∷ Row.alive ∷ Row.alive ∷ Row.alive ∷
+              Row.alive ∷ Row.alive ∷ Row.alive ∷ Row.alive ∷ List.[];
+        }
+
         abbrev G41 : Row.Cx
-        G41 = record { locals = List._++_ g39 t36; slots = Row.off ∷ Row.off ∷ Row.off ∷ Row.off ∷ Row.off ∷ life5 ∷ Row.dead ∷ Row.alive ∷ Row.alive
-            ∷ Row.alive ∷ Row.alive ∷ Row.alive ∷ Row.alive ∷ List.[]; }
+        G41 = record {
+          locals = List._++_ g39 t36;
+          slots = Row.off ∷ Row.off ∷ Row.off ∷ Row.off ∷ Row.off ∷ life5 ∷ Row.dead ∷ Row.alive ∷ Row.alive ∷
+              Row.alive ∷ Row.alive ∷ Row.alive ∷ Row.alive ∷ List.[];
+        }
+
         abbrev G42 : Row.Cx
-        G42 = record { locals = List._++_ g40 t36; slots = life0 ∷ Row.off ∷ Row.off ∷ Row.off ∷ Row.off ∷ life5 ∷ Row.dead ∷ Row.alive ∷ Row.alive ∷
-            Row.alive ∷ Row.alive ∷ Row.alive ∷ Row.alive ∷ List.[]; }
+        G42 = record {
+          locals = List._++_ g40 t36;
+          slots = life0 ∷ Row.off ∷ Row.off ∷ Row.off ∷ Row.off ∷ life5 ∷ Row.dead ∷ Row.alive ∷ Row.alive ∷ Row.alive
+              ∷ Row.alive ∷ Row.alive ∷ Row.alive ∷ List.[];
+        }
+
         abbrev G43 : Row.Cx
-        G43 = record { locals = List._++_ g40 t36; slots = life0 ∷ Row.off ∷ Row.off ∷ Row.off ∷ Row.off ∷ life5 ∷ Row.off ∷ Row.alive ∷ Row.alive ∷
-            Row.alive ∷ Row.alive ∷ Row.alive ∷ Row.alive ∷ List.[]; }
+        G43 = record {
+          locals = List._++_ g40 t36;
+          slots = life0 ∷ Row.off ∷ Row.off ∷ Row.off ∷ Row.off ∷ life5 ∷ Row.off ∷ Row.alive ∷ Row.alive ∷ Row.alive ∷
+              Row.alive ∷ Row.alive ∷ Row.alive ∷ List.[];
+        }
+
         abbrev G44 : Row.Cx
-        G44 = record { locals = List._++_ g40 t36; slots = life0 ∷ Row.off ∷ Row.off ∷ Row.off ∷ Row.off ∷ life5 ∷ Row.off ∷ Row.dead ∷ Row.alive ∷
-            Row.alive ∷ Row.alive ∷ Row.alive ∷ Row.alive ∷ List.[]; }
+        G44 = record {
+          locals = List._++_ g40 t36;
+          slots = life0 ∷ Row.off ∷ Row.off ∷ Row.off ∷ Row.off ∷ life5 ∷ Row.off ∷ Row.dead ∷ Row.alive ∷ Row.alive ∷
+              Row.alive ∷ Row.alive ∷ Row.alive ∷ List.[];
+        }
+
         abbrev G45 : Row.Cx
-        G45 = record { locals = List._++_ g41 t42; slots = life0 ∷ life1 ∷ Row.off ∷ Row.off ∷ Row.off ∷ life5 ∷ Row.off ∷ Row.dead ∷ Row.alive ∷
-            Row.alive ∷ Row.alive ∷ Row.alive ∷ Row.alive ∷ List.[]; }
+        G45 = record {
+          locals = List._++_ g41 t42;
+          slots = life0 ∷ life1 ∷ Row.off ∷ Row.off ∷ Row.off ∷ life5 ∷ Row.off ∷ Row.dead ∷ Row.alive ∷ Row.alive ∷
+              Row.alive ∷ Row.alive ∷ Row.alive ∷ List.[];
+        }
+
         abbrev G46 : Row.Cx
-        G46 = record { locals = List._++_ g41 t42; slots = life0 ∷ life1 ∷ Row.off ∷ Row.off ∷ Row.off ∷ life5 ∷ Row.off ∷ Row.off ∷ Row.alive ∷
-            Row.alive ∷ Row.alive ∷ Row.alive ∷ Row.alive ∷ List.[]; }
+        G46 = record {
+          locals = List._++_ g41 t42;
+          slots = life0 ∷ life1 ∷ Row.off ∷ Row.off ∷ Row.off ∷ life5 ∷ Row.off ∷ Row.off ∷ Row.alive ∷ Row.alive ∷
+              Row.alive ∷ Row.alive ∷ Row.alive ∷ List.[];
+        }
+
         abbrev G47 : Row.Cx
-        G47 = record { locals = List._++_ g41 t42; slots = life0 ∷ life1 ∷ Row.off ∷ Row.off ∷ Row.off ∷ life5 ∷ Row.off ∷ Row.off ∷ Row.dead ∷
-            Row.alive ∷ Row.alive ∷ Row.alive ∷ Row.alive ∷ List.[]; }
+        G47 = record {
+          locals = List._++_ g41 t42;
+          slots = life0 ∷ life1 ∷ Row.off ∷ Row.off ∷ Row.off ∷ life5 ∷ Row.off ∷ Row.off ∷ Row.dead ∷ Row.alive ∷
+              Row.alive ∷ Row.alive ∷ Row.alive ∷ List.[];
+        }
+
         abbrev G48 : Row.Cx
-        G48 = record { locals = List._++_ g43 t44; slots = life0 ∷ life1 ∷ life2 ∷ Row.off ∷ Row.off ∷ life5 ∷ Row.off ∷ Row.off ∷ Row.dead ∷
-            Row.alive ∷ Row.alive ∷ Row.alive ∷ Row.alive ∷ List.[]; }
+        G48 = record {
+          locals = List._++_ g43 t44;
+          slots = life0 ∷ life1 ∷ life2 ∷ Row.off ∷ Row.off ∷ life5 ∷ Row.off ∷ Row.off ∷ Row.dead ∷ Row.alive ∷
+              Row.alive ∷ Row.alive ∷ Row.alive ∷ List.[];
+        }
+
         abbrev G49 : Row.Cx
-        G49 = record { locals = List._++_ g43 t44; slots = life0 ∷ life1 ∷ life2 ∷ Row.off ∷ Row.off ∷ life5 ∷ Row.off ∷ Row.off ∷ Row.off ∷ Row.alive
-            ∷ Row.alive ∷ Row.alive ∷ Row.alive ∷ List.[]; }
+        G49 = record {
+          locals = List._++_ g43 t44;
+          slots = life0 ∷ life1 ∷ life2 ∷ Row.off ∷ Row.off ∷ life5 ∷ Row.off ∷ Row.off ∷ Row.off ∷ Row.alive ∷
+              Row.alive ∷ Row.alive ∷ Row.alive ∷ List.[];
+        }
+
         abbrev G50 : Row.Cx
-        G50 = record { locals = List._++_ g43 t44; slots = life0 ∷ life1 ∷ life2 ∷ Row.off ∷ Row.off ∷ life5 ∷ Row.off ∷ Row.off ∷ Row.off ∷ Row.dead
-            ∷ Row.alive ∷ Row.alive ∷ Row.alive ∷ List.[]; }
+        G50 = record {
+          locals = List._++_ g43 t44;
+          slots = life0 ∷ life1 ∷ life2 ∷ Row.off ∷ Row.off ∷ life5 ∷ Row.off ∷ Row.off ∷ Row.off ∷ Row.dead ∷
+              Row.alive ∷ Row.alive ∷ Row.alive ∷ List.[];
+        }
+
         abbrev G51 : Row.Cx
-        G51 = record { locals = List._++_ g45 t46; slots = life0 ∷ life1 ∷ life2 ∷ life3 ∷ Row.off ∷ life5 ∷ Row.off ∷ Row.off ∷ Row.off ∷ Row.dead ∷
-            Row.alive ∷ Row.alive ∷ Row.alive ∷ List.[]; }
+        G51 = record {
+          locals = List._++_ g45 t46;
+          slots = life0 ∷ life1 ∷ life2 ∷ life3 ∷ Row.off ∷ life5 ∷ Row.off ∷ Row.off ∷ Row.off ∷ Row.dead ∷ Row.alive
+              ∷ Row.alive ∷ Row.alive ∷ List.[];
+        }
+
         abbrev G52 : Row.Cx
-        G52 = record { locals = List._++_ g45 t46; slots = life0 ∷ life1 ∷ life2 ∷ life3 ∷ Row.off ∷ life5 ∷ Row.off ∷ Row.off ∷ Row.off ∷ Row.off ∷
-            Row.alive ∷ Row.alive ∷ Row.alive ∷ List.[]; }
+        G52 = record {
+          locals = List._++_ g45 t46;
+          slots = life0 ∷ life1 ∷ life2 ∷ life3 ∷ Row.off ∷ life5 ∷ Row.off ∷ Row.off ∷ Row.off ∷ Row.off ∷ Row.alive ∷
+              Row.alive ∷ Row.alive ∷ List.[];
+        }
+
         abbrev G53 : Row.Cx
-        G53 = record { locals = List._++_ g45 t46; slots = life0 ∷ life1 ∷ life2 ∷ life3 ∷ Row.off ∷ life5 ∷ Row.off ∷ Row.off ∷ Row.off ∷ Row.off ∷
-            Row.dead ∷ Row.alive ∷ Row.alive ∷ List.[]; }
+        G53 = record {
+          locals = List._++_ g45 t46;
+          slots = life0 ∷ life1 ∷ life2 ∷ life3 ∷ Row.off ∷ life5 ∷ Row.off ∷ Row.off ∷ Row.off ∷ Row.off ∷ Row.dead ∷
+              Row.alive ∷ Row.alive ∷ List.[];
+        }
+
         abbrev G54 : Row.Cx
-        G54 = record { locals = List._++_ t47 t1; slots = life0 ∷ life1 ∷ life2 ∷ life3 ∷ life4 ∷ life5 ∷ Row.off ∷ Row.off ∷ Row.off ∷ Row.off ∷
-            Row.dead ∷ Row.alive ∷ Row.alive ∷ List.[]; }
+        G54 = record {
+          locals = List._++_ t47 t1;
+          slots = life0 ∷ life1 ∷ life2 ∷ life3 ∷ life4 ∷ life5 ∷ Row.off ∷ Row.off ∷ Row.off ∷ Row.off ∷ Row.dead ∷
+              Row.alive ∷ Row.alive ∷ List.[];
+        }
+
         abbrev G55 : Row.Cx
-        G55 = record { locals = List._++_ t47 t1; slots = life0 ∷ life1 ∷ life2 ∷ life3 ∷ life4 ∷ life5 ∷ Row.off ∷ Row.off ∷ Row.off ∷ Row.off ∷
-            Row.dead ∷ Row.alive ∷ Row.alive ∷ List.[]; }
+        G55 = record {
+          locals = List._++_ t47 t1;
+          slots = life0 ∷ life1 ∷ life2 ∷ life3 ∷ life4 ∷ life5 ∷ Row.off ∷ Row.off ∷ Row.off ∷ Row.off ∷ Row.dead ∷
+              Row.alive ∷ Row.alive ∷ List.[];
+        }
+
         abbrev G56 : Row.Cx
-        G56 = record { locals = List._++_ t47 t1; slots = life0 ∷ life1 ∷ life2 ∷ life3 ∷ life4 ∷ life5 ∷ Row.off ∷ Row.off ∷ Row.off ∷ Row.off ∷
-            Row.off ∷ Row.alive ∷ Row.alive ∷ List.[]; }
+        G56 = record {
+          locals = List._++_ t47 t1;
+          slots = life0 ∷ life1 ∷ life2 ∷ life3 ∷ life4 ∷ life5 ∷ Row.off ∷ Row.off ∷ Row.off ∷ Row.off ∷ Row.off ∷
+              Row.alive ∷ Row.alive ∷ List.[];
+        }
+
         abbrev G57 : Row.Cx
-        G57 = record { locals = List._++_ t47 t1; slots = life0 ∷ life1 ∷ life2 ∷ life3 ∷ life4 ∷ life5 ∷ Row.off ∷ Row.off ∷ Row.off ∷ Row.off ∷
-            Row.off ∷ Row.dead ∷ Row.alive ∷ List.[]; }
+        G57 = record {
+          locals = List._++_ t47 t1;
+          slots = life0 ∷ life1 ∷ life2 ∷ life3 ∷ life4 ∷ life5 ∷ Row.off ∷ Row.off ∷ Row.off ∷ Row.off ∷ Row.off ∷
+              Row.dead ∷ Row.alive ∷ List.[];
+        }
+
         abbrev G58 : Row.Cx
-        G58 = record { locals = List._++_ t48 t1; slots = life0 ∷ life1 ∷ life2 ∷ life3 ∷ life4 ∷ life5 ∷ Row.off ∷ Row.off ∷ Row.off ∷ Row.off ∷
-            Row.off ∷ Row.dead ∷ Row.alive ∷ List.[]; }
+        G58 = record {
+          locals = List._++_ t48 t1;
+          slots = life0 ∷ life1 ∷ life2 ∷ life3 ∷ life4 ∷ life5 ∷ Row.off ∷ Row.off ∷ Row.off ∷ Row.off ∷ Row.off ∷
+              Row.dead ∷ Row.alive ∷ List.[];
+        }
+
         abbrev G59 : Row.Cx
-        G59 = record { locals = List._++_ t48 t1; slots = life0 ∷ life1 ∷ life2 ∷ life3 ∷ life4 ∷ life5 ∷ Row.off ∷ Row.off ∷ Row.off ∷ Row.off ∷
-            Row.off ∷ Row.off ∷ Row.alive ∷ List.[]; }
+        G59 = record {
+          locals = List._++_ t48 t1;
+          slots = life0 ∷ life1 ∷ life2 ∷ life3 ∷ life4 ∷ life5 ∷ Row.off ∷ Row.off ∷ Row.off ∷ Row.off ∷ Row.off ∷
+              Row.off ∷ Row.alive ∷ List.[];
+        }
+
         abbrev G60 : Row.Cx
-        G60 = record { locals = List._++_ t49 t1; slots = life0 ∷ life1 ∷ life2 ∷ life3 ∷ life4 ∷ life5 ∷ Row.off ∷ Row.off ∷ Row.off ∷ Row.off ∷
-            Row.off ∷ Row.off ∷ Row.alive ∷ List.[]; }
+        G60 = record {
+          locals = List._++_ t49 t1;
+          slots = life0 ∷ life1 ∷ life2 ∷ life3 ∷ life4 ∷ life5 ∷ Row.off ∷ Row.off ∷ Row.off ∷ Row.off ∷ Row.off ∷
+              Row.off ∷ Row.alive ∷ List.[];
+        }
+
         abbrev G61 : Row.Cx
-        G61 = record { locals = List._++_ t49 t1; slots = life0 ∷ life1 ∷ life2 ∷ life3 ∷ life4 ∷ life5 ∷ Row.off ∷ Row.off ∷ Row.off ∷ Row.off ∷
-            Row.off ∷ Row.off ∷ Row.dead ∷ List.[]; }
+        G61 = record {
+          locals = List._++_ t49 t1;
+          slots = life0 ∷ life1 ∷ life2 ∷ life3 ∷ life4 ∷ life5 ∷ Row.off ∷ Row.off ∷ Row.off ∷ Row.off ∷ Row.off ∷
+              Row.off ∷ Row.dead ∷ List.[];
+        }
+
         abbrev G62 : Row.Cx
-        G62 = record { locals = List._++_ t50 t1; slots = life0 ∷ life1 ∷ life2 ∷ life3 ∷ life4 ∷ life5 ∷ Row.off ∷ Row.off ∷ Row.off ∷ Row.off ∷
-            Row.off ∷ Row.off ∷ Row.dead ∷ List.[]; }
+        G62 = record {
+          locals = List._++_ t50 t1;
+          slots = life0 ∷ life1 ∷ life2 ∷ life3 ∷ life4 ∷ life5 ∷ Row.off ∷ Row.off ∷ Row.off ∷ Row.off ∷ Row.off ∷
+              Row.off ∷ Row.dead ∷ List.[];
+        }
+
         abbrev G63 : Row.Cx
-        G63 = record { locals = List._++_ t50 t1; slots = life0 ∷ life1 ∷ life2 ∷ life3 ∷ life4 ∷ life5 ∷ Row.off ∷ Row.off ∷ Row.off ∷ Row.off ∷
-            Row.off ∷ Row.off ∷ Row.off ∷ List.[]; }
+        G63 = record {
+          locals = List._++_ t50 t1;
+          slots = life0 ∷ life1 ∷ life2 ∷ life3 ∷ life4 ∷ life5 ∷ Row.off ∷ Row.off ∷ Row.off ∷ Row.off ∷ Row.off ∷
+              Row.off ∷ Row.off ∷ List.[];
+        }
+
         abbrev G64 : Row.Cx
-        G64 = record { locals = List._++_ t51 t1; slots = life0 ∷ life1 ∷ life2 ∷ life3 ∷ life4 ∷ life5 ∷ Row.off ∷ Row.off ∷ Row.off ∷ Row.off ∷
-            Row.off ∷ Row.off ∷ Row.off ∷ List.[]; }
+        G64 = record {
+          locals = List._++_ t51 t1;
+          slots = life0 ∷ life1 ∷ life2 ∷ life3 ∷ life4 ∷ life5 ∷ Row.off ∷ Row.off ∷ Row.off ∷ Row.off ∷ Row.off ∷
+              Row.off ∷ Row.off ∷ List.[];
+        }
+
         abbrev G65 : Row.Cx
-        G65 = record { locals = List._++_ t2 t1; slots = life0 ∷ life1 ∷ life2 ∷ life3 ∷ life4 ∷ life5 ∷ Row.off ∷ Row.off ∷ Row.off ∷ Row.off ∷
-            Row.off ∷ Row.off ∷ Row.off ∷ List.[]; }
+        G65 = record {
+          locals = List._++_ t2 t1;
+          slots = life0 ∷ life1 ∷ life2 ∷ life3 ∷ life4 ∷ life5 ∷ Row.off ∷ Row.off ∷ Row.off ∷ Row.off ∷ Row.off ∷
+              Row.off ∷ Row.off ∷ List.[];
+        }
+
         abbrev Δ0 : Typed.Outs
         Δ0 = record { next = Option.none; exits = List.[]; returns = Option.some G1 }
-        module _ { M : Type 1 } (𝓤 : URA.URA M) (H : Wp.Heap 𝓤) (A : Atoms.Atoms 𝓤) (W : Kit.Given 𝓤 H A) (𝓣 : Wp.Tables 𝓤 H) (known : Knowns 𝓤 H A W
-            𝓣) (bs : List.List Nat.ℕ) (bd : Lifetimes.AllOutlive 6 (Kinds.osR r) κs) where
+
+        module _ {M : Type 1} (𝓤 : URA.URA M) (H : Wp.Heap 𝓤) (A : Atoms.Atoms 𝓤) (W : Kit.Given 𝓤 H A)
+            (𝓣 : Wp.Tables 𝓤 H) (known : Knowns 𝓤 H A W 𝓣) (bs : List.List Nat.ℕ)
+            (bd : Lifetimes.AllOutlive 6 (Kinds.osR r) κs) where
           abbrev E : Wp.Env 𝓤 H
           E = Frame.EnvOf 𝓤 H ((Kinds.tyR r) ∷ (Enter.tysP ps xs)) bs
+
           d0 : Typed.Typed 𝓤 H A 𝓣 E G65 b21 Δ0 (at0 bs)
           d0 = Typed.t-return 𝓤 H A W 𝓣 E Δ0 tt
+
           d1 : Typed.Typed 𝓤 H A 𝓣 E G64 b21 Δ0 (at1 bs)
-          d1 = Typed.g-pre 𝓤 H A W 𝓣 E G64 G65 b21 Δ0 (Typed.pass T64 T65 (s63 bs)) (at0 bs) (Scalar.g-room 𝓤 H A W E G64 8 (Syntax.tyInt Syntax.w8)
-              (Scalar.room-sc 𝓤 H A W (Row.sInt Syntax.w8))) d0
+          d1 = Typed.g-pre 𝓤 H A W 𝓣 E G64 G65 b21 Δ0 (Typed.pass T64 T65 (s63 bs)) (at0 bs) (Scalar.g-room 𝓤 H A W E
+              G64 8 (Syntax.tyInt Syntax.w8) (Scalar.room-sc 𝓤 H A W (Row.sInt Syntax.w8))) d0
+
           d2 : Typed.Typed 𝓤 H A 𝓣 E G63 b21 Δ0 (at2 bs)
-          d2 = Typed.g-pre 𝓤 H A W 𝓣 E G63 G64 b21 Δ0 (Typed.pass T62 T64 (s62 bs)) (at1 bs) (Scalar.g-room 𝓤 H A W E G63 11 (Syntax.tyArray
-              (Syntax.tyInt Syntax.w8) 1) (Init.room-arr 𝓤 H A W (Referent.rtF (Referent.fInt Syntax.w8)) 1 0 1 Path.refl)) d1
+          d2 = Typed.g-pre 𝓤 H A W 𝓣 E G63 G64 b21 Δ0 (Typed.pass T62 T64 (s62 bs)) (at1 bs) (Scalar.g-room 𝓤 H A W E
+              G63 11 (Syntax.tyArray (Syntax.tyInt Syntax.w8) 1) (Init.room-arr 𝓤 H A W
+              (Referent.rtF (Referent.fInt Syntax.w8)) 1 0 1 Path.refl)) d1
+
           d3 : Typed.Typed 𝓤 H A 𝓣 E G62 b21 Δ0 (at3 bs)
-          d3 = Typed.g-pre 𝓤 H A W 𝓣 E G62 G63 b21 Δ0 (λ Ψ. Ψ) (at2 bs) (Lifetime.g-forget 𝓤 H A W E G62 12 Row.dead Path.refl) d2
+          d3 = Typed.g-pre 𝓤 H A W 𝓣 E G62 G63 b21 Δ0 (λ Ψ. Ψ) (at2 bs)
+              (Lifetime.g-forget 𝓤 H A W E G62 12 Row.dead Path.refl) d2
+
           d4 : Typed.Typed 𝓤 H A 𝓣 E G61 b21 Δ0 (at4 bs)
-          d4 = Typed.g-pre 𝓤 H A W 𝓣 E G61 G62 b21 Δ0 (Typed.pass T60 T62 (s60 bs)) (at3 bs) (Share.g-back-arr-shr 𝓤 H A W E (Referent.rtF
-              (Referent.fInt Syntax.w8)) G61 11 1 12 (λ x. x) (Reads.as-is 𝓤 H A (Rows.arr-shr (Referent.rtF (Referent.fInt Syntax.w8)) 1 12))
-              Path.refl) d3
+          d4 = Typed.g-pre 𝓤 H A W 𝓣 E G61 G62 b21 Δ0 (Typed.pass T60 T62 (s60 bs)) (at3 bs) (Share.g-back-arr-shr 𝓤 H
+              A W E (Referent.rtF (Referent.fInt Syntax.w8)) G61 11 1 12 (λ x. x) (Reads.as-is 𝓤 H A (Rows.arr-shr
+              (Referent.rtF (Referent.fInt Syntax.w8)) 1 12)) Path.refl) d3
+
           d5 : Typed.Typed 𝓤 H A 𝓣 E G60 b21 Δ0 (at5 bs)
           d5 = Typed.g-pre 𝓤 H A W 𝓣 E G60 G61 b21 Δ0 (λ Ψ. Ψ) (at4 bs) (Lifetime.g-end 𝓤 H A W E G60 12 Path.refl) d4
+
           d6 : Typed.Typed 𝓤 H A 𝓣 E G59 b21 Δ0 (at6 bs)
-          d6 = Typed.g-pre 𝓤 H A W 𝓣 E G59 G60 b21 Δ0 (Typed.pass T58 T60 (s58 bs)) (at5 bs) (Scalar.g-room 𝓤 H A W E G59 10 (Syntax.tyArray
-              (Syntax.tyInt Syntax.w8) 1) (Init.room-arr 𝓤 H A W (Referent.rtF (Referent.fInt Syntax.w8)) 1 0 1 Path.refl)) d5
+          d6 = Typed.g-pre 𝓤 H A W 𝓣 E G59 G60 b21 Δ0 (Typed.pass T58 T60 (s58 bs)) (at5 bs) (Scalar.g-room 𝓤 H A W E
+              G59 10 (Syntax.tyArray (Syntax.tyInt Syntax.w8) 1) (Init.room-arr 𝓤 H A W
+              (Referent.rtF (Referent.fInt Syntax.w8)) 1 0 1 Path.refl)) d5
+
           d7 : Typed.Typed 𝓤 H A 𝓣 E G58 b21 Δ0 (at7 bs)
-          d7 = Typed.g-pre 𝓤 H A W 𝓣 E G58 G59 b21 Δ0 (λ Ψ. Ψ) (at6 bs) (Lifetime.g-forget 𝓤 H A W E G58 11 Row.dead Path.refl) d6
+          d7 = Typed.g-pre 𝓤 H A W 𝓣 E G58 G59 b21 Δ0 (λ Ψ. Ψ) (at6 bs)
+              (Lifetime.g-forget 𝓤 H A W E G58 11 Row.dead Path.refl) d6
+
           d8 : Typed.Typed 𝓤 H A 𝓣 E G57 b21 Δ0 (at8 bs)
-          d8 = Typed.g-pre 𝓤 H A W 𝓣 E G57 G58 b21 Δ0 (Typed.pass T55 T58 (s56 bs)) (at7 bs) (Share.g-back-arr-shr 𝓤 H A W E (Referent.rtF
-              (Referent.fInt Syntax.w8)) G57 10 1 11 (λ x. x) (Reads.as-is 𝓤 H A (Rows.arr-shr (Referent.rtF (Referent.fInt Syntax.w8)) 1 11))
-              Path.refl) d7
+          d8 = Typed.g-pre 𝓤 H A W 𝓣 E G57 G58 b21 Δ0 (Typed.pass T55 T58 (s56 bs)) (at7 bs) (Share.g-back-arr-shr 𝓤 H
+              A W E (Referent.rtF (Referent.fInt Syntax.w8)) G57 10 1 11 (λ x. x) (Reads.as-is 𝓤 H A (Rows.arr-shr
+              (Referent.rtF (Referent.fInt Syntax.w8)) 1 11)) Path.refl) d7
+
           d9 : Typed.Typed 𝓤 H A 𝓣 E G56 b21 Δ0 (at9 bs)
           d9 = Typed.g-pre 𝓤 H A W 𝓣 E G56 G57 b21 Δ0 (λ Ψ. Ψ) (at8 bs) (Lifetime.g-end 𝓤 H A W E G56 11 Path.refl) d8
+
           d10 : Typed.Typed 𝓤 H A 𝓣 E G55 b21 Δ0 (at10 bs)
-          d10 = Typed.g-pre 𝓤 H A W 𝓣 E G55 G56 b21 Δ0 (λ Ψ. Ψ) (at9 bs) (Lifetime.g-forget 𝓤 H A W E G55 10 Row.dead Path.refl) d9
+          d10 = Typed.g-pre 𝓤 H A W 𝓣 E G55 G56 b21 Δ0 (λ Ψ. Ψ) (at9 bs)
+              (Lifetime.g-forget 𝓤 H A W E G55 10 Row.dead Path.refl) d9
+
           d11 : Typed.Typed 𝓤 H A 𝓣 E G54 b21 Δ0 (at11 bs)
-          d11 = Typed.g-pre 𝓤 H A W 𝓣 E G54 G55 b21 Δ0 (Typed.give (s53 bs)) (at10 bs) (Know.g-sl-known 𝓤 H A W (Referent.fInt Syntax.w32) E G54 5 4
-              ref11 life4 0 (λ x. x) record { fits = Dec.lit< tt } (Reads.as-is 𝓤 H A (Mut.mslice (Referent.rtF (Referent.fInt Syntax.w32)) ref11 4))
-              Path.refl tt) d10
+          d11 = Typed.g-pre 𝓤 H A W 𝓣 E G54 G55 b21 Δ0 (Typed.give (s53 bs)) (at10 bs) (Know.g-sl-known 𝓤 H A W
+              (Referent.fInt Syntax.w32) E G54 5 4 ref11 life4 0 (λ x. x) record { fits = Dec.lit< tt } (Reads.as-is 𝓤
+              H A (Mut.mslice (Referent.rtF (Referent.fInt Syntax.w32)) ref11 4)) Path.refl tt) d10
+
           d12 : Typed.Typed 𝓤 H A 𝓣 E G53 b21 Δ0 (at12 bs)
-          d12 = Typed.g-pre 𝓤 H A W 𝓣 E G53 G54 b21 Δ0 (Typed.both (s52 bs)) (at11 bs) (Relend.g-back-sl 𝓤 H A W E (Referent.rtF (Referent.fInt
-              Syntax.w32)) G53 23 5 4 10 ref11 ref4 life4 (λ x. x) (λ x. x) (Reads.as-is 𝓤 H A (Mut.msleft (Referent.rtF (Referent.fInt Syntax.w32))
-              ref4)) (Reads.as-is 𝓤 H A (Relend.mslice-owed (Referent.rtF (Referent.fInt Syntax.w32)) ref11 4 10 life4)) Path.refl Path.refl) d11
+          d12 = Typed.g-pre 𝓤 H A W 𝓣 E G53 G54 b21 Δ0 (Typed.both (s52 bs)) (at11 bs) (Relend.g-back-sl 𝓤 H A W E
+              (Referent.rtF (Referent.fInt Syntax.w32)) G53 23 5 4 10 ref11 ref4 life4 (λ x. x) (λ x. x) (Reads.as-is 𝓤
+              H A (Mut.msleft (Referent.rtF (Referent.fInt Syntax.w32)) ref4)) (Reads.as-is 𝓤 H A (Relend.mslice-owed
+              (Referent.rtF (Referent.fInt Syntax.w32)) ref11 4 10 life4)) Path.refl Path.refl) d11
+
           d13 : Typed.Typed 𝓤 H A 𝓣 E G52 b21 Δ0 (at13 bs)
-          d13 = Typed.g-pre 𝓤 H A W 𝓣 E G52 G53 b21 Δ0 (λ Ψ. Ψ) (at12 bs) (Lifetime.g-end 𝓤 H A W E G52 10 Path.refl) d12
+          d13 = Typed.g-pre 𝓤 H A W 𝓣 E G52 G53 b21 Δ0 (λ Ψ. Ψ) (at12 bs) (Lifetime.g-end 𝓤 H A W E G52 10 Path.refl)
+              d12
+
           d14 : Typed.Typed 𝓤 H A 𝓣 E G51 b21 Δ0 (at14 bs)
-          d14 = Typed.g-pre 𝓤 H A W 𝓣 E G51 G52 b21 Δ0 (λ Ψ. Ψ) (at13 bs) (Lifetime.g-forget 𝓤 H A W E G51 9 Row.dead Path.refl) d13
+          d14 = Typed.g-pre 𝓤 H A W 𝓣 E G51 G52 b21 Δ0 (λ Ψ. Ψ) (at13 bs)
+              (Lifetime.g-forget 𝓤 H A W E G51 9 Row.dead Path.refl) d13
+
           d15 : Typed.Typed 𝓤 H A 𝓣 E G50 b21 Δ0 (at15 bs)
-          d15 = Typed.g-pre 𝓤 H A W 𝓣 E G50 G51 b21 Δ0 (Typed.both (s49 bs)) (at14 bs) (Relend.g-back-sl 𝓤 H A W E InflightAction.row G50 21 4 3 9
-              ref10 ref3 life3 (λ x. x) (λ x. x) (Reads.as-is 𝓤 H A (Mut.msleft InflightAction.row ref3)) (Reads.as-is 𝓤 H A (Relend.mslice-owed
-              InflightAction.row ref10 3 9 life3)) Path.refl Path.refl) d14
+          d15 = Typed.g-pre 𝓤 H A W 𝓣 E G50 G51 b21 Δ0 (Typed.both (s49 bs)) (at14 bs) (Relend.g-back-sl 𝓤 H A W E
+              InflightAction.row G50 21 4 3 9 ref10 ref3 life3 (λ x. x) (λ x. x)
+              (Reads.as-is 𝓤 H A (Mut.msleft InflightAction.row ref3)) (Reads.as-is 𝓤 H A
+              (Relend.mslice-owed InflightAction.row ref10 3 9 life3)) Path.refl Path.refl) d14
+
           d16 : Typed.Typed 𝓤 H A 𝓣 E G49 b21 Δ0 (at16 bs)
-          d16 = Typed.g-pre 𝓤 H A W 𝓣 E G49 G50 b21 Δ0 (λ Ψ. Ψ) (at15 bs) (Lifetime.g-end 𝓤 H A W E G49 9 Path.refl) d15
+          d16 = Typed.g-pre 𝓤 H A W 𝓣 E G49 G50 b21 Δ0 (λ Ψ. Ψ) (at15 bs) (Lifetime.g-end 𝓤 H A W E G49 9 Path.refl)
+              d15
+
           d17 : Typed.Typed 𝓤 H A 𝓣 E G48 b21 Δ0 (at17 bs)
-          d17 = Typed.g-pre 𝓤 H A W 𝓣 E G48 G49 b21 Δ0 (λ Ψ. Ψ) (at16 bs) (Lifetime.g-forget 𝓤 H A W E G48 8 Row.dead Path.refl) d16
+          d17 = Typed.g-pre 𝓤 H A W 𝓣 E G48 G49 b21 Δ0 (λ Ψ. Ψ) (at16 bs)
+              (Lifetime.g-forget 𝓤 H A W E G48 8 Row.dead Path.refl) d16
+
           d18 : Typed.Typed 𝓤 H A 𝓣 E G47 b21 Δ0 (at18 bs)
-          d18 = Typed.g-pre 𝓤 H A W 𝓣 E G47 G48 b21 Δ0 (Typed.both (s46 bs)) (at17 bs) (Relend.g-back-sl 𝓤 H A W E ReservationUsage.row G47 19 3 2 8
-              ref9 ref2 life2 (λ x. x) (λ x. x) (Reads.as-is 𝓤 H A (Mut.msleft ReservationUsage.row ref2)) (Reads.as-is 𝓤 H A (Relend.mslice-owed
-              ReservationUsage.row ref9 2 8 life2)) Path.refl Path.refl) d17
+          d18 = Typed.g-pre 𝓤 H A W 𝓣 E G47 G48 b21 Δ0 (Typed.both (s46 bs)) (at17 bs) (Relend.g-back-sl 𝓤 H A W E
+              ReservationUsage.row G47 19 3 2 8 ref9 ref2 life2 (λ x. x) (λ x. x)
+              (Reads.as-is 𝓤 H A (Mut.msleft ReservationUsage.row ref2)) (Reads.as-is 𝓤 H A
+              (Relend.mslice-owed ReservationUsage.row ref9 2 8 life2)) Path.refl Path.refl) d17
+
           d19 : Typed.Typed 𝓤 H A 𝓣 E G46 b21 Δ0 (at19 bs)
-          d19 = Typed.g-pre 𝓤 H A W 𝓣 E G46 G47 b21 Δ0 (λ Ψ. Ψ) (at18 bs) (Lifetime.g-end 𝓤 H A W E G46 8 Path.refl) d18
+          d19 = Typed.g-pre 𝓤 H A W 𝓣 E G46 G47 b21 Δ0 (λ Ψ. Ψ) (at18 bs) (Lifetime.g-end 𝓤 H A W E G46 8 Path.refl)
+              d18
+
           d20 : Typed.Typed 𝓤 H A 𝓣 E G45 b21 Δ0 (at20 bs)
-          d20 = Typed.g-pre 𝓤 H A W 𝓣 E G45 G46 b21 Δ0 (λ Ψ. Ψ) (at19 bs) (Lifetime.g-forget 𝓤 H A W E G45 7 Row.dead Path.refl) d19
+          d20 = Typed.g-pre 𝓤 H A W 𝓣 E G45 G46 b21 Δ0 (λ Ψ. Ψ) (at19 bs)
+              (Lifetime.g-forget 𝓤 H A W E G45 7 Row.dead Path.refl) d19
+
           d21 : Typed.Typed 𝓤 H A 𝓣 E G44 b21 Δ0 (at21 bs)
-          d21 = Typed.g-pre 𝓤 H A W 𝓣 E G44 G45 b21 Δ0 (Typed.both (s43 bs)) (at20 bs) (Relend.g-back-sl 𝓤 H A W E RelayCircuit.row G44 17 2 1 7 ref8
-              ref1 life1 (λ x. x) (λ x. x) (Reads.as-is 𝓤 H A (Mut.msleft RelayCircuit.row ref1)) (Reads.as-is 𝓤 H A (Relend.mslice-owed
-              RelayCircuit.row ref8 1 7 life1)) Path.refl Path.refl) d20
+          d21 = Typed.g-pre 𝓤 H A W 𝓣 E G44 G45 b21 Δ0 (Typed.both (s43 bs)) (at20 bs) (Relend.g-back-sl 𝓤 H A W E
+              RelayCircuit.row G44 17 2 1 7 ref8 ref1 life1 (λ x. x) (λ x. x)
+              (Reads.as-is 𝓤 H A (Mut.msleft RelayCircuit.row ref1)) (Reads.as-is 𝓤 H A
+              (Relend.mslice-owed RelayCircuit.row ref8 1 7 life1)) Path.refl Path.refl) d20
+
           d22 : Typed.Typed 𝓤 H A 𝓣 E G43 b21 Δ0 (at22 bs)
-          d22 = Typed.g-pre 𝓤 H A W 𝓣 E G43 G44 b21 Δ0 (λ Ψ. Ψ) (at21 bs) (Lifetime.g-end 𝓤 H A W E G43 7 Path.refl) d21
+          d22 = Typed.g-pre 𝓤 H A W 𝓣 E G43 G44 b21 Δ0 (λ Ψ. Ψ) (at21 bs) (Lifetime.g-end 𝓤 H A W E G43 7 Path.refl)
+              d21
+
           d23 : Typed.Typed 𝓤 H A 𝓣 E G42 b21 Δ0 (at23 bs)
-          d23 = Typed.g-pre 𝓤 H A W 𝓣 E G42 G43 b21 Δ0 (λ Ψ. Ψ) (at22 bs) (Lifetime.g-forget 𝓤 H A W E G42 6 Row.dead Path.refl) d22
+          d23 = Typed.g-pre 𝓤 H A W 𝓣 E G42 G43 b21 Δ0 (λ Ψ. Ψ) (at22 bs)
+              (Lifetime.g-forget 𝓤 H A W E G42 6 Row.dead Path.refl) d22
+
           d24 : Typed.Typed 𝓤 H A 𝓣 E G41 b21 Δ0 (at24 bs)
-          d24 = Typed.g-pre 𝓤 H A W 𝓣 E G41 G42 b21 Δ0 (Typed.both (s40 bs)) (at23 bs) (Relend.g-back-sl 𝓤 H A W E RelayPending.row G41 15 1 0 6 ref7
-              ref0 life0 (λ x. x) (λ x. x) (Reads.as-is 𝓤 H A (Mut.msleft RelayPending.row ref0)) (Reads.as-is 𝓤 H A (Relend.mslice-owed
-              RelayPending.row ref7 0 6 life0)) Path.refl Path.refl) d23
+          d24 = Typed.g-pre 𝓤 H A W 𝓣 E G41 G42 b21 Δ0 (Typed.both (s40 bs)) (at23 bs) (Relend.g-back-sl 𝓤 H A W E
+              RelayPending.row G41 15 1 0 6 ref7 ref0 life0 (λ x. x) (λ x. x)
+              (Reads.as-is 𝓤 H A (Mut.msleft RelayPending.row ref0)) (Reads.as-is 𝓤 H A
+              (Relend.mslice-owed RelayPending.row ref7 0 6 life0)) Path.refl Path.refl) d23
+
           d25 : Typed.Typed 𝓤 H A 𝓣 E G40 b21 Δ0 (at25 bs)
-          d25 = Typed.g-pre 𝓤 H A W 𝓣 E G40 G41 b21 Δ0 (λ Ψ. Ψ) (at24 bs) (Lifetime.g-end 𝓤 H A W E G40 6 Path.refl) d24
+          d25 = Typed.g-pre 𝓤 H A W 𝓣 E G40 G41 b21 Δ0 (λ Ψ. Ψ) (at24 bs) (Lifetime.g-end 𝓤 H A W E G40 6 Path.refl)
+              d24
+
           d26 : Typed.Typed 𝓤 H A 𝓣 E G39 b21 Δ0 (at26 bs)
-          d26 = Typed.g-pre 𝓤 H A W 𝓣 E G39 G40 b21 Δ0 (Typed.pass T39 T40 (s38 bs)) (at25 bs) (Scalar.g-room 𝓤 H A W E G39 13 Laws.mir
-              (Local.room-whole 𝓤 H A W (Declared.row Places.the-type) Laws.mir Path.refl)) d25
+          d26 = Typed.g-pre 𝓤 H A W 𝓣 E G39 G40 b21 Δ0 (Typed.pass T39 T40 (s38 bs)) (at25 bs) (Scalar.g-room 𝓤 H A W E
+              G39 13 Laws.mir (Local.room-whole 𝓤 H A W (Declared.row Places.the-type) Laws.mir Path.refl)) d25
+
           d27 : Typed.Typed 𝓤 H A 𝓣 E G38 b21 Δ0 (at27 bs)
-          d27 = Typed.g-pre 𝓤 H A W 𝓣 E G38 G39 b21 Δ0 (Typed.pass T38 T39 (s37 bs)) (at26 bs) (Scalar.g-room 𝓤 H A W E G38 12 Laws''.mir
-              (Local.room-whole 𝓤 H A W (Declared.row OpaqueRelayRuntime.the-type) Laws''.mir Path.refl)) d26
+          d27 = Typed.g-pre 𝓤 H A W 𝓣 E G38 G39 b21 Δ0 (Typed.pass T38 T39 (s37 bs)) (at26 bs) (Scalar.g-room 𝓤 H A W E
+              G38 12 Laws''.mir (Local.room-whole 𝓤 H A W (Declared.row OpaqueRelayRuntime.the-type) Laws''.mir
+              Path.refl)) d26
+
           d28 : Typed.Typed 𝓤 H A 𝓣 E G37 b21 Δ0 (at28 bs)
-          d28 = Typed.g-pre 𝓤 H A W 𝓣 E G37 G38 b21 Δ0 (Typed.pass T37 T38 (s36 bs)) (at27 bs) (Scalar.g-room 𝓤 H A W E G37 7 Laws'.mir
-              (Local.room-whole 𝓤 H A W (Declared.row RelayPacket.the-type) Laws'.mir Path.refl)) d27
+          d28 = Typed.g-pre 𝓤 H A W 𝓣 E G37 G38 b21 Δ0 (Typed.pass T37 T38 (s36 bs)) (at27 bs) (Scalar.g-room 𝓤 H A W E
+              G37 7 Laws'.mir (Local.room-whole 𝓤 H A W (Declared.row RelayPacket.the-type) Laws'.mir Path.refl)) d27
+
           d29 : Typed.Typed 𝓤 H A 𝓣 E G36 b21 Δ0 (at29 bs)
-          d29 = Typed.g-pre 𝓤 H A W 𝓣 E G36 G37 b21 Δ0 (Typed.pass T36 T37 (s35 bs)) (at28 bs) (Scalar.g-room 𝓤 H A W E G36 29 (Syntax.tyStruct (38 ∷
-              91 ∷ 93 ∷ List.[]) (Syntax.tcons ref6 (Syntax.tcons (Syntax.tyInt Syntax.w64) Syntax.tnil))) (Shared.room-sslice 𝓤 H A W (Referent.rtF
-              (Referent.fInt Syntax.w8)) ref6 12)) d28
+          d29 = Typed.g-pre 𝓤 H A W 𝓣 E G36 G37 b21 Δ0 (Typed.pass T36 T37 (s35 bs)) (at28 bs) (Scalar.g-room 𝓤 H A W E
+              G36 29 slice6 (Shared.room-sslice 𝓤 H A W (Referent.rtF (Referent.fInt Syntax.w8)) ref6 12)) d28
+
           d30 : Typed.Typed 𝓤 H A 𝓣 E G35 b21 Δ0 (at30 bs)
-          d30 = Typed.g-pre 𝓤 H A W 𝓣 E G35 G36 b21 Δ0 (Typed.pass T35 T36 (s34 bs)) (at29 bs) (Scalar.g-room 𝓤 H A W E G35 27 (Syntax.tyStruct (38 ∷
-              91 ∷ 93 ∷ List.[]) (Syntax.tcons ref6 (Syntax.tcons (Syntax.tyInt Syntax.w64) Syntax.tnil))) (Shared.room-sslice 𝓤 H A W (Referent.rtF
-              (Referent.fInt Syntax.w8)) ref6 12)) d29
+          d30 = Typed.g-pre 𝓤 H A W 𝓣 E G35 G36 b21 Δ0 (Typed.pass T35 T36 (s34 bs)) (at29 bs) (Scalar.g-room 𝓤 H A W E
+              G35 27 slice6 (Shared.room-sslice 𝓤 H A W (Referent.rtF (Referent.fInt Syntax.w8)) ref6 12)) d29
+
           d31 : Typed.Typed 𝓤 H A 𝓣 E G34 b21 Δ0 (at31 bs)
-          d31 = Typed.g-pre 𝓤 H A W 𝓣 E G34 G35 b21 Δ0 (Typed.pass T34 T35 (s33 bs)) (at30 bs) (Scalar.g-room 𝓤 H A W E G34 25 (Syntax.tyStruct (38 ∷
-              91 ∷ 93 ∷ List.[]) (Syntax.tcons ref6 (Syntax.tcons (Syntax.tyInt Syntax.w64) Syntax.tnil))) (Shared.room-sslice 𝓤 H A W (Referent.rtF
-              (Referent.fInt Syntax.w8)) ref6 11)) d30
+          d31 = Typed.g-pre 𝓤 H A W 𝓣 E G34 G35 b21 Δ0 (Typed.pass T34 T35 (s33 bs)) (at30 bs) (Scalar.g-room 𝓤 H A W E
+              G34 25 slice6 (Shared.room-sslice 𝓤 H A W (Referent.rtF (Referent.fInt Syntax.w8)) ref6 11)) d30
+
           d32 : Typed.Typed 𝓤 H A 𝓣 E G33 b22 Δ0 (at32 bs)
-          d32 = Typed.s-seq 𝓤 H A W 𝓣 E G33 G34 b20 b21 Δ0 (Typed.both (s32 bs)) (at31 bs) (Plain.t-call-plain 𝓤 H A W 𝓣 9 ps·0 r·0 (claims· .0)
-              (claims· .1) "hnsr_circuit::handle::handle" known E (λ pos β. β) G33 (record { pos = 15; ty = Syntax.tyRef Syntax.erased Syntax.mut
-              RelayPending.to; ref = λ x. x; }, (record { pos = 17; ty = Syntax.tyRef Syntax.erased Syntax.mut RelayCircuit.to; ref = λ x. x; },
-              (record { pos = 19; ty = Syntax.tyRef Syntax.erased Syntax.mut ReservationUsage.to; ref = λ x. x; }, (record { pos = 21; ty =
-              Syntax.tyRef Syntax.erased Syntax.mut InflightAction.to; ref = λ x. x; }, (record { pos = 23; ty = Syntax.tyRef Syntax.erased Syntax.mut
-              (Syntax.tyInt Syntax.w32); ref = λ x. x; }, (record { pos = 12; st = List.[]; d = 0; at = λ x. x }, (record { pos = 13; st = List.[]; d
-              = 0; at = λ x. x }, (record { pos = 7; st = List.[]; d = 0; at = λ x. x }, (record { pos = 25; ty = Syntax.tyRef Syntax.erased
-              Syntax.imm (Syntax.tyInt Syntax.w8); ref = λ x. x; }, (record { pos = 9; ty = Syntax.tyRef (Syntax.named 5) Syntax.imm (Syntax.tyInt
-              Syntax.w8); ref = λ x. x; }, (record { pos = 27; ty = Syntax.tyRef Syntax.erased Syntax.imm (Syntax.tyInt Syntax.w8); ref = λ x. x; },
-              (record { pos = 29; ty = Syntax.tyRef Syntax.erased Syntax.imm (Syntax.tyInt Syntax.w8); ref = λ x. x; }, tt,),),),),),),),),),),),) 0
-              (6 ∷ 7 ∷ 8 ∷ 9 ∷ 10 ∷ 11 ∷ 5 ∷ 12 ∷ 12 ∷ List.[]) (Call.sub-id 𝓤 H A W (G33 .slots)) (Reads.as-is 𝓤 H A (Mut.mslice RelayPending.row
-              ref0 6), Mut.reads-mslice 𝓤 H A W RelayPending.row ref0 6, Path.refl, (Reads.as-is 𝓤 H A (Mut.mslice RelayCircuit.row ref1 7),
-              Mut.reads-mslice 𝓤 H A W RelayCircuit.row ref1 7, Path.refl, (Reads.as-is 𝓤 H A (Mut.mslice ReservationUsage.row ref2 8),
-              Mut.reads-mslice 𝓤 H A W ReservationUsage.row ref2 8, Path.refl, (Reads.as-is 𝓤 H A (Mut.mslice InflightAction.row ref3 9),
-              Mut.reads-mslice 𝓤 H A W InflightAction.row ref3 9, Path.refl, (Reads.as-is 𝓤 H A (Mut.mslice (Referent.rtF (Referent.fInt Syntax.w32))
-              ref4 10), Mut.reads-mslice 𝓤 H A W (Referent.rtF (Referent.fInt Syntax.w32)) ref4 10, Path.refl, ((Yields.yields-copy 𝓤 H A W (λ ρ.
-              Unit) (Declared.row OpaqueRelayRuntime.the-type) Path.refl (Copies.cStruct OpaqueRelayRuntime.the-type Laws''.the-laws Laws''.the-copy
-              .copy 𝓤 H A W) (Rows'.whole (Declared.row OpaqueRelayRuntime.the-type)) (λ x. x) (λ x. x) (λ ρ told. Local.mem-whole 𝓤 H A W
-              (Declared.row OpaqueRelayRuntime.the-type) ρ) λ ρ told. Local.whole-mem 𝓤 H A W (Declared.row OpaqueRelayRuntime.the-type) ρ,
-              Path.refl,), ((Yields.yields-copy 𝓤 H A W (λ ρ. Unit) (Declared.row Places.the-type) Path.refl (Copies.cStruct Places.the-type
-              Laws.the-laws Laws.the-copy .copy 𝓤 H A W) (Rows'.whole (Declared.row Places.the-type)) (λ x. x) (λ x. x) (λ ρ told. Local.mem-whole 𝓤 H
-              A W (Declared.row Places.the-type) ρ) λ ρ told. Local.whole-mem 𝓤 H A W (Declared.row Places.the-type) ρ, Path.refl,),
-              ((Yields.yields-copy 𝓤 H A W (λ ρ. Unit) (Declared.row RelayPacket.the-type) Path.refl (Copies.cStruct RelayPacket.the-type
-              Laws'.the-laws Laws'.the-copy .copy 𝓤 H A W) (Rows'.whole (Declared.row RelayPacket.the-type)) (λ x. x) (λ x. x) (λ ρ told.
-              Local.mem-whole 𝓤 H A W (Declared.row RelayPacket.the-type) ρ) λ ρ told. Local.whole-mem 𝓤 H A W (Declared.row RelayPacket.the-type) ρ,
-              Path.refl,), (ShrSlice.spares-sslice 𝓤 H A W (Referent.rtF (Referent.fInt Syntax.w8)) ref6 11, Shared.reads-sslice 𝓤 H A W (Referent.rtF
-              (Referent.fInt Syntax.w8)) ref6 11, Path.refl, (ShrSlice.spares-sslice 𝓤 H A W (Referent.rtF (Referent.fInt Syntax.w8)) ref12 5,
-              Shared.reads-sslice 𝓤 H A W (Referent.rtF (Referent.fInt Syntax.w8)) ref12 5, Path.refl, (ShrSlice.spares-sslice 𝓤 H A W (Referent.rtF
-              (Referent.fInt Syntax.w8)) ref6 12, Shared.reads-sslice 𝓤 H A W (Referent.rtF (Referent.fInt Syntax.w8)) ref6 12, Path.refl,
-              (ShrSlice.spares-sslice 𝓤 H A W (Referent.rtF (Referent.fInt Syntax.w8)) ref6 12, Shared.reads-sslice 𝓤 H A W (Referent.rtF
-              (Referent.fInt Syntax.w8)) ref6 12, Path.refl, tt,),),),),),),),),),),),) (Reads.room-gone 𝓤 H A Laws'''.mir) (tt, (tt, (tt, (tt, (tt,
-              (tt, (tt, (tt, (tt, tt))))))))) Path.refl) d31
+          d32 = Typed.s-seq 𝓤 H A W 𝓣 E G33 G34 b20 b21 Δ0 (Typed.both (s32 bs)) (at31 bs) (Plain.t-call-plain 𝓤 H A W
+              𝓣 9 ps·0 r·0 (claims· .0) (claims· .1) "hnsr_circuit::handle::handle" known E (λ pos β. β) G33 (
+                record { pos = 15; ty = ref0; ref = λ x. x },
+                (
+                  record { pos = 17; ty = ref1; ref = λ x. x },
+                  (
+                    record { pos = 19; ty = ref2; ref = λ x. x },
+                    (
+                      record { pos = 21; ty = ref3; ref = λ x. x },
+                      (
+                        record { pos = 23; ty = ref4; ref = λ x. x },
+                        (
+                          record { pos = 12; st = List.[]; d = 0; at = λ x. x },
+                          (
+                            record { pos = 13; st = List.[]; d = 0; at = λ x. x },
+                            (
+                              record { pos = 7; st = List.[]; d = 0; at = λ x. x },
+                              (
+                                record { pos = 25; ty = ref6; ref = λ x. x },
+                                (
+                                  record { pos = 9; ty = ref12; ref = λ x. x },
+                                  (
+                                    record { pos = 27; ty = ref6; ref = λ x. x },
+                                    (record { pos = 29; ty = ref6; ref = λ x. x }, tt),
+                                  ),
+                                ),
+                              ),
+                            ),
+                          ),
+                        ),
+                      ),
+                    ),
+                  ),
+                ),
+              ) 0 (6 ∷ 7 ∷ 8 ∷ 9 ∷ 10 ∷ 11 ∷ 5 ∷ 12 ∷ 12 ∷ List.[]) (Call.sub-id 𝓤 H A W (G33 .slots)) (
+                Reads.as-is 𝓤 H A (Mut.mslice RelayPending.row ref0 6),
+                Mut.reads-mslice 𝓤 H A W RelayPending.row ref0 6,
+                Path.refl,
+                (
+                  Reads.as-is 𝓤 H A (Mut.mslice RelayCircuit.row ref1 7),
+                  Mut.reads-mslice 𝓤 H A W RelayCircuit.row ref1 7,
+                  Path.refl,
+                  (
+                    Reads.as-is 𝓤 H A (Mut.mslice ReservationUsage.row ref2 8),
+                    Mut.reads-mslice 𝓤 H A W ReservationUsage.row ref2 8,
+                    Path.refl,
+                    (
+                      Reads.as-is 𝓤 H A (Mut.mslice InflightAction.row ref3 9),
+                      Mut.reads-mslice 𝓤 H A W InflightAction.row ref3 9,
+                      Path.refl,
+                      (
+                        Reads.as-is 𝓤 H A (Mut.mslice (Referent.rtF (Referent.fInt Syntax.w32)) ref4 10),
+                        Mut.reads-mslice 𝓤 H A W (Referent.rtF (Referent.fInt Syntax.w32)) ref4 10,
+                        Path.refl,
+                        (
+                          (
+                            Yields.yields-copy 𝓤 H A W (λ ρ. Unit) (Declared.row OpaqueRelayRuntime.the-type) Path.refl (Copies.cStruct
+                                OpaqueRelayRuntime.the-type Laws''.the-laws Laws''.the-copy .copy 𝓤 H A W)
+                                (Rows'.whole (Declared.row OpaqueRelayRuntime.the-type)) (λ x. x) (λ x. x) (λ ρ told.
+                                Local.mem-whole 𝓤 H A W (Declared.row OpaqueRelayRuntime.the-type) ρ) λ ρ told.
+                                Local.whole-mem 𝓤 H A W (Declared.row OpaqueRelayRuntime.the-type) ρ,
+                            Path.refl,
+                          ),
+                          (
+                            (
+                              Yields.yields-copy 𝓤 H A W (λ ρ. Unit) (Declared.row Places.the-type) Path.refl (Copies.cStruct
+                                  Places.the-type Laws.the-laws Laws.the-copy .copy 𝓤 H A W)
+                                  (Rows'.whole (Declared.row Places.the-type)) (λ x. x) (λ x. x) (λ ρ told.
+                                  Local.mem-whole 𝓤 H A W (Declared.row Places.the-type) ρ) λ ρ told. Local.whole-mem 𝓤
+                                  H A W (Declared.row Places.the-type) ρ,
+                              Path.refl,
+                            ),
+                            (
+                              (
+                                Yields.yields-copy 𝓤 H A W (λ ρ. Unit) (Declared.row RelayPacket.the-type) Path.refl (Copies.cStruct
+                                    RelayPacket.the-type Laws'.the-laws Laws'.the-copy .copy 𝓤 H A W)
+                                    (Rows'.whole (Declared.row RelayPacket.the-type)) (λ x. x) (λ x. x) (λ ρ told.
+                                    Local.mem-whole 𝓤 H A W (Declared.row RelayPacket.the-type) ρ) λ ρ told.
+                                    Local.whole-mem 𝓤 H A W (Declared.row RelayPacket.the-type) ρ,
+                                Path.refl,
+                              ),
+                              (
+                                ShrSlice.spares-sslice 𝓤 H A W (Referent.rtF (Referent.fInt Syntax.w8)) ref6 11,
+                                Shared.reads-sslice 𝓤 H A W (Referent.rtF (Referent.fInt Syntax.w8)) ref6 11,
+                                Path.refl,
+                                (
+                                  ShrSlice.spares-sslice 𝓤 H A W (Referent.rtF (Referent.fInt Syntax.w8)) ref12 5,
+                                  Shared.reads-sslice 𝓤 H A W (Referent.rtF (Referent.fInt Syntax.w8)) ref12 5,
+                                  Path.refl,
+                                  (
+                                    ShrSlice.spares-sslice 𝓤 H A W (Referent.rtF (Referent.fInt Syntax.w8)) ref6 12,
+                                    Shared.reads-sslice 𝓤 H A W (Referent.rtF (Referent.fInt Syntax.w8)) ref6 12,
+                                    Path.refl,
+                                    (
+                                      ShrSlice.spares-sslice 𝓤 H A W (Referent.rtF (Referent.fInt Syntax.w8)) ref6 12,
+                                      Shared.reads-sslice 𝓤 H A W (Referent.rtF (Referent.fInt Syntax.w8)) ref6 12,
+                                      Path.refl,
+                                      tt,
+                                    ),
+                                  ),
+                                ),
+                              ),
+                            ),
+                          ),
+                        ),
+                      ),
+                    ),
+                  ),
+                ),
+              ) (Reads.room-gone 𝓤 H A Laws'''.mir) (tt, (tt, (tt, (tt, (tt, (tt, (tt, (tt, (tt, tt))))))))) Path.refl)
+              d31
+
           d33 : Typed.Typed 𝓤 H A 𝓣 E G32 b23 Δ0 (at33 bs)
-          d33 = Typed.s-seq 𝓤 H A W 𝓣 E G32 G33 b19 b22 Δ0 (Typed.ask (s31 bs)) (at32 bs) (Relend.t-sl-aggregate 𝓤 H A W E (Referent.rtF
-              (Referent.fInt Syntax.w8)) 𝓣 (Relend.asShr (Referent.rtF (Referent.fInt Syntax.w8))) G32 28 29 12 ref5 ref6 (λ x. x) (Scalar.oInt
-              Syntax.w64 1) (Reads.as-is 𝓤 H A (Relend.ssptr (Referent.rtF (Referent.fInt Syntax.w8)) ref5 12)) (Reads.room-gone 𝓤 H A
-              (Syntax.tyStruct (38 ∷ 91 ∷ 93 ∷ List.[]) (Syntax.tcons ref6 (Syntax.tcons (Syntax.tyInt Syntax.w64) Syntax.tnil)))) tt Path.refl
-              Path.refl λ b o k. tt) d32
+          d33 = Typed.s-seq 𝓤 H A W 𝓣 E G32 G33 b19 b22 Δ0 (Typed.ask (s31 bs)) (at32 bs) (Relend.t-sl-aggregate 𝓤 H A
+              W E (Referent.rtF (Referent.fInt Syntax.w8)) 𝓣 (Relend.asShr (Referent.rtF (Referent.fInt Syntax.w8)))
+              G32 28 29 12 ref5 ref6 (λ x. x) (Scalar.oInt Syntax.w64 1) (Reads.as-is 𝓤 H A (Relend.ssptr
+              (Referent.rtF (Referent.fInt Syntax.w8)) ref5 12)) (Reads.room-gone 𝓤 H A slice6) tt Path.refl Path.refl
+              λ b o k. tt) d32
+
           d34 : Typed.Typed 𝓤 H A 𝓣 E G31 b24 Δ0 (at34 bs)
-          d34 = Typed.s-seq 𝓤 H A W 𝓣 E G31 G32 b18 b23 Δ0 (Typed.give (s30 bs)) (at33 bs) (Share.t-arr-share² 𝓤 H A W E 𝓣 (Referent.rtF
-              (Referent.fInt Syntax.w8)) G31 11 28 1 12 ref5 (λ x. x) (Reads.as-is 𝓤 H A (Rows.arr-shr (Referent.rtF (Referent.fInt Syntax.w8)) 1 12))
-              (Reads.room-gone 𝓤 H A ref5) Path.refl λ b o. tt) d33
+          d34 = Typed.s-seq 𝓤 H A W 𝓣 E G31 G32 b18 b23 Δ0 (Typed.give (s30 bs)) (at33 bs) (Share.t-arr-share² 𝓤 H A W
+              E 𝓣 (Referent.rtF (Referent.fInt Syntax.w8)) G31 11 28 1 12 ref5 (λ x. x) (Reads.as-is 𝓤 H A (Rows.arr-shr
+              (Referent.rtF (Referent.fInt Syntax.w8)) 1 12)) (Reads.room-gone 𝓤 H A ref5) Path.refl λ b o. tt) d33
+
           d35 : Typed.Typed 𝓤 H A 𝓣 E G30 b25 Δ0 (at35 bs)
-          d35 = Typed.s-seq 𝓤 H A W 𝓣 E G30 G31 b17 b24 Δ0 (Typed.ask (s29 bs)) (at34 bs) (Relend.t-sl-aggregate 𝓤 H A W E (Referent.rtF
-              (Referent.fInt Syntax.w8)) 𝓣 (Relend.asShr (Referent.rtF (Referent.fInt Syntax.w8))) G30 26 27 12 ref5 ref6 (λ x. x) (Scalar.oInt
-              Syntax.w64 1) (Reads.as-is 𝓤 H A (Relend.ssptr (Referent.rtF (Referent.fInt Syntax.w8)) ref5 12)) (Reads.room-gone 𝓤 H A
-              (Syntax.tyStruct (38 ∷ 91 ∷ 93 ∷ List.[]) (Syntax.tcons ref6 (Syntax.tcons (Syntax.tyInt Syntax.w64) Syntax.tnil)))) tt Path.refl
-              Path.refl λ b o k. tt) d34
+          d35 = Typed.s-seq 𝓤 H A W 𝓣 E G30 G31 b17 b24 Δ0 (Typed.ask (s29 bs)) (at34 bs) (Relend.t-sl-aggregate 𝓤 H A
+              W E (Referent.rtF (Referent.fInt Syntax.w8)) 𝓣 (Relend.asShr (Referent.rtF (Referent.fInt Syntax.w8)))
+              G30 26 27 12 ref5 ref6 (λ x. x) (Scalar.oInt Syntax.w64 1) (Reads.as-is 𝓤 H A (Relend.ssptr
+              (Referent.rtF (Referent.fInt Syntax.w8)) ref5 12)) (Reads.room-gone 𝓤 H A slice6) tt Path.refl Path.refl
+              λ b o k. tt) d34
+
           d36 : Typed.Typed 𝓤 H A 𝓣 E G29 b26 Δ0 (at36 bs)
-          d36 = Typed.s-seq 𝓤 H A W 𝓣 E G29 G30 b16 b25 Δ0 (Typed.give (s28 bs)) (at35 bs) (Share.t-arr-share 𝓤 H A W E 𝓣 (Referent.rtF (Referent.fInt
-              Syntax.w8)) G29 11 26 1 12 ref5 (λ x. x) (Reads.as-is 𝓤 H A (Rows.arrF (Referent.rtF (Referent.fInt Syntax.w8)) 1 0)) (Reads.room-gone 𝓤
-              H A ref5) Path.refl (λ b o. tt) (Dec.lit< tt, Dec.lit< tt)) d35
+          d36 = Typed.s-seq 𝓤 H A W 𝓣 E G29 G30 b16 b25 Δ0 (Typed.give (s28 bs)) (at35 bs) (Share.t-arr-share 𝓤 H A W E
+              𝓣 (Referent.rtF (Referent.fInt Syntax.w8)) G29 11 26 1 12 ref5 (λ x. x) (Reads.as-is 𝓤 H A
+              (Rows.arrF (Referent.rtF (Referent.fInt Syntax.w8)) 1 0)) (Reads.room-gone 𝓤 H A ref5) Path.refl
+              (λ b o. tt) (Dec.lit< tt, Dec.lit< tt)) d35
+
           d37 : Typed.Typed 𝓤 H A 𝓣 E G28 b26 Δ0 (at37 bs)
-          d37 = Typed.g-pre 𝓤 H A W 𝓣 E G28 G29 b26 Δ0 (λ Ψ. Ψ) (at36 bs) (Lifetime.g-begin 𝓤 H A W E G28 12 (tt, ((tt, tt), ((tt, tt), ((tt, tt),
-              ((tt, tt), ((tt, tt), (tt, (tt, (tt, (tt, (tt, (tt, (tt, (tt, (tt, (tt, (tt, (tt, (tt, (tt, (tt, (tt, (tt, (tt, (tt, (tt, (tt, (tt, (tt,
-              (tt, tt)))),),),),),),),),),),),),),),),),),),),),),),),),),),)) d36
+          d37 = Typed.g-pre 𝓤 H A W 𝓣 E G28 G29 b26 Δ0 (λ Ψ. Ψ) (at36 bs) (Lifetime.g-begin 𝓤 H A W E G28 12 (
+            tt,
+            (
+              (tt, tt),
+              (
+                (tt, tt),
+                (
+                  (tt, tt),
+                  (
+                    (tt, tt),
+                    (
+                      (tt, tt),
+                      (
+                        tt,
+                        (
+                          tt,
+                          (
+                            tt,
+                            (
+                              tt,
+                              (
+                                tt,
+                                (
+                                  tt,
+                                  (
+                                    tt,
+                                    (
+                                      tt,
+                                      (
+                                        tt,
+                                        (
+                                          tt,
+                                          (
+                                            tt,
+                                            (
+                                              tt,
+                                              (
+                                                tt,
+                                                (tt, (tt, (tt, (tt, (tt, (tt, (tt, (tt, (tt, (tt, (tt, tt))))))))))),
+                                              ),
+                                            ),
+                                          ),
+                                        ),
+                                      ),
+                                    ),
+                                  ),
+                                ),
+                              ),
+                            ),
+                          ),
+                        ),
+                      ),
+                    ),
+                  ),
+                ),
+              ),
+            ),
+          )) d36
+
           d38 : Typed.Typed 𝓤 H A 𝓣 E G27 b27 Δ0 (at38 bs)
-          d38 = Typed.s-seq 𝓤 H A W 𝓣 E G27 G28 b15 b26 Δ0 (Typed.ask (s26 bs)) (at37 bs) (Relend.t-sl-aggregate 𝓤 H A W E (Referent.rtF
-              (Referent.fInt Syntax.w8)) 𝓣 (Relend.asShr (Referent.rtF (Referent.fInt Syntax.w8))) G27 24 25 11 ref5 ref6 (λ x. x) (Scalar.oInt
-              Syntax.w64 1) (Reads.as-is 𝓤 H A (Relend.ssptr (Referent.rtF (Referent.fInt Syntax.w8)) ref5 11)) (Reads.room-gone 𝓤 H A
-              (Syntax.tyStruct (38 ∷ 91 ∷ 93 ∷ List.[]) (Syntax.tcons ref6 (Syntax.tcons (Syntax.tyInt Syntax.w64) Syntax.tnil)))) tt Path.refl
-              Path.refl λ b o k. tt) d37
+          d38 = Typed.s-seq 𝓤 H A W 𝓣 E G27 G28 b15 b26 Δ0 (Typed.ask (s26 bs)) (at37 bs) (Relend.t-sl-aggregate 𝓤 H A
+              W E (Referent.rtF (Referent.fInt Syntax.w8)) 𝓣 (Relend.asShr (Referent.rtF (Referent.fInt Syntax.w8)))
+              G27 24 25 11 ref5 ref6 (λ x. x) (Scalar.oInt Syntax.w64 1) (Reads.as-is 𝓤 H A (Relend.ssptr
+              (Referent.rtF (Referent.fInt Syntax.w8)) ref5 11)) (Reads.room-gone 𝓤 H A slice6) tt Path.refl Path.refl
+              λ b o k. tt) d37
+
           d39 : Typed.Typed 𝓤 H A 𝓣 E G26 b28 Δ0 (at39 bs)
-          d39 = Typed.s-seq 𝓤 H A W 𝓣 E G26 G27 b14 b27 Δ0 (Typed.give (s25 bs)) (at38 bs) (Share.t-arr-share 𝓤 H A W E 𝓣 (Referent.rtF (Referent.fInt
-              Syntax.w8)) G26 10 24 1 11 ref5 (λ x. x) (Reads.as-is 𝓤 H A (Rows.arrF (Referent.rtF (Referent.fInt Syntax.w8)) 1 0)) (Reads.room-gone 𝓤
-              H A ref5) Path.refl (λ b o. tt) (Dec.lit< tt, Dec.lit< tt)) d38
+          d39 = Typed.s-seq 𝓤 H A W 𝓣 E G26 G27 b14 b27 Δ0 (Typed.give (s25 bs)) (at38 bs) (Share.t-arr-share 𝓤 H A W E
+              𝓣 (Referent.rtF (Referent.fInt Syntax.w8)) G26 10 24 1 11 ref5 (λ x. x) (Reads.as-is 𝓤 H A
+              (Rows.arrF (Referent.rtF (Referent.fInt Syntax.w8)) 1 0)) (Reads.room-gone 𝓤 H A ref5) Path.refl
+              (λ b o. tt) (Dec.lit< tt, Dec.lit< tt)) d38
+
           d40 : Typed.Typed 𝓤 H A 𝓣 E G25 b28 Δ0 (at40 bs)
-          d40 = Typed.g-pre 𝓤 H A W 𝓣 E G25 G26 b28 Δ0 (λ Ψ. Ψ) (at39 bs) (Lifetime.g-begin 𝓤 H A W E G25 11 (tt, ((tt, tt), ((tt, tt), ((tt, tt),
-              ((tt, tt), ((tt, tt), (tt, (tt, (tt, (tt, (tt, (tt, (tt, (tt, (tt, (tt, (tt, (tt, (tt, (tt, (tt, (tt, (tt, (tt, (tt, (tt, (tt, (tt, (tt,
-              (tt, tt)))),),),),),),),),),),),),),),),),),),),),),),),),),),)) d39
+          d40 = Typed.g-pre 𝓤 H A W 𝓣 E G25 G26 b28 Δ0 (λ Ψ. Ψ) (at39 bs) (Lifetime.g-begin 𝓤 H A W E G25 11 (
+            tt,
+            (
+              (tt, tt),
+              (
+                (tt, tt),
+                (
+                  (tt, tt),
+                  (
+                    (tt, tt),
+                    (
+                      (tt, tt),
+                      (
+                        tt,
+                        (
+                          tt,
+                          (
+                            tt,
+                            (
+                              tt,
+                              (
+                                tt,
+                                (
+                                  tt,
+                                  (
+                                    tt,
+                                    (
+                                      tt,
+                                      (
+                                        tt,
+                                        (
+                                          tt,
+                                          (
+                                            tt,
+                                            (
+                                              tt,
+                                              (
+                                                tt,
+                                                (tt, (tt, (tt, (tt, (tt, (tt, (tt, (tt, (tt, (tt, (tt, tt))))))))))),
+                                              ),
+                                            ),
+                                          ),
+                                        ),
+                                      ),
+                                    ),
+                                  ),
+                                ),
+                              ),
+                            ),
+                          ),
+                        ),
+                      ),
+                    ),
+                  ),
+                ),
+              ),
+            ),
+          )) d39
+
           d41 : Typed.Typed 𝓤 H A 𝓣 E G24 b29 Δ0 (at41 bs)
-          d41 = Typed.s-seq 𝓤 H A W 𝓣 E G24 G25 b13 b28 Δ0 (Typed.ask (s23 bs)) (at40 bs) (Relend.t-sl-aggregate 𝓤 H A W E (Referent.rtF
-              (Referent.fInt Syntax.w32)) 𝓣 (Relend.asMut (Referent.rtF (Referent.fInt Syntax.w32))) G24 22 23 10 ref4 ref4 (λ x. x) (Scalar.oFld 5
-              ((Syntax.field 1) ∷ List.[]) (Syntax.tyInt Syntax.w64) 8 λ v. Shared.lenV (v .0)) (Reads.as-is 𝓤 H A (Relend.msptr (Referent.rtF
-              (Referent.fInt Syntax.w32)) ref4 10)) (Reads.room-gone 𝓤 H A (Syntax.tyStruct (38 ∷ 91 ∷ 93 ∷ List.[]) (Syntax.tcons ref4 (Syntax.tcons
-              (Syntax.tyInt Syntax.w64) Syntax.tnil)))) (Relend.reads-owed-len 𝓤 H A W (Referent.rtF (Referent.fInt Syntax.w32)) ref11 4 10 life4 8
-              Path.refl, Path.refl,) Path.refl Path.refl λ b o k. tt) d40
+          d41 = Typed.s-seq 𝓤 H A W 𝓣 E G24 G25 b13 b28 Δ0 (Typed.ask (s23 bs)) (at40 bs) (Relend.t-sl-aggregate 𝓤 H A
+              W E (Referent.rtF (Referent.fInt Syntax.w32)) 𝓣 (Relend.asMut (Referent.rtF (Referent.fInt Syntax.w32)))
+              G24 22 23 10 ref4 ref4 (λ x. x) (Scalar.oFld 5 ((Syntax.field 1) ∷ List.[]) (Syntax.tyInt Syntax.w64) 8
+              λ v. Shared.lenV (v .0)) (Reads.as-is 𝓤 H A (Relend.msptr (Referent.rtF (Referent.fInt Syntax.w32)) ref4
+              10)) (Reads.room-gone 𝓤 H A slice4) (
+                Relend.reads-owed-len 𝓤 H A W (Referent.rtF (Referent.fInt Syntax.w32)) ref11 4 10 life4 8 Path.refl,
+                Path.refl,
+              ) Path.refl Path.refl λ b o k. tt) d40
+
           d42 : Typed.Typed 𝓤 H A 𝓣 E G23 b30 Δ0 (at42 bs)
-          d42 = Typed.s-seq 𝓤 H A W 𝓣 E G23 G24 b12 b29 Δ0 (Typed.give (s22 bs)) (at41 bs) (Relend.t-sl-relend 𝓤 H A W E (Referent.rtF (Referent.fInt
-              Syntax.w32)) 𝓣 G23 5 22 4 10 ref11 ref4 life4 0 (λ x. x) (Reads.as-is 𝓤 H A (Mut.mslice (Referent.rtF (Referent.fInt Syntax.w32)) ref11
-              4)) (Reads.room-gone 𝓤 H A ref4) Path.refl tt Path.refl Path.refl Path.refl λ b o. tt) d41
+          d42 = Typed.s-seq 𝓤 H A W 𝓣 E G23 G24 b12 b29 Δ0 (Typed.give (s22 bs)) (at41 bs) (Relend.t-sl-relend 𝓤 H A W
+              E (Referent.rtF (Referent.fInt Syntax.w32)) 𝓣 G23 5 22 4 10 ref11 ref4 life4 0 (λ x. x) (Reads.as-is 𝓤 H
+              A (Mut.mslice (Referent.rtF (Referent.fInt Syntax.w32)) ref11 4)) (Reads.room-gone 𝓤 H A ref4) Path.refl
+              tt Path.refl Path.refl Path.refl λ b o. tt) d41
+
           d43 : Typed.Typed 𝓤 H A 𝓣 E G22 b30 Δ0 (at43 bs)
-          d43 = Typed.g-pre 𝓤 H A W 𝓣 E G22 G23 b30 Δ0 (λ Ψ. Ψ) (at42 bs) (Lifetime.g-begin 𝓤 H A W E G22 10 (tt, ((tt, tt), ((tt, tt), ((tt, tt),
-              ((tt, tt), (tt, (tt, (tt, (tt, (tt, (tt, (tt, (tt, (tt, (tt, (tt, (tt, (tt, (tt, (tt, (tt, (tt, (tt, (tt, (tt, (tt, (tt, (tt, (tt, (tt,
-              tt)))),),),),),),),),),),),),),),),),),),),),),),),),),),)) d42
+          d43 = Typed.g-pre 𝓤 H A W 𝓣 E G22 G23 b30 Δ0 (λ Ψ. Ψ) (at42 bs) (Lifetime.g-begin 𝓤 H A W E G22 10 (
+            tt,
+            (
+              (tt, tt),
+              (
+                (tt, tt),
+                (
+                  (tt, tt),
+                  (
+                    (tt, tt),
+                    (
+                      tt,
+                      (
+                        tt,
+                        (
+                          tt,
+                          (
+                            tt,
+                            (
+                              tt,
+                              (
+                                tt,
+                                (
+                                  tt,
+                                  (
+                                    tt,
+                                    (
+                                      tt,
+                                      (
+                                        tt,
+                                        (
+                                          tt,
+                                          (
+                                            tt,
+                                            (
+                                              tt,
+                                              (
+                                                tt,
+                                                (tt, (tt, (tt, (tt, (tt, (tt, (tt, (tt, (tt, (tt, (tt, tt))))))))))),
+                                              ),
+                                            ),
+                                          ),
+                                        ),
+                                      ),
+                                    ),
+                                  ),
+                                ),
+                              ),
+                            ),
+                          ),
+                        ),
+                      ),
+                    ),
+                  ),
+                ),
+              ),
+            ),
+          )) d42
+
           d44 : Typed.Typed 𝓤 H A 𝓣 E G21 b31 Δ0 (at44 bs)
-          d44 = Typed.s-seq 𝓤 H A W 𝓣 E G21 G22 b11 b30 Δ0 (Typed.ask (s20 bs)) (at43 bs) (Relend.t-sl-aggregate 𝓤 H A W E InflightAction.row 𝓣
-              (Relend.asMut InflightAction.row) G21 20 21 9 ref3 ref3 (λ x. x) (Scalar.oFld 4 ((Syntax.field 1) ∷ List.[]) (Syntax.tyInt Syntax.w64) 8
-              λ v. Shared.lenV (v .0)) (Reads.as-is 𝓤 H A (Relend.msptr InflightAction.row ref3 9)) (Reads.room-gone 𝓤 H A (Syntax.tyStruct (38 ∷ 91 ∷
-              93 ∷ List.[]) (Syntax.tcons ref3 (Syntax.tcons (Syntax.tyInt Syntax.w64) Syntax.tnil)))) (Relend.reads-owed-len 𝓤 H A W
-              InflightAction.row ref10 3 9 life3 8 Path.refl, Path.refl,) Path.refl Path.refl λ b o k. tt) d43
+          d44 = Typed.s-seq 𝓤 H A W 𝓣 E G21 G22 b11 b30 Δ0 (Typed.ask (s20 bs)) (at43 bs) (Relend.t-sl-aggregate 𝓤 H A
+              W E InflightAction.row 𝓣 (Relend.asMut InflightAction.row) G21 20 21 9 ref3 ref3 (λ x. x) (Scalar.oFld 4
+              ((Syntax.field 1) ∷ List.[]) (Syntax.tyInt Syntax.w64) 8 λ v. Shared.lenV (v .0)) (Reads.as-is 𝓤 H A
+              (Relend.msptr InflightAction.row ref3 9)) (Reads.room-gone 𝓤 H A slice3) (
+                Relend.reads-owed-len 𝓤 H A W InflightAction.row ref10 3 9 life3 8 Path.refl,
+                Path.refl,
+              ) Path.refl Path.refl λ b o k. tt) d43
+
           d45 : Typed.Typed 𝓤 H A 𝓣 E G20 b32 Δ0 (at45 bs)
-          d45 = Typed.s-seq 𝓤 H A W 𝓣 E G20 G21 b10 b31 Δ0 (Typed.give (s19 bs)) (at44 bs) (Relend.t-sl-relend 𝓤 H A W E InflightAction.row 𝓣 G20 4 20
-              3 9 ref10 ref3 life3 0 (λ x. x) (Reads.as-is 𝓤 H A (Mut.mslice InflightAction.row ref10 3)) (Reads.room-gone 𝓤 H A ref3) Path.refl tt
+          d45 = Typed.s-seq 𝓤 H A W 𝓣 E G20 G21 b10 b31 Δ0 (Typed.give (s19 bs)) (at44 bs) (Relend.t-sl-relend 𝓤 H A W
+              E InflightAction.row 𝓣 G20 4 20 3 9 ref10 ref3 life3 0 (λ x. x)
+              (Reads.as-is 𝓤 H A (Mut.mslice InflightAction.row ref10 3)) (Reads.room-gone 𝓤 H A ref3) Path.refl tt
               Path.refl Path.refl Path.refl λ b o. tt) d44
+
           d46 : Typed.Typed 𝓤 H A 𝓣 E G19 b32 Δ0 (at46 bs)
-          d46 = Typed.g-pre 𝓤 H A W 𝓣 E G19 G20 b32 Δ0 (λ Ψ. Ψ) (at45 bs) (Lifetime.g-begin 𝓤 H A W E G19 9 (tt, ((tt, tt), ((tt, tt), ((tt, tt), (tt,
-              (tt, (tt, (tt, (tt, (tt, (tt, (tt, (tt, (tt, (tt, (tt, (tt, (tt, (tt, (tt, (tt, (tt, (tt, (tt, (tt, (tt, (tt, (tt, (tt, (tt,
-              tt)))),),),),),),),),),),),),),),),),),),),),),),),),),),)) d45
+          d46 = Typed.g-pre 𝓤 H A W 𝓣 E G19 G20 b32 Δ0 (λ Ψ. Ψ) (at45 bs) (Lifetime.g-begin 𝓤 H A W E G19 9 (
+            tt,
+            (
+              (tt, tt),
+              (
+                (tt, tt),
+                (
+                  (tt, tt),
+                  (
+                    tt,
+                    (
+                      tt,
+                      (
+                        tt,
+                        (
+                          tt,
+                          (
+                            tt,
+                            (
+                              tt,
+                              (
+                                tt,
+                                (
+                                  tt,
+                                  (
+                                    tt,
+                                    (
+                                      tt,
+                                      (
+                                        tt,
+                                        (
+                                          tt,
+                                          (
+                                            tt,
+                                            (
+                                              tt,
+                                              (
+                                                tt,
+                                                (tt, (tt, (tt, (tt, (tt, (tt, (tt, (tt, (tt, (tt, (tt, tt))))))))))),
+                                              ),
+                                            ),
+                                          ),
+                                        ),
+                                      ),
+                                    ),
+                                  ),
+                                ),
+                              ),
+                            ),
+                          ),
+                        ),
+                      ),
+                    ),
+                  ),
+                ),
+              ),
+            ),
+          )) d45
+
           d47 : Typed.Typed 𝓤 H A 𝓣 E G18 b33 Δ0 (at47 bs)
-          d47 = Typed.s-seq 𝓤 H A W 𝓣 E G18 G19 b9 b32 Δ0 (Typed.ask (s17 bs)) (at46 bs) (Relend.t-sl-aggregate 𝓤 H A W E ReservationUsage.row 𝓣
-              (Relend.asMut ReservationUsage.row) G18 18 19 8 ref2 ref2 (λ x. x) (Scalar.oFld 3 ((Syntax.field 1) ∷ List.[]) (Syntax.tyInt Syntax.w64)
-              8 λ v. Shared.lenV (v .0)) (Reads.as-is 𝓤 H A (Relend.msptr ReservationUsage.row ref2 8)) (Reads.room-gone 𝓤 H A (Syntax.tyStruct (38 ∷
-              91 ∷ 93 ∷ List.[]) (Syntax.tcons ref2 (Syntax.tcons (Syntax.tyInt Syntax.w64) Syntax.tnil)))) (Relend.reads-owed-len 𝓤 H A W
-              ReservationUsage.row ref9 2 8 life2 8 Path.refl, Path.refl,) Path.refl Path.refl λ b o k. tt) d46
+          d47 = Typed.s-seq 𝓤 H A W 𝓣 E G18 G19 b9 b32 Δ0 (Typed.ask (s17 bs)) (at46 bs) (Relend.t-sl-aggregate 𝓤 H A W
+              E ReservationUsage.row 𝓣 (Relend.asMut ReservationUsage.row) G18 18 19 8 ref2 ref2 (λ x. x) (Scalar.oFld
+              3 ((Syntax.field 1) ∷ List.[]) (Syntax.tyInt Syntax.w64) 8 λ v. Shared.lenV (v .0)) (Reads.as-is 𝓤 H A
+              (Relend.msptr ReservationUsage.row ref2 8)) (Reads.room-gone 𝓤 H A slice2) (
+                Relend.reads-owed-len 𝓤 H A W ReservationUsage.row ref9 2 8 life2 8 Path.refl,
+                Path.refl,
+              ) Path.refl Path.refl λ b o k. tt) d46
+
           d48 : Typed.Typed 𝓤 H A 𝓣 E G17 b34 Δ0 (at48 bs)
-          d48 = Typed.s-seq 𝓤 H A W 𝓣 E G17 G18 b8 b33 Δ0 (Typed.give (s16 bs)) (at47 bs) (Relend.t-sl-relend 𝓤 H A W E ReservationUsage.row 𝓣 G17 3
-              18 2 8 ref9 ref2 life2 0 (λ x. x) (Reads.as-is 𝓤 H A (Mut.mslice ReservationUsage.row ref9 2)) (Reads.room-gone 𝓤 H A ref2) Path.refl tt
-              Path.refl Path.refl Path.refl λ b o. tt) d47
+          d48 = Typed.s-seq 𝓤 H A W 𝓣 E G17 G18 b8 b33 Δ0 (Typed.give (s16 bs)) (at47 bs) (Relend.t-sl-relend 𝓤 H A W E
+              ReservationUsage.row 𝓣 G17 3 18 2 8 ref9 ref2 life2 0 (λ x. x) (Reads.as-is 𝓤 H A
+              (Mut.mslice ReservationUsage.row ref9 2)) (Reads.room-gone 𝓤 H A ref2) Path.refl tt Path.refl Path.refl
+              Path.refl λ b o. tt) d47
+
           d49 : Typed.Typed 𝓤 H A 𝓣 E G16 b34 Δ0 (at49 bs)
-          d49 = Typed.g-pre 𝓤 H A W 𝓣 E G16 G17 b34 Δ0 (λ Ψ. Ψ) (at48 bs) (Lifetime.g-begin 𝓤 H A W E G16 8 (tt, ((tt, tt), ((tt, tt), (tt, (tt, (tt,
-              (tt, (tt, (tt, (tt, (tt, (tt, (tt, (tt, (tt, (tt, (tt, (tt, (tt, (tt, (tt, (tt, (tt, (tt, (tt, (tt, (tt, (tt, (tt, (tt,
-              tt)))),),),),),),),),),),),),),),),),),),),),),),),),),),)) d48
+          d49 = Typed.g-pre 𝓤 H A W 𝓣 E G16 G17 b34 Δ0 (λ Ψ. Ψ) (at48 bs) (Lifetime.g-begin 𝓤 H A W E G16 8 (
+            tt,
+            (
+              (tt, tt),
+              (
+                (tt, tt),
+                (
+                  tt,
+                  (
+                    tt,
+                    (
+                      tt,
+                      (
+                        tt,
+                        (
+                          tt,
+                          (
+                            tt,
+                            (
+                              tt,
+                              (
+                                tt,
+                                (
+                                  tt,
+                                  (
+                                    tt,
+                                    (
+                                      tt,
+                                      (
+                                        tt,
+                                        (
+                                          tt,
+                                          (
+                                            tt,
+                                            (
+                                              tt,
+                                              (
+                                                tt,
+                                                (tt, (tt, (tt, (tt, (tt, (tt, (tt, (tt, (tt, (tt, (tt, tt))))))))))),
+                                              ),
+                                            ),
+                                          ),
+                                        ),
+                                      ),
+                                    ),
+                                  ),
+                                ),
+                              ),
+                            ),
+                          ),
+                        ),
+                      ),
+                    ),
+                  ),
+                ),
+              ),
+            ),
+          )) d48
+
           d50 : Typed.Typed 𝓤 H A 𝓣 E G15 b35 Δ0 (at50 bs)
-          d50 = Typed.s-seq 𝓤 H A W 𝓣 E G15 G16 b7 b34 Δ0 (Typed.ask (s14 bs)) (at49 bs) (Relend.t-sl-aggregate 𝓤 H A W E RelayCircuit.row 𝓣
-              (Relend.asMut RelayCircuit.row) G15 16 17 7 ref1 ref1 (λ x. x) (Scalar.oFld 2 ((Syntax.field 1) ∷ List.[]) (Syntax.tyInt Syntax.w64) 8 λ
-              v. Shared.lenV (v .0)) (Reads.as-is 𝓤 H A (Relend.msptr RelayCircuit.row ref1 7)) (Reads.room-gone 𝓤 H A (Syntax.tyStruct (38 ∷ 91 ∷ 93
-              ∷ List.[]) (Syntax.tcons ref1 (Syntax.tcons (Syntax.tyInt Syntax.w64) Syntax.tnil)))) (Relend.reads-owed-len 𝓤 H A W RelayCircuit.row
-              ref8 1 7 life1 8 Path.refl, Path.refl,) Path.refl Path.refl λ b o k. tt) d49
+          d50 = Typed.s-seq 𝓤 H A W 𝓣 E G15 G16 b7 b34 Δ0 (Typed.ask (s14 bs)) (at49 bs) (Relend.t-sl-aggregate 𝓤 H A W
+              E RelayCircuit.row 𝓣 (Relend.asMut RelayCircuit.row) G15 16 17 7 ref1 ref1 (λ x. x) (Scalar.oFld 2
+              ((Syntax.field 1) ∷ List.[]) (Syntax.tyInt Syntax.w64) 8 λ v. Shared.lenV (v .0))
+              (Reads.as-is 𝓤 H A (Relend.msptr RelayCircuit.row ref1 7)) (Reads.room-gone 𝓤 H A slice1) (
+                Relend.reads-owed-len 𝓤 H A W RelayCircuit.row ref8 1 7 life1 8 Path.refl,
+                Path.refl,
+              ) Path.refl Path.refl λ b o k. tt) d49
+
           d51 : Typed.Typed 𝓤 H A 𝓣 E G14 b36 Δ0 (at51 bs)
-          d51 = Typed.s-seq 𝓤 H A W 𝓣 E G14 G15 b6 b35 Δ0 (Typed.give (s13 bs)) (at50 bs) (Relend.t-sl-relend 𝓤 H A W E RelayCircuit.row 𝓣 G14 2 16 1
-              7 ref8 ref1 life1 0 (λ x. x) (Reads.as-is 𝓤 H A (Mut.mslice RelayCircuit.row ref8 1)) (Reads.room-gone 𝓤 H A ref1) Path.refl tt
+          d51 = Typed.s-seq 𝓤 H A W 𝓣 E G14 G15 b6 b35 Δ0 (Typed.give (s13 bs)) (at50 bs) (Relend.t-sl-relend 𝓤 H A W E
+              RelayCircuit.row 𝓣 G14 2 16 1 7 ref8 ref1 life1 0 (λ x. x)
+              (Reads.as-is 𝓤 H A (Mut.mslice RelayCircuit.row ref8 1)) (Reads.room-gone 𝓤 H A ref1) Path.refl tt
               Path.refl Path.refl Path.refl λ b o. tt) d50
+
           d52 : Typed.Typed 𝓤 H A 𝓣 E G13 b36 Δ0 (at52 bs)
-          d52 = Typed.g-pre 𝓤 H A W 𝓣 E G13 G14 b36 Δ0 (λ Ψ. Ψ) (at51 bs) (Lifetime.g-begin 𝓤 H A W E G13 7 (tt, ((tt, tt), (tt, (tt, (tt, (tt, (tt,
-              (tt, (tt, (tt, (tt, (tt, (tt, (tt, (tt, (tt, (tt, (tt, (tt, (tt, (tt, (tt, (tt, (tt, (tt, (tt, (tt, (tt, (tt, (tt,
-              tt)))),),),),),),),),),),),),),),),),),),),),),),),),),),)) d51
+          d52 = Typed.g-pre 𝓤 H A W 𝓣 E G13 G14 b36 Δ0 (λ Ψ. Ψ) (at51 bs) (Lifetime.g-begin 𝓤 H A W E G13 7 (
+            tt,
+            (
+              (tt, tt),
+              (
+                tt,
+                (
+                  tt,
+                  (
+                    tt,
+                    (
+                      tt,
+                      (
+                        tt,
+                        (
+                          tt,
+                          (
+                            tt,
+                            (
+                              tt,
+                              (
+                                tt,
+                                (
+                                  tt,
+                                  (
+                                    tt,
+                                    (
+                                      tt,
+                                      (
+                                        tt,
+                                        (
+                                          tt,
+                                          (
+                                            tt,
+                                            (
+                                              tt,
+                                              (
+                                                tt,
+                                                (tt, (tt, (tt, (tt, (tt, (tt, (tt, (tt, (tt, (tt, (tt, tt))))))))))),
+                                              ),
+                                            ),
+                                          ),
+                                        ),
+                                      ),
+                                    ),
+                                  ),
+                                ),
+                              ),
+                            ),
+                          ),
+                        ),
+                      ),
+                    ),
+                  ),
+                ),
+              ),
+            ),
+          )) d51
+
           d53 : Typed.Typed 𝓤 H A 𝓣 E G12 b37 Δ0 (at53 bs)
-          d53 = Typed.s-seq 𝓤 H A W 𝓣 E G12 G13 b5 b36 Δ0 (Typed.ask (s11 bs)) (at52 bs) (Relend.t-sl-aggregate 𝓤 H A W E RelayPending.row 𝓣
-              (Relend.asMut RelayPending.row) G12 14 15 6 ref0 ref0 (λ x. x) (Scalar.oFld 1 ((Syntax.field 1) ∷ List.[]) (Syntax.tyInt Syntax.w64) 8 λ
-              v. Shared.lenV (v .0)) (Reads.as-is 𝓤 H A (Relend.msptr RelayPending.row ref0 6)) (Reads.room-gone 𝓤 H A (Syntax.tyStruct (38 ∷ 91 ∷ 93
-              ∷ List.[]) (Syntax.tcons ref0 (Syntax.tcons (Syntax.tyInt Syntax.w64) Syntax.tnil)))) (Relend.reads-owed-len 𝓤 H A W RelayPending.row
-              ref7 0 6 life0 8 Path.refl, Path.refl,) Path.refl Path.refl λ b o k. tt) d52
+          d53 = Typed.s-seq 𝓤 H A W 𝓣 E G12 G13 b5 b36 Δ0 (Typed.ask (s11 bs)) (at52 bs) (Relend.t-sl-aggregate 𝓤 H A W
+              E RelayPending.row 𝓣 (Relend.asMut RelayPending.row) G12 14 15 6 ref0 ref0 (λ x. x) (Scalar.oFld 1
+              ((Syntax.field 1) ∷ List.[]) (Syntax.tyInt Syntax.w64) 8 λ v. Shared.lenV (v .0))
+              (Reads.as-is 𝓤 H A (Relend.msptr RelayPending.row ref0 6)) (Reads.room-gone 𝓤 H A slice0) (
+                Relend.reads-owed-len 𝓤 H A W RelayPending.row ref7 0 6 life0 8 Path.refl,
+                Path.refl,
+              ) Path.refl Path.refl λ b o k. tt) d52
+
           d54 : Typed.Typed 𝓤 H A 𝓣 E G11 b38 Δ0 (at54 bs)
-          d54 = Typed.s-seq 𝓤 H A W 𝓣 E G11 G12 b4 b37 Δ0 (Typed.give (s10 bs)) (at53 bs) (Relend.t-sl-relend 𝓤 H A W E RelayPending.row 𝓣 G11 1 14 0
-              6 ref7 ref0 life0 0 (λ x. x) (Reads.as-is 𝓤 H A (Mut.mslice RelayPending.row ref7 0)) (Reads.room-gone 𝓤 H A ref0) Path.refl tt
+          d54 = Typed.s-seq 𝓤 H A W 𝓣 E G11 G12 b4 b37 Δ0 (Typed.give (s10 bs)) (at53 bs) (Relend.t-sl-relend 𝓤 H A W E
+              RelayPending.row 𝓣 G11 1 14 0 6 ref7 ref0 life0 0 (λ x. x)
+              (Reads.as-is 𝓤 H A (Mut.mslice RelayPending.row ref7 0)) (Reads.room-gone 𝓤 H A ref0) Path.refl tt
               Path.refl Path.refl Path.refl λ b o. tt) d53
+
           d55 : Typed.Typed 𝓤 H A 𝓣 E G10 b38 Δ0 (at55 bs)
-          d55 = Typed.g-pre 𝓤 H A W 𝓣 E G10 G11 b38 Δ0 (λ Ψ. Ψ) (at54 bs) (Lifetime.g-begin 𝓤 H A W E G10 6 (tt, (tt, (tt, (tt, (tt, (tt, (tt, (tt,
-              (tt, (tt, (tt, (tt, (tt, (tt, (tt, (tt, (tt, (tt, (tt, (tt, (tt, (tt, (tt, (tt, (tt, (tt, (tt, (tt, (tt, (tt,
-              tt)))),),),),),),),),),),),),),),),),),),),),),),),),),),)) d54
+          d55 = Typed.g-pre 𝓤 H A W 𝓣 E G10 G11 b38 Δ0 (λ Ψ. Ψ) (at54 bs) (Lifetime.g-begin 𝓤 H A W E G10 6 (
+            tt,
+            (
+              tt,
+              (
+                tt,
+                (
+                  tt,
+                  (
+                    tt,
+                    (
+                      tt,
+                      (
+                        tt,
+                        (
+                          tt,
+                          (
+                            tt,
+                            (
+                              tt,
+                              (
+                                tt,
+                                (
+                                  tt,
+                                  (
+                                    tt,
+                                    (
+                                      tt,
+                                      (
+                                        tt,
+                                        (
+                                          tt,
+                                          (
+                                            tt,
+                                            (
+                                              tt,
+                                              (
+                                                tt,
+                                                (tt, (tt, (tt, (tt, (tt, (tt, (tt, (tt, (tt, (tt, (tt, tt))))))))))),
+                                              ),
+                                            ),
+                                          ),
+                                        ),
+                                      ),
+                                    ),
+                                  ),
+                                ),
+                              ),
+                            ),
+                          ),
+                        ),
+                      ),
+                    ),
+                  ),
+                ),
+              ),
+            ),
+          )) d54
+
           d56 : Typed.Typed 𝓤 H A 𝓣 E G9 b38 Δ0 (at56 bs)
-          d56 = Typed.g-pre 𝓤 H A W 𝓣 E G9 G10 b38 Δ0 (Typed.pass T9 T10 (s8 bs)) (at55 bs) (Scalar.g-room 𝓤 H A W E G9 6 Laws'''.mir
-              (Local.room-whole 𝓤 H A W (Declared.row Relayed.the-type) Laws'''.mir Path.refl)) d55
+          d56 = Typed.g-pre 𝓤 H A W 𝓣 E G9 G10 b38 Δ0 (Typed.pass T9 T10 (s8 bs)) (at55 bs) (Scalar.g-room 𝓤 H A W E G9
+              6 Laws'''.mir (Local.room-whole 𝓤 H A W (Declared.row Relayed.the-type) Laws'''.mir Path.refl)) d55
+
           d57 : Typed.Typed 𝓤 H A 𝓣 E G8 b39 Δ0 (at57 bs)
-          d57 = Typed.s-seq 𝓤 H A W 𝓣 E G8 G9 b3 b38 Δ0 (Typed.both (s7 bs)) (at56 bs) (WayStmt.t-way-copy-out 𝓤 H A W E 𝓣 (Declared.row
-              Places.the-type) Path.refl (Copies.cStruct Places.the-type Laws.the-laws Laws.the-copy .copy 𝓤 H A W) (λ ρ. Unit) G8 (Row.out 6 (G8
-              .locals)) (λ u. Row.drop 6 (G8 .locals) u) (G8 .slots) 6 (λ t. (Syntax.field 3) ∷ t) Laws.mir Laws.mir 13 (Rows'.whole (Declared.row
-              Places.the-type)) (λ x. x) (λ u. At.getAt (Relayed.the-type .parts) 3 (Relayed.struct .as-values (u .1 .1 .1 .1 .1 .1 .0))) (λ u.
-              (Row.hd 0 (Row.tl (Row.tl (Row.tl (Row.tl (Row.tl (Row.tl bs)))))), Nat._+_ 0 216,)) (λ T′. record { locals = Row.setRow 6 (6,
-              Rows'.whole (Declared.row Relayed.the-type)) T′; slots = G8 .slots; }) (λ u T′ m′. Row.set 6 (6, Rows'.whole (Declared.row
-              Relayed.the-type)) (u .1 .1 .1 .1 .1 .1 .0) T′ m′) (λ u. Unit) (λ x. Unit) (Own.told-none 𝓤 H A (G8 .slots)) (DerefMove.learns-nothing 𝓤
-              H A (Declared.row Places.the-type)) (λ ρ told u asked. Way'.w-partˢ 𝓤 H A W E (Declared.row Relayed.the-type) (Declared.row
-              Places.the-type) Laws'''.mir Laws.mir 3 216 (u .1 .1 .1 .1 .1 .1 .0) (At.getAt (Relayed.the-type .parts) 3 (Relayed.struct .as-values (u
-              .1 .1 .1 .1 .1 .1 .0))) (Row.hd 0 (Row.tl (Row.tl (Row.tl (Row.tl (Row.tl (Row.tl bs)))))), 0) (Way.w-look 𝓤 H A W E (Way.w-local 𝓤 H A
-              W E G8 ρ u (G8 .slots) 6 (Declared.row Relayed.the-type) (Rows'.whole (Declared.row Relayed.the-type)) (λ x. x) (λ x. x) (u .1 .1 .1 .1
-              .1 .1 .0) (Local.mem-whole 𝓤 H A W (Declared.row Relayed.the-type) ρ (u .1 .1 .1 .1 .1 .1 .0) (Row.hd 0 (Row.tl (Row.tl (Row.tl (Row.tl
-              (Row.tl (Row.tl bs)))))))) (Local.whole-mem 𝓤 H A W (Declared.row Relayed.the-type) ρ (u .1 .1 .1 .1 .1 .1 .0) (Row.hd 0 (Row.tl (Row.tl
-              (Row.tl (Row.tl (Row.tl (Row.tl bs)))))))))) Path.refl λ q. Inner.cut-record 𝓤 H A q (Declared.row Relayed.the-type) Places.the-type 216
-              (u .1 .1 .1 .1 .1 .1 .0) (u .1 .1 .1 .1 .1 .1 .0) (At.getAt (Relayed.the-type .parts) 3 (Relayed.struct .as-values (u .1 .1 .1 .1 .1 .1
-              .0))) (At.getAt (Relayed.the-type .parts) 3 (Relayed.struct .as-values (u .1 .1 .1 .1 .1 .1 .0))) (Row.hd 0 (Row.tl (Row.tl (Row.tl
-              (Row.tl (Row.tl (Row.tl bs)))))), 0) (Behind.look-at 𝓤 H A W q Relayed.the-type Laws'''.the-laws 3 216 Path.refl Path.refl (Row.hd 0
-              (Row.tl (Row.tl (Row.tl (Row.tl (Row.tl (Row.tl bs)))))), 0) (u .1 .1 .1 .1 .1 .1 .0) (Relayed.struct .as-values (u .1 .1 .1 .1 .1 .1
-              .0)) Path.refl)) (Reads.room-gone 𝓤 H A Laws.mir) (Yields.makes-mem 𝓤 H A W (λ ρ. Unit) (Declared.row Places.the-type) Path.refl
-              (Rows'.whole (Declared.row Places.the-type)) (λ x. x) λ ρ told. Local.whole-mem 𝓤 H A W (Declared.row Places.the-type) ρ) Path.refl
-              Path.refl Path.refl) d56
+          d57 = Typed.s-seq 𝓤 H A W 𝓣 E G8 G9 b3 b38 Δ0 (Typed.both (s7 bs)) (at56 bs) (WayStmt.t-way-copy-out 𝓤 H A W
+              E 𝓣 (Declared.row Places.the-type) Path.refl (Copies.cStruct Places.the-type Laws.the-laws Laws.the-copy
+              .copy 𝓤 H A W) (λ ρ. Unit) G8 (Row.out 6 (G8 .locals)) (λ u. Row.drop 6 (G8 .locals) u) (G8 .slots) 6
+              (λ t. (Syntax.field 3) ∷ t) Laws.mir Laws.mir 13 (Rows'.whole (Declared.row Places.the-type)) (λ x. x) (λ
+              u. At.getAt (Relayed.the-type .parts) 3 (Relayed.struct .as-values (u .1 .1 .1 .1 .1 .1 .0))) (λ u. (
+                Row.hd 0 (Row.tl (Row.tl (Row.tl (Row.tl (Row.tl (Row.tl bs)))))),
+                Nat._+_ 0 216,
+              )) (λ T′. record {
+                locals = Row.setRow 6 (6, Rows'.whole (Declared.row Relayed.the-type)) T′;
+                slots = G8 .slots;
+              }) (λ u T′ m′. Row.set 6 (6, Rows'.whole (Declared.row Relayed.the-type)) (u .1 .1 .1 .1 .1 .1 .0) T′ m′)
+              (λ u. Unit) (λ x. Unit) (Own.told-none 𝓤 H A (G8 .slots)) (DerefMove.learns-nothing 𝓤 H A
+              (Declared.row Places.the-type)) (λ ρ told u asked. Way'.w-partˢ 𝓤 H A W E (Declared.row Relayed.the-type)
+              (Declared.row Places.the-type) Laws'''.mir Laws.mir 3 216 (u .1 .1 .1 .1 .1 .1 .0) (At.getAt
+              (Relayed.the-type .parts) 3 (Relayed.struct .as-values (u .1 .1 .1 .1 .1 .1 .0))) (
+                Row.hd 0 (Row.tl (Row.tl (Row.tl (Row.tl (Row.tl (Row.tl bs)))))),
+                0,
+              ) (Way.w-look 𝓤 H A W E (Way.w-local 𝓤 H A W E G8 ρ u (G8 .slots) 6 (Declared.row Relayed.the-type)
+              (Rows'.whole (Declared.row Relayed.the-type)) (λ x. x) (λ x. x) (u .1 .1 .1 .1 .1 .1 .0) (Local.mem-whole
+              𝓤 H A W (Declared.row Relayed.the-type) ρ (u .1 .1 .1 .1 .1 .1 .0) (Row.hd 0
+              (Row.tl (Row.tl (Row.tl (Row.tl (Row.tl (Row.tl bs)))))))) (Local.whole-mem 𝓤 H A W
+              (Declared.row Relayed.the-type) ρ (u .1 .1 .1 .1 .1 .1 .0) (Row.hd 0 (Row.tl
+              (Row.tl (Row.tl (Row.tl (Row.tl (Row.tl bs)))))))))) Path.refl λ q. Inner.cut-record 𝓤 H A q
+              (Declared.row Relayed.the-type) Places.the-type 216 (u .1 .1 .1 .1 .1 .1 .0) (u .1 .1 .1 .1 .1 .1 .0) (At.getAt
+              (Relayed.the-type .parts) 3 (Relayed.struct .as-values (u .1 .1 .1 .1 .1 .1 .0))) (At.getAt
+              (Relayed.the-type .parts) 3 (Relayed.struct .as-values (u .1 .1 .1 .1 .1 .1 .0))) (
+                Row.hd 0 (Row.tl (Row.tl (Row.tl (Row.tl (Row.tl (Row.tl bs)))))),
+                0,
+              ) (Behind.look-at 𝓤 H A W q Relayed.the-type Laws'''.the-laws 3 216 Path.refl Path.refl (
+                Row.hd 0 (Row.tl (Row.tl (Row.tl (Row.tl (Row.tl (Row.tl bs)))))),
+                0,
+              ) (u .1 .1 .1 .1 .1 .1 .0) (Relayed.struct .as-values (u .1 .1 .1 .1 .1 .1 .0)) Path.refl))
+              (Reads.room-gone 𝓤 H A Laws.mir) (Yields.makes-mem 𝓤 H A W (λ ρ. Unit) (Declared.row Places.the-type)
+              Path.refl (Rows'.whole (Declared.row Places.the-type)) (λ x. x) λ ρ told. Local.whole-mem 𝓤 H A W
+              (Declared.row Places.the-type) ρ) Path.refl Path.refl Path.refl) d56
+
           d58 : Typed.Typed 𝓤 H A 𝓣 E G7 b40 Δ0 (at58 bs)
-          d58 = Typed.s-seq 𝓤 H A W 𝓣 E G7 G8 b2 b39 Δ0 (Typed.both (s6 bs)) (at57 bs) (WayStmt.t-way-copy-out 𝓤 H A W E 𝓣 (Declared.row
-              OpaqueRelayRuntime.the-type) Path.refl (Copies.cStruct OpaqueRelayRuntime.the-type Laws''.the-laws Laws''.the-copy .copy 𝓤 H A W) (λ ρ.
-              Unit) G7 (Row.out 6 (G7 .locals)) (λ u. Row.drop 6 (G7 .locals) u) (G7 .slots) 6 (λ t. (Syntax.field 0) ∷ t) Laws''.mir Laws''.mir 12
-              (Rows'.whole (Declared.row OpaqueRelayRuntime.the-type)) (λ x. x) (λ u. At.getAt (Relayed.the-type .parts) 0 (Relayed.struct .as-values
-              (u .1 .1 .1 .1 .1 .1 .0))) (λ u. (Row.hd 0 (Row.tl (Row.tl (Row.tl (Row.tl (Row.tl (Row.tl bs)))))), Nat._+_ 0 0,)) (λ T′. record {
-              locals = Row.setRow 6 (6, Rows'.whole (Declared.row Relayed.the-type)) T′; slots = G7 .slots; }) (λ u T′ m′. Row.set 6 (6, Rows'.whole
-              (Declared.row Relayed.the-type)) (u .1 .1 .1 .1 .1 .1 .0) T′ m′) (λ u. Unit) (λ x. Unit) (Own.told-none 𝓤 H A (G7 .slots))
-              (DerefMove.learns-nothing 𝓤 H A (Declared.row OpaqueRelayRuntime.the-type)) (λ ρ told u asked. Way'.w-partˢ 𝓤 H A W E (Declared.row
-              Relayed.the-type) (Declared.row OpaqueRelayRuntime.the-type) Laws'''.mir Laws''.mir 0 0 (u .1 .1 .1 .1 .1 .1 .0) (At.getAt
-              (Relayed.the-type .parts) 0 (Relayed.struct .as-values (u .1 .1 .1 .1 .1 .1 .0))) (Row.hd 0 (Row.tl (Row.tl (Row.tl (Row.tl (Row.tl
-              (Row.tl bs)))))), 0) (Way.w-look 𝓤 H A W E (Way.w-local 𝓤 H A W E G7 ρ u (G7 .slots) 6 (Declared.row Relayed.the-type) (Rows'.whole
-              (Declared.row Relayed.the-type)) (λ x. x) (λ x. x) (u .1 .1 .1 .1 .1 .1 .0) (Local.mem-whole 𝓤 H A W (Declared.row Relayed.the-type) ρ
-              (u .1 .1 .1 .1 .1 .1 .0) (Row.hd 0 (Row.tl (Row.tl (Row.tl (Row.tl (Row.tl (Row.tl bs)))))))) (Local.whole-mem 𝓤 H A W (Declared.row
-              Relayed.the-type) ρ (u .1 .1 .1 .1 .1 .1 .0) (Row.hd 0 (Row.tl (Row.tl (Row.tl (Row.tl (Row.tl (Row.tl bs)))))))))) Path.refl λ q.
-              Inner.cut-record 𝓤 H A q (Declared.row Relayed.the-type) OpaqueRelayRuntime.the-type 0 (u .1 .1 .1 .1 .1 .1 .0) (u .1 .1 .1 .1 .1 .1 .0)
-              (At.getAt (Relayed.the-type .parts) 0 (Relayed.struct .as-values (u .1 .1 .1 .1 .1 .1 .0))) (At.getAt (Relayed.the-type .parts) 0
-              (Relayed.struct .as-values (u .1 .1 .1 .1 .1 .1 .0))) (Row.hd 0 (Row.tl (Row.tl (Row.tl (Row.tl (Row.tl (Row.tl bs)))))), 0)
-              (Behind.look-at 𝓤 H A W q Relayed.the-type Laws'''.the-laws 0 0 Path.refl Path.refl (Row.hd 0 (Row.tl (Row.tl (Row.tl (Row.tl (Row.tl
-              (Row.tl bs)))))), 0,) (u .1 .1 .1 .1 .1 .1 .0) (Relayed.struct .as-values (u .1 .1 .1 .1 .1 .1 .0)) Path.refl)) (Reads.room-gone 𝓤 H A
-              Laws''.mir) (Yields.makes-mem 𝓤 H A W (λ ρ. Unit) (Declared.row OpaqueRelayRuntime.the-type) Path.refl (Rows'.whole (Declared.row
-              OpaqueRelayRuntime.the-type)) (λ x. x) λ ρ told. Local.whole-mem 𝓤 H A W (Declared.row OpaqueRelayRuntime.the-type) ρ) Path.refl
-              Path.refl Path.refl) d57
+          d58 = Typed.s-seq 𝓤 H A W 𝓣 E G7 G8 b2 b39 Δ0 (Typed.both (s6 bs)) (at57 bs) (WayStmt.t-way-copy-out 𝓤 H A W
+              E 𝓣 (Declared.row OpaqueRelayRuntime.the-type) Path.refl (Copies.cStruct OpaqueRelayRuntime.the-type
+              Laws''.the-laws Laws''.the-copy .copy 𝓤 H A W) (λ ρ. Unit) G7 (Row.out 6 (G7 .locals))
+              (λ u. Row.drop 6 (G7 .locals) u) (G7 .slots) 6 (λ t. (Syntax.field 0) ∷ t) Laws''.mir Laws''.mir 12
+              (Rows'.whole (Declared.row OpaqueRelayRuntime.the-type)) (λ x. x) (λ u. At.getAt
+              (Relayed.the-type .parts) 0 (Relayed.struct .as-values (u .1 .1 .1 .1 .1 .1 .0))) (λ u. (
+                Row.hd 0 (Row.tl (Row.tl (Row.tl (Row.tl (Row.tl (Row.tl bs)))))),
+                Nat._+_ 0 0,
+              )) (λ T′. record {
+                locals = Row.setRow 6 (6, Rows'.whole (Declared.row Relayed.the-type)) T′;
+                slots = G7 .slots;
+              }) (λ u T′ m′. Row.set 6 (6, Rows'.whole (Declared.row Relayed.the-type)) (u .1 .1 .1 .1 .1 .1 .0) T′ m′)
+              (λ u. Unit) (λ x. Unit) (Own.told-none 𝓤 H A (G7 .slots)) (DerefMove.learns-nothing 𝓤 H A
+              (Declared.row OpaqueRelayRuntime.the-type)) (λ ρ told u asked. Way'.w-partˢ 𝓤 H A W E
+              (Declared.row Relayed.the-type) (Declared.row OpaqueRelayRuntime.the-type) Laws'''.mir Laws''.mir 0 0
+              (u .1 .1 .1 .1 .1 .1 .0) (At.getAt (Relayed.the-type .parts) 0
+              (Relayed.struct .as-values (u .1 .1 .1 .1 .1 .1 .0))) (
+                Row.hd 0 (Row.tl (Row.tl (Row.tl (Row.tl (Row.tl (Row.tl bs)))))),
+                0,
+              ) (Way.w-look 𝓤 H A W E (Way.w-local 𝓤 H A W E G7 ρ u (G7 .slots) 6 (Declared.row Relayed.the-type)
+              (Rows'.whole (Declared.row Relayed.the-type)) (λ x. x) (λ x. x) (u .1 .1 .1 .1 .1 .1 .0) (Local.mem-whole
+              𝓤 H A W (Declared.row Relayed.the-type) ρ (u .1 .1 .1 .1 .1 .1 .0) (Row.hd 0
+              (Row.tl (Row.tl (Row.tl (Row.tl (Row.tl (Row.tl bs)))))))) (Local.whole-mem 𝓤 H A W
+              (Declared.row Relayed.the-type) ρ (u .1 .1 .1 .1 .1 .1 .0) (Row.hd 0 (Row.tl
+              (Row.tl (Row.tl (Row.tl (Row.tl (Row.tl bs)))))))))) Path.refl λ q. Inner.cut-record 𝓤 H A q
+              (Declared.row Relayed.the-type) OpaqueRelayRuntime.the-type 0 (u .1 .1 .1 .1 .1 .1 .0)
+              (u .1 .1 .1 .1 .1 .1 .0) (At.getAt (Relayed.the-type .parts) 0
+              (Relayed.struct .as-values (u .1 .1 .1 .1 .1 .1 .0))) (At.getAt (Relayed.the-type .parts) 0
+              (Relayed.struct .as-values (u .1 .1 .1 .1 .1 .1 .0))) (
+                Row.hd 0 (Row.tl (Row.tl (Row.tl (Row.tl (Row.tl (Row.tl bs)))))),
+                0,
+              ) (Behind.look-at 𝓤 H A W q Relayed.the-type Laws'''.the-laws 0 0 Path.refl Path.refl (
+                Row.hd 0 (Row.tl (Row.tl (Row.tl (Row.tl (Row.tl (Row.tl bs)))))),
+                0,
+              ) (u .1 .1 .1 .1 .1 .1 .0) (Relayed.struct .as-values (u .1 .1 .1 .1 .1 .1 .0)) Path.refl))
+              (Reads.room-gone 𝓤 H A Laws''.mir) (Yields.makes-mem 𝓤 H A W (λ ρ. Unit)
+              (Declared.row OpaqueRelayRuntime.the-type) Path.refl
+              (Rows'.whole (Declared.row OpaqueRelayRuntime.the-type)) (λ x. x) λ ρ told. Local.whole-mem 𝓤 H A W
+              (Declared.row OpaqueRelayRuntime.the-type) ρ) Path.refl Path.refl Path.refl) d57
+
           d59 : Typed.Typed 𝓤 H A 𝓣 E G6 b40 Δ0 (at59 bs)
-          d59 = Typed.g-pre 𝓤 H A W 𝓣 E G6 G7 b40 Δ0 (Typed.pass T6 T7 (s5 bs)) (at58 bs) (AtSlots.g-as-by 𝓤 H A W E (λ ρ. Unit) G6 11 (Rows.arrF
-              (Referent.rtF (Referent.fInt Syntax.w8)) 1 0) (λ x. x) (Own.told-none 𝓤 H A (G6 .slots)) λ ρ told. Repeat.whole-arr 𝓤 H A W
+          d59 = Typed.g-pre 𝓤 H A W 𝓣 E G6 G7 b40 Δ0 (Typed.pass T6 T7 (s5 bs)) (at58 bs) (AtSlots.g-as-by 𝓤 H A W E
+              (λ ρ. Unit) G6 11 (Rows.arrF (Referent.rtF (Referent.fInt Syntax.w8)) 1 0) (λ x. x)
+              (Own.told-none 𝓤 H A (G6 .slots)) λ ρ told. Repeat.whole-arr 𝓤 H A W
               (Referent.rtF (Referent.fInt Syntax.w8)) 1 tt ρ) d58
+
           d60 : Typed.Typed 𝓤 H A 𝓣 E G5 b41 Δ0 (at60 bs)
-          d60 = Typed.s-seq 𝓤 H A W 𝓣 E G5 G6 b1 b40 Δ0 (Typed.pass T5 T6 (s4 bs)) (at59 bs) (Make.t-make-wt 𝓤 H A W E 𝓣 (Array.Array (Referent.rtF
-              (Referent.fInt Syntax.w8)) 1) Path.refl (Gives.arrayValOf λ x. Steps.only (Copies.cRf (Referent.fInt Syntax.w8) .vals x))
-              (Array.array-lawful 𝓤 H A W (Referent.rtF (Referent.fInt Syntax.w8)) (Plain'.uint-lawful 𝓤 H A W Syntax.w8) 1) (Array.array-makes 𝓤 H A
-              W (Referent.rtF (Referent.fInt Syntax.w8)) (Plain'.uint-makes 𝓤 H A W Syntax.w8) 1) G5 11 ((Scalar.oInt Syntax.w8 0) ∷ List.[]) (λ m. 0
-              ∷ List.[]) (Reads.room-gone 𝓤 H A (Syntax.tyArray (Syntax.tyInt Syntax.w8) 1)) (tt, tt) Path.refl (λ m wa. Path.refl) λ m wa. ((Row.valS
-              (Row.sInt Syntax.w8) 0) ∷ List.[], ((Path.refl, Path.refl), ((Path.refl, Dec.lit< tt), tt)),)) d59
+          d60 = Typed.s-seq 𝓤 H A W 𝓣 E G5 G6 b1 b40 Δ0 (Typed.pass T5 T6 (s4 bs)) (at59 bs) (Make.t-make-wt 𝓤 H A W E
+              𝓣 (Array.Array (Referent.rtF (Referent.fInt Syntax.w8)) 1) Path.refl (Gives.arrayValOf λ x. Steps.only
+              (Copies.cRf (Referent.fInt Syntax.w8) .vals x)) (Array.array-lawful 𝓤 H A W
+              (Referent.rtF (Referent.fInt Syntax.w8)) (Plain'.uint-lawful 𝓤 H A W Syntax.w8) 1) (Array.array-makes 𝓤 H
+              A W (Referent.rtF (Referent.fInt Syntax.w8)) (Plain'.uint-makes 𝓤 H A W Syntax.w8) 1) G5 11
+              ((Scalar.oInt Syntax.w8 0) ∷ List.[]) (λ m. 0 ∷ List.[]) (Reads.room-gone 𝓤 H A
+              (Syntax.tyArray (Syntax.tyInt Syntax.w8) 1)) (tt, tt) Path.refl (λ m wa. Path.refl) λ m wa. (
+                (Row.valS (Row.sInt Syntax.w8) 0) ∷ List.[],
+                ((Path.refl, Path.refl), ((Path.refl, Dec.lit< tt), tt)),
+              )) d59
+
           d61 : Typed.Typed 𝓤 H A 𝓣 E G4 b41 Δ0 (at61 bs)
-          d61 = Typed.g-pre 𝓤 H A W 𝓣 E G4 G5 b41 Δ0 (Typed.pass T4 T5 (s3 bs)) (at60 bs) (AtSlots.g-as-by 𝓤 H A W E (λ ρ. Unit) G4 10 (Rows.arrF
-              (Referent.rtF (Referent.fInt Syntax.w8)) 1 0) (λ x. x) (Own.told-none 𝓤 H A (G4 .slots)) λ ρ told. Repeat.whole-arr 𝓤 H A W
+          d61 = Typed.g-pre 𝓤 H A W 𝓣 E G4 G5 b41 Δ0 (Typed.pass T4 T5 (s3 bs)) (at60 bs) (AtSlots.g-as-by 𝓤 H A W E
+              (λ ρ. Unit) G4 10 (Rows.arrF (Referent.rtF (Referent.fInt Syntax.w8)) 1 0) (λ x. x)
+              (Own.told-none 𝓤 H A (G4 .slots)) λ ρ told. Repeat.whole-arr 𝓤 H A W
               (Referent.rtF (Referent.fInt Syntax.w8)) 1 tt ρ) d60
+
           d62 : Typed.Typed 𝓤 H A 𝓣 E G3 b42 Δ0 (at62 bs)
-          d62 = Typed.s-seq 𝓤 H A W 𝓣 E G3 G4 b0 b41 Δ0 (Typed.pass T3 T4 (s2 bs)) (at61 bs) (Make.t-make-wt 𝓤 H A W E 𝓣 (Array.Array (Referent.rtF
-              (Referent.fInt Syntax.w8)) 1) Path.refl (Gives.arrayValOf λ x. Steps.only (Copies.cRf (Referent.fInt Syntax.w8) .vals x))
-              (Array.array-lawful 𝓤 H A W (Referent.rtF (Referent.fInt Syntax.w8)) (Plain'.uint-lawful 𝓤 H A W Syntax.w8) 1) (Array.array-makes 𝓤 H A
-              W (Referent.rtF (Referent.fInt Syntax.w8)) (Plain'.uint-makes 𝓤 H A W Syntax.w8) 1) G3 10 ((Scalar.oAt 8 (Syntax.tyInt Syntax.w8)
-              (Row.valS (Row.sInt Syntax.w8))) ∷ List.[]) (λ m. (m .1 .1 .1 .1 .1 .1 .1 .1 .0) ∷ List.[]) (Reads.room-gone 𝓤 H A (Syntax.tyArray
-              (Syntax.tyInt Syntax.w8) 1)) ((Scalar.reads-sc 𝓤 H A W (Row.sInt Syntax.w8), Path.refl), tt) Path.refl (λ m wa. Path.refl) λ m wa.
-              ((Row.valS (Row.sInt Syntax.w8) (m .1 .1 .1 .1 .1 .1 .1 .1 .0)) ∷ List.[], ((Path.refl, Path.refl), (RepeatOf.uint-of-wt Syntax.w8 (m .1
-              .1 .1 .1 .1 .1 .1 .1 .0) (wa .0), tt),),)) d61
+          d62 = Typed.s-seq 𝓤 H A W 𝓣 E G3 G4 b0 b41 Δ0 (Typed.pass T3 T4 (s2 bs)) (at61 bs) (Make.t-make-wt 𝓤 H A W E
+              𝓣 (Array.Array (Referent.rtF (Referent.fInt Syntax.w8)) 1) Path.refl (Gives.arrayValOf λ x. Steps.only
+              (Copies.cRf (Referent.fInt Syntax.w8) .vals x)) (Array.array-lawful 𝓤 H A W
+              (Referent.rtF (Referent.fInt Syntax.w8)) (Plain'.uint-lawful 𝓤 H A W Syntax.w8) 1) (Array.array-makes 𝓤 H
+              A W (Referent.rtF (Referent.fInt Syntax.w8)) (Plain'.uint-makes 𝓤 H A W Syntax.w8) 1) G3 10 ((Scalar.oAt
+              8 (Syntax.tyInt Syntax.w8) (Row.valS (Row.sInt Syntax.w8))) ∷ List.[])
+              (λ m. (m .1 .1 .1 .1 .1 .1 .1 .1 .0) ∷ List.[]) (Reads.room-gone 𝓤 H A
+              (Syntax.tyArray (Syntax.tyInt Syntax.w8) 1)) (
+                (Scalar.reads-sc 𝓤 H A W (Row.sInt Syntax.w8), Path.refl),
+                tt,
+              ) Path.refl (λ m wa. Path.refl) λ m wa. (
+                (Row.valS (Row.sInt Syntax.w8) (m .1 .1 .1 .1 .1 .1 .1 .1 .0)) ∷ List.[],
+                ((Path.refl, Path.refl), (RepeatOf.uint-of-wt Syntax.w8 (m .1 .1 .1 .1 .1 .1 .1 .1 .0) (wa .0), tt)),
+              )) d61
+
           d63 : Typed.Typed 𝓤 H A 𝓣 E G2 b42 Δ0 (at63 bs)
-          d63 = Typed.g-pre 𝓤 H A W 𝓣 E G2 G3 b42 Δ0 (Typed.give (s1 bs)) (at62 bs) (Know.g-shs-known 𝓤 H A W (Referent.fInt Syntax.w8) E G2 9 5 ref12
-              life5 0 (λ x. x) record { fits = Dec.lit< tt } (Reads.as-is 𝓤 H A (Rows'.sslice (Referent.rtF (Referent.fInt Syntax.w8)) ref12 5))
-              Path.refl tt) d62
+          d63 = Typed.g-pre 𝓤 H A W 𝓣 E G2 G3 b42 Δ0 (Typed.give (s1 bs)) (at62 bs) (Know.g-shs-known 𝓤 H A W
+              (Referent.fInt Syntax.w8) E G2 9 5 ref12 life5 0 (λ x. x) record { fits = Dec.lit< tt } (Reads.as-is 𝓤 H
+              A (Rows'.sslice (Referent.rtF (Referent.fInt Syntax.w8)) ref12 5)) Path.refl tt) d62
+
           d64 : Typed.Typed 𝓤 H A 𝓣 E G0 b42 Δ0 (at64 bs)
-          d64 = Typed.g-pre 𝓤 H A W 𝓣 E G0 G2 b42 Δ0 (Typed.give (s0 bs)) (at63 bs) (Know.g-sl-known 𝓤 H A W (Referent.fInt Syntax.w32) E G0 5 4 ref11
-              life4 0 (λ x. x) record { fits = Dec.lit< tt } (Reads.as-is 𝓤 H A (Mut.mslice (Referent.rtF (Referent.fInt Syntax.w32)) ref11 4))
-              Path.refl tt) d63
-          pub typed : Typed.Typed 𝓤 H A 𝓣 E (Function.Γin 6 ps r xs m κs qs) b42 (Function.Δret 6 ps r xs m κs qs) (Φ bs)
+          d64 = Typed.g-pre 𝓤 H A W 𝓣 E G0 G2 b42 Δ0 (Typed.give (s0 bs)) (at63 bs) (Know.g-sl-known 𝓤 H A W
+              (Referent.fInt Syntax.w32) E G0 5 4 ref11 life4 0 (λ x. x) record { fits = Dec.lit< tt } (Reads.as-is 𝓤 H
+              A (Mut.mslice (Referent.rtF (Referent.fInt Syntax.w32)) ref11 4)) Path.refl tt) d63
+
+          pub typed : Typed.Typed 𝓤 H A 𝓣 E (Function.Γin 6 ps r xs m κs qs) b42 (Function.Δret 6 ps r xs m κs qs)
+              (Φ bs)
           typed = d64
+
       module _ (κs : Lifetimes.Lfts 6) where
         pub record Args : Type 0 where
-          pub pending : Kinds.Den { n = 6 } κs (MutSlice.pMutS RelayPending.row 0 tt)
-          pub circuits : Kinds.Den { n = 6 } κs (MutSlice.pMutS RelayCircuit.row 1 tt)
-          pub ledger : Kinds.Den { n = 6 } κs (MutSlice.pMutS ReservationUsage.row 2 tt)
-          pub inflight : Kinds.Den { n = 6 } κs (MutSlice.pMutS InflightAction.row 3 tt)
-          pub out : Kinds.Den { n = 6 } κs (MutSlice.pMutS (Referent.rtF (Referent.fInt Syntax.w32)) 4 tt)
-          pub kept : Kinds.Den { n = 6 } κs (Value.pVal record { ty = Declared.row Relayed.the-type; one = Path.refl; val = Laws''''.val
-              Relayed.the-type Laws'''.the-laws; tells = Laws''''.tells Relayed.the-type Laws'''.the-laws; still = Laws''''.still Relayed.the-type
-              Laws'''.the-copy Exit.yes; row = Rows'.whole (Declared.row Relayed.the-type); rd = λ x. x; mk = λ x. x; } λ M 𝓤 H A W. record { copies =
-              Laws''''.copy Relayed.the-type Laws'''.the-copy 𝓤 H A W; lawful = Laws''''.lawful Relayed.the-type Laws'''.the-laws 𝓤 H A W; makes =
-              Laws''''.makes Relayed.the-type Laws'''.the-plain 𝓤 H A; in-mem = Local.mem-whole 𝓤 H A W (Declared.row Relayed.the-type); of-mem =
-              Local.whole-mem 𝓤 H A W (Declared.row Relayed.the-type); })
-          pub sent : Kinds.Den { n = 6 } κs (Value.pVal record { ty = Declared.row RelayPacket.the-type; one = Path.refl; val = Laws''''.val
-              RelayPacket.the-type Laws'.the-laws; tells = Laws''''.tells RelayPacket.the-type Laws'.the-laws; still = Laws''''.still
-              RelayPacket.the-type Laws'.the-copy Exit.yes; row = Rows'.whole (Declared.row RelayPacket.the-type); rd = λ x. x; mk = λ x. x; } λ M 𝓤 H
-              A W. record { copies = Laws''''.copy RelayPacket.the-type Laws'.the-copy 𝓤 H A W; lawful = Laws''''.lawful RelayPacket.the-type
-              Laws'.the-laws 𝓤 H A W; makes = Laws''''.makes RelayPacket.the-type Laws'.the-plain 𝓤 H A; in-mem = Local.mem-whole 𝓤 H A W
-              (Declared.row RelayPacket.the-type); of-mem = Local.whole-mem 𝓤 H A W (Declared.row RelayPacket.the-type); })
-          pub peer : Kinds.Den { n = 6 } κs (Num.pNum Syntax.w8)
-          pub body : Kinds.Den { n = 6 } κs (ShrSlice.pShrS (Referent.rtF (Referent.fInt Syntax.w8)) 5 tt)
+          pub pending : Kinds.Den {n = 6} κs (MutSlice.pMutS RelayPending.row 0 tt)
+          pub circuits : Kinds.Den {n = 6} κs (MutSlice.pMutS RelayCircuit.row 1 tt)
+          pub ledger : Kinds.Den {n = 6} κs (MutSlice.pMutS ReservationUsage.row 2 tt)
+          pub inflight : Kinds.Den {n = 6} κs (MutSlice.pMutS InflightAction.row 3 tt)
+          pub out : Kinds.Den {n = 6} κs (MutSlice.pMutS (Referent.rtF (Referent.fInt Syntax.w32)) 4 tt)
+          pub kept : Kinds.Den {n = 6} κs (StructRow.param Relayed.the-type Laws'''.the-laws Laws'''.the-copy
+              Laws'''.the-plain)
+          pub sent : Kinds.Den {n = 6} κs (StructRow.param RelayPacket.the-type Laws'.the-laws Laws'.the-copy
+              Laws'.the-plain)
+          pub peer : Kinds.Den {n = 6} κs (Num.pNum Syntax.w8)
+          pub body : Kinds.Den {n = 6} κs (ShrSlice.pShrS (Referent.rtF (Referent.fInt Syntax.w8)) 5 tt)
+
         abbrev pub dens : (a : Args) → Kinds.Dens κs ps
-        dens = λ a. (a .pending, (a .circuits, (a .ledger, (a .inflight, (a .out, (a .kept, (a .sent, (a .peer, (a .body, tt)))))),),),)
+        dens = λ a. (
+          a .pending,
+          (a .circuits, (a .ledger, (a .inflight, (a .out, (a .kept, (a .sent, (a .peer, (a .body, tt)))))))),
+        )
+
         module _ (args· : Args) where
           pub record Ranges : Type 0 where
             pub peer : Val.Fits Syntax.w8 (args· .peer)
+
       abbrev pub m0 : (κs : Lifetimes.Lfts 6) → (args : Args κs) → (blocks : List.List Nat.ℕ) → Typed.Mo T0
       m0 = λ κs args blocks. (tt, Enter.partsP κs 1 ps xs (dens κs args))
+
       abbrev W0 : (κs : Lifetimes.Lfts 6) → (args : Args κs) → (blocks : List.List Nat.ℕ) → Typed.Want O0
-      W0 = λ κs args blocks. (λ u. ⊥, tt, λ u. Enter.Fixs κs 1 ps xs (dens κs args) (u .1) × Post· κs (dens κs args) (Function.resV r κs (u .0))
-          (Clauses.atExit (Kinds.endedOf 6 ps r) κs (dens κs args) (Enter.lastsP κs 1 ps xs (dens κs args) (u .1))),)
+      W0 = λ κs args blocks. (
+        λ u. ⊥,
+        tt,
+        λ u. Enter.Fixs κs 1 ps xs (dens κs args) (u .1) × Post· κs (dens κs args) (Function.resV r κs (u .0)) (Clauses.atExit
+            (Kinds.endedOf 6 ps r) κs (dens κs args) (Enter.lastsP κs 1 ps xs (dens κs args) (u .1))),
+      )
+
       pub record Start : Type 0 where
         pub κs : Lifetimes.Lfts 6
         pub args : Args κs
@@ -1548,494 +2755,1304 @@ module _ (claims· : Claims) where
         pub good : Kinds.GoodsP κs ps (dens κs args)
         pub fits : Ranges κs args
         pub pre : Pre· κs (dens κs args)
-      abbrev pub m1 : (before : Start) → (given : s0 (before .blocks) .gives (m0 (before .κs) (before .args) (before .blocks))) → Typed.Mo T2
+
+      abbrev pub m1 : (before : Start) → (given : s0 (before .blocks) .gives
+          (m0 (before .κs) (before .args) (before .blocks))) → Typed.Mo T2
       m1 = λ before given. s0 (before .blocks) .next (m0 (before .κs) (before .args) (before .blocks)) given
+
       module _ (before· : Start) where
         pub record After-slice-known·own : Type 0 where
           pub given : s0 (before· .blocks) .gives (m0 (before· .κs) (before· .args) (before· .blocks))
+
       pub record After-slice-known : Type 0 where
         pub before : Start
         pub slice-known : After-slice-known·own before
-      abbrev pub m2 : (before : After-slice-known) → (given : s1 (before .before .blocks) .gives (m1 (before .before) (before .slice-known .given))) →
-          Typed.Mo T3
+
+      abbrev pub m2 : (before : After-slice-known) → (given : s1 (before .before .blocks) .gives
+          (m1 (before .before) (before .slice-known .given))) → Typed.Mo T3
       m2 = λ before given. s1 (before .before .blocks) .next (m1 (before .before) (before .slice-known .given)) given
-      abbrev pub m3 : (before : After-slice-known) → (given : s1 (before .before .blocks) .gives (m1 (before .before) (before .slice-known .given))) →
-          Typed.Mo T4
+
+      abbrev pub m3 : (before : After-slice-known) → (given : s1 (before .before .blocks) .gives
+          (m1 (before .before) (before .slice-known .given))) → Typed.Mo T4
       m3 = λ before given. s2 (before .before .blocks) (m2 before given)
-      abbrev pub m4 : (before : After-slice-known) → (given : s1 (before .before .blocks) .gives (m1 (before .before) (before .slice-known .given))) →
-          Typed.Mo T5
+
+      abbrev pub m4 : (before : After-slice-known) → (given : s1 (before .before .blocks) .gives
+          (m1 (before .before) (before .slice-known .given))) → Typed.Mo T5
       m4 = λ before given. s3 (before .before .blocks) (m3 before given)
-      abbrev pub m5 : (before : After-slice-known) → (given : s1 (before .before .blocks) .gives (m1 (before .before) (before .slice-known .given))) →
-          Typed.Mo T6
+
+      abbrev pub m5 : (before : After-slice-known) → (given : s1 (before .before .blocks) .gives
+          (m1 (before .before) (before .slice-known .given))) → Typed.Mo T6
       m5 = λ before given. s4 (before .before .blocks) (m4 before given)
-      abbrev pub m6 : (before : After-slice-known) → (given : s1 (before .before .blocks) .gives (m1 (before .before) (before .slice-known .given))) →
-          Typed.Mo T7
+
+      abbrev pub m6 : (before : After-slice-known) → (given : s1 (before .before .blocks) .gives
+          (m1 (before .before) (before .slice-known .given))) → Typed.Mo T7
       m6 = λ before given. s5 (before .before .blocks) (m5 before given)
+
       module _ (before· : After-slice-known) where
         pub record After-shared-slice-known·own : Type 0 where
           pub given : s1 (before· .before .blocks) .gives (m1 (before· .before) (before· .slice-known .given))
+
       pub record After-shared-slice-known : Type 0 where
         pub before : After-slice-known
         pub shared-slice-known : After-shared-slice-known·own before
-      abbrev pub m7 : (before : After-shared-slice-known) → (given : s6 (before .before .before .blocks) .gives (m6 (before .before) (before
-          .shared-slice-known .given))) → Typed.Mo T8
-      m7 = λ before given. s6 (before .before .before .blocks) .next (m6 (before .before) (before .shared-slice-known .given)) given
+
+      abbrev pub m7 : (before : After-shared-slice-known) → (given : s6 (before .before .before .blocks) .gives
+          (m6 (before .before) (before .shared-slice-known .given))) → Typed.Mo T8
+      m7 = λ before given. s6 (before .before .before .blocks) .next
+          (m6 (before .before) (before .shared-slice-known .given)) given
+
       module _ (before· : After-shared-slice-known) where
         pub record After-runtime·own : Type 0 where
-          pub given : s6 (before· .before .before .blocks) .gives (m6 (before· .before) (before· .shared-slice-known .given))
+          pub given : s6 (before· .before .before .blocks) .gives
+              (m6 (before· .before) (before· .shared-slice-known .given))
+
       pub record After-runtime : Type 0 where
         pub before : After-shared-slice-known
         pub runtime : After-runtime·own before
-      abbrev pub m8 : (before : After-runtime) → (given : s7 (before .before .before .before .blocks) .gives (m7 (before .before) (before .runtime
-          .given))) → Typed.Mo T9
-      m8 = λ before given. s7 (before .before .before .before .blocks) .next (m7 (before .before) (before .runtime .given)) given
-      abbrev pub m9 : (before : After-runtime) → (given : s7 (before .before .before .before .blocks) .gives (m7 (before .before) (before .runtime
-          .given))) → Typed.Mo T10
+
+      abbrev pub m8 : (before : After-runtime) → (given : s7 (before .before .before .before .blocks) .gives
+          (m7 (before .before) (before .runtime .given))) → Typed.Mo T9
+      m8 = λ before given. s7 (before .before .before .before .blocks) .next
+          (m7 (before .before) (before .runtime .given)) given
+
+      abbrev pub m9 : (before : After-runtime) → (given : s7 (before .before .before .before .blocks) .gives
+          (m7 (before .before) (before .runtime .given))) → Typed.Mo T10
       m9 = λ before given. s8 (before .before .before .before .blocks) (m8 before given)
+
       module _ (before· : After-runtime) where
         pub record After-places·own : Type 0 where
-          pub given : s7 (before· .before .before .before .blocks) .gives (m7 (before· .before) (before· .runtime .given))
+          pub given : s7 (before· .before .before .before .blocks) .gives
+              (m7 (before· .before) (before· .runtime .given))
+
       pub record After-places : Type 0 where
         pub before : After-runtime
         pub places : After-places·own before
-      abbrev pub m10 : (before : After-places) → (given : s10 (before .before .before .before .before .blocks) .gives (m9 (before .before) (before
-          .places .given))) → Typed.Mo T12
-      m10 = λ before given. s10 (before .before .before .before .before .blocks) .next (m9 (before .before) (before .places .given)) given
-      abbrev pub m11 : (before : After-places) → (given : s10 (before .before .before .before .before .blocks) .gives (m9 (before .before) (before
-          .places .given))) → Typed.Mo T13
+
+      abbrev pub m10 : (before : After-places) → (given : s10 (before .before .before .before .before .blocks) .gives
+          (m9 (before .before) (before .places .given))) → Typed.Mo T12
+      m10 = λ before given. s10 (before .before .before .before .before .blocks) .next
+          (m9 (before .before) (before .places .given)) given
+
+      abbrev pub m11 : (before : After-places) → (given : s10 (before .before .before .before .before .blocks) .gives
+          (m9 (before .before) (before .places .given))) → Typed.Mo T13
       m11 = λ before given. s11 (before .before .before .before .before .blocks) .next (m10 before given)
+
       module _ (before· : After-places) where
         pub record After-handle-arg·own : Type 0 where
-          pub given : s10 (before· .before .before .before .before .blocks) .gives (m9 (before· .before) (before· .places .given))
+          pub given : s10 (before· .before .before .before .before .blocks) .gives
+              (m9 (before· .before) (before· .places .given))
+
       pub record After-handle-arg : Type 0 where
         pub before : After-places
         pub handle-arg : After-handle-arg·own before
-      abbrev pub m12 : (before : After-handle-arg) → (given : s13 (before .before .before .before .before .before .blocks) .gives (m11 (before
-          .before) (before .handle-arg .given))) → Typed.Mo T15
-      m12 = λ before given. s13 (before .before .before .before .before .before .blocks) .next (m11 (before .before) (before .handle-arg .given))
-          given
-      abbrev pub m13 : (before : After-handle-arg) → (given : s13 (before .before .before .before .before .before .blocks) .gives (m11 (before
-          .before) (before .handle-arg .given))) → Typed.Mo T16
+
+      abbrev pub m12 : (before : After-handle-arg) → (given : s13
+          (before .before .before .before .before .before .blocks) .gives
+          (m11 (before .before) (before .handle-arg .given))) → Typed.Mo T15
+      m12 = λ before given. s13 (before .before .before .before .before .before .blocks) .next
+          (m11 (before .before) (before .handle-arg .given)) given
+
+      abbrev pub m13 : (before : After-handle-arg) → (given : s13
+          (before .before .before .before .before .before .blocks) .gives
+          (m11 (before .before) (before .handle-arg .given))) → Typed.Mo T16
       m13 = λ before given. s14 (before .before .before .before .before .before .blocks) .next (m12 before given)
+
       module _ (before· : After-handle-arg) where
         pub record After-handle-arg2·own : Type 0 where
-          pub given : s13 (before· .before .before .before .before .before .blocks) .gives (m11 (before· .before) (before· .handle-arg .given))
+          pub given : s13 (before· .before .before .before .before .before .blocks) .gives
+              (m11 (before· .before) (before· .handle-arg .given))
+
       pub record After-handle-arg2 : Type 0 where
         pub before : After-handle-arg
         pub handle-arg2 : After-handle-arg2·own before
-      abbrev pub m14 : (before : After-handle-arg2) → (given : s16 (before .before .before .before .before .before .before .blocks) .gives (m13
-          (before .before) (before .handle-arg2 .given))) → Typed.Mo T18
-      m14 = λ before given. s16 (before .before .before .before .before .before .before .blocks) .next (m13 (before .before) (before .handle-arg2
-          .given)) given
-      abbrev pub m15 : (before : After-handle-arg2) → (given : s16 (before .before .before .before .before .before .before .blocks) .gives (m13
-          (before .before) (before .handle-arg2 .given))) → Typed.Mo T19
-      m15 = λ before given. s17 (before .before .before .before .before .before .before .blocks) .next (m14 before given)
+
+      abbrev pub m14 : (before : After-handle-arg2) → (given : s16 (before .before .before .before .before .before
+          .before .blocks) .gives (m13 (before .before) (before .handle-arg2 .given))) → Typed.Mo T18
+      m14 = λ before given. s16 (before .before .before .before .before .before .before .blocks) .next
+          (m13 (before .before) (before .handle-arg2 .given)) given
+
+      abbrev pub m15 : (before : After-handle-arg2) → (given : s16 (before .before .before .before .before .before
+          .before .blocks) .gives (m13 (before .before) (before .handle-arg2 .given))) → Typed.Mo T19
+      m15 = λ before given. s17 (before .before .before .before .before .before .before .blocks) .next
+          (m14 before given)
+
       module _ (before· : After-handle-arg2) where
         pub record After-handle-arg3·own : Type 0 where
-          pub given : s16 (before· .before .before .before .before .before .before .blocks) .gives (m13 (before· .before) (before· .handle-arg2
-              .given))
+          pub given : s16 (before· .before .before .before .before .before .before .blocks) .gives
+              (m13 (before· .before) (before· .handle-arg2 .given))
+
       pub record After-handle-arg3 : Type 0 where
         pub before : After-handle-arg2
         pub handle-arg3 : After-handle-arg3·own before
-      abbrev pub m16 : (before : After-handle-arg3) → (given : s19 (before .before .before .before .before .before .before .before .blocks) .gives
-          (m15 (before .before) (before .handle-arg3 .given))) → Typed.Mo T21
-      m16 = λ before given. s19 (before .before .before .before .before .before .before .before .blocks) .next (m15 (before .before) (before
-          .handle-arg3 .given)) given
-      abbrev pub m17 : (before : After-handle-arg3) → (given : s19 (before .before .before .before .before .before .before .before .blocks) .gives
-          (m15 (before .before) (before .handle-arg3 .given))) → Typed.Mo T22
-      m17 = λ before given. s20 (before .before .before .before .before .before .before .before .blocks) .next (m16 before given)
+
+      abbrev pub m16 : (before : After-handle-arg3) → (given : s19 (before .before .before .before .before .before
+          .before .before .blocks) .gives (m15 (before .before) (before .handle-arg3 .given))) → Typed.Mo T21
+      m16 = λ before given. s19 (before .before .before .before .before .before .before .before .blocks) .next
+          (m15 (before .before) (before .handle-arg3 .given)) given
+
+      abbrev pub m17 : (before : After-handle-arg3) → (given : s19 (before .before .before .before .before .before
+          .before .before .blocks) .gives (m15 (before .before) (before .handle-arg3 .given))) → Typed.Mo T22
+      m17 = λ before given. s20 (before .before .before .before .before .before .before .before .blocks) .next
+          (m16 before given)
+
       module _ (before· : After-handle-arg3) where
         pub record After-handle-arg4·own : Type 0 where
-          pub given : s19 (before· .before .before .before .before .before .before .before .blocks) .gives (m15 (before· .before) (before·
-              .handle-arg3 .given))
+          pub given : s19 (before· .before .before .before .before .before .before .before .blocks) .gives
+              (m15 (before· .before) (before· .handle-arg3 .given))
+
       pub record After-handle-arg4 : Type 0 where
         pub before : After-handle-arg3
         pub handle-arg4 : After-handle-arg4·own before
-      abbrev pub m18 : (before : After-handle-arg4) → (given : s22 (before .before .before .before .before .before .before .before .before .blocks)
-          .gives (m17 (before .before) (before .handle-arg4 .given))) → Typed.Mo T24
-      m18 = λ before given. s22 (before .before .before .before .before .before .before .before .before .blocks) .next (m17 (before .before) (before
-          .handle-arg4 .given)) given
-      abbrev pub m19 : (before : After-handle-arg4) → (given : s22 (before .before .before .before .before .before .before .before .before .blocks)
-          .gives (m17 (before .before) (before .handle-arg4 .given))) → Typed.Mo T25
-      m19 = λ before given. s23 (before .before .before .before .before .before .before .before .before .blocks) .next (m18 before given)
+
+      abbrev pub m18 : (before : After-handle-arg4) → (given : s22 (before .before .before .before .before .before
+          .before .before .before .blocks) .gives (m17 (before .before) (before .handle-arg4 .given))) → Typed.Mo T24
+      m18 = λ before given. s22 (before .before .before .before .before .before .before .before .before .blocks) .next
+          (m17 (before .before) (before .handle-arg4 .given)) given
+
+      abbrev pub m19 : (before : After-handle-arg4) → (given : s22 (before .before .before .before .before .before
+          .before .before .before .blocks) .gives (m17 (before .before) (before .handle-arg4 .given))) → Typed.Mo T25
+      m19 = λ before given. s23 (before .before .before .before .before .before .before .before .before .blocks) .next
+          (m18 before given)
+
       module _ (before· : After-handle-arg4) where
         pub record After-handle-arg5·own : Type 0 where
-          pub given : s22 (before· .before .before .before .before .before .before .before .before .blocks) .gives (m17 (before· .before) (before·
-              .handle-arg4 .given))
+          pub given : s22 (before· .before .before .before .before .before .before .before .before .blocks) .gives
+              (m17 (before· .before) (before· .handle-arg4 .given))
+
       pub record After-handle-arg5 : Type 0 where
         pub before : After-handle-arg4
         pub handle-arg5 : After-handle-arg5·own before
-      abbrev pub m20 : (before : After-handle-arg5) → (given : s25 (before .before .before .before .before .before .before .before .before .before
-          .blocks) .gives (m19 (before .before) (before .handle-arg5 .given))) → Typed.Mo T27
-      m20 = λ before given. s25 (before .before .before .before .before .before .before .before .before .before .blocks) .next (m19 (before .before)
-          (before .handle-arg5 .given)) given
+
+      abbrev pub m20 : (before : After-handle-arg5) → (given : s25 (before .before .before .before .before .before
+          .before .before .before .before .blocks) .gives (m19 (before .before) (before .handle-arg5 .given))) →
+          Typed.Mo T27
+      m20 = λ before given. s25 (before .before .before .before .before .before .before .before .before .before .blocks)
+          .next (m19 (before .before) (before .handle-arg5 .given)) given
+
       module _ (before· : After-handle-arg5) where
         pub record After-source·own : Type 0 where
-          pub given : s25 (before· .before .before .before .before .before .before .before .before .before .blocks) .gives (m19 (before· .before)
-              (before· .handle-arg5 .given))
+          pub given : s25 (before· .before .before .before .before .before .before .before .before .before .blocks)
+              .gives (m19 (before· .before) (before· .handle-arg5 .given))
+
       pub record After-source : Type 0 where
         pub before : After-handle-arg5
         pub source : After-source·own before
+
       abbrev pub Need-slice-aggregate-handle : Type 0
-      Need-slice-aggregate-handle = (c : After-source) → Relend.CountIs T27 24 25 (λ x. x) (λ u. 1) (m20 (c .before) (c .source .given))
-      abbrev pub m21 : (before : After-handle-arg5) → (given : s25 (before .before .before .before .before .before .before .before .before .before
-          .blocks) .gives (m19 (before .before) (before .handle-arg5 .given))) → Typed.Mo T28
-      m21 = λ before given. s26 (before .before .before .before .before .before .before .before .before .before .blocks) .next (m20 before given)
-      abbrev pub m22 : (before : After-source) → (given : s28 (before .before .before .before .before .before .before .before .before .before .before
-          .blocks) .gives (m21 (before .before) (before .source .given))) → Typed.Mo T30
-      m22 = λ before given. s28 (before .before .before .before .before .before .before .before .before .before .before .blocks) .next (m21 (before
-          .before) (before .source .given)) given
+      Need-slice-aggregate-handle = (c : After-source) → Relend.CountIs T27 24 25 (λ x. x) (λ u. 1)
+          (m20 (c .before) (c .source .given))
+
+      abbrev pub m21 : (before : After-handle-arg5) → (given : s25 (before .before .before .before .before .before
+          .before .before .before .before .blocks) .gives (m19 (before .before) (before .handle-arg5 .given))) →
+          Typed.Mo T28
+      m21 = λ before given. s26 (before .before .before .before .before .before .before .before .before .before .blocks)
+          .next (m20 before given)
+
+      abbrev pub m22 : (before : After-source) → (given : s28 (before .before .before .before .before .before .before
+          .before .before .before .before .blocks) .gives (m21 (before .before) (before .source .given))) → Typed.Mo
+          T30
+      m22 = λ before given. s28 (before .before .before .before .before .before .before .before .before .before .before
+          .blocks) .next (m21 (before .before) (before .source .given)) given
+
       module _ (before· : After-source) where
         pub record After-none·own : Type 0 where
-          pub given : s28 (before· .before .before .before .before .before .before .before .before .before .before .blocks) .gives (m21 (before·
-              .before) (before· .source .given))
+          pub given : s28 (before· .before .before .before .before .before .before .before .before .before .before
+              .blocks) .gives (m21 (before· .before) (before· .source .given))
+
       pub record After-none : Type 0 where
         pub before : After-source
         pub none : After-none·own before
+
       abbrev pub Need-slice-aggregate-handle-2 : Type 0
-      Need-slice-aggregate-handle-2 = (c : After-none) → Relend.CountIs T30 26 27 (λ x. x) (λ u. 1) (m22 (c .before) (c .none .given))
-      abbrev pub m23 : (before : After-source) → (given : s28 (before .before .before .before .before .before .before .before .before .before .before
-          .blocks) .gives (m21 (before .before) (before .source .given))) → Typed.Mo T31
-      m23 = λ before given. s29 (before .before .before .before .before .before .before .before .before .before .before .blocks) .next (m22 before
-          given)
-      abbrev pub m24 : (before : After-none) → (given : s30 (before .before .before .before .before .before .before .before .before .before .before
-          .before .blocks) .gives (m23 (before .before) (before .none .given))) → Typed.Mo T32
-      m24 = λ before given. s30 (before .before .before .before .before .before .before .before .before .before .before .before .blocks) .next (m23
-          (before .before) (before .none .given)) given
+      Need-slice-aggregate-handle-2 = (c : After-none) → Relend.CountIs T30 26 27 (λ x. x) (λ u. 1)
+          (m22 (c .before) (c .none .given))
+
+      abbrev pub m23 : (before : After-source) → (given : s28 (before .before .before .before .before .before .before
+          .before .before .before .before .blocks) .gives (m21 (before .before) (before .source .given))) → Typed.Mo
+          T31
+      m23 = λ before given. s29 (before .before .before .before .before .before .before .before .before .before .before
+          .blocks) .next (m22 before given)
+
+      abbrev pub m24 : (before : After-none) → (given : s30 (before .before .before .before .before .before .before
+          .before .before .before .before .before .blocks) .gives (m23 (before .before) (before .none .given))) →
+          Typed.Mo T32
+      m24 = λ before given. s30 (before .before .before .before .before .before .before .before .before .before .before
+          .before .blocks) .next (m23 (before .before) (before .none .given)) given
+
       module _ (before· : After-none) where
         pub record After-handle-arg6·own : Type 0 where
-          pub given : s30 (before· .before .before .before .before .before .before .before .before .before .before .before .blocks) .gives (m23
-              (before· .before) (before· .none .given))
+          pub given : s30 (before· .before .before .before .before .before .before .before .before .before .before
+              .before .blocks) .gives (m23 (before· .before) (before· .none .given))
+
       pub record After-handle-arg6 : Type 0 where
         pub before : After-none
         pub handle-arg6 : After-handle-arg6·own before
+
       abbrev pub Need-slice-aggregate-handle-3 : Type 0
-      Need-slice-aggregate-handle-3 = (c : After-handle-arg6) → Relend.CountIs T32 28 29 (λ x. x) (λ u. 1) (m24 (c .before) (c .handle-arg6 .given))
-      abbrev pub m25 : (before : After-none) → (given : s30 (before .before .before .before .before .before .before .before .before .before .before
-          .before .blocks) .gives (m23 (before .before) (before .none .given))) → Typed.Mo T33
-      m25 = λ before given. s31 (before .before .before .before .before .before .before .before .before .before .before .before .blocks) .next (m24
-          before given)
+      Need-slice-aggregate-handle-3 = (c : After-handle-arg6) → Relend.CountIs T32 28 29 (λ x. x) (λ u. 1)
+          (m24 (c .before) (c .handle-arg6 .given))
+
+      abbrev pub m25 : (before : After-none) → (given : s30 (before .before .before .before .before .before .before
+          .before .before .before .before .before .blocks) .gives (m23 (before .before) (before .none .given))) →
+          Typed.Mo T33
+      m25 = λ before given. s31 (before .before .before .before .before .before .before .before .before .before .before
+          .before .blocks) .next (m24 before given)
+
       abbrev pub Need-handle-requires : Type 0
-      Need-handle-requires = (c : After-handle-arg6) → s32 (c .before .before .before .before .before .before .before .before .before .before .before
-          .before .blocks) .asks (m25 (c .before) (c .handle-arg6 .given))
-      abbrev pub m26 : (before : After-handle-arg6) → (given : s32 (before .before .before .before .before .before .before .before .before .before
-          .before .before .before .blocks) .gives (m25 (before .before) (before .handle-arg6 .given))) → Typed.Mo T34
-      m26 = λ before given. s32 (before .before .before .before .before .before .before .before .before .before .before .before .before .blocks) .next
-          (m25 (before .before) (before .handle-arg6 .given)) given
+      Need-handle-requires = (c : After-handle-arg6) → s32 (c .before .before .before .before .before .before .before
+          .before .before .before .before .before .blocks) .asks (m25 (c .before) (c .handle-arg6 .given))
+
+      abbrev pub m26 : (before : After-handle-arg6) → (given : s32 (before .before .before .before .before .before
+          .before .before .before .before .before .before .before .blocks) .gives
+          (m25 (before .before) (before .handle-arg6 .given))) → Typed.Mo T34
+      m26 = λ before given. s32 (before .before .before .before .before .before .before .before .before .before .before
+          .before .before .blocks) .next (m25 (before .before) (before .handle-arg6 .given)) given
+
       module _ (before· : After-handle-arg6) where
         abbrev pub After-handle·own : Type 0
-        After-handle·own = Called.Called ps·0 r·0 (claims· .1) T33 (record { pos = 15; ty = Syntax.tyRef Syntax.erased Syntax.mut RelayPending.to; ref
-            = λ x. x; }, (record { pos = 17; ty = Syntax.tyRef Syntax.erased Syntax.mut RelayCircuit.to; ref = λ x. x; }, (record { pos = 19; ty =
-            Syntax.tyRef Syntax.erased Syntax.mut ReservationUsage.to; ref = λ x. x; }, (record { pos = 21; ty = Syntax.tyRef Syntax.erased Syntax.mut
-            InflightAction.to; ref = λ x. x; }, (record { pos = 23; ty = Syntax.tyRef Syntax.erased Syntax.mut (Syntax.tyInt Syntax.w32); ref = λ x.
-            x; }, (record { pos = 12; st = List.[]; d = 0; at = λ x. x }, (record { pos = 13; st = List.[]; d = 0; at = λ x. x }, (record { pos = 7;
-            st = List.[]; d = 0; at = λ x. x }, (record { pos = 25; ty = Syntax.tyRef Syntax.erased Syntax.imm (Syntax.tyInt Syntax.w8); ref = λ x. x;
-            }, (record { pos = 9; ty = Syntax.tyRef (Syntax.named 5) Syntax.imm (Syntax.tyInt Syntax.w8); ref = λ x. x; }, (record { pos = 27; ty =
-            Syntax.tyRef Syntax.erased Syntax.imm (Syntax.tyInt Syntax.w8); ref = λ x. x; }, (record { pos = 29; ty = Syntax.tyRef Syntax.erased
-            Syntax.imm (Syntax.tyInt Syntax.w8); ref = λ x. x; }, tt,),),),),),),),),),),),) (m25 (before· .before) (before· .handle-arg6 .given))
+        After-handle·own = Called.Called ps·0 r·0 (claims· .1) T33 (
+          record { pos = 15; ty = ref0; ref = λ x. x },
+          (
+            record { pos = 17; ty = ref1; ref = λ x. x },
+            (
+              record { pos = 19; ty = ref2; ref = λ x. x },
+              (
+                record { pos = 21; ty = ref3; ref = λ x. x },
+                (
+                  record { pos = 23; ty = ref4; ref = λ x. x },
+                  (
+                    record { pos = 12; st = List.[]; d = 0; at = λ x. x },
+                    (
+                      record { pos = 13; st = List.[]; d = 0; at = λ x. x },
+                      (
+                        record { pos = 7; st = List.[]; d = 0; at = λ x. x },
+                        (
+                          record { pos = 25; ty = ref6; ref = λ x. x },
+                          (
+                            record { pos = 9; ty = ref12; ref = λ x. x },
+                            (
+                              record { pos = 27; ty = ref6; ref = λ x. x },
+                              (record { pos = 29; ty = ref6; ref = λ x. x }, tt),
+                            ),
+                          ),
+                        ),
+                      ),
+                    ),
+                  ),
+                ),
+              ),
+            ),
+          ),
+        ) (m25 (before· .before) (before· .handle-arg6 .given))
+
       pub record After-handle : Type 0 where
         pub before : After-handle-arg6
         pub handle : After-handle·own before
-      abbrev pub After-handle·gave : (c : After-handle) → s32 (c .before .before .before .before .before .before .before .before .before .before
-          .before .before .before .blocks) .gives (m25 (c .before .before) (c .before .handle-arg6 .given))
-      After-handle·gave = λ c. Called.given ps·0 r·0 (claims· .1) T33 (record { pos = 15; ty = Syntax.tyRef Syntax.erased Syntax.mut RelayPending.to;
-          ref = λ x. x; }, (record { pos = 17; ty = Syntax.tyRef Syntax.erased Syntax.mut RelayCircuit.to; ref = λ x. x; }, (record { pos = 19; ty =
-          Syntax.tyRef Syntax.erased Syntax.mut ReservationUsage.to; ref = λ x. x; }, (record { pos = 21; ty = Syntax.tyRef Syntax.erased Syntax.mut
-          InflightAction.to; ref = λ x. x; }, (record { pos = 23; ty = Syntax.tyRef Syntax.erased Syntax.mut (Syntax.tyInt Syntax.w32); ref = λ x. x;
-          }, (record { pos = 12; st = List.[]; d = 0; at = λ x. x }, (record { pos = 13; st = List.[]; d = 0; at = λ x. x }, (record { pos = 7; st =
-          List.[]; d = 0; at = λ x. x }, (record { pos = 25; ty = Syntax.tyRef Syntax.erased Syntax.imm (Syntax.tyInt Syntax.w8); ref = λ x. x; },
-          (record { pos = 9; ty = Syntax.tyRef (Syntax.named 5) Syntax.imm (Syntax.tyInt Syntax.w8); ref = λ x. x; }, (record { pos = 27; ty =
-          Syntax.tyRef Syntax.erased Syntax.imm (Syntax.tyInt Syntax.w8); ref = λ x. x; }, (record { pos = 29; ty = Syntax.tyRef Syntax.erased
-          Syntax.imm (Syntax.tyInt Syntax.w8); ref = λ x. x; }, tt,),),),),),),),),),),),) (m25 (c .before .before) (c .before .handle-arg6 .given))
-          (c .handle)
-      abbrev pub m27 : (before : After-handle-arg6) → (given : s32 (before .before .before .before .before .before .before .before .before .before
-          .before .before .before .blocks) .gives (m25 (before .before) (before .handle-arg6 .given))) → Typed.Mo T35
-      m27 = λ before given. s33 (before .before .before .before .before .before .before .before .before .before .before .before .before .blocks) (m26
-          before given)
-      abbrev pub m28 : (before : After-handle-arg6) → (given : s32 (before .before .before .before .before .before .before .before .before .before
-          .before .before .before .blocks) .gives (m25 (before .before) (before .handle-arg6 .given))) → Typed.Mo T36
-      m28 = λ before given. s34 (before .before .before .before .before .before .before .before .before .before .before .before .before .blocks) (m27
-          before given)
-      abbrev pub m29 : (before : After-handle-arg6) → (given : s32 (before .before .before .before .before .before .before .before .before .before
-          .before .before .before .blocks) .gives (m25 (before .before) (before .handle-arg6 .given))) → Typed.Mo T37
-      m29 = λ before given. s35 (before .before .before .before .before .before .before .before .before .before .before .before .before .blocks) (m28
-          before given)
-      abbrev pub m30 : (before : After-handle-arg6) → (given : s32 (before .before .before .before .before .before .before .before .before .before
-          .before .before .before .blocks) .gives (m25 (before .before) (before .handle-arg6 .given))) → Typed.Mo T38
-      m30 = λ before given. s36 (before .before .before .before .before .before .before .before .before .before .before .before .before .blocks) (m29
-          before given)
-      abbrev pub m31 : (before : After-handle-arg6) → (given : s32 (before .before .before .before .before .before .before .before .before .before
-          .before .before .before .blocks) .gives (m25 (before .before) (before .handle-arg6 .given))) → Typed.Mo T39
-      m31 = λ before given. s37 (before .before .before .before .before .before .before .before .before .before .before .before .before .blocks) (m30
-          before given)
-      abbrev pub m32 : (before : After-handle-arg6) → (given : s32 (before .before .before .before .before .before .before .before .before .before
-          .before .before .before .blocks) .gives (m25 (before .before) (before .handle-arg6 .given))) → Typed.Mo T40
-      m32 = λ before given. s38 (before .before .before .before .before .before .before .before .before .before .before .before .before .blocks) (m31
-          before given)
-      abbrev pub m33 : (before : After-handle) → (given : s40 (before .before .before .before .before .before .before .before .before .before .before
-          .before .before .before .blocks) .gives (m32 (before .before) (After-handle·gave before))) → Typed.Mo T42
-      m33 = λ before given. s40 (before .before .before .before .before .before .before .before .before .before .before .before .before .before
-          .blocks) .next (m32 (before .before) (After-handle·gave before)) given
+
+      abbrev pub After-handle·gave : (c : After-handle) → s32 (c .before .before .before .before .before .before
+          .before .before .before .before .before .before .before .blocks) .gives
+          (m25 (c .before .before) (c .before .handle-arg6 .given))
+      After-handle·gave = λ c. Called.given ps·0 r·0 (claims· .1) T33 (
+        record { pos = 15; ty = ref0; ref = λ x. x },
+        (
+          record { pos = 17; ty = ref1; ref = λ x. x },
+          (
+            record { pos = 19; ty = ref2; ref = λ x. x },
+            (
+              record { pos = 21; ty = ref3; ref = λ x. x },
+              (
+                record { pos = 23; ty = ref4; ref = λ x. x },
+                (
+                  record { pos = 12; st = List.[]; d = 0; at = λ x. x },
+                  (
+                    record { pos = 13; st = List.[]; d = 0; at = λ x. x },
+                    (
+                      record { pos = 7; st = List.[]; d = 0; at = λ x. x },
+                      (
+                        record { pos = 25; ty = ref6; ref = λ x. x },
+                        (
+                          record { pos = 9; ty = ref12; ref = λ x. x },
+                          (
+                            record { pos = 27; ty = ref6; ref = λ x. x },
+                            (record { pos = 29; ty = ref6; ref = λ x. x }, tt),
+                          ),
+                        ),
+                      ),
+                    ),
+                  ),
+                ),
+              ),
+            ),
+          ),
+        ),
+      ) (m25 (c .before .before) (c .before .handle-arg6 .given)) (c .handle)
+
+      abbrev pub m27 : (before : After-handle-arg6) → (given : s32 (before .before .before .before .before .before
+          .before .before .before .before .before .before .before .blocks) .gives
+          (m25 (before .before) (before .handle-arg6 .given))) → Typed.Mo T35
+      m27 = λ before given. s33 (before .before .before .before .before .before .before .before .before .before .before
+          .before .before .blocks) (m26 before given)
+
+      abbrev pub m28 : (before : After-handle-arg6) → (given : s32 (before .before .before .before .before .before
+          .before .before .before .before .before .before .before .blocks) .gives
+          (m25 (before .before) (before .handle-arg6 .given))) → Typed.Mo T36
+      m28 = λ before given. s34 (before .before .before .before .before .before .before .before .before .before .before
+          .before .before .blocks) (m27 before given)
+
+      abbrev pub m29 : (before : After-handle-arg6) → (given : s32 (before .before .before .before .before .before
+          .before .before .before .before .before .before .before .blocks) .gives
+          (m25 (before .before) (before .handle-arg6 .given))) → Typed.Mo T37
+      m29 = λ before given. s35 (before .before .before .before .before .before .before .before .before .before .before
+          .before .before .blocks) (m28 before given)
+
+      abbrev pub m30 : (before : After-handle-arg6) → (given : s32 (before .before .before .before .before .before
+          .before .before .before .before .before .before .before .blocks) .gives
+          (m25 (before .before) (before .handle-arg6 .given))) → Typed.Mo T38
+      m30 = λ before given. s36 (before .before .before .before .before .before .before .before .before .before .before
+          .before .before .blocks) (m29 before given)
+
+      abbrev pub m31 : (before : After-handle-arg6) → (given : s32 (before .before .before .before .before .before
+          .before .before .before .before .before .before .before .blocks) .gives
+          (m25 (before .before) (before .handle-arg6 .given))) → Typed.Mo T39
+      m31 = λ before given. s37 (before .before .before .before .before .before .before .before .before .before .before
+          .before .before .blocks) (m30 before given)
+
+      abbrev pub m32 : (before : After-handle-arg6) → (given : s32 (before .before .before .before .before .before
+          .before .before .before .before .before .before .before .blocks) .gives
+          (m25 (before .before) (before .handle-arg6 .given))) → Typed.Mo T40
+      m32 = λ before given. s38 (before .before .before .before .before .before .before .before .before .before .before
+          .before .before .blocks) (m31 before given)
+
+      abbrev pub m33 : (before : After-handle) → (given : s40 (before .before .before .before .before .before .before
+          .before .before .before .before .before .before .before .blocks) .gives
+          (m32 (before .before) (After-handle·gave before))) → Typed.Mo T42
+      m33 = λ before given. s40 (before .before .before .before .before .before .before .before .before .before .before
+          .before .before .before .blocks) .next (m32 (before .before) (After-handle·gave before)) given
+
       module _ (before· : After-handle) where
         pub record After-pending·own : Type 0 where
-          pub given : s40 (before· .before .before .before .before .before .before .before .before .before .before .before .before .before .blocks)
-              .gives (m32 (before· .before) (After-handle·gave before·))
+          pub given : s40 (before· .before .before .before .before .before .before .before .before .before .before
+              .before .before .before .blocks) .gives (m32 (before· .before) (After-handle·gave before·))
+
       pub record After-pending : Type 0 where
         pub before : After-handle
         pub pending : After-pending·own before
-      abbrev pub m34 : (before : After-pending) → (given : s43 (before .before .before .before .before .before .before .before .before .before .before
-          .before .before .before .before .blocks) .gives (m33 (before .before) (before .pending .given))) → Typed.Mo T45
-      m34 = λ before given. s43 (before .before .before .before .before .before .before .before .before .before .before .before .before .before
-          .before .blocks) .next (m33 (before .before) (before .pending .given)) given
+
+      abbrev pub m34 : (before : After-pending) → (given : s43 (before .before .before .before .before .before .before
+          .before .before .before .before .before .before .before .before .blocks) .gives
+          (m33 (before .before) (before .pending .given))) → Typed.Mo T45
+      m34 = λ before given. s43 (before .before .before .before .before .before .before .before .before .before .before
+          .before .before .before .before .blocks) .next (m33 (before .before) (before .pending .given)) given
+
       module _ (before· : After-pending) where
         pub record After-circuits·own : Type 0 where
-          pub given : s43 (before· .before .before .before .before .before .before .before .before .before .before .before .before .before .before
-              .blocks) .gives (m33 (before· .before) (before· .pending .given))
+          pub given : s43 (before· .before .before .before .before .before .before .before .before .before .before
+              .before .before .before .before .blocks) .gives (m33 (before· .before) (before· .pending .given))
+
       pub record After-circuits : Type 0 where
         pub before : After-pending
         pub circuits : After-circuits·own before
-      abbrev pub m35 : (before : After-circuits) → (given : s46 (before .before .before .before .before .before .before .before .before .before
-          .before .before .before .before .before .before .blocks) .gives (m34 (before .before) (before .circuits .given))) → Typed.Mo T48
-      m35 = λ before given. s46 (before .before .before .before .before .before .before .before .before .before .before .before .before .before
-          .before .before .blocks) .next (m34 (before .before) (before .circuits .given)) given
+
+      abbrev pub m35 : (before : After-circuits) → (given : s46 (before .before .before .before .before .before .before
+          .before .before .before .before .before .before .before .before .before .blocks) .gives
+          (m34 (before .before) (before .circuits .given))) → Typed.Mo T48
+      m35 = λ before given. s46 (before .before .before .before .before .before .before .before .before .before .before
+          .before .before .before .before .before .blocks) .next (m34 (before .before) (before .circuits .given)) given
+
       module _ (before· : After-circuits) where
         pub record After-ledger·own : Type 0 where
-          pub given : s46 (before· .before .before .before .before .before .before .before .before .before .before .before .before .before .before
-              .before .blocks) .gives (m34 (before· .before) (before· .circuits .given))
+          pub given : s46 (before· .before .before .before .before .before .before .before .before .before .before
+              .before .before .before .before .before .blocks) .gives
+              (m34 (before· .before) (before· .circuits .given))
+
       pub record After-ledger : Type 0 where
         pub before : After-circuits
         pub ledger : After-ledger·own before
-      abbrev pub m36 : (before : After-ledger) → (given : s49 (before .before .before .before .before .before .before .before .before .before .before
-          .before .before .before .before .before .before .blocks) .gives (m35 (before .before) (before .ledger .given))) → Typed.Mo T51
-      m36 = λ before given. s49 (before .before .before .before .before .before .before .before .before .before .before .before .before .before
-          .before .before .before .blocks) .next (m35 (before .before) (before .ledger .given)) given
+
+      abbrev pub m36 : (before : After-ledger) → (given : s49 (before .before .before .before .before .before .before
+          .before .before .before .before .before .before .before .before .before .before .blocks) .gives
+          (m35 (before .before) (before .ledger .given))) → Typed.Mo T51
+      m36 = λ before given. s49 (before .before .before .before .before .before .before .before .before .before .before
+          .before .before .before .before .before .before .blocks) .next (m35 (before .before) (before .ledger .given))
+          given
+
       module _ (before· : After-ledger) where
         pub record After-inflight·own : Type 0 where
-          pub given : s49 (before· .before .before .before .before .before .before .before .before .before .before .before .before .before .before
-              .before .before .blocks) .gives (m35 (before· .before) (before· .ledger .given))
+          pub given : s49 (before· .before .before .before .before .before .before .before .before .before .before
+              .before .before .before .before .before .before .blocks) .gives
+              (m35 (before· .before) (before· .ledger .given))
+
       pub record After-inflight : Type 0 where
         pub before : After-ledger
         pub inflight : After-inflight·own before
-      abbrev pub m37 : (before : After-inflight) → (given : s52 (before .before .before .before .before .before .before .before .before .before
-          .before .before .before .before .before .before .before .before .blocks) .gives (m36 (before .before) (before .inflight .given))) → Typed.Mo
-          T54
-      m37 = λ before given. s52 (before .before .before .before .before .before .before .before .before .before .before .before .before .before
-          .before .before .before .before .blocks) .next (m36 (before .before) (before .inflight .given)) given
+
+      abbrev pub m37 : (before : After-inflight) → (given : s52 (before .before .before .before .before .before .before
+          .before .before .before .before .before .before .before .before .before .before .before .blocks) .gives
+          (m36 (before .before) (before .inflight .given))) → Typed.Mo T54
+      m37 = λ before given. s52 (before .before .before .before .before .before .before .before .before .before .before
+          .before .before .before .before .before .before .before .blocks) .next
+          (m36 (before .before) (before .inflight .given)) given
+
       module _ (before· : After-inflight) where
         pub record After-out·own : Type 0 where
-          pub given : s52 (before· .before .before .before .before .before .before .before .before .before .before .before .before .before .before
-              .before .before .before .blocks) .gives (m36 (before· .before) (before· .inflight .given))
+          pub given : s52 (before· .before .before .before .before .before .before .before .before .before .before
+              .before .before .before .before .before .before .before .blocks) .gives
+              (m36 (before· .before) (before· .inflight .given))
+
       pub record After-out : Type 0 where
         pub before : After-inflight
         pub out : After-out·own before
-      abbrev pub m38 : (before : After-out) → (given : s53 (before .before .before .before .before .before .before .before .before .before .before
-          .before .before .before .before .before .before .before .before .blocks) .gives (m37 (before .before) (before .out .given))) → Typed.Mo T55
-      m38 = λ before given. s53 (before .before .before .before .before .before .before .before .before .before .before .before .before .before
-          .before .before .before .before .before .blocks) .next (m37 (before .before) (before .out .given)) given
-      abbrev pub m39 : (before : After-out) → (given : s53 (before .before .before .before .before .before .before .before .before .before .before
-          .before .before .before .before .before .before .before .before .blocks) .gives (m37 (before .before) (before .out .given))) → Typed.Mo T58
-      m39 = λ before given. s56 (before .before .before .before .before .before .before .before .before .before .before .before .before .before
-          .before .before .before .before .before .blocks) (m38 before given)
-      abbrev pub m40 : (before : After-out) → (given : s53 (before .before .before .before .before .before .before .before .before .before .before
-          .before .before .before .before .before .before .before .before .blocks) .gives (m37 (before .before) (before .out .given))) → Typed.Mo T60
-      m40 = λ before given. s58 (before .before .before .before .before .before .before .before .before .before .before .before .before .before
-          .before .before .before .before .before .blocks) (m39 before given)
-      abbrev pub m41 : (before : After-out) → (given : s53 (before .before .before .before .before .before .before .before .before .before .before
-          .before .before .before .before .before .before .before .before .blocks) .gives (m37 (before .before) (before .out .given))) → Typed.Mo T62
-      m41 = λ before given. s60 (before .before .before .before .before .before .before .before .before .before .before .before .before .before
-          .before .before .before .before .before .blocks) (m40 before given)
-      abbrev pub m42 : (before : After-out) → (given : s53 (before .before .before .before .before .before .before .before .before .before .before
-          .before .before .before .before .before .before .before .before .blocks) .gives (m37 (before .before) (before .out .given))) → Typed.Mo T64
-      m42 = λ before given. s62 (before .before .before .before .before .before .before .before .before .before .before .before .before .before
-          .before .before .before .before .before .blocks) (m41 before given)
-      abbrev pub m43 : (before : After-out) → (given : s53 (before .before .before .before .before .before .before .before .before .before .before
-          .before .before .before .before .before .before .before .before .blocks) .gives (m37 (before .before) (before .out .given))) → Typed.Mo T65
-      m43 = λ before given. s63 (before .before .before .before .before .before .before .before .before .before .before .before .before .before
-          .before .before .before .before .before .blocks) (m42 before given)
+
+      abbrev pub m38 : (before : After-out) → (given : s53 (before .before .before .before .before .before .before
+          .before .before .before .before .before .before .before .before .before .before .before .before .blocks)
+          .gives (m37 (before .before) (before .out .given))) → Typed.Mo T55
+      m38 = λ before given. s53 (before .before .before .before .before .before .before .before .before .before .before
+          .before .before .before .before .before .before .before .before .blocks) .next
+          (m37 (before .before) (before .out .given)) given
+
+      abbrev pub m39 : (before : After-out) → (given : s53 (before .before .before .before .before .before .before
+          .before .before .before .before .before .before .before .before .before .before .before .before .blocks)
+          .gives (m37 (before .before) (before .out .given))) → Typed.Mo T58
+      m39 = λ before given. s56 (before .before .before .before .before .before .before .before .before .before .before
+          .before .before .before .before .before .before .before .before .blocks) (m38 before given)
+
+      abbrev pub m40 : (before : After-out) → (given : s53 (before .before .before .before .before .before .before
+          .before .before .before .before .before .before .before .before .before .before .before .before .blocks)
+          .gives (m37 (before .before) (before .out .given))) → Typed.Mo T60
+      m40 = λ before given. s58 (before .before .before .before .before .before .before .before .before .before .before
+          .before .before .before .before .before .before .before .before .blocks) (m39 before given)
+
+      abbrev pub m41 : (before : After-out) → (given : s53 (before .before .before .before .before .before .before
+          .before .before .before .before .before .before .before .before .before .before .before .before .blocks)
+          .gives (m37 (before .before) (before .out .given))) → Typed.Mo T62
+      m41 = λ before given. s60 (before .before .before .before .before .before .before .before .before .before .before
+          .before .before .before .before .before .before .before .before .blocks) (m40 before given)
+
+      abbrev pub m42 : (before : After-out) → (given : s53 (before .before .before .before .before .before .before
+          .before .before .before .before .before .before .before .before .before .before .before .before .blocks)
+          .gives (m37 (before .before) (before .out .given))) → Typed.Mo T64
+      m42 = λ before given. s62 (before .before .before .before .before .before .before .before .before .before .before
+          .before .before .before .before .before .before .before .before .blocks) (m41 before given)
+
+      abbrev pub m43 : (before : After-out) → (given : s53 (before .before .before .before .before .before .before
+          .before .before .before .before .before .before .before .before .before .before .before .before .blocks)
+          .gives (m37 (before .before) (before .out .given))) → Typed.Mo T65
+      m43 = λ before given. s63 (before .before .before .before .before .before .before .before .before .before .before
+          .before .before .before .before .before .before .before .before .blocks) (m42 before given)
+
       module _ (before· : After-out) where
         pub record After-slice-known2·own : Type 0 where
-          pub given : s53 (before· .before .before .before .before .before .before .before .before .before .before .before .before .before .before
-              .before .before .before .before .blocks) .gives (m37 (before· .before) (before· .out .given))
+          pub given : s53 (before· .before .before .before .before .before .before .before .before .before .before
+              .before .before .before .before .before .before .before .before .blocks) .gives
+              (m37 (before· .before) (before· .out .given))
+
       pub record After-slice-known2 : Type 0 where
         pub before : After-out
         pub slice-known2 : After-slice-known2·own before
+
       abbrev pub Need-same-length : Type 0
-      Need-same-length = (c : After-slice-known2) → MutSlice.SameLen (Row.get 1 (T65 .locals) (m43 (c .before) (c .slice-known2 .given))) (dens (c
-          .before .before .before .before .before .before .before .before .before .before .before .before .before .before .before .before .before
-          .before .before .κs) (c .before .before .before .before .before .before .before .before .before .before .before .before .before .before
-          .before .before .before .before .before .args) .0)
+      Need-same-length = (c : After-slice-known2) → MutSlice.SameLen (Row.get 1 (T65 .locals)
+          (m43 (c .before) (c .slice-known2 .given))) (dens (c .before .before .before .before .before .before .before
+          .before .before .before .before .before .before .before .before .before .before .before .before .κs) (c
+          .before .before .before .before .before .before .before .before .before .before .before .before .before
+          .before .before .before .before .before .before .args) .0)
+
       abbrev pub Need-same-length-2 : Type 0
-      Need-same-length-2 = (c : After-slice-known2) → MutSlice.SameLen (Row.get 2 (T65 .locals) (m43 (c .before) (c .slice-known2 .given))) (dens (c
-          .before .before .before .before .before .before .before .before .before .before .before .before .before .before .before .before .before
-          .before .before .κs) (c .before .before .before .before .before .before .before .before .before .before .before .before .before .before
-          .before .before .before .before .before .args) .1 .0)
+      Need-same-length-2 = (c : After-slice-known2) → MutSlice.SameLen (Row.get 2 (T65 .locals)
+          (m43 (c .before) (c .slice-known2 .given))) (dens (c .before .before .before .before .before .before .before
+          .before .before .before .before .before .before .before .before .before .before .before .before .κs) (c
+          .before .before .before .before .before .before .before .before .before .before .before .before .before
+          .before .before .before .before .before .before .args) .1 .0)
+
       abbrev pub Need-same-length-3 : Type 0
-      Need-same-length-3 = (c : After-slice-known2) → MutSlice.SameLen (Row.get 3 (T65 .locals) (m43 (c .before) (c .slice-known2 .given))) (dens (c
-          .before .before .before .before .before .before .before .before .before .before .before .before .before .before .before .before .before
-          .before .before .κs) (c .before .before .before .before .before .before .before .before .before .before .before .before .before .before
-          .before .before .before .before .before .args) .1 .1 .0)
+      Need-same-length-3 = (c : After-slice-known2) → MutSlice.SameLen (Row.get 3 (T65 .locals)
+          (m43 (c .before) (c .slice-known2 .given))) (dens (c .before .before .before .before .before .before .before
+          .before .before .before .before .before .before .before .before .before .before .before .before .κs) (c
+          .before .before .before .before .before .before .before .before .before .before .before .before .before
+          .before .before .before .before .before .before .args) .1 .1 .0)
+
       abbrev pub Need-same-length-4 : Type 0
-      Need-same-length-4 = (c : After-slice-known2) → MutSlice.SameLen (Row.get 4 (T65 .locals) (m43 (c .before) (c .slice-known2 .given))) (dens (c
-          .before .before .before .before .before .before .before .before .before .before .before .before .before .before .before .before .before
-          .before .before .κs) (c .before .before .before .before .before .before .before .before .before .before .before .before .before .before
-          .before .before .before .before .before .args) .1 .1 .1 .0)
+      Need-same-length-4 = (c : After-slice-known2) → MutSlice.SameLen (Row.get 4 (T65 .locals)
+          (m43 (c .before) (c .slice-known2 .given))) (dens (c .before .before .before .before .before .before .before
+          .before .before .before .before .before .before .before .before .before .before .before .before .κs) (c
+          .before .before .before .before .before .before .before .before .before .before .before .before .before
+          .before .before .before .before .before .before .args) .1 .1 .1 .0)
+
       abbrev pub Need-same-length-5 : Type 0
-      Need-same-length-5 = (c : After-slice-known2) → MutSlice.SameLen (Row.get 5 (T65 .locals) (m43 (c .before) (c .slice-known2 .given))) (dens (c
-          .before .before .before .before .before .before .before .before .before .before .before .before .before .before .before .before .before
-          .before .before .κs) (c .before .before .before .before .before .before .before .before .before .before .before .before .before .before
-          .before .before .before .before .before .args) .1 .1 .1 .1 .0)
+      Need-same-length-5 = (c : After-slice-known2) → MutSlice.SameLen (Row.get 5 (T65 .locals)
+          (m43 (c .before) (c .slice-known2 .given))) (dens (c .before .before .before .before .before .before .before
+          .before .before .before .before .before .before .before .before .before .before .before .before .κs) (c
+          .before .before .before .before .before .before .before .before .before .before .before .before .before
+          .before .before .before .before .before .before .args) .1 .1 .1 .1 .0)
+
       abbrev pub Need-returns : Type 0
-      Need-returns = (c : After-slice-known2) → Post· (c .before .before .before .before .before .before .before .before .before .before .before
-          .before .before .before .before .before .before .before .before .κs) (dens (c .before .before .before .before .before .before .before
-          .before .before .before .before .before .before .before .before .before .before .before .before .κs) (c .before .before .before .before
-          .before .before .before .before .before .before .before .before .before .before .before .before .before .before .before .args))
-          (Function.resV r (c .before .before .before .before .before .before .before .before .before .before .before .before .before .before .before
-          .before .before .before .before .κs) (m43 (c .before) (c .slice-known2 .given) .0)) (Clauses.atExit (Kinds.endedOf 6 ps r) (c .before
-          .before .before .before .before .before .before .before .before .before .before .before .before .before .before .before .before .before
-          .before .κs) (dens (c .before .before .before .before .before .before .before .before .before .before .before .before .before .before
-          .before .before .before .before .before .κs) (c .before .before .before .before .before .before .before .before .before .before .before
-          .before .before .before .before .before .before .before .before .args)) (Enter.lastsP (c .before .before .before .before .before .before
-          .before .before .before .before .before .before .before .before .before .before .before .before .before .κs) 1 ps xs (dens (c .before
-          .before .before .before .before .before .before .before .before .before .before .before .before .before .before .before .before .before
-          .before .κs) (c .before .before .before .before .before .before .before .before .before .before .before .before .before .before .before
-          .before .before .before .before .args)) (m43 (c .before) (c .slice-known2 .given) .1)))
-      module _ (slice-aggregate-handle : Need-slice-aggregate-handle) (slice-aggregate-handle-2 : Need-slice-aggregate-handle-2)
-          (slice-aggregate-handle-3 : Need-slice-aggregate-handle-3) (handle-requires : Need-handle-requires) (same-length : Need-same-length)
-          (same-length-2 : Need-same-length-2) (same-length-3 : Need-same-length-3) (same-length-4 : Need-same-length-4) (same-length-5 :
-          Need-same-length-5) (returns : Need-returns) where
-        lay2 : (c : After-handle) → at31 (c .before .before .before .before .before .before .before .before .before .before .before .before .before
-            .blocks) (W0 (c .before .before .before .before .before .before .before .before .before .before .before .before .before .κs) (c .before
-            .before .before .before .before .before .before .before .before .before .before .before .before .args) (c .before .before .before .before
-            .before .before .before .before .before .before .before .before .before .blocks)) (m26 (c .before) (After-handle·gave c))
-        lay2 = λ c. (Path.refl, λ g. (Path.refl, λ g'. (Path.refl, λ g''. (Path.refl, λ g'3. (Path.refl, λ g'4. λ g'5. ((MutSlice.fix-len (Row.get 1
-            (T65 .locals) (m43 record { before = record { before = record { before = record { before = record { before = record { before = c .before;
-            handle = c .handle }; pending = record { given = g }; }; circuits = record { given = g' }; }; ledger = record { given = g'' }; }; inflight
-            = record { given = g'3 }; }; out = record { given = g'4 }; } g'5) .ptr) (Row.get 1 (T65 .locals) (m43 record { before = record { before =
-            record { before = record { before = record { before = record { before = c .before; handle = c .handle }; pending = record { given = g };
-            }; circuits = record { given = g' }; }; ledger = record { given = g'' }; }; inflight = record { given = g'3 }; }; out = record { given =
-            g'4 }; } g'5) .name) (Row.get 1 (T65 .locals) (m43 record { before = record { before = record { before = record { before = record { before
-            = record { before = c .before; handle = c .handle }; pending = record { given = g }; }; circuits = record { given = g' }; }; ledger =
-            record { given = g'' }; }; inflight = record { given = g'3 }; }; out = record { given = g'4 }; } g'5) .now) (dens (c .before .before
-            .before .before .before .before .before .before .before .before .before .before .before .κs) (c .before .before .before .before .before
-            .before .before .before .before .before .before .before .before .args) .0 .now) (same-length record { before = record { before = record {
-            before = record { before = record { before = record { before = record { before = c .before; handle = c .handle }; pending = record { given
-            = g }; }; circuits = record { given = g' }; }; ledger = record { given = g'' }; }; inflight = record { given = g'3 }; }; out = record {
-            given = g'4 }; }; slice-known2 = record { given = g'5 }; }), (MutSlice.fix-len (Row.get 2 (T65 .locals) (m43 record { before = record {
-            before = record { before = record { before = record { before = record { before = c .before; handle = c .handle }; pending = record { given
-            = g }; }; circuits = record { given = g' }; }; ledger = record { given = g'' }; }; inflight = record { given = g'3 }; }; out = record {
-            given = g'4 }; } g'5) .ptr) (Row.get 2 (T65 .locals) (m43 record { before = record { before = record { before = record { before = record {
-            before = record { before = c .before; handle = c .handle }; pending = record { given = g }; }; circuits = record { given = g' }; }; ledger
-            = record { given = g'' }; }; inflight = record { given = g'3 }; }; out = record { given = g'4 }; } g'5) .name) (Row.get 2 (T65 .locals)
-            (m43 record { before = record { before = record { before = record { before = record { before = record { before = c .before; handle = c
-            .handle }; pending = record { given = g }; }; circuits = record { given = g' }; }; ledger = record { given = g'' }; }; inflight = record {
-            given = g'3 }; }; out = record { given = g'4 }; } g'5) .now) (dens (c .before .before .before .before .before .before .before .before
-            .before .before .before .before .before .κs) (c .before .before .before .before .before .before .before .before .before .before .before
-            .before .before .args) .1 .0 .now) (same-length-2 record { before = record { before = record { before = record { before = record { before
-            = record { before = record { before = c .before; handle = c .handle; }; pending = record { given = g }; }; circuits = record { given = g'
-            }; }; ledger = record { given = g'' }; }; inflight = record { given = g'3 }; }; out = record { given = g'4 }; }; slice-known2 = record {
-            given = g'5 }; }), (MutSlice.fix-len (Row.get 3 (T65 .locals) (m43 record { before = record { before = record { before = record { before =
-            record { before = record { before = c .before; handle = c .handle }; pending = record { given = g }; }; circuits = record { given = g' };
-            }; ledger = record { given = g'' }; }; inflight = record { given = g'3 }; }; out = record { given = g'4 }; } g'5) .ptr) (Row.get 3 (T65
-            .locals) (m43 record { before = record { before = record { before = record { before = record { before = record { before = c .before;
-            handle = c .handle }; pending = record { given = g }; }; circuits = record { given = g' }; }; ledger = record { given = g'' }; }; inflight
-            = record { given = g'3 }; }; out = record { given = g'4 }; } g'5) .name) (Row.get 3 (T65 .locals) (m43 record { before = record { before =
-            record { before = record { before = record { before = record { before = c .before; handle = c .handle }; pending = record { given = g };
-            }; circuits = record { given = g' }; }; ledger = record { given = g'' }; }; inflight = record { given = g'3 }; }; out = record { given =
-            g'4 }; } g'5) .now) (dens (c .before .before .before .before .before .before .before .before .before .before .before .before .before .κs)
-            (c .before .before .before .before .before .before .before .before .before .before .before .before .before .args) .1 .1 .0 .now)
-            (same-length-3 record { before = record { before = record { before = record { before = record { before = record { before = record { before
-            = c .before; handle = c .handle; }; pending = record { given = g }; }; circuits = record { given = g' }; }; ledger = record { given = g''
-            }; }; inflight = record { given = g'3 }; }; out = record { given = g'4 }; }; slice-known2 = record { given = g'5 }; }), (MutSlice.fix-len
-            (Row.get 4 (T65 .locals) (m43 record { before = record { before = record { before = record { before = record { before = record { before =
-            c .before; handle = c .handle }; pending = record { given = g }; }; circuits = record { given = g' }; }; ledger = record { given = g'' };
-            }; inflight = record { given = g'3 }; }; out = record { given = g'4 }; } g'5) .ptr) (Row.get 4 (T65 .locals) (m43 record { before = record
-            { before = record { before = record { before = record { before = record { before = c .before; handle = c .handle }; pending = record {
-            given = g }; }; circuits = record { given = g' }; }; ledger = record { given = g'' }; }; inflight = record { given = g'3 }; }; out =
-            record { given = g'4 }; } g'5) .name) (Row.get 4 (T65 .locals) (m43 record { before = record { before = record { before = record { before
-            = record { before = record { before = c .before; handle = c .handle }; pending = record { given = g }; }; circuits = record { given = g'
-            }; }; ledger = record { given = g'' }; }; inflight = record { given = g'3 }; }; out = record { given = g'4 }; } g'5) .now) (dens (c
-            .before .before .before .before .before .before .before .before .before .before .before .before .before .κs) (c .before .before .before
-            .before .before .before .before .before .before .before .before .before .before .args) .1 .1 .1 .0 .now) (same-length-4 record { before =
-            record { before = record { before = record { before = record { before = record { before = record { before = c .before; handle = c .handle;
-            }; pending = record { given = g }; }; circuits = record { given = g' }; }; ledger = record { given = g'' }; }; inflight = record { given =
-            g'3 }; }; out = record { given = g'4 }; }; slice-known2 = record { given = g'5 }; }), (MutSlice.fix-len (Row.get 5 (T65 .locals) (m43
-            record { before = record { before = record { before = record { before = record { before = record { before = c .before; handle = c .handle;
-            }; pending = record { given = g }; }; circuits = record { given = g' }; }; ledger = record { given = g'' }; }; inflight = record { given =
-            g'3 }; }; out = record { given = g'4 }; } g'5) .ptr) (Row.get 5 (T65 .locals) (m43 record { before = record { before = record { before =
-            record { before = record { before = record { before = c .before; handle = c .handle; }; pending = record { given = g }; }; circuits =
-            record { given = g' }; }; ledger = record { given = g'' }; }; inflight = record { given = g'3 }; }; out = record { given = g'4 }; } g'5)
-            .name) (Row.get 5 (T65 .locals) (m43 record { before = record { before = record { before = record { before = record { before = record {
-            before = c .before; handle = c .handle; }; pending = record { given = g }; }; circuits = record { given = g' }; }; ledger = record { given
-            = g'' }; }; inflight = record { given = g'3 }; }; out = record { given = g'4 }; } g'5) .now) (dens (c .before .before .before .before
-            .before .before .before .before .before .before .before .before .before .κs) (c .before .before .before .before .before .before .before
-            .before .before .before .before .before .before .args) .1 .1 .1 .1 .0 .now) (same-length-5 record { before = record { before = record {
-            before = record { before = record { before = record { before = record { before = c .before; handle = c .handle; }; pending = record {
-            given = g }; }; circuits = record { given = g' }; }; ledger = record { given = g'' }; }; inflight = record { given = g'3 }; }; out =
-            record { given = g'4 }; }; slice-known2 = record { given = g'5 }; }), (tt, (tt, (tt, (Path.refl, tt)))),),),),),), returns record { before
-            = record { before = record { before = record { before = record { before = record { before = record { before = c .before; handle = c
-            .handle }; pending = record { given = g }; }; circuits = record { given = g' }; }; ledger = record { given = g'' }; }; inflight = record {
-            given = g'3 }; }; out = record { given = g'4 }; }; slice-known2 = record { given = g'5 }; },),),),),),)
-        lay1 : (c : After-handle-arg6) → at32 (c .before .before .before .before .before .before .before .before .before .before .before .before
-            .blocks) (W0 (c .before .before .before .before .before .before .before .before .before .before .before .before .κs) (c .before .before
-            .before .before .before .before .before .before .before .before .before .before .args) (c .before .before .before .before .before .before
-            .before .before .before .before .before .before .blocks)) (m25 (c .before) (c .handle-arg6 .given))
-        lay1 = λ c. (handle-requires record { before = c .before; handle-arg6 = c .handle-arg6 }, λ g. lay2 record { before = record { before = c
-            .before; handle-arg6 = c .handle-arg6 }; handle = Called.called ps·0 r·0 (claims· .1) T33 (record { pos = 15; ty = Syntax.tyRef
-            Syntax.erased Syntax.mut RelayPending.to; ref = λ x. x; }, (record { pos = 17; ty = Syntax.tyRef Syntax.erased Syntax.mut RelayCircuit.to;
-            ref = λ x. x; }, (record { pos = 19; ty = Syntax.tyRef Syntax.erased Syntax.mut ReservationUsage.to; ref = λ x. x; }, (record { pos = 21;
-            ty = Syntax.tyRef Syntax.erased Syntax.mut InflightAction.to; ref = λ x. x; }, (record { pos = 23; ty = Syntax.tyRef Syntax.erased
-            Syntax.mut (Syntax.tyInt Syntax.w32); ref = λ x. x; }, (record { pos = 12; st = List.[]; d = 0; at = λ x. x }, (record { pos = 13; st =
-            List.[]; d = 0; at = λ x. x }, (record { pos = 7; st = List.[]; d = 0; at = λ x. x }, (record { pos = 25; ty = Syntax.tyRef Syntax.erased
-            Syntax.imm (Syntax.tyInt Syntax.w8); ref = λ x. x; }, (record { pos = 9; ty = Syntax.tyRef (Syntax.named 5) Syntax.imm (Syntax.tyInt
-            Syntax.w8); ref = λ x. x; }, (record { pos = 27; ty = Syntax.tyRef Syntax.erased Syntax.imm (Syntax.tyInt Syntax.w8); ref = λ x. x; },
-            (record { pos = 29; ty = Syntax.tyRef Syntax.erased Syntax.imm (Syntax.tyInt Syntax.w8); ref = λ x. x; }, tt,),),),),),),),),),),),) (m25
-            (c .before) (c .handle-arg6 .given)) g; },)
+      Need-returns = (c : After-slice-known2) → Post· (c .before .before .before .before .before .before .before
+          .before .before .before .before .before .before .before .before .before .before .before .before .κs) (dens (c
+          .before .before .before .before .before .before .before .before .before .before .before .before .before
+          .before .before .before .before .before .before .κs) (c .before .before .before .before .before .before
+          .before .before .before .before .before .before .before .before .before .before .before .before .before
+          .args)) (Function.resV r (c .before .before .before .before .before .before .before .before .before .before
+          .before .before .before .before .before .before .before .before .before .κs)
+          (m43 (c .before) (c .slice-known2 .given) .0)) (Clauses.atExit (Kinds.endedOf 6 ps r) (c .before .before
+          .before .before .before .before .before .before .before .before .before .before .before .before .before
+          .before .before .before .before .κs) (dens (c .before .before .before .before .before .before .before .before
+          .before .before .before .before .before .before .before .before .before .before .before .κs) (c .before
+          .before .before .before .before .before .before .before .before .before .before .before .before .before
+          .before .before .before .before .before .args)) (Enter.lastsP (c .before .before .before .before .before
+          .before .before .before .before .before .before .before .before .before .before .before .before .before
+          .before .κs) 1 ps xs (dens (c .before .before .before .before .before .before .before .before .before .before
+          .before .before .before .before .before .before .before .before .before .κs) (c .before .before .before
+          .before .before .before .before .before .before .before .before .before .before .before .before .before
+          .before .before .before .args)) (m43 (c .before) (c .slice-known2 .given) .1)))
+
+      module _ (slice-aggregate-handle : Need-slice-aggregate-handle)
+          (slice-aggregate-handle-2 : Need-slice-aggregate-handle-2)
+          (slice-aggregate-handle-3 : Need-slice-aggregate-handle-3) (handle-requires : Need-handle-requires)
+          (same-length : Need-same-length) (same-length-2 : Need-same-length-2) (same-length-3 : Need-same-length-3)
+          (same-length-4 : Need-same-length-4) (same-length-5 : Need-same-length-5) (returns : Need-returns) where
+        lay2 : (c : After-handle) → at31 (c .before .before .before .before .before .before .before .before .before
+            .before .before .before .before .blocks) (W0 (c .before .before .before .before .before .before .before
+            .before .before .before .before .before .before .κs) (c .before .before .before .before .before .before
+            .before .before .before .before .before .before .before .args) (c .before .before .before .before .before
+            .before .before .before .before .before .before .before .before .blocks))
+            (m26 (c .before) (After-handle·gave c))
+        lay2 = λ c. (
+          Path.refl,
+          λ g. (
+            Path.refl,
+            λ g'. (
+              Path.refl,
+              λ g''. (
+                Path.refl,
+                λ g'3. (
+                  Path.refl,
+                  λ g'4. λ g'5. (
+                    (
+                      MutSlice.fix-len (Row.get 1 (T65 .locals) (m43
+                          record {
+                            before = record {
+                              before = record {
+                                before = record {
+                                  before = record {
+                                    before = record { before = c .before; handle = c .handle };
+                                    pending = record { given = g };
+                                  };
+                                  circuits = record { given = g' };
+                                };
+                                ledger = record { given = g'' };
+                              };
+                              inflight = record { given = g'3 };
+                            };
+                            out = record { given = g'4 };
+                          } g'5) .ptr) (Row.get 1 (T65 .locals) (m43
+                          record {
+                            before = record {
+                              before = record {
+                                before = record {
+                                  before = record {
+                                    before = record { before = c .before; handle = c .handle };
+                                    pending = record { given = g };
+                                  };
+                                  circuits = record { given = g' };
+                                };
+                                ledger = record { given = g'' };
+                              };
+                              inflight = record { given = g'3 };
+                            };
+                            out = record { given = g'4 };
+                          } g'5) .name) (Row.get 1 (T65 .locals) (m43
+                          record {
+                            before = record {
+                              before = record {
+                                before = record {
+                                  before = record {
+                                    before = record { before = c .before; handle = c .handle };
+                                    pending = record { given = g };
+                                  };
+                                  circuits = record { given = g' };
+                                };
+                                ledger = record { given = g'' };
+                              };
+                              inflight = record { given = g'3 };
+                            };
+                            out = record { given = g'4 };
+                          } g'5) .now) (dens (c .before .before .before .before .before .before .before .before .before
+                          .before .before .before .before .κs) (c .before .before .before .before .before .before
+                          .before .before .before .before .before .before .before .args) .0 .now) (same-length
+                          record {
+                            before = record {
+                              before = record {
+                                before = record {
+                                  before = record {
+                                    before = record {
+                                      before = record { before = c .before; handle = c .handle };
+                                      pending = record { given = g };
+                                    };
+                                    circuits = record { given = g' };
+                                  };
+                                  ledger = record { given = g'' };
+                                };
+                                inflight = record { given = g'3 };
+                              };
+                              out = record { given = g'4 };
+                            };
+                            slice-known2 = record { given = g'5 };
+                          }),
+                      (
+                        MutSlice.fix-len (Row.get 2 (T65 .locals) (m43
+                            record {
+                              before = record {
+                                before = record {
+                                  before = record {
+                                    before = record {
+                                      before = record { before = c .before; handle = c .handle };
+                                      pending = record { given = g };
+                                    };
+                                    circuits = record { given = g' };
+                                  };
+                                  ledger = record { given = g'' };
+                                };
+                                inflight = record { given = g'3 };
+                              };
+                              out = record { given = g'4 };
+                            } g'5) .ptr) (Row.get 2 (T65 .locals) (m43
+                            record {
+                              before = record {
+                                before = record {
+                                  before = record {
+                                    before = record {
+                                      before = record { before = c .before; handle = c .handle };
+                                      pending = record { given = g };
+                                    };
+                                    circuits = record { given = g' };
+                                  };
+                                  ledger = record { given = g'' };
+                                };
+                                inflight = record { given = g'3 };
+                              };
+                              out = record { given = g'4 };
+                            } g'5) .name) (Row.get 2 (T65 .locals) (m43
+                            record {
+                              before = record {
+                                before = record {
+                                  before = record {
+                                    before = record {
+                                      before = record { before = c .before; handle = c .handle };
+                                      pending = record { given = g };
+                                    };
+                                    circuits = record { given = g' };
+                                  };
+                                  ledger = record { given = g'' };
+                                };
+                                inflight = record { given = g'3 };
+                              };
+                              out = record { given = g'4 };
+                            } g'5) .now) (dens (c .before .before .before .before .before .before .before .before
+                            .before .before .before .before .before .κs) (c .before .before .before .before .before
+                            .before .before .before .before .before .before .before .before .args) .1 .0 .now) (same-length-2
+                            record {
+                              before = record {
+                                before = record {
+                                  before = record {
+                                    before = record {
+                                      before = record {
+                                        before = record { before = c .before; handle = c .handle };
+                                        pending = record { given = g };
+                                      };
+                                      circuits = record { given = g' };
+                                    };
+                                    ledger = record { given = g'' };
+                                  };
+                                  inflight = record { given = g'3 };
+                                };
+                                out = record { given = g'4 };
+                              };
+                              slice-known2 = record { given = g'5 };
+                            }),
+                        (
+                          MutSlice.fix-len (Row.get 3 (T65 .locals) (m43
+                              record {
+                                before = record {
+                                  before = record {
+                                    before = record {
+                                      before = record {
+                                        before = record { before = c .before; handle = c .handle };
+                                        pending = record { given = g };
+                                      };
+                                      circuits = record { given = g' };
+                                    };
+                                    ledger = record { given = g'' };
+                                  };
+                                  inflight = record { given = g'3 };
+                                };
+                                out = record { given = g'4 };
+                              } g'5) .ptr) (Row.get 3 (T65 .locals) (m43
+                              record {
+                                before = record {
+                                  before = record {
+                                    before = record {
+                                      before = record {
+                                        before = record { before = c .before; handle = c .handle };
+                                        pending = record { given = g };
+                                      };
+                                      circuits = record { given = g' };
+                                    };
+                                    ledger = record { given = g'' };
+                                  };
+                                  inflight = record { given = g'3 };
+                                };
+                                out = record { given = g'4 };
+                              } g'5) .name) (Row.get 3 (T65 .locals) (m43
+                              record {
+                                before = record {
+                                  before = record {
+                                    before = record {
+                                      before = record {
+                                        before = record { before = c .before; handle = c .handle };
+                                        pending = record { given = g };
+                                      };
+                                      circuits = record { given = g' };
+                                    };
+                                    ledger = record { given = g'' };
+                                  };
+                                  inflight = record { given = g'3 };
+                                };
+                                out = record { given = g'4 };
+                              } g'5) .now) (dens (c .before .before .before .before .before .before .before .before
+                              .before .before .before .before .before .κs) (c .before .before .before .before .before
+                              .before .before .before .before .before .before .before .before .args) .1 .1 .0 .now) (same-length-3
+                              record {
+                                before = record {
+                                  before = record {
+                                    before = record {
+                                      before = record {
+                                        before = record {
+                                          before = record { before = c .before; handle = c .handle };
+                                          pending = record { given = g };
+                                        };
+                                        circuits = record { given = g' };
+                                      };
+                                      ledger = record { given = g'' };
+                                    };
+                                    inflight = record { given = g'3 };
+                                  };
+                                  out = record { given = g'4 };
+                                };
+                                slice-known2 = record { given = g'5 };
+                              }),
+                          (
+                            MutSlice.fix-len (Row.get 4 (T65 .locals) (m43
+                                record {
+                                  before = record {
+                                    before = record {
+                                      before = record {
+                                        before = record {
+                                          before = record { before = c .before; handle = c .handle };
+                                          pending = record { given = g };
+                                        };
+                                        circuits = record { given = g' };
+                                      };
+                                      ledger = record { given = g'' };
+                                    };
+                                    inflight = record { given = g'3 };
+                                  };
+                                  out = record { given = g'4 };
+                                } g'5) .ptr) (Row.get 4 (T65 .locals) (m43
+                                record {
+                                  before = record {
+                                    before = record {
+                                      before = record {
+                                        before = record {
+                                          before = record { before = c .before; handle = c .handle };
+                                          pending = record { given = g };
+                                        };
+                                        circuits = record { given = g' };
+                                      };
+                                      ledger = record { given = g'' };
+                                    };
+                                    inflight = record { given = g'3 };
+                                  };
+                                  out = record { given = g'4 };
+                                } g'5) .name) (Row.get 4 (T65 .locals) (m43
+                                record {
+                                  before = record {
+                                    before = record {
+                                      before = record {
+                                        before = record {
+                                          before = record { before = c .before; handle = c .handle };
+                                          pending = record { given = g };
+                                        };
+                                        circuits = record { given = g' };
+                                      };
+                                      ledger = record { given = g'' };
+                                    };
+                                    inflight = record { given = g'3 };
+                                  };
+                                  out = record { given = g'4 };
+                                } g'5) .now) (dens (c .before .before .before .before .before .before .before .before
+                                .before .before .before .before .before .κs) (c .before .before .before .before .before
+                                .before .before .before .before .before .before .before .before .args) .1 .1 .1 .0 .now) (same-length-4
+                                record {
+                                  before = record {
+                                    before = record {
+                                      before = record {
+                                        before = record {
+                                          before = record {
+                                            before = record { before = c .before; handle = c .handle };
+                                            pending = record { given = g };
+                                          };
+                                          circuits = record { given = g' };
+                                        };
+                                        ledger = record { given = g'' };
+                                      };
+                                      inflight = record { given = g'3 };
+                                    };
+                                    out = record { given = g'4 };
+                                  };
+                                  slice-known2 = record { given = g'5 };
+                                }),
+                            (
+                              MutSlice.fix-len (Row.get 5 (T65 .locals) (m43
+                                  record {
+                                    before = record {
+                                      before = record {
+                                        before = record {
+                                          before = record {
+                                            before = record { before = c .before; handle = c .handle };
+                                            pending = record { given = g };
+                                          };
+                                          circuits = record { given = g' };
+                                        };
+                                        ledger = record { given = g'' };
+                                      };
+                                      inflight = record { given = g'3 };
+                                    };
+                                    out = record { given = g'4 };
+                                  } g'5) .ptr) (Row.get 5 (T65 .locals) (m43
+                                  record {
+                                    before = record {
+                                      before = record {
+                                        before = record {
+                                          before = record {
+                                            before = record { before = c .before; handle = c .handle };
+                                            pending = record { given = g };
+                                          };
+                                          circuits = record { given = g' };
+                                        };
+                                        ledger = record { given = g'' };
+                                      };
+                                      inflight = record { given = g'3 };
+                                    };
+                                    out = record { given = g'4 };
+                                  } g'5) .name) (Row.get 5 (T65 .locals) (m43
+                                  record {
+                                    before = record {
+                                      before = record {
+                                        before = record {
+                                          before = record {
+                                            before = record { before = c .before; handle = c .handle };
+                                            pending = record { given = g };
+                                          };
+                                          circuits = record { given = g' };
+                                        };
+                                        ledger = record { given = g'' };
+                                      };
+                                      inflight = record { given = g'3 };
+                                    };
+                                    out = record { given = g'4 };
+                                  } g'5) .now) (dens (c .before .before .before .before .before .before .before .before
+                                  .before .before .before .before .before .κs) (c .before .before .before .before
+                                  .before .before .before .before .before .before .before .before .before .args) .1 .1
+                                  .1 .1 .0 .now) (same-length-5
+                                  record {
+                                    before = record {
+                                      before = record {
+                                        before = record {
+                                          before = record {
+                                            before = record {
+                                              before = record { before = c .before; handle = c .handle };
+                                              pending = record { given = g };
+                                            };
+                                            circuits = record { given = g' };
+                                          };
+                                          ledger = record { given = g'' };
+                                        };
+                                        inflight = record { given = g'3 };
+                                      };
+                                      out = record { given = g'4 };
+                                    };
+                                    slice-known2 = record { given = g'5 };
+                                  }),
+                              (tt, (tt, (tt, (Path.refl, tt)))),
+                            ),
+                          ),
+                        ),
+                      ),
+                    ),
+                    returns record {
+                      before = record {
+                        before = record {
+                          before = record {
+                            before = record {
+                              before = record {
+                                before = record { before = c .before; handle = c .handle };
+                                pending = record { given = g };
+                              };
+                              circuits = record { given = g' };
+                            };
+                            ledger = record { given = g'' };
+                          };
+                          inflight = record { given = g'3 };
+                        };
+                        out = record { given = g'4 };
+                      };
+                      slice-known2 = record { given = g'5 };
+                    },
+                  ),
+                ),
+              ),
+            ),
+          ),
+        )
+
+        lay1 : (c : After-handle-arg6) → at32 (c .before .before .before .before .before .before .before .before
+            .before .before .before .before .blocks) (W0 (c .before .before .before .before .before .before .before
+            .before .before .before .before .before .κs) (c .before .before .before .before .before .before .before
+            .before .before .before .before .before .args) (c .before .before .before .before .before .before .before
+            .before .before .before .before .before .blocks)) (m25 (c .before) (c .handle-arg6 .given))
+        lay1 = λ c. (
+          handle-requires record { before = c .before; handle-arg6 = c .handle-arg6 },
+          λ g. lay2 record {
+            before = record { before = c .before; handle-arg6 = c .handle-arg6 };
+            handle = Called.called ps·0 r·0 (claims· .1) T33 (
+              record { pos = 15; ty = ref0; ref = λ x. x },
+              (
+                record { pos = 17; ty = ref1; ref = λ x. x },
+                (
+                  record { pos = 19; ty = ref2; ref = λ x. x },
+                  (
+                    record { pos = 21; ty = ref3; ref = λ x. x },
+                    (
+                      record { pos = 23; ty = ref4; ref = λ x. x },
+                      (
+                        record { pos = 12; st = List.[]; d = 0; at = λ x. x },
+                        (
+                          record { pos = 13; st = List.[]; d = 0; at = λ x. x },
+                          (
+                            record { pos = 7; st = List.[]; d = 0; at = λ x. x },
+                            (
+                              record { pos = 25; ty = ref6; ref = λ x. x },
+                              (
+                                record { pos = 9; ty = ref12; ref = λ x. x },
+                                (
+                                  record { pos = 27; ty = ref6; ref = λ x. x },
+                                  (record { pos = 29; ty = ref6; ref = λ x. x }, tt),
+                                ),
+                              ),
+                            ),
+                          ),
+                        ),
+                      ),
+                    ),
+                  ),
+                ),
+              ),
+            ) (m25 (c .before) (c .handle-arg6 .given)) g;
+          },
+        )
+
         pub laid : (c : Start) → at64 (c .blocks) (W0 (c .κs) (c .args) (c .blocks)) (m0 (c .κs) (c .args) (c .blocks))
-        laid = λ c. λ g. λ g'. (tt, λ g''. (tt, λ g'3. λ g'4. (Path.refl, λ g'5. (Path.refl, λ g'6. (Path.refl, λ g'7. (Path.refl, λ g'8. (Path.refl,
-            λ g'9. (Relend.count-is T27 24 25 (λ x. x) (λ u. 1) (m20 record { before = record { before = record { before = record { before = record {
-            before = record { before = record { before = record { before = record { before = c; slice-known = record { given = g }; };
-            shared-slice-known = record { given = g' }; }; runtime = record { given = g'' }; }; places = record { given = g'3 }; }; handle-arg =
-            record { given = g'4 }; }; handle-arg2 = record { given = g'5 }; }; handle-arg3 = record { given = g'6 }; }; handle-arg4 = record { given
-            = g'7 }; }; handle-arg5 = record { given = g'8 }; } g'9) (slice-aggregate-handle record { before = record { before = record { before =
-            record { before = record { before = record { before = record { before = record { before = record { before = record { before = c;
-            slice-known = record { given = g }; }; shared-slice-known = record { given = g' }; }; runtime = record { given = g'' }; }; places = record
-            { given = g'3 }; }; handle-arg = record { given = g'4 }; }; handle-arg2 = record { given = g'5 }; }; handle-arg3 = record { given = g'6 };
-            }; handle-arg4 = record { given = g'7 }; }; handle-arg5 = record { given = g'8 }; }; source = record { given = g'9 }; }), λ g'10.
-            (Relend.count-is T30 26 27 (λ x. x) (λ u. 1) (m22 record { before = record { before = record { before = record { before = record { before
-            = record { before = record { before = record { before = record { before = record { before = c; slice-known = record { given = g }; };
-            shared-slice-known = record { given = g' }; }; runtime = record { given = g'' }; }; places = record { given = g'3 }; }; handle-arg =
-            record { given = g'4 }; }; handle-arg2 = record { given = g'5 }; }; handle-arg3 = record { given = g'6 }; }; handle-arg4 = record { given
-            = g'7 }; }; handle-arg5 = record { given = g'8 }; }; source = record { given = g'9 }; } g'10) (slice-aggregate-handle-2 record { before =
-            record { before = record { before = record { before = record { before = record { before = record { before = record { before = record {
-            before = record { before = record { before = c; slice-known = record { given = g }; }; shared-slice-known = record { given = g' }; };
-            runtime = record { given = g'' }; }; places = record { given = g'3 }; }; handle-arg = record { given = g'4 }; }; handle-arg2 = record {
-            given = g'5 }; }; handle-arg3 = record { given = g'6 }; }; handle-arg4 = record { given = g'7 }; }; handle-arg5 = record { given = g'8 };
-            }; source = record { given = g'9 }; }; none = record { given = g'10 }; }), λ g'11. (Relend.count-is T32 28 29 (λ x. x) (λ u. 1) (m24
-            record { before = record { before = record { before = record { before = record { before = record { before = record { before = record {
-            before = record { before = record { before = record { before = c; slice-known = record { given = g }; }; shared-slice-known = record {
-            given = g' }; }; runtime = record { given = g'' }; }; places = record { given = g'3 }; }; handle-arg = record { given = g'4 }; };
-            handle-arg2 = record { given = g'5 }; }; handle-arg3 = record { given = g'6 }; }; handle-arg4 = record { given = g'7 }; }; handle-arg5 =
-            record { given = g'8 }; }; source = record { given = g'9 }; }; none = record { given = g'10 }; } g'11) (slice-aggregate-handle-3 record {
-            before = record { before = record { before = record { before = record { before = record { before = record { before = record { before =
-            record { before = record { before = record { before = record { before = c; slice-known = record { given = g }; }; shared-slice-known =
-            record { given = g' }; }; runtime = record { given = g'' }; }; places = record { given = g'3 }; }; handle-arg = record { given = g'4 }; };
-            handle-arg2 = record { given = g'5 }; }; handle-arg3 = record { given = g'6 }; }; handle-arg4 = record { given = g'7 }; }; handle-arg5 =
-            record { given = g'8 }; }; source = record { given = g'9 }; }; none = record { given = g'10 }; }; handle-arg6 = record { given = g'11 };
-            }), lay1 record { before = record { before = record { before = record { before = record { before = record { before = record { before =
-            record { before = record { before = record { before = record { before = record { before = c; slice-known = record { given = g }; };
-            shared-slice-known = record { given = g' }; }; runtime = record { given = g'' }; }; places = record { given = g'3 }; }; handle-arg =
-            record { given = g'4 }; }; handle-arg2 = record { given = g'5 }; }; handle-arg3 = record { given = g'6 }; }; handle-arg4 = record { given
-            = g'7 }; }; handle-arg5 = record { given = g'8 }; }; source = record { given = g'9 }; }; none = record { given = g'10 }; }; handle-arg6 =
-            record { given = g'11 }; },),),),),),),),),),)
+        laid = λ c. λ g. λ g'. (
+          tt,
+          λ g''. (
+            tt,
+            λ g'3. λ g'4. (
+              Path.refl,
+              λ g'5. (
+                Path.refl,
+                λ g'6. (
+                  Path.refl,
+                  λ g'7. (
+                    Path.refl,
+                    λ g'8. (
+                      Path.refl,
+                      λ g'9. (
+                        Relend.count-is T27 24 25 (λ x. x) (λ u. 1) (m20
+                            record {
+                              before = record {
+                                before = record {
+                                  before = record {
+                                    before = record {
+                                      before = record {
+                                        before = record {
+                                          before = record {
+                                            before = record { before = c; slice-known = record { given = g } };
+                                            shared-slice-known = record { given = g' };
+                                          };
+                                          runtime = record { given = g'' };
+                                        };
+                                        places = record { given = g'3 };
+                                      };
+                                      handle-arg = record { given = g'4 };
+                                    };
+                                    handle-arg2 = record { given = g'5 };
+                                  };
+                                  handle-arg3 = record { given = g'6 };
+                                };
+                                handle-arg4 = record { given = g'7 };
+                              };
+                              handle-arg5 = record { given = g'8 };
+                            } g'9) (slice-aggregate-handle
+                            record {
+                              before = record {
+                                before = record {
+                                  before = record {
+                                    before = record {
+                                      before = record {
+                                        before = record {
+                                          before = record {
+                                            before = record {
+                                              before = record { before = c; slice-known = record { given = g } };
+                                              shared-slice-known = record { given = g' };
+                                            };
+                                            runtime = record { given = g'' };
+                                          };
+                                          places = record { given = g'3 };
+                                        };
+                                        handle-arg = record { given = g'4 };
+                                      };
+                                      handle-arg2 = record { given = g'5 };
+                                    };
+                                    handle-arg3 = record { given = g'6 };
+                                  };
+                                  handle-arg4 = record { given = g'7 };
+                                };
+                                handle-arg5 = record { given = g'8 };
+                              };
+                              source = record { given = g'9 };
+                            }),
+                        λ g'10. (
+                          Relend.count-is T30 26 27 (λ x. x) (λ u. 1) (m22
+                              record {
+                                before = record {
+                                  before = record {
+                                    before = record {
+                                      before = record {
+                                        before = record {
+                                          before = record {
+                                            before = record {
+                                              before =
+                                                  record {
+                                                    before = record { before = c; slice-known = record { given = g } };
+                                                    shared-slice-known = record { given = g' };
+                                                  };
+                                              runtime = record { given = g'' };
+                                            };
+                                            places = record { given = g'3 };
+                                          };
+                                          handle-arg = record { given = g'4 };
+                                        };
+                                        handle-arg2 = record { given = g'5 };
+                                      };
+                                      handle-arg3 = record { given = g'6 };
+                                    };
+                                    handle-arg4 = record { given = g'7 };
+                                  };
+                                  handle-arg5 = record { given = g'8 };
+                                };
+                                source = record { given = g'9 };
+                              } g'10) (slice-aggregate-handle-2
+                              record {
+                                before = record {
+                                  before = record {
+                                    before = record {
+                                      before = record {
+                                        before = record {
+                                          before = record {
+                                            before = record {
+                                              before =
+                                                  record {
+                                                    before =
+                                                        record {
+                                                          before =
+                                                              record { before = c; slice-known = record { given = g } };
+                                                          shared-slice-known = record { given = g' };
+                                                        };
+                                                    runtime = record { given = g'' };
+                                                  };
+                                              places = record { given = g'3 };
+                                            };
+                                            handle-arg = record { given = g'4 };
+                                          };
+                                          handle-arg2 = record { given = g'5 };
+                                        };
+                                        handle-arg3 = record { given = g'6 };
+                                      };
+                                      handle-arg4 = record { given = g'7 };
+                                    };
+                                    handle-arg5 = record { given = g'8 };
+                                  };
+                                  source = record { given = g'9 };
+                                };
+                                none = record { given = g'10 };
+                              }),
+                          λ g'11. (
+                            Relend.count-is T32 28 29 (λ x. x) (λ u. 1) (m24
+                                record {
+                                  before = record {
+                                    before = record {
+                                      before = record {
+                                        before = record {
+                                          before = record {
+                                            before = record {
+                                              before =
+                                                  record {
+                                                    before =
+                                                        record {
+                                                          before =
+                                                              record {
+                                                                before =
+                                                                    record {
+                                                                      before = c;
+                                                                      slice-known = record { given = g };
+                                                                    };
+                                                                shared-slice-known = record { given = g' };
+                                                              };
+                                                          runtime = record { given = g'' };
+                                                        };
+                                                    places = record { given = g'3 };
+                                                  };
+                                              handle-arg = record { given = g'4 };
+                                            };
+                                            handle-arg2 = record { given = g'5 };
+                                          };
+                                          handle-arg3 = record { given = g'6 };
+                                        };
+                                        handle-arg4 = record { given = g'7 };
+                                      };
+                                      handle-arg5 = record { given = g'8 };
+                                    };
+                                    source = record { given = g'9 };
+                                  };
+                                  none = record { given = g'10 };
+                                } g'11) (slice-aggregate-handle-3
+                                record {
+                                  before = record {
+                                    before = record {
+                                      before = record {
+                                        before = record {
+                                          before = record {
+                                            before = record {
+                                              before =
+                                                  record {
+                                                    before =
+                                                        record {
+                                                          before =
+                                                              record {
+                                                                before =
+                                                                    record {
+                                                                      before =
+                                                                          record {
+                                                                            before = c;
+                                                                            slice-known = record { given = g };
+                                                                          };
+                                                                      shared-slice-known = record { given = g' };
+                                                                    };
+                                                                runtime = record { given = g'' };
+                                                              };
+                                                          places = record { given = g'3 };
+                                                        };
+                                                    handle-arg = record { given = g'4 };
+                                                  };
+                                              handle-arg2 = record { given = g'5 };
+                                            };
+                                            handle-arg3 = record { given = g'6 };
+                                          };
+                                          handle-arg4 = record { given = g'7 };
+                                        };
+                                        handle-arg5 = record { given = g'8 };
+                                      };
+                                      source = record { given = g'9 };
+                                    };
+                                    none = record { given = g'10 };
+                                  };
+                                  handle-arg6 = record { given = g'11 };
+                                }),
+                            lay1 record {
+                              before = record {
+                                before = record {
+                                  before = record {
+                                    before = record {
+                                      before = record {
+                                        before = record {
+                                          before = record {
+                                            before = record {
+                                              before =
+                                                  record {
+                                                    before =
+                                                        record {
+                                                          before =
+                                                              record { before = c; slice-known = record { given = g } };
+                                                          shared-slice-known = record { given = g' };
+                                                        };
+                                                    runtime = record { given = g'' };
+                                                  };
+                                              places = record { given = g'3 };
+                                            };
+                                            handle-arg = record { given = g'4 };
+                                          };
+                                          handle-arg2 = record { given = g'5 };
+                                        };
+                                        handle-arg3 = record { given = g'6 };
+                                      };
+                                      handle-arg4 = record { given = g'7 };
+                                    };
+                                    handle-arg5 = record { given = g'8 };
+                                  };
+                                  source = record { given = g'9 };
+                                };
+                                none = record { given = g'10 };
+                              };
+                              handle-arg6 = record { given = g'11 };
+                            },
+                          ),
+                        ),
+                      ),
+                    ),
+                  ),
+                ),
+              ),
+            ),
+          ),
+        )
+
         module _ (κs : Lifetimes.Lfts 6) (qs : Lifetimes.Shares 6) where
-          pub asked : (a : Kinds.Dens κs ps) → (good : Kinds.GoodsP κs ps a) → (pre : Pre· κs a) → (bs : List.List Nat.ℕ) → Φ bs (Any.wantQ 6 ps r xs
-              m κs qs a (Post· κs a)) (Function.init 6 ps r xs m κs qs a)
-          asked = λ a good pre bs. laid record { κs = κs; args = record { pending = a .0; circuits = a .1 .0; ledger = a .1 .1 .0; inflight = a .1 .1
-              .1 .0; out = a .1 .1 .1 .1 .0; kept = a .1 .1 .1 .1 .1 .0; sent = a .1 .1 .1 .1 .1 .1 .0; peer = a .1 .1 .1 .1 .1 .1 .1 .0; body = a .1
-              .1 .1 .1 .1 .1 .1 .1 .0; }; blocks = bs; good = good; fits = record { peer = record { fits = good .1 .1 .1 .1 .1 .1 .1 .0 .1 } }; pre =
-              pre; }
-        module _ { M : Type 1 } (𝓤 : URA.URA M) (H : Wp.Heap 𝓤) (A : Atoms.Atoms 𝓤) (W : Kit.Given 𝓤 H A) (𝓣 : Wp.Tables 𝓤 H) (known0 : Plain.Known 𝓤
-            H A W 𝓣 9 ps·0 r·0 (claims· .0) (claims· .1) "hnsr_circuit::handle::handle") where
-          pub spec : Statement.Triple 𝓤 (Wp.WpFn 𝓤 H (𝓣 .C) (𝓣 .Λ) (Function.fnOf 6 ps r xs m hs body)) (Function.plainOf 𝓤 H A 6 ps r Pre· Post·)
-          spec = Plain.t-fn-plain 𝓤 H A W 𝓣 6 ps r xs m hs body (λ κs qs bs. Φ bs) (λ κs qs bs bd. typed κs qs 𝓤 H A W 𝓣 known0 bs bd) Pre· Post·
-              asked
+          pub asked : (a : Kinds.Dens κs ps) → (good : Kinds.GoodsP κs ps a) → (pre : Pre· κs a) →
+              (bs : List.List Nat.ℕ) → Φ bs (Any.wantQ 6 ps r xs m κs qs a (Post· κs a))
+              (Function.init 6 ps r xs m κs qs a)
+          asked = λ a good pre bs. laid record {
+            κs = κs;
+            args = record {
+              pending = a .0;
+              circuits = a .1 .0;
+              ledger = a .1 .1 .0;
+              inflight = a .1 .1 .1 .0;
+              out = a .1 .1 .1 .1 .0;
+              kept = a .1 .1 .1 .1 .1 .0;
+              sent = a .1 .1 .1 .1 .1 .1 .0;
+              peer = a .1 .1 .1 .1 .1 .1 .1 .0;
+              body = a .1 .1 .1 .1 .1 .1 .1 .1 .0;
+            };
+            blocks = bs;
+            good = good;
+            fits = record { peer = record { fits = good .1 .1 .1 .1 .1 .1 .1 .0 .1 } };
+            pre = pre;
+          }
+
+        module _ {M : Type 1} (𝓤 : URA.URA M) (H : Wp.Heap 𝓤) (A : Atoms.Atoms 𝓤) (W : Kit.Given 𝓤 H A)
+            (𝓣 : Wp.Tables 𝓤 H) (known0 : Plain.Known 𝓤 H A W 𝓣 9 ps·0 r·0 (claims· .0) (claims· .1)
+            "hnsr_circuit::handle::handle") where
+          pub spec : Statement.Triple 𝓤 (Wp.WpFn 𝓤 H (𝓣 .C) (𝓣 .Λ) (Function.fnOf 6 ps r xs m hs body))
+              (Function.plainOf 𝓤 H A 6 ps r Pre· Post·)
+          spec = Plain.t-fn-plain 𝓤 H A W 𝓣 6 ps r xs m hs body (λ κs qs bs. Φ bs)
+              (λ κs qs bs bd. typed κs qs 𝓤 H A W 𝓣 known0 bs bd) Pre· Post· asked

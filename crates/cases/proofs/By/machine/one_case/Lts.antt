@@ -4,10 +4,12 @@ use Rattle.cases.proofs.By.InflightAction
 use Rattle.cases.proofs.By.RelayCircuit
 use Rattle.cases.proofs.By.RelayPending
 use Rattle.cases.proofs.By.ReservationUsage
+use Rattle.cases.proofs.StructRow
 use Rattle.cases.proofs.script.Script
 use Rattle.cases.proofs.script.Script.Laws
 use borrow.Author.Called
 use borrow.Fn.Any
+use borrow.Fn.Args as Args'
 use borrow.Fn.Call
 use borrow.Fn.Enter
 use borrow.Fn.Frame
@@ -19,7 +21,6 @@ use borrow.Kind.MutSlice
 use borrow.Kind.Num
 use borrow.Kind.ShrSlice
 use borrow.Kind.Unit
-use borrow.Kind.Value
 use borrow.Rule.Array.Init
 use borrow.Rule.Array.Rows
 use borrow.Rule.Lifetime
@@ -38,9 +39,7 @@ use borrow.Table.Row
 use borrow.Table.Rows as Rows'
 use borrow.Table.Typed
 use contract.Lifetimes
-use denote.Exit
 use denote.Struct.Declared
-use denote.Struct.Laws as Laws'
 use denote.Triple.Clauses
 use denote.Triple.Statement
 use ghost.Atoms
@@ -57,1717 +56,3056 @@ use mathlib.Core.List.{_∷_}
 
 abbrev ref0 : Syntax.Ty
 ref0 = Syntax.tyRef Syntax.erased Syntax.mut (Syntax.tyInt Syntax.w8)
+
 abbrev ref1 : Syntax.Ty
 ref1 = Syntax.tyRef Syntax.erased Syntax.mut RelayPending.to
+
 abbrev ref2 : Syntax.Ty
 ref2 = Syntax.tyRef Syntax.erased Syntax.mut RelayCircuit.to
+
 abbrev ref3 : Syntax.Ty
 ref3 = Syntax.tyRef Syntax.erased Syntax.mut ReservationUsage.to
+
 abbrev ref4 : Syntax.Ty
 ref4 = Syntax.tyRef Syntax.erased Syntax.mut InflightAction.to
+
 abbrev ref5 : Syntax.Ty
 ref5 = Syntax.tyRef Syntax.erased Syntax.mut (Syntax.tyInt Syntax.w32)
+
 abbrev ref6 : Syntax.Ty
 ref6 = Syntax.tyRef Syntax.erased Syntax.imm (Syntax.tyInt Syntax.w8)
+
 abbrev ref7 : Syntax.Ty
 ref7 = Syntax.tyRef (Syntax.named 0) Syntax.mut RelayPending.to
+
 abbrev ref8 : Syntax.Ty
 ref8 = Syntax.tyRef (Syntax.named 1) Syntax.mut RelayCircuit.to
+
 abbrev ref9 : Syntax.Ty
 ref9 = Syntax.tyRef (Syntax.named 2) Syntax.mut ReservationUsage.to
+
 abbrev ref10 : Syntax.Ty
 ref10 = Syntax.tyRef (Syntax.named 3) Syntax.mut InflightAction.to
+
 abbrev ref11 : Syntax.Ty
 ref11 = Syntax.tyRef (Syntax.named 4) Syntax.mut (Syntax.tyInt Syntax.w32)
+
 abbrev ref12 : Syntax.Ty
 ref12 = Syntax.tyRef (Syntax.named 5) Syntax.mut (Syntax.tyInt Syntax.w8)
+
+abbrev slice0 : Syntax.Ty
+slice0 = Syntax.tyStruct (38 ∷ 91 ∷ 93 ∷ List.[]) (Syntax.tcons ref0
+    (Syntax.tcons (Syntax.tyInt Syntax.w64) Syntax.tnil))
+
+abbrev slice1 : Syntax.Ty
+slice1 = Syntax.tyStruct (38 ∷ 91 ∷ 93 ∷ List.[]) (Syntax.tcons ref1
+    (Syntax.tcons (Syntax.tyInt Syntax.w64) Syntax.tnil))
+
+abbrev slice2 : Syntax.Ty
+slice2 = Syntax.tyStruct (38 ∷ 91 ∷ 93 ∷ List.[]) (Syntax.tcons ref2
+    (Syntax.tcons (Syntax.tyInt Syntax.w64) Syntax.tnil))
+
+abbrev slice3 : Syntax.Ty
+slice3 = Syntax.tyStruct (38 ∷ 91 ∷ 93 ∷ List.[]) (Syntax.tcons ref3
+    (Syntax.tcons (Syntax.tyInt Syntax.w64) Syntax.tnil))
+
+abbrev slice4 : Syntax.Ty
+slice4 = Syntax.tyStruct (38 ∷ 91 ∷ 93 ∷ List.[]) (Syntax.tcons ref4
+    (Syntax.tcons (Syntax.tyInt Syntax.w64) Syntax.tnil))
+
+abbrev slice5 : Syntax.Ty
+slice5 = Syntax.tyStruct (38 ∷ 91 ∷ 93 ∷ List.[]) (Syntax.tcons ref5
+    (Syntax.tcons (Syntax.tyInt Syntax.w64) Syntax.tnil))
+
+abbrev slice6 : Syntax.Ty
+slice6 = Syntax.tyStruct (38 ∷ 91 ∷ 93 ∷ List.[]) (Syntax.tcons ref6
+    (Syntax.tcons (Syntax.tyInt Syntax.w64) Syntax.tnil))
+
 abbrev pub ps : List.List (Kinds.PK 6)
-ps = (MutSlice.pMutS RelayPending.row 0 tt) ∷ (MutSlice.pMutS RelayCircuit.row 1 tt) ∷ (MutSlice.pMutS ReservationUsage.row 2 tt) ∷ (MutSlice.pMutS
-    InflightAction.row 3 tt) ∷ (MutSlice.pMutS (Referent.rtF (Referent.fInt Syntax.w32)) 4 tt) ∷ (MutSlice.pMutS (Referent.rtF (Referent.fInt
-    Syntax.w8)) 5 tt) ∷ (Num.pNum Syntax.w8) ∷ List.[]
+ps = (MutSlice.pMutS RelayPending.row 0 tt) ∷ (MutSlice.pMutS RelayCircuit.row 1 tt) ∷
+    (MutSlice.pMutS ReservationUsage.row 2 tt) ∷ (MutSlice.pMutS InflightAction.row 3 tt) ∷ (MutSlice.pMutS
+    (Referent.rtF (Referent.fInt Syntax.w32)) 4 tt) ∷ (MutSlice.pMutS (Referent.rtF (Referent.fInt Syntax.w8)) 5 tt) ∷
+    (Num.pNum Syntax.w8) ∷ List.[]
+
 abbrev pub r : Kinds.RK 6
 r = Unit.rUnit
+
 abbrev pub xs : List.List Syntax.Ty
-xs = Laws.mir ∷ (Syntax.tyArray (Syntax.tyInt Syntax.w8) 5) ∷ (Syntax.tyInt Syntax.w64) ∷ Syntax.tyUnit ∷ ref0 ∷ (Syntax.tyStruct (38 ∷ 91 ∷ 93 ∷
-    List.[]) (Syntax.tcons ref0 (Syntax.tcons (Syntax.tyInt Syntax.w64) Syntax.tnil))) ∷ ref1 ∷ (Syntax.tyStruct (38 ∷ 91 ∷ 93 ∷ List.[])
-    (Syntax.tcons ref1 (Syntax.tcons (Syntax.tyInt Syntax.w64) Syntax.tnil))) ∷ ref2 ∷ (Syntax.tyStruct (38 ∷ 91 ∷ 93 ∷ List.[]) (Syntax.tcons ref2
-    (Syntax.tcons (Syntax.tyInt Syntax.w64) Syntax.tnil))) ∷ ref3 ∷ (Syntax.tyStruct (38 ∷ 91 ∷ 93 ∷ List.[]) (Syntax.tcons ref3 (Syntax.tcons
-    (Syntax.tyInt Syntax.w64) Syntax.tnil))) ∷ ref4 ∷ (Syntax.tyStruct (38 ∷ 91 ∷ 93 ∷ List.[]) (Syntax.tcons ref4 (Syntax.tcons (Syntax.tyInt
-    Syntax.w64) Syntax.tnil))) ∷ ref5 ∷ (Syntax.tyStruct (38 ∷ 91 ∷ 93 ∷ List.[]) (Syntax.tcons ref5 (Syntax.tcons (Syntax.tyInt Syntax.w64)
-    Syntax.tnil))) ∷ ref6 ∷ (Syntax.tyStruct (38 ∷ 91 ∷ 93 ∷ List.[]) (Syntax.tcons ref6 (Syntax.tcons (Syntax.tyInt Syntax.w64) Syntax.tnil))) ∷
-    List.[]
+xs = Laws.mir ∷ (Syntax.tyArray (Syntax.tyInt Syntax.w8) 5) ∷ (Syntax.tyInt Syntax.w64) ∷ Syntax.tyUnit ∷ ref0 ∷ slice0
+    ∷ ref1 ∷ slice1 ∷ ref2 ∷ slice2 ∷ ref3 ∷ slice3 ∷ ref4 ∷ slice4 ∷ ref5 ∷ slice5 ∷ ref6 ∷ slice6 ∷ List.[]
+
 abbrev pub m : Nat.ℕ
 m = 7
+
 abbrev pub ps·0 : List.List (Kinds.PK 0)
 ps·0 = (Num.pNum Syntax.w8) ∷ List.[]
+
 abbrev pub r·0 : Kinds.RK 0
-r·0 = Value.rVal record { ty = Declared.row Script.the-type; one = Path.refl; val = Laws'.val Script.the-type Laws.the-laws; tells = Laws'.tells
-    Script.the-type Laws.the-laws; still = Laws'.still Script.the-type Laws.the-copy Exit.yes; row = Rows'.whole (Declared.row Script.the-type); rd =
-    λ x. x; mk = λ x. x; } λ M 𝓤 H A W. record { copies = Laws'.copy Script.the-type Laws.the-copy 𝓤 H A W; lawful = Laws'.lawful Script.the-type
-    Laws.the-laws 𝓤 H A W; makes = Laws'.makes Script.the-type Laws.the-plain 𝓤 H A; in-mem = Local.mem-whole 𝓤 H A W (Declared.row Script.the-type);
-    of-mem = Local.whole-mem 𝓤 H A W (Declared.row Script.the-type); }
+r·0 = StructRow.result Script.the-type Laws.the-laws Laws.the-copy Laws.the-plain
+
 abbrev pub ps·1 : List.List (Kinds.PK 0)
 ps·1 = (Num.pNum Syntax.w8) ∷ List.[]
+
 abbrev pub r·1 : Kinds.RK 0
 r·1 = Array.rArr (Array.eInt Syntax.w8) (Array.eInt-laws Syntax.w8) 5
+
 abbrev pub ps·2 : List.List (Kinds.PK 1)
-ps·2 = (MutSlice.pMutS (Referent.rtF (Referent.fInt Syntax.w8)) 0 tt) ∷ (Array.pArr (Array.eInt Syntax.w8) (Array.eInt-laws Syntax.w8) 5) ∷ List.[]
+ps·2 = (MutSlice.pMutS (Referent.rtF (Referent.fInt Syntax.w8)) 0 tt) ∷ (Array.pArr (Array.eInt Syntax.w8)
+    (Array.eInt-laws Syntax.w8) 5) ∷ List.[]
+
 abbrev pub r·2 : Kinds.RK 1
 r·2 = Unit.rUnit
+
 abbrev pub ps·3 : List.List (Kinds.PK 6)
-ps·3 = (MutSlice.pMutS RelayPending.row 0 tt) ∷ (MutSlice.pMutS RelayCircuit.row 1 tt) ∷ (MutSlice.pMutS ReservationUsage.row 2 tt) ∷ (MutSlice.pMutS
-    InflightAction.row 3 tt) ∷ (MutSlice.pMutS (Referent.rtF (Referent.fInt Syntax.w32)) 4 tt) ∷ (ShrSlice.pShrS (Referent.rtF (Referent.fInt
-    Syntax.w8)) 5 tt) ∷ (Value.pVal record { ty = Declared.row Script.the-type; one = Path.refl; val = Laws'.val Script.the-type Laws.the-laws; tells
-    = Laws'.tells Script.the-type Laws.the-laws; still = Laws'.still Script.the-type Laws.the-copy Exit.yes; row = Rows'.whole (Declared.row
-    Script.the-type); rd = λ x. x; mk = λ x. x; } λ M 𝓤 H A W. record { copies = Laws'.copy Script.the-type Laws.the-copy 𝓤 H A W; lawful =
-    Laws'.lawful Script.the-type Laws.the-laws 𝓤 H A W; makes = Laws'.makes Script.the-type Laws.the-plain 𝓤 H A; in-mem = Local.mem-whole 𝓤 H A W
-    (Declared.row Script.the-type); of-mem = Local.whole-mem 𝓤 H A W (Declared.row Script.the-type); }) ∷ List.[]
+ps·3 = (MutSlice.pMutS RelayPending.row 0 tt) ∷ (MutSlice.pMutS RelayCircuit.row 1 tt) ∷
+    (MutSlice.pMutS ReservationUsage.row 2 tt) ∷ (MutSlice.pMutS InflightAction.row 3 tt) ∷ (MutSlice.pMutS
+    (Referent.rtF (Referent.fInt Syntax.w32)) 4 tt) ∷ (ShrSlice.pShrS (Referent.rtF (Referent.fInt Syntax.w8)) 5 tt) ∷ (StructRow.param
+    Script.the-type Laws.the-laws Laws.the-copy Laws.the-plain) ∷ List.[]
+
 abbrev pub r·3 : Kinds.RK 6
 r·3 = Num.rNum Syntax.w64
+
 abbrev pub ps·4 : List.List (Kinds.PK 0)
 ps·4 = (Num.pNum Syntax.w8) ∷ (Num.pNum Syntax.w64) ∷ List.[]
+
 abbrev pub r·4 : Kinds.RK 0
 r·4 = Unit.rUnit
+
 abbrev pub hs : List.List Syntax.Home
-hs = Syntax.valueLocal ∷ Syntax.valueLocal ∷ Syntax.valueLocal ∷ Syntax.valueLocal ∷ Syntax.valueLocal ∷ Syntax.valueLocal ∷ Syntax.valueLocal ∷
-    Syntax.valueLocal ∷ Syntax.valueLocal ∷ Syntax.valueLocal ∷ Syntax.valueLocal ∷ Syntax.valueLocal ∷ Syntax.valueLocal ∷ Syntax.valueLocal ∷
-    Syntax.valueLocal ∷ Syntax.valueLocal ∷ Syntax.valueLocal ∷ Syntax.valueLocal ∷ Syntax.valueLocal ∷ Syntax.valueLocal ∷ Syntax.valueLocal ∷
-    Syntax.valueLocal ∷ Syntax.valueLocal ∷ Syntax.valueLocal ∷ Syntax.valueLocal ∷ Syntax.valueLocal ∷ List.[]
+hs = Syntax.valueLocal ∷ Syntax.valueLocal ∷ Syntax.valueLocal ∷ Syntax.valueLocal ∷ Syntax.valueLocal ∷
+    Syntax.valueLocal ∷ Syntax.valueLocal ∷ Syntax.valueLocal ∷ Syntax.valueLocal ∷ Syntax.valueLocal ∷
+    Syntax.valueLocal ∷ Syntax.valueLocal ∷ Syntax.valueLocal ∷ Syntax.valueLocal ∷ Syntax.valueLocal ∷
+    Syntax.valueLocal ∷ Syntax.valueLocal ∷ Syntax.valueLocal ∷ Syntax.valueLocal ∷ Syntax.valueLocal ∷
+    Syntax.valueLocal ∷ Syntax.valueLocal ∷ Syntax.valueLocal ∷ Syntax.valueLocal ∷ Syntax.valueLocal ∷
+    Syntax.valueLocal ∷ List.[]
+
 abbrev b0 : Syntax.Body
 b0 = Syntax.call "cases::script::script_of" ((Syntax.copy (Syntax.place 7 List.[])) ∷ List.[]) (Syntax.place 8 List.[])
+
 abbrev b1 : Syntax.Body
 b1 = Syntax.call "cases::script::head_of" ((Syntax.copy (Syntax.place 7 List.[])) ∷ List.[]) (Syntax.place 9 List.[])
+
 abbrev b2 : Syntax.Body
-b2 = Syntax.assign (Syntax.place 12 List.[]) (Syntax.addrOf (Syntax.place 6 ((Syntax.field 0) ∷ (Syntax.deref (Syntax.tyInt Syntax.w8)) ∷ List.[])))
+b2 = Syntax.assign (Syntax.place 12 List.[]) (Syntax.addrOf (Syntax.place 6 ((Syntax.field 0) ∷
+    (Syntax.deref (Syntax.tyInt Syntax.w8)) ∷ List.[])))
+
 abbrev b3 : Syntax.Body
-b3 = Syntax.assign (Syntax.place 13 List.[]) (Syntax.aggregate ((Syntax.copy (Syntax.place 12 List.[])) ∷ (Syntax.copy (Syntax.place 6 ((Syntax.field
-    1) ∷ List.[]))) ∷ List.[]))
+b3 = Syntax.assign (Syntax.place 13 List.[]) (Syntax.aggregate ((Syntax.copy (Syntax.place 12 List.[])) ∷
+    (Syntax.copy (Syntax.place 6 ((Syntax.field 1) ∷ List.[]))) ∷ List.[]))
+
 abbrev b4 : Syntax.Body
-b4 = Syntax.call "cases::machine::put_head" ((Syntax.copy (Syntax.place 13 List.[])) ∷ (Syntax.copy (Syntax.place 9 List.[])) ∷ List.[]) (Syntax.place
-    11 List.[])
+b4 = Syntax.call "cases::machine::put_head" ((Syntax.copy (Syntax.place 13 List.[])) ∷
+    (Syntax.copy (Syntax.place 9 List.[])) ∷ List.[]) (Syntax.place 11 List.[])
+
 abbrev b5 : Syntax.Body
-b5 = Syntax.assign (Syntax.place 14 List.[]) (Syntax.addrOf (Syntax.place 1 ((Syntax.field 0) ∷ (Syntax.deref RelayPending.ty) ∷ List.[])))
+b5 = Syntax.assign (Syntax.place 14 List.[]) (Syntax.addrOf (Syntax.place 1 ((Syntax.field 0) ∷
+    (Syntax.deref RelayPending.ty) ∷ List.[])))
+
 abbrev b6 : Syntax.Body
-b6 = Syntax.assign (Syntax.place 15 List.[]) (Syntax.aggregate ((Syntax.copy (Syntax.place 14 List.[])) ∷ (Syntax.copy (Syntax.place 1 ((Syntax.field
-    1) ∷ List.[]))) ∷ List.[]))
+b6 = Syntax.assign (Syntax.place 15 List.[]) (Syntax.aggregate ((Syntax.copy (Syntax.place 14 List.[])) ∷
+    (Syntax.copy (Syntax.place 1 ((Syntax.field 1) ∷ List.[]))) ∷ List.[]))
+
 abbrev b7 : Syntax.Body
-b7 = Syntax.assign (Syntax.place 16 List.[]) (Syntax.addrOf (Syntax.place 2 ((Syntax.field 0) ∷ (Syntax.deref RelayCircuit.ty) ∷ List.[])))
+b7 = Syntax.assign (Syntax.place 16 List.[]) (Syntax.addrOf (Syntax.place 2 ((Syntax.field 0) ∷
+    (Syntax.deref RelayCircuit.ty) ∷ List.[])))
+
 abbrev b8 : Syntax.Body
-b8 = Syntax.assign (Syntax.place 17 List.[]) (Syntax.aggregate ((Syntax.copy (Syntax.place 16 List.[])) ∷ (Syntax.copy (Syntax.place 2 ((Syntax.field
-    1) ∷ List.[]))) ∷ List.[]))
+b8 = Syntax.assign (Syntax.place 17 List.[]) (Syntax.aggregate ((Syntax.copy (Syntax.place 16 List.[])) ∷
+    (Syntax.copy (Syntax.place 2 ((Syntax.field 1) ∷ List.[]))) ∷ List.[]))
+
 abbrev b9 : Syntax.Body
-b9 = Syntax.assign (Syntax.place 18 List.[]) (Syntax.addrOf (Syntax.place 3 ((Syntax.field 0) ∷ (Syntax.deref ReservationUsage.ty) ∷ List.[])))
+b9 = Syntax.assign (Syntax.place 18 List.[]) (Syntax.addrOf (Syntax.place 3 ((Syntax.field 0) ∷
+    (Syntax.deref ReservationUsage.ty) ∷ List.[])))
+
 abbrev b10 : Syntax.Body
-b10 = Syntax.assign (Syntax.place 19 List.[]) (Syntax.aggregate ((Syntax.copy (Syntax.place 18 List.[])) ∷ (Syntax.copy (Syntax.place 3 ((Syntax.field
-    1) ∷ List.[]))) ∷ List.[]))
+b10 = Syntax.assign (Syntax.place 19 List.[]) (Syntax.aggregate ((Syntax.copy (Syntax.place 18 List.[])) ∷
+    (Syntax.copy (Syntax.place 3 ((Syntax.field 1) ∷ List.[]))) ∷ List.[]))
+
 abbrev b11 : Syntax.Body
-b11 = Syntax.assign (Syntax.place 20 List.[]) (Syntax.addrOf (Syntax.place 4 ((Syntax.field 0) ∷ (Syntax.deref InflightAction.ty) ∷ List.[])))
+b11 = Syntax.assign (Syntax.place 20 List.[]) (Syntax.addrOf (Syntax.place 4 ((Syntax.field 0) ∷
+    (Syntax.deref InflightAction.ty) ∷ List.[])))
+
 abbrev b12 : Syntax.Body
-b12 = Syntax.assign (Syntax.place 21 List.[]) (Syntax.aggregate ((Syntax.copy (Syntax.place 20 List.[])) ∷ (Syntax.copy (Syntax.place 4 ((Syntax.field
-    1) ∷ List.[]))) ∷ List.[]))
+b12 = Syntax.assign (Syntax.place 21 List.[]) (Syntax.aggregate ((Syntax.copy (Syntax.place 20 List.[])) ∷
+    (Syntax.copy (Syntax.place 4 ((Syntax.field 1) ∷ List.[]))) ∷ List.[]))
+
 abbrev b13 : Syntax.Body
-b13 = Syntax.assign (Syntax.place 22 List.[]) (Syntax.addrOf (Syntax.place 5 ((Syntax.field 0) ∷ (Syntax.deref (Syntax.tyInt Syntax.w32)) ∷ List.[])))
+b13 = Syntax.assign (Syntax.place 22 List.[]) (Syntax.addrOf (Syntax.place 5 ((Syntax.field 0) ∷
+    (Syntax.deref (Syntax.tyInt Syntax.w32)) ∷ List.[])))
+
 abbrev b14 : Syntax.Body
-b14 = Syntax.assign (Syntax.place 23 List.[]) (Syntax.aggregate ((Syntax.copy (Syntax.place 22 List.[])) ∷ (Syntax.copy (Syntax.place 5 ((Syntax.field
-    1) ∷ List.[]))) ∷ List.[]))
+b14 = Syntax.assign (Syntax.place 23 List.[]) (Syntax.aggregate ((Syntax.copy (Syntax.place 22 List.[])) ∷
+    (Syntax.copy (Syntax.place 5 ((Syntax.field 1) ∷ List.[]))) ∷ List.[]))
+
 abbrev b15 : Syntax.Body
-b15 = Syntax.assign (Syntax.place 24 List.[]) (Syntax.addrOf (Syntax.place 6 ((Syntax.field 0) ∷ (Syntax.deref (Syntax.tyInt Syntax.w8)) ∷ List.[])))
+b15 = Syntax.assign (Syntax.place 24 List.[]) (Syntax.addrOf (Syntax.place 6 ((Syntax.field 0) ∷
+    (Syntax.deref (Syntax.tyInt Syntax.w8)) ∷ List.[])))
+
 abbrev b16 : Syntax.Body
-b16 = Syntax.assign (Syntax.place 25 List.[]) (Syntax.aggregate ((Syntax.copy (Syntax.place 24 List.[])) ∷ (Syntax.copy (Syntax.place 6 ((Syntax.field
-    1) ∷ List.[]))) ∷ List.[]))
+b16 = Syntax.assign (Syntax.place 25 List.[]) (Syntax.aggregate ((Syntax.copy (Syntax.place 24 List.[])) ∷
+    (Syntax.copy (Syntax.place 6 ((Syntax.field 1) ∷ List.[]))) ∷ List.[]))
+
 abbrev b17 : Syntax.Body
-b17 = Syntax.call "cases::machine::run_case" ((Syntax.copy (Syntax.place 15 List.[])) ∷ (Syntax.copy (Syntax.place 17 List.[])) ∷ (Syntax.copy
-    (Syntax.place 19 List.[])) ∷ (Syntax.copy (Syntax.place 21 List.[])) ∷ (Syntax.copy (Syntax.place 23 List.[])) ∷ (Syntax.copy (Syntax.place 25
-    List.[])) ∷ (Syntax.copy (Syntax.place 8 List.[])) ∷ List.[]) (Syntax.place 10 List.[])
+b17 = Syntax.call "cases::machine::run_case" ((Syntax.copy (Syntax.place 15 List.[])) ∷
+    (Syntax.copy (Syntax.place 17 List.[])) ∷ (Syntax.copy (Syntax.place 19 List.[])) ∷
+    (Syntax.copy (Syntax.place 21 List.[])) ∷ (Syntax.copy (Syntax.place 23 List.[])) ∷
+    (Syntax.copy (Syntax.place 25 List.[])) ∷ (Syntax.copy (Syntax.place 8 List.[])) ∷ List.[])
+    (Syntax.place 10 List.[])
+
 abbrev b18 : Syntax.Body
-b18 = Syntax.call "cases::machine::say" ((Syntax.copy (Syntax.place 7 List.[])) ∷ (Syntax.copy (Syntax.place 10 List.[])) ∷ List.[]) (Syntax.place 11
-    List.[])
+b18 = Syntax.call "cases::machine::say" ((Syntax.copy (Syntax.place 7 List.[])) ∷
+    (Syntax.copy (Syntax.place 10 List.[])) ∷ List.[]) (Syntax.place 11 List.[])
+
 abbrev b19 : Syntax.Body
 b19 = Syntax.assign (Syntax.place 0 List.[]) (Syntax.rvOpd Syntax.opdUnit)
+
 abbrev b20 : Syntax.Body
 b20 = Syntax.return
+
 abbrev b21 : Syntax.Body
 b21 = Syntax.seq b19 b20
+
 abbrev b22 : Syntax.Body
 b22 = Syntax.seq b18 b21
+
 abbrev b23 : Syntax.Body
 b23 = Syntax.seq b17 b22
+
 abbrev b24 : Syntax.Body
 b24 = Syntax.seq b16 b23
+
 abbrev b25 : Syntax.Body
 b25 = Syntax.seq b15 b24
+
 abbrev b26 : Syntax.Body
 b26 = Syntax.seq b14 b25
+
 abbrev b27 : Syntax.Body
 b27 = Syntax.seq b13 b26
+
 abbrev b28 : Syntax.Body
 b28 = Syntax.seq b12 b27
+
 abbrev b29 : Syntax.Body
 b29 = Syntax.seq b11 b28
+
 abbrev b30 : Syntax.Body
 b30 = Syntax.seq b10 b29
+
 abbrev b31 : Syntax.Body
 b31 = Syntax.seq b9 b30
+
 abbrev b32 : Syntax.Body
 b32 = Syntax.seq b8 b31
+
 abbrev b33 : Syntax.Body
 b33 = Syntax.seq b7 b32
+
 abbrev b34 : Syntax.Body
 b34 = Syntax.seq b6 b33
+
 abbrev b35 : Syntax.Body
 b35 = Syntax.seq b5 b34
+
 abbrev b36 : Syntax.Body
 b36 = Syntax.seq b4 b35
+
 abbrev b37 : Syntax.Body
 b37 = Syntax.seq b3 b36
+
 abbrev b38 : Syntax.Body
 b38 = Syntax.seq b2 b37
+
 abbrev b39 : Syntax.Body
 b39 = Syntax.seq b1 b38
+
 abbrev b40 : Syntax.Body
 b40 = Syntax.seq b0 b39
+
 abbrev pub body : Syntax.Body
 body = b40
+
 abbrev pub Claims : Type 1
-Claims = Kinds.In 0 ps·0 × Kinds.Out 0 ps·0 r·0 × Kinds.In 0 ps·1 × Kinds.Out 0 ps·1 r·1 × Kinds.In 1 ps·2 × Kinds.Out 1 ps·2 r·2 × Kinds.In 6 ps·3 ×
-    Kinds.Out 6 ps·3 r·3 × Kinds.In 0 ps·4 × Kinds.Out 0 ps·4 r·4
+Claims = Kinds.In 0 ps·0 × Kinds.Out 0 ps·0 r·0 × Kinds.In 0 ps·1 × Kinds.Out 0 ps·1 r·1 × Kinds.In 1 ps·2 × Kinds.Out
+    1 ps·2 r·2 × Kinds.In 6 ps·3 × Kinds.Out 6 ps·3 r·3 × Kinds.In 0 ps·4 × Kinds.Out 0 ps·4 r·4
+
 abbrev e0 : Row.Entry
 e0 = (0, Rows'.any-gone Syntax.tyUnit)
+
 abbrev e1 : Row.Entry
 e1 = (1, Mut.mslice RelayPending.row ref7 0)
+
 abbrev e2 : Row.Entry
 e2 = (2, Mut.mslice RelayCircuit.row ref8 1)
+
 abbrev e3 : Row.Entry
 e3 = (3, Mut.mslice ReservationUsage.row ref9 2)
+
 abbrev e4 : Row.Entry
 e4 = (4, Mut.mslice InflightAction.row ref10 3)
+
 abbrev e5 : Row.Entry
 e5 = (5, Mut.mslice (Referent.rtF (Referent.fInt Syntax.w32)) ref11 4)
+
 abbrev e6 : Row.Entry
 e6 = (6, Mut.mslice (Referent.rtF (Referent.fInt Syntax.w8)) ref12 5)
+
 abbrev e7 : Row.Entry
 e7 = (7, Rows'.sc-here (Row.sInt Syntax.w8))
+
 abbrev e8 : Row.Entry
 e8 = (8, Rows'.any-gone Laws.mir)
+
 abbrev e9 : Row.Entry
 e9 = (9, Rows'.any-gone (Syntax.tyArray (Syntax.tyInt Syntax.w8) 5))
+
 abbrev e10 : Row.Entry
 e10 = (10, Rows'.any-gone (Syntax.tyInt Syntax.w64))
+
 abbrev e11 : Row.Entry
 e11 = (11, Rows'.any-gone Syntax.tyUnit)
+
 abbrev e12 : Row.Entry
 e12 = (12, Rows'.any-gone ref0)
+
 abbrev e13 : Row.Entry
-e13 = (13, Rows'.any-gone (Syntax.tyStruct (38 ∷ 91 ∷ 93 ∷ List.[]) (Syntax.tcons ref0 (Syntax.tcons (Syntax.tyInt Syntax.w64) Syntax.tnil))))
+e13 = (13, Rows'.any-gone slice0)
+
 abbrev e14 : Row.Entry
 e14 = (14, Rows'.any-gone ref1)
+
 abbrev e15 : Row.Entry
-e15 = (15, Rows'.any-gone (Syntax.tyStruct (38 ∷ 91 ∷ 93 ∷ List.[]) (Syntax.tcons ref1 (Syntax.tcons (Syntax.tyInt Syntax.w64) Syntax.tnil))))
+e15 = (15, Rows'.any-gone slice1)
+
 abbrev e16 : Row.Entry
 e16 = (16, Rows'.any-gone ref2)
+
 abbrev e17 : Row.Entry
-e17 = (17, Rows'.any-gone (Syntax.tyStruct (38 ∷ 91 ∷ 93 ∷ List.[]) (Syntax.tcons ref2 (Syntax.tcons (Syntax.tyInt Syntax.w64) Syntax.tnil))))
+e17 = (17, Rows'.any-gone slice2)
+
 abbrev e18 : Row.Entry
 e18 = (18, Rows'.any-gone ref3)
+
 abbrev e19 : Row.Entry
-e19 = (19, Rows'.any-gone (Syntax.tyStruct (38 ∷ 91 ∷ 93 ∷ List.[]) (Syntax.tcons ref3 (Syntax.tcons (Syntax.tyInt Syntax.w64) Syntax.tnil))))
+e19 = (19, Rows'.any-gone slice3)
+
 abbrev e20 : Row.Entry
 e20 = (20, Rows'.any-gone ref4)
+
 abbrev e21 : Row.Entry
-e21 = (21, Rows'.any-gone (Syntax.tyStruct (38 ∷ 91 ∷ 93 ∷ List.[]) (Syntax.tcons ref4 (Syntax.tcons (Syntax.tyInt Syntax.w64) Syntax.tnil))))
+e21 = (21, Rows'.any-gone slice4)
+
 abbrev e22 : Row.Entry
 e22 = (22, Rows'.any-gone ref5)
+
 abbrev e23 : Row.Entry
-e23 = (23, Rows'.any-gone (Syntax.tyStruct (38 ∷ 91 ∷ 93 ∷ List.[]) (Syntax.tcons ref5 (Syntax.tcons (Syntax.tyInt Syntax.w64) Syntax.tnil))))
+e23 = (23, Rows'.any-gone slice5)
+
 abbrev e24 : Row.Entry
 e24 = (24, Rows'.any-gone ref6)
+
 abbrev e25 : Row.Entry
-e25 = (25, Rows'.any-gone (Syntax.tyStruct (38 ∷ 91 ∷ 93 ∷ List.[]) (Syntax.tcons ref6 (Syntax.tcons (Syntax.tyInt Syntax.w64) Syntax.tnil))))
+e25 = (25, Rows'.any-gone slice6)
+
 abbrev e0·1 : Row.Entry
 e0·1 = (0, Rows'.sc-here Row.sUnit)
+
 abbrev e7·1 : Row.Entry
 e7·1 = (7, Rows'.any-gone (Syntax.tyInt Syntax.w8))
+
 abbrev e8·1 : Row.Entry
 e8·1 = (8, Rows'.whole (Declared.row Script.the-type))
+
 abbrev e9·1 : Row.Entry
 e9·1 = (9, Rows.arrF (Referent.rtF (Referent.fInt Syntax.w8)) 5 0)
+
 abbrev e6·1 : Row.Entry
 e6·1 = (6, Relend.mslice-owed (Referent.rtF (Referent.fInt Syntax.w8)) ref12 5 6 Row.off)
+
 abbrev e12·1 : Row.Entry
 e12·1 = (12, Relend.msptr (Referent.rtF (Referent.fInt Syntax.w8)) ref0 6)
+
 abbrev e13·1 : Row.Entry
 e13·1 = (13, Mut.mslice (Referent.rtF (Referent.fInt Syntax.w8)) ref0 6)
+
 abbrev e11·1 : Row.Entry
 e11·1 = (11, Rows'.sc-here Row.sUnit)
+
 abbrev e13·2 : Row.Entry
 e13·2 = (13, Mut.msleft (Referent.rtF (Referent.fInt Syntax.w8)) ref0)
+
 abbrev e1·1 : Row.Entry
 e1·1 = (1, Relend.mslice-owed RelayPending.row ref7 0 7 Row.off)
+
 abbrev e14·1 : Row.Entry
 e14·1 = (14, Relend.msptr RelayPending.row ref1 7)
+
 abbrev e15·1 : Row.Entry
 e15·1 = (15, Mut.mslice RelayPending.row ref1 7)
+
 abbrev e2·1 : Row.Entry
 e2·1 = (2, Relend.mslice-owed RelayCircuit.row ref8 1 8 Row.off)
+
 abbrev e16·1 : Row.Entry
 e16·1 = (16, Relend.msptr RelayCircuit.row ref2 8)
+
 abbrev e17·1 : Row.Entry
 e17·1 = (17, Mut.mslice RelayCircuit.row ref2 8)
+
 abbrev e3·1 : Row.Entry
 e3·1 = (3, Relend.mslice-owed ReservationUsage.row ref9 2 9 Row.off)
+
 abbrev e18·1 : Row.Entry
 e18·1 = (18, Relend.msptr ReservationUsage.row ref3 9)
+
 abbrev e19·1 : Row.Entry
 e19·1 = (19, Mut.mslice ReservationUsage.row ref3 9)
+
 abbrev e4·1 : Row.Entry
 e4·1 = (4, Relend.mslice-owed InflightAction.row ref10 3 10 Row.off)
+
 abbrev e20·1 : Row.Entry
 e20·1 = (20, Relend.msptr InflightAction.row ref4 10)
+
 abbrev e21·1 : Row.Entry
 e21·1 = (21, Mut.mslice InflightAction.row ref4 10)
+
 abbrev e5·1 : Row.Entry
 e5·1 = (5, Relend.mslice-owed (Referent.rtF (Referent.fInt Syntax.w32)) ref11 4 11 Row.off)
+
 abbrev e22·1 : Row.Entry
 e22·1 = (22, Relend.msptr (Referent.rtF (Referent.fInt Syntax.w32)) ref5 11)
+
 abbrev e23·1 : Row.Entry
 e23·1 = (23, Mut.mslice (Referent.rtF (Referent.fInt Syntax.w32)) ref5 11)
+
 abbrev e6·2 : Row.Entry
 e6·2 = (6, Reshare.mslice-owedS (Referent.rtF (Referent.fInt Syntax.w8)) ref12 5 12 Row.off)
+
 abbrev e24·1 : Row.Entry
 e24·1 = (24, Relend.ssptr (Referent.rtF (Referent.fInt Syntax.w8)) ref6 12)
+
 abbrev e25·1 : Row.Entry
 e25·1 = (25, Rows'.sslice (Referent.rtF (Referent.fInt Syntax.w8)) ref6 12)
+
 abbrev e10·1 : Row.Entry
 e10·1 = (10, Rows'.sc-here (Row.sInt Syntax.w64))
+
 abbrev e15·2 : Row.Entry
 e15·2 = (15, Mut.msleft RelayPending.row ref1)
+
 abbrev e17·2 : Row.Entry
 e17·2 = (17, Mut.msleft RelayCircuit.row ref2)
+
 abbrev e19·2 : Row.Entry
 e19·2 = (19, Mut.msleft ReservationUsage.row ref3)
+
 abbrev e21·2 : Row.Entry
 e21·2 = (21, Mut.msleft InflightAction.row ref4)
+
 abbrev e23·2 : Row.Entry
 e23·2 = (23, Mut.msleft (Referent.rtF (Referent.fInt Syntax.w32)) ref5)
+
 abbrev pub t0 : List.List Row.Entry
 t0 = e0 ∷ e1 ∷ e2 ∷ e3 ∷ e4 ∷ e5 ∷ e6 ∷ e7 ∷ e8 ∷ e9 ∷ e10 ∷ e11 ∷ e12 ∷ e13 ∷ e14 ∷ e15 ∷ List.[]
+
 abbrev pub t1 : List.List Row.Entry
 t1 = e16 ∷ e17 ∷ e18 ∷ e19 ∷ e20 ∷ e21 ∷ e22 ∷ e23 ∷ e24 ∷ e25 ∷ List.[]
+
 abbrev pub t2 : List.List Row.Entry
 t2 = e0·1 ∷ e1 ∷ e2 ∷ e3 ∷ e4 ∷ e5 ∷ e6 ∷ e7·1 ∷ e8 ∷ e9 ∷ e10 ∷ e11 ∷ e12 ∷ e13 ∷ e14 ∷ e15 ∷ List.[]
+
 abbrev pub t3 : List.List Row.Entry
 t3 = e0 ∷ e1 ∷ e2 ∷ e3 ∷ e4 ∷ e5 ∷ e6 ∷ e7 ∷ e8·1 ∷ e9 ∷ e10 ∷ e11 ∷ e12 ∷ e13 ∷ e14 ∷ e15 ∷ List.[]
+
 abbrev pub t4 : List.List Row.Entry
 t4 = e0 ∷ e1 ∷ e2 ∷ e3 ∷ e4 ∷ e5 ∷ e6 ∷ e7 ∷ e8·1 ∷ e9·1 ∷ e10 ∷ e11 ∷ e12 ∷ e13 ∷ e14 ∷ e15 ∷ List.[]
+
 abbrev pub t5 : List.List Row.Entry
 t5 = e0 ∷ e1 ∷ e2 ∷ e3 ∷ e4 ∷ e5 ∷ e6·1 ∷ e7 ∷ e8·1 ∷ e9·1 ∷ e10 ∷ e11 ∷ e12·1 ∷ e13 ∷ e14 ∷ e15 ∷ List.[]
+
 abbrev pub t6 : List.List Row.Entry
 t6 = e0 ∷ e1 ∷ e2 ∷ e3 ∷ e4 ∷ e5 ∷ e6·1 ∷ e7 ∷ e8·1 ∷ e9·1 ∷ e10 ∷ e11 ∷ e12 ∷ e13·1 ∷ e14 ∷ e15 ∷ List.[]
+
 abbrev pub t7 : List.List Row.Entry
 t7 = e0 ∷ e1 ∷ e2 ∷ e3 ∷ e4 ∷ e5 ∷ e6·1 ∷ e7 ∷ e8·1 ∷ e9·1 ∷ e10 ∷ e11·1 ∷ e12 ∷ e13·2 ∷ e14 ∷ e15 ∷ List.[]
+
 abbrev pub t8 : List.List Row.Entry
 t8 = e0 ∷ e1 ∷ e2 ∷ e3 ∷ e4 ∷ e5 ∷ e6·1 ∷ e7 ∷ e8·1 ∷ e9 ∷ e10 ∷ e11·1 ∷ e12 ∷ e13·2 ∷ e14 ∷ e15 ∷ List.[]
+
 abbrev pub t9 : List.List Row.Entry
 t9 = e0 ∷ e1 ∷ e2 ∷ e3 ∷ e4 ∷ e5 ∷ e6·1 ∷ e7 ∷ e8·1 ∷ e9 ∷ e10 ∷ e11 ∷ e12 ∷ e13·2 ∷ e14 ∷ e15 ∷ List.[]
+
 abbrev pub t10 : List.List Row.Entry
 t10 = e0 ∷ e1·1 ∷ e2 ∷ e3 ∷ e4 ∷ e5 ∷ e6 ∷ e7 ∷ e8·1 ∷ e9 ∷ e10 ∷ e11 ∷ e12 ∷ e13 ∷ e14·1 ∷ e15 ∷ List.[]
+
 abbrev pub t11 : List.List Row.Entry
 t11 = e0 ∷ e1·1 ∷ e2 ∷ e3 ∷ e4 ∷ e5 ∷ e6 ∷ e7 ∷ e8·1 ∷ e9 ∷ e10 ∷ e11 ∷ e12 ∷ e13 ∷ e14 ∷ e15·1 ∷ List.[]
+
 abbrev pub t12 : List.List Row.Entry
 t12 = e0 ∷ e1·1 ∷ e2·1 ∷ e3 ∷ e4 ∷ e5 ∷ e6 ∷ e7 ∷ e8·1 ∷ e9 ∷ e10 ∷ e11 ∷ e12 ∷ e13 ∷ e14 ∷ e15·1 ∷ List.[]
+
 abbrev pub t13 : List.List Row.Entry
 t13 = e16·1 ∷ e17 ∷ e18 ∷ e19 ∷ e20 ∷ e21 ∷ e22 ∷ e23 ∷ e24 ∷ e25 ∷ List.[]
+
 abbrev pub t14 : List.List Row.Entry
 t14 = e16 ∷ e17·1 ∷ e18 ∷ e19 ∷ e20 ∷ e21 ∷ e22 ∷ e23 ∷ e24 ∷ e25 ∷ List.[]
+
 abbrev pub t15 : List.List Row.Entry
 t15 = e0 ∷ e1·1 ∷ e2·1 ∷ e3·1 ∷ e4 ∷ e5 ∷ e6 ∷ e7 ∷ e8·1 ∷ e9 ∷ e10 ∷ e11 ∷ e12 ∷ e13 ∷ e14 ∷ e15·1 ∷ List.[]
+
 abbrev pub t16 : List.List Row.Entry
 t16 = e16 ∷ e17·1 ∷ e18·1 ∷ e19 ∷ e20 ∷ e21 ∷ e22 ∷ e23 ∷ e24 ∷ e25 ∷ List.[]
+
 abbrev pub t17 : List.List Row.Entry
 t17 = e16 ∷ e17·1 ∷ e18 ∷ e19·1 ∷ e20 ∷ e21 ∷ e22 ∷ e23 ∷ e24 ∷ e25 ∷ List.[]
+
 abbrev pub t18 : List.List Row.Entry
 t18 = e0 ∷ e1·1 ∷ e2·1 ∷ e3·1 ∷ e4·1 ∷ e5 ∷ e6 ∷ e7 ∷ e8·1 ∷ e9 ∷ e10 ∷ e11 ∷ e12 ∷ e13 ∷ e14 ∷ e15·1 ∷ List.[]
+
 abbrev pub t19 : List.List Row.Entry
 t19 = e16 ∷ e17·1 ∷ e18 ∷ e19·1 ∷ e20·1 ∷ e21 ∷ e22 ∷ e23 ∷ e24 ∷ e25 ∷ List.[]
+
 abbrev pub t20 : List.List Row.Entry
 t20 = e16 ∷ e17·1 ∷ e18 ∷ e19·1 ∷ e20 ∷ e21·1 ∷ e22 ∷ e23 ∷ e24 ∷ e25 ∷ List.[]
+
 abbrev pub t21 : List.List Row.Entry
 t21 = e0 ∷ e1·1 ∷ e2·1 ∷ e3·1 ∷ e4·1 ∷ e5·1 ∷ e6 ∷ e7 ∷ e8·1 ∷ e9 ∷ e10 ∷ e11 ∷ e12 ∷ e13 ∷ e14 ∷ e15·1 ∷ List.[]
+
 abbrev pub t22 : List.List Row.Entry
 t22 = e16 ∷ e17·1 ∷ e18 ∷ e19·1 ∷ e20 ∷ e21·1 ∷ e22·1 ∷ e23 ∷ e24 ∷ e25 ∷ List.[]
+
 abbrev pub t23 : List.List Row.Entry
 t23 = e16 ∷ e17·1 ∷ e18 ∷ e19·1 ∷ e20 ∷ e21·1 ∷ e22 ∷ e23·1 ∷ e24 ∷ e25 ∷ List.[]
+
 abbrev pub t24 : List.List Row.Entry
 t24 = e0 ∷ e1·1 ∷ e2·1 ∷ e3·1 ∷ e4·1 ∷ e5·1 ∷ e6·2 ∷ e7 ∷ e8·1 ∷ e9 ∷ e10 ∷ e11 ∷ e12 ∷ e13 ∷ e14 ∷ e15·1 ∷ List.[]
+
 abbrev pub t25 : List.List Row.Entry
 t25 = e16 ∷ e17·1 ∷ e18 ∷ e19·1 ∷ e20 ∷ e21·1 ∷ e22 ∷ e23·1 ∷ e24·1 ∷ e25 ∷ List.[]
+
 abbrev pub t26 : List.List Row.Entry
 t26 = e16 ∷ e17·1 ∷ e18 ∷ e19·1 ∷ e20 ∷ e21·1 ∷ e22 ∷ e23·1 ∷ e24 ∷ e25·1 ∷ List.[]
+
 abbrev pub t27 : List.List Row.Entry
 t27 = e0 ∷ e1·1 ∷ e2·1 ∷ e3·1 ∷ e4·1 ∷ e5·1 ∷ e6·2 ∷ e7 ∷ e8·1 ∷ e9 ∷ e10·1 ∷ e11 ∷ e12 ∷ e13 ∷ e14 ∷ e15·2 ∷ List.[]
+
 abbrev pub t28 : List.List Row.Entry
 t28 = e16 ∷ e17·2 ∷ e18 ∷ e19·2 ∷ e20 ∷ e21·2 ∷ e22 ∷ e23·2 ∷ e24 ∷ e25·1 ∷ List.[]
+
 abbrev pub t29 : List.List Row.Entry
 t29 = e16 ∷ e17·2 ∷ e18 ∷ e19·2 ∷ e20 ∷ e21·2 ∷ e22 ∷ e23·2 ∷ e24 ∷ e25 ∷ List.[]
+
 abbrev pub t30 : List.List Row.Entry
 t30 = e0 ∷ e1·1 ∷ e2·1 ∷ e3·1 ∷ e4·1 ∷ e5·1 ∷ e6·2 ∷ e7 ∷ e8 ∷ e9 ∷ e10·1 ∷ e11 ∷ e12 ∷ e13 ∷ e14 ∷ e15·2 ∷ List.[]
+
 abbrev pub t31 : List.List Row.Entry
 t31 = e0 ∷ e1 ∷ e2·1 ∷ e3·1 ∷ e4·1 ∷ e5·1 ∷ e6·2 ∷ e7 ∷ e8 ∷ e9 ∷ e10·1 ∷ e11 ∷ e12 ∷ e13 ∷ e14 ∷ e15 ∷ List.[]
+
 abbrev pub t32 : List.List Row.Entry
 t32 = e0 ∷ e1 ∷ e2 ∷ e3·1 ∷ e4·1 ∷ e5·1 ∷ e6·2 ∷ e7 ∷ e8 ∷ e9 ∷ e10·1 ∷ e11 ∷ e12 ∷ e13 ∷ e14 ∷ e15 ∷ List.[]
+
 abbrev pub t33 : List.List Row.Entry
 t33 = e16 ∷ e17 ∷ e18 ∷ e19·2 ∷ e20 ∷ e21·2 ∷ e22 ∷ e23·2 ∷ e24 ∷ e25 ∷ List.[]
+
 abbrev pub t34 : List.List Row.Entry
 t34 = e0 ∷ e1 ∷ e2 ∷ e3 ∷ e4·1 ∷ e5·1 ∷ e6·2 ∷ e7 ∷ e8 ∷ e9 ∷ e10·1 ∷ e11 ∷ e12 ∷ e13 ∷ e14 ∷ e15 ∷ List.[]
+
 abbrev pub t35 : List.List Row.Entry
 t35 = e16 ∷ e17 ∷ e18 ∷ e19 ∷ e20 ∷ e21·2 ∷ e22 ∷ e23·2 ∷ e24 ∷ e25 ∷ List.[]
+
 abbrev pub t36 : List.List Row.Entry
 t36 = e0 ∷ e1 ∷ e2 ∷ e3 ∷ e4 ∷ e5·1 ∷ e6·2 ∷ e7 ∷ e8 ∷ e9 ∷ e10·1 ∷ e11 ∷ e12 ∷ e13 ∷ e14 ∷ e15 ∷ List.[]
+
 abbrev pub t37 : List.List Row.Entry
 t37 = e16 ∷ e17 ∷ e18 ∷ e19 ∷ e20 ∷ e21 ∷ e22 ∷ e23·2 ∷ e24 ∷ e25 ∷ List.[]
+
 abbrev pub t38 : List.List Row.Entry
 t38 = e0 ∷ e1 ∷ e2 ∷ e3 ∷ e4 ∷ e5 ∷ e6·2 ∷ e7 ∷ e8 ∷ e9 ∷ e10·1 ∷ e11 ∷ e12 ∷ e13 ∷ e14 ∷ e15 ∷ List.[]
+
 abbrev pub t39 : List.List Row.Entry
 t39 = e0 ∷ e1 ∷ e2 ∷ e3 ∷ e4 ∷ e5 ∷ e6 ∷ e7 ∷ e8 ∷ e9 ∷ e10·1 ∷ e11 ∷ e12 ∷ e13 ∷ e14 ∷ e15 ∷ List.[]
+
 abbrev pub t40 : List.List Row.Entry
 t40 = e0 ∷ e1 ∷ e2 ∷ e3 ∷ e4 ∷ e5 ∷ e6 ∷ e7 ∷ e8 ∷ e9 ∷ e10·1 ∷ e11·1 ∷ e12 ∷ e13 ∷ e14 ∷ e15 ∷ List.[]
+
 abbrev pub t41 : List.List Row.Entry
 t41 = e0·1 ∷ e1 ∷ e2 ∷ e3 ∷ e4 ∷ e5 ∷ e6 ∷ e7 ∷ e8 ∷ e9 ∷ e10·1 ∷ e11 ∷ e12 ∷ e13 ∷ e14 ∷ e15 ∷ List.[]
+
 abbrev pub t42 : List.List Row.Entry
 t42 = e0·1 ∷ e1 ∷ e2 ∷ e3 ∷ e4 ∷ e5 ∷ e6 ∷ e7 ∷ e8 ∷ e9 ∷ e10 ∷ e11 ∷ e12 ∷ e13 ∷ e14 ∷ e15 ∷ List.[]
+
 abbrev pub T0 : Row.Cx
 T0 = record { locals = List._++_ t0 t1; slots = List.[] }
+
 abbrev pub T1 : Row.Cx
 T1 = record { locals = List._++_ t2 t1; slots = List.[] }
+
 abbrev pub T2 : Row.Cx
 T2 = record { locals = List._++_ t0 t1; slots = List.[] }
+
 abbrev pub T3 : Row.Cx
 T3 = record { locals = List._++_ t0 t1; slots = List.[] }
+
 abbrev pub T4 : Row.Cx
 T4 = record { locals = List._++_ t3 t1; slots = List.[] }
+
 abbrev pub T5 : Row.Cx
 T5 = record { locals = List._++_ t4 t1; slots = List.[] }
+
 abbrev pub T7 : Row.Cx
 T7 = record { locals = List._++_ t5 t1; slots = List.[] }
+
 abbrev pub T8 : Row.Cx
 T8 = record { locals = List._++_ t6 t1; slots = List.[] }
+
 abbrev pub T9 : Row.Cx
 T9 = record { locals = List._++_ t7 t1; slots = List.[] }
+
 abbrev pub T10 : Row.Cx
 T10 = record { locals = List._++_ t8 t1; slots = List.[] }
+
 abbrev pub T11 : Row.Cx
 T11 = record { locals = List._++_ t9 t1; slots = List.[] }
+
 abbrev pub T13 : Row.Cx
 T13 = record { locals = List._++_ t3 t1; slots = List.[] }
+
 abbrev pub T14 : Row.Cx
 T14 = record { locals = List._++_ t3 t1; slots = List.[] }
+
 abbrev pub T17 : Row.Cx
 T17 = record { locals = List._++_ t10 t1; slots = List.[] }
+
 abbrev pub T18 : Row.Cx
 T18 = record { locals = List._++_ t11 t1; slots = List.[] }
+
 abbrev pub T20 : Row.Cx
 T20 = record { locals = List._++_ t12 t13; slots = List.[] }
+
 abbrev pub T21 : Row.Cx
 T21 = record { locals = List._++_ t12 t14; slots = List.[] }
+
 abbrev pub T23 : Row.Cx
 T23 = record { locals = List._++_ t15 t16; slots = List.[] }
+
 abbrev pub T24 : Row.Cx
 T24 = record { locals = List._++_ t15 t17; slots = List.[] }
+
 abbrev pub T26 : Row.Cx
 T26 = record { locals = List._++_ t18 t19; slots = List.[] }
+
 abbrev pub T27 : Row.Cx
 T27 = record { locals = List._++_ t18 t20; slots = List.[] }
+
 abbrev pub T29 : Row.Cx
 T29 = record { locals = List._++_ t21 t22; slots = List.[] }
+
 abbrev pub T30 : Row.Cx
 T30 = record { locals = List._++_ t21 t23; slots = List.[] }
+
 abbrev pub T32 : Row.Cx
 T32 = record { locals = List._++_ t24 t25; slots = List.[] }
+
 abbrev pub T33 : Row.Cx
 T33 = record { locals = List._++_ t24 t26; slots = List.[] }
+
 abbrev pub T34 : Row.Cx
 T34 = record { locals = List._++_ t27 t28; slots = List.[] }
+
 abbrev pub T35 : Row.Cx
 T35 = record { locals = List._++_ t27 t29; slots = List.[] }
+
 abbrev pub T36 : Row.Cx
 T36 = record { locals = List._++_ t30 t29; slots = List.[] }
+
 abbrev pub T38 : Row.Cx
 T38 = record { locals = List._++_ t31 t29; slots = List.[] }
+
 abbrev pub T41 : Row.Cx
 T41 = record { locals = List._++_ t32 t33; slots = List.[] }
+
 abbrev pub T44 : Row.Cx
 T44 = record { locals = List._++_ t34 t35; slots = List.[] }
+
 abbrev pub T47 : Row.Cx
 T47 = record { locals = List._++_ t36 t37; slots = List.[] }
+
 abbrev pub T50 : Row.Cx
 T50 = record { locals = List._++_ t38 t1; slots = List.[] }
+
 abbrev pub T51 : Row.Cx
 T51 = record { locals = List._++_ t38 t1; slots = List.[] }
+
 abbrev pub T54 : Row.Cx
 T54 = record { locals = List._++_ t39 t1; slots = List.[] }
+
 abbrev pub T56 : Row.Cx
 T56 = record { locals = List._++_ t40 t1; slots = List.[] }
+
 abbrev pub T57 : Row.Cx
 T57 = record { locals = List._++_ t39 t1; slots = List.[] }
+
 abbrev pub T58 : Row.Cx
 T58 = record { locals = List._++_ t41 t1; slots = List.[] }
+
 abbrev pub T59 : Row.Cx
 T59 = record { locals = List._++_ t42 t1; slots = List.[] }
+
 abbrev pub T60 : Row.Cx
 T60 = record { locals = List._++_ t2 t1; slots = List.[] }
+
 abbrev pub O0 : Typed.Outs
 O0 = record { next = Option.none; exits = List.[]; returns = Option.some T1 }
+
 module _ (claims· : Claims) where
   abbrev s0 : Typed.Gives T0 T2
   s0 = Know.k-sl-known (Referent.fInt Syntax.w32) T0 5 4 ref11 Row.off 0 λ x. x
+
   abbrev s1 : Typed.Gives T2 T3
   s1 = Know.k-sl-known (Referent.fInt Syntax.w8) T2 6 5 ref12 Row.off 0 λ x. x
+
+  abbrev args2 : Args'.ArgsT ps·0 (T3 .locals)
+  args2 = (Num.vAt 7 λ x. x, tt)
+
   abbrev s2 : Typed.Both T3 T4
-  s2 = Call.callB ps·0 r·0 (claims· .0) (claims· .1) T3 (Num.vAt 7 λ x. x, tt) 8 List.[] Laws.mir
+  s2 = Call.callB ps·0 r·0 (claims· .0) (claims· .1) T3 args2 8 List.[] Laws.mir
+
+  abbrev args3 : Args'.ArgsT ps·1 (T4 .locals)
+  args3 = (Num.vAt 7 λ x. x, tt)
+
   abbrev s3 : Typed.Both T4 T5
-  s3 = Call.callB ps·1 r·1 (claims· .2) (claims· .3) T4 (Num.vAt 7 λ x. x, tt) 9 List.[] (Syntax.tyArray (Syntax.tyInt Syntax.w8) 5)
+  s3 = Call.callB ps·1 r·1 (claims· .2) (claims· .3) T4 args3 9 List.[] (Syntax.tyArray (Syntax.tyInt Syntax.w8) 5)
+
   abbrev s5 : Typed.Gives T5 T7
   s5 = Relend.k-sl-relend (Referent.rtF (Referent.fInt Syntax.w8)) T5 6 12 5 6 ref12 ref0 Row.off λ x. x
+
   abbrev s6 : Typed.Asks T7 T8
-  s6 = Relend.k-sl-aggregate (Referent.rtF (Referent.fInt Syntax.w8)) (Relend.asMut (Referent.rtF (Referent.fInt Syntax.w8))) T7 12 13 6 ref0 ref0 (λ
-      x. x) (Scalar.oFld 6 ((Syntax.field 1) ∷ List.[]) (Syntax.tyInt Syntax.w64) 8 λ v. Shared.lenV (v .0))
+  s6 = Relend.k-sl-aggregate (Referent.rtF (Referent.fInt Syntax.w8))
+      (Relend.asMut (Referent.rtF (Referent.fInt Syntax.w8))) T7 12 13 6 ref0 ref0 (λ x. x) (Scalar.oFld 6
+      ((Syntax.field 1) ∷ List.[]) (Syntax.tyInt Syntax.w64) 8 λ v. Shared.lenV (v .0))
+
+  abbrev args7 : Args'.ArgsT ps·2 (T8 .locals)
+  args7 = (record { pos = 13; ty = ref0; ref = λ x. x }, (record { pos = 9; st = List.[]; d = 0; at = λ x. x }, tt))
+
   abbrev s7 : Typed.Both T8 T9
-  s7 = Call.callB ps·2 r·2 (claims· .4) (claims· .5) T8 (record { pos = 13; ty = Syntax.tyRef Syntax.erased Syntax.mut (Syntax.tyInt Syntax.w8); ref =
-      λ x. x; }, (record { pos = 9; st = List.[]; d = 0; at = λ x. x }, tt),) 11 (6 ∷ List.[]) Syntax.tyUnit
+  s7 = Call.callB ps·2 r·2 (claims· .4) (claims· .5) T8 args7 11 (6 ∷ List.[]) Syntax.tyUnit
+
   abbrev s8 : Typed.Mo T9 → Typed.Mo T10
   s8 = Scalar.n-room T9 9 (Syntax.tyArray (Syntax.tyInt Syntax.w8) 5)
+
   abbrev s9 : Typed.Mo T10 → Typed.Mo T11
   s9 = Scalar.n-room T10 11 Syntax.tyUnit
+
   abbrev s11 : Typed.Both T11 T13
   s11 = Relend.k-back-sl (Referent.rtF (Referent.fInt Syntax.w8)) T11 13 6 5 6 ref12 ref0 Row.off (λ x. x) λ x. x
+
   abbrev s12 : Typed.Gives T13 T14
   s12 = Know.k-sl-known (Referent.fInt Syntax.w8) T13 6 5 ref12 Row.off 0 λ x. x
+
   abbrev s15 : Typed.Gives T14 T17
   s15 = Relend.k-sl-relend RelayPending.row T14 1 14 0 7 ref7 ref1 Row.off λ x. x
+
   abbrev s16 : Typed.Asks T17 T18
-  s16 = Relend.k-sl-aggregate RelayPending.row (Relend.asMut RelayPending.row) T17 14 15 7 ref1 ref1 (λ x. x) (Scalar.oFld 1 ((Syntax.field 1) ∷
-      List.[]) (Syntax.tyInt Syntax.w64) 8 λ v. Shared.lenV (v .0))
+  s16 = Relend.k-sl-aggregate RelayPending.row (Relend.asMut RelayPending.row) T17 14 15 7 ref1 ref1 (λ x. x) (Scalar.oFld
+      1 ((Syntax.field 1) ∷ List.[]) (Syntax.tyInt Syntax.w64) 8 λ v. Shared.lenV (v .0))
+
   abbrev s18 : Typed.Gives T18 T20
   s18 = Relend.k-sl-relend RelayCircuit.row T18 2 16 1 8 ref8 ref2 Row.off λ x. x
+
   abbrev s19 : Typed.Asks T20 T21
-  s19 = Relend.k-sl-aggregate RelayCircuit.row (Relend.asMut RelayCircuit.row) T20 16 17 8 ref2 ref2 (λ x. x) (Scalar.oFld 2 ((Syntax.field 1) ∷
-      List.[]) (Syntax.tyInt Syntax.w64) 8 λ v. Shared.lenV (v .0))
+  s19 = Relend.k-sl-aggregate RelayCircuit.row (Relend.asMut RelayCircuit.row) T20 16 17 8 ref2 ref2 (λ x. x) (Scalar.oFld
+      2 ((Syntax.field 1) ∷ List.[]) (Syntax.tyInt Syntax.w64) 8 λ v. Shared.lenV (v .0))
+
   abbrev s21 : Typed.Gives T21 T23
   s21 = Relend.k-sl-relend ReservationUsage.row T21 3 18 2 9 ref9 ref3 Row.off λ x. x
+
   abbrev s22 : Typed.Asks T23 T24
-  s22 = Relend.k-sl-aggregate ReservationUsage.row (Relend.asMut ReservationUsage.row) T23 18 19 9 ref3 ref3 (λ x. x) (Scalar.oFld 3 ((Syntax.field 1)
-      ∷ List.[]) (Syntax.tyInt Syntax.w64) 8 λ v. Shared.lenV (v .0))
+  s22 = Relend.k-sl-aggregate ReservationUsage.row (Relend.asMut ReservationUsage.row) T23 18 19 9 ref3 ref3 (λ x. x) (Scalar.oFld
+      3 ((Syntax.field 1) ∷ List.[]) (Syntax.tyInt Syntax.w64) 8 λ v. Shared.lenV (v .0))
+
   abbrev s24 : Typed.Gives T24 T26
   s24 = Relend.k-sl-relend InflightAction.row T24 4 20 3 10 ref10 ref4 Row.off λ x. x
+
   abbrev s25 : Typed.Asks T26 T27
-  s25 = Relend.k-sl-aggregate InflightAction.row (Relend.asMut InflightAction.row) T26 20 21 10 ref4 ref4 (λ x. x) (Scalar.oFld 4 ((Syntax.field 1) ∷
-      List.[]) (Syntax.tyInt Syntax.w64) 8 λ v. Shared.lenV (v .0))
+  s25 = Relend.k-sl-aggregate InflightAction.row (Relend.asMut InflightAction.row) T26 20 21 10 ref4 ref4 (λ x. x) (Scalar.oFld
+      4 ((Syntax.field 1) ∷ List.[]) (Syntax.tyInt Syntax.w64) 8 λ v. Shared.lenV (v .0))
+
   abbrev s27 : Typed.Gives T27 T29
   s27 = Relend.k-sl-relend (Referent.rtF (Referent.fInt Syntax.w32)) T27 5 22 4 11 ref11 ref5 Row.off λ x. x
+
   abbrev s28 : Typed.Asks T29 T30
-  s28 = Relend.k-sl-aggregate (Referent.rtF (Referent.fInt Syntax.w32)) (Relend.asMut (Referent.rtF (Referent.fInt Syntax.w32))) T29 22 23 11 ref5
-      ref5 (λ x. x) (Scalar.oFld 5 ((Syntax.field 1) ∷ List.[]) (Syntax.tyInt Syntax.w64) 8 λ v. Shared.lenV (v .0))
+  s28 = Relend.k-sl-aggregate (Referent.rtF (Referent.fInt Syntax.w32))
+      (Relend.asMut (Referent.rtF (Referent.fInt Syntax.w32))) T29 22 23 11 ref5 ref5 (λ x. x) (Scalar.oFld 5
+      ((Syntax.field 1) ∷ List.[]) (Syntax.tyInt Syntax.w64) 8 λ v. Shared.lenV (v .0))
+
   abbrev s30 : Typed.Gives T30 T32
   s30 = Reshare.k-sl-reshare (Referent.rtF (Referent.fInt Syntax.w8)) T30 6 24 5 12 ref12 ref6 Row.off λ x. x
+
   abbrev s31 : Typed.Asks T32 T33
-  s31 = Relend.k-sl-aggregate (Referent.rtF (Referent.fInt Syntax.w8)) (Relend.asShr (Referent.rtF (Referent.fInt Syntax.w8))) T32 24 25 12 ref6 ref6
-      (λ x. x) (Scalar.oFld 6 ((Syntax.field 1) ∷ List.[]) (Syntax.tyInt Syntax.w64) 8 λ v. Shared.lenV (v .0))
+  s31 = Relend.k-sl-aggregate (Referent.rtF (Referent.fInt Syntax.w8))
+      (Relend.asShr (Referent.rtF (Referent.fInt Syntax.w8))) T32 24 25 12 ref6 ref6 (λ x. x) (Scalar.oFld 6
+      ((Syntax.field 1) ∷ List.[]) (Syntax.tyInt Syntax.w64) 8 λ v. Shared.lenV (v .0))
+
+  abbrev args32 : Args'.ArgsT ps·3 (T33 .locals)
+  args32 = (
+    record { pos = 15; ty = ref1; ref = λ x. x },
+    (
+      record { pos = 17; ty = ref2; ref = λ x. x },
+      (
+        record { pos = 19; ty = ref3; ref = λ x. x },
+        (
+          record { pos = 21; ty = ref4; ref = λ x. x },
+          (
+            record { pos = 23; ty = ref5; ref = λ x. x },
+            (record { pos = 25; ty = ref6; ref = λ x. x }, (record { pos = 8; st = List.[]; d = 0; at = λ x. x }, tt)),
+          ),
+        ),
+      ),
+    ),
+  )
+
   abbrev s32 : Typed.Both T33 T34
-  s32 = Call.callB ps·3 r·3 (claims· .6) (claims· .7) T33 (record { pos = 15; ty = Syntax.tyRef Syntax.erased Syntax.mut RelayPending.to; ref = λ x.
-      x; }, (record { pos = 17; ty = Syntax.tyRef Syntax.erased Syntax.mut RelayCircuit.to; ref = λ x. x; }, (record { pos = 19; ty = Syntax.tyRef
-      Syntax.erased Syntax.mut ReservationUsage.to; ref = λ x. x; }, (record { pos = 21; ty = Syntax.tyRef Syntax.erased Syntax.mut InflightAction.to;
-      ref = λ x. x; }, (record { pos = 23; ty = Syntax.tyRef Syntax.erased Syntax.mut (Syntax.tyInt Syntax.w32); ref = λ x. x; }, (record { pos = 25;
-      ty = Syntax.tyRef Syntax.erased Syntax.imm (Syntax.tyInt Syntax.w8); ref = λ x. x; }, (record { pos = 8; st = List.[]; d = 0; at = λ x. x },
-      tt),),),),),),) 10 (7 ∷ 8 ∷ 9 ∷ 10 ∷ 11 ∷ 12 ∷ List.[]) (Syntax.tyInt Syntax.w64)
+  s32 = Call.callB ps·3 r·3 (claims· .6) (claims· .7) T33 args32 10 (7 ∷ 8 ∷ 9 ∷ 10 ∷ 11 ∷ 12 ∷ List.[])
+      (Syntax.tyInt Syntax.w64)
+
   abbrev s33 : Typed.Mo T34 → Typed.Mo T35
-  s33 = Scalar.n-room T34 25 (Syntax.tyStruct (38 ∷ 91 ∷ 93 ∷ List.[]) (Syntax.tcons ref6 (Syntax.tcons (Syntax.tyInt Syntax.w64) Syntax.tnil)))
+  s33 = Scalar.n-room T34 25 slice6
+
   abbrev s34 : Typed.Mo T35 → Typed.Mo T36
   s34 = Scalar.n-room T35 8 Laws.mir
+
   abbrev s36 : Typed.Both T36 T38
   s36 = Relend.k-back-sl RelayPending.row T36 15 1 0 7 ref7 ref1 Row.off (λ x. x) λ x. x
+
   abbrev s39 : Typed.Both T38 T41
   s39 = Relend.k-back-sl RelayCircuit.row T38 17 2 1 8 ref8 ref2 Row.off (λ x. x) λ x. x
+
   abbrev s42 : Typed.Both T41 T44
   s42 = Relend.k-back-sl ReservationUsage.row T41 19 3 2 9 ref9 ref3 Row.off (λ x. x) λ x. x
+
   abbrev s45 : Typed.Both T44 T47
   s45 = Relend.k-back-sl InflightAction.row T44 21 4 3 10 ref10 ref4 Row.off (λ x. x) λ x. x
+
   abbrev s48 : Typed.Both T47 T50
   s48 = Relend.k-back-sl (Referent.rtF (Referent.fInt Syntax.w32)) T47 23 5 4 11 ref11 ref5 Row.off (λ x. x) λ x. x
+
   abbrev s49 : Typed.Gives T50 T51
   s49 = Know.k-sl-known (Referent.fInt Syntax.w32) T50 5 4 ref11 Row.off 0 λ x. x
+
   abbrev s52 : Typed.Mo T51 → Typed.Mo T54
   s52 = Reshare.n-back-sl-shr (Referent.rtF (Referent.fInt Syntax.w8)) T51 6 5 12 ref12 Row.off λ x. x
+
+  abbrev args54 : Args'.ArgsT ps·4 (T54 .locals)
+  args54 = (Num.vAt 7 λ x. x, (Num.vAt 10 λ x. x, tt))
+
   abbrev s54 : Typed.Both T54 T56
-  s54 = Call.callB ps·4 r·4 (claims· .8) (claims· .9) T54 (Num.vAt 7 λ x. x, (Num.vAt 10 λ x. x, tt),) 11 List.[] Syntax.tyUnit
+  s54 = Call.callB ps·4 r·4 (claims· .8) (claims· .9) T54 args54 11 List.[] Syntax.tyUnit
+
   abbrev s55 : Typed.Mo T56 → Typed.Mo T57
   s55 = Scalar.n-room T56 11 Syntax.tyUnit
+
   abbrev s56 : Typed.Mo T57 → Typed.Mo T58
   s56 = Scalar.n-use T57 Scalar.oUnit 0 (Rows'.sc-here Row.sUnit) (Row.sUnit .of)
+
   abbrev s57 : Typed.Mo T58 → Typed.Mo T59
   s57 = Scalar.n-room T58 10 (Syntax.tyInt Syntax.w64)
+
   abbrev s58 : Typed.Mo T59 → Typed.Mo T60
   s58 = Scalar.n-room T59 7 (Syntax.tyInt Syntax.w8)
-  module _ (Pre· : (κs : Lifetimes.Lfts 6) → Kinds.Dens κs ps → Type 0) (Post· : (κs : Lifetimes.Lfts 6) → (a : Kinds.Dens κs ps) → Kinds.Plain 6 ps r
-      κs) where
+
+  module _ (Pre· : (κs : Lifetimes.Lfts 6) → Kinds.Dens κs ps → Type 0) (Post· : (κs : Lifetimes.Lfts 6) →
+      (a : Kinds.Dens κs ps) → Kinds.Plain 6 ps r κs) where
     module _ (M : Type 1) where
       abbrev pub Closed : Type 2
-      Closed = (𝓤 : URA.URA M) (H : Wp.Heap 𝓤) (A : Atoms.Atoms 𝓤) (W : Kit.Given 𝓤 H A) (𝓣 : Wp.Tables 𝓤 H) (known0 : Plain.Known 𝓤 H A W 𝓣 0 ps·0
-          r·0 (claims· .0) (claims· .1) "cases::script::script_of") (known1 : Plain.Known 𝓤 H A W 𝓣 0 ps·1 r·1 (claims· .2) (claims· .3)
-          "cases::script::head_of") (known2 : Plain.Known 𝓤 H A W 𝓣 1 ps·2 r·2 (claims· .4) (claims· .5) "cases::machine::put_head") (known3 :
-          Plain.Known 𝓤 H A W 𝓣 6 ps·3 r·3 (claims· .6) (claims· .7) "cases::machine::run_case") (known4 : Plain.Known 𝓤 H A W 𝓣 0 ps·4 r·4 (claims·
-          .8) (claims· .9) "cases::machine::say") → Statement.Triple 𝓤 (Wp.WpFn 𝓤 H (𝓣 .C) (𝓣 .Λ) (Function.fnOf 6 ps r xs m hs body))
-          (Function.plainOf 𝓤 H A 6 ps r Pre· Post·)
+      Closed = (𝓤 : URA.URA M) (H : Wp.Heap 𝓤) (A : Atoms.Atoms 𝓤) (W : Kit.Given 𝓤 H A) (𝓣 : Wp.Tables 𝓤 H) (known0 :
+          Plain.Known 𝓤 H A W 𝓣 0 ps·0 r·0 (claims· .0) (claims· .1) "cases::script::script_of") (known1 : Plain.Known
+          𝓤 H A W 𝓣 0 ps·1 r·1 (claims· .2) (claims· .3) "cases::script::head_of") (known2 : Plain.Known 𝓤 H A W 𝓣 1
+          ps·2 r·2 (claims· .4) (claims· .5) "cases::machine::put_head") (known3 : Plain.Known 𝓤 H A W 𝓣 6 ps·3 r·3
+          (claims· .6) (claims· .7) "cases::machine::run_case") (known4 : Plain.Known 𝓤 H A W 𝓣 0 ps·4 r·4 (claims· .8)
+          (claims· .9) "cases::machine::say") → Statement.Triple 𝓤 (Wp.WpFn 𝓤 H (𝓣 .C) (𝓣 .Λ)
+          (Function.fnOf 6 ps r xs m hs body)) (Function.plainOf 𝓤 H A 6 ps r Pre· Post·)
+
     module _ where
       abbrev at0 : Typed.TF T60 O0
       at0 = Typed.atRet O0
+
       abbrev at1 : Typed.TF T59 O0
       at1 = λ Ψ. Typed.pass T59 T60 s58 (at0 Ψ)
+
       abbrev at2 : Typed.TF T58 O0
       at2 = λ Ψ. Typed.pass T58 T59 s57 (at1 Ψ)
+
       abbrev at3 : Typed.TF T57 O0
       at3 = λ Ψ. Typed.pass T57 T58 s56 (at2 Ψ)
+
       abbrev at4 : Typed.TF T56 O0
       at4 = λ Ψ. Typed.pass T56 T57 s55 (at3 Ψ)
+
       abbrev at5 : Typed.TF T54 O0
       at5 = λ Ψ. Typed.both s54 (at4 Ψ)
+
       abbrev at6 : Typed.TF T54 O0
       at6 = λ Ψ. at5 Ψ
+
       abbrev at7 : Typed.TF T51 O0
       at7 = λ Ψ. Typed.pass T51 T54 s52 (at6 Ψ)
+
       abbrev at8 : Typed.TF T51 O0
       at8 = λ Ψ. at7 Ψ
+
       abbrev at9 : Typed.TF T51 O0
       at9 = λ Ψ. at8 Ψ
+
       abbrev at10 : Typed.TF T50 O0
       at10 = λ Ψ. Typed.give s49 (at9 Ψ)
+
       abbrev at11 : Typed.TF T47 O0
       at11 = λ Ψ. Typed.both s48 (at10 Ψ)
+
       abbrev at12 : Typed.TF T47 O0
       at12 = λ Ψ. at11 Ψ
+
       abbrev at13 : Typed.TF T47 O0
       at13 = λ Ψ. at12 Ψ
+
       abbrev at14 : Typed.TF T44 O0
       at14 = λ Ψ. Typed.both s45 (at13 Ψ)
+
       abbrev at15 : Typed.TF T44 O0
       at15 = λ Ψ. at14 Ψ
+
       abbrev at16 : Typed.TF T44 O0
       at16 = λ Ψ. at15 Ψ
+
       abbrev at17 : Typed.TF T41 O0
       at17 = λ Ψ. Typed.both s42 (at16 Ψ)
+
       abbrev at18 : Typed.TF T41 O0
       at18 = λ Ψ. at17 Ψ
+
       abbrev at19 : Typed.TF T41 O0
       at19 = λ Ψ. at18 Ψ
+
       abbrev at20 : Typed.TF T38 O0
       at20 = λ Ψ. Typed.both s39 (at19 Ψ)
+
       abbrev at21 : Typed.TF T38 O0
       at21 = λ Ψ. at20 Ψ
+
       abbrev at22 : Typed.TF T38 O0
       at22 = λ Ψ. at21 Ψ
+
       abbrev at23 : Typed.TF T36 O0
       at23 = λ Ψ. Typed.both s36 (at22 Ψ)
+
       abbrev at24 : Typed.TF T36 O0
       at24 = λ Ψ. at23 Ψ
+
       abbrev at25 : Typed.TF T35 O0
       at25 = λ Ψ. Typed.pass T35 T36 s34 (at24 Ψ)
+
       abbrev at26 : Typed.TF T34 O0
       at26 = λ Ψ. Typed.pass T34 T35 s33 (at25 Ψ)
+
       abbrev at27 : Typed.TF T33 O0
       at27 = λ Ψ. Typed.both s32 (at26 Ψ)
+
       abbrev at28 : Typed.TF T32 O0
       at28 = λ Ψ. Typed.ask s31 (at27 Ψ)
+
       abbrev at29 : Typed.TF T30 O0
       at29 = λ Ψ. Typed.give s30 (at28 Ψ)
+
       abbrev at30 : Typed.TF T30 O0
       at30 = λ Ψ. at29 Ψ
+
       abbrev at31 : Typed.TF T29 O0
       at31 = λ Ψ. Typed.ask s28 (at30 Ψ)
+
       abbrev at32 : Typed.TF T27 O0
       at32 = λ Ψ. Typed.give s27 (at31 Ψ)
+
       abbrev at33 : Typed.TF T27 O0
       at33 = λ Ψ. at32 Ψ
+
       abbrev at34 : Typed.TF T26 O0
       at34 = λ Ψ. Typed.ask s25 (at33 Ψ)
+
       abbrev at35 : Typed.TF T24 O0
       at35 = λ Ψ. Typed.give s24 (at34 Ψ)
+
       abbrev at36 : Typed.TF T24 O0
       at36 = λ Ψ. at35 Ψ
+
       abbrev at37 : Typed.TF T23 O0
       at37 = λ Ψ. Typed.ask s22 (at36 Ψ)
+
       abbrev at38 : Typed.TF T21 O0
       at38 = λ Ψ. Typed.give s21 (at37 Ψ)
+
       abbrev at39 : Typed.TF T21 O0
       at39 = λ Ψ. at38 Ψ
+
       abbrev at40 : Typed.TF T20 O0
       at40 = λ Ψ. Typed.ask s19 (at39 Ψ)
+
       abbrev at41 : Typed.TF T18 O0
       at41 = λ Ψ. Typed.give s18 (at40 Ψ)
+
       abbrev at42 : Typed.TF T18 O0
       at42 = λ Ψ. at41 Ψ
+
       abbrev at43 : Typed.TF T17 O0
       at43 = λ Ψ. Typed.ask s16 (at42 Ψ)
+
       abbrev at44 : Typed.TF T14 O0
       at44 = λ Ψ. Typed.give s15 (at43 Ψ)
+
       abbrev at45 : Typed.TF T14 O0
       at45 = λ Ψ. at44 Ψ
+
       abbrev at46 : Typed.TF T14 O0
       at46 = λ Ψ. at45 Ψ
+
       abbrev at47 : Typed.TF T13 O0
       at47 = λ Ψ. Typed.give s12 (at46 Ψ)
+
       abbrev at48 : Typed.TF T11 O0
       at48 = λ Ψ. Typed.both s11 (at47 Ψ)
+
       abbrev at49 : Typed.TF T11 O0
       at49 = λ Ψ. at48 Ψ
+
       abbrev at50 : Typed.TF T10 O0
       at50 = λ Ψ. Typed.pass T10 T11 s9 (at49 Ψ)
+
       abbrev at51 : Typed.TF T9 O0
       at51 = λ Ψ. Typed.pass T9 T10 s8 (at50 Ψ)
+
       abbrev at52 : Typed.TF T8 O0
       at52 = λ Ψ. Typed.both s7 (at51 Ψ)
+
       abbrev at53 : Typed.TF T7 O0
       at53 = λ Ψ. Typed.ask s6 (at52 Ψ)
+
       abbrev at54 : Typed.TF T5 O0
       at54 = λ Ψ. Typed.give s5 (at53 Ψ)
+
       abbrev at55 : Typed.TF T5 O0
       at55 = λ Ψ. at54 Ψ
+
       abbrev at56 : Typed.TF T4 O0
       at56 = λ Ψ. Typed.both s3 (at55 Ψ)
+
       abbrev at57 : Typed.TF T3 O0
       at57 = λ Ψ. Typed.both s2 (at56 Ψ)
+
       abbrev at58 : Typed.TF T2 O0
       at58 = λ Ψ. Typed.give s1 (at57 Ψ)
+
       abbrev at59 : Typed.TF T0 O0
       at59 = λ Ψ. Typed.give s0 (at58 Ψ)
+
       abbrev pub Φ : Typed.TF T0 O0
       Φ = at59
-      module _ { M : Type 1 } (𝓤 : URA.URA M) (H : Wp.Heap 𝓤) (A : Atoms.Atoms 𝓤) (W : Kit.Given 𝓤 H A) (𝓣 : Wp.Tables 𝓤 H) where
+
+      module _ {M : Type 1} (𝓤 : URA.URA M) (H : Wp.Heap 𝓤) (A : Atoms.Atoms 𝓤) (W : Kit.Given 𝓤 H A)
+          (𝓣 : Wp.Tables 𝓤 H) where
         abbrev Knowns : Type 1
-        Knowns = Plain.Known 𝓤 H A W 𝓣 0 ps·0 r·0 (claims· .0) (claims· .1) "cases::script::script_of" × Plain.Known 𝓤 H A W 𝓣 0 ps·1 r·1 (claims· .2)
-            (claims· .3) "cases::script::head_of" × Plain.Known 𝓤 H A W 𝓣 1 ps·2 r·2 (claims· .4) (claims· .5) "cases::machine::put_head" ×
-            Plain.Known 𝓤 H A W 𝓣 6 ps·3 r·3 (claims· .6) (claims· .7) "cases::machine::run_case" × Plain.Known 𝓤 H A W 𝓣 0 ps·4 r·4 (claims· .8)
-            (claims· .9) "cases::machine::say"
+        Knowns = Plain.Known 𝓤 H A W 𝓣 0 ps·0 r·0 (claims· .0) (claims· .1) "cases::script::script_of" × Plain.Known 𝓤
+            H A W 𝓣 0 ps·1 r·1 (claims· .2) (claims· .3) "cases::script::head_of" × Plain.Known 𝓤 H A W 𝓣 1 ps·2 r·2
+            (claims· .4) (claims· .5) "cases::machine::put_head" × Plain.Known 𝓤 H A W 𝓣 6 ps·3 r·3 (claims· .6)
+            (claims· .7) "cases::machine::run_case" × Plain.Known 𝓤 H A W 𝓣 0 ps·4 r·4 (claims· .8) (claims· .9)
+            "cases::machine::say"
+
       module _ (κs : Lifetimes.Lfts 6) (qs : Lifetimes.Shares 6) where
         abbrev life0 : Row.Life
         life0 = Row.lease (κs .1 .1 .1 .1 .1 .0) (qs .1 .1 .1 .1 .1 .0)
+
         abbrev life1 : Row.Life
         life1 = Row.lease (κs .0) (qs .0)
+
         abbrev life2 : Row.Life
         life2 = Row.lease (κs .1 .0) (qs .1 .0)
+
         abbrev life3 : Row.Life
         life3 = Row.lease (κs .1 .1 .0) (qs .1 .1 .0)
+
         abbrev life4 : Row.Life
         life4 = Row.lease (κs .1 .1 .1 .0) (qs .1 .1 .1 .0)
+
         abbrev life5 : Row.Life
         life5 = Row.lease (κs .1 .1 .1 .1 .0) (qs .1 .1 .1 .1 .0)
+
+        abbrev l6 : Row.Entry
+        l6 = (6, Relend.mslice-owed (Referent.rtF (Referent.fInt Syntax.w8)) ref12 5 6 life0)
+
+        abbrev l1 : Row.Entry
+        l1 = (1, Relend.mslice-owed RelayPending.row ref7 0 7 life1)
+
+        abbrev l2 : Row.Entry
+        l2 = (2, Relend.mslice-owed RelayCircuit.row ref8 1 8 life2)
+
+        abbrev l3 : Row.Entry
+        l3 = (3, Relend.mslice-owed ReservationUsage.row ref9 2 9 life3)
+
+        abbrev l4 : Row.Entry
+        l4 = (4, Relend.mslice-owed InflightAction.row ref10 3 10 life4)
+
+        abbrev l5 : Row.Entry
+        l5 = (5, Relend.mslice-owed (Referent.rtF (Referent.fInt Syntax.w32)) ref11 4 11 life5)
+
+        abbrev l6·1 : Row.Entry
+        l6·1 = (6, Reshare.mslice-owedS (Referent.rtF (Referent.fInt Syntax.w8)) ref12 5 12 life0)
+
         abbrev g5 : List.List Row.Entry
-        g5 = (0, Rows'.any-gone Syntax.tyUnit) ∷ (1, Mut.mslice RelayPending.row ref7 0,) ∷ (2, Mut.mslice RelayCircuit.row ref8 1,) ∷ (3, Mut.mslice
-            ReservationUsage.row ref9 2,) ∷ (4, Mut.mslice InflightAction.row ref10 3,) ∷ (5, Mut.mslice (Referent.rtF (Referent.fInt Syntax.w32))
-            ref11 4,) ∷ (6, Relend.mslice-owed (Referent.rtF (Referent.fInt Syntax.w8)) ref12 5 6 life0,) ∷ (7, Rows'.sc-here (Row.sInt Syntax.w8)) ∷
-            (8, Rows'.whole (Declared.row Script.the-type),) ∷ (9, Rows.arrF (Referent.rtF (Referent.fInt Syntax.w8)) 5 0) ∷ (10, Rows'.any-gone
-            (Syntax.tyInt Syntax.w64),) ∷ (11, Rows'.any-gone Syntax.tyUnit) ∷ (12, Relend.msptr (Referent.rtF (Referent.fInt Syntax.w8)) ref0 6,) ∷
-            (13, Rows'.any-gone (Syntax.tyStruct (38 ∷ 91 ∷ 93 ∷ List.[]) (Syntax.tcons ref0 (Syntax.tcons (Syntax.tyInt Syntax.w64) Syntax.tnil))),)
-            ∷ (14, Rows'.any-gone ref1,) ∷ (15, Rows'.any-gone (Syntax.tyStruct (38 ∷ 91 ∷ 93 ∷ List.[]) (Syntax.tcons ref1 (Syntax.tcons
-            (Syntax.tyInt Syntax.w64) Syntax.tnil))),) ∷ List.[]
+        g5 = e0 ∷ e1 ∷ e2 ∷ e3 ∷ e4 ∷ e5 ∷ l6 ∷ e7 ∷ e8·1 ∷ e9·1 ∷ e10 ∷ e11 ∷ e12·1 ∷ e13 ∷ e14 ∷ e15 ∷ List.[]
+
         abbrev g6 : List.List Row.Entry
-        g6 = (0, Rows'.any-gone Syntax.tyUnit) ∷ (1, Mut.mslice RelayPending.row ref7 0,) ∷ (2, Mut.mslice RelayCircuit.row ref8 1,) ∷ (3, Mut.mslice
-            ReservationUsage.row ref9 2,) ∷ (4, Mut.mslice InflightAction.row ref10 3,) ∷ (5, Mut.mslice (Referent.rtF (Referent.fInt Syntax.w32))
-            ref11 4,) ∷ (6, Relend.mslice-owed (Referent.rtF (Referent.fInt Syntax.w8)) ref12 5 6 life0,) ∷ (7, Rows'.sc-here (Row.sInt Syntax.w8)) ∷
-            (8, Rows'.whole (Declared.row Script.the-type),) ∷ (9, Rows.arrF (Referent.rtF (Referent.fInt Syntax.w8)) 5 0) ∷ (10, Rows'.any-gone
-            (Syntax.tyInt Syntax.w64),) ∷ (11, Rows'.any-gone Syntax.tyUnit) ∷ (12, Rows'.any-gone ref0,) ∷ (13, Mut.mslice (Referent.rtF
-            (Referent.fInt Syntax.w8)) ref0 6,) ∷ (14, Rows'.any-gone ref1,) ∷ (15, Rows'.any-gone (Syntax.tyStruct (38 ∷ 91 ∷ 93 ∷ List.[])
-            (Syntax.tcons ref1 (Syntax.tcons (Syntax.tyInt Syntax.w64) Syntax.tnil))),) ∷ List.[]
+        g6 = e0 ∷ e1 ∷ e2 ∷ e3 ∷ e4 ∷ e5 ∷ l6 ∷ e7 ∷ e8·1 ∷ e9·1 ∷ e10 ∷ e11 ∷ e12 ∷ e13·1 ∷ e14 ∷ e15 ∷ List.[]
+
         abbrev g7 : List.List Row.Entry
-        g7 = (0, Rows'.any-gone Syntax.tyUnit) ∷ (1, Mut.mslice RelayPending.row ref7 0,) ∷ (2, Mut.mslice RelayCircuit.row ref8 1,) ∷ (3, Mut.mslice
-            ReservationUsage.row ref9 2,) ∷ (4, Mut.mslice InflightAction.row ref10 3,) ∷ (5, Mut.mslice (Referent.rtF (Referent.fInt Syntax.w32))
-            ref11 4,) ∷ (6, Relend.mslice-owed (Referent.rtF (Referent.fInt Syntax.w8)) ref12 5 6 life0,) ∷ (7, Rows'.sc-here (Row.sInt Syntax.w8)) ∷
-            (8, Rows'.whole (Declared.row Script.the-type),) ∷ (9, Rows.arrF (Referent.rtF (Referent.fInt Syntax.w8)) 5 0) ∷ (10, Rows'.any-gone
-            (Syntax.tyInt Syntax.w64),) ∷ (11, Rows'.sc-here Row.sUnit) ∷ (12, Rows'.any-gone ref0,) ∷ (13, Mut.msleft (Referent.rtF (Referent.fInt
-            Syntax.w8)) ref0,) ∷ (14, Rows'.any-gone ref1,) ∷ (15, Rows'.any-gone (Syntax.tyStruct (38 ∷ 91 ∷ 93 ∷ List.[]) (Syntax.tcons ref1
-            (Syntax.tcons (Syntax.tyInt Syntax.w64) Syntax.tnil))),) ∷ List.[]
+        g7 = e0 ∷ e1 ∷ e2 ∷ e3 ∷ e4 ∷ e5 ∷ l6 ∷ e7 ∷ e8·1 ∷ e9·1 ∷ e10 ∷ e11·1 ∷ e12 ∷ e13·2 ∷ e14 ∷ e15 ∷ List.[]
+
         abbrev g8 : List.List Row.Entry
-        g8 = (0, Rows'.any-gone Syntax.tyUnit) ∷ (1, Mut.mslice RelayPending.row ref7 0,) ∷ (2, Mut.mslice RelayCircuit.row ref8 1,) ∷ (3, Mut.mslice
-            ReservationUsage.row ref9 2,) ∷ (4, Mut.mslice InflightAction.row ref10 3,) ∷ (5, Mut.mslice (Referent.rtF (Referent.fInt Syntax.w32))
-            ref11 4,) ∷ (6, Relend.mslice-owed (Referent.rtF (Referent.fInt Syntax.w8)) ref12 5 6 life0,) ∷ (7, Rows'.sc-here (Row.sInt Syntax.w8)) ∷
-            (8, Rows'.whole (Declared.row Script.the-type),) ∷ (9, Rows'.any-gone (Syntax.tyArray (Syntax.tyInt Syntax.w8) 5)) ∷ (10, Rows'.any-gone
-            (Syntax.tyInt Syntax.w64),) ∷ (11, Rows'.sc-here Row.sUnit) ∷ (12, Rows'.any-gone ref0,) ∷ (13, Mut.msleft (Referent.rtF (Referent.fInt
-            Syntax.w8)) ref0,) ∷ (14, Rows'.any-gone ref1,) ∷ (15, Rows'.any-gone (Syntax.tyStruct (38 ∷ 91 ∷ 93 ∷ List.[]) (Syntax.tcons ref1
-            (Syntax.tcons (Syntax.tyInt Syntax.w64) Syntax.tnil))),) ∷ List.[]
+        g8 = e0 ∷ e1 ∷ e2 ∷ e3 ∷ e4 ∷ e5 ∷ l6 ∷ e7 ∷ e8·1 ∷ e9 ∷ e10 ∷ e11·1 ∷ e12 ∷ e13·2 ∷ e14 ∷ e15 ∷ List.[]
+
         abbrev g9 : List.List Row.Entry
-        g9 = (0, Rows'.any-gone Syntax.tyUnit) ∷ (1, Mut.mslice RelayPending.row ref7 0,) ∷ (2, Mut.mslice RelayCircuit.row ref8 1,) ∷ (3, Mut.mslice
-            ReservationUsage.row ref9 2,) ∷ (4, Mut.mslice InflightAction.row ref10 3,) ∷ (5, Mut.mslice (Referent.rtF (Referent.fInt Syntax.w32))
-            ref11 4,) ∷ (6, Relend.mslice-owed (Referent.rtF (Referent.fInt Syntax.w8)) ref12 5 6 life0,) ∷ (7, Rows'.sc-here (Row.sInt Syntax.w8)) ∷
-            (8, Rows'.whole (Declared.row Script.the-type),) ∷ (9, Rows'.any-gone (Syntax.tyArray (Syntax.tyInt Syntax.w8) 5)) ∷ (10, Rows'.any-gone
-            (Syntax.tyInt Syntax.w64),) ∷ (11, Rows'.any-gone Syntax.tyUnit) ∷ (12, Rows'.any-gone ref0,) ∷ (13, Mut.msleft (Referent.rtF
-            (Referent.fInt Syntax.w8)) ref0,) ∷ (14, Rows'.any-gone ref1,) ∷ (15, Rows'.any-gone (Syntax.tyStruct (38 ∷ 91 ∷ 93 ∷ List.[])
-            (Syntax.tcons ref1 (Syntax.tcons (Syntax.tyInt Syntax.w64) Syntax.tnil))),) ∷ List.[]
+        g9 = e0 ∷ e1 ∷ e2 ∷ e3 ∷ e4 ∷ e5 ∷ l6 ∷ e7 ∷ e8·1 ∷ e9 ∷ e10 ∷ e11 ∷ e12 ∷ e13·2 ∷ e14 ∷ e15 ∷ List.[]
+
         abbrev g10 : List.List Row.Entry
-        g10 = (0, Rows'.any-gone Syntax.tyUnit) ∷ (1, Relend.mslice-owed RelayPending.row ref7 0 7 life1,) ∷ (2, Mut.mslice RelayCircuit.row ref8 1,)
-            ∷ (3, Mut.mslice ReservationUsage.row ref9 2,) ∷ (4, Mut.mslice InflightAction.row ref10 3,) ∷ (5, Mut.mslice (Referent.rtF (Referent.fInt
-            Syntax.w32)) ref11 4,) ∷ (6, Mut.mslice (Referent.rtF (Referent.fInt Syntax.w8)) ref12 5,) ∷ (7, Rows'.sc-here (Row.sInt Syntax.w8)) ∷ (8,
-            Rows'.whole (Declared.row Script.the-type),) ∷ (9, Rows'.any-gone (Syntax.tyArray (Syntax.tyInt Syntax.w8) 5)) ∷ (10, Rows'.any-gone
-            (Syntax.tyInt Syntax.w64),) ∷ (11, Rows'.any-gone Syntax.tyUnit) ∷ (12, Rows'.any-gone ref0,) ∷ (13, Rows'.any-gone (Syntax.tyStruct (38 ∷
-            91 ∷ 93 ∷ List.[]) (Syntax.tcons ref0 (Syntax.tcons (Syntax.tyInt Syntax.w64) Syntax.tnil))),) ∷ (14, Relend.msptr RelayPending.row ref1
-            7,) ∷ (15, Rows'.any-gone (Syntax.tyStruct (38 ∷ 91 ∷ 93 ∷ List.[]) (Syntax.tcons ref1 (Syntax.tcons (Syntax.tyInt Syntax.w64)
-            Syntax.tnil))),) ∷ List.[]
+        g10 = e0 ∷ l1 ∷ e2 ∷ e3 ∷ e4 ∷ e5 ∷ e6 ∷ e7 ∷ e8·1 ∷ e9 ∷ e10 ∷ e11 ∷ e12 ∷ e13 ∷ e14·1 ∷ e15 ∷ List.[]
+
         abbrev g11 : List.List Row.Entry
-        g11 = (0, Rows'.any-gone Syntax.tyUnit) ∷ (1, Relend.mslice-owed RelayPending.row ref7 0 7 life1,) ∷ (2, Mut.mslice RelayCircuit.row ref8 1,)
-            ∷ (3, Mut.mslice ReservationUsage.row ref9 2,) ∷ (4, Mut.mslice InflightAction.row ref10 3,) ∷ (5, Mut.mslice (Referent.rtF (Referent.fInt
-            Syntax.w32)) ref11 4,) ∷ (6, Mut.mslice (Referent.rtF (Referent.fInt Syntax.w8)) ref12 5,) ∷ (7, Rows'.sc-here (Row.sInt Syntax.w8)) ∷ (8,
-            Rows'.whole (Declared.row Script.the-type),) ∷ (9, Rows'.any-gone (Syntax.tyArray (Syntax.tyInt Syntax.w8) 5)) ∷ (10, Rows'.any-gone
-            (Syntax.tyInt Syntax.w64),) ∷ (11, Rows'.any-gone Syntax.tyUnit) ∷ (12, Rows'.any-gone ref0,) ∷ (13, Rows'.any-gone (Syntax.tyStruct (38 ∷
-            91 ∷ 93 ∷ List.[]) (Syntax.tcons ref0 (Syntax.tcons (Syntax.tyInt Syntax.w64) Syntax.tnil))),) ∷ (14, Rows'.any-gone ref1,) ∷ (15,
-            Mut.mslice RelayPending.row ref1 7,) ∷ List.[]
+        g11 = e0 ∷ l1 ∷ e2 ∷ e3 ∷ e4 ∷ e5 ∷ e6 ∷ e7 ∷ e8·1 ∷ e9 ∷ e10 ∷ e11 ∷ e12 ∷ e13 ∷ e14 ∷ e15·1 ∷ List.[]
+
         abbrev g12 : List.List Row.Entry
-        g12 = (0, Rows'.any-gone Syntax.tyUnit) ∷ (1, Relend.mslice-owed RelayPending.row ref7 0 7 life1,) ∷ (2, Relend.mslice-owed RelayCircuit.row
-            ref8 1 8 life2,) ∷ (3, Mut.mslice ReservationUsage.row ref9 2,) ∷ (4, Mut.mslice InflightAction.row ref10 3,) ∷ (5, Mut.mslice
-            (Referent.rtF (Referent.fInt Syntax.w32)) ref11 4,) ∷ (6, Mut.mslice (Referent.rtF (Referent.fInt Syntax.w8)) ref12 5,) ∷ (7,
-            Rows'.sc-here (Row.sInt Syntax.w8)) ∷ (8, Rows'.whole (Declared.row Script.the-type),) ∷ (9, Rows'.any-gone (Syntax.tyArray (Syntax.tyInt
-            Syntax.w8) 5)) ∷ (10, Rows'.any-gone (Syntax.tyInt Syntax.w64),) ∷ (11, Rows'.any-gone Syntax.tyUnit) ∷ (12, Rows'.any-gone ref0,) ∷ (13,
-            Rows'.any-gone (Syntax.tyStruct (38 ∷ 91 ∷ 93 ∷ List.[]) (Syntax.tcons ref0 (Syntax.tcons (Syntax.tyInt Syntax.w64) Syntax.tnil))),) ∷
-            (14, Rows'.any-gone ref1,) ∷ (15, Mut.mslice RelayPending.row ref1 7,) ∷ List.[]
+        g12 = e0 ∷ l1 ∷ l2 ∷ e3 ∷ e4 ∷ e5 ∷ e6 ∷ e7 ∷ e8·1 ∷ e9 ∷ e10 ∷ e11 ∷ e12 ∷ e13 ∷ e14 ∷ e15·1 ∷ List.[]
+
         abbrev g15 : List.List Row.Entry
-        g15 = (0, Rows'.any-gone Syntax.tyUnit) ∷ (1, Relend.mslice-owed RelayPending.row ref7 0 7 life1,) ∷ (2, Relend.mslice-owed RelayCircuit.row
-            ref8 1 8 life2,) ∷ (3, Relend.mslice-owed ReservationUsage.row ref9 2 9 life3,) ∷ (4, Mut.mslice InflightAction.row ref10 3,) ∷ (5,
-            Mut.mslice (Referent.rtF (Referent.fInt Syntax.w32)) ref11 4,) ∷ (6, Mut.mslice (Referent.rtF (Referent.fInt Syntax.w8)) ref12 5,) ∷ (7,
-            Rows'.sc-here (Row.sInt Syntax.w8)) ∷ (8, Rows'.whole (Declared.row Script.the-type),) ∷ (9, Rows'.any-gone (Syntax.tyArray (Syntax.tyInt
-            Syntax.w8) 5)) ∷ (10, Rows'.any-gone (Syntax.tyInt Syntax.w64),) ∷ (11, Rows'.any-gone Syntax.tyUnit) ∷ (12, Rows'.any-gone ref0,) ∷ (13,
-            Rows'.any-gone (Syntax.tyStruct (38 ∷ 91 ∷ 93 ∷ List.[]) (Syntax.tcons ref0 (Syntax.tcons (Syntax.tyInt Syntax.w64) Syntax.tnil))),) ∷
-            (14, Rows'.any-gone ref1,) ∷ (15, Mut.mslice RelayPending.row ref1 7,) ∷ List.[]
+        g15 = e0 ∷ l1 ∷ l2 ∷ l3 ∷ e4 ∷ e5 ∷ e6 ∷ e7 ∷ e8·1 ∷ e9 ∷ e10 ∷ e11 ∷ e12 ∷ e13 ∷ e14 ∷ e15·1 ∷ List.[]
+
         abbrev g18 : List.List Row.Entry
-        g18 = (0, Rows'.any-gone Syntax.tyUnit) ∷ (1, Relend.mslice-owed RelayPending.row ref7 0 7 life1,) ∷ (2, Relend.mslice-owed RelayCircuit.row
-            ref8 1 8 life2,) ∷ (3, Relend.mslice-owed ReservationUsage.row ref9 2 9 life3,) ∷ (4, Relend.mslice-owed InflightAction.row ref10 3 10
-            life4,) ∷ (5, Mut.mslice (Referent.rtF (Referent.fInt Syntax.w32)) ref11 4,) ∷ (6, Mut.mslice (Referent.rtF (Referent.fInt Syntax.w8))
-            ref12 5,) ∷ (7, Rows'.sc-here (Row.sInt Syntax.w8)) ∷ (8, Rows'.whole (Declared.row Script.the-type),) ∷ (9, Rows'.any-gone
-            (Syntax.tyArray (Syntax.tyInt Syntax.w8) 5)) ∷ (10, Rows'.any-gone (Syntax.tyInt Syntax.w64),) ∷ (11, Rows'.any-gone Syntax.tyUnit) ∷ (12,
-            Rows'.any-gone ref0,) ∷ (13, Rows'.any-gone (Syntax.tyStruct (38 ∷ 91 ∷ 93 ∷ List.[]) (Syntax.tcons ref0 (Syntax.tcons (Syntax.tyInt
-            Syntax.w64) Syntax.tnil))),) ∷ (14, Rows'.any-gone ref1,) ∷ (15, Mut.mslice RelayPending.row ref1 7,) ∷ List.[]
+        g18 = e0 ∷ l1 ∷ l2 ∷ l3 ∷ l4 ∷ e5 ∷ e6 ∷ e7 ∷ e8·1 ∷ e9 ∷ e10 ∷ e11 ∷ e12 ∷ e13 ∷ e14 ∷ e15·1 ∷ List.[]
+
         abbrev g21 : List.List Row.Entry
-        g21 = (0, Rows'.any-gone Syntax.tyUnit) ∷ (1, Relend.mslice-owed RelayPending.row ref7 0 7 life1,) ∷ (2, Relend.mslice-owed RelayCircuit.row
-            ref8 1 8 life2,) ∷ (3, Relend.mslice-owed ReservationUsage.row ref9 2 9 life3,) ∷ (4, Relend.mslice-owed InflightAction.row ref10 3 10
-            life4,) ∷ (5, Relend.mslice-owed (Referent.rtF (Referent.fInt Syntax.w32)) ref11 4 11 life5,) ∷ (6, Mut.mslice (Referent.rtF
-            (Referent.fInt Syntax.w8)) ref12 5,) ∷ (7, Rows'.sc-here (Row.sInt Syntax.w8)) ∷ (8, Rows'.whole (Declared.row Script.the-type),) ∷ (9,
-            Rows'.any-gone (Syntax.tyArray (Syntax.tyInt Syntax.w8) 5)) ∷ (10, Rows'.any-gone (Syntax.tyInt Syntax.w64),) ∷ (11, Rows'.any-gone
-            Syntax.tyUnit) ∷ (12, Rows'.any-gone ref0,) ∷ (13, Rows'.any-gone (Syntax.tyStruct (38 ∷ 91 ∷ 93 ∷ List.[]) (Syntax.tcons ref0
-            (Syntax.tcons (Syntax.tyInt Syntax.w64) Syntax.tnil))),) ∷ (14, Rows'.any-gone ref1,) ∷ (15, Mut.mslice RelayPending.row ref1 7,) ∷
-            List.[]
+        g21 = e0 ∷ l1 ∷ l2 ∷ l3 ∷ l4 ∷ l5 ∷ e6 ∷ e7 ∷ e8·1 ∷ e9 ∷ e10 ∷ e11 ∷ e12 ∷ e13 ∷ e14 ∷ e15·1 ∷ List.[]
+
         abbrev g24 : List.List Row.Entry
-        g24 = (0, Rows'.any-gone Syntax.tyUnit) ∷ (1, Relend.mslice-owed RelayPending.row ref7 0 7 life1,) ∷ (2, Relend.mslice-owed RelayCircuit.row
-            ref8 1 8 life2,) ∷ (3, Relend.mslice-owed ReservationUsage.row ref9 2 9 life3,) ∷ (4, Relend.mslice-owed InflightAction.row ref10 3 10
-            life4,) ∷ (5, Relend.mslice-owed (Referent.rtF (Referent.fInt Syntax.w32)) ref11 4 11 life5,) ∷ (6, Reshare.mslice-owedS (Referent.rtF
-            (Referent.fInt Syntax.w8)) ref12 5 12 life0,) ∷ (7, Rows'.sc-here (Row.sInt Syntax.w8)) ∷ (8, Rows'.whole (Declared.row Script.the-type),)
-            ∷ (9, Rows'.any-gone (Syntax.tyArray (Syntax.tyInt Syntax.w8) 5)) ∷ (10, Rows'.any-gone (Syntax.tyInt Syntax.w64),) ∷ (11, Rows'.any-gone
-            Syntax.tyUnit) ∷ (12, Rows'.any-gone ref0,) ∷ (13, Rows'.any-gone (Syntax.tyStruct (38 ∷ 91 ∷ 93 ∷ List.[]) (Syntax.tcons ref0
-            (Syntax.tcons (Syntax.tyInt Syntax.w64) Syntax.tnil))),) ∷ (14, Rows'.any-gone ref1,) ∷ (15, Mut.mslice RelayPending.row ref1 7,) ∷
-            List.[]
+        g24 = e0 ∷ l1 ∷ l2 ∷ l3 ∷ l4 ∷ l5 ∷ l6·1 ∷ e7 ∷ e8·1 ∷ e9 ∷ e10 ∷ e11 ∷ e12 ∷ e13 ∷ e14 ∷ e15·1 ∷ List.[]
+
         abbrev g27 : List.List Row.Entry
-        g27 = (0, Rows'.any-gone Syntax.tyUnit) ∷ (1, Relend.mslice-owed RelayPending.row ref7 0 7 life1,) ∷ (2, Relend.mslice-owed RelayCircuit.row
-            ref8 1 8 life2,) ∷ (3, Relend.mslice-owed ReservationUsage.row ref9 2 9 life3,) ∷ (4, Relend.mslice-owed InflightAction.row ref10 3 10
-            life4,) ∷ (5, Relend.mslice-owed (Referent.rtF (Referent.fInt Syntax.w32)) ref11 4 11 life5,) ∷ (6, Reshare.mslice-owedS (Referent.rtF
-            (Referent.fInt Syntax.w8)) ref12 5 12 life0,) ∷ (7, Rows'.sc-here (Row.sInt Syntax.w8)) ∷ (8, Rows'.whole (Declared.row Script.the-type),)
-            ∷ (9, Rows'.any-gone (Syntax.tyArray (Syntax.tyInt Syntax.w8) 5)) ∷ (10, Rows'.sc-here (Row.sInt Syntax.w64),) ∷ (11, Rows'.any-gone
-            Syntax.tyUnit) ∷ (12, Rows'.any-gone ref0,) ∷ (13, Rows'.any-gone (Syntax.tyStruct (38 ∷ 91 ∷ 93 ∷ List.[]) (Syntax.tcons ref0
-            (Syntax.tcons (Syntax.tyInt Syntax.w64) Syntax.tnil))),) ∷ (14, Rows'.any-gone ref1,) ∷ (15, Mut.msleft RelayPending.row ref1,) ∷ List.[]
+        g27 = e0 ∷ l1 ∷ l2 ∷ l3 ∷ l4 ∷ l5 ∷ l6·1 ∷ e7 ∷ e8·1 ∷ e9 ∷ e10·1 ∷ e11 ∷ e12 ∷ e13 ∷ e14 ∷ e15·2 ∷ List.[]
+
         abbrev g30 : List.List Row.Entry
-        g30 = (0, Rows'.any-gone Syntax.tyUnit) ∷ (1, Relend.mslice-owed RelayPending.row ref7 0 7 life1,) ∷ (2, Relend.mslice-owed RelayCircuit.row
-            ref8 1 8 life2,) ∷ (3, Relend.mslice-owed ReservationUsage.row ref9 2 9 life3,) ∷ (4, Relend.mslice-owed InflightAction.row ref10 3 10
-            life4,) ∷ (5, Relend.mslice-owed (Referent.rtF (Referent.fInt Syntax.w32)) ref11 4 11 life5,) ∷ (6, Reshare.mslice-owedS (Referent.rtF
-            (Referent.fInt Syntax.w8)) ref12 5 12 life0,) ∷ (7, Rows'.sc-here (Row.sInt Syntax.w8)) ∷ (8, Rows'.any-gone Laws.mir,) ∷ (9,
-            Rows'.any-gone (Syntax.tyArray (Syntax.tyInt Syntax.w8) 5)) ∷ (10, Rows'.sc-here (Row.sInt Syntax.w64),) ∷ (11, Rows'.any-gone
-            Syntax.tyUnit) ∷ (12, Rows'.any-gone ref0,) ∷ (13, Rows'.any-gone (Syntax.tyStruct (38 ∷ 91 ∷ 93 ∷ List.[]) (Syntax.tcons ref0
-            (Syntax.tcons (Syntax.tyInt Syntax.w64) Syntax.tnil))),) ∷ (14, Rows'.any-gone ref1,) ∷ (15, Mut.msleft RelayPending.row ref1,) ∷ List.[]
+        g30 = e0 ∷ l1 ∷ l2 ∷ l3 ∷ l4 ∷ l5 ∷ l6·1 ∷ e7 ∷ e8 ∷ e9 ∷ e10·1 ∷ e11 ∷ e12 ∷ e13 ∷ e14 ∷ e15·2 ∷ List.[]
+
         abbrev g31 : List.List Row.Entry
-        g31 = (0, Rows'.any-gone Syntax.tyUnit) ∷ (1, Mut.mslice RelayPending.row ref7 0,) ∷ (2, Relend.mslice-owed RelayCircuit.row ref8 1 8 life2,)
-            ∷ (3, Relend.mslice-owed ReservationUsage.row ref9 2 9 life3,) ∷ (4, Relend.mslice-owed InflightAction.row ref10 3 10 life4,) ∷ (5,
-            Relend.mslice-owed (Referent.rtF (Referent.fInt Syntax.w32)) ref11 4 11 life5,) ∷ (6, Reshare.mslice-owedS (Referent.rtF (Referent.fInt
-            Syntax.w8)) ref12 5 12 life0,) ∷ (7, Rows'.sc-here (Row.sInt Syntax.w8)) ∷ (8, Rows'.any-gone Laws.mir,) ∷ (9, Rows'.any-gone
-            (Syntax.tyArray (Syntax.tyInt Syntax.w8) 5)) ∷ (10, Rows'.sc-here (Row.sInt Syntax.w64),) ∷ (11, Rows'.any-gone Syntax.tyUnit) ∷ (12,
-            Rows'.any-gone ref0,) ∷ (13, Rows'.any-gone (Syntax.tyStruct (38 ∷ 91 ∷ 93 ∷ List.[]) (Syntax.tcons ref0 (Syntax.tcons (Syntax.tyInt
-            Syntax.w64) Syntax.tnil))),) ∷ (14, Rows'.any-gone ref1,) ∷ (15, Rows'.any-gone (Syntax.tyStruct (38 ∷ 91 ∷ 93 ∷ List.[]) (Syntax.tcons
-            ref1 (Syntax.tcons (Syntax.tyInt Syntax.w64) Syntax.tnil))),) ∷ List.[]
+        g31 = e0 ∷ e1 ∷ l2 ∷ l3 ∷ l4 ∷ l5 ∷ l6·1 ∷ e7 ∷ e8 ∷ e9 ∷ e10·1 ∷ e11 ∷ e12 ∷ e13 ∷ e14 ∷ e15 ∷ List.[]
+
         abbrev g32 : List.List Row.Entry
-        g32 = (0, Rows'.any-gone Syntax.tyUnit) ∷ (1, Mut.mslice RelayPending.row ref7 0,) ∷ (2, Mut.mslice RelayCircuit.row ref8 1,) ∷ (3,
-            Relend.mslice-owed ReservationUsage.row ref9 2 9 life3,) ∷ (4, Relend.mslice-owed InflightAction.row ref10 3 10 life4,) ∷ (5,
-            Relend.mslice-owed (Referent.rtF (Referent.fInt Syntax.w32)) ref11 4 11 life5,) ∷ (6, Reshare.mslice-owedS (Referent.rtF (Referent.fInt
-            Syntax.w8)) ref12 5 12 life0,) ∷ (7, Rows'.sc-here (Row.sInt Syntax.w8)) ∷ (8, Rows'.any-gone Laws.mir,) ∷ (9, Rows'.any-gone
-            (Syntax.tyArray (Syntax.tyInt Syntax.w8) 5)) ∷ (10, Rows'.sc-here (Row.sInt Syntax.w64),) ∷ (11, Rows'.any-gone Syntax.tyUnit) ∷ (12,
-            Rows'.any-gone ref0,) ∷ (13, Rows'.any-gone (Syntax.tyStruct (38 ∷ 91 ∷ 93 ∷ List.[]) (Syntax.tcons ref0 (Syntax.tcons (Syntax.tyInt
-            Syntax.w64) Syntax.tnil))),) ∷ (14, Rows'.any-gone ref1,) ∷ (15, Rows'.any-gone (Syntax.tyStruct (38 ∷ 91 ∷ 93 ∷ List.[]) (Syntax.tcons
-            ref1 (Syntax.tcons (Syntax.tyInt Syntax.w64) Syntax.tnil))),) ∷ List.[]
+        g32 = e0 ∷ e1 ∷ e2 ∷ l3 ∷ l4 ∷ l5 ∷ l6·1 ∷ e7 ∷ e8 ∷ e9 ∷ e10·1 ∷ e11 ∷ e12 ∷ e13 ∷ e14 ∷ e15 ∷ List.[]
+
         abbrev g34 : List.List Row.Entry
-        g34 = (0, Rows'.any-gone Syntax.tyUnit) ∷ (1, Mut.mslice RelayPending.row ref7 0,) ∷ (2, Mut.mslice RelayCircuit.row ref8 1,) ∷ (3, Mut.mslice
-            ReservationUsage.row ref9 2,) ∷ (4, Relend.mslice-owed InflightAction.row ref10 3 10 life4,) ∷ (5, Relend.mslice-owed (Referent.rtF
-            (Referent.fInt Syntax.w32)) ref11 4 11 life5,) ∷ (6, Reshare.mslice-owedS (Referent.rtF (Referent.fInt Syntax.w8)) ref12 5 12 life0,) ∷
-            (7, Rows'.sc-here (Row.sInt Syntax.w8)) ∷ (8, Rows'.any-gone Laws.mir,) ∷ (9, Rows'.any-gone (Syntax.tyArray (Syntax.tyInt Syntax.w8) 5))
-            ∷ (10, Rows'.sc-here (Row.sInt Syntax.w64),) ∷ (11, Rows'.any-gone Syntax.tyUnit) ∷ (12, Rows'.any-gone ref0,) ∷ (13, Rows'.any-gone
-            (Syntax.tyStruct (38 ∷ 91 ∷ 93 ∷ List.[]) (Syntax.tcons ref0 (Syntax.tcons (Syntax.tyInt Syntax.w64) Syntax.tnil))),) ∷ (14,
-            Rows'.any-gone ref1,) ∷ (15, Rows'.any-gone (Syntax.tyStruct (38 ∷ 91 ∷ 93 ∷ List.[]) (Syntax.tcons ref1 (Syntax.tcons (Syntax.tyInt
-            Syntax.w64) Syntax.tnil))),) ∷ List.[]
+        g34 = e0 ∷ e1 ∷ e2 ∷ e3 ∷ l4 ∷ l5 ∷ l6·1 ∷ e7 ∷ e8 ∷ e9 ∷ e10·1 ∷ e11 ∷ e12 ∷ e13 ∷ e14 ∷ e15 ∷ List.[]
+
         abbrev g36 : List.List Row.Entry
-        g36 = (0, Rows'.any-gone Syntax.tyUnit) ∷ (1, Mut.mslice RelayPending.row ref7 0,) ∷ (2, Mut.mslice RelayCircuit.row ref8 1,) ∷ (3, Mut.mslice
-            ReservationUsage.row ref9 2,) ∷ (4, Mut.mslice InflightAction.row ref10 3,) ∷ (5, Relend.mslice-owed (Referent.rtF (Referent.fInt
-            Syntax.w32)) ref11 4 11 life5,) ∷ (6, Reshare.mslice-owedS (Referent.rtF (Referent.fInt Syntax.w8)) ref12 5 12 life0,) ∷ (7, Rows'.sc-here
-            (Row.sInt Syntax.w8)) ∷ (8, Rows'.any-gone Laws.mir,) ∷ (9, Rows'.any-gone (Syntax.tyArray (Syntax.tyInt Syntax.w8) 5)) ∷ (10,
-            Rows'.sc-here (Row.sInt Syntax.w64),) ∷ (11, Rows'.any-gone Syntax.tyUnit) ∷ (12, Rows'.any-gone ref0,) ∷ (13, Rows'.any-gone
-            (Syntax.tyStruct (38 ∷ 91 ∷ 93 ∷ List.[]) (Syntax.tcons ref0 (Syntax.tcons (Syntax.tyInt Syntax.w64) Syntax.tnil))),) ∷ (14,
-            Rows'.any-gone ref1,) ∷ (15, Rows'.any-gone (Syntax.tyStruct (38 ∷ 91 ∷ 93 ∷ List.[]) (Syntax.tcons ref1 (Syntax.tcons (Syntax.tyInt
-            Syntax.w64) Syntax.tnil))),) ∷ List.[]
+        g36 = e0 ∷ e1 ∷ e2 ∷ e3 ∷ e4 ∷ l5 ∷ l6·1 ∷ e7 ∷ e8 ∷ e9 ∷ e10·1 ∷ e11 ∷ e12 ∷ e13 ∷ e14 ∷ e15 ∷ List.[]
+
         abbrev g38 : List.List Row.Entry
-        g38 = (0, Rows'.any-gone Syntax.tyUnit) ∷ (1, Mut.mslice RelayPending.row ref7 0,) ∷ (2, Mut.mslice RelayCircuit.row ref8 1,) ∷ (3, Mut.mslice
-            ReservationUsage.row ref9 2,) ∷ (4, Mut.mslice InflightAction.row ref10 3,) ∷ (5, Mut.mslice (Referent.rtF (Referent.fInt Syntax.w32))
-            ref11 4,) ∷ (6, Reshare.mslice-owedS (Referent.rtF (Referent.fInt Syntax.w8)) ref12 5 12 life0,) ∷ (7, Rows'.sc-here (Row.sInt Syntax.w8))
-            ∷ (8, Rows'.any-gone Laws.mir,) ∷ (9, Rows'.any-gone (Syntax.tyArray (Syntax.tyInt Syntax.w8) 5)) ∷ (10, Rows'.sc-here (Row.sInt
-            Syntax.w64),) ∷ (11, Rows'.any-gone Syntax.tyUnit) ∷ (12, Rows'.any-gone ref0,) ∷ (13, Rows'.any-gone (Syntax.tyStruct (38 ∷ 91 ∷ 93 ∷
-            List.[]) (Syntax.tcons ref0 (Syntax.tcons (Syntax.tyInt Syntax.w64) Syntax.tnil))),) ∷ (14, Rows'.any-gone ref1,) ∷ (15, Rows'.any-gone
-            (Syntax.tyStruct (38 ∷ 91 ∷ 93 ∷ List.[]) (Syntax.tcons ref1 (Syntax.tcons (Syntax.tyInt Syntax.w64) Syntax.tnil))),) ∷ List.[]
+        g38 = e0 ∷ e1 ∷ e2 ∷ e3 ∷ e4 ∷ e5 ∷ l6·1 ∷ e7 ∷ e8 ∷ e9 ∷ e10·1 ∷ e11 ∷ e12 ∷ e13 ∷ e14 ∷ e15 ∷ List.[]
+
         abbrev G0 : Row.Cx
-        G0 = record { locals = List._++_ t0 t1; slots = life1 ∷ life2 ∷ life3 ∷ life4 ∷ life5 ∷ life0 ∷ Row.off ∷ Row.off ∷ Row.off ∷ Row.off ∷
-            Row.off ∷ Row.off ∷ Row.off ∷ List.[]; }
+        G0 = record {
+          locals = List._++_ t0 t1;
+          slots = life1 ∷ life2 ∷ life3 ∷ life4 ∷ life5 ∷ life0 ∷ Row.off ∷ Row.off ∷ Row.off ∷ Row.off ∷ Row.off ∷
+              Row.off ∷ Row.off ∷ List.[];
+        }
+
         abbrev G1 : Row.Cx
-        G1 = record { locals = List._++_ t2 t1; slots = life1 ∷ life2 ∷ life3 ∷ life4 ∷ life5 ∷ life0 ∷ Row.off ∷ Row.off ∷ Row.off ∷ Row.off ∷
-            Row.off ∷ Row.off ∷ Row.off ∷ List.[]; }
+        G1 = record {
+          locals = List._++_ t2 t1;
+          slots = life1 ∷ life2 ∷ life3 ∷ life4 ∷ life5 ∷ life0 ∷ Row.off ∷ Row.off ∷ Row.off ∷ Row.off ∷ Row.off ∷
+              Row.off ∷ Row.off ∷ List.[];
+        }
+
         abbrev G2 : Row.Cx
-        G2 = record { locals = List._++_ t0 t1; slots = life1 ∷ life2 ∷ life3 ∷ life4 ∷ life5 ∷ life0 ∷ Row.off ∷ Row.off ∷ Row.off ∷ Row.off ∷
-            Row.off ∷ Row.off ∷ Row.off ∷ List.[]; }
+        G2 = record {
+          locals = List._++_ t0 t1;
+          slots = life1 ∷ life2 ∷ life3 ∷ life4 ∷ life5 ∷ life0 ∷ Row.off ∷ Row.off ∷ Row.off ∷ Row.off ∷ Row.off ∷
+              Row.off ∷ Row.off ∷ List.[];
+        }
+
         abbrev G3 : Row.Cx
-        G3 = record { locals = List._++_ t0 t1; slots = life1 ∷ life2 ∷ life3 ∷ life4 ∷ life5 ∷ life0 ∷ Row.off ∷ Row.off ∷ Row.off ∷ Row.off ∷
-            Row.off ∷ Row.off ∷ Row.off ∷ List.[]; }
+        G3 = record {
+          locals = List._++_ t0 t1;
+          slots = life1 ∷ life2 ∷ life3 ∷ life4 ∷ life5 ∷ life0 ∷ Row.off ∷ Row.off ∷ Row.off ∷ Row.off ∷ Row.off ∷
+              Row.off ∷ Row.off ∷ List.[];
+        }
+
         abbrev G4 : Row.Cx
-        G4 = record { locals = List._++_ t3 t1; slots = life1 ∷ life2 ∷ life3 ∷ life4 ∷ life5 ∷ life0 ∷ Row.off ∷ Row.off ∷ Row.off ∷ Row.off ∷
-            Row.off ∷ Row.off ∷ Row.off ∷ List.[]; }
+        G4 = record {
+          locals = List._++_ t3 t1;
+          slots = life1 ∷ life2 ∷ life3 ∷ life4 ∷ life5 ∷ life0 ∷ Row.off ∷ Row.off ∷ Row.off ∷ Row.off ∷ Row.off ∷
+              Row.off ∷ Row.off ∷ List.[];
+        }
+
         abbrev G5 : Row.Cx
-        G5 = record { locals = List._++_ t4 t1; slots = life1 ∷ life2 ∷ life3 ∷ life4 ∷ life5 ∷ life0 ∷ Row.off ∷ Row.off ∷ Row.off ∷ Row.off ∷
-            Row.off ∷ Row.off ∷ Row.off ∷ List.[]; }
+        G5 = record {
+          locals = List._++_ t4 t1;
+          slots = life1 ∷ life2 ∷ life3 ∷ life4 ∷ life5 ∷ life0 ∷ Row.off ∷ Row.off ∷ Row.off ∷ Row.off ∷ Row.off ∷
+              Row.off ∷ Row.off ∷ List.[];
+        }
+
         abbrev G6 : Row.Cx
-        G6 = record { locals = List._++_ t4 t1; slots = life1 ∷ life2 ∷ life3 ∷ life4 ∷ life5 ∷ life0 ∷ Row.alive ∷ Row.off ∷ Row.off ∷ Row.off ∷
-            Row.off ∷ Row.off ∷ Row.off ∷ List.[]; }
+        G6 = record {
+          locals = List._++_ t4 t1;
+          slots = life1 ∷ life2 ∷ life3 ∷ life4 ∷ life5 ∷ life0 ∷ Row.alive ∷ Row.off ∷ Row.off ∷ Row.off ∷ Row.off ∷
+              Row.off ∷ Row.off ∷ List.[];
+        }
+
         abbrev G7 : Row.Cx
-        G7 = record { locals = List._++_ g5 t1; slots = life1 ∷ life2 ∷ life3 ∷ life4 ∷ life5 ∷ Row.off ∷ Row.alive ∷ Row.off ∷ Row.off ∷ Row.off ∷
-            Row.off ∷ Row.off ∷ Row.off ∷ List.[]; }
+        G7 = record {
+          locals = List._++_ g5 t1;
+          slots = life1 ∷ life2 ∷ life3 ∷ life4 ∷ life5 ∷ Row.off ∷ Row.alive ∷ Row.off ∷ Row.off ∷ Row.off ∷ Row.off ∷
+              Row.off ∷ Row.off ∷ List.[];
+        }
+
         abbrev G8 : Row.Cx
-        G8 = record { locals = List._++_ g6 t1; slots = life1 ∷ life2 ∷ life3 ∷ life4 ∷ life5 ∷ Row.off ∷ Row.alive ∷ Row.off ∷ Row.off ∷ Row.off ∷
-            Row.off ∷ Row.off ∷ Row.off ∷ List.[]; }
+        G8 = record {
+          locals = List._++_ g6 t1;
+          slots = life1 ∷ life2 ∷ life3 ∷ life4 ∷ life5 ∷ Row.off ∷ Row.alive ∷ Row.off ∷ Row.off ∷ Row.off ∷ Row.off ∷
+              Row.off ∷ Row.off ∷ List.[];
+        }
+
         abbrev G9 : Row.Cx
-        G9 = record { locals = List._++_ g7 t1; slots = life1 ∷ life2 ∷ life3 ∷ life4 ∷ life5 ∷ Row.off ∷ Row.alive ∷ Row.off ∷ Row.off ∷ Row.off ∷
-            Row.off ∷ Row.off ∷ Row.off ∷ List.[]; }
+        G9 = record {
+          locals = List._++_ g7 t1;
+          slots = life1 ∷ life2 ∷ life3 ∷ life4 ∷ life5 ∷ Row.off ∷ Row.alive ∷ Row.off ∷ Row.off ∷ Row.off ∷ Row.off ∷
+              Row.off ∷ Row.off ∷ List.[];
+        }
+
         abbrev G10 : Row.Cx
-        G10 = record { locals = List._++_ g8 t1; slots = life1 ∷ life2 ∷ life3 ∷ life4 ∷ life5 ∷ Row.off ∷ Row.alive ∷ Row.off ∷ Row.off ∷ Row.off ∷
-            Row.off ∷ Row.off ∷ Row.off ∷ List.[]; }
+        G10 = record {
+          locals = List._++_ g8 t1;
+          slots = life1 ∷ life2 ∷ life3 ∷ life4 ∷ life5 ∷ Row.off ∷ Row.alive ∷ Row.off ∷ Row.off ∷ Row.off ∷ Row.off ∷
+              Row.off ∷ Row.off ∷ List.[];
+        }
+
         abbrev G11 : Row.Cx
-        G11 = record { locals = List._++_ g9 t1; slots = life1 ∷ life2 ∷ life3 ∷ life4 ∷ life5 ∷ Row.off ∷ Row.alive ∷ Row.off ∷ Row.off ∷ Row.off ∷
-            Row.off ∷ Row.off ∷ Row.off ∷ List.[]; }
+        G11 = record {
+          locals = List._++_ g9 t1;
+          slots = life1 ∷ life2 ∷ life3 ∷ life4 ∷ life5 ∷ Row.off ∷ Row.alive ∷ Row.off ∷ Row.off ∷ Row.off ∷ Row.off ∷
+              Row.off ∷ Row.off ∷ List.[];
+        }
+
         abbrev G12 : Row.Cx
-        G12 = record { locals = List._++_ g9 t1; slots = life1 ∷ life2 ∷ life3 ∷ life4 ∷ life5 ∷ Row.off ∷ Row.dead ∷ Row.off ∷ Row.off ∷ Row.off ∷
-            Row.off ∷ Row.off ∷ Row.off ∷ List.[]; }
+        G12 = record {
+          locals = List._++_ g9 t1;
+          slots = life1 ∷ life2 ∷ life3 ∷ life4 ∷ life5 ∷ Row.off ∷ Row.dead ∷ Row.off ∷ Row.off ∷ Row.off ∷ Row.off ∷
+              Row.off ∷ Row.off ∷ List.[];
+        }
+
         abbrev G13 : Row.Cx
-        G13 = record { locals = List._++_ t3 t1; slots = life1 ∷ life2 ∷ life3 ∷ life4 ∷ life5 ∷ life0 ∷ Row.dead ∷ Row.off ∷ Row.off ∷ Row.off ∷
-            Row.off ∷ Row.off ∷ Row.off ∷ List.[]; }
+        G13 = record {
+          locals = List._++_ t3 t1;
+          slots = life1 ∷ life2 ∷ life3 ∷ life4 ∷ life5 ∷ life0 ∷ Row.dead ∷ Row.off ∷ Row.off ∷ Row.off ∷ Row.off ∷
+              Row.off ∷ Row.off ∷ List.[];
+        }
+
         abbrev G14 : Row.Cx
-        G14 = record { locals = List._++_ t3 t1; slots = life1 ∷ life2 ∷ life3 ∷ life4 ∷ life5 ∷ life0 ∷ Row.dead ∷ Row.off ∷ Row.off ∷ Row.off ∷
-            Row.off ∷ Row.off ∷ Row.off ∷ List.[]; }
+        G14 = record {
+          locals = List._++_ t3 t1;
+          slots = life1 ∷ life2 ∷ life3 ∷ life4 ∷ life5 ∷ life0 ∷ Row.dead ∷ Row.off ∷ Row.off ∷ Row.off ∷ Row.off ∷
+              Row.off ∷ Row.off ∷ List.[];
+        }
+
         abbrev G15 : Row.Cx
-        G15 = record { locals = List._++_ t3 t1; slots = life1 ∷ life2 ∷ life3 ∷ life4 ∷ life5 ∷ life0 ∷ Row.off ∷ Row.off ∷ Row.off ∷ Row.off ∷
-            Row.off ∷ Row.off ∷ Row.off ∷ List.[]; }
+        G15 = record {
+          locals = List._++_ t3 t1;
+          slots = life1 ∷ life2 ∷ life3 ∷ life4 ∷ life5 ∷ life0 ∷ Row.off ∷ Row.off ∷ Row.off ∷ Row.off ∷ Row.off ∷
+              Row.off ∷ Row.off ∷ List.[];
+        }
+
         abbrev G16 : Row.Cx
-        G16 = record { locals = List._++_ t3 t1; slots = life1 ∷ life2 ∷ life3 ∷ life4 ∷ life5 ∷ life0 ∷ Row.off ∷ Row.alive ∷ Row.off ∷ Row.off ∷
-            Row.off ∷ Row.off ∷ Row.off ∷ List.[]; }
+        G16 = record {
+          locals = List._++_ t3 t1;
+          slots = life1 ∷ life2 ∷ life3 ∷ life4 ∷ life5 ∷ life0 ∷ Row.off ∷ Row.alive ∷ Row.off ∷ Row.off ∷ Row.off ∷
+              Row.off ∷ Row.off ∷ List.[];
+        }
+
         abbrev G17 : Row.Cx
-        G17 = record { locals = List._++_ g10 t1; slots = Row.off ∷ life2 ∷ life3 ∷ life4 ∷ life5 ∷ life0 ∷ Row.off ∷ Row.alive ∷ Row.off ∷ Row.off ∷
-            Row.off ∷ Row.off ∷ Row.off ∷ List.[]; }
+        G17 = record {
+          locals = List._++_ g10 t1;
+          slots = Row.off ∷ life2 ∷ life3 ∷ life4 ∷ life5 ∷ life0 ∷ Row.off ∷ Row.alive ∷ Row.off ∷ Row.off ∷ Row.off ∷
+              Row.off ∷ Row.off ∷ List.[];
+        }
+
         abbrev G18 : Row.Cx
-        G18 = record { locals = List._++_ g11 t1; slots = Row.off ∷ life2 ∷ life3 ∷ life4 ∷ life5 ∷ life0 ∷ Row.off ∷ Row.alive ∷ Row.off ∷ Row.off ∷
-            Row.off ∷ Row.off ∷ Row.off ∷ List.[]; }
+        G18 = record {
+          locals = List._++_ g11 t1;
+          slots = Row.off ∷ life2 ∷ life3 ∷ life4 ∷ life5 ∷ life0 ∷ Row.off ∷ Row.alive ∷ Row.off ∷ Row.off ∷ Row.off ∷
+              Row.off ∷ Row.off ∷ List.[];
+        }
+
         abbrev G19 : Row.Cx
-        G19 = record { locals = List._++_ g11 t1; slots = Row.off ∷ life2 ∷ life3 ∷ life4 ∷ life5 ∷ life0 ∷ Row.off ∷ Row.alive ∷ Row.alive ∷ Row.off
-            ∷ Row.off ∷ Row.off ∷ Row.off ∷ List.[]; }
+        G19 = record {
+          locals = List._++_ g11 t1;
+          slots = Row.off ∷ life2 ∷ life3 ∷ life4 ∷ life5 ∷ life0 ∷ Row.off ∷ Row.alive ∷ Row.alive ∷ Row.off ∷ Row.off
+              ∷ Row.off ∷ Row.off ∷ List.[];
+        }
+
         abbrev G20 : Row.Cx
-        G20 = record { locals = List._++_ g12 t13; slots = Row.off ∷ Row.off ∷ life3 ∷ life4 ∷ life5 ∷ life0 ∷ Row.off ∷ Row.alive ∷ Row.alive ∷
-            Row.off ∷ Row.off ∷ Row.off ∷ Row.off ∷ List.[]; }
+        G20 = record {
+          locals = List._++_ g12 t13;
+          slots = Row.off ∷ Row.off ∷ life3 ∷ life4 ∷ life5 ∷ life0 ∷ Row.off ∷ Row.alive ∷ Row.alive ∷ Row.off ∷
+              Row.off ∷ Row.off ∷ Row.off ∷ List.[];
+        }
+
         abbrev G21 : Row.Cx
-        G21 = record { locals = List._++_ g12 t14; slots = Row.off ∷ Row.off ∷ life3 ∷ life4 ∷ life5 ∷ life0 ∷ Row.off ∷ Row.alive ∷ Row.alive ∷
-            Row.off ∷ Row.off ∷ Row.off ∷ Row.off ∷ List.[]; }
+        G21 = record {
+          locals = List._++_ g12 t14;
+          slots = Row.off ∷ Row.off ∷ life3 ∷ life4 ∷ life5 ∷ life0 ∷ Row.off ∷ Row.alive ∷ Row.alive ∷ Row.off ∷
+              Row.off ∷ Row.off ∷ Row.off ∷ List.[];
+        }
+
         abbrev G22 : Row.Cx
-        G22 = record { locals = List._++_ g12 t14; slots = Row.off ∷ Row.off ∷ life3 ∷ life4 ∷ life5 ∷ life0 ∷ Row.off ∷ Row.alive ∷ Row.alive ∷
-            Row.alive ∷ Row.off ∷ Row.off ∷ Row.off ∷ List.[]; }
+        G22 = record {
+          locals = List._++_ g12 t14;
+          slots = Row.off ∷ Row.off ∷ life3 ∷ life4 ∷ life5 ∷ life0 ∷ Row.off ∷ Row.alive ∷ Row.alive ∷ Row.alive ∷
+              Row.off ∷ Row.off ∷ Row.off ∷ List.[];
+        }
+
         abbrev G23 : Row.Cx
-        G23 = record { locals = List._++_ g15 t16; slots = Row.off ∷ Row.off ∷ Row.off ∷ life4 ∷ life5 ∷ life0 ∷ Row.off ∷ Row.alive ∷ Row.alive ∷
-            Row.alive ∷ Row.off ∷ Row.off ∷ Row.off ∷ List.[]; }
+        G23 = record {
+          locals = List._++_ g15 t16;
+          slots = Row.off ∷ Row.off ∷ Row.off ∷ life4 ∷ life5 ∷ life0 ∷ Row.off ∷ Row.alive ∷ Row.alive ∷ Row.alive ∷
+              Row.off ∷ Row.off ∷ Row.off ∷ List.[];
+        }
+
         abbrev G24 : Row.Cx
-        G24 = record { locals = List._++_ g15 t17; slots = Row.off ∷ Row.off ∷ Row.off ∷ life4 ∷ life5 ∷ life0 ∷ Row.off ∷ Row.alive ∷ Row.alive ∷
-            Row.alive ∷ Row.off ∷ Row.off ∷ Row.off ∷ List.[]; }
+        G24 = record {
+          locals = List._++_ g15 t17;
+          slots = Row.off ∷ Row.off ∷ Row.off ∷ life4 ∷ life5 ∷ life0 ∷ Row.off ∷ Row.alive ∷ Row.alive ∷ Row.alive ∷
+              Row.off ∷ Row.off ∷ Row.off ∷ List.[];
+        }
+
         abbrev G25 : Row.Cx
-        G25 = record { locals = List._++_ g15 t17; slots = Row.off ∷ Row.off ∷ Row.off ∷ life4 ∷ life5 ∷ life0 ∷ Row.off ∷ Row.alive ∷ Row.alive ∷
-            Row.alive ∷ Row.alive ∷ Row.off ∷ Row.off ∷ List.[]; }
+        G25 = record {
+          locals = List._++_ g15 t17;
+          slots = Row.off ∷ Row.off ∷ Row.off ∷ life4 ∷ life5 ∷ life0 ∷ Row.off ∷ Row.alive ∷ Row.alive ∷ Row.alive ∷
+              Row.alive ∷ Row.off ∷ Row.off ∷ List.[];
+        }
+
         abbrev G26 : Row.Cx
-        G26 = record { locals = List._++_ g18 t19; slots = Row.off ∷ Row.off ∷ Row.off ∷ Row.off ∷ life5 ∷ life0 ∷ Row.off ∷ Row.alive ∷ Row.alive ∷
-            Row.alive ∷ Row.alive ∷ Row.off ∷ Row.off ∷ List.[]; }
+        G26 = record {
+          locals = List._++_ g18 t19;
+          slots = Row.off ∷ Row.off ∷ Row.off ∷ Row.off ∷ life5 ∷ life0 ∷ Row.off ∷ Row.alive ∷ Row.alive ∷ Row.alive ∷
+              Row.alive ∷ Row.off ∷ Row.off ∷ List.[];
+        }
+
         abbrev G27 : Row.Cx
-        G27 = record { locals = List._++_ g18 t20; slots = Row.off ∷ Row.off ∷ Row.off ∷ Row.off ∷ life5 ∷ life0 ∷ Row.off ∷ Row.alive ∷ Row.alive ∷
-            Row.alive ∷ Row.alive ∷ Row.off ∷ Row.off ∷ List.[]; }
+        G27 = record {
+          locals = List._++_ g18 t20;
+          slots = Row.off ∷ Row.off ∷ Row.off ∷ Row.off ∷ life5 ∷ life0 ∷ Row.off ∷ Row.alive ∷ Row.alive ∷ Row.alive ∷
+              Row.alive ∷ Row.off ∷ Row.off ∷ List.[];
+        }
+
         abbrev G28 : Row.Cx
-        G28 = record { locals = List._++_ g18 t20; slots = Row.off ∷ Row.off ∷ Row.off ∷ Row.off ∷ life5 ∷ life0 ∷ Row.off ∷ Row.alive ∷ Row.alive ∷
-            Row.alive ∷ Row.alive ∷ Row.alive ∷ Row.off ∷ List.[]; }
+        G28 = record {
+          locals = List._++_ g18 t20;
+          slots = Row.off ∷ Row.off ∷ Row.off ∷ Row.off ∷ life5 ∷ life0 ∷ Row.off ∷ Row.alive ∷ Row.alive ∷ Row.alive ∷
+              Row.alive ∷ Row.alive ∷ Row.off ∷ List.[];
+        }
+
         abbrev G29 : Row.Cx
-        G29 = record { locals = List._++_ g21 t22; slots = Row.off ∷ Row.off ∷ Row.off ∷ Row.off ∷ Row.off ∷ life0 ∷ Row.off ∷ Row.alive ∷ Row.alive ∷
-            Row.alive ∷ Row.alive ∷ Row.alive ∷ Row.off ∷ List.[]; }
+        G29 = record {
+          locals = List._++_ g21 t22;
+          slots = Row.off ∷ Row.off ∷ Row.off ∷ Row.off ∷ Row.off ∷ life0 ∷ Row.off ∷ Row.alive ∷ Row.alive ∷ Row.alive
+              ∷ Row.alive ∷ Row.alive ∷ Row.off ∷ List.[];
+        }
+
         abbrev G30 : Row.Cx
-        G30 = record { locals = List._++_ g21 t23; slots = Row.off ∷ Row.off ∷ Row.off ∷ Row.off ∷ Row.off ∷ life0 ∷ Row.off ∷ Row.alive ∷ Row.alive ∷
-            Row.alive ∷ Row.alive ∷ Row.alive ∷ Row.off ∷ List.[]; }
+        G30 = record {
+          locals = List._++_ g21 t23;
+          slots = Row.off ∷ Row.off ∷ Row.off ∷ Row.off ∷ Row.off ∷ life0 ∷ Row.off ∷ Row.alive ∷ Row.alive ∷ Row.alive
+              ∷ Row.alive ∷ Row.alive ∷ Row.off ∷ List.[];
+        }
+
         abbrev G31 : Row.Cx
-        G31 = record { locals = List._++_ g21 t23; slots = Row.off ∷ Row.off ∷ Row.off ∷ Row.off ∷ Row.off ∷ life0 ∷ Row.off ∷ Row.alive ∷ Row.alive ∷
-            Row.alive ∷ Row.alive ∷ Row.alive ∷ Row.alive ∷ List.[]; }
+        G31 = record {
+          locals = List._++_ g21 t23;
+          slots = Row.off ∷ Row.off ∷ Row.off ∷ Row.off ∷ Row.off ∷ life0 ∷ Row.off ∷ Row.alive ∷ Row.alive ∷ Row.alive
+              ∷ Row.alive ∷ Row.alive ∷ Row.alive ∷ List.[];
+        }
+
         abbrev G32 : Row.Cx
-        G32 = record { locals = List._++_ g24 t25; slots = Row.off ∷ Row.off ∷ Row.off ∷ Row.off ∷ Row.off ∷ Row.off ∷ Row.off ∷ Row.alive ∷ Row.alive
-            ∷ Row.alive ∷ Row.alive ∷ Row.alive ∷ Row.alive ∷ List.[]; }
+        G32 = record {
+          locals = List._++_ g24 t25;
+          slots = Row.off ∷ Row.off ∷ Row.off ∷ Row.off ∷ Row.off ∷ Row.off ∷ Row.off ∷ Row.alive ∷ Row.alive ∷
+              Row.alive ∷ Row.alive ∷ Row.alive ∷ Row.alive ∷ List.[];
+        }
+
         abbrev G33 : Row.Cx
-        G33 = record { locals = List._++_ g24 t26; slots = Row.off ∷ Row.off ∷ Row.off ∷ Row.off ∷ Row.off ∷ Row.off ∷ Row.off ∷ Row.alive ∷ Row.alive
-            ∷ Row.alive ∷ Row.alive ∷ Row.alive ∷ Row.alive ∷ List.[]; }
+        G33 = record {
+          locals = List._++_ g24 t26;
+          slots = Row.off ∷ Row.off ∷ Row.off ∷ Row.off ∷ Row.off ∷ Row.off ∷ Row.off ∷ Row.alive ∷ Row.alive ∷
+              Row.alive ∷ Row.alive ∷ Row.alive ∷ Row.alive ∷ List.[];
+        }
+
         abbrev G34 : Row.Cx
-        G34 = record { locals = List._++_ g27 t28; slots = Row.off ∷ Row.off ∷ Row.off ∷ Row.off ∷ Row.off ∷ Row.off ∷ Row.off ∷ Row.alive ∷ Row.alive
-            ∷ Row.alive ∷ Row.alive ∷ Row.alive ∷ Row.alive ∷ List.[]; }
+        G34 = record {
+          locals = List._++_ g27 t28;
+          slots = Row.off ∷ Row.off ∷ Row.off ∷ Row.off ∷ Row.off ∷ Row.off ∷ Row.off ∷ Row.alive ∷ Row.alive ∷
+              Row.alive ∷ Row.alive ∷ Row.alive ∷ Row.alive ∷ List.[];
+        }
+
         abbrev G35 : Row.Cx
-        G35 = record { locals = List._++_ g27 t29; slots = Row.off ∷ Row.off ∷ Row.off ∷ Row.off ∷ Row.off ∷ Row.off ∷ Row.off ∷ Row.alive ∷ Row.alive
-            ∷ Row.alive ∷ Row.alive ∷ Row.alive ∷ Row.alive ∷ List.[]; }
+        G35 = record {
+          locals = List._++_ g27 t29;
+          slots = Row.off ∷ Row.off ∷ Row.off ∷ Row.off ∷ Row.off ∷ Row.off ∷ Row.off ∷ Row.alive ∷ Row.alive ∷
+              Row.alive ∷ Row.alive ∷ Row.alive ∷ Row.alive ∷ List.[];
+        }
+
         abbrev G36 : Row.Cx
-        G36 = record { locals = List._++_ g30 t29; slots = Row.off ∷ Row.off ∷ Row.off ∷ Row.off ∷ Row.off ∷ Row.off ∷ Row.off ∷ Row.alive ∷ Row.alive
-            ∷ Row.alive ∷ Row.alive ∷ Row.alive ∷ Row.alive ∷ List.[]; }
+        G36 = record {
+          locals = List._++_ g30 t29;
+          slots = Row.off ∷ Row.off ∷ Row.off ∷ Row.off ∷ Row.off ∷ Row.off ∷ Row.off ∷ Row.alive ∷ Row.alive ∷
+              Row.alive ∷ Row.alive ∷ Row.alive ∷ Row.alive ∷ List.[];
+        }
+
         abbrev G37 : Row.Cx
-        G37 = record { locals = List._++_ g30 t29; slots = Row.off ∷ Row.off ∷ Row.off ∷ Row.off ∷ Row.off ∷ Row.off ∷ Row.off ∷ Row.dead ∷ Row.alive
-            ∷ Row.alive ∷ Row.alive ∷ Row.alive ∷ Row.alive ∷ List.[]; }
+        G37 = record {
+          locals = List._++_ g30 t29;
+          slots = Row.off ∷ Row.off ∷ Row.off ∷ Row.off ∷ Row.off ∷ Row.off ∷ Row.off ∷ Row.dead ∷ Row.alive ∷
+              Row.alive ∷ Row.alive ∷ Row.alive ∷ Row.alive ∷ List.[];
+        }
+
         abbrev G38 : Row.Cx
-        G38 = record { locals = List._++_ g31 t29; slots = life1 ∷ Row.off ∷ Row.off ∷ Row.off ∷ Row.off ∷ Row.off ∷ Row.off ∷ Row.dead ∷ Row.alive ∷
-            Row.alive ∷ Row.alive ∷ Row.alive ∷ Row.alive ∷ List.[]; }
+        G38 = record {
+          locals = List._++_ g31 t29;
+          slots = life1 ∷ Row.off ∷ Row.off ∷ Row.off ∷ Row.off ∷ Row.off ∷ Row.off ∷ Row.dead ∷ Row.alive ∷ Row.alive
+              ∷ Row.alive ∷ Row.alive ∷ Row.alive ∷ List.[];
+        }
+
         abbrev G39 : Row.Cx
-        G39 = record { locals = List._++_ g31 t29; slots = life1 ∷ Row.off ∷ Row.off ∷ Row.off ∷ Row.off ∷ Row.off ∷ Row.off ∷ Row.off ∷ Row.alive ∷
-            Row.alive ∷ Row.alive ∷ Row.alive ∷ Row.alive ∷ List.[]; }
+        G39 = record {
+          locals = List._++_ g31 t29;
+          slots = life1 ∷ Row.off ∷ Row.off ∷ Row.off ∷ Row.off ∷ Row.off ∷ Row.off ∷ Row.off ∷ Row.alive ∷ Row.alive ∷
+              Row.alive ∷ Row.alive ∷ Row.alive ∷ List.[];
+        }
+
         abbrev G40 : Row.Cx
-        G40 = record { locals = List._++_ g31 t29; slots = life1 ∷ Row.off ∷ Row.off ∷ Row.off ∷ Row.off ∷ Row.off ∷ Row.off ∷ Row.off ∷ Row.dead ∷
-            Row.alive ∷ Row.alive ∷ Row.alive ∷ Row.alive ∷ List.[]; }
+        G40 = record {
+          locals = List._++_ g31 t29;
+          slots = life1 ∷ Row.off ∷ Row.off ∷ Row.off ∷ Row.off ∷ Row.off ∷ Row.off ∷ Row.off ∷ Row.dead ∷ Row.alive ∷
+              Row.alive ∷ Row.alive ∷ Row.alive ∷ List.[];
+        }
+
         abbrev G41 : Row.Cx
-        G41 = record { locals = List._++_ g32 t33; slots = life1 ∷ life2 ∷ Row.off ∷ Row.off ∷ Row.off ∷ Row.off ∷ Row.off ∷ Row.off ∷ Row.dead ∷
-            Row.alive ∷ Row.alive ∷ Row.alive ∷ Row.alive ∷ List.[]; }
+        G41 = record {
+          locals = List._++_ g32 t33;
+          slots = life1 ∷ life2 ∷ Row.off ∷ Row.off ∷ Row.off ∷ Row.off ∷ Row.off ∷ Row.off ∷ Row.dead ∷ Row.alive ∷
+              Row.alive ∷ Row.alive ∷ Row.alive ∷ List.[];
+        }
+
         abbrev G42 : Row.Cx
-        G42 = record { locals = List._++_ g32 t33; slots = life1 ∷ life2 ∷ Row.off ∷ Row.off ∷ Row.off ∷ Row.off ∷ Row.off ∷ Row.off ∷ Row.off ∷
-            Row.alive ∷ Row.alive ∷ Row.alive ∷ Row.alive ∷ List.[]; }
+        G42 = record {
+          locals = List._++_ g32 t33;
+          slots = life1 ∷ life2 ∷ Row.off ∷ Row.off ∷ Row.off ∷ Row.off ∷ Row.off ∷ Row.off ∷ Row.off ∷ Row.alive ∷
+              Row.alive ∷ Row.alive ∷ Row.alive ∷ List.[];
+        }
+
         abbrev G43 : Row.Cx
-        G43 = record { locals = List._++_ g32 t33; slots = life1 ∷ life2 ∷ Row.off ∷ Row.off ∷ Row.off ∷ Row.off ∷ Row.off ∷ Row.off ∷ Row.off ∷
-            Row.dead ∷ Row.alive ∷ Row.alive ∷ Row.alive ∷ List.[]; }
+        G43 = record {
+          locals = List._++_ g32 t33;
+          slots = life1 ∷ life2 ∷ Row.off ∷ Row.off ∷ Row.off ∷ Row.off ∷ Row.off ∷ Row.off ∷ Row.off ∷ Row.dead ∷
+              Row.alive ∷ Row.alive ∷ Row.alive ∷ List.[];
+        }
+
         abbrev G44 : Row.Cx
-        G44 = record { locals = List._++_ g34 t35; slots = life1 ∷ life2 ∷ life3 ∷ Row.off ∷ Row.off ∷ Row.off ∷ Row.off ∷ Row.off ∷ Row.off ∷
-            Row.dead ∷ Row.alive ∷ Row.alive ∷ Row.alive ∷ List.[]; }
+        G44 = record {
+          locals = List._++_ g34 t35;
+          slots = life1 ∷ life2 ∷ life3 ∷ Row.off ∷ Row.off ∷ Row.off ∷ Row.off ∷ Row.off ∷ Row.off ∷ Row.dead ∷
+              Row.alive ∷ Row.alive ∷ Row.alive ∷ List.[];
+        }
+
         abbrev G45 : Row.Cx
-        G45 = record { locals = List._++_ g34 t35; slots = life1 ∷ life2 ∷ life3 ∷ Row.off ∷ Row.off ∷ Row.off ∷ Row.off ∷ Row.off ∷ Row.off ∷ Row.off
-            ∷ Row.alive ∷ Row.alive ∷ Row.alive ∷ List.[]; }
+        G45 = record {
+          locals = List._++_ g34 t35;
+          slots = life1 ∷ life2 ∷ life3 ∷ Row.off ∷ Row.off ∷ Row.off ∷ Row.off ∷ Row.off ∷ Row.off ∷ Row.off ∷
+              Row.alive ∷ Row.alive ∷ Row.alive ∷ List.[];
+        }
+
         abbrev G46 : Row.Cx
-        G46 = record { locals = List._++_ g34 t35; slots = life1 ∷ life2 ∷ life3 ∷ Row.off ∷ Row.off ∷ Row.off ∷ Row.off ∷ Row.off ∷ Row.off ∷ Row.off
-            ∷ Row.dead ∷ Row.alive ∷ Row.alive ∷ List.[]; }
+        G46 = record {
+          locals = List._++_ g34 t35;
+          slots = life1 ∷ life2 ∷ life3 ∷ Row.off ∷ Row.off ∷ Row.off ∷ Row.off ∷ Row.off ∷ Row.off ∷ Row.off ∷
+              Row.dead ∷ Row.alive ∷ Row.alive ∷ List.[];
+        }
+
         abbrev G47 : Row.Cx
-        G47 = record { locals = List._++_ g36 t37; slots = life1 ∷ life2 ∷ life3 ∷ life4 ∷ Row.off ∷ Row.off ∷ Row.off ∷ Row.off ∷ Row.off ∷ Row.off ∷
-            Row.dead ∷ Row.alive ∷ Row.alive ∷ List.[]; }
+        G47 = record {
+          locals = List._++_ g36 t37;
+          slots = life1 ∷ life2 ∷ life3 ∷ life4 ∷ Row.off ∷ Row.off ∷ Row.off ∷ Row.off ∷ Row.off ∷ Row.off ∷ Row.dead
+              ∷ Row.alive ∷ Row.alive ∷ List.[];
+        }
+
         abbrev G48 : Row.Cx
-        G48 = record { locals = List._++_ g36 t37; slots = life1 ∷ life2 ∷ life3 ∷ life4 ∷ Row.off ∷ Row.off ∷ Row.off ∷ Row.off ∷ Row.off ∷ Row.off ∷
-            Row.off ∷ Row.alive ∷ Row.alive ∷ List.[]; }
+        G48 = record {
+          locals = List._++_ g36 t37;
+          slots = life1 ∷ life2 ∷ life3 ∷ life4 ∷ Row.off ∷ Row.off ∷ Row.off ∷ Row.off ∷ Row.off ∷ Row.off ∷ Row.off ∷
+              Row.alive ∷ Row.alive ∷ List.[];
+        }
+
         abbrev G49 : Row.Cx
-        G49 = record { locals = List._++_ g36 t37; slots = life1 ∷ life2 ∷ life3 ∷ life4 ∷ Row.off ∷ Row.off ∷ Row.off ∷ Row.off ∷ Row.off ∷ Row.off ∷
-            Row.off ∷ Row.dead ∷ Row.alive ∷ List.[]; }
+        G49 = record {
+          locals = List._++_ g36 t37;
+          slots = life1 ∷ life2 ∷ life3 ∷ life4 ∷ Row.off ∷ Row.off ∷ Row.off ∷ Row.off ∷ Row.off ∷ Row.off ∷ Row.off ∷
+              Row.dead ∷ Row.alive ∷ List.[];
+        }
+
         abbrev G50 : Row.Cx
-        G50 = record { locals = List._++_ g38 t1; slots = life1 ∷ life2 ∷ life3 ∷ life4 ∷ life5 ∷ Row.off ∷ Row.off ∷ Row.off ∷ Row.off ∷ Row.off ∷
-            Row.off ∷ Row.dead ∷ Row.alive ∷ List.[]; }
+        G50 = record {
+          locals = List._++_ g38 t1;
+          slots = life1 ∷ life2 ∷ life3 ∷ life4 ∷ life5 ∷ Row.off ∷ Row.off ∷ Row.off ∷ Row.off ∷ Row.off ∷ Row.off ∷
+              Row.dead ∷ Row.alive ∷ List.[];
+        }
+
         abbrev G51 : Row.Cx
-        G51 = record { locals = List._++_ g38 t1; slots = life1 ∷ life2 ∷ life3 ∷ life4 ∷ life5 ∷ Row.off ∷ Row.off ∷ Row.off ∷ Row.off ∷ Row.off ∷
-            Row.off ∷ Row.dead ∷ Row.alive ∷ List.[]; }
+        G51 = record {
+          locals = List._++_ g38 t1;
+          slots = life1 ∷ life2 ∷ life3 ∷ life4 ∷ life5 ∷ Row.off ∷ Row.off ∷ Row.off ∷ Row.off ∷ Row.off ∷ Row.off ∷
+              Row.dead ∷ Row.alive ∷ List.[];
+        }
+
         abbrev G52 : Row.Cx
-        G52 = record { locals = List._++_ g38 t1; slots = life1 ∷ life2 ∷ life3 ∷ life4 ∷ life5 ∷ Row.off ∷ Row.off ∷ Row.off ∷ Row.off ∷ Row.off ∷
-            Row.off ∷ Row.off ∷ Row.alive ∷ List.[]; }
+        G52 = record {
+          locals = List._++_ g38 t1;
+          slots = life1 ∷ life2 ∷ life3 ∷ life4 ∷ life5 ∷ Row.off ∷ Row.off ∷ Row.off ∷ Row.off ∷ Row.off ∷ Row.off ∷
+              Row.off ∷ Row.alive ∷ List.[];
+        }
+
         abbrev G53 : Row.Cx
-        G53 = record { locals = List._++_ g38 t1; slots = life1 ∷ life2 ∷ life3 ∷ life4 ∷ life5 ∷ Row.off ∷ Row.off ∷ Row.off ∷ Row.off ∷ Row.off ∷
-            Row.off ∷ Row.off ∷ Row.dead ∷ List.[]; }
+        G53 = record {
+          locals = List._++_ g38 t1;
+          slots = life1 ∷ life2 ∷ life3 ∷ life4 ∷ life5 ∷ Row.off ∷ Row.off ∷ Row.off ∷ Row.off ∷ Row.off ∷ Row.off ∷
+              Row.off ∷ Row.dead ∷ List.[];
+        }
+
         abbrev G54 : Row.Cx
-        G54 = record { locals = List._++_ t39 t1; slots = life1 ∷ life2 ∷ life3 ∷ life4 ∷ life5 ∷ life0 ∷ Row.off ∷ Row.off ∷ Row.off ∷ Row.off ∷
-            Row.off ∷ Row.off ∷ Row.dead ∷ List.[]; }
+        G54 = record {
+          locals = List._++_ t39 t1;
+          slots = life1 ∷ life2 ∷ life3 ∷ life4 ∷ life5 ∷ life0 ∷ Row.off ∷ Row.off ∷ Row.off ∷ Row.off ∷ Row.off ∷
+              Row.off ∷ Row.dead ∷ List.[];
+        }
+
         abbrev G55 : Row.Cx
-        G55 = record { locals = List._++_ t39 t1; slots = life1 ∷ life2 ∷ life3 ∷ life4 ∷ life5 ∷ life0 ∷ Row.off ∷ Row.off ∷ Row.off ∷ Row.off ∷
-            Row.off ∷ Row.off ∷ Row.off ∷ List.[]; }
+        G55 = record {
+          locals = List._++_ t39 t1;
+          slots = life1 ∷ life2 ∷ life3 ∷ life4 ∷ life5 ∷ life0 ∷ Row.off ∷ Row.off ∷ Row.off ∷ Row.off ∷ Row.off ∷
+              Row.off ∷ Row.off ∷ List.[];
+        }
+
         abbrev G56 : Row.Cx
-        G56 = record { locals = List._++_ t40 t1; slots = life1 ∷ life2 ∷ life3 ∷ life4 ∷ life5 ∷ life0 ∷ Row.off ∷ Row.off ∷ Row.off ∷ Row.off ∷
-            Row.off ∷ Row.off ∷ Row.off ∷ List.[]; }
+        G56 = record {
+          locals = List._++_ t40 t1;
+          slots = life1 ∷ life2 ∷ life3 ∷ life4 ∷ life5 ∷ life0 ∷ Row.off ∷ Row.off ∷ Row.off ∷ Row.off ∷ Row.off ∷
+              Row.off ∷ Row.off ∷ List.[];
+        }
+
         abbrev G57 : Row.Cx
-        G57 = record { locals = List._++_ t39 t1; slots = life1 ∷ life2 ∷ life3 ∷ life4 ∷ life5 ∷ life0 ∷ Row.off ∷ Row.off ∷ Row.off ∷ Row.off ∷
-            Row.off ∷ Row.off ∷ Row.off ∷ List.[]; }
+        G57 = record {
+          locals = List._++_ t39 t1;
+          slots = life1 ∷ life2 ∷ life3 ∷ life4 ∷ life5 ∷ life0 ∷ Row.off ∷ Row.off ∷ Row.off ∷ Row.off ∷ Row.off ∷
+              Row.off ∷ Row.off ∷ List.[];
+        }
+
         abbrev G58 : Row.Cx
-        G58 = record { locals = List._++_ t41 t1; slots = life1 ∷ life2 ∷ life3 ∷ life4 ∷ life5 ∷ life0 ∷ Row.off ∷ Row.off ∷ Row.off ∷ Row.off ∷
-            Row.off ∷ Row.off ∷ Row.off ∷ List.[]; }
+        G58 = record {
+          locals = List._++_ t41 t1;
+          slots = life1 ∷ life2 ∷ life3 ∷ life4 ∷ life5 ∷ life0 ∷ Row.off ∷ Row.off ∷ Row.off ∷ Row.off ∷ Row.off ∷
+              Row.off ∷ Row.off ∷ List.[];
+        }
+
         abbrev G59 : Row.Cx
-        G59 = record { locals = List._++_ t42 t1; slots = life1 ∷ life2 ∷ life3 ∷ life4 ∷ life5 ∷ life0 ∷ Row.off ∷ Row.off ∷ Row.off ∷ Row.off ∷
-            Row.off ∷ Row.off ∷ Row.off ∷ List.[]; }
+        G59 = record {
+          locals = List._++_ t42 t1;
+          slots = life1 ∷ life2 ∷ life3 ∷ life4 ∷ life5 ∷ life0 ∷ Row.off ∷ Row.off ∷ Row.off ∷ Row.off ∷ Row.off ∷
+              Row.off ∷ Row.off ∷ List.[];
+        }
+
         abbrev G60 : Row.Cx
-        G60 = record { locals = List._++_ t2 t1; slots = life1 ∷ life2 ∷ life3 ∷ life4 ∷ life5 ∷ life0 ∷ Row.off ∷ Row.off ∷ Row.off ∷ Row.off ∷
-            Row.off ∷ Row.off ∷ Row.off ∷ List.[]; }
+        G60 = record {
+          locals = List._++_ t2 t1;
+          slots = life1 ∷ life2 ∷ life3 ∷ life4 ∷ life5 ∷ life0 ∷ Row.off ∷ Row.off ∷ Row.off ∷ Row.off ∷ Row.off ∷
+              Row.off ∷ Row.off ∷ List.[];
+        }
+
         abbrev Δ0 : Typed.Outs
         Δ0 = record { next = Option.none; exits = List.[]; returns = Option.some G1 }
-        module _ { M : Type 1 } (𝓤 : URA.URA M) (H : Wp.Heap 𝓤) (A : Atoms.Atoms 𝓤) (W : Kit.Given 𝓤 H A) (𝓣 : Wp.Tables 𝓤 H) (known : Knowns 𝓤 H A W
-            𝓣) (bs : List.List Nat.ℕ) (bd : Lifetimes.AllOutlive 6 (Kinds.osR r) κs) where
+
+        module _ {M : Type 1} (𝓤 : URA.URA M) (H : Wp.Heap 𝓤) (A : Atoms.Atoms 𝓤) (W : Kit.Given 𝓤 H A)
+            (𝓣 : Wp.Tables 𝓤 H) (known : Knowns 𝓤 H A W 𝓣) (bs : List.List Nat.ℕ)
+            (bd : Lifetimes.AllOutlive 6 (Kinds.osR r) κs) where
           abbrev E : Wp.Env 𝓤 H
           E = Frame.EnvOf 𝓤 H ((Kinds.tyR r) ∷ (Enter.tysP ps xs)) bs
+
           d0 : Typed.Typed 𝓤 H A 𝓣 E G60 b20 Δ0 at0
           d0 = Typed.t-return 𝓤 H A W 𝓣 E Δ0 tt
+
           d1 : Typed.Typed 𝓤 H A 𝓣 E G59 b20 Δ0 at1
-          d1 = Typed.g-pre 𝓤 H A W 𝓣 E G59 G60 b20 Δ0 (Typed.pass T59 T60 s58) at0 (Scalar.g-room 𝓤 H A W E G59 7 (Syntax.tyInt Syntax.w8)
-              (Scalar.room-sc 𝓤 H A W (Row.sInt Syntax.w8))) d0
+          d1 = Typed.g-pre 𝓤 H A W 𝓣 E G59 G60 b20 Δ0 (Typed.pass T59 T60 s58) at0 (Scalar.g-room 𝓤 H A W E G59 7
+              (Syntax.tyInt Syntax.w8) (Scalar.room-sc 𝓤 H A W (Row.sInt Syntax.w8))) d0
+
           d2 : Typed.Typed 𝓤 H A 𝓣 E G58 b20 Δ0 at2
-          d2 = Typed.g-pre 𝓤 H A W 𝓣 E G58 G59 b20 Δ0 (Typed.pass T58 T59 s57) at1 (Scalar.g-room 𝓤 H A W E G58 10 (Syntax.tyInt Syntax.w64)
-              (Scalar.room-sc 𝓤 H A W (Row.sInt Syntax.w64))) d1
+          d2 = Typed.g-pre 𝓤 H A W 𝓣 E G58 G59 b20 Δ0 (Typed.pass T58 T59 s57) at1 (Scalar.g-room 𝓤 H A W E G58 10
+              (Syntax.tyInt Syntax.w64) (Scalar.room-sc 𝓤 H A W (Row.sInt Syntax.w64))) d1
+
           d3 : Typed.Typed 𝓤 H A 𝓣 E G57 b21 Δ0 at3
-          d3 = Typed.s-seq 𝓤 H A W 𝓣 E G57 G58 b19 b20 Δ0 (Typed.pass T57 T58 s56) at2 (Scalar.t-use 𝓤 H A W E 𝓣 G57 Scalar.oUnit 0 (Rows'.sc-here
-              Row.sUnit) Syntax.tyUnit (Row.valS Row.sUnit) (Row.sUnit .of) tt (Reads.room-gone 𝓤 H A Syntax.tyUnit) (Scalar.holds-sc 𝓤 H A W
-              Row.sUnit) Path.refl (λ u. Path.refl) λ u. tt) d2
+          d3 = Typed.s-seq 𝓤 H A W 𝓣 E G57 G58 b19 b20 Δ0 (Typed.pass T57 T58 s56) at2 (Scalar.t-use 𝓤 H A W E 𝓣 G57
+              Scalar.oUnit 0 (Rows'.sc-here Row.sUnit) Syntax.tyUnit (Row.valS Row.sUnit) (Row.sUnit .of) tt
+              (Reads.room-gone 𝓤 H A Syntax.tyUnit) (Scalar.holds-sc 𝓤 H A W Row.sUnit) Path.refl (λ u. Path.refl) λ u.
+              tt) d2
+
           d4 : Typed.Typed 𝓤 H A 𝓣 E G56 b21 Δ0 at4
-          d4 = Typed.g-pre 𝓤 H A W 𝓣 E G56 G57 b21 Δ0 (Typed.pass T56 T57 s55) at3 (Scalar.g-room 𝓤 H A W E G56 11 Syntax.tyUnit (Scalar.room-sc 𝓤 H A
-              W Row.sUnit)) d3
+          d4 = Typed.g-pre 𝓤 H A W 𝓣 E G56 G57 b21 Δ0 (Typed.pass T56 T57 s55) at3 (Scalar.g-room 𝓤 H A W E G56 11
+              Syntax.tyUnit (Scalar.room-sc 𝓤 H A W Row.sUnit)) d3
+
           d5 : Typed.Typed 𝓤 H A 𝓣 E G55 b22 Δ0 at5
-          d5 = Typed.s-seq 𝓤 H A W 𝓣 E G55 G56 b18 b21 Δ0 (Typed.both s54) at4 (Plain.t-call-plain 𝓤 H A W 𝓣 0 ps·4 r·4 (claims· .8) (claims· .9)
-              "cases::machine::say" (known .4) E (λ pos β. β) G55 (Num.vAt 7 λ x. x, (Num.vAt 10 λ x. x, tt)) 11 List.[] (Call.sub-id 𝓤 H A W (G55
-              .slots)) ((Scalar.reads-sc 𝓤 H A W (Row.sInt Syntax.w8), Path.refl), ((Scalar.reads-sc 𝓤 H A W (Row.sInt Syntax.w64), Path.refl), tt),)
-              (Reads.room-gone 𝓤 H A Syntax.tyUnit) tt Path.refl) d4
+          d5 = Typed.s-seq 𝓤 H A W 𝓣 E G55 G56 b18 b21 Δ0 (Typed.both s54) at4 (Plain.t-call-plain 𝓤 H A W 𝓣 0 ps·4 r·4
+              (claims· .8) (claims· .9) "cases::machine::say" (known .4) E (λ pos β. β) G55
+              (Num.vAt 7 λ x. x, (Num.vAt 10 λ x. x, tt)) 11 List.[] (Call.sub-id 𝓤 H A W (G55 .slots)) (
+                (Scalar.reads-sc 𝓤 H A W (Row.sInt Syntax.w8), Path.refl),
+                ((Scalar.reads-sc 𝓤 H A W (Row.sInt Syntax.w64), Path.refl), tt),
+              ) (Reads.room-gone 𝓤 H A Syntax.tyUnit) tt Path.refl) d4
+
           d6 : Typed.Typed 𝓤 H A 𝓣 E G54 b22 Δ0 at6
-          d6 = Typed.g-pre 𝓤 H A W 𝓣 E G54 G55 b22 Δ0 (λ Ψ. Ψ) at5 (Lifetime.g-forget 𝓤 H A W E G54 12 Row.dead Path.refl) d5
+          d6 = Typed.g-pre 𝓤 H A W 𝓣 E G54 G55 b22 Δ0 (λ Ψ. Ψ) at5
+              (Lifetime.g-forget 𝓤 H A W E G54 12 Row.dead Path.refl) d5
+
           d7 : Typed.Typed 𝓤 H A 𝓣 E G53 b22 Δ0 at7
-          d7 = Typed.g-pre 𝓤 H A W 𝓣 E G53 G54 b22 Δ0 (Typed.pass T51 T54 s52) at6 (Reshare.g-back-sl-shr 𝓤 H A W E (Referent.rtF (Referent.fInt
-              Syntax.w8)) G53 6 5 12 ref12 life0 (λ x. x) (Reads.as-is 𝓤 H A (Reshare.mslice-owedS (Referent.rtF (Referent.fInt Syntax.w8)) ref12 5 12
-              life0)) Path.refl Path.refl) d6
+          d7 = Typed.g-pre 𝓤 H A W 𝓣 E G53 G54 b22 Δ0 (Typed.pass T51 T54 s52) at6 (Reshare.g-back-sl-shr 𝓤 H A W E
+              (Referent.rtF (Referent.fInt Syntax.w8)) G53 6 5 12 ref12 life0 (λ x. x) (Reads.as-is 𝓤 H A (Reshare.mslice-owedS
+              (Referent.rtF (Referent.fInt Syntax.w8)) ref12 5 12 life0)) Path.refl Path.refl) d6
+
           d8 : Typed.Typed 𝓤 H A 𝓣 E G52 b22 Δ0 at8
           d8 = Typed.g-pre 𝓤 H A W 𝓣 E G52 G53 b22 Δ0 (λ Ψ. Ψ) at7 (Lifetime.g-end 𝓤 H A W E G52 12 Path.refl) d7
+
           d9 : Typed.Typed 𝓤 H A 𝓣 E G51 b22 Δ0 at9
-          d9 = Typed.g-pre 𝓤 H A W 𝓣 E G51 G52 b22 Δ0 (λ Ψ. Ψ) at8 (Lifetime.g-forget 𝓤 H A W E G51 11 Row.dead Path.refl) d8
+          d9 = Typed.g-pre 𝓤 H A W 𝓣 E G51 G52 b22 Δ0 (λ Ψ. Ψ) at8
+              (Lifetime.g-forget 𝓤 H A W E G51 11 Row.dead Path.refl) d8
+
           d10 : Typed.Typed 𝓤 H A 𝓣 E G50 b22 Δ0 at10
-          d10 = Typed.g-pre 𝓤 H A W 𝓣 E G50 G51 b22 Δ0 (Typed.give s49) at9 (Know.g-sl-known 𝓤 H A W (Referent.fInt Syntax.w32) E G50 5 4 ref11 life5
-              0 (λ x. x) record { fits = Dec.lit< tt } (Reads.as-is 𝓤 H A (Mut.mslice (Referent.rtF (Referent.fInt Syntax.w32)) ref11 4)) Path.refl
-              tt) d9
+          d10 = Typed.g-pre 𝓤 H A W 𝓣 E G50 G51 b22 Δ0 (Typed.give s49) at9 (Know.g-sl-known 𝓤 H A W
+              (Referent.fInt Syntax.w32) E G50 5 4 ref11 life5 0 (λ x. x) record { fits = Dec.lit< tt } (Reads.as-is 𝓤
+              H A (Mut.mslice (Referent.rtF (Referent.fInt Syntax.w32)) ref11 4)) Path.refl tt) d9
+
           d11 : Typed.Typed 𝓤 H A 𝓣 E G49 b22 Δ0 at11
-          d11 = Typed.g-pre 𝓤 H A W 𝓣 E G49 G50 b22 Δ0 (Typed.both s48) at10 (Relend.g-back-sl 𝓤 H A W E (Referent.rtF (Referent.fInt Syntax.w32)) G49
-              23 5 4 11 ref11 ref5 life5 (λ x. x) (λ x. x) (Reads.as-is 𝓤 H A (Mut.msleft (Referent.rtF (Referent.fInt Syntax.w32)) ref5))
-              (Reads.as-is 𝓤 H A (Relend.mslice-owed (Referent.rtF (Referent.fInt Syntax.w32)) ref11 4 11 life5)) Path.refl Path.refl) d10
+          d11 = Typed.g-pre 𝓤 H A W 𝓣 E G49 G50 b22 Δ0 (Typed.both s48) at10 (Relend.g-back-sl 𝓤 H A W E
+              (Referent.rtF (Referent.fInt Syntax.w32)) G49 23 5 4 11 ref11 ref5 life5 (λ x. x) (λ x. x) (Reads.as-is 𝓤
+              H A (Mut.msleft (Referent.rtF (Referent.fInt Syntax.w32)) ref5)) (Reads.as-is 𝓤 H A (Relend.mslice-owed
+              (Referent.rtF (Referent.fInt Syntax.w32)) ref11 4 11 life5)) Path.refl Path.refl) d10
+
           d12 : Typed.Typed 𝓤 H A 𝓣 E G48 b22 Δ0 at12
           d12 = Typed.g-pre 𝓤 H A W 𝓣 E G48 G49 b22 Δ0 (λ Ψ. Ψ) at11 (Lifetime.g-end 𝓤 H A W E G48 11 Path.refl) d11
+
           d13 : Typed.Typed 𝓤 H A 𝓣 E G47 b22 Δ0 at13
-          d13 = Typed.g-pre 𝓤 H A W 𝓣 E G47 G48 b22 Δ0 (λ Ψ. Ψ) at12 (Lifetime.g-forget 𝓤 H A W E G47 10 Row.dead Path.refl) d12
+          d13 = Typed.g-pre 𝓤 H A W 𝓣 E G47 G48 b22 Δ0 (λ Ψ. Ψ) at12
+              (Lifetime.g-forget 𝓤 H A W E G47 10 Row.dead Path.refl) d12
+
           d14 : Typed.Typed 𝓤 H A 𝓣 E G46 b22 Δ0 at14
-          d14 = Typed.g-pre 𝓤 H A W 𝓣 E G46 G47 b22 Δ0 (Typed.both s45) at13 (Relend.g-back-sl 𝓤 H A W E InflightAction.row G46 21 4 3 10 ref10 ref4
-              life4 (λ x. x) (λ x. x) (Reads.as-is 𝓤 H A (Mut.msleft InflightAction.row ref4)) (Reads.as-is 𝓤 H A (Relend.mslice-owed
-              InflightAction.row ref10 3 10 life4)) Path.refl Path.refl) d13
+          d14 = Typed.g-pre 𝓤 H A W 𝓣 E G46 G47 b22 Δ0 (Typed.both s45) at13 (Relend.g-back-sl 𝓤 H A W E
+              InflightAction.row G46 21 4 3 10 ref10 ref4 life4 (λ x. x) (λ x. x)
+              (Reads.as-is 𝓤 H A (Mut.msleft InflightAction.row ref4)) (Reads.as-is 𝓤 H A
+              (Relend.mslice-owed InflightAction.row ref10 3 10 life4)) Path.refl Path.refl) d13
+
           d15 : Typed.Typed 𝓤 H A 𝓣 E G45 b22 Δ0 at15
           d15 = Typed.g-pre 𝓤 H A W 𝓣 E G45 G46 b22 Δ0 (λ Ψ. Ψ) at14 (Lifetime.g-end 𝓤 H A W E G45 10 Path.refl) d14
+
           d16 : Typed.Typed 𝓤 H A 𝓣 E G44 b22 Δ0 at16
-          d16 = Typed.g-pre 𝓤 H A W 𝓣 E G44 G45 b22 Δ0 (λ Ψ. Ψ) at15 (Lifetime.g-forget 𝓤 H A W E G44 9 Row.dead Path.refl) d15
+          d16 = Typed.g-pre 𝓤 H A W 𝓣 E G44 G45 b22 Δ0 (λ Ψ. Ψ) at15
+              (Lifetime.g-forget 𝓤 H A W E G44 9 Row.dead Path.refl) d15
+
           d17 : Typed.Typed 𝓤 H A 𝓣 E G43 b22 Δ0 at17
-          d17 = Typed.g-pre 𝓤 H A W 𝓣 E G43 G44 b22 Δ0 (Typed.both s42) at16 (Relend.g-back-sl 𝓤 H A W E ReservationUsage.row G43 19 3 2 9 ref9 ref3
-              life3 (λ x. x) (λ x. x) (Reads.as-is 𝓤 H A (Mut.msleft ReservationUsage.row ref3)) (Reads.as-is 𝓤 H A (Relend.mslice-owed
-              ReservationUsage.row ref9 2 9 life3)) Path.refl Path.refl) d16
+          d17 = Typed.g-pre 𝓤 H A W 𝓣 E G43 G44 b22 Δ0 (Typed.both s42) at16 (Relend.g-back-sl 𝓤 H A W E
+              ReservationUsage.row G43 19 3 2 9 ref9 ref3 life3 (λ x. x) (λ x. x)
+              (Reads.as-is 𝓤 H A (Mut.msleft ReservationUsage.row ref3)) (Reads.as-is 𝓤 H A
+              (Relend.mslice-owed ReservationUsage.row ref9 2 9 life3)) Path.refl Path.refl) d16
+
           d18 : Typed.Typed 𝓤 H A 𝓣 E G42 b22 Δ0 at18
           d18 = Typed.g-pre 𝓤 H A W 𝓣 E G42 G43 b22 Δ0 (λ Ψ. Ψ) at17 (Lifetime.g-end 𝓤 H A W E G42 9 Path.refl) d17
+
           d19 : Typed.Typed 𝓤 H A 𝓣 E G41 b22 Δ0 at19
-          d19 = Typed.g-pre 𝓤 H A W 𝓣 E G41 G42 b22 Δ0 (λ Ψ. Ψ) at18 (Lifetime.g-forget 𝓤 H A W E G41 8 Row.dead Path.refl) d18
+          d19 = Typed.g-pre 𝓤 H A W 𝓣 E G41 G42 b22 Δ0 (λ Ψ. Ψ) at18
+              (Lifetime.g-forget 𝓤 H A W E G41 8 Row.dead Path.refl) d18
+
           d20 : Typed.Typed 𝓤 H A 𝓣 E G40 b22 Δ0 at20
-          d20 = Typed.g-pre 𝓤 H A W 𝓣 E G40 G41 b22 Δ0 (Typed.both s39) at19 (Relend.g-back-sl 𝓤 H A W E RelayCircuit.row G40 17 2 1 8 ref8 ref2 life2
-              (λ x. x) (λ x. x) (Reads.as-is 𝓤 H A (Mut.msleft RelayCircuit.row ref2)) (Reads.as-is 𝓤 H A (Relend.mslice-owed RelayCircuit.row ref8 1
-              8 life2)) Path.refl Path.refl) d19
+          d20 = Typed.g-pre 𝓤 H A W 𝓣 E G40 G41 b22 Δ0 (Typed.both s39) at19 (Relend.g-back-sl 𝓤 H A W E
+              RelayCircuit.row G40 17 2 1 8 ref8 ref2 life2 (λ x. x) (λ x. x)
+              (Reads.as-is 𝓤 H A (Mut.msleft RelayCircuit.row ref2)) (Reads.as-is 𝓤 H A
+              (Relend.mslice-owed RelayCircuit.row ref8 1 8 life2)) Path.refl Path.refl) d19
+
           d21 : Typed.Typed 𝓤 H A 𝓣 E G39 b22 Δ0 at21
           d21 = Typed.g-pre 𝓤 H A W 𝓣 E G39 G40 b22 Δ0 (λ Ψ. Ψ) at20 (Lifetime.g-end 𝓤 H A W E G39 8 Path.refl) d20
+
           d22 : Typed.Typed 𝓤 H A 𝓣 E G38 b22 Δ0 at22
-          d22 = Typed.g-pre 𝓤 H A W 𝓣 E G38 G39 b22 Δ0 (λ Ψ. Ψ) at21 (Lifetime.g-forget 𝓤 H A W E G38 7 Row.dead Path.refl) d21
+          d22 = Typed.g-pre 𝓤 H A W 𝓣 E G38 G39 b22 Δ0 (λ Ψ. Ψ) at21
+              (Lifetime.g-forget 𝓤 H A W E G38 7 Row.dead Path.refl) d21
+
           d23 : Typed.Typed 𝓤 H A 𝓣 E G37 b22 Δ0 at23
-          d23 = Typed.g-pre 𝓤 H A W 𝓣 E G37 G38 b22 Δ0 (Typed.both s36) at22 (Relend.g-back-sl 𝓤 H A W E RelayPending.row G37 15 1 0 7 ref7 ref1 life1
-              (λ x. x) (λ x. x) (Reads.as-is 𝓤 H A (Mut.msleft RelayPending.row ref1)) (Reads.as-is 𝓤 H A (Relend.mslice-owed RelayPending.row ref7 0
-              7 life1)) Path.refl Path.refl) d22
+          d23 = Typed.g-pre 𝓤 H A W 𝓣 E G37 G38 b22 Δ0 (Typed.both s36) at22 (Relend.g-back-sl 𝓤 H A W E
+              RelayPending.row G37 15 1 0 7 ref7 ref1 life1 (λ x. x) (λ x. x)
+              (Reads.as-is 𝓤 H A (Mut.msleft RelayPending.row ref1)) (Reads.as-is 𝓤 H A
+              (Relend.mslice-owed RelayPending.row ref7 0 7 life1)) Path.refl Path.refl) d22
+
           d24 : Typed.Typed 𝓤 H A 𝓣 E G36 b22 Δ0 at24
           d24 = Typed.g-pre 𝓤 H A W 𝓣 E G36 G37 b22 Δ0 (λ Ψ. Ψ) at23 (Lifetime.g-end 𝓤 H A W E G36 7 Path.refl) d23
+
           d25 : Typed.Typed 𝓤 H A 𝓣 E G35 b22 Δ0 at25
-          d25 = Typed.g-pre 𝓤 H A W 𝓣 E G35 G36 b22 Δ0 (Typed.pass T35 T36 s34) at24 (Scalar.g-room 𝓤 H A W E G35 8 Laws.mir (Local.room-whole 𝓤 H A W
-              (Declared.row Script.the-type) Laws.mir Path.refl)) d24
+          d25 = Typed.g-pre 𝓤 H A W 𝓣 E G35 G36 b22 Δ0 (Typed.pass T35 T36 s34) at24 (Scalar.g-room 𝓤 H A W E G35 8
+              Laws.mir (Local.room-whole 𝓤 H A W (Declared.row Script.the-type) Laws.mir Path.refl)) d24
+
           d26 : Typed.Typed 𝓤 H A 𝓣 E G34 b22 Δ0 at26
-          d26 = Typed.g-pre 𝓤 H A W 𝓣 E G34 G35 b22 Δ0 (Typed.pass T34 T35 s33) at25 (Scalar.g-room 𝓤 H A W E G34 25 (Syntax.tyStruct (38 ∷ 91 ∷ 93 ∷
-              List.[]) (Syntax.tcons ref6 (Syntax.tcons (Syntax.tyInt Syntax.w64) Syntax.tnil))) (Shared.room-sslice 𝓤 H A W (Referent.rtF
-              (Referent.fInt Syntax.w8)) ref6 12)) d25
+          d26 = Typed.g-pre 𝓤 H A W 𝓣 E G34 G35 b22 Δ0 (Typed.pass T34 T35 s33) at25 (Scalar.g-room 𝓤 H A W E G34 25
+              slice6 (Shared.room-sslice 𝓤 H A W (Referent.rtF (Referent.fInt Syntax.w8)) ref6 12)) d25
+
           d27 : Typed.Typed 𝓤 H A 𝓣 E G33 b23 Δ0 at27
-          d27 = Typed.s-seq 𝓤 H A W 𝓣 E G33 G34 b17 b22 Δ0 (Typed.both s32) at26 (Plain.t-call-plain 𝓤 H A W 𝓣 6 ps·3 r·3 (claims· .6) (claims· .7)
-              "cases::machine::run_case" (known .3) E (λ pos β. β) G33 (record { pos = 15; ty = Syntax.tyRef Syntax.erased Syntax.mut RelayPending.to;
-              ref = λ x. x; }, (record { pos = 17; ty = Syntax.tyRef Syntax.erased Syntax.mut RelayCircuit.to; ref = λ x. x; }, (record { pos = 19; ty
-              = Syntax.tyRef Syntax.erased Syntax.mut ReservationUsage.to; ref = λ x. x; }, (record { pos = 21; ty = Syntax.tyRef Syntax.erased
-              Syntax.mut InflightAction.to; ref = λ x. x; }, (record { pos = 23; ty = Syntax.tyRef Syntax.erased Syntax.mut (Syntax.tyInt Syntax.w32);
-              ref = λ x. x; }, (record { pos = 25; ty = Syntax.tyRef Syntax.erased Syntax.imm (Syntax.tyInt Syntax.w8); ref = λ x. x; }, (record { pos
-              = 8; st = List.[]; d = 0; at = λ x. x }, tt),),),),),),) 10 (7 ∷ 8 ∷ 9 ∷ 10 ∷ 11 ∷ 12 ∷ List.[]) (Call.sub-id 𝓤 H A W (G33 .slots))
-              (Reads.as-is 𝓤 H A (Mut.mslice RelayPending.row ref1 7), Mut.reads-mslice 𝓤 H A W RelayPending.row ref1 7, Path.refl, (Reads.as-is 𝓤 H A
-              (Mut.mslice RelayCircuit.row ref2 8), Mut.reads-mslice 𝓤 H A W RelayCircuit.row ref2 8, Path.refl, (Reads.as-is 𝓤 H A (Mut.mslice
-              ReservationUsage.row ref3 9), Mut.reads-mslice 𝓤 H A W ReservationUsage.row ref3 9, Path.refl, (Reads.as-is 𝓤 H A (Mut.mslice
-              InflightAction.row ref4 10), Mut.reads-mslice 𝓤 H A W InflightAction.row ref4 10, Path.refl, (Reads.as-is 𝓤 H A (Mut.mslice
-              (Referent.rtF (Referent.fInt Syntax.w32)) ref5 11), Mut.reads-mslice 𝓤 H A W (Referent.rtF (Referent.fInt Syntax.w32)) ref5 11,
-              Path.refl, (ShrSlice.spares-sslice 𝓤 H A W (Referent.rtF (Referent.fInt Syntax.w8)) ref6 12, Shared.reads-sslice 𝓤 H A W (Referent.rtF
-              (Referent.fInt Syntax.w8)) ref6 12, Path.refl, ((Yields.yields-copy 𝓤 H A W (λ ρ. Unit) (Declared.row Script.the-type) Path.refl
-              (Copies.cStruct Script.the-type Laws.the-laws Laws.the-copy .copy 𝓤 H A W) (Rows'.whole (Declared.row Script.the-type)) (λ x. x) (λ x.
-              x) (λ ρ told. Local.mem-whole 𝓤 H A W (Declared.row Script.the-type) ρ) λ ρ told. Local.whole-mem 𝓤 H A W (Declared.row Script.the-type)
-              ρ, Path.refl,), tt,),),),),),),) (Reads.room-gone 𝓤 H A (Syntax.tyInt Syntax.w64)) (tt, (tt, (tt, (tt, (tt, (tt, tt)))))) Path.refl) d26
+          d27 = Typed.s-seq 𝓤 H A W 𝓣 E G33 G34 b17 b22 Δ0 (Typed.both s32) at26 (Plain.t-call-plain 𝓤 H A W 𝓣 6 ps·3
+              r·3 (claims· .6) (claims· .7) "cases::machine::run_case" (known .3) E (λ pos β. β) G33 (
+                record { pos = 15; ty = ref1; ref = λ x. x },
+                (
+                  record { pos = 17; ty = ref2; ref = λ x. x },
+                  (
+                    record { pos = 19; ty = ref3; ref = λ x. x },
+                    (
+                      record { pos = 21; ty = ref4; ref = λ x. x },
+                      (
+                        record { pos = 23; ty = ref5; ref = λ x. x },
+                        (
+                          record { pos = 25; ty = ref6; ref = λ x. x },
+                          (record { pos = 8; st = List.[]; d = 0; at = λ x. x }, tt),
+                        ),
+                      ),
+                    ),
+                  ),
+                ),
+              ) 10 (7 ∷ 8 ∷ 9 ∷ 10 ∷ 11 ∷ 12 ∷ List.[]) (Call.sub-id 𝓤 H A W (G33 .slots)) (
+                Reads.as-is 𝓤 H A (Mut.mslice RelayPending.row ref1 7),
+                Mut.reads-mslice 𝓤 H A W RelayPending.row ref1 7,
+                Path.refl,
+                (
+                  Reads.as-is 𝓤 H A (Mut.mslice RelayCircuit.row ref2 8),
+                  Mut.reads-mslice 𝓤 H A W RelayCircuit.row ref2 8,
+                  Path.refl,
+                  (
+                    Reads.as-is 𝓤 H A (Mut.mslice ReservationUsage.row ref3 9),
+                    Mut.reads-mslice 𝓤 H A W ReservationUsage.row ref3 9,
+                    Path.refl,
+                    (
+                      Reads.as-is 𝓤 H A (Mut.mslice InflightAction.row ref4 10),
+                      Mut.reads-mslice 𝓤 H A W InflightAction.row ref4 10,
+                      Path.refl,
+                      (
+                        Reads.as-is 𝓤 H A (Mut.mslice (Referent.rtF (Referent.fInt Syntax.w32)) ref5 11),
+                        Mut.reads-mslice 𝓤 H A W (Referent.rtF (Referent.fInt Syntax.w32)) ref5 11,
+                        Path.refl,
+                        (
+                          ShrSlice.spares-sslice 𝓤 H A W (Referent.rtF (Referent.fInt Syntax.w8)) ref6 12,
+                          Shared.reads-sslice 𝓤 H A W (Referent.rtF (Referent.fInt Syntax.w8)) ref6 12,
+                          Path.refl,
+                          (
+                            (
+                              Yields.yields-copy 𝓤 H A W (λ ρ. Unit) (Declared.row Script.the-type) Path.refl (Copies.cStruct
+                                  Script.the-type Laws.the-laws Laws.the-copy .copy 𝓤 H A W)
+                                  (Rows'.whole (Declared.row Script.the-type)) (λ x. x) (λ x. x) (λ ρ told.
+                                  Local.mem-whole 𝓤 H A W (Declared.row Script.the-type) ρ) λ ρ told. Local.whole-mem 𝓤
+                                  H A W (Declared.row Script.the-type) ρ,
+                              Path.refl,
+                            ),
+                            tt,
+                          ),
+                        ),
+                      ),
+                    ),
+                  ),
+                ),
+              ) (Reads.room-gone 𝓤 H A (Syntax.tyInt Syntax.w64)) (tt, (tt, (tt, (tt, (tt, (tt, tt)))))) Path.refl) d26
+
           d28 : Typed.Typed 𝓤 H A 𝓣 E G32 b24 Δ0 at28
-          d28 = Typed.s-seq 𝓤 H A W 𝓣 E G32 G33 b16 b23 Δ0 (Typed.ask s31) at27 (Relend.t-sl-aggregate 𝓤 H A W E (Referent.rtF (Referent.fInt
-              Syntax.w8)) 𝓣 (Relend.asShr (Referent.rtF (Referent.fInt Syntax.w8))) G32 24 25 12 ref6 ref6 (λ x. x) (Scalar.oFld 6 ((Syntax.field 1) ∷
-              List.[]) (Syntax.tyInt Syntax.w64) 8 λ v. Shared.lenV (v .0)) (Reads.as-is 𝓤 H A (Relend.ssptr (Referent.rtF (Referent.fInt Syntax.w8))
-              ref6 12)) (Reads.room-gone 𝓤 H A (Syntax.tyStruct (38 ∷ 91 ∷ 93 ∷ List.[]) (Syntax.tcons ref6 (Syntax.tcons (Syntax.tyInt Syntax.w64)
-              Syntax.tnil)))) (Reshare.reads-owedS-len 𝓤 H A W (Referent.rtF (Referent.fInt Syntax.w8)) ref12 5 12 life0 8 Path.refl, Path.refl,)
-              Path.refl Path.refl λ b o k. tt) d27
+          d28 = Typed.s-seq 𝓤 H A W 𝓣 E G32 G33 b16 b23 Δ0 (Typed.ask s31) at27 (Relend.t-sl-aggregate 𝓤 H A W E
+              (Referent.rtF (Referent.fInt Syntax.w8)) 𝓣 (Relend.asShr (Referent.rtF (Referent.fInt Syntax.w8))) G32 24
+              25 12 ref6 ref6 (λ x. x) (Scalar.oFld 6 ((Syntax.field 1) ∷ List.[]) (Syntax.tyInt Syntax.w64) 8 λ v.
+              Shared.lenV (v .0)) (Reads.as-is 𝓤 H A (Relend.ssptr (Referent.rtF (Referent.fInt Syntax.w8)) ref6 12))
+              (Reads.room-gone 𝓤 H A slice6) (
+                Reshare.reads-owedS-len 𝓤 H A W (Referent.rtF (Referent.fInt Syntax.w8)) ref12 5 12 life0 8 Path.refl,
+                Path.refl,
+              ) Path.refl Path.refl λ b o k. tt) d27
+
           d29 : Typed.Typed 𝓤 H A 𝓣 E G31 b25 Δ0 at29
-          d29 = Typed.s-seq 𝓤 H A W 𝓣 E G31 G32 b15 b24 Δ0 (Typed.give s30) at28 (Reshare.t-sl-reshare 𝓤 H A W E (Referent.rtF (Referent.fInt
-              Syntax.w8)) 𝓣 G31 6 24 5 12 ref12 ref6 life0 0 (λ x. x) (Reads.as-is 𝓤 H A (Mut.mslice (Referent.rtF (Referent.fInt Syntax.w8)) ref12
-              5)) (Reads.room-gone 𝓤 H A ref6) Path.refl tt Path.refl Path.refl Path.refl λ b o. tt) d28
+          d29 = Typed.s-seq 𝓤 H A W 𝓣 E G31 G32 b15 b24 Δ0 (Typed.give s30) at28 (Reshare.t-sl-reshare 𝓤 H A W E
+              (Referent.rtF (Referent.fInt Syntax.w8)) 𝓣 G31 6 24 5 12 ref12 ref6 life0 0 (λ x. x) (Reads.as-is 𝓤 H A (Mut.mslice
+              (Referent.rtF (Referent.fInt Syntax.w8)) ref12 5)) (Reads.room-gone 𝓤 H A ref6) Path.refl tt Path.refl
+              Path.refl Path.refl λ b o. tt) d28
+
           d30 : Typed.Typed 𝓤 H A 𝓣 E G30 b25 Δ0 at30
-          d30 = Typed.g-pre 𝓤 H A W 𝓣 E G30 G31 b25 Δ0 (λ Ψ. Ψ) at29 (Lifetime.g-begin 𝓤 H A W E G30 12 (tt, ((tt, tt), ((tt, tt), ((tt, tt), ((tt,
-              tt), ((tt, tt), (tt, (tt, (tt, (tt, (tt, (tt, (tt, (tt, (tt, (tt, (tt, (tt, (tt, (tt, (tt, (tt, (tt, (tt, (tt, (tt,
-              tt)))))),),),),),),),),),),),),),),),),),),),),)) d29
+          d30 = Typed.g-pre 𝓤 H A W 𝓣 E G30 G31 b25 Δ0 (λ Ψ. Ψ) at29 (Lifetime.g-begin 𝓤 H A W E G30 12 (
+            tt,
+            (
+              (tt, tt),
+              (
+                (tt, tt),
+                (
+                  (tt, tt),
+                  (
+                    (tt, tt),
+                    (
+                      (tt, tt),
+                      (
+                        tt,
+                        (
+                          tt,
+                          (
+                            tt,
+                            (
+                              tt,
+                              (
+                                tt,
+                                (
+                                  tt,
+                                  (
+                                    tt,
+                                    (tt, (tt, (tt, (tt, (tt, (tt, (tt, (tt, (tt, (tt, (tt, (tt, (tt, tt))))))))))))),
+                                  ),
+                                ),
+                              ),
+                            ),
+                          ),
+                        ),
+                      ),
+                    ),
+                  ),
+                ),
+              ),
+            ),
+          )) d29
+
           d31 : Typed.Typed 𝓤 H A 𝓣 E G29 b26 Δ0 at31
-          d31 = Typed.s-seq 𝓤 H A W 𝓣 E G29 G30 b14 b25 Δ0 (Typed.ask s28) at30 (Relend.t-sl-aggregate 𝓤 H A W E (Referent.rtF (Referent.fInt
-              Syntax.w32)) 𝓣 (Relend.asMut (Referent.rtF (Referent.fInt Syntax.w32))) G29 22 23 11 ref5 ref5 (λ x. x) (Scalar.oFld 5 ((Syntax.field 1)
-              ∷ List.[]) (Syntax.tyInt Syntax.w64) 8 λ v. Shared.lenV (v .0)) (Reads.as-is 𝓤 H A (Relend.msptr (Referent.rtF (Referent.fInt
-              Syntax.w32)) ref5 11)) (Reads.room-gone 𝓤 H A (Syntax.tyStruct (38 ∷ 91 ∷ 93 ∷ List.[]) (Syntax.tcons ref5 (Syntax.tcons (Syntax.tyInt
-              Syntax.w64) Syntax.tnil)))) (Relend.reads-owed-len 𝓤 H A W (Referent.rtF (Referent.fInt Syntax.w32)) ref11 4 11 life5 8 Path.refl,
-              Path.refl,) Path.refl Path.refl λ b o k. tt) d30
+          d31 = Typed.s-seq 𝓤 H A W 𝓣 E G29 G30 b14 b25 Δ0 (Typed.ask s28) at30 (Relend.t-sl-aggregate 𝓤 H A W E
+              (Referent.rtF (Referent.fInt Syntax.w32)) 𝓣 (Relend.asMut (Referent.rtF (Referent.fInt Syntax.w32))) G29
+              22 23 11 ref5 ref5 (λ x. x) (Scalar.oFld 5 ((Syntax.field 1) ∷ List.[]) (Syntax.tyInt Syntax.w64) 8 λ v.
+              Shared.lenV (v .0)) (Reads.as-is 𝓤 H A (Relend.msptr (Referent.rtF (Referent.fInt Syntax.w32)) ref5 11))
+              (Reads.room-gone 𝓤 H A slice5) (
+                Relend.reads-owed-len 𝓤 H A W (Referent.rtF (Referent.fInt Syntax.w32)) ref11 4 11 life5 8 Path.refl,
+                Path.refl,
+              ) Path.refl Path.refl λ b o k. tt) d30
+
           d32 : Typed.Typed 𝓤 H A 𝓣 E G28 b27 Δ0 at32
-          d32 = Typed.s-seq 𝓤 H A W 𝓣 E G28 G29 b13 b26 Δ0 (Typed.give s27) at31 (Relend.t-sl-relend 𝓤 H A W E (Referent.rtF (Referent.fInt
-              Syntax.w32)) 𝓣 G28 5 22 4 11 ref11 ref5 life5 0 (λ x. x) (Reads.as-is 𝓤 H A (Mut.mslice (Referent.rtF (Referent.fInt Syntax.w32)) ref11
-              4)) (Reads.room-gone 𝓤 H A ref5) Path.refl tt Path.refl Path.refl Path.refl λ b o. tt) d31
+          d32 = Typed.s-seq 𝓤 H A W 𝓣 E G28 G29 b13 b26 Δ0 (Typed.give s27) at31 (Relend.t-sl-relend 𝓤 H A W E
+              (Referent.rtF (Referent.fInt Syntax.w32)) 𝓣 G28 5 22 4 11 ref11 ref5 life5 0 (λ x. x) (Reads.as-is 𝓤 H A (Mut.mslice
+              (Referent.rtF (Referent.fInt Syntax.w32)) ref11 4)) (Reads.room-gone 𝓤 H A ref5) Path.refl tt Path.refl
+              Path.refl Path.refl λ b o. tt) d31
+
           d33 : Typed.Typed 𝓤 H A 𝓣 E G27 b27 Δ0 at33
-          d33 = Typed.g-pre 𝓤 H A W 𝓣 E G27 G28 b27 Δ0 (λ Ψ. Ψ) at32 (Lifetime.g-begin 𝓤 H A W E G27 11 (tt, ((tt, tt), ((tt, tt), ((tt, tt), ((tt,
-              tt), (tt, (tt, (tt, (tt, (tt, (tt, (tt, (tt, (tt, (tt, (tt, (tt, (tt, (tt, (tt, (tt, (tt, (tt, (tt, (tt, (tt,
-              tt)))))),),),),),),),),),),),),),),),),),),),),)) d32
+          d33 = Typed.g-pre 𝓤 H A W 𝓣 E G27 G28 b27 Δ0 (λ Ψ. Ψ) at32 (Lifetime.g-begin 𝓤 H A W E G27 11 (
+            tt,
+            (
+              (tt, tt),
+              (
+                (tt, tt),
+                (
+                  (tt, tt),
+                  (
+                    (tt, tt),
+                    (
+                      tt,
+                      (
+                        tt,
+                        (
+                          tt,
+                          (
+                            tt,
+                            (
+                              tt,
+                              (
+                                tt,
+                                (
+                                  tt,
+                                  (
+                                    tt,
+                                    (tt, (tt, (tt, (tt, (tt, (tt, (tt, (tt, (tt, (tt, (tt, (tt, (tt, tt))))))))))))),
+                                  ),
+                                ),
+                              ),
+                            ),
+                          ),
+                        ),
+                      ),
+                    ),
+                  ),
+                ),
+              ),
+            ),
+          )) d32
+
           d34 : Typed.Typed 𝓤 H A 𝓣 E G26 b28 Δ0 at34
-          d34 = Typed.s-seq 𝓤 H A W 𝓣 E G26 G27 b12 b27 Δ0 (Typed.ask s25) at33 (Relend.t-sl-aggregate 𝓤 H A W E InflightAction.row 𝓣 (Relend.asMut
-              InflightAction.row) G26 20 21 10 ref4 ref4 (λ x. x) (Scalar.oFld 4 ((Syntax.field 1) ∷ List.[]) (Syntax.tyInt Syntax.w64) 8 λ v.
-              Shared.lenV (v .0)) (Reads.as-is 𝓤 H A (Relend.msptr InflightAction.row ref4 10)) (Reads.room-gone 𝓤 H A (Syntax.tyStruct (38 ∷ 91 ∷ 93
-              ∷ List.[]) (Syntax.tcons ref4 (Syntax.tcons (Syntax.tyInt Syntax.w64) Syntax.tnil)))) (Relend.reads-owed-len 𝓤 H A W InflightAction.row
-              ref10 3 10 life4 8 Path.refl, Path.refl,) Path.refl Path.refl λ b o k. tt) d33
+          d34 = Typed.s-seq 𝓤 H A W 𝓣 E G26 G27 b12 b27 Δ0 (Typed.ask s25) at33 (Relend.t-sl-aggregate 𝓤 H A W E
+              InflightAction.row 𝓣 (Relend.asMut InflightAction.row) G26 20 21 10 ref4 ref4 (λ x. x) (Scalar.oFld 4
+              ((Syntax.field 1) ∷ List.[]) (Syntax.tyInt Syntax.w64) 8 λ v. Shared.lenV (v .0)) (Reads.as-is 𝓤 H A
+              (Relend.msptr InflightAction.row ref4 10)) (Reads.room-gone 𝓤 H A slice4) (
+                Relend.reads-owed-len 𝓤 H A W InflightAction.row ref10 3 10 life4 8 Path.refl,
+                Path.refl,
+              ) Path.refl Path.refl λ b o k. tt) d33
+
           d35 : Typed.Typed 𝓤 H A 𝓣 E G25 b29 Δ0 at35
-          d35 = Typed.s-seq 𝓤 H A W 𝓣 E G25 G26 b11 b28 Δ0 (Typed.give s24) at34 (Relend.t-sl-relend 𝓤 H A W E InflightAction.row 𝓣 G25 4 20 3 10
-              ref10 ref4 life4 0 (λ x. x) (Reads.as-is 𝓤 H A (Mut.mslice InflightAction.row ref10 3)) (Reads.room-gone 𝓤 H A ref4) Path.refl tt
+          d35 = Typed.s-seq 𝓤 H A W 𝓣 E G25 G26 b11 b28 Δ0 (Typed.give s24) at34 (Relend.t-sl-relend 𝓤 H A W E
+              InflightAction.row 𝓣 G25 4 20 3 10 ref10 ref4 life4 0 (λ x. x)
+              (Reads.as-is 𝓤 H A (Mut.mslice InflightAction.row ref10 3)) (Reads.room-gone 𝓤 H A ref4) Path.refl tt
               Path.refl Path.refl Path.refl λ b o. tt) d34
+
           d36 : Typed.Typed 𝓤 H A 𝓣 E G24 b29 Δ0 at36
-          d36 = Typed.g-pre 𝓤 H A W 𝓣 E G24 G25 b29 Δ0 (λ Ψ. Ψ) at35 (Lifetime.g-begin 𝓤 H A W E G24 10 (tt, ((tt, tt), ((tt, tt), ((tt, tt), (tt,
-              (tt, (tt, (tt, (tt, (tt, (tt, (tt, (tt, (tt, (tt, (tt, (tt, (tt, (tt, (tt, (tt, (tt, (tt, (tt, (tt, (tt,
-              tt)))))),),),),),),),),),),),),),),),),),),),),)) d35
+          d36 = Typed.g-pre 𝓤 H A W 𝓣 E G24 G25 b29 Δ0 (λ Ψ. Ψ) at35 (Lifetime.g-begin 𝓤 H A W E G24 10 (
+            tt,
+            (
+              (tt, tt),
+              (
+                (tt, tt),
+                (
+                  (tt, tt),
+                  (
+                    tt,
+                    (
+                      tt,
+                      (
+                        tt,
+                        (
+                          tt,
+                          (
+                            tt,
+                            (
+                              tt,
+                              (
+                                tt,
+                                (
+                                  tt,
+                                  (
+                                    tt,
+                                    (tt, (tt, (tt, (tt, (tt, (tt, (tt, (tt, (tt, (tt, (tt, (tt, (tt, tt))))))))))))),
+                                  ),
+                                ),
+                              ),
+                            ),
+                          ),
+                        ),
+                      ),
+                    ),
+                  ),
+                ),
+              ),
+            ),
+          )) d35
+
           d37 : Typed.Typed 𝓤 H A 𝓣 E G23 b30 Δ0 at37
-          d37 = Typed.s-seq 𝓤 H A W 𝓣 E G23 G24 b10 b29 Δ0 (Typed.ask s22) at36 (Relend.t-sl-aggregate 𝓤 H A W E ReservationUsage.row 𝓣 (Relend.asMut
-              ReservationUsage.row) G23 18 19 9 ref3 ref3 (λ x. x) (Scalar.oFld 3 ((Syntax.field 1) ∷ List.[]) (Syntax.tyInt Syntax.w64) 8 λ v.
-              Shared.lenV (v .0)) (Reads.as-is 𝓤 H A (Relend.msptr ReservationUsage.row ref3 9)) (Reads.room-gone 𝓤 H A (Syntax.tyStruct (38 ∷ 91 ∷ 93
-              ∷ List.[]) (Syntax.tcons ref3 (Syntax.tcons (Syntax.tyInt Syntax.w64) Syntax.tnil)))) (Relend.reads-owed-len 𝓤 H A W
-              ReservationUsage.row ref9 2 9 life3 8 Path.refl, Path.refl,) Path.refl Path.refl λ b o k. tt) d36
+          d37 = Typed.s-seq 𝓤 H A W 𝓣 E G23 G24 b10 b29 Δ0 (Typed.ask s22) at36 (Relend.t-sl-aggregate 𝓤 H A W E
+              ReservationUsage.row 𝓣 (Relend.asMut ReservationUsage.row) G23 18 19 9 ref3 ref3 (λ x. x) (Scalar.oFld 3
+              ((Syntax.field 1) ∷ List.[]) (Syntax.tyInt Syntax.w64) 8 λ v. Shared.lenV (v .0)) (Reads.as-is 𝓤 H A
+              (Relend.msptr ReservationUsage.row ref3 9)) (Reads.room-gone 𝓤 H A slice3) (
+                Relend.reads-owed-len 𝓤 H A W ReservationUsage.row ref9 2 9 life3 8 Path.refl,
+                Path.refl,
+              ) Path.refl Path.refl λ b o k. tt) d36
+
           d38 : Typed.Typed 𝓤 H A 𝓣 E G22 b31 Δ0 at38
-          d38 = Typed.s-seq 𝓤 H A W 𝓣 E G22 G23 b9 b30 Δ0 (Typed.give s21) at37 (Relend.t-sl-relend 𝓤 H A W E ReservationUsage.row 𝓣 G22 3 18 2 9 ref9
-              ref3 life3 0 (λ x. x) (Reads.as-is 𝓤 H A (Mut.mslice ReservationUsage.row ref9 2)) (Reads.room-gone 𝓤 H A ref3) Path.refl tt Path.refl
-              Path.refl Path.refl λ b o. tt) d37
+          d38 = Typed.s-seq 𝓤 H A W 𝓣 E G22 G23 b9 b30 Δ0 (Typed.give s21) at37 (Relend.t-sl-relend 𝓤 H A W E
+              ReservationUsage.row 𝓣 G22 3 18 2 9 ref9 ref3 life3 0 (λ x. x) (Reads.as-is 𝓤 H A
+              (Mut.mslice ReservationUsage.row ref9 2)) (Reads.room-gone 𝓤 H A ref3) Path.refl tt Path.refl Path.refl
+              Path.refl λ b o. tt) d37
+
           d39 : Typed.Typed 𝓤 H A 𝓣 E G21 b31 Δ0 at39
-          d39 = Typed.g-pre 𝓤 H A W 𝓣 E G21 G22 b31 Δ0 (λ Ψ. Ψ) at38 (Lifetime.g-begin 𝓤 H A W E G21 9 (tt, ((tt, tt), ((tt, tt), (tt, (tt, (tt, (tt,
-              (tt, (tt, (tt, (tt, (tt, (tt, (tt, (tt, (tt, (tt, (tt, (tt, (tt, (tt, (tt, (tt, (tt, (tt, (tt,
-              tt)))))),),),),),),),),),),),),),),),),),),),),)) d38
+          d39 = Typed.g-pre 𝓤 H A W 𝓣 E G21 G22 b31 Δ0 (λ Ψ. Ψ) at38 (Lifetime.g-begin 𝓤 H A W E G21 9 (
+            tt,
+            (
+              (tt, tt),
+              (
+                (tt, tt),
+                (
+                  tt,
+                  (
+                    tt,
+                    (
+                      tt,
+                      (
+                        tt,
+                        (
+                          tt,
+                          (
+                            tt,
+                            (
+                              tt,
+                              (
+                                tt,
+                                (
+                                  tt,
+                                  (
+                                    tt,
+                                    (tt, (tt, (tt, (tt, (tt, (tt, (tt, (tt, (tt, (tt, (tt, (tt, (tt, tt))))))))))))),
+                                  ),
+                                ),
+                              ),
+                            ),
+                          ),
+                        ),
+                      ),
+                    ),
+                  ),
+                ),
+              ),
+            ),
+          )) d38
+
           d40 : Typed.Typed 𝓤 H A 𝓣 E G20 b32 Δ0 at40
-          d40 = Typed.s-seq 𝓤 H A W 𝓣 E G20 G21 b8 b31 Δ0 (Typed.ask s19) at39 (Relend.t-sl-aggregate 𝓤 H A W E RelayCircuit.row 𝓣 (Relend.asMut
-              RelayCircuit.row) G20 16 17 8 ref2 ref2 (λ x. x) (Scalar.oFld 2 ((Syntax.field 1) ∷ List.[]) (Syntax.tyInt Syntax.w64) 8 λ v.
-              Shared.lenV (v .0)) (Reads.as-is 𝓤 H A (Relend.msptr RelayCircuit.row ref2 8)) (Reads.room-gone 𝓤 H A (Syntax.tyStruct (38 ∷ 91 ∷ 93 ∷
-              List.[]) (Syntax.tcons ref2 (Syntax.tcons (Syntax.tyInt Syntax.w64) Syntax.tnil)))) (Relend.reads-owed-len 𝓤 H A W RelayCircuit.row ref8
-              1 8 life2 8 Path.refl, Path.refl,) Path.refl Path.refl λ b o k. tt) d39
+          d40 = Typed.s-seq 𝓤 H A W 𝓣 E G20 G21 b8 b31 Δ0 (Typed.ask s19) at39 (Relend.t-sl-aggregate 𝓤 H A W E
+              RelayCircuit.row 𝓣 (Relend.asMut RelayCircuit.row) G20 16 17 8 ref2 ref2 (λ x. x) (Scalar.oFld 2
+              ((Syntax.field 1) ∷ List.[]) (Syntax.tyInt Syntax.w64) 8 λ v. Shared.lenV (v .0))
+              (Reads.as-is 𝓤 H A (Relend.msptr RelayCircuit.row ref2 8)) (Reads.room-gone 𝓤 H A slice2) (
+                Relend.reads-owed-len 𝓤 H A W RelayCircuit.row ref8 1 8 life2 8 Path.refl,
+                Path.refl,
+              ) Path.refl Path.refl λ b o k. tt) d39
+
           d41 : Typed.Typed 𝓤 H A 𝓣 E G19 b33 Δ0 at41
-          d41 = Typed.s-seq 𝓤 H A W 𝓣 E G19 G20 b7 b32 Δ0 (Typed.give s18) at40 (Relend.t-sl-relend 𝓤 H A W E RelayCircuit.row 𝓣 G19 2 16 1 8 ref8
-              ref2 life2 0 (λ x. x) (Reads.as-is 𝓤 H A (Mut.mslice RelayCircuit.row ref8 1)) (Reads.room-gone 𝓤 H A ref2) Path.refl tt Path.refl
-              Path.refl Path.refl λ b o. tt) d40
+          d41 = Typed.s-seq 𝓤 H A W 𝓣 E G19 G20 b7 b32 Δ0 (Typed.give s18) at40 (Relend.t-sl-relend 𝓤 H A W E
+              RelayCircuit.row 𝓣 G19 2 16 1 8 ref8 ref2 life2 0 (λ x. x)
+              (Reads.as-is 𝓤 H A (Mut.mslice RelayCircuit.row ref8 1)) (Reads.room-gone 𝓤 H A ref2) Path.refl tt
+              Path.refl Path.refl Path.refl λ b o. tt) d40
+
           d42 : Typed.Typed 𝓤 H A 𝓣 E G18 b33 Δ0 at42
-          d42 = Typed.g-pre 𝓤 H A W 𝓣 E G18 G19 b33 Δ0 (λ Ψ. Ψ) at41 (Lifetime.g-begin 𝓤 H A W E G18 8 (tt, ((tt, tt), (tt, (tt, (tt, (tt, (tt, (tt,
-              (tt, (tt, (tt, (tt, (tt, (tt, (tt, (tt, (tt, (tt, (tt, (tt, (tt, (tt, (tt, (tt, (tt, (tt,
-              tt)))))),),),),),),),),),),),),),),),),),),),),)) d41
+          d42 = Typed.g-pre 𝓤 H A W 𝓣 E G18 G19 b33 Δ0 (λ Ψ. Ψ) at41 (Lifetime.g-begin 𝓤 H A W E G18 8 (
+            tt,
+            (
+              (tt, tt),
+              (
+                tt,
+                (
+                  tt,
+                  (
+                    tt,
+                    (
+                      tt,
+                      (
+                        tt,
+                        (
+                          tt,
+                          (
+                            tt,
+                            (
+                              tt,
+                              (
+                                tt,
+                                (
+                                  tt,
+                                  (
+                                    tt,
+                                    (tt, (tt, (tt, (tt, (tt, (tt, (tt, (tt, (tt, (tt, (tt, (tt, (tt, tt))))))))))))),
+                                  ),
+                                ),
+                              ),
+                            ),
+                          ),
+                        ),
+                      ),
+                    ),
+                  ),
+                ),
+              ),
+            ),
+          )) d41
+
           d43 : Typed.Typed 𝓤 H A 𝓣 E G17 b34 Δ0 at43
-          d43 = Typed.s-seq 𝓤 H A W 𝓣 E G17 G18 b6 b33 Δ0 (Typed.ask s16) at42 (Relend.t-sl-aggregate 𝓤 H A W E RelayPending.row 𝓣 (Relend.asMut
-              RelayPending.row) G17 14 15 7 ref1 ref1 (λ x. x) (Scalar.oFld 1 ((Syntax.field 1) ∷ List.[]) (Syntax.tyInt Syntax.w64) 8 λ v.
-              Shared.lenV (v .0)) (Reads.as-is 𝓤 H A (Relend.msptr RelayPending.row ref1 7)) (Reads.room-gone 𝓤 H A (Syntax.tyStruct (38 ∷ 91 ∷ 93 ∷
-              List.[]) (Syntax.tcons ref1 (Syntax.tcons (Syntax.tyInt Syntax.w64) Syntax.tnil)))) (Relend.reads-owed-len 𝓤 H A W RelayPending.row ref7
-              0 7 life1 8 Path.refl, Path.refl,) Path.refl Path.refl λ b o k. tt) d42
+          d43 = Typed.s-seq 𝓤 H A W 𝓣 E G17 G18 b6 b33 Δ0 (Typed.ask s16) at42 (Relend.t-sl-aggregate 𝓤 H A W E
+              RelayPending.row 𝓣 (Relend.asMut RelayPending.row) G17 14 15 7 ref1 ref1 (λ x. x) (Scalar.oFld 1
+              ((Syntax.field 1) ∷ List.[]) (Syntax.tyInt Syntax.w64) 8 λ v. Shared.lenV (v .0))
+              (Reads.as-is 𝓤 H A (Relend.msptr RelayPending.row ref1 7)) (Reads.room-gone 𝓤 H A slice1) (
+                Relend.reads-owed-len 𝓤 H A W RelayPending.row ref7 0 7 life1 8 Path.refl,
+                Path.refl,
+              ) Path.refl Path.refl λ b o k. tt) d42
+
           d44 : Typed.Typed 𝓤 H A 𝓣 E G16 b35 Δ0 at44
-          d44 = Typed.s-seq 𝓤 H A W 𝓣 E G16 G17 b5 b34 Δ0 (Typed.give s15) at43 (Relend.t-sl-relend 𝓤 H A W E RelayPending.row 𝓣 G16 1 14 0 7 ref7
-              ref1 life1 0 (λ x. x) (Reads.as-is 𝓤 H A (Mut.mslice RelayPending.row ref7 0)) (Reads.room-gone 𝓤 H A ref1) Path.refl tt Path.refl
-              Path.refl Path.refl λ b o. tt) d43
+          d44 = Typed.s-seq 𝓤 H A W 𝓣 E G16 G17 b5 b34 Δ0 (Typed.give s15) at43 (Relend.t-sl-relend 𝓤 H A W E
+              RelayPending.row 𝓣 G16 1 14 0 7 ref7 ref1 life1 0 (λ x. x)
+              (Reads.as-is 𝓤 H A (Mut.mslice RelayPending.row ref7 0)) (Reads.room-gone 𝓤 H A ref1) Path.refl tt
+              Path.refl Path.refl Path.refl λ b o. tt) d43
+
           d45 : Typed.Typed 𝓤 H A 𝓣 E G15 b35 Δ0 at45
-          d45 = Typed.g-pre 𝓤 H A W 𝓣 E G15 G16 b35 Δ0 (λ Ψ. Ψ) at44 (Lifetime.g-begin 𝓤 H A W E G15 7 (tt, (tt, (tt, (tt, (tt, (tt, (tt, (tt, (tt,
-              (tt, (tt, (tt, (tt, (tt, (tt, (tt, (tt, (tt, (tt, (tt, (tt, (tt, (tt, (tt, (tt, (tt, tt)))))),),),),),),),),),),),),),),),),),),),),))
-              d44
+          d45 = Typed.g-pre 𝓤 H A W 𝓣 E G15 G16 b35 Δ0 (λ Ψ. Ψ) at44 (Lifetime.g-begin 𝓤 H A W E G15 7 (
+            tt,
+            (
+              tt,
+              (
+                tt,
+                (
+                  tt,
+                  (
+                    tt,
+                    (
+                      tt,
+                      (
+                        tt,
+                        (
+                          tt,
+                          (
+                            tt,
+                            (
+                              tt,
+                              (
+                                tt,
+                                (
+                                  tt,
+                                  (
+                                    tt,
+                                    (tt, (tt, (tt, (tt, (tt, (tt, (tt, (tt, (tt, (tt, (tt, (tt, (tt, tt))))))))))))),
+                                  ),
+                                ),
+                              ),
+                            ),
+                          ),
+                        ),
+                      ),
+                    ),
+                  ),
+                ),
+              ),
+            ),
+          )) d44
+
           d46 : Typed.Typed 𝓤 H A 𝓣 E G14 b35 Δ0 at46
-          d46 = Typed.g-pre 𝓤 H A W 𝓣 E G14 G15 b35 Δ0 (λ Ψ. Ψ) at45 (Lifetime.g-forget 𝓤 H A W E G14 6 Row.dead Path.refl) d45
+          d46 = Typed.g-pre 𝓤 H A W 𝓣 E G14 G15 b35 Δ0 (λ Ψ. Ψ) at45
+              (Lifetime.g-forget 𝓤 H A W E G14 6 Row.dead Path.refl) d45
+
           d47 : Typed.Typed 𝓤 H A 𝓣 E G13 b35 Δ0 at47
-          d47 = Typed.g-pre 𝓤 H A W 𝓣 E G13 G14 b35 Δ0 (Typed.give s12) at46 (Know.g-sl-known 𝓤 H A W (Referent.fInt Syntax.w8) E G13 6 5 ref12 life0
-              0 (λ x. x) record { fits = Dec.lit< tt } (Reads.as-is 𝓤 H A (Mut.mslice (Referent.rtF (Referent.fInt Syntax.w8)) ref12 5)) Path.refl tt)
-              d46
+          d47 = Typed.g-pre 𝓤 H A W 𝓣 E G13 G14 b35 Δ0 (Typed.give s12) at46 (Know.g-sl-known 𝓤 H A W
+              (Referent.fInt Syntax.w8) E G13 6 5 ref12 life0 0 (λ x. x) record { fits = Dec.lit< tt } (Reads.as-is 𝓤 H
+              A (Mut.mslice (Referent.rtF (Referent.fInt Syntax.w8)) ref12 5)) Path.refl tt) d46
+
           d48 : Typed.Typed 𝓤 H A 𝓣 E G12 b35 Δ0 at48
-          d48 = Typed.g-pre 𝓤 H A W 𝓣 E G12 G13 b35 Δ0 (Typed.both s11) at47 (Relend.g-back-sl 𝓤 H A W E (Referent.rtF (Referent.fInt Syntax.w8)) G12
-              13 6 5 6 ref12 ref0 life0 (λ x. x) (λ x. x) (Reads.as-is 𝓤 H A (Mut.msleft (Referent.rtF (Referent.fInt Syntax.w8)) ref0)) (Reads.as-is
-              𝓤 H A (Relend.mslice-owed (Referent.rtF (Referent.fInt Syntax.w8)) ref12 5 6 life0)) Path.refl Path.refl) d47
+          d48 = Typed.g-pre 𝓤 H A W 𝓣 E G12 G13 b35 Δ0 (Typed.both s11) at47 (Relend.g-back-sl 𝓤 H A W E
+              (Referent.rtF (Referent.fInt Syntax.w8)) G12 13 6 5 6 ref12 ref0 life0 (λ x. x) (λ x. x) (Reads.as-is 𝓤 H
+              A (Mut.msleft (Referent.rtF (Referent.fInt Syntax.w8)) ref0)) (Reads.as-is 𝓤 H A (Relend.mslice-owed
+              (Referent.rtF (Referent.fInt Syntax.w8)) ref12 5 6 life0)) Path.refl Path.refl) d47
+
           d49 : Typed.Typed 𝓤 H A 𝓣 E G11 b35 Δ0 at49
           d49 = Typed.g-pre 𝓤 H A W 𝓣 E G11 G12 b35 Δ0 (λ Ψ. Ψ) at48 (Lifetime.g-end 𝓤 H A W E G11 6 Path.refl) d48
+
           d50 : Typed.Typed 𝓤 H A 𝓣 E G10 b35 Δ0 at50
-          d50 = Typed.g-pre 𝓤 H A W 𝓣 E G10 G11 b35 Δ0 (Typed.pass T10 T11 s9) at49 (Scalar.g-room 𝓤 H A W E G10 11 Syntax.tyUnit (Scalar.room-sc 𝓤 H
-              A W Row.sUnit)) d49
+          d50 = Typed.g-pre 𝓤 H A W 𝓣 E G10 G11 b35 Δ0 (Typed.pass T10 T11 s9) at49 (Scalar.g-room 𝓤 H A W E G10 11
+              Syntax.tyUnit (Scalar.room-sc 𝓤 H A W Row.sUnit)) d49
+
           d51 : Typed.Typed 𝓤 H A 𝓣 E G9 b35 Δ0 at51
-          d51 = Typed.g-pre 𝓤 H A W 𝓣 E G9 G10 b35 Δ0 (Typed.pass T9 T10 s8) at50 (Scalar.g-room 𝓤 H A W E G9 9 (Syntax.tyArray (Syntax.tyInt
-              Syntax.w8) 5) (Init.room-arr 𝓤 H A W (Referent.rtF (Referent.fInt Syntax.w8)) 5 0 5 Path.refl)) d50
+          d51 = Typed.g-pre 𝓤 H A W 𝓣 E G9 G10 b35 Δ0 (Typed.pass T9 T10 s8) at50 (Scalar.g-room 𝓤 H A W E G9 9
+              (Syntax.tyArray (Syntax.tyInt Syntax.w8) 5) (Init.room-arr 𝓤 H A W
+              (Referent.rtF (Referent.fInt Syntax.w8)) 5 0 5 Path.refl)) d50
+
           d52 : Typed.Typed 𝓤 H A 𝓣 E G8 b36 Δ0 at52
-          d52 = Typed.s-seq 𝓤 H A W 𝓣 E G8 G9 b4 b35 Δ0 (Typed.both s7) at51 (Plain.t-call-plain 𝓤 H A W 𝓣 1 ps·2 r·2 (claims· .4) (claims· .5)
-              "cases::machine::put_head" (known .2) E (λ pos β. β) G8 (record { pos = 13; ty = Syntax.tyRef Syntax.erased Syntax.mut (Syntax.tyInt
-              Syntax.w8); ref = λ x. x; }, (record { pos = 9; st = List.[]; d = 0; at = λ x. x }, tt),) 11 (6 ∷ List.[]) (Call.sub-id 𝓤 H A W (G8
-              .slots)) (Reads.as-is 𝓤 H A (Mut.mslice (Referent.rtF (Referent.fInt Syntax.w8)) ref0 6), Mut.reads-mslice 𝓤 H A W (Referent.rtF
-              (Referent.fInt Syntax.w8)) ref0 6, Path.refl, ((Array.arr-yields 𝓤 H A W (Array.eInt Syntax.w8) (Array.eInt-laws Syntax.w8) 5,
-              Path.refl,), tt,),) (Reads.room-gone 𝓤 H A Syntax.tyUnit) (tt, tt) Path.refl) d51
+          d52 = Typed.s-seq 𝓤 H A W 𝓣 E G8 G9 b4 b35 Δ0 (Typed.both s7) at51 (Plain.t-call-plain 𝓤 H A W 𝓣 1 ps·2 r·2
+              (claims· .4) (claims· .5) "cases::machine::put_head" (known .2) E (λ pos β. β) G8 (
+                record { pos = 13; ty = ref0; ref = λ x. x },
+                (record { pos = 9; st = List.[]; d = 0; at = λ x. x }, tt),
+              ) 11 (6 ∷ List.[]) (Call.sub-id 𝓤 H A W (G8 .slots)) (
+                Reads.as-is 𝓤 H A (Mut.mslice (Referent.rtF (Referent.fInt Syntax.w8)) ref0 6),
+                Mut.reads-mslice 𝓤 H A W (Referent.rtF (Referent.fInt Syntax.w8)) ref0 6,
+                Path.refl,
+                ((Array.arr-yields 𝓤 H A W (Array.eInt Syntax.w8) (Array.eInt-laws Syntax.w8) 5, Path.refl), tt),
+              ) (Reads.room-gone 𝓤 H A Syntax.tyUnit) (tt, tt) Path.refl) d51
+
           d53 : Typed.Typed 𝓤 H A 𝓣 E G7 b37 Δ0 at53
-          d53 = Typed.s-seq 𝓤 H A W 𝓣 E G7 G8 b3 b36 Δ0 (Typed.ask s6) at52 (Relend.t-sl-aggregate 𝓤 H A W E (Referent.rtF (Referent.fInt Syntax.w8))
-              𝓣 (Relend.asMut (Referent.rtF (Referent.fInt Syntax.w8))) G7 12 13 6 ref0 ref0 (λ x. x) (Scalar.oFld 6 ((Syntax.field 1) ∷ List.[])
-              (Syntax.tyInt Syntax.w64) 8 λ v. Shared.lenV (v .0)) (Reads.as-is 𝓤 H A (Relend.msptr (Referent.rtF (Referent.fInt Syntax.w8)) ref0 6))
-              (Reads.room-gone 𝓤 H A (Syntax.tyStruct (38 ∷ 91 ∷ 93 ∷ List.[]) (Syntax.tcons ref0 (Syntax.tcons (Syntax.tyInt Syntax.w64)
-              Syntax.tnil)))) (Relend.reads-owed-len 𝓤 H A W (Referent.rtF (Referent.fInt Syntax.w8)) ref12 5 6 life0 8 Path.refl, Path.refl,)
-              Path.refl Path.refl λ b o k. tt) d52
+          d53 = Typed.s-seq 𝓤 H A W 𝓣 E G7 G8 b3 b36 Δ0 (Typed.ask s6) at52 (Relend.t-sl-aggregate 𝓤 H A W E
+              (Referent.rtF (Referent.fInt Syntax.w8)) 𝓣 (Relend.asMut (Referent.rtF (Referent.fInt Syntax.w8))) G7 12
+              13 6 ref0 ref0 (λ x. x) (Scalar.oFld 6 ((Syntax.field 1) ∷ List.[]) (Syntax.tyInt Syntax.w64) 8 λ v.
+              Shared.lenV (v .0)) (Reads.as-is 𝓤 H A (Relend.msptr (Referent.rtF (Referent.fInt Syntax.w8)) ref0 6))
+              (Reads.room-gone 𝓤 H A slice0) (
+                Relend.reads-owed-len 𝓤 H A W (Referent.rtF (Referent.fInt Syntax.w8)) ref12 5 6 life0 8 Path.refl,
+                Path.refl,
+              ) Path.refl Path.refl λ b o k. tt) d52
+
           d54 : Typed.Typed 𝓤 H A 𝓣 E G6 b38 Δ0 at54
-          d54 = Typed.s-seq 𝓤 H A W 𝓣 E G6 G7 b2 b37 Δ0 (Typed.give s5) at53 (Relend.t-sl-relend 𝓤 H A W E (Referent.rtF (Referent.fInt Syntax.w8)) 𝓣
-              G6 6 12 5 6 ref12 ref0 life0 0 (λ x. x) (Reads.as-is 𝓤 H A (Mut.mslice (Referent.rtF (Referent.fInt Syntax.w8)) ref12 5))
-              (Reads.room-gone 𝓤 H A ref0) Path.refl tt Path.refl Path.refl Path.refl λ b o. tt) d53
+          d54 = Typed.s-seq 𝓤 H A W 𝓣 E G6 G7 b2 b37 Δ0 (Typed.give s5) at53 (Relend.t-sl-relend 𝓤 H A W E
+              (Referent.rtF (Referent.fInt Syntax.w8)) 𝓣 G6 6 12 5 6 ref12 ref0 life0 0 (λ x. x) (Reads.as-is 𝓤 H A (Mut.mslice
+              (Referent.rtF (Referent.fInt Syntax.w8)) ref12 5)) (Reads.room-gone 𝓤 H A ref0) Path.refl tt Path.refl
+              Path.refl Path.refl λ b o. tt) d53
+
           d55 : Typed.Typed 𝓤 H A 𝓣 E G5 b38 Δ0 at55
-          d55 = Typed.g-pre 𝓤 H A W 𝓣 E G5 G6 b38 Δ0 (λ Ψ. Ψ) at54 (Lifetime.g-begin 𝓤 H A W E G5 6 (tt, (tt, (tt, (tt, (tt, (tt, (tt, (tt, (tt, (tt,
-              (tt, (tt, (tt, (tt, (tt, (tt, (tt, (tt, (tt, (tt, (tt, (tt, (tt, (tt, (tt, (tt, tt)))))),),),),),),),),),),),),),),),),),),),),)) d54
+          d55 = Typed.g-pre 𝓤 H A W 𝓣 E G5 G6 b38 Δ0 (λ Ψ. Ψ) at54 (Lifetime.g-begin 𝓤 H A W E G5 6 (
+            tt,
+            (
+              tt,
+              (
+                tt,
+                (
+                  tt,
+                  (
+                    tt,
+                    (
+                      tt,
+                      (
+                        tt,
+                        (
+                          tt,
+                          (
+                            tt,
+                            (
+                              tt,
+                              (
+                                tt,
+                                (
+                                  tt,
+                                  (
+                                    tt,
+                                    (tt, (tt, (tt, (tt, (tt, (tt, (tt, (tt, (tt, (tt, (tt, (tt, (tt, tt))))))))))))),
+                                  ),
+                                ),
+                              ),
+                            ),
+                          ),
+                        ),
+                      ),
+                    ),
+                  ),
+                ),
+              ),
+            ),
+          )) d54
+
           d56 : Typed.Typed 𝓤 H A 𝓣 E G4 b39 Δ0 at56
-          d56 = Typed.s-seq 𝓤 H A W 𝓣 E G4 G5 b1 b38 Δ0 (Typed.both s3) at55 (Plain.t-call-plain 𝓤 H A W 𝓣 0 ps·1 r·1 (claims· .2) (claims· .3)
-              "cases::script::head_of" (known .1) E (λ pos β. β) G4 (Num.vAt 7 λ x. x, tt) 9 List.[] (Call.sub-id 𝓤 H A W (G4 .slots))
-              ((Scalar.reads-sc 𝓤 H A W (Row.sInt Syntax.w8), Path.refl), tt) (Reads.room-gone 𝓤 H A (Syntax.tyArray (Syntax.tyInt Syntax.w8) 5)) tt
-              Path.refl) d55
+          d56 = Typed.s-seq 𝓤 H A W 𝓣 E G4 G5 b1 b38 Δ0 (Typed.both s3) at55 (Plain.t-call-plain 𝓤 H A W 𝓣 0 ps·1 r·1
+              (claims· .2) (claims· .3) "cases::script::head_of" (known .1) E (λ pos β. β) G4 (Num.vAt 7 λ x. x, tt) 9
+              List.[] (Call.sub-id 𝓤 H A W (G4 .slots)) ((Scalar.reads-sc 𝓤 H A W (Row.sInt Syntax.w8), Path.refl), tt) (Reads.room-gone
+              𝓤 H A (Syntax.tyArray (Syntax.tyInt Syntax.w8) 5)) tt Path.refl) d55
+
           d57 : Typed.Typed 𝓤 H A 𝓣 E G3 b40 Δ0 at57
-          d57 = Typed.s-seq 𝓤 H A W 𝓣 E G3 G4 b0 b39 Δ0 (Typed.both s2) at56 (Plain.t-call-plain 𝓤 H A W 𝓣 0 ps·0 r·0 (claims· .0) (claims· .1)
-              "cases::script::script_of" (known .0) E (λ pos β. β) G3 (Num.vAt 7 λ x. x, tt) 8 List.[] (Call.sub-id 𝓤 H A W (G3 .slots))
-              ((Scalar.reads-sc 𝓤 H A W (Row.sInt Syntax.w8), Path.refl), tt) (Reads.room-gone 𝓤 H A Laws.mir) tt Path.refl) d56
+          d57 = Typed.s-seq 𝓤 H A W 𝓣 E G3 G4 b0 b39 Δ0 (Typed.both s2) at56 (Plain.t-call-plain 𝓤 H A W 𝓣 0 ps·0 r·0
+              (claims· .0) (claims· .1) "cases::script::script_of" (known .0) E (λ pos β. β) G3 (Num.vAt 7 λ x. x, tt)
+              8 List.[] (Call.sub-id 𝓤 H A W (G3 .slots)) (
+                (Scalar.reads-sc 𝓤 H A W (Row.sInt Syntax.w8), Path.refl),
+                tt,
+              ) (Reads.room-gone 𝓤 H A Laws.mir) tt Path.refl) d56
+
           d58 : Typed.Typed 𝓤 H A 𝓣 E G2 b40 Δ0 at58
-          d58 = Typed.g-pre 𝓤 H A W 𝓣 E G2 G3 b40 Δ0 (Typed.give s1) at57 (Know.g-sl-known 𝓤 H A W (Referent.fInt Syntax.w8) E G2 6 5 ref12 life0 0 (λ
-              x. x) record { fits = Dec.lit< tt } (Reads.as-is 𝓤 H A (Mut.mslice (Referent.rtF (Referent.fInt Syntax.w8)) ref12 5)) Path.refl tt) d57
+          d58 = Typed.g-pre 𝓤 H A W 𝓣 E G2 G3 b40 Δ0 (Typed.give s1) at57 (Know.g-sl-known 𝓤 H A W
+              (Referent.fInt Syntax.w8) E G2 6 5 ref12 life0 0 (λ x. x) record { fits = Dec.lit< tt } (Reads.as-is 𝓤 H
+              A (Mut.mslice (Referent.rtF (Referent.fInt Syntax.w8)) ref12 5)) Path.refl tt) d57
+
           d59 : Typed.Typed 𝓤 H A 𝓣 E G0 b40 Δ0 at59
-          d59 = Typed.g-pre 𝓤 H A W 𝓣 E G0 G2 b40 Δ0 (Typed.give s0) at58 (Know.g-sl-known 𝓤 H A W (Referent.fInt Syntax.w32) E G0 5 4 ref11 life5 0
-              (λ x. x) record { fits = Dec.lit< tt } (Reads.as-is 𝓤 H A (Mut.mslice (Referent.rtF (Referent.fInt Syntax.w32)) ref11 4)) Path.refl tt)
-              d58
+          d59 = Typed.g-pre 𝓤 H A W 𝓣 E G0 G2 b40 Δ0 (Typed.give s0) at58 (Know.g-sl-known 𝓤 H A W
+              (Referent.fInt Syntax.w32) E G0 5 4 ref11 life5 0 (λ x. x) record { fits = Dec.lit< tt } (Reads.as-is 𝓤 H
+              A (Mut.mslice (Referent.rtF (Referent.fInt Syntax.w32)) ref11 4)) Path.refl tt) d58
+
           pub typed : Typed.Typed 𝓤 H A 𝓣 E (Function.Γin 6 ps r xs m κs qs) b40 (Function.Δret 6 ps r xs m κs qs) Φ
           typed = d59
+
       module _ (κs : Lifetimes.Lfts 6) where
         pub record Args : Type 0 where
-          pub pending : Kinds.Den { n = 6 } κs (MutSlice.pMutS RelayPending.row 0 tt)
-          pub circuits : Kinds.Den { n = 6 } κs (MutSlice.pMutS RelayCircuit.row 1 tt)
-          pub ledger : Kinds.Den { n = 6 } κs (MutSlice.pMutS ReservationUsage.row 2 tt)
-          pub inflight : Kinds.Den { n = 6 } κs (MutSlice.pMutS InflightAction.row 3 tt)
-          pub out : Kinds.Den { n = 6 } κs (MutSlice.pMutS (Referent.rtF (Referent.fInt Syntax.w32)) 4 tt)
-          pub body : Kinds.Den { n = 6 } κs (MutSlice.pMutS (Referent.rtF (Referent.fInt Syntax.w8)) 5 tt)
-          pub case : Kinds.Den { n = 6 } κs (Num.pNum Syntax.w8)
+          pub pending : Kinds.Den {n = 6} κs (MutSlice.pMutS RelayPending.row 0 tt)
+          pub circuits : Kinds.Den {n = 6} κs (MutSlice.pMutS RelayCircuit.row 1 tt)
+          pub ledger : Kinds.Den {n = 6} κs (MutSlice.pMutS ReservationUsage.row 2 tt)
+          pub inflight : Kinds.Den {n = 6} κs (MutSlice.pMutS InflightAction.row 3 tt)
+          pub out : Kinds.Den {n = 6} κs (MutSlice.pMutS (Referent.rtF (Referent.fInt Syntax.w32)) 4 tt)
+          pub body : Kinds.Den {n = 6} κs (MutSlice.pMutS (Referent.rtF (Referent.fInt Syntax.w8)) 5 tt)
+          pub case : Kinds.Den {n = 6} κs (Num.pNum Syntax.w8)
+
         abbrev pub dens : (a : Args) → Kinds.Dens κs ps
-        dens = λ a. (a .pending, (a .circuits, (a .ledger, (a .inflight, (a .out, (a .body, (a .case, tt)))))),)
+        dens = λ a. (a .pending, (a .circuits, (a .ledger, (a .inflight, (a .out, (a .body, (a .case, tt)))))))
+
         module _ (args· : Args) where
           pub record Ranges : Type 0 where
             pub case : Val.Fits Syntax.w8 (args· .case)
+
       abbrev pub m0 : (κs : Lifetimes.Lfts 6) → (args : Args κs) → Typed.Mo T0
       m0 = λ κs args. (tt, Enter.partsP κs 1 ps xs (dens κs args))
+
       abbrev W0 : (κs : Lifetimes.Lfts 6) → (args : Args κs) → Typed.Want O0
-      W0 = λ κs args. (λ u. ⊥, tt, λ u. Enter.Fixs κs 1 ps xs (dens κs args) (u .1) × Post· κs (dens κs args) (Function.resV r κs (u .0))
-          (Clauses.atExit (Kinds.endedOf 6 ps r) κs (dens κs args) (Enter.lastsP κs 1 ps xs (dens κs args) (u .1))),)
+      W0 = λ κs args. (
+        λ u. ⊥,
+        tt,
+        λ u. Enter.Fixs κs 1 ps xs (dens κs args) (u .1) × Post· κs (dens κs args) (Function.resV r κs (u .0)) (Clauses.atExit
+            (Kinds.endedOf 6 ps r) κs (dens κs args) (Enter.lastsP κs 1 ps xs (dens κs args) (u .1))),
+      )
+
       pub record Start : Type 0 where
         pub κs : Lifetimes.Lfts 6
         pub args : Args κs
         pub good : Kinds.GoodsP κs ps (dens κs args)
         pub fits : Ranges κs args
         pub pre : Pre· κs (dens κs args)
+
       abbrev pub m1 : (before : Start) → (given : s0 .gives (m0 (before .κs) (before .args))) → Typed.Mo T2
       m1 = λ before given. s0 .next (m0 (before .κs) (before .args)) given
+
       module _ (before· : Start) where
         pub record After-slice-known·own : Type 0 where
           pub given : s0 .gives (m0 (before· .κs) (before· .args))
+
       pub record After-slice-known : Type 0 where
         pub before : Start
         pub slice-known : After-slice-known·own before
-      abbrev pub m2 : (before : After-slice-known) → (given : s1 .gives (m1 (before .before) (before .slice-known .given))) → Typed.Mo T3
+
+      abbrev pub m2 : (before : After-slice-known) → (given : s1 .gives
+          (m1 (before .before) (before .slice-known .given))) → Typed.Mo T3
       m2 = λ before given. s1 .next (m1 (before .before) (before .slice-known .given)) given
+
       module _ (before· : After-slice-known) where
         pub record After-slice-known2·own : Type 0 where
           pub given : s1 .gives (m1 (before· .before) (before· .slice-known .given))
+
       pub record After-slice-known2 : Type 0 where
         pub before : After-slice-known
         pub slice-known2 : After-slice-known2·own before
+
       abbrev pub Need-script-of-requires : Type 0
       Need-script-of-requires = (c : After-slice-known2) → s2 .asks (m2 (c .before) (c .slice-known2 .given))
-      abbrev pub m3 : (before : After-slice-known2) → (given : s2 .gives (m2 (before .before) (before .slice-known2 .given))) → Typed.Mo T4
+
+      abbrev pub m3 : (before : After-slice-known2) → (given : s2 .gives
+          (m2 (before .before) (before .slice-known2 .given))) → Typed.Mo T4
       m3 = λ before given. s2 .next (m2 (before .before) (before .slice-known2 .given)) given
+
       module _ (before· : After-slice-known2) where
         abbrev pub After-script-of·own : Type 0
-        After-script-of·own = Called.Called ps·0 r·0 (claims· .1) T3 (Num.vAt 7 λ x. x, tt) (m2 (before· .before) (before· .slice-known2 .given))
+        After-script-of·own = Called.Called ps·0 r·0 (claims· .1) T3 args2
+            (m2 (before· .before) (before· .slice-known2 .given))
+
       pub record After-script-of : Type 0 where
         pub before : After-slice-known2
         pub script-of : After-script-of·own before
-      abbrev pub After-script-of·gave : (c : After-script-of) → s2 .gives (m2 (c .before .before) (c .before .slice-known2 .given))
-      After-script-of·gave = λ c. Called.given ps·0 r·0 (claims· .1) T3 (Num.vAt 7 λ x. x, tt) (m2 (c .before .before) (c .before .slice-known2
-          .given)) (c .script-of)
+
+      abbrev pub After-script-of·gave : (c : After-script-of) → s2 .gives
+          (m2 (c .before .before) (c .before .slice-known2 .given))
+      After-script-of·gave = λ c. Called.given ps·0 r·0 (claims· .1) T3 args2
+          (m2 (c .before .before) (c .before .slice-known2 .given)) (c .script-of)
+
       abbrev pub Need-head-of-requires : Type 0
       Need-head-of-requires = (c : After-script-of) → s3 .asks (m3 (c .before) (After-script-of·gave c))
-      abbrev pub m4 : (before : After-script-of) → (given : s3 .gives (m3 (before .before) (After-script-of·gave before))) → Typed.Mo T5
+
+      abbrev pub m4 : (before : After-script-of) → (given : s3 .gives
+          (m3 (before .before) (After-script-of·gave before))) → Typed.Mo T5
       m4 = λ before given. s3 .next (m3 (before .before) (After-script-of·gave before)) given
+
       module _ (before· : After-script-of) where
         abbrev pub After-head-of·own : Type 0
-        After-head-of·own = Called.Called ps·1 r·1 (claims· .3) T4 (Num.vAt 7 λ x. x, tt) (m3 (before· .before) (After-script-of·gave before·))
+        After-head-of·own = Called.Called ps·1 r·1 (claims· .3) T4 args3
+            (m3 (before· .before) (After-script-of·gave before·))
+
       pub record After-head-of : Type 0 where
         pub before : After-script-of
         pub head-of : After-head-of·own before
-      abbrev pub After-head-of·gave : (c : After-head-of) → s3 .gives (m3 (c .before .before) (After-script-of·gave (c .before)))
-      After-head-of·gave = λ c. Called.given ps·1 r·1 (claims· .3) T4 (Num.vAt 7 λ x. x, tt) (m3 (c .before .before) (After-script-of·gave (c
-          .before))) (c .head-of)
-      abbrev pub m5 : (before : After-head-of) → (given : s5 .gives (m4 (before .before) (After-head-of·gave before))) → Typed.Mo T7
+
+      abbrev pub After-head-of·gave : (c : After-head-of) → s3 .gives
+          (m3 (c .before .before) (After-script-of·gave (c .before)))
+      After-head-of·gave = λ c. Called.given ps·1 r·1 (claims· .3) T4 args3
+          (m3 (c .before .before) (After-script-of·gave (c .before))) (c .head-of)
+
+      abbrev pub m5 : (before : After-head-of) → (given : s5 .gives (m4 (before .before) (After-head-of·gave before)))
+          → Typed.Mo T7
       m5 = λ before given. s5 .next (m4 (before .before) (After-head-of·gave before)) given
-      abbrev pub m6 : (before : After-head-of) → (given : s5 .gives (m4 (before .before) (After-head-of·gave before))) → Typed.Mo T8
+
+      abbrev pub m6 : (before : After-head-of) → (given : s5 .gives (m4 (before .before) (After-head-of·gave before)))
+          → Typed.Mo T8
       m6 = λ before given. s6 .next (m5 before given)
+
       module _ (before· : After-head-of) where
         pub record After-put-head-arg·own : Type 0 where
           pub given : s5 .gives (m4 (before· .before) (After-head-of·gave before·))
+
       pub record After-put-head-arg : Type 0 where
         pub before : After-head-of
         pub put-head-arg : After-put-head-arg·own before
+
       abbrev pub Need-put-head-requires : Type 0
       Need-put-head-requires = (c : After-put-head-arg) → s7 .asks (m6 (c .before) (c .put-head-arg .given))
-      abbrev pub m7 : (before : After-put-head-arg) → (given : s7 .gives (m6 (before .before) (before .put-head-arg .given))) → Typed.Mo T9
+
+      abbrev pub m7 : (before : After-put-head-arg) → (given : s7 .gives
+          (m6 (before .before) (before .put-head-arg .given))) → Typed.Mo T9
       m7 = λ before given. s7 .next (m6 (before .before) (before .put-head-arg .given)) given
+
       module _ (before· : After-put-head-arg) where
         abbrev pub After-put-head·own : Type 0
-        After-put-head·own = Called.Called ps·2 r·2 (claims· .5) T8 (record { pos = 13; ty = Syntax.tyRef Syntax.erased Syntax.mut (Syntax.tyInt
-            Syntax.w8); ref = λ x. x; }, (record { pos = 9; st = List.[]; d = 0; at = λ x. x }, tt),) (m6 (before· .before) (before· .put-head-arg
-            .given))
+        After-put-head·own = Called.Called ps·2 r·2 (claims· .5) T8 args7
+            (m6 (before· .before) (before· .put-head-arg .given))
+
       pub record After-put-head : Type 0 where
         pub before : After-put-head-arg
         pub put-head : After-put-head·own before
-      abbrev pub After-put-head·gave : (c : After-put-head) → s7 .gives (m6 (c .before .before) (c .before .put-head-arg .given))
-      After-put-head·gave = λ c. Called.given ps·2 r·2 (claims· .5) T8 (record { pos = 13; ty = Syntax.tyRef Syntax.erased Syntax.mut (Syntax.tyInt
-          Syntax.w8); ref = λ x. x; }, (record { pos = 9; st = List.[]; d = 0; at = λ x. x }, tt),) (m6 (c .before .before) (c .before .put-head-arg
-          .given)) (c .put-head)
-      abbrev pub m8 : (before : After-put-head-arg) → (given : s7 .gives (m6 (before .before) (before .put-head-arg .given))) → Typed.Mo T10
+
+      abbrev pub After-put-head·gave : (c : After-put-head) → s7 .gives
+          (m6 (c .before .before) (c .before .put-head-arg .given))
+      After-put-head·gave = λ c. Called.given ps·2 r·2 (claims· .5) T8 args7
+          (m6 (c .before .before) (c .before .put-head-arg .given)) (c .put-head)
+
+      abbrev pub m8 : (before : After-put-head-arg) → (given : s7 .gives
+          (m6 (before .before) (before .put-head-arg .given))) → Typed.Mo T10
       m8 = λ before given. s8 (m7 before given)
-      abbrev pub m9 : (before : After-put-head-arg) → (given : s7 .gives (m6 (before .before) (before .put-head-arg .given))) → Typed.Mo T11
+
+      abbrev pub m9 : (before : After-put-head-arg) → (given : s7 .gives
+          (m6 (before .before) (before .put-head-arg .given))) → Typed.Mo T11
       m9 = λ before given. s9 (m8 before given)
-      abbrev pub m10 : (before : After-put-head) → (given : s11 .gives (m9 (before .before) (After-put-head·gave before))) → Typed.Mo T13
+
+      abbrev pub m10 : (before : After-put-head) → (given : s11 .gives
+          (m9 (before .before) (After-put-head·gave before))) → Typed.Mo T13
       m10 = λ before given. s11 .next (m9 (before .before) (After-put-head·gave before)) given
+
       module _ (before· : After-put-head) where
         pub record After-body·own : Type 0 where
           pub given : s11 .gives (m9 (before· .before) (After-put-head·gave before·))
+
       pub record After-body : Type 0 where
         pub before : After-put-head
         pub body : After-body·own before
-      abbrev pub m11 : (before : After-body) → (given : s12 .gives (m10 (before .before) (before .body .given))) → Typed.Mo T14
+
+      abbrev pub m11 : (before : After-body) → (given : s12 .gives (m10 (before .before) (before .body .given))) →
+          Typed.Mo T14
       m11 = λ before given. s12 .next (m10 (before .before) (before .body .given)) given
+
       module _ (before· : After-body) where
         pub record After-slice-known3·own : Type 0 where
           pub given : s12 .gives (m10 (before· .before) (before· .body .given))
+
       pub record After-slice-known3 : Type 0 where
         pub before : After-body
         pub slice-known3 : After-slice-known3·own before
-      abbrev pub m12 : (before : After-slice-known3) → (given : s15 .gives (m11 (before .before) (before .slice-known3 .given))) → Typed.Mo T17
+
+      abbrev pub m12 : (before : After-slice-known3) → (given : s15 .gives
+          (m11 (before .before) (before .slice-known3 .given))) → Typed.Mo T17
       m12 = λ before given. s15 .next (m11 (before .before) (before .slice-known3 .given)) given
-      abbrev pub m13 : (before : After-slice-known3) → (given : s15 .gives (m11 (before .before) (before .slice-known3 .given))) → Typed.Mo T18
+
+      abbrev pub m13 : (before : After-slice-known3) → (given : s15 .gives
+          (m11 (before .before) (before .slice-known3 .given))) → Typed.Mo T18
       m13 = λ before given. s16 .next (m12 before given)
+
       module _ (before· : After-slice-known3) where
         pub record After-run-case-arg·own : Type 0 where
           pub given : s15 .gives (m11 (before· .before) (before· .slice-known3 .given))
+
       pub record After-run-case-arg : Type 0 where
         pub before : After-slice-known3
         pub run-case-arg : After-run-case-arg·own before
-      abbrev pub m14 : (before : After-run-case-arg) → (given : s18 .gives (m13 (before .before) (before .run-case-arg .given))) → Typed.Mo T20
+
+      abbrev pub m14 : (before : After-run-case-arg) → (given : s18 .gives
+          (m13 (before .before) (before .run-case-arg .given))) → Typed.Mo T20
       m14 = λ before given. s18 .next (m13 (before .before) (before .run-case-arg .given)) given
-      abbrev pub m15 : (before : After-run-case-arg) → (given : s18 .gives (m13 (before .before) (before .run-case-arg .given))) → Typed.Mo T21
+
+      abbrev pub m15 : (before : After-run-case-arg) → (given : s18 .gives
+          (m13 (before .before) (before .run-case-arg .given))) → Typed.Mo T21
       m15 = λ before given. s19 .next (m14 before given)
+
       module _ (before· : After-run-case-arg) where
         pub record After-run-case-arg2·own : Type 0 where
           pub given : s18 .gives (m13 (before· .before) (before· .run-case-arg .given))
+
       pub record After-run-case-arg2 : Type 0 where
         pub before : After-run-case-arg
         pub run-case-arg2 : After-run-case-arg2·own before
-      abbrev pub m16 : (before : After-run-case-arg2) → (given : s21 .gives (m15 (before .before) (before .run-case-arg2 .given))) → Typed.Mo T23
+
+      abbrev pub m16 : (before : After-run-case-arg2) → (given : s21 .gives
+          (m15 (before .before) (before .run-case-arg2 .given))) → Typed.Mo T23
       m16 = λ before given. s21 .next (m15 (before .before) (before .run-case-arg2 .given)) given
-      abbrev pub m17 : (before : After-run-case-arg2) → (given : s21 .gives (m15 (before .before) (before .run-case-arg2 .given))) → Typed.Mo T24
+
+      abbrev pub m17 : (before : After-run-case-arg2) → (given : s21 .gives
+          (m15 (before .before) (before .run-case-arg2 .given))) → Typed.Mo T24
       m17 = λ before given. s22 .next (m16 before given)
+
       module _ (before· : After-run-case-arg2) where
         pub record After-run-case-arg3·own : Type 0 where
           pub given : s21 .gives (m15 (before· .before) (before· .run-case-arg2 .given))
+
       pub record After-run-case-arg3 : Type 0 where
         pub before : After-run-case-arg2
         pub run-case-arg3 : After-run-case-arg3·own before
-      abbrev pub m18 : (before : After-run-case-arg3) → (given : s24 .gives (m17 (before .before) (before .run-case-arg3 .given))) → Typed.Mo T26
+
+      abbrev pub m18 : (before : After-run-case-arg3) → (given : s24 .gives
+          (m17 (before .before) (before .run-case-arg3 .given))) → Typed.Mo T26
       m18 = λ before given. s24 .next (m17 (before .before) (before .run-case-arg3 .given)) given
-      abbrev pub m19 : (before : After-run-case-arg3) → (given : s24 .gives (m17 (before .before) (before .run-case-arg3 .given))) → Typed.Mo T27
+
+      abbrev pub m19 : (before : After-run-case-arg3) → (given : s24 .gives
+          (m17 (before .before) (before .run-case-arg3 .given))) → Typed.Mo T27
       m19 = λ before given. s25 .next (m18 before given)
+
       module _ (before· : After-run-case-arg3) where
         pub record After-run-case-arg4·own : Type 0 where
           pub given : s24 .gives (m17 (before· .before) (before· .run-case-arg3 .given))
+
       pub record After-run-case-arg4 : Type 0 where
         pub before : After-run-case-arg3
         pub run-case-arg4 : After-run-case-arg4·own before
-      abbrev pub m20 : (before : After-run-case-arg4) → (given : s27 .gives (m19 (before .before) (before .run-case-arg4 .given))) → Typed.Mo T29
+
+      abbrev pub m20 : (before : After-run-case-arg4) → (given : s27 .gives
+          (m19 (before .before) (before .run-case-arg4 .given))) → Typed.Mo T29
       m20 = λ before given. s27 .next (m19 (before .before) (before .run-case-arg4 .given)) given
-      abbrev pub m21 : (before : After-run-case-arg4) → (given : s27 .gives (m19 (before .before) (before .run-case-arg4 .given))) → Typed.Mo T30
+
+      abbrev pub m21 : (before : After-run-case-arg4) → (given : s27 .gives
+          (m19 (before .before) (before .run-case-arg4 .given))) → Typed.Mo T30
       m21 = λ before given. s28 .next (m20 before given)
+
       module _ (before· : After-run-case-arg4) where
         pub record After-run-case-arg5·own : Type 0 where
           pub given : s27 .gives (m19 (before· .before) (before· .run-case-arg4 .given))
+
       pub record After-run-case-arg5 : Type 0 where
         pub before : After-run-case-arg4
         pub run-case-arg5 : After-run-case-arg5·own before
-      abbrev pub m22 : (before : After-run-case-arg5) → (given : s30 .gives (m21 (before .before) (before .run-case-arg5 .given))) → Typed.Mo T32
+
+      abbrev pub m22 : (before : After-run-case-arg5) → (given : s30 .gives
+          (m21 (before .before) (before .run-case-arg5 .given))) → Typed.Mo T32
       m22 = λ before given. s30 .next (m21 (before .before) (before .run-case-arg5 .given)) given
-      abbrev pub m23 : (before : After-run-case-arg5) → (given : s30 .gives (m21 (before .before) (before .run-case-arg5 .given))) → Typed.Mo T33
+
+      abbrev pub m23 : (before : After-run-case-arg5) → (given : s30 .gives
+          (m21 (before .before) (before .run-case-arg5 .given))) → Typed.Mo T33
       m23 = λ before given. s31 .next (m22 before given)
+
       module _ (before· : After-run-case-arg5) where
         pub record After-run-case-arg6·own : Type 0 where
           pub given : s30 .gives (m21 (before· .before) (before· .run-case-arg5 .given))
+
       pub record After-run-case-arg6 : Type 0 where
         pub before : After-run-case-arg5
         pub run-case-arg6 : After-run-case-arg6·own before
+
       abbrev pub Need-run-case-requires : Type 0
       Need-run-case-requires = (c : After-run-case-arg6) → s32 .asks (m23 (c .before) (c .run-case-arg6 .given))
-      abbrev pub m24 : (before : After-run-case-arg6) → (given : s32 .gives (m23 (before .before) (before .run-case-arg6 .given))) → Typed.Mo T34
+
+      abbrev pub m24 : (before : After-run-case-arg6) → (given : s32 .gives
+          (m23 (before .before) (before .run-case-arg6 .given))) → Typed.Mo T34
       m24 = λ before given. s32 .next (m23 (before .before) (before .run-case-arg6 .given)) given
+
       module _ (before· : After-run-case-arg6) where
         abbrev pub After-run-case·own : Type 0
-        After-run-case·own = Called.Called ps·3 r·3 (claims· .7) T33 (record { pos = 15; ty = Syntax.tyRef Syntax.erased Syntax.mut RelayPending.to;
-            ref = λ x. x; }, (record { pos = 17; ty = Syntax.tyRef Syntax.erased Syntax.mut RelayCircuit.to; ref = λ x. x; }, (record { pos = 19; ty =
-            Syntax.tyRef Syntax.erased Syntax.mut ReservationUsage.to; ref = λ x. x; }, (record { pos = 21; ty = Syntax.tyRef Syntax.erased Syntax.mut
-            InflightAction.to; ref = λ x. x; }, (record { pos = 23; ty = Syntax.tyRef Syntax.erased Syntax.mut (Syntax.tyInt Syntax.w32); ref = λ x.
-            x; }, (record { pos = 25; ty = Syntax.tyRef Syntax.erased Syntax.imm (Syntax.tyInt Syntax.w8); ref = λ x. x; }, (record { pos = 8; st =
-            List.[]; d = 0; at = λ x. x }, tt),),),),),),) (m23 (before· .before) (before· .run-case-arg6 .given))
+        After-run-case·own = Called.Called ps·3 r·3 (claims· .7) T33 args32
+            (m23 (before· .before) (before· .run-case-arg6 .given))
+
       pub record After-run-case : Type 0 where
         pub before : After-run-case-arg6
         pub run-case : After-run-case·own before
-      abbrev pub After-run-case·gave : (c : After-run-case) → s32 .gives (m23 (c .before .before) (c .before .run-case-arg6 .given))
-      After-run-case·gave = λ c. Called.given ps·3 r·3 (claims· .7) T33 (record { pos = 15; ty = Syntax.tyRef Syntax.erased Syntax.mut
-          RelayPending.to; ref = λ x. x; }, (record { pos = 17; ty = Syntax.tyRef Syntax.erased Syntax.mut RelayCircuit.to; ref = λ x. x; }, (record {
-          pos = 19; ty = Syntax.tyRef Syntax.erased Syntax.mut ReservationUsage.to; ref = λ x. x; }, (record { pos = 21; ty = Syntax.tyRef
-          Syntax.erased Syntax.mut InflightAction.to; ref = λ x. x; }, (record { pos = 23; ty = Syntax.tyRef Syntax.erased Syntax.mut (Syntax.tyInt
-          Syntax.w32); ref = λ x. x; }, (record { pos = 25; ty = Syntax.tyRef Syntax.erased Syntax.imm (Syntax.tyInt Syntax.w8); ref = λ x. x; },
-          (record { pos = 8; st = List.[]; d = 0; at = λ x. x }, tt),),),),),),) (m23 (c .before .before) (c .before .run-case-arg6 .given)) (c
-          .run-case)
-      abbrev pub m25 : (before : After-run-case-arg6) → (given : s32 .gives (m23 (before .before) (before .run-case-arg6 .given))) → Typed.Mo T35
+
+      abbrev pub After-run-case·gave : (c : After-run-case) → s32 .gives
+          (m23 (c .before .before) (c .before .run-case-arg6 .given))
+      After-run-case·gave = λ c. Called.given ps·3 r·3 (claims· .7) T33 args32
+          (m23 (c .before .before) (c .before .run-case-arg6 .given)) (c .run-case)
+
+      abbrev pub m25 : (before : After-run-case-arg6) → (given : s32 .gives
+          (m23 (before .before) (before .run-case-arg6 .given))) → Typed.Mo T35
       m25 = λ before given. s33 (m24 before given)
-      abbrev pub m26 : (before : After-run-case-arg6) → (given : s32 .gives (m23 (before .before) (before .run-case-arg6 .given))) → Typed.Mo T36
+
+      abbrev pub m26 : (before : After-run-case-arg6) → (given : s32 .gives
+          (m23 (before .before) (before .run-case-arg6 .given))) → Typed.Mo T36
       m26 = λ before given. s34 (m25 before given)
-      abbrev pub m27 : (before : After-run-case) → (given : s36 .gives (m26 (before .before) (After-run-case·gave before))) → Typed.Mo T38
+
+      abbrev pub m27 : (before : After-run-case) → (given : s36 .gives
+          (m26 (before .before) (After-run-case·gave before))) → Typed.Mo T38
       m27 = λ before given. s36 .next (m26 (before .before) (After-run-case·gave before)) given
+
       module _ (before· : After-run-case) where
         pub record After-pending·own : Type 0 where
           pub given : s36 .gives (m26 (before· .before) (After-run-case·gave before·))
+
       pub record After-pending : Type 0 where
         pub before : After-run-case
         pub pending : After-pending·own before
-      abbrev pub m28 : (before : After-pending) → (given : s39 .gives (m27 (before .before) (before .pending .given))) → Typed.Mo T41
+
+      abbrev pub m28 : (before : After-pending) → (given : s39 .gives (m27 (before .before) (before .pending .given)))
+          → Typed.Mo T41
       m28 = λ before given. s39 .next (m27 (before .before) (before .pending .given)) given
+
       module _ (before· : After-pending) where
         pub record After-circuits·own : Type 0 where
           pub given : s39 .gives (m27 (before· .before) (before· .pending .given))
+
       pub record After-circuits : Type 0 where
         pub before : After-pending
         pub circuits : After-circuits·own before
-      abbrev pub m29 : (before : After-circuits) → (given : s42 .gives (m28 (before .before) (before .circuits .given))) → Typed.Mo T44
+
+      abbrev pub m29 : (before : After-circuits) → (given : s42 .gives (m28 (before .before) (before .circuits .given)))
+          → Typed.Mo T44
       m29 = λ before given. s42 .next (m28 (before .before) (before .circuits .given)) given
+
       module _ (before· : After-circuits) where
         pub record After-ledger·own : Type 0 where
           pub given : s42 .gives (m28 (before· .before) (before· .circuits .given))
+
       pub record After-ledger : Type 0 where
         pub before : After-circuits
         pub ledger : After-ledger·own before
-      abbrev pub m30 : (before : After-ledger) → (given : s45 .gives (m29 (before .before) (before .ledger .given))) → Typed.Mo T47
+
+      abbrev pub m30 : (before : After-ledger) → (given : s45 .gives (m29 (before .before) (before .ledger .given))) →
+          Typed.Mo T47
       m30 = λ before given. s45 .next (m29 (before .before) (before .ledger .given)) given
+
       module _ (before· : After-ledger) where
         pub record After-inflight·own : Type 0 where
           pub given : s45 .gives (m29 (before· .before) (before· .ledger .given))
+
       pub record After-inflight : Type 0 where
         pub before : After-ledger
         pub inflight : After-inflight·own before
-      abbrev pub m31 : (before : After-inflight) → (given : s48 .gives (m30 (before .before) (before .inflight .given))) → Typed.Mo T50
+
+      abbrev pub m31 : (before : After-inflight) → (given : s48 .gives (m30 (before .before) (before .inflight .given)))
+          → Typed.Mo T50
       m31 = λ before given. s48 .next (m30 (before .before) (before .inflight .given)) given
+
       module _ (before· : After-inflight) where
         pub record After-out·own : Type 0 where
           pub given : s48 .gives (m30 (before· .before) (before· .inflight .given))
+
       pub record After-out : Type 0 where
         pub before : After-inflight
         pub out : After-out·own before
-      abbrev pub m32 : (before : After-out) → (given : s49 .gives (m31 (before .before) (before .out .given))) → Typed.Mo T51
+
+      abbrev pub m32 : (before : After-out) → (given : s49 .gives (m31 (before .before) (before .out .given))) →
+          Typed.Mo T51
       m32 = λ before given. s49 .next (m31 (before .before) (before .out .given)) given
-      abbrev pub m33 : (before : After-out) → (given : s49 .gives (m31 (before .before) (before .out .given))) → Typed.Mo T54
+
+      abbrev pub m33 : (before : After-out) → (given : s49 .gives (m31 (before .before) (before .out .given))) →
+          Typed.Mo T54
       m33 = λ before given. s52 (m32 before given)
+
       module _ (before· : After-out) where
         pub record After-slice-known4·own : Type 0 where
           pub given : s49 .gives (m31 (before· .before) (before· .out .given))
+
       pub record After-slice-known4 : Type 0 where
         pub before : After-out
         pub slice-known4 : After-slice-known4·own before
+
       abbrev pub Need-say-requires : Type 0
       Need-say-requires = (c : After-slice-known4) → s54 .asks (m33 (c .before) (c .slice-known4 .given))
-      abbrev pub m34 : (before : After-slice-known4) → (given : s54 .gives (m33 (before .before) (before .slice-known4 .given))) → Typed.Mo T56
+
+      abbrev pub m34 : (before : After-slice-known4) → (given : s54 .gives
+          (m33 (before .before) (before .slice-known4 .given))) → Typed.Mo T56
       m34 = λ before given. s54 .next (m33 (before .before) (before .slice-known4 .given)) given
+
       module _ (before· : After-slice-known4) where
         abbrev pub After-say·own : Type 0
-        After-say·own = Called.Called ps·4 r·4 (claims· .9) T54 (Num.vAt 7 λ x. x, (Num.vAt 10 λ x. x, tt),) (m33 (before· .before) (before·
-            .slice-known4 .given))
+        After-say·own = Called.Called ps·4 r·4 (claims· .9) T54 args54
+            (m33 (before· .before) (before· .slice-known4 .given))
+
       pub record After-say : Type 0 where
         pub before : After-slice-known4
         pub say : After-say·own before
-      abbrev pub After-say·gave : (c : After-say) → s54 .gives (m33 (c .before .before) (c .before .slice-known4 .given))
-      After-say·gave = λ c. Called.given ps·4 r·4 (claims· .9) T54 (Num.vAt 7 λ x. x, (Num.vAt 10 λ x. x, tt),) (m33 (c .before .before) (c .before
-          .slice-known4 .given)) (c .say)
-      abbrev pub m35 : (before : After-slice-known4) → (given : s54 .gives (m33 (before .before) (before .slice-known4 .given))) → Typed.Mo T57
+
+      abbrev pub After-say·gave : (c : After-say) → s54 .gives
+          (m33 (c .before .before) (c .before .slice-known4 .given))
+      After-say·gave = λ c. Called.given ps·4 r·4 (claims· .9) T54 args54
+          (m33 (c .before .before) (c .before .slice-known4 .given)) (c .say)
+
+      abbrev pub m35 : (before : After-slice-known4) → (given : s54 .gives
+          (m33 (before .before) (before .slice-known4 .given))) → Typed.Mo T57
       m35 = λ before given. s55 (m34 before given)
-      abbrev pub m36 : (before : After-slice-known4) → (given : s54 .gives (m33 (before .before) (before .slice-known4 .given))) → Typed.Mo T58
+
+      abbrev pub m36 : (before : After-slice-known4) → (given : s54 .gives
+          (m33 (before .before) (before .slice-known4 .given))) → Typed.Mo T58
       m36 = λ before given. s56 (m35 before given)
-      abbrev pub m37 : (before : After-slice-known4) → (given : s54 .gives (m33 (before .before) (before .slice-known4 .given))) → Typed.Mo T59
+
+      abbrev pub m37 : (before : After-slice-known4) → (given : s54 .gives
+          (m33 (before .before) (before .slice-known4 .given))) → Typed.Mo T59
       m37 = λ before given. s57 (m36 before given)
-      abbrev pub m38 : (before : After-slice-known4) → (given : s54 .gives (m33 (before .before) (before .slice-known4 .given))) → Typed.Mo T60
+
+      abbrev pub m38 : (before : After-slice-known4) → (given : s54 .gives
+          (m33 (before .before) (before .slice-known4 .given))) → Typed.Mo T60
       m38 = λ before given. s58 (m37 before given)
+
       abbrev pub Need-same-length : Type 0
-      Need-same-length = (c : After-say) → MutSlice.SameLen (Row.get 1 (T60 .locals) (m38 (c .before) (After-say·gave c))) (dens (c .before .before
-          .before .before .before .before .before .before .before .before .before .before .before .before .before .before .before .before .before
-          .before .before .before .κs) (c .before .before .before .before .before .before .before .before .before .before .before .before .before
-          .before .before .before .before .before .before .before .before .before .args) .0)
+      Need-same-length = (c : After-say) → MutSlice.SameLen (Row.get 1 (T60 .locals)
+          (m38 (c .before) (After-say·gave c))) (dens (c .before .before .before .before .before .before .before
+          .before .before .before .before .before .before .before .before .before .before .before .before .before
+          .before .before .κs) (c .before .before .before .before .before .before .before .before .before .before
+          .before .before .before .before .before .before .before .before .before .before .before .before .args) .0)
+
       abbrev pub Need-same-length-2 : Type 0
-      Need-same-length-2 = (c : After-say) → MutSlice.SameLen (Row.get 2 (T60 .locals) (m38 (c .before) (After-say·gave c))) (dens (c .before .before
-          .before .before .before .before .before .before .before .before .before .before .before .before .before .before .before .before .before
-          .before .before .before .κs) (c .before .before .before .before .before .before .before .before .before .before .before .before .before
-          .before .before .before .before .before .before .before .before .before .args) .1 .0)
+      Need-same-length-2 = (c : After-say) → MutSlice.SameLen (Row.get 2 (T60 .locals)
+          (m38 (c .before) (After-say·gave c))) (dens (c .before .before .before .before .before .before .before
+          .before .before .before .before .before .before .before .before .before .before .before .before .before
+          .before .before .κs) (c .before .before .before .before .before .before .before .before .before .before
+          .before .before .before .before .before .before .before .before .before .before .before .before .args) .1 .0)
+
       abbrev pub Need-same-length-3 : Type 0
-      Need-same-length-3 = (c : After-say) → MutSlice.SameLen (Row.get 3 (T60 .locals) (m38 (c .before) (After-say·gave c))) (dens (c .before .before
-          .before .before .before .before .before .before .before .before .before .before .before .before .before .before .before .before .before
-          .before .before .before .κs) (c .before .before .before .before .before .before .before .before .before .before .before .before .before
-          .before .before .before .before .before .before .before .before .before .args) .1 .1 .0)
+      Need-same-length-3 = (c : After-say) → MutSlice.SameLen (Row.get 3 (T60 .locals)
+          (m38 (c .before) (After-say·gave c))) (dens (c .before .before .before .before .before .before .before
+          .before .before .before .before .before .before .before .before .before .before .before .before .before
+          .before .before .κs) (c .before .before .before .before .before .before .before .before .before .before
+          .before .before .before .before .before .before .before .before .before .before .before .before .args) .1 .1
+          .0)
+
       abbrev pub Need-same-length-4 : Type 0
-      Need-same-length-4 = (c : After-say) → MutSlice.SameLen (Row.get 4 (T60 .locals) (m38 (c .before) (After-say·gave c))) (dens (c .before .before
-          .before .before .before .before .before .before .before .before .before .before .before .before .before .before .before .before .before
-          .before .before .before .κs) (c .before .before .before .before .before .before .before .before .before .before .before .before .before
-          .before .before .before .before .before .before .before .before .before .args) .1 .1 .1 .0)
+      Need-same-length-4 = (c : After-say) → MutSlice.SameLen (Row.get 4 (T60 .locals)
+          (m38 (c .before) (After-say·gave c))) (dens (c .before .before .before .before .before .before .before
+          .before .before .before .before .before .before .before .before .before .before .before .before .before
+          .before .before .κs) (c .before .before .before .before .before .before .before .before .before .before
+          .before .before .before .before .before .before .before .before .before .before .before .before .args) .1 .1
+          .1 .0)
+
       abbrev pub Need-same-length-5 : Type 0
-      Need-same-length-5 = (c : After-say) → MutSlice.SameLen (Row.get 5 (T60 .locals) (m38 (c .before) (After-say·gave c))) (dens (c .before .before
-          .before .before .before .before .before .before .before .before .before .before .before .before .before .before .before .before .before
-          .before .before .before .κs) (c .before .before .before .before .before .before .before .before .before .before .before .before .before
-          .before .before .before .before .before .before .before .before .before .args) .1 .1 .1 .1 .0)
+      Need-same-length-5 = (c : After-say) → MutSlice.SameLen (Row.get 5 (T60 .locals)
+          (m38 (c .before) (After-say·gave c))) (dens (c .before .before .before .before .before .before .before
+          .before .before .before .before .before .before .before .before .before .before .before .before .before
+          .before .before .κs) (c .before .before .before .before .before .before .before .before .before .before
+          .before .before .before .before .before .before .before .before .before .before .before .before .args) .1 .1
+          .1 .1 .0)
+
       abbrev pub Need-same-length-6 : Type 0
-      Need-same-length-6 = (c : After-say) → MutSlice.SameLen (Row.get 6 (T60 .locals) (m38 (c .before) (After-say·gave c))) (dens (c .before .before
-          .before .before .before .before .before .before .before .before .before .before .before .before .before .before .before .before .before
-          .before .before .before .κs) (c .before .before .before .before .before .before .before .before .before .before .before .before .before
-          .before .before .before .before .before .before .before .before .before .args) .1 .1 .1 .1 .1 .0)
+      Need-same-length-6 = (c : After-say) → MutSlice.SameLen (Row.get 6 (T60 .locals)
+          (m38 (c .before) (After-say·gave c))) (dens (c .before .before .before .before .before .before .before
+          .before .before .before .before .before .before .before .before .before .before .before .before .before
+          .before .before .κs) (c .before .before .before .before .before .before .before .before .before .before
+          .before .before .before .before .before .before .before .before .before .before .before .before .args) .1 .1
+          .1 .1 .1 .0)
+
       abbrev pub Need-returns : Type 0
-      Need-returns = (c : After-say) → Post· (c .before .before .before .before .before .before .before .before .before .before .before .before
-          .before .before .before .before .before .before .before .before .before .before .κs) (dens (c .before .before .before .before .before
-          .before .before .before .before .before .before .before .before .before .before .before .before .before .before .before .before .before .κs)
-          (c .before .before .before .before .before .before .before .before .before .before .before .before .before .before .before .before .before
-          .before .before .before .before .before .args)) (Function.resV r (c .before .before .before .before .before .before .before .before .before
-          .before .before .before .before .before .before .before .before .before .before .before .before .before .κs) (m38 (c .before)
-          (After-say·gave c) .0)) (Clauses.atExit (Kinds.endedOf 6 ps r) (c .before .before .before .before .before .before .before .before .before
-          .before .before .before .before .before .before .before .before .before .before .before .before .before .κs) (dens (c .before .before
-          .before .before .before .before .before .before .before .before .before .before .before .before .before .before .before .before .before
-          .before .before .before .κs) (c .before .before .before .before .before .before .before .before .before .before .before .before .before
-          .before .before .before .before .before .before .before .before .before .args)) (Enter.lastsP (c .before .before .before .before .before
-          .before .before .before .before .before .before .before .before .before .before .before .before .before .before .before .before .before .κs)
-          1 ps xs (dens (c .before .before .before .before .before .before .before .before .before .before .before .before .before .before .before
-          .before .before .before .before .before .before .before .κs) (c .before .before .before .before .before .before .before .before .before
-          .before .before .before .before .before .before .before .before .before .before .before .before .before .args)) (m38 (c .before)
-          (After-say·gave c) .1)))
-      module _ (script-of-requires : Need-script-of-requires) (head-of-requires : Need-head-of-requires) (put-head-requires : Need-put-head-requires)
-          (run-case-requires : Need-run-case-requires) (say-requires : Need-say-requires) (same-length : Need-same-length) (same-length-2 :
-          Need-same-length-2) (same-length-3 : Need-same-length-3) (same-length-4 : Need-same-length-4) (same-length-5 : Need-same-length-5)
-          (same-length-6 : Need-same-length-6) (returns : Need-returns) where
-        lay5 : (c : After-say) → at4 (W0 (c .before .before .before .before .before .before .before .before .before .before .before .before .before
-            .before .before .before .before .before .before .before .before .before .κs) (c .before .before .before .before .before .before .before
-            .before .before .before .before .before .before .before .before .before .before .before .before .before .before .before .args)) (m34 (c
-            .before) (After-say·gave c))
-        lay5 = λ c. ((MutSlice.fix-len (Row.get 1 (T60 .locals) (m38 (c .before) (After-say·gave c)) .ptr) (Row.get 1 (T60 .locals) (m38 (c .before)
-            (After-say·gave c)) .name) (Row.get 1 (T60 .locals) (m38 (c .before) (After-say·gave c)) .now) (dens (c .before .before .before .before
-            .before .before .before .before .before .before .before .before .before .before .before .before .before .before .before .before .before
-            .before .κs) (c .before .before .before .before .before .before .before .before .before .before .before .before .before .before .before
-            .before .before .before .before .before .before .before .args) .0 .now) (same-length record { before = c .before; say = c .say }),
-            (MutSlice.fix-len (Row.get 2 (T60 .locals) (m38 (c .before) (After-say·gave c)) .ptr) (Row.get 2 (T60 .locals) (m38 (c .before)
-            (After-say·gave c)) .name) (Row.get 2 (T60 .locals) (m38 (c .before) (After-say·gave c)) .now) (dens (c .before .before .before .before
-            .before .before .before .before .before .before .before .before .before .before .before .before .before .before .before .before .before
-            .before .κs) (c .before .before .before .before .before .before .before .before .before .before .before .before .before .before .before
-            .before .before .before .before .before .before .before .args) .1 .0 .now) (same-length-2 record { before = c .before; say = c .say }),
-            (MutSlice.fix-len (Row.get 3 (T60 .locals) (m38 (c .before) (After-say·gave c)) .ptr) (Row.get 3 (T60 .locals) (m38 (c .before)
-            (After-say·gave c)) .name) (Row.get 3 (T60 .locals) (m38 (c .before) (After-say·gave c)) .now) (dens (c .before .before .before .before
-            .before .before .before .before .before .before .before .before .before .before .before .before .before .before .before .before .before
-            .before .κs) (c .before .before .before .before .before .before .before .before .before .before .before .before .before .before .before
-            .before .before .before .before .before .before .before .args) .1 .1 .0 .now) (same-length-3 record { before = c .before; say = c .say }),
-            (MutSlice.fix-len (Row.get 4 (T60 .locals) (m38 (c .before) (After-say·gave c)) .ptr) (Row.get 4 (T60 .locals) (m38 (c .before)
-            (After-say·gave c)) .name) (Row.get 4 (T60 .locals) (m38 (c .before) (After-say·gave c)) .now) (dens (c .before .before .before .before
-            .before .before .before .before .before .before .before .before .before .before .before .before .before .before .before .before .before
-            .before .κs) (c .before .before .before .before .before .before .before .before .before .before .before .before .before .before .before
-            .before .before .before .before .before .before .before .args) .1 .1 .1 .0 .now) (same-length-4 record { before = c .before; say = c .say
-            }), (MutSlice.fix-len (Row.get 5 (T60 .locals) (m38 (c .before) (After-say·gave c)) .ptr) (Row.get 5 (T60 .locals) (m38 (c .before)
-            (After-say·gave c)) .name) (Row.get 5 (T60 .locals) (m38 (c .before) (After-say·gave c)) .now) (dens (c .before .before .before .before
-            .before .before .before .before .before .before .before .before .before .before .before .before .before .before .before .before .before
-            .before .κs) (c .before .before .before .before .before .before .before .before .before .before .before .before .before .before .before
-            .before .before .before .before .before .before .before .args) .1 .1 .1 .1 .0 .now) (same-length-5 record { before = c .before; say = c
-            .say }), (MutSlice.fix-len (Row.get 6 (T60 .locals) (m38 (c .before) (After-say·gave c)) .ptr) (Row.get 6 (T60 .locals) (m38 (c .before)
-            (After-say·gave c)) .name) (Row.get 6 (T60 .locals) (m38 (c .before) (After-say·gave c)) .now) (dens (c .before .before .before .before
-            .before .before .before .before .before .before .before .before .before .before .before .before .before .before .before .before .before
-            .before .κs) (c .before .before .before .before .before .before .before .before .before .before .before .before .before .before .before
-            .before .before .before .before .before .before .before .args) .1 .1 .1 .1 .1 .0 .now) (same-length-6 record { before = c .before; say = c
-            .say }), (tt, tt),),),),),),), returns record { before = c .before; say = c .say },)
-        lay4 : (c : After-run-case) → at26 (W0 (c .before .before .before .before .before .before .before .before .before .before .before .before
-            .before .before .before .κs) (c .before .before .before .before .before .before .before .before .before .before .before .before .before
-            .before .before .args)) (m24 (c .before) (After-run-case·gave c))
-        lay4 = λ c. (Path.refl, λ g. (Path.refl, λ g'. (Path.refl, λ g''. (Path.refl, λ g'3. (Path.refl, λ g'4. λ g'5. (say-requires record { before =
-            record { before = record { before = record { before = record { before = record { before = record { before = c .before; run-case = c
-            .run-case }; pending = record { given = g }; }; circuits = record { given = g' }; }; ledger = record { given = g'' }; }; inflight = record
-            { given = g'3 }; }; out = record { given = g'4 }; }; slice-known4 = record { given = g'5 }; }, λ g'6. lay5 record { before = record {
-            before = record { before = record { before = record { before = record { before = record { before = record { before = c .before; run-case =
-            c .run-case }; pending = record { given = g }; }; circuits = record { given = g' }; }; ledger = record { given = g'' }; }; inflight =
-            record { given = g'3 }; }; out = record { given = g'4 }; }; slice-known4 = record { given = g'5 }; }; say = Called.called ps·4 r·4
-            (claims· .9) T54 (Num.vAt 7 λ x. x, (Num.vAt 10 λ x. x, tt),) (m33 record { before = record { before = record { before = record { before =
-            record { before = record { before = c .before; run-case = c .run-case }; pending = record { given = g }; }; circuits = record { given = g'
-            }; }; ledger = record { given = g'' }; }; inflight = record { given = g'3 }; }; out = record { given = g'4 }; } g'5) g'6; },),),),),),)
-        lay3 : (c : After-put-head) → at51 (W0 (c .before .before .before .before .before .before .κs) (c .before .before .before .before .before
-            .before .args)) (m7 (c .before) (After-put-head·gave c))
-        lay3 = λ c. (Path.refl, λ g. λ g'. λ g''. (Path.refl, λ g'3. (Path.refl, λ g'4. (Path.refl, λ g'5. (Path.refl, λ g'6. (Path.refl, λ g'7.
-            (Path.refl, (run-case-requires record { before = record { before = record { before = record { before = record { before = record { before =
-            record { before = record { before = record { before = c .before; put-head = c .put-head; }; body = record { given = g }; }; slice-known3 =
-            record { given = g' }; }; run-case-arg = record { given = g'' }; }; run-case-arg2 = record { given = g'3 }; }; run-case-arg3 = record {
-            given = g'4 }; }; run-case-arg4 = record { given = g'5 }; }; run-case-arg5 = record { given = g'6 }; }; run-case-arg6 = record { given =
-            g'7 }; }, λ g'8. lay4 record { before = record { before = record { before = record { before = record { before = record { before = record {
-            before = record { before = record { before = record { before = c .before; put-head = c .put-head; }; body = record { given = g }; };
-            slice-known3 = record { given = g' }; }; run-case-arg = record { given = g'' }; }; run-case-arg2 = record { given = g'3 }; };
-            run-case-arg3 = record { given = g'4 }; }; run-case-arg4 = record { given = g'5 }; }; run-case-arg5 = record { given = g'6 }; };
-            run-case-arg6 = record { given = g'7 }; }; run-case = Called.called ps·3 r·3 (claims· .7) T33 (record { pos = 15; ty = Syntax.tyRef
-            Syntax.erased Syntax.mut RelayPending.to; ref = λ x. x; }, (record { pos = 17; ty = Syntax.tyRef Syntax.erased Syntax.mut RelayCircuit.to;
-            ref = λ x. x; }, (record { pos = 19; ty = Syntax.tyRef Syntax.erased Syntax.mut ReservationUsage.to; ref = λ x. x; }, (record { pos = 21;
-            ty = Syntax.tyRef Syntax.erased Syntax.mut InflightAction.to; ref = λ x. x; }, (record { pos = 23; ty = Syntax.tyRef Syntax.erased
-            Syntax.mut (Syntax.tyInt Syntax.w32); ref = λ x. x; }, (record { pos = 25; ty = Syntax.tyRef Syntax.erased Syntax.imm (Syntax.tyInt
-            Syntax.w8); ref = λ x. x; }, (record { pos = 8; st = List.[]; d = 0; at = λ x. x }, tt),),),),),),) (m23 record { before = record { before
-            = record { before = record { before = record { before = record { before = record { before = record { before = c .before; put-head = c
-            .put-head; }; body = record { given = g }; }; slice-known3 = record { given = g' }; }; run-case-arg = record { given = g'' }; };
-            run-case-arg2 = record { given = g'3 }; }; run-case-arg3 = record { given = g'4 }; }; run-case-arg4 = record { given = g'5 }; };
-            run-case-arg5 = record { given = g'6 }; } g'7) g'8; },),),),),),),),)
-        lay2 : (c : After-head-of) → at55 (W0 (c .before .before .before .before .κs) (c .before .before .before .before .args)) (m4 (c .before)
-            (After-head-of·gave c))
-        lay2 = λ c. λ g. (Path.refl, (put-head-requires record { before = record { before = c .before; head-of = c .head-of }; put-head-arg = record {
-            given = g }; }, λ g'. lay3 record { before = record { before = record { before = c .before; head-of = c .head-of }; put-head-arg = record
-            { given = g }; }; put-head = Called.called ps·2 r·2 (claims· .5) T8 (record { pos = 13; ty = Syntax.tyRef Syntax.erased Syntax.mut
-            (Syntax.tyInt Syntax.w8); ref = λ x. x; }, (record { pos = 9; st = List.[]; d = 0; at = λ x. x }, tt),) (m6 record { before = c .before;
-            head-of = c .head-of } g) g'; },),)
-        lay1 : (c : After-script-of) → at56 (W0 (c .before .before .before .κs) (c .before .before .before .args)) (m3 (c .before)
-            (After-script-of·gave c))
-        lay1 = λ c. (head-of-requires record { before = c .before; script-of = c .script-of }, λ g. lay2 record { before = record { before = c
-            .before; script-of = c .script-of }; head-of = Called.called ps·1 r·1 (claims· .3) T4 (Num.vAt 7 λ x. x, tt) (m3 (c .before)
-            (After-script-of·gave c)) g; },)
+      Need-returns = (c : After-say) → Post· (c .before .before .before .before .before .before .before .before .before
+          .before .before .before .before .before .before .before .before .before .before .before .before .before .κs) (dens (c
+          .before .before .before .before .before .before .before .before .before .before .before .before .before
+          .before .before .before .before .before .before .before .before .before .κs) (c .before .before .before
+          .before .before .before .before .before .before .before .before .before .before .before .before .before
+          .before .before .before .before .before .before .args)) (Function.resV r (c .before .before .before .before
+          .before .before .before .before .before .before .before .before .before .before .before .before .before
+          .before .before .before .before .before .κs) (m38 (c .before) (After-say·gave c) .0)) (Clauses.atExit
+          (Kinds.endedOf 6 ps r) (c .before .before .before .before .before .before .before .before .before .before
+          .before .before .before .before .before .before .before .before .before .before .before .before .κs) (dens (c
+          .before .before .before .before .before .before .before .before .before .before .before .before .before
+          .before .before .before .before .before .before .before .before .before .κs) (c .before .before .before
+          .before .before .before .before .before .before .before .before .before .before .before .before .before
+          .before .before .before .before .before .before .args)) (Enter.lastsP (c .before .before .before .before
+          .before .before .before .before .before .before .before .before .before .before .before .before .before
+          .before .before .before .before .before .κs) 1 ps xs (dens (c .before .before .before .before .before .before
+          .before .before .before .before .before .before .before .before .before .before .before .before .before
+          .before .before .before .κs) (c .before .before .before .before .before .before .before .before .before
+          .before .before .before .before .before .before .before .before .before .before .before .before .before
+          .args)) (m38 (c .before) (After-say·gave c) .1)))
+
+      module _ (script-of-requires : Need-script-of-requires) (head-of-requires : Need-head-of-requires)
+          (put-head-requires : Need-put-head-requires) (run-case-requires : Need-run-case-requires)
+          (say-requires : Need-say-requires) (same-length : Need-same-length) (same-length-2 : Need-same-length-2)
+          (same-length-3 : Need-same-length-3) (same-length-4 : Need-same-length-4)
+          (same-length-5 : Need-same-length-5) (same-length-6 : Need-same-length-6) (returns : Need-returns) where
+        lay5 : (c : After-say) → at4 (W0 (c .before .before .before .before .before .before .before .before .before
+            .before .before .before .before .before .before .before .before .before .before .before .before .before .κs) (c
+            .before .before .before .before .before .before .before .before .before .before .before .before .before
+            .before .before .before .before .before .before .before .before .before .args))
+            (m34 (c .before) (After-say·gave c))
+        lay5 = λ c. (
+          (
+            MutSlice.fix-len (Row.get 1 (T60 .locals) (m38 (c .before) (After-say·gave c)) .ptr) (Row.get 1
+                (T60 .locals) (m38 (c .before) (After-say·gave c)) .name) (Row.get 1 (T60 .locals)
+                (m38 (c .before) (After-say·gave c)) .now) (dens (c .before .before .before .before .before .before
+                .before .before .before .before .before .before .before .before .before .before .before .before .before
+                .before .before .before .κs) (c .before .before .before .before .before .before .before .before .before
+                .before .before .before .before .before .before .before .before .before .before .before .before .before
+                .args) .0 .now) (same-length record { before = c .before; say = c .say }),
+            (
+              MutSlice.fix-len (Row.get 2 (T60 .locals) (m38 (c .before) (After-say·gave c)) .ptr) (Row.get 2
+                  (T60 .locals) (m38 (c .before) (After-say·gave c)) .name) (Row.get 2 (T60 .locals)
+                  (m38 (c .before) (After-say·gave c)) .now) (dens (c .before .before .before .before .before .before
+                  .before .before .before .before .before .before .before .before .before .before .before .before
+                  .before .before .before .before .κs) (c .before .before .before .before .before .before .before
+                  .before .before .before .before .before .before .before .before .before .before .before .before
+                  .before .before .before .args) .1 .0 .now) (same-length-2 record {
+                    before = c .before;
+                    say = c .say;
+                  }),
+              (
+                MutSlice.fix-len (Row.get 3 (T60 .locals) (m38 (c .before) (After-say·gave c)) .ptr) (Row.get 3
+                    (T60 .locals) (m38 (c .before) (After-say·gave c)) .name) (Row.get 3 (T60 .locals)
+                    (m38 (c .before) (After-say·gave c)) .now) (dens (c .before .before .before .before .before .before
+                    .before .before .before .before .before .before .before .before .before .before .before .before
+                    .before .before .before .before .κs) (c .before .before .before .before .before .before .before
+                    .before .before .before .before .before .before .before .before .before .before .before .before
+                    .before .before .before .args) .1 .1 .0 .now) (same-length-3
+                    record { before = c .before; say = c .say }),
+                (
+                  MutSlice.fix-len (Row.get 4 (T60 .locals) (m38 (c .before) (After-say·gave c)) .ptr) (Row.get 4
+                      (T60 .locals) (m38 (c .before) (After-say·gave c)) .name) (Row.get 4 (T60 .locals)
+                      (m38 (c .before) (After-say·gave c)) .now) (dens (c .before .before .before .before .before
+                      .before .before .before .before .before .before .before .before .before .before .before .before
+                      .before .before .before .before .before .κs) (c .before .before .before .before .before .before
+                      .before .before .before .before .before .before .before .before .before .before .before .before
+                      .before .before .before .before .args) .1 .1 .1 .0 .now) (same-length-4
+                      record { before = c .before; say = c .say }),
+                  (
+                    MutSlice.fix-len (Row.get 5 (T60 .locals) (m38 (c .before) (After-say·gave c)) .ptr) (Row.get 5
+                        (T60 .locals) (m38 (c .before) (After-say·gave c)) .name) (Row.get 5 (T60 .locals)
+                        (m38 (c .before) (After-say·gave c)) .now) (dens (c .before .before .before .before .before
+                        .before .before .before .before .before .before .before .before .before .before .before .before
+                        .before .before .before .before .before .κs) (c .before .before .before .before .before .before
+                        .before .before .before .before .before .before .before .before .before .before .before .before
+                        .before .before .before .before .args) .1 .1 .1 .1 .0 .now) (same-length-5
+                        record { before = c .before; say = c .say }),
+                    (
+                      MutSlice.fix-len (Row.get 6 (T60 .locals) (m38 (c .before) (After-say·gave c)) .ptr) (Row.get 6
+                          (T60 .locals) (m38 (c .before) (After-say·gave c)) .name) (Row.get 6 (T60 .locals)
+                          (m38 (c .before) (After-say·gave c)) .now) (dens (c .before .before .before .before .before
+                          .before .before .before .before .before .before .before .before .before .before .before
+                          .before .before .before .before .before .before .κs) (c .before .before .before .before
+                          .before .before .before .before .before .before .before .before .before .before .before
+                          .before .before .before .before .before .before .before .args) .1 .1 .1 .1 .1 .0 .now) (same-length-6
+                          record { before = c .before; say = c .say }),
+                      (tt, tt),
+                    ),
+                  ),
+                ),
+              ),
+            ),
+          ),
+          returns record { before = c .before; say = c .say },
+        )
+
+        lay4 : (c : After-run-case) → at26 (W0 (c .before .before .before .before .before .before .before .before
+            .before .before .before .before .before .before .before .κs) (c .before .before .before .before .before
+            .before .before .before .before .before .before .before .before .before .before .args))
+            (m24 (c .before) (After-run-case·gave c))
+        lay4 = λ c. (
+          Path.refl,
+          λ g. (
+            Path.refl,
+            λ g'. (
+              Path.refl,
+              λ g''. (
+                Path.refl,
+                λ g'3. (
+                  Path.refl,
+                  λ g'4. λ g'5. (
+                    say-requires record {
+                      before = record {
+                        before = record {
+                          before = record {
+                            before = record {
+                              before = record {
+                                before = record { before = c .before; run-case = c .run-case };
+                                pending = record { given = g };
+                              };
+                              circuits = record { given = g' };
+                            };
+                            ledger = record { given = g'' };
+                          };
+                          inflight = record { given = g'3 };
+                        };
+                        out = record { given = g'4 };
+                      };
+                      slice-known4 = record { given = g'5 };
+                    },
+                    λ g'6. lay5 record {
+                      before = record {
+                        before = record {
+                          before = record {
+                            before = record {
+                              before = record {
+                                before = record {
+                                  before = record { before = c .before; run-case = c .run-case };
+                                  pending = record { given = g };
+                                };
+                                circuits = record { given = g' };
+                              };
+                              ledger = record { given = g'' };
+                            };
+                            inflight = record { given = g'3 };
+                          };
+                          out = record { given = g'4 };
+                        };
+                        slice-known4 = record { given = g'5 };
+                      };
+                      say = Called.called ps·4 r·4 (claims· .9) T54 args54 (m33
+                          record {
+                            before = record {
+                              before = record {
+                                before = record {
+                                  before = record {
+                                    before = record { before = c .before; run-case = c .run-case };
+                                    pending = record { given = g };
+                                  };
+                                  circuits = record { given = g' };
+                                };
+                                ledger = record { given = g'' };
+                              };
+                              inflight = record { given = g'3 };
+                            };
+                            out = record { given = g'4 };
+                          } g'5) g'6;
+                    },
+                  ),
+                ),
+              ),
+            ),
+          ),
+        )
+
+        lay3 : (c : After-put-head) → at51 (W0 (c .before .before .before .before .before .before .κs)
+            (c .before .before .before .before .before .before .args)) (m7 (c .before) (After-put-head·gave c))
+        lay3 = λ c. (
+          Path.refl,
+          λ g. λ g'. λ g''. (
+            Path.refl,
+            λ g'3. (
+              Path.refl,
+              λ g'4. (
+                Path.refl,
+                λ g'5. (
+                  Path.refl,
+                  λ g'6. (
+                    Path.refl,
+                    λ g'7. (
+                      Path.refl,
+                      (
+                        run-case-requires record {
+                          before = record {
+                            before = record {
+                              before = record {
+                                before = record {
+                                  before = record {
+                                    before = record {
+                                      before = record {
+                                        before = record { before = c .before; put-head = c .put-head };
+                                        body = record { given = g };
+                                      };
+                                      slice-known3 = record { given = g' };
+                                    };
+                                    run-case-arg = record { given = g'' };
+                                  };
+                                  run-case-arg2 = record { given = g'3 };
+                                };
+                                run-case-arg3 = record { given = g'4 };
+                              };
+                              run-case-arg4 = record { given = g'5 };
+                            };
+                            run-case-arg5 = record { given = g'6 };
+                          };
+                          run-case-arg6 = record { given = g'7 };
+                        },
+                        λ g'8. lay4 record {
+                          before = record {
+                            before = record {
+                              before = record {
+                                before = record {
+                                  before = record {
+                                    before = record {
+                                      before = record {
+                                        before = record {
+                                          before = record { before = c .before; put-head = c .put-head };
+                                          body = record { given = g };
+                                        };
+                                        slice-known3 = record { given = g' };
+                                      };
+                                      run-case-arg = record { given = g'' };
+                                    };
+                                    run-case-arg2 = record { given = g'3 };
+                                  };
+                                  run-case-arg3 = record { given = g'4 };
+                                };
+                                run-case-arg4 = record { given = g'5 };
+                              };
+                              run-case-arg5 = record { given = g'6 };
+                            };
+                            run-case-arg6 = record { given = g'7 };
+                          };
+                          run-case = Called.called ps·3 r·3 (claims· .7) T33 args32 (m23
+                              record {
+                                before = record {
+                                  before = record {
+                                    before = record {
+                                      before = record {
+                                        before = record {
+                                          before = record {
+                                            before = record { before = c .before; put-head = c .put-head };
+                                            body = record { given = g };
+                                          };
+                                          slice-known3 = record { given = g' };
+                                        };
+                                        run-case-arg = record { given = g'' };
+                                      };
+                                      run-case-arg2 = record { given = g'3 };
+                                    };
+                                    run-case-arg3 = record { given = g'4 };
+                                  };
+                                  run-case-arg4 = record { given = g'5 };
+                                };
+                                run-case-arg5 = record { given = g'6 };
+                              } g'7) g'8;
+                        },
+                      ),
+                    ),
+                  ),
+                ),
+              ),
+            ),
+          ),
+        )
+
+        lay2 : (c : After-head-of) → at55 (W0 (c .before .before .before .before .κs)
+            (c .before .before .before .before .args)) (m4 (c .before) (After-head-of·gave c))
+        lay2 = λ c. λ g. (
+          Path.refl,
+          (
+            put-head-requires record {
+              before = record { before = c .before; head-of = c .head-of };
+              put-head-arg = record { given = g };
+            },
+            λ g'. lay3 record {
+              before = record {
+                before = record { before = c .before; head-of = c .head-of };
+                put-head-arg = record { given = g };
+              };
+              put-head = Called.called ps·2 r·2 (claims· .5) T8 args7
+                  (m6 record { before = c .before; head-of = c .head-of } g) g';
+            },
+          ),
+        )
+
+        lay1 : (c : After-script-of) → at56 (W0 (c .before .before .before .κs) (c .before .before .before .args))
+            (m3 (c .before) (After-script-of·gave c))
+        lay1 = λ c. (
+          head-of-requires record { before = c .before; script-of = c .script-of },
+          λ g. lay2 record {
+            before = record { before = c .before; script-of = c .script-of };
+            head-of = Called.called ps·1 r·1 (claims· .3) T4 args3 (m3 (c .before) (After-script-of·gave c)) g;
+          },
+        )
+
         pub laid : (c : Start) → at59 (W0 (c .κs) (c .args)) (m0 (c .κs) (c .args))
-        laid = λ c. λ g. λ g'. (script-of-requires record { before = record { before = c; slice-known = record { given = g } }; slice-known2 = record
-            { given = g' }; }, λ g''. lay1 record { before = record { before = record { before = c; slice-known = record { given = g } }; slice-known2
-            = record { given = g' }; }; script-of = Called.called ps·0 r·0 (claims· .1) T3 (Num.vAt 7 λ x. x, tt) (m2 record { before = c; slice-known
-            = record { given = g }; } g') g''; },)
+        laid = λ c. λ g. λ g'. (
+          script-of-requires record {
+            before = record { before = c; slice-known = record { given = g } };
+            slice-known2 = record { given = g' };
+          },
+          λ g''. lay1 record {
+            before = record {
+              before = record { before = c; slice-known = record { given = g } };
+              slice-known2 = record { given = g' };
+            };
+            script-of = Called.called ps·0 r·0 (claims· .1) T3 args2 (m2
+                record { before = c; slice-known = record { given = g } } g') g'';
+          },
+        )
+
         module _ (κs : Lifetimes.Lfts 6) (qs : Lifetimes.Shares 6) where
-          pub asked : (a : Kinds.Dens κs ps) → (good : Kinds.GoodsP κs ps a) → (pre : Pre· κs a) → (bs : List.List Nat.ℕ) → Φ (Any.wantQ 6 ps r xs m
-              κs qs a (Post· κs a)) (Function.init 6 ps r xs m κs qs a)
-          asked = λ a good pre bs. laid record { κs = κs; args = record { pending = a .0; circuits = a .1 .0; ledger = a .1 .1 .0; inflight = a .1 .1
-              .1 .0; out = a .1 .1 .1 .1 .0; body = a .1 .1 .1 .1 .1 .0; case = a .1 .1 .1 .1 .1 .1 .0; }; good = good; fits = record { case = record
-              { fits = good .1 .1 .1 .1 .1 .1 .0 .1 } }; pre = pre; }
-        module _ { M : Type 1 } (𝓤 : URA.URA M) (H : Wp.Heap 𝓤) (A : Atoms.Atoms 𝓤) (W : Kit.Given 𝓤 H A) (𝓣 : Wp.Tables 𝓤 H) (known0 : Plain.Known 𝓤
-            H A W 𝓣 0 ps·0 r·0 (claims· .0) (claims· .1) "cases::script::script_of") (known1 : Plain.Known 𝓤 H A W 𝓣 0 ps·1 r·1 (claims· .2) (claims·
-            .3) "cases::script::head_of") (known2 : Plain.Known 𝓤 H A W 𝓣 1 ps·2 r·2 (claims· .4) (claims· .5) "cases::machine::put_head") (known3 :
-            Plain.Known 𝓤 H A W 𝓣 6 ps·3 r·3 (claims· .6) (claims· .7) "cases::machine::run_case") (known4 : Plain.Known 𝓤 H A W 𝓣 0 ps·4 r·4 (claims·
-            .8) (claims· .9) "cases::machine::say") where
-          pub spec : Statement.Triple 𝓤 (Wp.WpFn 𝓤 H (𝓣 .C) (𝓣 .Λ) (Function.fnOf 6 ps r xs m hs body)) (Function.plainOf 𝓤 H A 6 ps r Pre· Post·)
-          spec = Plain.t-fn-plain 𝓤 H A W 𝓣 6 ps r xs m hs body (λ κs qs bs. Φ) (λ κs qs bs bd. typed κs qs 𝓤 H A W 𝓣 (known0, known1, known2, known3,
-              known4) bs bd) Pre· Post· asked
+          pub asked : (a : Kinds.Dens κs ps) → (good : Kinds.GoodsP κs ps a) → (pre : Pre· κs a) →
+              (bs : List.List Nat.ℕ) → Φ (Any.wantQ 6 ps r xs m κs qs a (Post· κs a))
+              (Function.init 6 ps r xs m κs qs a)
+          asked = λ a good pre bs. laid record {
+            κs = κs;
+            args = record {
+              pending = a .0;
+              circuits = a .1 .0;
+              ledger = a .1 .1 .0;
+              inflight = a .1 .1 .1 .0;
+              out = a .1 .1 .1 .1 .0;
+              body = a .1 .1 .1 .1 .1 .0;
+              case = a .1 .1 .1 .1 .1 .1 .0;
+            };
+            good = good;
+            fits = record { case = record { fits = good .1 .1 .1 .1 .1 .1 .0 .1 } };
+            pre = pre;
+          }
+
+        module _ {M : Type 1} (𝓤 : URA.URA M) (H : Wp.Heap 𝓤) (A : Atoms.Atoms 𝓤) (W : Kit.Given 𝓤 H A)
+            (𝓣 : Wp.Tables 𝓤 H) (known0 : Plain.Known 𝓤 H A W 𝓣 0 ps·0 r·0 (claims· .0) (claims· .1)
+            "cases::script::script_of") (known1 : Plain.Known 𝓤 H A W 𝓣 0 ps·1 r·1 (claims· .2) (claims· .3)
+            "cases::script::head_of") (known2 : Plain.Known 𝓤 H A W 𝓣 1 ps·2 r·2 (claims· .4) (claims· .5)
+            "cases::machine::put_head") (known3 : Plain.Known 𝓤 H A W 𝓣 6 ps·3 r·3 (claims· .6) (claims· .7)
+            "cases::machine::run_case") (known4 : Plain.Known 𝓤 H A W 𝓣 0 ps·4 r·4 (claims· .8) (claims· .9)
+            "cases::machine::say") where
+          pub spec : Statement.Triple 𝓤 (Wp.WpFn 𝓤 H (𝓣 .C) (𝓣 .Λ) (Function.fnOf 6 ps r xs m hs body))
+              (Function.plainOf 𝓤 H A 6 ps r Pre· Post·)
+          spec = Plain.t-fn-plain 𝓤 H A W 𝓣 6 ps r xs m hs body (λ κs qs bs. Φ) (λ κs qs bs bd. typed κs qs 𝓤 H A W 𝓣
+              (known0, known1, known2, known3, known4) bs bd) Pre· Post· asked

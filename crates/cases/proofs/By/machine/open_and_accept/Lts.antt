@@ -4,10 +4,12 @@ use Rattle.cases.proofs.By.InflightAction
 use Rattle.cases.proofs.By.RelayCircuit
 use Rattle.cases.proofs.By.RelayPending
 use Rattle.cases.proofs.By.ReservationUsage
+use Rattle.cases.proofs.StructRow
 use Rattle.hnsr_circuit.proofs.runtime.Relayed
 use Rattle.hnsr_circuit.proofs.runtime.Relayed.Laws
 use borrow.Author.Called
 use borrow.Fn.Any
+use borrow.Fn.Args as Args'
 use borrow.Fn.Call
 use borrow.Fn.Enter
 use borrow.Fn.Frame
@@ -16,7 +18,6 @@ use borrow.Fn.Kinds
 use borrow.Fn.Plain
 use borrow.Kind.MutSlice
 use borrow.Kind.Num
-use borrow.Kind.Value
 use borrow.Rule.Lifetime
 use borrow.Rule.Local
 use borrow.Rule.Scalar
@@ -32,9 +33,7 @@ use borrow.Table.Row
 use borrow.Table.Rows
 use borrow.Table.Typed
 use contract.Lifetimes
-use denote.Exit
 use denote.Struct.Declared
-use denote.Struct.Laws as Laws'
 use denote.Triple.Clauses
 use denote.Triple.Statement
 use ghost.Atoms
@@ -51,1964 +50,3799 @@ use mathlib.Core.List.{_∷_}
 
 abbrev ref0 : Syntax.Ty
 ref0 = Syntax.tyRef Syntax.erased Syntax.mut RelayPending.to
+
 abbrev ref1 : Syntax.Ty
 ref1 = Syntax.tyRef Syntax.erased Syntax.mut RelayCircuit.to
+
 abbrev ref2 : Syntax.Ty
 ref2 = Syntax.tyRef Syntax.erased Syntax.mut ReservationUsage.to
+
 abbrev ref3 : Syntax.Ty
 ref3 = Syntax.tyRef Syntax.erased Syntax.mut InflightAction.to
+
 abbrev ref4 : Syntax.Ty
 ref4 = Syntax.tyRef Syntax.erased Syntax.mut (Syntax.tyInt Syntax.w32)
+
 abbrev ref5 : Syntax.Ty
 ref5 = Syntax.tyRef (Syntax.named 0) Syntax.mut RelayPending.to
+
 abbrev ref6 : Syntax.Ty
 ref6 = Syntax.tyRef (Syntax.named 1) Syntax.mut RelayCircuit.to
+
 abbrev ref7 : Syntax.Ty
 ref7 = Syntax.tyRef (Syntax.named 2) Syntax.mut ReservationUsage.to
+
 abbrev ref8 : Syntax.Ty
 ref8 = Syntax.tyRef (Syntax.named 3) Syntax.mut InflightAction.to
+
 abbrev ref9 : Syntax.Ty
 ref9 = Syntax.tyRef (Syntax.named 4) Syntax.mut (Syntax.tyInt Syntax.w32)
+
+abbrev slice0 : Syntax.Ty
+slice0 = Syntax.tyStruct (38 ∷ 91 ∷ 93 ∷ List.[]) (Syntax.tcons ref0
+    (Syntax.tcons (Syntax.tyInt Syntax.w64) Syntax.tnil))
+
+abbrev slice1 : Syntax.Ty
+slice1 = Syntax.tyStruct (38 ∷ 91 ∷ 93 ∷ List.[]) (Syntax.tcons ref1
+    (Syntax.tcons (Syntax.tyInt Syntax.w64) Syntax.tnil))
+
+abbrev slice2 : Syntax.Ty
+slice2 = Syntax.tyStruct (38 ∷ 91 ∷ 93 ∷ List.[]) (Syntax.tcons ref2
+    (Syntax.tcons (Syntax.tyInt Syntax.w64) Syntax.tnil))
+
+abbrev slice3 : Syntax.Ty
+slice3 = Syntax.tyStruct (38 ∷ 91 ∷ 93 ∷ List.[]) (Syntax.tcons ref3
+    (Syntax.tcons (Syntax.tyInt Syntax.w64) Syntax.tnil))
+
+abbrev slice4 : Syntax.Ty
+slice4 = Syntax.tyStruct (38 ∷ 91 ∷ 93 ∷ List.[]) (Syntax.tcons ref4
+    (Syntax.tcons (Syntax.tyInt Syntax.w64) Syntax.tnil))
+
 abbrev pub ps : List.List (Kinds.PK 5)
-ps = (MutSlice.pMutS RelayPending.row 0 tt) ∷ (MutSlice.pMutS RelayCircuit.row 1 tt) ∷ (MutSlice.pMutS ReservationUsage.row 2 tt) ∷ (MutSlice.pMutS
-    InflightAction.row 3 tt) ∷ (MutSlice.pMutS (Referent.rtF (Referent.fInt Syntax.w32)) 4 tt) ∷ (Value.pVal record { ty = Declared.row
-    Relayed.the-type; one = Path.refl; val = Laws'.val Relayed.the-type Laws.the-laws; tells = Laws'.tells Relayed.the-type Laws.the-laws; still =
-    Laws'.still Relayed.the-type Laws.the-copy Exit.yes; row = Rows.whole (Declared.row Relayed.the-type); rd = λ x. x; mk = λ x. x; } λ M 𝓤 H A W.
-    record { copies = Laws'.copy Relayed.the-type Laws.the-copy 𝓤 H A W; lawful = Laws'.lawful Relayed.the-type Laws.the-laws 𝓤 H A W; makes =
-    Laws'.makes Relayed.the-type Laws.the-plain 𝓤 H A; in-mem = Local.mem-whole 𝓤 H A W (Declared.row Relayed.the-type); of-mem = Local.whole-mem 𝓤 H
-    A W (Declared.row Relayed.the-type); }) ∷ (Num.pNum Syntax.w64) ∷ List.[]
+ps = (MutSlice.pMutS RelayPending.row 0 tt) ∷ (MutSlice.pMutS RelayCircuit.row 1 tt) ∷
+    (MutSlice.pMutS ReservationUsage.row 2 tt) ∷ (MutSlice.pMutS InflightAction.row 3 tt) ∷ (MutSlice.pMutS
+    (Referent.rtF (Referent.fInt Syntax.w32)) 4 tt) ∷ (StructRow.param Relayed.the-type Laws.the-laws Laws.the-copy
+    Laws.the-plain) ∷ (Num.pNum Syntax.w64) ∷ List.[]
+
 abbrev pub r : Kinds.RK 5
-r = Value.rVal record { ty = Declared.row Relayed.the-type; one = Path.refl; val = Laws'.val Relayed.the-type Laws.the-laws; tells = Laws'.tells
-    Relayed.the-type Laws.the-laws; still = Laws'.still Relayed.the-type Laws.the-copy Exit.yes; row = Rows.whole (Declared.row Relayed.the-type); rd
-    = λ x. x; mk = λ x. x; } λ M 𝓤 H A W. record { copies = Laws'.copy Relayed.the-type Laws.the-copy 𝓤 H A W; lawful = Laws'.lawful Relayed.the-type
-    Laws.the-laws 𝓤 H A W; makes = Laws'.makes Relayed.the-type Laws.the-plain 𝓤 H A; in-mem = Local.mem-whole 𝓤 H A W (Declared.row
-    Relayed.the-type); of-mem = Local.whole-mem 𝓤 H A W (Declared.row Relayed.the-type); }
+r = StructRow.result Relayed.the-type Laws.the-laws Laws.the-copy Laws.the-plain
+
 abbrev pub xs : List.List Syntax.Ty
-xs = Laws.mir ∷ ref0 ∷ (Syntax.tyStruct (38 ∷ 91 ∷ 93 ∷ List.[]) (Syntax.tcons ref0 (Syntax.tcons (Syntax.tyInt Syntax.w64) Syntax.tnil))) ∷ ref1 ∷
-    (Syntax.tyStruct (38 ∷ 91 ∷ 93 ∷ List.[]) (Syntax.tcons ref1 (Syntax.tcons (Syntax.tyInt Syntax.w64) Syntax.tnil))) ∷ ref2 ∷ (Syntax.tyStruct (38
-    ∷ 91 ∷ 93 ∷ List.[]) (Syntax.tcons ref2 (Syntax.tcons (Syntax.tyInt Syntax.w64) Syntax.tnil))) ∷ ref3 ∷ (Syntax.tyStruct (38 ∷ 91 ∷ 93 ∷ List.[])
-    (Syntax.tcons ref3 (Syntax.tcons (Syntax.tyInt Syntax.w64) Syntax.tnil))) ∷ ref4 ∷ (Syntax.tyStruct (38 ∷ 91 ∷ 93 ∷ List.[]) (Syntax.tcons ref4
-    (Syntax.tcons (Syntax.tyInt Syntax.w64) Syntax.tnil))) ∷ ref0 ∷ (Syntax.tyStruct (38 ∷ 91 ∷ 93 ∷ List.[]) (Syntax.tcons ref0 (Syntax.tcons
-    (Syntax.tyInt Syntax.w64) Syntax.tnil))) ∷ ref1 ∷ (Syntax.tyStruct (38 ∷ 91 ∷ 93 ∷ List.[]) (Syntax.tcons ref1 (Syntax.tcons (Syntax.tyInt
-    Syntax.w64) Syntax.tnil))) ∷ ref2 ∷ (Syntax.tyStruct (38 ∷ 91 ∷ 93 ∷ List.[]) (Syntax.tcons ref2 (Syntax.tcons (Syntax.tyInt Syntax.w64)
-    Syntax.tnil))) ∷ ref3 ∷ (Syntax.tyStruct (38 ∷ 91 ∷ 93 ∷ List.[]) (Syntax.tcons ref3 (Syntax.tcons (Syntax.tyInt Syntax.w64) Syntax.tnil))) ∷ ref4
-    ∷ (Syntax.tyStruct (38 ∷ 91 ∷ 93 ∷ List.[]) (Syntax.tcons ref4 (Syntax.tcons (Syntax.tyInt Syntax.w64) Syntax.tnil))) ∷ List.[]
+xs = Laws.mir ∷ ref0 ∷ slice0 ∷ ref1 ∷ slice1 ∷ ref2 ∷ slice2 ∷ ref3 ∷ slice3 ∷ ref4 ∷ slice4 ∷ ref0 ∷ slice0 ∷ ref1 ∷
+    slice1 ∷ ref2 ∷ slice2 ∷ ref3 ∷ slice3 ∷ ref4 ∷ slice4 ∷ List.[]
+
 abbrev pub m : Nat.ℕ
 m = 10
+
 abbrev pub ps·0 : List.List (Kinds.PK 5)
-ps·0 = (MutSlice.pMutS RelayPending.row 0 tt) ∷ (MutSlice.pMutS RelayCircuit.row 1 tt) ∷ (MutSlice.pMutS ReservationUsage.row 2 tt) ∷ (MutSlice.pMutS
-    InflightAction.row 3 tt) ∷ (MutSlice.pMutS (Referent.rtF (Referent.fInt Syntax.w32)) 4 tt) ∷ (Value.pVal record { ty = Declared.row
-    Relayed.the-type; one = Path.refl; val = Laws'.val Relayed.the-type Laws.the-laws; tells = Laws'.tells Relayed.the-type Laws.the-laws; still =
-    Laws'.still Relayed.the-type Laws.the-copy Exit.yes; row = Rows.whole (Declared.row Relayed.the-type); rd = λ x. x; mk = λ x. x; } λ M 𝓤 H A W.
-    record { copies = Laws'.copy Relayed.the-type Laws.the-copy 𝓤 H A W; lawful = Laws'.lawful Relayed.the-type Laws.the-laws 𝓤 H A W; makes =
-    Laws'.makes Relayed.the-type Laws.the-plain 𝓤 H A; in-mem = Local.mem-whole 𝓤 H A W (Declared.row Relayed.the-type); of-mem = Local.whole-mem 𝓤 H
-    A W (Declared.row Relayed.the-type); }) ∷ List.[]
+ps·0 = (MutSlice.pMutS RelayPending.row 0 tt) ∷ (MutSlice.pMutS RelayCircuit.row 1 tt) ∷
+    (MutSlice.pMutS ReservationUsage.row 2 tt) ∷ (MutSlice.pMutS InflightAction.row 3 tt) ∷ (MutSlice.pMutS
+    (Referent.rtF (Referent.fInt Syntax.w32)) 4 tt) ∷ (StructRow.param Relayed.the-type Laws.the-laws Laws.the-copy
+    Laws.the-plain) ∷ List.[]
+
 abbrev pub r·0 : Kinds.RK 5
-r·0 = Value.rVal record { ty = Declared.row Relayed.the-type; one = Path.refl; val = Laws'.val Relayed.the-type Laws.the-laws; tells = Laws'.tells
-    Relayed.the-type Laws.the-laws; still = Laws'.still Relayed.the-type Laws.the-copy Exit.yes; row = Rows.whole (Declared.row Relayed.the-type); rd
-    = λ x. x; mk = λ x. x; } λ M 𝓤 H A W. record { copies = Laws'.copy Relayed.the-type Laws.the-copy 𝓤 H A W; lawful = Laws'.lawful Relayed.the-type
-    Laws.the-laws 𝓤 H A W; makes = Laws'.makes Relayed.the-type Laws.the-plain 𝓤 H A; in-mem = Local.mem-whole 𝓤 H A W (Declared.row
-    Relayed.the-type); of-mem = Local.whole-mem 𝓤 H A W (Declared.row Relayed.the-type); }
+r·0 = StructRow.result Relayed.the-type Laws.the-laws Laws.the-copy Laws.the-plain
+
 abbrev pub ps·1 : List.List (Kinds.PK 5)
-ps·1 = (MutSlice.pMutS RelayPending.row 0 tt) ∷ (MutSlice.pMutS RelayCircuit.row 1 tt) ∷ (MutSlice.pMutS ReservationUsage.row 2 tt) ∷ (MutSlice.pMutS
-    InflightAction.row 3 tt) ∷ (MutSlice.pMutS (Referent.rtF (Referent.fInt Syntax.w32)) 4 tt) ∷ (Value.pVal record { ty = Declared.row
-    Relayed.the-type; one = Path.refl; val = Laws'.val Relayed.the-type Laws.the-laws; tells = Laws'.tells Relayed.the-type Laws.the-laws; still =
-    Laws'.still Relayed.the-type Laws.the-copy Exit.yes; row = Rows.whole (Declared.row Relayed.the-type); rd = λ x. x; mk = λ x. x; } λ M 𝓤 H A W.
-    record { copies = Laws'.copy Relayed.the-type Laws.the-copy 𝓤 H A W; lawful = Laws'.lawful Relayed.the-type Laws.the-laws 𝓤 H A W; makes =
-    Laws'.makes Relayed.the-type Laws.the-plain 𝓤 H A; in-mem = Local.mem-whole 𝓤 H A W (Declared.row Relayed.the-type); of-mem = Local.whole-mem 𝓤 H
-    A W (Declared.row Relayed.the-type); }) ∷ (Num.pNum Syntax.w64) ∷ List.[]
+ps·1 = (MutSlice.pMutS RelayPending.row 0 tt) ∷ (MutSlice.pMutS RelayCircuit.row 1 tt) ∷
+    (MutSlice.pMutS ReservationUsage.row 2 tt) ∷ (MutSlice.pMutS InflightAction.row 3 tt) ∷ (MutSlice.pMutS
+    (Referent.rtF (Referent.fInt Syntax.w32)) 4 tt) ∷ (StructRow.param Relayed.the-type Laws.the-laws Laws.the-copy
+    Laws.the-plain) ∷ (Num.pNum Syntax.w64) ∷ List.[]
+
 abbrev pub r·1 : Kinds.RK 5
-r·1 = Value.rVal record { ty = Declared.row Relayed.the-type; one = Path.refl; val = Laws'.val Relayed.the-type Laws.the-laws; tells = Laws'.tells
-    Relayed.the-type Laws.the-laws; still = Laws'.still Relayed.the-type Laws.the-copy Exit.yes; row = Rows.whole (Declared.row Relayed.the-type); rd
-    = λ x. x; mk = λ x. x; } λ M 𝓤 H A W. record { copies = Laws'.copy Relayed.the-type Laws.the-copy 𝓤 H A W; lawful = Laws'.lawful Relayed.the-type
-    Laws.the-laws 𝓤 H A W; makes = Laws'.makes Relayed.the-type Laws.the-plain 𝓤 H A; in-mem = Local.mem-whole 𝓤 H A W (Declared.row
-    Relayed.the-type); of-mem = Local.whole-mem 𝓤 H A W (Declared.row Relayed.the-type); }
+r·1 = StructRow.result Relayed.the-type Laws.the-laws Laws.the-copy Laws.the-plain
+
 abbrev pub hs : List.List Syntax.Home
-hs = Syntax.valueLocal ∷ Syntax.valueLocal ∷ Syntax.valueLocal ∷ Syntax.valueLocal ∷ Syntax.valueLocal ∷ Syntax.valueLocal ∷ Syntax.valueLocal ∷
-    Syntax.valueLocal ∷ Syntax.valueLocal ∷ Syntax.valueLocal ∷ Syntax.valueLocal ∷ Syntax.valueLocal ∷ Syntax.valueLocal ∷ Syntax.valueLocal ∷
-    Syntax.valueLocal ∷ Syntax.valueLocal ∷ Syntax.valueLocal ∷ Syntax.valueLocal ∷ Syntax.valueLocal ∷ Syntax.valueLocal ∷ Syntax.valueLocal ∷
-    Syntax.valueLocal ∷ Syntax.valueLocal ∷ Syntax.valueLocal ∷ Syntax.valueLocal ∷ Syntax.valueLocal ∷ Syntax.valueLocal ∷ Syntax.valueLocal ∷
-    Syntax.valueLocal ∷ List.[]
+hs = Syntax.valueLocal ∷ Syntax.valueLocal ∷ Syntax.valueLocal ∷ Syntax.valueLocal ∷ Syntax.valueLocal ∷
+    Syntax.valueLocal ∷ Syntax.valueLocal ∷ Syntax.valueLocal ∷ Syntax.valueLocal ∷ Syntax.valueLocal ∷
+    Syntax.valueLocal ∷ Syntax.valueLocal ∷ Syntax.valueLocal ∷ Syntax.valueLocal ∷ Syntax.valueLocal ∷
+    Syntax.valueLocal ∷ Syntax.valueLocal ∷ Syntax.valueLocal ∷ Syntax.valueLocal ∷ Syntax.valueLocal ∷
+    Syntax.valueLocal ∷ Syntax.valueLocal ∷ Syntax.valueLocal ∷ Syntax.valueLocal ∷ Syntax.valueLocal ∷
+    Syntax.valueLocal ∷ Syntax.valueLocal ∷ Syntax.valueLocal ∷ Syntax.valueLocal ∷ List.[]
+
 abbrev b0 : Syntax.Body
-b0 = Syntax.assign (Syntax.place 9 List.[]) (Syntax.addrOf (Syntax.place 1 ((Syntax.field 0) ∷ (Syntax.deref RelayPending.ty) ∷ List.[])))
+b0 = Syntax.assign (Syntax.place 9 List.[]) (Syntax.addrOf (Syntax.place 1 ((Syntax.field 0) ∷
+    (Syntax.deref RelayPending.ty) ∷ List.[])))
+
 abbrev b1 : Syntax.Body
-b1 = Syntax.assign (Syntax.place 10 List.[]) (Syntax.aggregate ((Syntax.copy (Syntax.place 9 List.[])) ∷ (Syntax.copy (Syntax.place 1 ((Syntax.field
-    1) ∷ List.[]))) ∷ List.[]))
+b1 = Syntax.assign (Syntax.place 10 List.[]) (Syntax.aggregate ((Syntax.copy (Syntax.place 9 List.[])) ∷
+    (Syntax.copy (Syntax.place 1 ((Syntax.field 1) ∷ List.[]))) ∷ List.[]))
+
 abbrev b2 : Syntax.Body
-b2 = Syntax.assign (Syntax.place 11 List.[]) (Syntax.addrOf (Syntax.place 2 ((Syntax.field 0) ∷ (Syntax.deref RelayCircuit.ty) ∷ List.[])))
+b2 = Syntax.assign (Syntax.place 11 List.[]) (Syntax.addrOf (Syntax.place 2 ((Syntax.field 0) ∷
+    (Syntax.deref RelayCircuit.ty) ∷ List.[])))
+
 abbrev b3 : Syntax.Body
-b3 = Syntax.assign (Syntax.place 12 List.[]) (Syntax.aggregate ((Syntax.copy (Syntax.place 11 List.[])) ∷ (Syntax.copy (Syntax.place 2 ((Syntax.field
-    1) ∷ List.[]))) ∷ List.[]))
+b3 = Syntax.assign (Syntax.place 12 List.[]) (Syntax.aggregate ((Syntax.copy (Syntax.place 11 List.[])) ∷
+    (Syntax.copy (Syntax.place 2 ((Syntax.field 1) ∷ List.[]))) ∷ List.[]))
+
 abbrev b4 : Syntax.Body
-b4 = Syntax.assign (Syntax.place 13 List.[]) (Syntax.addrOf (Syntax.place 3 ((Syntax.field 0) ∷ (Syntax.deref ReservationUsage.ty) ∷ List.[])))
+b4 = Syntax.assign (Syntax.place 13 List.[]) (Syntax.addrOf (Syntax.place 3 ((Syntax.field 0) ∷
+    (Syntax.deref ReservationUsage.ty) ∷ List.[])))
+
 abbrev b5 : Syntax.Body
-b5 = Syntax.assign (Syntax.place 14 List.[]) (Syntax.aggregate ((Syntax.copy (Syntax.place 13 List.[])) ∷ (Syntax.copy (Syntax.place 3 ((Syntax.field
-    1) ∷ List.[]))) ∷ List.[]))
+b5 = Syntax.assign (Syntax.place 14 List.[]) (Syntax.aggregate ((Syntax.copy (Syntax.place 13 List.[])) ∷
+    (Syntax.copy (Syntax.place 3 ((Syntax.field 1) ∷ List.[]))) ∷ List.[]))
+
 abbrev b6 : Syntax.Body
-b6 = Syntax.assign (Syntax.place 15 List.[]) (Syntax.addrOf (Syntax.place 4 ((Syntax.field 0) ∷ (Syntax.deref InflightAction.ty) ∷ List.[])))
+b6 = Syntax.assign (Syntax.place 15 List.[]) (Syntax.addrOf (Syntax.place 4 ((Syntax.field 0) ∷
+    (Syntax.deref InflightAction.ty) ∷ List.[])))
+
 abbrev b7 : Syntax.Body
-b7 = Syntax.assign (Syntax.place 16 List.[]) (Syntax.aggregate ((Syntax.copy (Syntax.place 15 List.[])) ∷ (Syntax.copy (Syntax.place 4 ((Syntax.field
-    1) ∷ List.[]))) ∷ List.[]))
+b7 = Syntax.assign (Syntax.place 16 List.[]) (Syntax.aggregate ((Syntax.copy (Syntax.place 15 List.[])) ∷
+    (Syntax.copy (Syntax.place 4 ((Syntax.field 1) ∷ List.[]))) ∷ List.[]))
+
 abbrev b8 : Syntax.Body
-b8 = Syntax.assign (Syntax.place 17 List.[]) (Syntax.addrOf (Syntax.place 5 ((Syntax.field 0) ∷ (Syntax.deref (Syntax.tyInt Syntax.w32)) ∷ List.[])))
+b8 = Syntax.assign (Syntax.place 17 List.[]) (Syntax.addrOf (Syntax.place 5 ((Syntax.field 0) ∷
+    (Syntax.deref (Syntax.tyInt Syntax.w32)) ∷ List.[])))
+
 abbrev b9 : Syntax.Body
-b9 = Syntax.assign (Syntax.place 18 List.[]) (Syntax.aggregate ((Syntax.copy (Syntax.place 17 List.[])) ∷ (Syntax.copy (Syntax.place 5 ((Syntax.field
-    1) ∷ List.[]))) ∷ List.[]))
+b9 = Syntax.assign (Syntax.place 18 List.[]) (Syntax.aggregate ((Syntax.copy (Syntax.place 17 List.[])) ∷
+    (Syntax.copy (Syntax.place 5 ((Syntax.field 1) ∷ List.[]))) ∷ List.[]))
+
 abbrev b10 : Syntax.Body
-b10 = Syntax.call "cases::machine::open_circuit" ((Syntax.copy (Syntax.place 10 List.[])) ∷ (Syntax.copy (Syntax.place 12 List.[])) ∷ (Syntax.copy
-    (Syntax.place 14 List.[])) ∷ (Syntax.copy (Syntax.place 16 List.[])) ∷ (Syntax.copy (Syntax.place 18 List.[])) ∷ (Syntax.copy (Syntax.place 6
-    List.[])) ∷ List.[]) (Syntax.place 8 List.[])
+b10 = Syntax.call "cases::machine::open_circuit" ((Syntax.copy (Syntax.place 10 List.[])) ∷
+    (Syntax.copy (Syntax.place 12 List.[])) ∷ (Syntax.copy (Syntax.place 14 List.[])) ∷
+    (Syntax.copy (Syntax.place 16 List.[])) ∷ (Syntax.copy (Syntax.place 18 List.[])) ∷
+    (Syntax.copy (Syntax.place 6 List.[])) ∷ List.[]) (Syntax.place 8 List.[])
+
 abbrev b11 : Syntax.Body
-b11 = Syntax.assign (Syntax.place 19 List.[]) (Syntax.addrOf (Syntax.place 1 ((Syntax.field 0) ∷ (Syntax.deref RelayPending.ty) ∷ List.[])))
+b11 = Syntax.assign (Syntax.place 19 List.[]) (Syntax.addrOf (Syntax.place 1 ((Syntax.field 0) ∷
+    (Syntax.deref RelayPending.ty) ∷ List.[])))
+
 abbrev b12 : Syntax.Body
-b12 = Syntax.assign (Syntax.place 20 List.[]) (Syntax.aggregate ((Syntax.copy (Syntax.place 19 List.[])) ∷ (Syntax.copy (Syntax.place 1 ((Syntax.field
-    1) ∷ List.[]))) ∷ List.[]))
+b12 = Syntax.assign (Syntax.place 20 List.[]) (Syntax.aggregate ((Syntax.copy (Syntax.place 19 List.[])) ∷
+    (Syntax.copy (Syntax.place 1 ((Syntax.field 1) ∷ List.[]))) ∷ List.[]))
+
 abbrev b13 : Syntax.Body
-b13 = Syntax.assign (Syntax.place 21 List.[]) (Syntax.addrOf (Syntax.place 2 ((Syntax.field 0) ∷ (Syntax.deref RelayCircuit.ty) ∷ List.[])))
+b13 = Syntax.assign (Syntax.place 21 List.[]) (Syntax.addrOf (Syntax.place 2 ((Syntax.field 0) ∷
+    (Syntax.deref RelayCircuit.ty) ∷ List.[])))
+
 abbrev b14 : Syntax.Body
-b14 = Syntax.assign (Syntax.place 22 List.[]) (Syntax.aggregate ((Syntax.copy (Syntax.place 21 List.[])) ∷ (Syntax.copy (Syntax.place 2 ((Syntax.field
-    1) ∷ List.[]))) ∷ List.[]))
+b14 = Syntax.assign (Syntax.place 22 List.[]) (Syntax.aggregate ((Syntax.copy (Syntax.place 21 List.[])) ∷
+    (Syntax.copy (Syntax.place 2 ((Syntax.field 1) ∷ List.[]))) ∷ List.[]))
+
 abbrev b15 : Syntax.Body
-b15 = Syntax.assign (Syntax.place 23 List.[]) (Syntax.addrOf (Syntax.place 3 ((Syntax.field 0) ∷ (Syntax.deref ReservationUsage.ty) ∷ List.[])))
+b15 = Syntax.assign (Syntax.place 23 List.[]) (Syntax.addrOf (Syntax.place 3 ((Syntax.field 0) ∷
+    (Syntax.deref ReservationUsage.ty) ∷ List.[])))
+
 abbrev b16 : Syntax.Body
-b16 = Syntax.assign (Syntax.place 24 List.[]) (Syntax.aggregate ((Syntax.copy (Syntax.place 23 List.[])) ∷ (Syntax.copy (Syntax.place 3 ((Syntax.field
-    1) ∷ List.[]))) ∷ List.[]))
+b16 = Syntax.assign (Syntax.place 24 List.[]) (Syntax.aggregate ((Syntax.copy (Syntax.place 23 List.[])) ∷
+    (Syntax.copy (Syntax.place 3 ((Syntax.field 1) ∷ List.[]))) ∷ List.[]))
+
 abbrev b17 : Syntax.Body
-b17 = Syntax.assign (Syntax.place 25 List.[]) (Syntax.addrOf (Syntax.place 4 ((Syntax.field 0) ∷ (Syntax.deref InflightAction.ty) ∷ List.[])))
+b17 = Syntax.assign (Syntax.place 25 List.[]) (Syntax.addrOf (Syntax.place 4 ((Syntax.field 0) ∷
+    (Syntax.deref InflightAction.ty) ∷ List.[])))
+
 abbrev b18 : Syntax.Body
-b18 = Syntax.assign (Syntax.place 26 List.[]) (Syntax.aggregate ((Syntax.copy (Syntax.place 25 List.[])) ∷ (Syntax.copy (Syntax.place 4 ((Syntax.field
-    1) ∷ List.[]))) ∷ List.[]))
+b18 = Syntax.assign (Syntax.place 26 List.[]) (Syntax.aggregate ((Syntax.copy (Syntax.place 25 List.[])) ∷
+    (Syntax.copy (Syntax.place 4 ((Syntax.field 1) ∷ List.[]))) ∷ List.[]))
+
 abbrev b19 : Syntax.Body
-b19 = Syntax.assign (Syntax.place 27 List.[]) (Syntax.addrOf (Syntax.place 5 ((Syntax.field 0) ∷ (Syntax.deref (Syntax.tyInt Syntax.w32)) ∷ List.[])))
+b19 = Syntax.assign (Syntax.place 27 List.[]) (Syntax.addrOf (Syntax.place 5 ((Syntax.field 0) ∷
+    (Syntax.deref (Syntax.tyInt Syntax.w32)) ∷ List.[])))
+
 abbrev b20 : Syntax.Body
-b20 = Syntax.assign (Syntax.place 28 List.[]) (Syntax.aggregate ((Syntax.copy (Syntax.place 27 List.[])) ∷ (Syntax.copy (Syntax.place 5 ((Syntax.field
-    1) ∷ List.[]))) ∷ List.[]))
+b20 = Syntax.assign (Syntax.place 28 List.[]) (Syntax.aggregate ((Syntax.copy (Syntax.place 27 List.[])) ∷
+    (Syntax.copy (Syntax.place 5 ((Syntax.field 1) ∷ List.[]))) ∷ List.[]))
+
 abbrev b21 : Syntax.Body
-b21 = Syntax.call "cases::machine::accept_circuit" ((Syntax.copy (Syntax.place 20 List.[])) ∷ (Syntax.copy (Syntax.place 22 List.[])) ∷ (Syntax.copy
-    (Syntax.place 24 List.[])) ∷ (Syntax.copy (Syntax.place 26 List.[])) ∷ (Syntax.copy (Syntax.place 28 List.[])) ∷ (Syntax.copy (Syntax.place 8
-    List.[])) ∷ (Syntax.copy (Syntax.place 7 List.[])) ∷ List.[]) (Syntax.place 0 List.[])
+b21 = Syntax.call "cases::machine::accept_circuit" ((Syntax.copy (Syntax.place 20 List.[])) ∷
+    (Syntax.copy (Syntax.place 22 List.[])) ∷ (Syntax.copy (Syntax.place 24 List.[])) ∷
+    (Syntax.copy (Syntax.place 26 List.[])) ∷ (Syntax.copy (Syntax.place 28 List.[])) ∷
+    (Syntax.copy (Syntax.place 8 List.[])) ∷ (Syntax.copy (Syntax.place 7 List.[])) ∷ List.[]) (Syntax.place 0 List.[])
+
 abbrev b22 : Syntax.Body
 b22 = Syntax.return
+
 abbrev b23 : Syntax.Body
 b23 = Syntax.seq b21 b22
+
 abbrev b24 : Syntax.Body
 b24 = Syntax.seq b20 b23
+
 abbrev b25 : Syntax.Body
 b25 = Syntax.seq b19 b24
+
 abbrev b26 : Syntax.Body
 b26 = Syntax.seq b18 b25
+
 abbrev b27 : Syntax.Body
 b27 = Syntax.seq b17 b26
+
 abbrev b28 : Syntax.Body
 b28 = Syntax.seq b16 b27
+
 abbrev b29 : Syntax.Body
 b29 = Syntax.seq b15 b28
+
 abbrev b30 : Syntax.Body
 b30 = Syntax.seq b14 b29
+
 abbrev b31 : Syntax.Body
 b31 = Syntax.seq b13 b30
+
 abbrev b32 : Syntax.Body
 b32 = Syntax.seq b12 b31
+
 abbrev b33 : Syntax.Body
 b33 = Syntax.seq b11 b32
+
 abbrev b34 : Syntax.Body
 b34 = Syntax.seq b10 b33
+
 abbrev b35 : Syntax.Body
 b35 = Syntax.seq b9 b34
+
 abbrev b36 : Syntax.Body
 b36 = Syntax.seq b8 b35
+
 abbrev b37 : Syntax.Body
 b37 = Syntax.seq b7 b36
+
 abbrev b38 : Syntax.Body
 b38 = Syntax.seq b6 b37
+
 abbrev b39 : Syntax.Body
 b39 = Syntax.seq b5 b38
+
 abbrev b40 : Syntax.Body
 b40 = Syntax.seq b4 b39
+
 abbrev b41 : Syntax.Body
 b41 = Syntax.seq b3 b40
+
 abbrev b42 : Syntax.Body
 b42 = Syntax.seq b2 b41
+
 abbrev b43 : Syntax.Body
 b43 = Syntax.seq b1 b42
+
 abbrev b44 : Syntax.Body
 b44 = Syntax.seq b0 b43
+
 abbrev pub body : Syntax.Body
 body = b44
+
 abbrev pub Claims : Type 1
 Claims = Kinds.In 5 ps·0 × Kinds.Out 5 ps·0 r·0 × Kinds.In 5 ps·1 × Kinds.Out 5 ps·1 r·1
+
 abbrev e0 : Row.Entry
 e0 = (0, Rows.any-gone Laws.mir)
+
 abbrev e1 : Row.Entry
 e1 = (1, Mut.mslice RelayPending.row ref5 0)
+
 abbrev e2 : Row.Entry
 e2 = (2, Mut.mslice RelayCircuit.row ref6 1)
+
 abbrev e3 : Row.Entry
 e3 = (3, Mut.mslice ReservationUsage.row ref7 2)
+
 abbrev e4 : Row.Entry
 e4 = (4, Mut.mslice InflightAction.row ref8 3)
+
 abbrev e5 : Row.Entry
 e5 = (5, Mut.mslice (Referent.rtF (Referent.fInt Syntax.w32)) ref9 4)
+
 abbrev e6 : Row.Entry
 e6 = (6, Rows.whole (Declared.row Relayed.the-type))
+
 abbrev e7 : Row.Entry
 e7 = (7, Rows.sc-here (Row.sInt Syntax.w64))
+
 abbrev e8 : Row.Entry
 e8 = (8, Rows.any-gone Laws.mir)
+
 abbrev e9 : Row.Entry
 e9 = (9, Rows.any-gone ref0)
+
 abbrev e10 : Row.Entry
-e10 = (10, Rows.any-gone (Syntax.tyStruct (38 ∷ 91 ∷ 93 ∷ List.[]) (Syntax.tcons ref0 (Syntax.tcons (Syntax.tyInt Syntax.w64) Syntax.tnil))))
+e10 = (10, Rows.any-gone slice0)
+
 abbrev e11 : Row.Entry
 e11 = (11, Rows.any-gone ref1)
+
 abbrev e12 : Row.Entry
-e12 = (12, Rows.any-gone (Syntax.tyStruct (38 ∷ 91 ∷ 93 ∷ List.[]) (Syntax.tcons ref1 (Syntax.tcons (Syntax.tyInt Syntax.w64) Syntax.tnil))))
+e12 = (12, Rows.any-gone slice1)
+
 abbrev e13 : Row.Entry
 e13 = (13, Rows.any-gone ref2)
+
 abbrev e14 : Row.Entry
-e14 = (14, Rows.any-gone (Syntax.tyStruct (38 ∷ 91 ∷ 93 ∷ List.[]) (Syntax.tcons ref2 (Syntax.tcons (Syntax.tyInt Syntax.w64) Syntax.tnil))))
+e14 = (14, Rows.any-gone slice2)
+
 abbrev e15 : Row.Entry
 e15 = (15, Rows.any-gone ref3)
+
 abbrev e16 : Row.Entry
-e16 = (16, Rows.any-gone (Syntax.tyStruct (38 ∷ 91 ∷ 93 ∷ List.[]) (Syntax.tcons ref3 (Syntax.tcons (Syntax.tyInt Syntax.w64) Syntax.tnil))))
+e16 = (16, Rows.any-gone slice3)
+
 abbrev e17 : Row.Entry
 e17 = (17, Rows.any-gone ref4)
+
 abbrev e18 : Row.Entry
-e18 = (18, Rows.any-gone (Syntax.tyStruct (38 ∷ 91 ∷ 93 ∷ List.[]) (Syntax.tcons ref4 (Syntax.tcons (Syntax.tyInt Syntax.w64) Syntax.tnil))))
+e18 = (18, Rows.any-gone slice4)
+
 abbrev e19 : Row.Entry
 e19 = (19, Rows.any-gone ref0)
+
 abbrev e20 : Row.Entry
-e20 = (20, Rows.any-gone (Syntax.tyStruct (38 ∷ 91 ∷ 93 ∷ List.[]) (Syntax.tcons ref0 (Syntax.tcons (Syntax.tyInt Syntax.w64) Syntax.tnil))))
+e20 = (20, Rows.any-gone slice0)
+
 abbrev e21 : Row.Entry
 e21 = (21, Rows.any-gone ref1)
+
 abbrev e22 : Row.Entry
-e22 = (22, Rows.any-gone (Syntax.tyStruct (38 ∷ 91 ∷ 93 ∷ List.[]) (Syntax.tcons ref1 (Syntax.tcons (Syntax.tyInt Syntax.w64) Syntax.tnil))))
+e22 = (22, Rows.any-gone slice1)
+
 abbrev e23 : Row.Entry
 e23 = (23, Rows.any-gone ref2)
+
 abbrev e24 : Row.Entry
-e24 = (24, Rows.any-gone (Syntax.tyStruct (38 ∷ 91 ∷ 93 ∷ List.[]) (Syntax.tcons ref2 (Syntax.tcons (Syntax.tyInt Syntax.w64) Syntax.tnil))))
+e24 = (24, Rows.any-gone slice2)
+
 abbrev e25 : Row.Entry
 e25 = (25, Rows.any-gone ref3)
+
 abbrev e26 : Row.Entry
-e26 = (26, Rows.any-gone (Syntax.tyStruct (38 ∷ 91 ∷ 93 ∷ List.[]) (Syntax.tcons ref3 (Syntax.tcons (Syntax.tyInt Syntax.w64) Syntax.tnil))))
+e26 = (26, Rows.any-gone slice3)
+
 abbrev e27 : Row.Entry
 e27 = (27, Rows.any-gone ref4)
+
 abbrev e28 : Row.Entry
-e28 = (28, Rows.any-gone (Syntax.tyStruct (38 ∷ 91 ∷ 93 ∷ List.[]) (Syntax.tcons ref4 (Syntax.tcons (Syntax.tyInt Syntax.w64) Syntax.tnil))))
+e28 = (28, Rows.any-gone slice4)
+
 abbrev e0·1 : Row.Entry
 e0·1 = (0, Rows.whole (Declared.row Relayed.the-type))
+
 abbrev e6·1 : Row.Entry
 e6·1 = (6, Rows.any-gone Laws.mir)
+
 abbrev e7·1 : Row.Entry
 e7·1 = (7, Rows.any-gone (Syntax.tyInt Syntax.w64))
+
 abbrev e1·1 : Row.Entry
 e1·1 = (1, Relend.mslice-owed RelayPending.row ref5 0 5 Row.off)
+
 abbrev e9·1 : Row.Entry
 e9·1 = (9, Relend.msptr RelayPending.row ref0 5)
+
 abbrev e10·1 : Row.Entry
 e10·1 = (10, Mut.mslice RelayPending.row ref0 5)
+
 abbrev e2·1 : Row.Entry
 e2·1 = (2, Relend.mslice-owed RelayCircuit.row ref6 1 6 Row.off)
+
 abbrev e11·1 : Row.Entry
 e11·1 = (11, Relend.msptr RelayCircuit.row ref1 6)
+
 abbrev e12·1 : Row.Entry
 e12·1 = (12, Mut.mslice RelayCircuit.row ref1 6)
+
 abbrev e3·1 : Row.Entry
 e3·1 = (3, Relend.mslice-owed ReservationUsage.row ref7 2 7 Row.off)
+
 abbrev e13·1 : Row.Entry
 e13·1 = (13, Relend.msptr ReservationUsage.row ref2 7)
+
 abbrev e14·1 : Row.Entry
 e14·1 = (14, Mut.mslice ReservationUsage.row ref2 7)
+
 abbrev e4·1 : Row.Entry
 e4·1 = (4, Relend.mslice-owed InflightAction.row ref8 3 8 Row.off)
+
 abbrev e15·1 : Row.Entry
 e15·1 = (15, Relend.msptr InflightAction.row ref3 8)
+
 abbrev e16·1 : Row.Entry
 e16·1 = (16, Mut.mslice InflightAction.row ref3 8)
+
 abbrev e5·1 : Row.Entry
 e5·1 = (5, Relend.mslice-owed (Referent.rtF (Referent.fInt Syntax.w32)) ref9 4 9 Row.off)
+
 abbrev e17·1 : Row.Entry
 e17·1 = (17, Relend.msptr (Referent.rtF (Referent.fInt Syntax.w32)) ref4 9)
+
 abbrev e18·1 : Row.Entry
 e18·1 = (18, Mut.mslice (Referent.rtF (Referent.fInt Syntax.w32)) ref4 9)
+
 abbrev e8·1 : Row.Entry
 e8·1 = (8, Rows.whole (Declared.row Relayed.the-type))
+
 abbrev e10·2 : Row.Entry
 e10·2 = (10, Mut.msleft RelayPending.row ref0)
+
 abbrev e12·2 : Row.Entry
 e12·2 = (12, Mut.msleft RelayCircuit.row ref1)
+
 abbrev e14·2 : Row.Entry
 e14·2 = (14, Mut.msleft ReservationUsage.row ref2)
+
 abbrev e16·2 : Row.Entry
 e16·2 = (16, Mut.msleft InflightAction.row ref3)
+
 abbrev e18·2 : Row.Entry
 e18·2 = (18, Mut.msleft (Referent.rtF (Referent.fInt Syntax.w32)) ref4)
+
 abbrev e1·2 : Row.Entry
 e1·2 = (1, Relend.mslice-owed RelayPending.row ref5 0 10 Row.off)
+
 abbrev e19·1 : Row.Entry
 e19·1 = (19, Relend.msptr RelayPending.row ref0 10)
+
 abbrev e20·1 : Row.Entry
 e20·1 = (20, Mut.mslice RelayPending.row ref0 10)
+
 abbrev e2·2 : Row.Entry
 e2·2 = (2, Relend.mslice-owed RelayCircuit.row ref6 1 11 Row.off)
+
 abbrev e21·1 : Row.Entry
 e21·1 = (21, Relend.msptr RelayCircuit.row ref1 11)
+
 abbrev e22·1 : Row.Entry
 e22·1 = (22, Mut.mslice RelayCircuit.row ref1 11)
+
 abbrev e3·2 : Row.Entry
 e3·2 = (3, Relend.mslice-owed ReservationUsage.row ref7 2 12 Row.off)
+
 abbrev e23·1 : Row.Entry
 e23·1 = (23, Relend.msptr ReservationUsage.row ref2 12)
+
 abbrev e24·1 : Row.Entry
 e24·1 = (24, Mut.mslice ReservationUsage.row ref2 12)
+
 abbrev e4·2 : Row.Entry
 e4·2 = (4, Relend.mslice-owed InflightAction.row ref8 3 13 Row.off)
+
 abbrev e25·1 : Row.Entry
 e25·1 = (25, Relend.msptr InflightAction.row ref3 13)
+
 abbrev e26·1 : Row.Entry
 e26·1 = (26, Mut.mslice InflightAction.row ref3 13)
+
 abbrev e5·2 : Row.Entry
 e5·2 = (5, Relend.mslice-owed (Referent.rtF (Referent.fInt Syntax.w32)) ref9 4 14 Row.off)
+
 abbrev e27·1 : Row.Entry
 e27·1 = (27, Relend.msptr (Referent.rtF (Referent.fInt Syntax.w32)) ref4 14)
+
 abbrev e28·1 : Row.Entry
 e28·1 = (28, Mut.mslice (Referent.rtF (Referent.fInt Syntax.w32)) ref4 14)
+
 abbrev e20·2 : Row.Entry
 e20·2 = (20, Mut.msleft RelayPending.row ref0)
+
 abbrev e22·2 : Row.Entry
 e22·2 = (22, Mut.msleft RelayCircuit.row ref1)
+
 abbrev e24·2 : Row.Entry
 e24·2 = (24, Mut.msleft ReservationUsage.row ref2)
+
 abbrev e26·2 : Row.Entry
 e26·2 = (26, Mut.msleft InflightAction.row ref3)
+
 abbrev e28·2 : Row.Entry
 e28·2 = (28, Mut.msleft (Referent.rtF (Referent.fInt Syntax.w32)) ref4)
+
 abbrev pub t0 : List.List Row.Entry
 t0 = e0 ∷ e1 ∷ e2 ∷ e3 ∷ e4 ∷ e5 ∷ e6 ∷ e7 ∷ e8 ∷ e9 ∷ e10 ∷ e11 ∷ e12 ∷ e13 ∷ e14 ∷ e15 ∷ List.[]
+
 abbrev pub t1 : List.List Row.Entry
 t1 = e16 ∷ e17 ∷ e18 ∷ e19 ∷ e20 ∷ e21 ∷ e22 ∷ e23 ∷ e24 ∷ e25 ∷ e26 ∷ e27 ∷ e28 ∷ List.[]
+
 abbrev pub t2 : List.List Row.Entry
 t2 = e0·1 ∷ e1 ∷ e2 ∷ e3 ∷ e4 ∷ e5 ∷ e6·1 ∷ e7·1 ∷ e8 ∷ e9 ∷ e10 ∷ e11 ∷ e12 ∷ e13 ∷ e14 ∷ e15 ∷ List.[]
+
 abbrev pub t3 : List.List Row.Entry
 t3 = e0 ∷ e1·1 ∷ e2 ∷ e3 ∷ e4 ∷ e5 ∷ e6 ∷ e7 ∷ e8 ∷ e9·1 ∷ e10 ∷ e11 ∷ e12 ∷ e13 ∷ e14 ∷ e15 ∷ List.[]
+
 abbrev pub t4 : List.List Row.Entry
 t4 = e0 ∷ e1·1 ∷ e2 ∷ e3 ∷ e4 ∷ e5 ∷ e6 ∷ e7 ∷ e8 ∷ e9 ∷ e10·1 ∷ e11 ∷ e12 ∷ e13 ∷ e14 ∷ e15 ∷ List.[]
+
 abbrev pub t5 : List.List Row.Entry
 t5 = e0 ∷ e1·1 ∷ e2·1 ∷ e3 ∷ e4 ∷ e5 ∷ e6 ∷ e7 ∷ e8 ∷ e9 ∷ e10·1 ∷ e11·1 ∷ e12 ∷ e13 ∷ e14 ∷ e15 ∷ List.[]
+
 abbrev pub t6 : List.List Row.Entry
 t6 = e0 ∷ e1·1 ∷ e2·1 ∷ e3 ∷ e4 ∷ e5 ∷ e6 ∷ e7 ∷ e8 ∷ e9 ∷ e10·1 ∷ e11 ∷ e12·1 ∷ e13 ∷ e14 ∷ e15 ∷ List.[]
+
 abbrev pub t7 : List.List Row.Entry
 t7 = e0 ∷ e1·1 ∷ e2·1 ∷ e3·1 ∷ e4 ∷ e5 ∷ e6 ∷ e7 ∷ e8 ∷ e9 ∷ e10·1 ∷ e11 ∷ e12·1 ∷ e13·1 ∷ e14 ∷ e15 ∷ List.[]
+
 abbrev pub t8 : List.List Row.Entry
 t8 = e0 ∷ e1·1 ∷ e2·1 ∷ e3·1 ∷ e4 ∷ e5 ∷ e6 ∷ e7 ∷ e8 ∷ e9 ∷ e10·1 ∷ e11 ∷ e12·1 ∷ e13 ∷ e14·1 ∷ e15 ∷ List.[]
+
 abbrev pub t9 : List.List Row.Entry
 t9 = e0 ∷ e1·1 ∷ e2·1 ∷ e3·1 ∷ e4·1 ∷ e5 ∷ e6 ∷ e7 ∷ e8 ∷ e9 ∷ e10·1 ∷ e11 ∷ e12·1 ∷ e13 ∷ e14·1 ∷ e15·1 ∷ List.[]
+
 abbrev pub t10 : List.List Row.Entry
 t10 = e0 ∷ e1·1 ∷ e2·1 ∷ e3·1 ∷ e4·1 ∷ e5 ∷ e6 ∷ e7 ∷ e8 ∷ e9 ∷ e10·1 ∷ e11 ∷ e12·1 ∷ e13 ∷ e14·1 ∷ e15 ∷ List.[]
+
 abbrev pub t11 : List.List Row.Entry
 t11 = e16·1 ∷ e17 ∷ e18 ∷ e19 ∷ e20 ∷ e21 ∷ e22 ∷ e23 ∷ e24 ∷ e25 ∷ e26 ∷ e27 ∷ e28 ∷ List.[]
+
 abbrev pub t12 : List.List Row.Entry
 t12 = e0 ∷ e1·1 ∷ e2·1 ∷ e3·1 ∷ e4·1 ∷ e5·1 ∷ e6 ∷ e7 ∷ e8 ∷ e9 ∷ e10·1 ∷ e11 ∷ e12·1 ∷ e13 ∷ e14·1 ∷ e15 ∷ List.[]
+
 abbrev pub t13 : List.List Row.Entry
 t13 = e16·1 ∷ e17·1 ∷ e18 ∷ e19 ∷ e20 ∷ e21 ∷ e22 ∷ e23 ∷ e24 ∷ e25 ∷ e26 ∷ e27 ∷ e28 ∷ List.[]
+
 abbrev pub t14 : List.List Row.Entry
 t14 = e16·1 ∷ e17 ∷ e18·1 ∷ e19 ∷ e20 ∷ e21 ∷ e22 ∷ e23 ∷ e24 ∷ e25 ∷ e26 ∷ e27 ∷ e28 ∷ List.[]
+
 abbrev pub t15 : List.List Row.Entry
 t15 = e0 ∷ e1·1 ∷ e2·1 ∷ e3·1 ∷ e4·1 ∷ e5·1 ∷ e6 ∷ e7 ∷ e8·1 ∷ e9 ∷ e10·2 ∷ e11 ∷ e12·2 ∷ e13 ∷ e14·2 ∷ e15 ∷ List.[]
+
 abbrev pub t16 : List.List Row.Entry
 t16 = e16·2 ∷ e17 ∷ e18·2 ∷ e19 ∷ e20 ∷ e21 ∷ e22 ∷ e23 ∷ e24 ∷ e25 ∷ e26 ∷ e27 ∷ e28 ∷ List.[]
+
 abbrev pub t17 : List.List Row.Entry
 t17 = e0 ∷ e1·1 ∷ e2·1 ∷ e3·1 ∷ e4·1 ∷ e5·1 ∷ e6·1 ∷ e7 ∷ e8·1 ∷ e9 ∷ e10·2 ∷ e11 ∷ e12·2 ∷ e13 ∷ e14·2 ∷ e15 ∷ List.[]
+
 abbrev pub t18 : List.List Row.Entry
 t18 = e0 ∷ e1 ∷ e2·1 ∷ e3·1 ∷ e4·1 ∷ e5·1 ∷ e6·1 ∷ e7 ∷ e8·1 ∷ e9 ∷ e10 ∷ e11 ∷ e12·2 ∷ e13 ∷ e14·2 ∷ e15 ∷ List.[]
+
 abbrev pub t19 : List.List Row.Entry
 t19 = e0 ∷ e1 ∷ e2 ∷ e3·1 ∷ e4·1 ∷ e5·1 ∷ e6·1 ∷ e7 ∷ e8·1 ∷ e9 ∷ e10 ∷ e11 ∷ e12 ∷ e13 ∷ e14·2 ∷ e15 ∷ List.[]
+
 abbrev pub t20 : List.List Row.Entry
 t20 = e0 ∷ e1 ∷ e2 ∷ e3 ∷ e4·1 ∷ e5·1 ∷ e6·1 ∷ e7 ∷ e8·1 ∷ e9 ∷ e10 ∷ e11 ∷ e12 ∷ e13 ∷ e14 ∷ e15 ∷ List.[]
+
 abbrev pub t21 : List.List Row.Entry
 t21 = e0 ∷ e1 ∷ e2 ∷ e3 ∷ e4 ∷ e5·1 ∷ e6·1 ∷ e7 ∷ e8·1 ∷ e9 ∷ e10 ∷ e11 ∷ e12 ∷ e13 ∷ e14 ∷ e15 ∷ List.[]
+
 abbrev pub t22 : List.List Row.Entry
 t22 = e16 ∷ e17 ∷ e18·2 ∷ e19 ∷ e20 ∷ e21 ∷ e22 ∷ e23 ∷ e24 ∷ e25 ∷ e26 ∷ e27 ∷ e28 ∷ List.[]
+
 abbrev pub t23 : List.List Row.Entry
 t23 = e0 ∷ e1 ∷ e2 ∷ e3 ∷ e4 ∷ e5 ∷ e6·1 ∷ e7 ∷ e8·1 ∷ e9 ∷ e10 ∷ e11 ∷ e12 ∷ e13 ∷ e14 ∷ e15 ∷ List.[]
+
 abbrev pub t24 : List.List Row.Entry
 t24 = e0 ∷ e1·2 ∷ e2 ∷ e3 ∷ e4 ∷ e5 ∷ e6·1 ∷ e7 ∷ e8·1 ∷ e9 ∷ e10 ∷ e11 ∷ e12 ∷ e13 ∷ e14 ∷ e15 ∷ List.[]
+
 abbrev pub t25 : List.List Row.Entry
 t25 = e16 ∷ e17 ∷ e18 ∷ e19·1 ∷ e20 ∷ e21 ∷ e22 ∷ e23 ∷ e24 ∷ e25 ∷ e26 ∷ e27 ∷ e28 ∷ List.[]
+
 abbrev pub t26 : List.List Row.Entry
 t26 = e16 ∷ e17 ∷ e18 ∷ e19 ∷ e20·1 ∷ e21 ∷ e22 ∷ e23 ∷ e24 ∷ e25 ∷ e26 ∷ e27 ∷ e28 ∷ List.[]
+
 abbrev pub t27 : List.List Row.Entry
 t27 = e0 ∷ e1·2 ∷ e2·2 ∷ e3 ∷ e4 ∷ e5 ∷ e6·1 ∷ e7 ∷ e8·1 ∷ e9 ∷ e10 ∷ e11 ∷ e12 ∷ e13 ∷ e14 ∷ e15 ∷ List.[]
+
 abbrev pub t28 : List.List Row.Entry
 t28 = e16 ∷ e17 ∷ e18 ∷ e19 ∷ e20·1 ∷ e21·1 ∷ e22 ∷ e23 ∷ e24 ∷ e25 ∷ e26 ∷ e27 ∷ e28 ∷ List.[]
+
 abbrev pub t29 : List.List Row.Entry
 t29 = e16 ∷ e17 ∷ e18 ∷ e19 ∷ e20·1 ∷ e21 ∷ e22·1 ∷ e23 ∷ e24 ∷ e25 ∷ e26 ∷ e27 ∷ e28 ∷ List.[]
+
 abbrev pub t30 : List.List Row.Entry
 t30 = e0 ∷ e1·2 ∷ e2·2 ∷ e3·2 ∷ e4 ∷ e5 ∷ e6·1 ∷ e7 ∷ e8·1 ∷ e9 ∷ e10 ∷ e11 ∷ e12 ∷ e13 ∷ e14 ∷ e15 ∷ List.[]
+
 abbrev pub t31 : List.List Row.Entry
 t31 = e16 ∷ e17 ∷ e18 ∷ e19 ∷ e20·1 ∷ e21 ∷ e22·1 ∷ e23·1 ∷ e24 ∷ e25 ∷ e26 ∷ e27 ∷ e28 ∷ List.[]
+
 abbrev pub t32 : List.List Row.Entry
 t32 = e16 ∷ e17 ∷ e18 ∷ e19 ∷ e20·1 ∷ e21 ∷ e22·1 ∷ e23 ∷ e24·1 ∷ e25 ∷ e26 ∷ e27 ∷ e28 ∷ List.[]
+
 abbrev pub t33 : List.List Row.Entry
 t33 = e0 ∷ e1·2 ∷ e2·2 ∷ e3·2 ∷ e4·2 ∷ e5 ∷ e6·1 ∷ e7 ∷ e8·1 ∷ e9 ∷ e10 ∷ e11 ∷ e12 ∷ e13 ∷ e14 ∷ e15 ∷ List.[]
+
 abbrev pub t34 : List.List Row.Entry
 t34 = e16 ∷ e17 ∷ e18 ∷ e19 ∷ e20·1 ∷ e21 ∷ e22·1 ∷ e23 ∷ e24·1 ∷ e25·1 ∷ e26 ∷ e27 ∷ e28 ∷ List.[]
+
 abbrev pub t35 : List.List Row.Entry
 t35 = e16 ∷ e17 ∷ e18 ∷ e19 ∷ e20·1 ∷ e21 ∷ e22·1 ∷ e23 ∷ e24·1 ∷ e25 ∷ e26·1 ∷ e27 ∷ e28 ∷ List.[]
+
 abbrev pub t36 : List.List Row.Entry
 t36 = e0 ∷ e1·2 ∷ e2·2 ∷ e3·2 ∷ e4·2 ∷ e5·2 ∷ e6·1 ∷ e7 ∷ e8·1 ∷ e9 ∷ e10 ∷ e11 ∷ e12 ∷ e13 ∷ e14 ∷ e15 ∷ List.[]
+
 abbrev pub t37 : List.List Row.Entry
 t37 = e16 ∷ e17 ∷ e18 ∷ e19 ∷ e20·1 ∷ e21 ∷ e22·1 ∷ e23 ∷ e24·1 ∷ e25 ∷ e26·1 ∷ e27·1 ∷ e28 ∷ List.[]
+
 abbrev pub t38 : List.List Row.Entry
 t38 = e16 ∷ e17 ∷ e18 ∷ e19 ∷ e20·1 ∷ e21 ∷ e22·1 ∷ e23 ∷ e24·1 ∷ e25 ∷ e26·1 ∷ e27 ∷ e28·1 ∷ List.[]
+
 abbrev pub t39 : List.List Row.Entry
 t39 = e0·1 ∷ e1·2 ∷ e2·2 ∷ e3·2 ∷ e4·2 ∷ e5·2 ∷ e6·1 ∷ e7 ∷ e8·1 ∷ e9 ∷ e10 ∷ e11 ∷ e12 ∷ e13 ∷ e14 ∷ e15 ∷ List.[]
+
 abbrev pub t40 : List.List Row.Entry
 t40 = e16 ∷ e17 ∷ e18 ∷ e19 ∷ e20·2 ∷ e21 ∷ e22·2 ∷ e23 ∷ e24·2 ∷ e25 ∷ e26·2 ∷ e27 ∷ e28·2 ∷ List.[]
+
 abbrev pub t41 : List.List Row.Entry
 t41 = e0·1 ∷ e1·2 ∷ e2·2 ∷ e3·2 ∷ e4·2 ∷ e5·2 ∷ e6·1 ∷ e7 ∷ e8 ∷ e9 ∷ e10 ∷ e11 ∷ e12 ∷ e13 ∷ e14 ∷ e15 ∷ List.[]
+
 abbrev pub t42 : List.List Row.Entry
 t42 = e0·1 ∷ e1 ∷ e2·2 ∷ e3·2 ∷ e4·2 ∷ e5·2 ∷ e6·1 ∷ e7 ∷ e8 ∷ e9 ∷ e10 ∷ e11 ∷ e12 ∷ e13 ∷ e14 ∷ e15 ∷ List.[]
+
 abbrev pub t43 : List.List Row.Entry
 t43 = e16 ∷ e17 ∷ e18 ∷ e19 ∷ e20 ∷ e21 ∷ e22·2 ∷ e23 ∷ e24·2 ∷ e25 ∷ e26·2 ∷ e27 ∷ e28·2 ∷ List.[]
+
 abbrev pub t44 : List.List Row.Entry
 t44 = e0·1 ∷ e1 ∷ e2 ∷ e3·2 ∷ e4·2 ∷ e5·2 ∷ e6·1 ∷ e7 ∷ e8 ∷ e9 ∷ e10 ∷ e11 ∷ e12 ∷ e13 ∷ e14 ∷ e15 ∷ List.[]
+
 abbrev pub t45 : List.List Row.Entry
 t45 = e16 ∷ e17 ∷ e18 ∷ e19 ∷ e20 ∷ e21 ∷ e22 ∷ e23 ∷ e24·2 ∷ e25 ∷ e26·2 ∷ e27 ∷ e28·2 ∷ List.[]
+
 abbrev pub t46 : List.List Row.Entry
 t46 = e0·1 ∷ e1 ∷ e2 ∷ e3 ∷ e4·2 ∷ e5·2 ∷ e6·1 ∷ e7 ∷ e8 ∷ e9 ∷ e10 ∷ e11 ∷ e12 ∷ e13 ∷ e14 ∷ e15 ∷ List.[]
+
 abbrev pub t47 : List.List Row.Entry
 t47 = e16 ∷ e17 ∷ e18 ∷ e19 ∷ e20 ∷ e21 ∷ e22 ∷ e23 ∷ e24 ∷ e25 ∷ e26·2 ∷ e27 ∷ e28·2 ∷ List.[]
+
 abbrev pub t48 : List.List Row.Entry
 t48 = e0·1 ∷ e1 ∷ e2 ∷ e3 ∷ e4 ∷ e5·2 ∷ e6·1 ∷ e7 ∷ e8 ∷ e9 ∷ e10 ∷ e11 ∷ e12 ∷ e13 ∷ e14 ∷ e15 ∷ List.[]
+
 abbrev pub t49 : List.List Row.Entry
 t49 = e16 ∷ e17 ∷ e18 ∷ e19 ∷ e20 ∷ e21 ∷ e22 ∷ e23 ∷ e24 ∷ e25 ∷ e26 ∷ e27 ∷ e28·2 ∷ List.[]
+
 abbrev pub t50 : List.List Row.Entry
 t50 = e0·1 ∷ e1 ∷ e2 ∷ e3 ∷ e4 ∷ e5 ∷ e6·1 ∷ e7 ∷ e8 ∷ e9 ∷ e10 ∷ e11 ∷ e12 ∷ e13 ∷ e14 ∷ e15 ∷ List.[]
+
 abbrev pub T0 : Row.Cx
 T0 = record { locals = List._++_ t0 t1; slots = List.[] }
+
 abbrev pub T1 : Row.Cx
 T1 = record { locals = List._++_ t2 t1; slots = List.[] }
+
 abbrev pub T2 : Row.Cx
 T2 = record { locals = List._++_ t0 t1; slots = List.[] }
+
 abbrev pub T4 : Row.Cx
 T4 = record { locals = List._++_ t3 t1; slots = List.[] }
+
 abbrev pub T5 : Row.Cx
 T5 = record { locals = List._++_ t4 t1; slots = List.[] }
+
 abbrev pub T7 : Row.Cx
 T7 = record { locals = List._++_ t5 t1; slots = List.[] }
+
 abbrev pub T8 : Row.Cx
 T8 = record { locals = List._++_ t6 t1; slots = List.[] }
+
 abbrev pub T10 : Row.Cx
 T10 = record { locals = List._++_ t7 t1; slots = List.[] }
+
 abbrev pub T11 : Row.Cx
 T11 = record { locals = List._++_ t8 t1; slots = List.[] }
+
 abbrev pub T13 : Row.Cx
 T13 = record { locals = List._++_ t9 t1; slots = List.[] }
+
 abbrev pub T14 : Row.Cx
 T14 = record { locals = List._++_ t10 t11; slots = List.[] }
+
 abbrev pub T16 : Row.Cx
 T16 = record { locals = List._++_ t12 t13; slots = List.[] }
+
 abbrev pub T17 : Row.Cx
 T17 = record { locals = List._++_ t12 t14; slots = List.[] }
+
 abbrev pub T18 : Row.Cx
 T18 = record { locals = List._++_ t15 t16; slots = List.[] }
+
 abbrev pub T19 : Row.Cx
 T19 = record { locals = List._++_ t17 t16; slots = List.[] }
+
 abbrev pub T21 : Row.Cx
 T21 = record { locals = List._++_ t18 t16; slots = List.[] }
+
 abbrev pub T24 : Row.Cx
 T24 = record { locals = List._++_ t19 t16; slots = List.[] }
+
 abbrev pub T27 : Row.Cx
 T27 = record { locals = List._++_ t20 t16; slots = List.[] }
+
 abbrev pub T30 : Row.Cx
 T30 = record { locals = List._++_ t21 t22; slots = List.[] }
+
 abbrev pub T33 : Row.Cx
 T33 = record { locals = List._++_ t23 t1; slots = List.[] }
+
 abbrev pub T34 : Row.Cx
 T34 = record { locals = List._++_ t23 t1; slots = List.[] }
+
 abbrev pub T37 : Row.Cx
 T37 = record { locals = List._++_ t24 t25; slots = List.[] }
+
 abbrev pub T38 : Row.Cx
 T38 = record { locals = List._++_ t24 t26; slots = List.[] }
+
 abbrev pub T40 : Row.Cx
 T40 = record { locals = List._++_ t27 t28; slots = List.[] }
+
 abbrev pub T41 : Row.Cx
 T41 = record { locals = List._++_ t27 t29; slots = List.[] }
+
 abbrev pub T43 : Row.Cx
 T43 = record { locals = List._++_ t30 t31; slots = List.[] }
+
 abbrev pub T44 : Row.Cx
 T44 = record { locals = List._++_ t30 t32; slots = List.[] }
+
 abbrev pub T46 : Row.Cx
 T46 = record { locals = List._++_ t33 t34; slots = List.[] }
+
 abbrev pub T47 : Row.Cx
 T47 = record { locals = List._++_ t33 t35; slots = List.[] }
+
 abbrev pub T49 : Row.Cx
 T49 = record { locals = List._++_ t36 t37; slots = List.[] }
+
 abbrev pub T50 : Row.Cx
 T50 = record { locals = List._++_ t36 t38; slots = List.[] }
+
 abbrev pub T51 : Row.Cx
 T51 = record { locals = List._++_ t39 t40; slots = List.[] }
+
 abbrev pub T52 : Row.Cx
 T52 = record { locals = List._++_ t41 t40; slots = List.[] }
+
 abbrev pub T54 : Row.Cx
 T54 = record { locals = List._++_ t42 t43; slots = List.[] }
+
 abbrev pub T57 : Row.Cx
 T57 = record { locals = List._++_ t44 t45; slots = List.[] }
+
 abbrev pub T60 : Row.Cx
 T60 = record { locals = List._++_ t46 t47; slots = List.[] }
+
 abbrev pub T63 : Row.Cx
 T63 = record { locals = List._++_ t48 t49; slots = List.[] }
+
 abbrev pub T66 : Row.Cx
 T66 = record { locals = List._++_ t50 t1; slots = List.[] }
+
 abbrev pub T67 : Row.Cx
 T67 = record { locals = List._++_ t50 t1; slots = List.[] }
+
 abbrev pub T69 : Row.Cx
 T69 = record { locals = List._++_ t2 t1; slots = List.[] }
+
 abbrev pub O0 : Typed.Outs
 O0 = record { next = Option.none; exits = List.[]; returns = Option.some T1 }
+
 module _ (claims· : Claims) where
   abbrev s0 : Typed.Gives T0 T2
   s0 = Know.k-sl-known (Referent.fInt Syntax.w32) T0 5 4 ref9 Row.off 0 λ x. x
+
   abbrev s2 : Typed.Gives T2 T4
   s2 = Relend.k-sl-relend RelayPending.row T2 1 9 0 5 ref5 ref0 Row.off λ x. x
+
   abbrev s3 : Typed.Asks T4 T5
-  s3 = Relend.k-sl-aggregate RelayPending.row (Relend.asMut RelayPending.row) T4 9 10 5 ref0 ref0 (λ x. x) (Scalar.oFld 1 ((Syntax.field 1) ∷ List.[])
-      (Syntax.tyInt Syntax.w64) 8 λ v. Shared.lenV (v .0))
+  s3 = Relend.k-sl-aggregate RelayPending.row (Relend.asMut RelayPending.row) T4 9 10 5 ref0 ref0 (λ x. x) (Scalar.oFld
+      1 ((Syntax.field 1) ∷ List.[]) (Syntax.tyInt Syntax.w64) 8 λ v. Shared.lenV (v .0))
+
   abbrev s5 : Typed.Gives T5 T7
   s5 = Relend.k-sl-relend RelayCircuit.row T5 2 11 1 6 ref6 ref1 Row.off λ x. x
+
   abbrev s6 : Typed.Asks T7 T8
-  s6 = Relend.k-sl-aggregate RelayCircuit.row (Relend.asMut RelayCircuit.row) T7 11 12 6 ref1 ref1 (λ x. x) (Scalar.oFld 2 ((Syntax.field 1) ∷
-      List.[]) (Syntax.tyInt Syntax.w64) 8 λ v. Shared.lenV (v .0))
+  s6 = Relend.k-sl-aggregate RelayCircuit.row (Relend.asMut RelayCircuit.row) T7 11 12 6 ref1 ref1 (λ x. x) (Scalar.oFld
+      2 ((Syntax.field 1) ∷ List.[]) (Syntax.tyInt Syntax.w64) 8 λ v. Shared.lenV (v .0))
+
   abbrev s8 : Typed.Gives T8 T10
   s8 = Relend.k-sl-relend ReservationUsage.row T8 3 13 2 7 ref7 ref2 Row.off λ x. x
+
   abbrev s9 : Typed.Asks T10 T11
-  s9 = Relend.k-sl-aggregate ReservationUsage.row (Relend.asMut ReservationUsage.row) T10 13 14 7 ref2 ref2 (λ x. x) (Scalar.oFld 3 ((Syntax.field 1)
-      ∷ List.[]) (Syntax.tyInt Syntax.w64) 8 λ v. Shared.lenV (v .0))
+  s9 = Relend.k-sl-aggregate ReservationUsage.row (Relend.asMut ReservationUsage.row) T10 13 14 7 ref2 ref2 (λ x. x) (Scalar.oFld
+      3 ((Syntax.field 1) ∷ List.[]) (Syntax.tyInt Syntax.w64) 8 λ v. Shared.lenV (v .0))
+
   abbrev s11 : Typed.Gives T11 T13
   s11 = Relend.k-sl-relend InflightAction.row T11 4 15 3 8 ref8 ref3 Row.off λ x. x
+
   abbrev s12 : Typed.Asks T13 T14
-  s12 = Relend.k-sl-aggregate InflightAction.row (Relend.asMut InflightAction.row) T13 15 16 8 ref3 ref3 (λ x. x) (Scalar.oFld 4 ((Syntax.field 1) ∷
-      List.[]) (Syntax.tyInt Syntax.w64) 8 λ v. Shared.lenV (v .0))
+  s12 = Relend.k-sl-aggregate InflightAction.row (Relend.asMut InflightAction.row) T13 15 16 8 ref3 ref3 (λ x. x) (Scalar.oFld
+      4 ((Syntax.field 1) ∷ List.[]) (Syntax.tyInt Syntax.w64) 8 λ v. Shared.lenV (v .0))
+
   abbrev s14 : Typed.Gives T14 T16
   s14 = Relend.k-sl-relend (Referent.rtF (Referent.fInt Syntax.w32)) T14 5 17 4 9 ref9 ref4 Row.off λ x. x
+
   abbrev s15 : Typed.Asks T16 T17
-  s15 = Relend.k-sl-aggregate (Referent.rtF (Referent.fInt Syntax.w32)) (Relend.asMut (Referent.rtF (Referent.fInt Syntax.w32))) T16 17 18 9 ref4 ref4
-      (λ x. x) (Scalar.oFld 5 ((Syntax.field 1) ∷ List.[]) (Syntax.tyInt Syntax.w64) 8 λ v. Shared.lenV (v .0))
+  s15 = Relend.k-sl-aggregate (Referent.rtF (Referent.fInt Syntax.w32))
+      (Relend.asMut (Referent.rtF (Referent.fInt Syntax.w32))) T16 17 18 9 ref4 ref4 (λ x. x) (Scalar.oFld 5
+      ((Syntax.field 1) ∷ List.[]) (Syntax.tyInt Syntax.w64) 8 λ v. Shared.lenV (v .0))
+
+  abbrev args16 : Args'.ArgsT ps·0 (T17 .locals)
+  args16 = (
+    record { pos = 10; ty = ref0; ref = λ x. x },
+    (
+      record { pos = 12; ty = ref1; ref = λ x. x },
+      (
+        record { pos = 14; ty = ref2; ref = λ x. x },
+        (
+          record { pos = 16; ty = ref3; ref = λ x. x },
+          (record { pos = 18; ty = ref4; ref = λ x. x }, (record { pos = 6; st = List.[]; d = 0; at = λ x. x }, tt)),
+        ),
+      ),
+    ),
+  )
+
   abbrev s16 : Typed.Both T17 T18
-  s16 = Call.callB ps·0 r·0 (claims· .0) (claims· .1) T17 (record { pos = 10; ty = Syntax.tyRef Syntax.erased Syntax.mut RelayPending.to; ref = λ x.
-      x; }, (record { pos = 12; ty = Syntax.tyRef Syntax.erased Syntax.mut RelayCircuit.to; ref = λ x. x; }, (record { pos = 14; ty = Syntax.tyRef
-      Syntax.erased Syntax.mut ReservationUsage.to; ref = λ x. x; }, (record { pos = 16; ty = Syntax.tyRef Syntax.erased Syntax.mut InflightAction.to;
-      ref = λ x. x; }, (record { pos = 18; ty = Syntax.tyRef Syntax.erased Syntax.mut (Syntax.tyInt Syntax.w32); ref = λ x. x; }, (record { pos = 6;
-      st = List.[]; d = 0; at = λ x. x }, tt),),),),),) 8 (5 ∷ 6 ∷ 7 ∷ 8 ∷ 9 ∷ List.[]) Laws.mir
+  s16 = Call.callB ps·0 r·0 (claims· .0) (claims· .1) T17 args16 8 (5 ∷ 6 ∷ 7 ∷ 8 ∷ 9 ∷ List.[]) Laws.mir
+
   abbrev s17 : Typed.Mo T18 → Typed.Mo T19
   s17 = Scalar.n-room T18 6 Laws.mir
+
   abbrev s19 : Typed.Both T19 T21
   s19 = Relend.k-back-sl RelayPending.row T19 10 1 0 5 ref5 ref0 Row.off (λ x. x) λ x. x
+
   abbrev s22 : Typed.Both T21 T24
   s22 = Relend.k-back-sl RelayCircuit.row T21 12 2 1 6 ref6 ref1 Row.off (λ x. x) λ x. x
+
   abbrev s25 : Typed.Both T24 T27
   s25 = Relend.k-back-sl ReservationUsage.row T24 14 3 2 7 ref7 ref2 Row.off (λ x. x) λ x. x
+
   abbrev s28 : Typed.Both T27 T30
   s28 = Relend.k-back-sl InflightAction.row T27 16 4 3 8 ref8 ref3 Row.off (λ x. x) λ x. x
+
   abbrev s31 : Typed.Both T30 T33
   s31 = Relend.k-back-sl (Referent.rtF (Referent.fInt Syntax.w32)) T30 18 5 4 9 ref9 ref4 Row.off (λ x. x) λ x. x
+
   abbrev s32 : Typed.Gives T33 T34
   s32 = Know.k-sl-known (Referent.fInt Syntax.w32) T33 5 4 ref9 Row.off 0 λ x. x
+
   abbrev s35 : Typed.Gives T34 T37
   s35 = Relend.k-sl-relend RelayPending.row T34 1 19 0 10 ref5 ref0 Row.off λ x. x
+
   abbrev s36 : Typed.Asks T37 T38
-  s36 = Relend.k-sl-aggregate RelayPending.row (Relend.asMut RelayPending.row) T37 19 20 10 ref0 ref0 (λ x. x) (Scalar.oFld 1 ((Syntax.field 1) ∷
-      List.[]) (Syntax.tyInt Syntax.w64) 8 λ v. Shared.lenV (v .0))
+  s36 = Relend.k-sl-aggregate RelayPending.row (Relend.asMut RelayPending.row) T37 19 20 10 ref0 ref0 (λ x. x) (Scalar.oFld
+      1 ((Syntax.field 1) ∷ List.[]) (Syntax.tyInt Syntax.w64) 8 λ v. Shared.lenV (v .0))
+
   abbrev s38 : Typed.Gives T38 T40
   s38 = Relend.k-sl-relend RelayCircuit.row T38 2 21 1 11 ref6 ref1 Row.off λ x. x
+
   abbrev s39 : Typed.Asks T40 T41
-  s39 = Relend.k-sl-aggregate RelayCircuit.row (Relend.asMut RelayCircuit.row) T40 21 22 11 ref1 ref1 (λ x. x) (Scalar.oFld 2 ((Syntax.field 1) ∷
-      List.[]) (Syntax.tyInt Syntax.w64) 8 λ v. Shared.lenV (v .0))
+  s39 = Relend.k-sl-aggregate RelayCircuit.row (Relend.asMut RelayCircuit.row) T40 21 22 11 ref1 ref1 (λ x. x) (Scalar.oFld
+      2 ((Syntax.field 1) ∷ List.[]) (Syntax.tyInt Syntax.w64) 8 λ v. Shared.lenV (v .0))
+
   abbrev s41 : Typed.Gives T41 T43
   s41 = Relend.k-sl-relend ReservationUsage.row T41 3 23 2 12 ref7 ref2 Row.off λ x. x
+
   abbrev s42 : Typed.Asks T43 T44
-  s42 = Relend.k-sl-aggregate ReservationUsage.row (Relend.asMut ReservationUsage.row) T43 23 24 12 ref2 ref2 (λ x. x) (Scalar.oFld 3 ((Syntax.field
-      1) ∷ List.[]) (Syntax.tyInt Syntax.w64) 8 λ v. Shared.lenV (v .0))
+  s42 = Relend.k-sl-aggregate ReservationUsage.row (Relend.asMut ReservationUsage.row) T43 23 24 12 ref2 ref2 (λ x. x) (Scalar.oFld
+      3 ((Syntax.field 1) ∷ List.[]) (Syntax.tyInt Syntax.w64) 8 λ v. Shared.lenV (v .0))
+
   abbrev s44 : Typed.Gives T44 T46
   s44 = Relend.k-sl-relend InflightAction.row T44 4 25 3 13 ref8 ref3 Row.off λ x. x
+
   abbrev s45 : Typed.Asks T46 T47
-  s45 = Relend.k-sl-aggregate InflightAction.row (Relend.asMut InflightAction.row) T46 25 26 13 ref3 ref3 (λ x. x) (Scalar.oFld 4 ((Syntax.field 1) ∷
-      List.[]) (Syntax.tyInt Syntax.w64) 8 λ v. Shared.lenV (v .0))
+  s45 = Relend.k-sl-aggregate InflightAction.row (Relend.asMut InflightAction.row) T46 25 26 13 ref3 ref3 (λ x. x) (Scalar.oFld
+      4 ((Syntax.field 1) ∷ List.[]) (Syntax.tyInt Syntax.w64) 8 λ v. Shared.lenV (v .0))
+
   abbrev s47 : Typed.Gives T47 T49
   s47 = Relend.k-sl-relend (Referent.rtF (Referent.fInt Syntax.w32)) T47 5 27 4 14 ref9 ref4 Row.off λ x. x
+
   abbrev s48 : Typed.Asks T49 T50
-  s48 = Relend.k-sl-aggregate (Referent.rtF (Referent.fInt Syntax.w32)) (Relend.asMut (Referent.rtF (Referent.fInt Syntax.w32))) T49 27 28 14 ref4
-      ref4 (λ x. x) (Scalar.oFld 5 ((Syntax.field 1) ∷ List.[]) (Syntax.tyInt Syntax.w64) 8 λ v. Shared.lenV (v .0))
+  s48 = Relend.k-sl-aggregate (Referent.rtF (Referent.fInt Syntax.w32))
+      (Relend.asMut (Referent.rtF (Referent.fInt Syntax.w32))) T49 27 28 14 ref4 ref4 (λ x. x) (Scalar.oFld 5
+      ((Syntax.field 1) ∷ List.[]) (Syntax.tyInt Syntax.w64) 8 λ v. Shared.lenV (v .0))
+
+  abbrev args49 : Args'.ArgsT ps·1 (T50 .locals)
+  args49 = (
+    record { pos = 20; ty = ref0; ref = λ x. x },
+    (
+      record { pos = 22; ty = ref1; ref = λ x. x },
+      (
+        record { pos = 24; ty = ref2; ref = λ x. x },
+        (
+          record { pos = 26; ty = ref3; ref = λ x. x },
+          (
+            record { pos = 28; ty = ref4; ref = λ x. x },
+            (record { pos = 8; st = List.[]; d = 0; at = λ x. x }, (Num.vAt 7 λ x. x, tt)),
+          ),
+        ),
+      ),
+    ),
+  )
+
   abbrev s49 : Typed.Both T50 T51
-  s49 = Call.callB ps·1 r·1 (claims· .2) (claims· .3) T50 (record { pos = 20; ty = Syntax.tyRef Syntax.erased Syntax.mut RelayPending.to; ref = λ x.
-      x; }, (record { pos = 22; ty = Syntax.tyRef Syntax.erased Syntax.mut RelayCircuit.to; ref = λ x. x; }, (record { pos = 24; ty = Syntax.tyRef
-      Syntax.erased Syntax.mut ReservationUsage.to; ref = λ x. x; }, (record { pos = 26; ty = Syntax.tyRef Syntax.erased Syntax.mut InflightAction.to;
-      ref = λ x. x; }, (record { pos = 28; ty = Syntax.tyRef Syntax.erased Syntax.mut (Syntax.tyInt Syntax.w32); ref = λ x. x; }, (record { pos = 8;
-      st = List.[]; d = 0; at = λ x. x }, (Num.vAt 7 λ x. x, tt)),),),),),) 0 (10 ∷ 11 ∷ 12 ∷ 13 ∷ 14 ∷ List.[]) Laws.mir
+  s49 = Call.callB ps·1 r·1 (claims· .2) (claims· .3) T50 args49 0 (10 ∷ 11 ∷ 12 ∷ 13 ∷ 14 ∷ List.[]) Laws.mir
+
   abbrev s50 : Typed.Mo T51 → Typed.Mo T52
   s50 = Scalar.n-room T51 8 Laws.mir
+
   abbrev s52 : Typed.Both T52 T54
   s52 = Relend.k-back-sl RelayPending.row T52 20 1 0 10 ref5 ref0 Row.off (λ x. x) λ x. x
+
   abbrev s55 : Typed.Both T54 T57
   s55 = Relend.k-back-sl RelayCircuit.row T54 22 2 1 11 ref6 ref1 Row.off (λ x. x) λ x. x
+
   abbrev s58 : Typed.Both T57 T60
   s58 = Relend.k-back-sl ReservationUsage.row T57 24 3 2 12 ref7 ref2 Row.off (λ x. x) λ x. x
+
   abbrev s61 : Typed.Both T60 T63
   s61 = Relend.k-back-sl InflightAction.row T60 26 4 3 13 ref8 ref3 Row.off (λ x. x) λ x. x
+
   abbrev s64 : Typed.Both T63 T66
   s64 = Relend.k-back-sl (Referent.rtF (Referent.fInt Syntax.w32)) T63 28 5 4 14 ref9 ref4 Row.off (λ x. x) λ x. x
+
   abbrev s65 : Typed.Gives T66 T67
   s65 = Know.k-sl-known (Referent.fInt Syntax.w32) T66 5 4 ref9 Row.off 0 λ x. x
+
   abbrev s67 : Typed.Mo T67 → Typed.Mo T69
   s67 = Scalar.n-room T67 7 (Syntax.tyInt Syntax.w64)
-  module _ (Pre· : (κs : Lifetimes.Lfts 5) → Kinds.Dens κs ps → Type 0) (Post· : (κs : Lifetimes.Lfts 5) → (a : Kinds.Dens κs ps) → Kinds.Plain 5 ps r
-      κs) where
+
+  module _ (Pre· : (κs : Lifetimes.Lfts 5) → Kinds.Dens κs ps → Type 0) (Post· : (κs : Lifetimes.Lfts 5) →
+      (a : Kinds.Dens κs ps) → Kinds.Plain 5 ps r κs) where
     module _ (M : Type 1) where
       abbrev pub Closed : Type 2
-      Closed = (𝓤 : URA.URA M) (H : Wp.Heap 𝓤) (A : Atoms.Atoms 𝓤) (W : Kit.Given 𝓤 H A) (𝓣 : Wp.Tables 𝓤 H) (known0 : Plain.Known 𝓤 H A W 𝓣 5 ps·0
-          r·0 (claims· .0) (claims· .1) "cases::machine::open_circuit") (known1 : Plain.Known 𝓤 H A W 𝓣 5 ps·1 r·1 (claims· .2) (claims· .3)
-          "cases::machine::accept_circuit") → Statement.Triple 𝓤 (Wp.WpFn 𝓤 H (𝓣 .C) (𝓣 .Λ) (Function.fnOf 5 ps r xs m hs body)) (Function.plainOf 𝓤 H
-          A 5 ps r Pre· Post·)
+      Closed = (𝓤 : URA.URA M) (H : Wp.Heap 𝓤) (A : Atoms.Atoms 𝓤) (W : Kit.Given 𝓤 H A) (𝓣 : Wp.Tables 𝓤 H) (known0 :
+          Plain.Known 𝓤 H A W 𝓣 5 ps·0 r·0 (claims· .0) (claims· .1) "cases::machine::open_circuit") (known1 :
+          Plain.Known 𝓤 H A W 𝓣 5 ps·1 r·1 (claims· .2) (claims· .3) "cases::machine::accept_circuit") →
+          Statement.Triple 𝓤 (Wp.WpFn 𝓤 H (𝓣 .C) (𝓣 .Λ) (Function.fnOf 5 ps r xs m hs body))
+          (Function.plainOf 𝓤 H A 5 ps r Pre· Post·)
+
     module _ where
       abbrev at0 : Typed.TF T69 O0
       at0 = Typed.atRet O0
+
       abbrev at1 : Typed.TF T67 O0
       at1 = λ Ψ. Typed.pass T67 T69 s67 (at0 Ψ)
+
       abbrev at2 : Typed.TF T67 O0
       at2 = λ Ψ. at1 Ψ
+
       abbrev at3 : Typed.TF T66 O0
       at3 = λ Ψ. Typed.give s65 (at2 Ψ)
+
       abbrev at4 : Typed.TF T63 O0
       at4 = λ Ψ. Typed.both s64 (at3 Ψ)
+
       abbrev at5 : Typed.TF T63 O0
       at5 = λ Ψ. at4 Ψ
+
       abbrev at6 : Typed.TF T63 O0
       at6 = λ Ψ. at5 Ψ
+
       abbrev at7 : Typed.TF T60 O0
       at7 = λ Ψ. Typed.both s61 (at6 Ψ)
+
       abbrev at8 : Typed.TF T60 O0
       at8 = λ Ψ. at7 Ψ
+
       abbrev at9 : Typed.TF T60 O0
       at9 = λ Ψ. at8 Ψ
+
       abbrev at10 : Typed.TF T57 O0
       at10 = λ Ψ. Typed.both s58 (at9 Ψ)
+
       abbrev at11 : Typed.TF T57 O0
       at11 = λ Ψ. at10 Ψ
+
       abbrev at12 : Typed.TF T57 O0
       at12 = λ Ψ. at11 Ψ
+
       abbrev at13 : Typed.TF T54 O0
       at13 = λ Ψ. Typed.both s55 (at12 Ψ)
+
       abbrev at14 : Typed.TF T54 O0
       at14 = λ Ψ. at13 Ψ
+
       abbrev at15 : Typed.TF T54 O0
       at15 = λ Ψ. at14 Ψ
+
       abbrev at16 : Typed.TF T52 O0
       at16 = λ Ψ. Typed.both s52 (at15 Ψ)
+
       abbrev at17 : Typed.TF T52 O0
       at17 = λ Ψ. at16 Ψ
+
       abbrev at18 : Typed.TF T51 O0
       at18 = λ Ψ. Typed.pass T51 T52 s50 (at17 Ψ)
+
       abbrev at19 : Typed.TF T50 O0
       at19 = λ Ψ. Typed.both s49 (at18 Ψ)
+
       abbrev at20 : Typed.TF T49 O0
       at20 = λ Ψ. Typed.ask s48 (at19 Ψ)
+
       abbrev at21 : Typed.TF T47 O0
       at21 = λ Ψ. Typed.give s47 (at20 Ψ)
+
       abbrev at22 : Typed.TF T47 O0
       at22 = λ Ψ. at21 Ψ
+
       abbrev at23 : Typed.TF T46 O0
       at23 = λ Ψ. Typed.ask s45 (at22 Ψ)
+
       abbrev at24 : Typed.TF T44 O0
       at24 = λ Ψ. Typed.give s44 (at23 Ψ)
+
       abbrev at25 : Typed.TF T44 O0
       at25 = λ Ψ. at24 Ψ
+
       abbrev at26 : Typed.TF T43 O0
       at26 = λ Ψ. Typed.ask s42 (at25 Ψ)
+
       abbrev at27 : Typed.TF T41 O0
       at27 = λ Ψ. Typed.give s41 (at26 Ψ)
+
       abbrev at28 : Typed.TF T41 O0
       at28 = λ Ψ. at27 Ψ
+
       abbrev at29 : Typed.TF T40 O0
       at29 = λ Ψ. Typed.ask s39 (at28 Ψ)
+
       abbrev at30 : Typed.TF T38 O0
       at30 = λ Ψ. Typed.give s38 (at29 Ψ)
+
       abbrev at31 : Typed.TF T38 O0
       at31 = λ Ψ. at30 Ψ
+
       abbrev at32 : Typed.TF T37 O0
       at32 = λ Ψ. Typed.ask s36 (at31 Ψ)
+
       abbrev at33 : Typed.TF T34 O0
       at33 = λ Ψ. Typed.give s35 (at32 Ψ)
+
       abbrev at34 : Typed.TF T34 O0
       at34 = λ Ψ. at33 Ψ
+
       abbrev at35 : Typed.TF T34 O0
       at35 = λ Ψ. at34 Ψ
+
       abbrev at36 : Typed.TF T33 O0
       at36 = λ Ψ. Typed.give s32 (at35 Ψ)
+
       abbrev at37 : Typed.TF T30 O0
       at37 = λ Ψ. Typed.both s31 (at36 Ψ)
+
       abbrev at38 : Typed.TF T30 O0
       at38 = λ Ψ. at37 Ψ
+
       abbrev at39 : Typed.TF T30 O0
       at39 = λ Ψ. at38 Ψ
+
       abbrev at40 : Typed.TF T27 O0
       at40 = λ Ψ. Typed.both s28 (at39 Ψ)
+
       abbrev at41 : Typed.TF T27 O0
       at41 = λ Ψ. at40 Ψ
+
       abbrev at42 : Typed.TF T27 O0
       at42 = λ Ψ. at41 Ψ
+
       abbrev at43 : Typed.TF T24 O0
       at43 = λ Ψ. Typed.both s25 (at42 Ψ)
+
       abbrev at44 : Typed.TF T24 O0
       at44 = λ Ψ. at43 Ψ
+
       abbrev at45 : Typed.TF T24 O0
       at45 = λ Ψ. at44 Ψ
+
       abbrev at46 : Typed.TF T21 O0
       at46 = λ Ψ. Typed.both s22 (at45 Ψ)
+
       abbrev at47 : Typed.TF T21 O0
       at47 = λ Ψ. at46 Ψ
+
       abbrev at48 : Typed.TF T21 O0
       at48 = λ Ψ. at47 Ψ
+
       abbrev at49 : Typed.TF T19 O0
       at49 = λ Ψ. Typed.both s19 (at48 Ψ)
+
       abbrev at50 : Typed.TF T19 O0
       at50 = λ Ψ. at49 Ψ
+
       abbrev at51 : Typed.TF T18 O0
       at51 = λ Ψ. Typed.pass T18 T19 s17 (at50 Ψ)
+
       abbrev at52 : Typed.TF T17 O0
       at52 = λ Ψ. Typed.both s16 (at51 Ψ)
+
       abbrev at53 : Typed.TF T16 O0
       at53 = λ Ψ. Typed.ask s15 (at52 Ψ)
+
       abbrev at54 : Typed.TF T14 O0
       at54 = λ Ψ. Typed.give s14 (at53 Ψ)
+
       abbrev at55 : Typed.TF T14 O0
       at55 = λ Ψ. at54 Ψ
+
       abbrev at56 : Typed.TF T13 O0
       at56 = λ Ψ. Typed.ask s12 (at55 Ψ)
+
       abbrev at57 : Typed.TF T11 O0
       at57 = λ Ψ. Typed.give s11 (at56 Ψ)
+
       abbrev at58 : Typed.TF T11 O0
       at58 = λ Ψ. at57 Ψ
+
       abbrev at59 : Typed.TF T10 O0
       at59 = λ Ψ. Typed.ask s9 (at58 Ψ)
+
       abbrev at60 : Typed.TF T8 O0
       at60 = λ Ψ. Typed.give s8 (at59 Ψ)
+
       abbrev at61 : Typed.TF T8 O0
       at61 = λ Ψ. at60 Ψ
+
       abbrev at62 : Typed.TF T7 O0
       at62 = λ Ψ. Typed.ask s6 (at61 Ψ)
+
       abbrev at63 : Typed.TF T5 O0
       at63 = λ Ψ. Typed.give s5 (at62 Ψ)
+
       abbrev at64 : Typed.TF T5 O0
       at64 = λ Ψ. at63 Ψ
+
       abbrev at65 : Typed.TF T4 O0
       at65 = λ Ψ. Typed.ask s3 (at64 Ψ)
+
       abbrev at66 : Typed.TF T2 O0
       at66 = λ Ψ. Typed.give s2 (at65 Ψ)
+
       abbrev at67 : Typed.TF T2 O0
       at67 = λ Ψ. at66 Ψ
+
       abbrev at68 : Typed.TF T0 O0
       at68 = λ Ψ. Typed.give s0 (at67 Ψ)
+
       abbrev pub Φ : Typed.TF T0 O0
       Φ = at68
-      module _ { M : Type 1 } (𝓤 : URA.URA M) (H : Wp.Heap 𝓤) (A : Atoms.Atoms 𝓤) (W : Kit.Given 𝓤 H A) (𝓣 : Wp.Tables 𝓤 H) where
+
+      module _ {M : Type 1} (𝓤 : URA.URA M) (H : Wp.Heap 𝓤) (A : Atoms.Atoms 𝓤) (W : Kit.Given 𝓤 H A)
+          (𝓣 : Wp.Tables 𝓤 H) where
         abbrev Knowns : Type 1
-        Knowns = Plain.Known 𝓤 H A W 𝓣 5 ps·0 r·0 (claims· .0) (claims· .1) "cases::machine::open_circuit" × Plain.Known 𝓤 H A W 𝓣 5 ps·1 r·1 (claims·
-            .2) (claims· .3) "cases::machine::accept_circuit"
+        Knowns = Plain.Known 𝓤 H A W 𝓣 5 ps·0 r·0 (claims· .0) (claims· .1) "cases::machine::open_circuit" ×
+            Plain.Known 𝓤 H A W 𝓣 5 ps·1 r·1 (claims· .2) (claims· .3) "cases::machine::accept_circuit"
+
       module _ (κs : Lifetimes.Lfts 5) (qs : Lifetimes.Shares 5) where
         abbrev life0 : Row.Life
         life0 = Row.lease (κs .0) (qs .0)
+
         abbrev life1 : Row.Life
         life1 = Row.lease (κs .1 .0) (qs .1 .0)
+
         abbrev life2 : Row.Life
         life2 = Row.lease (κs .1 .1 .0) (qs .1 .1 .0)
+
         abbrev life3 : Row.Life
         life3 = Row.lease (κs .1 .1 .1 .0) (qs .1 .1 .1 .0)
+
         abbrev life4 : Row.Life
         life4 = Row.lease (κs .1 .1 .1 .1 .0) (qs .1 .1 .1 .1 .0)
+
+        abbrev l1 : Row.Entry
+        l1 = (1, Relend.mslice-owed RelayPending.row ref5 0 5 life0)
+
+        abbrev l2 : Row.Entry
+        l2 = (2, Relend.mslice-owed RelayCircuit.row ref6 1 6 life1)
+
+        abbrev l3 : Row.Entry
+        l3 = (3, Relend.mslice-owed ReservationUsage.row ref7 2 7 life2)
+
+        abbrev l4 : Row.Entry
+        l4 = (4, Relend.mslice-owed InflightAction.row ref8 3 8 life3)
+
+        abbrev l5 : Row.Entry
+        l5 = (5, Relend.mslice-owed (Referent.rtF (Referent.fInt Syntax.w32)) ref9 4 9 life4)
+
+        abbrev l1·1 : Row.Entry
+        l1·1 = (1, Relend.mslice-owed RelayPending.row ref5 0 10 life0)
+
+        abbrev l2·1 : Row.Entry
+        l2·1 = (2, Relend.mslice-owed RelayCircuit.row ref6 1 11 life1)
+
+        abbrev l3·1 : Row.Entry
+        l3·1 = (3, Relend.mslice-owed ReservationUsage.row ref7 2 12 life2)
+
+        abbrev l4·1 : Row.Entry
+        l4·1 = (4, Relend.mslice-owed InflightAction.row ref8 3 13 life3)
+
+        abbrev l5·1 : Row.Entry
+        l5·1 = (5, Relend.mslice-owed (Referent.rtF (Referent.fInt Syntax.w32)) ref9 4 14 life4)
+
         abbrev g3 : List.List Row.Entry
-        g3 = (0, Rows.any-gone Laws.mir,) ∷ (1, Relend.mslice-owed RelayPending.row ref5 0 5 life0,) ∷ (2, Mut.mslice RelayCircuit.row ref6 1,) ∷ (3,
-            Mut.mslice ReservationUsage.row ref7 2,) ∷ (4, Mut.mslice InflightAction.row ref8 3,) ∷ (5, Mut.mslice (Referent.rtF (Referent.fInt
-            Syntax.w32)) ref9 4,) ∷ (6, Rows.whole (Declared.row Relayed.the-type)) ∷ (7, Rows.sc-here (Row.sInt Syntax.w64),) ∷ (8, Rows.any-gone
-            Laws.mir,) ∷ (9, Relend.msptr RelayPending.row ref0 5,) ∷ (10, Rows.any-gone (Syntax.tyStruct (38 ∷ 91 ∷ 93 ∷ List.[]) (Syntax.tcons ref0
-            (Syntax.tcons (Syntax.tyInt Syntax.w64) Syntax.tnil))),) ∷ (11, Rows.any-gone ref1,) ∷ (12, Rows.any-gone (Syntax.tyStruct (38 ∷ 91 ∷ 93 ∷
-            List.[]) (Syntax.tcons ref1 (Syntax.tcons (Syntax.tyInt Syntax.w64) Syntax.tnil))),) ∷ (13, Rows.any-gone ref2,) ∷ (14, Rows.any-gone
-            (Syntax.tyStruct (38 ∷ 91 ∷ 93 ∷ List.[]) (Syntax.tcons ref2 (Syntax.tcons (Syntax.tyInt Syntax.w64) Syntax.tnil))),) ∷ (15, Rows.any-gone
-            ref3,) ∷ List.[]
+        g3 = e0 ∷ l1 ∷ e2 ∷ e3 ∷ e4 ∷ e5 ∷ e6 ∷ e7 ∷ e8 ∷ e9·1 ∷ e10 ∷ e11 ∷ e12 ∷ e13 ∷ e14 ∷ e15 ∷ List.[]
+
         abbrev g4 : List.List Row.Entry
-        g4 = (0, Rows.any-gone Laws.mir,) ∷ (1, Relend.mslice-owed RelayPending.row ref5 0 5 life0,) ∷ (2, Mut.mslice RelayCircuit.row ref6 1,) ∷ (3,
-            Mut.mslice ReservationUsage.row ref7 2,) ∷ (4, Mut.mslice InflightAction.row ref8 3,) ∷ (5, Mut.mslice (Referent.rtF (Referent.fInt
-            Syntax.w32)) ref9 4,) ∷ (6, Rows.whole (Declared.row Relayed.the-type)) ∷ (7, Rows.sc-here (Row.sInt Syntax.w64),) ∷ (8, Rows.any-gone
-            Laws.mir,) ∷ (9, Rows.any-gone ref0,) ∷ (10, Mut.mslice RelayPending.row ref0 5,) ∷ (11, Rows.any-gone ref1,) ∷ (12, Rows.any-gone
-            (Syntax.tyStruct (38 ∷ 91 ∷ 93 ∷ List.[]) (Syntax.tcons ref1 (Syntax.tcons (Syntax.tyInt Syntax.w64) Syntax.tnil))),) ∷ (13, Rows.any-gone
-            ref2,) ∷ (14, Rows.any-gone (Syntax.tyStruct (38 ∷ 91 ∷ 93 ∷ List.[]) (Syntax.tcons ref2 (Syntax.tcons (Syntax.tyInt Syntax.w64)
-            Syntax.tnil))),) ∷ (15, Rows.any-gone ref3,) ∷ List.[]
+        g4 = e0 ∷ l1 ∷ e2 ∷ e3 ∷ e4 ∷ e5 ∷ e6 ∷ e7 ∷ e8 ∷ e9 ∷ e10·1 ∷ e11 ∷ e12 ∷ e13 ∷ e14 ∷ e15 ∷ List.[]
+
         abbrev g5 : List.List Row.Entry
-        g5 = (0, Rows.any-gone Laws.mir,) ∷ (1, Relend.mslice-owed RelayPending.row ref5 0 5 life0,) ∷ (2, Relend.mslice-owed RelayCircuit.row ref6 1
-            6 life1,) ∷ (3, Mut.mslice ReservationUsage.row ref7 2,) ∷ (4, Mut.mslice InflightAction.row ref8 3,) ∷ (5, Mut.mslice (Referent.rtF
-            (Referent.fInt Syntax.w32)) ref9 4,) ∷ (6, Rows.whole (Declared.row Relayed.the-type)) ∷ (7, Rows.sc-here (Row.sInt Syntax.w64),) ∷ (8,
-            Rows.any-gone Laws.mir,) ∷ (9, Rows.any-gone ref0,) ∷ (10, Mut.mslice RelayPending.row ref0 5,) ∷ (11, Relend.msptr RelayCircuit.row ref1
-            6,) ∷ (12, Rows.any-gone (Syntax.tyStruct (38 ∷ 91 ∷ 93 ∷ List.[]) (Syntax.tcons ref1 (Syntax.tcons (Syntax.tyInt Syntax.w64)
-            Syntax.tnil))),) ∷ (13, Rows.any-gone ref2,) ∷ (14, Rows.any-gone (Syntax.tyStruct (38 ∷ 91 ∷ 93 ∷ List.[]) (Syntax.tcons ref2
-            (Syntax.tcons (Syntax.tyInt Syntax.w64) Syntax.tnil))),) ∷ (15, Rows.any-gone ref3,) ∷ List.[]
+        g5 = e0 ∷ l1 ∷ l2 ∷ e3 ∷ e4 ∷ e5 ∷ e6 ∷ e7 ∷ e8 ∷ e9 ∷ e10·1 ∷ e11·1 ∷ e12 ∷ e13 ∷ e14 ∷ e15 ∷ List.[]
+
         abbrev g6 : List.List Row.Entry
-        g6 = (0, Rows.any-gone Laws.mir,) ∷ (1, Relend.mslice-owed RelayPending.row ref5 0 5 life0,) ∷ (2, Relend.mslice-owed RelayCircuit.row ref6 1
-            6 life1,) ∷ (3, Mut.mslice ReservationUsage.row ref7 2,) ∷ (4, Mut.mslice InflightAction.row ref8 3,) ∷ (5, Mut.mslice (Referent.rtF
-            (Referent.fInt Syntax.w32)) ref9 4,) ∷ (6, Rows.whole (Declared.row Relayed.the-type)) ∷ (7, Rows.sc-here (Row.sInt Syntax.w64),) ∷ (8,
-            Rows.any-gone Laws.mir,) ∷ (9, Rows.any-gone ref0,) ∷ (10, Mut.mslice RelayPending.row ref0 5,) ∷ (11, Rows.any-gone ref1,) ∷ (12,
-            Mut.mslice RelayCircuit.row ref1 6,) ∷ (13, Rows.any-gone ref2,) ∷ (14, Rows.any-gone (Syntax.tyStruct (38 ∷ 91 ∷ 93 ∷ List.[])
-            (Syntax.tcons ref2 (Syntax.tcons (Syntax.tyInt Syntax.w64) Syntax.tnil))),) ∷ (15, Rows.any-gone ref3,) ∷ List.[]
+        g6 = e0 ∷ l1 ∷ l2 ∷ e3 ∷ e4 ∷ e5 ∷ e6 ∷ e7 ∷ e8 ∷ e9 ∷ e10·1 ∷ e11 ∷ e12·1 ∷ e13 ∷ e14 ∷ e15 ∷ List.[]
+
         abbrev g7 : List.List Row.Entry
-        g7 = (0, Rows.any-gone Laws.mir,) ∷ (1, Relend.mslice-owed RelayPending.row ref5 0 5 life0,) ∷ (2, Relend.mslice-owed RelayCircuit.row ref6 1
-            6 life1,) ∷ (3, Relend.mslice-owed ReservationUsage.row ref7 2 7 life2,) ∷ (4, Mut.mslice InflightAction.row ref8 3,) ∷ (5, Mut.mslice
-            (Referent.rtF (Referent.fInt Syntax.w32)) ref9 4,) ∷ (6, Rows.whole (Declared.row Relayed.the-type)) ∷ (7, Rows.sc-here (Row.sInt
-            Syntax.w64),) ∷ (8, Rows.any-gone Laws.mir,) ∷ (9, Rows.any-gone ref0,) ∷ (10, Mut.mslice RelayPending.row ref0 5,) ∷ (11, Rows.any-gone
-            ref1,) ∷ (12, Mut.mslice RelayCircuit.row ref1 6,) ∷ (13, Relend.msptr ReservationUsage.row ref2 7,) ∷ (14, Rows.any-gone (Syntax.tyStruct
-            (38 ∷ 91 ∷ 93 ∷ List.[]) (Syntax.tcons ref2 (Syntax.tcons (Syntax.tyInt Syntax.w64) Syntax.tnil))),) ∷ (15, Rows.any-gone ref3,) ∷ List.[]
+        g7 = e0 ∷ l1 ∷ l2 ∷ l3 ∷ e4 ∷ e5 ∷ e6 ∷ e7 ∷ e8 ∷ e9 ∷ e10·1 ∷ e11 ∷ e12·1 ∷ e13·1 ∷ e14 ∷ e15 ∷ List.[]
+
         abbrev g8 : List.List Row.Entry
-        g8 = (0, Rows.any-gone Laws.mir,) ∷ (1, Relend.mslice-owed RelayPending.row ref5 0 5 life0,) ∷ (2, Relend.mslice-owed RelayCircuit.row ref6 1
-            6 life1,) ∷ (3, Relend.mslice-owed ReservationUsage.row ref7 2 7 life2,) ∷ (4, Mut.mslice InflightAction.row ref8 3,) ∷ (5, Mut.mslice
-            (Referent.rtF (Referent.fInt Syntax.w32)) ref9 4,) ∷ (6, Rows.whole (Declared.row Relayed.the-type)) ∷ (7, Rows.sc-here (Row.sInt
-            Syntax.w64),) ∷ (8, Rows.any-gone Laws.mir,) ∷ (9, Rows.any-gone ref0,) ∷ (10, Mut.mslice RelayPending.row ref0 5,) ∷ (11, Rows.any-gone
-            ref1,) ∷ (12, Mut.mslice RelayCircuit.row ref1 6,) ∷ (13, Rows.any-gone ref2,) ∷ (14, Mut.mslice ReservationUsage.row ref2 7,) ∷ (15,
-            Rows.any-gone ref3,) ∷ List.[]
+        g8 = e0 ∷ l1 ∷ l2 ∷ l3 ∷ e4 ∷ e5 ∷ e6 ∷ e7 ∷ e8 ∷ e9 ∷ e10·1 ∷ e11 ∷ e12·1 ∷ e13 ∷ e14·1 ∷ e15 ∷ List.[]
+
         abbrev g9 : List.List Row.Entry
-        g9 = (0, Rows.any-gone Laws.mir,) ∷ (1, Relend.mslice-owed RelayPending.row ref5 0 5 life0,) ∷ (2, Relend.mslice-owed RelayCircuit.row ref6 1
-            6 life1,) ∷ (3, Relend.mslice-owed ReservationUsage.row ref7 2 7 life2,) ∷ (4, Relend.mslice-owed InflightAction.row ref8 3 8 life3,) ∷
-            (5, Mut.mslice (Referent.rtF (Referent.fInt Syntax.w32)) ref9 4,) ∷ (6, Rows.whole (Declared.row Relayed.the-type)) ∷ (7, Rows.sc-here
-            (Row.sInt Syntax.w64),) ∷ (8, Rows.any-gone Laws.mir,) ∷ (9, Rows.any-gone ref0,) ∷ (10, Mut.mslice RelayPending.row ref0 5,) ∷ (11,
-            Rows.any-gone ref1,) ∷ (12, Mut.mslice RelayCircuit.row ref1 6,) ∷ (13, Rows.any-gone ref2,) ∷ (14, Mut.mslice ReservationUsage.row ref2
-            7,) ∷ (15, Relend.msptr InflightAction.row ref3 8,) ∷ List.[]
+        g9 = e0 ∷ l1 ∷ l2 ∷ l3 ∷ l4 ∷ e5 ∷ e6 ∷ e7 ∷ e8 ∷ e9 ∷ e10·1 ∷ e11 ∷ e12·1 ∷ e13 ∷ e14·1 ∷ e15·1 ∷ List.[]
+
         abbrev g10 : List.List Row.Entry
-        g10 = (0, Rows.any-gone Laws.mir,) ∷ (1, Relend.mslice-owed RelayPending.row ref5 0 5 life0,) ∷ (2, Relend.mslice-owed RelayCircuit.row ref6 1
-            6 life1,) ∷ (3, Relend.mslice-owed ReservationUsage.row ref7 2 7 life2,) ∷ (4, Relend.mslice-owed InflightAction.row ref8 3 8 life3,) ∷
-            (5, Mut.mslice (Referent.rtF (Referent.fInt Syntax.w32)) ref9 4,) ∷ (6, Rows.whole (Declared.row Relayed.the-type)) ∷ (7, Rows.sc-here
-            (Row.sInt Syntax.w64),) ∷ (8, Rows.any-gone Laws.mir,) ∷ (9, Rows.any-gone ref0,) ∷ (10, Mut.mslice RelayPending.row ref0 5,) ∷ (11,
-            Rows.any-gone ref1,) ∷ (12, Mut.mslice RelayCircuit.row ref1 6,) ∷ (13, Rows.any-gone ref2,) ∷ (14, Mut.mslice ReservationUsage.row ref2
-            7,) ∷ (15, Rows.any-gone ref3,) ∷ List.[]
+        g10 = e0 ∷ l1 ∷ l2 ∷ l3 ∷ l4 ∷ e5 ∷ e6 ∷ e7 ∷ e8 ∷ e9 ∷ e10·1 ∷ e11 ∷ e12·1 ∷ e13 ∷ e14·1 ∷ e15 ∷ List.[]
+
         abbrev g12 : List.List Row.Entry
-        g12 = (0, Rows.any-gone Laws.mir,) ∷ (1, Relend.mslice-owed RelayPending.row ref5 0 5 life0,) ∷ (2, Relend.mslice-owed RelayCircuit.row ref6 1
-            6 life1,) ∷ (3, Relend.mslice-owed ReservationUsage.row ref7 2 7 life2,) ∷ (4, Relend.mslice-owed InflightAction.row ref8 3 8 life3,) ∷
-            (5, Relend.mslice-owed (Referent.rtF (Referent.fInt Syntax.w32)) ref9 4 9 life4,) ∷ (6, Rows.whole (Declared.row Relayed.the-type)) ∷ (7,
-            Rows.sc-here (Row.sInt Syntax.w64),) ∷ (8, Rows.any-gone Laws.mir,) ∷ (9, Rows.any-gone ref0,) ∷ (10, Mut.mslice RelayPending.row ref0 5,)
-            ∷ (11, Rows.any-gone ref1,) ∷ (12, Mut.mslice RelayCircuit.row ref1 6,) ∷ (13, Rows.any-gone ref2,) ∷ (14, Mut.mslice ReservationUsage.row
-            ref2 7,) ∷ (15, Rows.any-gone ref3,) ∷ List.[]
+        g12 = e0 ∷ l1 ∷ l2 ∷ l3 ∷ l4 ∷ l5 ∷ e6 ∷ e7 ∷ e8 ∷ e9 ∷ e10·1 ∷ e11 ∷ e12·1 ∷ e13 ∷ e14·1 ∷ e15 ∷ List.[]
+
         abbrev g15 : List.List Row.Entry
-        g15 = (0, Rows.any-gone Laws.mir,) ∷ (1, Relend.mslice-owed RelayPending.row ref5 0 5 life0,) ∷ (2, Relend.mslice-owed RelayCircuit.row ref6 1
-            6 life1,) ∷ (3, Relend.mslice-owed ReservationUsage.row ref7 2 7 life2,) ∷ (4, Relend.mslice-owed InflightAction.row ref8 3 8 life3,) ∷
-            (5, Relend.mslice-owed (Referent.rtF (Referent.fInt Syntax.w32)) ref9 4 9 life4,) ∷ (6, Rows.whole (Declared.row Relayed.the-type)) ∷ (7,
-            Rows.sc-here (Row.sInt Syntax.w64),) ∷ (8, Rows.whole (Declared.row Relayed.the-type)) ∷ (9, Rows.any-gone ref0,) ∷ (10, Mut.msleft
-            RelayPending.row ref0,) ∷ (11, Rows.any-gone ref1,) ∷ (12, Mut.msleft RelayCircuit.row ref1,) ∷ (13, Rows.any-gone ref2,) ∷ (14,
-            Mut.msleft ReservationUsage.row ref2,) ∷ (15, Rows.any-gone ref3,) ∷ List.[]
+        g15 = e0 ∷ l1 ∷ l2 ∷ l3 ∷ l4 ∷ l5 ∷ e6 ∷ e7 ∷ e8·1 ∷ e9 ∷ e10·2 ∷ e11 ∷ e12·2 ∷ e13 ∷ e14·2 ∷ e15 ∷ List.[]
+
         abbrev g17 : List.List Row.Entry
-        g17 = (0, Rows.any-gone Laws.mir,) ∷ (1, Relend.mslice-owed RelayPending.row ref5 0 5 life0,) ∷ (2, Relend.mslice-owed RelayCircuit.row ref6 1
-            6 life1,) ∷ (3, Relend.mslice-owed ReservationUsage.row ref7 2 7 life2,) ∷ (4, Relend.mslice-owed InflightAction.row ref8 3 8 life3,) ∷
-            (5, Relend.mslice-owed (Referent.rtF (Referent.fInt Syntax.w32)) ref9 4 9 life4,) ∷ (6, Rows.any-gone Laws.mir,) ∷ (7, Rows.sc-here
-            (Row.sInt Syntax.w64)) ∷ (8, Rows.whole (Declared.row Relayed.the-type),) ∷ (9, Rows.any-gone ref0,) ∷ (10, Mut.msleft RelayPending.row
-            ref0,) ∷ (11, Rows.any-gone ref1,) ∷ (12, Mut.msleft RelayCircuit.row ref1,) ∷ (13, Rows.any-gone ref2,) ∷ (14, Mut.msleft
-            ReservationUsage.row ref2,) ∷ (15, Rows.any-gone ref3,) ∷ List.[]
+        g17 = e0 ∷ l1 ∷ l2 ∷ l3 ∷ l4 ∷ l5 ∷ e6·1 ∷ e7 ∷ e8·1 ∷ e9 ∷ e10·2 ∷ e11 ∷ e12·2 ∷ e13 ∷ e14·2 ∷ e15 ∷ List.[]
+
         abbrev g18 : List.List Row.Entry
-        g18 = (0, Rows.any-gone Laws.mir,) ∷ (1, Mut.mslice RelayPending.row ref5 0,) ∷ (2, Relend.mslice-owed RelayCircuit.row ref6 1 6 life1,) ∷ (3,
-            Relend.mslice-owed ReservationUsage.row ref7 2 7 life2,) ∷ (4, Relend.mslice-owed InflightAction.row ref8 3 8 life3,) ∷ (5,
-            Relend.mslice-owed (Referent.rtF (Referent.fInt Syntax.w32)) ref9 4 9 life4,) ∷ (6, Rows.any-gone Laws.mir,) ∷ (7, Rows.sc-here (Row.sInt
-            Syntax.w64)) ∷ (8, Rows.whole (Declared.row Relayed.the-type),) ∷ (9, Rows.any-gone ref0,) ∷ (10, Rows.any-gone (Syntax.tyStruct (38 ∷ 91
-            ∷ 93 ∷ List.[]) (Syntax.tcons ref0 (Syntax.tcons (Syntax.tyInt Syntax.w64) Syntax.tnil))),) ∷ (11, Rows.any-gone ref1,) ∷ (12, Mut.msleft
-            RelayCircuit.row ref1,) ∷ (13, Rows.any-gone ref2,) ∷ (14, Mut.msleft ReservationUsage.row ref2,) ∷ (15, Rows.any-gone ref3,) ∷ List.[]
+        g18 = e0 ∷ e1 ∷ l2 ∷ l3 ∷ l4 ∷ l5 ∷ e6·1 ∷ e7 ∷ e8·1 ∷ e9 ∷ e10 ∷ e11 ∷ e12·2 ∷ e13 ∷ e14·2 ∷ e15 ∷ List.[]
+
         abbrev g19 : List.List Row.Entry
-        g19 = (0, Rows.any-gone Laws.mir,) ∷ (1, Mut.mslice RelayPending.row ref5 0,) ∷ (2, Mut.mslice RelayCircuit.row ref6 1,) ∷ (3,
-            Relend.mslice-owed ReservationUsage.row ref7 2 7 life2,) ∷ (4, Relend.mslice-owed InflightAction.row ref8 3 8 life3,) ∷ (5,
-            Relend.mslice-owed (Referent.rtF (Referent.fInt Syntax.w32)) ref9 4 9 life4,) ∷ (6, Rows.any-gone Laws.mir,) ∷ (7, Rows.sc-here (Row.sInt
-            Syntax.w64)) ∷ (8, Rows.whole (Declared.row Relayed.the-type),) ∷ (9, Rows.any-gone ref0,) ∷ (10, Rows.any-gone (Syntax.tyStruct (38 ∷ 91
-            ∷ 93 ∷ List.[]) (Syntax.tcons ref0 (Syntax.tcons (Syntax.tyInt Syntax.w64) Syntax.tnil))),) ∷ (11, Rows.any-gone ref1,) ∷ (12,
-            Rows.any-gone (Syntax.tyStruct (38 ∷ 91 ∷ 93 ∷ List.[]) (Syntax.tcons ref1 (Syntax.tcons (Syntax.tyInt Syntax.w64) Syntax.tnil))),) ∷ (13,
-            Rows.any-gone ref2,) ∷ (14, Mut.msleft ReservationUsage.row ref2,) ∷ (15, Rows.any-gone ref3,) ∷ List.[]
+        g19 = e0 ∷ e1 ∷ e2 ∷ l3 ∷ l4 ∷ l5 ∷ e6·1 ∷ e7 ∷ e8·1 ∷ e9 ∷ e10 ∷ e11 ∷ e12 ∷ e13 ∷ e14·2 ∷ e15 ∷ List.[]
+
         abbrev g20 : List.List Row.Entry
-        g20 = (0, Rows.any-gone Laws.mir,) ∷ (1, Mut.mslice RelayPending.row ref5 0,) ∷ (2, Mut.mslice RelayCircuit.row ref6 1,) ∷ (3, Mut.mslice
-            ReservationUsage.row ref7 2,) ∷ (4, Relend.mslice-owed InflightAction.row ref8 3 8 life3,) ∷ (5, Relend.mslice-owed (Referent.rtF
-            (Referent.fInt Syntax.w32)) ref9 4 9 life4,) ∷ (6, Rows.any-gone Laws.mir,) ∷ (7, Rows.sc-here (Row.sInt Syntax.w64)) ∷ (8, Rows.whole
-            (Declared.row Relayed.the-type),) ∷ (9, Rows.any-gone ref0,) ∷ (10, Rows.any-gone (Syntax.tyStruct (38 ∷ 91 ∷ 93 ∷ List.[]) (Syntax.tcons
-            ref0 (Syntax.tcons (Syntax.tyInt Syntax.w64) Syntax.tnil))),) ∷ (11, Rows.any-gone ref1,) ∷ (12, Rows.any-gone (Syntax.tyStruct (38 ∷ 91 ∷
-            93 ∷ List.[]) (Syntax.tcons ref1 (Syntax.tcons (Syntax.tyInt Syntax.w64) Syntax.tnil))),) ∷ (13, Rows.any-gone ref2,) ∷ (14, Rows.any-gone
-            (Syntax.tyStruct (38 ∷ 91 ∷ 93 ∷ List.[]) (Syntax.tcons ref2 (Syntax.tcons (Syntax.tyInt Syntax.w64) Syntax.tnil))),) ∷ (15, Rows.any-gone
-            ref3,) ∷ List.[]
+        g20 = e0 ∷ e1 ∷ e2 ∷ e3 ∷ l4 ∷ l5 ∷ e6·1 ∷ e7 ∷ e8·1 ∷ e9 ∷ e10 ∷ e11 ∷ e12 ∷ e13 ∷ e14 ∷ e15 ∷ List.[]
+
         abbrev g21 : List.List Row.Entry
-        g21 = (0, Rows.any-gone Laws.mir,) ∷ (1, Mut.mslice RelayPending.row ref5 0,) ∷ (2, Mut.mslice RelayCircuit.row ref6 1,) ∷ (3, Mut.mslice
-            ReservationUsage.row ref7 2,) ∷ (4, Mut.mslice InflightAction.row ref8 3,) ∷ (5, Relend.mslice-owed (Referent.rtF (Referent.fInt
-            Syntax.w32)) ref9 4 9 life4,) ∷ (6, Rows.any-gone Laws.mir,) ∷ (7, Rows.sc-here (Row.sInt Syntax.w64)) ∷ (8, Rows.whole (Declared.row
-            Relayed.the-type),) ∷ (9, Rows.any-gone ref0,) ∷ (10, Rows.any-gone (Syntax.tyStruct (38 ∷ 91 ∷ 93 ∷ List.[]) (Syntax.tcons ref0
-            (Syntax.tcons (Syntax.tyInt Syntax.w64) Syntax.tnil))),) ∷ (11, Rows.any-gone ref1,) ∷ (12, Rows.any-gone (Syntax.tyStruct (38 ∷ 91 ∷ 93 ∷
-            List.[]) (Syntax.tcons ref1 (Syntax.tcons (Syntax.tyInt Syntax.w64) Syntax.tnil))),) ∷ (13, Rows.any-gone ref2,) ∷ (14, Rows.any-gone
-            (Syntax.tyStruct (38 ∷ 91 ∷ 93 ∷ List.[]) (Syntax.tcons ref2 (Syntax.tcons (Syntax.tyInt Syntax.w64) Syntax.tnil))),) ∷ (15, Rows.any-gone
-            ref3,) ∷ List.[]
+        g21 = e0 ∷ e1 ∷ e2 ∷ e3 ∷ e4 ∷ l5 ∷ e6·1 ∷ e7 ∷ e8·1 ∷ e9 ∷ e10 ∷ e11 ∷ e12 ∷ e13 ∷ e14 ∷ e15 ∷ List.[]
+
         abbrev g24 : List.List Row.Entry
-        g24 = (0, Rows.any-gone Laws.mir,) ∷ (1, Relend.mslice-owed RelayPending.row ref5 0 10 life0,) ∷ (2, Mut.mslice RelayCircuit.row ref6 1,) ∷
-            (3, Mut.mslice ReservationUsage.row ref7 2,) ∷ (4, Mut.mslice InflightAction.row ref8 3,) ∷ (5, Mut.mslice (Referent.rtF (Referent.fInt
-            Syntax.w32)) ref9 4,) ∷ (6, Rows.any-gone Laws.mir,) ∷ (7, Rows.sc-here (Row.sInt Syntax.w64)) ∷ (8, Rows.whole (Declared.row
-            Relayed.the-type),) ∷ (9, Rows.any-gone ref0,) ∷ (10, Rows.any-gone (Syntax.tyStruct (38 ∷ 91 ∷ 93 ∷ List.[]) (Syntax.tcons ref0
-            (Syntax.tcons (Syntax.tyInt Syntax.w64) Syntax.tnil))),) ∷ (11, Rows.any-gone ref1,) ∷ (12, Rows.any-gone (Syntax.tyStruct (38 ∷ 91 ∷ 93 ∷
-            List.[]) (Syntax.tcons ref1 (Syntax.tcons (Syntax.tyInt Syntax.w64) Syntax.tnil))),) ∷ (13, Rows.any-gone ref2,) ∷ (14, Rows.any-gone
-            (Syntax.tyStruct (38 ∷ 91 ∷ 93 ∷ List.[]) (Syntax.tcons ref2 (Syntax.tcons (Syntax.tyInt Syntax.w64) Syntax.tnil))),) ∷ (15, Rows.any-gone
-            ref3,) ∷ List.[]
+        g24 = e0 ∷ l1·1 ∷ e2 ∷ e3 ∷ e4 ∷ e5 ∷ e6·1 ∷ e7 ∷ e8·1 ∷ e9 ∷ e10 ∷ e11 ∷ e12 ∷ e13 ∷ e14 ∷ e15 ∷ List.[]
+
         abbrev g27 : List.List Row.Entry
-        g27 = (0, Rows.any-gone Laws.mir,) ∷ (1, Relend.mslice-owed RelayPending.row ref5 0 10 life0,) ∷ (2, Relend.mslice-owed RelayCircuit.row ref6
-            1 11 life1,) ∷ (3, Mut.mslice ReservationUsage.row ref7 2,) ∷ (4, Mut.mslice InflightAction.row ref8 3,) ∷ (5, Mut.mslice (Referent.rtF
-            (Referent.fInt Syntax.w32)) ref9 4,) ∷ (6, Rows.any-gone Laws.mir,) ∷ (7, Rows.sc-here (Row.sInt Syntax.w64)) ∷ (8, Rows.whole
-            (Declared.row Relayed.the-type),) ∷ (9, Rows.any-gone ref0,) ∷ (10, Rows.any-gone (Syntax.tyStruct (38 ∷ 91 ∷ 93 ∷ List.[]) (Syntax.tcons
-            ref0 (Syntax.tcons (Syntax.tyInt Syntax.w64) Syntax.tnil))),) ∷ (11, Rows.any-gone ref1,) ∷ (12, Rows.any-gone (Syntax.tyStruct (38 ∷ 91 ∷
-            93 ∷ List.[]) (Syntax.tcons ref1 (Syntax.tcons (Syntax.tyInt Syntax.w64) Syntax.tnil))),) ∷ (13, Rows.any-gone ref2,) ∷ (14, Rows.any-gone
-            (Syntax.tyStruct (38 ∷ 91 ∷ 93 ∷ List.[]) (Syntax.tcons ref2 (Syntax.tcons (Syntax.tyInt Syntax.w64) Syntax.tnil))),) ∷ (15, Rows.any-gone
-            ref3,) ∷ List.[]
+        g27 = e0 ∷ l1·1 ∷ l2·1 ∷ e3 ∷ e4 ∷ e5 ∷ e6·1 ∷ e7 ∷ e8·1 ∷ e9 ∷ e10 ∷ e11 ∷ e12 ∷ e13 ∷ e14 ∷ e15 ∷ List.[]
+
         abbrev g30 : List.List Row.Entry
-        g30 = (0, Rows.any-gone Laws.mir,) ∷ (1, Relend.mslice-owed RelayPending.row ref5 0 10 life0,) ∷ (2, Relend.mslice-owed RelayCircuit.row ref6
-            1 11 life1,) ∷ (3, Relend.mslice-owed ReservationUsage.row ref7 2 12 life2,) ∷ (4, Mut.mslice InflightAction.row ref8 3,) ∷ (5, Mut.mslice
-            (Referent.rtF (Referent.fInt Syntax.w32)) ref9 4,) ∷ (6, Rows.any-gone Laws.mir,) ∷ (7, Rows.sc-here (Row.sInt Syntax.w64)) ∷ (8,
-            Rows.whole (Declared.row Relayed.the-type),) ∷ (9, Rows.any-gone ref0,) ∷ (10, Rows.any-gone (Syntax.tyStruct (38 ∷ 91 ∷ 93 ∷ List.[])
-            (Syntax.tcons ref0 (Syntax.tcons (Syntax.tyInt Syntax.w64) Syntax.tnil))),) ∷ (11, Rows.any-gone ref1,) ∷ (12, Rows.any-gone
-            (Syntax.tyStruct (38 ∷ 91 ∷ 93 ∷ List.[]) (Syntax.tcons ref1 (Syntax.tcons (Syntax.tyInt Syntax.w64) Syntax.tnil))),) ∷ (13, Rows.any-gone
-            ref2,) ∷ (14, Rows.any-gone (Syntax.tyStruct (38 ∷ 91 ∷ 93 ∷ List.[]) (Syntax.tcons ref2 (Syntax.tcons (Syntax.tyInt Syntax.w64)
-            Syntax.tnil))),) ∷ (15, Rows.any-gone ref3,) ∷ List.[]
+        g30 = e0 ∷ l1·1 ∷ l2·1 ∷ l3·1 ∷ e4 ∷ e5 ∷ e6·1 ∷ e7 ∷ e8·1 ∷ e9 ∷ e10 ∷ e11 ∷ e12 ∷ e13 ∷ e14 ∷ e15 ∷ List.[]
+
         abbrev g33 : List.List Row.Entry
-        g33 = (0, Rows.any-gone Laws.mir,) ∷ (1, Relend.mslice-owed RelayPending.row ref5 0 10 life0,) ∷ (2, Relend.mslice-owed RelayCircuit.row ref6
-            1 11 life1,) ∷ (3, Relend.mslice-owed ReservationUsage.row ref7 2 12 life2,) ∷ (4, Relend.mslice-owed InflightAction.row ref8 3 13 life3,)
-            ∷ (5, Mut.mslice (Referent.rtF (Referent.fInt Syntax.w32)) ref9 4,) ∷ (6, Rows.any-gone Laws.mir,) ∷ (7, Rows.sc-here (Row.sInt
-            Syntax.w64)) ∷ (8, Rows.whole (Declared.row Relayed.the-type),) ∷ (9, Rows.any-gone ref0,) ∷ (10, Rows.any-gone (Syntax.tyStruct (38 ∷ 91
-            ∷ 93 ∷ List.[]) (Syntax.tcons ref0 (Syntax.tcons (Syntax.tyInt Syntax.w64) Syntax.tnil))),) ∷ (11, Rows.any-gone ref1,) ∷ (12,
-            Rows.any-gone (Syntax.tyStruct (38 ∷ 91 ∷ 93 ∷ List.[]) (Syntax.tcons ref1 (Syntax.tcons (Syntax.tyInt Syntax.w64) Syntax.tnil))),) ∷ (13,
-            Rows.any-gone ref2,) ∷ (14, Rows.any-gone (Syntax.tyStruct (38 ∷ 91 ∷ 93 ∷ List.[]) (Syntax.tcons ref2 (Syntax.tcons (Syntax.tyInt
-            Syntax.w64) Syntax.tnil))),) ∷ (15, Rows.any-gone ref3,) ∷ List.[]
+        g33 = e0 ∷ l1·1 ∷ l2·1 ∷ l3·1 ∷ l4·1 ∷ e5 ∷ e6·1 ∷ e7 ∷ e8·1 ∷ e9 ∷ e10 ∷ e11 ∷ e12 ∷ e13 ∷ e14 ∷ e15 ∷ List.[]
+
         abbrev g36 : List.List Row.Entry
-        g36 = (0, Rows.any-gone Laws.mir,) ∷ (1, Relend.mslice-owed RelayPending.row ref5 0 10 life0,) ∷ (2, Relend.mslice-owed RelayCircuit.row ref6
-            1 11 life1,) ∷ (3, Relend.mslice-owed ReservationUsage.row ref7 2 12 life2,) ∷ (4, Relend.mslice-owed InflightAction.row ref8 3 13 life3,)
-            ∷ (5, Relend.mslice-owed (Referent.rtF (Referent.fInt Syntax.w32)) ref9 4 14 life4,) ∷ (6, Rows.any-gone Laws.mir,) ∷ (7, Rows.sc-here
-            (Row.sInt Syntax.w64)) ∷ (8, Rows.whole (Declared.row Relayed.the-type),) ∷ (9, Rows.any-gone ref0,) ∷ (10, Rows.any-gone (Syntax.tyStruct
-            (38 ∷ 91 ∷ 93 ∷ List.[]) (Syntax.tcons ref0 (Syntax.tcons (Syntax.tyInt Syntax.w64) Syntax.tnil))),) ∷ (11, Rows.any-gone ref1,) ∷ (12,
-            Rows.any-gone (Syntax.tyStruct (38 ∷ 91 ∷ 93 ∷ List.[]) (Syntax.tcons ref1 (Syntax.tcons (Syntax.tyInt Syntax.w64) Syntax.tnil))),) ∷ (13,
-            Rows.any-gone ref2,) ∷ (14, Rows.any-gone (Syntax.tyStruct (38 ∷ 91 ∷ 93 ∷ List.[]) (Syntax.tcons ref2 (Syntax.tcons (Syntax.tyInt
-            Syntax.w64) Syntax.tnil))),) ∷ (15, Rows.any-gone ref3,) ∷ List.[]
+        g36 = e0 ∷ l1·1 ∷ l2·1 ∷ l3·1 ∷ l4·1 ∷ l5·1 ∷ e6·1 ∷ e7 ∷ e8·1 ∷ e9 ∷ e10 ∷ e11 ∷ e12 ∷ e13 ∷ e14 ∷ e15 ∷
+            List.[]
+
         abbrev g39 : List.List Row.Entry
-        g39 = (0, Rows.whole (Declared.row Relayed.the-type)) ∷ (1, Relend.mslice-owed RelayPending.row ref5 0 10 life0,) ∷ (2, Relend.mslice-owed
-            RelayCircuit.row ref6 1 11 life1,) ∷ (3, Relend.mslice-owed ReservationUsage.row ref7 2 12 life2,) ∷ (4, Relend.mslice-owed
-            InflightAction.row ref8 3 13 life3,) ∷ (5, Relend.mslice-owed (Referent.rtF (Referent.fInt Syntax.w32)) ref9 4 14 life4,) ∷ (6,
-            Rows.any-gone Laws.mir,) ∷ (7, Rows.sc-here (Row.sInt Syntax.w64)) ∷ (8, Rows.whole (Declared.row Relayed.the-type),) ∷ (9, Rows.any-gone
-            ref0,) ∷ (10, Rows.any-gone (Syntax.tyStruct (38 ∷ 91 ∷ 93 ∷ List.[]) (Syntax.tcons ref0 (Syntax.tcons (Syntax.tyInt Syntax.w64)
-            Syntax.tnil))),) ∷ (11, Rows.any-gone ref1,) ∷ (12, Rows.any-gone (Syntax.tyStruct (38 ∷ 91 ∷ 93 ∷ List.[]) (Syntax.tcons ref1
-            (Syntax.tcons (Syntax.tyInt Syntax.w64) Syntax.tnil))),) ∷ (13, Rows.any-gone ref2,) ∷ (14, Rows.any-gone (Syntax.tyStruct (38 ∷ 91 ∷ 93 ∷
-            List.[]) (Syntax.tcons ref2 (Syntax.tcons (Syntax.tyInt Syntax.w64) Syntax.tnil))),) ∷ (15, Rows.any-gone ref3,) ∷ List.[]
+        g39 = e0·1 ∷ l1·1 ∷ l2·1 ∷ l3·1 ∷ l4·1 ∷ l5·1 ∷ e6·1 ∷ e7 ∷ e8·1 ∷ e9 ∷ e10 ∷ e11 ∷ e12 ∷ e13 ∷ e14 ∷ e15 ∷
+            List.[]
+
         abbrev g41 : List.List Row.Entry
-        g41 = (0, Rows.whole (Declared.row Relayed.the-type)) ∷ (1, Relend.mslice-owed RelayPending.row ref5 0 10 life0,) ∷ (2, Relend.mslice-owed
-            RelayCircuit.row ref6 1 11 life1,) ∷ (3, Relend.mslice-owed ReservationUsage.row ref7 2 12 life2,) ∷ (4, Relend.mslice-owed
-            InflightAction.row ref8 3 13 life3,) ∷ (5, Relend.mslice-owed (Referent.rtF (Referent.fInt Syntax.w32)) ref9 4 14 life4,) ∷ (6,
-            Rows.any-gone Laws.mir,) ∷ (7, Rows.sc-here (Row.sInt Syntax.w64)) ∷ (8, Rows.any-gone Laws.mir,) ∷ (9, Rows.any-gone ref0,) ∷ (10,
-            Rows.any-gone (Syntax.tyStruct (38 ∷ 91 ∷ 93 ∷ List.[]) (Syntax.tcons ref0 (Syntax.tcons (Syntax.tyInt Syntax.w64) Syntax.tnil))),) ∷ (11,
-            Rows.any-gone ref1,) ∷ (12, Rows.any-gone (Syntax.tyStruct (38 ∷ 91 ∷ 93 ∷ List.[]) (Syntax.tcons ref1 (Syntax.tcons (Syntax.tyInt
-            Syntax.w64) Syntax.tnil))),) ∷ (13, Rows.any-gone ref2,) ∷ (14, Rows.any-gone (Syntax.tyStruct (38 ∷ 91 ∷ 93 ∷ List.[]) (Syntax.tcons ref2
-            (Syntax.tcons (Syntax.tyInt Syntax.w64) Syntax.tnil))),) ∷ (15, Rows.any-gone ref3,) ∷ List.[]
+        g41 = e0·1 ∷ l1·1 ∷ l2·1 ∷ l3·1 ∷ l4·1 ∷ l5·1 ∷ e6·1 ∷ e7 ∷ e8 ∷ e9 ∷ e10 ∷ e11 ∷ e12 ∷ e13 ∷ e14 ∷ e15 ∷
+            List.[]
+
         abbrev g42 : List.List Row.Entry
-        g42 = (0, Rows.whole (Declared.row Relayed.the-type)) ∷ (1, Mut.mslice RelayPending.row ref5 0,) ∷ (2, Relend.mslice-owed RelayCircuit.row
-            ref6 1 11 life1,) ∷ (3, Relend.mslice-owed ReservationUsage.row ref7 2 12 life2,) ∷ (4, Relend.mslice-owed InflightAction.row ref8 3 13
-            life3,) ∷ (5, Relend.mslice-owed (Referent.rtF (Referent.fInt Syntax.w32)) ref9 4 14 life4,) ∷ (6, Rows.any-gone Laws.mir,) ∷ (7,
-            Rows.sc-here (Row.sInt Syntax.w64)) ∷ (8, Rows.any-gone Laws.mir,) ∷ (9, Rows.any-gone ref0,) ∷ (10, Rows.any-gone (Syntax.tyStruct (38 ∷
-            91 ∷ 93 ∷ List.[]) (Syntax.tcons ref0 (Syntax.tcons (Syntax.tyInt Syntax.w64) Syntax.tnil))),) ∷ (11, Rows.any-gone ref1,) ∷ (12,
-            Rows.any-gone (Syntax.tyStruct (38 ∷ 91 ∷ 93 ∷ List.[]) (Syntax.tcons ref1 (Syntax.tcons (Syntax.tyInt Syntax.w64) Syntax.tnil))),) ∷ (13,
-            Rows.any-gone ref2,) ∷ (14, Rows.any-gone (Syntax.tyStruct (38 ∷ 91 ∷ 93 ∷ List.[]) (Syntax.tcons ref2 (Syntax.tcons (Syntax.tyInt
-            Syntax.w64) Syntax.tnil))),) ∷ (15, Rows.any-gone ref3,) ∷ List.[]
+        g42 = e0·1 ∷ e1 ∷ l2·1 ∷ l3·1 ∷ l4·1 ∷ l5·1 ∷ e6·1 ∷ e7 ∷ e8 ∷ e9 ∷ e10 ∷ e11 ∷ e12 ∷ e13 ∷ e14 ∷ e15 ∷ List.[]
+
         abbrev g44 : List.List Row.Entry
-        g44 = (0, Rows.whole (Declared.row Relayed.the-type)) ∷ (1, Mut.mslice RelayPending.row ref5 0,) ∷ (2, Mut.mslice RelayCircuit.row ref6 1,) ∷
-            (3, Relend.mslice-owed ReservationUsage.row ref7 2 12 life2,) ∷ (4, Relend.mslice-owed InflightAction.row ref8 3 13 life3,) ∷ (5,
-            Relend.mslice-owed (Referent.rtF (Referent.fInt Syntax.w32)) ref9 4 14 life4,) ∷ (6, Rows.any-gone Laws.mir,) ∷ (7, Rows.sc-here (Row.sInt
-            Syntax.w64)) ∷ (8, Rows.any-gone Laws.mir,) ∷ (9, Rows.any-gone ref0,) ∷ (10, Rows.any-gone (Syntax.tyStruct (38 ∷ 91 ∷ 93 ∷ List.[])
-            (Syntax.tcons ref0 (Syntax.tcons (Syntax.tyInt Syntax.w64) Syntax.tnil))),) ∷ (11, Rows.any-gone ref1,) ∷ (12, Rows.any-gone
-            (Syntax.tyStruct (38 ∷ 91 ∷ 93 ∷ List.[]) (Syntax.tcons ref1 (Syntax.tcons (Syntax.tyInt Syntax.w64) Syntax.tnil))),) ∷ (13, Rows.any-gone
-            ref2,) ∷ (14, Rows.any-gone (Syntax.tyStruct (38 ∷ 91 ∷ 93 ∷ List.[]) (Syntax.tcons ref2 (Syntax.tcons (Syntax.tyInt Syntax.w64)
-            Syntax.tnil))),) ∷ (15, Rows.any-gone ref3,) ∷ List.[]
+        g44 = e0·1 ∷ e1 ∷ e2 ∷ l3·1 ∷ l4·1 ∷ l5·1 ∷ e6·1 ∷ e7 ∷ e8 ∷ e9 ∷ e10 ∷ e11 ∷ e12 ∷ e13 ∷ e14 ∷ e15 ∷ List.[]
+
         abbrev g46 : List.List Row.Entry
-        g46 = (0, Rows.whole (Declared.row Relayed.the-type)) ∷ (1, Mut.mslice RelayPending.row ref5 0,) ∷ (2, Mut.mslice RelayCircuit.row ref6 1,) ∷
-            (3, Mut.mslice ReservationUsage.row ref7 2,) ∷ (4, Relend.mslice-owed InflightAction.row ref8 3 13 life3,) ∷ (5, Relend.mslice-owed
-            (Referent.rtF (Referent.fInt Syntax.w32)) ref9 4 14 life4,) ∷ (6, Rows.any-gone Laws.mir,) ∷ (7, Rows.sc-here (Row.sInt Syntax.w64)) ∷ (8,
-            Rows.any-gone Laws.mir,) ∷ (9, Rows.any-gone ref0,) ∷ (10, Rows.any-gone (Syntax.tyStruct (38 ∷ 91 ∷ 93 ∷ List.[]) (Syntax.tcons ref0
-            (Syntax.tcons (Syntax.tyInt Syntax.w64) Syntax.tnil))),) ∷ (11, Rows.any-gone ref1,) ∷ (12, Rows.any-gone (Syntax.tyStruct (38 ∷ 91 ∷ 93 ∷
-            List.[]) (Syntax.tcons ref1 (Syntax.tcons (Syntax.tyInt Syntax.w64) Syntax.tnil))),) ∷ (13, Rows.any-gone ref2,) ∷ (14, Rows.any-gone
-            (Syntax.tyStruct (38 ∷ 91 ∷ 93 ∷ List.[]) (Syntax.tcons ref2 (Syntax.tcons (Syntax.tyInt Syntax.w64) Syntax.tnil))),) ∷ (15, Rows.any-gone
-            ref3,) ∷ List.[]
+        g46 = e0·1 ∷ e1 ∷ e2 ∷ e3 ∷ l4·1 ∷ l5·1 ∷ e6·1 ∷ e7 ∷ e8 ∷ e9 ∷ e10 ∷ e11 ∷ e12 ∷ e13 ∷ e14 ∷ e15 ∷ List.[]
+
         abbrev g48 : List.List Row.Entry
-        g48 = (0, Rows.whole (Declared.row Relayed.the-type)) ∷ (1, Mut.mslice RelayPending.row ref5 0,) ∷ (2, Mut.mslice RelayCircuit.row ref6 1,) ∷
-            (3, Mut.mslice ReservationUsage.row ref7 2,) ∷ (4, Mut.mslice InflightAction.row ref8 3,) ∷ (5, Relend.mslice-owed (Referent.rtF
-            (Referent.fInt Syntax.w32)) ref9 4 14 life4,) ∷ (6, Rows.any-gone Laws.mir,) ∷ (7, Rows.sc-here (Row.sInt Syntax.w64)) ∷ (8, Rows.any-gone
-            Laws.mir,) ∷ (9, Rows.any-gone ref0,) ∷ (10, Rows.any-gone (Syntax.tyStruct (38 ∷ 91 ∷ 93 ∷ List.[]) (Syntax.tcons ref0 (Syntax.tcons
-            (Syntax.tyInt Syntax.w64) Syntax.tnil))),) ∷ (11, Rows.any-gone ref1,) ∷ (12, Rows.any-gone (Syntax.tyStruct (38 ∷ 91 ∷ 93 ∷ List.[])
-            (Syntax.tcons ref1 (Syntax.tcons (Syntax.tyInt Syntax.w64) Syntax.tnil))),) ∷ (13, Rows.any-gone ref2,) ∷ (14, Rows.any-gone
-            (Syntax.tyStruct (38 ∷ 91 ∷ 93 ∷ List.[]) (Syntax.tcons ref2 (Syntax.tcons (Syntax.tyInt Syntax.w64) Syntax.tnil))),) ∷ (15, Rows.any-gone
-            ref3,) ∷ List.[]
+        g48 = e0·1 ∷ e1 ∷ e2 ∷ e3 ∷ e4 ∷ l5·1 ∷ e6·1 ∷ e7 ∷ e8 ∷ e9 ∷ e10 ∷ e11 ∷ e12 ∷ e13 ∷ e14 ∷ e15 ∷ List.[]
+
         abbrev G0 : Row.Cx
-        G0 = record { locals = List._++_ t0 t1; slots = life0 ∷ life1 ∷ life2 ∷ life3 ∷ life4 ∷ Row.off ∷ Row.off ∷ Row.off ∷ Row.off ∷ Row.off ∷
-            Row.off ∷ Row.off ∷ Row.off ∷ Row.off ∷ Row.off ∷ List.[]; }
+        G0 = record {
+          locals = List._++_ t0 t1;
+          slots = life0 ∷ life1 ∷ life2 ∷ life3 ∷ life4 ∷ Row.off ∷ Row.off ∷ Row.off ∷ Row.off ∷ Row.off ∷ Row.off ∷
+              Row.off ∷ Row.off ∷ Row.off ∷ Row.off ∷ List.[];
+        }
+
         abbrev G1 : Row.Cx
-        G1 = record { locals = List._++_ t2 t1; slots = life0 ∷ life1 ∷ life2 ∷ life3 ∷ life4 ∷ Row.off ∷ Row.off ∷ Row.off ∷ Row.off ∷ Row.off ∷
-            Row.off ∷ Row.off ∷ Row.off ∷ Row.off ∷ Row.off ∷ List.[]; }
+        G1 = record {
+          locals = List._++_ t2 t1;
+          slots = life0 ∷ life1 ∷ life2 ∷ life3 ∷ life4 ∷ Row.off ∷ Row.off ∷ Row.off ∷ Row.off ∷ Row.off ∷ Row.off ∷
+              Row.off ∷ Row.off ∷ Row.off ∷ Row.off ∷ List.[];
+        }
+
         abbrev G2 : Row.Cx
-        G2 = record { locals = List._++_ t0 t1; slots = life0 ∷ life1 ∷ life2 ∷ life3 ∷ life4 ∷ Row.off ∷ Row.off ∷ Row.off ∷ Row.off ∷ Row.off ∷
-            Row.off ∷ Row.off ∷ Row.off ∷ Row.off ∷ Row.off ∷ List.[]; }
+        G2 = record {
+          locals = List._++_ t0 t1;
+          slots = life0 ∷ life1 ∷ life2 ∷ life3 ∷ life4 ∷ Row.off ∷ Row.off ∷ Row.off ∷ Row.off ∷ Row.off ∷ Row.off ∷
+              Row.off ∷ Row.off ∷ Row.off ∷ Row.off ∷ List.[];
+        }
+
         abbrev G3 : Row.Cx
-        G3 = record { locals = List._++_ t0 t1; slots = life0 ∷ life1 ∷ life2 ∷ life3 ∷ life4 ∷ Row.alive ∷ Row.off ∷ Row.off ∷ Row.off ∷ Row.off ∷
-            Row.off ∷ Row.off ∷ Row.off ∷ Row.off ∷ Row.off ∷ List.[]; }
+        G3 = record {
+          locals = List._++_ t0 t1;
+          slots = life0 ∷ life1 ∷ life2 ∷ life3 ∷ life4 ∷ Row.alive ∷ Row.off ∷ Row.off ∷ Row.off ∷ Row.off ∷ Row.off ∷
+              Row.off ∷ Row.off ∷ Row.off ∷ Row.off ∷ List.[];
+        }
+
         abbrev G4 : Row.Cx
-        G4 = record { locals = List._++_ g3 t1; slots = Row.off ∷ life1 ∷ life2 ∷ life3 ∷ life4 ∷ Row.alive ∷ Row.off ∷ Row.off ∷ Row.off ∷ Row.off ∷
-            Row.off ∷ Row.off ∷ Row.off ∷ Row.off ∷ Row.off ∷ List.[]; }
+        G4 = record {
+          locals = List._++_ g3 t1;
+          slots = Row.off ∷ life1 ∷ life2 ∷ life3 ∷ life4 ∷ Row.alive ∷ Row.off ∷ Row.off ∷ Row.off ∷ Row.off ∷ Row.off
+              ∷ Row.off ∷ Row.off ∷ Row.off ∷ Row.off ∷ List.[];
+        }
+
         abbrev G5 : Row.Cx
-        G5 = record { locals = List._++_ g4 t1; slots = Row.off ∷ life1 ∷ life2 ∷ life3 ∷ life4 ∷ Row.alive ∷ Row.off ∷ Row.off ∷ Row.off ∷ Row.off ∷
-            Row.off ∷ Row.off ∷ Row.off ∷ Row.off ∷ Row.off ∷ List.[]; }
+        G5 = record {
+          locals = List._++_ g4 t1;
+          slots = Row.off ∷ life1 ∷ life2 ∷ life3 ∷ life4 ∷ Row.alive ∷ Row.off ∷ Row.off ∷ Row.off ∷ Row.off ∷ Row.off
+              ∷ Row.off ∷ Row.off ∷ Row.off ∷ Row.off ∷ List.[];
+        }
+
         abbrev G6 : Row.Cx
-        G6 = record { locals = List._++_ g4 t1; slots = Row.off ∷ life1 ∷ life2 ∷ life3 ∷ life4 ∷ Row.alive ∷ Row.alive ∷ Row.off ∷ Row.off ∷ Row.off
-            ∷ Row.off ∷ Row.off ∷ Row.off ∷ Row.off ∷ Row.off ∷ List.[]; }
+        G6 = record {
+          locals = List._++_ g4 t1;
+          slots = Row.off ∷ life1 ∷ life2 ∷ life3 ∷ life4 ∷ Row.alive ∷ Row.alive ∷ Row.off ∷ Row.off ∷ Row.off ∷
+              Row.off ∷ Row.off ∷ Row.off ∷ Row.off ∷ Row.off ∷ List.[];
+        }
+
         abbrev G7 : Row.Cx
-        G7 = record { locals = List._++_ g5 t1; slots = Row.off ∷ Row.off ∷ life2 ∷ life3 ∷ life4 ∷ Row.alive ∷ Row.alive ∷ Row.off ∷ Row.off ∷
-            Row.off ∷ Row.off ∷ Row.off ∷ Row.off ∷ Row.off ∷ Row.off ∷ List.[]; }
+        G7 = record {
+          locals = List._++_ g5 t1;
+          slots = Row.off ∷ Row.off ∷ life2 ∷ life3 ∷ life4 ∷ Row.alive ∷ Row.alive ∷ Row.off ∷ Row.off ∷ Row.off ∷
+              Row.off ∷ Row.off ∷ Row.off ∷ Row.off ∷ Row.off ∷ List.[];
+        }
+
         abbrev G8 : Row.Cx
-        G8 = record { locals = List._++_ g6 t1; slots = Row.off ∷ Row.off ∷ life2 ∷ life3 ∷ life4 ∷ Row.alive ∷ Row.alive ∷ Row.off ∷ Row.off ∷
-            Row.off ∷ Row.off ∷ Row.off ∷ Row.off ∷ Row.off ∷ Row.off ∷ List.[]; }
+        G8 = record {
+          locals = List._++_ g6 t1;
+          slots = Row.off ∷ Row.off ∷ life2 ∷ life3 ∷ life4 ∷ Row.alive ∷ Row.alive ∷ Row.off ∷ Row.off ∷ Row.off ∷
+              Row.off ∷ Row.off ∷ Row.off ∷ Row.off ∷ Row.off ∷ List.[];
+        }
+
         abbrev G9 : Row.Cx
-        G9 = record { locals = List._++_ g6 t1; slots = Row.off ∷ Row.off ∷ life2 ∷ life3 ∷ life4 ∷ Row.alive ∷ Row.alive ∷ Row.alive ∷ Row.off ∷
-            Row.off ∷ Row.off ∷ Row.off ∷ Row.off ∷ Row.off ∷ Row.off ∷ List.[]; }
+        G9 = record {
+          locals = List._++_ g6 t1;
+          slots = Row.off ∷ Row.off ∷ life2 ∷ life3 ∷ life4 ∷ Row.alive ∷ Row.alive ∷ Row.alive ∷ Row.off ∷ Row.off ∷
+              Row.off ∷ Row.off ∷ Row.off ∷ Row.off ∷ Row.off ∷ List.[];
+        }
+
         abbrev G10 : Row.Cx
-        G10 = record { locals = List._++_ g7 t1; slots = Row.off ∷ Row.off ∷ Row.off ∷ life3 ∷ life4 ∷ Row.alive ∷ Row.alive ∷ Row.alive ∷ Row.off ∷
-            Row.off ∷ Row.off ∷ Row.off ∷ Row.off ∷ Row.off ∷ Row.off ∷ List.[]; }
+        G10 = record {
+          locals = List._++_ g7 t1;
+          slots = Row.off ∷ Row.off ∷ Row.off ∷ life3 ∷ life4 ∷ Row.alive ∷ Row.alive ∷ Row.alive ∷ Row.off ∷ Row.off ∷
+              Row.off ∷ Row.off ∷ Row.off ∷ Row.off ∷ Row.off ∷ List.[];
+        }
+
         abbrev G11 : Row.Cx
-        G11 = record { locals = List._++_ g8 t1; slots = Row.off ∷ Row.off ∷ Row.off ∷ life3 ∷ life4 ∷ Row.alive ∷ Row.alive ∷ Row.alive ∷ Row.off ∷
-            Row.off ∷ Row.off ∷ Row.off ∷ Row.off ∷ Row.off ∷ Row.off ∷ List.[]; }
+        G11 = record {
+          locals = List._++_ g8 t1;
+          slots = Row.off ∷ Row.off ∷ Row.off ∷ life3 ∷ life4 ∷ Row.alive ∷ Row.alive ∷ Row.alive ∷ Row.off ∷ Row.off ∷
+              Row.off ∷ Row.off ∷ Row.off ∷ Row.off ∷ Row.off ∷ List.[];
+        }
+
         abbrev G12 : Row.Cx
-        G12 = record { locals = List._++_ g8 t1; slots = Row.off ∷ Row.off ∷ Row.off ∷ life3 ∷ life4 ∷ Row.alive ∷ Row.alive ∷ Row.alive ∷ Row.alive ∷
-            Row.off ∷ Row.off ∷ Row.off ∷ Row.off ∷ Row.off ∷ Row.off ∷ List.[]; }
+        G12 = record {
+          locals = List._++_ g8 t1;
+          slots = Row.off ∷ Row.off ∷ Row.off ∷ life3 ∷ life4 ∷ Row.alive ∷ Row.alive ∷ Row.alive ∷ Row.alive ∷ Row.off
+              ∷ Row.off ∷ Row.off ∷ Row.off ∷ Row.off ∷ Row.off ∷ List.[];
+        }
+
         abbrev G13 : Row.Cx
-        G13 = record { locals = List._++_ g9 t1; slots = Row.off ∷ Row.off ∷ Row.off ∷ Row.off ∷ life4 ∷ Row.alive ∷ Row.alive ∷ Row.alive ∷ Row.alive
-            ∷ Row.off ∷ Row.off ∷ Row.off ∷ Row.off ∷ Row.off ∷ Row.off ∷ List.[]; }
+        G13 = record {
+          locals = List._++_ g9 t1;
+          slots = Row.off ∷ Row.off ∷ Row.off ∷ Row.off ∷ life4 ∷ Row.alive ∷ Row.alive ∷ Row.alive ∷ Row.alive ∷
+              Row.off ∷ Row.off ∷ Row.off ∷ Row.off ∷ Row.off ∷ Row.off ∷ List.[];
+        }
+
         abbrev G14 : Row.Cx
-        G14 = record { locals = List._++_ g10 t11; slots = Row.off ∷ Row.off ∷ Row.off ∷ Row.off ∷ life4 ∷ Row.alive ∷ Row.alive ∷ Row.alive ∷
-            Row.alive ∷ Row.off ∷ Row.off ∷ Row.off ∷ Row.off ∷ Row.off ∷ Row.off ∷ List.[]; }
+        G14 = record {
+          locals = List._++_ g10 t11;
+          slots = Row.off ∷ Row.off ∷ Row.off ∷ Row.off ∷ life4 ∷ Row.alive ∷ Row.alive ∷ Row.alive ∷ Row.alive ∷
+              Row.off ∷ Row.off ∷ Row.off ∷ Row.off ∷ Row.off ∷ Row.off ∷ List.[];
+        }
+
         abbrev G15 : Row.Cx
-        G15 = record { locals = List._++_ g10 t11; slots = Row.off ∷ Row.off ∷ Row.off ∷ Row.off ∷ life4 ∷ Row.alive ∷ Row.alive ∷ Row.alive ∷
-            Row.alive ∷ Row.alive ∷ Row.off ∷ Row.off ∷ Row.off ∷ Row.off ∷ Row.off ∷ List.[]; }
+        G15 = record {
+          locals = List._++_ g10 t11;
+          slots = Row.off ∷ Row.off ∷ Row.off ∷ Row.off ∷ life4 ∷ Row.alive ∷ Row.alive ∷ Row.alive ∷ Row.alive ∷
+              Row.alive ∷ Row.off ∷ Row.off ∷ Row.off ∷ Row.off ∷ Row.off ∷ List.[];
+        }
+
         abbrev G16 : Row.Cx
-        G16 = record { locals = List._++_ g12 t13; slots = Row.off ∷ Row.off ∷ Row.off ∷ Row.off ∷ Row.off ∷ Row.alive ∷ Row.alive ∷ Row.alive ∷
-            Row.alive ∷ Row.alive ∷ Row.off ∷ Row.off ∷ Row.off ∷ Row.off ∷ Row.off ∷ List.[]; }
+        G16 = record {
+          locals = List._++_ g12 t13;
+          slots = Row.off ∷ Row.off ∷ Row.off ∷ Row.off ∷ Row.off ∷ Row.alive ∷ Row.alive ∷ Row.alive ∷ Row.alive ∷
+              Row.alive ∷ Row.off ∷ Row.off ∷ Row.off ∷ Row.off ∷ Row.off ∷ List.[];
+        }
+
         abbrev G17 : Row.Cx
-        G17 = record { locals = List._++_ g12 t14; slots = Row.off ∷ Row.off ∷ Row.off ∷ Row.off ∷ Row.off ∷ Row.alive ∷ Row.alive ∷ Row.alive ∷
-            Row.alive ∷ Row.alive ∷ Row.off ∷ Row.off ∷ Row.off ∷ Row.off ∷ Row.off ∷ List.[]; }
+        G17 = record {
+          locals = List._++_ g12 t14;
+          slots = Row.off ∷ Row.off ∷ Row.off ∷ Row.off ∷ Row.off ∷ Row.alive ∷ Row.alive ∷ Row.alive ∷ Row.alive ∷
+              Row.alive ∷ Row.off ∷ Row.off ∷ Row.off ∷ Row.off ∷ Row.off ∷ List.[];
+        }
+
         abbrev G18 : Row.Cx
-        G18 = record { locals = List._++_ g15 t16; slots = Row.off ∷ Row.off ∷ Row.off ∷ Row.off ∷ Row.off ∷ Row.alive ∷ Row.alive ∷ Row.alive ∷
-            Row.alive ∷ Row.alive ∷ Row.off ∷ Row.off ∷ Row.off ∷ Row.off ∷ Row.off ∷ List.[]; }
+        G18 = record {
+          locals = List._++_ g15 t16;
+          slots = Row.off ∷ Row.off ∷ Row.off ∷ Row.off ∷ Row.off ∷ Row.alive ∷ Row.alive ∷ Row.alive ∷ Row.alive ∷
+              Row.alive ∷ Row.off ∷ Row.off ∷ Row.off ∷ Row.off ∷ Row.off ∷ List.[];
+        }
+
         abbrev G19 : Row.Cx
-        G19 = record { locals = List._++_ g17 t16; slots = Row.off ∷ Row.off ∷ Row.off ∷ Row.off ∷ Row.off ∷ Row.alive ∷ Row.alive ∷ Row.alive ∷
-            Row.alive ∷ Row.alive ∷ Row.off ∷ Row.off ∷ Row.off ∷ Row.off ∷ Row.off ∷ List.[]; }
+        G19 = record {
+          locals = List._++_ g17 t16;
+          slots = Row.off ∷ Row.off ∷ Row.off ∷ Row.off ∷ Row.off ∷ Row.alive ∷ Row.alive ∷ Row.alive ∷ Row.alive ∷
+              Row.alive ∷ Row.off ∷ Row.off ∷ Row.off ∷ Row.off ∷ Row.off ∷ List.[];
+        }
+
         abbrev G20 : Row.Cx
-        G20 = record { locals = List._++_ g17 t16; slots = Row.off ∷ Row.off ∷ Row.off ∷ Row.off ∷ Row.off ∷ Row.dead ∷ Row.alive ∷ Row.alive ∷
-            Row.alive ∷ Row.alive ∷ Row.off ∷ Row.off ∷ Row.off ∷ Row.off ∷ Row.off ∷ List.[]; }
+        G20 = record {
+          locals = List._++_ g17 t16;
+          slots = Row.off ∷ Row.off ∷ Row.off ∷ Row.off ∷ Row.off ∷ Row.dead ∷ Row.alive ∷ Row.alive ∷ Row.alive ∷
+              Row.alive ∷ Row.off ∷ Row.off ∷ Row.off ∷ Row.off ∷ Row.off ∷ List.[];
+        }
+
         abbrev G21 : Row.Cx
-        G21 = record { locals = List._++_ g18 t16; slots = life0 ∷ Row.off ∷ Row.off ∷ Row.off ∷ Row.off ∷ Row.dead ∷ Row.alive ∷ Row.alive ∷
-            Row.alive ∷ Row.alive ∷ Row.off ∷ Row.off ∷ Row.off ∷ Row.off ∷ Row.off ∷ List.[]; }
+        G21 = record {
+          locals = List._++_ g18 t16;
+          slots = life0 ∷ Row.off ∷ Row.off ∷ Row.off ∷ Row.off ∷ Row.dead ∷ Row.alive ∷ Row.alive ∷ Row.alive ∷
+              Row.alive ∷ Row.off ∷ Row.off ∷ Row.off ∷ Row.off ∷ Row.off ∷ List.[];
+        }
+
         abbrev G22 : Row.Cx
-        G22 = record { locals = List._++_ g18 t16; slots = life0 ∷ Row.off ∷ Row.off ∷ Row.off ∷ Row.off ∷ Row.off ∷ Row.alive ∷ Row.alive ∷ Row.alive
-            ∷ Row.alive ∷ Row.off ∷ Row.off ∷ Row.off ∷ Row.off ∷ Row.off ∷ List.[]; }
+        G22 = record {
+          locals = List._++_ g18 t16;
+          slots = life0 ∷ Row.off ∷ Row.off ∷ Row.off ∷ Row.off ∷ Row.off ∷ Row.alive ∷ Row.alive ∷ Row.alive ∷
+              Row.alive ∷ Row.off ∷ Row.off ∷ Row.off ∷ Row.off ∷ Row.off ∷ List.[];
+        }
+
         abbrev G23 : Row.Cx
-        G23 = record { locals = List._++_ g18 t16; slots = life0 ∷ Row.off ∷ Row.off ∷ Row.off ∷ Row.off ∷ Row.off ∷ Row.dead ∷ Row.alive ∷ Row.alive
-            ∷ Row.alive ∷ Row.off ∷ Row.off ∷ Row.off ∷ Row.off ∷ Row.off ∷ List.[]; }
+        G23 = record {
+          locals = List._++_ g18 t16;
+          slots = life0 ∷ Row.off ∷ Row.off ∷ Row.off ∷ Row.off ∷ Row.off ∷ Row.dead ∷ Row.alive ∷ Row.alive ∷
+              Row.alive ∷ Row.off ∷ Row.off ∷ Row.off ∷ Row.off ∷ Row.off ∷ List.[];
+        }
+
         abbrev G24 : Row.Cx
-        G24 = record { locals = List._++_ g19 t16; slots = life0 ∷ life1 ∷ Row.off ∷ Row.off ∷ Row.off ∷ Row.off ∷ Row.dead ∷ Row.alive ∷ Row.alive ∷
-            Row.alive ∷ Row.off ∷ Row.off ∷ Row.off ∷ Row.off ∷ Row.off ∷ List.[]; }
+        G24 = record {
+          locals = List._++_ g19 t16;
+          slots = life0 ∷ life1 ∷ Row.off ∷ Row.off ∷ Row.off ∷ Row.off ∷ Row.dead ∷ Row.alive ∷ Row.alive ∷ Row.alive
+              ∷ Row.off ∷ Row.off ∷ Row.off ∷ Row.off ∷ Row.off ∷ List.[];
+        }
+
         abbrev G25 : Row.Cx
-        G25 = record { locals = List._++_ g19 t16; slots = life0 ∷ life1 ∷ Row.off ∷ Row.off ∷ Row.off ∷ Row.off ∷ Row.off ∷ Row.alive ∷ Row.alive ∷
-            Row.alive ∷ Row.off ∷ Row.off ∷ Row.off ∷ Row.off ∷ Row.off ∷ List.[]; }
+        G25 = record {
+          locals = List._++_ g19 t16;
+          slots = life0 ∷ life1 ∷ Row.off ∷ Row.off ∷ Row.off ∷ Row.off ∷ Row.off ∷ Row.alive ∷ Row.alive ∷ Row.alive ∷
+              Row.off ∷ Row.off ∷ Row.off ∷ Row.off ∷ Row.off ∷ List.[];
+        }
+
         abbrev G26 : Row.Cx
-        G26 = record { locals = List._++_ g19 t16; slots = life0 ∷ life1 ∷ Row.off ∷ Row.off ∷ Row.off ∷ Row.off ∷ Row.off ∷ Row.dead ∷ Row.alive ∷
-            Row.alive ∷ Row.off ∷ Row.off ∷ Row.off ∷ Row.off ∷ Row.off ∷ List.[]; }
+        G26 = record {
+          locals = List._++_ g19 t16;
+          slots = life0 ∷ life1 ∷ Row.off ∷ Row.off ∷ Row.off ∷ Row.off ∷ Row.off ∷ Row.dead ∷ Row.alive ∷ Row.alive ∷
+              Row.off ∷ Row.off ∷ Row.off ∷ Row.off ∷ Row.off ∷ List.[];
+        }
+
         abbrev G27 : Row.Cx
-        G27 = record { locals = List._++_ g20 t16; slots = life0 ∷ life1 ∷ life2 ∷ Row.off ∷ Row.off ∷ Row.off ∷ Row.off ∷ Row.dead ∷ Row.alive ∷
-            Row.alive ∷ Row.off ∷ Row.off ∷ Row.off ∷ Row.off ∷ Row.off ∷ List.[]; }
+        G27 = record {
+          locals = List._++_ g20 t16;
+          slots = life0 ∷ life1 ∷ life2 ∷ Row.off ∷ Row.off ∷ Row.off ∷ Row.off ∷ Row.dead ∷ Row.alive ∷ Row.alive ∷
+              Row.off ∷ Row.off ∷ Row.off ∷ Row.off ∷ Row.off ∷ List.[];
+        }
+
         abbrev G28 : Row.Cx
-        G28 = record { locals = List._++_ g20 t16; slots = life0 ∷ life1 ∷ life2 ∷ Row.off ∷ Row.off ∷ Row.off ∷ Row.off ∷ Row.off ∷ Row.alive ∷
-            Row.alive ∷ Row.off ∷ Row.off ∷ Row.off ∷ Row.off ∷ Row.off ∷ List.[]; }
+        G28 = record {
+          locals = List._++_ g20 t16;
+          slots = life0 ∷ life1 ∷ life2 ∷ Row.off ∷ Row.off ∷ Row.off ∷ Row.off ∷ Row.off ∷ Row.alive ∷ Row.alive ∷
+              Row.off ∷ Row.off ∷ Row.off ∷ Row.off ∷ Row.off ∷ List.[];
+        }
+
         abbrev G29 : Row.Cx
-        G29 = record { locals = List._++_ g20 t16; slots = life0 ∷ life1 ∷ life2 ∷ Row.off ∷ Row.off ∷ Row.off ∷ Row.off ∷ Row.off ∷ Row.dead ∷
-            Row.alive ∷ Row.off ∷ Row.off ∷ Row.off ∷ Row.off ∷ Row.off ∷ List.[]; }
+        G29 = record {
+          locals = List._++_ g20 t16;
+          slots = life0 ∷ life1 ∷ life2 ∷ Row.off ∷ Row.off ∷ Row.off ∷ Row.off ∷ Row.off ∷ Row.dead ∷ Row.alive ∷
+              Row.off ∷ Row.off ∷ Row.off ∷ Row.off ∷ Row.off ∷ List.[];
+        }
+
         abbrev G30 : Row.Cx
-        G30 = record { locals = List._++_ g21 t22; slots = life0 ∷ life1 ∷ life2 ∷ life3 ∷ Row.off ∷ Row.off ∷ Row.off ∷ Row.off ∷ Row.dead ∷
-            Row.alive ∷ Row.off ∷ Row.off ∷ Row.off ∷ Row.off ∷ Row.off ∷ List.[]; }
+        G30 = record {
+          locals = List._++_ g21 t22;
+          slots = life0 ∷ life1 ∷ life2 ∷ life3 ∷ Row.off ∷ Row.off ∷ Row.off ∷ Row.off ∷ Row.dead ∷ Row.alive ∷
+              Row.off ∷ Row.off ∷ Row.off ∷ Row.off ∷ Row.off ∷ List.[];
+        }
+
         abbrev G31 : Row.Cx
-        G31 = record { locals = List._++_ g21 t22; slots = life0 ∷ life1 ∷ life2 ∷ life3 ∷ Row.off ∷ Row.off ∷ Row.off ∷ Row.off ∷ Row.off ∷ Row.alive
-            ∷ Row.off ∷ Row.off ∷ Row.off ∷ Row.off ∷ Row.off ∷ List.[]; }
+        G31 = record {
+          locals = List._++_ g21 t22;
+          slots = life0 ∷ life1 ∷ life2 ∷ life3 ∷ Row.off ∷ Row.off ∷ Row.off ∷ Row.off ∷ Row.off ∷ Row.alive ∷ Row.off
+              ∷ Row.off ∷ Row.off ∷ Row.off ∷ Row.off ∷ List.[];
+        }
+
         abbrev G32 : Row.Cx
-        G32 = record { locals = List._++_ g21 t22; slots = life0 ∷ life1 ∷ life2 ∷ life3 ∷ Row.off ∷ Row.off ∷ Row.off ∷ Row.off ∷ Row.off ∷ Row.dead
-            ∷ Row.off ∷ Row.off ∷ Row.off ∷ Row.off ∷ Row.off ∷ List.[]; }
+        G32 = record {
+          locals = List._++_ g21 t22;
+          slots = life0 ∷ life1 ∷ life2 ∷ life3 ∷ Row.off ∷ Row.off ∷ Row.off ∷ Row.off ∷ Row.off ∷ Row.dead ∷ Row.off
+              ∷ Row.off ∷ Row.off ∷ Row.off ∷ Row.off ∷ List.[];
+        }
+
         abbrev G33 : Row.Cx
-        G33 = record { locals = List._++_ t23 t1; slots = life0 ∷ life1 ∷ life2 ∷ life3 ∷ life4 ∷ Row.off ∷ Row.off ∷ Row.off ∷ Row.off ∷ Row.dead ∷
-            Row.off ∷ Row.off ∷ Row.off ∷ Row.off ∷ Row.off ∷ List.[]; }
+        G33 = record {
+          locals = List._++_ t23 t1;
+          slots = life0 ∷ life1 ∷ life2 ∷ life3 ∷ life4 ∷ Row.off ∷ Row.off ∷ Row.off ∷ Row.off ∷ Row.dead ∷ Row.off ∷
+              Row.off ∷ Row.off ∷ Row.off ∷ Row.off ∷ List.[];
+        }
+
         abbrev G34 : Row.Cx
-        G34 = record { locals = List._++_ t23 t1; slots = life0 ∷ life1 ∷ life2 ∷ life3 ∷ life4 ∷ Row.off ∷ Row.off ∷ Row.off ∷ Row.off ∷ Row.dead ∷
-            Row.off ∷ Row.off ∷ Row.off ∷ Row.off ∷ Row.off ∷ List.[]; }
+        G34 = record {
+          locals = List._++_ t23 t1;
+          slots = life0 ∷ life1 ∷ life2 ∷ life3 ∷ life4 ∷ Row.off ∷ Row.off ∷ Row.off ∷ Row.off ∷ Row.dead ∷ Row.off ∷
+              Row.off ∷ Row.off ∷ Row.off ∷ Row.off ∷ List.[];
+        }
+
         abbrev G35 : Row.Cx
-        G35 = record { locals = List._++_ t23 t1; slots = life0 ∷ life1 ∷ life2 ∷ life3 ∷ life4 ∷ Row.off ∷ Row.off ∷ Row.off ∷ Row.off ∷ Row.off ∷
-            Row.off ∷ Row.off ∷ Row.off ∷ Row.off ∷ Row.off ∷ List.[]; }
+        G35 = record {
+          locals = List._++_ t23 t1;
+          slots = life0 ∷ life1 ∷ life2 ∷ life3 ∷ life4 ∷ Row.off ∷ Row.off ∷ Row.off ∷ Row.off ∷ Row.off ∷ Row.off ∷
+              Row.off ∷ Row.off ∷ Row.off ∷ Row.off ∷ List.[];
+        }
+
         abbrev G36 : Row.Cx
-        G36 = record { locals = List._++_ t23 t1; slots = life0 ∷ life1 ∷ life2 ∷ life3 ∷ life4 ∷ Row.off ∷ Row.off ∷ Row.off ∷ Row.off ∷ Row.off ∷
-            Row.alive ∷ Row.off ∷ Row.off ∷ Row.off ∷ Row.off ∷ List.[]; }
+        G36 = record {
+          locals = List._++_ t23 t1;
+          slots = life0 ∷ life1 ∷ life2 ∷ life3 ∷ life4 ∷ Row.off ∷ Row.off ∷ Row.off ∷ Row.off ∷ Row.off ∷ Row.alive ∷
+              Row.off ∷ Row.off ∷ Row.off ∷ Row.off ∷ List.[];
+        }
+
         abbrev G37 : Row.Cx
-        G37 = record { locals = List._++_ g24 t25; slots = Row.off ∷ life1 ∷ life2 ∷ life3 ∷ life4 ∷ Row.off ∷ Row.off ∷ Row.off ∷ Row.off ∷ Row.off ∷
-            Row.alive ∷ Row.off ∷ Row.off ∷ Row.off ∷ Row.off ∷ List.[]; }
+        G37 = record {
+          locals = List._++_ g24 t25;
+          slots = Row.off ∷ life1 ∷ life2 ∷ life3 ∷ life4 ∷ Row.off ∷ Row.off ∷ Row.off ∷ Row.off ∷ Row.off ∷ Row.alive
+              ∷ Row.off ∷ Row.off ∷ Row.off ∷ Row.off ∷ List.[];
+        }
+
         abbrev G38 : Row.Cx
-        G38 = record { locals = List._++_ g24 t26; slots = Row.off ∷ life1 ∷ life2 ∷ life3 ∷ life4 ∷ Row.off ∷ Row.off ∷ Row.off ∷ Row.off ∷ Row.off ∷
-            Row.alive ∷ Row.off ∷ Row.off ∷ Row.off ∷ Row.off ∷ List.[]; }
+        G38 = record {
+          locals = List._++_ g24 t26;
+          slots = Row.off ∷ life1 ∷ life2 ∷ life3 ∷ life4 ∷ Row.off ∷ Row.off ∷ Row.off ∷ Row.off ∷ Row.off ∷ Row.alive
+              ∷ Row.off ∷ Row.off ∷ Row.off ∷ Row.off ∷ List.[];
+        }
+
         abbrev G39 : Row.Cx
-        G39 = record { locals = List._++_ g24 t26; slots = Row.off ∷ life1 ∷ life2 ∷ life3 ∷ life4 ∷ Row.off ∷ Row.off ∷ Row.off ∷ Row.off ∷ Row.off ∷
-            Row.alive ∷ Row.alive ∷ Row.off ∷ Row.off ∷ Row.off ∷ List.[]; }
+        G39 = record {
+          locals = List._++_ g24 t26;
+          slots = Row.off ∷ life1 ∷ life2 ∷ life3 ∷ life4 ∷ Row.off ∷ Row.off ∷ Row.off ∷ Row.off ∷ Row.off ∷ Row.alive
+              ∷ Row.alive ∷ Row.off ∷ Row.off ∷ Row.off ∷ List.[];
+        }
+
         abbrev G40 : Row.Cx
-        G40 = record { locals = List._++_ g27 t28; slots = Row.off ∷ Row.off ∷ life2 ∷ life3 ∷ life4 ∷ Row.off ∷ Row.off ∷ Row.off ∷ Row.off ∷ Row.off
-            ∷ Row.alive ∷ Row.alive ∷ Row.off ∷ Row.off ∷ Row.off ∷ List.[]; }
+        G40 = record {
+          locals = List._++_ g27 t28;
+          slots = Row.off ∷ Row.off ∷ life2 ∷ life3 ∷ life4 ∷ Row.off ∷ Row.off ∷ Row.off ∷ Row.off ∷ Row.off ∷
+              Row.alive ∷ Row.alive ∷ Row.off ∷ Row.off ∷ Row.off ∷ List.[];
+        }
+
         abbrev G41 : Row.Cx
-        G41 = record { locals = List._++_ g27 t29; slots = Row.off ∷ Row.off ∷ life2 ∷ life3 ∷ life4 ∷ Row.off ∷ Row.off ∷ Row.off ∷ Row.off ∷ Row.off
-            ∷ Row.alive ∷ Row.alive ∷ Row.off ∷ Row.off ∷ Row.off ∷ List.[]; }
+        G41 = record {
+          locals = List._++_ g27 t29;
+          slots = Row.off ∷ Row.off ∷ life2 ∷ life3 ∷ life4 ∷ Row.off ∷ Row.off ∷ Row.off ∷ Row.off ∷ Row.off ∷
+              Row.alive ∷ Row.alive ∷ Row.off ∷ Row.off ∷ Row.off ∷ List.[];
+        }
+
         abbrev G42 : Row.Cx
-        G42 = record { locals = List._++_ g27 t29; slots = Row.off ∷ Row.off ∷ life2 ∷ life3 ∷ life4 ∷ Row.off ∷ Row.off ∷ Row.off ∷ Row.off ∷ Row.off
-            ∷ Row.alive ∷ Row.alive ∷ Row.alive ∷ Row.off ∷ Row.off ∷ List.[]; }
+        G42 = record {
+          locals = List._++_ g27 t29;
+          slots = Row.off ∷ Row.off ∷ life2 ∷ life3 ∷ life4 ∷ Row.off ∷ Row.off ∷ Row.off ∷ Row.off ∷ Row.off ∷
+              Row.alive ∷ Row.alive ∷ Row.alive ∷ Row.off ∷ Row.off ∷ List.[];
+        }
+
         abbrev G43 : Row.Cx
-        G43 = record { locals = List._++_ g30 t31; slots = Row.off ∷ Row.off ∷ Row.off ∷ life3 ∷ life4 ∷ Row.off ∷ Row.off ∷ Row.off ∷ Row.off ∷
-            Row.off ∷ Row.alive ∷ Row.alive ∷ Row.alive ∷ Row.off ∷ Row.off ∷ List.[]; }
+        G43 = record {
+          locals = List._++_ g30 t31;
+          slots = Row.off ∷ Row.off ∷ Row.off ∷ life3 ∷ life4 ∷ Row.off ∷ Row.off ∷ Row.off ∷ Row.off ∷ Row.off ∷
+              Row.alive ∷ Row.alive ∷ Row.alive ∷ Row.off ∷ Row.off ∷ List.[];
+        }
+
         abbrev G44 : Row.Cx
-        G44 = record { locals = List._++_ g30 t32; slots = Row.off ∷ Row.off ∷ Row.off ∷ life3 ∷ life4 ∷ Row.off ∷ Row.off ∷ Row.off ∷ Row.off ∷
-            Row.off ∷ Row.alive ∷ Row.alive ∷ Row.alive ∷ Row.off ∷ Row.off ∷ List.[]; }
+        G44 = record {
+          locals = List._++_ g30 t32;
+          slots = Row.off ∷ Row.off ∷ Row.off ∷ life3 ∷ life4 ∷ Row.off ∷ Row.off ∷ Row.off ∷ Row.off ∷ Row.off ∷
+              Row.alive ∷ Row.alive ∷ Row.alive ∷ Row.off ∷ Row.off ∷ List.[];
+        }
+
         abbrev G45 : Row.Cx
-        G45 = record { locals = List._++_ g30 t32; slots = Row.off ∷ Row.off ∷ Row.off ∷ life3 ∷ life4 ∷ Row.off ∷ Row.off ∷ Row.off ∷ Row.off ∷
-            Row.off ∷ Row.alive ∷ Row.alive ∷ Row.alive ∷ Row.alive ∷ Row.off ∷ List.[]; }
+        G45 = record {
+          locals = List._++_ g30 t32;
+          slots = Row.off ∷ Row.off ∷ Row.off ∷ life3 ∷ life4 ∷ Row.off ∷ Row.off ∷ Row.off ∷ Row.off ∷ Row.off ∷
+              Row.alive ∷ Row.alive ∷ Row.alive ∷ Row.alive ∷ Row.off ∷ List.[];
+        }
+
         abbrev G46 : Row.Cx
-        G46 = record { locals = List._++_ g33 t34; slots = Row.off ∷ Row.off ∷ Row.off ∷ Row.off ∷ life4 ∷ Row.off ∷ Row.off ∷ Row.off ∷ Row.off ∷
-            Row.off ∷ Row.alive ∷ Row.alive ∷ Row.alive ∷ Row.alive ∷ Row.off ∷ List.[]; }
+        G46 = record {
+          locals = List._++_ g33 t34;
+          slots = Row.off ∷ Row.off ∷ Row.off ∷ Row.off ∷ life4 ∷ Row.off ∷ Row.off ∷ Row.off ∷ Row.off ∷ Row.off ∷
+              Row.alive ∷ Row.alive ∷ Row.alive ∷ Row.alive ∷ Row.off ∷ List.[];
+        }
+
         abbrev G47 : Row.Cx
-        G47 = record { locals = List._++_ g33 t35; slots = Row.off ∷ Row.off ∷ Row.off ∷ Row.off ∷ life4 ∷ Row.off ∷ Row.off ∷ Row.off ∷ Row.off ∷
-            Row.off ∷ Row.alive ∷ Row.alive ∷ Row.alive ∷ Row.alive ∷ Row.off ∷ List.[]; }
+        G47 = record {
+          locals = List._++_ g33 t35;
+          slots = Row.off ∷ Row.off ∷ Row.off ∷ Row.off ∷ life4 ∷ Row.off ∷ Row.off ∷ Row.off ∷ Row.off ∷ Row.off ∷
+              Row.alive ∷ Row.alive ∷ Row.alive ∷ Row.alive ∷ Row.off ∷ List.[];
+        }
+
         abbrev G48 : Row.Cx
-        G48 = record { locals = List._++_ g33 t35; slots = Row.off ∷ Row.off ∷ Row.off ∷ Row.off ∷ life4 ∷ Row.off ∷ Row.off ∷ Row.off ∷ Row.off ∷
-            Row.off ∷ Row.alive ∷ Row.alive ∷ Row.alive ∷ Row.alive ∷ Row.alive ∷ List.[]; }
+        G48 = record {
+          locals = List._++_ g33 t35;
+          slots = Row.off ∷ Row.off ∷ Row.off ∷ Row.off ∷ life4 ∷ Row.off ∷ Row.off ∷ Row.off ∷ Row.off ∷ Row.off ∷
+              Row.alive ∷ Row.alive ∷ Row.alive ∷ Row.alive ∷ Row.alive ∷ List.[];
+        }
+
         abbrev G49 : Row.Cx
-        G49 = record { locals = List._++_ g36 t37; slots = Row.off ∷ Row.off ∷ Row.off ∷ Row.off ∷ Row.off ∷ Row.off ∷ Row.off ∷ Row.off ∷ Row.off ∷
-            Row.off ∷ Row.alive ∷ Row.alive ∷ Row.alive ∷ Row.alive ∷ Row.alive ∷ List.[]; }
+        G49 = record {
+          locals = List._++_ g36 t37;
+          slots = Row.off ∷ Row.off ∷ Row.off ∷ Row.off ∷ Row.off ∷ Row.off ∷ Row.off ∷ Row.off ∷ Row.off ∷ Row.off ∷
+              Row.alive ∷ Row.alive ∷ Row.alive ∷ Row.alive ∷ Row.alive ∷ List.[];
+        }
+
         abbrev G50 : Row.Cx
-        G50 = record { locals = List._++_ g36 t38; slots = Row.off ∷ Row.off ∷ Row.off ∷ Row.off ∷ Row.off ∷ Row.off ∷ Row.off ∷ Row.off ∷ Row.off ∷
-            Row.off ∷ Row.alive ∷ Row.alive ∷ Row.alive ∷ Row.alive ∷ Row.alive ∷ List.[]; }
+        G50 = record {
+          locals = List._++_ g36 t38;
+          slots = Row.off ∷ Row.off ∷ Row.off ∷ Row.off ∷ Row.off ∷ Row.off ∷ Row.off ∷ Row.off ∷ Row.off ∷ Row.off ∷
+              Row.alive ∷ Row.alive ∷ Row.alive ∷ Row.alive ∷ Row.alive ∷ List.[];
+        }
+
         abbrev G51 : Row.Cx
-        G51 = record { locals = List._++_ g39 t40; slots = Row.off ∷ Row.off ∷ Row.off ∷ Row.off ∷ Row.off ∷ Row.off ∷ Row.off ∷ Row.off ∷ Row.off ∷
-            Row.off ∷ Row.alive ∷ Row.alive ∷ Row.alive ∷ Row.alive ∷ Row.alive ∷ List.[]; }
+        G51 = record {
+          locals = List._++_ g39 t40;
+          slots = Row.off ∷ Row.off ∷ Row.off ∷ Row.off ∷ Row.off ∷ Row.off ∷ Row.off ∷ Row.off ∷ Row.off ∷ Row.off ∷
+              Row.alive ∷ Row.alive ∷ Row.alive ∷ Row.alive ∷ Row.alive ∷ List.[];
+        }
+
         abbrev G52 : Row.Cx
-        G52 = record { locals = List._++_ g41 t40; slots = Row.off ∷ Row.off ∷ Row.off ∷ Row.off ∷ Row.off ∷ Row.off ∷ Row.off ∷ Row.off ∷ Row.off ∷
-            Row.off ∷ Row.alive ∷ Row.alive ∷ Row.alive ∷ Row.alive ∷ Row.alive ∷ List.[]; }
+        G52 = record {
+          locals = List._++_ g41 t40;
+          slots = Row.off ∷ Row.off ∷ Row.off ∷ Row.off ∷ Row.off ∷ Row.off ∷ Row.off ∷ Row.off ∷ Row.off ∷ Row.off ∷
+              Row.alive ∷ Row.alive ∷ Row.alive ∷ Row.alive ∷ Row.alive ∷ List.[];
+        }
+
         abbrev G53 : Row.Cx
-        G53 = record { locals = List._++_ g41 t40; slots = Row.off ∷ Row.off ∷ Row.off ∷ Row.off ∷ Row.off ∷ Row.off ∷ Row.off ∷ Row.off ∷ Row.off ∷
-            Row.off ∷ Row.dead ∷ Row.alive ∷ Row.alive ∷ Row.alive ∷ Row.alive ∷ List.[]; }
+        G53 = record {
+          locals = List._++_ g41 t40;
+          slots = Row.off ∷ Row.off ∷ Row.off ∷ Row.off ∷ Row.off ∷ Row.off ∷ Row.off ∷ Row.off ∷ Row.off ∷ Row.off ∷
+              Row.dead ∷ Row.alive ∷ Row.alive ∷ Row.alive ∷ Row.alive ∷ List.[];
+        }
+
         abbrev G54 : Row.Cx
-        G54 = record { locals = List._++_ g42 t43; slots = life0 ∷ Row.off ∷ Row.off ∷ Row.off ∷ Row.off ∷ Row.off ∷ Row.off ∷ Row.off ∷ Row.off ∷
-            Row.off ∷ Row.dead ∷ Row.alive ∷ Row.alive ∷ Row.alive ∷ Row.alive ∷ List.[]; }
+        G54 = record {
+          locals = List._++_ g42 t43;
+          slots = life0 ∷ Row.off ∷ Row.off ∷ Row.off ∷ Row.off ∷ Row.off ∷ Row.off ∷ Row.off ∷ Row.off ∷ Row.off ∷
+              Row.dead ∷ Row.alive ∷ Row.alive ∷ Row.alive ∷ Row.alive ∷ List.[];
+        }
+
         abbrev G55 : Row.Cx
-        G55 = record { locals = List._++_ g42 t43; slots = life0 ∷ Row.off ∷ Row.off ∷ Row.off ∷ Row.off ∷ Row.off ∷ Row.off ∷ Row.off ∷ Row.off ∷
-            Row.off ∷ Row.off ∷ Row.alive ∷ Row.alive ∷ Row.alive ∷ Row.alive ∷ List.[]; }
+        G55 = record {
+          locals = List._++_ g42 t43;
+          slots = life0 ∷ Row.off ∷ Row.off ∷ Row.off ∷ Row.off ∷ Row.off ∷ Row.off ∷ Row.off ∷ Row.off ∷ Row.off ∷
+              Row.off ∷ Row.alive ∷ Row.alive ∷ Row.alive ∷ Row.alive ∷ List.[];
+        }
+
         abbrev G56 : Row.Cx
-        G56 = record { locals = List._++_ g42 t43; slots = life0 ∷ Row.off ∷ Row.off ∷ Row.off ∷ Row.off ∷ Row.off ∷ Row.off ∷ Row.off ∷ Row.off ∷
-            Row.off ∷ Row.off ∷ Row.dead ∷ Row.alive ∷ Row.alive ∷ Row.alive ∷ List.[]; }
+        G56 = record {
+          locals = List._++_ g42 t43;
+          slots = life0 ∷ Row.off ∷ Row.off ∷ Row.off ∷ Row.off ∷ Row.off ∷ Row.off ∷ Row.off ∷ Row.off ∷ Row.off ∷
+              Row.off ∷ Row.dead ∷ Row.alive ∷ Row.alive ∷ Row.alive ∷ List.[];
+        }
+
         abbrev G57 : Row.Cx
-        G57 = record { locals = List._++_ g44 t45; slots = life0 ∷ life1 ∷ Row.off ∷ Row.off ∷ Row.off ∷ Row.off ∷ Row.off ∷ Row.off ∷ Row.off ∷
-            Row.off ∷ Row.off ∷ Row.dead ∷ Row.alive ∷ Row.alive ∷ Row.alive ∷ List.[]; }
+        G57 = record {
+          locals = List._++_ g44 t45;
+          slots = life0 ∷ life1 ∷ Row.off ∷ Row.off ∷ Row.off ∷ Row.off ∷ Row.off ∷ Row.off ∷ Row.off ∷ Row.off ∷
+              Row.off ∷ Row.dead ∷ Row.alive ∷ Row.alive ∷ Row.alive ∷ List.[];
+        }
+
         abbrev G58 : Row.Cx
-        G58 = record { locals = List._++_ g44 t45; slots = life0 ∷ life1 ∷ Row.off ∷ Row.off ∷ Row.off ∷ Row.off ∷ Row.off ∷ Row.off ∷ Row.off ∷
-            Row.off ∷ Row.off ∷ Row.off ∷ Row.alive ∷ Row.alive ∷ Row.alive ∷ List.[]; }
+        G58 = record {
+          locals = List._++_ g44 t45;
+          slots = life0 ∷ life1 ∷ Row.off ∷ Row.off ∷ Row.off ∷ Row.off ∷ Row.off ∷ Row.off ∷ Row.off ∷ Row.off ∷
+              Row.off ∷ Row.off ∷ Row.alive ∷ Row.alive ∷ Row.alive ∷ List.[];
+        }
+
         abbrev G59 : Row.Cx
-        G59 = record { locals = List._++_ g44 t45; slots = life0 ∷ life1 ∷ Row.off ∷ Row.off ∷ Row.off ∷ Row.off ∷ Row.off ∷ Row.off ∷ Row.off ∷
-            Row.off ∷ Row.off ∷ Row.off ∷ Row.dead ∷ Row.alive ∷ Row.alive ∷ List.[]; }
+        G59 = record {
+          locals = List._++_ g44 t45;
+          slots = life0 ∷ life1 ∷ Row.off ∷ Row.off ∷ Row.off ∷ Row.off ∷ Row.off ∷ Row.off ∷ Row.off ∷ Row.off ∷
+              Row.off ∷ Row.off ∷ Row.dead ∷ Row.alive ∷ Row.alive ∷ List.[];
+        }
+
         abbrev G60 : Row.Cx
-        G60 = record { locals = List._++_ g46 t47; slots = life0 ∷ life1 ∷ life2 ∷ Row.off ∷ Row.off ∷ Row.off ∷ Row.off ∷ Row.off ∷ Row.off ∷ Row.off
-            ∷ Row.off ∷ Row.off ∷ Row.dead ∷ Row.alive ∷ Row.alive ∷ List.[]; }
+        G60 = record {
+          locals = List._++_ g46 t47;
+          slots = life0 ∷ life1 ∷ life2 ∷ Row.off ∷ Row.off ∷ Row.off ∷ Row.off ∷ Row.off ∷ Row.off ∷ Row.off ∷ Row.off
+              ∷ Row.off ∷ Row.dead ∷ Row.alive ∷ Row.alive ∷ List.[];
+        }
+
         abbrev G61 : Row.Cx
-        G61 = record { locals = List._++_ g46 t47; slots = life0 ∷ life1 ∷ life2 ∷ Row.off ∷ Row.off ∷ Row.off ∷ Row.off ∷ Row.off ∷ Row.off ∷ Row.off
-            ∷ Row.off ∷ Row.off ∷ Row.off ∷ Row.alive ∷ Row.alive ∷ List.[]; }
+        G61 = record {
+          locals = List._++_ g46 t47;
+          slots = life0 ∷ life1 ∷ life2 ∷ Row.off ∷ Row.off ∷ Row.off ∷ Row.off ∷ Row.off ∷ Row.off ∷ Row.off ∷ Row.off
+              ∷ Row.off ∷ Row.off ∷ Row.alive ∷ Row.alive ∷ List.[];
+        }
+
         abbrev G62 : Row.Cx
-        G62 = record { locals = List._++_ g46 t47; slots = life0 ∷ life1 ∷ life2 ∷ Row.off ∷ Row.off ∷ Row.off ∷ Row.off ∷ Row.off ∷ Row.off ∷ Row.off
-            ∷ Row.off ∷ Row.off ∷ Row.off ∷ Row.dead ∷ Row.alive ∷ List.[]; }
+        G62 = record {
+          locals = List._++_ g46 t47;
+          slots = life0 ∷ life1 ∷ life2 ∷ Row.off ∷ Row.off ∷ Row.off ∷ Row.off ∷ Row.off ∷ Row.off ∷ Row.off ∷ Row.off
+              ∷ Row.off ∷ Row.off ∷ Row.dead ∷ Row.alive ∷ List.[];
+        }
+
         abbrev G63 : Row.Cx
-        G63 = record { locals = List._++_ g48 t49; slots = life0 ∷ life1 ∷ life2 ∷ life3 ∷ Row.off ∷ Row.off ∷ Row.off ∷ Row.off ∷ Row.off ∷ Row.off ∷
-            Row.off ∷ Row.off ∷ Row.off ∷ Row.dead ∷ Row.alive ∷ List.[]; }
+        G63 = record {
+          locals = List._++_ g48 t49;
+          slots = life0 ∷ life1 ∷ life2 ∷ life3 ∷ Row.off ∷ Row.off ∷ Row.off ∷ Row.off ∷ Row.off ∷ Row.off ∷ Row.off ∷
+              Row.off ∷ Row.off ∷ Row.dead ∷ Row.alive ∷ List.[];
+        }
+
         abbrev G64 : Row.Cx
-        G64 = record { locals = List._++_ g48 t49; slots = life0 ∷ life1 ∷ life2 ∷ life3 ∷ Row.off ∷ Row.off ∷ Row.off ∷ Row.off ∷ Row.off ∷ Row.off ∷
-            Row.off ∷ Row.off ∷ Row.off ∷ Row.off ∷ Row.alive ∷ List.[]; }
+        G64 = record {
+          locals = List._++_ g48 t49;
+          slots = life0 ∷ life1 ∷ life2 ∷ life3 ∷ Row.off ∷ Row.off ∷ Row.off ∷ Row.off ∷ Row.off ∷ Row.off ∷ Row.off ∷
+              Row.off ∷ Row.off ∷ Row.off ∷ Row.alive ∷ List.[];
+        }
+
         abbrev G65 : Row.Cx
-        G65 = record { locals = List._++_ g48 t49; slots = life0 ∷ life1 ∷ life2 ∷ life3 ∷ Row.off ∷ Row.off ∷ Row.off ∷ Row.off ∷ Row.off ∷ Row.off ∷
-            Row.off ∷ Row.off ∷ Row.off ∷ Row.off ∷ Row.dead ∷ List.[]; }
+        G65 = record {
+          locals = List._++_ g48 t49;
+          slots = life0 ∷ life1 ∷ life2 ∷ life3 ∷ Row.off ∷ Row.off ∷ Row.off ∷ Row.off ∷ Row.off ∷ Row.off ∷ Row.off ∷
+              Row.off ∷ Row.off ∷ Row.off ∷ Row.dead ∷ List.[];
+        }
+
         abbrev G66 : Row.Cx
-        G66 = record { locals = List._++_ t50 t1; slots = life0 ∷ life1 ∷ life2 ∷ life3 ∷ life4 ∷ Row.off ∷ Row.off ∷ Row.off ∷ Row.off ∷ Row.off ∷
-            Row.off ∷ Row.off ∷ Row.off ∷ Row.off ∷ Row.dead ∷ List.[]; }
+        G66 = record {
+          locals = List._++_ t50 t1;
+          slots = life0 ∷ life1 ∷ life2 ∷ life3 ∷ life4 ∷ Row.off ∷ Row.off ∷ Row.off ∷ Row.off ∷ Row.off ∷ Row.off ∷
+              Row.off ∷ Row.off ∷ Row.off ∷ Row.dead ∷ List.[];
+        }
+
         abbrev G67 : Row.Cx
-        G67 = record { locals = List._++_ t50 t1; slots = life0 ∷ life1 ∷ life2 ∷ life3 ∷ life4 ∷ Row.off ∷ Row.off ∷ Row.off ∷ Row.off ∷ Row.off ∷
-            Row.off ∷ Row.off ∷ Row.off ∷ Row.off ∷ Row.dead ∷ List.[]; }
+        G67 = record {
+          locals = List._++_ t50 t1;
+          slots = life0 ∷ life1 ∷ life2 ∷ life3 ∷ life4 ∷ Row.off ∷ Row.off ∷ Row.off ∷ Row.off ∷ Row.off ∷ Row.off ∷
+              Row.off ∷ Row.off ∷ Row.off ∷ Row.dead ∷ List.[];
+        }
+
         abbrev G68 : Row.Cx
-        G68 = record { locals = List._++_ t50 t1; slots = life0 ∷ life1 ∷ life2 ∷ life3 ∷ life4 ∷ Row.off ∷ Row.off ∷ Row.off ∷ Row.off ∷ Row.off ∷
-            Row.off ∷ Row.off ∷ Row.off ∷ Row.off ∷ Row.off ∷ List.[]; }
+        G68 = record {
+          locals = List._++_ t50 t1;
+          slots = life0 ∷ life1 ∷ life2 ∷ life3 ∷ life4 ∷ Row.off ∷ Row.off ∷ Row.off ∷ Row.off ∷ Row.off ∷ Row.off ∷
+              Row.off ∷ Row.off ∷ Row.off ∷ Row.off ∷ List.[];
+        }
+
         abbrev G69 : Row.Cx
-        G69 = record { locals = List._++_ t2 t1; slots = life0 ∷ life1 ∷ life2 ∷ life3 ∷ life4 ∷ Row.off ∷ Row.off ∷ Row.off ∷ Row.off ∷ Row.off ∷
-            Row.off ∷ Row.off ∷ Row.off ∷ Row.off ∷ Row.off ∷ List.[]; }
+        G69 = record {
+          locals = List._++_ t2 t1;
+          slots = life0 ∷ life1 ∷ life2 ∷ life3 ∷ life4 ∷ Row.off ∷ Row.off ∷ Row.off ∷ Row.off ∷ Row.off ∷ Row.off ∷
+              Row.off ∷ Row.off ∷ Row.off ∷ Row.off ∷ List.[];
+        }
+
         abbrev Δ0 : Typed.Outs
         Δ0 = record { next = Option.none; exits = List.[]; returns = Option.some G1 }
-        module _ { M : Type 1 } (𝓤 : URA.URA M) (H : Wp.Heap 𝓤) (A : Atoms.Atoms 𝓤) (W : Kit.Given 𝓤 H A) (𝓣 : Wp.Tables 𝓤 H) (known : Knowns 𝓤 H A W
-            𝓣) (bs : List.List Nat.ℕ) (bd : Lifetimes.AllOutlive 5 (Kinds.osR r) κs) where
+
+        module _ {M : Type 1} (𝓤 : URA.URA M) (H : Wp.Heap 𝓤) (A : Atoms.Atoms 𝓤) (W : Kit.Given 𝓤 H A)
+            (𝓣 : Wp.Tables 𝓤 H) (known : Knowns 𝓤 H A W 𝓣) (bs : List.List Nat.ℕ)
+            (bd : Lifetimes.AllOutlive 5 (Kinds.osR r) κs) where
           abbrev E : Wp.Env 𝓤 H
           E = Frame.EnvOf 𝓤 H ((Kinds.tyR r) ∷ (Enter.tysP ps xs)) bs
+
           d0 : Typed.Typed 𝓤 H A 𝓣 E G69 b22 Δ0 at0
           d0 = Typed.t-return 𝓤 H A W 𝓣 E Δ0 tt
+
           d1 : Typed.Typed 𝓤 H A 𝓣 E G68 b22 Δ0 at1
-          d1 = Typed.g-pre 𝓤 H A W 𝓣 E G68 G69 b22 Δ0 (Typed.pass T67 T69 s67) at0 (Scalar.g-room 𝓤 H A W E G68 7 (Syntax.tyInt Syntax.w64)
-              (Scalar.room-sc 𝓤 H A W (Row.sInt Syntax.w64))) d0
+          d1 = Typed.g-pre 𝓤 H A W 𝓣 E G68 G69 b22 Δ0 (Typed.pass T67 T69 s67) at0 (Scalar.g-room 𝓤 H A W E G68 7
+              (Syntax.tyInt Syntax.w64) (Scalar.room-sc 𝓤 H A W (Row.sInt Syntax.w64))) d0
+
           d2 : Typed.Typed 𝓤 H A 𝓣 E G67 b22 Δ0 at2
-          d2 = Typed.g-pre 𝓤 H A W 𝓣 E G67 G68 b22 Δ0 (λ Ψ. Ψ) at1 (Lifetime.g-forget 𝓤 H A W E G67 14 Row.dead Path.refl) d1
+          d2 = Typed.g-pre 𝓤 H A W 𝓣 E G67 G68 b22 Δ0 (λ Ψ. Ψ) at1
+              (Lifetime.g-forget 𝓤 H A W E G67 14 Row.dead Path.refl) d1
+
           d3 : Typed.Typed 𝓤 H A 𝓣 E G66 b22 Δ0 at3
-          d3 = Typed.g-pre 𝓤 H A W 𝓣 E G66 G67 b22 Δ0 (Typed.give s65) at2 (Know.g-sl-known 𝓤 H A W (Referent.fInt Syntax.w32) E G66 5 4 ref9 life4 0
-              (λ x. x) record { fits = Dec.lit< tt } (Reads.as-is 𝓤 H A (Mut.mslice (Referent.rtF (Referent.fInt Syntax.w32)) ref9 4)) Path.refl tt)
-              d2
+          d3 = Typed.g-pre 𝓤 H A W 𝓣 E G66 G67 b22 Δ0 (Typed.give s65) at2 (Know.g-sl-known 𝓤 H A W
+              (Referent.fInt Syntax.w32) E G66 5 4 ref9 life4 0 (λ x. x) record { fits = Dec.lit< tt } (Reads.as-is 𝓤 H
+              A (Mut.mslice (Referent.rtF (Referent.fInt Syntax.w32)) ref9 4)) Path.refl tt) d2
+
           d4 : Typed.Typed 𝓤 H A 𝓣 E G65 b22 Δ0 at4
-          d4 = Typed.g-pre 𝓤 H A W 𝓣 E G65 G66 b22 Δ0 (Typed.both s64) at3 (Relend.g-back-sl 𝓤 H A W E (Referent.rtF (Referent.fInt Syntax.w32)) G65
-              28 5 4 14 ref9 ref4 life4 (λ x. x) (λ x. x) (Reads.as-is 𝓤 H A (Mut.msleft (Referent.rtF (Referent.fInt Syntax.w32)) ref4)) (Reads.as-is
-              𝓤 H A (Relend.mslice-owed (Referent.rtF (Referent.fInt Syntax.w32)) ref9 4 14 life4)) Path.refl Path.refl) d3
+          d4 = Typed.g-pre 𝓤 H A W 𝓣 E G65 G66 b22 Δ0 (Typed.both s64) at3 (Relend.g-back-sl 𝓤 H A W E
+              (Referent.rtF (Referent.fInt Syntax.w32)) G65 28 5 4 14 ref9 ref4 life4 (λ x. x) (λ x. x) (Reads.as-is 𝓤
+              H A (Mut.msleft (Referent.rtF (Referent.fInt Syntax.w32)) ref4)) (Reads.as-is 𝓤 H A (Relend.mslice-owed
+              (Referent.rtF (Referent.fInt Syntax.w32)) ref9 4 14 life4)) Path.refl Path.refl) d3
+
           d5 : Typed.Typed 𝓤 H A 𝓣 E G64 b22 Δ0 at5
           d5 = Typed.g-pre 𝓤 H A W 𝓣 E G64 G65 b22 Δ0 (λ Ψ. Ψ) at4 (Lifetime.g-end 𝓤 H A W E G64 14 Path.refl) d4
+
           d6 : Typed.Typed 𝓤 H A 𝓣 E G63 b22 Δ0 at6
-          d6 = Typed.g-pre 𝓤 H A W 𝓣 E G63 G64 b22 Δ0 (λ Ψ. Ψ) at5 (Lifetime.g-forget 𝓤 H A W E G63 13 Row.dead Path.refl) d5
+          d6 = Typed.g-pre 𝓤 H A W 𝓣 E G63 G64 b22 Δ0 (λ Ψ. Ψ) at5
+              (Lifetime.g-forget 𝓤 H A W E G63 13 Row.dead Path.refl) d5
+
           d7 : Typed.Typed 𝓤 H A 𝓣 E G62 b22 Δ0 at7
-          d7 = Typed.g-pre 𝓤 H A W 𝓣 E G62 G63 b22 Δ0 (Typed.both s61) at6 (Relend.g-back-sl 𝓤 H A W E InflightAction.row G62 26 4 3 13 ref8 ref3
-              life3 (λ x. x) (λ x. x) (Reads.as-is 𝓤 H A (Mut.msleft InflightAction.row ref3)) (Reads.as-is 𝓤 H A (Relend.mslice-owed
-              InflightAction.row ref8 3 13 life3)) Path.refl Path.refl) d6
+          d7 = Typed.g-pre 𝓤 H A W 𝓣 E G62 G63 b22 Δ0 (Typed.both s61) at6 (Relend.g-back-sl 𝓤 H A W E
+              InflightAction.row G62 26 4 3 13 ref8 ref3 life3 (λ x. x) (λ x. x)
+              (Reads.as-is 𝓤 H A (Mut.msleft InflightAction.row ref3)) (Reads.as-is 𝓤 H A
+              (Relend.mslice-owed InflightAction.row ref8 3 13 life3)) Path.refl Path.refl) d6
+
           d8 : Typed.Typed 𝓤 H A 𝓣 E G61 b22 Δ0 at8
           d8 = Typed.g-pre 𝓤 H A W 𝓣 E G61 G62 b22 Δ0 (λ Ψ. Ψ) at7 (Lifetime.g-end 𝓤 H A W E G61 13 Path.refl) d7
+
           d9 : Typed.Typed 𝓤 H A 𝓣 E G60 b22 Δ0 at9
-          d9 = Typed.g-pre 𝓤 H A W 𝓣 E G60 G61 b22 Δ0 (λ Ψ. Ψ) at8 (Lifetime.g-forget 𝓤 H A W E G60 12 Row.dead Path.refl) d8
+          d9 = Typed.g-pre 𝓤 H A W 𝓣 E G60 G61 b22 Δ0 (λ Ψ. Ψ) at8
+              (Lifetime.g-forget 𝓤 H A W E G60 12 Row.dead Path.refl) d8
+
           d10 : Typed.Typed 𝓤 H A 𝓣 E G59 b22 Δ0 at10
-          d10 = Typed.g-pre 𝓤 H A W 𝓣 E G59 G60 b22 Δ0 (Typed.both s58) at9 (Relend.g-back-sl 𝓤 H A W E ReservationUsage.row G59 24 3 2 12 ref7 ref2
-              life2 (λ x. x) (λ x. x) (Reads.as-is 𝓤 H A (Mut.msleft ReservationUsage.row ref2)) (Reads.as-is 𝓤 H A (Relend.mslice-owed
-              ReservationUsage.row ref7 2 12 life2)) Path.refl Path.refl) d9
+          d10 = Typed.g-pre 𝓤 H A W 𝓣 E G59 G60 b22 Δ0 (Typed.both s58) at9 (Relend.g-back-sl 𝓤 H A W E
+              ReservationUsage.row G59 24 3 2 12 ref7 ref2 life2 (λ x. x) (λ x. x)
+              (Reads.as-is 𝓤 H A (Mut.msleft ReservationUsage.row ref2)) (Reads.as-is 𝓤 H A
+              (Relend.mslice-owed ReservationUsage.row ref7 2 12 life2)) Path.refl Path.refl) d9
+
           d11 : Typed.Typed 𝓤 H A 𝓣 E G58 b22 Δ0 at11
           d11 = Typed.g-pre 𝓤 H A W 𝓣 E G58 G59 b22 Δ0 (λ Ψ. Ψ) at10 (Lifetime.g-end 𝓤 H A W E G58 12 Path.refl) d10
+
           d12 : Typed.Typed 𝓤 H A 𝓣 E G57 b22 Δ0 at12
-          d12 = Typed.g-pre 𝓤 H A W 𝓣 E G57 G58 b22 Δ0 (λ Ψ. Ψ) at11 (Lifetime.g-forget 𝓤 H A W E G57 11 Row.dead Path.refl) d11
+          d12 = Typed.g-pre 𝓤 H A W 𝓣 E G57 G58 b22 Δ0 (λ Ψ. Ψ) at11
+              (Lifetime.g-forget 𝓤 H A W E G57 11 Row.dead Path.refl) d11
+
           d13 : Typed.Typed 𝓤 H A 𝓣 E G56 b22 Δ0 at13
-          d13 = Typed.g-pre 𝓤 H A W 𝓣 E G56 G57 b22 Δ0 (Typed.both s55) at12 (Relend.g-back-sl 𝓤 H A W E RelayCircuit.row G56 22 2 1 11 ref6 ref1
-              life1 (λ x. x) (λ x. x) (Reads.as-is 𝓤 H A (Mut.msleft RelayCircuit.row ref1)) (Reads.as-is 𝓤 H A (Relend.mslice-owed RelayCircuit.row
-              ref6 1 11 life1)) Path.refl Path.refl) d12
+          d13 = Typed.g-pre 𝓤 H A W 𝓣 E G56 G57 b22 Δ0 (Typed.both s55) at12 (Relend.g-back-sl 𝓤 H A W E
+              RelayCircuit.row G56 22 2 1 11 ref6 ref1 life1 (λ x. x) (λ x. x)
+              (Reads.as-is 𝓤 H A (Mut.msleft RelayCircuit.row ref1)) (Reads.as-is 𝓤 H A
+              (Relend.mslice-owed RelayCircuit.row ref6 1 11 life1)) Path.refl Path.refl) d12
+
           d14 : Typed.Typed 𝓤 H A 𝓣 E G55 b22 Δ0 at14
           d14 = Typed.g-pre 𝓤 H A W 𝓣 E G55 G56 b22 Δ0 (λ Ψ. Ψ) at13 (Lifetime.g-end 𝓤 H A W E G55 11 Path.refl) d13
+
           d15 : Typed.Typed 𝓤 H A 𝓣 E G54 b22 Δ0 at15
-          d15 = Typed.g-pre 𝓤 H A W 𝓣 E G54 G55 b22 Δ0 (λ Ψ. Ψ) at14 (Lifetime.g-forget 𝓤 H A W E G54 10 Row.dead Path.refl) d14
+          d15 = Typed.g-pre 𝓤 H A W 𝓣 E G54 G55 b22 Δ0 (λ Ψ. Ψ) at14
+              (Lifetime.g-forget 𝓤 H A W E G54 10 Row.dead Path.refl) d14
+
           d16 : Typed.Typed 𝓤 H A 𝓣 E G53 b22 Δ0 at16
-          d16 = Typed.g-pre 𝓤 H A W 𝓣 E G53 G54 b22 Δ0 (Typed.both s52) at15 (Relend.g-back-sl 𝓤 H A W E RelayPending.row G53 20 1 0 10 ref5 ref0
-              life0 (λ x. x) (λ x. x) (Reads.as-is 𝓤 H A (Mut.msleft RelayPending.row ref0)) (Reads.as-is 𝓤 H A (Relend.mslice-owed RelayPending.row
-              ref5 0 10 life0)) Path.refl Path.refl) d15
+          d16 = Typed.g-pre 𝓤 H A W 𝓣 E G53 G54 b22 Δ0 (Typed.both s52) at15 (Relend.g-back-sl 𝓤 H A W E
+              RelayPending.row G53 20 1 0 10 ref5 ref0 life0 (λ x. x) (λ x. x)
+              (Reads.as-is 𝓤 H A (Mut.msleft RelayPending.row ref0)) (Reads.as-is 𝓤 H A
+              (Relend.mslice-owed RelayPending.row ref5 0 10 life0)) Path.refl Path.refl) d15
+
           d17 : Typed.Typed 𝓤 H A 𝓣 E G52 b22 Δ0 at17
           d17 = Typed.g-pre 𝓤 H A W 𝓣 E G52 G53 b22 Δ0 (λ Ψ. Ψ) at16 (Lifetime.g-end 𝓤 H A W E G52 10 Path.refl) d16
+
           d18 : Typed.Typed 𝓤 H A 𝓣 E G51 b22 Δ0 at18
-          d18 = Typed.g-pre 𝓤 H A W 𝓣 E G51 G52 b22 Δ0 (Typed.pass T51 T52 s50) at17 (Scalar.g-room 𝓤 H A W E G51 8 Laws.mir (Local.room-whole 𝓤 H A W
-              (Declared.row Relayed.the-type) Laws.mir Path.refl)) d17
+          d18 = Typed.g-pre 𝓤 H A W 𝓣 E G51 G52 b22 Δ0 (Typed.pass T51 T52 s50) at17 (Scalar.g-room 𝓤 H A W E G51 8
+              Laws.mir (Local.room-whole 𝓤 H A W (Declared.row Relayed.the-type) Laws.mir Path.refl)) d17
+
           d19 : Typed.Typed 𝓤 H A 𝓣 E G50 b23 Δ0 at19
-          d19 = Typed.s-seq 𝓤 H A W 𝓣 E G50 G51 b21 b22 Δ0 (Typed.both s49) at18 (Plain.t-call-plain 𝓤 H A W 𝓣 5 ps·1 r·1 (claims· .2) (claims· .3)
-              "cases::machine::accept_circuit" (known .1) E (λ pos β. β) G50 (record { pos = 20; ty = Syntax.tyRef Syntax.erased Syntax.mut
-              RelayPending.to; ref = λ x. x; }, (record { pos = 22; ty = Syntax.tyRef Syntax.erased Syntax.mut RelayCircuit.to; ref = λ x. x; },
-              (record { pos = 24; ty = Syntax.tyRef Syntax.erased Syntax.mut ReservationUsage.to; ref = λ x. x; }, (record { pos = 26; ty =
-              Syntax.tyRef Syntax.erased Syntax.mut InflightAction.to; ref = λ x. x; }, (record { pos = 28; ty = Syntax.tyRef Syntax.erased Syntax.mut
-              (Syntax.tyInt Syntax.w32); ref = λ x. x; }, (record { pos = 8; st = List.[]; d = 0; at = λ x. x }, (Num.vAt 7 λ x. x, tt),),),),),),) 0
-              (10 ∷ 11 ∷ 12 ∷ 13 ∷ 14 ∷ List.[]) (Call.sub-id 𝓤 H A W (G50 .slots)) (Reads.as-is 𝓤 H A (Mut.mslice RelayPending.row ref0 10),
-              Mut.reads-mslice 𝓤 H A W RelayPending.row ref0 10, Path.refl, (Reads.as-is 𝓤 H A (Mut.mslice RelayCircuit.row ref1 11), Mut.reads-mslice
-              𝓤 H A W RelayCircuit.row ref1 11, Path.refl, (Reads.as-is 𝓤 H A (Mut.mslice ReservationUsage.row ref2 12), Mut.reads-mslice 𝓤 H A W
-              ReservationUsage.row ref2 12, Path.refl, (Reads.as-is 𝓤 H A (Mut.mslice InflightAction.row ref3 13), Mut.reads-mslice 𝓤 H A W
-              InflightAction.row ref3 13, Path.refl, (Reads.as-is 𝓤 H A (Mut.mslice (Referent.rtF (Referent.fInt Syntax.w32)) ref4 14),
-              Mut.reads-mslice 𝓤 H A W (Referent.rtF (Referent.fInt Syntax.w32)) ref4 14, Path.refl, ((Yields.yields-copy 𝓤 H A W (λ ρ. Unit)
-              (Declared.row Relayed.the-type) Path.refl (Copies.cStruct Relayed.the-type Laws.the-laws Laws.the-copy .copy 𝓤 H A W) (Rows.whole
-              (Declared.row Relayed.the-type)) (λ x. x) (λ x. x) (λ ρ told. Local.mem-whole 𝓤 H A W (Declared.row Relayed.the-type) ρ) λ ρ told.
-              Local.whole-mem 𝓤 H A W (Declared.row Relayed.the-type) ρ, Path.refl,), ((Scalar.reads-sc 𝓤 H A W (Row.sInt Syntax.w64), Path.refl),
-              tt),),),),),),) (Reads.room-gone 𝓤 H A Laws.mir) (tt, (tt, (tt, (tt, (tt, tt))))) Path.refl) d18
+          d19 = Typed.s-seq 𝓤 H A W 𝓣 E G50 G51 b21 b22 Δ0 (Typed.both s49) at18 (Plain.t-call-plain 𝓤 H A W 𝓣 5 ps·1
+              r·1 (claims· .2) (claims· .3) "cases::machine::accept_circuit" (known .1) E (λ pos β. β) G50 (
+                record { pos = 20; ty = ref0; ref = λ x. x },
+                (
+                  record { pos = 22; ty = ref1; ref = λ x. x },
+                  (
+                    record { pos = 24; ty = ref2; ref = λ x. x },
+                    (
+                      record { pos = 26; ty = ref3; ref = λ x. x },
+                      (
+                        record { pos = 28; ty = ref4; ref = λ x. x },
+                        (record { pos = 8; st = List.[]; d = 0; at = λ x. x }, (Num.vAt 7 λ x. x, tt)),
+                      ),
+                    ),
+                  ),
+                ),
+              ) 0 (10 ∷ 11 ∷ 12 ∷ 13 ∷ 14 ∷ List.[]) (Call.sub-id 𝓤 H A W (G50 .slots)) (
+                Reads.as-is 𝓤 H A (Mut.mslice RelayPending.row ref0 10),
+                Mut.reads-mslice 𝓤 H A W RelayPending.row ref0 10,
+                Path.refl,
+                (
+                  Reads.as-is 𝓤 H A (Mut.mslice RelayCircuit.row ref1 11),
+                  Mut.reads-mslice 𝓤 H A W RelayCircuit.row ref1 11,
+                  Path.refl,
+                  (
+                    Reads.as-is 𝓤 H A (Mut.mslice ReservationUsage.row ref2 12),
+                    Mut.reads-mslice 𝓤 H A W ReservationUsage.row ref2 12,
+                    Path.refl,
+                    (
+                      Reads.as-is 𝓤 H A (Mut.mslice InflightAction.row ref3 13),
+                      Mut.reads-mslice 𝓤 H A W InflightAction.row ref3 13,
+                      Path.refl,
+                      (
+                        Reads.as-is 𝓤 H A (Mut.mslice (Referent.rtF (Referent.fInt Syntax.w32)) ref4 14),
+                        Mut.reads-mslice 𝓤 H A W (Referent.rtF (Referent.fInt Syntax.w32)) ref4 14,
+                        Path.refl,
+                        (
+                          (
+                            Yields.yields-copy 𝓤 H A W (λ ρ. Unit) (Declared.row Relayed.the-type) Path.refl (Copies.cStruct
+                                Relayed.the-type Laws.the-laws Laws.the-copy .copy 𝓤 H A W)
+                                (Rows.whole (Declared.row Relayed.the-type)) (λ x. x) (λ x. x) (λ ρ told.
+                                Local.mem-whole 𝓤 H A W (Declared.row Relayed.the-type) ρ) λ ρ told. Local.whole-mem 𝓤
+                                H A W (Declared.row Relayed.the-type) ρ,
+                            Path.refl,
+                          ),
+                          ((Scalar.reads-sc 𝓤 H A W (Row.sInt Syntax.w64), Path.refl), tt),
+                        ),
+                      ),
+                    ),
+                  ),
+                ),
+              ) (Reads.room-gone 𝓤 H A Laws.mir) (tt, (tt, (tt, (tt, (tt, tt))))) Path.refl) d18
+
           d20 : Typed.Typed 𝓤 H A 𝓣 E G49 b24 Δ0 at20
-          d20 = Typed.s-seq 𝓤 H A W 𝓣 E G49 G50 b20 b23 Δ0 (Typed.ask s48) at19 (Relend.t-sl-aggregate 𝓤 H A W E (Referent.rtF (Referent.fInt
-              Syntax.w32)) 𝓣 (Relend.asMut (Referent.rtF (Referent.fInt Syntax.w32))) G49 27 28 14 ref4 ref4 (λ x. x) (Scalar.oFld 5 ((Syntax.field 1)
-              ∷ List.[]) (Syntax.tyInt Syntax.w64) 8 λ v. Shared.lenV (v .0)) (Reads.as-is 𝓤 H A (Relend.msptr (Referent.rtF (Referent.fInt
-              Syntax.w32)) ref4 14)) (Reads.room-gone 𝓤 H A (Syntax.tyStruct (38 ∷ 91 ∷ 93 ∷ List.[]) (Syntax.tcons ref4 (Syntax.tcons (Syntax.tyInt
-              Syntax.w64) Syntax.tnil)))) (Relend.reads-owed-len 𝓤 H A W (Referent.rtF (Referent.fInt Syntax.w32)) ref9 4 14 life4 8 Path.refl,
-              Path.refl,) Path.refl Path.refl λ b o k. tt) d19
+          d20 = Typed.s-seq 𝓤 H A W 𝓣 E G49 G50 b20 b23 Δ0 (Typed.ask s48) at19 (Relend.t-sl-aggregate 𝓤 H A W E
+              (Referent.rtF (Referent.fInt Syntax.w32)) 𝓣 (Relend.asMut (Referent.rtF (Referent.fInt Syntax.w32))) G49
+              27 28 14 ref4 ref4 (λ x. x) (Scalar.oFld 5 ((Syntax.field 1) ∷ List.[]) (Syntax.tyInt Syntax.w64) 8 λ v.
+              Shared.lenV (v .0)) (Reads.as-is 𝓤 H A (Relend.msptr (Referent.rtF (Referent.fInt Syntax.w32)) ref4 14))
+              (Reads.room-gone 𝓤 H A slice4) (
+                Relend.reads-owed-len 𝓤 H A W (Referent.rtF (Referent.fInt Syntax.w32)) ref9 4 14 life4 8 Path.refl,
+                Path.refl,
+              ) Path.refl Path.refl λ b o k. tt) d19
+
           d21 : Typed.Typed 𝓤 H A 𝓣 E G48 b25 Δ0 at21
-          d21 = Typed.s-seq 𝓤 H A W 𝓣 E G48 G49 b19 b24 Δ0 (Typed.give s47) at20 (Relend.t-sl-relend 𝓤 H A W E (Referent.rtF (Referent.fInt
-              Syntax.w32)) 𝓣 G48 5 27 4 14 ref9 ref4 life4 0 (λ x. x) (Reads.as-is 𝓤 H A (Mut.mslice (Referent.rtF (Referent.fInt Syntax.w32)) ref9
-              4)) (Reads.room-gone 𝓤 H A ref4) Path.refl tt Path.refl Path.refl Path.refl λ b o. tt) d20
+          d21 = Typed.s-seq 𝓤 H A W 𝓣 E G48 G49 b19 b24 Δ0 (Typed.give s47) at20 (Relend.t-sl-relend 𝓤 H A W E
+              (Referent.rtF (Referent.fInt Syntax.w32)) 𝓣 G48 5 27 4 14 ref9 ref4 life4 0 (λ x. x) (Reads.as-is 𝓤 H A (Mut.mslice
+              (Referent.rtF (Referent.fInt Syntax.w32)) ref9 4)) (Reads.room-gone 𝓤 H A ref4) Path.refl tt Path.refl
+              Path.refl Path.refl λ b o. tt) d20
+
           d22 : Typed.Typed 𝓤 H A 𝓣 E G47 b25 Δ0 at22
-          d22 = Typed.g-pre 𝓤 H A W 𝓣 E G47 G48 b25 Δ0 (λ Ψ. Ψ) at21 (Lifetime.g-begin 𝓤 H A W E G47 14 (tt, ((tt, tt), ((tt, tt), ((tt, tt), ((tt,
-              tt), (tt, (tt, (tt, (tt, (tt, (tt, (tt, (tt, (tt, (tt, (tt, (tt, (tt, (tt, (tt, (tt, (tt, (tt, (tt, (tt, (tt, (tt, (tt, (tt,
-              tt))))),),),),),),),),),),),),),),),),),),),),),),),),)) d21
+          d22 = Typed.g-pre 𝓤 H A W 𝓣 E G47 G48 b25 Δ0 (λ Ψ. Ψ) at21 (Lifetime.g-begin 𝓤 H A W E G47 14 (
+            tt,
+            (
+              (tt, tt),
+              (
+                (tt, tt),
+                (
+                  (tt, tt),
+                  (
+                    (tt, tt),
+                    (
+                      tt,
+                      (
+                        tt,
+                        (
+                          tt,
+                          (
+                            tt,
+                            (
+                              tt,
+                              (
+                                tt,
+                                (
+                                  tt,
+                                  (
+                                    tt,
+                                    (
+                                      tt,
+                                      (
+                                        tt,
+                                        (
+                                          tt,
+                                          (
+                                            tt,
+                                            (tt, (tt, (tt, (tt, (tt, (tt, (tt, (tt, (tt, (tt, (tt, (tt, tt)))))))))))),
+                                          ),
+                                        ),
+                                      ),
+                                    ),
+                                  ),
+                                ),
+                              ),
+                            ),
+                          ),
+                        ),
+                      ),
+                    ),
+                  ),
+                ),
+              ),
+            ),
+          )) d21
+
           d23 : Typed.Typed 𝓤 H A 𝓣 E G46 b26 Δ0 at23
-          d23 = Typed.s-seq 𝓤 H A W 𝓣 E G46 G47 b18 b25 Δ0 (Typed.ask s45) at22 (Relend.t-sl-aggregate 𝓤 H A W E InflightAction.row 𝓣 (Relend.asMut
-              InflightAction.row) G46 25 26 13 ref3 ref3 (λ x. x) (Scalar.oFld 4 ((Syntax.field 1) ∷ List.[]) (Syntax.tyInt Syntax.w64) 8 λ v.
-              Shared.lenV (v .0)) (Reads.as-is 𝓤 H A (Relend.msptr InflightAction.row ref3 13)) (Reads.room-gone 𝓤 H A (Syntax.tyStruct (38 ∷ 91 ∷ 93
-              ∷ List.[]) (Syntax.tcons ref3 (Syntax.tcons (Syntax.tyInt Syntax.w64) Syntax.tnil)))) (Relend.reads-owed-len 𝓤 H A W InflightAction.row
-              ref8 3 13 life3 8 Path.refl, Path.refl,) Path.refl Path.refl λ b o k. tt) d22
+          d23 = Typed.s-seq 𝓤 H A W 𝓣 E G46 G47 b18 b25 Δ0 (Typed.ask s45) at22 (Relend.t-sl-aggregate 𝓤 H A W E
+              InflightAction.row 𝓣 (Relend.asMut InflightAction.row) G46 25 26 13 ref3 ref3 (λ x. x) (Scalar.oFld 4
+              ((Syntax.field 1) ∷ List.[]) (Syntax.tyInt Syntax.w64) 8 λ v. Shared.lenV (v .0)) (Reads.as-is 𝓤 H A
+              (Relend.msptr InflightAction.row ref3 13)) (Reads.room-gone 𝓤 H A slice3) (
+                Relend.reads-owed-len 𝓤 H A W InflightAction.row ref8 3 13 life3 8 Path.refl,
+                Path.refl,
+              ) Path.refl Path.refl λ b o k. tt) d22
+
           d24 : Typed.Typed 𝓤 H A 𝓣 E G45 b27 Δ0 at24
-          d24 = Typed.s-seq 𝓤 H A W 𝓣 E G45 G46 b17 b26 Δ0 (Typed.give s44) at23 (Relend.t-sl-relend 𝓤 H A W E InflightAction.row 𝓣 G45 4 25 3 13 ref8
-              ref3 life3 0 (λ x. x) (Reads.as-is 𝓤 H A (Mut.mslice InflightAction.row ref8 3)) (Reads.room-gone 𝓤 H A ref3) Path.refl tt Path.refl
-              Path.refl Path.refl λ b o. tt) d23
+          d24 = Typed.s-seq 𝓤 H A W 𝓣 E G45 G46 b17 b26 Δ0 (Typed.give s44) at23 (Relend.t-sl-relend 𝓤 H A W E
+              InflightAction.row 𝓣 G45 4 25 3 13 ref8 ref3 life3 0 (λ x. x)
+              (Reads.as-is 𝓤 H A (Mut.mslice InflightAction.row ref8 3)) (Reads.room-gone 𝓤 H A ref3) Path.refl tt
+              Path.refl Path.refl Path.refl λ b o. tt) d23
+
           d25 : Typed.Typed 𝓤 H A 𝓣 E G44 b27 Δ0 at25
-          d25 = Typed.g-pre 𝓤 H A W 𝓣 E G44 G45 b27 Δ0 (λ Ψ. Ψ) at24 (Lifetime.g-begin 𝓤 H A W E G44 13 (tt, ((tt, tt), ((tt, tt), ((tt, tt), (tt,
-              (tt, (tt, (tt, (tt, (tt, (tt, (tt, (tt, (tt, (tt, (tt, (tt, (tt, (tt, (tt, (tt, (tt, (tt, (tt, (tt, (tt, (tt, (tt, (tt,
-              tt))))),),),),),),),),),),),),),),),),),),),),),),),),)) d24
+          d25 = Typed.g-pre 𝓤 H A W 𝓣 E G44 G45 b27 Δ0 (λ Ψ. Ψ) at24 (Lifetime.g-begin 𝓤 H A W E G44 13 (
+            tt,
+            (
+              (tt, tt),
+              (
+                (tt, tt),
+                (
+                  (tt, tt),
+                  (
+                    tt,
+                    (
+                      tt,
+                      (
+                        tt,
+                        (
+                          tt,
+                          (
+                            tt,
+                            (
+                              tt,
+                              (
+                                tt,
+                                (
+                                  tt,
+                                  (
+                                    tt,
+                                    (
+                                      tt,
+                                      (
+                                        tt,
+                                        (
+                                          tt,
+                                          (
+                                            tt,
+                                            (tt, (tt, (tt, (tt, (tt, (tt, (tt, (tt, (tt, (tt, (tt, (tt, tt)))))))))))),
+                                          ),
+                                        ),
+                                      ),
+                                    ),
+                                  ),
+                                ),
+                              ),
+                            ),
+                          ),
+                        ),
+                      ),
+                    ),
+                  ),
+                ),
+              ),
+            ),
+          )) d24
+
           d26 : Typed.Typed 𝓤 H A 𝓣 E G43 b28 Δ0 at26
-          d26 = Typed.s-seq 𝓤 H A W 𝓣 E G43 G44 b16 b27 Δ0 (Typed.ask s42) at25 (Relend.t-sl-aggregate 𝓤 H A W E ReservationUsage.row 𝓣 (Relend.asMut
-              ReservationUsage.row) G43 23 24 12 ref2 ref2 (λ x. x) (Scalar.oFld 3 ((Syntax.field 1) ∷ List.[]) (Syntax.tyInt Syntax.w64) 8 λ v.
-              Shared.lenV (v .0)) (Reads.as-is 𝓤 H A (Relend.msptr ReservationUsage.row ref2 12)) (Reads.room-gone 𝓤 H A (Syntax.tyStruct (38 ∷ 91 ∷
-              93 ∷ List.[]) (Syntax.tcons ref2 (Syntax.tcons (Syntax.tyInt Syntax.w64) Syntax.tnil)))) (Relend.reads-owed-len 𝓤 H A W
-              ReservationUsage.row ref7 2 12 life2 8 Path.refl, Path.refl,) Path.refl Path.refl λ b o k. tt) d25
+          d26 = Typed.s-seq 𝓤 H A W 𝓣 E G43 G44 b16 b27 Δ0 (Typed.ask s42) at25 (Relend.t-sl-aggregate 𝓤 H A W E
+              ReservationUsage.row 𝓣 (Relend.asMut ReservationUsage.row) G43 23 24 12 ref2 ref2 (λ x. x) (Scalar.oFld 3
+              ((Syntax.field 1) ∷ List.[]) (Syntax.tyInt Syntax.w64) 8 λ v. Shared.lenV (v .0)) (Reads.as-is 𝓤 H A
+              (Relend.msptr ReservationUsage.row ref2 12)) (Reads.room-gone 𝓤 H A slice2) (
+                Relend.reads-owed-len 𝓤 H A W ReservationUsage.row ref7 2 12 life2 8 Path.refl,
+                Path.refl,
+              ) Path.refl Path.refl λ b o k. tt) d25
+
           d27 : Typed.Typed 𝓤 H A 𝓣 E G42 b29 Δ0 at27
-          d27 = Typed.s-seq 𝓤 H A W 𝓣 E G42 G43 b15 b28 Δ0 (Typed.give s41) at26 (Relend.t-sl-relend 𝓤 H A W E ReservationUsage.row 𝓣 G42 3 23 2 12
-              ref7 ref2 life2 0 (λ x. x) (Reads.as-is 𝓤 H A (Mut.mslice ReservationUsage.row ref7 2)) (Reads.room-gone 𝓤 H A ref2) Path.refl tt
-              Path.refl Path.refl Path.refl λ b o. tt) d26
+          d27 = Typed.s-seq 𝓤 H A W 𝓣 E G42 G43 b15 b28 Δ0 (Typed.give s41) at26 (Relend.t-sl-relend 𝓤 H A W E
+              ReservationUsage.row 𝓣 G42 3 23 2 12 ref7 ref2 life2 0 (λ x. x) (Reads.as-is 𝓤 H A
+              (Mut.mslice ReservationUsage.row ref7 2)) (Reads.room-gone 𝓤 H A ref2) Path.refl tt Path.refl Path.refl
+              Path.refl λ b o. tt) d26
+
           d28 : Typed.Typed 𝓤 H A 𝓣 E G41 b29 Δ0 at28
-          d28 = Typed.g-pre 𝓤 H A W 𝓣 E G41 G42 b29 Δ0 (λ Ψ. Ψ) at27 (Lifetime.g-begin 𝓤 H A W E G41 12 (tt, ((tt, tt), ((tt, tt), (tt, (tt, (tt, (tt,
-              (tt, (tt, (tt, (tt, (tt, (tt, (tt, (tt, (tt, (tt, (tt, (tt, (tt, (tt, (tt, (tt, (tt, (tt, (tt, (tt, (tt, (tt,
-              tt))))),),),),),),),),),),),),),),),),),),),),),),),),)) d27
+          d28 = Typed.g-pre 𝓤 H A W 𝓣 E G41 G42 b29 Δ0 (λ Ψ. Ψ) at27 (Lifetime.g-begin 𝓤 H A W E G41 12 (
+            tt,
+            (
+              (tt, tt),
+              (
+                (tt, tt),
+                (
+                  tt,
+                  (
+                    tt,
+                    (
+                      tt,
+                      (
+                        tt,
+                        (
+                          tt,
+                          (
+                            tt,
+                            (
+                              tt,
+                              (
+                                tt,
+                                (
+                                  tt,
+                                  (
+                                    tt,
+                                    (
+                                      tt,
+                                      (
+                                        tt,
+                                        (
+                                          tt,
+                                          (
+                                            tt,
+                                            (tt, (tt, (tt, (tt, (tt, (tt, (tt, (tt, (tt, (tt, (tt, (tt, tt)))))))))))),
+                                          ),
+                                        ),
+                                      ),
+                                    ),
+                                  ),
+                                ),
+                              ),
+                            ),
+                          ),
+                        ),
+                      ),
+                    ),
+                  ),
+                ),
+              ),
+            ),
+          )) d27
+
           d29 : Typed.Typed 𝓤 H A 𝓣 E G40 b30 Δ0 at29
-          d29 = Typed.s-seq 𝓤 H A W 𝓣 E G40 G41 b14 b29 Δ0 (Typed.ask s39) at28 (Relend.t-sl-aggregate 𝓤 H A W E RelayCircuit.row 𝓣 (Relend.asMut
-              RelayCircuit.row) G40 21 22 11 ref1 ref1 (λ x. x) (Scalar.oFld 2 ((Syntax.field 1) ∷ List.[]) (Syntax.tyInt Syntax.w64) 8 λ v.
-              Shared.lenV (v .0)) (Reads.as-is 𝓤 H A (Relend.msptr RelayCircuit.row ref1 11)) (Reads.room-gone 𝓤 H A (Syntax.tyStruct (38 ∷ 91 ∷ 93 ∷
-              List.[]) (Syntax.tcons ref1 (Syntax.tcons (Syntax.tyInt Syntax.w64) Syntax.tnil)))) (Relend.reads-owed-len 𝓤 H A W RelayCircuit.row ref6
-              1 11 life1 8 Path.refl, Path.refl,) Path.refl Path.refl λ b o k. tt) d28
+          d29 = Typed.s-seq 𝓤 H A W 𝓣 E G40 G41 b14 b29 Δ0 (Typed.ask s39) at28 (Relend.t-sl-aggregate 𝓤 H A W E
+              RelayCircuit.row 𝓣 (Relend.asMut RelayCircuit.row) G40 21 22 11 ref1 ref1 (λ x. x) (Scalar.oFld 2
+              ((Syntax.field 1) ∷ List.[]) (Syntax.tyInt Syntax.w64) 8 λ v. Shared.lenV (v .0))
+              (Reads.as-is 𝓤 H A (Relend.msptr RelayCircuit.row ref1 11)) (Reads.room-gone 𝓤 H A slice1) (
+                Relend.reads-owed-len 𝓤 H A W RelayCircuit.row ref6 1 11 life1 8 Path.refl,
+                Path.refl,
+              ) Path.refl Path.refl λ b o k. tt) d28
+
           d30 : Typed.Typed 𝓤 H A 𝓣 E G39 b31 Δ0 at30
-          d30 = Typed.s-seq 𝓤 H A W 𝓣 E G39 G40 b13 b30 Δ0 (Typed.give s38) at29 (Relend.t-sl-relend 𝓤 H A W E RelayCircuit.row 𝓣 G39 2 21 1 11 ref6
-              ref1 life1 0 (λ x. x) (Reads.as-is 𝓤 H A (Mut.mslice RelayCircuit.row ref6 1)) (Reads.room-gone 𝓤 H A ref1) Path.refl tt Path.refl
-              Path.refl Path.refl λ b o. tt) d29
+          d30 = Typed.s-seq 𝓤 H A W 𝓣 E G39 G40 b13 b30 Δ0 (Typed.give s38) at29 (Relend.t-sl-relend 𝓤 H A W E
+              RelayCircuit.row 𝓣 G39 2 21 1 11 ref6 ref1 life1 0 (λ x. x)
+              (Reads.as-is 𝓤 H A (Mut.mslice RelayCircuit.row ref6 1)) (Reads.room-gone 𝓤 H A ref1) Path.refl tt
+              Path.refl Path.refl Path.refl λ b o. tt) d29
+
           d31 : Typed.Typed 𝓤 H A 𝓣 E G38 b31 Δ0 at31
-          d31 = Typed.g-pre 𝓤 H A W 𝓣 E G38 G39 b31 Δ0 (λ Ψ. Ψ) at30 (Lifetime.g-begin 𝓤 H A W E G38 11 (tt, ((tt, tt), (tt, (tt, (tt, (tt, (tt, (tt,
-              (tt, (tt, (tt, (tt, (tt, (tt, (tt, (tt, (tt, (tt, (tt, (tt, (tt, (tt, (tt, (tt, (tt, (tt, (tt, (tt, (tt,
-              tt))))),),),),),),),),),),),),),),),),),),),),),),),),)) d30
+          d31 = Typed.g-pre 𝓤 H A W 𝓣 E G38 G39 b31 Δ0 (λ Ψ. Ψ) at30 (Lifetime.g-begin 𝓤 H A W E G38 11 (
+            tt,
+            (
+              (tt, tt),
+              (
+                tt,
+                (
+                  tt,
+                  (
+                    tt,
+                    (
+                      tt,
+                      (
+                        tt,
+                        (
+                          tt,
+                          (
+                            tt,
+                            (
+                              tt,
+                              (
+                                tt,
+                                (
+                                  tt,
+                                  (
+                                    tt,
+                                    (
+                                      tt,
+                                      (
+                                        tt,
+                                        (
+                                          tt,
+                                          (
+                                            tt,
+                                            (tt, (tt, (tt, (tt, (tt, (tt, (tt, (tt, (tt, (tt, (tt, (tt, tt)))))))))))),
+                                          ),
+                                        ),
+                                      ),
+                                    ),
+                                  ),
+                                ),
+                              ),
+                            ),
+                          ),
+                        ),
+                      ),
+                    ),
+                  ),
+                ),
+              ),
+            ),
+          )) d30
+
           d32 : Typed.Typed 𝓤 H A 𝓣 E G37 b32 Δ0 at32
-          d32 = Typed.s-seq 𝓤 H A W 𝓣 E G37 G38 b12 b31 Δ0 (Typed.ask s36) at31 (Relend.t-sl-aggregate 𝓤 H A W E RelayPending.row 𝓣 (Relend.asMut
-              RelayPending.row) G37 19 20 10 ref0 ref0 (λ x. x) (Scalar.oFld 1 ((Syntax.field 1) ∷ List.[]) (Syntax.tyInt Syntax.w64) 8 λ v.
-              Shared.lenV (v .0)) (Reads.as-is 𝓤 H A (Relend.msptr RelayPending.row ref0 10)) (Reads.room-gone 𝓤 H A (Syntax.tyStruct (38 ∷ 91 ∷ 93 ∷
-              List.[]) (Syntax.tcons ref0 (Syntax.tcons (Syntax.tyInt Syntax.w64) Syntax.tnil)))) (Relend.reads-owed-len 𝓤 H A W RelayPending.row ref5
-              0 10 life0 8 Path.refl, Path.refl,) Path.refl Path.refl λ b o k. tt) d31
+          d32 = Typed.s-seq 𝓤 H A W 𝓣 E G37 G38 b12 b31 Δ0 (Typed.ask s36) at31 (Relend.t-sl-aggregate 𝓤 H A W E
+              RelayPending.row 𝓣 (Relend.asMut RelayPending.row) G37 19 20 10 ref0 ref0 (λ x. x) (Scalar.oFld 1
+              ((Syntax.field 1) ∷ List.[]) (Syntax.tyInt Syntax.w64) 8 λ v. Shared.lenV (v .0))
+              (Reads.as-is 𝓤 H A (Relend.msptr RelayPending.row ref0 10)) (Reads.room-gone 𝓤 H A slice0) (
+                Relend.reads-owed-len 𝓤 H A W RelayPending.row ref5 0 10 life0 8 Path.refl,
+                Path.refl,
+              ) Path.refl Path.refl λ b o k. tt) d31
+
           d33 : Typed.Typed 𝓤 H A 𝓣 E G36 b33 Δ0 at33
-          d33 = Typed.s-seq 𝓤 H A W 𝓣 E G36 G37 b11 b32 Δ0 (Typed.give s35) at32 (Relend.t-sl-relend 𝓤 H A W E RelayPending.row 𝓣 G36 1 19 0 10 ref5
-              ref0 life0 0 (λ x. x) (Reads.as-is 𝓤 H A (Mut.mslice RelayPending.row ref5 0)) (Reads.room-gone 𝓤 H A ref0) Path.refl tt Path.refl
-              Path.refl Path.refl λ b o. tt) d32
+          d33 = Typed.s-seq 𝓤 H A W 𝓣 E G36 G37 b11 b32 Δ0 (Typed.give s35) at32 (Relend.t-sl-relend 𝓤 H A W E
+              RelayPending.row 𝓣 G36 1 19 0 10 ref5 ref0 life0 0 (λ x. x)
+              (Reads.as-is 𝓤 H A (Mut.mslice RelayPending.row ref5 0)) (Reads.room-gone 𝓤 H A ref0) Path.refl tt
+              Path.refl Path.refl Path.refl λ b o. tt) d32
+
           d34 : Typed.Typed 𝓤 H A 𝓣 E G35 b33 Δ0 at34
-          d34 = Typed.g-pre 𝓤 H A W 𝓣 E G35 G36 b33 Δ0 (λ Ψ. Ψ) at33 (Lifetime.g-begin 𝓤 H A W E G35 10 (tt, (tt, (tt, (tt, (tt, (tt, (tt, (tt, (tt,
-              (tt, (tt, (tt, (tt, (tt, (tt, (tt, (tt, (tt, (tt, (tt, (tt, (tt, (tt, (tt, (tt, (tt, (tt, (tt, (tt,
-              tt))))),),),),),),),),),),),),),),),),),),),),),),),),)) d33
+          d34 = Typed.g-pre 𝓤 H A W 𝓣 E G35 G36 b33 Δ0 (λ Ψ. Ψ) at33 (Lifetime.g-begin 𝓤 H A W E G35 10 (
+            tt,
+            (
+              tt,
+              (
+                tt,
+                (
+                  tt,
+                  (
+                    tt,
+                    (
+                      tt,
+                      (
+                        tt,
+                        (
+                          tt,
+                          (
+                            tt,
+                            (
+                              tt,
+                              (
+                                tt,
+                                (
+                                  tt,
+                                  (
+                                    tt,
+                                    (
+                                      tt,
+                                      (
+                                        tt,
+                                        (
+                                          tt,
+                                          (
+                                            tt,
+                                            (tt, (tt, (tt, (tt, (tt, (tt, (tt, (tt, (tt, (tt, (tt, (tt, tt)))))))))))),
+                                          ),
+                                        ),
+                                      ),
+                                    ),
+                                  ),
+                                ),
+                              ),
+                            ),
+                          ),
+                        ),
+                      ),
+                    ),
+                  ),
+                ),
+              ),
+            ),
+          )) d33
+
           d35 : Typed.Typed 𝓤 H A 𝓣 E G34 b33 Δ0 at35
-          d35 = Typed.g-pre 𝓤 H A W 𝓣 E G34 G35 b33 Δ0 (λ Ψ. Ψ) at34 (Lifetime.g-forget 𝓤 H A W E G34 9 Row.dead Path.refl) d34
+          d35 = Typed.g-pre 𝓤 H A W 𝓣 E G34 G35 b33 Δ0 (λ Ψ. Ψ) at34
+              (Lifetime.g-forget 𝓤 H A W E G34 9 Row.dead Path.refl) d34
+
           d36 : Typed.Typed 𝓤 H A 𝓣 E G33 b33 Δ0 at36
-          d36 = Typed.g-pre 𝓤 H A W 𝓣 E G33 G34 b33 Δ0 (Typed.give s32) at35 (Know.g-sl-known 𝓤 H A W (Referent.fInt Syntax.w32) E G33 5 4 ref9 life4
-              0 (λ x. x) record { fits = Dec.lit< tt } (Reads.as-is 𝓤 H A (Mut.mslice (Referent.rtF (Referent.fInt Syntax.w32)) ref9 4)) Path.refl tt)
-              d35
+          d36 = Typed.g-pre 𝓤 H A W 𝓣 E G33 G34 b33 Δ0 (Typed.give s32) at35 (Know.g-sl-known 𝓤 H A W
+              (Referent.fInt Syntax.w32) E G33 5 4 ref9 life4 0 (λ x. x) record { fits = Dec.lit< tt } (Reads.as-is 𝓤 H
+              A (Mut.mslice (Referent.rtF (Referent.fInt Syntax.w32)) ref9 4)) Path.refl tt) d35
+
           d37 : Typed.Typed 𝓤 H A 𝓣 E G32 b33 Δ0 at37
-          d37 = Typed.g-pre 𝓤 H A W 𝓣 E G32 G33 b33 Δ0 (Typed.both s31) at36 (Relend.g-back-sl 𝓤 H A W E (Referent.rtF (Referent.fInt Syntax.w32)) G32
-              18 5 4 9 ref9 ref4 life4 (λ x. x) (λ x. x) (Reads.as-is 𝓤 H A (Mut.msleft (Referent.rtF (Referent.fInt Syntax.w32)) ref4)) (Reads.as-is
-              𝓤 H A (Relend.mslice-owed (Referent.rtF (Referent.fInt Syntax.w32)) ref9 4 9 life4)) Path.refl Path.refl) d36
+          d37 = Typed.g-pre 𝓤 H A W 𝓣 E G32 G33 b33 Δ0 (Typed.both s31) at36 (Relend.g-back-sl 𝓤 H A W E
+              (Referent.rtF (Referent.fInt Syntax.w32)) G32 18 5 4 9 ref9 ref4 life4 (λ x. x) (λ x. x) (Reads.as-is 𝓤 H
+              A (Mut.msleft (Referent.rtF (Referent.fInt Syntax.w32)) ref4)) (Reads.as-is 𝓤 H A (Relend.mslice-owed
+              (Referent.rtF (Referent.fInt Syntax.w32)) ref9 4 9 life4)) Path.refl Path.refl) d36
+
           d38 : Typed.Typed 𝓤 H A 𝓣 E G31 b33 Δ0 at38
           d38 = Typed.g-pre 𝓤 H A W 𝓣 E G31 G32 b33 Δ0 (λ Ψ. Ψ) at37 (Lifetime.g-end 𝓤 H A W E G31 9 Path.refl) d37
+
           d39 : Typed.Typed 𝓤 H A 𝓣 E G30 b33 Δ0 at39
-          d39 = Typed.g-pre 𝓤 H A W 𝓣 E G30 G31 b33 Δ0 (λ Ψ. Ψ) at38 (Lifetime.g-forget 𝓤 H A W E G30 8 Row.dead Path.refl) d38
+          d39 = Typed.g-pre 𝓤 H A W 𝓣 E G30 G31 b33 Δ0 (λ Ψ. Ψ) at38
+              (Lifetime.g-forget 𝓤 H A W E G30 8 Row.dead Path.refl) d38
+
           d40 : Typed.Typed 𝓤 H A 𝓣 E G29 b33 Δ0 at40
-          d40 = Typed.g-pre 𝓤 H A W 𝓣 E G29 G30 b33 Δ0 (Typed.both s28) at39 (Relend.g-back-sl 𝓤 H A W E InflightAction.row G29 16 4 3 8 ref8 ref3
-              life3 (λ x. x) (λ x. x) (Reads.as-is 𝓤 H A (Mut.msleft InflightAction.row ref3)) (Reads.as-is 𝓤 H A (Relend.mslice-owed
-              InflightAction.row ref8 3 8 life3)) Path.refl Path.refl) d39
+          d40 = Typed.g-pre 𝓤 H A W 𝓣 E G29 G30 b33 Δ0 (Typed.both s28) at39 (Relend.g-back-sl 𝓤 H A W E
+              InflightAction.row G29 16 4 3 8 ref8 ref3 life3 (λ x. x) (λ x. x)
+              (Reads.as-is 𝓤 H A (Mut.msleft InflightAction.row ref3)) (Reads.as-is 𝓤 H A
+              (Relend.mslice-owed InflightAction.row ref8 3 8 life3)) Path.refl Path.refl) d39
+
           d41 : Typed.Typed 𝓤 H A 𝓣 E G28 b33 Δ0 at41
           d41 = Typed.g-pre 𝓤 H A W 𝓣 E G28 G29 b33 Δ0 (λ Ψ. Ψ) at40 (Lifetime.g-end 𝓤 H A W E G28 8 Path.refl) d40
+
           d42 : Typed.Typed 𝓤 H A 𝓣 E G27 b33 Δ0 at42
-          d42 = Typed.g-pre 𝓤 H A W 𝓣 E G27 G28 b33 Δ0 (λ Ψ. Ψ) at41 (Lifetime.g-forget 𝓤 H A W E G27 7 Row.dead Path.refl) d41
+          d42 = Typed.g-pre 𝓤 H A W 𝓣 E G27 G28 b33 Δ0 (λ Ψ. Ψ) at41
+              (Lifetime.g-forget 𝓤 H A W E G27 7 Row.dead Path.refl) d41
+
           d43 : Typed.Typed 𝓤 H A 𝓣 E G26 b33 Δ0 at43
-          d43 = Typed.g-pre 𝓤 H A W 𝓣 E G26 G27 b33 Δ0 (Typed.both s25) at42 (Relend.g-back-sl 𝓤 H A W E ReservationUsage.row G26 14 3 2 7 ref7 ref2
-              life2 (λ x. x) (λ x. x) (Reads.as-is 𝓤 H A (Mut.msleft ReservationUsage.row ref2)) (Reads.as-is 𝓤 H A (Relend.mslice-owed
-              ReservationUsage.row ref7 2 7 life2)) Path.refl Path.refl) d42
+          d43 = Typed.g-pre 𝓤 H A W 𝓣 E G26 G27 b33 Δ0 (Typed.both s25) at42 (Relend.g-back-sl 𝓤 H A W E
+              ReservationUsage.row G26 14 3 2 7 ref7 ref2 life2 (λ x. x) (λ x. x)
+              (Reads.as-is 𝓤 H A (Mut.msleft ReservationUsage.row ref2)) (Reads.as-is 𝓤 H A
+              (Relend.mslice-owed ReservationUsage.row ref7 2 7 life2)) Path.refl Path.refl) d42
+
           d44 : Typed.Typed 𝓤 H A 𝓣 E G25 b33 Δ0 at44
           d44 = Typed.g-pre 𝓤 H A W 𝓣 E G25 G26 b33 Δ0 (λ Ψ. Ψ) at43 (Lifetime.g-end 𝓤 H A W E G25 7 Path.refl) d43
+
           d45 : Typed.Typed 𝓤 H A 𝓣 E G24 b33 Δ0 at45
-          d45 = Typed.g-pre 𝓤 H A W 𝓣 E G24 G25 b33 Δ0 (λ Ψ. Ψ) at44 (Lifetime.g-forget 𝓤 H A W E G24 6 Row.dead Path.refl) d44
+          d45 = Typed.g-pre 𝓤 H A W 𝓣 E G24 G25 b33 Δ0 (λ Ψ. Ψ) at44
+              (Lifetime.g-forget 𝓤 H A W E G24 6 Row.dead Path.refl) d44
+
           d46 : Typed.Typed 𝓤 H A 𝓣 E G23 b33 Δ0 at46
-          d46 = Typed.g-pre 𝓤 H A W 𝓣 E G23 G24 b33 Δ0 (Typed.both s22) at45 (Relend.g-back-sl 𝓤 H A W E RelayCircuit.row G23 12 2 1 6 ref6 ref1 life1
-              (λ x. x) (λ x. x) (Reads.as-is 𝓤 H A (Mut.msleft RelayCircuit.row ref1)) (Reads.as-is 𝓤 H A (Relend.mslice-owed RelayCircuit.row ref6 1
-              6 life1)) Path.refl Path.refl) d45
+          d46 = Typed.g-pre 𝓤 H A W 𝓣 E G23 G24 b33 Δ0 (Typed.both s22) at45 (Relend.g-back-sl 𝓤 H A W E
+              RelayCircuit.row G23 12 2 1 6 ref6 ref1 life1 (λ x. x) (λ x. x)
+              (Reads.as-is 𝓤 H A (Mut.msleft RelayCircuit.row ref1)) (Reads.as-is 𝓤 H A
+              (Relend.mslice-owed RelayCircuit.row ref6 1 6 life1)) Path.refl Path.refl) d45
+
           d47 : Typed.Typed 𝓤 H A 𝓣 E G22 b33 Δ0 at47
           d47 = Typed.g-pre 𝓤 H A W 𝓣 E G22 G23 b33 Δ0 (λ Ψ. Ψ) at46 (Lifetime.g-end 𝓤 H A W E G22 6 Path.refl) d46
+
           d48 : Typed.Typed 𝓤 H A 𝓣 E G21 b33 Δ0 at48
-          d48 = Typed.g-pre 𝓤 H A W 𝓣 E G21 G22 b33 Δ0 (λ Ψ. Ψ) at47 (Lifetime.g-forget 𝓤 H A W E G21 5 Row.dead Path.refl) d47
+          d48 = Typed.g-pre 𝓤 H A W 𝓣 E G21 G22 b33 Δ0 (λ Ψ. Ψ) at47
+              (Lifetime.g-forget 𝓤 H A W E G21 5 Row.dead Path.refl) d47
+
           d49 : Typed.Typed 𝓤 H A 𝓣 E G20 b33 Δ0 at49
-          d49 = Typed.g-pre 𝓤 H A W 𝓣 E G20 G21 b33 Δ0 (Typed.both s19) at48 (Relend.g-back-sl 𝓤 H A W E RelayPending.row G20 10 1 0 5 ref5 ref0 life0
-              (λ x. x) (λ x. x) (Reads.as-is 𝓤 H A (Mut.msleft RelayPending.row ref0)) (Reads.as-is 𝓤 H A (Relend.mslice-owed RelayPending.row ref5 0
-              5 life0)) Path.refl Path.refl) d48
+          d49 = Typed.g-pre 𝓤 H A W 𝓣 E G20 G21 b33 Δ0 (Typed.both s19) at48 (Relend.g-back-sl 𝓤 H A W E
+              RelayPending.row G20 10 1 0 5 ref5 ref0 life0 (λ x. x) (λ x. x)
+              (Reads.as-is 𝓤 H A (Mut.msleft RelayPending.row ref0)) (Reads.as-is 𝓤 H A
+              (Relend.mslice-owed RelayPending.row ref5 0 5 life0)) Path.refl Path.refl) d48
+
           d50 : Typed.Typed 𝓤 H A 𝓣 E G19 b33 Δ0 at50
           d50 = Typed.g-pre 𝓤 H A W 𝓣 E G19 G20 b33 Δ0 (λ Ψ. Ψ) at49 (Lifetime.g-end 𝓤 H A W E G19 5 Path.refl) d49
+
           d51 : Typed.Typed 𝓤 H A 𝓣 E G18 b33 Δ0 at51
-          d51 = Typed.g-pre 𝓤 H A W 𝓣 E G18 G19 b33 Δ0 (Typed.pass T18 T19 s17) at50 (Scalar.g-room 𝓤 H A W E G18 6 Laws.mir (Local.room-whole 𝓤 H A W
-              (Declared.row Relayed.the-type) Laws.mir Path.refl)) d50
+          d51 = Typed.g-pre 𝓤 H A W 𝓣 E G18 G19 b33 Δ0 (Typed.pass T18 T19 s17) at50 (Scalar.g-room 𝓤 H A W E G18 6
+              Laws.mir (Local.room-whole 𝓤 H A W (Declared.row Relayed.the-type) Laws.mir Path.refl)) d50
+
           d52 : Typed.Typed 𝓤 H A 𝓣 E G17 b34 Δ0 at52
-          d52 = Typed.s-seq 𝓤 H A W 𝓣 E G17 G18 b10 b33 Δ0 (Typed.both s16) at51 (Plain.t-call-plain 𝓤 H A W 𝓣 5 ps·0 r·0 (claims· .0) (claims· .1)
-              "cases::machine::open_circuit" (known .0) E (λ pos β. β) G17 (record { pos = 10; ty = Syntax.tyRef Syntax.erased Syntax.mut
-              RelayPending.to; ref = λ x. x; }, (record { pos = 12; ty = Syntax.tyRef Syntax.erased Syntax.mut RelayCircuit.to; ref = λ x. x; },
-              (record { pos = 14; ty = Syntax.tyRef Syntax.erased Syntax.mut ReservationUsage.to; ref = λ x. x; }, (record { pos = 16; ty =
-              Syntax.tyRef Syntax.erased Syntax.mut InflightAction.to; ref = λ x. x; }, (record { pos = 18; ty = Syntax.tyRef Syntax.erased Syntax.mut
-              (Syntax.tyInt Syntax.w32); ref = λ x. x; }, (record { pos = 6; st = List.[]; d = 0; at = λ x. x }, tt),),),),),) 8 (5 ∷ 6 ∷ 7 ∷ 8 ∷ 9 ∷
-              List.[]) (Call.sub-id 𝓤 H A W (G17 .slots)) (Reads.as-is 𝓤 H A (Mut.mslice RelayPending.row ref0 5), Mut.reads-mslice 𝓤 H A W
-              RelayPending.row ref0 5, Path.refl, (Reads.as-is 𝓤 H A (Mut.mslice RelayCircuit.row ref1 6), Mut.reads-mslice 𝓤 H A W RelayCircuit.row
-              ref1 6, Path.refl, (Reads.as-is 𝓤 H A (Mut.mslice ReservationUsage.row ref2 7), Mut.reads-mslice 𝓤 H A W ReservationUsage.row ref2 7,
-              Path.refl, (Reads.as-is 𝓤 H A (Mut.mslice InflightAction.row ref3 8), Mut.reads-mslice 𝓤 H A W InflightAction.row ref3 8, Path.refl,
-              (Reads.as-is 𝓤 H A (Mut.mslice (Referent.rtF (Referent.fInt Syntax.w32)) ref4 9), Mut.reads-mslice 𝓤 H A W (Referent.rtF (Referent.fInt
-              Syntax.w32)) ref4 9, Path.refl, ((Yields.yields-copy 𝓤 H A W (λ ρ. Unit) (Declared.row Relayed.the-type) Path.refl (Copies.cStruct
-              Relayed.the-type Laws.the-laws Laws.the-copy .copy 𝓤 H A W) (Rows.whole (Declared.row Relayed.the-type)) (λ x. x) (λ x. x) (λ ρ told.
-              Local.mem-whole 𝓤 H A W (Declared.row Relayed.the-type) ρ) λ ρ told. Local.whole-mem 𝓤 H A W (Declared.row Relayed.the-type) ρ,
-              Path.refl,), tt,),),),),),) (Reads.room-gone 𝓤 H A Laws.mir) (tt, (tt, (tt, (tt, (tt, tt))))) Path.refl) d51
+          d52 = Typed.s-seq 𝓤 H A W 𝓣 E G17 G18 b10 b33 Δ0 (Typed.both s16) at51 (Plain.t-call-plain 𝓤 H A W 𝓣 5 ps·0
+              r·0 (claims· .0) (claims· .1) "cases::machine::open_circuit" (known .0) E (λ pos β. β) G17 (
+                record { pos = 10; ty = ref0; ref = λ x. x },
+                (
+                  record { pos = 12; ty = ref1; ref = λ x. x },
+                  (
+                    record { pos = 14; ty = ref2; ref = λ x. x },
+                    (
+                      record { pos = 16; ty = ref3; ref = λ x. x },
+                      (
+                        record { pos = 18; ty = ref4; ref = λ x. x },
+                        (record { pos = 6; st = List.[]; d = 0; at = λ x. x }, tt),
+                      ),
+                    ),
+                  ),
+                ),
+              ) 8 (5 ∷ 6 ∷ 7 ∷ 8 ∷ 9 ∷ List.[]) (Call.sub-id 𝓤 H A W (G17 .slots)) (
+                Reads.as-is 𝓤 H A (Mut.mslice RelayPending.row ref0 5),
+                Mut.reads-mslice 𝓤 H A W RelayPending.row ref0 5,
+                Path.refl,
+                (
+                  Reads.as-is 𝓤 H A (Mut.mslice RelayCircuit.row ref1 6),
+                  Mut.reads-mslice 𝓤 H A W RelayCircuit.row ref1 6,
+                  Path.refl,
+                  (
+                    Reads.as-is 𝓤 H A (Mut.mslice ReservationUsage.row ref2 7),
+                    Mut.reads-mslice 𝓤 H A W ReservationUsage.row ref2 7,
+                    Path.refl,
+                    (
+                      Reads.as-is 𝓤 H A (Mut.mslice InflightAction.row ref3 8),
+                      Mut.reads-mslice 𝓤 H A W InflightAction.row ref3 8,
+                      Path.refl,
+                      (
+                        Reads.as-is 𝓤 H A (Mut.mslice (Referent.rtF (Referent.fInt Syntax.w32)) ref4 9),
+                        Mut.reads-mslice 𝓤 H A W (Referent.rtF (Referent.fInt Syntax.w32)) ref4 9,
+                        Path.refl,
+                        (
+                          (
+                            Yields.yields-copy 𝓤 H A W (λ ρ. Unit) (Declared.row Relayed.the-type) Path.refl (Copies.cStruct
+                                Relayed.the-type Laws.the-laws Laws.the-copy .copy 𝓤 H A W)
+                                (Rows.whole (Declared.row Relayed.the-type)) (λ x. x) (λ x. x) (λ ρ told.
+                                Local.mem-whole 𝓤 H A W (Declared.row Relayed.the-type) ρ) λ ρ told. Local.whole-mem 𝓤
+                                H A W (Declared.row Relayed.the-type) ρ,
+                            Path.refl,
+                          ),
+                          tt,
+                        ),
+                      ),
+                    ),
+                  ),
+                ),
+              ) (Reads.room-gone 𝓤 H A Laws.mir) (tt, (tt, (tt, (tt, (tt, tt))))) Path.refl) d51
+
           d53 : Typed.Typed 𝓤 H A 𝓣 E G16 b35 Δ0 at53
-          d53 = Typed.s-seq 𝓤 H A W 𝓣 E G16 G17 b9 b34 Δ0 (Typed.ask s15) at52 (Relend.t-sl-aggregate 𝓤 H A W E (Referent.rtF (Referent.fInt
-              Syntax.w32)) 𝓣 (Relend.asMut (Referent.rtF (Referent.fInt Syntax.w32))) G16 17 18 9 ref4 ref4 (λ x. x) (Scalar.oFld 5 ((Syntax.field 1)
-              ∷ List.[]) (Syntax.tyInt Syntax.w64) 8 λ v. Shared.lenV (v .0)) (Reads.as-is 𝓤 H A (Relend.msptr (Referent.rtF (Referent.fInt
-              Syntax.w32)) ref4 9)) (Reads.room-gone 𝓤 H A (Syntax.tyStruct (38 ∷ 91 ∷ 93 ∷ List.[]) (Syntax.tcons ref4 (Syntax.tcons (Syntax.tyInt
-              Syntax.w64) Syntax.tnil)))) (Relend.reads-owed-len 𝓤 H A W (Referent.rtF (Referent.fInt Syntax.w32)) ref9 4 9 life4 8 Path.refl,
-              Path.refl,) Path.refl Path.refl λ b o k. tt) d52
+          d53 = Typed.s-seq 𝓤 H A W 𝓣 E G16 G17 b9 b34 Δ0 (Typed.ask s15) at52 (Relend.t-sl-aggregate 𝓤 H A W E
+              (Referent.rtF (Referent.fInt Syntax.w32)) 𝓣 (Relend.asMut (Referent.rtF (Referent.fInt Syntax.w32))) G16
+              17 18 9 ref4 ref4 (λ x. x) (Scalar.oFld 5 ((Syntax.field 1) ∷ List.[]) (Syntax.tyInt Syntax.w64) 8 λ v.
+              Shared.lenV (v .0)) (Reads.as-is 𝓤 H A (Relend.msptr (Referent.rtF (Referent.fInt Syntax.w32)) ref4 9))
+              (Reads.room-gone 𝓤 H A slice4) (
+                Relend.reads-owed-len 𝓤 H A W (Referent.rtF (Referent.fInt Syntax.w32)) ref9 4 9 life4 8 Path.refl,
+                Path.refl,
+              ) Path.refl Path.refl λ b o k. tt) d52
+
           d54 : Typed.Typed 𝓤 H A 𝓣 E G15 b36 Δ0 at54
-          d54 = Typed.s-seq 𝓤 H A W 𝓣 E G15 G16 b8 b35 Δ0 (Typed.give s14) at53 (Relend.t-sl-relend 𝓤 H A W E (Referent.rtF (Referent.fInt
-              Syntax.w32)) 𝓣 G15 5 17 4 9 ref9 ref4 life4 0 (λ x. x) (Reads.as-is 𝓤 H A (Mut.mslice (Referent.rtF (Referent.fInt Syntax.w32)) ref9 4))
-              (Reads.room-gone 𝓤 H A ref4) Path.refl tt Path.refl Path.refl Path.refl λ b o. tt) d53
+          d54 = Typed.s-seq 𝓤 H A W 𝓣 E G15 G16 b8 b35 Δ0 (Typed.give s14) at53 (Relend.t-sl-relend 𝓤 H A W E
+              (Referent.rtF (Referent.fInt Syntax.w32)) 𝓣 G15 5 17 4 9 ref9 ref4 life4 0 (λ x. x) (Reads.as-is 𝓤 H A (Mut.mslice
+              (Referent.rtF (Referent.fInt Syntax.w32)) ref9 4)) (Reads.room-gone 𝓤 H A ref4) Path.refl tt Path.refl
+              Path.refl Path.refl λ b o. tt) d53
+
           d55 : Typed.Typed 𝓤 H A 𝓣 E G14 b36 Δ0 at55
-          d55 = Typed.g-pre 𝓤 H A W 𝓣 E G14 G15 b36 Δ0 (λ Ψ. Ψ) at54 (Lifetime.g-begin 𝓤 H A W E G14 9 (tt, ((tt, tt), ((tt, tt), ((tt, tt), ((tt,
-              tt), (tt, (tt, (tt, (tt, (tt, (tt, (tt, (tt, (tt, (tt, (tt, (tt, (tt, (tt, (tt, (tt, (tt, (tt, (tt, (tt, (tt, (tt, (tt, (tt,
-              tt))))),),),),),),),),),),),),),),),),),),),),),),),),)) d54
+          d55 = Typed.g-pre 𝓤 H A W 𝓣 E G14 G15 b36 Δ0 (λ Ψ. Ψ) at54 (Lifetime.g-begin 𝓤 H A W E G14 9 (
+            tt,
+            (
+              (tt, tt),
+              (
+                (tt, tt),
+                (
+                  (tt, tt),
+                  (
+                    (tt, tt),
+                    (
+                      tt,
+                      (
+                        tt,
+                        (
+                          tt,
+                          (
+                            tt,
+                            (
+                              tt,
+                              (
+                                tt,
+                                (
+                                  tt,
+                                  (
+                                    tt,
+                                    (
+                                      tt,
+                                      (
+                                        tt,
+                                        (
+                                          tt,
+                                          (
+                                            tt,
+                                            (tt, (tt, (tt, (tt, (tt, (tt, (tt, (tt, (tt, (tt, (tt, (tt, tt)))))))))))),
+                                          ),
+                                        ),
+                                      ),
+                                    ),
+                                  ),
+                                ),
+                              ),
+                            ),
+                          ),
+                        ),
+                      ),
+                    ),
+                  ),
+                ),
+              ),
+            ),
+          )) d54
+
           d56 : Typed.Typed 𝓤 H A 𝓣 E G13 b37 Δ0 at56
-          d56 = Typed.s-seq 𝓤 H A W 𝓣 E G13 G14 b7 b36 Δ0 (Typed.ask s12) at55 (Relend.t-sl-aggregate 𝓤 H A W E InflightAction.row 𝓣 (Relend.asMut
-              InflightAction.row) G13 15 16 8 ref3 ref3 (λ x. x) (Scalar.oFld 4 ((Syntax.field 1) ∷ List.[]) (Syntax.tyInt Syntax.w64) 8 λ v.
-              Shared.lenV (v .0)) (Reads.as-is 𝓤 H A (Relend.msptr InflightAction.row ref3 8)) (Reads.room-gone 𝓤 H A (Syntax.tyStruct (38 ∷ 91 ∷ 93 ∷
-              List.[]) (Syntax.tcons ref3 (Syntax.tcons (Syntax.tyInt Syntax.w64) Syntax.tnil)))) (Relend.reads-owed-len 𝓤 H A W InflightAction.row
-              ref8 3 8 life3 8 Path.refl, Path.refl,) Path.refl Path.refl λ b o k. tt) d55
+          d56 = Typed.s-seq 𝓤 H A W 𝓣 E G13 G14 b7 b36 Δ0 (Typed.ask s12) at55 (Relend.t-sl-aggregate 𝓤 H A W E
+              InflightAction.row 𝓣 (Relend.asMut InflightAction.row) G13 15 16 8 ref3 ref3 (λ x. x) (Scalar.oFld 4
+              ((Syntax.field 1) ∷ List.[]) (Syntax.tyInt Syntax.w64) 8 λ v. Shared.lenV (v .0)) (Reads.as-is 𝓤 H A
+              (Relend.msptr InflightAction.row ref3 8)) (Reads.room-gone 𝓤 H A slice3) (
+                Relend.reads-owed-len 𝓤 H A W InflightAction.row ref8 3 8 life3 8 Path.refl,
+                Path.refl,
+              ) Path.refl Path.refl λ b o k. tt) d55
+
           d57 : Typed.Typed 𝓤 H A 𝓣 E G12 b38 Δ0 at57
-          d57 = Typed.s-seq 𝓤 H A W 𝓣 E G12 G13 b6 b37 Δ0 (Typed.give s11) at56 (Relend.t-sl-relend 𝓤 H A W E InflightAction.row 𝓣 G12 4 15 3 8 ref8
-              ref3 life3 0 (λ x. x) (Reads.as-is 𝓤 H A (Mut.mslice InflightAction.row ref8 3)) (Reads.room-gone 𝓤 H A ref3) Path.refl tt Path.refl
-              Path.refl Path.refl λ b o. tt) d56
+          d57 = Typed.s-seq 𝓤 H A W 𝓣 E G12 G13 b6 b37 Δ0 (Typed.give s11) at56 (Relend.t-sl-relend 𝓤 H A W E
+              InflightAction.row 𝓣 G12 4 15 3 8 ref8 ref3 life3 0 (λ x. x)
+              (Reads.as-is 𝓤 H A (Mut.mslice InflightAction.row ref8 3)) (Reads.room-gone 𝓤 H A ref3) Path.refl tt
+              Path.refl Path.refl Path.refl λ b o. tt) d56
+
           d58 : Typed.Typed 𝓤 H A 𝓣 E G11 b38 Δ0 at58
-          d58 = Typed.g-pre 𝓤 H A W 𝓣 E G11 G12 b38 Δ0 (λ Ψ. Ψ) at57 (Lifetime.g-begin 𝓤 H A W E G11 8 (tt, ((tt, tt), ((tt, tt), ((tt, tt), (tt, (tt,
-              (tt, (tt, (tt, (tt, (tt, (tt, (tt, (tt, (tt, (tt, (tt, (tt, (tt, (tt, (tt, (tt, (tt, (tt, (tt, (tt, (tt, (tt, (tt,
-              tt))))),),),),),),),),),),),),),),),),),),),),),),),),)) d57
+          d58 = Typed.g-pre 𝓤 H A W 𝓣 E G11 G12 b38 Δ0 (λ Ψ. Ψ) at57 (Lifetime.g-begin 𝓤 H A W E G11 8 (
+            tt,
+            (
+              (tt, tt),
+              (
+                (tt, tt),
+                (
+                  (tt, tt),
+                  (
+                    tt,
+                    (
+                      tt,
+                      (
+                        tt,
+                        (
+                          tt,
+                          (
+                            tt,
+                            (
+                              tt,
+                              (
+                                tt,
+                                (
+                                  tt,
+                                  (
+                                    tt,
+                                    (
+                                      tt,
+                                      (
+                                        tt,
+                                        (
+                                          tt,
+                                          (
+                                            tt,
+                                            (tt, (tt, (tt, (tt, (tt, (tt, (tt, (tt, (tt, (tt, (tt, (tt, tt)))))))))))),
+                                          ),
+                                        ),
+                                      ),
+                                    ),
+                                  ),
+                                ),
+                              ),
+                            ),
+                          ),
+                        ),
+                      ),
+                    ),
+                  ),
+                ),
+              ),
+            ),
+          )) d57
+
           d59 : Typed.Typed 𝓤 H A 𝓣 E G10 b39 Δ0 at59
-          d59 = Typed.s-seq 𝓤 H A W 𝓣 E G10 G11 b5 b38 Δ0 (Typed.ask s9) at58 (Relend.t-sl-aggregate 𝓤 H A W E ReservationUsage.row 𝓣 (Relend.asMut
-              ReservationUsage.row) G10 13 14 7 ref2 ref2 (λ x. x) (Scalar.oFld 3 ((Syntax.field 1) ∷ List.[]) (Syntax.tyInt Syntax.w64) 8 λ v.
-              Shared.lenV (v .0)) (Reads.as-is 𝓤 H A (Relend.msptr ReservationUsage.row ref2 7)) (Reads.room-gone 𝓤 H A (Syntax.tyStruct (38 ∷ 91 ∷ 93
-              ∷ List.[]) (Syntax.tcons ref2 (Syntax.tcons (Syntax.tyInt Syntax.w64) Syntax.tnil)))) (Relend.reads-owed-len 𝓤 H A W
-              ReservationUsage.row ref7 2 7 life2 8 Path.refl, Path.refl,) Path.refl Path.refl λ b o k. tt) d58
+          d59 = Typed.s-seq 𝓤 H A W 𝓣 E G10 G11 b5 b38 Δ0 (Typed.ask s9) at58 (Relend.t-sl-aggregate 𝓤 H A W E
+              ReservationUsage.row 𝓣 (Relend.asMut ReservationUsage.row) G10 13 14 7 ref2 ref2 (λ x. x) (Scalar.oFld 3
+              ((Syntax.field 1) ∷ List.[]) (Syntax.tyInt Syntax.w64) 8 λ v. Shared.lenV (v .0)) (Reads.as-is 𝓤 H A
+              (Relend.msptr ReservationUsage.row ref2 7)) (Reads.room-gone 𝓤 H A slice2) (
+                Relend.reads-owed-len 𝓤 H A W ReservationUsage.row ref7 2 7 life2 8 Path.refl,
+                Path.refl,
+              ) Path.refl Path.refl λ b o k. tt) d58
+
           d60 : Typed.Typed 𝓤 H A 𝓣 E G9 b40 Δ0 at60
-          d60 = Typed.s-seq 𝓤 H A W 𝓣 E G9 G10 b4 b39 Δ0 (Typed.give s8) at59 (Relend.t-sl-relend 𝓤 H A W E ReservationUsage.row 𝓣 G9 3 13 2 7 ref7
-              ref2 life2 0 (λ x. x) (Reads.as-is 𝓤 H A (Mut.mslice ReservationUsage.row ref7 2)) (Reads.room-gone 𝓤 H A ref2) Path.refl tt Path.refl
-              Path.refl Path.refl λ b o. tt) d59
+          d60 = Typed.s-seq 𝓤 H A W 𝓣 E G9 G10 b4 b39 Δ0 (Typed.give s8) at59 (Relend.t-sl-relend 𝓤 H A W E
+              ReservationUsage.row 𝓣 G9 3 13 2 7 ref7 ref2 life2 0 (λ x. x) (Reads.as-is 𝓤 H A
+              (Mut.mslice ReservationUsage.row ref7 2)) (Reads.room-gone 𝓤 H A ref2) Path.refl tt Path.refl Path.refl
+              Path.refl λ b o. tt) d59
+
           d61 : Typed.Typed 𝓤 H A 𝓣 E G8 b40 Δ0 at61
-          d61 = Typed.g-pre 𝓤 H A W 𝓣 E G8 G9 b40 Δ0 (λ Ψ. Ψ) at60 (Lifetime.g-begin 𝓤 H A W E G8 7 (tt, ((tt, tt), ((tt, tt), (tt, (tt, (tt, (tt,
-              (tt, (tt, (tt, (tt, (tt, (tt, (tt, (tt, (tt, (tt, (tt, (tt, (tt, (tt, (tt, (tt, (tt, (tt, (tt, (tt, (tt, (tt,
-              tt))))),),),),),),),),),),),),),),),),),),),),),),),),)) d60
+          d61 = Typed.g-pre 𝓤 H A W 𝓣 E G8 G9 b40 Δ0 (λ Ψ. Ψ) at60 (Lifetime.g-begin 𝓤 H A W E G8 7 (
+            tt,
+            (
+              (tt, tt),
+              (
+                (tt, tt),
+                (
+                  tt,
+                  (
+                    tt,
+                    (
+                      tt,
+                      (
+                        tt,
+                        (
+                          tt,
+                          (
+                            tt,
+                            (
+                              tt,
+                              (
+                                tt,
+                                (
+                                  tt,
+                                  (
+                                    tt,
+                                    (
+                                      tt,
+                                      (
+                                        tt,
+                                        (
+                                          tt,
+                                          (
+                                            tt,
+                                            (tt, (tt, (tt, (tt, (tt, (tt, (tt, (tt, (tt, (tt, (tt, (tt, tt)))))))))))),
+                                          ),
+                                        ),
+                                      ),
+                                    ),
+                                  ),
+                                ),
+                              ),
+                            ),
+                          ),
+                        ),
+                      ),
+                    ),
+                  ),
+                ),
+              ),
+            ),
+          )) d60
+
           d62 : Typed.Typed 𝓤 H A 𝓣 E G7 b41 Δ0 at62
-          d62 = Typed.s-seq 𝓤 H A W 𝓣 E G7 G8 b3 b40 Δ0 (Typed.ask s6) at61 (Relend.t-sl-aggregate 𝓤 H A W E RelayCircuit.row 𝓣 (Relend.asMut
-              RelayCircuit.row) G7 11 12 6 ref1 ref1 (λ x. x) (Scalar.oFld 2 ((Syntax.field 1) ∷ List.[]) (Syntax.tyInt Syntax.w64) 8 λ v. Shared.lenV
-              (v .0)) (Reads.as-is 𝓤 H A (Relend.msptr RelayCircuit.row ref1 6)) (Reads.room-gone 𝓤 H A (Syntax.tyStruct (38 ∷ 91 ∷ 93 ∷ List.[])
-              (Syntax.tcons ref1 (Syntax.tcons (Syntax.tyInt Syntax.w64) Syntax.tnil)))) (Relend.reads-owed-len 𝓤 H A W RelayCircuit.row ref6 1 6
-              life1 8 Path.refl, Path.refl,) Path.refl Path.refl λ b o k. tt) d61
+          d62 = Typed.s-seq 𝓤 H A W 𝓣 E G7 G8 b3 b40 Δ0 (Typed.ask s6) at61 (Relend.t-sl-aggregate 𝓤 H A W E
+              RelayCircuit.row 𝓣 (Relend.asMut RelayCircuit.row) G7 11 12 6 ref1 ref1 (λ x. x) (Scalar.oFld 2
+              ((Syntax.field 1) ∷ List.[]) (Syntax.tyInt Syntax.w64) 8 λ v. Shared.lenV (v .0))
+              (Reads.as-is 𝓤 H A (Relend.msptr RelayCircuit.row ref1 6)) (Reads.room-gone 𝓤 H A slice1) (
+                Relend.reads-owed-len 𝓤 H A W RelayCircuit.row ref6 1 6 life1 8 Path.refl,
+                Path.refl,
+              ) Path.refl Path.refl λ b o k. tt) d61
+
           d63 : Typed.Typed 𝓤 H A 𝓣 E G6 b42 Δ0 at63
-          d63 = Typed.s-seq 𝓤 H A W 𝓣 E G6 G7 b2 b41 Δ0 (Typed.give s5) at62 (Relend.t-sl-relend 𝓤 H A W E RelayCircuit.row 𝓣 G6 2 11 1 6 ref6 ref1
-              life1 0 (λ x. x) (Reads.as-is 𝓤 H A (Mut.mslice RelayCircuit.row ref6 1)) (Reads.room-gone 𝓤 H A ref1) Path.refl tt Path.refl Path.refl
-              Path.refl λ b o. tt) d62
+          d63 = Typed.s-seq 𝓤 H A W 𝓣 E G6 G7 b2 b41 Δ0 (Typed.give s5) at62 (Relend.t-sl-relend 𝓤 H A W E
+              RelayCircuit.row 𝓣 G6 2 11 1 6 ref6 ref1 life1 0 (λ x. x)
+              (Reads.as-is 𝓤 H A (Mut.mslice RelayCircuit.row ref6 1)) (Reads.room-gone 𝓤 H A ref1) Path.refl tt
+              Path.refl Path.refl Path.refl λ b o. tt) d62
+
           d64 : Typed.Typed 𝓤 H A 𝓣 E G5 b42 Δ0 at64
-          d64 = Typed.g-pre 𝓤 H A W 𝓣 E G5 G6 b42 Δ0 (λ Ψ. Ψ) at63 (Lifetime.g-begin 𝓤 H A W E G5 6 (tt, ((tt, tt), (tt, (tt, (tt, (tt, (tt, (tt, (tt,
-              (tt, (tt, (tt, (tt, (tt, (tt, (tt, (tt, (tt, (tt, (tt, (tt, (tt, (tt, (tt, (tt, (tt, (tt, (tt, (tt,
-              tt))))),),),),),),),),),),),),),),),),),),),),),),),),)) d63
+          d64 = Typed.g-pre 𝓤 H A W 𝓣 E G5 G6 b42 Δ0 (λ Ψ. Ψ) at63 (Lifetime.g-begin 𝓤 H A W E G5 6 (
+            tt,
+            (
+              (tt, tt),
+              (
+                tt,
+                (
+                  tt,
+                  (
+                    tt,
+                    (
+                      tt,
+                      (
+                        tt,
+                        (
+                          tt,
+                          (
+                            tt,
+                            (
+                              tt,
+                              (
+                                tt,
+                                (
+                                  tt,
+                                  (
+                                    tt,
+                                    (
+                                      tt,
+                                      (
+                                        tt,
+                                        (
+                                          tt,
+                                          (
+                                            tt,
+                                            (tt, (tt, (tt, (tt, (tt, (tt, (tt, (tt, (tt, (tt, (tt, (tt, tt)))))))))))),
+                                          ),
+                                        ),
+                                      ),
+                                    ),
+                                  ),
+                                ),
+                              ),
+                            ),
+                          ),
+                        ),
+                      ),
+                    ),
+                  ),
+                ),
+              ),
+            ),
+          )) d63
+
           d65 : Typed.Typed 𝓤 H A 𝓣 E G4 b43 Δ0 at65
-          d65 = Typed.s-seq 𝓤 H A W 𝓣 E G4 G5 b1 b42 Δ0 (Typed.ask s3) at64 (Relend.t-sl-aggregate 𝓤 H A W E RelayPending.row 𝓣 (Relend.asMut
-              RelayPending.row) G4 9 10 5 ref0 ref0 (λ x. x) (Scalar.oFld 1 ((Syntax.field 1) ∷ List.[]) (Syntax.tyInt Syntax.w64) 8 λ v. Shared.lenV
-              (v .0)) (Reads.as-is 𝓤 H A (Relend.msptr RelayPending.row ref0 5)) (Reads.room-gone 𝓤 H A (Syntax.tyStruct (38 ∷ 91 ∷ 93 ∷ List.[])
-              (Syntax.tcons ref0 (Syntax.tcons (Syntax.tyInt Syntax.w64) Syntax.tnil)))) (Relend.reads-owed-len 𝓤 H A W RelayPending.row ref5 0 5
-              life0 8 Path.refl, Path.refl,) Path.refl Path.refl λ b o k. tt) d64
+          d65 = Typed.s-seq 𝓤 H A W 𝓣 E G4 G5 b1 b42 Δ0 (Typed.ask s3) at64 (Relend.t-sl-aggregate 𝓤 H A W E
+              RelayPending.row 𝓣 (Relend.asMut RelayPending.row) G4 9 10 5 ref0 ref0 (λ x. x) (Scalar.oFld 1
+              ((Syntax.field 1) ∷ List.[]) (Syntax.tyInt Syntax.w64) 8 λ v. Shared.lenV (v .0))
+              (Reads.as-is 𝓤 H A (Relend.msptr RelayPending.row ref0 5)) (Reads.room-gone 𝓤 H A slice0) (
+                Relend.reads-owed-len 𝓤 H A W RelayPending.row ref5 0 5 life0 8 Path.refl,
+                Path.refl,
+              ) Path.refl Path.refl λ b o k. tt) d64
+
           d66 : Typed.Typed 𝓤 H A 𝓣 E G3 b44 Δ0 at66
-          d66 = Typed.s-seq 𝓤 H A W 𝓣 E G3 G4 b0 b43 Δ0 (Typed.give s2) at65 (Relend.t-sl-relend 𝓤 H A W E RelayPending.row 𝓣 G3 1 9 0 5 ref5 ref0
-              life0 0 (λ x. x) (Reads.as-is 𝓤 H A (Mut.mslice RelayPending.row ref5 0)) (Reads.room-gone 𝓤 H A ref0) Path.refl tt Path.refl Path.refl
-              Path.refl λ b o. tt) d65
+          d66 = Typed.s-seq 𝓤 H A W 𝓣 E G3 G4 b0 b43 Δ0 (Typed.give s2) at65 (Relend.t-sl-relend 𝓤 H A W E
+              RelayPending.row 𝓣 G3 1 9 0 5 ref5 ref0 life0 0 (λ x. x)
+              (Reads.as-is 𝓤 H A (Mut.mslice RelayPending.row ref5 0)) (Reads.room-gone 𝓤 H A ref0) Path.refl tt
+              Path.refl Path.refl Path.refl λ b o. tt) d65
+
           d67 : Typed.Typed 𝓤 H A 𝓣 E G2 b44 Δ0 at67
-          d67 = Typed.g-pre 𝓤 H A W 𝓣 E G2 G3 b44 Δ0 (λ Ψ. Ψ) at66 (Lifetime.g-begin 𝓤 H A W E G2 5 (tt, (tt, (tt, (tt, (tt, (tt, (tt, (tt, (tt, (tt,
-              (tt, (tt, (tt, (tt, (tt, (tt, (tt, (tt, (tt, (tt, (tt, (tt, (tt, (tt, (tt, (tt, (tt, (tt, (tt,
-              tt))))),),),),),),),),),),),),),),),),),),),),),),),),)) d66
+          d67 = Typed.g-pre 𝓤 H A W 𝓣 E G2 G3 b44 Δ0 (λ Ψ. Ψ) at66 (Lifetime.g-begin 𝓤 H A W E G2 5 (
+            tt,
+            (
+              tt,
+              (
+                tt,
+                (
+                  tt,
+                  (
+                    tt,
+                    (
+                      tt,
+                      (
+                        tt,
+                        (
+                          tt,
+                          (
+                            tt,
+                            (
+                              tt,
+                              (
+                                tt,
+                                (
+                                  tt,
+                                  (
+                                    tt,
+                                    (
+                                      tt,
+                                      (
+                                        tt,
+                                        (
+                                          tt,
+                                          (
+                                            tt,
+                                            (tt, (tt, (tt, (tt, (tt, (tt, (tt, (tt, (tt, (tt, (tt, (tt, tt)))))))))))),
+                                          ),
+                                        ),
+                                      ),
+                                    ),
+                                  ),
+                                ),
+                              ),
+                            ),
+                          ),
+                        ),
+                      ),
+                    ),
+                  ),
+                ),
+              ),
+            ),
+          )) d66
+
           d68 : Typed.Typed 𝓤 H A 𝓣 E G0 b44 Δ0 at68
-          d68 = Typed.g-pre 𝓤 H A W 𝓣 E G0 G2 b44 Δ0 (Typed.give s0) at67 (Know.g-sl-known 𝓤 H A W (Referent.fInt Syntax.w32) E G0 5 4 ref9 life4 0 (λ
-              x. x) record { fits = Dec.lit< tt } (Reads.as-is 𝓤 H A (Mut.mslice (Referent.rtF (Referent.fInt Syntax.w32)) ref9 4)) Path.refl tt) d67
+          d68 = Typed.g-pre 𝓤 H A W 𝓣 E G0 G2 b44 Δ0 (Typed.give s0) at67 (Know.g-sl-known 𝓤 H A W
+              (Referent.fInt Syntax.w32) E G0 5 4 ref9 life4 0 (λ x. x) record { fits = Dec.lit< tt } (Reads.as-is 𝓤 H
+              A (Mut.mslice (Referent.rtF (Referent.fInt Syntax.w32)) ref9 4)) Path.refl tt) d67
+
           pub typed : Typed.Typed 𝓤 H A 𝓣 E (Function.Γin 5 ps r xs m κs qs) b44 (Function.Δret 5 ps r xs m κs qs) Φ
           typed = d68
+
       module _ (κs : Lifetimes.Lfts 5) where
         pub record Args : Type 0 where
-          pub pending : Kinds.Den { n = 5 } κs (MutSlice.pMutS RelayPending.row 0 tt)
-          pub circuits : Kinds.Den { n = 5 } κs (MutSlice.pMutS RelayCircuit.row 1 tt)
-          pub ledger : Kinds.Den { n = 5 } κs (MutSlice.pMutS ReservationUsage.row 2 tt)
-          pub inflight : Kinds.Den { n = 5 } κs (MutSlice.pMutS InflightAction.row 3 tt)
-          pub out : Kinds.Den { n = 5 } κs (MutSlice.pMutS (Referent.rtF (Referent.fInt Syntax.w32)) 4 tt)
-          pub kept : Kinds.Den { n = 5 } κs (Value.pVal record { ty = Declared.row Relayed.the-type; one = Path.refl; val = Laws'.val Relayed.the-type
-              Laws.the-laws; tells = Laws'.tells Relayed.the-type Laws.the-laws; still = Laws'.still Relayed.the-type Laws.the-copy Exit.yes; row =
-              Rows.whole (Declared.row Relayed.the-type); rd = λ x. x; mk = λ x. x; } λ M 𝓤 H A W. record { copies = Laws'.copy Relayed.the-type
-              Laws.the-copy 𝓤 H A W; lawful = Laws'.lawful Relayed.the-type Laws.the-laws 𝓤 H A W; makes = Laws'.makes Relayed.the-type Laws.the-plain
-              𝓤 H A; in-mem = Local.mem-whole 𝓤 H A W (Declared.row Relayed.the-type); of-mem = Local.whole-mem 𝓤 H A W (Declared.row
-              Relayed.the-type); })
-          pub accept-at : Kinds.Den { n = 5 } κs (Num.pNum Syntax.w64)
+          pub pending : Kinds.Den {n = 5} κs (MutSlice.pMutS RelayPending.row 0 tt)
+          pub circuits : Kinds.Den {n = 5} κs (MutSlice.pMutS RelayCircuit.row 1 tt)
+          pub ledger : Kinds.Den {n = 5} κs (MutSlice.pMutS ReservationUsage.row 2 tt)
+          pub inflight : Kinds.Den {n = 5} κs (MutSlice.pMutS InflightAction.row 3 tt)
+          pub out : Kinds.Den {n = 5} κs (MutSlice.pMutS (Referent.rtF (Referent.fInt Syntax.w32)) 4 tt)
+          pub kept : Kinds.Den {n = 5} κs (StructRow.param Relayed.the-type Laws.the-laws Laws.the-copy Laws.the-plain)
+          pub accept-at : Kinds.Den {n = 5} κs (Num.pNum Syntax.w64)
+
         abbrev pub dens : (a : Args) → Kinds.Dens κs ps
-        dens = λ a. (a .pending, (a .circuits, (a .ledger, (a .inflight, (a .out, (a .kept, (a .accept-at, tt)))))),)
+        dens = λ a. (a .pending, (a .circuits, (a .ledger, (a .inflight, (a .out, (a .kept, (a .accept-at, tt)))))))
+
         module _ (args· : Args) where
           pub record Ranges : Type 0 where
             pub accept-at : Val.Fits Syntax.w64 (args· .accept-at)
+
       abbrev pub m0 : (κs : Lifetimes.Lfts 5) → (args : Args κs) → Typed.Mo T0
       m0 = λ κs args. (tt, Enter.partsP κs 1 ps xs (dens κs args))
+
       abbrev W0 : (κs : Lifetimes.Lfts 5) → (args : Args κs) → Typed.Want O0
-      W0 = λ κs args. (λ u. ⊥, tt, λ u. Enter.Fixs κs 1 ps xs (dens κs args) (u .1) × Post· κs (dens κs args) (Function.resV r κs (u .0))
-          (Clauses.atExit (Kinds.endedOf 5 ps r) κs (dens κs args) (Enter.lastsP κs 1 ps xs (dens κs args) (u .1))),)
+      W0 = λ κs args. (
+        λ u. ⊥,
+        tt,
+        λ u. Enter.Fixs κs 1 ps xs (dens κs args) (u .1) × Post· κs (dens κs args) (Function.resV r κs (u .0)) (Clauses.atExit
+            (Kinds.endedOf 5 ps r) κs (dens κs args) (Enter.lastsP κs 1 ps xs (dens κs args) (u .1))),
+      )
+
       pub record Start : Type 0 where
         pub κs : Lifetimes.Lfts 5
         pub args : Args κs
         pub good : Kinds.GoodsP κs ps (dens κs args)
         pub fits : Ranges κs args
         pub pre : Pre· κs (dens κs args)
+
       abbrev pub m1 : (before : Start) → (given : s0 .gives (m0 (before .κs) (before .args))) → Typed.Mo T2
       m1 = λ before given. s0 .next (m0 (before .κs) (before .args)) given
+
       module _ (before· : Start) where
         pub record After-slice-known·own : Type 0 where
           pub given : s0 .gives (m0 (before· .κs) (before· .args))
+
       pub record After-slice-known : Type 0 where
         pub before : Start
         pub slice-known : After-slice-known·own before
-      abbrev pub m2 : (before : After-slice-known) → (given : s2 .gives (m1 (before .before) (before .slice-known .given))) → Typed.Mo T4
+
+      abbrev pub m2 : (before : After-slice-known) → (given : s2 .gives
+          (m1 (before .before) (before .slice-known .given))) → Typed.Mo T4
       m2 = λ before given. s2 .next (m1 (before .before) (before .slice-known .given)) given
-      abbrev pub m3 : (before : After-slice-known) → (given : s2 .gives (m1 (before .before) (before .slice-known .given))) → Typed.Mo T5
+
+      abbrev pub m3 : (before : After-slice-known) → (given : s2 .gives
+          (m1 (before .before) (before .slice-known .given))) → Typed.Mo T5
       m3 = λ before given. s3 .next (m2 before given)
+
       module _ (before· : After-slice-known) where
         pub record After-open-circuit-arg·own : Type 0 where
           pub given : s2 .gives (m1 (before· .before) (before· .slice-known .given))
+
       pub record After-open-circuit-arg : Type 0 where
         pub before : After-slice-known
         pub open-circuit-arg : After-open-circuit-arg·own before
-      abbrev pub m4 : (before : After-open-circuit-arg) → (given : s5 .gives (m3 (before .before) (before .open-circuit-arg .given))) → Typed.Mo T7
+
+      abbrev pub m4 : (before : After-open-circuit-arg) → (given : s5 .gives
+          (m3 (before .before) (before .open-circuit-arg .given))) → Typed.Mo T7
       m4 = λ before given. s5 .next (m3 (before .before) (before .open-circuit-arg .given)) given
-      abbrev pub m5 : (before : After-open-circuit-arg) → (given : s5 .gives (m3 (before .before) (before .open-circuit-arg .given))) → Typed.Mo T8
+
+      abbrev pub m5 : (before : After-open-circuit-arg) → (given : s5 .gives
+          (m3 (before .before) (before .open-circuit-arg .given))) → Typed.Mo T8
       m5 = λ before given. s6 .next (m4 before given)
+
       module _ (before· : After-open-circuit-arg) where
         pub record After-open-circuit-arg2·own : Type 0 where
           pub given : s5 .gives (m3 (before· .before) (before· .open-circuit-arg .given))
+
       pub record After-open-circuit-arg2 : Type 0 where
         pub before : After-open-circuit-arg
         pub open-circuit-arg2 : After-open-circuit-arg2·own before
-      abbrev pub m6 : (before : After-open-circuit-arg2) → (given : s8 .gives (m5 (before .before) (before .open-circuit-arg2 .given))) → Typed.Mo T10
+
+      abbrev pub m6 : (before : After-open-circuit-arg2) → (given : s8 .gives
+          (m5 (before .before) (before .open-circuit-arg2 .given))) → Typed.Mo T10
       m6 = λ before given. s8 .next (m5 (before .before) (before .open-circuit-arg2 .given)) given
-      abbrev pub m7 : (before : After-open-circuit-arg2) → (given : s8 .gives (m5 (before .before) (before .open-circuit-arg2 .given))) → Typed.Mo T11
+
+      abbrev pub m7 : (before : After-open-circuit-arg2) → (given : s8 .gives
+          (m5 (before .before) (before .open-circuit-arg2 .given))) → Typed.Mo T11
       m7 = λ before given. s9 .next (m6 before given)
+
       module _ (before· : After-open-circuit-arg2) where
         pub record After-open-circuit-arg3·own : Type 0 where
           pub given : s8 .gives (m5 (before· .before) (before· .open-circuit-arg2 .given))
+
       pub record After-open-circuit-arg3 : Type 0 where
         pub before : After-open-circuit-arg2
         pub open-circuit-arg3 : After-open-circuit-arg3·own before
-      abbrev pub m8 : (before : After-open-circuit-arg3) → (given : s11 .gives (m7 (before .before) (before .open-circuit-arg3 .given))) → Typed.Mo
-          T13
+
+      abbrev pub m8 : (before : After-open-circuit-arg3) → (given : s11 .gives
+          (m7 (before .before) (before .open-circuit-arg3 .given))) → Typed.Mo T13
       m8 = λ before given. s11 .next (m7 (before .before) (before .open-circuit-arg3 .given)) given
-      abbrev pub m9 : (before : After-open-circuit-arg3) → (given : s11 .gives (m7 (before .before) (before .open-circuit-arg3 .given))) → Typed.Mo
-          T14
+
+      abbrev pub m9 : (before : After-open-circuit-arg3) → (given : s11 .gives
+          (m7 (before .before) (before .open-circuit-arg3 .given))) → Typed.Mo T14
       m9 = λ before given. s12 .next (m8 before given)
+
       module _ (before· : After-open-circuit-arg3) where
         pub record After-open-circuit-arg4·own : Type 0 where
           pub given : s11 .gives (m7 (before· .before) (before· .open-circuit-arg3 .given))
+
       pub record After-open-circuit-arg4 : Type 0 where
         pub before : After-open-circuit-arg3
         pub open-circuit-arg4 : After-open-circuit-arg4·own before
-      abbrev pub m10 : (before : After-open-circuit-arg4) → (given : s14 .gives (m9 (before .before) (before .open-circuit-arg4 .given))) → Typed.Mo
-          T16
+
+      abbrev pub m10 : (before : After-open-circuit-arg4) → (given : s14 .gives
+          (m9 (before .before) (before .open-circuit-arg4 .given))) → Typed.Mo T16
       m10 = λ before given. s14 .next (m9 (before .before) (before .open-circuit-arg4 .given)) given
-      abbrev pub m11 : (before : After-open-circuit-arg4) → (given : s14 .gives (m9 (before .before) (before .open-circuit-arg4 .given))) → Typed.Mo
-          T17
+
+      abbrev pub m11 : (before : After-open-circuit-arg4) → (given : s14 .gives
+          (m9 (before .before) (before .open-circuit-arg4 .given))) → Typed.Mo T17
       m11 = λ before given. s15 .next (m10 before given)
+
       module _ (before· : After-open-circuit-arg4) where
         pub record After-open-circuit-arg5·own : Type 0 where
           pub given : s14 .gives (m9 (before· .before) (before· .open-circuit-arg4 .given))
+
       pub record After-open-circuit-arg5 : Type 0 where
         pub before : After-open-circuit-arg4
         pub open-circuit-arg5 : After-open-circuit-arg5·own before
+
       abbrev pub Need-open-circuit-requires : Type 0
-      Need-open-circuit-requires = (c : After-open-circuit-arg5) → s16 .asks (m11 (c .before) (c .open-circuit-arg5 .given))
-      abbrev pub m12 : (before : After-open-circuit-arg5) → (given : s16 .gives (m11 (before .before) (before .open-circuit-arg5 .given))) → Typed.Mo
-          T18
+      Need-open-circuit-requires = (c : After-open-circuit-arg5) → s16 .asks
+          (m11 (c .before) (c .open-circuit-arg5 .given))
+
+      abbrev pub m12 : (before : After-open-circuit-arg5) → (given : s16 .gives
+          (m11 (before .before) (before .open-circuit-arg5 .given))) → Typed.Mo T18
       m12 = λ before given. s16 .next (m11 (before .before) (before .open-circuit-arg5 .given)) given
+
       module _ (before· : After-open-circuit-arg5) where
         abbrev pub After-open-circuit·own : Type 0
-        After-open-circuit·own = Called.Called ps·0 r·0 (claims· .1) T17 (record { pos = 10; ty = Syntax.tyRef Syntax.erased Syntax.mut
-            RelayPending.to; ref = λ x. x; }, (record { pos = 12; ty = Syntax.tyRef Syntax.erased Syntax.mut RelayCircuit.to; ref = λ x. x; }, (record
-            { pos = 14; ty = Syntax.tyRef Syntax.erased Syntax.mut ReservationUsage.to; ref = λ x. x; }, (record { pos = 16; ty = Syntax.tyRef
-            Syntax.erased Syntax.mut InflightAction.to; ref = λ x. x; }, (record { pos = 18; ty = Syntax.tyRef Syntax.erased Syntax.mut (Syntax.tyInt
-            Syntax.w32); ref = λ x. x; }, (record { pos = 6; st = List.[]; d = 0; at = λ x. x }, tt),),),),),) (m11 (before· .before) (before·
-            .open-circuit-arg5 .given))
+        After-open-circuit·own = Called.Called ps·0 r·0 (claims· .1) T17 args16
+            (m11 (before· .before) (before· .open-circuit-arg5 .given))
+
       pub record After-open-circuit : Type 0 where
         pub before : After-open-circuit-arg5
         pub open-circuit : After-open-circuit·own before
-      abbrev pub After-open-circuit·gave : (c : After-open-circuit) → s16 .gives (m11 (c .before .before) (c .before .open-circuit-arg5 .given))
-      After-open-circuit·gave = λ c. Called.given ps·0 r·0 (claims· .1) T17 (record { pos = 10; ty = Syntax.tyRef Syntax.erased Syntax.mut
-          RelayPending.to; ref = λ x. x; }, (record { pos = 12; ty = Syntax.tyRef Syntax.erased Syntax.mut RelayCircuit.to; ref = λ x. x; }, (record {
-          pos = 14; ty = Syntax.tyRef Syntax.erased Syntax.mut ReservationUsage.to; ref = λ x. x; }, (record { pos = 16; ty = Syntax.tyRef
-          Syntax.erased Syntax.mut InflightAction.to; ref = λ x. x; }, (record { pos = 18; ty = Syntax.tyRef Syntax.erased Syntax.mut (Syntax.tyInt
-          Syntax.w32); ref = λ x. x; }, (record { pos = 6; st = List.[]; d = 0; at = λ x. x }, tt),),),),),) (m11 (c .before .before) (c .before
-          .open-circuit-arg5 .given)) (c .open-circuit)
-      abbrev pub m13 : (before : After-open-circuit-arg5) → (given : s16 .gives (m11 (before .before) (before .open-circuit-arg5 .given))) → Typed.Mo
-          T19
+
+      abbrev pub After-open-circuit·gave : (c : After-open-circuit) → s16 .gives (m11 (c .before .before)
+          (c .before .open-circuit-arg5 .given))
+      After-open-circuit·gave = λ c. Called.given ps·0 r·0 (claims· .1) T17 args16 (m11 (c .before .before)
+          (c .before .open-circuit-arg5 .given)) (c .open-circuit)
+
+      abbrev pub m13 : (before : After-open-circuit-arg5) → (given : s16 .gives
+          (m11 (before .before) (before .open-circuit-arg5 .given))) → Typed.Mo T19
       m13 = λ before given. s17 (m12 before given)
-      abbrev pub m14 : (before : After-open-circuit) → (given : s19 .gives (m13 (before .before) (After-open-circuit·gave before))) → Typed.Mo T21
+
+      abbrev pub m14 : (before : After-open-circuit) → (given : s19 .gives
+          (m13 (before .before) (After-open-circuit·gave before))) → Typed.Mo T21
       m14 = λ before given. s19 .next (m13 (before .before) (After-open-circuit·gave before)) given
+
       module _ (before· : After-open-circuit) where
         pub record After-pending·own : Type 0 where
           pub given : s19 .gives (m13 (before· .before) (After-open-circuit·gave before·))
+
       pub record After-pending : Type 0 where
         pub before : After-open-circuit
         pub pending : After-pending·own before
-      abbrev pub m15 : (before : After-pending) → (given : s22 .gives (m14 (before .before) (before .pending .given))) → Typed.Mo T24
+
+      abbrev pub m15 : (before : After-pending) → (given : s22 .gives (m14 (before .before) (before .pending .given)))
+          → Typed.Mo T24
       m15 = λ before given. s22 .next (m14 (before .before) (before .pending .given)) given
+
       module _ (before· : After-pending) where
         pub record After-circuits·own : Type 0 where
           pub given : s22 .gives (m14 (before· .before) (before· .pending .given))
+
       pub record After-circuits : Type 0 where
         pub before : After-pending
         pub circuits : After-circuits·own before
-      abbrev pub m16 : (before : After-circuits) → (given : s25 .gives (m15 (before .before) (before .circuits .given))) → Typed.Mo T27
+
+      abbrev pub m16 : (before : After-circuits) → (given : s25 .gives (m15 (before .before) (before .circuits .given)))
+          → Typed.Mo T27
       m16 = λ before given. s25 .next (m15 (before .before) (before .circuits .given)) given
+
       module _ (before· : After-circuits) where
         pub record After-ledger·own : Type 0 where
           pub given : s25 .gives (m15 (before· .before) (before· .circuits .given))
+
       pub record After-ledger : Type 0 where
         pub before : After-circuits
         pub ledger : After-ledger·own before
-      abbrev pub m17 : (before : After-ledger) → (given : s28 .gives (m16 (before .before) (before .ledger .given))) → Typed.Mo T30
+
+      abbrev pub m17 : (before : After-ledger) → (given : s28 .gives (m16 (before .before) (before .ledger .given))) →
+          Typed.Mo T30
       m17 = λ before given. s28 .next (m16 (before .before) (before .ledger .given)) given
+
       module _ (before· : After-ledger) where
         pub record After-inflight·own : Type 0 where
           pub given : s28 .gives (m16 (before· .before) (before· .ledger .given))
+
       pub record After-inflight : Type 0 where
         pub before : After-ledger
         pub inflight : After-inflight·own before
-      abbrev pub m18 : (before : After-inflight) → (given : s31 .gives (m17 (before .before) (before .inflight .given))) → Typed.Mo T33
+
+      abbrev pub m18 : (before : After-inflight) → (given : s31 .gives (m17 (before .before) (before .inflight .given)))
+          → Typed.Mo T33
       m18 = λ before given. s31 .next (m17 (before .before) (before .inflight .given)) given
+
       module _ (before· : After-inflight) where
         pub record After-out·own : Type 0 where
           pub given : s31 .gives (m17 (before· .before) (before· .inflight .given))
+
       pub record After-out : Type 0 where
         pub before : After-inflight
         pub out : After-out·own before
-      abbrev pub m19 : (before : After-out) → (given : s32 .gives (m18 (before .before) (before .out .given))) → Typed.Mo T34
+
+      abbrev pub m19 : (before : After-out) → (given : s32 .gives (m18 (before .before) (before .out .given))) →
+          Typed.Mo T34
       m19 = λ before given. s32 .next (m18 (before .before) (before .out .given)) given
+
       module _ (before· : After-out) where
         pub record After-slice-known2·own : Type 0 where
           pub given : s32 .gives (m18 (before· .before) (before· .out .given))
+
       pub record After-slice-known2 : Type 0 where
         pub before : After-out
         pub slice-known2 : After-slice-known2·own before
-      abbrev pub m20 : (before : After-slice-known2) → (given : s35 .gives (m19 (before .before) (before .slice-known2 .given))) → Typed.Mo T37
+
+      abbrev pub m20 : (before : After-slice-known2) → (given : s35 .gives
+          (m19 (before .before) (before .slice-known2 .given))) → Typed.Mo T37
       m20 = λ before given. s35 .next (m19 (before .before) (before .slice-known2 .given)) given
-      abbrev pub m21 : (before : After-slice-known2) → (given : s35 .gives (m19 (before .before) (before .slice-known2 .given))) → Typed.Mo T38
+
+      abbrev pub m21 : (before : After-slice-known2) → (given : s35 .gives
+          (m19 (before .before) (before .slice-known2 .given))) → Typed.Mo T38
       m21 = λ before given. s36 .next (m20 before given)
+
       module _ (before· : After-slice-known2) where
         pub record After-accept-circuit-arg·own : Type 0 where
           pub given : s35 .gives (m19 (before· .before) (before· .slice-known2 .given))
+
       pub record After-accept-circuit-arg : Type 0 where
         pub before : After-slice-known2
         pub accept-circuit-arg : After-accept-circuit-arg·own before
-      abbrev pub m22 : (before : After-accept-circuit-arg) → (given : s38 .gives (m21 (before .before) (before .accept-circuit-arg .given))) →
-          Typed.Mo T40
+
+      abbrev pub m22 : (before : After-accept-circuit-arg) → (given : s38 .gives
+          (m21 (before .before) (before .accept-circuit-arg .given))) → Typed.Mo T40
       m22 = λ before given. s38 .next (m21 (before .before) (before .accept-circuit-arg .given)) given
-      abbrev pub m23 : (before : After-accept-circuit-arg) → (given : s38 .gives (m21 (before .before) (before .accept-circuit-arg .given))) →
-          Typed.Mo T41
+
+      abbrev pub m23 : (before : After-accept-circuit-arg) → (given : s38 .gives
+          (m21 (before .before) (before .accept-circuit-arg .given))) → Typed.Mo T41
       m23 = λ before given. s39 .next (m22 before given)
+
       module _ (before· : After-accept-circuit-arg) where
         pub record After-accept-circuit-arg2·own : Type 0 where
           pub given : s38 .gives (m21 (before· .before) (before· .accept-circuit-arg .given))
+
       pub record After-accept-circuit-arg2 : Type 0 where
         pub before : After-accept-circuit-arg
         pub accept-circuit-arg2 : After-accept-circuit-arg2·own before
-      abbrev pub m24 : (before : After-accept-circuit-arg2) → (given : s41 .gives (m23 (before .before) (before .accept-circuit-arg2 .given))) →
-          Typed.Mo T43
+
+      abbrev pub m24 : (before : After-accept-circuit-arg2) → (given : s41 .gives (m23 (before .before)
+          (before .accept-circuit-arg2 .given))) → Typed.Mo T43
       m24 = λ before given. s41 .next (m23 (before .before) (before .accept-circuit-arg2 .given)) given
-      abbrev pub m25 : (before : After-accept-circuit-arg2) → (given : s41 .gives (m23 (before .before) (before .accept-circuit-arg2 .given))) →
-          Typed.Mo T44
+
+      abbrev pub m25 : (before : After-accept-circuit-arg2) → (given : s41 .gives (m23 (before .before)
+          (before .accept-circuit-arg2 .given))) → Typed.Mo T44
       m25 = λ before given. s42 .next (m24 before given)
+
       module _ (before· : After-accept-circuit-arg2) where
         pub record After-accept-circuit-arg3·own : Type 0 where
           pub given : s41 .gives (m23 (before· .before) (before· .accept-circuit-arg2 .given))
+
       pub record After-accept-circuit-arg3 : Type 0 where
         pub before : After-accept-circuit-arg2
         pub accept-circuit-arg3 : After-accept-circuit-arg3·own before
-      abbrev pub m26 : (before : After-accept-circuit-arg3) → (given : s44 .gives (m25 (before .before) (before .accept-circuit-arg3 .given))) →
-          Typed.Mo T46
+
+      abbrev pub m26 : (before : After-accept-circuit-arg3) → (given : s44 .gives (m25 (before .before)
+          (before .accept-circuit-arg3 .given))) → Typed.Mo T46
       m26 = λ before given. s44 .next (m25 (before .before) (before .accept-circuit-arg3 .given)) given
-      abbrev pub m27 : (before : After-accept-circuit-arg3) → (given : s44 .gives (m25 (before .before) (before .accept-circuit-arg3 .given))) →
-          Typed.Mo T47
+
+      abbrev pub m27 : (before : After-accept-circuit-arg3) → (given : s44 .gives (m25 (before .before)
+          (before .accept-circuit-arg3 .given))) → Typed.Mo T47
       m27 = λ before given. s45 .next (m26 before given)
+
       module _ (before· : After-accept-circuit-arg3) where
         pub record After-accept-circuit-arg4·own : Type 0 where
           pub given : s44 .gives (m25 (before· .before) (before· .accept-circuit-arg3 .given))
+
       pub record After-accept-circuit-arg4 : Type 0 where
         pub before : After-accept-circuit-arg3
         pub accept-circuit-arg4 : After-accept-circuit-arg4·own before
-      abbrev pub m28 : (before : After-accept-circuit-arg4) → (given : s47 .gives (m27 (before .before) (before .accept-circuit-arg4 .given))) →
-          Typed.Mo T49
+
+      abbrev pub m28 : (before : After-accept-circuit-arg4) → (given : s47 .gives (m27 (before .before)
+          (before .accept-circuit-arg4 .given))) → Typed.Mo T49
       m28 = λ before given. s47 .next (m27 (before .before) (before .accept-circuit-arg4 .given)) given
-      abbrev pub m29 : (before : After-accept-circuit-arg4) → (given : s47 .gives (m27 (before .before) (before .accept-circuit-arg4 .given))) →
-          Typed.Mo T50
+
+      abbrev pub m29 : (before : After-accept-circuit-arg4) → (given : s47 .gives (m27 (before .before)
+          (before .accept-circuit-arg4 .given))) → Typed.Mo T50
       m29 = λ before given. s48 .next (m28 before given)
+
       module _ (before· : After-accept-circuit-arg4) where
         pub record After-accept-circuit-arg5·own : Type 0 where
           pub given : s47 .gives (m27 (before· .before) (before· .accept-circuit-arg4 .given))
+
       pub record After-accept-circuit-arg5 : Type 0 where
         pub before : After-accept-circuit-arg4
         pub accept-circuit-arg5 : After-accept-circuit-arg5·own before
+
       abbrev pub Need-accept-circuit-requires : Type 0
-      Need-accept-circuit-requires = (c : After-accept-circuit-arg5) → s49 .asks (m29 (c .before) (c .accept-circuit-arg5 .given))
-      abbrev pub m30 : (before : After-accept-circuit-arg5) → (given : s49 .gives (m29 (before .before) (before .accept-circuit-arg5 .given))) →
-          Typed.Mo T51
+      Need-accept-circuit-requires = (c : After-accept-circuit-arg5) → s49 .asks
+          (m29 (c .before) (c .accept-circuit-arg5 .given))
+
+      abbrev pub m30 : (before : After-accept-circuit-arg5) → (given : s49 .gives (m29 (before .before)
+          (before .accept-circuit-arg5 .given))) → Typed.Mo T51
       m30 = λ before given. s49 .next (m29 (before .before) (before .accept-circuit-arg5 .given)) given
+
       module _ (before· : After-accept-circuit-arg5) where
         abbrev pub After-accept-circuit·own : Type 0
-        After-accept-circuit·own = Called.Called ps·1 r·1 (claims· .3) T50 (record { pos = 20; ty = Syntax.tyRef Syntax.erased Syntax.mut
-            RelayPending.to; ref = λ x. x; }, (record { pos = 22; ty = Syntax.tyRef Syntax.erased Syntax.mut RelayCircuit.to; ref = λ x. x; }, (record
-            { pos = 24; ty = Syntax.tyRef Syntax.erased Syntax.mut ReservationUsage.to; ref = λ x. x; }, (record { pos = 26; ty = Syntax.tyRef
-            Syntax.erased Syntax.mut InflightAction.to; ref = λ x. x; }, (record { pos = 28; ty = Syntax.tyRef Syntax.erased Syntax.mut (Syntax.tyInt
-            Syntax.w32); ref = λ x. x; }, (record { pos = 8; st = List.[]; d = 0; at = λ x. x }, (Num.vAt 7 λ x. x, tt)),),),),),) (m29 (before·
-            .before) (before· .accept-circuit-arg5 .given))
+        After-accept-circuit·own = Called.Called ps·1 r·1 (claims· .3) T50 args49 (m29 (before· .before)
+            (before· .accept-circuit-arg5 .given))
+
       pub record After-accept-circuit : Type 0 where
         pub before : After-accept-circuit-arg5
         pub accept-circuit : After-accept-circuit·own before
-      abbrev pub After-accept-circuit·gave : (c : After-accept-circuit) → s49 .gives (m29 (c .before .before) (c .before .accept-circuit-arg5 .given))
-      After-accept-circuit·gave = λ c. Called.given ps·1 r·1 (claims· .3) T50 (record { pos = 20; ty = Syntax.tyRef Syntax.erased Syntax.mut
-          RelayPending.to; ref = λ x. x; }, (record { pos = 22; ty = Syntax.tyRef Syntax.erased Syntax.mut RelayCircuit.to; ref = λ x. x; }, (record {
-          pos = 24; ty = Syntax.tyRef Syntax.erased Syntax.mut ReservationUsage.to; ref = λ x. x; }, (record { pos = 26; ty = Syntax.tyRef
-          Syntax.erased Syntax.mut InflightAction.to; ref = λ x. x; }, (record { pos = 28; ty = Syntax.tyRef Syntax.erased Syntax.mut (Syntax.tyInt
-          Syntax.w32); ref = λ x. x; }, (record { pos = 8; st = List.[]; d = 0; at = λ x. x }, (Num.vAt 7 λ x. x, tt)),),),),),) (m29 (c .before
-          .before) (c .before .accept-circuit-arg5 .given)) (c .accept-circuit)
-      abbrev pub m31 : (before : After-accept-circuit-arg5) → (given : s49 .gives (m29 (before .before) (before .accept-circuit-arg5 .given))) →
-          Typed.Mo T52
+
+      abbrev pub After-accept-circuit·gave : (c : After-accept-circuit) → s49 .gives (m29 (c .before .before)
+          (c .before .accept-circuit-arg5 .given))
+      After-accept-circuit·gave = λ c. Called.given ps·1 r·1 (claims· .3) T50 args49 (m29 (c .before .before)
+          (c .before .accept-circuit-arg5 .given)) (c .accept-circuit)
+
+      abbrev pub m31 : (before : After-accept-circuit-arg5) → (given : s49 .gives (m29 (before .before)
+          (before .accept-circuit-arg5 .given))) → Typed.Mo T52
       m31 = λ before given. s50 (m30 before given)
-      abbrev pub m32 : (before : After-accept-circuit) → (given : s52 .gives (m31 (before .before) (After-accept-circuit·gave before))) → Typed.Mo T54
+
+      abbrev pub m32 : (before : After-accept-circuit) → (given : s52 .gives
+          (m31 (before .before) (After-accept-circuit·gave before))) → Typed.Mo T54
       m32 = λ before given. s52 .next (m31 (before .before) (After-accept-circuit·gave before)) given
+
       module _ (before· : After-accept-circuit) where
         pub record After-pending2·own : Type 0 where
           pub given : s52 .gives (m31 (before· .before) (After-accept-circuit·gave before·))
+
       pub record After-pending2 : Type 0 where
         pub before : After-accept-circuit
         pub pending2 : After-pending2·own before
-      abbrev pub m33 : (before : After-pending2) → (given : s55 .gives (m32 (before .before) (before .pending2 .given))) → Typed.Mo T57
+
+      abbrev pub m33 : (before : After-pending2) → (given : s55 .gives (m32 (before .before) (before .pending2 .given)))
+          → Typed.Mo T57
       m33 = λ before given. s55 .next (m32 (before .before) (before .pending2 .given)) given
+
       module _ (before· : After-pending2) where
         pub record After-circuits2·own : Type 0 where
           pub given : s55 .gives (m32 (before· .before) (before· .pending2 .given))
+
       pub record After-circuits2 : Type 0 where
         pub before : After-pending2
         pub circuits2 : After-circuits2·own before
-      abbrev pub m34 : (before : After-circuits2) → (given : s58 .gives (m33 (before .before) (before .circuits2 .given))) → Typed.Mo T60
+
+      abbrev pub m34 : (before : After-circuits2) → (given : s58 .gives
+          (m33 (before .before) (before .circuits2 .given))) → Typed.Mo T60
       m34 = λ before given. s58 .next (m33 (before .before) (before .circuits2 .given)) given
+
       module _ (before· : After-circuits2) where
         pub record After-ledger2·own : Type 0 where
           pub given : s58 .gives (m33 (before· .before) (before· .circuits2 .given))
+
       pub record After-ledger2 : Type 0 where
         pub before : After-circuits2
         pub ledger2 : After-ledger2·own before
-      abbrev pub m35 : (before : After-ledger2) → (given : s61 .gives (m34 (before .before) (before .ledger2 .given))) → Typed.Mo T63
+
+      abbrev pub m35 : (before : After-ledger2) → (given : s61 .gives (m34 (before .before) (before .ledger2 .given)))
+          → Typed.Mo T63
       m35 = λ before given. s61 .next (m34 (before .before) (before .ledger2 .given)) given
+
       module _ (before· : After-ledger2) where
         pub record After-inflight2·own : Type 0 where
           pub given : s61 .gives (m34 (before· .before) (before· .ledger2 .given))
+
       pub record After-inflight2 : Type 0 where
         pub before : After-ledger2
         pub inflight2 : After-inflight2·own before
-      abbrev pub m36 : (before : After-inflight2) → (given : s64 .gives (m35 (before .before) (before .inflight2 .given))) → Typed.Mo T66
+
+      abbrev pub m36 : (before : After-inflight2) → (given : s64 .gives
+          (m35 (before .before) (before .inflight2 .given))) → Typed.Mo T66
       m36 = λ before given. s64 .next (m35 (before .before) (before .inflight2 .given)) given
+
       module _ (before· : After-inflight2) where
         pub record After-out2·own : Type 0 where
           pub given : s64 .gives (m35 (before· .before) (before· .inflight2 .given))
+
       pub record After-out2 : Type 0 where
         pub before : After-inflight2
         pub out2 : After-out2·own before
-      abbrev pub m37 : (before : After-out2) → (given : s65 .gives (m36 (before .before) (before .out2 .given))) → Typed.Mo T67
+
+      abbrev pub m37 : (before : After-out2) → (given : s65 .gives (m36 (before .before) (before .out2 .given))) →
+          Typed.Mo T67
       m37 = λ before given. s65 .next (m36 (before .before) (before .out2 .given)) given
-      abbrev pub m38 : (before : After-out2) → (given : s65 .gives (m36 (before .before) (before .out2 .given))) → Typed.Mo T69
+
+      abbrev pub m38 : (before : After-out2) → (given : s65 .gives (m36 (before .before) (before .out2 .given))) →
+          Typed.Mo T69
       m38 = λ before given. s67 (m37 before given)
+
       module _ (before· : After-out2) where
         pub record After-slice-known3·own : Type 0 where
           pub given : s65 .gives (m36 (before· .before) (before· .out2 .given))
+
       pub record After-slice-known3 : Type 0 where
         pub before : After-out2
         pub slice-known3 : After-slice-known3·own before
+
       abbrev pub Need-same-length : Type 0
-      Need-same-length = (c : After-slice-known3) → MutSlice.SameLen (Row.get 1 (T69 .locals) (m38 (c .before) (c .slice-known3 .given))) (dens (c
-          .before .before .before .before .before .before .before .before .before .before .before .before .before .before .before .before .before
-          .before .before .before .before .before .before .before .before .κs) (c .before .before .before .before .before .before .before .before
-          .before .before .before .before .before .before .before .before .before .before .before .before .before .before .before .before .before
-          .args) .0)
+      Need-same-length = (c : After-slice-known3) → MutSlice.SameLen (Row.get 1 (T69 .locals)
+          (m38 (c .before) (c .slice-known3 .given))) (dens (c .before .before .before .before .before .before .before
+          .before .before .before .before .before .before .before .before .before .before .before .before .before
+          .before .before .before .before .before .κs) (c .before .before .before .before .before .before .before
+          .before .before .before .before .before .before .before .before .before .before .before .before .before
+          .before .before .before .before .before .args) .0)
+
       abbrev pub Need-same-length-2 : Type 0
-      Need-same-length-2 = (c : After-slice-known3) → MutSlice.SameLen (Row.get 2 (T69 .locals) (m38 (c .before) (c .slice-known3 .given))) (dens (c
-          .before .before .before .before .before .before .before .before .before .before .before .before .before .before .before .before .before
-          .before .before .before .before .before .before .before .before .κs) (c .before .before .before .before .before .before .before .before
-          .before .before .before .before .before .before .before .before .before .before .before .before .before .before .before .before .before
-          .args) .1 .0)
+      Need-same-length-2 = (c : After-slice-known3) → MutSlice.SameLen (Row.get 2 (T69 .locals)
+          (m38 (c .before) (c .slice-known3 .given))) (dens (c .before .before .before .before .before .before .before
+          .before .before .before .before .before .before .before .before .before .before .before .before .before
+          .before .before .before .before .before .κs) (c .before .before .before .before .before .before .before
+          .before .before .before .before .before .before .before .before .before .before .before .before .before
+          .before .before .before .before .before .args) .1 .0)
+
       abbrev pub Need-same-length-3 : Type 0
-      Need-same-length-3 = (c : After-slice-known3) → MutSlice.SameLen (Row.get 3 (T69 .locals) (m38 (c .before) (c .slice-known3 .given))) (dens (c
-          .before .before .before .before .before .before .before .before .before .before .before .before .before .before .before .before .before
-          .before .before .before .before .before .before .before .before .κs) (c .before .before .before .before .before .before .before .before
-          .before .before .before .before .before .before .before .before .before .before .before .before .before .before .before .before .before
-          .args) .1 .1 .0)
+      Need-same-length-3 = (c : After-slice-known3) → MutSlice.SameLen (Row.get 3 (T69 .locals)
+          (m38 (c .before) (c .slice-known3 .given))) (dens (c .before .before .before .before .before .before .before
+          .before .before .before .before .before .before .before .before .before .before .before .before .before
+          .before .before .before .before .before .κs) (c .before .before .before .before .before .before .before
+          .before .before .before .before .before .before .before .before .before .before .before .before .before
+          .before .before .before .before .before .args) .1 .1 .0)
+
       abbrev pub Need-same-length-4 : Type 0
-      Need-same-length-4 = (c : After-slice-known3) → MutSlice.SameLen (Row.get 4 (T69 .locals) (m38 (c .before) (c .slice-known3 .given))) (dens (c
-          .before .before .before .before .before .before .before .before .before .before .before .before .before .before .before .before .before
-          .before .before .before .before .before .before .before .before .κs) (c .before .before .before .before .before .before .before .before
-          .before .before .before .before .before .before .before .before .before .before .before .before .before .before .before .before .before
-          .args) .1 .1 .1 .0)
+      Need-same-length-4 = (c : After-slice-known3) → MutSlice.SameLen (Row.get 4 (T69 .locals)
+          (m38 (c .before) (c .slice-known3 .given))) (dens (c .before .before .before .before .before .before .before
+          .before .before .before .before .before .before .before .before .before .before .before .before .before
+          .before .before .before .before .before .κs) (c .before .before .before .before .before .before .before
+          .before .before .before .before .before .before .before .before .before .before .before .before .before
+          .before .before .before .before .before .args) .1 .1 .1 .0)
+
       abbrev pub Need-same-length-5 : Type 0
-      Need-same-length-5 = (c : After-slice-known3) → MutSlice.SameLen (Row.get 5 (T69 .locals) (m38 (c .before) (c .slice-known3 .given))) (dens (c
-          .before .before .before .before .before .before .before .before .before .before .before .before .before .before .before .before .before
-          .before .before .before .before .before .before .before .before .κs) (c .before .before .before .before .before .before .before .before
-          .before .before .before .before .before .before .before .before .before .before .before .before .before .before .before .before .before
-          .args) .1 .1 .1 .1 .0)
+      Need-same-length-5 = (c : After-slice-known3) → MutSlice.SameLen (Row.get 5 (T69 .locals)
+          (m38 (c .before) (c .slice-known3 .given))) (dens (c .before .before .before .before .before .before .before
+          .before .before .before .before .before .before .before .before .before .before .before .before .before
+          .before .before .before .before .before .κs) (c .before .before .before .before .before .before .before
+          .before .before .before .before .before .before .before .before .before .before .before .before .before
+          .before .before .before .before .before .args) .1 .1 .1 .1 .0)
+
       abbrev pub Need-returns : Type 0
-      Need-returns = (c : After-slice-known3) → Post· (c .before .before .before .before .before .before .before .before .before .before .before
-          .before .before .before .before .before .before .before .before .before .before .before .before .before .before .κs) (dens (c .before
-          .before .before .before .before .before .before .before .before .before .before .before .before .before .before .before .before .before
-          .before .before .before .before .before .before .before .κs) (c .before .before .before .before .before .before .before .before .before
-          .before .before .before .before .before .before .before .before .before .before .before .before .before .before .before .before .args))
-          (Function.resV r (c .before .before .before .before .before .before .before .before .before .before .before .before .before .before .before
-          .before .before .before .before .before .before .before .before .before .before .κs) (m38 (c .before) (c .slice-known3 .given) .0))
-          (Clauses.atExit (Kinds.endedOf 5 ps r) (c .before .before .before .before .before .before .before .before .before .before .before .before
-          .before .before .before .before .before .before .before .before .before .before .before .before .before .κs) (dens (c .before .before
-          .before .before .before .before .before .before .before .before .before .before .before .before .before .before .before .before .before
-          .before .before .before .before .before .before .κs) (c .before .before .before .before .before .before .before .before .before .before
-          .before .before .before .before .before .before .before .before .before .before .before .before .before .before .before .args))
-          (Enter.lastsP (c .before .before .before .before .before .before .before .before .before .before .before .before .before .before .before
-          .before .before .before .before .before .before .before .before .before .before .κs) 1 ps xs (dens (c .before .before .before .before
-          .before .before .before .before .before .before .before .before .before .before .before .before .before .before .before .before .before
-          .before .before .before .before .κs) (c .before .before .before .before .before .before .before .before .before .before .before .before
-          .before .before .before .before .before .before .before .before .before .before .before .before .before .args)) (m38 (c .before) (c
-          .slice-known3 .given) .1)))
-      module _ (open-circuit-requires : Need-open-circuit-requires) (accept-circuit-requires : Need-accept-circuit-requires) (same-length :
-          Need-same-length) (same-length-2 : Need-same-length-2) (same-length-3 : Need-same-length-3) (same-length-4 : Need-same-length-4)
-          (same-length-5 : Need-same-length-5) (returns : Need-returns) where
-        lay3 : (c : After-accept-circuit) → at18 (W0 (c .before .before .before .before .before .before .before .before .before .before .before
-            .before .before .before .before .before .before .before .before .κs) (c .before .before .before .before .before .before .before .before
-            .before .before .before .before .before .before .before .before .before .before .before .args)) (m30 (c .before)
-            (After-accept-circuit·gave c))
-        lay3 = λ c. (Path.refl, λ g. (Path.refl, λ g'. (Path.refl, λ g''. (Path.refl, λ g'3. (Path.refl, λ g'4. λ g'5. ((MutSlice.fix-len (Row.get 1
-            (T69 .locals) (m38 record { before = record { before = record { before = record { before = record { before = record { before = c .before;
-            accept-circuit = c .accept-circuit; }; pending2 = record { given = g }; }; circuits2 = record { given = g' }; }; ledger2 = record { given
-            = g'' }; }; inflight2 = record { given = g'3 }; }; out2 = record { given = g'4 }; } g'5) .ptr) (Row.get 1 (T69 .locals) (m38 record {
-            before = record { before = record { before = record { before = record { before = record { before = c .before; accept-circuit = c
-            .accept-circuit; }; pending2 = record { given = g }; }; circuits2 = record { given = g' }; }; ledger2 = record { given = g'' }; };
-            inflight2 = record { given = g'3 }; }; out2 = record { given = g'4 }; } g'5) .name) (Row.get 1 (T69 .locals) (m38 record { before = record
-            { before = record { before = record { before = record { before = record { before = c .before; accept-circuit = c .accept-circuit; };
-            pending2 = record { given = g }; }; circuits2 = record { given = g' }; }; ledger2 = record { given = g'' }; }; inflight2 = record { given
-            = g'3 }; }; out2 = record { given = g'4 }; } g'5) .now) (dens (c .before .before .before .before .before .before .before .before .before
-            .before .before .before .before .before .before .before .before .before .before .κs) (c .before .before .before .before .before .before
-            .before .before .before .before .before .before .before .before .before .before .before .before .before .args) .0 .now) (same-length
-            record { before = record { before = record { before = record { before = record { before = record { before = record { before = c .before;
-            accept-circuit = c .accept-circuit; }; pending2 = record { given = g }; }; circuits2 = record { given = g' }; }; ledger2 = record { given
-            = g'' }; }; inflight2 = record { given = g'3 }; }; out2 = record { given = g'4 }; }; slice-known3 = record { given = g'5 }; }),
-            (MutSlice.fix-len (Row.get 2 (T69 .locals) (m38 record { before = record { before = record { before = record { before = record { before =
-            record { before = c .before; accept-circuit = c .accept-circuit; }; pending2 = record { given = g }; }; circuits2 = record { given = g' };
-            }; ledger2 = record { given = g'' }; }; inflight2 = record { given = g'3 }; }; out2 = record { given = g'4 }; } g'5) .ptr) (Row.get 2 (T69
-            .locals) (m38 record { before = record { before = record { before = record { before = record { before = record { before = c .before;
-            accept-circuit = c .accept-circuit; }; pending2 = record { given = g }; }; circuits2 = record { given = g' }; }; ledger2 = record { given
-            = g'' }; }; inflight2 = record { given = g'3 }; }; out2 = record { given = g'4 }; } g'5) .name) (Row.get 2 (T69 .locals) (m38 record {
-            before = record { before = record { before = record { before = record { before = record { before = c .before; accept-circuit = c
-            .accept-circuit; }; pending2 = record { given = g }; }; circuits2 = record { given = g' }; }; ledger2 = record { given = g'' }; };
-            inflight2 = record { given = g'3 }; }; out2 = record { given = g'4 }; } g'5) .now) (dens (c .before .before .before .before .before
-            .before .before .before .before .before .before .before .before .before .before .before .before .before .before .κs) (c .before .before
-            .before .before .before .before .before .before .before .before .before .before .before .before .before .before .before .before .before
-            .args) .1 .0 .now) (same-length-2 record { before = record { before = record { before = record { before = record { before = record {
-            before = record { before = c .before; accept-circuit = c .accept-circuit; }; pending2 = record { given = g }; }; circuits2 = record {
-            given = g' }; }; ledger2 = record { given = g'' }; }; inflight2 = record { given = g'3 }; }; out2 = record { given = g'4 }; };
-            slice-known3 = record { given = g'5 }; }), (MutSlice.fix-len (Row.get 3 (T69 .locals) (m38 record { before = record { before = record {
-            before = record { before = record { before = record { before = c .before; accept-circuit = c .accept-circuit; }; pending2 = record { given
-            = g }; }; circuits2 = record { given = g' }; }; ledger2 = record { given = g'' }; }; inflight2 = record { given = g'3 }; }; out2 = record
-            { given = g'4 }; } g'5) .ptr) (Row.get 3 (T69 .locals) (m38 record { before = record { before = record { before = record { before = record
-            { before = record { before = c .before; accept-circuit = c .accept-circuit; }; pending2 = record { given = g }; }; circuits2 = record {
-            given = g' }; }; ledger2 = record { given = g'' }; }; inflight2 = record { given = g'3 }; }; out2 = record { given = g'4 }; } g'5) .name)
-            (Row.get 3 (T69 .locals) (m38 record { before = record { before = record { before = record { before = record { before = record { before =
-            c .before; accept-circuit = c .accept-circuit; }; pending2 = record { given = g }; }; circuits2 = record { given = g' }; }; ledger2 =
-            record { given = g'' }; }; inflight2 = record { given = g'3 }; }; out2 = record { given = g'4 }; } g'5) .now) (dens (c .before .before
-            .before .before .before .before .before .before .before .before .before .before .before .before .before .before .before .before .before
-            .κs) (c .before .before .before .before .before .before .before .before .before .before .before .before .before .before .before .before
-            .before .before .before .args) .1 .1 .0 .now) (same-length-3 record { before = record { before = record { before = record { before =
-            record { before = record { before = record { before = c .before; accept-circuit = c .accept-circuit; }; pending2 = record { given = g };
-            }; circuits2 = record { given = g' }; }; ledger2 = record { given = g'' }; }; inflight2 = record { given = g'3 }; }; out2 = record { given
-            = g'4 }; }; slice-known3 = record { given = g'5 }; }), (MutSlice.fix-len (Row.get 4 (T69 .locals) (m38 record { before = record { before =
-            record { before = record { before = record { before = record { before = c .before; accept-circuit = c .accept-circuit; }; pending2 =
-            record { given = g }; }; circuits2 = record { given = g' }; }; ledger2 = record { given = g'' }; }; inflight2 = record { given = g'3 }; };
-            out2 = record { given = g'4 }; } g'5) .ptr) (Row.get 4 (T69 .locals) (m38 record { before = record { before = record { before = record {
-            before = record { before = record { before = c .before; accept-circuit = c .accept-circuit; }; pending2 = record { given = g }; };
-            circuits2 = record { given = g' }; }; ledger2 = record { given = g'' }; }; inflight2 = record { given = g'3 }; }; out2 = record { given =
-            g'4 }; } g'5) .name) (Row.get 4 (T69 .locals) (m38 record { before = record { before = record { before = record { before = record { before
-            = record { before = c .before; accept-circuit = c .accept-circuit; }; pending2 = record { given = g }; }; circuits2 = record { given = g'
-            }; }; ledger2 = record { given = g'' }; }; inflight2 = record { given = g'3 }; }; out2 = record { given = g'4 }; } g'5) .now) (dens (c
-            .before .before .before .before .before .before .before .before .before .before .before .before .before .before .before .before .before
-            .before .before .κs) (c .before .before .before .before .before .before .before .before .before .before .before .before .before .before
-            .before .before .before .before .before .args) .1 .1 .1 .0 .now) (same-length-4 record { before = record { before = record { before =
-            record { before = record { before = record { before = record { before = c .before; accept-circuit = c .accept-circuit; }; pending2 =
-            record { given = g }; }; circuits2 = record { given = g' }; }; ledger2 = record { given = g'' }; }; inflight2 = record { given = g'3 }; };
-            out2 = record { given = g'4 }; }; slice-known3 = record { given = g'5 }; }), (MutSlice.fix-len (Row.get 5 (T69 .locals) (m38 record {
-            before = record { before = record { before = record { before = record { before = record { before = c .before; accept-circuit = c
-            .accept-circuit; }; pending2 = record { given = g }; }; circuits2 = record { given = g' }; }; ledger2 = record { given = g'' }; };
-            inflight2 = record { given = g'3 }; }; out2 = record { given = g'4 }; } g'5) .ptr) (Row.get 5 (T69 .locals) (m38 record { before = record
-            { before = record { before = record { before = record { before = record { before = c .before; accept-circuit = c .accept-circuit; };
-            pending2 = record { given = g }; }; circuits2 = record { given = g' }; }; ledger2 = record { given = g'' }; }; inflight2 = record { given
-            = g'3 }; }; out2 = record { given = g'4 }; } g'5) .name) (Row.get 5 (T69 .locals) (m38 record { before = record { before = record { before
-            = record { before = record { before = record { before = c .before; accept-circuit = c .accept-circuit; }; pending2 = record { given = g };
-            }; circuits2 = record { given = g' }; }; ledger2 = record { given = g'' }; }; inflight2 = record { given = g'3 }; }; out2 = record { given
-            = g'4 }; } g'5) .now) (dens (c .before .before .before .before .before .before .before .before .before .before .before .before .before
-            .before .before .before .before .before .before .κs) (c .before .before .before .before .before .before .before .before .before .before
-            .before .before .before .before .before .before .before .before .before .args) .1 .1 .1 .1 .0 .now) (same-length-5 record { before =
-            record { before = record { before = record { before = record { before = record { before = record { before = c .before; accept-circuit = c
-            .accept-circuit; }; pending2 = record { given = g }; }; circuits2 = record { given = g' }; }; ledger2 = record { given = g'' }; };
-            inflight2 = record { given = g'3 }; }; out2 = record { given = g'4 }; }; slice-known3 = record { given = g'5 }; }), (tt, (tt,
-            tt)),),),),),), returns record { before = record { before = record { before = record { before = record { before = record { before = record
-            { before = c .before; accept-circuit = c .accept-circuit; }; pending2 = record { given = g }; }; circuits2 = record { given = g' }; };
-            ledger2 = record { given = g'' }; }; inflight2 = record { given = g'3 }; }; out2 = record { given = g'4 }; }; slice-known3 = record {
-            given = g'5 }; },),),),),),)
-        lay2 : (c : After-accept-circuit-arg5) → at19 (W0 (c .before .before .before .before .before .before .before .before .before .before .before
-            .before .before .before .before .before .before .before .κs) (c .before .before .before .before .before .before .before .before .before
-            .before .before .before .before .before .before .before .before .before .args)) (m29 (c .before) (c .accept-circuit-arg5 .given))
-        lay2 = λ c. (accept-circuit-requires record { before = c .before; accept-circuit-arg5 = c .accept-circuit-arg5; }, λ g. lay3 record { before =
-            record { before = c .before; accept-circuit-arg5 = c .accept-circuit-arg5 }; accept-circuit = Called.called ps·1 r·1 (claims· .3) T50
-            (record { pos = 20; ty = Syntax.tyRef Syntax.erased Syntax.mut RelayPending.to; ref = λ x. x; }, (record { pos = 22; ty = Syntax.tyRef
-            Syntax.erased Syntax.mut RelayCircuit.to; ref = λ x. x; }, (record { pos = 24; ty = Syntax.tyRef Syntax.erased Syntax.mut
-            ReservationUsage.to; ref = λ x. x; }, (record { pos = 26; ty = Syntax.tyRef Syntax.erased Syntax.mut InflightAction.to; ref = λ x. x; },
-            (record { pos = 28; ty = Syntax.tyRef Syntax.erased Syntax.mut (Syntax.tyInt Syntax.w32); ref = λ x. x; }, (record { pos = 8; st =
-            List.[]; d = 0; at = λ x. x }, (Num.vAt 7 λ x. x, tt),),),),),),) (m29 (c .before) (c .accept-circuit-arg5 .given)) g; },)
-        lay1 : (c : After-open-circuit) → at51 (W0 (c .before .before .before .before .before .before .before .κs) (c .before .before .before .before
-            .before .before .before .args)) (m12 (c .before) (After-open-circuit·gave c))
-        lay1 = λ c. (Path.refl, λ g. (Path.refl, λ g'. (Path.refl, λ g''. (Path.refl, λ g'3. (Path.refl, λ g'4. λ g'5. λ g'6. (Path.refl, λ g'7.
-            (Path.refl, λ g'8. (Path.refl, λ g'9. (Path.refl, λ g'10. (Path.refl, lay2 record { before = record { before = record { before = record {
-            before = record { before = record { before = record { before = record { before = record { before = record { before = record { before =
-            record { before = c .before; open-circuit = c .open-circuit; }; pending = record { given = g }; }; circuits = record { given = g' }; };
-            ledger = record { given = g'' }; }; inflight = record { given = g'3 }; }; out = record { given = g'4 }; }; slice-known2 = record { given =
-            g'5 }; }; accept-circuit-arg = record { given = g'6 }; }; accept-circuit-arg2 = record { given = g'7 }; }; accept-circuit-arg3 = record {
-            given = g'8 }; }; accept-circuit-arg4 = record { given = g'9 }; }; accept-circuit-arg5 = record { given = g'10 }; },),),),),),),),),),)
+      Need-returns = (c : After-slice-known3) → Post· (c .before .before .before .before .before .before .before
+          .before .before .before .before .before .before .before .before .before .before .before .before .before
+          .before .before .before .before .before .κs) (dens (c .before .before .before .before .before .before .before
+          .before .before .before .before .before .before .before .before .before .before .before .before .before
+          .before .before .before .before .before .κs) (c .before .before .before .before .before .before .before
+          .before .before .before .before .before .before .before .before .before .before .before .before .before
+          .before .before .before .before .before .args)) (Function.resV r (c .before .before .before .before .before
+          .before .before .before .before .before .before .before .before .before .before .before .before .before
+          .before .before .before .before .before .before .before .κs) (m38 (c .before) (c .slice-known3 .given) .0)) (Clauses.atExit
+          (Kinds.endedOf 5 ps r) (c .before .before .before .before .before .before .before .before .before .before
+          .before .before .before .before .before .before .before .before .before .before .before .before .before
+          .before .before .κs) (dens (c .before .before .before .before .before .before .before .before .before .before
+          .before .before .before .before .before .before .before .before .before .before .before .before .before
+          .before .before .κs) (c .before .before .before .before .before .before .before .before .before .before
+          .before .before .before .before .before .before .before .before .before .before .before .before .before
+          .before .before .args)) (Enter.lastsP (c .before .before .before .before .before .before .before .before
+          .before .before .before .before .before .before .before .before .before .before .before .before .before
+          .before .before .before .before .κs) 1 ps xs (dens (c .before .before .before .before .before .before .before
+          .before .before .before .before .before .before .before .before .before .before .before .before .before
+          .before .before .before .before .before .κs) (c .before .before .before .before .before .before .before
+          .before .before .before .before .before .before .before .before .before .before .before .before .before
+          .before .before .before .before .before .args)) (m38 (c .before) (c .slice-known3 .given) .1)))
+
+      module _ (open-circuit-requires : Need-open-circuit-requires)
+          (accept-circuit-requires : Need-accept-circuit-requires) (same-length : Need-same-length)
+          (same-length-2 : Need-same-length-2) (same-length-3 : Need-same-length-3)
+          (same-length-4 : Need-same-length-4) (same-length-5 : Need-same-length-5) (returns : Need-returns) where
+        lay3 : (c : After-accept-circuit) → at18 (W0 (c .before .before .before .before .before .before .before .before
+            .before .before .before .before .before .before .before .before .before .before .before .κs) (c .before
+            .before .before .before .before .before .before .before .before .before .before .before .before .before
+            .before .before .before .before .before .args)) (m30 (c .before) (After-accept-circuit·gave c))
+        lay3 = λ c. (
+          Path.refl,
+          λ g. (
+            Path.refl,
+            λ g'. (
+              Path.refl,
+              λ g''. (
+                Path.refl,
+                λ g'3. (
+                  Path.refl,
+                  λ g'4. λ g'5. (
+                    (
+                      MutSlice.fix-len (Row.get 1 (T69 .locals) (m38
+                          record {
+                            before = record {
+                              before = record {
+                                before = record {
+                                  before = record {
+                                    before = record { before = c .before; accept-circuit = c .accept-circuit };
+                                    pending2 = record { given = g };
+                                  };
+                                  circuits2 = record { given = g' };
+                                };
+                                ledger2 = record { given = g'' };
+                              };
+                              inflight2 = record { given = g'3 };
+                            };
+                            out2 = record { given = g'4 };
+                          } g'5) .ptr) (Row.get 1 (T69 .locals) (m38
+                          record {
+                            before = record {
+                              before = record {
+                                before = record {
+                                  before = record {
+                                    before = record { before = c .before; accept-circuit = c .accept-circuit };
+                                    pending2 = record { given = g };
+                                  };
+                                  circuits2 = record { given = g' };
+                                };
+                                ledger2 = record { given = g'' };
+                              };
+                              inflight2 = record { given = g'3 };
+                            };
+                            out2 = record { given = g'4 };
+                          } g'5) .name) (Row.get 1 (T69 .locals) (m38
+                          record {
+                            before = record {
+                              before = record {
+                                before = record {
+                                  before = record {
+                                    before = record { before = c .before; accept-circuit = c .accept-circuit };
+                                    pending2 = record { given = g };
+                                  };
+                                  circuits2 = record { given = g' };
+                                };
+                                ledger2 = record { given = g'' };
+                              };
+                              inflight2 = record { given = g'3 };
+                            };
+                            out2 = record { given = g'4 };
+                          } g'5) .now) (dens (c .before .before .before .before .before .before .before .before .before
+                          .before .before .before .before .before .before .before .before .before .before .κs) (c
+                          .before .before .before .before .before .before .before .before .before .before .before
+                          .before .before .before .before .before .before .before .before .args) .0 .now) (same-length
+                          record {
+                            before = record {
+                              before = record {
+                                before = record {
+                                  before = record {
+                                    before = record {
+                                      before = record { before = c .before; accept-circuit = c .accept-circuit };
+                                      pending2 = record { given = g };
+                                    };
+                                    circuits2 = record { given = g' };
+                                  };
+                                  ledger2 = record { given = g'' };
+                                };
+                                inflight2 = record { given = g'3 };
+                              };
+                              out2 = record { given = g'4 };
+                            };
+                            slice-known3 = record { given = g'5 };
+                          }),
+                      (
+                        MutSlice.fix-len (Row.get 2 (T69 .locals) (m38
+                            record {
+                              before = record {
+                                before = record {
+                                  before = record {
+                                    before = record {
+                                      before = record { before = c .before; accept-circuit = c .accept-circuit };
+                                      pending2 = record { given = g };
+                                    };
+                                    circuits2 = record { given = g' };
+                                  };
+                                  ledger2 = record { given = g'' };
+                                };
+                                inflight2 = record { given = g'3 };
+                              };
+                              out2 = record { given = g'4 };
+                            } g'5) .ptr) (Row.get 2 (T69 .locals) (m38
+                            record {
+                              before = record {
+                                before = record {
+                                  before = record {
+                                    before = record {
+                                      before = record { before = c .before; accept-circuit = c .accept-circuit };
+                                      pending2 = record { given = g };
+                                    };
+                                    circuits2 = record { given = g' };
+                                  };
+                                  ledger2 = record { given = g'' };
+                                };
+                                inflight2 = record { given = g'3 };
+                              };
+                              out2 = record { given = g'4 };
+                            } g'5) .name) (Row.get 2 (T69 .locals) (m38
+                            record {
+                              before = record {
+                                before = record {
+                                  before = record {
+                                    before = record {
+                                      before = record { before = c .before; accept-circuit = c .accept-circuit };
+                                      pending2 = record { given = g };
+                                    };
+                                    circuits2 = record { given = g' };
+                                  };
+                                  ledger2 = record { given = g'' };
+                                };
+                                inflight2 = record { given = g'3 };
+                              };
+                              out2 = record { given = g'4 };
+                            } g'5) .now) (dens (c .before .before .before .before .before .before .before .before
+                            .before .before .before .before .before .before .before .before .before .before .before .κs) (c
+                            .before .before .before .before .before .before .before .before .before .before .before
+                            .before .before .before .before .before .before .before .before .args) .1 .0 .now) (same-length-2
+                            record {
+                              before = record {
+                                before = record {
+                                  before = record {
+                                    before = record {
+                                      before = record {
+                                        before = record { before = c .before; accept-circuit = c .accept-circuit };
+                                        pending2 = record { given = g };
+                                      };
+                                      circuits2 = record { given = g' };
+                                    };
+                                    ledger2 = record { given = g'' };
+                                  };
+                                  inflight2 = record { given = g'3 };
+                                };
+                                out2 = record { given = g'4 };
+                              };
+                              slice-known3 = record { given = g'5 };
+                            }),
+                        (
+                          MutSlice.fix-len (Row.get 3 (T69 .locals) (m38
+                              record {
+                                before = record {
+                                  before = record {
+                                    before = record {
+                                      before = record {
+                                        before = record { before = c .before; accept-circuit = c .accept-circuit };
+                                        pending2 = record { given = g };
+                                      };
+                                      circuits2 = record { given = g' };
+                                    };
+                                    ledger2 = record { given = g'' };
+                                  };
+                                  inflight2 = record { given = g'3 };
+                                };
+                                out2 = record { given = g'4 };
+                              } g'5) .ptr) (Row.get 3 (T69 .locals) (m38
+                              record {
+                                before = record {
+                                  before = record {
+                                    before = record {
+                                      before = record {
+                                        before = record { before = c .before; accept-circuit = c .accept-circuit };
+                                        pending2 = record { given = g };
+                                      };
+                                      circuits2 = record { given = g' };
+                                    };
+                                    ledger2 = record { given = g'' };
+                                  };
+                                  inflight2 = record { given = g'3 };
+                                };
+                                out2 = record { given = g'4 };
+                              } g'5) .name) (Row.get 3 (T69 .locals) (m38
+                              record {
+                                before = record {
+                                  before = record {
+                                    before = record {
+                                      before = record {
+                                        before = record { before = c .before; accept-circuit = c .accept-circuit };
+                                        pending2 = record { given = g };
+                                      };
+                                      circuits2 = record { given = g' };
+                                    };
+                                    ledger2 = record { given = g'' };
+                                  };
+                                  inflight2 = record { given = g'3 };
+                                };
+                                out2 = record { given = g'4 };
+                              } g'5) .now) (dens (c .before .before .before .before .before .before .before .before
+                              .before .before .before .before .before .before .before .before .before .before .before
+                              .κs) (c .before .before .before .before .before .before .before .before .before .before
+                              .before .before .before .before .before .before .before .before .before .args) .1 .1 .0
+                              .now) (same-length-3 record {
+                                before = record {
+                                  before = record {
+                                    before = record {
+                                      before = record {
+                                        before = record {
+                                          before = record { before = c .before; accept-circuit = c .accept-circuit };
+                                          pending2 = record { given = g };
+                                        };
+                                        circuits2 = record { given = g' };
+                                      };
+                                      ledger2 = record { given = g'' };
+                                    };
+                                    inflight2 = record { given = g'3 };
+                                  };
+                                  out2 = record { given = g'4 };
+                                };
+                                slice-known3 = record { given = g'5 };
+                              }),
+                          (
+                            MutSlice.fix-len (Row.get 4 (T69 .locals) (m38
+                                record {
+                                  before = record {
+                                    before = record {
+                                      before = record {
+                                        before = record {
+                                          before = record { before = c .before; accept-circuit = c .accept-circuit };
+                                          pending2 = record { given = g };
+                                        };
+                                        circuits2 = record { given = g' };
+                                      };
+                                      ledger2 = record { given = g'' };
+                                    };
+                                    inflight2 = record { given = g'3 };
+                                  };
+                                  out2 = record { given = g'4 };
+                                } g'5) .ptr) (Row.get 4 (T69 .locals) (m38
+                                record {
+                                  before = record {
+                                    before = record {
+                                      before = record {
+                                        before = record {
+                                          before = record { before = c .before; accept-circuit = c .accept-circuit };
+                                          pending2 = record { given = g };
+                                        };
+                                        circuits2 = record { given = g' };
+                                      };
+                                      ledger2 = record { given = g'' };
+                                    };
+                                    inflight2 = record { given = g'3 };
+                                  };
+                                  out2 = record { given = g'4 };
+                                } g'5) .name) (Row.get 4 (T69 .locals) (m38
+                                record {
+                                  before = record {
+                                    before = record {
+                                      before = record {
+                                        before = record {
+                                          before = record { before = c .before; accept-circuit = c .accept-circuit };
+                                          pending2 = record { given = g };
+                                        };
+                                        circuits2 = record { given = g' };
+                                      };
+                                      ledger2 = record { given = g'' };
+                                    };
+                                    inflight2 = record { given = g'3 };
+                                  };
+                                  out2 = record { given = g'4 };
+                                } g'5) .now) (dens (c .before .before .before .before .before .before .before .before
+                                .before .before .before .before .before .before .before .before .before .before .before
+                                .κs) (c .before .before .before .before .before .before .before .before .before .before
+                                .before .before .before .before .before .before .before .before .before .args) .1 .1 .1
+                                .0 .now) (same-length-4
+                                record {
+                                  before = record {
+                                    before = record {
+                                      before = record {
+                                        before = record {
+                                          before = record {
+                                            before = record { before = c .before; accept-circuit = c .accept-circuit };
+                                            pending2 = record { given = g };
+                                          };
+                                          circuits2 = record { given = g' };
+                                        };
+                                        ledger2 = record { given = g'' };
+                                      };
+                                      inflight2 = record { given = g'3 };
+                                    };
+                                    out2 = record { given = g'4 };
+                                  };
+                                  slice-known3 = record { given = g'5 };
+                                }),
+                            (
+                              MutSlice.fix-len (Row.get 5 (T69 .locals) (m38
+                                  record {
+                                    before = record {
+                                      before = record {
+                                        before = record {
+                                          before = record {
+                                            before = record { before = c .before; accept-circuit = c .accept-circuit };
+                                            pending2 = record { given = g };
+                                          };
+                                          circuits2 = record { given = g' };
+                                        };
+                                        ledger2 = record { given = g'' };
+                                      };
+                                      inflight2 = record { given = g'3 };
+                                    };
+                                    out2 = record { given = g'4 };
+                                  } g'5) .ptr) (Row.get 5 (T69 .locals) (m38
+                                  record {
+                                    before = record {
+                                      before = record {
+                                        before = record {
+                                          before = record {
+                                            before = record { before = c .before; accept-circuit = c .accept-circuit };
+                                            pending2 = record { given = g };
+                                          };
+                                          circuits2 = record { given = g' };
+                                        };
+                                        ledger2 = record { given = g'' };
+                                      };
+                                      inflight2 = record { given = g'3 };
+                                    };
+                                    out2 = record { given = g'4 };
+                                  } g'5) .name) (Row.get 5 (T69 .locals) (m38
+                                  record {
+                                    before = record {
+                                      before = record {
+                                        before = record {
+                                          before = record {
+                                            before = record { before = c .before; accept-circuit = c .accept-circuit };
+                                            pending2 = record { given = g };
+                                          };
+                                          circuits2 = record { given = g' };
+                                        };
+                                        ledger2 = record { given = g'' };
+                                      };
+                                      inflight2 = record { given = g'3 };
+                                    };
+                                    out2 = record { given = g'4 };
+                                  } g'5) .now) (dens (c .before .before .before .before .before .before .before .before
+                                  .before .before .before .before .before .before .before .before .before .before
+                                  .before .κs) (c .before .before .before .before .before .before .before .before
+                                  .before .before .before .before .before .before .before .before .before .before
+                                  .before .args) .1 .1 .1 .1 .0 .now) (same-length-5
+                                  record {
+                                    before = record {
+                                      before = record {
+                                        before = record {
+                                          before = record {
+                                            before = record {
+                                              before = record {
+                                                before = c .before;
+                                                accept-circuit = c .accept-circuit;
+                                              };
+                                              pending2 = record { given = g };
+                                            };
+                                            circuits2 = record { given = g' };
+                                          };
+                                          ledger2 = record { given = g'' };
+                                        };
+                                        inflight2 = record { given = g'3 };
+                                      };
+                                      out2 = record { given = g'4 };
+                                    };
+                                    slice-known3 = record { given = g'5 };
+                                  }),
+                              (tt, (tt, tt)),
+                            ),
+                          ),
+                        ),
+                      ),
+                    ),
+                    returns record {
+                      before = record {
+                        before = record {
+                          before = record {
+                            before = record {
+                              before = record {
+                                before = record { before = c .before; accept-circuit = c .accept-circuit };
+                                pending2 = record { given = g };
+                              };
+                              circuits2 = record { given = g' };
+                            };
+                            ledger2 = record { given = g'' };
+                          };
+                          inflight2 = record { given = g'3 };
+                        };
+                        out2 = record { given = g'4 };
+                      };
+                      slice-known3 = record { given = g'5 };
+                    },
+                  ),
+                ),
+              ),
+            ),
+          ),
+        )
+
+        lay2 : (c : After-accept-circuit-arg5) → at19 (W0 (c .before .before .before .before .before .before .before
+            .before .before .before .before .before .before .before .before .before .before .before .κs) (c .before
+            .before .before .before .before .before .before .before .before .before .before .before .before .before
+            .before .before .before .before .args)) (m29 (c .before) (c .accept-circuit-arg5 .given))
+        lay2 = λ c. (
+          accept-circuit-requires record { before = c .before; accept-circuit-arg5 = c .accept-circuit-arg5 },
+          λ g. lay3 record {
+            before = record { before = c .before; accept-circuit-arg5 = c .accept-circuit-arg5 };
+            accept-circuit = Called.called ps·1 r·1 (claims· .3) T50 args49
+                (m29 (c .before) (c .accept-circuit-arg5 .given)) g;
+          },
+        )
+
+        lay1 : (c : After-open-circuit) → at51 (W0 (c .before .before .before .before .before .before .before .κs) (c
+            .before .before .before .before .before .before .before .args))
+            (m12 (c .before) (After-open-circuit·gave c))
+        lay1 = λ c. (
+          Path.refl,
+          λ g. (
+            Path.refl,
+            λ g'. (
+              Path.refl,
+              λ g''. (
+                Path.refl,
+                λ g'3. (
+                  Path.refl,
+                  λ g'4. λ g'5. λ g'6. (
+                    Path.refl,
+                    λ g'7. (
+                      Path.refl,
+                      λ g'8. (
+                        Path.refl,
+                        λ g'9. (
+                          Path.refl,
+                          λ g'10. (
+                            Path.refl,
+                            lay2 record {
+                              before = record {
+                                before = record {
+                                  before = record {
+                                    before = record {
+                                      before = record {
+                                        before = record {
+                                          before = record {
+                                            before = record {
+                                              before =
+                                                  record {
+                                                    before =
+                                                        record {
+                                                          before =
+                                                              record {
+                                                                before = c .before;
+                                                                open-circuit = c .open-circuit;
+                                                              };
+                                                          pending = record { given = g };
+                                                        };
+                                                    circuits = record { given = g' };
+                                                  };
+                                              ledger = record { given = g'' };
+                                            };
+                                            inflight = record { given = g'3 };
+                                          };
+                                          out = record { given = g'4 };
+                                        };
+                                        slice-known2 = record { given = g'5 };
+                                      };
+                                      accept-circuit-arg = record { given = g'6 };
+                                    };
+                                    accept-circuit-arg2 = record { given = g'7 };
+                                  };
+                                  accept-circuit-arg3 = record { given = g'8 };
+                                };
+                                accept-circuit-arg4 = record { given = g'9 };
+                              };
+                              accept-circuit-arg5 = record { given = g'10 };
+                            },
+                          ),
+                        ),
+                      ),
+                    ),
+                  ),
+                ),
+              ),
+            ),
+          ),
+        )
+
         pub laid : (c : Start) → at68 (W0 (c .κs) (c .args)) (m0 (c .κs) (c .args))
-        laid = λ c. λ g. λ g'. (Path.refl, λ g''. (Path.refl, λ g'3. (Path.refl, λ g'4. (Path.refl, λ g'5. (Path.refl, (open-circuit-requires record {
-            before = record { before = record { before = record { before = record { before = record { before = c; slice-known = record { given = g }
-            }; open-circuit-arg = record { given = g' }; }; open-circuit-arg2 = record { given = g'' }; }; open-circuit-arg3 = record { given = g'3 };
-            }; open-circuit-arg4 = record { given = g'4 }; }; open-circuit-arg5 = record { given = g'5 }; }, λ g'6. lay1 record { before = record {
-            before = record { before = record { before = record { before = record { before = record { before = c; slice-known = record { given = g };
-            }; open-circuit-arg = record { given = g' }; }; open-circuit-arg2 = record { given = g'' }; }; open-circuit-arg3 = record { given = g'3 };
-            }; open-circuit-arg4 = record { given = g'4 }; }; open-circuit-arg5 = record { given = g'5 }; }; open-circuit = Called.called ps·0 r·0
-            (claims· .1) T17 (record { pos = 10; ty = Syntax.tyRef Syntax.erased Syntax.mut RelayPending.to; ref = λ x. x; }, (record { pos = 12; ty =
-            Syntax.tyRef Syntax.erased Syntax.mut RelayCircuit.to; ref = λ x. x; }, (record { pos = 14; ty = Syntax.tyRef Syntax.erased Syntax.mut
-            ReservationUsage.to; ref = λ x. x; }, (record { pos = 16; ty = Syntax.tyRef Syntax.erased Syntax.mut InflightAction.to; ref = λ x. x; },
-            (record { pos = 18; ty = Syntax.tyRef Syntax.erased Syntax.mut (Syntax.tyInt Syntax.w32); ref = λ x. x; }, (record { pos = 6; st =
-            List.[]; d = 0; at = λ x. x }, tt),),),),),) (m11 record { before = record { before = record { before = record { before = record { before
-            = c; slice-known = record { given = g } }; open-circuit-arg = record { given = g' }; }; open-circuit-arg2 = record { given = g'' }; };
-            open-circuit-arg3 = record { given = g'3 }; }; open-circuit-arg4 = record { given = g'4 }; } g'5) g'6; },),),),),),)
+        laid = λ c. λ g. λ g'. (
+          Path.refl,
+          λ g''. (
+            Path.refl,
+            λ g'3. (
+              Path.refl,
+              λ g'4. (
+                Path.refl,
+                λ g'5. (
+                  Path.refl,
+                  (
+                    open-circuit-requires record {
+                      before = record {
+                        before = record {
+                          before = record {
+                            before = record {
+                              before = record { before = c; slice-known = record { given = g } };
+                              open-circuit-arg = record { given = g' };
+                            };
+                            open-circuit-arg2 = record { given = g'' };
+                          };
+                          open-circuit-arg3 = record { given = g'3 };
+                        };
+                        open-circuit-arg4 = record { given = g'4 };
+                      };
+                      open-circuit-arg5 = record { given = g'5 };
+                    },
+                    λ g'6. lay1 record {
+                      before = record {
+                        before = record {
+                          before = record {
+                            before = record {
+                              before = record {
+                                before = record { before = c; slice-known = record { given = g } };
+                                open-circuit-arg = record { given = g' };
+                              };
+                              open-circuit-arg2 = record { given = g'' };
+                            };
+                            open-circuit-arg3 = record { given = g'3 };
+                          };
+                          open-circuit-arg4 = record { given = g'4 };
+                        };
+                        open-circuit-arg5 = record { given = g'5 };
+                      };
+                      open-circuit = Called.called ps·0 r·0 (claims· .1) T17 args16 (m11
+                          record {
+                            before = record {
+                              before = record {
+                                before = record {
+                                  before = record { before = c; slice-known = record { given = g } };
+                                  open-circuit-arg = record { given = g' };
+                                };
+                                open-circuit-arg2 = record { given = g'' };
+                              };
+                              open-circuit-arg3 = record { given = g'3 };
+                            };
+                            open-circuit-arg4 = record { given = g'4 };
+                          } g'5) g'6;
+                    },
+                  ),
+                ),
+              ),
+            ),
+          ),
+        )
+
         module _ (κs : Lifetimes.Lfts 5) (qs : Lifetimes.Shares 5) where
-          pub asked : (a : Kinds.Dens κs ps) → (good : Kinds.GoodsP κs ps a) → (pre : Pre· κs a) → (bs : List.List Nat.ℕ) → Φ (Any.wantQ 5 ps r xs m
-              κs qs a (Post· κs a)) (Function.init 5 ps r xs m κs qs a)
-          asked = λ a good pre bs. laid record { κs = κs; args = record { pending = a .0; circuits = a .1 .0; ledger = a .1 .1 .0; inflight = a .1 .1
-              .1 .0; out = a .1 .1 .1 .1 .0; kept = a .1 .1 .1 .1 .1 .0; accept-at = a .1 .1 .1 .1 .1 .1 .0; }; good = good; fits = record { accept-at
-              = record { fits = good .1 .1 .1 .1 .1 .1 .0 .1 } }; pre = pre; }
-        module _ { M : Type 1 } (𝓤 : URA.URA M) (H : Wp.Heap 𝓤) (A : Atoms.Atoms 𝓤) (W : Kit.Given 𝓤 H A) (𝓣 : Wp.Tables 𝓤 H) (known0 : Plain.Known 𝓤
-            H A W 𝓣 5 ps·0 r·0 (claims· .0) (claims· .1) "cases::machine::open_circuit") (known1 : Plain.Known 𝓤 H A W 𝓣 5 ps·1 r·1 (claims· .2)
-            (claims· .3) "cases::machine::accept_circuit") where
-          pub spec : Statement.Triple 𝓤 (Wp.WpFn 𝓤 H (𝓣 .C) (𝓣 .Λ) (Function.fnOf 5 ps r xs m hs body)) (Function.plainOf 𝓤 H A 5 ps r Pre· Post·)
-          spec = Plain.t-fn-plain 𝓤 H A W 𝓣 5 ps r xs m hs body (λ κs qs bs. Φ) (λ κs qs bs bd. typed κs qs 𝓤 H A W 𝓣 (known0, known1) bs bd) Pre·
-              Post· asked
+          pub asked : (a : Kinds.Dens κs ps) → (good : Kinds.GoodsP κs ps a) → (pre : Pre· κs a) →
+              (bs : List.List Nat.ℕ) → Φ (Any.wantQ 5 ps r xs m κs qs a (Post· κs a))
+              (Function.init 5 ps r xs m κs qs a)
+          asked = λ a good pre bs. laid record {
+            κs = κs;
+            args = record {
+              pending = a .0;
+              circuits = a .1 .0;
+              ledger = a .1 .1 .0;
+              inflight = a .1 .1 .1 .0;
+              out = a .1 .1 .1 .1 .0;
+              kept = a .1 .1 .1 .1 .1 .0;
+              accept-at = a .1 .1 .1 .1 .1 .1 .0;
+            };
+            good = good;
+            fits = record { accept-at = record { fits = good .1 .1 .1 .1 .1 .1 .0 .1 } };
+            pre = pre;
+          }
+
+        module _ {M : Type 1} (𝓤 : URA.URA M) (H : Wp.Heap 𝓤) (A : Atoms.Atoms 𝓤) (W : Kit.Given 𝓤 H A)
+            (𝓣 : Wp.Tables 𝓤 H) (known0 : Plain.Known 𝓤 H A W 𝓣 5 ps·0 r·0 (claims· .0) (claims· .1)
+            "cases::machine::open_circuit") (known1 : Plain.Known 𝓤 H A W 𝓣 5 ps·1 r·1 (claims· .2) (claims· .3)
+            "cases::machine::accept_circuit") where
+          pub spec : Statement.Triple 𝓤 (Wp.WpFn 𝓤 H (𝓣 .C) (𝓣 .Λ) (Function.fnOf 5 ps r xs m hs body))
+              (Function.plainOf 𝓤 H A 5 ps r Pre· Post·)
+          spec = Plain.t-fn-plain 𝓤 H A W 𝓣 5 ps r xs m hs body (λ κs qs bs. Φ) (λ κs qs bs bd. typed κs qs 𝓤 H A W 𝓣
+              (known0, known1) bs bd) Pre· Post· asked

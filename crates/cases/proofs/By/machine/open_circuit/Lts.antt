@@ -4,6 +4,7 @@ use Rattle.cases.proofs.By.InflightAction
 use Rattle.cases.proofs.By.RelayCircuit
 use Rattle.cases.proofs.By.RelayPending
 use Rattle.cases.proofs.By.ReservationUsage
+use Rattle.cases.proofs.StructRow
 use Rattle.hnsr_circuit.proofs.places.Places
 use Rattle.hnsr_circuit.proofs.places.Places.Laws
 use Rattle.hnsr_circuit.proofs.records.RelayPacket
@@ -23,7 +24,6 @@ use borrow.Fn.Plain
 use borrow.Kind.Array
 use borrow.Kind.MutSlice
 use borrow.Kind.ShrSlice
-use borrow.Kind.Value
 use borrow.Rule.Array.Gives
 use borrow.Rule.Array.Init
 use borrow.Rule.Array.Repeat
@@ -56,12 +56,10 @@ use borrow.Table.Rows as Rows'
 use borrow.Table.Typed
 use contract.Lifetimes
 use denote.Array as Array'
-use denote.Exit
 use denote.Plain as Plain'
 use denote.Steps
 use denote.Struct.At
 use denote.Struct.Declared
-use denote.Struct.Laws as Laws''''
 use denote.Triple.Clauses
 use denote.Triple.Statement
 use ghost.Atoms
@@ -77,2317 +75,4471 @@ use mathlib.Core.List.{_∷_}
 
 abbrev ref0 : Syntax.Ty
 ref0 = Syntax.tyRef Syntax.erased Syntax.mut RelayPending.to
+
 abbrev ref1 : Syntax.Ty
 ref1 = Syntax.tyRef Syntax.erased Syntax.mut RelayCircuit.to
+
 abbrev ref2 : Syntax.Ty
 ref2 = Syntax.tyRef Syntax.erased Syntax.mut ReservationUsage.to
+
 abbrev ref3 : Syntax.Ty
 ref3 = Syntax.tyRef Syntax.erased Syntax.mut InflightAction.to
+
 abbrev ref4 : Syntax.Ty
 ref4 = Syntax.tyRef Syntax.erased Syntax.mut (Syntax.tyInt Syntax.w32)
+
 abbrev ref5 : Syntax.Ty
 ref5 = Syntax.tyRef Syntax.erased Syntax.imm (Syntax.tyArray (Syntax.tyInt Syntax.w8) 1)
+
 abbrev ref6 : Syntax.Ty
 ref6 = Syntax.tyRef Syntax.erased Syntax.imm (Syntax.tyInt Syntax.w8)
+
 abbrev ref7 : Syntax.Ty
 ref7 = Syntax.tyRef Syntax.erased Syntax.imm (Syntax.tyArray (Syntax.tyInt Syntax.w8) 103)
+
 abbrev ref8 : Syntax.Ty
 ref8 = Syntax.tyRef Syntax.erased Syntax.imm (Syntax.tyArray (Syntax.tyInt Syntax.w8) 8)
+
 abbrev ref9 : Syntax.Ty
 ref9 = Syntax.tyRef (Syntax.named 0) Syntax.mut RelayPending.to
+
 abbrev ref10 : Syntax.Ty
 ref10 = Syntax.tyRef (Syntax.named 1) Syntax.mut RelayCircuit.to
+
 abbrev ref11 : Syntax.Ty
 ref11 = Syntax.tyRef (Syntax.named 2) Syntax.mut ReservationUsage.to
+
 abbrev ref12 : Syntax.Ty
 ref12 = Syntax.tyRef (Syntax.named 3) Syntax.mut InflightAction.to
+
 abbrev ref13 : Syntax.Ty
 ref13 = Syntax.tyRef (Syntax.named 4) Syntax.mut (Syntax.tyInt Syntax.w32)
+
+abbrev slice0 : Syntax.Ty
+slice0 = Syntax.tyStruct (38 ∷ 91 ∷ 93 ∷ List.[]) (Syntax.tcons ref0
+    (Syntax.tcons (Syntax.tyInt Syntax.w64) Syntax.tnil))
+
+abbrev slice1 : Syntax.Ty
+slice1 = Syntax.tyStruct (38 ∷ 91 ∷ 93 ∷ List.[]) (Syntax.tcons ref1
+    (Syntax.tcons (Syntax.tyInt Syntax.w64) Syntax.tnil))
+
+abbrev slice2 : Syntax.Ty
+slice2 = Syntax.tyStruct (38 ∷ 91 ∷ 93 ∷ List.[]) (Syntax.tcons ref2
+    (Syntax.tcons (Syntax.tyInt Syntax.w64) Syntax.tnil))
+
+abbrev slice3 : Syntax.Ty
+slice3 = Syntax.tyStruct (38 ∷ 91 ∷ 93 ∷ List.[]) (Syntax.tcons ref3
+    (Syntax.tcons (Syntax.tyInt Syntax.w64) Syntax.tnil))
+
+abbrev slice4 : Syntax.Ty
+slice4 = Syntax.tyStruct (38 ∷ 91 ∷ 93 ∷ List.[]) (Syntax.tcons ref4
+    (Syntax.tcons (Syntax.tyInt Syntax.w64) Syntax.tnil))
+
+abbrev slice6 : Syntax.Ty
+slice6 = Syntax.tyStruct (38 ∷ 91 ∷ 93 ∷ List.[]) (Syntax.tcons ref6
+    (Syntax.tcons (Syntax.tyInt Syntax.w64) Syntax.tnil))
+
 abbrev pub ps : List.List (Kinds.PK 5)
-ps = (MutSlice.pMutS RelayPending.row 0 tt) ∷ (MutSlice.pMutS RelayCircuit.row 1 tt) ∷ (MutSlice.pMutS ReservationUsage.row 2 tt) ∷ (MutSlice.pMutS
-    InflightAction.row 3 tt) ∷ (MutSlice.pMutS (Referent.rtF (Referent.fInt Syntax.w32)) 4 tt) ∷ (Value.pVal record { ty = Declared.row
-    Relayed.the-type; one = Path.refl; val = Laws''''.val Relayed.the-type Laws'''.the-laws; tells = Laws''''.tells Relayed.the-type Laws'''.the-laws;
-    still = Laws''''.still Relayed.the-type Laws'''.the-copy Exit.yes; row = Rows'.whole (Declared.row Relayed.the-type); rd = λ x. x; mk = λ x. x; }
-    λ M 𝓤 H A W. record { copies = Laws''''.copy Relayed.the-type Laws'''.the-copy 𝓤 H A W; lawful = Laws''''.lawful Relayed.the-type Laws'''.the-laws
-    𝓤 H A W; makes = Laws''''.makes Relayed.the-type Laws'''.the-plain 𝓤 H A; in-mem = Local.mem-whole 𝓤 H A W (Declared.row Relayed.the-type); of-mem
-    = Local.whole-mem 𝓤 H A W (Declared.row Relayed.the-type); }) ∷ List.[]
+ps = (MutSlice.pMutS RelayPending.row 0 tt) ∷ (MutSlice.pMutS RelayCircuit.row 1 tt) ∷
+    (MutSlice.pMutS ReservationUsage.row 2 tt) ∷ (MutSlice.pMutS InflightAction.row 3 tt) ∷ (MutSlice.pMutS
+    (Referent.rtF (Referent.fInt Syntax.w32)) 4 tt) ∷ (StructRow.param Relayed.the-type Laws'''.the-laws
+    Laws'''.the-copy Laws'''.the-plain) ∷ List.[]
+
 abbrev pub r : Kinds.RK 5
-r = Value.rVal record { ty = Declared.row Relayed.the-type; one = Path.refl; val = Laws''''.val Relayed.the-type Laws'''.the-laws; tells =
-    Laws''''.tells Relayed.the-type Laws'''.the-laws; still = Laws''''.still Relayed.the-type Laws'''.the-copy Exit.yes; row = Rows'.whole
-    (Declared.row Relayed.the-type); rd = λ x. x; mk = λ x. x; } λ M 𝓤 H A W. record { copies = Laws''''.copy Relayed.the-type Laws'''.the-copy 𝓤 H A
-    W; lawful = Laws''''.lawful Relayed.the-type Laws'''.the-laws 𝓤 H A W; makes = Laws''''.makes Relayed.the-type Laws'''.the-plain 𝓤 H A; in-mem =
-    Local.mem-whole 𝓤 H A W (Declared.row Relayed.the-type); of-mem = Local.whole-mem 𝓤 H A W (Declared.row Relayed.the-type); }
+r = StructRow.result Relayed.the-type Laws'''.the-laws Laws'''.the-copy Laws'''.the-plain
+
 abbrev pub xs : List.List Syntax.Ty
-xs = Laws'.mir ∷ (Syntax.tyArray (Syntax.tyInt Syntax.w8) 103) ∷ (Syntax.tyArray (Syntax.tyInt Syntax.w8) 1) ∷ (Syntax.tyArray (Syntax.tyInt
-    Syntax.w8) 1) ∷ (Syntax.tyArray (Syntax.tyInt Syntax.w8) 8) ∷ Laws''.mir ∷ Laws.mir ∷ (Syntax.tyArray (Syntax.tyInt Syntax.w8) 103) ∷ ref0 ∷
-    (Syntax.tyStruct (38 ∷ 91 ∷ 93 ∷ List.[]) (Syntax.tcons ref0 (Syntax.tcons (Syntax.tyInt Syntax.w64) Syntax.tnil))) ∷ ref1 ∷ (Syntax.tyStruct (38
-    ∷ 91 ∷ 93 ∷ List.[]) (Syntax.tcons ref1 (Syntax.tcons (Syntax.tyInt Syntax.w64) Syntax.tnil))) ∷ ref2 ∷ (Syntax.tyStruct (38 ∷ 91 ∷ 93 ∷ List.[])
-    (Syntax.tcons ref2 (Syntax.tcons (Syntax.tyInt Syntax.w64) Syntax.tnil))) ∷ ref3 ∷ (Syntax.tyStruct (38 ∷ 91 ∷ 93 ∷ List.[]) (Syntax.tcons ref3
-    (Syntax.tcons (Syntax.tyInt Syntax.w64) Syntax.tnil))) ∷ ref4 ∷ (Syntax.tyStruct (38 ∷ 91 ∷ 93 ∷ List.[]) (Syntax.tcons ref4 (Syntax.tcons
-    (Syntax.tyInt Syntax.w64) Syntax.tnil))) ∷ ref5 ∷ (Syntax.tyStruct (38 ∷ 91 ∷ 93 ∷ List.[]) (Syntax.tcons ref6 (Syntax.tcons (Syntax.tyInt
-    Syntax.w64) Syntax.tnil))) ∷ ref7 ∷ (Syntax.tyStruct (38 ∷ 91 ∷ 93 ∷ List.[]) (Syntax.tcons ref6 (Syntax.tcons (Syntax.tyInt Syntax.w64)
-    Syntax.tnil))) ∷ ref5 ∷ (Syntax.tyStruct (38 ∷ 91 ∷ 93 ∷ List.[]) (Syntax.tcons ref6 (Syntax.tcons (Syntax.tyInt Syntax.w64) Syntax.tnil))) ∷ ref8
-    ∷ (Syntax.tyStruct (38 ∷ 91 ∷ 93 ∷ List.[]) (Syntax.tcons ref6 (Syntax.tcons (Syntax.tyInt Syntax.w64) Syntax.tnil))) ∷ List.[]
+xs = Laws'.mir ∷ (Syntax.tyArray (Syntax.tyInt Syntax.w8) 103) ∷ (Syntax.tyArray (Syntax.tyInt Syntax.w8) 1) ∷
+    (Syntax.tyArray (Syntax.tyInt Syntax.w8) 1) ∷ (Syntax.tyArray (Syntax.tyInt Syntax.w8) 8) ∷ Laws''.mir ∷ Laws.mir ∷
+    (Syntax.tyArray (Syntax.tyInt Syntax.w8) 103) ∷ ref0 ∷ slice0 ∷ ref1 ∷ slice1 ∷ ref2 ∷ slice2 ∷ ref3 ∷ slice3 ∷
+    ref4 ∷ slice4 ∷ ref5 ∷ slice6 ∷ ref7 ∷ slice6 ∷ ref5 ∷ slice6 ∷ ref8 ∷ slice6 ∷ List.[]
+
 abbrev pub m : Nat.ℕ
 m = 9
+
 abbrev pub ps·0 : List.List (Kinds.PK 0)
 ps·0 = List.[]
+
 abbrev pub r·0 : Kinds.RK 0
-r·0 = Value.rVal record { ty = Declared.row RelayPacket.the-type; one = Path.refl; val = Laws''''.val RelayPacket.the-type Laws'.the-laws; tells =
-    Laws''''.tells RelayPacket.the-type Laws'.the-laws; still = Laws''''.still RelayPacket.the-type Laws'.the-copy Exit.yes; row = Rows'.whole
-    (Declared.row RelayPacket.the-type); rd = λ x. x; mk = λ x. x; } λ M 𝓤 H A W. record { copies = Laws''''.copy RelayPacket.the-type Laws'.the-copy
-    𝓤 H A W; lawful = Laws''''.lawful RelayPacket.the-type Laws'.the-laws 𝓤 H A W; makes = Laws''''.makes RelayPacket.the-type Laws'.the-plain 𝓤 H A;
-    in-mem = Local.mem-whole 𝓤 H A W (Declared.row RelayPacket.the-type); of-mem = Local.whole-mem 𝓤 H A W (Declared.row RelayPacket.the-type); }
+r·0 = StructRow.result RelayPacket.the-type Laws'.the-laws Laws'.the-copy Laws'.the-plain
+
 abbrev pub ps·1 : List.List (Kinds.PK 0)
 ps·1 = List.[]
+
 abbrev pub r·1 : Kinds.RK 0
 r·1 = Array.rArr (Array.eInt Syntax.w8) (Array.eInt-laws Syntax.w8) 103
+
 abbrev pub ps·2 : List.List (Kinds.PK 9)
-ps·2 = (MutSlice.pMutS RelayPending.row 0 tt) ∷ (MutSlice.pMutS RelayCircuit.row 1 tt) ∷ (MutSlice.pMutS ReservationUsage.row 2 tt) ∷ (MutSlice.pMutS
-    InflightAction.row 3 tt) ∷ (MutSlice.pMutS (Referent.rtF (Referent.fInt Syntax.w32)) 4 tt) ∷ (Value.pVal record { ty = Declared.row
-    OpaqueRelayRuntime.the-type; one = Path.refl; val = Laws''''.val OpaqueRelayRuntime.the-type Laws''.the-laws; tells = Laws''''.tells
-    OpaqueRelayRuntime.the-type Laws''.the-laws; still = Laws''''.still OpaqueRelayRuntime.the-type Laws''.the-copy Exit.yes; row = Rows'.whole
-    (Declared.row OpaqueRelayRuntime.the-type); rd = λ x. x; mk = λ x. x; } λ M 𝓤 H A W. record { copies = Laws''''.copy OpaqueRelayRuntime.the-type
-    Laws''.the-copy 𝓤 H A W; lawful = Laws''''.lawful OpaqueRelayRuntime.the-type Laws''.the-laws 𝓤 H A W; makes = Laws''''.makes
-    OpaqueRelayRuntime.the-type Laws''.the-plain 𝓤 H A; in-mem = Local.mem-whole 𝓤 H A W (Declared.row OpaqueRelayRuntime.the-type); of-mem =
-    Local.whole-mem 𝓤 H A W (Declared.row OpaqueRelayRuntime.the-type); }) ∷ (Value.pVal record { ty = Declared.row Places.the-type; one = Path.refl;
-    val = Laws''''.val Places.the-type Laws.the-laws; tells = Laws''''.tells Places.the-type Laws.the-laws; still = Laws''''.still Places.the-type
-    Laws.the-copy Exit.yes; row = Rows'.whole (Declared.row Places.the-type); rd = λ x. x; mk = λ x. x; } λ M 𝓤 H A W. record { copies = Laws''''.copy
-    Places.the-type Laws.the-copy 𝓤 H A W; lawful = Laws''''.lawful Places.the-type Laws.the-laws 𝓤 H A W; makes = Laws''''.makes Places.the-type
-    Laws.the-plain 𝓤 H A; in-mem = Local.mem-whole 𝓤 H A W (Declared.row Places.the-type); of-mem = Local.whole-mem 𝓤 H A W (Declared.row
-    Places.the-type); }) ∷ (Value.pVal record { ty = Declared.row RelayPacket.the-type; one = Path.refl; val = Laws''''.val RelayPacket.the-type
-    Laws'.the-laws; tells = Laws''''.tells RelayPacket.the-type Laws'.the-laws; still = Laws''''.still RelayPacket.the-type Laws'.the-copy Exit.yes;
-    row = Rows'.whole (Declared.row RelayPacket.the-type); rd = λ x. x; mk = λ x. x; } λ M 𝓤 H A W. record { copies = Laws''''.copy
-    RelayPacket.the-type Laws'.the-copy 𝓤 H A W; lawful = Laws''''.lawful RelayPacket.the-type Laws'.the-laws 𝓤 H A W; makes = Laws''''.makes
-    RelayPacket.the-type Laws'.the-plain 𝓤 H A; in-mem = Local.mem-whole 𝓤 H A W (Declared.row RelayPacket.the-type); of-mem = Local.whole-mem 𝓤 H A W
-    (Declared.row RelayPacket.the-type); }) ∷ (ShrSlice.pShrS (Referent.rtF (Referent.fInt Syntax.w8)) 5 tt) ∷ (ShrSlice.pShrS (Referent.rtF
-    (Referent.fInt Syntax.w8)) 6 tt) ∷ (ShrSlice.pShrS (Referent.rtF (Referent.fInt Syntax.w8)) 7 tt) ∷ (ShrSlice.pShrS (Referent.rtF (Referent.fInt
-    Syntax.w8)) 8 tt) ∷ List.[]
+ps·2 = (MutSlice.pMutS RelayPending.row 0 tt) ∷ (MutSlice.pMutS RelayCircuit.row 1 tt) ∷
+    (MutSlice.pMutS ReservationUsage.row 2 tt) ∷ (MutSlice.pMutS InflightAction.row 3 tt) ∷ (MutSlice.pMutS
+    (Referent.rtF (Referent.fInt Syntax.w32)) 4 tt) ∷ (StructRow.param OpaqueRelayRuntime.the-type Laws''.the-laws
+    Laws''.the-copy Laws''.the-plain) ∷ (StructRow.param Places.the-type Laws.the-laws Laws.the-copy Laws.the-plain) ∷ (StructRow.param
+    RelayPacket.the-type Laws'.the-laws Laws'.the-copy Laws'.the-plain) ∷ (ShrSlice.pShrS
+    (Referent.rtF (Referent.fInt Syntax.w8)) 5 tt) ∷ (ShrSlice.pShrS (Referent.rtF (Referent.fInt Syntax.w8)) 6 tt) ∷ (ShrSlice.pShrS
+    (Referent.rtF (Referent.fInt Syntax.w8)) 7 tt) ∷ (ShrSlice.pShrS (Referent.rtF (Referent.fInt Syntax.w8)) 8 tt) ∷
+    List.[]
+
 abbrev pub r·2 : Kinds.RK 9
-r·2 = Value.rVal record { ty = Declared.row Relayed.the-type; one = Path.refl; val = Laws''''.val Relayed.the-type Laws'''.the-laws; tells =
-    Laws''''.tells Relayed.the-type Laws'''.the-laws; still = Laws''''.still Relayed.the-type Laws'''.the-copy Exit.yes; row = Rows'.whole
-    (Declared.row Relayed.the-type); rd = λ x. x; mk = λ x. x; } λ M 𝓤 H A W. record { copies = Laws''''.copy Relayed.the-type Laws'''.the-copy 𝓤 H A
-    W; lawful = Laws''''.lawful Relayed.the-type Laws'''.the-laws 𝓤 H A W; makes = Laws''''.makes Relayed.the-type Laws'''.the-plain 𝓤 H A; in-mem =
-    Local.mem-whole 𝓤 H A W (Declared.row Relayed.the-type); of-mem = Local.whole-mem 𝓤 H A W (Declared.row Relayed.the-type); }
+r·2 = StructRow.result Relayed.the-type Laws'''.the-laws Laws'''.the-copy Laws'''.the-plain
+
 abbrev pub hs : List.List Syntax.Home
-hs = Syntax.valueLocal ∷ Syntax.valueLocal ∷ Syntax.valueLocal ∷ Syntax.valueLocal ∷ Syntax.valueLocal ∷ Syntax.valueLocal ∷ Syntax.valueLocal ∷
-    Syntax.valueLocal ∷ Syntax.memorySlot ∷ Syntax.memorySlot ∷ Syntax.memorySlot ∷ Syntax.memorySlot ∷ Syntax.valueLocal ∷ Syntax.valueLocal ∷
-    Syntax.valueLocal ∷ Syntax.valueLocal ∷ Syntax.valueLocal ∷ Syntax.valueLocal ∷ Syntax.valueLocal ∷ Syntax.valueLocal ∷ Syntax.valueLocal ∷
-    Syntax.valueLocal ∷ Syntax.valueLocal ∷ Syntax.valueLocal ∷ Syntax.valueLocal ∷ Syntax.valueLocal ∷ Syntax.valueLocal ∷ Syntax.valueLocal ∷
-    Syntax.valueLocal ∷ Syntax.valueLocal ∷ Syntax.valueLocal ∷ Syntax.valueLocal ∷ Syntax.valueLocal ∷ List.[]
+hs = Syntax.valueLocal ∷ Syntax.valueLocal ∷ Syntax.valueLocal ∷ Syntax.valueLocal ∷ Syntax.valueLocal ∷
+    Syntax.valueLocal ∷ Syntax.valueLocal ∷ Syntax.valueLocal ∷ Syntax.memorySlot ∷ Syntax.memorySlot ∷
+    Syntax.memorySlot ∷ Syntax.memorySlot ∷ Syntax.valueLocal ∷ Syntax.valueLocal ∷ Syntax.valueLocal ∷
+    Syntax.valueLocal ∷ Syntax.valueLocal ∷ Syntax.valueLocal ∷ Syntax.valueLocal ∷ Syntax.valueLocal ∷
+    Syntax.valueLocal ∷ Syntax.valueLocal ∷ Syntax.valueLocal ∷ Syntax.valueLocal ∷ Syntax.valueLocal ∷
+    Syntax.valueLocal ∷ Syntax.valueLocal ∷ Syntax.valueLocal ∷ Syntax.valueLocal ∷ Syntax.valueLocal ∷
+    Syntax.valueLocal ∷ Syntax.valueLocal ∷ Syntax.valueLocal ∷ List.[]
+
 abbrev b0 : Syntax.Body
 b0 = Syntax.call "cases::script::open_packet" List.[] (Syntax.place 7 List.[])
+
 abbrev b1 : Syntax.Body
 b1 = Syntax.call "cases::script::open_body" List.[] (Syntax.place 14 List.[])
+
 abbrev b2 : Syntax.Body
 b2 = Syntax.assign (Syntax.place 8 List.[]) (Syntax.rvOpd (Syntax.copy (Syntax.place 14 List.[])))
+
 abbrev b3 : Syntax.Body
 b3 = Syntax.assign (Syntax.place 9 List.[]) (Syntax.aggregate ((Syntax.int Syntax.w8 1) ∷ List.[]))
+
 abbrev b4 : Syntax.Body
 b4 = Syntax.assign (Syntax.place 10 List.[]) (Syntax.aggregate ((Syntax.int Syntax.w8 2) ∷ List.[]))
+
 abbrev b5 : Syntax.Body
-b5 = Syntax.assign (Syntax.place 11 List.[]) (Syntax.aggregate ((Syntax.int Syntax.w8 0) ∷ (Syntax.int Syntax.w8 0) ∷ (Syntax.int Syntax.w8 0) ∷
-    (Syntax.int Syntax.w8 0) ∷ (Syntax.int Syntax.w8 0) ∷ (Syntax.int Syntax.w8 0) ∷ (Syntax.int Syntax.w8 0) ∷ (Syntax.int Syntax.w8 7) ∷ List.[]))
+b5 = Syntax.assign (Syntax.place 11 List.[]) (Syntax.aggregate ((Syntax.int Syntax.w8 0) ∷ (Syntax.int Syntax.w8 0) ∷
+    (Syntax.int Syntax.w8 0) ∷ (Syntax.int Syntax.w8 0) ∷ (Syntax.int Syntax.w8 0) ∷ (Syntax.int Syntax.w8 0) ∷
+    (Syntax.int Syntax.w8 0) ∷ (Syntax.int Syntax.w8 7) ∷ List.[]))
+
 abbrev b6 : Syntax.Body
 b6 = Syntax.assign (Syntax.place 12 List.[]) (Syntax.rvOpd (Syntax.copy (Syntax.place 6 ((Syntax.field 0) ∷ List.[]))))
+
 abbrev b7 : Syntax.Body
 b7 = Syntax.assign (Syntax.place 13 List.[]) (Syntax.rvOpd (Syntax.copy (Syntax.place 6 ((Syntax.field 3) ∷ List.[]))))
+
 abbrev b8 : Syntax.Body
-b8 = Syntax.assign (Syntax.place 15 List.[]) (Syntax.addrOf (Syntax.place 1 ((Syntax.field 0) ∷ (Syntax.deref RelayPending.ty) ∷ List.[])))
+b8 = Syntax.assign (Syntax.place 15 List.[]) (Syntax.addrOf (Syntax.place 1 ((Syntax.field 0) ∷
+    (Syntax.deref RelayPending.ty) ∷ List.[])))
+
 abbrev b9 : Syntax.Body
-b9 = Syntax.assign (Syntax.place 16 List.[]) (Syntax.aggregate ((Syntax.copy (Syntax.place 15 List.[])) ∷ (Syntax.copy (Syntax.place 1 ((Syntax.field
-    1) ∷ List.[]))) ∷ List.[]))
+b9 = Syntax.assign (Syntax.place 16 List.[]) (Syntax.aggregate ((Syntax.copy (Syntax.place 15 List.[])) ∷
+    (Syntax.copy (Syntax.place 1 ((Syntax.field 1) ∷ List.[]))) ∷ List.[]))
+
 abbrev b10 : Syntax.Body
-b10 = Syntax.assign (Syntax.place 17 List.[]) (Syntax.addrOf (Syntax.place 2 ((Syntax.field 0) ∷ (Syntax.deref RelayCircuit.ty) ∷ List.[])))
+b10 = Syntax.assign (Syntax.place 17 List.[]) (Syntax.addrOf (Syntax.place 2 ((Syntax.field 0) ∷
+    (Syntax.deref RelayCircuit.ty) ∷ List.[])))
+
 abbrev b11 : Syntax.Body
-b11 = Syntax.assign (Syntax.place 18 List.[]) (Syntax.aggregate ((Syntax.copy (Syntax.place 17 List.[])) ∷ (Syntax.copy (Syntax.place 2 ((Syntax.field
-    1) ∷ List.[]))) ∷ List.[]))
+b11 = Syntax.assign (Syntax.place 18 List.[]) (Syntax.aggregate ((Syntax.copy (Syntax.place 17 List.[])) ∷
+    (Syntax.copy (Syntax.place 2 ((Syntax.field 1) ∷ List.[]))) ∷ List.[]))
+
 abbrev b12 : Syntax.Body
-b12 = Syntax.assign (Syntax.place 19 List.[]) (Syntax.addrOf (Syntax.place 3 ((Syntax.field 0) ∷ (Syntax.deref ReservationUsage.ty) ∷ List.[])))
+b12 = Syntax.assign (Syntax.place 19 List.[]) (Syntax.addrOf (Syntax.place 3 ((Syntax.field 0) ∷
+    (Syntax.deref ReservationUsage.ty) ∷ List.[])))
+
 abbrev b13 : Syntax.Body
-b13 = Syntax.assign (Syntax.place 20 List.[]) (Syntax.aggregate ((Syntax.copy (Syntax.place 19 List.[])) ∷ (Syntax.copy (Syntax.place 3 ((Syntax.field
-    1) ∷ List.[]))) ∷ List.[]))
+b13 = Syntax.assign (Syntax.place 20 List.[]) (Syntax.aggregate ((Syntax.copy (Syntax.place 19 List.[])) ∷
+    (Syntax.copy (Syntax.place 3 ((Syntax.field 1) ∷ List.[]))) ∷ List.[]))
+
 abbrev b14 : Syntax.Body
-b14 = Syntax.assign (Syntax.place 21 List.[]) (Syntax.addrOf (Syntax.place 4 ((Syntax.field 0) ∷ (Syntax.deref InflightAction.ty) ∷ List.[])))
+b14 = Syntax.assign (Syntax.place 21 List.[]) (Syntax.addrOf (Syntax.place 4 ((Syntax.field 0) ∷
+    (Syntax.deref InflightAction.ty) ∷ List.[])))
+
 abbrev b15 : Syntax.Body
-b15 = Syntax.assign (Syntax.place 22 List.[]) (Syntax.aggregate ((Syntax.copy (Syntax.place 21 List.[])) ∷ (Syntax.copy (Syntax.place 4 ((Syntax.field
-    1) ∷ List.[]))) ∷ List.[]))
+b15 = Syntax.assign (Syntax.place 22 List.[]) (Syntax.aggregate ((Syntax.copy (Syntax.place 21 List.[])) ∷
+    (Syntax.copy (Syntax.place 4 ((Syntax.field 1) ∷ List.[]))) ∷ List.[]))
+
 abbrev b16 : Syntax.Body
-b16 = Syntax.assign (Syntax.place 23 List.[]) (Syntax.addrOf (Syntax.place 5 ((Syntax.field 0) ∷ (Syntax.deref (Syntax.tyInt Syntax.w32)) ∷ List.[])))
+b16 = Syntax.assign (Syntax.place 23 List.[]) (Syntax.addrOf (Syntax.place 5 ((Syntax.field 0) ∷
+    (Syntax.deref (Syntax.tyInt Syntax.w32)) ∷ List.[])))
+
 abbrev b17 : Syntax.Body
-b17 = Syntax.assign (Syntax.place 24 List.[]) (Syntax.aggregate ((Syntax.copy (Syntax.place 23 List.[])) ∷ (Syntax.copy (Syntax.place 5 ((Syntax.field
-    1) ∷ List.[]))) ∷ List.[]))
+b17 = Syntax.assign (Syntax.place 24 List.[]) (Syntax.aggregate ((Syntax.copy (Syntax.place 23 List.[])) ∷
+    (Syntax.copy (Syntax.place 5 ((Syntax.field 1) ∷ List.[]))) ∷ List.[]))
+
 abbrev b18 : Syntax.Body
 b18 = Syntax.assign (Syntax.place 25 List.[]) (Syntax.addrOf (Syntax.place 9 List.[]))
+
 abbrev b19 : Syntax.Body
-b19 = Syntax.assign (Syntax.place 26 List.[]) (Syntax.aggregate ((Syntax.copy (Syntax.place 25 List.[])) ∷ (Syntax.int Syntax.w64 1) ∷ List.[]))
+b19 = Syntax.assign (Syntax.place 26 List.[]) (Syntax.aggregate ((Syntax.copy (Syntax.place 25 List.[])) ∷
+    (Syntax.int Syntax.w64 1) ∷ List.[]))
+
 abbrev b20 : Syntax.Body
 b20 = Syntax.assign (Syntax.place 27 List.[]) (Syntax.addrOf (Syntax.place 8 List.[]))
+
 abbrev b21 : Syntax.Body
-b21 = Syntax.assign (Syntax.place 28 List.[]) (Syntax.aggregate ((Syntax.copy (Syntax.place 27 List.[])) ∷ (Syntax.int Syntax.w64 103) ∷ List.[]))
+b21 = Syntax.assign (Syntax.place 28 List.[]) (Syntax.aggregate ((Syntax.copy (Syntax.place 27 List.[])) ∷
+    (Syntax.int Syntax.w64 103) ∷ List.[]))
+
 abbrev b22 : Syntax.Body
 b22 = Syntax.assign (Syntax.place 29 List.[]) (Syntax.addrOf (Syntax.place 10 List.[]))
+
 abbrev b23 : Syntax.Body
-b23 = Syntax.assign (Syntax.place 30 List.[]) (Syntax.aggregate ((Syntax.copy (Syntax.place 29 List.[])) ∷ (Syntax.int Syntax.w64 1) ∷ List.[]))
+b23 = Syntax.assign (Syntax.place 30 List.[]) (Syntax.aggregate ((Syntax.copy (Syntax.place 29 List.[])) ∷
+    (Syntax.int Syntax.w64 1) ∷ List.[]))
+
 abbrev b24 : Syntax.Body
 b24 = Syntax.assign (Syntax.place 31 List.[]) (Syntax.addrOf (Syntax.place 11 List.[]))
+
 abbrev b25 : Syntax.Body
-b25 = Syntax.assign (Syntax.place 32 List.[]) (Syntax.aggregate ((Syntax.copy (Syntax.place 31 List.[])) ∷ (Syntax.int Syntax.w64 8) ∷ List.[]))
+b25 = Syntax.assign (Syntax.place 32 List.[]) (Syntax.aggregate ((Syntax.copy (Syntax.place 31 List.[])) ∷
+    (Syntax.int Syntax.w64 8) ∷ List.[]))
+
 abbrev b26 : Syntax.Body
-b26 = Syntax.call "hnsr_circuit::handle::handle" ((Syntax.copy (Syntax.place 16 List.[])) ∷ (Syntax.copy (Syntax.place 18 List.[])) ∷ (Syntax.copy
-    (Syntax.place 20 List.[])) ∷ (Syntax.copy (Syntax.place 22 List.[])) ∷ (Syntax.copy (Syntax.place 24 List.[])) ∷ (Syntax.copy (Syntax.place 12
-    List.[])) ∷ (Syntax.copy (Syntax.place 13 List.[])) ∷ (Syntax.copy (Syntax.place 7 List.[])) ∷ (Syntax.copy (Syntax.place 26 List.[])) ∷
-    (Syntax.copy (Syntax.place 28 List.[])) ∷ (Syntax.copy (Syntax.place 30 List.[])) ∷ (Syntax.copy (Syntax.place 32 List.[])) ∷ List.[])
-    (Syntax.place 0 List.[])
+b26 = Syntax.call "hnsr_circuit::handle::handle" ((Syntax.copy (Syntax.place 16 List.[])) ∷
+    (Syntax.copy (Syntax.place 18 List.[])) ∷ (Syntax.copy (Syntax.place 20 List.[])) ∷
+    (Syntax.copy (Syntax.place 22 List.[])) ∷ (Syntax.copy (Syntax.place 24 List.[])) ∷
+    (Syntax.copy (Syntax.place 12 List.[])) ∷ (Syntax.copy (Syntax.place 13 List.[])) ∷
+    (Syntax.copy (Syntax.place 7 List.[])) ∷ (Syntax.copy (Syntax.place 26 List.[])) ∷
+    (Syntax.copy (Syntax.place 28 List.[])) ∷ (Syntax.copy (Syntax.place 30 List.[])) ∷
+    (Syntax.copy (Syntax.place 32 List.[])) ∷ List.[]) (Syntax.place 0 List.[])
+
 abbrev b27 : Syntax.Body
 b27 = Syntax.return
+
 abbrev b28 : Syntax.Body
 b28 = Syntax.seq b26 b27
+
 abbrev b29 : Syntax.Body
 b29 = Syntax.seq b25 b28
+
 abbrev b30 : Syntax.Body
 b30 = Syntax.seq b24 b29
+
 abbrev b31 : Syntax.Body
 b31 = Syntax.seq b23 b30
+
 abbrev b32 : Syntax.Body
 b32 = Syntax.seq b22 b31
+
 abbrev b33 : Syntax.Body
 b33 = Syntax.seq b21 b32
+
 abbrev b34 : Syntax.Body
 b34 = Syntax.seq b20 b33
+
 abbrev b35 : Syntax.Body
 b35 = Syntax.seq b19 b34
+
 abbrev b36 : Syntax.Body
 b36 = Syntax.seq b18 b35
+
 abbrev b37 : Syntax.Body
 b37 = Syntax.seq b17 b36
+
 abbrev b38 : Syntax.Body
 b38 = Syntax.seq b16 b37
+
 abbrev b39 : Syntax.Body
 b39 = Syntax.seq b15 b38
+
 abbrev b40 : Syntax.Body
 b40 = Syntax.seq b14 b39
+
 abbrev b41 : Syntax.Body
 b41 = Syntax.seq b13 b40
+
 abbrev b42 : Syntax.Body
 b42 = Syntax.seq b12 b41
+
 abbrev b43 : Syntax.Body
 b43 = Syntax.seq b11 b42
+
 abbrev b44 : Syntax.Body
 b44 = Syntax.seq b10 b43
+
 abbrev b45 : Syntax.Body
 b45 = Syntax.seq b9 b44
+
 abbrev b46 : Syntax.Body
 b46 = Syntax.seq b8 b45
+
 abbrev b47 : Syntax.Body
 b47 = Syntax.seq b7 b46
+
 abbrev b48 : Syntax.Body
 b48 = Syntax.seq b6 b47
+
 abbrev b49 : Syntax.Body
 b49 = Syntax.seq b5 b48
+
 abbrev b50 : Syntax.Body
 b50 = Syntax.seq b4 b49
+
 abbrev b51 : Syntax.Body
 b51 = Syntax.seq b3 b50
+
 abbrev b52 : Syntax.Body
 b52 = Syntax.seq b2 b51
+
 abbrev b53 : Syntax.Body
 b53 = Syntax.seq b1 b52
+
 abbrev b54 : Syntax.Body
 b54 = Syntax.seq b0 b53
+
 abbrev pub body : Syntax.Body
 body = b54
+
 abbrev pub Claims : Type 1
-Claims = Kinds.In 0 ps·0 × Kinds.Out 0 ps·0 r·0 × Kinds.In 0 ps·1 × Kinds.Out 0 ps·1 r·1 × Kinds.In 9 ps·2 × Kinds.Out 9 ps·2 r·2
+Claims = Kinds.In 0 ps·0 × Kinds.Out 0 ps·0 r·0 × Kinds.In 0 ps·1 × Kinds.Out 0 ps·1 r·1 × Kinds.In 9 ps·2 × Kinds.Out
+    9 ps·2 r·2
+
 abbrev e0 : Row.Entry
 e0 = (0, Rows'.any-gone Laws'''.mir)
+
 abbrev e1 : Row.Entry
 e1 = (1, Mut.mslice RelayPending.row ref9 0)
+
 abbrev e2 : Row.Entry
 e2 = (2, Mut.mslice RelayCircuit.row ref10 1)
+
 abbrev e3 : Row.Entry
 e3 = (3, Mut.mslice ReservationUsage.row ref11 2)
+
 abbrev e4 : Row.Entry
 e4 = (4, Mut.mslice InflightAction.row ref12 3)
+
 abbrev e5 : Row.Entry
 e5 = (5, Mut.mslice (Referent.rtF (Referent.fInt Syntax.w32)) ref13 4)
+
 abbrev e6 : Row.Entry
 e6 = (6, Rows'.whole (Declared.row Relayed.the-type))
+
 abbrev e7 : Row.Entry
 e7 = (7, Rows'.any-gone Laws'.mir)
+
 abbrev e8 : Row.Entry
 e8 = (8, Rows'.any-gone (Syntax.tyArray (Syntax.tyInt Syntax.w8) 103))
+
 abbrev e9 : Row.Entry
 e9 = (9, Rows'.any-gone (Syntax.tyArray (Syntax.tyInt Syntax.w8) 1))
+
 abbrev e10 : Row.Entry
 e10 = (10, Rows'.any-gone (Syntax.tyArray (Syntax.tyInt Syntax.w8) 1))
+
 abbrev e11 : Row.Entry
 e11 = (11, Rows'.any-gone (Syntax.tyArray (Syntax.tyInt Syntax.w8) 8))
+
 abbrev e12 : Row.Entry
 e12 = (12, Rows'.any-gone Laws''.mir)
+
 abbrev e13 : Row.Entry
 e13 = (13, Rows'.any-gone Laws.mir)
+
 abbrev e14 : Row.Entry
 e14 = (14, Rows'.any-gone (Syntax.tyArray (Syntax.tyInt Syntax.w8) 103))
+
 abbrev e15 : Row.Entry
 e15 = (15, Rows'.any-gone ref0)
+
 abbrev e16 : Row.Entry
-e16 = (16, Rows'.any-gone (Syntax.tyStruct (38 ∷ 91 ∷ 93 ∷ List.[]) (Syntax.tcons ref0 (Syntax.tcons (Syntax.tyInt Syntax.w64) Syntax.tnil))))
+e16 = (16, Rows'.any-gone slice0)
+
 abbrev e17 : Row.Entry
 e17 = (17, Rows'.any-gone ref1)
+
 abbrev e18 : Row.Entry
-e18 = (18, Rows'.any-gone (Syntax.tyStruct (38 ∷ 91 ∷ 93 ∷ List.[]) (Syntax.tcons ref1 (Syntax.tcons (Syntax.tyInt Syntax.w64) Syntax.tnil))))
+e18 = (18, Rows'.any-gone slice1)
+
 abbrev e19 : Row.Entry
 e19 = (19, Rows'.any-gone ref2)
+
 abbrev e20 : Row.Entry
-e20 = (20, Rows'.any-gone (Syntax.tyStruct (38 ∷ 91 ∷ 93 ∷ List.[]) (Syntax.tcons ref2 (Syntax.tcons (Syntax.tyInt Syntax.w64) Syntax.tnil))))
+e20 = (20, Rows'.any-gone slice2)
+
 abbrev e21 : Row.Entry
 e21 = (21, Rows'.any-gone ref3)
+
 abbrev e22 : Row.Entry
-e22 = (22, Rows'.any-gone (Syntax.tyStruct (38 ∷ 91 ∷ 93 ∷ List.[]) (Syntax.tcons ref3 (Syntax.tcons (Syntax.tyInt Syntax.w64) Syntax.tnil))))
+e22 = (22, Rows'.any-gone slice3)
+
 abbrev e23 : Row.Entry
 e23 = (23, Rows'.any-gone ref4)
+
 abbrev e24 : Row.Entry
-e24 = (24, Rows'.any-gone (Syntax.tyStruct (38 ∷ 91 ∷ 93 ∷ List.[]) (Syntax.tcons ref4 (Syntax.tcons (Syntax.tyInt Syntax.w64) Syntax.tnil))))
+e24 = (24, Rows'.any-gone slice4)
+
 abbrev e25 : Row.Entry
 e25 = (25, Rows'.any-gone ref5)
+
 abbrev e26 : Row.Entry
-e26 = (26, Rows'.any-gone (Syntax.tyStruct (38 ∷ 91 ∷ 93 ∷ List.[]) (Syntax.tcons ref6 (Syntax.tcons (Syntax.tyInt Syntax.w64) Syntax.tnil))))
+e26 = (26, Rows'.any-gone slice6)
+
 abbrev e27 : Row.Entry
 e27 = (27, Rows'.any-gone ref7)
+
 abbrev e28 : Row.Entry
-e28 = (28, Rows'.any-gone (Syntax.tyStruct (38 ∷ 91 ∷ 93 ∷ List.[]) (Syntax.tcons ref6 (Syntax.tcons (Syntax.tyInt Syntax.w64) Syntax.tnil))))
+e28 = (28, Rows'.any-gone slice6)
+
 abbrev e29 : Row.Entry
 e29 = (29, Rows'.any-gone ref5)
+
 abbrev e30 : Row.Entry
-e30 = (30, Rows'.any-gone (Syntax.tyStruct (38 ∷ 91 ∷ 93 ∷ List.[]) (Syntax.tcons ref6 (Syntax.tcons (Syntax.tyInt Syntax.w64) Syntax.tnil))))
+e30 = (30, Rows'.any-gone slice6)
+
 abbrev e31 : Row.Entry
 e31 = (31, Rows'.any-gone ref8)
+
 abbrev e32 : Row.Entry
-e32 = (32, Rows'.any-gone (Syntax.tyStruct (38 ∷ 91 ∷ 93 ∷ List.[]) (Syntax.tcons ref6 (Syntax.tcons (Syntax.tyInt Syntax.w64) Syntax.tnil))))
+e32 = (32, Rows'.any-gone slice6)
+
 abbrev e0·1 : Row.Entry
 e0·1 = (0, Rows'.whole (Declared.row Relayed.the-type))
+
 abbrev e6·1 : Row.Entry
 e6·1 = (6, Rows'.any-gone Laws'''.mir)
+
 abbrev e7·1 : Row.Entry
 e7·1 = (7, Rows'.whole (Declared.row RelayPacket.the-type))
+
 abbrev e14·1 : Row.Entry
 e14·1 = (14, Rows.arrF (Referent.rtF (Referent.fInt Syntax.w8)) 103 0)
+
 abbrev e8·1 : Row.Entry
 e8·1 = (8, Rows.arrF (Referent.rtF (Referent.fInt Syntax.w8)) 103 0)
+
 abbrev e9·1 : Row.Entry
 e9·1 = (9, Rows'.whole (Array'.Array (Referent.rtF (Referent.fInt Syntax.w8)) 1))
+
 abbrev e9·2 : Row.Entry
 e9·2 = (9, Rows.arrF (Referent.rtF (Referent.fInt Syntax.w8)) 1 0)
+
 abbrev e10·1 : Row.Entry
 e10·1 = (10, Rows'.whole (Array'.Array (Referent.rtF (Referent.fInt Syntax.w8)) 1))
+
 abbrev e10·2 : Row.Entry
 e10·2 = (10, Rows.arrF (Referent.rtF (Referent.fInt Syntax.w8)) 1 0)
+
 abbrev e11·1 : Row.Entry
 e11·1 = (11, Rows'.whole (Array'.Array (Referent.rtF (Referent.fInt Syntax.w8)) 8))
+
 abbrev e11·2 : Row.Entry
 e11·2 = (11, Rows.arrF (Referent.rtF (Referent.fInt Syntax.w8)) 8 0)
+
 abbrev e12·1 : Row.Entry
 e12·1 = (12, Rows'.whole (Declared.row OpaqueRelayRuntime.the-type))
+
 abbrev e13·1 : Row.Entry
 e13·1 = (13, Rows'.whole (Declared.row Places.the-type))
+
 abbrev e1·1 : Row.Entry
 e1·1 = (1, Relend.mslice-owed RelayPending.row ref9 0 5 Row.off)
+
 abbrev e15·1 : Row.Entry
 e15·1 = (15, Relend.msptr RelayPending.row ref0 5)
+
 abbrev e16·1 : Row.Entry
 e16·1 = (16, Mut.mslice RelayPending.row ref0 5)
+
 abbrev e2·1 : Row.Entry
 e2·1 = (2, Relend.mslice-owed RelayCircuit.row ref10 1 6 Row.off)
+
 abbrev e17·1 : Row.Entry
 e17·1 = (17, Relend.msptr RelayCircuit.row ref1 6)
+
 abbrev e18·1 : Row.Entry
 e18·1 = (18, Mut.mslice RelayCircuit.row ref1 6)
+
 abbrev e3·1 : Row.Entry
 e3·1 = (3, Relend.mslice-owed ReservationUsage.row ref11 2 7 Row.off)
+
 abbrev e19·1 : Row.Entry
 e19·1 = (19, Relend.msptr ReservationUsage.row ref2 7)
+
 abbrev e20·1 : Row.Entry
 e20·1 = (20, Mut.mslice ReservationUsage.row ref2 7)
+
 abbrev e4·1 : Row.Entry
 e4·1 = (4, Relend.mslice-owed InflightAction.row ref12 3 8 Row.off)
+
 abbrev e21·1 : Row.Entry
 e21·1 = (21, Relend.msptr InflightAction.row ref3 8)
+
 abbrev e22·1 : Row.Entry
 e22·1 = (22, Mut.mslice InflightAction.row ref3 8)
+
 abbrev e5·1 : Row.Entry
 e5·1 = (5, Relend.mslice-owed (Referent.rtF (Referent.fInt Syntax.w32)) ref13 4 9 Row.off)
+
 abbrev e23·1 : Row.Entry
 e23·1 = (23, Relend.msptr (Referent.rtF (Referent.fInt Syntax.w32)) ref4 9)
+
 abbrev e24·1 : Row.Entry
 e24·1 = (24, Mut.mslice (Referent.rtF (Referent.fInt Syntax.w32)) ref4 9)
+
 abbrev e9·3 : Row.Entry
 e9·3 = (9, Rows.arr-shr (Referent.rtF (Referent.fInt Syntax.w8)) 1 10)
+
 abbrev e25·1 : Row.Entry
 e25·1 = (25, Relend.ssptr (Referent.rtF (Referent.fInt Syntax.w8)) ref5 10)
+
 abbrev e26·1 : Row.Entry
 e26·1 = (26, Rows'.sslice (Referent.rtF (Referent.fInt Syntax.w8)) ref6 10)
+
 abbrev e8·2 : Row.Entry
 e8·2 = (8, Rows.arr-shr (Referent.rtF (Referent.fInt Syntax.w8)) 103 11)
+
 abbrev e27·1 : Row.Entry
 e27·1 = (27, Relend.ssptr (Referent.rtF (Referent.fInt Syntax.w8)) ref7 11)
+
 abbrev e28·1 : Row.Entry
 e28·1 = (28, Rows'.sslice (Referent.rtF (Referent.fInt Syntax.w8)) ref6 11)
+
 abbrev e10·3 : Row.Entry
 e10·3 = (10, Rows.arr-shr (Referent.rtF (Referent.fInt Syntax.w8)) 1 12)
+
 abbrev e29·1 : Row.Entry
 e29·1 = (29, Relend.ssptr (Referent.rtF (Referent.fInt Syntax.w8)) ref5 12)
+
 abbrev e30·1 : Row.Entry
 e30·1 = (30, Rows'.sslice (Referent.rtF (Referent.fInt Syntax.w8)) ref6 12)
+
 abbrev e11·3 : Row.Entry
 e11·3 = (11, Rows.arr-shr (Referent.rtF (Referent.fInt Syntax.w8)) 8 13)
+
 abbrev e31·1 : Row.Entry
 e31·1 = (31, Relend.ssptr (Referent.rtF (Referent.fInt Syntax.w8)) ref8 13)
+
 abbrev e32·1 : Row.Entry
 e32·1 = (32, Rows'.sslice (Referent.rtF (Referent.fInt Syntax.w8)) ref6 13)
+
 abbrev e16·2 : Row.Entry
 e16·2 = (16, Mut.msleft RelayPending.row ref0)
+
 abbrev e18·2 : Row.Entry
 e18·2 = (18, Mut.msleft RelayCircuit.row ref1)
+
 abbrev e20·2 : Row.Entry
 e20·2 = (20, Mut.msleft ReservationUsage.row ref2)
+
 abbrev e22·2 : Row.Entry
 e22·2 = (22, Mut.msleft InflightAction.row ref3)
+
 abbrev e24·2 : Row.Entry
 e24·2 = (24, Mut.msleft (Referent.rtF (Referent.fInt Syntax.w32)) ref4)
+
 abbrev pub t0 : List.List Row.Entry
 t0 = e0 ∷ e1 ∷ e2 ∷ e3 ∷ e4 ∷ e5 ∷ e6 ∷ e7 ∷ e8 ∷ e9 ∷ e10 ∷ e11 ∷ e12 ∷ e13 ∷ e14 ∷ e15 ∷ List.[]
+
 abbrev pub t1 : List.List Row.Entry
 t1 = e16 ∷ e17 ∷ e18 ∷ e19 ∷ e20 ∷ e21 ∷ e22 ∷ e23 ∷ e24 ∷ e25 ∷ e26 ∷ e27 ∷ e28 ∷ e29 ∷ e30 ∷ e31 ∷ List.[]
+
 abbrev pub t2 : List.List Row.Entry
 t2 = e32 ∷ List.[]
+
 abbrev pub t3 : List.List Row.Entry
 t3 = e0·1 ∷ e1 ∷ e2 ∷ e3 ∷ e4 ∷ e5 ∷ e6·1 ∷ e7 ∷ e8 ∷ e9 ∷ e10 ∷ e11 ∷ e12 ∷ e13 ∷ e14 ∷ e15 ∷ List.[]
+
 abbrev pub t4 : List.List Row.Entry
 t4 = e0 ∷ e1 ∷ e2 ∷ e3 ∷ e4 ∷ e5 ∷ e6 ∷ e7·1 ∷ e8 ∷ e9 ∷ e10 ∷ e11 ∷ e12 ∷ e13 ∷ e14 ∷ e15 ∷ List.[]
+
 abbrev pub t5 : List.List Row.Entry
 t5 = e0 ∷ e1 ∷ e2 ∷ e3 ∷ e4 ∷ e5 ∷ e6 ∷ e7·1 ∷ e8 ∷ e9 ∷ e10 ∷ e11 ∷ e12 ∷ e13 ∷ e14·1 ∷ e15 ∷ List.[]
+
 abbrev pub t6 : List.List Row.Entry
 t6 = e0 ∷ e1 ∷ e2 ∷ e3 ∷ e4 ∷ e5 ∷ e6 ∷ e7·1 ∷ e8·1 ∷ e9 ∷ e10 ∷ e11 ∷ e12 ∷ e13 ∷ e14·1 ∷ e15 ∷ List.[]
+
 abbrev pub t7 : List.List Row.Entry
 t7 = e0 ∷ e1 ∷ e2 ∷ e3 ∷ e4 ∷ e5 ∷ e6 ∷ e7·1 ∷ e8·1 ∷ e9 ∷ e10 ∷ e11 ∷ e12 ∷ e13 ∷ e14 ∷ e15 ∷ List.[]
+
 abbrev pub t8 : List.List Row.Entry
 t8 = e0 ∷ e1 ∷ e2 ∷ e3 ∷ e4 ∷ e5 ∷ e6 ∷ e7·1 ∷ e8·1 ∷ e9·1 ∷ e10 ∷ e11 ∷ e12 ∷ e13 ∷ e14 ∷ e15 ∷ List.[]
+
 abbrev pub t9 : List.List Row.Entry
 t9 = e0 ∷ e1 ∷ e2 ∷ e3 ∷ e4 ∷ e5 ∷ e6 ∷ e7·1 ∷ e8·1 ∷ e9·2 ∷ e10 ∷ e11 ∷ e12 ∷ e13 ∷ e14 ∷ e15 ∷ List.[]
+
 abbrev pub t10 : List.List Row.Entry
 t10 = e0 ∷ e1 ∷ e2 ∷ e3 ∷ e4 ∷ e5 ∷ e6 ∷ e7·1 ∷ e8·1 ∷ e9·2 ∷ e10·1 ∷ e11 ∷ e12 ∷ e13 ∷ e14 ∷ e15 ∷ List.[]
+
 abbrev pub t11 : List.List Row.Entry
 t11 = e0 ∷ e1 ∷ e2 ∷ e3 ∷ e4 ∷ e5 ∷ e6 ∷ e7·1 ∷ e8·1 ∷ e9·2 ∷ e10·2 ∷ e11 ∷ e12 ∷ e13 ∷ e14 ∷ e15 ∷ List.[]
+
 abbrev pub t12 : List.List Row.Entry
 t12 = e0 ∷ e1 ∷ e2 ∷ e3 ∷ e4 ∷ e5 ∷ e6 ∷ e7·1 ∷ e8·1 ∷ e9·2 ∷ e10·2 ∷ e11·1 ∷ e12 ∷ e13 ∷ e14 ∷ e15 ∷ List.[]
+
 abbrev pub t13 : List.List Row.Entry
 t13 = e0 ∷ e1 ∷ e2 ∷ e3 ∷ e4 ∷ e5 ∷ e6 ∷ e7·1 ∷ e8·1 ∷ e9·2 ∷ e10·2 ∷ e11·2 ∷ e12 ∷ e13 ∷ e14 ∷ e15 ∷ List.[]
+
 abbrev pub t14 : List.List Row.Entry
 t14 = e0 ∷ e1 ∷ e2 ∷ e3 ∷ e4 ∷ e5 ∷ e6 ∷ e7·1 ∷ e8·1 ∷ e9·2 ∷ e10·2 ∷ e11·2 ∷ e12·1 ∷ e13 ∷ e14 ∷ e15 ∷ List.[]
+
 abbrev pub t15 : List.List Row.Entry
 t15 = e0 ∷ e1 ∷ e2 ∷ e3 ∷ e4 ∷ e5 ∷ e6 ∷ e7·1 ∷ e8·1 ∷ e9·2 ∷ e10·2 ∷ e11·2 ∷ e12·1 ∷ e13·1 ∷ e14 ∷ e15 ∷ List.[]
+
 abbrev pub t16 : List.List Row.Entry
 t16 = e0 ∷ e1 ∷ e2 ∷ e3 ∷ e4 ∷ e5 ∷ e6·1 ∷ e7·1 ∷ e8·1 ∷ e9·2 ∷ e10·2 ∷ e11·2 ∷ e12·1 ∷ e13·1 ∷ e14 ∷ e15 ∷ List.[]
+
 abbrev pub t17 : List.List Row.Entry
 t17 = e0 ∷ e1·1 ∷ e2 ∷ e3 ∷ e4 ∷ e5 ∷ e6·1 ∷ e7·1 ∷ e8·1 ∷ e9·2 ∷ e10·2 ∷ e11·2 ∷ e12·1 ∷ e13·1 ∷ e14 ∷ e15·1 ∷ List.[]
+
 abbrev pub t18 : List.List Row.Entry
 t18 = e0 ∷ e1·1 ∷ e2 ∷ e3 ∷ e4 ∷ e5 ∷ e6·1 ∷ e7·1 ∷ e8·1 ∷ e9·2 ∷ e10·2 ∷ e11·2 ∷ e12·1 ∷ e13·1 ∷ e14 ∷ e15 ∷ List.[]
+
 abbrev pub t19 : List.List Row.Entry
 t19 = e16·1 ∷ e17 ∷ e18 ∷ e19 ∷ e20 ∷ e21 ∷ e22 ∷ e23 ∷ e24 ∷ e25 ∷ e26 ∷ e27 ∷ e28 ∷ e29 ∷ e30 ∷ e31 ∷ List.[]
+
 abbrev pub t20 : List.List Row.Entry
 t20 = e0 ∷ e1·1 ∷ e2·1 ∷ e3 ∷ e4 ∷ e5 ∷ e6·1 ∷ e7·1 ∷ e8·1 ∷ e9·2 ∷ e10·2 ∷ e11·2 ∷ e12·1 ∷ e13·1 ∷ e14 ∷ e15 ∷ List.[]
+
 abbrev pub t21 : List.List Row.Entry
 t21 = e16·1 ∷ e17·1 ∷ e18 ∷ e19 ∷ e20 ∷ e21 ∷ e22 ∷ e23 ∷ e24 ∷ e25 ∷ e26 ∷ e27 ∷ e28 ∷ e29 ∷ e30 ∷ e31 ∷ List.[]
+
 abbrev pub t22 : List.List Row.Entry
 t22 = e16·1 ∷ e17 ∷ e18·1 ∷ e19 ∷ e20 ∷ e21 ∷ e22 ∷ e23 ∷ e24 ∷ e25 ∷ e26 ∷ e27 ∷ e28 ∷ e29 ∷ e30 ∷ e31 ∷ List.[]
+
 abbrev pub t23 : List.List Row.Entry
-t23 = e0 ∷ e1·1 ∷ e2·1 ∷ e3·1 ∷ e4 ∷ e5 ∷ e6·1 ∷ e7·1 ∷ e8·1 ∷ e9·2 ∷ e10·2 ∷ e11·2 ∷ e12·1 ∷ e13·1 ∷ e14 ∷ e15 ∷ List.[]
+t23 = e0 ∷ e1·1 ∷ e2·1 ∷ e3·1 ∷ e4 ∷ e5 ∷ e6·1 ∷ e7·1 ∷ e8·1 ∷ e9·2 ∷ e10·2 ∷ e11·2 ∷ e12·1 ∷ e13·1 ∷ e14 ∷ e15 ∷
+    List.[]
+
 abbrev pub t24 : List.List Row.Entry
 t24 = e16·1 ∷ e17 ∷ e18·1 ∷ e19·1 ∷ e20 ∷ e21 ∷ e22 ∷ e23 ∷ e24 ∷ e25 ∷ e26 ∷ e27 ∷ e28 ∷ e29 ∷ e30 ∷ e31 ∷ List.[]
+
 abbrev pub t25 : List.List Row.Entry
 t25 = e16·1 ∷ e17 ∷ e18·1 ∷ e19 ∷ e20·1 ∷ e21 ∷ e22 ∷ e23 ∷ e24 ∷ e25 ∷ e26 ∷ e27 ∷ e28 ∷ e29 ∷ e30 ∷ e31 ∷ List.[]
+
 abbrev pub t26 : List.List Row.Entry
-t26 = e0 ∷ e1·1 ∷ e2·1 ∷ e3·1 ∷ e4·1 ∷ e5 ∷ e6·1 ∷ e7·1 ∷ e8·1 ∷ e9·2 ∷ e10·2 ∷ e11·2 ∷ e12·1 ∷ e13·1 ∷ e14 ∷ e15 ∷ List.[]
+t26 = e0 ∷ e1·1 ∷ e2·1 ∷ e3·1 ∷ e4·1 ∷ e5 ∷ e6·1 ∷ e7·1 ∷ e8·1 ∷ e9·2 ∷ e10·2 ∷ e11·2 ∷ e12·1 ∷ e13·1 ∷ e14 ∷ e15 ∷
+    List.[]
+
 abbrev pub t27 : List.List Row.Entry
 t27 = e16·1 ∷ e17 ∷ e18·1 ∷ e19 ∷ e20·1 ∷ e21·1 ∷ e22 ∷ e23 ∷ e24 ∷ e25 ∷ e26 ∷ e27 ∷ e28 ∷ e29 ∷ e30 ∷ e31 ∷ List.[]
+
 abbrev pub t28 : List.List Row.Entry
 t28 = e16·1 ∷ e17 ∷ e18·1 ∷ e19 ∷ e20·1 ∷ e21 ∷ e22·1 ∷ e23 ∷ e24 ∷ e25 ∷ e26 ∷ e27 ∷ e28 ∷ e29 ∷ e30 ∷ e31 ∷ List.[]
+
 abbrev pub t29 : List.List Row.Entry
-t29 = e0 ∷ e1·1 ∷ e2·1 ∷ e3·1 ∷ e4·1 ∷ e5·1 ∷ e6·1 ∷ e7·1 ∷ e8·1 ∷ e9·2 ∷ e10·2 ∷ e11·2 ∷ e12·1 ∷ e13·1 ∷ e14 ∷ e15 ∷ List.[]
+t29 = e0 ∷ e1·1 ∷ e2·1 ∷ e3·1 ∷ e4·1 ∷ e5·1 ∷ e6·1 ∷ e7·1 ∷ e8·1 ∷ e9·2 ∷ e10·2 ∷ e11·2 ∷ e12·1 ∷ e13·1 ∷ e14 ∷ e15 ∷
+    List.[]
+
 abbrev pub t30 : List.List Row.Entry
 t30 = e16·1 ∷ e17 ∷ e18·1 ∷ e19 ∷ e20·1 ∷ e21 ∷ e22·1 ∷ e23·1 ∷ e24 ∷ e25 ∷ e26 ∷ e27 ∷ e28 ∷ e29 ∷ e30 ∷ e31 ∷ List.[]
+
 abbrev pub t31 : List.List Row.Entry
 t31 = e16·1 ∷ e17 ∷ e18·1 ∷ e19 ∷ e20·1 ∷ e21 ∷ e22·1 ∷ e23 ∷ e24·1 ∷ e25 ∷ e26 ∷ e27 ∷ e28 ∷ e29 ∷ e30 ∷ e31 ∷ List.[]
+
 abbrev pub t32 : List.List Row.Entry
-t32 = e0 ∷ e1·1 ∷ e2·1 ∷ e3·1 ∷ e4·1 ∷ e5·1 ∷ e6·1 ∷ e7·1 ∷ e8·1 ∷ e9·3 ∷ e10·2 ∷ e11·2 ∷ e12·1 ∷ e13·1 ∷ e14 ∷ e15 ∷ List.[]
+t32 = e0 ∷ e1·1 ∷ e2·1 ∷ e3·1 ∷ e4·1 ∷ e5·1 ∷ e6·1 ∷ e7·1 ∷ e8·1 ∷ e9·3 ∷ e10·2 ∷ e11·2 ∷ e12·1 ∷ e13·1 ∷ e14 ∷ e15 ∷
+    List.[]
+
 abbrev pub t33 : List.List Row.Entry
-t33 = e16·1 ∷ e17 ∷ e18·1 ∷ e19 ∷ e20·1 ∷ e21 ∷ e22·1 ∷ e23 ∷ e24·1 ∷ e25·1 ∷ e26 ∷ e27 ∷ e28 ∷ e29 ∷ e30 ∷ e31 ∷ List.[]
+t33 = e16·1 ∷ e17 ∷ e18·1 ∷ e19 ∷ e20·1 ∷ e21 ∷ e22·1 ∷ e23 ∷ e24·1 ∷ e25·1 ∷ e26 ∷ e27 ∷ e28 ∷ e29 ∷ e30 ∷ e31 ∷
+    List.[]
+
 abbrev pub t34 : List.List Row.Entry
-t34 = e16·1 ∷ e17 ∷ e18·1 ∷ e19 ∷ e20·1 ∷ e21 ∷ e22·1 ∷ e23 ∷ e24·1 ∷ e25 ∷ e26·1 ∷ e27 ∷ e28 ∷ e29 ∷ e30 ∷ e31 ∷ List.[]
+t34 = e16·1 ∷ e17 ∷ e18·1 ∷ e19 ∷ e20·1 ∷ e21 ∷ e22·1 ∷ e23 ∷ e24·1 ∷ e25 ∷ e26·1 ∷ e27 ∷ e28 ∷ e29 ∷ e30 ∷ e31 ∷
+    List.[]
+
 abbrev pub t35 : List.List Row.Entry
-t35 = e0 ∷ e1·1 ∷ e2·1 ∷ e3·1 ∷ e4·1 ∷ e5·1 ∷ e6·1 ∷ e7·1 ∷ e8·2 ∷ e9·3 ∷ e10·2 ∷ e11·2 ∷ e12·1 ∷ e13·1 ∷ e14 ∷ e15 ∷ List.[]
+t35 = e0 ∷ e1·1 ∷ e2·1 ∷ e3·1 ∷ e4·1 ∷ e5·1 ∷ e6·1 ∷ e7·1 ∷ e8·2 ∷ e9·3 ∷ e10·2 ∷ e11·2 ∷ e12·1 ∷ e13·1 ∷ e14 ∷ e15 ∷
+    List.[]
+
 abbrev pub t36 : List.List Row.Entry
-t36 = e16·1 ∷ e17 ∷ e18·1 ∷ e19 ∷ e20·1 ∷ e21 ∷ e22·1 ∷ e23 ∷ e24·1 ∷ e25 ∷ e26·1 ∷ e27·1 ∷ e28 ∷ e29 ∷ e30 ∷ e31 ∷ List.[]
+t36 = e16·1 ∷ e17 ∷ e18·1 ∷ e19 ∷ e20·1 ∷ e21 ∷ e22·1 ∷ e23 ∷ e24·1 ∷ e25 ∷ e26·1 ∷ e27·1 ∷ e28 ∷ e29 ∷ e30 ∷ e31 ∷
+    List.[]
+
 abbrev pub t37 : List.List Row.Entry
-t37 = e16·1 ∷ e17 ∷ e18·1 ∷ e19 ∷ e20·1 ∷ e21 ∷ e22·1 ∷ e23 ∷ e24·1 ∷ e25 ∷ e26·1 ∷ e27 ∷ e28·1 ∷ e29 ∷ e30 ∷ e31 ∷ List.[]
+t37 = e16·1 ∷ e17 ∷ e18·1 ∷ e19 ∷ e20·1 ∷ e21 ∷ e22·1 ∷ e23 ∷ e24·1 ∷ e25 ∷ e26·1 ∷ e27 ∷ e28·1 ∷ e29 ∷ e30 ∷ e31 ∷
+    List.[]
+
 abbrev pub t38 : List.List Row.Entry
-t38 = e0 ∷ e1·1 ∷ e2·1 ∷ e3·1 ∷ e4·1 ∷ e5·1 ∷ e6·1 ∷ e7·1 ∷ e8·2 ∷ e9·3 ∷ e10·3 ∷ e11·2 ∷ e12·1 ∷ e13·1 ∷ e14 ∷ e15 ∷ List.[]
+t38 = e0 ∷ e1·1 ∷ e2·1 ∷ e3·1 ∷ e4·1 ∷ e5·1 ∷ e6·1 ∷ e7·1 ∷ e8·2 ∷ e9·3 ∷ e10·3 ∷ e11·2 ∷ e12·1 ∷ e13·1 ∷ e14 ∷ e15 ∷
+    List.[]
+
 abbrev pub t39 : List.List Row.Entry
-t39 = e16·1 ∷ e17 ∷ e18·1 ∷ e19 ∷ e20·1 ∷ e21 ∷ e22·1 ∷ e23 ∷ e24·1 ∷ e25 ∷ e26·1 ∷ e27 ∷ e28·1 ∷ e29·1 ∷ e30 ∷ e31 ∷ List.[]
+t39 = e16·1 ∷ e17 ∷ e18·1 ∷ e19 ∷ e20·1 ∷ e21 ∷ e22·1 ∷ e23 ∷ e24·1 ∷ e25 ∷ e26·1 ∷ e27 ∷ e28·1 ∷ e29·1 ∷ e30 ∷ e31 ∷
+    List.[]
+
 abbrev pub t40 : List.List Row.Entry
-t40 = e16·1 ∷ e17 ∷ e18·1 ∷ e19 ∷ e20·1 ∷ e21 ∷ e22·1 ∷ e23 ∷ e24·1 ∷ e25 ∷ e26·1 ∷ e27 ∷ e28·1 ∷ e29 ∷ e30·1 ∷ e31 ∷ List.[]
+t40 = e16·1 ∷ e17 ∷ e18·1 ∷ e19 ∷ e20·1 ∷ e21 ∷ e22·1 ∷ e23 ∷ e24·1 ∷ e25 ∷ e26·1 ∷ e27 ∷ e28·1 ∷ e29 ∷ e30·1 ∷ e31 ∷
+    List.[]
+
 abbrev pub t41 : List.List Row.Entry
-t41 = e0 ∷ e1·1 ∷ e2·1 ∷ e3·1 ∷ e4·1 ∷ e5·1 ∷ e6·1 ∷ e7·1 ∷ e8·2 ∷ e9·3 ∷ e10·3 ∷ e11·3 ∷ e12·1 ∷ e13·1 ∷ e14 ∷ e15 ∷ List.[]
+t41 = e0 ∷ e1·1 ∷ e2·1 ∷ e3·1 ∷ e4·1 ∷ e5·1 ∷ e6·1 ∷ e7·1 ∷ e8·2 ∷ e9·3 ∷ e10·3 ∷ e11·3 ∷ e12·1 ∷ e13·1 ∷ e14 ∷ e15 ∷
+    List.[]
+
 abbrev pub t42 : List.List Row.Entry
-t42 = e16·1 ∷ e17 ∷ e18·1 ∷ e19 ∷ e20·1 ∷ e21 ∷ e22·1 ∷ e23 ∷ e24·1 ∷ e25 ∷ e26·1 ∷ e27 ∷ e28·1 ∷ e29 ∷ e30·1 ∷ e31·1 ∷ List.[]
+t42 = e16·1 ∷ e17 ∷ e18·1 ∷ e19 ∷ e20·1 ∷ e21 ∷ e22·1 ∷ e23 ∷ e24·1 ∷ e25 ∷ e26·1 ∷ e27 ∷ e28·1 ∷ e29 ∷ e30·1 ∷ e31·1 ∷
+    List.[]
+
 abbrev pub t43 : List.List Row.Entry
 t43 = e32·1 ∷ List.[]
+
 abbrev pub t44 : List.List Row.Entry
-t44 = e0·1 ∷ e1·1 ∷ e2·1 ∷ e3·1 ∷ e4·1 ∷ e5·1 ∷ e6·1 ∷ e7·1 ∷ e8·2 ∷ e9·3 ∷ e10·3 ∷ e11·3 ∷ e12·1 ∷ e13·1 ∷ e14 ∷ e15 ∷ List.[]
+t44 = e0·1 ∷ e1·1 ∷ e2·1 ∷ e3·1 ∷ e4·1 ∷ e5·1 ∷ e6·1 ∷ e7·1 ∷ e8·2 ∷ e9·3 ∷ e10·3 ∷ e11·3 ∷ e12·1 ∷ e13·1 ∷ e14 ∷ e15 ∷
+    List.[]
+
 abbrev pub t45 : List.List Row.Entry
-t45 = e16·2 ∷ e17 ∷ e18·2 ∷ e19 ∷ e20·2 ∷ e21 ∷ e22·2 ∷ e23 ∷ e24·2 ∷ e25 ∷ e26·1 ∷ e27 ∷ e28·1 ∷ e29 ∷ e30·1 ∷ e31 ∷ List.[]
+t45 = e16·2 ∷ e17 ∷ e18·2 ∷ e19 ∷ e20·2 ∷ e21 ∷ e22·2 ∷ e23 ∷ e24·2 ∷ e25 ∷ e26·1 ∷ e27 ∷ e28·1 ∷ e29 ∷ e30·1 ∷ e31 ∷
+    List.[]
+
 abbrev pub t46 : List.List Row.Entry
-t46 = e16·2 ∷ e17 ∷ e18·2 ∷ e19 ∷ e20·2 ∷ e21 ∷ e22·2 ∷ e23 ∷ e24·2 ∷ e25 ∷ e26 ∷ e27 ∷ e28·1 ∷ e29 ∷ e30·1 ∷ e31 ∷ List.[]
+t46 = e16·2 ∷ e17 ∷ e18·2 ∷ e19 ∷ e20·2 ∷ e21 ∷ e22·2 ∷ e23 ∷ e24·2 ∷ e25 ∷ e26 ∷ e27 ∷ e28·1 ∷ e29 ∷ e30·1 ∷ e31 ∷
+    List.[]
+
 abbrev pub t47 : List.List Row.Entry
-t47 = e16·2 ∷ e17 ∷ e18·2 ∷ e19 ∷ e20·2 ∷ e21 ∷ e22·2 ∷ e23 ∷ e24·2 ∷ e25 ∷ e26 ∷ e27 ∷ e28 ∷ e29 ∷ e30·1 ∷ e31 ∷ List.[]
+t47 = e16·2 ∷ e17 ∷ e18·2 ∷ e19 ∷ e20·2 ∷ e21 ∷ e22·2 ∷ e23 ∷ e24·2 ∷ e25 ∷ e26 ∷ e27 ∷ e28 ∷ e29 ∷ e30·1 ∷ e31 ∷
+    List.[]
+
 abbrev pub t48 : List.List Row.Entry
 t48 = e16·2 ∷ e17 ∷ e18·2 ∷ e19 ∷ e20·2 ∷ e21 ∷ e22·2 ∷ e23 ∷ e24·2 ∷ e25 ∷ e26 ∷ e27 ∷ e28 ∷ e29 ∷ e30 ∷ e31 ∷ List.[]
+
 abbrev pub t49 : List.List Row.Entry
-t49 = e0·1 ∷ e1·1 ∷ e2·1 ∷ e3·1 ∷ e4·1 ∷ e5·1 ∷ e6·1 ∷ e7 ∷ e8·2 ∷ e9·3 ∷ e10·3 ∷ e11·3 ∷ e12·1 ∷ e13·1 ∷ e14 ∷ e15 ∷ List.[]
+t49 = e0·1 ∷ e1·1 ∷ e2·1 ∷ e3·1 ∷ e4·1 ∷ e5·1 ∷ e6·1 ∷ e7 ∷ e8·2 ∷ e9·3 ∷ e10·3 ∷ e11·3 ∷ e12·1 ∷ e13·1 ∷ e14 ∷ e15 ∷
+    List.[]
+
 abbrev pub t50 : List.List Row.Entry
-t50 = e0·1 ∷ e1·1 ∷ e2·1 ∷ e3·1 ∷ e4·1 ∷ e5·1 ∷ e6·1 ∷ e7 ∷ e8·2 ∷ e9·3 ∷ e10·3 ∷ e11·3 ∷ e12 ∷ e13·1 ∷ e14 ∷ e15 ∷ List.[]
+t50 = e0·1 ∷ e1·1 ∷ e2·1 ∷ e3·1 ∷ e4·1 ∷ e5·1 ∷ e6·1 ∷ e7 ∷ e8·2 ∷ e9·3 ∷ e10·3 ∷ e11·3 ∷ e12 ∷ e13·1 ∷ e14 ∷ e15 ∷
+    List.[]
+
 abbrev pub t51 : List.List Row.Entry
-t51 = e0·1 ∷ e1·1 ∷ e2·1 ∷ e3·1 ∷ e4·1 ∷ e5·1 ∷ e6·1 ∷ e7 ∷ e8·2 ∷ e9·3 ∷ e10·3 ∷ e11·3 ∷ e12 ∷ e13 ∷ e14 ∷ e15 ∷ List.[]
+t51 = e0·1 ∷ e1·1 ∷ e2·1 ∷ e3·1 ∷ e4·1 ∷ e5·1 ∷ e6·1 ∷ e7 ∷ e8·2 ∷ e9·3 ∷ e10·3 ∷ e11·3 ∷ e12 ∷ e13 ∷ e14 ∷ e15 ∷
+    List.[]
+
 abbrev pub t52 : List.List Row.Entry
 t52 = e0·1 ∷ e1 ∷ e2·1 ∷ e3·1 ∷ e4·1 ∷ e5·1 ∷ e6·1 ∷ e7 ∷ e8·2 ∷ e9·3 ∷ e10·3 ∷ e11·3 ∷ e12 ∷ e13 ∷ e14 ∷ e15 ∷ List.[]
+
 abbrev pub t53 : List.List Row.Entry
 t53 = e16 ∷ e17 ∷ e18·2 ∷ e19 ∷ e20·2 ∷ e21 ∷ e22·2 ∷ e23 ∷ e24·2 ∷ e25 ∷ e26 ∷ e27 ∷ e28 ∷ e29 ∷ e30 ∷ e31 ∷ List.[]
+
 abbrev pub t54 : List.List Row.Entry
 t54 = e0·1 ∷ e1 ∷ e2 ∷ e3·1 ∷ e4·1 ∷ e5·1 ∷ e6·1 ∷ e7 ∷ e8·2 ∷ e9·3 ∷ e10·3 ∷ e11·3 ∷ e12 ∷ e13 ∷ e14 ∷ e15 ∷ List.[]
+
 abbrev pub t55 : List.List Row.Entry
 t55 = e16 ∷ e17 ∷ e18 ∷ e19 ∷ e20·2 ∷ e21 ∷ e22·2 ∷ e23 ∷ e24·2 ∷ e25 ∷ e26 ∷ e27 ∷ e28 ∷ e29 ∷ e30 ∷ e31 ∷ List.[]
+
 abbrev pub t56 : List.List Row.Entry
 t56 = e0·1 ∷ e1 ∷ e2 ∷ e3 ∷ e4·1 ∷ e5·1 ∷ e6·1 ∷ e7 ∷ e8·2 ∷ e9·3 ∷ e10·3 ∷ e11·3 ∷ e12 ∷ e13 ∷ e14 ∷ e15 ∷ List.[]
+
 abbrev pub t57 : List.List Row.Entry
 t57 = e16 ∷ e17 ∷ e18 ∷ e19 ∷ e20 ∷ e21 ∷ e22·2 ∷ e23 ∷ e24·2 ∷ e25 ∷ e26 ∷ e27 ∷ e28 ∷ e29 ∷ e30 ∷ e31 ∷ List.[]
+
 abbrev pub t58 : List.List Row.Entry
 t58 = e0·1 ∷ e1 ∷ e2 ∷ e3 ∷ e4 ∷ e5·1 ∷ e6·1 ∷ e7 ∷ e8·2 ∷ e9·3 ∷ e10·3 ∷ e11·3 ∷ e12 ∷ e13 ∷ e14 ∷ e15 ∷ List.[]
+
 abbrev pub t59 : List.List Row.Entry
 t59 = e16 ∷ e17 ∷ e18 ∷ e19 ∷ e20 ∷ e21 ∷ e22 ∷ e23 ∷ e24·2 ∷ e25 ∷ e26 ∷ e27 ∷ e28 ∷ e29 ∷ e30 ∷ e31 ∷ List.[]
+
 abbrev pub t60 : List.List Row.Entry
 t60 = e0·1 ∷ e1 ∷ e2 ∷ e3 ∷ e4 ∷ e5 ∷ e6·1 ∷ e7 ∷ e8·2 ∷ e9·3 ∷ e10·3 ∷ e11·3 ∷ e12 ∷ e13 ∷ e14 ∷ e15 ∷ List.[]
+
 abbrev pub t61 : List.List Row.Entry
 t61 = e0·1 ∷ e1 ∷ e2 ∷ e3 ∷ e4 ∷ e5 ∷ e6·1 ∷ e7 ∷ e8·2 ∷ e9·2 ∷ e10·3 ∷ e11·3 ∷ e12 ∷ e13 ∷ e14 ∷ e15 ∷ List.[]
+
 abbrev pub t62 : List.List Row.Entry
 t62 = e0·1 ∷ e1 ∷ e2 ∷ e3 ∷ e4 ∷ e5 ∷ e6·1 ∷ e7 ∷ e8·2 ∷ e9 ∷ e10·3 ∷ e11·3 ∷ e12 ∷ e13 ∷ e14 ∷ e15 ∷ List.[]
+
 abbrev pub t63 : List.List Row.Entry
 t63 = e0·1 ∷ e1 ∷ e2 ∷ e3 ∷ e4 ∷ e5 ∷ e6·1 ∷ e7 ∷ e8·1 ∷ e9 ∷ e10·3 ∷ e11·3 ∷ e12 ∷ e13 ∷ e14 ∷ e15 ∷ List.[]
+
 abbrev pub t64 : List.List Row.Entry
 t64 = e0·1 ∷ e1 ∷ e2 ∷ e3 ∷ e4 ∷ e5 ∷ e6·1 ∷ e7 ∷ e8 ∷ e9 ∷ e10·3 ∷ e11·3 ∷ e12 ∷ e13 ∷ e14 ∷ e15 ∷ List.[]
+
 abbrev pub t65 : List.List Row.Entry
 t65 = e0·1 ∷ e1 ∷ e2 ∷ e3 ∷ e4 ∷ e5 ∷ e6·1 ∷ e7 ∷ e8 ∷ e9 ∷ e10·2 ∷ e11·3 ∷ e12 ∷ e13 ∷ e14 ∷ e15 ∷ List.[]
+
 abbrev pub t66 : List.List Row.Entry
 t66 = e0·1 ∷ e1 ∷ e2 ∷ e3 ∷ e4 ∷ e5 ∷ e6·1 ∷ e7 ∷ e8 ∷ e9 ∷ e10 ∷ e11·3 ∷ e12 ∷ e13 ∷ e14 ∷ e15 ∷ List.[]
+
 abbrev pub t67 : List.List Row.Entry
 t67 = e0·1 ∷ e1 ∷ e2 ∷ e3 ∷ e4 ∷ e5 ∷ e6·1 ∷ e7 ∷ e8 ∷ e9 ∷ e10 ∷ e11·2 ∷ e12 ∷ e13 ∷ e14 ∷ e15 ∷ List.[]
+
 abbrev pub T0 : Row.Cx
 T0 = record { locals = List._++_ t0 (List._++_ t1 t2); slots = List.[] }
+
 abbrev pub T1 : Row.Cx
 T1 = record { locals = List._++_ t3 (List._++_ t1 t2); slots = List.[] }
+
 abbrev pub T2 : Row.Cx
 T2 = record { locals = List._++_ t0 (List._++_ t1 t2); slots = List.[] }
+
 abbrev pub T3 : Row.Cx
 T3 = record { locals = List._++_ t4 (List._++_ t1 t2); slots = List.[] }
+
 abbrev pub T4 : Row.Cx
 T4 = record { locals = List._++_ t5 (List._++_ t1 t2); slots = List.[] }
+
 abbrev pub T5 : Row.Cx
 T5 = record { locals = List._++_ t6 (List._++_ t1 t2); slots = List.[] }
+
 abbrev pub T6 : Row.Cx
 T6 = record { locals = List._++_ t7 (List._++_ t1 t2); slots = List.[] }
+
 abbrev pub T7 : Row.Cx
 T7 = record { locals = List._++_ t8 (List._++_ t1 t2); slots = List.[] }
+
 abbrev pub T8 : Row.Cx
 T8 = record { locals = List._++_ t9 (List._++_ t1 t2); slots = List.[] }
+
 abbrev pub T9 : Row.Cx
 T9 = record { locals = List._++_ t10 (List._++_ t1 t2); slots = List.[] }
+
 abbrev pub T10 : Row.Cx
 T10 = record { locals = List._++_ t11 (List._++_ t1 t2); slots = List.[] }
+
 abbrev pub T11 : Row.Cx
 T11 = record { locals = List._++_ t12 (List._++_ t1 t2); slots = List.[] }
+
 abbrev pub T12 : Row.Cx
 T12 = record { locals = List._++_ t13 (List._++_ t1 t2); slots = List.[] }
+
 abbrev pub T13 : Row.Cx
 T13 = record { locals = List._++_ t14 (List._++_ t1 t2); slots = List.[] }
+
 abbrev pub T14 : Row.Cx
 T14 = record { locals = List._++_ t15 (List._++_ t1 t2); slots = List.[] }
+
 abbrev pub T15 : Row.Cx
 T15 = record { locals = List._++_ t16 (List._++_ t1 t2); slots = List.[] }
+
 abbrev pub T17 : Row.Cx
 T17 = record { locals = List._++_ t17 (List._++_ t1 t2); slots = List.[] }
+
 abbrev pub T18 : Row.Cx
 T18 = record { locals = List._++_ t18 (List._++_ t19 t2); slots = List.[] }
+
 abbrev pub T20 : Row.Cx
 T20 = record { locals = List._++_ t20 (List._++_ t21 t2); slots = List.[] }
+
 abbrev pub T21 : Row.Cx
 T21 = record { locals = List._++_ t20 (List._++_ t22 t2); slots = List.[] }
+
 abbrev pub T23 : Row.Cx
 T23 = record { locals = List._++_ t23 (List._++_ t24 t2); slots = List.[] }
+
 abbrev pub T24 : Row.Cx
 T24 = record { locals = List._++_ t23 (List._++_ t25 t2); slots = List.[] }
+
 abbrev pub T26 : Row.Cx
 T26 = record { locals = List._++_ t26 (List._++_ t27 t2); slots = List.[] }
+
 abbrev pub T27 : Row.Cx
 T27 = record { locals = List._++_ t26 (List._++_ t28 t2); slots = List.[] }
+
 abbrev pub T29 : Row.Cx
 T29 = record { locals = List._++_ t29 (List._++_ t30 t2); slots = List.[] }
+
 abbrev pub T30 : Row.Cx
 T30 = record { locals = List._++_ t29 (List._++_ t31 t2); slots = List.[] }
+
 abbrev pub T32 : Row.Cx
 T32 = record { locals = List._++_ t32 (List._++_ t33 t2); slots = List.[] }
+
 abbrev pub T33 : Row.Cx
 T33 = record { locals = List._++_ t32 (List._++_ t34 t2); slots = List.[] }
+
 abbrev pub T35 : Row.Cx
 T35 = record { locals = List._++_ t35 (List._++_ t36 t2); slots = List.[] }
+
 abbrev pub T36 : Row.Cx
 T36 = record { locals = List._++_ t35 (List._++_ t37 t2); slots = List.[] }
+
 abbrev pub T38 : Row.Cx
 T38 = record { locals = List._++_ t38 (List._++_ t39 t2); slots = List.[] }
+
 abbrev pub T39 : Row.Cx
 T39 = record { locals = List._++_ t38 (List._++_ t40 t2); slots = List.[] }
+
 abbrev pub T41 : Row.Cx
 T41 = record { locals = List._++_ t41 (List._++_ t42 t2); slots = List.[] }
+
 abbrev pub T42 : Row.Cx
 T42 = record { locals = List._++_ t41 (List._++_ t40 t43); slots = List.[] }
+
 abbrev pub T43 : Row.Cx
 T43 = record { locals = List._++_ t44 (List._++_ t45 t43); slots = List.[] }
+
 abbrev pub T44 : Row.Cx
 T44 = record { locals = List._++_ t44 (List._++_ t46 t43); slots = List.[] }
+
 abbrev pub T45 : Row.Cx
 T45 = record { locals = List._++_ t44 (List._++_ t47 t43); slots = List.[] }
+
 abbrev pub T46 : Row.Cx
 T46 = record { locals = List._++_ t44 (List._++_ t48 t43); slots = List.[] }
+
 abbrev pub T47 : Row.Cx
 T47 = record { locals = List._++_ t44 (List._++_ t48 t2); slots = List.[] }
+
 abbrev pub T48 : Row.Cx
 T48 = record { locals = List._++_ t49 (List._++_ t48 t2); slots = List.[] }
+
 abbrev pub T49 : Row.Cx
 T49 = record { locals = List._++_ t50 (List._++_ t48 t2); slots = List.[] }
+
 abbrev pub T50 : Row.Cx
 T50 = record { locals = List._++_ t51 (List._++_ t48 t2); slots = List.[] }
+
 abbrev pub T52 : Row.Cx
 T52 = record { locals = List._++_ t52 (List._++_ t53 t2); slots = List.[] }
+
 abbrev pub T55 : Row.Cx
 T55 = record { locals = List._++_ t54 (List._++_ t55 t2); slots = List.[] }
+
 abbrev pub T58 : Row.Cx
 T58 = record { locals = List._++_ t56 (List._++_ t57 t2); slots = List.[] }
+
 abbrev pub T61 : Row.Cx
 T61 = record { locals = List._++_ t58 (List._++_ t59 t2); slots = List.[] }
+
 abbrev pub T64 : Row.Cx
 T64 = record { locals = List._++_ t60 (List._++_ t1 t2); slots = List.[] }
+
 abbrev pub T65 : Row.Cx
 T65 = record { locals = List._++_ t60 (List._++_ t1 t2); slots = List.[] }
+
 abbrev pub T68 : Row.Cx
 T68 = record { locals = List._++_ t61 (List._++_ t1 t2); slots = List.[] }
+
 abbrev pub T70 : Row.Cx
 T70 = record { locals = List._++_ t62 (List._++_ t1 t2); slots = List.[] }
+
 abbrev pub T72 : Row.Cx
 T72 = record { locals = List._++_ t63 (List._++_ t1 t2); slots = List.[] }
+
 abbrev pub T74 : Row.Cx
 T74 = record { locals = List._++_ t64 (List._++_ t1 t2); slots = List.[] }
+
 abbrev pub T76 : Row.Cx
 T76 = record { locals = List._++_ t65 (List._++_ t1 t2); slots = List.[] }
+
 abbrev pub T78 : Row.Cx
 T78 = record { locals = List._++_ t66 (List._++_ t1 t2); slots = List.[] }
+
 abbrev pub T80 : Row.Cx
 T80 = record { locals = List._++_ t67 (List._++_ t1 t2); slots = List.[] }
+
 abbrev pub T82 : Row.Cx
 T82 = record { locals = List._++_ t3 (List._++_ t1 t2); slots = List.[] }
+
 abbrev pub O0 : Typed.Outs
 O0 = record { next = Option.none; exits = List.[]; returns = Option.some T1 }
+
 module _ (claims· : Claims) where
   abbrev s0 : (bs : List.List Nat.ℕ) → Typed.Gives T0 T2
   s0 = λ bs. Know.k-sl-known (Referent.fInt Syntax.w32) T0 5 4 ref13 Row.off 0 λ x. x
+
   abbrev s1 : (bs : List.List Nat.ℕ) → Typed.Both T2 T3
   s1 = λ bs. Call.callB ps·0 r·0 (claims· .0) (claims· .1) T2 tt 7 List.[] Laws'.mir
+
   abbrev s2 : (bs : List.List Nat.ℕ) → Typed.Both T3 T4
-  s2 = λ bs. Call.callB ps·1 r·1 (claims· .2) (claims· .3) T3 tt 14 List.[] (Syntax.tyArray (Syntax.tyInt Syntax.w8) 103)
+  s2 = λ bs. Call.callB ps·1 r·1 (claims· .2) (claims· .3) T3 tt 14 List.[]
+      (Syntax.tyArray (Syntax.tyInt Syntax.w8) 103)
+
   abbrev s3 : (bs : List.List Nat.ℕ) → Typed.Mo T4 → Typed.Mo T5
-  s3 = λ bs. LocalCopy.n-val-copy T4 14 8 (Array'.Array (Referent.rtF (Referent.fInt Syntax.w8)) 103) (Rows.arrF (Referent.rtF (Referent.fInt
-      Syntax.w8)) 103 0) (Rows.arrF (Referent.rtF (Referent.fInt Syntax.w8)) 103 0) (λ x. x) (λ x. x) λ x. x
+  s3 = λ bs. LocalCopy.n-val-copy T4 14 8 (Array'.Array (Referent.rtF (Referent.fInt Syntax.w8)) 103)
+      (Rows.arrF (Referent.rtF (Referent.fInt Syntax.w8)) 103 0)
+      (Rows.arrF (Referent.rtF (Referent.fInt Syntax.w8)) 103 0) (λ x. x) (λ x. x) λ x. x
+
   abbrev s4 : (bs : List.List Nat.ℕ) → Typed.Mo T5 → Typed.Mo T6
   s4 = λ bs. Scalar.n-room T5 14 (Syntax.tyArray (Syntax.tyInt Syntax.w8) 103)
+
   abbrev s5 : (bs : List.List Nat.ℕ) → Typed.Mo T6 → Typed.Mo T7
   s5 = λ bs. Make.n-make (Array'.Array (Referent.rtF (Referent.fInt Syntax.w8)) 1) T6 9 λ m. 1 ∷ List.[]
+
   abbrev s6 : (bs : List.List Nat.ℕ) → Typed.Mo T7 → Typed.Mo T8
   s6 = λ bs. AtSlots.n-as-by T7 9 (Rows.arrF (Referent.rtF (Referent.fInt Syntax.w8)) 1 0) λ x. x
+
   abbrev s7 : (bs : List.List Nat.ℕ) → Typed.Mo T8 → Typed.Mo T9
   s7 = λ bs. Make.n-make (Array'.Array (Referent.rtF (Referent.fInt Syntax.w8)) 1) T8 10 λ m. 2 ∷ List.[]
+
   abbrev s8 : (bs : List.List Nat.ℕ) → Typed.Mo T9 → Typed.Mo T10
   s8 = λ bs. AtSlots.n-as-by T9 10 (Rows.arrF (Referent.rtF (Referent.fInt Syntax.w8)) 1 0) λ x. x
+
   abbrev s9 : (bs : List.List Nat.ℕ) → Typed.Mo T10 → Typed.Mo T11
-  s9 = λ bs. Make.n-make (Array'.Array (Referent.rtF (Referent.fInt Syntax.w8)) 8) T10 11 λ m. 0 ∷ 0 ∷ 0 ∷ 0 ∷ 0 ∷ 0 ∷ 0 ∷ 7 ∷ List.[]
+  s9 = λ bs. Make.n-make (Array'.Array (Referent.rtF (Referent.fInt Syntax.w8)) 8) T10 11 λ m. 0 ∷ 0 ∷ 0 ∷ 0 ∷ 0 ∷ 0 ∷
+      0 ∷ 7 ∷ List.[]
+
   abbrev s10 : (bs : List.List Nat.ℕ) → Typed.Mo T11 → Typed.Mo T12
   s10 = λ bs. AtSlots.n-as-by T11 11 (Rows.arrF (Referent.rtF (Referent.fInt Syntax.w8)) 8 0) λ x. x
+
   abbrev s11 : (bs : List.List Nat.ℕ) → Typed.Both T12 T13
-  s11 = λ bs. WayStmt.k-way-copy-out T12 (Row.out 6 (T12 .locals)) (λ u. Row.drop 6 (T12 .locals) u) 12 (Rows'.whole (Declared.row
-      OpaqueRelayRuntime.the-type)) (λ u. At.getAt (Relayed.the-type .parts) 0 (Relayed.struct .as-values (u .1 .1 .1 .1 .1 .1 .0))) (λ T′. record {
-      locals = Row.setRow 6 (6, Rows'.whole (Declared.row Relayed.the-type)) T′; slots = List.[]; }) (λ u T′ m′. Row.set 6 (6, Rows'.whole
-      (Declared.row Relayed.the-type)) (u .1 .1 .1 .1 .1 .1 .0) T′ m′) (λ u. Unit) λ u. Unit
+  s11 = λ bs. WayStmt.k-way-copy-out T12 (Row.out 6 (T12 .locals)) (λ u. Row.drop 6 (T12 .locals) u) 12
+      (Rows'.whole (Declared.row OpaqueRelayRuntime.the-type)) (λ u. At.getAt (Relayed.the-type .parts) 0
+      (Relayed.struct .as-values (u .1 .1 .1 .1 .1 .1 .0))) (λ T′.
+      record { locals = Row.setRow 6 (6, Rows'.whole (Declared.row Relayed.the-type)) T′; slots = List.[] }) (λ u T′
+      m′. Row.set 6 (6, Rows'.whole (Declared.row Relayed.the-type)) (u .1 .1 .1 .1 .1 .1 .0) T′ m′) (λ u. Unit) λ u.
+      Unit
+
   abbrev s12 : (bs : List.List Nat.ℕ) → Typed.Both T13 T14
-  s12 = λ bs. WayStmt.k-way-copy-out T13 (Row.out 6 (T13 .locals)) (λ u. Row.drop 6 (T13 .locals) u) 13 (Rows'.whole (Declared.row Places.the-type))
-      (λ u. At.getAt (Relayed.the-type .parts) 3 (Relayed.struct .as-values (u .1 .1 .1 .1 .1 .1 .0))) (λ T′. record { locals = Row.setRow 6 (6,
-      Rows'.whole (Declared.row Relayed.the-type)) T′; slots = List.[]; }) (λ u T′ m′. Row.set 6 (6, Rows'.whole (Declared.row Relayed.the-type)) (u
-      .1 .1 .1 .1 .1 .1 .0) T′ m′) (λ u. Unit) λ u. Unit
+  s12 = λ bs. WayStmt.k-way-copy-out T13 (Row.out 6 (T13 .locals)) (λ u. Row.drop 6 (T13 .locals) u) 13
+      (Rows'.whole (Declared.row Places.the-type)) (λ u. At.getAt (Relayed.the-type .parts) 3
+      (Relayed.struct .as-values (u .1 .1 .1 .1 .1 .1 .0))) (λ T′.
+      record { locals = Row.setRow 6 (6, Rows'.whole (Declared.row Relayed.the-type)) T′; slots = List.[] }) (λ u T′
+      m′. Row.set 6 (6, Rows'.whole (Declared.row Relayed.the-type)) (u .1 .1 .1 .1 .1 .1 .0) T′ m′) (λ u. Unit) λ u.
+      Unit
+
   abbrev s13 : (bs : List.List Nat.ℕ) → Typed.Mo T14 → Typed.Mo T15
   s13 = λ bs. Scalar.n-room T14 6 Laws'''.mir
+
   abbrev s15 : (bs : List.List Nat.ℕ) → Typed.Gives T15 T17
   s15 = λ bs. Relend.k-sl-relend RelayPending.row T15 1 15 0 5 ref9 ref0 Row.off λ x. x
+
   abbrev s16 : (bs : List.List Nat.ℕ) → Typed.Asks T17 T18
-  s16 = λ bs. Relend.k-sl-aggregate RelayPending.row (Relend.asMut RelayPending.row) T17 15 16 5 ref0 ref0 (λ x. x) (Scalar.oFld 1 ((Syntax.field 1) ∷
-      List.[]) (Syntax.tyInt Syntax.w64) 8 λ v. Shared.lenV (v .0))
+  s16 = λ bs. Relend.k-sl-aggregate RelayPending.row (Relend.asMut RelayPending.row) T17 15 16 5 ref0 ref0 (λ x. x) (Scalar.oFld
+      1 ((Syntax.field 1) ∷ List.[]) (Syntax.tyInt Syntax.w64) 8 λ v. Shared.lenV (v .0))
+
   abbrev s18 : (bs : List.List Nat.ℕ) → Typed.Gives T18 T20
   s18 = λ bs. Relend.k-sl-relend RelayCircuit.row T18 2 17 1 6 ref10 ref1 Row.off λ x. x
+
   abbrev s19 : (bs : List.List Nat.ℕ) → Typed.Asks T20 T21
-  s19 = λ bs. Relend.k-sl-aggregate RelayCircuit.row (Relend.asMut RelayCircuit.row) T20 17 18 6 ref1 ref1 (λ x. x) (Scalar.oFld 2 ((Syntax.field 1) ∷
-      List.[]) (Syntax.tyInt Syntax.w64) 8 λ v. Shared.lenV (v .0))
+  s19 = λ bs. Relend.k-sl-aggregate RelayCircuit.row (Relend.asMut RelayCircuit.row) T20 17 18 6 ref1 ref1 (λ x. x) (Scalar.oFld
+      2 ((Syntax.field 1) ∷ List.[]) (Syntax.tyInt Syntax.w64) 8 λ v. Shared.lenV (v .0))
+
   abbrev s21 : (bs : List.List Nat.ℕ) → Typed.Gives T21 T23
   s21 = λ bs. Relend.k-sl-relend ReservationUsage.row T21 3 19 2 7 ref11 ref2 Row.off λ x. x
+
   abbrev s22 : (bs : List.List Nat.ℕ) → Typed.Asks T23 T24
-  s22 = λ bs. Relend.k-sl-aggregate ReservationUsage.row (Relend.asMut ReservationUsage.row) T23 19 20 7 ref2 ref2 (λ x. x) (Scalar.oFld 3
-      ((Syntax.field 1) ∷ List.[]) (Syntax.tyInt Syntax.w64) 8 λ v. Shared.lenV (v .0))
+  s22 = λ bs. Relend.k-sl-aggregate ReservationUsage.row (Relend.asMut ReservationUsage.row) T23 19 20 7 ref2 ref2
+      (λ x. x) (Scalar.oFld 3 ((Syntax.field 1) ∷ List.[]) (Syntax.tyInt Syntax.w64) 8 λ v. Shared.lenV (v .0))
+
   abbrev s24 : (bs : List.List Nat.ℕ) → Typed.Gives T24 T26
   s24 = λ bs. Relend.k-sl-relend InflightAction.row T24 4 21 3 8 ref12 ref3 Row.off λ x. x
+
   abbrev s25 : (bs : List.List Nat.ℕ) → Typed.Asks T26 T27
-  s25 = λ bs. Relend.k-sl-aggregate InflightAction.row (Relend.asMut InflightAction.row) T26 21 22 8 ref3 ref3 (λ x. x) (Scalar.oFld 4 ((Syntax.field
-      1) ∷ List.[]) (Syntax.tyInt Syntax.w64) 8 λ v. Shared.lenV (v .0))
+  s25 = λ bs. Relend.k-sl-aggregate InflightAction.row (Relend.asMut InflightAction.row) T26 21 22 8 ref3 ref3 (λ x. x) (Scalar.oFld
+      4 ((Syntax.field 1) ∷ List.[]) (Syntax.tyInt Syntax.w64) 8 λ v. Shared.lenV (v .0))
+
   abbrev s27 : (bs : List.List Nat.ℕ) → Typed.Gives T27 T29
   s27 = λ bs. Relend.k-sl-relend (Referent.rtF (Referent.fInt Syntax.w32)) T27 5 23 4 9 ref13 ref4 Row.off λ x. x
+
   abbrev s28 : (bs : List.List Nat.ℕ) → Typed.Asks T29 T30
-  s28 = λ bs. Relend.k-sl-aggregate (Referent.rtF (Referent.fInt Syntax.w32)) (Relend.asMut (Referent.rtF (Referent.fInt Syntax.w32))) T29 23 24 9
-      ref4 ref4 (λ x. x) (Scalar.oFld 5 ((Syntax.field 1) ∷ List.[]) (Syntax.tyInt Syntax.w64) 8 λ v. Shared.lenV (v .0))
+  s28 = λ bs. Relend.k-sl-aggregate (Referent.rtF (Referent.fInt Syntax.w32))
+      (Relend.asMut (Referent.rtF (Referent.fInt Syntax.w32))) T29 23 24 9 ref4 ref4 (λ x. x) (Scalar.oFld 5
+      ((Syntax.field 1) ∷ List.[]) (Syntax.tyInt Syntax.w64) 8 λ v. Shared.lenV (v .0))
+
   abbrev s30 : (bs : List.List Nat.ℕ) → Typed.Gives T30 T32
   s30 = λ bs. Share.k-arr-share (Referent.rtF (Referent.fInt Syntax.w8)) T30 9 25 1 10 ref5 λ x. x
+
   abbrev s31 : (bs : List.List Nat.ℕ) → Typed.Asks T32 T33
-  s31 = λ bs. Relend.k-sl-aggregate (Referent.rtF (Referent.fInt Syntax.w8)) (Relend.asShr (Referent.rtF (Referent.fInt Syntax.w8))) T32 25 26 10 ref5
-      ref6 (λ x. x) (Scalar.oInt Syntax.w64 1)
+  s31 = λ bs. Relend.k-sl-aggregate (Referent.rtF (Referent.fInt Syntax.w8))
+      (Relend.asShr (Referent.rtF (Referent.fInt Syntax.w8))) T32 25 26 10 ref5 ref6 (λ x. x)
+      (Scalar.oInt Syntax.w64 1)
+
   abbrev s33 : (bs : List.List Nat.ℕ) → Typed.Gives T33 T35
   s33 = λ bs. Share.k-arr-share (Referent.rtF (Referent.fInt Syntax.w8)) T33 8 27 103 11 ref7 λ x. x
+
   abbrev s34 : (bs : List.List Nat.ℕ) → Typed.Asks T35 T36
-  s34 = λ bs. Relend.k-sl-aggregate (Referent.rtF (Referent.fInt Syntax.w8)) (Relend.asShr (Referent.rtF (Referent.fInt Syntax.w8))) T35 27 28 11 ref7
-      ref6 (λ x. x) (Scalar.oInt Syntax.w64 103)
+  s34 = λ bs. Relend.k-sl-aggregate (Referent.rtF (Referent.fInt Syntax.w8))
+      (Relend.asShr (Referent.rtF (Referent.fInt Syntax.w8))) T35 27 28 11 ref7 ref6 (λ x. x)
+      (Scalar.oInt Syntax.w64 103)
+
   abbrev s36 : (bs : List.List Nat.ℕ) → Typed.Gives T36 T38
   s36 = λ bs. Share.k-arr-share (Referent.rtF (Referent.fInt Syntax.w8)) T36 10 29 1 12 ref5 λ x. x
+
   abbrev s37 : (bs : List.List Nat.ℕ) → Typed.Asks T38 T39
-  s37 = λ bs. Relend.k-sl-aggregate (Referent.rtF (Referent.fInt Syntax.w8)) (Relend.asShr (Referent.rtF (Referent.fInt Syntax.w8))) T38 29 30 12 ref5
-      ref6 (λ x. x) (Scalar.oInt Syntax.w64 1)
+  s37 = λ bs. Relend.k-sl-aggregate (Referent.rtF (Referent.fInt Syntax.w8))
+      (Relend.asShr (Referent.rtF (Referent.fInt Syntax.w8))) T38 29 30 12 ref5 ref6 (λ x. x)
+      (Scalar.oInt Syntax.w64 1)
+
   abbrev s39 : (bs : List.List Nat.ℕ) → Typed.Gives T39 T41
   s39 = λ bs. Share.k-arr-share (Referent.rtF (Referent.fInt Syntax.w8)) T39 11 31 8 13 ref8 λ x. x
+
   abbrev s40 : (bs : List.List Nat.ℕ) → Typed.Asks T41 T42
-  s40 = λ bs. Relend.k-sl-aggregate (Referent.rtF (Referent.fInt Syntax.w8)) (Relend.asShr (Referent.rtF (Referent.fInt Syntax.w8))) T41 31 32 13 ref8
-      ref6 (λ x. x) (Scalar.oInt Syntax.w64 8)
+  s40 = λ bs. Relend.k-sl-aggregate (Referent.rtF (Referent.fInt Syntax.w8))
+      (Relend.asShr (Referent.rtF (Referent.fInt Syntax.w8))) T41 31 32 13 ref8 ref6 (λ x. x)
+      (Scalar.oInt Syntax.w64 8)
+
   abbrev s41 : (bs : List.List Nat.ℕ) → Typed.Both T42 T43
-  s41 = λ bs. Call.callB ps·2 r·2 (claims· .4) (claims· .5) T42 (record { pos = 16; ty = Syntax.tyRef Syntax.erased Syntax.mut RelayPending.to; ref =
-      λ x. x; }, (record { pos = 18; ty = Syntax.tyRef Syntax.erased Syntax.mut RelayCircuit.to; ref = λ x. x; }, (record { pos = 20; ty =
-      Syntax.tyRef Syntax.erased Syntax.mut ReservationUsage.to; ref = λ x. x; }, (record { pos = 22; ty = Syntax.tyRef Syntax.erased Syntax.mut
-      InflightAction.to; ref = λ x. x; }, (record { pos = 24; ty = Syntax.tyRef Syntax.erased Syntax.mut (Syntax.tyInt Syntax.w32); ref = λ x. x; },
-      (record { pos = 12; st = List.[]; d = 0; at = λ x. x }, (record { pos = 13; st = List.[]; d = 0; at = λ x. x }, (record { pos = 7; st = List.[];
-      d = 0; at = λ x. x }, (record { pos = 26; ty = Syntax.tyRef Syntax.erased Syntax.imm (Syntax.tyInt Syntax.w8); ref = λ x. x; }, (record { pos =
-      28; ty = Syntax.tyRef Syntax.erased Syntax.imm (Syntax.tyInt Syntax.w8); ref = λ x. x; }, (record { pos = 30; ty = Syntax.tyRef Syntax.erased
-      Syntax.imm (Syntax.tyInt Syntax.w8); ref = λ x. x; }, (record { pos = 32; ty = Syntax.tyRef Syntax.erased Syntax.imm (Syntax.tyInt Syntax.w8);
-      ref = λ x. x; }, tt,),),),),),),),),),),),) 0 (5 ∷ 6 ∷ 7 ∷ 8 ∷ 9 ∷ 10 ∷ 11 ∷ 12 ∷ 13 ∷ List.[]) Laws'''.mir
+  s41 = λ bs. Call.callB ps·2 r·2 (claims· .4) (claims· .5) T42 (
+    record { pos = 16; ty = ref0; ref = λ x. x },
+    (
+      record { pos = 18; ty = ref1; ref = λ x. x },
+      (
+        record { pos = 20; ty = ref2; ref = λ x. x },
+        (
+          record { pos = 22; ty = ref3; ref = λ x. x },
+          (
+            record { pos = 24; ty = ref4; ref = λ x. x },
+            (
+              record { pos = 12; st = List.[]; d = 0; at = λ x. x },
+              (
+                record { pos = 13; st = List.[]; d = 0; at = λ x. x },
+                (
+                  record { pos = 7; st = List.[]; d = 0; at = λ x. x },
+                  (
+                    record { pos = 26; ty = ref6; ref = λ x. x },
+                    (
+                      record { pos = 28; ty = ref6; ref = λ x. x },
+                      (
+                        record { pos = 30; ty = ref6; ref = λ x. x },
+                        (record { pos = 32; ty = ref6; ref = λ x. x }, tt),
+                      ),
+                    ),
+                  ),
+                ),
+              ),
+            ),
+          ),
+        ),
+      ),
+    ),
+  ) 0 (5 ∷ 6 ∷ 7 ∷ 8 ∷ 9 ∷ 10 ∷ 11 ∷ 12 ∷ 13 ∷ List.[]) Laws'''.mir
+
   abbrev s42 : (bs : List.List Nat.ℕ) → Typed.Mo T43 → Typed.Mo T44
-  s42 = λ bs. Scalar.n-room T43 26 (Syntax.tyStruct (38 ∷ 91 ∷ 93 ∷ List.[]) (Syntax.tcons ref6 (Syntax.tcons (Syntax.tyInt Syntax.w64) Syntax.tnil)))
+  s42 = λ bs. Scalar.n-room T43 26 slice6
+
   abbrev s43 : (bs : List.List Nat.ℕ) → Typed.Mo T44 → Typed.Mo T45
-  s43 = λ bs. Scalar.n-room T44 28 (Syntax.tyStruct (38 ∷ 91 ∷ 93 ∷ List.[]) (Syntax.tcons ref6 (Syntax.tcons (Syntax.tyInt Syntax.w64) Syntax.tnil)))
+  s43 = λ bs. Scalar.n-room T44 28 slice6
+
   abbrev s44 : (bs : List.List Nat.ℕ) → Typed.Mo T45 → Typed.Mo T46
-  s44 = λ bs. Scalar.n-room T45 30 (Syntax.tyStruct (38 ∷ 91 ∷ 93 ∷ List.[]) (Syntax.tcons ref6 (Syntax.tcons (Syntax.tyInt Syntax.w64) Syntax.tnil)))
+  s44 = λ bs. Scalar.n-room T45 30 slice6
+
   abbrev s45 : (bs : List.List Nat.ℕ) → Typed.Mo T46 → Typed.Mo T47
-  s45 = λ bs. Scalar.n-room T46 32 (Syntax.tyStruct (38 ∷ 91 ∷ 93 ∷ List.[]) (Syntax.tcons ref6 (Syntax.tcons (Syntax.tyInt Syntax.w64) Syntax.tnil)))
+  s45 = λ bs. Scalar.n-room T46 32 slice6
+
   abbrev s46 : (bs : List.List Nat.ℕ) → Typed.Mo T47 → Typed.Mo T48
   s46 = λ bs. Scalar.n-room T47 7 Laws'.mir
+
   abbrev s47 : (bs : List.List Nat.ℕ) → Typed.Mo T48 → Typed.Mo T49
   s47 = λ bs. Scalar.n-room T48 12 Laws''.mir
+
   abbrev s48 : (bs : List.List Nat.ℕ) → Typed.Mo T49 → Typed.Mo T50
   s48 = λ bs. Scalar.n-room T49 13 Laws.mir
+
   abbrev s50 : (bs : List.List Nat.ℕ) → Typed.Both T50 T52
   s50 = λ bs. Relend.k-back-sl RelayPending.row T50 16 1 0 5 ref9 ref0 Row.off (λ x. x) λ x. x
+
   abbrev s53 : (bs : List.List Nat.ℕ) → Typed.Both T52 T55
   s53 = λ bs. Relend.k-back-sl RelayCircuit.row T52 18 2 1 6 ref10 ref1 Row.off (λ x. x) λ x. x
+
   abbrev s56 : (bs : List.List Nat.ℕ) → Typed.Both T55 T58
   s56 = λ bs. Relend.k-back-sl ReservationUsage.row T55 20 3 2 7 ref11 ref2 Row.off (λ x. x) λ x. x
+
   abbrev s59 : (bs : List.List Nat.ℕ) → Typed.Both T58 T61
   s59 = λ bs. Relend.k-back-sl InflightAction.row T58 22 4 3 8 ref12 ref3 Row.off (λ x. x) λ x. x
+
   abbrev s62 : (bs : List.List Nat.ℕ) → Typed.Both T61 T64
-  s62 = λ bs. Relend.k-back-sl (Referent.rtF (Referent.fInt Syntax.w32)) T61 24 5 4 9 ref13 ref4 Row.off (λ x. x) λ x. x
+  s62 = λ bs. Relend.k-back-sl (Referent.rtF (Referent.fInt Syntax.w32)) T61 24 5 4 9 ref13 ref4 Row.off (λ x. x) λ x.
+      x
+
   abbrev s63 : (bs : List.List Nat.ℕ) → Typed.Gives T64 T65
   s63 = λ bs. Know.k-sl-known (Referent.fInt Syntax.w32) T64 5 4 ref13 Row.off 0 λ x. x
+
   abbrev s66 : (bs : List.List Nat.ℕ) → Typed.Mo T65 → Typed.Mo T68
   s66 = λ bs. Share.n-back-arr-shr (Referent.rtF (Referent.fInt Syntax.w8)) T65 9 1 10 λ x. x
+
   abbrev s68 : (bs : List.List Nat.ℕ) → Typed.Mo T68 → Typed.Mo T70
   s68 = λ bs. Scalar.n-room T68 9 (Syntax.tyArray (Syntax.tyInt Syntax.w8) 1)
+
   abbrev s70 : (bs : List.List Nat.ℕ) → Typed.Mo T70 → Typed.Mo T72
   s70 = λ bs. Share.n-back-arr-shr (Referent.rtF (Referent.fInt Syntax.w8)) T70 8 103 11 λ x. x
+
   abbrev s72 : (bs : List.List Nat.ℕ) → Typed.Mo T72 → Typed.Mo T74
   s72 = λ bs. Scalar.n-room T72 8 (Syntax.tyArray (Syntax.tyInt Syntax.w8) 103)
+
   abbrev s74 : (bs : List.List Nat.ℕ) → Typed.Mo T74 → Typed.Mo T76
   s74 = λ bs. Share.n-back-arr-shr (Referent.rtF (Referent.fInt Syntax.w8)) T74 10 1 12 λ x. x
+
   abbrev s76 : (bs : List.List Nat.ℕ) → Typed.Mo T76 → Typed.Mo T78
   s76 = λ bs. Scalar.n-room T76 10 (Syntax.tyArray (Syntax.tyInt Syntax.w8) 1)
+
   abbrev s78 : (bs : List.List Nat.ℕ) → Typed.Mo T78 → Typed.Mo T80
   s78 = λ bs. Share.n-back-arr-shr (Referent.rtF (Referent.fInt Syntax.w8)) T78 11 8 13 λ x. x
+
   abbrev s80 : (bs : List.List Nat.ℕ) → Typed.Mo T80 → Typed.Mo T82
   s80 = λ bs. Scalar.n-room T80 11 (Syntax.tyArray (Syntax.tyInt Syntax.w8) 8)
-  module _ (Pre· : (κs : Lifetimes.Lfts 5) → Kinds.Dens κs ps → Type 0) (Post· : (κs : Lifetimes.Lfts 5) → (a : Kinds.Dens κs ps) → Kinds.Plain 5 ps r
-      κs) where
+
+  module _ (Pre· : (κs : Lifetimes.Lfts 5) → Kinds.Dens κs ps → Type 0) (Post· : (κs : Lifetimes.Lfts 5) →
+      (a : Kinds.Dens κs ps) → Kinds.Plain 5 ps r κs) where
     module _ (M : Type 1) where
       abbrev pub Closed : Type 2
-      Closed = (𝓤 : URA.URA M) (H : Wp.Heap 𝓤) (A : Atoms.Atoms 𝓤) (W : Kit.Given 𝓤 H A) (𝓣 : Wp.Tables 𝓤 H) (known0 : Plain.Known 𝓤 H A W 𝓣 0 ps·0
-          r·0 (claims· .0) (claims· .1) "cases::script::open_packet") (known1 : Plain.Known 𝓤 H A W 𝓣 0 ps·1 r·1 (claims· .2) (claims· .3)
-          "cases::script::open_body") (known2 : Plain.Known 𝓤 H A W 𝓣 9 ps·2 r·2 (claims· .4) (claims· .5) "hnsr_circuit::handle::handle") →
-          Statement.Triple 𝓤 (Wp.WpFn 𝓤 H (𝓣 .C) (𝓣 .Λ) (Function.fnOf 5 ps r xs m hs body)) (Function.plainOf 𝓤 H A 5 ps r Pre· Post·)
+      Closed = (𝓤 : URA.URA M) (H : Wp.Heap 𝓤) (A : Atoms.Atoms 𝓤) (W : Kit.Given 𝓤 H A) (𝓣 : Wp.Tables 𝓤 H) (known0 :
+          Plain.Known 𝓤 H A W 𝓣 0 ps·0 r·0 (claims· .0) (claims· .1) "cases::script::open_packet") (known1 :
+          Plain.Known 𝓤 H A W 𝓣 0 ps·1 r·1 (claims· .2) (claims· .3) "cases::script::open_body") (known2 : Plain.Known
+          𝓤 H A W 𝓣 9 ps·2 r·2 (claims· .4) (claims· .5) "hnsr_circuit::handle::handle") → Statement.Triple 𝓤 (Wp.WpFn
+          𝓤 H (𝓣 .C) (𝓣 .Λ) (Function.fnOf 5 ps r xs m hs body)) (Function.plainOf 𝓤 H A 5 ps r Pre· Post·)
+
     module _ where
       abbrev at0 : (bs : List.List Nat.ℕ) → Typed.TF T82 O0
       at0 = λ bs. Typed.atRet O0
+
       abbrev at1 : (bs : List.List Nat.ℕ) → Typed.TF T80 O0
       at1 = λ bs. λ Ψ. Typed.pass T80 T82 (s80 bs) (at0 bs Ψ)
+
       abbrev at2 : (bs : List.List Nat.ℕ) → Typed.TF T80 O0
       at2 = λ bs. λ Ψ. at1 bs Ψ
+
       abbrev at3 : (bs : List.List Nat.ℕ) → Typed.TF T78 O0
       at3 = λ bs. λ Ψ. Typed.pass T78 T80 (s78 bs) (at2 bs Ψ)
+
       abbrev at4 : (bs : List.List Nat.ℕ) → Typed.TF T78 O0
       at4 = λ bs. λ Ψ. at3 bs Ψ
+
       abbrev at5 : (bs : List.List Nat.ℕ) → Typed.TF T76 O0
       at5 = λ bs. λ Ψ. Typed.pass T76 T78 (s76 bs) (at4 bs Ψ)
+
       abbrev at6 : (bs : List.List Nat.ℕ) → Typed.TF T76 O0
       at6 = λ bs. λ Ψ. at5 bs Ψ
+
       abbrev at7 : (bs : List.List Nat.ℕ) → Typed.TF T74 O0
       at7 = λ bs. λ Ψ. Typed.pass T74 T76 (s74 bs) (at6 bs Ψ)
+
       abbrev at8 : (bs : List.List Nat.ℕ) → Typed.TF T74 O0
       at8 = λ bs. λ Ψ. at7 bs Ψ
+
       abbrev at9 : (bs : List.List Nat.ℕ) → Typed.TF T72 O0
       at9 = λ bs. λ Ψ. Typed.pass T72 T74 (s72 bs) (at8 bs Ψ)
+
       abbrev at10 : (bs : List.List Nat.ℕ) → Typed.TF T72 O0
       at10 = λ bs. λ Ψ. at9 bs Ψ
+
       abbrev at11 : (bs : List.List Nat.ℕ) → Typed.TF T70 O0
       at11 = λ bs. λ Ψ. Typed.pass T70 T72 (s70 bs) (at10 bs Ψ)
+
       abbrev at12 : (bs : List.List Nat.ℕ) → Typed.TF T70 O0
       at12 = λ bs. λ Ψ. at11 bs Ψ
+
       abbrev at13 : (bs : List.List Nat.ℕ) → Typed.TF T68 O0
       at13 = λ bs. λ Ψ. Typed.pass T68 T70 (s68 bs) (at12 bs Ψ)
+
       abbrev at14 : (bs : List.List Nat.ℕ) → Typed.TF T68 O0
       at14 = λ bs. λ Ψ. at13 bs Ψ
+
       abbrev at15 : (bs : List.List Nat.ℕ) → Typed.TF T65 O0
       at15 = λ bs. λ Ψ. Typed.pass T65 T68 (s66 bs) (at14 bs Ψ)
+
       abbrev at16 : (bs : List.List Nat.ℕ) → Typed.TF T65 O0
       at16 = λ bs. λ Ψ. at15 bs Ψ
+
       abbrev at17 : (bs : List.List Nat.ℕ) → Typed.TF T65 O0
       at17 = λ bs. λ Ψ. at16 bs Ψ
+
       abbrev at18 : (bs : List.List Nat.ℕ) → Typed.TF T64 O0
       at18 = λ bs. λ Ψ. Typed.give (s63 bs) (at17 bs Ψ)
+
       abbrev at19 : (bs : List.List Nat.ℕ) → Typed.TF T61 O0
       at19 = λ bs. λ Ψ. Typed.both (s62 bs) (at18 bs Ψ)
+
       abbrev at20 : (bs : List.List Nat.ℕ) → Typed.TF T61 O0
       at20 = λ bs. λ Ψ. at19 bs Ψ
+
       abbrev at21 : (bs : List.List Nat.ℕ) → Typed.TF T61 O0
       at21 = λ bs. λ Ψ. at20 bs Ψ
+
       abbrev at22 : (bs : List.List Nat.ℕ) → Typed.TF T58 O0
       at22 = λ bs. λ Ψ. Typed.both (s59 bs) (at21 bs Ψ)
+
       abbrev at23 : (bs : List.List Nat.ℕ) → Typed.TF T58 O0
       at23 = λ bs. λ Ψ. at22 bs Ψ
+
       abbrev at24 : (bs : List.List Nat.ℕ) → Typed.TF T58 O0
       at24 = λ bs. λ Ψ. at23 bs Ψ
+
       abbrev at25 : (bs : List.List Nat.ℕ) → Typed.TF T55 O0
       at25 = λ bs. λ Ψ. Typed.both (s56 bs) (at24 bs Ψ)
+
       abbrev at26 : (bs : List.List Nat.ℕ) → Typed.TF T55 O0
       at26 = λ bs. λ Ψ. at25 bs Ψ
+
       abbrev at27 : (bs : List.List Nat.ℕ) → Typed.TF T55 O0
       at27 = λ bs. λ Ψ. at26 bs Ψ
+
       abbrev at28 : (bs : List.List Nat.ℕ) → Typed.TF T52 O0
       at28 = λ bs. λ Ψ. Typed.both (s53 bs) (at27 bs Ψ)
+
       abbrev at29 : (bs : List.List Nat.ℕ) → Typed.TF T52 O0
       at29 = λ bs. λ Ψ. at28 bs Ψ
+
       abbrev at30 : (bs : List.List Nat.ℕ) → Typed.TF T52 O0
       at30 = λ bs. λ Ψ. at29 bs Ψ
+
       abbrev at31 : (bs : List.List Nat.ℕ) → Typed.TF T50 O0
       at31 = λ bs. λ Ψ. Typed.both (s50 bs) (at30 bs Ψ)
+
       abbrev at32 : (bs : List.List Nat.ℕ) → Typed.TF T50 O0
       at32 = λ bs. λ Ψ. at31 bs Ψ
+
       abbrev at33 : (bs : List.List Nat.ℕ) → Typed.TF T49 O0
       at33 = λ bs. λ Ψ. Typed.pass T49 T50 (s48 bs) (at32 bs Ψ)
+
       abbrev at34 : (bs : List.List Nat.ℕ) → Typed.TF T48 O0
       at34 = λ bs. λ Ψ. Typed.pass T48 T49 (s47 bs) (at33 bs Ψ)
+
       abbrev at35 : (bs : List.List Nat.ℕ) → Typed.TF T47 O0
       at35 = λ bs. λ Ψ. Typed.pass T47 T48 (s46 bs) (at34 bs Ψ)
+
       abbrev at36 : (bs : List.List Nat.ℕ) → Typed.TF T46 O0
       at36 = λ bs. λ Ψ. Typed.pass T46 T47 (s45 bs) (at35 bs Ψ)
+
       abbrev at37 : (bs : List.List Nat.ℕ) → Typed.TF T45 O0
       at37 = λ bs. λ Ψ. Typed.pass T45 T46 (s44 bs) (at36 bs Ψ)
+
       abbrev at38 : (bs : List.List Nat.ℕ) → Typed.TF T44 O0
       at38 = λ bs. λ Ψ. Typed.pass T44 T45 (s43 bs) (at37 bs Ψ)
+
       abbrev at39 : (bs : List.List Nat.ℕ) → Typed.TF T43 O0
       at39 = λ bs. λ Ψ. Typed.pass T43 T44 (s42 bs) (at38 bs Ψ)
+
       abbrev at40 : (bs : List.List Nat.ℕ) → Typed.TF T42 O0
       at40 = λ bs. λ Ψ. Typed.both (s41 bs) (at39 bs Ψ)
+
       abbrev at41 : (bs : List.List Nat.ℕ) → Typed.TF T41 O0
       at41 = λ bs. λ Ψ. Typed.ask (s40 bs) (at40 bs Ψ)
+
       abbrev at42 : (bs : List.List Nat.ℕ) → Typed.TF T39 O0
       at42 = λ bs. λ Ψ. Typed.give (s39 bs) (at41 bs Ψ)
+
       abbrev at43 : (bs : List.List Nat.ℕ) → Typed.TF T39 O0
       at43 = λ bs. λ Ψ. at42 bs Ψ
+
       abbrev at44 : (bs : List.List Nat.ℕ) → Typed.TF T38 O0
       at44 = λ bs. λ Ψ. Typed.ask (s37 bs) (at43 bs Ψ)
+
       abbrev at45 : (bs : List.List Nat.ℕ) → Typed.TF T36 O0
       at45 = λ bs. λ Ψ. Typed.give (s36 bs) (at44 bs Ψ)
+
       abbrev at46 : (bs : List.List Nat.ℕ) → Typed.TF T36 O0
       at46 = λ bs. λ Ψ. at45 bs Ψ
+
       abbrev at47 : (bs : List.List Nat.ℕ) → Typed.TF T35 O0
       at47 = λ bs. λ Ψ. Typed.ask (s34 bs) (at46 bs Ψ)
+
       abbrev at48 : (bs : List.List Nat.ℕ) → Typed.TF T33 O0
       at48 = λ bs. λ Ψ. Typed.give (s33 bs) (at47 bs Ψ)
+
       abbrev at49 : (bs : List.List Nat.ℕ) → Typed.TF T33 O0
       at49 = λ bs. λ Ψ. at48 bs Ψ
+
       abbrev at50 : (bs : List.List Nat.ℕ) → Typed.TF T32 O0
       at50 = λ bs. λ Ψ. Typed.ask (s31 bs) (at49 bs Ψ)
+
       abbrev at51 : (bs : List.List Nat.ℕ) → Typed.TF T30 O0
       at51 = λ bs. λ Ψ. Typed.give (s30 bs) (at50 bs Ψ)
+
       abbrev at52 : (bs : List.List Nat.ℕ) → Typed.TF T30 O0
       at52 = λ bs. λ Ψ. at51 bs Ψ
+
       abbrev at53 : (bs : List.List Nat.ℕ) → Typed.TF T29 O0
       at53 = λ bs. λ Ψ. Typed.ask (s28 bs) (at52 bs Ψ)
+
       abbrev at54 : (bs : List.List Nat.ℕ) → Typed.TF T27 O0
       at54 = λ bs. λ Ψ. Typed.give (s27 bs) (at53 bs Ψ)
+
       abbrev at55 : (bs : List.List Nat.ℕ) → Typed.TF T27 O0
       at55 = λ bs. λ Ψ. at54 bs Ψ
+
       abbrev at56 : (bs : List.List Nat.ℕ) → Typed.TF T26 O0
       at56 = λ bs. λ Ψ. Typed.ask (s25 bs) (at55 bs Ψ)
+
       abbrev at57 : (bs : List.List Nat.ℕ) → Typed.TF T24 O0
       at57 = λ bs. λ Ψ. Typed.give (s24 bs) (at56 bs Ψ)
+
       abbrev at58 : (bs : List.List Nat.ℕ) → Typed.TF T24 O0
       at58 = λ bs. λ Ψ. at57 bs Ψ
+
       abbrev at59 : (bs : List.List Nat.ℕ) → Typed.TF T23 O0
       at59 = λ bs. λ Ψ. Typed.ask (s22 bs) (at58 bs Ψ)
+
       abbrev at60 : (bs : List.List Nat.ℕ) → Typed.TF T21 O0
       at60 = λ bs. λ Ψ. Typed.give (s21 bs) (at59 bs Ψ)
+
       abbrev at61 : (bs : List.List Nat.ℕ) → Typed.TF T21 O0
       at61 = λ bs. λ Ψ. at60 bs Ψ
+
       abbrev at62 : (bs : List.List Nat.ℕ) → Typed.TF T20 O0
       at62 = λ bs. λ Ψ. Typed.ask (s19 bs) (at61 bs Ψ)
+
       abbrev at63 : (bs : List.List Nat.ℕ) → Typed.TF T18 O0
       at63 = λ bs. λ Ψ. Typed.give (s18 bs) (at62 bs Ψ)
+
       abbrev at64 : (bs : List.List Nat.ℕ) → Typed.TF T18 O0
       at64 = λ bs. λ Ψ. at63 bs Ψ
+
       abbrev at65 : (bs : List.List Nat.ℕ) → Typed.TF T17 O0
       at65 = λ bs. λ Ψ. Typed.ask (s16 bs) (at64 bs Ψ)
+
       abbrev at66 : (bs : List.List Nat.ℕ) → Typed.TF T15 O0
       at66 = λ bs. λ Ψ. Typed.give (s15 bs) (at65 bs Ψ)
+
       abbrev at67 : (bs : List.List Nat.ℕ) → Typed.TF T15 O0
       at67 = λ bs. λ Ψ. at66 bs Ψ
+
       abbrev at68 : (bs : List.List Nat.ℕ) → Typed.TF T14 O0
       at68 = λ bs. λ Ψ. Typed.pass T14 T15 (s13 bs) (at67 bs Ψ)
+
       abbrev at69 : (bs : List.List Nat.ℕ) → Typed.TF T13 O0
       at69 = λ bs. λ Ψ. Typed.both (s12 bs) (at68 bs Ψ)
+
       abbrev at70 : (bs : List.List Nat.ℕ) → Typed.TF T12 O0
       at70 = λ bs. λ Ψ. Typed.both (s11 bs) (at69 bs Ψ)
+
       abbrev at71 : (bs : List.List Nat.ℕ) → Typed.TF T11 O0
       at71 = λ bs. λ Ψ. Typed.pass T11 T12 (s10 bs) (at70 bs Ψ)
+
       abbrev at72 : (bs : List.List Nat.ℕ) → Typed.TF T10 O0
       at72 = λ bs. λ Ψ. Typed.pass T10 T11 (s9 bs) (at71 bs Ψ)
+
       abbrev at73 : (bs : List.List Nat.ℕ) → Typed.TF T9 O0
       at73 = λ bs. λ Ψ. Typed.pass T9 T10 (s8 bs) (at72 bs Ψ)
+
       abbrev at74 : (bs : List.List Nat.ℕ) → Typed.TF T8 O0
       at74 = λ bs. λ Ψ. Typed.pass T8 T9 (s7 bs) (at73 bs Ψ)
+
       abbrev at75 : (bs : List.List Nat.ℕ) → Typed.TF T7 O0
       at75 = λ bs. λ Ψ. Typed.pass T7 T8 (s6 bs) (at74 bs Ψ)
+
       abbrev at76 : (bs : List.List Nat.ℕ) → Typed.TF T6 O0
       at76 = λ bs. λ Ψ. Typed.pass T6 T7 (s5 bs) (at75 bs Ψ)
+
       abbrev at77 : (bs : List.List Nat.ℕ) → Typed.TF T5 O0
       at77 = λ bs. λ Ψ. Typed.pass T5 T6 (s4 bs) (at76 bs Ψ)
+
       abbrev at78 : (bs : List.List Nat.ℕ) → Typed.TF T4 O0
       at78 = λ bs. λ Ψ. Typed.pass T4 T5 (s3 bs) (at77 bs Ψ)
+
       abbrev at79 : (bs : List.List Nat.ℕ) → Typed.TF T3 O0
       at79 = λ bs. λ Ψ. Typed.both (s2 bs) (at78 bs Ψ)
+
       abbrev at80 : (bs : List.List Nat.ℕ) → Typed.TF T2 O0
       at80 = λ bs. λ Ψ. Typed.both (s1 bs) (at79 bs Ψ)
+
       abbrev at81 : (bs : List.List Nat.ℕ) → Typed.TF T0 O0
       at81 = λ bs. λ Ψ. Typed.give (s0 bs) (at80 bs Ψ)
+
       abbrev pub Φ : (bs : List.List Nat.ℕ) → Typed.TF T0 O0
       Φ = λ bs. at81 bs
-      module _ { M : Type 1 } (𝓤 : URA.URA M) (H : Wp.Heap 𝓤) (A : Atoms.Atoms 𝓤) (W : Kit.Given 𝓤 H A) (𝓣 : Wp.Tables 𝓤 H) where
+
+      module _ {M : Type 1} (𝓤 : URA.URA M) (H : Wp.Heap 𝓤) (A : Atoms.Atoms 𝓤) (W : Kit.Given 𝓤 H A)
+          (𝓣 : Wp.Tables 𝓤 H) where
         abbrev Knowns : Type 1
-        Knowns = Plain.Known 𝓤 H A W 𝓣 0 ps·0 r·0 (claims· .0) (claims· .1) "cases::script::open_packet" × Plain.Known 𝓤 H A W 𝓣 0 ps·1 r·1 (claims·
-            .2) (claims· .3) "cases::script::open_body" × Plain.Known 𝓤 H A W 𝓣 9 ps·2 r·2 (claims· .4) (claims· .5) "hnsr_circuit::handle::handle"
+        Knowns = Plain.Known 𝓤 H A W 𝓣 0 ps·0 r·0 (claims· .0) (claims· .1) "cases::script::open_packet" × Plain.Known
+            𝓤 H A W 𝓣 0 ps·1 r·1 (claims· .2) (claims· .3) "cases::script::open_body" × Plain.Known 𝓤 H A W 𝓣 9 ps·2
+            r·2 (claims· .4) (claims· .5) "hnsr_circuit::handle::handle"
+
       module _ (κs : Lifetimes.Lfts 5) (qs : Lifetimes.Shares 5) where
         abbrev life0 : Row.Life
         life0 = Row.lease (κs .0) (qs .0)
+
         abbrev life1 : Row.Life
         life1 = Row.lease (κs .1 .0) (qs .1 .0)
+
         abbrev life2 : Row.Life
         life2 = Row.lease (κs .1 .1 .0) (qs .1 .1 .0)
+
         abbrev life3 : Row.Life
         life3 = Row.lease (κs .1 .1 .1 .0) (qs .1 .1 .1 .0)
+
         abbrev life4 : Row.Life
         life4 = Row.lease (κs .1 .1 .1 .1 .0) (qs .1 .1 .1 .1 .0)
+
+        abbrev l1 : Row.Entry
+        l1 = (1, Relend.mslice-owed RelayPending.row ref9 0 5 life0)
+
+        abbrev l2 : Row.Entry
+        l2 = (2, Relend.mslice-owed RelayCircuit.row ref10 1 6 life1)
+
+        abbrev l3 : Row.Entry
+        l3 = (3, Relend.mslice-owed ReservationUsage.row ref11 2 7 life2)
+
+        abbrev l4 : Row.Entry
+        l4 = (4, Relend.mslice-owed InflightAction.row ref12 3 8 life3)
+
+        abbrev l5 : Row.Entry
+        l5 = (5, Relend.mslice-owed (Referent.rtF (Referent.fInt Syntax.w32)) ref13 4 9 life4)
+
         abbrev g17 : List.List Row.Entry
-        g17 = (0, Rows'.any-gone Laws'''.mir,) ∷ (1, Relend.mslice-owed RelayPending.row ref9 0 5 life0,) ∷ (2, Mut.mslice RelayCircuit.row ref10 1,)
-            ∷ (3, Mut.mslice ReservationUsage.row ref11 2,) ∷ (4, Mut.mslice InflightAction.row ref12 3,) ∷ (5, Mut.mslice (Referent.rtF
-            (Referent.fInt Syntax.w32)) ref13 4,) ∷ (6, Rows'.any-gone Laws'''.mir,) ∷ (7, Rows'.whole (Declared.row RelayPacket.the-type)) ∷ (8,
-            Rows.arrF (Referent.rtF (Referent.fInt Syntax.w8)) 103 0,) ∷ (9, Rows.arrF (Referent.rtF (Referent.fInt Syntax.w8)) 1 0) ∷ (10, Rows.arrF
-            (Referent.rtF (Referent.fInt Syntax.w8)) 1 0,) ∷ (11, Rows.arrF (Referent.rtF (Referent.fInt Syntax.w8)) 8 0) ∷ (12, Rows'.whole
-            (Declared.row OpaqueRelayRuntime.the-type),) ∷ (13, Rows'.whole (Declared.row Places.the-type)) ∷ (14, Rows'.any-gone (Syntax.tyArray
-            (Syntax.tyInt Syntax.w8) 103),) ∷ (15, Relend.msptr RelayPending.row ref0 5,) ∷ List.[]
+        g17 = e0 ∷ l1 ∷ e2 ∷ e3 ∷ e4 ∷ e5 ∷ e6·1 ∷ e7·1 ∷ e8·1 ∷ e9·2 ∷ e10·2 ∷ e11·2 ∷ e12·1 ∷ e13·1 ∷ e14 ∷ e15·1 ∷
+            List.[]
+
         abbrev g18 : List.List Row.Entry
-        g18 = (0, Rows'.any-gone Laws'''.mir,) ∷ (1, Relend.mslice-owed RelayPending.row ref9 0 5 life0,) ∷ (2, Mut.mslice RelayCircuit.row ref10 1,)
-            ∷ (3, Mut.mslice ReservationUsage.row ref11 2,) ∷ (4, Mut.mslice InflightAction.row ref12 3,) ∷ (5, Mut.mslice (Referent.rtF
-            (Referent.fInt Syntax.w32)) ref13 4,) ∷ (6, Rows'.any-gone Laws'''.mir,) ∷ (7, Rows'.whole (Declared.row RelayPacket.the-type)) ∷ (8,
-            Rows.arrF (Referent.rtF (Referent.fInt Syntax.w8)) 103 0,) ∷ (9, Rows.arrF (Referent.rtF (Referent.fInt Syntax.w8)) 1 0) ∷ (10, Rows.arrF
-            (Referent.rtF (Referent.fInt Syntax.w8)) 1 0,) ∷ (11, Rows.arrF (Referent.rtF (Referent.fInt Syntax.w8)) 8 0) ∷ (12, Rows'.whole
-            (Declared.row OpaqueRelayRuntime.the-type),) ∷ (13, Rows'.whole (Declared.row Places.the-type)) ∷ (14, Rows'.any-gone (Syntax.tyArray
-            (Syntax.tyInt Syntax.w8) 103),) ∷ (15, Rows'.any-gone ref0,) ∷ List.[]
+        g18 = e0 ∷ l1 ∷ e2 ∷ e3 ∷ e4 ∷ e5 ∷ e6·1 ∷ e7·1 ∷ e8·1 ∷ e9·2 ∷ e10·2 ∷ e11·2 ∷ e12·1 ∷ e13·1 ∷ e14 ∷ e15 ∷
+            List.[]
+
         abbrev g20 : List.List Row.Entry
-        g20 = (0, Rows'.any-gone Laws'''.mir,) ∷ (1, Relend.mslice-owed RelayPending.row ref9 0 5 life0,) ∷ (2, Relend.mslice-owed RelayCircuit.row
-            ref10 1 6 life1,) ∷ (3, Mut.mslice ReservationUsage.row ref11 2,) ∷ (4, Mut.mslice InflightAction.row ref12 3,) ∷ (5, Mut.mslice
-            (Referent.rtF (Referent.fInt Syntax.w32)) ref13 4,) ∷ (6, Rows'.any-gone Laws'''.mir,) ∷ (7, Rows'.whole (Declared.row
-            RelayPacket.the-type)) ∷ (8, Rows.arrF (Referent.rtF (Referent.fInt Syntax.w8)) 103 0,) ∷ (9, Rows.arrF (Referent.rtF (Referent.fInt
-            Syntax.w8)) 1 0) ∷ (10, Rows.arrF (Referent.rtF (Referent.fInt Syntax.w8)) 1 0,) ∷ (11, Rows.arrF (Referent.rtF (Referent.fInt Syntax.w8))
-            8 0) ∷ (12, Rows'.whole (Declared.row OpaqueRelayRuntime.the-type),) ∷ (13, Rows'.whole (Declared.row Places.the-type)) ∷ (14,
-            Rows'.any-gone (Syntax.tyArray (Syntax.tyInt Syntax.w8) 103),) ∷ (15, Rows'.any-gone ref0,) ∷ List.[]
+        g20 = e0 ∷ l1 ∷ l2 ∷ e3 ∷ e4 ∷ e5 ∷ e6·1 ∷ e7·1 ∷ e8·1 ∷ e9·2 ∷ e10·2 ∷ e11·2 ∷ e12·1 ∷ e13·1 ∷ e14 ∷ e15 ∷
+            List.[]
+
         abbrev g23 : List.List Row.Entry
-        g23 = (0, Rows'.any-gone Laws'''.mir,) ∷ (1, Relend.mslice-owed RelayPending.row ref9 0 5 life0,) ∷ (2, Relend.mslice-owed RelayCircuit.row
-            ref10 1 6 life1,) ∷ (3, Relend.mslice-owed ReservationUsage.row ref11 2 7 life2,) ∷ (4, Mut.mslice InflightAction.row ref12 3,) ∷ (5,
-            Mut.mslice (Referent.rtF (Referent.fInt Syntax.w32)) ref13 4,) ∷ (6, Rows'.any-gone Laws'''.mir,) ∷ (7, Rows'.whole (Declared.row
-            RelayPacket.the-type)) ∷ (8, Rows.arrF (Referent.rtF (Referent.fInt Syntax.w8)) 103 0,) ∷ (9, Rows.arrF (Referent.rtF (Referent.fInt
-            Syntax.w8)) 1 0) ∷ (10, Rows.arrF (Referent.rtF (Referent.fInt Syntax.w8)) 1 0,) ∷ (11, Rows.arrF (Referent.rtF (Referent.fInt Syntax.w8))
-            8 0) ∷ (12, Rows'.whole (Declared.row OpaqueRelayRuntime.the-type),) ∷ (13, Rows'.whole (Declared.row Places.the-type)) ∷ (14,
-            Rows'.any-gone (Syntax.tyArray (Syntax.tyInt Syntax.w8) 103),) ∷ (15, Rows'.any-gone ref0,) ∷ List.[]
+        g23 = e0 ∷ l1 ∷ l2 ∷ l3 ∷ e4 ∷ e5 ∷ e6·1 ∷ e7·1 ∷ e8·1 ∷ e9·2 ∷ e10·2 ∷ e11·2 ∷ e12·1 ∷ e13·1 ∷ e14 ∷ e15 ∷
+            List.[]
+
         abbrev g26 : List.List Row.Entry
-        g26 = (0, Rows'.any-gone Laws'''.mir,) ∷ (1, Relend.mslice-owed RelayPending.row ref9 0 5 life0,) ∷ (2, Relend.mslice-owed RelayCircuit.row
-            ref10 1 6 life1,) ∷ (3, Relend.mslice-owed ReservationUsage.row ref11 2 7 life2,) ∷ (4, Relend.mslice-owed InflightAction.row ref12 3 8
-            life3,) ∷ (5, Mut.mslice (Referent.rtF (Referent.fInt Syntax.w32)) ref13 4,) ∷ (6, Rows'.any-gone Laws'''.mir,) ∷ (7, Rows'.whole
-            (Declared.row RelayPacket.the-type)) ∷ (8, Rows.arrF (Referent.rtF (Referent.fInt Syntax.w8)) 103 0,) ∷ (9, Rows.arrF (Referent.rtF
-            (Referent.fInt Syntax.w8)) 1 0) ∷ (10, Rows.arrF (Referent.rtF (Referent.fInt Syntax.w8)) 1 0,) ∷ (11, Rows.arrF (Referent.rtF
-            (Referent.fInt Syntax.w8)) 8 0) ∷ (12, Rows'.whole (Declared.row OpaqueRelayRuntime.the-type),) ∷ (13, Rows'.whole (Declared.row
-            Places.the-type)) ∷ (14, Rows'.any-gone (Syntax.tyArray (Syntax.tyInt Syntax.w8) 103),) ∷ (15, Rows'.any-gone ref0,) ∷ List.[]
+        g26 = e0 ∷ l1 ∷ l2 ∷ l3 ∷ l4 ∷ e5 ∷ e6·1 ∷ e7·1 ∷ e8·1 ∷ e9·2 ∷ e10·2 ∷ e11·2 ∷ e12·1 ∷ e13·1 ∷ e14 ∷ e15 ∷
+            List.[]
+
         abbrev g29 : List.List Row.Entry
-        g29 = (0, Rows'.any-gone Laws'''.mir,) ∷ (1, Relend.mslice-owed RelayPending.row ref9 0 5 life0,) ∷ (2, Relend.mslice-owed RelayCircuit.row
-            ref10 1 6 life1,) ∷ (3, Relend.mslice-owed ReservationUsage.row ref11 2 7 life2,) ∷ (4, Relend.mslice-owed InflightAction.row ref12 3 8
-            life3,) ∷ (5, Relend.mslice-owed (Referent.rtF (Referent.fInt Syntax.w32)) ref13 4 9 life4,) ∷ (6, Rows'.any-gone Laws'''.mir,) ∷ (7,
-            Rows'.whole (Declared.row RelayPacket.the-type)) ∷ (8, Rows.arrF (Referent.rtF (Referent.fInt Syntax.w8)) 103 0,) ∷ (9, Rows.arrF
-            (Referent.rtF (Referent.fInt Syntax.w8)) 1 0) ∷ (10, Rows.arrF (Referent.rtF (Referent.fInt Syntax.w8)) 1 0,) ∷ (11, Rows.arrF
-            (Referent.rtF (Referent.fInt Syntax.w8)) 8 0) ∷ (12, Rows'.whole (Declared.row OpaqueRelayRuntime.the-type),) ∷ (13, Rows'.whole
-            (Declared.row Places.the-type)) ∷ (14, Rows'.any-gone (Syntax.tyArray (Syntax.tyInt Syntax.w8) 103),) ∷ (15, Rows'.any-gone ref0,) ∷
+        g29 = e0 ∷ l1 ∷ l2 ∷ l3 ∷ l4 ∷ l5 ∷ e6·1 ∷ e7·1 ∷ e8·1 ∷ e9·2 ∷ e10·2 ∷ e11·2 ∷ e12·1 ∷ e13·1 ∷ e14 ∷ e15 ∷
             List.[]
+
         abbrev g32 : List.List Row.Entry
-        g32 = (0, Rows'.any-gone Laws'''.mir,) ∷ (1, Relend.mslice-owed RelayPending.row ref9 0 5 life0,) ∷ (2, Relend.mslice-owed RelayCircuit.row
-            ref10 1 6 life1,) ∷ (3, Relend.mslice-owed ReservationUsage.row ref11 2 7 life2,) ∷ (4, Relend.mslice-owed InflightAction.row ref12 3 8
-            life3,) ∷ (5, Relend.mslice-owed (Referent.rtF (Referent.fInt Syntax.w32)) ref13 4 9 life4,) ∷ (6, Rows'.any-gone Laws'''.mir,) ∷ (7,
-            Rows'.whole (Declared.row RelayPacket.the-type)) ∷ (8, Rows.arrF (Referent.rtF (Referent.fInt Syntax.w8)) 103 0,) ∷ (9, Rows.arr-shr
-            (Referent.rtF (Referent.fInt Syntax.w8)) 1 10) ∷ (10, Rows.arrF (Referent.rtF (Referent.fInt Syntax.w8)) 1 0,) ∷ (11, Rows.arrF
-            (Referent.rtF (Referent.fInt Syntax.w8)) 8 0) ∷ (12, Rows'.whole (Declared.row OpaqueRelayRuntime.the-type),) ∷ (13, Rows'.whole
-            (Declared.row Places.the-type)) ∷ (14, Rows'.any-gone (Syntax.tyArray (Syntax.tyInt Syntax.w8) 103),) ∷ (15, Rows'.any-gone ref0,) ∷
+        g32 = e0 ∷ l1 ∷ l2 ∷ l3 ∷ l4 ∷ l5 ∷ e6·1 ∷ e7·1 ∷ e8·1 ∷ e9·3 ∷ e10·2 ∷ e11·2 ∷ e12·1 ∷ e13·1 ∷ e14 ∷ e15 ∷
             List.[]
+
         abbrev g35 : List.List Row.Entry
-        g35 = (0, Rows'.any-gone Laws'''.mir,) ∷ (1, Relend.mslice-owed RelayPending.row ref9 0 5 life0,) ∷ (2, Relend.mslice-owed RelayCircuit.row
-            ref10 1 6 life1,) ∷ (3, Relend.mslice-owed ReservationUsage.row ref11 2 7 life2,) ∷ (4, Relend.mslice-owed InflightAction.row ref12 3 8
-            life3,) ∷ (5, Relend.mslice-owed (Referent.rtF (Referent.fInt Syntax.w32)) ref13 4 9 life4,) ∷ (6, Rows'.any-gone Laws'''.mir,) ∷ (7,
-            Rows'.whole (Declared.row RelayPacket.the-type)) ∷ (8, Rows.arr-shr (Referent.rtF (Referent.fInt Syntax.w8)) 103 11,) ∷ (9, Rows.arr-shr
-            (Referent.rtF (Referent.fInt Syntax.w8)) 1 10) ∷ (10, Rows.arrF (Referent.rtF (Referent.fInt Syntax.w8)) 1 0,) ∷ (11, Rows.arrF
-            (Referent.rtF (Referent.fInt Syntax.w8)) 8 0) ∷ (12, Rows'.whole (Declared.row OpaqueRelayRuntime.the-type),) ∷ (13, Rows'.whole
-            (Declared.row Places.the-type)) ∷ (14, Rows'.any-gone (Syntax.tyArray (Syntax.tyInt Syntax.w8) 103),) ∷ (15, Rows'.any-gone ref0,) ∷
+        g35 = e0 ∷ l1 ∷ l2 ∷ l3 ∷ l4 ∷ l5 ∷ e6·1 ∷ e7·1 ∷ e8·2 ∷ e9·3 ∷ e10·2 ∷ e11·2 ∷ e12·1 ∷ e13·1 ∷ e14 ∷ e15 ∷
             List.[]
+
         abbrev g38 : List.List Row.Entry
-        g38 = (0, Rows'.any-gone Laws'''.mir,) ∷ (1, Relend.mslice-owed RelayPending.row ref9 0 5 life0,) ∷ (2, Relend.mslice-owed RelayCircuit.row
-            ref10 1 6 life1,) ∷ (3, Relend.mslice-owed ReservationUsage.row ref11 2 7 life2,) ∷ (4, Relend.mslice-owed InflightAction.row ref12 3 8
-            life3,) ∷ (5, Relend.mslice-owed (Referent.rtF (Referent.fInt Syntax.w32)) ref13 4 9 life4,) ∷ (6, Rows'.any-gone Laws'''.mir,) ∷ (7,
-            Rows'.whole (Declared.row RelayPacket.the-type)) ∷ (8, Rows.arr-shr (Referent.rtF (Referent.fInt Syntax.w8)) 103 11,) ∷ (9, Rows.arr-shr
-            (Referent.rtF (Referent.fInt Syntax.w8)) 1 10) ∷ (10, Rows.arr-shr (Referent.rtF (Referent.fInt Syntax.w8)) 1 12,) ∷ (11, Rows.arrF
-            (Referent.rtF (Referent.fInt Syntax.w8)) 8 0) ∷ (12, Rows'.whole (Declared.row OpaqueRelayRuntime.the-type),) ∷ (13, Rows'.whole
-            (Declared.row Places.the-type)) ∷ (14, Rows'.any-gone (Syntax.tyArray (Syntax.tyInt Syntax.w8) 103),) ∷ (15, Rows'.any-gone ref0,) ∷
+        g38 = e0 ∷ l1 ∷ l2 ∷ l3 ∷ l4 ∷ l5 ∷ e6·1 ∷ e7·1 ∷ e8·2 ∷ e9·3 ∷ e10·3 ∷ e11·2 ∷ e12·1 ∷ e13·1 ∷ e14 ∷ e15 ∷
             List.[]
+
         abbrev g41 : List.List Row.Entry
-        g41 = (0, Rows'.any-gone Laws'''.mir,) ∷ (1, Relend.mslice-owed RelayPending.row ref9 0 5 life0,) ∷ (2, Relend.mslice-owed RelayCircuit.row
-            ref10 1 6 life1,) ∷ (3, Relend.mslice-owed ReservationUsage.row ref11 2 7 life2,) ∷ (4, Relend.mslice-owed InflightAction.row ref12 3 8
-            life3,) ∷ (5, Relend.mslice-owed (Referent.rtF (Referent.fInt Syntax.w32)) ref13 4 9 life4,) ∷ (6, Rows'.any-gone Laws'''.mir,) ∷ (7,
-            Rows'.whole (Declared.row RelayPacket.the-type)) ∷ (8, Rows.arr-shr (Referent.rtF (Referent.fInt Syntax.w8)) 103 11,) ∷ (9, Rows.arr-shr
-            (Referent.rtF (Referent.fInt Syntax.w8)) 1 10) ∷ (10, Rows.arr-shr (Referent.rtF (Referent.fInt Syntax.w8)) 1 12,) ∷ (11, Rows.arr-shr
-            (Referent.rtF (Referent.fInt Syntax.w8)) 8 13) ∷ (12, Rows'.whole (Declared.row OpaqueRelayRuntime.the-type),) ∷ (13, Rows'.whole
-            (Declared.row Places.the-type)) ∷ (14, Rows'.any-gone (Syntax.tyArray (Syntax.tyInt Syntax.w8) 103),) ∷ (15, Rows'.any-gone ref0,) ∷
+        g41 = e0 ∷ l1 ∷ l2 ∷ l3 ∷ l4 ∷ l5 ∷ e6·1 ∷ e7·1 ∷ e8·2 ∷ e9·3 ∷ e10·3 ∷ e11·3 ∷ e12·1 ∷ e13·1 ∷ e14 ∷ e15 ∷
             List.[]
+
         abbrev g44 : List.List Row.Entry
-        g44 = (0, Rows'.whole (Declared.row Relayed.the-type)) ∷ (1, Relend.mslice-owed RelayPending.row ref9 0 5 life0,) ∷ (2, Relend.mslice-owed
-            RelayCircuit.row ref10 1 6 life1,) ∷ (3, Relend.mslice-owed ReservationUsage.row ref11 2 7 life2,) ∷ (4, Relend.mslice-owed
-            InflightAction.row ref12 3 8 life3,) ∷ (5, Relend.mslice-owed (Referent.rtF (Referent.fInt Syntax.w32)) ref13 4 9 life4,) ∷ (6,
-            Rows'.any-gone Laws'''.mir,) ∷ (7, Rows'.whole (Declared.row RelayPacket.the-type)) ∷ (8, Rows.arr-shr (Referent.rtF (Referent.fInt
-            Syntax.w8)) 103 11,) ∷ (9, Rows.arr-shr (Referent.rtF (Referent.fInt Syntax.w8)) 1 10) ∷ (10, Rows.arr-shr (Referent.rtF (Referent.fInt
-            Syntax.w8)) 1 12,) ∷ (11, Rows.arr-shr (Referent.rtF (Referent.fInt Syntax.w8)) 8 13) ∷ (12, Rows'.whole (Declared.row
-            OpaqueRelayRuntime.the-type),) ∷ (13, Rows'.whole (Declared.row Places.the-type)) ∷ (14, Rows'.any-gone (Syntax.tyArray (Syntax.tyInt
-            Syntax.w8) 103),) ∷ (15, Rows'.any-gone ref0,) ∷ List.[]
+        g44 = e0·1 ∷ l1 ∷ l2 ∷ l3 ∷ l4 ∷ l5 ∷ e6·1 ∷ e7·1 ∷ e8·2 ∷ e9·3 ∷ e10·3 ∷ e11·3 ∷ e12·1 ∷ e13·1 ∷ e14 ∷ e15 ∷
+            List.[]
+
         abbrev g49 : List.List Row.Entry
-        g49 = (0, Rows'.whole (Declared.row Relayed.the-type)) ∷ (1, Relend.mslice-owed RelayPending.row ref9 0 5 life0,) ∷ (2, Relend.mslice-owed
-            RelayCircuit.row ref10 1 6 life1,) ∷ (3, Relend.mslice-owed ReservationUsage.row ref11 2 7 life2,) ∷ (4, Relend.mslice-owed
-            InflightAction.row ref12 3 8 life3,) ∷ (5, Relend.mslice-owed (Referent.rtF (Referent.fInt Syntax.w32)) ref13 4 9 life4,) ∷ (6,
-            Rows'.any-gone Laws'''.mir,) ∷ (7, Rows'.any-gone Laws'.mir,) ∷ (8, Rows.arr-shr (Referent.rtF (Referent.fInt Syntax.w8)) 103 11) ∷ (9,
-            Rows.arr-shr (Referent.rtF (Referent.fInt Syntax.w8)) 1 10,) ∷ (10, Rows.arr-shr (Referent.rtF (Referent.fInt Syntax.w8)) 1 12) ∷ (11,
-            Rows.arr-shr (Referent.rtF (Referent.fInt Syntax.w8)) 8 13,) ∷ (12, Rows'.whole (Declared.row OpaqueRelayRuntime.the-type)) ∷ (13,
-            Rows'.whole (Declared.row Places.the-type),) ∷ (14, Rows'.any-gone (Syntax.tyArray (Syntax.tyInt Syntax.w8) 103)) ∷ (15, Rows'.any-gone
-            ref0,) ∷ List.[]
+        g49 = e0·1 ∷ l1 ∷ l2 ∷ l3 ∷ l4 ∷ l5 ∷ e6·1 ∷ e7 ∷ e8·2 ∷ e9·3 ∷ e10·3 ∷ e11·3 ∷ e12·1 ∷ e13·1 ∷ e14 ∷ e15 ∷
+            List.[]
+
         abbrev g50 : List.List Row.Entry
-        g50 = (0, Rows'.whole (Declared.row Relayed.the-type)) ∷ (1, Relend.mslice-owed RelayPending.row ref9 0 5 life0,) ∷ (2, Relend.mslice-owed
-            RelayCircuit.row ref10 1 6 life1,) ∷ (3, Relend.mslice-owed ReservationUsage.row ref11 2 7 life2,) ∷ (4, Relend.mslice-owed
-            InflightAction.row ref12 3 8 life3,) ∷ (5, Relend.mslice-owed (Referent.rtF (Referent.fInt Syntax.w32)) ref13 4 9 life4,) ∷ (6,
-            Rows'.any-gone Laws'''.mir,) ∷ (7, Rows'.any-gone Laws'.mir,) ∷ (8, Rows.arr-shr (Referent.rtF (Referent.fInt Syntax.w8)) 103 11) ∷ (9,
-            Rows.arr-shr (Referent.rtF (Referent.fInt Syntax.w8)) 1 10,) ∷ (10, Rows.arr-shr (Referent.rtF (Referent.fInt Syntax.w8)) 1 12) ∷ (11,
-            Rows.arr-shr (Referent.rtF (Referent.fInt Syntax.w8)) 8 13,) ∷ (12, Rows'.any-gone Laws''.mir,) ∷ (13, Rows'.whole (Declared.row
-            Places.the-type)) ∷ (14, Rows'.any-gone (Syntax.tyArray (Syntax.tyInt Syntax.w8) 103),) ∷ (15, Rows'.any-gone ref0,) ∷ List.[]
+        g50 = e0·1 ∷ l1 ∷ l2 ∷ l3 ∷ l4 ∷ l5 ∷ e6·1 ∷ e7 ∷ e8·2 ∷ e9·3 ∷ e10·3 ∷ e11·3 ∷ e12 ∷ e13·1 ∷ e14 ∷ e15 ∷
+            List.[]
+
         abbrev g51 : List.List Row.Entry
-        g51 = (0, Rows'.whole (Declared.row Relayed.the-type)) ∷ (1, Relend.mslice-owed RelayPending.row ref9 0 5 life0,) ∷ (2, Relend.mslice-owed
-            RelayCircuit.row ref10 1 6 life1,) ∷ (3, Relend.mslice-owed ReservationUsage.row ref11 2 7 life2,) ∷ (4, Relend.mslice-owed
-            InflightAction.row ref12 3 8 life3,) ∷ (5, Relend.mslice-owed (Referent.rtF (Referent.fInt Syntax.w32)) ref13 4 9 life4,) ∷ (6,
-            Rows'.any-gone Laws'''.mir,) ∷ (7, Rows'.any-gone Laws'.mir,) ∷ (8, Rows.arr-shr (Referent.rtF (Referent.fInt Syntax.w8)) 103 11) ∷ (9,
-            Rows.arr-shr (Referent.rtF (Referent.fInt Syntax.w8)) 1 10,) ∷ (10, Rows.arr-shr (Referent.rtF (Referent.fInt Syntax.w8)) 1 12) ∷ (11,
-            Rows.arr-shr (Referent.rtF (Referent.fInt Syntax.w8)) 8 13,) ∷ (12, Rows'.any-gone Laws''.mir,) ∷ (13, Rows'.any-gone Laws.mir,) ∷ (14,
-            Rows'.any-gone (Syntax.tyArray (Syntax.tyInt Syntax.w8) 103)) ∷ (15, Rows'.any-gone ref0,) ∷ List.[]
+        g51 = e0·1 ∷ l1 ∷ l2 ∷ l3 ∷ l4 ∷ l5 ∷ e6·1 ∷ e7 ∷ e8·2 ∷ e9·3 ∷ e10·3 ∷ e11·3 ∷ e12 ∷ e13 ∷ e14 ∷ e15 ∷ List.[]
+
         abbrev g52 : List.List Row.Entry
-        g52 = (0, Rows'.whole (Declared.row Relayed.the-type)) ∷ (1, Mut.mslice RelayPending.row ref9 0,) ∷ (2, Relend.mslice-owed RelayCircuit.row
-            ref10 1 6 life1,) ∷ (3, Relend.mslice-owed ReservationUsage.row ref11 2 7 life2,) ∷ (4, Relend.mslice-owed InflightAction.row ref12 3 8
-            life3,) ∷ (5, Relend.mslice-owed (Referent.rtF (Referent.fInt Syntax.w32)) ref13 4 9 life4,) ∷ (6, Rows'.any-gone Laws'''.mir,) ∷ (7,
-            Rows'.any-gone Laws'.mir,) ∷ (8, Rows.arr-shr (Referent.rtF (Referent.fInt Syntax.w8)) 103 11) ∷ (9, Rows.arr-shr (Referent.rtF
-            (Referent.fInt Syntax.w8)) 1 10,) ∷ (10, Rows.arr-shr (Referent.rtF (Referent.fInt Syntax.w8)) 1 12) ∷ (11, Rows.arr-shr (Referent.rtF
-            (Referent.fInt Syntax.w8)) 8 13,) ∷ (12, Rows'.any-gone Laws''.mir,) ∷ (13, Rows'.any-gone Laws.mir,) ∷ (14, Rows'.any-gone
-            (Syntax.tyArray (Syntax.tyInt Syntax.w8) 103)) ∷ (15, Rows'.any-gone ref0,) ∷ List.[]
+        g52 = e0·1 ∷ e1 ∷ l2 ∷ l3 ∷ l4 ∷ l5 ∷ e6·1 ∷ e7 ∷ e8·2 ∷ e9·3 ∷ e10·3 ∷ e11·3 ∷ e12 ∷ e13 ∷ e14 ∷ e15 ∷ List.[]
+
         abbrev g54 : List.List Row.Entry
-        g54 = (0, Rows'.whole (Declared.row Relayed.the-type)) ∷ (1, Mut.mslice RelayPending.row ref9 0,) ∷ (2, Mut.mslice RelayCircuit.row ref10 1,)
-            ∷ (3, Relend.mslice-owed ReservationUsage.row ref11 2 7 life2,) ∷ (4, Relend.mslice-owed InflightAction.row ref12 3 8 life3,) ∷ (5,
-            Relend.mslice-owed (Referent.rtF (Referent.fInt Syntax.w32)) ref13 4 9 life4,) ∷ (6, Rows'.any-gone Laws'''.mir,) ∷ (7, Rows'.any-gone
-            Laws'.mir,) ∷ (8, Rows.arr-shr (Referent.rtF (Referent.fInt Syntax.w8)) 103 11) ∷ (9, Rows.arr-shr (Referent.rtF (Referent.fInt
-            Syntax.w8)) 1 10,) ∷ (10, Rows.arr-shr (Referent.rtF (Referent.fInt Syntax.w8)) 1 12) ∷ (11, Rows.arr-shr (Referent.rtF (Referent.fInt
-            Syntax.w8)) 8 13,) ∷ (12, Rows'.any-gone Laws''.mir,) ∷ (13, Rows'.any-gone Laws.mir,) ∷ (14, Rows'.any-gone (Syntax.tyArray (Syntax.tyInt
-            Syntax.w8) 103)) ∷ (15, Rows'.any-gone ref0,) ∷ List.[]
+        g54 = e0·1 ∷ e1 ∷ e2 ∷ l3 ∷ l4 ∷ l5 ∷ e6·1 ∷ e7 ∷ e8·2 ∷ e9·3 ∷ e10·3 ∷ e11·3 ∷ e12 ∷ e13 ∷ e14 ∷ e15 ∷ List.[]
+
         abbrev g56 : List.List Row.Entry
-        g56 = (0, Rows'.whole (Declared.row Relayed.the-type)) ∷ (1, Mut.mslice RelayPending.row ref9 0,) ∷ (2, Mut.mslice RelayCircuit.row ref10 1,)
-            ∷ (3, Mut.mslice ReservationUsage.row ref11 2,) ∷ (4, Relend.mslice-owed InflightAction.row ref12 3 8 life3,) ∷ (5, Relend.mslice-owed
-            (Referent.rtF (Referent.fInt Syntax.w32)) ref13 4 9 life4,) ∷ (6, Rows'.any-gone Laws'''.mir,) ∷ (7, Rows'.any-gone Laws'.mir,) ∷ (8,
-            Rows.arr-shr (Referent.rtF (Referent.fInt Syntax.w8)) 103 11) ∷ (9, Rows.arr-shr (Referent.rtF (Referent.fInt Syntax.w8)) 1 10,) ∷ (10,
-            Rows.arr-shr (Referent.rtF (Referent.fInt Syntax.w8)) 1 12) ∷ (11, Rows.arr-shr (Referent.rtF (Referent.fInt Syntax.w8)) 8 13,) ∷ (12,
-            Rows'.any-gone Laws''.mir,) ∷ (13, Rows'.any-gone Laws.mir,) ∷ (14, Rows'.any-gone (Syntax.tyArray (Syntax.tyInt Syntax.w8) 103)) ∷ (15,
-            Rows'.any-gone ref0,) ∷ List.[]
+        g56 = e0·1 ∷ e1 ∷ e2 ∷ e3 ∷ l4 ∷ l5 ∷ e6·1 ∷ e7 ∷ e8·2 ∷ e9·3 ∷ e10·3 ∷ e11·3 ∷ e12 ∷ e13 ∷ e14 ∷ e15 ∷ List.[]
+
         abbrev g58 : List.List Row.Entry
-        g58 = (0, Rows'.whole (Declared.row Relayed.the-type)) ∷ (1, Mut.mslice RelayPending.row ref9 0,) ∷ (2, Mut.mslice RelayCircuit.row ref10 1,)
-            ∷ (3, Mut.mslice ReservationUsage.row ref11 2,) ∷ (4, Mut.mslice InflightAction.row ref12 3,) ∷ (5, Relend.mslice-owed (Referent.rtF
-            (Referent.fInt Syntax.w32)) ref13 4 9 life4,) ∷ (6, Rows'.any-gone Laws'''.mir,) ∷ (7, Rows'.any-gone Laws'.mir,) ∷ (8, Rows.arr-shr
-            (Referent.rtF (Referent.fInt Syntax.w8)) 103 11) ∷ (9, Rows.arr-shr (Referent.rtF (Referent.fInt Syntax.w8)) 1 10,) ∷ (10, Rows.arr-shr
-            (Referent.rtF (Referent.fInt Syntax.w8)) 1 12) ∷ (11, Rows.arr-shr (Referent.rtF (Referent.fInt Syntax.w8)) 8 13,) ∷ (12, Rows'.any-gone
-            Laws''.mir,) ∷ (13, Rows'.any-gone Laws.mir,) ∷ (14, Rows'.any-gone (Syntax.tyArray (Syntax.tyInt Syntax.w8) 103)) ∷ (15, Rows'.any-gone
-            ref0,) ∷ List.[]
+        g58 = e0·1 ∷ e1 ∷ e2 ∷ e3 ∷ e4 ∷ l5 ∷ e6·1 ∷ e7 ∷ e8·2 ∷ e9·3 ∷ e10·3 ∷ e11·3 ∷ e12 ∷ e13 ∷ e14 ∷ e15 ∷ List.[]
+
         abbrev G0 : Row.Cx
-        G0 = record { locals = List._++_ t0 (List._++_ t1 t2); slots = life0 ∷ life1 ∷ life2 ∷ life3 ∷ life4 ∷ Row.off ∷ Row.off ∷ Row.off ∷ Row.off ∷
-            Row.off ∷ Row.off ∷ Row.off ∷ Row.off ∷ Row.off ∷ List.[]; }
+        G0 = record {
+          locals = List._++_ t0 (List._++_ t1 t2);
+          slots = life0 ∷ life1 ∷ life2 ∷ life3 ∷ life4 ∷ Row.off ∷ Row.off ∷ Row.off ∷ Row.off ∷ Row.off ∷ Row.off ∷
+              Row.off ∷ Row.off ∷ Row.off ∷ List.[];
+        }
+
         abbrev G1 : Row.Cx
-        G1 = record { locals = List._++_ t3 (List._++_ t1 t2); slots = life0 ∷ life1 ∷ life2 ∷ life3 ∷ life4 ∷ Row.off ∷ Row.off ∷ Row.off ∷ Row.off ∷
-            Row.off ∷ Row.off ∷ Row.off ∷ Row.off ∷ Row.off ∷ List.[]; }
+        G1 = record {
+          locals = List._++_ t3 (List._++_ t1 t2);
+          slots = life0 ∷ life1 ∷ life2 ∷ life3 ∷ life4 ∷ Row.off ∷ Row.off ∷ Row.off ∷ Row.off ∷ Row.off ∷ Row.off ∷
+              Row.off ∷ Row.off ∷ Row.off ∷ List.[];
+        }
+
         abbrev G2 : Row.Cx
-        G2 = record { locals = List._++_ t0 (List._++_ t1 t2); slots = life0 ∷ life1 ∷ life2 ∷ life3 ∷ life4 ∷ Row.off ∷ Row.off ∷ Row.off ∷ Row.off ∷
-            Row.off ∷ Row.off ∷ Row.off ∷ Row.off ∷ Row.off ∷ List.[]; }
+        G2 = record {
+          locals = List._++_ t0 (List._++_ t1 t2);
+          slots = life0 ∷ life1 ∷ life2 ∷ life3 ∷ life4 ∷ Row.off ∷ Row.off ∷ Row.off ∷ Row.off ∷ Row.off ∷ Row.off ∷
+              Row.off ∷ Row.off ∷ Row.off ∷ List.[];
+        }
+
         abbrev G3 : Row.Cx
-        G3 = record { locals = List._++_ t4 (List._++_ t1 t2); slots = life0 ∷ life1 ∷ life2 ∷ life3 ∷ life4 ∷ Row.off ∷ Row.off ∷ Row.off ∷ Row.off ∷
-            Row.off ∷ Row.off ∷ Row.off ∷ Row.off ∷ Row.off ∷ List.[]; }
+        G3 = record {
+          locals = List._++_ t4 (List._++_ t1 t2);
+          slots = life0 ∷ life1 ∷ life2 ∷ life3 ∷ life4 ∷ Row.off ∷ Row.off ∷ Row.off ∷ Row.off ∷ Row.off ∷ Row.off ∷
+              Row.off ∷ Row.off ∷ Row.off ∷ List.[];
+        }
+
         abbrev G4 : Row.Cx
-        G4 = record { locals = List._++_ t5 (List._++_ t1 t2); slots = life0 ∷ life1 ∷ life2 ∷ life3 ∷ life4 ∷ Row.off ∷ Row.off ∷ Row.off ∷ Row.off ∷
-            Row.off ∷ Row.off ∷ Row.off ∷ Row.off ∷ Row.off ∷ List.[]; }
+        G4 = record {
+          locals = List._++_ t5 (List._++_ t1 t2);
+          slots = life0 ∷ life1 ∷ life2 ∷ life3 ∷ life4 ∷ Row.off ∷ Row.off ∷ Row.off ∷ Row.off ∷ Row.off ∷ Row.off ∷
+              Row.off ∷ Row.off ∷ Row.off ∷ List.[];
+        }
+
         abbrev G5 : Row.Cx
-        G5 = record { locals = List._++_ t6 (List._++_ t1 t2); slots = life0 ∷ life1 ∷ life2 ∷ life3 ∷ life4 ∷ Row.off ∷ Row.off ∷ Row.off ∷ Row.off ∷
-            Row.off ∷ Row.off ∷ Row.off ∷ Row.off ∷ Row.off ∷ List.[]; }
+        G5 = record {
+          locals = List._++_ t6 (List._++_ t1 t2);
+          slots = life0 ∷ life1 ∷ life2 ∷ life3 ∷ life4 ∷ Row.off ∷ Row.off ∷ Row.off ∷ Row.off ∷ Row.off ∷ Row.off ∷
+              Row.off ∷ Row.off ∷ Row.off ∷ List.[];
+        }
+
         abbrev G6 : Row.Cx
-        G6 = record { locals = List._++_ t7 (List._++_ t1 t2); slots = life0 ∷ life1 ∷ life2 ∷ life3 ∷ life4 ∷ Row.off ∷ Row.off ∷ Row.off ∷ Row.off ∷
-            Row.off ∷ Row.off ∷ Row.off ∷ Row.off ∷ Row.off ∷ List.[]; }
+        G6 = record {
+          locals = List._++_ t7 (List._++_ t1 t2);
+          slots = life0 ∷ life1 ∷ life2 ∷ life3 ∷ life4 ∷ Row.off ∷ Row.off ∷ Row.off ∷ Row.off ∷ Row.off ∷ Row.off ∷
+              Row.off ∷ Row.off ∷ Row.off ∷ List.[];
+        }
+
         abbrev G7 : Row.Cx
-        G7 = record { locals = List._++_ t8 (List._++_ t1 t2); slots = life0 ∷ life1 ∷ life2 ∷ life3 ∷ life4 ∷ Row.off ∷ Row.off ∷ Row.off ∷ Row.off ∷
-            Row.off ∷ Row.off ∷ Row.off ∷ Row.off ∷ Row.off ∷ List.[]; }
+        G7 = record {
+          locals = List._++_ t8 (List._++_ t1 t2);
+          slots = life0 ∷ life1 ∷ life2 ∷ life3 ∷ life4 ∷ Row.off ∷ Row.off ∷ Row.off ∷ Row.off ∷ Row.off ∷ Row.off ∷
+              Row.off ∷ Row.off ∷ Row.off ∷ List.[];
+        }
+
         abbrev G8 : Row.Cx
-        G8 = record { locals = List._++_ t9 (List._++_ t1 t2); slots = life0 ∷ life1 ∷ life2 ∷ life3 ∷ life4 ∷ Row.off ∷ Row.off ∷ Row.off ∷ Row.off ∷
-            Row.off ∷ Row.off ∷ Row.off ∷ Row.off ∷ Row.off ∷ List.[]; }
+        G8 = record {
+          locals = List._++_ t9 (List._++_ t1 t2);
+          slots = life0 ∷ life1 ∷ life2 ∷ life3 ∷ life4 ∷ Row.off ∷ Row.off ∷ Row.off ∷ Row.off ∷ Row.off ∷ Row.off ∷
+              Row.off ∷ Row.off ∷ Row.off ∷ List.[];
+        }
+
         abbrev G9 : Row.Cx
-        G9 = record { locals = List._++_ t10 (List._++_ t1 t2); slots = life0 ∷ life1 ∷ life2 ∷ life3 ∷ life4 ∷ Row.off ∷ Row.off ∷ Row.off ∷ Row.off
-            ∷ Row.off ∷ Row.off ∷ Row.off ∷ Row.off ∷ Row.off ∷ List.[]; }
+        G9 = record {
+          locals = List._++_ t10 (List._++_ t1 t2);
+          slots = life0 ∷ life1 ∷ life2 ∷ life3 ∷ life4 ∷ Row.off ∷ Row.off ∷ Row.off ∷ Row.off ∷ Row.off ∷ Row.off ∷
+              Row.off ∷ Row.off ∷ Row.off ∷ List.[];
+        }
+
         abbrev G10 : Row.Cx
-        G10 = record { locals = List._++_ t11 (List._++_ t1 t2); slots = life0 ∷ life1 ∷ life2 ∷ life3 ∷ life4 ∷ Row.off ∷ Row.off ∷ Row.off ∷ Row.off
-            ∷ Row.off ∷ Row.off ∷ Row.off ∷ Row.off ∷ Row.off ∷ List.[]; }
+        G10 = record {
+          locals = List._++_ t11 (List._++_ t1 t2);
+          slots = life0 ∷ life1 ∷ life2 ∷ life3 ∷ life4 ∷ Row.off ∷ Row.off ∷ Row.off ∷ Row.off ∷ Row.off ∷ Row.off ∷
+              Row.off ∷ Row.off ∷ Row.off ∷ List.[];
+        }
+
         abbrev G11 : Row.Cx
-        G11 = record { locals = List._++_ t12 (List._++_ t1 t2); slots = life0 ∷ life1 ∷ life2 ∷ life3 ∷ life4 ∷ Row.off ∷ Row.off ∷ Row.off ∷ Row.off
-            ∷ Row.off ∷ Row.off ∷ Row.off ∷ Row.off ∷ Row.off ∷ List.[]; }
+        G11 = record {
+          locals = List._++_ t12 (List._++_ t1 t2);
+          slots = life0 ∷ life1 ∷ life2 ∷ life3 ∷ life4 ∷ Row.off ∷ Row.off ∷ Row.off ∷ Row.off ∷ Row.off ∷ Row.off ∷
+              Row.off ∷ Row.off ∷ Row.off ∷ List.[];
+        }
+
         abbrev G12 : Row.Cx
-        G12 = record { locals = List._++_ t13 (List._++_ t1 t2); slots = life0 ∷ life1 ∷ life2 ∷ life3 ∷ life4 ∷ Row.off ∷ Row.off ∷ Row.off ∷ Row.off
-            ∷ Row.off ∷ Row.off ∷ Row.off ∷ Row.off ∷ Row.off ∷ List.[]; }
+        G12 = record {
+          locals = List._++_ t13 (List._++_ t1 t2);
+          slots = life0 ∷ life1 ∷ life2 ∷ life3 ∷ life4 ∷ Row.off ∷ Row.off ∷ Row.off ∷ Row.off ∷ Row.off ∷ Row.off ∷
+              Row.off ∷ Row.off ∷ Row.off ∷ List.[];
+        }
+
         abbrev G13 : Row.Cx
-        G13 = record { locals = List._++_ t14 (List._++_ t1 t2); slots = life0 ∷ life1 ∷ life2 ∷ life3 ∷ life4 ∷ Row.off ∷ Row.off ∷ Row.off ∷ Row.off
-            ∷ Row.off ∷ Row.off ∷ Row.off ∷ Row.off ∷ Row.off ∷ List.[]; }
+        G13 = record {
+          locals = List._++_ t14 (List._++_ t1 t2);
+          slots = life0 ∷ life1 ∷ life2 ∷ life3 ∷ life4 ∷ Row.off ∷ Row.off ∷ Row.off ∷ Row.off ∷ Row.off ∷ Row.off ∷
+              Row.off ∷ Row.off ∷ Row.off ∷ List.[];
+        }
+
         abbrev G14 : Row.Cx
-        G14 = record { locals = List._++_ t15 (List._++_ t1 t2); slots = life0 ∷ life1 ∷ life2 ∷ life3 ∷ life4 ∷ Row.off ∷ Row.off ∷ Row.off ∷ Row.off
-            ∷ Row.off ∷ Row.off ∷ Row.off ∷ Row.off ∷ Row.off ∷ List.[]; }
+        G14 = record {
+          locals = List._++_ t15 (List._++_ t1 t2);
+          slots = life0 ∷ life1 ∷ life2 ∷ life3 ∷ life4 ∷ Row.off ∷ Row.off ∷ Row.off ∷ Row.off ∷ Row.off ∷ Row.off ∷
+              Row.off ∷ Row.off ∷ Row.off ∷ List.[];
+        }
+
         abbrev G15 : Row.Cx
-        G15 = record { locals = List._++_ t16 (List._++_ t1 t2); slots = life0 ∷ life1 ∷ life2 ∷ life3 ∷ life4 ∷ Row.off ∷ Row.off ∷ Row.off ∷ Row.off
-            ∷ Row.off ∷ Row.off ∷ Row.off ∷ Row.off ∷ Row.off ∷ List.[]; }
+        G15 = record {
+          locals = List._++_ t16 (List._++_ t1 t2);
+          slots = life0 ∷ life1 ∷ life2 ∷ life3 ∷ life4 ∷ Row.off ∷ Row.off ∷ Row.off ∷ Row.off ∷ Row.off ∷ Row.off ∷
+              Row.off ∷ Row.off ∷ Row.off ∷ List.[];
+        }
+
         abbrev G16 : Row.Cx
-        G16 = record { locals = List._++_ t16 (List._++_ t1 t2); slots = life0 ∷ life1 ∷ life2 ∷ life3 ∷ life4 ∷ Row.alive ∷ Row.off ∷ Row.off ∷
-            Row.off ∷ Row.off ∷ Row.off ∷ Row.off ∷ Row.off ∷ Row.off ∷ List.[]; }
+        G16 = record {
+          locals = List._++_ t16 (List._++_ t1 t2);
+          slots = life0 ∷ life1 ∷ life2 ∷ life3 ∷ life4 ∷ Row.alive ∷ Row.off ∷ Row.off ∷ Row.off ∷ Row.off ∷ Row.off ∷
+              Row.off ∷ Row.off ∷ Row.off ∷ List.[];
+        }
+
         abbrev G17 : Row.Cx
-        G17 = record { locals = List._++_ g17 (List._++_ t1 t2); slots = Row.off ∷ life1 ∷ life2 ∷ life3 ∷ life4 ∷ Row.alive ∷ Row.off ∷ Row.off ∷
-            Row.off ∷ Row.off ∷ Row.off ∷ Row.off ∷ Row.off ∷ Row.off ∷ List.[]; }
+        G17 = record {
+          locals = List._++_ g17 (List._++_ t1 t2);
+          slots = Row.off ∷ life1 ∷ life2 ∷ life3 ∷ life4 ∷ Row.alive ∷ Row.off ∷ Row.off ∷ Row.off ∷ Row.off ∷ Row.off
+              ∷ Row.off ∷ Row.off ∷ Row.off ∷ List.[];
+        }
+
         abbrev G18 : Row.Cx
-        G18 = record { locals = List._++_ g18 (List._++_ t19 t2); slots = Row.off ∷ life1 ∷ life2 ∷ life3 ∷ life4 ∷ Row.alive ∷ Row.off ∷ Row.off ∷
-            Row.off ∷ Row.off ∷ Row.off ∷ Row.off ∷ Row.off ∷ Row.off ∷ List.[]; }
+        G18 = record {
+          locals = List._++_ g18 (List._++_ t19 t2);
+          slots = Row.off ∷ life1 ∷ life2 ∷ life3 ∷ life4 ∷ Row.alive ∷ Row.off ∷ Row.off ∷ Row.off ∷ Row.off ∷ Row.off
+              ∷ Row.off ∷ Row.off ∷ Row.off ∷ List.[];
+        }
+
         abbrev G19 : Row.Cx
-        G19 = record { locals = List._++_ g18 (List._++_ t19 t2); slots = Row.off ∷ life1 ∷ life2 ∷ life3 ∷ life4 ∷ Row.alive ∷ Row.alive ∷ Row.off ∷
-            Row.off ∷ Row.off ∷ Row.off ∷ Row.off ∷ Row.off ∷ Row.off ∷ List.[]; }
+        G19 = record {
+          locals = List._++_ g18 (List._++_ t19 t2);
+          slots = Row.off ∷ life1 ∷ life2 ∷ life3 ∷ life4 ∷ Row.alive ∷ Row.alive ∷ Row.off ∷ Row.off ∷ Row.off ∷
+              Row.off ∷ Row.off ∷ Row.off ∷ Row.off ∷ List.[];
+        }
+
         abbrev G20 : Row.Cx
-        G20 = record { locals = List._++_ g20 (List._++_ t21 t2); slots = Row.off ∷ Row.off ∷ life2 ∷ life3 ∷ life4 ∷ Row.alive ∷ Row.alive ∷ Row.off
-            ∷ Row.off ∷ Row.off ∷ Row.off ∷ Row.off ∷ Row.off ∷ Row.off ∷ List.[]; }
+        G20 = record {
+          locals = List._++_ g20 (List._++_ t21 t2);
+          slots = Row.off ∷ Row.off ∷ life2 ∷ life3 ∷ life4 ∷ Row.alive ∷ Row.alive ∷ Row.off ∷ Row.off ∷ Row.off ∷
+              Row.off ∷ Row.off ∷ Row.off ∷ Row.off ∷ List.[];
+        }
+
         abbrev G21 : Row.Cx
-        G21 = record { locals = List._++_ g20 (List._++_ t22 t2); slots = Row.off ∷ Row.off ∷ life2 ∷ life3 ∷ life4 ∷ Row.alive ∷ Row.alive ∷ Row.off
-            ∷ Row.off ∷ Row.off ∷ Row.off ∷ Row.off ∷ Row.off ∷ Row.off ∷ List.[]; }
+        G21 = record {
+          locals = List._++_ g20 (List._++_ t22 t2);
+          slots = Row.off ∷ Row.off ∷ life2 ∷ life3 ∷ life4 ∷ Row.alive ∷ Row.alive ∷ Row.off ∷ Row.off ∷ Row.off ∷
+              Row.off ∷ Row.off ∷ Row.off ∷ Row.off ∷ List.[];
+        }
+
         abbrev G22 : Row.Cx
-        G22 = record { locals = List._++_ g20 (List._++_ t22 t2); slots = Row.off ∷ Row.off ∷ life2 ∷ life3 ∷ life4 ∷ Row.alive ∷ Row.alive ∷
-            Row.alive ∷ Row.off ∷ Row.off ∷ Row.off ∷ Row.off ∷ Row.off ∷ Row.off ∷ List.[]; }
+        G22 = record {
+          locals = List._++_ g20 (List._++_ t22 t2);
+          slots = Row.off ∷ Row.off ∷ life2 ∷ life3 ∷ life4 ∷ Row.alive ∷ Row.alive ∷ Row.alive ∷ Row.off ∷ Row.off ∷
+              Row.off ∷ Row.off ∷ Row.off ∷ Row.off ∷ List.[];
+        }
+
         abbrev G23 : Row.Cx
-        G23 = record { locals = List._++_ g23 (List._++_ t24 t2); slots = Row.off ∷ Row.off ∷ Row.off ∷ life3 ∷ life4 ∷ Row.alive ∷ Row.alive ∷
-            Row.alive ∷ Row.off ∷ Row.off ∷ Row.off ∷ Row.off ∷ Row.off ∷ Row.off ∷ List.[]; }
+        G23 = record {
+          locals = List._++_ g23 (List._++_ t24 t2);
+          slots = Row.off ∷ Row.off ∷ Row.off ∷ life3 ∷ life4 ∷ Row.alive ∷ Row.alive ∷ Row.alive ∷ Row.off ∷ Row.off ∷
+              Row.off ∷ Row.off ∷ Row.off ∷ Row.off ∷ List.[];
+        }
+
         abbrev G24 : Row.Cx
-        G24 = record { locals = List._++_ g23 (List._++_ t25 t2); slots = Row.off ∷ Row.off ∷ Row.off ∷ life3 ∷ life4 ∷ Row.alive ∷ Row.alive ∷
-            Row.alive ∷ Row.off ∷ Row.off ∷ Row.off ∷ Row.off ∷ Row.off ∷ Row.off ∷ List.[]; }
+        G24 = record {
+          locals = List._++_ g23 (List._++_ t25 t2);
+          slots = Row.off ∷ Row.off ∷ Row.off ∷ life3 ∷ life4 ∷ Row.alive ∷ Row.alive ∷ Row.alive ∷ Row.off ∷ Row.off ∷
+              Row.off ∷ Row.off ∷ Row.off ∷ Row.off ∷ List.[];
+        }
+
         abbrev G25 : Row.Cx
-        G25 = record { locals = List._++_ g23 (List._++_ t25 t2); slots = Row.off ∷ Row.off ∷ Row.off ∷ life3 ∷ life4 ∷ Row.alive ∷ Row.alive ∷
-            Row.alive ∷ Row.alive ∷ Row.off ∷ Row.off ∷ Row.off ∷ Row.off ∷ Row.off ∷ List.[]; }
+        G25 = record {
+          locals = List._++_ g23 (List._++_ t25 t2);
+          slots = Row.off ∷ Row.off ∷ Row.off ∷ life3 ∷ life4 ∷ Row.alive ∷ Row.alive ∷ Row.alive ∷ Row.alive ∷ Row.off
+              ∷ Row.off ∷ Row.off ∷ Row.off ∷ Row.off ∷ List.[];
+        }
+
         abbrev G26 : Row.Cx
-        G26 = record { locals = List._++_ g26 (List._++_ t27 t2); slots = Row.off ∷ Row.off ∷ Row.off ∷ Row.off ∷ life4 ∷ Row.alive ∷ Row.alive ∷
-            Row.alive ∷ Row.alive ∷ Row.off ∷ Row.off ∷ Row.off ∷ Row.off ∷ Row.off ∷ List.[]; }
+        G26 = record {
+          locals = List._++_ g26 (List._++_ t27 t2);
+          slots = Row.off ∷ Row.off ∷ Row.off ∷ Row.off ∷ life4 ∷ Row.alive ∷ Row.alive ∷ Row.alive ∷ Row.alive ∷
+              Row.off ∷ Row.off ∷ Row.off ∷ Row.off ∷ Row.off ∷ List.[];
+        }
+
         abbrev G27 : Row.Cx
-        G27 = record { locals = List._++_ g26 (List._++_ t28 t2); slots = Row.off ∷ Row.off ∷ Row.off ∷ Row.off ∷ life4 ∷ Row.alive ∷ Row.alive ∷
-            Row.alive ∷ Row.alive ∷ Row.off ∷ Row.off ∷ Row.off ∷ Row.off ∷ Row.off ∷ List.[]; }
+        G27 = record {
+          locals = List._++_ g26 (List._++_ t28 t2);
+          slots = Row.off ∷ Row.off ∷ Row.off ∷ Row.off ∷ life4 ∷ Row.alive ∷ Row.alive ∷ Row.alive ∷ Row.alive ∷
+              Row.off ∷ Row.off ∷ Row.off ∷ Row.off ∷ Row.off ∷ List.[];
+        }
+
         abbrev G28 : Row.Cx
-        G28 = record { locals = List._++_ g26 (List._++_ t28 t2); slots = Row.off ∷ Row.off ∷ Row.off ∷ Row.off ∷ life4 ∷ Row.alive ∷ Row.alive ∷
-            Row.alive ∷ Row.alive ∷ Row.alive ∷ Row.off ∷ Row.off ∷ Row.off ∷ Row.off ∷ List.[]; }
+        G28 = record {
+          locals = List._++_ g26 (List._++_ t28 t2);
+          slots = Row.off ∷ Row.off ∷ Row.off ∷ Row.off ∷ life4 ∷ Row.alive ∷ Row.alive ∷ Row.alive ∷ Row.alive ∷
+              Row.alive ∷ Row.off ∷ Row.off ∷ Row.off ∷ Row.off ∷ List.[];
+        }
+
         abbrev G29 : Row.Cx
-        G29 = record { locals = List._++_ g29 (List._++_ t30 t2); slots = Row.off ∷ Row.off ∷ Row.off ∷ Row.off ∷ Row.off ∷ Row.alive ∷ Row.alive ∷
-            Row.alive ∷ Row.alive ∷ Row.alive ∷ Row.off ∷ Row.off ∷ Row.off ∷ Row.off ∷ List.[]; }
+        G29 = record {
+          locals = List._++_ g29 (List._++_ t30 t2);
+          slots = Row.off ∷ Row.off ∷ Row.off ∷ Row.off ∷ Row.off ∷ Row.alive ∷ Row.alive ∷ Row.alive ∷ Row.alive ∷
+              Row.alive ∷ Row.off ∷ Row.off ∷ Row.off ∷ Row.off ∷ List.[];
+        }
+
         abbrev G30 : Row.Cx
-        G30 = record { locals = List._++_ g29 (List._++_ t31 t2); slots = Row.off ∷ Row.off ∷ Row.off ∷ Row.off ∷ Row.off ∷ Row.alive ∷ Row.alive ∷
-            Row.alive ∷ Row.alive ∷ Row.alive ∷ Row.off ∷ Row.off ∷ Row.off ∷ Row.off ∷ List.[]; }
+        G30 = record {
+          locals = List._++_ g29 (List._++_ t31 t2);
+          slots = Row.off ∷ Row.off ∷ Row.off ∷ Row.off ∷ Row.off ∷ Row.alive ∷ Row.alive ∷ Row.alive ∷ Row.alive ∷
+              Row.alive ∷ Row.off ∷ Row.off ∷ Row.off ∷ Row.off ∷ List.[];
+        }
+
         abbrev G31 : Row.Cx
-        G31 = record { locals = List._++_ g29 (List._++_ t31 t2); slots = Row.off ∷ Row.off ∷ Row.off ∷ Row.off ∷ Row.off ∷ Row.alive ∷ Row.alive ∷
-            Row.alive ∷ Row.alive ∷ Row.alive ∷ Row.alive ∷ Row.off ∷ Row.off ∷ Row.off ∷ List.[]; }
+        G31 = record {
+          locals = List._++_ g29 (List._++_ t31 t2);
+          slots = Row.off ∷ Row.off ∷ Row.off ∷ Row.off ∷ Row.off ∷ Row.alive ∷ Row.alive ∷ Row.alive ∷ Row.alive ∷
+              Row.alive ∷ Row.alive ∷ Row.off ∷ Row.off ∷ Row.off ∷ List.[];
+        }
+
         abbrev G32 : Row.Cx
-        G32 = record { locals = List._++_ g32 (List._++_ t33 t2); slots = Row.off ∷ Row.off ∷ Row.off ∷ Row.off ∷ Row.off ∷ Row.alive ∷ Row.alive ∷
-            Row.alive ∷ Row.alive ∷ Row.alive ∷ Row.alive ∷ Row.off ∷ Row.off ∷ Row.off ∷ List.[]; }
+        G32 = record {
+          locals = List._++_ g32 (List._++_ t33 t2);
+          slots = Row.off ∷ Row.off ∷ Row.off ∷ Row.off ∷ Row.off ∷ Row.alive ∷ Row.alive ∷ Row.alive ∷ Row.alive ∷
+              Row.alive ∷ Row.alive ∷ Row.off ∷ Row.off ∷ Row.off ∷ List.[];
+        }
+
         abbrev G33 : Row.Cx
-        G33 = record { locals = List._++_ g32 (List._++_ t34 t2); slots = Row.off ∷ Row.off ∷ Row.off ∷ Row.off ∷ Row.off ∷ Row.alive ∷ Row.alive ∷
-            Row.alive ∷ Row.alive ∷ Row.alive ∷ Row.alive ∷ Row.off ∷ Row.off ∷ Row.off ∷ List.[]; }
+        G33 = record {
+          locals = List._++_ g32 (List._++_ t34 t2);
+          slots = Row.off ∷ Row.off ∷ Row.off ∷ Row.off ∷ Row.off ∷ Row.alive ∷ Row.alive ∷ Row.alive ∷ Row.alive ∷
+              Row.alive ∷ Row.alive ∷ Row.off ∷ Row.off ∷ Row.off ∷ List.[];
+        }
+
         abbrev G34 : Row.Cx
-        G34 = record { locals = List._++_ g32 (List._++_ t34 t2); slots = Row.off ∷ Row.off ∷ Row.off ∷ Row.off ∷ Row.off ∷ Row.alive ∷ Row.alive ∷
-            Row.alive ∷ Row.alive ∷ Row.alive ∷ Row.alive ∷ Row.alive ∷ Row.off ∷ Row.off ∷ List.[]; }
+        G34 = record {
+          locals = List._++_ g32 (List._++_ t34 t2);
+          slots = Row.off ∷ Row.off ∷ Row.off ∷ Row.off ∷ Row.off ∷ Row.alive ∷ Row.alive ∷ Row.alive ∷ Row.alive ∷
+              Row.alive ∷ Row.alive ∷ Row.alive ∷ Row.off ∷ Row.off ∷ List.[];
+        }
+
         abbrev G35 : Row.Cx
-        G35 = record { locals = List._++_ g35 (List._++_ t36 t2); slots = Row.off ∷ Row.off ∷ Row.off ∷ Row.off ∷ Row.off ∷ Row.alive ∷ Row.alive ∷
-            Row.alive ∷ Row.alive ∷ Row.alive ∷ Row.alive ∷ Row.alive ∷ Row.off ∷ Row.off ∷ List.[]; }
+        G35 = record {
+          locals = List._++_ g35 (List._++_ t36 t2);
+          slots = Row.off ∷ Row.off ∷ Row.off ∷ Row.off ∷ Row.off ∷ Row.alive ∷ Row.alive ∷ Row.alive ∷ Row.alive ∷
+              Row.alive ∷ Row.alive ∷ Row.alive ∷ Row.off ∷ Row.off ∷ List.[];
+        }
+
         abbrev G36 : Row.Cx
-        G36 = record { locals = List._++_ g35 (List._++_ t37 t2); slots = Row.off ∷ Row.off ∷ Row.off ∷ Row.off ∷ Row.off ∷ Row.alive ∷ Row.alive ∷
-            Row.alive ∷ Row.alive ∷ Row.alive ∷ Row.alive ∷ Row.alive ∷ Row.off ∷ Row.off ∷ List.[]; }
+        G36 = record {
+          locals = List._++_ g35 (List._++_ t37 t2);
+          slots = Row.off ∷ Row.off ∷ Row.off ∷ Row.off ∷ Row.off ∷ Row.alive ∷ Row.alive ∷ Row.alive ∷ Row.alive ∷
+              Row.alive ∷ Row.alive ∷ Row.alive ∷ Row.off ∷ Row.off ∷ List.[];
+        }
+
         abbrev G37 : Row.Cx
-        G37 = record { locals = List._++_ g35 (List._++_ t37 t2); slots = Row.off ∷ Row.off ∷ Row.off ∷ Row.off ∷ Row.off ∷ Row.alive ∷ Row.alive ∷
-            Row.alive ∷ Row.alive ∷ Row.alive ∷ Row.alive ∷ Row.alive ∷ Row.alive ∷ Row.off ∷ List.[]; }
+        G37 = record {
+          locals = List._++_ g35 (List._++_ t37 t2);
+          slots = Row.off ∷ Row.off ∷ Row.off ∷ Row.off ∷ Row.off ∷ Row.alive ∷ Row.alive ∷ Row.alive ∷ Row.alive ∷
+              Row.alive ∷ Row.alive ∷ Row.alive ∷ Row.alive ∷ Row.off ∷ List.[];
+        }
+
         abbrev G38 : Row.Cx
-        G38 = record { locals = List._++_ g38 (List._++_ t39 t2); slots = Row.off ∷ Row.off ∷ Row.off ∷ Row.off ∷ Row.off ∷ Row.alive ∷ Row.alive ∷
-            Row.alive ∷ Row.alive ∷ Row.alive ∷ Row.alive ∷ Row.alive ∷ Row.alive ∷ Row.off ∷ List.[]; }
+        G38 = record {
+          locals = List._++_ g38 (List._++_ t39 t2);
+          slots = Row.off ∷ Row.off ∷ Row.off ∷ Row.off ∷ Row.off ∷ Row.alive ∷ Row.alive ∷ Row.alive ∷ Row.alive ∷
+              Row.alive ∷ Row.alive ∷ Row.alive ∷ Row.alive ∷ Row.off ∷ List.[];
+        }
+
         abbrev G39 : Row.Cx
-        G39 = record { locals = List._++_ g38 (List._++_ t40 t2); slots = Row.off ∷ Row.off ∷ Row.off ∷ Row.off ∷ Row.off ∷ Row.alive ∷ Row.alive ∷
-            Row.alive ∷ Row.alive ∷ Row.alive ∷ Row.alive ∷ Row.alive ∷ Row.alive ∷ Row.off ∷ List.[]; }
+        G39 = record {
+          locals = List._++_ g38 (List._++_ t40 t2);
+          slots = Row.off ∷ Row.off ∷ Row.off ∷ Row.off ∷ Row.off ∷ Row.alive ∷ Row.alive ∷ Row.alive ∷ Row.alive ∷
+              Row.alive ∷ Row.alive ∷ Row.alive ∷ Row.alive ∷ Row.off ∷ List.[];
+        }
+
         abbrev G40 : Row.Cx
-        G40 = record { locals = List._++_ g38 (List._++_ t40 t2); slots = Row.off ∷ Row.off ∷ Row.off ∷ Row.off ∷ Row.off ∷ Row.alive ∷ Row.alive ∷
-            Row.alive ∷ Row.alive ∷ Row.alive ∷ Row.alive ∷ Row.alive ∷ Row.alive ∷ Row.alive ∷ List.[]; }
+        G40 = record {
+          locals = List._++_ g38 (List._++_ t40 t2);
+          slots = Row.off ∷ Row.off ∷ Row.off ∷ Row.off ∷ Row.off ∷ Row.alive ∷ Row.alive ∷ Row.alive ∷ Row.alive ∷
+              Row.alive ∷ Row.alive ∷ Row.alive ∷ Row.alive ∷ Row.alive ∷ List.[];
+        }
+
         abbrev G41 : Row.Cx
-        G41 = record { locals = List._++_ g41 (List._++_ t42 t2); slots = Row.off ∷ Row.off ∷ Row.off ∷ Row.off ∷ Row.off ∷ Row.alive ∷ Row.alive ∷
-            Row.alive ∷ Row.alive ∷ Row.alive ∷ Row.alive ∷ Row.alive ∷ Row.alive ∷ Row.alive ∷ List.[]; }
+        G41 = record {
+          locals = List._++_ g41 (List._++_ t42 t2);
+          slots = Row.off ∷ Row.off ∷ Row.off ∷ Row.off ∷ Row.off ∷ Row.alive ∷ Row.alive ∷ Row.alive ∷ Row.alive ∷
+              Row.alive ∷ Row.alive ∷ Row.alive ∷ Row.alive ∷ Row.alive ∷ List.[];
+        }
+
         abbrev G42 : Row.Cx
-        G42 = record { locals = List._++_ g41 (List._++_ t40 t43); slots = Row.off ∷ Row.off ∷ Row.off ∷ Row.off ∷ Row.off ∷ Row.alive ∷ Row.alive ∷
-            Row.alive ∷ Row.alive ∷ Row.alive ∷ Row.alive ∷ Row.alive ∷ Row.alive ∷ Row.alive ∷ List.[]; }
+        G42 = record {
+          locals = List._++_ g41 (List._++_ t40 t43);
+          slots = Row.off ∷ Row.off ∷ Row.off ∷ Row.off ∷ Row.off ∷ Row.alive ∷ Row.alive ∷ Row.alive ∷ Row.alive ∷
+              Row.alive ∷ Row.alive ∷ Row.alive ∷ Row.alive ∷ Row.alive ∷ List.[];
+        }
+
         abbrev G43 : Row.Cx
-        G43 = record { locals = List._++_ g44 (List._++_ t45 t43); slots = Row.off ∷ Row.off ∷ Row.off ∷ Row.off ∷ Row.off ∷ Row.alive ∷ Row.alive ∷
-            Row.alive ∷ Row.alive ∷ Row.alive ∷ Row.alive ∷ Row.alive ∷ Row.alive ∷ Row.alive ∷ List.[]; }
+        G43 = record {
+          locals = List._++_ g44 (List._++_ t45 t43);
+          slots = Row.off ∷ Row.off ∷ Row.off ∷ Row.off ∷ Row.off ∷ Row.alive ∷ Row.alive ∷ Row.alive ∷ Row.alive ∷
+              Row.alive ∷ Row.alive ∷ Row.alive ∷ Row.alive ∷ Row.alive ∷ List.[];
+        }
+
         abbrev G44 : Row.Cx
-        G44 = record { locals = List._++_ g44 (List._++_ t46 t43); slots = Row.off ∷ Row.off ∷ Row.off ∷ Row.off ∷ Row.off ∷ Row.alive ∷ Row.alive ∷
-            Row.alive ∷ Row.alive ∷ Row.alive ∷ Row.alive ∷ Row.alive ∷ Row.alive ∷ Row.alive ∷ List.[]; }
+        G44 = record {
+          locals = List._++_ g44 (List._++_ t46 t43);
+          slots = Row.off ∷ Row.off ∷ Row.off ∷ Row.off ∷ Row.off ∷ Row.alive ∷ Row.alive ∷ Row.alive ∷ Row.alive ∷
+              Row.alive ∷ Row.alive ∷ Row.alive ∷ Row.alive ∷ Row.alive ∷ List.[];
+        }
+
         abbrev G45 : Row.Cx
-        G45 = record { locals = List._++_ g44 (List._++_ t47 t43); slots = Row.off ∷ Row.off ∷ Row.off ∷ Row.off ∷ Row.off ∷ Row.alive ∷ Row.alive ∷
-            Row.alive ∷ Row.alive ∷ Row.alive ∷ Row.alive ∷ Row.alive ∷ Row.alive ∷ Row.alive ∷ List.[]; }
+        G45 = record {
+          locals = List._++_ g44 (List._++_ t47 t43);
+          slots = Row.off ∷ Row.off ∷ Row.off ∷ Row.off ∷ Row.off ∷ Row.alive ∷ Row.alive ∷ Row.alive ∷ Row.alive ∷
+              Row.alive ∷ Row.alive ∷ Row.alive ∷ Row.alive ∷ Row.alive ∷ List.[];
+        }
+
         abbrev G46 : Row.Cx
-        G46 = record { locals = List._++_ g44 (List._++_ t48 t43); slots = Row.off ∷ Row.off ∷ Row.off ∷ Row.off ∷ Row.off ∷ Row.alive ∷ Row.alive ∷
-            Row.alive ∷ Row.alive ∷ Row.alive ∷ Row.alive ∷ Row.alive ∷ Row.alive ∷ Row.alive ∷ List.[]; }
+        G46 = record {
+          locals = List._++_ g44 (List._++_ t48 t43);
+          slots = Row.off ∷ Row.off ∷ Row.off ∷ Row.off ∷ Row.off ∷ Row.alive ∷ Row.alive ∷ Row.alive ∷ Row.alive ∷
+              Row.alive ∷ Row.alive ∷ Row.alive ∷ Row.alive ∷ Row.alive ∷ List.[];
+        }
+
         abbrev G47 : Row.Cx
-        G47 = record { locals = List._++_ g44 (List._++_ t48 t2); slots = Row.off ∷ Row.off ∷ Row.off ∷ Row.off ∷ Row.off ∷ Row.alive ∷ Row.alive ∷
-            Row.alive ∷ Row.alive ∷ Row.alive ∷ Row.alive ∷ Row.alive ∷ Row.alive ∷ Row.alive ∷ List.[]; }
+        G47 = record {
+          locals = List._++_ g44 (List._++_ t48 t2);
+          slots = Row.off ∷ Row.off ∷ Row.off ∷ Row.off ∷ Row.off ∷ Row.alive ∷ Row.alive ∷ Row.alive ∷ Row.alive ∷
+              Row.alive ∷ Row.alive ∷ Row.alive ∷ Row.alive ∷ Row.alive ∷ List.[];
+        }
+
         abbrev G48 : Row.Cx
-        G48 = record { locals = List._++_ g49 (List._++_ t48 t2); slots = Row.off ∷ Row.off ∷ Row.off ∷ Row.off ∷ Row.off ∷ Row.alive ∷ Row.alive ∷
-            Row.alive ∷ Row.alive ∷ Row.alive ∷ Row.alive ∷ Row.alive ∷ Row.alive ∷ Row.alive ∷ List.[]; }
+        G48 = record {
+          locals = List._++_ g49 (List._++_ t48 t2);
+          slots = Row.off ∷ Row.off ∷ Row.off ∷ Row.off ∷ Row.off ∷ Row.alive ∷ Row.alive ∷ Row.alive ∷ Row.alive ∷
+              Row.alive ∷ Row.alive ∷ Row.alive ∷ Row.alive ∷ Row.alive ∷ List.[];
+        }
+
         abbrev G49 : Row.Cx
-        G49 = record { locals = List._++_ g50 (List._++_ t48 t2); slots = Row.off ∷ Row.off ∷ Row.off ∷ Row.off ∷ Row.off ∷ Row.alive ∷ Row.alive ∷
-            Row.alive ∷ Row.alive ∷ Row.alive ∷ Row.alive ∷ Row.alive ∷ Row.alive ∷ Row.alive ∷ List.[]; }
+        G49 = record {
+          locals = List._++_ g50 (List._++_ t48 t2);
+          slots = Row.off ∷ Row.off ∷ Row.off ∷ Row.off ∷ Row.off ∷ Row.alive ∷ Row.alive ∷ Row.alive ∷ Row.alive ∷
+              Row.alive ∷ Row.alive ∷ Row.alive ∷ Row.alive ∷ Row.alive ∷ List.[];
+        }
+
         abbrev G50 : Row.Cx
-        G50 = record { locals = List._++_ g51 (List._++_ t48 t2); slots = Row.off ∷ Row.off ∷ Row.off ∷ Row.off ∷ Row.off ∷ Row.alive ∷ Row.alive ∷
-            Row.alive ∷ Row.alive ∷ Row.alive ∷ Row.alive ∷ Row.alive ∷ Row.alive ∷ Row.alive ∷ List.[]; }
+        G50 = record {
+          locals = List._++_ g51 (List._++_ t48 t2);
+          slots = Row.off ∷ Row.off ∷ Row.off ∷ Row.off ∷ Row.off ∷ Row.alive ∷ Row.alive ∷ Row.alive ∷ Row.alive ∷
+              Row.alive ∷ Row.alive ∷ Row.alive ∷ Row.alive ∷ Row.alive ∷ List.[];
+        }
+
         abbrev G51 : Row.Cx
-        G51 = record { locals = List._++_ g51 (List._++_ t48 t2); slots = Row.off ∷ Row.off ∷ Row.off ∷ Row.off ∷ Row.off ∷ Row.dead ∷ Row.alive ∷
-            Row.alive ∷ Row.alive ∷ Row.alive ∷ Row.alive ∷ Row.alive ∷ Row.alive ∷ Row.alive ∷ List.[]; }
+        G51 = record {
+          locals = List._++_ g51 (List._++_ t48 t2);
+          slots = Row.off ∷ Row.off ∷ Row.off ∷ Row.off ∷ Row.off ∷ Row.dead ∷ Row.alive ∷ Row.alive ∷ Row.alive ∷
+              Row.alive ∷ Row.alive ∷ Row.alive ∷ Row.alive ∷ Row.alive ∷ List.[];
+        }
+
         abbrev G52 : Row.Cx
-        G52 = record { locals = List._++_ g52 (List._++_ t53 t2); slots = life0 ∷ Row.off ∷ Row.off ∷ Row.off ∷ Row.off ∷ Row.dead ∷ Row.alive ∷
-            Row.alive ∷ Row.alive ∷ Row.alive ∷ Row.alive ∷ Row.alive ∷ Row.alive ∷ Row.alive ∷ List.[]; }
+        G52 = record {
+          locals = List._++_ g52 (List._++_ t53 t2);
+          slots = life0 ∷ Row.off ∷ Row.off ∷ Row.off ∷ Row.off ∷ Row.dead ∷ Row.alive ∷ Row.alive ∷ Row.alive ∷
+              Row.alive ∷ Row.alive ∷ Row.alive ∷ Row.alive ∷ Row.alive ∷ List.[];
+        }
+
         abbrev G53 : Row.Cx
-        G53 = record { locals = List._++_ g52 (List._++_ t53 t2); slots = life0 ∷ Row.off ∷ Row.off ∷ Row.off ∷ Row.off ∷ Row.off ∷ Row.alive ∷
-            Row.alive ∷ Row.alive ∷ Row.alive ∷ Row.alive ∷ Row.alive ∷ Row.alive ∷ Row.alive ∷ List.[]; }
+        G53 = record {
+          locals = List._++_ g52 (List._++_ t53 t2);
+          slots = life0 ∷ Row.off ∷ Row.off ∷ Row.off ∷ Row.off ∷ Row.off ∷ Row.alive ∷ Row.alive ∷ Row.alive ∷
+              Row.alive ∷ Row.alive ∷ Row.alive ∷ Row.alive ∷ Row.alive ∷ List.[];
+        }
+
         abbrev G54 : Row.Cx
-        G54 = record { locals = List._++_ g52 (List._++_ t53 t2); slots = life0 ∷ Row.off ∷ Row.off ∷ Row.off ∷ Row.off ∷ Row.off ∷ Row.dead ∷
-            Row.alive ∷ Row.alive ∷ Row.alive ∷ Row.alive ∷ Row.alive ∷ Row.alive ∷ Row.alive ∷ List.[]; }
+        G54 = record {
+          locals = List._++_ g52 (List._++_ t53 t2);
+          slots = life0 ∷ Row.off ∷ Row.off ∷ Row.off ∷ Row.off ∷ Row.off ∷ Row.dead ∷ Row.alive ∷ Row.alive ∷
+              Row.alive ∷ Row.alive ∷ Row.alive ∷ Row.alive ∷ Row.alive ∷ List.[];
+        }
+
         abbrev G55 : Row.Cx
-        G55 = record { locals = List._++_ g54 (List._++_ t55 t2); slots = life0 ∷ life1 ∷ Row.off ∷ Row.off ∷ Row.off ∷ Row.off ∷ Row.dead ∷ Row.alive
-            ∷ Row.alive ∷ Row.alive ∷ Row.alive ∷ Row.alive ∷ Row.alive ∷ Row.alive ∷ List.[]; }
+        G55 = record {
+          locals = List._++_ g54 (List._++_ t55 t2);
+          slots = life0 ∷ life1 ∷ Row.off ∷ Row.off ∷ Row.off ∷ Row.off ∷ Row.dead ∷ Row.alive ∷ Row.alive ∷ Row.alive
+              ∷ Row.alive ∷ Row.alive ∷ Row.alive ∷ Row.alive ∷ List.[];
+        }
+
         abbrev G56 : Row.Cx
-        G56 = record { locals = List._++_ g54 (List._++_ t55 t2); slots = life0 ∷ life1 ∷ Row.off ∷ Row.off ∷ Row.off ∷ Row.off ∷ Row.off ∷ Row.alive
-            ∷ Row.alive ∷ Row.alive ∷ Row.alive ∷ Row.alive ∷ Row.alive ∷ Row.alive ∷ List.[]; }
+        G56 = record {
+          locals = List._++_ g54 (List._++_ t55 t2);
+          slots = life0 ∷ life1 ∷ Row.off ∷ Row.off ∷ Row.off ∷ Row.off ∷ Row.off ∷ Row.alive ∷ Row.alive ∷ Row.alive ∷
+              Row.alive ∷ Row.alive ∷ Row.alive ∷ Row.alive ∷ List.[];
+        }
+
         abbrev G57 : Row.Cx
-        G57 = record { locals = List._++_ g54 (List._++_ t55 t2); slots = life0 ∷ life1 ∷ Row.off ∷ Row.off ∷ Row.off ∷ Row.off ∷ Row.off ∷ Row.dead ∷
-            Row.alive ∷ Row.alive ∷ Row.alive ∷ Row.alive ∷ Row.alive ∷ Row.alive ∷ List.[]; }
+        G57 = record {
+          locals = List._++_ g54 (List._++_ t55 t2);
+          slots = life0 ∷ life1 ∷ Row.off ∷ Row.off ∷ Row.off ∷ Row.off ∷ Row.off ∷ Row.dead ∷ Row.alive ∷ Row.alive ∷
+              Row.alive ∷ Row.alive ∷ Row.alive ∷ Row.alive ∷ List.[];
+        }
+
         abbrev G58 : Row.Cx
-        G58 = record { locals = List._++_ g56 (List._++_ t57 t2); slots = life0 ∷ life1 ∷ life2 ∷ Row.off ∷ Row.off ∷ Row.off ∷ Row.off ∷ Row.dead ∷
-            Row.alive ∷ Row.alive ∷ Row.alive ∷ Row.alive ∷ Row.alive ∷ Row.alive ∷ List.[]; }
+        G58 = record {
+          locals = List._++_ g56 (List._++_ t57 t2);
+          slots = life0 ∷ life1 ∷ life2 ∷ Row.off ∷ Row.off ∷ Row.off ∷ Row.off ∷ Row.dead ∷ Row.alive ∷ Row.alive ∷
+              Row.alive ∷ Row.alive ∷ Row.alive ∷ Row.alive ∷ List.[];
+        }
+
         abbrev G59 : Row.Cx
-        G59 = record { locals = List._++_ g56 (List._++_ t57 t2); slots = life0 ∷ life1 ∷ life2 ∷ Row.off ∷ Row.off ∷ Row.off ∷ Row.off ∷ Row.off ∷
-            Row.alive ∷ Row.alive ∷ Row.alive ∷ Row.alive ∷ Row.alive ∷ Row.alive ∷ List.[]; }
+        G59 = record {
+          locals = List._++_ g56 (List._++_ t57 t2);
+          slots = life0 ∷ life1 ∷ life2 ∷ Row.off ∷ Row.off ∷ Row.off ∷ Row.off ∷ Row.off ∷ Row.alive ∷ Row.alive ∷
+              Row.alive ∷ Row.alive ∷ Row.alive ∷ Row.alive ∷ List.[];
+        }
+
         abbrev G60 : Row.Cx
-        G60 = record { locals = List._++_ g56 (List._++_ t57 t2); slots = life0 ∷ life1 ∷ life2 ∷ Row.off ∷ Row.off ∷ Row.off ∷ Row.off ∷ Row.off ∷
-            Row.dead ∷ Row.alive ∷ Row.alive ∷ Row.alive ∷ Row.alive ∷ Row.alive ∷ List.[]; }
+        G60 = record {
+          locals = List._++_ g56 (List._++_ t57 t2);
+          slots = life0 ∷ life1 ∷ life2 ∷ Row.off ∷ Row.off ∷ Row.off ∷ Row.off ∷ Row.off ∷ Row.dead ∷ Row.alive ∷
+              Row.alive ∷ Row.alive ∷ Row.alive ∷ Row.alive ∷ List.[];
+        }
+
         abbrev G61 : Row.Cx
-        G61 = record { locals = List._++_ g58 (List._++_ t59 t2); slots = life0 ∷ life1 ∷ life2 ∷ life3 ∷ Row.off ∷ Row.off ∷ Row.off ∷ Row.off ∷
-            Row.dead ∷ Row.alive ∷ Row.alive ∷ Row.alive ∷ Row.alive ∷ Row.alive ∷ List.[]; }
+        G61 = record {
+          locals = List._++_ g58 (List._++_ t59 t2);
+          slots = life0 ∷ life1 ∷ life2 ∷ life3 ∷ Row.off ∷ Row.off ∷ Row.off ∷ Row.off ∷ Row.dead ∷ Row.alive ∷
+              Row.alive ∷ Row.alive ∷ Row.alive ∷ Row.alive ∷ List.[];
+        }
+
         abbrev G62 : Row.Cx
-        G62 = record { locals = List._++_ g58 (List._++_ t59 t2); slots = life0 ∷ life1 ∷ life2 ∷ life3 ∷ Row.off ∷ Row.off ∷ Row.off ∷ Row.off ∷
-            Row.off ∷ Row.alive ∷ Row.alive ∷ Row.alive ∷ Row.alive ∷ Row.alive ∷ List.[]; }
+        G62 = record {
+          locals = List._++_ g58 (List._++_ t59 t2);
+          slots = life0 ∷ life1 ∷ life2 ∷ life3 ∷ Row.off ∷ Row.off ∷ Row.off ∷ Row.off ∷ Row.off ∷ Row.alive ∷
+              Row.alive ∷ Row.alive ∷ Row.alive ∷ Row.alive ∷ List.[];
+        }
+
         abbrev G63 : Row.Cx
-        G63 = record { locals = List._++_ g58 (List._++_ t59 t2); slots = life0 ∷ life1 ∷ life2 ∷ life3 ∷ Row.off ∷ Row.off ∷ Row.off ∷ Row.off ∷
-            Row.off ∷ Row.dead ∷ Row.alive ∷ Row.alive ∷ Row.alive ∷ Row.alive ∷ List.[]; }
+        G63 = record {
+          locals = List._++_ g58 (List._++_ t59 t2);
+          slots = life0 ∷ life1 ∷ life2 ∷ life3 ∷ Row.off ∷ Row.off ∷ Row.off ∷ Row.off ∷ Row.off ∷ Row.dead ∷
+              Row.alive ∷ Row.alive ∷ Row.alive ∷ Row.alive ∷ List.[];
+        }
+
         abbrev G64 : Row.Cx
-        G64 = record { locals = List._++_ t60 (List._++_ t1 t2); slots = life0 ∷ life1 ∷ life2 ∷ life3 ∷ life4 ∷ Row.off ∷ Row.off ∷ Row.off ∷ Row.off
-            ∷ Row.dead ∷ Row.alive ∷ Row.alive ∷ Row.alive ∷ Row.alive ∷ List.[]; }
+        G64 = record {
+          locals = List._++_ t60 (List._++_ t1 t2);
+          slots = life0 ∷ life1 ∷ life2 ∷ life3 ∷ life4 ∷ Row.off ∷ Row.off ∷ Row.off ∷ Row.off ∷ Row.dead ∷ Row.alive
+              ∷ Row.alive ∷ Row.alive ∷ Row.alive ∷ List.[];
+        }
+
         abbrev G65 : Row.Cx
-        G65 = record { locals = List._++_ t60 (List._++_ t1 t2); slots = life0 ∷ life1 ∷ life2 ∷ life3 ∷ life4 ∷ Row.off ∷ Row.off ∷ Row.off ∷ Row.off
-            ∷ Row.dead ∷ Row.alive ∷ Row.alive ∷ Row.alive ∷ Row.alive ∷ List.[]; }
+        G65 = record {
+          locals = List._++_ t60 (List._++_ t1 t2);
+          slots = life0 ∷ life1 ∷ life2 ∷ life3 ∷ life4 ∷ Row.off ∷ Row.off ∷ Row.off ∷ Row.off ∷ Row.dead ∷ Row.alive
+              ∷ Row.alive ∷ Row.alive ∷ Row.alive ∷ List.[];
+        }
+
         abbrev G66 : Row.Cx
-        G66 = record { locals = List._++_ t60 (List._++_ t1 t2); slots = life0 ∷ life1 ∷ life2 ∷ life3 ∷ life4 ∷ Row.off ∷ Row.off ∷ Row.off ∷ Row.off
-            ∷ Row.off ∷ Row.alive ∷ Row.alive ∷ Row.alive ∷ Row.alive ∷ List.[]; }
+        G66 = record {
+          locals = List._++_ t60 (List._++_ t1 t2);
+          slots = life0 ∷ life1 ∷ life2 ∷ life3 ∷ life4 ∷ Row.off ∷ Row.off ∷ Row.off ∷ Row.off ∷ Row.off ∷ Row.alive ∷
+              Row.alive ∷ Row.alive ∷ Row.alive ∷ List.[];
+        }
+
         abbrev G67 : Row.Cx
-        G67 = record { locals = List._++_ t60 (List._++_ t1 t2); slots = life0 ∷ life1 ∷ life2 ∷ life3 ∷ life4 ∷ Row.off ∷ Row.off ∷ Row.off ∷ Row.off
-            ∷ Row.off ∷ Row.dead ∷ Row.alive ∷ Row.alive ∷ Row.alive ∷ List.[]; }
+        G67 = record {
+          locals = List._++_ t60 (List._++_ t1 t2);
+          slots = life0 ∷ life1 ∷ life2 ∷ life3 ∷ life4 ∷ Row.off ∷ Row.off ∷ Row.off ∷ Row.off ∷ Row.off ∷ Row.dead ∷
+              Row.alive ∷ Row.alive ∷ Row.alive ∷ List.[];
+        }
+
         abbrev G68 : Row.Cx
-        G68 = record { locals = List._++_ t61 (List._++_ t1 t2); slots = life0 ∷ life1 ∷ life2 ∷ life3 ∷ life4 ∷ Row.off ∷ Row.off ∷ Row.off ∷ Row.off
-            ∷ Row.off ∷ Row.dead ∷ Row.alive ∷ Row.alive ∷ Row.alive ∷ List.[]; }
+        G68 = record {
+          locals = List._++_ t61 (List._++_ t1 t2);
+          slots = life0 ∷ life1 ∷ life2 ∷ life3 ∷ life4 ∷ Row.off ∷ Row.off ∷ Row.off ∷ Row.off ∷ Row.off ∷ Row.dead ∷
+              Row.alive ∷ Row.alive ∷ Row.alive ∷ List.[];
+        }
+
         abbrev G69 : Row.Cx
-        G69 = record { locals = List._++_ t61 (List._++_ t1 t2); slots = life0 ∷ life1 ∷ life2 ∷ life3 ∷ life4 ∷ Row.off ∷ Row.off ∷ Row.off ∷ Row.off
-            ∷ Row.off ∷ Row.off ∷ Row.alive ∷ Row.alive ∷ Row.alive ∷ List.[]; }
+        G69 = record {
+          locals = List._++_ t61 (List._++_ t1 t2);
+          slots = life0 ∷ life1 ∷ life2 ∷ life3 ∷ life4 ∷ Row.off ∷ Row.off ∷ Row.off ∷ Row.off ∷ Row.off ∷ Row.off ∷
+              Row.alive ∷ Row.alive ∷ Row.alive ∷ List.[];
+        }
+
         abbrev G70 : Row.Cx
-        G70 = record { locals = List._++_ t62 (List._++_ t1 t2); slots = life0 ∷ life1 ∷ life2 ∷ life3 ∷ life4 ∷ Row.off ∷ Row.off ∷ Row.off ∷ Row.off
-            ∷ Row.off ∷ Row.off ∷ Row.alive ∷ Row.alive ∷ Row.alive ∷ List.[]; }
+        G70 = record {
+          locals = List._++_ t62 (List._++_ t1 t2);
+          slots = life0 ∷ life1 ∷ life2 ∷ life3 ∷ life4 ∷ Row.off ∷ Row.off ∷ Row.off ∷ Row.off ∷ Row.off ∷ Row.off ∷
+              Row.alive ∷ Row.alive ∷ Row.alive ∷ List.[];
+        }
+
         abbrev G71 : Row.Cx
-        G71 = record { locals = List._++_ t62 (List._++_ t1 t2); slots = life0 ∷ life1 ∷ life2 ∷ life3 ∷ life4 ∷ Row.off ∷ Row.off ∷ Row.off ∷ Row.off
-            ∷ Row.off ∷ Row.off ∷ Row.dead ∷ Row.alive ∷ Row.alive ∷ List.[]; }
+        G71 = record {
+          locals = List._++_ t62 (List._++_ t1 t2);
+          slots = life0 ∷ life1 ∷ life2 ∷ life3 ∷ life4 ∷ Row.off ∷ Row.off ∷ Row.off ∷ Row.off ∷ Row.off ∷ Row.off ∷
+              Row.dead ∷ Row.alive ∷ Row.alive ∷ List.[];
+        }
+
         abbrev G72 : Row.Cx
-        G72 = record { locals = List._++_ t63 (List._++_ t1 t2); slots = life0 ∷ life1 ∷ life2 ∷ life3 ∷ life4 ∷ Row.off ∷ Row.off ∷ Row.off ∷ Row.off
-            ∷ Row.off ∷ Row.off ∷ Row.dead ∷ Row.alive ∷ Row.alive ∷ List.[]; }
+        G72 = record {
+          locals = List._++_ t63 (List._++_ t1 t2);
+          slots = life0 ∷ life1 ∷ life2 ∷ life3 ∷ life4 ∷ Row.off ∷ Row.off ∷ Row.off ∷ Row.off ∷ Row.off ∷ Row.off ∷
+              Row.dead ∷ Row.alive ∷ Row.alive ∷ List.[];
+        }
+
         abbrev G73 : Row.Cx
-        G73 = record { locals = List._++_ t63 (List._++_ t1 t2); slots = life0 ∷ life1 ∷ life2 ∷ life3 ∷ life4 ∷ Row.off ∷ Row.off ∷ Row.off ∷ Row.off
-            ∷ Row.off ∷ Row.off ∷ Row.off ∷ Row.alive ∷ Row.alive ∷ List.[]; }
+        G73 = record {
+          locals = List._++_ t63 (List._++_ t1 t2);
+          slots = life0 ∷ life1 ∷ life2 ∷ life3 ∷ life4 ∷ Row.off ∷ Row.off ∷ Row.off ∷ Row.off ∷ Row.off ∷ Row.off ∷
+              Row.off ∷ Row.alive ∷ Row.alive ∷ List.[];
+        }
+
         abbrev G74 : Row.Cx
-        G74 = record { locals = List._++_ t64 (List._++_ t1 t2); slots = life0 ∷ life1 ∷ life2 ∷ life3 ∷ life4 ∷ Row.off ∷ Row.off ∷ Row.off ∷ Row.off
-            ∷ Row.off ∷ Row.off ∷ Row.off ∷ Row.alive ∷ Row.alive ∷ List.[]; }
+        G74 = record {
+          locals = List._++_ t64 (List._++_ t1 t2);
+          slots = life0 ∷ life1 ∷ life2 ∷ life3 ∷ life4 ∷ Row.off ∷ Row.off ∷ Row.off ∷ Row.off ∷ Row.off ∷ Row.off ∷
+              Row.off ∷ Row.alive ∷ Row.alive ∷ List.[];
+        }
+
         abbrev G75 : Row.Cx
-        G75 = record { locals = List._++_ t64 (List._++_ t1 t2); slots = life0 ∷ life1 ∷ life2 ∷ life3 ∷ life4 ∷ Row.off ∷ Row.off ∷ Row.off ∷ Row.off
-            ∷ Row.off ∷ Row.off ∷ Row.off ∷ Row.dead ∷ Row.alive ∷ List.[]; }
+        G75 = record {
+          locals = List._++_ t64 (List._++_ t1 t2);
+          slots = life0 ∷ life1 ∷ life2 ∷ life3 ∷ life4 ∷ Row.off ∷ Row.off ∷ Row.off ∷ Row.off ∷ Row.off ∷ Row.off ∷
+              Row.off ∷ Row.dead ∷ Row.alive ∷ List.[];
+        }
+
         abbrev G76 : Row.Cx
-        G76 = record { locals = List._++_ t65 (List._++_ t1 t2); slots = life0 ∷ life1 ∷ life2 ∷ life3 ∷ life4 ∷ Row.off ∷ Row.off ∷ Row.off ∷ Row.off
-            ∷ Row.off ∷ Row.off ∷ Row.off ∷ Row.dead ∷ Row.alive ∷ List.[]; }
+        G76 = record {
+          locals = List._++_ t65 (List._++_ t1 t2);
+          slots = life0 ∷ life1 ∷ life2 ∷ life3 ∷ life4 ∷ Row.off ∷ Row.off ∷ Row.off ∷ Row.off ∷ Row.off ∷ Row.off ∷
+              Row.off ∷ Row.dead ∷ Row.alive ∷ List.[];
+        }
+
         abbrev G77 : Row.Cx
-        G77 = record { locals = List._++_ t65 (List._++_ t1 t2); slots = life0 ∷ life1 ∷ life2 ∷ life3 ∷ life4 ∷ Row.off ∷ Row.off ∷ Row.off ∷ Row.off
-            ∷ Row.off ∷ Row.off ∷ Row.off ∷ Row.off ∷ Row.alive ∷ List.[]; }
+        G77 = record {
+          locals = List._++_ t65 (List._++_ t1 t2);
+          slots = life0 ∷ life1 ∷ life2 ∷ life3 ∷ life4 ∷ Row.off ∷ Row.off ∷ Row.off ∷ Row.off ∷ Row.off ∷ Row.off ∷
+              Row.off ∷ Row.off ∷ Row.alive ∷ List.[];
+        }
+
         abbrev G78 : Row.Cx
-        G78 = record { locals = List._++_ t66 (List._++_ t1 t2); slots = life0 ∷ life1 ∷ life2 ∷ life3 ∷ life4 ∷ Row.off ∷ Row.off ∷ Row.off ∷ Row.off
-            ∷ Row.off ∷ Row.off ∷ Row.off ∷ Row.off ∷ Row.alive ∷ List.[]; }
+        G78 = record {
+          locals = List._++_ t66 (List._++_ t1 t2);
+          slots = life0 ∷ life1 ∷ life2 ∷ life3 ∷ life4 ∷ Row.off ∷ Row.off ∷ Row.off ∷ Row.off ∷ Row.off ∷ Row.off ∷
+              Row.off ∷ Row.off ∷ Row.alive ∷ List.[];
+        }
+
         abbrev G79 : Row.Cx
-        G79 = record { locals = List._++_ t66 (List._++_ t1 t2); slots = life0 ∷ life1 ∷ life2 ∷ life3 ∷ life4 ∷ Row.off ∷ Row.off ∷ Row.off ∷ Row.off
-            ∷ Row.off ∷ Row.off ∷ Row.off ∷ Row.off ∷ Row.dead ∷ List.[]; }
+        G79 = record {
+          locals = List._++_ t66 (List._++_ t1 t2);
+          slots = life0 ∷ life1 ∷ life2 ∷ life3 ∷ life4 ∷ Row.off ∷ Row.off ∷ Row.off ∷ Row.off ∷ Row.off ∷ Row.off ∷
+              Row.off ∷ Row.off ∷ Row.dead ∷ List.[];
+        }
+
         abbrev G80 : Row.Cx
-        G80 = record { locals = List._++_ t67 (List._++_ t1 t2); slots = life0 ∷ life1 ∷ life2 ∷ life3 ∷ life4 ∷ Row.off ∷ Row.off ∷ Row.off ∷ Row.off
-            ∷ Row.off ∷ Row.off ∷ Row.off ∷ Row.off ∷ Row.dead ∷ List.[]; }
+        G80 = record {
+          locals = List._++_ t67 (List._++_ t1 t2);
+          slots = life0 ∷ life1 ∷ life2 ∷ life3 ∷ life4 ∷ Row.off ∷ Row.off ∷ Row.off ∷ Row.off ∷ Row.off ∷ Row.off ∷
+              Row.off ∷ Row.off ∷ Row.dead ∷ List.[];
+        }
+
         abbrev G81 : Row.Cx
-        G81 = record { locals = List._++_ t67 (List._++_ t1 t2); slots = life0 ∷ life1 ∷ life2 ∷ life3 ∷ life4 ∷ Row.off ∷ Row.off ∷ Row.off ∷ Row.off
-            ∷ Row.off ∷ Row.off ∷ Row.off ∷ Row.off ∷ Row.off ∷ List.[]; }
+        G81 = record {
+          locals = List._++_ t67 (List._++_ t1 t2);
+          slots = life0 ∷ life1 ∷ life2 ∷ life3 ∷ life4 ∷ Row.off ∷ Row.off ∷ Row.off ∷ Row.off ∷ Row.off ∷ Row.off ∷
+              Row.off ∷ Row.off ∷ Row.off ∷ List.[];
+        }
+
         abbrev G82 : Row.Cx
-        G82 = record { locals = List._++_ t3 (List._++_ t1 t2); slots = life0 ∷ life1 ∷ life2 ∷ life3 ∷ life4 ∷ Row.off ∷ Row.off ∷ Row.off ∷ Row.off
-            ∷ Row.off ∷ Row.off ∷ Row.off ∷ Row.off ∷ Row.off ∷ List.[]; }
+        G82 = record {
+          locals = List._++_ t3 (List._++_ t1 t2);
+          slots = life0 ∷ life1 ∷ life2 ∷ life3 ∷ life4 ∷ Row.off ∷ Row.off ∷ Row.off ∷ Row.off ∷ Row.off ∷ Row.off ∷
+              Row.off ∷ Row.off ∷ Row.off ∷ List.[];
+        }
+
         abbrev Δ0 : Typed.Outs
         Δ0 = record { next = Option.none; exits = List.[]; returns = Option.some G1 }
-        module _ { M : Type 1 } (𝓤 : URA.URA M) (H : Wp.Heap 𝓤) (A : Atoms.Atoms 𝓤) (W : Kit.Given 𝓤 H A) (𝓣 : Wp.Tables 𝓤 H) (known : Knowns 𝓤 H A W
-            𝓣) (bs : List.List Nat.ℕ) (bd : Lifetimes.AllOutlive 5 (Kinds.osR r) κs) where
+
+        module _ {M : Type 1} (𝓤 : URA.URA M) (H : Wp.Heap 𝓤) (A : Atoms.Atoms 𝓤) (W : Kit.Given 𝓤 H A)
+            (𝓣 : Wp.Tables 𝓤 H) (known : Knowns 𝓤 H A W 𝓣) (bs : List.List Nat.ℕ)
+            (bd : Lifetimes.AllOutlive 5 (Kinds.osR r) κs) where
           abbrev E : Wp.Env 𝓤 H
           E = Frame.EnvOf 𝓤 H ((Kinds.tyR r) ∷ (Enter.tysP ps xs)) bs
+
           d0 : Typed.Typed 𝓤 H A 𝓣 E G82 b27 Δ0 (at0 bs)
           d0 = Typed.t-return 𝓤 H A W 𝓣 E Δ0 tt
+
           d1 : Typed.Typed 𝓤 H A 𝓣 E G81 b27 Δ0 (at1 bs)
-          d1 = Typed.g-pre 𝓤 H A W 𝓣 E G81 G82 b27 Δ0 (Typed.pass T80 T82 (s80 bs)) (at0 bs) (Scalar.g-room 𝓤 H A W E G81 11 (Syntax.tyArray
-              (Syntax.tyInt Syntax.w8) 8) (Init.room-arr 𝓤 H A W (Referent.rtF (Referent.fInt Syntax.w8)) 8 0 8 Path.refl)) d0
+          d1 = Typed.g-pre 𝓤 H A W 𝓣 E G81 G82 b27 Δ0 (Typed.pass T80 T82 (s80 bs)) (at0 bs) (Scalar.g-room 𝓤 H A W E
+              G81 11 (Syntax.tyArray (Syntax.tyInt Syntax.w8) 8) (Init.room-arr 𝓤 H A W
+              (Referent.rtF (Referent.fInt Syntax.w8)) 8 0 8 Path.refl)) d0
+
           d2 : Typed.Typed 𝓤 H A 𝓣 E G80 b27 Δ0 (at2 bs)
-          d2 = Typed.g-pre 𝓤 H A W 𝓣 E G80 G81 b27 Δ0 (λ Ψ. Ψ) (at1 bs) (Lifetime.g-forget 𝓤 H A W E G80 13 Row.dead Path.refl) d1
+          d2 = Typed.g-pre 𝓤 H A W 𝓣 E G80 G81 b27 Δ0 (λ Ψ. Ψ) (at1 bs)
+              (Lifetime.g-forget 𝓤 H A W E G80 13 Row.dead Path.refl) d1
+
           d3 : Typed.Typed 𝓤 H A 𝓣 E G79 b27 Δ0 (at3 bs)
-          d3 = Typed.g-pre 𝓤 H A W 𝓣 E G79 G80 b27 Δ0 (Typed.pass T78 T80 (s78 bs)) (at2 bs) (Share.g-back-arr-shr 𝓤 H A W E (Referent.rtF
-              (Referent.fInt Syntax.w8)) G79 11 8 13 (λ x. x) (Reads.as-is 𝓤 H A (Rows.arr-shr (Referent.rtF (Referent.fInt Syntax.w8)) 8 13))
-              Path.refl) d2
+          d3 = Typed.g-pre 𝓤 H A W 𝓣 E G79 G80 b27 Δ0 (Typed.pass T78 T80 (s78 bs)) (at2 bs) (Share.g-back-arr-shr 𝓤 H
+              A W E (Referent.rtF (Referent.fInt Syntax.w8)) G79 11 8 13 (λ x. x) (Reads.as-is 𝓤 H A (Rows.arr-shr
+              (Referent.rtF (Referent.fInt Syntax.w8)) 8 13)) Path.refl) d2
+
           d4 : Typed.Typed 𝓤 H A 𝓣 E G78 b27 Δ0 (at4 bs)
           d4 = Typed.g-pre 𝓤 H A W 𝓣 E G78 G79 b27 Δ0 (λ Ψ. Ψ) (at3 bs) (Lifetime.g-end 𝓤 H A W E G78 13 Path.refl) d3
+
           d5 : Typed.Typed 𝓤 H A 𝓣 E G77 b27 Δ0 (at5 bs)
-          d5 = Typed.g-pre 𝓤 H A W 𝓣 E G77 G78 b27 Δ0 (Typed.pass T76 T78 (s76 bs)) (at4 bs) (Scalar.g-room 𝓤 H A W E G77 10 (Syntax.tyArray
-              (Syntax.tyInt Syntax.w8) 1) (Init.room-arr 𝓤 H A W (Referent.rtF (Referent.fInt Syntax.w8)) 1 0 1 Path.refl)) d4
+          d5 = Typed.g-pre 𝓤 H A W 𝓣 E G77 G78 b27 Δ0 (Typed.pass T76 T78 (s76 bs)) (at4 bs) (Scalar.g-room 𝓤 H A W E
+              G77 10 (Syntax.tyArray (Syntax.tyInt Syntax.w8) 1) (Init.room-arr 𝓤 H A W
+              (Referent.rtF (Referent.fInt Syntax.w8)) 1 0 1 Path.refl)) d4
+
           d6 : Typed.Typed 𝓤 H A 𝓣 E G76 b27 Δ0 (at6 bs)
-          d6 = Typed.g-pre 𝓤 H A W 𝓣 E G76 G77 b27 Δ0 (λ Ψ. Ψ) (at5 bs) (Lifetime.g-forget 𝓤 H A W E G76 12 Row.dead Path.refl) d5
+          d6 = Typed.g-pre 𝓤 H A W 𝓣 E G76 G77 b27 Δ0 (λ Ψ. Ψ) (at5 bs)
+              (Lifetime.g-forget 𝓤 H A W E G76 12 Row.dead Path.refl) d5
+
           d7 : Typed.Typed 𝓤 H A 𝓣 E G75 b27 Δ0 (at7 bs)
-          d7 = Typed.g-pre 𝓤 H A W 𝓣 E G75 G76 b27 Δ0 (Typed.pass T74 T76 (s74 bs)) (at6 bs) (Share.g-back-arr-shr 𝓤 H A W E (Referent.rtF
-              (Referent.fInt Syntax.w8)) G75 10 1 12 (λ x. x) (Reads.as-is 𝓤 H A (Rows.arr-shr (Referent.rtF (Referent.fInt Syntax.w8)) 1 12))
-              Path.refl) d6
+          d7 = Typed.g-pre 𝓤 H A W 𝓣 E G75 G76 b27 Δ0 (Typed.pass T74 T76 (s74 bs)) (at6 bs) (Share.g-back-arr-shr 𝓤 H
+              A W E (Referent.rtF (Referent.fInt Syntax.w8)) G75 10 1 12 (λ x. x) (Reads.as-is 𝓤 H A (Rows.arr-shr
+              (Referent.rtF (Referent.fInt Syntax.w8)) 1 12)) Path.refl) d6
+
           d8 : Typed.Typed 𝓤 H A 𝓣 E G74 b27 Δ0 (at8 bs)
           d8 = Typed.g-pre 𝓤 H A W 𝓣 E G74 G75 b27 Δ0 (λ Ψ. Ψ) (at7 bs) (Lifetime.g-end 𝓤 H A W E G74 12 Path.refl) d7
+
           d9 : Typed.Typed 𝓤 H A 𝓣 E G73 b27 Δ0 (at9 bs)
-          d9 = Typed.g-pre 𝓤 H A W 𝓣 E G73 G74 b27 Δ0 (Typed.pass T72 T74 (s72 bs)) (at8 bs) (Scalar.g-room 𝓤 H A W E G73 8 (Syntax.tyArray
-              (Syntax.tyInt Syntax.w8) 103) (Init.room-arr 𝓤 H A W (Referent.rtF (Referent.fInt Syntax.w8)) 103 0 103 Path.refl)) d8
+          d9 = Typed.g-pre 𝓤 H A W 𝓣 E G73 G74 b27 Δ0 (Typed.pass T72 T74 (s72 bs)) (at8 bs) (Scalar.g-room 𝓤 H A W E
+              G73 8 (Syntax.tyArray (Syntax.tyInt Syntax.w8) 103) (Init.room-arr 𝓤 H A W
+              (Referent.rtF (Referent.fInt Syntax.w8)) 103 0 103 Path.refl)) d8
+
           d10 : Typed.Typed 𝓤 H A 𝓣 E G72 b27 Δ0 (at10 bs)
-          d10 = Typed.g-pre 𝓤 H A W 𝓣 E G72 G73 b27 Δ0 (λ Ψ. Ψ) (at9 bs) (Lifetime.g-forget 𝓤 H A W E G72 11 Row.dead Path.refl) d9
+          d10 = Typed.g-pre 𝓤 H A W 𝓣 E G72 G73 b27 Δ0 (λ Ψ. Ψ) (at9 bs)
+              (Lifetime.g-forget 𝓤 H A W E G72 11 Row.dead Path.refl) d9
+
           d11 : Typed.Typed 𝓤 H A 𝓣 E G71 b27 Δ0 (at11 bs)
-          d11 = Typed.g-pre 𝓤 H A W 𝓣 E G71 G72 b27 Δ0 (Typed.pass T70 T72 (s70 bs)) (at10 bs) (Share.g-back-arr-shr 𝓤 H A W E (Referent.rtF
-              (Referent.fInt Syntax.w8)) G71 8 103 11 (λ x. x) (Reads.as-is 𝓤 H A (Rows.arr-shr (Referent.rtF (Referent.fInt Syntax.w8)) 103 11))
-              Path.refl) d10
+          d11 = Typed.g-pre 𝓤 H A W 𝓣 E G71 G72 b27 Δ0 (Typed.pass T70 T72 (s70 bs)) (at10 bs) (Share.g-back-arr-shr 𝓤
+              H A W E (Referent.rtF (Referent.fInt Syntax.w8)) G71 8 103 11 (λ x. x) (Reads.as-is 𝓤 H A (Rows.arr-shr
+              (Referent.rtF (Referent.fInt Syntax.w8)) 103 11)) Path.refl) d10
+
           d12 : Typed.Typed 𝓤 H A 𝓣 E G70 b27 Δ0 (at12 bs)
-          d12 = Typed.g-pre 𝓤 H A W 𝓣 E G70 G71 b27 Δ0 (λ Ψ. Ψ) (at11 bs) (Lifetime.g-end 𝓤 H A W E G70 11 Path.refl) d11
+          d12 = Typed.g-pre 𝓤 H A W 𝓣 E G70 G71 b27 Δ0 (λ Ψ. Ψ) (at11 bs) (Lifetime.g-end 𝓤 H A W E G70 11 Path.refl)
+              d11
+
           d13 : Typed.Typed 𝓤 H A 𝓣 E G69 b27 Δ0 (at13 bs)
-          d13 = Typed.g-pre 𝓤 H A W 𝓣 E G69 G70 b27 Δ0 (Typed.pass T68 T70 (s68 bs)) (at12 bs) (Scalar.g-room 𝓤 H A W E G69 9 (Syntax.tyArray
-              (Syntax.tyInt Syntax.w8) 1) (Init.room-arr 𝓤 H A W (Referent.rtF (Referent.fInt Syntax.w8)) 1 0 1 Path.refl)) d12
+          d13 = Typed.g-pre 𝓤 H A W 𝓣 E G69 G70 b27 Δ0 (Typed.pass T68 T70 (s68 bs)) (at12 bs) (Scalar.g-room 𝓤 H A W E
+              G69 9 (Syntax.tyArray (Syntax.tyInt Syntax.w8) 1) (Init.room-arr 𝓤 H A W
+              (Referent.rtF (Referent.fInt Syntax.w8)) 1 0 1 Path.refl)) d12
+
           d14 : Typed.Typed 𝓤 H A 𝓣 E G68 b27 Δ0 (at14 bs)
-          d14 = Typed.g-pre 𝓤 H A W 𝓣 E G68 G69 b27 Δ0 (λ Ψ. Ψ) (at13 bs) (Lifetime.g-forget 𝓤 H A W E G68 10 Row.dead Path.refl) d13
+          d14 = Typed.g-pre 𝓤 H A W 𝓣 E G68 G69 b27 Δ0 (λ Ψ. Ψ) (at13 bs)
+              (Lifetime.g-forget 𝓤 H A W E G68 10 Row.dead Path.refl) d13
+
           d15 : Typed.Typed 𝓤 H A 𝓣 E G67 b27 Δ0 (at15 bs)
-          d15 = Typed.g-pre 𝓤 H A W 𝓣 E G67 G68 b27 Δ0 (Typed.pass T65 T68 (s66 bs)) (at14 bs) (Share.g-back-arr-shr 𝓤 H A W E (Referent.rtF
-              (Referent.fInt Syntax.w8)) G67 9 1 10 (λ x. x) (Reads.as-is 𝓤 H A (Rows.arr-shr (Referent.rtF (Referent.fInt Syntax.w8)) 1 10))
-              Path.refl) d14
+          d15 = Typed.g-pre 𝓤 H A W 𝓣 E G67 G68 b27 Δ0 (Typed.pass T65 T68 (s66 bs)) (at14 bs) (Share.g-back-arr-shr 𝓤
+              H A W E (Referent.rtF (Referent.fInt Syntax.w8)) G67 9 1 10 (λ x. x) (Reads.as-is 𝓤 H A (Rows.arr-shr
+              (Referent.rtF (Referent.fInt Syntax.w8)) 1 10)) Path.refl) d14
+
           d16 : Typed.Typed 𝓤 H A 𝓣 E G66 b27 Δ0 (at16 bs)
-          d16 = Typed.g-pre 𝓤 H A W 𝓣 E G66 G67 b27 Δ0 (λ Ψ. Ψ) (at15 bs) (Lifetime.g-end 𝓤 H A W E G66 10 Path.refl) d15
+          d16 = Typed.g-pre 𝓤 H A W 𝓣 E G66 G67 b27 Δ0 (λ Ψ. Ψ) (at15 bs) (Lifetime.g-end 𝓤 H A W E G66 10 Path.refl)
+              d15
+
           d17 : Typed.Typed 𝓤 H A 𝓣 E G65 b27 Δ0 (at17 bs)
-          d17 = Typed.g-pre 𝓤 H A W 𝓣 E G65 G66 b27 Δ0 (λ Ψ. Ψ) (at16 bs) (Lifetime.g-forget 𝓤 H A W E G65 9 Row.dead Path.refl) d16
+          d17 = Typed.g-pre 𝓤 H A W 𝓣 E G65 G66 b27 Δ0 (λ Ψ. Ψ) (at16 bs)
+              (Lifetime.g-forget 𝓤 H A W E G65 9 Row.dead Path.refl) d16
+
           d18 : Typed.Typed 𝓤 H A 𝓣 E G64 b27 Δ0 (at18 bs)
-          d18 = Typed.g-pre 𝓤 H A W 𝓣 E G64 G65 b27 Δ0 (Typed.give (s63 bs)) (at17 bs) (Know.g-sl-known 𝓤 H A W (Referent.fInt Syntax.w32) E G64 5 4
-              ref13 life4 0 (λ x. x) record { fits = Dec.lit< tt } (Reads.as-is 𝓤 H A (Mut.mslice (Referent.rtF (Referent.fInt Syntax.w32)) ref13 4))
-              Path.refl tt) d17
+          d18 = Typed.g-pre 𝓤 H A W 𝓣 E G64 G65 b27 Δ0 (Typed.give (s63 bs)) (at17 bs) (Know.g-sl-known 𝓤 H A W
+              (Referent.fInt Syntax.w32) E G64 5 4 ref13 life4 0 (λ x. x) record { fits = Dec.lit< tt } (Reads.as-is 𝓤
+              H A (Mut.mslice (Referent.rtF (Referent.fInt Syntax.w32)) ref13 4)) Path.refl tt) d17
+
           d19 : Typed.Typed 𝓤 H A 𝓣 E G63 b27 Δ0 (at19 bs)
-          d19 = Typed.g-pre 𝓤 H A W 𝓣 E G63 G64 b27 Δ0 (Typed.both (s62 bs)) (at18 bs) (Relend.g-back-sl 𝓤 H A W E (Referent.rtF (Referent.fInt
-              Syntax.w32)) G63 24 5 4 9 ref13 ref4 life4 (λ x. x) (λ x. x) (Reads.as-is 𝓤 H A (Mut.msleft (Referent.rtF (Referent.fInt Syntax.w32))
-              ref4)) (Reads.as-is 𝓤 H A (Relend.mslice-owed (Referent.rtF (Referent.fInt Syntax.w32)) ref13 4 9 life4)) Path.refl Path.refl) d18
+          d19 = Typed.g-pre 𝓤 H A W 𝓣 E G63 G64 b27 Δ0 (Typed.both (s62 bs)) (at18 bs) (Relend.g-back-sl 𝓤 H A W E
+              (Referent.rtF (Referent.fInt Syntax.w32)) G63 24 5 4 9 ref13 ref4 life4 (λ x. x) (λ x. x) (Reads.as-is 𝓤
+              H A (Mut.msleft (Referent.rtF (Referent.fInt Syntax.w32)) ref4)) (Reads.as-is 𝓤 H A (Relend.mslice-owed
+              (Referent.rtF (Referent.fInt Syntax.w32)) ref13 4 9 life4)) Path.refl Path.refl) d18
+
           d20 : Typed.Typed 𝓤 H A 𝓣 E G62 b27 Δ0 (at20 bs)
-          d20 = Typed.g-pre 𝓤 H A W 𝓣 E G62 G63 b27 Δ0 (λ Ψ. Ψ) (at19 bs) (Lifetime.g-end 𝓤 H A W E G62 9 Path.refl) d19
+          d20 = Typed.g-pre 𝓤 H A W 𝓣 E G62 G63 b27 Δ0 (λ Ψ. Ψ) (at19 bs) (Lifetime.g-end 𝓤 H A W E G62 9 Path.refl)
+              d19
+
           d21 : Typed.Typed 𝓤 H A 𝓣 E G61 b27 Δ0 (at21 bs)
-          d21 = Typed.g-pre 𝓤 H A W 𝓣 E G61 G62 b27 Δ0 (λ Ψ. Ψ) (at20 bs) (Lifetime.g-forget 𝓤 H A W E G61 8 Row.dead Path.refl) d20
+          d21 = Typed.g-pre 𝓤 H A W 𝓣 E G61 G62 b27 Δ0 (λ Ψ. Ψ) (at20 bs)
+              (Lifetime.g-forget 𝓤 H A W E G61 8 Row.dead Path.refl) d20
+
           d22 : Typed.Typed 𝓤 H A 𝓣 E G60 b27 Δ0 (at22 bs)
-          d22 = Typed.g-pre 𝓤 H A W 𝓣 E G60 G61 b27 Δ0 (Typed.both (s59 bs)) (at21 bs) (Relend.g-back-sl 𝓤 H A W E InflightAction.row G60 22 4 3 8
-              ref12 ref3 life3 (λ x. x) (λ x. x) (Reads.as-is 𝓤 H A (Mut.msleft InflightAction.row ref3)) (Reads.as-is 𝓤 H A (Relend.mslice-owed
-              InflightAction.row ref12 3 8 life3)) Path.refl Path.refl) d21
+          d22 = Typed.g-pre 𝓤 H A W 𝓣 E G60 G61 b27 Δ0 (Typed.both (s59 bs)) (at21 bs) (Relend.g-back-sl 𝓤 H A W E
+              InflightAction.row G60 22 4 3 8 ref12 ref3 life3 (λ x. x) (λ x. x)
+              (Reads.as-is 𝓤 H A (Mut.msleft InflightAction.row ref3)) (Reads.as-is 𝓤 H A
+              (Relend.mslice-owed InflightAction.row ref12 3 8 life3)) Path.refl Path.refl) d21
+
           d23 : Typed.Typed 𝓤 H A 𝓣 E G59 b27 Δ0 (at23 bs)
-          d23 = Typed.g-pre 𝓤 H A W 𝓣 E G59 G60 b27 Δ0 (λ Ψ. Ψ) (at22 bs) (Lifetime.g-end 𝓤 H A W E G59 8 Path.refl) d22
+          d23 = Typed.g-pre 𝓤 H A W 𝓣 E G59 G60 b27 Δ0 (λ Ψ. Ψ) (at22 bs) (Lifetime.g-end 𝓤 H A W E G59 8 Path.refl)
+              d22
+
           d24 : Typed.Typed 𝓤 H A 𝓣 E G58 b27 Δ0 (at24 bs)
-          d24 = Typed.g-pre 𝓤 H A W 𝓣 E G58 G59 b27 Δ0 (λ Ψ. Ψ) (at23 bs) (Lifetime.g-forget 𝓤 H A W E G58 7 Row.dead Path.refl) d23
+          d24 = Typed.g-pre 𝓤 H A W 𝓣 E G58 G59 b27 Δ0 (λ Ψ. Ψ) (at23 bs)
+              (Lifetime.g-forget 𝓤 H A W E G58 7 Row.dead Path.refl) d23
+
           d25 : Typed.Typed 𝓤 H A 𝓣 E G57 b27 Δ0 (at25 bs)
-          d25 = Typed.g-pre 𝓤 H A W 𝓣 E G57 G58 b27 Δ0 (Typed.both (s56 bs)) (at24 bs) (Relend.g-back-sl 𝓤 H A W E ReservationUsage.row G57 20 3 2 7
-              ref11 ref2 life2 (λ x. x) (λ x. x) (Reads.as-is 𝓤 H A (Mut.msleft ReservationUsage.row ref2)) (Reads.as-is 𝓤 H A (Relend.mslice-owed
-              ReservationUsage.row ref11 2 7 life2)) Path.refl Path.refl) d24
+          d25 = Typed.g-pre 𝓤 H A W 𝓣 E G57 G58 b27 Δ0 (Typed.both (s56 bs)) (at24 bs) (Relend.g-back-sl 𝓤 H A W E
+              ReservationUsage.row G57 20 3 2 7 ref11 ref2 life2 (λ x. x) (λ x. x)
+              (Reads.as-is 𝓤 H A (Mut.msleft ReservationUsage.row ref2)) (Reads.as-is 𝓤 H A
+              (Relend.mslice-owed ReservationUsage.row ref11 2 7 life2)) Path.refl Path.refl) d24
+
           d26 : Typed.Typed 𝓤 H A 𝓣 E G56 b27 Δ0 (at26 bs)
-          d26 = Typed.g-pre 𝓤 H A W 𝓣 E G56 G57 b27 Δ0 (λ Ψ. Ψ) (at25 bs) (Lifetime.g-end 𝓤 H A W E G56 7 Path.refl) d25
+          d26 = Typed.g-pre 𝓤 H A W 𝓣 E G56 G57 b27 Δ0 (λ Ψ. Ψ) (at25 bs) (Lifetime.g-end 𝓤 H A W E G56 7 Path.refl)
+              d25
+
           d27 : Typed.Typed 𝓤 H A 𝓣 E G55 b27 Δ0 (at27 bs)
-          d27 = Typed.g-pre 𝓤 H A W 𝓣 E G55 G56 b27 Δ0 (λ Ψ. Ψ) (at26 bs) (Lifetime.g-forget 𝓤 H A W E G55 6 Row.dead Path.refl) d26
+          d27 = Typed.g-pre 𝓤 H A W 𝓣 E G55 G56 b27 Δ0 (λ Ψ. Ψ) (at26 bs)
+              (Lifetime.g-forget 𝓤 H A W E G55 6 Row.dead Path.refl) d26
+
           d28 : Typed.Typed 𝓤 H A 𝓣 E G54 b27 Δ0 (at28 bs)
-          d28 = Typed.g-pre 𝓤 H A W 𝓣 E G54 G55 b27 Δ0 (Typed.both (s53 bs)) (at27 bs) (Relend.g-back-sl 𝓤 H A W E RelayCircuit.row G54 18 2 1 6 ref10
-              ref1 life1 (λ x. x) (λ x. x) (Reads.as-is 𝓤 H A (Mut.msleft RelayCircuit.row ref1)) (Reads.as-is 𝓤 H A (Relend.mslice-owed
-              RelayCircuit.row ref10 1 6 life1)) Path.refl Path.refl) d27
+          d28 = Typed.g-pre 𝓤 H A W 𝓣 E G54 G55 b27 Δ0 (Typed.both (s53 bs)) (at27 bs) (Relend.g-back-sl 𝓤 H A W E
+              RelayCircuit.row G54 18 2 1 6 ref10 ref1 life1 (λ x. x) (λ x. x)
+              (Reads.as-is 𝓤 H A (Mut.msleft RelayCircuit.row ref1)) (Reads.as-is 𝓤 H A
+              (Relend.mslice-owed RelayCircuit.row ref10 1 6 life1)) Path.refl Path.refl) d27
+
           d29 : Typed.Typed 𝓤 H A 𝓣 E G53 b27 Δ0 (at29 bs)
-          d29 = Typed.g-pre 𝓤 H A W 𝓣 E G53 G54 b27 Δ0 (λ Ψ. Ψ) (at28 bs) (Lifetime.g-end 𝓤 H A W E G53 6 Path.refl) d28
+          d29 = Typed.g-pre 𝓤 H A W 𝓣 E G53 G54 b27 Δ0 (λ Ψ. Ψ) (at28 bs) (Lifetime.g-end 𝓤 H A W E G53 6 Path.refl)
+              d28
+
           d30 : Typed.Typed 𝓤 H A 𝓣 E G52 b27 Δ0 (at30 bs)
-          d30 = Typed.g-pre 𝓤 H A W 𝓣 E G52 G53 b27 Δ0 (λ Ψ. Ψ) (at29 bs) (Lifetime.g-forget 𝓤 H A W E G52 5 Row.dead Path.refl) d29
+          d30 = Typed.g-pre 𝓤 H A W 𝓣 E G52 G53 b27 Δ0 (λ Ψ. Ψ) (at29 bs)
+              (Lifetime.g-forget 𝓤 H A W E G52 5 Row.dead Path.refl) d29
+
           d31 : Typed.Typed 𝓤 H A 𝓣 E G51 b27 Δ0 (at31 bs)
-          d31 = Typed.g-pre 𝓤 H A W 𝓣 E G51 G52 b27 Δ0 (Typed.both (s50 bs)) (at30 bs) (Relend.g-back-sl 𝓤 H A W E RelayPending.row G51 16 1 0 5 ref9
-              ref0 life0 (λ x. x) (λ x. x) (Reads.as-is 𝓤 H A (Mut.msleft RelayPending.row ref0)) (Reads.as-is 𝓤 H A (Relend.mslice-owed
-              RelayPending.row ref9 0 5 life0)) Path.refl Path.refl) d30
+          d31 = Typed.g-pre 𝓤 H A W 𝓣 E G51 G52 b27 Δ0 (Typed.both (s50 bs)) (at30 bs) (Relend.g-back-sl 𝓤 H A W E
+              RelayPending.row G51 16 1 0 5 ref9 ref0 life0 (λ x. x) (λ x. x)
+              (Reads.as-is 𝓤 H A (Mut.msleft RelayPending.row ref0)) (Reads.as-is 𝓤 H A
+              (Relend.mslice-owed RelayPending.row ref9 0 5 life0)) Path.refl Path.refl) d30
+
           d32 : Typed.Typed 𝓤 H A 𝓣 E G50 b27 Δ0 (at32 bs)
-          d32 = Typed.g-pre 𝓤 H A W 𝓣 E G50 G51 b27 Δ0 (λ Ψ. Ψ) (at31 bs) (Lifetime.g-end 𝓤 H A W E G50 5 Path.refl) d31
+          d32 = Typed.g-pre 𝓤 H A W 𝓣 E G50 G51 b27 Δ0 (λ Ψ. Ψ) (at31 bs) (Lifetime.g-end 𝓤 H A W E G50 5 Path.refl)
+              d31
+
           d33 : Typed.Typed 𝓤 H A 𝓣 E G49 b27 Δ0 (at33 bs)
-          d33 = Typed.g-pre 𝓤 H A W 𝓣 E G49 G50 b27 Δ0 (Typed.pass T49 T50 (s48 bs)) (at32 bs) (Scalar.g-room 𝓤 H A W E G49 13 Laws.mir
-              (Local.room-whole 𝓤 H A W (Declared.row Places.the-type) Laws.mir Path.refl)) d32
+          d33 = Typed.g-pre 𝓤 H A W 𝓣 E G49 G50 b27 Δ0 (Typed.pass T49 T50 (s48 bs)) (at32 bs) (Scalar.g-room 𝓤 H A W E
+              G49 13 Laws.mir (Local.room-whole 𝓤 H A W (Declared.row Places.the-type) Laws.mir Path.refl)) d32
+
           d34 : Typed.Typed 𝓤 H A 𝓣 E G48 b27 Δ0 (at34 bs)
-          d34 = Typed.g-pre 𝓤 H A W 𝓣 E G48 G49 b27 Δ0 (Typed.pass T48 T49 (s47 bs)) (at33 bs) (Scalar.g-room 𝓤 H A W E G48 12 Laws''.mir
-              (Local.room-whole 𝓤 H A W (Declared.row OpaqueRelayRuntime.the-type) Laws''.mir Path.refl)) d33
+          d34 = Typed.g-pre 𝓤 H A W 𝓣 E G48 G49 b27 Δ0 (Typed.pass T48 T49 (s47 bs)) (at33 bs) (Scalar.g-room 𝓤 H A W E
+              G48 12 Laws''.mir (Local.room-whole 𝓤 H A W (Declared.row OpaqueRelayRuntime.the-type) Laws''.mir
+              Path.refl)) d33
+
           d35 : Typed.Typed 𝓤 H A 𝓣 E G47 b27 Δ0 (at35 bs)
-          d35 = Typed.g-pre 𝓤 H A W 𝓣 E G47 G48 b27 Δ0 (Typed.pass T47 T48 (s46 bs)) (at34 bs) (Scalar.g-room 𝓤 H A W E G47 7 Laws'.mir
-              (Local.room-whole 𝓤 H A W (Declared.row RelayPacket.the-type) Laws'.mir Path.refl)) d34
+          d35 = Typed.g-pre 𝓤 H A W 𝓣 E G47 G48 b27 Δ0 (Typed.pass T47 T48 (s46 bs)) (at34 bs) (Scalar.g-room 𝓤 H A W E
+              G47 7 Laws'.mir (Local.room-whole 𝓤 H A W (Declared.row RelayPacket.the-type) Laws'.mir Path.refl)) d34
+
           d36 : Typed.Typed 𝓤 H A 𝓣 E G46 b27 Δ0 (at36 bs)
-          d36 = Typed.g-pre 𝓤 H A W 𝓣 E G46 G47 b27 Δ0 (Typed.pass T46 T47 (s45 bs)) (at35 bs) (Scalar.g-room 𝓤 H A W E G46 32 (Syntax.tyStruct (38 ∷
-              91 ∷ 93 ∷ List.[]) (Syntax.tcons ref6 (Syntax.tcons (Syntax.tyInt Syntax.w64) Syntax.tnil))) (Shared.room-sslice 𝓤 H A W (Referent.rtF
-              (Referent.fInt Syntax.w8)) ref6 13)) d35
+          d36 = Typed.g-pre 𝓤 H A W 𝓣 E G46 G47 b27 Δ0 (Typed.pass T46 T47 (s45 bs)) (at35 bs) (Scalar.g-room 𝓤 H A W E
+              G46 32 slice6 (Shared.room-sslice 𝓤 H A W (Referent.rtF (Referent.fInt Syntax.w8)) ref6 13)) d35
+
           d37 : Typed.Typed 𝓤 H A 𝓣 E G45 b27 Δ0 (at37 bs)
-          d37 = Typed.g-pre 𝓤 H A W 𝓣 E G45 G46 b27 Δ0 (Typed.pass T45 T46 (s44 bs)) (at36 bs) (Scalar.g-room 𝓤 H A W E G45 30 (Syntax.tyStruct (38 ∷
-              91 ∷ 93 ∷ List.[]) (Syntax.tcons ref6 (Syntax.tcons (Syntax.tyInt Syntax.w64) Syntax.tnil))) (Shared.room-sslice 𝓤 H A W (Referent.rtF
-              (Referent.fInt Syntax.w8)) ref6 12)) d36
+          d37 = Typed.g-pre 𝓤 H A W 𝓣 E G45 G46 b27 Δ0 (Typed.pass T45 T46 (s44 bs)) (at36 bs) (Scalar.g-room 𝓤 H A W E
+              G45 30 slice6 (Shared.room-sslice 𝓤 H A W (Referent.rtF (Referent.fInt Syntax.w8)) ref6 12)) d36
+
           d38 : Typed.Typed 𝓤 H A 𝓣 E G44 b27 Δ0 (at38 bs)
-          d38 = Typed.g-pre 𝓤 H A W 𝓣 E G44 G45 b27 Δ0 (Typed.pass T44 T45 (s43 bs)) (at37 bs) (Scalar.g-room 𝓤 H A W E G44 28 (Syntax.tyStruct (38 ∷
-              91 ∷ 93 ∷ List.[]) (Syntax.tcons ref6 (Syntax.tcons (Syntax.tyInt Syntax.w64) Syntax.tnil))) (Shared.room-sslice 𝓤 H A W (Referent.rtF
-              (Referent.fInt Syntax.w8)) ref6 11)) d37
+          d38 = Typed.g-pre 𝓤 H A W 𝓣 E G44 G45 b27 Δ0 (Typed.pass T44 T45 (s43 bs)) (at37 bs) (Scalar.g-room 𝓤 H A W E
+              G44 28 slice6 (Shared.room-sslice 𝓤 H A W (Referent.rtF (Referent.fInt Syntax.w8)) ref6 11)) d37
+
           d39 : Typed.Typed 𝓤 H A 𝓣 E G43 b27 Δ0 (at39 bs)
-          d39 = Typed.g-pre 𝓤 H A W 𝓣 E G43 G44 b27 Δ0 (Typed.pass T43 T44 (s42 bs)) (at38 bs) (Scalar.g-room 𝓤 H A W E G43 26 (Syntax.tyStruct (38 ∷
-              91 ∷ 93 ∷ List.[]) (Syntax.tcons ref6 (Syntax.tcons (Syntax.tyInt Syntax.w64) Syntax.tnil))) (Shared.room-sslice 𝓤 H A W (Referent.rtF
-              (Referent.fInt Syntax.w8)) ref6 10)) d38
+          d39 = Typed.g-pre 𝓤 H A W 𝓣 E G43 G44 b27 Δ0 (Typed.pass T43 T44 (s42 bs)) (at38 bs) (Scalar.g-room 𝓤 H A W E
+              G43 26 slice6 (Shared.room-sslice 𝓤 H A W (Referent.rtF (Referent.fInt Syntax.w8)) ref6 10)) d38
+
           d40 : Typed.Typed 𝓤 H A 𝓣 E G42 b28 Δ0 (at40 bs)
-          d40 = Typed.s-seq 𝓤 H A W 𝓣 E G42 G43 b26 b27 Δ0 (Typed.both (s41 bs)) (at39 bs) (Plain.t-call-plain 𝓤 H A W 𝓣 9 ps·2 r·2 (claims· .4)
-              (claims· .5) "hnsr_circuit::handle::handle" (known .2) E (λ pos β. β) G42 (record { pos = 16; ty = Syntax.tyRef Syntax.erased Syntax.mut
-              RelayPending.to; ref = λ x. x; }, (record { pos = 18; ty = Syntax.tyRef Syntax.erased Syntax.mut RelayCircuit.to; ref = λ x. x; },
-              (record { pos = 20; ty = Syntax.tyRef Syntax.erased Syntax.mut ReservationUsage.to; ref = λ x. x; }, (record { pos = 22; ty =
-              Syntax.tyRef Syntax.erased Syntax.mut InflightAction.to; ref = λ x. x; }, (record { pos = 24; ty = Syntax.tyRef Syntax.erased Syntax.mut
-              (Syntax.tyInt Syntax.w32); ref = λ x. x; }, (record { pos = 12; st = List.[]; d = 0; at = λ x. x }, (record { pos = 13; st = List.[]; d
-              = 0; at = λ x. x }, (record { pos = 7; st = List.[]; d = 0; at = λ x. x }, (record { pos = 26; ty = Syntax.tyRef Syntax.erased
-              Syntax.imm (Syntax.tyInt Syntax.w8); ref = λ x. x; }, (record { pos = 28; ty = Syntax.tyRef Syntax.erased Syntax.imm (Syntax.tyInt
-              Syntax.w8); ref = λ x. x; }, (record { pos = 30; ty = Syntax.tyRef Syntax.erased Syntax.imm (Syntax.tyInt Syntax.w8); ref = λ x. x; },
-              (record { pos = 32; ty = Syntax.tyRef Syntax.erased Syntax.imm (Syntax.tyInt Syntax.w8); ref = λ x. x; }, tt,),),),),),),),),),),),) 0
-              (5 ∷ 6 ∷ 7 ∷ 8 ∷ 9 ∷ 10 ∷ 11 ∷ 12 ∷ 13 ∷ List.[]) (Call.sub-id 𝓤 H A W (G42 .slots)) (Reads.as-is 𝓤 H A (Mut.mslice RelayPending.row
-              ref0 5), Mut.reads-mslice 𝓤 H A W RelayPending.row ref0 5, Path.refl, (Reads.as-is 𝓤 H A (Mut.mslice RelayCircuit.row ref1 6),
-              Mut.reads-mslice 𝓤 H A W RelayCircuit.row ref1 6, Path.refl, (Reads.as-is 𝓤 H A (Mut.mslice ReservationUsage.row ref2 7),
-              Mut.reads-mslice 𝓤 H A W ReservationUsage.row ref2 7, Path.refl, (Reads.as-is 𝓤 H A (Mut.mslice InflightAction.row ref3 8),
-              Mut.reads-mslice 𝓤 H A W InflightAction.row ref3 8, Path.refl, (Reads.as-is 𝓤 H A (Mut.mslice (Referent.rtF (Referent.fInt Syntax.w32))
-              ref4 9), Mut.reads-mslice 𝓤 H A W (Referent.rtF (Referent.fInt Syntax.w32)) ref4 9, Path.refl, ((Yields.yields-copy 𝓤 H A W (λ ρ. Unit)
-              (Declared.row OpaqueRelayRuntime.the-type) Path.refl (Copies.cStruct OpaqueRelayRuntime.the-type Laws''.the-laws Laws''.the-copy .copy 𝓤
-              H A W) (Rows'.whole (Declared.row OpaqueRelayRuntime.the-type)) (λ x. x) (λ x. x) (λ ρ told. Local.mem-whole 𝓤 H A W (Declared.row
-              OpaqueRelayRuntime.the-type) ρ) λ ρ told. Local.whole-mem 𝓤 H A W (Declared.row OpaqueRelayRuntime.the-type) ρ, Path.refl,),
-              ((Yields.yields-copy 𝓤 H A W (λ ρ. Unit) (Declared.row Places.the-type) Path.refl (Copies.cStruct Places.the-type Laws.the-laws
-              Laws.the-copy .copy 𝓤 H A W) (Rows'.whole (Declared.row Places.the-type)) (λ x. x) (λ x. x) (λ ρ told. Local.mem-whole 𝓤 H A W
-              (Declared.row Places.the-type) ρ) λ ρ told. Local.whole-mem 𝓤 H A W (Declared.row Places.the-type) ρ, Path.refl,), ((Yields.yields-copy
-              𝓤 H A W (λ ρ. Unit) (Declared.row RelayPacket.the-type) Path.refl (Copies.cStruct RelayPacket.the-type Laws'.the-laws Laws'.the-copy
-              .copy 𝓤 H A W) (Rows'.whole (Declared.row RelayPacket.the-type)) (λ x. x) (λ x. x) (λ ρ told. Local.mem-whole 𝓤 H A W (Declared.row
-              RelayPacket.the-type) ρ) λ ρ told. Local.whole-mem 𝓤 H A W (Declared.row RelayPacket.the-type) ρ, Path.refl,), (ShrSlice.spares-sslice 𝓤
-              H A W (Referent.rtF (Referent.fInt Syntax.w8)) ref6 10, Shared.reads-sslice 𝓤 H A W (Referent.rtF (Referent.fInt Syntax.w8)) ref6 10,
-              Path.refl, (ShrSlice.spares-sslice 𝓤 H A W (Referent.rtF (Referent.fInt Syntax.w8)) ref6 11, Shared.reads-sslice 𝓤 H A W (Referent.rtF
-              (Referent.fInt Syntax.w8)) ref6 11, Path.refl, (ShrSlice.spares-sslice 𝓤 H A W (Referent.rtF (Referent.fInt Syntax.w8)) ref6 12,
-              Shared.reads-sslice 𝓤 H A W (Referent.rtF (Referent.fInt Syntax.w8)) ref6 12, Path.refl, (ShrSlice.spares-sslice 𝓤 H A W (Referent.rtF
-              (Referent.fInt Syntax.w8)) ref6 13, Shared.reads-sslice 𝓤 H A W (Referent.rtF (Referent.fInt Syntax.w8)) ref6 13, Path.refl,
-              tt,),),),),),),),),),),),) (Reads.room-gone 𝓤 H A Laws'''.mir) (tt, (tt, (tt, (tt, (tt, (tt, (tt, (tt, (tt, tt))))))))) Path.refl) d39
+          d40 = Typed.s-seq 𝓤 H A W 𝓣 E G42 G43 b26 b27 Δ0 (Typed.both (s41 bs)) (at39 bs) (Plain.t-call-plain 𝓤 H A W
+              𝓣 9 ps·2 r·2 (claims· .4) (claims· .5) "hnsr_circuit::handle::handle" (known .2) E (λ pos β. β) G42 (
+                record { pos = 16; ty = ref0; ref = λ x. x },
+                (
+                  record { pos = 18; ty = ref1; ref = λ x. x },
+                  (
+                    record { pos = 20; ty = ref2; ref = λ x. x },
+                    (
+                      record { pos = 22; ty = ref3; ref = λ x. x },
+                      (
+                        record { pos = 24; ty = ref4; ref = λ x. x },
+                        (
+                          record { pos = 12; st = List.[]; d = 0; at = λ x. x },
+                          (
+                            record { pos = 13; st = List.[]; d = 0; at = λ x. x },
+                            (
+                              record { pos = 7; st = List.[]; d = 0; at = λ x. x },
+                              (
+                                record { pos = 26; ty = ref6; ref = λ x. x },
+                                (
+                                  record { pos = 28; ty = ref6; ref = λ x. x },
+                                  (
+                                    record { pos = 30; ty = ref6; ref = λ x. x },
+                                    (record { pos = 32; ty = ref6; ref = λ x. x }, tt),
+                                  ),
+                                ),
+                              ),
+                            ),
+                          ),
+                        ),
+                      ),
+                    ),
+                  ),
+                ),
+              ) 0 (5 ∷ 6 ∷ 7 ∷ 8 ∷ 9 ∷ 10 ∷ 11 ∷ 12 ∷ 13 ∷ List.[]) (Call.sub-id 𝓤 H A W (G42 .slots)) (
+                Reads.as-is 𝓤 H A (Mut.mslice RelayPending.row ref0 5),
+                Mut.reads-mslice 𝓤 H A W RelayPending.row ref0 5,
+                Path.refl,
+                (
+                  Reads.as-is 𝓤 H A (Mut.mslice RelayCircuit.row ref1 6),
+                  Mut.reads-mslice 𝓤 H A W RelayCircuit.row ref1 6,
+                  Path.refl,
+                  (
+                    Reads.as-is 𝓤 H A (Mut.mslice ReservationUsage.row ref2 7),
+                    Mut.reads-mslice 𝓤 H A W ReservationUsage.row ref2 7,
+                    Path.refl,
+                    (
+                      Reads.as-is 𝓤 H A (Mut.mslice InflightAction.row ref3 8),
+                      Mut.reads-mslice 𝓤 H A W InflightAction.row ref3 8,
+                      Path.refl,
+                      (
+                        Reads.as-is 𝓤 H A (Mut.mslice (Referent.rtF (Referent.fInt Syntax.w32)) ref4 9),
+                        Mut.reads-mslice 𝓤 H A W (Referent.rtF (Referent.fInt Syntax.w32)) ref4 9,
+                        Path.refl,
+                        (
+                          (
+                            Yields.yields-copy 𝓤 H A W (λ ρ. Unit) (Declared.row OpaqueRelayRuntime.the-type) Path.refl (Copies.cStruct
+                                OpaqueRelayRuntime.the-type Laws''.the-laws Laws''.the-copy .copy 𝓤 H A W)
+                                (Rows'.whole (Declared.row OpaqueRelayRuntime.the-type)) (λ x. x) (λ x. x) (λ ρ told.
+                                Local.mem-whole 𝓤 H A W (Declared.row OpaqueRelayRuntime.the-type) ρ) λ ρ told.
+                                Local.whole-mem 𝓤 H A W (Declared.row OpaqueRelayRuntime.the-type) ρ,
+                            Path.refl,
+                          ),
+                          (
+                            (
+                              Yields.yields-copy 𝓤 H A W (λ ρ. Unit) (Declared.row Places.the-type) Path.refl (Copies.cStruct
+                                  Places.the-type Laws.the-laws Laws.the-copy .copy 𝓤 H A W)
+                                  (Rows'.whole (Declared.row Places.the-type)) (λ x. x) (λ x. x) (λ ρ told.
+                                  Local.mem-whole 𝓤 H A W (Declared.row Places.the-type) ρ) λ ρ told. Local.whole-mem 𝓤
+                                  H A W (Declared.row Places.the-type) ρ,
+                              Path.refl,
+                            ),
+                            (
+                              (
+                                Yields.yields-copy 𝓤 H A W (λ ρ. Unit) (Declared.row RelayPacket.the-type) Path.refl (Copies.cStruct
+                                    RelayPacket.the-type Laws'.the-laws Laws'.the-copy .copy 𝓤 H A W)
+                                    (Rows'.whole (Declared.row RelayPacket.the-type)) (λ x. x) (λ x. x) (λ ρ told.
+                                    Local.mem-whole 𝓤 H A W (Declared.row RelayPacket.the-type) ρ) λ ρ told.
+                                    Local.whole-mem 𝓤 H A W (Declared.row RelayPacket.the-type) ρ,
+                                Path.refl,
+                              ),
+                              (
+                                ShrSlice.spares-sslice 𝓤 H A W (Referent.rtF (Referent.fInt Syntax.w8)) ref6 10,
+                                Shared.reads-sslice 𝓤 H A W (Referent.rtF (Referent.fInt Syntax.w8)) ref6 10,
+                                Path.refl,
+                                (
+                                  ShrSlice.spares-sslice 𝓤 H A W (Referent.rtF (Referent.fInt Syntax.w8)) ref6 11,
+                                  Shared.reads-sslice 𝓤 H A W (Referent.rtF (Referent.fInt Syntax.w8)) ref6 11,
+                                  Path.refl,
+                                  (
+                                    ShrSlice.spares-sslice 𝓤 H A W (Referent.rtF (Referent.fInt Syntax.w8)) ref6 12,
+                                    Shared.reads-sslice 𝓤 H A W (Referent.rtF (Referent.fInt Syntax.w8)) ref6 12,
+                                    Path.refl,
+                                    (
+                                      ShrSlice.spares-sslice 𝓤 H A W (Referent.rtF (Referent.fInt Syntax.w8)) ref6 13,
+                                      Shared.reads-sslice 𝓤 H A W (Referent.rtF (Referent.fInt Syntax.w8)) ref6 13,
+                                      Path.refl,
+                                      tt,
+                                    ),
+                                  ),
+                                ),
+                              ),
+                            ),
+                          ),
+                        ),
+                      ),
+                    ),
+                  ),
+                ),
+              ) (Reads.room-gone 𝓤 H A Laws'''.mir) (tt, (tt, (tt, (tt, (tt, (tt, (tt, (tt, (tt, tt))))))))) Path.refl)
+              d39
+
           d41 : Typed.Typed 𝓤 H A 𝓣 E G41 b29 Δ0 (at41 bs)
-          d41 = Typed.s-seq 𝓤 H A W 𝓣 E G41 G42 b25 b28 Δ0 (Typed.ask (s40 bs)) (at40 bs) (Relend.t-sl-aggregate 𝓤 H A W E (Referent.rtF
-              (Referent.fInt Syntax.w8)) 𝓣 (Relend.asShr (Referent.rtF (Referent.fInt Syntax.w8))) G41 31 32 13 ref8 ref6 (λ x. x) (Scalar.oInt
-              Syntax.w64 8) (Reads.as-is 𝓤 H A (Relend.ssptr (Referent.rtF (Referent.fInt Syntax.w8)) ref8 13)) (Reads.room-gone 𝓤 H A
-              (Syntax.tyStruct (38 ∷ 91 ∷ 93 ∷ List.[]) (Syntax.tcons ref6 (Syntax.tcons (Syntax.tyInt Syntax.w64) Syntax.tnil)))) tt Path.refl
-              Path.refl λ b o k. tt) d40
+          d41 = Typed.s-seq 𝓤 H A W 𝓣 E G41 G42 b25 b28 Δ0 (Typed.ask (s40 bs)) (at40 bs) (Relend.t-sl-aggregate 𝓤 H A
+              W E (Referent.rtF (Referent.fInt Syntax.w8)) 𝓣 (Relend.asShr (Referent.rtF (Referent.fInt Syntax.w8)))
+              G41 31 32 13 ref8 ref6 (λ x. x) (Scalar.oInt Syntax.w64 8) (Reads.as-is 𝓤 H A (Relend.ssptr
+              (Referent.rtF (Referent.fInt Syntax.w8)) ref8 13)) (Reads.room-gone 𝓤 H A slice6) tt Path.refl Path.refl
+              λ b o k. tt) d40
+
           d42 : Typed.Typed 𝓤 H A 𝓣 E G40 b30 Δ0 (at42 bs)
-          d42 = Typed.s-seq 𝓤 H A W 𝓣 E G40 G41 b24 b29 Δ0 (Typed.give (s39 bs)) (at41 bs) (Share.t-arr-share 𝓤 H A W E 𝓣 (Referent.rtF (Referent.fInt
-              Syntax.w8)) G40 11 31 8 13 ref8 (λ x. x) (Reads.as-is 𝓤 H A (Rows.arrF (Referent.rtF (Referent.fInt Syntax.w8)) 8 0)) (Reads.room-gone 𝓤
-              H A ref8) Path.refl (λ b o. tt) (Dec.lit< tt, Dec.lit< tt)) d41
+          d42 = Typed.s-seq 𝓤 H A W 𝓣 E G40 G41 b24 b29 Δ0 (Typed.give (s39 bs)) (at41 bs) (Share.t-arr-share 𝓤 H A W E
+              𝓣 (Referent.rtF (Referent.fInt Syntax.w8)) G40 11 31 8 13 ref8 (λ x. x) (Reads.as-is 𝓤 H A
+              (Rows.arrF (Referent.rtF (Referent.fInt Syntax.w8)) 8 0)) (Reads.room-gone 𝓤 H A ref8) Path.refl
+              (λ b o. tt) (Dec.lit< tt, Dec.lit< tt)) d41
+
           d43 : Typed.Typed 𝓤 H A 𝓣 E G39 b30 Δ0 (at43 bs)
-          d43 = Typed.g-pre 𝓤 H A W 𝓣 E G39 G40 b30 Δ0 (λ Ψ. Ψ) (at42 bs) (Lifetime.g-begin 𝓤 H A W E G39 13 (tt, ((tt, tt), ((tt, tt), ((tt, tt),
-              ((tt, tt), ((tt, tt), (tt, (tt, (tt, (tt, (tt, (tt, (tt, (tt, (tt, (tt, (tt, (tt, (tt, (tt, (tt, (tt, (tt, (tt, (tt, (tt, (tt, (tt, (tt,
-              (tt, (tt, (tt, (tt, tt))),),),),),),),),),),),),),),),),),),),),),),),),),),),),),),)) d42
+          d43 = Typed.g-pre 𝓤 H A W 𝓣 E G39 G40 b30 Δ0 (λ Ψ. Ψ) (at42 bs) (Lifetime.g-begin 𝓤 H A W E G39 13 (
+            tt,
+            (
+              (tt, tt),
+              (
+                (tt, tt),
+                (
+                  (tt, tt),
+                  (
+                    (tt, tt),
+                    (
+                      (tt, tt),
+                      (
+                        tt,
+                        (
+                          tt,
+                          (
+                            tt,
+                            (
+                              tt,
+                              (
+                                tt,
+                                (
+                                  tt,
+                                  (
+                                    tt,
+                                    (
+                                      tt,
+                                      (
+                                        tt,
+                                        (
+                                          tt,
+                                          (
+                                            tt,
+                                            (
+                                              tt,
+                                              (
+                                                tt,
+                                                (
+                                                  tt,
+                                                  (
+                                                    tt,
+                                                    (
+                                                      tt,
+                                                      (
+                                                        tt,
+                                                        (tt, (tt, (tt, (tt, (tt, (tt, (tt, (tt, (tt, (tt, tt)))))))))),
+                                                      ),
+                                                    ),
+                                                  ),
+                                                ),
+                                              ),
+                                            ),
+                                          ),
+                                        ),
+                                      ),
+                                    ),
+                                  ),
+                                ),
+                              ),
+                            ),
+                          ),
+                        ),
+                      ),
+                    ),
+                  ),
+                ),
+              ),
+            ),
+          )) d42
+
           d44 : Typed.Typed 𝓤 H A 𝓣 E G38 b31 Δ0 (at44 bs)
-          d44 = Typed.s-seq 𝓤 H A W 𝓣 E G38 G39 b23 b30 Δ0 (Typed.ask (s37 bs)) (at43 bs) (Relend.t-sl-aggregate 𝓤 H A W E (Referent.rtF
-              (Referent.fInt Syntax.w8)) 𝓣 (Relend.asShr (Referent.rtF (Referent.fInt Syntax.w8))) G38 29 30 12 ref5 ref6 (λ x. x) (Scalar.oInt
-              Syntax.w64 1) (Reads.as-is 𝓤 H A (Relend.ssptr (Referent.rtF (Referent.fInt Syntax.w8)) ref5 12)) (Reads.room-gone 𝓤 H A
-              (Syntax.tyStruct (38 ∷ 91 ∷ 93 ∷ List.[]) (Syntax.tcons ref6 (Syntax.tcons (Syntax.tyInt Syntax.w64) Syntax.tnil)))) tt Path.refl
-              Path.refl λ b o k. tt) d43
+          d44 = Typed.s-seq 𝓤 H A W 𝓣 E G38 G39 b23 b30 Δ0 (Typed.ask (s37 bs)) (at43 bs) (Relend.t-sl-aggregate 𝓤 H A
+              W E (Referent.rtF (Referent.fInt Syntax.w8)) 𝓣 (Relend.asShr (Referent.rtF (Referent.fInt Syntax.w8)))
+              G38 29 30 12 ref5 ref6 (λ x. x) (Scalar.oInt Syntax.w64 1) (Reads.as-is 𝓤 H A (Relend.ssptr
+              (Referent.rtF (Referent.fInt Syntax.w8)) ref5 12)) (Reads.room-gone 𝓤 H A slice6) tt Path.refl Path.refl
+              λ b o k. tt) d43
+
           d45 : Typed.Typed 𝓤 H A 𝓣 E G37 b32 Δ0 (at45 bs)
-          d45 = Typed.s-seq 𝓤 H A W 𝓣 E G37 G38 b22 b31 Δ0 (Typed.give (s36 bs)) (at44 bs) (Share.t-arr-share 𝓤 H A W E 𝓣 (Referent.rtF (Referent.fInt
-              Syntax.w8)) G37 10 29 1 12 ref5 (λ x. x) (Reads.as-is 𝓤 H A (Rows.arrF (Referent.rtF (Referent.fInt Syntax.w8)) 1 0)) (Reads.room-gone 𝓤
-              H A ref5) Path.refl (λ b o. tt) (Dec.lit< tt, Dec.lit< tt)) d44
+          d45 = Typed.s-seq 𝓤 H A W 𝓣 E G37 G38 b22 b31 Δ0 (Typed.give (s36 bs)) (at44 bs) (Share.t-arr-share 𝓤 H A W E
+              𝓣 (Referent.rtF (Referent.fInt Syntax.w8)) G37 10 29 1 12 ref5 (λ x. x) (Reads.as-is 𝓤 H A
+              (Rows.arrF (Referent.rtF (Referent.fInt Syntax.w8)) 1 0)) (Reads.room-gone 𝓤 H A ref5) Path.refl
+              (λ b o. tt) (Dec.lit< tt, Dec.lit< tt)) d44
+
           d46 : Typed.Typed 𝓤 H A 𝓣 E G36 b32 Δ0 (at46 bs)
-          d46 = Typed.g-pre 𝓤 H A W 𝓣 E G36 G37 b32 Δ0 (λ Ψ. Ψ) (at45 bs) (Lifetime.g-begin 𝓤 H A W E G36 12 (tt, ((tt, tt), ((tt, tt), ((tt, tt),
-              ((tt, tt), ((tt, tt), (tt, (tt, (tt, (tt, (tt, (tt, (tt, (tt, (tt, (tt, (tt, (tt, (tt, (tt, (tt, (tt, (tt, (tt, (tt, (tt, (tt, (tt, (tt,
-              (tt, (tt, (tt, (tt, tt))),),),),),),),),),),),),),),),),),),),),),),),),),),),),),),)) d45
+          d46 = Typed.g-pre 𝓤 H A W 𝓣 E G36 G37 b32 Δ0 (λ Ψ. Ψ) (at45 bs) (Lifetime.g-begin 𝓤 H A W E G36 12 (
+            tt,
+            (
+              (tt, tt),
+              (
+                (tt, tt),
+                (
+                  (tt, tt),
+                  (
+                    (tt, tt),
+                    (
+                      (tt, tt),
+                      (
+                        tt,
+                        (
+                          tt,
+                          (
+                            tt,
+                            (
+                              tt,
+                              (
+                                tt,
+                                (
+                                  tt,
+                                  (
+                                    tt,
+                                    (
+                                      tt,
+                                      (
+                                        tt,
+                                        (
+                                          tt,
+                                          (
+                                            tt,
+                                            (
+                                              tt,
+                                              (
+                                                tt,
+                                                (
+                                                  tt,
+                                                  (
+                                                    tt,
+                                                    (
+                                                      tt,
+                                                      (
+                                                        tt,
+                                                        (tt, (tt, (tt, (tt, (tt, (tt, (tt, (tt, (tt, (tt, tt)))))))))),
+                                                      ),
+                                                    ),
+                                                  ),
+                                                ),
+                                              ),
+                                            ),
+                                          ),
+                                        ),
+                                      ),
+                                    ),
+                                  ),
+                                ),
+                              ),
+                            ),
+                          ),
+                        ),
+                      ),
+                    ),
+                  ),
+                ),
+              ),
+            ),
+          )) d45
+
           d47 : Typed.Typed 𝓤 H A 𝓣 E G35 b33 Δ0 (at47 bs)
-          d47 = Typed.s-seq 𝓤 H A W 𝓣 E G35 G36 b21 b32 Δ0 (Typed.ask (s34 bs)) (at46 bs) (Relend.t-sl-aggregate 𝓤 H A W E (Referent.rtF
-              (Referent.fInt Syntax.w8)) 𝓣 (Relend.asShr (Referent.rtF (Referent.fInt Syntax.w8))) G35 27 28 11 ref7 ref6 (λ x. x) (Scalar.oInt
-              Syntax.w64 103) (Reads.as-is 𝓤 H A (Relend.ssptr (Referent.rtF (Referent.fInt Syntax.w8)) ref7 11)) (Reads.room-gone 𝓤 H A
-              (Syntax.tyStruct (38 ∷ 91 ∷ 93 ∷ List.[]) (Syntax.tcons ref6 (Syntax.tcons (Syntax.tyInt Syntax.w64) Syntax.tnil)))) tt Path.refl
-              Path.refl λ b o k. tt) d46
+          d47 = Typed.s-seq 𝓤 H A W 𝓣 E G35 G36 b21 b32 Δ0 (Typed.ask (s34 bs)) (at46 bs) (Relend.t-sl-aggregate 𝓤 H A
+              W E (Referent.rtF (Referent.fInt Syntax.w8)) 𝓣 (Relend.asShr (Referent.rtF (Referent.fInt Syntax.w8)))
+              G35 27 28 11 ref7 ref6 (λ x. x) (Scalar.oInt Syntax.w64 103) (Reads.as-is 𝓤 H A (Relend.ssptr
+              (Referent.rtF (Referent.fInt Syntax.w8)) ref7 11)) (Reads.room-gone 𝓤 H A slice6) tt Path.refl Path.refl
+              λ b o k. tt) d46
+
           d48 : Typed.Typed 𝓤 H A 𝓣 E G34 b34 Δ0 (at48 bs)
-          d48 = Typed.s-seq 𝓤 H A W 𝓣 E G34 G35 b20 b33 Δ0 (Typed.give (s33 bs)) (at47 bs) (Share.t-arr-share 𝓤 H A W E 𝓣 (Referent.rtF (Referent.fInt
-              Syntax.w8)) G34 8 27 103 11 ref7 (λ x. x) (Reads.as-is 𝓤 H A (Rows.arrF (Referent.rtF (Referent.fInt Syntax.w8)) 103 0))
-              (Reads.room-gone 𝓤 H A ref7) Path.refl (λ b o. tt) (Dec.lit< tt, Dec.lit< tt)) d47
+          d48 = Typed.s-seq 𝓤 H A W 𝓣 E G34 G35 b20 b33 Δ0 (Typed.give (s33 bs)) (at47 bs) (Share.t-arr-share 𝓤 H A W E
+              𝓣 (Referent.rtF (Referent.fInt Syntax.w8)) G34 8 27 103 11 ref7 (λ x. x) (Reads.as-is 𝓤 H A
+              (Rows.arrF (Referent.rtF (Referent.fInt Syntax.w8)) 103 0)) (Reads.room-gone 𝓤 H A ref7) Path.refl
+              (λ b o. tt) (Dec.lit< tt, Dec.lit< tt)) d47
+
           d49 : Typed.Typed 𝓤 H A 𝓣 E G33 b34 Δ0 (at49 bs)
-          d49 = Typed.g-pre 𝓤 H A W 𝓣 E G33 G34 b34 Δ0 (λ Ψ. Ψ) (at48 bs) (Lifetime.g-begin 𝓤 H A W E G33 11 (tt, ((tt, tt), ((tt, tt), ((tt, tt),
-              ((tt, tt), ((tt, tt), (tt, (tt, (tt, (tt, (tt, (tt, (tt, (tt, (tt, (tt, (tt, (tt, (tt, (tt, (tt, (tt, (tt, (tt, (tt, (tt, (tt, (tt, (tt,
-              (tt, (tt, (tt, (tt, tt))),),),),),),),),),),),),),),),),),),),),),),),),),),),),),),)) d48
+          d49 = Typed.g-pre 𝓤 H A W 𝓣 E G33 G34 b34 Δ0 (λ Ψ. Ψ) (at48 bs) (Lifetime.g-begin 𝓤 H A W E G33 11 (
+            tt,
+            (
+              (tt, tt),
+              (
+                (tt, tt),
+                (
+                  (tt, tt),
+                  (
+                    (tt, tt),
+                    (
+                      (tt, tt),
+                      (
+                        tt,
+                        (
+                          tt,
+                          (
+                            tt,
+                            (
+                              tt,
+                              (
+                                tt,
+                                (
+                                  tt,
+                                  (
+                                    tt,
+                                    (
+                                      tt,
+                                      (
+                                        tt,
+                                        (
+                                          tt,
+                                          (
+                                            tt,
+                                            (
+                                              tt,
+                                              (
+                                                tt,
+                                                (
+                                                  tt,
+                                                  (
+                                                    tt,
+                                                    (
+                                                      tt,
+                                                      (
+                                                        tt,
+                                                        (tt, (tt, (tt, (tt, (tt, (tt, (tt, (tt, (tt, (tt, tt)))))))))),
+                                                      ),
+                                                    ),
+                                                  ),
+                                                ),
+                                              ),
+                                            ),
+                                          ),
+                                        ),
+                                      ),
+                                    ),
+                                  ),
+                                ),
+                              ),
+                            ),
+                          ),
+                        ),
+                      ),
+                    ),
+                  ),
+                ),
+              ),
+            ),
+          )) d48
+
           d50 : Typed.Typed 𝓤 H A 𝓣 E G32 b35 Δ0 (at50 bs)
-          d50 = Typed.s-seq 𝓤 H A W 𝓣 E G32 G33 b19 b34 Δ0 (Typed.ask (s31 bs)) (at49 bs) (Relend.t-sl-aggregate 𝓤 H A W E (Referent.rtF
-              (Referent.fInt Syntax.w8)) 𝓣 (Relend.asShr (Referent.rtF (Referent.fInt Syntax.w8))) G32 25 26 10 ref5 ref6 (λ x. x) (Scalar.oInt
-              Syntax.w64 1) (Reads.as-is 𝓤 H A (Relend.ssptr (Referent.rtF (Referent.fInt Syntax.w8)) ref5 10)) (Reads.room-gone 𝓤 H A
-              (Syntax.tyStruct (38 ∷ 91 ∷ 93 ∷ List.[]) (Syntax.tcons ref6 (Syntax.tcons (Syntax.tyInt Syntax.w64) Syntax.tnil)))) tt Path.refl
-              Path.refl λ b o k. tt) d49
+          d50 = Typed.s-seq 𝓤 H A W 𝓣 E G32 G33 b19 b34 Δ0 (Typed.ask (s31 bs)) (at49 bs) (Relend.t-sl-aggregate 𝓤 H A
+              W E (Referent.rtF (Referent.fInt Syntax.w8)) 𝓣 (Relend.asShr (Referent.rtF (Referent.fInt Syntax.w8)))
+              G32 25 26 10 ref5 ref6 (λ x. x) (Scalar.oInt Syntax.w64 1) (Reads.as-is 𝓤 H A (Relend.ssptr
+              (Referent.rtF (Referent.fInt Syntax.w8)) ref5 10)) (Reads.room-gone 𝓤 H A slice6) tt Path.refl Path.refl
+              λ b o k. tt) d49
+
           d51 : Typed.Typed 𝓤 H A 𝓣 E G31 b36 Δ0 (at51 bs)
-          d51 = Typed.s-seq 𝓤 H A W 𝓣 E G31 G32 b18 b35 Δ0 (Typed.give (s30 bs)) (at50 bs) (Share.t-arr-share 𝓤 H A W E 𝓣 (Referent.rtF (Referent.fInt
-              Syntax.w8)) G31 9 25 1 10 ref5 (λ x. x) (Reads.as-is 𝓤 H A (Rows.arrF (Referent.rtF (Referent.fInt Syntax.w8)) 1 0)) (Reads.room-gone 𝓤
-              H A ref5) Path.refl (λ b o. tt) (Dec.lit< tt, Dec.lit< tt)) d50
+          d51 = Typed.s-seq 𝓤 H A W 𝓣 E G31 G32 b18 b35 Δ0 (Typed.give (s30 bs)) (at50 bs) (Share.t-arr-share 𝓤 H A W E
+              𝓣 (Referent.rtF (Referent.fInt Syntax.w8)) G31 9 25 1 10 ref5 (λ x. x) (Reads.as-is 𝓤 H A
+              (Rows.arrF (Referent.rtF (Referent.fInt Syntax.w8)) 1 0)) (Reads.room-gone 𝓤 H A ref5) Path.refl
+              (λ b o. tt) (Dec.lit< tt, Dec.lit< tt)) d50
+
           d52 : Typed.Typed 𝓤 H A 𝓣 E G30 b36 Δ0 (at52 bs)
-          d52 = Typed.g-pre 𝓤 H A W 𝓣 E G30 G31 b36 Δ0 (λ Ψ. Ψ) (at51 bs) (Lifetime.g-begin 𝓤 H A W E G30 10 (tt, ((tt, tt), ((tt, tt), ((tt, tt),
-              ((tt, tt), ((tt, tt), (tt, (tt, (tt, (tt, (tt, (tt, (tt, (tt, (tt, (tt, (tt, (tt, (tt, (tt, (tt, (tt, (tt, (tt, (tt, (tt, (tt, (tt, (tt,
-              (tt, (tt, (tt, (tt, tt))),),),),),),),),),),),),),),),),),),),),),),),),),),),),),),)) d51
+          d52 = Typed.g-pre 𝓤 H A W 𝓣 E G30 G31 b36 Δ0 (λ Ψ. Ψ) (at51 bs) (Lifetime.g-begin 𝓤 H A W E G30 10 (
+            tt,
+            (
+              (tt, tt),
+              (
+                (tt, tt),
+                (
+                  (tt, tt),
+                  (
+                    (tt, tt),
+                    (
+                      (tt, tt),
+                      (
+                        tt,
+                        (
+                          tt,
+                          (
+                            tt,
+                            (
+                              tt,
+                              (
+                                tt,
+                                (
+                                  tt,
+                                  (
+                                    tt,
+                                    (
+                                      tt,
+                                      (
+                                        tt,
+                                        (
+                                          tt,
+                                          (
+                                            tt,
+                                            (
+                                              tt,
+                                              (
+                                                tt,
+                                                (
+                                                  tt,
+                                                  (
+                                                    tt,
+                                                    (
+                                                      tt,
+                                                      (
+                                                        tt,
+                                                        (tt, (tt, (tt, (tt, (tt, (tt, (tt, (tt, (tt, (tt, tt)))))))))),
+                                                      ),
+                                                    ),
+                                                  ),
+                                                ),
+                                              ),
+                                            ),
+                                          ),
+                                        ),
+                                      ),
+                                    ),
+                                  ),
+                                ),
+                              ),
+                            ),
+                          ),
+                        ),
+                      ),
+                    ),
+                  ),
+                ),
+              ),
+            ),
+          )) d51
+
           d53 : Typed.Typed 𝓤 H A 𝓣 E G29 b37 Δ0 (at53 bs)
-          d53 = Typed.s-seq 𝓤 H A W 𝓣 E G29 G30 b17 b36 Δ0 (Typed.ask (s28 bs)) (at52 bs) (Relend.t-sl-aggregate 𝓤 H A W E (Referent.rtF
-              (Referent.fInt Syntax.w32)) 𝓣 (Relend.asMut (Referent.rtF (Referent.fInt Syntax.w32))) G29 23 24 9 ref4 ref4 (λ x. x) (Scalar.oFld 5
-              ((Syntax.field 1) ∷ List.[]) (Syntax.tyInt Syntax.w64) 8 λ v. Shared.lenV (v .0)) (Reads.as-is 𝓤 H A (Relend.msptr (Referent.rtF
-              (Referent.fInt Syntax.w32)) ref4 9)) (Reads.room-gone 𝓤 H A (Syntax.tyStruct (38 ∷ 91 ∷ 93 ∷ List.[]) (Syntax.tcons ref4 (Syntax.tcons
-              (Syntax.tyInt Syntax.w64) Syntax.tnil)))) (Relend.reads-owed-len 𝓤 H A W (Referent.rtF (Referent.fInt Syntax.w32)) ref13 4 9 life4 8
-              Path.refl, Path.refl,) Path.refl Path.refl λ b o k. tt) d52
+          d53 = Typed.s-seq 𝓤 H A W 𝓣 E G29 G30 b17 b36 Δ0 (Typed.ask (s28 bs)) (at52 bs) (Relend.t-sl-aggregate 𝓤 H A
+              W E (Referent.rtF (Referent.fInt Syntax.w32)) 𝓣 (Relend.asMut (Referent.rtF (Referent.fInt Syntax.w32)))
+              G29 23 24 9 ref4 ref4 (λ x. x) (Scalar.oFld 5 ((Syntax.field 1) ∷ List.[]) (Syntax.tyInt Syntax.w64) 8
+              λ v. Shared.lenV (v .0)) (Reads.as-is 𝓤 H A (Relend.msptr (Referent.rtF (Referent.fInt Syntax.w32)) ref4
+              9)) (Reads.room-gone 𝓤 H A slice4) (
+                Relend.reads-owed-len 𝓤 H A W (Referent.rtF (Referent.fInt Syntax.w32)) ref13 4 9 life4 8 Path.refl,
+                Path.refl,
+              ) Path.refl Path.refl λ b o k. tt) d52
+
           d54 : Typed.Typed 𝓤 H A 𝓣 E G28 b38 Δ0 (at54 bs)
-          d54 = Typed.s-seq 𝓤 H A W 𝓣 E G28 G29 b16 b37 Δ0 (Typed.give (s27 bs)) (at53 bs) (Relend.t-sl-relend 𝓤 H A W E (Referent.rtF (Referent.fInt
-              Syntax.w32)) 𝓣 G28 5 23 4 9 ref13 ref4 life4 0 (λ x. x) (Reads.as-is 𝓤 H A (Mut.mslice (Referent.rtF (Referent.fInt Syntax.w32)) ref13
-              4)) (Reads.room-gone 𝓤 H A ref4) Path.refl tt Path.refl Path.refl Path.refl λ b o. tt) d53
+          d54 = Typed.s-seq 𝓤 H A W 𝓣 E G28 G29 b16 b37 Δ0 (Typed.give (s27 bs)) (at53 bs) (Relend.t-sl-relend 𝓤 H A W
+              E (Referent.rtF (Referent.fInt Syntax.w32)) 𝓣 G28 5 23 4 9 ref13 ref4 life4 0 (λ x. x) (Reads.as-is 𝓤 H A (Mut.mslice
+              (Referent.rtF (Referent.fInt Syntax.w32)) ref13 4)) (Reads.room-gone 𝓤 H A ref4) Path.refl tt Path.refl
+              Path.refl Path.refl λ b o. tt) d53
+
           d55 : Typed.Typed 𝓤 H A 𝓣 E G27 b38 Δ0 (at55 bs)
-          d55 = Typed.g-pre 𝓤 H A W 𝓣 E G27 G28 b38 Δ0 (λ Ψ. Ψ) (at54 bs) (Lifetime.g-begin 𝓤 H A W E G27 9 (tt, ((tt, tt), ((tt, tt), ((tt, tt),
-              ((tt, tt), (tt, (tt, (tt, (tt, (tt, (tt, (tt, (tt, (tt, (tt, (tt, (tt, (tt, (tt, (tt, (tt, (tt, (tt, (tt, (tt, (tt, (tt, (tt, (tt, (tt,
-              (tt, (tt, (tt, tt))),),),),),),),),),),),),),),),),),),),),),),),),),),),),),),)) d54
+          d55 = Typed.g-pre 𝓤 H A W 𝓣 E G27 G28 b38 Δ0 (λ Ψ. Ψ) (at54 bs) (Lifetime.g-begin 𝓤 H A W E G27 9 (
+            tt,
+            (
+              (tt, tt),
+              (
+                (tt, tt),
+                (
+                  (tt, tt),
+                  (
+                    (tt, tt),
+                    (
+                      tt,
+                      (
+                        tt,
+                        (
+                          tt,
+                          (
+                            tt,
+                            (
+                              tt,
+                              (
+                                tt,
+                                (
+                                  tt,
+                                  (
+                                    tt,
+                                    (
+                                      tt,
+                                      (
+                                        tt,
+                                        (
+                                          tt,
+                                          (
+                                            tt,
+                                            (
+                                              tt,
+                                              (
+                                                tt,
+                                                (
+                                                  tt,
+                                                  (
+                                                    tt,
+                                                    (
+                                                      tt,
+                                                      (
+                                                        tt,
+                                                        (tt, (tt, (tt, (tt, (tt, (tt, (tt, (tt, (tt, (tt, tt)))))))))),
+                                                      ),
+                                                    ),
+                                                  ),
+                                                ),
+                                              ),
+                                            ),
+                                          ),
+                                        ),
+                                      ),
+                                    ),
+                                  ),
+                                ),
+                              ),
+                            ),
+                          ),
+                        ),
+                      ),
+                    ),
+                  ),
+                ),
+              ),
+            ),
+          )) d54
+
           d56 : Typed.Typed 𝓤 H A 𝓣 E G26 b39 Δ0 (at56 bs)
-          d56 = Typed.s-seq 𝓤 H A W 𝓣 E G26 G27 b15 b38 Δ0 (Typed.ask (s25 bs)) (at55 bs) (Relend.t-sl-aggregate 𝓤 H A W E InflightAction.row 𝓣
-              (Relend.asMut InflightAction.row) G26 21 22 8 ref3 ref3 (λ x. x) (Scalar.oFld 4 ((Syntax.field 1) ∷ List.[]) (Syntax.tyInt Syntax.w64) 8
-              λ v. Shared.lenV (v .0)) (Reads.as-is 𝓤 H A (Relend.msptr InflightAction.row ref3 8)) (Reads.room-gone 𝓤 H A (Syntax.tyStruct (38 ∷ 91 ∷
-              93 ∷ List.[]) (Syntax.tcons ref3 (Syntax.tcons (Syntax.tyInt Syntax.w64) Syntax.tnil)))) (Relend.reads-owed-len 𝓤 H A W
-              InflightAction.row ref12 3 8 life3 8 Path.refl, Path.refl,) Path.refl Path.refl λ b o k. tt) d55
+          d56 = Typed.s-seq 𝓤 H A W 𝓣 E G26 G27 b15 b38 Δ0 (Typed.ask (s25 bs)) (at55 bs) (Relend.t-sl-aggregate 𝓤 H A
+              W E InflightAction.row 𝓣 (Relend.asMut InflightAction.row) G26 21 22 8 ref3 ref3 (λ x. x) (Scalar.oFld 4
+              ((Syntax.field 1) ∷ List.[]) (Syntax.tyInt Syntax.w64) 8 λ v. Shared.lenV (v .0)) (Reads.as-is 𝓤 H A
+              (Relend.msptr InflightAction.row ref3 8)) (Reads.room-gone 𝓤 H A slice3) (
+                Relend.reads-owed-len 𝓤 H A W InflightAction.row ref12 3 8 life3 8 Path.refl,
+                Path.refl,
+              ) Path.refl Path.refl λ b o k. tt) d55
+
           d57 : Typed.Typed 𝓤 H A 𝓣 E G25 b40 Δ0 (at57 bs)
-          d57 = Typed.s-seq 𝓤 H A W 𝓣 E G25 G26 b14 b39 Δ0 (Typed.give (s24 bs)) (at56 bs) (Relend.t-sl-relend 𝓤 H A W E InflightAction.row 𝓣 G25 4 21
-              3 8 ref12 ref3 life3 0 (λ x. x) (Reads.as-is 𝓤 H A (Mut.mslice InflightAction.row ref12 3)) (Reads.room-gone 𝓤 H A ref3) Path.refl tt
+          d57 = Typed.s-seq 𝓤 H A W 𝓣 E G25 G26 b14 b39 Δ0 (Typed.give (s24 bs)) (at56 bs) (Relend.t-sl-relend 𝓤 H A W
+              E InflightAction.row 𝓣 G25 4 21 3 8 ref12 ref3 life3 0 (λ x. x)
+              (Reads.as-is 𝓤 H A (Mut.mslice InflightAction.row ref12 3)) (Reads.room-gone 𝓤 H A ref3) Path.refl tt
               Path.refl Path.refl Path.refl λ b o. tt) d56
+
           d58 : Typed.Typed 𝓤 H A 𝓣 E G24 b40 Δ0 (at58 bs)
-          d58 = Typed.g-pre 𝓤 H A W 𝓣 E G24 G25 b40 Δ0 (λ Ψ. Ψ) (at57 bs) (Lifetime.g-begin 𝓤 H A W E G24 8 (tt, ((tt, tt), ((tt, tt), ((tt, tt), (tt,
-              (tt, (tt, (tt, (tt, (tt, (tt, (tt, (tt, (tt, (tt, (tt, (tt, (tt, (tt, (tt, (tt, (tt, (tt, (tt, (tt, (tt, (tt, (tt, (tt, (tt, (tt, (tt,
-              (tt, tt))),),),),),),),),),),),),),),),),),),),),),),),),),),),),),),)) d57
+          d58 = Typed.g-pre 𝓤 H A W 𝓣 E G24 G25 b40 Δ0 (λ Ψ. Ψ) (at57 bs) (Lifetime.g-begin 𝓤 H A W E G24 8 (
+            tt,
+            (
+              (tt, tt),
+              (
+                (tt, tt),
+                (
+                  (tt, tt),
+                  (
+                    tt,
+                    (
+                      tt,
+                      (
+                        tt,
+                        (
+                          tt,
+                          (
+                            tt,
+                            (
+                              tt,
+                              (
+                                tt,
+                                (
+                                  tt,
+                                  (
+                                    tt,
+                                    (
+                                      tt,
+                                      (
+                                        tt,
+                                        (
+                                          tt,
+                                          (
+                                            tt,
+                                            (
+                                              tt,
+                                              (
+                                                tt,
+                                                (
+                                                  tt,
+                                                  (
+                                                    tt,
+                                                    (
+                                                      tt,
+                                                      (
+                                                        tt,
+                                                        (tt, (tt, (tt, (tt, (tt, (tt, (tt, (tt, (tt, (tt, tt)))))))))),
+                                                      ),
+                                                    ),
+                                                  ),
+                                                ),
+                                              ),
+                                            ),
+                                          ),
+                                        ),
+                                      ),
+                                    ),
+                                  ),
+                                ),
+                              ),
+                            ),
+                          ),
+                        ),
+                      ),
+                    ),
+                  ),
+                ),
+              ),
+            ),
+          )) d57
+
           d59 : Typed.Typed 𝓤 H A 𝓣 E G23 b41 Δ0 (at59 bs)
-          d59 = Typed.s-seq 𝓤 H A W 𝓣 E G23 G24 b13 b40 Δ0 (Typed.ask (s22 bs)) (at58 bs) (Relend.t-sl-aggregate 𝓤 H A W E ReservationUsage.row 𝓣
-              (Relend.asMut ReservationUsage.row) G23 19 20 7 ref2 ref2 (λ x. x) (Scalar.oFld 3 ((Syntax.field 1) ∷ List.[]) (Syntax.tyInt Syntax.w64)
-              8 λ v. Shared.lenV (v .0)) (Reads.as-is 𝓤 H A (Relend.msptr ReservationUsage.row ref2 7)) (Reads.room-gone 𝓤 H A (Syntax.tyStruct (38 ∷
-              91 ∷ 93 ∷ List.[]) (Syntax.tcons ref2 (Syntax.tcons (Syntax.tyInt Syntax.w64) Syntax.tnil)))) (Relend.reads-owed-len 𝓤 H A W
-              ReservationUsage.row ref11 2 7 life2 8 Path.refl, Path.refl,) Path.refl Path.refl λ b o k. tt) d58
+          d59 = Typed.s-seq 𝓤 H A W 𝓣 E G23 G24 b13 b40 Δ0 (Typed.ask (s22 bs)) (at58 bs) (Relend.t-sl-aggregate 𝓤 H A
+              W E ReservationUsage.row 𝓣 (Relend.asMut ReservationUsage.row) G23 19 20 7 ref2 ref2 (λ x. x) (Scalar.oFld
+              3 ((Syntax.field 1) ∷ List.[]) (Syntax.tyInt Syntax.w64) 8 λ v. Shared.lenV (v .0)) (Reads.as-is 𝓤 H A
+              (Relend.msptr ReservationUsage.row ref2 7)) (Reads.room-gone 𝓤 H A slice2) (
+                Relend.reads-owed-len 𝓤 H A W ReservationUsage.row ref11 2 7 life2 8 Path.refl,
+                Path.refl,
+              ) Path.refl Path.refl λ b o k. tt) d58
+
           d60 : Typed.Typed 𝓤 H A 𝓣 E G22 b42 Δ0 (at60 bs)
-          d60 = Typed.s-seq 𝓤 H A W 𝓣 E G22 G23 b12 b41 Δ0 (Typed.give (s21 bs)) (at59 bs) (Relend.t-sl-relend 𝓤 H A W E ReservationUsage.row 𝓣 G22 3
-              19 2 7 ref11 ref2 life2 0 (λ x. x) (Reads.as-is 𝓤 H A (Mut.mslice ReservationUsage.row ref11 2)) (Reads.room-gone 𝓤 H A ref2) Path.refl
-              tt Path.refl Path.refl Path.refl λ b o. tt) d59
+          d60 = Typed.s-seq 𝓤 H A W 𝓣 E G22 G23 b12 b41 Δ0 (Typed.give (s21 bs)) (at59 bs) (Relend.t-sl-relend 𝓤 H A W
+              E ReservationUsage.row 𝓣 G22 3 19 2 7 ref11 ref2 life2 0 (λ x. x) (Reads.as-is 𝓤 H A
+              (Mut.mslice ReservationUsage.row ref11 2)) (Reads.room-gone 𝓤 H A ref2) Path.refl tt Path.refl Path.refl
+              Path.refl λ b o. tt) d59
+
           d61 : Typed.Typed 𝓤 H A 𝓣 E G21 b42 Δ0 (at61 bs)
-          d61 = Typed.g-pre 𝓤 H A W 𝓣 E G21 G22 b42 Δ0 (λ Ψ. Ψ) (at60 bs) (Lifetime.g-begin 𝓤 H A W E G21 7 (tt, ((tt, tt), ((tt, tt), (tt, (tt, (tt,
-              (tt, (tt, (tt, (tt, (tt, (tt, (tt, (tt, (tt, (tt, (tt, (tt, (tt, (tt, (tt, (tt, (tt, (tt, (tt, (tt, (tt, (tt, (tt, (tt, (tt, (tt, (tt,
-              tt))),),),),),),),),),),),),),),),),),),),),),),),),),),),),),),)) d60
+          d61 = Typed.g-pre 𝓤 H A W 𝓣 E G21 G22 b42 Δ0 (λ Ψ. Ψ) (at60 bs) (Lifetime.g-begin 𝓤 H A W E G21 7 (
+            tt,
+            (
+              (tt, tt),
+              (
+                (tt, tt),
+                (
+                  tt,
+                  (
+                    tt,
+                    (
+                      tt,
+                      (
+                        tt,
+                        (
+                          tt,
+                          (
+                            tt,
+                            (
+                              tt,
+                              (
+                                tt,
+                                (
+                                  tt,
+                                  (
+                                    tt,
+                                    (
+                                      tt,
+                                      (
+                                        tt,
+                                        (
+                                          tt,
+                                          (
+                                            tt,
+                                            (
+                                              tt,
+                                              (
+                                                tt,
+                                                (
+                                                  tt,
+                                                  (
+                                                    tt,
+                                                    (
+                                                      tt,
+                                                      (
+                                                        tt,
+                                                        (tt, (tt, (tt, (tt, (tt, (tt, (tt, (tt, (tt, (tt, tt)))))))))),
+                                                      ),
+                                                    ),
+                                                  ),
+                                                ),
+                                              ),
+                                            ),
+                                          ),
+                                        ),
+                                      ),
+                                    ),
+                                  ),
+                                ),
+                              ),
+                            ),
+                          ),
+                        ),
+                      ),
+                    ),
+                  ),
+                ),
+              ),
+            ),
+          )) d60
+
           d62 : Typed.Typed 𝓤 H A 𝓣 E G20 b43 Δ0 (at62 bs)
-          d62 = Typed.s-seq 𝓤 H A W 𝓣 E G20 G21 b11 b42 Δ0 (Typed.ask (s19 bs)) (at61 bs) (Relend.t-sl-aggregate 𝓤 H A W E RelayCircuit.row 𝓣
-              (Relend.asMut RelayCircuit.row) G20 17 18 6 ref1 ref1 (λ x. x) (Scalar.oFld 2 ((Syntax.field 1) ∷ List.[]) (Syntax.tyInt Syntax.w64) 8 λ
-              v. Shared.lenV (v .0)) (Reads.as-is 𝓤 H A (Relend.msptr RelayCircuit.row ref1 6)) (Reads.room-gone 𝓤 H A (Syntax.tyStruct (38 ∷ 91 ∷ 93
-              ∷ List.[]) (Syntax.tcons ref1 (Syntax.tcons (Syntax.tyInt Syntax.w64) Syntax.tnil)))) (Relend.reads-owed-len 𝓤 H A W RelayCircuit.row
-              ref10 1 6 life1 8 Path.refl, Path.refl,) Path.refl Path.refl λ b o k. tt) d61
+          d62 = Typed.s-seq 𝓤 H A W 𝓣 E G20 G21 b11 b42 Δ0 (Typed.ask (s19 bs)) (at61 bs) (Relend.t-sl-aggregate 𝓤 H A
+              W E RelayCircuit.row 𝓣 (Relend.asMut RelayCircuit.row) G20 17 18 6 ref1 ref1 (λ x. x) (Scalar.oFld 2
+              ((Syntax.field 1) ∷ List.[]) (Syntax.tyInt Syntax.w64) 8 λ v. Shared.lenV (v .0))
+              (Reads.as-is 𝓤 H A (Relend.msptr RelayCircuit.row ref1 6)) (Reads.room-gone 𝓤 H A slice1) (
+                Relend.reads-owed-len 𝓤 H A W RelayCircuit.row ref10 1 6 life1 8 Path.refl,
+                Path.refl,
+              ) Path.refl Path.refl λ b o k. tt) d61
+
           d63 : Typed.Typed 𝓤 H A 𝓣 E G19 b44 Δ0 (at63 bs)
-          d63 = Typed.s-seq 𝓤 H A W 𝓣 E G19 G20 b10 b43 Δ0 (Typed.give (s18 bs)) (at62 bs) (Relend.t-sl-relend 𝓤 H A W E RelayCircuit.row 𝓣 G19 2 17 1
-              6 ref10 ref1 life1 0 (λ x. x) (Reads.as-is 𝓤 H A (Mut.mslice RelayCircuit.row ref10 1)) (Reads.room-gone 𝓤 H A ref1) Path.refl tt
+          d63 = Typed.s-seq 𝓤 H A W 𝓣 E G19 G20 b10 b43 Δ0 (Typed.give (s18 bs)) (at62 bs) (Relend.t-sl-relend 𝓤 H A W
+              E RelayCircuit.row 𝓣 G19 2 17 1 6 ref10 ref1 life1 0 (λ x. x)
+              (Reads.as-is 𝓤 H A (Mut.mslice RelayCircuit.row ref10 1)) (Reads.room-gone 𝓤 H A ref1) Path.refl tt
               Path.refl Path.refl Path.refl λ b o. tt) d62
+
           d64 : Typed.Typed 𝓤 H A 𝓣 E G18 b44 Δ0 (at64 bs)
-          d64 = Typed.g-pre 𝓤 H A W 𝓣 E G18 G19 b44 Δ0 (λ Ψ. Ψ) (at63 bs) (Lifetime.g-begin 𝓤 H A W E G18 6 (tt, ((tt, tt), (tt, (tt, (tt, (tt, (tt,
-              (tt, (tt, (tt, (tt, (tt, (tt, (tt, (tt, (tt, (tt, (tt, (tt, (tt, (tt, (tt, (tt, (tt, (tt, (tt, (tt, (tt, (tt, (tt, (tt, (tt, (tt,
-              tt))),),),),),),),),),),),),),),),),),),),),),),),),),),),),),),)) d63
+          d64 = Typed.g-pre 𝓤 H A W 𝓣 E G18 G19 b44 Δ0 (λ Ψ. Ψ) (at63 bs) (Lifetime.g-begin 𝓤 H A W E G18 6 (
+            tt,
+            (
+              (tt, tt),
+              (
+                tt,
+                (
+                  tt,
+                  (
+                    tt,
+                    (
+                      tt,
+                      (
+                        tt,
+                        (
+                          tt,
+                          (
+                            tt,
+                            (
+                              tt,
+                              (
+                                tt,
+                                (
+                                  tt,
+                                  (
+                                    tt,
+                                    (
+                                      tt,
+                                      (
+                                        tt,
+                                        (
+                                          tt,
+                                          (
+                                            tt,
+                                            (
+                                              tt,
+                                              (
+                                                tt,
+                                                (
+                                                  tt,
+                                                  (
+                                                    tt,
+                                                    (
+                                                      tt,
+                                                      (
+                                                        tt,
+                                                        (tt, (tt, (tt, (tt, (tt, (tt, (tt, (tt, (tt, (tt, tt)))))))))),
+                                                      ),
+                                                    ),
+                                                  ),
+                                                ),
+                                              ),
+                                            ),
+                                          ),
+                                        ),
+                                      ),
+                                    ),
+                                  ),
+                                ),
+                              ),
+                            ),
+                          ),
+                        ),
+                      ),
+                    ),
+                  ),
+                ),
+              ),
+            ),
+          )) d63
+
           d65 : Typed.Typed 𝓤 H A 𝓣 E G17 b45 Δ0 (at65 bs)
-          d65 = Typed.s-seq 𝓤 H A W 𝓣 E G17 G18 b9 b44 Δ0 (Typed.ask (s16 bs)) (at64 bs) (Relend.t-sl-aggregate 𝓤 H A W E RelayPending.row 𝓣
-              (Relend.asMut RelayPending.row) G17 15 16 5 ref0 ref0 (λ x. x) (Scalar.oFld 1 ((Syntax.field 1) ∷ List.[]) (Syntax.tyInt Syntax.w64) 8 λ
-              v. Shared.lenV (v .0)) (Reads.as-is 𝓤 H A (Relend.msptr RelayPending.row ref0 5)) (Reads.room-gone 𝓤 H A (Syntax.tyStruct (38 ∷ 91 ∷ 93
-              ∷ List.[]) (Syntax.tcons ref0 (Syntax.tcons (Syntax.tyInt Syntax.w64) Syntax.tnil)))) (Relend.reads-owed-len 𝓤 H A W RelayPending.row
-              ref9 0 5 life0 8 Path.refl, Path.refl,) Path.refl Path.refl λ b o k. tt) d64
+          d65 = Typed.s-seq 𝓤 H A W 𝓣 E G17 G18 b9 b44 Δ0 (Typed.ask (s16 bs)) (at64 bs) (Relend.t-sl-aggregate 𝓤 H A W
+              E RelayPending.row 𝓣 (Relend.asMut RelayPending.row) G17 15 16 5 ref0 ref0 (λ x. x) (Scalar.oFld 1
+              ((Syntax.field 1) ∷ List.[]) (Syntax.tyInt Syntax.w64) 8 λ v. Shared.lenV (v .0))
+              (Reads.as-is 𝓤 H A (Relend.msptr RelayPending.row ref0 5)) (Reads.room-gone 𝓤 H A slice0) (
+                Relend.reads-owed-len 𝓤 H A W RelayPending.row ref9 0 5 life0 8 Path.refl,
+                Path.refl,
+              ) Path.refl Path.refl λ b o k. tt) d64
+
           d66 : Typed.Typed 𝓤 H A 𝓣 E G16 b46 Δ0 (at66 bs)
-          d66 = Typed.s-seq 𝓤 H A W 𝓣 E G16 G17 b8 b45 Δ0 (Typed.give (s15 bs)) (at65 bs) (Relend.t-sl-relend 𝓤 H A W E RelayPending.row 𝓣 G16 1 15 0
-              5 ref9 ref0 life0 0 (λ x. x) (Reads.as-is 𝓤 H A (Mut.mslice RelayPending.row ref9 0)) (Reads.room-gone 𝓤 H A ref0) Path.refl tt
+          d66 = Typed.s-seq 𝓤 H A W 𝓣 E G16 G17 b8 b45 Δ0 (Typed.give (s15 bs)) (at65 bs) (Relend.t-sl-relend 𝓤 H A W E
+              RelayPending.row 𝓣 G16 1 15 0 5 ref9 ref0 life0 0 (λ x. x)
+              (Reads.as-is 𝓤 H A (Mut.mslice RelayPending.row ref9 0)) (Reads.room-gone 𝓤 H A ref0) Path.refl tt
               Path.refl Path.refl Path.refl λ b o. tt) d65
+
           d67 : Typed.Typed 𝓤 H A 𝓣 E G15 b46 Δ0 (at67 bs)
-          d67 = Typed.g-pre 𝓤 H A W 𝓣 E G15 G16 b46 Δ0 (λ Ψ. Ψ) (at66 bs) (Lifetime.g-begin 𝓤 H A W E G15 5 (tt, (tt, (tt, (tt, (tt, (tt, (tt, (tt,
-              (tt, (tt, (tt, (tt, (tt, (tt, (tt, (tt, (tt, (tt, (tt, (tt, (tt, (tt, (tt, (tt, (tt, (tt, (tt, (tt, (tt, (tt, (tt, (tt, (tt,
-              tt))),),),),),),),),),),),),),),),),),),),),),),),),),),),),),),)) d66
+          d67 = Typed.g-pre 𝓤 H A W 𝓣 E G15 G16 b46 Δ0 (λ Ψ. Ψ) (at66 bs) (Lifetime.g-begin 𝓤 H A W E G15 5 (
+            tt,
+            (
+              tt,
+              (
+                tt,
+                (
+                  tt,
+                  (
+                    tt,
+                    (
+                      tt,
+                      (
+                        tt,
+                        (
+                          tt,
+                          (
+                            tt,
+                            (
+                              tt,
+                              (
+                                tt,
+                                (
+                                  tt,
+                                  (
+                                    tt,
+                                    (
+                                      tt,
+                                      (
+                                        tt,
+                                        (
+                                          tt,
+                                          (
+                                            tt,
+                                            (
+                                              tt,
+                                              (
+                                                tt,
+                                                (
+                                                  tt,
+                                                  (
+                                                    tt,
+                                                    (
+                                                      tt,
+                                                      (
+                                                        tt,
+                                                        (tt, (tt, (tt, (tt, (tt, (tt, (tt, (tt, (tt, (tt, tt)))))))))),
+                                                      ),
+                                                    ),
+                                                  ),
+                                                ),
+                                              ),
+                                            ),
+                                          ),
+                                        ),
+                                      ),
+                                    ),
+                                  ),
+                                ),
+                              ),
+                            ),
+                          ),
+                        ),
+                      ),
+                    ),
+                  ),
+                ),
+              ),
+            ),
+          )) d66
+
           d68 : Typed.Typed 𝓤 H A 𝓣 E G14 b46 Δ0 (at68 bs)
-          d68 = Typed.g-pre 𝓤 H A W 𝓣 E G14 G15 b46 Δ0 (Typed.pass T14 T15 (s13 bs)) (at67 bs) (Scalar.g-room 𝓤 H A W E G14 6 Laws'''.mir
-              (Local.room-whole 𝓤 H A W (Declared.row Relayed.the-type) Laws'''.mir Path.refl)) d67
+          d68 = Typed.g-pre 𝓤 H A W 𝓣 E G14 G15 b46 Δ0 (Typed.pass T14 T15 (s13 bs)) (at67 bs) (Scalar.g-room 𝓤 H A W E
+              G14 6 Laws'''.mir (Local.room-whole 𝓤 H A W (Declared.row Relayed.the-type) Laws'''.mir Path.refl)) d67
+
           d69 : Typed.Typed 𝓤 H A 𝓣 E G13 b47 Δ0 (at69 bs)
-          d69 = Typed.s-seq 𝓤 H A W 𝓣 E G13 G14 b7 b46 Δ0 (Typed.both (s12 bs)) (at68 bs) (WayStmt.t-way-copy-out 𝓤 H A W E 𝓣 (Declared.row
-              Places.the-type) Path.refl (Copies.cStruct Places.the-type Laws.the-laws Laws.the-copy .copy 𝓤 H A W) (λ ρ. Unit) G13 (Row.out 6 (G13
-              .locals)) (λ u. Row.drop 6 (G13 .locals) u) (G13 .slots) 6 (λ t. (Syntax.field 3) ∷ t) Laws.mir Laws.mir 13 (Rows'.whole (Declared.row
-              Places.the-type)) (λ x. x) (λ u. At.getAt (Relayed.the-type .parts) 3 (Relayed.struct .as-values (u .1 .1 .1 .1 .1 .1 .0))) (λ u.
-              (Row.hd 0 (Row.tl (Row.tl (Row.tl (Row.tl (Row.tl (Row.tl bs)))))), Nat._+_ 0 216,)) (λ T′. record { locals = Row.setRow 6 (6,
-              Rows'.whole (Declared.row Relayed.the-type)) T′; slots = G13 .slots; }) (λ u T′ m′. Row.set 6 (6, Rows'.whole (Declared.row
-              Relayed.the-type)) (u .1 .1 .1 .1 .1 .1 .0) T′ m′) (λ u. Unit) (λ x. Unit) (Own.told-none 𝓤 H A (G13 .slots)) (DerefMove.learns-nothing
-              𝓤 H A (Declared.row Places.the-type)) (λ ρ told u asked. Way'.w-partˢ 𝓤 H A W E (Declared.row Relayed.the-type) (Declared.row
-              Places.the-type) Laws'''.mir Laws.mir 3 216 (u .1 .1 .1 .1 .1 .1 .0) (At.getAt (Relayed.the-type .parts) 3 (Relayed.struct .as-values (u
-              .1 .1 .1 .1 .1 .1 .0))) (Row.hd 0 (Row.tl (Row.tl (Row.tl (Row.tl (Row.tl (Row.tl bs)))))), 0) (Way.w-look 𝓤 H A W E (Way.w-local 𝓤 H A
-              W E G13 ρ u (G13 .slots) 6 (Declared.row Relayed.the-type) (Rows'.whole (Declared.row Relayed.the-type)) (λ x. x) (λ x. x) (u .1 .1 .1
-              .1 .1 .1 .0) (Local.mem-whole 𝓤 H A W (Declared.row Relayed.the-type) ρ (u .1 .1 .1 .1 .1 .1 .0) (Row.hd 0 (Row.tl (Row.tl (Row.tl
-              (Row.tl (Row.tl (Row.tl bs)))))))) (Local.whole-mem 𝓤 H A W (Declared.row Relayed.the-type) ρ (u .1 .1 .1 .1 .1 .1 .0) (Row.hd 0 (Row.tl
-              (Row.tl (Row.tl (Row.tl (Row.tl (Row.tl bs)))))))))) Path.refl λ q. Inner.cut-record 𝓤 H A q (Declared.row Relayed.the-type)
-              Places.the-type 216 (u .1 .1 .1 .1 .1 .1 .0) (u .1 .1 .1 .1 .1 .1 .0) (At.getAt (Relayed.the-type .parts) 3 (Relayed.struct .as-values
-              (u .1 .1 .1 .1 .1 .1 .0))) (At.getAt (Relayed.the-type .parts) 3 (Relayed.struct .as-values (u .1 .1 .1 .1 .1 .1 .0))) (Row.hd 0 (Row.tl
-              (Row.tl (Row.tl (Row.tl (Row.tl (Row.tl bs)))))), 0) (Behind.look-at 𝓤 H A W q Relayed.the-type Laws'''.the-laws 3 216 Path.refl
-              Path.refl (Row.hd 0 (Row.tl (Row.tl (Row.tl (Row.tl (Row.tl (Row.tl bs)))))), 0) (u .1 .1 .1 .1 .1 .1 .0) (Relayed.struct .as-values (u
-              .1 .1 .1 .1 .1 .1 .0)) Path.refl)) (Reads.room-gone 𝓤 H A Laws.mir) (Yields.makes-mem 𝓤 H A W (λ ρ. Unit) (Declared.row Places.the-type)
-              Path.refl (Rows'.whole (Declared.row Places.the-type)) (λ x. x) λ ρ told. Local.whole-mem 𝓤 H A W (Declared.row Places.the-type) ρ)
-              Path.refl Path.refl Path.refl) d68
+          d69 = Typed.s-seq 𝓤 H A W 𝓣 E G13 G14 b7 b46 Δ0 (Typed.both (s12 bs)) (at68 bs) (WayStmt.t-way-copy-out 𝓤 H A
+              W E 𝓣 (Declared.row Places.the-type) Path.refl (Copies.cStruct Places.the-type Laws.the-laws
+              Laws.the-copy .copy 𝓤 H A W) (λ ρ. Unit) G13 (Row.out 6 (G13 .locals)) (λ u. Row.drop 6 (G13 .locals) u)
+              (G13 .slots) 6 (λ t. (Syntax.field 3) ∷ t) Laws.mir Laws.mir 13
+              (Rows'.whole (Declared.row Places.the-type)) (λ x. x) (λ u. At.getAt (Relayed.the-type .parts) 3
+              (Relayed.struct .as-values (u .1 .1 .1 .1 .1 .1 .0))) (λ u. (
+                Row.hd 0 (Row.tl (Row.tl (Row.tl (Row.tl (Row.tl (Row.tl bs)))))),
+                Nat._+_ 0 216,
+              )) (λ T′. record {
+                locals = Row.setRow 6 (6, Rows'.whole (Declared.row Relayed.the-type)) T′;
+                slots = G13 .slots;
+              }) (λ u T′ m′. Row.set 6 (6, Rows'.whole (Declared.row Relayed.the-type)) (u .1 .1 .1 .1 .1 .1 .0) T′ m′)
+              (λ u. Unit) (λ x. Unit) (Own.told-none 𝓤 H A (G13 .slots)) (DerefMove.learns-nothing 𝓤 H A
+              (Declared.row Places.the-type)) (λ ρ told u asked. Way'.w-partˢ 𝓤 H A W E (Declared.row Relayed.the-type)
+              (Declared.row Places.the-type) Laws'''.mir Laws.mir 3 216 (u .1 .1 .1 .1 .1 .1 .0) (At.getAt
+              (Relayed.the-type .parts) 3 (Relayed.struct .as-values (u .1 .1 .1 .1 .1 .1 .0))) (
+                Row.hd 0 (Row.tl (Row.tl (Row.tl (Row.tl (Row.tl (Row.tl bs)))))),
+                0,
+              ) (Way.w-look 𝓤 H A W E (Way.w-local 𝓤 H A W E G13 ρ u (G13 .slots) 6 (Declared.row Relayed.the-type)
+              (Rows'.whole (Declared.row Relayed.the-type)) (λ x. x) (λ x. x) (u .1 .1 .1 .1 .1 .1 .0) (Local.mem-whole
+              𝓤 H A W (Declared.row Relayed.the-type) ρ (u .1 .1 .1 .1 .1 .1 .0) (Row.hd 0
+              (Row.tl (Row.tl (Row.tl (Row.tl (Row.tl (Row.tl bs)))))))) (Local.whole-mem 𝓤 H A W
+              (Declared.row Relayed.the-type) ρ (u .1 .1 .1 .1 .1 .1 .0) (Row.hd 0 (Row.tl
+              (Row.tl (Row.tl (Row.tl (Row.tl (Row.tl bs)))))))))) Path.refl λ q. Inner.cut-record 𝓤 H A q
+              (Declared.row Relayed.the-type) Places.the-type 216 (u .1 .1 .1 .1 .1 .1 .0) (u .1 .1 .1 .1 .1 .1 .0) (At.getAt
+              (Relayed.the-type .parts) 3 (Relayed.struct .as-values (u .1 .1 .1 .1 .1 .1 .0))) (At.getAt
+              (Relayed.the-type .parts) 3 (Relayed.struct .as-values (u .1 .1 .1 .1 .1 .1 .0))) (
+                Row.hd 0 (Row.tl (Row.tl (Row.tl (Row.tl (Row.tl (Row.tl bs)))))),
+                0,
+              ) (Behind.look-at 𝓤 H A W q Relayed.the-type Laws'''.the-laws 3 216 Path.refl Path.refl (
+                Row.hd 0 (Row.tl (Row.tl (Row.tl (Row.tl (Row.tl (Row.tl bs)))))),
+                0,
+              ) (u .1 .1 .1 .1 .1 .1 .0) (Relayed.struct .as-values (u .1 .1 .1 .1 .1 .1 .0)) Path.refl))
+              (Reads.room-gone 𝓤 H A Laws.mir) (Yields.makes-mem 𝓤 H A W (λ ρ. Unit) (Declared.row Places.the-type)
+              Path.refl (Rows'.whole (Declared.row Places.the-type)) (λ x. x) λ ρ told. Local.whole-mem 𝓤 H A W
+              (Declared.row Places.the-type) ρ) Path.refl Path.refl Path.refl) d68
+
           d70 : Typed.Typed 𝓤 H A 𝓣 E G12 b48 Δ0 (at70 bs)
-          d70 = Typed.s-seq 𝓤 H A W 𝓣 E G12 G13 b6 b47 Δ0 (Typed.both (s11 bs)) (at69 bs) (WayStmt.t-way-copy-out 𝓤 H A W E 𝓣 (Declared.row
-              OpaqueRelayRuntime.the-type) Path.refl (Copies.cStruct OpaqueRelayRuntime.the-type Laws''.the-laws Laws''.the-copy .copy 𝓤 H A W) (λ ρ.
-              Unit) G12 (Row.out 6 (G12 .locals)) (λ u. Row.drop 6 (G12 .locals) u) (G12 .slots) 6 (λ t. (Syntax.field 0) ∷ t) Laws''.mir Laws''.mir
-              12 (Rows'.whole (Declared.row OpaqueRelayRuntime.the-type)) (λ x. x) (λ u. At.getAt (Relayed.the-type .parts) 0 (Relayed.struct
-              .as-values (u .1 .1 .1 .1 .1 .1 .0))) (λ u. (Row.hd 0 (Row.tl (Row.tl (Row.tl (Row.tl (Row.tl (Row.tl bs)))))), Nat._+_ 0 0,)) (λ T′.
-              record { locals = Row.setRow 6 (6, Rows'.whole (Declared.row Relayed.the-type)) T′; slots = G12 .slots; }) (λ u T′ m′. Row.set 6 (6,
-              Rows'.whole (Declared.row Relayed.the-type)) (u .1 .1 .1 .1 .1 .1 .0) T′ m′) (λ u. Unit) (λ x. Unit) (Own.told-none 𝓤 H A (G12 .slots))
-              (DerefMove.learns-nothing 𝓤 H A (Declared.row OpaqueRelayRuntime.the-type)) (λ ρ told u asked. Way'.w-partˢ 𝓤 H A W E (Declared.row
-              Relayed.the-type) (Declared.row OpaqueRelayRuntime.the-type) Laws'''.mir Laws''.mir 0 0 (u .1 .1 .1 .1 .1 .1 .0) (At.getAt
-              (Relayed.the-type .parts) 0 (Relayed.struct .as-values (u .1 .1 .1 .1 .1 .1 .0))) (Row.hd 0 (Row.tl (Row.tl (Row.tl (Row.tl (Row.tl
-              (Row.tl bs)))))), 0) (Way.w-look 𝓤 H A W E (Way.w-local 𝓤 H A W E G12 ρ u (G12 .slots) 6 (Declared.row Relayed.the-type) (Rows'.whole
-              (Declared.row Relayed.the-type)) (λ x. x) (λ x. x) (u .1 .1 .1 .1 .1 .1 .0) (Local.mem-whole 𝓤 H A W (Declared.row Relayed.the-type) ρ
-              (u .1 .1 .1 .1 .1 .1 .0) (Row.hd 0 (Row.tl (Row.tl (Row.tl (Row.tl (Row.tl (Row.tl bs)))))))) (Local.whole-mem 𝓤 H A W (Declared.row
-              Relayed.the-type) ρ (u .1 .1 .1 .1 .1 .1 .0) (Row.hd 0 (Row.tl (Row.tl (Row.tl (Row.tl (Row.tl (Row.tl bs)))))))))) Path.refl λ q.
-              Inner.cut-record 𝓤 H A q (Declared.row Relayed.the-type) OpaqueRelayRuntime.the-type 0 (u .1 .1 .1 .1 .1 .1 .0) (u .1 .1 .1 .1 .1 .1 .0)
-              (At.getAt (Relayed.the-type .parts) 0 (Relayed.struct .as-values (u .1 .1 .1 .1 .1 .1 .0))) (At.getAt (Relayed.the-type .parts) 0
-              (Relayed.struct .as-values (u .1 .1 .1 .1 .1 .1 .0))) (Row.hd 0 (Row.tl (Row.tl (Row.tl (Row.tl (Row.tl (Row.tl bs)))))), 0)
-              (Behind.look-at 𝓤 H A W q Relayed.the-type Laws'''.the-laws 0 0 Path.refl Path.refl (Row.hd 0 (Row.tl (Row.tl (Row.tl (Row.tl (Row.tl
-              (Row.tl bs)))))), 0,) (u .1 .1 .1 .1 .1 .1 .0) (Relayed.struct .as-values (u .1 .1 .1 .1 .1 .1 .0)) Path.refl)) (Reads.room-gone 𝓤 H A
-              Laws''.mir) (Yields.makes-mem 𝓤 H A W (λ ρ. Unit) (Declared.row OpaqueRelayRuntime.the-type) Path.refl (Rows'.whole (Declared.row
-              OpaqueRelayRuntime.the-type)) (λ x. x) λ ρ told. Local.whole-mem 𝓤 H A W (Declared.row OpaqueRelayRuntime.the-type) ρ) Path.refl
-              Path.refl Path.refl) d69
+          d70 = Typed.s-seq 𝓤 H A W 𝓣 E G12 G13 b6 b47 Δ0 (Typed.both (s11 bs)) (at69 bs) (WayStmt.t-way-copy-out 𝓤 H A
+              W E 𝓣 (Declared.row OpaqueRelayRuntime.the-type) Path.refl (Copies.cStruct OpaqueRelayRuntime.the-type
+              Laws''.the-laws Laws''.the-copy .copy 𝓤 H A W) (λ ρ. Unit) G12 (Row.out 6 (G12 .locals))
+              (λ u. Row.drop 6 (G12 .locals) u) (G12 .slots) 6 (λ t. (Syntax.field 0) ∷ t) Laws''.mir Laws''.mir 12
+              (Rows'.whole (Declared.row OpaqueRelayRuntime.the-type)) (λ x. x) (λ u. At.getAt
+              (Relayed.the-type .parts) 0 (Relayed.struct .as-values (u .1 .1 .1 .1 .1 .1 .0))) (λ u. (
+                Row.hd 0 (Row.tl (Row.tl (Row.tl (Row.tl (Row.tl (Row.tl bs)))))),
+                Nat._+_ 0 0,
+              )) (λ T′. record {
+                locals = Row.setRow 6 (6, Rows'.whole (Declared.row Relayed.the-type)) T′;
+                slots = G12 .slots;
+              }) (λ u T′ m′. Row.set 6 (6, Rows'.whole (Declared.row Relayed.the-type)) (u .1 .1 .1 .1 .1 .1 .0) T′ m′)
+              (λ u. Unit) (λ x. Unit) (Own.told-none 𝓤 H A (G12 .slots)) (DerefMove.learns-nothing 𝓤 H A
+              (Declared.row OpaqueRelayRuntime.the-type)) (λ ρ told u asked. Way'.w-partˢ 𝓤 H A W E
+              (Declared.row Relayed.the-type) (Declared.row OpaqueRelayRuntime.the-type) Laws'''.mir Laws''.mir 0 0
+              (u .1 .1 .1 .1 .1 .1 .0) (At.getAt (Relayed.the-type .parts) 0
+              (Relayed.struct .as-values (u .1 .1 .1 .1 .1 .1 .0))) (
+                Row.hd 0 (Row.tl (Row.tl (Row.tl (Row.tl (Row.tl (Row.tl bs)))))),
+                0,
+              ) (Way.w-look 𝓤 H A W E (Way.w-local 𝓤 H A W E G12 ρ u (G12 .slots) 6 (Declared.row Relayed.the-type)
+              (Rows'.whole (Declared.row Relayed.the-type)) (λ x. x) (λ x. x) (u .1 .1 .1 .1 .1 .1 .0) (Local.mem-whole
+              𝓤 H A W (Declared.row Relayed.the-type) ρ (u .1 .1 .1 .1 .1 .1 .0) (Row.hd 0
+              (Row.tl (Row.tl (Row.tl (Row.tl (Row.tl (Row.tl bs)))))))) (Local.whole-mem 𝓤 H A W
+              (Declared.row Relayed.the-type) ρ (u .1 .1 .1 .1 .1 .1 .0) (Row.hd 0 (Row.tl
+              (Row.tl (Row.tl (Row.tl (Row.tl (Row.tl bs)))))))))) Path.refl λ q. Inner.cut-record 𝓤 H A q
+              (Declared.row Relayed.the-type) OpaqueRelayRuntime.the-type 0 (u .1 .1 .1 .1 .1 .1 .0)
+              (u .1 .1 .1 .1 .1 .1 .0) (At.getAt (Relayed.the-type .parts) 0
+              (Relayed.struct .as-values (u .1 .1 .1 .1 .1 .1 .0))) (At.getAt (Relayed.the-type .parts) 0
+              (Relayed.struct .as-values (u .1 .1 .1 .1 .1 .1 .0))) (
+                Row.hd 0 (Row.tl (Row.tl (Row.tl (Row.tl (Row.tl (Row.tl bs)))))),
+                0,
+              ) (Behind.look-at 𝓤 H A W q Relayed.the-type Laws'''.the-laws 0 0 Path.refl Path.refl (
+                Row.hd 0 (Row.tl (Row.tl (Row.tl (Row.tl (Row.tl (Row.tl bs)))))),
+                0,
+              ) (u .1 .1 .1 .1 .1 .1 .0) (Relayed.struct .as-values (u .1 .1 .1 .1 .1 .1 .0)) Path.refl))
+              (Reads.room-gone 𝓤 H A Laws''.mir) (Yields.makes-mem 𝓤 H A W (λ ρ. Unit)
+              (Declared.row OpaqueRelayRuntime.the-type) Path.refl
+              (Rows'.whole (Declared.row OpaqueRelayRuntime.the-type)) (λ x. x) λ ρ told. Local.whole-mem 𝓤 H A W
+              (Declared.row OpaqueRelayRuntime.the-type) ρ) Path.refl Path.refl Path.refl) d69
+
           d71 : Typed.Typed 𝓤 H A 𝓣 E G11 b48 Δ0 (at71 bs)
-          d71 = Typed.g-pre 𝓤 H A W 𝓣 E G11 G12 b48 Δ0 (Typed.pass T11 T12 (s10 bs)) (at70 bs) (AtSlots.g-as-by 𝓤 H A W E (λ ρ. Unit) G11 11
-              (Rows.arrF (Referent.rtF (Referent.fInt Syntax.w8)) 8 0) (λ x. x) (Own.told-none 𝓤 H A (G11 .slots)) λ ρ told. Repeat.whole-arr 𝓤 H A W
+          d71 = Typed.g-pre 𝓤 H A W 𝓣 E G11 G12 b48 Δ0 (Typed.pass T11 T12 (s10 bs)) (at70 bs) (AtSlots.g-as-by 𝓤 H A W
+              E (λ ρ. Unit) G11 11 (Rows.arrF (Referent.rtF (Referent.fInt Syntax.w8)) 8 0) (λ x. x)
+              (Own.told-none 𝓤 H A (G11 .slots)) λ ρ told. Repeat.whole-arr 𝓤 H A W
               (Referent.rtF (Referent.fInt Syntax.w8)) 8 tt ρ) d70
+
           d72 : Typed.Typed 𝓤 H A 𝓣 E G10 b49 Δ0 (at72 bs)
-          d72 = Typed.s-seq 𝓤 H A W 𝓣 E G10 G11 b5 b48 Δ0 (Typed.pass T10 T11 (s9 bs)) (at71 bs) (Make.t-make-wt 𝓤 H A W E 𝓣 (Array'.Array
-              (Referent.rtF (Referent.fInt Syntax.w8)) 8) Path.refl (Gives.arrayValOf λ x. Steps.only (Copies.cRf (Referent.fInt Syntax.w8) .vals x))
-              (Array'.array-lawful 𝓤 H A W (Referent.rtF (Referent.fInt Syntax.w8)) (Plain'.uint-lawful 𝓤 H A W Syntax.w8) 8) (Array'.array-makes 𝓤 H
-              A W (Referent.rtF (Referent.fInt Syntax.w8)) (Plain'.uint-makes 𝓤 H A W Syntax.w8) 8) G10 11 ((Scalar.oInt Syntax.w8 0) ∷ (Scalar.oInt
-              Syntax.w8 0) ∷ (Scalar.oInt Syntax.w8 0) ∷ (Scalar.oInt Syntax.w8 0) ∷ (Scalar.oInt Syntax.w8 0) ∷ (Scalar.oInt Syntax.w8 0) ∷
-              (Scalar.oInt Syntax.w8 0) ∷ (Scalar.oInt Syntax.w8 7) ∷ List.[]) (λ m. 0 ∷ 0 ∷ 0 ∷ 0 ∷ 0 ∷ 0 ∷ 0 ∷ 7 ∷ List.[]) (Reads.room-gone 𝓤 H A
-              (Syntax.tyArray (Syntax.tyInt Syntax.w8) 8)) (tt, (tt, (tt, (tt, (tt, (tt, (tt, (tt, tt)))))))) Path.refl (λ m wa. Path.refl) λ m wa.
-              ((Row.valS (Row.sInt Syntax.w8) 0) ∷ (Row.valS (Row.sInt Syntax.w8) 0) ∷ (Row.valS (Row.sInt Syntax.w8) 0) ∷ (Row.valS (Row.sInt
-              Syntax.w8) 0) ∷ (Row.valS (Row.sInt Syntax.w8) 0) ∷ (Row.valS (Row.sInt Syntax.w8) 0) ∷ (Row.valS (Row.sInt Syntax.w8) 0) ∷ (Row.valS
-              (Row.sInt Syntax.w8) 7) ∷ List.[], ((Path.refl, Path.refl), ((Path.refl, Dec.lit< tt), ((Path.refl, Dec.lit< tt), ((Path.refl, Dec.lit<
-              tt), ((Path.refl, Dec.lit< tt), ((Path.refl, Dec.lit< tt), ((Path.refl, Dec.lit< tt), ((Path.refl, Dec.lit< tt), ((Path.refl, Dec.lit<
-              tt), tt)),),),),),),),),)) d71
+          d72 = Typed.s-seq 𝓤 H A W 𝓣 E G10 G11 b5 b48 Δ0 (Typed.pass T10 T11 (s9 bs)) (at71 bs) (Make.t-make-wt 𝓤 H A
+              W E 𝓣 (Array'.Array (Referent.rtF (Referent.fInt Syntax.w8)) 8) Path.refl (Gives.arrayValOf λ x.
+              Steps.only (Copies.cRf (Referent.fInt Syntax.w8) .vals x)) (Array'.array-lawful 𝓤 H A W
+              (Referent.rtF (Referent.fInt Syntax.w8)) (Plain'.uint-lawful 𝓤 H A W Syntax.w8) 8) (Array'.array-makes 𝓤
+              H A W (Referent.rtF (Referent.fInt Syntax.w8)) (Plain'.uint-makes 𝓤 H A W Syntax.w8) 8) G10 11 ((Scalar.oInt
+              Syntax.w8 0) ∷ (Scalar.oInt Syntax.w8 0) ∷ (Scalar.oInt Syntax.w8 0) ∷ (Scalar.oInt Syntax.w8 0) ∷
+              (Scalar.oInt Syntax.w8 0) ∷ (Scalar.oInt Syntax.w8 0) ∷ (Scalar.oInt Syntax.w8 0) ∷
+              (Scalar.oInt Syntax.w8 7) ∷ List.[]) (λ m. 0 ∷ 0 ∷ 0 ∷ 0 ∷ 0 ∷ 0 ∷ 0 ∷ 7 ∷ List.[]) (Reads.room-gone 𝓤 H
+              A (Syntax.tyArray (Syntax.tyInt Syntax.w8) 8)) (tt, (tt, (tt, (tt, (tt, (tt, (tt, (tt, tt))))))))
+              Path.refl (λ m wa. Path.refl) λ m wa. (
+                (Row.valS (Row.sInt Syntax.w8) 0) ∷ (Row.valS (Row.sInt Syntax.w8) 0) ∷
+                    (Row.valS (Row.sInt Syntax.w8) 0) ∷ (Row.valS (Row.sInt Syntax.w8) 0) ∷
+                    (Row.valS (Row.sInt Syntax.w8) 0) ∷ (Row.valS (Row.sInt Syntax.w8) 0) ∷
+                    (Row.valS (Row.sInt Syntax.w8) 0) ∷ (Row.valS (Row.sInt Syntax.w8) 7) ∷ List.[],
+                (
+                  (Path.refl, Path.refl),
+                  (
+                    (Path.refl, Dec.lit< tt),
+                    (
+                      (Path.refl, Dec.lit< tt),
+                      (
+                        (Path.refl, Dec.lit< tt),
+                        (
+                          (Path.refl, Dec.lit< tt),
+                          (
+                            (Path.refl, Dec.lit< tt),
+                            ((Path.refl, Dec.lit< tt), ((Path.refl, Dec.lit< tt), ((Path.refl, Dec.lit< tt), tt))),
+                          ),
+                        ),
+                      ),
+                    ),
+                  ),
+                ),
+              )) d71
+
           d73 : Typed.Typed 𝓤 H A 𝓣 E G9 b49 Δ0 (at73 bs)
-          d73 = Typed.g-pre 𝓤 H A W 𝓣 E G9 G10 b49 Δ0 (Typed.pass T9 T10 (s8 bs)) (at72 bs) (AtSlots.g-as-by 𝓤 H A W E (λ ρ. Unit) G9 10 (Rows.arrF
-              (Referent.rtF (Referent.fInt Syntax.w8)) 1 0) (λ x. x) (Own.told-none 𝓤 H A (G9 .slots)) λ ρ told. Repeat.whole-arr 𝓤 H A W
+          d73 = Typed.g-pre 𝓤 H A W 𝓣 E G9 G10 b49 Δ0 (Typed.pass T9 T10 (s8 bs)) (at72 bs) (AtSlots.g-as-by 𝓤 H A W E
+              (λ ρ. Unit) G9 10 (Rows.arrF (Referent.rtF (Referent.fInt Syntax.w8)) 1 0) (λ x. x)
+              (Own.told-none 𝓤 H A (G9 .slots)) λ ρ told. Repeat.whole-arr 𝓤 H A W
               (Referent.rtF (Referent.fInt Syntax.w8)) 1 tt ρ) d72
+
           d74 : Typed.Typed 𝓤 H A 𝓣 E G8 b50 Δ0 (at74 bs)
-          d74 = Typed.s-seq 𝓤 H A W 𝓣 E G8 G9 b4 b49 Δ0 (Typed.pass T8 T9 (s7 bs)) (at73 bs) (Make.t-make-wt 𝓤 H A W E 𝓣 (Array'.Array (Referent.rtF
-              (Referent.fInt Syntax.w8)) 1) Path.refl (Gives.arrayValOf λ x. Steps.only (Copies.cRf (Referent.fInt Syntax.w8) .vals x))
-              (Array'.array-lawful 𝓤 H A W (Referent.rtF (Referent.fInt Syntax.w8)) (Plain'.uint-lawful 𝓤 H A W Syntax.w8) 1) (Array'.array-makes 𝓤 H
-              A W (Referent.rtF (Referent.fInt Syntax.w8)) (Plain'.uint-makes 𝓤 H A W Syntax.w8) 1) G8 10 ((Scalar.oInt Syntax.w8 2) ∷ List.[]) (λ m.
-              2 ∷ List.[]) (Reads.room-gone 𝓤 H A (Syntax.tyArray (Syntax.tyInt Syntax.w8) 1)) (tt, tt) Path.refl (λ m wa. Path.refl) λ m wa.
-              ((Row.valS (Row.sInt Syntax.w8) 2) ∷ List.[], ((Path.refl, Path.refl), ((Path.refl, Dec.lit< tt), tt)),)) d73
+          d74 = Typed.s-seq 𝓤 H A W 𝓣 E G8 G9 b4 b49 Δ0 (Typed.pass T8 T9 (s7 bs)) (at73 bs) (Make.t-make-wt 𝓤 H A W E
+              𝓣 (Array'.Array (Referent.rtF (Referent.fInt Syntax.w8)) 1) Path.refl (Gives.arrayValOf λ x. Steps.only
+              (Copies.cRf (Referent.fInt Syntax.w8) .vals x)) (Array'.array-lawful 𝓤 H A W
+              (Referent.rtF (Referent.fInt Syntax.w8)) (Plain'.uint-lawful 𝓤 H A W Syntax.w8) 1) (Array'.array-makes 𝓤
+              H A W (Referent.rtF (Referent.fInt Syntax.w8)) (Plain'.uint-makes 𝓤 H A W Syntax.w8) 1) G8 10
+              ((Scalar.oInt Syntax.w8 2) ∷ List.[]) (λ m. 2 ∷ List.[]) (Reads.room-gone 𝓤 H A
+              (Syntax.tyArray (Syntax.tyInt Syntax.w8) 1)) (tt, tt) Path.refl (λ m wa. Path.refl) λ m wa. (
+                (Row.valS (Row.sInt Syntax.w8) 2) ∷ List.[],
+                ((Path.refl, Path.refl), ((Path.refl, Dec.lit< tt), tt)),
+              )) d73
+
           d75 : Typed.Typed 𝓤 H A 𝓣 E G7 b50 Δ0 (at75 bs)
-          d75 = Typed.g-pre 𝓤 H A W 𝓣 E G7 G8 b50 Δ0 (Typed.pass T7 T8 (s6 bs)) (at74 bs) (AtSlots.g-as-by 𝓤 H A W E (λ ρ. Unit) G7 9 (Rows.arrF
-              (Referent.rtF (Referent.fInt Syntax.w8)) 1 0) (λ x. x) (Own.told-none 𝓤 H A (G7 .slots)) λ ρ told. Repeat.whole-arr 𝓤 H A W
+          d75 = Typed.g-pre 𝓤 H A W 𝓣 E G7 G8 b50 Δ0 (Typed.pass T7 T8 (s6 bs)) (at74 bs) (AtSlots.g-as-by 𝓤 H A W E
+              (λ ρ. Unit) G7 9 (Rows.arrF (Referent.rtF (Referent.fInt Syntax.w8)) 1 0) (λ x. x)
+              (Own.told-none 𝓤 H A (G7 .slots)) λ ρ told. Repeat.whole-arr 𝓤 H A W
               (Referent.rtF (Referent.fInt Syntax.w8)) 1 tt ρ) d74
+
           d76 : Typed.Typed 𝓤 H A 𝓣 E G6 b51 Δ0 (at76 bs)
-          d76 = Typed.s-seq 𝓤 H A W 𝓣 E G6 G7 b3 b50 Δ0 (Typed.pass T6 T7 (s5 bs)) (at75 bs) (Make.t-make-wt 𝓤 H A W E 𝓣 (Array'.Array (Referent.rtF
-              (Referent.fInt Syntax.w8)) 1) Path.refl (Gives.arrayValOf λ x. Steps.only (Copies.cRf (Referent.fInt Syntax.w8) .vals x))
-              (Array'.array-lawful 𝓤 H A W (Referent.rtF (Referent.fInt Syntax.w8)) (Plain'.uint-lawful 𝓤 H A W Syntax.w8) 1) (Array'.array-makes 𝓤 H
-              A W (Referent.rtF (Referent.fInt Syntax.w8)) (Plain'.uint-makes 𝓤 H A W Syntax.w8) 1) G6 9 ((Scalar.oInt Syntax.w8 1) ∷ List.[]) (λ m. 1
-              ∷ List.[]) (Reads.room-gone 𝓤 H A (Syntax.tyArray (Syntax.tyInt Syntax.w8) 1)) (tt, tt) Path.refl (λ m wa. Path.refl) λ m wa. ((Row.valS
-              (Row.sInt Syntax.w8) 1) ∷ List.[], ((Path.refl, Path.refl), ((Path.refl, Dec.lit< tt), tt)),)) d75
+          d76 = Typed.s-seq 𝓤 H A W 𝓣 E G6 G7 b3 b50 Δ0 (Typed.pass T6 T7 (s5 bs)) (at75 bs) (Make.t-make-wt 𝓤 H A W E
+              𝓣 (Array'.Array (Referent.rtF (Referent.fInt Syntax.w8)) 1) Path.refl (Gives.arrayValOf λ x. Steps.only
+              (Copies.cRf (Referent.fInt Syntax.w8) .vals x)) (Array'.array-lawful 𝓤 H A W
+              (Referent.rtF (Referent.fInt Syntax.w8)) (Plain'.uint-lawful 𝓤 H A W Syntax.w8) 1) (Array'.array-makes 𝓤
+              H A W (Referent.rtF (Referent.fInt Syntax.w8)) (Plain'.uint-makes 𝓤 H A W Syntax.w8) 1) G6 9
+              ((Scalar.oInt Syntax.w8 1) ∷ List.[]) (λ m. 1 ∷ List.[]) (Reads.room-gone 𝓤 H A
+              (Syntax.tyArray (Syntax.tyInt Syntax.w8) 1)) (tt, tt) Path.refl (λ m wa. Path.refl) λ m wa. (
+                (Row.valS (Row.sInt Syntax.w8) 1) ∷ List.[],
+                ((Path.refl, Path.refl), ((Path.refl, Dec.lit< tt), tt)),
+              )) d75
+
           d77 : Typed.Typed 𝓤 H A 𝓣 E G5 b51 Δ0 (at77 bs)
-          d77 = Typed.g-pre 𝓤 H A W 𝓣 E G5 G6 b51 Δ0 (Typed.pass T5 T6 (s4 bs)) (at76 bs) (Scalar.g-room 𝓤 H A W E G5 14 (Syntax.tyArray (Syntax.tyInt
-              Syntax.w8) 103) (Init.room-arr 𝓤 H A W (Referent.rtF (Referent.fInt Syntax.w8)) 103 0 103 Path.refl)) d76
+          d77 = Typed.g-pre 𝓤 H A W 𝓣 E G5 G6 b51 Δ0 (Typed.pass T5 T6 (s4 bs)) (at76 bs) (Scalar.g-room 𝓤 H A W E G5
+              14 (Syntax.tyArray (Syntax.tyInt Syntax.w8) 103) (Init.room-arr 𝓤 H A W
+              (Referent.rtF (Referent.fInt Syntax.w8)) 103 0 103 Path.refl)) d76
+
           d78 : Typed.Typed 𝓤 H A 𝓣 E G4 b52 Δ0 (at78 bs)
-          d78 = Typed.s-seq 𝓤 H A W 𝓣 E G4 G5 b2 b51 Δ0 (Typed.pass T4 T5 (s3 bs)) (at77 bs) (LocalCopy.t-val-copy 𝓤 H A W E 𝓣 (λ ρ. Unit) G4 14 8
-              (Array'.Array (Referent.rtF (Referent.fInt Syntax.w8)) 103) (Syntax.tyArray (Syntax.tyInt Syntax.w8) 103) (Syntax.tyArray (Syntax.tyInt
-              Syntax.w8) 103) (Rows.arrF (Referent.rtF (Referent.fInt Syntax.w8)) 103 0) (Rows.arrF (Referent.rtF (Referent.fInt Syntax.w8)) 103 0) (λ
-              x. x) (λ x. x) (λ x. x) Path.refl (Own.told-none 𝓤 H A (G4 .slots)) (Yields.yields-copy 𝓤 H A W (λ ρ. Unit) (Array'.Array (Referent.rtF
-              (Referent.fInt Syntax.w8)) 103) Path.refl (Copies.cArr (Referent.rtF (Referent.fInt Syntax.w8)) (Copies.cRf (Referent.fInt Syntax.w8))
-              103 .copy 𝓤 H A W) (Rows.arrF (Referent.rtF (Referent.fInt Syntax.w8)) 103 0) (λ x. x) (λ x. x) (λ ρ told. Whole.mem-arr 𝓤 H A W
-              (Referent.rtF (Referent.fInt Syntax.w8)) 103 ρ) λ ρ told. Whole.arr-mem 𝓤 H A W (Referent.rtF (Referent.fInt Syntax.w8)) 103 tt ρ)
-              (Reads.room-gone 𝓤 H A (Syntax.tyArray (Syntax.tyInt Syntax.w8) 103)) (Yields.makes-mem 𝓤 H A W (λ ρ. Unit) (Array'.Array (Referent.rtF
-              (Referent.fInt Syntax.w8)) 103) Path.refl (Rows.arrF (Referent.rtF (Referent.fInt Syntax.w8)) 103 0) (λ x. x) λ ρ told. Whole.arr-mem 𝓤
-              H A W (Referent.rtF (Referent.fInt Syntax.w8)) 103 tt ρ) Path.refl Path.refl) d77
+          d78 = Typed.s-seq 𝓤 H A W 𝓣 E G4 G5 b2 b51 Δ0 (Typed.pass T4 T5 (s3 bs)) (at77 bs) (LocalCopy.t-val-copy 𝓤 H
+              A W E 𝓣 (λ ρ. Unit) G4 14 8 (Array'.Array (Referent.rtF (Referent.fInt Syntax.w8)) 103)
+              (Syntax.tyArray (Syntax.tyInt Syntax.w8) 103) (Syntax.tyArray (Syntax.tyInt Syntax.w8) 103)
+              (Rows.arrF (Referent.rtF (Referent.fInt Syntax.w8)) 103 0)
+              (Rows.arrF (Referent.rtF (Referent.fInt Syntax.w8)) 103 0) (λ x. x) (λ x. x) (λ x. x) Path.refl
+              (Own.told-none 𝓤 H A (G4 .slots)) (Yields.yields-copy 𝓤 H A W (λ ρ. Unit)
+              (Array'.Array (Referent.rtF (Referent.fInt Syntax.w8)) 103) Path.refl (Copies.cArr
+              (Referent.rtF (Referent.fInt Syntax.w8)) (Copies.cRf (Referent.fInt Syntax.w8)) 103 .copy 𝓤 H A W)
+              (Rows.arrF (Referent.rtF (Referent.fInt Syntax.w8)) 103 0) (λ x. x) (λ x. x) (λ ρ told. Whole.mem-arr 𝓤 H
+              A W (Referent.rtF (Referent.fInt Syntax.w8)) 103 ρ) λ ρ told. Whole.arr-mem 𝓤 H A W
+              (Referent.rtF (Referent.fInt Syntax.w8)) 103 tt ρ) (Reads.room-gone 𝓤 H A
+              (Syntax.tyArray (Syntax.tyInt Syntax.w8) 103)) (Yields.makes-mem 𝓤 H A W (λ ρ. Unit)
+              (Array'.Array (Referent.rtF (Referent.fInt Syntax.w8)) 103) Path.refl
+              (Rows.arrF (Referent.rtF (Referent.fInt Syntax.w8)) 103 0) (λ x. x) λ ρ told. Whole.arr-mem 𝓤 H A W
+              (Referent.rtF (Referent.fInt Syntax.w8)) 103 tt ρ) Path.refl Path.refl) d77
+
           d79 : Typed.Typed 𝓤 H A 𝓣 E G3 b53 Δ0 (at79 bs)
-          d79 = Typed.s-seq 𝓤 H A W 𝓣 E G3 G4 b1 b52 Δ0 (Typed.both (s2 bs)) (at78 bs) (Plain.t-call-plain 𝓤 H A W 𝓣 0 ps·1 r·1 (claims· .2) (claims·
-              .3) "cases::script::open_body" (known .1) E (λ pos β. β) G3 tt 14 List.[] (Call.sub-id 𝓤 H A W (G3 .slots)) tt (Reads.room-gone 𝓤 H A
-              (Syntax.tyArray (Syntax.tyInt Syntax.w8) 103)) tt Path.refl) d78
+          d79 = Typed.s-seq 𝓤 H A W 𝓣 E G3 G4 b1 b52 Δ0 (Typed.both (s2 bs)) (at78 bs) (Plain.t-call-plain 𝓤 H A W 𝓣 0
+              ps·1 r·1 (claims· .2) (claims· .3) "cases::script::open_body" (known .1) E (λ pos β. β) G3 tt 14 List.[]
+              (Call.sub-id 𝓤 H A W (G3 .slots)) tt (Reads.room-gone 𝓤 H A (Syntax.tyArray (Syntax.tyInt Syntax.w8) 103))
+              tt Path.refl) d78
+
           d80 : Typed.Typed 𝓤 H A 𝓣 E G2 b54 Δ0 (at80 bs)
-          d80 = Typed.s-seq 𝓤 H A W 𝓣 E G2 G3 b0 b53 Δ0 (Typed.both (s1 bs)) (at79 bs) (Plain.t-call-plain 𝓤 H A W 𝓣 0 ps·0 r·0 (claims· .0) (claims·
-              .1) "cases::script::open_packet" (known .0) E (λ pos β. β) G2 tt 7 List.[] (Call.sub-id 𝓤 H A W (G2 .slots)) tt (Reads.room-gone 𝓤 H A
-              Laws'.mir) tt Path.refl) d79
+          d80 = Typed.s-seq 𝓤 H A W 𝓣 E G2 G3 b0 b53 Δ0 (Typed.both (s1 bs)) (at79 bs) (Plain.t-call-plain 𝓤 H A W 𝓣 0
+              ps·0 r·0 (claims· .0) (claims· .1) "cases::script::open_packet" (known .0) E (λ pos β. β) G2 tt 7 List.[]
+              (Call.sub-id 𝓤 H A W (G2 .slots)) tt (Reads.room-gone 𝓤 H A Laws'.mir) tt Path.refl) d79
+
           d81 : Typed.Typed 𝓤 H A 𝓣 E G0 b54 Δ0 (at81 bs)
-          d81 = Typed.g-pre 𝓤 H A W 𝓣 E G0 G2 b54 Δ0 (Typed.give (s0 bs)) (at80 bs) (Know.g-sl-known 𝓤 H A W (Referent.fInt Syntax.w32) E G0 5 4 ref13
-              life4 0 (λ x. x) record { fits = Dec.lit< tt } (Reads.as-is 𝓤 H A (Mut.mslice (Referent.rtF (Referent.fInt Syntax.w32)) ref13 4))
-              Path.refl tt) d80
-          pub typed : Typed.Typed 𝓤 H A 𝓣 E (Function.Γin 5 ps r xs m κs qs) b54 (Function.Δret 5 ps r xs m κs qs) (Φ bs)
+          d81 = Typed.g-pre 𝓤 H A W 𝓣 E G0 G2 b54 Δ0 (Typed.give (s0 bs)) (at80 bs) (Know.g-sl-known 𝓤 H A W
+              (Referent.fInt Syntax.w32) E G0 5 4 ref13 life4 0 (λ x. x) record { fits = Dec.lit< tt } (Reads.as-is 𝓤 H
+              A (Mut.mslice (Referent.rtF (Referent.fInt Syntax.w32)) ref13 4)) Path.refl tt) d80
+
+          pub typed : Typed.Typed 𝓤 H A 𝓣 E (Function.Γin 5 ps r xs m κs qs) b54 (Function.Δret 5 ps r xs m κs qs)
+              (Φ bs)
           typed = d81
+
       module _ (κs : Lifetimes.Lfts 5) where
         pub record Args : Type 0 where
-          pub pending : Kinds.Den { n = 5 } κs (MutSlice.pMutS RelayPending.row 0 tt)
-          pub circuits : Kinds.Den { n = 5 } κs (MutSlice.pMutS RelayCircuit.row 1 tt)
-          pub ledger : Kinds.Den { n = 5 } κs (MutSlice.pMutS ReservationUsage.row 2 tt)
-          pub inflight : Kinds.Den { n = 5 } κs (MutSlice.pMutS InflightAction.row 3 tt)
-          pub out : Kinds.Den { n = 5 } κs (MutSlice.pMutS (Referent.rtF (Referent.fInt Syntax.w32)) 4 tt)
-          pub kept : Kinds.Den { n = 5 } κs (Value.pVal record { ty = Declared.row Relayed.the-type; one = Path.refl; val = Laws''''.val
-              Relayed.the-type Laws'''.the-laws; tells = Laws''''.tells Relayed.the-type Laws'''.the-laws; still = Laws''''.still Relayed.the-type
-              Laws'''.the-copy Exit.yes; row = Rows'.whole (Declared.row Relayed.the-type); rd = λ x. x; mk = λ x. x; } λ M 𝓤 H A W. record { copies =
-              Laws''''.copy Relayed.the-type Laws'''.the-copy 𝓤 H A W; lawful = Laws''''.lawful Relayed.the-type Laws'''.the-laws 𝓤 H A W; makes =
-              Laws''''.makes Relayed.the-type Laws'''.the-plain 𝓤 H A; in-mem = Local.mem-whole 𝓤 H A W (Declared.row Relayed.the-type); of-mem =
-              Local.whole-mem 𝓤 H A W (Declared.row Relayed.the-type); })
+          pub pending : Kinds.Den {n = 5} κs (MutSlice.pMutS RelayPending.row 0 tt)
+          pub circuits : Kinds.Den {n = 5} κs (MutSlice.pMutS RelayCircuit.row 1 tt)
+          pub ledger : Kinds.Den {n = 5} κs (MutSlice.pMutS ReservationUsage.row 2 tt)
+          pub inflight : Kinds.Den {n = 5} κs (MutSlice.pMutS InflightAction.row 3 tt)
+          pub out : Kinds.Den {n = 5} κs (MutSlice.pMutS (Referent.rtF (Referent.fInt Syntax.w32)) 4 tt)
+          pub kept : Kinds.Den {n = 5} κs (StructRow.param Relayed.the-type Laws'''.the-laws Laws'''.the-copy
+              Laws'''.the-plain)
+
         abbrev pub dens : (a : Args) → Kinds.Dens κs ps
-        dens = λ a. (a .pending, (a .circuits, (a .ledger, (a .inflight, (a .out, (a .kept, tt))))),)
+        dens = λ a. (a .pending, (a .circuits, (a .ledger, (a .inflight, (a .out, (a .kept, tt))))))
+
       abbrev pub m0 : (κs : Lifetimes.Lfts 5) → (args : Args κs) → (blocks : List.List Nat.ℕ) → Typed.Mo T0
       m0 = λ κs args blocks. (tt, Enter.partsP κs 1 ps xs (dens κs args))
+
       abbrev W0 : (κs : Lifetimes.Lfts 5) → (args : Args κs) → (blocks : List.List Nat.ℕ) → Typed.Want O0
-      W0 = λ κs args blocks. (λ u. ⊥, tt, λ u. Enter.Fixs κs 1 ps xs (dens κs args) (u .1) × Post· κs (dens κs args) (Function.resV r κs (u .0))
-          (Clauses.atExit (Kinds.endedOf 5 ps r) κs (dens κs args) (Enter.lastsP κs 1 ps xs (dens κs args) (u .1))),)
+      W0 = λ κs args blocks. (
+        λ u. ⊥,
+        tt,
+        λ u. Enter.Fixs κs 1 ps xs (dens κs args) (u .1) × Post· κs (dens κs args) (Function.resV r κs (u .0)) (Clauses.atExit
+            (Kinds.endedOf 5 ps r) κs (dens κs args) (Enter.lastsP κs 1 ps xs (dens κs args) (u .1))),
+      )
+
       pub record Start : Type 0 where
         pub κs : Lifetimes.Lfts 5
         pub args : Args κs
         pub blocks : List.List Nat.ℕ
         pub good : Kinds.GoodsP κs ps (dens κs args)
         pub pre : Pre· κs (dens κs args)
-      abbrev pub m1 : (before : Start) → (given : s0 (before .blocks) .gives (m0 (before .κs) (before .args) (before .blocks))) → Typed.Mo T2
+
+      abbrev pub m1 : (before : Start) → (given : s0 (before .blocks) .gives
+          (m0 (before .κs) (before .args) (before .blocks))) → Typed.Mo T2
       m1 = λ before given. s0 (before .blocks) .next (m0 (before .κs) (before .args) (before .blocks)) given
+
       module _ (before· : Start) where
         pub record After-slice-known·own : Type 0 where
           pub given : s0 (before· .blocks) .gives (m0 (before· .κs) (before· .args) (before· .blocks))
+
       pub record After-slice-known : Type 0 where
         pub before : Start
         pub slice-known : After-slice-known·own before
+
       abbrev pub Need-open-packet-requires : Type 0
-      Need-open-packet-requires = (c : After-slice-known) → s1 (c .before .blocks) .asks (m1 (c .before) (c .slice-known .given))
-      abbrev pub m2 : (before : After-slice-known) → (given : s1 (before .before .blocks) .gives (m1 (before .before) (before .slice-known .given))) →
-          Typed.Mo T3
+      Need-open-packet-requires = (c : After-slice-known) → s1 (c .before .blocks) .asks
+          (m1 (c .before) (c .slice-known .given))
+
+      abbrev pub m2 : (before : After-slice-known) → (given : s1 (before .before .blocks) .gives
+          (m1 (before .before) (before .slice-known .given))) → Typed.Mo T3
       m2 = λ before given. s1 (before .before .blocks) .next (m1 (before .before) (before .slice-known .given)) given
+
       module _ (before· : After-slice-known) where
         abbrev pub After-open-packet·own : Type 0
-        After-open-packet·own = Called.Called ps·0 r·0 (claims· .1) T2 tt (m1 (before· .before) (before· .slice-known .given))
+        After-open-packet·own = Called.Called ps·0 r·0 (claims· .1) T2 tt
+            (m1 (before· .before) (before· .slice-known .given))
+
       pub record After-open-packet : Type 0 where
         pub before : After-slice-known
         pub open-packet : After-open-packet·own before
-      abbrev pub After-open-packet·gave : (c : After-open-packet) → s1 (c .before .before .blocks) .gives (m1 (c .before .before) (c .before
-          .slice-known .given))
-      After-open-packet·gave = λ c. Called.given ps·0 r·0 (claims· .1) T2 tt (m1 (c .before .before) (c .before .slice-known .given)) (c .open-packet)
+
+      abbrev pub After-open-packet·gave : (c : After-open-packet) → s1 (c .before .before .blocks) .gives
+          (m1 (c .before .before) (c .before .slice-known .given))
+      After-open-packet·gave = λ c. Called.given ps·0 r·0 (claims· .1) T2 tt
+          (m1 (c .before .before) (c .before .slice-known .given)) (c .open-packet)
+
       abbrev pub Need-open-body-requires : Type 0
-      Need-open-body-requires = (c : After-open-packet) → s2 (c .before .before .blocks) .asks (m2 (c .before) (After-open-packet·gave c))
-      abbrev pub m3 : (before : After-open-packet) → (given : s2 (before .before .before .blocks) .gives (m2 (before .before) (After-open-packet·gave
-          before))) → Typed.Mo T4
-      m3 = λ before given. s2 (before .before .before .blocks) .next (m2 (before .before) (After-open-packet·gave before)) given
+      Need-open-body-requires = (c : After-open-packet) → s2 (c .before .before .blocks) .asks
+          (m2 (c .before) (After-open-packet·gave c))
+
+      abbrev pub m3 : (before : After-open-packet) → (given : s2 (before .before .before .blocks) .gives
+          (m2 (before .before) (After-open-packet·gave before))) → Typed.Mo T4
+      m3 = λ before given. s2 (before .before .before .blocks) .next
+          (m2 (before .before) (After-open-packet·gave before)) given
+
       module _ (before· : After-open-packet) where
         abbrev pub After-open-body·own : Type 0
-        After-open-body·own = Called.Called ps·1 r·1 (claims· .3) T3 tt (m2 (before· .before) (After-open-packet·gave before·))
+        After-open-body·own = Called.Called ps·1 r·1 (claims· .3) T3 tt
+            (m2 (before· .before) (After-open-packet·gave before·))
+
       pub record After-open-body : Type 0 where
         pub before : After-open-packet
         pub open-body : After-open-body·own before
-      abbrev pub After-open-body·gave : (c : After-open-body) → s2 (c .before .before .before .blocks) .gives (m2 (c .before .before)
-          (After-open-packet·gave (c .before)))
-      After-open-body·gave = λ c. Called.given ps·1 r·1 (claims· .3) T3 tt (m2 (c .before .before) (After-open-packet·gave (c .before))) (c
-          .open-body)
-      abbrev pub m4 : (before : After-open-packet) → (given : s2 (before .before .before .blocks) .gives (m2 (before .before) (After-open-packet·gave
-          before))) → Typed.Mo T5
+
+      abbrev pub After-open-body·gave : (c : After-open-body) → s2 (c .before .before .before .blocks) .gives (m2
+          (c .before .before) (After-open-packet·gave (c .before)))
+      After-open-body·gave = λ c. Called.given ps·1 r·1 (claims· .3) T3 tt (m2 (c .before .before)
+          (After-open-packet·gave (c .before))) (c .open-body)
+
+      abbrev pub m4 : (before : After-open-packet) → (given : s2 (before .before .before .blocks) .gives
+          (m2 (before .before) (After-open-packet·gave before))) → Typed.Mo T5
       m4 = λ before given. s3 (before .before .before .blocks) (m3 before given)
-      abbrev pub m5 : (before : After-open-packet) → (given : s2 (before .before .before .blocks) .gives (m2 (before .before) (After-open-packet·gave
-          before))) → Typed.Mo T6
+
+      abbrev pub m5 : (before : After-open-packet) → (given : s2 (before .before .before .blocks) .gives
+          (m2 (before .before) (After-open-packet·gave before))) → Typed.Mo T6
       m5 = λ before given. s4 (before .before .before .blocks) (m4 before given)
-      abbrev pub m6 : (before : After-open-packet) → (given : s2 (before .before .before .blocks) .gives (m2 (before .before) (After-open-packet·gave
-          before))) → Typed.Mo T7
+
+      abbrev pub m6 : (before : After-open-packet) → (given : s2 (before .before .before .blocks) .gives
+          (m2 (before .before) (After-open-packet·gave before))) → Typed.Mo T7
       m6 = λ before given. s5 (before .before .before .blocks) (m5 before given)
-      abbrev pub m7 : (before : After-open-packet) → (given : s2 (before .before .before .blocks) .gives (m2 (before .before) (After-open-packet·gave
-          before))) → Typed.Mo T8
+
+      abbrev pub m7 : (before : After-open-packet) → (given : s2 (before .before .before .blocks) .gives
+          (m2 (before .before) (After-open-packet·gave before))) → Typed.Mo T8
       m7 = λ before given. s6 (before .before .before .blocks) (m6 before given)
-      abbrev pub m8 : (before : After-open-packet) → (given : s2 (before .before .before .blocks) .gives (m2 (before .before) (After-open-packet·gave
-          before))) → Typed.Mo T9
+
+      abbrev pub m8 : (before : After-open-packet) → (given : s2 (before .before .before .blocks) .gives
+          (m2 (before .before) (After-open-packet·gave before))) → Typed.Mo T9
       m8 = λ before given. s7 (before .before .before .blocks) (m7 before given)
-      abbrev pub m9 : (before : After-open-packet) → (given : s2 (before .before .before .blocks) .gives (m2 (before .before) (After-open-packet·gave
-          before))) → Typed.Mo T10
+
+      abbrev pub m9 : (before : After-open-packet) → (given : s2 (before .before .before .blocks) .gives
+          (m2 (before .before) (After-open-packet·gave before))) → Typed.Mo T10
       m9 = λ before given. s8 (before .before .before .blocks) (m8 before given)
-      abbrev pub m10 : (before : After-open-packet) → (given : s2 (before .before .before .blocks) .gives (m2 (before .before) (After-open-packet·gave
-          before))) → Typed.Mo T11
+
+      abbrev pub m10 : (before : After-open-packet) → (given : s2 (before .before .before .blocks) .gives
+          (m2 (before .before) (After-open-packet·gave before))) → Typed.Mo T11
       m10 = λ before given. s9 (before .before .before .blocks) (m9 before given)
-      abbrev pub m11 : (before : After-open-packet) → (given : s2 (before .before .before .blocks) .gives (m2 (before .before) (After-open-packet·gave
-          before))) → Typed.Mo T12
+
+      abbrev pub m11 : (before : After-open-packet) → (given : s2 (before .before .before .blocks) .gives
+          (m2 (before .before) (After-open-packet·gave before))) → Typed.Mo T12
       m11 = λ before given. s10 (before .before .before .blocks) (m10 before given)
-      abbrev pub m12 : (before : After-open-body) → (given : s11 (before .before .before .before .blocks) .gives (m11 (before .before)
-          (After-open-body·gave before))) → Typed.Mo T13
-      m12 = λ before given. s11 (before .before .before .before .blocks) .next (m11 (before .before) (After-open-body·gave before)) given
+
+      abbrev pub m12 : (before : After-open-body) → (given : s11 (before .before .before .before .blocks) .gives
+          (m11 (before .before) (After-open-body·gave before))) → Typed.Mo T13
+      m12 = λ before given. s11 (before .before .before .before .blocks) .next
+          (m11 (before .before) (After-open-body·gave before)) given
+
       module _ (before· : After-open-body) where
         pub record After-runtime·own : Type 0 where
-          pub given : s11 (before· .before .before .before .blocks) .gives (m11 (before· .before) (After-open-body·gave before·))
+          pub given : s11 (before· .before .before .before .blocks) .gives
+              (m11 (before· .before) (After-open-body·gave before·))
+
       pub record After-runtime : Type 0 where
         pub before : After-open-body
         pub runtime : After-runtime·own before
-      abbrev pub m13 : (before : After-runtime) → (given : s12 (before .before .before .before .before .blocks) .gives (m12 (before .before) (before
-          .runtime .given))) → Typed.Mo T14
-      m13 = λ before given. s12 (before .before .before .before .before .blocks) .next (m12 (before .before) (before .runtime .given)) given
-      abbrev pub m14 : (before : After-runtime) → (given : s12 (before .before .before .before .before .blocks) .gives (m12 (before .before) (before
-          .runtime .given))) → Typed.Mo T15
+
+      abbrev pub m13 : (before : After-runtime) → (given : s12 (before .before .before .before .before .blocks) .gives
+          (m12 (before .before) (before .runtime .given))) → Typed.Mo T14
+      m13 = λ before given. s12 (before .before .before .before .before .blocks) .next
+          (m12 (before .before) (before .runtime .given)) given
+
+      abbrev pub m14 : (before : After-runtime) → (given : s12 (before .before .before .before .before .blocks) .gives
+          (m12 (before .before) (before .runtime .given))) → Typed.Mo T15
       m14 = λ before given. s13 (before .before .before .before .before .blocks) (m13 before given)
+
       module _ (before· : After-runtime) where
         pub record After-places·own : Type 0 where
-          pub given : s12 (before· .before .before .before .before .blocks) .gives (m12 (before· .before) (before· .runtime .given))
+          pub given : s12 (before· .before .before .before .before .blocks) .gives
+              (m12 (before· .before) (before· .runtime .given))
+
       pub record After-places : Type 0 where
         pub before : After-runtime
         pub places : After-places·own before
-      abbrev pub m15 : (before : After-places) → (given : s15 (before .before .before .before .before .before .blocks) .gives (m14 (before .before)
-          (before .places .given))) → Typed.Mo T17
-      m15 = λ before given. s15 (before .before .before .before .before .before .blocks) .next (m14 (before .before) (before .places .given)) given
-      abbrev pub m16 : (before : After-places) → (given : s15 (before .before .before .before .before .before .blocks) .gives (m14 (before .before)
-          (before .places .given))) → Typed.Mo T18
+
+      abbrev pub m15 : (before : After-places) → (given : s15 (before .before .before .before .before .before .blocks)
+          .gives (m14 (before .before) (before .places .given))) → Typed.Mo T17
+      m15 = λ before given. s15 (before .before .before .before .before .before .blocks) .next
+          (m14 (before .before) (before .places .given)) given
+
+      abbrev pub m16 : (before : After-places) → (given : s15 (before .before .before .before .before .before .blocks)
+          .gives (m14 (before .before) (before .places .given))) → Typed.Mo T18
       m16 = λ before given. s16 (before .before .before .before .before .before .blocks) .next (m15 before given)
+
       module _ (before· : After-places) where
         pub record After-handle-arg·own : Type 0 where
-          pub given : s15 (before· .before .before .before .before .before .blocks) .gives (m14 (before· .before) (before· .places .given))
+          pub given : s15 (before· .before .before .before .before .before .blocks) .gives
+              (m14 (before· .before) (before· .places .given))
+
       pub record After-handle-arg : Type 0 where
         pub before : After-places
         pub handle-arg : After-handle-arg·own before
-      abbrev pub m17 : (before : After-handle-arg) → (given : s18 (before .before .before .before .before .before .before .blocks) .gives (m16 (before
-          .before) (before .handle-arg .given))) → Typed.Mo T20
-      m17 = λ before given. s18 (before .before .before .before .before .before .before .blocks) .next (m16 (before .before) (before .handle-arg
-          .given)) given
-      abbrev pub m18 : (before : After-handle-arg) → (given : s18 (before .before .before .before .before .before .before .blocks) .gives (m16 (before
-          .before) (before .handle-arg .given))) → Typed.Mo T21
-      m18 = λ before given. s19 (before .before .before .before .before .before .before .blocks) .next (m17 before given)
+
+      abbrev pub m17 : (before : After-handle-arg) → (given : s18 (before .before .before .before .before .before
+          .before .blocks) .gives (m16 (before .before) (before .handle-arg .given))) → Typed.Mo T20
+      m17 = λ before given. s18 (before .before .before .before .before .before .before .blocks) .next
+          (m16 (before .before) (before .handle-arg .given)) given
+
+      abbrev pub m18 : (before : After-handle-arg) → (given : s18 (before .before .before .before .before .before
+          .before .blocks) .gives (m16 (before .before) (before .handle-arg .given))) → Typed.Mo T21
+      m18 = λ before given. s19 (before .before .before .before .before .before .before .blocks) .next
+          (m17 before given)
+
       module _ (before· : After-handle-arg) where
         pub record After-handle-arg2·own : Type 0 where
-          pub given : s18 (before· .before .before .before .before .before .before .blocks) .gives (m16 (before· .before) (before· .handle-arg
-              .given))
+          pub given : s18 (before· .before .before .before .before .before .before .blocks) .gives
+              (m16 (before· .before) (before· .handle-arg .given))
+
       pub record After-handle-arg2 : Type 0 where
         pub before : After-handle-arg
         pub handle-arg2 : After-handle-arg2·own before
-      abbrev pub m19 : (before : After-handle-arg2) → (given : s21 (before .before .before .before .before .before .before .before .blocks) .gives
-          (m18 (before .before) (before .handle-arg2 .given))) → Typed.Mo T23
-      m19 = λ before given. s21 (before .before .before .before .before .before .before .before .blocks) .next (m18 (before .before) (before
-          .handle-arg2 .given)) given
-      abbrev pub m20 : (before : After-handle-arg2) → (given : s21 (before .before .before .before .before .before .before .before .blocks) .gives
-          (m18 (before .before) (before .handle-arg2 .given))) → Typed.Mo T24
-      m20 = λ before given. s22 (before .before .before .before .before .before .before .before .blocks) .next (m19 before given)
+
+      abbrev pub m19 : (before : After-handle-arg2) → (given : s21 (before .before .before .before .before .before
+          .before .before .blocks) .gives (m18 (before .before) (before .handle-arg2 .given))) → Typed.Mo T23
+      m19 = λ before given. s21 (before .before .before .before .before .before .before .before .blocks) .next
+          (m18 (before .before) (before .handle-arg2 .given)) given
+
+      abbrev pub m20 : (before : After-handle-arg2) → (given : s21 (before .before .before .before .before .before
+          .before .before .blocks) .gives (m18 (before .before) (before .handle-arg2 .given))) → Typed.Mo T24
+      m20 = λ before given. s22 (before .before .before .before .before .before .before .before .blocks) .next
+          (m19 before given)
+
       module _ (before· : After-handle-arg2) where
         pub record After-handle-arg3·own : Type 0 where
-          pub given : s21 (before· .before .before .before .before .before .before .before .blocks) .gives (m18 (before· .before) (before·
-              .handle-arg2 .given))
+          pub given : s21 (before· .before .before .before .before .before .before .before .blocks) .gives
+              (m18 (before· .before) (before· .handle-arg2 .given))
+
       pub record After-handle-arg3 : Type 0 where
         pub before : After-handle-arg2
         pub handle-arg3 : After-handle-arg3·own before
-      abbrev pub m21 : (before : After-handle-arg3) → (given : s24 (before .before .before .before .before .before .before .before .before .blocks)
-          .gives (m20 (before .before) (before .handle-arg3 .given))) → Typed.Mo T26
-      m21 = λ before given. s24 (before .before .before .before .before .before .before .before .before .blocks) .next (m20 (before .before) (before
-          .handle-arg3 .given)) given
-      abbrev pub m22 : (before : After-handle-arg3) → (given : s24 (before .before .before .before .before .before .before .before .before .blocks)
-          .gives (m20 (before .before) (before .handle-arg3 .given))) → Typed.Mo T27
-      m22 = λ before given. s25 (before .before .before .before .before .before .before .before .before .blocks) .next (m21 before given)
+
+      abbrev pub m21 : (before : After-handle-arg3) → (given : s24 (before .before .before .before .before .before
+          .before .before .before .blocks) .gives (m20 (before .before) (before .handle-arg3 .given))) → Typed.Mo T26
+      m21 = λ before given. s24 (before .before .before .before .before .before .before .before .before .blocks) .next
+          (m20 (before .before) (before .handle-arg3 .given)) given
+
+      abbrev pub m22 : (before : After-handle-arg3) → (given : s24 (before .before .before .before .before .before
+          .before .before .before .blocks) .gives (m20 (before .before) (before .handle-arg3 .given))) → Typed.Mo T27
+      m22 = λ before given. s25 (before .before .before .before .before .before .before .before .before .blocks) .next
+          (m21 before given)
+
       module _ (before· : After-handle-arg3) where
         pub record After-handle-arg4·own : Type 0 where
-          pub given : s24 (before· .before .before .before .before .before .before .before .before .blocks) .gives (m20 (before· .before) (before·
-              .handle-arg3 .given))
+          pub given : s24 (before· .before .before .before .before .before .before .before .before .blocks) .gives
+              (m20 (before· .before) (before· .handle-arg3 .given))
+
       pub record After-handle-arg4 : Type 0 where
         pub before : After-handle-arg3
         pub handle-arg4 : After-handle-arg4·own before
-      abbrev pub m23 : (before : After-handle-arg4) → (given : s27 (before .before .before .before .before .before .before .before .before .before
-          .blocks) .gives (m22 (before .before) (before .handle-arg4 .given))) → Typed.Mo T29
-      m23 = λ before given. s27 (before .before .before .before .before .before .before .before .before .before .blocks) .next (m22 (before .before)
-          (before .handle-arg4 .given)) given
-      abbrev pub m24 : (before : After-handle-arg4) → (given : s27 (before .before .before .before .before .before .before .before .before .before
-          .blocks) .gives (m22 (before .before) (before .handle-arg4 .given))) → Typed.Mo T30
-      m24 = λ before given. s28 (before .before .before .before .before .before .before .before .before .before .blocks) .next (m23 before given)
+
+      abbrev pub m23 : (before : After-handle-arg4) → (given : s27 (before .before .before .before .before .before
+          .before .before .before .before .blocks) .gives (m22 (before .before) (before .handle-arg4 .given))) →
+          Typed.Mo T29
+      m23 = λ before given. s27 (before .before .before .before .before .before .before .before .before .before .blocks)
+          .next (m22 (before .before) (before .handle-arg4 .given)) given
+
+      abbrev pub m24 : (before : After-handle-arg4) → (given : s27 (before .before .before .before .before .before
+          .before .before .before .before .blocks) .gives (m22 (before .before) (before .handle-arg4 .given))) →
+          Typed.Mo T30
+      m24 = λ before given. s28 (before .before .before .before .before .before .before .before .before .before .blocks)
+          .next (m23 before given)
+
       module _ (before· : After-handle-arg4) where
         pub record After-handle-arg5·own : Type 0 where
-          pub given : s27 (before· .before .before .before .before .before .before .before .before .before .blocks) .gives (m22 (before· .before)
-              (before· .handle-arg4 .given))
+          pub given : s27 (before· .before .before .before .before .before .before .before .before .before .blocks)
+              .gives (m22 (before· .before) (before· .handle-arg4 .given))
+
       pub record After-handle-arg5 : Type 0 where
         pub before : After-handle-arg4
         pub handle-arg5 : After-handle-arg5·own before
-      abbrev pub m25 : (before : After-handle-arg5) → (given : s30 (before .before .before .before .before .before .before .before .before .before
-          .before .blocks) .gives (m24 (before .before) (before .handle-arg5 .given))) → Typed.Mo T32
-      m25 = λ before given. s30 (before .before .before .before .before .before .before .before .before .before .before .blocks) .next (m24 (before
-          .before) (before .handle-arg5 .given)) given
+
+      abbrev pub m25 : (before : After-handle-arg5) → (given : s30 (before .before .before .before .before .before
+          .before .before .before .before .before .blocks) .gives (m24 (before .before) (before .handle-arg5 .given)))
+          → Typed.Mo T32
+      m25 = λ before given. s30 (before .before .before .before .before .before .before .before .before .before .before
+          .blocks) .next (m24 (before .before) (before .handle-arg5 .given)) given
+
       module _ (before· : After-handle-arg5) where
         pub record After-source·own : Type 0 where
-          pub given : s30 (before· .before .before .before .before .before .before .before .before .before .before .blocks) .gives (m24 (before·
-              .before) (before· .handle-arg5 .given))
+          pub given : s30 (before· .before .before .before .before .before .before .before .before .before .before
+              .blocks) .gives (m24 (before· .before) (before· .handle-arg5 .given))
+
       pub record After-source : Type 0 where
         pub before : After-handle-arg5
         pub source : After-source·own before
+
       abbrev pub Need-slice-aggregate-handle : Type 0
-      Need-slice-aggregate-handle = (c : After-source) → Relend.CountIs T32 25 26 (λ x. x) (λ u. 1) (m25 (c .before) (c .source .given))
-      abbrev pub m26 : (before : After-handle-arg5) → (given : s30 (before .before .before .before .before .before .before .before .before .before
-          .before .blocks) .gives (m24 (before .before) (before .handle-arg5 .given))) → Typed.Mo T33
-      m26 = λ before given. s31 (before .before .before .before .before .before .before .before .before .before .before .blocks) .next (m25 before
-          given)
-      abbrev pub m27 : (before : After-source) → (given : s33 (before .before .before .before .before .before .before .before .before .before .before
-          .before .blocks) .gives (m26 (before .before) (before .source .given))) → Typed.Mo T35
-      m27 = λ before given. s33 (before .before .before .before .before .before .before .before .before .before .before .before .blocks) .next (m26
-          (before .before) (before .source .given)) given
+      Need-slice-aggregate-handle = (c : After-source) → Relend.CountIs T32 25 26 (λ x. x) (λ u. 1)
+          (m25 (c .before) (c .source .given))
+
+      abbrev pub m26 : (before : After-handle-arg5) → (given : s30 (before .before .before .before .before .before
+          .before .before .before .before .before .blocks) .gives (m24 (before .before) (before .handle-arg5 .given)))
+          → Typed.Mo T33
+      m26 = λ before given. s31 (before .before .before .before .before .before .before .before .before .before .before
+          .blocks) .next (m25 before given)
+
+      abbrev pub m27 : (before : After-source) → (given : s33 (before .before .before .before .before .before .before
+          .before .before .before .before .before .blocks) .gives (m26 (before .before) (before .source .given))) →
+          Typed.Mo T35
+      m27 = λ before given. s33 (before .before .before .before .before .before .before .before .before .before .before
+          .before .blocks) .next (m26 (before .before) (before .source .given)) given
+
       module _ (before· : After-source) where
         pub record After-body·own : Type 0 where
-          pub given : s33 (before· .before .before .before .before .before .before .before .before .before .before .before .blocks) .gives (m26
-              (before· .before) (before· .source .given))
+          pub given : s33 (before· .before .before .before .before .before .before .before .before .before .before
+              .before .blocks) .gives (m26 (before· .before) (before· .source .given))
+
       pub record After-body : Type 0 where
         pub before : After-source
         pub body : After-body·own before
+
       abbrev pub Need-slice-aggregate-handle-2 : Type 0
-      Need-slice-aggregate-handle-2 = (c : After-body) → Relend.CountIs T35 27 28 (λ x. x) (λ u. 103) (m27 (c .before) (c .body .given))
-      abbrev pub m28 : (before : After-source) → (given : s33 (before .before .before .before .before .before .before .before .before .before .before
-          .before .blocks) .gives (m26 (before .before) (before .source .given))) → Typed.Mo T36
-      m28 = λ before given. s34 (before .before .before .before .before .before .before .before .before .before .before .before .blocks) .next (m27
-          before given)
-      abbrev pub m29 : (before : After-body) → (given : s36 (before .before .before .before .before .before .before .before .before .before .before
-          .before .before .blocks) .gives (m28 (before .before) (before .body .given))) → Typed.Mo T38
-      m29 = λ before given. s36 (before .before .before .before .before .before .before .before .before .before .before .before .before .blocks) .next
-          (m28 (before .before) (before .body .given)) given
+      Need-slice-aggregate-handle-2 = (c : After-body) → Relend.CountIs T35 27 28 (λ x. x) (λ u. 103)
+          (m27 (c .before) (c .body .given))
+
+      abbrev pub m28 : (before : After-source) → (given : s33 (before .before .before .before .before .before .before
+          .before .before .before .before .before .blocks) .gives (m26 (before .before) (before .source .given))) →
+          Typed.Mo T36
+      m28 = λ before given. s34 (before .before .before .before .before .before .before .before .before .before .before
+          .before .blocks) .next (m27 before given)
+
+      abbrev pub m29 : (before : After-body) → (given : s36 (before .before .before .before .before .before .before
+          .before .before .before .before .before .before .blocks) .gives (m28 (before .before) (before .body .given)))
+          → Typed.Mo T38
+      m29 = λ before given. s36 (before .before .before .before .before .before .before .before .before .before .before
+          .before .before .blocks) .next (m28 (before .before) (before .body .given)) given
+
       module _ (before· : After-body) where
         pub record After-endpoint·own : Type 0 where
-          pub given : s36 (before· .before .before .before .before .before .before .before .before .before .before .before .before .blocks) .gives
-              (m28 (before· .before) (before· .body .given))
+          pub given : s36 (before· .before .before .before .before .before .before .before .before .before .before
+              .before .before .blocks) .gives (m28 (before· .before) (before· .body .given))
+
       pub record After-endpoint : Type 0 where
         pub before : After-body
         pub endpoint : After-endpoint·own before
+
       abbrev pub Need-slice-aggregate-handle-3 : Type 0
-      Need-slice-aggregate-handle-3 = (c : After-endpoint) → Relend.CountIs T38 29 30 (λ x. x) (λ u. 1) (m29 (c .before) (c .endpoint .given))
-      abbrev pub m30 : (before : After-body) → (given : s36 (before .before .before .before .before .before .before .before .before .before .before
-          .before .before .blocks) .gives (m28 (before .before) (before .body .given))) → Typed.Mo T39
-      m30 = λ before given. s37 (before .before .before .before .before .before .before .before .before .before .before .before .before .blocks) .next
-          (m29 before given)
-      abbrev pub m31 : (before : After-endpoint) → (given : s39 (before .before .before .before .before .before .before .before .before .before
-          .before .before .before .before .blocks) .gives (m30 (before .before) (before .endpoint .given))) → Typed.Mo T41
-      m31 = λ before given. s39 (before .before .before .before .before .before .before .before .before .before .before .before .before .before
-          .blocks) .next (m30 (before .before) (before .endpoint .given)) given
+      Need-slice-aggregate-handle-3 = (c : After-endpoint) → Relend.CountIs T38 29 30 (λ x. x) (λ u. 1)
+          (m29 (c .before) (c .endpoint .given))
+
+      abbrev pub m30 : (before : After-body) → (given : s36 (before .before .before .before .before .before .before
+          .before .before .before .before .before .before .blocks) .gives (m28 (before .before) (before .body .given)))
+          → Typed.Mo T39
+      m30 = λ before given. s37 (before .before .before .before .before .before .before .before .before .before .before
+          .before .before .blocks) .next (m29 before given)
+
+      abbrev pub m31 : (before : After-endpoint) → (given : s39 (before .before .before .before .before .before .before
+          .before .before .before .before .before .before .before .blocks) .gives
+          (m30 (before .before) (before .endpoint .given))) → Typed.Mo T41
+      m31 = λ before given. s39 (before .before .before .before .before .before .before .before .before .before .before
+          .before .before .before .blocks) .next (m30 (before .before) (before .endpoint .given)) given
+
       module _ (before· : After-endpoint) where
         pub record After-random·own : Type 0 where
-          pub given : s39 (before· .before .before .before .before .before .before .before .before .before .before .before .before .before .blocks)
-              .gives (m30 (before· .before) (before· .endpoint .given))
+          pub given : s39 (before· .before .before .before .before .before .before .before .before .before .before
+              .before .before .before .blocks) .gives (m30 (before· .before) (before· .endpoint .given))
+
       pub record After-random : Type 0 where
         pub before : After-endpoint
         pub random : After-random·own before
+
       abbrev pub Need-slice-aggregate-handle-4 : Type 0
-      Need-slice-aggregate-handle-4 = (c : After-random) → Relend.CountIs T41 31 32 (λ x. x) (λ u. 8) (m31 (c .before) (c .random .given))
-      abbrev pub m32 : (before : After-endpoint) → (given : s39 (before .before .before .before .before .before .before .before .before .before
-          .before .before .before .before .blocks) .gives (m30 (before .before) (before .endpoint .given))) → Typed.Mo T42
-      m32 = λ before given. s40 (before .before .before .before .before .before .before .before .before .before .before .before .before .before
-          .blocks) .next (m31 before given)
+      Need-slice-aggregate-handle-4 = (c : After-random) → Relend.CountIs T41 31 32 (λ x. x) (λ u. 8)
+          (m31 (c .before) (c .random .given))
+
+      abbrev pub m32 : (before : After-endpoint) → (given : s39 (before .before .before .before .before .before .before
+          .before .before .before .before .before .before .before .blocks) .gives
+          (m30 (before .before) (before .endpoint .given))) → Typed.Mo T42
+      m32 = λ before given. s40 (before .before .before .before .before .before .before .before .before .before .before
+          .before .before .before .blocks) .next (m31 before given)
+
       abbrev pub Need-handle-requires : Type 0
-      Need-handle-requires = (c : After-random) → s41 (c .before .before .before .before .before .before .before .before .before .before .before
-          .before .before .before .blocks) .asks (m32 (c .before) (c .random .given))
-      abbrev pub m33 : (before : After-random) → (given : s41 (before .before .before .before .before .before .before .before .before .before .before
-          .before .before .before .before .blocks) .gives (m32 (before .before) (before .random .given))) → Typed.Mo T43
-      m33 = λ before given. s41 (before .before .before .before .before .before .before .before .before .before .before .before .before .before
-          .before .blocks) .next (m32 (before .before) (before .random .given)) given
+      Need-handle-requires = (c : After-random) → s41 (c .before .before .before .before .before .before .before
+          .before .before .before .before .before .before .before .blocks) .asks (m32 (c .before) (c .random .given))
+
+      abbrev pub m33 : (before : After-random) → (given : s41 (before .before .before .before .before .before .before
+          .before .before .before .before .before .before .before .before .blocks) .gives
+          (m32 (before .before) (before .random .given))) → Typed.Mo T43
+      m33 = λ before given. s41 (before .before .before .before .before .before .before .before .before .before .before
+          .before .before .before .before .blocks) .next (m32 (before .before) (before .random .given)) given
+
       module _ (before· : After-random) where
         abbrev pub After-handle·own : Type 0
-        After-handle·own = Called.Called ps·2 r·2 (claims· .5) T42 (record { pos = 16; ty = Syntax.tyRef Syntax.erased Syntax.mut RelayPending.to; ref
-            = λ x. x; }, (record { pos = 18; ty = Syntax.tyRef Syntax.erased Syntax.mut RelayCircuit.to; ref = λ x. x; }, (record { pos = 20; ty =
-            Syntax.tyRef Syntax.erased Syntax.mut ReservationUsage.to; ref = λ x. x; }, (record { pos = 22; ty = Syntax.tyRef Syntax.erased Syntax.mut
-            InflightAction.to; ref = λ x. x; }, (record { pos = 24; ty = Syntax.tyRef Syntax.erased Syntax.mut (Syntax.tyInt Syntax.w32); ref = λ x.
-            x; }, (record { pos = 12; st = List.[]; d = 0; at = λ x. x }, (record { pos = 13; st = List.[]; d = 0; at = λ x. x }, (record { pos = 7;
-            st = List.[]; d = 0; at = λ x. x }, (record { pos = 26; ty = Syntax.tyRef Syntax.erased Syntax.imm (Syntax.tyInt Syntax.w8); ref = λ x. x;
-            }, (record { pos = 28; ty = Syntax.tyRef Syntax.erased Syntax.imm (Syntax.tyInt Syntax.w8); ref = λ x. x; }, (record { pos = 30; ty =
-            Syntax.tyRef Syntax.erased Syntax.imm (Syntax.tyInt Syntax.w8); ref = λ x. x; }, (record { pos = 32; ty = Syntax.tyRef Syntax.erased
-            Syntax.imm (Syntax.tyInt Syntax.w8); ref = λ x. x; }, tt,),),),),),),),),),),),) (m32 (before· .before) (before· .random .given))
+        After-handle·own = Called.Called ps·2 r·2 (claims· .5) T42 (
+          record { pos = 16; ty = ref0; ref = λ x. x },
+          (
+            record { pos = 18; ty = ref1; ref = λ x. x },
+            (
+              record { pos = 20; ty = ref2; ref = λ x. x },
+              (
+                record { pos = 22; ty = ref3; ref = λ x. x },
+                (
+                  record { pos = 24; ty = ref4; ref = λ x. x },
+                  (
+                    record { pos = 12; st = List.[]; d = 0; at = λ x. x },
+                    (
+                      record { pos = 13; st = List.[]; d = 0; at = λ x. x },
+                      (
+                        record { pos = 7; st = List.[]; d = 0; at = λ x. x },
+                        (
+                          record { pos = 26; ty = ref6; ref = λ x. x },
+                          (
+                            record { pos = 28; ty = ref6; ref = λ x. x },
+                            (
+                              record { pos = 30; ty = ref6; ref = λ x. x },
+                              (record { pos = 32; ty = ref6; ref = λ x. x }, tt),
+                            ),
+                          ),
+                        ),
+                      ),
+                    ),
+                  ),
+                ),
+              ),
+            ),
+          ),
+        ) (m32 (before· .before) (before· .random .given))
+
       pub record After-handle : Type 0 where
         pub before : After-random
         pub handle : After-handle·own before
-      abbrev pub After-handle·gave : (c : After-handle) → s41 (c .before .before .before .before .before .before .before .before .before .before
-          .before .before .before .before .before .blocks) .gives (m32 (c .before .before) (c .before .random .given))
-      After-handle·gave = λ c. Called.given ps·2 r·2 (claims· .5) T42 (record { pos = 16; ty = Syntax.tyRef Syntax.erased Syntax.mut RelayPending.to;
-          ref = λ x. x; }, (record { pos = 18; ty = Syntax.tyRef Syntax.erased Syntax.mut RelayCircuit.to; ref = λ x. x; }, (record { pos = 20; ty =
-          Syntax.tyRef Syntax.erased Syntax.mut ReservationUsage.to; ref = λ x. x; }, (record { pos = 22; ty = Syntax.tyRef Syntax.erased Syntax.mut
-          InflightAction.to; ref = λ x. x; }, (record { pos = 24; ty = Syntax.tyRef Syntax.erased Syntax.mut (Syntax.tyInt Syntax.w32); ref = λ x. x;
-          }, (record { pos = 12; st = List.[]; d = 0; at = λ x. x }, (record { pos = 13; st = List.[]; d = 0; at = λ x. x }, (record { pos = 7; st =
-          List.[]; d = 0; at = λ x. x }, (record { pos = 26; ty = Syntax.tyRef Syntax.erased Syntax.imm (Syntax.tyInt Syntax.w8); ref = λ x. x; },
-          (record { pos = 28; ty = Syntax.tyRef Syntax.erased Syntax.imm (Syntax.tyInt Syntax.w8); ref = λ x. x; }, (record { pos = 30; ty =
-          Syntax.tyRef Syntax.erased Syntax.imm (Syntax.tyInt Syntax.w8); ref = λ x. x; }, (record { pos = 32; ty = Syntax.tyRef Syntax.erased
-          Syntax.imm (Syntax.tyInt Syntax.w8); ref = λ x. x; }, tt,),),),),),),),),),),),) (m32 (c .before .before) (c .before .random .given)) (c
-          .handle)
-      abbrev pub m34 : (before : After-random) → (given : s41 (before .before .before .before .before .before .before .before .before .before .before
-          .before .before .before .before .blocks) .gives (m32 (before .before) (before .random .given))) → Typed.Mo T44
-      m34 = λ before given. s42 (before .before .before .before .before .before .before .before .before .before .before .before .before .before
-          .before .blocks) (m33 before given)
-      abbrev pub m35 : (before : After-random) → (given : s41 (before .before .before .before .before .before .before .before .before .before .before
-          .before .before .before .before .blocks) .gives (m32 (before .before) (before .random .given))) → Typed.Mo T45
-      m35 = λ before given. s43 (before .before .before .before .before .before .before .before .before .before .before .before .before .before
-          .before .blocks) (m34 before given)
-      abbrev pub m36 : (before : After-random) → (given : s41 (before .before .before .before .before .before .before .before .before .before .before
-          .before .before .before .before .blocks) .gives (m32 (before .before) (before .random .given))) → Typed.Mo T46
-      m36 = λ before given. s44 (before .before .before .before .before .before .before .before .before .before .before .before .before .before
-          .before .blocks) (m35 before given)
-      abbrev pub m37 : (before : After-random) → (given : s41 (before .before .before .before .before .before .before .before .before .before .before
-          .before .before .before .before .blocks) .gives (m32 (before .before) (before .random .given))) → Typed.Mo T47
-      m37 = λ before given. s45 (before .before .before .before .before .before .before .before .before .before .before .before .before .before
-          .before .blocks) (m36 before given)
-      abbrev pub m38 : (before : After-random) → (given : s41 (before .before .before .before .before .before .before .before .before .before .before
-          .before .before .before .before .blocks) .gives (m32 (before .before) (before .random .given))) → Typed.Mo T48
-      m38 = λ before given. s46 (before .before .before .before .before .before .before .before .before .before .before .before .before .before
-          .before .blocks) (m37 before given)
-      abbrev pub m39 : (before : After-random) → (given : s41 (before .before .before .before .before .before .before .before .before .before .before
-          .before .before .before .before .blocks) .gives (m32 (before .before) (before .random .given))) → Typed.Mo T49
-      m39 = λ before given. s47 (before .before .before .before .before .before .before .before .before .before .before .before .before .before
-          .before .blocks) (m38 before given)
-      abbrev pub m40 : (before : After-random) → (given : s41 (before .before .before .before .before .before .before .before .before .before .before
-          .before .before .before .before .blocks) .gives (m32 (before .before) (before .random .given))) → Typed.Mo T50
-      m40 = λ before given. s48 (before .before .before .before .before .before .before .before .before .before .before .before .before .before
-          .before .blocks) (m39 before given)
-      abbrev pub m41 : (before : After-handle) → (given : s50 (before .before .before .before .before .before .before .before .before .before .before
-          .before .before .before .before .before .blocks) .gives (m40 (before .before) (After-handle·gave before))) → Typed.Mo T52
-      m41 = λ before given. s50 (before .before .before .before .before .before .before .before .before .before .before .before .before .before
-          .before .before .blocks) .next (m40 (before .before) (After-handle·gave before)) given
+
+      abbrev pub After-handle·gave : (c : After-handle) → s41 (c .before .before .before .before .before .before
+          .before .before .before .before .before .before .before .before .before .blocks) .gives
+          (m32 (c .before .before) (c .before .random .given))
+      After-handle·gave = λ c. Called.given ps·2 r·2 (claims· .5) T42 (
+        record { pos = 16; ty = ref0; ref = λ x. x },
+        (
+          record { pos = 18; ty = ref1; ref = λ x. x },
+          (
+            record { pos = 20; ty = ref2; ref = λ x. x },
+            (
+              record { pos = 22; ty = ref3; ref = λ x. x },
+              (
+                record { pos = 24; ty = ref4; ref = λ x. x },
+                (
+                  record { pos = 12; st = List.[]; d = 0; at = λ x. x },
+                  (
+                    record { pos = 13; st = List.[]; d = 0; at = λ x. x },
+                    (
+                      record { pos = 7; st = List.[]; d = 0; at = λ x. x },
+                      (
+                        record { pos = 26; ty = ref6; ref = λ x. x },
+                        (
+                          record { pos = 28; ty = ref6; ref = λ x. x },
+                          (
+                            record { pos = 30; ty = ref6; ref = λ x. x },
+                            (record { pos = 32; ty = ref6; ref = λ x. x }, tt),
+                          ),
+                        ),
+                      ),
+                    ),
+                  ),
+                ),
+              ),
+            ),
+          ),
+        ),
+      ) (m32 (c .before .before) (c .before .random .given)) (c .handle)
+
+      abbrev pub m34 : (before : After-random) → (given : s41 (before .before .before .before .before .before .before
+          .before .before .before .before .before .before .before .before .blocks) .gives
+          (m32 (before .before) (before .random .given))) → Typed.Mo T44
+      m34 = λ before given. s42 (before .before .before .before .before .before .before .before .before .before .before
+          .before .before .before .before .blocks) (m33 before given)
+
+      abbrev pub m35 : (before : After-random) → (given : s41 (before .before .before .before .before .before .before
+          .before .before .before .before .before .before .before .before .blocks) .gives
+          (m32 (before .before) (before .random .given))) → Typed.Mo T45
+      m35 = λ before given. s43 (before .before .before .before .before .before .before .before .before .before .before
+          .before .before .before .before .blocks) (m34 before given)
+
+      abbrev pub m36 : (before : After-random) → (given : s41 (before .before .before .before .before .before .before
+          .before .before .before .before .before .before .before .before .blocks) .gives
+          (m32 (before .before) (before .random .given))) → Typed.Mo T46
+      m36 = λ before given. s44 (before .before .before .before .before .before .before .before .before .before .before
+          .before .before .before .before .blocks) (m35 before given)
+
+      abbrev pub m37 : (before : After-random) → (given : s41 (before .before .before .before .before .before .before
+          .before .before .before .before .before .before .before .before .blocks) .gives
+          (m32 (before .before) (before .random .given))) → Typed.Mo T47
+      m37 = λ before given. s45 (before .before .before .before .before .before .before .before .before .before .before
+          .before .before .before .before .blocks) (m36 before given)
+
+      abbrev pub m38 : (before : After-random) → (given : s41 (before .before .before .before .before .before .before
+          .before .before .before .before .before .before .before .before .blocks) .gives
+          (m32 (before .before) (before .random .given))) → Typed.Mo T48
+      m38 = λ before given. s46 (before .before .before .before .before .before .before .before .before .before .before
+          .before .before .before .before .blocks) (m37 before given)
+
+      abbrev pub m39 : (before : After-random) → (given : s41 (before .before .before .before .before .before .before
+          .before .before .before .before .before .before .before .before .blocks) .gives
+          (m32 (before .before) (before .random .given))) → Typed.Mo T49
+      m39 = λ before given. s47 (before .before .before .before .before .before .before .before .before .before .before
+          .before .before .before .before .blocks) (m38 before given)
+
+      abbrev pub m40 : (before : After-random) → (given : s41 (before .before .before .before .before .before .before
+          .before .before .before .before .before .before .before .before .blocks) .gives
+          (m32 (before .before) (before .random .given))) → Typed.Mo T50
+      m40 = λ before given. s48 (before .before .before .before .before .before .before .before .before .before .before
+          .before .before .before .before .blocks) (m39 before given)
+
+      abbrev pub m41 : (before : After-handle) → (given : s50 (before .before .before .before .before .before .before
+          .before .before .before .before .before .before .before .before .before .blocks) .gives
+          (m40 (before .before) (After-handle·gave before))) → Typed.Mo T52
+      m41 = λ before given. s50 (before .before .before .before .before .before .before .before .before .before .before
+          .before .before .before .before .before .blocks) .next (m40 (before .before) (After-handle·gave before))
+          given
+
       module _ (before· : After-handle) where
         pub record After-pending·own : Type 0 where
-          pub given : s50 (before· .before .before .before .before .before .before .before .before .before .before .before .before .before .before
-              .before .blocks) .gives (m40 (before· .before) (After-handle·gave before·))
+          pub given : s50 (before· .before .before .before .before .before .before .before .before .before .before
+              .before .before .before .before .before .blocks) .gives
+              (m40 (before· .before) (After-handle·gave before·))
+
       pub record After-pending : Type 0 where
         pub before : After-handle
         pub pending : After-pending·own before
-      abbrev pub m42 : (before : After-pending) → (given : s53 (before .before .before .before .before .before .before .before .before .before .before
-          .before .before .before .before .before .before .blocks) .gives (m41 (before .before) (before .pending .given))) → Typed.Mo T55
-      m42 = λ before given. s53 (before .before .before .before .before .before .before .before .before .before .before .before .before .before
-          .before .before .before .blocks) .next (m41 (before .before) (before .pending .given)) given
+
+      abbrev pub m42 : (before : After-pending) → (given : s53 (before .before .before .before .before .before .before
+          .before .before .before .before .before .before .before .before .before .before .blocks) .gives
+          (m41 (before .before) (before .pending .given))) → Typed.Mo T55
+      m42 = λ before given. s53 (before .before .before .before .before .before .before .before .before .before .before
+          .before .before .before .before .before .before .blocks) .next
+          (m41 (before .before) (before .pending .given)) given
+
       module _ (before· : After-pending) where
         pub record After-circuits·own : Type 0 where
-          pub given : s53 (before· .before .before .before .before .before .before .before .before .before .before .before .before .before .before
-              .before .before .blocks) .gives (m41 (before· .before) (before· .pending .given))
+          pub given : s53 (before· .before .before .before .before .before .before .before .before .before .before
+              .before .before .before .before .before .before .blocks) .gives
+              (m41 (before· .before) (before· .pending .given))
+
       pub record After-circuits : Type 0 where
         pub before : After-pending
         pub circuits : After-circuits·own before
-      abbrev pub m43 : (before : After-circuits) → (given : s56 (before .before .before .before .before .before .before .before .before .before
-          .before .before .before .before .before .before .before .before .blocks) .gives (m42 (before .before) (before .circuits .given))) → Typed.Mo
-          T58
-      m43 = λ before given. s56 (before .before .before .before .before .before .before .before .before .before .before .before .before .before
-          .before .before .before .before .blocks) .next (m42 (before .before) (before .circuits .given)) given
+
+      abbrev pub m43 : (before : After-circuits) → (given : s56 (before .before .before .before .before .before .before
+          .before .before .before .before .before .before .before .before .before .before .before .blocks) .gives
+          (m42 (before .before) (before .circuits .given))) → Typed.Mo T58
+      m43 = λ before given. s56 (before .before .before .before .before .before .before .before .before .before .before
+          .before .before .before .before .before .before .before .blocks) .next
+          (m42 (before .before) (before .circuits .given)) given
+
       module _ (before· : After-circuits) where
         pub record After-ledger·own : Type 0 where
-          pub given : s56 (before· .before .before .before .before .before .before .before .before .before .before .before .before .before .before
-              .before .before .before .blocks) .gives (m42 (before· .before) (before· .circuits .given))
+          pub given : s56 (before· .before .before .before .before .before .before .before .before .before .before
+              .before .before .before .before .before .before .before .blocks) .gives
+              (m42 (before· .before) (before· .circuits .given))
+
       pub record After-ledger : Type 0 where
         pub before : After-circuits
         pub ledger : After-ledger·own before
-      abbrev pub m44 : (before : After-ledger) → (given : s59 (before .before .before .before .before .before .before .before .before .before .before
-          .before .before .before .before .before .before .before .before .blocks) .gives (m43 (before .before) (before .ledger .given))) → Typed.Mo
-          T61
-      m44 = λ before given. s59 (before .before .before .before .before .before .before .before .before .before .before .before .before .before
-          .before .before .before .before .before .blocks) .next (m43 (before .before) (before .ledger .given)) given
+
+      abbrev pub m44 : (before : After-ledger) → (given : s59 (before .before .before .before .before .before .before
+          .before .before .before .before .before .before .before .before .before .before .before .before .blocks)
+          .gives (m43 (before .before) (before .ledger .given))) → Typed.Mo T61
+      m44 = λ before given. s59 (before .before .before .before .before .before .before .before .before .before .before
+          .before .before .before .before .before .before .before .before .blocks) .next
+          (m43 (before .before) (before .ledger .given)) given
+
       module _ (before· : After-ledger) where
         pub record After-inflight·own : Type 0 where
-          pub given : s59 (before· .before .before .before .before .before .before .before .before .before .before .before .before .before .before
-              .before .before .before .before .blocks) .gives (m43 (before· .before) (before· .ledger .given))
+          pub given : s59 (before· .before .before .before .before .before .before .before .before .before .before
+              .before .before .before .before .before .before .before .before .blocks) .gives
+              (m43 (before· .before) (before· .ledger .given))
+
       pub record After-inflight : Type 0 where
         pub before : After-ledger
         pub inflight : After-inflight·own before
-      abbrev pub m45 : (before : After-inflight) → (given : s62 (before .before .before .before .before .before .before .before .before .before
-          .before .before .before .before .before .before .before .before .before .before .blocks) .gives (m44 (before .before) (before .inflight
-          .given))) → Typed.Mo T64
-      m45 = λ before given. s62 (before .before .before .before .before .before .before .before .before .before .before .before .before .before
-          .before .before .before .before .before .before .blocks) .next (m44 (before .before) (before .inflight .given)) given
+
+      abbrev pub m45 : (before : After-inflight) → (given : s62 (before .before .before .before .before .before .before
+          .before .before .before .before .before .before .before .before .before .before .before .before .before
+          .blocks) .gives (m44 (before .before) (before .inflight .given))) → Typed.Mo T64
+      m45 = λ before given. s62 (before .before .before .before .before .before .before .before .before .before .before
+          .before .before .before .before .before .before .before .before .before .blocks) .next
+          (m44 (before .before) (before .inflight .given)) given
+
       module _ (before· : After-inflight) where
         pub record After-out·own : Type 0 where
-          pub given : s62 (before· .before .before .before .before .before .before .before .before .before .before .before .before .before .before
-              .before .before .before .before .before .blocks) .gives (m44 (before· .before) (before· .inflight .given))
+          pub given : s62 (before· .before .before .before .before .before .before .before .before .before .before
+              .before .before .before .before .before .before .before .before .before .blocks) .gives
+              (m44 (before· .before) (before· .inflight .given))
+
       pub record After-out : Type 0 where
         pub before : After-inflight
         pub out : After-out·own before
-      abbrev pub m46 : (before : After-out) → (given : s63 (before .before .before .before .before .before .before .before .before .before .before
-          .before .before .before .before .before .before .before .before .before .before .blocks) .gives (m45 (before .before) (before .out .given)))
-          → Typed.Mo T65
-      m46 = λ before given. s63 (before .before .before .before .before .before .before .before .before .before .before .before .before .before
-          .before .before .before .before .before .before .before .blocks) .next (m45 (before .before) (before .out .given)) given
-      abbrev pub m47 : (before : After-out) → (given : s63 (before .before .before .before .before .before .before .before .before .before .before
-          .before .before .before .before .before .before .before .before .before .before .blocks) .gives (m45 (before .before) (before .out .given)))
-          → Typed.Mo T68
-      m47 = λ before given. s66 (before .before .before .before .before .before .before .before .before .before .before .before .before .before
-          .before .before .before .before .before .before .before .blocks) (m46 before given)
-      abbrev pub m48 : (before : After-out) → (given : s63 (before .before .before .before .before .before .before .before .before .before .before
-          .before .before .before .before .before .before .before .before .before .before .blocks) .gives (m45 (before .before) (before .out .given)))
-          → Typed.Mo T70
-      m48 = λ before given. s68 (before .before .before .before .before .before .before .before .before .before .before .before .before .before
-          .before .before .before .before .before .before .before .blocks) (m47 before given)
-      abbrev pub m49 : (before : After-out) → (given : s63 (before .before .before .before .before .before .before .before .before .before .before
-          .before .before .before .before .before .before .before .before .before .before .blocks) .gives (m45 (before .before) (before .out .given)))
-          → Typed.Mo T72
-      m49 = λ before given. s70 (before .before .before .before .before .before .before .before .before .before .before .before .before .before
-          .before .before .before .before .before .before .before .blocks) (m48 before given)
-      abbrev pub m50 : (before : After-out) → (given : s63 (before .before .before .before .before .before .before .before .before .before .before
-          .before .before .before .before .before .before .before .before .before .before .blocks) .gives (m45 (before .before) (before .out .given)))
-          → Typed.Mo T74
-      m50 = λ before given. s72 (before .before .before .before .before .before .before .before .before .before .before .before .before .before
-          .before .before .before .before .before .before .before .blocks) (m49 before given)
+
+      abbrev pub m46 : (before : After-out) → (given : s63 (before .before .before .before .before .before .before
+          .before .before .before .before .before .before .before .before .before .before .before .before .before
+          .before .blocks) .gives (m45 (before .before) (before .out .given))) → Typed.Mo T65
+      m46 = λ before given. s63 (before .before .before .before .before .before .before .before .before .before .before
+          .before .before .before .before .before .before .before .before .before .before .blocks) .next
+          (m45 (before .before) (before .out .given)) given
+
+      abbrev pub m47 : (before : After-out) → (given : s63 (before .before .before .before .before .before .before
+          .before .before .before .before .before .before .before .before .before .before .before .before .before
+          .before .blocks) .gives (m45 (before .before) (before .out .given))) → Typed.Mo T68
+      m47 = λ before given. s66 (before .before .before .before .before .before .before .before .before .before .before
+          .before .before .before .before .before .before .before .before .before .before .blocks) (m46 before given)
+
+      abbrev pub m48 : (before : After-out) → (given : s63 (before .before .before .before .before .before .before
+          .before .before .before .before .before .before .before .before .before .before .before .before .before
+          .before .blocks) .gives (m45 (before .before) (before .out .given))) → Typed.Mo T70
+      m48 = λ before given. s68 (before .before .before .before .before .before .before .before .before .before .before
+          .before .before .before .before .before .before .before .before .before .before .blocks) (m47 before given)
+
+      abbrev pub m49 : (before : After-out) → (given : s63 (before .before .before .before .before .before .before
+          .before .before .before .before .before .before .before .before .before .before .before .before .before
+          .before .blocks) .gives (m45 (before .before) (before .out .given))) → Typed.Mo T72
+      m49 = λ before given. s70 (before .before .before .before .before .before .before .before .before .before .before
+          .before .before .before .before .before .before .before .before .before .before .blocks) (m48 before given)
+
+      abbrev pub m50 : (before : After-out) → (given : s63 (before .before .before .before .before .before .before
+          .before .before .before .before .before .before .before .before .before .before .before .before .before
+          .before .blocks) .gives (m45 (before .before) (before .out .given))) → Typed.Mo T74
+      m50 = λ before given. s72 (before .before .before .before .before .before .before .before .before .before .before
+          .before .before .before .before .before .before .before .before .before .before .blocks) (m49 before given)
+
       module _ (before· : After-out) where
         pub record After-slice-known2·own : Type 0 where
-          pub given : s63 (before· .before .before .before .before .before .before .before .before .before .before .before .before .before .before
-              .before .before .before .before .before .before .blocks) .gives (m45 (before· .before) (before· .out .given))
+          pub given : s63 (before· .before .before .before .before .before .before .before .before .before .before
+              .before .before .before .before .before .before .before .before .before .before .blocks) .gives
+              (m45 (before· .before) (before· .out .given))
+
       pub record After-slice-known2 : Type 0 where
         pub before : After-out
         pub slice-known2 : After-slice-known2·own before
-      abbrev pub m51 : (before : After-out) → (given : s63 (before .before .before .before .before .before .before .before .before .before .before
-          .before .before .before .before .before .before .before .before .before .before .blocks) .gives (m45 (before .before) (before .out .given)))
-          → Typed.Mo T76
-      m51 = λ before given. s74 (before .before .before .before .before .before .before .before .before .before .before .before .before .before
-          .before .before .before .before .before .before .before .blocks) (m50 before given)
-      abbrev pub m52 : (before : After-out) → (given : s63 (before .before .before .before .before .before .before .before .before .before .before
-          .before .before .before .before .before .before .before .before .before .before .blocks) .gives (m45 (before .before) (before .out .given)))
-          → Typed.Mo T78
-      m52 = λ before given. s76 (before .before .before .before .before .before .before .before .before .before .before .before .before .before
-          .before .before .before .before .before .before .before .blocks) (m51 before given)
-      abbrev pub m53 : (before : After-out) → (given : s63 (before .before .before .before .before .before .before .before .before .before .before
-          .before .before .before .before .before .before .before .before .before .before .blocks) .gives (m45 (before .before) (before .out .given)))
-          → Typed.Mo T80
-      m53 = λ before given. s78 (before .before .before .before .before .before .before .before .before .before .before .before .before .before
-          .before .before .before .before .before .before .before .blocks) (m52 before given)
-      abbrev pub m54 : (before : After-out) → (given : s63 (before .before .before .before .before .before .before .before .before .before .before
-          .before .before .before .before .before .before .before .before .before .before .blocks) .gives (m45 (before .before) (before .out .given)))
-          → Typed.Mo T82
-      m54 = λ before given. s80 (before .before .before .before .before .before .before .before .before .before .before .before .before .before
-          .before .before .before .before .before .before .before .blocks) (m53 before given)
+
+      abbrev pub m51 : (before : After-out) → (given : s63 (before .before .before .before .before .before .before
+          .before .before .before .before .before .before .before .before .before .before .before .before .before
+          .before .blocks) .gives (m45 (before .before) (before .out .given))) → Typed.Mo T76
+      m51 = λ before given. s74 (before .before .before .before .before .before .before .before .before .before .before
+          .before .before .before .before .before .before .before .before .before .before .blocks) (m50 before given)
+
+      abbrev pub m52 : (before : After-out) → (given : s63 (before .before .before .before .before .before .before
+          .before .before .before .before .before .before .before .before .before .before .before .before .before
+          .before .blocks) .gives (m45 (before .before) (before .out .given))) → Typed.Mo T78
+      m52 = λ before given. s76 (before .before .before .before .before .before .before .before .before .before .before
+          .before .before .before .before .before .before .before .before .before .before .blocks) (m51 before given)
+
+      abbrev pub m53 : (before : After-out) → (given : s63 (before .before .before .before .before .before .before
+          .before .before .before .before .before .before .before .before .before .before .before .before .before
+          .before .blocks) .gives (m45 (before .before) (before .out .given))) → Typed.Mo T80
+      m53 = λ before given. s78 (before .before .before .before .before .before .before .before .before .before .before
+          .before .before .before .before .before .before .before .before .before .before .blocks) (m52 before given)
+
+      abbrev pub m54 : (before : After-out) → (given : s63 (before .before .before .before .before .before .before
+          .before .before .before .before .before .before .before .before .before .before .before .before .before
+          .before .blocks) .gives (m45 (before .before) (before .out .given))) → Typed.Mo T82
+      m54 = λ before given. s80 (before .before .before .before .before .before .before .before .before .before .before
+          .before .before .before .before .before .before .before .before .before .before .blocks) (m53 before given)
+
       abbrev pub Need-same-length : Type 0
-      Need-same-length = (c : After-slice-known2) → MutSlice.SameLen (Row.get 1 (T82 .locals) (m54 (c .before) (c .slice-known2 .given))) (dens (c
-          .before .before .before .before .before .before .before .before .before .before .before .before .before .before .before .before .before
-          .before .before .before .before .κs) (c .before .before .before .before .before .before .before .before .before .before .before .before
-          .before .before .before .before .before .before .before .before .before .args) .0)
+      Need-same-length = (c : After-slice-known2) → MutSlice.SameLen (Row.get 1 (T82 .locals)
+          (m54 (c .before) (c .slice-known2 .given))) (dens (c .before .before .before .before .before .before .before
+          .before .before .before .before .before .before .before .before .before .before .before .before .before
+          .before .κs) (c .before .before .before .before .before .before .before .before .before .before .before
+          .before .before .before .before .before .before .before .before .before .before .args) .0)
+
       abbrev pub Need-same-length-2 : Type 0
-      Need-same-length-2 = (c : After-slice-known2) → MutSlice.SameLen (Row.get 2 (T82 .locals) (m54 (c .before) (c .slice-known2 .given))) (dens (c
-          .before .before .before .before .before .before .before .before .before .before .before .before .before .before .before .before .before
-          .before .before .before .before .κs) (c .before .before .before .before .before .before .before .before .before .before .before .before
-          .before .before .before .before .before .before .before .before .before .args) .1 .0)
+      Need-same-length-2 = (c : After-slice-known2) → MutSlice.SameLen (Row.get 2 (T82 .locals)
+          (m54 (c .before) (c .slice-known2 .given))) (dens (c .before .before .before .before .before .before .before
+          .before .before .before .before .before .before .before .before .before .before .before .before .before
+          .before .κs) (c .before .before .before .before .before .before .before .before .before .before .before
+          .before .before .before .before .before .before .before .before .before .before .args) .1 .0)
+
       abbrev pub Need-same-length-3 : Type 0
-      Need-same-length-3 = (c : After-slice-known2) → MutSlice.SameLen (Row.get 3 (T82 .locals) (m54 (c .before) (c .slice-known2 .given))) (dens (c
-          .before .before .before .before .before .before .before .before .before .before .before .before .before .before .before .before .before
-          .before .before .before .before .κs) (c .before .before .before .before .before .before .before .before .before .before .before .before
-          .before .before .before .before .before .before .before .before .before .args) .1 .1 .0)
+      Need-same-length-3 = (c : After-slice-known2) → MutSlice.SameLen (Row.get 3 (T82 .locals)
+          (m54 (c .before) (c .slice-known2 .given))) (dens (c .before .before .before .before .before .before .before
+          .before .before .before .before .before .before .before .before .before .before .before .before .before
+          .before .κs) (c .before .before .before .before .before .before .before .before .before .before .before
+          .before .before .before .before .before .before .before .before .before .before .args) .1 .1 .0)
+
       abbrev pub Need-same-length-4 : Type 0
-      Need-same-length-4 = (c : After-slice-known2) → MutSlice.SameLen (Row.get 4 (T82 .locals) (m54 (c .before) (c .slice-known2 .given))) (dens (c
-          .before .before .before .before .before .before .before .before .before .before .before .before .before .before .before .before .before
-          .before .before .before .before .κs) (c .before .before .before .before .before .before .before .before .before .before .before .before
-          .before .before .before .before .before .before .before .before .before .args) .1 .1 .1 .0)
+      Need-same-length-4 = (c : After-slice-known2) → MutSlice.SameLen (Row.get 4 (T82 .locals)
+          (m54 (c .before) (c .slice-known2 .given))) (dens (c .before .before .before .before .before .before .before
+          .before .before .before .before .before .before .before .before .before .before .before .before .before
+          .before .κs) (c .before .before .before .before .before .before .before .before .before .before .before
+          .before .before .before .before .before .before .before .before .before .before .args) .1 .1 .1 .0)
+
       abbrev pub Need-same-length-5 : Type 0
-      Need-same-length-5 = (c : After-slice-known2) → MutSlice.SameLen (Row.get 5 (T82 .locals) (m54 (c .before) (c .slice-known2 .given))) (dens (c
-          .before .before .before .before .before .before .before .before .before .before .before .before .before .before .before .before .before
-          .before .before .before .before .κs) (c .before .before .before .before .before .before .before .before .before .before .before .before
-          .before .before .before .before .before .before .before .before .before .args) .1 .1 .1 .1 .0)
+      Need-same-length-5 = (c : After-slice-known2) → MutSlice.SameLen (Row.get 5 (T82 .locals)
+          (m54 (c .before) (c .slice-known2 .given))) (dens (c .before .before .before .before .before .before .before
+          .before .before .before .before .before .before .before .before .before .before .before .before .before
+          .before .κs) (c .before .before .before .before .before .before .before .before .before .before .before
+          .before .before .before .before .before .before .before .before .before .before .args) .1 .1 .1 .1 .0)
+
       abbrev pub Need-returns : Type 0
-      Need-returns = (c : After-slice-known2) → Post· (c .before .before .before .before .before .before .before .before .before .before .before
-          .before .before .before .before .before .before .before .before .before .before .κs) (dens (c .before .before .before .before .before
-          .before .before .before .before .before .before .before .before .before .before .before .before .before .before .before .before .κs) (c
-          .before .before .before .before .before .before .before .before .before .before .before .before .before .before .before .before .before
-          .before .before .before .before .args)) (Function.resV r (c .before .before .before .before .before .before .before .before .before .before
-          .before .before .before .before .before .before .before .before .before .before .before .κs) (m54 (c .before) (c .slice-known2 .given) .0))
-          (Clauses.atExit (Kinds.endedOf 5 ps r) (c .before .before .before .before .before .before .before .before .before .before .before .before
-          .before .before .before .before .before .before .before .before .before .κs) (dens (c .before .before .before .before .before .before
-          .before .before .before .before .before .before .before .before .before .before .before .before .before .before .before .κs) (c .before
-          .before .before .before .before .before .before .before .before .before .before .before .before .before .before .before .before .before
-          .before .before .before .args)) (Enter.lastsP (c .before .before .before .before .before .before .before .before .before .before .before
-          .before .before .before .before .before .before .before .before .before .before .κs) 1 ps xs (dens (c .before .before .before .before
-          .before .before .before .before .before .before .before .before .before .before .before .before .before .before .before .before .before .κs)
-          (c .before .before .before .before .before .before .before .before .before .before .before .before .before .before .before .before .before
-          .before .before .before .before .args)) (m54 (c .before) (c .slice-known2 .given) .1)))
-      module _ (open-packet-requires : Need-open-packet-requires) (open-body-requires : Need-open-body-requires) (slice-aggregate-handle :
-          Need-slice-aggregate-handle) (slice-aggregate-handle-2 : Need-slice-aggregate-handle-2) (slice-aggregate-handle-3 :
-          Need-slice-aggregate-handle-3) (slice-aggregate-handle-4 : Need-slice-aggregate-handle-4) (handle-requires : Need-handle-requires)
-          (same-length : Need-same-length) (same-length-2 : Need-same-length-2) (same-length-3 : Need-same-length-3) (same-length-4 :
-          Need-same-length-4) (same-length-5 : Need-same-length-5) (returns : Need-returns) where
-        lay5 : (c : After-slice-known2) → at7 (c .before .before .before .before .before .before .before .before .before .before .before .before
-            .before .before .before .before .before .before .before .before .before .blocks) (W0 (c .before .before .before .before .before .before
-            .before .before .before .before .before .before .before .before .before .before .before .before .before .before .before .κs) (c .before
-            .before .before .before .before .before .before .before .before .before .before .before .before .before .before .before .before .before
-            .before .before .before .args) (c .before .before .before .before .before .before .before .before .before .before .before .before .before
-            .before .before .before .before .before .before .before .before .blocks)) (m50 (c .before) (c .slice-known2 .given))
-        lay5 = λ c. ((MutSlice.fix-len (Row.get 1 (T82 .locals) (m54 (c .before) (c .slice-known2 .given)) .ptr) (Row.get 1 (T82 .locals) (m54 (c
-            .before) (c .slice-known2 .given)) .name) (Row.get 1 (T82 .locals) (m54 (c .before) (c .slice-known2 .given)) .now) (dens (c .before
-            .before .before .before .before .before .before .before .before .before .before .before .before .before .before .before .before .before
-            .before .before .before .κs) (c .before .before .before .before .before .before .before .before .before .before .before .before .before
-            .before .before .before .before .before .before .before .before .args) .0 .now) (same-length record { before = c .before; slice-known2 = c
-            .slice-known2 }), (MutSlice.fix-len (Row.get 2 (T82 .locals) (m54 (c .before) (c .slice-known2 .given)) .ptr) (Row.get 2 (T82 .locals)
-            (m54 (c .before) (c .slice-known2 .given)) .name) (Row.get 2 (T82 .locals) (m54 (c .before) (c .slice-known2 .given)) .now) (dens (c
-            .before .before .before .before .before .before .before .before .before .before .before .before .before .before .before .before .before
-            .before .before .before .before .κs) (c .before .before .before .before .before .before .before .before .before .before .before .before
-            .before .before .before .before .before .before .before .before .before .args) .1 .0 .now) (same-length-2 record { before = c .before;
-            slice-known2 = c .slice-known2 }), (MutSlice.fix-len (Row.get 3 (T82 .locals) (m54 (c .before) (c .slice-known2 .given)) .ptr) (Row.get 3
-            (T82 .locals) (m54 (c .before) (c .slice-known2 .given)) .name) (Row.get 3 (T82 .locals) (m54 (c .before) (c .slice-known2 .given)) .now)
-            (dens (c .before .before .before .before .before .before .before .before .before .before .before .before .before .before .before .before
-            .before .before .before .before .before .κs) (c .before .before .before .before .before .before .before .before .before .before .before
-            .before .before .before .before .before .before .before .before .before .before .args) .1 .1 .0 .now) (same-length-3 record { before = c
-            .before; slice-known2 = c .slice-known2 }), (MutSlice.fix-len (Row.get 4 (T82 .locals) (m54 (c .before) (c .slice-known2 .given)) .ptr)
-            (Row.get 4 (T82 .locals) (m54 (c .before) (c .slice-known2 .given)) .name) (Row.get 4 (T82 .locals) (m54 (c .before) (c .slice-known2
-            .given)) .now) (dens (c .before .before .before .before .before .before .before .before .before .before .before .before .before .before
-            .before .before .before .before .before .before .before .κs) (c .before .before .before .before .before .before .before .before .before
-            .before .before .before .before .before .before .before .before .before .before .before .before .args) .1 .1 .1 .0 .now) (same-length-4
-            record { before = c .before; slice-known2 = c .slice-known2 }), (MutSlice.fix-len (Row.get 5 (T82 .locals) (m54 (c .before) (c
-            .slice-known2 .given)) .ptr) (Row.get 5 (T82 .locals) (m54 (c .before) (c .slice-known2 .given)) .name) (Row.get 5 (T82 .locals) (m54 (c
-            .before) (c .slice-known2 .given)) .now) (dens (c .before .before .before .before .before .before .before .before .before .before .before
-            .before .before .before .before .before .before .before .before .before .before .κs) (c .before .before .before .before .before .before
-            .before .before .before .before .before .before .before .before .before .before .before .before .before .before .before .args) .1 .1 .1 .1
-            .0 .now) (same-length-5 record { before = c .before; slice-known2 = c .slice-known2 }), (tt, tt),),),),),), returns record { before = c
-            .before; slice-known2 = c .slice-known2 },)
-        lay4 : (c : After-handle) → at39 (c .before .before .before .before .before .before .before .before .before .before .before .before .before
-            .before .before .blocks) (W0 (c .before .before .before .before .before .before .before .before .before .before .before .before .before
-            .before .before .κs) (c .before .before .before .before .before .before .before .before .before .before .before .before .before .before
-            .before .args) (c .before .before .before .before .before .before .before .before .before .before .before .before .before .before .before
-            .blocks)) (m33 (c .before) (After-handle·gave c))
-        lay4 = λ c. (Path.refl, λ g. (Path.refl, λ g'. (Path.refl, λ g''. (Path.refl, λ g'3. (Path.refl, λ g'4. λ g'5. lay5 record { before = record {
-            before = record { before = record { before = record { before = record { before = record { before = c .before; handle = c .handle };
-            pending = record { given = g }; }; circuits = record { given = g' }; }; ledger = record { given = g'' }; }; inflight = record { given =
-            g'3 }; }; out = record { given = g'4 }; }; slice-known2 = record { given = g'5 }; },),),),),)
-        lay3 : (c : After-body) → at46 (c .before .before .before .before .before .before .before .before .before .before .before .before .blocks) (W0
-            (c .before .before .before .before .before .before .before .before .before .before .before .before .κs) (c .before .before .before .before
-            .before .before .before .before .before .before .before .before .args) (c .before .before .before .before .before .before .before .before
+      Need-returns = (c : After-slice-known2) → Post· (c .before .before .before .before .before .before .before
+          .before .before .before .before .before .before .before .before .before .before .before .before .before
+          .before .κs) (dens (c .before .before .before .before .before .before .before .before .before .before .before
+          .before .before .before .before .before .before .before .before .before .before .κs) (c .before .before
+          .before .before .before .before .before .before .before .before .before .before .before .before .before
+          .before .before .before .before .before .before .args)) (Function.resV r (c .before .before .before .before
+          .before .before .before .before .before .before .before .before .before .before .before .before .before
+          .before .before .before .before .κs) (m54 (c .before) (c .slice-known2 .given) .0)) (Clauses.atExit
+          (Kinds.endedOf 5 ps r) (c .before .before .before .before .before .before .before .before .before .before
+          .before .before .before .before .before .before .before .before .before .before .before .κs) (dens (c .before
+          .before .before .before .before .before .before .before .before .before .before .before .before .before
+          .before .before .before .before .before .before .before .κs) (c .before .before .before .before .before
+          .before .before .before .before .before .before .before .before .before .before .before .before .before
+          .before .before .before .args)) (Enter.lastsP (c .before .before .before .before .before .before .before
+          .before .before .before .before .before .before .before .before .before .before .before .before .before
+          .before .κs) 1 ps xs (dens (c .before .before .before .before .before .before .before .before .before .before
+          .before .before .before .before .before .before .before .before .before .before .before .κs) (c .before
+          .before .before .before .before .before .before .before .before .before .before .before .before .before
+          .before .before .before .before .before .before .before .args))
+          (m54 (c .before) (c .slice-known2 .given) .1)))
+
+      module _ (open-packet-requires : Need-open-packet-requires) (open-body-requires : Need-open-body-requires)
+          (slice-aggregate-handle : Need-slice-aggregate-handle)
+          (slice-aggregate-handle-2 : Need-slice-aggregate-handle-2)
+          (slice-aggregate-handle-3 : Need-slice-aggregate-handle-3)
+          (slice-aggregate-handle-4 : Need-slice-aggregate-handle-4) (handle-requires : Need-handle-requires)
+          (same-length : Need-same-length) (same-length-2 : Need-same-length-2) (same-length-3 : Need-same-length-3)
+          (same-length-4 : Need-same-length-4) (same-length-5 : Need-same-length-5) (returns : Need-returns) where
+        lay5 : (c : After-slice-known2) → at7 (c .before .before .before .before .before .before .before .before
+            .before .before .before .before .before .before .before .before .before .before .before .before .before
+            .blocks) (W0 (c .before .before .before .before .before .before .before .before .before .before .before
+            .before .before .before .before .before .before .before .before .before .before .κs) (c .before .before
+            .before .before .before .before .before .before .before .before .before .before .before .before .before
+            .before .before .before .before .before .before .args) (c .before .before .before .before .before .before
+            .before .before .before .before .before .before .before .before .before .before .before .before .before
+            .before .before .blocks)) (m50 (c .before) (c .slice-known2 .given))
+        lay5 = λ c. (
+          (
+            MutSlice.fix-len (Row.get 1 (T82 .locals) (m54 (c .before) (c .slice-known2 .given)) .ptr) (Row.get 1
+                (T82 .locals) (m54 (c .before) (c .slice-known2 .given)) .name) (Row.get 1 (T82 .locals)
+                (m54 (c .before) (c .slice-known2 .given)) .now) (dens (c .before .before .before .before .before
+                .before .before .before .before .before .before .before .before .before .before .before .before .before
+                .before .before .before .κs) (c .before .before .before .before .before .before .before .before .before
+                .before .before .before .before .before .before .before .before .before .before .before .before .args)
+                .0 .now) (same-length record { before = c .before; slice-known2 = c .slice-known2 }),
+            (
+              MutSlice.fix-len (Row.get 2 (T82 .locals) (m54 (c .before) (c .slice-known2 .given)) .ptr) (Row.get 2
+                  (T82 .locals) (m54 (c .before) (c .slice-known2 .given)) .name) (Row.get 2 (T82 .locals)
+                  (m54 (c .before) (c .slice-known2 .given)) .now) (dens (c .before .before .before .before .before
+                  .before .before .before .before .before .before .before .before .before .before .before .before
+                  .before .before .before .before .κs) (c .before .before .before .before .before .before .before
+                  .before .before .before .before .before .before .before .before .before .before .before .before
+                  .before .before .args) .1 .0 .now) (same-length-2
+                  record { before = c .before; slice-known2 = c .slice-known2 }),
+              (
+                MutSlice.fix-len (Row.get 3 (T82 .locals) (m54 (c .before) (c .slice-known2 .given)) .ptr) (Row.get 3
+                    (T82 .locals) (m54 (c .before) (c .slice-known2 .given)) .name) (Row.get 3 (T82 .locals)
+                    (m54 (c .before) (c .slice-known2 .given)) .now) (dens (c .before .before .before .before .before
+                    .before .before .before .before .before .before .before .before .before .before .before .before
+                    .before .before .before .before .κs) (c .before .before .before .before .before .before .before
+                    .before .before .before .before .before .before .before .before .before .before .before .before
+                    .before .before .args) .1 .1 .0 .now) (same-length-3
+                    record { before = c .before; slice-known2 = c .slice-known2 }),
+                (
+                  MutSlice.fix-len (Row.get 4 (T82 .locals) (m54 (c .before) (c .slice-known2 .given)) .ptr) (Row.get 4
+                      (T82 .locals) (m54 (c .before) (c .slice-known2 .given)) .name) (Row.get 4 (T82 .locals)
+                      (m54 (c .before) (c .slice-known2 .given)) .now) (dens (c .before .before .before .before .before
+                      .before .before .before .before .before .before .before .before .before .before .before .before
+                      .before .before .before .before .κs) (c .before .before .before .before .before .before .before
+                      .before .before .before .before .before .before .before .before .before .before .before .before
+                      .before .before .args) .1 .1 .1 .0 .now) (same-length-4
+                      record { before = c .before; slice-known2 = c .slice-known2 }),
+                  (
+                    MutSlice.fix-len (Row.get 5 (T82 .locals) (m54 (c .before) (c .slice-known2 .given)) .ptr) (Row.get
+                        5 (T82 .locals) (m54 (c .before) (c .slice-known2 .given)) .name) (Row.get 5 (T82 .locals)
+                        (m54 (c .before) (c .slice-known2 .given)) .now) (dens (c .before .before .before .before
+                        .before .before .before .before .before .before .before .before .before .before .before .before
+                        .before .before .before .before .before .κs) (c .before .before .before .before .before .before
+                        .before .before .before .before .before .before .before .before .before .before .before .before
+                        .before .before .before .args) .1 .1 .1 .1 .0 .now) (same-length-5
+                        record { before = c .before; slice-known2 = c .slice-known2 }),
+                    (tt, tt),
+                  ),
+                ),
+              ),
+            ),
+          ),
+          returns record { before = c .before; slice-known2 = c .slice-known2 },
+        )
+
+        lay4 : (c : After-handle) → at39 (c .before .before .before .before .before .before .before .before .before
+            .before .before .before .before .before .before .blocks) (W0 (c .before .before .before .before .before
+            .before .before .before .before .before .before .before .before .before .before .κs) (c .before .before
+            .before .before .before .before .before .before .before .before .before .before .before .before .before
+            .args) (c .before .before .before .before .before .before .before .before .before .before .before .before
+            .before .before .before .blocks)) (m33 (c .before) (After-handle·gave c))
+        lay4 = λ c. (
+          Path.refl,
+          λ g. (
+            Path.refl,
+            λ g'. (
+              Path.refl,
+              λ g''. (
+                Path.refl,
+                λ g'3. (
+                  Path.refl,
+                  λ g'4. λ g'5. lay5 record {
+                    before = record {
+                      before = record {
+                        before = record {
+                          before = record {
+                            before = record {
+                              before = record { before = c .before; handle = c .handle };
+                              pending = record { given = g };
+                            };
+                            circuits = record { given = g' };
+                          };
+                          ledger = record { given = g'' };
+                        };
+                        inflight = record { given = g'3 };
+                      };
+                      out = record { given = g'4 };
+                    };
+                    slice-known2 = record { given = g'5 };
+                  },
+                ),
+              ),
+            ),
+          ),
+        )
+
+        lay3 : (c : After-body) → at46 (c .before .before .before .before .before .before .before .before .before
+            .before .before .before .blocks) (W0 (c .before .before .before .before .before .before .before .before
+            .before .before .before .before .κs) (c .before .before .before .before .before .before .before .before
+            .before .before .before .before .args) (c .before .before .before .before .before .before .before .before
             .before .before .before .before .blocks)) (m28 (c .before) (c .body .given))
-        lay3 = λ c. λ g. (Relend.count-is T38 29 30 (λ x. x) (λ u. 1) (m29 record { before = c .before; body = c .body; } g) (slice-aggregate-handle-3
-            record { before = record { before = c .before; body = c .body }; endpoint = record { given = g }; }), λ g'. (Relend.count-is T41 31 32 (λ
-            x. x) (λ u. 8) (m31 record { before = record { before = c .before; body = c .body }; endpoint = record { given = g }; } g')
-            (slice-aggregate-handle-4 record { before = record { before = record { before = c .before; body = c .body }; endpoint = record { given = g
-            }; }; random = record { given = g' }; }), (handle-requires record { before = record { before = record { before = c .before; body = c .body
-            }; endpoint = record { given = g }; }; random = record { given = g' }; }, λ g''. lay4 record { before = record { before = record { before
-            = record { before = c .before; body = c .body }; endpoint = record { given = g }; }; random = record { given = g' }; }; handle =
-            Called.called ps·2 r·2 (claims· .5) T42 (record { pos = 16; ty = Syntax.tyRef Syntax.erased Syntax.mut RelayPending.to; ref = λ x. x; },
-            (record { pos = 18; ty = Syntax.tyRef Syntax.erased Syntax.mut RelayCircuit.to; ref = λ x. x; }, (record { pos = 20; ty = Syntax.tyRef
-            Syntax.erased Syntax.mut ReservationUsage.to; ref = λ x. x; }, (record { pos = 22; ty = Syntax.tyRef Syntax.erased Syntax.mut
-            InflightAction.to; ref = λ x. x; }, (record { pos = 24; ty = Syntax.tyRef Syntax.erased Syntax.mut (Syntax.tyInt Syntax.w32); ref = λ x.
-            x; }, (record { pos = 12; st = List.[]; d = 0; at = λ x. x }, (record { pos = 13; st = List.[]; d = 0; at = λ x. x }, (record { pos = 7;
-            st = List.[]; d = 0; at = λ x. x }, (record { pos = 26; ty = Syntax.tyRef Syntax.erased Syntax.imm (Syntax.tyInt Syntax.w8); ref = λ x. x;
-            }, (record { pos = 28; ty = Syntax.tyRef Syntax.erased Syntax.imm (Syntax.tyInt Syntax.w8); ref = λ x. x; }, (record { pos = 30; ty =
-            Syntax.tyRef Syntax.erased Syntax.imm (Syntax.tyInt Syntax.w8); ref = λ x. x; }, (record { pos = 32; ty = Syntax.tyRef Syntax.erased
-            Syntax.imm (Syntax.tyInt Syntax.w8); ref = λ x. x; }, tt,),),),),),),),),),),),) (m32 record { before = record { before = c .before; body
-            = c .body }; endpoint = record { given = g }; } g') g''; },),),)
-        lay2 : (c : After-open-body) → at78 (c .before .before .before .blocks) (W0 (c .before .before .before .κs) (c .before .before .before .args)
-            (c .before .before .before .blocks)) (m3 (c .before) (After-open-body·gave c))
-        lay2 = λ c. (tt, λ g. (tt, λ g'. λ g''. (Path.refl, λ g'3. (Path.refl, λ g'4. (Path.refl, λ g'5. (Path.refl, λ g'6. (Path.refl, λ g'7.
-            (Relend.count-is T32 25 26 (λ x. x) (λ u. 1) (m25 record { before = record { before = record { before = record { before = record { before
-            = record { before = record { before = record { before = c .before; open-body = c .open-body; }; runtime = record { given = g }; }; places
-            = record { given = g' }; }; handle-arg = record { given = g'' }; }; handle-arg2 = record { given = g'3 }; }; handle-arg3 = record { given
-            = g'4 }; }; handle-arg4 = record { given = g'5 }; }; handle-arg5 = record { given = g'6 }; } g'7) (slice-aggregate-handle record { before
-            = record { before = record { before = record { before = record { before = record { before = record { before = record { before = record {
-            before = c .before; open-body = c .open-body; }; runtime = record { given = g }; }; places = record { given = g' }; }; handle-arg = record
-            { given = g'' }; }; handle-arg2 = record { given = g'3 }; }; handle-arg3 = record { given = g'4 }; }; handle-arg4 = record { given = g'5
-            }; }; handle-arg5 = record { given = g'6 }; }; source = record { given = g'7 }; }), λ g'8. (Relend.count-is T35 27 28 (λ x. x) (λ u. 103)
-            (m27 record { before = record { before = record { before = record { before = record { before = record { before = record { before = record
-            { before = record { before = c .before; open-body = c .open-body; }; runtime = record { given = g }; }; places = record { given = g' }; };
-            handle-arg = record { given = g'' }; }; handle-arg2 = record { given = g'3 }; }; handle-arg3 = record { given = g'4 }; }; handle-arg4 =
-            record { given = g'5 }; }; handle-arg5 = record { given = g'6 }; }; source = record { given = g'7 }; } g'8) (slice-aggregate-handle-2
-            record { before = record { before = record { before = record { before = record { before = record { before = record { before = record {
-            before = record { before = record { before = c .before; open-body = c .open-body; }; runtime = record { given = g }; }; places = record {
-            given = g' }; }; handle-arg = record { given = g'' }; }; handle-arg2 = record { given = g'3 }; }; handle-arg3 = record { given = g'4 }; };
-            handle-arg4 = record { given = g'5 }; }; handle-arg5 = record { given = g'6 }; }; source = record { given = g'7 }; }; body = record {
-            given = g'8 }; }), lay3 record { before = record { before = record { before = record { before = record { before = record { before = record
-            { before = record { before = record { before = record { before = c .before; open-body = c .open-body; }; runtime = record { given = g };
-            }; places = record { given = g' }; }; handle-arg = record { given = g'' }; }; handle-arg2 = record { given = g'3 }; }; handle-arg3 =
-            record { given = g'4 }; }; handle-arg4 = record { given = g'5 }; }; handle-arg5 = record { given = g'6 }; }; source = record { given = g'7
-            }; }; body = record { given = g'8 }; },),),),),),),),),)
-        lay1 : (c : After-open-packet) → at79 (c .before .before .blocks) (W0 (c .before .before .κs) (c .before .before .args) (c .before .before
-            .blocks)) (m2 (c .before) (After-open-packet·gave c))
-        lay1 = λ c. (open-body-requires record { before = c .before; open-packet = c .open-packet }, λ g. lay2 record { before = record { before = c
-            .before; open-packet = c .open-packet }; open-body = Called.called ps·1 r·1 (claims· .3) T3 tt (m2 (c .before) (After-open-packet·gave c))
-            g; },)
+        lay3 = λ c. λ g. (
+          Relend.count-is T38 29 30 (λ x. x) (λ u. 1) (m29 record { before = c .before; body = c .body } g) (slice-aggregate-handle-3
+              record { before = record { before = c .before; body = c .body }; endpoint = record { given = g } }),
+          λ g'. (
+            Relend.count-is T41 31 32 (λ x. x) (λ u. 8) (m31
+                record { before = record { before = c .before; body = c .body }; endpoint = record { given = g } } g') (slice-aggregate-handle-4
+                record {
+                  before = record {
+                    before = record { before = c .before; body = c .body };
+                    endpoint = record { given = g };
+                  };
+                  random = record { given = g' };
+                }),
+            (
+              handle-requires record {
+                before = record {
+                  before = record { before = c .before; body = c .body };
+                  endpoint = record { given = g };
+                };
+                random = record { given = g' };
+              },
+              λ g''. lay4 record {
+                before = record {
+                  before = record {
+                    before = record { before = c .before; body = c .body };
+                    endpoint = record { given = g };
+                  };
+                  random = record { given = g' };
+                };
+                handle = Called.called ps·2 r·2 (claims· .5) T42 (
+                  record { pos = 16; ty = ref0; ref = λ x. x },
+                  (
+                    record { pos = 18; ty = ref1; ref = λ x. x },
+                    (
+                      record { pos = 20; ty = ref2; ref = λ x. x },
+                      (
+                        record { pos = 22; ty = ref3; ref = λ x. x },
+                        (
+                          record { pos = 24; ty = ref4; ref = λ x. x },
+                          (
+                            record { pos = 12; st = List.[]; d = 0; at = λ x. x },
+                            (
+                              record { pos = 13; st = List.[]; d = 0; at = λ x. x },
+                              (
+                                record { pos = 7; st = List.[]; d = 0; at = λ x. x },
+                                (
+                                  record { pos = 26; ty = ref6; ref = λ x. x },
+                                  (
+                                    record { pos = 28; ty = ref6; ref = λ x. x },
+                                    (
+                                      record { pos = 30; ty = ref6; ref = λ x. x },
+                                      (record { pos = 32; ty = ref6; ref = λ x. x }, tt),
+                                    ),
+                                  ),
+                                ),
+                              ),
+                            ),
+                          ),
+                        ),
+                      ),
+                    ),
+                  ),
+                ) (m32 record {
+                  before = record { before = c .before; body = c .body };
+                  endpoint = record { given = g };
+                } g') g'';
+              },
+            ),
+          ),
+        )
+
+        lay2 : (c : After-open-body) → at78 (c .before .before .before .blocks) (W0 (c .before .before .before .κs)
+            (c .before .before .before .args) (c .before .before .before .blocks))
+            (m3 (c .before) (After-open-body·gave c))
+        lay2 = λ c. (
+          tt,
+          λ g. (
+            tt,
+            λ g'. λ g''. (
+              Path.refl,
+              λ g'3. (
+                Path.refl,
+                λ g'4. (
+                  Path.refl,
+                  λ g'5. (
+                    Path.refl,
+                    λ g'6. (
+                      Path.refl,
+                      λ g'7. (
+                        Relend.count-is T32 25 26 (λ x. x) (λ u. 1) (m25
+                            record {
+                              before = record {
+                                before = record {
+                                  before = record {
+                                    before = record {
+                                      before = record {
+                                        before = record {
+                                          before = record { before = c .before; open-body = c .open-body };
+                                          runtime = record { given = g };
+                                        };
+                                        places = record { given = g' };
+                                      };
+                                      handle-arg = record { given = g'' };
+                                    };
+                                    handle-arg2 = record { given = g'3 };
+                                  };
+                                  handle-arg3 = record { given = g'4 };
+                                };
+                                handle-arg4 = record { given = g'5 };
+                              };
+                              handle-arg5 = record { given = g'6 };
+                            } g'7) (slice-aggregate-handle
+                            record {
+                              before = record {
+                                before = record {
+                                  before = record {
+                                    before = record {
+                                      before = record {
+                                        before = record {
+                                          before = record {
+                                            before = record { before = c .before; open-body = c .open-body };
+                                            runtime = record { given = g };
+                                          };
+                                          places = record { given = g' };
+                                        };
+                                        handle-arg = record { given = g'' };
+                                      };
+                                      handle-arg2 = record { given = g'3 };
+                                    };
+                                    handle-arg3 = record { given = g'4 };
+                                  };
+                                  handle-arg4 = record { given = g'5 };
+                                };
+                                handle-arg5 = record { given = g'6 };
+                              };
+                              source = record { given = g'7 };
+                            }),
+                        λ g'8. (
+                          Relend.count-is T35 27 28 (λ x. x) (λ u. 103) (m27
+                              record {
+                                before = record {
+                                  before = record {
+                                    before = record {
+                                      before = record {
+                                        before = record {
+                                          before = record {
+                                            before = record {
+                                              before = record { before = c .before; open-body = c .open-body };
+                                              runtime = record { given = g };
+                                            };
+                                            places = record { given = g' };
+                                          };
+                                          handle-arg = record { given = g'' };
+                                        };
+                                        handle-arg2 = record { given = g'3 };
+                                      };
+                                      handle-arg3 = record { given = g'4 };
+                                    };
+                                    handle-arg4 = record { given = g'5 };
+                                  };
+                                  handle-arg5 = record { given = g'6 };
+                                };
+                                source = record { given = g'7 };
+                              } g'8) (slice-aggregate-handle-2
+                              record {
+                                before = record {
+                                  before = record {
+                                    before = record {
+                                      before = record {
+                                        before = record {
+                                          before = record {
+                                            before = record {
+                                              before =
+                                                  record {
+                                                    before = record { before = c .before; open-body = c .open-body };
+                                                    runtime = record { given = g };
+                                                  };
+                                              places = record { given = g' };
+                                            };
+                                            handle-arg = record { given = g'' };
+                                          };
+                                          handle-arg2 = record { given = g'3 };
+                                        };
+                                        handle-arg3 = record { given = g'4 };
+                                      };
+                                      handle-arg4 = record { given = g'5 };
+                                    };
+                                    handle-arg5 = record { given = g'6 };
+                                  };
+                                  source = record { given = g'7 };
+                                };
+                                body = record { given = g'8 };
+                              }),
+                          lay3 record {
+                            before = record {
+                              before = record {
+                                before = record {
+                                  before = record {
+                                    before = record {
+                                      before = record {
+                                        before = record {
+                                          before = record {
+                                            before = record { before = c .before; open-body = c .open-body };
+                                            runtime = record { given = g };
+                                          };
+                                          places = record { given = g' };
+                                        };
+                                        handle-arg = record { given = g'' };
+                                      };
+                                      handle-arg2 = record { given = g'3 };
+                                    };
+                                    handle-arg3 = record { given = g'4 };
+                                  };
+                                  handle-arg4 = record { given = g'5 };
+                                };
+                                handle-arg5 = record { given = g'6 };
+                              };
+                              source = record { given = g'7 };
+                            };
+                            body = record { given = g'8 };
+                          },
+                        ),
+                      ),
+                    ),
+                  ),
+                ),
+              ),
+            ),
+          ),
+        )
+
+        lay1 : (c : After-open-packet) → at79 (c .before .before .blocks) (W0 (c .before .before .κs)
+            (c .before .before .args) (c .before .before .blocks)) (m2 (c .before) (After-open-packet·gave c))
+        lay1 = λ c. (
+          open-body-requires record { before = c .before; open-packet = c .open-packet },
+          λ g. lay2 record {
+            before = record { before = c .before; open-packet = c .open-packet };
+            open-body = Called.called ps·1 r·1 (claims· .3) T3 tt (m2 (c .before) (After-open-packet·gave c)) g;
+          },
+        )
+
         pub laid : (c : Start) → at81 (c .blocks) (W0 (c .κs) (c .args) (c .blocks)) (m0 (c .κs) (c .args) (c .blocks))
-        laid = λ c. λ g. (open-packet-requires record { before = c; slice-known = record { given = g } }, λ g'. lay1 record { before = record { before
-            = c; slice-known = record { given = g } }; open-packet = Called.called ps·0 r·0 (claims· .1) T2 tt (m1 c g) g'; },)
+        laid = λ c. λ g. (
+          open-packet-requires record { before = c; slice-known = record { given = g } },
+          λ g'. lay1 record {
+            before = record { before = c; slice-known = record { given = g } };
+            open-packet = Called.called ps·0 r·0 (claims· .1) T2 tt (m1 c g) g';
+          },
+        )
+
         module _ (κs : Lifetimes.Lfts 5) (qs : Lifetimes.Shares 5) where
-          pub asked : (a : Kinds.Dens κs ps) → (good : Kinds.GoodsP κs ps a) → (pre : Pre· κs a) → (bs : List.List Nat.ℕ) → Φ bs (Any.wantQ 5 ps r xs
-              m κs qs a (Post· κs a)) (Function.init 5 ps r xs m κs qs a)
-          asked = λ a good pre bs. laid record { κs = κs; args = record { pending = a .0; circuits = a .1 .0; ledger = a .1 .1 .0; inflight = a .1 .1
-              .1 .0; out = a .1 .1 .1 .1 .0; kept = a .1 .1 .1 .1 .1 .0; }; blocks = bs; good = good; pre = pre; }
-        module _ { M : Type 1 } (𝓤 : URA.URA M) (H : Wp.Heap 𝓤) (A : Atoms.Atoms 𝓤) (W : Kit.Given 𝓤 H A) (𝓣 : Wp.Tables 𝓤 H) (known0 : Plain.Known 𝓤
-            H A W 𝓣 0 ps·0 r·0 (claims· .0) (claims· .1) "cases::script::open_packet") (known1 : Plain.Known 𝓤 H A W 𝓣 0 ps·1 r·1 (claims· .2)
-            (claims· .3) "cases::script::open_body") (known2 : Plain.Known 𝓤 H A W 𝓣 9 ps·2 r·2 (claims· .4) (claims· .5)
+          pub asked : (a : Kinds.Dens κs ps) → (good : Kinds.GoodsP κs ps a) → (pre : Pre· κs a) →
+              (bs : List.List Nat.ℕ) → Φ bs (Any.wantQ 5 ps r xs m κs qs a (Post· κs a))
+              (Function.init 5 ps r xs m κs qs a)
+          asked = λ a good pre bs. laid record {
+            κs = κs;
+            args = record {
+              pending = a .0;
+              circuits = a .1 .0;
+              ledger = a .1 .1 .0;
+              inflight = a .1 .1 .1 .0;
+              out = a .1 .1 .1 .1 .0;
+              kept = a .1 .1 .1 .1 .1 .0;
+            };
+            blocks = bs;
+            good = good;
+            pre = pre;
+          }
+
+        module _ {M : Type 1} (𝓤 : URA.URA M) (H : Wp.Heap 𝓤) (A : Atoms.Atoms 𝓤) (W : Kit.Given 𝓤 H A)
+            (𝓣 : Wp.Tables 𝓤 H) (known0 : Plain.Known 𝓤 H A W 𝓣 0 ps·0 r·0 (claims· .0) (claims· .1)
+            "cases::script::open_packet") (known1 : Plain.Known 𝓤 H A W 𝓣 0 ps·1 r·1 (claims· .2) (claims· .3)
+            "cases::script::open_body") (known2 : Plain.Known 𝓤 H A W 𝓣 9 ps·2 r·2 (claims· .4) (claims· .5)
             "hnsr_circuit::handle::handle") where
-          pub spec : Statement.Triple 𝓤 (Wp.WpFn 𝓤 H (𝓣 .C) (𝓣 .Λ) (Function.fnOf 5 ps r xs m hs body)) (Function.plainOf 𝓤 H A 5 ps r Pre· Post·)
-          spec = Plain.t-fn-plain 𝓤 H A W 𝓣 5 ps r xs m hs body (λ κs qs bs. Φ bs) (λ κs qs bs bd. typed κs qs 𝓤 H A W 𝓣 (known0, known1, known2) bs
-              bd) Pre· Post· asked
+          pub spec : Statement.Triple 𝓤 (Wp.WpFn 𝓤 H (𝓣 .C) (𝓣 .Λ) (Function.fnOf 5 ps r xs m hs body))
+              (Function.plainOf 𝓤 H A 5 ps r Pre· Post·)
+          spec = Plain.t-fn-plain 𝓤 H A W 𝓣 5 ps r xs m hs body (λ κs qs bs. Φ bs) (λ κs qs bs bd. typed κs qs 𝓤 H A W
+              𝓣 (known0, known1, known2) bs bd) Pre· Post· asked

@@ -4,12 +4,14 @@ use Rattle.cases.proofs.By.InflightAction
 use Rattle.cases.proofs.By.RelayCircuit
 use Rattle.cases.proofs.By.RelayPending
 use Rattle.cases.proofs.By.ReservationUsage
+use Rattle.cases.proofs.StructRow
 use Rattle.cases.proofs.script.Script
 use Rattle.cases.proofs.script.Script.Laws
 use Rattle.hnsr_circuit.proofs.runtime.Relayed
 use Rattle.hnsr_circuit.proofs.runtime.Relayed.Laws as Laws'
 use borrow.Author.Called
 use borrow.Fn.Any
+use borrow.Fn.Args as Args'
 use borrow.Fn.Call
 use borrow.Fn.Enter
 use borrow.Fn.Frame
@@ -19,7 +21,6 @@ use borrow.Fn.Plain
 use borrow.Kind.MutSlice
 use borrow.Kind.Num
 use borrow.Kind.ShrSlice
-use borrow.Kind.Value
 use borrow.Rule.Lifetime
 use borrow.Rule.Local
 use borrow.Rule.Scalar
@@ -37,9 +38,7 @@ use borrow.Table.Row
 use borrow.Table.Rows
 use borrow.Table.Typed
 use contract.Lifetimes
-use denote.Exit
 use denote.Struct.Declared
-use denote.Struct.Laws as Laws''
 use denote.Triple.Clauses
 use denote.Triple.Statement
 use ghost.Atoms
@@ -55,1846 +54,3422 @@ use mathlib.Core.List.{_∷_}
 
 abbrev ref0 : Syntax.Ty
 ref0 = Syntax.tyRef Syntax.erased Syntax.imm RelayPending.to
+
 abbrev ref1 : Syntax.Ty
 ref1 = Syntax.tyRef Syntax.erased Syntax.imm RelayCircuit.to
+
 abbrev ref2 : Syntax.Ty
 ref2 = Syntax.tyRef Syntax.erased Syntax.imm ReservationUsage.to
+
 abbrev ref3 : Syntax.Ty
 ref3 = Syntax.tyRef Syntax.erased Syntax.imm InflightAction.to
+
 abbrev ref4 : Syntax.Ty
 ref4 = Syntax.tyRef Syntax.erased Syntax.mut RelayPending.to
+
 abbrev ref5 : Syntax.Ty
 ref5 = Syntax.tyRef Syntax.erased Syntax.mut RelayCircuit.to
+
 abbrev ref6 : Syntax.Ty
 ref6 = Syntax.tyRef Syntax.erased Syntax.mut ReservationUsage.to
+
 abbrev ref7 : Syntax.Ty
 ref7 = Syntax.tyRef Syntax.erased Syntax.mut InflightAction.to
+
 abbrev ref8 : Syntax.Ty
 ref8 = Syntax.tyRef Syntax.erased Syntax.mut (Syntax.tyInt Syntax.w32)
+
 abbrev ref9 : Syntax.Ty
 ref9 = Syntax.tyRef (Syntax.named 0) Syntax.mut RelayPending.to
+
 abbrev ref10 : Syntax.Ty
 ref10 = Syntax.tyRef (Syntax.named 1) Syntax.mut RelayCircuit.to
+
 abbrev ref11 : Syntax.Ty
 ref11 = Syntax.tyRef (Syntax.named 2) Syntax.mut ReservationUsage.to
+
 abbrev ref12 : Syntax.Ty
 ref12 = Syntax.tyRef (Syntax.named 3) Syntax.mut InflightAction.to
+
 abbrev ref13 : Syntax.Ty
 ref13 = Syntax.tyRef (Syntax.named 4) Syntax.mut (Syntax.tyInt Syntax.w32)
+
+abbrev slice0 : Syntax.Ty
+slice0 = Syntax.tyStruct (38 ∷ 91 ∷ 93 ∷ List.[]) (Syntax.tcons ref0
+    (Syntax.tcons (Syntax.tyInt Syntax.w64) Syntax.tnil))
+
+abbrev slice1 : Syntax.Ty
+slice1 = Syntax.tyStruct (38 ∷ 91 ∷ 93 ∷ List.[]) (Syntax.tcons ref1
+    (Syntax.tcons (Syntax.tyInt Syntax.w64) Syntax.tnil))
+
+abbrev slice2 : Syntax.Ty
+slice2 = Syntax.tyStruct (38 ∷ 91 ∷ 93 ∷ List.[]) (Syntax.tcons ref2
+    (Syntax.tcons (Syntax.tyInt Syntax.w64) Syntax.tnil))
+
+abbrev slice3 : Syntax.Ty
+slice3 = Syntax.tyStruct (38 ∷ 91 ∷ 93 ∷ List.[]) (Syntax.tcons ref3
+    (Syntax.tcons (Syntax.tyInt Syntax.w64) Syntax.tnil))
+
+abbrev slice4 : Syntax.Ty
+slice4 = Syntax.tyStruct (38 ∷ 91 ∷ 93 ∷ List.[]) (Syntax.tcons ref4
+    (Syntax.tcons (Syntax.tyInt Syntax.w64) Syntax.tnil))
+
+abbrev slice5 : Syntax.Ty
+slice5 = Syntax.tyStruct (38 ∷ 91 ∷ 93 ∷ List.[]) (Syntax.tcons ref5
+    (Syntax.tcons (Syntax.tyInt Syntax.w64) Syntax.tnil))
+
+abbrev slice6 : Syntax.Ty
+slice6 = Syntax.tyStruct (38 ∷ 91 ∷ 93 ∷ List.[]) (Syntax.tcons ref6
+    (Syntax.tcons (Syntax.tyInt Syntax.w64) Syntax.tnil))
+
+abbrev slice7 : Syntax.Ty
+slice7 = Syntax.tyStruct (38 ∷ 91 ∷ 93 ∷ List.[]) (Syntax.tcons ref7
+    (Syntax.tcons (Syntax.tyInt Syntax.w64) Syntax.tnil))
+
+abbrev slice8 : Syntax.Ty
+slice8 = Syntax.tyStruct (38 ∷ 91 ∷ 93 ∷ List.[]) (Syntax.tcons ref8
+    (Syntax.tcons (Syntax.tyInt Syntax.w64) Syntax.tnil))
+
 abbrev pub ps : List.List (Kinds.PK 5)
-ps = (MutSlice.pMutS RelayPending.row 0 tt) ∷ (MutSlice.pMutS RelayCircuit.row 1 tt) ∷ (MutSlice.pMutS ReservationUsage.row 2 tt) ∷ (MutSlice.pMutS
-    InflightAction.row 3 tt) ∷ (MutSlice.pMutS (Referent.rtF (Referent.fInt Syntax.w32)) 4 tt) ∷ (Value.pVal record { ty = Declared.row
-    Script.the-type; one = Path.refl; val = Laws''.val Script.the-type Laws.the-laws; tells = Laws''.tells Script.the-type Laws.the-laws; still =
-    Laws''.still Script.the-type Laws.the-copy Exit.yes; row = Rows.whole (Declared.row Script.the-type); rd = λ x. x; mk = λ x. x; } λ M 𝓤 H A W.
-    record { copies = Laws''.copy Script.the-type Laws.the-copy 𝓤 H A W; lawful = Laws''.lawful Script.the-type Laws.the-laws 𝓤 H A W; makes =
-    Laws''.makes Script.the-type Laws.the-plain 𝓤 H A; in-mem = Local.mem-whole 𝓤 H A W (Declared.row Script.the-type); of-mem = Local.whole-mem 𝓤 H A
-    W (Declared.row Script.the-type); }) ∷ List.[]
+ps = (MutSlice.pMutS RelayPending.row 0 tt) ∷ (MutSlice.pMutS RelayCircuit.row 1 tt) ∷
+    (MutSlice.pMutS ReservationUsage.row 2 tt) ∷ (MutSlice.pMutS InflightAction.row 3 tt) ∷ (MutSlice.pMutS
+    (Referent.rtF (Referent.fInt Syntax.w32)) 4 tt) ∷ (StructRow.param Script.the-type Laws.the-laws Laws.the-copy
+    Laws.the-plain) ∷ List.[]
+
 abbrev pub r : Kinds.RK 5
-r = Value.rVal record { ty = Declared.row Relayed.the-type; one = Path.refl; val = Laws''.val Relayed.the-type Laws'.the-laws; tells = Laws''.tells
-    Relayed.the-type Laws'.the-laws; still = Laws''.still Relayed.the-type Laws'.the-copy Exit.yes; row = Rows.whole (Declared.row Relayed.the-type);
-    rd = λ x. x; mk = λ x. x; } λ M 𝓤 H A W. record { copies = Laws''.copy Relayed.the-type Laws'.the-copy 𝓤 H A W; lawful = Laws''.lawful
-    Relayed.the-type Laws'.the-laws 𝓤 H A W; makes = Laws''.makes Relayed.the-type Laws'.the-plain 𝓤 H A; in-mem = Local.mem-whole 𝓤 H A W
-    (Declared.row Relayed.the-type); of-mem = Local.whole-mem 𝓤 H A W (Declared.row Relayed.the-type); }
+r = StructRow.result Relayed.the-type Laws'.the-laws Laws'.the-copy Laws'.the-plain
+
 abbrev pub xs : List.List Syntax.Ty
-xs = Laws'.mir ∷ ref0 ∷ (Syntax.tyStruct (38 ∷ 91 ∷ 93 ∷ List.[]) (Syntax.tcons ref0 (Syntax.tcons (Syntax.tyInt Syntax.w64) Syntax.tnil))) ∷ ref1 ∷
-    (Syntax.tyStruct (38 ∷ 91 ∷ 93 ∷ List.[]) (Syntax.tcons ref1 (Syntax.tcons (Syntax.tyInt Syntax.w64) Syntax.tnil))) ∷ ref2 ∷ (Syntax.tyStruct (38
-    ∷ 91 ∷ 93 ∷ List.[]) (Syntax.tcons ref2 (Syntax.tcons (Syntax.tyInt Syntax.w64) Syntax.tnil))) ∷ ref3 ∷ (Syntax.tyStruct (38 ∷ 91 ∷ 93 ∷ List.[])
-    (Syntax.tcons ref3 (Syntax.tcons (Syntax.tyInt Syntax.w64) Syntax.tnil))) ∷ ref4 ∷ (Syntax.tyStruct (38 ∷ 91 ∷ 93 ∷ List.[]) (Syntax.tcons ref4
-    (Syntax.tcons (Syntax.tyInt Syntax.w64) Syntax.tnil))) ∷ ref5 ∷ (Syntax.tyStruct (38 ∷ 91 ∷ 93 ∷ List.[]) (Syntax.tcons ref5 (Syntax.tcons
-    (Syntax.tyInt Syntax.w64) Syntax.tnil))) ∷ ref6 ∷ (Syntax.tyStruct (38 ∷ 91 ∷ 93 ∷ List.[]) (Syntax.tcons ref6 (Syntax.tcons (Syntax.tyInt
-    Syntax.w64) Syntax.tnil))) ∷ ref7 ∷ (Syntax.tyStruct (38 ∷ 91 ∷ 93 ∷ List.[]) (Syntax.tcons ref7 (Syntax.tcons (Syntax.tyInt Syntax.w64)
-    Syntax.tnil))) ∷ ref8 ∷ (Syntax.tyStruct (38 ∷ 91 ∷ 93 ∷ List.[]) (Syntax.tcons ref8 (Syntax.tcons (Syntax.tyInt Syntax.w64) Syntax.tnil))) ∷
-    List.[]
+xs = Laws'.mir ∷ ref0 ∷ slice0 ∷ ref1 ∷ slice1 ∷ ref2 ∷ slice2 ∷ ref3 ∷ slice3 ∷ ref4 ∷ slice4 ∷ ref5 ∷ slice5 ∷ ref6 ∷
+    slice6 ∷ ref7 ∷ slice7 ∷ ref8 ∷ slice8 ∷ List.[]
+
 abbrev pub m : Nat.ℕ
 m = 9
+
 abbrev pub ps·0 : List.List (Kinds.PK 4)
-ps·0 = (ShrSlice.pShrS RelayPending.row 0 tt) ∷ (ShrSlice.pShrS RelayCircuit.row 1 tt) ∷ (ShrSlice.pShrS ReservationUsage.row 2 tt) ∷ (ShrSlice.pShrS
-    InflightAction.row 3 tt) ∷ (Num.pNum Syntax.w64) ∷ List.[]
+ps·0 = (ShrSlice.pShrS RelayPending.row 0 tt) ∷ (ShrSlice.pShrS RelayCircuit.row 1 tt) ∷
+    (ShrSlice.pShrS ReservationUsage.row 2 tt) ∷ (ShrSlice.pShrS InflightAction.row 3 tt) ∷ (Num.pNum Syntax.w64) ∷
+    List.[]
+
 abbrev pub r·0 : Kinds.RK 4
-r·0 = Value.rVal record { ty = Declared.row Relayed.the-type; one = Path.refl; val = Laws''.val Relayed.the-type Laws'.the-laws; tells = Laws''.tells
-    Relayed.the-type Laws'.the-laws; still = Laws''.still Relayed.the-type Laws'.the-copy Exit.yes; row = Rows.whole (Declared.row Relayed.the-type);
-    rd = λ x. x; mk = λ x. x; } λ M 𝓤 H A W. record { copies = Laws''.copy Relayed.the-type Laws'.the-copy 𝓤 H A W; lawful = Laws''.lawful
-    Relayed.the-type Laws'.the-laws 𝓤 H A W; makes = Laws''.makes Relayed.the-type Laws'.the-plain 𝓤 H A; in-mem = Local.mem-whole 𝓤 H A W
-    (Declared.row Relayed.the-type); of-mem = Local.whole-mem 𝓤 H A W (Declared.row Relayed.the-type); }
+r·0 = StructRow.result Relayed.the-type Laws'.the-laws Laws'.the-copy Laws'.the-plain
+
 abbrev pub ps·1 : List.List (Kinds.PK 5)
-ps·1 = (MutSlice.pMutS RelayPending.row 0 tt) ∷ (MutSlice.pMutS RelayCircuit.row 1 tt) ∷ (MutSlice.pMutS ReservationUsage.row 2 tt) ∷ (MutSlice.pMutS
-    InflightAction.row 3 tt) ∷ (MutSlice.pMutS (Referent.rtF (Referent.fInt Syntax.w32)) 4 tt) ∷ (Value.pVal record { ty = Declared.row
-    Relayed.the-type; one = Path.refl; val = Laws''.val Relayed.the-type Laws'.the-laws; tells = Laws''.tells Relayed.the-type Laws'.the-laws; still =
-    Laws''.still Relayed.the-type Laws'.the-copy Exit.yes; row = Rows.whole (Declared.row Relayed.the-type); rd = λ x. x; mk = λ x. x; } λ M 𝓤 H A W.
-    record { copies = Laws''.copy Relayed.the-type Laws'.the-copy 𝓤 H A W; lawful = Laws''.lawful Relayed.the-type Laws'.the-laws 𝓤 H A W; makes =
-    Laws''.makes Relayed.the-type Laws'.the-plain 𝓤 H A; in-mem = Local.mem-whole 𝓤 H A W (Declared.row Relayed.the-type); of-mem = Local.whole-mem 𝓤
-    H A W (Declared.row Relayed.the-type); }) ∷ (Num.pNum Syntax.w64) ∷ List.[]
+ps·1 = (MutSlice.pMutS RelayPending.row 0 tt) ∷ (MutSlice.pMutS RelayCircuit.row 1 tt) ∷
+    (MutSlice.pMutS ReservationUsage.row 2 tt) ∷ (MutSlice.pMutS InflightAction.row 3 tt) ∷ (MutSlice.pMutS
+    (Referent.rtF (Referent.fInt Syntax.w32)) 4 tt) ∷ (StructRow.param Relayed.the-type Laws'.the-laws Laws'.the-copy
+    Laws'.the-plain) ∷ (Num.pNum Syntax.w64) ∷ List.[]
+
 abbrev pub r·1 : Kinds.RK 5
-r·1 = Value.rVal record { ty = Declared.row Relayed.the-type; one = Path.refl; val = Laws''.val Relayed.the-type Laws'.the-laws; tells = Laws''.tells
-    Relayed.the-type Laws'.the-laws; still = Laws''.still Relayed.the-type Laws'.the-copy Exit.yes; row = Rows.whole (Declared.row Relayed.the-type);
-    rd = λ x. x; mk = λ x. x; } λ M 𝓤 H A W. record { copies = Laws''.copy Relayed.the-type Laws'.the-copy 𝓤 H A W; lawful = Laws''.lawful
-    Relayed.the-type Laws'.the-laws 𝓤 H A W; makes = Laws''.makes Relayed.the-type Laws'.the-plain 𝓤 H A; in-mem = Local.mem-whole 𝓤 H A W
-    (Declared.row Relayed.the-type); of-mem = Local.whole-mem 𝓤 H A W (Declared.row Relayed.the-type); }
+r·1 = StructRow.result Relayed.the-type Laws'.the-laws Laws'.the-copy Laws'.the-plain
+
 abbrev pub hs : List.List Syntax.Home
-hs = Syntax.valueLocal ∷ Syntax.valueLocal ∷ Syntax.valueLocal ∷ Syntax.valueLocal ∷ Syntax.valueLocal ∷ Syntax.valueLocal ∷ Syntax.valueLocal ∷
-    Syntax.valueLocal ∷ Syntax.valueLocal ∷ Syntax.valueLocal ∷ Syntax.valueLocal ∷ Syntax.valueLocal ∷ Syntax.valueLocal ∷ Syntax.valueLocal ∷
-    Syntax.valueLocal ∷ Syntax.valueLocal ∷ Syntax.valueLocal ∷ Syntax.valueLocal ∷ Syntax.valueLocal ∷ Syntax.valueLocal ∷ Syntax.valueLocal ∷
-    Syntax.valueLocal ∷ Syntax.valueLocal ∷ Syntax.valueLocal ∷ Syntax.valueLocal ∷ Syntax.valueLocal ∷ List.[]
+hs = Syntax.valueLocal ∷ Syntax.valueLocal ∷ Syntax.valueLocal ∷ Syntax.valueLocal ∷ Syntax.valueLocal ∷
+    Syntax.valueLocal ∷ Syntax.valueLocal ∷ Syntax.valueLocal ∷ Syntax.valueLocal ∷ Syntax.valueLocal ∷
+    Syntax.valueLocal ∷ Syntax.valueLocal ∷ Syntax.valueLocal ∷ Syntax.valueLocal ∷ Syntax.valueLocal ∷
+    Syntax.valueLocal ∷ Syntax.valueLocal ∷ Syntax.valueLocal ∷ Syntax.valueLocal ∷ Syntax.valueLocal ∷
+    Syntax.valueLocal ∷ Syntax.valueLocal ∷ Syntax.valueLocal ∷ Syntax.valueLocal ∷ Syntax.valueLocal ∷
+    Syntax.valueLocal ∷ List.[]
+
 abbrev b0 : Syntax.Body
-b0 = Syntax.assign (Syntax.place 8 List.[]) (Syntax.addrOf (Syntax.place 1 ((Syntax.field 0) ∷ (Syntax.deref RelayPending.ty) ∷ List.[])))
+b0 = Syntax.assign (Syntax.place 8 List.[]) (Syntax.addrOf (Syntax.place 1 ((Syntax.field 0) ∷
+    (Syntax.deref RelayPending.ty) ∷ List.[])))
+
 abbrev b1 : Syntax.Body
-b1 = Syntax.assign (Syntax.place 9 List.[]) (Syntax.aggregate ((Syntax.copy (Syntax.place 8 List.[])) ∷ (Syntax.copy (Syntax.place 1 ((Syntax.field 1)
-    ∷ List.[]))) ∷ List.[]))
+b1 = Syntax.assign (Syntax.place 9 List.[]) (Syntax.aggregate ((Syntax.copy (Syntax.place 8 List.[])) ∷
+    (Syntax.copy (Syntax.place 1 ((Syntax.field 1) ∷ List.[]))) ∷ List.[]))
+
 abbrev b2 : Syntax.Body
-b2 = Syntax.assign (Syntax.place 10 List.[]) (Syntax.addrOf (Syntax.place 2 ((Syntax.field 0) ∷ (Syntax.deref RelayCircuit.ty) ∷ List.[])))
+b2 = Syntax.assign (Syntax.place 10 List.[]) (Syntax.addrOf (Syntax.place 2 ((Syntax.field 0) ∷
+    (Syntax.deref RelayCircuit.ty) ∷ List.[])))
+
 abbrev b3 : Syntax.Body
-b3 = Syntax.assign (Syntax.place 11 List.[]) (Syntax.aggregate ((Syntax.copy (Syntax.place 10 List.[])) ∷ (Syntax.copy (Syntax.place 2 ((Syntax.field
-    1) ∷ List.[]))) ∷ List.[]))
+b3 = Syntax.assign (Syntax.place 11 List.[]) (Syntax.aggregate ((Syntax.copy (Syntax.place 10 List.[])) ∷
+    (Syntax.copy (Syntax.place 2 ((Syntax.field 1) ∷ List.[]))) ∷ List.[]))
+
 abbrev b4 : Syntax.Body
-b4 = Syntax.assign (Syntax.place 12 List.[]) (Syntax.addrOf (Syntax.place 3 ((Syntax.field 0) ∷ (Syntax.deref ReservationUsage.ty) ∷ List.[])))
+b4 = Syntax.assign (Syntax.place 12 List.[]) (Syntax.addrOf (Syntax.place 3 ((Syntax.field 0) ∷
+    (Syntax.deref ReservationUsage.ty) ∷ List.[])))
+
 abbrev b5 : Syntax.Body
-b5 = Syntax.assign (Syntax.place 13 List.[]) (Syntax.aggregate ((Syntax.copy (Syntax.place 12 List.[])) ∷ (Syntax.copy (Syntax.place 3 ((Syntax.field
-    1) ∷ List.[]))) ∷ List.[]))
+b5 = Syntax.assign (Syntax.place 13 List.[]) (Syntax.aggregate ((Syntax.copy (Syntax.place 12 List.[])) ∷
+    (Syntax.copy (Syntax.place 3 ((Syntax.field 1) ∷ List.[]))) ∷ List.[]))
+
 abbrev b6 : Syntax.Body
-b6 = Syntax.assign (Syntax.place 14 List.[]) (Syntax.addrOf (Syntax.place 4 ((Syntax.field 0) ∷ (Syntax.deref InflightAction.ty) ∷ List.[])))
+b6 = Syntax.assign (Syntax.place 14 List.[]) (Syntax.addrOf (Syntax.place 4 ((Syntax.field 0) ∷
+    (Syntax.deref InflightAction.ty) ∷ List.[])))
+
 abbrev b7 : Syntax.Body
-b7 = Syntax.assign (Syntax.place 15 List.[]) (Syntax.aggregate ((Syntax.copy (Syntax.place 14 List.[])) ∷ (Syntax.copy (Syntax.place 4 ((Syntax.field
-    1) ∷ List.[]))) ∷ List.[]))
+b7 = Syntax.assign (Syntax.place 15 List.[]) (Syntax.aggregate ((Syntax.copy (Syntax.place 14 List.[])) ∷
+    (Syntax.copy (Syntax.place 4 ((Syntax.field 1) ∷ List.[]))) ∷ List.[]))
+
 abbrev b8 : Syntax.Body
-b8 = Syntax.call "cases::machine::begin" ((Syntax.copy (Syntax.place 9 List.[])) ∷ (Syntax.copy (Syntax.place 11 List.[])) ∷ (Syntax.copy
-    (Syntax.place 13 List.[])) ∷ (Syntax.copy (Syntax.place 15 List.[])) ∷ (Syntax.copy (Syntax.place 6 ((Syntax.field 0) ∷ List.[]))) ∷ List.[])
+b8 = Syntax.call "cases::machine::begin" ((Syntax.copy (Syntax.place 9 List.[])) ∷
+    (Syntax.copy (Syntax.place 11 List.[])) ∷ (Syntax.copy (Syntax.place 13 List.[])) ∷
+    (Syntax.copy (Syntax.place 15 List.[])) ∷ (Syntax.copy (Syntax.place 6 ((Syntax.field 0) ∷ List.[]))) ∷ List.[])
     (Syntax.place 7 List.[])
+
 abbrev b9 : Syntax.Body
-b9 = Syntax.assign (Syntax.place 16 List.[]) (Syntax.addrOf (Syntax.place 1 ((Syntax.field 0) ∷ (Syntax.deref RelayPending.ty) ∷ List.[])))
+b9 = Syntax.assign (Syntax.place 16 List.[]) (Syntax.addrOf (Syntax.place 1 ((Syntax.field 0) ∷
+    (Syntax.deref RelayPending.ty) ∷ List.[])))
+
 abbrev b10 : Syntax.Body
-b10 = Syntax.assign (Syntax.place 17 List.[]) (Syntax.aggregate ((Syntax.copy (Syntax.place 16 List.[])) ∷ (Syntax.copy (Syntax.place 1 ((Syntax.field
-    1) ∷ List.[]))) ∷ List.[]))
+b10 = Syntax.assign (Syntax.place 17 List.[]) (Syntax.aggregate ((Syntax.copy (Syntax.place 16 List.[])) ∷
+    (Syntax.copy (Syntax.place 1 ((Syntax.field 1) ∷ List.[]))) ∷ List.[]))
+
 abbrev b11 : Syntax.Body
-b11 = Syntax.assign (Syntax.place 18 List.[]) (Syntax.addrOf (Syntax.place 2 ((Syntax.field 0) ∷ (Syntax.deref RelayCircuit.ty) ∷ List.[])))
+b11 = Syntax.assign (Syntax.place 18 List.[]) (Syntax.addrOf (Syntax.place 2 ((Syntax.field 0) ∷
+    (Syntax.deref RelayCircuit.ty) ∷ List.[])))
+
 abbrev b12 : Syntax.Body
-b12 = Syntax.assign (Syntax.place 19 List.[]) (Syntax.aggregate ((Syntax.copy (Syntax.place 18 List.[])) ∷ (Syntax.copy (Syntax.place 2 ((Syntax.field
-    1) ∷ List.[]))) ∷ List.[]))
+b12 = Syntax.assign (Syntax.place 19 List.[]) (Syntax.aggregate ((Syntax.copy (Syntax.place 18 List.[])) ∷
+    (Syntax.copy (Syntax.place 2 ((Syntax.field 1) ∷ List.[]))) ∷ List.[]))
+
 abbrev b13 : Syntax.Body
-b13 = Syntax.assign (Syntax.place 20 List.[]) (Syntax.addrOf (Syntax.place 3 ((Syntax.field 0) ∷ (Syntax.deref ReservationUsage.ty) ∷ List.[])))
+b13 = Syntax.assign (Syntax.place 20 List.[]) (Syntax.addrOf (Syntax.place 3 ((Syntax.field 0) ∷
+    (Syntax.deref ReservationUsage.ty) ∷ List.[])))
+
 abbrev b14 : Syntax.Body
-b14 = Syntax.assign (Syntax.place 21 List.[]) (Syntax.aggregate ((Syntax.copy (Syntax.place 20 List.[])) ∷ (Syntax.copy (Syntax.place 3 ((Syntax.field
-    1) ∷ List.[]))) ∷ List.[]))
+b14 = Syntax.assign (Syntax.place 21 List.[]) (Syntax.aggregate ((Syntax.copy (Syntax.place 20 List.[])) ∷
+    (Syntax.copy (Syntax.place 3 ((Syntax.field 1) ∷ List.[]))) ∷ List.[]))
+
 abbrev b15 : Syntax.Body
-b15 = Syntax.assign (Syntax.place 22 List.[]) (Syntax.addrOf (Syntax.place 4 ((Syntax.field 0) ∷ (Syntax.deref InflightAction.ty) ∷ List.[])))
+b15 = Syntax.assign (Syntax.place 22 List.[]) (Syntax.addrOf (Syntax.place 4 ((Syntax.field 0) ∷
+    (Syntax.deref InflightAction.ty) ∷ List.[])))
+
 abbrev b16 : Syntax.Body
-b16 = Syntax.assign (Syntax.place 23 List.[]) (Syntax.aggregate ((Syntax.copy (Syntax.place 22 List.[])) ∷ (Syntax.copy (Syntax.place 4 ((Syntax.field
-    1) ∷ List.[]))) ∷ List.[]))
+b16 = Syntax.assign (Syntax.place 23 List.[]) (Syntax.aggregate ((Syntax.copy (Syntax.place 22 List.[])) ∷
+    (Syntax.copy (Syntax.place 4 ((Syntax.field 1) ∷ List.[]))) ∷ List.[]))
+
 abbrev b17 : Syntax.Body
-b17 = Syntax.assign (Syntax.place 24 List.[]) (Syntax.addrOf (Syntax.place 5 ((Syntax.field 0) ∷ (Syntax.deref (Syntax.tyInt Syntax.w32)) ∷ List.[])))
+b17 = Syntax.assign (Syntax.place 24 List.[]) (Syntax.addrOf (Syntax.place 5 ((Syntax.field 0) ∷
+    (Syntax.deref (Syntax.tyInt Syntax.w32)) ∷ List.[])))
+
 abbrev b18 : Syntax.Body
-b18 = Syntax.assign (Syntax.place 25 List.[]) (Syntax.aggregate ((Syntax.copy (Syntax.place 24 List.[])) ∷ (Syntax.copy (Syntax.place 5 ((Syntax.field
-    1) ∷ List.[]))) ∷ List.[]))
+b18 = Syntax.assign (Syntax.place 25 List.[]) (Syntax.aggregate ((Syntax.copy (Syntax.place 24 List.[])) ∷
+    (Syntax.copy (Syntax.place 5 ((Syntax.field 1) ∷ List.[]))) ∷ List.[]))
+
 abbrev b19 : Syntax.Body
-b19 = Syntax.call "cases::machine::open_and_accept" ((Syntax.copy (Syntax.place 17 List.[])) ∷ (Syntax.copy (Syntax.place 19 List.[])) ∷ (Syntax.copy
-    (Syntax.place 21 List.[])) ∷ (Syntax.copy (Syntax.place 23 List.[])) ∷ (Syntax.copy (Syntax.place 25 List.[])) ∷ (Syntax.copy (Syntax.place 7
-    List.[])) ∷ (Syntax.copy (Syntax.place 6 ((Syntax.field 1) ∷ List.[]))) ∷ List.[]) (Syntax.place 0 List.[])
+b19 = Syntax.call "cases::machine::open_and_accept" ((Syntax.copy (Syntax.place 17 List.[])) ∷
+    (Syntax.copy (Syntax.place 19 List.[])) ∷ (Syntax.copy (Syntax.place 21 List.[])) ∷
+    (Syntax.copy (Syntax.place 23 List.[])) ∷ (Syntax.copy (Syntax.place 25 List.[])) ∷
+    (Syntax.copy (Syntax.place 7 List.[])) ∷ (Syntax.copy (Syntax.place 6 ((Syntax.field 1) ∷ List.[]))) ∷ List.[])
+    (Syntax.place 0 List.[])
+
 abbrev b20 : Syntax.Body
 b20 = Syntax.return
+
 abbrev b21 : Syntax.Body
 b21 = Syntax.seq b19 b20
+
 abbrev b22 : Syntax.Body
 b22 = Syntax.seq b18 b21
+
 abbrev b23 : Syntax.Body
 b23 = Syntax.seq b17 b22
+
 abbrev b24 : Syntax.Body
 b24 = Syntax.seq b16 b23
+
 abbrev b25 : Syntax.Body
 b25 = Syntax.seq b15 b24
+
 abbrev b26 : Syntax.Body
 b26 = Syntax.seq b14 b25
+
 abbrev b27 : Syntax.Body
 b27 = Syntax.seq b13 b26
+
 abbrev b28 : Syntax.Body
 b28 = Syntax.seq b12 b27
+
 abbrev b29 : Syntax.Body
 b29 = Syntax.seq b11 b28
+
 abbrev b30 : Syntax.Body
 b30 = Syntax.seq b10 b29
+
 abbrev b31 : Syntax.Body
 b31 = Syntax.seq b9 b30
+
 abbrev b32 : Syntax.Body
 b32 = Syntax.seq b8 b31
+
 abbrev b33 : Syntax.Body
 b33 = Syntax.seq b7 b32
+
 abbrev b34 : Syntax.Body
 b34 = Syntax.seq b6 b33
+
 abbrev b35 : Syntax.Body
 b35 = Syntax.seq b5 b34
+
 abbrev b36 : Syntax.Body
 b36 = Syntax.seq b4 b35
+
 abbrev b37 : Syntax.Body
 b37 = Syntax.seq b3 b36
+
 abbrev b38 : Syntax.Body
 b38 = Syntax.seq b2 b37
+
 abbrev b39 : Syntax.Body
 b39 = Syntax.seq b1 b38
+
 abbrev b40 : Syntax.Body
 b40 = Syntax.seq b0 b39
+
 abbrev pub body : Syntax.Body
 body = b40
+
 abbrev pub Claims : Type 1
 Claims = Kinds.In 4 ps·0 × Kinds.Out 4 ps·0 r·0 × Kinds.In 5 ps·1 × Kinds.Out 5 ps·1 r·1
+
 abbrev e0 : Row.Entry
 e0 = (0, Rows.any-gone Laws'.mir)
+
 abbrev e1 : Row.Entry
 e1 = (1, Mut.mslice RelayPending.row ref9 0)
+
 abbrev e2 : Row.Entry
 e2 = (2, Mut.mslice RelayCircuit.row ref10 1)
+
 abbrev e3 : Row.Entry
 e3 = (3, Mut.mslice ReservationUsage.row ref11 2)
+
 abbrev e4 : Row.Entry
 e4 = (4, Mut.mslice InflightAction.row ref12 3)
+
 abbrev e5 : Row.Entry
 e5 = (5, Mut.mslice (Referent.rtF (Referent.fInt Syntax.w32)) ref13 4)
+
 abbrev e6 : Row.Entry
 e6 = (6, Rows.whole (Declared.row Script.the-type))
+
 abbrev e7 : Row.Entry
 e7 = (7, Rows.any-gone Laws'.mir)
+
 abbrev e8 : Row.Entry
 e8 = (8, Rows.any-gone ref0)
+
 abbrev e9 : Row.Entry
-e9 = (9, Rows.any-gone (Syntax.tyStruct (38 ∷ 91 ∷ 93 ∷ List.[]) (Syntax.tcons ref0 (Syntax.tcons (Syntax.tyInt Syntax.w64) Syntax.tnil))))
+e9 = (9, Rows.any-gone slice0)
+
 abbrev e10 : Row.Entry
 e10 = (10, Rows.any-gone ref1)
+
 abbrev e11 : Row.Entry
-e11 = (11, Rows.any-gone (Syntax.tyStruct (38 ∷ 91 ∷ 93 ∷ List.[]) (Syntax.tcons ref1 (Syntax.tcons (Syntax.tyInt Syntax.w64) Syntax.tnil))))
+e11 = (11, Rows.any-gone slice1)
+
 abbrev e12 : Row.Entry
 e12 = (12, Rows.any-gone ref2)
+
 abbrev e13 : Row.Entry
-e13 = (13, Rows.any-gone (Syntax.tyStruct (38 ∷ 91 ∷ 93 ∷ List.[]) (Syntax.tcons ref2 (Syntax.tcons (Syntax.tyInt Syntax.w64) Syntax.tnil))))
+e13 = (13, Rows.any-gone slice2)
+
 abbrev e14 : Row.Entry
 e14 = (14, Rows.any-gone ref3)
+
 abbrev e15 : Row.Entry
-e15 = (15, Rows.any-gone (Syntax.tyStruct (38 ∷ 91 ∷ 93 ∷ List.[]) (Syntax.tcons ref3 (Syntax.tcons (Syntax.tyInt Syntax.w64) Syntax.tnil))))
+e15 = (15, Rows.any-gone slice3)
+
 abbrev e16 : Row.Entry
 e16 = (16, Rows.any-gone ref4)
+
 abbrev e17 : Row.Entry
-e17 = (17, Rows.any-gone (Syntax.tyStruct (38 ∷ 91 ∷ 93 ∷ List.[]) (Syntax.tcons ref4 (Syntax.tcons (Syntax.tyInt Syntax.w64) Syntax.tnil))))
+e17 = (17, Rows.any-gone slice4)
+
 abbrev e18 : Row.Entry
 e18 = (18, Rows.any-gone ref5)
+
 abbrev e19 : Row.Entry
-e19 = (19, Rows.any-gone (Syntax.tyStruct (38 ∷ 91 ∷ 93 ∷ List.[]) (Syntax.tcons ref5 (Syntax.tcons (Syntax.tyInt Syntax.w64) Syntax.tnil))))
+e19 = (19, Rows.any-gone slice5)
+
 abbrev e20 : Row.Entry
 e20 = (20, Rows.any-gone ref6)
+
 abbrev e21 : Row.Entry
-e21 = (21, Rows.any-gone (Syntax.tyStruct (38 ∷ 91 ∷ 93 ∷ List.[]) (Syntax.tcons ref6 (Syntax.tcons (Syntax.tyInt Syntax.w64) Syntax.tnil))))
+e21 = (21, Rows.any-gone slice6)
+
 abbrev e22 : Row.Entry
 e22 = (22, Rows.any-gone ref7)
+
 abbrev e23 : Row.Entry
-e23 = (23, Rows.any-gone (Syntax.tyStruct (38 ∷ 91 ∷ 93 ∷ List.[]) (Syntax.tcons ref7 (Syntax.tcons (Syntax.tyInt Syntax.w64) Syntax.tnil))))
+e23 = (23, Rows.any-gone slice7)
+
 abbrev e24 : Row.Entry
 e24 = (24, Rows.any-gone ref8)
+
 abbrev e25 : Row.Entry
-e25 = (25, Rows.any-gone (Syntax.tyStruct (38 ∷ 91 ∷ 93 ∷ List.[]) (Syntax.tcons ref8 (Syntax.tcons (Syntax.tyInt Syntax.w64) Syntax.tnil))))
+e25 = (25, Rows.any-gone slice8)
+
 abbrev e0·1 : Row.Entry
 e0·1 = (0, Rows.whole (Declared.row Relayed.the-type))
+
 abbrev e6·1 : Row.Entry
 e6·1 = (6, Rows.any-gone Laws.mir)
+
 abbrev e1·1 : Row.Entry
 e1·1 = (1, Reshare.mslice-owedS RelayPending.row ref9 0 5 Row.off)
+
 abbrev e8·1 : Row.Entry
 e8·1 = (8, Relend.ssptr RelayPending.row ref0 5)
+
 abbrev e9·1 : Row.Entry
 e9·1 = (9, Rows.sslice RelayPending.row ref0 5)
+
 abbrev e2·1 : Row.Entry
 e2·1 = (2, Reshare.mslice-owedS RelayCircuit.row ref10 1 6 Row.off)
+
 abbrev e10·1 : Row.Entry
 e10·1 = (10, Relend.ssptr RelayCircuit.row ref1 6)
+
 abbrev e11·1 : Row.Entry
 e11·1 = (11, Rows.sslice RelayCircuit.row ref1 6)
+
 abbrev e3·1 : Row.Entry
 e3·1 = (3, Reshare.mslice-owedS ReservationUsage.row ref11 2 7 Row.off)
+
 abbrev e12·1 : Row.Entry
 e12·1 = (12, Relend.ssptr ReservationUsage.row ref2 7)
+
 abbrev e13·1 : Row.Entry
 e13·1 = (13, Rows.sslice ReservationUsage.row ref2 7)
+
 abbrev e4·1 : Row.Entry
 e4·1 = (4, Reshare.mslice-owedS InflightAction.row ref12 3 8 Row.off)
+
 abbrev e14·1 : Row.Entry
 e14·1 = (14, Relend.ssptr InflightAction.row ref3 8)
+
 abbrev e15·1 : Row.Entry
 e15·1 = (15, Rows.sslice InflightAction.row ref3 8)
+
 abbrev e7·1 : Row.Entry
 e7·1 = (7, Rows.whole (Declared.row Relayed.the-type))
+
 abbrev e1·2 : Row.Entry
 e1·2 = (1, Relend.mslice-owed RelayPending.row ref9 0 9 Row.off)
+
 abbrev e16·1 : Row.Entry
 e16·1 = (16, Relend.msptr RelayPending.row ref4 9)
+
 abbrev e17·1 : Row.Entry
 e17·1 = (17, Mut.mslice RelayPending.row ref4 9)
+
 abbrev e2·2 : Row.Entry
 e2·2 = (2, Relend.mslice-owed RelayCircuit.row ref10 1 10 Row.off)
+
 abbrev e18·1 : Row.Entry
 e18·1 = (18, Relend.msptr RelayCircuit.row ref5 10)
+
 abbrev e19·1 : Row.Entry
 e19·1 = (19, Mut.mslice RelayCircuit.row ref5 10)
+
 abbrev e3·2 : Row.Entry
 e3·2 = (3, Relend.mslice-owed ReservationUsage.row ref11 2 11 Row.off)
+
 abbrev e20·1 : Row.Entry
 e20·1 = (20, Relend.msptr ReservationUsage.row ref6 11)
+
 abbrev e21·1 : Row.Entry
 e21·1 = (21, Mut.mslice ReservationUsage.row ref6 11)
+
 abbrev e4·2 : Row.Entry
 e4·2 = (4, Relend.mslice-owed InflightAction.row ref12 3 12 Row.off)
+
 abbrev e22·1 : Row.Entry
 e22·1 = (22, Relend.msptr InflightAction.row ref7 12)
+
 abbrev e23·1 : Row.Entry
 e23·1 = (23, Mut.mslice InflightAction.row ref7 12)
+
 abbrev e5·1 : Row.Entry
 e5·1 = (5, Relend.mslice-owed (Referent.rtF (Referent.fInt Syntax.w32)) ref13 4 13 Row.off)
+
 abbrev e24·1 : Row.Entry
 e24·1 = (24, Relend.msptr (Referent.rtF (Referent.fInt Syntax.w32)) ref8 13)
+
 abbrev e25·1 : Row.Entry
 e25·1 = (25, Mut.mslice (Referent.rtF (Referent.fInt Syntax.w32)) ref8 13)
+
 abbrev e17·2 : Row.Entry
 e17·2 = (17, Mut.msleft RelayPending.row ref4)
+
 abbrev e19·2 : Row.Entry
 e19·2 = (19, Mut.msleft RelayCircuit.row ref5)
+
 abbrev e21·2 : Row.Entry
 e21·2 = (21, Mut.msleft ReservationUsage.row ref6)
+
 abbrev e23·2 : Row.Entry
 e23·2 = (23, Mut.msleft InflightAction.row ref7)
+
 abbrev e25·2 : Row.Entry
 e25·2 = (25, Mut.msleft (Referent.rtF (Referent.fInt Syntax.w32)) ref8)
+
 abbrev pub t0 : List.List Row.Entry
 t0 = e0 ∷ e1 ∷ e2 ∷ e3 ∷ e4 ∷ e5 ∷ e6 ∷ e7 ∷ e8 ∷ e9 ∷ e10 ∷ e11 ∷ e12 ∷ e13 ∷ e14 ∷ e15 ∷ List.[]
+
 abbrev pub t1 : List.List Row.Entry
 t1 = e16 ∷ e17 ∷ e18 ∷ e19 ∷ e20 ∷ e21 ∷ e22 ∷ e23 ∷ e24 ∷ e25 ∷ List.[]
+
 abbrev pub t2 : List.List Row.Entry
 t2 = e0·1 ∷ e1 ∷ e2 ∷ e3 ∷ e4 ∷ e5 ∷ e6·1 ∷ e7 ∷ e8 ∷ e9 ∷ e10 ∷ e11 ∷ e12 ∷ e13 ∷ e14 ∷ e15 ∷ List.[]
+
 abbrev pub t3 : List.List Row.Entry
 t3 = e0 ∷ e1·1 ∷ e2 ∷ e3 ∷ e4 ∷ e5 ∷ e6 ∷ e7 ∷ e8·1 ∷ e9 ∷ e10 ∷ e11 ∷ e12 ∷ e13 ∷ e14 ∷ e15 ∷ List.[]
+
 abbrev pub t4 : List.List Row.Entry
 t4 = e0 ∷ e1·1 ∷ e2 ∷ e3 ∷ e4 ∷ e5 ∷ e6 ∷ e7 ∷ e8 ∷ e9·1 ∷ e10 ∷ e11 ∷ e12 ∷ e13 ∷ e14 ∷ e15 ∷ List.[]
+
 abbrev pub t5 : List.List Row.Entry
 t5 = e0 ∷ e1·1 ∷ e2·1 ∷ e3 ∷ e4 ∷ e5 ∷ e6 ∷ e7 ∷ e8 ∷ e9·1 ∷ e10·1 ∷ e11 ∷ e12 ∷ e13 ∷ e14 ∷ e15 ∷ List.[]
+
 abbrev pub t6 : List.List Row.Entry
 t6 = e0 ∷ e1·1 ∷ e2·1 ∷ e3 ∷ e4 ∷ e5 ∷ e6 ∷ e7 ∷ e8 ∷ e9·1 ∷ e10 ∷ e11·1 ∷ e12 ∷ e13 ∷ e14 ∷ e15 ∷ List.[]
+
 abbrev pub t7 : List.List Row.Entry
 t7 = e0 ∷ e1·1 ∷ e2·1 ∷ e3·1 ∷ e4 ∷ e5 ∷ e6 ∷ e7 ∷ e8 ∷ e9·1 ∷ e10 ∷ e11·1 ∷ e12·1 ∷ e13 ∷ e14 ∷ e15 ∷ List.[]
+
 abbrev pub t8 : List.List Row.Entry
 t8 = e0 ∷ e1·1 ∷ e2·1 ∷ e3·1 ∷ e4 ∷ e5 ∷ e6 ∷ e7 ∷ e8 ∷ e9·1 ∷ e10 ∷ e11·1 ∷ e12 ∷ e13·1 ∷ e14 ∷ e15 ∷ List.[]
+
 abbrev pub t9 : List.List Row.Entry
 t9 = e0 ∷ e1·1 ∷ e2·1 ∷ e3·1 ∷ e4·1 ∷ e5 ∷ e6 ∷ e7 ∷ e8 ∷ e9·1 ∷ e10 ∷ e11·1 ∷ e12 ∷ e13·1 ∷ e14·1 ∷ e15 ∷ List.[]
+
 abbrev pub t10 : List.List Row.Entry
 t10 = e0 ∷ e1·1 ∷ e2·1 ∷ e3·1 ∷ e4·1 ∷ e5 ∷ e6 ∷ e7 ∷ e8 ∷ e9·1 ∷ e10 ∷ e11·1 ∷ e12 ∷ e13·1 ∷ e14 ∷ e15·1 ∷ List.[]
+
 abbrev pub t11 : List.List Row.Entry
 t11 = e0 ∷ e1·1 ∷ e2·1 ∷ e3·1 ∷ e4·1 ∷ e5 ∷ e6 ∷ e7·1 ∷ e8 ∷ e9·1 ∷ e10 ∷ e11·1 ∷ e12 ∷ e13·1 ∷ e14 ∷ e15·1 ∷ List.[]
+
 abbrev pub t12 : List.List Row.Entry
 t12 = e0 ∷ e1·1 ∷ e2·1 ∷ e3·1 ∷ e4·1 ∷ e5 ∷ e6 ∷ e7·1 ∷ e8 ∷ e9 ∷ e10 ∷ e11·1 ∷ e12 ∷ e13·1 ∷ e14 ∷ e15·1 ∷ List.[]
+
 abbrev pub t13 : List.List Row.Entry
 t13 = e0 ∷ e1·1 ∷ e2·1 ∷ e3·1 ∷ e4·1 ∷ e5 ∷ e6 ∷ e7·1 ∷ e8 ∷ e9 ∷ e10 ∷ e11 ∷ e12 ∷ e13·1 ∷ e14 ∷ e15·1 ∷ List.[]
+
 abbrev pub t14 : List.List Row.Entry
 t14 = e0 ∷ e1·1 ∷ e2·1 ∷ e3·1 ∷ e4·1 ∷ e5 ∷ e6 ∷ e7·1 ∷ e8 ∷ e9 ∷ e10 ∷ e11 ∷ e12 ∷ e13 ∷ e14 ∷ e15·1 ∷ List.[]
+
 abbrev pub t15 : List.List Row.Entry
 t15 = e0 ∷ e1·1 ∷ e2·1 ∷ e3·1 ∷ e4·1 ∷ e5 ∷ e6 ∷ e7·1 ∷ e8 ∷ e9 ∷ e10 ∷ e11 ∷ e12 ∷ e13 ∷ e14 ∷ e15 ∷ List.[]
+
 abbrev pub t16 : List.List Row.Entry
 t16 = e0 ∷ e1 ∷ e2·1 ∷ e3·1 ∷ e4·1 ∷ e5 ∷ e6 ∷ e7·1 ∷ e8 ∷ e9 ∷ e10 ∷ e11 ∷ e12 ∷ e13 ∷ e14 ∷ e15 ∷ List.[]
+
 abbrev pub t17 : List.List Row.Entry
 t17 = e0 ∷ e1 ∷ e2 ∷ e3·1 ∷ e4·1 ∷ e5 ∷ e6 ∷ e7·1 ∷ e8 ∷ e9 ∷ e10 ∷ e11 ∷ e12 ∷ e13 ∷ e14 ∷ e15 ∷ List.[]
+
 abbrev pub t18 : List.List Row.Entry
 t18 = e0 ∷ e1 ∷ e2 ∷ e3 ∷ e4·1 ∷ e5 ∷ e6 ∷ e7·1 ∷ e8 ∷ e9 ∷ e10 ∷ e11 ∷ e12 ∷ e13 ∷ e14 ∷ e15 ∷ List.[]
+
 abbrev pub t19 : List.List Row.Entry
 t19 = e0 ∷ e1 ∷ e2 ∷ e3 ∷ e4 ∷ e5 ∷ e6 ∷ e7·1 ∷ e8 ∷ e9 ∷ e10 ∷ e11 ∷ e12 ∷ e13 ∷ e14 ∷ e15 ∷ List.[]
+
 abbrev pub t20 : List.List Row.Entry
 t20 = e0 ∷ e1·2 ∷ e2 ∷ e3 ∷ e4 ∷ e5 ∷ e6 ∷ e7·1 ∷ e8 ∷ e9 ∷ e10 ∷ e11 ∷ e12 ∷ e13 ∷ e14 ∷ e15 ∷ List.[]
+
 abbrev pub t21 : List.List Row.Entry
 t21 = e16·1 ∷ e17 ∷ e18 ∷ e19 ∷ e20 ∷ e21 ∷ e22 ∷ e23 ∷ e24 ∷ e25 ∷ List.[]
+
 abbrev pub t22 : List.List Row.Entry
 t22 = e16 ∷ e17·1 ∷ e18 ∷ e19 ∷ e20 ∷ e21 ∷ e22 ∷ e23 ∷ e24 ∷ e25 ∷ List.[]
+
 abbrev pub t23 : List.List Row.Entry
 t23 = e0 ∷ e1·2 ∷ e2·2 ∷ e3 ∷ e4 ∷ e5 ∷ e6 ∷ e7·1 ∷ e8 ∷ e9 ∷ e10 ∷ e11 ∷ e12 ∷ e13 ∷ e14 ∷ e15 ∷ List.[]
+
 abbrev pub t24 : List.List Row.Entry
 t24 = e16 ∷ e17·1 ∷ e18·1 ∷ e19 ∷ e20 ∷ e21 ∷ e22 ∷ e23 ∷ e24 ∷ e25 ∷ List.[]
+
 abbrev pub t25 : List.List Row.Entry
 t25 = e16 ∷ e17·1 ∷ e18 ∷ e19·1 ∷ e20 ∷ e21 ∷ e22 ∷ e23 ∷ e24 ∷ e25 ∷ List.[]
+
 abbrev pub t26 : List.List Row.Entry
 t26 = e0 ∷ e1·2 ∷ e2·2 ∷ e3·2 ∷ e4 ∷ e5 ∷ e6 ∷ e7·1 ∷ e8 ∷ e9 ∷ e10 ∷ e11 ∷ e12 ∷ e13 ∷ e14 ∷ e15 ∷ List.[]
+
 abbrev pub t27 : List.List Row.Entry
 t27 = e16 ∷ e17·1 ∷ e18 ∷ e19·1 ∷ e20·1 ∷ e21 ∷ e22 ∷ e23 ∷ e24 ∷ e25 ∷ List.[]
+
 abbrev pub t28 : List.List Row.Entry
 t28 = e16 ∷ e17·1 ∷ e18 ∷ e19·1 ∷ e20 ∷ e21·1 ∷ e22 ∷ e23 ∷ e24 ∷ e25 ∷ List.[]
+
 abbrev pub t29 : List.List Row.Entry
 t29 = e0 ∷ e1·2 ∷ e2·2 ∷ e3·2 ∷ e4·2 ∷ e5 ∷ e6 ∷ e7·1 ∷ e8 ∷ e9 ∷ e10 ∷ e11 ∷ e12 ∷ e13 ∷ e14 ∷ e15 ∷ List.[]
+
 abbrev pub t30 : List.List Row.Entry
 t30 = e16 ∷ e17·1 ∷ e18 ∷ e19·1 ∷ e20 ∷ e21·1 ∷ e22·1 ∷ e23 ∷ e24 ∷ e25 ∷ List.[]
+
 abbrev pub t31 : List.List Row.Entry
 t31 = e16 ∷ e17·1 ∷ e18 ∷ e19·1 ∷ e20 ∷ e21·1 ∷ e22 ∷ e23·1 ∷ e24 ∷ e25 ∷ List.[]
+
 abbrev pub t32 : List.List Row.Entry
 t32 = e0 ∷ e1·2 ∷ e2·2 ∷ e3·2 ∷ e4·2 ∷ e5·1 ∷ e6 ∷ e7·1 ∷ e8 ∷ e9 ∷ e10 ∷ e11 ∷ e12 ∷ e13 ∷ e14 ∷ e15 ∷ List.[]
+
 abbrev pub t33 : List.List Row.Entry
 t33 = e16 ∷ e17·1 ∷ e18 ∷ e19·1 ∷ e20 ∷ e21·1 ∷ e22 ∷ e23·1 ∷ e24·1 ∷ e25 ∷ List.[]
+
 abbrev pub t34 : List.List Row.Entry
 t34 = e16 ∷ e17·1 ∷ e18 ∷ e19·1 ∷ e20 ∷ e21·1 ∷ e22 ∷ e23·1 ∷ e24 ∷ e25·1 ∷ List.[]
+
 abbrev pub t35 : List.List Row.Entry
 t35 = e0·1 ∷ e1·2 ∷ e2·2 ∷ e3·2 ∷ e4·2 ∷ e5·1 ∷ e6 ∷ e7·1 ∷ e8 ∷ e9 ∷ e10 ∷ e11 ∷ e12 ∷ e13 ∷ e14 ∷ e15 ∷ List.[]
+
 abbrev pub t36 : List.List Row.Entry
 t36 = e16 ∷ e17·2 ∷ e18 ∷ e19·2 ∷ e20 ∷ e21·2 ∷ e22 ∷ e23·2 ∷ e24 ∷ e25·2 ∷ List.[]
+
 abbrev pub t37 : List.List Row.Entry
 t37 = e0·1 ∷ e1·2 ∷ e2·2 ∷ e3·2 ∷ e4·2 ∷ e5·1 ∷ e6·1 ∷ e7·1 ∷ e8 ∷ e9 ∷ e10 ∷ e11 ∷ e12 ∷ e13 ∷ e14 ∷ e15 ∷ List.[]
+
 abbrev pub t38 : List.List Row.Entry
 t38 = e0·1 ∷ e1·2 ∷ e2·2 ∷ e3·2 ∷ e4·2 ∷ e5·1 ∷ e6·1 ∷ e7 ∷ e8 ∷ e9 ∷ e10 ∷ e11 ∷ e12 ∷ e13 ∷ e14 ∷ e15 ∷ List.[]
+
 abbrev pub t39 : List.List Row.Entry
 t39 = e0·1 ∷ e1 ∷ e2·2 ∷ e3·2 ∷ e4·2 ∷ e5·1 ∷ e6·1 ∷ e7 ∷ e8 ∷ e9 ∷ e10 ∷ e11 ∷ e12 ∷ e13 ∷ e14 ∷ e15 ∷ List.[]
+
 abbrev pub t40 : List.List Row.Entry
 t40 = e16 ∷ e17 ∷ e18 ∷ e19·2 ∷ e20 ∷ e21·2 ∷ e22 ∷ e23·2 ∷ e24 ∷ e25·2 ∷ List.[]
+
 abbrev pub t41 : List.List Row.Entry
 t41 = e0·1 ∷ e1 ∷ e2 ∷ e3·2 ∷ e4·2 ∷ e5·1 ∷ e6·1 ∷ e7 ∷ e8 ∷ e9 ∷ e10 ∷ e11 ∷ e12 ∷ e13 ∷ e14 ∷ e15 ∷ List.[]
+
 abbrev pub t42 : List.List Row.Entry
 t42 = e16 ∷ e17 ∷ e18 ∷ e19 ∷ e20 ∷ e21·2 ∷ e22 ∷ e23·2 ∷ e24 ∷ e25·2 ∷ List.[]
+
 abbrev pub t43 : List.List Row.Entry
 t43 = e0·1 ∷ e1 ∷ e2 ∷ e3 ∷ e4·2 ∷ e5·1 ∷ e6·1 ∷ e7 ∷ e8 ∷ e9 ∷ e10 ∷ e11 ∷ e12 ∷ e13 ∷ e14 ∷ e15 ∷ List.[]
+
 abbrev pub t44 : List.List Row.Entry
 t44 = e16 ∷ e17 ∷ e18 ∷ e19 ∷ e20 ∷ e21 ∷ e22 ∷ e23·2 ∷ e24 ∷ e25·2 ∷ List.[]
+
 abbrev pub t45 : List.List Row.Entry
 t45 = e0·1 ∷ e1 ∷ e2 ∷ e3 ∷ e4 ∷ e5·1 ∷ e6·1 ∷ e7 ∷ e8 ∷ e9 ∷ e10 ∷ e11 ∷ e12 ∷ e13 ∷ e14 ∷ e15 ∷ List.[]
+
 abbrev pub t46 : List.List Row.Entry
 t46 = e16 ∷ e17 ∷ e18 ∷ e19 ∷ e20 ∷ e21 ∷ e22 ∷ e23 ∷ e24 ∷ e25·2 ∷ List.[]
+
 abbrev pub T0 : Row.Cx
 T0 = record { locals = List._++_ t0 t1; slots = List.[] }
+
 abbrev pub T1 : Row.Cx
 T1 = record { locals = List._++_ t2 t1; slots = List.[] }
+
 abbrev pub T2 : Row.Cx
 T2 = record { locals = List._++_ t0 t1; slots = List.[] }
+
 abbrev pub T4 : Row.Cx
 T4 = record { locals = List._++_ t3 t1; slots = List.[] }
+
 abbrev pub T5 : Row.Cx
 T5 = record { locals = List._++_ t4 t1; slots = List.[] }
+
 abbrev pub T7 : Row.Cx
 T7 = record { locals = List._++_ t5 t1; slots = List.[] }
+
 abbrev pub T8 : Row.Cx
 T8 = record { locals = List._++_ t6 t1; slots = List.[] }
+
 abbrev pub T10 : Row.Cx
 T10 = record { locals = List._++_ t7 t1; slots = List.[] }
+
 abbrev pub T11 : Row.Cx
 T11 = record { locals = List._++_ t8 t1; slots = List.[] }
+
 abbrev pub T13 : Row.Cx
 T13 = record { locals = List._++_ t9 t1; slots = List.[] }
+
 abbrev pub T14 : Row.Cx
 T14 = record { locals = List._++_ t10 t1; slots = List.[] }
+
 abbrev pub T15 : Row.Cx
 T15 = record { locals = List._++_ t11 t1; slots = List.[] }
+
 abbrev pub T16 : Row.Cx
 T16 = record { locals = List._++_ t12 t1; slots = List.[] }
+
 abbrev pub T17 : Row.Cx
 T17 = record { locals = List._++_ t13 t1; slots = List.[] }
+
 abbrev pub T18 : Row.Cx
 T18 = record { locals = List._++_ t14 t1; slots = List.[] }
+
 abbrev pub T19 : Row.Cx
 T19 = record { locals = List._++_ t15 t1; slots = List.[] }
+
 abbrev pub T21 : Row.Cx
 T21 = record { locals = List._++_ t16 t1; slots = List.[] }
+
 abbrev pub T24 : Row.Cx
 T24 = record { locals = List._++_ t17 t1; slots = List.[] }
+
 abbrev pub T27 : Row.Cx
 T27 = record { locals = List._++_ t18 t1; slots = List.[] }
+
 abbrev pub T30 : Row.Cx
 T30 = record { locals = List._++_ t19 t1; slots = List.[] }
+
 abbrev pub T33 : Row.Cx
 T33 = record { locals = List._++_ t20 t21; slots = List.[] }
+
 abbrev pub T34 : Row.Cx
 T34 = record { locals = List._++_ t20 t22; slots = List.[] }
+
 abbrev pub T36 : Row.Cx
 T36 = record { locals = List._++_ t23 t24; slots = List.[] }
+
 abbrev pub T37 : Row.Cx
 T37 = record { locals = List._++_ t23 t25; slots = List.[] }
+
 abbrev pub T39 : Row.Cx
 T39 = record { locals = List._++_ t26 t27; slots = List.[] }
+
 abbrev pub T40 : Row.Cx
 T40 = record { locals = List._++_ t26 t28; slots = List.[] }
+
 abbrev pub T42 : Row.Cx
 T42 = record { locals = List._++_ t29 t30; slots = List.[] }
+
 abbrev pub T43 : Row.Cx
 T43 = record { locals = List._++_ t29 t31; slots = List.[] }
+
 abbrev pub T45 : Row.Cx
 T45 = record { locals = List._++_ t32 t33; slots = List.[] }
+
 abbrev pub T46 : Row.Cx
 T46 = record { locals = List._++_ t32 t34; slots = List.[] }
+
 abbrev pub T47 : Row.Cx
 T47 = record { locals = List._++_ t35 t36; slots = List.[] }
+
 abbrev pub T48 : Row.Cx
 T48 = record { locals = List._++_ t37 t36; slots = List.[] }
+
 abbrev pub T49 : Row.Cx
 T49 = record { locals = List._++_ t38 t36; slots = List.[] }
+
 abbrev pub T51 : Row.Cx
 T51 = record { locals = List._++_ t39 t40; slots = List.[] }
+
 abbrev pub T54 : Row.Cx
 T54 = record { locals = List._++_ t41 t42; slots = List.[] }
+
 abbrev pub T57 : Row.Cx
 T57 = record { locals = List._++_ t43 t44; slots = List.[] }
+
 abbrev pub T60 : Row.Cx
 T60 = record { locals = List._++_ t45 t46; slots = List.[] }
+
 abbrev pub T63 : Row.Cx
 T63 = record { locals = List._++_ t2 t1; slots = List.[] }
+
 abbrev pub T64 : Row.Cx
 T64 = record { locals = List._++_ t2 t1; slots = List.[] }
+
 abbrev pub O0 : Typed.Outs
 O0 = record { next = Option.none; exits = List.[]; returns = Option.some T1 }
+
 module _ (claims· : Claims) where
   abbrev s0 : Typed.Gives T0 T2
   s0 = Know.k-sl-known (Referent.fInt Syntax.w32) T0 5 4 ref13 Row.off 0 λ x. x
+
   abbrev s2 : Typed.Gives T2 T4
   s2 = Reshare.k-sl-reshare RelayPending.row T2 1 8 0 5 ref9 ref0 Row.off λ x. x
+
   abbrev s3 : Typed.Asks T4 T5
-  s3 = Relend.k-sl-aggregate RelayPending.row (Relend.asShr RelayPending.row) T4 8 9 5 ref0 ref0 (λ x. x) (Scalar.oFld 1 ((Syntax.field 1) ∷ List.[])
-      (Syntax.tyInt Syntax.w64) 8 λ v. Shared.lenV (v .0))
+  s3 = Relend.k-sl-aggregate RelayPending.row (Relend.asShr RelayPending.row) T4 8 9 5 ref0 ref0 (λ x. x) (Scalar.oFld
+      1 ((Syntax.field 1) ∷ List.[]) (Syntax.tyInt Syntax.w64) 8 λ v. Shared.lenV (v .0))
+
   abbrev s5 : Typed.Gives T5 T7
   s5 = Reshare.k-sl-reshare RelayCircuit.row T5 2 10 1 6 ref10 ref1 Row.off λ x. x
+
   abbrev s6 : Typed.Asks T7 T8
-  s6 = Relend.k-sl-aggregate RelayCircuit.row (Relend.asShr RelayCircuit.row) T7 10 11 6 ref1 ref1 (λ x. x) (Scalar.oFld 2 ((Syntax.field 1) ∷
-      List.[]) (Syntax.tyInt Syntax.w64) 8 λ v. Shared.lenV (v .0))
+  s6 = Relend.k-sl-aggregate RelayCircuit.row (Relend.asShr RelayCircuit.row) T7 10 11 6 ref1 ref1 (λ x. x) (Scalar.oFld
+      2 ((Syntax.field 1) ∷ List.[]) (Syntax.tyInt Syntax.w64) 8 λ v. Shared.lenV (v .0))
+
   abbrev s8 : Typed.Gives T8 T10
   s8 = Reshare.k-sl-reshare ReservationUsage.row T8 3 12 2 7 ref11 ref2 Row.off λ x. x
+
   abbrev s9 : Typed.Asks T10 T11
-  s9 = Relend.k-sl-aggregate ReservationUsage.row (Relend.asShr ReservationUsage.row) T10 12 13 7 ref2 ref2 (λ x. x) (Scalar.oFld 3 ((Syntax.field 1)
-      ∷ List.[]) (Syntax.tyInt Syntax.w64) 8 λ v. Shared.lenV (v .0))
+  s9 = Relend.k-sl-aggregate ReservationUsage.row (Relend.asShr ReservationUsage.row) T10 12 13 7 ref2 ref2 (λ x. x) (Scalar.oFld
+      3 ((Syntax.field 1) ∷ List.[]) (Syntax.tyInt Syntax.w64) 8 λ v. Shared.lenV (v .0))
+
   abbrev s11 : Typed.Gives T11 T13
   s11 = Reshare.k-sl-reshare InflightAction.row T11 4 14 3 8 ref12 ref3 Row.off λ x. x
+
   abbrev s12 : Typed.Asks T13 T14
-  s12 = Relend.k-sl-aggregate InflightAction.row (Relend.asShr InflightAction.row) T13 14 15 8 ref3 ref3 (λ x. x) (Scalar.oFld 4 ((Syntax.field 1) ∷
-      List.[]) (Syntax.tyInt Syntax.w64) 8 λ v. Shared.lenV (v .0))
+  s12 = Relend.k-sl-aggregate InflightAction.row (Relend.asShr InflightAction.row) T13 14 15 8 ref3 ref3 (λ x. x) (Scalar.oFld
+      4 ((Syntax.field 1) ∷ List.[]) (Syntax.tyInt Syntax.w64) 8 λ v. Shared.lenV (v .0))
+
+  abbrev args13 : Args'.ArgsT ps·0 (T14 .locals)
+  args13 = (
+    record { pos = 9; ty = ref0; ref = λ x. x },
+    (
+      record { pos = 11; ty = ref1; ref = λ x. x },
+      (
+        record { pos = 13; ty = ref2; ref = λ x. x },
+        (
+          record { pos = 15; ty = ref3; ref = λ x. x },
+          (Num.vFld 6 ((Syntax.field 0) ∷ List.[]) 0 λ x. Script.struct .as-values x .0, tt),
+        ),
+      ),
+    ),
+  )
+
   abbrev s13 : Typed.Both T14 T15
-  s13 = Call.callB ps·0 r·0 (claims· .0) (claims· .1) T14 (record { pos = 9; ty = Syntax.tyRef Syntax.erased Syntax.imm RelayPending.to; ref = λ x. x;
-      }, (record { pos = 11; ty = Syntax.tyRef Syntax.erased Syntax.imm RelayCircuit.to; ref = λ x. x; }, (record { pos = 13; ty = Syntax.tyRef
-      Syntax.erased Syntax.imm ReservationUsage.to; ref = λ x. x; }, (record { pos = 15; ty = Syntax.tyRef Syntax.erased Syntax.imm InflightAction.to;
-      ref = λ x. x; }, (Num.vFld 6 ((Syntax.field 0) ∷ List.[]) 0 λ x. Script.struct .as-values x .0, tt,),),),),) 7 (5 ∷ 6 ∷ 7 ∷ 8 ∷ List.[])
-      Laws'.mir
+  s13 = Call.callB ps·0 r·0 (claims· .0) (claims· .1) T14 args13 7 (5 ∷ 6 ∷ 7 ∷ 8 ∷ List.[]) Laws'.mir
+
   abbrev s14 : Typed.Mo T15 → Typed.Mo T16
-  s14 = Scalar.n-room T15 9 (Syntax.tyStruct (38 ∷ 91 ∷ 93 ∷ List.[]) (Syntax.tcons ref0 (Syntax.tcons (Syntax.tyInt Syntax.w64) Syntax.tnil)))
+  s14 = Scalar.n-room T15 9 slice0
+
   abbrev s15 : Typed.Mo T16 → Typed.Mo T17
-  s15 = Scalar.n-room T16 11 (Syntax.tyStruct (38 ∷ 91 ∷ 93 ∷ List.[]) (Syntax.tcons ref1 (Syntax.tcons (Syntax.tyInt Syntax.w64) Syntax.tnil)))
+  s15 = Scalar.n-room T16 11 slice1
+
   abbrev s16 : Typed.Mo T17 → Typed.Mo T18
-  s16 = Scalar.n-room T17 13 (Syntax.tyStruct (38 ∷ 91 ∷ 93 ∷ List.[]) (Syntax.tcons ref2 (Syntax.tcons (Syntax.tyInt Syntax.w64) Syntax.tnil)))
+  s16 = Scalar.n-room T17 13 slice2
+
   abbrev s17 : Typed.Mo T18 → Typed.Mo T19
-  s17 = Scalar.n-room T18 15 (Syntax.tyStruct (38 ∷ 91 ∷ 93 ∷ List.[]) (Syntax.tcons ref3 (Syntax.tcons (Syntax.tyInt Syntax.w64) Syntax.tnil)))
+  s17 = Scalar.n-room T18 15 slice3
+
   abbrev s19 : Typed.Mo T19 → Typed.Mo T21
   s19 = Reshare.n-back-sl-shr RelayPending.row T19 1 0 5 ref9 Row.off λ x. x
+
   abbrev s22 : Typed.Mo T21 → Typed.Mo T24
   s22 = Reshare.n-back-sl-shr RelayCircuit.row T21 2 1 6 ref10 Row.off λ x. x
+
   abbrev s25 : Typed.Mo T24 → Typed.Mo T27
   s25 = Reshare.n-back-sl-shr ReservationUsage.row T24 3 2 7 ref11 Row.off λ x. x
+
   abbrev s28 : Typed.Mo T27 → Typed.Mo T30
   s28 = Reshare.n-back-sl-shr InflightAction.row T27 4 3 8 ref12 Row.off λ x. x
+
   abbrev s31 : Typed.Gives T30 T33
   s31 = Relend.k-sl-relend RelayPending.row T30 1 16 0 9 ref9 ref4 Row.off λ x. x
+
   abbrev s32 : Typed.Asks T33 T34
-  s32 = Relend.k-sl-aggregate RelayPending.row (Relend.asMut RelayPending.row) T33 16 17 9 ref4 ref4 (λ x. x) (Scalar.oFld 1 ((Syntax.field 1) ∷
-      List.[]) (Syntax.tyInt Syntax.w64) 8 λ v. Shared.lenV (v .0))
+  s32 = Relend.k-sl-aggregate RelayPending.row (Relend.asMut RelayPending.row) T33 16 17 9 ref4 ref4 (λ x. x) (Scalar.oFld
+      1 ((Syntax.field 1) ∷ List.[]) (Syntax.tyInt Syntax.w64) 8 λ v. Shared.lenV (v .0))
+
   abbrev s34 : Typed.Gives T34 T36
   s34 = Relend.k-sl-relend RelayCircuit.row T34 2 18 1 10 ref10 ref5 Row.off λ x. x
+
   abbrev s35 : Typed.Asks T36 T37
-  s35 = Relend.k-sl-aggregate RelayCircuit.row (Relend.asMut RelayCircuit.row) T36 18 19 10 ref5 ref5 (λ x. x) (Scalar.oFld 2 ((Syntax.field 1) ∷
-      List.[]) (Syntax.tyInt Syntax.w64) 8 λ v. Shared.lenV (v .0))
+  s35 = Relend.k-sl-aggregate RelayCircuit.row (Relend.asMut RelayCircuit.row) T36 18 19 10 ref5 ref5 (λ x. x) (Scalar.oFld
+      2 ((Syntax.field 1) ∷ List.[]) (Syntax.tyInt Syntax.w64) 8 λ v. Shared.lenV (v .0))
+
   abbrev s37 : Typed.Gives T37 T39
   s37 = Relend.k-sl-relend ReservationUsage.row T37 3 20 2 11 ref11 ref6 Row.off λ x. x
+
   abbrev s38 : Typed.Asks T39 T40
-  s38 = Relend.k-sl-aggregate ReservationUsage.row (Relend.asMut ReservationUsage.row) T39 20 21 11 ref6 ref6 (λ x. x) (Scalar.oFld 3 ((Syntax.field
-      1) ∷ List.[]) (Syntax.tyInt Syntax.w64) 8 λ v. Shared.lenV (v .0))
+  s38 = Relend.k-sl-aggregate ReservationUsage.row (Relend.asMut ReservationUsage.row) T39 20 21 11 ref6 ref6 (λ x. x) (Scalar.oFld
+      3 ((Syntax.field 1) ∷ List.[]) (Syntax.tyInt Syntax.w64) 8 λ v. Shared.lenV (v .0))
+
   abbrev s40 : Typed.Gives T40 T42
   s40 = Relend.k-sl-relend InflightAction.row T40 4 22 3 12 ref12 ref7 Row.off λ x. x
+
   abbrev s41 : Typed.Asks T42 T43
-  s41 = Relend.k-sl-aggregate InflightAction.row (Relend.asMut InflightAction.row) T42 22 23 12 ref7 ref7 (λ x. x) (Scalar.oFld 4 ((Syntax.field 1) ∷
-      List.[]) (Syntax.tyInt Syntax.w64) 8 λ v. Shared.lenV (v .0))
+  s41 = Relend.k-sl-aggregate InflightAction.row (Relend.asMut InflightAction.row) T42 22 23 12 ref7 ref7 (λ x. x) (Scalar.oFld
+      4 ((Syntax.field 1) ∷ List.[]) (Syntax.tyInt Syntax.w64) 8 λ v. Shared.lenV (v .0))
+
   abbrev s43 : Typed.Gives T43 T45
   s43 = Relend.k-sl-relend (Referent.rtF (Referent.fInt Syntax.w32)) T43 5 24 4 13 ref13 ref8 Row.off λ x. x
+
   abbrev s44 : Typed.Asks T45 T46
-  s44 = Relend.k-sl-aggregate (Referent.rtF (Referent.fInt Syntax.w32)) (Relend.asMut (Referent.rtF (Referent.fInt Syntax.w32))) T45 24 25 13 ref8
-      ref8 (λ x. x) (Scalar.oFld 5 ((Syntax.field 1) ∷ List.[]) (Syntax.tyInt Syntax.w64) 8 λ v. Shared.lenV (v .0))
+  s44 = Relend.k-sl-aggregate (Referent.rtF (Referent.fInt Syntax.w32))
+      (Relend.asMut (Referent.rtF (Referent.fInt Syntax.w32))) T45 24 25 13 ref8 ref8 (λ x. x) (Scalar.oFld 5
+      ((Syntax.field 1) ∷ List.[]) (Syntax.tyInt Syntax.w64) 8 λ v. Shared.lenV (v .0))
+
+  abbrev args45 : Args'.ArgsT ps·1 (T46 .locals)
+  args45 = (
+    record { pos = 17; ty = ref4; ref = λ x. x },
+    (
+      record { pos = 19; ty = ref5; ref = λ x. x },
+      (
+        record { pos = 21; ty = ref6; ref = λ x. x },
+        (
+          record { pos = 23; ty = ref7; ref = λ x. x },
+          (
+            record { pos = 25; ty = ref8; ref = λ x. x },
+            (
+              record { pos = 7; st = List.[]; d = 0; at = λ x. x },
+              (Num.vFld 6 ((Syntax.field 1) ∷ List.[]) 8 λ x. Script.struct .as-values x .1 .0, tt),
+            ),
+          ),
+        ),
+      ),
+    ),
+  )
+
   abbrev s45 : Typed.Both T46 T47
-  s45 = Call.callB ps·1 r·1 (claims· .2) (claims· .3) T46 (record { pos = 17; ty = Syntax.tyRef Syntax.erased Syntax.mut RelayPending.to; ref = λ x.
-      x; }, (record { pos = 19; ty = Syntax.tyRef Syntax.erased Syntax.mut RelayCircuit.to; ref = λ x. x; }, (record { pos = 21; ty = Syntax.tyRef
-      Syntax.erased Syntax.mut ReservationUsage.to; ref = λ x. x; }, (record { pos = 23; ty = Syntax.tyRef Syntax.erased Syntax.mut InflightAction.to;
-      ref = λ x. x; }, (record { pos = 25; ty = Syntax.tyRef Syntax.erased Syntax.mut (Syntax.tyInt Syntax.w32); ref = λ x. x; }, (record { pos = 7;
-      st = List.[]; d = 0; at = λ x. x }, (Num.vFld 6 ((Syntax.field 1) ∷ List.[]) 8 λ x. Script.struct .as-values x .1 .0, tt,),),),),),),) 0 (9 ∷ 10
-      ∷ 11 ∷ 12 ∷ 13 ∷ List.[]) Laws'.mir
+  s45 = Call.callB ps·1 r·1 (claims· .2) (claims· .3) T46 args45 0 (9 ∷ 10 ∷ 11 ∷ 12 ∷ 13 ∷ List.[]) Laws'.mir
+
   abbrev s46 : Typed.Mo T47 → Typed.Mo T48
   s46 = Scalar.n-room T47 6 Laws.mir
+
   abbrev s47 : Typed.Mo T48 → Typed.Mo T49
   s47 = Scalar.n-room T48 7 Laws'.mir
+
   abbrev s49 : Typed.Both T49 T51
   s49 = Relend.k-back-sl RelayPending.row T49 17 1 0 9 ref9 ref4 Row.off (λ x. x) λ x. x
+
   abbrev s52 : Typed.Both T51 T54
   s52 = Relend.k-back-sl RelayCircuit.row T51 19 2 1 10 ref10 ref5 Row.off (λ x. x) λ x. x
+
   abbrev s55 : Typed.Both T54 T57
   s55 = Relend.k-back-sl ReservationUsage.row T54 21 3 2 11 ref11 ref6 Row.off (λ x. x) λ x. x
+
   abbrev s58 : Typed.Both T57 T60
   s58 = Relend.k-back-sl InflightAction.row T57 23 4 3 12 ref12 ref7 Row.off (λ x. x) λ x. x
+
   abbrev s61 : Typed.Both T60 T63
   s61 = Relend.k-back-sl (Referent.rtF (Referent.fInt Syntax.w32)) T60 25 5 4 13 ref13 ref8 Row.off (λ x. x) λ x. x
+
   abbrev s62 : Typed.Gives T63 T64
   s62 = Know.k-sl-known (Referent.fInt Syntax.w32) T63 5 4 ref13 Row.off 0 λ x. x
-  module _ (Pre· : (κs : Lifetimes.Lfts 5) → Kinds.Dens κs ps → Type 0) (Post· : (κs : Lifetimes.Lfts 5) → (a : Kinds.Dens κs ps) → Kinds.Plain 5 ps r
-      κs) where
+
+  module _ (Pre· : (κs : Lifetimes.Lfts 5) → Kinds.Dens κs ps → Type 0) (Post· : (κs : Lifetimes.Lfts 5) →
+      (a : Kinds.Dens κs ps) → Kinds.Plain 5 ps r κs) where
     module _ (M : Type 1) where
       abbrev pub Closed : Type 2
-      Closed = (𝓤 : URA.URA M) (H : Wp.Heap 𝓤) (A : Atoms.Atoms 𝓤) (W : Kit.Given 𝓤 H A) (𝓣 : Wp.Tables 𝓤 H) (known0 : Plain.Known 𝓤 H A W 𝓣 4 ps·0
-          r·0 (claims· .0) (claims· .1) "cases::machine::begin") (known1 : Plain.Known 𝓤 H A W 𝓣 5 ps·1 r·1 (claims· .2) (claims· .3)
-          "cases::machine::open_and_accept") → Statement.Triple 𝓤 (Wp.WpFn 𝓤 H (𝓣 .C) (𝓣 .Λ) (Function.fnOf 5 ps r xs m hs body)) (Function.plainOf 𝓤
-          H A 5 ps r Pre· Post·)
+      Closed = (𝓤 : URA.URA M) (H : Wp.Heap 𝓤) (A : Atoms.Atoms 𝓤) (W : Kit.Given 𝓤 H A) (𝓣 : Wp.Tables 𝓤 H) (known0 :
+          Plain.Known 𝓤 H A W 𝓣 4 ps·0 r·0 (claims· .0) (claims· .1) "cases::machine::begin") (known1 : Plain.Known 𝓤 H
+          A W 𝓣 5 ps·1 r·1 (claims· .2) (claims· .3) "cases::machine::open_and_accept") → Statement.Triple 𝓤 (Wp.WpFn 𝓤
+          H (𝓣 .C) (𝓣 .Λ) (Function.fnOf 5 ps r xs m hs body)) (Function.plainOf 𝓤 H A 5 ps r Pre· Post·)
+
     module _ where
       abbrev at0 : Typed.TF T64 O0
       at0 = Typed.atRet O0
+
       abbrev at1 : Typed.TF T64 O0
       at1 = λ Ψ. at0 Ψ
+
       abbrev at2 : Typed.TF T63 O0
       at2 = λ Ψ. Typed.give s62 (at1 Ψ)
+
       abbrev at3 : Typed.TF T60 O0
       at3 = λ Ψ. Typed.both s61 (at2 Ψ)
+
       abbrev at4 : Typed.TF T60 O0
       at4 = λ Ψ. at3 Ψ
+
       abbrev at5 : Typed.TF T60 O0
       at5 = λ Ψ. at4 Ψ
+
       abbrev at6 : Typed.TF T57 O0
       at6 = λ Ψ. Typed.both s58 (at5 Ψ)
+
       abbrev at7 : Typed.TF T57 O0
       at7 = λ Ψ. at6 Ψ
+
       abbrev at8 : Typed.TF T57 O0
       at8 = λ Ψ. at7 Ψ
+
       abbrev at9 : Typed.TF T54 O0
       at9 = λ Ψ. Typed.both s55 (at8 Ψ)
+
       abbrev at10 : Typed.TF T54 O0
       at10 = λ Ψ. at9 Ψ
+
       abbrev at11 : Typed.TF T54 O0
       at11 = λ Ψ. at10 Ψ
+
       abbrev at12 : Typed.TF T51 O0
       at12 = λ Ψ. Typed.both s52 (at11 Ψ)
+
       abbrev at13 : Typed.TF T51 O0
       at13 = λ Ψ. at12 Ψ
+
       abbrev at14 : Typed.TF T51 O0
       at14 = λ Ψ. at13 Ψ
+
       abbrev at15 : Typed.TF T49 O0
       at15 = λ Ψ. Typed.both s49 (at14 Ψ)
+
       abbrev at16 : Typed.TF T49 O0
       at16 = λ Ψ. at15 Ψ
+
       abbrev at17 : Typed.TF T48 O0
       at17 = λ Ψ. Typed.pass T48 T49 s47 (at16 Ψ)
+
       abbrev at18 : Typed.TF T47 O0
       at18 = λ Ψ. Typed.pass T47 T48 s46 (at17 Ψ)
+
       abbrev at19 : Typed.TF T46 O0
       at19 = λ Ψ. Typed.both s45 (at18 Ψ)
+
       abbrev at20 : Typed.TF T45 O0
       at20 = λ Ψ. Typed.ask s44 (at19 Ψ)
+
       abbrev at21 : Typed.TF T43 O0
       at21 = λ Ψ. Typed.give s43 (at20 Ψ)
+
       abbrev at22 : Typed.TF T43 O0
       at22 = λ Ψ. at21 Ψ
+
       abbrev at23 : Typed.TF T42 O0
       at23 = λ Ψ. Typed.ask s41 (at22 Ψ)
+
       abbrev at24 : Typed.TF T40 O0
       at24 = λ Ψ. Typed.give s40 (at23 Ψ)
+
       abbrev at25 : Typed.TF T40 O0
       at25 = λ Ψ. at24 Ψ
+
       abbrev at26 : Typed.TF T39 O0
       at26 = λ Ψ. Typed.ask s38 (at25 Ψ)
+
       abbrev at27 : Typed.TF T37 O0
       at27 = λ Ψ. Typed.give s37 (at26 Ψ)
+
       abbrev at28 : Typed.TF T37 O0
       at28 = λ Ψ. at27 Ψ
+
       abbrev at29 : Typed.TF T36 O0
       at29 = λ Ψ. Typed.ask s35 (at28 Ψ)
+
       abbrev at30 : Typed.TF T34 O0
       at30 = λ Ψ. Typed.give s34 (at29 Ψ)
+
       abbrev at31 : Typed.TF T34 O0
       at31 = λ Ψ. at30 Ψ
+
       abbrev at32 : Typed.TF T33 O0
       at32 = λ Ψ. Typed.ask s32 (at31 Ψ)
+
       abbrev at33 : Typed.TF T30 O0
       at33 = λ Ψ. Typed.give s31 (at32 Ψ)
+
       abbrev at34 : Typed.TF T30 O0
       at34 = λ Ψ. at33 Ψ
+
       abbrev at35 : Typed.TF T30 O0
       at35 = λ Ψ. at34 Ψ
+
       abbrev at36 : Typed.TF T27 O0
       at36 = λ Ψ. Typed.pass T27 T30 s28 (at35 Ψ)
+
       abbrev at37 : Typed.TF T27 O0
       at37 = λ Ψ. at36 Ψ
+
       abbrev at38 : Typed.TF T27 O0
       at38 = λ Ψ. at37 Ψ
+
       abbrev at39 : Typed.TF T24 O0
       at39 = λ Ψ. Typed.pass T24 T27 s25 (at38 Ψ)
+
       abbrev at40 : Typed.TF T24 O0
       at40 = λ Ψ. at39 Ψ
+
       abbrev at41 : Typed.TF T24 O0
       at41 = λ Ψ. at40 Ψ
+
       abbrev at42 : Typed.TF T21 O0
       at42 = λ Ψ. Typed.pass T21 T24 s22 (at41 Ψ)
+
       abbrev at43 : Typed.TF T21 O0
       at43 = λ Ψ. at42 Ψ
+
       abbrev at44 : Typed.TF T21 O0
       at44 = λ Ψ. at43 Ψ
+
       abbrev at45 : Typed.TF T19 O0
       at45 = λ Ψ. Typed.pass T19 T21 s19 (at44 Ψ)
+
       abbrev at46 : Typed.TF T19 O0
       at46 = λ Ψ. at45 Ψ
+
       abbrev at47 : Typed.TF T18 O0
       at47 = λ Ψ. Typed.pass T18 T19 s17 (at46 Ψ)
+
       abbrev at48 : Typed.TF T17 O0
       at48 = λ Ψ. Typed.pass T17 T18 s16 (at47 Ψ)
+
       abbrev at49 : Typed.TF T16 O0
       at49 = λ Ψ. Typed.pass T16 T17 s15 (at48 Ψ)
+
       abbrev at50 : Typed.TF T15 O0
       at50 = λ Ψ. Typed.pass T15 T16 s14 (at49 Ψ)
+
       abbrev at51 : Typed.TF T14 O0
       at51 = λ Ψ. Typed.both s13 (at50 Ψ)
+
       abbrev at52 : Typed.TF T13 O0
       at52 = λ Ψ. Typed.ask s12 (at51 Ψ)
+
       abbrev at53 : Typed.TF T11 O0
       at53 = λ Ψ. Typed.give s11 (at52 Ψ)
+
       abbrev at54 : Typed.TF T11 O0
       at54 = λ Ψ. at53 Ψ
+
       abbrev at55 : Typed.TF T10 O0
       at55 = λ Ψ. Typed.ask s9 (at54 Ψ)
+
       abbrev at56 : Typed.TF T8 O0
       at56 = λ Ψ. Typed.give s8 (at55 Ψ)
+
       abbrev at57 : Typed.TF T8 O0
       at57 = λ Ψ. at56 Ψ
+
       abbrev at58 : Typed.TF T7 O0
       at58 = λ Ψ. Typed.ask s6 (at57 Ψ)
+
       abbrev at59 : Typed.TF T5 O0
       at59 = λ Ψ. Typed.give s5 (at58 Ψ)
+
       abbrev at60 : Typed.TF T5 O0
       at60 = λ Ψ. at59 Ψ
+
       abbrev at61 : Typed.TF T4 O0
       at61 = λ Ψ. Typed.ask s3 (at60 Ψ)
+
       abbrev at62 : Typed.TF T2 O0
       at62 = λ Ψ. Typed.give s2 (at61 Ψ)
+
       abbrev at63 : Typed.TF T2 O0
       at63 = λ Ψ. at62 Ψ
+
       abbrev at64 : Typed.TF T0 O0
       at64 = λ Ψ. Typed.give s0 (at63 Ψ)
+
       abbrev pub Φ : Typed.TF T0 O0
       Φ = at64
-      module _ { M : Type 1 } (𝓤 : URA.URA M) (H : Wp.Heap 𝓤) (A : Atoms.Atoms 𝓤) (W : Kit.Given 𝓤 H A) (𝓣 : Wp.Tables 𝓤 H) where
+
+      module _ {M : Type 1} (𝓤 : URA.URA M) (H : Wp.Heap 𝓤) (A : Atoms.Atoms 𝓤) (W : Kit.Given 𝓤 H A)
+          (𝓣 : Wp.Tables 𝓤 H) where
         abbrev Knowns : Type 1
-        Knowns = Plain.Known 𝓤 H A W 𝓣 4 ps·0 r·0 (claims· .0) (claims· .1) "cases::machine::begin" × Plain.Known 𝓤 H A W 𝓣 5 ps·1 r·1 (claims· .2)
-            (claims· .3) "cases::machine::open_and_accept"
+        Knowns = Plain.Known 𝓤 H A W 𝓣 4 ps·0 r·0 (claims· .0) (claims· .1) "cases::machine::begin" × Plain.Known 𝓤 H A
+            W 𝓣 5 ps·1 r·1 (claims· .2) (claims· .3) "cases::machine::open_and_accept"
+
       module _ (κs : Lifetimes.Lfts 5) (qs : Lifetimes.Shares 5) where
         abbrev life0 : Row.Life
         life0 = Row.lease (κs .0) (qs .0)
+
         abbrev life1 : Row.Life
         life1 = Row.lease (κs .1 .0) (qs .1 .0)
+
         abbrev life2 : Row.Life
         life2 = Row.lease (κs .1 .1 .0) (qs .1 .1 .0)
+
         abbrev life3 : Row.Life
         life3 = Row.lease (κs .1 .1 .1 .0) (qs .1 .1 .1 .0)
+
         abbrev life4 : Row.Life
         life4 = Row.lease (κs .1 .1 .1 .1 .0) (qs .1 .1 .1 .1 .0)
+
+        abbrev l1 : Row.Entry
+        l1 = (1, Reshare.mslice-owedS RelayPending.row ref9 0 5 life0)
+
+        abbrev l2 : Row.Entry
+        l2 = (2, Reshare.mslice-owedS RelayCircuit.row ref10 1 6 life1)
+
+        abbrev l3 : Row.Entry
+        l3 = (3, Reshare.mslice-owedS ReservationUsage.row ref11 2 7 life2)
+
+        abbrev l4 : Row.Entry
+        l4 = (4, Reshare.mslice-owedS InflightAction.row ref12 3 8 life3)
+
+        abbrev l1·1 : Row.Entry
+        l1·1 = (1, Relend.mslice-owed RelayPending.row ref9 0 9 life0)
+
+        abbrev l2·1 : Row.Entry
+        l2·1 = (2, Relend.mslice-owed RelayCircuit.row ref10 1 10 life1)
+
+        abbrev l3·1 : Row.Entry
+        l3·1 = (3, Relend.mslice-owed ReservationUsage.row ref11 2 11 life2)
+
+        abbrev l4·1 : Row.Entry
+        l4·1 = (4, Relend.mslice-owed InflightAction.row ref12 3 12 life3)
+
+        abbrev l5 : Row.Entry
+        l5 = (5, Relend.mslice-owed (Referent.rtF (Referent.fInt Syntax.w32)) ref13 4 13 life4)
+
         abbrev g3 : List.List Row.Entry
-        g3 = (0, Rows.any-gone Laws'.mir,) ∷ (1, Reshare.mslice-owedS RelayPending.row ref9 0 5 life0,) ∷ (2, Mut.mslice RelayCircuit.row ref10 1,) ∷
-            (3, Mut.mslice ReservationUsage.row ref11 2,) ∷ (4, Mut.mslice InflightAction.row ref12 3,) ∷ (5, Mut.mslice (Referent.rtF (Referent.fInt
-            Syntax.w32)) ref13 4,) ∷ (6, Rows.whole (Declared.row Script.the-type)) ∷ (7, Rows.any-gone Laws'.mir,) ∷ (8, Relend.ssptr
-            RelayPending.row ref0 5,) ∷ (9, Rows.any-gone (Syntax.tyStruct (38 ∷ 91 ∷ 93 ∷ List.[]) (Syntax.tcons ref0 (Syntax.tcons (Syntax.tyInt
-            Syntax.w64) Syntax.tnil))),) ∷ (10, Rows.any-gone ref1,) ∷ (11, Rows.any-gone (Syntax.tyStruct (38 ∷ 91 ∷ 93 ∷ List.[]) (Syntax.tcons ref1
-            (Syntax.tcons (Syntax.tyInt Syntax.w64) Syntax.tnil))),) ∷ (12, Rows.any-gone ref2,) ∷ (13, Rows.any-gone (Syntax.tyStruct (38 ∷ 91 ∷ 93 ∷
-            List.[]) (Syntax.tcons ref2 (Syntax.tcons (Syntax.tyInt Syntax.w64) Syntax.tnil))),) ∷ (14, Rows.any-gone ref3,) ∷ (15, Rows.any-gone
-            (Syntax.tyStruct (38 ∷ 91 ∷ 93 ∷ List.[]) (Syntax.tcons ref3 (Syntax.tcons (Syntax.tyInt Syntax.w64) Syntax.tnil))),) ∷ List.[]
+        g3 = e0 ∷ l1 ∷ e2 ∷ e3 ∷ e4 ∷ e5 ∷ e6 ∷ e7 ∷ e8·1 ∷ e9 ∷ e10 ∷ e11 ∷ e12 ∷ e13 ∷ e14 ∷ e15 ∷ List.[]
+
         abbrev g4 : List.List Row.Entry
-        g4 = (0, Rows.any-gone Laws'.mir,) ∷ (1, Reshare.mslice-owedS RelayPending.row ref9 0 5 life0,) ∷ (2, Mut.mslice RelayCircuit.row ref10 1,) ∷
-            (3, Mut.mslice ReservationUsage.row ref11 2,) ∷ (4, Mut.mslice InflightAction.row ref12 3,) ∷ (5, Mut.mslice (Referent.rtF (Referent.fInt
-            Syntax.w32)) ref13 4,) ∷ (6, Rows.whole (Declared.row Script.the-type)) ∷ (7, Rows.any-gone Laws'.mir,) ∷ (8, Rows.any-gone ref0,) ∷ (9,
-            Rows.sslice RelayPending.row ref0 5,) ∷ (10, Rows.any-gone ref1,) ∷ (11, Rows.any-gone (Syntax.tyStruct (38 ∷ 91 ∷ 93 ∷ List.[])
-            (Syntax.tcons ref1 (Syntax.tcons (Syntax.tyInt Syntax.w64) Syntax.tnil))),) ∷ (12, Rows.any-gone ref2,) ∷ (13, Rows.any-gone
-            (Syntax.tyStruct (38 ∷ 91 ∷ 93 ∷ List.[]) (Syntax.tcons ref2 (Syntax.tcons (Syntax.tyInt Syntax.w64) Syntax.tnil))),) ∷ (14, Rows.any-gone
-            ref3,) ∷ (15, Rows.any-gone (Syntax.tyStruct (38 ∷ 91 ∷ 93 ∷ List.[]) (Syntax.tcons ref3 (Syntax.tcons (Syntax.tyInt Syntax.w64)
-            Syntax.tnil))),) ∷ List.[]
+        g4 = e0 ∷ l1 ∷ e2 ∷ e3 ∷ e4 ∷ e5 ∷ e6 ∷ e7 ∷ e8 ∷ e9·1 ∷ e10 ∷ e11 ∷ e12 ∷ e13 ∷ e14 ∷ e15 ∷ List.[]
+
         abbrev g5 : List.List Row.Entry
-        g5 = (0, Rows.any-gone Laws'.mir,) ∷ (1, Reshare.mslice-owedS RelayPending.row ref9 0 5 life0,) ∷ (2, Reshare.mslice-owedS RelayCircuit.row
-            ref10 1 6 life1,) ∷ (3, Mut.mslice ReservationUsage.row ref11 2,) ∷ (4, Mut.mslice InflightAction.row ref12 3,) ∷ (5, Mut.mslice
-            (Referent.rtF (Referent.fInt Syntax.w32)) ref13 4,) ∷ (6, Rows.whole (Declared.row Script.the-type)) ∷ (7, Rows.any-gone Laws'.mir,) ∷ (8,
-            Rows.any-gone ref0,) ∷ (9, Rows.sslice RelayPending.row ref0 5,) ∷ (10, Relend.ssptr RelayCircuit.row ref1 6,) ∷ (11, Rows.any-gone
-            (Syntax.tyStruct (38 ∷ 91 ∷ 93 ∷ List.[]) (Syntax.tcons ref1 (Syntax.tcons (Syntax.tyInt Syntax.w64) Syntax.tnil))),) ∷ (12, Rows.any-gone
-            ref2,) ∷ (13, Rows.any-gone (Syntax.tyStruct (38 ∷ 91 ∷ 93 ∷ List.[]) (Syntax.tcons ref2 (Syntax.tcons (Syntax.tyInt Syntax.w64)
-            Syntax.tnil))),) ∷ (14, Rows.any-gone ref3,) ∷ (15, Rows.any-gone (Syntax.tyStruct (38 ∷ 91 ∷ 93 ∷ List.[]) (Syntax.tcons ref3
-            (Syntax.tcons (Syntax.tyInt Syntax.w64) Syntax.tnil))),) ∷ List.[]
+        g5 = e0 ∷ l1 ∷ l2 ∷ e3 ∷ e4 ∷ e5 ∷ e6 ∷ e7 ∷ e8 ∷ e9·1 ∷ e10·1 ∷ e11 ∷ e12 ∷ e13 ∷ e14 ∷ e15 ∷ List.[]
+
         abbrev g6 : List.List Row.Entry
-        g6 = (0, Rows.any-gone Laws'.mir,) ∷ (1, Reshare.mslice-owedS RelayPending.row ref9 0 5 life0,) ∷ (2, Reshare.mslice-owedS RelayCircuit.row
-            ref10 1 6 life1,) ∷ (3, Mut.mslice ReservationUsage.row ref11 2,) ∷ (4, Mut.mslice InflightAction.row ref12 3,) ∷ (5, Mut.mslice
-            (Referent.rtF (Referent.fInt Syntax.w32)) ref13 4,) ∷ (6, Rows.whole (Declared.row Script.the-type)) ∷ (7, Rows.any-gone Laws'.mir,) ∷ (8,
-            Rows.any-gone ref0,) ∷ (9, Rows.sslice RelayPending.row ref0 5,) ∷ (10, Rows.any-gone ref1,) ∷ (11, Rows.sslice RelayCircuit.row ref1 6,)
-            ∷ (12, Rows.any-gone ref2,) ∷ (13, Rows.any-gone (Syntax.tyStruct (38 ∷ 91 ∷ 93 ∷ List.[]) (Syntax.tcons ref2 (Syntax.tcons (Syntax.tyInt
-            Syntax.w64) Syntax.tnil))),) ∷ (14, Rows.any-gone ref3,) ∷ (15, Rows.any-gone (Syntax.tyStruct (38 ∷ 91 ∷ 93 ∷ List.[]) (Syntax.tcons ref3
-            (Syntax.tcons (Syntax.tyInt Syntax.w64) Syntax.tnil))),) ∷ List.[]
+        g6 = e0 ∷ l1 ∷ l2 ∷ e3 ∷ e4 ∷ e5 ∷ e6 ∷ e7 ∷ e8 ∷ e9·1 ∷ e10 ∷ e11·1 ∷ e12 ∷ e13 ∷ e14 ∷ e15 ∷ List.[]
+
         abbrev g7 : List.List Row.Entry
-        g7 = (0, Rows.any-gone Laws'.mir,) ∷ (1, Reshare.mslice-owedS RelayPending.row ref9 0 5 life0,) ∷ (2, Reshare.mslice-owedS RelayCircuit.row
-            ref10 1 6 life1,) ∷ (3, Reshare.mslice-owedS ReservationUsage.row ref11 2 7 life2,) ∷ (4, Mut.mslice InflightAction.row ref12 3,) ∷ (5,
-            Mut.mslice (Referent.rtF (Referent.fInt Syntax.w32)) ref13 4,) ∷ (6, Rows.whole (Declared.row Script.the-type)) ∷ (7, Rows.any-gone
-            Laws'.mir,) ∷ (8, Rows.any-gone ref0,) ∷ (9, Rows.sslice RelayPending.row ref0 5,) ∷ (10, Rows.any-gone ref1,) ∷ (11, Rows.sslice
-            RelayCircuit.row ref1 6,) ∷ (12, Relend.ssptr ReservationUsage.row ref2 7,) ∷ (13, Rows.any-gone (Syntax.tyStruct (38 ∷ 91 ∷ 93 ∷ List.[])
-            (Syntax.tcons ref2 (Syntax.tcons (Syntax.tyInt Syntax.w64) Syntax.tnil))),) ∷ (14, Rows.any-gone ref3,) ∷ (15, Rows.any-gone
-            (Syntax.tyStruct (38 ∷ 91 ∷ 93 ∷ List.[]) (Syntax.tcons ref3 (Syntax.tcons (Syntax.tyInt Syntax.w64) Syntax.tnil))),) ∷ List.[]
+        g7 = e0 ∷ l1 ∷ l2 ∷ l3 ∷ e4 ∷ e5 ∷ e6 ∷ e7 ∷ e8 ∷ e9·1 ∷ e10 ∷ e11·1 ∷ e12·1 ∷ e13 ∷ e14 ∷ e15 ∷ List.[]
+
         abbrev g8 : List.List Row.Entry
-        g8 = (0, Rows.any-gone Laws'.mir,) ∷ (1, Reshare.mslice-owedS RelayPending.row ref9 0 5 life0,) ∷ (2, Reshare.mslice-owedS RelayCircuit.row
-            ref10 1 6 life1,) ∷ (3, Reshare.mslice-owedS ReservationUsage.row ref11 2 7 life2,) ∷ (4, Mut.mslice InflightAction.row ref12 3,) ∷ (5,
-            Mut.mslice (Referent.rtF (Referent.fInt Syntax.w32)) ref13 4,) ∷ (6, Rows.whole (Declared.row Script.the-type)) ∷ (7, Rows.any-gone
-            Laws'.mir,) ∷ (8, Rows.any-gone ref0,) ∷ (9, Rows.sslice RelayPending.row ref0 5,) ∷ (10, Rows.any-gone ref1,) ∷ (11, Rows.sslice
-            RelayCircuit.row ref1 6,) ∷ (12, Rows.any-gone ref2,) ∷ (13, Rows.sslice ReservationUsage.row ref2 7,) ∷ (14, Rows.any-gone ref3,) ∷ (15,
-            Rows.any-gone (Syntax.tyStruct (38 ∷ 91 ∷ 93 ∷ List.[]) (Syntax.tcons ref3 (Syntax.tcons (Syntax.tyInt Syntax.w64) Syntax.tnil))),) ∷
-            List.[]
+        g8 = e0 ∷ l1 ∷ l2 ∷ l3 ∷ e4 ∷ e5 ∷ e6 ∷ e7 ∷ e8 ∷ e9·1 ∷ e10 ∷ e11·1 ∷ e12 ∷ e13·1 ∷ e14 ∷ e15 ∷ List.[]
+
         abbrev g9 : List.List Row.Entry
-        g9 = (0, Rows.any-gone Laws'.mir,) ∷ (1, Reshare.mslice-owedS RelayPending.row ref9 0 5 life0,) ∷ (2, Reshare.mslice-owedS RelayCircuit.row
-            ref10 1 6 life1,) ∷ (3, Reshare.mslice-owedS ReservationUsage.row ref11 2 7 life2,) ∷ (4, Reshare.mslice-owedS InflightAction.row ref12 3
-            8 life3,) ∷ (5, Mut.mslice (Referent.rtF (Referent.fInt Syntax.w32)) ref13 4,) ∷ (6, Rows.whole (Declared.row Script.the-type)) ∷ (7,
-            Rows.any-gone Laws'.mir,) ∷ (8, Rows.any-gone ref0,) ∷ (9, Rows.sslice RelayPending.row ref0 5,) ∷ (10, Rows.any-gone ref1,) ∷ (11,
-            Rows.sslice RelayCircuit.row ref1 6,) ∷ (12, Rows.any-gone ref2,) ∷ (13, Rows.sslice ReservationUsage.row ref2 7,) ∷ (14, Relend.ssptr
-            InflightAction.row ref3 8,) ∷ (15, Rows.any-gone (Syntax.tyStruct (38 ∷ 91 ∷ 93 ∷ List.[]) (Syntax.tcons ref3 (Syntax.tcons (Syntax.tyInt
-            Syntax.w64) Syntax.tnil))),) ∷ List.[]
+        g9 = e0 ∷ l1 ∷ l2 ∷ l3 ∷ l4 ∷ e5 ∷ e6 ∷ e7 ∷ e8 ∷ e9·1 ∷ e10 ∷ e11·1 ∷ e12 ∷ e13·1 ∷ e14·1 ∷ e15 ∷ List.[]
+
         abbrev g10 : List.List Row.Entry
-        g10 = (0, Rows.any-gone Laws'.mir,) ∷ (1, Reshare.mslice-owedS RelayPending.row ref9 0 5 life0,) ∷ (2, Reshare.mslice-owedS RelayCircuit.row
-            ref10 1 6 life1,) ∷ (3, Reshare.mslice-owedS ReservationUsage.row ref11 2 7 life2,) ∷ (4, Reshare.mslice-owedS InflightAction.row ref12 3
-            8 life3,) ∷ (5, Mut.mslice (Referent.rtF (Referent.fInt Syntax.w32)) ref13 4,) ∷ (6, Rows.whole (Declared.row Script.the-type)) ∷ (7,
-            Rows.any-gone Laws'.mir,) ∷ (8, Rows.any-gone ref0,) ∷ (9, Rows.sslice RelayPending.row ref0 5,) ∷ (10, Rows.any-gone ref1,) ∷ (11,
-            Rows.sslice RelayCircuit.row ref1 6,) ∷ (12, Rows.any-gone ref2,) ∷ (13, Rows.sslice ReservationUsage.row ref2 7,) ∷ (14, Rows.any-gone
-            ref3,) ∷ (15, Rows.sslice InflightAction.row ref3 8,) ∷ List.[]
+        g10 = e0 ∷ l1 ∷ l2 ∷ l3 ∷ l4 ∷ e5 ∷ e6 ∷ e7 ∷ e8 ∷ e9·1 ∷ e10 ∷ e11·1 ∷ e12 ∷ e13·1 ∷ e14 ∷ e15·1 ∷ List.[]
+
         abbrev g11 : List.List Row.Entry
-        g11 = (0, Rows.any-gone Laws'.mir,) ∷ (1, Reshare.mslice-owedS RelayPending.row ref9 0 5 life0,) ∷ (2, Reshare.mslice-owedS RelayCircuit.row
-            ref10 1 6 life1,) ∷ (3, Reshare.mslice-owedS ReservationUsage.row ref11 2 7 life2,) ∷ (4, Reshare.mslice-owedS InflightAction.row ref12 3
-            8 life3,) ∷ (5, Mut.mslice (Referent.rtF (Referent.fInt Syntax.w32)) ref13 4,) ∷ (6, Rows.whole (Declared.row Script.the-type)) ∷ (7,
-            Rows.whole (Declared.row Relayed.the-type),) ∷ (8, Rows.any-gone ref0,) ∷ (9, Rows.sslice RelayPending.row ref0 5,) ∷ (10, Rows.any-gone
-            ref1,) ∷ (11, Rows.sslice RelayCircuit.row ref1 6,) ∷ (12, Rows.any-gone ref2,) ∷ (13, Rows.sslice ReservationUsage.row ref2 7,) ∷ (14,
-            Rows.any-gone ref3,) ∷ (15, Rows.sslice InflightAction.row ref3 8,) ∷ List.[]
+        g11 = e0 ∷ l1 ∷ l2 ∷ l3 ∷ l4 ∷ e5 ∷ e6 ∷ e7·1 ∷ e8 ∷ e9·1 ∷ e10 ∷ e11·1 ∷ e12 ∷ e13·1 ∷ e14 ∷ e15·1 ∷ List.[]
+
         abbrev g12 : List.List Row.Entry
-        g12 = (0, Rows.any-gone Laws'.mir,) ∷ (1, Reshare.mslice-owedS RelayPending.row ref9 0 5 life0,) ∷ (2, Reshare.mslice-owedS RelayCircuit.row
-            ref10 1 6 life1,) ∷ (3, Reshare.mslice-owedS ReservationUsage.row ref11 2 7 life2,) ∷ (4, Reshare.mslice-owedS InflightAction.row ref12 3
-            8 life3,) ∷ (5, Mut.mslice (Referent.rtF (Referent.fInt Syntax.w32)) ref13 4,) ∷ (6, Rows.whole (Declared.row Script.the-type)) ∷ (7,
-            Rows.whole (Declared.row Relayed.the-type),) ∷ (8, Rows.any-gone ref0,) ∷ (9, Rows.any-gone (Syntax.tyStruct (38 ∷ 91 ∷ 93 ∷ List.[])
-            (Syntax.tcons ref0 (Syntax.tcons (Syntax.tyInt Syntax.w64) Syntax.tnil))),) ∷ (10, Rows.any-gone ref1,) ∷ (11, Rows.sslice
-            RelayCircuit.row ref1 6,) ∷ (12, Rows.any-gone ref2,) ∷ (13, Rows.sslice ReservationUsage.row ref2 7,) ∷ (14, Rows.any-gone ref3,) ∷ (15,
-            Rows.sslice InflightAction.row ref3 8,) ∷ List.[]
+        g12 = e0 ∷ l1 ∷ l2 ∷ l3 ∷ l4 ∷ e5 ∷ e6 ∷ e7·1 ∷ e8 ∷ e9 ∷ e10 ∷ e11·1 ∷ e12 ∷ e13·1 ∷ e14 ∷ e15·1 ∷ List.[]
+
         abbrev g13 : List.List Row.Entry
-        g13 = (0, Rows.any-gone Laws'.mir,) ∷ (1, Reshare.mslice-owedS RelayPending.row ref9 0 5 life0,) ∷ (2, Reshare.mslice-owedS RelayCircuit.row
-            ref10 1 6 life1,) ∷ (3, Reshare.mslice-owedS ReservationUsage.row ref11 2 7 life2,) ∷ (4, Reshare.mslice-owedS InflightAction.row ref12 3
-            8 life3,) ∷ (5, Mut.mslice (Referent.rtF (Referent.fInt Syntax.w32)) ref13 4,) ∷ (6, Rows.whole (Declared.row Script.the-type)) ∷ (7,
-            Rows.whole (Declared.row Relayed.the-type),) ∷ (8, Rows.any-gone ref0,) ∷ (9, Rows.any-gone (Syntax.tyStruct (38 ∷ 91 ∷ 93 ∷ List.[])
-            (Syntax.tcons ref0 (Syntax.tcons (Syntax.tyInt Syntax.w64) Syntax.tnil))),) ∷ (10, Rows.any-gone ref1,) ∷ (11, Rows.any-gone
-            (Syntax.tyStruct (38 ∷ 91 ∷ 93 ∷ List.[]) (Syntax.tcons ref1 (Syntax.tcons (Syntax.tyInt Syntax.w64) Syntax.tnil))),) ∷ (12, Rows.any-gone
-            ref2,) ∷ (13, Rows.sslice ReservationUsage.row ref2 7,) ∷ (14, Rows.any-gone ref3,) ∷ (15, Rows.sslice InflightAction.row ref3 8,) ∷
-            List.[]
+        g13 = e0 ∷ l1 ∷ l2 ∷ l3 ∷ l4 ∷ e5 ∷ e6 ∷ e7·1 ∷ e8 ∷ e9 ∷ e10 ∷ e11 ∷ e12 ∷ e13·1 ∷ e14 ∷ e15·1 ∷ List.[]
+
         abbrev g14 : List.List Row.Entry
-        g14 = (0, Rows.any-gone Laws'.mir,) ∷ (1, Reshare.mslice-owedS RelayPending.row ref9 0 5 life0,) ∷ (2, Reshare.mslice-owedS RelayCircuit.row
-            ref10 1 6 life1,) ∷ (3, Reshare.mslice-owedS ReservationUsage.row ref11 2 7 life2,) ∷ (4, Reshare.mslice-owedS InflightAction.row ref12 3
-            8 life3,) ∷ (5, Mut.mslice (Referent.rtF (Referent.fInt Syntax.w32)) ref13 4,) ∷ (6, Rows.whole (Declared.row Script.the-type)) ∷ (7,
-            Rows.whole (Declared.row Relayed.the-type),) ∷ (8, Rows.any-gone ref0,) ∷ (9, Rows.any-gone (Syntax.tyStruct (38 ∷ 91 ∷ 93 ∷ List.[])
-            (Syntax.tcons ref0 (Syntax.tcons (Syntax.tyInt Syntax.w64) Syntax.tnil))),) ∷ (10, Rows.any-gone ref1,) ∷ (11, Rows.any-gone
-            (Syntax.tyStruct (38 ∷ 91 ∷ 93 ∷ List.[]) (Syntax.tcons ref1 (Syntax.tcons (Syntax.tyInt Syntax.w64) Syntax.tnil))),) ∷ (12, Rows.any-gone
-            ref2,) ∷ (13, Rows.any-gone (Syntax.tyStruct (38 ∷ 91 ∷ 93 ∷ List.[]) (Syntax.tcons ref2 (Syntax.tcons (Syntax.tyInt Syntax.w64)
-            Syntax.tnil))),) ∷ (14, Rows.any-gone ref3,) ∷ (15, Rows.sslice InflightAction.row ref3 8,) ∷ List.[]
+        g14 = e0 ∷ l1 ∷ l2 ∷ l3 ∷ l4 ∷ e5 ∷ e6 ∷ e7·1 ∷ e8 ∷ e9 ∷ e10 ∷ e11 ∷ e12 ∷ e13 ∷ e14 ∷ e15·1 ∷ List.[]
+
         abbrev g15 : List.List Row.Entry
-        g15 = (0, Rows.any-gone Laws'.mir,) ∷ (1, Reshare.mslice-owedS RelayPending.row ref9 0 5 life0,) ∷ (2, Reshare.mslice-owedS RelayCircuit.row
-            ref10 1 6 life1,) ∷ (3, Reshare.mslice-owedS ReservationUsage.row ref11 2 7 life2,) ∷ (4, Reshare.mslice-owedS InflightAction.row ref12 3
-            8 life3,) ∷ (5, Mut.mslice (Referent.rtF (Referent.fInt Syntax.w32)) ref13 4,) ∷ (6, Rows.whole (Declared.row Script.the-type)) ∷ (7,
-            Rows.whole (Declared.row Relayed.the-type),) ∷ (8, Rows.any-gone ref0,) ∷ (9, Rows.any-gone (Syntax.tyStruct (38 ∷ 91 ∷ 93 ∷ List.[])
-            (Syntax.tcons ref0 (Syntax.tcons (Syntax.tyInt Syntax.w64) Syntax.tnil))),) ∷ (10, Rows.any-gone ref1,) ∷ (11, Rows.any-gone
-            (Syntax.tyStruct (38 ∷ 91 ∷ 93 ∷ List.[]) (Syntax.tcons ref1 (Syntax.tcons (Syntax.tyInt Syntax.w64) Syntax.tnil))),) ∷ (12, Rows.any-gone
-            ref2,) ∷ (13, Rows.any-gone (Syntax.tyStruct (38 ∷ 91 ∷ 93 ∷ List.[]) (Syntax.tcons ref2 (Syntax.tcons (Syntax.tyInt Syntax.w64)
-            Syntax.tnil))),) ∷ (14, Rows.any-gone ref3,) ∷ (15, Rows.any-gone (Syntax.tyStruct (38 ∷ 91 ∷ 93 ∷ List.[]) (Syntax.tcons ref3
-            (Syntax.tcons (Syntax.tyInt Syntax.w64) Syntax.tnil))),) ∷ List.[]
+        g15 = e0 ∷ l1 ∷ l2 ∷ l3 ∷ l4 ∷ e5 ∷ e6 ∷ e7·1 ∷ e8 ∷ e9 ∷ e10 ∷ e11 ∷ e12 ∷ e13 ∷ e14 ∷ e15 ∷ List.[]
+
         abbrev g16 : List.List Row.Entry
-        g16 = (0, Rows.any-gone Laws'.mir,) ∷ (1, Mut.mslice RelayPending.row ref9 0,) ∷ (2, Reshare.mslice-owedS RelayCircuit.row ref10 1 6 life1,) ∷
-            (3, Reshare.mslice-owedS ReservationUsage.row ref11 2 7 life2,) ∷ (4, Reshare.mslice-owedS InflightAction.row ref12 3 8 life3,) ∷ (5,
-            Mut.mslice (Referent.rtF (Referent.fInt Syntax.w32)) ref13 4,) ∷ (6, Rows.whole (Declared.row Script.the-type)) ∷ (7, Rows.whole
-            (Declared.row Relayed.the-type),) ∷ (8, Rows.any-gone ref0,) ∷ (9, Rows.any-gone (Syntax.tyStruct (38 ∷ 91 ∷ 93 ∷ List.[]) (Syntax.tcons
-            ref0 (Syntax.tcons (Syntax.tyInt Syntax.w64) Syntax.tnil))),) ∷ (10, Rows.any-gone ref1,) ∷ (11, Rows.any-gone (Syntax.tyStruct (38 ∷ 91 ∷
-            93 ∷ List.[]) (Syntax.tcons ref1 (Syntax.tcons (Syntax.tyInt Syntax.w64) Syntax.tnil))),) ∷ (12, Rows.any-gone ref2,) ∷ (13, Rows.any-gone
-            (Syntax.tyStruct (38 ∷ 91 ∷ 93 ∷ List.[]) (Syntax.tcons ref2 (Syntax.tcons (Syntax.tyInt Syntax.w64) Syntax.tnil))),) ∷ (14, Rows.any-gone
-            ref3,) ∷ (15, Rows.any-gone (Syntax.tyStruct (38 ∷ 91 ∷ 93 ∷ List.[]) (Syntax.tcons ref3 (Syntax.tcons (Syntax.tyInt Syntax.w64)
-            Syntax.tnil))),) ∷ List.[]
+        g16 = e0 ∷ e1 ∷ l2 ∷ l3 ∷ l4 ∷ e5 ∷ e6 ∷ e7·1 ∷ e8 ∷ e9 ∷ e10 ∷ e11 ∷ e12 ∷ e13 ∷ e14 ∷ e15 ∷ List.[]
+
         abbrev g17 : List.List Row.Entry
-        g17 = (0, Rows.any-gone Laws'.mir,) ∷ (1, Mut.mslice RelayPending.row ref9 0,) ∷ (2, Mut.mslice RelayCircuit.row ref10 1,) ∷ (3,
-            Reshare.mslice-owedS ReservationUsage.row ref11 2 7 life2,) ∷ (4, Reshare.mslice-owedS InflightAction.row ref12 3 8 life3,) ∷ (5,
-            Mut.mslice (Referent.rtF (Referent.fInt Syntax.w32)) ref13 4,) ∷ (6, Rows.whole (Declared.row Script.the-type)) ∷ (7, Rows.whole
-            (Declared.row Relayed.the-type),) ∷ (8, Rows.any-gone ref0,) ∷ (9, Rows.any-gone (Syntax.tyStruct (38 ∷ 91 ∷ 93 ∷ List.[]) (Syntax.tcons
-            ref0 (Syntax.tcons (Syntax.tyInt Syntax.w64) Syntax.tnil))),) ∷ (10, Rows.any-gone ref1,) ∷ (11, Rows.any-gone (Syntax.tyStruct (38 ∷ 91 ∷
-            93 ∷ List.[]) (Syntax.tcons ref1 (Syntax.tcons (Syntax.tyInt Syntax.w64) Syntax.tnil))),) ∷ (12, Rows.any-gone ref2,) ∷ (13, Rows.any-gone
-            (Syntax.tyStruct (38 ∷ 91 ∷ 93 ∷ List.[]) (Syntax.tcons ref2 (Syntax.tcons (Syntax.tyInt Syntax.w64) Syntax.tnil))),) ∷ (14, Rows.any-gone
-            ref3,) ∷ (15, Rows.any-gone (Syntax.tyStruct (38 ∷ 91 ∷ 93 ∷ List.[]) (Syntax.tcons ref3 (Syntax.tcons (Syntax.tyInt Syntax.w64)
-            Syntax.tnil))),) ∷ List.[]
+        g17 = e0 ∷ e1 ∷ e2 ∷ l3 ∷ l4 ∷ e5 ∷ e6 ∷ e7·1 ∷ e8 ∷ e9 ∷ e10 ∷ e11 ∷ e12 ∷ e13 ∷ e14 ∷ e15 ∷ List.[]
+
         abbrev g18 : List.List Row.Entry
-        g18 = (0, Rows.any-gone Laws'.mir,) ∷ (1, Mut.mslice RelayPending.row ref9 0,) ∷ (2, Mut.mslice RelayCircuit.row ref10 1,) ∷ (3, Mut.mslice
-            ReservationUsage.row ref11 2,) ∷ (4, Reshare.mslice-owedS InflightAction.row ref12 3 8 life3,) ∷ (5, Mut.mslice (Referent.rtF
-            (Referent.fInt Syntax.w32)) ref13 4,) ∷ (6, Rows.whole (Declared.row Script.the-type)) ∷ (7, Rows.whole (Declared.row Relayed.the-type),)
-            ∷ (8, Rows.any-gone ref0,) ∷ (9, Rows.any-gone (Syntax.tyStruct (38 ∷ 91 ∷ 93 ∷ List.[]) (Syntax.tcons ref0 (Syntax.tcons (Syntax.tyInt
-            Syntax.w64) Syntax.tnil))),) ∷ (10, Rows.any-gone ref1,) ∷ (11, Rows.any-gone (Syntax.tyStruct (38 ∷ 91 ∷ 93 ∷ List.[]) (Syntax.tcons ref1
-            (Syntax.tcons (Syntax.tyInt Syntax.w64) Syntax.tnil))),) ∷ (12, Rows.any-gone ref2,) ∷ (13, Rows.any-gone (Syntax.tyStruct (38 ∷ 91 ∷ 93 ∷
-            List.[]) (Syntax.tcons ref2 (Syntax.tcons (Syntax.tyInt Syntax.w64) Syntax.tnil))),) ∷ (14, Rows.any-gone ref3,) ∷ (15, Rows.any-gone
-            (Syntax.tyStruct (38 ∷ 91 ∷ 93 ∷ List.[]) (Syntax.tcons ref3 (Syntax.tcons (Syntax.tyInt Syntax.w64) Syntax.tnil))),) ∷ List.[]
+        g18 = e0 ∷ e1 ∷ e2 ∷ e3 ∷ l4 ∷ e5 ∷ e6 ∷ e7·1 ∷ e8 ∷ e9 ∷ e10 ∷ e11 ∷ e12 ∷ e13 ∷ e14 ∷ e15 ∷ List.[]
+
         abbrev g20 : List.List Row.Entry
-        g20 = (0, Rows.any-gone Laws'.mir,) ∷ (1, Relend.mslice-owed RelayPending.row ref9 0 9 life0,) ∷ (2, Mut.mslice RelayCircuit.row ref10 1,) ∷
-            (3, Mut.mslice ReservationUsage.row ref11 2,) ∷ (4, Mut.mslice InflightAction.row ref12 3,) ∷ (5, Mut.mslice (Referent.rtF (Referent.fInt
-            Syntax.w32)) ref13 4,) ∷ (6, Rows.whole (Declared.row Script.the-type)) ∷ (7, Rows.whole (Declared.row Relayed.the-type),) ∷ (8,
-            Rows.any-gone ref0,) ∷ (9, Rows.any-gone (Syntax.tyStruct (38 ∷ 91 ∷ 93 ∷ List.[]) (Syntax.tcons ref0 (Syntax.tcons (Syntax.tyInt
-            Syntax.w64) Syntax.tnil))),) ∷ (10, Rows.any-gone ref1,) ∷ (11, Rows.any-gone (Syntax.tyStruct (38 ∷ 91 ∷ 93 ∷ List.[]) (Syntax.tcons ref1
-            (Syntax.tcons (Syntax.tyInt Syntax.w64) Syntax.tnil))),) ∷ (12, Rows.any-gone ref2,) ∷ (13, Rows.any-gone (Syntax.tyStruct (38 ∷ 91 ∷ 93 ∷
-            List.[]) (Syntax.tcons ref2 (Syntax.tcons (Syntax.tyInt Syntax.w64) Syntax.tnil))),) ∷ (14, Rows.any-gone ref3,) ∷ (15, Rows.any-gone
-            (Syntax.tyStruct (38 ∷ 91 ∷ 93 ∷ List.[]) (Syntax.tcons ref3 (Syntax.tcons (Syntax.tyInt Syntax.w64) Syntax.tnil))),) ∷ List.[]
+        g20 = e0 ∷ l1·1 ∷ e2 ∷ e3 ∷ e4 ∷ e5 ∷ e6 ∷ e7·1 ∷ e8 ∷ e9 ∷ e10 ∷ e11 ∷ e12 ∷ e13 ∷ e14 ∷ e15 ∷ List.[]
+
         abbrev g23 : List.List Row.Entry
-        g23 = (0, Rows.any-gone Laws'.mir,) ∷ (1, Relend.mslice-owed RelayPending.row ref9 0 9 life0,) ∷ (2, Relend.mslice-owed RelayCircuit.row ref10
-            1 10 life1,) ∷ (3, Mut.mslice ReservationUsage.row ref11 2,) ∷ (4, Mut.mslice InflightAction.row ref12 3,) ∷ (5, Mut.mslice (Referent.rtF
-            (Referent.fInt Syntax.w32)) ref13 4,) ∷ (6, Rows.whole (Declared.row Script.the-type)) ∷ (7, Rows.whole (Declared.row Relayed.the-type),)
-            ∷ (8, Rows.any-gone ref0,) ∷ (9, Rows.any-gone (Syntax.tyStruct (38 ∷ 91 ∷ 93 ∷ List.[]) (Syntax.tcons ref0 (Syntax.tcons (Syntax.tyInt
-            Syntax.w64) Syntax.tnil))),) ∷ (10, Rows.any-gone ref1,) ∷ (11, Rows.any-gone (Syntax.tyStruct (38 ∷ 91 ∷ 93 ∷ List.[]) (Syntax.tcons ref1
-            (Syntax.tcons (Syntax.tyInt Syntax.w64) Syntax.tnil))),) ∷ (12, Rows.any-gone ref2,) ∷ (13, Rows.any-gone (Syntax.tyStruct (38 ∷ 91 ∷ 93 ∷
-            List.[]) (Syntax.tcons ref2 (Syntax.tcons (Syntax.tyInt Syntax.w64) Syntax.tnil))),) ∷ (14, Rows.any-gone ref3,) ∷ (15, Rows.any-gone
-            (Syntax.tyStruct (38 ∷ 91 ∷ 93 ∷ List.[]) (Syntax.tcons ref3 (Syntax.tcons (Syntax.tyInt Syntax.w64) Syntax.tnil))),) ∷ List.[]
+        g23 = e0 ∷ l1·1 ∷ l2·1 ∷ e3 ∷ e4 ∷ e5 ∷ e6 ∷ e7·1 ∷ e8 ∷ e9 ∷ e10 ∷ e11 ∷ e12 ∷ e13 ∷ e14 ∷ e15 ∷ List.[]
+
         abbrev g26 : List.List Row.Entry
-        g26 = (0, Rows.any-gone Laws'.mir,) ∷ (1, Relend.mslice-owed RelayPending.row ref9 0 9 life0,) ∷ (2, Relend.mslice-owed RelayCircuit.row ref10
-            1 10 life1,) ∷ (3, Relend.mslice-owed ReservationUsage.row ref11 2 11 life2,) ∷ (4, Mut.mslice InflightAction.row ref12 3,) ∷ (5,
-            Mut.mslice (Referent.rtF (Referent.fInt Syntax.w32)) ref13 4,) ∷ (6, Rows.whole (Declared.row Script.the-type)) ∷ (7, Rows.whole
-            (Declared.row Relayed.the-type),) ∷ (8, Rows.any-gone ref0,) ∷ (9, Rows.any-gone (Syntax.tyStruct (38 ∷ 91 ∷ 93 ∷ List.[]) (Syntax.tcons
-            ref0 (Syntax.tcons (Syntax.tyInt Syntax.w64) Syntax.tnil))),) ∷ (10, Rows.any-gone ref1,) ∷ (11, Rows.any-gone (Syntax.tyStruct (38 ∷ 91 ∷
-            93 ∷ List.[]) (Syntax.tcons ref1 (Syntax.tcons (Syntax.tyInt Syntax.w64) Syntax.tnil))),) ∷ (12, Rows.any-gone ref2,) ∷ (13, Rows.any-gone
-            (Syntax.tyStruct (38 ∷ 91 ∷ 93 ∷ List.[]) (Syntax.tcons ref2 (Syntax.tcons (Syntax.tyInt Syntax.w64) Syntax.tnil))),) ∷ (14, Rows.any-gone
-            ref3,) ∷ (15, Rows.any-gone (Syntax.tyStruct (38 ∷ 91 ∷ 93 ∷ List.[]) (Syntax.tcons ref3 (Syntax.tcons (Syntax.tyInt Syntax.w64)
-            Syntax.tnil))),) ∷ List.[]
+        g26 = e0 ∷ l1·1 ∷ l2·1 ∷ l3·1 ∷ e4 ∷ e5 ∷ e6 ∷ e7·1 ∷ e8 ∷ e9 ∷ e10 ∷ e11 ∷ e12 ∷ e13 ∷ e14 ∷ e15 ∷ List.[]
+
         abbrev g29 : List.List Row.Entry
-        g29 = (0, Rows.any-gone Laws'.mir,) ∷ (1, Relend.mslice-owed RelayPending.row ref9 0 9 life0,) ∷ (2, Relend.mslice-owed RelayCircuit.row ref10
-            1 10 life1,) ∷ (3, Relend.mslice-owed ReservationUsage.row ref11 2 11 life2,) ∷ (4, Relend.mslice-owed InflightAction.row ref12 3 12
-            life3,) ∷ (5, Mut.mslice (Referent.rtF (Referent.fInt Syntax.w32)) ref13 4,) ∷ (6, Rows.whole (Declared.row Script.the-type)) ∷ (7,
-            Rows.whole (Declared.row Relayed.the-type),) ∷ (8, Rows.any-gone ref0,) ∷ (9, Rows.any-gone (Syntax.tyStruct (38 ∷ 91 ∷ 93 ∷ List.[])
-            (Syntax.tcons ref0 (Syntax.tcons (Syntax.tyInt Syntax.w64) Syntax.tnil))),) ∷ (10, Rows.any-gone ref1,) ∷ (11, Rows.any-gone
-            (Syntax.tyStruct (38 ∷ 91 ∷ 93 ∷ List.[]) (Syntax.tcons ref1 (Syntax.tcons (Syntax.tyInt Syntax.w64) Syntax.tnil))),) ∷ (12, Rows.any-gone
-            ref2,) ∷ (13, Rows.any-gone (Syntax.tyStruct (38 ∷ 91 ∷ 93 ∷ List.[]) (Syntax.tcons ref2 (Syntax.tcons (Syntax.tyInt Syntax.w64)
-            Syntax.tnil))),) ∷ (14, Rows.any-gone ref3,) ∷ (15, Rows.any-gone (Syntax.tyStruct (38 ∷ 91 ∷ 93 ∷ List.[]) (Syntax.tcons ref3
-            (Syntax.tcons (Syntax.tyInt Syntax.w64) Syntax.tnil))),) ∷ List.[]
+        g29 = e0 ∷ l1·1 ∷ l2·1 ∷ l3·1 ∷ l4·1 ∷ e5 ∷ e6 ∷ e7·1 ∷ e8 ∷ e9 ∷ e10 ∷ e11 ∷ e12 ∷ e13 ∷ e14 ∷ e15 ∷ List.[]
+
         abbrev g32 : List.List Row.Entry
-        g32 = (0, Rows.any-gone Laws'.mir,) ∷ (1, Relend.mslice-owed RelayPending.row ref9 0 9 life0,) ∷ (2, Relend.mslice-owed RelayCircuit.row ref10
-            1 10 life1,) ∷ (3, Relend.mslice-owed ReservationUsage.row ref11 2 11 life2,) ∷ (4, Relend.mslice-owed InflightAction.row ref12 3 12
-            life3,) ∷ (5, Relend.mslice-owed (Referent.rtF (Referent.fInt Syntax.w32)) ref13 4 13 life4,) ∷ (6, Rows.whole (Declared.row
-            Script.the-type)) ∷ (7, Rows.whole (Declared.row Relayed.the-type),) ∷ (8, Rows.any-gone ref0,) ∷ (9, Rows.any-gone (Syntax.tyStruct (38 ∷
-            91 ∷ 93 ∷ List.[]) (Syntax.tcons ref0 (Syntax.tcons (Syntax.tyInt Syntax.w64) Syntax.tnil))),) ∷ (10, Rows.any-gone ref1,) ∷ (11,
-            Rows.any-gone (Syntax.tyStruct (38 ∷ 91 ∷ 93 ∷ List.[]) (Syntax.tcons ref1 (Syntax.tcons (Syntax.tyInt Syntax.w64) Syntax.tnil))),) ∷ (12,
-            Rows.any-gone ref2,) ∷ (13, Rows.any-gone (Syntax.tyStruct (38 ∷ 91 ∷ 93 ∷ List.[]) (Syntax.tcons ref2 (Syntax.tcons (Syntax.tyInt
-            Syntax.w64) Syntax.tnil))),) ∷ (14, Rows.any-gone ref3,) ∷ (15, Rows.any-gone (Syntax.tyStruct (38 ∷ 91 ∷ 93 ∷ List.[]) (Syntax.tcons ref3
-            (Syntax.tcons (Syntax.tyInt Syntax.w64) Syntax.tnil))),) ∷ List.[]
+        g32 = e0 ∷ l1·1 ∷ l2·1 ∷ l3·1 ∷ l4·1 ∷ l5 ∷ e6 ∷ e7·1 ∷ e8 ∷ e9 ∷ e10 ∷ e11 ∷ e12 ∷ e13 ∷ e14 ∷ e15 ∷ List.[]
+
         abbrev g35 : List.List Row.Entry
-        g35 = (0, Rows.whole (Declared.row Relayed.the-type)) ∷ (1, Relend.mslice-owed RelayPending.row ref9 0 9 life0,) ∷ (2, Relend.mslice-owed
-            RelayCircuit.row ref10 1 10 life1,) ∷ (3, Relend.mslice-owed ReservationUsage.row ref11 2 11 life2,) ∷ (4, Relend.mslice-owed
-            InflightAction.row ref12 3 12 life3,) ∷ (5, Relend.mslice-owed (Referent.rtF (Referent.fInt Syntax.w32)) ref13 4 13 life4,) ∷ (6,
-            Rows.whole (Declared.row Script.the-type)) ∷ (7, Rows.whole (Declared.row Relayed.the-type),) ∷ (8, Rows.any-gone ref0,) ∷ (9,
-            Rows.any-gone (Syntax.tyStruct (38 ∷ 91 ∷ 93 ∷ List.[]) (Syntax.tcons ref0 (Syntax.tcons (Syntax.tyInt Syntax.w64) Syntax.tnil))),) ∷ (10,
-            Rows.any-gone ref1,) ∷ (11, Rows.any-gone (Syntax.tyStruct (38 ∷ 91 ∷ 93 ∷ List.[]) (Syntax.tcons ref1 (Syntax.tcons (Syntax.tyInt
-            Syntax.w64) Syntax.tnil))),) ∷ (12, Rows.any-gone ref2,) ∷ (13, Rows.any-gone (Syntax.tyStruct (38 ∷ 91 ∷ 93 ∷ List.[]) (Syntax.tcons ref2
-            (Syntax.tcons (Syntax.tyInt Syntax.w64) Syntax.tnil))),) ∷ (14, Rows.any-gone ref3,) ∷ (15, Rows.any-gone (Syntax.tyStruct (38 ∷ 91 ∷ 93 ∷
-            List.[]) (Syntax.tcons ref3 (Syntax.tcons (Syntax.tyInt Syntax.w64) Syntax.tnil))),) ∷ List.[]
+        g35 = e0·1 ∷ l1·1 ∷ l2·1 ∷ l3·1 ∷ l4·1 ∷ l5 ∷ e6 ∷ e7·1 ∷ e8 ∷ e9 ∷ e10 ∷ e11 ∷ e12 ∷ e13 ∷ e14 ∷ e15 ∷ List.[]
+
         abbrev g37 : List.List Row.Entry
-        g37 = (0, Rows.whole (Declared.row Relayed.the-type)) ∷ (1, Relend.mslice-owed RelayPending.row ref9 0 9 life0,) ∷ (2, Relend.mslice-owed
-            RelayCircuit.row ref10 1 10 life1,) ∷ (3, Relend.mslice-owed ReservationUsage.row ref11 2 11 life2,) ∷ (4, Relend.mslice-owed
-            InflightAction.row ref12 3 12 life3,) ∷ (5, Relend.mslice-owed (Referent.rtF (Referent.fInt Syntax.w32)) ref13 4 13 life4,) ∷ (6,
-            Rows.any-gone Laws.mir,) ∷ (7, Rows.whole (Declared.row Relayed.the-type)) ∷ (8, Rows.any-gone ref0,) ∷ (9, Rows.any-gone (Syntax.tyStruct
-            (38 ∷ 91 ∷ 93 ∷ List.[]) (Syntax.tcons ref0 (Syntax.tcons (Syntax.tyInt Syntax.w64) Syntax.tnil))),) ∷ (10, Rows.any-gone ref1,) ∷ (11,
-            Rows.any-gone (Syntax.tyStruct (38 ∷ 91 ∷ 93 ∷ List.[]) (Syntax.tcons ref1 (Syntax.tcons (Syntax.tyInt Syntax.w64) Syntax.tnil))),) ∷ (12,
-            Rows.any-gone ref2,) ∷ (13, Rows.any-gone (Syntax.tyStruct (38 ∷ 91 ∷ 93 ∷ List.[]) (Syntax.tcons ref2 (Syntax.tcons (Syntax.tyInt
-            Syntax.w64) Syntax.tnil))),) ∷ (14, Rows.any-gone ref3,) ∷ (15, Rows.any-gone (Syntax.tyStruct (38 ∷ 91 ∷ 93 ∷ List.[]) (Syntax.tcons ref3
-            (Syntax.tcons (Syntax.tyInt Syntax.w64) Syntax.tnil))),) ∷ List.[]
+        g37 = e0·1 ∷ l1·1 ∷ l2·1 ∷ l3·1 ∷ l4·1 ∷ l5 ∷ e6·1 ∷ e7·1 ∷ e8 ∷ e9 ∷ e10 ∷ e11 ∷ e12 ∷ e13 ∷ e14 ∷ e15 ∷
+            List.[]
+
         abbrev g38 : List.List Row.Entry
-        g38 = (0, Rows.whole (Declared.row Relayed.the-type)) ∷ (1, Relend.mslice-owed RelayPending.row ref9 0 9 life0,) ∷ (2, Relend.mslice-owed
-            RelayCircuit.row ref10 1 10 life1,) ∷ (3, Relend.mslice-owed ReservationUsage.row ref11 2 11 life2,) ∷ (4, Relend.mslice-owed
-            InflightAction.row ref12 3 12 life3,) ∷ (5, Relend.mslice-owed (Referent.rtF (Referent.fInt Syntax.w32)) ref13 4 13 life4,) ∷ (6,
-            Rows.any-gone Laws.mir,) ∷ (7, Rows.any-gone Laws'.mir,) ∷ (8, Rows.any-gone ref0,) ∷ (9, Rows.any-gone (Syntax.tyStruct (38 ∷ 91 ∷ 93 ∷
-            List.[]) (Syntax.tcons ref0 (Syntax.tcons (Syntax.tyInt Syntax.w64) Syntax.tnil))),) ∷ (10, Rows.any-gone ref1,) ∷ (11, Rows.any-gone
-            (Syntax.tyStruct (38 ∷ 91 ∷ 93 ∷ List.[]) (Syntax.tcons ref1 (Syntax.tcons (Syntax.tyInt Syntax.w64) Syntax.tnil))),) ∷ (12, Rows.any-gone
-            ref2,) ∷ (13, Rows.any-gone (Syntax.tyStruct (38 ∷ 91 ∷ 93 ∷ List.[]) (Syntax.tcons ref2 (Syntax.tcons (Syntax.tyInt Syntax.w64)
-            Syntax.tnil))),) ∷ (14, Rows.any-gone ref3,) ∷ (15, Rows.any-gone (Syntax.tyStruct (38 ∷ 91 ∷ 93 ∷ List.[]) (Syntax.tcons ref3
-            (Syntax.tcons (Syntax.tyInt Syntax.w64) Syntax.tnil))),) ∷ List.[]
+        g38 = e0·1 ∷ l1·1 ∷ l2·1 ∷ l3·1 ∷ l4·1 ∷ l5 ∷ e6·1 ∷ e7 ∷ e8 ∷ e9 ∷ e10 ∷ e11 ∷ e12 ∷ e13 ∷ e14 ∷ e15 ∷ List.[]
+
         abbrev g39 : List.List Row.Entry
-        g39 = (0, Rows.whole (Declared.row Relayed.the-type)) ∷ (1, Mut.mslice RelayPending.row ref9 0,) ∷ (2, Relend.mslice-owed RelayCircuit.row
-            ref10 1 10 life1,) ∷ (3, Relend.mslice-owed ReservationUsage.row ref11 2 11 life2,) ∷ (4, Relend.mslice-owed InflightAction.row ref12 3 12
-            life3,) ∷ (5, Relend.mslice-owed (Referent.rtF (Referent.fInt Syntax.w32)) ref13 4 13 life4,) ∷ (6, Rows.any-gone Laws.mir,) ∷ (7,
-            Rows.any-gone Laws'.mir,) ∷ (8, Rows.any-gone ref0,) ∷ (9, Rows.any-gone (Syntax.tyStruct (38 ∷ 91 ∷ 93 ∷ List.[]) (Syntax.tcons ref0
-            (Syntax.tcons (Syntax.tyInt Syntax.w64) Syntax.tnil))),) ∷ (10, Rows.any-gone ref1,) ∷ (11, Rows.any-gone (Syntax.tyStruct (38 ∷ 91 ∷ 93 ∷
-            List.[]) (Syntax.tcons ref1 (Syntax.tcons (Syntax.tyInt Syntax.w64) Syntax.tnil))),) ∷ (12, Rows.any-gone ref2,) ∷ (13, Rows.any-gone
-            (Syntax.tyStruct (38 ∷ 91 ∷ 93 ∷ List.[]) (Syntax.tcons ref2 (Syntax.tcons (Syntax.tyInt Syntax.w64) Syntax.tnil))),) ∷ (14, Rows.any-gone
-            ref3,) ∷ (15, Rows.any-gone (Syntax.tyStruct (38 ∷ 91 ∷ 93 ∷ List.[]) (Syntax.tcons ref3 (Syntax.tcons (Syntax.tyInt Syntax.w64)
-            Syntax.tnil))),) ∷ List.[]
+        g39 = e0·1 ∷ e1 ∷ l2·1 ∷ l3·1 ∷ l4·1 ∷ l5 ∷ e6·1 ∷ e7 ∷ e8 ∷ e9 ∷ e10 ∷ e11 ∷ e12 ∷ e13 ∷ e14 ∷ e15 ∷ List.[]
+
         abbrev g41 : List.List Row.Entry
-        g41 = (0, Rows.whole (Declared.row Relayed.the-type)) ∷ (1, Mut.mslice RelayPending.row ref9 0,) ∷ (2, Mut.mslice RelayCircuit.row ref10 1,) ∷
-            (3, Relend.mslice-owed ReservationUsage.row ref11 2 11 life2,) ∷ (4, Relend.mslice-owed InflightAction.row ref12 3 12 life3,) ∷ (5,
-            Relend.mslice-owed (Referent.rtF (Referent.fInt Syntax.w32)) ref13 4 13 life4,) ∷ (6, Rows.any-gone Laws.mir,) ∷ (7, Rows.any-gone
-            Laws'.mir,) ∷ (8, Rows.any-gone ref0,) ∷ (9, Rows.any-gone (Syntax.tyStruct (38 ∷ 91 ∷ 93 ∷ List.[]) (Syntax.tcons ref0 (Syntax.tcons
-            (Syntax.tyInt Syntax.w64) Syntax.tnil))),) ∷ (10, Rows.any-gone ref1,) ∷ (11, Rows.any-gone (Syntax.tyStruct (38 ∷ 91 ∷ 93 ∷ List.[])
-            (Syntax.tcons ref1 (Syntax.tcons (Syntax.tyInt Syntax.w64) Syntax.tnil))),) ∷ (12, Rows.any-gone ref2,) ∷ (13, Rows.any-gone
-            (Syntax.tyStruct (38 ∷ 91 ∷ 93 ∷ List.[]) (Syntax.tcons ref2 (Syntax.tcons (Syntax.tyInt Syntax.w64) Syntax.tnil))),) ∷ (14, Rows.any-gone
-            ref3,) ∷ (15, Rows.any-gone (Syntax.tyStruct (38 ∷ 91 ∷ 93 ∷ List.[]) (Syntax.tcons ref3 (Syntax.tcons (Syntax.tyInt Syntax.w64)
-            Syntax.tnil))),) ∷ List.[]
+        g41 = e0·1 ∷ e1 ∷ e2 ∷ l3·1 ∷ l4·1 ∷ l5 ∷ e6·1 ∷ e7 ∷ e8 ∷ e9 ∷ e10 ∷ e11 ∷ e12 ∷ e13 ∷ e14 ∷ e15 ∷ List.[]
+
         abbrev g43 : List.List Row.Entry
-        g43 = (0, Rows.whole (Declared.row Relayed.the-type)) ∷ (1, Mut.mslice RelayPending.row ref9 0,) ∷ (2, Mut.mslice RelayCircuit.row ref10 1,) ∷
-            (3, Mut.mslice ReservationUsage.row ref11 2,) ∷ (4, Relend.mslice-owed InflightAction.row ref12 3 12 life3,) ∷ (5, Relend.mslice-owed
-            (Referent.rtF (Referent.fInt Syntax.w32)) ref13 4 13 life4,) ∷ (6, Rows.any-gone Laws.mir,) ∷ (7, Rows.any-gone Laws'.mir,) ∷ (8,
-            Rows.any-gone ref0,) ∷ (9, Rows.any-gone (Syntax.tyStruct (38 ∷ 91 ∷ 93 ∷ List.[]) (Syntax.tcons ref0 (Syntax.tcons (Syntax.tyInt
-            Syntax.w64) Syntax.tnil))),) ∷ (10, Rows.any-gone ref1,) ∷ (11, Rows.any-gone (Syntax.tyStruct (38 ∷ 91 ∷ 93 ∷ List.[]) (Syntax.tcons ref1
-            (Syntax.tcons (Syntax.tyInt Syntax.w64) Syntax.tnil))),) ∷ (12, Rows.any-gone ref2,) ∷ (13, Rows.any-gone (Syntax.tyStruct (38 ∷ 91 ∷ 93 ∷
-            List.[]) (Syntax.tcons ref2 (Syntax.tcons (Syntax.tyInt Syntax.w64) Syntax.tnil))),) ∷ (14, Rows.any-gone ref3,) ∷ (15, Rows.any-gone
-            (Syntax.tyStruct (38 ∷ 91 ∷ 93 ∷ List.[]) (Syntax.tcons ref3 (Syntax.tcons (Syntax.tyInt Syntax.w64) Syntax.tnil))),) ∷ List.[]
+        g43 = e0·1 ∷ e1 ∷ e2 ∷ e3 ∷ l4·1 ∷ l5 ∷ e6·1 ∷ e7 ∷ e8 ∷ e9 ∷ e10 ∷ e11 ∷ e12 ∷ e13 ∷ e14 ∷ e15 ∷ List.[]
+
         abbrev g45 : List.List Row.Entry
-        g45 = (0, Rows.whole (Declared.row Relayed.the-type)) ∷ (1, Mut.mslice RelayPending.row ref9 0,) ∷ (2, Mut.mslice RelayCircuit.row ref10 1,) ∷
-            (3, Mut.mslice ReservationUsage.row ref11 2,) ∷ (4, Mut.mslice InflightAction.row ref12 3,) ∷ (5, Relend.mslice-owed (Referent.rtF
-            (Referent.fInt Syntax.w32)) ref13 4 13 life4,) ∷ (6, Rows.any-gone Laws.mir,) ∷ (7, Rows.any-gone Laws'.mir,) ∷ (8, Rows.any-gone ref0,) ∷
-            (9, Rows.any-gone (Syntax.tyStruct (38 ∷ 91 ∷ 93 ∷ List.[]) (Syntax.tcons ref0 (Syntax.tcons (Syntax.tyInt Syntax.w64) Syntax.tnil))),) ∷
-            (10, Rows.any-gone ref1,) ∷ (11, Rows.any-gone (Syntax.tyStruct (38 ∷ 91 ∷ 93 ∷ List.[]) (Syntax.tcons ref1 (Syntax.tcons (Syntax.tyInt
-            Syntax.w64) Syntax.tnil))),) ∷ (12, Rows.any-gone ref2,) ∷ (13, Rows.any-gone (Syntax.tyStruct (38 ∷ 91 ∷ 93 ∷ List.[]) (Syntax.tcons ref2
-            (Syntax.tcons (Syntax.tyInt Syntax.w64) Syntax.tnil))),) ∷ (14, Rows.any-gone ref3,) ∷ (15, Rows.any-gone (Syntax.tyStruct (38 ∷ 91 ∷ 93 ∷
-            List.[]) (Syntax.tcons ref3 (Syntax.tcons (Syntax.tyInt Syntax.w64) Syntax.tnil))),) ∷ List.[]
+        g45 = e0·1 ∷ e1 ∷ e2 ∷ e3 ∷ e4 ∷ l5 ∷ e6·1 ∷ e7 ∷ e8 ∷ e9 ∷ e10 ∷ e11 ∷ e12 ∷ e13 ∷ e14 ∷ e15 ∷ List.[]
+
         abbrev G0 : Row.Cx
-        G0 = record { locals = List._++_ t0 t1; slots = life0 ∷ life1 ∷ life2 ∷ life3 ∷ life4 ∷ Row.off ∷ Row.off ∷ Row.off ∷ Row.off ∷ Row.off ∷
-            Row.off ∷ Row.off ∷ Row.off ∷ Row.off ∷ List.[]; }
+        G0 = record {
+          locals = List._++_ t0 t1;
+          slots = life0 ∷ life1 ∷ life2 ∷ life3 ∷ life4 ∷ Row.off ∷ Row.off ∷ Row.off ∷ Row.off ∷ Row.off ∷ Row.off ∷
+              Row.off ∷ Row.off ∷ Row.off ∷ List.[];
+        }
+
         abbrev G1 : Row.Cx
-        G1 = record { locals = List._++_ t2 t1; slots = life0 ∷ life1 ∷ life2 ∷ life3 ∷ life4 ∷ Row.off ∷ Row.off ∷ Row.off ∷ Row.off ∷ Row.off ∷
-            Row.off ∷ Row.off ∷ Row.off ∷ Row.off ∷ List.[]; }
+        G1 = record {
+          locals = List._++_ t2 t1;
+          slots = life0 ∷ life1 ∷ life2 ∷ life3 ∷ life4 ∷ Row.off ∷ Row.off ∷ Row.off ∷ Row.off ∷ Row.off ∷ Row.off ∷
+              Row.off ∷ Row.off ∷ Row.off ∷ List.[];
+        }
+
         abbrev G2 : Row.Cx
-        G2 = record { locals = List._++_ t0 t1; slots = life0 ∷ life1 ∷ life2 ∷ life3 ∷ life4 ∷ Row.off ∷ Row.off ∷ Row.off ∷ Row.off ∷ Row.off ∷
-            Row.off ∷ Row.off ∷ Row.off ∷ Row.off ∷ List.[]; }
+        G2 = record {
+          locals = List._++_ t0 t1;
+          slots = life0 ∷ life1 ∷ life2 ∷ life3 ∷ life4 ∷ Row.off ∷ Row.off ∷ Row.off ∷ Row.off ∷ Row.off ∷ Row.off ∷
+              Row.off ∷ Row.off ∷ Row.off ∷ List.[];
+        }
+
         abbrev G3 : Row.Cx
-        G3 = record { locals = List._++_ t0 t1; slots = life0 ∷ life1 ∷ life2 ∷ life3 ∷ life4 ∷ Row.alive ∷ Row.off ∷ Row.off ∷ Row.off ∷ Row.off ∷
-            Row.off ∷ Row.off ∷ Row.off ∷ Row.off ∷ List.[]; }
+        G3 = record {
+          locals = List._++_ t0 t1;
+          slots = life0 ∷ life1 ∷ life2 ∷ life3 ∷ life4 ∷ Row.alive ∷ Row.off ∷ Row.off ∷ Row.off ∷ Row.off ∷ Row.off ∷
+              Row.off ∷ Row.off ∷ Row.off ∷ List.[];
+        }
+
         abbrev G4 : Row.Cx
-        G4 = record { locals = List._++_ g3 t1; slots = Row.off ∷ life1 ∷ life2 ∷ life3 ∷ life4 ∷ Row.alive ∷ Row.off ∷ Row.off ∷ Row.off ∷ Row.off ∷
-            Row.off ∷ Row.off ∷ Row.off ∷ Row.off ∷ List.[]; }
+        G4 = record {
+          locals = List._++_ g3 t1;
+          slots = Row.off ∷ life1 ∷ life2 ∷ life3 ∷ life4 ∷ Row.alive ∷ Row.off ∷ Row.off ∷ Row.off ∷ Row.off ∷ Row.off
+              ∷ Row.off ∷ Row.off ∷ Row.off ∷ List.[];
+        }
+
         abbrev G5 : Row.Cx
-        G5 = record { locals = List._++_ g4 t1; slots = Row.off ∷ life1 ∷ life2 ∷ life3 ∷ life4 ∷ Row.alive ∷ Row.off ∷ Row.off ∷ Row.off ∷ Row.off ∷
-            Row.off ∷ Row.off ∷ Row.off ∷ Row.off ∷ List.[]; }
+        G5 = record {
+          locals = List._++_ g4 t1;
+          slots = Row.off ∷ life1 ∷ life2 ∷ life3 ∷ life4 ∷ Row.alive ∷ Row.off ∷ Row.off ∷ Row.off ∷ Row.off ∷ Row.off
+              ∷ Row.off ∷ Row.off ∷ Row.off ∷ List.[];
+        }
+
         abbrev G6 : Row.Cx
-        G6 = record { locals = List._++_ g4 t1; slots = Row.off ∷ life1 ∷ life2 ∷ life3 ∷ life4 ∷ Row.alive ∷ Row.alive ∷ Row.off ∷ Row.off ∷ Row.off
-            ∷ Row.off ∷ Row.off ∷ Row.off ∷ Row.off ∷ List.[]; }
+        G6 = record {
+          locals = List._++_ g4 t1;
+          slots = Row.off ∷ life1 ∷ life2 ∷ life3 ∷ life4 ∷ Row.alive ∷ Row.alive ∷ Row.off ∷ Row.off ∷ Row.off ∷
+              Row.off ∷ Row.off ∷ Row.off ∷ Row.off ∷ List.[];
+        }
+
         abbrev G7 : Row.Cx
-        G7 = record { locals = List._++_ g5 t1; slots = Row.off ∷ Row.off ∷ life2 ∷ life3 ∷ life4 ∷ Row.alive ∷ Row.alive ∷ Row.off ∷ Row.off ∷
-            Row.off ∷ Row.off ∷ Row.off ∷ Row.off ∷ Row.off ∷ List.[]; }
+        G7 = record {
+          locals = List._++_ g5 t1;
+          slots = Row.off ∷ Row.off ∷ life2 ∷ life3 ∷ life4 ∷ Row.alive ∷ Row.alive ∷ Row.off ∷ Row.off ∷ Row.off ∷
+              Row.off ∷ Row.off ∷ Row.off ∷ Row.off ∷ List.[];
+        }
+
         abbrev G8 : Row.Cx
-        G8 = record { locals = List._++_ g6 t1; slots = Row.off ∷ Row.off ∷ life2 ∷ life3 ∷ life4 ∷ Row.alive ∷ Row.alive ∷ Row.off ∷ Row.off ∷
-            Row.off ∷ Row.off ∷ Row.off ∷ Row.off ∷ Row.off ∷ List.[]; }
+        G8 = record {
+          locals = List._++_ g6 t1;
+          slots = Row.off ∷ Row.off ∷ life2 ∷ life3 ∷ life4 ∷ Row.alive ∷ Row.alive ∷ Row.off ∷ Row.off ∷ Row.off ∷
+              Row.off ∷ Row.off ∷ Row.off ∷ Row.off ∷ List.[];
+        }
+
         abbrev G9 : Row.Cx
-        G9 = record { locals = List._++_ g6 t1; slots = Row.off ∷ Row.off ∷ life2 ∷ life3 ∷ life4 ∷ Row.alive ∷ Row.alive ∷ Row.alive ∷ Row.off ∷
-            Row.off ∷ Row.off ∷ Row.off ∷ Row.off ∷ Row.off ∷ List.[]; }
+        G9 = record {
+          locals = List._++_ g6 t1;
+          slots = Row.off ∷ Row.off ∷ life2 ∷ life3 ∷ life4 ∷ Row.alive ∷ Row.alive ∷ Row.alive ∷ Row.off ∷ Row.off ∷
+              Row.off ∷ Row.off ∷ Row.off ∷ Row.off ∷ List.[];
+        }
+
         abbrev G10 : Row.Cx
-        G10 = record { locals = List._++_ g7 t1; slots = Row.off ∷ Row.off ∷ Row.off ∷ life3 ∷ life4 ∷ Row.alive ∷ Row.alive ∷ Row.alive ∷ Row.off ∷
-            Row.off ∷ Row.off ∷ Row.off ∷ Row.off ∷ Row.off ∷ List.[]; }
+        G10 = record {
+          locals = List._++_ g7 t1;
+          slots = Row.off ∷ Row.off ∷ Row.off ∷ life3 ∷ life4 ∷ Row.alive ∷ Row.alive ∷ Row.alive ∷ Row.off ∷ Row.off ∷
+              Row.off ∷ Row.off ∷ Row.off ∷ Row.off ∷ List.[];
+        }
+
         abbrev G11 : Row.Cx
-        G11 = record { locals = List._++_ g8 t1; slots = Row.off ∷ Row.off ∷ Row.off ∷ life3 ∷ life4 ∷ Row.alive ∷ Row.alive ∷ Row.alive ∷ Row.off ∷
-            Row.off ∷ Row.off ∷ Row.off ∷ Row.off ∷ Row.off ∷ List.[]; }
+        G11 = record {
+          locals = List._++_ g8 t1;
+          slots = Row.off ∷ Row.off ∷ Row.off ∷ life3 ∷ life4 ∷ Row.alive ∷ Row.alive ∷ Row.alive ∷ Row.off ∷ Row.off ∷
+              Row.off ∷ Row.off ∷ Row.off ∷ Row.off ∷ List.[];
+        }
+
         abbrev G12 : Row.Cx
-        G12 = record { locals = List._++_ g8 t1; slots = Row.off ∷ Row.off ∷ Row.off ∷ life3 ∷ life4 ∷ Row.alive ∷ Row.alive ∷ Row.alive ∷ Row.alive ∷
-            Row.off ∷ Row.off ∷ Row.off ∷ Row.off ∷ Row.off ∷ List.[]; }
+        G12 = record {
+          locals = List._++_ g8 t1;
+          slots = Row.off ∷ Row.off ∷ Row.off ∷ life3 ∷ life4 ∷ Row.alive ∷ Row.alive ∷ Row.alive ∷ Row.alive ∷ Row.off
+              ∷ Row.off ∷ Row.off ∷ Row.off ∷ Row.off ∷ List.[];
+        }
+
         abbrev G13 : Row.Cx
-        G13 = record { locals = List._++_ g9 t1; slots = Row.off ∷ Row.off ∷ Row.off ∷ Row.off ∷ life4 ∷ Row.alive ∷ Row.alive ∷ Row.alive ∷ Row.alive
-            ∷ Row.off ∷ Row.off ∷ Row.off ∷ Row.off ∷ Row.off ∷ List.[]; }
+        G13 = record {
+          locals = List._++_ g9 t1;
+          slots = Row.off ∷ Row.off ∷ Row.off ∷ Row.off ∷ life4 ∷ Row.alive ∷ Row.alive ∷ Row.alive ∷ Row.alive ∷
+              Row.off ∷ Row.off ∷ Row.off ∷ Row.off ∷ Row.off ∷ List.[];
+        }
+
         abbrev G14 : Row.Cx
-        G14 = record { locals = List._++_ g10 t1; slots = Row.off ∷ Row.off ∷ Row.off ∷ Row.off ∷ life4 ∷ Row.alive ∷ Row.alive ∷ Row.alive ∷
-            Row.alive ∷ Row.off ∷ Row.off ∷ Row.off ∷ Row.off ∷ Row.off ∷ List.[]; }
+        G14 = record {
+          locals = List._++_ g10 t1;
+          slots = Row.off ∷ Row.off ∷ Row.off ∷ Row.off ∷ life4 ∷ Row.alive ∷ Row.alive ∷ Row.alive ∷ Row.alive ∷
+              Row.off ∷ Row.off ∷ Row.off ∷ Row.off ∷ Row.off ∷ List.[];
+        }
+
         abbrev G15 : Row.Cx
-        G15 = record { locals = List._++_ g11 t1; slots = Row.off ∷ Row.off ∷ Row.off ∷ Row.off ∷ life4 ∷ Row.alive ∷ Row.alive ∷ Row.alive ∷
-            Row.alive ∷ Row.off ∷ Row.off ∷ Row.off ∷ Row.off ∷ Row.off ∷ List.[]; }
+        G15 = record {
+          locals = List._++_ g11 t1;
+          slots = Row.off ∷ Row.off ∷ Row.off ∷ Row.off ∷ life4 ∷ Row.alive ∷ Row.alive ∷ Row.alive ∷ Row.alive ∷
+              Row.off ∷ Row.off ∷ Row.off ∷ Row.off ∷ Row.off ∷ List.[];
+        }
+
         abbrev G16 : Row.Cx
-        G16 = record { locals = List._++_ g12 t1; slots = Row.off ∷ Row.off ∷ Row.off ∷ Row.off ∷ life4 ∷ Row.alive ∷ Row.alive ∷ Row.alive ∷
-            Row.alive ∷ Row.off ∷ Row.off ∷ Row.off ∷ Row.off ∷ Row.off ∷ List.[]; }
+        G16 = record {
+          locals = List._++_ g12 t1;
+          slots = Row.off ∷ Row.off ∷ Row.off ∷ Row.off ∷ life4 ∷ Row.alive ∷ Row.alive ∷ Row.alive ∷ Row.alive ∷
+              Row.off ∷ Row.off ∷ Row.off ∷ Row.off ∷ Row.off ∷ List.[];
+        }
+
         abbrev G17 : Row.Cx
-        G17 = record { locals = List._++_ g13 t1; slots = Row.off ∷ Row.off ∷ Row.off ∷ Row.off ∷ life4 ∷ Row.alive ∷ Row.alive ∷ Row.alive ∷
-            Row.alive ∷ Row.off ∷ Row.off ∷ Row.off ∷ Row.off ∷ Row.off ∷ List.[]; }
+        G17 = record {
+          locals = List._++_ g13 t1;
+          slots = Row.off ∷ Row.off ∷ Row.off ∷ Row.off ∷ life4 ∷ Row.alive ∷ Row.alive ∷ Row.alive ∷ Row.alive ∷
+              Row.off ∷ Row.off ∷ Row.off ∷ Row.off ∷ Row.off ∷ List.[];
+        }
+
         abbrev G18 : Row.Cx
-        G18 = record { locals = List._++_ g14 t1; slots = Row.off ∷ Row.off ∷ Row.off ∷ Row.off ∷ life4 ∷ Row.alive ∷ Row.alive ∷ Row.alive ∷
-            Row.alive ∷ Row.off ∷ Row.off ∷ Row.off ∷ Row.off ∷ Row.off ∷ List.[]; }
+        G18 = record {
+          locals = List._++_ g14 t1;
+          slots = Row.off ∷ Row.off ∷ Row.off ∷ Row.off ∷ life4 ∷ Row.alive ∷ Row.alive ∷ Row.alive ∷ Row.alive ∷
+              Row.off ∷ Row.off ∷ Row.off ∷ Row.off ∷ Row.off ∷ List.[];
+        }
+
         abbrev G19 : Row.Cx
-        G19 = record { locals = List._++_ g15 t1; slots = Row.off ∷ Row.off ∷ Row.off ∷ Row.off ∷ life4 ∷ Row.alive ∷ Row.alive ∷ Row.alive ∷
-            Row.alive ∷ Row.off ∷ Row.off ∷ Row.off ∷ Row.off ∷ Row.off ∷ List.[]; }
+        G19 = record {
+          locals = List._++_ g15 t1;
+          slots = Row.off ∷ Row.off ∷ Row.off ∷ Row.off ∷ life4 ∷ Row.alive ∷ Row.alive ∷ Row.alive ∷ Row.alive ∷
+              Row.off ∷ Row.off ∷ Row.off ∷ Row.off ∷ Row.off ∷ List.[];
+        }
+
         abbrev G20 : Row.Cx
-        G20 = record { locals = List._++_ g15 t1; slots = Row.off ∷ Row.off ∷ Row.off ∷ Row.off ∷ life4 ∷ Row.dead ∷ Row.alive ∷ Row.alive ∷ Row.alive
-            ∷ Row.off ∷ Row.off ∷ Row.off ∷ Row.off ∷ Row.off ∷ List.[]; }
+        G20 = record {
+          locals = List._++_ g15 t1;
+          slots = Row.off ∷ Row.off ∷ Row.off ∷ Row.off ∷ life4 ∷ Row.dead ∷ Row.alive ∷ Row.alive ∷ Row.alive ∷
+              Row.off ∷ Row.off ∷ Row.off ∷ Row.off ∷ Row.off ∷ List.[];
+        }
+
         abbrev G21 : Row.Cx
-        G21 = record { locals = List._++_ g16 t1; slots = life0 ∷ Row.off ∷ Row.off ∷ Row.off ∷ life4 ∷ Row.dead ∷ Row.alive ∷ Row.alive ∷ Row.alive ∷
-            Row.off ∷ Row.off ∷ Row.off ∷ Row.off ∷ Row.off ∷ List.[]; }
+        G21 = record {
+          locals = List._++_ g16 t1;
+          slots = life0 ∷ Row.off ∷ Row.off ∷ Row.off ∷ life4 ∷ Row.dead ∷ Row.alive ∷ Row.alive ∷ Row.alive ∷ Row.off
+              ∷ Row.off ∷ Row.off ∷ Row.off ∷ Row.off ∷ List.[];
+        }
+
         abbrev G22 : Row.Cx
-        G22 = record { locals = List._++_ g16 t1; slots = life0 ∷ Row.off ∷ Row.off ∷ Row.off ∷ life4 ∷ Row.off ∷ Row.alive ∷ Row.alive ∷ Row.alive ∷
-            Row.off ∷ Row.off ∷ Row.off ∷ Row.off ∷ Row.off ∷ List.[]; }
+        G22 = record {
+          locals = List._++_ g16 t1;
+          slots = life0 ∷ Row.off ∷ Row.off ∷ Row.off ∷ life4 ∷ Row.off ∷ Row.alive ∷ Row.alive ∷ Row.alive ∷ Row.off ∷
+              Row.off ∷ Row.off ∷ Row.off ∷ Row.off ∷ List.[];
+        }
+
         abbrev G23 : Row.Cx
-        G23 = record { locals = List._++_ g16 t1; slots = life0 ∷ Row.off ∷ Row.off ∷ Row.off ∷ life4 ∷ Row.off ∷ Row.dead ∷ Row.alive ∷ Row.alive ∷
-            Row.off ∷ Row.off ∷ Row.off ∷ Row.off ∷ Row.off ∷ List.[]; }
+        G23 = record {
+          locals = List._++_ g16 t1;
+          slots = life0 ∷ Row.off ∷ Row.off ∷ Row.off ∷ life4 ∷ Row.off ∷ Row.dead ∷ Row.alive ∷ Row.alive ∷ Row.off ∷
+              Row.off ∷ Row.off ∷ Row.off ∷ Row.off ∷ List.[];
+        }
+
         abbrev G24 : Row.Cx
-        G24 = record { locals = List._++_ g17 t1; slots = life0 ∷ life1 ∷ Row.off ∷ Row.off ∷ life4 ∷ Row.off ∷ Row.dead ∷ Row.alive ∷ Row.alive ∷
-            Row.off ∷ Row.off ∷ Row.off ∷ Row.off ∷ Row.off ∷ List.[]; }
+        G24 = record {
+          locals = List._++_ g17 t1;
+          slots = life0 ∷ life1 ∷ Row.off ∷ Row.off ∷ life4 ∷ Row.off ∷ Row.dead ∷ Row.alive ∷ Row.alive ∷ Row.off ∷
+              Row.off ∷ Row.off ∷ Row.off ∷ Row.off ∷ List.[];
+        }
+
         abbrev G25 : Row.Cx
-        G25 = record { locals = List._++_ g17 t1; slots = life0 ∷ life1 ∷ Row.off ∷ Row.off ∷ life4 ∷ Row.off ∷ Row.off ∷ Row.alive ∷ Row.alive ∷
-            Row.off ∷ Row.off ∷ Row.off ∷ Row.off ∷ Row.off ∷ List.[]; }
+        G25 = record {
+          locals = List._++_ g17 t1;
+          slots = life0 ∷ life1 ∷ Row.off ∷ Row.off ∷ life4 ∷ Row.off ∷ Row.off ∷ Row.alive ∷ Row.alive ∷ Row.off ∷
+              Row.off ∷ Row.off ∷ Row.off ∷ Row.off ∷ List.[];
+        }
+
         abbrev G26 : Row.Cx
-        G26 = record { locals = List._++_ g17 t1; slots = life0 ∷ life1 ∷ Row.off ∷ Row.off ∷ life4 ∷ Row.off ∷ Row.off ∷ Row.dead ∷ Row.alive ∷
-            Row.off ∷ Row.off ∷ Row.off ∷ Row.off ∷ Row.off ∷ List.[]; }
+        G26 = record {
+          locals = List._++_ g17 t1;
+          slots = life0 ∷ life1 ∷ Row.off ∷ Row.off ∷ life4 ∷ Row.off ∷ Row.off ∷ Row.dead ∷ Row.alive ∷ Row.off ∷
+              Row.off ∷ Row.off ∷ Row.off ∷ Row.off ∷ List.[];
+        }
+
         abbrev G27 : Row.Cx
-        G27 = record { locals = List._++_ g18 t1; slots = life0 ∷ life1 ∷ life2 ∷ Row.off ∷ life4 ∷ Row.off ∷ Row.off ∷ Row.dead ∷ Row.alive ∷ Row.off
-            ∷ Row.off ∷ Row.off ∷ Row.off ∷ Row.off ∷ List.[]; }
+        G27 = record {
+          locals = List._++_ g18 t1;
+          slots = life0 ∷ life1 ∷ life2 ∷ Row.off ∷ life4 ∷ Row.off ∷ Row.off ∷ Row.dead ∷ Row.alive ∷ Row.off ∷
+              Row.off ∷ Row.off ∷ Row.off ∷ Row.off ∷ List.[];
+        }
+
         abbrev G28 : Row.Cx
-        G28 = record { locals = List._++_ g18 t1; slots = life0 ∷ life1 ∷ life2 ∷ Row.off ∷ life4 ∷ Row.off ∷ Row.off ∷ Row.off ∷ Row.alive ∷ Row.off
-            ∷ Row.off ∷ Row.off ∷ Row.off ∷ Row.off ∷ List.[]; }
+        G28 = record {
+          locals = List._++_ g18 t1;
+          slots = life0 ∷ life1 ∷ life2 ∷ Row.off ∷ life4 ∷ Row.off ∷ Row.off ∷ Row.off ∷ Row.alive ∷ Row.off ∷ Row.off
+              ∷ Row.off ∷ Row.off ∷ Row.off ∷ List.[];
+        }
+
         abbrev G29 : Row.Cx
-        G29 = record { locals = List._++_ g18 t1; slots = life0 ∷ life1 ∷ life2 ∷ Row.off ∷ life4 ∷ Row.off ∷ Row.off ∷ Row.off ∷ Row.dead ∷ Row.off ∷
-            Row.off ∷ Row.off ∷ Row.off ∷ Row.off ∷ List.[]; }
+        G29 = record {
+          locals = List._++_ g18 t1;
+          slots = life0 ∷ life1 ∷ life2 ∷ Row.off ∷ life4 ∷ Row.off ∷ Row.off ∷ Row.off ∷ Row.dead ∷ Row.off ∷ Row.off
+              ∷ Row.off ∷ Row.off ∷ Row.off ∷ List.[];
+        }
+
         abbrev G30 : Row.Cx
-        G30 = record { locals = List._++_ t19 t1; slots = life0 ∷ life1 ∷ life2 ∷ life3 ∷ life4 ∷ Row.off ∷ Row.off ∷ Row.off ∷ Row.dead ∷ Row.off ∷
-            Row.off ∷ Row.off ∷ Row.off ∷ Row.off ∷ List.[]; }
+        G30 = record {
+          locals = List._++_ t19 t1;
+          slots = life0 ∷ life1 ∷ life2 ∷ life3 ∷ life4 ∷ Row.off ∷ Row.off ∷ Row.off ∷ Row.dead ∷ Row.off ∷ Row.off ∷
+              Row.off ∷ Row.off ∷ Row.off ∷ List.[];
+        }
+
         abbrev G31 : Row.Cx
-        G31 = record { locals = List._++_ t19 t1; slots = life0 ∷ life1 ∷ life2 ∷ life3 ∷ life4 ∷ Row.off ∷ Row.off ∷ Row.off ∷ Row.off ∷ Row.off ∷
-            Row.off ∷ Row.off ∷ Row.off ∷ Row.off ∷ List.[]; }
+        G31 = record {
+          locals = List._++_ t19 t1;
+          slots = life0 ∷ life1 ∷ life2 ∷ life3 ∷ life4 ∷ Row.off ∷ Row.off ∷ Row.off ∷ Row.off ∷ Row.off ∷ Row.off ∷
+              Row.off ∷ Row.off ∷ Row.off ∷ List.[];
+        }
+
         abbrev G32 : Row.Cx
-        G32 = record { locals = List._++_ t19 t1; slots = life0 ∷ life1 ∷ life2 ∷ life3 ∷ life4 ∷ Row.off ∷ Row.off ∷ Row.off ∷ Row.off ∷ Row.alive ∷
-            Row.off ∷ Row.off ∷ Row.off ∷ Row.off ∷ List.[]; }
+        G32 = record {
+          locals = List._++_ t19 t1;
+          slots = life0 ∷ life1 ∷ life2 ∷ life3 ∷ life4 ∷ Row.off ∷ Row.off ∷ Row.off ∷ Row.off ∷ Row.alive ∷ Row.off ∷
+              Row.off ∷ Row.off ∷ Row.off ∷ List.[];
+        }
+
         abbrev G33 : Row.Cx
-        G33 = record { locals = List._++_ g20 t21; slots = Row.off ∷ life1 ∷ life2 ∷ life3 ∷ life4 ∷ Row.off ∷ Row.off ∷ Row.off ∷ Row.off ∷ Row.alive
-            ∷ Row.off ∷ Row.off ∷ Row.off ∷ Row.off ∷ List.[]; }
+        G33 = record {
+          locals = List._++_ g20 t21;
+          slots = Row.off ∷ life1 ∷ life2 ∷ life3 ∷ life4 ∷ Row.off ∷ Row.off ∷ Row.off ∷ Row.off ∷ Row.alive ∷ Row.off
+              ∷ Row.off ∷ Row.off ∷ Row.off ∷ List.[];
+        }
+
         abbrev G34 : Row.Cx
-        G34 = record { locals = List._++_ g20 t22; slots = Row.off ∷ life1 ∷ life2 ∷ life3 ∷ life4 ∷ Row.off ∷ Row.off ∷ Row.off ∷ Row.off ∷ Row.alive
-            ∷ Row.off ∷ Row.off ∷ Row.off ∷ Row.off ∷ List.[]; }
+        G34 = record {
+          locals = List._++_ g20 t22;
+          slots = Row.off ∷ life1 ∷ life2 ∷ life3 ∷ life4 ∷ Row.off ∷ Row.off ∷ Row.off ∷ Row.off ∷ Row.alive ∷ Row.off
+              ∷ Row.off ∷ Row.off ∷ Row.off ∷ List.[];
+        }
+
         abbrev G35 : Row.Cx
-        G35 = record { locals = List._++_ g20 t22; slots = Row.off ∷ life1 ∷ life2 ∷ life3 ∷ life4 ∷ Row.off ∷ Row.off ∷ Row.off ∷ Row.off ∷ Row.alive
-            ∷ Row.alive ∷ Row.off ∷ Row.off ∷ Row.off ∷ List.[]; }
+        G35 = record {
+          locals = List._++_ g20 t22;
+          slots = Row.off ∷ life1 ∷ life2 ∷ life3 ∷ life4 ∷ Row.off ∷ Row.off ∷ Row.off ∷ Row.off ∷ Row.alive ∷
+              Row.alive ∷ Row.off ∷ Row.off ∷ Row.off ∷ List.[];
+        }
+
         abbrev G36 : Row.Cx
-        G36 = record { locals = List._++_ g23 t24; slots = Row.off ∷ Row.off ∷ life2 ∷ life3 ∷ life4 ∷ Row.off ∷ Row.off ∷ Row.off ∷ Row.off ∷
-            Row.alive ∷ Row.alive ∷ Row.off ∷ Row.off ∷ Row.off ∷ List.[]; }
+        G36 = record {
+          locals = List._++_ g23 t24;
+          slots = Row.off ∷ Row.off ∷ life2 ∷ life3 ∷ life4 ∷ Row.off ∷ Row.off ∷ Row.off ∷ Row.off ∷ Row.alive ∷
+              Row.alive ∷ Row.off ∷ Row.off ∷ Row.off ∷ List.[];
+        }
+
         abbrev G37 : Row.Cx
-        G37 = record { locals = List._++_ g23 t25; slots = Row.off ∷ Row.off ∷ life2 ∷ life3 ∷ life4 ∷ Row.off ∷ Row.off ∷ Row.off ∷ Row.off ∷
-            Row.alive ∷ Row.alive ∷ Row.off ∷ Row.off ∷ Row.off ∷ List.[]; }
+        G37 = record {
+          locals = List._++_ g23 t25;
+          slots = Row.off ∷ Row.off ∷ life2 ∷ life3 ∷ life4 ∷ Row.off ∷ Row.off ∷ Row.off ∷ Row.off ∷ Row.alive ∷
+              Row.alive ∷ Row.off ∷ Row.off ∷ Row.off ∷ List.[];
+        }
+
         abbrev G38 : Row.Cx
-        G38 = record { locals = List._++_ g23 t25; slots = Row.off ∷ Row.off ∷ life2 ∷ life3 ∷ life4 ∷ Row.off ∷ Row.off ∷ Row.off ∷ Row.off ∷
-            Row.alive ∷ Row.alive ∷ Row.alive ∷ Row.off ∷ Row.off ∷ List.[]; }
+        G38 = record {
+          locals = List._++_ g23 t25;
+          slots = Row.off ∷ Row.off ∷ life2 ∷ life3 ∷ life4 ∷ Row.off ∷ Row.off ∷ Row.off ∷ Row.off ∷ Row.alive ∷
+              Row.alive ∷ Row.alive ∷ Row.off ∷ Row.off ∷ List.[];
+        }
+
         abbrev G39 : Row.Cx
-        G39 = record { locals = List._++_ g26 t27; slots = Row.off ∷ Row.off ∷ Row.off ∷ life3 ∷ life4 ∷ Row.off ∷ Row.off ∷ Row.off ∷ Row.off ∷
-            Row.alive ∷ Row.alive ∷ Row.alive ∷ Row.off ∷ Row.off ∷ List.[]; }
+        G39 = record {
+          locals = List._++_ g26 t27;
+          slots = Row.off ∷ Row.off ∷ Row.off ∷ life3 ∷ life4 ∷ Row.off ∷ Row.off ∷ Row.off ∷ Row.off ∷ Row.alive ∷
+              Row.alive ∷ Row.alive ∷ Row.off ∷ Row.off ∷ List.[];
+        }
+
         abbrev G40 : Row.Cx
-        G40 = record { locals = List._++_ g26 t28; slots = Row.off ∷ Row.off ∷ Row.off ∷ life3 ∷ life4 ∷ Row.off ∷ Row.off ∷ Row.off ∷ Row.off ∷
-            Row.alive ∷ Row.alive ∷ Row.alive ∷ Row.off ∷ Row.off ∷ List.[]; }
+        G40 = record {
+          locals = List._++_ g26 t28;
+          slots = Row.off ∷ Row.off ∷ Row.off ∷ life3 ∷ life4 ∷ Row.off ∷ Row.off ∷ Row.off ∷ Row.off ∷ Row.alive ∷
+              Row.alive ∷ Row.alive ∷ Row.off ∷ Row.off ∷ List.[];
+        }
+
         abbrev G41 : Row.Cx
-        G41 = record { locals = List._++_ g26 t28; slots = Row.off ∷ Row.off ∷ Row.off ∷ life3 ∷ life4 ∷ Row.off ∷ Row.off ∷ Row.off ∷ Row.off ∷
-            Row.alive ∷ Row.alive ∷ Row.alive ∷ Row.alive ∷ Row.off ∷ List.[]; }
+        G41 = record {
+          locals = List._++_ g26 t28;
+          slots = Row.off ∷ Row.off ∷ Row.off ∷ life3 ∷ life4 ∷ Row.off ∷ Row.off ∷ Row.off ∷ Row.off ∷ Row.alive ∷
+              Row.alive ∷ Row.alive ∷ Row.alive ∷ Row.off ∷ List.[];
+        }
+
         abbrev G42 : Row.Cx
-        G42 = record { locals = List._++_ g29 t30; slots = Row.off ∷ Row.off ∷ Row.off ∷ Row.off ∷ life4 ∷ Row.off ∷ Row.off ∷ Row.off ∷ Row.off ∷
-            Row.alive ∷ Row.alive ∷ Row.alive ∷ Row.alive ∷ Row.off ∷ List.[]; }
+        G42 = record {
+          locals = List._++_ g29 t30;
+          slots = Row.off ∷ Row.off ∷ Row.off ∷ Row.off ∷ life4 ∷ Row.off ∷ Row.off ∷ Row.off ∷ Row.off ∷ Row.alive ∷
+              Row.alive ∷ Row.alive ∷ Row.alive ∷ Row.off ∷ List.[];
+        }
+
         abbrev G43 : Row.Cx
-        G43 = record { locals = List._++_ g29 t31; slots = Row.off ∷ Row.off ∷ Row.off ∷ Row.off ∷ life4 ∷ Row.off ∷ Row.off ∷ Row.off ∷ Row.off ∷
-            Row.alive ∷ Row.alive ∷ Row.alive ∷ Row.alive ∷ Row.off ∷ List.[]; }
+        G43 = record {
+          locals = List._++_ g29 t31;
+          slots = Row.off ∷ Row.off ∷ Row.off ∷ Row.off ∷ life4 ∷ Row.off ∷ Row.off ∷ Row.off ∷ Row.off ∷ Row.alive ∷
+              Row.alive ∷ Row.alive ∷ Row.alive ∷ Row.off ∷ List.[];
+        }
+
         abbrev G44 : Row.Cx
-        G44 = record { locals = List._++_ g29 t31; slots = Row.off ∷ Row.off ∷ Row.off ∷ Row.off ∷ life4 ∷ Row.off ∷ Row.off ∷ Row.off ∷ Row.off ∷
-            Row.alive ∷ Row.alive ∷ Row.alive ∷ Row.alive ∷ Row.alive ∷ List.[]; }
+        G44 = record {
+          locals = List._++_ g29 t31;
+          slots = Row.off ∷ Row.off ∷ Row.off ∷ Row.off ∷ life4 ∷ Row.off ∷ Row.off ∷ Row.off ∷ Row.off ∷ Row.alive ∷
+              Row.alive ∷ Row.alive ∷ Row.alive ∷ Row.alive ∷ List.[];
+        }
+
         abbrev G45 : Row.Cx
-        G45 = record { locals = List._++_ g32 t33; slots = Row.off ∷ Row.off ∷ Row.off ∷ Row.off ∷ Row.off ∷ Row.off ∷ Row.off ∷ Row.off ∷ Row.off ∷
-            Row.alive ∷ Row.alive ∷ Row.alive ∷ Row.alive ∷ Row.alive ∷ List.[]; }
+        G45 = record {
+          locals = List._++_ g32 t33;
+          slots = Row.off ∷ Row.off ∷ Row.off ∷ Row.off ∷ Row.off ∷ Row.off ∷ Row.off ∷ Row.off ∷ Row.off ∷ Row.alive ∷
+              Row.alive ∷ Row.alive ∷ Row.alive ∷ Row.alive ∷ List.[];
+        }
+
         abbrev G46 : Row.Cx
-        G46 = record { locals = List._++_ g32 t34; slots = Row.off ∷ Row.off ∷ Row.off ∷ Row.off ∷ Row.off ∷ Row.off ∷ Row.off ∷ Row.off ∷ Row.off ∷
-            Row.alive ∷ Row.alive ∷ Row.alive ∷ Row.alive ∷ Row.alive ∷ List.[]; }
+        G46 = record {
+          locals = List._++_ g32 t34;
+          slots = Row.off ∷ Row.off ∷ Row.off ∷ Row.off ∷ Row.off ∷ Row.off ∷ Row.off ∷ Row.off ∷ Row.off ∷ Row.alive ∷
+              Row.alive ∷ Row.alive ∷ Row.alive ∷ Row.alive ∷ List.[];
+        }
+
         abbrev G47 : Row.Cx
-        G47 = record { locals = List._++_ g35 t36; slots = Row.off ∷ Row.off ∷ Row.off ∷ Row.off ∷ Row.off ∷ Row.off ∷ Row.off ∷ Row.off ∷ Row.off ∷
-            Row.alive ∷ Row.alive ∷ Row.alive ∷ Row.alive ∷ Row.alive ∷ List.[]; }
+        G47 = record {
+          locals = List._++_ g35 t36;
+          slots = Row.off ∷ Row.off ∷ Row.off ∷ Row.off ∷ Row.off ∷ Row.off ∷ Row.off ∷ Row.off ∷ Row.off ∷ Row.alive ∷
+              Row.alive ∷ Row.alive ∷ Row.alive ∷ Row.alive ∷ List.[];
+        }
+
         abbrev G48 : Row.Cx
-        G48 = record { locals = List._++_ g37 t36; slots = Row.off ∷ Row.off ∷ Row.off ∷ Row.off ∷ Row.off ∷ Row.off ∷ Row.off ∷ Row.off ∷ Row.off ∷
-            Row.alive ∷ Row.alive ∷ Row.alive ∷ Row.alive ∷ Row.alive ∷ List.[]; }
+        G48 = record {
+          locals = List._++_ g37 t36;
+          slots = Row.off ∷ Row.off ∷ Row.off ∷ Row.off ∷ Row.off ∷ Row.off ∷ Row.off ∷ Row.off ∷ Row.off ∷ Row.alive ∷
+              Row.alive ∷ Row.alive ∷ Row.alive ∷ Row.alive ∷ List.[];
+        }
+
         abbrev G49 : Row.Cx
-        G49 = record { locals = List._++_ g38 t36; slots = Row.off ∷ Row.off ∷ Row.off ∷ Row.off ∷ Row.off ∷ Row.off ∷ Row.off ∷ Row.off ∷ Row.off ∷
-            Row.alive ∷ Row.alive ∷ Row.alive ∷ Row.alive ∷ Row.alive ∷ List.[]; }
+        G49 = record {
+          locals = List._++_ g38 t36;
+          slots = Row.off ∷ Row.off ∷ Row.off ∷ Row.off ∷ Row.off ∷ Row.off ∷ Row.off ∷ Row.off ∷ Row.off ∷ Row.alive ∷
+              Row.alive ∷ Row.alive ∷ Row.alive ∷ Row.alive ∷ List.[];
+        }
+
         abbrev G50 : Row.Cx
-        G50 = record { locals = List._++_ g38 t36; slots = Row.off ∷ Row.off ∷ Row.off ∷ Row.off ∷ Row.off ∷ Row.off ∷ Row.off ∷ Row.off ∷ Row.off ∷
-            Row.dead ∷ Row.alive ∷ Row.alive ∷ Row.alive ∷ Row.alive ∷ List.[]; }
+        G50 = record {
+          locals = List._++_ g38 t36;
+          slots = Row.off ∷ Row.off ∷ Row.off ∷ Row.off ∷ Row.off ∷ Row.off ∷ Row.off ∷ Row.off ∷ Row.off ∷ Row.dead ∷
+              Row.alive ∷ Row.alive ∷ Row.alive ∷ Row.alive ∷ List.[];
+        }
+
         abbrev G51 : Row.Cx
-        G51 = record { locals = List._++_ g39 t40; slots = life0 ∷ Row.off ∷ Row.off ∷ Row.off ∷ Row.off ∷ Row.off ∷ Row.off ∷ Row.off ∷ Row.off ∷
-            Row.dead ∷ Row.alive ∷ Row.alive ∷ Row.alive ∷ Row.alive ∷ List.[]; }
+        G51 = record {
+          locals = List._++_ g39 t40;
+          slots = life0 ∷ Row.off ∷ Row.off ∷ Row.off ∷ Row.off ∷ Row.off ∷ Row.off ∷ Row.off ∷ Row.off ∷ Row.dead ∷
+              Row.alive ∷ Row.alive ∷ Row.alive ∷ Row.alive ∷ List.[];
+        }
+
         abbrev G52 : Row.Cx
-        G52 = record { locals = List._++_ g39 t40; slots = life0 ∷ Row.off ∷ Row.off ∷ Row.off ∷ Row.off ∷ Row.off ∷ Row.off ∷ Row.off ∷ Row.off ∷
-            Row.off ∷ Row.alive ∷ Row.alive ∷ Row.alive ∷ Row.alive ∷ List.[]; }
+        G52 = record {
+          locals = List._++_ g39 t40;
+          slots = life0 ∷ Row.off ∷ Row.off ∷ Row.off ∷ Row.off ∷ Row.off ∷ Row.off ∷ Row.off ∷ Row.off ∷ Row.off ∷
+              Row.alive ∷ Row.alive ∷ Row.alive ∷ Row.alive ∷ List.[];
+        }
+
         abbrev G53 : Row.Cx
-        G53 = record { locals = List._++_ g39 t40; slots = life0 ∷ Row.off ∷ Row.off ∷ Row.off ∷ Row.off ∷ Row.off ∷ Row.off ∷ Row.off ∷ Row.off ∷
-            Row.off ∷ Row.dead ∷ Row.alive ∷ Row.alive ∷ Row.alive ∷ List.[]; }
+        G53 = record {
+          locals = List._++_ g39 t40;
+          slots = life0 ∷ Row.off ∷ Row.off ∷ Row.off ∷ Row.off ∷ Row.off ∷ Row.off ∷ Row.off ∷ Row.off ∷ Row.off ∷
+              Row.dead ∷ Row.alive ∷ Row.alive ∷ Row.alive ∷ List.[];
+        }
+
         abbrev G54 : Row.Cx
-        G54 = record { locals = List._++_ g41 t42; slots = life0 ∷ life1 ∷ Row.off ∷ Row.off ∷ Row.off ∷ Row.off ∷ Row.off ∷ Row.off ∷ Row.off ∷
-            Row.off ∷ Row.dead ∷ Row.alive ∷ Row.alive ∷ Row.alive ∷ List.[]; }
+        G54 = record {
+          locals = List._++_ g41 t42;
+          slots = life0 ∷ life1 ∷ Row.off ∷ Row.off ∷ Row.off ∷ Row.off ∷ Row.off ∷ Row.off ∷ Row.off ∷ Row.off ∷
+              Row.dead ∷ Row.alive ∷ Row.alive ∷ Row.alive ∷ List.[];
+        }
+
         abbrev G55 : Row.Cx
-        G55 = record { locals = List._++_ g41 t42; slots = life0 ∷ life1 ∷ Row.off ∷ Row.off ∷ Row.off ∷ Row.off ∷ Row.off ∷ Row.off ∷ Row.off ∷
-            Row.off ∷ Row.off ∷ Row.alive ∷ Row.alive ∷ Row.alive ∷ List.[]; }
+        G55 = record {
+          locals = List._++_ g41 t42;
+          slots = life0 ∷ life1 ∷ Row.off ∷ Row.off ∷ Row.off ∷ Row.off ∷ Row.off ∷ Row.off ∷ Row.off ∷ Row.off ∷
+              Row.off ∷ Row.alive ∷ Row.alive ∷ Row.alive ∷ List.[];
+        }
+
         abbrev G56 : Row.Cx
-        G56 = record { locals = List._++_ g41 t42; slots = life0 ∷ life1 ∷ Row.off ∷ Row.off ∷ Row.off ∷ Row.off ∷ Row.off ∷ Row.off ∷ Row.off ∷
-            Row.off ∷ Row.off ∷ Row.dead ∷ Row.alive ∷ Row.alive ∷ List.[]; }
+        G56 = record {
+          locals = List._++_ g41 t42;
+          slots = life0 ∷ life1 ∷ Row.off ∷ Row.off ∷ Row.off ∷ Row.off ∷ Row.off ∷ Row.off ∷ Row.off ∷ Row.off ∷
+              Row.off ∷ Row.dead ∷ Row.alive ∷ Row.alive ∷ List.[];
+        }
+
         abbrev G57 : Row.Cx
-        G57 = record { locals = List._++_ g43 t44; slots = life0 ∷ life1 ∷ life2 ∷ Row.off ∷ Row.off ∷ Row.off ∷ Row.off ∷ Row.off ∷ Row.off ∷ Row.off
-            ∷ Row.off ∷ Row.dead ∷ Row.alive ∷ Row.alive ∷ List.[]; }
+        G57 = record {
+          locals = List._++_ g43 t44;
+          slots = life0 ∷ life1 ∷ life2 ∷ Row.off ∷ Row.off ∷ Row.off ∷ Row.off ∷ Row.off ∷ Row.off ∷ Row.off ∷ Row.off
+              ∷ Row.dead ∷ Row.alive ∷ Row.alive ∷ List.[];
+        }
+
         abbrev G58 : Row.Cx
-        G58 = record { locals = List._++_ g43 t44; slots = life0 ∷ life1 ∷ life2 ∷ Row.off ∷ Row.off ∷ Row.off ∷ Row.off ∷ Row.off ∷ Row.off ∷ Row.off
-            ∷ Row.off ∷ Row.off ∷ Row.alive ∷ Row.alive ∷ List.[]; }
+        G58 = record {
+          locals = List._++_ g43 t44;
+          slots = life0 ∷ life1 ∷ life2 ∷ Row.off ∷ Row.off ∷ Row.off ∷ Row.off ∷ Row.off ∷ Row.off ∷ Row.off ∷ Row.off
+              ∷ Row.off ∷ Row.alive ∷ Row.alive ∷ List.[];
+        }
+
         abbrev G59 : Row.Cx
-        G59 = record { locals = List._++_ g43 t44; slots = life0 ∷ life1 ∷ life2 ∷ Row.off ∷ Row.off ∷ Row.off ∷ Row.off ∷ Row.off ∷ Row.off ∷ Row.off
-            ∷ Row.off ∷ Row.off ∷ Row.dead ∷ Row.alive ∷ List.[]; }
+        G59 = record {
+          locals = List._++_ g43 t44;
+          slots = life0 ∷ life1 ∷ life2 ∷ Row.off ∷ Row.off ∷ Row.off ∷ Row.off ∷ Row.off ∷ Row.off ∷ Row.off ∷ Row.off
+              ∷ Row.off ∷ Row.dead ∷ Row.alive ∷ List.[];
+        }
+
         abbrev G60 : Row.Cx
-        G60 = record { locals = List._++_ g45 t46; slots = life0 ∷ life1 ∷ life2 ∷ life3 ∷ Row.off ∷ Row.off ∷ Row.off ∷ Row.off ∷ Row.off ∷ Row.off ∷
-            Row.off ∷ Row.off ∷ Row.dead ∷ Row.alive ∷ List.[]; }
+        G60 = record {
+          locals = List._++_ g45 t46;
+          slots = life0 ∷ life1 ∷ life2 ∷ life3 ∷ Row.off ∷ Row.off ∷ Row.off ∷ Row.off ∷ Row.off ∷ Row.off ∷ Row.off ∷
+              Row.off ∷ Row.dead ∷ Row.alive ∷ List.[];
+        }
+
         abbrev G61 : Row.Cx
-        G61 = record { locals = List._++_ g45 t46; slots = life0 ∷ life1 ∷ life2 ∷ life3 ∷ Row.off ∷ Row.off ∷ Row.off ∷ Row.off ∷ Row.off ∷ Row.off ∷
-            Row.off ∷ Row.off ∷ Row.off ∷ Row.alive ∷ List.[]; }
+        G61 = record {
+          locals = List._++_ g45 t46;
+          slots = life0 ∷ life1 ∷ life2 ∷ life3 ∷ Row.off ∷ Row.off ∷ Row.off ∷ Row.off ∷ Row.off ∷ Row.off ∷ Row.off ∷
+              Row.off ∷ Row.off ∷ Row.alive ∷ List.[];
+        }
+
         abbrev G62 : Row.Cx
-        G62 = record { locals = List._++_ g45 t46; slots = life0 ∷ life1 ∷ life2 ∷ life3 ∷ Row.off ∷ Row.off ∷ Row.off ∷ Row.off ∷ Row.off ∷ Row.off ∷
-            Row.off ∷ Row.off ∷ Row.off ∷ Row.dead ∷ List.[]; }
+        G62 = record {
+          locals = List._++_ g45 t46;
+          slots = life0 ∷ life1 ∷ life2 ∷ life3 ∷ Row.off ∷ Row.off ∷ Row.off ∷ Row.off ∷ Row.off ∷ Row.off ∷ Row.off ∷
+              Row.off ∷ Row.off ∷ Row.dead ∷ List.[];
+        }
+
         abbrev G63 : Row.Cx
-        G63 = record { locals = List._++_ t2 t1; slots = life0 ∷ life1 ∷ life2 ∷ life3 ∷ life4 ∷ Row.off ∷ Row.off ∷ Row.off ∷ Row.off ∷ Row.off ∷
-            Row.off ∷ Row.off ∷ Row.off ∷ Row.dead ∷ List.[]; }
+        G63 = record {
+          locals = List._++_ t2 t1;
+          slots = life0 ∷ life1 ∷ life2 ∷ life3 ∷ life4 ∷ Row.off ∷ Row.off ∷ Row.off ∷ Row.off ∷ Row.off ∷ Row.off ∷
+              Row.off ∷ Row.off ∷ Row.dead ∷ List.[];
+        }
+
         abbrev G64 : Row.Cx
-        G64 = record { locals = List._++_ t2 t1; slots = life0 ∷ life1 ∷ life2 ∷ life3 ∷ life4 ∷ Row.off ∷ Row.off ∷ Row.off ∷ Row.off ∷ Row.off ∷
-            Row.off ∷ Row.off ∷ Row.off ∷ Row.dead ∷ List.[]; }
+        G64 = record {
+          locals = List._++_ t2 t1;
+          slots = life0 ∷ life1 ∷ life2 ∷ life3 ∷ life4 ∷ Row.off ∷ Row.off ∷ Row.off ∷ Row.off ∷ Row.off ∷ Row.off ∷
+              Row.off ∷ Row.off ∷ Row.dead ∷ List.[];
+        }
+
         abbrev G65 : Row.Cx
-        G65 = record { locals = List._++_ t2 t1; slots = life0 ∷ life1 ∷ life2 ∷ life3 ∷ life4 ∷ Row.off ∷ Row.off ∷ Row.off ∷ Row.off ∷ Row.off ∷
-            Row.off ∷ Row.off ∷ Row.off ∷ Row.off ∷ List.[]; }
+        G65 = record {
+          locals = List._++_ t2 t1;
+          slots = life0 ∷ life1 ∷ life2 ∷ life3 ∷ life4 ∷ Row.off ∷ Row.off ∷ Row.off ∷ Row.off ∷ Row.off ∷ Row.off ∷
+              Row.off ∷ Row.off ∷ Row.off ∷ List.[];
+        }
+
         abbrev Δ0 : Typed.Outs
         Δ0 = record { next = Option.none; exits = List.[]; returns = Option.some G1 }
-        module _ { M : Type 1 } (𝓤 : URA.URA M) (H : Wp.Heap 𝓤) (A : Atoms.Atoms 𝓤) (W : Kit.Given 𝓤 H A) (𝓣 : Wp.Tables 𝓤 H) (known : Knowns 𝓤 H A W
-            𝓣) (bs : List.List Nat.ℕ) (bd : Lifetimes.AllOutlive 5 (Kinds.osR r) κs) where
+
+        module _ {M : Type 1} (𝓤 : URA.URA M) (H : Wp.Heap 𝓤) (A : Atoms.Atoms 𝓤) (W : Kit.Given 𝓤 H A)
+            (𝓣 : Wp.Tables 𝓤 H) (known : Knowns 𝓤 H A W 𝓣) (bs : List.List Nat.ℕ)
+            (bd : Lifetimes.AllOutlive 5 (Kinds.osR r) κs) where
           abbrev E : Wp.Env 𝓤 H
           E = Frame.EnvOf 𝓤 H ((Kinds.tyR r) ∷ (Enter.tysP ps xs)) bs
+
           d0 : Typed.Typed 𝓤 H A 𝓣 E G65 b20 Δ0 at0
           d0 = Typed.t-return 𝓤 H A W 𝓣 E Δ0 tt
+
           d1 : Typed.Typed 𝓤 H A 𝓣 E G64 b20 Δ0 at1
-          d1 = Typed.g-pre 𝓤 H A W 𝓣 E G64 G65 b20 Δ0 (λ Ψ. Ψ) at0 (Lifetime.g-forget 𝓤 H A W E G64 13 Row.dead Path.refl) d0
+          d1 = Typed.g-pre 𝓤 H A W 𝓣 E G64 G65 b20 Δ0 (λ Ψ. Ψ) at0
+              (Lifetime.g-forget 𝓤 H A W E G64 13 Row.dead Path.refl) d0
+
           d2 : Typed.Typed 𝓤 H A 𝓣 E G63 b20 Δ0 at2
-          d2 = Typed.g-pre 𝓤 H A W 𝓣 E G63 G64 b20 Δ0 (Typed.give s62) at1 (Know.g-sl-known 𝓤 H A W (Referent.fInt Syntax.w32) E G63 5 4 ref13 life4 0
-              (λ x. x) record { fits = Dec.lit< tt } (Reads'.as-is 𝓤 H A (Mut.mslice (Referent.rtF (Referent.fInt Syntax.w32)) ref13 4)) Path.refl tt)
-              d1
+          d2 = Typed.g-pre 𝓤 H A W 𝓣 E G63 G64 b20 Δ0 (Typed.give s62) at1 (Know.g-sl-known 𝓤 H A W
+              (Referent.fInt Syntax.w32) E G63 5 4 ref13 life4 0 (λ x. x) record { fits = Dec.lit< tt } (Reads'.as-is 𝓤
+              H A (Mut.mslice (Referent.rtF (Referent.fInt Syntax.w32)) ref13 4)) Path.refl tt) d1
+
           d3 : Typed.Typed 𝓤 H A 𝓣 E G62 b20 Δ0 at3
-          d3 = Typed.g-pre 𝓤 H A W 𝓣 E G62 G63 b20 Δ0 (Typed.both s61) at2 (Relend.g-back-sl 𝓤 H A W E (Referent.rtF (Referent.fInt Syntax.w32)) G62
-              25 5 4 13 ref13 ref8 life4 (λ x. x) (λ x. x) (Reads'.as-is 𝓤 H A (Mut.msleft (Referent.rtF (Referent.fInt Syntax.w32)) ref8))
-              (Reads'.as-is 𝓤 H A (Relend.mslice-owed (Referent.rtF (Referent.fInt Syntax.w32)) ref13 4 13 life4)) Path.refl Path.refl) d2
+          d3 = Typed.g-pre 𝓤 H A W 𝓣 E G62 G63 b20 Δ0 (Typed.both s61) at2 (Relend.g-back-sl 𝓤 H A W E
+              (Referent.rtF (Referent.fInt Syntax.w32)) G62 25 5 4 13 ref13 ref8 life4 (λ x. x) (λ x. x) (Reads'.as-is
+              𝓤 H A (Mut.msleft (Referent.rtF (Referent.fInt Syntax.w32)) ref8)) (Reads'.as-is 𝓤 H A (Relend.mslice-owed
+              (Referent.rtF (Referent.fInt Syntax.w32)) ref13 4 13 life4)) Path.refl Path.refl) d2
+
           d4 : Typed.Typed 𝓤 H A 𝓣 E G61 b20 Δ0 at4
           d4 = Typed.g-pre 𝓤 H A W 𝓣 E G61 G62 b20 Δ0 (λ Ψ. Ψ) at3 (Lifetime.g-end 𝓤 H A W E G61 13 Path.refl) d3
+
           d5 : Typed.Typed 𝓤 H A 𝓣 E G60 b20 Δ0 at5
-          d5 = Typed.g-pre 𝓤 H A W 𝓣 E G60 G61 b20 Δ0 (λ Ψ. Ψ) at4 (Lifetime.g-forget 𝓤 H A W E G60 12 Row.dead Path.refl) d4
+          d5 = Typed.g-pre 𝓤 H A W 𝓣 E G60 G61 b20 Δ0 (λ Ψ. Ψ) at4
+              (Lifetime.g-forget 𝓤 H A W E G60 12 Row.dead Path.refl) d4
+
           d6 : Typed.Typed 𝓤 H A 𝓣 E G59 b20 Δ0 at6
-          d6 = Typed.g-pre 𝓤 H A W 𝓣 E G59 G60 b20 Δ0 (Typed.both s58) at5 (Relend.g-back-sl 𝓤 H A W E InflightAction.row G59 23 4 3 12 ref12 ref7
-              life3 (λ x. x) (λ x. x) (Reads'.as-is 𝓤 H A (Mut.msleft InflightAction.row ref7)) (Reads'.as-is 𝓤 H A (Relend.mslice-owed
-              InflightAction.row ref12 3 12 life3)) Path.refl Path.refl) d5
+          d6 = Typed.g-pre 𝓤 H A W 𝓣 E G59 G60 b20 Δ0 (Typed.both s58) at5 (Relend.g-back-sl 𝓤 H A W E
+              InflightAction.row G59 23 4 3 12 ref12 ref7 life3 (λ x. x) (λ x. x)
+              (Reads'.as-is 𝓤 H A (Mut.msleft InflightAction.row ref7)) (Reads'.as-is 𝓤 H A
+              (Relend.mslice-owed InflightAction.row ref12 3 12 life3)) Path.refl Path.refl) d5
+
           d7 : Typed.Typed 𝓤 H A 𝓣 E G58 b20 Δ0 at7
           d7 = Typed.g-pre 𝓤 H A W 𝓣 E G58 G59 b20 Δ0 (λ Ψ. Ψ) at6 (Lifetime.g-end 𝓤 H A W E G58 12 Path.refl) d6
+
           d8 : Typed.Typed 𝓤 H A 𝓣 E G57 b20 Δ0 at8
-          d8 = Typed.g-pre 𝓤 H A W 𝓣 E G57 G58 b20 Δ0 (λ Ψ. Ψ) at7 (Lifetime.g-forget 𝓤 H A W E G57 11 Row.dead Path.refl) d7
+          d8 = Typed.g-pre 𝓤 H A W 𝓣 E G57 G58 b20 Δ0 (λ Ψ. Ψ) at7
+              (Lifetime.g-forget 𝓤 H A W E G57 11 Row.dead Path.refl) d7
+
           d9 : Typed.Typed 𝓤 H A 𝓣 E G56 b20 Δ0 at9
-          d9 = Typed.g-pre 𝓤 H A W 𝓣 E G56 G57 b20 Δ0 (Typed.both s55) at8 (Relend.g-back-sl 𝓤 H A W E ReservationUsage.row G56 21 3 2 11 ref11 ref6
-              life2 (λ x. x) (λ x. x) (Reads'.as-is 𝓤 H A (Mut.msleft ReservationUsage.row ref6)) (Reads'.as-is 𝓤 H A (Relend.mslice-owed
-              ReservationUsage.row ref11 2 11 life2)) Path.refl Path.refl) d8
+          d9 = Typed.g-pre 𝓤 H A W 𝓣 E G56 G57 b20 Δ0 (Typed.both s55) at8 (Relend.g-back-sl 𝓤 H A W E
+              ReservationUsage.row G56 21 3 2 11 ref11 ref6 life2 (λ x. x) (λ x. x)
+              (Reads'.as-is 𝓤 H A (Mut.msleft ReservationUsage.row ref6)) (Reads'.as-is 𝓤 H A
+              (Relend.mslice-owed ReservationUsage.row ref11 2 11 life2)) Path.refl Path.refl) d8
+
           d10 : Typed.Typed 𝓤 H A 𝓣 E G55 b20 Δ0 at10
           d10 = Typed.g-pre 𝓤 H A W 𝓣 E G55 G56 b20 Δ0 (λ Ψ. Ψ) at9 (Lifetime.g-end 𝓤 H A W E G55 11 Path.refl) d9
+
           d11 : Typed.Typed 𝓤 H A 𝓣 E G54 b20 Δ0 at11
-          d11 = Typed.g-pre 𝓤 H A W 𝓣 E G54 G55 b20 Δ0 (λ Ψ. Ψ) at10 (Lifetime.g-forget 𝓤 H A W E G54 10 Row.dead Path.refl) d10
+          d11 = Typed.g-pre 𝓤 H A W 𝓣 E G54 G55 b20 Δ0 (λ Ψ. Ψ) at10
+              (Lifetime.g-forget 𝓤 H A W E G54 10 Row.dead Path.refl) d10
+
           d12 : Typed.Typed 𝓤 H A 𝓣 E G53 b20 Δ0 at12
-          d12 = Typed.g-pre 𝓤 H A W 𝓣 E G53 G54 b20 Δ0 (Typed.both s52) at11 (Relend.g-back-sl 𝓤 H A W E RelayCircuit.row G53 19 2 1 10 ref10 ref5
-              life1 (λ x. x) (λ x. x) (Reads'.as-is 𝓤 H A (Mut.msleft RelayCircuit.row ref5)) (Reads'.as-is 𝓤 H A (Relend.mslice-owed RelayCircuit.row
-              ref10 1 10 life1)) Path.refl Path.refl) d11
+          d12 = Typed.g-pre 𝓤 H A W 𝓣 E G53 G54 b20 Δ0 (Typed.both s52) at11 (Relend.g-back-sl 𝓤 H A W E
+              RelayCircuit.row G53 19 2 1 10 ref10 ref5 life1 (λ x. x) (λ x. x)
+              (Reads'.as-is 𝓤 H A (Mut.msleft RelayCircuit.row ref5)) (Reads'.as-is 𝓤 H A
+              (Relend.mslice-owed RelayCircuit.row ref10 1 10 life1)) Path.refl Path.refl) d11
+
           d13 : Typed.Typed 𝓤 H A 𝓣 E G52 b20 Δ0 at13
           d13 = Typed.g-pre 𝓤 H A W 𝓣 E G52 G53 b20 Δ0 (λ Ψ. Ψ) at12 (Lifetime.g-end 𝓤 H A W E G52 10 Path.refl) d12
+
           d14 : Typed.Typed 𝓤 H A 𝓣 E G51 b20 Δ0 at14
-          d14 = Typed.g-pre 𝓤 H A W 𝓣 E G51 G52 b20 Δ0 (λ Ψ. Ψ) at13 (Lifetime.g-forget 𝓤 H A W E G51 9 Row.dead Path.refl) d13
+          d14 = Typed.g-pre 𝓤 H A W 𝓣 E G51 G52 b20 Δ0 (λ Ψ. Ψ) at13
+              (Lifetime.g-forget 𝓤 H A W E G51 9 Row.dead Path.refl) d13
+
           d15 : Typed.Typed 𝓤 H A 𝓣 E G50 b20 Δ0 at15
-          d15 = Typed.g-pre 𝓤 H A W 𝓣 E G50 G51 b20 Δ0 (Typed.both s49) at14 (Relend.g-back-sl 𝓤 H A W E RelayPending.row G50 17 1 0 9 ref9 ref4 life0
-              (λ x. x) (λ x. x) (Reads'.as-is 𝓤 H A (Mut.msleft RelayPending.row ref4)) (Reads'.as-is 𝓤 H A (Relend.mslice-owed RelayPending.row ref9
-              0 9 life0)) Path.refl Path.refl) d14
+          d15 = Typed.g-pre 𝓤 H A W 𝓣 E G50 G51 b20 Δ0 (Typed.both s49) at14 (Relend.g-back-sl 𝓤 H A W E
+              RelayPending.row G50 17 1 0 9 ref9 ref4 life0 (λ x. x) (λ x. x)
+              (Reads'.as-is 𝓤 H A (Mut.msleft RelayPending.row ref4)) (Reads'.as-is 𝓤 H A
+              (Relend.mslice-owed RelayPending.row ref9 0 9 life0)) Path.refl Path.refl) d14
+
           d16 : Typed.Typed 𝓤 H A 𝓣 E G49 b20 Δ0 at16
           d16 = Typed.g-pre 𝓤 H A W 𝓣 E G49 G50 b20 Δ0 (λ Ψ. Ψ) at15 (Lifetime.g-end 𝓤 H A W E G49 9 Path.refl) d15
+
           d17 : Typed.Typed 𝓤 H A 𝓣 E G48 b20 Δ0 at17
-          d17 = Typed.g-pre 𝓤 H A W 𝓣 E G48 G49 b20 Δ0 (Typed.pass T48 T49 s47) at16 (Scalar.g-room 𝓤 H A W E G48 7 Laws'.mir (Local.room-whole 𝓤 H A
-              W (Declared.row Relayed.the-type) Laws'.mir Path.refl)) d16
+          d17 = Typed.g-pre 𝓤 H A W 𝓣 E G48 G49 b20 Δ0 (Typed.pass T48 T49 s47) at16 (Scalar.g-room 𝓤 H A W E G48 7
+              Laws'.mir (Local.room-whole 𝓤 H A W (Declared.row Relayed.the-type) Laws'.mir Path.refl)) d16
+
           d18 : Typed.Typed 𝓤 H A 𝓣 E G47 b20 Δ0 at18
-          d18 = Typed.g-pre 𝓤 H A W 𝓣 E G47 G48 b20 Δ0 (Typed.pass T47 T48 s46) at17 (Scalar.g-room 𝓤 H A W E G47 6 Laws.mir (Local.room-whole 𝓤 H A W
-              (Declared.row Script.the-type) Laws.mir Path.refl)) d17
+          d18 = Typed.g-pre 𝓤 H A W 𝓣 E G47 G48 b20 Δ0 (Typed.pass T47 T48 s46) at17 (Scalar.g-room 𝓤 H A W E G47 6
+              Laws.mir (Local.room-whole 𝓤 H A W (Declared.row Script.the-type) Laws.mir Path.refl)) d17
+
           d19 : Typed.Typed 𝓤 H A 𝓣 E G46 b21 Δ0 at19
-          d19 = Typed.s-seq 𝓤 H A W 𝓣 E G46 G47 b19 b20 Δ0 (Typed.both s45) at18 (Plain.t-call-plain 𝓤 H A W 𝓣 5 ps·1 r·1 (claims· .2) (claims· .3)
-              "cases::machine::open_and_accept" (known .1) E (λ pos β. β) G46 (record { pos = 17; ty = Syntax.tyRef Syntax.erased Syntax.mut
-              RelayPending.to; ref = λ x. x; }, (record { pos = 19; ty = Syntax.tyRef Syntax.erased Syntax.mut RelayCircuit.to; ref = λ x. x; },
-              (record { pos = 21; ty = Syntax.tyRef Syntax.erased Syntax.mut ReservationUsage.to; ref = λ x. x; }, (record { pos = 23; ty =
-              Syntax.tyRef Syntax.erased Syntax.mut InflightAction.to; ref = λ x. x; }, (record { pos = 25; ty = Syntax.tyRef Syntax.erased Syntax.mut
-              (Syntax.tyInt Syntax.w32); ref = λ x. x; }, (record { pos = 7; st = List.[]; d = 0; at = λ x. x }, (Num.vFld 6 ((Syntax.field 1) ∷
-              List.[]) 8 λ x. Script.struct .as-values x .1 .0, tt,),),),),),),) 0 (9 ∷ 10 ∷ 11 ∷ 12 ∷ 13 ∷ List.[]) (Call.sub-id 𝓤 H A W (G46
-              .slots)) (Reads'.as-is 𝓤 H A (Mut.mslice RelayPending.row ref4 9), Mut.reads-mslice 𝓤 H A W RelayPending.row ref4 9, Path.refl,
-              (Reads'.as-is 𝓤 H A (Mut.mslice RelayCircuit.row ref5 10), Mut.reads-mslice 𝓤 H A W RelayCircuit.row ref5 10, Path.refl, (Reads'.as-is 𝓤
-              H A (Mut.mslice ReservationUsage.row ref6 11), Mut.reads-mslice 𝓤 H A W ReservationUsage.row ref6 11, Path.refl, (Reads'.as-is 𝓤 H A
-              (Mut.mslice InflightAction.row ref7 12), Mut.reads-mslice 𝓤 H A W InflightAction.row ref7 12, Path.refl, (Reads'.as-is 𝓤 H A (Mut.mslice
-              (Referent.rtF (Referent.fInt Syntax.w32)) ref8 13), Mut.reads-mslice 𝓤 H A W (Referent.rtF (Referent.fInt Syntax.w32)) ref8 13,
-              Path.refl, ((Yields.yields-copy 𝓤 H A W (λ ρ. Unit) (Declared.row Relayed.the-type) Path.refl (Copies.cStruct Relayed.the-type
-              Laws'.the-laws Laws'.the-copy .copy 𝓤 H A W) (Rows.whole (Declared.row Relayed.the-type)) (λ x. x) (λ x. x) (λ ρ told. Local.mem-whole 𝓤
-              H A W (Declared.row Relayed.the-type) ρ) λ ρ told. Local.whole-mem 𝓤 H A W (Declared.row Relayed.the-type) ρ, Path.refl,),
-              ((Reads.reads-field 𝓤 H A W Script.the-type Laws.the-laws 1 (Syntax.tyInt Syntax.w64) 8 Path.refl, Path.refl,), tt,),),),),),),)
-              (Reads'.room-gone 𝓤 H A Laws'.mir) (tt, (tt, (tt, (tt, (tt, tt))))) Path.refl) d18
+          d19 = Typed.s-seq 𝓤 H A W 𝓣 E G46 G47 b19 b20 Δ0 (Typed.both s45) at18 (Plain.t-call-plain 𝓤 H A W 𝓣 5 ps·1
+              r·1 (claims· .2) (claims· .3) "cases::machine::open_and_accept" (known .1) E (λ pos β. β) G46 (
+                record { pos = 17; ty = ref4; ref = λ x. x },
+                (
+                  record { pos = 19; ty = ref5; ref = λ x. x },
+                  (
+                    record { pos = 21; ty = ref6; ref = λ x. x },
+                    (
+                      record { pos = 23; ty = ref7; ref = λ x. x },
+                      (
+                        record { pos = 25; ty = ref8; ref = λ x. x },
+                        (
+                          record { pos = 7; st = List.[]; d = 0; at = λ x. x },
+                          (Num.vFld 6 ((Syntax.field 1) ∷ List.[]) 8 λ x. Script.struct .as-values x .1 .0, tt),
+                        ),
+                      ),
+                    ),
+                  ),
+                ),
+              ) 0 (9 ∷ 10 ∷ 11 ∷ 12 ∷ 13 ∷ List.[]) (Call.sub-id 𝓤 H A W (G46 .slots)) (
+                Reads'.as-is 𝓤 H A (Mut.mslice RelayPending.row ref4 9),
+                Mut.reads-mslice 𝓤 H A W RelayPending.row ref4 9,
+                Path.refl,
+                (
+                  Reads'.as-is 𝓤 H A (Mut.mslice RelayCircuit.row ref5 10),
+                  Mut.reads-mslice 𝓤 H A W RelayCircuit.row ref5 10,
+                  Path.refl,
+                  (
+                    Reads'.as-is 𝓤 H A (Mut.mslice ReservationUsage.row ref6 11),
+                    Mut.reads-mslice 𝓤 H A W ReservationUsage.row ref6 11,
+                    Path.refl,
+                    (
+                      Reads'.as-is 𝓤 H A (Mut.mslice InflightAction.row ref7 12),
+                      Mut.reads-mslice 𝓤 H A W InflightAction.row ref7 12,
+                      Path.refl,
+                      (
+                        Reads'.as-is 𝓤 H A (Mut.mslice (Referent.rtF (Referent.fInt Syntax.w32)) ref8 13),
+                        Mut.reads-mslice 𝓤 H A W (Referent.rtF (Referent.fInt Syntax.w32)) ref8 13,
+                        Path.refl,
+                        (
+                          (
+                            Yields.yields-copy 𝓤 H A W (λ ρ. Unit) (Declared.row Relayed.the-type) Path.refl (Copies.cStruct
+                                Relayed.the-type Laws'.the-laws Laws'.the-copy .copy 𝓤 H A W)
+                                (Rows.whole (Declared.row Relayed.the-type)) (λ x. x) (λ x. x) (λ ρ told.
+                                Local.mem-whole 𝓤 H A W (Declared.row Relayed.the-type) ρ) λ ρ told. Local.whole-mem 𝓤
+                                H A W (Declared.row Relayed.the-type) ρ,
+                            Path.refl,
+                          ),
+                          (
+                            (
+                              Reads.reads-field 𝓤 H A W Script.the-type Laws.the-laws 1 (Syntax.tyInt Syntax.w64) 8
+                                  Path.refl,
+                              Path.refl,
+                            ),
+                            tt,
+                          ),
+                        ),
+                      ),
+                    ),
+                  ),
+                ),
+              ) (Reads'.room-gone 𝓤 H A Laws'.mir) (tt, (tt, (tt, (tt, (tt, tt))))) Path.refl) d18
+
           d20 : Typed.Typed 𝓤 H A 𝓣 E G45 b22 Δ0 at20
-          d20 = Typed.s-seq 𝓤 H A W 𝓣 E G45 G46 b18 b21 Δ0 (Typed.ask s44) at19 (Relend.t-sl-aggregate 𝓤 H A W E (Referent.rtF (Referent.fInt
-              Syntax.w32)) 𝓣 (Relend.asMut (Referent.rtF (Referent.fInt Syntax.w32))) G45 24 25 13 ref8 ref8 (λ x. x) (Scalar.oFld 5 ((Syntax.field 1)
-              ∷ List.[]) (Syntax.tyInt Syntax.w64) 8 λ v. Shared.lenV (v .0)) (Reads'.as-is 𝓤 H A (Relend.msptr (Referent.rtF (Referent.fInt
-              Syntax.w32)) ref8 13)) (Reads'.room-gone 𝓤 H A (Syntax.tyStruct (38 ∷ 91 ∷ 93 ∷ List.[]) (Syntax.tcons ref8 (Syntax.tcons (Syntax.tyInt
-              Syntax.w64) Syntax.tnil)))) (Relend.reads-owed-len 𝓤 H A W (Referent.rtF (Referent.fInt Syntax.w32)) ref13 4 13 life4 8 Path.refl,
-              Path.refl,) Path.refl Path.refl λ b o k. tt) d19
+          d20 = Typed.s-seq 𝓤 H A W 𝓣 E G45 G46 b18 b21 Δ0 (Typed.ask s44) at19 (Relend.t-sl-aggregate 𝓤 H A W E
+              (Referent.rtF (Referent.fInt Syntax.w32)) 𝓣 (Relend.asMut (Referent.rtF (Referent.fInt Syntax.w32))) G45
+              24 25 13 ref8 ref8 (λ x. x) (Scalar.oFld 5 ((Syntax.field 1) ∷ List.[]) (Syntax.tyInt Syntax.w64) 8 λ v.
+              Shared.lenV (v .0)) (Reads'.as-is 𝓤 H A (Relend.msptr (Referent.rtF (Referent.fInt Syntax.w32)) ref8 13))
+              (Reads'.room-gone 𝓤 H A slice8) (
+                Relend.reads-owed-len 𝓤 H A W (Referent.rtF (Referent.fInt Syntax.w32)) ref13 4 13 life4 8 Path.refl,
+                Path.refl,
+              ) Path.refl Path.refl λ b o k. tt) d19
+
           d21 : Typed.Typed 𝓤 H A 𝓣 E G44 b23 Δ0 at21
-          d21 = Typed.s-seq 𝓤 H A W 𝓣 E G44 G45 b17 b22 Δ0 (Typed.give s43) at20 (Relend.t-sl-relend 𝓤 H A W E (Referent.rtF (Referent.fInt
-              Syntax.w32)) 𝓣 G44 5 24 4 13 ref13 ref8 life4 0 (λ x. x) (Reads'.as-is 𝓤 H A (Mut.mslice (Referent.rtF (Referent.fInt Syntax.w32)) ref13
-              4)) (Reads'.room-gone 𝓤 H A ref8) Path.refl tt Path.refl Path.refl Path.refl λ b o. tt) d20
+          d21 = Typed.s-seq 𝓤 H A W 𝓣 E G44 G45 b17 b22 Δ0 (Typed.give s43) at20 (Relend.t-sl-relend 𝓤 H A W E
+              (Referent.rtF (Referent.fInt Syntax.w32)) 𝓣 G44 5 24 4 13 ref13 ref8 life4 0 (λ x. x) (Reads'.as-is 𝓤 H A (Mut.mslice
+              (Referent.rtF (Referent.fInt Syntax.w32)) ref13 4)) (Reads'.room-gone 𝓤 H A ref8) Path.refl tt Path.refl
+              Path.refl Path.refl λ b o. tt) d20
+
           d22 : Typed.Typed 𝓤 H A 𝓣 E G43 b23 Δ0 at22
-          d22 = Typed.g-pre 𝓤 H A W 𝓣 E G43 G44 b23 Δ0 (λ Ψ. Ψ) at21 (Lifetime.g-begin 𝓤 H A W E G43 13 (tt, ((tt, tt), ((tt, tt), ((tt, tt), ((tt,
-              tt), (tt, (tt, (tt, (tt, (tt, (tt, (tt, (tt, (tt, (tt, (tt, (tt, (tt, (tt, (tt, (tt, (tt, (tt, (tt, (tt, (tt,
-              tt)))))),),),),),),),),),),),),),),),),),),),),)) d21
+          d22 = Typed.g-pre 𝓤 H A W 𝓣 E G43 G44 b23 Δ0 (λ Ψ. Ψ) at21 (Lifetime.g-begin 𝓤 H A W E G43 13 (
+            tt,
+            (
+              (tt, tt),
+              (
+                (tt, tt),
+                (
+                  (tt, tt),
+                  (
+                    (tt, tt),
+                    (
+                      tt,
+                      (
+                        tt,
+                        (
+                          tt,
+                          (
+                            tt,
+                            (
+                              tt,
+                              (
+                                tt,
+                                (
+                                  tt,
+                                  (
+                                    tt,
+                                    (tt, (tt, (tt, (tt, (tt, (tt, (tt, (tt, (tt, (tt, (tt, (tt, (tt, tt))))))))))))),
+                                  ),
+                                ),
+                              ),
+                            ),
+                          ),
+                        ),
+                      ),
+                    ),
+                  ),
+                ),
+              ),
+            ),
+          )) d21
+
           d23 : Typed.Typed 𝓤 H A 𝓣 E G42 b24 Δ0 at23
-          d23 = Typed.s-seq 𝓤 H A W 𝓣 E G42 G43 b16 b23 Δ0 (Typed.ask s41) at22 (Relend.t-sl-aggregate 𝓤 H A W E InflightAction.row 𝓣 (Relend.asMut
-              InflightAction.row) G42 22 23 12 ref7 ref7 (λ x. x) (Scalar.oFld 4 ((Syntax.field 1) ∷ List.[]) (Syntax.tyInt Syntax.w64) 8 λ v.
-              Shared.lenV (v .0)) (Reads'.as-is 𝓤 H A (Relend.msptr InflightAction.row ref7 12)) (Reads'.room-gone 𝓤 H A (Syntax.tyStruct (38 ∷ 91 ∷
-              93 ∷ List.[]) (Syntax.tcons ref7 (Syntax.tcons (Syntax.tyInt Syntax.w64) Syntax.tnil)))) (Relend.reads-owed-len 𝓤 H A W
-              InflightAction.row ref12 3 12 life3 8 Path.refl, Path.refl,) Path.refl Path.refl λ b o k. tt) d22
+          d23 = Typed.s-seq 𝓤 H A W 𝓣 E G42 G43 b16 b23 Δ0 (Typed.ask s41) at22 (Relend.t-sl-aggregate 𝓤 H A W E
+              InflightAction.row 𝓣 (Relend.asMut InflightAction.row) G42 22 23 12 ref7 ref7 (λ x. x) (Scalar.oFld 4
+              ((Syntax.field 1) ∷ List.[]) (Syntax.tyInt Syntax.w64) 8 λ v. Shared.lenV (v .0)) (Reads'.as-is 𝓤 H A
+              (Relend.msptr InflightAction.row ref7 12)) (Reads'.room-gone 𝓤 H A slice7) (
+                Relend.reads-owed-len 𝓤 H A W InflightAction.row ref12 3 12 life3 8 Path.refl,
+                Path.refl,
+              ) Path.refl Path.refl λ b o k. tt) d22
+
           d24 : Typed.Typed 𝓤 H A 𝓣 E G41 b25 Δ0 at24
-          d24 = Typed.s-seq 𝓤 H A W 𝓣 E G41 G42 b15 b24 Δ0 (Typed.give s40) at23 (Relend.t-sl-relend 𝓤 H A W E InflightAction.row 𝓣 G41 4 22 3 12
-              ref12 ref7 life3 0 (λ x. x) (Reads'.as-is 𝓤 H A (Mut.mslice InflightAction.row ref12 3)) (Reads'.room-gone 𝓤 H A ref7) Path.refl tt
-              Path.refl Path.refl Path.refl λ b o. tt) d23
+          d24 = Typed.s-seq 𝓤 H A W 𝓣 E G41 G42 b15 b24 Δ0 (Typed.give s40) at23 (Relend.t-sl-relend 𝓤 H A W E
+              InflightAction.row 𝓣 G41 4 22 3 12 ref12 ref7 life3 0 (λ x. x) (Reads'.as-is 𝓤 H A
+              (Mut.mslice InflightAction.row ref12 3)) (Reads'.room-gone 𝓤 H A ref7) Path.refl tt Path.refl Path.refl
+              Path.refl λ b o. tt) d23
+
           d25 : Typed.Typed 𝓤 H A 𝓣 E G40 b25 Δ0 at25
-          d25 = Typed.g-pre 𝓤 H A W 𝓣 E G40 G41 b25 Δ0 (λ Ψ. Ψ) at24 (Lifetime.g-begin 𝓤 H A W E G40 12 (tt, ((tt, tt), ((tt, tt), ((tt, tt), (tt,
-              (tt, (tt, (tt, (tt, (tt, (tt, (tt, (tt, (tt, (tt, (tt, (tt, (tt, (tt, (tt, (tt, (tt, (tt, (tt, (tt, (tt,
-              tt)))))),),),),),),),),),),),),),),),),),),),),)) d24
+          d25 = Typed.g-pre 𝓤 H A W 𝓣 E G40 G41 b25 Δ0 (λ Ψ. Ψ) at24 (Lifetime.g-begin 𝓤 H A W E G40 12 (
+            tt,
+            (
+              (tt, tt),
+              (
+                (tt, tt),
+                (
+                  (tt, tt),
+                  (
+                    tt,
+                    (
+                      tt,
+                      (
+                        tt,
+                        (
+                          tt,
+                          (
+                            tt,
+                            (
+                              tt,
+                              (
+                                tt,
+                                (
+                                  tt,
+                                  (
+                                    tt,
+                                    (tt, (tt, (tt, (tt, (tt, (tt, (tt, (tt, (tt, (tt, (tt, (tt, (tt, tt))))))))))))),
+                                  ),
+                                ),
+                              ),
+                            ),
+                          ),
+                        ),
+                      ),
+                    ),
+                  ),
+                ),
+              ),
+            ),
+          )) d24
+
           d26 : Typed.Typed 𝓤 H A 𝓣 E G39 b26 Δ0 at26
-          d26 = Typed.s-seq 𝓤 H A W 𝓣 E G39 G40 b14 b25 Δ0 (Typed.ask s38) at25 (Relend.t-sl-aggregate 𝓤 H A W E ReservationUsage.row 𝓣 (Relend.asMut
-              ReservationUsage.row) G39 20 21 11 ref6 ref6 (λ x. x) (Scalar.oFld 3 ((Syntax.field 1) ∷ List.[]) (Syntax.tyInt Syntax.w64) 8 λ v.
-              Shared.lenV (v .0)) (Reads'.as-is 𝓤 H A (Relend.msptr ReservationUsage.row ref6 11)) (Reads'.room-gone 𝓤 H A (Syntax.tyStruct (38 ∷ 91 ∷
-              93 ∷ List.[]) (Syntax.tcons ref6 (Syntax.tcons (Syntax.tyInt Syntax.w64) Syntax.tnil)))) (Relend.reads-owed-len 𝓤 H A W
-              ReservationUsage.row ref11 2 11 life2 8 Path.refl, Path.refl,) Path.refl Path.refl λ b o k. tt) d25
+          d26 = Typed.s-seq 𝓤 H A W 𝓣 E G39 G40 b14 b25 Δ0 (Typed.ask s38) at25 (Relend.t-sl-aggregate 𝓤 H A W E
+              ReservationUsage.row 𝓣 (Relend.asMut ReservationUsage.row) G39 20 21 11 ref6 ref6 (λ x. x) (Scalar.oFld 3
+              ((Syntax.field 1) ∷ List.[]) (Syntax.tyInt Syntax.w64) 8 λ v. Shared.lenV (v .0)) (Reads'.as-is 𝓤 H A
+              (Relend.msptr ReservationUsage.row ref6 11)) (Reads'.room-gone 𝓤 H A slice6) (
+                Relend.reads-owed-len 𝓤 H A W ReservationUsage.row ref11 2 11 life2 8 Path.refl,
+                Path.refl,
+              ) Path.refl Path.refl λ b o k. tt) d25
+
           d27 : Typed.Typed 𝓤 H A 𝓣 E G38 b27 Δ0 at27
-          d27 = Typed.s-seq 𝓤 H A W 𝓣 E G38 G39 b13 b26 Δ0 (Typed.give s37) at26 (Relend.t-sl-relend 𝓤 H A W E ReservationUsage.row 𝓣 G38 3 20 2 11
-              ref11 ref6 life2 0 (λ x. x) (Reads'.as-is 𝓤 H A (Mut.mslice ReservationUsage.row ref11 2)) (Reads'.room-gone 𝓤 H A ref6) Path.refl tt
-              Path.refl Path.refl Path.refl λ b o. tt) d26
+          d27 = Typed.s-seq 𝓤 H A W 𝓣 E G38 G39 b13 b26 Δ0 (Typed.give s37) at26 (Relend.t-sl-relend 𝓤 H A W E
+              ReservationUsage.row 𝓣 G38 3 20 2 11 ref11 ref6 life2 0 (λ x. x) (Reads'.as-is 𝓤 H A
+              (Mut.mslice ReservationUsage.row ref11 2)) (Reads'.room-gone 𝓤 H A ref6) Path.refl tt Path.refl Path.refl
+              Path.refl λ b o. tt) d26
+
           d28 : Typed.Typed 𝓤 H A 𝓣 E G37 b27 Δ0 at28
-          d28 = Typed.g-pre 𝓤 H A W 𝓣 E G37 G38 b27 Δ0 (λ Ψ. Ψ) at27 (Lifetime.g-begin 𝓤 H A W E G37 11 (tt, ((tt, tt), ((tt, tt), (tt, (tt, (tt, (tt,
-              (tt, (tt, (tt, (tt, (tt, (tt, (tt, (tt, (tt, (tt, (tt, (tt, (tt, (tt, (tt, (tt, (tt, (tt, (tt,
-              tt)))))),),),),),),),),),),),),),),),),),),),),)) d27
+          d28 = Typed.g-pre 𝓤 H A W 𝓣 E G37 G38 b27 Δ0 (λ Ψ. Ψ) at27 (Lifetime.g-begin 𝓤 H A W E G37 11 (
+            tt,
+            (
+              (tt, tt),
+              (
+                (tt, tt),
+                (
+                  tt,
+                  (
+                    tt,
+                    (
+                      tt,
+                      (
+                        tt,
+                        (
+                          tt,
+                          (
+                            tt,
+                            (
+                              tt,
+                              (
+                                tt,
+                                (
+                                  tt,
+                                  (
+                                    tt,
+                                    (tt, (tt, (tt, (tt, (tt, (tt, (tt, (tt, (tt, (tt, (tt, (tt, (tt, tt))))))))))))),
+                                  ),
+                                ),
+                              ),
+                            ),
+                          ),
+                        ),
+                      ),
+                    ),
+                  ),
+                ),
+              ),
+            ),
+          )) d27
+
           d29 : Typed.Typed 𝓤 H A 𝓣 E G36 b28 Δ0 at29
-          d29 = Typed.s-seq 𝓤 H A W 𝓣 E G36 G37 b12 b27 Δ0 (Typed.ask s35) at28 (Relend.t-sl-aggregate 𝓤 H A W E RelayCircuit.row 𝓣 (Relend.asMut
-              RelayCircuit.row) G36 18 19 10 ref5 ref5 (λ x. x) (Scalar.oFld 2 ((Syntax.field 1) ∷ List.[]) (Syntax.tyInt Syntax.w64) 8 λ v.
-              Shared.lenV (v .0)) (Reads'.as-is 𝓤 H A (Relend.msptr RelayCircuit.row ref5 10)) (Reads'.room-gone 𝓤 H A (Syntax.tyStruct (38 ∷ 91 ∷ 93
-              ∷ List.[]) (Syntax.tcons ref5 (Syntax.tcons (Syntax.tyInt Syntax.w64) Syntax.tnil)))) (Relend.reads-owed-len 𝓤 H A W RelayCircuit.row
-              ref10 1 10 life1 8 Path.refl, Path.refl,) Path.refl Path.refl λ b o k. tt) d28
+          d29 = Typed.s-seq 𝓤 H A W 𝓣 E G36 G37 b12 b27 Δ0 (Typed.ask s35) at28 (Relend.t-sl-aggregate 𝓤 H A W E
+              RelayCircuit.row 𝓣 (Relend.asMut RelayCircuit.row) G36 18 19 10 ref5 ref5 (λ x. x) (Scalar.oFld 2
+              ((Syntax.field 1) ∷ List.[]) (Syntax.tyInt Syntax.w64) 8 λ v. Shared.lenV (v .0)) (Reads'.as-is 𝓤 H A
+              (Relend.msptr RelayCircuit.row ref5 10)) (Reads'.room-gone 𝓤 H A slice5) (
+                Relend.reads-owed-len 𝓤 H A W RelayCircuit.row ref10 1 10 life1 8 Path.refl,
+                Path.refl,
+              ) Path.refl Path.refl λ b o k. tt) d28
+
           d30 : Typed.Typed 𝓤 H A 𝓣 E G35 b29 Δ0 at30
-          d30 = Typed.s-seq 𝓤 H A W 𝓣 E G35 G36 b11 b28 Δ0 (Typed.give s34) at29 (Relend.t-sl-relend 𝓤 H A W E RelayCircuit.row 𝓣 G35 2 18 1 10 ref10
-              ref5 life1 0 (λ x. x) (Reads'.as-is 𝓤 H A (Mut.mslice RelayCircuit.row ref10 1)) (Reads'.room-gone 𝓤 H A ref5) Path.refl tt Path.refl
-              Path.refl Path.refl λ b o. tt) d29
+          d30 = Typed.s-seq 𝓤 H A W 𝓣 E G35 G36 b11 b28 Δ0 (Typed.give s34) at29 (Relend.t-sl-relend 𝓤 H A W E
+              RelayCircuit.row 𝓣 G35 2 18 1 10 ref10 ref5 life1 0 (λ x. x)
+              (Reads'.as-is 𝓤 H A (Mut.mslice RelayCircuit.row ref10 1)) (Reads'.room-gone 𝓤 H A ref5) Path.refl tt
+              Path.refl Path.refl Path.refl λ b o. tt) d29
+
           d31 : Typed.Typed 𝓤 H A 𝓣 E G34 b29 Δ0 at31
-          d31 = Typed.g-pre 𝓤 H A W 𝓣 E G34 G35 b29 Δ0 (λ Ψ. Ψ) at30 (Lifetime.g-begin 𝓤 H A W E G34 10 (tt, ((tt, tt), (tt, (tt, (tt, (tt, (tt, (tt,
-              (tt, (tt, (tt, (tt, (tt, (tt, (tt, (tt, (tt, (tt, (tt, (tt, (tt, (tt, (tt, (tt, (tt, (tt,
-              tt)))))),),),),),),),),),),),),),),),),),),),),)) d30
+          d31 = Typed.g-pre 𝓤 H A W 𝓣 E G34 G35 b29 Δ0 (λ Ψ. Ψ) at30 (Lifetime.g-begin 𝓤 H A W E G34 10 (
+            tt,
+            (
+              (tt, tt),
+              (
+                tt,
+                (
+                  tt,
+                  (
+                    tt,
+                    (
+                      tt,
+                      (
+                        tt,
+                        (
+                          tt,
+                          (
+                            tt,
+                            (
+                              tt,
+                              (
+                                tt,
+                                (
+                                  tt,
+                                  (
+                                    tt,
+                                    (tt, (tt, (tt, (tt, (tt, (tt, (tt, (tt, (tt, (tt, (tt, (tt, (tt, tt))))))))))))),
+                                  ),
+                                ),
+                              ),
+                            ),
+                          ),
+                        ),
+                      ),
+                    ),
+                  ),
+                ),
+              ),
+            ),
+          )) d30
+
           d32 : Typed.Typed 𝓤 H A 𝓣 E G33 b30 Δ0 at32
-          d32 = Typed.s-seq 𝓤 H A W 𝓣 E G33 G34 b10 b29 Δ0 (Typed.ask s32) at31 (Relend.t-sl-aggregate 𝓤 H A W E RelayPending.row 𝓣 (Relend.asMut
-              RelayPending.row) G33 16 17 9 ref4 ref4 (λ x. x) (Scalar.oFld 1 ((Syntax.field 1) ∷ List.[]) (Syntax.tyInt Syntax.w64) 8 λ v.
-              Shared.lenV (v .0)) (Reads'.as-is 𝓤 H A (Relend.msptr RelayPending.row ref4 9)) (Reads'.room-gone 𝓤 H A (Syntax.tyStruct (38 ∷ 91 ∷ 93 ∷
-              List.[]) (Syntax.tcons ref4 (Syntax.tcons (Syntax.tyInt Syntax.w64) Syntax.tnil)))) (Relend.reads-owed-len 𝓤 H A W RelayPending.row ref9
-              0 9 life0 8 Path.refl, Path.refl,) Path.refl Path.refl λ b o k. tt) d31
+          d32 = Typed.s-seq 𝓤 H A W 𝓣 E G33 G34 b10 b29 Δ0 (Typed.ask s32) at31 (Relend.t-sl-aggregate 𝓤 H A W E
+              RelayPending.row 𝓣 (Relend.asMut RelayPending.row) G33 16 17 9 ref4 ref4 (λ x. x) (Scalar.oFld 1
+              ((Syntax.field 1) ∷ List.[]) (Syntax.tyInt Syntax.w64) 8 λ v. Shared.lenV (v .0))
+              (Reads'.as-is 𝓤 H A (Relend.msptr RelayPending.row ref4 9)) (Reads'.room-gone 𝓤 H A slice4) (
+                Relend.reads-owed-len 𝓤 H A W RelayPending.row ref9 0 9 life0 8 Path.refl,
+                Path.refl,
+              ) Path.refl Path.refl λ b o k. tt) d31
+
           d33 : Typed.Typed 𝓤 H A 𝓣 E G32 b31 Δ0 at33
-          d33 = Typed.s-seq 𝓤 H A W 𝓣 E G32 G33 b9 b30 Δ0 (Typed.give s31) at32 (Relend.t-sl-relend 𝓤 H A W E RelayPending.row 𝓣 G32 1 16 0 9 ref9
-              ref4 life0 0 (λ x. x) (Reads'.as-is 𝓤 H A (Mut.mslice RelayPending.row ref9 0)) (Reads'.room-gone 𝓤 H A ref4) Path.refl tt Path.refl
-              Path.refl Path.refl λ b o. tt) d32
+          d33 = Typed.s-seq 𝓤 H A W 𝓣 E G32 G33 b9 b30 Δ0 (Typed.give s31) at32 (Relend.t-sl-relend 𝓤 H A W E
+              RelayPending.row 𝓣 G32 1 16 0 9 ref9 ref4 life0 0 (λ x. x)
+              (Reads'.as-is 𝓤 H A (Mut.mslice RelayPending.row ref9 0)) (Reads'.room-gone 𝓤 H A ref4) Path.refl tt
+              Path.refl Path.refl Path.refl λ b o. tt) d32
+
           d34 : Typed.Typed 𝓤 H A 𝓣 E G31 b31 Δ0 at34
-          d34 = Typed.g-pre 𝓤 H A W 𝓣 E G31 G32 b31 Δ0 (λ Ψ. Ψ) at33 (Lifetime.g-begin 𝓤 H A W E G31 9 (tt, (tt, (tt, (tt, (tt, (tt, (tt, (tt, (tt,
-              (tt, (tt, (tt, (tt, (tt, (tt, (tt, (tt, (tt, (tt, (tt, (tt, (tt, (tt, (tt, (tt, (tt, tt)))))),),),),),),),),),),),),),),),),),),),),))
-              d33
+          d34 = Typed.g-pre 𝓤 H A W 𝓣 E G31 G32 b31 Δ0 (λ Ψ. Ψ) at33 (Lifetime.g-begin 𝓤 H A W E G31 9 (
+            tt,
+            (
+              tt,
+              (
+                tt,
+                (
+                  tt,
+                  (
+                    tt,
+                    (
+                      tt,
+                      (
+                        tt,
+                        (
+                          tt,
+                          (
+                            tt,
+                            (
+                              tt,
+                              (
+                                tt,
+                                (
+                                  tt,
+                                  (
+                                    tt,
+                                    (tt, (tt, (tt, (tt, (tt, (tt, (tt, (tt, (tt, (tt, (tt, (tt, (tt, tt))))))))))))),
+                                  ),
+                                ),
+                              ),
+                            ),
+                          ),
+                        ),
+                      ),
+                    ),
+                  ),
+                ),
+              ),
+            ),
+          )) d33
+
           d35 : Typed.Typed 𝓤 H A 𝓣 E G30 b31 Δ0 at35
-          d35 = Typed.g-pre 𝓤 H A W 𝓣 E G30 G31 b31 Δ0 (λ Ψ. Ψ) at34 (Lifetime.g-forget 𝓤 H A W E G30 8 Row.dead Path.refl) d34
+          d35 = Typed.g-pre 𝓤 H A W 𝓣 E G30 G31 b31 Δ0 (λ Ψ. Ψ) at34
+              (Lifetime.g-forget 𝓤 H A W E G30 8 Row.dead Path.refl) d34
+
           d36 : Typed.Typed 𝓤 H A 𝓣 E G29 b31 Δ0 at36
-          d36 = Typed.g-pre 𝓤 H A W 𝓣 E G29 G30 b31 Δ0 (Typed.pass T27 T30 s28) at35 (Reshare.g-back-sl-shr 𝓤 H A W E InflightAction.row G29 4 3 8
-              ref12 life3 (λ x. x) (Reads'.as-is 𝓤 H A (Reshare.mslice-owedS InflightAction.row ref12 3 8 life3)) Path.refl Path.refl) d35
+          d36 = Typed.g-pre 𝓤 H A W 𝓣 E G29 G30 b31 Δ0 (Typed.pass T27 T30 s28) at35 (Reshare.g-back-sl-shr 𝓤 H A W E
+              InflightAction.row G29 4 3 8 ref12 life3 (λ x. x) (Reads'.as-is 𝓤 H A
+              (Reshare.mslice-owedS InflightAction.row ref12 3 8 life3)) Path.refl Path.refl) d35
+
           d37 : Typed.Typed 𝓤 H A 𝓣 E G28 b31 Δ0 at37
           d37 = Typed.g-pre 𝓤 H A W 𝓣 E G28 G29 b31 Δ0 (λ Ψ. Ψ) at36 (Lifetime.g-end 𝓤 H A W E G28 8 Path.refl) d36
+
           d38 : Typed.Typed 𝓤 H A 𝓣 E G27 b31 Δ0 at38
-          d38 = Typed.g-pre 𝓤 H A W 𝓣 E G27 G28 b31 Δ0 (λ Ψ. Ψ) at37 (Lifetime.g-forget 𝓤 H A W E G27 7 Row.dead Path.refl) d37
+          d38 = Typed.g-pre 𝓤 H A W 𝓣 E G27 G28 b31 Δ0 (λ Ψ. Ψ) at37
+              (Lifetime.g-forget 𝓤 H A W E G27 7 Row.dead Path.refl) d37
+
           d39 : Typed.Typed 𝓤 H A 𝓣 E G26 b31 Δ0 at39
-          d39 = Typed.g-pre 𝓤 H A W 𝓣 E G26 G27 b31 Δ0 (Typed.pass T24 T27 s25) at38 (Reshare.g-back-sl-shr 𝓤 H A W E ReservationUsage.row G26 3 2 7
-              ref11 life2 (λ x. x) (Reads'.as-is 𝓤 H A (Reshare.mslice-owedS ReservationUsage.row ref11 2 7 life2)) Path.refl Path.refl) d38
+          d39 = Typed.g-pre 𝓤 H A W 𝓣 E G26 G27 b31 Δ0 (Typed.pass T24 T27 s25) at38 (Reshare.g-back-sl-shr 𝓤 H A W E
+              ReservationUsage.row G26 3 2 7 ref11 life2 (λ x. x) (Reads'.as-is 𝓤 H A (Reshare.mslice-owedS
+              ReservationUsage.row ref11 2 7 life2)) Path.refl Path.refl) d38
+
           d40 : Typed.Typed 𝓤 H A 𝓣 E G25 b31 Δ0 at40
           d40 = Typed.g-pre 𝓤 H A W 𝓣 E G25 G26 b31 Δ0 (λ Ψ. Ψ) at39 (Lifetime.g-end 𝓤 H A W E G25 7 Path.refl) d39
+
           d41 : Typed.Typed 𝓤 H A 𝓣 E G24 b31 Δ0 at41
-          d41 = Typed.g-pre 𝓤 H A W 𝓣 E G24 G25 b31 Δ0 (λ Ψ. Ψ) at40 (Lifetime.g-forget 𝓤 H A W E G24 6 Row.dead Path.refl) d40
+          d41 = Typed.g-pre 𝓤 H A W 𝓣 E G24 G25 b31 Δ0 (λ Ψ. Ψ) at40
+              (Lifetime.g-forget 𝓤 H A W E G24 6 Row.dead Path.refl) d40
+
           d42 : Typed.Typed 𝓤 H A 𝓣 E G23 b31 Δ0 at42
-          d42 = Typed.g-pre 𝓤 H A W 𝓣 E G23 G24 b31 Δ0 (Typed.pass T21 T24 s22) at41 (Reshare.g-back-sl-shr 𝓤 H A W E RelayCircuit.row G23 2 1 6 ref10
-              life1 (λ x. x) (Reads'.as-is 𝓤 H A (Reshare.mslice-owedS RelayCircuit.row ref10 1 6 life1)) Path.refl Path.refl) d41
+          d42 = Typed.g-pre 𝓤 H A W 𝓣 E G23 G24 b31 Δ0 (Typed.pass T21 T24 s22) at41 (Reshare.g-back-sl-shr 𝓤 H A W E
+              RelayCircuit.row G23 2 1 6 ref10 life1 (λ x. x) (Reads'.as-is 𝓤 H A
+              (Reshare.mslice-owedS RelayCircuit.row ref10 1 6 life1)) Path.refl Path.refl) d41
+
           d43 : Typed.Typed 𝓤 H A 𝓣 E G22 b31 Δ0 at43
           d43 = Typed.g-pre 𝓤 H A W 𝓣 E G22 G23 b31 Δ0 (λ Ψ. Ψ) at42 (Lifetime.g-end 𝓤 H A W E G22 6 Path.refl) d42
+
           d44 : Typed.Typed 𝓤 H A 𝓣 E G21 b31 Δ0 at44
-          d44 = Typed.g-pre 𝓤 H A W 𝓣 E G21 G22 b31 Δ0 (λ Ψ. Ψ) at43 (Lifetime.g-forget 𝓤 H A W E G21 5 Row.dead Path.refl) d43
+          d44 = Typed.g-pre 𝓤 H A W 𝓣 E G21 G22 b31 Δ0 (λ Ψ. Ψ) at43
+              (Lifetime.g-forget 𝓤 H A W E G21 5 Row.dead Path.refl) d43
+
           d45 : Typed.Typed 𝓤 H A 𝓣 E G20 b31 Δ0 at45
-          d45 = Typed.g-pre 𝓤 H A W 𝓣 E G20 G21 b31 Δ0 (Typed.pass T19 T21 s19) at44 (Reshare.g-back-sl-shr 𝓤 H A W E RelayPending.row G20 1 0 5 ref9
-              life0 (λ x. x) (Reads'.as-is 𝓤 H A (Reshare.mslice-owedS RelayPending.row ref9 0 5 life0)) Path.refl Path.refl) d44
+          d45 = Typed.g-pre 𝓤 H A W 𝓣 E G20 G21 b31 Δ0 (Typed.pass T19 T21 s19) at44 (Reshare.g-back-sl-shr 𝓤 H A W E
+              RelayPending.row G20 1 0 5 ref9 life0 (λ x. x) (Reads'.as-is 𝓤 H A
+              (Reshare.mslice-owedS RelayPending.row ref9 0 5 life0)) Path.refl Path.refl) d44
+
           d46 : Typed.Typed 𝓤 H A 𝓣 E G19 b31 Δ0 at46
           d46 = Typed.g-pre 𝓤 H A W 𝓣 E G19 G20 b31 Δ0 (λ Ψ. Ψ) at45 (Lifetime.g-end 𝓤 H A W E G19 5 Path.refl) d45
+
           d47 : Typed.Typed 𝓤 H A 𝓣 E G18 b31 Δ0 at47
-          d47 = Typed.g-pre 𝓤 H A W 𝓣 E G18 G19 b31 Δ0 (Typed.pass T18 T19 s17) at46 (Scalar.g-room 𝓤 H A W E G18 15 (Syntax.tyStruct (38 ∷ 91 ∷ 93 ∷
-              List.[]) (Syntax.tcons ref3 (Syntax.tcons (Syntax.tyInt Syntax.w64) Syntax.tnil))) (Shared.room-sslice 𝓤 H A W InflightAction.row ref3
-              8)) d46
+          d47 = Typed.g-pre 𝓤 H A W 𝓣 E G18 G19 b31 Δ0 (Typed.pass T18 T19 s17) at46 (Scalar.g-room 𝓤 H A W E G18 15
+              slice3 (Shared.room-sslice 𝓤 H A W InflightAction.row ref3 8)) d46
+
           d48 : Typed.Typed 𝓤 H A 𝓣 E G17 b31 Δ0 at48
-          d48 = Typed.g-pre 𝓤 H A W 𝓣 E G17 G18 b31 Δ0 (Typed.pass T17 T18 s16) at47 (Scalar.g-room 𝓤 H A W E G17 13 (Syntax.tyStruct (38 ∷ 91 ∷ 93 ∷
-              List.[]) (Syntax.tcons ref2 (Syntax.tcons (Syntax.tyInt Syntax.w64) Syntax.tnil))) (Shared.room-sslice 𝓤 H A W ReservationUsage.row ref2
-              7)) d47
+          d48 = Typed.g-pre 𝓤 H A W 𝓣 E G17 G18 b31 Δ0 (Typed.pass T17 T18 s16) at47 (Scalar.g-room 𝓤 H A W E G17 13
+              slice2 (Shared.room-sslice 𝓤 H A W ReservationUsage.row ref2 7)) d47
+
           d49 : Typed.Typed 𝓤 H A 𝓣 E G16 b31 Δ0 at49
-          d49 = Typed.g-pre 𝓤 H A W 𝓣 E G16 G17 b31 Δ0 (Typed.pass T16 T17 s15) at48 (Scalar.g-room 𝓤 H A W E G16 11 (Syntax.tyStruct (38 ∷ 91 ∷ 93 ∷
-              List.[]) (Syntax.tcons ref1 (Syntax.tcons (Syntax.tyInt Syntax.w64) Syntax.tnil))) (Shared.room-sslice 𝓤 H A W RelayCircuit.row ref1 6))
-              d48
+          d49 = Typed.g-pre 𝓤 H A W 𝓣 E G16 G17 b31 Δ0 (Typed.pass T16 T17 s15) at48 (Scalar.g-room 𝓤 H A W E G16 11
+              slice1 (Shared.room-sslice 𝓤 H A W RelayCircuit.row ref1 6)) d48
+
           d50 : Typed.Typed 𝓤 H A 𝓣 E G15 b31 Δ0 at50
-          d50 = Typed.g-pre 𝓤 H A W 𝓣 E G15 G16 b31 Δ0 (Typed.pass T15 T16 s14) at49 (Scalar.g-room 𝓤 H A W E G15 9 (Syntax.tyStruct (38 ∷ 91 ∷ 93 ∷
-              List.[]) (Syntax.tcons ref0 (Syntax.tcons (Syntax.tyInt Syntax.w64) Syntax.tnil))) (Shared.room-sslice 𝓤 H A W RelayPending.row ref0 5))
-              d49
+          d50 = Typed.g-pre 𝓤 H A W 𝓣 E G15 G16 b31 Δ0 (Typed.pass T15 T16 s14) at49 (Scalar.g-room 𝓤 H A W E G15 9
+              slice0 (Shared.room-sslice 𝓤 H A W RelayPending.row ref0 5)) d49
+
           d51 : Typed.Typed 𝓤 H A 𝓣 E G14 b32 Δ0 at51
-          d51 = Typed.s-seq 𝓤 H A W 𝓣 E G14 G15 b8 b31 Δ0 (Typed.both s13) at50 (Plain.t-call-plain 𝓤 H A W 𝓣 4 ps·0 r·0 (claims· .0) (claims· .1)
-              "cases::machine::begin" (known .0) E (λ pos β. β) G14 (record { pos = 9; ty = Syntax.tyRef Syntax.erased Syntax.imm RelayPending.to; ref
-              = λ x. x; }, (record { pos = 11; ty = Syntax.tyRef Syntax.erased Syntax.imm RelayCircuit.to; ref = λ x. x; }, (record { pos = 13; ty =
-              Syntax.tyRef Syntax.erased Syntax.imm ReservationUsage.to; ref = λ x. x; }, (record { pos = 15; ty = Syntax.tyRef Syntax.erased
-              Syntax.imm InflightAction.to; ref = λ x. x; }, (Num.vFld 6 ((Syntax.field 0) ∷ List.[]) 0 λ x. Script.struct .as-values x .0,
-              tt,),),),),) 7 (5 ∷ 6 ∷ 7 ∷ 8 ∷ List.[]) (Call.sub-id 𝓤 H A W (G14 .slots)) (ShrSlice.spares-sslice 𝓤 H A W RelayPending.row ref0 5,
-              Shared.reads-sslice 𝓤 H A W RelayPending.row ref0 5, Path.refl, (ShrSlice.spares-sslice 𝓤 H A W RelayCircuit.row ref1 6,
-              Shared.reads-sslice 𝓤 H A W RelayCircuit.row ref1 6, Path.refl, (ShrSlice.spares-sslice 𝓤 H A W ReservationUsage.row ref2 7,
-              Shared.reads-sslice 𝓤 H A W ReservationUsage.row ref2 7, Path.refl, (ShrSlice.spares-sslice 𝓤 H A W InflightAction.row ref3 8,
-              Shared.reads-sslice 𝓤 H A W InflightAction.row ref3 8, Path.refl, ((Reads.reads-field 𝓤 H A W Script.the-type Laws.the-laws 0
-              (Syntax.tyInt Syntax.w64) 0 Path.refl, Path.refl,), tt,),),),),) (Reads'.room-gone 𝓤 H A Laws'.mir) (tt, (tt, (tt, (tt, tt))))
-              Path.refl) d50
+          d51 = Typed.s-seq 𝓤 H A W 𝓣 E G14 G15 b8 b31 Δ0 (Typed.both s13) at50 (Plain.t-call-plain 𝓤 H A W 𝓣 4 ps·0
+              r·0 (claims· .0) (claims· .1) "cases::machine::begin" (known .0) E (λ pos β. β) G14 (
+                record { pos = 9; ty = ref0; ref = λ x. x },
+                (
+                  record { pos = 11; ty = ref1; ref = λ x. x },
+                  (
+                    record { pos = 13; ty = ref2; ref = λ x. x },
+                    (
+                      record { pos = 15; ty = ref3; ref = λ x. x },
+                      (Num.vFld 6 ((Syntax.field 0) ∷ List.[]) 0 λ x. Script.struct .as-values x .0, tt),
+                    ),
+                  ),
+                ),
+              ) 7 (5 ∷ 6 ∷ 7 ∷ 8 ∷ List.[]) (Call.sub-id 𝓤 H A W (G14 .slots)) (
+                ShrSlice.spares-sslice 𝓤 H A W RelayPending.row ref0 5,
+                Shared.reads-sslice 𝓤 H A W RelayPending.row ref0 5,
+                Path.refl,
+                (
+                  ShrSlice.spares-sslice 𝓤 H A W RelayCircuit.row ref1 6,
+                  Shared.reads-sslice 𝓤 H A W RelayCircuit.row ref1 6,
+                  Path.refl,
+                  (
+                    ShrSlice.spares-sslice 𝓤 H A W ReservationUsage.row ref2 7,
+                    Shared.reads-sslice 𝓤 H A W ReservationUsage.row ref2 7,
+                    Path.refl,
+                    (
+                      ShrSlice.spares-sslice 𝓤 H A W InflightAction.row ref3 8,
+                      Shared.reads-sslice 𝓤 H A W InflightAction.row ref3 8,
+                      Path.refl,
+                      (
+                        (
+                          Reads.reads-field 𝓤 H A W Script.the-type Laws.the-laws 0 (Syntax.tyInt Syntax.w64) 0
+                              Path.refl,
+                          Path.refl,
+                        ),
+                        tt,
+                      ),
+                    ),
+                  ),
+                ),
+              ) (Reads'.room-gone 𝓤 H A Laws'.mir) (tt, (tt, (tt, (tt, tt)))) Path.refl) d50
+
           d52 : Typed.Typed 𝓤 H A 𝓣 E G13 b33 Δ0 at52
-          d52 = Typed.s-seq 𝓤 H A W 𝓣 E G13 G14 b7 b32 Δ0 (Typed.ask s12) at51 (Relend.t-sl-aggregate 𝓤 H A W E InflightAction.row 𝓣 (Relend.asShr
-              InflightAction.row) G13 14 15 8 ref3 ref3 (λ x. x) (Scalar.oFld 4 ((Syntax.field 1) ∷ List.[]) (Syntax.tyInt Syntax.w64) 8 λ v.
-              Shared.lenV (v .0)) (Reads'.as-is 𝓤 H A (Relend.ssptr InflightAction.row ref3 8)) (Reads'.room-gone 𝓤 H A (Syntax.tyStruct (38 ∷ 91 ∷ 93
-              ∷ List.[]) (Syntax.tcons ref3 (Syntax.tcons (Syntax.tyInt Syntax.w64) Syntax.tnil)))) (Reshare.reads-owedS-len 𝓤 H A W
-              InflightAction.row ref12 3 8 life3 8 Path.refl, Path.refl,) Path.refl Path.refl λ b o k. tt) d51
+          d52 = Typed.s-seq 𝓤 H A W 𝓣 E G13 G14 b7 b32 Δ0 (Typed.ask s12) at51 (Relend.t-sl-aggregate 𝓤 H A W E
+              InflightAction.row 𝓣 (Relend.asShr InflightAction.row) G13 14 15 8 ref3 ref3 (λ x. x) (Scalar.oFld 4
+              ((Syntax.field 1) ∷ List.[]) (Syntax.tyInt Syntax.w64) 8 λ v. Shared.lenV (v .0)) (Reads'.as-is 𝓤 H A
+              (Relend.ssptr InflightAction.row ref3 8)) (Reads'.room-gone 𝓤 H A slice3) (
+                Reshare.reads-owedS-len 𝓤 H A W InflightAction.row ref12 3 8 life3 8 Path.refl,
+                Path.refl,
+              ) Path.refl Path.refl λ b o k. tt) d51
+
           d53 : Typed.Typed 𝓤 H A 𝓣 E G12 b34 Δ0 at53
-          d53 = Typed.s-seq 𝓤 H A W 𝓣 E G12 G13 b6 b33 Δ0 (Typed.give s11) at52 (Reshare.t-sl-reshare 𝓤 H A W E InflightAction.row 𝓣 G12 4 14 3 8
-              ref12 ref3 life3 0 (λ x. x) (Reads'.as-is 𝓤 H A (Mut.mslice InflightAction.row ref12 3)) (Reads'.room-gone 𝓤 H A ref3) Path.refl tt
-              Path.refl Path.refl Path.refl λ b o. tt) d52
+          d53 = Typed.s-seq 𝓤 H A W 𝓣 E G12 G13 b6 b33 Δ0 (Typed.give s11) at52 (Reshare.t-sl-reshare 𝓤 H A W E
+              InflightAction.row 𝓣 G12 4 14 3 8 ref12 ref3 life3 0 (λ x. x) (Reads'.as-is 𝓤 H A
+              (Mut.mslice InflightAction.row ref12 3)) (Reads'.room-gone 𝓤 H A ref3) Path.refl tt Path.refl Path.refl
+              Path.refl λ b o. tt) d52
+
           d54 : Typed.Typed 𝓤 H A 𝓣 E G11 b34 Δ0 at54
-          d54 = Typed.g-pre 𝓤 H A W 𝓣 E G11 G12 b34 Δ0 (λ Ψ. Ψ) at53 (Lifetime.g-begin 𝓤 H A W E G11 8 (tt, ((tt, tt), ((tt, tt), ((tt, tt), (tt, (tt,
-              (tt, (tt, (tt, (tt, (tt, (tt, (tt, (tt, (tt, (tt, (tt, (tt, (tt, (tt, (tt, (tt, (tt, (tt, (tt, (tt,
-              tt)))))),),),),),),),),),),),),),),),),),),),),)) d53
+          d54 = Typed.g-pre 𝓤 H A W 𝓣 E G11 G12 b34 Δ0 (λ Ψ. Ψ) at53 (Lifetime.g-begin 𝓤 H A W E G11 8 (
+            tt,
+            (
+              (tt, tt),
+              (
+                (tt, tt),
+                (
+                  (tt, tt),
+                  (
+                    tt,
+                    (
+                      tt,
+                      (
+                        tt,
+                        (
+                          tt,
+                          (
+                            tt,
+                            (
+                              tt,
+                              (
+                                tt,
+                                (
+                                  tt,
+                                  (
+                                    tt,
+                                    (tt, (tt, (tt, (tt, (tt, (tt, (tt, (tt, (tt, (tt, (tt, (tt, (tt, tt))))))))))))),
+                                  ),
+                                ),
+                              ),
+                            ),
+                          ),
+                        ),
+                      ),
+                    ),
+                  ),
+                ),
+              ),
+            ),
+          )) d53
+
           d55 : Typed.Typed 𝓤 H A 𝓣 E G10 b35 Δ0 at55
-          d55 = Typed.s-seq 𝓤 H A W 𝓣 E G10 G11 b5 b34 Δ0 (Typed.ask s9) at54 (Relend.t-sl-aggregate 𝓤 H A W E ReservationUsage.row 𝓣 (Relend.asShr
-              ReservationUsage.row) G10 12 13 7 ref2 ref2 (λ x. x) (Scalar.oFld 3 ((Syntax.field 1) ∷ List.[]) (Syntax.tyInt Syntax.w64) 8 λ v.
-              Shared.lenV (v .0)) (Reads'.as-is 𝓤 H A (Relend.ssptr ReservationUsage.row ref2 7)) (Reads'.room-gone 𝓤 H A (Syntax.tyStruct (38 ∷ 91 ∷
-              93 ∷ List.[]) (Syntax.tcons ref2 (Syntax.tcons (Syntax.tyInt Syntax.w64) Syntax.tnil)))) (Reshare.reads-owedS-len 𝓤 H A W
-              ReservationUsage.row ref11 2 7 life2 8 Path.refl, Path.refl,) Path.refl Path.refl λ b o k. tt) d54
+          d55 = Typed.s-seq 𝓤 H A W 𝓣 E G10 G11 b5 b34 Δ0 (Typed.ask s9) at54 (Relend.t-sl-aggregate 𝓤 H A W E
+              ReservationUsage.row 𝓣 (Relend.asShr ReservationUsage.row) G10 12 13 7 ref2 ref2 (λ x. x) (Scalar.oFld 3
+              ((Syntax.field 1) ∷ List.[]) (Syntax.tyInt Syntax.w64) 8 λ v. Shared.lenV (v .0)) (Reads'.as-is 𝓤 H A
+              (Relend.ssptr ReservationUsage.row ref2 7)) (Reads'.room-gone 𝓤 H A slice2) (
+                Reshare.reads-owedS-len 𝓤 H A W ReservationUsage.row ref11 2 7 life2 8 Path.refl,
+                Path.refl,
+              ) Path.refl Path.refl λ b o k. tt) d54
+
           d56 : Typed.Typed 𝓤 H A 𝓣 E G9 b36 Δ0 at56
-          d56 = Typed.s-seq 𝓤 H A W 𝓣 E G9 G10 b4 b35 Δ0 (Typed.give s8) at55 (Reshare.t-sl-reshare 𝓤 H A W E ReservationUsage.row 𝓣 G9 3 12 2 7 ref11
-              ref2 life2 0 (λ x. x) (Reads'.as-is 𝓤 H A (Mut.mslice ReservationUsage.row ref11 2)) (Reads'.room-gone 𝓤 H A ref2) Path.refl tt
-              Path.refl Path.refl Path.refl λ b o. tt) d55
+          d56 = Typed.s-seq 𝓤 H A W 𝓣 E G9 G10 b4 b35 Δ0 (Typed.give s8) at55 (Reshare.t-sl-reshare 𝓤 H A W E
+              ReservationUsage.row 𝓣 G9 3 12 2 7 ref11 ref2 life2 0 (λ x. x) (Reads'.as-is 𝓤 H A
+              (Mut.mslice ReservationUsage.row ref11 2)) (Reads'.room-gone 𝓤 H A ref2) Path.refl tt Path.refl Path.refl
+              Path.refl λ b o. tt) d55
+
           d57 : Typed.Typed 𝓤 H A 𝓣 E G8 b36 Δ0 at57
-          d57 = Typed.g-pre 𝓤 H A W 𝓣 E G8 G9 b36 Δ0 (λ Ψ. Ψ) at56 (Lifetime.g-begin 𝓤 H A W E G8 7 (tt, ((tt, tt), ((tt, tt), (tt, (tt, (tt, (tt,
-              (tt, (tt, (tt, (tt, (tt, (tt, (tt, (tt, (tt, (tt, (tt, (tt, (tt, (tt, (tt, (tt, (tt, (tt, (tt,
-              tt)))))),),),),),),),),),),),),),),),),),),),),)) d56
+          d57 = Typed.g-pre 𝓤 H A W 𝓣 E G8 G9 b36 Δ0 (λ Ψ. Ψ) at56 (Lifetime.g-begin 𝓤 H A W E G8 7 (
+            tt,
+            (
+              (tt, tt),
+              (
+                (tt, tt),
+                (
+                  tt,
+                  (
+                    tt,
+                    (
+                      tt,
+                      (
+                        tt,
+                        (
+                          tt,
+                          (
+                            tt,
+                            (
+                              tt,
+                              (
+                                tt,
+                                (
+                                  tt,
+                                  (
+                                    tt,
+                                    (tt, (tt, (tt, (tt, (tt, (tt, (tt, (tt, (tt, (tt, (tt, (tt, (tt, tt))))))))))))),
+                                  ),
+                                ),
+                              ),
+                            ),
+                          ),
+                        ),
+                      ),
+                    ),
+                  ),
+                ),
+              ),
+            ),
+          )) d56
+
           d58 : Typed.Typed 𝓤 H A 𝓣 E G7 b37 Δ0 at58
-          d58 = Typed.s-seq 𝓤 H A W 𝓣 E G7 G8 b3 b36 Δ0 (Typed.ask s6) at57 (Relend.t-sl-aggregate 𝓤 H A W E RelayCircuit.row 𝓣 (Relend.asShr
-              RelayCircuit.row) G7 10 11 6 ref1 ref1 (λ x. x) (Scalar.oFld 2 ((Syntax.field 1) ∷ List.[]) (Syntax.tyInt Syntax.w64) 8 λ v. Shared.lenV
-              (v .0)) (Reads'.as-is 𝓤 H A (Relend.ssptr RelayCircuit.row ref1 6)) (Reads'.room-gone 𝓤 H A (Syntax.tyStruct (38 ∷ 91 ∷ 93 ∷ List.[])
-              (Syntax.tcons ref1 (Syntax.tcons (Syntax.tyInt Syntax.w64) Syntax.tnil)))) (Reshare.reads-owedS-len 𝓤 H A W RelayCircuit.row ref10 1 6
-              life1 8 Path.refl, Path.refl,) Path.refl Path.refl λ b o k. tt) d57
+          d58 = Typed.s-seq 𝓤 H A W 𝓣 E G7 G8 b3 b36 Δ0 (Typed.ask s6) at57 (Relend.t-sl-aggregate 𝓤 H A W E
+              RelayCircuit.row 𝓣 (Relend.asShr RelayCircuit.row) G7 10 11 6 ref1 ref1 (λ x. x) (Scalar.oFld 2
+              ((Syntax.field 1) ∷ List.[]) (Syntax.tyInt Syntax.w64) 8 λ v. Shared.lenV (v .0))
+              (Reads'.as-is 𝓤 H A (Relend.ssptr RelayCircuit.row ref1 6)) (Reads'.room-gone 𝓤 H A slice1) (
+                Reshare.reads-owedS-len 𝓤 H A W RelayCircuit.row ref10 1 6 life1 8 Path.refl,
+                Path.refl,
+              ) Path.refl Path.refl λ b o k. tt) d57
+
           d59 : Typed.Typed 𝓤 H A 𝓣 E G6 b38 Δ0 at59
-          d59 = Typed.s-seq 𝓤 H A W 𝓣 E G6 G7 b2 b37 Δ0 (Typed.give s5) at58 (Reshare.t-sl-reshare 𝓤 H A W E RelayCircuit.row 𝓣 G6 2 10 1 6 ref10 ref1
-              life1 0 (λ x. x) (Reads'.as-is 𝓤 H A (Mut.mslice RelayCircuit.row ref10 1)) (Reads'.room-gone 𝓤 H A ref1) Path.refl tt Path.refl
-              Path.refl Path.refl λ b o. tt) d58
+          d59 = Typed.s-seq 𝓤 H A W 𝓣 E G6 G7 b2 b37 Δ0 (Typed.give s5) at58 (Reshare.t-sl-reshare 𝓤 H A W E
+              RelayCircuit.row 𝓣 G6 2 10 1 6 ref10 ref1 life1 0 (λ x. x)
+              (Reads'.as-is 𝓤 H A (Mut.mslice RelayCircuit.row ref10 1)) (Reads'.room-gone 𝓤 H A ref1) Path.refl tt
+              Path.refl Path.refl Path.refl λ b o. tt) d58
+
           d60 : Typed.Typed 𝓤 H A 𝓣 E G5 b38 Δ0 at60
-          d60 = Typed.g-pre 𝓤 H A W 𝓣 E G5 G6 b38 Δ0 (λ Ψ. Ψ) at59 (Lifetime.g-begin 𝓤 H A W E G5 6 (tt, ((tt, tt), (tt, (tt, (tt, (tt, (tt, (tt, (tt,
-              (tt, (tt, (tt, (tt, (tt, (tt, (tt, (tt, (tt, (tt, (tt, (tt, (tt, (tt, (tt, (tt, (tt, tt)))))),),),),),),),),),),),),),),),),),),),),))
-              d59
+          d60 = Typed.g-pre 𝓤 H A W 𝓣 E G5 G6 b38 Δ0 (λ Ψ. Ψ) at59 (Lifetime.g-begin 𝓤 H A W E G5 6 (
+            tt,
+            (
+              (tt, tt),
+              (
+                tt,
+                (
+                  tt,
+                  (
+                    tt,
+                    (
+                      tt,
+                      (
+                        tt,
+                        (
+                          tt,
+                          (
+                            tt,
+                            (
+                              tt,
+                              (
+                                tt,
+                                (
+                                  tt,
+                                  (
+                                    tt,
+                                    (tt, (tt, (tt, (tt, (tt, (tt, (tt, (tt, (tt, (tt, (tt, (tt, (tt, tt))))))))))))),
+                                  ),
+                                ),
+                              ),
+                            ),
+                          ),
+                        ),
+                      ),
+                    ),
+                  ),
+                ),
+              ),
+            ),
+          )) d59
+
           d61 : Typed.Typed 𝓤 H A 𝓣 E G4 b39 Δ0 at61
-          d61 = Typed.s-seq 𝓤 H A W 𝓣 E G4 G5 b1 b38 Δ0 (Typed.ask s3) at60 (Relend.t-sl-aggregate 𝓤 H A W E RelayPending.row 𝓣 (Relend.asShr
-              RelayPending.row) G4 8 9 5 ref0 ref0 (λ x. x) (Scalar.oFld 1 ((Syntax.field 1) ∷ List.[]) (Syntax.tyInt Syntax.w64) 8 λ v. Shared.lenV
-              (v .0)) (Reads'.as-is 𝓤 H A (Relend.ssptr RelayPending.row ref0 5)) (Reads'.room-gone 𝓤 H A (Syntax.tyStruct (38 ∷ 91 ∷ 93 ∷ List.[])
-              (Syntax.tcons ref0 (Syntax.tcons (Syntax.tyInt Syntax.w64) Syntax.tnil)))) (Reshare.reads-owedS-len 𝓤 H A W RelayPending.row ref9 0 5
-              life0 8 Path.refl, Path.refl,) Path.refl Path.refl λ b o k. tt) d60
+          d61 = Typed.s-seq 𝓤 H A W 𝓣 E G4 G5 b1 b38 Δ0 (Typed.ask s3) at60 (Relend.t-sl-aggregate 𝓤 H A W E
+              RelayPending.row 𝓣 (Relend.asShr RelayPending.row) G4 8 9 5 ref0 ref0 (λ x. x) (Scalar.oFld 1
+              ((Syntax.field 1) ∷ List.[]) (Syntax.tyInt Syntax.w64) 8 λ v. Shared.lenV (v .0))
+              (Reads'.as-is 𝓤 H A (Relend.ssptr RelayPending.row ref0 5)) (Reads'.room-gone 𝓤 H A slice0) (
+                Reshare.reads-owedS-len 𝓤 H A W RelayPending.row ref9 0 5 life0 8 Path.refl,
+                Path.refl,
+              ) Path.refl Path.refl λ b o k. tt) d60
+
           d62 : Typed.Typed 𝓤 H A 𝓣 E G3 b40 Δ0 at62
-          d62 = Typed.s-seq 𝓤 H A W 𝓣 E G3 G4 b0 b39 Δ0 (Typed.give s2) at61 (Reshare.t-sl-reshare 𝓤 H A W E RelayPending.row 𝓣 G3 1 8 0 5 ref9 ref0
-              life0 0 (λ x. x) (Reads'.as-is 𝓤 H A (Mut.mslice RelayPending.row ref9 0)) (Reads'.room-gone 𝓤 H A ref0) Path.refl tt Path.refl
-              Path.refl Path.refl λ b o. tt) d61
+          d62 = Typed.s-seq 𝓤 H A W 𝓣 E G3 G4 b0 b39 Δ0 (Typed.give s2) at61 (Reshare.t-sl-reshare 𝓤 H A W E
+              RelayPending.row 𝓣 G3 1 8 0 5 ref9 ref0 life0 0 (λ x. x)
+              (Reads'.as-is 𝓤 H A (Mut.mslice RelayPending.row ref9 0)) (Reads'.room-gone 𝓤 H A ref0) Path.refl tt
+              Path.refl Path.refl Path.refl λ b o. tt) d61
+
           d63 : Typed.Typed 𝓤 H A 𝓣 E G2 b40 Δ0 at63
-          d63 = Typed.g-pre 𝓤 H A W 𝓣 E G2 G3 b40 Δ0 (λ Ψ. Ψ) at62 (Lifetime.g-begin 𝓤 H A W E G2 5 (tt, (tt, (tt, (tt, (tt, (tt, (tt, (tt, (tt, (tt,
-              (tt, (tt, (tt, (tt, (tt, (tt, (tt, (tt, (tt, (tt, (tt, (tt, (tt, (tt, (tt, (tt, tt)))))),),),),),),),),),),),),),),),),),),),),)) d62
+          d63 = Typed.g-pre 𝓤 H A W 𝓣 E G2 G3 b40 Δ0 (λ Ψ. Ψ) at62 (Lifetime.g-begin 𝓤 H A W E G2 5 (
+            tt,
+            (
+              tt,
+              (
+                tt,
+                (
+                  tt,
+                  (
+                    tt,
+                    (
+                      tt,
+                      (
+                        tt,
+                        (
+                          tt,
+                          (
+                            tt,
+                            (
+                              tt,
+                              (
+                                tt,
+                                (
+                                  tt,
+                                  (
+                                    tt,
+                                    (tt, (tt, (tt, (tt, (tt, (tt, (tt, (tt, (tt, (tt, (tt, (tt, (tt, tt))))))))))))),
+                                  ),
+                                ),
+                              ),
+                            ),
+                          ),
+                        ),
+                      ),
+                    ),
+                  ),
+                ),
+              ),
+            ),
+          )) d62
+
           d64 : Typed.Typed 𝓤 H A 𝓣 E G0 b40 Δ0 at64
-          d64 = Typed.g-pre 𝓤 H A W 𝓣 E G0 G2 b40 Δ0 (Typed.give s0) at63 (Know.g-sl-known 𝓤 H A W (Referent.fInt Syntax.w32) E G0 5 4 ref13 life4 0
-              (λ x. x) record { fits = Dec.lit< tt } (Reads'.as-is 𝓤 H A (Mut.mslice (Referent.rtF (Referent.fInt Syntax.w32)) ref13 4)) Path.refl tt)
-              d63
+          d64 = Typed.g-pre 𝓤 H A W 𝓣 E G0 G2 b40 Δ0 (Typed.give s0) at63 (Know.g-sl-known 𝓤 H A W
+              (Referent.fInt Syntax.w32) E G0 5 4 ref13 life4 0 (λ x. x) record { fits = Dec.lit< tt } (Reads'.as-is 𝓤
+              H A (Mut.mslice (Referent.rtF (Referent.fInt Syntax.w32)) ref13 4)) Path.refl tt) d63
+
           pub typed : Typed.Typed 𝓤 H A 𝓣 E (Function.Γin 5 ps r xs m κs qs) b40 (Function.Δret 5 ps r xs m κs qs) Φ
           typed = d64
+
       module _ (κs : Lifetimes.Lfts 5) where
         pub record Args : Type 0 where
-          pub pending : Kinds.Den { n = 5 } κs (MutSlice.pMutS RelayPending.row 0 tt)
-          pub circuits : Kinds.Den { n = 5 } κs (MutSlice.pMutS RelayCircuit.row 1 tt)
-          pub ledger : Kinds.Den { n = 5 } κs (MutSlice.pMutS ReservationUsage.row 2 tt)
-          pub inflight : Kinds.Den { n = 5 } κs (MutSlice.pMutS InflightAction.row 3 tt)
-          pub out : Kinds.Den { n = 5 } κs (MutSlice.pMutS (Referent.rtF (Referent.fInt Syntax.w32)) 4 tt)
-          pub script : Kinds.Den { n = 5 } κs (Value.pVal record { ty = Declared.row Script.the-type; one = Path.refl; val = Laws''.val
-              Script.the-type Laws.the-laws; tells = Laws''.tells Script.the-type Laws.the-laws; still = Laws''.still Script.the-type Laws.the-copy
-              Exit.yes; row = Rows.whole (Declared.row Script.the-type); rd = λ x. x; mk = λ x. x; } λ M 𝓤 H A W. record { copies = Laws''.copy
-              Script.the-type Laws.the-copy 𝓤 H A W; lawful = Laws''.lawful Script.the-type Laws.the-laws 𝓤 H A W; makes = Laws''.makes
-              Script.the-type Laws.the-plain 𝓤 H A; in-mem = Local.mem-whole 𝓤 H A W (Declared.row Script.the-type); of-mem = Local.whole-mem 𝓤 H A W
-              (Declared.row Script.the-type); })
+          pub pending : Kinds.Den {n = 5} κs (MutSlice.pMutS RelayPending.row 0 tt)
+          pub circuits : Kinds.Den {n = 5} κs (MutSlice.pMutS RelayCircuit.row 1 tt)
+          pub ledger : Kinds.Den {n = 5} κs (MutSlice.pMutS ReservationUsage.row 2 tt)
+          pub inflight : Kinds.Den {n = 5} κs (MutSlice.pMutS InflightAction.row 3 tt)
+          pub out : Kinds.Den {n = 5} κs (MutSlice.pMutS (Referent.rtF (Referent.fInt Syntax.w32)) 4 tt)
+          pub script : Kinds.Den {n = 5} κs (StructRow.param Script.the-type Laws.the-laws Laws.the-copy Laws.the-plain)
+
         abbrev pub dens : (a : Args) → Kinds.Dens κs ps
-        dens = λ a. (a .pending, (a .circuits, (a .ledger, (a .inflight, (a .out, (a .script, tt))))),)
+        dens = λ a. (a .pending, (a .circuits, (a .ledger, (a .inflight, (a .out, (a .script, tt))))))
+
       abbrev pub m0 : (κs : Lifetimes.Lfts 5) → (args : Args κs) → Typed.Mo T0
       m0 = λ κs args. (tt, Enter.partsP κs 1 ps xs (dens κs args))
+
       abbrev W0 : (κs : Lifetimes.Lfts 5) → (args : Args κs) → Typed.Want O0
-      W0 = λ κs args. (λ u. ⊥, tt, λ u. Enter.Fixs κs 1 ps xs (dens κs args) (u .1) × Post· κs (dens κs args) (Function.resV r κs (u .0))
-          (Clauses.atExit (Kinds.endedOf 5 ps r) κs (dens κs args) (Enter.lastsP κs 1 ps xs (dens κs args) (u .1))),)
+      W0 = λ κs args. (
+        λ u. ⊥,
+        tt,
+        λ u. Enter.Fixs κs 1 ps xs (dens κs args) (u .1) × Post· κs (dens κs args) (Function.resV r κs (u .0)) (Clauses.atExit
+            (Kinds.endedOf 5 ps r) κs (dens κs args) (Enter.lastsP κs 1 ps xs (dens κs args) (u .1))),
+      )
+
       pub record Start : Type 0 where
         pub κs : Lifetimes.Lfts 5
         pub args : Args κs
         pub good : Kinds.GoodsP κs ps (dens κs args)
         pub pre : Pre· κs (dens κs args)
+
       abbrev pub m1 : (before : Start) → (given : s0 .gives (m0 (before .κs) (before .args))) → Typed.Mo T2
       m1 = λ before given. s0 .next (m0 (before .κs) (before .args)) given
+
       module _ (before· : Start) where
         pub record After-slice-known·own : Type 0 where
           pub given : s0 .gives (m0 (before· .κs) (before· .args))
+
       pub record After-slice-known : Type 0 where
         pub before : Start
         pub slice-known : After-slice-known·own before
-      abbrev pub m2 : (before : After-slice-known) → (given : s2 .gives (m1 (before .before) (before .slice-known .given))) → Typed.Mo T4
+
+      abbrev pub m2 : (before : After-slice-known) → (given : s2 .gives
+          (m1 (before .before) (before .slice-known .given))) → Typed.Mo T4
       m2 = λ before given. s2 .next (m1 (before .before) (before .slice-known .given)) given
-      abbrev pub m3 : (before : After-slice-known) → (given : s2 .gives (m1 (before .before) (before .slice-known .given))) → Typed.Mo T5
+
+      abbrev pub m3 : (before : After-slice-known) → (given : s2 .gives
+          (m1 (before .before) (before .slice-known .given))) → Typed.Mo T5
       m3 = λ before given. s3 .next (m2 before given)
+
       module _ (before· : After-slice-known) where
         pub record After-begin-arg·own : Type 0 where
           pub given : s2 .gives (m1 (before· .before) (before· .slice-known .given))
+
       pub record After-begin-arg : Type 0 where
         pub before : After-slice-known
         pub begin-arg : After-begin-arg·own before
-      abbrev pub m4 : (before : After-begin-arg) → (given : s5 .gives (m3 (before .before) (before .begin-arg .given))) → Typed.Mo T7
+
+      abbrev pub m4 : (before : After-begin-arg) → (given : s5 .gives (m3 (before .before) (before .begin-arg .given)))
+          → Typed.Mo T7
       m4 = λ before given. s5 .next (m3 (before .before) (before .begin-arg .given)) given
-      abbrev pub m5 : (before : After-begin-arg) → (given : s5 .gives (m3 (before .before) (before .begin-arg .given))) → Typed.Mo T8
+
+      abbrev pub m5 : (before : After-begin-arg) → (given : s5 .gives (m3 (before .before) (before .begin-arg .given)))
+          → Typed.Mo T8
       m5 = λ before given. s6 .next (m4 before given)
+
       module _ (before· : After-begin-arg) where
         pub record After-begin-arg2·own : Type 0 where
           pub given : s5 .gives (m3 (before· .before) (before· .begin-arg .given))
+
       pub record After-begin-arg2 : Type 0 where
         pub before : After-begin-arg
         pub begin-arg2 : After-begin-arg2·own before
-      abbrev pub m6 : (before : After-begin-arg2) → (given : s8 .gives (m5 (before .before) (before .begin-arg2 .given))) → Typed.Mo T10
+
+      abbrev pub m6 : (before : After-begin-arg2) → (given : s8 .gives
+          (m5 (before .before) (before .begin-arg2 .given))) → Typed.Mo T10
       m6 = λ before given. s8 .next (m5 (before .before) (before .begin-arg2 .given)) given
-      abbrev pub m7 : (before : After-begin-arg2) → (given : s8 .gives (m5 (before .before) (before .begin-arg2 .given))) → Typed.Mo T11
+
+      abbrev pub m7 : (before : After-begin-arg2) → (given : s8 .gives
+          (m5 (before .before) (before .begin-arg2 .given))) → Typed.Mo T11
       m7 = λ before given. s9 .next (m6 before given)
+
       module _ (before· : After-begin-arg2) where
         pub record After-begin-arg3·own : Type 0 where
           pub given : s8 .gives (m5 (before· .before) (before· .begin-arg2 .given))
+
       pub record After-begin-arg3 : Type 0 where
         pub before : After-begin-arg2
         pub begin-arg3 : After-begin-arg3·own before
-      abbrev pub m8 : (before : After-begin-arg3) → (given : s11 .gives (m7 (before .before) (before .begin-arg3 .given))) → Typed.Mo T13
+
+      abbrev pub m8 : (before : After-begin-arg3) → (given : s11 .gives
+          (m7 (before .before) (before .begin-arg3 .given))) → Typed.Mo T13
       m8 = λ before given. s11 .next (m7 (before .before) (before .begin-arg3 .given)) given
-      abbrev pub m9 : (before : After-begin-arg3) → (given : s11 .gives (m7 (before .before) (before .begin-arg3 .given))) → Typed.Mo T14
+
+      abbrev pub m9 : (before : After-begin-arg3) → (given : s11 .gives
+          (m7 (before .before) (before .begin-arg3 .given))) → Typed.Mo T14
       m9 = λ before given. s12 .next (m8 before given)
+
       module _ (before· : After-begin-arg3) where
         pub record After-begin-arg4·own : Type 0 where
           pub given : s11 .gives (m7 (before· .before) (before· .begin-arg3 .given))
+
       pub record After-begin-arg4 : Type 0 where
         pub before : After-begin-arg3
         pub begin-arg4 : After-begin-arg4·own before
+
       abbrev pub Need-begin-requires : Type 0
       Need-begin-requires = (c : After-begin-arg4) → s13 .asks (m9 (c .before) (c .begin-arg4 .given))
-      abbrev pub m10 : (before : After-begin-arg4) → (given : s13 .gives (m9 (before .before) (before .begin-arg4 .given))) → Typed.Mo T15
+
+      abbrev pub m10 : (before : After-begin-arg4) → (given : s13 .gives
+          (m9 (before .before) (before .begin-arg4 .given))) → Typed.Mo T15
       m10 = λ before given. s13 .next (m9 (before .before) (before .begin-arg4 .given)) given
+
       module _ (before· : After-begin-arg4) where
         abbrev pub After-begin·own : Type 0
-        After-begin·own = Called.Called ps·0 r·0 (claims· .1) T14 (record { pos = 9; ty = Syntax.tyRef Syntax.erased Syntax.imm RelayPending.to; ref =
-            λ x. x; }, (record { pos = 11; ty = Syntax.tyRef Syntax.erased Syntax.imm RelayCircuit.to; ref = λ x. x; }, (record { pos = 13; ty =
-            Syntax.tyRef Syntax.erased Syntax.imm ReservationUsage.to; ref = λ x. x; }, (record { pos = 15; ty = Syntax.tyRef Syntax.erased Syntax.imm
-            InflightAction.to; ref = λ x. x; }, (Num.vFld 6 ((Syntax.field 0) ∷ List.[]) 0 λ x. Script.struct .as-values x .0, tt,),),),),) (m9
-            (before· .before) (before· .begin-arg4 .given))
+        After-begin·own = Called.Called ps·0 r·0 (claims· .1) T14 args13
+            (m9 (before· .before) (before· .begin-arg4 .given))
+
       pub record After-begin : Type 0 where
         pub before : After-begin-arg4
         pub begin : After-begin·own before
-      abbrev pub After-begin·gave : (c : After-begin) → s13 .gives (m9 (c .before .before) (c .before .begin-arg4 .given))
-      After-begin·gave = λ c. Called.given ps·0 r·0 (claims· .1) T14 (record { pos = 9; ty = Syntax.tyRef Syntax.erased Syntax.imm RelayPending.to;
-          ref = λ x. x; }, (record { pos = 11; ty = Syntax.tyRef Syntax.erased Syntax.imm RelayCircuit.to; ref = λ x. x; }, (record { pos = 13; ty =
-          Syntax.tyRef Syntax.erased Syntax.imm ReservationUsage.to; ref = λ x. x; }, (record { pos = 15; ty = Syntax.tyRef Syntax.erased Syntax.imm
-          InflightAction.to; ref = λ x. x; }, (Num.vFld 6 ((Syntax.field 0) ∷ List.[]) 0 λ x. Script.struct .as-values x .0, tt,),),),),) (m9 (c
-          .before .before) (c .before .begin-arg4 .given)) (c .begin)
-      abbrev pub m11 : (before : After-begin-arg4) → (given : s13 .gives (m9 (before .before) (before .begin-arg4 .given))) → Typed.Mo T16
+
+      abbrev pub After-begin·gave : (c : After-begin) → s13 .gives
+          (m9 (c .before .before) (c .before .begin-arg4 .given))
+      After-begin·gave = λ c. Called.given ps·0 r·0 (claims· .1) T14 args13
+          (m9 (c .before .before) (c .before .begin-arg4 .given)) (c .begin)
+
+      abbrev pub m11 : (before : After-begin-arg4) → (given : s13 .gives
+          (m9 (before .before) (before .begin-arg4 .given))) → Typed.Mo T16
       m11 = λ before given. s14 (m10 before given)
-      abbrev pub m12 : (before : After-begin-arg4) → (given : s13 .gives (m9 (before .before) (before .begin-arg4 .given))) → Typed.Mo T17
+
+      abbrev pub m12 : (before : After-begin-arg4) → (given : s13 .gives
+          (m9 (before .before) (before .begin-arg4 .given))) → Typed.Mo T17
       m12 = λ before given. s15 (m11 before given)
-      abbrev pub m13 : (before : After-begin-arg4) → (given : s13 .gives (m9 (before .before) (before .begin-arg4 .given))) → Typed.Mo T18
+
+      abbrev pub m13 : (before : After-begin-arg4) → (given : s13 .gives
+          (m9 (before .before) (before .begin-arg4 .given))) → Typed.Mo T18
       m13 = λ before given. s16 (m12 before given)
-      abbrev pub m14 : (before : After-begin-arg4) → (given : s13 .gives (m9 (before .before) (before .begin-arg4 .given))) → Typed.Mo T19
+
+      abbrev pub m14 : (before : After-begin-arg4) → (given : s13 .gives
+          (m9 (before .before) (before .begin-arg4 .given))) → Typed.Mo T19
       m14 = λ before given. s17 (m13 before given)
-      abbrev pub m15 : (before : After-begin-arg4) → (given : s13 .gives (m9 (before .before) (before .begin-arg4 .given))) → Typed.Mo T21
+
+      abbrev pub m15 : (before : After-begin-arg4) → (given : s13 .gives
+          (m9 (before .before) (before .begin-arg4 .given))) → Typed.Mo T21
       m15 = λ before given. s19 (m14 before given)
-      abbrev pub m16 : (before : After-begin-arg4) → (given : s13 .gives (m9 (before .before) (before .begin-arg4 .given))) → Typed.Mo T24
+
+      abbrev pub m16 : (before : After-begin-arg4) → (given : s13 .gives
+          (m9 (before .before) (before .begin-arg4 .given))) → Typed.Mo T24
       m16 = λ before given. s22 (m15 before given)
-      abbrev pub m17 : (before : After-begin-arg4) → (given : s13 .gives (m9 (before .before) (before .begin-arg4 .given))) → Typed.Mo T27
+
+      abbrev pub m17 : (before : After-begin-arg4) → (given : s13 .gives
+          (m9 (before .before) (before .begin-arg4 .given))) → Typed.Mo T27
       m17 = λ before given. s25 (m16 before given)
-      abbrev pub m18 : (before : After-begin-arg4) → (given : s13 .gives (m9 (before .before) (before .begin-arg4 .given))) → Typed.Mo T30
+
+      abbrev pub m18 : (before : After-begin-arg4) → (given : s13 .gives
+          (m9 (before .before) (before .begin-arg4 .given))) → Typed.Mo T30
       m18 = λ before given. s28 (m17 before given)
-      abbrev pub m19 : (before : After-begin) → (given : s31 .gives (m18 (before .before) (After-begin·gave before))) → Typed.Mo T33
+
+      abbrev pub m19 : (before : After-begin) → (given : s31 .gives (m18 (before .before) (After-begin·gave before))) →
+          Typed.Mo T33
       m19 = λ before given. s31 .next (m18 (before .before) (After-begin·gave before)) given
-      abbrev pub m20 : (before : After-begin) → (given : s31 .gives (m18 (before .before) (After-begin·gave before))) → Typed.Mo T34
+
+      abbrev pub m20 : (before : After-begin) → (given : s31 .gives (m18 (before .before) (After-begin·gave before))) →
+          Typed.Mo T34
       m20 = λ before given. s32 .next (m19 before given)
+
       module _ (before· : After-begin) where
         pub record After-open-and-accept-arg·own : Type 0 where
           pub given : s31 .gives (m18 (before· .before) (After-begin·gave before·))
+
       pub record After-open-and-accept-arg : Type 0 where
         pub before : After-begin
         pub open-and-accept-arg : After-open-and-accept-arg·own before
-      abbrev pub m21 : (before : After-open-and-accept-arg) → (given : s34 .gives (m20 (before .before) (before .open-and-accept-arg .given))) →
-          Typed.Mo T36
+
+      abbrev pub m21 : (before : After-open-and-accept-arg) → (given : s34 .gives (m20 (before .before)
+          (before .open-and-accept-arg .given))) → Typed.Mo T36
       m21 = λ before given. s34 .next (m20 (before .before) (before .open-and-accept-arg .given)) given
-      abbrev pub m22 : (before : After-open-and-accept-arg) → (given : s34 .gives (m20 (before .before) (before .open-and-accept-arg .given))) →
-          Typed.Mo T37
+
+      abbrev pub m22 : (before : After-open-and-accept-arg) → (given : s34 .gives (m20 (before .before)
+          (before .open-and-accept-arg .given))) → Typed.Mo T37
       m22 = λ before given. s35 .next (m21 before given)
+
       module _ (before· : After-open-and-accept-arg) where
         pub record After-open-and-accept-arg2·own : Type 0 where
           pub given : s34 .gives (m20 (before· .before) (before· .open-and-accept-arg .given))
+
       pub record After-open-and-accept-arg2 : Type 0 where
         pub before : After-open-and-accept-arg
         pub open-and-accept-arg2 : After-open-and-accept-arg2·own before
-      abbrev pub m23 : (before : After-open-and-accept-arg2) → (given : s37 .gives (m22 (before .before) (before .open-and-accept-arg2 .given))) →
-          Typed.Mo T39
+
+      abbrev pub m23 : (before : After-open-and-accept-arg2) → (given : s37 .gives (m22 (before .before)
+          (before .open-and-accept-arg2 .given))) → Typed.Mo T39
       m23 = λ before given. s37 .next (m22 (before .before) (before .open-and-accept-arg2 .given)) given
-      abbrev pub m24 : (before : After-open-and-accept-arg2) → (given : s37 .gives (m22 (before .before) (before .open-and-accept-arg2 .given))) →
-          Typed.Mo T40
+
+      abbrev pub m24 : (before : After-open-and-accept-arg2) → (given : s37 .gives (m22 (before .before)
+          (before .open-and-accept-arg2 .given))) → Typed.Mo T40
       m24 = λ before given. s38 .next (m23 before given)
+
       module _ (before· : After-open-and-accept-arg2) where
         pub record After-open-and-accept-arg3·own : Type 0 where
           pub given : s37 .gives (m22 (before· .before) (before· .open-and-accept-arg2 .given))
+
       pub record After-open-and-accept-arg3 : Type 0 where
         pub before : After-open-and-accept-arg2
         pub open-and-accept-arg3 : After-open-and-accept-arg3·own before
-      abbrev pub m25 : (before : After-open-and-accept-arg3) → (given : s40 .gives (m24 (before .before) (before .open-and-accept-arg3 .given))) →
-          Typed.Mo T42
+
+      abbrev pub m25 : (before : After-open-and-accept-arg3) → (given : s40 .gives (m24 (before .before)
+          (before .open-and-accept-arg3 .given))) → Typed.Mo T42
       m25 = λ before given. s40 .next (m24 (before .before) (before .open-and-accept-arg3 .given)) given
-      abbrev pub m26 : (before : After-open-and-accept-arg3) → (given : s40 .gives (m24 (before .before) (before .open-and-accept-arg3 .given))) →
-          Typed.Mo T43
+
+      abbrev pub m26 : (before : After-open-and-accept-arg3) → (given : s40 .gives (m24 (before .before)
+          (before .open-and-accept-arg3 .given))) → Typed.Mo T43
       m26 = λ before given. s41 .next (m25 before given)
+
       module _ (before· : After-open-and-accept-arg3) where
         pub record After-open-and-accept-arg4·own : Type 0 where
           pub given : s40 .gives (m24 (before· .before) (before· .open-and-accept-arg3 .given))
+
       pub record After-open-and-accept-arg4 : Type 0 where
         pub before : After-open-and-accept-arg3
         pub open-and-accept-arg4 : After-open-and-accept-arg4·own before
-      abbrev pub m27 : (before : After-open-and-accept-arg4) → (given : s43 .gives (m26 (before .before) (before .open-and-accept-arg4 .given))) →
-          Typed.Mo T45
+
+      abbrev pub m27 : (before : After-open-and-accept-arg4) → (given : s43 .gives (m26 (before .before)
+          (before .open-and-accept-arg4 .given))) → Typed.Mo T45
       m27 = λ before given. s43 .next (m26 (before .before) (before .open-and-accept-arg4 .given)) given
-      abbrev pub m28 : (before : After-open-and-accept-arg4) → (given : s43 .gives (m26 (before .before) (before .open-and-accept-arg4 .given))) →
-          Typed.Mo T46
+
+      abbrev pub m28 : (before : After-open-and-accept-arg4) → (given : s43 .gives (m26 (before .before)
+          (before .open-and-accept-arg4 .given))) → Typed.Mo T46
       m28 = λ before given. s44 .next (m27 before given)
+
       module _ (before· : After-open-and-accept-arg4) where
         pub record After-open-and-accept-arg5·own : Type 0 where
           pub given : s43 .gives (m26 (before· .before) (before· .open-and-accept-arg4 .given))
+
       pub record After-open-and-accept-arg5 : Type 0 where
         pub before : After-open-and-accept-arg4
         pub open-and-accept-arg5 : After-open-and-accept-arg5·own before
+
       abbrev pub Need-open-and-accept-requires : Type 0
-      Need-open-and-accept-requires = (c : After-open-and-accept-arg5) → s45 .asks (m28 (c .before) (c .open-and-accept-arg5 .given))
-      abbrev pub m29 : (before : After-open-and-accept-arg5) → (given : s45 .gives (m28 (before .before) (before .open-and-accept-arg5 .given))) →
-          Typed.Mo T47
+      Need-open-and-accept-requires = (c : After-open-and-accept-arg5) → s45 .asks
+          (m28 (c .before) (c .open-and-accept-arg5 .given))
+
+      abbrev pub m29 : (before : After-open-and-accept-arg5) → (given : s45 .gives (m28 (before .before)
+          (before .open-and-accept-arg5 .given))) → Typed.Mo T47
       m29 = λ before given. s45 .next (m28 (before .before) (before .open-and-accept-arg5 .given)) given
+
       module _ (before· : After-open-and-accept-arg5) where
         abbrev pub After-open-and-accept·own : Type 0
-        After-open-and-accept·own = Called.Called ps·1 r·1 (claims· .3) T46 (record { pos = 17; ty = Syntax.tyRef Syntax.erased Syntax.mut
-            RelayPending.to; ref = λ x. x; }, (record { pos = 19; ty = Syntax.tyRef Syntax.erased Syntax.mut RelayCircuit.to; ref = λ x. x; }, (record
-            { pos = 21; ty = Syntax.tyRef Syntax.erased Syntax.mut ReservationUsage.to; ref = λ x. x; }, (record { pos = 23; ty = Syntax.tyRef
-            Syntax.erased Syntax.mut InflightAction.to; ref = λ x. x; }, (record { pos = 25; ty = Syntax.tyRef Syntax.erased Syntax.mut (Syntax.tyInt
-            Syntax.w32); ref = λ x. x; }, (record { pos = 7; st = List.[]; d = 0; at = λ x. x }, (Num.vFld 6 ((Syntax.field 1) ∷ List.[]) 8 λ x.
-            Script.struct .as-values x .1 .0, tt,),),),),),),) (m28 (before· .before) (before· .open-and-accept-arg5 .given))
+        After-open-and-accept·own = Called.Called ps·1 r·1 (claims· .3) T46 args45 (m28 (before· .before)
+            (before· .open-and-accept-arg5 .given))
+
       pub record After-open-and-accept : Type 0 where
         pub before : After-open-and-accept-arg5
         pub open-and-accept : After-open-and-accept·own before
-      abbrev pub After-open-and-accept·gave : (c : After-open-and-accept) → s45 .gives (m28 (c .before .before) (c .before .open-and-accept-arg5
-          .given))
-      After-open-and-accept·gave = λ c. Called.given ps·1 r·1 (claims· .3) T46 (record { pos = 17; ty = Syntax.tyRef Syntax.erased Syntax.mut
-          RelayPending.to; ref = λ x. x; }, (record { pos = 19; ty = Syntax.tyRef Syntax.erased Syntax.mut RelayCircuit.to; ref = λ x. x; }, (record {
-          pos = 21; ty = Syntax.tyRef Syntax.erased Syntax.mut ReservationUsage.to; ref = λ x. x; }, (record { pos = 23; ty = Syntax.tyRef
-          Syntax.erased Syntax.mut InflightAction.to; ref = λ x. x; }, (record { pos = 25; ty = Syntax.tyRef Syntax.erased Syntax.mut (Syntax.tyInt
-          Syntax.w32); ref = λ x. x; }, (record { pos = 7; st = List.[]; d = 0; at = λ x. x }, (Num.vFld 6 ((Syntax.field 1) ∷ List.[]) 8 λ x.
-          Script.struct .as-values x .1 .0, tt,),),),),),),) (m28 (c .before .before) (c .before .open-and-accept-arg5 .given)) (c .open-and-accept)
-      abbrev pub m30 : (before : After-open-and-accept-arg5) → (given : s45 .gives (m28 (before .before) (before .open-and-accept-arg5 .given))) →
-          Typed.Mo T48
+
+      abbrev pub After-open-and-accept·gave : (c : After-open-and-accept) → s45 .gives (m28 (c .before .before)
+          (c .before .open-and-accept-arg5 .given))
+      After-open-and-accept·gave = λ c. Called.given ps·1 r·1 (claims· .3) T46 args45 (m28 (c .before .before)
+          (c .before .open-and-accept-arg5 .given)) (c .open-and-accept)
+
+      abbrev pub m30 : (before : After-open-and-accept-arg5) → (given : s45 .gives (m28 (before .before)
+          (before .open-and-accept-arg5 .given))) → Typed.Mo T48
       m30 = λ before given. s46 (m29 before given)
-      abbrev pub m31 : (before : After-open-and-accept-arg5) → (given : s45 .gives (m28 (before .before) (before .open-and-accept-arg5 .given))) →
-          Typed.Mo T49
+
+      abbrev pub m31 : (before : After-open-and-accept-arg5) → (given : s45 .gives (m28 (before .before)
+          (before .open-and-accept-arg5 .given))) → Typed.Mo T49
       m31 = λ before given. s47 (m30 before given)
-      abbrev pub m32 : (before : After-open-and-accept) → (given : s49 .gives (m31 (before .before) (After-open-and-accept·gave before))) → Typed.Mo
-          T51
+
+      abbrev pub m32 : (before : After-open-and-accept) → (given : s49 .gives
+          (m31 (before .before) (After-open-and-accept·gave before))) → Typed.Mo T51
       m32 = λ before given. s49 .next (m31 (before .before) (After-open-and-accept·gave before)) given
+
       module _ (before· : After-open-and-accept) where
         pub record After-pending·own : Type 0 where
           pub given : s49 .gives (m31 (before· .before) (After-open-and-accept·gave before·))
+
       pub record After-pending : Type 0 where
         pub before : After-open-and-accept
         pub pending : After-pending·own before
-      abbrev pub m33 : (before : After-pending) → (given : s52 .gives (m32 (before .before) (before .pending .given))) → Typed.Mo T54
+
+      abbrev pub m33 : (before : After-pending) → (given : s52 .gives (m32 (before .before) (before .pending .given)))
+          → Typed.Mo T54
       m33 = λ before given. s52 .next (m32 (before .before) (before .pending .given)) given
+
       module _ (before· : After-pending) where
         pub record After-circuits·own : Type 0 where
           pub given : s52 .gives (m32 (before· .before) (before· .pending .given))
+
       pub record After-circuits : Type 0 where
         pub before : After-pending
         pub circuits : After-circuits·own before
-      abbrev pub m34 : (before : After-circuits) → (given : s55 .gives (m33 (before .before) (before .circuits .given))) → Typed.Mo T57
+
+      abbrev pub m34 : (before : After-circuits) → (given : s55 .gives (m33 (before .before) (before .circuits .given)))
+          → Typed.Mo T57
       m34 = λ before given. s55 .next (m33 (before .before) (before .circuits .given)) given
+
       module _ (before· : After-circuits) where
         pub record After-ledger·own : Type 0 where
           pub given : s55 .gives (m33 (before· .before) (before· .circuits .given))
+
       pub record After-ledger : Type 0 where
         pub before : After-circuits
         pub ledger : After-ledger·own before
-      abbrev pub m35 : (before : After-ledger) → (given : s58 .gives (m34 (before .before) (before .ledger .given))) → Typed.Mo T60
+
+      abbrev pub m35 : (before : After-ledger) → (given : s58 .gives (m34 (before .before) (before .ledger .given))) →
+          Typed.Mo T60
       m35 = λ before given. s58 .next (m34 (before .before) (before .ledger .given)) given
+
       module _ (before· : After-ledger) where
         pub record After-inflight·own : Type 0 where
           pub given : s58 .gives (m34 (before· .before) (before· .ledger .given))
+
       pub record After-inflight : Type 0 where
         pub before : After-ledger
         pub inflight : After-inflight·own before
-      abbrev pub m36 : (before : After-inflight) → (given : s61 .gives (m35 (before .before) (before .inflight .given))) → Typed.Mo T63
+
+      abbrev pub m36 : (before : After-inflight) → (given : s61 .gives (m35 (before .before) (before .inflight .given)))
+          → Typed.Mo T63
       m36 = λ before given. s61 .next (m35 (before .before) (before .inflight .given)) given
+
       module _ (before· : After-inflight) where
         pub record After-out·own : Type 0 where
           pub given : s61 .gives (m35 (before· .before) (before· .inflight .given))
+
       pub record After-out : Type 0 where
         pub before : After-inflight
         pub out : After-out·own before
-      abbrev pub m37 : (before : After-out) → (given : s62 .gives (m36 (before .before) (before .out .given))) → Typed.Mo T64
+
+      abbrev pub m37 : (before : After-out) → (given : s62 .gives (m36 (before .before) (before .out .given))) →
+          Typed.Mo T64
       m37 = λ before given. s62 .next (m36 (before .before) (before .out .given)) given
+
       module _ (before· : After-out) where
         pub record After-slice-known2·own : Type 0 where
           pub given : s62 .gives (m36 (before· .before) (before· .out .given))
+
       pub record After-slice-known2 : Type 0 where
         pub before : After-out
         pub slice-known2 : After-slice-known2·own before
+
       abbrev pub Need-same-length : Type 0
-      Need-same-length = (c : After-slice-known2) → MutSlice.SameLen (Row.get 1 (T64 .locals) (m37 (c .before) (c .slice-known2 .given))) (dens (c
-          .before .before .before .before .before .before .before .before .before .before .before .before .before .before .before .before .before
-          .before .κs) (c .before .before .before .before .before .before .before .before .before .before .before .before .before .before .before
-          .before .before .before .args) .0)
+      Need-same-length = (c : After-slice-known2) → MutSlice.SameLen (Row.get 1 (T64 .locals)
+          (m37 (c .before) (c .slice-known2 .given))) (dens (c .before .before .before .before .before .before .before
+          .before .before .before .before .before .before .before .before .before .before .before .κs) (c .before
+          .before .before .before .before .before .before .before .before .before .before .before .before .before
+          .before .before .before .before .args) .0)
+
       abbrev pub Need-same-length-2 : Type 0
-      Need-same-length-2 = (c : After-slice-known2) → MutSlice.SameLen (Row.get 2 (T64 .locals) (m37 (c .before) (c .slice-known2 .given))) (dens (c
-          .before .before .before .before .before .before .before .before .before .before .before .before .before .before .before .before .before
-          .before .κs) (c .before .before .before .before .before .before .before .before .before .before .before .before .before .before .before
-          .before .before .before .args) .1 .0)
+      Need-same-length-2 = (c : After-slice-known2) → MutSlice.SameLen (Row.get 2 (T64 .locals)
+          (m37 (c .before) (c .slice-known2 .given))) (dens (c .before .before .before .before .before .before .before
+          .before .before .before .before .before .before .before .before .before .before .before .κs) (c .before
+          .before .before .before .before .before .before .before .before .before .before .before .before .before
+          .before .before .before .before .args) .1 .0)
+
       abbrev pub Need-same-length-3 : Type 0
-      Need-same-length-3 = (c : After-slice-known2) → MutSlice.SameLen (Row.get 3 (T64 .locals) (m37 (c .before) (c .slice-known2 .given))) (dens (c
-          .before .before .before .before .before .before .before .before .before .before .before .before .before .before .before .before .before
-          .before .κs) (c .before .before .before .before .before .before .before .before .before .before .before .before .before .before .before
-          .before .before .before .args) .1 .1 .0)
+      Need-same-length-3 = (c : After-slice-known2) → MutSlice.SameLen (Row.get 3 (T64 .locals)
+          (m37 (c .before) (c .slice-known2 .given))) (dens (c .before .before .before .before .before .before .before
+          .before .before .before .before .before .before .before .before .before .before .before .κs) (c .before
+          .before .before .before .before .before .before .before .before .before .before .before .before .before
+          .before .before .before .before .args) .1 .1 .0)
+
       abbrev pub Need-same-length-4 : Type 0
-      Need-same-length-4 = (c : After-slice-known2) → MutSlice.SameLen (Row.get 4 (T64 .locals) (m37 (c .before) (c .slice-known2 .given))) (dens (c
-          .before .before .before .before .before .before .before .before .before .before .before .before .before .before .before .before .before
-          .before .κs) (c .before .before .before .before .before .before .before .before .before .before .before .before .before .before .before
-          .before .before .before .args) .1 .1 .1 .0)
+      Need-same-length-4 = (c : After-slice-known2) → MutSlice.SameLen (Row.get 4 (T64 .locals)
+          (m37 (c .before) (c .slice-known2 .given))) (dens (c .before .before .before .before .before .before .before
+          .before .before .before .before .before .before .before .before .before .before .before .κs) (c .before
+          .before .before .before .before .before .before .before .before .before .before .before .before .before
+          .before .before .before .before .args) .1 .1 .1 .0)
+
       abbrev pub Need-same-length-5 : Type 0
-      Need-same-length-5 = (c : After-slice-known2) → MutSlice.SameLen (Row.get 5 (T64 .locals) (m37 (c .before) (c .slice-known2 .given))) (dens (c
-          .before .before .before .before .before .before .before .before .before .before .before .before .before .before .before .before .before
-          .before .κs) (c .before .before .before .before .before .before .before .before .before .before .before .before .before .before .before
-          .before .before .before .args) .1 .1 .1 .1 .0)
+      Need-same-length-5 = (c : After-slice-known2) → MutSlice.SameLen (Row.get 5 (T64 .locals)
+          (m37 (c .before) (c .slice-known2 .given))) (dens (c .before .before .before .before .before .before .before
+          .before .before .before .before .before .before .before .before .before .before .before .κs) (c .before
+          .before .before .before .before .before .before .before .before .before .before .before .before .before
+          .before .before .before .before .args) .1 .1 .1 .1 .0)
+
       abbrev pub Need-returns : Type 0
-      Need-returns = (c : After-slice-known2) → Post· (c .before .before .before .before .before .before .before .before .before .before .before
-          .before .before .before .before .before .before .before .κs) (dens (c .before .before .before .before .before .before .before .before
-          .before .before .before .before .before .before .before .before .before .before .κs) (c .before .before .before .before .before .before
-          .before .before .before .before .before .before .before .before .before .before .before .before .args)) (Function.resV r (c .before .before
-          .before .before .before .before .before .before .before .before .before .before .before .before .before .before .before .before .κs) (m37 (c
-          .before) (c .slice-known2 .given) .0)) (Clauses.atExit (Kinds.endedOf 5 ps r) (c .before .before .before .before .before .before .before
-          .before .before .before .before .before .before .before .before .before .before .before .κs) (dens (c .before .before .before .before
-          .before .before .before .before .before .before .before .before .before .before .before .before .before .before .κs) (c .before .before
-          .before .before .before .before .before .before .before .before .before .before .before .before .before .before .before .before .args))
-          (Enter.lastsP (c .before .before .before .before .before .before .before .before .before .before .before .before .before .before .before
-          .before .before .before .κs) 1 ps xs (dens (c .before .before .before .before .before .before .before .before .before .before .before
-          .before .before .before .before .before .before .before .κs) (c .before .before .before .before .before .before .before .before .before
-          .before .before .before .before .before .before .before .before .before .args)) (m37 (c .before) (c .slice-known2 .given) .1)))
-      module _ (begin-requires : Need-begin-requires) (open-and-accept-requires : Need-open-and-accept-requires) (same-length : Need-same-length)
-          (same-length-2 : Need-same-length-2) (same-length-3 : Need-same-length-3) (same-length-4 : Need-same-length-4) (same-length-5 :
-          Need-same-length-5) (returns : Need-returns) where
-        lay2 : (c : After-open-and-accept) → at18 (W0 (c .before .before .before .before .before .before .before .before .before .before .before
-            .before .κs) (c .before .before .before .before .before .before .before .before .before .before .before .before .args)) (m29 (c .before)
-            (After-open-and-accept·gave c))
-        lay2 = λ c. (Path.refl, λ g. (Path.refl, λ g'. (Path.refl, λ g''. (Path.refl, λ g'3. (Path.refl, λ g'4. λ g'5. ((MutSlice.fix-len (Row.get 1
-            (T64 .locals) (m37 record { before = record { before = record { before = record { before = record { before = record { before = c .before;
-            open-and-accept = c .open-and-accept; }; pending = record { given = g }; }; circuits = record { given = g' }; }; ledger = record { given =
-            g'' }; }; inflight = record { given = g'3 }; }; out = record { given = g'4 }; } g'5) .ptr) (Row.get 1 (T64 .locals) (m37 record { before =
-            record { before = record { before = record { before = record { before = record { before = c .before; open-and-accept = c .open-and-accept;
-            }; pending = record { given = g }; }; circuits = record { given = g' }; }; ledger = record { given = g'' }; }; inflight = record { given =
-            g'3 }; }; out = record { given = g'4 }; } g'5) .name) (Row.get 1 (T64 .locals) (m37 record { before = record { before = record { before =
-            record { before = record { before = record { before = c .before; open-and-accept = c .open-and-accept; }; pending = record { given = g };
-            }; circuits = record { given = g' }; }; ledger = record { given = g'' }; }; inflight = record { given = g'3 }; }; out = record { given =
-            g'4 }; } g'5) .now) (dens (c .before .before .before .before .before .before .before .before .before .before .before .before .κs) (c
-            .before .before .before .before .before .before .before .before .before .before .before .before .args) .0 .now) (same-length record {
-            before = record { before = record { before = record { before = record { before = record { before = record { before = c .before;
-            open-and-accept = c .open-and-accept; }; pending = record { given = g }; }; circuits = record { given = g' }; }; ledger = record { given =
-            g'' }; }; inflight = record { given = g'3 }; }; out = record { given = g'4 }; }; slice-known2 = record { given = g'5 }; }),
-            (MutSlice.fix-len (Row.get 2 (T64 .locals) (m37 record { before = record { before = record { before = record { before = record { before =
-            record { before = c .before; open-and-accept = c .open-and-accept; }; pending = record { given = g }; }; circuits = record { given = g' };
-            }; ledger = record { given = g'' }; }; inflight = record { given = g'3 }; }; out = record { given = g'4 }; } g'5) .ptr) (Row.get 2 (T64
-            .locals) (m37 record { before = record { before = record { before = record { before = record { before = record { before = c .before;
-            open-and-accept = c .open-and-accept; }; pending = record { given = g }; }; circuits = record { given = g' }; }; ledger = record { given =
-            g'' }; }; inflight = record { given = g'3 }; }; out = record { given = g'4 }; } g'5) .name) (Row.get 2 (T64 .locals) (m37 record { before
-            = record { before = record { before = record { before = record { before = record { before = c .before; open-and-accept = c
-            .open-and-accept; }; pending = record { given = g }; }; circuits = record { given = g' }; }; ledger = record { given = g'' }; }; inflight
-            = record { given = g'3 }; }; out = record { given = g'4 }; } g'5) .now) (dens (c .before .before .before .before .before .before .before
-            .before .before .before .before .before .κs) (c .before .before .before .before .before .before .before .before .before .before .before
-            .before .args) .1 .0 .now) (same-length-2 record { before = record { before = record { before = record { before = record { before = record
-            { before = record { before = c .before; open-and-accept = c .open-and-accept; }; pending = record { given = g }; }; circuits = record {
-            given = g' }; }; ledger = record { given = g'' }; }; inflight = record { given = g'3 }; }; out = record { given = g'4 }; }; slice-known2 =
-            record { given = g'5 }; }), (MutSlice.fix-len (Row.get 3 (T64 .locals) (m37 record { before = record { before = record { before = record {
-            before = record { before = record { before = c .before; open-and-accept = c .open-and-accept; }; pending = record { given = g }; };
-            circuits = record { given = g' }; }; ledger = record { given = g'' }; }; inflight = record { given = g'3 }; }; out = record { given = g'4
-            }; } g'5) .ptr) (Row.get 3 (T64 .locals) (m37 record { before = record { before = record { before = record { before = record { before =
-            record { before = c .before; open-and-accept = c .open-and-accept; }; pending = record { given = g }; }; circuits = record { given = g' };
-            }; ledger = record { given = g'' }; }; inflight = record { given = g'3 }; }; out = record { given = g'4 }; } g'5) .name) (Row.get 3 (T64
-            .locals) (m37 record { before = record { before = record { before = record { before = record { before = record { before = c .before;
-            open-and-accept = c .open-and-accept; }; pending = record { given = g }; }; circuits = record { given = g' }; }; ledger = record { given =
-            g'' }; }; inflight = record { given = g'3 }; }; out = record { given = g'4 }; } g'5) .now) (dens (c .before .before .before .before
-            .before .before .before .before .before .before .before .before .κs) (c .before .before .before .before .before .before .before .before
-            .before .before .before .before .args) .1 .1 .0 .now) (same-length-3 record { before = record { before = record { before = record { before
-            = record { before = record { before = record { before = c .before; open-and-accept = c .open-and-accept; }; pending = record { given = g
-            }; }; circuits = record { given = g' }; }; ledger = record { given = g'' }; }; inflight = record { given = g'3 }; }; out = record { given
-            = g'4 }; }; slice-known2 = record { given = g'5 }; }), (MutSlice.fix-len (Row.get 4 (T64 .locals) (m37 record { before = record { before =
-            record { before = record { before = record { before = record { before = c .before; open-and-accept = c .open-and-accept; }; pending =
-            record { given = g }; }; circuits = record { given = g' }; }; ledger = record { given = g'' }; }; inflight = record { given = g'3 }; };
-            out = record { given = g'4 }; } g'5) .ptr) (Row.get 4 (T64 .locals) (m37 record { before = record { before = record { before = record {
-            before = record { before = record { before = c .before; open-and-accept = c .open-and-accept; }; pending = record { given = g }; };
-            circuits = record { given = g' }; }; ledger = record { given = g'' }; }; inflight = record { given = g'3 }; }; out = record { given = g'4
-            }; } g'5) .name) (Row.get 4 (T64 .locals) (m37 record { before = record { before = record { before = record { before = record { before =
-            record { before = c .before; open-and-accept = c .open-and-accept; }; pending = record { given = g }; }; circuits = record { given = g' };
-            }; ledger = record { given = g'' }; }; inflight = record { given = g'3 }; }; out = record { given = g'4 }; } g'5) .now) (dens (c .before
-            .before .before .before .before .before .before .before .before .before .before .before .κs) (c .before .before .before .before .before
-            .before .before .before .before .before .before .before .args) .1 .1 .1 .0 .now) (same-length-4 record { before = record { before = record
-            { before = record { before = record { before = record { before = record { before = c .before; open-and-accept = c .open-and-accept; };
-            pending = record { given = g }; }; circuits = record { given = g' }; }; ledger = record { given = g'' }; }; inflight = record { given =
-            g'3 }; }; out = record { given = g'4 }; }; slice-known2 = record { given = g'5 }; }), (MutSlice.fix-len (Row.get 5 (T64 .locals) (m37
-            record { before = record { before = record { before = record { before = record { before = record { before = c .before; open-and-accept = c
-            .open-and-accept; }; pending = record { given = g }; }; circuits = record { given = g' }; }; ledger = record { given = g'' }; }; inflight
-            = record { given = g'3 }; }; out = record { given = g'4 }; } g'5) .ptr) (Row.get 5 (T64 .locals) (m37 record { before = record { before =
-            record { before = record { before = record { before = record { before = c .before; open-and-accept = c .open-and-accept; }; pending =
-            record { given = g }; }; circuits = record { given = g' }; }; ledger = record { given = g'' }; }; inflight = record { given = g'3 }; };
-            out = record { given = g'4 }; } g'5) .name) (Row.get 5 (T64 .locals) (m37 record { before = record { before = record { before = record {
-            before = record { before = record { before = c .before; open-and-accept = c .open-and-accept; }; pending = record { given = g }; };
-            circuits = record { given = g' }; }; ledger = record { given = g'' }; }; inflight = record { given = g'3 }; }; out = record { given = g'4
-            }; } g'5) .now) (dens (c .before .before .before .before .before .before .before .before .before .before .before .before .κs) (c .before
-            .before .before .before .before .before .before .before .before .before .before .before .args) .1 .1 .1 .1 .0 .now) (same-length-5 record
-            { before = record { before = record { before = record { before = record { before = record { before = record { before = c .before;
-            open-and-accept = c .open-and-accept; }; pending = record { given = g }; }; circuits = record { given = g' }; }; ledger = record { given =
-            g'' }; }; inflight = record { given = g'3 }; }; out = record { given = g'4 }; }; slice-known2 = record { given = g'5 }; }), (tt,
-            tt),),),),),), returns record { before = record { before = record { before = record { before = record { before = record { before = record
-            { before = c .before; open-and-accept = c .open-and-accept; }; pending = record { given = g }; }; circuits = record { given = g' }; };
-            ledger = record { given = g'' }; }; inflight = record { given = g'3 }; }; out = record { given = g'4 }; }; slice-known2 = record { given =
-            g'5 }; },),),),),),)
-        lay1 : (c : After-begin) → at50 (W0 (c .before .before .before .before .before .before .κs) (c .before .before .before .before .before .before
-            .args)) (m10 (c .before) (After-begin·gave c))
-        lay1 = λ c. λ g. (Path.refl, λ g'. (Path.refl, λ g''. (Path.refl, λ g'3. (Path.refl, λ g'4. (Path.refl, (open-and-accept-requires record {
-            before = record { before = record { before = record { before = record { before = record { before = c .before; begin = c .begin };
-            open-and-accept-arg = record { given = g }; }; open-and-accept-arg2 = record { given = g' }; }; open-and-accept-arg3 = record { given =
-            g'' }; }; open-and-accept-arg4 = record { given = g'3 }; }; open-and-accept-arg5 = record { given = g'4 }; }, λ g'5. lay2 record { before
-            = record { before = record { before = record { before = record { before = record { before = record { before = c .before; begin = c .begin
-            }; open-and-accept-arg = record { given = g }; }; open-and-accept-arg2 = record { given = g' }; }; open-and-accept-arg3 = record { given =
-            g'' }; }; open-and-accept-arg4 = record { given = g'3 }; }; open-and-accept-arg5 = record { given = g'4 }; }; open-and-accept =
-            Called.called ps·1 r·1 (claims· .3) T46 (record { pos = 17; ty = Syntax.tyRef Syntax.erased Syntax.mut RelayPending.to; ref = λ x. x; },
-            (record { pos = 19; ty = Syntax.tyRef Syntax.erased Syntax.mut RelayCircuit.to; ref = λ x. x; }, (record { pos = 21; ty = Syntax.tyRef
-            Syntax.erased Syntax.mut ReservationUsage.to; ref = λ x. x; }, (record { pos = 23; ty = Syntax.tyRef Syntax.erased Syntax.mut
-            InflightAction.to; ref = λ x. x; }, (record { pos = 25; ty = Syntax.tyRef Syntax.erased Syntax.mut (Syntax.tyInt Syntax.w32); ref = λ x.
-            x; }, (record { pos = 7; st = List.[]; d = 0; at = λ x. x }, (Num.vFld 6 ((Syntax.field 1) ∷ List.[]) 8 λ x. Script.struct .as-values x .1
-            .0, tt,),),),),),),) (m28 record { before = record { before = record { before = record { before = record { before = c .before; begin = c
-            .begin }; open-and-accept-arg = record { given = g }; }; open-and-accept-arg2 = record { given = g' }; }; open-and-accept-arg3 = record {
-            given = g'' }; }; open-and-accept-arg4 = record { given = g'3 }; } g'4) g'5; },),),),),),)
+      Need-returns = (c : After-slice-known2) → Post· (c .before .before .before .before .before .before .before
+          .before .before .before .before .before .before .before .before .before .before .before .κs) (dens (c .before
+          .before .before .before .before .before .before .before .before .before .before .before .before .before
+          .before .before .before .before .κs) (c .before .before .before .before .before .before .before .before
+          .before .before .before .before .before .before .before .before .before .before .args)) (Function.resV r (c
+          .before .before .before .before .before .before .before .before .before .before .before .before .before
+          .before .before .before .before .before .κs) (m37 (c .before) (c .slice-known2 .given) .0)) (Clauses.atExit
+          (Kinds.endedOf 5 ps r) (c .before .before .before .before .before .before .before .before .before .before
+          .before .before .before .before .before .before .before .before .κs) (dens (c .before .before .before .before
+          .before .before .before .before .before .before .before .before .before .before .before .before .before
+          .before .κs) (c .before .before .before .before .before .before .before .before .before .before .before
+          .before .before .before .before .before .before .before .args)) (Enter.lastsP (c .before .before .before
+          .before .before .before .before .before .before .before .before .before .before .before .before .before
+          .before .before .κs) 1 ps xs (dens (c .before .before .before .before .before .before .before .before .before
+          .before .before .before .before .before .before .before .before .before .κs) (c .before .before .before
+          .before .before .before .before .before .before .before .before .before .before .before .before .before
+          .before .before .args)) (m37 (c .before) (c .slice-known2 .given) .1)))
+
+      module _ (begin-requires : Need-begin-requires) (open-and-accept-requires : Need-open-and-accept-requires)
+          (same-length : Need-same-length) (same-length-2 : Need-same-length-2) (same-length-3 : Need-same-length-3)
+          (same-length-4 : Need-same-length-4) (same-length-5 : Need-same-length-5) (returns : Need-returns) where
+        lay2 : (c : After-open-and-accept) → at18 (W0 (c .before .before .before .before .before .before .before
+            .before .before .before .before .before .κs) (c .before .before .before .before .before .before .before
+            .before .before .before .before .before .args)) (m29 (c .before) (After-open-and-accept·gave c))
+        lay2 = λ c. (
+          Path.refl,
+          λ g. (
+            Path.refl,
+            λ g'. (
+              Path.refl,
+              λ g''. (
+                Path.refl,
+                λ g'3. (
+                  Path.refl,
+                  λ g'4. λ g'5. (
+                    (
+                      MutSlice.fix-len (Row.get 1 (T64 .locals) (m37
+                          record {
+                            before = record {
+                              before = record {
+                                before = record {
+                                  before = record {
+                                    before = record { before = c .before; open-and-accept = c .open-and-accept };
+                                    pending = record { given = g };
+                                  };
+                                  circuits = record { given = g' };
+                                };
+                                ledger = record { given = g'' };
+                              };
+                              inflight = record { given = g'3 };
+                            };
+                            out = record { given = g'4 };
+                          } g'5) .ptr) (Row.get 1 (T64 .locals) (m37
+                          record {
+                            before = record {
+                              before = record {
+                                before = record {
+                                  before = record {
+                                    before = record { before = c .before; open-and-accept = c .open-and-accept };
+                                    pending = record { given = g };
+                                  };
+                                  circuits = record { given = g' };
+                                };
+                                ledger = record { given = g'' };
+                              };
+                              inflight = record { given = g'3 };
+                            };
+                            out = record { given = g'4 };
+                          } g'5) .name) (Row.get 1 (T64 .locals) (m37
+                          record {
+                            before = record {
+                              before = record {
+                                before = record {
+                                  before = record {
+                                    before = record { before = c .before; open-and-accept = c .open-and-accept };
+                                    pending = record { given = g };
+                                  };
+                                  circuits = record { given = g' };
+                                };
+                                ledger = record { given = g'' };
+                              };
+                              inflight = record { given = g'3 };
+                            };
+                            out = record { given = g'4 };
+                          } g'5) .now) (dens (c .before .before .before .before .before .before .before .before .before
+                          .before .before .before .κs) (c .before .before .before .before .before .before .before
+                          .before .before .before .before .before .args) .0 .now) (same-length
+                          record {
+                            before = record {
+                              before = record {
+                                before = record {
+                                  before = record {
+                                    before = record {
+                                      before = record { before = c .before; open-and-accept = c .open-and-accept };
+                                      pending = record { given = g };
+                                    };
+                                    circuits = record { given = g' };
+                                  };
+                                  ledger = record { given = g'' };
+                                };
+                                inflight = record { given = g'3 };
+                              };
+                              out = record { given = g'4 };
+                            };
+                            slice-known2 = record { given = g'5 };
+                          }),
+                      (
+                        MutSlice.fix-len (Row.get 2 (T64 .locals) (m37
+                            record {
+                              before = record {
+                                before = record {
+                                  before = record {
+                                    before = record {
+                                      before = record { before = c .before; open-and-accept = c .open-and-accept };
+                                      pending = record { given = g };
+                                    };
+                                    circuits = record { given = g' };
+                                  };
+                                  ledger = record { given = g'' };
+                                };
+                                inflight = record { given = g'3 };
+                              };
+                              out = record { given = g'4 };
+                            } g'5) .ptr) (Row.get 2 (T64 .locals) (m37
+                            record {
+                              before = record {
+                                before = record {
+                                  before = record {
+                                    before = record {
+                                      before = record { before = c .before; open-and-accept = c .open-and-accept };
+                                      pending = record { given = g };
+                                    };
+                                    circuits = record { given = g' };
+                                  };
+                                  ledger = record { given = g'' };
+                                };
+                                inflight = record { given = g'3 };
+                              };
+                              out = record { given = g'4 };
+                            } g'5) .name) (Row.get 2 (T64 .locals) (m37
+                            record {
+                              before = record {
+                                before = record {
+                                  before = record {
+                                    before = record {
+                                      before = record { before = c .before; open-and-accept = c .open-and-accept };
+                                      pending = record { given = g };
+                                    };
+                                    circuits = record { given = g' };
+                                  };
+                                  ledger = record { given = g'' };
+                                };
+                                inflight = record { given = g'3 };
+                              };
+                              out = record { given = g'4 };
+                            } g'5) .now) (dens (c .before .before .before .before .before .before .before .before
+                            .before .before .before .before .κs) (c .before .before .before .before .before .before
+                            .before .before .before .before .before .before .args) .1 .0 .now) (same-length-2
+                            record {
+                              before = record {
+                                before = record {
+                                  before = record {
+                                    before = record {
+                                      before = record {
+                                        before = record { before = c .before; open-and-accept = c .open-and-accept };
+                                        pending = record { given = g };
+                                      };
+                                      circuits = record { given = g' };
+                                    };
+                                    ledger = record { given = g'' };
+                                  };
+                                  inflight = record { given = g'3 };
+                                };
+                                out = record { given = g'4 };
+                              };
+                              slice-known2 = record { given = g'5 };
+                            }),
+                        (
+                          MutSlice.fix-len (Row.get 3 (T64 .locals) (m37
+                              record {
+                                before = record {
+                                  before = record {
+                                    before = record {
+                                      before = record {
+                                        before = record { before = c .before; open-and-accept = c .open-and-accept };
+                                        pending = record { given = g };
+                                      };
+                                      circuits = record { given = g' };
+                                    };
+                                    ledger = record { given = g'' };
+                                  };
+                                  inflight = record { given = g'3 };
+                                };
+                                out = record { given = g'4 };
+                              } g'5) .ptr) (Row.get 3 (T64 .locals) (m37
+                              record {
+                                before = record {
+                                  before = record {
+                                    before = record {
+                                      before = record {
+                                        before = record { before = c .before; open-and-accept = c .open-and-accept };
+                                        pending = record { given = g };
+                                      };
+                                      circuits = record { given = g' };
+                                    };
+                                    ledger = record { given = g'' };
+                                  };
+                                  inflight = record { given = g'3 };
+                                };
+                                out = record { given = g'4 };
+                              } g'5) .name) (Row.get 3 (T64 .locals) (m37
+                              record {
+                                before = record {
+                                  before = record {
+                                    before = record {
+                                      before = record {
+                                        before = record { before = c .before; open-and-accept = c .open-and-accept };
+                                        pending = record { given = g };
+                                      };
+                                      circuits = record { given = g' };
+                                    };
+                                    ledger = record { given = g'' };
+                                  };
+                                  inflight = record { given = g'3 };
+                                };
+                                out = record { given = g'4 };
+                              } g'5) .now) (dens (c .before .before .before .before .before .before .before .before
+                              .before .before .before .before .κs) (c .before .before .before .before .before .before
+                              .before .before .before .before .before .before .args) .1 .1 .0 .now) (same-length-3
+                              record {
+                                before = record {
+                                  before = record {
+                                    before = record {
+                                      before = record {
+                                        before = record {
+                                          before = record { before = c .before; open-and-accept = c .open-and-accept };
+                                          pending = record { given = g };
+                                        };
+                                        circuits = record { given = g' };
+                                      };
+                                      ledger = record { given = g'' };
+                                    };
+                                    inflight = record { given = g'3 };
+                                  };
+                                  out = record { given = g'4 };
+                                };
+                                slice-known2 = record { given = g'5 };
+                              }),
+                          (
+                            MutSlice.fix-len (Row.get 4 (T64 .locals) (m37
+                                record {
+                                  before = record {
+                                    before = record {
+                                      before = record {
+                                        before = record {
+                                          before = record { before = c .before; open-and-accept = c .open-and-accept };
+                                          pending = record { given = g };
+                                        };
+                                        circuits = record { given = g' };
+                                      };
+                                      ledger = record { given = g'' };
+                                    };
+                                    inflight = record { given = g'3 };
+                                  };
+                                  out = record { given = g'4 };
+                                } g'5) .ptr) (Row.get 4 (T64 .locals) (m37
+                                record {
+                                  before = record {
+                                    before = record {
+                                      before = record {
+                                        before = record {
+                                          before = record { before = c .before; open-and-accept = c .open-and-accept };
+                                          pending = record { given = g };
+                                        };
+                                        circuits = record { given = g' };
+                                      };
+                                      ledger = record { given = g'' };
+                                    };
+                                    inflight = record { given = g'3 };
+                                  };
+                                  out = record { given = g'4 };
+                                } g'5) .name) (Row.get 4 (T64 .locals) (m37
+                                record {
+                                  before = record {
+                                    before = record {
+                                      before = record {
+                                        before = record {
+                                          before = record { before = c .before; open-and-accept = c .open-and-accept };
+                                          pending = record { given = g };
+                                        };
+                                        circuits = record { given = g' };
+                                      };
+                                      ledger = record { given = g'' };
+                                    };
+                                    inflight = record { given = g'3 };
+                                  };
+                                  out = record { given = g'4 };
+                                } g'5) .now) (dens (c .before .before .before .before .before .before .before .before
+                                .before .before .before .before .κs) (c .before .before .before .before .before .before
+                                .before .before .before .before .before .before .args) .1 .1 .1 .0 .now) (same-length-4
+                                record {
+                                  before = record {
+                                    before = record {
+                                      before = record {
+                                        before = record {
+                                          before = record {
+                                            before = record {
+                                              before = c .before;
+                                              open-and-accept = c .open-and-accept;
+                                            };
+                                            pending = record { given = g };
+                                          };
+                                          circuits = record { given = g' };
+                                        };
+                                        ledger = record { given = g'' };
+                                      };
+                                      inflight = record { given = g'3 };
+                                    };
+                                    out = record { given = g'4 };
+                                  };
+                                  slice-known2 = record { given = g'5 };
+                                }),
+                            (
+                              MutSlice.fix-len (Row.get 5 (T64 .locals) (m37
+                                  record {
+                                    before = record {
+                                      before = record {
+                                        before = record {
+                                          before = record {
+                                            before = record {
+                                              before = c .before;
+                                              open-and-accept = c .open-and-accept;
+                                            };
+                                            pending = record { given = g };
+                                          };
+                                          circuits = record { given = g' };
+                                        };
+                                        ledger = record { given = g'' };
+                                      };
+                                      inflight = record { given = g'3 };
+                                    };
+                                    out = record { given = g'4 };
+                                  } g'5) .ptr) (Row.get 5 (T64 .locals) (m37
+                                  record {
+                                    before = record {
+                                      before = record {
+                                        before = record {
+                                          before = record {
+                                            before = record {
+                                              before = c .before;
+                                              open-and-accept = c .open-and-accept;
+                                            };
+                                            pending = record { given = g };
+                                          };
+                                          circuits = record { given = g' };
+                                        };
+                                        ledger = record { given = g'' };
+                                      };
+                                      inflight = record { given = g'3 };
+                                    };
+                                    out = record { given = g'4 };
+                                  } g'5) .name) (Row.get 5 (T64 .locals) (m37
+                                  record {
+                                    before = record {
+                                      before = record {
+                                        before = record {
+                                          before = record {
+                                            before = record {
+                                              before = c .before;
+                                              open-and-accept = c .open-and-accept;
+                                            };
+                                            pending = record { given = g };
+                                          };
+                                          circuits = record { given = g' };
+                                        };
+                                        ledger = record { given = g'' };
+                                      };
+                                      inflight = record { given = g'3 };
+                                    };
+                                    out = record { given = g'4 };
+                                  } g'5) .now) (dens (c .before .before .before .before .before .before .before .before
+                                  .before .before .before .before .κs) (c .before .before .before .before .before
+                                  .before .before .before .before .before .before .before .args) .1 .1 .1 .1 .0 .now) (same-length-5
+                                  record {
+                                    before = record {
+                                      before = record {
+                                        before = record {
+                                          before = record {
+                                            before = record {
+                                              before =
+                                                  record { before = c .before; open-and-accept = c .open-and-accept };
+                                              pending = record { given = g };
+                                            };
+                                            circuits = record { given = g' };
+                                          };
+                                          ledger = record { given = g'' };
+                                        };
+                                        inflight = record { given = g'3 };
+                                      };
+                                      out = record { given = g'4 };
+                                    };
+                                    slice-known2 = record { given = g'5 };
+                                  }),
+                              (tt, tt),
+                            ),
+                          ),
+                        ),
+                      ),
+                    ),
+                    returns record {
+                      before = record {
+                        before = record {
+                          before = record {
+                            before = record {
+                              before = record {
+                                before = record { before = c .before; open-and-accept = c .open-and-accept };
+                                pending = record { given = g };
+                              };
+                              circuits = record { given = g' };
+                            };
+                            ledger = record { given = g'' };
+                          };
+                          inflight = record { given = g'3 };
+                        };
+                        out = record { given = g'4 };
+                      };
+                      slice-known2 = record { given = g'5 };
+                    },
+                  ),
+                ),
+              ),
+            ),
+          ),
+        )
+
+        lay1 : (c : After-begin) → at50 (W0 (c .before .before .before .before .before .before .κs)
+            (c .before .before .before .before .before .before .args)) (m10 (c .before) (After-begin·gave c))
+        lay1 = λ c. λ g. (
+          Path.refl,
+          λ g'. (
+            Path.refl,
+            λ g''. (
+              Path.refl,
+              λ g'3. (
+                Path.refl,
+                λ g'4. (
+                  Path.refl,
+                  (
+                    open-and-accept-requires record {
+                      before = record {
+                        before = record {
+                          before = record {
+                            before = record {
+                              before = record { before = c .before; begin = c .begin };
+                              open-and-accept-arg = record { given = g };
+                            };
+                            open-and-accept-arg2 = record { given = g' };
+                          };
+                          open-and-accept-arg3 = record { given = g'' };
+                        };
+                        open-and-accept-arg4 = record { given = g'3 };
+                      };
+                      open-and-accept-arg5 = record { given = g'4 };
+                    },
+                    λ g'5. lay2 record {
+                      before = record {
+                        before = record {
+                          before = record {
+                            before = record {
+                              before = record {
+                                before = record { before = c .before; begin = c .begin };
+                                open-and-accept-arg = record { given = g };
+                              };
+                              open-and-accept-arg2 = record { given = g' };
+                            };
+                            open-and-accept-arg3 = record { given = g'' };
+                          };
+                          open-and-accept-arg4 = record { given = g'3 };
+                        };
+                        open-and-accept-arg5 = record { given = g'4 };
+                      };
+                      open-and-accept = Called.called ps·1 r·1 (claims· .3) T46 args45 (m28
+                          record {
+                            before = record {
+                              before = record {
+                                before = record {
+                                  before = record { before = c .before; begin = c .begin };
+                                  open-and-accept-arg = record { given = g };
+                                };
+                                open-and-accept-arg2 = record { given = g' };
+                              };
+                              open-and-accept-arg3 = record { given = g'' };
+                            };
+                            open-and-accept-arg4 = record { given = g'3 };
+                          } g'4) g'5;
+                    },
+                  ),
+                ),
+              ),
+            ),
+          ),
+        )
+
         pub laid : (c : Start) → at64 (W0 (c .κs) (c .args)) (m0 (c .κs) (c .args))
-        laid = λ c. λ g. λ g'. (Path.refl, λ g''. (Path.refl, λ g'3. (Path.refl, λ g'4. (Path.refl, (begin-requires record { before = record { before
-            = record { before = record { before = record { before = c; slice-known = record { given = g } }; begin-arg = record { given = g' }; };
-            begin-arg2 = record { given = g'' }; }; begin-arg3 = record { given = g'3 }; }; begin-arg4 = record { given = g'4 }; }, λ g'5. lay1 record
-            { before = record { before = record { before = record { before = record { before = record { before = c; slice-known = record { given = g }
-            }; begin-arg = record { given = g' }; }; begin-arg2 = record { given = g'' }; }; begin-arg3 = record { given = g'3 }; }; begin-arg4 =
-            record { given = g'4 }; }; begin = Called.called ps·0 r·0 (claims· .1) T14 (record { pos = 9; ty = Syntax.tyRef Syntax.erased Syntax.imm
-            RelayPending.to; ref = λ x. x; }, (record { pos = 11; ty = Syntax.tyRef Syntax.erased Syntax.imm RelayCircuit.to; ref = λ x. x; }, (record
-            { pos = 13; ty = Syntax.tyRef Syntax.erased Syntax.imm ReservationUsage.to; ref = λ x. x; }, (record { pos = 15; ty = Syntax.tyRef
-            Syntax.erased Syntax.imm InflightAction.to; ref = λ x. x; }, (Num.vFld 6 ((Syntax.field 0) ∷ List.[]) 0 λ x. Script.struct .as-values x
-            .0, tt,),),),),) (m9 record { before = record { before = record { before = record { before = c; slice-known = record { given = g } };
-            begin-arg = record { given = g' }; }; begin-arg2 = record { given = g'' }; }; begin-arg3 = record { given = g'3 }; } g'4) g'5; },),),),),)
+        laid = λ c. λ g. λ g'. (
+          Path.refl,
+          λ g''. (
+            Path.refl,
+            λ g'3. (
+              Path.refl,
+              λ g'4. (
+                Path.refl,
+                (
+                  begin-requires record {
+                    before = record {
+                      before = record {
+                        before = record {
+                          before = record { before = c; slice-known = record { given = g } };
+                          begin-arg = record { given = g' };
+                        };
+                        begin-arg2 = record { given = g'' };
+                      };
+                      begin-arg3 = record { given = g'3 };
+                    };
+                    begin-arg4 = record { given = g'4 };
+                  },
+                  λ g'5. lay1 record {
+                    before = record {
+                      before = record {
+                        before = record {
+                          before = record {
+                            before = record { before = c; slice-known = record { given = g } };
+                            begin-arg = record { given = g' };
+                          };
+                          begin-arg2 = record { given = g'' };
+                        };
+                        begin-arg3 = record { given = g'3 };
+                      };
+                      begin-arg4 = record { given = g'4 };
+                    };
+                    begin = Called.called ps·0 r·0 (claims· .1) T14 args13 (m9
+                        record {
+                          before = record {
+                            before = record {
+                              before = record { before = c; slice-known = record { given = g } };
+                              begin-arg = record { given = g' };
+                            };
+                            begin-arg2 = record { given = g'' };
+                          };
+                          begin-arg3 = record { given = g'3 };
+                        } g'4) g'5;
+                  },
+                ),
+              ),
+            ),
+          ),
+        )
+
         module _ (κs : Lifetimes.Lfts 5) (qs : Lifetimes.Shares 5) where
-          pub asked : (a : Kinds.Dens κs ps) → (good : Kinds.GoodsP κs ps a) → (pre : Pre· κs a) → (bs : List.List Nat.ℕ) → Φ (Any.wantQ 5 ps r xs m
-              κs qs a (Post· κs a)) (Function.init 5 ps r xs m κs qs a)
-          asked = λ a good pre bs. laid record { κs = κs; args = record { pending = a .0; circuits = a .1 .0; ledger = a .1 .1 .0; inflight = a .1 .1
-              .1 .0; out = a .1 .1 .1 .1 .0; script = a .1 .1 .1 .1 .1 .0; }; good = good; pre = pre; }
-        module _ { M : Type 1 } (𝓤 : URA.URA M) (H : Wp.Heap 𝓤) (A : Atoms.Atoms 𝓤) (W : Kit.Given 𝓤 H A) (𝓣 : Wp.Tables 𝓤 H) (known0 : Plain.Known 𝓤
-            H A W 𝓣 4 ps·0 r·0 (claims· .0) (claims· .1) "cases::machine::begin") (known1 : Plain.Known 𝓤 H A W 𝓣 5 ps·1 r·1 (claims· .2) (claims· .3)
+          pub asked : (a : Kinds.Dens κs ps) → (good : Kinds.GoodsP κs ps a) → (pre : Pre· κs a) →
+              (bs : List.List Nat.ℕ) → Φ (Any.wantQ 5 ps r xs m κs qs a (Post· κs a))
+              (Function.init 5 ps r xs m κs qs a)
+          asked = λ a good pre bs. laid record {
+            κs = κs;
+            args = record {
+              pending = a .0;
+              circuits = a .1 .0;
+              ledger = a .1 .1 .0;
+              inflight = a .1 .1 .1 .0;
+              out = a .1 .1 .1 .1 .0;
+              script = a .1 .1 .1 .1 .1 .0;
+            };
+            good = good;
+            pre = pre;
+          }
+
+        module _ {M : Type 1} (𝓤 : URA.URA M) (H : Wp.Heap 𝓤) (A : Atoms.Atoms 𝓤) (W : Kit.Given 𝓤 H A)
+            (𝓣 : Wp.Tables 𝓤 H) (known0 : Plain.Known 𝓤 H A W 𝓣 4 ps·0 r·0 (claims· .0) (claims· .1)
+            "cases::machine::begin") (known1 : Plain.Known 𝓤 H A W 𝓣 5 ps·1 r·1 (claims· .2) (claims· .3)
             "cases::machine::open_and_accept") where
-          pub spec : Statement.Triple 𝓤 (Wp.WpFn 𝓤 H (𝓣 .C) (𝓣 .Λ) (Function.fnOf 5 ps r xs m hs body)) (Function.plainOf 𝓤 H A 5 ps r Pre· Post·)
-          spec = Plain.t-fn-plain 𝓤 H A W 𝓣 5 ps r xs m hs body (λ κs qs bs. Φ) (λ κs qs bs bd. typed κs qs 𝓤 H A W 𝓣 (known0, known1) bs bd) Pre·
-              Post· asked
+          pub spec : Statement.Triple 𝓤 (Wp.WpFn 𝓤 H (𝓣 .C) (𝓣 .Λ) (Function.fnOf 5 ps r xs m hs body))
+              (Function.plainOf 𝓤 H A 5 ps r Pre· Post·)
+          spec = Plain.t-fn-plain 𝓤 H A W 𝓣 5 ps r xs m hs body (λ κs qs bs. Φ) (λ κs qs bs bd. typed κs qs 𝓤 H A W 𝓣
+              (known0, known1) bs bd) Pre· Post· asked

@@ -7,6 +7,7 @@ use Rattle.cases.proofs.By.ReservationUsage
 use borrow.Author.Called
 use borrow.Author.Tests
 use borrow.Fn.Any
+use borrow.Fn.Args as Args'
 use borrow.Fn.Call
 use borrow.Fn.Enter
 use borrow.Fn.Frame
@@ -43,1247 +44,2075 @@ use mathlib.Core.List.{_∷_}
 
 abbrev ref0 : Syntax.Ty
 ref0 = Syntax.tyRef Syntax.erased Syntax.mut RelayPending.to
+
 abbrev ref1 : Syntax.Ty
 ref1 = Syntax.tyRef Syntax.erased Syntax.mut RelayCircuit.to
+
 abbrev ref2 : Syntax.Ty
 ref2 = Syntax.tyRef Syntax.erased Syntax.mut ReservationUsage.to
+
 abbrev ref3 : Syntax.Ty
 ref3 = Syntax.tyRef Syntax.erased Syntax.mut InflightAction.to
+
 abbrev ref4 : Syntax.Ty
 ref4 = Syntax.tyRef Syntax.erased Syntax.mut (Syntax.tyInt Syntax.w32)
+
 abbrev ref5 : Syntax.Ty
 ref5 = Syntax.tyRef Syntax.erased Syntax.mut (Syntax.tyInt Syntax.w8)
+
 abbrev ref6 : Syntax.Ty
 ref6 = Syntax.tyRef (Syntax.named 0) Syntax.mut RelayPending.to
+
 abbrev ref7 : Syntax.Ty
 ref7 = Syntax.tyRef (Syntax.named 1) Syntax.mut RelayCircuit.to
+
 abbrev ref8 : Syntax.Ty
 ref8 = Syntax.tyRef (Syntax.named 2) Syntax.mut ReservationUsage.to
+
 abbrev ref9 : Syntax.Ty
 ref9 = Syntax.tyRef (Syntax.named 3) Syntax.mut InflightAction.to
+
 abbrev ref10 : Syntax.Ty
 ref10 = Syntax.tyRef (Syntax.named 4) Syntax.mut (Syntax.tyInt Syntax.w32)
+
 abbrev ref11 : Syntax.Ty
 ref11 = Syntax.tyRef (Syntax.named 5) Syntax.mut (Syntax.tyInt Syntax.w8)
+
+abbrev slice0 : Syntax.Ty
+slice0 = Syntax.tyStruct (38 ∷ 91 ∷ 93 ∷ List.[]) (Syntax.tcons ref0
+    (Syntax.tcons (Syntax.tyInt Syntax.w64) Syntax.tnil))
+
+abbrev slice1 : Syntax.Ty
+slice1 = Syntax.tyStruct (38 ∷ 91 ∷ 93 ∷ List.[]) (Syntax.tcons ref1
+    (Syntax.tcons (Syntax.tyInt Syntax.w64) Syntax.tnil))
+
+abbrev slice2 : Syntax.Ty
+slice2 = Syntax.tyStruct (38 ∷ 91 ∷ 93 ∷ List.[]) (Syntax.tcons ref2
+    (Syntax.tcons (Syntax.tyInt Syntax.w64) Syntax.tnil))
+
+abbrev slice3 : Syntax.Ty
+slice3 = Syntax.tyStruct (38 ∷ 91 ∷ 93 ∷ List.[]) (Syntax.tcons ref3
+    (Syntax.tcons (Syntax.tyInt Syntax.w64) Syntax.tnil))
+
+abbrev slice4 : Syntax.Ty
+slice4 = Syntax.tyStruct (38 ∷ 91 ∷ 93 ∷ List.[]) (Syntax.tcons ref4
+    (Syntax.tcons (Syntax.tyInt Syntax.w64) Syntax.tnil))
+
+abbrev slice5 : Syntax.Ty
+slice5 = Syntax.tyStruct (38 ∷ 91 ∷ 93 ∷ List.[]) (Syntax.tcons ref5
+    (Syntax.tcons (Syntax.tyInt Syntax.w64) Syntax.tnil))
+
 abbrev pub ps : List.List (Kinds.PK 6)
-ps = (MutSlice.pMutS RelayPending.row 0 tt) ∷ (MutSlice.pMutS RelayCircuit.row 1 tt) ∷ (MutSlice.pMutS ReservationUsage.row 2 tt) ∷ (MutSlice.pMutS
-    InflightAction.row 3 tt) ∷ (MutSlice.pMutS (Referent.rtF (Referent.fInt Syntax.w32)) 4 tt) ∷ (MutSlice.pMutS (Referent.rtF (Referent.fInt
-    Syntax.w8)) 5 tt) ∷ List.[]
+ps = (MutSlice.pMutS RelayPending.row 0 tt) ∷ (MutSlice.pMutS RelayCircuit.row 1 tt) ∷
+    (MutSlice.pMutS ReservationUsage.row 2 tt) ∷ (MutSlice.pMutS InflightAction.row 3 tt) ∷ (MutSlice.pMutS
+    (Referent.rtF (Referent.fInt Syntax.w32)) 4 tt) ∷ (MutSlice.pMutS (Referent.rtF (Referent.fInt Syntax.w8)) 5 tt) ∷
+    List.[]
+
 abbrev pub r : Kinds.RK 6
 r = Unit.rUnit
+
 abbrev pub xs : List.List Syntax.Ty
-xs = (Syntax.tyInt Syntax.w8) ∷ Syntax.tyBool ∷ Syntax.tyUnit ∷ ref0 ∷ (Syntax.tyStruct (38 ∷ 91 ∷ 93 ∷ List.[]) (Syntax.tcons ref0 (Syntax.tcons
-    (Syntax.tyInt Syntax.w64) Syntax.tnil))) ∷ ref1 ∷ (Syntax.tyStruct (38 ∷ 91 ∷ 93 ∷ List.[]) (Syntax.tcons ref1 (Syntax.tcons (Syntax.tyInt
-    Syntax.w64) Syntax.tnil))) ∷ ref2 ∷ (Syntax.tyStruct (38 ∷ 91 ∷ 93 ∷ List.[]) (Syntax.tcons ref2 (Syntax.tcons (Syntax.tyInt Syntax.w64)
-    Syntax.tnil))) ∷ ref3 ∷ (Syntax.tyStruct (38 ∷ 91 ∷ 93 ∷ List.[]) (Syntax.tcons ref3 (Syntax.tcons (Syntax.tyInt Syntax.w64) Syntax.tnil))) ∷ ref4
-    ∷ (Syntax.tyStruct (38 ∷ 91 ∷ 93 ∷ List.[]) (Syntax.tcons ref4 (Syntax.tcons (Syntax.tyInt Syntax.w64) Syntax.tnil))) ∷ ref5 ∷ (Syntax.tyStruct
-    (38 ∷ 91 ∷ 93 ∷ List.[]) (Syntax.tcons ref5 (Syntax.tcons (Syntax.tyInt Syntax.w64) Syntax.tnil))) ∷ List.[]
+xs = (Syntax.tyInt Syntax.w8) ∷ Syntax.tyBool ∷ Syntax.tyUnit ∷ ref0 ∷ slice0 ∷ ref1 ∷ slice1 ∷ ref2 ∷ slice2 ∷ ref3 ∷
+    slice3 ∷ ref4 ∷ slice4 ∷ ref5 ∷ slice5 ∷ List.[]
+
 abbrev pub m : Nat.ℕ
 m = 6
+
 abbrev pub ps·0 : List.List (Kinds.PK 6)
-ps·0 = (MutSlice.pMutS RelayPending.row 0 tt) ∷ (MutSlice.pMutS RelayCircuit.row 1 tt) ∷ (MutSlice.pMutS ReservationUsage.row 2 tt) ∷ (MutSlice.pMutS
-    InflightAction.row 3 tt) ∷ (MutSlice.pMutS (Referent.rtF (Referent.fInt Syntax.w32)) 4 tt) ∷ (MutSlice.pMutS (Referent.rtF (Referent.fInt
-    Syntax.w8)) 5 tt) ∷ (Num.pNum Syntax.w8) ∷ List.[]
+ps·0 = (MutSlice.pMutS RelayPending.row 0 tt) ∷ (MutSlice.pMutS RelayCircuit.row 1 tt) ∷
+    (MutSlice.pMutS ReservationUsage.row 2 tt) ∷ (MutSlice.pMutS InflightAction.row 3 tt) ∷ (MutSlice.pMutS
+    (Referent.rtF (Referent.fInt Syntax.w32)) 4 tt) ∷ (MutSlice.pMutS (Referent.rtF (Referent.fInt Syntax.w8)) 5 tt) ∷
+    (Num.pNum Syntax.w8) ∷ List.[]
+
 abbrev pub r·0 : Kinds.RK 6
 r·0 = Unit.rUnit
+
 abbrev pub hs : List.List Syntax.Home
-hs = Syntax.valueLocal ∷ Syntax.valueLocal ∷ Syntax.valueLocal ∷ Syntax.valueLocal ∷ Syntax.valueLocal ∷ Syntax.valueLocal ∷ Syntax.valueLocal ∷
-    Syntax.valueLocal ∷ Syntax.valueLocal ∷ Syntax.valueLocal ∷ Syntax.valueLocal ∷ Syntax.valueLocal ∷ Syntax.valueLocal ∷ Syntax.valueLocal ∷
-    Syntax.valueLocal ∷ Syntax.valueLocal ∷ Syntax.valueLocal ∷ Syntax.valueLocal ∷ Syntax.valueLocal ∷ Syntax.valueLocal ∷ Syntax.valueLocal ∷
-    Syntax.valueLocal ∷ List.[]
+hs = Syntax.valueLocal ∷ Syntax.valueLocal ∷ Syntax.valueLocal ∷ Syntax.valueLocal ∷ Syntax.valueLocal ∷
+    Syntax.valueLocal ∷ Syntax.valueLocal ∷ Syntax.valueLocal ∷ Syntax.valueLocal ∷ Syntax.valueLocal ∷
+    Syntax.valueLocal ∷ Syntax.valueLocal ∷ Syntax.valueLocal ∷ Syntax.valueLocal ∷ Syntax.valueLocal ∷
+    Syntax.valueLocal ∷ Syntax.valueLocal ∷ Syntax.valueLocal ∷ Syntax.valueLocal ∷ Syntax.valueLocal ∷
+    Syntax.valueLocal ∷ Syntax.valueLocal ∷ List.[]
+
 abbrev b0 : Syntax.Body
 b0 = Syntax.assign (Syntax.place 7 List.[]) (Syntax.rvOpd (Syntax.int Syntax.w8 1))
+
 abbrev b1 : Syntax.Body
-b1 = Syntax.assign (Syntax.place 8 List.[]) (Syntax.op2 (Syntax.lt Syntax.unsigned) (Syntax.copy (Syntax.place 7 List.[])) (Syntax.int Syntax.w8 17))
+b1 = Syntax.assign (Syntax.place 8 List.[]) (Syntax.op2 (Syntax.lt Syntax.unsigned)
+    (Syntax.copy (Syntax.place 7 List.[])) (Syntax.int Syntax.w8 17))
+
 abbrev b2 : Syntax.Body
 b2 = Syntax.skip
+
 abbrev b3 : Syntax.Body
 b3 = Syntax.exit 1
+
 abbrev b4 : Syntax.Body
 b4 = Syntax.cond (Syntax.copy (Syntax.place 8 List.[])) b2 b3
+
 abbrev b5 : Syntax.Body
-b5 = Syntax.assign (Syntax.place 10 List.[]) (Syntax.addrOf (Syntax.place 1 ((Syntax.field 0) ∷ (Syntax.deref RelayPending.ty) ∷ List.[])))
+b5 = Syntax.assign (Syntax.place 10 List.[]) (Syntax.addrOf (Syntax.place 1 ((Syntax.field 0) ∷
+    (Syntax.deref RelayPending.ty) ∷ List.[])))
+
 abbrev b6 : Syntax.Body
-b6 = Syntax.assign (Syntax.place 11 List.[]) (Syntax.aggregate ((Syntax.copy (Syntax.place 10 List.[])) ∷ (Syntax.copy (Syntax.place 1 ((Syntax.field
-    1) ∷ List.[]))) ∷ List.[]))
+b6 = Syntax.assign (Syntax.place 11 List.[]) (Syntax.aggregate ((Syntax.copy (Syntax.place 10 List.[])) ∷
+    (Syntax.copy (Syntax.place 1 ((Syntax.field 1) ∷ List.[]))) ∷ List.[]))
+
 abbrev b7 : Syntax.Body
-b7 = Syntax.assign (Syntax.place 12 List.[]) (Syntax.addrOf (Syntax.place 2 ((Syntax.field 0) ∷ (Syntax.deref RelayCircuit.ty) ∷ List.[])))
+b7 = Syntax.assign (Syntax.place 12 List.[]) (Syntax.addrOf (Syntax.place 2 ((Syntax.field 0) ∷
+    (Syntax.deref RelayCircuit.ty) ∷ List.[])))
+
 abbrev b8 : Syntax.Body
-b8 = Syntax.assign (Syntax.place 13 List.[]) (Syntax.aggregate ((Syntax.copy (Syntax.place 12 List.[])) ∷ (Syntax.copy (Syntax.place 2 ((Syntax.field
-    1) ∷ List.[]))) ∷ List.[]))
+b8 = Syntax.assign (Syntax.place 13 List.[]) (Syntax.aggregate ((Syntax.copy (Syntax.place 12 List.[])) ∷
+    (Syntax.copy (Syntax.place 2 ((Syntax.field 1) ∷ List.[]))) ∷ List.[]))
+
 abbrev b9 : Syntax.Body
-b9 = Syntax.assign (Syntax.place 14 List.[]) (Syntax.addrOf (Syntax.place 3 ((Syntax.field 0) ∷ (Syntax.deref ReservationUsage.ty) ∷ List.[])))
+b9 = Syntax.assign (Syntax.place 14 List.[]) (Syntax.addrOf (Syntax.place 3 ((Syntax.field 0) ∷
+    (Syntax.deref ReservationUsage.ty) ∷ List.[])))
+
 abbrev b10 : Syntax.Body
-b10 = Syntax.assign (Syntax.place 15 List.[]) (Syntax.aggregate ((Syntax.copy (Syntax.place 14 List.[])) ∷ (Syntax.copy (Syntax.place 3 ((Syntax.field
-    1) ∷ List.[]))) ∷ List.[]))
+b10 = Syntax.assign (Syntax.place 15 List.[]) (Syntax.aggregate ((Syntax.copy (Syntax.place 14 List.[])) ∷
+    (Syntax.copy (Syntax.place 3 ((Syntax.field 1) ∷ List.[]))) ∷ List.[]))
+
 abbrev b11 : Syntax.Body
-b11 = Syntax.assign (Syntax.place 16 List.[]) (Syntax.addrOf (Syntax.place 4 ((Syntax.field 0) ∷ (Syntax.deref InflightAction.ty) ∷ List.[])))
+b11 = Syntax.assign (Syntax.place 16 List.[]) (Syntax.addrOf (Syntax.place 4 ((Syntax.field 0) ∷
+    (Syntax.deref InflightAction.ty) ∷ List.[])))
+
 abbrev b12 : Syntax.Body
-b12 = Syntax.assign (Syntax.place 17 List.[]) (Syntax.aggregate ((Syntax.copy (Syntax.place 16 List.[])) ∷ (Syntax.copy (Syntax.place 4 ((Syntax.field
-    1) ∷ List.[]))) ∷ List.[]))
+b12 = Syntax.assign (Syntax.place 17 List.[]) (Syntax.aggregate ((Syntax.copy (Syntax.place 16 List.[])) ∷
+    (Syntax.copy (Syntax.place 4 ((Syntax.field 1) ∷ List.[]))) ∷ List.[]))
+
 abbrev b13 : Syntax.Body
-b13 = Syntax.assign (Syntax.place 18 List.[]) (Syntax.addrOf (Syntax.place 5 ((Syntax.field 0) ∷ (Syntax.deref (Syntax.tyInt Syntax.w32)) ∷ List.[])))
+b13 = Syntax.assign (Syntax.place 18 List.[]) (Syntax.addrOf (Syntax.place 5 ((Syntax.field 0) ∷
+    (Syntax.deref (Syntax.tyInt Syntax.w32)) ∷ List.[])))
+
 abbrev b14 : Syntax.Body
-b14 = Syntax.assign (Syntax.place 19 List.[]) (Syntax.aggregate ((Syntax.copy (Syntax.place 18 List.[])) ∷ (Syntax.copy (Syntax.place 5 ((Syntax.field
-    1) ∷ List.[]))) ∷ List.[]))
+b14 = Syntax.assign (Syntax.place 19 List.[]) (Syntax.aggregate ((Syntax.copy (Syntax.place 18 List.[])) ∷
+    (Syntax.copy (Syntax.place 5 ((Syntax.field 1) ∷ List.[]))) ∷ List.[]))
+
 abbrev b15 : Syntax.Body
-b15 = Syntax.assign (Syntax.place 20 List.[]) (Syntax.addrOf (Syntax.place 6 ((Syntax.field 0) ∷ (Syntax.deref (Syntax.tyInt Syntax.w8)) ∷ List.[])))
+b15 = Syntax.assign (Syntax.place 20 List.[]) (Syntax.addrOf (Syntax.place 6 ((Syntax.field 0) ∷
+    (Syntax.deref (Syntax.tyInt Syntax.w8)) ∷ List.[])))
+
 abbrev b16 : Syntax.Body
-b16 = Syntax.assign (Syntax.place 21 List.[]) (Syntax.aggregate ((Syntax.copy (Syntax.place 20 List.[])) ∷ (Syntax.copy (Syntax.place 6 ((Syntax.field
-    1) ∷ List.[]))) ∷ List.[]))
+b16 = Syntax.assign (Syntax.place 21 List.[]) (Syntax.aggregate ((Syntax.copy (Syntax.place 20 List.[])) ∷
+    (Syntax.copy (Syntax.place 6 ((Syntax.field 1) ∷ List.[]))) ∷ List.[]))
+
 abbrev b17 : Syntax.Body
-b17 = Syntax.call "cases::machine::one_case" ((Syntax.copy (Syntax.place 11 List.[])) ∷ (Syntax.copy (Syntax.place 13 List.[])) ∷ (Syntax.copy
-    (Syntax.place 15 List.[])) ∷ (Syntax.copy (Syntax.place 17 List.[])) ∷ (Syntax.copy (Syntax.place 19 List.[])) ∷ (Syntax.copy (Syntax.place 21
-    List.[])) ∷ (Syntax.copy (Syntax.place 7 List.[])) ∷ List.[]) (Syntax.place 9 List.[])
+b17 = Syntax.call "cases::machine::one_case" ((Syntax.copy (Syntax.place 11 List.[])) ∷
+    (Syntax.copy (Syntax.place 13 List.[])) ∷ (Syntax.copy (Syntax.place 15 List.[])) ∷
+    (Syntax.copy (Syntax.place 17 List.[])) ∷ (Syntax.copy (Syntax.place 19 List.[])) ∷
+    (Syntax.copy (Syntax.place 21 List.[])) ∷ (Syntax.copy (Syntax.place 7 List.[])) ∷ List.[])
+    (Syntax.place 9 List.[])
+
 abbrev b18 : Syntax.Body
-b18 = Syntax.assign (Syntax.place 7 List.[]) (Syntax.op2 (Syntax.add Syntax.unsigned) (Syntax.copy (Syntax.place 7 List.[])) (Syntax.int Syntax.w8 1))
+b18 = Syntax.assign (Syntax.place 7 List.[]) (Syntax.op2 (Syntax.add Syntax.unsigned)
+    (Syntax.copy (Syntax.place 7 List.[])) (Syntax.int Syntax.w8 1))
+
 abbrev b19 : Syntax.Body
 b19 = Syntax.seq b17 b18
+
 abbrev b20 : Syntax.Body
 b20 = Syntax.seq b16 b19
+
 abbrev b21 : Syntax.Body
 b21 = Syntax.seq b15 b20
+
 abbrev b22 : Syntax.Body
 b22 = Syntax.seq b14 b21
+
 abbrev b23 : Syntax.Body
 b23 = Syntax.seq b13 b22
+
 abbrev b24 : Syntax.Body
 b24 = Syntax.seq b12 b23
+
 abbrev b25 : Syntax.Body
 b25 = Syntax.seq b11 b24
+
 abbrev b26 : Syntax.Body
 b26 = Syntax.seq b10 b25
+
 abbrev b27 : Syntax.Body
 b27 = Syntax.seq b9 b26
+
 abbrev b28 : Syntax.Body
 b28 = Syntax.seq b8 b27
+
 abbrev b29 : Syntax.Body
 b29 = Syntax.seq b7 b28
+
 abbrev b30 : Syntax.Body
 b30 = Syntax.seq b6 b29
+
 abbrev b31 : Syntax.Body
 b31 = Syntax.seq b5 b30
+
 abbrev b32 : Syntax.Body
 b32 = Syntax.seq b4 b31
+
 abbrev b33 : Syntax.Body
 b33 = Syntax.seq b1 b32
+
 abbrev b34 : Syntax.Body
 b34 = Syntax.loop b33
+
 abbrev b35 : Syntax.Body
 b35 = Syntax.block b34
+
 abbrev b36 : Syntax.Body
 b36 = Syntax.assign (Syntax.place 0 List.[]) (Syntax.rvOpd Syntax.opdUnit)
+
 abbrev b37 : Syntax.Body
 b37 = Syntax.return
+
 abbrev b38 : Syntax.Body
 b38 = Syntax.seq b36 b37
+
 abbrev b39 : Syntax.Body
 b39 = Syntax.seq b35 b38
+
 abbrev b40 : Syntax.Body
 b40 = Syntax.seq b0 b39
+
 abbrev pub body : Syntax.Body
 body = b40
+
 abbrev pub Claims : Type 1
 Claims = Kinds.In 6 ps·0 × Kinds.Out 6 ps·0 r·0
+
 abbrev e0 : Row.Entry
 e0 = (0, Rows.any-gone Syntax.tyUnit)
+
 abbrev e1 : Row.Entry
 e1 = (1, Mut.mslice RelayPending.row ref6 0)
+
 abbrev e2 : Row.Entry
 e2 = (2, Mut.mslice RelayCircuit.row ref7 1)
+
 abbrev e3 : Row.Entry
 e3 = (3, Mut.mslice ReservationUsage.row ref8 2)
+
 abbrev e4 : Row.Entry
 e4 = (4, Mut.mslice InflightAction.row ref9 3)
+
 abbrev e5 : Row.Entry
 e5 = (5, Mut.mslice (Referent.rtF (Referent.fInt Syntax.w32)) ref10 4)
+
 abbrev e6 : Row.Entry
 e6 = (6, Mut.mslice (Referent.rtF (Referent.fInt Syntax.w8)) ref11 5)
+
 abbrev e7 : Row.Entry
 e7 = (7, Rows.any-gone (Syntax.tyInt Syntax.w8))
+
 abbrev e8 : Row.Entry
 e8 = (8, Rows.any-gone Syntax.tyBool)
+
 abbrev e9 : Row.Entry
 e9 = (9, Rows.any-gone Syntax.tyUnit)
+
 abbrev e10 : Row.Entry
 e10 = (10, Rows.any-gone ref0)
+
 abbrev e11 : Row.Entry
-e11 = (11, Rows.any-gone (Syntax.tyStruct (38 ∷ 91 ∷ 93 ∷ List.[]) (Syntax.tcons ref0 (Syntax.tcons (Syntax.tyInt Syntax.w64) Syntax.tnil))))
+e11 = (11, Rows.any-gone slice0)
+
 abbrev e12 : Row.Entry
 e12 = (12, Rows.any-gone ref1)
+
 abbrev e13 : Row.Entry
-e13 = (13, Rows.any-gone (Syntax.tyStruct (38 ∷ 91 ∷ 93 ∷ List.[]) (Syntax.tcons ref1 (Syntax.tcons (Syntax.tyInt Syntax.w64) Syntax.tnil))))
+e13 = (13, Rows.any-gone slice1)
+
 abbrev e14 : Row.Entry
 e14 = (14, Rows.any-gone ref2)
+
 abbrev e15 : Row.Entry
-e15 = (15, Rows.any-gone (Syntax.tyStruct (38 ∷ 91 ∷ 93 ∷ List.[]) (Syntax.tcons ref2 (Syntax.tcons (Syntax.tyInt Syntax.w64) Syntax.tnil))))
+e15 = (15, Rows.any-gone slice2)
+
 abbrev e16 : Row.Entry
 e16 = (16, Rows.any-gone ref3)
+
 abbrev e17 : Row.Entry
-e17 = (17, Rows.any-gone (Syntax.tyStruct (38 ∷ 91 ∷ 93 ∷ List.[]) (Syntax.tcons ref3 (Syntax.tcons (Syntax.tyInt Syntax.w64) Syntax.tnil))))
+e17 = (17, Rows.any-gone slice3)
+
 abbrev e18 : Row.Entry
 e18 = (18, Rows.any-gone ref4)
+
 abbrev e19 : Row.Entry
-e19 = (19, Rows.any-gone (Syntax.tyStruct (38 ∷ 91 ∷ 93 ∷ List.[]) (Syntax.tcons ref4 (Syntax.tcons (Syntax.tyInt Syntax.w64) Syntax.tnil))))
+e19 = (19, Rows.any-gone slice4)
+
 abbrev e20 : Row.Entry
 e20 = (20, Rows.any-gone ref5)
+
 abbrev e21 : Row.Entry
-e21 = (21, Rows.any-gone (Syntax.tyStruct (38 ∷ 91 ∷ 93 ∷ List.[]) (Syntax.tcons ref5 (Syntax.tcons (Syntax.tyInt Syntax.w64) Syntax.tnil))))
+e21 = (21, Rows.any-gone slice5)
+
 abbrev e0·1 : Row.Entry
 e0·1 = (0, Rows.sc-here Row.sUnit)
+
 abbrev e7·1 : Row.Entry
 e7·1 = (7, Rows.sc-here (Row.sInt Syntax.w8))
+
 abbrev e8·1 : Row.Entry
 e8·1 = (8, Rows.sc-here Row.sBool)
+
 abbrev e1·1 : Row.Entry
 e1·1 = (1, Relend.mslice-owed RelayPending.row ref6 0 6 Row.off)
+
 abbrev e10·1 : Row.Entry
 e10·1 = (10, Relend.msptr RelayPending.row ref0 6)
+
 abbrev e11·1 : Row.Entry
 e11·1 = (11, Mut.mslice RelayPending.row ref0 6)
+
 abbrev e2·1 : Row.Entry
 e2·1 = (2, Relend.mslice-owed RelayCircuit.row ref7 1 7 Row.off)
+
 abbrev e12·1 : Row.Entry
 e12·1 = (12, Relend.msptr RelayCircuit.row ref1 7)
+
 abbrev e13·1 : Row.Entry
 e13·1 = (13, Mut.mslice RelayCircuit.row ref1 7)
+
 abbrev e3·1 : Row.Entry
 e3·1 = (3, Relend.mslice-owed ReservationUsage.row ref8 2 8 Row.off)
+
 abbrev e14·1 : Row.Entry
 e14·1 = (14, Relend.msptr ReservationUsage.row ref2 8)
+
 abbrev e15·1 : Row.Entry
 e15·1 = (15, Mut.mslice ReservationUsage.row ref2 8)
+
 abbrev e4·1 : Row.Entry
 e4·1 = (4, Relend.mslice-owed InflightAction.row ref9 3 9 Row.off)
+
 abbrev e16·1 : Row.Entry
 e16·1 = (16, Relend.msptr InflightAction.row ref3 9)
+
 abbrev e17·1 : Row.Entry
 e17·1 = (17, Mut.mslice InflightAction.row ref3 9)
+
 abbrev e5·1 : Row.Entry
 e5·1 = (5, Relend.mslice-owed (Referent.rtF (Referent.fInt Syntax.w32)) ref10 4 10 Row.off)
+
 abbrev e18·1 : Row.Entry
 e18·1 = (18, Relend.msptr (Referent.rtF (Referent.fInt Syntax.w32)) ref4 10)
+
 abbrev e19·1 : Row.Entry
 e19·1 = (19, Mut.mslice (Referent.rtF (Referent.fInt Syntax.w32)) ref4 10)
+
 abbrev e6·1 : Row.Entry
 e6·1 = (6, Relend.mslice-owed (Referent.rtF (Referent.fInt Syntax.w8)) ref11 5 11 Row.off)
+
 abbrev e20·1 : Row.Entry
 e20·1 = (20, Relend.msptr (Referent.rtF (Referent.fInt Syntax.w8)) ref5 11)
+
 abbrev e21·1 : Row.Entry
 e21·1 = (21, Mut.mslice (Referent.rtF (Referent.fInt Syntax.w8)) ref5 11)
+
 abbrev e9·1 : Row.Entry
 e9·1 = (9, Rows.sc-here Row.sUnit)
+
 abbrev e11·2 : Row.Entry
 e11·2 = (11, Mut.msleft RelayPending.row ref0)
+
 abbrev e13·2 : Row.Entry
 e13·2 = (13, Mut.msleft RelayCircuit.row ref1)
+
 abbrev e15·2 : Row.Entry
 e15·2 = (15, Mut.msleft ReservationUsage.row ref2)
+
 abbrev e17·2 : Row.Entry
 e17·2 = (17, Mut.msleft InflightAction.row ref3)
+
 abbrev e19·2 : Row.Entry
 e19·2 = (19, Mut.msleft (Referent.rtF (Referent.fInt Syntax.w32)) ref4)
+
 abbrev e21·2 : Row.Entry
 e21·2 = (21, Mut.msleft (Referent.rtF (Referent.fInt Syntax.w8)) ref5)
+
 abbrev pub t0 : List.List Row.Entry
 t0 = e0 ∷ e1 ∷ e2 ∷ e3 ∷ e4 ∷ e5 ∷ e6 ∷ e7 ∷ e8 ∷ e9 ∷ e10 ∷ e11 ∷ e12 ∷ e13 ∷ e14 ∷ e15 ∷ List.[]
+
 abbrev pub t1 : List.List Row.Entry
 t1 = e16 ∷ e17 ∷ e18 ∷ e19 ∷ e20 ∷ e21 ∷ List.[]
+
 abbrev pub t2 : List.List Row.Entry
 t2 = e0·1 ∷ e1 ∷ e2 ∷ e3 ∷ e4 ∷ e5 ∷ e6 ∷ e7 ∷ e8 ∷ e9 ∷ e10 ∷ e11 ∷ e12 ∷ e13 ∷ e14 ∷ e15 ∷ List.[]
+
 abbrev pub t3 : List.List Row.Entry
 t3 = e0 ∷ e1 ∷ e2 ∷ e3 ∷ e4 ∷ e5 ∷ e6 ∷ e7·1 ∷ e8 ∷ e9 ∷ e10 ∷ e11 ∷ e12 ∷ e13 ∷ e14 ∷ e15 ∷ List.[]
+
 abbrev pub t4 : List.List Row.Entry
 t4 = e0 ∷ e1 ∷ e2 ∷ e3 ∷ e4 ∷ e5 ∷ e6 ∷ e7·1 ∷ e8·1 ∷ e9 ∷ e10 ∷ e11 ∷ e12 ∷ e13 ∷ e14 ∷ e15 ∷ List.[]
+
 abbrev pub t5 : List.List Row.Entry
 t5 = e0 ∷ e1·1 ∷ e2 ∷ e3 ∷ e4 ∷ e5 ∷ e6 ∷ e7·1 ∷ e8 ∷ e9 ∷ e10·1 ∷ e11 ∷ e12 ∷ e13 ∷ e14 ∷ e15 ∷ List.[]
+
 abbrev pub t6 : List.List Row.Entry
 t6 = e0 ∷ e1·1 ∷ e2 ∷ e3 ∷ e4 ∷ e5 ∷ e6 ∷ e7·1 ∷ e8 ∷ e9 ∷ e10 ∷ e11·1 ∷ e12 ∷ e13 ∷ e14 ∷ e15 ∷ List.[]
+
 abbrev pub t7 : List.List Row.Entry
 t7 = e0 ∷ e1·1 ∷ e2·1 ∷ e3 ∷ e4 ∷ e5 ∷ e6 ∷ e7·1 ∷ e8 ∷ e9 ∷ e10 ∷ e11·1 ∷ e12·1 ∷ e13 ∷ e14 ∷ e15 ∷ List.[]
+
 abbrev pub t8 : List.List Row.Entry
 t8 = e0 ∷ e1·1 ∷ e2·1 ∷ e3 ∷ e4 ∷ e5 ∷ e6 ∷ e7·1 ∷ e8 ∷ e9 ∷ e10 ∷ e11·1 ∷ e12 ∷ e13·1 ∷ e14 ∷ e15 ∷ List.[]
+
 abbrev pub t9 : List.List Row.Entry
 t9 = e0 ∷ e1·1 ∷ e2·1 ∷ e3·1 ∷ e4 ∷ e5 ∷ e6 ∷ e7·1 ∷ e8 ∷ e9 ∷ e10 ∷ e11·1 ∷ e12 ∷ e13·1 ∷ e14·1 ∷ e15 ∷ List.[]
+
 abbrev pub t10 : List.List Row.Entry
 t10 = e0 ∷ e1·1 ∷ e2·1 ∷ e3·1 ∷ e4 ∷ e5 ∷ e6 ∷ e7·1 ∷ e8 ∷ e9 ∷ e10 ∷ e11·1 ∷ e12 ∷ e13·1 ∷ e14 ∷ e15·1 ∷ List.[]
+
 abbrev pub t11 : List.List Row.Entry
 t11 = e0 ∷ e1·1 ∷ e2·1 ∷ e3·1 ∷ e4·1 ∷ e5 ∷ e6 ∷ e7·1 ∷ e8 ∷ e9 ∷ e10 ∷ e11·1 ∷ e12 ∷ e13·1 ∷ e14 ∷ e15·1 ∷ List.[]
+
 abbrev pub t12 : List.List Row.Entry
 t12 = e16·1 ∷ e17 ∷ e18 ∷ e19 ∷ e20 ∷ e21 ∷ List.[]
+
 abbrev pub t13 : List.List Row.Entry
 t13 = e16 ∷ e17·1 ∷ e18 ∷ e19 ∷ e20 ∷ e21 ∷ List.[]
+
 abbrev pub t14 : List.List Row.Entry
 t14 = e0 ∷ e1·1 ∷ e2·1 ∷ e3·1 ∷ e4·1 ∷ e5·1 ∷ e6 ∷ e7·1 ∷ e8 ∷ e9 ∷ e10 ∷ e11·1 ∷ e12 ∷ e13·1 ∷ e14 ∷ e15·1 ∷ List.[]
+
 abbrev pub t15 : List.List Row.Entry
 t15 = e16 ∷ e17·1 ∷ e18·1 ∷ e19 ∷ e20 ∷ e21 ∷ List.[]
+
 abbrev pub t16 : List.List Row.Entry
 t16 = e16 ∷ e17·1 ∷ e18 ∷ e19·1 ∷ e20 ∷ e21 ∷ List.[]
+
 abbrev pub t17 : List.List Row.Entry
 t17 = e0 ∷ e1·1 ∷ e2·1 ∷ e3·1 ∷ e4·1 ∷ e5·1 ∷ e6·1 ∷ e7·1 ∷ e8 ∷ e9 ∷ e10 ∷ e11·1 ∷ e12 ∷ e13·1 ∷ e14 ∷ e15·1 ∷ List.[]
+
 abbrev pub t18 : List.List Row.Entry
 t18 = e16 ∷ e17·1 ∷ e18 ∷ e19·1 ∷ e20·1 ∷ e21 ∷ List.[]
+
 abbrev pub t19 : List.List Row.Entry
 t19 = e16 ∷ e17·1 ∷ e18 ∷ e19·1 ∷ e20 ∷ e21·1 ∷ List.[]
+
 abbrev pub t20 : List.List Row.Entry
-t20 = e0 ∷ e1·1 ∷ e2·1 ∷ e3·1 ∷ e4·1 ∷ e5·1 ∷ e6·1 ∷ e7·1 ∷ e8 ∷ e9·1 ∷ e10 ∷ e11·2 ∷ e12 ∷ e13·2 ∷ e14 ∷ e15·2 ∷ List.[]
+t20 = e0 ∷ e1·1 ∷ e2·1 ∷ e3·1 ∷ e4·1 ∷ e5·1 ∷ e6·1 ∷ e7·1 ∷ e8 ∷ e9·1 ∷ e10 ∷ e11·2 ∷ e12 ∷ e13·2 ∷ e14 ∷ e15·2 ∷
+    List.[]
+
 abbrev pub t21 : List.List Row.Entry
 t21 = e16 ∷ e17·2 ∷ e18 ∷ e19·2 ∷ e20 ∷ e21·2 ∷ List.[]
+
 abbrev pub t22 : List.List Row.Entry
 t22 = e0 ∷ e1·1 ∷ e2·1 ∷ e3·1 ∷ e4·1 ∷ e5·1 ∷ e6·1 ∷ e7·1 ∷ e8 ∷ e9 ∷ e10 ∷ e11·2 ∷ e12 ∷ e13·2 ∷ e14 ∷ e15·2 ∷ List.[]
+
 abbrev pub t23 : List.List Row.Entry
 t23 = e0 ∷ e1 ∷ e2·1 ∷ e3·1 ∷ e4·1 ∷ e5·1 ∷ e6·1 ∷ e7·1 ∷ e8 ∷ e9 ∷ e10 ∷ e11 ∷ e12 ∷ e13·2 ∷ e14 ∷ e15·2 ∷ List.[]
+
 abbrev pub t24 : List.List Row.Entry
 t24 = e0 ∷ e1 ∷ e2 ∷ e3·1 ∷ e4·1 ∷ e5·1 ∷ e6·1 ∷ e7·1 ∷ e8 ∷ e9 ∷ e10 ∷ e11 ∷ e12 ∷ e13 ∷ e14 ∷ e15·2 ∷ List.[]
+
 abbrev pub t25 : List.List Row.Entry
 t25 = e0 ∷ e1 ∷ e2 ∷ e3 ∷ e4·1 ∷ e5·1 ∷ e6·1 ∷ e7·1 ∷ e8 ∷ e9 ∷ e10 ∷ e11 ∷ e12 ∷ e13 ∷ e14 ∷ e15 ∷ List.[]
+
 abbrev pub t26 : List.List Row.Entry
 t26 = e0 ∷ e1 ∷ e2 ∷ e3 ∷ e4 ∷ e5·1 ∷ e6·1 ∷ e7·1 ∷ e8 ∷ e9 ∷ e10 ∷ e11 ∷ e12 ∷ e13 ∷ e14 ∷ e15 ∷ List.[]
+
 abbrev pub t27 : List.List Row.Entry
 t27 = e16 ∷ e17 ∷ e18 ∷ e19·2 ∷ e20 ∷ e21·2 ∷ List.[]
+
 abbrev pub t28 : List.List Row.Entry
 t28 = e0 ∷ e1 ∷ e2 ∷ e3 ∷ e4 ∷ e5 ∷ e6·1 ∷ e7·1 ∷ e8 ∷ e9 ∷ e10 ∷ e11 ∷ e12 ∷ e13 ∷ e14 ∷ e15 ∷ List.[]
+
 abbrev pub t29 : List.List Row.Entry
 t29 = e16 ∷ e17 ∷ e18 ∷ e19 ∷ e20 ∷ e21·2 ∷ List.[]
+
 abbrev pub t30 : List.List Row.Entry
 t30 = e0·1 ∷ e1 ∷ e2 ∷ e3 ∷ e4 ∷ e5 ∷ e6 ∷ e7·1 ∷ e8 ∷ e9 ∷ e10 ∷ e11 ∷ e12 ∷ e13 ∷ e14 ∷ e15 ∷ List.[]
+
 abbrev pub T0 : Row.Cx
 T0 = record { locals = List._++_ t0 t1; slots = List.[] }
+
 abbrev pub T1 : Row.Cx
 T1 = record { locals = List._++_ t2 t1; slots = List.[] }
+
 abbrev pub T2 : Row.Cx
 T2 = record { locals = List._++_ t0 t1; slots = List.[] }
+
 abbrev pub T3 : Row.Cx
 T3 = record { locals = List._++_ t0 t1; slots = List.[] }
+
 abbrev pub T4 : Row.Cx
 T4 = record { locals = List._++_ t3 t1; slots = List.[] }
+
 abbrev pub T5 : Row.Cx
 T5 = record { locals = List._++_ t3 t1; slots = List.[] }
+
 abbrev pub T6 : Row.Cx
 T6 = record { locals = List._++_ t4 t1; slots = List.[] }
+
 abbrev pub T7 : Row.Cx
 T7 = record { locals = List._++_ t3 t1; slots = List.[] }
+
 abbrev pub T8 : Row.Cx
 T8 = record { locals = List._++_ t3 t1; slots = List.[] }
+
 abbrev pub T9 : Row.Cx
 T9 = record { locals = List._++_ t3 t1; slots = List.[] }
+
 abbrev pub T11 : Row.Cx
 T11 = record { locals = List._++_ t5 t1; slots = List.[] }
+
 abbrev pub T12 : Row.Cx
 T12 = record { locals = List._++_ t6 t1; slots = List.[] }
+
 abbrev pub T14 : Row.Cx
 T14 = record { locals = List._++_ t7 t1; slots = List.[] }
+
 abbrev pub T15 : Row.Cx
 T15 = record { locals = List._++_ t8 t1; slots = List.[] }
+
 abbrev pub T17 : Row.Cx
 T17 = record { locals = List._++_ t9 t1; slots = List.[] }
+
 abbrev pub T18 : Row.Cx
 T18 = record { locals = List._++_ t10 t1; slots = List.[] }
+
 abbrev pub T20 : Row.Cx
 T20 = record { locals = List._++_ t11 t12; slots = List.[] }
+
 abbrev pub T21 : Row.Cx
 T21 = record { locals = List._++_ t11 t13; slots = List.[] }
+
 abbrev pub T23 : Row.Cx
 T23 = record { locals = List._++_ t14 t15; slots = List.[] }
+
 abbrev pub T24 : Row.Cx
 T24 = record { locals = List._++_ t14 t16; slots = List.[] }
+
 abbrev pub T26 : Row.Cx
 T26 = record { locals = List._++_ t17 t18; slots = List.[] }
+
 abbrev pub T27 : Row.Cx
 T27 = record { locals = List._++_ t17 t19; slots = List.[] }
+
 abbrev pub T28 : Row.Cx
 T28 = record { locals = List._++_ t20 t21; slots = List.[] }
+
 abbrev pub T29 : Row.Cx
 T29 = record { locals = List._++_ t22 t21; slots = List.[] }
+
 abbrev pub T31 : Row.Cx
 T31 = record { locals = List._++_ t23 t21; slots = List.[] }
+
 abbrev pub T34 : Row.Cx
 T34 = record { locals = List._++_ t24 t21; slots = List.[] }
+
 abbrev pub T37 : Row.Cx
 T37 = record { locals = List._++_ t25 t21; slots = List.[] }
+
 abbrev pub T40 : Row.Cx
 T40 = record { locals = List._++_ t26 t27; slots = List.[] }
+
 abbrev pub T43 : Row.Cx
 T43 = record { locals = List._++_ t28 t29; slots = List.[] }
+
 abbrev pub T44 : Row.Cx
 T44 = record { locals = List._++_ t28 t29; slots = List.[] }
+
 abbrev pub T47 : Row.Cx
 T47 = record { locals = List._++_ t3 t1; slots = List.[] }
+
 abbrev pub T48 : Row.Cx
 T48 = record { locals = List._++_ t3 t1; slots = List.[] }
+
 abbrev pub T50 : Row.Cx
 T50 = record { locals = List._++_ t3 t1; slots = List.[] }
+
 abbrev pub T51 : Row.Cx
 T51 = record { locals = List._++_ t30 t1; slots = List.[] }
+
 abbrev pub T52 : Row.Cx
 T52 = record { locals = List._++_ t2 t1; slots = List.[] }
+
 abbrev pub O0 : Typed.Outs
 O0 = record { next = Option.none; exits = List.[]; returns = Option.some T1 }
+
 abbrev pub O1 : Typed.Outs
 O1 = Typed.withNext (Option.some T5) O0
+
 abbrev pub O2 : Typed.Outs
 O2 = Typed.inBlock₀ O1
+
 abbrev pub O3 : Typed.Outs
 O3 = Typed.inLoop₀ T4 O2
+
 abbrev pub O4 : Typed.Outs
 O4 = Typed.withNext (Option.some T7) O3
+
 abbrev pub InvT-loop : Type 1
-InvT-loop = List.List (RelayPending.row .Denot) → List.List (RelayCircuit.row .Denot) → List.List (ReservationUsage.row .Denot) → List.List
-    (InflightAction.row .Denot) → List.List (Referent.rtF (Referent.fInt Syntax.w32) .Denot) → List.List (Referent.rtF (Referent.fInt Syntax.w8)
-    .Denot) → Rows.sc-here (Row.sInt Syntax.w8) .Mod → List.List (RelayPending.row .Denot) → List.List (RelayCircuit.row .Denot) → List.List
-    (ReservationUsage.row .Denot) → List.List (InflightAction.row .Denot) → List.List (Referent.rtF (Referent.fInt Syntax.w32) .Denot) → List.List
-    (Referent.rtF (Referent.fInt Syntax.w8) .Denot) → Rows.sc-here (Row.sInt Syntax.w8) .Mod → Type 0
+InvT-loop = List.List (RelayPending.row .Denot) → List.List (RelayCircuit.row .Denot) → List.List
+    (ReservationUsage.row .Denot) → List.List (InflightAction.row .Denot) → List.List
+    (Referent.rtF (Referent.fInt Syntax.w32) .Denot) → List.List (Referent.rtF (Referent.fInt Syntax.w8) .Denot) →
+    Rows.sc-here (Row.sInt Syntax.w8) .Mod → List.List (RelayPending.row .Denot) → List.List (RelayCircuit.row .Denot)
+    → List.List (ReservationUsage.row .Denot) → List.List (InflightAction.row .Denot) → List.List
+    (Referent.rtF (Referent.fInt Syntax.w32) .Denot) → List.List (Referent.rtF (Referent.fInt Syntax.w8) .Denot) →
+    Rows.sc-here (Row.sInt Syntax.w8) .Mod → Type 0
+
 abbrev pub MeasureT-loop : Type 0
-MeasureT-loop = List.List (RelayPending.row .Denot) → List.List (RelayCircuit.row .Denot) → List.List (ReservationUsage.row .Denot) → List.List
-    (InflightAction.row .Denot) → List.List (Referent.rtF (Referent.fInt Syntax.w32) .Denot) → List.List (Referent.rtF (Referent.fInt Syntax.w8)
-    .Denot) → Rows.sc-here (Row.sInt Syntax.w8) .Mod → List.List (RelayPending.row .Denot) → List.List (RelayCircuit.row .Denot) → List.List
-    (ReservationUsage.row .Denot) → List.List (InflightAction.row .Denot) → List.List (Referent.rtF (Referent.fInt Syntax.w32) .Denot) → List.List
-    (Referent.rtF (Referent.fInt Syntax.w8) .Denot) → Rows.sc-here (Row.sInt Syntax.w8) .Mod → Nat.ℕ
+MeasureT-loop = List.List (RelayPending.row .Denot) → List.List (RelayCircuit.row .Denot) → List.List
+    (ReservationUsage.row .Denot) → List.List (InflightAction.row .Denot) → List.List
+    (Referent.rtF (Referent.fInt Syntax.w32) .Denot) → List.List (Referent.rtF (Referent.fInt Syntax.w8) .Denot) →
+    Rows.sc-here (Row.sInt Syntax.w8) .Mod → List.List (RelayPending.row .Denot) → List.List (RelayCircuit.row .Denot)
+    → List.List (ReservationUsage.row .Denot) → List.List (InflightAction.row .Denot) → List.List
+    (Referent.rtF (Referent.fInt Syntax.w32) .Denot) → List.List (Referent.rtF (Referent.fInt Syntax.w8) .Denot) →
+    Rows.sc-here (Row.sInt Syntax.w8) .Mod → Nat.ℕ
+
 module _ (claims· : Claims) where
   abbrev s0 : Typed.Gives T0 T2
   s0 = Know.k-sl-known (Referent.fInt Syntax.w32) T0 5 4 ref10 Row.off 0 λ x. x
+
   abbrev s1 : Typed.Gives T2 T3
   s1 = Know.k-sl-known (Referent.fInt Syntax.w8) T2 6 5 ref11 Row.off 0 λ x. x
+
   abbrev s2 : Typed.Mo T3 → Typed.Mo T4
   s2 = Scalar.n-use T3 (Scalar.oInt Syntax.w8 1) 7 (Rows.sc-here (Row.sInt Syntax.w8)) (Row.sInt Syntax.w8 .of)
+
   abbrev s3 : Typed.Asks T4 T6
-  s3 = Scalar.k-op2 T4 (Syntax.lt Syntax.unsigned) (Scalar.oAt 7 (Syntax.tyInt Syntax.w8) (Row.valS (Row.sInt Syntax.w8))) (Scalar.oInt Syntax.w8 17)
-      8 (Rows.sc-here Row.sBool) (Row.sBool .of)
+  s3 = Scalar.k-op2 T4 (Syntax.lt Syntax.unsigned) (Scalar.oAt 7 (Syntax.tyInt Syntax.w8)
+      (Row.valS (Row.sInt Syntax.w8))) (Scalar.oInt Syntax.w8 17) 8 (Rows.sc-here Row.sBool) (Row.sBool .of)
+
   abbrev s4 : Typed.Mo T6 → Typed.Mo T8
   s4 = Scalar.n-room T6 8 Syntax.tyBool
+
   abbrev s5 : Typed.Mo T6 → Typed.Mo T9
   s5 = Scalar.n-room T6 8 Syntax.tyBool
+
   abbrev s7 : Typed.Gives T7 T11
   s7 = Relend.k-sl-relend RelayPending.row T7 1 10 0 6 ref6 ref0 Row.off λ x. x
+
   abbrev s8 : Typed.Asks T11 T12
-  s8 = Relend.k-sl-aggregate RelayPending.row (Relend.asMut RelayPending.row) T11 10 11 6 ref0 ref0 (λ x. x) (Scalar.oFld 1 ((Syntax.field 1) ∷
-      List.[]) (Syntax.tyInt Syntax.w64) 8 λ v. Shared.lenV (v .0))
+  s8 = Relend.k-sl-aggregate RelayPending.row (Relend.asMut RelayPending.row) T11 10 11 6 ref0 ref0 (λ x. x) (Scalar.oFld
+      1 ((Syntax.field 1) ∷ List.[]) (Syntax.tyInt Syntax.w64) 8 λ v. Shared.lenV (v .0))
+
   abbrev s10 : Typed.Gives T12 T14
   s10 = Relend.k-sl-relend RelayCircuit.row T12 2 12 1 7 ref7 ref1 Row.off λ x. x
+
   abbrev s11 : Typed.Asks T14 T15
-  s11 = Relend.k-sl-aggregate RelayCircuit.row (Relend.asMut RelayCircuit.row) T14 12 13 7 ref1 ref1 (λ x. x) (Scalar.oFld 2 ((Syntax.field 1) ∷
-      List.[]) (Syntax.tyInt Syntax.w64) 8 λ v. Shared.lenV (v .0))
+  s11 = Relend.k-sl-aggregate RelayCircuit.row (Relend.asMut RelayCircuit.row) T14 12 13 7 ref1 ref1 (λ x. x) (Scalar.oFld
+      2 ((Syntax.field 1) ∷ List.[]) (Syntax.tyInt Syntax.w64) 8 λ v. Shared.lenV (v .0))
+
   abbrev s13 : Typed.Gives T15 T17
   s13 = Relend.k-sl-relend ReservationUsage.row T15 3 14 2 8 ref8 ref2 Row.off λ x. x
+
   abbrev s14 : Typed.Asks T17 T18
-  s14 = Relend.k-sl-aggregate ReservationUsage.row (Relend.asMut ReservationUsage.row) T17 14 15 8 ref2 ref2 (λ x. x) (Scalar.oFld 3 ((Syntax.field 1)
-      ∷ List.[]) (Syntax.tyInt Syntax.w64) 8 λ v. Shared.lenV (v .0))
+  s14 = Relend.k-sl-aggregate ReservationUsage.row (Relend.asMut ReservationUsage.row) T17 14 15 8 ref2 ref2 (λ x. x) (Scalar.oFld
+      3 ((Syntax.field 1) ∷ List.[]) (Syntax.tyInt Syntax.w64) 8 λ v. Shared.lenV (v .0))
+
   abbrev s16 : Typed.Gives T18 T20
   s16 = Relend.k-sl-relend InflightAction.row T18 4 16 3 9 ref9 ref3 Row.off λ x. x
+
   abbrev s17 : Typed.Asks T20 T21
-  s17 = Relend.k-sl-aggregate InflightAction.row (Relend.asMut InflightAction.row) T20 16 17 9 ref3 ref3 (λ x. x) (Scalar.oFld 4 ((Syntax.field 1) ∷
-      List.[]) (Syntax.tyInt Syntax.w64) 8 λ v. Shared.lenV (v .0))
+  s17 = Relend.k-sl-aggregate InflightAction.row (Relend.asMut InflightAction.row) T20 16 17 9 ref3 ref3 (λ x. x) (Scalar.oFld
+      4 ((Syntax.field 1) ∷ List.[]) (Syntax.tyInt Syntax.w64) 8 λ v. Shared.lenV (v .0))
+
   abbrev s19 : Typed.Gives T21 T23
   s19 = Relend.k-sl-relend (Referent.rtF (Referent.fInt Syntax.w32)) T21 5 18 4 10 ref10 ref4 Row.off λ x. x
+
   abbrev s20 : Typed.Asks T23 T24
-  s20 = Relend.k-sl-aggregate (Referent.rtF (Referent.fInt Syntax.w32)) (Relend.asMut (Referent.rtF (Referent.fInt Syntax.w32))) T23 18 19 10 ref4
-      ref4 (λ x. x) (Scalar.oFld 5 ((Syntax.field 1) ∷ List.[]) (Syntax.tyInt Syntax.w64) 8 λ v. Shared.lenV (v .0))
+  s20 = Relend.k-sl-aggregate (Referent.rtF (Referent.fInt Syntax.w32))
+      (Relend.asMut (Referent.rtF (Referent.fInt Syntax.w32))) T23 18 19 10 ref4 ref4 (λ x. x) (Scalar.oFld 5
+      ((Syntax.field 1) ∷ List.[]) (Syntax.tyInt Syntax.w64) 8 λ v. Shared.lenV (v .0))
+
   abbrev s22 : Typed.Gives T24 T26
   s22 = Relend.k-sl-relend (Referent.rtF (Referent.fInt Syntax.w8)) T24 6 20 5 11 ref11 ref5 Row.off λ x. x
+
   abbrev s23 : Typed.Asks T26 T27
-  s23 = Relend.k-sl-aggregate (Referent.rtF (Referent.fInt Syntax.w8)) (Relend.asMut (Referent.rtF (Referent.fInt Syntax.w8))) T26 20 21 11 ref5 ref5
-      (λ x. x) (Scalar.oFld 6 ((Syntax.field 1) ∷ List.[]) (Syntax.tyInt Syntax.w64) 8 λ v. Shared.lenV (v .0))
+  s23 = Relend.k-sl-aggregate (Referent.rtF (Referent.fInt Syntax.w8))
+      (Relend.asMut (Referent.rtF (Referent.fInt Syntax.w8))) T26 20 21 11 ref5 ref5 (λ x. x) (Scalar.oFld 6
+      ((Syntax.field 1) ∷ List.[]) (Syntax.tyInt Syntax.w64) 8 λ v. Shared.lenV (v .0))
+
+  abbrev args24 : Args'.ArgsT ps·0 (T27 .locals)
+  args24 = (
+    record { pos = 11; ty = ref0; ref = λ x. x },
+    (
+      record { pos = 13; ty = ref1; ref = λ x. x },
+      (
+        record { pos = 15; ty = ref2; ref = λ x. x },
+        (
+          record { pos = 17; ty = ref3; ref = λ x. x },
+          (
+            record { pos = 19; ty = ref4; ref = λ x. x },
+            (record { pos = 21; ty = ref5; ref = λ x. x }, (Num.vAt 7 λ x. x, tt)),
+          ),
+        ),
+      ),
+    ),
+  )
+
   abbrev s24 : Typed.Both T27 T28
-  s24 = Call.callB ps·0 r·0 (claims· .0) (claims· .1) T27 (record { pos = 11; ty = Syntax.tyRef Syntax.erased Syntax.mut RelayPending.to; ref = λ x.
-      x; }, (record { pos = 13; ty = Syntax.tyRef Syntax.erased Syntax.mut RelayCircuit.to; ref = λ x. x; }, (record { pos = 15; ty = Syntax.tyRef
-      Syntax.erased Syntax.mut ReservationUsage.to; ref = λ x. x; }, (record { pos = 17; ty = Syntax.tyRef Syntax.erased Syntax.mut InflightAction.to;
-      ref = λ x. x; }, (record { pos = 19; ty = Syntax.tyRef Syntax.erased Syntax.mut (Syntax.tyInt Syntax.w32); ref = λ x. x; }, (record { pos = 21;
-      ty = Syntax.tyRef Syntax.erased Syntax.mut (Syntax.tyInt Syntax.w8); ref = λ x. x; }, (Num.vAt 7 λ x. x, tt),),),),),),) 9 (6 ∷ 7 ∷ 8 ∷ 9 ∷ 10 ∷
-      11 ∷ List.[]) Syntax.tyUnit
+  s24 = Call.callB ps·0 r·0 (claims· .0) (claims· .1) T27 args24 9 (6 ∷ 7 ∷ 8 ∷ 9 ∷ 10 ∷ 11 ∷ List.[]) Syntax.tyUnit
+
   abbrev s25 : Typed.Mo T28 → Typed.Mo T29
   s25 = Scalar.n-room T28 9 Syntax.tyUnit
+
   abbrev s27 : Typed.Both T29 T31
   s27 = Relend.k-back-sl RelayPending.row T29 11 1 0 6 ref6 ref0 Row.off (λ x. x) λ x. x
+
   abbrev s30 : Typed.Both T31 T34
   s30 = Relend.k-back-sl RelayCircuit.row T31 13 2 1 7 ref7 ref1 Row.off (λ x. x) λ x. x
+
   abbrev s33 : Typed.Both T34 T37
   s33 = Relend.k-back-sl ReservationUsage.row T34 15 3 2 8 ref8 ref2 Row.off (λ x. x) λ x. x
+
   abbrev s36 : Typed.Both T37 T40
   s36 = Relend.k-back-sl InflightAction.row T37 17 4 3 9 ref9 ref3 Row.off (λ x. x) λ x. x
+
   abbrev s39 : Typed.Both T40 T43
   s39 = Relend.k-back-sl (Referent.rtF (Referent.fInt Syntax.w32)) T40 19 5 4 10 ref10 ref4 Row.off (λ x. x) λ x. x
+
   abbrev s40 : Typed.Gives T43 T44
   s40 = Know.k-sl-known (Referent.fInt Syntax.w32) T43 5 4 ref10 Row.off 0 λ x. x
+
   abbrev s43 : Typed.Both T44 T47
   s43 = Relend.k-back-sl (Referent.rtF (Referent.fInt Syntax.w8)) T44 21 6 5 11 ref11 ref5 Row.off (λ x. x) λ x. x
+
   abbrev s44 : Typed.Gives T47 T48
   s44 = Know.k-sl-known (Referent.fInt Syntax.w8) T47 6 5 ref11 Row.off 0 λ x. x
+
   abbrev s46 : Typed.Asks T48 T50
-  s46 = Scalar.k-op2 T48 (Syntax.add Syntax.unsigned) (Scalar.oAt 7 (Syntax.tyInt Syntax.w8) (Row.valS (Row.sInt Syntax.w8))) (Scalar.oInt Syntax.w8
-      1) 7 (Rows.sc-here (Row.sInt Syntax.w8)) (Row.sInt Syntax.w8 .of)
+  s46 = Scalar.k-op2 T48 (Syntax.add Syntax.unsigned) (Scalar.oAt 7 (Syntax.tyInt Syntax.w8)
+      (Row.valS (Row.sInt Syntax.w8))) (Scalar.oInt Syntax.w8 1) 7 (Rows.sc-here (Row.sInt Syntax.w8))
+      (Row.sInt Syntax.w8 .of)
+
   abbrev s47 : Typed.Mo T5 → Typed.Mo T51
   s47 = Scalar.n-use T5 Scalar.oUnit 0 (Rows.sc-here Row.sUnit) (Row.sUnit .of)
+
   abbrev s48 : Typed.Mo T51 → Typed.Mo T52
   s48 = Scalar.n-room T51 7 (Syntax.tyInt Syntax.w8)
-  abbrev put0 : List.List (RelayPending.row .Denot) × List.List (RelayCircuit.row .Denot) × List.List (ReservationUsage.row .Denot) × List.List
-      (InflightAction.row .Denot) × List.List (Referent.rtF (Referent.fInt Syntax.w32) .Denot) × List.List (Referent.rtF (Referent.fInt Syntax.w8)
-      .Denot) × Rows.sc-here (Row.sInt Syntax.w8) .Mod → Typed.Mo T4 → Typed.Mo T4
-  put0 = λ vs u. Row.set 7 (7, Rows.sc-here (Row.sInt Syntax.w8)) (vs .6) (T4 .locals) (Row.set 6 (6, Mut.mslice (Referent.rtF (Referent.fInt
-      Syntax.w8)) ref11 5,) record { ptr = Row.get 6 (T4 .locals) u .ptr; name = Row.get 6 (T4 .locals) u .name; now = vs .5; } (T4 .locals) (Row.set
-      5 (5, Mut.mslice (Referent.rtF (Referent.fInt Syntax.w32)) ref10 4,) record { ptr = Row.get 5 (T4 .locals) u .ptr; name = Row.get 5 (T4 .locals)
-      u .name; now = vs .4; } (T4 .locals) (Row.set 4 (4, Mut.mslice InflightAction.row ref9 3,) record { ptr = Row.get 4 (T4 .locals) u .ptr; name =
-      Row.get 4 (T4 .locals) u .name; now = vs .3; } (T4 .locals) (Row.set 3 (3, Mut.mslice ReservationUsage.row ref8 2,) record { ptr = Row.get 3 (T4
-      .locals) u .ptr; name = Row.get 3 (T4 .locals) u .name; now = vs .2; } (T4 .locals) (Row.set 2 (2, Mut.mslice RelayCircuit.row ref7 1,) record {
-      ptr = Row.get 2 (T4 .locals) u .ptr; name = Row.get 2 (T4 .locals) u .name; now = vs .1; } (T4 .locals) (Row.set 1 (1, Mut.mslice
-      RelayPending.row ref6 0,) record { ptr = Row.get 1 (T4 .locals) u .ptr; name = Row.get 1 (T4 .locals) u .name; now = vs .0; } (T4 .locals)
+
+  abbrev put0 : List.List (RelayPending.row .Denot) × List.List (RelayCircuit.row .Denot) × List.List
+      (ReservationUsage.row .Denot) × List.List (InflightAction.row .Denot) × List.List
+      (Referent.rtF (Referent.fInt Syntax.w32) .Denot) × List.List (Referent.rtF (Referent.fInt Syntax.w8) .Denot) ×
+      Rows.sc-here (Row.sInt Syntax.w8) .Mod → Typed.Mo T4 → Typed.Mo T4
+  put0 = λ vs u. Row.set 7 (7, Rows.sc-here (Row.sInt Syntax.w8)) (vs .6) (T4 .locals) (Row.set 6 (
+    6,
+    Mut.mslice (Referent.rtF (Referent.fInt Syntax.w8)) ref11 5,
+  ) record { ptr = Row.get 6 (T4 .locals) u .ptr; name = Row.get 6 (T4 .locals) u .name; now = vs .5 } (T4 .locals) (Row.set
+      5 (5, Mut.mslice (Referent.rtF (Referent.fInt Syntax.w32)) ref10 4)
+      record { ptr = Row.get 5 (T4 .locals) u .ptr; name = Row.get 5 (T4 .locals) u .name; now = vs .4 } (T4 .locals) (Row.set
+      4 (4, Mut.mslice InflightAction.row ref9 3) record {
+        ptr = Row.get 4 (T4 .locals) u .ptr;
+        name = Row.get 4 (T4 .locals) u .name;
+        now = vs .3;
+      } (T4 .locals) (Row.set 3 (3, Mut.mslice ReservationUsage.row ref8 2)
+      record { ptr = Row.get 3 (T4 .locals) u .ptr; name = Row.get 3 (T4 .locals) u .name; now = vs .2 } (T4 .locals) (Row.set
+      2 (2, Mut.mslice RelayCircuit.row ref7 1) record {
+        ptr = Row.get 2 (T4 .locals) u .ptr;
+        name = Row.get 2 (T4 .locals) u .name;
+        now = vs .1;
+      } (T4 .locals) (Row.set 1 (1, Mut.mslice RelayPending.row ref6 0)
+      record { ptr = Row.get 1 (T4 .locals) u .ptr; name = Row.get 1 (T4 .locals) u .name; now = vs .0 } (T4 .locals)
       u))))))
-  module _ (Pre· : (κs : Lifetimes.Lfts 6) → Kinds.Dens κs ps → Type 0) (Post· : (κs : Lifetimes.Lfts 6) → (a : Kinds.Dens κs ps) → Kinds.Plain 6 ps r
-      κs) where
+
+  module _ (Pre· : (κs : Lifetimes.Lfts 6) → Kinds.Dens κs ps → Type 0) (Post· : (κs : Lifetimes.Lfts 6) →
+      (a : Kinds.Dens κs ps) → Kinds.Plain 6 ps r κs) where
     module _ (M : Type 1) where
       abbrev pub Closed : Type 2
-      Closed = (𝓤 : URA.URA M) (H : Wp.Heap 𝓤) (A : Atoms.Atoms 𝓤) (W : Kit.Given 𝓤 H A) (𝓣 : Wp.Tables 𝓤 H) (known0 : Plain.Known 𝓤 H A W 𝓣 6 ps·0
-          r·0 (claims· .0) (claims· .1) "cases::machine::one_case") → Statement.Triple 𝓤 (Wp.WpFn 𝓤 H (𝓣 .C) (𝓣 .Λ) (Function.fnOf 6 ps r xs m hs
-          body)) (Function.plainOf 𝓤 H A 6 ps r Pre· Post·)
+      Closed = (𝓤 : URA.URA M) (H : Wp.Heap 𝓤) (A : Atoms.Atoms 𝓤) (W : Kit.Given 𝓤 H A) (𝓣 : Wp.Tables 𝓤 H) (known0 :
+          Plain.Known 𝓤 H A W 𝓣 6 ps·0 r·0 (claims· .0) (claims· .1) "cases::machine::one_case") → Statement.Triple 𝓤 (Wp.WpFn
+          𝓤 H (𝓣 .C) (𝓣 .Λ) (Function.fnOf 6 ps r xs m hs body)) (Function.plainOf 𝓤 H A 6 ps r Pre· Post·)
+
     module _ (Inv·0 : InvT-loop) (μ·0 : MeasureT-loop) where
       abbrev at0 : Typed.TF T8 O4
       at0 = Typed.atNext O4
+
       abbrev at1 : Typed.TF T6 O4
       at1 = λ Ψ. Typed.pass T6 T8 s4 (at0 Ψ)
+
       abbrev at2 : Typed.TF T9 O4
       at2 = Typed.atExit 1 O4
+
       abbrev at3 : Typed.TF T6 O4
       at3 = λ Ψ. Typed.pass T6 T9 s5 (at2 Ψ)
+
       abbrev at4 : Typed.TF T6 O4
       at4 = Scalar.Φcond T6 O4 8 (λ x. x) at1 at3
+
       abbrev at5 : Typed.TF T48 O3
       at5 = λ Ψ. Typed.ask s46 (Typed.atNext O3 Ψ)
+
       abbrev at6 : Typed.TF T48 O3
       at6 = λ Ψ. at5 Ψ
+
       abbrev at7 : Typed.TF T47 O3
       at7 = λ Ψ. Typed.give s44 (at6 Ψ)
+
       abbrev at8 : Typed.TF T44 O3
       at8 = λ Ψ. Typed.both s43 (at7 Ψ)
+
       abbrev at9 : Typed.TF T44 O3
       at9 = λ Ψ. at8 Ψ
+
       abbrev at10 : Typed.TF T44 O3
       at10 = λ Ψ. at9 Ψ
+
       abbrev at11 : Typed.TF T43 O3
       at11 = λ Ψ. Typed.give s40 (at10 Ψ)
+
       abbrev at12 : Typed.TF T40 O3
       at12 = λ Ψ. Typed.both s39 (at11 Ψ)
+
       abbrev at13 : Typed.TF T40 O3
       at13 = λ Ψ. at12 Ψ
+
       abbrev at14 : Typed.TF T40 O3
       at14 = λ Ψ. at13 Ψ
+
       abbrev at15 : Typed.TF T37 O3
       at15 = λ Ψ. Typed.both s36 (at14 Ψ)
+
       abbrev at16 : Typed.TF T37 O3
       at16 = λ Ψ. at15 Ψ
+
       abbrev at17 : Typed.TF T37 O3
       at17 = λ Ψ. at16 Ψ
+
       abbrev at18 : Typed.TF T34 O3
       at18 = λ Ψ. Typed.both s33 (at17 Ψ)
+
       abbrev at19 : Typed.TF T34 O3
       at19 = λ Ψ. at18 Ψ
+
       abbrev at20 : Typed.TF T34 O3
       at20 = λ Ψ. at19 Ψ
+
       abbrev at21 : Typed.TF T31 O3
       at21 = λ Ψ. Typed.both s30 (at20 Ψ)
+
       abbrev at22 : Typed.TF T31 O3
       at22 = λ Ψ. at21 Ψ
+
       abbrev at23 : Typed.TF T31 O3
       at23 = λ Ψ. at22 Ψ
+
       abbrev at24 : Typed.TF T29 O3
       at24 = λ Ψ. Typed.both s27 (at23 Ψ)
+
       abbrev at25 : Typed.TF T29 O3
       at25 = λ Ψ. at24 Ψ
+
       abbrev at26 : Typed.TF T28 O3
       at26 = λ Ψ. Typed.pass T28 T29 s25 (at25 Ψ)
+
       abbrev at27 : Typed.TF T27 O3
       at27 = λ Ψ. Typed.both s24 (at26 Ψ)
+
       abbrev at28 : Typed.TF T26 O3
       at28 = λ Ψ. Typed.ask s23 (at27 Ψ)
+
       abbrev at29 : Typed.TF T24 O3
       at29 = λ Ψ. Typed.give s22 (at28 Ψ)
+
       abbrev at30 : Typed.TF T24 O3
       at30 = λ Ψ. at29 Ψ
+
       abbrev at31 : Typed.TF T23 O3
       at31 = λ Ψ. Typed.ask s20 (at30 Ψ)
+
       abbrev at32 : Typed.TF T21 O3
       at32 = λ Ψ. Typed.give s19 (at31 Ψ)
+
       abbrev at33 : Typed.TF T21 O3
       at33 = λ Ψ. at32 Ψ
+
       abbrev at34 : Typed.TF T20 O3
       at34 = λ Ψ. Typed.ask s17 (at33 Ψ)
+
       abbrev at35 : Typed.TF T18 O3
       at35 = λ Ψ. Typed.give s16 (at34 Ψ)
+
       abbrev at36 : Typed.TF T18 O3
       at36 = λ Ψ. at35 Ψ
+
       abbrev at37 : Typed.TF T17 O3
       at37 = λ Ψ. Typed.ask s14 (at36 Ψ)
+
       abbrev at38 : Typed.TF T15 O3
       at38 = λ Ψ. Typed.give s13 (at37 Ψ)
+
       abbrev at39 : Typed.TF T15 O3
       at39 = λ Ψ. at38 Ψ
+
       abbrev at40 : Typed.TF T14 O3
       at40 = λ Ψ. Typed.ask s11 (at39 Ψ)
+
       abbrev at41 : Typed.TF T12 O3
       at41 = λ Ψ. Typed.give s10 (at40 Ψ)
+
       abbrev at42 : Typed.TF T12 O3
       at42 = λ Ψ. at41 Ψ
+
       abbrev at43 : Typed.TF T11 O3
       at43 = λ Ψ. Typed.ask s8 (at42 Ψ)
+
       abbrev at44 : Typed.TF T7 O3
       at44 = λ Ψ. Typed.give s7 (at43 Ψ)
+
       abbrev at45 : Typed.TF T7 O3
       at45 = λ Ψ. at44 Ψ
+
       abbrev at46 : Typed.TF T6 O3
       at46 = λ Ψ. at4 (Typed.wantNext T7 O3 (at45 Ψ) Ψ)
+
       abbrev at47 : Typed.TF T4 O3
       at47 = λ Ψ. Typed.ask s3 (at46 Ψ)
+
       abbrev at48 : Typed.TF T4 O2
-      at48 = Typed.LoopBy T4 O2 put0 (λ u vs. Inv·0 (Row.get 1 (T4 .locals) u .now) (Row.get 2 (T4 .locals) u .now) (Row.get 3 (T4 .locals) u .now)
-          (Row.get 4 (T4 .locals) u .now) (Row.get 5 (T4 .locals) u .now) (Row.get 6 (T4 .locals) u .now) (Row.get 7 (T4 .locals) u) (vs .0) (vs .1)
-          (vs .2) (vs .3) (vs .4) (vs .5) (vs .6)) (λ u vs. μ·0 (Row.get 1 (T4 .locals) u .now) (Row.get 2 (T4 .locals) u .now) (Row.get 3 (T4
-          .locals) u .now) (Row.get 4 (T4 .locals) u .now) (Row.get 5 (T4 .locals) u .now) (Row.get 6 (T4 .locals) u .now) (Row.get 7 (T4 .locals) u)
-          (vs .0) (vs .1) (vs .2) (vs .3) (vs .4) (vs .5) (vs .6)) at47
+      at48 = Typed.LoopBy T4 O2 put0 (λ u vs. Inv·0 (Row.get 1 (T4 .locals) u .now) (Row.get 2 (T4 .locals) u .now)
+          (Row.get 3 (T4 .locals) u .now) (Row.get 4 (T4 .locals) u .now) (Row.get 5 (T4 .locals) u .now)
+          (Row.get 6 (T4 .locals) u .now) (Row.get 7 (T4 .locals) u) (vs .0) (vs .1) (vs .2) (vs .3) (vs .4) (vs .5)
+          (vs .6)) (λ u vs. μ·0 (Row.get 1 (T4 .locals) u .now) (Row.get 2 (T4 .locals) u .now)
+          (Row.get 3 (T4 .locals) u .now) (Row.get 4 (T4 .locals) u .now) (Row.get 5 (T4 .locals) u .now)
+          (Row.get 6 (T4 .locals) u .now) (Row.get 7 (T4 .locals) u) (vs .0) (vs .1) (vs .2) (vs .3) (vs .4) (vs .5)
+          (vs .6)) at47
+
       abbrev at49 : Typed.TF T4 O1
       at49 = λ Ψ. at48 (Typed.inBlock O1 Ψ)
+
       abbrev at50 : Typed.TF T52 O0
       at50 = Typed.atRet O0
+
       abbrev at51 : Typed.TF T51 O0
       at51 = λ Ψ. Typed.pass T51 T52 s48 (at50 Ψ)
+
       abbrev at52 : Typed.TF T5 O0
       at52 = λ Ψ. Typed.pass T5 T51 s47 (at51 Ψ)
+
       abbrev at53 : Typed.TF T4 O0
       at53 = λ Ψ. at49 (Typed.wantNext T5 O0 (at52 Ψ) Ψ)
+
       abbrev at54 : Typed.TF T3 O0
       at54 = λ Ψ. Typed.pass T3 T4 s2 (at53 Ψ)
+
       abbrev at55 : Typed.TF T2 O0
       at55 = λ Ψ. Typed.give s1 (at54 Ψ)
+
       abbrev at56 : Typed.TF T0 O0
       at56 = λ Ψ. Typed.give s0 (at55 Ψ)
+
       abbrev pub Φ : Typed.TF T0 O0
       Φ = at56
-      module _ { M : Type 1 } (𝓤 : URA.URA M) (H : Wp.Heap 𝓤) (A : Atoms.Atoms 𝓤) (W : Kit.Given 𝓤 H A) (𝓣 : Wp.Tables 𝓤 H) where
+
+      module _ {M : Type 1} (𝓤 : URA.URA M) (H : Wp.Heap 𝓤) (A : Atoms.Atoms 𝓤) (W : Kit.Given 𝓤 H A)
+          (𝓣 : Wp.Tables 𝓤 H) where
         abbrev Knowns : Type 1
         Knowns = Plain.Known 𝓤 H A W 𝓣 6 ps·0 r·0 (claims· .0) (claims· .1) "cases::machine::one_case"
+
       module _ (κs : Lifetimes.Lfts 6) (qs : Lifetimes.Shares 6) where
         abbrev life0 : Row.Life
         life0 = Row.lease (κs .0) (qs .0)
+
         abbrev life1 : Row.Life
         life1 = Row.lease (κs .1 .0) (qs .1 .0)
+
         abbrev life2 : Row.Life
         life2 = Row.lease (κs .1 .1 .0) (qs .1 .1 .0)
+
         abbrev life3 : Row.Life
         life3 = Row.lease (κs .1 .1 .1 .0) (qs .1 .1 .1 .0)
+
         abbrev life4 : Row.Life
         life4 = Row.lease (κs .1 .1 .1 .1 .0) (qs .1 .1 .1 .1 .0)
+
         abbrev life5 : Row.Life
         life5 = Row.lease (κs .1 .1 .1 .1 .1 .0) (qs .1 .1 .1 .1 .1 .0)
+
+        abbrev l1 : Row.Entry
+        l1 = (1, Relend.mslice-owed RelayPending.row ref6 0 6 life0)
+
+        abbrev l2 : Row.Entry
+        l2 = (2, Relend.mslice-owed RelayCircuit.row ref7 1 7 life1)
+
+        abbrev l3 : Row.Entry
+        l3 = (3, Relend.mslice-owed ReservationUsage.row ref8 2 8 life2)
+
+        abbrev l4 : Row.Entry
+        l4 = (4, Relend.mslice-owed InflightAction.row ref9 3 9 life3)
+
+        abbrev l5 : Row.Entry
+        l5 = (5, Relend.mslice-owed (Referent.rtF (Referent.fInt Syntax.w32)) ref10 4 10 life4)
+
+        abbrev l6 : Row.Entry
+        l6 = (6, Relend.mslice-owed (Referent.rtF (Referent.fInt Syntax.w8)) ref11 5 11 life5)
+
         abbrev g5 : List.List Row.Entry
-        g5 = (0, Rows.any-gone Syntax.tyUnit) ∷ (1, Relend.mslice-owed RelayPending.row ref6 0 6 life0,) ∷ (2, Mut.mslice RelayCircuit.row ref7 1,) ∷
-            (3, Mut.mslice ReservationUsage.row ref8 2,) ∷ (4, Mut.mslice InflightAction.row ref9 3,) ∷ (5, Mut.mslice (Referent.rtF (Referent.fInt
-            Syntax.w32)) ref10 4,) ∷ (6, Mut.mslice (Referent.rtF (Referent.fInt Syntax.w8)) ref11 5,) ∷ (7, Rows.sc-here (Row.sInt Syntax.w8)) ∷ (8,
-            Rows.any-gone Syntax.tyBool,) ∷ (9, Rows.any-gone Syntax.tyUnit) ∷ (10, Relend.msptr RelayPending.row ref0 6,) ∷ (11, Rows.any-gone
-            (Syntax.tyStruct (38 ∷ 91 ∷ 93 ∷ List.[]) (Syntax.tcons ref0 (Syntax.tcons (Syntax.tyInt Syntax.w64) Syntax.tnil))),) ∷ (12, Rows.any-gone
-            ref1,) ∷ (13, Rows.any-gone (Syntax.tyStruct (38 ∷ 91 ∷ 93 ∷ List.[]) (Syntax.tcons ref1 (Syntax.tcons (Syntax.tyInt Syntax.w64)
-            Syntax.tnil))),) ∷ (14, Rows.any-gone ref2,) ∷ (15, Rows.any-gone (Syntax.tyStruct (38 ∷ 91 ∷ 93 ∷ List.[]) (Syntax.tcons ref2
-            (Syntax.tcons (Syntax.tyInt Syntax.w64) Syntax.tnil))),) ∷ List.[]
+        g5 = e0 ∷ l1 ∷ e2 ∷ e3 ∷ e4 ∷ e5 ∷ e6 ∷ e7·1 ∷ e8 ∷ e9 ∷ e10·1 ∷ e11 ∷ e12 ∷ e13 ∷ e14 ∷ e15 ∷ List.[]
+
         abbrev g6 : List.List Row.Entry
-        g6 = (0, Rows.any-gone Syntax.tyUnit) ∷ (1, Relend.mslice-owed RelayPending.row ref6 0 6 life0,) ∷ (2, Mut.mslice RelayCircuit.row ref7 1,) ∷
-            (3, Mut.mslice ReservationUsage.row ref8 2,) ∷ (4, Mut.mslice InflightAction.row ref9 3,) ∷ (5, Mut.mslice (Referent.rtF (Referent.fInt
-            Syntax.w32)) ref10 4,) ∷ (6, Mut.mslice (Referent.rtF (Referent.fInt Syntax.w8)) ref11 5,) ∷ (7, Rows.sc-here (Row.sInt Syntax.w8)) ∷ (8,
-            Rows.any-gone Syntax.tyBool,) ∷ (9, Rows.any-gone Syntax.tyUnit) ∷ (10, Rows.any-gone ref0,) ∷ (11, Mut.mslice RelayPending.row ref0 6,) ∷
-            (12, Rows.any-gone ref1,) ∷ (13, Rows.any-gone (Syntax.tyStruct (38 ∷ 91 ∷ 93 ∷ List.[]) (Syntax.tcons ref1 (Syntax.tcons (Syntax.tyInt
-            Syntax.w64) Syntax.tnil))),) ∷ (14, Rows.any-gone ref2,) ∷ (15, Rows.any-gone (Syntax.tyStruct (38 ∷ 91 ∷ 93 ∷ List.[]) (Syntax.tcons ref2
-            (Syntax.tcons (Syntax.tyInt Syntax.w64) Syntax.tnil))),) ∷ List.[]
+        g6 = e0 ∷ l1 ∷ e2 ∷ e3 ∷ e4 ∷ e5 ∷ e6 ∷ e7·1 ∷ e8 ∷ e9 ∷ e10 ∷ e11·1 ∷ e12 ∷ e13 ∷ e14 ∷ e15 ∷ List.[]
+
         abbrev g7 : List.List Row.Entry
-        g7 = (0, Rows.any-gone Syntax.tyUnit) ∷ (1, Relend.mslice-owed RelayPending.row ref6 0 6 life0,) ∷ (2, Relend.mslice-owed RelayCircuit.row
-            ref7 1 7 life1,) ∷ (3, Mut.mslice ReservationUsage.row ref8 2,) ∷ (4, Mut.mslice InflightAction.row ref9 3,) ∷ (5, Mut.mslice
-            (Referent.rtF (Referent.fInt Syntax.w32)) ref10 4,) ∷ (6, Mut.mslice (Referent.rtF (Referent.fInt Syntax.w8)) ref11 5,) ∷ (7, Rows.sc-here
-            (Row.sInt Syntax.w8)) ∷ (8, Rows.any-gone Syntax.tyBool,) ∷ (9, Rows.any-gone Syntax.tyUnit) ∷ (10, Rows.any-gone ref0,) ∷ (11, Mut.mslice
-            RelayPending.row ref0 6,) ∷ (12, Relend.msptr RelayCircuit.row ref1 7,) ∷ (13, Rows.any-gone (Syntax.tyStruct (38 ∷ 91 ∷ 93 ∷ List.[])
-            (Syntax.tcons ref1 (Syntax.tcons (Syntax.tyInt Syntax.w64) Syntax.tnil))),) ∷ (14, Rows.any-gone ref2,) ∷ (15, Rows.any-gone
-            (Syntax.tyStruct (38 ∷ 91 ∷ 93 ∷ List.[]) (Syntax.tcons ref2 (Syntax.tcons (Syntax.tyInt Syntax.w64) Syntax.tnil))),) ∷ List.[]
+        g7 = e0 ∷ l1 ∷ l2 ∷ e3 ∷ e4 ∷ e5 ∷ e6 ∷ e7·1 ∷ e8 ∷ e9 ∷ e10 ∷ e11·1 ∷ e12·1 ∷ e13 ∷ e14 ∷ e15 ∷ List.[]
+
         abbrev g8 : List.List Row.Entry
-        g8 = (0, Rows.any-gone Syntax.tyUnit) ∷ (1, Relend.mslice-owed RelayPending.row ref6 0 6 life0,) ∷ (2, Relend.mslice-owed RelayCircuit.row
-            ref7 1 7 life1,) ∷ (3, Mut.mslice ReservationUsage.row ref8 2,) ∷ (4, Mut.mslice InflightAction.row ref9 3,) ∷ (5, Mut.mslice
-            (Referent.rtF (Referent.fInt Syntax.w32)) ref10 4,) ∷ (6, Mut.mslice (Referent.rtF (Referent.fInt Syntax.w8)) ref11 5,) ∷ (7, Rows.sc-here
-            (Row.sInt Syntax.w8)) ∷ (8, Rows.any-gone Syntax.tyBool,) ∷ (9, Rows.any-gone Syntax.tyUnit) ∷ (10, Rows.any-gone ref0,) ∷ (11, Mut.mslice
-            RelayPending.row ref0 6,) ∷ (12, Rows.any-gone ref1,) ∷ (13, Mut.mslice RelayCircuit.row ref1 7,) ∷ (14, Rows.any-gone ref2,) ∷ (15,
-            Rows.any-gone (Syntax.tyStruct (38 ∷ 91 ∷ 93 ∷ List.[]) (Syntax.tcons ref2 (Syntax.tcons (Syntax.tyInt Syntax.w64) Syntax.tnil))),) ∷
-            List.[]
+        g8 = e0 ∷ l1 ∷ l2 ∷ e3 ∷ e4 ∷ e5 ∷ e6 ∷ e7·1 ∷ e8 ∷ e9 ∷ e10 ∷ e11·1 ∷ e12 ∷ e13·1 ∷ e14 ∷ e15 ∷ List.[]
+
         abbrev g9 : List.List Row.Entry
-        g9 = (0, Rows.any-gone Syntax.tyUnit) ∷ (1, Relend.mslice-owed RelayPending.row ref6 0 6 life0,) ∷ (2, Relend.mslice-owed RelayCircuit.row
-            ref7 1 7 life1,) ∷ (3, Relend.mslice-owed ReservationUsage.row ref8 2 8 life2,) ∷ (4, Mut.mslice InflightAction.row ref9 3,) ∷ (5,
-            Mut.mslice (Referent.rtF (Referent.fInt Syntax.w32)) ref10 4,) ∷ (6, Mut.mslice (Referent.rtF (Referent.fInt Syntax.w8)) ref11 5,) ∷ (7,
-            Rows.sc-here (Row.sInt Syntax.w8)) ∷ (8, Rows.any-gone Syntax.tyBool,) ∷ (9, Rows.any-gone Syntax.tyUnit) ∷ (10, Rows.any-gone ref0,) ∷
-            (11, Mut.mslice RelayPending.row ref0 6,) ∷ (12, Rows.any-gone ref1,) ∷ (13, Mut.mslice RelayCircuit.row ref1 7,) ∷ (14, Relend.msptr
-            ReservationUsage.row ref2 8,) ∷ (15, Rows.any-gone (Syntax.tyStruct (38 ∷ 91 ∷ 93 ∷ List.[]) (Syntax.tcons ref2 (Syntax.tcons
-            (Syntax.tyInt Syntax.w64) Syntax.tnil))),) ∷ List.[]
+        g9 = e0 ∷ l1 ∷ l2 ∷ l3 ∷ e4 ∷ e5 ∷ e6 ∷ e7·1 ∷ e8 ∷ e9 ∷ e10 ∷ e11·1 ∷ e12 ∷ e13·1 ∷ e14·1 ∷ e15 ∷ List.[]
+
         abbrev g10 : List.List Row.Entry
-        g10 = (0, Rows.any-gone Syntax.tyUnit) ∷ (1, Relend.mslice-owed RelayPending.row ref6 0 6 life0,) ∷ (2, Relend.mslice-owed RelayCircuit.row
-            ref7 1 7 life1,) ∷ (3, Relend.mslice-owed ReservationUsage.row ref8 2 8 life2,) ∷ (4, Mut.mslice InflightAction.row ref9 3,) ∷ (5,
-            Mut.mslice (Referent.rtF (Referent.fInt Syntax.w32)) ref10 4,) ∷ (6, Mut.mslice (Referent.rtF (Referent.fInt Syntax.w8)) ref11 5,) ∷ (7,
-            Rows.sc-here (Row.sInt Syntax.w8)) ∷ (8, Rows.any-gone Syntax.tyBool,) ∷ (9, Rows.any-gone Syntax.tyUnit) ∷ (10, Rows.any-gone ref0,) ∷
-            (11, Mut.mslice RelayPending.row ref0 6,) ∷ (12, Rows.any-gone ref1,) ∷ (13, Mut.mslice RelayCircuit.row ref1 7,) ∷ (14, Rows.any-gone
-            ref2,) ∷ (15, Mut.mslice ReservationUsage.row ref2 8,) ∷ List.[]
+        g10 = e0 ∷ l1 ∷ l2 ∷ l3 ∷ e4 ∷ e5 ∷ e6 ∷ e7·1 ∷ e8 ∷ e9 ∷ e10 ∷ e11·1 ∷ e12 ∷ e13·1 ∷ e14 ∷ e15·1 ∷ List.[]
+
         abbrev g11 : List.List Row.Entry
-        g11 = (0, Rows.any-gone Syntax.tyUnit) ∷ (1, Relend.mslice-owed RelayPending.row ref6 0 6 life0,) ∷ (2, Relend.mslice-owed RelayCircuit.row
-            ref7 1 7 life1,) ∷ (3, Relend.mslice-owed ReservationUsage.row ref8 2 8 life2,) ∷ (4, Relend.mslice-owed InflightAction.row ref9 3 9
-            life3,) ∷ (5, Mut.mslice (Referent.rtF (Referent.fInt Syntax.w32)) ref10 4,) ∷ (6, Mut.mslice (Referent.rtF (Referent.fInt Syntax.w8))
-            ref11 5,) ∷ (7, Rows.sc-here (Row.sInt Syntax.w8)) ∷ (8, Rows.any-gone Syntax.tyBool,) ∷ (9, Rows.any-gone Syntax.tyUnit) ∷ (10,
-            Rows.any-gone ref0,) ∷ (11, Mut.mslice RelayPending.row ref0 6,) ∷ (12, Rows.any-gone ref1,) ∷ (13, Mut.mslice RelayCircuit.row ref1 7,) ∷
-            (14, Rows.any-gone ref2,) ∷ (15, Mut.mslice ReservationUsage.row ref2 8,) ∷ List.[]
+        g11 = e0 ∷ l1 ∷ l2 ∷ l3 ∷ l4 ∷ e5 ∷ e6 ∷ e7·1 ∷ e8 ∷ e9 ∷ e10 ∷ e11·1 ∷ e12 ∷ e13·1 ∷ e14 ∷ e15·1 ∷ List.[]
+
         abbrev g14 : List.List Row.Entry
-        g14 = (0, Rows.any-gone Syntax.tyUnit) ∷ (1, Relend.mslice-owed RelayPending.row ref6 0 6 life0,) ∷ (2, Relend.mslice-owed RelayCircuit.row
-            ref7 1 7 life1,) ∷ (3, Relend.mslice-owed ReservationUsage.row ref8 2 8 life2,) ∷ (4, Relend.mslice-owed InflightAction.row ref9 3 9
-            life3,) ∷ (5, Relend.mslice-owed (Referent.rtF (Referent.fInt Syntax.w32)) ref10 4 10 life4,) ∷ (6, Mut.mslice (Referent.rtF
-            (Referent.fInt Syntax.w8)) ref11 5,) ∷ (7, Rows.sc-here (Row.sInt Syntax.w8)) ∷ (8, Rows.any-gone Syntax.tyBool,) ∷ (9, Rows.any-gone
-            Syntax.tyUnit) ∷ (10, Rows.any-gone ref0,) ∷ (11, Mut.mslice RelayPending.row ref0 6,) ∷ (12, Rows.any-gone ref1,) ∷ (13, Mut.mslice
-            RelayCircuit.row ref1 7,) ∷ (14, Rows.any-gone ref2,) ∷ (15, Mut.mslice ReservationUsage.row ref2 8,) ∷ List.[]
+        g14 = e0 ∷ l1 ∷ l2 ∷ l3 ∷ l4 ∷ l5 ∷ e6 ∷ e7·1 ∷ e8 ∷ e9 ∷ e10 ∷ e11·1 ∷ e12 ∷ e13·1 ∷ e14 ∷ e15·1 ∷ List.[]
+
         abbrev g17 : List.List Row.Entry
-        g17 = (0, Rows.any-gone Syntax.tyUnit) ∷ (1, Relend.mslice-owed RelayPending.row ref6 0 6 life0,) ∷ (2, Relend.mslice-owed RelayCircuit.row
-            ref7 1 7 life1,) ∷ (3, Relend.mslice-owed ReservationUsage.row ref8 2 8 life2,) ∷ (4, Relend.mslice-owed InflightAction.row ref9 3 9
-            life3,) ∷ (5, Relend.mslice-owed (Referent.rtF (Referent.fInt Syntax.w32)) ref10 4 10 life4,) ∷ (6, Relend.mslice-owed (Referent.rtF
-            (Referent.fInt Syntax.w8)) ref11 5 11 life5,) ∷ (7, Rows.sc-here (Row.sInt Syntax.w8)) ∷ (8, Rows.any-gone Syntax.tyBool,) ∷ (9,
-            Rows.any-gone Syntax.tyUnit) ∷ (10, Rows.any-gone ref0,) ∷ (11, Mut.mslice RelayPending.row ref0 6,) ∷ (12, Rows.any-gone ref1,) ∷ (13,
-            Mut.mslice RelayCircuit.row ref1 7,) ∷ (14, Rows.any-gone ref2,) ∷ (15, Mut.mslice ReservationUsage.row ref2 8,) ∷ List.[]
+        g17 = e0 ∷ l1 ∷ l2 ∷ l3 ∷ l4 ∷ l5 ∷ l6 ∷ e7·1 ∷ e8 ∷ e9 ∷ e10 ∷ e11·1 ∷ e12 ∷ e13·1 ∷ e14 ∷ e15·1 ∷ List.[]
+
         abbrev g20 : List.List Row.Entry
-        g20 = (0, Rows.any-gone Syntax.tyUnit) ∷ (1, Relend.mslice-owed RelayPending.row ref6 0 6 life0,) ∷ (2, Relend.mslice-owed RelayCircuit.row
-            ref7 1 7 life1,) ∷ (3, Relend.mslice-owed ReservationUsage.row ref8 2 8 life2,) ∷ (4, Relend.mslice-owed InflightAction.row ref9 3 9
-            life3,) ∷ (5, Relend.mslice-owed (Referent.rtF (Referent.fInt Syntax.w32)) ref10 4 10 life4,) ∷ (6, Relend.mslice-owed (Referent.rtF
-            (Referent.fInt Syntax.w8)) ref11 5 11 life5,) ∷ (7, Rows.sc-here (Row.sInt Syntax.w8)) ∷ (8, Rows.any-gone Syntax.tyBool,) ∷ (9,
-            Rows.sc-here Row.sUnit) ∷ (10, Rows.any-gone ref0,) ∷ (11, Mut.msleft RelayPending.row ref0,) ∷ (12, Rows.any-gone ref1,) ∷ (13,
-            Mut.msleft RelayCircuit.row ref1,) ∷ (14, Rows.any-gone ref2,) ∷ (15, Mut.msleft ReservationUsage.row ref2,) ∷ List.[]
+        g20 = e0 ∷ l1 ∷ l2 ∷ l3 ∷ l4 ∷ l5 ∷ l6 ∷ e7·1 ∷ e8 ∷ e9·1 ∷ e10 ∷ e11·2 ∷ e12 ∷ e13·2 ∷ e14 ∷ e15·2 ∷ List.[]
+
         abbrev g22 : List.List Row.Entry
-        g22 = (0, Rows.any-gone Syntax.tyUnit) ∷ (1, Relend.mslice-owed RelayPending.row ref6 0 6 life0,) ∷ (2, Relend.mslice-owed RelayCircuit.row
-            ref7 1 7 life1,) ∷ (3, Relend.mslice-owed ReservationUsage.row ref8 2 8 life2,) ∷ (4, Relend.mslice-owed InflightAction.row ref9 3 9
-            life3,) ∷ (5, Relend.mslice-owed (Referent.rtF (Referent.fInt Syntax.w32)) ref10 4 10 life4,) ∷ (6, Relend.mslice-owed (Referent.rtF
-            (Referent.fInt Syntax.w8)) ref11 5 11 life5,) ∷ (7, Rows.sc-here (Row.sInt Syntax.w8)) ∷ (8, Rows.any-gone Syntax.tyBool,) ∷ (9,
-            Rows.any-gone Syntax.tyUnit) ∷ (10, Rows.any-gone ref0,) ∷ (11, Mut.msleft RelayPending.row ref0,) ∷ (12, Rows.any-gone ref1,) ∷ (13,
-            Mut.msleft RelayCircuit.row ref1,) ∷ (14, Rows.any-gone ref2,) ∷ (15, Mut.msleft ReservationUsage.row ref2,) ∷ List.[]
+        g22 = e0 ∷ l1 ∷ l2 ∷ l3 ∷ l4 ∷ l5 ∷ l6 ∷ e7·1 ∷ e8 ∷ e9 ∷ e10 ∷ e11·2 ∷ e12 ∷ e13·2 ∷ e14 ∷ e15·2 ∷ List.[]
+
         abbrev g23 : List.List Row.Entry
-        g23 = (0, Rows.any-gone Syntax.tyUnit) ∷ (1, Mut.mslice RelayPending.row ref6 0,) ∷ (2, Relend.mslice-owed RelayCircuit.row ref7 1 7 life1,) ∷
-            (3, Relend.mslice-owed ReservationUsage.row ref8 2 8 life2,) ∷ (4, Relend.mslice-owed InflightAction.row ref9 3 9 life3,) ∷ (5,
-            Relend.mslice-owed (Referent.rtF (Referent.fInt Syntax.w32)) ref10 4 10 life4,) ∷ (6, Relend.mslice-owed (Referent.rtF (Referent.fInt
-            Syntax.w8)) ref11 5 11 life5,) ∷ (7, Rows.sc-here (Row.sInt Syntax.w8)) ∷ (8, Rows.any-gone Syntax.tyBool,) ∷ (9, Rows.any-gone
-            Syntax.tyUnit) ∷ (10, Rows.any-gone ref0,) ∷ (11, Rows.any-gone (Syntax.tyStruct (38 ∷ 91 ∷ 93 ∷ List.[]) (Syntax.tcons ref0 (Syntax.tcons
-            (Syntax.tyInt Syntax.w64) Syntax.tnil))),) ∷ (12, Rows.any-gone ref1,) ∷ (13, Mut.msleft RelayCircuit.row ref1,) ∷ (14, Rows.any-gone
-            ref2,) ∷ (15, Mut.msleft ReservationUsage.row ref2,) ∷ List.[]
+        g23 = e0 ∷ e1 ∷ l2 ∷ l3 ∷ l4 ∷ l5 ∷ l6 ∷ e7·1 ∷ e8 ∷ e9 ∷ e10 ∷ e11 ∷ e12 ∷ e13·2 ∷ e14 ∷ e15·2 ∷ List.[]
+
         abbrev g24 : List.List Row.Entry
-        g24 = (0, Rows.any-gone Syntax.tyUnit) ∷ (1, Mut.mslice RelayPending.row ref6 0,) ∷ (2, Mut.mslice RelayCircuit.row ref7 1,) ∷ (3,
-            Relend.mslice-owed ReservationUsage.row ref8 2 8 life2,) ∷ (4, Relend.mslice-owed InflightAction.row ref9 3 9 life3,) ∷ (5,
-            Relend.mslice-owed (Referent.rtF (Referent.fInt Syntax.w32)) ref10 4 10 life4,) ∷ (6, Relend.mslice-owed (Referent.rtF (Referent.fInt
-            Syntax.w8)) ref11 5 11 life5,) ∷ (7, Rows.sc-here (Row.sInt Syntax.w8)) ∷ (8, Rows.any-gone Syntax.tyBool,) ∷ (9, Rows.any-gone
-            Syntax.tyUnit) ∷ (10, Rows.any-gone ref0,) ∷ (11, Rows.any-gone (Syntax.tyStruct (38 ∷ 91 ∷ 93 ∷ List.[]) (Syntax.tcons ref0 (Syntax.tcons
-            (Syntax.tyInt Syntax.w64) Syntax.tnil))),) ∷ (12, Rows.any-gone ref1,) ∷ (13, Rows.any-gone (Syntax.tyStruct (38 ∷ 91 ∷ 93 ∷ List.[])
-            (Syntax.tcons ref1 (Syntax.tcons (Syntax.tyInt Syntax.w64) Syntax.tnil))),) ∷ (14, Rows.any-gone ref2,) ∷ (15, Mut.msleft
-            ReservationUsage.row ref2,) ∷ List.[]
+        g24 = e0 ∷ e1 ∷ e2 ∷ l3 ∷ l4 ∷ l5 ∷ l6 ∷ e7·1 ∷ e8 ∷ e9 ∷ e10 ∷ e11 ∷ e12 ∷ e13 ∷ e14 ∷ e15·2 ∷ List.[]
+
         abbrev g25 : List.List Row.Entry
-        g25 = (0, Rows.any-gone Syntax.tyUnit) ∷ (1, Mut.mslice RelayPending.row ref6 0,) ∷ (2, Mut.mslice RelayCircuit.row ref7 1,) ∷ (3, Mut.mslice
-            ReservationUsage.row ref8 2,) ∷ (4, Relend.mslice-owed InflightAction.row ref9 3 9 life3,) ∷ (5, Relend.mslice-owed (Referent.rtF
-            (Referent.fInt Syntax.w32)) ref10 4 10 life4,) ∷ (6, Relend.mslice-owed (Referent.rtF (Referent.fInt Syntax.w8)) ref11 5 11 life5,) ∷ (7,
-            Rows.sc-here (Row.sInt Syntax.w8)) ∷ (8, Rows.any-gone Syntax.tyBool,) ∷ (9, Rows.any-gone Syntax.tyUnit) ∷ (10, Rows.any-gone ref0,) ∷
-            (11, Rows.any-gone (Syntax.tyStruct (38 ∷ 91 ∷ 93 ∷ List.[]) (Syntax.tcons ref0 (Syntax.tcons (Syntax.tyInt Syntax.w64) Syntax.tnil))),) ∷
-            (12, Rows.any-gone ref1,) ∷ (13, Rows.any-gone (Syntax.tyStruct (38 ∷ 91 ∷ 93 ∷ List.[]) (Syntax.tcons ref1 (Syntax.tcons (Syntax.tyInt
-            Syntax.w64) Syntax.tnil))),) ∷ (14, Rows.any-gone ref2,) ∷ (15, Rows.any-gone (Syntax.tyStruct (38 ∷ 91 ∷ 93 ∷ List.[]) (Syntax.tcons ref2
-            (Syntax.tcons (Syntax.tyInt Syntax.w64) Syntax.tnil))),) ∷ List.[]
+        g25 = e0 ∷ e1 ∷ e2 ∷ e3 ∷ l4 ∷ l5 ∷ l6 ∷ e7·1 ∷ e8 ∷ e9 ∷ e10 ∷ e11 ∷ e12 ∷ e13 ∷ e14 ∷ e15 ∷ List.[]
+
         abbrev g26 : List.List Row.Entry
-        g26 = (0, Rows.any-gone Syntax.tyUnit) ∷ (1, Mut.mslice RelayPending.row ref6 0,) ∷ (2, Mut.mslice RelayCircuit.row ref7 1,) ∷ (3, Mut.mslice
-            ReservationUsage.row ref8 2,) ∷ (4, Mut.mslice InflightAction.row ref9 3,) ∷ (5, Relend.mslice-owed (Referent.rtF (Referent.fInt
-            Syntax.w32)) ref10 4 10 life4,) ∷ (6, Relend.mslice-owed (Referent.rtF (Referent.fInt Syntax.w8)) ref11 5 11 life5,) ∷ (7, Rows.sc-here
-            (Row.sInt Syntax.w8)) ∷ (8, Rows.any-gone Syntax.tyBool,) ∷ (9, Rows.any-gone Syntax.tyUnit) ∷ (10, Rows.any-gone ref0,) ∷ (11,
-            Rows.any-gone (Syntax.tyStruct (38 ∷ 91 ∷ 93 ∷ List.[]) (Syntax.tcons ref0 (Syntax.tcons (Syntax.tyInt Syntax.w64) Syntax.tnil))),) ∷ (12,
-            Rows.any-gone ref1,) ∷ (13, Rows.any-gone (Syntax.tyStruct (38 ∷ 91 ∷ 93 ∷ List.[]) (Syntax.tcons ref1 (Syntax.tcons (Syntax.tyInt
-            Syntax.w64) Syntax.tnil))),) ∷ (14, Rows.any-gone ref2,) ∷ (15, Rows.any-gone (Syntax.tyStruct (38 ∷ 91 ∷ 93 ∷ List.[]) (Syntax.tcons ref2
-            (Syntax.tcons (Syntax.tyInt Syntax.w64) Syntax.tnil))),) ∷ List.[]
+        g26 = e0 ∷ e1 ∷ e2 ∷ e3 ∷ e4 ∷ l5 ∷ l6 ∷ e7·1 ∷ e8 ∷ e9 ∷ e10 ∷ e11 ∷ e12 ∷ e13 ∷ e14 ∷ e15 ∷ List.[]
+
         abbrev g28 : List.List Row.Entry
-        g28 = (0, Rows.any-gone Syntax.tyUnit) ∷ (1, Mut.mslice RelayPending.row ref6 0,) ∷ (2, Mut.mslice RelayCircuit.row ref7 1,) ∷ (3, Mut.mslice
-            ReservationUsage.row ref8 2,) ∷ (4, Mut.mslice InflightAction.row ref9 3,) ∷ (5, Mut.mslice (Referent.rtF (Referent.fInt Syntax.w32))
-            ref10 4,) ∷ (6, Relend.mslice-owed (Referent.rtF (Referent.fInt Syntax.w8)) ref11 5 11 life5,) ∷ (7, Rows.sc-here (Row.sInt Syntax.w8)) ∷
-            (8, Rows.any-gone Syntax.tyBool,) ∷ (9, Rows.any-gone Syntax.tyUnit) ∷ (10, Rows.any-gone ref0,) ∷ (11, Rows.any-gone (Syntax.tyStruct (38
-            ∷ 91 ∷ 93 ∷ List.[]) (Syntax.tcons ref0 (Syntax.tcons (Syntax.tyInt Syntax.w64) Syntax.tnil))),) ∷ (12, Rows.any-gone ref1,) ∷ (13,
-            Rows.any-gone (Syntax.tyStruct (38 ∷ 91 ∷ 93 ∷ List.[]) (Syntax.tcons ref1 (Syntax.tcons (Syntax.tyInt Syntax.w64) Syntax.tnil))),) ∷ (14,
-            Rows.any-gone ref2,) ∷ (15, Rows.any-gone (Syntax.tyStruct (38 ∷ 91 ∷ 93 ∷ List.[]) (Syntax.tcons ref2 (Syntax.tcons (Syntax.tyInt
-            Syntax.w64) Syntax.tnil))),) ∷ List.[]
+        g28 = e0 ∷ e1 ∷ e2 ∷ e3 ∷ e4 ∷ e5 ∷ l6 ∷ e7·1 ∷ e8 ∷ e9 ∷ e10 ∷ e11 ∷ e12 ∷ e13 ∷ e14 ∷ e15 ∷ List.[]
+
         abbrev G0 : Row.Cx
-        G0 = record { locals = List._++_ t0 t1; slots = life0 ∷ life1 ∷ life2 ∷ life3 ∷ life4 ∷ life5 ∷ Row.off ∷ Row.off ∷ Row.off ∷ Row.off ∷
-            Row.off ∷ Row.off ∷ List.[]; }
+        G0 = record {
+          locals = List._++_ t0 t1;
+          slots = life0 ∷ life1 ∷ life2 ∷ life3 ∷ life4 ∷ life5 ∷ Row.off ∷ Row.off ∷ Row.off ∷ Row.off ∷ Row.off ∷
+              Row.off ∷ List.[];
+        }
+
         abbrev G1 : Row.Cx
-        G1 = record { locals = List._++_ t2 t1; slots = life0 ∷ life1 ∷ life2 ∷ life3 ∷ life4 ∷ life5 ∷ Row.off ∷ Row.off ∷ Row.off ∷ Row.off ∷
-            Row.off ∷ Row.off ∷ List.[]; }
+        G1 = record {
+          locals = List._++_ t2 t1;
+          slots = life0 ∷ life1 ∷ life2 ∷ life3 ∷ life4 ∷ life5 ∷ Row.off ∷ Row.off ∷ Row.off ∷ Row.off ∷ Row.off ∷
+              Row.off ∷ List.[];
+        }
+
         abbrev G2 : Row.Cx
-        G2 = record { locals = List._++_ t0 t1; slots = life0 ∷ life1 ∷ life2 ∷ life3 ∷ life4 ∷ life5 ∷ Row.off ∷ Row.off ∷ Row.off ∷ Row.off ∷
-            Row.off ∷ Row.off ∷ List.[]; }
+        G2 = record {
+          locals = List._++_ t0 t1;
+          slots = life0 ∷ life1 ∷ life2 ∷ life3 ∷ life4 ∷ life5 ∷ Row.off ∷ Row.off ∷ Row.off ∷ Row.off ∷ Row.off ∷
+              Row.off ∷ List.[];
+        }
+
         abbrev G3 : Row.Cx
-        G3 = record { locals = List._++_ t0 t1; slots = life0 ∷ life1 ∷ life2 ∷ life3 ∷ life4 ∷ life5 ∷ Row.off ∷ Row.off ∷ Row.off ∷ Row.off ∷
-            Row.off ∷ Row.off ∷ List.[]; }
+        G3 = record {
+          locals = List._++_ t0 t1;
+          slots = life0 ∷ life1 ∷ life2 ∷ life3 ∷ life4 ∷ life5 ∷ Row.off ∷ Row.off ∷ Row.off ∷ Row.off ∷ Row.off ∷
+              Row.off ∷ List.[];
+        }
+
         abbrev G4 : Row.Cx
-        G4 = record { locals = List._++_ t3 t1; slots = life0 ∷ life1 ∷ life2 ∷ life3 ∷ life4 ∷ life5 ∷ Row.off ∷ Row.off ∷ Row.off ∷ Row.off ∷
-            Row.off ∷ Row.off ∷ List.[]; }
+        G4 = record {
+          locals = List._++_ t3 t1;
+          slots = life0 ∷ life1 ∷ life2 ∷ life3 ∷ life4 ∷ life5 ∷ Row.off ∷ Row.off ∷ Row.off ∷ Row.off ∷ Row.off ∷
+              Row.off ∷ List.[];
+        }
+
         abbrev G5 : Row.Cx
-        G5 = record { locals = List._++_ t3 t1; slots = life0 ∷ life1 ∷ life2 ∷ life3 ∷ life4 ∷ life5 ∷ Row.off ∷ Row.off ∷ Row.off ∷ Row.off ∷
-            Row.off ∷ Row.off ∷ List.[]; }
+        G5 = record {
+          locals = List._++_ t3 t1;
+          slots = life0 ∷ life1 ∷ life2 ∷ life3 ∷ life4 ∷ life5 ∷ Row.off ∷ Row.off ∷ Row.off ∷ Row.off ∷ Row.off ∷
+              Row.off ∷ List.[];
+        }
+
         abbrev G6 : Row.Cx
-        G6 = record { locals = List._++_ t4 t1; slots = life0 ∷ life1 ∷ life2 ∷ life3 ∷ life4 ∷ life5 ∷ Row.off ∷ Row.off ∷ Row.off ∷ Row.off ∷
-            Row.off ∷ Row.off ∷ List.[]; }
+        G6 = record {
+          locals = List._++_ t4 t1;
+          slots = life0 ∷ life1 ∷ life2 ∷ life3 ∷ life4 ∷ life5 ∷ Row.off ∷ Row.off ∷ Row.off ∷ Row.off ∷ Row.off ∷
+              Row.off ∷ List.[];
+        }
+
         abbrev G7 : Row.Cx
-        G7 = record { locals = List._++_ t3 t1; slots = life0 ∷ life1 ∷ life2 ∷ life3 ∷ life4 ∷ life5 ∷ Row.off ∷ Row.off ∷ Row.off ∷ Row.off ∷
-            Row.off ∷ Row.off ∷ List.[]; }
+        G7 = record {
+          locals = List._++_ t3 t1;
+          slots = life0 ∷ life1 ∷ life2 ∷ life3 ∷ life4 ∷ life5 ∷ Row.off ∷ Row.off ∷ Row.off ∷ Row.off ∷ Row.off ∷
+              Row.off ∷ List.[];
+        }
+
         abbrev G8 : Row.Cx
-        G8 = record { locals = List._++_ t3 t1; slots = life0 ∷ life1 ∷ life2 ∷ life3 ∷ life4 ∷ life5 ∷ Row.off ∷ Row.off ∷ Row.off ∷ Row.off ∷
-            Row.off ∷ Row.off ∷ List.[]; }
+        G8 = record {
+          locals = List._++_ t3 t1;
+          slots = life0 ∷ life1 ∷ life2 ∷ life3 ∷ life4 ∷ life5 ∷ Row.off ∷ Row.off ∷ Row.off ∷ Row.off ∷ Row.off ∷
+              Row.off ∷ List.[];
+        }
+
         abbrev G9 : Row.Cx
-        G9 = record { locals = List._++_ t3 t1; slots = life0 ∷ life1 ∷ life2 ∷ life3 ∷ life4 ∷ life5 ∷ Row.off ∷ Row.off ∷ Row.off ∷ Row.off ∷
-            Row.off ∷ Row.off ∷ List.[]; }
+        G9 = record {
+          locals = List._++_ t3 t1;
+          slots = life0 ∷ life1 ∷ life2 ∷ life3 ∷ life4 ∷ life5 ∷ Row.off ∷ Row.off ∷ Row.off ∷ Row.off ∷ Row.off ∷
+              Row.off ∷ List.[];
+        }
+
         abbrev G10 : Row.Cx
-        G10 = record { locals = List._++_ t3 t1; slots = life0 ∷ life1 ∷ life2 ∷ life3 ∷ life4 ∷ life5 ∷ Row.alive ∷ Row.off ∷ Row.off ∷ Row.off ∷
-            Row.off ∷ Row.off ∷ List.[]; }
+        G10 = record {
+          locals = List._++_ t3 t1;
+          slots = life0 ∷ life1 ∷ life2 ∷ life3 ∷ life4 ∷ life5 ∷ Row.alive ∷ Row.off ∷ Row.off ∷ Row.off ∷ Row.off ∷
+              Row.off ∷ List.[];
+        }
+
         abbrev G11 : Row.Cx
-        G11 = record { locals = List._++_ g5 t1; slots = Row.off ∷ life1 ∷ life2 ∷ life3 ∷ life4 ∷ life5 ∷ Row.alive ∷ Row.off ∷ Row.off ∷ Row.off ∷
-            Row.off ∷ Row.off ∷ List.[]; }
+        G11 = record {
+          locals = List._++_ g5 t1;
+          slots = Row.off ∷ life1 ∷ life2 ∷ life3 ∷ life4 ∷ life5 ∷ Row.alive ∷ Row.off ∷ Row.off ∷ Row.off ∷ Row.off ∷
+              Row.off ∷ List.[];
+        }
+
         abbrev G12 : Row.Cx
-        G12 = record { locals = List._++_ g6 t1; slots = Row.off ∷ life1 ∷ life2 ∷ life3 ∷ life4 ∷ life5 ∷ Row.alive ∷ Row.off ∷ Row.off ∷ Row.off ∷
-            Row.off ∷ Row.off ∷ List.[]; }
+        G12 = record {
+          locals = List._++_ g6 t1;
+          slots = Row.off ∷ life1 ∷ life2 ∷ life3 ∷ life4 ∷ life5 ∷ Row.alive ∷ Row.off ∷ Row.off ∷ Row.off ∷ Row.off ∷
+              Row.off ∷ List.[];
+        }
+
         abbrev G13 : Row.Cx
-        G13 = record { locals = List._++_ g6 t1; slots = Row.off ∷ life1 ∷ life2 ∷ life3 ∷ life4 ∷ life5 ∷ Row.alive ∷ Row.alive ∷ Row.off ∷ Row.off ∷
-            Row.off ∷ Row.off ∷ List.[]; }
+        G13 = record {
+          locals = List._++_ g6 t1;
+          slots = Row.off ∷ life1 ∷ life2 ∷ life3 ∷ life4 ∷ life5 ∷ Row.alive ∷ Row.alive ∷ Row.off ∷ Row.off ∷ Row.off
+              ∷ Row.off ∷ List.[];
+        }
+
         abbrev G14 : Row.Cx
-        G14 = record { locals = List._++_ g7 t1; slots = Row.off ∷ Row.off ∷ life2 ∷ life3 ∷ life4 ∷ life5 ∷ Row.alive ∷ Row.alive ∷ Row.off ∷ Row.off
-            ∷ Row.off ∷ Row.off ∷ List.[]; }
+        G14 = record {
+          locals = List._++_ g7 t1;
+          slots = Row.off ∷ Row.off ∷ life2 ∷ life3 ∷ life4 ∷ life5 ∷ Row.alive ∷ Row.alive ∷ Row.off ∷ Row.off ∷
+              Row.off ∷ Row.off ∷ List.[];
+        }
+
         abbrev G15 : Row.Cx
-        G15 = record { locals = List._++_ g8 t1; slots = Row.off ∷ Row.off ∷ life2 ∷ life3 ∷ life4 ∷ life5 ∷ Row.alive ∷ Row.alive ∷ Row.off ∷ Row.off
-            ∷ Row.off ∷ Row.off ∷ List.[]; }
+        G15 = record {
+          locals = List._++_ g8 t1;
+          slots = Row.off ∷ Row.off ∷ life2 ∷ life3 ∷ life4 ∷ life5 ∷ Row.alive ∷ Row.alive ∷ Row.off ∷ Row.off ∷
+              Row.off ∷ Row.off ∷ List.[];
+        }
+
         abbrev G16 : Row.Cx
-        G16 = record { locals = List._++_ g8 t1; slots = Row.off ∷ Row.off ∷ life2 ∷ life3 ∷ life4 ∷ life5 ∷ Row.alive ∷ Row.alive ∷ Row.alive ∷
-            Row.off ∷ Row.off ∷ Row.off ∷ List.[]; }
+        G16 = record {
+          locals = List._++_ g8 t1;
+          slots = Row.off ∷ Row.off ∷ life2 ∷ life3 ∷ life4 ∷ life5 ∷ Row.alive ∷ Row.alive ∷ Row.alive ∷ Row.off ∷
+              Row.off ∷ Row.off ∷ List.[];
+        }
+
         abbrev G17 : Row.Cx
-        G17 = record { locals = List._++_ g9 t1; slots = Row.off ∷ Row.off ∷ Row.off ∷ life3 ∷ life4 ∷ life5 ∷ Row.alive ∷ Row.alive ∷ Row.alive ∷
-            Row.off ∷ Row.off ∷ Row.off ∷ List.[]; }
+        G17 = record {
+          locals = List._++_ g9 t1;
+          slots = Row.off ∷ Row.off ∷ Row.off ∷ life3 ∷ life4 ∷ life5 ∷ Row.alive ∷ Row.alive ∷ Row.alive ∷ Row.off ∷
+              Row.off ∷ Row.off ∷ List.[];
+        }
+
         abbrev G18 : Row.Cx
-        G18 = record { locals = List._++_ g10 t1; slots = Row.off ∷ Row.off ∷ Row.off ∷ life3 ∷ life4 ∷ life5 ∷ Row.alive ∷ Row.alive ∷ Row.alive ∷
-            Row.off ∷ Row.off ∷ Row.off ∷ List.[]; }
+        G18 = record {
+          locals = List._++_ g10 t1;
+          slots = Row.off ∷ Row.off ∷ Row.off ∷ life3 ∷ life4 ∷ life5 ∷ Row.alive ∷ Row.alive ∷ Row.alive ∷ Row.off ∷
+              Row.off ∷ Row.off ∷ List.[];
+        }
+
         abbrev G19 : Row.Cx
-        G19 = record { locals = List._++_ g10 t1; slots = Row.off ∷ Row.off ∷ Row.off ∷ life3 ∷ life4 ∷ life5 ∷ Row.alive ∷ Row.alive ∷ Row.alive ∷
-            Row.alive ∷ Row.off ∷ Row.off ∷ List.[]; }
+        G19 = record {
+          locals = List._++_ g10 t1;
+          slots = Row.off ∷ Row.off ∷ Row.off ∷ life3 ∷ life4 ∷ life5 ∷ Row.alive ∷ Row.alive ∷ Row.alive ∷ Row.alive ∷
+              Row.off ∷ Row.off ∷ List.[];
+        }
+
         abbrev G20 : Row.Cx
-        G20 = record { locals = List._++_ g11 t12; slots = Row.off ∷ Row.off ∷ Row.off ∷ Row.off ∷ life4 ∷ life5 ∷ Row.alive ∷ Row.alive ∷ Row.alive ∷
-            Row.alive ∷ Row.off ∷ Row.off ∷ List.[]; }
+        G20 = record {
+          locals = List._++_ g11 t12;
+          slots = Row.off ∷ Row.off ∷ Row.off ∷ Row.off ∷ life4 ∷ life5 ∷ Row.alive ∷ Row.alive ∷ Row.alive ∷ Row.alive
+              ∷ Row.off ∷ Row.off ∷ List.[];
+        }
+
         abbrev G21 : Row.Cx
-        G21 = record { locals = List._++_ g11 t13; slots = Row.off ∷ Row.off ∷ Row.off ∷ Row.off ∷ life4 ∷ life5 ∷ Row.alive ∷ Row.alive ∷ Row.alive ∷
-            Row.alive ∷ Row.off ∷ Row.off ∷ List.[]; }
+        G21 = record {
+          locals = List._++_ g11 t13;
+          slots = Row.off ∷ Row.off ∷ Row.off ∷ Row.off ∷ life4 ∷ life5 ∷ Row.alive ∷ Row.alive ∷ Row.alive ∷ Row.alive
+              ∷ Row.off ∷ Row.off ∷ List.[];
+        }
+
         abbrev G22 : Row.Cx
-        G22 = record { locals = List._++_ g11 t13; slots = Row.off ∷ Row.off ∷ Row.off ∷ Row.off ∷ life4 ∷ life5 ∷ Row.alive ∷ Row.alive ∷ Row.alive ∷
-            Row.alive ∷ Row.alive ∷ Row.off ∷ List.[]; }
+        G22 = record {
+          locals = List._++_ g11 t13;
+          slots = Row.off ∷ Row.off ∷ Row.off ∷ Row.off ∷ life4 ∷ life5 ∷ Row.alive ∷ Row.alive ∷ Row.alive ∷ Row.alive
+              ∷ Row.alive ∷ Row.off ∷ List.[];
+        }
+
         abbrev G23 : Row.Cx
-        G23 = record { locals = List._++_ g14 t15; slots = Row.off ∷ Row.off ∷ Row.off ∷ Row.off ∷ Row.off ∷ life5 ∷ Row.alive ∷ Row.alive ∷ Row.alive
-            ∷ Row.alive ∷ Row.alive ∷ Row.off ∷ List.[]; }
+        G23 = record {
+          locals = List._++_ g14 t15;
+          slots = Row.off ∷ Row.off ∷ Row.off ∷ Row.off ∷ Row.off ∷ life5 ∷ Row.alive ∷ Row.alive ∷ Row.alive ∷
+              Row.alive ∷ Row.alive ∷ Row.off ∷ List.[];
+        }
+
         abbrev G24 : Row.Cx
-        G24 = record { locals = List._++_ g14 t16; slots = Row.off ∷ Row.off ∷ Row.off ∷ Row.off ∷ Row.off ∷ life5 ∷ Row.alive ∷ Row.alive ∷ Row.alive
-            ∷ Row.alive ∷ Row.alive ∷ Row.off ∷ List.[]; }
+        G24 = record {
+          locals = List._++_ g14 t16;
+          slots = Row.off ∷ Row.off ∷ Row.off ∷ Row.off ∷ Row.off ∷ life5 ∷ Row.alive ∷ Row.alive ∷ Row.alive ∷
+              Row.alive ∷ Row.alive ∷ Row.off ∷ List.[];
+        }
+
         abbrev G25 : Row.Cx
-        G25 = record { locals = List._++_ g14 t16; slots = Row.off ∷ Row.off ∷ Row.off ∷ Row.off ∷ Row.off ∷ life5 ∷ Row.alive ∷ Row.alive ∷ Row.alive
-            ∷ Row.alive ∷ Row.alive ∷ Row.alive ∷ List.[]; }
+        G25 = record {
+          locals = List._++_ g14 t16;
+          slots = Row.off ∷ Row.off ∷ Row.off ∷ Row.off ∷ Row.off ∷ life5 ∷ Row.alive ∷ Row.alive ∷ Row.alive ∷
+              Row.alive ∷ Row.alive ∷ Row.alive ∷ List.[];
+        }
+
         abbrev G26 : Row.Cx
-        G26 = record { locals = List._++_ g17 t18; slots = Row.off ∷ Row.off ∷ Row.off ∷ Row.off ∷ Row.off ∷ Row.off ∷ Row.alive ∷ Row.alive ∷
-            Row.alive ∷ Row.alive ∷ Row.alive ∷ Row.alive ∷ List.[]; }
+        G26 = record {
+          locals = List._++_ g17 t18;
+          slots = Row.off ∷ Row.off ∷ Row.off ∷ Row.off ∷ Row.off ∷ Row.off ∷ Row.alive ∷ Row.alive ∷ Row.alive ∷
+              Row.alive ∷ Row.alive ∷ Row.alive ∷ List.[];
+        }
+
         abbrev G27 : Row.Cx
-        G27 = record { locals = List._++_ g17 t19; slots = Row.off ∷ Row.off ∷ Row.off ∷ Row.off ∷ Row.off ∷ Row.off ∷ Row.alive ∷ Row.alive ∷
-            Row.alive ∷ Row.alive ∷ Row.alive ∷ Row.alive ∷ List.[]; }
+        G27 = record {
+          locals = List._++_ g17 t19;
+          slots = Row.off ∷ Row.off ∷ Row.off ∷ Row.off ∷ Row.off ∷ Row.off ∷ Row.alive ∷ Row.alive ∷ Row.alive ∷
+              Row.alive ∷ Row.alive ∷ Row.alive ∷ List.[];
+        }
+
         abbrev G28 : Row.Cx
-        G28 = record { locals = List._++_ g20 t21; slots = Row.off ∷ Row.off ∷ Row.off ∷ Row.off ∷ Row.off ∷ Row.off ∷ Row.alive ∷ Row.alive ∷
-            Row.alive ∷ Row.alive ∷ Row.alive ∷ Row.alive ∷ List.[]; }
+        G28 = record {
+          locals = List._++_ g20 t21;
+          slots = Row.off ∷ Row.off ∷ Row.off ∷ Row.off ∷ Row.off ∷ Row.off ∷ Row.alive ∷ Row.alive ∷ Row.alive ∷
+              Row.alive ∷ Row.alive ∷ Row.alive ∷ List.[];
+        }
+
         abbrev G29 : Row.Cx
-        G29 = record { locals = List._++_ g22 t21; slots = Row.off ∷ Row.off ∷ Row.off ∷ Row.off ∷ Row.off ∷ Row.off ∷ Row.alive ∷ Row.alive ∷
-            Row.alive ∷ Row.alive ∷ Row.alive ∷ Row.alive ∷ List.[]; }
+        G29 = record {
+          locals = List._++_ g22 t21;
+          slots = Row.off ∷ Row.off ∷ Row.off ∷ Row.off ∷ Row.off ∷ Row.off ∷ Row.alive ∷ Row.alive ∷ Row.alive ∷
+              Row.alive ∷ Row.alive ∷ Row.alive ∷ List.[];
+        }
+
         abbrev G30 : Row.Cx
-        G30 = record { locals = List._++_ g22 t21; slots = Row.off ∷ Row.off ∷ Row.off ∷ Row.off ∷ Row.off ∷ Row.off ∷ Row.dead ∷ Row.alive ∷
-            Row.alive ∷ Row.alive ∷ Row.alive ∷ Row.alive ∷ List.[]; }
+        G30 = record {
+          locals = List._++_ g22 t21;
+          slots = Row.off ∷ Row.off ∷ Row.off ∷ Row.off ∷ Row.off ∷ Row.off ∷ Row.dead ∷ Row.alive ∷ Row.alive ∷
+              Row.alive ∷ Row.alive ∷ Row.alive ∷ List.[];
+        }
+
         abbrev G31 : Row.Cx
-        G31 = record { locals = List._++_ g23 t21; slots = life0 ∷ Row.off ∷ Row.off ∷ Row.off ∷ Row.off ∷ Row.off ∷ Row.dead ∷ Row.alive ∷ Row.alive
-            ∷ Row.alive ∷ Row.alive ∷ Row.alive ∷ List.[]; }
+        G31 = record {
+          locals = List._++_ g23 t21;
+          slots = life0 ∷ Row.off ∷ Row.off ∷ Row.off ∷ Row.off ∷ Row.off ∷ Row.dead ∷ Row.alive ∷ Row.alive ∷
+              Row.alive ∷ Row.alive ∷ Row.alive ∷ List.[];
+        }
+
         abbrev G32 : Row.Cx
-        G32 = record { locals = List._++_ g23 t21; slots = life0 ∷ Row.off ∷ Row.off ∷ Row.off ∷ Row.off ∷ Row.off ∷ Row.off ∷ Row.alive ∷ Row.alive ∷
-            Row.alive ∷ Row.alive ∷ Row.alive ∷ List.[]; }
+        G32 = record {
+          locals = List._++_ g23 t21;
+          slots = life0 ∷ Row.off ∷ Row.off ∷ Row.off ∷ Row.off ∷ Row.off ∷ Row.off ∷ Row.alive ∷ Row.alive ∷ Row.alive
+              ∷ Row.alive ∷ Row.alive ∷ List.[];
+        }
+
         abbrev G33 : Row.Cx
-        G33 = record { locals = List._++_ g23 t21; slots = life0 ∷ Row.off ∷ Row.off ∷ Row.off ∷ Row.off ∷ Row.off ∷ Row.off ∷ Row.dead ∷ Row.alive ∷
-            Row.alive ∷ Row.alive ∷ Row.alive ∷ List.[]; }
+        G33 = record {
+          locals = List._++_ g23 t21;
+          slots = life0 ∷ Row.off ∷ Row.off ∷ Row.off ∷ Row.off ∷ Row.off ∷ Row.off ∷ Row.dead ∷ Row.alive ∷ Row.alive
+              ∷ Row.alive ∷ Row.alive ∷ List.[];
+        }
+
         abbrev G34 : Row.Cx
-        G34 = record { locals = List._++_ g24 t21; slots = life0 ∷ life1 ∷ Row.off ∷ Row.off ∷ Row.off ∷ Row.off ∷ Row.off ∷ Row.dead ∷ Row.alive ∷
-            Row.alive ∷ Row.alive ∷ Row.alive ∷ List.[]; }
+        G34 = record {
+          locals = List._++_ g24 t21;
+          slots = life0 ∷ life1 ∷ Row.off ∷ Row.off ∷ Row.off ∷ Row.off ∷ Row.off ∷ Row.dead ∷ Row.alive ∷ Row.alive ∷
+              Row.alive ∷ Row.alive ∷ List.[];
+        }
+
         abbrev G35 : Row.Cx
-        G35 = record { locals = List._++_ g24 t21; slots = life0 ∷ life1 ∷ Row.off ∷ Row.off ∷ Row.off ∷ Row.off ∷ Row.off ∷ Row.off ∷ Row.alive ∷
-            Row.alive ∷ Row.alive ∷ Row.alive ∷ List.[]; }
+        G35 = record {
+          locals = List._++_ g24 t21;
+          slots = life0 ∷ life1 ∷ Row.off ∷ Row.off ∷ Row.off ∷ Row.off ∷ Row.off ∷ Row.off ∷ Row.alive ∷ Row.alive ∷
+              Row.alive ∷ Row.alive ∷ List.[];
+        }
+
         abbrev G36 : Row.Cx
-        G36 = record { locals = List._++_ g24 t21; slots = life0 ∷ life1 ∷ Row.off ∷ Row.off ∷ Row.off ∷ Row.off ∷ Row.off ∷ Row.off ∷ Row.dead ∷
-            Row.alive ∷ Row.alive ∷ Row.alive ∷ List.[]; }
+        G36 = record {
+          locals = List._++_ g24 t21;
+          slots = life0 ∷ life1 ∷ Row.off ∷ Row.off ∷ Row.off ∷ Row.off ∷ Row.off ∷ Row.off ∷ Row.dead ∷ Row.alive ∷
+              Row.alive ∷ Row.alive ∷ List.[];
+        }
+
         abbrev G37 : Row.Cx
-        G37 = record { locals = List._++_ g25 t21; slots = life0 ∷ life1 ∷ life2 ∷ Row.off ∷ Row.off ∷ Row.off ∷ Row.off ∷ Row.off ∷ Row.dead ∷
-            Row.alive ∷ Row.alive ∷ Row.alive ∷ List.[]; }
+        G37 = record {
+          locals = List._++_ g25 t21;
+          slots = life0 ∷ life1 ∷ life2 ∷ Row.off ∷ Row.off ∷ Row.off ∷ Row.off ∷ Row.off ∷ Row.dead ∷ Row.alive ∷
+              Row.alive ∷ Row.alive ∷ List.[];
+        }
+
         abbrev G38 : Row.Cx
-        G38 = record { locals = List._++_ g25 t21; slots = life0 ∷ life1 ∷ life2 ∷ Row.off ∷ Row.off ∷ Row.off ∷ Row.off ∷ Row.off ∷ Row.off ∷
-            Row.alive ∷ Row.alive ∷ Row.alive ∷ List.[]; }
+        G38 = record {
+          locals = List._++_ g25 t21;
+          slots = life0 ∷ life1 ∷ life2 ∷ Row.off ∷ Row.off ∷ Row.off ∷ Row.off ∷ Row.off ∷ Row.off ∷ Row.alive ∷
+              Row.alive ∷ Row.alive ∷ List.[];
+        }
+
         abbrev G39 : Row.Cx
-        G39 = record { locals = List._++_ g25 t21; slots = life0 ∷ life1 ∷ life2 ∷ Row.off ∷ Row.off ∷ Row.off ∷ Row.off ∷ Row.off ∷ Row.off ∷
-            Row.dead ∷ Row.alive ∷ Row.alive ∷ List.[]; }
+        G39 = record {
+          locals = List._++_ g25 t21;
+          slots = life0 ∷ life1 ∷ life2 ∷ Row.off ∷ Row.off ∷ Row.off ∷ Row.off ∷ Row.off ∷ Row.off ∷ Row.dead ∷
+              Row.alive ∷ Row.alive ∷ List.[];
+        }
+
         abbrev G40 : Row.Cx
-        G40 = record { locals = List._++_ g26 t27; slots = life0 ∷ life1 ∷ life2 ∷ life3 ∷ Row.off ∷ Row.off ∷ Row.off ∷ Row.off ∷ Row.off ∷ Row.dead
-            ∷ Row.alive ∷ Row.alive ∷ List.[]; }
+        G40 = record {
+          locals = List._++_ g26 t27;
+          slots = life0 ∷ life1 ∷ life2 ∷ life3 ∷ Row.off ∷ Row.off ∷ Row.off ∷ Row.off ∷ Row.off ∷ Row.dead ∷
+              Row.alive ∷ Row.alive ∷ List.[];
+        }
+
         abbrev G41 : Row.Cx
-        G41 = record { locals = List._++_ g26 t27; slots = life0 ∷ life1 ∷ life2 ∷ life3 ∷ Row.off ∷ Row.off ∷ Row.off ∷ Row.off ∷ Row.off ∷ Row.off ∷
-            Row.alive ∷ Row.alive ∷ List.[]; }
+        G41 = record {
+          locals = List._++_ g26 t27;
+          slots = life0 ∷ life1 ∷ life2 ∷ life3 ∷ Row.off ∷ Row.off ∷ Row.off ∷ Row.off ∷ Row.off ∷ Row.off ∷ Row.alive
+              ∷ Row.alive ∷ List.[];
+        }
+
         abbrev G42 : Row.Cx
-        G42 = record { locals = List._++_ g26 t27; slots = life0 ∷ life1 ∷ life2 ∷ life3 ∷ Row.off ∷ Row.off ∷ Row.off ∷ Row.off ∷ Row.off ∷ Row.off ∷
-            Row.dead ∷ Row.alive ∷ List.[]; }
+        G42 = record {
+          locals = List._++_ g26 t27;
+          slots = life0 ∷ life1 ∷ life2 ∷ life3 ∷ Row.off ∷ Row.off ∷ Row.off ∷ Row.off ∷ Row.off ∷ Row.off ∷ Row.dead
+              ∷ Row.alive ∷ List.[];
+        }
+
         abbrev G43 : Row.Cx
-        G43 = record { locals = List._++_ g28 t29; slots = life0 ∷ life1 ∷ life2 ∷ life3 ∷ life4 ∷ Row.off ∷ Row.off ∷ Row.off ∷ Row.off ∷ Row.off ∷
-            Row.dead ∷ Row.alive ∷ List.[]; }
+        G43 = record {
+          locals = List._++_ g28 t29;
+          slots = life0 ∷ life1 ∷ life2 ∷ life3 ∷ life4 ∷ Row.off ∷ Row.off ∷ Row.off ∷ Row.off ∷ Row.off ∷ Row.dead ∷
+              Row.alive ∷ List.[];
+        }
+
         abbrev G44 : Row.Cx
-        G44 = record { locals = List._++_ g28 t29; slots = life0 ∷ life1 ∷ life2 ∷ life3 ∷ life4 ∷ Row.off ∷ Row.off ∷ Row.off ∷ Row.off ∷ Row.off ∷
-            Row.dead ∷ Row.alive ∷ List.[]; }
+        G44 = record {
+          locals = List._++_ g28 t29;
+          slots = life0 ∷ life1 ∷ life2 ∷ life3 ∷ life4 ∷ Row.off ∷ Row.off ∷ Row.off ∷ Row.off ∷ Row.off ∷ Row.dead ∷
+              Row.alive ∷ List.[];
+        }
+
         abbrev G45 : Row.Cx
-        G45 = record { locals = List._++_ g28 t29; slots = life0 ∷ life1 ∷ life2 ∷ life3 ∷ life4 ∷ Row.off ∷ Row.off ∷ Row.off ∷ Row.off ∷ Row.off ∷
-            Row.off ∷ Row.alive ∷ List.[]; }
+        G45 = record {
+          locals = List._++_ g28 t29;
+          slots = life0 ∷ life1 ∷ life2 ∷ life3 ∷ life4 ∷ Row.off ∷ Row.off ∷ Row.off ∷ Row.off ∷ Row.off ∷ Row.off ∷
+              Row.alive ∷ List.[];
+        }
+
         abbrev G46 : Row.Cx
-        G46 = record { locals = List._++_ g28 t29; slots = life0 ∷ life1 ∷ life2 ∷ life3 ∷ life4 ∷ Row.off ∷ Row.off ∷ Row.off ∷ Row.off ∷ Row.off ∷
-            Row.off ∷ Row.dead ∷ List.[]; }
+        G46 = record {
+          locals = List._++_ g28 t29;
+          slots = life0 ∷ life1 ∷ life2 ∷ life3 ∷ life4 ∷ Row.off ∷ Row.off ∷ Row.off ∷ Row.off ∷ Row.off ∷ Row.off ∷
+              Row.dead ∷ List.[];
+        }
+
         abbrev G47 : Row.Cx
-        G47 = record { locals = List._++_ t3 t1; slots = life0 ∷ life1 ∷ life2 ∷ life3 ∷ life4 ∷ life5 ∷ Row.off ∷ Row.off ∷ Row.off ∷ Row.off ∷
-            Row.off ∷ Row.dead ∷ List.[]; }
+        G47 = record {
+          locals = List._++_ t3 t1;
+          slots = life0 ∷ life1 ∷ life2 ∷ life3 ∷ life4 ∷ life5 ∷ Row.off ∷ Row.off ∷ Row.off ∷ Row.off ∷ Row.off ∷
+              Row.dead ∷ List.[];
+        }
+
         abbrev G48 : Row.Cx
-        G48 = record { locals = List._++_ t3 t1; slots = life0 ∷ life1 ∷ life2 ∷ life3 ∷ life4 ∷ life5 ∷ Row.off ∷ Row.off ∷ Row.off ∷ Row.off ∷
-            Row.off ∷ Row.dead ∷ List.[]; }
+        G48 = record {
+          locals = List._++_ t3 t1;
+          slots = life0 ∷ life1 ∷ life2 ∷ life3 ∷ life4 ∷ life5 ∷ Row.off ∷ Row.off ∷ Row.off ∷ Row.off ∷ Row.off ∷
+              Row.dead ∷ List.[];
+        }
+
         abbrev G49 : Row.Cx
-        G49 = record { locals = List._++_ t3 t1; slots = life0 ∷ life1 ∷ life2 ∷ life3 ∷ life4 ∷ life5 ∷ Row.off ∷ Row.off ∷ Row.off ∷ Row.off ∷
-            Row.off ∷ Row.off ∷ List.[]; }
+        G49 = record {
+          locals = List._++_ t3 t1;
+          slots = life0 ∷ life1 ∷ life2 ∷ life3 ∷ life4 ∷ life5 ∷ Row.off ∷ Row.off ∷ Row.off ∷ Row.off ∷ Row.off ∷
+              Row.off ∷ List.[];
+        }
+
         abbrev G50 : Row.Cx
-        G50 = record { locals = List._++_ t3 t1; slots = life0 ∷ life1 ∷ life2 ∷ life3 ∷ life4 ∷ life5 ∷ Row.off ∷ Row.off ∷ Row.off ∷ Row.off ∷
-            Row.off ∷ Row.off ∷ List.[]; }
+        G50 = record {
+          locals = List._++_ t3 t1;
+          slots = life0 ∷ life1 ∷ life2 ∷ life3 ∷ life4 ∷ life5 ∷ Row.off ∷ Row.off ∷ Row.off ∷ Row.off ∷ Row.off ∷
+              Row.off ∷ List.[];
+        }
+
         abbrev G51 : Row.Cx
-        G51 = record { locals = List._++_ t30 t1; slots = life0 ∷ life1 ∷ life2 ∷ life3 ∷ life4 ∷ life5 ∷ Row.off ∷ Row.off ∷ Row.off ∷ Row.off ∷
-            Row.off ∷ Row.off ∷ List.[]; }
+        G51 = record {
+          locals = List._++_ t30 t1;
+          slots = life0 ∷ life1 ∷ life2 ∷ life3 ∷ life4 ∷ life5 ∷ Row.off ∷ Row.off ∷ Row.off ∷ Row.off ∷ Row.off ∷
+              Row.off ∷ List.[];
+        }
+
         abbrev G52 : Row.Cx
-        G52 = record { locals = List._++_ t2 t1; slots = life0 ∷ life1 ∷ life2 ∷ life3 ∷ life4 ∷ life5 ∷ Row.off ∷ Row.off ∷ Row.off ∷ Row.off ∷
-            Row.off ∷ Row.off ∷ List.[]; }
+        G52 = record {
+          locals = List._++_ t2 t1;
+          slots = life0 ∷ life1 ∷ life2 ∷ life3 ∷ life4 ∷ life5 ∷ Row.off ∷ Row.off ∷ Row.off ∷ Row.off ∷ Row.off ∷
+              Row.off ∷ List.[];
+        }
+
         abbrev Δ0 : Typed.Outs
         Δ0 = record { next = Option.none; exits = List.[]; returns = Option.some G1 }
+
         abbrev Δ1 : Typed.Outs
         Δ1 = Typed.withNext (Option.some G5) Δ0
+
         abbrev Δ2 : Typed.Outs
         Δ2 = Typed.inBlock₀ Δ1
+
         abbrev Δ3 : Typed.Outs
         Δ3 = Typed.inLoop₀ G4 Δ2
+
         abbrev Δ4 : Typed.Outs
         Δ4 = Typed.withNext (Option.some G7) Δ3
-        module _ { M : Type 1 } (𝓤 : URA.URA M) (H : Wp.Heap 𝓤) (A : Atoms.Atoms 𝓤) (W : Kit.Given 𝓤 H A) (𝓣 : Wp.Tables 𝓤 H) (known : Knowns 𝓤 H A W
-            𝓣) (bs : List.List Nat.ℕ) (bd : Lifetimes.AllOutlive 6 (Kinds.osR r) κs) where
+
+        module _ {M : Type 1} (𝓤 : URA.URA M) (H : Wp.Heap 𝓤) (A : Atoms.Atoms 𝓤) (W : Kit.Given 𝓤 H A)
+            (𝓣 : Wp.Tables 𝓤 H) (known : Knowns 𝓤 H A W 𝓣) (bs : List.List Nat.ℕ)
+            (bd : Lifetimes.AllOutlive 6 (Kinds.osR r) κs) where
           abbrev E : Wp.Env 𝓤 H
           E = Frame.EnvOf 𝓤 H ((Kinds.tyR r) ∷ (Enter.tysP ps xs)) bs
+
           d0 : Typed.Typed 𝓤 H A 𝓣 E G8 b2 Δ4 at0
           d0 = Typed.t-skip 𝓤 H A W 𝓣 E Δ4 tt
+
           d1 : Typed.Typed 𝓤 H A 𝓣 E G6 b2 Δ4 at1
-          d1 = Typed.g-pre 𝓤 H A W 𝓣 E G6 G8 b2 Δ4 (Typed.pass T6 T8 s4) at0 (Scalar.g-room 𝓤 H A W E G6 8 Syntax.tyBool (Scalar.room-sc 𝓤 H A W
-              Row.sBool)) d0
+          d1 = Typed.g-pre 𝓤 H A W 𝓣 E G6 G8 b2 Δ4 (Typed.pass T6 T8 s4) at0 (Scalar.g-room 𝓤 H A W E G6 8
+              Syntax.tyBool (Scalar.room-sc 𝓤 H A W Row.sBool)) d0
+
           d2 : Typed.Typed 𝓤 H A 𝓣 E G9 b3 Δ4 at2
           d2 = Typed.t-exit 𝓤 H A W 𝓣 E 1 Δ4 tt
+
           d3 : Typed.Typed 𝓤 H A 𝓣 E G6 b3 Δ4 at3
-          d3 = Typed.g-pre 𝓤 H A W 𝓣 E G6 G9 b3 Δ4 (Typed.pass T6 T9 s5) at2 (Scalar.g-room 𝓤 H A W E G6 8 Syntax.tyBool (Scalar.room-sc 𝓤 H A W
-              Row.sBool)) d2
+          d3 = Typed.g-pre 𝓤 H A W 𝓣 E G6 G9 b3 Δ4 (Typed.pass T6 T9 s5) at2 (Scalar.g-room 𝓤 H A W E G6 8
+              Syntax.tyBool (Scalar.room-sc 𝓤 H A W Row.sBool)) d2
+
           d4 : Typed.Typed 𝓤 H A 𝓣 E G6 b4 Δ4 at4
-          d4 = Scalar.t-cond 𝓤 H A W E 𝓣 G6 8 (λ x. x) b2 b3 Δ4 at1 at3 (Scalar.reads-sc 𝓤 H A W Row.sBool) Path.refl d1 d3
+          d4 = Scalar.t-cond 𝓤 H A W E 𝓣 G6 8 (λ x. x) b2 b3 Δ4 at1 at3 (Scalar.reads-sc 𝓤 H A W Row.sBool) Path.refl
+              d1 d3
+
           d5 : Typed.Typed 𝓤 H A 𝓣 E G49 b18 Δ3 at5
-          d5 = Typed.s-typed 𝓤 H A W 𝓣 E G49 b18 Δ3 (Typed.ask s46) tt (Scalar.t-op2 𝓤 H A W E 𝓣 G49 (Syntax.add Syntax.unsigned) (Scalar.oAt 7
-              (Syntax.tyInt Syntax.w8) (Row.valS (Row.sInt Syntax.w8))) (Scalar.oInt Syntax.w8 1) 7 (Rows.sc-here (Row.sInt Syntax.w8)) (Syntax.tyInt
-              Syntax.w8) (Row.valS (Row.sInt Syntax.w8)) (Row.sInt Syntax.w8 .of) (Scalar.reads-sc 𝓤 H A W (Row.sInt Syntax.w8), Path.refl) tt
-              (Scalar.room-sc 𝓤 H A W (Row.sInt Syntax.w8)) (Scalar.holds-sc 𝓤 H A W (Row.sInt Syntax.w8)) Path.refl (λ u. Path.refl) λ u. tt)
+          d5 = Typed.s-typed 𝓤 H A W 𝓣 E G49 b18 Δ3 (Typed.ask s46) tt (Scalar.t-op2 𝓤 H A W E 𝓣 G49
+              (Syntax.add Syntax.unsigned) (Scalar.oAt 7 (Syntax.tyInt Syntax.w8) (Row.valS (Row.sInt Syntax.w8)))
+              (Scalar.oInt Syntax.w8 1) 7 (Rows.sc-here (Row.sInt Syntax.w8)) (Syntax.tyInt Syntax.w8)
+              (Row.valS (Row.sInt Syntax.w8)) (Row.sInt Syntax.w8 .of)
+              (Scalar.reads-sc 𝓤 H A W (Row.sInt Syntax.w8), Path.refl) tt
+              (Scalar.room-sc 𝓤 H A W (Row.sInt Syntax.w8)) (Scalar.holds-sc 𝓤 H A W (Row.sInt Syntax.w8)) Path.refl
+              (λ u. Path.refl) λ u. tt)
+
           d6 : Typed.Typed 𝓤 H A 𝓣 E G48 b18 Δ3 at6
-          d6 = Typed.g-pre 𝓤 H A W 𝓣 E G48 G49 b18 Δ3 (λ Ψ. Ψ) at5 (Lifetime.g-forget 𝓤 H A W E G48 11 Row.dead Path.refl) d5
+          d6 = Typed.g-pre 𝓤 H A W 𝓣 E G48 G49 b18 Δ3 (λ Ψ. Ψ) at5
+              (Lifetime.g-forget 𝓤 H A W E G48 11 Row.dead Path.refl) d5
+
           d7 : Typed.Typed 𝓤 H A 𝓣 E G47 b18 Δ3 at7
-          d7 = Typed.g-pre 𝓤 H A W 𝓣 E G47 G48 b18 Δ3 (Typed.give s44) at6 (Know.g-sl-known 𝓤 H A W (Referent.fInt Syntax.w8) E G47 6 5 ref11 life5 0
-              (λ x. x) record { fits = Dec.lit< tt } (Reads.as-is 𝓤 H A (Mut.mslice (Referent.rtF (Referent.fInt Syntax.w8)) ref11 5)) Path.refl tt)
-              d6
+          d7 = Typed.g-pre 𝓤 H A W 𝓣 E G47 G48 b18 Δ3 (Typed.give s44) at6 (Know.g-sl-known 𝓤 H A W
+              (Referent.fInt Syntax.w8) E G47 6 5 ref11 life5 0 (λ x. x) record { fits = Dec.lit< tt } (Reads.as-is 𝓤 H
+              A (Mut.mslice (Referent.rtF (Referent.fInt Syntax.w8)) ref11 5)) Path.refl tt) d6
+
           d8 : Typed.Typed 𝓤 H A 𝓣 E G46 b18 Δ3 at8
-          d8 = Typed.g-pre 𝓤 H A W 𝓣 E G46 G47 b18 Δ3 (Typed.both s43) at7 (Relend.g-back-sl 𝓤 H A W E (Referent.rtF (Referent.fInt Syntax.w8)) G46 21
-              6 5 11 ref11 ref5 life5 (λ x. x) (λ x. x) (Reads.as-is 𝓤 H A (Mut.msleft (Referent.rtF (Referent.fInt Syntax.w8)) ref5)) (Reads.as-is 𝓤
-              H A (Relend.mslice-owed (Referent.rtF (Referent.fInt Syntax.w8)) ref11 5 11 life5)) Path.refl Path.refl) d7
+          d8 = Typed.g-pre 𝓤 H A W 𝓣 E G46 G47 b18 Δ3 (Typed.both s43) at7 (Relend.g-back-sl 𝓤 H A W E
+              (Referent.rtF (Referent.fInt Syntax.w8)) G46 21 6 5 11 ref11 ref5 life5 (λ x. x) (λ x. x) (Reads.as-is 𝓤
+              H A (Mut.msleft (Referent.rtF (Referent.fInt Syntax.w8)) ref5)) (Reads.as-is 𝓤 H A (Relend.mslice-owed
+              (Referent.rtF (Referent.fInt Syntax.w8)) ref11 5 11 life5)) Path.refl Path.refl) d7
+
           d9 : Typed.Typed 𝓤 H A 𝓣 E G45 b18 Δ3 at9
           d9 = Typed.g-pre 𝓤 H A W 𝓣 E G45 G46 b18 Δ3 (λ Ψ. Ψ) at8 (Lifetime.g-end 𝓤 H A W E G45 11 Path.refl) d8
+
           d10 : Typed.Typed 𝓤 H A 𝓣 E G44 b18 Δ3 at10
-          d10 = Typed.g-pre 𝓤 H A W 𝓣 E G44 G45 b18 Δ3 (λ Ψ. Ψ) at9 (Lifetime.g-forget 𝓤 H A W E G44 10 Row.dead Path.refl) d9
+          d10 = Typed.g-pre 𝓤 H A W 𝓣 E G44 G45 b18 Δ3 (λ Ψ. Ψ) at9
+              (Lifetime.g-forget 𝓤 H A W E G44 10 Row.dead Path.refl) d9
+
           d11 : Typed.Typed 𝓤 H A 𝓣 E G43 b18 Δ3 at11
-          d11 = Typed.g-pre 𝓤 H A W 𝓣 E G43 G44 b18 Δ3 (Typed.give s40) at10 (Know.g-sl-known 𝓤 H A W (Referent.fInt Syntax.w32) E G43 5 4 ref10 life4
-              0 (λ x. x) record { fits = Dec.lit< tt } (Reads.as-is 𝓤 H A (Mut.mslice (Referent.rtF (Referent.fInt Syntax.w32)) ref10 4)) Path.refl
-              tt) d10
+          d11 = Typed.g-pre 𝓤 H A W 𝓣 E G43 G44 b18 Δ3 (Typed.give s40) at10 (Know.g-sl-known 𝓤 H A W
+              (Referent.fInt Syntax.w32) E G43 5 4 ref10 life4 0 (λ x. x) record { fits = Dec.lit< tt } (Reads.as-is 𝓤
+              H A (Mut.mslice (Referent.rtF (Referent.fInt Syntax.w32)) ref10 4)) Path.refl tt) d10
+
           d12 : Typed.Typed 𝓤 H A 𝓣 E G42 b18 Δ3 at12
-          d12 = Typed.g-pre 𝓤 H A W 𝓣 E G42 G43 b18 Δ3 (Typed.both s39) at11 (Relend.g-back-sl 𝓤 H A W E (Referent.rtF (Referent.fInt Syntax.w32)) G42
-              19 5 4 10 ref10 ref4 life4 (λ x. x) (λ x. x) (Reads.as-is 𝓤 H A (Mut.msleft (Referent.rtF (Referent.fInt Syntax.w32)) ref4))
-              (Reads.as-is 𝓤 H A (Relend.mslice-owed (Referent.rtF (Referent.fInt Syntax.w32)) ref10 4 10 life4)) Path.refl Path.refl) d11
+          d12 = Typed.g-pre 𝓤 H A W 𝓣 E G42 G43 b18 Δ3 (Typed.both s39) at11 (Relend.g-back-sl 𝓤 H A W E
+              (Referent.rtF (Referent.fInt Syntax.w32)) G42 19 5 4 10 ref10 ref4 life4 (λ x. x) (λ x. x) (Reads.as-is 𝓤
+              H A (Mut.msleft (Referent.rtF (Referent.fInt Syntax.w32)) ref4)) (Reads.as-is 𝓤 H A (Relend.mslice-owed
+              (Referent.rtF (Referent.fInt Syntax.w32)) ref10 4 10 life4)) Path.refl Path.refl) d11
+
           d13 : Typed.Typed 𝓤 H A 𝓣 E G41 b18 Δ3 at13
           d13 = Typed.g-pre 𝓤 H A W 𝓣 E G41 G42 b18 Δ3 (λ Ψ. Ψ) at12 (Lifetime.g-end 𝓤 H A W E G41 10 Path.refl) d12
+
           d14 : Typed.Typed 𝓤 H A 𝓣 E G40 b18 Δ3 at14
-          d14 = Typed.g-pre 𝓤 H A W 𝓣 E G40 G41 b18 Δ3 (λ Ψ. Ψ) at13 (Lifetime.g-forget 𝓤 H A W E G40 9 Row.dead Path.refl) d13
+          d14 = Typed.g-pre 𝓤 H A W 𝓣 E G40 G41 b18 Δ3 (λ Ψ. Ψ) at13
+              (Lifetime.g-forget 𝓤 H A W E G40 9 Row.dead Path.refl) d13
+
           d15 : Typed.Typed 𝓤 H A 𝓣 E G39 b18 Δ3 at15
-          d15 = Typed.g-pre 𝓤 H A W 𝓣 E G39 G40 b18 Δ3 (Typed.both s36) at14 (Relend.g-back-sl 𝓤 H A W E InflightAction.row G39 17 4 3 9 ref9 ref3
-              life3 (λ x. x) (λ x. x) (Reads.as-is 𝓤 H A (Mut.msleft InflightAction.row ref3)) (Reads.as-is 𝓤 H A (Relend.mslice-owed
-              InflightAction.row ref9 3 9 life3)) Path.refl Path.refl) d14
+          d15 = Typed.g-pre 𝓤 H A W 𝓣 E G39 G40 b18 Δ3 (Typed.both s36) at14 (Relend.g-back-sl 𝓤 H A W E
+              InflightAction.row G39 17 4 3 9 ref9 ref3 life3 (λ x. x) (λ x. x)
+              (Reads.as-is 𝓤 H A (Mut.msleft InflightAction.row ref3)) (Reads.as-is 𝓤 H A
+              (Relend.mslice-owed InflightAction.row ref9 3 9 life3)) Path.refl Path.refl) d14
+
           d16 : Typed.Typed 𝓤 H A 𝓣 E G38 b18 Δ3 at16
           d16 = Typed.g-pre 𝓤 H A W 𝓣 E G38 G39 b18 Δ3 (λ Ψ. Ψ) at15 (Lifetime.g-end 𝓤 H A W E G38 9 Path.refl) d15
+
           d17 : Typed.Typed 𝓤 H A 𝓣 E G37 b18 Δ3 at17
-          d17 = Typed.g-pre 𝓤 H A W 𝓣 E G37 G38 b18 Δ3 (λ Ψ. Ψ) at16 (Lifetime.g-forget 𝓤 H A W E G37 8 Row.dead Path.refl) d16
+          d17 = Typed.g-pre 𝓤 H A W 𝓣 E G37 G38 b18 Δ3 (λ Ψ. Ψ) at16
+              (Lifetime.g-forget 𝓤 H A W E G37 8 Row.dead Path.refl) d16
+
           d18 : Typed.Typed 𝓤 H A 𝓣 E G36 b18 Δ3 at18
-          d18 = Typed.g-pre 𝓤 H A W 𝓣 E G36 G37 b18 Δ3 (Typed.both s33) at17 (Relend.g-back-sl 𝓤 H A W E ReservationUsage.row G36 15 3 2 8 ref8 ref2
-              life2 (λ x. x) (λ x. x) (Reads.as-is 𝓤 H A (Mut.msleft ReservationUsage.row ref2)) (Reads.as-is 𝓤 H A (Relend.mslice-owed
-              ReservationUsage.row ref8 2 8 life2)) Path.refl Path.refl) d17
+          d18 = Typed.g-pre 𝓤 H A W 𝓣 E G36 G37 b18 Δ3 (Typed.both s33) at17 (Relend.g-back-sl 𝓤 H A W E
+              ReservationUsage.row G36 15 3 2 8 ref8 ref2 life2 (λ x. x) (λ x. x)
+              (Reads.as-is 𝓤 H A (Mut.msleft ReservationUsage.row ref2)) (Reads.as-is 𝓤 H A
+              (Relend.mslice-owed ReservationUsage.row ref8 2 8 life2)) Path.refl Path.refl) d17
+
           d19 : Typed.Typed 𝓤 H A 𝓣 E G35 b18 Δ3 at19
           d19 = Typed.g-pre 𝓤 H A W 𝓣 E G35 G36 b18 Δ3 (λ Ψ. Ψ) at18 (Lifetime.g-end 𝓤 H A W E G35 8 Path.refl) d18
+
           d20 : Typed.Typed 𝓤 H A 𝓣 E G34 b18 Δ3 at20
-          d20 = Typed.g-pre 𝓤 H A W 𝓣 E G34 G35 b18 Δ3 (λ Ψ. Ψ) at19 (Lifetime.g-forget 𝓤 H A W E G34 7 Row.dead Path.refl) d19
+          d20 = Typed.g-pre 𝓤 H A W 𝓣 E G34 G35 b18 Δ3 (λ Ψ. Ψ) at19
+              (Lifetime.g-forget 𝓤 H A W E G34 7 Row.dead Path.refl) d19
+
           d21 : Typed.Typed 𝓤 H A 𝓣 E G33 b18 Δ3 at21
-          d21 = Typed.g-pre 𝓤 H A W 𝓣 E G33 G34 b18 Δ3 (Typed.both s30) at20 (Relend.g-back-sl 𝓤 H A W E RelayCircuit.row G33 13 2 1 7 ref7 ref1 life1
-              (λ x. x) (λ x. x) (Reads.as-is 𝓤 H A (Mut.msleft RelayCircuit.row ref1)) (Reads.as-is 𝓤 H A (Relend.mslice-owed RelayCircuit.row ref7 1
-              7 life1)) Path.refl Path.refl) d20
+          d21 = Typed.g-pre 𝓤 H A W 𝓣 E G33 G34 b18 Δ3 (Typed.both s30) at20 (Relend.g-back-sl 𝓤 H A W E
+              RelayCircuit.row G33 13 2 1 7 ref7 ref1 life1 (λ x. x) (λ x. x)
+              (Reads.as-is 𝓤 H A (Mut.msleft RelayCircuit.row ref1)) (Reads.as-is 𝓤 H A
+              (Relend.mslice-owed RelayCircuit.row ref7 1 7 life1)) Path.refl Path.refl) d20
+
           d22 : Typed.Typed 𝓤 H A 𝓣 E G32 b18 Δ3 at22
           d22 = Typed.g-pre 𝓤 H A W 𝓣 E G32 G33 b18 Δ3 (λ Ψ. Ψ) at21 (Lifetime.g-end 𝓤 H A W E G32 7 Path.refl) d21
+
           d23 : Typed.Typed 𝓤 H A 𝓣 E G31 b18 Δ3 at23
-          d23 = Typed.g-pre 𝓤 H A W 𝓣 E G31 G32 b18 Δ3 (λ Ψ. Ψ) at22 (Lifetime.g-forget 𝓤 H A W E G31 6 Row.dead Path.refl) d22
+          d23 = Typed.g-pre 𝓤 H A W 𝓣 E G31 G32 b18 Δ3 (λ Ψ. Ψ) at22
+              (Lifetime.g-forget 𝓤 H A W E G31 6 Row.dead Path.refl) d22
+
           d24 : Typed.Typed 𝓤 H A 𝓣 E G30 b18 Δ3 at24
-          d24 = Typed.g-pre 𝓤 H A W 𝓣 E G30 G31 b18 Δ3 (Typed.both s27) at23 (Relend.g-back-sl 𝓤 H A W E RelayPending.row G30 11 1 0 6 ref6 ref0 life0
-              (λ x. x) (λ x. x) (Reads.as-is 𝓤 H A (Mut.msleft RelayPending.row ref0)) (Reads.as-is 𝓤 H A (Relend.mslice-owed RelayPending.row ref6 0
-              6 life0)) Path.refl Path.refl) d23
+          d24 = Typed.g-pre 𝓤 H A W 𝓣 E G30 G31 b18 Δ3 (Typed.both s27) at23 (Relend.g-back-sl 𝓤 H A W E
+              RelayPending.row G30 11 1 0 6 ref6 ref0 life0 (λ x. x) (λ x. x)
+              (Reads.as-is 𝓤 H A (Mut.msleft RelayPending.row ref0)) (Reads.as-is 𝓤 H A
+              (Relend.mslice-owed RelayPending.row ref6 0 6 life0)) Path.refl Path.refl) d23
+
           d25 : Typed.Typed 𝓤 H A 𝓣 E G29 b18 Δ3 at25
           d25 = Typed.g-pre 𝓤 H A W 𝓣 E G29 G30 b18 Δ3 (λ Ψ. Ψ) at24 (Lifetime.g-end 𝓤 H A W E G29 6 Path.refl) d24
+
           d26 : Typed.Typed 𝓤 H A 𝓣 E G28 b18 Δ3 at26
-          d26 = Typed.g-pre 𝓤 H A W 𝓣 E G28 G29 b18 Δ3 (Typed.pass T28 T29 s25) at25 (Scalar.g-room 𝓤 H A W E G28 9 Syntax.tyUnit (Scalar.room-sc 𝓤 H
-              A W Row.sUnit)) d25
+          d26 = Typed.g-pre 𝓤 H A W 𝓣 E G28 G29 b18 Δ3 (Typed.pass T28 T29 s25) at25 (Scalar.g-room 𝓤 H A W E G28 9
+              Syntax.tyUnit (Scalar.room-sc 𝓤 H A W Row.sUnit)) d25
+
           d27 : Typed.Typed 𝓤 H A 𝓣 E G27 b19 Δ3 at27
-          d27 = Typed.s-seq 𝓤 H A W 𝓣 E G27 G28 b17 b18 Δ3 (Typed.both s24) at26 (Plain.t-call-plain 𝓤 H A W 𝓣 6 ps·0 r·0 (claims· .0) (claims· .1)
-              "cases::machine::one_case" known E (λ pos β. β) G27 (record { pos = 11; ty = Syntax.tyRef Syntax.erased Syntax.mut RelayPending.to; ref
-              = λ x. x; }, (record { pos = 13; ty = Syntax.tyRef Syntax.erased Syntax.mut RelayCircuit.to; ref = λ x. x; }, (record { pos = 15; ty =
-              Syntax.tyRef Syntax.erased Syntax.mut ReservationUsage.to; ref = λ x. x; }, (record { pos = 17; ty = Syntax.tyRef Syntax.erased
-              Syntax.mut InflightAction.to; ref = λ x. x; }, (record { pos = 19; ty = Syntax.tyRef Syntax.erased Syntax.mut (Syntax.tyInt Syntax.w32);
-              ref = λ x. x; }, (record { pos = 21; ty = Syntax.tyRef Syntax.erased Syntax.mut (Syntax.tyInt Syntax.w8); ref = λ x. x; }, (Num.vAt 7 λ
-              x. x, tt),),),),),),) 9 (6 ∷ 7 ∷ 8 ∷ 9 ∷ 10 ∷ 11 ∷ List.[]) (Call.sub-id 𝓤 H A W (G27 .slots)) (Reads.as-is 𝓤 H A (Mut.mslice
-              RelayPending.row ref0 6), Mut.reads-mslice 𝓤 H A W RelayPending.row ref0 6, Path.refl, (Reads.as-is 𝓤 H A (Mut.mslice RelayCircuit.row
-              ref1 7), Mut.reads-mslice 𝓤 H A W RelayCircuit.row ref1 7, Path.refl, (Reads.as-is 𝓤 H A (Mut.mslice ReservationUsage.row ref2 8),
-              Mut.reads-mslice 𝓤 H A W ReservationUsage.row ref2 8, Path.refl, (Reads.as-is 𝓤 H A (Mut.mslice InflightAction.row ref3 9),
-              Mut.reads-mslice 𝓤 H A W InflightAction.row ref3 9, Path.refl, (Reads.as-is 𝓤 H A (Mut.mslice (Referent.rtF (Referent.fInt Syntax.w32))
-              ref4 10), Mut.reads-mslice 𝓤 H A W (Referent.rtF (Referent.fInt Syntax.w32)) ref4 10, Path.refl, (Reads.as-is 𝓤 H A (Mut.mslice
-              (Referent.rtF (Referent.fInt Syntax.w8)) ref5 11), Mut.reads-mslice 𝓤 H A W (Referent.rtF (Referent.fInt Syntax.w8)) ref5 11, Path.refl,
-              ((Scalar.reads-sc 𝓤 H A W (Row.sInt Syntax.w8), Path.refl), tt),),),),),),) (Reads.room-gone 𝓤 H A Syntax.tyUnit) (tt, (tt, (tt, (tt,
-              (tt, (tt, tt)))))) Path.refl) d26
+          d27 = Typed.s-seq 𝓤 H A W 𝓣 E G27 G28 b17 b18 Δ3 (Typed.both s24) at26 (Plain.t-call-plain 𝓤 H A W 𝓣 6 ps·0
+              r·0 (claims· .0) (claims· .1) "cases::machine::one_case" known E (λ pos β. β) G27 (
+                record { pos = 11; ty = ref0; ref = λ x. x },
+                (
+                  record { pos = 13; ty = ref1; ref = λ x. x },
+                  (
+                    record { pos = 15; ty = ref2; ref = λ x. x },
+                    (
+                      record { pos = 17; ty = ref3; ref = λ x. x },
+                      (
+                        record { pos = 19; ty = ref4; ref = λ x. x },
+                        (record { pos = 21; ty = ref5; ref = λ x. x }, (Num.vAt 7 λ x. x, tt)),
+                      ),
+                    ),
+                  ),
+                ),
+              ) 9 (6 ∷ 7 ∷ 8 ∷ 9 ∷ 10 ∷ 11 ∷ List.[]) (Call.sub-id 𝓤 H A W (G27 .slots)) (
+                Reads.as-is 𝓤 H A (Mut.mslice RelayPending.row ref0 6),
+                Mut.reads-mslice 𝓤 H A W RelayPending.row ref0 6,
+                Path.refl,
+                (
+                  Reads.as-is 𝓤 H A (Mut.mslice RelayCircuit.row ref1 7),
+                  Mut.reads-mslice 𝓤 H A W RelayCircuit.row ref1 7,
+                  Path.refl,
+                  (
+                    Reads.as-is 𝓤 H A (Mut.mslice ReservationUsage.row ref2 8),
+                    Mut.reads-mslice 𝓤 H A W ReservationUsage.row ref2 8,
+                    Path.refl,
+                    (
+                      Reads.as-is 𝓤 H A (Mut.mslice InflightAction.row ref3 9),
+                      Mut.reads-mslice 𝓤 H A W InflightAction.row ref3 9,
+                      Path.refl,
+                      (
+                        Reads.as-is 𝓤 H A (Mut.mslice (Referent.rtF (Referent.fInt Syntax.w32)) ref4 10),
+                        Mut.reads-mslice 𝓤 H A W (Referent.rtF (Referent.fInt Syntax.w32)) ref4 10,
+                        Path.refl,
+                        (
+                          Reads.as-is 𝓤 H A (Mut.mslice (Referent.rtF (Referent.fInt Syntax.w8)) ref5 11),
+                          Mut.reads-mslice 𝓤 H A W (Referent.rtF (Referent.fInt Syntax.w8)) ref5 11,
+                          Path.refl,
+                          ((Scalar.reads-sc 𝓤 H A W (Row.sInt Syntax.w8), Path.refl), tt),
+                        ),
+                      ),
+                    ),
+                  ),
+                ),
+              ) (Reads.room-gone 𝓤 H A Syntax.tyUnit) (tt, (tt, (tt, (tt, (tt, (tt, tt)))))) Path.refl) d26
+
           d28 : Typed.Typed 𝓤 H A 𝓣 E G26 b20 Δ3 at28
-          d28 = Typed.s-seq 𝓤 H A W 𝓣 E G26 G27 b16 b19 Δ3 (Typed.ask s23) at27 (Relend.t-sl-aggregate 𝓤 H A W E (Referent.rtF (Referent.fInt
-              Syntax.w8)) 𝓣 (Relend.asMut (Referent.rtF (Referent.fInt Syntax.w8))) G26 20 21 11 ref5 ref5 (λ x. x) (Scalar.oFld 6 ((Syntax.field 1) ∷
-              List.[]) (Syntax.tyInt Syntax.w64) 8 λ v. Shared.lenV (v .0)) (Reads.as-is 𝓤 H A (Relend.msptr (Referent.rtF (Referent.fInt Syntax.w8))
-              ref5 11)) (Reads.room-gone 𝓤 H A (Syntax.tyStruct (38 ∷ 91 ∷ 93 ∷ List.[]) (Syntax.tcons ref5 (Syntax.tcons (Syntax.tyInt Syntax.w64)
-              Syntax.tnil)))) (Relend.reads-owed-len 𝓤 H A W (Referent.rtF (Referent.fInt Syntax.w8)) ref11 5 11 life5 8 Path.refl, Path.refl,)
-              Path.refl Path.refl λ b o k. tt) d27
+          d28 = Typed.s-seq 𝓤 H A W 𝓣 E G26 G27 b16 b19 Δ3 (Typed.ask s23) at27 (Relend.t-sl-aggregate 𝓤 H A W E
+              (Referent.rtF (Referent.fInt Syntax.w8)) 𝓣 (Relend.asMut (Referent.rtF (Referent.fInt Syntax.w8))) G26 20
+              21 11 ref5 ref5 (λ x. x) (Scalar.oFld 6 ((Syntax.field 1) ∷ List.[]) (Syntax.tyInt Syntax.w64) 8 λ v.
+              Shared.lenV (v .0)) (Reads.as-is 𝓤 H A (Relend.msptr (Referent.rtF (Referent.fInt Syntax.w8)) ref5 11))
+              (Reads.room-gone 𝓤 H A slice5) (
+                Relend.reads-owed-len 𝓤 H A W (Referent.rtF (Referent.fInt Syntax.w8)) ref11 5 11 life5 8 Path.refl,
+                Path.refl,
+              ) Path.refl Path.refl λ b o k. tt) d27
+
           d29 : Typed.Typed 𝓤 H A 𝓣 E G25 b21 Δ3 at29
-          d29 = Typed.s-seq 𝓤 H A W 𝓣 E G25 G26 b15 b20 Δ3 (Typed.give s22) at28 (Relend.t-sl-relend 𝓤 H A W E (Referent.rtF (Referent.fInt
-              Syntax.w8)) 𝓣 G25 6 20 5 11 ref11 ref5 life5 0 (λ x. x) (Reads.as-is 𝓤 H A (Mut.mslice (Referent.rtF (Referent.fInt Syntax.w8)) ref11
-              5)) (Reads.room-gone 𝓤 H A ref5) Path.refl tt Path.refl Path.refl Path.refl λ b o. tt) d28
+          d29 = Typed.s-seq 𝓤 H A W 𝓣 E G25 G26 b15 b20 Δ3 (Typed.give s22) at28 (Relend.t-sl-relend 𝓤 H A W E
+              (Referent.rtF (Referent.fInt Syntax.w8)) 𝓣 G25 6 20 5 11 ref11 ref5 life5 0 (λ x. x) (Reads.as-is 𝓤 H A (Mut.mslice
+              (Referent.rtF (Referent.fInt Syntax.w8)) ref11 5)) (Reads.room-gone 𝓤 H A ref5) Path.refl tt Path.refl
+              Path.refl Path.refl λ b o. tt) d28
+
           d30 : Typed.Typed 𝓤 H A 𝓣 E G24 b21 Δ3 at30
-          d30 = Typed.g-pre 𝓤 H A W 𝓣 E G24 G25 b21 Δ3 (λ Ψ. Ψ) at29 (Lifetime.g-begin 𝓤 H A W E G24 11 (tt, ((tt, tt), ((tt, tt), ((tt, tt), ((tt,
-              tt), ((tt, tt), (tt, (tt, (tt, (tt, (tt, (tt, (tt, (tt, (tt, (tt, (tt, (tt, (tt, (tt, (tt, (tt, tt))))))),),),),),),),),),),),),),),),))
-              d29
+          d30 = Typed.g-pre 𝓤 H A W 𝓣 E G24 G25 b21 Δ3 (λ Ψ. Ψ) at29 (Lifetime.g-begin 𝓤 H A W E G24 11 (
+            tt,
+            (
+              (tt, tt),
+              (
+                (tt, tt),
+                (
+                  (tt, tt),
+                  (
+                    (tt, tt),
+                    (
+                      (tt, tt),
+                      (
+                        tt,
+                        (tt, (tt, (tt, (tt, (tt, (tt, (tt, (tt, (tt, (tt, (tt, (tt, (tt, (tt, (tt, tt))))))))))))))),
+                      ),
+                    ),
+                  ),
+                ),
+              ),
+            ),
+          )) d29
+
           d31 : Typed.Typed 𝓤 H A 𝓣 E G23 b22 Δ3 at31
-          d31 = Typed.s-seq 𝓤 H A W 𝓣 E G23 G24 b14 b21 Δ3 (Typed.ask s20) at30 (Relend.t-sl-aggregate 𝓤 H A W E (Referent.rtF (Referent.fInt
-              Syntax.w32)) 𝓣 (Relend.asMut (Referent.rtF (Referent.fInt Syntax.w32))) G23 18 19 10 ref4 ref4 (λ x. x) (Scalar.oFld 5 ((Syntax.field 1)
-              ∷ List.[]) (Syntax.tyInt Syntax.w64) 8 λ v. Shared.lenV (v .0)) (Reads.as-is 𝓤 H A (Relend.msptr (Referent.rtF (Referent.fInt
-              Syntax.w32)) ref4 10)) (Reads.room-gone 𝓤 H A (Syntax.tyStruct (38 ∷ 91 ∷ 93 ∷ List.[]) (Syntax.tcons ref4 (Syntax.tcons (Syntax.tyInt
-              Syntax.w64) Syntax.tnil)))) (Relend.reads-owed-len 𝓤 H A W (Referent.rtF (Referent.fInt Syntax.w32)) ref10 4 10 life4 8 Path.refl,
-              Path.refl,) Path.refl Path.refl λ b o k. tt) d30
+          d31 = Typed.s-seq 𝓤 H A W 𝓣 E G23 G24 b14 b21 Δ3 (Typed.ask s20) at30 (Relend.t-sl-aggregate 𝓤 H A W E
+              (Referent.rtF (Referent.fInt Syntax.w32)) 𝓣 (Relend.asMut (Referent.rtF (Referent.fInt Syntax.w32))) G23
+              18 19 10 ref4 ref4 (λ x. x) (Scalar.oFld 5 ((Syntax.field 1) ∷ List.[]) (Syntax.tyInt Syntax.w64) 8 λ v.
+              Shared.lenV (v .0)) (Reads.as-is 𝓤 H A (Relend.msptr (Referent.rtF (Referent.fInt Syntax.w32)) ref4 10))
+              (Reads.room-gone 𝓤 H A slice4) (
+                Relend.reads-owed-len 𝓤 H A W (Referent.rtF (Referent.fInt Syntax.w32)) ref10 4 10 life4 8 Path.refl,
+                Path.refl,
+              ) Path.refl Path.refl λ b o k. tt) d30
+
           d32 : Typed.Typed 𝓤 H A 𝓣 E G22 b23 Δ3 at32
-          d32 = Typed.s-seq 𝓤 H A W 𝓣 E G22 G23 b13 b22 Δ3 (Typed.give s19) at31 (Relend.t-sl-relend 𝓤 H A W E (Referent.rtF (Referent.fInt
-              Syntax.w32)) 𝓣 G22 5 18 4 10 ref10 ref4 life4 0 (λ x. x) (Reads.as-is 𝓤 H A (Mut.mslice (Referent.rtF (Referent.fInt Syntax.w32)) ref10
-              4)) (Reads.room-gone 𝓤 H A ref4) Path.refl tt Path.refl Path.refl Path.refl λ b o. tt) d31
+          d32 = Typed.s-seq 𝓤 H A W 𝓣 E G22 G23 b13 b22 Δ3 (Typed.give s19) at31 (Relend.t-sl-relend 𝓤 H A W E
+              (Referent.rtF (Referent.fInt Syntax.w32)) 𝓣 G22 5 18 4 10 ref10 ref4 life4 0 (λ x. x) (Reads.as-is 𝓤 H A (Mut.mslice
+              (Referent.rtF (Referent.fInt Syntax.w32)) ref10 4)) (Reads.room-gone 𝓤 H A ref4) Path.refl tt Path.refl
+              Path.refl Path.refl λ b o. tt) d31
+
           d33 : Typed.Typed 𝓤 H A 𝓣 E G21 b23 Δ3 at33
-          d33 = Typed.g-pre 𝓤 H A W 𝓣 E G21 G22 b23 Δ3 (λ Ψ. Ψ) at32 (Lifetime.g-begin 𝓤 H A W E G21 10 (tt, ((tt, tt), ((tt, tt), ((tt, tt), ((tt,
-              tt), (tt, (tt, (tt, (tt, (tt, (tt, (tt, (tt, (tt, (tt, (tt, (tt, (tt, (tt, (tt, (tt, (tt, tt))))))),),),),),),),),),),),),),),),)) d32
+          d33 = Typed.g-pre 𝓤 H A W 𝓣 E G21 G22 b23 Δ3 (λ Ψ. Ψ) at32 (Lifetime.g-begin 𝓤 H A W E G21 10 (
+            tt,
+            (
+              (tt, tt),
+              (
+                (tt, tt),
+                (
+                  (tt, tt),
+                  (
+                    (tt, tt),
+                    (
+                      tt,
+                      (
+                        tt,
+                        (tt, (tt, (tt, (tt, (tt, (tt, (tt, (tt, (tt, (tt, (tt, (tt, (tt, (tt, (tt, tt))))))))))))))),
+                      ),
+                    ),
+                  ),
+                ),
+              ),
+            ),
+          )) d32
+
           d34 : Typed.Typed 𝓤 H A 𝓣 E G20 b24 Δ3 at34
-          d34 = Typed.s-seq 𝓤 H A W 𝓣 E G20 G21 b12 b23 Δ3 (Typed.ask s17) at33 (Relend.t-sl-aggregate 𝓤 H A W E InflightAction.row 𝓣 (Relend.asMut
-              InflightAction.row) G20 16 17 9 ref3 ref3 (λ x. x) (Scalar.oFld 4 ((Syntax.field 1) ∷ List.[]) (Syntax.tyInt Syntax.w64) 8 λ v.
-              Shared.lenV (v .0)) (Reads.as-is 𝓤 H A (Relend.msptr InflightAction.row ref3 9)) (Reads.room-gone 𝓤 H A (Syntax.tyStruct (38 ∷ 91 ∷ 93 ∷
-              List.[]) (Syntax.tcons ref3 (Syntax.tcons (Syntax.tyInt Syntax.w64) Syntax.tnil)))) (Relend.reads-owed-len 𝓤 H A W InflightAction.row
-              ref9 3 9 life3 8 Path.refl, Path.refl,) Path.refl Path.refl λ b o k. tt) d33
+          d34 = Typed.s-seq 𝓤 H A W 𝓣 E G20 G21 b12 b23 Δ3 (Typed.ask s17) at33 (Relend.t-sl-aggregate 𝓤 H A W E
+              InflightAction.row 𝓣 (Relend.asMut InflightAction.row) G20 16 17 9 ref3 ref3 (λ x. x) (Scalar.oFld 4
+              ((Syntax.field 1) ∷ List.[]) (Syntax.tyInt Syntax.w64) 8 λ v. Shared.lenV (v .0)) (Reads.as-is 𝓤 H A
+              (Relend.msptr InflightAction.row ref3 9)) (Reads.room-gone 𝓤 H A slice3) (
+                Relend.reads-owed-len 𝓤 H A W InflightAction.row ref9 3 9 life3 8 Path.refl,
+                Path.refl,
+              ) Path.refl Path.refl λ b o k. tt) d33
+
           d35 : Typed.Typed 𝓤 H A 𝓣 E G19 b25 Δ3 at35
-          d35 = Typed.s-seq 𝓤 H A W 𝓣 E G19 G20 b11 b24 Δ3 (Typed.give s16) at34 (Relend.t-sl-relend 𝓤 H A W E InflightAction.row 𝓣 G19 4 16 3 9 ref9
-              ref3 life3 0 (λ x. x) (Reads.as-is 𝓤 H A (Mut.mslice InflightAction.row ref9 3)) (Reads.room-gone 𝓤 H A ref3) Path.refl tt Path.refl
-              Path.refl Path.refl λ b o. tt) d34
+          d35 = Typed.s-seq 𝓤 H A W 𝓣 E G19 G20 b11 b24 Δ3 (Typed.give s16) at34 (Relend.t-sl-relend 𝓤 H A W E
+              InflightAction.row 𝓣 G19 4 16 3 9 ref9 ref3 life3 0 (λ x. x)
+              (Reads.as-is 𝓤 H A (Mut.mslice InflightAction.row ref9 3)) (Reads.room-gone 𝓤 H A ref3) Path.refl tt
+              Path.refl Path.refl Path.refl λ b o. tt) d34
+
           d36 : Typed.Typed 𝓤 H A 𝓣 E G18 b25 Δ3 at36
-          d36 = Typed.g-pre 𝓤 H A W 𝓣 E G18 G19 b25 Δ3 (λ Ψ. Ψ) at35 (Lifetime.g-begin 𝓤 H A W E G18 9 (tt, ((tt, tt), ((tt, tt), ((tt, tt), (tt, (tt,
-              (tt, (tt, (tt, (tt, (tt, (tt, (tt, (tt, (tt, (tt, (tt, (tt, (tt, (tt, (tt, (tt, tt))))))),),),),),),),),),),),),),),),)) d35
+          d36 = Typed.g-pre 𝓤 H A W 𝓣 E G18 G19 b25 Δ3 (λ Ψ. Ψ) at35 (Lifetime.g-begin 𝓤 H A W E G18 9 (
+            tt,
+            (
+              (tt, tt),
+              (
+                (tt, tt),
+                (
+                  (tt, tt),
+                  (
+                    tt,
+                    (
+                      tt,
+                      (
+                        tt,
+                        (tt, (tt, (tt, (tt, (tt, (tt, (tt, (tt, (tt, (tt, (tt, (tt, (tt, (tt, (tt, tt))))))))))))))),
+                      ),
+                    ),
+                  ),
+                ),
+              ),
+            ),
+          )) d35
+
           d37 : Typed.Typed 𝓤 H A 𝓣 E G17 b26 Δ3 at37
-          d37 = Typed.s-seq 𝓤 H A W 𝓣 E G17 G18 b10 b25 Δ3 (Typed.ask s14) at36 (Relend.t-sl-aggregate 𝓤 H A W E ReservationUsage.row 𝓣 (Relend.asMut
-              ReservationUsage.row) G17 14 15 8 ref2 ref2 (λ x. x) (Scalar.oFld 3 ((Syntax.field 1) ∷ List.[]) (Syntax.tyInt Syntax.w64) 8 λ v.
-              Shared.lenV (v .0)) (Reads.as-is 𝓤 H A (Relend.msptr ReservationUsage.row ref2 8)) (Reads.room-gone 𝓤 H A (Syntax.tyStruct (38 ∷ 91 ∷ 93
-              ∷ List.[]) (Syntax.tcons ref2 (Syntax.tcons (Syntax.tyInt Syntax.w64) Syntax.tnil)))) (Relend.reads-owed-len 𝓤 H A W
-              ReservationUsage.row ref8 2 8 life2 8 Path.refl, Path.refl,) Path.refl Path.refl λ b o k. tt) d36
+          d37 = Typed.s-seq 𝓤 H A W 𝓣 E G17 G18 b10 b25 Δ3 (Typed.ask s14) at36 (Relend.t-sl-aggregate 𝓤 H A W E
+              ReservationUsage.row 𝓣 (Relend.asMut ReservationUsage.row) G17 14 15 8 ref2 ref2 (λ x. x) (Scalar.oFld 3
+              ((Syntax.field 1) ∷ List.[]) (Syntax.tyInt Syntax.w64) 8 λ v. Shared.lenV (v .0)) (Reads.as-is 𝓤 H A
+              (Relend.msptr ReservationUsage.row ref2 8)) (Reads.room-gone 𝓤 H A slice2) (
+                Relend.reads-owed-len 𝓤 H A W ReservationUsage.row ref8 2 8 life2 8 Path.refl,
+                Path.refl,
+              ) Path.refl Path.refl λ b o k. tt) d36
+
           d38 : Typed.Typed 𝓤 H A 𝓣 E G16 b27 Δ3 at38
-          d38 = Typed.s-seq 𝓤 H A W 𝓣 E G16 G17 b9 b26 Δ3 (Typed.give s13) at37 (Relend.t-sl-relend 𝓤 H A W E ReservationUsage.row 𝓣 G16 3 14 2 8 ref8
-              ref2 life2 0 (λ x. x) (Reads.as-is 𝓤 H A (Mut.mslice ReservationUsage.row ref8 2)) (Reads.room-gone 𝓤 H A ref2) Path.refl tt Path.refl
-              Path.refl Path.refl λ b o. tt) d37
+          d38 = Typed.s-seq 𝓤 H A W 𝓣 E G16 G17 b9 b26 Δ3 (Typed.give s13) at37 (Relend.t-sl-relend 𝓤 H A W E
+              ReservationUsage.row 𝓣 G16 3 14 2 8 ref8 ref2 life2 0 (λ x. x) (Reads.as-is 𝓤 H A
+              (Mut.mslice ReservationUsage.row ref8 2)) (Reads.room-gone 𝓤 H A ref2) Path.refl tt Path.refl Path.refl
+              Path.refl λ b o. tt) d37
+
           d39 : Typed.Typed 𝓤 H A 𝓣 E G15 b27 Δ3 at39
-          d39 = Typed.g-pre 𝓤 H A W 𝓣 E G15 G16 b27 Δ3 (λ Ψ. Ψ) at38 (Lifetime.g-begin 𝓤 H A W E G15 8 (tt, ((tt, tt), ((tt, tt), (tt, (tt, (tt, (tt,
-              (tt, (tt, (tt, (tt, (tt, (tt, (tt, (tt, (tt, (tt, (tt, (tt, (tt, (tt, (tt, tt))))))),),),),),),),),),),),),),),),)) d38
+          d39 = Typed.g-pre 𝓤 H A W 𝓣 E G15 G16 b27 Δ3 (λ Ψ. Ψ) at38 (Lifetime.g-begin 𝓤 H A W E G15 8 (
+            tt,
+            (
+              (tt, tt),
+              (
+                (tt, tt),
+                (
+                  tt,
+                  (
+                    tt,
+                    (
+                      tt,
+                      (
+                        tt,
+                        (tt, (tt, (tt, (tt, (tt, (tt, (tt, (tt, (tt, (tt, (tt, (tt, (tt, (tt, (tt, tt))))))))))))))),
+                      ),
+                    ),
+                  ),
+                ),
+              ),
+            ),
+          )) d38
+
           d40 : Typed.Typed 𝓤 H A 𝓣 E G14 b28 Δ3 at40
-          d40 = Typed.s-seq 𝓤 H A W 𝓣 E G14 G15 b8 b27 Δ3 (Typed.ask s11) at39 (Relend.t-sl-aggregate 𝓤 H A W E RelayCircuit.row 𝓣 (Relend.asMut
-              RelayCircuit.row) G14 12 13 7 ref1 ref1 (λ x. x) (Scalar.oFld 2 ((Syntax.field 1) ∷ List.[]) (Syntax.tyInt Syntax.w64) 8 λ v.
-              Shared.lenV (v .0)) (Reads.as-is 𝓤 H A (Relend.msptr RelayCircuit.row ref1 7)) (Reads.room-gone 𝓤 H A (Syntax.tyStruct (38 ∷ 91 ∷ 93 ∷
-              List.[]) (Syntax.tcons ref1 (Syntax.tcons (Syntax.tyInt Syntax.w64) Syntax.tnil)))) (Relend.reads-owed-len 𝓤 H A W RelayCircuit.row ref7
-              1 7 life1 8 Path.refl, Path.refl,) Path.refl Path.refl λ b o k. tt) d39
+          d40 = Typed.s-seq 𝓤 H A W 𝓣 E G14 G15 b8 b27 Δ3 (Typed.ask s11) at39 (Relend.t-sl-aggregate 𝓤 H A W E
+              RelayCircuit.row 𝓣 (Relend.asMut RelayCircuit.row) G14 12 13 7 ref1 ref1 (λ x. x) (Scalar.oFld 2
+              ((Syntax.field 1) ∷ List.[]) (Syntax.tyInt Syntax.w64) 8 λ v. Shared.lenV (v .0))
+              (Reads.as-is 𝓤 H A (Relend.msptr RelayCircuit.row ref1 7)) (Reads.room-gone 𝓤 H A slice1) (
+                Relend.reads-owed-len 𝓤 H A W RelayCircuit.row ref7 1 7 life1 8 Path.refl,
+                Path.refl,
+              ) Path.refl Path.refl λ b o k. tt) d39
+
           d41 : Typed.Typed 𝓤 H A 𝓣 E G13 b29 Δ3 at41
-          d41 = Typed.s-seq 𝓤 H A W 𝓣 E G13 G14 b7 b28 Δ3 (Typed.give s10) at40 (Relend.t-sl-relend 𝓤 H A W E RelayCircuit.row 𝓣 G13 2 12 1 7 ref7
-              ref1 life1 0 (λ x. x) (Reads.as-is 𝓤 H A (Mut.mslice RelayCircuit.row ref7 1)) (Reads.room-gone 𝓤 H A ref1) Path.refl tt Path.refl
-              Path.refl Path.refl λ b o. tt) d40
+          d41 = Typed.s-seq 𝓤 H A W 𝓣 E G13 G14 b7 b28 Δ3 (Typed.give s10) at40 (Relend.t-sl-relend 𝓤 H A W E
+              RelayCircuit.row 𝓣 G13 2 12 1 7 ref7 ref1 life1 0 (λ x. x)
+              (Reads.as-is 𝓤 H A (Mut.mslice RelayCircuit.row ref7 1)) (Reads.room-gone 𝓤 H A ref1) Path.refl tt
+              Path.refl Path.refl Path.refl λ b o. tt) d40
+
           d42 : Typed.Typed 𝓤 H A 𝓣 E G12 b29 Δ3 at42
-          d42 = Typed.g-pre 𝓤 H A W 𝓣 E G12 G13 b29 Δ3 (λ Ψ. Ψ) at41 (Lifetime.g-begin 𝓤 H A W E G12 7 (tt, ((tt, tt), (tt, (tt, (tt, (tt, (tt, (tt,
-              (tt, (tt, (tt, (tt, (tt, (tt, (tt, (tt, (tt, (tt, (tt, (tt, (tt, (tt, tt))))))),),),),),),),),),),),),),),),)) d41
+          d42 = Typed.g-pre 𝓤 H A W 𝓣 E G12 G13 b29 Δ3 (λ Ψ. Ψ) at41 (Lifetime.g-begin 𝓤 H A W E G12 7 (
+            tt,
+            (
+              (tt, tt),
+              (
+                tt,
+                (
+                  tt,
+                  (
+                    tt,
+                    (
+                      tt,
+                      (
+                        tt,
+                        (tt, (tt, (tt, (tt, (tt, (tt, (tt, (tt, (tt, (tt, (tt, (tt, (tt, (tt, (tt, tt))))))))))))))),
+                      ),
+                    ),
+                  ),
+                ),
+              ),
+            ),
+          )) d41
+
           d43 : Typed.Typed 𝓤 H A 𝓣 E G11 b30 Δ3 at43
-          d43 = Typed.s-seq 𝓤 H A W 𝓣 E G11 G12 b6 b29 Δ3 (Typed.ask s8) at42 (Relend.t-sl-aggregate 𝓤 H A W E RelayPending.row 𝓣 (Relend.asMut
-              RelayPending.row) G11 10 11 6 ref0 ref0 (λ x. x) (Scalar.oFld 1 ((Syntax.field 1) ∷ List.[]) (Syntax.tyInt Syntax.w64) 8 λ v.
-              Shared.lenV (v .0)) (Reads.as-is 𝓤 H A (Relend.msptr RelayPending.row ref0 6)) (Reads.room-gone 𝓤 H A (Syntax.tyStruct (38 ∷ 91 ∷ 93 ∷
-              List.[]) (Syntax.tcons ref0 (Syntax.tcons (Syntax.tyInt Syntax.w64) Syntax.tnil)))) (Relend.reads-owed-len 𝓤 H A W RelayPending.row ref6
-              0 6 life0 8 Path.refl, Path.refl,) Path.refl Path.refl λ b o k. tt) d42
+          d43 = Typed.s-seq 𝓤 H A W 𝓣 E G11 G12 b6 b29 Δ3 (Typed.ask s8) at42 (Relend.t-sl-aggregate 𝓤 H A W E
+              RelayPending.row 𝓣 (Relend.asMut RelayPending.row) G11 10 11 6 ref0 ref0 (λ x. x) (Scalar.oFld 1
+              ((Syntax.field 1) ∷ List.[]) (Syntax.tyInt Syntax.w64) 8 λ v. Shared.lenV (v .0))
+              (Reads.as-is 𝓤 H A (Relend.msptr RelayPending.row ref0 6)) (Reads.room-gone 𝓤 H A slice0) (
+                Relend.reads-owed-len 𝓤 H A W RelayPending.row ref6 0 6 life0 8 Path.refl,
+                Path.refl,
+              ) Path.refl Path.refl λ b o k. tt) d42
+
           d44 : Typed.Typed 𝓤 H A 𝓣 E G10 b31 Δ3 at44
-          d44 = Typed.s-seq 𝓤 H A W 𝓣 E G10 G11 b5 b30 Δ3 (Typed.give s7) at43 (Relend.t-sl-relend 𝓤 H A W E RelayPending.row 𝓣 G10 1 10 0 6 ref6 ref0
-              life0 0 (λ x. x) (Reads.as-is 𝓤 H A (Mut.mslice RelayPending.row ref6 0)) (Reads.room-gone 𝓤 H A ref0) Path.refl tt Path.refl Path.refl
-              Path.refl λ b o. tt) d43
+          d44 = Typed.s-seq 𝓤 H A W 𝓣 E G10 G11 b5 b30 Δ3 (Typed.give s7) at43 (Relend.t-sl-relend 𝓤 H A W E
+              RelayPending.row 𝓣 G10 1 10 0 6 ref6 ref0 life0 0 (λ x. x)
+              (Reads.as-is 𝓤 H A (Mut.mslice RelayPending.row ref6 0)) (Reads.room-gone 𝓤 H A ref0) Path.refl tt
+              Path.refl Path.refl Path.refl λ b o. tt) d43
+
           d45 : Typed.Typed 𝓤 H A 𝓣 E G7 b31 Δ3 at45
-          d45 = Typed.g-pre 𝓤 H A W 𝓣 E G7 G10 b31 Δ3 (λ Ψ. Ψ) at44 (Lifetime.g-begin 𝓤 H A W E G7 6 (tt, (tt, (tt, (tt, (tt, (tt, (tt, (tt, (tt, (tt,
-              (tt, (tt, (tt, (tt, (tt, (tt, (tt, (tt, (tt, (tt, (tt, (tt, tt))))))),),),),),),),),),),),),),),),)) d44
+          d45 = Typed.g-pre 𝓤 H A W 𝓣 E G7 G10 b31 Δ3 (λ Ψ. Ψ) at44 (Lifetime.g-begin 𝓤 H A W E G7 6 (
+            tt,
+            (
+              tt,
+              (
+                tt,
+                (
+                  tt,
+                  (
+                    tt,
+                    (
+                      tt,
+                      (
+                        tt,
+                        (tt, (tt, (tt, (tt, (tt, (tt, (tt, (tt, (tt, (tt, (tt, (tt, (tt, (tt, (tt, tt))))))))))))))),
+                      ),
+                    ),
+                  ),
+                ),
+              ),
+            ),
+          )) d44
+
           d46 : Typed.Typed 𝓤 H A 𝓣 E G6 b32 Δ3 at46
           d46 = Typed.t-seq 𝓤 H A W 𝓣 E G6 G7 b4 b31 Δ3 at4 at45 d4 d45
+
           d47 : Typed.Typed 𝓤 H A 𝓣 E G4 b33 Δ3 at47
-          d47 = Typed.s-seq 𝓤 H A W 𝓣 E G4 G6 b1 b32 Δ3 (Typed.ask s3) at46 (Scalar.t-op2 𝓤 H A W E 𝓣 G4 (Syntax.lt Syntax.unsigned) (Scalar.oAt 7
-              (Syntax.tyInt Syntax.w8) (Row.valS (Row.sInt Syntax.w8))) (Scalar.oInt Syntax.w8 17) 8 (Rows.sc-here Row.sBool) Syntax.tyBool (Row.valS
-              Row.sBool) (Row.sBool .of) (Scalar.reads-sc 𝓤 H A W (Row.sInt Syntax.w8), Path.refl) tt (Reads.room-gone 𝓤 H A Syntax.tyBool)
+          d47 = Typed.s-seq 𝓤 H A W 𝓣 E G4 G6 b1 b32 Δ3 (Typed.ask s3) at46 (Scalar.t-op2 𝓤 H A W E 𝓣 G4
+              (Syntax.lt Syntax.unsigned) (Scalar.oAt 7 (Syntax.tyInt Syntax.w8) (Row.valS (Row.sInt Syntax.w8)))
+              (Scalar.oInt Syntax.w8 17) 8 (Rows.sc-here Row.sBool) Syntax.tyBool (Row.valS Row.sBool) (Row.sBool .of)
+              (Scalar.reads-sc 𝓤 H A W (Row.sInt Syntax.w8), Path.refl) tt (Reads.room-gone 𝓤 H A Syntax.tyBool)
               (Scalar.holds-sc 𝓤 H A W Row.sBool) Path.refl (λ u. Path.refl) λ u. tt) d46
+
           d48 : Typed.Typed 𝓤 H A 𝓣 E G4 b34 Δ2 at48
-          d48 = Typed.t-loop-by 𝓤 H A W 𝓣 E G4 b33 Δ2 put0 (λ u vs. Inv·0 (Row.get 1 (T4 .locals) u .now) (Row.get 2 (T4 .locals) u .now) (Row.get 3
-              (T4 .locals) u .now) (Row.get 4 (T4 .locals) u .now) (Row.get 5 (T4 .locals) u .now) (Row.get 6 (T4 .locals) u .now) (Row.get 7 (T4
-              .locals) u) (vs .0) (vs .1) (vs .2) (vs .3) (vs .4) (vs .5) (vs .6)) (λ u vs. μ·0 (Row.get 1 (T4 .locals) u .now) (Row.get 2 (T4
-              .locals) u .now) (Row.get 3 (T4 .locals) u .now) (Row.get 4 (T4 .locals) u .now) (Row.get 5 (T4 .locals) u .now) (Row.get 6 (T4 .locals)
-              u .now) (Row.get 7 (T4 .locals) u) (vs .0) (vs .1) (vs .2) (vs .3) (vs .4) (vs .5) (vs .6)) at47 d47
+          d48 = Typed.t-loop-by 𝓤 H A W 𝓣 E G4 b33 Δ2 put0 (λ u vs. Inv·0 (Row.get 1 (T4 .locals) u .now)
+              (Row.get 2 (T4 .locals) u .now) (Row.get 3 (T4 .locals) u .now) (Row.get 4 (T4 .locals) u .now)
+              (Row.get 5 (T4 .locals) u .now) (Row.get 6 (T4 .locals) u .now) (Row.get 7 (T4 .locals) u) (vs .0)
+              (vs .1) (vs .2) (vs .3) (vs .4) (vs .5) (vs .6)) (λ u vs. μ·0 (Row.get 1 (T4 .locals) u .now)
+              (Row.get 2 (T4 .locals) u .now) (Row.get 3 (T4 .locals) u .now) (Row.get 4 (T4 .locals) u .now)
+              (Row.get 5 (T4 .locals) u .now) (Row.get 6 (T4 .locals) u .now) (Row.get 7 (T4 .locals) u) (vs .0)
+              (vs .1) (vs .2) (vs .3) (vs .4) (vs .5) (vs .6)) at47 d47
+
           d49 : Typed.Typed 𝓤 H A 𝓣 E G4 b35 Δ1 at49
           d49 = Typed.t-block 𝓤 H A W 𝓣 E G4 b34 Δ1 at48 d48
+
           d50 : Typed.Typed 𝓤 H A 𝓣 E G52 b37 Δ0 at50
           d50 = Typed.t-return 𝓤 H A W 𝓣 E Δ0 tt
+
           d51 : Typed.Typed 𝓤 H A 𝓣 E G51 b37 Δ0 at51
-          d51 = Typed.g-pre 𝓤 H A W 𝓣 E G51 G52 b37 Δ0 (Typed.pass T51 T52 s48) at50 (Scalar.g-room 𝓤 H A W E G51 7 (Syntax.tyInt Syntax.w8)
-              (Scalar.room-sc 𝓤 H A W (Row.sInt Syntax.w8))) d50
+          d51 = Typed.g-pre 𝓤 H A W 𝓣 E G51 G52 b37 Δ0 (Typed.pass T51 T52 s48) at50 (Scalar.g-room 𝓤 H A W E G51 7
+              (Syntax.tyInt Syntax.w8) (Scalar.room-sc 𝓤 H A W (Row.sInt Syntax.w8))) d50
+
           d52 : Typed.Typed 𝓤 H A 𝓣 E G5 b38 Δ0 at52
-          d52 = Typed.s-seq 𝓤 H A W 𝓣 E G5 G51 b36 b37 Δ0 (Typed.pass T5 T51 s47) at51 (Scalar.t-use 𝓤 H A W E 𝓣 G5 Scalar.oUnit 0 (Rows.sc-here
-              Row.sUnit) Syntax.tyUnit (Row.valS Row.sUnit) (Row.sUnit .of) tt (Reads.room-gone 𝓤 H A Syntax.tyUnit) (Scalar.holds-sc 𝓤 H A W
-              Row.sUnit) Path.refl (λ u. Path.refl) λ u. tt) d51
+          d52 = Typed.s-seq 𝓤 H A W 𝓣 E G5 G51 b36 b37 Δ0 (Typed.pass T5 T51 s47) at51 (Scalar.t-use 𝓤 H A W E 𝓣 G5
+              Scalar.oUnit 0 (Rows.sc-here Row.sUnit) Syntax.tyUnit (Row.valS Row.sUnit) (Row.sUnit .of) tt
+              (Reads.room-gone 𝓤 H A Syntax.tyUnit) (Scalar.holds-sc 𝓤 H A W Row.sUnit) Path.refl (λ u. Path.refl) λ u.
+              tt) d51
+
           d53 : Typed.Typed 𝓤 H A 𝓣 E G4 b39 Δ0 at53
           d53 = Typed.t-seq 𝓤 H A W 𝓣 E G4 G5 b35 b38 Δ0 at49 at52 d49 d52
+
           d54 : Typed.Typed 𝓤 H A 𝓣 E G3 b40 Δ0 at54
-          d54 = Typed.s-seq 𝓤 H A W 𝓣 E G3 G4 b0 b39 Δ0 (Typed.pass T3 T4 s2) at53 (Scalar.t-use 𝓤 H A W E 𝓣 G3 (Scalar.oInt Syntax.w8 1) 7
-              (Rows.sc-here (Row.sInt Syntax.w8)) (Syntax.tyInt Syntax.w8) (Row.valS (Row.sInt Syntax.w8)) (Row.sInt Syntax.w8 .of) tt
-              (Reads.room-gone 𝓤 H A (Syntax.tyInt Syntax.w8)) (Scalar.holds-sc 𝓤 H A W (Row.sInt Syntax.w8)) Path.refl (λ u. Path.refl) λ u. tt) d53
+          d54 = Typed.s-seq 𝓤 H A W 𝓣 E G3 G4 b0 b39 Δ0 (Typed.pass T3 T4 s2) at53 (Scalar.t-use 𝓤 H A W E 𝓣 G3
+              (Scalar.oInt Syntax.w8 1) 7 (Rows.sc-here (Row.sInt Syntax.w8)) (Syntax.tyInt Syntax.w8)
+              (Row.valS (Row.sInt Syntax.w8)) (Row.sInt Syntax.w8 .of) tt
+              (Reads.room-gone 𝓤 H A (Syntax.tyInt Syntax.w8)) (Scalar.holds-sc 𝓤 H A W (Row.sInt Syntax.w8)) Path.refl
+              (λ u. Path.refl) λ u. tt) d53
+
           d55 : Typed.Typed 𝓤 H A 𝓣 E G2 b40 Δ0 at55
-          d55 = Typed.g-pre 𝓤 H A W 𝓣 E G2 G3 b40 Δ0 (Typed.give s1) at54 (Know.g-sl-known 𝓤 H A W (Referent.fInt Syntax.w8) E G2 6 5 ref11 life5 0 (λ
-              x. x) record { fits = Dec.lit< tt } (Reads.as-is 𝓤 H A (Mut.mslice (Referent.rtF (Referent.fInt Syntax.w8)) ref11 5)) Path.refl tt) d54
+          d55 = Typed.g-pre 𝓤 H A W 𝓣 E G2 G3 b40 Δ0 (Typed.give s1) at54 (Know.g-sl-known 𝓤 H A W
+              (Referent.fInt Syntax.w8) E G2 6 5 ref11 life5 0 (λ x. x) record { fits = Dec.lit< tt } (Reads.as-is 𝓤 H
+              A (Mut.mslice (Referent.rtF (Referent.fInt Syntax.w8)) ref11 5)) Path.refl tt) d54
+
           d56 : Typed.Typed 𝓤 H A 𝓣 E G0 b40 Δ0 at56
-          d56 = Typed.g-pre 𝓤 H A W 𝓣 E G0 G2 b40 Δ0 (Typed.give s0) at55 (Know.g-sl-known 𝓤 H A W (Referent.fInt Syntax.w32) E G0 5 4 ref10 life4 0
-              (λ x. x) record { fits = Dec.lit< tt } (Reads.as-is 𝓤 H A (Mut.mslice (Referent.rtF (Referent.fInt Syntax.w32)) ref10 4)) Path.refl tt)
-              d55
+          d56 = Typed.g-pre 𝓤 H A W 𝓣 E G0 G2 b40 Δ0 (Typed.give s0) at55 (Know.g-sl-known 𝓤 H A W
+              (Referent.fInt Syntax.w32) E G0 5 4 ref10 life4 0 (λ x. x) record { fits = Dec.lit< tt } (Reads.as-is 𝓤 H
+              A (Mut.mslice (Referent.rtF (Referent.fInt Syntax.w32)) ref10 4)) Path.refl tt) d55
+
           pub typed : Typed.Typed 𝓤 H A 𝓣 E (Function.Γin 6 ps r xs m κs qs) b40 (Function.Δret 6 ps r xs m κs qs) Φ
           typed = d56
+
       module _ (κs : Lifetimes.Lfts 6) where
         pub record Args : Type 0 where
-          pub pending : Kinds.Den { n = 6 } κs (MutSlice.pMutS RelayPending.row 0 tt)
-          pub circuits : Kinds.Den { n = 6 } κs (MutSlice.pMutS RelayCircuit.row 1 tt)
-          pub ledger : Kinds.Den { n = 6 } κs (MutSlice.pMutS ReservationUsage.row 2 tt)
-          pub inflight : Kinds.Den { n = 6 } κs (MutSlice.pMutS InflightAction.row 3 tt)
-          pub out : Kinds.Den { n = 6 } κs (MutSlice.pMutS (Referent.rtF (Referent.fInt Syntax.w32)) 4 tt)
-          pub body : Kinds.Den { n = 6 } κs (MutSlice.pMutS (Referent.rtF (Referent.fInt Syntax.w8)) 5 tt)
+          pub pending : Kinds.Den {n = 6} κs (MutSlice.pMutS RelayPending.row 0 tt)
+          pub circuits : Kinds.Den {n = 6} κs (MutSlice.pMutS RelayCircuit.row 1 tt)
+          pub ledger : Kinds.Den {n = 6} κs (MutSlice.pMutS ReservationUsage.row 2 tt)
+          pub inflight : Kinds.Den {n = 6} κs (MutSlice.pMutS InflightAction.row 3 tt)
+          pub out : Kinds.Den {n = 6} κs (MutSlice.pMutS (Referent.rtF (Referent.fInt Syntax.w32)) 4 tt)
+          pub body : Kinds.Den {n = 6} κs (MutSlice.pMutS (Referent.rtF (Referent.fInt Syntax.w8)) 5 tt)
+
         abbrev pub dens : (a : Args) → Kinds.Dens κs ps
-        dens = λ a. (a .pending, (a .circuits, (a .ledger, (a .inflight, (a .out, (a .body, tt))))),)
+        dens = λ a. (a .pending, (a .circuits, (a .ledger, (a .inflight, (a .out, (a .body, tt))))))
+
       abbrev pub m0 : (κs : Lifetimes.Lfts 6) → (args : Args κs) → Typed.Mo T0
       m0 = λ κs args. (tt, Enter.partsP κs 1 ps xs (dens κs args))
+
       abbrev W0 : (κs : Lifetimes.Lfts 6) → (args : Args κs) → Typed.Want O0
-      W0 = λ κs args. (λ u. ⊥, tt, λ u. Enter.Fixs κs 1 ps xs (dens κs args) (u .1) × Post· κs (dens κs args) (Function.resV r κs (u .0))
-          (Clauses.atExit (Kinds.endedOf 6 ps r) κs (dens κs args) (Enter.lastsP κs 1 ps xs (dens κs args) (u .1))),)
+      W0 = λ κs args. (
+        λ u. ⊥,
+        tt,
+        λ u. Enter.Fixs κs 1 ps xs (dens κs args) (u .1) × Post· κs (dens κs args) (Function.resV r κs (u .0)) (Clauses.atExit
+            (Kinds.endedOf 6 ps r) κs (dens κs args) (Enter.lastsP κs 1 ps xs (dens κs args) (u .1))),
+      )
+
       pub record Start : Type 0 where
         pub κs : Lifetimes.Lfts 6
         pub args : Args κs
         pub good : Kinds.GoodsP κs ps (dens κs args)
         pub pre : Pre· κs (dens κs args)
+
       abbrev pub m1 : (before : Start) → (given : s0 .gives (m0 (before .κs) (before .args))) → Typed.Mo T2
       m1 = λ before given. s0 .next (m0 (before .κs) (before .args)) given
+
       module _ (before· : Start) where
         pub record After-slice-known·own : Type 0 where
           pub given : s0 .gives (m0 (before· .κs) (before· .args))
+
       pub record After-slice-known : Type 0 where
         pub before : Start
         pub slice-known : After-slice-known·own before
-      abbrev pub m2 : (before : After-slice-known) → (given : s1 .gives (m1 (before .before) (before .slice-known .given))) → Typed.Mo T3
+
+      abbrev pub m2 : (before : After-slice-known) → (given : s1 .gives
+          (m1 (before .before) (before .slice-known .given))) → Typed.Mo T3
       m2 = λ before given. s1 .next (m1 (before .before) (before .slice-known .given)) given
-      abbrev pub m3 : (before : After-slice-known) → (given : s1 .gives (m1 (before .before) (before .slice-known .given))) → Typed.Mo T4
+
+      abbrev pub m3 : (before : After-slice-known) → (given : s1 .gives
+          (m1 (before .before) (before .slice-known .given))) → Typed.Mo T4
       m3 = λ before given. s2 (m2 before given)
-      abbrev W1 : (before : After-slice-known) → (given : s1 .gives (m1 (before .before) (before .slice-known .given))) → Typed.Want O1
-      W1 = λ before given. Typed.wantNext T5 O0 (at52 (W0 (before .before .κs) (before .before .args))) (W0 (before .before .κs) (before .before
-          .args))
-      abbrev W2 : (before : After-slice-known) → (given : s1 .gives (m1 (before .before) (before .slice-known .given))) → Typed.Want O2
+
+      abbrev W1 : (before : After-slice-known) → (given : s1 .gives (m1 (before .before) (before .slice-known .given)))
+          → Typed.Want O1
+      W1 = λ before given. Typed.wantNext T5 O0 (at52 (W0 (before .before .κs) (before .before .args)))
+          (W0 (before .before .κs) (before .before .args))
+
+      abbrev W2 : (before : After-slice-known) → (given : s1 .gives (m1 (before .before) (before .slice-known .given)))
+          → Typed.Want O2
       W2 = λ before given. Typed.inBlock O1 (W1 before given)
+
       module _ (before· : After-slice-known) where
         pub record After-slice-known2·own : Type 0 where
           pub given : s1 .gives (m1 (before· .before) (before· .slice-known .given))
+
       pub record After-slice-known2 : Type 0 where
         pub before : After-slice-known
         pub slice-known2 : After-slice-known2·own before
+
       abbrev pub Need-loop-holds : Type 0
-      Need-loop-holds = (c : After-slice-known2) → Inv·0 (Row.get 1 (T4 .locals) (m3 (c .before) (c .slice-known2 .given)) .now) (Row.get 2 (T4
-          .locals) (m3 (c .before) (c .slice-known2 .given)) .now) (Row.get 3 (T4 .locals) (m3 (c .before) (c .slice-known2 .given)) .now) (Row.get 4
-          (T4 .locals) (m3 (c .before) (c .slice-known2 .given)) .now) (Row.get 5 (T4 .locals) (m3 (c .before) (c .slice-known2 .given)) .now)
-          (Row.get 6 (T4 .locals) (m3 (c .before) (c .slice-known2 .given)) .now) (Row.get 7 (T4 .locals) (m3 (c .before) (c .slice-known2 .given)))
-          (Row.get 1 (T4 .locals) (m3 (c .before) (c .slice-known2 .given)) .now) (Row.get 2 (T4 .locals) (m3 (c .before) (c .slice-known2 .given))
-          .now) (Row.get 3 (T4 .locals) (m3 (c .before) (c .slice-known2 .given)) .now) (Row.get 4 (T4 .locals) (m3 (c .before) (c .slice-known2
-          .given)) .now) (Row.get 5 (T4 .locals) (m3 (c .before) (c .slice-known2 .given)) .now) (Row.get 6 (T4 .locals) (m3 (c .before) (c
-          .slice-known2 .given)) .now) (Row.get 7 (T4 .locals) (m3 (c .before) (c .slice-known2 .given)))
-      abbrev pub m4 : (before : After-slice-known2) → (pending : List.List (RelayPending.row .Denot)) → (circuits : List.List (RelayCircuit.row
-          .Denot)) → (ledger : List.List (ReservationUsage.row .Denot)) → (inflight : List.List (InflightAction.row .Denot)) → (out : List.List
-          (Referent.rtF (Referent.fInt Syntax.w32) .Denot)) → (body : List.List (Referent.rtF (Referent.fInt Syntax.w8) .Denot)) → (case :
-          Rows.sc-here (Row.sInt Syntax.w8) .Mod) → Typed.Mo T4
-      m4 = λ before pending circuits ledger inflight out body case. Row.set 7 (7, Rows.sc-here (Row.sInt Syntax.w8),) case (Row.setRow 6 (6,
-          Mut.mslice (Referent.rtF (Referent.fInt Syntax.w8)) ref11 5,) (Row.setRow 5 (5, Mut.mslice (Referent.rtF (Referent.fInt Syntax.w32)) ref10
-          4,) (Row.setRow 4 (4, Mut.mslice InflightAction.row ref9 3,) (Row.setRow 3 (3, Mut.mslice ReservationUsage.row ref8 2,) (Row.setRow 2 (2,
-          Mut.mslice RelayCircuit.row ref7 1,) (Row.setRow 1 (1, Mut.mslice RelayPending.row ref6 0,) (T4 .locals))))))) (Row.set 6 (6, Mut.mslice
-          (Referent.rtF (Referent.fInt Syntax.w8)) ref11 5,) record { ptr = Row.get 6 (T4 .locals) (m3 (before .before) (before .slice-known2 .given))
-          .ptr; name = Row.get 6 (T4 .locals) (m3 (before .before) (before .slice-known2 .given)) .name; now = body; } (Row.setRow 5 (5, Mut.mslice
-          (Referent.rtF (Referent.fInt Syntax.w32)) ref10 4,) (Row.setRow 4 (4, Mut.mslice InflightAction.row ref9 3,) (Row.setRow 3 (3, Mut.mslice
-          ReservationUsage.row ref8 2,) (Row.setRow 2 (2, Mut.mslice RelayCircuit.row ref7 1,) (Row.setRow 1 (1, Mut.mslice RelayPending.row ref6 0,)
-          (T4 .locals)))))) (Row.set 5 (5, Mut.mslice (Referent.rtF (Referent.fInt Syntax.w32)) ref10 4,) record { ptr = Row.get 5 (T4 .locals) (m3
-          (before .before) (before .slice-known2 .given)) .ptr; name = Row.get 5 (T4 .locals) (m3 (before .before) (before .slice-known2 .given))
-          .name; now = out; } (Row.setRow 4 (4, Mut.mslice InflightAction.row ref9 3,) (Row.setRow 3 (3, Mut.mslice ReservationUsage.row ref8 2,)
-          (Row.setRow 2 (2, Mut.mslice RelayCircuit.row ref7 1,) (Row.setRow 1 (1, Mut.mslice RelayPending.row ref6 0,) (T4 .locals))))) (Row.set 4
-          (4, Mut.mslice InflightAction.row ref9 3,) record { ptr = Row.get 4 (T4 .locals) (m3 (before .before) (before .slice-known2 .given)) .ptr;
-          name = Row.get 4 (T4 .locals) (m3 (before .before) (before .slice-known2 .given)) .name; now = inflight; } (Row.setRow 3 (3, Mut.mslice
-          ReservationUsage.row ref8 2,) (Row.setRow 2 (2, Mut.mslice RelayCircuit.row ref7 1,) (Row.setRow 1 (1, Mut.mslice RelayPending.row ref6 0,)
-          (T4 .locals)))) (Row.set 3 (3, Mut.mslice ReservationUsage.row ref8 2,) record { ptr = Row.get 3 (T4 .locals) (m3 (before .before) (before
-          .slice-known2 .given)) .ptr; name = Row.get 3 (T4 .locals) (m3 (before .before) (before .slice-known2 .given)) .name; now = ledger; }
-          (Row.setRow 2 (2, Mut.mslice RelayCircuit.row ref7 1,) (Row.setRow 1 (1, Mut.mslice RelayPending.row ref6 0,) (T4 .locals))) (Row.set 2 (2,
-          Mut.mslice RelayCircuit.row ref7 1,) record { ptr = Row.get 2 (T4 .locals) (m3 (before .before) (before .slice-known2 .given)) .ptr; name =
-          Row.get 2 (T4 .locals) (m3 (before .before) (before .slice-known2 .given)) .name; now = circuits; } (Row.setRow 1 (1, Mut.mslice
-          RelayPending.row ref6 0,) (T4 .locals)) (Row.set 1 (1, Mut.mslice RelayPending.row ref6 0,) record { ptr = Row.get 1 (T4 .locals) (m3
-          (before .before) (before .slice-known2 .given)) .ptr; name = Row.get 1 (T4 .locals) (m3 (before .before) (before .slice-known2 .given))
-          .name; now = pending; } (T4 .locals) (m3 (before .before) (before .slice-known2 .given))))))))
-      abbrev W3 : (before : After-slice-known2) → (pending : List.List (RelayPending.row .Denot)) → (circuits : List.List (RelayCircuit.row .Denot)) →
-          (ledger : List.List (ReservationUsage.row .Denot)) → (inflight : List.List (InflightAction.row .Denot)) → (out : List.List (Referent.rtF
-          (Referent.fInt Syntax.w32) .Denot)) → (body : List.List (Referent.rtF (Referent.fInt Syntax.w8) .Denot)) → (case : Rows.sc-here (Row.sInt
-          Syntax.w8) .Mod) → Typed.Want O3
-      W3 = λ before pending circuits ledger inflight out body case. Typed.inLoop T4 O2 (Typed.Round T4 O2 put0 (λ u vs. Inv·0 (Row.get 1 (T4 .locals)
-          u .now) (Row.get 2 (T4 .locals) u .now) (Row.get 3 (T4 .locals) u .now) (Row.get 4 (T4 .locals) u .now) (Row.get 5 (T4 .locals) u .now)
-          (Row.get 6 (T4 .locals) u .now) (Row.get 7 (T4 .locals) u) (vs .0) (vs .1) (vs .2) (vs .3) (vs .4) (vs .5) (vs .6)) (λ u vs. μ·0 (Row.get 1
-          (T4 .locals) u .now) (Row.get 2 (T4 .locals) u .now) (Row.get 3 (T4 .locals) u .now) (Row.get 4 (T4 .locals) u .now) (Row.get 5 (T4 .locals)
-          u .now) (Row.get 6 (T4 .locals) u .now) (Row.get 7 (T4 .locals) u) (vs .0) (vs .1) (vs .2) (vs .3) (vs .4) (vs .5) (vs .6)) at47 (m3 (before
-          .before) (before .slice-known2 .given)) (pending, circuits, ledger, inflight, out, body, case)) (W2 (before .before) (before .slice-known2
-          .given))
-      abbrev pub m5 : (before : After-slice-known2) → (pending : List.List (RelayPending.row .Denot)) → (circuits : List.List (RelayCircuit.row
-          .Denot)) → (ledger : List.List (ReservationUsage.row .Denot)) → (inflight : List.List (InflightAction.row .Denot)) → (out : List.List
-          (Referent.rtF (Referent.fInt Syntax.w32) .Denot)) → (body : List.List (Referent.rtF (Referent.fInt Syntax.w8) .Denot)) → (case :
-          Rows.sc-here (Row.sInt Syntax.w8) .Mod) → Typed.Mo T6
-      m5 = λ before pending circuits ledger inflight out body case. s3 .next (m4 before pending circuits ledger inflight out body case)
-      abbrev W4 : (before : After-slice-known2) → (pending : List.List (RelayPending.row .Denot)) → (circuits : List.List (RelayCircuit.row .Denot)) →
-          (ledger : List.List (ReservationUsage.row .Denot)) → (inflight : List.List (InflightAction.row .Denot)) → (out : List.List (Referent.rtF
-          (Referent.fInt Syntax.w32) .Denot)) → (body : List.List (Referent.rtF (Referent.fInt Syntax.w8) .Denot)) → (case : Rows.sc-here (Row.sInt
-          Syntax.w8) .Mod) → Typed.Want O4
-      W4 = λ before pending circuits ledger inflight out body case. Typed.wantNext T7 O3 (at45 (W3 before pending circuits ledger inflight out body
-          case)) (W3 before pending circuits ledger inflight out body case)
+      Need-loop-holds = (c : After-slice-known2) → Inv·0 (Row.get 1 (T4 .locals)
+          (m3 (c .before) (c .slice-known2 .given)) .now) (Row.get 2 (T4 .locals)
+          (m3 (c .before) (c .slice-known2 .given)) .now) (Row.get 3 (T4 .locals)
+          (m3 (c .before) (c .slice-known2 .given)) .now) (Row.get 4 (T4 .locals)
+          (m3 (c .before) (c .slice-known2 .given)) .now) (Row.get 5 (T4 .locals)
+          (m3 (c .before) (c .slice-known2 .given)) .now) (Row.get 6 (T4 .locals)
+          (m3 (c .before) (c .slice-known2 .given)) .now) (Row.get 7 (T4 .locals)
+          (m3 (c .before) (c .slice-known2 .given))) (Row.get 1 (T4 .locals) (m3 (c .before) (c .slice-known2 .given))
+          .now) (Row.get 2 (T4 .locals) (m3 (c .before) (c .slice-known2 .given)) .now) (Row.get 3 (T4 .locals)
+          (m3 (c .before) (c .slice-known2 .given)) .now) (Row.get 4 (T4 .locals)
+          (m3 (c .before) (c .slice-known2 .given)) .now) (Row.get 5 (T4 .locals)
+          (m3 (c .before) (c .slice-known2 .given)) .now) (Row.get 6 (T4 .locals)
+          (m3 (c .before) (c .slice-known2 .given)) .now) (Row.get 7 (T4 .locals)
+          (m3 (c .before) (c .slice-known2 .given)))
+
+      abbrev pub m4 : (before : After-slice-known2) → (pending : List.List (RelayPending.row .Denot)) →
+          (circuits : List.List (RelayCircuit.row .Denot)) → (ledger : List.List (ReservationUsage.row .Denot)) →
+          (inflight : List.List (InflightAction.row .Denot)) → (out : List.List
+          (Referent.rtF (Referent.fInt Syntax.w32) .Denot)) → (body : List.List
+          (Referent.rtF (Referent.fInt Syntax.w8) .Denot)) → (case : Rows.sc-here (Row.sInt Syntax.w8) .Mod) → Typed.Mo
+          T4
+      m4 = λ before pending circuits ledger inflight out body case. Row.set 7 (7, Rows.sc-here (Row.sInt Syntax.w8))
+          case (Row.setRow 6 (6, Mut.mslice (Referent.rtF (Referent.fInt Syntax.w8)) ref11 5) (Row.setRow 5 (
+            5,
+            Mut.mslice (Referent.rtF (Referent.fInt Syntax.w32)) ref10 4,
+          ) (Row.setRow 4 (4, Mut.mslice InflightAction.row ref9 3) (Row.setRow 3
+          (3, Mut.mslice ReservationUsage.row ref8 2) (Row.setRow 2 (2, Mut.mslice RelayCircuit.row ref7 1) (Row.setRow
+          1 (1, Mut.mslice RelayPending.row ref6 0) (T4 .locals))))))) (Row.set 6 (
+            6,
+            Mut.mslice (Referent.rtF (Referent.fInt Syntax.w8)) ref11 5,
+          ) record {
+            ptr = Row.get 6 (T4 .locals) (m3 (before .before) (before .slice-known2 .given)) .ptr;
+            name = Row.get 6 (T4 .locals) (m3 (before .before) (before .slice-known2 .given)) .name;
+            now = body;
+          } (Row.setRow 5 (5, Mut.mslice (Referent.rtF (Referent.fInt Syntax.w32)) ref10 4) (Row.setRow 4
+          (4, Mut.mslice InflightAction.row ref9 3) (Row.setRow 3 (3, Mut.mslice ReservationUsage.row ref8 2) (Row.setRow
+          2 (2, Mut.mslice RelayCircuit.row ref7 1) (Row.setRow 1 (1, Mut.mslice RelayPending.row ref6 0)
+          (T4 .locals)))))) (Row.set 5 (5, Mut.mslice (Referent.rtF (Referent.fInt Syntax.w32)) ref10 4)
+          record {
+            ptr = Row.get 5 (T4 .locals) (m3 (before .before) (before .slice-known2 .given)) .ptr;
+            name = Row.get 5 (T4 .locals) (m3 (before .before) (before .slice-known2 .given)) .name;
+            now = out;
+          } (Row.setRow 4 (4, Mut.mslice InflightAction.row ref9 3) (Row.setRow 3
+          (3, Mut.mslice ReservationUsage.row ref8 2) (Row.setRow 2 (2, Mut.mslice RelayCircuit.row ref7 1) (Row.setRow
+          1 (1, Mut.mslice RelayPending.row ref6 0) (T4 .locals))))) (Row.set 4
+          (4, Mut.mslice InflightAction.row ref9 3) record {
+            ptr = Row.get 4 (T4 .locals) (m3 (before .before) (before .slice-known2 .given)) .ptr;
+            name = Row.get 4 (T4 .locals) (m3 (before .before) (before .slice-known2 .given)) .name;
+            now = inflight;
+          } (Row.setRow 3 (3, Mut.mslice ReservationUsage.row ref8 2) (Row.setRow 2
+          (2, Mut.mslice RelayCircuit.row ref7 1) (Row.setRow 1 (1, Mut.mslice RelayPending.row ref6 0) (T4 .locals)))) (Row.set
+          3 (3, Mut.mslice ReservationUsage.row ref8 2)
+          record {
+            ptr = Row.get 3 (T4 .locals) (m3 (before .before) (before .slice-known2 .given)) .ptr;
+            name = Row.get 3 (T4 .locals) (m3 (before .before) (before .slice-known2 .given)) .name;
+            now = ledger;
+          } (Row.setRow 2 (2, Mut.mslice RelayCircuit.row ref7 1) (Row.setRow 1 (1, Mut.mslice RelayPending.row ref6 0)
+          (T4 .locals))) (Row.set 2 (2, Mut.mslice RelayCircuit.row ref7 1)
+          record {
+            ptr = Row.get 2 (T4 .locals) (m3 (before .before) (before .slice-known2 .given)) .ptr;
+            name = Row.get 2 (T4 .locals) (m3 (before .before) (before .slice-known2 .given)) .name;
+            now = circuits;
+          } (Row.setRow 1 (1, Mut.mslice RelayPending.row ref6 0) (T4 .locals)) (Row.set 1
+          (1, Mut.mslice RelayPending.row ref6 0) record {
+            ptr = Row.get 1 (T4 .locals) (m3 (before .before) (before .slice-known2 .given)) .ptr;
+            name = Row.get 1 (T4 .locals) (m3 (before .before) (before .slice-known2 .given)) .name;
+            now = pending;
+          } (T4 .locals) (m3 (before .before) (before .slice-known2 .given))))))))
+
+      abbrev W3 : (before : After-slice-known2) → (pending : List.List (RelayPending.row .Denot)) →
+          (circuits : List.List (RelayCircuit.row .Denot)) → (ledger : List.List (ReservationUsage.row .Denot)) →
+          (inflight : List.List (InflightAction.row .Denot)) → (out : List.List
+          (Referent.rtF (Referent.fInt Syntax.w32) .Denot)) → (body : List.List
+          (Referent.rtF (Referent.fInt Syntax.w8) .Denot)) → (case : Rows.sc-here (Row.sInt Syntax.w8) .Mod) →
+          Typed.Want O3
+      W3 = λ before pending circuits ledger inflight out body case. Typed.inLoop T4 O2 (Typed.Round T4 O2 put0 (λ u vs.
+          Inv·0 (Row.get 1 (T4 .locals) u .now) (Row.get 2 (T4 .locals) u .now) (Row.get 3 (T4 .locals) u .now)
+          (Row.get 4 (T4 .locals) u .now) (Row.get 5 (T4 .locals) u .now) (Row.get 6 (T4 .locals) u .now)
+          (Row.get 7 (T4 .locals) u) (vs .0) (vs .1) (vs .2) (vs .3) (vs .4) (vs .5) (vs .6)) (λ u vs. μ·0
+          (Row.get 1 (T4 .locals) u .now) (Row.get 2 (T4 .locals) u .now) (Row.get 3 (T4 .locals) u .now)
+          (Row.get 4 (T4 .locals) u .now) (Row.get 5 (T4 .locals) u .now) (Row.get 6 (T4 .locals) u .now)
+          (Row.get 7 (T4 .locals) u) (vs .0) (vs .1) (vs .2) (vs .3) (vs .4) (vs .5) (vs .6)) at47
+          (m3 (before .before) (before .slice-known2 .given)) (pending, circuits, ledger, inflight, out, body, case))
+          (W2 (before .before) (before .slice-known2 .given))
+
+      abbrev pub m5 : (before : After-slice-known2) → (pending : List.List (RelayPending.row .Denot)) →
+          (circuits : List.List (RelayCircuit.row .Denot)) → (ledger : List.List (ReservationUsage.row .Denot)) →
+          (inflight : List.List (InflightAction.row .Denot)) → (out : List.List
+          (Referent.rtF (Referent.fInt Syntax.w32) .Denot)) → (body : List.List
+          (Referent.rtF (Referent.fInt Syntax.w8) .Denot)) → (case : Rows.sc-here (Row.sInt Syntax.w8) .Mod) → Typed.Mo
+          T6
+      m5 = λ before pending circuits ledger inflight out body case. s3 .next
+          (m4 before pending circuits ledger inflight out body case)
+
+      abbrev W4 : (before : After-slice-known2) → (pending : List.List (RelayPending.row .Denot)) →
+          (circuits : List.List (RelayCircuit.row .Denot)) → (ledger : List.List (ReservationUsage.row .Denot)) →
+          (inflight : List.List (InflightAction.row .Denot)) → (out : List.List
+          (Referent.rtF (Referent.fInt Syntax.w32) .Denot)) → (body : List.List
+          (Referent.rtF (Referent.fInt Syntax.w8) .Denot)) → (case : Rows.sc-here (Row.sInt Syntax.w8) .Mod) →
+          Typed.Want O4
+      W4 = λ before pending circuits ledger inflight out body case. Typed.wantNext T7 O3 (at45
+          (W3 before pending circuits ledger inflight out body case))
+          (W3 before pending circuits ledger inflight out body case)
+
       module _ (before· : After-slice-known2) where
         pub record At-loop·own : Type 0 where
           pub pending : List.List (RelayPending.row .Denot)
@@ -1293,475 +2122,1280 @@ module _ (claims· : Claims) where
           pub out : List.List (Referent.rtF (Referent.fInt Syntax.w32) .Denot)
           pub body : List.List (Referent.rtF (Referent.fInt Syntax.w8) .Denot)
           pub case : Rows.sc-here (Row.sInt Syntax.w8) .Mod
-          pub inv : Inv·0 (Row.get 1 (T4 .locals) (m3 (before· .before) (before· .slice-known2 .given)) .now) (Row.get 2 (T4 .locals) (m3 (before·
-              .before) (before· .slice-known2 .given)) .now) (Row.get 3 (T4 .locals) (m3 (before· .before) (before· .slice-known2 .given)) .now)
-              (Row.get 4 (T4 .locals) (m3 (before· .before) (before· .slice-known2 .given)) .now) (Row.get 5 (T4 .locals) (m3 (before· .before)
-              (before· .slice-known2 .given)) .now) (Row.get 6 (T4 .locals) (m3 (before· .before) (before· .slice-known2 .given)) .now) (Row.get 7 (T4
-              .locals) (m3 (before· .before) (before· .slice-known2 .given))) pending circuits ledger inflight out body case
+          pub inv : Inv·0 (Row.get 1 (T4 .locals) (m3 (before· .before) (before· .slice-known2 .given)) .now) (Row.get
+              2 (T4 .locals) (m3 (before· .before) (before· .slice-known2 .given)) .now) (Row.get 3 (T4 .locals)
+              (m3 (before· .before) (before· .slice-known2 .given)) .now) (Row.get 4 (T4 .locals)
+              (m3 (before· .before) (before· .slice-known2 .given)) .now) (Row.get 5 (T4 .locals)
+              (m3 (before· .before) (before· .slice-known2 .given)) .now) (Row.get 6 (T4 .locals)
+              (m3 (before· .before) (before· .slice-known2 .given)) .now) (Row.get 7 (T4 .locals)
+              (m3 (before· .before) (before· .slice-known2 .given))) pending circuits ledger inflight out body case
+
       pub record At-loop : Type 0 where
         pub before : After-slice-known2
         pub loop : At-loop·own before
+
       module _ (before· : At-loop) where
         pub record In-loop·own : Type 0 where
-          pub taken : Nat._<_ (Row.get 7 (T4 .locals) (m4 (before· .before) (before· .loop .pending) (before· .loop .circuits) (before· .loop .ledger)
-              (before· .loop .inflight) (before· .loop .out) (before· .loop .body) (before· .loop .case))) 17
+          pub taken : Nat._<_ (Row.get 7 (T4 .locals) (m4 (before· .before) (before· .loop .pending)
+              (before· .loop .circuits) (before· .loop .ledger) (before· .loop .inflight) (before· .loop .out)
+              (before· .loop .body) (before· .loop .case))) 17
+
       pub record In-loop : Type 0 where
         pub before : At-loop
         pub loop-test : In-loop·own before
+
       abbrev pub m6 : (before : At-loop) → Typed.Mo T8
-      m6 = λ before. s4 (m5 (before .before) (before .loop .pending) (before .loop .circuits) (before .loop .ledger) (before .loop .inflight) (before
-          .loop .out) (before .loop .body) (before .loop .case))
+      m6 = λ before. s4 (m5 (before .before) (before .loop .pending) (before .loop .circuits) (before .loop .ledger)
+          (before .loop .inflight) (before .loop .out) (before .loop .body) (before .loop .case))
+
       module _ (before· : At-loop) where
         pub record After-loop·own : Type 0 where
-          pub left : Nat._≤_ 17 (Row.get 7 (T4 .locals) (m4 (before· .before) (before· .loop .pending) (before· .loop .circuits) (before· .loop
-              .ledger) (before· .loop .inflight) (before· .loop .out) (before· .loop .body) (before· .loop .case)))
+          pub left : Nat._≤_ 17 (Row.get 7 (T4 .locals) (m4 (before· .before) (before· .loop .pending)
+              (before· .loop .circuits) (before· .loop .ledger) (before· .loop .inflight) (before· .loop .out)
+              (before· .loop .body) (before· .loop .case)))
+
       pub record After-loop : Type 0 where
         pub before : At-loop
         pub loop-test : After-loop·own before
+
       abbrev pub m7 : (before : At-loop) → Typed.Mo T9
-      m7 = λ before. s5 (m5 (before .before) (before .loop .pending) (before .loop .circuits) (before .loop .ledger) (before .loop .inflight) (before
-          .loop .out) (before .loop .body) (before .loop .case))
+      m7 = λ before. s5 (m5 (before .before) (before .loop .pending) (before .loop .circuits) (before .loop .ledger)
+          (before .loop .inflight) (before .loop .out) (before .loop .body) (before .loop .case))
+
       abbrev pub m8 : (before : In-loop) → (given : s7 .gives (m6 (before .before))) → Typed.Mo T11
       m8 = λ before given. s7 .next (m6 (before .before)) given
+
       abbrev pub m9 : (before : In-loop) → (given : s7 .gives (m6 (before .before))) → Typed.Mo T12
       m9 = λ before given. s8 .next (m8 before given)
+
       module _ (before· : In-loop) where
         pub record After-one-case-arg·own : Type 0 where
           pub given : s7 .gives (m6 (before· .before))
+
       pub record After-one-case-arg : Type 0 where
         pub before : In-loop
         pub one-case-arg : After-one-case-arg·own before
-      abbrev pub m10 : (before : After-one-case-arg) → (given : s10 .gives (m9 (before .before) (before .one-case-arg .given))) → Typed.Mo T14
+
+      abbrev pub m10 : (before : After-one-case-arg) → (given : s10 .gives
+          (m9 (before .before) (before .one-case-arg .given))) → Typed.Mo T14
       m10 = λ before given. s10 .next (m9 (before .before) (before .one-case-arg .given)) given
-      abbrev pub m11 : (before : After-one-case-arg) → (given : s10 .gives (m9 (before .before) (before .one-case-arg .given))) → Typed.Mo T15
+
+      abbrev pub m11 : (before : After-one-case-arg) → (given : s10 .gives
+          (m9 (before .before) (before .one-case-arg .given))) → Typed.Mo T15
       m11 = λ before given. s11 .next (m10 before given)
+
       module _ (before· : After-one-case-arg) where
         pub record After-one-case-arg2·own : Type 0 where
           pub given : s10 .gives (m9 (before· .before) (before· .one-case-arg .given))
+
       pub record After-one-case-arg2 : Type 0 where
         pub before : After-one-case-arg
         pub one-case-arg2 : After-one-case-arg2·own before
-      abbrev pub m12 : (before : After-one-case-arg2) → (given : s13 .gives (m11 (before .before) (before .one-case-arg2 .given))) → Typed.Mo T17
+
+      abbrev pub m12 : (before : After-one-case-arg2) → (given : s13 .gives
+          (m11 (before .before) (before .one-case-arg2 .given))) → Typed.Mo T17
       m12 = λ before given. s13 .next (m11 (before .before) (before .one-case-arg2 .given)) given
-      abbrev pub m13 : (before : After-one-case-arg2) → (given : s13 .gives (m11 (before .before) (before .one-case-arg2 .given))) → Typed.Mo T18
+
+      abbrev pub m13 : (before : After-one-case-arg2) → (given : s13 .gives
+          (m11 (before .before) (before .one-case-arg2 .given))) → Typed.Mo T18
       m13 = λ before given. s14 .next (m12 before given)
+
       module _ (before· : After-one-case-arg2) where
         pub record After-one-case-arg3·own : Type 0 where
           pub given : s13 .gives (m11 (before· .before) (before· .one-case-arg2 .given))
+
       pub record After-one-case-arg3 : Type 0 where
         pub before : After-one-case-arg2
         pub one-case-arg3 : After-one-case-arg3·own before
-      abbrev pub m14 : (before : After-one-case-arg3) → (given : s16 .gives (m13 (before .before) (before .one-case-arg3 .given))) → Typed.Mo T20
+
+      abbrev pub m14 : (before : After-one-case-arg3) → (given : s16 .gives
+          (m13 (before .before) (before .one-case-arg3 .given))) → Typed.Mo T20
       m14 = λ before given. s16 .next (m13 (before .before) (before .one-case-arg3 .given)) given
-      abbrev pub m15 : (before : After-one-case-arg3) → (given : s16 .gives (m13 (before .before) (before .one-case-arg3 .given))) → Typed.Mo T21
+
+      abbrev pub m15 : (before : After-one-case-arg3) → (given : s16 .gives
+          (m13 (before .before) (before .one-case-arg3 .given))) → Typed.Mo T21
       m15 = λ before given. s17 .next (m14 before given)
+
       module _ (before· : After-one-case-arg3) where
         pub record After-one-case-arg4·own : Type 0 where
           pub given : s16 .gives (m13 (before· .before) (before· .one-case-arg3 .given))
+
       pub record After-one-case-arg4 : Type 0 where
         pub before : After-one-case-arg3
         pub one-case-arg4 : After-one-case-arg4·own before
-      abbrev pub m16 : (before : After-one-case-arg4) → (given : s19 .gives (m15 (before .before) (before .one-case-arg4 .given))) → Typed.Mo T23
+
+      abbrev pub m16 : (before : After-one-case-arg4) → (given : s19 .gives
+          (m15 (before .before) (before .one-case-arg4 .given))) → Typed.Mo T23
       m16 = λ before given. s19 .next (m15 (before .before) (before .one-case-arg4 .given)) given
-      abbrev pub m17 : (before : After-one-case-arg4) → (given : s19 .gives (m15 (before .before) (before .one-case-arg4 .given))) → Typed.Mo T24
+
+      abbrev pub m17 : (before : After-one-case-arg4) → (given : s19 .gives
+          (m15 (before .before) (before .one-case-arg4 .given))) → Typed.Mo T24
       m17 = λ before given. s20 .next (m16 before given)
+
       module _ (before· : After-one-case-arg4) where
         pub record After-one-case-arg5·own : Type 0 where
           pub given : s19 .gives (m15 (before· .before) (before· .one-case-arg4 .given))
+
       pub record After-one-case-arg5 : Type 0 where
         pub before : After-one-case-arg4
         pub one-case-arg5 : After-one-case-arg5·own before
-      abbrev pub m18 : (before : After-one-case-arg5) → (given : s22 .gives (m17 (before .before) (before .one-case-arg5 .given))) → Typed.Mo T26
+
+      abbrev pub m18 : (before : After-one-case-arg5) → (given : s22 .gives
+          (m17 (before .before) (before .one-case-arg5 .given))) → Typed.Mo T26
       m18 = λ before given. s22 .next (m17 (before .before) (before .one-case-arg5 .given)) given
-      abbrev pub m19 : (before : After-one-case-arg5) → (given : s22 .gives (m17 (before .before) (before .one-case-arg5 .given))) → Typed.Mo T27
+
+      abbrev pub m19 : (before : After-one-case-arg5) → (given : s22 .gives
+          (m17 (before .before) (before .one-case-arg5 .given))) → Typed.Mo T27
       m19 = λ before given. s23 .next (m18 before given)
+
       module _ (before· : After-one-case-arg5) where
         pub record After-one-case-arg6·own : Type 0 where
           pub given : s22 .gives (m17 (before· .before) (before· .one-case-arg5 .given))
+
       pub record After-one-case-arg6 : Type 0 where
         pub before : After-one-case-arg5
         pub one-case-arg6 : After-one-case-arg6·own before
+
       abbrev pub Need-one-case-requires : Type 0
       Need-one-case-requires = (c : After-one-case-arg6) → s24 .asks (m19 (c .before) (c .one-case-arg6 .given))
-      abbrev pub m20 : (before : After-one-case-arg6) → (given : s24 .gives (m19 (before .before) (before .one-case-arg6 .given))) → Typed.Mo T28
+
+      abbrev pub m20 : (before : After-one-case-arg6) → (given : s24 .gives
+          (m19 (before .before) (before .one-case-arg6 .given))) → Typed.Mo T28
       m20 = λ before given. s24 .next (m19 (before .before) (before .one-case-arg6 .given)) given
+
       module _ (before· : After-one-case-arg6) where
         abbrev pub After-one-case·own : Type 0
-        After-one-case·own = Called.Called ps·0 r·0 (claims· .1) T27 (record { pos = 11; ty = Syntax.tyRef Syntax.erased Syntax.mut RelayPending.to;
-            ref = λ x. x; }, (record { pos = 13; ty = Syntax.tyRef Syntax.erased Syntax.mut RelayCircuit.to; ref = λ x. x; }, (record { pos = 15; ty =
-            Syntax.tyRef Syntax.erased Syntax.mut ReservationUsage.to; ref = λ x. x; }, (record { pos = 17; ty = Syntax.tyRef Syntax.erased Syntax.mut
-            InflightAction.to; ref = λ x. x; }, (record { pos = 19; ty = Syntax.tyRef Syntax.erased Syntax.mut (Syntax.tyInt Syntax.w32); ref = λ x.
-            x; }, (record { pos = 21; ty = Syntax.tyRef Syntax.erased Syntax.mut (Syntax.tyInt Syntax.w8); ref = λ x. x; }, (Num.vAt 7 λ x. x,
-            tt),),),),),),) (m19 (before· .before) (before· .one-case-arg6 .given))
+        After-one-case·own = Called.Called ps·0 r·0 (claims· .1) T27 args24
+            (m19 (before· .before) (before· .one-case-arg6 .given))
+
       pub record After-one-case : Type 0 where
         pub before : After-one-case-arg6
         pub one-case : After-one-case·own before
-      abbrev pub After-one-case·gave : (c : After-one-case) → s24 .gives (m19 (c .before .before) (c .before .one-case-arg6 .given))
-      After-one-case·gave = λ c. Called.given ps·0 r·0 (claims· .1) T27 (record { pos = 11; ty = Syntax.tyRef Syntax.erased Syntax.mut
-          RelayPending.to; ref = λ x. x; }, (record { pos = 13; ty = Syntax.tyRef Syntax.erased Syntax.mut RelayCircuit.to; ref = λ x. x; }, (record {
-          pos = 15; ty = Syntax.tyRef Syntax.erased Syntax.mut ReservationUsage.to; ref = λ x. x; }, (record { pos = 17; ty = Syntax.tyRef
-          Syntax.erased Syntax.mut InflightAction.to; ref = λ x. x; }, (record { pos = 19; ty = Syntax.tyRef Syntax.erased Syntax.mut (Syntax.tyInt
-          Syntax.w32); ref = λ x. x; }, (record { pos = 21; ty = Syntax.tyRef Syntax.erased Syntax.mut (Syntax.tyInt Syntax.w8); ref = λ x. x; },
-          (Num.vAt 7 λ x. x, tt),),),),),),) (m19 (c .before .before) (c .before .one-case-arg6 .given)) (c .one-case)
-      abbrev pub m21 : (before : After-one-case-arg6) → (given : s24 .gives (m19 (before .before) (before .one-case-arg6 .given))) → Typed.Mo T29
+
+      abbrev pub After-one-case·gave : (c : After-one-case) → s24 .gives
+          (m19 (c .before .before) (c .before .one-case-arg6 .given))
+      After-one-case·gave = λ c. Called.given ps·0 r·0 (claims· .1) T27 args24
+          (m19 (c .before .before) (c .before .one-case-arg6 .given)) (c .one-case)
+
+      abbrev pub m21 : (before : After-one-case-arg6) → (given : s24 .gives
+          (m19 (before .before) (before .one-case-arg6 .given))) → Typed.Mo T29
       m21 = λ before given. s25 (m20 before given)
-      abbrev pub m22 : (before : After-one-case) → (given : s27 .gives (m21 (before .before) (After-one-case·gave before))) → Typed.Mo T31
+
+      abbrev pub m22 : (before : After-one-case) → (given : s27 .gives
+          (m21 (before .before) (After-one-case·gave before))) → Typed.Mo T31
       m22 = λ before given. s27 .next (m21 (before .before) (After-one-case·gave before)) given
+
       module _ (before· : After-one-case) where
         pub record After-pending·own : Type 0 where
           pub given : s27 .gives (m21 (before· .before) (After-one-case·gave before·))
+
       pub record After-pending : Type 0 where
         pub before : After-one-case
         pub pending : After-pending·own before
-      abbrev pub m23 : (before : After-pending) → (given : s30 .gives (m22 (before .before) (before .pending .given))) → Typed.Mo T34
+
+      abbrev pub m23 : (before : After-pending) → (given : s30 .gives (m22 (before .before) (before .pending .given)))
+          → Typed.Mo T34
       m23 = λ before given. s30 .next (m22 (before .before) (before .pending .given)) given
+
       module _ (before· : After-pending) where
         pub record After-circuits·own : Type 0 where
           pub given : s30 .gives (m22 (before· .before) (before· .pending .given))
+
       pub record After-circuits : Type 0 where
         pub before : After-pending
         pub circuits : After-circuits·own before
-      abbrev pub m24 : (before : After-circuits) → (given : s33 .gives (m23 (before .before) (before .circuits .given))) → Typed.Mo T37
+
+      abbrev pub m24 : (before : After-circuits) → (given : s33 .gives (m23 (before .before) (before .circuits .given)))
+          → Typed.Mo T37
       m24 = λ before given. s33 .next (m23 (before .before) (before .circuits .given)) given
+
       module _ (before· : After-circuits) where
         pub record After-ledger·own : Type 0 where
           pub given : s33 .gives (m23 (before· .before) (before· .circuits .given))
+
       pub record After-ledger : Type 0 where
         pub before : After-circuits
         pub ledger : After-ledger·own before
-      abbrev pub m25 : (before : After-ledger) → (given : s36 .gives (m24 (before .before) (before .ledger .given))) → Typed.Mo T40
+
+      abbrev pub m25 : (before : After-ledger) → (given : s36 .gives (m24 (before .before) (before .ledger .given))) →
+          Typed.Mo T40
       m25 = λ before given. s36 .next (m24 (before .before) (before .ledger .given)) given
+
       module _ (before· : After-ledger) where
         pub record After-inflight·own : Type 0 where
           pub given : s36 .gives (m24 (before· .before) (before· .ledger .given))
+
       pub record After-inflight : Type 0 where
         pub before : After-ledger
         pub inflight : After-inflight·own before
-      abbrev pub m26 : (before : After-inflight) → (given : s39 .gives (m25 (before .before) (before .inflight .given))) → Typed.Mo T43
+
+      abbrev pub m26 : (before : After-inflight) → (given : s39 .gives (m25 (before .before) (before .inflight .given)))
+          → Typed.Mo T43
       m26 = λ before given. s39 .next (m25 (before .before) (before .inflight .given)) given
+
       module _ (before· : After-inflight) where
         pub record After-out·own : Type 0 where
           pub given : s39 .gives (m25 (before· .before) (before· .inflight .given))
+
       pub record After-out : Type 0 where
         pub before : After-inflight
         pub out : After-out·own before
-      abbrev pub m27 : (before : After-out) → (given : s40 .gives (m26 (before .before) (before .out .given))) → Typed.Mo T44
+
+      abbrev pub m27 : (before : After-out) → (given : s40 .gives (m26 (before .before) (before .out .given))) →
+          Typed.Mo T44
       m27 = λ before given. s40 .next (m26 (before .before) (before .out .given)) given
+
       module _ (before· : After-out) where
         pub record After-slice-known3·own : Type 0 where
           pub given : s40 .gives (m26 (before· .before) (before· .out .given))
+
       pub record After-slice-known3 : Type 0 where
         pub before : After-out
         pub slice-known3 : After-slice-known3·own before
-      abbrev pub m28 : (before : After-slice-known3) → (given : s43 .gives (m27 (before .before) (before .slice-known3 .given))) → Typed.Mo T47
+
+      abbrev pub m28 : (before : After-slice-known3) → (given : s43 .gives
+          (m27 (before .before) (before .slice-known3 .given))) → Typed.Mo T47
       m28 = λ before given. s43 .next (m27 (before .before) (before .slice-known3 .given)) given
+
       module _ (before· : After-slice-known3) where
         pub record After-body·own : Type 0 where
           pub given : s43 .gives (m27 (before· .before) (before· .slice-known3 .given))
+
       pub record After-body : Type 0 where
         pub before : After-slice-known3
         pub body : After-body·own before
-      abbrev pub m29 : (before : After-body) → (given : s44 .gives (m28 (before .before) (before .body .given))) → Typed.Mo T48
+
+      abbrev pub m29 : (before : After-body) → (given : s44 .gives (m28 (before .before) (before .body .given))) →
+          Typed.Mo T48
       m29 = λ before given. s44 .next (m28 (before .before) (before .body .given)) given
+
       module _ (before· : After-body) where
         pub record After-slice-known4·own : Type 0 where
           pub given : s44 .gives (m28 (before· .before) (before· .body .given))
+
       pub record After-slice-known4 : Type 0 where
         pub before : After-body
         pub slice-known4 : After-slice-known4·own before
+
       abbrev pub Need-add-case : Type 0
       Need-add-case = (c : After-slice-known4) → s46 .asks (m29 (c .before) (c .slice-known4 .given))
-      abbrev pub m30 : (before : After-body) → (given : s44 .gives (m28 (before .before) (before .body .given))) → Typed.Mo T50
+
+      abbrev pub m30 : (before : After-body) → (given : s44 .gives (m28 (before .before) (before .body .given))) →
+          Typed.Mo T50
       m30 = λ before given. s46 .next (m29 before given)
+
       abbrev pub Need-loop-less : Type 0
-      Need-loop-less = (c : After-slice-known4) → Nat._<_ (μ·0 (Row.get 1 (T4 .locals) (m3 (c .before .before .before .before .before .before .before
-          .before .before .before .before .before .before .before .before .before .before .before) (c .before .before .before .before .before .before
-          .before .before .before .before .before .before .before .before .before .before .before .slice-known2 .given)) .now) (Row.get 2 (T4 .locals)
-          (m3 (c .before .before .before .before .before .before .before .before .before .before .before .before .before .before .before .before
-          .before .before) (c .before .before .before .before .before .before .before .before .before .before .before .before .before .before .before
-          .before .before .slice-known2 .given)) .now) (Row.get 3 (T4 .locals) (m3 (c .before .before .before .before .before .before .before .before
-          .before .before .before .before .before .before .before .before .before .before) (c .before .before .before .before .before .before .before
-          .before .before .before .before .before .before .before .before .before .before .slice-known2 .given)) .now) (Row.get 4 (T4 .locals) (m3 (c
-          .before .before .before .before .before .before .before .before .before .before .before .before .before .before .before .before .before
-          .before) (c .before .before .before .before .before .before .before .before .before .before .before .before .before .before .before .before
-          .before .slice-known2 .given)) .now) (Row.get 5 (T4 .locals) (m3 (c .before .before .before .before .before .before .before .before .before
-          .before .before .before .before .before .before .before .before .before) (c .before .before .before .before .before .before .before .before
-          .before .before .before .before .before .before .before .before .before .slice-known2 .given)) .now) (Row.get 6 (T4 .locals) (m3 (c .before
-          .before .before .before .before .before .before .before .before .before .before .before .before .before .before .before .before .before) (c
-          .before .before .before .before .before .before .before .before .before .before .before .before .before .before .before .before .before
-          .slice-known2 .given)) .now) (Row.get 7 (T4 .locals) (m3 (c .before .before .before .before .before .before .before .before .before .before
-          .before .before .before .before .before .before .before .before) (c .before .before .before .before .before .before .before .before .before
-          .before .before .before .before .before .before .before .before .slice-known2 .given))) (Row.get 1 (T4 .locals) (m30 (c .before) (c
-          .slice-known4 .given)) .now) (Row.get 2 (T4 .locals) (m30 (c .before) (c .slice-known4 .given)) .now) (Row.get 3 (T4 .locals) (m30 (c
-          .before) (c .slice-known4 .given)) .now) (Row.get 4 (T4 .locals) (m30 (c .before) (c .slice-known4 .given)) .now) (Row.get 5 (T4 .locals)
-          (m30 (c .before) (c .slice-known4 .given)) .now) (Row.get 6 (T4 .locals) (m30 (c .before) (c .slice-known4 .given)) .now) (Row.get 7 (T4
-          .locals) (m30 (c .before) (c .slice-known4 .given)))) (μ·0 (Row.get 1 (T4 .locals) (m3 (c .before .before .before .before .before .before
-          .before .before .before .before .before .before .before .before .before .before .before .before) (c .before .before .before .before .before
-          .before .before .before .before .before .before .before .before .before .before .before .before .slice-known2 .given)) .now) (Row.get 2 (T4
-          .locals) (m3 (c .before .before .before .before .before .before .before .before .before .before .before .before .before .before .before
-          .before .before .before) (c .before .before .before .before .before .before .before .before .before .before .before .before .before .before
-          .before .before .before .slice-known2 .given)) .now) (Row.get 3 (T4 .locals) (m3 (c .before .before .before .before .before .before .before
-          .before .before .before .before .before .before .before .before .before .before .before) (c .before .before .before .before .before .before
-          .before .before .before .before .before .before .before .before .before .before .before .slice-known2 .given)) .now) (Row.get 4 (T4 .locals)
-          (m3 (c .before .before .before .before .before .before .before .before .before .before .before .before .before .before .before .before
-          .before .before) (c .before .before .before .before .before .before .before .before .before .before .before .before .before .before .before
-          .before .before .slice-known2 .given)) .now) (Row.get 5 (T4 .locals) (m3 (c .before .before .before .before .before .before .before .before
-          .before .before .before .before .before .before .before .before .before .before) (c .before .before .before .before .before .before .before
-          .before .before .before .before .before .before .before .before .before .before .slice-known2 .given)) .now) (Row.get 6 (T4 .locals) (m3 (c
-          .before .before .before .before .before .before .before .before .before .before .before .before .before .before .before .before .before
-          .before) (c .before .before .before .before .before .before .before .before .before .before .before .before .before .before .before .before
-          .before .slice-known2 .given)) .now) (Row.get 7 (T4 .locals) (m3 (c .before .before .before .before .before .before .before .before .before
-          .before .before .before .before .before .before .before .before .before) (c .before .before .before .before .before .before .before .before
-          .before .before .before .before .before .before .before .before .before .slice-known2 .given))) (c .before .before .before .before .before
-          .before .before .before .before .before .before .before .before .before .before .before .loop .pending) (c .before .before .before .before
-          .before .before .before .before .before .before .before .before .before .before .before .before .loop .circuits) (c .before .before .before
-          .before .before .before .before .before .before .before .before .before .before .before .before .before .loop .ledger) (c .before .before
-          .before .before .before .before .before .before .before .before .before .before .before .before .before .before .loop .inflight) (c .before
-          .before .before .before .before .before .before .before .before .before .before .before .before .before .before .before .loop .out) (c
-          .before .before .before .before .before .before .before .before .before .before .before .before .before .before .before .before .loop .body)
-          (c .before .before .before .before .before .before .before .before .before .before .before .before .before .before .before .before .loop
-          .case))
+      Need-loop-less = (c : After-slice-known4) → Nat._<_ (μ·0 (Row.get 1 (T4 .locals) (m3 (c .before .before .before
+          .before .before .before .before .before .before .before .before .before .before .before .before .before
+          .before .before) (c .before .before .before .before .before .before .before .before .before .before .before
+          .before .before .before .before .before .before .slice-known2 .given)) .now) (Row.get 2 (T4 .locals) (m3 (c
+          .before .before .before .before .before .before .before .before .before .before .before .before .before
+          .before .before .before .before .before) (c .before .before .before .before .before .before .before .before
+          .before .before .before .before .before .before .before .before .before .slice-known2 .given)) .now) (Row.get
+          3 (T4 .locals) (m3 (c .before .before .before .before .before .before .before .before .before .before .before
+          .before .before .before .before .before .before .before) (c .before .before .before .before .before .before
+          .before .before .before .before .before .before .before .before .before .before .before .slice-known2 .given))
+          .now) (Row.get 4 (T4 .locals) (m3 (c .before .before .before .before .before .before .before .before .before
+          .before .before .before .before .before .before .before .before .before) (c .before .before .before .before
+          .before .before .before .before .before .before .before .before .before .before .before .before .before
+          .slice-known2 .given)) .now) (Row.get 5 (T4 .locals) (m3 (c .before .before .before .before .before .before
+          .before .before .before .before .before .before .before .before .before .before .before .before) (c .before
+          .before .before .before .before .before .before .before .before .before .before .before .before .before
+          .before .before .before .slice-known2 .given)) .now) (Row.get 6 (T4 .locals) (m3 (c .before .before .before
+          .before .before .before .before .before .before .before .before .before .before .before .before .before
+          .before .before) (c .before .before .before .before .before .before .before .before .before .before .before
+          .before .before .before .before .before .before .slice-known2 .given)) .now) (Row.get 7 (T4 .locals) (m3 (c
+          .before .before .before .before .before .before .before .before .before .before .before .before .before
+          .before .before .before .before .before) (c .before .before .before .before .before .before .before .before
+          .before .before .before .before .before .before .before .before .before .slice-known2 .given))) (Row.get 1
+          (T4 .locals) (m30 (c .before) (c .slice-known4 .given)) .now) (Row.get 2 (T4 .locals)
+          (m30 (c .before) (c .slice-known4 .given)) .now) (Row.get 3 (T4 .locals)
+          (m30 (c .before) (c .slice-known4 .given)) .now) (Row.get 4 (T4 .locals)
+          (m30 (c .before) (c .slice-known4 .given)) .now) (Row.get 5 (T4 .locals)
+          (m30 (c .before) (c .slice-known4 .given)) .now) (Row.get 6 (T4 .locals)
+          (m30 (c .before) (c .slice-known4 .given)) .now) (Row.get 7 (T4 .locals)
+          (m30 (c .before) (c .slice-known4 .given)))) (μ·0 (Row.get 1 (T4 .locals) (m3 (c .before .before .before
+          .before .before .before .before .before .before .before .before .before .before .before .before .before
+          .before .before) (c .before .before .before .before .before .before .before .before .before .before .before
+          .before .before .before .before .before .before .slice-known2 .given)) .now) (Row.get 2 (T4 .locals) (m3 (c
+          .before .before .before .before .before .before .before .before .before .before .before .before .before
+          .before .before .before .before .before) (c .before .before .before .before .before .before .before .before
+          .before .before .before .before .before .before .before .before .before .slice-known2 .given)) .now) (Row.get
+          3 (T4 .locals) (m3 (c .before .before .before .before .before .before .before .before .before .before .before
+          .before .before .before .before .before .before .before) (c .before .before .before .before .before .before
+          .before .before .before .before .before .before .before .before .before .before .before .slice-known2 .given))
+          .now) (Row.get 4 (T4 .locals) (m3 (c .before .before .before .before .before .before .before .before .before
+          .before .before .before .before .before .before .before .before .before) (c .before .before .before .before
+          .before .before .before .before .before .before .before .before .before .before .before .before .before
+          .slice-known2 .given)) .now) (Row.get 5 (T4 .locals) (m3 (c .before .before .before .before .before .before
+          .before .before .before .before .before .before .before .before .before .before .before .before) (c .before
+          .before .before .before .before .before .before .before .before .before .before .before .before .before
+          .before .before .before .slice-known2 .given)) .now) (Row.get 6 (T4 .locals) (m3 (c .before .before .before
+          .before .before .before .before .before .before .before .before .before .before .before .before .before
+          .before .before) (c .before .before .before .before .before .before .before .before .before .before .before
+          .before .before .before .before .before .before .slice-known2 .given)) .now) (Row.get 7 (T4 .locals) (m3 (c
+          .before .before .before .before .before .before .before .before .before .before .before .before .before
+          .before .before .before .before .before) (c .before .before .before .before .before .before .before .before
+          .before .before .before .before .before .before .before .before .before .slice-known2 .given))) (c .before
+          .before .before .before .before .before .before .before .before .before .before .before .before .before
+          .before .before .loop .pending) (c .before .before .before .before .before .before .before .before .before
+          .before .before .before .before .before .before .before .loop .circuits) (c .before .before .before .before
+          .before .before .before .before .before .before .before .before .before .before .before .before .loop .ledger) (c
+          .before .before .before .before .before .before .before .before .before .before .before .before .before
+          .before .before .before .loop .inflight) (c .before .before .before .before .before .before .before .before
+          .before .before .before .before .before .before .before .before .loop .out) (c .before .before .before
+          .before .before .before .before .before .before .before .before .before .before .before .before .before .loop
+          .body) (c .before .before .before .before .before .before .before .before .before .before .before .before
+          .before .before .before .before .loop .case))
+
       abbrev pub Need-loop-again : Type 0
-      Need-loop-again = (c : After-slice-known4) → Inv·0 (Row.get 1 (T4 .locals) (m3 (c .before .before .before .before .before .before .before
-          .before .before .before .before .before .before .before .before .before .before .before) (c .before .before .before .before .before .before
-          .before .before .before .before .before .before .before .before .before .before .before .slice-known2 .given)) .now) (Row.get 2 (T4 .locals)
-          (m3 (c .before .before .before .before .before .before .before .before .before .before .before .before .before .before .before .before
-          .before .before) (c .before .before .before .before .before .before .before .before .before .before .before .before .before .before .before
-          .before .before .slice-known2 .given)) .now) (Row.get 3 (T4 .locals) (m3 (c .before .before .before .before .before .before .before .before
-          .before .before .before .before .before .before .before .before .before .before) (c .before .before .before .before .before .before .before
-          .before .before .before .before .before .before .before .before .before .before .slice-known2 .given)) .now) (Row.get 4 (T4 .locals) (m3 (c
-          .before .before .before .before .before .before .before .before .before .before .before .before .before .before .before .before .before
-          .before) (c .before .before .before .before .before .before .before .before .before .before .before .before .before .before .before .before
-          .before .slice-known2 .given)) .now) (Row.get 5 (T4 .locals) (m3 (c .before .before .before .before .before .before .before .before .before
-          .before .before .before .before .before .before .before .before .before) (c .before .before .before .before .before .before .before .before
-          .before .before .before .before .before .before .before .before .before .slice-known2 .given)) .now) (Row.get 6 (T4 .locals) (m3 (c .before
-          .before .before .before .before .before .before .before .before .before .before .before .before .before .before .before .before .before) (c
-          .before .before .before .before .before .before .before .before .before .before .before .before .before .before .before .before .before
-          .slice-known2 .given)) .now) (Row.get 7 (T4 .locals) (m3 (c .before .before .before .before .before .before .before .before .before .before
-          .before .before .before .before .before .before .before .before) (c .before .before .before .before .before .before .before .before .before
-          .before .before .before .before .before .before .before .before .slice-known2 .given))) (Row.get 1 (T4 .locals) (m30 (c .before) (c
-          .slice-known4 .given)) .now) (Row.get 2 (T4 .locals) (m30 (c .before) (c .slice-known4 .given)) .now) (Row.get 3 (T4 .locals) (m30 (c
-          .before) (c .slice-known4 .given)) .now) (Row.get 4 (T4 .locals) (m30 (c .before) (c .slice-known4 .given)) .now) (Row.get 5 (T4 .locals)
-          (m30 (c .before) (c .slice-known4 .given)) .now) (Row.get 6 (T4 .locals) (m30 (c .before) (c .slice-known4 .given)) .now) (Row.get 7 (T4
-          .locals) (m30 (c .before) (c .slice-known4 .given)))
+      Need-loop-again = (c : After-slice-known4) → Inv·0 (Row.get 1 (T4 .locals) (m3 (c .before .before .before .before
+          .before .before .before .before .before .before .before .before .before .before .before .before .before
+          .before) (c .before .before .before .before .before .before .before .before .before .before .before .before
+          .before .before .before .before .before .slice-known2 .given)) .now) (Row.get 2 (T4 .locals) (m3 (c .before
+          .before .before .before .before .before .before .before .before .before .before .before .before .before
+          .before .before .before .before) (c .before .before .before .before .before .before .before .before .before
+          .before .before .before .before .before .before .before .before .slice-known2 .given)) .now) (Row.get 3
+          (T4 .locals) (m3 (c .before .before .before .before .before .before .before .before .before .before .before
+          .before .before .before .before .before .before .before) (c .before .before .before .before .before .before
+          .before .before .before .before .before .before .before .before .before .before .before .slice-known2 .given))
+          .now) (Row.get 4 (T4 .locals) (m3 (c .before .before .before .before .before .before .before .before .before
+          .before .before .before .before .before .before .before .before .before) (c .before .before .before .before
+          .before .before .before .before .before .before .before .before .before .before .before .before .before
+          .slice-known2 .given)) .now) (Row.get 5 (T4 .locals) (m3 (c .before .before .before .before .before .before
+          .before .before .before .before .before .before .before .before .before .before .before .before) (c .before
+          .before .before .before .before .before .before .before .before .before .before .before .before .before
+          .before .before .before .slice-known2 .given)) .now) (Row.get 6 (T4 .locals) (m3 (c .before .before .before
+          .before .before .before .before .before .before .before .before .before .before .before .before .before
+          .before .before) (c .before .before .before .before .before .before .before .before .before .before .before
+          .before .before .before .before .before .before .slice-known2 .given)) .now) (Row.get 7 (T4 .locals) (m3 (c
+          .before .before .before .before .before .before .before .before .before .before .before .before .before
+          .before .before .before .before .before) (c .before .before .before .before .before .before .before .before
+          .before .before .before .before .before .before .before .before .before .slice-known2 .given))) (Row.get 1
+          (T4 .locals) (m30 (c .before) (c .slice-known4 .given)) .now) (Row.get 2 (T4 .locals)
+          (m30 (c .before) (c .slice-known4 .given)) .now) (Row.get 3 (T4 .locals)
+          (m30 (c .before) (c .slice-known4 .given)) .now) (Row.get 4 (T4 .locals)
+          (m30 (c .before) (c .slice-known4 .given)) .now) (Row.get 5 (T4 .locals)
+          (m30 (c .before) (c .slice-known4 .given)) .now) (Row.get 6 (T4 .locals)
+          (m30 (c .before) (c .slice-known4 .given)) .now) (Row.get 7 (T4 .locals)
+          (m30 (c .before) (c .slice-known4 .given)))
+
       abbrev pub m31 : (before : At-loop) → Typed.Mo T51
       m31 = λ before. s47 (m7 before)
+
       abbrev pub m32 : (before : At-loop) → Typed.Mo T52
       m32 = λ before. s48 (m31 before)
+
       abbrev pub Need-same-length : Type 0
-      Need-same-length = (c : After-loop) → MutSlice.SameLen (Row.get 1 (T52 .locals) (m32 (c .before))) (dens (c .before .before .before .before .κs)
-          (c .before .before .before .before .args) .0)
+      Need-same-length = (c : After-loop) → MutSlice.SameLen (Row.get 1 (T52 .locals) (m32 (c .before))) (dens
+          (c .before .before .before .before .κs) (c .before .before .before .before .args) .0)
+
       abbrev pub Need-same-length-2 : Type 0
-      Need-same-length-2 = (c : After-loop) → MutSlice.SameLen (Row.get 2 (T52 .locals) (m32 (c .before))) (dens (c .before .before .before .before
-          .κs) (c .before .before .before .before .args) .1 .0)
+      Need-same-length-2 = (c : After-loop) → MutSlice.SameLen (Row.get 2 (T52 .locals) (m32 (c .before))) (dens
+          (c .before .before .before .before .κs) (c .before .before .before .before .args) .1 .0)
+
       abbrev pub Need-same-length-3 : Type 0
-      Need-same-length-3 = (c : After-loop) → MutSlice.SameLen (Row.get 3 (T52 .locals) (m32 (c .before))) (dens (c .before .before .before .before
-          .κs) (c .before .before .before .before .args) .1 .1 .0)
+      Need-same-length-3 = (c : After-loop) → MutSlice.SameLen (Row.get 3 (T52 .locals) (m32 (c .before))) (dens
+          (c .before .before .before .before .κs) (c .before .before .before .before .args) .1 .1 .0)
+
       abbrev pub Need-same-length-4 : Type 0
-      Need-same-length-4 = (c : After-loop) → MutSlice.SameLen (Row.get 4 (T52 .locals) (m32 (c .before))) (dens (c .before .before .before .before
-          .κs) (c .before .before .before .before .args) .1 .1 .1 .0)
+      Need-same-length-4 = (c : After-loop) → MutSlice.SameLen (Row.get 4 (T52 .locals) (m32 (c .before))) (dens
+          (c .before .before .before .before .κs) (c .before .before .before .before .args) .1 .1 .1 .0)
+
       abbrev pub Need-same-length-5 : Type 0
-      Need-same-length-5 = (c : After-loop) → MutSlice.SameLen (Row.get 5 (T52 .locals) (m32 (c .before))) (dens (c .before .before .before .before
-          .κs) (c .before .before .before .before .args) .1 .1 .1 .1 .0)
+      Need-same-length-5 = (c : After-loop) → MutSlice.SameLen (Row.get 5 (T52 .locals) (m32 (c .before))) (dens
+          (c .before .before .before .before .κs) (c .before .before .before .before .args) .1 .1 .1 .1 .0)
+
       abbrev pub Need-same-length-6 : Type 0
-      Need-same-length-6 = (c : After-loop) → MutSlice.SameLen (Row.get 6 (T52 .locals) (m32 (c .before))) (dens (c .before .before .before .before
-          .κs) (c .before .before .before .before .args) .1 .1 .1 .1 .1 .0)
+      Need-same-length-6 = (c : After-loop) → MutSlice.SameLen (Row.get 6 (T52 .locals) (m32 (c .before))) (dens
+          (c .before .before .before .before .κs) (c .before .before .before .before .args) .1 .1 .1 .1 .1 .0)
+
       abbrev pub Need-returns : Type 0
-      Need-returns = (c : After-loop) → Post· (c .before .before .before .before .κs) (dens (c .before .before .before .before .κs) (c .before .before
-          .before .before .args)) (Function.resV r (c .before .before .before .before .κs) (m32 (c .before) .0)) (Clauses.atExit (Kinds.endedOf 6 ps
-          r) (c .before .before .before .before .κs) (dens (c .before .before .before .before .κs) (c .before .before .before .before .args))
-          (Enter.lastsP (c .before .before .before .before .κs) 1 ps xs (dens (c .before .before .before .before .κs) (c .before .before .before
-          .before .args)) (m32 (c .before) .1)))
-      module _ (loop-holds : Need-loop-holds) (one-case-requires : Need-one-case-requires) (add-case : Need-add-case) (loop-less : Need-loop-less)
-          (loop-again : Need-loop-again) (same-length : Need-same-length) (same-length-2 : Need-same-length-2) (same-length-3 : Need-same-length-3)
-          (same-length-4 : Need-same-length-4) (same-length-5 : Need-same-length-5) (same-length-6 : Need-same-length-6) (returns : Need-returns)
-          where
-        lay5 : (c : After-loop) → at52 (W0 (c .before .before .before .before .κs) (c .before .before .before .before .args)) (m7 (c .before))
-        lay5 = λ c. ((MutSlice.fix-len (Row.get 1 (T52 .locals) (m32 (c .before)) .ptr) (Row.get 1 (T52 .locals) (m32 (c .before)) .name) (Row.get 1
-            (T52 .locals) (m32 (c .before)) .now) (dens (c .before .before .before .before .κs) (c .before .before .before .before .args) .0 .now)
-            (same-length record { before = c .before; loop-test = c .loop-test }), (MutSlice.fix-len (Row.get 2 (T52 .locals) (m32 (c .before)) .ptr)
-            (Row.get 2 (T52 .locals) (m32 (c .before)) .name) (Row.get 2 (T52 .locals) (m32 (c .before)) .now) (dens (c .before .before .before
-            .before .κs) (c .before .before .before .before .args) .1 .0 .now) (same-length-2 record { before = c .before; loop-test = c .loop-test
-            }), (MutSlice.fix-len (Row.get 3 (T52 .locals) (m32 (c .before)) .ptr) (Row.get 3 (T52 .locals) (m32 (c .before)) .name) (Row.get 3 (T52
-            .locals) (m32 (c .before)) .now) (dens (c .before .before .before .before .κs) (c .before .before .before .before .args) .1 .1 .0 .now)
-            (same-length-3 record { before = c .before; loop-test = c .loop-test }), (MutSlice.fix-len (Row.get 4 (T52 .locals) (m32 (c .before))
-            .ptr) (Row.get 4 (T52 .locals) (m32 (c .before)) .name) (Row.get 4 (T52 .locals) (m32 (c .before)) .now) (dens (c .before .before .before
-            .before .κs) (c .before .before .before .before .args) .1 .1 .1 .0 .now) (same-length-4 record { before = c .before; loop-test = c
-            .loop-test }), (MutSlice.fix-len (Row.get 5 (T52 .locals) (m32 (c .before)) .ptr) (Row.get 5 (T52 .locals) (m32 (c .before)) .name)
-            (Row.get 5 (T52 .locals) (m32 (c .before)) .now) (dens (c .before .before .before .before .κs) (c .before .before .before .before .args)
-            .1 .1 .1 .1 .0 .now) (same-length-5 record { before = c .before; loop-test = c .loop-test }), (MutSlice.fix-len (Row.get 6 (T52 .locals)
-            (m32 (c .before)) .ptr) (Row.get 6 (T52 .locals) (m32 (c .before)) .name) (Row.get 6 (T52 .locals) (m32 (c .before)) .now) (dens (c
-            .before .before .before .before .κs) (c .before .before .before .before .args) .1 .1 .1 .1 .1 .0 .now) (same-length-6 record { before = c
-            .before; loop-test = c .loop-test }), tt,),),),),),), returns record { before = c .before; loop-test = c .loop-test },)
-        lay4 : (c : After-one-case) → at26 (W3 (c .before .before .before .before .before .before .before .before .before) (c .before .before .before
-            .before .before .before .before .before .loop .pending) (c .before .before .before .before .before .before .before .before .loop
-            .circuits) (c .before .before .before .before .before .before .before .before .loop .ledger) (c .before .before .before .before .before
-            .before .before .before .loop .inflight) (c .before .before .before .before .before .before .before .before .loop .out) (c .before .before
-            .before .before .before .before .before .before .loop .body) (c .before .before .before .before .before .before .before .before .loop
-            .case)) (m20 (c .before) (After-one-case·gave c))
-        lay4 = λ c. (Path.refl, λ g. (Path.refl, λ g'. (Path.refl, λ g''. (Path.refl, λ g'3. (Path.refl, λ g'4. λ g'5. (Path.refl, λ g'6. λ g'7.
-            (add-case record { before = record { before = record { before = record { before = record { before = record { before = record { before =
-            record { before = record { before = c .before; one-case = c .one-case; }; pending = record { given = g }; }; circuits = record { given =
-            g' }; }; ledger = record { given = g'' }; }; inflight = record { given = g'3 }; }; out = record { given = g'4 }; }; slice-known3 = record
-            { given = g'5 }; }; body = record { given = g'6 }; }; slice-known4 = record { given = g'7 }; }, (μ·0 (Row.get 1 (T4 .locals) (m3 (c
-            .before .before .before .before .before .before .before .before .before .before) (c .before .before .before .before .before .before
-            .before .before .before .slice-known2 .given)) .now) (Row.get 2 (T4 .locals) (m3 (c .before .before .before .before .before .before
-            .before .before .before .before) (c .before .before .before .before .before .before .before .before .before .slice-known2 .given)) .now)
-            (Row.get 3 (T4 .locals) (m3 (c .before .before .before .before .before .before .before .before .before .before) (c .before .before .before
-            .before .before .before .before .before .before .slice-known2 .given)) .now) (Row.get 4 (T4 .locals) (m3 (c .before .before .before
-            .before .before .before .before .before .before .before) (c .before .before .before .before .before .before .before .before .before
-            .slice-known2 .given)) .now) (Row.get 5 (T4 .locals) (m3 (c .before .before .before .before .before .before .before .before .before
-            .before) (c .before .before .before .before .before .before .before .before .before .slice-known2 .given)) .now) (Row.get 6 (T4 .locals)
-            (m3 (c .before .before .before .before .before .before .before .before .before .before) (c .before .before .before .before .before .before
-            .before .before .before .slice-known2 .given)) .now) (Row.get 7 (T4 .locals) (m3 (c .before .before .before .before .before .before
-            .before .before .before .before) (c .before .before .before .before .before .before .before .before .before .slice-known2 .given)))
-            (Row.get 1 (T4 .locals) (m30 record { before = record { before = record { before = record { before = record { before = record { before =
-            record { before = record { before = c .before; one-case = c .one-case; }; pending = record { given = g }; }; circuits = record { given =
-            g' }; }; ledger = record { given = g'' }; }; inflight = record { given = g'3 }; }; out = record { given = g'4 }; }; slice-known3 = record
-            { given = g'5 }; }; body = record { given = g'6 }; } g'7) .now) (Row.get 2 (T4 .locals) (m30 record { before = record { before = record {
-            before = record { before = record { before = record { before = record { before = record { before = c .before; one-case = c .one-case; };
-            pending = record { given = g }; }; circuits = record { given = g' }; }; ledger = record { given = g'' }; }; inflight = record { given =
-            g'3 }; }; out = record { given = g'4 }; }; slice-known3 = record { given = g'5 }; }; body = record { given = g'6 }; } g'7) .now) (Row.get
-            3 (T4 .locals) (m30 record { before = record { before = record { before = record { before = record { before = record { before = record {
-            before = record { before = c .before; one-case = c .one-case; }; pending = record { given = g }; }; circuits = record { given = g' }; };
-            ledger = record { given = g'' }; }; inflight = record { given = g'3 }; }; out = record { given = g'4 }; }; slice-known3 = record { given =
-            g'5 }; }; body = record { given = g'6 }; } g'7) .now) (Row.get 4 (T4 .locals) (m30 record { before = record { before = record { before =
-            record { before = record { before = record { before = record { before = record { before = c .before; one-case = c .one-case; }; pending =
-            record { given = g }; }; circuits = record { given = g' }; }; ledger = record { given = g'' }; }; inflight = record { given = g'3 }; };
-            out = record { given = g'4 }; }; slice-known3 = record { given = g'5 }; }; body = record { given = g'6 }; } g'7) .now) (Row.get 5 (T4
-            .locals) (m30 record { before = record { before = record { before = record { before = record { before = record { before = record { before
-            = record { before = c .before; one-case = c .one-case; }; pending = record { given = g }; }; circuits = record { given = g' }; }; ledger =
-            record { given = g'' }; }; inflight = record { given = g'3 }; }; out = record { given = g'4 }; }; slice-known3 = record { given = g'5 };
-            }; body = record { given = g'6 }; } g'7) .now) (Row.get 6 (T4 .locals) (m30 record { before = record { before = record { before = record {
-            before = record { before = record { before = record { before = record { before = c .before; one-case = c .one-case; }; pending = record {
-            given = g }; }; circuits = record { given = g' }; }; ledger = record { given = g'' }; }; inflight = record { given = g'3 }; }; out =
-            record { given = g'4 }; }; slice-known3 = record { given = g'5 }; }; body = record { given = g'6 }; } g'7) .now) (Row.get 7 (T4 .locals)
-            (m30 record { before = record { before = record { before = record { before = record { before = record { before = record { before = record
-            { before = c .before; one-case = c .one-case; }; pending = record { given = g }; }; circuits = record { given = g' }; }; ledger = record {
-            given = g'' }; }; inflight = record { given = g'3 }; }; out = record { given = g'4 }; }; slice-known3 = record { given = g'5 }; }; body =
-            record { given = g'6 }; } g'7)), loop-less record { before = record { before = record { before = record { before = record { before =
-            record { before = record { before = record { before = record { before = c .before; one-case = c .one-case; }; pending = record { given = g
-            }; }; circuits = record { given = g' }; }; ledger = record { given = g'' }; }; inflight = record { given = g'3 }; }; out = record { given
-            = g'4 }; }; slice-known3 = record { given = g'5 }; }; body = record { given = g'6 }; }; slice-known4 = record { given = g'7 }; },
-            ((Row.get 1 (T4 .locals) (m30 record { before = record { before = record { before = record { before = record { before = record { before =
-            record { before = record { before = c .before; one-case = c .one-case; }; pending = record { given = g }; }; circuits = record { given =
-            g' }; }; ledger = record { given = g'' }; }; inflight = record { given = g'3 }; }; out = record { given = g'4 }; }; slice-known3 = record
-            { given = g'5 }; }; body = record { given = g'6 }; } g'7) .now, Row.get 2 (T4 .locals) (m30 record { before = record { before = record {
-            before = record { before = record { before = record { before = record { before = record { before = c .before; one-case = c .one-case; };
-            pending = record { given = g }; }; circuits = record { given = g' }; }; ledger = record { given = g'' }; }; inflight = record { given =
-            g'3 }; }; out = record { given = g'4 }; }; slice-known3 = record { given = g'5 }; }; body = record { given = g'6 }; } g'7) .now, Row.get 3
-            (T4 .locals) (m30 record { before = record { before = record { before = record { before = record { before = record { before = record {
-            before = record { before = c .before; one-case = c .one-case; }; pending = record { given = g }; }; circuits = record { given = g' }; };
-            ledger = record { given = g'' }; }; inflight = record { given = g'3 }; }; out = record { given = g'4 }; }; slice-known3 = record { given =
-            g'5 }; }; body = record { given = g'6 }; } g'7) .now, Row.get 4 (T4 .locals) (m30 record { before = record { before = record { before =
-            record { before = record { before = record { before = record { before = record { before = c .before; one-case = c .one-case; }; pending =
-            record { given = g }; }; circuits = record { given = g' }; }; ledger = record { given = g'' }; }; inflight = record { given = g'3 }; };
-            out = record { given = g'4 }; }; slice-known3 = record { given = g'5 }; }; body = record { given = g'6 }; } g'7) .now, Row.get 5 (T4
-            .locals) (m30 record { before = record { before = record { before = record { before = record { before = record { before = record { before
-            = record { before = c .before; one-case = c .one-case; }; pending = record { given = g }; }; circuits = record { given = g' }; }; ledger =
-            record { given = g'' }; }; inflight = record { given = g'3 }; }; out = record { given = g'4 }; }; slice-known3 = record { given = g'5 };
-            }; body = record { given = g'6 }; } g'7) .now, Row.get 6 (T4 .locals) (m30 record { before = record { before = record { before = record {
-            before = record { before = record { before = record { before = record { before = c .before; one-case = c .one-case; }; pending = record {
-            given = g }; }; circuits = record { given = g' }; }; ledger = record { given = g'' }; }; inflight = record { given = g'3 }; }; out =
-            record { given = g'4 }; }; slice-known3 = record { given = g'5 }; }; body = record { given = g'6 }; } g'7) .now, Row.get 7 (T4 .locals)
-            (m30 record { before = record { before = record { before = record { before = record { before = record { before = record { before = record
-            { before = c .before; one-case = c .one-case; }; pending = record { given = g }; }; circuits = record { given = g' }; }; ledger = record {
-            given = g'' }; }; inflight = record { given = g'3 }; }; out = record { given = g'4 }; }; slice-known3 = record { given = g'5 }; }; body =
-            record { given = g'6 }; } g'7),), Path.refl { a = m30 record { before = record { before = record { before = record { before = record {
-            before = record { before = record { before = record { before = c .before; one-case = c .one-case; }; pending = record { given = g }; };
-            circuits = record { given = g' }; }; ledger = record { given = g'' }; }; inflight = record { given = g'3 }; }; out = record { given = g'4
-            }; }; slice-known3 = record { given = g'5 }; }; body = record { given = g'6 }; } g'7 }, loop-again record { before = record { before =
-            record { before = record { before = record { before = record { before = record { before = record { before = record { before = c .before;
-            one-case = c .one-case; }; pending = record { given = g }; }; circuits = record { given = g' }; }; ledger = record { given = g'' }; };
-            inflight = record { given = g'3 }; }; out = record { given = g'4 }; }; slice-known3 = record { given = g'5 }; }; body = record { given =
-            g'6 }; }; slice-known4 = record { given = g'7 }; }, Path.refl { a = μ·0 (Row.get 1 (T4 .locals) (m3 (c .before .before .before .before
-            .before .before .before .before .before .before) (c .before .before .before .before .before .before .before .before .before .slice-known2
-            .given)) .now) (Row.get 2 (T4 .locals) (m3 (c .before .before .before .before .before .before .before .before .before .before) (c .before
-            .before .before .before .before .before .before .before .before .slice-known2 .given)) .now) (Row.get 3 (T4 .locals) (m3 (c .before
-            .before .before .before .before .before .before .before .before .before) (c .before .before .before .before .before .before .before
-            .before .before .slice-known2 .given)) .now) (Row.get 4 (T4 .locals) (m3 (c .before .before .before .before .before .before .before
-            .before .before .before) (c .before .before .before .before .before .before .before .before .before .slice-known2 .given)) .now) (Row.get
-            5 (T4 .locals) (m3 (c .before .before .before .before .before .before .before .before .before .before) (c .before .before .before .before
-            .before .before .before .before .before .slice-known2 .given)) .now) (Row.get 6 (T4 .locals) (m3 (c .before .before .before .before
-            .before .before .before .before .before .before) (c .before .before .before .before .before .before .before .before .before .slice-known2
-            .given)) .now) (Row.get 7 (T4 .locals) (m3 (c .before .before .before .before .before .before .before .before .before .before) (c .before
-            .before .before .before .before .before .before .before .before .slice-known2 .given))) (Row.get 1 (T4 .locals) (m30 record { before =
-            record { before = record { before = record { before = record { before = record { before = record { before = record { before = c .before;
-            one-case = c .one-case; }; pending = record { given = g }; }; circuits = record { given = g' }; }; ledger = record { given = g'' }; };
-            inflight = record { given = g'3 }; }; out = record { given = g'4 }; }; slice-known3 = record { given = g'5 }; }; body = record { given =
-            g'6 }; } g'7) .now) (Row.get 2 (T4 .locals) (m30 record { before = record { before = record { before = record { before = record { before =
-            record { before = record { before = record { before = c .before; one-case = c .one-case; }; pending = record { given = g }; }; circuits =
-            record { given = g' }; }; ledger = record { given = g'' }; }; inflight = record { given = g'3 }; }; out = record { given = g'4 }; };
-            slice-known3 = record { given = g'5 }; }; body = record { given = g'6 }; } g'7) .now) (Row.get 3 (T4 .locals) (m30 record { before =
-            record { before = record { before = record { before = record { before = record { before = record { before = record { before = c .before;
-            one-case = c .one-case; }; pending = record { given = g }; }; circuits = record { given = g' }; }; ledger = record { given = g'' }; };
-            inflight = record { given = g'3 }; }; out = record { given = g'4 }; }; slice-known3 = record { given = g'5 }; }; body = record { given =
-            g'6 }; } g'7) .now) (Row.get 4 (T4 .locals) (m30 record { before = record { before = record { before = record { before = record { before =
-            record { before = record { before = record { before = c .before; one-case = c .one-case; }; pending = record { given = g }; }; circuits =
-            record { given = g' }; }; ledger = record { given = g'' }; }; inflight = record { given = g'3 }; }; out = record { given = g'4 }; };
-            slice-known3 = record { given = g'5 }; }; body = record { given = g'6 }; } g'7) .now) (Row.get 5 (T4 .locals) (m30 record { before =
-            record { before = record { before = record { before = record { before = record { before = record { before = record { before = c .before;
-            one-case = c .one-case; }; pending = record { given = g }; }; circuits = record { given = g' }; }; ledger = record { given = g'' }; };
-            inflight = record { given = g'3 }; }; out = record { given = g'4 }; }; slice-known3 = record { given = g'5 }; }; body = record { given =
-            g'6 }; } g'7) .now) (Row.get 6 (T4 .locals) (m30 record { before = record { before = record { before = record { before = record { before =
-            record { before = record { before = record { before = c .before; one-case = c .one-case; }; pending = record { given = g }; }; circuits =
-            record { given = g' }; }; ledger = record { given = g'' }; }; inflight = record { given = g'3 }; }; out = record { given = g'4 }; };
-            slice-known3 = record { given = g'5 }; }; body = record { given = g'6 }; } g'7) .now) (Row.get 7 (T4 .locals) (m30 record { before =
-            record { before = record { before = record { before = record { before = record { before = record { before = record { before = c .before;
-            one-case = c .one-case; }; pending = record { given = g }; }; circuits = record { given = g' }; }; ledger = record { given = g'' }; };
-            inflight = record { given = g'3 }; }; out = record { given = g'4 }; }; slice-known3 = record { given = g'5 }; }; body = record { given =
-            g'6 }; } g'7)) },),),),),),),),),)
-        lay3 : (c : In-loop) → at45 (W3 (c .before .before) (c .before .loop .pending) (c .before .loop .circuits) (c .before .loop .ledger) (c
-            .before .loop .inflight) (c .before .loop .out) (c .before .loop .body) (c .before .loop .case)) (m6 (c .before))
-        lay3 = λ c. λ g. (Path.refl, λ g'. (Path.refl, λ g''. (Path.refl, λ g'3. (Path.refl, λ g'4. (Path.refl, λ g'5. (Path.refl, (one-case-requires
-            record { before = record { before = record { before = record { before = record { before = record { before = record { before = c .before;
-            loop-test = c .loop-test; }; one-case-arg = record { given = g }; }; one-case-arg2 = record { given = g' }; }; one-case-arg3 = record {
-            given = g'' }; }; one-case-arg4 = record { given = g'3 }; }; one-case-arg5 = record { given = g'4 }; }; one-case-arg6 = record { given =
-            g'5 }; }, λ g'6. lay4 record { before = record { before = record { before = record { before = record { before = record { before = record {
-            before = record { before = c .before; loop-test = c .loop-test; }; one-case-arg = record { given = g }; }; one-case-arg2 = record { given
-            = g' }; }; one-case-arg3 = record { given = g'' }; }; one-case-arg4 = record { given = g'3 }; }; one-case-arg5 = record { given = g'4 };
-            }; one-case-arg6 = record { given = g'5 }; }; one-case = Called.called ps·0 r·0 (claims· .1) T27 (record { pos = 11; ty = Syntax.tyRef
-            Syntax.erased Syntax.mut RelayPending.to; ref = λ x. x; }, (record { pos = 13; ty = Syntax.tyRef Syntax.erased Syntax.mut RelayCircuit.to;
-            ref = λ x. x; }, (record { pos = 15; ty = Syntax.tyRef Syntax.erased Syntax.mut ReservationUsage.to; ref = λ x. x; }, (record { pos = 17;
-            ty = Syntax.tyRef Syntax.erased Syntax.mut InflightAction.to; ref = λ x. x; }, (record { pos = 19; ty = Syntax.tyRef Syntax.erased
-            Syntax.mut (Syntax.tyInt Syntax.w32); ref = λ x. x; }, (record { pos = 21; ty = Syntax.tyRef Syntax.erased Syntax.mut (Syntax.tyInt
-            Syntax.w8); ref = λ x. x; }, (Num.vAt 7 λ x. x, tt),),),),),),) (m19 record { before = record { before = record { before = record { before
-            = record { before = record { before = c .before; loop-test = c .loop-test; }; one-case-arg = record { given = g }; }; one-case-arg2 =
-            record { given = g' }; }; one-case-arg3 = record { given = g'' }; }; one-case-arg4 = record { given = g'3 }; }; one-case-arg5 = record {
-            given = g'4 }; } g'5) g'6; },),),),),),),)
-        lay2 : (c : After-loop) → at3 (W4 (c .before .before) (c .before .loop .pending) (c .before .loop .circuits) (c .before .loop .ledger) (c
-            .before .loop .inflight) (c .before .loop .out) (c .before .loop .body) (c .before .loop .case)) (m5 (c .before .before) (c .before .loop
-            .pending) (c .before .loop .circuits) (c .before .loop .ledger) (c .before .loop .inflight) (c .before .loop .out) (c .before .loop .body)
+      Need-returns = (c : After-loop) → Post· (c .before .before .before .before .κs) (dens
+          (c .before .before .before .before .κs) (c .before .before .before .before .args)) (Function.resV r
+          (c .before .before .before .before .κs) (m32 (c .before) .0)) (Clauses.atExit (Kinds.endedOf 6 ps r)
+          (c .before .before .before .before .κs) (dens (c .before .before .before .before .κs)
+          (c .before .before .before .before .args)) (Enter.lastsP (c .before .before .before .before .κs) 1 ps xs (dens
+          (c .before .before .before .before .κs) (c .before .before .before .before .args)) (m32 (c .before) .1)))
+
+      module _ (loop-holds : Need-loop-holds) (one-case-requires : Need-one-case-requires) (add-case : Need-add-case)
+          (loop-less : Need-loop-less) (loop-again : Need-loop-again) (same-length : Need-same-length)
+          (same-length-2 : Need-same-length-2) (same-length-3 : Need-same-length-3)
+          (same-length-4 : Need-same-length-4) (same-length-5 : Need-same-length-5)
+          (same-length-6 : Need-same-length-6) (returns : Need-returns) where
+        lay5 : (c : After-loop) → at52 (W0 (c .before .before .before .before .κs)
+            (c .before .before .before .before .args)) (m7 (c .before))
+        lay5 = λ c. (
+          (
+            MutSlice.fix-len (Row.get 1 (T52 .locals) (m32 (c .before)) .ptr)
+                (Row.get 1 (T52 .locals) (m32 (c .before)) .name) (Row.get 1 (T52 .locals) (m32 (c .before)) .now) (dens
+                (c .before .before .before .before .κs) (c .before .before .before .before .args) .0 .now) (same-length
+                record { before = c .before; loop-test = c .loop-test }),
+            (
+              MutSlice.fix-len (Row.get 2 (T52 .locals) (m32 (c .before)) .ptr)
+                  (Row.get 2 (T52 .locals) (m32 (c .before)) .name) (Row.get 2 (T52 .locals) (m32 (c .before)) .now) (dens
+                  (c .before .before .before .before .κs) (c .before .before .before .before .args) .1 .0 .now) (same-length-2
+                  record { before = c .before; loop-test = c .loop-test }),
+              (
+                MutSlice.fix-len (Row.get 3 (T52 .locals) (m32 (c .before)) .ptr)
+                    (Row.get 3 (T52 .locals) (m32 (c .before)) .name) (Row.get 3 (T52 .locals) (m32 (c .before)) .now) (dens
+                    (c .before .before .before .before .κs) (c .before .before .before .before .args) .1 .1 .0 .now) (same-length-3
+                    record { before = c .before; loop-test = c .loop-test }),
+                (
+                  MutSlice.fix-len (Row.get 4 (T52 .locals) (m32 (c .before)) .ptr)
+                      (Row.get 4 (T52 .locals) (m32 (c .before)) .name)
+                      (Row.get 4 (T52 .locals) (m32 (c .before)) .now) (dens (c .before .before .before .before .κs)
+                      (c .before .before .before .before .args) .1 .1 .1 .0 .now) (same-length-4
+                      record { before = c .before; loop-test = c .loop-test }),
+                  (
+                    MutSlice.fix-len (Row.get 5 (T52 .locals) (m32 (c .before)) .ptr)
+                        (Row.get 5 (T52 .locals) (m32 (c .before)) .name)
+                        (Row.get 5 (T52 .locals) (m32 (c .before)) .now) (dens (c .before .before .before .before .κs)
+                        (c .before .before .before .before .args) .1 .1 .1 .1 .0 .now) (same-length-5
+                        record { before = c .before; loop-test = c .loop-test }),
+                    (
+                      MutSlice.fix-len (Row.get 6 (T52 .locals) (m32 (c .before)) .ptr)
+                          (Row.get 6 (T52 .locals) (m32 (c .before)) .name)
+                          (Row.get 6 (T52 .locals) (m32 (c .before)) .now) (dens
+                          (c .before .before .before .before .κs) (c .before .before .before .before .args) .1 .1 .1 .1
+                          .1 .0 .now) (same-length-6 record { before = c .before; loop-test = c .loop-test }),
+                      tt,
+                    ),
+                  ),
+                ),
+              ),
+            ),
+          ),
+          returns record { before = c .before; loop-test = c .loop-test },
+        )
+
+        lay4 : (c : After-one-case) → at26 (W3 (c .before .before .before .before .before .before .before .before
+            .before) (c .before .before .before .before .before .before .before .before .loop .pending) (c .before
+            .before .before .before .before .before .before .before .loop .circuits) (c .before .before .before .before
+            .before .before .before .before .loop .ledger) (c .before .before .before .before .before .before .before
+            .before .loop .inflight) (c .before .before .before .before .before .before .before .before .loop .out) (c
+            .before .before .before .before .before .before .before .before .loop .body) (c .before .before .before
+            .before .before .before .before .before .loop .case)) (m20 (c .before) (After-one-case·gave c))
+        lay4 = λ c. (
+          Path.refl,
+          λ g. (
+            Path.refl,
+            λ g'. (
+              Path.refl,
+              λ g''. (
+                Path.refl,
+                λ g'3. (
+                  Path.refl,
+                  λ g'4. λ g'5. (
+                    Path.refl,
+                    λ g'6. λ g'7. (
+                      add-case record {
+                        before = record {
+                          before = record {
+                            before = record {
+                              before = record {
+                                before = record {
+                                  before = record {
+                                    before = record {
+                                      before = record { before = c .before; one-case = c .one-case };
+                                      pending = record { given = g };
+                                    };
+                                    circuits = record { given = g' };
+                                  };
+                                  ledger = record { given = g'' };
+                                };
+                                inflight = record { given = g'3 };
+                              };
+                              out = record { given = g'4 };
+                            };
+                            slice-known3 = record { given = g'5 };
+                          };
+                          body = record { given = g'6 };
+                        };
+                        slice-known4 = record { given = g'7 };
+                      },
+                      (
+                        μ·0 (Row.get 1 (T4 .locals) (m3 (c .before .before .before .before .before .before .before
+                            .before .before .before) (c .before .before .before .before .before .before .before .before
+                            .before .slice-known2 .given)) .now) (Row.get 2 (T4 .locals) (m3 (c .before .before .before
+                            .before .before .before .before .before .before .before) (c .before .before .before .before
+                            .before .before .before .before .before .slice-known2 .given)) .now) (Row.get 3
+                            (T4 .locals) (m3 (c .before .before .before .before .before .before .before .before .before
+                            .before) (c .before .before .before .before .before .before .before .before .before
+                            .slice-known2 .given)) .now) (Row.get 4 (T4 .locals) (m3 (c .before .before .before .before
+                            .before .before .before .before .before .before) (c .before .before .before .before .before
+                            .before .before .before .before .slice-known2 .given)) .now) (Row.get 5 (T4 .locals) (m3 (c
+                            .before .before .before .before .before .before .before .before .before .before) (c .before
+                            .before .before .before .before .before .before .before .before .slice-known2 .given)) .now) (Row.get
+                            6 (T4 .locals) (m3 (c .before .before .before .before .before .before .before .before
+                            .before .before) (c .before .before .before .before .before .before .before .before .before
+                            .slice-known2 .given)) .now) (Row.get 7 (T4 .locals) (m3 (c .before .before .before .before
+                            .before .before .before .before .before .before) (c .before .before .before .before .before
+                            .before .before .before .before .slice-known2 .given))) (Row.get 1 (T4 .locals) (m30
+                            record {
+                              before = record {
+                                before = record {
+                                  before = record {
+                                    before = record {
+                                      before = record {
+                                        before = record {
+                                          before = record { before = c .before; one-case = c .one-case };
+                                          pending = record { given = g };
+                                        };
+                                        circuits = record { given = g' };
+                                      };
+                                      ledger = record { given = g'' };
+                                    };
+                                    inflight = record { given = g'3 };
+                                  };
+                                  out = record { given = g'4 };
+                                };
+                                slice-known3 = record { given = g'5 };
+                              };
+                              body = record { given = g'6 };
+                            } g'7) .now) (Row.get 2 (T4 .locals) (m30
+                            record {
+                              before = record {
+                                before = record {
+                                  before = record {
+                                    before = record {
+                                      before = record {
+                                        before = record {
+                                          before = record { before = c .before; one-case = c .one-case };
+                                          pending = record { given = g };
+                                        };
+                                        circuits = record { given = g' };
+                                      };
+                                      ledger = record { given = g'' };
+                                    };
+                                    inflight = record { given = g'3 };
+                                  };
+                                  out = record { given = g'4 };
+                                };
+                                slice-known3 = record { given = g'5 };
+                              };
+                              body = record { given = g'6 };
+                            } g'7) .now) (Row.get 3 (T4 .locals) (m30
+                            record {
+                              before = record {
+                                before = record {
+                                  before = record {
+                                    before = record {
+                                      before = record {
+                                        before = record {
+                                          before = record { before = c .before; one-case = c .one-case };
+                                          pending = record { given = g };
+                                        };
+                                        circuits = record { given = g' };
+                                      };
+                                      ledger = record { given = g'' };
+                                    };
+                                    inflight = record { given = g'3 };
+                                  };
+                                  out = record { given = g'4 };
+                                };
+                                slice-known3 = record { given = g'5 };
+                              };
+                              body = record { given = g'6 };
+                            } g'7) .now) (Row.get 4 (T4 .locals) (m30
+                            record {
+                              before = record {
+                                before = record {
+                                  before = record {
+                                    before = record {
+                                      before = record {
+                                        before = record {
+                                          before = record { before = c .before; one-case = c .one-case };
+                                          pending = record { given = g };
+                                        };
+                                        circuits = record { given = g' };
+                                      };
+                                      ledger = record { given = g'' };
+                                    };
+                                    inflight = record { given = g'3 };
+                                  };
+                                  out = record { given = g'4 };
+                                };
+                                slice-known3 = record { given = g'5 };
+                              };
+                              body = record { given = g'6 };
+                            } g'7) .now) (Row.get 5 (T4 .locals) (m30
+                            record {
+                              before = record {
+                                before = record {
+                                  before = record {
+                                    before = record {
+                                      before = record {
+                                        before = record {
+                                          before = record { before = c .before; one-case = c .one-case };
+                                          pending = record { given = g };
+                                        };
+                                        circuits = record { given = g' };
+                                      };
+                                      ledger = record { given = g'' };
+                                    };
+                                    inflight = record { given = g'3 };
+                                  };
+                                  out = record { given = g'4 };
+                                };
+                                slice-known3 = record { given = g'5 };
+                              };
+                              body = record { given = g'6 };
+                            } g'7) .now) (Row.get 6 (T4 .locals) (m30
+                            record {
+                              before = record {
+                                before = record {
+                                  before = record {
+                                    before = record {
+                                      before = record {
+                                        before = record {
+                                          before = record { before = c .before; one-case = c .one-case };
+                                          pending = record { given = g };
+                                        };
+                                        circuits = record { given = g' };
+                                      };
+                                      ledger = record { given = g'' };
+                                    };
+                                    inflight = record { given = g'3 };
+                                  };
+                                  out = record { given = g'4 };
+                                };
+                                slice-known3 = record { given = g'5 };
+                              };
+                              body = record { given = g'6 };
+                            } g'7) .now) (Row.get 7 (T4 .locals) (m30
+                            record {
+                              before = record {
+                                before = record {
+                                  before = record {
+                                    before = record {
+                                      before = record {
+                                        before = record {
+                                          before = record { before = c .before; one-case = c .one-case };
+                                          pending = record { given = g };
+                                        };
+                                        circuits = record { given = g' };
+                                      };
+                                      ledger = record { given = g'' };
+                                    };
+                                    inflight = record { given = g'3 };
+                                  };
+                                  out = record { given = g'4 };
+                                };
+                                slice-known3 = record { given = g'5 };
+                              };
+                              body = record { given = g'6 };
+                            } g'7)),
+                        loop-less record {
+                          before = record {
+                            before = record {
+                              before = record {
+                                before = record {
+                                  before = record {
+                                    before = record {
+                                      before = record {
+                                        before = record { before = c .before; one-case = c .one-case };
+                                        pending = record { given = g };
+                                      };
+                                      circuits = record { given = g' };
+                                    };
+                                    ledger = record { given = g'' };
+                                  };
+                                  inflight = record { given = g'3 };
+                                };
+                                out = record { given = g'4 };
+                              };
+                              slice-known3 = record { given = g'5 };
+                            };
+                            body = record { given = g'6 };
+                          };
+                          slice-known4 = record { given = g'7 };
+                        },
+                        (
+                          (
+                            Row.get 1 (T4 .locals) (m30
+                                record {
+                                  before = record {
+                                    before = record {
+                                      before = record {
+                                        before = record {
+                                          before = record {
+                                            before = record {
+                                              before = record { before = c .before; one-case = c .one-case };
+                                              pending = record { given = g };
+                                            };
+                                            circuits = record { given = g' };
+                                          };
+                                          ledger = record { given = g'' };
+                                        };
+                                        inflight = record { given = g'3 };
+                                      };
+                                      out = record { given = g'4 };
+                                    };
+                                    slice-known3 = record { given = g'5 };
+                                  };
+                                  body = record { given = g'6 };
+                                } g'7) .now,
+                            Row.get 2 (T4 .locals) (m30
+                                record {
+                                  before = record {
+                                    before = record {
+                                      before = record {
+                                        before = record {
+                                          before = record {
+                                            before = record {
+                                              before = record { before = c .before; one-case = c .one-case };
+                                              pending = record { given = g };
+                                            };
+                                            circuits = record { given = g' };
+                                          };
+                                          ledger = record { given = g'' };
+                                        };
+                                        inflight = record { given = g'3 };
+                                      };
+                                      out = record { given = g'4 };
+                                    };
+                                    slice-known3 = record { given = g'5 };
+                                  };
+                                  body = record { given = g'6 };
+                                } g'7) .now,
+                            Row.get 3 (T4 .locals) (m30
+                                record {
+                                  before = record {
+                                    before = record {
+                                      before = record {
+                                        before = record {
+                                          before = record {
+                                            before = record {
+                                              before = record { before = c .before; one-case = c .one-case };
+                                              pending = record { given = g };
+                                            };
+                                            circuits = record { given = g' };
+                                          };
+                                          ledger = record { given = g'' };
+                                        };
+                                        inflight = record { given = g'3 };
+                                      };
+                                      out = record { given = g'4 };
+                                    };
+                                    slice-known3 = record { given = g'5 };
+                                  };
+                                  body = record { given = g'6 };
+                                } g'7) .now,
+                            Row.get 4 (T4 .locals) (m30
+                                record {
+                                  before = record {
+                                    before = record {
+                                      before = record {
+                                        before = record {
+                                          before = record {
+                                            before = record {
+                                              before = record { before = c .before; one-case = c .one-case };
+                                              pending = record { given = g };
+                                            };
+                                            circuits = record { given = g' };
+                                          };
+                                          ledger = record { given = g'' };
+                                        };
+                                        inflight = record { given = g'3 };
+                                      };
+                                      out = record { given = g'4 };
+                                    };
+                                    slice-known3 = record { given = g'5 };
+                                  };
+                                  body = record { given = g'6 };
+                                } g'7) .now,
+                            Row.get 5 (T4 .locals) (m30
+                                record {
+                                  before = record {
+                                    before = record {
+                                      before = record {
+                                        before = record {
+                                          before = record {
+                                            before = record {
+                                              before = record { before = c .before; one-case = c .one-case };
+                                              pending = record { given = g };
+                                            };
+                                            circuits = record { given = g' };
+                                          };
+                                          ledger = record { given = g'' };
+                                        };
+                                        inflight = record { given = g'3 };
+                                      };
+                                      out = record { given = g'4 };
+                                    };
+                                    slice-known3 = record { given = g'5 };
+                                  };
+                                  body = record { given = g'6 };
+                                } g'7) .now,
+                            Row.get 6 (T4 .locals) (m30
+                                record {
+                                  before = record {
+                                    before = record {
+                                      before = record {
+                                        before = record {
+                                          before = record {
+                                            before = record {
+                                              before = record { before = c .before; one-case = c .one-case };
+                                              pending = record { given = g };
+                                            };
+                                            circuits = record { given = g' };
+                                          };
+                                          ledger = record { given = g'' };
+                                        };
+                                        inflight = record { given = g'3 };
+                                      };
+                                      out = record { given = g'4 };
+                                    };
+                                    slice-known3 = record { given = g'5 };
+                                  };
+                                  body = record { given = g'6 };
+                                } g'7) .now,
+                            Row.get 7 (T4 .locals) (m30
+                                record {
+                                  before = record {
+                                    before = record {
+                                      before = record {
+                                        before = record {
+                                          before = record {
+                                            before = record {
+                                              before = record { before = c .before; one-case = c .one-case };
+                                              pending = record { given = g };
+                                            };
+                                            circuits = record { given = g' };
+                                          };
+                                          ledger = record { given = g'' };
+                                        };
+                                        inflight = record { given = g'3 };
+                                      };
+                                      out = record { given = g'4 };
+                                    };
+                                    slice-known3 = record { given = g'5 };
+                                  };
+                                  body = record { given = g'6 };
+                                } g'7),
+                          ),
+                          Path.refl {a = m30 record {
+                            before = record {
+                              before = record {
+                                before = record {
+                                  before = record {
+                                    before = record {
+                                      before = record {
+                                        before = record { before = c .before; one-case = c .one-case };
+                                        pending = record { given = g };
+                                      };
+                                      circuits = record { given = g' };
+                                    };
+                                    ledger = record { given = g'' };
+                                  };
+                                  inflight = record { given = g'3 };
+                                };
+                                out = record { given = g'4 };
+                              };
+                              slice-known3 = record { given = g'5 };
+                            };
+                            body = record { given = g'6 };
+                          } g'7},
+                          loop-again record {
+                            before = record {
+                              before = record {
+                                before = record {
+                                  before = record {
+                                    before = record {
+                                      before = record {
+                                        before = record {
+                                          before = record { before = c .before; one-case = c .one-case };
+                                          pending = record { given = g };
+                                        };
+                                        circuits = record { given = g' };
+                                      };
+                                      ledger = record { given = g'' };
+                                    };
+                                    inflight = record { given = g'3 };
+                                  };
+                                  out = record { given = g'4 };
+                                };
+                                slice-known3 = record { given = g'5 };
+                              };
+                              body = record { given = g'6 };
+                            };
+                            slice-known4 = record { given = g'7 };
+                          },
+                          Path.refl {a = μ·0 (Row.get 1 (T4 .locals) (m3 (c .before .before .before .before .before
+                              .before .before .before .before .before) (c .before .before .before .before .before
+                              .before .before .before .before .slice-known2 .given)) .now) (Row.get 2 (T4 .locals) (m3 (c
+                              .before .before .before .before .before .before .before .before .before .before) (c
+                              .before .before .before .before .before .before .before .before .before .slice-known2
+                              .given)) .now) (Row.get 3 (T4 .locals) (m3 (c .before .before .before .before .before
+                              .before .before .before .before .before) (c .before .before .before .before .before
+                              .before .before .before .before .slice-known2 .given)) .now) (Row.get 4 (T4 .locals) (m3 (c
+                              .before .before .before .before .before .before .before .before .before .before) (c
+                              .before .before .before .before .before .before .before .before .before .slice-known2
+                              .given)) .now) (Row.get 5 (T4 .locals) (m3 (c .before .before .before .before .before
+                              .before .before .before .before .before) (c .before .before .before .before .before
+                              .before .before .before .before .slice-known2 .given)) .now) (Row.get 6 (T4 .locals) (m3 (c
+                              .before .before .before .before .before .before .before .before .before .before) (c
+                              .before .before .before .before .before .before .before .before .before .slice-known2
+                              .given)) .now) (Row.get 7 (T4 .locals) (m3 (c .before .before .before .before .before
+                              .before .before .before .before .before) (c .before .before .before .before .before
+                              .before .before .before .before .slice-known2 .given))) (Row.get 1 (T4 .locals) (m30
+                              record {
+                                before = record {
+                                  before = record {
+                                    before = record {
+                                      before = record {
+                                        before = record {
+                                          before = record {
+                                            before = record { before = c .before; one-case = c .one-case };
+                                            pending = record { given = g };
+                                          };
+                                          circuits = record { given = g' };
+                                        };
+                                        ledger = record { given = g'' };
+                                      };
+                                      inflight = record { given = g'3 };
+                                    };
+                                    out = record { given = g'4 };
+                                  };
+                                  slice-known3 = record { given = g'5 };
+                                };
+                                body = record { given = g'6 };
+                              } g'7) .now) (Row.get 2 (T4 .locals) (m30
+                              record {
+                                before = record {
+                                  before = record {
+                                    before = record {
+                                      before = record {
+                                        before = record {
+                                          before = record {
+                                            before = record { before = c .before; one-case = c .one-case };
+                                            pending = record { given = g };
+                                          };
+                                          circuits = record { given = g' };
+                                        };
+                                        ledger = record { given = g'' };
+                                      };
+                                      inflight = record { given = g'3 };
+                                    };
+                                    out = record { given = g'4 };
+                                  };
+                                  slice-known3 = record { given = g'5 };
+                                };
+                                body = record { given = g'6 };
+                              } g'7) .now) (Row.get 3 (T4 .locals) (m30
+                              record {
+                                before = record {
+                                  before = record {
+                                    before = record {
+                                      before = record {
+                                        before = record {
+                                          before = record {
+                                            before = record { before = c .before; one-case = c .one-case };
+                                            pending = record { given = g };
+                                          };
+                                          circuits = record { given = g' };
+                                        };
+                                        ledger = record { given = g'' };
+                                      };
+                                      inflight = record { given = g'3 };
+                                    };
+                                    out = record { given = g'4 };
+                                  };
+                                  slice-known3 = record { given = g'5 };
+                                };
+                                body = record { given = g'6 };
+                              } g'7) .now) (Row.get 4 (T4 .locals) (m30
+                              record {
+                                before = record {
+                                  before = record {
+                                    before = record {
+                                      before = record {
+                                        before = record {
+                                          before = record {
+                                            before = record { before = c .before; one-case = c .one-case };
+                                            pending = record { given = g };
+                                          };
+                                          circuits = record { given = g' };
+                                        };
+                                        ledger = record { given = g'' };
+                                      };
+                                      inflight = record { given = g'3 };
+                                    };
+                                    out = record { given = g'4 };
+                                  };
+                                  slice-known3 = record { given = g'5 };
+                                };
+                                body = record { given = g'6 };
+                              } g'7) .now) (Row.get 5 (T4 .locals) (m30
+                              record {
+                                before = record {
+                                  before = record {
+                                    before = record {
+                                      before = record {
+                                        before = record {
+                                          before = record {
+                                            before = record { before = c .before; one-case = c .one-case };
+                                            pending = record { given = g };
+                                          };
+                                          circuits = record { given = g' };
+                                        };
+                                        ledger = record { given = g'' };
+                                      };
+                                      inflight = record { given = g'3 };
+                                    };
+                                    out = record { given = g'4 };
+                                  };
+                                  slice-known3 = record { given = g'5 };
+                                };
+                                body = record { given = g'6 };
+                              } g'7) .now) (Row.get 6 (T4 .locals) (m30
+                              record {
+                                before = record {
+                                  before = record {
+                                    before = record {
+                                      before = record {
+                                        before = record {
+                                          before = record {
+                                            before = record { before = c .before; one-case = c .one-case };
+                                            pending = record { given = g };
+                                          };
+                                          circuits = record { given = g' };
+                                        };
+                                        ledger = record { given = g'' };
+                                      };
+                                      inflight = record { given = g'3 };
+                                    };
+                                    out = record { given = g'4 };
+                                  };
+                                  slice-known3 = record { given = g'5 };
+                                };
+                                body = record { given = g'6 };
+                              } g'7) .now) (Row.get 7 (T4 .locals) (m30
+                              record {
+                                before = record {
+                                  before = record {
+                                    before = record {
+                                      before = record {
+                                        before = record {
+                                          before = record {
+                                            before = record { before = c .before; one-case = c .one-case };
+                                            pending = record { given = g };
+                                          };
+                                          circuits = record { given = g' };
+                                        };
+                                        ledger = record { given = g'' };
+                                      };
+                                      inflight = record { given = g'3 };
+                                    };
+                                    out = record { given = g'4 };
+                                  };
+                                  slice-known3 = record { given = g'5 };
+                                };
+                                body = record { given = g'6 };
+                              } g'7))},
+                        ),
+                      ),
+                    ),
+                  ),
+                ),
+              ),
+            ),
+          ),
+        )
+
+        lay3 : (c : In-loop) → at45 (W3 (c .before .before) (c .before .loop .pending) (c .before .loop .circuits)
+            (c .before .loop .ledger) (c .before .loop .inflight) (c .before .loop .out) (c .before .loop .body)
+            (c .before .loop .case)) (m6 (c .before))
+        lay3 = λ c. λ g. (
+          Path.refl,
+          λ g'. (
+            Path.refl,
+            λ g''. (
+              Path.refl,
+              λ g'3. (
+                Path.refl,
+                λ g'4. (
+                  Path.refl,
+                  λ g'5. (
+                    Path.refl,
+                    (
+                      one-case-requires record {
+                        before = record {
+                          before = record {
+                            before = record {
+                              before = record {
+                                before = record {
+                                  before = record { before = c .before; loop-test = c .loop-test };
+                                  one-case-arg = record { given = g };
+                                };
+                                one-case-arg2 = record { given = g' };
+                              };
+                              one-case-arg3 = record { given = g'' };
+                            };
+                            one-case-arg4 = record { given = g'3 };
+                          };
+                          one-case-arg5 = record { given = g'4 };
+                        };
+                        one-case-arg6 = record { given = g'5 };
+                      },
+                      λ g'6. lay4 record {
+                        before = record {
+                          before = record {
+                            before = record {
+                              before = record {
+                                before = record {
+                                  before = record {
+                                    before = record { before = c .before; loop-test = c .loop-test };
+                                    one-case-arg = record { given = g };
+                                  };
+                                  one-case-arg2 = record { given = g' };
+                                };
+                                one-case-arg3 = record { given = g'' };
+                              };
+                              one-case-arg4 = record { given = g'3 };
+                            };
+                            one-case-arg5 = record { given = g'4 };
+                          };
+                          one-case-arg6 = record { given = g'5 };
+                        };
+                        one-case = Called.called ps·0 r·0 (claims· .1) T27 args24 (m19
+                            record {
+                              before = record {
+                                before = record {
+                                  before = record {
+                                    before = record {
+                                      before = record { before = c .before; loop-test = c .loop-test };
+                                      one-case-arg = record { given = g };
+                                    };
+                                    one-case-arg2 = record { given = g' };
+                                  };
+                                  one-case-arg3 = record { given = g'' };
+                                };
+                                one-case-arg4 = record { given = g'3 };
+                              };
+                              one-case-arg5 = record { given = g'4 };
+                            } g'5) g'6;
+                      },
+                    ),
+                  ),
+                ),
+              ),
+            ),
+          ),
+        )
+
+        lay2 : (c : After-loop) → at3 (W4 (c .before .before) (c .before .loop .pending) (c .before .loop .circuits)
+            (c .before .loop .ledger) (c .before .loop .inflight) (c .before .loop .out) (c .before .loop .body)
+            (c .before .loop .case)) (m5 (c .before .before) (c .before .loop .pending) (c .before .loop .circuits)
+            (c .before .loop .ledger) (c .before .loop .inflight) (c .before .loop .out) (c .before .loop .body)
             (c .before .loop .case))
         lay2 = λ c. lay5 record { before = c .before; loop-test = c .loop-test }
-        lay1 : (c : In-loop) → at1 (W4 (c .before .before) (c .before .loop .pending) (c .before .loop .circuits) (c .before .loop .ledger) (c .before
-            .loop .inflight) (c .before .loop .out) (c .before .loop .body) (c .before .loop .case)) (m5 (c .before .before) (c .before .loop
-            .pending) (c .before .loop .circuits) (c .before .loop .ledger) (c .before .loop .inflight) (c .before .loop .out) (c .before .loop .body)
+
+        lay1 : (c : In-loop) → at1 (W4 (c .before .before) (c .before .loop .pending) (c .before .loop .circuits)
+            (c .before .loop .ledger) (c .before .loop .inflight) (c .before .loop .out) (c .before .loop .body)
+            (c .before .loop .case)) (m5 (c .before .before) (c .before .loop .pending) (c .before .loop .circuits)
+            (c .before .loop .ledger) (c .before .loop .inflight) (c .before .loop .out) (c .before .loop .body)
             (c .before .loop .case))
         lay1 = λ c. lay3 record { before = c .before; loop-test = c .loop-test }
+
         pub laid : (c : Start) → at56 (W0 (c .κs) (c .args)) (m0 (c .κs) (c .args))
-        laid = λ c. λ g. λ g'. (((Row.get 1 (T4 .locals) (m3 record { before = c; slice-known = record { given = g }; } g') .now, Row.get 2 (T4
-            .locals) (m3 record { before = c; slice-known = record { given = g }; } g') .now, Row.get 3 (T4 .locals) (m3 record { before = c;
-            slice-known = record { given = g }; } g') .now, Row.get 4 (T4 .locals) (m3 record { before = c; slice-known = record { given = g }; } g')
-            .now, Row.get 5 (T4 .locals) (m3 record { before = c; slice-known = record { given = g }; } g') .now, Row.get 6 (T4 .locals) (m3 record {
-            before = c; slice-known = record { given = g }; } g') .now, Row.get 7 (T4 .locals) (m3 record { before = c; slice-known = record { given =
-            g }; } g'),), Path.refl { a = m3 record { before = c; slice-known = record { given = g } } g' }, loop-holds record { before = record {
-            before = c; slice-known = record { given = g } }; slice-known2 = record { given = g' }; },), λ vs inv. (tt, (λ taken. lay1 record { before
-            = record { before = record { before = record { before = c; slice-known = record { given = g } }; slice-known2 = record { given = g' }; };
-            loop = record { pending = vs .0; circuits = vs .1; ledger = vs .2; inflight = vs .3; out = vs .4; body = vs .5; case = vs .6; inv = inv;
-            }; }; loop-test = record { taken = Tests.ltb-true (Row.get 7 (T4 .locals) (m4 record { before = record { before = c; slice-known = record
-            { given = g } }; slice-known2 = record { given = g' }; } (vs .0) (vs .1) (vs .2) (vs .3) (vs .4) (vs .5) (vs .6))) 17 taken; }; }, λ left.
-            lay2 record { before = record { before = record { before = record { before = c; slice-known = record { given = g } }; slice-known2 =
-            record { given = g' }; }; loop = record { pending = vs .0; circuits = vs .1; ledger = vs .2; inflight = vs .3; out = vs .4; body = vs .5;
-            case = vs .6; inv = inv; }; }; loop-test = record { left = Tests.ltb-false (Row.get 7 (T4 .locals) (m4 record { before = record { before =
-            c; slice-known = record { given = g } }; slice-known2 = record { given = g' }; } (vs .0) (vs .1) (vs .2) (vs .3) (vs .4) (vs .5) (vs .6)))
-            17 left; }; },),),)
+        laid = λ c. λ g. λ g'. (
+          (
+            (
+              Row.get 1 (T4 .locals) (m3 record { before = c; slice-known = record { given = g } } g') .now,
+              Row.get 2 (T4 .locals) (m3 record { before = c; slice-known = record { given = g } } g') .now,
+              Row.get 3 (T4 .locals) (m3 record { before = c; slice-known = record { given = g } } g') .now,
+              Row.get 4 (T4 .locals) (m3 record { before = c; slice-known = record { given = g } } g') .now,
+              Row.get 5 (T4 .locals) (m3 record { before = c; slice-known = record { given = g } } g') .now,
+              Row.get 6 (T4 .locals) (m3 record { before = c; slice-known = record { given = g } } g') .now,
+              Row.get 7 (T4 .locals) (m3 record { before = c; slice-known = record { given = g } } g'),
+            ),
+            Path.refl {a = m3 record { before = c; slice-known = record { given = g } } g'},
+            loop-holds record {
+              before = record { before = c; slice-known = record { given = g } };
+              slice-known2 = record { given = g' };
+            },
+          ),
+          λ vs inv. (
+            tt,
+            (
+              λ taken. lay1 record {
+                before = record {
+                  before = record {
+                    before = record { before = c; slice-known = record { given = g } };
+                    slice-known2 = record { given = g' };
+                  };
+                  loop = record {
+                    pending = vs .0;
+                    circuits = vs .1;
+                    ledger = vs .2;
+                    inflight = vs .3;
+                    out = vs .4;
+                    body = vs .5;
+                    case = vs .6;
+                    inv = inv;
+                  };
+                };
+                loop-test = record {
+                  taken = Tests.ltb-true (Row.get 7 (T4 .locals) (m4
+                      record {
+                        before = record { before = c; slice-known = record { given = g } };
+                        slice-known2 = record { given = g' };
+                      } (vs .0) (vs .1) (vs .2) (vs .3) (vs .4) (vs .5) (vs .6))) 17 taken;
+                };
+              },
+              λ left. lay2 record {
+                before = record {
+                  before = record {
+                    before = record { before = c; slice-known = record { given = g } };
+                    slice-known2 = record { given = g' };
+                  };
+                  loop = record {
+                    pending = vs .0;
+                    circuits = vs .1;
+                    ledger = vs .2;
+                    inflight = vs .3;
+                    out = vs .4;
+                    body = vs .5;
+                    case = vs .6;
+                    inv = inv;
+                  };
+                };
+                loop-test = record {
+                  left = Tests.ltb-false (Row.get 7 (T4 .locals) (m4
+                      record {
+                        before = record { before = c; slice-known = record { given = g } };
+                        slice-known2 = record { given = g' };
+                      } (vs .0) (vs .1) (vs .2) (vs .3) (vs .4) (vs .5) (vs .6))) 17 left;
+                };
+              },
+            ),
+          ),
+        )
+
         module _ (κs : Lifetimes.Lfts 6) (qs : Lifetimes.Shares 6) where
-          pub asked : (a : Kinds.Dens κs ps) → (good : Kinds.GoodsP κs ps a) → (pre : Pre· κs a) → (bs : List.List Nat.ℕ) → Φ (Any.wantQ 6 ps r xs m
-              κs qs a (Post· κs a)) (Function.init 6 ps r xs m κs qs a)
-          asked = λ a good pre bs. laid record { κs = κs; args = record { pending = a .0; circuits = a .1 .0; ledger = a .1 .1 .0; inflight = a .1 .1
-              .1 .0; out = a .1 .1 .1 .1 .0; body = a .1 .1 .1 .1 .1 .0; }; good = good; pre = pre; }
-        module _ { M : Type 1 } (𝓤 : URA.URA M) (H : Wp.Heap 𝓤) (A : Atoms.Atoms 𝓤) (W : Kit.Given 𝓤 H A) (𝓣 : Wp.Tables 𝓤 H) (known0 : Plain.Known 𝓤
-            H A W 𝓣 6 ps·0 r·0 (claims· .0) (claims· .1) "cases::machine::one_case") where
-          pub spec : Statement.Triple 𝓤 (Wp.WpFn 𝓤 H (𝓣 .C) (𝓣 .Λ) (Function.fnOf 6 ps r xs m hs body)) (Function.plainOf 𝓤 H A 6 ps r Pre· Post·)
-          spec = Plain.t-fn-plain 𝓤 H A W 𝓣 6 ps r xs m hs body (λ κs qs bs. Φ) (λ κs qs bs bd. typed κs qs 𝓤 H A W 𝓣 known0 bs bd) Pre· Post· asked
+          pub asked : (a : Kinds.Dens κs ps) → (good : Kinds.GoodsP κs ps a) → (pre : Pre· κs a) →
+              (bs : List.List Nat.ℕ) → Φ (Any.wantQ 6 ps r xs m κs qs a (Post· κs a))
+              (Function.init 6 ps r xs m κs qs a)
+          asked = λ a good pre bs. laid record {
+            κs = κs;
+            args = record {
+              pending = a .0;
+              circuits = a .1 .0;
+              ledger = a .1 .1 .0;
+              inflight = a .1 .1 .1 .0;
+              out = a .1 .1 .1 .1 .0;
+              body = a .1 .1 .1 .1 .1 .0;
+            };
+            good = good;
+            pre = pre;
+          }
+
+        module _ {M : Type 1} (𝓤 : URA.URA M) (H : Wp.Heap 𝓤) (A : Atoms.Atoms 𝓤) (W : Kit.Given 𝓤 H A)
+            (𝓣 : Wp.Tables 𝓤 H) (known0 : Plain.Known 𝓤 H A W 𝓣 6 ps·0 r·0 (claims· .0) (claims· .1)
+            "cases::machine::one_case") where
+          pub spec : Statement.Triple 𝓤 (Wp.WpFn 𝓤 H (𝓣 .C) (𝓣 .Λ) (Function.fnOf 6 ps r xs m hs body))
+              (Function.plainOf 𝓤 H A 6 ps r Pre· Post·)
+          spec = Plain.t-fn-plain 𝓤 H A W 𝓣 6 ps r xs m hs body (λ κs qs bs. Φ)
+              (λ κs qs bs bd. typed κs qs 𝓤 H A W 𝓣 known0 bs bd) Pre· Post· asked

@@ -3,30 +3,22 @@ use Rattle.cases.proofs.By.InflightAction
 use Rattle.cases.proofs.By.RelayCircuit
 use Rattle.cases.proofs.By.RelayPending
 use Rattle.cases.proofs.By.ReservationUsage
+use Rattle.cases.proofs.StructRow
 use Rattle.cases.proofs.script.Script
 use Rattle.cases.proofs.script.Script.Laws
 use borrow.Fn.Kinds
 use borrow.Kind.MutSlice
 use borrow.Kind.ShrSlice
-use borrow.Kind.Value
-use borrow.Rule.Local
 use borrow.Table.Referent
-use borrow.Table.Rows
-use denote.Exit
-use denote.Struct.Declared
-use denote.Struct.Laws as Laws'
 use mathlib.Core.List
-use mathlib.Core.Path
 use mir.Syntax
 use mathlib.Core.List.{_∷_}
 
 abbrev pub ps : List.List (Kinds.PK 6)
-ps = (MutSlice.pMutS RelayPending.row 0 tt) ∷ (MutSlice.pMutS RelayCircuit.row 1 tt) ∷ (MutSlice.pMutS ReservationUsage.row 2 tt) ∷ (MutSlice.pMutS
-    InflightAction.row 3 tt) ∷ (MutSlice.pMutS (Referent.rtF (Referent.fInt Syntax.w32)) 4 tt) ∷ (ShrSlice.pShrS (Referent.rtF (Referent.fInt
-    Syntax.w8)) 5 tt) ∷ (Value.pVal record { ty = Declared.row Script.the-type; one = Path.refl; val = Laws'.val Script.the-type Laws.the-laws; tells
-    = Laws'.tells Script.the-type Laws.the-laws; still = Laws'.still Script.the-type Laws.the-copy Exit.yes; row = Rows.whole (Declared.row
-    Script.the-type); rd = λ x. x; mk = λ x. x; } λ M 𝓤 H A W. record { copies = Laws'.copy Script.the-type Laws.the-copy 𝓤 H A W; lawful =
-    Laws'.lawful Script.the-type Laws.the-laws 𝓤 H A W; makes = Laws'.makes Script.the-type Laws.the-plain 𝓤 H A; in-mem = Local.mem-whole 𝓤 H A W
-    (Declared.row Script.the-type); of-mem = Local.whole-mem 𝓤 H A W (Declared.row Script.the-type); }) ∷ List.[]
+ps = (MutSlice.pMutS RelayPending.row 0 tt) ∷ (MutSlice.pMutS RelayCircuit.row 1 tt) ∷
+    (MutSlice.pMutS ReservationUsage.row 2 tt) ∷ (MutSlice.pMutS InflightAction.row 3 tt) ∷ (MutSlice.pMutS
+    (Referent.rtF (Referent.fInt Syntax.w32)) 4 tt) ∷ (ShrSlice.pShrS (Referent.rtF (Referent.fInt Syntax.w8)) 5 tt) ∷ (StructRow.param
+    Script.the-type Laws.the-laws Laws.the-copy Laws.the-plain) ∷ List.[]
+
 abbrev pub r : Kinds.RK 6
 r = Kinds.rNum Syntax.w64

@@ -4,6 +4,7 @@ use Rattle.cases.proofs.By.InflightAction
 use Rattle.cases.proofs.By.RelayCircuit
 use Rattle.cases.proofs.By.RelayPending
 use Rattle.cases.proofs.By.ReservationUsage
+use Rattle.cases.proofs.StructRow
 use Rattle.cases.proofs.script.Script
 use Rattle.cases.proofs.script.Script.Laws
 use Rattle.hnsr_circuit.proofs.answer.HnsrAnswer
@@ -13,6 +14,7 @@ use Rattle.hnsr_circuit.proofs.runtime.Relayed.Laws as Laws''
 use borrow.Author.Called
 use borrow.Author.Tests
 use borrow.Fn.Any
+use borrow.Fn.Args as Args'
 use borrow.Fn.Call
 use borrow.Fn.Enter
 use borrow.Fn.Frame
@@ -22,7 +24,6 @@ use borrow.Fn.Plain
 use borrow.Kind.MutSlice
 use borrow.Kind.Num
 use borrow.Kind.ShrSlice
-use borrow.Kind.Value
 use borrow.Rule.Lifetime
 use borrow.Rule.Local
 use borrow.Rule.Scalar
@@ -45,7 +46,6 @@ use borrow.Table.Typed
 use contract.Lifetimes
 use denote.Enum.Declared
 use denote.Enum.Laws as Laws'''
-use denote.Exit
 use denote.Laws as Laws''''
 use denote.Struct.Declared as Declared'
 use denote.Struct.Laws as Laws'''''
@@ -64,2803 +64,5720 @@ use mathlib.Core.List.{_∷_}
 
 abbrev ref0 : Syntax.Ty
 ref0 = Syntax.tyRef Syntax.erased Syntax.mut RelayPending.to
+
 abbrev ref1 : Syntax.Ty
 ref1 = Syntax.tyRef Syntax.erased Syntax.mut RelayCircuit.to
+
 abbrev ref2 : Syntax.Ty
 ref2 = Syntax.tyRef Syntax.erased Syntax.mut ReservationUsage.to
+
 abbrev ref3 : Syntax.Ty
 ref3 = Syntax.tyRef Syntax.erased Syntax.mut InflightAction.to
+
 abbrev ref4 : Syntax.Ty
 ref4 = Syntax.tyRef Syntax.erased Syntax.mut (Syntax.tyInt Syntax.w32)
+
 abbrev ref5 : Syntax.Ty
 ref5 = Syntax.tyRef Syntax.erased Syntax.imm (Syntax.tyInt Syntax.w8)
+
 abbrev ref6 : Syntax.Ty
 ref6 = Syntax.tyRef (Syntax.named 0) Syntax.mut RelayPending.to
+
 abbrev ref7 : Syntax.Ty
 ref7 = Syntax.tyRef (Syntax.named 1) Syntax.mut RelayCircuit.to
+
 abbrev ref8 : Syntax.Ty
 ref8 = Syntax.tyRef (Syntax.named 2) Syntax.mut ReservationUsage.to
+
 abbrev ref9 : Syntax.Ty
 ref9 = Syntax.tyRef (Syntax.named 3) Syntax.mut InflightAction.to
+
 abbrev ref10 : Syntax.Ty
 ref10 = Syntax.tyRef (Syntax.named 4) Syntax.mut (Syntax.tyInt Syntax.w32)
+
 abbrev ref11 : Syntax.Ty
 ref11 = Syntax.tyRef (Syntax.named 5) Syntax.imm (Syntax.tyInt Syntax.w8)
+
+abbrev slice0 : Syntax.Ty
+slice0 = Syntax.tyStruct (38 ∷ 91 ∷ 93 ∷ List.[]) (Syntax.tcons ref0
+    (Syntax.tcons (Syntax.tyInt Syntax.w64) Syntax.tnil))
+
+abbrev slice1 : Syntax.Ty
+slice1 = Syntax.tyStruct (38 ∷ 91 ∷ 93 ∷ List.[]) (Syntax.tcons ref1
+    (Syntax.tcons (Syntax.tyInt Syntax.w64) Syntax.tnil))
+
+abbrev slice2 : Syntax.Ty
+slice2 = Syntax.tyStruct (38 ∷ 91 ∷ 93 ∷ List.[]) (Syntax.tcons ref2
+    (Syntax.tcons (Syntax.tyInt Syntax.w64) Syntax.tnil))
+
+abbrev slice3 : Syntax.Ty
+slice3 = Syntax.tyStruct (38 ∷ 91 ∷ 93 ∷ List.[]) (Syntax.tcons ref3
+    (Syntax.tcons (Syntax.tyInt Syntax.w64) Syntax.tnil))
+
+abbrev slice4 : Syntax.Ty
+slice4 = Syntax.tyStruct (38 ∷ 91 ∷ 93 ∷ List.[]) (Syntax.tcons ref4
+    (Syntax.tcons (Syntax.tyInt Syntax.w64) Syntax.tnil))
+
+abbrev slice5 : Syntax.Ty
+slice5 = Syntax.tyStruct (38 ∷ 91 ∷ 93 ∷ List.[]) (Syntax.tcons ref5
+    (Syntax.tcons (Syntax.tyInt Syntax.w64) Syntax.tnil))
+
 abbrev pub ps : List.List (Kinds.PK 6)
-ps = (MutSlice.pMutS RelayPending.row 0 tt) ∷ (MutSlice.pMutS RelayCircuit.row 1 tt) ∷ (MutSlice.pMutS ReservationUsage.row 2 tt) ∷ (MutSlice.pMutS
-    InflightAction.row 3 tt) ∷ (MutSlice.pMutS (Referent.rtF (Referent.fInt Syntax.w32)) 4 tt) ∷ (ShrSlice.pShrS (Referent.rtF (Referent.fInt
-    Syntax.w8)) 5 tt) ∷ (Value.pVal record { ty = Declared'.row Script.the-type; one = Path.refl; val = Laws'''''.val Script.the-type Laws.the-laws;
-    tells = Laws'''''.tells Script.the-type Laws.the-laws; still = Laws'''''.still Script.the-type Laws.the-copy Exit.yes; row = Rows.whole
-    (Declared'.row Script.the-type); rd = λ x. x; mk = λ x. x; } λ M 𝓤 H A W. record { copies = Laws'''''.copy Script.the-type Laws.the-copy 𝓤 H A W;
-    lawful = Laws'''''.lawful Script.the-type Laws.the-laws 𝓤 H A W; makes = Laws'''''.makes Script.the-type Laws.the-plain 𝓤 H A; in-mem =
-    Local.mem-whole 𝓤 H A W (Declared'.row Script.the-type); of-mem = Local.whole-mem 𝓤 H A W (Declared'.row Script.the-type); }) ∷ List.[]
+ps = (MutSlice.pMutS RelayPending.row 0 tt) ∷ (MutSlice.pMutS RelayCircuit.row 1 tt) ∷
+    (MutSlice.pMutS ReservationUsage.row 2 tt) ∷ (MutSlice.pMutS InflightAction.row 3 tt) ∷ (MutSlice.pMutS
+    (Referent.rtF (Referent.fInt Syntax.w32)) 4 tt) ∷ (ShrSlice.pShrS (Referent.rtF (Referent.fInt Syntax.w8)) 5 tt) ∷ (StructRow.param
+    Script.the-type Laws.the-laws Laws.the-copy Laws.the-plain) ∷ List.[]
+
 abbrev pub r : Kinds.RK 6
 r = Num.rNum Syntax.w64
+
 abbrev pub xs : List.List Syntax.Ty
-xs = Laws''.mir ∷ Laws'.mir ∷ (Syntax.tyInt Syntax.w64) ∷ (Syntax.tyInt Syntax.w64) ∷ ref0 ∷ (Syntax.tyStruct (38 ∷ 91 ∷ 93 ∷ List.[]) (Syntax.tcons
-    ref0 (Syntax.tcons (Syntax.tyInt Syntax.w64) Syntax.tnil))) ∷ ref1 ∷ (Syntax.tyStruct (38 ∷ 91 ∷ 93 ∷ List.[]) (Syntax.tcons ref1 (Syntax.tcons
-    (Syntax.tyInt Syntax.w64) Syntax.tnil))) ∷ ref2 ∷ (Syntax.tyStruct (38 ∷ 91 ∷ 93 ∷ List.[]) (Syntax.tcons ref2 (Syntax.tcons (Syntax.tyInt
-    Syntax.w64) Syntax.tnil))) ∷ ref3 ∷ (Syntax.tyStruct (38 ∷ 91 ∷ 93 ∷ List.[]) (Syntax.tcons ref3 (Syntax.tcons (Syntax.tyInt Syntax.w64)
-    Syntax.tnil))) ∷ ref4 ∷ (Syntax.tyStruct (38 ∷ 91 ∷ 93 ∷ List.[]) (Syntax.tcons ref4 (Syntax.tcons (Syntax.tyInt Syntax.w64) Syntax.tnil))) ∷
-    (Syntax.tyInt Syntax.w64) ∷ Syntax.tyBool ∷ ref0 ∷ (Syntax.tyStruct (38 ∷ 91 ∷ 93 ∷ List.[]) (Syntax.tcons ref0 (Syntax.tcons (Syntax.tyInt
-    Syntax.w64) Syntax.tnil))) ∷ ref1 ∷ (Syntax.tyStruct (38 ∷ 91 ∷ 93 ∷ List.[]) (Syntax.tcons ref1 (Syntax.tcons (Syntax.tyInt Syntax.w64)
-    Syntax.tnil))) ∷ ref2 ∷ (Syntax.tyStruct (38 ∷ 91 ∷ 93 ∷ List.[]) (Syntax.tcons ref2 (Syntax.tcons (Syntax.tyInt Syntax.w64) Syntax.tnil))) ∷ ref3
-    ∷ (Syntax.tyStruct (38 ∷ 91 ∷ 93 ∷ List.[]) (Syntax.tcons ref3 (Syntax.tcons (Syntax.tyInt Syntax.w64) Syntax.tnil))) ∷ ref4 ∷ (Syntax.tyStruct
-    (38 ∷ 91 ∷ 93 ∷ List.[]) (Syntax.tcons ref4 (Syntax.tcons (Syntax.tyInt Syntax.w64) Syntax.tnil))) ∷ ref5 ∷ (Syntax.tyStruct (38 ∷ 91 ∷ 93 ∷
-    List.[]) (Syntax.tcons ref5 (Syntax.tcons (Syntax.tyInt Syntax.w64) Syntax.tnil))) ∷ ref5 ∷ (Syntax.tyStruct (38 ∷ 91 ∷ 93 ∷ List.[])
-    (Syntax.tcons ref5 (Syntax.tcons (Syntax.tyInt Syntax.w64) Syntax.tnil))) ∷ List.[]
+xs = Laws''.mir ∷ Laws'.mir ∷ (Syntax.tyInt Syntax.w64) ∷ (Syntax.tyInt Syntax.w64) ∷ ref0 ∷ slice0 ∷ ref1 ∷ slice1 ∷
+    ref2 ∷ slice2 ∷ ref3 ∷ slice3 ∷ ref4 ∷ slice4 ∷ (Syntax.tyInt Syntax.w64) ∷ Syntax.tyBool ∷ ref0 ∷ slice0 ∷ ref1 ∷
+    slice1 ∷ ref2 ∷ slice2 ∷ ref3 ∷ slice3 ∷ ref4 ∷ slice4 ∷ ref5 ∷ slice5 ∷ ref5 ∷ slice5 ∷ List.[]
+
 abbrev pub m : Nat.ℕ
 m = 10
+
 abbrev pub ps·0 : List.List (Kinds.PK 5)
-ps·0 = (MutSlice.pMutS RelayPending.row 0 tt) ∷ (MutSlice.pMutS RelayCircuit.row 1 tt) ∷ (MutSlice.pMutS ReservationUsage.row 2 tt) ∷ (MutSlice.pMutS
-    InflightAction.row 3 tt) ∷ (MutSlice.pMutS (Referent.rtF (Referent.fInt Syntax.w32)) 4 tt) ∷ (Value.pVal record { ty = Declared'.row
-    Script.the-type; one = Path.refl; val = Laws'''''.val Script.the-type Laws.the-laws; tells = Laws'''''.tells Script.the-type Laws.the-laws; still
-    = Laws'''''.still Script.the-type Laws.the-copy Exit.yes; row = Rows.whole (Declared'.row Script.the-type); rd = λ x. x; mk = λ x. x; } λ M 𝓤 H A
-    W. record { copies = Laws'''''.copy Script.the-type Laws.the-copy 𝓤 H A W; lawful = Laws'''''.lawful Script.the-type Laws.the-laws 𝓤 H A W; makes
-    = Laws'''''.makes Script.the-type Laws.the-plain 𝓤 H A; in-mem = Local.mem-whole 𝓤 H A W (Declared'.row Script.the-type); of-mem = Local.whole-mem
-    𝓤 H A W (Declared'.row Script.the-type); }) ∷ List.[]
+ps·0 = (MutSlice.pMutS RelayPending.row 0 tt) ∷ (MutSlice.pMutS RelayCircuit.row 1 tt) ∷
+    (MutSlice.pMutS ReservationUsage.row 2 tt) ∷ (MutSlice.pMutS InflightAction.row 3 tt) ∷ (MutSlice.pMutS
+    (Referent.rtF (Referent.fInt Syntax.w32)) 4 tt) ∷ (StructRow.param Script.the-type Laws.the-laws Laws.the-copy
+    Laws.the-plain) ∷ List.[]
+
 abbrev pub r·0 : Kinds.RK 5
-r·0 = Value.rVal record { ty = Declared'.row Relayed.the-type; one = Path.refl; val = Laws'''''.val Relayed.the-type Laws''.the-laws; tells =
-    Laws'''''.tells Relayed.the-type Laws''.the-laws; still = Laws'''''.still Relayed.the-type Laws''.the-copy Exit.yes; row = Rows.whole
-    (Declared'.row Relayed.the-type); rd = λ x. x; mk = λ x. x; } λ M 𝓤 H A W. record { copies = Laws'''''.copy Relayed.the-type Laws''.the-copy 𝓤 H A
-    W; lawful = Laws'''''.lawful Relayed.the-type Laws''.the-laws 𝓤 H A W; makes = Laws'''''.makes Relayed.the-type Laws''.the-plain 𝓤 H A; in-mem =
-    Local.mem-whole 𝓤 H A W (Declared'.row Relayed.the-type); of-mem = Local.whole-mem 𝓤 H A W (Declared'.row Relayed.the-type); }
+r·0 = StructRow.result Relayed.the-type Laws''.the-laws Laws''.the-copy Laws''.the-plain
+
 abbrev pub ps·1 : List.List (Kinds.PK 0)
 ps·1 = (Num.pNum Syntax.w64) ∷ (Num.pNum Syntax.w64) ∷ List.[]
+
 abbrev pub r·1 : Kinds.RK 0
 r·1 = Num.rNum Syntax.w64
+
 abbrev pub ps·2 : List.List (Kinds.PK 0)
-ps·2 = (Value.pVal record { ty = Declared.row HnsrAnswer.the-type; one = Path.refl; val = Laws'''.val HnsrAnswer.the-type Laws'.the-laws; tells =
-    Laws'''.tells HnsrAnswer.the-type Laws'.the-laws; still = Laws'''.still HnsrAnswer.the-type Laws'.the-copy Exit.yes; row = Rows.whole
-    (Declared.row HnsrAnswer.the-type); rd = λ x. x; mk = λ x. x; } λ M 𝓤 H A W. record { copies = Laws'''.copy HnsrAnswer.the-type Laws'.the-copy 𝓤 H
-    A W; lawful = Laws'''.lawful HnsrAnswer.the-type Laws'.the-laws 𝓤 H A W tt; makes = Laws'''.makes HnsrAnswer.the-type Laws'.the-plain 𝓤 H A;
-    in-mem = Local.mem-whole 𝓤 H A W (Declared.row HnsrAnswer.the-type); of-mem = Local.whole-mem 𝓤 H A W (Declared.row HnsrAnswer.the-type); }) ∷
-    List.[]
+ps·2 = (StructRow.enum-param HnsrAnswer.the-type Laws'.the-laws Laws'.the-copy Laws'.the-plain tt) ∷ List.[]
+
 abbrev pub r·2 : Kinds.RK 0
 r·2 = Num.rNum Syntax.w64
+
 abbrev pub ps·3 : List.List (Kinds.PK 7)
-ps·3 = (MutSlice.pMutS RelayPending.row 0 tt) ∷ (MutSlice.pMutS RelayCircuit.row 1 tt) ∷ (MutSlice.pMutS ReservationUsage.row 2 tt) ∷ (MutSlice.pMutS
-    InflightAction.row 3 tt) ∷ (MutSlice.pMutS (Referent.rtF (Referent.fInt Syntax.w32)) 4 tt) ∷ (Value.pVal record { ty = Declared'.row
-    Relayed.the-type; one = Path.refl; val = Laws'''''.val Relayed.the-type Laws''.the-laws; tells = Laws'''''.tells Relayed.the-type Laws''.the-laws;
-    still = Laws'''''.still Relayed.the-type Laws''.the-copy Exit.yes; row = Rows.whole (Declared'.row Relayed.the-type); rd = λ x. x; mk = λ x. x; }
-    λ M 𝓤 H A W. record { copies = Laws'''''.copy Relayed.the-type Laws''.the-copy 𝓤 H A W; lawful = Laws'''''.lawful Relayed.the-type Laws''.the-laws
-    𝓤 H A W; makes = Laws'''''.makes Relayed.the-type Laws''.the-plain 𝓤 H A; in-mem = Local.mem-whole 𝓤 H A W (Declared'.row Relayed.the-type);
-    of-mem = Local.whole-mem 𝓤 H A W (Declared'.row Relayed.the-type); }) ∷ (ShrSlice.pShrS (Referent.rtF (Referent.fInt Syntax.w8)) 5 tt) ∷
-    (ShrSlice.pShrS (Referent.rtF (Referent.fInt Syntax.w8)) 6 tt) ∷ (Value.pVal record { ty = Declared'.row Script.the-type; one = Path.refl; val =
-    Laws'''''.val Script.the-type Laws.the-laws; tells = Laws'''''.tells Script.the-type Laws.the-laws; still = Laws'''''.still Script.the-type
-    Laws.the-copy Exit.yes; row = Rows.whole (Declared'.row Script.the-type); rd = λ x. x; mk = λ x. x; } λ M 𝓤 H A W. record { copies =
-    Laws'''''.copy Script.the-type Laws.the-copy 𝓤 H A W; lawful = Laws'''''.lawful Script.the-type Laws.the-laws 𝓤 H A W; makes = Laws'''''.makes
-    Script.the-type Laws.the-plain 𝓤 H A; in-mem = Local.mem-whole 𝓤 H A W (Declared'.row Script.the-type); of-mem = Local.whole-mem 𝓤 H A W
-    (Declared'.row Script.the-type); }) ∷ List.[]
+ps·3 = (MutSlice.pMutS RelayPending.row 0 tt) ∷ (MutSlice.pMutS RelayCircuit.row 1 tt) ∷
+    (MutSlice.pMutS ReservationUsage.row 2 tt) ∷ (MutSlice.pMutS InflightAction.row 3 tt) ∷ (MutSlice.pMutS
+    (Referent.rtF (Referent.fInt Syntax.w32)) 4 tt) ∷ (StructRow.param Relayed.the-type Laws''.the-laws Laws''.the-copy
+    Laws''.the-plain) ∷ (ShrSlice.pShrS (Referent.rtF (Referent.fInt Syntax.w8)) 5 tt) ∷ (ShrSlice.pShrS
+    (Referent.rtF (Referent.fInt Syntax.w8)) 6 tt) ∷ (StructRow.param Script.the-type Laws.the-laws Laws.the-copy
+    Laws.the-plain) ∷ List.[]
+
 abbrev pub r·3 : Kinds.RK 7
 r·3 = Num.rNum Syntax.w64
+
 abbrev pub hs : List.List Syntax.Home
-hs = Syntax.valueLocal ∷ Syntax.valueLocal ∷ Syntax.valueLocal ∷ Syntax.valueLocal ∷ Syntax.valueLocal ∷ Syntax.valueLocal ∷ Syntax.valueLocal ∷
-    Syntax.valueLocal ∷ Syntax.valueLocal ∷ Syntax.valueLocal ∷ Syntax.valueLocal ∷ Syntax.valueLocal ∷ Syntax.valueLocal ∷ Syntax.valueLocal ∷
-    Syntax.valueLocal ∷ Syntax.valueLocal ∷ Syntax.valueLocal ∷ Syntax.valueLocal ∷ Syntax.valueLocal ∷ Syntax.valueLocal ∷ Syntax.valueLocal ∷
-    Syntax.valueLocal ∷ Syntax.valueLocal ∷ Syntax.valueLocal ∷ Syntax.valueLocal ∷ Syntax.valueLocal ∷ Syntax.valueLocal ∷ Syntax.valueLocal ∷
-    Syntax.valueLocal ∷ Syntax.valueLocal ∷ Syntax.valueLocal ∷ Syntax.valueLocal ∷ Syntax.valueLocal ∷ Syntax.valueLocal ∷ Syntax.valueLocal ∷
+hs = Syntax.valueLocal ∷ Syntax.valueLocal ∷ Syntax.valueLocal ∷ Syntax.valueLocal ∷ Syntax.valueLocal ∷
+    Syntax.valueLocal ∷ Syntax.valueLocal ∷ Syntax.valueLocal ∷ Syntax.valueLocal ∷ Syntax.valueLocal ∷
+    Syntax.valueLocal ∷ Syntax.valueLocal ∷ Syntax.valueLocal ∷ Syntax.valueLocal ∷ Syntax.valueLocal ∷
+    Syntax.valueLocal ∷ Syntax.valueLocal ∷ Syntax.valueLocal ∷ Syntax.valueLocal ∷ Syntax.valueLocal ∷
+    Syntax.valueLocal ∷ Syntax.valueLocal ∷ Syntax.valueLocal ∷ Syntax.valueLocal ∷ Syntax.valueLocal ∷
+    Syntax.valueLocal ∷ Syntax.valueLocal ∷ Syntax.valueLocal ∷ Syntax.valueLocal ∷ Syntax.valueLocal ∷
+    Syntax.valueLocal ∷ Syntax.valueLocal ∷ Syntax.valueLocal ∷ Syntax.valueLocal ∷ Syntax.valueLocal ∷
     Syntax.valueLocal ∷ Syntax.valueLocal ∷ Syntax.valueLocal ∷ List.[]
+
 abbrev b0 : Syntax.Body
-b0 = Syntax.assign (Syntax.place 12 List.[]) (Syntax.addrOf (Syntax.place 1 ((Syntax.field 0) ∷ (Syntax.deref RelayPending.ty) ∷ List.[])))
+b0 = Syntax.assign (Syntax.place 12 List.[]) (Syntax.addrOf (Syntax.place 1 ((Syntax.field 0) ∷
+    (Syntax.deref RelayPending.ty) ∷ List.[])))
+
 abbrev b1 : Syntax.Body
-b1 = Syntax.assign (Syntax.place 13 List.[]) (Syntax.aggregate ((Syntax.copy (Syntax.place 12 List.[])) ∷ (Syntax.copy (Syntax.place 1 ((Syntax.field
-    1) ∷ List.[]))) ∷ List.[]))
+b1 = Syntax.assign (Syntax.place 13 List.[]) (Syntax.aggregate ((Syntax.copy (Syntax.place 12 List.[])) ∷
+    (Syntax.copy (Syntax.place 1 ((Syntax.field 1) ∷ List.[]))) ∷ List.[]))
+
 abbrev b2 : Syntax.Body
-b2 = Syntax.assign (Syntax.place 14 List.[]) (Syntax.addrOf (Syntax.place 2 ((Syntax.field 0) ∷ (Syntax.deref RelayCircuit.ty) ∷ List.[])))
+b2 = Syntax.assign (Syntax.place 14 List.[]) (Syntax.addrOf (Syntax.place 2 ((Syntax.field 0) ∷
+    (Syntax.deref RelayCircuit.ty) ∷ List.[])))
+
 abbrev b3 : Syntax.Body
-b3 = Syntax.assign (Syntax.place 15 List.[]) (Syntax.aggregate ((Syntax.copy (Syntax.place 14 List.[])) ∷ (Syntax.copy (Syntax.place 2 ((Syntax.field
-    1) ∷ List.[]))) ∷ List.[]))
+b3 = Syntax.assign (Syntax.place 15 List.[]) (Syntax.aggregate ((Syntax.copy (Syntax.place 14 List.[])) ∷
+    (Syntax.copy (Syntax.place 2 ((Syntax.field 1) ∷ List.[]))) ∷ List.[]))
+
 abbrev b4 : Syntax.Body
-b4 = Syntax.assign (Syntax.place 16 List.[]) (Syntax.addrOf (Syntax.place 3 ((Syntax.field 0) ∷ (Syntax.deref ReservationUsage.ty) ∷ List.[])))
+b4 = Syntax.assign (Syntax.place 16 List.[]) (Syntax.addrOf (Syntax.place 3 ((Syntax.field 0) ∷
+    (Syntax.deref ReservationUsage.ty) ∷ List.[])))
+
 abbrev b5 : Syntax.Body
-b5 = Syntax.assign (Syntax.place 17 List.[]) (Syntax.aggregate ((Syntax.copy (Syntax.place 16 List.[])) ∷ (Syntax.copy (Syntax.place 3 ((Syntax.field
-    1) ∷ List.[]))) ∷ List.[]))
+b5 = Syntax.assign (Syntax.place 17 List.[]) (Syntax.aggregate ((Syntax.copy (Syntax.place 16 List.[])) ∷
+    (Syntax.copy (Syntax.place 3 ((Syntax.field 1) ∷ List.[]))) ∷ List.[]))
+
 abbrev b6 : Syntax.Body
-b6 = Syntax.assign (Syntax.place 18 List.[]) (Syntax.addrOf (Syntax.place 4 ((Syntax.field 0) ∷ (Syntax.deref InflightAction.ty) ∷ List.[])))
+b6 = Syntax.assign (Syntax.place 18 List.[]) (Syntax.addrOf (Syntax.place 4 ((Syntax.field 0) ∷
+    (Syntax.deref InflightAction.ty) ∷ List.[])))
+
 abbrev b7 : Syntax.Body
-b7 = Syntax.assign (Syntax.place 19 List.[]) (Syntax.aggregate ((Syntax.copy (Syntax.place 18 List.[])) ∷ (Syntax.copy (Syntax.place 4 ((Syntax.field
-    1) ∷ List.[]))) ∷ List.[]))
+b7 = Syntax.assign (Syntax.place 19 List.[]) (Syntax.aggregate ((Syntax.copy (Syntax.place 18 List.[])) ∷
+    (Syntax.copy (Syntax.place 4 ((Syntax.field 1) ∷ List.[]))) ∷ List.[]))
+
 abbrev b8 : Syntax.Body
-b8 = Syntax.assign (Syntax.place 20 List.[]) (Syntax.addrOf (Syntax.place 5 ((Syntax.field 0) ∷ (Syntax.deref (Syntax.tyInt Syntax.w32)) ∷ List.[])))
+b8 = Syntax.assign (Syntax.place 20 List.[]) (Syntax.addrOf (Syntax.place 5 ((Syntax.field 0) ∷
+    (Syntax.deref (Syntax.tyInt Syntax.w32)) ∷ List.[])))
+
 abbrev b9 : Syntax.Body
-b9 = Syntax.assign (Syntax.place 21 List.[]) (Syntax.aggregate ((Syntax.copy (Syntax.place 20 List.[])) ∷ (Syntax.copy (Syntax.place 5 ((Syntax.field
-    1) ∷ List.[]))) ∷ List.[]))
+b9 = Syntax.assign (Syntax.place 21 List.[]) (Syntax.aggregate ((Syntax.copy (Syntax.place 20 List.[])) ∷
+    (Syntax.copy (Syntax.place 5 ((Syntax.field 1) ∷ List.[]))) ∷ List.[]))
+
 abbrev b10 : Syntax.Body
-b10 = Syntax.call "cases::machine::prepare" ((Syntax.copy (Syntax.place 13 List.[])) ∷ (Syntax.copy (Syntax.place 15 List.[])) ∷ (Syntax.copy
-    (Syntax.place 17 List.[])) ∷ (Syntax.copy (Syntax.place 19 List.[])) ∷ (Syntax.copy (Syntax.place 21 List.[])) ∷ (Syntax.copy (Syntax.place 7
-    List.[])) ∷ List.[]) (Syntax.place 8 List.[])
+b10 = Syntax.call "cases::machine::prepare" ((Syntax.copy (Syntax.place 13 List.[])) ∷
+    (Syntax.copy (Syntax.place 15 List.[])) ∷ (Syntax.copy (Syntax.place 17 List.[])) ∷
+    (Syntax.copy (Syntax.place 19 List.[])) ∷ (Syntax.copy (Syntax.place 21 List.[])) ∷
+    (Syntax.copy (Syntax.place 7 List.[])) ∷ List.[]) (Syntax.place 8 List.[])
+
 abbrev b11 : Syntax.Body
 b11 = Syntax.assign (Syntax.place 9 List.[]) (Syntax.rvOpd (Syntax.copy (Syntax.place 8 ((Syntax.field 1) ∷ List.[]))))
+
 abbrev b12 : Syntax.Body
 b12 = Syntax.assign (Syntax.place 22 List.[]) (Syntax.rvOpd (Syntax.copy (Syntax.place 6 ((Syntax.field 1) ∷ List.[]))))
+
 abbrev b13 : Syntax.Body
-b13 = Syntax.call "hns_encoding::numbers::min_usize" ((Syntax.copy (Syntax.place 7 ((Syntax.field 6) ∷ List.[]))) ∷ (Syntax.copy (Syntax.place 22
-    List.[])) ∷ List.[]) (Syntax.place 10 List.[])
+b13 = Syntax.call "hns_encoding::numbers::min_usize" ((Syntax.copy (Syntax.place 7 ((Syntax.field 6) ∷ List.[]))) ∷
+    (Syntax.copy (Syntax.place 22 List.[])) ∷ List.[]) (Syntax.place 10 List.[])
+
 abbrev b14 : Syntax.Body
 b14 = Syntax.assign (Syntax.place 22 List.[]) (Syntax.rvOpd (Syntax.copy (Syntax.place 6 ((Syntax.field 1) ∷ List.[]))))
+
 abbrev b15 : Syntax.Body
-b15 = Syntax.call "hns_encoding::numbers::min_usize" ((Syntax.copy (Syntax.place 7 ((Syntax.field 8) ∷ List.[]))) ∷ (Syntax.copy (Syntax.place 22
-    List.[])) ∷ List.[]) (Syntax.place 11 List.[])
+b15 = Syntax.call "hns_encoding::numbers::min_usize" ((Syntax.copy (Syntax.place 7 ((Syntax.field 8) ∷ List.[]))) ∷
+    (Syntax.copy (Syntax.place 22 List.[])) ∷ List.[]) (Syntax.place 11 List.[])
+
 abbrev b16 : Syntax.Body
-b16 = Syntax.assign (Syntax.place 23 List.[]) (Syntax.op2 Syntax.eq (Syntax.copy (Syntax.place 7 ((Syntax.field 2) ∷ List.[]))) (Syntax.int Syntax.w8
-    0))
+b16 = Syntax.assign (Syntax.place 23 List.[]) (Syntax.op2 Syntax.eq
+    (Syntax.copy (Syntax.place 7 ((Syntax.field 2) ∷ List.[]))) (Syntax.int Syntax.w8 0))
+
 abbrev b17 : Syntax.Body
-b17 = Syntax.call "cases::script::answer_number" ((Syntax.copy (Syntax.place 9 List.[])) ∷ List.[]) (Syntax.place 0 List.[])
+b17 = Syntax.call "cases::script::answer_number" ((Syntax.copy (Syntax.place 9 List.[])) ∷ List.[])
+    (Syntax.place 0 List.[])
+
 abbrev b18 : Syntax.Body
 b18 = Syntax.return
+
 abbrev b19 : Syntax.Body
 b19 = Syntax.seq b17 b18
+
 abbrev b20 : Syntax.Body
 b20 = Syntax.skip
+
 abbrev b21 : Syntax.Body
 b21 = Syntax.cond (Syntax.copy (Syntax.place 23 List.[])) b19 b20
+
 abbrev b22 : Syntax.Body
-b22 = Syntax.assign (Syntax.place 24 List.[]) (Syntax.addrOf (Syntax.place 1 ((Syntax.field 0) ∷ (Syntax.deref RelayPending.ty) ∷ List.[])))
+b22 = Syntax.assign (Syntax.place 24 List.[]) (Syntax.addrOf (Syntax.place 1 ((Syntax.field 0) ∷
+    (Syntax.deref RelayPending.ty) ∷ List.[])))
+
 abbrev b23 : Syntax.Body
-b23 = Syntax.assign (Syntax.place 25 List.[]) (Syntax.aggregate ((Syntax.copy (Syntax.place 24 List.[])) ∷ (Syntax.copy (Syntax.place 1 ((Syntax.field
-    1) ∷ List.[]))) ∷ List.[]))
+b23 = Syntax.assign (Syntax.place 25 List.[]) (Syntax.aggregate ((Syntax.copy (Syntax.place 24 List.[])) ∷
+    (Syntax.copy (Syntax.place 1 ((Syntax.field 1) ∷ List.[]))) ∷ List.[]))
+
 abbrev b24 : Syntax.Body
-b24 = Syntax.assign (Syntax.place 26 List.[]) (Syntax.addrOf (Syntax.place 2 ((Syntax.field 0) ∷ (Syntax.deref RelayCircuit.ty) ∷ List.[])))
+b24 = Syntax.assign (Syntax.place 26 List.[]) (Syntax.addrOf (Syntax.place 2 ((Syntax.field 0) ∷
+    (Syntax.deref RelayCircuit.ty) ∷ List.[])))
+
 abbrev b25 : Syntax.Body
-b25 = Syntax.assign (Syntax.place 27 List.[]) (Syntax.aggregate ((Syntax.copy (Syntax.place 26 List.[])) ∷ (Syntax.copy (Syntax.place 2 ((Syntax.field
-    1) ∷ List.[]))) ∷ List.[]))
+b25 = Syntax.assign (Syntax.place 27 List.[]) (Syntax.aggregate ((Syntax.copy (Syntax.place 26 List.[])) ∷
+    (Syntax.copy (Syntax.place 2 ((Syntax.field 1) ∷ List.[]))) ∷ List.[]))
+
 abbrev b26 : Syntax.Body
-b26 = Syntax.assign (Syntax.place 28 List.[]) (Syntax.addrOf (Syntax.place 3 ((Syntax.field 0) ∷ (Syntax.deref ReservationUsage.ty) ∷ List.[])))
+b26 = Syntax.assign (Syntax.place 28 List.[]) (Syntax.addrOf (Syntax.place 3 ((Syntax.field 0) ∷
+    (Syntax.deref ReservationUsage.ty) ∷ List.[])))
+
 abbrev b27 : Syntax.Body
-b27 = Syntax.assign (Syntax.place 29 List.[]) (Syntax.aggregate ((Syntax.copy (Syntax.place 28 List.[])) ∷ (Syntax.copy (Syntax.place 3 ((Syntax.field
-    1) ∷ List.[]))) ∷ List.[]))
+b27 = Syntax.assign (Syntax.place 29 List.[]) (Syntax.aggregate ((Syntax.copy (Syntax.place 28 List.[])) ∷
+    (Syntax.copy (Syntax.place 3 ((Syntax.field 1) ∷ List.[]))) ∷ List.[]))
+
 abbrev b28 : Syntax.Body
-b28 = Syntax.assign (Syntax.place 30 List.[]) (Syntax.addrOf (Syntax.place 4 ((Syntax.field 0) ∷ (Syntax.deref InflightAction.ty) ∷ List.[])))
+b28 = Syntax.assign (Syntax.place 30 List.[]) (Syntax.addrOf (Syntax.place 4 ((Syntax.field 0) ∷
+    (Syntax.deref InflightAction.ty) ∷ List.[])))
+
 abbrev b29 : Syntax.Body
-b29 = Syntax.assign (Syntax.place 31 List.[]) (Syntax.aggregate ((Syntax.copy (Syntax.place 30 List.[])) ∷ (Syntax.copy (Syntax.place 4 ((Syntax.field
-    1) ∷ List.[]))) ∷ List.[]))
+b29 = Syntax.assign (Syntax.place 31 List.[]) (Syntax.aggregate ((Syntax.copy (Syntax.place 30 List.[])) ∷
+    (Syntax.copy (Syntax.place 4 ((Syntax.field 1) ∷ List.[]))) ∷ List.[]))
+
 abbrev b30 : Syntax.Body
-b30 = Syntax.assign (Syntax.place 32 List.[]) (Syntax.addrOf (Syntax.place 5 ((Syntax.field 0) ∷ (Syntax.deref (Syntax.tyInt Syntax.w32)) ∷ List.[])))
+b30 = Syntax.assign (Syntax.place 32 List.[]) (Syntax.addrOf (Syntax.place 5 ((Syntax.field 0) ∷
+    (Syntax.deref (Syntax.tyInt Syntax.w32)) ∷ List.[])))
+
 abbrev b31 : Syntax.Body
-b31 = Syntax.assign (Syntax.place 33 List.[]) (Syntax.aggregate ((Syntax.copy (Syntax.place 32 List.[])) ∷ (Syntax.copy (Syntax.place 5 ((Syntax.field
-    1) ∷ List.[]))) ∷ List.[]))
+b31 = Syntax.assign (Syntax.place 33 List.[]) (Syntax.aggregate ((Syntax.copy (Syntax.place 32 List.[])) ∷
+    (Syntax.copy (Syntax.place 5 ((Syntax.field 1) ∷ List.[]))) ∷ List.[]))
+
 abbrev b32 : Syntax.Body
-b32 = Syntax.assign (Syntax.place 34 List.[]) (Syntax.addrOf (Syntax.place 6 ((Syntax.field 0) ∷ (Syntax.deref (Syntax.tyInt Syntax.w8)) ∷ List.[])))
+b32 = Syntax.assign (Syntax.place 34 List.[]) (Syntax.addrOf (Syntax.place 6 ((Syntax.field 0) ∷
+    (Syntax.deref (Syntax.tyInt Syntax.w8)) ∷ List.[])))
+
 abbrev b33 : Syntax.Body
-b33 = Syntax.assign (Syntax.place 35 List.[]) (Syntax.aggregate ((Syntax.copy (Syntax.place 34 List.[])) ∷ (Syntax.copy (Syntax.place 10 List.[])) ∷
-    List.[]))
+b33 = Syntax.assign (Syntax.place 35 List.[]) (Syntax.aggregate ((Syntax.copy (Syntax.place 34 List.[])) ∷
+    (Syntax.copy (Syntax.place 10 List.[])) ∷ List.[]))
+
 abbrev b34 : Syntax.Body
-b34 = Syntax.assign (Syntax.place 36 List.[]) (Syntax.addrOf (Syntax.place 6 ((Syntax.field 0) ∷ (Syntax.deref (Syntax.tyInt Syntax.w8)) ∷ List.[])))
+b34 = Syntax.assign (Syntax.place 36 List.[]) (Syntax.addrOf (Syntax.place 6 ((Syntax.field 0) ∷
+    (Syntax.deref (Syntax.tyInt Syntax.w8)) ∷ List.[])))
+
 abbrev b35 : Syntax.Body
-b35 = Syntax.assign (Syntax.place 37 List.[]) (Syntax.aggregate ((Syntax.copy (Syntax.place 36 List.[])) ∷ (Syntax.copy (Syntax.place 11 List.[])) ∷
-    List.[]))
+b35 = Syntax.assign (Syntax.place 37 List.[]) (Syntax.aggregate ((Syntax.copy (Syntax.place 36 List.[])) ∷
+    (Syntax.copy (Syntax.place 11 List.[])) ∷ List.[]))
+
 abbrev b36 : Syntax.Body
-b36 = Syntax.call "cases::machine::send_packets" ((Syntax.copy (Syntax.place 25 List.[])) ∷ (Syntax.copy (Syntax.place 27 List.[])) ∷ (Syntax.copy
-    (Syntax.place 29 List.[])) ∷ (Syntax.copy (Syntax.place 31 List.[])) ∷ (Syntax.copy (Syntax.place 33 List.[])) ∷ (Syntax.copy (Syntax.place 8
-    List.[])) ∷ (Syntax.copy (Syntax.place 35 List.[])) ∷ (Syntax.copy (Syntax.place 37 List.[])) ∷ (Syntax.copy (Syntax.place 7 List.[])) ∷ List.[])
+b36 = Syntax.call "cases::machine::send_packets" ((Syntax.copy (Syntax.place 25 List.[])) ∷
+    (Syntax.copy (Syntax.place 27 List.[])) ∷ (Syntax.copy (Syntax.place 29 List.[])) ∷
+    (Syntax.copy (Syntax.place 31 List.[])) ∷ (Syntax.copy (Syntax.place 33 List.[])) ∷
+    (Syntax.copy (Syntax.place 8 List.[])) ∷ (Syntax.copy (Syntax.place 35 List.[])) ∷
+    (Syntax.copy (Syntax.place 37 List.[])) ∷ (Syntax.copy (Syntax.place 7 List.[])) ∷ List.[])
     (Syntax.place 0 List.[])
+
 abbrev b37 : Syntax.Body
 b37 = Syntax.return
+
 abbrev b38 : Syntax.Body
 b38 = Syntax.seq b36 b37
+
 abbrev b39 : Syntax.Body
 b39 = Syntax.seq b35 b38
+
 abbrev b40 : Syntax.Body
 b40 = Syntax.seq b34 b39
+
 abbrev b41 : Syntax.Body
 b41 = Syntax.seq b33 b40
+
 abbrev b42 : Syntax.Body
 b42 = Syntax.seq b32 b41
+
 abbrev b43 : Syntax.Body
 b43 = Syntax.seq b31 b42
+
 abbrev b44 : Syntax.Body
 b44 = Syntax.seq b30 b43
+
 abbrev b45 : Syntax.Body
 b45 = Syntax.seq b29 b44
+
 abbrev b46 : Syntax.Body
 b46 = Syntax.seq b28 b45
+
 abbrev b47 : Syntax.Body
 b47 = Syntax.seq b27 b46
+
 abbrev b48 : Syntax.Body
 b48 = Syntax.seq b26 b47
+
 abbrev b49 : Syntax.Body
 b49 = Syntax.seq b25 b48
+
 abbrev b50 : Syntax.Body
 b50 = Syntax.seq b24 b49
+
 abbrev b51 : Syntax.Body
 b51 = Syntax.seq b23 b50
+
 abbrev b52 : Syntax.Body
 b52 = Syntax.seq b22 b51
+
 abbrev b53 : Syntax.Body
 b53 = Syntax.seq b21 b52
+
 abbrev b54 : Syntax.Body
 b54 = Syntax.seq b16 b53
+
 abbrev b55 : Syntax.Body
 b55 = Syntax.seq b15 b54
+
 abbrev b56 : Syntax.Body
 b56 = Syntax.seq b14 b55
+
 abbrev b57 : Syntax.Body
 b57 = Syntax.seq b13 b56
+
 abbrev b58 : Syntax.Body
 b58 = Syntax.seq b12 b57
+
 abbrev b59 : Syntax.Body
 b59 = Syntax.seq b11 b58
+
 abbrev b60 : Syntax.Body
 b60 = Syntax.seq b10 b59
+
 abbrev b61 : Syntax.Body
 b61 = Syntax.seq b9 b60
+
 abbrev b62 : Syntax.Body
 b62 = Syntax.seq b8 b61
+
 abbrev b63 : Syntax.Body
 b63 = Syntax.seq b7 b62
+
 abbrev b64 : Syntax.Body
 b64 = Syntax.seq b6 b63
+
 abbrev b65 : Syntax.Body
 b65 = Syntax.seq b5 b64
+
 abbrev b66 : Syntax.Body
 b66 = Syntax.seq b4 b65
+
 abbrev b67 : Syntax.Body
 b67 = Syntax.seq b3 b66
+
 abbrev b68 : Syntax.Body
 b68 = Syntax.seq b2 b67
+
 abbrev b69 : Syntax.Body
 b69 = Syntax.seq b1 b68
+
 abbrev b70 : Syntax.Body
 b70 = Syntax.seq b0 b69
+
 abbrev pub body : Syntax.Body
 body = b70
+
 abbrev pub Claims : Type 1
-Claims = Kinds.In 5 ps·0 × Kinds.Out 5 ps·0 r·0 × Kinds.In 0 ps·1 × Kinds.Out 0 ps·1 r·1 × Kinds.In 0 ps·2 × Kinds.Out 0 ps·2 r·2 × Kinds.In 7 ps·3 ×
-    Kinds.Out 7 ps·3 r·3
+Claims = Kinds.In 5 ps·0 × Kinds.Out 5 ps·0 r·0 × Kinds.In 0 ps·1 × Kinds.Out 0 ps·1 r·1 × Kinds.In 0 ps·2 × Kinds.Out
+    0 ps·2 r·2 × Kinds.In 7 ps·3 × Kinds.Out 7 ps·3 r·3
+
 abbrev e0 : Row.Entry
 e0 = (0, Rows.any-gone (Syntax.tyInt Syntax.w64))
+
 abbrev e1 : Row.Entry
 e1 = (1, Mut.mslice RelayPending.row ref6 0)
+
 abbrev e2 : Row.Entry
 e2 = (2, Mut.mslice RelayCircuit.row ref7 1)
+
 abbrev e3 : Row.Entry
 e3 = (3, Mut.mslice ReservationUsage.row ref8 2)
+
 abbrev e4 : Row.Entry
 e4 = (4, Mut.mslice InflightAction.row ref9 3)
+
 abbrev e5 : Row.Entry
 e5 = (5, Mut.mslice (Referent.rtF (Referent.fInt Syntax.w32)) ref10 4)
+
 abbrev e6 : Row.Entry
 e6 = (6, Rows.sslice (Referent.rtF (Referent.fInt Syntax.w8)) ref11 5)
+
 abbrev e7 : Row.Entry
 e7 = (7, Rows.whole (Declared'.row Script.the-type))
+
 abbrev e8 : Row.Entry
 e8 = (8, Rows.any-gone Laws''.mir)
+
 abbrev e9 : Row.Entry
 e9 = (9, Rows.any-gone Laws'.mir)
+
 abbrev e10 : Row.Entry
 e10 = (10, Rows.any-gone (Syntax.tyInt Syntax.w64))
+
 abbrev e11 : Row.Entry
 e11 = (11, Rows.any-gone (Syntax.tyInt Syntax.w64))
+
 abbrev e12 : Row.Entry
 e12 = (12, Rows.any-gone ref0)
+
 abbrev e13 : Row.Entry
-e13 = (13, Rows.any-gone (Syntax.tyStruct (38 ∷ 91 ∷ 93 ∷ List.[]) (Syntax.tcons ref0 (Syntax.tcons (Syntax.tyInt Syntax.w64) Syntax.tnil))))
+e13 = (13, Rows.any-gone slice0)
+
 abbrev e14 : Row.Entry
 e14 = (14, Rows.any-gone ref1)
+
 abbrev e15 : Row.Entry
-e15 = (15, Rows.any-gone (Syntax.tyStruct (38 ∷ 91 ∷ 93 ∷ List.[]) (Syntax.tcons ref1 (Syntax.tcons (Syntax.tyInt Syntax.w64) Syntax.tnil))))
+e15 = (15, Rows.any-gone slice1)
+
 abbrev e16 : Row.Entry
 e16 = (16, Rows.any-gone ref2)
+
 abbrev e17 : Row.Entry
-e17 = (17, Rows.any-gone (Syntax.tyStruct (38 ∷ 91 ∷ 93 ∷ List.[]) (Syntax.tcons ref2 (Syntax.tcons (Syntax.tyInt Syntax.w64) Syntax.tnil))))
+e17 = (17, Rows.any-gone slice2)
+
 abbrev e18 : Row.Entry
 e18 = (18, Rows.any-gone ref3)
+
 abbrev e19 : Row.Entry
-e19 = (19, Rows.any-gone (Syntax.tyStruct (38 ∷ 91 ∷ 93 ∷ List.[]) (Syntax.tcons ref3 (Syntax.tcons (Syntax.tyInt Syntax.w64) Syntax.tnil))))
+e19 = (19, Rows.any-gone slice3)
+
 abbrev e20 : Row.Entry
 e20 = (20, Rows.any-gone ref4)
+
 abbrev e21 : Row.Entry
-e21 = (21, Rows.any-gone (Syntax.tyStruct (38 ∷ 91 ∷ 93 ∷ List.[]) (Syntax.tcons ref4 (Syntax.tcons (Syntax.tyInt Syntax.w64) Syntax.tnil))))
+e21 = (21, Rows.any-gone slice4)
+
 abbrev e22 : Row.Entry
 e22 = (22, Rows.any-gone (Syntax.tyInt Syntax.w64))
+
 abbrev e23 : Row.Entry
 e23 = (23, Rows.any-gone Syntax.tyBool)
+
 abbrev e24 : Row.Entry
 e24 = (24, Rows.any-gone ref0)
+
 abbrev e25 : Row.Entry
-e25 = (25, Rows.any-gone (Syntax.tyStruct (38 ∷ 91 ∷ 93 ∷ List.[]) (Syntax.tcons ref0 (Syntax.tcons (Syntax.tyInt Syntax.w64) Syntax.tnil))))
+e25 = (25, Rows.any-gone slice0)
+
 abbrev e26 : Row.Entry
 e26 = (26, Rows.any-gone ref1)
+
 abbrev e27 : Row.Entry
-e27 = (27, Rows.any-gone (Syntax.tyStruct (38 ∷ 91 ∷ 93 ∷ List.[]) (Syntax.tcons ref1 (Syntax.tcons (Syntax.tyInt Syntax.w64) Syntax.tnil))))
+e27 = (27, Rows.any-gone slice1)
+
 abbrev e28 : Row.Entry
 e28 = (28, Rows.any-gone ref2)
+
 abbrev e29 : Row.Entry
-e29 = (29, Rows.any-gone (Syntax.tyStruct (38 ∷ 91 ∷ 93 ∷ List.[]) (Syntax.tcons ref2 (Syntax.tcons (Syntax.tyInt Syntax.w64) Syntax.tnil))))
+e29 = (29, Rows.any-gone slice2)
+
 abbrev e30 : Row.Entry
 e30 = (30, Rows.any-gone ref3)
+
 abbrev e31 : Row.Entry
-e31 = (31, Rows.any-gone (Syntax.tyStruct (38 ∷ 91 ∷ 93 ∷ List.[]) (Syntax.tcons ref3 (Syntax.tcons (Syntax.tyInt Syntax.w64) Syntax.tnil))))
+e31 = (31, Rows.any-gone slice3)
+
 abbrev e32 : Row.Entry
 e32 = (32, Rows.any-gone ref4)
+
 abbrev e33 : Row.Entry
-e33 = (33, Rows.any-gone (Syntax.tyStruct (38 ∷ 91 ∷ 93 ∷ List.[]) (Syntax.tcons ref4 (Syntax.tcons (Syntax.tyInt Syntax.w64) Syntax.tnil))))
+e33 = (33, Rows.any-gone slice4)
+
 abbrev e34 : Row.Entry
 e34 = (34, Rows.any-gone ref5)
+
 abbrev e35 : Row.Entry
-e35 = (35, Rows.any-gone (Syntax.tyStruct (38 ∷ 91 ∷ 93 ∷ List.[]) (Syntax.tcons ref5 (Syntax.tcons (Syntax.tyInt Syntax.w64) Syntax.tnil))))
+e35 = (35, Rows.any-gone slice5)
+
 abbrev e36 : Row.Entry
 e36 = (36, Rows.any-gone ref5)
+
 abbrev e37 : Row.Entry
-e37 = (37, Rows.any-gone (Syntax.tyStruct (38 ∷ 91 ∷ 93 ∷ List.[]) (Syntax.tcons ref5 (Syntax.tcons (Syntax.tyInt Syntax.w64) Syntax.tnil))))
+e37 = (37, Rows.any-gone slice5)
+
 abbrev e0·1 : Row.Entry
 e0·1 = (0, Rows.sc-here (Row.sInt Syntax.w64))
+
 abbrev e7·1 : Row.Entry
 e7·1 = (7, Rows.any-gone Laws.mir)
+
 abbrev e1·1 : Row.Entry
 e1·1 = (1, Relend.mslice-owed RelayPending.row ref6 0 6 Row.off)
+
 abbrev e12·1 : Row.Entry
 e12·1 = (12, Relend.msptr RelayPending.row ref0 6)
+
 abbrev e13·1 : Row.Entry
 e13·1 = (13, Mut.mslice RelayPending.row ref0 6)
+
 abbrev e2·1 : Row.Entry
 e2·1 = (2, Relend.mslice-owed RelayCircuit.row ref7 1 7 Row.off)
+
 abbrev e14·1 : Row.Entry
 e14·1 = (14, Relend.msptr RelayCircuit.row ref1 7)
+
 abbrev e15·1 : Row.Entry
 e15·1 = (15, Mut.mslice RelayCircuit.row ref1 7)
+
 abbrev e3·1 : Row.Entry
 e3·1 = (3, Relend.mslice-owed ReservationUsage.row ref8 2 8 Row.off)
+
 abbrev e16·1 : Row.Entry
 e16·1 = (16, Relend.msptr ReservationUsage.row ref2 8)
+
 abbrev e17·1 : Row.Entry
 e17·1 = (17, Mut.mslice ReservationUsage.row ref2 8)
+
 abbrev e4·1 : Row.Entry
 e4·1 = (4, Relend.mslice-owed InflightAction.row ref9 3 9 Row.off)
+
 abbrev e18·1 : Row.Entry
 e18·1 = (18, Relend.msptr InflightAction.row ref3 9)
+
 abbrev e19·1 : Row.Entry
 e19·1 = (19, Mut.mslice InflightAction.row ref3 9)
+
 abbrev e5·1 : Row.Entry
 e5·1 = (5, Relend.mslice-owed (Referent.rtF (Referent.fInt Syntax.w32)) ref10 4 10 Row.off)
+
 abbrev e20·1 : Row.Entry
 e20·1 = (20, Relend.msptr (Referent.rtF (Referent.fInt Syntax.w32)) ref4 10)
+
 abbrev e21·1 : Row.Entry
 e21·1 = (21, Mut.mslice (Referent.rtF (Referent.fInt Syntax.w32)) ref4 10)
+
 abbrev e8·1 : Row.Entry
 e8·1 = (8, Rows.whole (Declared'.row Relayed.the-type))
+
 abbrev e13·2 : Row.Entry
 e13·2 = (13, Mut.msleft RelayPending.row ref0)
+
 abbrev e15·2 : Row.Entry
 e15·2 = (15, Mut.msleft RelayCircuit.row ref1)
+
 abbrev e17·2 : Row.Entry
 e17·2 = (17, Mut.msleft ReservationUsage.row ref2)
+
 abbrev e19·2 : Row.Entry
 e19·2 = (19, Mut.msleft InflightAction.row ref3)
+
 abbrev e21·2 : Row.Entry
 e21·2 = (21, Mut.msleft (Referent.rtF (Referent.fInt Syntax.w32)) ref4)
+
 abbrev e9·1 : Row.Entry
 e9·1 = (9, Rows.whole (Declared.row HnsrAnswer.the-type))
+
 abbrev e22·1 : Row.Entry
 e22·1 = (22, Rows.sc-here (Row.sInt Syntax.w64))
+
 abbrev e10·1 : Row.Entry
 e10·1 = (10, Rows.sc-here (Row.sInt Syntax.w64))
+
 abbrev e11·1 : Row.Entry
 e11·1 = (11, Rows.sc-here (Row.sInt Syntax.w64))
+
 abbrev e23·1 : Row.Entry
 e23·1 = (23, Rows.sc-here Row.sBool)
+
 abbrev e1·2 : Row.Entry
 e1·2 = (1, Relend.mslice-owed RelayPending.row ref6 0 11 Row.off)
+
 abbrev e24·1 : Row.Entry
 e24·1 = (24, Relend.msptr RelayPending.row ref0 11)
+
 abbrev e25·1 : Row.Entry
 e25·1 = (25, Mut.mslice RelayPending.row ref0 11)
+
 abbrev e2·2 : Row.Entry
 e2·2 = (2, Relend.mslice-owed RelayCircuit.row ref7 1 12 Row.off)
+
 abbrev e26·1 : Row.Entry
 e26·1 = (26, Relend.msptr RelayCircuit.row ref1 12)
+
 abbrev e27·1 : Row.Entry
 e27·1 = (27, Mut.mslice RelayCircuit.row ref1 12)
+
 abbrev e3·2 : Row.Entry
 e3·2 = (3, Relend.mslice-owed ReservationUsage.row ref8 2 13 Row.off)
+
 abbrev e28·1 : Row.Entry
 e28·1 = (28, Relend.msptr ReservationUsage.row ref2 13)
+
 abbrev e29·1 : Row.Entry
 e29·1 = (29, Mut.mslice ReservationUsage.row ref2 13)
+
 abbrev e4·2 : Row.Entry
 e4·2 = (4, Relend.mslice-owed InflightAction.row ref9 3 14 Row.off)
+
 abbrev e30·1 : Row.Entry
 e30·1 = (30, Relend.msptr InflightAction.row ref3 14)
+
 abbrev e31·1 : Row.Entry
 e31·1 = (31, Mut.mslice InflightAction.row ref3 14)
+
 abbrev e5·2 : Row.Entry
 e5·2 = (5, Relend.mslice-owed (Referent.rtF (Referent.fInt Syntax.w32)) ref10 4 15 Row.off)
+
 abbrev e32·1 : Row.Entry
 e32·1 = (32, Relend.msptr (Referent.rtF (Referent.fInt Syntax.w32)) ref4 15)
+
 abbrev e33·1 : Row.Entry
 e33·1 = (33, Mut.mslice (Referent.rtF (Referent.fInt Syntax.w32)) ref4 15)
+
 abbrev e34·1 : Row.Entry
 e34·1 = (34, Relend.ssptr (Referent.rtF (Referent.fInt Syntax.w8)) ref5 5)
+
 abbrev e35·1 : Row.Entry
 e35·1 = (35, Rows.sslice (Referent.rtF (Referent.fInt Syntax.w8)) ref5 5)
+
 abbrev e36·1 : Row.Entry
 e36·1 = (36, Relend.ssptr (Referent.rtF (Referent.fInt Syntax.w8)) ref5 5)
+
 abbrev e37·1 : Row.Entry
 e37·1 = (37, Rows.sslice (Referent.rtF (Referent.fInt Syntax.w8)) ref5 5)
+
 abbrev e25·2 : Row.Entry
 e25·2 = (25, Mut.msleft RelayPending.row ref0)
+
 abbrev e27·2 : Row.Entry
 e27·2 = (27, Mut.msleft RelayCircuit.row ref1)
+
 abbrev e29·2 : Row.Entry
 e29·2 = (29, Mut.msleft ReservationUsage.row ref2)
+
 abbrev e31·2 : Row.Entry
 e31·2 = (31, Mut.msleft InflightAction.row ref3)
+
 abbrev e33·2 : Row.Entry
 e33·2 = (33, Mut.msleft (Referent.rtF (Referent.fInt Syntax.w32)) ref4)
+
 abbrev pub t0 : List.List Row.Entry
 t0 = e0 ∷ e1 ∷ e2 ∷ e3 ∷ e4 ∷ e5 ∷ e6 ∷ e7 ∷ e8 ∷ e9 ∷ e10 ∷ e11 ∷ e12 ∷ e13 ∷ e14 ∷ e15 ∷ List.[]
+
 abbrev pub t1 : List.List Row.Entry
 t1 = e16 ∷ e17 ∷ e18 ∷ e19 ∷ e20 ∷ e21 ∷ e22 ∷ e23 ∷ e24 ∷ e25 ∷ e26 ∷ e27 ∷ e28 ∷ e29 ∷ e30 ∷ e31 ∷ List.[]
+
 abbrev pub t2 : List.List Row.Entry
 t2 = e32 ∷ e33 ∷ e34 ∷ e35 ∷ e36 ∷ e37 ∷ List.[]
+
 abbrev pub t3 : List.List Row.Entry
 t3 = e0·1 ∷ e1 ∷ e2 ∷ e3 ∷ e4 ∷ e5 ∷ e6 ∷ e7·1 ∷ e8 ∷ e9 ∷ e10 ∷ e11 ∷ e12 ∷ e13 ∷ e14 ∷ e15 ∷ List.[]
+
 abbrev pub t4 : List.List Row.Entry
 t4 = e0 ∷ e1·1 ∷ e2 ∷ e3 ∷ e4 ∷ e5 ∷ e6 ∷ e7 ∷ e8 ∷ e9 ∷ e10 ∷ e11 ∷ e12·1 ∷ e13 ∷ e14 ∷ e15 ∷ List.[]
+
 abbrev pub t5 : List.List Row.Entry
 t5 = e0 ∷ e1·1 ∷ e2 ∷ e3 ∷ e4 ∷ e5 ∷ e6 ∷ e7 ∷ e8 ∷ e9 ∷ e10 ∷ e11 ∷ e12 ∷ e13·1 ∷ e14 ∷ e15 ∷ List.[]
+
 abbrev pub t6 : List.List Row.Entry
 t6 = e0 ∷ e1·1 ∷ e2·1 ∷ e3 ∷ e4 ∷ e5 ∷ e6 ∷ e7 ∷ e8 ∷ e9 ∷ e10 ∷ e11 ∷ e12 ∷ e13·1 ∷ e14·1 ∷ e15 ∷ List.[]
+
 abbrev pub t7 : List.List Row.Entry
 t7 = e0 ∷ e1·1 ∷ e2·1 ∷ e3 ∷ e4 ∷ e5 ∷ e6 ∷ e7 ∷ e8 ∷ e9 ∷ e10 ∷ e11 ∷ e12 ∷ e13·1 ∷ e14 ∷ e15·1 ∷ List.[]
+
 abbrev pub t8 : List.List Row.Entry
 t8 = e0 ∷ e1·1 ∷ e2·1 ∷ e3·1 ∷ e4 ∷ e5 ∷ e6 ∷ e7 ∷ e8 ∷ e9 ∷ e10 ∷ e11 ∷ e12 ∷ e13·1 ∷ e14 ∷ e15·1 ∷ List.[]
+
 abbrev pub t9 : List.List Row.Entry
 t9 = e16·1 ∷ e17 ∷ e18 ∷ e19 ∷ e20 ∷ e21 ∷ e22 ∷ e23 ∷ e24 ∷ e25 ∷ e26 ∷ e27 ∷ e28 ∷ e29 ∷ e30 ∷ e31 ∷ List.[]
+
 abbrev pub t10 : List.List Row.Entry
 t10 = e16 ∷ e17·1 ∷ e18 ∷ e19 ∷ e20 ∷ e21 ∷ e22 ∷ e23 ∷ e24 ∷ e25 ∷ e26 ∷ e27 ∷ e28 ∷ e29 ∷ e30 ∷ e31 ∷ List.[]
+
 abbrev pub t11 : List.List Row.Entry
 t11 = e0 ∷ e1·1 ∷ e2·1 ∷ e3·1 ∷ e4·1 ∷ e5 ∷ e6 ∷ e7 ∷ e8 ∷ e9 ∷ e10 ∷ e11 ∷ e12 ∷ e13·1 ∷ e14 ∷ e15·1 ∷ List.[]
+
 abbrev pub t12 : List.List Row.Entry
 t12 = e16 ∷ e17·1 ∷ e18·1 ∷ e19 ∷ e20 ∷ e21 ∷ e22 ∷ e23 ∷ e24 ∷ e25 ∷ e26 ∷ e27 ∷ e28 ∷ e29 ∷ e30 ∷ e31 ∷ List.[]
+
 abbrev pub t13 : List.List Row.Entry
 t13 = e16 ∷ e17·1 ∷ e18 ∷ e19·1 ∷ e20 ∷ e21 ∷ e22 ∷ e23 ∷ e24 ∷ e25 ∷ e26 ∷ e27 ∷ e28 ∷ e29 ∷ e30 ∷ e31 ∷ List.[]
+
 abbrev pub t14 : List.List Row.Entry
 t14 = e0 ∷ e1·1 ∷ e2·1 ∷ e3·1 ∷ e4·1 ∷ e5·1 ∷ e6 ∷ e7 ∷ e8 ∷ e9 ∷ e10 ∷ e11 ∷ e12 ∷ e13·1 ∷ e14 ∷ e15·1 ∷ List.[]
+
 abbrev pub t15 : List.List Row.Entry
 t15 = e16 ∷ e17·1 ∷ e18 ∷ e19·1 ∷ e20·1 ∷ e21 ∷ e22 ∷ e23 ∷ e24 ∷ e25 ∷ e26 ∷ e27 ∷ e28 ∷ e29 ∷ e30 ∷ e31 ∷ List.[]
+
 abbrev pub t16 : List.List Row.Entry
 t16 = e16 ∷ e17·1 ∷ e18 ∷ e19·1 ∷ e20 ∷ e21·1 ∷ e22 ∷ e23 ∷ e24 ∷ e25 ∷ e26 ∷ e27 ∷ e28 ∷ e29 ∷ e30 ∷ e31 ∷ List.[]
+
 abbrev pub t17 : List.List Row.Entry
 t17 = e0 ∷ e1·1 ∷ e2·1 ∷ e3·1 ∷ e4·1 ∷ e5·1 ∷ e6 ∷ e7 ∷ e8·1 ∷ e9 ∷ e10 ∷ e11 ∷ e12 ∷ e13·2 ∷ e14 ∷ e15·2 ∷ List.[]
+
 abbrev pub t18 : List.List Row.Entry
 t18 = e16 ∷ e17·2 ∷ e18 ∷ e19·2 ∷ e20 ∷ e21·2 ∷ e22 ∷ e23 ∷ e24 ∷ e25 ∷ e26 ∷ e27 ∷ e28 ∷ e29 ∷ e30 ∷ e31 ∷ List.[]
+
 abbrev pub t19 : List.List Row.Entry
 t19 = e0 ∷ e1 ∷ e2·1 ∷ e3·1 ∷ e4·1 ∷ e5·1 ∷ e6 ∷ e7 ∷ e8·1 ∷ e9 ∷ e10 ∷ e11 ∷ e12 ∷ e13 ∷ e14 ∷ e15·2 ∷ List.[]
+
 abbrev pub t20 : List.List Row.Entry
 t20 = e0 ∷ e1 ∷ e2 ∷ e3·1 ∷ e4·1 ∷ e5·1 ∷ e6 ∷ e7 ∷ e8·1 ∷ e9 ∷ e10 ∷ e11 ∷ e12 ∷ e13 ∷ e14 ∷ e15 ∷ List.[]
+
 abbrev pub t21 : List.List Row.Entry
 t21 = e0 ∷ e1 ∷ e2 ∷ e3 ∷ e4·1 ∷ e5·1 ∷ e6 ∷ e7 ∷ e8·1 ∷ e9 ∷ e10 ∷ e11 ∷ e12 ∷ e13 ∷ e14 ∷ e15 ∷ List.[]
+
 abbrev pub t22 : List.List Row.Entry
 t22 = e16 ∷ e17 ∷ e18 ∷ e19·2 ∷ e20 ∷ e21·2 ∷ e22 ∷ e23 ∷ e24 ∷ e25 ∷ e26 ∷ e27 ∷ e28 ∷ e29 ∷ e30 ∷ e31 ∷ List.[]
+
 abbrev pub t23 : List.List Row.Entry
 t23 = e0 ∷ e1 ∷ e2 ∷ e3 ∷ e4 ∷ e5·1 ∷ e6 ∷ e7 ∷ e8·1 ∷ e9 ∷ e10 ∷ e11 ∷ e12 ∷ e13 ∷ e14 ∷ e15 ∷ List.[]
+
 abbrev pub t24 : List.List Row.Entry
 t24 = e16 ∷ e17 ∷ e18 ∷ e19 ∷ e20 ∷ e21·2 ∷ e22 ∷ e23 ∷ e24 ∷ e25 ∷ e26 ∷ e27 ∷ e28 ∷ e29 ∷ e30 ∷ e31 ∷ List.[]
+
 abbrev pub t25 : List.List Row.Entry
 t25 = e0 ∷ e1 ∷ e2 ∷ e3 ∷ e4 ∷ e5 ∷ e6 ∷ e7 ∷ e8·1 ∷ e9 ∷ e10 ∷ e11 ∷ e12 ∷ e13 ∷ e14 ∷ e15 ∷ List.[]
+
 abbrev pub t26 : List.List Row.Entry
 t26 = e0 ∷ e1 ∷ e2 ∷ e3 ∷ e4 ∷ e5 ∷ e6 ∷ e7 ∷ e8·1 ∷ e9·1 ∷ e10 ∷ e11 ∷ e12 ∷ e13 ∷ e14 ∷ e15 ∷ List.[]
+
 abbrev pub t27 : List.List Row.Entry
 t27 = e16 ∷ e17 ∷ e18 ∷ e19 ∷ e20 ∷ e21 ∷ e22·1 ∷ e23 ∷ e24 ∷ e25 ∷ e26 ∷ e27 ∷ e28 ∷ e29 ∷ e30 ∷ e31 ∷ List.[]
+
 abbrev pub t28 : List.List Row.Entry
 t28 = e0 ∷ e1 ∷ e2 ∷ e3 ∷ e4 ∷ e5 ∷ e6 ∷ e7 ∷ e8·1 ∷ e9·1 ∷ e10·1 ∷ e11 ∷ e12 ∷ e13 ∷ e14 ∷ e15 ∷ List.[]
+
 abbrev pub t29 : List.List Row.Entry
 t29 = e0 ∷ e1 ∷ e2 ∷ e3 ∷ e4 ∷ e5 ∷ e6 ∷ e7 ∷ e8·1 ∷ e9·1 ∷ e10·1 ∷ e11·1 ∷ e12 ∷ e13 ∷ e14 ∷ e15 ∷ List.[]
+
 abbrev pub t30 : List.List Row.Entry
 t30 = e16 ∷ e17 ∷ e18 ∷ e19 ∷ e20 ∷ e21 ∷ e22 ∷ e23·1 ∷ e24 ∷ e25 ∷ e26 ∷ e27 ∷ e28 ∷ e29 ∷ e30 ∷ e31 ∷ List.[]
+
 abbrev pub t31 : List.List Row.Entry
 t31 = e0 ∷ e1 ∷ e2 ∷ e3 ∷ e4 ∷ e5 ∷ e6 ∷ e7 ∷ e8·1 ∷ e9 ∷ e10·1 ∷ e11·1 ∷ e12 ∷ e13 ∷ e14 ∷ e15 ∷ List.[]
+
 abbrev pub t32 : List.List Row.Entry
 t32 = e0 ∷ e1 ∷ e2 ∷ e3 ∷ e4 ∷ e5 ∷ e6 ∷ e7·1 ∷ e8·1 ∷ e9·1 ∷ e10·1 ∷ e11·1 ∷ e12 ∷ e13 ∷ e14 ∷ e15 ∷ List.[]
+
 abbrev pub t33 : List.List Row.Entry
 t33 = e0 ∷ e1 ∷ e2 ∷ e3 ∷ e4 ∷ e5 ∷ e6 ∷ e7·1 ∷ e8 ∷ e9·1 ∷ e10·1 ∷ e11·1 ∷ e12 ∷ e13 ∷ e14 ∷ e15 ∷ List.[]
+
 abbrev pub t34 : List.List Row.Entry
 t34 = e0·1 ∷ e1 ∷ e2 ∷ e3 ∷ e4 ∷ e5 ∷ e6 ∷ e7·1 ∷ e8 ∷ e9·1 ∷ e10·1 ∷ e11·1 ∷ e12 ∷ e13 ∷ e14 ∷ e15 ∷ List.[]
+
 abbrev pub t35 : List.List Row.Entry
 t35 = e0·1 ∷ e1 ∷ e2 ∷ e3 ∷ e4 ∷ e5 ∷ e6 ∷ e7·1 ∷ e8 ∷ e9 ∷ e10·1 ∷ e11·1 ∷ e12 ∷ e13 ∷ e14 ∷ e15 ∷ List.[]
+
 abbrev pub t36 : List.List Row.Entry
 t36 = e0·1 ∷ e1 ∷ e2 ∷ e3 ∷ e4 ∷ e5 ∷ e6 ∷ e7·1 ∷ e8 ∷ e9 ∷ e10 ∷ e11·1 ∷ e12 ∷ e13 ∷ e14 ∷ e15 ∷ List.[]
+
 abbrev pub t37 : List.List Row.Entry
 t37 = e0 ∷ e1·2 ∷ e2 ∷ e3 ∷ e4 ∷ e5 ∷ e6 ∷ e7 ∷ e8·1 ∷ e9 ∷ e10·1 ∷ e11·1 ∷ e12 ∷ e13 ∷ e14 ∷ e15 ∷ List.[]
+
 abbrev pub t38 : List.List Row.Entry
 t38 = e16 ∷ e17 ∷ e18 ∷ e19 ∷ e20 ∷ e21 ∷ e22 ∷ e23 ∷ e24·1 ∷ e25 ∷ e26 ∷ e27 ∷ e28 ∷ e29 ∷ e30 ∷ e31 ∷ List.[]
+
 abbrev pub t39 : List.List Row.Entry
 t39 = e16 ∷ e17 ∷ e18 ∷ e19 ∷ e20 ∷ e21 ∷ e22 ∷ e23 ∷ e24 ∷ e25·1 ∷ e26 ∷ e27 ∷ e28 ∷ e29 ∷ e30 ∷ e31 ∷ List.[]
+
 abbrev pub t40 : List.List Row.Entry
 t40 = e0 ∷ e1·2 ∷ e2·2 ∷ e3 ∷ e4 ∷ e5 ∷ e6 ∷ e7 ∷ e8·1 ∷ e9 ∷ e10·1 ∷ e11·1 ∷ e12 ∷ e13 ∷ e14 ∷ e15 ∷ List.[]
+
 abbrev pub t41 : List.List Row.Entry
 t41 = e16 ∷ e17 ∷ e18 ∷ e19 ∷ e20 ∷ e21 ∷ e22 ∷ e23 ∷ e24 ∷ e25·1 ∷ e26·1 ∷ e27 ∷ e28 ∷ e29 ∷ e30 ∷ e31 ∷ List.[]
+
 abbrev pub t42 : List.List Row.Entry
 t42 = e16 ∷ e17 ∷ e18 ∷ e19 ∷ e20 ∷ e21 ∷ e22 ∷ e23 ∷ e24 ∷ e25·1 ∷ e26 ∷ e27·1 ∷ e28 ∷ e29 ∷ e30 ∷ e31 ∷ List.[]
+
 abbrev pub t43 : List.List Row.Entry
 t43 = e0 ∷ e1·2 ∷ e2·2 ∷ e3·2 ∷ e4 ∷ e5 ∷ e6 ∷ e7 ∷ e8·1 ∷ e9 ∷ e10·1 ∷ e11·1 ∷ e12 ∷ e13 ∷ e14 ∷ e15 ∷ List.[]
+
 abbrev pub t44 : List.List Row.Entry
 t44 = e16 ∷ e17 ∷ e18 ∷ e19 ∷ e20 ∷ e21 ∷ e22 ∷ e23 ∷ e24 ∷ e25·1 ∷ e26 ∷ e27·1 ∷ e28·1 ∷ e29 ∷ e30 ∷ e31 ∷ List.[]
+
 abbrev pub t45 : List.List Row.Entry
 t45 = e16 ∷ e17 ∷ e18 ∷ e19 ∷ e20 ∷ e21 ∷ e22 ∷ e23 ∷ e24 ∷ e25·1 ∷ e26 ∷ e27·1 ∷ e28 ∷ e29·1 ∷ e30 ∷ e31 ∷ List.[]
+
 abbrev pub t46 : List.List Row.Entry
 t46 = e0 ∷ e1·2 ∷ e2·2 ∷ e3·2 ∷ e4·2 ∷ e5 ∷ e6 ∷ e7 ∷ e8·1 ∷ e9 ∷ e10·1 ∷ e11·1 ∷ e12 ∷ e13 ∷ e14 ∷ e15 ∷ List.[]
+
 abbrev pub t47 : List.List Row.Entry
 t47 = e16 ∷ e17 ∷ e18 ∷ e19 ∷ e20 ∷ e21 ∷ e22 ∷ e23 ∷ e24 ∷ e25·1 ∷ e26 ∷ e27·1 ∷ e28 ∷ e29·1 ∷ e30·1 ∷ e31 ∷ List.[]
+
 abbrev pub t48 : List.List Row.Entry
 t48 = e16 ∷ e17 ∷ e18 ∷ e19 ∷ e20 ∷ e21 ∷ e22 ∷ e23 ∷ e24 ∷ e25·1 ∷ e26 ∷ e27·1 ∷ e28 ∷ e29·1 ∷ e30 ∷ e31·1 ∷ List.[]
+
 abbrev pub t49 : List.List Row.Entry
 t49 = e0 ∷ e1·2 ∷ e2·2 ∷ e3·2 ∷ e4·2 ∷ e5·2 ∷ e6 ∷ e7 ∷ e8·1 ∷ e9 ∷ e10·1 ∷ e11·1 ∷ e12 ∷ e13 ∷ e14 ∷ e15 ∷ List.[]
+
 abbrev pub t50 : List.List Row.Entry
 t50 = e32·1 ∷ e33 ∷ e34 ∷ e35 ∷ e36 ∷ e37 ∷ List.[]
+
 abbrev pub t51 : List.List Row.Entry
 t51 = e32 ∷ e33·1 ∷ e34 ∷ e35 ∷ e36 ∷ e37 ∷ List.[]
+
 abbrev pub t52 : List.List Row.Entry
 t52 = e32 ∷ e33·1 ∷ e34·1 ∷ e35 ∷ e36 ∷ e37 ∷ List.[]
+
 abbrev pub t53 : List.List Row.Entry
 t53 = e32 ∷ e33·1 ∷ e34 ∷ e35·1 ∷ e36 ∷ e37 ∷ List.[]
+
 abbrev pub t54 : List.List Row.Entry
 t54 = e32 ∷ e33·1 ∷ e34 ∷ e35·1 ∷ e36·1 ∷ e37 ∷ List.[]
+
 abbrev pub t55 : List.List Row.Entry
 t55 = e32 ∷ e33·1 ∷ e34 ∷ e35·1 ∷ e36 ∷ e37·1 ∷ List.[]
+
 abbrev pub t56 : List.List Row.Entry
 t56 = e0·1 ∷ e1·2 ∷ e2·2 ∷ e3·2 ∷ e4·2 ∷ e5·2 ∷ e6 ∷ e7 ∷ e8·1 ∷ e9 ∷ e10·1 ∷ e11·1 ∷ e12 ∷ e13 ∷ e14 ∷ e15 ∷ List.[]
+
 abbrev pub t57 : List.List Row.Entry
 t57 = e16 ∷ e17 ∷ e18 ∷ e19 ∷ e20 ∷ e21 ∷ e22 ∷ e23 ∷ e24 ∷ e25·2 ∷ e26 ∷ e27·2 ∷ e28 ∷ e29·2 ∷ e30 ∷ e31·2 ∷ List.[]
+
 abbrev pub t58 : List.List Row.Entry
 t58 = e32 ∷ e33·2 ∷ e34 ∷ e35·1 ∷ e36 ∷ e37·1 ∷ List.[]
+
 abbrev pub t59 : List.List Row.Entry
 t59 = e32 ∷ e33·2 ∷ e34 ∷ e35 ∷ e36 ∷ e37·1 ∷ List.[]
+
 abbrev pub t60 : List.List Row.Entry
 t60 = e32 ∷ e33·2 ∷ e34 ∷ e35 ∷ e36 ∷ e37 ∷ List.[]
+
 abbrev pub t61 : List.List Row.Entry
 t61 = e0·1 ∷ e1·2 ∷ e2·2 ∷ e3·2 ∷ e4·2 ∷ e5·2 ∷ e6 ∷ e7·1 ∷ e8·1 ∷ e9 ∷ e10·1 ∷ e11·1 ∷ e12 ∷ e13 ∷ e14 ∷ e15 ∷ List.[]
+
 abbrev pub t62 : List.List Row.Entry
 t62 = e0·1 ∷ e1·2 ∷ e2·2 ∷ e3·2 ∷ e4·2 ∷ e5·2 ∷ e6 ∷ e7·1 ∷ e8 ∷ e9 ∷ e10·1 ∷ e11·1 ∷ e12 ∷ e13 ∷ e14 ∷ e15 ∷ List.[]
+
 abbrev pub t63 : List.List Row.Entry
 t63 = e0·1 ∷ e1·2 ∷ e2·2 ∷ e3·2 ∷ e4·2 ∷ e5·2 ∷ e6 ∷ e7·1 ∷ e8 ∷ e9 ∷ e10 ∷ e11·1 ∷ e12 ∷ e13 ∷ e14 ∷ e15 ∷ List.[]
+
 abbrev pub t64 : List.List Row.Entry
 t64 = e0·1 ∷ e1·2 ∷ e2·2 ∷ e3·2 ∷ e4·2 ∷ e5·2 ∷ e6 ∷ e7·1 ∷ e8 ∷ e9 ∷ e10 ∷ e11 ∷ e12 ∷ e13 ∷ e14 ∷ e15 ∷ List.[]
+
 abbrev pub t65 : List.List Row.Entry
 t65 = e0·1 ∷ e1 ∷ e2·2 ∷ e3·2 ∷ e4·2 ∷ e5·2 ∷ e6 ∷ e7·1 ∷ e8 ∷ e9 ∷ e10 ∷ e11 ∷ e12 ∷ e13 ∷ e14 ∷ e15 ∷ List.[]
+
 abbrev pub t66 : List.List Row.Entry
 t66 = e16 ∷ e17 ∷ e18 ∷ e19 ∷ e20 ∷ e21 ∷ e22 ∷ e23 ∷ e24 ∷ e25 ∷ e26 ∷ e27·2 ∷ e28 ∷ e29·2 ∷ e30 ∷ e31·2 ∷ List.[]
+
 abbrev pub t67 : List.List Row.Entry
 t67 = e0·1 ∷ e1 ∷ e2 ∷ e3·2 ∷ e4·2 ∷ e5·2 ∷ e6 ∷ e7·1 ∷ e8 ∷ e9 ∷ e10 ∷ e11 ∷ e12 ∷ e13 ∷ e14 ∷ e15 ∷ List.[]
+
 abbrev pub t68 : List.List Row.Entry
 t68 = e16 ∷ e17 ∷ e18 ∷ e19 ∷ e20 ∷ e21 ∷ e22 ∷ e23 ∷ e24 ∷ e25 ∷ e26 ∷ e27 ∷ e28 ∷ e29·2 ∷ e30 ∷ e31·2 ∷ List.[]
+
 abbrev pub t69 : List.List Row.Entry
 t69 = e0·1 ∷ e1 ∷ e2 ∷ e3 ∷ e4·2 ∷ e5·2 ∷ e6 ∷ e7·1 ∷ e8 ∷ e9 ∷ e10 ∷ e11 ∷ e12 ∷ e13 ∷ e14 ∷ e15 ∷ List.[]
+
 abbrev pub t70 : List.List Row.Entry
 t70 = e16 ∷ e17 ∷ e18 ∷ e19 ∷ e20 ∷ e21 ∷ e22 ∷ e23 ∷ e24 ∷ e25 ∷ e26 ∷ e27 ∷ e28 ∷ e29 ∷ e30 ∷ e31·2 ∷ List.[]
+
 abbrev pub t71 : List.List Row.Entry
 t71 = e0·1 ∷ e1 ∷ e2 ∷ e3 ∷ e4 ∷ e5·2 ∷ e6 ∷ e7·1 ∷ e8 ∷ e9 ∷ e10 ∷ e11 ∷ e12 ∷ e13 ∷ e14 ∷ e15 ∷ List.[]
+
 abbrev pub T0 : Row.Cx
 T0 = record { locals = List._++_ t0 (List._++_ t1 t2); slots = List.[] }
+
 abbrev pub T1 : Row.Cx
 T1 = record { locals = List._++_ t3 (List._++_ t1 t2); slots = List.[] }
+
 abbrev pub T2 : Row.Cx
 T2 = record { locals = List._++_ t0 (List._++_ t1 t2); slots = List.[] }
+
 abbrev pub T3 : Row.Cx
 T3 = record { locals = List._++_ t0 (List._++_ t1 t2); slots = List.[] }
+
 abbrev pub T5 : Row.Cx
 T5 = record { locals = List._++_ t4 (List._++_ t1 t2); slots = List.[] }
+
 abbrev pub T6 : Row.Cx
 T6 = record { locals = List._++_ t5 (List._++_ t1 t2); slots = List.[] }
+
 abbrev pub T8 : Row.Cx
 T8 = record { locals = List._++_ t6 (List._++_ t1 t2); slots = List.[] }
+
 abbrev pub T9 : Row.Cx
 T9 = record { locals = List._++_ t7 (List._++_ t1 t2); slots = List.[] }
+
 abbrev pub T11 : Row.Cx
 T11 = record { locals = List._++_ t8 (List._++_ t9 t2); slots = List.[] }
+
 abbrev pub T12 : Row.Cx
 T12 = record { locals = List._++_ t8 (List._++_ t10 t2); slots = List.[] }
+
 abbrev pub T14 : Row.Cx
 T14 = record { locals = List._++_ t11 (List._++_ t12 t2); slots = List.[] }
+
 abbrev pub T15 : Row.Cx
 T15 = record { locals = List._++_ t11 (List._++_ t13 t2); slots = List.[] }
+
 abbrev pub T17 : Row.Cx
 T17 = record { locals = List._++_ t14 (List._++_ t15 t2); slots = List.[] }
+
 abbrev pub T18 : Row.Cx
 T18 = record { locals = List._++_ t14 (List._++_ t16 t2); slots = List.[] }
+
 abbrev pub T19 : Row.Cx
 T19 = record { locals = List._++_ t17 (List._++_ t18 t2); slots = List.[] }
+
 abbrev pub T21 : Row.Cx
 T21 = record { locals = List._++_ t19 (List._++_ t18 t2); slots = List.[] }
+
 abbrev pub T24 : Row.Cx
 T24 = record { locals = List._++_ t20 (List._++_ t18 t2); slots = List.[] }
+
 abbrev pub T27 : Row.Cx
 T27 = record { locals = List._++_ t21 (List._++_ t22 t2); slots = List.[] }
+
 abbrev pub T30 : Row.Cx
 T30 = record { locals = List._++_ t23 (List._++_ t24 t2); slots = List.[] }
+
 abbrev pub T33 : Row.Cx
 T33 = record { locals = List._++_ t25 (List._++_ t1 t2); slots = List.[] }
+
 abbrev pub T34 : Row.Cx
 T34 = record { locals = List._++_ t25 (List._++_ t1 t2); slots = List.[] }
+
 abbrev pub T36 : Row.Cx
 T36 = record { locals = List._++_ t26 (List._++_ t1 t2); slots = List.[] }
+
 abbrev pub T37 : Row.Cx
 T37 = record { locals = List._++_ t26 (List._++_ t27 t2); slots = List.[] }
+
 abbrev pub T38 : Row.Cx
 T38 = record { locals = List._++_ t28 (List._++_ t27 t2); slots = List.[] }
+
 abbrev pub T39 : Row.Cx
 T39 = record { locals = List._++_ t28 (List._++_ t1 t2); slots = List.[] }
+
 abbrev pub T40 : Row.Cx
 T40 = record { locals = List._++_ t28 (List._++_ t27 t2); slots = List.[] }
+
 abbrev pub T41 : Row.Cx
 T41 = record { locals = List._++_ t29 (List._++_ t27 t2); slots = List.[] }
+
 abbrev pub T42 : Row.Cx
 T42 = record { locals = List._++_ t29 (List._++_ t1 t2); slots = List.[] }
+
 abbrev pub T43 : Row.Cx
 T43 = record { locals = List._++_ t29 (List._++_ t1 t2); slots = List.[] }
+
 abbrev pub T44 : Row.Cx
 T44 = record { locals = List._++_ t29 (List._++_ t30 t2); slots = List.[] }
+
 abbrev pub T45 : Row.Cx
 T45 = record { locals = List._++_ t31 (List._++_ t1 t2); slots = List.[] }
+
 abbrev pub T46 : Row.Cx
 T46 = record { locals = List._++_ t32 (List._++_ t30 t2); slots = List.[] }
+
 abbrev pub T47 : Row.Cx
 T47 = record { locals = List._++_ t33 (List._++_ t30 t2); slots = List.[] }
+
 abbrev pub T48 : Row.Cx
 T48 = record { locals = List._++_ t33 (List._++_ t1 t2); slots = List.[] }
+
 abbrev pub T49 : Row.Cx
 T49 = record { locals = List._++_ t34 (List._++_ t1 t2); slots = List.[] }
+
 abbrev pub T50 : Row.Cx
 T50 = record { locals = List._++_ t35 (List._++_ t1 t2); slots = List.[] }
+
 abbrev pub T51 : Row.Cx
 T51 = record { locals = List._++_ t36 (List._++_ t1 t2); slots = List.[] }
+
 abbrev pub T52 : Row.Cx
 T52 = record { locals = List._++_ t3 (List._++_ t1 t2); slots = List.[] }
+
 abbrev pub T53 : Row.Cx
 T53 = record { locals = List._++_ t31 (List._++_ t30 t2); slots = List.[] }
+
 abbrev pub T54 : Row.Cx
 T54 = record { locals = List._++_ t31 (List._++_ t1 t2); slots = List.[] }
+
 abbrev pub T56 : Row.Cx
 T56 = record { locals = List._++_ t37 (List._++_ t38 t2); slots = List.[] }
+
 abbrev pub T57 : Row.Cx
 T57 = record { locals = List._++_ t37 (List._++_ t39 t2); slots = List.[] }
+
 abbrev pub T59 : Row.Cx
 T59 = record { locals = List._++_ t40 (List._++_ t41 t2); slots = List.[] }
+
 abbrev pub T60 : Row.Cx
 T60 = record { locals = List._++_ t40 (List._++_ t42 t2); slots = List.[] }
+
 abbrev pub T62 : Row.Cx
 T62 = record { locals = List._++_ t43 (List._++_ t44 t2); slots = List.[] }
+
 abbrev pub T63 : Row.Cx
 T63 = record { locals = List._++_ t43 (List._++_ t45 t2); slots = List.[] }
+
 abbrev pub T65 : Row.Cx
 T65 = record { locals = List._++_ t46 (List._++_ t47 t2); slots = List.[] }
+
 abbrev pub T66 : Row.Cx
 T66 = record { locals = List._++_ t46 (List._++_ t48 t2); slots = List.[] }
+
 abbrev pub T68 : Row.Cx
 T68 = record { locals = List._++_ t49 (List._++_ t48 t50); slots = List.[] }
+
 abbrev pub T69 : Row.Cx
 T69 = record { locals = List._++_ t49 (List._++_ t48 t51); slots = List.[] }
+
 abbrev pub T70 : Row.Cx
 T70 = record { locals = List._++_ t49 (List._++_ t48 t52); slots = List.[] }
+
 abbrev pub T71 : Row.Cx
 T71 = record { locals = List._++_ t49 (List._++_ t48 t53); slots = List.[] }
+
 abbrev pub T72 : Row.Cx
 T72 = record { locals = List._++_ t49 (List._++_ t48 t54); slots = List.[] }
+
 abbrev pub T73 : Row.Cx
 T73 = record { locals = List._++_ t49 (List._++_ t48 t55); slots = List.[] }
+
 abbrev pub T74 : Row.Cx
 T74 = record { locals = List._++_ t56 (List._++_ t57 t58); slots = List.[] }
+
 abbrev pub T75 : Row.Cx
 T75 = record { locals = List._++_ t56 (List._++_ t57 t59); slots = List.[] }
+
 abbrev pub T76 : Row.Cx
 T76 = record { locals = List._++_ t56 (List._++_ t57 t60); slots = List.[] }
+
 abbrev pub T77 : Row.Cx
 T77 = record { locals = List._++_ t61 (List._++_ t57 t60); slots = List.[] }
+
 abbrev pub T78 : Row.Cx
 T78 = record { locals = List._++_ t62 (List._++_ t57 t60); slots = List.[] }
+
 abbrev pub T79 : Row.Cx
 T79 = record { locals = List._++_ t63 (List._++_ t57 t60); slots = List.[] }
+
 abbrev pub T80 : Row.Cx
 T80 = record { locals = List._++_ t64 (List._++_ t57 t60); slots = List.[] }
+
 abbrev pub T82 : Row.Cx
 T82 = record { locals = List._++_ t65 (List._++_ t66 t60); slots = List.[] }
+
 abbrev pub T85 : Row.Cx
 T85 = record { locals = List._++_ t67 (List._++_ t68 t60); slots = List.[] }
+
 abbrev pub T88 : Row.Cx
 T88 = record { locals = List._++_ t69 (List._++_ t70 t60); slots = List.[] }
+
 abbrev pub T91 : Row.Cx
 T91 = record { locals = List._++_ t71 (List._++_ t1 t60); slots = List.[] }
+
 abbrev pub T94 : Row.Cx
 T94 = record { locals = List._++_ t3 (List._++_ t1 t2); slots = List.[] }
+
 abbrev pub T95 : Row.Cx
 T95 = record { locals = List._++_ t3 (List._++_ t1 t2); slots = List.[] }
+
 abbrev pub O0 : Typed.Outs
 O0 = record { next = Option.none; exits = List.[]; returns = Option.some T1 }
+
 abbrev pub O1 : Typed.Outs
 O1 = Typed.withNext (Option.some T45) O0
+
 module _ (claims· : Claims) where
   abbrev s0 : Typed.Gives T0 T2
   s0 = Know.k-sl-known (Referent.fInt Syntax.w32) T0 5 4 ref10 Row.off 0 λ x. x
+
   abbrev s1 : Typed.Gives T2 T3
   s1 = Know.k-shs-known (Referent.fInt Syntax.w8) T2 6 5 ref11 Row.off 0 λ x. x
+
   abbrev s3 : Typed.Gives T3 T5
   s3 = Relend.k-sl-relend RelayPending.row T3 1 12 0 6 ref6 ref0 Row.off λ x. x
+
   abbrev s4 : Typed.Asks T5 T6
-  s4 = Relend.k-sl-aggregate RelayPending.row (Relend.asMut RelayPending.row) T5 12 13 6 ref0 ref0 (λ x. x) (Scalar.oFld 1 ((Syntax.field 1) ∷
-      List.[]) (Syntax.tyInt Syntax.w64) 8 λ v. Shared.lenV (v .0))
+  s4 = Relend.k-sl-aggregate RelayPending.row (Relend.asMut RelayPending.row) T5 12 13 6 ref0 ref0 (λ x. x) (Scalar.oFld
+      1 ((Syntax.field 1) ∷ List.[]) (Syntax.tyInt Syntax.w64) 8 λ v. Shared.lenV (v .0))
+
   abbrev s6 : Typed.Gives T6 T8
   s6 = Relend.k-sl-relend RelayCircuit.row T6 2 14 1 7 ref7 ref1 Row.off λ x. x
+
   abbrev s7 : Typed.Asks T8 T9
-  s7 = Relend.k-sl-aggregate RelayCircuit.row (Relend.asMut RelayCircuit.row) T8 14 15 7 ref1 ref1 (λ x. x) (Scalar.oFld 2 ((Syntax.field 1) ∷
-      List.[]) (Syntax.tyInt Syntax.w64) 8 λ v. Shared.lenV (v .0))
+  s7 = Relend.k-sl-aggregate RelayCircuit.row (Relend.asMut RelayCircuit.row) T8 14 15 7 ref1 ref1 (λ x. x) (Scalar.oFld
+      2 ((Syntax.field 1) ∷ List.[]) (Syntax.tyInt Syntax.w64) 8 λ v. Shared.lenV (v .0))
+
   abbrev s9 : Typed.Gives T9 T11
   s9 = Relend.k-sl-relend ReservationUsage.row T9 3 16 2 8 ref8 ref2 Row.off λ x. x
+
   abbrev s10 : Typed.Asks T11 T12
-  s10 = Relend.k-sl-aggregate ReservationUsage.row (Relend.asMut ReservationUsage.row) T11 16 17 8 ref2 ref2 (λ x. x) (Scalar.oFld 3 ((Syntax.field 1)
-      ∷ List.[]) (Syntax.tyInt Syntax.w64) 8 λ v. Shared.lenV (v .0))
+  s10 = Relend.k-sl-aggregate ReservationUsage.row (Relend.asMut ReservationUsage.row) T11 16 17 8 ref2 ref2 (λ x. x) (Scalar.oFld
+      3 ((Syntax.field 1) ∷ List.[]) (Syntax.tyInt Syntax.w64) 8 λ v. Shared.lenV (v .0))
+
   abbrev s12 : Typed.Gives T12 T14
   s12 = Relend.k-sl-relend InflightAction.row T12 4 18 3 9 ref9 ref3 Row.off λ x. x
+
   abbrev s13 : Typed.Asks T14 T15
-  s13 = Relend.k-sl-aggregate InflightAction.row (Relend.asMut InflightAction.row) T14 18 19 9 ref3 ref3 (λ x. x) (Scalar.oFld 4 ((Syntax.field 1) ∷
-      List.[]) (Syntax.tyInt Syntax.w64) 8 λ v. Shared.lenV (v .0))
+  s13 = Relend.k-sl-aggregate InflightAction.row (Relend.asMut InflightAction.row) T14 18 19 9 ref3 ref3 (λ x. x) (Scalar.oFld
+      4 ((Syntax.field 1) ∷ List.[]) (Syntax.tyInt Syntax.w64) 8 λ v. Shared.lenV (v .0))
+
   abbrev s15 : Typed.Gives T15 T17
   s15 = Relend.k-sl-relend (Referent.rtF (Referent.fInt Syntax.w32)) T15 5 20 4 10 ref10 ref4 Row.off λ x. x
+
   abbrev s16 : Typed.Asks T17 T18
-  s16 = Relend.k-sl-aggregate (Referent.rtF (Referent.fInt Syntax.w32)) (Relend.asMut (Referent.rtF (Referent.fInt Syntax.w32))) T17 20 21 10 ref4
-      ref4 (λ x. x) (Scalar.oFld 5 ((Syntax.field 1) ∷ List.[]) (Syntax.tyInt Syntax.w64) 8 λ v. Shared.lenV (v .0))
+  s16 = Relend.k-sl-aggregate (Referent.rtF (Referent.fInt Syntax.w32))
+      (Relend.asMut (Referent.rtF (Referent.fInt Syntax.w32))) T17 20 21 10 ref4 ref4 (λ x. x) (Scalar.oFld 5
+      ((Syntax.field 1) ∷ List.[]) (Syntax.tyInt Syntax.w64) 8 λ v. Shared.lenV (v .0))
+
+  abbrev args17 : Args'.ArgsT ps·0 (T18 .locals)
+  args17 = (
+    record { pos = 13; ty = ref0; ref = λ x. x },
+    (
+      record { pos = 15; ty = ref1; ref = λ x. x },
+      (
+        record { pos = 17; ty = ref2; ref = λ x. x },
+        (
+          record { pos = 19; ty = ref3; ref = λ x. x },
+          (record { pos = 21; ty = ref4; ref = λ x. x }, (record { pos = 7; st = List.[]; d = 0; at = λ x. x }, tt)),
+        ),
+      ),
+    ),
+  )
+
   abbrev s17 : Typed.Both T18 T19
-  s17 = Call.callB ps·0 r·0 (claims· .0) (claims· .1) T18 (record { pos = 13; ty = Syntax.tyRef Syntax.erased Syntax.mut RelayPending.to; ref = λ x.
-      x; }, (record { pos = 15; ty = Syntax.tyRef Syntax.erased Syntax.mut RelayCircuit.to; ref = λ x. x; }, (record { pos = 17; ty = Syntax.tyRef
-      Syntax.erased Syntax.mut ReservationUsage.to; ref = λ x. x; }, (record { pos = 19; ty = Syntax.tyRef Syntax.erased Syntax.mut InflightAction.to;
-      ref = λ x. x; }, (record { pos = 21; ty = Syntax.tyRef Syntax.erased Syntax.mut (Syntax.tyInt Syntax.w32); ref = λ x. x; }, (record { pos = 7;
-      st = List.[]; d = 0; at = λ x. x }, tt),),),),),) 8 (6 ∷ 7 ∷ 8 ∷ 9 ∷ 10 ∷ List.[]) Laws''.mir
+  s17 = Call.callB ps·0 r·0 (claims· .0) (claims· .1) T18 args17 8 (6 ∷ 7 ∷ 8 ∷ 9 ∷ 10 ∷ List.[]) Laws''.mir
+
   abbrev s19 : Typed.Both T19 T21
   s19 = Relend.k-back-sl RelayPending.row T19 13 1 0 6 ref6 ref0 Row.off (λ x. x) λ x. x
+
   abbrev s22 : Typed.Both T21 T24
   s22 = Relend.k-back-sl RelayCircuit.row T21 15 2 1 7 ref7 ref1 Row.off (λ x. x) λ x. x
+
   abbrev s25 : Typed.Both T24 T27
   s25 = Relend.k-back-sl ReservationUsage.row T24 17 3 2 8 ref8 ref2 Row.off (λ x. x) λ x. x
+
   abbrev s28 : Typed.Both T27 T30
   s28 = Relend.k-back-sl InflightAction.row T27 19 4 3 9 ref9 ref3 Row.off (λ x. x) λ x. x
+
   abbrev s31 : Typed.Both T30 T33
   s31 = Relend.k-back-sl (Referent.rtF (Referent.fInt Syntax.w32)) T30 21 5 4 10 ref10 ref4 Row.off (λ x. x) λ x. x
+
   abbrev s32 : Typed.Gives T33 T34
   s32 = Know.k-sl-known (Referent.fInt Syntax.w32) T33 5 4 ref10 Row.off 0 λ x. x
+
   abbrev s34 : Typed.Mo T34 → Typed.Mo T36
-  s34 = Make.n-make (Declared.row HnsrAnswer.the-type) T34 9 λ m. Relayed.struct .as-values (m .1 .1 .1 .1 .1 .1 .1 .1 .0) .1 .0
+  s34 = Make.n-make (Declared.row HnsrAnswer.the-type) T34 9 λ m. Relayed.struct .as-values
+      (m .1 .1 .1 .1 .1 .1 .1 .1 .0) .1 .0
+
   abbrev s35 : Typed.Mo T36 → Typed.Mo T37
-  s35 = Scalar.n-use T36 (Scalar.oFld 6 ((Syntax.field 1) ∷ List.[]) (Syntax.tyInt Syntax.w64) 8 Shared.lenV) 22 (Rows.sc-here (Row.sInt Syntax.w64))
-      (Row.sInt Syntax.w64 .of)
+  s35 = Scalar.n-use T36 (Scalar.oFld 6 ((Syntax.field 1) ∷ List.[]) (Syntax.tyInt Syntax.w64) 8 Shared.lenV) 22
+      (Rows.sc-here (Row.sInt Syntax.w64)) (Row.sInt Syntax.w64 .of)
+
+  abbrev args36 : Args'.ArgsT ps·1 (T37 .locals)
+  args36 = (
+    Num.vFld 7 ((Syntax.field 6) ∷ List.[]) 32 λ x. Script.struct .as-values x .1 .1 .1 .1 .1 .1 .0,
+    (Num.vAt 22 λ x. x, tt),
+  )
+
   abbrev s36 : Typed.Both T37 T38
-  s36 = Call.callB ps·1 r·1 (claims· .2) (claims· .3) T37 (Num.vFld 7 ((Syntax.field 6) ∷ List.[]) 32 λ x. Script.struct .as-values x .1 .1 .1 .1 .1
-      .1 .0, (Num.vAt 22 λ x. x, tt),) 10 List.[] (Syntax.tyInt Syntax.w64)
+  s36 = Call.callB ps·1 r·1 (claims· .2) (claims· .3) T37 args36 10 List.[] (Syntax.tyInt Syntax.w64)
+
   abbrev s37 : Typed.Mo T38 → Typed.Mo T39
   s37 = Scalar.n-room T38 22 (Syntax.tyInt Syntax.w64)
+
   abbrev s38 : Typed.Mo T39 → Typed.Mo T40
-  s38 = Scalar.n-use T39 (Scalar.oFld 6 ((Syntax.field 1) ∷ List.[]) (Syntax.tyInt Syntax.w64) 8 Shared.lenV) 22 (Rows.sc-here (Row.sInt Syntax.w64))
-      (Row.sInt Syntax.w64 .of)
+  s38 = Scalar.n-use T39 (Scalar.oFld 6 ((Syntax.field 1) ∷ List.[]) (Syntax.tyInt Syntax.w64) 8 Shared.lenV) 22
+      (Rows.sc-here (Row.sInt Syntax.w64)) (Row.sInt Syntax.w64 .of)
+
+  abbrev args39 : Args'.ArgsT ps·1 (T40 .locals)
+  args39 = (
+    Num.vFld 7 ((Syntax.field 8) ∷ List.[]) 48 λ x. Script.struct .as-values x .1 .1 .1 .1 .1 .1 .1 .1 .0,
+    (Num.vAt 22 λ x. x, tt),
+  )
+
   abbrev s39 : Typed.Both T40 T41
-  s39 = Call.callB ps·1 r·1 (claims· .2) (claims· .3) T40 (Num.vFld 7 ((Syntax.field 8) ∷ List.[]) 48 λ x. Script.struct .as-values x .1 .1 .1 .1 .1
-      .1 .1 .1 .0, (Num.vAt 22 λ x. x, tt),) 11 List.[] (Syntax.tyInt Syntax.w64)
+  s39 = Call.callB ps·1 r·1 (claims· .2) (claims· .3) T40 args39 11 List.[] (Syntax.tyInt Syntax.w64)
+
   abbrev s40 : Typed.Mo T41 → Typed.Mo T42
   s40 = Scalar.n-room T41 22 (Syntax.tyInt Syntax.w64)
+
   abbrev s41 : Typed.Gives T42 T43
   s41 = Know'.k-struct-known Script.the-type Laws.the-laws T42 7 λ x. x
+
   abbrev s42 : Typed.Asks T43 T44
-  s42 = Scalar.k-op2 T43 Syntax.eq (Scalar.oFld 7 ((Syntax.field 2) ∷ List.[]) (Syntax.tyInt Syntax.w8) 16 (Reads.fieldV Script.the-type Laws.the-laws
-      2)) (Scalar.oInt Syntax.w8 0) 23 (Rows.sc-here Row.sBool) (Row.sBool .of)
+  s42 = Scalar.k-op2 T43 Syntax.eq (Scalar.oFld 7 ((Syntax.field 2) ∷ List.[]) (Syntax.tyInt Syntax.w8) 16
+      (Reads.fieldV Script.the-type Laws.the-laws 2)) (Scalar.oInt Syntax.w8 0) 23 (Rows.sc-here Row.sBool)
+      (Row.sBool .of)
+
   abbrev s43 : Typed.Mo T44 → Typed.Mo T46
   s43 = Scalar.n-room T44 7 Laws.mir
+
   abbrev s44 : Typed.Mo T46 → Typed.Mo T47
   s44 = Scalar.n-room T46 8 Laws''.mir
+
   abbrev s45 : Typed.Mo T47 → Typed.Mo T48
   s45 = Scalar.n-room T47 23 Syntax.tyBool
+
+  abbrev args46 : Args'.ArgsT ps·2 (T48 .locals)
+  args46 = (record { pos = 9; st = List.[]; d = 0; at = λ x. x }, tt)
+
   abbrev s46 : Typed.Both T48 T49
-  s46 = Call.callB ps·2 r·2 (claims· .4) (claims· .5) T48 (record { pos = 9; st = List.[]; d = 0; at = λ x. x }, tt,) 0 List.[] (Syntax.tyInt
-      Syntax.w64)
+  s46 = Call.callB ps·2 r·2 (claims· .4) (claims· .5) T48 args46 0 List.[] (Syntax.tyInt Syntax.w64)
+
   abbrev s47 : Typed.Mo T49 → Typed.Mo T50
   s47 = Scalar.n-room T49 9 Laws'.mir
+
   abbrev s48 : Typed.Mo T50 → Typed.Mo T51
   s48 = Scalar.n-room T50 10 (Syntax.tyInt Syntax.w64)
+
   abbrev s49 : Typed.Mo T51 → Typed.Mo T52
   s49 = Scalar.n-room T51 11 (Syntax.tyInt Syntax.w64)
+
   abbrev s50 : Typed.Mo T44 → Typed.Mo T53
   s50 = Scalar.n-room T44 9 Laws'.mir
+
   abbrev s51 : Typed.Mo T53 → Typed.Mo T54
   s51 = Scalar.n-room T53 23 Syntax.tyBool
+
   abbrev s53 : Typed.Gives T45 T56
   s53 = Relend.k-sl-relend RelayPending.row T45 1 24 0 11 ref6 ref0 Row.off λ x. x
+
   abbrev s54 : Typed.Asks T56 T57
-  s54 = Relend.k-sl-aggregate RelayPending.row (Relend.asMut RelayPending.row) T56 24 25 11 ref0 ref0 (λ x. x) (Scalar.oFld 1 ((Syntax.field 1) ∷
-      List.[]) (Syntax.tyInt Syntax.w64) 8 λ v. Shared.lenV (v .0))
+  s54 = Relend.k-sl-aggregate RelayPending.row (Relend.asMut RelayPending.row) T56 24 25 11 ref0 ref0 (λ x. x) (Scalar.oFld
+      1 ((Syntax.field 1) ∷ List.[]) (Syntax.tyInt Syntax.w64) 8 λ v. Shared.lenV (v .0))
+
   abbrev s56 : Typed.Gives T57 T59
   s56 = Relend.k-sl-relend RelayCircuit.row T57 2 26 1 12 ref7 ref1 Row.off λ x. x
+
   abbrev s57 : Typed.Asks T59 T60
-  s57 = Relend.k-sl-aggregate RelayCircuit.row (Relend.asMut RelayCircuit.row) T59 26 27 12 ref1 ref1 (λ x. x) (Scalar.oFld 2 ((Syntax.field 1) ∷
-      List.[]) (Syntax.tyInt Syntax.w64) 8 λ v. Shared.lenV (v .0))
+  s57 = Relend.k-sl-aggregate RelayCircuit.row (Relend.asMut RelayCircuit.row) T59 26 27 12 ref1 ref1 (λ x. x) (Scalar.oFld
+      2 ((Syntax.field 1) ∷ List.[]) (Syntax.tyInt Syntax.w64) 8 λ v. Shared.lenV (v .0))
+
   abbrev s59 : Typed.Gives T60 T62
   s59 = Relend.k-sl-relend ReservationUsage.row T60 3 28 2 13 ref8 ref2 Row.off λ x. x
+
   abbrev s60 : Typed.Asks T62 T63
-  s60 = Relend.k-sl-aggregate ReservationUsage.row (Relend.asMut ReservationUsage.row) T62 28 29 13 ref2 ref2 (λ x. x) (Scalar.oFld 3 ((Syntax.field
-      1) ∷ List.[]) (Syntax.tyInt Syntax.w64) 8 λ v. Shared.lenV (v .0))
+  s60 = Relend.k-sl-aggregate ReservationUsage.row (Relend.asMut ReservationUsage.row) T62 28 29 13 ref2 ref2 (λ x. x) (Scalar.oFld
+      3 ((Syntax.field 1) ∷ List.[]) (Syntax.tyInt Syntax.w64) 8 λ v. Shared.lenV (v .0))
+
   abbrev s62 : Typed.Gives T63 T65
   s62 = Relend.k-sl-relend InflightAction.row T63 4 30 3 14 ref9 ref3 Row.off λ x. x
+
   abbrev s63 : Typed.Asks T65 T66
-  s63 = Relend.k-sl-aggregate InflightAction.row (Relend.asMut InflightAction.row) T65 30 31 14 ref3 ref3 (λ x. x) (Scalar.oFld 4 ((Syntax.field 1) ∷
-      List.[]) (Syntax.tyInt Syntax.w64) 8 λ v. Shared.lenV (v .0))
+  s63 = Relend.k-sl-aggregate InflightAction.row (Relend.asMut InflightAction.row) T65 30 31 14 ref3 ref3 (λ x. x) (Scalar.oFld
+      4 ((Syntax.field 1) ∷ List.[]) (Syntax.tyInt Syntax.w64) 8 λ v. Shared.lenV (v .0))
+
   abbrev s65 : Typed.Gives T66 T68
   s65 = Relend.k-sl-relend (Referent.rtF (Referent.fInt Syntax.w32)) T66 5 32 4 15 ref10 ref4 Row.off λ x. x
+
   abbrev s66 : Typed.Asks T68 T69
-  s66 = Relend.k-sl-aggregate (Referent.rtF (Referent.fInt Syntax.w32)) (Relend.asMut (Referent.rtF (Referent.fInt Syntax.w32))) T68 32 33 15 ref4
-      ref4 (λ x. x) (Scalar.oFld 5 ((Syntax.field 1) ∷ List.[]) (Syntax.tyInt Syntax.w64) 8 λ v. Shared.lenV (v .0))
+  s66 = Relend.k-sl-aggregate (Referent.rtF (Referent.fInt Syntax.w32))
+      (Relend.asMut (Referent.rtF (Referent.fInt Syntax.w32))) T68 32 33 15 ref4 ref4 (λ x. x) (Scalar.oFld 5
+      ((Syntax.field 1) ∷ List.[]) (Syntax.tyInt Syntax.w64) 8 λ v. Shared.lenV (v .0))
+
   abbrev s67 : Typed.Gives T69 T70
-  s67 = Prefix.k-shs-prefix-same (Referent.rtF (Referent.fInt Syntax.w8)) T69 6 34 5 ref11 ref5 Row.off (λ x. x) λ u. u .1 .1 .1 .1 .1 .1 .1 .1 .1 .1
-      .0
+  s67 = Prefix.k-shs-prefix-same (Referent.rtF (Referent.fInt Syntax.w8)) T69 6 34 5 ref11 ref5 Row.off (λ x. x) λ u. u
+      .1 .1 .1 .1 .1 .1 .1 .1 .1 .1 .0
+
   abbrev s68 : Typed.Asks T70 T71
-  s68 = Relend.k-sl-aggregate (Referent.rtF (Referent.fInt Syntax.w8)) (Relend.asShr (Referent.rtF (Referent.fInt Syntax.w8))) T70 34 35 5 ref5 ref5
-      (λ x. x) (Scalar.oAt 10 (Syntax.tyInt Syntax.w64) (Row.valS (Row.sInt Syntax.w64)))
+  s68 = Relend.k-sl-aggregate (Referent.rtF (Referent.fInt Syntax.w8))
+      (Relend.asShr (Referent.rtF (Referent.fInt Syntax.w8))) T70 34 35 5 ref5 ref5 (λ x. x) (Scalar.oAt 10
+      (Syntax.tyInt Syntax.w64) (Row.valS (Row.sInt Syntax.w64)))
+
   abbrev s69 : Typed.Gives T71 T72
-  s69 = Prefix.k-shs-prefix-same (Referent.rtF (Referent.fInt Syntax.w8)) T71 6 36 5 ref11 ref5 Row.off (λ x. x) λ u. u .1 .1 .1 .1 .1 .1 .1 .1 .1 .1
-      .1 .0
+  s69 = Prefix.k-shs-prefix-same (Referent.rtF (Referent.fInt Syntax.w8)) T71 6 36 5 ref11 ref5 Row.off (λ x. x) λ u. u
+      .1 .1 .1 .1 .1 .1 .1 .1 .1 .1 .1 .0
+
   abbrev s70 : Typed.Asks T72 T73
-  s70 = Relend.k-sl-aggregate (Referent.rtF (Referent.fInt Syntax.w8)) (Relend.asShr (Referent.rtF (Referent.fInt Syntax.w8))) T72 36 37 5 ref5 ref5
-      (λ x. x) (Scalar.oAt 11 (Syntax.tyInt Syntax.w64) (Row.valS (Row.sInt Syntax.w64)))
+  s70 = Relend.k-sl-aggregate (Referent.rtF (Referent.fInt Syntax.w8))
+      (Relend.asShr (Referent.rtF (Referent.fInt Syntax.w8))) T72 36 37 5 ref5 ref5 (λ x. x) (Scalar.oAt 11
+      (Syntax.tyInt Syntax.w64) (Row.valS (Row.sInt Syntax.w64)))
+
+  abbrev args71 : Args'.ArgsT ps·3 (T73 .locals)
+  args71 = (
+    record { pos = 25; ty = ref0; ref = λ x. x },
+    (
+      record { pos = 27; ty = ref1; ref = λ x. x },
+      (
+        record { pos = 29; ty = ref2; ref = λ x. x },
+        (
+          record { pos = 31; ty = ref3; ref = λ x. x },
+          (
+            record { pos = 33; ty = ref4; ref = λ x. x },
+            (
+              record { pos = 8; st = List.[]; d = 0; at = λ x. x },
+              (
+                record { pos = 35; ty = ref5; ref = λ x. x },
+                (
+                  record { pos = 37; ty = ref5; ref = λ x. x },
+                  (record { pos = 7; st = List.[]; d = 0; at = λ x. x }, tt),
+                ),
+              ),
+            ),
+          ),
+        ),
+      ),
+    ),
+  )
+
   abbrev s71 : Typed.Both T73 T74
-  s71 = Call.callB ps·3 r·3 (claims· .6) (claims· .7) T73 (record { pos = 25; ty = Syntax.tyRef Syntax.erased Syntax.mut RelayPending.to; ref = λ x.
-      x; }, (record { pos = 27; ty = Syntax.tyRef Syntax.erased Syntax.mut RelayCircuit.to; ref = λ x. x; }, (record { pos = 29; ty = Syntax.tyRef
-      Syntax.erased Syntax.mut ReservationUsage.to; ref = λ x. x; }, (record { pos = 31; ty = Syntax.tyRef Syntax.erased Syntax.mut InflightAction.to;
-      ref = λ x. x; }, (record { pos = 33; ty = Syntax.tyRef Syntax.erased Syntax.mut (Syntax.tyInt Syntax.w32); ref = λ x. x; }, (record { pos = 8;
-      st = List.[]; d = 0; at = λ x. x }, (record { pos = 35; ty = Syntax.tyRef Syntax.erased Syntax.imm (Syntax.tyInt Syntax.w8); ref = λ x. x; },
-      (record { pos = 37; ty = Syntax.tyRef Syntax.erased Syntax.imm (Syntax.tyInt Syntax.w8); ref = λ x. x; }, (record { pos = 7; st = List.[]; d =
-      0; at = λ x. x }, tt),),),),),),),),) 0 (11 ∷ 12 ∷ 13 ∷ 14 ∷ 15 ∷ 5 ∷ 5 ∷ List.[]) (Syntax.tyInt Syntax.w64)
+  s71 = Call.callB ps·3 r·3 (claims· .6) (claims· .7) T73 args71 0 (11 ∷ 12 ∷ 13 ∷ 14 ∷ 15 ∷ 5 ∷ 5 ∷ List.[])
+      (Syntax.tyInt Syntax.w64)
+
   abbrev s72 : Typed.Mo T74 → Typed.Mo T75
-  s72 = Scalar.n-room T74 35 (Syntax.tyStruct (38 ∷ 91 ∷ 93 ∷ List.[]) (Syntax.tcons ref5 (Syntax.tcons (Syntax.tyInt Syntax.w64) Syntax.tnil)))
+  s72 = Scalar.n-room T74 35 slice5
+
   abbrev s73 : Typed.Mo T75 → Typed.Mo T76
-  s73 = Scalar.n-room T75 37 (Syntax.tyStruct (38 ∷ 91 ∷ 93 ∷ List.[]) (Syntax.tcons ref5 (Syntax.tcons (Syntax.tyInt Syntax.w64) Syntax.tnil)))
+  s73 = Scalar.n-room T75 37 slice5
+
   abbrev s74 : Typed.Mo T76 → Typed.Mo T77
   s74 = Scalar.n-room T76 7 Laws.mir
+
   abbrev s75 : Typed.Mo T77 → Typed.Mo T78
   s75 = Scalar.n-room T77 8 Laws''.mir
+
   abbrev s76 : Typed.Mo T78 → Typed.Mo T79
   s76 = Scalar.n-room T78 10 (Syntax.tyInt Syntax.w64)
+
   abbrev s77 : Typed.Mo T79 → Typed.Mo T80
   s77 = Scalar.n-room T79 11 (Syntax.tyInt Syntax.w64)
+
   abbrev s79 : Typed.Both T80 T82
   s79 = Relend.k-back-sl RelayPending.row T80 25 1 0 11 ref6 ref0 Row.off (λ x. x) λ x. x
+
   abbrev s82 : Typed.Both T82 T85
   s82 = Relend.k-back-sl RelayCircuit.row T82 27 2 1 12 ref7 ref1 Row.off (λ x. x) λ x. x
+
   abbrev s85 : Typed.Both T85 T88
   s85 = Relend.k-back-sl ReservationUsage.row T85 29 3 2 13 ref8 ref2 Row.off (λ x. x) λ x. x
+
   abbrev s88 : Typed.Both T88 T91
   s88 = Relend.k-back-sl InflightAction.row T88 31 4 3 14 ref9 ref3 Row.off (λ x. x) λ x. x
+
   abbrev s91 : Typed.Both T91 T94
   s91 = Relend.k-back-sl (Referent.rtF (Referent.fInt Syntax.w32)) T91 33 5 4 15 ref10 ref4 Row.off (λ x. x) λ x. x
+
   abbrev s92 : Typed.Gives T94 T95
   s92 = Know.k-sl-known (Referent.fInt Syntax.w32) T94 5 4 ref10 Row.off 0 λ x. x
-  module _ (Pre· : (κs : Lifetimes.Lfts 6) → Kinds.Dens κs ps → Type 0) (Post· : (κs : Lifetimes.Lfts 6) → (a : Kinds.Dens κs ps) → Kinds.Plain 6 ps r
-      κs) where
+
+  module _ (Pre· : (κs : Lifetimes.Lfts 6) → Kinds.Dens κs ps → Type 0) (Post· : (κs : Lifetimes.Lfts 6) →
+      (a : Kinds.Dens κs ps) → Kinds.Plain 6 ps r κs) where
     module _ (M : Type 1) where
       abbrev pub Closed : Type 2
-      Closed = (𝓤 : URA.URA M) (H : Wp.Heap 𝓤) (A : Atoms.Atoms 𝓤) (W : Kit.Given 𝓤 H A) (𝓣 : Wp.Tables 𝓤 H) (known0 : Plain.Known 𝓤 H A W 𝓣 5 ps·0
-          r·0 (claims· .0) (claims· .1) "cases::machine::prepare") (known1 : Plain.Known 𝓤 H A W 𝓣 0 ps·1 r·1 (claims· .2) (claims· .3)
-          "hns_encoding::numbers::min_usize") (known2 : Plain.Known 𝓤 H A W 𝓣 0 ps·2 r·2 (claims· .4) (claims· .5) "cases::script::answer_number")
-          (known3 : Plain.Known 𝓤 H A W 𝓣 7 ps·3 r·3 (claims· .6) (claims· .7) "cases::machine::send_packets") → Statement.Triple 𝓤 (Wp.WpFn 𝓤 H (𝓣
-          .C) (𝓣 .Λ) (Function.fnOf 6 ps r xs m hs body)) (Function.plainOf 𝓤 H A 6 ps r Pre· Post·)
+      Closed = (𝓤 : URA.URA M) (H : Wp.Heap 𝓤) (A : Atoms.Atoms 𝓤) (W : Kit.Given 𝓤 H A) (𝓣 : Wp.Tables 𝓤 H) (known0 :
+          Plain.Known 𝓤 H A W 𝓣 5 ps·0 r·0 (claims· .0) (claims· .1) "cases::machine::prepare") (known1 : Plain.Known 𝓤
+          H A W 𝓣 0 ps·1 r·1 (claims· .2) (claims· .3) "hns_encoding::numbers::min_usize") (known2 : Plain.Known 𝓤 H A
+          W 𝓣 0 ps·2 r·2 (claims· .4) (claims· .5) "cases::script::answer_number") (known3 : Plain.Known 𝓤 H A W 𝓣 7
+          ps·3 r·3 (claims· .6) (claims· .7) "cases::machine::send_packets") → Statement.Triple 𝓤 (Wp.WpFn 𝓤 H (𝓣 .C)
+          (𝓣 .Λ) (Function.fnOf 6 ps r xs m hs body)) (Function.plainOf 𝓤 H A 6 ps r Pre· Post·)
+
     module _ where
       abbrev at0 : Typed.TF T52 O1
       at0 = Typed.atRet O1
+
       abbrev at1 : Typed.TF T51 O1
       at1 = λ Ψ. Typed.pass T51 T52 s49 (at0 Ψ)
+
       abbrev at2 : Typed.TF T50 O1
       at2 = λ Ψ. Typed.pass T50 T51 s48 (at1 Ψ)
+
       abbrev at3 : Typed.TF T49 O1
       at3 = λ Ψ. Typed.pass T49 T50 s47 (at2 Ψ)
+
       abbrev at4 : Typed.TF T48 O1
       at4 = λ Ψ. Typed.both s46 (at3 Ψ)
+
       abbrev at5 : Typed.TF T47 O1
       at5 = λ Ψ. Typed.pass T47 T48 s45 (at4 Ψ)
+
       abbrev at6 : Typed.TF T46 O1
       at6 = λ Ψ. Typed.pass T46 T47 s44 (at5 Ψ)
+
       abbrev at7 : Typed.TF T44 O1
       at7 = λ Ψ. Typed.pass T44 T46 s43 (at6 Ψ)
+
       abbrev at8 : Typed.TF T54 O1
       at8 = Typed.atNext O1
+
       abbrev at9 : Typed.TF T53 O1
       at9 = λ Ψ. Typed.pass T53 T54 s51 (at8 Ψ)
+
       abbrev at10 : Typed.TF T44 O1
       at10 = λ Ψ. Typed.pass T44 T53 s50 (at9 Ψ)
+
       abbrev at11 : Typed.TF T44 O1
       at11 = Scalar.Φcond T44 O1 23 (λ x. x) at7 at10
+
       abbrev at12 : Typed.TF T95 O0
       at12 = Typed.atRet O0
+
       abbrev at13 : Typed.TF T95 O0
       at13 = λ Ψ. at12 Ψ
+
       abbrev at14 : Typed.TF T94 O0
       at14 = λ Ψ. Typed.give s92 (at13 Ψ)
+
       abbrev at15 : Typed.TF T91 O0
       at15 = λ Ψ. Typed.both s91 (at14 Ψ)
+
       abbrev at16 : Typed.TF T91 O0
       at16 = λ Ψ. at15 Ψ
+
       abbrev at17 : Typed.TF T91 O0
       at17 = λ Ψ. at16 Ψ
+
       abbrev at18 : Typed.TF T88 O0
       at18 = λ Ψ. Typed.both s88 (at17 Ψ)
+
       abbrev at19 : Typed.TF T88 O0
       at19 = λ Ψ. at18 Ψ
+
       abbrev at20 : Typed.TF T88 O0
       at20 = λ Ψ. at19 Ψ
+
       abbrev at21 : Typed.TF T85 O0
       at21 = λ Ψ. Typed.both s85 (at20 Ψ)
+
       abbrev at22 : Typed.TF T85 O0
       at22 = λ Ψ. at21 Ψ
+
       abbrev at23 : Typed.TF T85 O0
       at23 = λ Ψ. at22 Ψ
+
       abbrev at24 : Typed.TF T82 O0
       at24 = λ Ψ. Typed.both s82 (at23 Ψ)
+
       abbrev at25 : Typed.TF T82 O0
       at25 = λ Ψ. at24 Ψ
+
       abbrev at26 : Typed.TF T82 O0
       at26 = λ Ψ. at25 Ψ
+
       abbrev at27 : Typed.TF T80 O0
       at27 = λ Ψ. Typed.both s79 (at26 Ψ)
+
       abbrev at28 : Typed.TF T80 O0
       at28 = λ Ψ. at27 Ψ
+
       abbrev at29 : Typed.TF T79 O0
       at29 = λ Ψ. Typed.pass T79 T80 s77 (at28 Ψ)
+
       abbrev at30 : Typed.TF T78 O0
       at30 = λ Ψ. Typed.pass T78 T79 s76 (at29 Ψ)
+
       abbrev at31 : Typed.TF T77 O0
       at31 = λ Ψ. Typed.pass T77 T78 s75 (at30 Ψ)
+
       abbrev at32 : Typed.TF T76 O0
       at32 = λ Ψ. Typed.pass T76 T77 s74 (at31 Ψ)
+
       abbrev at33 : Typed.TF T75 O0
       at33 = λ Ψ. Typed.pass T75 T76 s73 (at32 Ψ)
+
       abbrev at34 : Typed.TF T74 O0
       at34 = λ Ψ. Typed.pass T74 T75 s72 (at33 Ψ)
+
       abbrev at35 : Typed.TF T73 O0
       at35 = λ Ψ. Typed.both s71 (at34 Ψ)
+
       abbrev at36 : Typed.TF T72 O0
       at36 = λ Ψ. Typed.ask s70 (at35 Ψ)
+
       abbrev at37 : Typed.TF T71 O0
       at37 = λ Ψ. Typed.give s69 (at36 Ψ)
+
       abbrev at38 : Typed.TF T70 O0
       at38 = λ Ψ. Typed.ask s68 (at37 Ψ)
+
       abbrev at39 : Typed.TF T69 O0
       at39 = λ Ψ. Typed.give s67 (at38 Ψ)
+
       abbrev at40 : Typed.TF T68 O0
       at40 = λ Ψ. Typed.ask s66 (at39 Ψ)
+
       abbrev at41 : Typed.TF T66 O0
       at41 = λ Ψ. Typed.give s65 (at40 Ψ)
+
       abbrev at42 : Typed.TF T66 O0
       at42 = λ Ψ. at41 Ψ
+
       abbrev at43 : Typed.TF T65 O0
       at43 = λ Ψ. Typed.ask s63 (at42 Ψ)
+
       abbrev at44 : Typed.TF T63 O0
       at44 = λ Ψ. Typed.give s62 (at43 Ψ)
+
       abbrev at45 : Typed.TF T63 O0
       at45 = λ Ψ. at44 Ψ
+
       abbrev at46 : Typed.TF T62 O0
       at46 = λ Ψ. Typed.ask s60 (at45 Ψ)
+
       abbrev at47 : Typed.TF T60 O0
       at47 = λ Ψ. Typed.give s59 (at46 Ψ)
+
       abbrev at48 : Typed.TF T60 O0
       at48 = λ Ψ. at47 Ψ
+
       abbrev at49 : Typed.TF T59 O0
       at49 = λ Ψ. Typed.ask s57 (at48 Ψ)
+
       abbrev at50 : Typed.TF T57 O0
       at50 = λ Ψ. Typed.give s56 (at49 Ψ)
+
       abbrev at51 : Typed.TF T57 O0
       at51 = λ Ψ. at50 Ψ
+
       abbrev at52 : Typed.TF T56 O0
       at52 = λ Ψ. Typed.ask s54 (at51 Ψ)
+
       abbrev at53 : Typed.TF T45 O0
       at53 = λ Ψ. Typed.give s53 (at52 Ψ)
+
       abbrev at54 : Typed.TF T45 O0
       at54 = λ Ψ. at53 Ψ
+
       abbrev at55 : Typed.TF T44 O0
       at55 = λ Ψ. at11 (Typed.wantNext T45 O0 (at54 Ψ) Ψ)
+
       abbrev at56 : Typed.TF T43 O0
       at56 = λ Ψ. Typed.ask s42 (at55 Ψ)
+
       abbrev at57 : Typed.TF T42 O0
       at57 = λ Ψ. Typed.give s41 (at56 Ψ)
+
       abbrev at58 : Typed.TF T41 O0
       at58 = λ Ψ. Typed.pass T41 T42 s40 (at57 Ψ)
+
       abbrev at59 : Typed.TF T40 O0
       at59 = λ Ψ. Typed.both s39 (at58 Ψ)
+
       abbrev at60 : Typed.TF T39 O0
       at60 = λ Ψ. Typed.pass T39 T40 s38 (at59 Ψ)
+
       abbrev at61 : Typed.TF T38 O0
       at61 = λ Ψ. Typed.pass T38 T39 s37 (at60 Ψ)
+
       abbrev at62 : Typed.TF T37 O0
       at62 = λ Ψ. Typed.both s36 (at61 Ψ)
+
       abbrev at63 : Typed.TF T36 O0
       at63 = λ Ψ. Typed.pass T36 T37 s35 (at62 Ψ)
+
       abbrev at64 : Typed.TF T34 O0
       at64 = λ Ψ. Typed.pass T34 T36 s34 (at63 Ψ)
+
       abbrev at65 : Typed.TF T34 O0
       at65 = λ Ψ. at64 Ψ
+
       abbrev at66 : Typed.TF T33 O0
       at66 = λ Ψ. Typed.give s32 (at65 Ψ)
+
       abbrev at67 : Typed.TF T30 O0
       at67 = λ Ψ. Typed.both s31 (at66 Ψ)
+
       abbrev at68 : Typed.TF T30 O0
       at68 = λ Ψ. at67 Ψ
+
       abbrev at69 : Typed.TF T30 O0
       at69 = λ Ψ. at68 Ψ
+
       abbrev at70 : Typed.TF T27 O0
       at70 = λ Ψ. Typed.both s28 (at69 Ψ)
+
       abbrev at71 : Typed.TF T27 O0
       at71 = λ Ψ. at70 Ψ
+
       abbrev at72 : Typed.TF T27 O0
       at72 = λ Ψ. at71 Ψ
+
       abbrev at73 : Typed.TF T24 O0
       at73 = λ Ψ. Typed.both s25 (at72 Ψ)
+
       abbrev at74 : Typed.TF T24 O0
       at74 = λ Ψ. at73 Ψ
+
       abbrev at75 : Typed.TF T24 O0
       at75 = λ Ψ. at74 Ψ
+
       abbrev at76 : Typed.TF T21 O0
       at76 = λ Ψ. Typed.both s22 (at75 Ψ)
+
       abbrev at77 : Typed.TF T21 O0
       at77 = λ Ψ. at76 Ψ
+
       abbrev at78 : Typed.TF T21 O0
       at78 = λ Ψ. at77 Ψ
+
       abbrev at79 : Typed.TF T19 O0
       at79 = λ Ψ. Typed.both s19 (at78 Ψ)
+
       abbrev at80 : Typed.TF T19 O0
       at80 = λ Ψ. at79 Ψ
+
       abbrev at81 : Typed.TF T18 O0
       at81 = λ Ψ. Typed.both s17 (at80 Ψ)
+
       abbrev at82 : Typed.TF T17 O0
       at82 = λ Ψ. Typed.ask s16 (at81 Ψ)
+
       abbrev at83 : Typed.TF T15 O0
       at83 = λ Ψ. Typed.give s15 (at82 Ψ)
+
       abbrev at84 : Typed.TF T15 O0
       at84 = λ Ψ. at83 Ψ
+
       abbrev at85 : Typed.TF T14 O0
       at85 = λ Ψ. Typed.ask s13 (at84 Ψ)
+
       abbrev at86 : Typed.TF T12 O0
       at86 = λ Ψ. Typed.give s12 (at85 Ψ)
+
       abbrev at87 : Typed.TF T12 O0
       at87 = λ Ψ. at86 Ψ
+
       abbrev at88 : Typed.TF T11 O0
       at88 = λ Ψ. Typed.ask s10 (at87 Ψ)
+
       abbrev at89 : Typed.TF T9 O0
       at89 = λ Ψ. Typed.give s9 (at88 Ψ)
+
       abbrev at90 : Typed.TF T9 O0
       at90 = λ Ψ. at89 Ψ
+
       abbrev at91 : Typed.TF T8 O0
       at91 = λ Ψ. Typed.ask s7 (at90 Ψ)
+
       abbrev at92 : Typed.TF T6 O0
       at92 = λ Ψ. Typed.give s6 (at91 Ψ)
+
       abbrev at93 : Typed.TF T6 O0
       at93 = λ Ψ. at92 Ψ
+
       abbrev at94 : Typed.TF T5 O0
       at94 = λ Ψ. Typed.ask s4 (at93 Ψ)
+
       abbrev at95 : Typed.TF T3 O0
       at95 = λ Ψ. Typed.give s3 (at94 Ψ)
+
       abbrev at96 : Typed.TF T3 O0
       at96 = λ Ψ. at95 Ψ
+
       abbrev at97 : Typed.TF T2 O0
       at97 = λ Ψ. Typed.give s1 (at96 Ψ)
+
       abbrev at98 : Typed.TF T0 O0
       at98 = λ Ψ. Typed.give s0 (at97 Ψ)
+
       abbrev pub Φ : Typed.TF T0 O0
       Φ = at98
-      module _ { M : Type 1 } (𝓤 : URA.URA M) (H : Wp.Heap 𝓤) (A : Atoms.Atoms 𝓤) (W : Kit.Given 𝓤 H A) (𝓣 : Wp.Tables 𝓤 H) where
+
+      module _ {M : Type 1} (𝓤 : URA.URA M) (H : Wp.Heap 𝓤) (A : Atoms.Atoms 𝓤) (W : Kit.Given 𝓤 H A)
+          (𝓣 : Wp.Tables 𝓤 H) where
         abbrev Knowns : Type 1
-        Knowns = Plain.Known 𝓤 H A W 𝓣 5 ps·0 r·0 (claims· .0) (claims· .1) "cases::machine::prepare" × Plain.Known 𝓤 H A W 𝓣 0 ps·1 r·1 (claims· .2)
-            (claims· .3) "hns_encoding::numbers::min_usize" × Plain.Known 𝓤 H A W 𝓣 0 ps·2 r·2 (claims· .4) (claims· .5)
-            "cases::script::answer_number" × Plain.Known 𝓤 H A W 𝓣 7 ps·3 r·3 (claims· .6) (claims· .7) "cases::machine::send_packets"
+        Knowns = Plain.Known 𝓤 H A W 𝓣 5 ps·0 r·0 (claims· .0) (claims· .1) "cases::machine::prepare" × Plain.Known 𝓤 H
+            A W 𝓣 0 ps·1 r·1 (claims· .2) (claims· .3) "hns_encoding::numbers::min_usize" × Plain.Known 𝓤 H A W 𝓣 0
+            ps·2 r·2 (claims· .4) (claims· .5) "cases::script::answer_number" × Plain.Known 𝓤 H A W 𝓣 7 ps·3 r·3
+            (claims· .6) (claims· .7) "cases::machine::send_packets"
+
       module _ (κs : Lifetimes.Lfts 6) (qs : Lifetimes.Shares 6) where
         abbrev life0 : Row.Life
         life0 = Row.lease (κs .0) (qs .0)
+
         abbrev life1 : Row.Life
         life1 = Row.lease (κs .1 .0) (qs .1 .0)
+
         abbrev life2 : Row.Life
         life2 = Row.lease (κs .1 .1 .0) (qs .1 .1 .0)
+
         abbrev life3 : Row.Life
         life3 = Row.lease (κs .1 .1 .1 .0) (qs .1 .1 .1 .0)
+
         abbrev life4 : Row.Life
         life4 = Row.lease (κs .1 .1 .1 .1 .0) (qs .1 .1 .1 .1 .0)
+
         abbrev life5 : Row.Life
         life5 = Row.lease (κs .1 .1 .1 .1 .1 .0) (qs .1 .1 .1 .1 .1 .0)
+
+        abbrev l1 : Row.Entry
+        l1 = (1, Relend.mslice-owed RelayPending.row ref6 0 6 life0)
+
+        abbrev l2 : Row.Entry
+        l2 = (2, Relend.mslice-owed RelayCircuit.row ref7 1 7 life1)
+
+        abbrev l3 : Row.Entry
+        l3 = (3, Relend.mslice-owed ReservationUsage.row ref8 2 8 life2)
+
+        abbrev l4 : Row.Entry
+        l4 = (4, Relend.mslice-owed InflightAction.row ref9 3 9 life3)
+
+        abbrev l5 : Row.Entry
+        l5 = (5, Relend.mslice-owed (Referent.rtF (Referent.fInt Syntax.w32)) ref10 4 10 life4)
+
+        abbrev l1·1 : Row.Entry
+        l1·1 = (1, Relend.mslice-owed RelayPending.row ref6 0 11 life0)
+
+        abbrev l2·1 : Row.Entry
+        l2·1 = (2, Relend.mslice-owed RelayCircuit.row ref7 1 12 life1)
+
+        abbrev l3·1 : Row.Entry
+        l3·1 = (3, Relend.mslice-owed ReservationUsage.row ref8 2 13 life2)
+
+        abbrev l4·1 : Row.Entry
+        l4·1 = (4, Relend.mslice-owed InflightAction.row ref9 3 14 life3)
+
+        abbrev l5·1 : Row.Entry
+        l5·1 = (5, Relend.mslice-owed (Referent.rtF (Referent.fInt Syntax.w32)) ref10 4 15 life4)
+
         abbrev g4 : List.List Row.Entry
-        g4 = (0, Rows.any-gone (Syntax.tyInt Syntax.w64)) ∷ (1, Relend.mslice-owed RelayPending.row ref6 0 6 life0,) ∷ (2, Mut.mslice RelayCircuit.row
-            ref7 1,) ∷ (3, Mut.mslice ReservationUsage.row ref8 2,) ∷ (4, Mut.mslice InflightAction.row ref9 3,) ∷ (5, Mut.mslice (Referent.rtF
-            (Referent.fInt Syntax.w32)) ref10 4,) ∷ (6, Rows.sslice (Referent.rtF (Referent.fInt Syntax.w8)) ref11 5,) ∷ (7, Rows.whole (Declared'.row
-            Script.the-type)) ∷ (8, Rows.any-gone Laws''.mir,) ∷ (9, Rows.any-gone Laws'.mir,) ∷ (10, Rows.any-gone (Syntax.tyInt Syntax.w64)) ∷ (11,
-            Rows.any-gone (Syntax.tyInt Syntax.w64),) ∷ (12, Relend.msptr RelayPending.row ref0 6,) ∷ (13, Rows.any-gone (Syntax.tyStruct (38 ∷ 91 ∷
-            93 ∷ List.[]) (Syntax.tcons ref0 (Syntax.tcons (Syntax.tyInt Syntax.w64) Syntax.tnil))),) ∷ (14, Rows.any-gone ref1,) ∷ (15, Rows.any-gone
-            (Syntax.tyStruct (38 ∷ 91 ∷ 93 ∷ List.[]) (Syntax.tcons ref1 (Syntax.tcons (Syntax.tyInt Syntax.w64) Syntax.tnil))),) ∷ List.[]
+        g4 = e0 ∷ l1 ∷ e2 ∷ e3 ∷ e4 ∷ e5 ∷ e6 ∷ e7 ∷ e8 ∷ e9 ∷ e10 ∷ e11 ∷ e12·1 ∷ e13 ∷ e14 ∷ e15 ∷ List.[]
+
         abbrev g5 : List.List Row.Entry
-        g5 = (0, Rows.any-gone (Syntax.tyInt Syntax.w64)) ∷ (1, Relend.mslice-owed RelayPending.row ref6 0 6 life0,) ∷ (2, Mut.mslice RelayCircuit.row
-            ref7 1,) ∷ (3, Mut.mslice ReservationUsage.row ref8 2,) ∷ (4, Mut.mslice InflightAction.row ref9 3,) ∷ (5, Mut.mslice (Referent.rtF
-            (Referent.fInt Syntax.w32)) ref10 4,) ∷ (6, Rows.sslice (Referent.rtF (Referent.fInt Syntax.w8)) ref11 5,) ∷ (7, Rows.whole (Declared'.row
-            Script.the-type)) ∷ (8, Rows.any-gone Laws''.mir,) ∷ (9, Rows.any-gone Laws'.mir,) ∷ (10, Rows.any-gone (Syntax.tyInt Syntax.w64)) ∷ (11,
-            Rows.any-gone (Syntax.tyInt Syntax.w64),) ∷ (12, Rows.any-gone ref0,) ∷ (13, Mut.mslice RelayPending.row ref0 6,) ∷ (14, Rows.any-gone
-            ref1,) ∷ (15, Rows.any-gone (Syntax.tyStruct (38 ∷ 91 ∷ 93 ∷ List.[]) (Syntax.tcons ref1 (Syntax.tcons (Syntax.tyInt Syntax.w64)
-            Syntax.tnil))),) ∷ List.[]
+        g5 = e0 ∷ l1 ∷ e2 ∷ e3 ∷ e4 ∷ e5 ∷ e6 ∷ e7 ∷ e8 ∷ e9 ∷ e10 ∷ e11 ∷ e12 ∷ e13·1 ∷ e14 ∷ e15 ∷ List.[]
+
         abbrev g6 : List.List Row.Entry
-        g6 = (0, Rows.any-gone (Syntax.tyInt Syntax.w64)) ∷ (1, Relend.mslice-owed RelayPending.row ref6 0 6 life0,) ∷ (2, Relend.mslice-owed
-            RelayCircuit.row ref7 1 7 life1,) ∷ (3, Mut.mslice ReservationUsage.row ref8 2,) ∷ (4, Mut.mslice InflightAction.row ref9 3,) ∷ (5,
-            Mut.mslice (Referent.rtF (Referent.fInt Syntax.w32)) ref10 4,) ∷ (6, Rows.sslice (Referent.rtF (Referent.fInt Syntax.w8)) ref11 5,) ∷ (7,
-            Rows.whole (Declared'.row Script.the-type)) ∷ (8, Rows.any-gone Laws''.mir,) ∷ (9, Rows.any-gone Laws'.mir,) ∷ (10, Rows.any-gone
-            (Syntax.tyInt Syntax.w64)) ∷ (11, Rows.any-gone (Syntax.tyInt Syntax.w64),) ∷ (12, Rows.any-gone ref0,) ∷ (13, Mut.mslice RelayPending.row
-            ref0 6,) ∷ (14, Relend.msptr RelayCircuit.row ref1 7,) ∷ (15, Rows.any-gone (Syntax.tyStruct (38 ∷ 91 ∷ 93 ∷ List.[]) (Syntax.tcons ref1
-            (Syntax.tcons (Syntax.tyInt Syntax.w64) Syntax.tnil))),) ∷ List.[]
+        g6 = e0 ∷ l1 ∷ l2 ∷ e3 ∷ e4 ∷ e5 ∷ e6 ∷ e7 ∷ e8 ∷ e9 ∷ e10 ∷ e11 ∷ e12 ∷ e13·1 ∷ e14·1 ∷ e15 ∷ List.[]
+
         abbrev g7 : List.List Row.Entry
-        g7 = (0, Rows.any-gone (Syntax.tyInt Syntax.w64)) ∷ (1, Relend.mslice-owed RelayPending.row ref6 0 6 life0,) ∷ (2, Relend.mslice-owed
-            RelayCircuit.row ref7 1 7 life1,) ∷ (3, Mut.mslice ReservationUsage.row ref8 2,) ∷ (4, Mut.mslice InflightAction.row ref9 3,) ∷ (5,
-            Mut.mslice (Referent.rtF (Referent.fInt Syntax.w32)) ref10 4,) ∷ (6, Rows.sslice (Referent.rtF (Referent.fInt Syntax.w8)) ref11 5,) ∷ (7,
-            Rows.whole (Declared'.row Script.the-type)) ∷ (8, Rows.any-gone Laws''.mir,) ∷ (9, Rows.any-gone Laws'.mir,) ∷ (10, Rows.any-gone
-            (Syntax.tyInt Syntax.w64)) ∷ (11, Rows.any-gone (Syntax.tyInt Syntax.w64),) ∷ (12, Rows.any-gone ref0,) ∷ (13, Mut.mslice RelayPending.row
-            ref0 6,) ∷ (14, Rows.any-gone ref1,) ∷ (15, Mut.mslice RelayCircuit.row ref1 7,) ∷ List.[]
+        g7 = e0 ∷ l1 ∷ l2 ∷ e3 ∷ e4 ∷ e5 ∷ e6 ∷ e7 ∷ e8 ∷ e9 ∷ e10 ∷ e11 ∷ e12 ∷ e13·1 ∷ e14 ∷ e15·1 ∷ List.[]
+
         abbrev g8 : List.List Row.Entry
-        g8 = (0, Rows.any-gone (Syntax.tyInt Syntax.w64)) ∷ (1, Relend.mslice-owed RelayPending.row ref6 0 6 life0,) ∷ (2, Relend.mslice-owed
-            RelayCircuit.row ref7 1 7 life1,) ∷ (3, Relend.mslice-owed ReservationUsage.row ref8 2 8 life2,) ∷ (4, Mut.mslice InflightAction.row ref9
-            3,) ∷ (5, Mut.mslice (Referent.rtF (Referent.fInt Syntax.w32)) ref10 4,) ∷ (6, Rows.sslice (Referent.rtF (Referent.fInt Syntax.w8)) ref11
-            5,) ∷ (7, Rows.whole (Declared'.row Script.the-type)) ∷ (8, Rows.any-gone Laws''.mir,) ∷ (9, Rows.any-gone Laws'.mir,) ∷ (10,
-            Rows.any-gone (Syntax.tyInt Syntax.w64)) ∷ (11, Rows.any-gone (Syntax.tyInt Syntax.w64),) ∷ (12, Rows.any-gone ref0,) ∷ (13, Mut.mslice
-            RelayPending.row ref0 6,) ∷ (14, Rows.any-gone ref1,) ∷ (15, Mut.mslice RelayCircuit.row ref1 7,) ∷ List.[]
+        g8 = e0 ∷ l1 ∷ l2 ∷ l3 ∷ e4 ∷ e5 ∷ e6 ∷ e7 ∷ e8 ∷ e9 ∷ e10 ∷ e11 ∷ e12 ∷ e13·1 ∷ e14 ∷ e15·1 ∷ List.[]
+
         abbrev g11 : List.List Row.Entry
-        g11 = (0, Rows.any-gone (Syntax.tyInt Syntax.w64)) ∷ (1, Relend.mslice-owed RelayPending.row ref6 0 6 life0,) ∷ (2, Relend.mslice-owed
-            RelayCircuit.row ref7 1 7 life1,) ∷ (3, Relend.mslice-owed ReservationUsage.row ref8 2 8 life2,) ∷ (4, Relend.mslice-owed
-            InflightAction.row ref9 3 9 life3,) ∷ (5, Mut.mslice (Referent.rtF (Referent.fInt Syntax.w32)) ref10 4,) ∷ (6, Rows.sslice (Referent.rtF
-            (Referent.fInt Syntax.w8)) ref11 5,) ∷ (7, Rows.whole (Declared'.row Script.the-type)) ∷ (8, Rows.any-gone Laws''.mir,) ∷ (9,
-            Rows.any-gone Laws'.mir,) ∷ (10, Rows.any-gone (Syntax.tyInt Syntax.w64)) ∷ (11, Rows.any-gone (Syntax.tyInt Syntax.w64),) ∷ (12,
-            Rows.any-gone ref0,) ∷ (13, Mut.mslice RelayPending.row ref0 6,) ∷ (14, Rows.any-gone ref1,) ∷ (15, Mut.mslice RelayCircuit.row ref1 7,) ∷
-            List.[]
+        g11 = e0 ∷ l1 ∷ l2 ∷ l3 ∷ l4 ∷ e5 ∷ e6 ∷ e7 ∷ e8 ∷ e9 ∷ e10 ∷ e11 ∷ e12 ∷ e13·1 ∷ e14 ∷ e15·1 ∷ List.[]
+
         abbrev g14 : List.List Row.Entry
-        g14 = (0, Rows.any-gone (Syntax.tyInt Syntax.w64)) ∷ (1, Relend.mslice-owed RelayPending.row ref6 0 6 life0,) ∷ (2, Relend.mslice-owed
-            RelayCircuit.row ref7 1 7 life1,) ∷ (3, Relend.mslice-owed ReservationUsage.row ref8 2 8 life2,) ∷ (4, Relend.mslice-owed
-            InflightAction.row ref9 3 9 life3,) ∷ (5, Relend.mslice-owed (Referent.rtF (Referent.fInt Syntax.w32)) ref10 4 10 life4,) ∷ (6,
-            Rows.sslice (Referent.rtF (Referent.fInt Syntax.w8)) ref11 5,) ∷ (7, Rows.whole (Declared'.row Script.the-type)) ∷ (8, Rows.any-gone
-            Laws''.mir,) ∷ (9, Rows.any-gone Laws'.mir,) ∷ (10, Rows.any-gone (Syntax.tyInt Syntax.w64)) ∷ (11, Rows.any-gone (Syntax.tyInt
-            Syntax.w64),) ∷ (12, Rows.any-gone ref0,) ∷ (13, Mut.mslice RelayPending.row ref0 6,) ∷ (14, Rows.any-gone ref1,) ∷ (15, Mut.mslice
-            RelayCircuit.row ref1 7,) ∷ List.[]
+        g14 = e0 ∷ l1 ∷ l2 ∷ l3 ∷ l4 ∷ l5 ∷ e6 ∷ e7 ∷ e8 ∷ e9 ∷ e10 ∷ e11 ∷ e12 ∷ e13·1 ∷ e14 ∷ e15·1 ∷ List.[]
+
         abbrev g17 : List.List Row.Entry
-        g17 = (0, Rows.any-gone (Syntax.tyInt Syntax.w64)) ∷ (1, Relend.mslice-owed RelayPending.row ref6 0 6 life0,) ∷ (2, Relend.mslice-owed
-            RelayCircuit.row ref7 1 7 life1,) ∷ (3, Relend.mslice-owed ReservationUsage.row ref8 2 8 life2,) ∷ (4, Relend.mslice-owed
-            InflightAction.row ref9 3 9 life3,) ∷ (5, Relend.mslice-owed (Referent.rtF (Referent.fInt Syntax.w32)) ref10 4 10 life4,) ∷ (6,
-            Rows.sslice (Referent.rtF (Referent.fInt Syntax.w8)) ref11 5,) ∷ (7, Rows.whole (Declared'.row Script.the-type)) ∷ (8, Rows.whole
-            (Declared'.row Relayed.the-type),) ∷ (9, Rows.any-gone Laws'.mir,) ∷ (10, Rows.any-gone (Syntax.tyInt Syntax.w64)) ∷ (11, Rows.any-gone
-            (Syntax.tyInt Syntax.w64),) ∷ (12, Rows.any-gone ref0,) ∷ (13, Mut.msleft RelayPending.row ref0,) ∷ (14, Rows.any-gone ref1,) ∷ (15,
-            Mut.msleft RelayCircuit.row ref1,) ∷ List.[]
+        g17 = e0 ∷ l1 ∷ l2 ∷ l3 ∷ l4 ∷ l5 ∷ e6 ∷ e7 ∷ e8·1 ∷ e9 ∷ e10 ∷ e11 ∷ e12 ∷ e13·2 ∷ e14 ∷ e15·2 ∷ List.[]
+
         abbrev g19 : List.List Row.Entry
-        g19 = (0, Rows.any-gone (Syntax.tyInt Syntax.w64)) ∷ (1, Mut.mslice RelayPending.row ref6 0,) ∷ (2, Relend.mslice-owed RelayCircuit.row ref7 1
-            7 life1,) ∷ (3, Relend.mslice-owed ReservationUsage.row ref8 2 8 life2,) ∷ (4, Relend.mslice-owed InflightAction.row ref9 3 9 life3,) ∷
-            (5, Relend.mslice-owed (Referent.rtF (Referent.fInt Syntax.w32)) ref10 4 10 life4,) ∷ (6, Rows.sslice (Referent.rtF (Referent.fInt
-            Syntax.w8)) ref11 5,) ∷ (7, Rows.whole (Declared'.row Script.the-type)) ∷ (8, Rows.whole (Declared'.row Relayed.the-type),) ∷ (9,
-            Rows.any-gone Laws'.mir,) ∷ (10, Rows.any-gone (Syntax.tyInt Syntax.w64)) ∷ (11, Rows.any-gone (Syntax.tyInt Syntax.w64),) ∷ (12,
-            Rows.any-gone ref0,) ∷ (13, Rows.any-gone (Syntax.tyStruct (38 ∷ 91 ∷ 93 ∷ List.[]) (Syntax.tcons ref0 (Syntax.tcons (Syntax.tyInt
-            Syntax.w64) Syntax.tnil))),) ∷ (14, Rows.any-gone ref1,) ∷ (15, Mut.msleft RelayCircuit.row ref1,) ∷ List.[]
+        g19 = e0 ∷ e1 ∷ l2 ∷ l3 ∷ l4 ∷ l5 ∷ e6 ∷ e7 ∷ e8·1 ∷ e9 ∷ e10 ∷ e11 ∷ e12 ∷ e13 ∷ e14 ∷ e15·2 ∷ List.[]
+
         abbrev g20 : List.List Row.Entry
-        g20 = (0, Rows.any-gone (Syntax.tyInt Syntax.w64)) ∷ (1, Mut.mslice RelayPending.row ref6 0,) ∷ (2, Mut.mslice RelayCircuit.row ref7 1,) ∷ (3,
-            Relend.mslice-owed ReservationUsage.row ref8 2 8 life2,) ∷ (4, Relend.mslice-owed InflightAction.row ref9 3 9 life3,) ∷ (5,
-            Relend.mslice-owed (Referent.rtF (Referent.fInt Syntax.w32)) ref10 4 10 life4,) ∷ (6, Rows.sslice (Referent.rtF (Referent.fInt Syntax.w8))
-            ref11 5,) ∷ (7, Rows.whole (Declared'.row Script.the-type)) ∷ (8, Rows.whole (Declared'.row Relayed.the-type),) ∷ (9, Rows.any-gone
-            Laws'.mir,) ∷ (10, Rows.any-gone (Syntax.tyInt Syntax.w64)) ∷ (11, Rows.any-gone (Syntax.tyInt Syntax.w64),) ∷ (12, Rows.any-gone ref0,) ∷
-            (13, Rows.any-gone (Syntax.tyStruct (38 ∷ 91 ∷ 93 ∷ List.[]) (Syntax.tcons ref0 (Syntax.tcons (Syntax.tyInt Syntax.w64) Syntax.tnil))),) ∷
-            (14, Rows.any-gone ref1,) ∷ (15, Rows.any-gone (Syntax.tyStruct (38 ∷ 91 ∷ 93 ∷ List.[]) (Syntax.tcons ref1 (Syntax.tcons (Syntax.tyInt
-            Syntax.w64) Syntax.tnil))),) ∷ List.[]
+        g20 = e0 ∷ e1 ∷ e2 ∷ l3 ∷ l4 ∷ l5 ∷ e6 ∷ e7 ∷ e8·1 ∷ e9 ∷ e10 ∷ e11 ∷ e12 ∷ e13 ∷ e14 ∷ e15 ∷ List.[]
+
         abbrev g21 : List.List Row.Entry
-        g21 = (0, Rows.any-gone (Syntax.tyInt Syntax.w64)) ∷ (1, Mut.mslice RelayPending.row ref6 0,) ∷ (2, Mut.mslice RelayCircuit.row ref7 1,) ∷ (3,
-            Mut.mslice ReservationUsage.row ref8 2,) ∷ (4, Relend.mslice-owed InflightAction.row ref9 3 9 life3,) ∷ (5, Relend.mslice-owed
-            (Referent.rtF (Referent.fInt Syntax.w32)) ref10 4 10 life4,) ∷ (6, Rows.sslice (Referent.rtF (Referent.fInt Syntax.w8)) ref11 5,) ∷ (7,
-            Rows.whole (Declared'.row Script.the-type)) ∷ (8, Rows.whole (Declared'.row Relayed.the-type),) ∷ (9, Rows.any-gone Laws'.mir,) ∷ (10,
-            Rows.any-gone (Syntax.tyInt Syntax.w64)) ∷ (11, Rows.any-gone (Syntax.tyInt Syntax.w64),) ∷ (12, Rows.any-gone ref0,) ∷ (13, Rows.any-gone
-            (Syntax.tyStruct (38 ∷ 91 ∷ 93 ∷ List.[]) (Syntax.tcons ref0 (Syntax.tcons (Syntax.tyInt Syntax.w64) Syntax.tnil))),) ∷ (14, Rows.any-gone
-            ref1,) ∷ (15, Rows.any-gone (Syntax.tyStruct (38 ∷ 91 ∷ 93 ∷ List.[]) (Syntax.tcons ref1 (Syntax.tcons (Syntax.tyInt Syntax.w64)
-            Syntax.tnil))),) ∷ List.[]
+        g21 = e0 ∷ e1 ∷ e2 ∷ e3 ∷ l4 ∷ l5 ∷ e6 ∷ e7 ∷ e8·1 ∷ e9 ∷ e10 ∷ e11 ∷ e12 ∷ e13 ∷ e14 ∷ e15 ∷ List.[]
+
         abbrev g23 : List.List Row.Entry
-        g23 = (0, Rows.any-gone (Syntax.tyInt Syntax.w64)) ∷ (1, Mut.mslice RelayPending.row ref6 0,) ∷ (2, Mut.mslice RelayCircuit.row ref7 1,) ∷ (3,
-            Mut.mslice ReservationUsage.row ref8 2,) ∷ (4, Mut.mslice InflightAction.row ref9 3,) ∷ (5, Relend.mslice-owed (Referent.rtF
-            (Referent.fInt Syntax.w32)) ref10 4 10 life4,) ∷ (6, Rows.sslice (Referent.rtF (Referent.fInt Syntax.w8)) ref11 5,) ∷ (7, Rows.whole
-            (Declared'.row Script.the-type)) ∷ (8, Rows.whole (Declared'.row Relayed.the-type),) ∷ (9, Rows.any-gone Laws'.mir,) ∷ (10, Rows.any-gone
-            (Syntax.tyInt Syntax.w64)) ∷ (11, Rows.any-gone (Syntax.tyInt Syntax.w64),) ∷ (12, Rows.any-gone ref0,) ∷ (13, Rows.any-gone
-            (Syntax.tyStruct (38 ∷ 91 ∷ 93 ∷ List.[]) (Syntax.tcons ref0 (Syntax.tcons (Syntax.tyInt Syntax.w64) Syntax.tnil))),) ∷ (14, Rows.any-gone
-            ref1,) ∷ (15, Rows.any-gone (Syntax.tyStruct (38 ∷ 91 ∷ 93 ∷ List.[]) (Syntax.tcons ref1 (Syntax.tcons (Syntax.tyInt Syntax.w64)
-            Syntax.tnil))),) ∷ List.[]
+        g23 = e0 ∷ e1 ∷ e2 ∷ e3 ∷ e4 ∷ l5 ∷ e6 ∷ e7 ∷ e8·1 ∷ e9 ∷ e10 ∷ e11 ∷ e12 ∷ e13 ∷ e14 ∷ e15 ∷ List.[]
+
         abbrev g37 : List.List Row.Entry
-        g37 = (0, Rows.any-gone (Syntax.tyInt Syntax.w64)) ∷ (1, Relend.mslice-owed RelayPending.row ref6 0 11 life0,) ∷ (2, Mut.mslice
-            RelayCircuit.row ref7 1,) ∷ (3, Mut.mslice ReservationUsage.row ref8 2,) ∷ (4, Mut.mslice InflightAction.row ref9 3,) ∷ (5, Mut.mslice
-            (Referent.rtF (Referent.fInt Syntax.w32)) ref10 4,) ∷ (6, Rows.sslice (Referent.rtF (Referent.fInt Syntax.w8)) ref11 5,) ∷ (7, Rows.whole
-            (Declared'.row Script.the-type)) ∷ (8, Rows.whole (Declared'.row Relayed.the-type),) ∷ (9, Rows.any-gone Laws'.mir,) ∷ (10, Rows.sc-here
-            (Row.sInt Syntax.w64)) ∷ (11, Rows.sc-here (Row.sInt Syntax.w64),) ∷ (12, Rows.any-gone ref0,) ∷ (13, Rows.any-gone (Syntax.tyStruct (38 ∷
-            91 ∷ 93 ∷ List.[]) (Syntax.tcons ref0 (Syntax.tcons (Syntax.tyInt Syntax.w64) Syntax.tnil))),) ∷ (14, Rows.any-gone ref1,) ∷ (15,
-            Rows.any-gone (Syntax.tyStruct (38 ∷ 91 ∷ 93 ∷ List.[]) (Syntax.tcons ref1 (Syntax.tcons (Syntax.tyInt Syntax.w64) Syntax.tnil))),) ∷
-            List.[]
+        g37 = e0 ∷ l1·1 ∷ e2 ∷ e3 ∷ e4 ∷ e5 ∷ e6 ∷ e7 ∷ e8·1 ∷ e9 ∷ e10·1 ∷ e11·1 ∷ e12 ∷ e13 ∷ e14 ∷ e15 ∷ List.[]
+
         abbrev g40 : List.List Row.Entry
-        g40 = (0, Rows.any-gone (Syntax.tyInt Syntax.w64)) ∷ (1, Relend.mslice-owed RelayPending.row ref6 0 11 life0,) ∷ (2, Relend.mslice-owed
-            RelayCircuit.row ref7 1 12 life1,) ∷ (3, Mut.mslice ReservationUsage.row ref8 2,) ∷ (4, Mut.mslice InflightAction.row ref9 3,) ∷ (5,
-            Mut.mslice (Referent.rtF (Referent.fInt Syntax.w32)) ref10 4,) ∷ (6, Rows.sslice (Referent.rtF (Referent.fInt Syntax.w8)) ref11 5,) ∷ (7,
-            Rows.whole (Declared'.row Script.the-type)) ∷ (8, Rows.whole (Declared'.row Relayed.the-type),) ∷ (9, Rows.any-gone Laws'.mir,) ∷ (10,
-            Rows.sc-here (Row.sInt Syntax.w64)) ∷ (11, Rows.sc-here (Row.sInt Syntax.w64),) ∷ (12, Rows.any-gone ref0,) ∷ (13, Rows.any-gone
-            (Syntax.tyStruct (38 ∷ 91 ∷ 93 ∷ List.[]) (Syntax.tcons ref0 (Syntax.tcons (Syntax.tyInt Syntax.w64) Syntax.tnil))),) ∷ (14, Rows.any-gone
-            ref1,) ∷ (15, Rows.any-gone (Syntax.tyStruct (38 ∷ 91 ∷ 93 ∷ List.[]) (Syntax.tcons ref1 (Syntax.tcons (Syntax.tyInt Syntax.w64)
-            Syntax.tnil))),) ∷ List.[]
+        g40 = e0 ∷ l1·1 ∷ l2·1 ∷ e3 ∷ e4 ∷ e5 ∷ e6 ∷ e7 ∷ e8·1 ∷ e9 ∷ e10·1 ∷ e11·1 ∷ e12 ∷ e13 ∷ e14 ∷ e15 ∷ List.[]
+
         abbrev g43 : List.List Row.Entry
-        g43 = (0, Rows.any-gone (Syntax.tyInt Syntax.w64)) ∷ (1, Relend.mslice-owed RelayPending.row ref6 0 11 life0,) ∷ (2, Relend.mslice-owed
-            RelayCircuit.row ref7 1 12 life1,) ∷ (3, Relend.mslice-owed ReservationUsage.row ref8 2 13 life2,) ∷ (4, Mut.mslice InflightAction.row
-            ref9 3,) ∷ (5, Mut.mslice (Referent.rtF (Referent.fInt Syntax.w32)) ref10 4,) ∷ (6, Rows.sslice (Referent.rtF (Referent.fInt Syntax.w8))
-            ref11 5,) ∷ (7, Rows.whole (Declared'.row Script.the-type)) ∷ (8, Rows.whole (Declared'.row Relayed.the-type),) ∷ (9, Rows.any-gone
-            Laws'.mir,) ∷ (10, Rows.sc-here (Row.sInt Syntax.w64)) ∷ (11, Rows.sc-here (Row.sInt Syntax.w64),) ∷ (12, Rows.any-gone ref0,) ∷ (13,
-            Rows.any-gone (Syntax.tyStruct (38 ∷ 91 ∷ 93 ∷ List.[]) (Syntax.tcons ref0 (Syntax.tcons (Syntax.tyInt Syntax.w64) Syntax.tnil))),) ∷ (14,
-            Rows.any-gone ref1,) ∷ (15, Rows.any-gone (Syntax.tyStruct (38 ∷ 91 ∷ 93 ∷ List.[]) (Syntax.tcons ref1 (Syntax.tcons (Syntax.tyInt
-            Syntax.w64) Syntax.tnil))),) ∷ List.[]
+        g43 = e0 ∷ l1·1 ∷ l2·1 ∷ l3·1 ∷ e4 ∷ e5 ∷ e6 ∷ e7 ∷ e8·1 ∷ e9 ∷ e10·1 ∷ e11·1 ∷ e12 ∷ e13 ∷ e14 ∷ e15 ∷ List.[]
+
         abbrev g46 : List.List Row.Entry
-        g46 = (0, Rows.any-gone (Syntax.tyInt Syntax.w64)) ∷ (1, Relend.mslice-owed RelayPending.row ref6 0 11 life0,) ∷ (2, Relend.mslice-owed
-            RelayCircuit.row ref7 1 12 life1,) ∷ (3, Relend.mslice-owed ReservationUsage.row ref8 2 13 life2,) ∷ (4, Relend.mslice-owed
-            InflightAction.row ref9 3 14 life3,) ∷ (5, Mut.mslice (Referent.rtF (Referent.fInt Syntax.w32)) ref10 4,) ∷ (6, Rows.sslice (Referent.rtF
-            (Referent.fInt Syntax.w8)) ref11 5,) ∷ (7, Rows.whole (Declared'.row Script.the-type)) ∷ (8, Rows.whole (Declared'.row Relayed.the-type),)
-            ∷ (9, Rows.any-gone Laws'.mir,) ∷ (10, Rows.sc-here (Row.sInt Syntax.w64)) ∷ (11, Rows.sc-here (Row.sInt Syntax.w64),) ∷ (12,
-            Rows.any-gone ref0,) ∷ (13, Rows.any-gone (Syntax.tyStruct (38 ∷ 91 ∷ 93 ∷ List.[]) (Syntax.tcons ref0 (Syntax.tcons (Syntax.tyInt
-            Syntax.w64) Syntax.tnil))),) ∷ (14, Rows.any-gone ref1,) ∷ (15, Rows.any-gone (Syntax.tyStruct (38 ∷ 91 ∷ 93 ∷ List.[]) (Syntax.tcons ref1
-            (Syntax.tcons (Syntax.tyInt Syntax.w64) Syntax.tnil))),) ∷ List.[]
+        g46 = e0 ∷ l1·1 ∷ l2·1 ∷ l3·1 ∷ l4·1 ∷ e5 ∷ e6 ∷ e7 ∷ e8·1 ∷ e9 ∷ e10·1 ∷ e11·1 ∷ e12 ∷ e13 ∷ e14 ∷ e15 ∷
+            List.[]
+
         abbrev g49 : List.List Row.Entry
-        g49 = (0, Rows.any-gone (Syntax.tyInt Syntax.w64)) ∷ (1, Relend.mslice-owed RelayPending.row ref6 0 11 life0,) ∷ (2, Relend.mslice-owed
-            RelayCircuit.row ref7 1 12 life1,) ∷ (3, Relend.mslice-owed ReservationUsage.row ref8 2 13 life2,) ∷ (4, Relend.mslice-owed
-            InflightAction.row ref9 3 14 life3,) ∷ (5, Relend.mslice-owed (Referent.rtF (Referent.fInt Syntax.w32)) ref10 4 15 life4,) ∷ (6,
-            Rows.sslice (Referent.rtF (Referent.fInt Syntax.w8)) ref11 5,) ∷ (7, Rows.whole (Declared'.row Script.the-type)) ∷ (8, Rows.whole
-            (Declared'.row Relayed.the-type),) ∷ (9, Rows.any-gone Laws'.mir,) ∷ (10, Rows.sc-here (Row.sInt Syntax.w64)) ∷ (11, Rows.sc-here
-            (Row.sInt Syntax.w64),) ∷ (12, Rows.any-gone ref0,) ∷ (13, Rows.any-gone (Syntax.tyStruct (38 ∷ 91 ∷ 93 ∷ List.[]) (Syntax.tcons ref0
-            (Syntax.tcons (Syntax.tyInt Syntax.w64) Syntax.tnil))),) ∷ (14, Rows.any-gone ref1,) ∷ (15, Rows.any-gone (Syntax.tyStruct (38 ∷ 91 ∷ 93 ∷
-            List.[]) (Syntax.tcons ref1 (Syntax.tcons (Syntax.tyInt Syntax.w64) Syntax.tnil))),) ∷ List.[]
+        g49 = e0 ∷ l1·1 ∷ l2·1 ∷ l3·1 ∷ l4·1 ∷ l5·1 ∷ e6 ∷ e7 ∷ e8·1 ∷ e9 ∷ e10·1 ∷ e11·1 ∷ e12 ∷ e13 ∷ e14 ∷ e15 ∷
+            List.[]
+
         abbrev g56 : List.List Row.Entry
-        g56 = (0, Rows.sc-here (Row.sInt Syntax.w64)) ∷ (1, Relend.mslice-owed RelayPending.row ref6 0 11 life0,) ∷ (2, Relend.mslice-owed
-            RelayCircuit.row ref7 1 12 life1,) ∷ (3, Relend.mslice-owed ReservationUsage.row ref8 2 13 life2,) ∷ (4, Relend.mslice-owed
-            InflightAction.row ref9 3 14 life3,) ∷ (5, Relend.mslice-owed (Referent.rtF (Referent.fInt Syntax.w32)) ref10 4 15 life4,) ∷ (6,
-            Rows.sslice (Referent.rtF (Referent.fInt Syntax.w8)) ref11 5,) ∷ (7, Rows.whole (Declared'.row Script.the-type)) ∷ (8, Rows.whole
-            (Declared'.row Relayed.the-type),) ∷ (9, Rows.any-gone Laws'.mir,) ∷ (10, Rows.sc-here (Row.sInt Syntax.w64)) ∷ (11, Rows.sc-here
-            (Row.sInt Syntax.w64),) ∷ (12, Rows.any-gone ref0,) ∷ (13, Rows.any-gone (Syntax.tyStruct (38 ∷ 91 ∷ 93 ∷ List.[]) (Syntax.tcons ref0
-            (Syntax.tcons (Syntax.tyInt Syntax.w64) Syntax.tnil))),) ∷ (14, Rows.any-gone ref1,) ∷ (15, Rows.any-gone (Syntax.tyStruct (38 ∷ 91 ∷ 93 ∷
-            List.[]) (Syntax.tcons ref1 (Syntax.tcons (Syntax.tyInt Syntax.w64) Syntax.tnil))),) ∷ List.[]
+        g56 = e0·1 ∷ l1·1 ∷ l2·1 ∷ l3·1 ∷ l4·1 ∷ l5·1 ∷ e6 ∷ e7 ∷ e8·1 ∷ e9 ∷ e10·1 ∷ e11·1 ∷ e12 ∷ e13 ∷ e14 ∷ e15 ∷
+            List.[]
+
         abbrev g61 : List.List Row.Entry
-        g61 = (0, Rows.sc-here (Row.sInt Syntax.w64)) ∷ (1, Relend.mslice-owed RelayPending.row ref6 0 11 life0,) ∷ (2, Relend.mslice-owed
-            RelayCircuit.row ref7 1 12 life1,) ∷ (3, Relend.mslice-owed ReservationUsage.row ref8 2 13 life2,) ∷ (4, Relend.mslice-owed
-            InflightAction.row ref9 3 14 life3,) ∷ (5, Relend.mslice-owed (Referent.rtF (Referent.fInt Syntax.w32)) ref10 4 15 life4,) ∷ (6,
-            Rows.sslice (Referent.rtF (Referent.fInt Syntax.w8)) ref11 5,) ∷ (7, Rows.any-gone Laws.mir,) ∷ (8, Rows.whole (Declared'.row
-            Relayed.the-type)) ∷ (9, Rows.any-gone Laws'.mir,) ∷ (10, Rows.sc-here (Row.sInt Syntax.w64)) ∷ (11, Rows.sc-here (Row.sInt Syntax.w64),)
-            ∷ (12, Rows.any-gone ref0,) ∷ (13, Rows.any-gone (Syntax.tyStruct (38 ∷ 91 ∷ 93 ∷ List.[]) (Syntax.tcons ref0 (Syntax.tcons (Syntax.tyInt
-            Syntax.w64) Syntax.tnil))),) ∷ (14, Rows.any-gone ref1,) ∷ (15, Rows.any-gone (Syntax.tyStruct (38 ∷ 91 ∷ 93 ∷ List.[]) (Syntax.tcons ref1
-            (Syntax.tcons (Syntax.tyInt Syntax.w64) Syntax.tnil))),) ∷ List.[]
+        g61 = e0·1 ∷ l1·1 ∷ l2·1 ∷ l3·1 ∷ l4·1 ∷ l5·1 ∷ e6 ∷ e7·1 ∷ e8·1 ∷ e9 ∷ e10·1 ∷ e11·1 ∷ e12 ∷ e13 ∷ e14 ∷ e15 ∷
+            List.[]
+
         abbrev g62 : List.List Row.Entry
-        g62 = (0, Rows.sc-here (Row.sInt Syntax.w64)) ∷ (1, Relend.mslice-owed RelayPending.row ref6 0 11 life0,) ∷ (2, Relend.mslice-owed
-            RelayCircuit.row ref7 1 12 life1,) ∷ (3, Relend.mslice-owed ReservationUsage.row ref8 2 13 life2,) ∷ (4, Relend.mslice-owed
-            InflightAction.row ref9 3 14 life3,) ∷ (5, Relend.mslice-owed (Referent.rtF (Referent.fInt Syntax.w32)) ref10 4 15 life4,) ∷ (6,
-            Rows.sslice (Referent.rtF (Referent.fInt Syntax.w8)) ref11 5,) ∷ (7, Rows.any-gone Laws.mir,) ∷ (8, Rows.any-gone Laws''.mir,) ∷ (9,
-            Rows.any-gone Laws'.mir,) ∷ (10, Rows.sc-here (Row.sInt Syntax.w64)) ∷ (11, Rows.sc-here (Row.sInt Syntax.w64),) ∷ (12, Rows.any-gone
-            ref0,) ∷ (13, Rows.any-gone (Syntax.tyStruct (38 ∷ 91 ∷ 93 ∷ List.[]) (Syntax.tcons ref0 (Syntax.tcons (Syntax.tyInt Syntax.w64)
-            Syntax.tnil))),) ∷ (14, Rows.any-gone ref1,) ∷ (15, Rows.any-gone (Syntax.tyStruct (38 ∷ 91 ∷ 93 ∷ List.[]) (Syntax.tcons ref1
-            (Syntax.tcons (Syntax.tyInt Syntax.w64) Syntax.tnil))),) ∷ List.[]
+        g62 = e0·1 ∷ l1·1 ∷ l2·1 ∷ l3·1 ∷ l4·1 ∷ l5·1 ∷ e6 ∷ e7·1 ∷ e8 ∷ e9 ∷ e10·1 ∷ e11·1 ∷ e12 ∷ e13 ∷ e14 ∷ e15 ∷
+            List.[]
+
         abbrev g63 : List.List Row.Entry
-        g63 = (0, Rows.sc-here (Row.sInt Syntax.w64)) ∷ (1, Relend.mslice-owed RelayPending.row ref6 0 11 life0,) ∷ (2, Relend.mslice-owed
-            RelayCircuit.row ref7 1 12 life1,) ∷ (3, Relend.mslice-owed ReservationUsage.row ref8 2 13 life2,) ∷ (4, Relend.mslice-owed
-            InflightAction.row ref9 3 14 life3,) ∷ (5, Relend.mslice-owed (Referent.rtF (Referent.fInt Syntax.w32)) ref10 4 15 life4,) ∷ (6,
-            Rows.sslice (Referent.rtF (Referent.fInt Syntax.w8)) ref11 5,) ∷ (7, Rows.any-gone Laws.mir,) ∷ (8, Rows.any-gone Laws''.mir,) ∷ (9,
-            Rows.any-gone Laws'.mir,) ∷ (10, Rows.any-gone (Syntax.tyInt Syntax.w64)) ∷ (11, Rows.sc-here (Row.sInt Syntax.w64),) ∷ (12, Rows.any-gone
-            ref0,) ∷ (13, Rows.any-gone (Syntax.tyStruct (38 ∷ 91 ∷ 93 ∷ List.[]) (Syntax.tcons ref0 (Syntax.tcons (Syntax.tyInt Syntax.w64)
-            Syntax.tnil))),) ∷ (14, Rows.any-gone ref1,) ∷ (15, Rows.any-gone (Syntax.tyStruct (38 ∷ 91 ∷ 93 ∷ List.[]) (Syntax.tcons ref1
-            (Syntax.tcons (Syntax.tyInt Syntax.w64) Syntax.tnil))),) ∷ List.[]
+        g63 = e0·1 ∷ l1·1 ∷ l2·1 ∷ l3·1 ∷ l4·1 ∷ l5·1 ∷ e6 ∷ e7·1 ∷ e8 ∷ e9 ∷ e10 ∷ e11·1 ∷ e12 ∷ e13 ∷ e14 ∷ e15 ∷
+            List.[]
+
         abbrev g64 : List.List Row.Entry
-        g64 = (0, Rows.sc-here (Row.sInt Syntax.w64)) ∷ (1, Relend.mslice-owed RelayPending.row ref6 0 11 life0,) ∷ (2, Relend.mslice-owed
-            RelayCircuit.row ref7 1 12 life1,) ∷ (3, Relend.mslice-owed ReservationUsage.row ref8 2 13 life2,) ∷ (4, Relend.mslice-owed
-            InflightAction.row ref9 3 14 life3,) ∷ (5, Relend.mslice-owed (Referent.rtF (Referent.fInt Syntax.w32)) ref10 4 15 life4,) ∷ (6,
-            Rows.sslice (Referent.rtF (Referent.fInt Syntax.w8)) ref11 5,) ∷ (7, Rows.any-gone Laws.mir,) ∷ (8, Rows.any-gone Laws''.mir,) ∷ (9,
-            Rows.any-gone Laws'.mir,) ∷ (10, Rows.any-gone (Syntax.tyInt Syntax.w64)) ∷ (11, Rows.any-gone (Syntax.tyInt Syntax.w64),) ∷ (12,
-            Rows.any-gone ref0,) ∷ (13, Rows.any-gone (Syntax.tyStruct (38 ∷ 91 ∷ 93 ∷ List.[]) (Syntax.tcons ref0 (Syntax.tcons (Syntax.tyInt
-            Syntax.w64) Syntax.tnil))),) ∷ (14, Rows.any-gone ref1,) ∷ (15, Rows.any-gone (Syntax.tyStruct (38 ∷ 91 ∷ 93 ∷ List.[]) (Syntax.tcons ref1
-            (Syntax.tcons (Syntax.tyInt Syntax.w64) Syntax.tnil))),) ∷ List.[]
+        g64 = e0·1 ∷ l1·1 ∷ l2·1 ∷ l3·1 ∷ l4·1 ∷ l5·1 ∷ e6 ∷ e7·1 ∷ e8 ∷ e9 ∷ e10 ∷ e11 ∷ e12 ∷ e13 ∷ e14 ∷ e15 ∷
+            List.[]
+
         abbrev g65 : List.List Row.Entry
-        g65 = (0, Rows.sc-here (Row.sInt Syntax.w64)) ∷ (1, Mut.mslice RelayPending.row ref6 0,) ∷ (2, Relend.mslice-owed RelayCircuit.row ref7 1 12
-            life1,) ∷ (3, Relend.mslice-owed ReservationUsage.row ref8 2 13 life2,) ∷ (4, Relend.mslice-owed InflightAction.row ref9 3 14 life3,) ∷
-            (5, Relend.mslice-owed (Referent.rtF (Referent.fInt Syntax.w32)) ref10 4 15 life4,) ∷ (6, Rows.sslice (Referent.rtF (Referent.fInt
-            Syntax.w8)) ref11 5,) ∷ (7, Rows.any-gone Laws.mir,) ∷ (8, Rows.any-gone Laws''.mir,) ∷ (9, Rows.any-gone Laws'.mir,) ∷ (10, Rows.any-gone
-            (Syntax.tyInt Syntax.w64)) ∷ (11, Rows.any-gone (Syntax.tyInt Syntax.w64),) ∷ (12, Rows.any-gone ref0,) ∷ (13, Rows.any-gone
-            (Syntax.tyStruct (38 ∷ 91 ∷ 93 ∷ List.[]) (Syntax.tcons ref0 (Syntax.tcons (Syntax.tyInt Syntax.w64) Syntax.tnil))),) ∷ (14, Rows.any-gone
-            ref1,) ∷ (15, Rows.any-gone (Syntax.tyStruct (38 ∷ 91 ∷ 93 ∷ List.[]) (Syntax.tcons ref1 (Syntax.tcons (Syntax.tyInt Syntax.w64)
-            Syntax.tnil))),) ∷ List.[]
+        g65 = e0·1 ∷ e1 ∷ l2·1 ∷ l3·1 ∷ l4·1 ∷ l5·1 ∷ e6 ∷ e7·1 ∷ e8 ∷ e9 ∷ e10 ∷ e11 ∷ e12 ∷ e13 ∷ e14 ∷ e15 ∷ List.[]
+
         abbrev g67 : List.List Row.Entry
-        g67 = (0, Rows.sc-here (Row.sInt Syntax.w64)) ∷ (1, Mut.mslice RelayPending.row ref6 0,) ∷ (2, Mut.mslice RelayCircuit.row ref7 1,) ∷ (3,
-            Relend.mslice-owed ReservationUsage.row ref8 2 13 life2,) ∷ (4, Relend.mslice-owed InflightAction.row ref9 3 14 life3,) ∷ (5,
-            Relend.mslice-owed (Referent.rtF (Referent.fInt Syntax.w32)) ref10 4 15 life4,) ∷ (6, Rows.sslice (Referent.rtF (Referent.fInt Syntax.w8))
-            ref11 5,) ∷ (7, Rows.any-gone Laws.mir,) ∷ (8, Rows.any-gone Laws''.mir,) ∷ (9, Rows.any-gone Laws'.mir,) ∷ (10, Rows.any-gone
-            (Syntax.tyInt Syntax.w64)) ∷ (11, Rows.any-gone (Syntax.tyInt Syntax.w64),) ∷ (12, Rows.any-gone ref0,) ∷ (13, Rows.any-gone
-            (Syntax.tyStruct (38 ∷ 91 ∷ 93 ∷ List.[]) (Syntax.tcons ref0 (Syntax.tcons (Syntax.tyInt Syntax.w64) Syntax.tnil))),) ∷ (14, Rows.any-gone
-            ref1,) ∷ (15, Rows.any-gone (Syntax.tyStruct (38 ∷ 91 ∷ 93 ∷ List.[]) (Syntax.tcons ref1 (Syntax.tcons (Syntax.tyInt Syntax.w64)
-            Syntax.tnil))),) ∷ List.[]
+        g67 = e0·1 ∷ e1 ∷ e2 ∷ l3·1 ∷ l4·1 ∷ l5·1 ∷ e6 ∷ e7·1 ∷ e8 ∷ e9 ∷ e10 ∷ e11 ∷ e12 ∷ e13 ∷ e14 ∷ e15 ∷ List.[]
+
         abbrev g69 : List.List Row.Entry
-        g69 = (0, Rows.sc-here (Row.sInt Syntax.w64)) ∷ (1, Mut.mslice RelayPending.row ref6 0,) ∷ (2, Mut.mslice RelayCircuit.row ref7 1,) ∷ (3,
-            Mut.mslice ReservationUsage.row ref8 2,) ∷ (4, Relend.mslice-owed InflightAction.row ref9 3 14 life3,) ∷ (5, Relend.mslice-owed
-            (Referent.rtF (Referent.fInt Syntax.w32)) ref10 4 15 life4,) ∷ (6, Rows.sslice (Referent.rtF (Referent.fInt Syntax.w8)) ref11 5,) ∷ (7,
-            Rows.any-gone Laws.mir,) ∷ (8, Rows.any-gone Laws''.mir,) ∷ (9, Rows.any-gone Laws'.mir,) ∷ (10, Rows.any-gone (Syntax.tyInt Syntax.w64))
-            ∷ (11, Rows.any-gone (Syntax.tyInt Syntax.w64),) ∷ (12, Rows.any-gone ref0,) ∷ (13, Rows.any-gone (Syntax.tyStruct (38 ∷ 91 ∷ 93 ∷
-            List.[]) (Syntax.tcons ref0 (Syntax.tcons (Syntax.tyInt Syntax.w64) Syntax.tnil))),) ∷ (14, Rows.any-gone ref1,) ∷ (15, Rows.any-gone
-            (Syntax.tyStruct (38 ∷ 91 ∷ 93 ∷ List.[]) (Syntax.tcons ref1 (Syntax.tcons (Syntax.tyInt Syntax.w64) Syntax.tnil))),) ∷ List.[]
+        g69 = e0·1 ∷ e1 ∷ e2 ∷ e3 ∷ l4·1 ∷ l5·1 ∷ e6 ∷ e7·1 ∷ e8 ∷ e9 ∷ e10 ∷ e11 ∷ e12 ∷ e13 ∷ e14 ∷ e15 ∷ List.[]
+
         abbrev g71 : List.List Row.Entry
-        g71 = (0, Rows.sc-here (Row.sInt Syntax.w64)) ∷ (1, Mut.mslice RelayPending.row ref6 0,) ∷ (2, Mut.mslice RelayCircuit.row ref7 1,) ∷ (3,
-            Mut.mslice ReservationUsage.row ref8 2,) ∷ (4, Mut.mslice InflightAction.row ref9 3,) ∷ (5, Relend.mslice-owed (Referent.rtF
-            (Referent.fInt Syntax.w32)) ref10 4 15 life4,) ∷ (6, Rows.sslice (Referent.rtF (Referent.fInt Syntax.w8)) ref11 5,) ∷ (7, Rows.any-gone
-            Laws.mir,) ∷ (8, Rows.any-gone Laws''.mir,) ∷ (9, Rows.any-gone Laws'.mir,) ∷ (10, Rows.any-gone (Syntax.tyInt Syntax.w64)) ∷ (11,
-            Rows.any-gone (Syntax.tyInt Syntax.w64),) ∷ (12, Rows.any-gone ref0,) ∷ (13, Rows.any-gone (Syntax.tyStruct (38 ∷ 91 ∷ 93 ∷ List.[])
-            (Syntax.tcons ref0 (Syntax.tcons (Syntax.tyInt Syntax.w64) Syntax.tnil))),) ∷ (14, Rows.any-gone ref1,) ∷ (15, Rows.any-gone
-            (Syntax.tyStruct (38 ∷ 91 ∷ 93 ∷ List.[]) (Syntax.tcons ref1 (Syntax.tcons (Syntax.tyInt Syntax.w64) Syntax.tnil))),) ∷ List.[]
+        g71 = e0·1 ∷ e1 ∷ e2 ∷ e3 ∷ e4 ∷ l5·1 ∷ e6 ∷ e7·1 ∷ e8 ∷ e9 ∷ e10 ∷ e11 ∷ e12 ∷ e13 ∷ e14 ∷ e15 ∷ List.[]
+
         abbrev G0 : Row.Cx
-        G0 = record { locals = List._++_ t0 (List._++_ t1 t2); slots = life0 ∷ life1 ∷ life2 ∷ life3 ∷ life4 ∷ life5 ∷ Row.off ∷ Row.off ∷ Row.off ∷
-            Row.off ∷ Row.off ∷ Row.off ∷ Row.off ∷ Row.off ∷ Row.off ∷ Row.off ∷ List.[]; }
+        G0 = record {
+          locals = List._++_ t0 (List._++_ t1 t2);
+          slots = life0 ∷ life1 ∷ life2 ∷ life3 ∷ life4 ∷ life5 ∷ Row.off ∷ Row.off ∷ Row.off ∷ Row.off ∷ Row.off ∷
+              Row.off ∷ Row.off ∷ Row.off ∷ Row.off ∷ Row.off ∷ List.[];
+        }
+
         abbrev G1 : Row.Cx
-        G1 = record { locals = List._++_ t3 (List._++_ t1 t2); slots = life0 ∷ life1 ∷ life2 ∷ life3 ∷ life4 ∷ life5 ∷ Row.off ∷ Row.off ∷ Row.off ∷
-            Row.off ∷ Row.off ∷ Row.off ∷ Row.off ∷ Row.off ∷ Row.off ∷ Row.off ∷ List.[]; }
+        G1 = record {
+          locals = List._++_ t3 (List._++_ t1 t2);
+          slots = life0 ∷ life1 ∷ life2 ∷ life3 ∷ life4 ∷ life5 ∷ Row.off ∷ Row.off ∷ Row.off ∷ Row.off ∷ Row.off ∷
+              Row.off ∷ Row.off ∷ Row.off ∷ Row.off ∷ Row.off ∷ List.[];
+        }
+
         abbrev G2 : Row.Cx
-        G2 = record { locals = List._++_ t0 (List._++_ t1 t2); slots = life0 ∷ life1 ∷ life2 ∷ life3 ∷ life4 ∷ life5 ∷ Row.off ∷ Row.off ∷ Row.off ∷
-            Row.off ∷ Row.off ∷ Row.off ∷ Row.off ∷ Row.off ∷ Row.off ∷ Row.off ∷ List.[]; }
+        G2 = record {
+          locals = List._++_ t0 (List._++_ t1 t2);
+          slots = life0 ∷ life1 ∷ life2 ∷ life3 ∷ life4 ∷ life5 ∷ Row.off ∷ Row.off ∷ Row.off ∷ Row.off ∷ Row.off ∷
+              Row.off ∷ Row.off ∷ Row.off ∷ Row.off ∷ Row.off ∷ List.[];
+        }
+
         abbrev G3 : Row.Cx
-        G3 = record { locals = List._++_ t0 (List._++_ t1 t2); slots = life0 ∷ life1 ∷ life2 ∷ life3 ∷ life4 ∷ life5 ∷ Row.off ∷ Row.off ∷ Row.off ∷
-            Row.off ∷ Row.off ∷ Row.off ∷ Row.off ∷ Row.off ∷ Row.off ∷ Row.off ∷ List.[]; }
+        G3 = record {
+          locals = List._++_ t0 (List._++_ t1 t2);
+          slots = life0 ∷ life1 ∷ life2 ∷ life3 ∷ life4 ∷ life5 ∷ Row.off ∷ Row.off ∷ Row.off ∷ Row.off ∷ Row.off ∷
+              Row.off ∷ Row.off ∷ Row.off ∷ Row.off ∷ Row.off ∷ List.[];
+        }
+
         abbrev G4 : Row.Cx
-        G4 = record { locals = List._++_ t0 (List._++_ t1 t2); slots = life0 ∷ life1 ∷ life2 ∷ life3 ∷ life4 ∷ life5 ∷ Row.alive ∷ Row.off ∷ Row.off ∷
-            Row.off ∷ Row.off ∷ Row.off ∷ Row.off ∷ Row.off ∷ Row.off ∷ Row.off ∷ List.[]; }
+        G4 = record {
+          locals = List._++_ t0 (List._++_ t1 t2);
+          slots = life0 ∷ life1 ∷ life2 ∷ life3 ∷ life4 ∷ life5 ∷ Row.alive ∷ Row.off ∷ Row.off ∷ Row.off ∷ Row.off ∷
+              Row.off ∷ Row.off ∷ Row.off ∷ Row.off ∷ Row.off ∷ List.[];
+        }
+
         abbrev G5 : Row.Cx
-        G5 = record { locals = List._++_ g4 (List._++_ t1 t2); slots = Row.off ∷ life1 ∷ life2 ∷ life3 ∷ life4 ∷ life5 ∷ Row.alive ∷ Row.off ∷ Row.off
-            ∷ Row.off ∷ Row.off ∷ Row.off ∷ Row.off ∷ Row.off ∷ Row.off ∷ Row.off ∷ List.[]; }
+        G5 = record {
+          locals = List._++_ g4 (List._++_ t1 t2);
+          slots = Row.off ∷ life1 ∷ life2 ∷ life3 ∷ life4 ∷ life5 ∷ Row.alive ∷ Row.off ∷ Row.off ∷ Row.off ∷ Row.off ∷
+              Row.off ∷ Row.off ∷ Row.off ∷ Row.off ∷ Row.off ∷ List.[];
+        }
+
         abbrev G6 : Row.Cx
-        G6 = record { locals = List._++_ g5 (List._++_ t1 t2); slots = Row.off ∷ life1 ∷ life2 ∷ life3 ∷ life4 ∷ life5 ∷ Row.alive ∷ Row.off ∷ Row.off
-            ∷ Row.off ∷ Row.off ∷ Row.off ∷ Row.off ∷ Row.off ∷ Row.off ∷ Row.off ∷ List.[]; }
+        G6 = record {
+          locals = List._++_ g5 (List._++_ t1 t2);
+          slots = Row.off ∷ life1 ∷ life2 ∷ life3 ∷ life4 ∷ life5 ∷ Row.alive ∷ Row.off ∷ Row.off ∷ Row.off ∷ Row.off ∷
+              Row.off ∷ Row.off ∷ Row.off ∷ Row.off ∷ Row.off ∷ List.[];
+        }
+
         abbrev G7 : Row.Cx
-        G7 = record { locals = List._++_ g5 (List._++_ t1 t2); slots = Row.off ∷ life1 ∷ life2 ∷ life3 ∷ life4 ∷ life5 ∷ Row.alive ∷ Row.alive ∷
-            Row.off ∷ Row.off ∷ Row.off ∷ Row.off ∷ Row.off ∷ Row.off ∷ Row.off ∷ Row.off ∷ List.[]; }
+        G7 = record {
+          locals = List._++_ g5 (List._++_ t1 t2);
+          slots = Row.off ∷ life1 ∷ life2 ∷ life3 ∷ life4 ∷ life5 ∷ Row.alive ∷ Row.alive ∷ Row.off ∷ Row.off ∷ Row.off
+              ∷ Row.off ∷ Row.off ∷ Row.off ∷ Row.off ∷ Row.off ∷ List.[];
+        }
+
         abbrev G8 : Row.Cx
-        G8 = record { locals = List._++_ g6 (List._++_ t1 t2); slots = Row.off ∷ Row.off ∷ life2 ∷ life3 ∷ life4 ∷ life5 ∷ Row.alive ∷ Row.alive ∷
-            Row.off ∷ Row.off ∷ Row.off ∷ Row.off ∷ Row.off ∷ Row.off ∷ Row.off ∷ Row.off ∷ List.[]; }
+        G8 = record {
+          locals = List._++_ g6 (List._++_ t1 t2);
+          slots = Row.off ∷ Row.off ∷ life2 ∷ life3 ∷ life4 ∷ life5 ∷ Row.alive ∷ Row.alive ∷ Row.off ∷ Row.off ∷
+              Row.off ∷ Row.off ∷ Row.off ∷ Row.off ∷ Row.off ∷ Row.off ∷ List.[];
+        }
+
         abbrev G9 : Row.Cx
-        G9 = record { locals = List._++_ g7 (List._++_ t1 t2); slots = Row.off ∷ Row.off ∷ life2 ∷ life3 ∷ life4 ∷ life5 ∷ Row.alive ∷ Row.alive ∷
-            Row.off ∷ Row.off ∷ Row.off ∷ Row.off ∷ Row.off ∷ Row.off ∷ Row.off ∷ Row.off ∷ List.[]; }
+        G9 = record {
+          locals = List._++_ g7 (List._++_ t1 t2);
+          slots = Row.off ∷ Row.off ∷ life2 ∷ life3 ∷ life4 ∷ life5 ∷ Row.alive ∷ Row.alive ∷ Row.off ∷ Row.off ∷
+              Row.off ∷ Row.off ∷ Row.off ∷ Row.off ∷ Row.off ∷ Row.off ∷ List.[];
+        }
+
         abbrev G10 : Row.Cx
-        G10 = record { locals = List._++_ g7 (List._++_ t1 t2); slots = Row.off ∷ Row.off ∷ life2 ∷ life3 ∷ life4 ∷ life5 ∷ Row.alive ∷ Row.alive ∷
-            Row.alive ∷ Row.off ∷ Row.off ∷ Row.off ∷ Row.off ∷ Row.off ∷ Row.off ∷ Row.off ∷ List.[]; }
+        G10 = record {
+          locals = List._++_ g7 (List._++_ t1 t2);
+          slots = Row.off ∷ Row.off ∷ life2 ∷ life3 ∷ life4 ∷ life5 ∷ Row.alive ∷ Row.alive ∷ Row.alive ∷ Row.off ∷
+              Row.off ∷ Row.off ∷ Row.off ∷ Row.off ∷ Row.off ∷ Row.off ∷ List.[];
+        }
+
         abbrev G11 : Row.Cx
-        G11 = record { locals = List._++_ g8 (List._++_ t9 t2); slots = Row.off ∷ Row.off ∷ Row.off ∷ life3 ∷ life4 ∷ life5 ∷ Row.alive ∷ Row.alive ∷
-            Row.alive ∷ Row.off ∷ Row.off ∷ Row.off ∷ Row.off ∷ Row.off ∷ Row.off ∷ Row.off ∷ List.[]; }
+        G11 = record {
+          locals = List._++_ g8 (List._++_ t9 t2);
+          slots = Row.off ∷ Row.off ∷ Row.off ∷ life3 ∷ life4 ∷ life5 ∷ Row.alive ∷ Row.alive ∷ Row.alive ∷ Row.off ∷
+              Row.off ∷ Row.off ∷ Row.off ∷ Row.off ∷ Row.off ∷ Row.off ∷ List.[];
+        }
+
         abbrev G12 : Row.Cx
-        G12 = record { locals = List._++_ g8 (List._++_ t10 t2); slots = Row.off ∷ Row.off ∷ Row.off ∷ life3 ∷ life4 ∷ life5 ∷ Row.alive ∷ Row.alive ∷
-            Row.alive ∷ Row.off ∷ Row.off ∷ Row.off ∷ Row.off ∷ Row.off ∷ Row.off ∷ Row.off ∷ List.[]; }
+        G12 = record {
+          locals = List._++_ g8 (List._++_ t10 t2);
+          slots = Row.off ∷ Row.off ∷ Row.off ∷ life3 ∷ life4 ∷ life5 ∷ Row.alive ∷ Row.alive ∷ Row.alive ∷ Row.off ∷
+              Row.off ∷ Row.off ∷ Row.off ∷ Row.off ∷ Row.off ∷ Row.off ∷ List.[];
+        }
+
         abbrev G13 : Row.Cx
-        G13 = record { locals = List._++_ g8 (List._++_ t10 t2); slots = Row.off ∷ Row.off ∷ Row.off ∷ life3 ∷ life4 ∷ life5 ∷ Row.alive ∷ Row.alive ∷
-            Row.alive ∷ Row.alive ∷ Row.off ∷ Row.off ∷ Row.off ∷ Row.off ∷ Row.off ∷ Row.off ∷ List.[]; }
+        G13 = record {
+          locals = List._++_ g8 (List._++_ t10 t2);
+          slots = Row.off ∷ Row.off ∷ Row.off ∷ life3 ∷ life4 ∷ life5 ∷ Row.alive ∷ Row.alive ∷ Row.alive ∷ Row.alive ∷
+              Row.off ∷ Row.off ∷ Row.off ∷ Row.off ∷ Row.off ∷ Row.off ∷ List.[];
+        }
+
         abbrev G14 : Row.Cx
-        G14 = record { locals = List._++_ g11 (List._++_ t12 t2); slots = Row.off ∷ Row.off ∷ Row.off ∷ Row.off ∷ life4 ∷ life5 ∷ Row.alive ∷
-            Row.alive ∷ Row.alive ∷ Row.alive ∷ Row.off ∷ Row.off ∷ Row.off ∷ Row.off ∷ Row.off ∷ Row.off ∷ List.[]; }
+        G14 = record {
+          locals = List._++_ g11 (List._++_ t12 t2);
+          slots = Row.off ∷ Row.off ∷ Row.off ∷ Row.off ∷ life4 ∷ life5 ∷ Row.alive ∷ Row.alive ∷ Row.alive ∷ Row.alive
+              ∷ Row.off ∷ Row.off ∷ Row.off ∷ Row.off ∷ Row.off ∷ Row.off ∷ List.[];
+        }
+
         abbrev G15 : Row.Cx
-        G15 = record { locals = List._++_ g11 (List._++_ t13 t2); slots = Row.off ∷ Row.off ∷ Row.off ∷ Row.off ∷ life4 ∷ life5 ∷ Row.alive ∷
-            Row.alive ∷ Row.alive ∷ Row.alive ∷ Row.off ∷ Row.off ∷ Row.off ∷ Row.off ∷ Row.off ∷ Row.off ∷ List.[]; }
+        G15 = record {
+          locals = List._++_ g11 (List._++_ t13 t2);
+          slots = Row.off ∷ Row.off ∷ Row.off ∷ Row.off ∷ life4 ∷ life5 ∷ Row.alive ∷ Row.alive ∷ Row.alive ∷ Row.alive
+              ∷ Row.off ∷ Row.off ∷ Row.off ∷ Row.off ∷ Row.off ∷ Row.off ∷ List.[];
+        }
+
         abbrev G16 : Row.Cx
-        G16 = record { locals = List._++_ g11 (List._++_ t13 t2); slots = Row.off ∷ Row.off ∷ Row.off ∷ Row.off ∷ life4 ∷ life5 ∷ Row.alive ∷
-            Row.alive ∷ Row.alive ∷ Row.alive ∷ Row.alive ∷ Row.off ∷ Row.off ∷ Row.off ∷ Row.off ∷ Row.off ∷ List.[]; }
+        G16 = record {
+          locals = List._++_ g11 (List._++_ t13 t2);
+          slots = Row.off ∷ Row.off ∷ Row.off ∷ Row.off ∷ life4 ∷ life5 ∷ Row.alive ∷ Row.alive ∷ Row.alive ∷ Row.alive
+              ∷ Row.alive ∷ Row.off ∷ Row.off ∷ Row.off ∷ Row.off ∷ Row.off ∷ List.[];
+        }
+
         abbrev G17 : Row.Cx
-        G17 = record { locals = List._++_ g14 (List._++_ t15 t2); slots = Row.off ∷ Row.off ∷ Row.off ∷ Row.off ∷ Row.off ∷ life5 ∷ Row.alive ∷
-            Row.alive ∷ Row.alive ∷ Row.alive ∷ Row.alive ∷ Row.off ∷ Row.off ∷ Row.off ∷ Row.off ∷ Row.off ∷ List.[]; }
+        G17 = record {
+          locals = List._++_ g14 (List._++_ t15 t2);
+          slots = Row.off ∷ Row.off ∷ Row.off ∷ Row.off ∷ Row.off ∷ life5 ∷ Row.alive ∷ Row.alive ∷ Row.alive ∷
+              Row.alive ∷ Row.alive ∷ Row.off ∷ Row.off ∷ Row.off ∷ Row.off ∷ Row.off ∷ List.[];
+        }
+
         abbrev G18 : Row.Cx
-        G18 = record { locals = List._++_ g14 (List._++_ t16 t2); slots = Row.off ∷ Row.off ∷ Row.off ∷ Row.off ∷ Row.off ∷ life5 ∷ Row.alive ∷
-            Row.alive ∷ Row.alive ∷ Row.alive ∷ Row.alive ∷ Row.off ∷ Row.off ∷ Row.off ∷ Row.off ∷ Row.off ∷ List.[]; }
+        G18 = record {
+          locals = List._++_ g14 (List._++_ t16 t2);
+          slots = Row.off ∷ Row.off ∷ Row.off ∷ Row.off ∷ Row.off ∷ life5 ∷ Row.alive ∷ Row.alive ∷ Row.alive ∷
+              Row.alive ∷ Row.alive ∷ Row.off ∷ Row.off ∷ Row.off ∷ Row.off ∷ Row.off ∷ List.[];
+        }
+
         abbrev G19 : Row.Cx
-        G19 = record { locals = List._++_ g17 (List._++_ t18 t2); slots = Row.off ∷ Row.off ∷ Row.off ∷ Row.off ∷ Row.off ∷ life5 ∷ Row.alive ∷
-            Row.alive ∷ Row.alive ∷ Row.alive ∷ Row.alive ∷ Row.off ∷ Row.off ∷ Row.off ∷ Row.off ∷ Row.off ∷ List.[]; }
+        G19 = record {
+          locals = List._++_ g17 (List._++_ t18 t2);
+          slots = Row.off ∷ Row.off ∷ Row.off ∷ Row.off ∷ Row.off ∷ life5 ∷ Row.alive ∷ Row.alive ∷ Row.alive ∷
+              Row.alive ∷ Row.alive ∷ Row.off ∷ Row.off ∷ Row.off ∷ Row.off ∷ Row.off ∷ List.[];
+        }
+
         abbrev G20 : Row.Cx
-        G20 = record { locals = List._++_ g17 (List._++_ t18 t2); slots = Row.off ∷ Row.off ∷ Row.off ∷ Row.off ∷ Row.off ∷ life5 ∷ Row.dead ∷
-            Row.alive ∷ Row.alive ∷ Row.alive ∷ Row.alive ∷ Row.off ∷ Row.off ∷ Row.off ∷ Row.off ∷ Row.off ∷ List.[]; }
+        G20 = record {
+          locals = List._++_ g17 (List._++_ t18 t2);
+          slots = Row.off ∷ Row.off ∷ Row.off ∷ Row.off ∷ Row.off ∷ life5 ∷ Row.dead ∷ Row.alive ∷ Row.alive ∷
+              Row.alive ∷ Row.alive ∷ Row.off ∷ Row.off ∷ Row.off ∷ Row.off ∷ Row.off ∷ List.[];
+        }
+
         abbrev G21 : Row.Cx
-        G21 = record { locals = List._++_ g19 (List._++_ t18 t2); slots = life0 ∷ Row.off ∷ Row.off ∷ Row.off ∷ Row.off ∷ life5 ∷ Row.dead ∷ Row.alive
-            ∷ Row.alive ∷ Row.alive ∷ Row.alive ∷ Row.off ∷ Row.off ∷ Row.off ∷ Row.off ∷ Row.off ∷ List.[]; }
+        G21 = record {
+          locals = List._++_ g19 (List._++_ t18 t2);
+          slots = life0 ∷ Row.off ∷ Row.off ∷ Row.off ∷ Row.off ∷ life5 ∷ Row.dead ∷ Row.alive ∷ Row.alive ∷ Row.alive
+              ∷ Row.alive ∷ Row.off ∷ Row.off ∷ Row.off ∷ Row.off ∷ Row.off ∷ List.[];
+        }
+
         abbrev G22 : Row.Cx
-        G22 = record { locals = List._++_ g19 (List._++_ t18 t2); slots = life0 ∷ Row.off ∷ Row.off ∷ Row.off ∷ Row.off ∷ life5 ∷ Row.off ∷ Row.alive
-            ∷ Row.alive ∷ Row.alive ∷ Row.alive ∷ Row.off ∷ Row.off ∷ Row.off ∷ Row.off ∷ Row.off ∷ List.[]; }
+        G22 = record {
+          locals = List._++_ g19 (List._++_ t18 t2);
+          slots = life0 ∷ Row.off ∷ Row.off ∷ Row.off ∷ Row.off ∷ life5 ∷ Row.off ∷ Row.alive ∷ Row.alive ∷ Row.alive ∷
+              Row.alive ∷ Row.off ∷ Row.off ∷ Row.off ∷ Row.off ∷ Row.off ∷ List.[];
+        }
+
         abbrev G23 : Row.Cx
-        G23 = record { locals = List._++_ g19 (List._++_ t18 t2); slots = life0 ∷ Row.off ∷ Row.off ∷ Row.off ∷ Row.off ∷ life5 ∷ Row.off ∷ Row.dead ∷
-            Row.alive ∷ Row.alive ∷ Row.alive ∷ Row.off ∷ Row.off ∷ Row.off ∷ Row.off ∷ Row.off ∷ List.[]; }
+        G23 = record {
+          locals = List._++_ g19 (List._++_ t18 t2);
+          slots = life0 ∷ Row.off ∷ Row.off ∷ Row.off ∷ Row.off ∷ life5 ∷ Row.off ∷ Row.dead ∷ Row.alive ∷ Row.alive ∷
+              Row.alive ∷ Row.off ∷ Row.off ∷ Row.off ∷ Row.off ∷ Row.off ∷ List.[];
+        }
+
         abbrev G24 : Row.Cx
-        G24 = record { locals = List._++_ g20 (List._++_ t18 t2); slots = life0 ∷ life1 ∷ Row.off ∷ Row.off ∷ Row.off ∷ life5 ∷ Row.off ∷ Row.dead ∷
-            Row.alive ∷ Row.alive ∷ Row.alive ∷ Row.off ∷ Row.off ∷ Row.off ∷ Row.off ∷ Row.off ∷ List.[]; }
+        G24 = record {
+          locals = List._++_ g20 (List._++_ t18 t2);
+          slots = life0 ∷ life1 ∷ Row.off ∷ Row.off ∷ Row.off ∷ life5 ∷ Row.off ∷ Row.dead ∷ Row.alive ∷ Row.alive ∷
+              Row.alive ∷ Row.off ∷ Row.off ∷ Row.off ∷ Row.off ∷ Row.off ∷ List.[];
+        }
+
         abbrev G25 : Row.Cx
-        G25 = record { locals = List._++_ g20 (List._++_ t18 t2); slots = life0 ∷ life1 ∷ Row.off ∷ Row.off ∷ Row.off ∷ life5 ∷ Row.off ∷ Row.off ∷
-            Row.alive ∷ Row.alive ∷ Row.alive ∷ Row.off ∷ Row.off ∷ Row.off ∷ Row.off ∷ Row.off ∷ List.[]; }
+        G25 = record {
+          locals = List._++_ g20 (List._++_ t18 t2);
+          slots = life0 ∷ life1 ∷ Row.off ∷ Row.off ∷ Row.off ∷ life5 ∷ Row.off ∷ Row.off ∷ Row.alive ∷ Row.alive ∷
+              Row.alive ∷ Row.off ∷ Row.off ∷ Row.off ∷ Row.off ∷ Row.off ∷ List.[];
+        }
+
         abbrev G26 : Row.Cx
-        G26 = record { locals = List._++_ g20 (List._++_ t18 t2); slots = life0 ∷ life1 ∷ Row.off ∷ Row.off ∷ Row.off ∷ life5 ∷ Row.off ∷ Row.off ∷
-            Row.dead ∷ Row.alive ∷ Row.alive ∷ Row.off ∷ Row.off ∷ Row.off ∷ Row.off ∷ Row.off ∷ List.[]; }
+        G26 = record {
+          locals = List._++_ g20 (List._++_ t18 t2);
+          slots = life0 ∷ life1 ∷ Row.off ∷ Row.off ∷ Row.off ∷ life5 ∷ Row.off ∷ Row.off ∷ Row.dead ∷ Row.alive ∷
+              Row.alive ∷ Row.off ∷ Row.off ∷ Row.off ∷ Row.off ∷ Row.off ∷ List.[];
+        }
+
         abbrev G27 : Row.Cx
-        G27 = record { locals = List._++_ g21 (List._++_ t22 t2); slots = life0 ∷ life1 ∷ life2 ∷ Row.off ∷ Row.off ∷ life5 ∷ Row.off ∷ Row.off ∷
-            Row.dead ∷ Row.alive ∷ Row.alive ∷ Row.off ∷ Row.off ∷ Row.off ∷ Row.off ∷ Row.off ∷ List.[]; }
+        G27 = record {
+          locals = List._++_ g21 (List._++_ t22 t2);
+          slots = life0 ∷ life1 ∷ life2 ∷ Row.off ∷ Row.off ∷ life5 ∷ Row.off ∷ Row.off ∷ Row.dead ∷ Row.alive ∷
+              Row.alive ∷ Row.off ∷ Row.off ∷ Row.off ∷ Row.off ∷ Row.off ∷ List.[];
+        }
+
         abbrev G28 : Row.Cx
-        G28 = record { locals = List._++_ g21 (List._++_ t22 t2); slots = life0 ∷ life1 ∷ life2 ∷ Row.off ∷ Row.off ∷ life5 ∷ Row.off ∷ Row.off ∷
-            Row.off ∷ Row.alive ∷ Row.alive ∷ Row.off ∷ Row.off ∷ Row.off ∷ Row.off ∷ Row.off ∷ List.[]; }
+        G28 = record {
+          locals = List._++_ g21 (List._++_ t22 t2);
+          slots = life0 ∷ life1 ∷ life2 ∷ Row.off ∷ Row.off ∷ life5 ∷ Row.off ∷ Row.off ∷ Row.off ∷ Row.alive ∷
+              Row.alive ∷ Row.off ∷ Row.off ∷ Row.off ∷ Row.off ∷ Row.off ∷ List.[];
+        }
+
         abbrev G29 : Row.Cx
-        G29 = record { locals = List._++_ g21 (List._++_ t22 t2); slots = life0 ∷ life1 ∷ life2 ∷ Row.off ∷ Row.off ∷ life5 ∷ Row.off ∷ Row.off ∷
-            Row.off ∷ Row.dead ∷ Row.alive ∷ Row.off ∷ Row.off ∷ Row.off ∷ Row.off ∷ Row.off ∷ List.[]; }
+        G29 = record {
+          locals = List._++_ g21 (List._++_ t22 t2);
+          slots = life0 ∷ life1 ∷ life2 ∷ Row.off ∷ Row.off ∷ life5 ∷ Row.off ∷ Row.off ∷ Row.off ∷ Row.dead ∷
+              Row.alive ∷ Row.off ∷ Row.off ∷ Row.off ∷ Row.off ∷ Row.off ∷ List.[];
+        }
+
         abbrev G30 : Row.Cx
-        G30 = record { locals = List._++_ g23 (List._++_ t24 t2); slots = life0 ∷ life1 ∷ life2 ∷ life3 ∷ Row.off ∷ life5 ∷ Row.off ∷ Row.off ∷
-            Row.off ∷ Row.dead ∷ Row.alive ∷ Row.off ∷ Row.off ∷ Row.off ∷ Row.off ∷ Row.off ∷ List.[]; }
+        G30 = record {
+          locals = List._++_ g23 (List._++_ t24 t2);
+          slots = life0 ∷ life1 ∷ life2 ∷ life3 ∷ Row.off ∷ life5 ∷ Row.off ∷ Row.off ∷ Row.off ∷ Row.dead ∷ Row.alive
+              ∷ Row.off ∷ Row.off ∷ Row.off ∷ Row.off ∷ Row.off ∷ List.[];
+        }
+
         abbrev G31 : Row.Cx
-        G31 = record { locals = List._++_ g23 (List._++_ t24 t2); slots = life0 ∷ life1 ∷ life2 ∷ life3 ∷ Row.off ∷ life5 ∷ Row.off ∷ Row.off ∷
-            Row.off ∷ Row.off ∷ Row.alive ∷ Row.off ∷ Row.off ∷ Row.off ∷ Row.off ∷ Row.off ∷ List.[]; }
+        G31 = record {
+          locals = List._++_ g23 (List._++_ t24 t2);
+          slots = life0 ∷ life1 ∷ life2 ∷ life3 ∷ Row.off ∷ life5 ∷ Row.off ∷ Row.off ∷ Row.off ∷ Row.off ∷ Row.alive ∷
+              Row.off ∷ Row.off ∷ Row.off ∷ Row.off ∷ Row.off ∷ List.[];
+        }
+
         abbrev G32 : Row.Cx
-        G32 = record { locals = List._++_ g23 (List._++_ t24 t2); slots = life0 ∷ life1 ∷ life2 ∷ life3 ∷ Row.off ∷ life5 ∷ Row.off ∷ Row.off ∷
-            Row.off ∷ Row.off ∷ Row.dead ∷ Row.off ∷ Row.off ∷ Row.off ∷ Row.off ∷ Row.off ∷ List.[]; }
+        G32 = record {
+          locals = List._++_ g23 (List._++_ t24 t2);
+          slots = life0 ∷ life1 ∷ life2 ∷ life3 ∷ Row.off ∷ life5 ∷ Row.off ∷ Row.off ∷ Row.off ∷ Row.off ∷ Row.dead ∷
+              Row.off ∷ Row.off ∷ Row.off ∷ Row.off ∷ Row.off ∷ List.[];
+        }
+
         abbrev G33 : Row.Cx
-        G33 = record { locals = List._++_ t25 (List._++_ t1 t2); slots = life0 ∷ life1 ∷ life2 ∷ life3 ∷ life4 ∷ life5 ∷ Row.off ∷ Row.off ∷ Row.off ∷
-            Row.off ∷ Row.dead ∷ Row.off ∷ Row.off ∷ Row.off ∷ Row.off ∷ Row.off ∷ List.[]; }
+        G33 = record {
+          locals = List._++_ t25 (List._++_ t1 t2);
+          slots = life0 ∷ life1 ∷ life2 ∷ life3 ∷ life4 ∷ life5 ∷ Row.off ∷ Row.off ∷ Row.off ∷ Row.off ∷ Row.dead ∷
+              Row.off ∷ Row.off ∷ Row.off ∷ Row.off ∷ Row.off ∷ List.[];
+        }
+
         abbrev G34 : Row.Cx
-        G34 = record { locals = List._++_ t25 (List._++_ t1 t2); slots = life0 ∷ life1 ∷ life2 ∷ life3 ∷ life4 ∷ life5 ∷ Row.off ∷ Row.off ∷ Row.off ∷
-            Row.off ∷ Row.dead ∷ Row.off ∷ Row.off ∷ Row.off ∷ Row.off ∷ Row.off ∷ List.[]; }
+        G34 = record {
+          locals = List._++_ t25 (List._++_ t1 t2);
+          slots = life0 ∷ life1 ∷ life2 ∷ life3 ∷ life4 ∷ life5 ∷ Row.off ∷ Row.off ∷ Row.off ∷ Row.off ∷ Row.dead ∷
+              Row.off ∷ Row.off ∷ Row.off ∷ Row.off ∷ Row.off ∷ List.[];
+        }
+
         abbrev G35 : Row.Cx
-        G35 = record { locals = List._++_ t25 (List._++_ t1 t2); slots = life0 ∷ life1 ∷ life2 ∷ life3 ∷ life4 ∷ life5 ∷ Row.off ∷ Row.off ∷ Row.off ∷
-            Row.off ∷ Row.off ∷ Row.off ∷ Row.off ∷ Row.off ∷ Row.off ∷ Row.off ∷ List.[]; }
+        G35 = record {
+          locals = List._++_ t25 (List._++_ t1 t2);
+          slots = life0 ∷ life1 ∷ life2 ∷ life3 ∷ life4 ∷ life5 ∷ Row.off ∷ Row.off ∷ Row.off ∷ Row.off ∷ Row.off ∷
+              Row.off ∷ Row.off ∷ Row.off ∷ Row.off ∷ Row.off ∷ List.[];
+        }
+
         abbrev G36 : Row.Cx
-        G36 = record { locals = List._++_ t26 (List._++_ t1 t2); slots = life0 ∷ life1 ∷ life2 ∷ life3 ∷ life4 ∷ life5 ∷ Row.off ∷ Row.off ∷ Row.off ∷
-            Row.off ∷ Row.off ∷ Row.off ∷ Row.off ∷ Row.off ∷ Row.off ∷ Row.off ∷ List.[]; }
+        G36 = record {
+          locals = List._++_ t26 (List._++_ t1 t2);
+          slots = life0 ∷ life1 ∷ life2 ∷ life3 ∷ life4 ∷ life5 ∷ Row.off ∷ Row.off ∷ Row.off ∷ Row.off ∷ Row.off ∷
+              Row.off ∷ Row.off ∷ Row.off ∷ Row.off ∷ Row.off ∷ List.[];
+        }
+
         abbrev G37 : Row.Cx
-        G37 = record { locals = List._++_ t26 (List._++_ t27 t2); slots = life0 ∷ life1 ∷ life2 ∷ life3 ∷ life4 ∷ life5 ∷ Row.off ∷ Row.off ∷ Row.off
-            ∷ Row.off ∷ Row.off ∷ Row.off ∷ Row.off ∷ Row.off ∷ Row.off ∷ Row.off ∷ List.[]; }
+        G37 = record {
+          locals = List._++_ t26 (List._++_ t27 t2);
+          slots = life0 ∷ life1 ∷ life2 ∷ life3 ∷ life4 ∷ life5 ∷ Row.off ∷ Row.off ∷ Row.off ∷ Row.off ∷ Row.off ∷
+              Row.off ∷ Row.off ∷ Row.off ∷ Row.off ∷ Row.off ∷ List.[];
+        }
+
         abbrev G38 : Row.Cx
-        G38 = record { locals = List._++_ t28 (List._++_ t27 t2); slots = life0 ∷ life1 ∷ life2 ∷ life3 ∷ life4 ∷ life5 ∷ Row.off ∷ Row.off ∷ Row.off
-            ∷ Row.off ∷ Row.off ∷ Row.off ∷ Row.off ∷ Row.off ∷ Row.off ∷ Row.off ∷ List.[]; }
+        G38 = record {
+          locals = List._++_ t28 (List._++_ t27 t2);
+          slots = life0 ∷ life1 ∷ life2 ∷ life3 ∷ life4 ∷ life5 ∷ Row.off ∷ Row.off ∷ Row.off ∷ Row.off ∷ Row.off ∷
+              Row.off ∷ Row.off ∷ Row.off ∷ Row.off ∷ Row.off ∷ List.[];
+        }
+
         abbrev G39 : Row.Cx
-        G39 = record { locals = List._++_ t28 (List._++_ t1 t2); slots = life0 ∷ life1 ∷ life2 ∷ life3 ∷ life4 ∷ life5 ∷ Row.off ∷ Row.off ∷ Row.off ∷
-            Row.off ∷ Row.off ∷ Row.off ∷ Row.off ∷ Row.off ∷ Row.off ∷ Row.off ∷ List.[]; }
+        G39 = record {
+          locals = List._++_ t28 (List._++_ t1 t2);
+          slots = life0 ∷ life1 ∷ life2 ∷ life3 ∷ life4 ∷ life5 ∷ Row.off ∷ Row.off ∷ Row.off ∷ Row.off ∷ Row.off ∷
+              Row.off ∷ Row.off ∷ Row.off ∷ Row.off ∷ Row.off ∷ List.[];
+        }
+
         abbrev G40 : Row.Cx
-        G40 = record { locals = List._++_ t28 (List._++_ t27 t2); slots = life0 ∷ life1 ∷ life2 ∷ life3 ∷ life4 ∷ life5 ∷ Row.off ∷ Row.off ∷ Row.off
-            ∷ Row.off ∷ Row.off ∷ Row.off ∷ Row.off ∷ Row.off ∷ Row.off ∷ Row.off ∷ List.[]; }
+        G40 = record {
+          locals = List._++_ t28 (List._++_ t27 t2);
+          slots = life0 ∷ life1 ∷ life2 ∷ life3 ∷ life4 ∷ life5 ∷ Row.off ∷ Row.off ∷ Row.off ∷ Row.off ∷ Row.off ∷
+              Row.off ∷ Row.off ∷ Row.off ∷ Row.off ∷ Row.off ∷ List.[];
+        }
+
         abbrev G41 : Row.Cx
-        G41 = record { locals = List._++_ t29 (List._++_ t27 t2); slots = life0 ∷ life1 ∷ life2 ∷ life3 ∷ life4 ∷ life5 ∷ Row.off ∷ Row.off ∷ Row.off
-            ∷ Row.off ∷ Row.off ∷ Row.off ∷ Row.off ∷ Row.off ∷ Row.off ∷ Row.off ∷ List.[]; }
+        G41 = record {
+          locals = List._++_ t29 (List._++_ t27 t2);
+          slots = life0 ∷ life1 ∷ life2 ∷ life3 ∷ life4 ∷ life5 ∷ Row.off ∷ Row.off ∷ Row.off ∷ Row.off ∷ Row.off ∷
+              Row.off ∷ Row.off ∷ Row.off ∷ Row.off ∷ Row.off ∷ List.[];
+        }
+
         abbrev G42 : Row.Cx
-        G42 = record { locals = List._++_ t29 (List._++_ t1 t2); slots = life0 ∷ life1 ∷ life2 ∷ life3 ∷ life4 ∷ life5 ∷ Row.off ∷ Row.off ∷ Row.off ∷
-            Row.off ∷ Row.off ∷ Row.off ∷ Row.off ∷ Row.off ∷ Row.off ∷ Row.off ∷ List.[]; }
+        G42 = record {
+          locals = List._++_ t29 (List._++_ t1 t2);
+          slots = life0 ∷ life1 ∷ life2 ∷ life3 ∷ life4 ∷ life5 ∷ Row.off ∷ Row.off ∷ Row.off ∷ Row.off ∷ Row.off ∷
+              Row.off ∷ Row.off ∷ Row.off ∷ Row.off ∷ Row.off ∷ List.[];
+        }
+
         abbrev G43 : Row.Cx
-        G43 = record { locals = List._++_ t29 (List._++_ t1 t2); slots = life0 ∷ life1 ∷ life2 ∷ life3 ∷ life4 ∷ life5 ∷ Row.off ∷ Row.off ∷ Row.off ∷
-            Row.off ∷ Row.off ∷ Row.off ∷ Row.off ∷ Row.off ∷ Row.off ∷ Row.off ∷ List.[]; }
+        G43 = record {
+          locals = List._++_ t29 (List._++_ t1 t2);
+          slots = life0 ∷ life1 ∷ life2 ∷ life3 ∷ life4 ∷ life5 ∷ Row.off ∷ Row.off ∷ Row.off ∷ Row.off ∷ Row.off ∷
+              Row.off ∷ Row.off ∷ Row.off ∷ Row.off ∷ Row.off ∷ List.[];
+        }
+
         abbrev G44 : Row.Cx
-        G44 = record { locals = List._++_ t29 (List._++_ t30 t2); slots = life0 ∷ life1 ∷ life2 ∷ life3 ∷ life4 ∷ life5 ∷ Row.off ∷ Row.off ∷ Row.off
-            ∷ Row.off ∷ Row.off ∷ Row.off ∷ Row.off ∷ Row.off ∷ Row.off ∷ Row.off ∷ List.[]; }
+        G44 = record {
+          locals = List._++_ t29 (List._++_ t30 t2);
+          slots = life0 ∷ life1 ∷ life2 ∷ life3 ∷ life4 ∷ life5 ∷ Row.off ∷ Row.off ∷ Row.off ∷ Row.off ∷ Row.off ∷
+              Row.off ∷ Row.off ∷ Row.off ∷ Row.off ∷ Row.off ∷ List.[];
+        }
+
         abbrev G45 : Row.Cx
-        G45 = record { locals = List._++_ t31 (List._++_ t1 t2); slots = life0 ∷ life1 ∷ life2 ∷ life3 ∷ life4 ∷ life5 ∷ Row.off ∷ Row.off ∷ Row.off ∷
-            Row.off ∷ Row.off ∷ Row.off ∷ Row.off ∷ Row.off ∷ Row.off ∷ Row.off ∷ List.[]; }
+        G45 = record {
+          locals = List._++_ t31 (List._++_ t1 t2);
+          slots = life0 ∷ life1 ∷ life2 ∷ life3 ∷ life4 ∷ life5 ∷ Row.off ∷ Row.off ∷ Row.off ∷ Row.off ∷ Row.off ∷
+              Row.off ∷ Row.off ∷ Row.off ∷ Row.off ∷ Row.off ∷ List.[];
+        }
+
         abbrev G46 : Row.Cx
-        G46 = record { locals = List._++_ t32 (List._++_ t30 t2); slots = life0 ∷ life1 ∷ life2 ∷ life3 ∷ life4 ∷ life5 ∷ Row.off ∷ Row.off ∷ Row.off
-            ∷ Row.off ∷ Row.off ∷ Row.off ∷ Row.off ∷ Row.off ∷ Row.off ∷ Row.off ∷ List.[]; }
+        G46 = record {
+          locals = List._++_ t32 (List._++_ t30 t2);
+          slots = life0 ∷ life1 ∷ life2 ∷ life3 ∷ life4 ∷ life5 ∷ Row.off ∷ Row.off ∷ Row.off ∷ Row.off ∷ Row.off ∷
+              Row.off ∷ Row.off ∷ Row.off ∷ Row.off ∷ Row.off ∷ List.[];
+        }
+
         abbrev G47 : Row.Cx
-        G47 = record { locals = List._++_ t33 (List._++_ t30 t2); slots = life0 ∷ life1 ∷ life2 ∷ life3 ∷ life4 ∷ life5 ∷ Row.off ∷ Row.off ∷ Row.off
-            ∷ Row.off ∷ Row.off ∷ Row.off ∷ Row.off ∷ Row.off ∷ Row.off ∷ Row.off ∷ List.[]; }
+        G47 = record {
+          locals = List._++_ t33 (List._++_ t30 t2);
+          slots = life0 ∷ life1 ∷ life2 ∷ life3 ∷ life4 ∷ life5 ∷ Row.off ∷ Row.off ∷ Row.off ∷ Row.off ∷ Row.off ∷
+              Row.off ∷ Row.off ∷ Row.off ∷ Row.off ∷ Row.off ∷ List.[];
+        }
+
         abbrev G48 : Row.Cx
-        G48 = record { locals = List._++_ t33 (List._++_ t1 t2); slots = life0 ∷ life1 ∷ life2 ∷ life3 ∷ life4 ∷ life5 ∷ Row.off ∷ Row.off ∷ Row.off ∷
-            Row.off ∷ Row.off ∷ Row.off ∷ Row.off ∷ Row.off ∷ Row.off ∷ Row.off ∷ List.[]; }
+        G48 = record {
+          locals = List._++_ t33 (List._++_ t1 t2);
+          slots = life0 ∷ life1 ∷ life2 ∷ life3 ∷ life4 ∷ life5 ∷ Row.off ∷ Row.off ∷ Row.off ∷ Row.off ∷ Row.off ∷
+              Row.off ∷ Row.off ∷ Row.off ∷ Row.off ∷ Row.off ∷ List.[];
+        }
+
         abbrev G49 : Row.Cx
-        G49 = record { locals = List._++_ t34 (List._++_ t1 t2); slots = life0 ∷ life1 ∷ life2 ∷ life3 ∷ life4 ∷ life5 ∷ Row.off ∷ Row.off ∷ Row.off ∷
-            Row.off ∷ Row.off ∷ Row.off ∷ Row.off ∷ Row.off ∷ Row.off ∷ Row.off ∷ List.[]; }
+        G49 = record {
+          locals = List._++_ t34 (List._++_ t1 t2);
+          slots = life0 ∷ life1 ∷ life2 ∷ life3 ∷ life4 ∷ life5 ∷ Row.off ∷ Row.off ∷ Row.off ∷ Row.off ∷ Row.off ∷
+              Row.off ∷ Row.off ∷ Row.off ∷ Row.off ∷ Row.off ∷ List.[];
+        }
+
         abbrev G50 : Row.Cx
-        G50 = record { locals = List._++_ t35 (List._++_ t1 t2); slots = life0 ∷ life1 ∷ life2 ∷ life3 ∷ life4 ∷ life5 ∷ Row.off ∷ Row.off ∷ Row.off ∷
-            Row.off ∷ Row.off ∷ Row.off ∷ Row.off ∷ Row.off ∷ Row.off ∷ Row.off ∷ List.[]; }
+        G50 = record {
+          locals = List._++_ t35 (List._++_ t1 t2);
+          slots = life0 ∷ life1 ∷ life2 ∷ life3 ∷ life4 ∷ life5 ∷ Row.off ∷ Row.off ∷ Row.off ∷ Row.off ∷ Row.off ∷
+              Row.off ∷ Row.off ∷ Row.off ∷ Row.off ∷ Row.off ∷ List.[];
+        }
+
         abbrev G51 : Row.Cx
-        G51 = record { locals = List._++_ t36 (List._++_ t1 t2); slots = life0 ∷ life1 ∷ life2 ∷ life3 ∷ life4 ∷ life5 ∷ Row.off ∷ Row.off ∷ Row.off ∷
-            Row.off ∷ Row.off ∷ Row.off ∷ Row.off ∷ Row.off ∷ Row.off ∷ Row.off ∷ List.[]; }
+        G51 = record {
+          locals = List._++_ t36 (List._++_ t1 t2);
+          slots = life0 ∷ life1 ∷ life2 ∷ life3 ∷ life4 ∷ life5 ∷ Row.off ∷ Row.off ∷ Row.off ∷ Row.off ∷ Row.off ∷
+              Row.off ∷ Row.off ∷ Row.off ∷ Row.off ∷ Row.off ∷ List.[];
+        }
+
         abbrev G52 : Row.Cx
-        G52 = record { locals = List._++_ t3 (List._++_ t1 t2); slots = life0 ∷ life1 ∷ life2 ∷ life3 ∷ life4 ∷ life5 ∷ Row.off ∷ Row.off ∷ Row.off ∷
-            Row.off ∷ Row.off ∷ Row.off ∷ Row.off ∷ Row.off ∷ Row.off ∷ Row.off ∷ List.[]; }
+        G52 = record {
+          locals = List._++_ t3 (List._++_ t1 t2);
+          slots = life0 ∷ life1 ∷ life2 ∷ life3 ∷ life4 ∷ life5 ∷ Row.off ∷ Row.off ∷ Row.off ∷ Row.off ∷ Row.off ∷
+              Row.off ∷ Row.off ∷ Row.off ∷ Row.off ∷ Row.off ∷ List.[];
+        }
+
         abbrev G53 : Row.Cx
-        G53 = record { locals = List._++_ t31 (List._++_ t30 t2); slots = life0 ∷ life1 ∷ life2 ∷ life3 ∷ life4 ∷ life5 ∷ Row.off ∷ Row.off ∷ Row.off
-            ∷ Row.off ∷ Row.off ∷ Row.off ∷ Row.off ∷ Row.off ∷ Row.off ∷ Row.off ∷ List.[]; }
+        G53 = record {
+          locals = List._++_ t31 (List._++_ t30 t2);
+          slots = life0 ∷ life1 ∷ life2 ∷ life3 ∷ life4 ∷ life5 ∷ Row.off ∷ Row.off ∷ Row.off ∷ Row.off ∷ Row.off ∷
+              Row.off ∷ Row.off ∷ Row.off ∷ Row.off ∷ Row.off ∷ List.[];
+        }
+
         abbrev G54 : Row.Cx
-        G54 = record { locals = List._++_ t31 (List._++_ t1 t2); slots = life0 ∷ life1 ∷ life2 ∷ life3 ∷ life4 ∷ life5 ∷ Row.off ∷ Row.off ∷ Row.off ∷
-            Row.off ∷ Row.off ∷ Row.off ∷ Row.off ∷ Row.off ∷ Row.off ∷ Row.off ∷ List.[]; }
+        G54 = record {
+          locals = List._++_ t31 (List._++_ t1 t2);
+          slots = life0 ∷ life1 ∷ life2 ∷ life3 ∷ life4 ∷ life5 ∷ Row.off ∷ Row.off ∷ Row.off ∷ Row.off ∷ Row.off ∷
+              Row.off ∷ Row.off ∷ Row.off ∷ Row.off ∷ Row.off ∷ List.[];
+        }
+
         abbrev G55 : Row.Cx
-        G55 = record { locals = List._++_ t31 (List._++_ t1 t2); slots = life0 ∷ life1 ∷ life2 ∷ life3 ∷ life4 ∷ life5 ∷ Row.off ∷ Row.off ∷ Row.off ∷
-            Row.off ∷ Row.off ∷ Row.alive ∷ Row.off ∷ Row.off ∷ Row.off ∷ Row.off ∷ List.[]; }
+        G55 = record {
+          locals = List._++_ t31 (List._++_ t1 t2);
+          slots = life0 ∷ life1 ∷ life2 ∷ life3 ∷ life4 ∷ life5 ∷ Row.off ∷ Row.off ∷ Row.off ∷ Row.off ∷ Row.off ∷
+              Row.alive ∷ Row.off ∷ Row.off ∷ Row.off ∷ Row.off ∷ List.[];
+        }
+
         abbrev G56 : Row.Cx
-        G56 = record { locals = List._++_ g37 (List._++_ t38 t2); slots = Row.off ∷ life1 ∷ life2 ∷ life3 ∷ life4 ∷ life5 ∷ Row.off ∷ Row.off ∷
-            Row.off ∷ Row.off ∷ Row.off ∷ Row.alive ∷ Row.off ∷ Row.off ∷ Row.off ∷ Row.off ∷ List.[]; }
+        G56 = record {
+          locals = List._++_ g37 (List._++_ t38 t2);
+          slots = Row.off ∷ life1 ∷ life2 ∷ life3 ∷ life4 ∷ life5 ∷ Row.off ∷ Row.off ∷ Row.off ∷ Row.off ∷ Row.off ∷
+              Row.alive ∷ Row.off ∷ Row.off ∷ Row.off ∷ Row.off ∷ List.[];
+        }
+
         abbrev G57 : Row.Cx
-        G57 = record { locals = List._++_ g37 (List._++_ t39 t2); slots = Row.off ∷ life1 ∷ life2 ∷ life3 ∷ life4 ∷ life5 ∷ Row.off ∷ Row.off ∷
-            Row.off ∷ Row.off ∷ Row.off ∷ Row.alive ∷ Row.off ∷ Row.off ∷ Row.off ∷ Row.off ∷ List.[]; }
+        G57 = record {
+          locals = List._++_ g37 (List._++_ t39 t2);
+          slots = Row.off ∷ life1 ∷ life2 ∷ life3 ∷ life4 ∷ life5 ∷ Row.off ∷ Row.off ∷ Row.off ∷ Row.off ∷ Row.off ∷
+              Row.alive ∷ Row.off ∷ Row.off ∷ Row.off ∷ Row.off ∷ List.[];
+        }
+
         abbrev G58 : Row.Cx
-        G58 = record { locals = List._++_ g37 (List._++_ t39 t2); slots = Row.off ∷ life1 ∷ life2 ∷ life3 ∷ life4 ∷ life5 ∷ Row.off ∷ Row.off ∷
-            Row.off ∷ Row.off ∷ Row.off ∷ Row.alive ∷ Row.alive ∷ Row.off ∷ Row.off ∷ Row.off ∷ List.[]; }
+        G58 = record {
+          locals = List._++_ g37 (List._++_ t39 t2);
+          slots = Row.off ∷ life1 ∷ life2 ∷ life3 ∷ life4 ∷ life5 ∷ Row.off ∷ Row.off ∷ Row.off ∷ Row.off ∷ Row.off ∷
+              Row.alive ∷ Row.alive ∷ Row.off ∷ Row.off ∷ Row.off ∷ List.[];
+        }
+
         abbrev G59 : Row.Cx
-        G59 = record { locals = List._++_ g40 (List._++_ t41 t2); slots = Row.off ∷ Row.off ∷ life2 ∷ life3 ∷ life4 ∷ life5 ∷ Row.off ∷ Row.off ∷
-            Row.off ∷ Row.off ∷ Row.off ∷ Row.alive ∷ Row.alive ∷ Row.off ∷ Row.off ∷ Row.off ∷ List.[]; }
+        G59 = record {
+          locals = List._++_ g40 (List._++_ t41 t2);
+          slots = Row.off ∷ Row.off ∷ life2 ∷ life3 ∷ life4 ∷ life5 ∷ Row.off ∷ Row.off ∷ Row.off ∷ Row.off ∷ Row.off ∷
+              Row.alive ∷ Row.alive ∷ Row.off ∷ Row.off ∷ Row.off ∷ List.[];
+        }
+
         abbrev G60 : Row.Cx
-        G60 = record { locals = List._++_ g40 (List._++_ t42 t2); slots = Row.off ∷ Row.off ∷ life2 ∷ life3 ∷ life4 ∷ life5 ∷ Row.off ∷ Row.off ∷
-            Row.off ∷ Row.off ∷ Row.off ∷ Row.alive ∷ Row.alive ∷ Row.off ∷ Row.off ∷ Row.off ∷ List.[]; }
+        G60 = record {
+          locals = List._++_ g40 (List._++_ t42 t2);
+          slots = Row.off ∷ Row.off ∷ life2 ∷ life3 ∷ life4 ∷ life5 ∷ Row.off ∷ Row.off ∷ Row.off ∷ Row.off ∷ Row.off ∷
+              Row.alive ∷ Row.alive ∷ Row.off ∷ Row.off ∷ Row.off ∷ List.[];
+        }
+
         abbrev G61 : Row.Cx
-        G61 = record { locals = List._++_ g40 (List._++_ t42 t2); slots = Row.off ∷ Row.off ∷ life2 ∷ life3 ∷ life4 ∷ life5 ∷ Row.off ∷ Row.off ∷
-            Row.off ∷ Row.off ∷ Row.off ∷ Row.alive ∷ Row.alive ∷ Row.alive ∷ Row.off ∷ Row.off ∷ List.[]; }
+        G61 = record {
+          locals = List._++_ g40 (List._++_ t42 t2);
+          slots = Row.off ∷ Row.off ∷ life2 ∷ life3 ∷ life4 ∷ life5 ∷ Row.off ∷ Row.off ∷ Row.off ∷ Row.off ∷ Row.off ∷
+              Row.alive ∷ Row.alive ∷ Row.alive ∷ Row.off ∷ Row.off ∷ List.[];
+        }
+
         abbrev G62 : Row.Cx
-        G62 = record { locals = List._++_ g43 (List._++_ t44 t2); slots = Row.off ∷ Row.off ∷ Row.off ∷ life3 ∷ life4 ∷ life5 ∷ Row.off ∷ Row.off ∷
-            Row.off ∷ Row.off ∷ Row.off ∷ Row.alive ∷ Row.alive ∷ Row.alive ∷ Row.off ∷ Row.off ∷ List.[]; }
+        G62 = record {
+          locals = List._++_ g43 (List._++_ t44 t2);
+          slots = Row.off ∷ Row.off ∷ Row.off ∷ life3 ∷ life4 ∷ life5 ∷ Row.off ∷ Row.off ∷ Row.off ∷ Row.off ∷ Row.off
+              ∷ Row.alive ∷ Row.alive ∷ Row.alive ∷ Row.off ∷ Row.off ∷ List.[];
+        }
+
         abbrev G63 : Row.Cx
-        G63 = record { locals = List._++_ g43 (List._++_ t45 t2); slots = Row.off ∷ Row.off ∷ Row.off ∷ life3 ∷ life4 ∷ life5 ∷ Row.off ∷ Row.off ∷
-            Row.off ∷ Row.off ∷ Row.off ∷ Row.alive ∷ Row.alive ∷ Row.alive ∷ Row.off ∷ Row.off ∷ List.[]; }
+        G63 = record {
+          locals = List._++_ g43 (List._++_ t45 t2);
+          slots = Row.off ∷ Row.off ∷ Row.off ∷ life3 ∷ life4 ∷ life5 ∷ Row.off ∷ Row.off ∷ Row.off ∷ Row.off ∷ Row.off
+              ∷ Row.alive ∷ Row.alive ∷ Row.alive ∷ Row.off ∷ Row.off ∷ List.[];
+        }
+
         abbrev G64 : Row.Cx
-        G64 = record { locals = List._++_ g43 (List._++_ t45 t2); slots = Row.off ∷ Row.off ∷ Row.off ∷ life3 ∷ life4 ∷ life5 ∷ Row.off ∷ Row.off ∷
-            Row.off ∷ Row.off ∷ Row.off ∷ Row.alive ∷ Row.alive ∷ Row.alive ∷ Row.alive ∷ Row.off ∷ List.[]; }
+        G64 = record {
+          locals = List._++_ g43 (List._++_ t45 t2);
+          slots = Row.off ∷ Row.off ∷ Row.off ∷ life3 ∷ life4 ∷ life5 ∷ Row.off ∷ Row.off ∷ Row.off ∷ Row.off ∷ Row.off
+              ∷ Row.alive ∷ Row.alive ∷ Row.alive ∷ Row.alive ∷ Row.off ∷ List.[];
+        }
+
         abbrev G65 : Row.Cx
-        G65 = record { locals = List._++_ g46 (List._++_ t47 t2); slots = Row.off ∷ Row.off ∷ Row.off ∷ Row.off ∷ life4 ∷ life5 ∷ Row.off ∷ Row.off ∷
-            Row.off ∷ Row.off ∷ Row.off ∷ Row.alive ∷ Row.alive ∷ Row.alive ∷ Row.alive ∷ Row.off ∷ List.[]; }
+        G65 = record {
+          locals = List._++_ g46 (List._++_ t47 t2);
+          slots = Row.off ∷ Row.off ∷ Row.off ∷ Row.off ∷ life4 ∷ life5 ∷ Row.off ∷ Row.off ∷ Row.off ∷ Row.off ∷
+              Row.off ∷ Row.alive ∷ Row.alive ∷ Row.alive ∷ Row.alive ∷ Row.off ∷ List.[];
+        }
+
         abbrev G66 : Row.Cx
-        G66 = record { locals = List._++_ g46 (List._++_ t48 t2); slots = Row.off ∷ Row.off ∷ Row.off ∷ Row.off ∷ life4 ∷ life5 ∷ Row.off ∷ Row.off ∷
-            Row.off ∷ Row.off ∷ Row.off ∷ Row.alive ∷ Row.alive ∷ Row.alive ∷ Row.alive ∷ Row.off ∷ List.[]; }
+        G66 = record {
+          locals = List._++_ g46 (List._++_ t48 t2);
+          slots = Row.off ∷ Row.off ∷ Row.off ∷ Row.off ∷ life4 ∷ life5 ∷ Row.off ∷ Row.off ∷ Row.off ∷ Row.off ∷
+              Row.off ∷ Row.alive ∷ Row.alive ∷ Row.alive ∷ Row.alive ∷ Row.off ∷ List.[];
+        }
+
         abbrev G67 : Row.Cx
-        G67 = record { locals = List._++_ g46 (List._++_ t48 t2); slots = Row.off ∷ Row.off ∷ Row.off ∷ Row.off ∷ life4 ∷ life5 ∷ Row.off ∷ Row.off ∷
-            Row.off ∷ Row.off ∷ Row.off ∷ Row.alive ∷ Row.alive ∷ Row.alive ∷ Row.alive ∷ Row.alive ∷ List.[]; }
+        G67 = record {
+          locals = List._++_ g46 (List._++_ t48 t2);
+          slots = Row.off ∷ Row.off ∷ Row.off ∷ Row.off ∷ life4 ∷ life5 ∷ Row.off ∷ Row.off ∷ Row.off ∷ Row.off ∷
+              Row.off ∷ Row.alive ∷ Row.alive ∷ Row.alive ∷ Row.alive ∷ Row.alive ∷ List.[];
+        }
+
         abbrev G68 : Row.Cx
-        G68 = record { locals = List._++_ g49 (List._++_ t48 t50); slots = Row.off ∷ Row.off ∷ Row.off ∷ Row.off ∷ Row.off ∷ life5 ∷ Row.off ∷ Row.off
-            ∷ Row.off ∷ Row.off ∷ Row.off ∷ Row.alive ∷ Row.alive ∷ Row.alive ∷ Row.alive ∷ Row.alive ∷ List.[]; }
+        G68 = record {
+          locals = List._++_ g49 (List._++_ t48 t50);
+          slots = Row.off ∷ Row.off ∷ Row.off ∷ Row.off ∷ Row.off ∷ life5 ∷ Row.off ∷ Row.off ∷ Row.off ∷ Row.off ∷
+              Row.off ∷ Row.alive ∷ Row.alive ∷ Row.alive ∷ Row.alive ∷ Row.alive ∷ List.[];
+        }
+
         abbrev G69 : Row.Cx
-        G69 = record { locals = List._++_ g49 (List._++_ t48 t51); slots = Row.off ∷ Row.off ∷ Row.off ∷ Row.off ∷ Row.off ∷ life5 ∷ Row.off ∷ Row.off
-            ∷ Row.off ∷ Row.off ∷ Row.off ∷ Row.alive ∷ Row.alive ∷ Row.alive ∷ Row.alive ∷ Row.alive ∷ List.[]; }
+        G69 = record {
+          locals = List._++_ g49 (List._++_ t48 t51);
+          slots = Row.off ∷ Row.off ∷ Row.off ∷ Row.off ∷ Row.off ∷ life5 ∷ Row.off ∷ Row.off ∷ Row.off ∷ Row.off ∷
+              Row.off ∷ Row.alive ∷ Row.alive ∷ Row.alive ∷ Row.alive ∷ Row.alive ∷ List.[];
+        }
+
         abbrev G70 : Row.Cx
-        G70 = record { locals = List._++_ g49 (List._++_ t48 t52); slots = Row.off ∷ Row.off ∷ Row.off ∷ Row.off ∷ Row.off ∷ life5 ∷ Row.off ∷ Row.off
-            ∷ Row.off ∷ Row.off ∷ Row.off ∷ Row.alive ∷ Row.alive ∷ Row.alive ∷ Row.alive ∷ Row.alive ∷ List.[]; }
+        G70 = record {
+          locals = List._++_ g49 (List._++_ t48 t52);
+          slots = Row.off ∷ Row.off ∷ Row.off ∷ Row.off ∷ Row.off ∷ life5 ∷ Row.off ∷ Row.off ∷ Row.off ∷ Row.off ∷
+              Row.off ∷ Row.alive ∷ Row.alive ∷ Row.alive ∷ Row.alive ∷ Row.alive ∷ List.[];
+        }
+
         abbrev G71 : Row.Cx
-        G71 = record { locals = List._++_ g49 (List._++_ t48 t53); slots = Row.off ∷ Row.off ∷ Row.off ∷ Row.off ∷ Row.off ∷ life5 ∷ Row.off ∷ Row.off
-            ∷ Row.off ∷ Row.off ∷ Row.off ∷ Row.alive ∷ Row.alive ∷ Row.alive ∷ Row.alive ∷ Row.alive ∷ List.[]; }
+        G71 = record {
+          locals = List._++_ g49 (List._++_ t48 t53);
+          slots = Row.off ∷ Row.off ∷ Row.off ∷ Row.off ∷ Row.off ∷ life5 ∷ Row.off ∷ Row.off ∷ Row.off ∷ Row.off ∷
+              Row.off ∷ Row.alive ∷ Row.alive ∷ Row.alive ∷ Row.alive ∷ Row.alive ∷ List.[];
+        }
+
         abbrev G72 : Row.Cx
-        G72 = record { locals = List._++_ g49 (List._++_ t48 t54); slots = Row.off ∷ Row.off ∷ Row.off ∷ Row.off ∷ Row.off ∷ life5 ∷ Row.off ∷ Row.off
-            ∷ Row.off ∷ Row.off ∷ Row.off ∷ Row.alive ∷ Row.alive ∷ Row.alive ∷ Row.alive ∷ Row.alive ∷ List.[]; }
+        G72 = record {
+          locals = List._++_ g49 (List._++_ t48 t54);
+          slots = Row.off ∷ Row.off ∷ Row.off ∷ Row.off ∷ Row.off ∷ life5 ∷ Row.off ∷ Row.off ∷ Row.off ∷ Row.off ∷
+              Row.off ∷ Row.alive ∷ Row.alive ∷ Row.alive ∷ Row.alive ∷ Row.alive ∷ List.[];
+        }
+
         abbrev G73 : Row.Cx
-        G73 = record { locals = List._++_ g49 (List._++_ t48 t55); slots = Row.off ∷ Row.off ∷ Row.off ∷ Row.off ∷ Row.off ∷ life5 ∷ Row.off ∷ Row.off
-            ∷ Row.off ∷ Row.off ∷ Row.off ∷ Row.alive ∷ Row.alive ∷ Row.alive ∷ Row.alive ∷ Row.alive ∷ List.[]; }
+        G73 = record {
+          locals = List._++_ g49 (List._++_ t48 t55);
+          slots = Row.off ∷ Row.off ∷ Row.off ∷ Row.off ∷ Row.off ∷ life5 ∷ Row.off ∷ Row.off ∷ Row.off ∷ Row.off ∷
+              Row.off ∷ Row.alive ∷ Row.alive ∷ Row.alive ∷ Row.alive ∷ Row.alive ∷ List.[];
+        }
+
         abbrev G74 : Row.Cx
-        G74 = record { locals = List._++_ g56 (List._++_ t57 t58); slots = Row.off ∷ Row.off ∷ Row.off ∷ Row.off ∷ Row.off ∷ life5 ∷ Row.off ∷ Row.off
-            ∷ Row.off ∷ Row.off ∷ Row.off ∷ Row.alive ∷ Row.alive ∷ Row.alive ∷ Row.alive ∷ Row.alive ∷ List.[]; }
+        G74 = record {
+          locals = List._++_ g56 (List._++_ t57 t58);
+          slots = Row.off ∷ Row.off ∷ Row.off ∷ Row.off ∷ Row.off ∷ life5 ∷ Row.off ∷ Row.off ∷ Row.off ∷ Row.off ∷
+              Row.off ∷ Row.alive ∷ Row.alive ∷ Row.alive ∷ Row.alive ∷ Row.alive ∷ List.[];
+        }
+
         abbrev G75 : Row.Cx
-        G75 = record { locals = List._++_ g56 (List._++_ t57 t59); slots = Row.off ∷ Row.off ∷ Row.off ∷ Row.off ∷ Row.off ∷ life5 ∷ Row.off ∷ Row.off
-            ∷ Row.off ∷ Row.off ∷ Row.off ∷ Row.alive ∷ Row.alive ∷ Row.alive ∷ Row.alive ∷ Row.alive ∷ List.[]; }
+        G75 = record {
+          locals = List._++_ g56 (List._++_ t57 t59);
+          slots = Row.off ∷ Row.off ∷ Row.off ∷ Row.off ∷ Row.off ∷ life5 ∷ Row.off ∷ Row.off ∷ Row.off ∷ Row.off ∷
+              Row.off ∷ Row.alive ∷ Row.alive ∷ Row.alive ∷ Row.alive ∷ Row.alive ∷ List.[];
+        }
+
         abbrev G76 : Row.Cx
-        G76 = record { locals = List._++_ g56 (List._++_ t57 t60); slots = Row.off ∷ Row.off ∷ Row.off ∷ Row.off ∷ Row.off ∷ life5 ∷ Row.off ∷ Row.off
-            ∷ Row.off ∷ Row.off ∷ Row.off ∷ Row.alive ∷ Row.alive ∷ Row.alive ∷ Row.alive ∷ Row.alive ∷ List.[]; }
+        G76 = record {
+          locals = List._++_ g56 (List._++_ t57 t60);
+          slots = Row.off ∷ Row.off ∷ Row.off ∷ Row.off ∷ Row.off ∷ life5 ∷ Row.off ∷ Row.off ∷ Row.off ∷ Row.off ∷
+              Row.off ∷ Row.alive ∷ Row.alive ∷ Row.alive ∷ Row.alive ∷ Row.alive ∷ List.[];
+        }
+
         abbrev G77 : Row.Cx
-        G77 = record { locals = List._++_ g61 (List._++_ t57 t60); slots = Row.off ∷ Row.off ∷ Row.off ∷ Row.off ∷ Row.off ∷ life5 ∷ Row.off ∷ Row.off
-            ∷ Row.off ∷ Row.off ∷ Row.off ∷ Row.alive ∷ Row.alive ∷ Row.alive ∷ Row.alive ∷ Row.alive ∷ List.[]; }
+        G77 = record {
+          locals = List._++_ g61 (List._++_ t57 t60);
+          slots = Row.off ∷ Row.off ∷ Row.off ∷ Row.off ∷ Row.off ∷ life5 ∷ Row.off ∷ Row.off ∷ Row.off ∷ Row.off ∷
+              Row.off ∷ Row.alive ∷ Row.alive ∷ Row.alive ∷ Row.alive ∷ Row.alive ∷ List.[];
+        }
+
         abbrev G78 : Row.Cx
-        G78 = record { locals = List._++_ g62 (List._++_ t57 t60); slots = Row.off ∷ Row.off ∷ Row.off ∷ Row.off ∷ Row.off ∷ life5 ∷ Row.off ∷ Row.off
-            ∷ Row.off ∷ Row.off ∷ Row.off ∷ Row.alive ∷ Row.alive ∷ Row.alive ∷ Row.alive ∷ Row.alive ∷ List.[]; }
+        G78 = record {
+          locals = List._++_ g62 (List._++_ t57 t60);
+          slots = Row.off ∷ Row.off ∷ Row.off ∷ Row.off ∷ Row.off ∷ life5 ∷ Row.off ∷ Row.off ∷ Row.off ∷ Row.off ∷
+              Row.off ∷ Row.alive ∷ Row.alive ∷ Row.alive ∷ Row.alive ∷ Row.alive ∷ List.[];
+        }
+
         abbrev G79 : Row.Cx
-        G79 = record { locals = List._++_ g63 (List._++_ t57 t60); slots = Row.off ∷ Row.off ∷ Row.off ∷ Row.off ∷ Row.off ∷ life5 ∷ Row.off ∷ Row.off
-            ∷ Row.off ∷ Row.off ∷ Row.off ∷ Row.alive ∷ Row.alive ∷ Row.alive ∷ Row.alive ∷ Row.alive ∷ List.[]; }
+        G79 = record {
+          locals = List._++_ g63 (List._++_ t57 t60);
+          slots = Row.off ∷ Row.off ∷ Row.off ∷ Row.off ∷ Row.off ∷ life5 ∷ Row.off ∷ Row.off ∷ Row.off ∷ Row.off ∷
+              Row.off ∷ Row.alive ∷ Row.alive ∷ Row.alive ∷ Row.alive ∷ Row.alive ∷ List.[];
+        }
+
         abbrev G80 : Row.Cx
-        G80 = record { locals = List._++_ g64 (List._++_ t57 t60); slots = Row.off ∷ Row.off ∷ Row.off ∷ Row.off ∷ Row.off ∷ life5 ∷ Row.off ∷ Row.off
-            ∷ Row.off ∷ Row.off ∷ Row.off ∷ Row.alive ∷ Row.alive ∷ Row.alive ∷ Row.alive ∷ Row.alive ∷ List.[]; }
+        G80 = record {
+          locals = List._++_ g64 (List._++_ t57 t60);
+          slots = Row.off ∷ Row.off ∷ Row.off ∷ Row.off ∷ Row.off ∷ life5 ∷ Row.off ∷ Row.off ∷ Row.off ∷ Row.off ∷
+              Row.off ∷ Row.alive ∷ Row.alive ∷ Row.alive ∷ Row.alive ∷ Row.alive ∷ List.[];
+        }
+
         abbrev G81 : Row.Cx
-        G81 = record { locals = List._++_ g64 (List._++_ t57 t60); slots = Row.off ∷ Row.off ∷ Row.off ∷ Row.off ∷ Row.off ∷ life5 ∷ Row.off ∷ Row.off
-            ∷ Row.off ∷ Row.off ∷ Row.off ∷ Row.dead ∷ Row.alive ∷ Row.alive ∷ Row.alive ∷ Row.alive ∷ List.[]; }
+        G81 = record {
+          locals = List._++_ g64 (List._++_ t57 t60);
+          slots = Row.off ∷ Row.off ∷ Row.off ∷ Row.off ∷ Row.off ∷ life5 ∷ Row.off ∷ Row.off ∷ Row.off ∷ Row.off ∷
+              Row.off ∷ Row.dead ∷ Row.alive ∷ Row.alive ∷ Row.alive ∷ Row.alive ∷ List.[];
+        }
+
         abbrev G82 : Row.Cx
-        G82 = record { locals = List._++_ g65 (List._++_ t66 t60); slots = life0 ∷ Row.off ∷ Row.off ∷ Row.off ∷ Row.off ∷ life5 ∷ Row.off ∷ Row.off ∷
-            Row.off ∷ Row.off ∷ Row.off ∷ Row.dead ∷ Row.alive ∷ Row.alive ∷ Row.alive ∷ Row.alive ∷ List.[]; }
+        G82 = record {
+          locals = List._++_ g65 (List._++_ t66 t60);
+          slots = life0 ∷ Row.off ∷ Row.off ∷ Row.off ∷ Row.off ∷ life5 ∷ Row.off ∷ Row.off ∷ Row.off ∷ Row.off ∷
+              Row.off ∷ Row.dead ∷ Row.alive ∷ Row.alive ∷ Row.alive ∷ Row.alive ∷ List.[];
+        }
+
         abbrev G83 : Row.Cx
-        G83 = record { locals = List._++_ g65 (List._++_ t66 t60); slots = life0 ∷ Row.off ∷ Row.off ∷ Row.off ∷ Row.off ∷ life5 ∷ Row.off ∷ Row.off ∷
-            Row.off ∷ Row.off ∷ Row.off ∷ Row.off ∷ Row.alive ∷ Row.alive ∷ Row.alive ∷ Row.alive ∷ List.[]; }
+        G83 = record {
+          locals = List._++_ g65 (List._++_ t66 t60);
+          slots = life0 ∷ Row.off ∷ Row.off ∷ Row.off ∷ Row.off ∷ life5 ∷ Row.off ∷ Row.off ∷ Row.off ∷ Row.off ∷
+              Row.off ∷ Row.off ∷ Row.alive ∷ Row.alive ∷ Row.alive ∷ Row.alive ∷ List.[];
+        }
+
         abbrev G84 : Row.Cx
-        G84 = record { locals = List._++_ g65 (List._++_ t66 t60); slots = life0 ∷ Row.off ∷ Row.off ∷ Row.off ∷ Row.off ∷ life5 ∷ Row.off ∷ Row.off ∷
-            Row.off ∷ Row.off ∷ Row.off ∷ Row.off ∷ Row.dead ∷ Row.alive ∷ Row.alive ∷ Row.alive ∷ List.[]; }
+        G84 = record {
+          locals = List._++_ g65 (List._++_ t66 t60);
+          slots = life0 ∷ Row.off ∷ Row.off ∷ Row.off ∷ Row.off ∷ life5 ∷ Row.off ∷ Row.off ∷ Row.off ∷ Row.off ∷
+              Row.off ∷ Row.off ∷ Row.dead ∷ Row.alive ∷ Row.alive ∷ Row.alive ∷ List.[];
+        }
+
         abbrev G85 : Row.Cx
-        G85 = record { locals = List._++_ g67 (List._++_ t68 t60); slots = life0 ∷ life1 ∷ Row.off ∷ Row.off ∷ Row.off ∷ life5 ∷ Row.off ∷ Row.off ∷
-            Row.off ∷ Row.off ∷ Row.off ∷ Row.off ∷ Row.dead ∷ Row.alive ∷ Row.alive ∷ Row.alive ∷ List.[]; }
+        G85 = record {
+          locals = List._++_ g67 (List._++_ t68 t60);
+          slots = life0 ∷ life1 ∷ Row.off ∷ Row.off ∷ Row.off ∷ life5 ∷ Row.off ∷ Row.off ∷ Row.off ∷ Row.off ∷ Row.off
+              ∷ Row.off ∷ Row.dead ∷ Row.alive ∷ Row.alive ∷ Row.alive ∷ List.[];
+        }
+
         abbrev G86 : Row.Cx
-        G86 = record { locals = List._++_ g67 (List._++_ t68 t60); slots = life0 ∷ life1 ∷ Row.off ∷ Row.off ∷ Row.off ∷ life5 ∷ Row.off ∷ Row.off ∷
-            Row.off ∷ Row.off ∷ Row.off ∷ Row.off ∷ Row.off ∷ Row.alive ∷ Row.alive ∷ Row.alive ∷ List.[]; }
+        G86 = record {
+          locals = List._++_ g67 (List._++_ t68 t60);
+          slots = life0 ∷ life1 ∷ Row.off ∷ Row.off ∷ Row.off ∷ life5 ∷ Row.off ∷ Row.off ∷ Row.off ∷ Row.off ∷ Row.off
+              ∷ Row.off ∷ Row.off ∷ Row.alive ∷ Row.alive ∷ Row.alive ∷ List.[];
+        }
+
         abbrev G87 : Row.Cx
-        G87 = record { locals = List._++_ g67 (List._++_ t68 t60); slots = life0 ∷ life1 ∷ Row.off ∷ Row.off ∷ Row.off ∷ life5 ∷ Row.off ∷ Row.off ∷
-            Row.off ∷ Row.off ∷ Row.off ∷ Row.off ∷ Row.off ∷ Row.dead ∷ Row.alive ∷ Row.alive ∷ List.[]; }
+        G87 = record {
+          locals = List._++_ g67 (List._++_ t68 t60);
+          slots = life0 ∷ life1 ∷ Row.off ∷ Row.off ∷ Row.off ∷ life5 ∷ Row.off ∷ Row.off ∷ Row.off ∷ Row.off ∷ Row.off
+              ∷ Row.off ∷ Row.off ∷ Row.dead ∷ Row.alive ∷ Row.alive ∷ List.[];
+        }
+
         abbrev G88 : Row.Cx
-        G88 = record { locals = List._++_ g69 (List._++_ t70 t60); slots = life0 ∷ life1 ∷ life2 ∷ Row.off ∷ Row.off ∷ life5 ∷ Row.off ∷ Row.off ∷
-            Row.off ∷ Row.off ∷ Row.off ∷ Row.off ∷ Row.off ∷ Row.dead ∷ Row.alive ∷ Row.alive ∷ List.[]; }
+        G88 = record {
+          locals = List._++_ g69 (List._++_ t70 t60);
+          slots = life0 ∷ life1 ∷ life2 ∷ Row.off ∷ Row.off ∷ life5 ∷ Row.off ∷ Row.off ∷ Row.off ∷ Row.off ∷ Row.off ∷
+              Row.off ∷ Row.off ∷ Row.dead ∷ Row.alive ∷ Row.alive ∷ List.[];
+        }
+
         abbrev G89 : Row.Cx
-        G89 = record { locals = List._++_ g69 (List._++_ t70 t60); slots = life0 ∷ life1 ∷ life2 ∷ Row.off ∷ Row.off ∷ life5 ∷ Row.off ∷ Row.off ∷
-            Row.off ∷ Row.off ∷ Row.off ∷ Row.off ∷ Row.off ∷ Row.off ∷ Row.alive ∷ Row.alive ∷ List.[]; }
+        G89 = record {
+          locals = List._++_ g69 (List._++_ t70 t60);
+          slots = life0 ∷ life1 ∷ life2 ∷ Row.off ∷ Row.off ∷ life5 ∷ Row.off ∷ Row.off ∷ Row.off ∷ Row.off ∷ Row.off ∷
+              Row.off ∷ Row.off ∷ Row.off ∷ Row.alive ∷ Row.alive ∷ List.[];
+        }
+
         abbrev G90 : Row.Cx
-        G90 = record { locals = List._++_ g69 (List._++_ t70 t60); slots = life0 ∷ life1 ∷ life2 ∷ Row.off ∷ Row.off ∷ life5 ∷ Row.off ∷ Row.off ∷
-            Row.off ∷ Row.off ∷ Row.off ∷ Row.off ∷ Row.off ∷ Row.off ∷ Row.dead ∷ Row.alive ∷ List.[]; }
+        G90 = record {
+          locals = List._++_ g69 (List._++_ t70 t60);
+          slots = life0 ∷ life1 ∷ life2 ∷ Row.off ∷ Row.off ∷ life5 ∷ Row.off ∷ Row.off ∷ Row.off ∷ Row.off ∷ Row.off ∷
+              Row.off ∷ Row.off ∷ Row.off ∷ Row.dead ∷ Row.alive ∷ List.[];
+        }
+
         abbrev G91 : Row.Cx
-        G91 = record { locals = List._++_ g71 (List._++_ t1 t60); slots = life0 ∷ life1 ∷ life2 ∷ life3 ∷ Row.off ∷ life5 ∷ Row.off ∷ Row.off ∷
-            Row.off ∷ Row.off ∷ Row.off ∷ Row.off ∷ Row.off ∷ Row.off ∷ Row.dead ∷ Row.alive ∷ List.[]; }
+        G91 = record {
+          locals = List._++_ g71 (List._++_ t1 t60);
+          slots = life0 ∷ life1 ∷ life2 ∷ life3 ∷ Row.off ∷ life5 ∷ Row.off ∷ Row.off ∷ Row.off ∷ Row.off ∷ Row.off ∷
+              Row.off ∷ Row.off ∷ Row.off ∷ Row.dead ∷ Row.alive ∷ List.[];
+        }
+
         abbrev G92 : Row.Cx
-        G92 = record { locals = List._++_ g71 (List._++_ t1 t60); slots = life0 ∷ life1 ∷ life2 ∷ life3 ∷ Row.off ∷ life5 ∷ Row.off ∷ Row.off ∷
-            Row.off ∷ Row.off ∷ Row.off ∷ Row.off ∷ Row.off ∷ Row.off ∷ Row.off ∷ Row.alive ∷ List.[]; }
+        G92 = record {
+          locals = List._++_ g71 (List._++_ t1 t60);
+          slots = life0 ∷ life1 ∷ life2 ∷ life3 ∷ Row.off ∷ life5 ∷ Row.off ∷ Row.off ∷ Row.off ∷ Row.off ∷ Row.off ∷
+              Row.off ∷ Row.off ∷ Row.off ∷ Row.off ∷ Row.alive ∷ List.[];
+        }
+
         abbrev G93 : Row.Cx
-        G93 = record { locals = List._++_ g71 (List._++_ t1 t60); slots = life0 ∷ life1 ∷ life2 ∷ life3 ∷ Row.off ∷ life5 ∷ Row.off ∷ Row.off ∷
-            Row.off ∷ Row.off ∷ Row.off ∷ Row.off ∷ Row.off ∷ Row.off ∷ Row.off ∷ Row.dead ∷ List.[]; }
+        G93 = record {
+          locals = List._++_ g71 (List._++_ t1 t60);
+          slots = life0 ∷ life1 ∷ life2 ∷ life3 ∷ Row.off ∷ life5 ∷ Row.off ∷ Row.off ∷ Row.off ∷ Row.off ∷ Row.off ∷
+              Row.off ∷ Row.off ∷ Row.off ∷ Row.off ∷ Row.dead ∷ List.[];
+        }
+
         abbrev G94 : Row.Cx
-        G94 = record { locals = List._++_ t3 (List._++_ t1 t2); slots = life0 ∷ life1 ∷ life2 ∷ life3 ∷ life4 ∷ life5 ∷ Row.off ∷ Row.off ∷ Row.off ∷
-            Row.off ∷ Row.off ∷ Row.off ∷ Row.off ∷ Row.off ∷ Row.off ∷ Row.dead ∷ List.[]; }
+        G94 = record {
+          locals = List._++_ t3 (List._++_ t1 t2);
+          slots = life0 ∷ life1 ∷ life2 ∷ life3 ∷ life4 ∷ life5 ∷ Row.off ∷ Row.off ∷ Row.off ∷ Row.off ∷ Row.off ∷
+              Row.off ∷ Row.off ∷ Row.off ∷ Row.off ∷ Row.dead ∷ List.[];
+        }
+
         abbrev G95 : Row.Cx
-        G95 = record { locals = List._++_ t3 (List._++_ t1 t2); slots = life0 ∷ life1 ∷ life2 ∷ life3 ∷ life4 ∷ life5 ∷ Row.off ∷ Row.off ∷ Row.off ∷
-            Row.off ∷ Row.off ∷ Row.off ∷ Row.off ∷ Row.off ∷ Row.off ∷ Row.dead ∷ List.[]; }
+        G95 = record {
+          locals = List._++_ t3 (List._++_ t1 t2);
+          slots = life0 ∷ life1 ∷ life2 ∷ life3 ∷ life4 ∷ life5 ∷ Row.off ∷ Row.off ∷ Row.off ∷ Row.off ∷ Row.off ∷
+              Row.off ∷ Row.off ∷ Row.off ∷ Row.off ∷ Row.dead ∷ List.[];
+        }
+
         abbrev G96 : Row.Cx
-        G96 = record { locals = List._++_ t3 (List._++_ t1 t2); slots = life0 ∷ life1 ∷ life2 ∷ life3 ∷ life4 ∷ life5 ∷ Row.off ∷ Row.off ∷ Row.off ∷
-            Row.off ∷ Row.off ∷ Row.off ∷ Row.off ∷ Row.off ∷ Row.off ∷ Row.off ∷ List.[]; }
+        G96 = record {
+          locals = List._++_ t3 (List._++_ t1 t2);
+          slots = life0 ∷ life1 ∷ life2 ∷ life3 ∷ life4 ∷ life5 ∷ Row.off ∷ Row.off ∷ Row.off ∷ Row.off ∷ Row.off ∷
+              Row.off ∷ Row.off ∷ Row.off ∷ Row.off ∷ Row.off ∷ List.[];
+        }
+
         abbrev Δ0 : Typed.Outs
         Δ0 = record { next = Option.none; exits = List.[]; returns = Option.some G1 }
+
         abbrev Δ1 : Typed.Outs
         Δ1 = Typed.withNext (Option.some G45) Δ0
-        module _ { M : Type 1 } (𝓤 : URA.URA M) (H : Wp.Heap 𝓤) (A : Atoms.Atoms 𝓤) (W : Kit.Given 𝓤 H A) (𝓣 : Wp.Tables 𝓤 H) (known : Knowns 𝓤 H A W
-            𝓣) (bs : List.List Nat.ℕ) (bd : Lifetimes.AllOutlive 6 (Kinds.osR r) κs) where
+
+        module _ {M : Type 1} (𝓤 : URA.URA M) (H : Wp.Heap 𝓤) (A : Atoms.Atoms 𝓤) (W : Kit.Given 𝓤 H A)
+            (𝓣 : Wp.Tables 𝓤 H) (known : Knowns 𝓤 H A W 𝓣) (bs : List.List Nat.ℕ)
+            (bd : Lifetimes.AllOutlive 6 (Kinds.osR r) κs) where
           abbrev E : Wp.Env 𝓤 H
           E = Frame.EnvOf 𝓤 H ((Kinds.tyR r) ∷ (Enter.tysP ps xs)) bs
+
           d0 : Typed.Typed 𝓤 H A 𝓣 E G52 b18 Δ1 at0
           d0 = Typed.t-return 𝓤 H A W 𝓣 E Δ1 tt
+
           d1 : Typed.Typed 𝓤 H A 𝓣 E G51 b18 Δ1 at1
-          d1 = Typed.g-pre 𝓤 H A W 𝓣 E G51 G52 b18 Δ1 (Typed.pass T51 T52 s49) at0 (Scalar.g-room 𝓤 H A W E G51 11 (Syntax.tyInt Syntax.w64)
-              (Scalar.room-sc 𝓤 H A W (Row.sInt Syntax.w64))) d0
+          d1 = Typed.g-pre 𝓤 H A W 𝓣 E G51 G52 b18 Δ1 (Typed.pass T51 T52 s49) at0 (Scalar.g-room 𝓤 H A W E G51 11
+              (Syntax.tyInt Syntax.w64) (Scalar.room-sc 𝓤 H A W (Row.sInt Syntax.w64))) d0
+
           d2 : Typed.Typed 𝓤 H A 𝓣 E G50 b18 Δ1 at2
-          d2 = Typed.g-pre 𝓤 H A W 𝓣 E G50 G51 b18 Δ1 (Typed.pass T50 T51 s48) at1 (Scalar.g-room 𝓤 H A W E G50 10 (Syntax.tyInt Syntax.w64)
-              (Scalar.room-sc 𝓤 H A W (Row.sInt Syntax.w64))) d1
+          d2 = Typed.g-pre 𝓤 H A W 𝓣 E G50 G51 b18 Δ1 (Typed.pass T50 T51 s48) at1 (Scalar.g-room 𝓤 H A W E G50 10
+              (Syntax.tyInt Syntax.w64) (Scalar.room-sc 𝓤 H A W (Row.sInt Syntax.w64))) d1
+
           d3 : Typed.Typed 𝓤 H A 𝓣 E G49 b18 Δ1 at3
-          d3 = Typed.g-pre 𝓤 H A W 𝓣 E G49 G50 b18 Δ1 (Typed.pass T49 T50 s47) at2 (Scalar.g-room 𝓤 H A W E G49 9 Laws'.mir (Local.room-whole 𝓤 H A W
-              (Declared.row HnsrAnswer.the-type) Laws'.mir Path.refl)) d2
+          d3 = Typed.g-pre 𝓤 H A W 𝓣 E G49 G50 b18 Δ1 (Typed.pass T49 T50 s47) at2 (Scalar.g-room 𝓤 H A W E G49 9
+              Laws'.mir (Local.room-whole 𝓤 H A W (Declared.row HnsrAnswer.the-type) Laws'.mir Path.refl)) d2
+
           d4 : Typed.Typed 𝓤 H A 𝓣 E G48 b19 Δ1 at4
-          d4 = Typed.s-seq 𝓤 H A W 𝓣 E G48 G49 b17 b18 Δ1 (Typed.both s46) at3 (Plain.t-call-plain 𝓤 H A W 𝓣 0 ps·2 r·2 (claims· .4) (claims· .5)
-              "cases::script::answer_number" (known .2) E (λ pos β. β) G48 (record { pos = 9; st = List.[]; d = 0; at = λ x. x }, tt) 0 List.[]
-              (Call.sub-id 𝓤 H A W (G48 .slots)) ((Yields.yields-copy 𝓤 H A W (λ ρ. Unit) (Declared.row HnsrAnswer.the-type) Path.refl (Copies.cEnum
-              HnsrAnswer.the-type Laws'.the-laws Laws'.the-copy .copy 𝓤 H A W) (Rows.whole (Declared.row HnsrAnswer.the-type)) (λ x. x) (λ x. x) (λ ρ
-              told. Local.mem-whole 𝓤 H A W (Declared.row HnsrAnswer.the-type) ρ) λ ρ told. Local.whole-mem 𝓤 H A W (Declared.row HnsrAnswer.the-type)
-              ρ, Path.refl,), tt,) (Reads'.room-gone 𝓤 H A (Syntax.tyInt Syntax.w64)) tt Path.refl) d3
+          d4 = Typed.s-seq 𝓤 H A W 𝓣 E G48 G49 b17 b18 Δ1 (Typed.both s46) at3 (Plain.t-call-plain 𝓤 H A W 𝓣 0 ps·2 r·2
+              (claims· .4) (claims· .5) "cases::script::answer_number" (known .2) E (λ pos β. β) G48
+              (record { pos = 9; st = List.[]; d = 0; at = λ x. x }, tt) 0 List.[] (Call.sub-id 𝓤 H A W (G48 .slots)) (
+                (
+                  Yields.yields-copy 𝓤 H A W (λ ρ. Unit) (Declared.row HnsrAnswer.the-type) Path.refl (Copies.cEnum
+                      HnsrAnswer.the-type Laws'.the-laws Laws'.the-copy .copy 𝓤 H A W)
+                      (Rows.whole (Declared.row HnsrAnswer.the-type)) (λ x. x) (λ x. x) (λ ρ told. Local.mem-whole 𝓤 H
+                      A W (Declared.row HnsrAnswer.the-type) ρ) λ ρ told. Local.whole-mem 𝓤 H A W
+                      (Declared.row HnsrAnswer.the-type) ρ,
+                  Path.refl,
+                ),
+                tt,
+              ) (Reads'.room-gone 𝓤 H A (Syntax.tyInt Syntax.w64)) tt Path.refl) d3
+
           d5 : Typed.Typed 𝓤 H A 𝓣 E G47 b19 Δ1 at5
-          d5 = Typed.g-pre 𝓤 H A W 𝓣 E G47 G48 b19 Δ1 (Typed.pass T47 T48 s45) at4 (Scalar.g-room 𝓤 H A W E G47 23 Syntax.tyBool (Scalar.room-sc 𝓤 H A
-              W Row.sBool)) d4
+          d5 = Typed.g-pre 𝓤 H A W 𝓣 E G47 G48 b19 Δ1 (Typed.pass T47 T48 s45) at4 (Scalar.g-room 𝓤 H A W E G47 23
+              Syntax.tyBool (Scalar.room-sc 𝓤 H A W Row.sBool)) d4
+
           d6 : Typed.Typed 𝓤 H A 𝓣 E G46 b19 Δ1 at6
-          d6 = Typed.g-pre 𝓤 H A W 𝓣 E G46 G47 b19 Δ1 (Typed.pass T46 T47 s44) at5 (Scalar.g-room 𝓤 H A W E G46 8 Laws''.mir (Local.room-whole 𝓤 H A W
-              (Declared'.row Relayed.the-type) Laws''.mir Path.refl)) d5
+          d6 = Typed.g-pre 𝓤 H A W 𝓣 E G46 G47 b19 Δ1 (Typed.pass T46 T47 s44) at5 (Scalar.g-room 𝓤 H A W E G46 8
+              Laws''.mir (Local.room-whole 𝓤 H A W (Declared'.row Relayed.the-type) Laws''.mir Path.refl)) d5
+
           d7 : Typed.Typed 𝓤 H A 𝓣 E G44 b19 Δ1 at7
-          d7 = Typed.g-pre 𝓤 H A W 𝓣 E G44 G46 b19 Δ1 (Typed.pass T44 T46 s43) at6 (Scalar.g-room 𝓤 H A W E G44 7 Laws.mir (Local.room-whole 𝓤 H A W
-              (Declared'.row Script.the-type) Laws.mir Path.refl)) d6
+          d7 = Typed.g-pre 𝓤 H A W 𝓣 E G44 G46 b19 Δ1 (Typed.pass T44 T46 s43) at6 (Scalar.g-room 𝓤 H A W E G44 7
+              Laws.mir (Local.room-whole 𝓤 H A W (Declared'.row Script.the-type) Laws.mir Path.refl)) d6
+
           d8 : Typed.Typed 𝓤 H A 𝓣 E G54 b20 Δ1 at8
           d8 = Typed.t-skip 𝓤 H A W 𝓣 E Δ1 tt
+
           d9 : Typed.Typed 𝓤 H A 𝓣 E G53 b20 Δ1 at9
-          d9 = Typed.g-pre 𝓤 H A W 𝓣 E G53 G54 b20 Δ1 (Typed.pass T53 T54 s51) at8 (Scalar.g-room 𝓤 H A W E G53 23 Syntax.tyBool (Scalar.room-sc 𝓤 H A
-              W Row.sBool)) d8
+          d9 = Typed.g-pre 𝓤 H A W 𝓣 E G53 G54 b20 Δ1 (Typed.pass T53 T54 s51) at8 (Scalar.g-room 𝓤 H A W E G53 23
+              Syntax.tyBool (Scalar.room-sc 𝓤 H A W Row.sBool)) d8
+
           d10 : Typed.Typed 𝓤 H A 𝓣 E G44 b20 Δ1 at10
-          d10 = Typed.g-pre 𝓤 H A W 𝓣 E G44 G53 b20 Δ1 (Typed.pass T44 T53 s50) at9 (Scalar.g-room 𝓤 H A W E G44 9 Laws'.mir (Local.room-whole 𝓤 H A W
-              (Declared.row HnsrAnswer.the-type) Laws'.mir Path.refl)) d9
+          d10 = Typed.g-pre 𝓤 H A W 𝓣 E G44 G53 b20 Δ1 (Typed.pass T44 T53 s50) at9 (Scalar.g-room 𝓤 H A W E G44 9
+              Laws'.mir (Local.room-whole 𝓤 H A W (Declared.row HnsrAnswer.the-type) Laws'.mir Path.refl)) d9
+
           d11 : Typed.Typed 𝓤 H A 𝓣 E G44 b21 Δ1 at11
-          d11 = Scalar.t-cond 𝓤 H A W E 𝓣 G44 23 (λ x. x) b19 b20 Δ1 at7 at10 (Scalar.reads-sc 𝓤 H A W Row.sBool) Path.refl d7 d10
+          d11 = Scalar.t-cond 𝓤 H A W E 𝓣 G44 23 (λ x. x) b19 b20 Δ1 at7 at10 (Scalar.reads-sc 𝓤 H A W Row.sBool)
+              Path.refl d7 d10
+
           d12 : Typed.Typed 𝓤 H A 𝓣 E G96 b37 Δ0 at12
           d12 = Typed.t-return 𝓤 H A W 𝓣 E Δ0 tt
+
           d13 : Typed.Typed 𝓤 H A 𝓣 E G95 b37 Δ0 at13
-          d13 = Typed.g-pre 𝓤 H A W 𝓣 E G95 G96 b37 Δ0 (λ Ψ. Ψ) at12 (Lifetime.g-forget 𝓤 H A W E G95 15 Row.dead Path.refl) d12
+          d13 = Typed.g-pre 𝓤 H A W 𝓣 E G95 G96 b37 Δ0 (λ Ψ. Ψ) at12
+              (Lifetime.g-forget 𝓤 H A W E G95 15 Row.dead Path.refl) d12
+
           d14 : Typed.Typed 𝓤 H A 𝓣 E G94 b37 Δ0 at14
-          d14 = Typed.g-pre 𝓤 H A W 𝓣 E G94 G95 b37 Δ0 (Typed.give s92) at13 (Know.g-sl-known 𝓤 H A W (Referent.fInt Syntax.w32) E G94 5 4 ref10 life4
-              0 (λ x. x) record { fits = Dec.lit< tt } (Reads'.as-is 𝓤 H A (Mut.mslice (Referent.rtF (Referent.fInt Syntax.w32)) ref10 4)) Path.refl
-              tt) d13
+          d14 = Typed.g-pre 𝓤 H A W 𝓣 E G94 G95 b37 Δ0 (Typed.give s92) at13 (Know.g-sl-known 𝓤 H A W
+              (Referent.fInt Syntax.w32) E G94 5 4 ref10 life4 0 (λ x. x) record { fits = Dec.lit< tt } (Reads'.as-is 𝓤
+              H A (Mut.mslice (Referent.rtF (Referent.fInt Syntax.w32)) ref10 4)) Path.refl tt) d13
+
           d15 : Typed.Typed 𝓤 H A 𝓣 E G93 b37 Δ0 at15
-          d15 = Typed.g-pre 𝓤 H A W 𝓣 E G93 G94 b37 Δ0 (Typed.both s91) at14 (Relend.g-back-sl 𝓤 H A W E (Referent.rtF (Referent.fInt Syntax.w32)) G93
-              33 5 4 15 ref10 ref4 life4 (λ x. x) (λ x. x) (Reads'.as-is 𝓤 H A (Mut.msleft (Referent.rtF (Referent.fInt Syntax.w32)) ref4))
-              (Reads'.as-is 𝓤 H A (Relend.mslice-owed (Referent.rtF (Referent.fInt Syntax.w32)) ref10 4 15 life4)) Path.refl Path.refl) d14
+          d15 = Typed.g-pre 𝓤 H A W 𝓣 E G93 G94 b37 Δ0 (Typed.both s91) at14 (Relend.g-back-sl 𝓤 H A W E
+              (Referent.rtF (Referent.fInt Syntax.w32)) G93 33 5 4 15 ref10 ref4 life4 (λ x. x) (λ x. x) (Reads'.as-is
+              𝓤 H A (Mut.msleft (Referent.rtF (Referent.fInt Syntax.w32)) ref4)) (Reads'.as-is 𝓤 H A (Relend.mslice-owed
+              (Referent.rtF (Referent.fInt Syntax.w32)) ref10 4 15 life4)) Path.refl Path.refl) d14
+
           d16 : Typed.Typed 𝓤 H A 𝓣 E G92 b37 Δ0 at16
           d16 = Typed.g-pre 𝓤 H A W 𝓣 E G92 G93 b37 Δ0 (λ Ψ. Ψ) at15 (Lifetime.g-end 𝓤 H A W E G92 15 Path.refl) d15
+
           d17 : Typed.Typed 𝓤 H A 𝓣 E G91 b37 Δ0 at17
-          d17 = Typed.g-pre 𝓤 H A W 𝓣 E G91 G92 b37 Δ0 (λ Ψ. Ψ) at16 (Lifetime.g-forget 𝓤 H A W E G91 14 Row.dead Path.refl) d16
+          d17 = Typed.g-pre 𝓤 H A W 𝓣 E G91 G92 b37 Δ0 (λ Ψ. Ψ) at16
+              (Lifetime.g-forget 𝓤 H A W E G91 14 Row.dead Path.refl) d16
+
           d18 : Typed.Typed 𝓤 H A 𝓣 E G90 b37 Δ0 at18
-          d18 = Typed.g-pre 𝓤 H A W 𝓣 E G90 G91 b37 Δ0 (Typed.both s88) at17 (Relend.g-back-sl 𝓤 H A W E InflightAction.row G90 31 4 3 14 ref9 ref3
-              life3 (λ x. x) (λ x. x) (Reads'.as-is 𝓤 H A (Mut.msleft InflightAction.row ref3)) (Reads'.as-is 𝓤 H A (Relend.mslice-owed
-              InflightAction.row ref9 3 14 life3)) Path.refl Path.refl) d17
+          d18 = Typed.g-pre 𝓤 H A W 𝓣 E G90 G91 b37 Δ0 (Typed.both s88) at17 (Relend.g-back-sl 𝓤 H A W E
+              InflightAction.row G90 31 4 3 14 ref9 ref3 life3 (λ x. x) (λ x. x)
+              (Reads'.as-is 𝓤 H A (Mut.msleft InflightAction.row ref3)) (Reads'.as-is 𝓤 H A
+              (Relend.mslice-owed InflightAction.row ref9 3 14 life3)) Path.refl Path.refl) d17
+
           d19 : Typed.Typed 𝓤 H A 𝓣 E G89 b37 Δ0 at19
           d19 = Typed.g-pre 𝓤 H A W 𝓣 E G89 G90 b37 Δ0 (λ Ψ. Ψ) at18 (Lifetime.g-end 𝓤 H A W E G89 14 Path.refl) d18
+
           d20 : Typed.Typed 𝓤 H A 𝓣 E G88 b37 Δ0 at20
-          d20 = Typed.g-pre 𝓤 H A W 𝓣 E G88 G89 b37 Δ0 (λ Ψ. Ψ) at19 (Lifetime.g-forget 𝓤 H A W E G88 13 Row.dead Path.refl) d19
+          d20 = Typed.g-pre 𝓤 H A W 𝓣 E G88 G89 b37 Δ0 (λ Ψ. Ψ) at19
+              (Lifetime.g-forget 𝓤 H A W E G88 13 Row.dead Path.refl) d19
+
           d21 : Typed.Typed 𝓤 H A 𝓣 E G87 b37 Δ0 at21
-          d21 = Typed.g-pre 𝓤 H A W 𝓣 E G87 G88 b37 Δ0 (Typed.both s85) at20 (Relend.g-back-sl 𝓤 H A W E ReservationUsage.row G87 29 3 2 13 ref8 ref2
-              life2 (λ x. x) (λ x. x) (Reads'.as-is 𝓤 H A (Mut.msleft ReservationUsage.row ref2)) (Reads'.as-is 𝓤 H A (Relend.mslice-owed
-              ReservationUsage.row ref8 2 13 life2)) Path.refl Path.refl) d20
+          d21 = Typed.g-pre 𝓤 H A W 𝓣 E G87 G88 b37 Δ0 (Typed.both s85) at20 (Relend.g-back-sl 𝓤 H A W E
+              ReservationUsage.row G87 29 3 2 13 ref8 ref2 life2 (λ x. x) (λ x. x)
+              (Reads'.as-is 𝓤 H A (Mut.msleft ReservationUsage.row ref2)) (Reads'.as-is 𝓤 H A
+              (Relend.mslice-owed ReservationUsage.row ref8 2 13 life2)) Path.refl Path.refl) d20
+
           d22 : Typed.Typed 𝓤 H A 𝓣 E G86 b37 Δ0 at22
           d22 = Typed.g-pre 𝓤 H A W 𝓣 E G86 G87 b37 Δ0 (λ Ψ. Ψ) at21 (Lifetime.g-end 𝓤 H A W E G86 13 Path.refl) d21
+
           d23 : Typed.Typed 𝓤 H A 𝓣 E G85 b37 Δ0 at23
-          d23 = Typed.g-pre 𝓤 H A W 𝓣 E G85 G86 b37 Δ0 (λ Ψ. Ψ) at22 (Lifetime.g-forget 𝓤 H A W E G85 12 Row.dead Path.refl) d22
+          d23 = Typed.g-pre 𝓤 H A W 𝓣 E G85 G86 b37 Δ0 (λ Ψ. Ψ) at22
+              (Lifetime.g-forget 𝓤 H A W E G85 12 Row.dead Path.refl) d22
+
           d24 : Typed.Typed 𝓤 H A 𝓣 E G84 b37 Δ0 at24
-          d24 = Typed.g-pre 𝓤 H A W 𝓣 E G84 G85 b37 Δ0 (Typed.both s82) at23 (Relend.g-back-sl 𝓤 H A W E RelayCircuit.row G84 27 2 1 12 ref7 ref1
-              life1 (λ x. x) (λ x. x) (Reads'.as-is 𝓤 H A (Mut.msleft RelayCircuit.row ref1)) (Reads'.as-is 𝓤 H A (Relend.mslice-owed RelayCircuit.row
-              ref7 1 12 life1)) Path.refl Path.refl) d23
+          d24 = Typed.g-pre 𝓤 H A W 𝓣 E G84 G85 b37 Δ0 (Typed.both s82) at23 (Relend.g-back-sl 𝓤 H A W E
+              RelayCircuit.row G84 27 2 1 12 ref7 ref1 life1 (λ x. x) (λ x. x)
+              (Reads'.as-is 𝓤 H A (Mut.msleft RelayCircuit.row ref1)) (Reads'.as-is 𝓤 H A
+              (Relend.mslice-owed RelayCircuit.row ref7 1 12 life1)) Path.refl Path.refl) d23
+
           d25 : Typed.Typed 𝓤 H A 𝓣 E G83 b37 Δ0 at25
           d25 = Typed.g-pre 𝓤 H A W 𝓣 E G83 G84 b37 Δ0 (λ Ψ. Ψ) at24 (Lifetime.g-end 𝓤 H A W E G83 12 Path.refl) d24
+
           d26 : Typed.Typed 𝓤 H A 𝓣 E G82 b37 Δ0 at26
-          d26 = Typed.g-pre 𝓤 H A W 𝓣 E G82 G83 b37 Δ0 (λ Ψ. Ψ) at25 (Lifetime.g-forget 𝓤 H A W E G82 11 Row.dead Path.refl) d25
+          d26 = Typed.g-pre 𝓤 H A W 𝓣 E G82 G83 b37 Δ0 (λ Ψ. Ψ) at25
+              (Lifetime.g-forget 𝓤 H A W E G82 11 Row.dead Path.refl) d25
+
           d27 : Typed.Typed 𝓤 H A 𝓣 E G81 b37 Δ0 at27
-          d27 = Typed.g-pre 𝓤 H A W 𝓣 E G81 G82 b37 Δ0 (Typed.both s79) at26 (Relend.g-back-sl 𝓤 H A W E RelayPending.row G81 25 1 0 11 ref6 ref0
-              life0 (λ x. x) (λ x. x) (Reads'.as-is 𝓤 H A (Mut.msleft RelayPending.row ref0)) (Reads'.as-is 𝓤 H A (Relend.mslice-owed RelayPending.row
-              ref6 0 11 life0)) Path.refl Path.refl) d26
+          d27 = Typed.g-pre 𝓤 H A W 𝓣 E G81 G82 b37 Δ0 (Typed.both s79) at26 (Relend.g-back-sl 𝓤 H A W E
+              RelayPending.row G81 25 1 0 11 ref6 ref0 life0 (λ x. x) (λ x. x)
+              (Reads'.as-is 𝓤 H A (Mut.msleft RelayPending.row ref0)) (Reads'.as-is 𝓤 H A
+              (Relend.mslice-owed RelayPending.row ref6 0 11 life0)) Path.refl Path.refl) d26
+
           d28 : Typed.Typed 𝓤 H A 𝓣 E G80 b37 Δ0 at28
           d28 = Typed.g-pre 𝓤 H A W 𝓣 E G80 G81 b37 Δ0 (λ Ψ. Ψ) at27 (Lifetime.g-end 𝓤 H A W E G80 11 Path.refl) d27
+
           d29 : Typed.Typed 𝓤 H A 𝓣 E G79 b37 Δ0 at29
-          d29 = Typed.g-pre 𝓤 H A W 𝓣 E G79 G80 b37 Δ0 (Typed.pass T79 T80 s77) at28 (Scalar.g-room 𝓤 H A W E G79 11 (Syntax.tyInt Syntax.w64)
-              (Scalar.room-sc 𝓤 H A W (Row.sInt Syntax.w64))) d28
+          d29 = Typed.g-pre 𝓤 H A W 𝓣 E G79 G80 b37 Δ0 (Typed.pass T79 T80 s77) at28 (Scalar.g-room 𝓤 H A W E G79 11
+              (Syntax.tyInt Syntax.w64) (Scalar.room-sc 𝓤 H A W (Row.sInt Syntax.w64))) d28
+
           d30 : Typed.Typed 𝓤 H A 𝓣 E G78 b37 Δ0 at30
-          d30 = Typed.g-pre 𝓤 H A W 𝓣 E G78 G79 b37 Δ0 (Typed.pass T78 T79 s76) at29 (Scalar.g-room 𝓤 H A W E G78 10 (Syntax.tyInt Syntax.w64)
-              (Scalar.room-sc 𝓤 H A W (Row.sInt Syntax.w64))) d29
+          d30 = Typed.g-pre 𝓤 H A W 𝓣 E G78 G79 b37 Δ0 (Typed.pass T78 T79 s76) at29 (Scalar.g-room 𝓤 H A W E G78 10
+              (Syntax.tyInt Syntax.w64) (Scalar.room-sc 𝓤 H A W (Row.sInt Syntax.w64))) d29
+
           d31 : Typed.Typed 𝓤 H A 𝓣 E G77 b37 Δ0 at31
-          d31 = Typed.g-pre 𝓤 H A W 𝓣 E G77 G78 b37 Δ0 (Typed.pass T77 T78 s75) at30 (Scalar.g-room 𝓤 H A W E G77 8 Laws''.mir (Local.room-whole 𝓤 H A
-              W (Declared'.row Relayed.the-type) Laws''.mir Path.refl)) d30
+          d31 = Typed.g-pre 𝓤 H A W 𝓣 E G77 G78 b37 Δ0 (Typed.pass T77 T78 s75) at30 (Scalar.g-room 𝓤 H A W E G77 8
+              Laws''.mir (Local.room-whole 𝓤 H A W (Declared'.row Relayed.the-type) Laws''.mir Path.refl)) d30
+
           d32 : Typed.Typed 𝓤 H A 𝓣 E G76 b37 Δ0 at32
-          d32 = Typed.g-pre 𝓤 H A W 𝓣 E G76 G77 b37 Δ0 (Typed.pass T76 T77 s74) at31 (Scalar.g-room 𝓤 H A W E G76 7 Laws.mir (Local.room-whole 𝓤 H A W
-              (Declared'.row Script.the-type) Laws.mir Path.refl)) d31
+          d32 = Typed.g-pre 𝓤 H A W 𝓣 E G76 G77 b37 Δ0 (Typed.pass T76 T77 s74) at31 (Scalar.g-room 𝓤 H A W E G76 7
+              Laws.mir (Local.room-whole 𝓤 H A W (Declared'.row Script.the-type) Laws.mir Path.refl)) d31
+
           d33 : Typed.Typed 𝓤 H A 𝓣 E G75 b37 Δ0 at33
-          d33 = Typed.g-pre 𝓤 H A W 𝓣 E G75 G76 b37 Δ0 (Typed.pass T75 T76 s73) at32 (Scalar.g-room 𝓤 H A W E G75 37 (Syntax.tyStruct (38 ∷ 91 ∷ 93 ∷
-              List.[]) (Syntax.tcons ref5 (Syntax.tcons (Syntax.tyInt Syntax.w64) Syntax.tnil))) (Shared.room-sslice 𝓤 H A W (Referent.rtF
-              (Referent.fInt Syntax.w8)) ref5 5)) d32
+          d33 = Typed.g-pre 𝓤 H A W 𝓣 E G75 G76 b37 Δ0 (Typed.pass T75 T76 s73) at32 (Scalar.g-room 𝓤 H A W E G75 37
+              slice5 (Shared.room-sslice 𝓤 H A W (Referent.rtF (Referent.fInt Syntax.w8)) ref5 5)) d32
+
           d34 : Typed.Typed 𝓤 H A 𝓣 E G74 b37 Δ0 at34
-          d34 = Typed.g-pre 𝓤 H A W 𝓣 E G74 G75 b37 Δ0 (Typed.pass T74 T75 s72) at33 (Scalar.g-room 𝓤 H A W E G74 35 (Syntax.tyStruct (38 ∷ 91 ∷ 93 ∷
-              List.[]) (Syntax.tcons ref5 (Syntax.tcons (Syntax.tyInt Syntax.w64) Syntax.tnil))) (Shared.room-sslice 𝓤 H A W (Referent.rtF
-              (Referent.fInt Syntax.w8)) ref5 5)) d33
+          d34 = Typed.g-pre 𝓤 H A W 𝓣 E G74 G75 b37 Δ0 (Typed.pass T74 T75 s72) at33 (Scalar.g-room 𝓤 H A W E G74 35
+              slice5 (Shared.room-sslice 𝓤 H A W (Referent.rtF (Referent.fInt Syntax.w8)) ref5 5)) d33
+
           d35 : Typed.Typed 𝓤 H A 𝓣 E G73 b38 Δ0 at35
-          d35 = Typed.s-seq 𝓤 H A W 𝓣 E G73 G74 b36 b37 Δ0 (Typed.both s71) at34 (Plain.t-call-plain 𝓤 H A W 𝓣 7 ps·3 r·3 (claims· .6) (claims· .7)
-              "cases::machine::send_packets" (known .3) E (λ pos β. β) G73 (record { pos = 25; ty = Syntax.tyRef Syntax.erased Syntax.mut
-              RelayPending.to; ref = λ x. x; }, (record { pos = 27; ty = Syntax.tyRef Syntax.erased Syntax.mut RelayCircuit.to; ref = λ x. x; },
-              (record { pos = 29; ty = Syntax.tyRef Syntax.erased Syntax.mut ReservationUsage.to; ref = λ x. x; }, (record { pos = 31; ty =
-              Syntax.tyRef Syntax.erased Syntax.mut InflightAction.to; ref = λ x. x; }, (record { pos = 33; ty = Syntax.tyRef Syntax.erased Syntax.mut
-              (Syntax.tyInt Syntax.w32); ref = λ x. x; }, (record { pos = 8; st = List.[]; d = 0; at = λ x. x }, (record { pos = 35; ty = Syntax.tyRef
-              Syntax.erased Syntax.imm (Syntax.tyInt Syntax.w8); ref = λ x. x; }, (record { pos = 37; ty = Syntax.tyRef Syntax.erased Syntax.imm
-              (Syntax.tyInt Syntax.w8); ref = λ x. x; }, (record { pos = 7; st = List.[]; d = 0; at = λ x. x }, tt),),),),),),),),) 0 (11 ∷ 12 ∷ 13 ∷
-              14 ∷ 15 ∷ 5 ∷ 5 ∷ List.[]) (Call.sub-id 𝓤 H A W (G73 .slots)) (Reads'.as-is 𝓤 H A (Mut.mslice RelayPending.row ref0 11),
-              Mut.reads-mslice 𝓤 H A W RelayPending.row ref0 11, Path.refl, (Reads'.as-is 𝓤 H A (Mut.mslice RelayCircuit.row ref1 12),
-              Mut.reads-mslice 𝓤 H A W RelayCircuit.row ref1 12, Path.refl, (Reads'.as-is 𝓤 H A (Mut.mslice ReservationUsage.row ref2 13),
-              Mut.reads-mslice 𝓤 H A W ReservationUsage.row ref2 13, Path.refl, (Reads'.as-is 𝓤 H A (Mut.mslice InflightAction.row ref3 14),
-              Mut.reads-mslice 𝓤 H A W InflightAction.row ref3 14, Path.refl, (Reads'.as-is 𝓤 H A (Mut.mslice (Referent.rtF (Referent.fInt
-              Syntax.w32)) ref4 15), Mut.reads-mslice 𝓤 H A W (Referent.rtF (Referent.fInt Syntax.w32)) ref4 15, Path.refl, ((Yields.yields-copy 𝓤 H A
-              W (λ ρ. Unit) (Declared'.row Relayed.the-type) Path.refl (Copies.cStruct Relayed.the-type Laws''.the-laws Laws''.the-copy .copy 𝓤 H A W)
-              (Rows.whole (Declared'.row Relayed.the-type)) (λ x. x) (λ x. x) (λ ρ told. Local.mem-whole 𝓤 H A W (Declared'.row Relayed.the-type) ρ) λ
-              ρ told. Local.whole-mem 𝓤 H A W (Declared'.row Relayed.the-type) ρ, Path.refl,), (ShrSlice.spares-sslice 𝓤 H A W (Referent.rtF
-              (Referent.fInt Syntax.w8)) ref5 5, Shared.reads-sslice 𝓤 H A W (Referent.rtF (Referent.fInt Syntax.w8)) ref5 5, Path.refl,
-              (ShrSlice.spares-sslice 𝓤 H A W (Referent.rtF (Referent.fInt Syntax.w8)) ref5 5, Shared.reads-sslice 𝓤 H A W (Referent.rtF
-              (Referent.fInt Syntax.w8)) ref5 5, Path.refl, ((Yields.yields-copy 𝓤 H A W (λ ρ. Unit) (Declared'.row Script.the-type) Path.refl
-              (Copies.cStruct Script.the-type Laws.the-laws Laws.the-copy .copy 𝓤 H A W) (Rows.whole (Declared'.row Script.the-type)) (λ x. x) (λ x.
-              x) (λ ρ told. Local.mem-whole 𝓤 H A W (Declared'.row Script.the-type) ρ) λ ρ told. Local.whole-mem 𝓤 H A W (Declared'.row
-              Script.the-type) ρ, Path.refl,), tt,),),),),),),),),) (Reads'.room-gone 𝓤 H A (Syntax.tyInt Syntax.w64)) (tt, (tt, (tt, (tt, (tt, (tt,
-              (tt, tt))))))) Path.refl) d34
+          d35 = Typed.s-seq 𝓤 H A W 𝓣 E G73 G74 b36 b37 Δ0 (Typed.both s71) at34 (Plain.t-call-plain 𝓤 H A W 𝓣 7 ps·3
+              r·3 (claims· .6) (claims· .7) "cases::machine::send_packets" (known .3) E (λ pos β. β) G73 (
+                record { pos = 25; ty = ref0; ref = λ x. x },
+                (
+                  record { pos = 27; ty = ref1; ref = λ x. x },
+                  (
+                    record { pos = 29; ty = ref2; ref = λ x. x },
+                    (
+                      record { pos = 31; ty = ref3; ref = λ x. x },
+                      (
+                        record { pos = 33; ty = ref4; ref = λ x. x },
+                        (
+                          record { pos = 8; st = List.[]; d = 0; at = λ x. x },
+                          (
+                            record { pos = 35; ty = ref5; ref = λ x. x },
+                            (
+                              record { pos = 37; ty = ref5; ref = λ x. x },
+                              (record { pos = 7; st = List.[]; d = 0; at = λ x. x }, tt),
+                            ),
+                          ),
+                        ),
+                      ),
+                    ),
+                  ),
+                ),
+              ) 0 (11 ∷ 12 ∷ 13 ∷ 14 ∷ 15 ∷ 5 ∷ 5 ∷ List.[]) (Call.sub-id 𝓤 H A W (G73 .slots)) (
+                Reads'.as-is 𝓤 H A (Mut.mslice RelayPending.row ref0 11),
+                Mut.reads-mslice 𝓤 H A W RelayPending.row ref0 11,
+                Path.refl,
+                (
+                  Reads'.as-is 𝓤 H A (Mut.mslice RelayCircuit.row ref1 12),
+                  Mut.reads-mslice 𝓤 H A W RelayCircuit.row ref1 12,
+                  Path.refl,
+                  (
+                    Reads'.as-is 𝓤 H A (Mut.mslice ReservationUsage.row ref2 13),
+                    Mut.reads-mslice 𝓤 H A W ReservationUsage.row ref2 13,
+                    Path.refl,
+                    (
+                      Reads'.as-is 𝓤 H A (Mut.mslice InflightAction.row ref3 14),
+                      Mut.reads-mslice 𝓤 H A W InflightAction.row ref3 14,
+                      Path.refl,
+                      (
+                        Reads'.as-is 𝓤 H A (Mut.mslice (Referent.rtF (Referent.fInt Syntax.w32)) ref4 15),
+                        Mut.reads-mslice 𝓤 H A W (Referent.rtF (Referent.fInt Syntax.w32)) ref4 15,
+                        Path.refl,
+                        (
+                          (
+                            Yields.yields-copy 𝓤 H A W (λ ρ. Unit) (Declared'.row Relayed.the-type) Path.refl (Copies.cStruct
+                                Relayed.the-type Laws''.the-laws Laws''.the-copy .copy 𝓤 H A W)
+                                (Rows.whole (Declared'.row Relayed.the-type)) (λ x. x) (λ x. x) (λ ρ told.
+                                Local.mem-whole 𝓤 H A W (Declared'.row Relayed.the-type) ρ) λ ρ told. Local.whole-mem 𝓤
+                                H A W (Declared'.row Relayed.the-type) ρ,
+                            Path.refl,
+                          ),
+                          (
+                            ShrSlice.spares-sslice 𝓤 H A W (Referent.rtF (Referent.fInt Syntax.w8)) ref5 5,
+                            Shared.reads-sslice 𝓤 H A W (Referent.rtF (Referent.fInt Syntax.w8)) ref5 5,
+                            Path.refl,
+                            (
+                              ShrSlice.spares-sslice 𝓤 H A W (Referent.rtF (Referent.fInt Syntax.w8)) ref5 5,
+                              Shared.reads-sslice 𝓤 H A W (Referent.rtF (Referent.fInt Syntax.w8)) ref5 5,
+                              Path.refl,
+                              (
+                                (
+                                  Yields.yields-copy 𝓤 H A W (λ ρ. Unit) (Declared'.row Script.the-type) Path.refl (Copies.cStruct
+                                      Script.the-type Laws.the-laws Laws.the-copy .copy 𝓤 H A W)
+                                      (Rows.whole (Declared'.row Script.the-type)) (λ x. x) (λ x. x) (λ ρ told.
+                                      Local.mem-whole 𝓤 H A W (Declared'.row Script.the-type) ρ) λ ρ told.
+                                      Local.whole-mem 𝓤 H A W (Declared'.row Script.the-type) ρ,
+                                  Path.refl,
+                                ),
+                                tt,
+                              ),
+                            ),
+                          ),
+                        ),
+                      ),
+                    ),
+                  ),
+                ),
+              ) (Reads'.room-gone 𝓤 H A (Syntax.tyInt Syntax.w64)) (tt, (tt, (tt, (tt, (tt, (tt, (tt, tt)))))))
+              Path.refl) d34
+
           d36 : Typed.Typed 𝓤 H A 𝓣 E G72 b39 Δ0 at36
-          d36 = Typed.s-seq 𝓤 H A W 𝓣 E G72 G73 b35 b38 Δ0 (Typed.ask s70) at35 (Relend.t-sl-aggregate 𝓤 H A W E (Referent.rtF (Referent.fInt
-              Syntax.w8)) 𝓣 (Relend.asShr (Referent.rtF (Referent.fInt Syntax.w8))) G72 36 37 5 ref5 ref5 (λ x. x) (Scalar.oAt 11 (Syntax.tyInt
-              Syntax.w64) (Row.valS (Row.sInt Syntax.w64))) (Reads'.as-is 𝓤 H A (Relend.ssptr (Referent.rtF (Referent.fInt Syntax.w8)) ref5 5))
-              (Reads'.room-gone 𝓤 H A (Syntax.tyStruct (38 ∷ 91 ∷ 93 ∷ List.[]) (Syntax.tcons ref5 (Syntax.tcons (Syntax.tyInt Syntax.w64)
-              Syntax.tnil)))) (Scalar.reads-sc 𝓤 H A W (Row.sInt Syntax.w64), Path.refl) Path.refl Path.refl λ b o k. tt) d35
+          d36 = Typed.s-seq 𝓤 H A W 𝓣 E G72 G73 b35 b38 Δ0 (Typed.ask s70) at35 (Relend.t-sl-aggregate 𝓤 H A W E
+              (Referent.rtF (Referent.fInt Syntax.w8)) 𝓣 (Relend.asShr (Referent.rtF (Referent.fInt Syntax.w8))) G72 36
+              37 5 ref5 ref5 (λ x. x) (Scalar.oAt 11 (Syntax.tyInt Syntax.w64) (Row.valS (Row.sInt Syntax.w64))) (Reads'.as-is
+              𝓤 H A (Relend.ssptr (Referent.rtF (Referent.fInt Syntax.w8)) ref5 5)) (Reads'.room-gone 𝓤 H A slice5)
+              (Scalar.reads-sc 𝓤 H A W (Row.sInt Syntax.w64), Path.refl) Path.refl Path.refl λ b o k. tt) d35
+
           d37 : Typed.Typed 𝓤 H A 𝓣 E G71 b40 Δ0 at37
-          d37 = Typed.s-seq 𝓤 H A W 𝓣 E G71 G72 b34 b39 Δ0 (Typed.give s69) at36 (Prefix.t-shs-prefix-same 𝓤 H A W E (Referent.rtF (Referent.fInt
-              Syntax.w8)) 𝓣 (Copies.halved 𝓤 H A W (Copies.cRf (Referent.fInt Syntax.w8))) G71 6 36 5 ref11 ref5 life5 0 (λ x. x) (λ u. u .1 .1 .1 .1
-              .1 .1 .1 .1 .1 .1 .1 .0) (Reads'.as-is 𝓤 H A (Rows.sslice (Referent.rtF (Referent.fInt Syntax.w8)) ref11 5)) (Reads'.room-gone 𝓤 H A
-              ref5) Path.refl tt Path.refl Path.refl Path.refl λ b o. tt) d36
+          d37 = Typed.s-seq 𝓤 H A W 𝓣 E G71 G72 b34 b39 Δ0 (Typed.give s69) at36 (Prefix.t-shs-prefix-same 𝓤 H A W E
+              (Referent.rtF (Referent.fInt Syntax.w8)) 𝓣 (Copies.halved 𝓤 H A W (Copies.cRf (Referent.fInt Syntax.w8)))
+              G71 6 36 5 ref11 ref5 life5 0 (λ x. x) (λ u. u .1 .1 .1 .1 .1 .1 .1 .1 .1 .1 .1 .0) (Reads'.as-is 𝓤 H A (Rows.sslice
+              (Referent.rtF (Referent.fInt Syntax.w8)) ref11 5)) (Reads'.room-gone 𝓤 H A ref5) Path.refl tt Path.refl
+              Path.refl Path.refl λ b o. tt) d36
+
           d38 : Typed.Typed 𝓤 H A 𝓣 E G70 b41 Δ0 at38
-          d38 = Typed.s-seq 𝓤 H A W 𝓣 E G70 G71 b33 b40 Δ0 (Typed.ask s68) at37 (Relend.t-sl-aggregate 𝓤 H A W E (Referent.rtF (Referent.fInt
-              Syntax.w8)) 𝓣 (Relend.asShr (Referent.rtF (Referent.fInt Syntax.w8))) G70 34 35 5 ref5 ref5 (λ x. x) (Scalar.oAt 10 (Syntax.tyInt
-              Syntax.w64) (Row.valS (Row.sInt Syntax.w64))) (Reads'.as-is 𝓤 H A (Relend.ssptr (Referent.rtF (Referent.fInt Syntax.w8)) ref5 5))
-              (Reads'.room-gone 𝓤 H A (Syntax.tyStruct (38 ∷ 91 ∷ 93 ∷ List.[]) (Syntax.tcons ref5 (Syntax.tcons (Syntax.tyInt Syntax.w64)
-              Syntax.tnil)))) (Scalar.reads-sc 𝓤 H A W (Row.sInt Syntax.w64), Path.refl) Path.refl Path.refl λ b o k. tt) d37
+          d38 = Typed.s-seq 𝓤 H A W 𝓣 E G70 G71 b33 b40 Δ0 (Typed.ask s68) at37 (Relend.t-sl-aggregate 𝓤 H A W E
+              (Referent.rtF (Referent.fInt Syntax.w8)) 𝓣 (Relend.asShr (Referent.rtF (Referent.fInt Syntax.w8))) G70 34
+              35 5 ref5 ref5 (λ x. x) (Scalar.oAt 10 (Syntax.tyInt Syntax.w64) (Row.valS (Row.sInt Syntax.w64))) (Reads'.as-is
+              𝓤 H A (Relend.ssptr (Referent.rtF (Referent.fInt Syntax.w8)) ref5 5)) (Reads'.room-gone 𝓤 H A slice5)
+              (Scalar.reads-sc 𝓤 H A W (Row.sInt Syntax.w64), Path.refl) Path.refl Path.refl λ b o k. tt) d37
+
           d39 : Typed.Typed 𝓤 H A 𝓣 E G69 b42 Δ0 at39
-          d39 = Typed.s-seq 𝓤 H A W 𝓣 E G69 G70 b32 b41 Δ0 (Typed.give s67) at38 (Prefix.t-shs-prefix-same 𝓤 H A W E (Referent.rtF (Referent.fInt
-              Syntax.w8)) 𝓣 (Copies.halved 𝓤 H A W (Copies.cRf (Referent.fInt Syntax.w8))) G69 6 34 5 ref11 ref5 life5 0 (λ x. x) (λ u. u .1 .1 .1 .1
-              .1 .1 .1 .1 .1 .1 .0) (Reads'.as-is 𝓤 H A (Rows.sslice (Referent.rtF (Referent.fInt Syntax.w8)) ref11 5)) (Reads'.room-gone 𝓤 H A ref5)
-              Path.refl tt Path.refl Path.refl Path.refl λ b o. tt) d38
+          d39 = Typed.s-seq 𝓤 H A W 𝓣 E G69 G70 b32 b41 Δ0 (Typed.give s67) at38 (Prefix.t-shs-prefix-same 𝓤 H A W E
+              (Referent.rtF (Referent.fInt Syntax.w8)) 𝓣 (Copies.halved 𝓤 H A W (Copies.cRf (Referent.fInt Syntax.w8)))
+              G69 6 34 5 ref11 ref5 life5 0 (λ x. x) (λ u. u .1 .1 .1 .1 .1 .1 .1 .1 .1 .1 .0) (Reads'.as-is 𝓤 H A (Rows.sslice
+              (Referent.rtF (Referent.fInt Syntax.w8)) ref11 5)) (Reads'.room-gone 𝓤 H A ref5) Path.refl tt Path.refl
+              Path.refl Path.refl λ b o. tt) d38
+
           d40 : Typed.Typed 𝓤 H A 𝓣 E G68 b43 Δ0 at40
-          d40 = Typed.s-seq 𝓤 H A W 𝓣 E G68 G69 b31 b42 Δ0 (Typed.ask s66) at39 (Relend.t-sl-aggregate 𝓤 H A W E (Referent.rtF (Referent.fInt
-              Syntax.w32)) 𝓣 (Relend.asMut (Referent.rtF (Referent.fInt Syntax.w32))) G68 32 33 15 ref4 ref4 (λ x. x) (Scalar.oFld 5 ((Syntax.field 1)
-              ∷ List.[]) (Syntax.tyInt Syntax.w64) 8 λ v. Shared.lenV (v .0)) (Reads'.as-is 𝓤 H A (Relend.msptr (Referent.rtF (Referent.fInt
-              Syntax.w32)) ref4 15)) (Reads'.room-gone 𝓤 H A (Syntax.tyStruct (38 ∷ 91 ∷ 93 ∷ List.[]) (Syntax.tcons ref4 (Syntax.tcons (Syntax.tyInt
-              Syntax.w64) Syntax.tnil)))) (Relend.reads-owed-len 𝓤 H A W (Referent.rtF (Referent.fInt Syntax.w32)) ref10 4 15 life4 8 Path.refl,
-              Path.refl,) Path.refl Path.refl λ b o k. tt) d39
+          d40 = Typed.s-seq 𝓤 H A W 𝓣 E G68 G69 b31 b42 Δ0 (Typed.ask s66) at39 (Relend.t-sl-aggregate 𝓤 H A W E
+              (Referent.rtF (Referent.fInt Syntax.w32)) 𝓣 (Relend.asMut (Referent.rtF (Referent.fInt Syntax.w32))) G68
+              32 33 15 ref4 ref4 (λ x. x) (Scalar.oFld 5 ((Syntax.field 1) ∷ List.[]) (Syntax.tyInt Syntax.w64) 8 λ v.
+              Shared.lenV (v .0)) (Reads'.as-is 𝓤 H A (Relend.msptr (Referent.rtF (Referent.fInt Syntax.w32)) ref4 15))
+              (Reads'.room-gone 𝓤 H A slice4) (
+                Relend.reads-owed-len 𝓤 H A W (Referent.rtF (Referent.fInt Syntax.w32)) ref10 4 15 life4 8 Path.refl,
+                Path.refl,
+              ) Path.refl Path.refl λ b o k. tt) d39
+
           d41 : Typed.Typed 𝓤 H A 𝓣 E G67 b44 Δ0 at41
-          d41 = Typed.s-seq 𝓤 H A W 𝓣 E G67 G68 b30 b43 Δ0 (Typed.give s65) at40 (Relend.t-sl-relend 𝓤 H A W E (Referent.rtF (Referent.fInt
-              Syntax.w32)) 𝓣 G67 5 32 4 15 ref10 ref4 life4 0 (λ x. x) (Reads'.as-is 𝓤 H A (Mut.mslice (Referent.rtF (Referent.fInt Syntax.w32)) ref10
-              4)) (Reads'.room-gone 𝓤 H A ref4) Path.refl tt Path.refl Path.refl Path.refl λ b o. tt) d40
+          d41 = Typed.s-seq 𝓤 H A W 𝓣 E G67 G68 b30 b43 Δ0 (Typed.give s65) at40 (Relend.t-sl-relend 𝓤 H A W E
+              (Referent.rtF (Referent.fInt Syntax.w32)) 𝓣 G67 5 32 4 15 ref10 ref4 life4 0 (λ x. x) (Reads'.as-is 𝓤 H A (Mut.mslice
+              (Referent.rtF (Referent.fInt Syntax.w32)) ref10 4)) (Reads'.room-gone 𝓤 H A ref4) Path.refl tt Path.refl
+              Path.refl Path.refl λ b o. tt) d40
+
           d42 : Typed.Typed 𝓤 H A 𝓣 E G66 b44 Δ0 at42
-          d42 = Typed.g-pre 𝓤 H A W 𝓣 E G66 G67 b44 Δ0 (λ Ψ. Ψ) at41 (Lifetime.g-begin 𝓤 H A W E G66 15 (tt, ((tt, tt), ((tt, tt), ((tt, tt), ((tt,
-              tt), (tt, (tt, (tt, (tt, (tt, (tt, (tt, (tt, (tt, (tt, (tt, (tt, (tt, (tt, (tt, (tt, (tt, (tt, (tt, (tt, (tt, (tt, (tt, (tt, (tt, (tt,
-              (tt, (tt, (tt, (tt, (tt, (tt, (tt, tt),),),),),),),),),),),),),),),),),),),),),),),),),),),),),),),),),),),),),)) d41
+          d42 = Typed.g-pre 𝓤 H A W 𝓣 E G66 G67 b44 Δ0 (λ Ψ. Ψ) at41 (Lifetime.g-begin 𝓤 H A W E G66 15 (
+            tt,
+            (
+              (tt, tt),
+              (
+                (tt, tt),
+                (
+                  (tt, tt),
+                  (
+                    (tt, tt),
+                    (
+                      tt,
+                      (
+                        tt,
+                        (
+                          tt,
+                          (
+                            tt,
+                            (
+                              tt,
+                              (
+                                tt,
+                                (
+                                  tt,
+                                  (
+                                    tt,
+                                    (
+                                      tt,
+                                      (
+                                        tt,
+                                        (
+                                          tt,
+                                          (
+                                            tt,
+                                            (
+                                              tt,
+                                              (
+                                                tt,
+                                                (
+                                                  tt,
+                                                  (
+                                                    tt,
+                                                    (
+                                                      tt,
+                                                      (
+                                                        tt,
+                                                        (
+                                                          tt,
+                                                          (
+                                                            tt,
+                                                            (
+                                                              tt,
+                                                              (
+                                                                tt,
+                                                                (
+                                                                  tt,
+                                                                  (
+                                                                    tt,
+                                                                    (
+                                                                      tt,
+                                                                      (
+                                                                        tt,
+                                                                        (tt, (tt, (tt, (tt, (tt, (tt, (tt, tt))))))),
+                                                                      ),
+                                                                    ),
+                                                                  ),
+                                                                ),
+                                                              ),
+                                                            ),
+                                                          ),
+                                                        ),
+                                                      ),
+                                                    ),
+                                                  ),
+                                                ),
+                                              ),
+                                            ),
+                                          ),
+                                        ),
+                                      ),
+                                    ),
+                                  ),
+                                ),
+                              ),
+                            ),
+                          ),
+                        ),
+                      ),
+                    ),
+                  ),
+                ),
+              ),
+            ),
+          )) d41
+
           d43 : Typed.Typed 𝓤 H A 𝓣 E G65 b45 Δ0 at43
-          d43 = Typed.s-seq 𝓤 H A W 𝓣 E G65 G66 b29 b44 Δ0 (Typed.ask s63) at42 (Relend.t-sl-aggregate 𝓤 H A W E InflightAction.row 𝓣 (Relend.asMut
-              InflightAction.row) G65 30 31 14 ref3 ref3 (λ x. x) (Scalar.oFld 4 ((Syntax.field 1) ∷ List.[]) (Syntax.tyInt Syntax.w64) 8 λ v.
-              Shared.lenV (v .0)) (Reads'.as-is 𝓤 H A (Relend.msptr InflightAction.row ref3 14)) (Reads'.room-gone 𝓤 H A (Syntax.tyStruct (38 ∷ 91 ∷
-              93 ∷ List.[]) (Syntax.tcons ref3 (Syntax.tcons (Syntax.tyInt Syntax.w64) Syntax.tnil)))) (Relend.reads-owed-len 𝓤 H A W
-              InflightAction.row ref9 3 14 life3 8 Path.refl, Path.refl,) Path.refl Path.refl λ b o k. tt) d42
+          d43 = Typed.s-seq 𝓤 H A W 𝓣 E G65 G66 b29 b44 Δ0 (Typed.ask s63) at42 (Relend.t-sl-aggregate 𝓤 H A W E
+              InflightAction.row 𝓣 (Relend.asMut InflightAction.row) G65 30 31 14 ref3 ref3 (λ x. x) (Scalar.oFld 4
+              ((Syntax.field 1) ∷ List.[]) (Syntax.tyInt Syntax.w64) 8 λ v. Shared.lenV (v .0)) (Reads'.as-is 𝓤 H A
+              (Relend.msptr InflightAction.row ref3 14)) (Reads'.room-gone 𝓤 H A slice3) (
+                Relend.reads-owed-len 𝓤 H A W InflightAction.row ref9 3 14 life3 8 Path.refl,
+                Path.refl,
+              ) Path.refl Path.refl λ b o k. tt) d42
+
           d44 : Typed.Typed 𝓤 H A 𝓣 E G64 b46 Δ0 at44
-          d44 = Typed.s-seq 𝓤 H A W 𝓣 E G64 G65 b28 b45 Δ0 (Typed.give s62) at43 (Relend.t-sl-relend 𝓤 H A W E InflightAction.row 𝓣 G64 4 30 3 14 ref9
-              ref3 life3 0 (λ x. x) (Reads'.as-is 𝓤 H A (Mut.mslice InflightAction.row ref9 3)) (Reads'.room-gone 𝓤 H A ref3) Path.refl tt Path.refl
-              Path.refl Path.refl λ b o. tt) d43
+          d44 = Typed.s-seq 𝓤 H A W 𝓣 E G64 G65 b28 b45 Δ0 (Typed.give s62) at43 (Relend.t-sl-relend 𝓤 H A W E
+              InflightAction.row 𝓣 G64 4 30 3 14 ref9 ref3 life3 0 (λ x. x)
+              (Reads'.as-is 𝓤 H A (Mut.mslice InflightAction.row ref9 3)) (Reads'.room-gone 𝓤 H A ref3) Path.refl tt
+              Path.refl Path.refl Path.refl λ b o. tt) d43
+
           d45 : Typed.Typed 𝓤 H A 𝓣 E G63 b46 Δ0 at45
-          d45 = Typed.g-pre 𝓤 H A W 𝓣 E G63 G64 b46 Δ0 (λ Ψ. Ψ) at44 (Lifetime.g-begin 𝓤 H A W E G63 14 (tt, ((tt, tt), ((tt, tt), ((tt, tt), (tt,
-              (tt, (tt, (tt, (tt, (tt, (tt, (tt, (tt, (tt, (tt, (tt, (tt, (tt, (tt, (tt, (tt, (tt, (tt, (tt, (tt, (tt, (tt, (tt, (tt, (tt, (tt, (tt,
-              (tt, (tt, (tt, (tt, (tt, (tt, tt),),),),),),),),),),),),),),),),),),),),),),),),),),),),),),),),),),),),),)) d44
+          d45 = Typed.g-pre 𝓤 H A W 𝓣 E G63 G64 b46 Δ0 (λ Ψ. Ψ) at44 (Lifetime.g-begin 𝓤 H A W E G63 14 (
+            tt,
+            (
+              (tt, tt),
+              (
+                (tt, tt),
+                (
+                  (tt, tt),
+                  (
+                    tt,
+                    (
+                      tt,
+                      (
+                        tt,
+                        (
+                          tt,
+                          (
+                            tt,
+                            (
+                              tt,
+                              (
+                                tt,
+                                (
+                                  tt,
+                                  (
+                                    tt,
+                                    (
+                                      tt,
+                                      (
+                                        tt,
+                                        (
+                                          tt,
+                                          (
+                                            tt,
+                                            (
+                                              tt,
+                                              (
+                                                tt,
+                                                (
+                                                  tt,
+                                                  (
+                                                    tt,
+                                                    (
+                                                      tt,
+                                                      (
+                                                        tt,
+                                                        (
+                                                          tt,
+                                                          (
+                                                            tt,
+                                                            (
+                                                              tt,
+                                                              (
+                                                                tt,
+                                                                (
+                                                                  tt,
+                                                                  (
+                                                                    tt,
+                                                                    (
+                                                                      tt,
+                                                                      (
+                                                                        tt,
+                                                                        (tt, (tt, (tt, (tt, (tt, (tt, (tt, tt))))))),
+                                                                      ),
+                                                                    ),
+                                                                  ),
+                                                                ),
+                                                              ),
+                                                            ),
+                                                          ),
+                                                        ),
+                                                      ),
+                                                    ),
+                                                  ),
+                                                ),
+                                              ),
+                                            ),
+                                          ),
+                                        ),
+                                      ),
+                                    ),
+                                  ),
+                                ),
+                              ),
+                            ),
+                          ),
+                        ),
+                      ),
+                    ),
+                  ),
+                ),
+              ),
+            ),
+          )) d44
+
           d46 : Typed.Typed 𝓤 H A 𝓣 E G62 b47 Δ0 at46
-          d46 = Typed.s-seq 𝓤 H A W 𝓣 E G62 G63 b27 b46 Δ0 (Typed.ask s60) at45 (Relend.t-sl-aggregate 𝓤 H A W E ReservationUsage.row 𝓣 (Relend.asMut
-              ReservationUsage.row) G62 28 29 13 ref2 ref2 (λ x. x) (Scalar.oFld 3 ((Syntax.field 1) ∷ List.[]) (Syntax.tyInt Syntax.w64) 8 λ v.
-              Shared.lenV (v .0)) (Reads'.as-is 𝓤 H A (Relend.msptr ReservationUsage.row ref2 13)) (Reads'.room-gone 𝓤 H A (Syntax.tyStruct (38 ∷ 91 ∷
-              93 ∷ List.[]) (Syntax.tcons ref2 (Syntax.tcons (Syntax.tyInt Syntax.w64) Syntax.tnil)))) (Relend.reads-owed-len 𝓤 H A W
-              ReservationUsage.row ref8 2 13 life2 8 Path.refl, Path.refl,) Path.refl Path.refl λ b o k. tt) d45
+          d46 = Typed.s-seq 𝓤 H A W 𝓣 E G62 G63 b27 b46 Δ0 (Typed.ask s60) at45 (Relend.t-sl-aggregate 𝓤 H A W E
+              ReservationUsage.row 𝓣 (Relend.asMut ReservationUsage.row) G62 28 29 13 ref2 ref2 (λ x. x) (Scalar.oFld 3
+              ((Syntax.field 1) ∷ List.[]) (Syntax.tyInt Syntax.w64) 8 λ v. Shared.lenV (v .0)) (Reads'.as-is 𝓤 H A
+              (Relend.msptr ReservationUsage.row ref2 13)) (Reads'.room-gone 𝓤 H A slice2) (
+                Relend.reads-owed-len 𝓤 H A W ReservationUsage.row ref8 2 13 life2 8 Path.refl,
+                Path.refl,
+              ) Path.refl Path.refl λ b o k. tt) d45
+
           d47 : Typed.Typed 𝓤 H A 𝓣 E G61 b48 Δ0 at47
-          d47 = Typed.s-seq 𝓤 H A W 𝓣 E G61 G62 b26 b47 Δ0 (Typed.give s59) at46 (Relend.t-sl-relend 𝓤 H A W E ReservationUsage.row 𝓣 G61 3 28 2 13
-              ref8 ref2 life2 0 (λ x. x) (Reads'.as-is 𝓤 H A (Mut.mslice ReservationUsage.row ref8 2)) (Reads'.room-gone 𝓤 H A ref2) Path.refl tt
-              Path.refl Path.refl Path.refl λ b o. tt) d46
+          d47 = Typed.s-seq 𝓤 H A W 𝓣 E G61 G62 b26 b47 Δ0 (Typed.give s59) at46 (Relend.t-sl-relend 𝓤 H A W E
+              ReservationUsage.row 𝓣 G61 3 28 2 13 ref8 ref2 life2 0 (λ x. x) (Reads'.as-is 𝓤 H A
+              (Mut.mslice ReservationUsage.row ref8 2)) (Reads'.room-gone 𝓤 H A ref2) Path.refl tt Path.refl Path.refl
+              Path.refl λ b o. tt) d46
+
           d48 : Typed.Typed 𝓤 H A 𝓣 E G60 b48 Δ0 at48
-          d48 = Typed.g-pre 𝓤 H A W 𝓣 E G60 G61 b48 Δ0 (λ Ψ. Ψ) at47 (Lifetime.g-begin 𝓤 H A W E G60 13 (tt, ((tt, tt), ((tt, tt), (tt, (tt, (tt, (tt,
-              (tt, (tt, (tt, (tt, (tt, (tt, (tt, (tt, (tt, (tt, (tt, (tt, (tt, (tt, (tt, (tt, (tt, (tt, (tt, (tt, (tt, (tt, (tt, (tt, (tt, (tt, (tt,
-              (tt, (tt, (tt, (tt, tt),),),),),),),),),),),),),),),),),),),),),),),),),),),),),),),),),),),),),)) d47
+          d48 = Typed.g-pre 𝓤 H A W 𝓣 E G60 G61 b48 Δ0 (λ Ψ. Ψ) at47 (Lifetime.g-begin 𝓤 H A W E G60 13 (
+            tt,
+            (
+              (tt, tt),
+              (
+                (tt, tt),
+                (
+                  tt,
+                  (
+                    tt,
+                    (
+                      tt,
+                      (
+                        tt,
+                        (
+                          tt,
+                          (
+                            tt,
+                            (
+                              tt,
+                              (
+                                tt,
+                                (
+                                  tt,
+                                  (
+                                    tt,
+                                    (
+                                      tt,
+                                      (
+                                        tt,
+                                        (
+                                          tt,
+                                          (
+                                            tt,
+                                            (
+                                              tt,
+                                              (
+                                                tt,
+                                                (
+                                                  tt,
+                                                  (
+                                                    tt,
+                                                    (
+                                                      tt,
+                                                      (
+                                                        tt,
+                                                        (
+                                                          tt,
+                                                          (
+                                                            tt,
+                                                            (
+                                                              tt,
+                                                              (
+                                                                tt,
+                                                                (
+                                                                  tt,
+                                                                  (
+                                                                    tt,
+                                                                    (
+                                                                      tt,
+                                                                      (
+                                                                        tt,
+                                                                        (tt, (tt, (tt, (tt, (tt, (tt, (tt, tt))))))),
+                                                                      ),
+                                                                    ),
+                                                                  ),
+                                                                ),
+                                                              ),
+                                                            ),
+                                                          ),
+                                                        ),
+                                                      ),
+                                                    ),
+                                                  ),
+                                                ),
+                                              ),
+                                            ),
+                                          ),
+                                        ),
+                                      ),
+                                    ),
+                                  ),
+                                ),
+                              ),
+                            ),
+                          ),
+                        ),
+                      ),
+                    ),
+                  ),
+                ),
+              ),
+            ),
+          )) d47
+
           d49 : Typed.Typed 𝓤 H A 𝓣 E G59 b49 Δ0 at49
-          d49 = Typed.s-seq 𝓤 H A W 𝓣 E G59 G60 b25 b48 Δ0 (Typed.ask s57) at48 (Relend.t-sl-aggregate 𝓤 H A W E RelayCircuit.row 𝓣 (Relend.asMut
-              RelayCircuit.row) G59 26 27 12 ref1 ref1 (λ x. x) (Scalar.oFld 2 ((Syntax.field 1) ∷ List.[]) (Syntax.tyInt Syntax.w64) 8 λ v.
-              Shared.lenV (v .0)) (Reads'.as-is 𝓤 H A (Relend.msptr RelayCircuit.row ref1 12)) (Reads'.room-gone 𝓤 H A (Syntax.tyStruct (38 ∷ 91 ∷ 93
-              ∷ List.[]) (Syntax.tcons ref1 (Syntax.tcons (Syntax.tyInt Syntax.w64) Syntax.tnil)))) (Relend.reads-owed-len 𝓤 H A W RelayCircuit.row
-              ref7 1 12 life1 8 Path.refl, Path.refl,) Path.refl Path.refl λ b o k. tt) d48
+          d49 = Typed.s-seq 𝓤 H A W 𝓣 E G59 G60 b25 b48 Δ0 (Typed.ask s57) at48 (Relend.t-sl-aggregate 𝓤 H A W E
+              RelayCircuit.row 𝓣 (Relend.asMut RelayCircuit.row) G59 26 27 12 ref1 ref1 (λ x. x) (Scalar.oFld 2
+              ((Syntax.field 1) ∷ List.[]) (Syntax.tyInt Syntax.w64) 8 λ v. Shared.lenV (v .0)) (Reads'.as-is 𝓤 H A
+              (Relend.msptr RelayCircuit.row ref1 12)) (Reads'.room-gone 𝓤 H A slice1) (
+                Relend.reads-owed-len 𝓤 H A W RelayCircuit.row ref7 1 12 life1 8 Path.refl,
+                Path.refl,
+              ) Path.refl Path.refl λ b o k. tt) d48
+
           d50 : Typed.Typed 𝓤 H A 𝓣 E G58 b50 Δ0 at50
-          d50 = Typed.s-seq 𝓤 H A W 𝓣 E G58 G59 b24 b49 Δ0 (Typed.give s56) at49 (Relend.t-sl-relend 𝓤 H A W E RelayCircuit.row 𝓣 G58 2 26 1 12 ref7
-              ref1 life1 0 (λ x. x) (Reads'.as-is 𝓤 H A (Mut.mslice RelayCircuit.row ref7 1)) (Reads'.room-gone 𝓤 H A ref1) Path.refl tt Path.refl
-              Path.refl Path.refl λ b o. tt) d49
+          d50 = Typed.s-seq 𝓤 H A W 𝓣 E G58 G59 b24 b49 Δ0 (Typed.give s56) at49 (Relend.t-sl-relend 𝓤 H A W E
+              RelayCircuit.row 𝓣 G58 2 26 1 12 ref7 ref1 life1 0 (λ x. x)
+              (Reads'.as-is 𝓤 H A (Mut.mslice RelayCircuit.row ref7 1)) (Reads'.room-gone 𝓤 H A ref1) Path.refl tt
+              Path.refl Path.refl Path.refl λ b o. tt) d49
+
           d51 : Typed.Typed 𝓤 H A 𝓣 E G57 b50 Δ0 at51
-          d51 = Typed.g-pre 𝓤 H A W 𝓣 E G57 G58 b50 Δ0 (λ Ψ. Ψ) at50 (Lifetime.g-begin 𝓤 H A W E G57 12 (tt, ((tt, tt), (tt, (tt, (tt, (tt, (tt, (tt,
-              (tt, (tt, (tt, (tt, (tt, (tt, (tt, (tt, (tt, (tt, (tt, (tt, (tt, (tt, (tt, (tt, (tt, (tt, (tt, (tt, (tt, (tt, (tt, (tt, (tt, (tt, (tt,
-              (tt, (tt, (tt, tt),),),),),),),),),),),),),),),),),),),),),),),),),),),),),),),),),),),),),)) d50
+          d51 = Typed.g-pre 𝓤 H A W 𝓣 E G57 G58 b50 Δ0 (λ Ψ. Ψ) at50 (Lifetime.g-begin 𝓤 H A W E G57 12 (
+            tt,
+            (
+              (tt, tt),
+              (
+                tt,
+                (
+                  tt,
+                  (
+                    tt,
+                    (
+                      tt,
+                      (
+                        tt,
+                        (
+                          tt,
+                          (
+                            tt,
+                            (
+                              tt,
+                              (
+                                tt,
+                                (
+                                  tt,
+                                  (
+                                    tt,
+                                    (
+                                      tt,
+                                      (
+                                        tt,
+                                        (
+                                          tt,
+                                          (
+                                            tt,
+                                            (
+                                              tt,
+                                              (
+                                                tt,
+                                                (
+                                                  tt,
+                                                  (
+                                                    tt,
+                                                    (
+                                                      tt,
+                                                      (
+                                                        tt,
+                                                        (
+                                                          tt,
+                                                          (
+                                                            tt,
+                                                            (
+                                                              tt,
+                                                              (
+                                                                tt,
+                                                                (
+                                                                  tt,
+                                                                  (
+                                                                    tt,
+                                                                    (
+                                                                      tt,
+                                                                      (
+                                                                        tt,
+                                                                        (tt, (tt, (tt, (tt, (tt, (tt, (tt, tt))))))),
+                                                                      ),
+                                                                    ),
+                                                                  ),
+                                                                ),
+                                                              ),
+                                                            ),
+                                                          ),
+                                                        ),
+                                                      ),
+                                                    ),
+                                                  ),
+                                                ),
+                                              ),
+                                            ),
+                                          ),
+                                        ),
+                                      ),
+                                    ),
+                                  ),
+                                ),
+                              ),
+                            ),
+                          ),
+                        ),
+                      ),
+                    ),
+                  ),
+                ),
+              ),
+            ),
+          )) d50
+
           d52 : Typed.Typed 𝓤 H A 𝓣 E G56 b51 Δ0 at52
-          d52 = Typed.s-seq 𝓤 H A W 𝓣 E G56 G57 b23 b50 Δ0 (Typed.ask s54) at51 (Relend.t-sl-aggregate 𝓤 H A W E RelayPending.row 𝓣 (Relend.asMut
-              RelayPending.row) G56 24 25 11 ref0 ref0 (λ x. x) (Scalar.oFld 1 ((Syntax.field 1) ∷ List.[]) (Syntax.tyInt Syntax.w64) 8 λ v.
-              Shared.lenV (v .0)) (Reads'.as-is 𝓤 H A (Relend.msptr RelayPending.row ref0 11)) (Reads'.room-gone 𝓤 H A (Syntax.tyStruct (38 ∷ 91 ∷ 93
-              ∷ List.[]) (Syntax.tcons ref0 (Syntax.tcons (Syntax.tyInt Syntax.w64) Syntax.tnil)))) (Relend.reads-owed-len 𝓤 H A W RelayPending.row
-              ref6 0 11 life0 8 Path.refl, Path.refl,) Path.refl Path.refl λ b o k. tt) d51
+          d52 = Typed.s-seq 𝓤 H A W 𝓣 E G56 G57 b23 b50 Δ0 (Typed.ask s54) at51 (Relend.t-sl-aggregate 𝓤 H A W E
+              RelayPending.row 𝓣 (Relend.asMut RelayPending.row) G56 24 25 11 ref0 ref0 (λ x. x) (Scalar.oFld 1
+              ((Syntax.field 1) ∷ List.[]) (Syntax.tyInt Syntax.w64) 8 λ v. Shared.lenV (v .0)) (Reads'.as-is 𝓤 H A
+              (Relend.msptr RelayPending.row ref0 11)) (Reads'.room-gone 𝓤 H A slice0) (
+                Relend.reads-owed-len 𝓤 H A W RelayPending.row ref6 0 11 life0 8 Path.refl,
+                Path.refl,
+              ) Path.refl Path.refl λ b o k. tt) d51
+
           d53 : Typed.Typed 𝓤 H A 𝓣 E G55 b52 Δ0 at53
-          d53 = Typed.s-seq 𝓤 H A W 𝓣 E G55 G56 b22 b51 Δ0 (Typed.give s53) at52 (Relend.t-sl-relend 𝓤 H A W E RelayPending.row 𝓣 G55 1 24 0 11 ref6
-              ref0 life0 0 (λ x. x) (Reads'.as-is 𝓤 H A (Mut.mslice RelayPending.row ref6 0)) (Reads'.room-gone 𝓤 H A ref0) Path.refl tt Path.refl
-              Path.refl Path.refl λ b o. tt) d52
+          d53 = Typed.s-seq 𝓤 H A W 𝓣 E G55 G56 b22 b51 Δ0 (Typed.give s53) at52 (Relend.t-sl-relend 𝓤 H A W E
+              RelayPending.row 𝓣 G55 1 24 0 11 ref6 ref0 life0 0 (λ x. x)
+              (Reads'.as-is 𝓤 H A (Mut.mslice RelayPending.row ref6 0)) (Reads'.room-gone 𝓤 H A ref0) Path.refl tt
+              Path.refl Path.refl Path.refl λ b o. tt) d52
+
           d54 : Typed.Typed 𝓤 H A 𝓣 E G45 b52 Δ0 at54
-          d54 = Typed.g-pre 𝓤 H A W 𝓣 E G45 G55 b52 Δ0 (λ Ψ. Ψ) at53 (Lifetime.g-begin 𝓤 H A W E G45 11 (tt, (tt, (tt, (tt, (tt, (tt, (tt, (tt, (tt,
-              (tt, (tt, (tt, (tt, (tt, (tt, (tt, (tt, (tt, (tt, (tt, (tt, (tt, (tt, (tt, (tt, (tt, (tt, (tt, (tt, (tt, (tt, (tt, (tt, (tt, (tt, (tt,
-              (tt, (tt, tt),),),),),),),),),),),),),),),),),),),),),),),),),),),),),),),),),),),),),)) d53
+          d54 = Typed.g-pre 𝓤 H A W 𝓣 E G45 G55 b52 Δ0 (λ Ψ. Ψ) at53 (Lifetime.g-begin 𝓤 H A W E G45 11 (
+            tt,
+            (
+              tt,
+              (
+                tt,
+                (
+                  tt,
+                  (
+                    tt,
+                    (
+                      tt,
+                      (
+                        tt,
+                        (
+                          tt,
+                          (
+                            tt,
+                            (
+                              tt,
+                              (
+                                tt,
+                                (
+                                  tt,
+                                  (
+                                    tt,
+                                    (
+                                      tt,
+                                      (
+                                        tt,
+                                        (
+                                          tt,
+                                          (
+                                            tt,
+                                            (
+                                              tt,
+                                              (
+                                                tt,
+                                                (
+                                                  tt,
+                                                  (
+                                                    tt,
+                                                    (
+                                                      tt,
+                                                      (
+                                                        tt,
+                                                        (
+                                                          tt,
+                                                          (
+                                                            tt,
+                                                            (
+                                                              tt,
+                                                              (
+                                                                tt,
+                                                                (
+                                                                  tt,
+                                                                  (
+                                                                    tt,
+                                                                    (
+                                                                      tt,
+                                                                      (
+                                                                        tt,
+                                                                        (tt, (tt, (tt, (tt, (tt, (tt, (tt, tt))))))),
+                                                                      ),
+                                                                    ),
+                                                                  ),
+                                                                ),
+                                                              ),
+                                                            ),
+                                                          ),
+                                                        ),
+                                                      ),
+                                                    ),
+                                                  ),
+                                                ),
+                                              ),
+                                            ),
+                                          ),
+                                        ),
+                                      ),
+                                    ),
+                                  ),
+                                ),
+                              ),
+                            ),
+                          ),
+                        ),
+                      ),
+                    ),
+                  ),
+                ),
+              ),
+            ),
+          )) d53
+
           d55 : Typed.Typed 𝓤 H A 𝓣 E G44 b53 Δ0 at55
           d55 = Typed.t-seq 𝓤 H A W 𝓣 E G44 G45 b21 b52 Δ0 at11 at54 d11 d54
+
           d56 : Typed.Typed 𝓤 H A 𝓣 E G43 b54 Δ0 at56
-          d56 = Typed.s-seq 𝓤 H A W 𝓣 E G43 G44 b16 b53 Δ0 (Typed.ask s42) at55 (Scalar.t-op2 𝓤 H A W E 𝓣 G43 Syntax.eq (Scalar.oFld 7 ((Syntax.field
-              2) ∷ List.[]) (Syntax.tyInt Syntax.w8) 16 (Reads.fieldV Script.the-type Laws.the-laws 2)) (Scalar.oInt Syntax.w8 0) 23 (Rows.sc-here
-              Row.sBool) Syntax.tyBool (Row.valS Row.sBool) (Row.sBool .of) (Reads.reads-field 𝓤 H A W Script.the-type Laws.the-laws 2 (Syntax.tyInt
-              Syntax.w8) 16 Path.refl, Path.refl,) tt (Reads'.room-gone 𝓤 H A Syntax.tyBool) (Scalar.holds-sc 𝓤 H A W Row.sBool) Path.refl (λ u.
-              Path.refl) λ u. tt) d55
+          d56 = Typed.s-seq 𝓤 H A W 𝓣 E G43 G44 b16 b53 Δ0 (Typed.ask s42) at55 (Scalar.t-op2 𝓤 H A W E 𝓣 G43 Syntax.eq (Scalar.oFld
+              7 ((Syntax.field 2) ∷ List.[]) (Syntax.tyInt Syntax.w8) 16 (Reads.fieldV Script.the-type Laws.the-laws 2))
+              (Scalar.oInt Syntax.w8 0) 23 (Rows.sc-here Row.sBool) Syntax.tyBool (Row.valS Row.sBool) (Row.sBool .of) (
+                Reads.reads-field 𝓤 H A W Script.the-type Laws.the-laws 2 (Syntax.tyInt Syntax.w8) 16 Path.refl,
+                Path.refl,
+              ) tt (Reads'.room-gone 𝓤 H A Syntax.tyBool) (Scalar.holds-sc 𝓤 H A W Row.sBool) Path.refl
+              (λ u. Path.refl) λ u. tt) d55
+
           d57 : Typed.Typed 𝓤 H A 𝓣 E G42 b54 Δ0 at57
-          d57 = Typed.g-pre 𝓤 H A W 𝓣 E G42 G43 b54 Δ0 (Typed.give s41) at56 (Know'.g-struct-known 𝓤 H A W E Script.the-type Laws.the-laws G42 7 (λ x.
-              x) (Reads'.as-is 𝓤 H A (Rows.whole (Declared'.row Script.the-type)))) d56
+          d57 = Typed.g-pre 𝓤 H A W 𝓣 E G42 G43 b54 Δ0 (Typed.give s41) at56 (Know'.g-struct-known 𝓤 H A W E
+              Script.the-type Laws.the-laws G42 7 (λ x. x) (Reads'.as-is 𝓤 H A
+              (Rows.whole (Declared'.row Script.the-type)))) d56
+
           d58 : Typed.Typed 𝓤 H A 𝓣 E G41 b54 Δ0 at58
-          d58 = Typed.g-pre 𝓤 H A W 𝓣 E G41 G42 b54 Δ0 (Typed.pass T41 T42 s40) at57 (Scalar.g-room 𝓤 H A W E G41 22 (Syntax.tyInt Syntax.w64)
-              (Scalar.room-sc 𝓤 H A W (Row.sInt Syntax.w64))) d57
+          d58 = Typed.g-pre 𝓤 H A W 𝓣 E G41 G42 b54 Δ0 (Typed.pass T41 T42 s40) at57 (Scalar.g-room 𝓤 H A W E G41 22
+              (Syntax.tyInt Syntax.w64) (Scalar.room-sc 𝓤 H A W (Row.sInt Syntax.w64))) d57
+
           d59 : Typed.Typed 𝓤 H A 𝓣 E G40 b55 Δ0 at59
-          d59 = Typed.s-seq 𝓤 H A W 𝓣 E G40 G41 b15 b54 Δ0 (Typed.both s39) at58 (Plain.t-call-plain 𝓤 H A W 𝓣 0 ps·1 r·1 (claims· .2) (claims· .3)
-              "hns_encoding::numbers::min_usize" (known .1) E (λ pos β. β) G40 (Num.vFld 7 ((Syntax.field 8) ∷ List.[]) 48 λ x. Script.struct
-              .as-values x .1 .1 .1 .1 .1 .1 .1 .1 .0, (Num.vAt 22 λ x. x, tt),) 11 List.[] (Call.sub-id 𝓤 H A W (G40 .slots)) ((Reads.reads-field 𝓤 H
-              A W Script.the-type Laws.the-laws 8 (Syntax.tyInt Syntax.w64) 48 Path.refl, Path.refl,), ((Scalar.reads-sc 𝓤 H A W (Row.sInt
-              Syntax.w64), Path.refl), tt),) (Reads'.room-gone 𝓤 H A (Syntax.tyInt Syntax.w64)) tt Path.refl) d58
+          d59 = Typed.s-seq 𝓤 H A W 𝓣 E G40 G41 b15 b54 Δ0 (Typed.both s39) at58 (Plain.t-call-plain 𝓤 H A W 𝓣 0 ps·1
+              r·1 (claims· .2) (claims· .3) "hns_encoding::numbers::min_usize" (known .1) E (λ pos β. β) G40 (
+                Num.vFld 7 ((Syntax.field 8) ∷ List.[]) 48 λ x. Script.struct .as-values x .1 .1 .1 .1 .1 .1 .1 .1 .0,
+                (Num.vAt 22 λ x. x, tt),
+              ) 11 List.[] (Call.sub-id 𝓤 H A W (G40 .slots)) (
+                (
+                  Reads.reads-field 𝓤 H A W Script.the-type Laws.the-laws 8 (Syntax.tyInt Syntax.w64) 48 Path.refl,
+                  Path.refl,
+                ),
+                ((Scalar.reads-sc 𝓤 H A W (Row.sInt Syntax.w64), Path.refl), tt),
+              ) (Reads'.room-gone 𝓤 H A (Syntax.tyInt Syntax.w64)) tt Path.refl) d58
+
           d60 : Typed.Typed 𝓤 H A 𝓣 E G39 b56 Δ0 at60
-          d60 = Typed.s-seq 𝓤 H A W 𝓣 E G39 G40 b14 b55 Δ0 (Typed.pass T39 T40 s38) at59 (Scalar.t-use 𝓤 H A W E 𝓣 G39 (Scalar.oFld 6 ((Syntax.field
-              1) ∷ List.[]) (Syntax.tyInt Syntax.w64) 8 Shared.lenV) 22 (Rows.sc-here (Row.sInt Syntax.w64)) (Syntax.tyInt Syntax.w64) (Row.valS
-              (Row.sInt Syntax.w64)) (Row.sInt Syntax.w64 .of) (Shared.reads-sslice-len 𝓤 H A W (Referent.rtF (Referent.fInt Syntax.w8)) ref11 5 8
-              Path.refl, Path.refl,) (Reads'.room-gone 𝓤 H A (Syntax.tyInt Syntax.w64)) (Scalar.holds-sc 𝓤 H A W (Row.sInt Syntax.w64)) Path.refl (λ
-              u. Path.refl) λ u. tt) d59
+          d60 = Typed.s-seq 𝓤 H A W 𝓣 E G39 G40 b14 b55 Δ0 (Typed.pass T39 T40 s38) at59 (Scalar.t-use 𝓤 H A W E 𝓣 G39 (Scalar.oFld
+              6 ((Syntax.field 1) ∷ List.[]) (Syntax.tyInt Syntax.w64) 8 Shared.lenV) 22
+              (Rows.sc-here (Row.sInt Syntax.w64)) (Syntax.tyInt Syntax.w64) (Row.valS (Row.sInt Syntax.w64))
+              (Row.sInt Syntax.w64 .of) (
+                Shared.reads-sslice-len 𝓤 H A W (Referent.rtF (Referent.fInt Syntax.w8)) ref11 5 8 Path.refl,
+                Path.refl,
+              ) (Reads'.room-gone 𝓤 H A (Syntax.tyInt Syntax.w64)) (Scalar.holds-sc 𝓤 H A W (Row.sInt Syntax.w64))
+              Path.refl (λ u. Path.refl) λ u. tt) d59
+
           d61 : Typed.Typed 𝓤 H A 𝓣 E G38 b56 Δ0 at61
-          d61 = Typed.g-pre 𝓤 H A W 𝓣 E G38 G39 b56 Δ0 (Typed.pass T38 T39 s37) at60 (Scalar.g-room 𝓤 H A W E G38 22 (Syntax.tyInt Syntax.w64)
-              (Scalar.room-sc 𝓤 H A W (Row.sInt Syntax.w64))) d60
+          d61 = Typed.g-pre 𝓤 H A W 𝓣 E G38 G39 b56 Δ0 (Typed.pass T38 T39 s37) at60 (Scalar.g-room 𝓤 H A W E G38 22
+              (Syntax.tyInt Syntax.w64) (Scalar.room-sc 𝓤 H A W (Row.sInt Syntax.w64))) d60
+
           d62 : Typed.Typed 𝓤 H A 𝓣 E G37 b57 Δ0 at62
-          d62 = Typed.s-seq 𝓤 H A W 𝓣 E G37 G38 b13 b56 Δ0 (Typed.both s36) at61 (Plain.t-call-plain 𝓤 H A W 𝓣 0 ps·1 r·1 (claims· .2) (claims· .3)
-              "hns_encoding::numbers::min_usize" (known .1) E (λ pos β. β) G37 (Num.vFld 7 ((Syntax.field 6) ∷ List.[]) 32 λ x. Script.struct
-              .as-values x .1 .1 .1 .1 .1 .1 .0, (Num.vAt 22 λ x. x, tt),) 10 List.[] (Call.sub-id 𝓤 H A W (G37 .slots)) ((Reads.reads-field 𝓤 H A W
-              Script.the-type Laws.the-laws 6 (Syntax.tyInt Syntax.w64) 32 Path.refl, Path.refl,), ((Scalar.reads-sc 𝓤 H A W (Row.sInt Syntax.w64),
-              Path.refl), tt),) (Reads'.room-gone 𝓤 H A (Syntax.tyInt Syntax.w64)) tt Path.refl) d61
+          d62 = Typed.s-seq 𝓤 H A W 𝓣 E G37 G38 b13 b56 Δ0 (Typed.both s36) at61 (Plain.t-call-plain 𝓤 H A W 𝓣 0 ps·1
+              r·1 (claims· .2) (claims· .3) "hns_encoding::numbers::min_usize" (known .1) E (λ pos β. β) G37 (
+                Num.vFld 7 ((Syntax.field 6) ∷ List.[]) 32 λ x. Script.struct .as-values x .1 .1 .1 .1 .1 .1 .0,
+                (Num.vAt 22 λ x. x, tt),
+              ) 10 List.[] (Call.sub-id 𝓤 H A W (G37 .slots)) (
+                (
+                  Reads.reads-field 𝓤 H A W Script.the-type Laws.the-laws 6 (Syntax.tyInt Syntax.w64) 32 Path.refl,
+                  Path.refl,
+                ),
+                ((Scalar.reads-sc 𝓤 H A W (Row.sInt Syntax.w64), Path.refl), tt),
+              ) (Reads'.room-gone 𝓤 H A (Syntax.tyInt Syntax.w64)) tt Path.refl) d61
+
           d63 : Typed.Typed 𝓤 H A 𝓣 E G36 b58 Δ0 at63
-          d63 = Typed.s-seq 𝓤 H A W 𝓣 E G36 G37 b12 b57 Δ0 (Typed.pass T36 T37 s35) at62 (Scalar.t-use 𝓤 H A W E 𝓣 G36 (Scalar.oFld 6 ((Syntax.field
-              1) ∷ List.[]) (Syntax.tyInt Syntax.w64) 8 Shared.lenV) 22 (Rows.sc-here (Row.sInt Syntax.w64)) (Syntax.tyInt Syntax.w64) (Row.valS
-              (Row.sInt Syntax.w64)) (Row.sInt Syntax.w64 .of) (Shared.reads-sslice-len 𝓤 H A W (Referent.rtF (Referent.fInt Syntax.w8)) ref11 5 8
-              Path.refl, Path.refl,) (Reads'.room-gone 𝓤 H A (Syntax.tyInt Syntax.w64)) (Scalar.holds-sc 𝓤 H A W (Row.sInt Syntax.w64)) Path.refl (λ
-              u. Path.refl) λ u. tt) d62
+          d63 = Typed.s-seq 𝓤 H A W 𝓣 E G36 G37 b12 b57 Δ0 (Typed.pass T36 T37 s35) at62 (Scalar.t-use 𝓤 H A W E 𝓣 G36 (Scalar.oFld
+              6 ((Syntax.field 1) ∷ List.[]) (Syntax.tyInt Syntax.w64) 8 Shared.lenV) 22
+              (Rows.sc-here (Row.sInt Syntax.w64)) (Syntax.tyInt Syntax.w64) (Row.valS (Row.sInt Syntax.w64))
+              (Row.sInt Syntax.w64 .of) (
+                Shared.reads-sslice-len 𝓤 H A W (Referent.rtF (Referent.fInt Syntax.w8)) ref11 5 8 Path.refl,
+                Path.refl,
+              ) (Reads'.room-gone 𝓤 H A (Syntax.tyInt Syntax.w64)) (Scalar.holds-sc 𝓤 H A W (Row.sInt Syntax.w64))
+              Path.refl (λ u. Path.refl) λ u. tt) d62
+
           d64 : Typed.Typed 𝓤 H A 𝓣 E G35 b59 Δ0 at64
-          d64 = Typed.s-seq 𝓤 H A W 𝓣 E G35 G36 b11 b58 Δ0 (Typed.pass T34 T36 s34) at63 (CopyOut.t-copy-told 𝓤 H A W E 𝓣 (Declared.row
-              HnsrAnswer.the-type) Path.refl (Laws'''.val HnsrAnswer.the-type Laws'.the-laws) (Laws'''.lawful HnsrAnswer.the-type Laws'.the-laws 𝓤 H A
-              W tt) (Laws'''.makes HnsrAnswer.the-type Laws'.the-plain 𝓤 H A) G35 9 (Scalar.oFld 8 ((Syntax.field 1) ∷ List.[]) Laws'.mir 160 λ x.
-              Laws'''.val HnsrAnswer.the-type Laws'.the-laws (Relayed.struct .as-values x .1 .0)) (λ m. Relayed.struct .as-values (m .1 .1 .1 .1 .1 .1
-              .1 .1 .0) .1 .0) (λ m. Laws''''.Is (Declared'.row Relayed.the-type) (m .1 .1 .1 .1 .1 .1 .1 .1 .0) (Laws'''''.vals Relayed.the-type
-              Laws''.the-laws (m .1 .1 .1 .1 .1 .1 .1 .1 .0))) (Reads'.room-gone 𝓤 H A Laws'.mir) (Reads.reads-field 𝓤 H A W Relayed.the-type
-              Laws''.the-laws 1 Laws'.mir 160 Path.refl, Path.refl,) Path.refl (λ ρ m. Make.tells-row 𝓤 H A W E ρ (Row.out 9 (G35 .locals)) m 8
-              (Laws''''.Is (Declared'.row Relayed.the-type) (m .1 .1 .1 .1 .1 .1 .1 .1 .0) (Laws'''''.vals Relayed.the-type Laws''.the-laws (m .1 .1
-              .1 .1 .1 .1 .1 .1 .0))) (Make.whole-is 𝓤 H A W E (Declared'.row Relayed.the-type) Path.refl (Laws'''''.val Relayed.the-type
-              Laws''.the-laws) (Laws'''''.tells Relayed.the-type Laws''.the-laws) ρ 8 (m .1 .1 .1 .1 .1 .1 .1 .1 .0))) (λ m k wa. Path.refl) λ m k wa.
-              Laws'''''.owed Relayed.the-type Laws''.the-laws (m .1 .1 .1 .1 .1 .1 .1 .1 .0) (Laws'''''.vals Relayed.the-type Laws''.the-laws (m .1 .1
-              .1 .1 .1 .1 .1 .1 .0)) k .1 .0) d63
+          d64 = Typed.s-seq 𝓤 H A W 𝓣 E G35 G36 b11 b58 Δ0 (Typed.pass T34 T36 s34) at63 (CopyOut.t-copy-told 𝓤 H A W E
+              𝓣 (Declared.row HnsrAnswer.the-type) Path.refl (Laws'''.val HnsrAnswer.the-type Laws'.the-laws) (Laws'''.lawful
+              HnsrAnswer.the-type Laws'.the-laws 𝓤 H A W tt) (Laws'''.makes HnsrAnswer.the-type Laws'.the-plain 𝓤 H A)
+              G35 9 (Scalar.oFld 8 ((Syntax.field 1) ∷ List.[]) Laws'.mir 160 λ x. Laws'''.val HnsrAnswer.the-type
+              Laws'.the-laws (Relayed.struct .as-values x .1 .0)) (λ m. Relayed.struct .as-values
+              (m .1 .1 .1 .1 .1 .1 .1 .1 .0) .1 .0) (λ m. Laws''''.Is (Declared'.row Relayed.the-type)
+              (m .1 .1 .1 .1 .1 .1 .1 .1 .0) (Laws'''''.vals Relayed.the-type Laws''.the-laws
+              (m .1 .1 .1 .1 .1 .1 .1 .1 .0))) (Reads'.room-gone 𝓤 H A Laws'.mir) (
+                Reads.reads-field 𝓤 H A W Relayed.the-type Laws''.the-laws 1 Laws'.mir 160 Path.refl,
+                Path.refl,
+              ) Path.refl (λ ρ m. Make.tells-row 𝓤 H A W E ρ (Row.out 9 (G35 .locals)) m 8 (Laws''''.Is
+              (Declared'.row Relayed.the-type) (m .1 .1 .1 .1 .1 .1 .1 .1 .0) (Laws'''''.vals Relayed.the-type
+              Laws''.the-laws (m .1 .1 .1 .1 .1 .1 .1 .1 .0))) (Make.whole-is 𝓤 H A W E
+              (Declared'.row Relayed.the-type) Path.refl (Laws'''''.val Relayed.the-type Laws''.the-laws)
+              (Laws'''''.tells Relayed.the-type Laws''.the-laws) ρ 8 (m .1 .1 .1 .1 .1 .1 .1 .1 .0)))
+              (λ m k wa. Path.refl) λ m k wa. Laws'''''.owed Relayed.the-type Laws''.the-laws
+              (m .1 .1 .1 .1 .1 .1 .1 .1 .0) (Laws'''''.vals Relayed.the-type Laws''.the-laws
+              (m .1 .1 .1 .1 .1 .1 .1 .1 .0)) k .1 .0) d63
+
           d65 : Typed.Typed 𝓤 H A 𝓣 E G34 b59 Δ0 at65
-          d65 = Typed.g-pre 𝓤 H A W 𝓣 E G34 G35 b59 Δ0 (λ Ψ. Ψ) at64 (Lifetime.g-forget 𝓤 H A W E G34 10 Row.dead Path.refl) d64
+          d65 = Typed.g-pre 𝓤 H A W 𝓣 E G34 G35 b59 Δ0 (λ Ψ. Ψ) at64
+              (Lifetime.g-forget 𝓤 H A W E G34 10 Row.dead Path.refl) d64
+
           d66 : Typed.Typed 𝓤 H A 𝓣 E G33 b59 Δ0 at66
-          d66 = Typed.g-pre 𝓤 H A W 𝓣 E G33 G34 b59 Δ0 (Typed.give s32) at65 (Know.g-sl-known 𝓤 H A W (Referent.fInt Syntax.w32) E G33 5 4 ref10 life4
-              0 (λ x. x) record { fits = Dec.lit< tt } (Reads'.as-is 𝓤 H A (Mut.mslice (Referent.rtF (Referent.fInt Syntax.w32)) ref10 4)) Path.refl
-              tt) d65
+          d66 = Typed.g-pre 𝓤 H A W 𝓣 E G33 G34 b59 Δ0 (Typed.give s32) at65 (Know.g-sl-known 𝓤 H A W
+              (Referent.fInt Syntax.w32) E G33 5 4 ref10 life4 0 (λ x. x) record { fits = Dec.lit< tt } (Reads'.as-is 𝓤
+              H A (Mut.mslice (Referent.rtF (Referent.fInt Syntax.w32)) ref10 4)) Path.refl tt) d65
+
           d67 : Typed.Typed 𝓤 H A 𝓣 E G32 b59 Δ0 at67
-          d67 = Typed.g-pre 𝓤 H A W 𝓣 E G32 G33 b59 Δ0 (Typed.both s31) at66 (Relend.g-back-sl 𝓤 H A W E (Referent.rtF (Referent.fInt Syntax.w32)) G32
-              21 5 4 10 ref10 ref4 life4 (λ x. x) (λ x. x) (Reads'.as-is 𝓤 H A (Mut.msleft (Referent.rtF (Referent.fInt Syntax.w32)) ref4))
-              (Reads'.as-is 𝓤 H A (Relend.mslice-owed (Referent.rtF (Referent.fInt Syntax.w32)) ref10 4 10 life4)) Path.refl Path.refl) d66
+          d67 = Typed.g-pre 𝓤 H A W 𝓣 E G32 G33 b59 Δ0 (Typed.both s31) at66 (Relend.g-back-sl 𝓤 H A W E
+              (Referent.rtF (Referent.fInt Syntax.w32)) G32 21 5 4 10 ref10 ref4 life4 (λ x. x) (λ x. x) (Reads'.as-is
+              𝓤 H A (Mut.msleft (Referent.rtF (Referent.fInt Syntax.w32)) ref4)) (Reads'.as-is 𝓤 H A (Relend.mslice-owed
+              (Referent.rtF (Referent.fInt Syntax.w32)) ref10 4 10 life4)) Path.refl Path.refl) d66
+
           d68 : Typed.Typed 𝓤 H A 𝓣 E G31 b59 Δ0 at68
           d68 = Typed.g-pre 𝓤 H A W 𝓣 E G31 G32 b59 Δ0 (λ Ψ. Ψ) at67 (Lifetime.g-end 𝓤 H A W E G31 10 Path.refl) d67
+
           d69 : Typed.Typed 𝓤 H A 𝓣 E G30 b59 Δ0 at69
-          d69 = Typed.g-pre 𝓤 H A W 𝓣 E G30 G31 b59 Δ0 (λ Ψ. Ψ) at68 (Lifetime.g-forget 𝓤 H A W E G30 9 Row.dead Path.refl) d68
+          d69 = Typed.g-pre 𝓤 H A W 𝓣 E G30 G31 b59 Δ0 (λ Ψ. Ψ) at68
+              (Lifetime.g-forget 𝓤 H A W E G30 9 Row.dead Path.refl) d68
+
           d70 : Typed.Typed 𝓤 H A 𝓣 E G29 b59 Δ0 at70
-          d70 = Typed.g-pre 𝓤 H A W 𝓣 E G29 G30 b59 Δ0 (Typed.both s28) at69 (Relend.g-back-sl 𝓤 H A W E InflightAction.row G29 19 4 3 9 ref9 ref3
-              life3 (λ x. x) (λ x. x) (Reads'.as-is 𝓤 H A (Mut.msleft InflightAction.row ref3)) (Reads'.as-is 𝓤 H A (Relend.mslice-owed
-              InflightAction.row ref9 3 9 life3)) Path.refl Path.refl) d69
+          d70 = Typed.g-pre 𝓤 H A W 𝓣 E G29 G30 b59 Δ0 (Typed.both s28) at69 (Relend.g-back-sl 𝓤 H A W E
+              InflightAction.row G29 19 4 3 9 ref9 ref3 life3 (λ x. x) (λ x. x)
+              (Reads'.as-is 𝓤 H A (Mut.msleft InflightAction.row ref3)) (Reads'.as-is 𝓤 H A
+              (Relend.mslice-owed InflightAction.row ref9 3 9 life3)) Path.refl Path.refl) d69
+
           d71 : Typed.Typed 𝓤 H A 𝓣 E G28 b59 Δ0 at71
           d71 = Typed.g-pre 𝓤 H A W 𝓣 E G28 G29 b59 Δ0 (λ Ψ. Ψ) at70 (Lifetime.g-end 𝓤 H A W E G28 9 Path.refl) d70
+
           d72 : Typed.Typed 𝓤 H A 𝓣 E G27 b59 Δ0 at72
-          d72 = Typed.g-pre 𝓤 H A W 𝓣 E G27 G28 b59 Δ0 (λ Ψ. Ψ) at71 (Lifetime.g-forget 𝓤 H A W E G27 8 Row.dead Path.refl) d71
+          d72 = Typed.g-pre 𝓤 H A W 𝓣 E G27 G28 b59 Δ0 (λ Ψ. Ψ) at71
+              (Lifetime.g-forget 𝓤 H A W E G27 8 Row.dead Path.refl) d71
+
           d73 : Typed.Typed 𝓤 H A 𝓣 E G26 b59 Δ0 at73
-          d73 = Typed.g-pre 𝓤 H A W 𝓣 E G26 G27 b59 Δ0 (Typed.both s25) at72 (Relend.g-back-sl 𝓤 H A W E ReservationUsage.row G26 17 3 2 8 ref8 ref2
-              life2 (λ x. x) (λ x. x) (Reads'.as-is 𝓤 H A (Mut.msleft ReservationUsage.row ref2)) (Reads'.as-is 𝓤 H A (Relend.mslice-owed
-              ReservationUsage.row ref8 2 8 life2)) Path.refl Path.refl) d72
+          d73 = Typed.g-pre 𝓤 H A W 𝓣 E G26 G27 b59 Δ0 (Typed.both s25) at72 (Relend.g-back-sl 𝓤 H A W E
+              ReservationUsage.row G26 17 3 2 8 ref8 ref2 life2 (λ x. x) (λ x. x)
+              (Reads'.as-is 𝓤 H A (Mut.msleft ReservationUsage.row ref2)) (Reads'.as-is 𝓤 H A
+              (Relend.mslice-owed ReservationUsage.row ref8 2 8 life2)) Path.refl Path.refl) d72
+
           d74 : Typed.Typed 𝓤 H A 𝓣 E G25 b59 Δ0 at74
           d74 = Typed.g-pre 𝓤 H A W 𝓣 E G25 G26 b59 Δ0 (λ Ψ. Ψ) at73 (Lifetime.g-end 𝓤 H A W E G25 8 Path.refl) d73
+
           d75 : Typed.Typed 𝓤 H A 𝓣 E G24 b59 Δ0 at75
-          d75 = Typed.g-pre 𝓤 H A W 𝓣 E G24 G25 b59 Δ0 (λ Ψ. Ψ) at74 (Lifetime.g-forget 𝓤 H A W E G24 7 Row.dead Path.refl) d74
+          d75 = Typed.g-pre 𝓤 H A W 𝓣 E G24 G25 b59 Δ0 (λ Ψ. Ψ) at74
+              (Lifetime.g-forget 𝓤 H A W E G24 7 Row.dead Path.refl) d74
+
           d76 : Typed.Typed 𝓤 H A 𝓣 E G23 b59 Δ0 at76
-          d76 = Typed.g-pre 𝓤 H A W 𝓣 E G23 G24 b59 Δ0 (Typed.both s22) at75 (Relend.g-back-sl 𝓤 H A W E RelayCircuit.row G23 15 2 1 7 ref7 ref1 life1
-              (λ x. x) (λ x. x) (Reads'.as-is 𝓤 H A (Mut.msleft RelayCircuit.row ref1)) (Reads'.as-is 𝓤 H A (Relend.mslice-owed RelayCircuit.row ref7
-              1 7 life1)) Path.refl Path.refl) d75
+          d76 = Typed.g-pre 𝓤 H A W 𝓣 E G23 G24 b59 Δ0 (Typed.both s22) at75 (Relend.g-back-sl 𝓤 H A W E
+              RelayCircuit.row G23 15 2 1 7 ref7 ref1 life1 (λ x. x) (λ x. x)
+              (Reads'.as-is 𝓤 H A (Mut.msleft RelayCircuit.row ref1)) (Reads'.as-is 𝓤 H A
+              (Relend.mslice-owed RelayCircuit.row ref7 1 7 life1)) Path.refl Path.refl) d75
+
           d77 : Typed.Typed 𝓤 H A 𝓣 E G22 b59 Δ0 at77
           d77 = Typed.g-pre 𝓤 H A W 𝓣 E G22 G23 b59 Δ0 (λ Ψ. Ψ) at76 (Lifetime.g-end 𝓤 H A W E G22 7 Path.refl) d76
+
           d78 : Typed.Typed 𝓤 H A 𝓣 E G21 b59 Δ0 at78
-          d78 = Typed.g-pre 𝓤 H A W 𝓣 E G21 G22 b59 Δ0 (λ Ψ. Ψ) at77 (Lifetime.g-forget 𝓤 H A W E G21 6 Row.dead Path.refl) d77
+          d78 = Typed.g-pre 𝓤 H A W 𝓣 E G21 G22 b59 Δ0 (λ Ψ. Ψ) at77
+              (Lifetime.g-forget 𝓤 H A W E G21 6 Row.dead Path.refl) d77
+
           d79 : Typed.Typed 𝓤 H A 𝓣 E G20 b59 Δ0 at79
-          d79 = Typed.g-pre 𝓤 H A W 𝓣 E G20 G21 b59 Δ0 (Typed.both s19) at78 (Relend.g-back-sl 𝓤 H A W E RelayPending.row G20 13 1 0 6 ref6 ref0 life0
-              (λ x. x) (λ x. x) (Reads'.as-is 𝓤 H A (Mut.msleft RelayPending.row ref0)) (Reads'.as-is 𝓤 H A (Relend.mslice-owed RelayPending.row ref6
-              0 6 life0)) Path.refl Path.refl) d78
+          d79 = Typed.g-pre 𝓤 H A W 𝓣 E G20 G21 b59 Δ0 (Typed.both s19) at78 (Relend.g-back-sl 𝓤 H A W E
+              RelayPending.row G20 13 1 0 6 ref6 ref0 life0 (λ x. x) (λ x. x)
+              (Reads'.as-is 𝓤 H A (Mut.msleft RelayPending.row ref0)) (Reads'.as-is 𝓤 H A
+              (Relend.mslice-owed RelayPending.row ref6 0 6 life0)) Path.refl Path.refl) d78
+
           d80 : Typed.Typed 𝓤 H A 𝓣 E G19 b59 Δ0 at80
           d80 = Typed.g-pre 𝓤 H A W 𝓣 E G19 G20 b59 Δ0 (λ Ψ. Ψ) at79 (Lifetime.g-end 𝓤 H A W E G19 6 Path.refl) d79
+
           d81 : Typed.Typed 𝓤 H A 𝓣 E G18 b60 Δ0 at81
-          d81 = Typed.s-seq 𝓤 H A W 𝓣 E G18 G19 b10 b59 Δ0 (Typed.both s17) at80 (Plain.t-call-plain 𝓤 H A W 𝓣 5 ps·0 r·0 (claims· .0) (claims· .1)
-              "cases::machine::prepare" (known .0) E (λ pos β. β) G18 (record { pos = 13; ty = Syntax.tyRef Syntax.erased Syntax.mut RelayPending.to;
-              ref = λ x. x; }, (record { pos = 15; ty = Syntax.tyRef Syntax.erased Syntax.mut RelayCircuit.to; ref = λ x. x; }, (record { pos = 17; ty
-              = Syntax.tyRef Syntax.erased Syntax.mut ReservationUsage.to; ref = λ x. x; }, (record { pos = 19; ty = Syntax.tyRef Syntax.erased
-              Syntax.mut InflightAction.to; ref = λ x. x; }, (record { pos = 21; ty = Syntax.tyRef Syntax.erased Syntax.mut (Syntax.tyInt Syntax.w32);
-              ref = λ x. x; }, (record { pos = 7; st = List.[]; d = 0; at = λ x. x }, tt),),),),),) 8 (6 ∷ 7 ∷ 8 ∷ 9 ∷ 10 ∷ List.[]) (Call.sub-id 𝓤 H
-              A W (G18 .slots)) (Reads'.as-is 𝓤 H A (Mut.mslice RelayPending.row ref0 6), Mut.reads-mslice 𝓤 H A W RelayPending.row ref0 6, Path.refl,
-              (Reads'.as-is 𝓤 H A (Mut.mslice RelayCircuit.row ref1 7), Mut.reads-mslice 𝓤 H A W RelayCircuit.row ref1 7, Path.refl, (Reads'.as-is 𝓤 H
-              A (Mut.mslice ReservationUsage.row ref2 8), Mut.reads-mslice 𝓤 H A W ReservationUsage.row ref2 8, Path.refl, (Reads'.as-is 𝓤 H A
-              (Mut.mslice InflightAction.row ref3 9), Mut.reads-mslice 𝓤 H A W InflightAction.row ref3 9, Path.refl, (Reads'.as-is 𝓤 H A (Mut.mslice
-              (Referent.rtF (Referent.fInt Syntax.w32)) ref4 10), Mut.reads-mslice 𝓤 H A W (Referent.rtF (Referent.fInt Syntax.w32)) ref4 10,
-              Path.refl, ((Yields.yields-copy 𝓤 H A W (λ ρ. Unit) (Declared'.row Script.the-type) Path.refl (Copies.cStruct Script.the-type
-              Laws.the-laws Laws.the-copy .copy 𝓤 H A W) (Rows.whole (Declared'.row Script.the-type)) (λ x. x) (λ x. x) (λ ρ told. Local.mem-whole 𝓤 H
-              A W (Declared'.row Script.the-type) ρ) λ ρ told. Local.whole-mem 𝓤 H A W (Declared'.row Script.the-type) ρ, Path.refl,), tt,),),),),),)
-              (Reads'.room-gone 𝓤 H A Laws''.mir) (tt, (tt, (tt, (tt, (tt, tt))))) Path.refl) d80
+          d81 = Typed.s-seq 𝓤 H A W 𝓣 E G18 G19 b10 b59 Δ0 (Typed.both s17) at80 (Plain.t-call-plain 𝓤 H A W 𝓣 5 ps·0
+              r·0 (claims· .0) (claims· .1) "cases::machine::prepare" (known .0) E (λ pos β. β) G18 (
+                record { pos = 13; ty = ref0; ref = λ x. x },
+                (
+                  record { pos = 15; ty = ref1; ref = λ x. x },
+                  (
+                    record { pos = 17; ty = ref2; ref = λ x. x },
+                    (
+                      record { pos = 19; ty = ref3; ref = λ x. x },
+                      (
+                        record { pos = 21; ty = ref4; ref = λ x. x },
+                        (record { pos = 7; st = List.[]; d = 0; at = λ x. x }, tt),
+                      ),
+                    ),
+                  ),
+                ),
+              ) 8 (6 ∷ 7 ∷ 8 ∷ 9 ∷ 10 ∷ List.[]) (Call.sub-id 𝓤 H A W (G18 .slots)) (
+                Reads'.as-is 𝓤 H A (Mut.mslice RelayPending.row ref0 6),
+                Mut.reads-mslice 𝓤 H A W RelayPending.row ref0 6,
+                Path.refl,
+                (
+                  Reads'.as-is 𝓤 H A (Mut.mslice RelayCircuit.row ref1 7),
+                  Mut.reads-mslice 𝓤 H A W RelayCircuit.row ref1 7,
+                  Path.refl,
+                  (
+                    Reads'.as-is 𝓤 H A (Mut.mslice ReservationUsage.row ref2 8),
+                    Mut.reads-mslice 𝓤 H A W ReservationUsage.row ref2 8,
+                    Path.refl,
+                    (
+                      Reads'.as-is 𝓤 H A (Mut.mslice InflightAction.row ref3 9),
+                      Mut.reads-mslice 𝓤 H A W InflightAction.row ref3 9,
+                      Path.refl,
+                      (
+                        Reads'.as-is 𝓤 H A (Mut.mslice (Referent.rtF (Referent.fInt Syntax.w32)) ref4 10),
+                        Mut.reads-mslice 𝓤 H A W (Referent.rtF (Referent.fInt Syntax.w32)) ref4 10,
+                        Path.refl,
+                        (
+                          (
+                            Yields.yields-copy 𝓤 H A W (λ ρ. Unit) (Declared'.row Script.the-type) Path.refl (Copies.cStruct
+                                Script.the-type Laws.the-laws Laws.the-copy .copy 𝓤 H A W)
+                                (Rows.whole (Declared'.row Script.the-type)) (λ x. x) (λ x. x) (λ ρ told.
+                                Local.mem-whole 𝓤 H A W (Declared'.row Script.the-type) ρ) λ ρ told. Local.whole-mem 𝓤
+                                H A W (Declared'.row Script.the-type) ρ,
+                            Path.refl,
+                          ),
+                          tt,
+                        ),
+                      ),
+                    ),
+                  ),
+                ),
+              ) (Reads'.room-gone 𝓤 H A Laws''.mir) (tt, (tt, (tt, (tt, (tt, tt))))) Path.refl) d80
+
           d82 : Typed.Typed 𝓤 H A 𝓣 E G17 b61 Δ0 at82
-          d82 = Typed.s-seq 𝓤 H A W 𝓣 E G17 G18 b9 b60 Δ0 (Typed.ask s16) at81 (Relend.t-sl-aggregate 𝓤 H A W E (Referent.rtF (Referent.fInt
-              Syntax.w32)) 𝓣 (Relend.asMut (Referent.rtF (Referent.fInt Syntax.w32))) G17 20 21 10 ref4 ref4 (λ x. x) (Scalar.oFld 5 ((Syntax.field 1)
-              ∷ List.[]) (Syntax.tyInt Syntax.w64) 8 λ v. Shared.lenV (v .0)) (Reads'.as-is 𝓤 H A (Relend.msptr (Referent.rtF (Referent.fInt
-              Syntax.w32)) ref4 10)) (Reads'.room-gone 𝓤 H A (Syntax.tyStruct (38 ∷ 91 ∷ 93 ∷ List.[]) (Syntax.tcons ref4 (Syntax.tcons (Syntax.tyInt
-              Syntax.w64) Syntax.tnil)))) (Relend.reads-owed-len 𝓤 H A W (Referent.rtF (Referent.fInt Syntax.w32)) ref10 4 10 life4 8 Path.refl,
-              Path.refl,) Path.refl Path.refl λ b o k. tt) d81
+          d82 = Typed.s-seq 𝓤 H A W 𝓣 E G17 G18 b9 b60 Δ0 (Typed.ask s16) at81 (Relend.t-sl-aggregate 𝓤 H A W E
+              (Referent.rtF (Referent.fInt Syntax.w32)) 𝓣 (Relend.asMut (Referent.rtF (Referent.fInt Syntax.w32))) G17
+              20 21 10 ref4 ref4 (λ x. x) (Scalar.oFld 5 ((Syntax.field 1) ∷ List.[]) (Syntax.tyInt Syntax.w64) 8 λ v.
+              Shared.lenV (v .0)) (Reads'.as-is 𝓤 H A (Relend.msptr (Referent.rtF (Referent.fInt Syntax.w32)) ref4 10))
+              (Reads'.room-gone 𝓤 H A slice4) (
+                Relend.reads-owed-len 𝓤 H A W (Referent.rtF (Referent.fInt Syntax.w32)) ref10 4 10 life4 8 Path.refl,
+                Path.refl,
+              ) Path.refl Path.refl λ b o k. tt) d81
+
           d83 : Typed.Typed 𝓤 H A 𝓣 E G16 b62 Δ0 at83
-          d83 = Typed.s-seq 𝓤 H A W 𝓣 E G16 G17 b8 b61 Δ0 (Typed.give s15) at82 (Relend.t-sl-relend 𝓤 H A W E (Referent.rtF (Referent.fInt
-              Syntax.w32)) 𝓣 G16 5 20 4 10 ref10 ref4 life4 0 (λ x. x) (Reads'.as-is 𝓤 H A (Mut.mslice (Referent.rtF (Referent.fInt Syntax.w32)) ref10
-              4)) (Reads'.room-gone 𝓤 H A ref4) Path.refl tt Path.refl Path.refl Path.refl λ b o. tt) d82
+          d83 = Typed.s-seq 𝓤 H A W 𝓣 E G16 G17 b8 b61 Δ0 (Typed.give s15) at82 (Relend.t-sl-relend 𝓤 H A W E
+              (Referent.rtF (Referent.fInt Syntax.w32)) 𝓣 G16 5 20 4 10 ref10 ref4 life4 0 (λ x. x) (Reads'.as-is 𝓤 H A (Mut.mslice
+              (Referent.rtF (Referent.fInt Syntax.w32)) ref10 4)) (Reads'.room-gone 𝓤 H A ref4) Path.refl tt Path.refl
+              Path.refl Path.refl λ b o. tt) d82
+
           d84 : Typed.Typed 𝓤 H A 𝓣 E G15 b62 Δ0 at84
-          d84 = Typed.g-pre 𝓤 H A W 𝓣 E G15 G16 b62 Δ0 (λ Ψ. Ψ) at83 (Lifetime.g-begin 𝓤 H A W E G15 10 (tt, ((tt, tt), ((tt, tt), ((tt, tt), ((tt,
-              tt), (tt, (tt, (tt, (tt, (tt, (tt, (tt, (tt, (tt, (tt, (tt, (tt, (tt, (tt, (tt, (tt, (tt, (tt, (tt, (tt, (tt, (tt, (tt, (tt, (tt, (tt,
-              (tt, (tt, (tt, (tt, (tt, (tt, (tt, tt),),),),),),),),),),),),),),),),),),),),),),),),),),),),),),),),),),),),),)) d83
+          d84 = Typed.g-pre 𝓤 H A W 𝓣 E G15 G16 b62 Δ0 (λ Ψ. Ψ) at83 (Lifetime.g-begin 𝓤 H A W E G15 10 (
+            tt,
+            (
+              (tt, tt),
+              (
+                (tt, tt),
+                (
+                  (tt, tt),
+                  (
+                    (tt, tt),
+                    (
+                      tt,
+                      (
+                        tt,
+                        (
+                          tt,
+                          (
+                            tt,
+                            (
+                              tt,
+                              (
+                                tt,
+                                (
+                                  tt,
+                                  (
+                                    tt,
+                                    (
+                                      tt,
+                                      (
+                                        tt,
+                                        (
+                                          tt,
+                                          (
+                                            tt,
+                                            (
+                                              tt,
+                                              (
+                                                tt,
+                                                (
+                                                  tt,
+                                                  (
+                                                    tt,
+                                                    (
+                                                      tt,
+                                                      (
+                                                        tt,
+                                                        (
+                                                          tt,
+                                                          (
+                                                            tt,
+                                                            (
+                                                              tt,
+                                                              (
+                                                                tt,
+                                                                (
+                                                                  tt,
+                                                                  (
+                                                                    tt,
+                                                                    (
+                                                                      tt,
+                                                                      (
+                                                                        tt,
+                                                                        (tt, (tt, (tt, (tt, (tt, (tt, (tt, tt))))))),
+                                                                      ),
+                                                                    ),
+                                                                  ),
+                                                                ),
+                                                              ),
+                                                            ),
+                                                          ),
+                                                        ),
+                                                      ),
+                                                    ),
+                                                  ),
+                                                ),
+                                              ),
+                                            ),
+                                          ),
+                                        ),
+                                      ),
+                                    ),
+                                  ),
+                                ),
+                              ),
+                            ),
+                          ),
+                        ),
+                      ),
+                    ),
+                  ),
+                ),
+              ),
+            ),
+          )) d83
+
           d85 : Typed.Typed 𝓤 H A 𝓣 E G14 b63 Δ0 at85
-          d85 = Typed.s-seq 𝓤 H A W 𝓣 E G14 G15 b7 b62 Δ0 (Typed.ask s13) at84 (Relend.t-sl-aggregate 𝓤 H A W E InflightAction.row 𝓣 (Relend.asMut
-              InflightAction.row) G14 18 19 9 ref3 ref3 (λ x. x) (Scalar.oFld 4 ((Syntax.field 1) ∷ List.[]) (Syntax.tyInt Syntax.w64) 8 λ v.
-              Shared.lenV (v .0)) (Reads'.as-is 𝓤 H A (Relend.msptr InflightAction.row ref3 9)) (Reads'.room-gone 𝓤 H A (Syntax.tyStruct (38 ∷ 91 ∷ 93
-              ∷ List.[]) (Syntax.tcons ref3 (Syntax.tcons (Syntax.tyInt Syntax.w64) Syntax.tnil)))) (Relend.reads-owed-len 𝓤 H A W InflightAction.row
-              ref9 3 9 life3 8 Path.refl, Path.refl,) Path.refl Path.refl λ b o k. tt) d84
+          d85 = Typed.s-seq 𝓤 H A W 𝓣 E G14 G15 b7 b62 Δ0 (Typed.ask s13) at84 (Relend.t-sl-aggregate 𝓤 H A W E
+              InflightAction.row 𝓣 (Relend.asMut InflightAction.row) G14 18 19 9 ref3 ref3 (λ x. x) (Scalar.oFld 4
+              ((Syntax.field 1) ∷ List.[]) (Syntax.tyInt Syntax.w64) 8 λ v. Shared.lenV (v .0)) (Reads'.as-is 𝓤 H A
+              (Relend.msptr InflightAction.row ref3 9)) (Reads'.room-gone 𝓤 H A slice3) (
+                Relend.reads-owed-len 𝓤 H A W InflightAction.row ref9 3 9 life3 8 Path.refl,
+                Path.refl,
+              ) Path.refl Path.refl λ b o k. tt) d84
+
           d86 : Typed.Typed 𝓤 H A 𝓣 E G13 b64 Δ0 at86
-          d86 = Typed.s-seq 𝓤 H A W 𝓣 E G13 G14 b6 b63 Δ0 (Typed.give s12) at85 (Relend.t-sl-relend 𝓤 H A W E InflightAction.row 𝓣 G13 4 18 3 9 ref9
-              ref3 life3 0 (λ x. x) (Reads'.as-is 𝓤 H A (Mut.mslice InflightAction.row ref9 3)) (Reads'.room-gone 𝓤 H A ref3) Path.refl tt Path.refl
-              Path.refl Path.refl λ b o. tt) d85
+          d86 = Typed.s-seq 𝓤 H A W 𝓣 E G13 G14 b6 b63 Δ0 (Typed.give s12) at85 (Relend.t-sl-relend 𝓤 H A W E
+              InflightAction.row 𝓣 G13 4 18 3 9 ref9 ref3 life3 0 (λ x. x)
+              (Reads'.as-is 𝓤 H A (Mut.mslice InflightAction.row ref9 3)) (Reads'.room-gone 𝓤 H A ref3) Path.refl tt
+              Path.refl Path.refl Path.refl λ b o. tt) d85
+
           d87 : Typed.Typed 𝓤 H A 𝓣 E G12 b64 Δ0 at87
-          d87 = Typed.g-pre 𝓤 H A W 𝓣 E G12 G13 b64 Δ0 (λ Ψ. Ψ) at86 (Lifetime.g-begin 𝓤 H A W E G12 9 (tt, ((tt, tt), ((tt, tt), ((tt, tt), (tt, (tt,
-              (tt, (tt, (tt, (tt, (tt, (tt, (tt, (tt, (tt, (tt, (tt, (tt, (tt, (tt, (tt, (tt, (tt, (tt, (tt, (tt, (tt, (tt, (tt, (tt, (tt, (tt, (tt,
-              (tt, (tt, (tt, (tt, (tt, tt),),),),),),),),),),),),),),),),),),),),),),),),),),),),),),),),),),),),),)) d86
+          d87 = Typed.g-pre 𝓤 H A W 𝓣 E G12 G13 b64 Δ0 (λ Ψ. Ψ) at86 (Lifetime.g-begin 𝓤 H A W E G12 9 (
+            tt,
+            (
+              (tt, tt),
+              (
+                (tt, tt),
+                (
+                  (tt, tt),
+                  (
+                    tt,
+                    (
+                      tt,
+                      (
+                        tt,
+                        (
+                          tt,
+                          (
+                            tt,
+                            (
+                              tt,
+                              (
+                                tt,
+                                (
+                                  tt,
+                                  (
+                                    tt,
+                                    (
+                                      tt,
+                                      (
+                                        tt,
+                                        (
+                                          tt,
+                                          (
+                                            tt,
+                                            (
+                                              tt,
+                                              (
+                                                tt,
+                                                (
+                                                  tt,
+                                                  (
+                                                    tt,
+                                                    (
+                                                      tt,
+                                                      (
+                                                        tt,
+                                                        (
+                                                          tt,
+                                                          (
+                                                            tt,
+                                                            (
+                                                              tt,
+                                                              (
+                                                                tt,
+                                                                (
+                                                                  tt,
+                                                                  (
+                                                                    tt,
+                                                                    (
+                                                                      tt,
+                                                                      (
+                                                                        tt,
+                                                                        (tt, (tt, (tt, (tt, (tt, (tt, (tt, tt))))))),
+                                                                      ),
+                                                                    ),
+                                                                  ),
+                                                                ),
+                                                              ),
+                                                            ),
+                                                          ),
+                                                        ),
+                                                      ),
+                                                    ),
+                                                  ),
+                                                ),
+                                              ),
+                                            ),
+                                          ),
+                                        ),
+                                      ),
+                                    ),
+                                  ),
+                                ),
+                              ),
+                            ),
+                          ),
+                        ),
+                      ),
+                    ),
+                  ),
+                ),
+              ),
+            ),
+          )) d86
+
           d88 : Typed.Typed 𝓤 H A 𝓣 E G11 b65 Δ0 at88
-          d88 = Typed.s-seq 𝓤 H A W 𝓣 E G11 G12 b5 b64 Δ0 (Typed.ask s10) at87 (Relend.t-sl-aggregate 𝓤 H A W E ReservationUsage.row 𝓣 (Relend.asMut
-              ReservationUsage.row) G11 16 17 8 ref2 ref2 (λ x. x) (Scalar.oFld 3 ((Syntax.field 1) ∷ List.[]) (Syntax.tyInt Syntax.w64) 8 λ v.
-              Shared.lenV (v .0)) (Reads'.as-is 𝓤 H A (Relend.msptr ReservationUsage.row ref2 8)) (Reads'.room-gone 𝓤 H A (Syntax.tyStruct (38 ∷ 91 ∷
-              93 ∷ List.[]) (Syntax.tcons ref2 (Syntax.tcons (Syntax.tyInt Syntax.w64) Syntax.tnil)))) (Relend.reads-owed-len 𝓤 H A W
-              ReservationUsage.row ref8 2 8 life2 8 Path.refl, Path.refl,) Path.refl Path.refl λ b o k. tt) d87
+          d88 = Typed.s-seq 𝓤 H A W 𝓣 E G11 G12 b5 b64 Δ0 (Typed.ask s10) at87 (Relend.t-sl-aggregate 𝓤 H A W E
+              ReservationUsage.row 𝓣 (Relend.asMut ReservationUsage.row) G11 16 17 8 ref2 ref2 (λ x. x) (Scalar.oFld 3
+              ((Syntax.field 1) ∷ List.[]) (Syntax.tyInt Syntax.w64) 8 λ v. Shared.lenV (v .0)) (Reads'.as-is 𝓤 H A
+              (Relend.msptr ReservationUsage.row ref2 8)) (Reads'.room-gone 𝓤 H A slice2) (
+                Relend.reads-owed-len 𝓤 H A W ReservationUsage.row ref8 2 8 life2 8 Path.refl,
+                Path.refl,
+              ) Path.refl Path.refl λ b o k. tt) d87
+
           d89 : Typed.Typed 𝓤 H A 𝓣 E G10 b66 Δ0 at89
-          d89 = Typed.s-seq 𝓤 H A W 𝓣 E G10 G11 b4 b65 Δ0 (Typed.give s9) at88 (Relend.t-sl-relend 𝓤 H A W E ReservationUsage.row 𝓣 G10 3 16 2 8 ref8
-              ref2 life2 0 (λ x. x) (Reads'.as-is 𝓤 H A (Mut.mslice ReservationUsage.row ref8 2)) (Reads'.room-gone 𝓤 H A ref2) Path.refl tt Path.refl
-              Path.refl Path.refl λ b o. tt) d88
+          d89 = Typed.s-seq 𝓤 H A W 𝓣 E G10 G11 b4 b65 Δ0 (Typed.give s9) at88 (Relend.t-sl-relend 𝓤 H A W E
+              ReservationUsage.row 𝓣 G10 3 16 2 8 ref8 ref2 life2 0 (λ x. x) (Reads'.as-is 𝓤 H A
+              (Mut.mslice ReservationUsage.row ref8 2)) (Reads'.room-gone 𝓤 H A ref2) Path.refl tt Path.refl Path.refl
+              Path.refl λ b o. tt) d88
+
           d90 : Typed.Typed 𝓤 H A 𝓣 E G9 b66 Δ0 at90
-          d90 = Typed.g-pre 𝓤 H A W 𝓣 E G9 G10 b66 Δ0 (λ Ψ. Ψ) at89 (Lifetime.g-begin 𝓤 H A W E G9 8 (tt, ((tt, tt), ((tt, tt), (tt, (tt, (tt, (tt,
-              (tt, (tt, (tt, (tt, (tt, (tt, (tt, (tt, (tt, (tt, (tt, (tt, (tt, (tt, (tt, (tt, (tt, (tt, (tt, (tt, (tt, (tt, (tt, (tt, (tt, (tt, (tt,
-              (tt, (tt, (tt, (tt, tt),),),),),),),),),),),),),),),),),),),),),),),),),),),),),),),),),),),),),)) d89
+          d90 = Typed.g-pre 𝓤 H A W 𝓣 E G9 G10 b66 Δ0 (λ Ψ. Ψ) at89 (Lifetime.g-begin 𝓤 H A W E G9 8 (
+            tt,
+            (
+              (tt, tt),
+              (
+                (tt, tt),
+                (
+                  tt,
+                  (
+                    tt,
+                    (
+                      tt,
+                      (
+                        tt,
+                        (
+                          tt,
+                          (
+                            tt,
+                            (
+                              tt,
+                              (
+                                tt,
+                                (
+                                  tt,
+                                  (
+                                    tt,
+                                    (
+                                      tt,
+                                      (
+                                        tt,
+                                        (
+                                          tt,
+                                          (
+                                            tt,
+                                            (
+                                              tt,
+                                              (
+                                                tt,
+                                                (
+                                                  tt,
+                                                  (
+                                                    tt,
+                                                    (
+                                                      tt,
+                                                      (
+                                                        tt,
+                                                        (
+                                                          tt,
+                                                          (
+                                                            tt,
+                                                            (
+                                                              tt,
+                                                              (
+                                                                tt,
+                                                                (
+                                                                  tt,
+                                                                  (
+                                                                    tt,
+                                                                    (
+                                                                      tt,
+                                                                      (
+                                                                        tt,
+                                                                        (tt, (tt, (tt, (tt, (tt, (tt, (tt, tt))))))),
+                                                                      ),
+                                                                    ),
+                                                                  ),
+                                                                ),
+                                                              ),
+                                                            ),
+                                                          ),
+                                                        ),
+                                                      ),
+                                                    ),
+                                                  ),
+                                                ),
+                                              ),
+                                            ),
+                                          ),
+                                        ),
+                                      ),
+                                    ),
+                                  ),
+                                ),
+                              ),
+                            ),
+                          ),
+                        ),
+                      ),
+                    ),
+                  ),
+                ),
+              ),
+            ),
+          )) d89
+
           d91 : Typed.Typed 𝓤 H A 𝓣 E G8 b67 Δ0 at91
-          d91 = Typed.s-seq 𝓤 H A W 𝓣 E G8 G9 b3 b66 Δ0 (Typed.ask s7) at90 (Relend.t-sl-aggregate 𝓤 H A W E RelayCircuit.row 𝓣 (Relend.asMut
-              RelayCircuit.row) G8 14 15 7 ref1 ref1 (λ x. x) (Scalar.oFld 2 ((Syntax.field 1) ∷ List.[]) (Syntax.tyInt Syntax.w64) 8 λ v. Shared.lenV
-              (v .0)) (Reads'.as-is 𝓤 H A (Relend.msptr RelayCircuit.row ref1 7)) (Reads'.room-gone 𝓤 H A (Syntax.tyStruct (38 ∷ 91 ∷ 93 ∷ List.[])
-              (Syntax.tcons ref1 (Syntax.tcons (Syntax.tyInt Syntax.w64) Syntax.tnil)))) (Relend.reads-owed-len 𝓤 H A W RelayCircuit.row ref7 1 7
-              life1 8 Path.refl, Path.refl,) Path.refl Path.refl λ b o k. tt) d90
+          d91 = Typed.s-seq 𝓤 H A W 𝓣 E G8 G9 b3 b66 Δ0 (Typed.ask s7) at90 (Relend.t-sl-aggregate 𝓤 H A W E
+              RelayCircuit.row 𝓣 (Relend.asMut RelayCircuit.row) G8 14 15 7 ref1 ref1 (λ x. x) (Scalar.oFld 2
+              ((Syntax.field 1) ∷ List.[]) (Syntax.tyInt Syntax.w64) 8 λ v. Shared.lenV (v .0))
+              (Reads'.as-is 𝓤 H A (Relend.msptr RelayCircuit.row ref1 7)) (Reads'.room-gone 𝓤 H A slice1) (
+                Relend.reads-owed-len 𝓤 H A W RelayCircuit.row ref7 1 7 life1 8 Path.refl,
+                Path.refl,
+              ) Path.refl Path.refl λ b o k. tt) d90
+
           d92 : Typed.Typed 𝓤 H A 𝓣 E G7 b68 Δ0 at92
-          d92 = Typed.s-seq 𝓤 H A W 𝓣 E G7 G8 b2 b67 Δ0 (Typed.give s6) at91 (Relend.t-sl-relend 𝓤 H A W E RelayCircuit.row 𝓣 G7 2 14 1 7 ref7 ref1
-              life1 0 (λ x. x) (Reads'.as-is 𝓤 H A (Mut.mslice RelayCircuit.row ref7 1)) (Reads'.room-gone 𝓤 H A ref1) Path.refl tt Path.refl
-              Path.refl Path.refl λ b o. tt) d91
+          d92 = Typed.s-seq 𝓤 H A W 𝓣 E G7 G8 b2 b67 Δ0 (Typed.give s6) at91 (Relend.t-sl-relend 𝓤 H A W E
+              RelayCircuit.row 𝓣 G7 2 14 1 7 ref7 ref1 life1 0 (λ x. x)
+              (Reads'.as-is 𝓤 H A (Mut.mslice RelayCircuit.row ref7 1)) (Reads'.room-gone 𝓤 H A ref1) Path.refl tt
+              Path.refl Path.refl Path.refl λ b o. tt) d91
+
           d93 : Typed.Typed 𝓤 H A 𝓣 E G6 b68 Δ0 at93
-          d93 = Typed.g-pre 𝓤 H A W 𝓣 E G6 G7 b68 Δ0 (λ Ψ. Ψ) at92 (Lifetime.g-begin 𝓤 H A W E G6 7 (tt, ((tt, tt), (tt, (tt, (tt, (tt, (tt, (tt, (tt,
-              (tt, (tt, (tt, (tt, (tt, (tt, (tt, (tt, (tt, (tt, (tt, (tt, (tt, (tt, (tt, (tt, (tt, (tt, (tt, (tt, (tt, (tt, (tt, (tt, (tt, (tt, (tt,
-              (tt, (tt, tt),),),),),),),),),),),),),),),),),),),),),),),),),),),),),),),),),),),),),)) d92
+          d93 = Typed.g-pre 𝓤 H A W 𝓣 E G6 G7 b68 Δ0 (λ Ψ. Ψ) at92 (Lifetime.g-begin 𝓤 H A W E G6 7 (
+            tt,
+            (
+              (tt, tt),
+              (
+                tt,
+                (
+                  tt,
+                  (
+                    tt,
+                    (
+                      tt,
+                      (
+                        tt,
+                        (
+                          tt,
+                          (
+                            tt,
+                            (
+                              tt,
+                              (
+                                tt,
+                                (
+                                  tt,
+                                  (
+                                    tt,
+                                    (
+                                      tt,
+                                      (
+                                        tt,
+                                        (
+                                          tt,
+                                          (
+                                            tt,
+                                            (
+                                              tt,
+                                              (
+                                                tt,
+                                                (
+                                                  tt,
+                                                  (
+                                                    tt,
+                                                    (
+                                                      tt,
+                                                      (
+                                                        tt,
+                                                        (
+                                                          tt,
+                                                          (
+                                                            tt,
+                                                            (
+                                                              tt,
+                                                              (
+                                                                tt,
+                                                                (
+                                                                  tt,
+                                                                  (
+                                                                    tt,
+                                                                    (
+                                                                      tt,
+                                                                      (
+                                                                        tt,
+                                                                        (tt, (tt, (tt, (tt, (tt, (tt, (tt, tt))))))),
+                                                                      ),
+                                                                    ),
+                                                                  ),
+                                                                ),
+                                                              ),
+                                                            ),
+                                                          ),
+                                                        ),
+                                                      ),
+                                                    ),
+                                                  ),
+                                                ),
+                                              ),
+                                            ),
+                                          ),
+                                        ),
+                                      ),
+                                    ),
+                                  ),
+                                ),
+                              ),
+                            ),
+                          ),
+                        ),
+                      ),
+                    ),
+                  ),
+                ),
+              ),
+            ),
+          )) d92
+
           d94 : Typed.Typed 𝓤 H A 𝓣 E G5 b69 Δ0 at94
-          d94 = Typed.s-seq 𝓤 H A W 𝓣 E G5 G6 b1 b68 Δ0 (Typed.ask s4) at93 (Relend.t-sl-aggregate 𝓤 H A W E RelayPending.row 𝓣 (Relend.asMut
-              RelayPending.row) G5 12 13 6 ref0 ref0 (λ x. x) (Scalar.oFld 1 ((Syntax.field 1) ∷ List.[]) (Syntax.tyInt Syntax.w64) 8 λ v. Shared.lenV
-              (v .0)) (Reads'.as-is 𝓤 H A (Relend.msptr RelayPending.row ref0 6)) (Reads'.room-gone 𝓤 H A (Syntax.tyStruct (38 ∷ 91 ∷ 93 ∷ List.[])
-              (Syntax.tcons ref0 (Syntax.tcons (Syntax.tyInt Syntax.w64) Syntax.tnil)))) (Relend.reads-owed-len 𝓤 H A W RelayPending.row ref6 0 6
-              life0 8 Path.refl, Path.refl,) Path.refl Path.refl λ b o k. tt) d93
+          d94 = Typed.s-seq 𝓤 H A W 𝓣 E G5 G6 b1 b68 Δ0 (Typed.ask s4) at93 (Relend.t-sl-aggregate 𝓤 H A W E
+              RelayPending.row 𝓣 (Relend.asMut RelayPending.row) G5 12 13 6 ref0 ref0 (λ x. x) (Scalar.oFld 1
+              ((Syntax.field 1) ∷ List.[]) (Syntax.tyInt Syntax.w64) 8 λ v. Shared.lenV (v .0))
+              (Reads'.as-is 𝓤 H A (Relend.msptr RelayPending.row ref0 6)) (Reads'.room-gone 𝓤 H A slice0) (
+                Relend.reads-owed-len 𝓤 H A W RelayPending.row ref6 0 6 life0 8 Path.refl,
+                Path.refl,
+              ) Path.refl Path.refl λ b o k. tt) d93
+
           d95 : Typed.Typed 𝓤 H A 𝓣 E G4 b70 Δ0 at95
-          d95 = Typed.s-seq 𝓤 H A W 𝓣 E G4 G5 b0 b69 Δ0 (Typed.give s3) at94 (Relend.t-sl-relend 𝓤 H A W E RelayPending.row 𝓣 G4 1 12 0 6 ref6 ref0
-              life0 0 (λ x. x) (Reads'.as-is 𝓤 H A (Mut.mslice RelayPending.row ref6 0)) (Reads'.room-gone 𝓤 H A ref0) Path.refl tt Path.refl
-              Path.refl Path.refl λ b o. tt) d94
+          d95 = Typed.s-seq 𝓤 H A W 𝓣 E G4 G5 b0 b69 Δ0 (Typed.give s3) at94 (Relend.t-sl-relend 𝓤 H A W E
+              RelayPending.row 𝓣 G4 1 12 0 6 ref6 ref0 life0 0 (λ x. x)
+              (Reads'.as-is 𝓤 H A (Mut.mslice RelayPending.row ref6 0)) (Reads'.room-gone 𝓤 H A ref0) Path.refl tt
+              Path.refl Path.refl Path.refl λ b o. tt) d94
+
           d96 : Typed.Typed 𝓤 H A 𝓣 E G3 b70 Δ0 at96
-          d96 = Typed.g-pre 𝓤 H A W 𝓣 E G3 G4 b70 Δ0 (λ Ψ. Ψ) at95 (Lifetime.g-begin 𝓤 H A W E G3 6 (tt, (tt, (tt, (tt, (tt, (tt, (tt, (tt, (tt, (tt,
-              (tt, (tt, (tt, (tt, (tt, (tt, (tt, (tt, (tt, (tt, (tt, (tt, (tt, (tt, (tt, (tt, (tt, (tt, (tt, (tt, (tt, (tt, (tt, (tt, (tt, (tt, (tt,
-              (tt, tt),),),),),),),),),),),),),),),),),),),),),),),),),),),),),),),),),),),),),)) d95
+          d96 = Typed.g-pre 𝓤 H A W 𝓣 E G3 G4 b70 Δ0 (λ Ψ. Ψ) at95 (Lifetime.g-begin 𝓤 H A W E G3 6 (
+            tt,
+            (
+              tt,
+              (
+                tt,
+                (
+                  tt,
+                  (
+                    tt,
+                    (
+                      tt,
+                      (
+                        tt,
+                        (
+                          tt,
+                          (
+                            tt,
+                            (
+                              tt,
+                              (
+                                tt,
+                                (
+                                  tt,
+                                  (
+                                    tt,
+                                    (
+                                      tt,
+                                      (
+                                        tt,
+                                        (
+                                          tt,
+                                          (
+                                            tt,
+                                            (
+                                              tt,
+                                              (
+                                                tt,
+                                                (
+                                                  tt,
+                                                  (
+                                                    tt,
+                                                    (
+                                                      tt,
+                                                      (
+                                                        tt,
+                                                        (
+                                                          tt,
+                                                          (
+                                                            tt,
+                                                            (
+                                                              tt,
+                                                              (
+                                                                tt,
+                                                                (
+                                                                  tt,
+                                                                  (
+                                                                    tt,
+                                                                    (
+                                                                      tt,
+                                                                      (
+                                                                        tt,
+                                                                        (tt, (tt, (tt, (tt, (tt, (tt, (tt, tt))))))),
+                                                                      ),
+                                                                    ),
+                                                                  ),
+                                                                ),
+                                                              ),
+                                                            ),
+                                                          ),
+                                                        ),
+                                                      ),
+                                                    ),
+                                                  ),
+                                                ),
+                                              ),
+                                            ),
+                                          ),
+                                        ),
+                                      ),
+                                    ),
+                                  ),
+                                ),
+                              ),
+                            ),
+                          ),
+                        ),
+                      ),
+                    ),
+                  ),
+                ),
+              ),
+            ),
+          )) d95
+
           d97 : Typed.Typed 𝓤 H A 𝓣 E G2 b70 Δ0 at97
-          d97 = Typed.g-pre 𝓤 H A W 𝓣 E G2 G3 b70 Δ0 (Typed.give s1) at96 (Know.g-shs-known 𝓤 H A W (Referent.fInt Syntax.w8) E G2 6 5 ref11 life5 0
-              (λ x. x) record { fits = Dec.lit< tt } (Reads'.as-is 𝓤 H A (Rows.sslice (Referent.rtF (Referent.fInt Syntax.w8)) ref11 5)) Path.refl tt)
-              d96
+          d97 = Typed.g-pre 𝓤 H A W 𝓣 E G2 G3 b70 Δ0 (Typed.give s1) at96 (Know.g-shs-known 𝓤 H A W
+              (Referent.fInt Syntax.w8) E G2 6 5 ref11 life5 0 (λ x. x) record { fits = Dec.lit< tt } (Reads'.as-is 𝓤 H
+              A (Rows.sslice (Referent.rtF (Referent.fInt Syntax.w8)) ref11 5)) Path.refl tt) d96
+
           d98 : Typed.Typed 𝓤 H A 𝓣 E G0 b70 Δ0 at98
-          d98 = Typed.g-pre 𝓤 H A W 𝓣 E G0 G2 b70 Δ0 (Typed.give s0) at97 (Know.g-sl-known 𝓤 H A W (Referent.fInt Syntax.w32) E G0 5 4 ref10 life4 0
-              (λ x. x) record { fits = Dec.lit< tt } (Reads'.as-is 𝓤 H A (Mut.mslice (Referent.rtF (Referent.fInt Syntax.w32)) ref10 4)) Path.refl tt)
-              d97
+          d98 = Typed.g-pre 𝓤 H A W 𝓣 E G0 G2 b70 Δ0 (Typed.give s0) at97 (Know.g-sl-known 𝓤 H A W
+              (Referent.fInt Syntax.w32) E G0 5 4 ref10 life4 0 (λ x. x) record { fits = Dec.lit< tt } (Reads'.as-is 𝓤
+              H A (Mut.mslice (Referent.rtF (Referent.fInt Syntax.w32)) ref10 4)) Path.refl tt) d97
+
           pub typed : Typed.Typed 𝓤 H A 𝓣 E (Function.Γin 6 ps r xs m κs qs) b70 (Function.Δret 6 ps r xs m κs qs) Φ
           typed = d98
+
       module _ (κs : Lifetimes.Lfts 6) where
         pub record Args : Type 0 where
-          pub pending : Kinds.Den { n = 6 } κs (MutSlice.pMutS RelayPending.row 0 tt)
-          pub circuits : Kinds.Den { n = 6 } κs (MutSlice.pMutS RelayCircuit.row 1 tt)
-          pub ledger : Kinds.Den { n = 6 } κs (MutSlice.pMutS ReservationUsage.row 2 tt)
-          pub inflight : Kinds.Den { n = 6 } κs (MutSlice.pMutS InflightAction.row 3 tt)
-          pub out : Kinds.Den { n = 6 } κs (MutSlice.pMutS (Referent.rtF (Referent.fInt Syntax.w32)) 4 tt)
-          pub body : Kinds.Den { n = 6 } κs (ShrSlice.pShrS (Referent.rtF (Referent.fInt Syntax.w8)) 5 tt)
-          pub script : Kinds.Den { n = 6 } κs (Value.pVal record { ty = Declared'.row Script.the-type; one = Path.refl; val = Laws'''''.val
-              Script.the-type Laws.the-laws; tells = Laws'''''.tells Script.the-type Laws.the-laws; still = Laws'''''.still Script.the-type
-              Laws.the-copy Exit.yes; row = Rows.whole (Declared'.row Script.the-type); rd = λ x. x; mk = λ x. x; } λ M 𝓤 H A W. record { copies =
-              Laws'''''.copy Script.the-type Laws.the-copy 𝓤 H A W; lawful = Laws'''''.lawful Script.the-type Laws.the-laws 𝓤 H A W; makes =
-              Laws'''''.makes Script.the-type Laws.the-plain 𝓤 H A; in-mem = Local.mem-whole 𝓤 H A W (Declared'.row Script.the-type); of-mem =
-              Local.whole-mem 𝓤 H A W (Declared'.row Script.the-type); })
+          pub pending : Kinds.Den {n = 6} κs (MutSlice.pMutS RelayPending.row 0 tt)
+          pub circuits : Kinds.Den {n = 6} κs (MutSlice.pMutS RelayCircuit.row 1 tt)
+          pub ledger : Kinds.Den {n = 6} κs (MutSlice.pMutS ReservationUsage.row 2 tt)
+          pub inflight : Kinds.Den {n = 6} κs (MutSlice.pMutS InflightAction.row 3 tt)
+          pub out : Kinds.Den {n = 6} κs (MutSlice.pMutS (Referent.rtF (Referent.fInt Syntax.w32)) 4 tt)
+          pub body : Kinds.Den {n = 6} κs (ShrSlice.pShrS (Referent.rtF (Referent.fInt Syntax.w8)) 5 tt)
+          pub script : Kinds.Den {n = 6} κs (StructRow.param Script.the-type Laws.the-laws Laws.the-copy Laws.the-plain)
+
         abbrev pub dens : (a : Args) → Kinds.Dens κs ps
-        dens = λ a. (a .pending, (a .circuits, (a .ledger, (a .inflight, (a .out, (a .body, (a .script, tt)))))),)
+        dens = λ a. (a .pending, (a .circuits, (a .ledger, (a .inflight, (a .out, (a .body, (a .script, tt)))))))
+
       abbrev pub m0 : (κs : Lifetimes.Lfts 6) → (args : Args κs) → Typed.Mo T0
       m0 = λ κs args. (tt, Enter.partsP κs 1 ps xs (dens κs args))
+
       abbrev W0 : (κs : Lifetimes.Lfts 6) → (args : Args κs) → Typed.Want O0
-      W0 = λ κs args. (λ u. ⊥, tt, λ u. Enter.Fixs κs 1 ps xs (dens κs args) (u .1) × Post· κs (dens κs args) (Function.resV r κs (u .0))
-          (Clauses.atExit (Kinds.endedOf 6 ps r) κs (dens κs args) (Enter.lastsP κs 1 ps xs (dens κs args) (u .1))),)
+      W0 = λ κs args. (
+        λ u. ⊥,
+        tt,
+        λ u. Enter.Fixs κs 1 ps xs (dens κs args) (u .1) × Post· κs (dens κs args) (Function.resV r κs (u .0)) (Clauses.atExit
+            (Kinds.endedOf 6 ps r) κs (dens κs args) (Enter.lastsP κs 1 ps xs (dens κs args) (u .1))),
+      )
+
       pub record Start : Type 0 where
         pub κs : Lifetimes.Lfts 6
         pub args : Args κs
         pub good : Kinds.GoodsP κs ps (dens κs args)
         pub pre : Pre· κs (dens κs args)
+
       abbrev pub m1 : (before : Start) → (given : s0 .gives (m0 (before .κs) (before .args))) → Typed.Mo T2
       m1 = λ before given. s0 .next (m0 (before .κs) (before .args)) given
+
       module _ (before· : Start) where
         pub record After-slice-known·own : Type 0 where
           pub given : s0 .gives (m0 (before· .κs) (before· .args))
+
       pub record After-slice-known : Type 0 where
         pub before : Start
         pub slice-known : After-slice-known·own before
-      abbrev pub m2 : (before : After-slice-known) → (given : s1 .gives (m1 (before .before) (before .slice-known .given))) → Typed.Mo T3
+
+      abbrev pub m2 : (before : After-slice-known) → (given : s1 .gives
+          (m1 (before .before) (before .slice-known .given))) → Typed.Mo T3
       m2 = λ before given. s1 .next (m1 (before .before) (before .slice-known .given)) given
+
       module _ (before· : After-slice-known) where
         pub record After-shared-slice-known·own : Type 0 where
           pub given : s1 .gives (m1 (before· .before) (before· .slice-known .given))
+
       pub record After-shared-slice-known : Type 0 where
         pub before : After-slice-known
         pub shared-slice-known : After-shared-slice-known·own before
-      abbrev pub m3 : (before : After-shared-slice-known) → (given : s3 .gives (m2 (before .before) (before .shared-slice-known .given))) → Typed.Mo
-          T5
+
+      abbrev pub m3 : (before : After-shared-slice-known) → (given : s3 .gives
+          (m2 (before .before) (before .shared-slice-known .given))) → Typed.Mo T5
       m3 = λ before given. s3 .next (m2 (before .before) (before .shared-slice-known .given)) given
-      abbrev pub m4 : (before : After-shared-slice-known) → (given : s3 .gives (m2 (before .before) (before .shared-slice-known .given))) → Typed.Mo
-          T6
+
+      abbrev pub m4 : (before : After-shared-slice-known) → (given : s3 .gives
+          (m2 (before .before) (before .shared-slice-known .given))) → Typed.Mo T6
       m4 = λ before given. s4 .next (m3 before given)
+
       module _ (before· : After-shared-slice-known) where
         pub record After-prepare-arg·own : Type 0 where
           pub given : s3 .gives (m2 (before· .before) (before· .shared-slice-known .given))
+
       pub record After-prepare-arg : Type 0 where
         pub before : After-shared-slice-known
         pub prepare-arg : After-prepare-arg·own before
-      abbrev pub m5 : (before : After-prepare-arg) → (given : s6 .gives (m4 (before .before) (before .prepare-arg .given))) → Typed.Mo T8
+
+      abbrev pub m5 : (before : After-prepare-arg) → (given : s6 .gives
+          (m4 (before .before) (before .prepare-arg .given))) → Typed.Mo T8
       m5 = λ before given. s6 .next (m4 (before .before) (before .prepare-arg .given)) given
-      abbrev pub m6 : (before : After-prepare-arg) → (given : s6 .gives (m4 (before .before) (before .prepare-arg .given))) → Typed.Mo T9
+
+      abbrev pub m6 : (before : After-prepare-arg) → (given : s6 .gives
+          (m4 (before .before) (before .prepare-arg .given))) → Typed.Mo T9
       m6 = λ before given. s7 .next (m5 before given)
+
       module _ (before· : After-prepare-arg) where
         pub record After-prepare-arg2·own : Type 0 where
           pub given : s6 .gives (m4 (before· .before) (before· .prepare-arg .given))
+
       pub record After-prepare-arg2 : Type 0 where
         pub before : After-prepare-arg
         pub prepare-arg2 : After-prepare-arg2·own before
-      abbrev pub m7 : (before : After-prepare-arg2) → (given : s9 .gives (m6 (before .before) (before .prepare-arg2 .given))) → Typed.Mo T11
+
+      abbrev pub m7 : (before : After-prepare-arg2) → (given : s9 .gives
+          (m6 (before .before) (before .prepare-arg2 .given))) → Typed.Mo T11
       m7 = λ before given. s9 .next (m6 (before .before) (before .prepare-arg2 .given)) given
-      abbrev pub m8 : (before : After-prepare-arg2) → (given : s9 .gives (m6 (before .before) (before .prepare-arg2 .given))) → Typed.Mo T12
+
+      abbrev pub m8 : (before : After-prepare-arg2) → (given : s9 .gives
+          (m6 (before .before) (before .prepare-arg2 .given))) → Typed.Mo T12
       m8 = λ before given. s10 .next (m7 before given)
+
       module _ (before· : After-prepare-arg2) where
         pub record After-prepare-arg3·own : Type 0 where
           pub given : s9 .gives (m6 (before· .before) (before· .prepare-arg2 .given))
+
       pub record After-prepare-arg3 : Type 0 where
         pub before : After-prepare-arg2
         pub prepare-arg3 : After-prepare-arg3·own before
-      abbrev pub m9 : (before : After-prepare-arg3) → (given : s12 .gives (m8 (before .before) (before .prepare-arg3 .given))) → Typed.Mo T14
+
+      abbrev pub m9 : (before : After-prepare-arg3) → (given : s12 .gives
+          (m8 (before .before) (before .prepare-arg3 .given))) → Typed.Mo T14
       m9 = λ before given. s12 .next (m8 (before .before) (before .prepare-arg3 .given)) given
-      abbrev pub m10 : (before : After-prepare-arg3) → (given : s12 .gives (m8 (before .before) (before .prepare-arg3 .given))) → Typed.Mo T15
+
+      abbrev pub m10 : (before : After-prepare-arg3) → (given : s12 .gives
+          (m8 (before .before) (before .prepare-arg3 .given))) → Typed.Mo T15
       m10 = λ before given. s13 .next (m9 before given)
+
       module _ (before· : After-prepare-arg3) where
         pub record After-prepare-arg4·own : Type 0 where
           pub given : s12 .gives (m8 (before· .before) (before· .prepare-arg3 .given))
+
       pub record After-prepare-arg4 : Type 0 where
         pub before : After-prepare-arg3
         pub prepare-arg4 : After-prepare-arg4·own before
-      abbrev pub m11 : (before : After-prepare-arg4) → (given : s15 .gives (m10 (before .before) (before .prepare-arg4 .given))) → Typed.Mo T17
+
+      abbrev pub m11 : (before : After-prepare-arg4) → (given : s15 .gives
+          (m10 (before .before) (before .prepare-arg4 .given))) → Typed.Mo T17
       m11 = λ before given. s15 .next (m10 (before .before) (before .prepare-arg4 .given)) given
-      abbrev pub m12 : (before : After-prepare-arg4) → (given : s15 .gives (m10 (before .before) (before .prepare-arg4 .given))) → Typed.Mo T18
+
+      abbrev pub m12 : (before : After-prepare-arg4) → (given : s15 .gives
+          (m10 (before .before) (before .prepare-arg4 .given))) → Typed.Mo T18
       m12 = λ before given. s16 .next (m11 before given)
+
       module _ (before· : After-prepare-arg4) where
         pub record After-prepare-arg5·own : Type 0 where
           pub given : s15 .gives (m10 (before· .before) (before· .prepare-arg4 .given))
+
       pub record After-prepare-arg5 : Type 0 where
         pub before : After-prepare-arg4
         pub prepare-arg5 : After-prepare-arg5·own before
+
       abbrev pub Need-prepare-requires : Type 0
       Need-prepare-requires = (c : After-prepare-arg5) → s17 .asks (m12 (c .before) (c .prepare-arg5 .given))
-      abbrev pub m13 : (before : After-prepare-arg5) → (given : s17 .gives (m12 (before .before) (before .prepare-arg5 .given))) → Typed.Mo T19
+
+      abbrev pub m13 : (before : After-prepare-arg5) → (given : s17 .gives
+          (m12 (before .before) (before .prepare-arg5 .given))) → Typed.Mo T19
       m13 = λ before given. s17 .next (m12 (before .before) (before .prepare-arg5 .given)) given
+
       module _ (before· : After-prepare-arg5) where
         abbrev pub After-prepare·own : Type 0
-        After-prepare·own = Called.Called ps·0 r·0 (claims· .1) T18 (record { pos = 13; ty = Syntax.tyRef Syntax.erased Syntax.mut RelayPending.to;
-            ref = λ x. x; }, (record { pos = 15; ty = Syntax.tyRef Syntax.erased Syntax.mut RelayCircuit.to; ref = λ x. x; }, (record { pos = 17; ty =
-            Syntax.tyRef Syntax.erased Syntax.mut ReservationUsage.to; ref = λ x. x; }, (record { pos = 19; ty = Syntax.tyRef Syntax.erased Syntax.mut
-            InflightAction.to; ref = λ x. x; }, (record { pos = 21; ty = Syntax.tyRef Syntax.erased Syntax.mut (Syntax.tyInt Syntax.w32); ref = λ x.
-            x; }, (record { pos = 7; st = List.[]; d = 0; at = λ x. x }, tt),),),),),) (m12 (before· .before) (before· .prepare-arg5 .given))
+        After-prepare·own = Called.Called ps·0 r·0 (claims· .1) T18 args17
+            (m12 (before· .before) (before· .prepare-arg5 .given))
+
       pub record After-prepare : Type 0 where
         pub before : After-prepare-arg5
         pub prepare : After-prepare·own before
-      abbrev pub After-prepare·gave : (c : After-prepare) → s17 .gives (m12 (c .before .before) (c .before .prepare-arg5 .given))
-      After-prepare·gave = λ c. Called.given ps·0 r·0 (claims· .1) T18 (record { pos = 13; ty = Syntax.tyRef Syntax.erased Syntax.mut RelayPending.to;
-          ref = λ x. x; }, (record { pos = 15; ty = Syntax.tyRef Syntax.erased Syntax.mut RelayCircuit.to; ref = λ x. x; }, (record { pos = 17; ty =
-          Syntax.tyRef Syntax.erased Syntax.mut ReservationUsage.to; ref = λ x. x; }, (record { pos = 19; ty = Syntax.tyRef Syntax.erased Syntax.mut
-          InflightAction.to; ref = λ x. x; }, (record { pos = 21; ty = Syntax.tyRef Syntax.erased Syntax.mut (Syntax.tyInt Syntax.w32); ref = λ x. x;
-          }, (record { pos = 7; st = List.[]; d = 0; at = λ x. x }, tt),),),),),) (m12 (c .before .before) (c .before .prepare-arg5 .given)) (c
-          .prepare)
-      abbrev pub m14 : (before : After-prepare) → (given : s19 .gives (m13 (before .before) (After-prepare·gave before))) → Typed.Mo T21
+
+      abbrev pub After-prepare·gave : (c : After-prepare) → s17 .gives
+          (m12 (c .before .before) (c .before .prepare-arg5 .given))
+      After-prepare·gave = λ c. Called.given ps·0 r·0 (claims· .1) T18 args17
+          (m12 (c .before .before) (c .before .prepare-arg5 .given)) (c .prepare)
+
+      abbrev pub m14 : (before : After-prepare) → (given : s19 .gives
+          (m13 (before .before) (After-prepare·gave before))) → Typed.Mo T21
       m14 = λ before given. s19 .next (m13 (before .before) (After-prepare·gave before)) given
+
       module _ (before· : After-prepare) where
         pub record After-pending·own : Type 0 where
           pub given : s19 .gives (m13 (before· .before) (After-prepare·gave before·))
+
       pub record After-pending : Type 0 where
         pub before : After-prepare
         pub pending : After-pending·own before
-      abbrev pub m15 : (before : After-pending) → (given : s22 .gives (m14 (before .before) (before .pending .given))) → Typed.Mo T24
+
+      abbrev pub m15 : (before : After-pending) → (given : s22 .gives (m14 (before .before) (before .pending .given)))
+          → Typed.Mo T24
       m15 = λ before given. s22 .next (m14 (before .before) (before .pending .given)) given
+
       module _ (before· : After-pending) where
         pub record After-circuits·own : Type 0 where
           pub given : s22 .gives (m14 (before· .before) (before· .pending .given))
+
       pub record After-circuits : Type 0 where
         pub before : After-pending
         pub circuits : After-circuits·own before
-      abbrev pub m16 : (before : After-circuits) → (given : s25 .gives (m15 (before .before) (before .circuits .given))) → Typed.Mo T27
+
+      abbrev pub m16 : (before : After-circuits) → (given : s25 .gives (m15 (before .before) (before .circuits .given)))
+          → Typed.Mo T27
       m16 = λ before given. s25 .next (m15 (before .before) (before .circuits .given)) given
+
       module _ (before· : After-circuits) where
         pub record After-ledger·own : Type 0 where
           pub given : s25 .gives (m15 (before· .before) (before· .circuits .given))
+
       pub record After-ledger : Type 0 where
         pub before : After-circuits
         pub ledger : After-ledger·own before
-      abbrev pub m17 : (before : After-ledger) → (given : s28 .gives (m16 (before .before) (before .ledger .given))) → Typed.Mo T30
+
+      abbrev pub m17 : (before : After-ledger) → (given : s28 .gives (m16 (before .before) (before .ledger .given))) →
+          Typed.Mo T30
       m17 = λ before given. s28 .next (m16 (before .before) (before .ledger .given)) given
+
       module _ (before· : After-ledger) where
         pub record After-inflight·own : Type 0 where
           pub given : s28 .gives (m16 (before· .before) (before· .ledger .given))
+
       pub record After-inflight : Type 0 where
         pub before : After-ledger
         pub inflight : After-inflight·own before
-      abbrev pub m18 : (before : After-inflight) → (given : s31 .gives (m17 (before .before) (before .inflight .given))) → Typed.Mo T33
+
+      abbrev pub m18 : (before : After-inflight) → (given : s31 .gives (m17 (before .before) (before .inflight .given)))
+          → Typed.Mo T33
       m18 = λ before given. s31 .next (m17 (before .before) (before .inflight .given)) given
+
       module _ (before· : After-inflight) where
         pub record After-out·own : Type 0 where
           pub given : s31 .gives (m17 (before· .before) (before· .inflight .given))
+
       pub record After-out : Type 0 where
         pub before : After-inflight
         pub out : After-out·own before
-      abbrev pub m19 : (before : After-out) → (given : s32 .gives (m18 (before .before) (before .out .given))) → Typed.Mo T34
+
+      abbrev pub m19 : (before : After-out) → (given : s32 .gives (m18 (before .before) (before .out .given))) →
+          Typed.Mo T34
       m19 = λ before given. s32 .next (m18 (before .before) (before .out .given)) given
-      abbrev pub m20 : (before : After-out) → (given : s32 .gives (m18 (before .before) (before .out .given))) → Typed.Mo T36
+
+      abbrev pub m20 : (before : After-out) → (given : s32 .gives (m18 (before .before) (before .out .given))) →
+          Typed.Mo T36
       m20 = λ before given. s34 (m19 before given)
-      abbrev pub m21 : (before : After-out) → (given : s32 .gives (m18 (before .before) (before .out .given))) → Typed.Mo T37
+
+      abbrev pub m21 : (before : After-out) → (given : s32 .gives (m18 (before .before) (before .out .given))) →
+          Typed.Mo T37
       m21 = λ before given. s35 (m20 before given)
+
       module _ (before· : After-out) where
         pub record After-slice-known2·own : Type 0 where
           pub given : s32 .gives (m18 (before· .before) (before· .out .given))
+
       pub record After-slice-known2 : Type 0 where
         pub before : After-out
         pub slice-known2 : After-slice-known2·own before
+
       abbrev pub Need-min-usize-requires : Type 0
       Need-min-usize-requires = (c : After-slice-known2) → s36 .asks (m21 (c .before) (c .slice-known2 .given))
-      abbrev pub m22 : (before : After-slice-known2) → (given : s36 .gives (m21 (before .before) (before .slice-known2 .given))) → Typed.Mo T38
+
+      abbrev pub m22 : (before : After-slice-known2) → (given : s36 .gives
+          (m21 (before .before) (before .slice-known2 .given))) → Typed.Mo T38
       m22 = λ before given. s36 .next (m21 (before .before) (before .slice-known2 .given)) given
+
       module _ (before· : After-slice-known2) where
         abbrev pub After-min-usize·own : Type 0
-        After-min-usize·own = Called.Called ps·1 r·1 (claims· .3) T37 (Num.vFld 7 ((Syntax.field 6) ∷ List.[]) 32 λ x. Script.struct .as-values x .1
-            .1 .1 .1 .1 .1 .0, (Num.vAt 22 λ x. x, tt),) (m21 (before· .before) (before· .slice-known2 .given))
+        After-min-usize·own = Called.Called ps·1 r·1 (claims· .3) T37 args36
+            (m21 (before· .before) (before· .slice-known2 .given))
+
       pub record After-min-usize : Type 0 where
         pub before : After-slice-known2
         pub min-usize : After-min-usize·own before
-      abbrev pub After-min-usize·gave : (c : After-min-usize) → s36 .gives (m21 (c .before .before) (c .before .slice-known2 .given))
-      After-min-usize·gave = λ c. Called.given ps·1 r·1 (claims· .3) T37 (Num.vFld 7 ((Syntax.field 6) ∷ List.[]) 32 λ x. Script.struct .as-values x
-          .1 .1 .1 .1 .1 .1 .0, (Num.vAt 22 λ x. x, tt),) (m21 (c .before .before) (c .before .slice-known2 .given)) (c .min-usize)
-      abbrev pub m23 : (before : After-slice-known2) → (given : s36 .gives (m21 (before .before) (before .slice-known2 .given))) → Typed.Mo T39
+
+      abbrev pub After-min-usize·gave : (c : After-min-usize) → s36 .gives
+          (m21 (c .before .before) (c .before .slice-known2 .given))
+      After-min-usize·gave = λ c. Called.given ps·1 r·1 (claims· .3) T37 args36
+          (m21 (c .before .before) (c .before .slice-known2 .given)) (c .min-usize)
+
+      abbrev pub m23 : (before : After-slice-known2) → (given : s36 .gives
+          (m21 (before .before) (before .slice-known2 .given))) → Typed.Mo T39
       m23 = λ before given. s37 (m22 before given)
-      abbrev pub m24 : (before : After-slice-known2) → (given : s36 .gives (m21 (before .before) (before .slice-known2 .given))) → Typed.Mo T40
+
+      abbrev pub m24 : (before : After-slice-known2) → (given : s36 .gives
+          (m21 (before .before) (before .slice-known2 .given))) → Typed.Mo T40
       m24 = λ before given. s38 (m23 before given)
+
       abbrev pub Need-min-usize-requires-2 : Type 0
       Need-min-usize-requires-2 = (c : After-min-usize) → s39 .asks (m24 (c .before) (After-min-usize·gave c))
-      abbrev pub m25 : (before : After-min-usize) → (given : s39 .gives (m24 (before .before) (After-min-usize·gave before))) → Typed.Mo T41
+
+      abbrev pub m25 : (before : After-min-usize) → (given : s39 .gives
+          (m24 (before .before) (After-min-usize·gave before))) → Typed.Mo T41
       m25 = λ before given. s39 .next (m24 (before .before) (After-min-usize·gave before)) given
+
       module _ (before· : After-min-usize) where
         abbrev pub After-min-usize2·own : Type 0
-        After-min-usize2·own = Called.Called ps·1 r·1 (claims· .3) T40 (Num.vFld 7 ((Syntax.field 8) ∷ List.[]) 48 λ x. Script.struct .as-values x .1
-            .1 .1 .1 .1 .1 .1 .1 .0, (Num.vAt 22 λ x. x, tt),) (m24 (before· .before) (After-min-usize·gave before·))
+        After-min-usize2·own = Called.Called ps·1 r·1 (claims· .3) T40 args39
+            (m24 (before· .before) (After-min-usize·gave before·))
+
       pub record After-min-usize2 : Type 0 where
         pub before : After-min-usize
         pub min-usize2 : After-min-usize2·own before
-      abbrev pub After-min-usize2·gave : (c : After-min-usize2) → s39 .gives (m24 (c .before .before) (After-min-usize·gave (c .before)))
-      After-min-usize2·gave = λ c. Called.given ps·1 r·1 (claims· .3) T40 (Num.vFld 7 ((Syntax.field 8) ∷ List.[]) 48 λ x. Script.struct .as-values x
-          .1 .1 .1 .1 .1 .1 .1 .1 .0, (Num.vAt 22 λ x. x, tt),) (m24 (c .before .before) (After-min-usize·gave (c .before))) (c .min-usize2)
-      abbrev pub m26 : (before : After-min-usize) → (given : s39 .gives (m24 (before .before) (After-min-usize·gave before))) → Typed.Mo T42
+
+      abbrev pub After-min-usize2·gave : (c : After-min-usize2) → s39 .gives (m24 (c .before .before)
+          (After-min-usize·gave (c .before)))
+      After-min-usize2·gave = λ c. Called.given ps·1 r·1 (claims· .3) T40 args39 (m24 (c .before .before)
+          (After-min-usize·gave (c .before))) (c .min-usize2)
+
+      abbrev pub m26 : (before : After-min-usize) → (given : s39 .gives
+          (m24 (before .before) (After-min-usize·gave before))) → Typed.Mo T42
       m26 = λ before given. s40 (m25 before given)
-      abbrev pub m27 : (before : After-min-usize2) → (given : s41 .gives (m26 (before .before) (After-min-usize2·gave before))) → Typed.Mo T43
+
+      abbrev pub m27 : (before : After-min-usize2) → (given : s41 .gives
+          (m26 (before .before) (After-min-usize2·gave before))) → Typed.Mo T43
       m27 = λ before given. s41 .next (m26 (before .before) (After-min-usize2·gave before)) given
-      abbrev pub m28 : (before : After-min-usize2) → (given : s41 .gives (m26 (before .before) (After-min-usize2·gave before))) → Typed.Mo T44
+
+      abbrev pub m28 : (before : After-min-usize2) → (given : s41 .gives
+          (m26 (before .before) (After-min-usize2·gave before))) → Typed.Mo T44
       m28 = λ before given. s42 .next (m27 before given)
-      abbrev W1 : (before : After-min-usize2) → (given : s41 .gives (m26 (before .before) (After-min-usize2·gave before))) → Typed.Want O1
-      W1 = λ before given. Typed.wantNext T45 O0 (at54 (W0 (before .before .before .before .before .before .before .before .before .before .before
-          .before .before .before .before .before .before .κs) (before .before .before .before .before .before .before .before .before .before .before
-          .before .before .before .before .before .before .args))) (W0 (before .before .before .before .before .before .before .before .before .before
-          .before .before .before .before .before .before .before .κs) (before .before .before .before .before .before .before .before .before .before
-          .before .before .before .before .before .before .before .args))
+
+      abbrev W1 : (before : After-min-usize2) → (given : s41 .gives
+          (m26 (before .before) (After-min-usize2·gave before))) → Typed.Want O1
+      W1 = λ before given. Typed.wantNext T45 O0 (at54 (W0 (before .before .before .before .before .before .before
+          .before .before .before .before .before .before .before .before .before .before .κs) (before .before .before
+          .before .before .before .before .before .before .before .before .before .before .before .before .before
+          .before .args))) (W0 (before .before .before .before .before .before .before .before .before .before .before
+          .before .before .before .before .before .before .κs) (before .before .before .before .before .before .before
+          .before .before .before .before .before .before .before .before .before .before .args))
+
       module _ (before· : After-min-usize2) where
         pub record After-struct-known·own : Type 0 where
           pub given : s41 .gives (m26 (before· .before) (After-min-usize2·gave before·))
+
       pub record After-struct-known : Type 0 where
         pub before : After-min-usize2
         pub struct-known : After-struct-known·own before
+
       module _ (before· : After-struct-known) where
         pub record Then1·own : Type 0 where
-          pub taken : Path._≡_ { A = Nat.ℕ } (Script.struct .as-values (Row.get 7 (T43 .locals) (m27 (before· .before) (before· .struct-known
-              .given))) .1 .1 .0) 0
+          pub taken : Path._≡_ {A = Nat.ℕ} (Script.struct .as-values (Row.get 7 (T43 .locals)
+              (m27 (before· .before) (before· .struct-known .given))) .1 .1 .0) 0
+
       pub record Then1 : Type 0 where
         pub before : After-struct-known
         pub if1 : Then1·own before
+
       abbrev pub m29 : (before : After-struct-known) → Typed.Mo T46
       m29 = λ before. s43 (m28 (before .before) (before .struct-known .given))
+
       abbrev pub m30 : (before : After-struct-known) → Typed.Mo T47
       m30 = λ before. s44 (m29 before)
+
       abbrev pub m31 : (before : After-struct-known) → Typed.Mo T48
       m31 = λ before. s45 (m30 before)
+
       abbrev pub Need-answer-number-requires : Type 0
       Need-answer-number-requires = (c : Then1) → s46 .asks (m31 (c .before))
+
       abbrev pub m32 : (before : Then1) → (given : s46 .gives (m31 (before .before))) → Typed.Mo T49
       m32 = λ before given. s46 .next (m31 (before .before)) given
+
       module _ (before· : Then1) where
         abbrev pub After-answer-number·own : Type 0
-        After-answer-number·own = Called.Called ps·2 r·2 (claims· .5) T48 (record { pos = 9; st = List.[]; d = 0; at = λ x. x }, tt,) (m31 (before·
-            .before))
+        After-answer-number·own = Called.Called ps·2 r·2 (claims· .5) T48 args46 (m31 (before· .before))
+
       pub record After-answer-number : Type 0 where
         pub before : Then1
         pub answer-number : After-answer-number·own before
+
       abbrev pub After-answer-number·gave : (c : After-answer-number) → s46 .gives (m31 (c .before .before))
-      After-answer-number·gave = λ c. Called.given ps·2 r·2 (claims· .5) T48 (record { pos = 9; st = List.[]; d = 0; at = λ x. x }, tt,) (m31 (c
-          .before .before)) (c .answer-number)
+      After-answer-number·gave = λ c. Called.given ps·2 r·2 (claims· .5) T48 args46 (m31 (c .before .before))
+          (c .answer-number)
+
       abbrev pub m33 : (before : Then1) → (given : s46 .gives (m31 (before .before))) → Typed.Mo T50
       m33 = λ before given. s47 (m32 before given)
+
       abbrev pub m34 : (before : Then1) → (given : s46 .gives (m31 (before .before))) → Typed.Mo T51
       m34 = λ before given. s48 (m33 before given)
+
       abbrev pub m35 : (before : Then1) → (given : s46 .gives (m31 (before .before))) → Typed.Mo T52
       m35 = λ before given. s49 (m34 before given)
+
       abbrev pub Need-same-length : Type 0
-      Need-same-length = (c : After-answer-number) → MutSlice.SameLen (Row.get 1 (T52 .locals) (m35 (c .before) (After-answer-number·gave c))) (dens
-          (c .before .before .before .before .before .before .before .before .before .before .before .before .before .before .before .before .before
-          .before .before .κs) (c .before .before .before .before .before .before .before .before .before .before .before .before .before .before
-          .before .before .before .before .before .args) .0)
+      Need-same-length = (c : After-answer-number) → MutSlice.SameLen (Row.get 1 (T52 .locals)
+          (m35 (c .before) (After-answer-number·gave c))) (dens (c .before .before .before .before .before .before
+          .before .before .before .before .before .before .before .before .before .before .before .before .before .κs) (c
+          .before .before .before .before .before .before .before .before .before .before .before .before .before
+          .before .before .before .before .before .before .args) .0)
+
       abbrev pub Need-same-length-2 : Type 0
-      Need-same-length-2 = (c : After-answer-number) → MutSlice.SameLen (Row.get 2 (T52 .locals) (m35 (c .before) (After-answer-number·gave c))) (dens
-          (c .before .before .before .before .before .before .before .before .before .before .before .before .before .before .before .before .before
-          .before .before .κs) (c .before .before .before .before .before .before .before .before .before .before .before .before .before .before
-          .before .before .before .before .before .args) .1 .0)
+      Need-same-length-2 = (c : After-answer-number) → MutSlice.SameLen (Row.get 2 (T52 .locals)
+          (m35 (c .before) (After-answer-number·gave c))) (dens (c .before .before .before .before .before .before
+          .before .before .before .before .before .before .before .before .before .before .before .before .before .κs) (c
+          .before .before .before .before .before .before .before .before .before .before .before .before .before
+          .before .before .before .before .before .before .args) .1 .0)
+
       abbrev pub Need-same-length-3 : Type 0
-      Need-same-length-3 = (c : After-answer-number) → MutSlice.SameLen (Row.get 3 (T52 .locals) (m35 (c .before) (After-answer-number·gave c))) (dens
-          (c .before .before .before .before .before .before .before .before .before .before .before .before .before .before .before .before .before
-          .before .before .κs) (c .before .before .before .before .before .before .before .before .before .before .before .before .before .before
-          .before .before .before .before .before .args) .1 .1 .0)
+      Need-same-length-3 = (c : After-answer-number) → MutSlice.SameLen (Row.get 3 (T52 .locals)
+          (m35 (c .before) (After-answer-number·gave c))) (dens (c .before .before .before .before .before .before
+          .before .before .before .before .before .before .before .before .before .before .before .before .before .κs) (c
+          .before .before .before .before .before .before .before .before .before .before .before .before .before
+          .before .before .before .before .before .before .args) .1 .1 .0)
+
       abbrev pub Need-same-length-4 : Type 0
-      Need-same-length-4 = (c : After-answer-number) → MutSlice.SameLen (Row.get 4 (T52 .locals) (m35 (c .before) (After-answer-number·gave c))) (dens
-          (c .before .before .before .before .before .before .before .before .before .before .before .before .before .before .before .before .before
-          .before .before .κs) (c .before .before .before .before .before .before .before .before .before .before .before .before .before .before
-          .before .before .before .before .before .args) .1 .1 .1 .0)
+      Need-same-length-4 = (c : After-answer-number) → MutSlice.SameLen (Row.get 4 (T52 .locals)
+          (m35 (c .before) (After-answer-number·gave c))) (dens (c .before .before .before .before .before .before
+          .before .before .before .before .before .before .before .before .before .before .before .before .before .κs) (c
+          .before .before .before .before .before .before .before .before .before .before .before .before .before
+          .before .before .before .before .before .before .args) .1 .1 .1 .0)
+
       abbrev pub Need-same-length-5 : Type 0
-      Need-same-length-5 = (c : After-answer-number) → MutSlice.SameLen (Row.get 5 (T52 .locals) (m35 (c .before) (After-answer-number·gave c))) (dens
-          (c .before .before .before .before .before .before .before .before .before .before .before .before .before .before .before .before .before
-          .before .before .κs) (c .before .before .before .before .before .before .before .before .before .before .before .before .before .before
-          .before .before .before .before .before .args) .1 .1 .1 .1 .0)
+      Need-same-length-5 = (c : After-answer-number) → MutSlice.SameLen (Row.get 5 (T52 .locals)
+          (m35 (c .before) (After-answer-number·gave c))) (dens (c .before .before .before .before .before .before
+          .before .before .before .before .before .before .before .before .before .before .before .before .before .κs) (c
+          .before .before .before .before .before .before .before .before .before .before .before .before .before
+          .before .before .before .before .before .before .args) .1 .1 .1 .1 .0)
+
       abbrev pub Need-returns : Type 0
-      Need-returns = (c : After-answer-number) → Post· (c .before .before .before .before .before .before .before .before .before .before .before
-          .before .before .before .before .before .before .before .before .κs) (dens (c .before .before .before .before .before .before .before
-          .before .before .before .before .before .before .before .before .before .before .before .before .κs) (c .before .before .before .before
-          .before .before .before .before .before .before .before .before .before .before .before .before .before .before .before .args))
-          (Function.resV r (c .before .before .before .before .before .before .before .before .before .before .before .before .before .before .before
-          .before .before .before .before .κs) (m35 (c .before) (After-answer-number·gave c) .0)) (Clauses.atExit (Kinds.endedOf 6 ps r) (c .before
-          .before .before .before .before .before .before .before .before .before .before .before .before .before .before .before .before .before
-          .before .κs) (dens (c .before .before .before .before .before .before .before .before .before .before .before .before .before .before
-          .before .before .before .before .before .κs) (c .before .before .before .before .before .before .before .before .before .before .before
-          .before .before .before .before .before .before .before .before .args)) (Enter.lastsP (c .before .before .before .before .before .before
-          .before .before .before .before .before .before .before .before .before .before .before .before .before .κs) 1 ps xs (dens (c .before
-          .before .before .before .before .before .before .before .before .before .before .before .before .before .before .before .before .before
-          .before .κs) (c .before .before .before .before .before .before .before .before .before .before .before .before .before .before .before
-          .before .before .before .before .args)) (m35 (c .before) (After-answer-number·gave c) .1)))
+      Need-returns = (c : After-answer-number) → Post· (c .before .before .before .before .before .before .before
+          .before .before .before .before .before .before .before .before .before .before .before .before .κs) (dens (c
+          .before .before .before .before .before .before .before .before .before .before .before .before .before
+          .before .before .before .before .before .before .κs) (c .before .before .before .before .before .before
+          .before .before .before .before .before .before .before .before .before .before .before .before .before
+          .args)) (Function.resV r (c .before .before .before .before .before .before .before .before .before .before
+          .before .before .before .before .before .before .before .before .before .κs)
+          (m35 (c .before) (After-answer-number·gave c) .0)) (Clauses.atExit (Kinds.endedOf 6 ps r) (c .before .before
+          .before .before .before .before .before .before .before .before .before .before .before .before .before
+          .before .before .before .before .κs) (dens (c .before .before .before .before .before .before .before .before
+          .before .before .before .before .before .before .before .before .before .before .before .κs) (c .before
+          .before .before .before .before .before .before .before .before .before .before .before .before .before
+          .before .before .before .before .before .args)) (Enter.lastsP (c .before .before .before .before .before
+          .before .before .before .before .before .before .before .before .before .before .before .before .before
+          .before .κs) 1 ps xs (dens (c .before .before .before .before .before .before .before .before .before .before
+          .before .before .before .before .before .before .before .before .before .κs) (c .before .before .before
+          .before .before .before .before .before .before .before .before .before .before .before .before .before
+          .before .before .before .args)) (m35 (c .before) (After-answer-number·gave c) .1)))
+
       module _ (before· : After-struct-known) where
         pub record Else1·own : Type 0 where
-          pub left : Path._≡_ { A = Nat.ℕ } (Script.struct .as-values (Row.get 7 (T43 .locals) (m27 (before· .before) (before· .struct-known .given)))
-              .1 .1 .0) 0 → ⊥
+          pub left : Path._≡_ {A = Nat.ℕ} (Script.struct .as-values (Row.get 7 (T43 .locals)
+              (m27 (before· .before) (before· .struct-known .given))) .1 .1 .0) 0 → ⊥
+
       pub record Else1 : Type 0 where
         pub before : After-struct-known
         pub if1 : Else1·own before
+
       abbrev pub m36 : (before : After-struct-known) → Typed.Mo T53
       m36 = λ before. s50 (m28 (before .before) (before .struct-known .given))
+
       abbrev pub m37 : (before : After-struct-known) → Typed.Mo T54
       m37 = λ before. s51 (m36 before)
+
       abbrev pub m38 : (before : Else1) → (given : s53 .gives (m37 (before .before))) → Typed.Mo T56
       m38 = λ before given. s53 .next (m37 (before .before)) given
+
       abbrev pub m39 : (before : Else1) → (given : s53 .gives (m37 (before .before))) → Typed.Mo T57
       m39 = λ before given. s54 .next (m38 before given)
+
       module _ (before· : Else1) where
         pub record After-send-packets-arg·own : Type 0 where
           pub given : s53 .gives (m37 (before· .before))
+
       pub record After-send-packets-arg : Type 0 where
         pub before : Else1
         pub send-packets-arg : After-send-packets-arg·own before
-      abbrev pub m40 : (before : After-send-packets-arg) → (given : s56 .gives (m39 (before .before) (before .send-packets-arg .given))) → Typed.Mo
-          T59
+
+      abbrev pub m40 : (before : After-send-packets-arg) → (given : s56 .gives
+          (m39 (before .before) (before .send-packets-arg .given))) → Typed.Mo T59
       m40 = λ before given. s56 .next (m39 (before .before) (before .send-packets-arg .given)) given
-      abbrev pub m41 : (before : After-send-packets-arg) → (given : s56 .gives (m39 (before .before) (before .send-packets-arg .given))) → Typed.Mo
-          T60
+
+      abbrev pub m41 : (before : After-send-packets-arg) → (given : s56 .gives
+          (m39 (before .before) (before .send-packets-arg .given))) → Typed.Mo T60
       m41 = λ before given. s57 .next (m40 before given)
+
       module _ (before· : After-send-packets-arg) where
         pub record After-send-packets-arg2·own : Type 0 where
           pub given : s56 .gives (m39 (before· .before) (before· .send-packets-arg .given))
+
       pub record After-send-packets-arg2 : Type 0 where
         pub before : After-send-packets-arg
         pub send-packets-arg2 : After-send-packets-arg2·own before
-      abbrev pub m42 : (before : After-send-packets-arg2) → (given : s59 .gives (m41 (before .before) (before .send-packets-arg2 .given))) → Typed.Mo
-          T62
+
+      abbrev pub m42 : (before : After-send-packets-arg2) → (given : s59 .gives
+          (m41 (before .before) (before .send-packets-arg2 .given))) → Typed.Mo T62
       m42 = λ before given. s59 .next (m41 (before .before) (before .send-packets-arg2 .given)) given
-      abbrev pub m43 : (before : After-send-packets-arg2) → (given : s59 .gives (m41 (before .before) (before .send-packets-arg2 .given))) → Typed.Mo
-          T63
+
+      abbrev pub m43 : (before : After-send-packets-arg2) → (given : s59 .gives
+          (m41 (before .before) (before .send-packets-arg2 .given))) → Typed.Mo T63
       m43 = λ before given. s60 .next (m42 before given)
+
       module _ (before· : After-send-packets-arg2) where
         pub record After-send-packets-arg3·own : Type 0 where
           pub given : s59 .gives (m41 (before· .before) (before· .send-packets-arg2 .given))
+
       pub record After-send-packets-arg3 : Type 0 where
         pub before : After-send-packets-arg2
         pub send-packets-arg3 : After-send-packets-arg3·own before
-      abbrev pub m44 : (before : After-send-packets-arg3) → (given : s62 .gives (m43 (before .before) (before .send-packets-arg3 .given))) → Typed.Mo
-          T65
+
+      abbrev pub m44 : (before : After-send-packets-arg3) → (given : s62 .gives
+          (m43 (before .before) (before .send-packets-arg3 .given))) → Typed.Mo T65
       m44 = λ before given. s62 .next (m43 (before .before) (before .send-packets-arg3 .given)) given
-      abbrev pub m45 : (before : After-send-packets-arg3) → (given : s62 .gives (m43 (before .before) (before .send-packets-arg3 .given))) → Typed.Mo
-          T66
+
+      abbrev pub m45 : (before : After-send-packets-arg3) → (given : s62 .gives
+          (m43 (before .before) (before .send-packets-arg3 .given))) → Typed.Mo T66
       m45 = λ before given. s63 .next (m44 before given)
+
       module _ (before· : After-send-packets-arg3) where
         pub record After-send-packets-arg4·own : Type 0 where
           pub given : s62 .gives (m43 (before· .before) (before· .send-packets-arg3 .given))
+
       pub record After-send-packets-arg4 : Type 0 where
         pub before : After-send-packets-arg3
         pub send-packets-arg4 : After-send-packets-arg4·own before
-      abbrev pub m46 : (before : After-send-packets-arg4) → (given : s65 .gives (m45 (before .before) (before .send-packets-arg4 .given))) → Typed.Mo
-          T68
+
+      abbrev pub m46 : (before : After-send-packets-arg4) → (given : s65 .gives
+          (m45 (before .before) (before .send-packets-arg4 .given))) → Typed.Mo T68
       m46 = λ before given. s65 .next (m45 (before .before) (before .send-packets-arg4 .given)) given
-      abbrev pub m47 : (before : After-send-packets-arg4) → (given : s65 .gives (m45 (before .before) (before .send-packets-arg4 .given))) → Typed.Mo
-          T69
+
+      abbrev pub m47 : (before : After-send-packets-arg4) → (given : s65 .gives
+          (m45 (before .before) (before .send-packets-arg4 .given))) → Typed.Mo T69
       m47 = λ before given. s66 .next (m46 before given)
+
       module _ (before· : After-send-packets-arg4) where
         pub record After-send-packets-arg5·own : Type 0 where
           pub given : s65 .gives (m45 (before· .before) (before· .send-packets-arg4 .given))
+
       pub record After-send-packets-arg5 : Type 0 where
         pub before : After-send-packets-arg4
         pub send-packets-arg5 : After-send-packets-arg5·own before
-      abbrev pub m48 : (before : After-send-packets-arg5) → (given : s67 .gives (m47 (before .before) (before .send-packets-arg5 .given))) → Typed.Mo
-          T70
+
+      abbrev pub m48 : (before : After-send-packets-arg5) → (given : s67 .gives
+          (m47 (before .before) (before .send-packets-arg5 .given))) → Typed.Mo T70
       m48 = λ before given. s67 .next (m47 (before .before) (before .send-packets-arg5 .given)) given
+
       module _ (before· : After-send-packets-arg5) where
         pub record After-send-packets-arg6·own : Type 0 where
           pub given : s67 .gives (m47 (before· .before) (before· .send-packets-arg5 .given))
+
       pub record After-send-packets-arg6 : Type 0 where
         pub before : After-send-packets-arg5
         pub send-packets-arg6 : After-send-packets-arg6·own before
+
       abbrev pub Need-slice-aggregate-send-packets : Type 0
-      Need-slice-aggregate-send-packets = (c : After-send-packets-arg6) → Relend.CountIs T70 34 35 (λ x. x) (λ u. u .1 .1 .1 .1 .1 .1 .1 .1 .1 .1 .0)
-          (m48 (c .before) (c .send-packets-arg6 .given))
-      abbrev pub m49 : (before : After-send-packets-arg5) → (given : s67 .gives (m47 (before .before) (before .send-packets-arg5 .given))) → Typed.Mo
-          T71
+      Need-slice-aggregate-send-packets = (c : After-send-packets-arg6) → Relend.CountIs T70 34 35 (λ x. x)
+          (λ u. u .1 .1 .1 .1 .1 .1 .1 .1 .1 .1 .0) (m48 (c .before) (c .send-packets-arg6 .given))
+
+      abbrev pub m49 : (before : After-send-packets-arg5) → (given : s67 .gives
+          (m47 (before .before) (before .send-packets-arg5 .given))) → Typed.Mo T71
       m49 = λ before given. s68 .next (m48 before given)
-      abbrev pub m50 : (before : After-send-packets-arg6) → (given : s69 .gives (m49 (before .before) (before .send-packets-arg6 .given))) → Typed.Mo
-          T72
+
+      abbrev pub m50 : (before : After-send-packets-arg6) → (given : s69 .gives
+          (m49 (before .before) (before .send-packets-arg6 .given))) → Typed.Mo T72
       m50 = λ before given. s69 .next (m49 (before .before) (before .send-packets-arg6 .given)) given
+
       module _ (before· : After-send-packets-arg6) where
         pub record After-send-packets-arg7·own : Type 0 where
           pub given : s69 .gives (m49 (before· .before) (before· .send-packets-arg6 .given))
+
       pub record After-send-packets-arg7 : Type 0 where
         pub before : After-send-packets-arg6
         pub send-packets-arg7 : After-send-packets-arg7·own before
+
       abbrev pub Need-slice-aggregate-send-packets-2 : Type 0
-      Need-slice-aggregate-send-packets-2 = (c : After-send-packets-arg7) → Relend.CountIs T72 36 37 (λ x. x) (λ u. u .1 .1 .1 .1 .1 .1 .1 .1 .1 .1 .1
-          .0) (m50 (c .before) (c .send-packets-arg7 .given))
-      abbrev pub m51 : (before : After-send-packets-arg6) → (given : s69 .gives (m49 (before .before) (before .send-packets-arg6 .given))) → Typed.Mo
-          T73
+      Need-slice-aggregate-send-packets-2 = (c : After-send-packets-arg7) → Relend.CountIs T72 36 37 (λ x. x)
+          (λ u. u .1 .1 .1 .1 .1 .1 .1 .1 .1 .1 .1 .0) (m50 (c .before) (c .send-packets-arg7 .given))
+
+      abbrev pub m51 : (before : After-send-packets-arg6) → (given : s69 .gives
+          (m49 (before .before) (before .send-packets-arg6 .given))) → Typed.Mo T73
       m51 = λ before given. s70 .next (m50 before given)
+
       abbrev pub Need-send-packets-requires : Type 0
-      Need-send-packets-requires = (c : After-send-packets-arg7) → s71 .asks (m51 (c .before) (c .send-packets-arg7 .given))
-      abbrev pub m52 : (before : After-send-packets-arg7) → (given : s71 .gives (m51 (before .before) (before .send-packets-arg7 .given))) → Typed.Mo
-          T74
+      Need-send-packets-requires = (c : After-send-packets-arg7) → s71 .asks
+          (m51 (c .before) (c .send-packets-arg7 .given))
+
+      abbrev pub m52 : (before : After-send-packets-arg7) → (given : s71 .gives
+          (m51 (before .before) (before .send-packets-arg7 .given))) → Typed.Mo T74
       m52 = λ before given. s71 .next (m51 (before .before) (before .send-packets-arg7 .given)) given
+
       module _ (before· : After-send-packets-arg7) where
         abbrev pub After-send-packets·own : Type 0
-        After-send-packets·own = Called.Called ps·3 r·3 (claims· .7) T73 (record { pos = 25; ty = Syntax.tyRef Syntax.erased Syntax.mut
-            RelayPending.to; ref = λ x. x; }, (record { pos = 27; ty = Syntax.tyRef Syntax.erased Syntax.mut RelayCircuit.to; ref = λ x. x; }, (record
-            { pos = 29; ty = Syntax.tyRef Syntax.erased Syntax.mut ReservationUsage.to; ref = λ x. x; }, (record { pos = 31; ty = Syntax.tyRef
-            Syntax.erased Syntax.mut InflightAction.to; ref = λ x. x; }, (record { pos = 33; ty = Syntax.tyRef Syntax.erased Syntax.mut (Syntax.tyInt
-            Syntax.w32); ref = λ x. x; }, (record { pos = 8; st = List.[]; d = 0; at = λ x. x }, (record { pos = 35; ty = Syntax.tyRef Syntax.erased
-            Syntax.imm (Syntax.tyInt Syntax.w8); ref = λ x. x; }, (record { pos = 37; ty = Syntax.tyRef Syntax.erased Syntax.imm (Syntax.tyInt
-            Syntax.w8); ref = λ x. x; }, (record { pos = 7; st = List.[]; d = 0; at = λ x. x }, tt),),),),),),),),) (m51 (before· .before) (before·
-            .send-packets-arg7 .given))
+        After-send-packets·own = Called.Called ps·3 r·3 (claims· .7) T73 args71
+            (m51 (before· .before) (before· .send-packets-arg7 .given))
+
       pub record After-send-packets : Type 0 where
         pub before : After-send-packets-arg7
         pub send-packets : After-send-packets·own before
-      abbrev pub After-send-packets·gave : (c : After-send-packets) → s71 .gives (m51 (c .before .before) (c .before .send-packets-arg7 .given))
-      After-send-packets·gave = λ c. Called.given ps·3 r·3 (claims· .7) T73 (record { pos = 25; ty = Syntax.tyRef Syntax.erased Syntax.mut
-          RelayPending.to; ref = λ x. x; }, (record { pos = 27; ty = Syntax.tyRef Syntax.erased Syntax.mut RelayCircuit.to; ref = λ x. x; }, (record {
-          pos = 29; ty = Syntax.tyRef Syntax.erased Syntax.mut ReservationUsage.to; ref = λ x. x; }, (record { pos = 31; ty = Syntax.tyRef
-          Syntax.erased Syntax.mut InflightAction.to; ref = λ x. x; }, (record { pos = 33; ty = Syntax.tyRef Syntax.erased Syntax.mut (Syntax.tyInt
-          Syntax.w32); ref = λ x. x; }, (record { pos = 8; st = List.[]; d = 0; at = λ x. x }, (record { pos = 35; ty = Syntax.tyRef Syntax.erased
-          Syntax.imm (Syntax.tyInt Syntax.w8); ref = λ x. x; }, (record { pos = 37; ty = Syntax.tyRef Syntax.erased Syntax.imm (Syntax.tyInt
-          Syntax.w8); ref = λ x. x; }, (record { pos = 7; st = List.[]; d = 0; at = λ x. x }, tt),),),),),),),),) (m51 (c .before .before) (c .before
-          .send-packets-arg7 .given)) (c .send-packets)
-      abbrev pub m53 : (before : After-send-packets-arg7) → (given : s71 .gives (m51 (before .before) (before .send-packets-arg7 .given))) → Typed.Mo
-          T75
+
+      abbrev pub After-send-packets·gave : (c : After-send-packets) → s71 .gives (m51 (c .before .before)
+          (c .before .send-packets-arg7 .given))
+      After-send-packets·gave = λ c. Called.given ps·3 r·3 (claims· .7) T73 args71 (m51 (c .before .before)
+          (c .before .send-packets-arg7 .given)) (c .send-packets)
+
+      abbrev pub m53 : (before : After-send-packets-arg7) → (given : s71 .gives
+          (m51 (before .before) (before .send-packets-arg7 .given))) → Typed.Mo T75
       m53 = λ before given. s72 (m52 before given)
-      abbrev pub m54 : (before : After-send-packets-arg7) → (given : s71 .gives (m51 (before .before) (before .send-packets-arg7 .given))) → Typed.Mo
-          T76
+
+      abbrev pub m54 : (before : After-send-packets-arg7) → (given : s71 .gives
+          (m51 (before .before) (before .send-packets-arg7 .given))) → Typed.Mo T76
       m54 = λ before given. s73 (m53 before given)
-      abbrev pub m55 : (before : After-send-packets-arg7) → (given : s71 .gives (m51 (before .before) (before .send-packets-arg7 .given))) → Typed.Mo
-          T77
+
+      abbrev pub m55 : (before : After-send-packets-arg7) → (given : s71 .gives
+          (m51 (before .before) (before .send-packets-arg7 .given))) → Typed.Mo T77
       m55 = λ before given. s74 (m54 before given)
-      abbrev pub m56 : (before : After-send-packets-arg7) → (given : s71 .gives (m51 (before .before) (before .send-packets-arg7 .given))) → Typed.Mo
-          T78
+
+      abbrev pub m56 : (before : After-send-packets-arg7) → (given : s71 .gives
+          (m51 (before .before) (before .send-packets-arg7 .given))) → Typed.Mo T78
       m56 = λ before given. s75 (m55 before given)
-      abbrev pub m57 : (before : After-send-packets-arg7) → (given : s71 .gives (m51 (before .before) (before .send-packets-arg7 .given))) → Typed.Mo
-          T79
+
+      abbrev pub m57 : (before : After-send-packets-arg7) → (given : s71 .gives
+          (m51 (before .before) (before .send-packets-arg7 .given))) → Typed.Mo T79
       m57 = λ before given. s76 (m56 before given)
-      abbrev pub m58 : (before : After-send-packets-arg7) → (given : s71 .gives (m51 (before .before) (before .send-packets-arg7 .given))) → Typed.Mo
-          T80
+
+      abbrev pub m58 : (before : After-send-packets-arg7) → (given : s71 .gives
+          (m51 (before .before) (before .send-packets-arg7 .given))) → Typed.Mo T80
       m58 = λ before given. s77 (m57 before given)
-      abbrev pub m59 : (before : After-send-packets) → (given : s79 .gives (m58 (before .before) (After-send-packets·gave before))) → Typed.Mo T82
+
+      abbrev pub m59 : (before : After-send-packets) → (given : s79 .gives
+          (m58 (before .before) (After-send-packets·gave before))) → Typed.Mo T82
       m59 = λ before given. s79 .next (m58 (before .before) (After-send-packets·gave before)) given
+
       module _ (before· : After-send-packets) where
         pub record After-pending2·own : Type 0 where
           pub given : s79 .gives (m58 (before· .before) (After-send-packets·gave before·))
+
       pub record After-pending2 : Type 0 where
         pub before : After-send-packets
         pub pending2 : After-pending2·own before
-      abbrev pub m60 : (before : After-pending2) → (given : s82 .gives (m59 (before .before) (before .pending2 .given))) → Typed.Mo T85
+
+      abbrev pub m60 : (before : After-pending2) → (given : s82 .gives (m59 (before .before) (before .pending2 .given)))
+          → Typed.Mo T85
       m60 = λ before given. s82 .next (m59 (before .before) (before .pending2 .given)) given
+
       module _ (before· : After-pending2) where
         pub record After-circuits2·own : Type 0 where
           pub given : s82 .gives (m59 (before· .before) (before· .pending2 .given))
+
       pub record After-circuits2 : Type 0 where
         pub before : After-pending2
         pub circuits2 : After-circuits2·own before
-      abbrev pub m61 : (before : After-circuits2) → (given : s85 .gives (m60 (before .before) (before .circuits2 .given))) → Typed.Mo T88
+
+      abbrev pub m61 : (before : After-circuits2) → (given : s85 .gives
+          (m60 (before .before) (before .circuits2 .given))) → Typed.Mo T88
       m61 = λ before given. s85 .next (m60 (before .before) (before .circuits2 .given)) given
+
       module _ (before· : After-circuits2) where
         pub record After-ledger2·own : Type 0 where
           pub given : s85 .gives (m60 (before· .before) (before· .circuits2 .given))
+
       pub record After-ledger2 : Type 0 where
         pub before : After-circuits2
         pub ledger2 : After-ledger2·own before
-      abbrev pub m62 : (before : After-ledger2) → (given : s88 .gives (m61 (before .before) (before .ledger2 .given))) → Typed.Mo T91
+
+      abbrev pub m62 : (before : After-ledger2) → (given : s88 .gives (m61 (before .before) (before .ledger2 .given)))
+          → Typed.Mo T91
       m62 = λ before given. s88 .next (m61 (before .before) (before .ledger2 .given)) given
+
       module _ (before· : After-ledger2) where
         pub record After-inflight2·own : Type 0 where
           pub given : s88 .gives (m61 (before· .before) (before· .ledger2 .given))
+
       pub record After-inflight2 : Type 0 where
         pub before : After-ledger2
         pub inflight2 : After-inflight2·own before
-      abbrev pub m63 : (before : After-inflight2) → (given : s91 .gives (m62 (before .before) (before .inflight2 .given))) → Typed.Mo T94
+
+      abbrev pub m63 : (before : After-inflight2) → (given : s91 .gives
+          (m62 (before .before) (before .inflight2 .given))) → Typed.Mo T94
       m63 = λ before given. s91 .next (m62 (before .before) (before .inflight2 .given)) given
+
       module _ (before· : After-inflight2) where
         pub record After-out2·own : Type 0 where
           pub given : s91 .gives (m62 (before· .before) (before· .inflight2 .given))
+
       pub record After-out2 : Type 0 where
         pub before : After-inflight2
         pub out2 : After-out2·own before
-      abbrev pub m64 : (before : After-out2) → (given : s92 .gives (m63 (before .before) (before .out2 .given))) → Typed.Mo T95
+
+      abbrev pub m64 : (before : After-out2) → (given : s92 .gives (m63 (before .before) (before .out2 .given))) →
+          Typed.Mo T95
       m64 = λ before given. s92 .next (m63 (before .before) (before .out2 .given)) given
+
       module _ (before· : After-out2) where
         pub record After-slice-known3·own : Type 0 where
           pub given : s92 .gives (m63 (before· .before) (before· .out2 .given))
+
       pub record After-slice-known3 : Type 0 where
         pub before : After-out2
         pub slice-known3 : After-slice-known3·own before
+
       abbrev pub Need-same-length-6 : Type 0
-      Need-same-length-6 = (c : After-slice-known3) → MutSlice.SameLen (Row.get 1 (T95 .locals) (m64 (c .before) (c .slice-known3 .given))) (dens (c
-          .before .before .before .before .before .before .before .before .before .before .before .before .before .before .before .before .before
-          .before .before .before .before .before .before .before .before .before .before .before .before .before .before .before .κs) (c .before
-          .before .before .before .before .before .before .before .before .before .before .before .before .before .before .before .before .before
-          .before .before .before .before .before .before .before .before .before .before .before .before .before .before .args) .0)
+      Need-same-length-6 = (c : After-slice-known3) → MutSlice.SameLen (Row.get 1 (T95 .locals)
+          (m64 (c .before) (c .slice-known3 .given))) (dens (c .before .before .before .before .before .before .before
+          .before .before .before .before .before .before .before .before .before .before .before .before .before
+          .before .before .before .before .before .before .before .before .before .before .before .before .κs) (c
+          .before .before .before .before .before .before .before .before .before .before .before .before .before
+          .before .before .before .before .before .before .before .before .before .before .before .before .before
+          .before .before .before .before .before .before .args) .0)
+
       abbrev pub Need-same-length-7 : Type 0
-      Need-same-length-7 = (c : After-slice-known3) → MutSlice.SameLen (Row.get 2 (T95 .locals) (m64 (c .before) (c .slice-known3 .given))) (dens (c
-          .before .before .before .before .before .before .before .before .before .before .before .before .before .before .before .before .before
-          .before .before .before .before .before .before .before .before .before .before .before .before .before .before .before .κs) (c .before
-          .before .before .before .before .before .before .before .before .before .before .before .before .before .before .before .before .before
-          .before .before .before .before .before .before .before .before .before .before .before .before .before .before .args) .1 .0)
+      Need-same-length-7 = (c : After-slice-known3) → MutSlice.SameLen (Row.get 2 (T95 .locals)
+          (m64 (c .before) (c .slice-known3 .given))) (dens (c .before .before .before .before .before .before .before
+          .before .before .before .before .before .before .before .before .before .before .before .before .before
+          .before .before .before .before .before .before .before .before .before .before .before .before .κs) (c
+          .before .before .before .before .before .before .before .before .before .before .before .before .before
+          .before .before .before .before .before .before .before .before .before .before .before .before .before
+          .before .before .before .before .before .before .args) .1 .0)
+
       abbrev pub Need-same-length-8 : Type 0
-      Need-same-length-8 = (c : After-slice-known3) → MutSlice.SameLen (Row.get 3 (T95 .locals) (m64 (c .before) (c .slice-known3 .given))) (dens (c
-          .before .before .before .before .before .before .before .before .before .before .before .before .before .before .before .before .before
-          .before .before .before .before .before .before .before .before .before .before .before .before .before .before .before .κs) (c .before
-          .before .before .before .before .before .before .before .before .before .before .before .before .before .before .before .before .before
-          .before .before .before .before .before .before .before .before .before .before .before .before .before .before .args) .1 .1 .0)
+      Need-same-length-8 = (c : After-slice-known3) → MutSlice.SameLen (Row.get 3 (T95 .locals)
+          (m64 (c .before) (c .slice-known3 .given))) (dens (c .before .before .before .before .before .before .before
+          .before .before .before .before .before .before .before .before .before .before .before .before .before
+          .before .before .before .before .before .before .before .before .before .before .before .before .κs) (c
+          .before .before .before .before .before .before .before .before .before .before .before .before .before
+          .before .before .before .before .before .before .before .before .before .before .before .before .before
+          .before .before .before .before .before .before .args) .1 .1 .0)
+
       abbrev pub Need-same-length-9 : Type 0
-      Need-same-length-9 = (c : After-slice-known3) → MutSlice.SameLen (Row.get 4 (T95 .locals) (m64 (c .before) (c .slice-known3 .given))) (dens (c
-          .before .before .before .before .before .before .before .before .before .before .before .before .before .before .before .before .before
-          .before .before .before .before .before .before .before .before .before .before .before .before .before .before .before .κs) (c .before
-          .before .before .before .before .before .before .before .before .before .before .before .before .before .before .before .before .before
-          .before .before .before .before .before .before .before .before .before .before .before .before .before .before .args) .1 .1 .1 .0)
+      Need-same-length-9 = (c : After-slice-known3) → MutSlice.SameLen (Row.get 4 (T95 .locals)
+          (m64 (c .before) (c .slice-known3 .given))) (dens (c .before .before .before .before .before .before .before
+          .before .before .before .before .before .before .before .before .before .before .before .before .before
+          .before .before .before .before .before .before .before .before .before .before .before .before .κs) (c
+          .before .before .before .before .before .before .before .before .before .before .before .before .before
+          .before .before .before .before .before .before .before .before .before .before .before .before .before
+          .before .before .before .before .before .before .args) .1 .1 .1 .0)
+
       abbrev pub Need-same-length-10 : Type 0
-      Need-same-length-10 = (c : After-slice-known3) → MutSlice.SameLen (Row.get 5 (T95 .locals) (m64 (c .before) (c .slice-known3 .given))) (dens (c
-          .before .before .before .before .before .before .before .before .before .before .before .before .before .before .before .before .before
-          .before .before .before .before .before .before .before .before .before .before .before .before .before .before .before .κs) (c .before
-          .before .before .before .before .before .before .before .before .before .before .before .before .before .before .before .before .before
-          .before .before .before .before .before .before .before .before .before .before .before .before .before .before .args) .1 .1 .1 .1 .0)
+      Need-same-length-10 = (c : After-slice-known3) → MutSlice.SameLen (Row.get 5 (T95 .locals)
+          (m64 (c .before) (c .slice-known3 .given))) (dens (c .before .before .before .before .before .before .before
+          .before .before .before .before .before .before .before .before .before .before .before .before .before
+          .before .before .before .before .before .before .before .before .before .before .before .before .κs) (c
+          .before .before .before .before .before .before .before .before .before .before .before .before .before
+          .before .before .before .before .before .before .before .before .before .before .before .before .before
+          .before .before .before .before .before .before .args) .1 .1 .1 .1 .0)
+
       abbrev pub Need-returns-2 : Type 0
-      Need-returns-2 = (c : After-slice-known3) → Post· (c .before .before .before .before .before .before .before .before .before .before .before
-          .before .before .before .before .before .before .before .before .before .before .before .before .before .before .before .before .before
-          .before .before .before .before .κs) (dens (c .before .before .before .before .before .before .before .before .before .before .before
-          .before .before .before .before .before .before .before .before .before .before .before .before .before .before .before .before .before
-          .before .before .before .before .κs) (c .before .before .before .before .before .before .before .before .before .before .before .before
-          .before .before .before .before .before .before .before .before .before .before .before .before .before .before .before .before .before
-          .before .before .before .args)) (Function.resV r (c .before .before .before .before .before .before .before .before .before .before .before
-          .before .before .before .before .before .before .before .before .before .before .before .before .before .before .before .before .before
-          .before .before .before .before .κs) (m64 (c .before) (c .slice-known3 .given) .0)) (Clauses.atExit (Kinds.endedOf 6 ps r) (c .before
-          .before .before .before .before .before .before .before .before .before .before .before .before .before .before .before .before .before
-          .before .before .before .before .before .before .before .before .before .before .before .before .before .before .κs) (dens (c .before
-          .before .before .before .before .before .before .before .before .before .before .before .before .before .before .before .before .before
-          .before .before .before .before .before .before .before .before .before .before .before .before .before .before .κs) (c .before .before
-          .before .before .before .before .before .before .before .before .before .before .before .before .before .before .before .before .before
-          .before .before .before .before .before .before .before .before .before .before .before .before .before .args)) (Enter.lastsP (c .before
-          .before .before .before .before .before .before .before .before .before .before .before .before .before .before .before .before .before
-          .before .before .before .before .before .before .before .before .before .before .before .before .before .before .κs) 1 ps xs (dens (c
-          .before .before .before .before .before .before .before .before .before .before .before .before .before .before .before .before .before
-          .before .before .before .before .before .before .before .before .before .before .before .before .before .before .before .κs) (c .before
-          .before .before .before .before .before .before .before .before .before .before .before .before .before .before .before .before .before
-          .before .before .before .before .before .before .before .before .before .before .before .before .before .before .args)) (m64 (c .before) (c
-          .slice-known3 .given) .1)))
-      module _ (prepare-requires : Need-prepare-requires) (min-usize-requires : Need-min-usize-requires) (min-usize-requires-2 :
-          Need-min-usize-requires-2) (answer-number-requires : Need-answer-number-requires) (same-length : Need-same-length) (same-length-2 :
-          Need-same-length-2) (same-length-3 : Need-same-length-3) (same-length-4 : Need-same-length-4) (same-length-5 : Need-same-length-5) (returns
-          : Need-returns) (slice-aggregate-send-packets : Need-slice-aggregate-send-packets) (slice-aggregate-send-packets-2 :
-          Need-slice-aggregate-send-packets-2) (send-packets-requires : Need-send-packets-requires) (same-length-6 : Need-same-length-6)
-          (same-length-7 : Need-same-length-7) (same-length-8 : Need-same-length-8) (same-length-9 : Need-same-length-9) (same-length-10 :
-          Need-same-length-10) (returns-2 : Need-returns-2) where
-        lay8 : (c : After-send-packets) → at34 (W0 (c .before .before .before .before .before .before .before .before .before .before .before .before
-            .before .before .before .before .before .before .before .before .before .before .before .before .before .before .κs) (c .before .before
-            .before .before .before .before .before .before .before .before .before .before .before .before .before .before .before .before .before
-            .before .before .before .before .before .before .before .args)) (m52 (c .before) (After-send-packets·gave c))
-        lay8 = λ c. (Path.refl, λ g. (Path.refl, λ g'. (Path.refl, λ g''. (Path.refl, λ g'3. (Path.refl, λ g'4. λ g'5. ((MutSlice.fix-len (Row.get 1
-            (T95 .locals) (m64 record { before = record { before = record { before = record { before = record { before = record { before = c .before;
-            send-packets = c .send-packets; }; pending2 = record { given = g }; }; circuits2 = record { given = g' }; }; ledger2 = record { given =
-            g'' }; }; inflight2 = record { given = g'3 }; }; out2 = record { given = g'4 }; } g'5) .ptr) (Row.get 1 (T95 .locals) (m64 record { before
-            = record { before = record { before = record { before = record { before = record { before = c .before; send-packets = c .send-packets; };
-            pending2 = record { given = g }; }; circuits2 = record { given = g' }; }; ledger2 = record { given = g'' }; }; inflight2 = record { given
-            = g'3 }; }; out2 = record { given = g'4 }; } g'5) .name) (Row.get 1 (T95 .locals) (m64 record { before = record { before = record { before
-            = record { before = record { before = record { before = c .before; send-packets = c .send-packets; }; pending2 = record { given = g }; };
-            circuits2 = record { given = g' }; }; ledger2 = record { given = g'' }; }; inflight2 = record { given = g'3 }; }; out2 = record { given =
-            g'4 }; } g'5) .now) (dens (c .before .before .before .before .before .before .before .before .before .before .before .before .before
-            .before .before .before .before .before .before .before .before .before .before .before .before .before .κs) (c .before .before .before
-            .before .before .before .before .before .before .before .before .before .before .before .before .before .before .before .before .before
-            .before .before .before .before .before .before .args) .0 .now) (same-length-6 record { before = record { before = record { before =
-            record { before = record { before = record { before = record { before = c .before; send-packets = c .send-packets; }; pending2 = record {
-            given = g }; }; circuits2 = record { given = g' }; }; ledger2 = record { given = g'' }; }; inflight2 = record { given = g'3 }; }; out2 =
-            record { given = g'4 }; }; slice-known3 = record { given = g'5 }; }), (MutSlice.fix-len (Row.get 2 (T95 .locals) (m64 record { before =
-            record { before = record { before = record { before = record { before = record { before = c .before; send-packets = c .send-packets; };
-            pending2 = record { given = g }; }; circuits2 = record { given = g' }; }; ledger2 = record { given = g'' }; }; inflight2 = record { given
-            = g'3 }; }; out2 = record { given = g'4 }; } g'5) .ptr) (Row.get 2 (T95 .locals) (m64 record { before = record { before = record { before
-            = record { before = record { before = record { before = c .before; send-packets = c .send-packets; }; pending2 = record { given = g }; };
-            circuits2 = record { given = g' }; }; ledger2 = record { given = g'' }; }; inflight2 = record { given = g'3 }; }; out2 = record { given =
-            g'4 }; } g'5) .name) (Row.get 2 (T95 .locals) (m64 record { before = record { before = record { before = record { before = record { before
-            = record { before = c .before; send-packets = c .send-packets; }; pending2 = record { given = g }; }; circuits2 = record { given = g' };
-            }; ledger2 = record { given = g'' }; }; inflight2 = record { given = g'3 }; }; out2 = record { given = g'4 }; } g'5) .now) (dens (c
-            .before .before .before .before .before .before .before .before .before .before .before .before .before .before .before .before .before
-            .before .before .before .before .before .before .before .before .before .κs) (c .before .before .before .before .before .before .before
-            .before .before .before .before .before .before .before .before .before .before .before .before .before .before .before .before .before
-            .before .before .args) .1 .0 .now) (same-length-7 record { before = record { before = record { before = record { before = record { before
-            = record { before = record { before = c .before; send-packets = c .send-packets; }; pending2 = record { given = g }; }; circuits2 = record
-            { given = g' }; }; ledger2 = record { given = g'' }; }; inflight2 = record { given = g'3 }; }; out2 = record { given = g'4 }; };
-            slice-known3 = record { given = g'5 }; }), (MutSlice.fix-len (Row.get 3 (T95 .locals) (m64 record { before = record { before = record {
-            before = record { before = record { before = record { before = c .before; send-packets = c .send-packets; }; pending2 = record { given = g
-            }; }; circuits2 = record { given = g' }; }; ledger2 = record { given = g'' }; }; inflight2 = record { given = g'3 }; }; out2 = record {
-            given = g'4 }; } g'5) .ptr) (Row.get 3 (T95 .locals) (m64 record { before = record { before = record { before = record { before = record {
-            before = record { before = c .before; send-packets = c .send-packets; }; pending2 = record { given = g }; }; circuits2 = record { given =
-            g' }; }; ledger2 = record { given = g'' }; }; inflight2 = record { given = g'3 }; }; out2 = record { given = g'4 }; } g'5) .name) (Row.get
-            3 (T95 .locals) (m64 record { before = record { before = record { before = record { before = record { before = record { before = c
-            .before; send-packets = c .send-packets; }; pending2 = record { given = g }; }; circuits2 = record { given = g' }; }; ledger2 = record {
-            given = g'' }; }; inflight2 = record { given = g'3 }; }; out2 = record { given = g'4 }; } g'5) .now) (dens (c .before .before .before
-            .before .before .before .before .before .before .before .before .before .before .before .before .before .before .before .before .before
-            .before .before .before .before .before .before .κs) (c .before .before .before .before .before .before .before .before .before .before
-            .before .before .before .before .before .before .before .before .before .before .before .before .before .before .before .before .args) .1
-            .1 .0 .now) (same-length-8 record { before = record { before = record { before = record { before = record { before = record { before =
-            record { before = c .before; send-packets = c .send-packets; }; pending2 = record { given = g }; }; circuits2 = record { given = g' }; };
-            ledger2 = record { given = g'' }; }; inflight2 = record { given = g'3 }; }; out2 = record { given = g'4 }; }; slice-known3 = record {
-            given = g'5 }; }), (MutSlice.fix-len (Row.get 4 (T95 .locals) (m64 record { before = record { before = record { before = record { before =
-            record { before = record { before = c .before; send-packets = c .send-packets; }; pending2 = record { given = g }; }; circuits2 = record {
-            given = g' }; }; ledger2 = record { given = g'' }; }; inflight2 = record { given = g'3 }; }; out2 = record { given = g'4 }; } g'5) .ptr)
-            (Row.get 4 (T95 .locals) (m64 record { before = record { before = record { before = record { before = record { before = record { before =
-            c .before; send-packets = c .send-packets; }; pending2 = record { given = g }; }; circuits2 = record { given = g' }; }; ledger2 = record {
-            given = g'' }; }; inflight2 = record { given = g'3 }; }; out2 = record { given = g'4 }; } g'5) .name) (Row.get 4 (T95 .locals) (m64 record
-            { before = record { before = record { before = record { before = record { before = record { before = c .before; send-packets = c
-            .send-packets; }; pending2 = record { given = g }; }; circuits2 = record { given = g' }; }; ledger2 = record { given = g'' }; }; inflight2
-            = record { given = g'3 }; }; out2 = record { given = g'4 }; } g'5) .now) (dens (c .before .before .before .before .before .before .before
-            .before .before .before .before .before .before .before .before .before .before .before .before .before .before .before .before .before
-            .before .before .κs) (c .before .before .before .before .before .before .before .before .before .before .before .before .before .before
-            .before .before .before .before .before .before .before .before .before .before .before .before .args) .1 .1 .1 .0 .now) (same-length-9
-            record { before = record { before = record { before = record { before = record { before = record { before = record { before = c .before;
-            send-packets = c .send-packets; }; pending2 = record { given = g }; }; circuits2 = record { given = g' }; }; ledger2 = record { given =
-            g'' }; }; inflight2 = record { given = g'3 }; }; out2 = record { given = g'4 }; }; slice-known3 = record { given = g'5 }; }),
-            (MutSlice.fix-len (Row.get 5 (T95 .locals) (m64 record { before = record { before = record { before = record { before = record { before =
-            record { before = c .before; send-packets = c .send-packets; }; pending2 = record { given = g }; }; circuits2 = record { given = g' }; };
-            ledger2 = record { given = g'' }; }; inflight2 = record { given = g'3 }; }; out2 = record { given = g'4 }; } g'5) .ptr) (Row.get 5 (T95
-            .locals) (m64 record { before = record { before = record { before = record { before = record { before = record { before = c .before;
-            send-packets = c .send-packets; }; pending2 = record { given = g }; }; circuits2 = record { given = g' }; }; ledger2 = record { given =
-            g'' }; }; inflight2 = record { given = g'3 }; }; out2 = record { given = g'4 }; } g'5) .name) (Row.get 5 (T95 .locals) (m64 record {
-            before = record { before = record { before = record { before = record { before = record { before = c .before; send-packets = c
-            .send-packets; }; pending2 = record { given = g }; }; circuits2 = record { given = g' }; }; ledger2 = record { given = g'' }; }; inflight2
-            = record { given = g'3 }; }; out2 = record { given = g'4 }; } g'5) .now) (dens (c .before .before .before .before .before .before .before
-            .before .before .before .before .before .before .before .before .before .before .before .before .before .before .before .before .before
-            .before .before .κs) (c .before .before .before .before .before .before .before .before .before .before .before .before .before .before
-            .before .before .before .before .before .before .before .before .before .before .before .before .args) .1 .1 .1 .1 .0 .now)
-            (same-length-10 record { before = record { before = record { before = record { before = record { before = record { before = record {
-            before = c .before; send-packets = c .send-packets; }; pending2 = record { given = g }; }; circuits2 = record { given = g' }; }; ledger2 =
-            record { given = g'' }; }; inflight2 = record { given = g'3 }; }; out2 = record { given = g'4 }; }; slice-known3 = record { given = g'5 };
-            }), (Path.refl, (tt, tt)),),),),),), returns-2 record { before = record { before = record { before = record { before = record { before =
-            record { before = record { before = c .before; send-packets = c .send-packets; }; pending2 = record { given = g }; }; circuits2 = record {
-            given = g' }; }; ledger2 = record { given = g'' }; }; inflight2 = record { given = g'3 }; }; out2 = record { given = g'4 }; };
-            slice-known3 = record { given = g'5 }; },),),),),),)
-        lay7 : (c : Else1) → at54 (W0 (c .before .before .before .before .before .before .before .before .before .before .before .before .before
-            .before .before .before .before .before .κs) (c .before .before .before .before .before .before .before .before .before .before .before
-            .before .before .before .before .before .before .before .args)) (m37 (c .before))
-        lay7 = λ c. λ g. (Path.refl, λ g'. (Path.refl, λ g''. (Path.refl, λ g'3. (Path.refl, λ g'4. (Path.refl, λ g'5. (Relend.count-is T70 34 35 (λ
-            x. x) (λ u. u .1 .1 .1 .1 .1 .1 .1 .1 .1 .1 .0) (m48 record { before = record { before = record { before = record { before = record {
-            before = record { before = c .before; if1 = c .if1 }; send-packets-arg = record { given = g }; }; send-packets-arg2 = record { given = g'
-            }; }; send-packets-arg3 = record { given = g'' }; }; send-packets-arg4 = record { given = g'3 }; }; send-packets-arg5 = record { given =
-            g'4 }; } g'5) (slice-aggregate-send-packets record { before = record { before = record { before = record { before = record { before =
-            record { before = record { before = c .before; if1 = c .if1 }; send-packets-arg = record { given = g }; }; send-packets-arg2 = record {
-            given = g' }; }; send-packets-arg3 = record { given = g'' }; }; send-packets-arg4 = record { given = g'3 }; }; send-packets-arg5 = record
-            { given = g'4 }; }; send-packets-arg6 = record { given = g'5 }; }), λ g'6. (Relend.count-is T72 36 37 (λ x. x) (λ u. u .1 .1 .1 .1 .1 .1
-            .1 .1 .1 .1 .1 .0) (m50 record { before = record { before = record { before = record { before = record { before = record { before = record
-            { before = c .before; if1 = c .if1 }; send-packets-arg = record { given = g }; }; send-packets-arg2 = record { given = g' }; };
-            send-packets-arg3 = record { given = g'' }; }; send-packets-arg4 = record { given = g'3 }; }; send-packets-arg5 = record { given = g'4 };
-            }; send-packets-arg6 = record { given = g'5 }; } g'6) (slice-aggregate-send-packets-2 record { before = record { before = record { before
-            = record { before = record { before = record { before = record { before = record { before = c .before; if1 = c .if1 }; send-packets-arg =
-            record { given = g }; }; send-packets-arg2 = record { given = g' }; }; send-packets-arg3 = record { given = g'' }; }; send-packets-arg4 =
-            record { given = g'3 }; }; send-packets-arg5 = record { given = g'4 }; }; send-packets-arg6 = record { given = g'5 }; }; send-packets-arg7
-            = record { given = g'6 }; }), (send-packets-requires record { before = record { before = record { before = record { before = record {
-            before = record { before = record { before = record { before = c .before; if1 = c .if1 }; send-packets-arg = record { given = g }; };
-            send-packets-arg2 = record { given = g' }; }; send-packets-arg3 = record { given = g'' }; }; send-packets-arg4 = record { given = g'3 };
-            }; send-packets-arg5 = record { given = g'4 }; }; send-packets-arg6 = record { given = g'5 }; }; send-packets-arg7 = record { given = g'6
-            }; }, λ g'7. lay8 record { before = record { before = record { before = record { before = record { before = record { before = record {
-            before = record { before = record { before = c .before; if1 = c .if1 }; send-packets-arg = record { given = g }; }; send-packets-arg2 =
-            record { given = g' }; }; send-packets-arg3 = record { given = g'' }; }; send-packets-arg4 = record { given = g'3 }; }; send-packets-arg5
-            = record { given = g'4 }; }; send-packets-arg6 = record { given = g'5 }; }; send-packets-arg7 = record { given = g'6 }; }; send-packets =
-            Called.called ps·3 r·3 (claims· .7) T73 (record { pos = 25; ty = Syntax.tyRef Syntax.erased Syntax.mut RelayPending.to; ref = λ x. x; },
-            (record { pos = 27; ty = Syntax.tyRef Syntax.erased Syntax.mut RelayCircuit.to; ref = λ x. x; }, (record { pos = 29; ty = Syntax.tyRef
-            Syntax.erased Syntax.mut ReservationUsage.to; ref = λ x. x; }, (record { pos = 31; ty = Syntax.tyRef Syntax.erased Syntax.mut
-            InflightAction.to; ref = λ x. x; }, (record { pos = 33; ty = Syntax.tyRef Syntax.erased Syntax.mut (Syntax.tyInt Syntax.w32); ref = λ x.
-            x; }, (record { pos = 8; st = List.[]; d = 0; at = λ x. x }, (record { pos = 35; ty = Syntax.tyRef Syntax.erased Syntax.imm (Syntax.tyInt
-            Syntax.w8); ref = λ x. x; }, (record { pos = 37; ty = Syntax.tyRef Syntax.erased Syntax.imm (Syntax.tyInt Syntax.w8); ref = λ x. x; },
-            (record { pos = 7; st = List.[]; d = 0; at = λ x. x }, tt,),),),),),),),),) (m51 record { before = record { before = record { before =
-            record { before = record { before = record { before = record { before = c .before; if1 = c .if1 }; send-packets-arg = record { given = g
-            }; }; send-packets-arg2 = record { given = g' }; }; send-packets-arg3 = record { given = g'' }; }; send-packets-arg4 = record { given =
-            g'3 }; }; send-packets-arg5 = record { given = g'4 }; }; send-packets-arg6 = record { given = g'5 }; } g'6) g'7; },),),),),),),),)
-        lay6 : (c : Else1) → at10 (W1 (c .before .before) (c .before .struct-known .given)) (m28 (c .before .before) (c .before .struct-known .given))
+      Need-returns-2 = (c : After-slice-known3) → Post· (c .before .before .before .before .before .before .before
+          .before .before .before .before .before .before .before .before .before .before .before .before .before
+          .before .before .before .before .before .before .before .before .before .before .before .before .κs) (dens (c
+          .before .before .before .before .before .before .before .before .before .before .before .before .before
+          .before .before .before .before .before .before .before .before .before .before .before .before .before
+          .before .before .before .before .before .before .κs) (c .before .before .before .before .before .before
+          .before .before .before .before .before .before .before .before .before .before .before .before .before
+          .before .before .before .before .before .before .before .before .before .before .before .before .before
+          .args)) (Function.resV r (c .before .before .before .before .before .before .before .before .before .before
+          .before .before .before .before .before .before .before .before .before .before .before .before .before
+          .before .before .before .before .before .before .before .before .before .κs)
+          (m64 (c .before) (c .slice-known3 .given) .0)) (Clauses.atExit (Kinds.endedOf 6 ps r) (c .before .before
+          .before .before .before .before .before .before .before .before .before .before .before .before .before
+          .before .before .before .before .before .before .before .before .before .before .before .before .before
+          .before .before .before .before .κs) (dens (c .before .before .before .before .before .before .before .before
+          .before .before .before .before .before .before .before .before .before .before .before .before .before
+          .before .before .before .before .before .before .before .before .before .before .before .κs) (c .before
+          .before .before .before .before .before .before .before .before .before .before .before .before .before
+          .before .before .before .before .before .before .before .before .before .before .before .before .before
+          .before .before .before .before .before .args)) (Enter.lastsP (c .before .before .before .before .before
+          .before .before .before .before .before .before .before .before .before .before .before .before .before
+          .before .before .before .before .before .before .before .before .before .before .before .before .before
+          .before .κs) 1 ps xs (dens (c .before .before .before .before .before .before .before .before .before .before
+          .before .before .before .before .before .before .before .before .before .before .before .before .before
+          .before .before .before .before .before .before .before .before .before .κs) (c .before .before .before
+          .before .before .before .before .before .before .before .before .before .before .before .before .before
+          .before .before .before .before .before .before .before .before .before .before .before .before .before
+          .before .before .before .args)) (m64 (c .before) (c .slice-known3 .given) .1)))
+
+      module _ (prepare-requires : Need-prepare-requires) (min-usize-requires : Need-min-usize-requires)
+          (min-usize-requires-2 : Need-min-usize-requires-2) (answer-number-requires : Need-answer-number-requires)
+          (same-length : Need-same-length) (same-length-2 : Need-same-length-2) (same-length-3 : Need-same-length-3)
+          (same-length-4 : Need-same-length-4) (same-length-5 : Need-same-length-5) (returns : Need-returns) (slice-aggregate-send-packets
+          : Need-slice-aggregate-send-packets) (slice-aggregate-send-packets-2 : Need-slice-aggregate-send-packets-2)
+          (send-packets-requires : Need-send-packets-requires) (same-length-6 : Need-same-length-6)
+          (same-length-7 : Need-same-length-7) (same-length-8 : Need-same-length-8)
+          (same-length-9 : Need-same-length-9) (same-length-10 : Need-same-length-10) (returns-2 : Need-returns-2) where
+        lay8 : (c : After-send-packets) → at34 (W0 (c .before .before .before .before .before .before .before .before
+            .before .before .before .before .before .before .before .before .before .before .before .before .before
+            .before .before .before .before .before .κs) (c .before .before .before .before .before .before .before
+            .before .before .before .before .before .before .before .before .before .before .before .before .before
+            .before .before .before .before .before .before .args)) (m52 (c .before) (After-send-packets·gave c))
+        lay8 = λ c. (
+          Path.refl,
+          λ g. (
+            Path.refl,
+            λ g'. (
+              Path.refl,
+              λ g''. (
+                Path.refl,
+                λ g'3. (
+                  Path.refl,
+                  λ g'4. λ g'5. (
+                    (
+                      MutSlice.fix-len (Row.get 1 (T95 .locals) (m64
+                          record {
+                            before = record {
+                              before = record {
+                                before = record {
+                                  before = record {
+                                    before = record { before = c .before; send-packets = c .send-packets };
+                                    pending2 = record { given = g };
+                                  };
+                                  circuits2 = record { given = g' };
+                                };
+                                ledger2 = record { given = g'' };
+                              };
+                              inflight2 = record { given = g'3 };
+                            };
+                            out2 = record { given = g'4 };
+                          } g'5) .ptr) (Row.get 1 (T95 .locals) (m64
+                          record {
+                            before = record {
+                              before = record {
+                                before = record {
+                                  before = record {
+                                    before = record { before = c .before; send-packets = c .send-packets };
+                                    pending2 = record { given = g };
+                                  };
+                                  circuits2 = record { given = g' };
+                                };
+                                ledger2 = record { given = g'' };
+                              };
+                              inflight2 = record { given = g'3 };
+                            };
+                            out2 = record { given = g'4 };
+                          } g'5) .name) (Row.get 1 (T95 .locals) (m64
+                          record {
+                            before = record {
+                              before = record {
+                                before = record {
+                                  before = record {
+                                    before = record { before = c .before; send-packets = c .send-packets };
+                                    pending2 = record { given = g };
+                                  };
+                                  circuits2 = record { given = g' };
+                                };
+                                ledger2 = record { given = g'' };
+                              };
+                              inflight2 = record { given = g'3 };
+                            };
+                            out2 = record { given = g'4 };
+                          } g'5) .now) (dens (c .before .before .before .before .before .before .before .before .before
+                          .before .before .before .before .before .before .before .before .before .before .before
+                          .before .before .before .before .before .before .κs) (c .before .before .before .before
+                          .before .before .before .before .before .before .before .before .before .before .before
+                          .before .before .before .before .before .before .before .before .before .before .before .args)
+                          .0 .now) (same-length-6 record {
+                            before = record {
+                              before = record {
+                                before = record {
+                                  before = record {
+                                    before = record {
+                                      before = record { before = c .before; send-packets = c .send-packets };
+                                      pending2 = record { given = g };
+                                    };
+                                    circuits2 = record { given = g' };
+                                  };
+                                  ledger2 = record { given = g'' };
+                                };
+                                inflight2 = record { given = g'3 };
+                              };
+                              out2 = record { given = g'4 };
+                            };
+                            slice-known3 = record { given = g'5 };
+                          }),
+                      (
+                        MutSlice.fix-len (Row.get 2 (T95 .locals) (m64
+                            record {
+                              before = record {
+                                before = record {
+                                  before = record {
+                                    before = record {
+                                      before = record { before = c .before; send-packets = c .send-packets };
+                                      pending2 = record { given = g };
+                                    };
+                                    circuits2 = record { given = g' };
+                                  };
+                                  ledger2 = record { given = g'' };
+                                };
+                                inflight2 = record { given = g'3 };
+                              };
+                              out2 = record { given = g'4 };
+                            } g'5) .ptr) (Row.get 2 (T95 .locals) (m64
+                            record {
+                              before = record {
+                                before = record {
+                                  before = record {
+                                    before = record {
+                                      before = record { before = c .before; send-packets = c .send-packets };
+                                      pending2 = record { given = g };
+                                    };
+                                    circuits2 = record { given = g' };
+                                  };
+                                  ledger2 = record { given = g'' };
+                                };
+                                inflight2 = record { given = g'3 };
+                              };
+                              out2 = record { given = g'4 };
+                            } g'5) .name) (Row.get 2 (T95 .locals) (m64
+                            record {
+                              before = record {
+                                before = record {
+                                  before = record {
+                                    before = record {
+                                      before = record { before = c .before; send-packets = c .send-packets };
+                                      pending2 = record { given = g };
+                                    };
+                                    circuits2 = record { given = g' };
+                                  };
+                                  ledger2 = record { given = g'' };
+                                };
+                                inflight2 = record { given = g'3 };
+                              };
+                              out2 = record { given = g'4 };
+                            } g'5) .now) (dens (c .before .before .before .before .before .before .before .before
+                            .before .before .before .before .before .before .before .before .before .before .before
+                            .before .before .before .before .before .before .before .κs) (c .before .before .before
+                            .before .before .before .before .before .before .before .before .before .before .before
+                            .before .before .before .before .before .before .before .before .before .before .before
+                            .before .args) .1 .0 .now) (same-length-7
+                            record {
+                              before = record {
+                                before = record {
+                                  before = record {
+                                    before = record {
+                                      before = record {
+                                        before = record { before = c .before; send-packets = c .send-packets };
+                                        pending2 = record { given = g };
+                                      };
+                                      circuits2 = record { given = g' };
+                                    };
+                                    ledger2 = record { given = g'' };
+                                  };
+                                  inflight2 = record { given = g'3 };
+                                };
+                                out2 = record { given = g'4 };
+                              };
+                              slice-known3 = record { given = g'5 };
+                            }),
+                        (
+                          MutSlice.fix-len (Row.get 3 (T95 .locals) (m64
+                              record {
+                                before = record {
+                                  before = record {
+                                    before = record {
+                                      before = record {
+                                        before = record { before = c .before; send-packets = c .send-packets };
+                                        pending2 = record { given = g };
+                                      };
+                                      circuits2 = record { given = g' };
+                                    };
+                                    ledger2 = record { given = g'' };
+                                  };
+                                  inflight2 = record { given = g'3 };
+                                };
+                                out2 = record { given = g'4 };
+                              } g'5) .ptr) (Row.get 3 (T95 .locals) (m64
+                              record {
+                                before = record {
+                                  before = record {
+                                    before = record {
+                                      before = record {
+                                        before = record { before = c .before; send-packets = c .send-packets };
+                                        pending2 = record { given = g };
+                                      };
+                                      circuits2 = record { given = g' };
+                                    };
+                                    ledger2 = record { given = g'' };
+                                  };
+                                  inflight2 = record { given = g'3 };
+                                };
+                                out2 = record { given = g'4 };
+                              } g'5) .name) (Row.get 3 (T95 .locals) (m64
+                              record {
+                                before = record {
+                                  before = record {
+                                    before = record {
+                                      before = record {
+                                        before = record { before = c .before; send-packets = c .send-packets };
+                                        pending2 = record { given = g };
+                                      };
+                                      circuits2 = record { given = g' };
+                                    };
+                                    ledger2 = record { given = g'' };
+                                  };
+                                  inflight2 = record { given = g'3 };
+                                };
+                                out2 = record { given = g'4 };
+                              } g'5) .now) (dens (c .before .before .before .before .before .before .before .before
+                              .before .before .before .before .before .before .before .before .before .before .before
+                              .before .before .before .before .before .before .before .κs) (c .before .before .before
+                              .before .before .before .before .before .before .before .before .before .before .before
+                              .before .before .before .before .before .before .before .before .before .before .before
+                              .before .args) .1 .1 .0 .now) (same-length-8
+                              record {
+                                before = record {
+                                  before = record {
+                                    before = record {
+                                      before = record {
+                                        before = record {
+                                          before = record { before = c .before; send-packets = c .send-packets };
+                                          pending2 = record { given = g };
+                                        };
+                                        circuits2 = record { given = g' };
+                                      };
+                                      ledger2 = record { given = g'' };
+                                    };
+                                    inflight2 = record { given = g'3 };
+                                  };
+                                  out2 = record { given = g'4 };
+                                };
+                                slice-known3 = record { given = g'5 };
+                              }),
+                          (
+                            MutSlice.fix-len (Row.get 4 (T95 .locals) (m64
+                                record {
+                                  before = record {
+                                    before = record {
+                                      before = record {
+                                        before = record {
+                                          before = record { before = c .before; send-packets = c .send-packets };
+                                          pending2 = record { given = g };
+                                        };
+                                        circuits2 = record { given = g' };
+                                      };
+                                      ledger2 = record { given = g'' };
+                                    };
+                                    inflight2 = record { given = g'3 };
+                                  };
+                                  out2 = record { given = g'4 };
+                                } g'5) .ptr) (Row.get 4 (T95 .locals) (m64
+                                record {
+                                  before = record {
+                                    before = record {
+                                      before = record {
+                                        before = record {
+                                          before = record { before = c .before; send-packets = c .send-packets };
+                                          pending2 = record { given = g };
+                                        };
+                                        circuits2 = record { given = g' };
+                                      };
+                                      ledger2 = record { given = g'' };
+                                    };
+                                    inflight2 = record { given = g'3 };
+                                  };
+                                  out2 = record { given = g'4 };
+                                } g'5) .name) (Row.get 4 (T95 .locals) (m64
+                                record {
+                                  before = record {
+                                    before = record {
+                                      before = record {
+                                        before = record {
+                                          before = record { before = c .before; send-packets = c .send-packets };
+                                          pending2 = record { given = g };
+                                        };
+                                        circuits2 = record { given = g' };
+                                      };
+                                      ledger2 = record { given = g'' };
+                                    };
+                                    inflight2 = record { given = g'3 };
+                                  };
+                                  out2 = record { given = g'4 };
+                                } g'5) .now) (dens (c .before .before .before .before .before .before .before .before
+                                .before .before .before .before .before .before .before .before .before .before .before
+                                .before .before .before .before .before .before .before .κs) (c .before .before .before
+                                .before .before .before .before .before .before .before .before .before .before .before
+                                .before .before .before .before .before .before .before .before .before .before .before
+                                .before .args) .1 .1 .1 .0 .now) (same-length-9
+                                record {
+                                  before = record {
+                                    before = record {
+                                      before = record {
+                                        before = record {
+                                          before = record {
+                                            before = record { before = c .before; send-packets = c .send-packets };
+                                            pending2 = record { given = g };
+                                          };
+                                          circuits2 = record { given = g' };
+                                        };
+                                        ledger2 = record { given = g'' };
+                                      };
+                                      inflight2 = record { given = g'3 };
+                                    };
+                                    out2 = record { given = g'4 };
+                                  };
+                                  slice-known3 = record { given = g'5 };
+                                }),
+                            (
+                              MutSlice.fix-len (Row.get 5 (T95 .locals) (m64
+                                  record {
+                                    before = record {
+                                      before = record {
+                                        before = record {
+                                          before = record {
+                                            before = record { before = c .before; send-packets = c .send-packets };
+                                            pending2 = record { given = g };
+                                          };
+                                          circuits2 = record { given = g' };
+                                        };
+                                        ledger2 = record { given = g'' };
+                                      };
+                                      inflight2 = record { given = g'3 };
+                                    };
+                                    out2 = record { given = g'4 };
+                                  } g'5) .ptr) (Row.get 5 (T95 .locals) (m64
+                                  record {
+                                    before = record {
+                                      before = record {
+                                        before = record {
+                                          before = record {
+                                            before = record { before = c .before; send-packets = c .send-packets };
+                                            pending2 = record { given = g };
+                                          };
+                                          circuits2 = record { given = g' };
+                                        };
+                                        ledger2 = record { given = g'' };
+                                      };
+                                      inflight2 = record { given = g'3 };
+                                    };
+                                    out2 = record { given = g'4 };
+                                  } g'5) .name) (Row.get 5 (T95 .locals) (m64
+                                  record {
+                                    before = record {
+                                      before = record {
+                                        before = record {
+                                          before = record {
+                                            before = record { before = c .before; send-packets = c .send-packets };
+                                            pending2 = record { given = g };
+                                          };
+                                          circuits2 = record { given = g' };
+                                        };
+                                        ledger2 = record { given = g'' };
+                                      };
+                                      inflight2 = record { given = g'3 };
+                                    };
+                                    out2 = record { given = g'4 };
+                                  } g'5) .now) (dens (c .before .before .before .before .before .before .before .before
+                                  .before .before .before .before .before .before .before .before .before .before
+                                  .before .before .before .before .before .before .before .before .κs) (c .before
+                                  .before .before .before .before .before .before .before .before .before .before
+                                  .before .before .before .before .before .before .before .before .before .before
+                                  .before .before .before .before .before .args) .1 .1 .1 .1 .0 .now) (same-length-10
+                                  record {
+                                    before = record {
+                                      before = record {
+                                        before = record {
+                                          before = record {
+                                            before = record {
+                                              before = record { before = c .before; send-packets = c .send-packets };
+                                              pending2 = record { given = g };
+                                            };
+                                            circuits2 = record { given = g' };
+                                          };
+                                          ledger2 = record { given = g'' };
+                                        };
+                                        inflight2 = record { given = g'3 };
+                                      };
+                                      out2 = record { given = g'4 };
+                                    };
+                                    slice-known3 = record { given = g'5 };
+                                  }),
+                              (Path.refl, (tt, tt)),
+                            ),
+                          ),
+                        ),
+                      ),
+                    ),
+                    returns-2 record {
+                      before = record {
+                        before = record {
+                          before = record {
+                            before = record {
+                              before = record {
+                                before = record { before = c .before; send-packets = c .send-packets };
+                                pending2 = record { given = g };
+                              };
+                              circuits2 = record { given = g' };
+                            };
+                            ledger2 = record { given = g'' };
+                          };
+                          inflight2 = record { given = g'3 };
+                        };
+                        out2 = record { given = g'4 };
+                      };
+                      slice-known3 = record { given = g'5 };
+                    },
+                  ),
+                ),
+              ),
+            ),
+          ),
+        )
+
+        lay7 : (c : Else1) → at54 (W0 (c .before .before .before .before .before .before .before .before .before
+            .before .before .before .before .before .before .before .before .before .κs) (c .before .before .before
+            .before .before .before .before .before .before .before .before .before .before .before .before .before
+            .before .before .args)) (m37 (c .before))
+        lay7 = λ c. λ g. (
+          Path.refl,
+          λ g'. (
+            Path.refl,
+            λ g''. (
+              Path.refl,
+              λ g'3. (
+                Path.refl,
+                λ g'4. (
+                  Path.refl,
+                  λ g'5. (
+                    Relend.count-is T70 34 35 (λ x. x) (λ u. u .1 .1 .1 .1 .1 .1 .1 .1 .1 .1 .0) (m48
+                        record {
+                          before = record {
+                            before = record {
+                              before = record {
+                                before = record {
+                                  before = record { before = c .before; if1 = c .if1 };
+                                  send-packets-arg = record { given = g };
+                                };
+                                send-packets-arg2 = record { given = g' };
+                              };
+                              send-packets-arg3 = record { given = g'' };
+                            };
+                            send-packets-arg4 = record { given = g'3 };
+                          };
+                          send-packets-arg5 = record { given = g'4 };
+                        } g'5) (slice-aggregate-send-packets
+                        record {
+                          before = record {
+                            before = record {
+                              before = record {
+                                before = record {
+                                  before = record {
+                                    before = record { before = c .before; if1 = c .if1 };
+                                    send-packets-arg = record { given = g };
+                                  };
+                                  send-packets-arg2 = record { given = g' };
+                                };
+                                send-packets-arg3 = record { given = g'' };
+                              };
+                              send-packets-arg4 = record { given = g'3 };
+                            };
+                            send-packets-arg5 = record { given = g'4 };
+                          };
+                          send-packets-arg6 = record { given = g'5 };
+                        }),
+                    λ g'6. (
+                      Relend.count-is T72 36 37 (λ x. x) (λ u. u .1 .1 .1 .1 .1 .1 .1 .1 .1 .1 .1 .0) (m50
+                          record {
+                            before = record {
+                              before = record {
+                                before = record {
+                                  before = record {
+                                    before = record {
+                                      before = record { before = c .before; if1 = c .if1 };
+                                      send-packets-arg = record { given = g };
+                                    };
+                                    send-packets-arg2 = record { given = g' };
+                                  };
+                                  send-packets-arg3 = record { given = g'' };
+                                };
+                                send-packets-arg4 = record { given = g'3 };
+                              };
+                              send-packets-arg5 = record { given = g'4 };
+                            };
+                            send-packets-arg6 = record { given = g'5 };
+                          } g'6) (slice-aggregate-send-packets-2
+                          record {
+                            before = record {
+                              before = record {
+                                before = record {
+                                  before = record {
+                                    before = record {
+                                      before = record {
+                                        before = record { before = c .before; if1 = c .if1 };
+                                        send-packets-arg = record { given = g };
+                                      };
+                                      send-packets-arg2 = record { given = g' };
+                                    };
+                                    send-packets-arg3 = record { given = g'' };
+                                  };
+                                  send-packets-arg4 = record { given = g'3 };
+                                };
+                                send-packets-arg5 = record { given = g'4 };
+                              };
+                              send-packets-arg6 = record { given = g'5 };
+                            };
+                            send-packets-arg7 = record { given = g'6 };
+                          }),
+                      (
+                        send-packets-requires record {
+                          before = record {
+                            before = record {
+                              before = record {
+                                before = record {
+                                  before = record {
+                                    before = record {
+                                      before = record { before = c .before; if1 = c .if1 };
+                                      send-packets-arg = record { given = g };
+                                    };
+                                    send-packets-arg2 = record { given = g' };
+                                  };
+                                  send-packets-arg3 = record { given = g'' };
+                                };
+                                send-packets-arg4 = record { given = g'3 };
+                              };
+                              send-packets-arg5 = record { given = g'4 };
+                            };
+                            send-packets-arg6 = record { given = g'5 };
+                          };
+                          send-packets-arg7 = record { given = g'6 };
+                        },
+                        λ g'7. lay8 record {
+                          before = record {
+                            before = record {
+                              before = record {
+                                before = record {
+                                  before = record {
+                                    before = record {
+                                      before = record {
+                                        before = record { before = c .before; if1 = c .if1 };
+                                        send-packets-arg = record { given = g };
+                                      };
+                                      send-packets-arg2 = record { given = g' };
+                                    };
+                                    send-packets-arg3 = record { given = g'' };
+                                  };
+                                  send-packets-arg4 = record { given = g'3 };
+                                };
+                                send-packets-arg5 = record { given = g'4 };
+                              };
+                              send-packets-arg6 = record { given = g'5 };
+                            };
+                            send-packets-arg7 = record { given = g'6 };
+                          };
+                          send-packets = Called.called ps·3 r·3 (claims· .7) T73 args71 (m51
+                              record {
+                                before = record {
+                                  before = record {
+                                    before = record {
+                                      before = record {
+                                        before = record {
+                                          before = record { before = c .before; if1 = c .if1 };
+                                          send-packets-arg = record { given = g };
+                                        };
+                                        send-packets-arg2 = record { given = g' };
+                                      };
+                                      send-packets-arg3 = record { given = g'' };
+                                    };
+                                    send-packets-arg4 = record { given = g'3 };
+                                  };
+                                  send-packets-arg5 = record { given = g'4 };
+                                };
+                                send-packets-arg6 = record { given = g'5 };
+                              } g'6) g'7;
+                        },
+                      ),
+                    ),
+                  ),
+                ),
+              ),
+            ),
+          ),
+        )
+
+        lay6 : (c : Else1) → at10 (W1 (c .before .before) (c .before .struct-known .given))
+            (m28 (c .before .before) (c .before .struct-known .given))
         lay6 = λ c. lay7 record { before = c .before; if1 = c .if1 }
-        lay5 : (c : After-answer-number) → at3 (W1 (c .before .before .before) (c .before .before .struct-known .given)) (m32 (c .before)
-            (After-answer-number·gave c))
-        lay5 = λ c. ((MutSlice.fix-len (Row.get 1 (T52 .locals) (m35 (c .before) (After-answer-number·gave c)) .ptr) (Row.get 1 (T52 .locals) (m35 (c
-            .before) (After-answer-number·gave c)) .name) (Row.get 1 (T52 .locals) (m35 (c .before) (After-answer-number·gave c)) .now) (dens (c
-            .before .before .before .before .before .before .before .before .before .before .before .before .before .before .before .before .before
-            .before .before .κs) (c .before .before .before .before .before .before .before .before .before .before .before .before .before .before
-            .before .before .before .before .before .args) .0 .now) (same-length record { before = c .before; answer-number = c .answer-number }),
-            (MutSlice.fix-len (Row.get 2 (T52 .locals) (m35 (c .before) (After-answer-number·gave c)) .ptr) (Row.get 2 (T52 .locals) (m35 (c .before)
-            (After-answer-number·gave c)) .name) (Row.get 2 (T52 .locals) (m35 (c .before) (After-answer-number·gave c)) .now) (dens (c .before
-            .before .before .before .before .before .before .before .before .before .before .before .before .before .before .before .before .before
-            .before .κs) (c .before .before .before .before .before .before .before .before .before .before .before .before .before .before .before
-            .before .before .before .before .args) .1 .0 .now) (same-length-2 record { before = c .before; answer-number = c .answer-number }),
-            (MutSlice.fix-len (Row.get 3 (T52 .locals) (m35 (c .before) (After-answer-number·gave c)) .ptr) (Row.get 3 (T52 .locals) (m35 (c .before)
-            (After-answer-number·gave c)) .name) (Row.get 3 (T52 .locals) (m35 (c .before) (After-answer-number·gave c)) .now) (dens (c .before
-            .before .before .before .before .before .before .before .before .before .before .before .before .before .before .before .before .before
-            .before .κs) (c .before .before .before .before .before .before .before .before .before .before .before .before .before .before .before
-            .before .before .before .before .args) .1 .1 .0 .now) (same-length-3 record { before = c .before; answer-number = c .answer-number }),
-            (MutSlice.fix-len (Row.get 4 (T52 .locals) (m35 (c .before) (After-answer-number·gave c)) .ptr) (Row.get 4 (T52 .locals) (m35 (c .before)
-            (After-answer-number·gave c)) .name) (Row.get 4 (T52 .locals) (m35 (c .before) (After-answer-number·gave c)) .now) (dens (c .before
-            .before .before .before .before .before .before .before .before .before .before .before .before .before .before .before .before .before
-            .before .κs) (c .before .before .before .before .before .before .before .before .before .before .before .before .before .before .before
-            .before .before .before .before .args) .1 .1 .1 .0 .now) (same-length-4 record { before = c .before; answer-number = c .answer-number }),
-            (MutSlice.fix-len (Row.get 5 (T52 .locals) (m35 (c .before) (After-answer-number·gave c)) .ptr) (Row.get 5 (T52 .locals) (m35 (c .before)
-            (After-answer-number·gave c)) .name) (Row.get 5 (T52 .locals) (m35 (c .before) (After-answer-number·gave c)) .now) (dens (c .before
-            .before .before .before .before .before .before .before .before .before .before .before .before .before .before .before .before .before
-            .before .κs) (c .before .before .before .before .before .before .before .before .before .before .before .before .before .before .before
-            .before .before .before .before .args) .1 .1 .1 .1 .0 .now) (same-length-5 record { before = c .before; answer-number = c .answer-number
-            }), (Path.refl, (tt, tt)),),),),),), returns record { before = c .before; answer-number = c .answer-number },)
-        lay4 : (c : Then1) → at7 (W1 (c .before .before) (c .before .struct-known .given)) (m28 (c .before .before) (c .before .struct-known .given))
-        lay4 = λ c. (answer-number-requires record { before = c .before; if1 = c .if1 }, λ g. lay5 record { before = record { before = c .before; if1
-            = c .if1 }; answer-number = Called.called ps·2 r·2 (claims· .5) T48 (record { pos = 9; st = List.[]; d = 0; at = λ x. x }, tt,) (m31 (c
-            .before)) g; },)
-        lay3 : (c : After-min-usize2) → at58 (W0 (c .before .before .before .before .before .before .before .before .before .before .before .before
-            .before .before .before .before .κs) (c .before .before .before .before .before .before .before .before .before .before .before .before
-            .before .before .before .before .args)) (m25 (c .before) (After-min-usize2·gave c))
-        lay3 = λ c. λ g. (tt, (λ taken. lay4 record { before = record { before = record { before = c .before; min-usize2 = c .min-usize2 };
-            struct-known = record { given = g }; }; if1 = record { taken = Tests.eqb-true (Script.struct .as-values (Row.get 7 (T43 .locals) (m27
-            record { before = c .before; min-usize2 = c .min-usize2; } g)) .1 .1 .0) 0 taken; }; }, λ left. lay6 record { before = record { before =
-            record { before = c .before; min-usize2 = c .min-usize2 }; struct-known = record { given = g }; }; if1 = record { left = Tests.eqb-false
-            (Script.struct .as-values (Row.get 7 (T43 .locals) (m27 record { before = c .before; min-usize2 = c .min-usize2; } g)) .1 .1 .0) 0 left;
-            }; },),)
-        lay2 : (c : After-min-usize) → at61 (W0 (c .before .before .before .before .before .before .before .before .before .before .before .before
-            .before .before .before .κs) (c .before .before .before .before .before .before .before .before .before .before .before .before .before
-            .before .before .args)) (m22 (c .before) (After-min-usize·gave c))
-        lay2 = λ c. (min-usize-requires-2 record { before = c .before; min-usize = c .min-usize }, λ g. lay3 record { before = record { before = c
-            .before; min-usize = c .min-usize }; min-usize2 = Called.called ps·1 r·1 (claims· .3) T40 (Num.vFld 7 ((Syntax.field 8) ∷ List.[]) 48 λ x.
-            Script.struct .as-values x .1 .1 .1 .1 .1 .1 .1 .1 .0, (Num.vAt 22 λ x. x, tt),) (m24 (c .before) (After-min-usize·gave c)) g; },)
-        lay1 : (c : After-prepare) → at80 (W0 (c .before .before .before .before .before .before .before .before .κs) (c .before .before .before
-            .before .before .before .before .before .args)) (m13 (c .before) (After-prepare·gave c))
-        lay1 = λ c. (Path.refl, λ g. (Path.refl, λ g'. (Path.refl, λ g''. (Path.refl, λ g'3. (Path.refl, λ g'4. λ g'5. (min-usize-requires record {
-            before = record { before = record { before = record { before = record { before = record { before = record { before = c .before; prepare =
-            c .prepare }; pending = record { given = g }; }; circuits = record { given = g' }; }; ledger = record { given = g'' }; }; inflight =
-            record { given = g'3 }; }; out = record { given = g'4 }; }; slice-known2 = record { given = g'5 }; }, λ g'6. lay2 record { before = record
-            { before = record { before = record { before = record { before = record { before = record { before = record { before = c .before; prepare
-            = c .prepare }; pending = record { given = g }; }; circuits = record { given = g' }; }; ledger = record { given = g'' }; }; inflight =
-            record { given = g'3 }; }; out = record { given = g'4 }; }; slice-known2 = record { given = g'5 }; }; min-usize = Called.called ps·1 r·1
-            (claims· .3) T37 (Num.vFld 7 ((Syntax.field 6) ∷ List.[]) 32 λ x. Script.struct .as-values x .1 .1 .1 .1 .1 .1 .0, (Num.vAt 22 λ x. x,
-            tt),) (m21 record { before = record { before = record { before = record { before = record { before = record { before = c .before; prepare
-            = c .prepare }; pending = record { given = g }; }; circuits = record { given = g' }; }; ledger = record { given = g'' }; }; inflight =
-            record { given = g'3 }; }; out = record { given = g'4 }; } g'5) g'6; },),),),),),)
+
+        lay5 : (c : After-answer-number) → at3 (W1 (c .before .before .before) (c .before .before .struct-known .given))
+            (m32 (c .before) (After-answer-number·gave c))
+        lay5 = λ c. (
+          (
+            MutSlice.fix-len (Row.get 1 (T52 .locals) (m35 (c .before) (After-answer-number·gave c)) .ptr) (Row.get 1
+                (T52 .locals) (m35 (c .before) (After-answer-number·gave c)) .name) (Row.get 1 (T52 .locals)
+                (m35 (c .before) (After-answer-number·gave c)) .now) (dens (c .before .before .before .before .before
+                .before .before .before .before .before .before .before .before .before .before .before .before .before
+                .before .κs) (c .before .before .before .before .before .before .before .before .before .before .before
+                .before .before .before .before .before .before .before .before .args) .0 .now) (same-length
+                record { before = c .before; answer-number = c .answer-number }),
+            (
+              MutSlice.fix-len (Row.get 2 (T52 .locals) (m35 (c .before) (After-answer-number·gave c)) .ptr) (Row.get 2
+                  (T52 .locals) (m35 (c .before) (After-answer-number·gave c)) .name) (Row.get 2 (T52 .locals)
+                  (m35 (c .before) (After-answer-number·gave c)) .now) (dens (c .before .before .before .before .before
+                  .before .before .before .before .before .before .before .before .before .before .before .before
+                  .before .before .κs) (c .before .before .before .before .before .before .before .before .before
+                  .before .before .before .before .before .before .before .before .before .before .args) .1 .0 .now) (same-length-2
+                  record { before = c .before; answer-number = c .answer-number }),
+              (
+                MutSlice.fix-len (Row.get 3 (T52 .locals) (m35 (c .before) (After-answer-number·gave c)) .ptr) (Row.get
+                    3 (T52 .locals) (m35 (c .before) (After-answer-number·gave c)) .name) (Row.get 3 (T52 .locals)
+                    (m35 (c .before) (After-answer-number·gave c)) .now) (dens (c .before .before .before .before
+                    .before .before .before .before .before .before .before .before .before .before .before .before
+                    .before .before .before .κs) (c .before .before .before .before .before .before .before .before
+                    .before .before .before .before .before .before .before .before .before .before .before .args) .1
+                    .1 .0 .now) (same-length-3 record { before = c .before; answer-number = c .answer-number }),
+                (
+                  MutSlice.fix-len (Row.get 4 (T52 .locals) (m35 (c .before) (After-answer-number·gave c)) .ptr) (Row.get
+                      4 (T52 .locals) (m35 (c .before) (After-answer-number·gave c)) .name) (Row.get 4 (T52 .locals)
+                      (m35 (c .before) (After-answer-number·gave c)) .now) (dens (c .before .before .before .before
+                      .before .before .before .before .before .before .before .before .before .before .before .before
+                      .before .before .before .κs) (c .before .before .before .before .before .before .before .before
+                      .before .before .before .before .before .before .before .before .before .before .before .args) .1
+                      .1 .1 .0 .now) (same-length-4 record { before = c .before; answer-number = c .answer-number }),
+                  (
+                    MutSlice.fix-len (Row.get 5 (T52 .locals) (m35 (c .before) (After-answer-number·gave c)) .ptr) (Row.get
+                        5 (T52 .locals) (m35 (c .before) (After-answer-number·gave c)) .name) (Row.get 5 (T52 .locals)
+                        (m35 (c .before) (After-answer-number·gave c)) .now) (dens (c .before .before .before .before
+                        .before .before .before .before .before .before .before .before .before .before .before .before
+                        .before .before .before .κs) (c .before .before .before .before .before .before .before .before
+                        .before .before .before .before .before .before .before .before .before .before .before .args)
+                        .1 .1 .1 .1 .0 .now) (same-length-5
+                        record { before = c .before; answer-number = c .answer-number }),
+                    (Path.refl, (tt, tt)),
+                  ),
+                ),
+              ),
+            ),
+          ),
+          returns record { before = c .before; answer-number = c .answer-number },
+        )
+
+        lay4 : (c : Then1) → at7 (W1 (c .before .before) (c .before .struct-known .given))
+            (m28 (c .before .before) (c .before .struct-known .given))
+        lay4 = λ c. (
+          answer-number-requires record { before = c .before; if1 = c .if1 },
+          λ g. lay5 record {
+            before = record { before = c .before; if1 = c .if1 };
+            answer-number = Called.called ps·2 r·2 (claims· .5) T48 args46 (m31 (c .before)) g;
+          },
+        )
+
+        lay3 : (c : After-min-usize2) → at58 (W0 (c .before .before .before .before .before .before .before .before
+            .before .before .before .before .before .before .before .before .κs) (c .before .before .before .before
+            .before .before .before .before .before .before .before .before .before .before .before .before .args))
+            (m25 (c .before) (After-min-usize2·gave c))
+        lay3 = λ c. λ g. (
+          tt,
+          (
+            λ taken. lay4 record {
+              before = record {
+                before = record { before = c .before; min-usize2 = c .min-usize2 };
+                struct-known = record { given = g };
+              };
+              if1 = record {
+                taken = Tests.eqb-true (Script.struct .as-values (Row.get 7 (T43 .locals) (m27
+                    record { before = c .before; min-usize2 = c .min-usize2 } g)) .1 .1 .0) 0 taken;
+              };
+            },
+            λ left. lay6 record {
+              before = record {
+                before = record { before = c .before; min-usize2 = c .min-usize2 };
+                struct-known = record { given = g };
+              };
+              if1 = record {
+                left = Tests.eqb-false (Script.struct .as-values (Row.get 7 (T43 .locals) (m27
+                    record { before = c .before; min-usize2 = c .min-usize2 } g)) .1 .1 .0) 0 left;
+              };
+            },
+          ),
+        )
+
+        lay2 : (c : After-min-usize) → at61 (W0 (c .before .before .before .before .before .before .before .before
+            .before .before .before .before .before .before .before .κs) (c .before .before .before .before .before
+            .before .before .before .before .before .before .before .before .before .before .args))
+            (m22 (c .before) (After-min-usize·gave c))
+        lay2 = λ c. (
+          min-usize-requires-2 record { before = c .before; min-usize = c .min-usize },
+          λ g. lay3 record {
+            before = record { before = c .before; min-usize = c .min-usize };
+            min-usize2 = Called.called ps·1 r·1 (claims· .3) T40 args39 (m24 (c .before) (After-min-usize·gave c)) g;
+          },
+        )
+
+        lay1 : (c : After-prepare) → at80 (W0 (c .before .before .before .before .before .before .before .before .κs) (c
+            .before .before .before .before .before .before .before .before .args))
+            (m13 (c .before) (After-prepare·gave c))
+        lay1 = λ c. (
+          Path.refl,
+          λ g. (
+            Path.refl,
+            λ g'. (
+              Path.refl,
+              λ g''. (
+                Path.refl,
+                λ g'3. (
+                  Path.refl,
+                  λ g'4. λ g'5. (
+                    min-usize-requires record {
+                      before = record {
+                        before = record {
+                          before = record {
+                            before = record {
+                              before = record {
+                                before = record { before = c .before; prepare = c .prepare };
+                                pending = record { given = g };
+                              };
+                              circuits = record { given = g' };
+                            };
+                            ledger = record { given = g'' };
+                          };
+                          inflight = record { given = g'3 };
+                        };
+                        out = record { given = g'4 };
+                      };
+                      slice-known2 = record { given = g'5 };
+                    },
+                    λ g'6. lay2 record {
+                      before = record {
+                        before = record {
+                          before = record {
+                            before = record {
+                              before = record {
+                                before = record {
+                                  before = record { before = c .before; prepare = c .prepare };
+                                  pending = record { given = g };
+                                };
+                                circuits = record { given = g' };
+                              };
+                              ledger = record { given = g'' };
+                            };
+                            inflight = record { given = g'3 };
+                          };
+                          out = record { given = g'4 };
+                        };
+                        slice-known2 = record { given = g'5 };
+                      };
+                      min-usize = Called.called ps·1 r·1 (claims· .3) T37 args36 (m21
+                          record {
+                            before = record {
+                              before = record {
+                                before = record {
+                                  before = record {
+                                    before = record { before = c .before; prepare = c .prepare };
+                                    pending = record { given = g };
+                                  };
+                                  circuits = record { given = g' };
+                                };
+                                ledger = record { given = g'' };
+                              };
+                              inflight = record { given = g'3 };
+                            };
+                            out = record { given = g'4 };
+                          } g'5) g'6;
+                    },
+                  ),
+                ),
+              ),
+            ),
+          ),
+        )
+
         pub laid : (c : Start) → at98 (W0 (c .κs) (c .args)) (m0 (c .κs) (c .args))
-        laid = λ c. λ g. λ g'. λ g''. (Path.refl, λ g'3. (Path.refl, λ g'4. (Path.refl, λ g'5. (Path.refl, λ g'6. (Path.refl, (prepare-requires record
-            { before = record { before = record { before = record { before = record { before = record { before = record { before = c; slice-known =
-            record { given = g }; }; shared-slice-known = record { given = g' }; }; prepare-arg = record { given = g'' }; }; prepare-arg2 = record {
-            given = g'3 }; }; prepare-arg3 = record { given = g'4 }; }; prepare-arg4 = record { given = g'5 }; }; prepare-arg5 = record { given = g'6
-            }; }, λ g'7. lay1 record { before = record { before = record { before = record { before = record { before = record { before = record {
-            before = record { before = c; slice-known = record { given = g }; }; shared-slice-known = record { given = g' }; }; prepare-arg = record {
-            given = g'' }; }; prepare-arg2 = record { given = g'3 }; }; prepare-arg3 = record { given = g'4 }; }; prepare-arg4 = record { given = g'5
-            }; }; prepare-arg5 = record { given = g'6 }; }; prepare = Called.called ps·0 r·0 (claims· .1) T18 (record { pos = 13; ty = Syntax.tyRef
-            Syntax.erased Syntax.mut RelayPending.to; ref = λ x. x; }, (record { pos = 15; ty = Syntax.tyRef Syntax.erased Syntax.mut RelayCircuit.to;
-            ref = λ x. x; }, (record { pos = 17; ty = Syntax.tyRef Syntax.erased Syntax.mut ReservationUsage.to; ref = λ x. x; }, (record { pos = 19;
-            ty = Syntax.tyRef Syntax.erased Syntax.mut InflightAction.to; ref = λ x. x; }, (record { pos = 21; ty = Syntax.tyRef Syntax.erased
-            Syntax.mut (Syntax.tyInt Syntax.w32); ref = λ x. x; }, (record { pos = 7; st = List.[]; d = 0; at = λ x. x }, tt),),),),),) (m12 record {
-            before = record { before = record { before = record { before = record { before = record { before = c; slice-known = record { given = g };
-            }; shared-slice-known = record { given = g' }; }; prepare-arg = record { given = g'' }; }; prepare-arg2 = record { given = g'3 }; };
-            prepare-arg3 = record { given = g'4 }; }; prepare-arg4 = record { given = g'5 }; } g'6) g'7; },),),),),),)
+        laid = λ c. λ g. λ g'. λ g''. (
+          Path.refl,
+          λ g'3. (
+            Path.refl,
+            λ g'4. (
+              Path.refl,
+              λ g'5. (
+                Path.refl,
+                λ g'6. (
+                  Path.refl,
+                  (
+                    prepare-requires record {
+                      before = record {
+                        before = record {
+                          before = record {
+                            before = record {
+                              before = record {
+                                before = record { before = c; slice-known = record { given = g } };
+                                shared-slice-known = record { given = g' };
+                              };
+                              prepare-arg = record { given = g'' };
+                            };
+                            prepare-arg2 = record { given = g'3 };
+                          };
+                          prepare-arg3 = record { given = g'4 };
+                        };
+                        prepare-arg4 = record { given = g'5 };
+                      };
+                      prepare-arg5 = record { given = g'6 };
+                    },
+                    λ g'7. lay1 record {
+                      before = record {
+                        before = record {
+                          before = record {
+                            before = record {
+                              before = record {
+                                before = record {
+                                  before = record { before = c; slice-known = record { given = g } };
+                                  shared-slice-known = record { given = g' };
+                                };
+                                prepare-arg = record { given = g'' };
+                              };
+                              prepare-arg2 = record { given = g'3 };
+                            };
+                            prepare-arg3 = record { given = g'4 };
+                          };
+                          prepare-arg4 = record { given = g'5 };
+                        };
+                        prepare-arg5 = record { given = g'6 };
+                      };
+                      prepare = Called.called ps·0 r·0 (claims· .1) T18 args17 (m12
+                          record {
+                            before = record {
+                              before = record {
+                                before = record {
+                                  before = record {
+                                    before = record { before = c; slice-known = record { given = g } };
+                                    shared-slice-known = record { given = g' };
+                                  };
+                                  prepare-arg = record { given = g'' };
+                                };
+                                prepare-arg2 = record { given = g'3 };
+                              };
+                              prepare-arg3 = record { given = g'4 };
+                            };
+                            prepare-arg4 = record { given = g'5 };
+                          } g'6) g'7;
+                    },
+                  ),
+                ),
+              ),
+            ),
+          ),
+        )
+
         module _ (κs : Lifetimes.Lfts 6) (qs : Lifetimes.Shares 6) where
-          pub asked : (a : Kinds.Dens κs ps) → (good : Kinds.GoodsP κs ps a) → (pre : Pre· κs a) → (bs : List.List Nat.ℕ) → Φ (Any.wantQ 6 ps r xs m
-              κs qs a (Post· κs a)) (Function.init 6 ps r xs m κs qs a)
-          asked = λ a good pre bs. laid record { κs = κs; args = record { pending = a .0; circuits = a .1 .0; ledger = a .1 .1 .0; inflight = a .1 .1
-              .1 .0; out = a .1 .1 .1 .1 .0; body = a .1 .1 .1 .1 .1 .0; script = a .1 .1 .1 .1 .1 .1 .0; }; good = good; pre = pre; }
-        module _ { M : Type 1 } (𝓤 : URA.URA M) (H : Wp.Heap 𝓤) (A : Atoms.Atoms 𝓤) (W : Kit.Given 𝓤 H A) (𝓣 : Wp.Tables 𝓤 H) (known0 : Plain.Known 𝓤
-            H A W 𝓣 5 ps·0 r·0 (claims· .0) (claims· .1) "cases::machine::prepare") (known1 : Plain.Known 𝓤 H A W 𝓣 0 ps·1 r·1 (claims· .2) (claims·
-            .3) "hns_encoding::numbers::min_usize") (known2 : Plain.Known 𝓤 H A W 𝓣 0 ps·2 r·2 (claims· .4) (claims· .5)
-            "cases::script::answer_number") (known3 : Plain.Known 𝓤 H A W 𝓣 7 ps·3 r·3 (claims· .6) (claims· .7) "cases::machine::send_packets") where
-          pub spec : Statement.Triple 𝓤 (Wp.WpFn 𝓤 H (𝓣 .C) (𝓣 .Λ) (Function.fnOf 6 ps r xs m hs body)) (Function.plainOf 𝓤 H A 6 ps r Pre· Post·)
-          spec = Plain.t-fn-plain 𝓤 H A W 𝓣 6 ps r xs m hs body (λ κs qs bs. Φ) (λ κs qs bs bd. typed κs qs 𝓤 H A W 𝓣 (known0, known1, known2, known3)
-              bs bd) Pre· Post· asked
+          pub asked : (a : Kinds.Dens κs ps) → (good : Kinds.GoodsP κs ps a) → (pre : Pre· κs a) →
+              (bs : List.List Nat.ℕ) → Φ (Any.wantQ 6 ps r xs m κs qs a (Post· κs a))
+              (Function.init 6 ps r xs m κs qs a)
+          asked = λ a good pre bs. laid record {
+            κs = κs;
+            args = record {
+              pending = a .0;
+              circuits = a .1 .0;
+              ledger = a .1 .1 .0;
+              inflight = a .1 .1 .1 .0;
+              out = a .1 .1 .1 .1 .0;
+              body = a .1 .1 .1 .1 .1 .0;
+              script = a .1 .1 .1 .1 .1 .1 .0;
+            };
+            good = good;
+            pre = pre;
+          }
+
+        module _ {M : Type 1} (𝓤 : URA.URA M) (H : Wp.Heap 𝓤) (A : Atoms.Atoms 𝓤) (W : Kit.Given 𝓤 H A)
+            (𝓣 : Wp.Tables 𝓤 H) (known0 : Plain.Known 𝓤 H A W 𝓣 5 ps·0 r·0 (claims· .0) (claims· .1)
+            "cases::machine::prepare") (known1 : Plain.Known 𝓤 H A W 𝓣 0 ps·1 r·1 (claims· .2) (claims· .3)
+            "hns_encoding::numbers::min_usize") (known2 : Plain.Known 𝓤 H A W 𝓣 0 ps·2 r·2 (claims· .4) (claims· .5)
+            "cases::script::answer_number") (known3 : Plain.Known 𝓤 H A W 𝓣 7 ps·3 r·3 (claims· .6) (claims· .7)
+            "cases::machine::send_packets") where
+          pub spec : Statement.Triple 𝓤 (Wp.WpFn 𝓤 H (𝓣 .C) (𝓣 .Λ) (Function.fnOf 6 ps r xs m hs body))
+              (Function.plainOf 𝓤 H A 6 ps r Pre· Post·)
+          spec = Plain.t-fn-plain 𝓤 H A W 𝓣 6 ps r xs m hs body (λ κs qs bs. Φ) (λ κs qs bs bd. typed κs qs 𝓤 H A W 𝓣
+              (known0, known1, known2, known3) bs bd) Pre· Post· asked

@@ -4,6 +4,7 @@ use Rattle.cases.proofs.By.InflightAction
 use Rattle.cases.proofs.By.RelayCircuit
 use Rattle.cases.proofs.By.RelayPending
 use Rattle.cases.proofs.By.ReservationUsage
+use Rattle.cases.proofs.StructRow
 use Rattle.cases.proofs.script.Script
 use Rattle.cases.proofs.script.Script.Laws
 use Rattle.hnsr_circuit.proofs.answer.HnsrAnswer
@@ -15,6 +16,7 @@ use Rattle.hnsr_circuit.proofs.runtime.Relayed.Laws as Laws'''
 use borrow.Author.Called
 use borrow.Author.Tests
 use borrow.Fn.Any
+use borrow.Fn.Args as Args'
 use borrow.Fn.Call
 use borrow.Fn.Enter
 use borrow.Fn.Frame
@@ -25,7 +27,6 @@ use borrow.Kind.Bool
 use borrow.Kind.MutSlice
 use borrow.Kind.Num
 use borrow.Kind.ShrSlice
-use borrow.Kind.Value
 use borrow.Rule.Lifetime
 use borrow.Rule.Local
 use borrow.Rule.Scalar
@@ -47,7 +48,6 @@ use borrow.Table.Typed
 use contract.Lifetimes
 use denote.Enum.Declared
 use denote.Enum.Laws as Laws''''
-use denote.Exit
 use denote.Laws as Laws'''''
 use denote.Struct.Declared as Declared'
 use denote.Struct.Laws as Laws''''''
@@ -66,2513 +66,5074 @@ use mathlib.Core.List.{_∷_}
 
 abbrev ref0 : Syntax.Ty
 ref0 = Syntax.tyRef Syntax.erased Syntax.mut RelayPending.to
+
 abbrev ref1 : Syntax.Ty
 ref1 = Syntax.tyRef Syntax.erased Syntax.mut RelayCircuit.to
+
 abbrev ref2 : Syntax.Ty
 ref2 = Syntax.tyRef Syntax.erased Syntax.mut ReservationUsage.to
+
 abbrev ref3 : Syntax.Ty
 ref3 = Syntax.tyRef Syntax.erased Syntax.mut InflightAction.to
+
 abbrev ref4 : Syntax.Ty
 ref4 = Syntax.tyRef Syntax.erased Syntax.mut (Syntax.tyInt Syntax.w32)
+
 abbrev ref5 : Syntax.Ty
 ref5 = Syntax.tyRef (Syntax.named 0) Syntax.mut RelayPending.to
+
 abbrev ref6 : Syntax.Ty
 ref6 = Syntax.tyRef (Syntax.named 1) Syntax.mut RelayCircuit.to
+
 abbrev ref7 : Syntax.Ty
 ref7 = Syntax.tyRef (Syntax.named 2) Syntax.mut ReservationUsage.to
+
 abbrev ref8 : Syntax.Ty
 ref8 = Syntax.tyRef (Syntax.named 3) Syntax.mut InflightAction.to
+
 abbrev ref9 : Syntax.Ty
 ref9 = Syntax.tyRef (Syntax.named 4) Syntax.mut (Syntax.tyInt Syntax.w32)
+
 abbrev ref10 : Syntax.Ty
 ref10 = Syntax.tyRef (Syntax.named 5) Syntax.imm (Syntax.tyInt Syntax.w8)
+
 abbrev ref11 : Syntax.Ty
 ref11 = Syntax.tyRef (Syntax.named 6) Syntax.imm (Syntax.tyInt Syntax.w8)
+
+abbrev slice0 : Syntax.Ty
+slice0 = Syntax.tyStruct (38 ∷ 91 ∷ 93 ∷ List.[]) (Syntax.tcons ref0
+    (Syntax.tcons (Syntax.tyInt Syntax.w64) Syntax.tnil))
+
+abbrev slice1 : Syntax.Ty
+slice1 = Syntax.tyStruct (38 ∷ 91 ∷ 93 ∷ List.[]) (Syntax.tcons ref1
+    (Syntax.tcons (Syntax.tyInt Syntax.w64) Syntax.tnil))
+
+abbrev slice2 : Syntax.Ty
+slice2 = Syntax.tyStruct (38 ∷ 91 ∷ 93 ∷ List.[]) (Syntax.tcons ref2
+    (Syntax.tcons (Syntax.tyInt Syntax.w64) Syntax.tnil))
+
+abbrev slice3 : Syntax.Ty
+slice3 = Syntax.tyStruct (38 ∷ 91 ∷ 93 ∷ List.[]) (Syntax.tcons ref3
+    (Syntax.tcons (Syntax.tyInt Syntax.w64) Syntax.tnil))
+
+abbrev slice4 : Syntax.Ty
+slice4 = Syntax.tyStruct (38 ∷ 91 ∷ 93 ∷ List.[]) (Syntax.tcons ref4
+    (Syntax.tcons (Syntax.tyInt Syntax.w64) Syntax.tnil))
+
 abbrev pub ps : List.List (Kinds.PK 7)
-ps = (MutSlice.pMutS RelayPending.row 0 tt) ∷ (MutSlice.pMutS RelayCircuit.row 1 tt) ∷ (MutSlice.pMutS ReservationUsage.row 2 tt) ∷ (MutSlice.pMutS
-    InflightAction.row 3 tt) ∷ (MutSlice.pMutS (Referent.rtF (Referent.fInt Syntax.w32)) 4 tt) ∷ (Value.pVal record { ty = Declared'.row
-    Relayed.the-type; one = Path.refl; val = Laws''''''.val Relayed.the-type Laws'''.the-laws; tells = Laws''''''.tells Relayed.the-type
-    Laws'''.the-laws; still = Laws''''''.still Relayed.the-type Laws'''.the-copy Exit.yes; row = Rows.whole (Declared'.row Relayed.the-type); rd = λ
-    x. x; mk = λ x. x; } λ M 𝓤 H A W. record { copies = Laws''''''.copy Relayed.the-type Laws'''.the-copy 𝓤 H A W; lawful = Laws''''''.lawful
-    Relayed.the-type Laws'''.the-laws 𝓤 H A W; makes = Laws''''''.makes Relayed.the-type Laws'''.the-plain 𝓤 H A; in-mem = Local.mem-whole 𝓤 H A W
-    (Declared'.row Relayed.the-type); of-mem = Local.whole-mem 𝓤 H A W (Declared'.row Relayed.the-type); }) ∷ (ShrSlice.pShrS (Referent.rtF
-    (Referent.fInt Syntax.w8)) 5 tt) ∷ (ShrSlice.pShrS (Referent.rtF (Referent.fInt Syntax.w8)) 6 tt) ∷ (Value.pVal record { ty = Declared'.row
-    Script.the-type; one = Path.refl; val = Laws''''''.val Script.the-type Laws.the-laws; tells = Laws''''''.tells Script.the-type Laws.the-laws;
-    still = Laws''''''.still Script.the-type Laws.the-copy Exit.yes; row = Rows.whole (Declared'.row Script.the-type); rd = λ x. x; mk = λ x. x; } λ M
-    𝓤 H A W. record { copies = Laws''''''.copy Script.the-type Laws.the-copy 𝓤 H A W; lawful = Laws''''''.lawful Script.the-type Laws.the-laws 𝓤 H A
-    W; makes = Laws''''''.makes Script.the-type Laws.the-plain 𝓤 H A; in-mem = Local.mem-whole 𝓤 H A W (Declared'.row Script.the-type); of-mem =
-    Local.whole-mem 𝓤 H A W (Declared'.row Script.the-type); }) ∷ List.[]
+ps = (MutSlice.pMutS RelayPending.row 0 tt) ∷ (MutSlice.pMutS RelayCircuit.row 1 tt) ∷
+    (MutSlice.pMutS ReservationUsage.row 2 tt) ∷ (MutSlice.pMutS InflightAction.row 3 tt) ∷ (MutSlice.pMutS
+    (Referent.rtF (Referent.fInt Syntax.w32)) 4 tt) ∷ (StructRow.param Relayed.the-type Laws'''.the-laws
+    Laws'''.the-copy Laws'''.the-plain) ∷ (ShrSlice.pShrS (Referent.rtF (Referent.fInt Syntax.w8)) 5 tt) ∷ (ShrSlice.pShrS
+    (Referent.rtF (Referent.fInt Syntax.w8)) 6 tt) ∷ (StructRow.param Script.the-type Laws.the-laws Laws.the-copy
+    Laws.the-plain) ∷ List.[]
+
 abbrev pub r : Kinds.RK 7
 r = Num.rNum Syntax.w64
+
 abbrev pub xs : List.List Syntax.Ty
-xs = Laws''.mir ∷ Laws'''.mir ∷ Laws'.mir ∷ ref0 ∷ (Syntax.tyStruct (38 ∷ 91 ∷ 93 ∷ List.[]) (Syntax.tcons ref0 (Syntax.tcons (Syntax.tyInt
-    Syntax.w64) Syntax.tnil))) ∷ ref1 ∷ (Syntax.tyStruct (38 ∷ 91 ∷ 93 ∷ List.[]) (Syntax.tcons ref1 (Syntax.tcons (Syntax.tyInt Syntax.w64)
-    Syntax.tnil))) ∷ ref2 ∷ (Syntax.tyStruct (38 ∷ 91 ∷ 93 ∷ List.[]) (Syntax.tcons ref2 (Syntax.tcons (Syntax.tyInt Syntax.w64) Syntax.tnil))) ∷ ref3
-    ∷ (Syntax.tyStruct (38 ∷ 91 ∷ 93 ∷ List.[]) (Syntax.tcons ref3 (Syntax.tcons (Syntax.tyInt Syntax.w64) Syntax.tnil))) ∷ ref4 ∷ (Syntax.tyStruct
-    (38 ∷ 91 ∷ 93 ∷ List.[]) (Syntax.tcons ref4 (Syntax.tcons (Syntax.tyInt Syntax.w64) Syntax.tnil))) ∷ Syntax.tyBool ∷ ref0 ∷ (Syntax.tyStruct (38 ∷
-    91 ∷ 93 ∷ List.[]) (Syntax.tcons ref0 (Syntax.tcons (Syntax.tyInt Syntax.w64) Syntax.tnil))) ∷ ref1 ∷ (Syntax.tyStruct (38 ∷ 91 ∷ 93 ∷ List.[])
-    (Syntax.tcons ref1 (Syntax.tcons (Syntax.tyInt Syntax.w64) Syntax.tnil))) ∷ ref2 ∷ (Syntax.tyStruct (38 ∷ 91 ∷ 93 ∷ List.[]) (Syntax.tcons ref2
-    (Syntax.tcons (Syntax.tyInt Syntax.w64) Syntax.tnil))) ∷ ref3 ∷ (Syntax.tyStruct (38 ∷ 91 ∷ 93 ∷ List.[]) (Syntax.tcons ref3 (Syntax.tcons
-    (Syntax.tyInt Syntax.w64) Syntax.tnil))) ∷ ref4 ∷ (Syntax.tyStruct (38 ∷ 91 ∷ 93 ∷ List.[]) (Syntax.tcons ref4 (Syntax.tcons (Syntax.tyInt
-    Syntax.w64) Syntax.tnil))) ∷ List.[]
+xs = Laws''.mir ∷ Laws'''.mir ∷ Laws'.mir ∷ ref0 ∷ slice0 ∷ ref1 ∷ slice1 ∷ ref2 ∷ slice2 ∷ ref3 ∷ slice3 ∷ ref4 ∷
+    slice4 ∷ Syntax.tyBool ∷ ref0 ∷ slice0 ∷ ref1 ∷ slice1 ∷ ref2 ∷ slice2 ∷ ref3 ∷ slice3 ∷ ref4 ∷ slice4 ∷ List.[]
+
 abbrev pub m : Nat.ℕ
 m = 10
+
 abbrev pub ps·0 : List.List (Kinds.PK 0)
 ps·0 = (Num.pNum Syntax.w8) ∷ (Num.pNum Syntax.w64) ∷ List.[]
+
 abbrev pub r·0 : Kinds.RK 0
-r·0 = Value.rVal record { ty = Declared'.row RelayPacket.the-type; one = Path.refl; val = Laws''''''.val RelayPacket.the-type Laws''.the-laws; tells =
-    Laws''''''.tells RelayPacket.the-type Laws''.the-laws; still = Laws''''''.still RelayPacket.the-type Laws''.the-copy Exit.yes; row = Rows.whole
-    (Declared'.row RelayPacket.the-type); rd = λ x. x; mk = λ x. x; } λ M 𝓤 H A W. record { copies = Laws''''''.copy RelayPacket.the-type
-    Laws''.the-copy 𝓤 H A W; lawful = Laws''''''.lawful RelayPacket.the-type Laws''.the-laws 𝓤 H A W; makes = Laws''''''.makes RelayPacket.the-type
-    Laws''.the-plain 𝓤 H A; in-mem = Local.mem-whole 𝓤 H A W (Declared'.row RelayPacket.the-type); of-mem = Local.whole-mem 𝓤 H A W (Declared'.row
-    RelayPacket.the-type); }
+r·0 = StructRow.result RelayPacket.the-type Laws''.the-laws Laws''.the-copy Laws''.the-plain
+
 abbrev pub ps·1 : List.List (Kinds.PK 6)
-ps·1 = (MutSlice.pMutS RelayPending.row 0 tt) ∷ (MutSlice.pMutS RelayCircuit.row 1 tt) ∷ (MutSlice.pMutS ReservationUsage.row 2 tt) ∷ (MutSlice.pMutS
-    InflightAction.row 3 tt) ∷ (MutSlice.pMutS (Referent.rtF (Referent.fInt Syntax.w32)) 4 tt) ∷ (Value.pVal record { ty = Declared'.row
-    Relayed.the-type; one = Path.refl; val = Laws''''''.val Relayed.the-type Laws'''.the-laws; tells = Laws''''''.tells Relayed.the-type
-    Laws'''.the-laws; still = Laws''''''.still Relayed.the-type Laws'''.the-copy Exit.yes; row = Rows.whole (Declared'.row Relayed.the-type); rd = λ
-    x. x; mk = λ x. x; } λ M 𝓤 H A W. record { copies = Laws''''''.copy Relayed.the-type Laws'''.the-copy 𝓤 H A W; lawful = Laws''''''.lawful
-    Relayed.the-type Laws'''.the-laws 𝓤 H A W; makes = Laws''''''.makes Relayed.the-type Laws'''.the-plain 𝓤 H A; in-mem = Local.mem-whole 𝓤 H A W
-    (Declared'.row Relayed.the-type); of-mem = Local.whole-mem 𝓤 H A W (Declared'.row Relayed.the-type); }) ∷ (Value.pVal record { ty = Declared'.row
-    RelayPacket.the-type; one = Path.refl; val = Laws''''''.val RelayPacket.the-type Laws''.the-laws; tells = Laws''''''.tells RelayPacket.the-type
-    Laws''.the-laws; still = Laws''''''.still RelayPacket.the-type Laws''.the-copy Exit.yes; row = Rows.whole (Declared'.row RelayPacket.the-type); rd
-    = λ x. x; mk = λ x. x; } λ M 𝓤 H A W. record { copies = Laws''''''.copy RelayPacket.the-type Laws''.the-copy 𝓤 H A W; lawful = Laws''''''.lawful
-    RelayPacket.the-type Laws''.the-laws 𝓤 H A W; makes = Laws''''''.makes RelayPacket.the-type Laws''.the-plain 𝓤 H A; in-mem = Local.mem-whole 𝓤 H A
-    W (Declared'.row RelayPacket.the-type); of-mem = Local.whole-mem 𝓤 H A W (Declared'.row RelayPacket.the-type); }) ∷ (Num.pNum Syntax.w8) ∷
-    (ShrSlice.pShrS (Referent.rtF (Referent.fInt Syntax.w8)) 5 tt) ∷ List.[]
+ps·1 = (MutSlice.pMutS RelayPending.row 0 tt) ∷ (MutSlice.pMutS RelayCircuit.row 1 tt) ∷
+    (MutSlice.pMutS ReservationUsage.row 2 tt) ∷ (MutSlice.pMutS InflightAction.row 3 tt) ∷ (MutSlice.pMutS
+    (Referent.rtF (Referent.fInt Syntax.w32)) 4 tt) ∷ (StructRow.param Relayed.the-type Laws'''.the-laws
+    Laws'''.the-copy Laws'''.the-plain) ∷ (StructRow.param RelayPacket.the-type Laws''.the-laws Laws''.the-copy
+    Laws''.the-plain) ∷ (Num.pNum Syntax.w8) ∷ (ShrSlice.pShrS (Referent.rtF (Referent.fInt Syntax.w8)) 5 tt) ∷ List.[]
+
 abbrev pub r·1 : Kinds.RK 6
-r·1 = Value.rVal record { ty = Declared'.row Relayed.the-type; one = Path.refl; val = Laws''''''.val Relayed.the-type Laws'''.the-laws; tells =
-    Laws''''''.tells Relayed.the-type Laws'''.the-laws; still = Laws''''''.still Relayed.the-type Laws'''.the-copy Exit.yes; row = Rows.whole
-    (Declared'.row Relayed.the-type); rd = λ x. x; mk = λ x. x; } λ M 𝓤 H A W. record { copies = Laws''''''.copy Relayed.the-type Laws'''.the-copy 𝓤 H
-    A W; lawful = Laws''''''.lawful Relayed.the-type Laws'''.the-laws 𝓤 H A W; makes = Laws''''''.makes Relayed.the-type Laws'''.the-plain 𝓤 H A;
-    in-mem = Local.mem-whole 𝓤 H A W (Declared'.row Relayed.the-type); of-mem = Local.whole-mem 𝓤 H A W (Declared'.row Relayed.the-type); }
+r·1 = StructRow.result Relayed.the-type Laws'''.the-laws Laws'''.the-copy Laws'''.the-plain
+
 abbrev pub ps·2 : List.List (Kinds.PK 0)
-ps·2 = (Value.pVal record { ty = Declared.row HnsrAnswer.the-type; one = Path.refl; val = Laws''''.val HnsrAnswer.the-type Laws'.the-laws; tells =
-    Laws''''.tells HnsrAnswer.the-type Laws'.the-laws; still = Laws''''.still HnsrAnswer.the-type Laws'.the-copy Exit.yes; row = Rows.whole
-    (Declared.row HnsrAnswer.the-type); rd = λ x. x; mk = λ x. x; } λ M 𝓤 H A W. record { copies = Laws''''.copy HnsrAnswer.the-type Laws'.the-copy 𝓤
-    H A W; lawful = Laws''''.lawful HnsrAnswer.the-type Laws'.the-laws 𝓤 H A W tt; makes = Laws''''.makes HnsrAnswer.the-type Laws'.the-plain 𝓤 H A;
-    in-mem = Local.mem-whole 𝓤 H A W (Declared.row HnsrAnswer.the-type); of-mem = Local.whole-mem 𝓤 H A W (Declared.row HnsrAnswer.the-type); }) ∷
-    List.[]
+ps·2 = (StructRow.enum-param HnsrAnswer.the-type Laws'.the-laws Laws'.the-copy Laws'.the-plain tt) ∷ List.[]
+
 abbrev pub r·2 : Kinds.RK 0
 r·2 = Num.rNum Syntax.w64
+
 abbrev pub ps·3 : List.List (Kinds.PK 6)
-ps·3 = (MutSlice.pMutS RelayPending.row 0 tt) ∷ (MutSlice.pMutS RelayCircuit.row 1 tt) ∷ (MutSlice.pMutS ReservationUsage.row 2 tt) ∷ (MutSlice.pMutS
-    InflightAction.row 3 tt) ∷ (MutSlice.pMutS (Referent.rtF (Referent.fInt Syntax.w32)) 4 tt) ∷ (Value.pVal record { ty = Declared'.row
-    Relayed.the-type; one = Path.refl; val = Laws''''''.val Relayed.the-type Laws'''.the-laws; tells = Laws''''''.tells Relayed.the-type
-    Laws'''.the-laws; still = Laws''''''.still Relayed.the-type Laws'''.the-copy Exit.yes; row = Rows.whole (Declared'.row Relayed.the-type); rd = λ
-    x. x; mk = λ x. x; } λ M 𝓤 H A W. record { copies = Laws''''''.copy Relayed.the-type Laws'''.the-copy 𝓤 H A W; lawful = Laws''''''.lawful
-    Relayed.the-type Laws'''.the-laws 𝓤 H A W; makes = Laws''''''.makes Relayed.the-type Laws'''.the-plain 𝓤 H A; in-mem = Local.mem-whole 𝓤 H A W
-    (Declared'.row Relayed.the-type); of-mem = Local.whole-mem 𝓤 H A W (Declared'.row Relayed.the-type); }) ∷ (Value.pVal record { ty = Declared'.row
-    RelayPacket.the-type; one = Path.refl; val = Laws''''''.val RelayPacket.the-type Laws''.the-laws; tells = Laws''''''.tells RelayPacket.the-type
-    Laws''.the-laws; still = Laws''''''.still RelayPacket.the-type Laws''.the-copy Exit.yes; row = Rows.whole (Declared'.row RelayPacket.the-type); rd
-    = λ x. x; mk = λ x. x; } λ M 𝓤 H A W. record { copies = Laws''''''.copy RelayPacket.the-type Laws''.the-copy 𝓤 H A W; lawful = Laws''''''.lawful
-    RelayPacket.the-type Laws''.the-laws 𝓤 H A W; makes = Laws''''''.makes RelayPacket.the-type Laws''.the-plain 𝓤 H A; in-mem = Local.mem-whole 𝓤 H A
-    W (Declared'.row RelayPacket.the-type); of-mem = Local.whole-mem 𝓤 H A W (Declared'.row RelayPacket.the-type); }) ∷ (ShrSlice.pShrS (Referent.rtF
-    (Referent.fInt Syntax.w8)) 5 tt) ∷ Bool.pBool ∷ List.[]
+ps·3 = (MutSlice.pMutS RelayPending.row 0 tt) ∷ (MutSlice.pMutS RelayCircuit.row 1 tt) ∷
+    (MutSlice.pMutS ReservationUsage.row 2 tt) ∷ (MutSlice.pMutS InflightAction.row 3 tt) ∷ (MutSlice.pMutS
+    (Referent.rtF (Referent.fInt Syntax.w32)) 4 tt) ∷ (StructRow.param Relayed.the-type Laws'''.the-laws
+    Laws'''.the-copy Laws'''.the-plain) ∷ (StructRow.param RelayPacket.the-type Laws''.the-laws Laws''.the-copy
+    Laws''.the-plain) ∷ (ShrSlice.pShrS (Referent.rtF (Referent.fInt Syntax.w8)) 5 tt) ∷ Bool.pBool ∷ List.[]
+
 abbrev pub r·3 : Kinds.RK 6
 r·3 = Num.rNum Syntax.w64
+
 abbrev pub hs : List.List Syntax.Home
-hs = Syntax.valueLocal ∷ Syntax.valueLocal ∷ Syntax.valueLocal ∷ Syntax.valueLocal ∷ Syntax.valueLocal ∷ Syntax.valueLocal ∷ Syntax.valueLocal ∷
-    Syntax.valueLocal ∷ Syntax.valueLocal ∷ Syntax.valueLocal ∷ Syntax.valueLocal ∷ Syntax.valueLocal ∷ Syntax.valueLocal ∷ Syntax.valueLocal ∷
-    Syntax.valueLocal ∷ Syntax.valueLocal ∷ Syntax.valueLocal ∷ Syntax.valueLocal ∷ Syntax.valueLocal ∷ Syntax.valueLocal ∷ Syntax.valueLocal ∷
-    Syntax.valueLocal ∷ Syntax.valueLocal ∷ Syntax.valueLocal ∷ Syntax.valueLocal ∷ Syntax.valueLocal ∷ Syntax.valueLocal ∷ Syntax.valueLocal ∷
-    Syntax.valueLocal ∷ Syntax.valueLocal ∷ Syntax.valueLocal ∷ Syntax.valueLocal ∷ Syntax.valueLocal ∷ Syntax.valueLocal ∷ List.[]
+hs = Syntax.valueLocal ∷ Syntax.valueLocal ∷ Syntax.valueLocal ∷ Syntax.valueLocal ∷ Syntax.valueLocal ∷
+    Syntax.valueLocal ∷ Syntax.valueLocal ∷ Syntax.valueLocal ∷ Syntax.valueLocal ∷ Syntax.valueLocal ∷
+    Syntax.valueLocal ∷ Syntax.valueLocal ∷ Syntax.valueLocal ∷ Syntax.valueLocal ∷ Syntax.valueLocal ∷
+    Syntax.valueLocal ∷ Syntax.valueLocal ∷ Syntax.valueLocal ∷ Syntax.valueLocal ∷ Syntax.valueLocal ∷
+    Syntax.valueLocal ∷ Syntax.valueLocal ∷ Syntax.valueLocal ∷ Syntax.valueLocal ∷ Syntax.valueLocal ∷
+    Syntax.valueLocal ∷ Syntax.valueLocal ∷ Syntax.valueLocal ∷ Syntax.valueLocal ∷ Syntax.valueLocal ∷
+    Syntax.valueLocal ∷ Syntax.valueLocal ∷ Syntax.valueLocal ∷ Syntax.valueLocal ∷ List.[]
+
 abbrev b0 : Syntax.Body
-b0 = Syntax.call "cases::script::packet" ((Syntax.copy (Syntax.place 9 ((Syntax.field 3) ∷ List.[]))) ∷ (Syntax.copy (Syntax.place 9 ((Syntax.field 5)
-    ∷ List.[]))) ∷ List.[]) (Syntax.place 10 List.[])
+b0 = Syntax.call "cases::script::packet" ((Syntax.copy (Syntax.place 9 ((Syntax.field 3) ∷ List.[]))) ∷
+    (Syntax.copy (Syntax.place 9 ((Syntax.field 5) ∷ List.[]))) ∷ List.[]) (Syntax.place 10 List.[])
+
 abbrev b1 : Syntax.Body
-b1 = Syntax.assign (Syntax.place 13 List.[]) (Syntax.addrOf (Syntax.place 1 ((Syntax.field 0) ∷ (Syntax.deref RelayPending.ty) ∷ List.[])))
+b1 = Syntax.assign (Syntax.place 13 List.[]) (Syntax.addrOf (Syntax.place 1 ((Syntax.field 0) ∷
+    (Syntax.deref RelayPending.ty) ∷ List.[])))
+
 abbrev b2 : Syntax.Body
-b2 = Syntax.assign (Syntax.place 14 List.[]) (Syntax.aggregate ((Syntax.copy (Syntax.place 13 List.[])) ∷ (Syntax.copy (Syntax.place 1 ((Syntax.field
-    1) ∷ List.[]))) ∷ List.[]))
+b2 = Syntax.assign (Syntax.place 14 List.[]) (Syntax.aggregate ((Syntax.copy (Syntax.place 13 List.[])) ∷
+    (Syntax.copy (Syntax.place 1 ((Syntax.field 1) ∷ List.[]))) ∷ List.[]))
+
 abbrev b3 : Syntax.Body
-b3 = Syntax.assign (Syntax.place 15 List.[]) (Syntax.addrOf (Syntax.place 2 ((Syntax.field 0) ∷ (Syntax.deref RelayCircuit.ty) ∷ List.[])))
+b3 = Syntax.assign (Syntax.place 15 List.[]) (Syntax.addrOf (Syntax.place 2 ((Syntax.field 0) ∷
+    (Syntax.deref RelayCircuit.ty) ∷ List.[])))
+
 abbrev b4 : Syntax.Body
-b4 = Syntax.assign (Syntax.place 16 List.[]) (Syntax.aggregate ((Syntax.copy (Syntax.place 15 List.[])) ∷ (Syntax.copy (Syntax.place 2 ((Syntax.field
-    1) ∷ List.[]))) ∷ List.[]))
+b4 = Syntax.assign (Syntax.place 16 List.[]) (Syntax.aggregate ((Syntax.copy (Syntax.place 15 List.[])) ∷
+    (Syntax.copy (Syntax.place 2 ((Syntax.field 1) ∷ List.[]))) ∷ List.[]))
+
 abbrev b5 : Syntax.Body
-b5 = Syntax.assign (Syntax.place 17 List.[]) (Syntax.addrOf (Syntax.place 3 ((Syntax.field 0) ∷ (Syntax.deref ReservationUsage.ty) ∷ List.[])))
+b5 = Syntax.assign (Syntax.place 17 List.[]) (Syntax.addrOf (Syntax.place 3 ((Syntax.field 0) ∷
+    (Syntax.deref ReservationUsage.ty) ∷ List.[])))
+
 abbrev b6 : Syntax.Body
-b6 = Syntax.assign (Syntax.place 18 List.[]) (Syntax.aggregate ((Syntax.copy (Syntax.place 17 List.[])) ∷ (Syntax.copy (Syntax.place 3 ((Syntax.field
-    1) ∷ List.[]))) ∷ List.[]))
+b6 = Syntax.assign (Syntax.place 18 List.[]) (Syntax.aggregate ((Syntax.copy (Syntax.place 17 List.[])) ∷
+    (Syntax.copy (Syntax.place 3 ((Syntax.field 1) ∷ List.[]))) ∷ List.[]))
+
 abbrev b7 : Syntax.Body
-b7 = Syntax.assign (Syntax.place 19 List.[]) (Syntax.addrOf (Syntax.place 4 ((Syntax.field 0) ∷ (Syntax.deref InflightAction.ty) ∷ List.[])))
+b7 = Syntax.assign (Syntax.place 19 List.[]) (Syntax.addrOf (Syntax.place 4 ((Syntax.field 0) ∷
+    (Syntax.deref InflightAction.ty) ∷ List.[])))
+
 abbrev b8 : Syntax.Body
-b8 = Syntax.assign (Syntax.place 20 List.[]) (Syntax.aggregate ((Syntax.copy (Syntax.place 19 List.[])) ∷ (Syntax.copy (Syntax.place 4 ((Syntax.field
-    1) ∷ List.[]))) ∷ List.[]))
+b8 = Syntax.assign (Syntax.place 20 List.[]) (Syntax.aggregate ((Syntax.copy (Syntax.place 19 List.[])) ∷
+    (Syntax.copy (Syntax.place 4 ((Syntax.field 1) ∷ List.[]))) ∷ List.[]))
+
 abbrev b9 : Syntax.Body
-b9 = Syntax.assign (Syntax.place 21 List.[]) (Syntax.addrOf (Syntax.place 5 ((Syntax.field 0) ∷ (Syntax.deref (Syntax.tyInt Syntax.w32)) ∷ List.[])))
+b9 = Syntax.assign (Syntax.place 21 List.[]) (Syntax.addrOf (Syntax.place 5 ((Syntax.field 0) ∷
+    (Syntax.deref (Syntax.tyInt Syntax.w32)) ∷ List.[])))
+
 abbrev b10 : Syntax.Body
-b10 = Syntax.assign (Syntax.place 22 List.[]) (Syntax.aggregate ((Syntax.copy (Syntax.place 21 List.[])) ∷ (Syntax.copy (Syntax.place 5 ((Syntax.field
-    1) ∷ List.[]))) ∷ List.[]))
+b10 = Syntax.assign (Syntax.place 22 List.[]) (Syntax.aggregate ((Syntax.copy (Syntax.place 21 List.[])) ∷
+    (Syntax.copy (Syntax.place 5 ((Syntax.field 1) ∷ List.[]))) ∷ List.[]))
+
 abbrev b11 : Syntax.Body
-b11 = Syntax.call "cases::machine::deliver" ((Syntax.copy (Syntax.place 14 List.[])) ∷ (Syntax.copy (Syntax.place 16 List.[])) ∷ (Syntax.copy
-    (Syntax.place 18 List.[])) ∷ (Syntax.copy (Syntax.place 20 List.[])) ∷ (Syntax.copy (Syntax.place 22 List.[])) ∷ (Syntax.copy (Syntax.place 6
-    List.[])) ∷ (Syntax.copy (Syntax.place 10 List.[])) ∷ (Syntax.copy (Syntax.place 9 ((Syntax.field 4) ∷ List.[]))) ∷ (Syntax.copy (Syntax.place 7
-    List.[])) ∷ List.[]) (Syntax.place 11 List.[])
+b11 = Syntax.call "cases::machine::deliver" ((Syntax.copy (Syntax.place 14 List.[])) ∷
+    (Syntax.copy (Syntax.place 16 List.[])) ∷ (Syntax.copy (Syntax.place 18 List.[])) ∷
+    (Syntax.copy (Syntax.place 20 List.[])) ∷ (Syntax.copy (Syntax.place 22 List.[])) ∷
+    (Syntax.copy (Syntax.place 6 List.[])) ∷ (Syntax.copy (Syntax.place 10 List.[])) ∷
+    (Syntax.copy (Syntax.place 9 ((Syntax.field 4) ∷ List.[]))) ∷ (Syntax.copy (Syntax.place 7 List.[])) ∷ List.[])
+    (Syntax.place 11 List.[])
+
 abbrev b12 : Syntax.Body
-b12 = Syntax.assign (Syntax.place 12 List.[]) (Syntax.rvOpd (Syntax.copy (Syntax.place 11 ((Syntax.field 1) ∷ List.[]))))
+b12 = Syntax.assign (Syntax.place 12 List.[]) (Syntax.rvOpd (Syntax.copy
+    (Syntax.place 11 ((Syntax.field 1) ∷ List.[]))))
+
 abbrev b13 : Syntax.Body
-b13 = Syntax.assign (Syntax.place 23 List.[]) (Syntax.op2 Syntax.eq (Syntax.copy (Syntax.place 9 ((Syntax.field 2) ∷ List.[]))) (Syntax.int Syntax.w8
-    1))
+b13 = Syntax.assign (Syntax.place 23 List.[]) (Syntax.op2 Syntax.eq
+    (Syntax.copy (Syntax.place 9 ((Syntax.field 2) ∷ List.[]))) (Syntax.int Syntax.w8 1))
+
 abbrev b14 : Syntax.Body
-b14 = Syntax.call "cases::script::answer_number" ((Syntax.copy (Syntax.place 12 List.[])) ∷ List.[]) (Syntax.place 0 List.[])
+b14 = Syntax.call "cases::script::answer_number" ((Syntax.copy (Syntax.place 12 List.[])) ∷ List.[])
+    (Syntax.place 0 List.[])
+
 abbrev b15 : Syntax.Body
 b15 = Syntax.return
+
 abbrev b16 : Syntax.Body
 b16 = Syntax.seq b14 b15
+
 abbrev b17 : Syntax.Body
 b17 = Syntax.skip
+
 abbrev b18 : Syntax.Body
 b18 = Syntax.cond (Syntax.copy (Syntax.place 23 List.[])) b16 b17
+
 abbrev b19 : Syntax.Body
-b19 = Syntax.assign (Syntax.place 24 List.[]) (Syntax.addrOf (Syntax.place 1 ((Syntax.field 0) ∷ (Syntax.deref RelayPending.ty) ∷ List.[])))
+b19 = Syntax.assign (Syntax.place 24 List.[]) (Syntax.addrOf (Syntax.place 1 ((Syntax.field 0) ∷
+    (Syntax.deref RelayPending.ty) ∷ List.[])))
+
 abbrev b20 : Syntax.Body
-b20 = Syntax.assign (Syntax.place 25 List.[]) (Syntax.aggregate ((Syntax.copy (Syntax.place 24 List.[])) ∷ (Syntax.copy (Syntax.place 1 ((Syntax.field
-    1) ∷ List.[]))) ∷ List.[]))
+b20 = Syntax.assign (Syntax.place 25 List.[]) (Syntax.aggregate ((Syntax.copy (Syntax.place 24 List.[])) ∷
+    (Syntax.copy (Syntax.place 1 ((Syntax.field 1) ∷ List.[]))) ∷ List.[]))
+
 abbrev b21 : Syntax.Body
-b21 = Syntax.assign (Syntax.place 26 List.[]) (Syntax.addrOf (Syntax.place 2 ((Syntax.field 0) ∷ (Syntax.deref RelayCircuit.ty) ∷ List.[])))
+b21 = Syntax.assign (Syntax.place 26 List.[]) (Syntax.addrOf (Syntax.place 2 ((Syntax.field 0) ∷
+    (Syntax.deref RelayCircuit.ty) ∷ List.[])))
+
 abbrev b22 : Syntax.Body
-b22 = Syntax.assign (Syntax.place 27 List.[]) (Syntax.aggregate ((Syntax.copy (Syntax.place 26 List.[])) ∷ (Syntax.copy (Syntax.place 2 ((Syntax.field
-    1) ∷ List.[]))) ∷ List.[]))
+b22 = Syntax.assign (Syntax.place 27 List.[]) (Syntax.aggregate ((Syntax.copy (Syntax.place 26 List.[])) ∷
+    (Syntax.copy (Syntax.place 2 ((Syntax.field 1) ∷ List.[]))) ∷ List.[]))
+
 abbrev b23 : Syntax.Body
-b23 = Syntax.assign (Syntax.place 28 List.[]) (Syntax.addrOf (Syntax.place 3 ((Syntax.field 0) ∷ (Syntax.deref ReservationUsage.ty) ∷ List.[])))
+b23 = Syntax.assign (Syntax.place 28 List.[]) (Syntax.addrOf (Syntax.place 3 ((Syntax.field 0) ∷
+    (Syntax.deref ReservationUsage.ty) ∷ List.[])))
+
 abbrev b24 : Syntax.Body
-b24 = Syntax.assign (Syntax.place 29 List.[]) (Syntax.aggregate ((Syntax.copy (Syntax.place 28 List.[])) ∷ (Syntax.copy (Syntax.place 3 ((Syntax.field
-    1) ∷ List.[]))) ∷ List.[]))
+b24 = Syntax.assign (Syntax.place 29 List.[]) (Syntax.aggregate ((Syntax.copy (Syntax.place 28 List.[])) ∷
+    (Syntax.copy (Syntax.place 3 ((Syntax.field 1) ∷ List.[]))) ∷ List.[]))
+
 abbrev b25 : Syntax.Body
-b25 = Syntax.assign (Syntax.place 30 List.[]) (Syntax.addrOf (Syntax.place 4 ((Syntax.field 0) ∷ (Syntax.deref InflightAction.ty) ∷ List.[])))
+b25 = Syntax.assign (Syntax.place 30 List.[]) (Syntax.addrOf (Syntax.place 4 ((Syntax.field 0) ∷
+    (Syntax.deref InflightAction.ty) ∷ List.[])))
+
 abbrev b26 : Syntax.Body
-b26 = Syntax.assign (Syntax.place 31 List.[]) (Syntax.aggregate ((Syntax.copy (Syntax.place 30 List.[])) ∷ (Syntax.copy (Syntax.place 4 ((Syntax.field
-    1) ∷ List.[]))) ∷ List.[]))
+b26 = Syntax.assign (Syntax.place 31 List.[]) (Syntax.aggregate ((Syntax.copy (Syntax.place 30 List.[])) ∷
+    (Syntax.copy (Syntax.place 4 ((Syntax.field 1) ∷ List.[]))) ∷ List.[]))
+
 abbrev b27 : Syntax.Body
-b27 = Syntax.assign (Syntax.place 32 List.[]) (Syntax.addrOf (Syntax.place 5 ((Syntax.field 0) ∷ (Syntax.deref (Syntax.tyInt Syntax.w32)) ∷ List.[])))
+b27 = Syntax.assign (Syntax.place 32 List.[]) (Syntax.addrOf (Syntax.place 5 ((Syntax.field 0) ∷
+    (Syntax.deref (Syntax.tyInt Syntax.w32)) ∷ List.[])))
+
 abbrev b28 : Syntax.Body
-b28 = Syntax.assign (Syntax.place 33 List.[]) (Syntax.aggregate ((Syntax.copy (Syntax.place 32 List.[])) ∷ (Syntax.copy (Syntax.place 5 ((Syntax.field
-    1) ∷ List.[]))) ∷ List.[]))
+b28 = Syntax.assign (Syntax.place 33 List.[]) (Syntax.aggregate ((Syntax.copy (Syntax.place 32 List.[])) ∷
+    (Syntax.copy (Syntax.place 5 ((Syntax.field 1) ∷ List.[]))) ∷ List.[]))
+
 abbrev b29 : Syntax.Body
-b29 = Syntax.call "cases::machine::again" ((Syntax.copy (Syntax.place 25 List.[])) ∷ (Syntax.copy (Syntax.place 27 List.[])) ∷ (Syntax.copy
-    (Syntax.place 29 List.[])) ∷ (Syntax.copy (Syntax.place 31 List.[])) ∷ (Syntax.copy (Syntax.place 33 List.[])) ∷ (Syntax.copy (Syntax.place 11
-    List.[])) ∷ (Syntax.copy (Syntax.place 10 List.[])) ∷ (Syntax.copy (Syntax.place 8 List.[])) ∷ (Syntax.copy (Syntax.place 9 ((Syntax.field 7) ∷
-    List.[]))) ∷ List.[]) (Syntax.place 0 List.[])
+b29 = Syntax.call "cases::machine::again" ((Syntax.copy (Syntax.place 25 List.[])) ∷
+    (Syntax.copy (Syntax.place 27 List.[])) ∷ (Syntax.copy (Syntax.place 29 List.[])) ∷
+    (Syntax.copy (Syntax.place 31 List.[])) ∷ (Syntax.copy (Syntax.place 33 List.[])) ∷
+    (Syntax.copy (Syntax.place 11 List.[])) ∷ (Syntax.copy (Syntax.place 10 List.[])) ∷
+    (Syntax.copy (Syntax.place 8 List.[])) ∷ (Syntax.copy (Syntax.place 9 ((Syntax.field 7) ∷ List.[]))) ∷ List.[])
+    (Syntax.place 0 List.[])
+
 abbrev b30 : Syntax.Body
 b30 = Syntax.return
+
 abbrev b31 : Syntax.Body
 b31 = Syntax.seq b29 b30
+
 abbrev b32 : Syntax.Body
 b32 = Syntax.seq b28 b31
+
 abbrev b33 : Syntax.Body
 b33 = Syntax.seq b27 b32
+
 abbrev b34 : Syntax.Body
 b34 = Syntax.seq b26 b33
+
 abbrev b35 : Syntax.Body
 b35 = Syntax.seq b25 b34
+
 abbrev b36 : Syntax.Body
 b36 = Syntax.seq b24 b35
+
 abbrev b37 : Syntax.Body
 b37 = Syntax.seq b23 b36
+
 abbrev b38 : Syntax.Body
 b38 = Syntax.seq b22 b37
+
 abbrev b39 : Syntax.Body
 b39 = Syntax.seq b21 b38
+
 abbrev b40 : Syntax.Body
 b40 = Syntax.seq b20 b39
+
 abbrev b41 : Syntax.Body
 b41 = Syntax.seq b19 b40
+
 abbrev b42 : Syntax.Body
 b42 = Syntax.seq b18 b41
+
 abbrev b43 : Syntax.Body
 b43 = Syntax.seq b13 b42
+
 abbrev b44 : Syntax.Body
 b44 = Syntax.seq b12 b43
+
 abbrev b45 : Syntax.Body
 b45 = Syntax.seq b11 b44
+
 abbrev b46 : Syntax.Body
 b46 = Syntax.seq b10 b45
+
 abbrev b47 : Syntax.Body
 b47 = Syntax.seq b9 b46
+
 abbrev b48 : Syntax.Body
 b48 = Syntax.seq b8 b47
+
 abbrev b49 : Syntax.Body
 b49 = Syntax.seq b7 b48
+
 abbrev b50 : Syntax.Body
 b50 = Syntax.seq b6 b49
+
 abbrev b51 : Syntax.Body
 b51 = Syntax.seq b5 b50
+
 abbrev b52 : Syntax.Body
 b52 = Syntax.seq b4 b51
+
 abbrev b53 : Syntax.Body
 b53 = Syntax.seq b3 b52
+
 abbrev b54 : Syntax.Body
 b54 = Syntax.seq b2 b53
+
 abbrev b55 : Syntax.Body
 b55 = Syntax.seq b1 b54
+
 abbrev b56 : Syntax.Body
 b56 = Syntax.seq b0 b55
+
 abbrev pub body : Syntax.Body
 body = b56
+
 abbrev pub Claims : Type 1
-Claims = Kinds.In 0 ps·0 × Kinds.Out 0 ps·0 r·0 × Kinds.In 6 ps·1 × Kinds.Out 6 ps·1 r·1 × Kinds.In 0 ps·2 × Kinds.Out 0 ps·2 r·2 × Kinds.In 6 ps·3 ×
-    Kinds.Out 6 ps·3 r·3
+Claims = Kinds.In 0 ps·0 × Kinds.Out 0 ps·0 r·0 × Kinds.In 6 ps·1 × Kinds.Out 6 ps·1 r·1 × Kinds.In 0 ps·2 × Kinds.Out
+    0 ps·2 r·2 × Kinds.In 6 ps·3 × Kinds.Out 6 ps·3 r·3
+
 abbrev e0 : Row.Entry
 e0 = (0, Rows.any-gone (Syntax.tyInt Syntax.w64))
+
 abbrev e1 : Row.Entry
 e1 = (1, Mut.mslice RelayPending.row ref5 0)
+
 abbrev e2 : Row.Entry
 e2 = (2, Mut.mslice RelayCircuit.row ref6 1)
+
 abbrev e3 : Row.Entry
 e3 = (3, Mut.mslice ReservationUsage.row ref7 2)
+
 abbrev e4 : Row.Entry
 e4 = (4, Mut.mslice InflightAction.row ref8 3)
+
 abbrev e5 : Row.Entry
 e5 = (5, Mut.mslice (Referent.rtF (Referent.fInt Syntax.w32)) ref9 4)
+
 abbrev e6 : Row.Entry
 e6 = (6, Rows.whole (Declared'.row Relayed.the-type))
+
 abbrev e7 : Row.Entry
 e7 = (7, Rows.sslice (Referent.rtF (Referent.fInt Syntax.w8)) ref10 5)
+
 abbrev e8 : Row.Entry
 e8 = (8, Rows.sslice (Referent.rtF (Referent.fInt Syntax.w8)) ref11 6)
+
 abbrev e9 : Row.Entry
 e9 = (9, Rows.whole (Declared'.row Script.the-type))
+
 abbrev e10 : Row.Entry
 e10 = (10, Rows.any-gone Laws''.mir)
+
 abbrev e11 : Row.Entry
 e11 = (11, Rows.any-gone Laws'''.mir)
+
 abbrev e12 : Row.Entry
 e12 = (12, Rows.any-gone Laws'.mir)
+
 abbrev e13 : Row.Entry
 e13 = (13, Rows.any-gone ref0)
+
 abbrev e14 : Row.Entry
-e14 = (14, Rows.any-gone (Syntax.tyStruct (38 ∷ 91 ∷ 93 ∷ List.[]) (Syntax.tcons ref0 (Syntax.tcons (Syntax.tyInt Syntax.w64) Syntax.tnil))))
+e14 = (14, Rows.any-gone slice0)
+
 abbrev e15 : Row.Entry
 e15 = (15, Rows.any-gone ref1)
+
 abbrev e16 : Row.Entry
-e16 = (16, Rows.any-gone (Syntax.tyStruct (38 ∷ 91 ∷ 93 ∷ List.[]) (Syntax.tcons ref1 (Syntax.tcons (Syntax.tyInt Syntax.w64) Syntax.tnil))))
+e16 = (16, Rows.any-gone slice1)
+
 abbrev e17 : Row.Entry
 e17 = (17, Rows.any-gone ref2)
+
 abbrev e18 : Row.Entry
-e18 = (18, Rows.any-gone (Syntax.tyStruct (38 ∷ 91 ∷ 93 ∷ List.[]) (Syntax.tcons ref2 (Syntax.tcons (Syntax.tyInt Syntax.w64) Syntax.tnil))))
+e18 = (18, Rows.any-gone slice2)
+
 abbrev e19 : Row.Entry
 e19 = (19, Rows.any-gone ref3)
+
 abbrev e20 : Row.Entry
-e20 = (20, Rows.any-gone (Syntax.tyStruct (38 ∷ 91 ∷ 93 ∷ List.[]) (Syntax.tcons ref3 (Syntax.tcons (Syntax.tyInt Syntax.w64) Syntax.tnil))))
+e20 = (20, Rows.any-gone slice3)
+
 abbrev e21 : Row.Entry
 e21 = (21, Rows.any-gone ref4)
+
 abbrev e22 : Row.Entry
-e22 = (22, Rows.any-gone (Syntax.tyStruct (38 ∷ 91 ∷ 93 ∷ List.[]) (Syntax.tcons ref4 (Syntax.tcons (Syntax.tyInt Syntax.w64) Syntax.tnil))))
+e22 = (22, Rows.any-gone slice4)
+
 abbrev e23 : Row.Entry
 e23 = (23, Rows.any-gone Syntax.tyBool)
+
 abbrev e24 : Row.Entry
 e24 = (24, Rows.any-gone ref0)
+
 abbrev e25 : Row.Entry
-e25 = (25, Rows.any-gone (Syntax.tyStruct (38 ∷ 91 ∷ 93 ∷ List.[]) (Syntax.tcons ref0 (Syntax.tcons (Syntax.tyInt Syntax.w64) Syntax.tnil))))
+e25 = (25, Rows.any-gone slice0)
+
 abbrev e26 : Row.Entry
 e26 = (26, Rows.any-gone ref1)
+
 abbrev e27 : Row.Entry
-e27 = (27, Rows.any-gone (Syntax.tyStruct (38 ∷ 91 ∷ 93 ∷ List.[]) (Syntax.tcons ref1 (Syntax.tcons (Syntax.tyInt Syntax.w64) Syntax.tnil))))
+e27 = (27, Rows.any-gone slice1)
+
 abbrev e28 : Row.Entry
 e28 = (28, Rows.any-gone ref2)
+
 abbrev e29 : Row.Entry
-e29 = (29, Rows.any-gone (Syntax.tyStruct (38 ∷ 91 ∷ 93 ∷ List.[]) (Syntax.tcons ref2 (Syntax.tcons (Syntax.tyInt Syntax.w64) Syntax.tnil))))
+e29 = (29, Rows.any-gone slice2)
+
 abbrev e30 : Row.Entry
 e30 = (30, Rows.any-gone ref3)
+
 abbrev e31 : Row.Entry
-e31 = (31, Rows.any-gone (Syntax.tyStruct (38 ∷ 91 ∷ 93 ∷ List.[]) (Syntax.tcons ref3 (Syntax.tcons (Syntax.tyInt Syntax.w64) Syntax.tnil))))
+e31 = (31, Rows.any-gone slice3)
+
 abbrev e32 : Row.Entry
 e32 = (32, Rows.any-gone ref4)
+
 abbrev e33 : Row.Entry
-e33 = (33, Rows.any-gone (Syntax.tyStruct (38 ∷ 91 ∷ 93 ∷ List.[]) (Syntax.tcons ref4 (Syntax.tcons (Syntax.tyInt Syntax.w64) Syntax.tnil))))
+e33 = (33, Rows.any-gone slice4)
+
 abbrev e0·1 : Row.Entry
 e0·1 = (0, Rows.sc-here (Row.sInt Syntax.w64))
+
 abbrev e6·1 : Row.Entry
 e6·1 = (6, Rows.any-gone Laws'''.mir)
+
 abbrev e9·1 : Row.Entry
 e9·1 = (9, Rows.any-gone Laws.mir)
+
 abbrev e10·1 : Row.Entry
 e10·1 = (10, Rows.whole (Declared'.row RelayPacket.the-type))
+
 abbrev e1·1 : Row.Entry
 e1·1 = (1, Relend.mslice-owed RelayPending.row ref5 0 7 Row.off)
+
 abbrev e13·1 : Row.Entry
 e13·1 = (13, Relend.msptr RelayPending.row ref0 7)
+
 abbrev e14·1 : Row.Entry
 e14·1 = (14, Mut.mslice RelayPending.row ref0 7)
+
 abbrev e2·1 : Row.Entry
 e2·1 = (2, Relend.mslice-owed RelayCircuit.row ref6 1 8 Row.off)
+
 abbrev e15·1 : Row.Entry
 e15·1 = (15, Relend.msptr RelayCircuit.row ref1 8)
+
 abbrev e16·1 : Row.Entry
 e16·1 = (16, Mut.mslice RelayCircuit.row ref1 8)
+
 abbrev e3·1 : Row.Entry
 e3·1 = (3, Relend.mslice-owed ReservationUsage.row ref7 2 9 Row.off)
+
 abbrev e17·1 : Row.Entry
 e17·1 = (17, Relend.msptr ReservationUsage.row ref2 9)
+
 abbrev e18·1 : Row.Entry
 e18·1 = (18, Mut.mslice ReservationUsage.row ref2 9)
+
 abbrev e4·1 : Row.Entry
 e4·1 = (4, Relend.mslice-owed InflightAction.row ref8 3 10 Row.off)
+
 abbrev e19·1 : Row.Entry
 e19·1 = (19, Relend.msptr InflightAction.row ref3 10)
+
 abbrev e20·1 : Row.Entry
 e20·1 = (20, Mut.mslice InflightAction.row ref3 10)
+
 abbrev e5·1 : Row.Entry
 e5·1 = (5, Relend.mslice-owed (Referent.rtF (Referent.fInt Syntax.w32)) ref9 4 11 Row.off)
+
 abbrev e21·1 : Row.Entry
 e21·1 = (21, Relend.msptr (Referent.rtF (Referent.fInt Syntax.w32)) ref4 11)
+
 abbrev e22·1 : Row.Entry
 e22·1 = (22, Mut.mslice (Referent.rtF (Referent.fInt Syntax.w32)) ref4 11)
+
 abbrev e11·1 : Row.Entry
 e11·1 = (11, Rows.whole (Declared'.row Relayed.the-type))
+
 abbrev e14·2 : Row.Entry
 e14·2 = (14, Mut.msleft RelayPending.row ref0)
+
 abbrev e16·2 : Row.Entry
 e16·2 = (16, Mut.msleft RelayCircuit.row ref1)
+
 abbrev e18·2 : Row.Entry
 e18·2 = (18, Mut.msleft ReservationUsage.row ref2)
+
 abbrev e20·2 : Row.Entry
 e20·2 = (20, Mut.msleft InflightAction.row ref3)
+
 abbrev e22·2 : Row.Entry
 e22·2 = (22, Mut.msleft (Referent.rtF (Referent.fInt Syntax.w32)) ref4)
+
 abbrev e12·1 : Row.Entry
 e12·1 = (12, Rows.whole (Declared.row HnsrAnswer.the-type))
+
 abbrev e23·1 : Row.Entry
 e23·1 = (23, Rows.sc-here Row.sBool)
+
 abbrev e1·2 : Row.Entry
 e1·2 = (1, Relend.mslice-owed RelayPending.row ref5 0 12 Row.off)
+
 abbrev e24·1 : Row.Entry
 e24·1 = (24, Relend.msptr RelayPending.row ref0 12)
+
 abbrev e25·1 : Row.Entry
 e25·1 = (25, Mut.mslice RelayPending.row ref0 12)
+
 abbrev e2·2 : Row.Entry
 e2·2 = (2, Relend.mslice-owed RelayCircuit.row ref6 1 13 Row.off)
+
 abbrev e26·1 : Row.Entry
 e26·1 = (26, Relend.msptr RelayCircuit.row ref1 13)
+
 abbrev e27·1 : Row.Entry
 e27·1 = (27, Mut.mslice RelayCircuit.row ref1 13)
+
 abbrev e3·2 : Row.Entry
 e3·2 = (3, Relend.mslice-owed ReservationUsage.row ref7 2 14 Row.off)
+
 abbrev e28·1 : Row.Entry
 e28·1 = (28, Relend.msptr ReservationUsage.row ref2 14)
+
 abbrev e29·1 : Row.Entry
 e29·1 = (29, Mut.mslice ReservationUsage.row ref2 14)
+
 abbrev e4·2 : Row.Entry
 e4·2 = (4, Relend.mslice-owed InflightAction.row ref8 3 15 Row.off)
+
 abbrev e30·1 : Row.Entry
 e30·1 = (30, Relend.msptr InflightAction.row ref3 15)
+
 abbrev e31·1 : Row.Entry
 e31·1 = (31, Mut.mslice InflightAction.row ref3 15)
+
 abbrev e5·2 : Row.Entry
 e5·2 = (5, Relend.mslice-owed (Referent.rtF (Referent.fInt Syntax.w32)) ref9 4 16 Row.off)
+
 abbrev e32·1 : Row.Entry
 e32·1 = (32, Relend.msptr (Referent.rtF (Referent.fInt Syntax.w32)) ref4 16)
+
 abbrev e33·1 : Row.Entry
 e33·1 = (33, Mut.mslice (Referent.rtF (Referent.fInt Syntax.w32)) ref4 16)
+
 abbrev e25·2 : Row.Entry
 e25·2 = (25, Mut.msleft RelayPending.row ref0)
+
 abbrev e27·2 : Row.Entry
 e27·2 = (27, Mut.msleft RelayCircuit.row ref1)
+
 abbrev e29·2 : Row.Entry
 e29·2 = (29, Mut.msleft ReservationUsage.row ref2)
+
 abbrev e31·2 : Row.Entry
 e31·2 = (31, Mut.msleft InflightAction.row ref3)
+
 abbrev e33·2 : Row.Entry
 e33·2 = (33, Mut.msleft (Referent.rtF (Referent.fInt Syntax.w32)) ref4)
+
 abbrev pub t0 : List.List Row.Entry
 t0 = e0 ∷ e1 ∷ e2 ∷ e3 ∷ e4 ∷ e5 ∷ e6 ∷ e7 ∷ e8 ∷ e9 ∷ e10 ∷ e11 ∷ e12 ∷ e13 ∷ e14 ∷ e15 ∷ List.[]
+
 abbrev pub t1 : List.List Row.Entry
 t1 = e16 ∷ e17 ∷ e18 ∷ e19 ∷ e20 ∷ e21 ∷ e22 ∷ e23 ∷ e24 ∷ e25 ∷ e26 ∷ e27 ∷ e28 ∷ e29 ∷ e30 ∷ e31 ∷ List.[]
+
 abbrev pub t2 : List.List Row.Entry
 t2 = e32 ∷ e33 ∷ List.[]
+
 abbrev pub t3 : List.List Row.Entry
 t3 = e0·1 ∷ e1 ∷ e2 ∷ e3 ∷ e4 ∷ e5 ∷ e6·1 ∷ e7 ∷ e8 ∷ e9·1 ∷ e10 ∷ e11 ∷ e12 ∷ e13 ∷ e14 ∷ e15 ∷ List.[]
+
 abbrev pub t4 : List.List Row.Entry
 t4 = e0 ∷ e1 ∷ e2 ∷ e3 ∷ e4 ∷ e5 ∷ e6 ∷ e7 ∷ e8 ∷ e9 ∷ e10·1 ∷ e11 ∷ e12 ∷ e13 ∷ e14 ∷ e15 ∷ List.[]
+
 abbrev pub t5 : List.List Row.Entry
 t5 = e0 ∷ e1·1 ∷ e2 ∷ e3 ∷ e4 ∷ e5 ∷ e6 ∷ e7 ∷ e8 ∷ e9 ∷ e10·1 ∷ e11 ∷ e12 ∷ e13·1 ∷ e14 ∷ e15 ∷ List.[]
+
 abbrev pub t6 : List.List Row.Entry
 t6 = e0 ∷ e1·1 ∷ e2 ∷ e3 ∷ e4 ∷ e5 ∷ e6 ∷ e7 ∷ e8 ∷ e9 ∷ e10·1 ∷ e11 ∷ e12 ∷ e13 ∷ e14·1 ∷ e15 ∷ List.[]
+
 abbrev pub t7 : List.List Row.Entry
 t7 = e0 ∷ e1·1 ∷ e2·1 ∷ e3 ∷ e4 ∷ e5 ∷ e6 ∷ e7 ∷ e8 ∷ e9 ∷ e10·1 ∷ e11 ∷ e12 ∷ e13 ∷ e14·1 ∷ e15·1 ∷ List.[]
+
 abbrev pub t8 : List.List Row.Entry
 t8 = e0 ∷ e1·1 ∷ e2·1 ∷ e3 ∷ e4 ∷ e5 ∷ e6 ∷ e7 ∷ e8 ∷ e9 ∷ e10·1 ∷ e11 ∷ e12 ∷ e13 ∷ e14·1 ∷ e15 ∷ List.[]
+
 abbrev pub t9 : List.List Row.Entry
 t9 = e16·1 ∷ e17 ∷ e18 ∷ e19 ∷ e20 ∷ e21 ∷ e22 ∷ e23 ∷ e24 ∷ e25 ∷ e26 ∷ e27 ∷ e28 ∷ e29 ∷ e30 ∷ e31 ∷ List.[]
+
 abbrev pub t10 : List.List Row.Entry
 t10 = e0 ∷ e1·1 ∷ e2·1 ∷ e3·1 ∷ e4 ∷ e5 ∷ e6 ∷ e7 ∷ e8 ∷ e9 ∷ e10·1 ∷ e11 ∷ e12 ∷ e13 ∷ e14·1 ∷ e15 ∷ List.[]
+
 abbrev pub t11 : List.List Row.Entry
 t11 = e16·1 ∷ e17·1 ∷ e18 ∷ e19 ∷ e20 ∷ e21 ∷ e22 ∷ e23 ∷ e24 ∷ e25 ∷ e26 ∷ e27 ∷ e28 ∷ e29 ∷ e30 ∷ e31 ∷ List.[]
+
 abbrev pub t12 : List.List Row.Entry
 t12 = e16·1 ∷ e17 ∷ e18·1 ∷ e19 ∷ e20 ∷ e21 ∷ e22 ∷ e23 ∷ e24 ∷ e25 ∷ e26 ∷ e27 ∷ e28 ∷ e29 ∷ e30 ∷ e31 ∷ List.[]
+
 abbrev pub t13 : List.List Row.Entry
 t13 = e0 ∷ e1·1 ∷ e2·1 ∷ e3·1 ∷ e4·1 ∷ e5 ∷ e6 ∷ e7 ∷ e8 ∷ e9 ∷ e10·1 ∷ e11 ∷ e12 ∷ e13 ∷ e14·1 ∷ e15 ∷ List.[]
+
 abbrev pub t14 : List.List Row.Entry
 t14 = e16·1 ∷ e17 ∷ e18·1 ∷ e19·1 ∷ e20 ∷ e21 ∷ e22 ∷ e23 ∷ e24 ∷ e25 ∷ e26 ∷ e27 ∷ e28 ∷ e29 ∷ e30 ∷ e31 ∷ List.[]
+
 abbrev pub t15 : List.List Row.Entry
 t15 = e16·1 ∷ e17 ∷ e18·1 ∷ e19 ∷ e20·1 ∷ e21 ∷ e22 ∷ e23 ∷ e24 ∷ e25 ∷ e26 ∷ e27 ∷ e28 ∷ e29 ∷ e30 ∷ e31 ∷ List.[]
+
 abbrev pub t16 : List.List Row.Entry
 t16 = e0 ∷ e1·1 ∷ e2·1 ∷ e3·1 ∷ e4·1 ∷ e5·1 ∷ e6 ∷ e7 ∷ e8 ∷ e9 ∷ e10·1 ∷ e11 ∷ e12 ∷ e13 ∷ e14·1 ∷ e15 ∷ List.[]
+
 abbrev pub t17 : List.List Row.Entry
 t17 = e16·1 ∷ e17 ∷ e18·1 ∷ e19 ∷ e20·1 ∷ e21·1 ∷ e22 ∷ e23 ∷ e24 ∷ e25 ∷ e26 ∷ e27 ∷ e28 ∷ e29 ∷ e30 ∷ e31 ∷ List.[]
+
 abbrev pub t18 : List.List Row.Entry
 t18 = e16·1 ∷ e17 ∷ e18·1 ∷ e19 ∷ e20·1 ∷ e21 ∷ e22·1 ∷ e23 ∷ e24 ∷ e25 ∷ e26 ∷ e27 ∷ e28 ∷ e29 ∷ e30 ∷ e31 ∷ List.[]
+
 abbrev pub t19 : List.List Row.Entry
 t19 = e0 ∷ e1·1 ∷ e2·1 ∷ e3·1 ∷ e4·1 ∷ e5·1 ∷ e6 ∷ e7 ∷ e8 ∷ e9 ∷ e10·1 ∷ e11·1 ∷ e12 ∷ e13 ∷ e14·2 ∷ e15 ∷ List.[]
+
 abbrev pub t20 : List.List Row.Entry
 t20 = e16·2 ∷ e17 ∷ e18·2 ∷ e19 ∷ e20·2 ∷ e21 ∷ e22·2 ∷ e23 ∷ e24 ∷ e25 ∷ e26 ∷ e27 ∷ e28 ∷ e29 ∷ e30 ∷ e31 ∷ List.[]
+
 abbrev pub t21 : List.List Row.Entry
 t21 = e0 ∷ e1·1 ∷ e2·1 ∷ e3·1 ∷ e4·1 ∷ e5·1 ∷ e6·1 ∷ e7 ∷ e8 ∷ e9 ∷ e10·1 ∷ e11·1 ∷ e12 ∷ e13 ∷ e14·2 ∷ e15 ∷ List.[]
+
 abbrev pub t22 : List.List Row.Entry
 t22 = e0 ∷ e1 ∷ e2·1 ∷ e3·1 ∷ e4·1 ∷ e5·1 ∷ e6·1 ∷ e7 ∷ e8 ∷ e9 ∷ e10·1 ∷ e11·1 ∷ e12 ∷ e13 ∷ e14 ∷ e15 ∷ List.[]
+
 abbrev pub t23 : List.List Row.Entry
 t23 = e0 ∷ e1 ∷ e2 ∷ e3·1 ∷ e4·1 ∷ e5·1 ∷ e6·1 ∷ e7 ∷ e8 ∷ e9 ∷ e10·1 ∷ e11·1 ∷ e12 ∷ e13 ∷ e14 ∷ e15 ∷ List.[]
+
 abbrev pub t24 : List.List Row.Entry
 t24 = e16 ∷ e17 ∷ e18·2 ∷ e19 ∷ e20·2 ∷ e21 ∷ e22·2 ∷ e23 ∷ e24 ∷ e25 ∷ e26 ∷ e27 ∷ e28 ∷ e29 ∷ e30 ∷ e31 ∷ List.[]
+
 abbrev pub t25 : List.List Row.Entry
 t25 = e0 ∷ e1 ∷ e2 ∷ e3 ∷ e4·1 ∷ e5·1 ∷ e6·1 ∷ e7 ∷ e8 ∷ e9 ∷ e10·1 ∷ e11·1 ∷ e12 ∷ e13 ∷ e14 ∷ e15 ∷ List.[]
+
 abbrev pub t26 : List.List Row.Entry
 t26 = e16 ∷ e17 ∷ e18 ∷ e19 ∷ e20·2 ∷ e21 ∷ e22·2 ∷ e23 ∷ e24 ∷ e25 ∷ e26 ∷ e27 ∷ e28 ∷ e29 ∷ e30 ∷ e31 ∷ List.[]
+
 abbrev pub t27 : List.List Row.Entry
 t27 = e0 ∷ e1 ∷ e2 ∷ e3 ∷ e4 ∷ e5·1 ∷ e6·1 ∷ e7 ∷ e8 ∷ e9 ∷ e10·1 ∷ e11·1 ∷ e12 ∷ e13 ∷ e14 ∷ e15 ∷ List.[]
+
 abbrev pub t28 : List.List Row.Entry
 t28 = e16 ∷ e17 ∷ e18 ∷ e19 ∷ e20 ∷ e21 ∷ e22·2 ∷ e23 ∷ e24 ∷ e25 ∷ e26 ∷ e27 ∷ e28 ∷ e29 ∷ e30 ∷ e31 ∷ List.[]
+
 abbrev pub t29 : List.List Row.Entry
 t29 = e0 ∷ e1 ∷ e2 ∷ e3 ∷ e4 ∷ e5 ∷ e6·1 ∷ e7 ∷ e8 ∷ e9 ∷ e10·1 ∷ e11·1 ∷ e12 ∷ e13 ∷ e14 ∷ e15 ∷ List.[]
+
 abbrev pub t30 : List.List Row.Entry
 t30 = e0 ∷ e1 ∷ e2 ∷ e3 ∷ e4 ∷ e5 ∷ e6·1 ∷ e7 ∷ e8 ∷ e9 ∷ e10·1 ∷ e11·1 ∷ e12·1 ∷ e13 ∷ e14 ∷ e15 ∷ List.[]
+
 abbrev pub t31 : List.List Row.Entry
 t31 = e16 ∷ e17 ∷ e18 ∷ e19 ∷ e20 ∷ e21 ∷ e22 ∷ e23·1 ∷ e24 ∷ e25 ∷ e26 ∷ e27 ∷ e28 ∷ e29 ∷ e30 ∷ e31 ∷ List.[]
+
 abbrev pub t32 : List.List Row.Entry
 t32 = e0 ∷ e1 ∷ e2 ∷ e3 ∷ e4 ∷ e5 ∷ e6·1 ∷ e7 ∷ e8 ∷ e9·1 ∷ e10·1 ∷ e11·1 ∷ e12·1 ∷ e13 ∷ e14 ∷ e15 ∷ List.[]
+
 abbrev pub t33 : List.List Row.Entry
 t33 = e0 ∷ e1 ∷ e2 ∷ e3 ∷ e4 ∷ e5 ∷ e6·1 ∷ e7 ∷ e8 ∷ e9·1 ∷ e10 ∷ e11·1 ∷ e12·1 ∷ e13 ∷ e14 ∷ e15 ∷ List.[]
+
 abbrev pub t34 : List.List Row.Entry
 t34 = e0 ∷ e1 ∷ e2 ∷ e3 ∷ e4 ∷ e5 ∷ e6·1 ∷ e7 ∷ e8 ∷ e9·1 ∷ e10 ∷ e11 ∷ e12·1 ∷ e13 ∷ e14 ∷ e15 ∷ List.[]
+
 abbrev pub t35 : List.List Row.Entry
 t35 = e0·1 ∷ e1 ∷ e2 ∷ e3 ∷ e4 ∷ e5 ∷ e6·1 ∷ e7 ∷ e8 ∷ e9·1 ∷ e10 ∷ e11 ∷ e12·1 ∷ e13 ∷ e14 ∷ e15 ∷ List.[]
+
 abbrev pub t36 : List.List Row.Entry
 t36 = e0 ∷ e1·2 ∷ e2 ∷ e3 ∷ e4 ∷ e5 ∷ e6·1 ∷ e7 ∷ e8 ∷ e9 ∷ e10·1 ∷ e11·1 ∷ e12 ∷ e13 ∷ e14 ∷ e15 ∷ List.[]
+
 abbrev pub t37 : List.List Row.Entry
 t37 = e16 ∷ e17 ∷ e18 ∷ e19 ∷ e20 ∷ e21 ∷ e22 ∷ e23 ∷ e24·1 ∷ e25 ∷ e26 ∷ e27 ∷ e28 ∷ e29 ∷ e30 ∷ e31 ∷ List.[]
+
 abbrev pub t38 : List.List Row.Entry
 t38 = e16 ∷ e17 ∷ e18 ∷ e19 ∷ e20 ∷ e21 ∷ e22 ∷ e23 ∷ e24 ∷ e25·1 ∷ e26 ∷ e27 ∷ e28 ∷ e29 ∷ e30 ∷ e31 ∷ List.[]
+
 abbrev pub t39 : List.List Row.Entry
 t39 = e0 ∷ e1·2 ∷ e2·2 ∷ e3 ∷ e4 ∷ e5 ∷ e6·1 ∷ e7 ∷ e8 ∷ e9 ∷ e10·1 ∷ e11·1 ∷ e12 ∷ e13 ∷ e14 ∷ e15 ∷ List.[]
+
 abbrev pub t40 : List.List Row.Entry
 t40 = e16 ∷ e17 ∷ e18 ∷ e19 ∷ e20 ∷ e21 ∷ e22 ∷ e23 ∷ e24 ∷ e25·1 ∷ e26·1 ∷ e27 ∷ e28 ∷ e29 ∷ e30 ∷ e31 ∷ List.[]
+
 abbrev pub t41 : List.List Row.Entry
 t41 = e16 ∷ e17 ∷ e18 ∷ e19 ∷ e20 ∷ e21 ∷ e22 ∷ e23 ∷ e24 ∷ e25·1 ∷ e26 ∷ e27·1 ∷ e28 ∷ e29 ∷ e30 ∷ e31 ∷ List.[]
+
 abbrev pub t42 : List.List Row.Entry
 t42 = e0 ∷ e1·2 ∷ e2·2 ∷ e3·2 ∷ e4 ∷ e5 ∷ e6·1 ∷ e7 ∷ e8 ∷ e9 ∷ e10·1 ∷ e11·1 ∷ e12 ∷ e13 ∷ e14 ∷ e15 ∷ List.[]
+
 abbrev pub t43 : List.List Row.Entry
 t43 = e16 ∷ e17 ∷ e18 ∷ e19 ∷ e20 ∷ e21 ∷ e22 ∷ e23 ∷ e24 ∷ e25·1 ∷ e26 ∷ e27·1 ∷ e28·1 ∷ e29 ∷ e30 ∷ e31 ∷ List.[]
+
 abbrev pub t44 : List.List Row.Entry
 t44 = e16 ∷ e17 ∷ e18 ∷ e19 ∷ e20 ∷ e21 ∷ e22 ∷ e23 ∷ e24 ∷ e25·1 ∷ e26 ∷ e27·1 ∷ e28 ∷ e29·1 ∷ e30 ∷ e31 ∷ List.[]
+
 abbrev pub t45 : List.List Row.Entry
 t45 = e0 ∷ e1·2 ∷ e2·2 ∷ e3·2 ∷ e4·2 ∷ e5 ∷ e6·1 ∷ e7 ∷ e8 ∷ e9 ∷ e10·1 ∷ e11·1 ∷ e12 ∷ e13 ∷ e14 ∷ e15 ∷ List.[]
+
 abbrev pub t46 : List.List Row.Entry
 t46 = e16 ∷ e17 ∷ e18 ∷ e19 ∷ e20 ∷ e21 ∷ e22 ∷ e23 ∷ e24 ∷ e25·1 ∷ e26 ∷ e27·1 ∷ e28 ∷ e29·1 ∷ e30·1 ∷ e31 ∷ List.[]
+
 abbrev pub t47 : List.List Row.Entry
 t47 = e16 ∷ e17 ∷ e18 ∷ e19 ∷ e20 ∷ e21 ∷ e22 ∷ e23 ∷ e24 ∷ e25·1 ∷ e26 ∷ e27·1 ∷ e28 ∷ e29·1 ∷ e30 ∷ e31·1 ∷ List.[]
+
 abbrev pub t48 : List.List Row.Entry
 t48 = e0 ∷ e1·2 ∷ e2·2 ∷ e3·2 ∷ e4·2 ∷ e5·2 ∷ e6·1 ∷ e7 ∷ e8 ∷ e9 ∷ e10·1 ∷ e11·1 ∷ e12 ∷ e13 ∷ e14 ∷ e15 ∷ List.[]
+
 abbrev pub t49 : List.List Row.Entry
 t49 = e32·1 ∷ e33 ∷ List.[]
+
 abbrev pub t50 : List.List Row.Entry
 t50 = e32 ∷ e33·1 ∷ List.[]
+
 abbrev pub t51 : List.List Row.Entry
 t51 = e0·1 ∷ e1·2 ∷ e2·2 ∷ e3·2 ∷ e4·2 ∷ e5·2 ∷ e6·1 ∷ e7 ∷ e8 ∷ e9 ∷ e10·1 ∷ e11·1 ∷ e12 ∷ e13 ∷ e14 ∷ e15 ∷ List.[]
+
 abbrev pub t52 : List.List Row.Entry
 t52 = e16 ∷ e17 ∷ e18 ∷ e19 ∷ e20 ∷ e21 ∷ e22 ∷ e23 ∷ e24 ∷ e25·2 ∷ e26 ∷ e27·2 ∷ e28 ∷ e29·2 ∷ e30 ∷ e31·2 ∷ List.[]
+
 abbrev pub t53 : List.List Row.Entry
 t53 = e32 ∷ e33·2 ∷ List.[]
+
 abbrev pub t54 : List.List Row.Entry
 t54 = e0·1 ∷ e1·2 ∷ e2·2 ∷ e3·2 ∷ e4·2 ∷ e5·2 ∷ e6·1 ∷ e7 ∷ e8 ∷ e9·1 ∷ e10·1 ∷ e11·1 ∷ e12 ∷ e13 ∷ e14 ∷ e15 ∷ List.[]
+
 abbrev pub t55 : List.List Row.Entry
 t55 = e0·1 ∷ e1·2 ∷ e2·2 ∷ e3·2 ∷ e4·2 ∷ e5·2 ∷ e6·1 ∷ e7 ∷ e8 ∷ e9·1 ∷ e10 ∷ e11·1 ∷ e12 ∷ e13 ∷ e14 ∷ e15 ∷ List.[]
+
 abbrev pub t56 : List.List Row.Entry
 t56 = e0·1 ∷ e1·2 ∷ e2·2 ∷ e3·2 ∷ e4·2 ∷ e5·2 ∷ e6·1 ∷ e7 ∷ e8 ∷ e9·1 ∷ e10 ∷ e11 ∷ e12 ∷ e13 ∷ e14 ∷ e15 ∷ List.[]
+
 abbrev pub t57 : List.List Row.Entry
 t57 = e0·1 ∷ e1 ∷ e2·2 ∷ e3·2 ∷ e4·2 ∷ e5·2 ∷ e6·1 ∷ e7 ∷ e8 ∷ e9·1 ∷ e10 ∷ e11 ∷ e12 ∷ e13 ∷ e14 ∷ e15 ∷ List.[]
+
 abbrev pub t58 : List.List Row.Entry
 t58 = e16 ∷ e17 ∷ e18 ∷ e19 ∷ e20 ∷ e21 ∷ e22 ∷ e23 ∷ e24 ∷ e25 ∷ e26 ∷ e27·2 ∷ e28 ∷ e29·2 ∷ e30 ∷ e31·2 ∷ List.[]
+
 abbrev pub t59 : List.List Row.Entry
 t59 = e0·1 ∷ e1 ∷ e2 ∷ e3·2 ∷ e4·2 ∷ e5·2 ∷ e6·1 ∷ e7 ∷ e8 ∷ e9·1 ∷ e10 ∷ e11 ∷ e12 ∷ e13 ∷ e14 ∷ e15 ∷ List.[]
+
 abbrev pub t60 : List.List Row.Entry
 t60 = e16 ∷ e17 ∷ e18 ∷ e19 ∷ e20 ∷ e21 ∷ e22 ∷ e23 ∷ e24 ∷ e25 ∷ e26 ∷ e27 ∷ e28 ∷ e29·2 ∷ e30 ∷ e31·2 ∷ List.[]
+
 abbrev pub t61 : List.List Row.Entry
 t61 = e0·1 ∷ e1 ∷ e2 ∷ e3 ∷ e4·2 ∷ e5·2 ∷ e6·1 ∷ e7 ∷ e8 ∷ e9·1 ∷ e10 ∷ e11 ∷ e12 ∷ e13 ∷ e14 ∷ e15 ∷ List.[]
+
 abbrev pub t62 : List.List Row.Entry
 t62 = e16 ∷ e17 ∷ e18 ∷ e19 ∷ e20 ∷ e21 ∷ e22 ∷ e23 ∷ e24 ∷ e25 ∷ e26 ∷ e27 ∷ e28 ∷ e29 ∷ e30 ∷ e31·2 ∷ List.[]
+
 abbrev pub t63 : List.List Row.Entry
 t63 = e0·1 ∷ e1 ∷ e2 ∷ e3 ∷ e4 ∷ e5·2 ∷ e6·1 ∷ e7 ∷ e8 ∷ e9·1 ∷ e10 ∷ e11 ∷ e12 ∷ e13 ∷ e14 ∷ e15 ∷ List.[]
+
 abbrev pub T0 : Row.Cx
 T0 = record { locals = List._++_ t0 (List._++_ t1 t2); slots = List.[] }
+
 abbrev pub T1 : Row.Cx
 T1 = record { locals = List._++_ t3 (List._++_ t1 t2); slots = List.[] }
+
 abbrev pub T2 : Row.Cx
 T2 = record { locals = List._++_ t0 (List._++_ t1 t2); slots = List.[] }
+
 abbrev pub T3 : Row.Cx
 T3 = record { locals = List._++_ t0 (List._++_ t1 t2); slots = List.[] }
+
 abbrev pub T4 : Row.Cx
 T4 = record { locals = List._++_ t0 (List._++_ t1 t2); slots = List.[] }
+
 abbrev pub T5 : Row.Cx
 T5 = record { locals = List._++_ t4 (List._++_ t1 t2); slots = List.[] }
+
 abbrev pub T7 : Row.Cx
 T7 = record { locals = List._++_ t5 (List._++_ t1 t2); slots = List.[] }
+
 abbrev pub T8 : Row.Cx
 T8 = record { locals = List._++_ t6 (List._++_ t1 t2); slots = List.[] }
+
 abbrev pub T10 : Row.Cx
 T10 = record { locals = List._++_ t7 (List._++_ t1 t2); slots = List.[] }
+
 abbrev pub T11 : Row.Cx
 T11 = record { locals = List._++_ t8 (List._++_ t9 t2); slots = List.[] }
+
 abbrev pub T13 : Row.Cx
 T13 = record { locals = List._++_ t10 (List._++_ t11 t2); slots = List.[] }
+
 abbrev pub T14 : Row.Cx
 T14 = record { locals = List._++_ t10 (List._++_ t12 t2); slots = List.[] }
+
 abbrev pub T16 : Row.Cx
 T16 = record { locals = List._++_ t13 (List._++_ t14 t2); slots = List.[] }
+
 abbrev pub T17 : Row.Cx
 T17 = record { locals = List._++_ t13 (List._++_ t15 t2); slots = List.[] }
+
 abbrev pub T19 : Row.Cx
 T19 = record { locals = List._++_ t16 (List._++_ t17 t2); slots = List.[] }
+
 abbrev pub T20 : Row.Cx
 T20 = record { locals = List._++_ t16 (List._++_ t18 t2); slots = List.[] }
+
 abbrev pub T21 : Row.Cx
 T21 = record { locals = List._++_ t19 (List._++_ t20 t2); slots = List.[] }
+
 abbrev pub T22 : Row.Cx
 T22 = record { locals = List._++_ t21 (List._++_ t20 t2); slots = List.[] }
+
 abbrev pub T24 : Row.Cx
 T24 = record { locals = List._++_ t22 (List._++_ t20 t2); slots = List.[] }
+
 abbrev pub T27 : Row.Cx
 T27 = record { locals = List._++_ t23 (List._++_ t24 t2); slots = List.[] }
+
 abbrev pub T30 : Row.Cx
 T30 = record { locals = List._++_ t25 (List._++_ t26 t2); slots = List.[] }
+
 abbrev pub T33 : Row.Cx
 T33 = record { locals = List._++_ t27 (List._++_ t28 t2); slots = List.[] }
+
 abbrev pub T36 : Row.Cx
 T36 = record { locals = List._++_ t29 (List._++_ t1 t2); slots = List.[] }
+
 abbrev pub T37 : Row.Cx
 T37 = record { locals = List._++_ t29 (List._++_ t1 t2); slots = List.[] }
+
 abbrev pub T39 : Row.Cx
 T39 = record { locals = List._++_ t30 (List._++_ t1 t2); slots = List.[] }
+
 abbrev pub T40 : Row.Cx
 T40 = record { locals = List._++_ t30 (List._++_ t1 t2); slots = List.[] }
+
 abbrev pub T41 : Row.Cx
 T41 = record { locals = List._++_ t30 (List._++_ t31 t2); slots = List.[] }
+
 abbrev pub T42 : Row.Cx
 T42 = record { locals = List._++_ t29 (List._++_ t1 t2); slots = List.[] }
+
 abbrev pub T43 : Row.Cx
 T43 = record { locals = List._++_ t32 (List._++_ t31 t2); slots = List.[] }
+
 abbrev pub T44 : Row.Cx
 T44 = record { locals = List._++_ t33 (List._++_ t31 t2); slots = List.[] }
+
 abbrev pub T45 : Row.Cx
 T45 = record { locals = List._++_ t34 (List._++_ t31 t2); slots = List.[] }
+
 abbrev pub T46 : Row.Cx
 T46 = record { locals = List._++_ t34 (List._++_ t1 t2); slots = List.[] }
+
 abbrev pub T47 : Row.Cx
 T47 = record { locals = List._++_ t35 (List._++_ t1 t2); slots = List.[] }
+
 abbrev pub T48 : Row.Cx
 T48 = record { locals = List._++_ t3 (List._++_ t1 t2); slots = List.[] }
+
 abbrev pub T49 : Row.Cx
 T49 = record { locals = List._++_ t29 (List._++_ t31 t2); slots = List.[] }
+
 abbrev pub T50 : Row.Cx
 T50 = record { locals = List._++_ t29 (List._++_ t1 t2); slots = List.[] }
+
 abbrev pub T52 : Row.Cx
 T52 = record { locals = List._++_ t36 (List._++_ t37 t2); slots = List.[] }
+
 abbrev pub T53 : Row.Cx
 T53 = record { locals = List._++_ t36 (List._++_ t38 t2); slots = List.[] }
+
 abbrev pub T55 : Row.Cx
 T55 = record { locals = List._++_ t39 (List._++_ t40 t2); slots = List.[] }
+
 abbrev pub T56 : Row.Cx
 T56 = record { locals = List._++_ t39 (List._++_ t41 t2); slots = List.[] }
+
 abbrev pub T58 : Row.Cx
 T58 = record { locals = List._++_ t42 (List._++_ t43 t2); slots = List.[] }
+
 abbrev pub T59 : Row.Cx
 T59 = record { locals = List._++_ t42 (List._++_ t44 t2); slots = List.[] }
+
 abbrev pub T61 : Row.Cx
 T61 = record { locals = List._++_ t45 (List._++_ t46 t2); slots = List.[] }
+
 abbrev pub T62 : Row.Cx
 T62 = record { locals = List._++_ t45 (List._++_ t47 t2); slots = List.[] }
+
 abbrev pub T64 : Row.Cx
 T64 = record { locals = List._++_ t48 (List._++_ t47 t49); slots = List.[] }
+
 abbrev pub T65 : Row.Cx
 T65 = record { locals = List._++_ t48 (List._++_ t47 t50); slots = List.[] }
+
 abbrev pub T66 : Row.Cx
 T66 = record { locals = List._++_ t51 (List._++_ t52 t53); slots = List.[] }
+
 abbrev pub T67 : Row.Cx
 T67 = record { locals = List._++_ t54 (List._++_ t52 t53); slots = List.[] }
+
 abbrev pub T68 : Row.Cx
 T68 = record { locals = List._++_ t55 (List._++_ t52 t53); slots = List.[] }
+
 abbrev pub T69 : Row.Cx
 T69 = record { locals = List._++_ t56 (List._++_ t52 t53); slots = List.[] }
+
 abbrev pub T71 : Row.Cx
 T71 = record { locals = List._++_ t57 (List._++_ t58 t53); slots = List.[] }
+
 abbrev pub T74 : Row.Cx
 T74 = record { locals = List._++_ t59 (List._++_ t60 t53); slots = List.[] }
+
 abbrev pub T77 : Row.Cx
 T77 = record { locals = List._++_ t61 (List._++_ t62 t53); slots = List.[] }
+
 abbrev pub T80 : Row.Cx
 T80 = record { locals = List._++_ t63 (List._++_ t1 t53); slots = List.[] }
+
 abbrev pub T83 : Row.Cx
 T83 = record { locals = List._++_ t3 (List._++_ t1 t2); slots = List.[] }
+
 abbrev pub T84 : Row.Cx
 T84 = record { locals = List._++_ t3 (List._++_ t1 t2); slots = List.[] }
+
 abbrev pub O0 : Typed.Outs
 O0 = record { next = Option.none; exits = List.[]; returns = Option.some T1 }
+
 abbrev pub O1 : Typed.Outs
 O1 = Typed.withNext (Option.some T42) O0
+
 module _ (claims· : Claims) where
   abbrev s0 : Typed.Gives T0 T2
   s0 = Know.k-sl-known (Referent.fInt Syntax.w32) T0 5 4 ref9 Row.off 0 λ x. x
+
   abbrev s1 : Typed.Gives T2 T3
   s1 = Know.k-shs-known (Referent.fInt Syntax.w8) T2 7 5 ref10 Row.off 0 λ x. x
+
   abbrev s2 : Typed.Gives T3 T4
   s2 = Know.k-shs-known (Referent.fInt Syntax.w8) T3 8 6 ref11 Row.off 0 λ x. x
+
+  abbrev args3 : Args'.ArgsT ps·0 (T4 .locals)
+  args3 = (
+    Num.vFld 9 ((Syntax.field 3) ∷ List.[]) 17 λ x. Script.struct .as-values x .1 .1 .1 .0,
+    (Num.vFld 9 ((Syntax.field 5) ∷ List.[]) 24 λ x. Script.struct .as-values x .1 .1 .1 .1 .1 .0, tt),
+  )
+
   abbrev s3 : Typed.Both T4 T5
-  s3 = Call.callB ps·0 r·0 (claims· .0) (claims· .1) T4 (Num.vFld 9 ((Syntax.field 3) ∷ List.[]) 17 λ x. Script.struct .as-values x .1 .1 .1 .0,
-      (Num.vFld 9 ((Syntax.field 5) ∷ List.[]) 24 λ x. Script.struct .as-values x .1 .1 .1 .1 .1 .0, tt,),) 10 List.[] Laws''.mir
+  s3 = Call.callB ps·0 r·0 (claims· .0) (claims· .1) T4 args3 10 List.[] Laws''.mir
+
   abbrev s5 : Typed.Gives T5 T7
   s5 = Relend.k-sl-relend RelayPending.row T5 1 13 0 7 ref5 ref0 Row.off λ x. x
+
   abbrev s6 : Typed.Asks T7 T8
-  s6 = Relend.k-sl-aggregate RelayPending.row (Relend.asMut RelayPending.row) T7 13 14 7 ref0 ref0 (λ x. x) (Scalar.oFld 1 ((Syntax.field 1) ∷
-      List.[]) (Syntax.tyInt Syntax.w64) 8 λ v. Shared.lenV (v .0))
+  s6 = Relend.k-sl-aggregate RelayPending.row (Relend.asMut RelayPending.row) T7 13 14 7 ref0 ref0 (λ x. x) (Scalar.oFld
+      1 ((Syntax.field 1) ∷ List.[]) (Syntax.tyInt Syntax.w64) 8 λ v. Shared.lenV (v .0))
+
   abbrev s8 : Typed.Gives T8 T10
   s8 = Relend.k-sl-relend RelayCircuit.row T8 2 15 1 8 ref6 ref1 Row.off λ x. x
+
   abbrev s9 : Typed.Asks T10 T11
-  s9 = Relend.k-sl-aggregate RelayCircuit.row (Relend.asMut RelayCircuit.row) T10 15 16 8 ref1 ref1 (λ x. x) (Scalar.oFld 2 ((Syntax.field 1) ∷
-      List.[]) (Syntax.tyInt Syntax.w64) 8 λ v. Shared.lenV (v .0))
+  s9 = Relend.k-sl-aggregate RelayCircuit.row (Relend.asMut RelayCircuit.row) T10 15 16 8 ref1 ref1 (λ x. x) (Scalar.oFld
+      2 ((Syntax.field 1) ∷ List.[]) (Syntax.tyInt Syntax.w64) 8 λ v. Shared.lenV (v .0))
+
   abbrev s11 : Typed.Gives T11 T13
   s11 = Relend.k-sl-relend ReservationUsage.row T11 3 17 2 9 ref7 ref2 Row.off λ x. x
+
   abbrev s12 : Typed.Asks T13 T14
-  s12 = Relend.k-sl-aggregate ReservationUsage.row (Relend.asMut ReservationUsage.row) T13 17 18 9 ref2 ref2 (λ x. x) (Scalar.oFld 3 ((Syntax.field 1)
-      ∷ List.[]) (Syntax.tyInt Syntax.w64) 8 λ v. Shared.lenV (v .0))
+  s12 = Relend.k-sl-aggregate ReservationUsage.row (Relend.asMut ReservationUsage.row) T13 17 18 9 ref2 ref2 (λ x. x) (Scalar.oFld
+      3 ((Syntax.field 1) ∷ List.[]) (Syntax.tyInt Syntax.w64) 8 λ v. Shared.lenV (v .0))
+
   abbrev s14 : Typed.Gives T14 T16
   s14 = Relend.k-sl-relend InflightAction.row T14 4 19 3 10 ref8 ref3 Row.off λ x. x
+
   abbrev s15 : Typed.Asks T16 T17
-  s15 = Relend.k-sl-aggregate InflightAction.row (Relend.asMut InflightAction.row) T16 19 20 10 ref3 ref3 (λ x. x) (Scalar.oFld 4 ((Syntax.field 1) ∷
-      List.[]) (Syntax.tyInt Syntax.w64) 8 λ v. Shared.lenV (v .0))
+  s15 = Relend.k-sl-aggregate InflightAction.row (Relend.asMut InflightAction.row) T16 19 20 10 ref3 ref3 (λ x. x) (Scalar.oFld
+      4 ((Syntax.field 1) ∷ List.[]) (Syntax.tyInt Syntax.w64) 8 λ v. Shared.lenV (v .0))
+
   abbrev s17 : Typed.Gives T17 T19
   s17 = Relend.k-sl-relend (Referent.rtF (Referent.fInt Syntax.w32)) T17 5 21 4 11 ref9 ref4 Row.off λ x. x
+
   abbrev s18 : Typed.Asks T19 T20
-  s18 = Relend.k-sl-aggregate (Referent.rtF (Referent.fInt Syntax.w32)) (Relend.asMut (Referent.rtF (Referent.fInt Syntax.w32))) T19 21 22 11 ref4
-      ref4 (λ x. x) (Scalar.oFld 5 ((Syntax.field 1) ∷ List.[]) (Syntax.tyInt Syntax.w64) 8 λ v. Shared.lenV (v .0))
+  s18 = Relend.k-sl-aggregate (Referent.rtF (Referent.fInt Syntax.w32))
+      (Relend.asMut (Referent.rtF (Referent.fInt Syntax.w32))) T19 21 22 11 ref4 ref4 (λ x. x) (Scalar.oFld 5
+      ((Syntax.field 1) ∷ List.[]) (Syntax.tyInt Syntax.w64) 8 λ v. Shared.lenV (v .0))
+
+  abbrev args19 : Args'.ArgsT ps·1 (T20 .locals)
+  args19 = (
+    record { pos = 14; ty = ref0; ref = λ x. x },
+    (
+      record { pos = 16; ty = ref1; ref = λ x. x },
+      (
+        record { pos = 18; ty = ref2; ref = λ x. x },
+        (
+          record { pos = 20; ty = ref3; ref = λ x. x },
+          (
+            record { pos = 22; ty = ref4; ref = λ x. x },
+            (
+              record { pos = 6; st = List.[]; d = 0; at = λ x. x },
+              (
+                record { pos = 10; st = List.[]; d = 0; at = λ x. x },
+                (
+                  Num.vFld 9 ((Syntax.field 4) ∷ List.[]) 18 λ x. Script.struct .as-values x .1 .1 .1 .1 .0,
+                  (record { pos = 7; ty = ref10; ref = λ x. x }, tt),
+                ),
+              ),
+            ),
+          ),
+        ),
+      ),
+    ),
+  )
+
   abbrev s19 : Typed.Both T20 T21
-  s19 = Call.callB ps·1 r·1 (claims· .2) (claims· .3) T20 (record { pos = 14; ty = Syntax.tyRef Syntax.erased Syntax.mut RelayPending.to; ref = λ x.
-      x; }, (record { pos = 16; ty = Syntax.tyRef Syntax.erased Syntax.mut RelayCircuit.to; ref = λ x. x; }, (record { pos = 18; ty = Syntax.tyRef
-      Syntax.erased Syntax.mut ReservationUsage.to; ref = λ x. x; }, (record { pos = 20; ty = Syntax.tyRef Syntax.erased Syntax.mut InflightAction.to;
-      ref = λ x. x; }, (record { pos = 22; ty = Syntax.tyRef Syntax.erased Syntax.mut (Syntax.tyInt Syntax.w32); ref = λ x. x; }, (record { pos = 6;
-      st = List.[]; d = 0; at = λ x. x }, (record { pos = 10; st = List.[]; d = 0; at = λ x. x }, (Num.vFld 9 ((Syntax.field 4) ∷ List.[]) 18 λ x.
-      Script.struct .as-values x .1 .1 .1 .1 .0, (record { pos = 7; ty = Syntax.tyRef (Syntax.named 5) Syntax.imm (Syntax.tyInt Syntax.w8); ref = λ x.
-      x; }, tt,),),),),),),),),) 11 (7 ∷ 8 ∷ 9 ∷ 10 ∷ 11 ∷ 5 ∷ List.[]) Laws'''.mir
+  s19 = Call.callB ps·1 r·1 (claims· .2) (claims· .3) T20 args19 11 (7 ∷ 8 ∷ 9 ∷ 10 ∷ 11 ∷ 5 ∷ List.[]) Laws'''.mir
+
   abbrev s20 : Typed.Mo T21 → Typed.Mo T22
   s20 = Scalar.n-room T21 6 Laws'''.mir
+
   abbrev s22 : Typed.Both T22 T24
   s22 = Relend.k-back-sl RelayPending.row T22 14 1 0 7 ref5 ref0 Row.off (λ x. x) λ x. x
+
   abbrev s25 : Typed.Both T24 T27
   s25 = Relend.k-back-sl RelayCircuit.row T24 16 2 1 8 ref6 ref1 Row.off (λ x. x) λ x. x
+
   abbrev s28 : Typed.Both T27 T30
   s28 = Relend.k-back-sl ReservationUsage.row T27 18 3 2 9 ref7 ref2 Row.off (λ x. x) λ x. x
+
   abbrev s31 : Typed.Both T30 T33
   s31 = Relend.k-back-sl InflightAction.row T30 20 4 3 10 ref8 ref3 Row.off (λ x. x) λ x. x
+
   abbrev s34 : Typed.Both T33 T36
   s34 = Relend.k-back-sl (Referent.rtF (Referent.fInt Syntax.w32)) T33 22 5 4 11 ref9 ref4 Row.off (λ x. x) λ x. x
+
   abbrev s35 : Typed.Gives T36 T37
   s35 = Know.k-sl-known (Referent.fInt Syntax.w32) T36 5 4 ref9 Row.off 0 λ x. x
+
   abbrev s37 : Typed.Mo T37 → Typed.Mo T39
-  s37 = Make.n-make (Declared.row HnsrAnswer.the-type) T37 12 λ m. Relayed.struct .as-values (m .1 .1 .1 .1 .1 .1 .1 .1 .1 .1 .1 .0) .1 .0
+  s37 = Make.n-make (Declared.row HnsrAnswer.the-type) T37 12 λ m. Relayed.struct .as-values
+      (m .1 .1 .1 .1 .1 .1 .1 .1 .1 .1 .1 .0) .1 .0
+
   abbrev s38 : Typed.Gives T39 T40
   s38 = Know'.k-struct-known Script.the-type Laws.the-laws T39 9 λ x. x
+
   abbrev s39 : Typed.Asks T40 T41
-  s39 = Scalar.k-op2 T40 Syntax.eq (Scalar.oFld 9 ((Syntax.field 2) ∷ List.[]) (Syntax.tyInt Syntax.w8) 16 (Reads.fieldV Script.the-type Laws.the-laws
-      2)) (Scalar.oInt Syntax.w8 1) 23 (Rows.sc-here Row.sBool) (Row.sBool .of)
+  s39 = Scalar.k-op2 T40 Syntax.eq (Scalar.oFld 9 ((Syntax.field 2) ∷ List.[]) (Syntax.tyInt Syntax.w8) 16
+      (Reads.fieldV Script.the-type Laws.the-laws 2)) (Scalar.oInt Syntax.w8 1) 23 (Rows.sc-here Row.sBool)
+      (Row.sBool .of)
+
   abbrev s40 : Typed.Mo T41 → Typed.Mo T43
   s40 = Scalar.n-room T41 9 Laws.mir
+
   abbrev s41 : Typed.Mo T43 → Typed.Mo T44
   s41 = Scalar.n-room T43 10 Laws''.mir
+
   abbrev s42 : Typed.Mo T44 → Typed.Mo T45
   s42 = Scalar.n-room T44 11 Laws'''.mir
+
   abbrev s43 : Typed.Mo T45 → Typed.Mo T46
   s43 = Scalar.n-room T45 23 Syntax.tyBool
+
+  abbrev args44 : Args'.ArgsT ps·2 (T46 .locals)
+  args44 = (record { pos = 12; st = List.[]; d = 0; at = λ x. x }, tt)
+
   abbrev s44 : Typed.Both T46 T47
-  s44 = Call.callB ps·2 r·2 (claims· .4) (claims· .5) T46 (record { pos = 12; st = List.[]; d = 0; at = λ x. x }, tt,) 0 List.[] (Syntax.tyInt
-      Syntax.w64)
+  s44 = Call.callB ps·2 r·2 (claims· .4) (claims· .5) T46 args44 0 List.[] (Syntax.tyInt Syntax.w64)
+
   abbrev s45 : Typed.Mo T47 → Typed.Mo T48
   s45 = Scalar.n-room T47 12 Laws'.mir
+
   abbrev s46 : Typed.Mo T41 → Typed.Mo T49
   s46 = Scalar.n-room T41 12 Laws'.mir
+
   abbrev s47 : Typed.Mo T49 → Typed.Mo T50
   s47 = Scalar.n-room T49 23 Syntax.tyBool
+
   abbrev s49 : Typed.Gives T42 T52
   s49 = Relend.k-sl-relend RelayPending.row T42 1 24 0 12 ref5 ref0 Row.off λ x. x
+
   abbrev s50 : Typed.Asks T52 T53
-  s50 = Relend.k-sl-aggregate RelayPending.row (Relend.asMut RelayPending.row) T52 24 25 12 ref0 ref0 (λ x. x) (Scalar.oFld 1 ((Syntax.field 1) ∷
-      List.[]) (Syntax.tyInt Syntax.w64) 8 λ v. Shared.lenV (v .0))
+  s50 = Relend.k-sl-aggregate RelayPending.row (Relend.asMut RelayPending.row) T52 24 25 12 ref0 ref0 (λ x. x) (Scalar.oFld
+      1 ((Syntax.field 1) ∷ List.[]) (Syntax.tyInt Syntax.w64) 8 λ v. Shared.lenV (v .0))
+
   abbrev s52 : Typed.Gives T53 T55
   s52 = Relend.k-sl-relend RelayCircuit.row T53 2 26 1 13 ref6 ref1 Row.off λ x. x
+
   abbrev s53 : Typed.Asks T55 T56
-  s53 = Relend.k-sl-aggregate RelayCircuit.row (Relend.asMut RelayCircuit.row) T55 26 27 13 ref1 ref1 (λ x. x) (Scalar.oFld 2 ((Syntax.field 1) ∷
-      List.[]) (Syntax.tyInt Syntax.w64) 8 λ v. Shared.lenV (v .0))
+  s53 = Relend.k-sl-aggregate RelayCircuit.row (Relend.asMut RelayCircuit.row) T55 26 27 13 ref1 ref1 (λ x. x) (Scalar.oFld
+      2 ((Syntax.field 1) ∷ List.[]) (Syntax.tyInt Syntax.w64) 8 λ v. Shared.lenV (v .0))
+
   abbrev s55 : Typed.Gives T56 T58
   s55 = Relend.k-sl-relend ReservationUsage.row T56 3 28 2 14 ref7 ref2 Row.off λ x. x
+
   abbrev s56 : Typed.Asks T58 T59
-  s56 = Relend.k-sl-aggregate ReservationUsage.row (Relend.asMut ReservationUsage.row) T58 28 29 14 ref2 ref2 (λ x. x) (Scalar.oFld 3 ((Syntax.field
-      1) ∷ List.[]) (Syntax.tyInt Syntax.w64) 8 λ v. Shared.lenV (v .0))
+  s56 = Relend.k-sl-aggregate ReservationUsage.row (Relend.asMut ReservationUsage.row) T58 28 29 14 ref2 ref2 (λ x. x) (Scalar.oFld
+      3 ((Syntax.field 1) ∷ List.[]) (Syntax.tyInt Syntax.w64) 8 λ v. Shared.lenV (v .0))
+
   abbrev s58 : Typed.Gives T59 T61
   s58 = Relend.k-sl-relend InflightAction.row T59 4 30 3 15 ref8 ref3 Row.off λ x. x
+
   abbrev s59 : Typed.Asks T61 T62
-  s59 = Relend.k-sl-aggregate InflightAction.row (Relend.asMut InflightAction.row) T61 30 31 15 ref3 ref3 (λ x. x) (Scalar.oFld 4 ((Syntax.field 1) ∷
-      List.[]) (Syntax.tyInt Syntax.w64) 8 λ v. Shared.lenV (v .0))
+  s59 = Relend.k-sl-aggregate InflightAction.row (Relend.asMut InflightAction.row) T61 30 31 15 ref3 ref3 (λ x. x) (Scalar.oFld
+      4 ((Syntax.field 1) ∷ List.[]) (Syntax.tyInt Syntax.w64) 8 λ v. Shared.lenV (v .0))
+
   abbrev s61 : Typed.Gives T62 T64
   s61 = Relend.k-sl-relend (Referent.rtF (Referent.fInt Syntax.w32)) T62 5 32 4 16 ref9 ref4 Row.off λ x. x
+
   abbrev s62 : Typed.Asks T64 T65
-  s62 = Relend.k-sl-aggregate (Referent.rtF (Referent.fInt Syntax.w32)) (Relend.asMut (Referent.rtF (Referent.fInt Syntax.w32))) T64 32 33 16 ref4
-      ref4 (λ x. x) (Scalar.oFld 5 ((Syntax.field 1) ∷ List.[]) (Syntax.tyInt Syntax.w64) 8 λ v. Shared.lenV (v .0))
+  s62 = Relend.k-sl-aggregate (Referent.rtF (Referent.fInt Syntax.w32))
+      (Relend.asMut (Referent.rtF (Referent.fInt Syntax.w32))) T64 32 33 16 ref4 ref4 (λ x. x) (Scalar.oFld 5
+      ((Syntax.field 1) ∷ List.[]) (Syntax.tyInt Syntax.w64) 8 λ v. Shared.lenV (v .0))
+
+  abbrev args63 : Args'.ArgsT ps·3 (T65 .locals)
+  args63 = (
+    record { pos = 25; ty = ref0; ref = λ x. x },
+    (
+      record { pos = 27; ty = ref1; ref = λ x. x },
+      (
+        record { pos = 29; ty = ref2; ref = λ x. x },
+        (
+          record { pos = 31; ty = ref3; ref = λ x. x },
+          (
+            record { pos = 33; ty = ref4; ref = λ x. x },
+            (
+              record { pos = 11; st = List.[]; d = 0; at = λ x. x },
+              (
+                record { pos = 10; st = List.[]; d = 0; at = λ x. x },
+                (
+                  record { pos = 8; ty = ref11; ref = λ x. x },
+                  (
+                    Bool.bFld 9 ((Syntax.field 7) ∷ List.[]) 40 λ x. Script.struct .as-values x .1 .1 .1 .1 .1 .1 .1 .0,
+                    tt,
+                  ),
+                ),
+              ),
+            ),
+          ),
+        ),
+      ),
+    ),
+  )
+
   abbrev s63 : Typed.Both T65 T66
-  s63 = Call.callB ps·3 r·3 (claims· .6) (claims· .7) T65 (record { pos = 25; ty = Syntax.tyRef Syntax.erased Syntax.mut RelayPending.to; ref = λ x.
-      x; }, (record { pos = 27; ty = Syntax.tyRef Syntax.erased Syntax.mut RelayCircuit.to; ref = λ x. x; }, (record { pos = 29; ty = Syntax.tyRef
-      Syntax.erased Syntax.mut ReservationUsage.to; ref = λ x. x; }, (record { pos = 31; ty = Syntax.tyRef Syntax.erased Syntax.mut InflightAction.to;
-      ref = λ x. x; }, (record { pos = 33; ty = Syntax.tyRef Syntax.erased Syntax.mut (Syntax.tyInt Syntax.w32); ref = λ x. x; }, (record { pos = 11;
-      st = List.[]; d = 0; at = λ x. x }, (record { pos = 10; st = List.[]; d = 0; at = λ x. x }, (record { pos = 8; ty = Syntax.tyRef (Syntax.named
-      6) Syntax.imm (Syntax.tyInt Syntax.w8); ref = λ x. x; }, (Bool.bFld 9 ((Syntax.field 7) ∷ List.[]) 40 λ x. Script.struct .as-values x .1 .1 .1
-      .1 .1 .1 .1 .0, tt,),),),),),),),),) 0 (12 ∷ 13 ∷ 14 ∷ 15 ∷ 16 ∷ 6 ∷ List.[]) (Syntax.tyInt Syntax.w64)
+  s63 = Call.callB ps·3 r·3 (claims· .6) (claims· .7) T65 args63 0 (12 ∷ 13 ∷ 14 ∷ 15 ∷ 16 ∷ 6 ∷ List.[])
+      (Syntax.tyInt Syntax.w64)
+
   abbrev s64 : Typed.Mo T66 → Typed.Mo T67
   s64 = Scalar.n-room T66 9 Laws.mir
+
   abbrev s65 : Typed.Mo T67 → Typed.Mo T68
   s65 = Scalar.n-room T67 10 Laws''.mir
+
   abbrev s66 : Typed.Mo T68 → Typed.Mo T69
   s66 = Scalar.n-room T68 11 Laws'''.mir
+
   abbrev s68 : Typed.Both T69 T71
   s68 = Relend.k-back-sl RelayPending.row T69 25 1 0 12 ref5 ref0 Row.off (λ x. x) λ x. x
+
   abbrev s71 : Typed.Both T71 T74
   s71 = Relend.k-back-sl RelayCircuit.row T71 27 2 1 13 ref6 ref1 Row.off (λ x. x) λ x. x
+
   abbrev s74 : Typed.Both T74 T77
   s74 = Relend.k-back-sl ReservationUsage.row T74 29 3 2 14 ref7 ref2 Row.off (λ x. x) λ x. x
+
   abbrev s77 : Typed.Both T77 T80
   s77 = Relend.k-back-sl InflightAction.row T77 31 4 3 15 ref8 ref3 Row.off (λ x. x) λ x. x
+
   abbrev s80 : Typed.Both T80 T83
   s80 = Relend.k-back-sl (Referent.rtF (Referent.fInt Syntax.w32)) T80 33 5 4 16 ref9 ref4 Row.off (λ x. x) λ x. x
+
   abbrev s81 : Typed.Gives T83 T84
   s81 = Know.k-sl-known (Referent.fInt Syntax.w32) T83 5 4 ref9 Row.off 0 λ x. x
-  module _ (Pre· : (κs : Lifetimes.Lfts 7) → Kinds.Dens κs ps → Type 0) (Post· : (κs : Lifetimes.Lfts 7) → (a : Kinds.Dens κs ps) → Kinds.Plain 7 ps r
-      κs) where
+
+  module _ (Pre· : (κs : Lifetimes.Lfts 7) → Kinds.Dens κs ps → Type 0) (Post· : (κs : Lifetimes.Lfts 7) →
+      (a : Kinds.Dens κs ps) → Kinds.Plain 7 ps r κs) where
     module _ (M : Type 1) where
       abbrev pub Closed : Type 2
-      Closed = (𝓤 : URA.URA M) (H : Wp.Heap 𝓤) (A : Atoms.Atoms 𝓤) (W : Kit.Given 𝓤 H A) (𝓣 : Wp.Tables 𝓤 H) (known0 : Plain.Known 𝓤 H A W 𝓣 0 ps·0
-          r·0 (claims· .0) (claims· .1) "cases::script::packet") (known1 : Plain.Known 𝓤 H A W 𝓣 6 ps·1 r·1 (claims· .2) (claims· .3)
-          "cases::machine::deliver") (known2 : Plain.Known 𝓤 H A W 𝓣 0 ps·2 r·2 (claims· .4) (claims· .5) "cases::script::answer_number") (known3 :
-          Plain.Known 𝓤 H A W 𝓣 6 ps·3 r·3 (claims· .6) (claims· .7) "cases::machine::again") → Statement.Triple 𝓤 (Wp.WpFn 𝓤 H (𝓣 .C) (𝓣 .Λ)
+      Closed = (𝓤 : URA.URA M) (H : Wp.Heap 𝓤) (A : Atoms.Atoms 𝓤) (W : Kit.Given 𝓤 H A) (𝓣 : Wp.Tables 𝓤 H) (known0 :
+          Plain.Known 𝓤 H A W 𝓣 0 ps·0 r·0 (claims· .0) (claims· .1) "cases::script::packet") (known1 : Plain.Known 𝓤 H
+          A W 𝓣 6 ps·1 r·1 (claims· .2) (claims· .3) "cases::machine::deliver") (known2 : Plain.Known 𝓤 H A W 𝓣 0 ps·2
+          r·2 (claims· .4) (claims· .5) "cases::script::answer_number") (known3 : Plain.Known 𝓤 H A W 𝓣 6 ps·3 r·3
+          (claims· .6) (claims· .7) "cases::machine::again") → Statement.Triple 𝓤 (Wp.WpFn 𝓤 H (𝓣 .C) (𝓣 .Λ)
           (Function.fnOf 7 ps r xs m hs body)) (Function.plainOf 𝓤 H A 7 ps r Pre· Post·)
+
     module _ where
       abbrev at0 : Typed.TF T48 O1
       at0 = Typed.atRet O1
+
       abbrev at1 : Typed.TF T47 O1
       at1 = λ Ψ. Typed.pass T47 T48 s45 (at0 Ψ)
+
       abbrev at2 : Typed.TF T46 O1
       at2 = λ Ψ. Typed.both s44 (at1 Ψ)
+
       abbrev at3 : Typed.TF T45 O1
       at3 = λ Ψ. Typed.pass T45 T46 s43 (at2 Ψ)
+
       abbrev at4 : Typed.TF T44 O1
       at4 = λ Ψ. Typed.pass T44 T45 s42 (at3 Ψ)
+
       abbrev at5 : Typed.TF T43 O1
       at5 = λ Ψ. Typed.pass T43 T44 s41 (at4 Ψ)
+
       abbrev at6 : Typed.TF T41 O1
       at6 = λ Ψ. Typed.pass T41 T43 s40 (at5 Ψ)
+
       abbrev at7 : Typed.TF T50 O1
       at7 = Typed.atNext O1
+
       abbrev at8 : Typed.TF T49 O1
       at8 = λ Ψ. Typed.pass T49 T50 s47 (at7 Ψ)
+
       abbrev at9 : Typed.TF T41 O1
       at9 = λ Ψ. Typed.pass T41 T49 s46 (at8 Ψ)
+
       abbrev at10 : Typed.TF T41 O1
       at10 = Scalar.Φcond T41 O1 23 (λ x. x) at6 at9
+
       abbrev at11 : Typed.TF T84 O0
       at11 = Typed.atRet O0
+
       abbrev at12 : Typed.TF T84 O0
       at12 = λ Ψ. at11 Ψ
+
       abbrev at13 : Typed.TF T83 O0
       at13 = λ Ψ. Typed.give s81 (at12 Ψ)
+
       abbrev at14 : Typed.TF T80 O0
       at14 = λ Ψ. Typed.both s80 (at13 Ψ)
+
       abbrev at15 : Typed.TF T80 O0
       at15 = λ Ψ. at14 Ψ
+
       abbrev at16 : Typed.TF T80 O0
       at16 = λ Ψ. at15 Ψ
+
       abbrev at17 : Typed.TF T77 O0
       at17 = λ Ψ. Typed.both s77 (at16 Ψ)
+
       abbrev at18 : Typed.TF T77 O0
       at18 = λ Ψ. at17 Ψ
+
       abbrev at19 : Typed.TF T77 O0
       at19 = λ Ψ. at18 Ψ
+
       abbrev at20 : Typed.TF T74 O0
       at20 = λ Ψ. Typed.both s74 (at19 Ψ)
+
       abbrev at21 : Typed.TF T74 O0
       at21 = λ Ψ. at20 Ψ
+
       abbrev at22 : Typed.TF T74 O0
       at22 = λ Ψ. at21 Ψ
+
       abbrev at23 : Typed.TF T71 O0
       at23 = λ Ψ. Typed.both s71 (at22 Ψ)
+
       abbrev at24 : Typed.TF T71 O0
       at24 = λ Ψ. at23 Ψ
+
       abbrev at25 : Typed.TF T71 O0
       at25 = λ Ψ. at24 Ψ
+
       abbrev at26 : Typed.TF T69 O0
       at26 = λ Ψ. Typed.both s68 (at25 Ψ)
+
       abbrev at27 : Typed.TF T69 O0
       at27 = λ Ψ. at26 Ψ
+
       abbrev at28 : Typed.TF T68 O0
       at28 = λ Ψ. Typed.pass T68 T69 s66 (at27 Ψ)
+
       abbrev at29 : Typed.TF T67 O0
       at29 = λ Ψ. Typed.pass T67 T68 s65 (at28 Ψ)
+
       abbrev at30 : Typed.TF T66 O0
       at30 = λ Ψ. Typed.pass T66 T67 s64 (at29 Ψ)
+
       abbrev at31 : Typed.TF T65 O0
       at31 = λ Ψ. Typed.both s63 (at30 Ψ)
+
       abbrev at32 : Typed.TF T64 O0
       at32 = λ Ψ. Typed.ask s62 (at31 Ψ)
+
       abbrev at33 : Typed.TF T62 O0
       at33 = λ Ψ. Typed.give s61 (at32 Ψ)
+
       abbrev at34 : Typed.TF T62 O0
       at34 = λ Ψ. at33 Ψ
+
       abbrev at35 : Typed.TF T61 O0
       at35 = λ Ψ. Typed.ask s59 (at34 Ψ)
+
       abbrev at36 : Typed.TF T59 O0
       at36 = λ Ψ. Typed.give s58 (at35 Ψ)
+
       abbrev at37 : Typed.TF T59 O0
       at37 = λ Ψ. at36 Ψ
+
       abbrev at38 : Typed.TF T58 O0
       at38 = λ Ψ. Typed.ask s56 (at37 Ψ)
+
       abbrev at39 : Typed.TF T56 O0
       at39 = λ Ψ. Typed.give s55 (at38 Ψ)
+
       abbrev at40 : Typed.TF T56 O0
       at40 = λ Ψ. at39 Ψ
+
       abbrev at41 : Typed.TF T55 O0
       at41 = λ Ψ. Typed.ask s53 (at40 Ψ)
+
       abbrev at42 : Typed.TF T53 O0
       at42 = λ Ψ. Typed.give s52 (at41 Ψ)
+
       abbrev at43 : Typed.TF T53 O0
       at43 = λ Ψ. at42 Ψ
+
       abbrev at44 : Typed.TF T52 O0
       at44 = λ Ψ. Typed.ask s50 (at43 Ψ)
+
       abbrev at45 : Typed.TF T42 O0
       at45 = λ Ψ. Typed.give s49 (at44 Ψ)
+
       abbrev at46 : Typed.TF T42 O0
       at46 = λ Ψ. at45 Ψ
+
       abbrev at47 : Typed.TF T41 O0
       at47 = λ Ψ. at10 (Typed.wantNext T42 O0 (at46 Ψ) Ψ)
+
       abbrev at48 : Typed.TF T40 O0
       at48 = λ Ψ. Typed.ask s39 (at47 Ψ)
+
       abbrev at49 : Typed.TF T39 O0
       at49 = λ Ψ. Typed.give s38 (at48 Ψ)
+
       abbrev at50 : Typed.TF T37 O0
       at50 = λ Ψ. Typed.pass T37 T39 s37 (at49 Ψ)
+
       abbrev at51 : Typed.TF T37 O0
       at51 = λ Ψ. at50 Ψ
+
       abbrev at52 : Typed.TF T36 O0
       at52 = λ Ψ. Typed.give s35 (at51 Ψ)
+
       abbrev at53 : Typed.TF T33 O0
       at53 = λ Ψ. Typed.both s34 (at52 Ψ)
+
       abbrev at54 : Typed.TF T33 O0
       at54 = λ Ψ. at53 Ψ
+
       abbrev at55 : Typed.TF T33 O0
       at55 = λ Ψ. at54 Ψ
+
       abbrev at56 : Typed.TF T30 O0
       at56 = λ Ψ. Typed.both s31 (at55 Ψ)
+
       abbrev at57 : Typed.TF T30 O0
       at57 = λ Ψ. at56 Ψ
+
       abbrev at58 : Typed.TF T30 O0
       at58 = λ Ψ. at57 Ψ
+
       abbrev at59 : Typed.TF T27 O0
       at59 = λ Ψ. Typed.both s28 (at58 Ψ)
+
       abbrev at60 : Typed.TF T27 O0
       at60 = λ Ψ. at59 Ψ
+
       abbrev at61 : Typed.TF T27 O0
       at61 = λ Ψ. at60 Ψ
+
       abbrev at62 : Typed.TF T24 O0
       at62 = λ Ψ. Typed.both s25 (at61 Ψ)
+
       abbrev at63 : Typed.TF T24 O0
       at63 = λ Ψ. at62 Ψ
+
       abbrev at64 : Typed.TF T24 O0
       at64 = λ Ψ. at63 Ψ
+
       abbrev at65 : Typed.TF T22 O0
       at65 = λ Ψ. Typed.both s22 (at64 Ψ)
+
       abbrev at66 : Typed.TF T22 O0
       at66 = λ Ψ. at65 Ψ
+
       abbrev at67 : Typed.TF T21 O0
       at67 = λ Ψ. Typed.pass T21 T22 s20 (at66 Ψ)
+
       abbrev at68 : Typed.TF T20 O0
       at68 = λ Ψ. Typed.both s19 (at67 Ψ)
+
       abbrev at69 : Typed.TF T19 O0
       at69 = λ Ψ. Typed.ask s18 (at68 Ψ)
+
       abbrev at70 : Typed.TF T17 O0
       at70 = λ Ψ. Typed.give s17 (at69 Ψ)
+
       abbrev at71 : Typed.TF T17 O0
       at71 = λ Ψ. at70 Ψ
+
       abbrev at72 : Typed.TF T16 O0
       at72 = λ Ψ. Typed.ask s15 (at71 Ψ)
+
       abbrev at73 : Typed.TF T14 O0
       at73 = λ Ψ. Typed.give s14 (at72 Ψ)
+
       abbrev at74 : Typed.TF T14 O0
       at74 = λ Ψ. at73 Ψ
+
       abbrev at75 : Typed.TF T13 O0
       at75 = λ Ψ. Typed.ask s12 (at74 Ψ)
+
       abbrev at76 : Typed.TF T11 O0
       at76 = λ Ψ. Typed.give s11 (at75 Ψ)
+
       abbrev at77 : Typed.TF T11 O0
       at77 = λ Ψ. at76 Ψ
+
       abbrev at78 : Typed.TF T10 O0
       at78 = λ Ψ. Typed.ask s9 (at77 Ψ)
+
       abbrev at79 : Typed.TF T8 O0
       at79 = λ Ψ. Typed.give s8 (at78 Ψ)
+
       abbrev at80 : Typed.TF T8 O0
       at80 = λ Ψ. at79 Ψ
+
       abbrev at81 : Typed.TF T7 O0
       at81 = λ Ψ. Typed.ask s6 (at80 Ψ)
+
       abbrev at82 : Typed.TF T5 O0
       at82 = λ Ψ. Typed.give s5 (at81 Ψ)
+
       abbrev at83 : Typed.TF T5 O0
       at83 = λ Ψ. at82 Ψ
+
       abbrev at84 : Typed.TF T4 O0
       at84 = λ Ψ. Typed.both s3 (at83 Ψ)
+
       abbrev at85 : Typed.TF T3 O0
       at85 = λ Ψ. Typed.give s2 (at84 Ψ)
+
       abbrev at86 : Typed.TF T2 O0
       at86 = λ Ψ. Typed.give s1 (at85 Ψ)
+
       abbrev at87 : Typed.TF T0 O0
       at87 = λ Ψ. Typed.give s0 (at86 Ψ)
+
       abbrev pub Φ : Typed.TF T0 O0
       Φ = at87
-      module _ { M : Type 1 } (𝓤 : URA.URA M) (H : Wp.Heap 𝓤) (A : Atoms.Atoms 𝓤) (W : Kit.Given 𝓤 H A) (𝓣 : Wp.Tables 𝓤 H) where
+
+      module _ {M : Type 1} (𝓤 : URA.URA M) (H : Wp.Heap 𝓤) (A : Atoms.Atoms 𝓤) (W : Kit.Given 𝓤 H A)
+          (𝓣 : Wp.Tables 𝓤 H) where
         abbrev Knowns : Type 1
-        Knowns = Plain.Known 𝓤 H A W 𝓣 0 ps·0 r·0 (claims· .0) (claims· .1) "cases::script::packet" × Plain.Known 𝓤 H A W 𝓣 6 ps·1 r·1 (claims· .2)
-            (claims· .3) "cases::machine::deliver" × Plain.Known 𝓤 H A W 𝓣 0 ps·2 r·2 (claims· .4) (claims· .5) "cases::script::answer_number" ×
-            Plain.Known 𝓤 H A W 𝓣 6 ps·3 r·3 (claims· .6) (claims· .7) "cases::machine::again"
+        Knowns = Plain.Known 𝓤 H A W 𝓣 0 ps·0 r·0 (claims· .0) (claims· .1) "cases::script::packet" × Plain.Known 𝓤 H A
+            W 𝓣 6 ps·1 r·1 (claims· .2) (claims· .3) "cases::machine::deliver" × Plain.Known 𝓤 H A W 𝓣 0 ps·2 r·2
+            (claims· .4) (claims· .5) "cases::script::answer_number" × Plain.Known 𝓤 H A W 𝓣 6 ps·3 r·3 (claims· .6)
+            (claims· .7) "cases::machine::again"
+
       module _ (κs : Lifetimes.Lfts 7) (qs : Lifetimes.Shares 7) where
         abbrev life0 : Row.Life
         life0 = Row.lease (κs .0) (qs .0)
+
         abbrev life1 : Row.Life
         life1 = Row.lease (κs .1 .0) (qs .1 .0)
+
         abbrev life2 : Row.Life
         life2 = Row.lease (κs .1 .1 .0) (qs .1 .1 .0)
+
         abbrev life3 : Row.Life
         life3 = Row.lease (κs .1 .1 .1 .0) (qs .1 .1 .1 .0)
+
         abbrev life4 : Row.Life
         life4 = Row.lease (κs .1 .1 .1 .1 .0) (qs .1 .1 .1 .1 .0)
+
         abbrev life5 : Row.Life
         life5 = Row.lease (κs .1 .1 .1 .1 .1 .0) (qs .1 .1 .1 .1 .1 .0)
+
         abbrev life6 : Row.Life
         life6 = Row.lease (κs .1 .1 .1 .1 .1 .1 .0) (qs .1 .1 .1 .1 .1 .1 .0)
+
+        abbrev l1 : Row.Entry
+        l1 = (1, Relend.mslice-owed RelayPending.row ref5 0 7 life0)
+
+        abbrev l2 : Row.Entry
+        l2 = (2, Relend.mslice-owed RelayCircuit.row ref6 1 8 life1)
+
+        abbrev l3 : Row.Entry
+        l3 = (3, Relend.mslice-owed ReservationUsage.row ref7 2 9 life2)
+
+        abbrev l4 : Row.Entry
+        l4 = (4, Relend.mslice-owed InflightAction.row ref8 3 10 life3)
+
+        abbrev l5 : Row.Entry
+        l5 = (5, Relend.mslice-owed (Referent.rtF (Referent.fInt Syntax.w32)) ref9 4 11 life4)
+
+        abbrev l1·1 : Row.Entry
+        l1·1 = (1, Relend.mslice-owed RelayPending.row ref5 0 12 life0)
+
+        abbrev l2·1 : Row.Entry
+        l2·1 = (2, Relend.mslice-owed RelayCircuit.row ref6 1 13 life1)
+
+        abbrev l3·1 : Row.Entry
+        l3·1 = (3, Relend.mslice-owed ReservationUsage.row ref7 2 14 life2)
+
+        abbrev l4·1 : Row.Entry
+        l4·1 = (4, Relend.mslice-owed InflightAction.row ref8 3 15 life3)
+
+        abbrev l5·1 : Row.Entry
+        l5·1 = (5, Relend.mslice-owed (Referent.rtF (Referent.fInt Syntax.w32)) ref9 4 16 life4)
+
         abbrev g5 : List.List Row.Entry
-        g5 = (0, Rows.any-gone (Syntax.tyInt Syntax.w64)) ∷ (1, Relend.mslice-owed RelayPending.row ref5 0 7 life0,) ∷ (2, Mut.mslice RelayCircuit.row
-            ref6 1,) ∷ (3, Mut.mslice ReservationUsage.row ref7 2,) ∷ (4, Mut.mslice InflightAction.row ref8 3,) ∷ (5, Mut.mslice (Referent.rtF
-            (Referent.fInt Syntax.w32)) ref9 4,) ∷ (6, Rows.whole (Declared'.row Relayed.the-type)) ∷ (7, Rows.sslice (Referent.rtF (Referent.fInt
-            Syntax.w8)) ref10 5,) ∷ (8, Rows.sslice (Referent.rtF (Referent.fInt Syntax.w8)) ref11 6,) ∷ (9, Rows.whole (Declared'.row
-            Script.the-type)) ∷ (10, Rows.whole (Declared'.row RelayPacket.the-type),) ∷ (11, Rows.any-gone Laws'''.mir,) ∷ (12, Rows.any-gone
-            Laws'.mir,) ∷ (13, Relend.msptr RelayPending.row ref0 7,) ∷ (14, Rows.any-gone (Syntax.tyStruct (38 ∷ 91 ∷ 93 ∷ List.[]) (Syntax.tcons
-            ref0 (Syntax.tcons (Syntax.tyInt Syntax.w64) Syntax.tnil))),) ∷ (15, Rows.any-gone ref1,) ∷ List.[]
+        g5 = e0 ∷ l1 ∷ e2 ∷ e3 ∷ e4 ∷ e5 ∷ e6 ∷ e7 ∷ e8 ∷ e9 ∷ e10·1 ∷ e11 ∷ e12 ∷ e13·1 ∷ e14 ∷ e15 ∷ List.[]
+
         abbrev g6 : List.List Row.Entry
-        g6 = (0, Rows.any-gone (Syntax.tyInt Syntax.w64)) ∷ (1, Relend.mslice-owed RelayPending.row ref5 0 7 life0,) ∷ (2, Mut.mslice RelayCircuit.row
-            ref6 1,) ∷ (3, Mut.mslice ReservationUsage.row ref7 2,) ∷ (4, Mut.mslice InflightAction.row ref8 3,) ∷ (5, Mut.mslice (Referent.rtF
-            (Referent.fInt Syntax.w32)) ref9 4,) ∷ (6, Rows.whole (Declared'.row Relayed.the-type)) ∷ (7, Rows.sslice (Referent.rtF (Referent.fInt
-            Syntax.w8)) ref10 5,) ∷ (8, Rows.sslice (Referent.rtF (Referent.fInt Syntax.w8)) ref11 6,) ∷ (9, Rows.whole (Declared'.row
-            Script.the-type)) ∷ (10, Rows.whole (Declared'.row RelayPacket.the-type),) ∷ (11, Rows.any-gone Laws'''.mir,) ∷ (12, Rows.any-gone
-            Laws'.mir,) ∷ (13, Rows.any-gone ref0,) ∷ (14, Mut.mslice RelayPending.row ref0 7,) ∷ (15, Rows.any-gone ref1,) ∷ List.[]
+        g6 = e0 ∷ l1 ∷ e2 ∷ e3 ∷ e4 ∷ e5 ∷ e6 ∷ e7 ∷ e8 ∷ e9 ∷ e10·1 ∷ e11 ∷ e12 ∷ e13 ∷ e14·1 ∷ e15 ∷ List.[]
+
         abbrev g7 : List.List Row.Entry
-        g7 = (0, Rows.any-gone (Syntax.tyInt Syntax.w64)) ∷ (1, Relend.mslice-owed RelayPending.row ref5 0 7 life0,) ∷ (2, Relend.mslice-owed
-            RelayCircuit.row ref6 1 8 life1,) ∷ (3, Mut.mslice ReservationUsage.row ref7 2,) ∷ (4, Mut.mslice InflightAction.row ref8 3,) ∷ (5,
-            Mut.mslice (Referent.rtF (Referent.fInt Syntax.w32)) ref9 4,) ∷ (6, Rows.whole (Declared'.row Relayed.the-type)) ∷ (7, Rows.sslice
-            (Referent.rtF (Referent.fInt Syntax.w8)) ref10 5,) ∷ (8, Rows.sslice (Referent.rtF (Referent.fInt Syntax.w8)) ref11 6,) ∷ (9, Rows.whole
-            (Declared'.row Script.the-type)) ∷ (10, Rows.whole (Declared'.row RelayPacket.the-type),) ∷ (11, Rows.any-gone Laws'''.mir,) ∷ (12,
-            Rows.any-gone Laws'.mir,) ∷ (13, Rows.any-gone ref0,) ∷ (14, Mut.mslice RelayPending.row ref0 7,) ∷ (15, Relend.msptr RelayCircuit.row
-            ref1 8,) ∷ List.[]
+        g7 = e0 ∷ l1 ∷ l2 ∷ e3 ∷ e4 ∷ e5 ∷ e6 ∷ e7 ∷ e8 ∷ e9 ∷ e10·1 ∷ e11 ∷ e12 ∷ e13 ∷ e14·1 ∷ e15·1 ∷ List.[]
+
         abbrev g8 : List.List Row.Entry
-        g8 = (0, Rows.any-gone (Syntax.tyInt Syntax.w64)) ∷ (1, Relend.mslice-owed RelayPending.row ref5 0 7 life0,) ∷ (2, Relend.mslice-owed
-            RelayCircuit.row ref6 1 8 life1,) ∷ (3, Mut.mslice ReservationUsage.row ref7 2,) ∷ (4, Mut.mslice InflightAction.row ref8 3,) ∷ (5,
-            Mut.mslice (Referent.rtF (Referent.fInt Syntax.w32)) ref9 4,) ∷ (6, Rows.whole (Declared'.row Relayed.the-type)) ∷ (7, Rows.sslice
-            (Referent.rtF (Referent.fInt Syntax.w8)) ref10 5,) ∷ (8, Rows.sslice (Referent.rtF (Referent.fInt Syntax.w8)) ref11 6,) ∷ (9, Rows.whole
-            (Declared'.row Script.the-type)) ∷ (10, Rows.whole (Declared'.row RelayPacket.the-type),) ∷ (11, Rows.any-gone Laws'''.mir,) ∷ (12,
-            Rows.any-gone Laws'.mir,) ∷ (13, Rows.any-gone ref0,) ∷ (14, Mut.mslice RelayPending.row ref0 7,) ∷ (15, Rows.any-gone ref1,) ∷ List.[]
+        g8 = e0 ∷ l1 ∷ l2 ∷ e3 ∷ e4 ∷ e5 ∷ e6 ∷ e7 ∷ e8 ∷ e9 ∷ e10·1 ∷ e11 ∷ e12 ∷ e13 ∷ e14·1 ∷ e15 ∷ List.[]
+
         abbrev g10 : List.List Row.Entry
-        g10 = (0, Rows.any-gone (Syntax.tyInt Syntax.w64)) ∷ (1, Relend.mslice-owed RelayPending.row ref5 0 7 life0,) ∷ (2, Relend.mslice-owed
-            RelayCircuit.row ref6 1 8 life1,) ∷ (3, Relend.mslice-owed ReservationUsage.row ref7 2 9 life2,) ∷ (4, Mut.mslice InflightAction.row ref8
-            3,) ∷ (5, Mut.mslice (Referent.rtF (Referent.fInt Syntax.w32)) ref9 4,) ∷ (6, Rows.whole (Declared'.row Relayed.the-type)) ∷ (7,
-            Rows.sslice (Referent.rtF (Referent.fInt Syntax.w8)) ref10 5,) ∷ (8, Rows.sslice (Referent.rtF (Referent.fInt Syntax.w8)) ref11 6,) ∷ (9,
-            Rows.whole (Declared'.row Script.the-type)) ∷ (10, Rows.whole (Declared'.row RelayPacket.the-type),) ∷ (11, Rows.any-gone Laws'''.mir,) ∷
-            (12, Rows.any-gone Laws'.mir,) ∷ (13, Rows.any-gone ref0,) ∷ (14, Mut.mslice RelayPending.row ref0 7,) ∷ (15, Rows.any-gone ref1,) ∷
-            List.[]
+        g10 = e0 ∷ l1 ∷ l2 ∷ l3 ∷ e4 ∷ e5 ∷ e6 ∷ e7 ∷ e8 ∷ e9 ∷ e10·1 ∷ e11 ∷ e12 ∷ e13 ∷ e14·1 ∷ e15 ∷ List.[]
+
         abbrev g13 : List.List Row.Entry
-        g13 = (0, Rows.any-gone (Syntax.tyInt Syntax.w64)) ∷ (1, Relend.mslice-owed RelayPending.row ref5 0 7 life0,) ∷ (2, Relend.mslice-owed
-            RelayCircuit.row ref6 1 8 life1,) ∷ (3, Relend.mslice-owed ReservationUsage.row ref7 2 9 life2,) ∷ (4, Relend.mslice-owed
-            InflightAction.row ref8 3 10 life3,) ∷ (5, Mut.mslice (Referent.rtF (Referent.fInt Syntax.w32)) ref9 4,) ∷ (6, Rows.whole (Declared'.row
-            Relayed.the-type)) ∷ (7, Rows.sslice (Referent.rtF (Referent.fInt Syntax.w8)) ref10 5,) ∷ (8, Rows.sslice (Referent.rtF (Referent.fInt
-            Syntax.w8)) ref11 6,) ∷ (9, Rows.whole (Declared'.row Script.the-type)) ∷ (10, Rows.whole (Declared'.row RelayPacket.the-type),) ∷ (11,
-            Rows.any-gone Laws'''.mir,) ∷ (12, Rows.any-gone Laws'.mir,) ∷ (13, Rows.any-gone ref0,) ∷ (14, Mut.mslice RelayPending.row ref0 7,) ∷
-            (15, Rows.any-gone ref1,) ∷ List.[]
+        g13 = e0 ∷ l1 ∷ l2 ∷ l3 ∷ l4 ∷ e5 ∷ e6 ∷ e7 ∷ e8 ∷ e9 ∷ e10·1 ∷ e11 ∷ e12 ∷ e13 ∷ e14·1 ∷ e15 ∷ List.[]
+
         abbrev g16 : List.List Row.Entry
-        g16 = (0, Rows.any-gone (Syntax.tyInt Syntax.w64)) ∷ (1, Relend.mslice-owed RelayPending.row ref5 0 7 life0,) ∷ (2, Relend.mslice-owed
-            RelayCircuit.row ref6 1 8 life1,) ∷ (3, Relend.mslice-owed ReservationUsage.row ref7 2 9 life2,) ∷ (4, Relend.mslice-owed
-            InflightAction.row ref8 3 10 life3,) ∷ (5, Relend.mslice-owed (Referent.rtF (Referent.fInt Syntax.w32)) ref9 4 11 life4,) ∷ (6, Rows.whole
-            (Declared'.row Relayed.the-type)) ∷ (7, Rows.sslice (Referent.rtF (Referent.fInt Syntax.w8)) ref10 5,) ∷ (8, Rows.sslice (Referent.rtF
-            (Referent.fInt Syntax.w8)) ref11 6,) ∷ (9, Rows.whole (Declared'.row Script.the-type)) ∷ (10, Rows.whole (Declared'.row
-            RelayPacket.the-type),) ∷ (11, Rows.any-gone Laws'''.mir,) ∷ (12, Rows.any-gone Laws'.mir,) ∷ (13, Rows.any-gone ref0,) ∷ (14, Mut.mslice
-            RelayPending.row ref0 7,) ∷ (15, Rows.any-gone ref1,) ∷ List.[]
+        g16 = e0 ∷ l1 ∷ l2 ∷ l3 ∷ l4 ∷ l5 ∷ e6 ∷ e7 ∷ e8 ∷ e9 ∷ e10·1 ∷ e11 ∷ e12 ∷ e13 ∷ e14·1 ∷ e15 ∷ List.[]
+
         abbrev g19 : List.List Row.Entry
-        g19 = (0, Rows.any-gone (Syntax.tyInt Syntax.w64)) ∷ (1, Relend.mslice-owed RelayPending.row ref5 0 7 life0,) ∷ (2, Relend.mslice-owed
-            RelayCircuit.row ref6 1 8 life1,) ∷ (3, Relend.mslice-owed ReservationUsage.row ref7 2 9 life2,) ∷ (4, Relend.mslice-owed
-            InflightAction.row ref8 3 10 life3,) ∷ (5, Relend.mslice-owed (Referent.rtF (Referent.fInt Syntax.w32)) ref9 4 11 life4,) ∷ (6, Rows.whole
-            (Declared'.row Relayed.the-type)) ∷ (7, Rows.sslice (Referent.rtF (Referent.fInt Syntax.w8)) ref10 5,) ∷ (8, Rows.sslice (Referent.rtF
-            (Referent.fInt Syntax.w8)) ref11 6,) ∷ (9, Rows.whole (Declared'.row Script.the-type)) ∷ (10, Rows.whole (Declared'.row
-            RelayPacket.the-type),) ∷ (11, Rows.whole (Declared'.row Relayed.the-type)) ∷ (12, Rows.any-gone Laws'.mir,) ∷ (13, Rows.any-gone ref0,) ∷
-            (14, Mut.msleft RelayPending.row ref0,) ∷ (15, Rows.any-gone ref1,) ∷ List.[]
+        g19 = e0 ∷ l1 ∷ l2 ∷ l3 ∷ l4 ∷ l5 ∷ e6 ∷ e7 ∷ e8 ∷ e9 ∷ e10·1 ∷ e11·1 ∷ e12 ∷ e13 ∷ e14·2 ∷ e15 ∷ List.[]
+
         abbrev g21 : List.List Row.Entry
-        g21 = (0, Rows.any-gone (Syntax.tyInt Syntax.w64)) ∷ (1, Relend.mslice-owed RelayPending.row ref5 0 7 life0,) ∷ (2, Relend.mslice-owed
-            RelayCircuit.row ref6 1 8 life1,) ∷ (3, Relend.mslice-owed ReservationUsage.row ref7 2 9 life2,) ∷ (4, Relend.mslice-owed
-            InflightAction.row ref8 3 10 life3,) ∷ (5, Relend.mslice-owed (Referent.rtF (Referent.fInt Syntax.w32)) ref9 4 11 life4,) ∷ (6,
-            Rows.any-gone Laws'''.mir,) ∷ (7, Rows.sslice (Referent.rtF (Referent.fInt Syntax.w8)) ref10 5,) ∷ (8, Rows.sslice (Referent.rtF
-            (Referent.fInt Syntax.w8)) ref11 6,) ∷ (9, Rows.whole (Declared'.row Script.the-type)) ∷ (10, Rows.whole (Declared'.row
-            RelayPacket.the-type),) ∷ (11, Rows.whole (Declared'.row Relayed.the-type)) ∷ (12, Rows.any-gone Laws'.mir,) ∷ (13, Rows.any-gone ref0,) ∷
-            (14, Mut.msleft RelayPending.row ref0,) ∷ (15, Rows.any-gone ref1,) ∷ List.[]
+        g21 = e0 ∷ l1 ∷ l2 ∷ l3 ∷ l4 ∷ l5 ∷ e6·1 ∷ e7 ∷ e8 ∷ e9 ∷ e10·1 ∷ e11·1 ∷ e12 ∷ e13 ∷ e14·2 ∷ e15 ∷ List.[]
+
         abbrev g22 : List.List Row.Entry
-        g22 = (0, Rows.any-gone (Syntax.tyInt Syntax.w64)) ∷ (1, Mut.mslice RelayPending.row ref5 0,) ∷ (2, Relend.mslice-owed RelayCircuit.row ref6 1
-            8 life1,) ∷ (3, Relend.mslice-owed ReservationUsage.row ref7 2 9 life2,) ∷ (4, Relend.mslice-owed InflightAction.row ref8 3 10 life3,) ∷
-            (5, Relend.mslice-owed (Referent.rtF (Referent.fInt Syntax.w32)) ref9 4 11 life4,) ∷ (6, Rows.any-gone Laws'''.mir,) ∷ (7, Rows.sslice
-            (Referent.rtF (Referent.fInt Syntax.w8)) ref10 5,) ∷ (8, Rows.sslice (Referent.rtF (Referent.fInt Syntax.w8)) ref11 6,) ∷ (9, Rows.whole
-            (Declared'.row Script.the-type)) ∷ (10, Rows.whole (Declared'.row RelayPacket.the-type),) ∷ (11, Rows.whole (Declared'.row
-            Relayed.the-type)) ∷ (12, Rows.any-gone Laws'.mir,) ∷ (13, Rows.any-gone ref0,) ∷ (14, Rows.any-gone (Syntax.tyStruct (38 ∷ 91 ∷ 93 ∷
-            List.[]) (Syntax.tcons ref0 (Syntax.tcons (Syntax.tyInt Syntax.w64) Syntax.tnil))),) ∷ (15, Rows.any-gone ref1,) ∷ List.[]
+        g22 = e0 ∷ e1 ∷ l2 ∷ l3 ∷ l4 ∷ l5 ∷ e6·1 ∷ e7 ∷ e8 ∷ e9 ∷ e10·1 ∷ e11·1 ∷ e12 ∷ e13 ∷ e14 ∷ e15 ∷ List.[]
+
         abbrev g23 : List.List Row.Entry
-        g23 = (0, Rows.any-gone (Syntax.tyInt Syntax.w64)) ∷ (1, Mut.mslice RelayPending.row ref5 0,) ∷ (2, Mut.mslice RelayCircuit.row ref6 1,) ∷ (3,
-            Relend.mslice-owed ReservationUsage.row ref7 2 9 life2,) ∷ (4, Relend.mslice-owed InflightAction.row ref8 3 10 life3,) ∷ (5,
-            Relend.mslice-owed (Referent.rtF (Referent.fInt Syntax.w32)) ref9 4 11 life4,) ∷ (6, Rows.any-gone Laws'''.mir,) ∷ (7, Rows.sslice
-            (Referent.rtF (Referent.fInt Syntax.w8)) ref10 5,) ∷ (8, Rows.sslice (Referent.rtF (Referent.fInt Syntax.w8)) ref11 6,) ∷ (9, Rows.whole
-            (Declared'.row Script.the-type)) ∷ (10, Rows.whole (Declared'.row RelayPacket.the-type),) ∷ (11, Rows.whole (Declared'.row
-            Relayed.the-type)) ∷ (12, Rows.any-gone Laws'.mir,) ∷ (13, Rows.any-gone ref0,) ∷ (14, Rows.any-gone (Syntax.tyStruct (38 ∷ 91 ∷ 93 ∷
-            List.[]) (Syntax.tcons ref0 (Syntax.tcons (Syntax.tyInt Syntax.w64) Syntax.tnil))),) ∷ (15, Rows.any-gone ref1,) ∷ List.[]
+        g23 = e0 ∷ e1 ∷ e2 ∷ l3 ∷ l4 ∷ l5 ∷ e6·1 ∷ e7 ∷ e8 ∷ e9 ∷ e10·1 ∷ e11·1 ∷ e12 ∷ e13 ∷ e14 ∷ e15 ∷ List.[]
+
         abbrev g25 : List.List Row.Entry
-        g25 = (0, Rows.any-gone (Syntax.tyInt Syntax.w64)) ∷ (1, Mut.mslice RelayPending.row ref5 0,) ∷ (2, Mut.mslice RelayCircuit.row ref6 1,) ∷ (3,
-            Mut.mslice ReservationUsage.row ref7 2,) ∷ (4, Relend.mslice-owed InflightAction.row ref8 3 10 life3,) ∷ (5, Relend.mslice-owed
-            (Referent.rtF (Referent.fInt Syntax.w32)) ref9 4 11 life4,) ∷ (6, Rows.any-gone Laws'''.mir,) ∷ (7, Rows.sslice (Referent.rtF
-            (Referent.fInt Syntax.w8)) ref10 5,) ∷ (8, Rows.sslice (Referent.rtF (Referent.fInt Syntax.w8)) ref11 6,) ∷ (9, Rows.whole (Declared'.row
-            Script.the-type)) ∷ (10, Rows.whole (Declared'.row RelayPacket.the-type),) ∷ (11, Rows.whole (Declared'.row Relayed.the-type)) ∷ (12,
-            Rows.any-gone Laws'.mir,) ∷ (13, Rows.any-gone ref0,) ∷ (14, Rows.any-gone (Syntax.tyStruct (38 ∷ 91 ∷ 93 ∷ List.[]) (Syntax.tcons ref0
-            (Syntax.tcons (Syntax.tyInt Syntax.w64) Syntax.tnil))),) ∷ (15, Rows.any-gone ref1,) ∷ List.[]
+        g25 = e0 ∷ e1 ∷ e2 ∷ e3 ∷ l4 ∷ l5 ∷ e6·1 ∷ e7 ∷ e8 ∷ e9 ∷ e10·1 ∷ e11·1 ∷ e12 ∷ e13 ∷ e14 ∷ e15 ∷ List.[]
+
         abbrev g27 : List.List Row.Entry
-        g27 = (0, Rows.any-gone (Syntax.tyInt Syntax.w64)) ∷ (1, Mut.mslice RelayPending.row ref5 0,) ∷ (2, Mut.mslice RelayCircuit.row ref6 1,) ∷ (3,
-            Mut.mslice ReservationUsage.row ref7 2,) ∷ (4, Mut.mslice InflightAction.row ref8 3,) ∷ (5, Relend.mslice-owed (Referent.rtF
-            (Referent.fInt Syntax.w32)) ref9 4 11 life4,) ∷ (6, Rows.any-gone Laws'''.mir,) ∷ (7, Rows.sslice (Referent.rtF (Referent.fInt Syntax.w8))
-            ref10 5,) ∷ (8, Rows.sslice (Referent.rtF (Referent.fInt Syntax.w8)) ref11 6,) ∷ (9, Rows.whole (Declared'.row Script.the-type)) ∷ (10,
-            Rows.whole (Declared'.row RelayPacket.the-type),) ∷ (11, Rows.whole (Declared'.row Relayed.the-type)) ∷ (12, Rows.any-gone Laws'.mir,) ∷
-            (13, Rows.any-gone ref0,) ∷ (14, Rows.any-gone (Syntax.tyStruct (38 ∷ 91 ∷ 93 ∷ List.[]) (Syntax.tcons ref0 (Syntax.tcons (Syntax.tyInt
-            Syntax.w64) Syntax.tnil))),) ∷ (15, Rows.any-gone ref1,) ∷ List.[]
+        g27 = e0 ∷ e1 ∷ e2 ∷ e3 ∷ e4 ∷ l5 ∷ e6·1 ∷ e7 ∷ e8 ∷ e9 ∷ e10·1 ∷ e11·1 ∷ e12 ∷ e13 ∷ e14 ∷ e15 ∷ List.[]
+
         abbrev g36 : List.List Row.Entry
-        g36 = (0, Rows.any-gone (Syntax.tyInt Syntax.w64)) ∷ (1, Relend.mslice-owed RelayPending.row ref5 0 12 life0,) ∷ (2, Mut.mslice
-            RelayCircuit.row ref6 1,) ∷ (3, Mut.mslice ReservationUsage.row ref7 2,) ∷ (4, Mut.mslice InflightAction.row ref8 3,) ∷ (5, Mut.mslice
-            (Referent.rtF (Referent.fInt Syntax.w32)) ref9 4,) ∷ (6, Rows.any-gone Laws'''.mir,) ∷ (7, Rows.sslice (Referent.rtF (Referent.fInt
-            Syntax.w8)) ref10 5,) ∷ (8, Rows.sslice (Referent.rtF (Referent.fInt Syntax.w8)) ref11 6,) ∷ (9, Rows.whole (Declared'.row
-            Script.the-type)) ∷ (10, Rows.whole (Declared'.row RelayPacket.the-type),) ∷ (11, Rows.whole (Declared'.row Relayed.the-type)) ∷ (12,
-            Rows.any-gone Laws'.mir,) ∷ (13, Rows.any-gone ref0,) ∷ (14, Rows.any-gone (Syntax.tyStruct (38 ∷ 91 ∷ 93 ∷ List.[]) (Syntax.tcons ref0
-            (Syntax.tcons (Syntax.tyInt Syntax.w64) Syntax.tnil))),) ∷ (15, Rows.any-gone ref1,) ∷ List.[]
+        g36 = e0 ∷ l1·1 ∷ e2 ∷ e3 ∷ e4 ∷ e5 ∷ e6·1 ∷ e7 ∷ e8 ∷ e9 ∷ e10·1 ∷ e11·1 ∷ e12 ∷ e13 ∷ e14 ∷ e15 ∷ List.[]
+
         abbrev g39 : List.List Row.Entry
-        g39 = (0, Rows.any-gone (Syntax.tyInt Syntax.w64)) ∷ (1, Relend.mslice-owed RelayPending.row ref5 0 12 life0,) ∷ (2, Relend.mslice-owed
-            RelayCircuit.row ref6 1 13 life1,) ∷ (3, Mut.mslice ReservationUsage.row ref7 2,) ∷ (4, Mut.mslice InflightAction.row ref8 3,) ∷ (5,
-            Mut.mslice (Referent.rtF (Referent.fInt Syntax.w32)) ref9 4,) ∷ (6, Rows.any-gone Laws'''.mir,) ∷ (7, Rows.sslice (Referent.rtF
-            (Referent.fInt Syntax.w8)) ref10 5,) ∷ (8, Rows.sslice (Referent.rtF (Referent.fInt Syntax.w8)) ref11 6,) ∷ (9, Rows.whole (Declared'.row
-            Script.the-type)) ∷ (10, Rows.whole (Declared'.row RelayPacket.the-type),) ∷ (11, Rows.whole (Declared'.row Relayed.the-type)) ∷ (12,
-            Rows.any-gone Laws'.mir,) ∷ (13, Rows.any-gone ref0,) ∷ (14, Rows.any-gone (Syntax.tyStruct (38 ∷ 91 ∷ 93 ∷ List.[]) (Syntax.tcons ref0
-            (Syntax.tcons (Syntax.tyInt Syntax.w64) Syntax.tnil))),) ∷ (15, Rows.any-gone ref1,) ∷ List.[]
+        g39 = e0 ∷ l1·1 ∷ l2·1 ∷ e3 ∷ e4 ∷ e5 ∷ e6·1 ∷ e7 ∷ e8 ∷ e9 ∷ e10·1 ∷ e11·1 ∷ e12 ∷ e13 ∷ e14 ∷ e15 ∷ List.[]
+
         abbrev g42 : List.List Row.Entry
-        g42 = (0, Rows.any-gone (Syntax.tyInt Syntax.w64)) ∷ (1, Relend.mslice-owed RelayPending.row ref5 0 12 life0,) ∷ (2, Relend.mslice-owed
-            RelayCircuit.row ref6 1 13 life1,) ∷ (3, Relend.mslice-owed ReservationUsage.row ref7 2 14 life2,) ∷ (4, Mut.mslice InflightAction.row
-            ref8 3,) ∷ (5, Mut.mslice (Referent.rtF (Referent.fInt Syntax.w32)) ref9 4,) ∷ (6, Rows.any-gone Laws'''.mir,) ∷ (7, Rows.sslice
-            (Referent.rtF (Referent.fInt Syntax.w8)) ref10 5,) ∷ (8, Rows.sslice (Referent.rtF (Referent.fInt Syntax.w8)) ref11 6,) ∷ (9, Rows.whole
-            (Declared'.row Script.the-type)) ∷ (10, Rows.whole (Declared'.row RelayPacket.the-type),) ∷ (11, Rows.whole (Declared'.row
-            Relayed.the-type)) ∷ (12, Rows.any-gone Laws'.mir,) ∷ (13, Rows.any-gone ref0,) ∷ (14, Rows.any-gone (Syntax.tyStruct (38 ∷ 91 ∷ 93 ∷
-            List.[]) (Syntax.tcons ref0 (Syntax.tcons (Syntax.tyInt Syntax.w64) Syntax.tnil))),) ∷ (15, Rows.any-gone ref1,) ∷ List.[]
+        g42 = e0 ∷ l1·1 ∷ l2·1 ∷ l3·1 ∷ e4 ∷ e5 ∷ e6·1 ∷ e7 ∷ e8 ∷ e9 ∷ e10·1 ∷ e11·1 ∷ e12 ∷ e13 ∷ e14 ∷ e15 ∷ List.[]
+
         abbrev g45 : List.List Row.Entry
-        g45 = (0, Rows.any-gone (Syntax.tyInt Syntax.w64)) ∷ (1, Relend.mslice-owed RelayPending.row ref5 0 12 life0,) ∷ (2, Relend.mslice-owed
-            RelayCircuit.row ref6 1 13 life1,) ∷ (3, Relend.mslice-owed ReservationUsage.row ref7 2 14 life2,) ∷ (4, Relend.mslice-owed
-            InflightAction.row ref8 3 15 life3,) ∷ (5, Mut.mslice (Referent.rtF (Referent.fInt Syntax.w32)) ref9 4,) ∷ (6, Rows.any-gone Laws'''.mir,)
-            ∷ (7, Rows.sslice (Referent.rtF (Referent.fInt Syntax.w8)) ref10 5,) ∷ (8, Rows.sslice (Referent.rtF (Referent.fInt Syntax.w8)) ref11 6,)
-            ∷ (9, Rows.whole (Declared'.row Script.the-type)) ∷ (10, Rows.whole (Declared'.row RelayPacket.the-type),) ∷ (11, Rows.whole
-            (Declared'.row Relayed.the-type)) ∷ (12, Rows.any-gone Laws'.mir,) ∷ (13, Rows.any-gone ref0,) ∷ (14, Rows.any-gone (Syntax.tyStruct (38 ∷
-            91 ∷ 93 ∷ List.[]) (Syntax.tcons ref0 (Syntax.tcons (Syntax.tyInt Syntax.w64) Syntax.tnil))),) ∷ (15, Rows.any-gone ref1,) ∷ List.[]
+        g45 = e0 ∷ l1·1 ∷ l2·1 ∷ l3·1 ∷ l4·1 ∷ e5 ∷ e6·1 ∷ e7 ∷ e8 ∷ e9 ∷ e10·1 ∷ e11·1 ∷ e12 ∷ e13 ∷ e14 ∷ e15 ∷
+            List.[]
+
         abbrev g48 : List.List Row.Entry
-        g48 = (0, Rows.any-gone (Syntax.tyInt Syntax.w64)) ∷ (1, Relend.mslice-owed RelayPending.row ref5 0 12 life0,) ∷ (2, Relend.mslice-owed
-            RelayCircuit.row ref6 1 13 life1,) ∷ (3, Relend.mslice-owed ReservationUsage.row ref7 2 14 life2,) ∷ (4, Relend.mslice-owed
-            InflightAction.row ref8 3 15 life3,) ∷ (5, Relend.mslice-owed (Referent.rtF (Referent.fInt Syntax.w32)) ref9 4 16 life4,) ∷ (6,
-            Rows.any-gone Laws'''.mir,) ∷ (7, Rows.sslice (Referent.rtF (Referent.fInt Syntax.w8)) ref10 5,) ∷ (8, Rows.sslice (Referent.rtF
-            (Referent.fInt Syntax.w8)) ref11 6,) ∷ (9, Rows.whole (Declared'.row Script.the-type)) ∷ (10, Rows.whole (Declared'.row
-            RelayPacket.the-type),) ∷ (11, Rows.whole (Declared'.row Relayed.the-type)) ∷ (12, Rows.any-gone Laws'.mir,) ∷ (13, Rows.any-gone ref0,) ∷
-            (14, Rows.any-gone (Syntax.tyStruct (38 ∷ 91 ∷ 93 ∷ List.[]) (Syntax.tcons ref0 (Syntax.tcons (Syntax.tyInt Syntax.w64) Syntax.tnil))),) ∷
-            (15, Rows.any-gone ref1,) ∷ List.[]
+        g48 = e0 ∷ l1·1 ∷ l2·1 ∷ l3·1 ∷ l4·1 ∷ l5·1 ∷ e6·1 ∷ e7 ∷ e8 ∷ e9 ∷ e10·1 ∷ e11·1 ∷ e12 ∷ e13 ∷ e14 ∷ e15 ∷
+            List.[]
+
         abbrev g51 : List.List Row.Entry
-        g51 = (0, Rows.sc-here (Row.sInt Syntax.w64)) ∷ (1, Relend.mslice-owed RelayPending.row ref5 0 12 life0,) ∷ (2, Relend.mslice-owed
-            RelayCircuit.row ref6 1 13 life1,) ∷ (3, Relend.mslice-owed ReservationUsage.row ref7 2 14 life2,) ∷ (4, Relend.mslice-owed
-            InflightAction.row ref8 3 15 life3,) ∷ (5, Relend.mslice-owed (Referent.rtF (Referent.fInt Syntax.w32)) ref9 4 16 life4,) ∷ (6,
-            Rows.any-gone Laws'''.mir,) ∷ (7, Rows.sslice (Referent.rtF (Referent.fInt Syntax.w8)) ref10 5,) ∷ (8, Rows.sslice (Referent.rtF
-            (Referent.fInt Syntax.w8)) ref11 6,) ∷ (9, Rows.whole (Declared'.row Script.the-type)) ∷ (10, Rows.whole (Declared'.row
-            RelayPacket.the-type),) ∷ (11, Rows.whole (Declared'.row Relayed.the-type)) ∷ (12, Rows.any-gone Laws'.mir,) ∷ (13, Rows.any-gone ref0,) ∷
-            (14, Rows.any-gone (Syntax.tyStruct (38 ∷ 91 ∷ 93 ∷ List.[]) (Syntax.tcons ref0 (Syntax.tcons (Syntax.tyInt Syntax.w64) Syntax.tnil))),) ∷
-            (15, Rows.any-gone ref1,) ∷ List.[]
+        g51 = e0·1 ∷ l1·1 ∷ l2·1 ∷ l3·1 ∷ l4·1 ∷ l5·1 ∷ e6·1 ∷ e7 ∷ e8 ∷ e9 ∷ e10·1 ∷ e11·1 ∷ e12 ∷ e13 ∷ e14 ∷ e15 ∷
+            List.[]
+
         abbrev g54 : List.List Row.Entry
-        g54 = (0, Rows.sc-here (Row.sInt Syntax.w64)) ∷ (1, Relend.mslice-owed RelayPending.row ref5 0 12 life0,) ∷ (2, Relend.mslice-owed
-            RelayCircuit.row ref6 1 13 life1,) ∷ (3, Relend.mslice-owed ReservationUsage.row ref7 2 14 life2,) ∷ (4, Relend.mslice-owed
-            InflightAction.row ref8 3 15 life3,) ∷ (5, Relend.mslice-owed (Referent.rtF (Referent.fInt Syntax.w32)) ref9 4 16 life4,) ∷ (6,
-            Rows.any-gone Laws'''.mir,) ∷ (7, Rows.sslice (Referent.rtF (Referent.fInt Syntax.w8)) ref10 5,) ∷ (8, Rows.sslice (Referent.rtF
-            (Referent.fInt Syntax.w8)) ref11 6,) ∷ (9, Rows.any-gone Laws.mir,) ∷ (10, Rows.whole (Declared'.row RelayPacket.the-type)) ∷ (11,
-            Rows.whole (Declared'.row Relayed.the-type),) ∷ (12, Rows.any-gone Laws'.mir,) ∷ (13, Rows.any-gone ref0,) ∷ (14, Rows.any-gone
-            (Syntax.tyStruct (38 ∷ 91 ∷ 93 ∷ List.[]) (Syntax.tcons ref0 (Syntax.tcons (Syntax.tyInt Syntax.w64) Syntax.tnil))),) ∷ (15, Rows.any-gone
-            ref1,) ∷ List.[]
+        g54 = e0·1 ∷ l1·1 ∷ l2·1 ∷ l3·1 ∷ l4·1 ∷ l5·1 ∷ e6·1 ∷ e7 ∷ e8 ∷ e9·1 ∷ e10·1 ∷ e11·1 ∷ e12 ∷ e13 ∷ e14 ∷ e15 ∷
+            List.[]
+
         abbrev g55 : List.List Row.Entry
-        g55 = (0, Rows.sc-here (Row.sInt Syntax.w64)) ∷ (1, Relend.mslice-owed RelayPending.row ref5 0 12 life0,) ∷ (2, Relend.mslice-owed
-            RelayCircuit.row ref6 1 13 life1,) ∷ (3, Relend.mslice-owed ReservationUsage.row ref7 2 14 life2,) ∷ (4, Relend.mslice-owed
-            InflightAction.row ref8 3 15 life3,) ∷ (5, Relend.mslice-owed (Referent.rtF (Referent.fInt Syntax.w32)) ref9 4 16 life4,) ∷ (6,
-            Rows.any-gone Laws'''.mir,) ∷ (7, Rows.sslice (Referent.rtF (Referent.fInt Syntax.w8)) ref10 5,) ∷ (8, Rows.sslice (Referent.rtF
-            (Referent.fInt Syntax.w8)) ref11 6,) ∷ (9, Rows.any-gone Laws.mir,) ∷ (10, Rows.any-gone Laws''.mir,) ∷ (11, Rows.whole (Declared'.row
-            Relayed.the-type)) ∷ (12, Rows.any-gone Laws'.mir,) ∷ (13, Rows.any-gone ref0,) ∷ (14, Rows.any-gone (Syntax.tyStruct (38 ∷ 91 ∷ 93 ∷
-            List.[]) (Syntax.tcons ref0 (Syntax.tcons (Syntax.tyInt Syntax.w64) Syntax.tnil))),) ∷ (15, Rows.any-gone ref1,) ∷ List.[]
+        g55 = e0·1 ∷ l1·1 ∷ l2·1 ∷ l3·1 ∷ l4·1 ∷ l5·1 ∷ e6·1 ∷ e7 ∷ e8 ∷ e9·1 ∷ e10 ∷ e11·1 ∷ e12 ∷ e13 ∷ e14 ∷ e15 ∷
+            List.[]
+
         abbrev g56 : List.List Row.Entry
-        g56 = (0, Rows.sc-here (Row.sInt Syntax.w64)) ∷ (1, Relend.mslice-owed RelayPending.row ref5 0 12 life0,) ∷ (2, Relend.mslice-owed
-            RelayCircuit.row ref6 1 13 life1,) ∷ (3, Relend.mslice-owed ReservationUsage.row ref7 2 14 life2,) ∷ (4, Relend.mslice-owed
-            InflightAction.row ref8 3 15 life3,) ∷ (5, Relend.mslice-owed (Referent.rtF (Referent.fInt Syntax.w32)) ref9 4 16 life4,) ∷ (6,
-            Rows.any-gone Laws'''.mir,) ∷ (7, Rows.sslice (Referent.rtF (Referent.fInt Syntax.w8)) ref10 5,) ∷ (8, Rows.sslice (Referent.rtF
-            (Referent.fInt Syntax.w8)) ref11 6,) ∷ (9, Rows.any-gone Laws.mir,) ∷ (10, Rows.any-gone Laws''.mir,) ∷ (11, Rows.any-gone Laws'''.mir,) ∷
-            (12, Rows.any-gone Laws'.mir,) ∷ (13, Rows.any-gone ref0,) ∷ (14, Rows.any-gone (Syntax.tyStruct (38 ∷ 91 ∷ 93 ∷ List.[]) (Syntax.tcons
-            ref0 (Syntax.tcons (Syntax.tyInt Syntax.w64) Syntax.tnil))),) ∷ (15, Rows.any-gone ref1,) ∷ List.[]
+        g56 = e0·1 ∷ l1·1 ∷ l2·1 ∷ l3·1 ∷ l4·1 ∷ l5·1 ∷ e6·1 ∷ e7 ∷ e8 ∷ e9·1 ∷ e10 ∷ e11 ∷ e12 ∷ e13 ∷ e14 ∷ e15 ∷
+            List.[]
+
         abbrev g57 : List.List Row.Entry
-        g57 = (0, Rows.sc-here (Row.sInt Syntax.w64)) ∷ (1, Mut.mslice RelayPending.row ref5 0,) ∷ (2, Relend.mslice-owed RelayCircuit.row ref6 1 13
-            life1,) ∷ (3, Relend.mslice-owed ReservationUsage.row ref7 2 14 life2,) ∷ (4, Relend.mslice-owed InflightAction.row ref8 3 15 life3,) ∷
-            (5, Relend.mslice-owed (Referent.rtF (Referent.fInt Syntax.w32)) ref9 4 16 life4,) ∷ (6, Rows.any-gone Laws'''.mir,) ∷ (7, Rows.sslice
-            (Referent.rtF (Referent.fInt Syntax.w8)) ref10 5,) ∷ (8, Rows.sslice (Referent.rtF (Referent.fInt Syntax.w8)) ref11 6,) ∷ (9,
-            Rows.any-gone Laws.mir,) ∷ (10, Rows.any-gone Laws''.mir,) ∷ (11, Rows.any-gone Laws'''.mir,) ∷ (12, Rows.any-gone Laws'.mir,) ∷ (13,
-            Rows.any-gone ref0,) ∷ (14, Rows.any-gone (Syntax.tyStruct (38 ∷ 91 ∷ 93 ∷ List.[]) (Syntax.tcons ref0 (Syntax.tcons (Syntax.tyInt
-            Syntax.w64) Syntax.tnil))),) ∷ (15, Rows.any-gone ref1,) ∷ List.[]
+        g57 = e0·1 ∷ e1 ∷ l2·1 ∷ l3·1 ∷ l4·1 ∷ l5·1 ∷ e6·1 ∷ e7 ∷ e8 ∷ e9·1 ∷ e10 ∷ e11 ∷ e12 ∷ e13 ∷ e14 ∷ e15 ∷
+            List.[]
+
         abbrev g59 : List.List Row.Entry
-        g59 = (0, Rows.sc-here (Row.sInt Syntax.w64)) ∷ (1, Mut.mslice RelayPending.row ref5 0,) ∷ (2, Mut.mslice RelayCircuit.row ref6 1,) ∷ (3,
-            Relend.mslice-owed ReservationUsage.row ref7 2 14 life2,) ∷ (4, Relend.mslice-owed InflightAction.row ref8 3 15 life3,) ∷ (5,
-            Relend.mslice-owed (Referent.rtF (Referent.fInt Syntax.w32)) ref9 4 16 life4,) ∷ (6, Rows.any-gone Laws'''.mir,) ∷ (7, Rows.sslice
-            (Referent.rtF (Referent.fInt Syntax.w8)) ref10 5,) ∷ (8, Rows.sslice (Referent.rtF (Referent.fInt Syntax.w8)) ref11 6,) ∷ (9,
-            Rows.any-gone Laws.mir,) ∷ (10, Rows.any-gone Laws''.mir,) ∷ (11, Rows.any-gone Laws'''.mir,) ∷ (12, Rows.any-gone Laws'.mir,) ∷ (13,
-            Rows.any-gone ref0,) ∷ (14, Rows.any-gone (Syntax.tyStruct (38 ∷ 91 ∷ 93 ∷ List.[]) (Syntax.tcons ref0 (Syntax.tcons (Syntax.tyInt
-            Syntax.w64) Syntax.tnil))),) ∷ (15, Rows.any-gone ref1,) ∷ List.[]
+        g59 = e0·1 ∷ e1 ∷ e2 ∷ l3·1 ∷ l4·1 ∷ l5·1 ∷ e6·1 ∷ e7 ∷ e8 ∷ e9·1 ∷ e10 ∷ e11 ∷ e12 ∷ e13 ∷ e14 ∷ e15 ∷ List.[]
+
         abbrev g61 : List.List Row.Entry
-        g61 = (0, Rows.sc-here (Row.sInt Syntax.w64)) ∷ (1, Mut.mslice RelayPending.row ref5 0,) ∷ (2, Mut.mslice RelayCircuit.row ref6 1,) ∷ (3,
-            Mut.mslice ReservationUsage.row ref7 2,) ∷ (4, Relend.mslice-owed InflightAction.row ref8 3 15 life3,) ∷ (5, Relend.mslice-owed
-            (Referent.rtF (Referent.fInt Syntax.w32)) ref9 4 16 life4,) ∷ (6, Rows.any-gone Laws'''.mir,) ∷ (7, Rows.sslice (Referent.rtF
-            (Referent.fInt Syntax.w8)) ref10 5,) ∷ (8, Rows.sslice (Referent.rtF (Referent.fInt Syntax.w8)) ref11 6,) ∷ (9, Rows.any-gone Laws.mir,) ∷
-            (10, Rows.any-gone Laws''.mir,) ∷ (11, Rows.any-gone Laws'''.mir,) ∷ (12, Rows.any-gone Laws'.mir,) ∷ (13, Rows.any-gone ref0,) ∷ (14,
-            Rows.any-gone (Syntax.tyStruct (38 ∷ 91 ∷ 93 ∷ List.[]) (Syntax.tcons ref0 (Syntax.tcons (Syntax.tyInt Syntax.w64) Syntax.tnil))),) ∷ (15,
-            Rows.any-gone ref1,) ∷ List.[]
+        g61 = e0·1 ∷ e1 ∷ e2 ∷ e3 ∷ l4·1 ∷ l5·1 ∷ e6·1 ∷ e7 ∷ e8 ∷ e9·1 ∷ e10 ∷ e11 ∷ e12 ∷ e13 ∷ e14 ∷ e15 ∷ List.[]
+
         abbrev g63 : List.List Row.Entry
-        g63 = (0, Rows.sc-here (Row.sInt Syntax.w64)) ∷ (1, Mut.mslice RelayPending.row ref5 0,) ∷ (2, Mut.mslice RelayCircuit.row ref6 1,) ∷ (3,
-            Mut.mslice ReservationUsage.row ref7 2,) ∷ (4, Mut.mslice InflightAction.row ref8 3,) ∷ (5, Relend.mslice-owed (Referent.rtF
-            (Referent.fInt Syntax.w32)) ref9 4 16 life4,) ∷ (6, Rows.any-gone Laws'''.mir,) ∷ (7, Rows.sslice (Referent.rtF (Referent.fInt Syntax.w8))
-            ref10 5,) ∷ (8, Rows.sslice (Referent.rtF (Referent.fInt Syntax.w8)) ref11 6,) ∷ (9, Rows.any-gone Laws.mir,) ∷ (10, Rows.any-gone
-            Laws''.mir,) ∷ (11, Rows.any-gone Laws'''.mir,) ∷ (12, Rows.any-gone Laws'.mir,) ∷ (13, Rows.any-gone ref0,) ∷ (14, Rows.any-gone
-            (Syntax.tyStruct (38 ∷ 91 ∷ 93 ∷ List.[]) (Syntax.tcons ref0 (Syntax.tcons (Syntax.tyInt Syntax.w64) Syntax.tnil))),) ∷ (15, Rows.any-gone
-            ref1,) ∷ List.[]
+        g63 = e0·1 ∷ e1 ∷ e2 ∷ e3 ∷ e4 ∷ l5·1 ∷ e6·1 ∷ e7 ∷ e8 ∷ e9·1 ∷ e10 ∷ e11 ∷ e12 ∷ e13 ∷ e14 ∷ e15 ∷ List.[]
+
         abbrev G0 : Row.Cx
-        G0 = record { locals = List._++_ t0 (List._++_ t1 t2); slots = life0 ∷ life1 ∷ life2 ∷ life3 ∷ life4 ∷ life5 ∷ life6 ∷ Row.off ∷ Row.off ∷
-            Row.off ∷ Row.off ∷ Row.off ∷ Row.off ∷ Row.off ∷ Row.off ∷ Row.off ∷ Row.off ∷ List.[]; }
+        G0 = record {
+          locals = List._++_ t0 (List._++_ t1 t2);
+          slots = life0 ∷ life1 ∷ life2 ∷ life3 ∷ life4 ∷ life5 ∷ life6 ∷ Row.off ∷ Row.off ∷ Row.off ∷ Row.off ∷
+              Row.off ∷ Row.off ∷ Row.off ∷ Row.off ∷ Row.off ∷ Row.off ∷ List.[];
+        }
+
         abbrev G1 : Row.Cx
-        G1 = record { locals = List._++_ t3 (List._++_ t1 t2); slots = life0 ∷ life1 ∷ life2 ∷ life3 ∷ life4 ∷ life5 ∷ life6 ∷ Row.off ∷ Row.off ∷
-            Row.off ∷ Row.off ∷ Row.off ∷ Row.off ∷ Row.off ∷ Row.off ∷ Row.off ∷ Row.off ∷ List.[]; }
+        G1 = record {
+          locals = List._++_ t3 (List._++_ t1 t2);
+          slots = life0 ∷ life1 ∷ life2 ∷ life3 ∷ life4 ∷ life5 ∷ life6 ∷ Row.off ∷ Row.off ∷ Row.off ∷ Row.off ∷
+              Row.off ∷ Row.off ∷ Row.off ∷ Row.off ∷ Row.off ∷ Row.off ∷ List.[];
+        }
+
         abbrev G2 : Row.Cx
-        G2 = record { locals = List._++_ t0 (List._++_ t1 t2); slots = life0 ∷ life1 ∷ life2 ∷ life3 ∷ life4 ∷ life5 ∷ life6 ∷ Row.off ∷ Row.off ∷
-            Row.off ∷ Row.off ∷ Row.off ∷ Row.off ∷ Row.off ∷ Row.off ∷ Row.off ∷ Row.off ∷ List.[]; }
+        G2 = record {
+          locals = List._++_ t0 (List._++_ t1 t2);
+          slots = life0 ∷ life1 ∷ life2 ∷ life3 ∷ life4 ∷ life5 ∷ life6 ∷ Row.off ∷ Row.off ∷ Row.off ∷ Row.off ∷
+              Row.off ∷ Row.off ∷ Row.off ∷ Row.off ∷ Row.off ∷ Row.off ∷ List.[];
+        }
+
         abbrev G3 : Row.Cx
-        G3 = record { locals = List._++_ t0 (List._++_ t1 t2); slots = life0 ∷ life1 ∷ life2 ∷ life3 ∷ life4 ∷ life5 ∷ life6 ∷ Row.off ∷ Row.off ∷
-            Row.off ∷ Row.off ∷ Row.off ∷ Row.off ∷ Row.off ∷ Row.off ∷ Row.off ∷ Row.off ∷ List.[]; }
+        G3 = record {
+          locals = List._++_ t0 (List._++_ t1 t2);
+          slots = life0 ∷ life1 ∷ life2 ∷ life3 ∷ life4 ∷ life5 ∷ life6 ∷ Row.off ∷ Row.off ∷ Row.off ∷ Row.off ∷
+              Row.off ∷ Row.off ∷ Row.off ∷ Row.off ∷ Row.off ∷ Row.off ∷ List.[];
+        }
+
         abbrev G4 : Row.Cx
-        G4 = record { locals = List._++_ t0 (List._++_ t1 t2); slots = life0 ∷ life1 ∷ life2 ∷ life3 ∷ life4 ∷ life5 ∷ life6 ∷ Row.off ∷ Row.off ∷
-            Row.off ∷ Row.off ∷ Row.off ∷ Row.off ∷ Row.off ∷ Row.off ∷ Row.off ∷ Row.off ∷ List.[]; }
+        G4 = record {
+          locals = List._++_ t0 (List._++_ t1 t2);
+          slots = life0 ∷ life1 ∷ life2 ∷ life3 ∷ life4 ∷ life5 ∷ life6 ∷ Row.off ∷ Row.off ∷ Row.off ∷ Row.off ∷
+              Row.off ∷ Row.off ∷ Row.off ∷ Row.off ∷ Row.off ∷ Row.off ∷ List.[];
+        }
+
         abbrev G5 : Row.Cx
-        G5 = record { locals = List._++_ t4 (List._++_ t1 t2); slots = life0 ∷ life1 ∷ life2 ∷ life3 ∷ life4 ∷ life5 ∷ life6 ∷ Row.off ∷ Row.off ∷
-            Row.off ∷ Row.off ∷ Row.off ∷ Row.off ∷ Row.off ∷ Row.off ∷ Row.off ∷ Row.off ∷ List.[]; }
+        G5 = record {
+          locals = List._++_ t4 (List._++_ t1 t2);
+          slots = life0 ∷ life1 ∷ life2 ∷ life3 ∷ life4 ∷ life5 ∷ life6 ∷ Row.off ∷ Row.off ∷ Row.off ∷ Row.off ∷
+              Row.off ∷ Row.off ∷ Row.off ∷ Row.off ∷ Row.off ∷ Row.off ∷ List.[];
+        }
+
         abbrev G6 : Row.Cx
-        G6 = record { locals = List._++_ t4 (List._++_ t1 t2); slots = life0 ∷ life1 ∷ life2 ∷ life3 ∷ life4 ∷ life5 ∷ life6 ∷ Row.alive ∷ Row.off ∷
-            Row.off ∷ Row.off ∷ Row.off ∷ Row.off ∷ Row.off ∷ Row.off ∷ Row.off ∷ Row.off ∷ List.[]; }
+        G6 = record {
+          locals = List._++_ t4 (List._++_ t1 t2);
+          slots = life0 ∷ life1 ∷ life2 ∷ life3 ∷ life4 ∷ life5 ∷ life6 ∷ Row.alive ∷ Row.off ∷ Row.off ∷ Row.off ∷
+              Row.off ∷ Row.off ∷ Row.off ∷ Row.off ∷ Row.off ∷ Row.off ∷ List.[];
+        }
+
         abbrev G7 : Row.Cx
-        G7 = record { locals = List._++_ g5 (List._++_ t1 t2); slots = Row.off ∷ life1 ∷ life2 ∷ life3 ∷ life4 ∷ life5 ∷ life6 ∷ Row.alive ∷ Row.off ∷
-            Row.off ∷ Row.off ∷ Row.off ∷ Row.off ∷ Row.off ∷ Row.off ∷ Row.off ∷ Row.off ∷ List.[]; }
+        G7 = record {
+          locals = List._++_ g5 (List._++_ t1 t2);
+          slots = Row.off ∷ life1 ∷ life2 ∷ life3 ∷ life4 ∷ life5 ∷ life6 ∷ Row.alive ∷ Row.off ∷ Row.off ∷ Row.off ∷
+              Row.off ∷ Row.off ∷ Row.off ∷ Row.off ∷ Row.off ∷ Row.off ∷ List.[];
+        }
+
         abbrev G8 : Row.Cx
-        G8 = record { locals = List._++_ g6 (List._++_ t1 t2); slots = Row.off ∷ life1 ∷ life2 ∷ life3 ∷ life4 ∷ life5 ∷ life6 ∷ Row.alive ∷ Row.off ∷
-            Row.off ∷ Row.off ∷ Row.off ∷ Row.off ∷ Row.off ∷ Row.off ∷ Row.off ∷ Row.off ∷ List.[]; }
+        G8 = record {
+          locals = List._++_ g6 (List._++_ t1 t2);
+          slots = Row.off ∷ life1 ∷ life2 ∷ life3 ∷ life4 ∷ life5 ∷ life6 ∷ Row.alive ∷ Row.off ∷ Row.off ∷ Row.off ∷
+              Row.off ∷ Row.off ∷ Row.off ∷ Row.off ∷ Row.off ∷ Row.off ∷ List.[];
+        }
+
         abbrev G9 : Row.Cx
-        G9 = record { locals = List._++_ g6 (List._++_ t1 t2); slots = Row.off ∷ life1 ∷ life2 ∷ life3 ∷ life4 ∷ life5 ∷ life6 ∷ Row.alive ∷ Row.alive
-            ∷ Row.off ∷ Row.off ∷ Row.off ∷ Row.off ∷ Row.off ∷ Row.off ∷ Row.off ∷ Row.off ∷ List.[]; }
+        G9 = record {
+          locals = List._++_ g6 (List._++_ t1 t2);
+          slots = Row.off ∷ life1 ∷ life2 ∷ life3 ∷ life4 ∷ life5 ∷ life6 ∷ Row.alive ∷ Row.alive ∷ Row.off ∷ Row.off ∷
+              Row.off ∷ Row.off ∷ Row.off ∷ Row.off ∷ Row.off ∷ Row.off ∷ List.[];
+        }
+
         abbrev G10 : Row.Cx
-        G10 = record { locals = List._++_ g7 (List._++_ t1 t2); slots = Row.off ∷ Row.off ∷ life2 ∷ life3 ∷ life4 ∷ life5 ∷ life6 ∷ Row.alive ∷
-            Row.alive ∷ Row.off ∷ Row.off ∷ Row.off ∷ Row.off ∷ Row.off ∷ Row.off ∷ Row.off ∷ Row.off ∷ List.[]; }
+        G10 = record {
+          locals = List._++_ g7 (List._++_ t1 t2);
+          slots = Row.off ∷ Row.off ∷ life2 ∷ life3 ∷ life4 ∷ life5 ∷ life6 ∷ Row.alive ∷ Row.alive ∷ Row.off ∷ Row.off
+              ∷ Row.off ∷ Row.off ∷ Row.off ∷ Row.off ∷ Row.off ∷ Row.off ∷ List.[];
+        }
+
         abbrev G11 : Row.Cx
-        G11 = record { locals = List._++_ g8 (List._++_ t9 t2); slots = Row.off ∷ Row.off ∷ life2 ∷ life3 ∷ life4 ∷ life5 ∷ life6 ∷ Row.alive ∷
-            Row.alive ∷ Row.off ∷ Row.off ∷ Row.off ∷ Row.off ∷ Row.off ∷ Row.off ∷ Row.off ∷ Row.off ∷ List.[]; }
+        G11 = record {
+          locals = List._++_ g8 (List._++_ t9 t2);
+          slots = Row.off ∷ Row.off ∷ life2 ∷ life3 ∷ life4 ∷ life5 ∷ life6 ∷ Row.alive ∷ Row.alive ∷ Row.off ∷ Row.off
+              ∷ Row.off ∷ Row.off ∷ Row.off ∷ Row.off ∷ Row.off ∷ Row.off ∷ List.[];
+        }
+
         abbrev G12 : Row.Cx
-        G12 = record { locals = List._++_ g8 (List._++_ t9 t2); slots = Row.off ∷ Row.off ∷ life2 ∷ life3 ∷ life4 ∷ life5 ∷ life6 ∷ Row.alive ∷
-            Row.alive ∷ Row.alive ∷ Row.off ∷ Row.off ∷ Row.off ∷ Row.off ∷ Row.off ∷ Row.off ∷ Row.off ∷ List.[]; }
+        G12 = record {
+          locals = List._++_ g8 (List._++_ t9 t2);
+          slots = Row.off ∷ Row.off ∷ life2 ∷ life3 ∷ life4 ∷ life5 ∷ life6 ∷ Row.alive ∷ Row.alive ∷ Row.alive ∷
+              Row.off ∷ Row.off ∷ Row.off ∷ Row.off ∷ Row.off ∷ Row.off ∷ Row.off ∷ List.[];
+        }
+
         abbrev G13 : Row.Cx
-        G13 = record { locals = List._++_ g10 (List._++_ t11 t2); slots = Row.off ∷ Row.off ∷ Row.off ∷ life3 ∷ life4 ∷ life5 ∷ life6 ∷ Row.alive ∷
-            Row.alive ∷ Row.alive ∷ Row.off ∷ Row.off ∷ Row.off ∷ Row.off ∷ Row.off ∷ Row.off ∷ Row.off ∷ List.[]; }
+        G13 = record {
+          locals = List._++_ g10 (List._++_ t11 t2);
+          slots = Row.off ∷ Row.off ∷ Row.off ∷ life3 ∷ life4 ∷ life5 ∷ life6 ∷ Row.alive ∷ Row.alive ∷ Row.alive ∷
+              Row.off ∷ Row.off ∷ Row.off ∷ Row.off ∷ Row.off ∷ Row.off ∷ Row.off ∷ List.[];
+        }
+
         abbrev G14 : Row.Cx
-        G14 = record { locals = List._++_ g10 (List._++_ t12 t2); slots = Row.off ∷ Row.off ∷ Row.off ∷ life3 ∷ life4 ∷ life5 ∷ life6 ∷ Row.alive ∷
-            Row.alive ∷ Row.alive ∷ Row.off ∷ Row.off ∷ Row.off ∷ Row.off ∷ Row.off ∷ Row.off ∷ Row.off ∷ List.[]; }
+        G14 = record {
+          locals = List._++_ g10 (List._++_ t12 t2);
+          slots = Row.off ∷ Row.off ∷ Row.off ∷ life3 ∷ life4 ∷ life5 ∷ life6 ∷ Row.alive ∷ Row.alive ∷ Row.alive ∷
+              Row.off ∷ Row.off ∷ Row.off ∷ Row.off ∷ Row.off ∷ Row.off ∷ Row.off ∷ List.[];
+        }
+
         abbrev G15 : Row.Cx
-        G15 = record { locals = List._++_ g10 (List._++_ t12 t2); slots = Row.off ∷ Row.off ∷ Row.off ∷ life3 ∷ life4 ∷ life5 ∷ life6 ∷ Row.alive ∷
-            Row.alive ∷ Row.alive ∷ Row.alive ∷ Row.off ∷ Row.off ∷ Row.off ∷ Row.off ∷ Row.off ∷ Row.off ∷ List.[]; }
+        G15 = record {
+          locals = List._++_ g10 (List._++_ t12 t2);
+          slots = Row.off ∷ Row.off ∷ Row.off ∷ life3 ∷ life4 ∷ life5 ∷ life6 ∷ Row.alive ∷ Row.alive ∷ Row.alive ∷
+              Row.alive ∷ Row.off ∷ Row.off ∷ Row.off ∷ Row.off ∷ Row.off ∷ Row.off ∷ List.[];
+        }
+
         abbrev G16 : Row.Cx
-        G16 = record { locals = List._++_ g13 (List._++_ t14 t2); slots = Row.off ∷ Row.off ∷ Row.off ∷ Row.off ∷ life4 ∷ life5 ∷ life6 ∷ Row.alive ∷
-            Row.alive ∷ Row.alive ∷ Row.alive ∷ Row.off ∷ Row.off ∷ Row.off ∷ Row.off ∷ Row.off ∷ Row.off ∷ List.[]; }
+        G16 = record {
+          locals = List._++_ g13 (List._++_ t14 t2);
+          slots = Row.off ∷ Row.off ∷ Row.off ∷ Row.off ∷ life4 ∷ life5 ∷ life6 ∷ Row.alive ∷ Row.alive ∷ Row.alive ∷
+              Row.alive ∷ Row.off ∷ Row.off ∷ Row.off ∷ Row.off ∷ Row.off ∷ Row.off ∷ List.[];
+        }
+
         abbrev G17 : Row.Cx
-        G17 = record { locals = List._++_ g13 (List._++_ t15 t2); slots = Row.off ∷ Row.off ∷ Row.off ∷ Row.off ∷ life4 ∷ life5 ∷ life6 ∷ Row.alive ∷
-            Row.alive ∷ Row.alive ∷ Row.alive ∷ Row.off ∷ Row.off ∷ Row.off ∷ Row.off ∷ Row.off ∷ Row.off ∷ List.[]; }
+        G17 = record {
+          locals = List._++_ g13 (List._++_ t15 t2);
+          slots = Row.off ∷ Row.off ∷ Row.off ∷ Row.off ∷ life4 ∷ life5 ∷ life6 ∷ Row.alive ∷ Row.alive ∷ Row.alive ∷
+              Row.alive ∷ Row.off ∷ Row.off ∷ Row.off ∷ Row.off ∷ Row.off ∷ Row.off ∷ List.[];
+        }
+
         abbrev G18 : Row.Cx
-        G18 = record { locals = List._++_ g13 (List._++_ t15 t2); slots = Row.off ∷ Row.off ∷ Row.off ∷ Row.off ∷ life4 ∷ life5 ∷ life6 ∷ Row.alive ∷
-            Row.alive ∷ Row.alive ∷ Row.alive ∷ Row.alive ∷ Row.off ∷ Row.off ∷ Row.off ∷ Row.off ∷ Row.off ∷ List.[]; }
+        G18 = record {
+          locals = List._++_ g13 (List._++_ t15 t2);
+          slots = Row.off ∷ Row.off ∷ Row.off ∷ Row.off ∷ life4 ∷ life5 ∷ life6 ∷ Row.alive ∷ Row.alive ∷ Row.alive ∷
+              Row.alive ∷ Row.alive ∷ Row.off ∷ Row.off ∷ Row.off ∷ Row.off ∷ Row.off ∷ List.[];
+        }
+
         abbrev G19 : Row.Cx
-        G19 = record { locals = List._++_ g16 (List._++_ t17 t2); slots = Row.off ∷ Row.off ∷ Row.off ∷ Row.off ∷ Row.off ∷ life5 ∷ life6 ∷ Row.alive
-            ∷ Row.alive ∷ Row.alive ∷ Row.alive ∷ Row.alive ∷ Row.off ∷ Row.off ∷ Row.off ∷ Row.off ∷ Row.off ∷ List.[]; }
+        G19 = record {
+          locals = List._++_ g16 (List._++_ t17 t2);
+          slots = Row.off ∷ Row.off ∷ Row.off ∷ Row.off ∷ Row.off ∷ life5 ∷ life6 ∷ Row.alive ∷ Row.alive ∷ Row.alive ∷
+              Row.alive ∷ Row.alive ∷ Row.off ∷ Row.off ∷ Row.off ∷ Row.off ∷ Row.off ∷ List.[];
+        }
+
         abbrev G20 : Row.Cx
-        G20 = record { locals = List._++_ g16 (List._++_ t18 t2); slots = Row.off ∷ Row.off ∷ Row.off ∷ Row.off ∷ Row.off ∷ life5 ∷ life6 ∷ Row.alive
-            ∷ Row.alive ∷ Row.alive ∷ Row.alive ∷ Row.alive ∷ Row.off ∷ Row.off ∷ Row.off ∷ Row.off ∷ Row.off ∷ List.[]; }
+        G20 = record {
+          locals = List._++_ g16 (List._++_ t18 t2);
+          slots = Row.off ∷ Row.off ∷ Row.off ∷ Row.off ∷ Row.off ∷ life5 ∷ life6 ∷ Row.alive ∷ Row.alive ∷ Row.alive ∷
+              Row.alive ∷ Row.alive ∷ Row.off ∷ Row.off ∷ Row.off ∷ Row.off ∷ Row.off ∷ List.[];
+        }
+
         abbrev G21 : Row.Cx
-        G21 = record { locals = List._++_ g19 (List._++_ t20 t2); slots = Row.off ∷ Row.off ∷ Row.off ∷ Row.off ∷ Row.off ∷ life5 ∷ life6 ∷ Row.alive
-            ∷ Row.alive ∷ Row.alive ∷ Row.alive ∷ Row.alive ∷ Row.off ∷ Row.off ∷ Row.off ∷ Row.off ∷ Row.off ∷ List.[]; }
+        G21 = record {
+          locals = List._++_ g19 (List._++_ t20 t2);
+          slots = Row.off ∷ Row.off ∷ Row.off ∷ Row.off ∷ Row.off ∷ life5 ∷ life6 ∷ Row.alive ∷ Row.alive ∷ Row.alive ∷
+              Row.alive ∷ Row.alive ∷ Row.off ∷ Row.off ∷ Row.off ∷ Row.off ∷ Row.off ∷ List.[];
+        }
+
         abbrev G22 : Row.Cx
-        G22 = record { locals = List._++_ g21 (List._++_ t20 t2); slots = Row.off ∷ Row.off ∷ Row.off ∷ Row.off ∷ Row.off ∷ life5 ∷ life6 ∷ Row.alive
-            ∷ Row.alive ∷ Row.alive ∷ Row.alive ∷ Row.alive ∷ Row.off ∷ Row.off ∷ Row.off ∷ Row.off ∷ Row.off ∷ List.[]; }
+        G22 = record {
+          locals = List._++_ g21 (List._++_ t20 t2);
+          slots = Row.off ∷ Row.off ∷ Row.off ∷ Row.off ∷ Row.off ∷ life5 ∷ life6 ∷ Row.alive ∷ Row.alive ∷ Row.alive ∷
+              Row.alive ∷ Row.alive ∷ Row.off ∷ Row.off ∷ Row.off ∷ Row.off ∷ Row.off ∷ List.[];
+        }
+
         abbrev G23 : Row.Cx
-        G23 = record { locals = List._++_ g21 (List._++_ t20 t2); slots = Row.off ∷ Row.off ∷ Row.off ∷ Row.off ∷ Row.off ∷ life5 ∷ life6 ∷ Row.dead ∷
-            Row.alive ∷ Row.alive ∷ Row.alive ∷ Row.alive ∷ Row.off ∷ Row.off ∷ Row.off ∷ Row.off ∷ Row.off ∷ List.[]; }
+        G23 = record {
+          locals = List._++_ g21 (List._++_ t20 t2);
+          slots = Row.off ∷ Row.off ∷ Row.off ∷ Row.off ∷ Row.off ∷ life5 ∷ life6 ∷ Row.dead ∷ Row.alive ∷ Row.alive ∷
+              Row.alive ∷ Row.alive ∷ Row.off ∷ Row.off ∷ Row.off ∷ Row.off ∷ Row.off ∷ List.[];
+        }
+
         abbrev G24 : Row.Cx
-        G24 = record { locals = List._++_ g22 (List._++_ t20 t2); slots = life0 ∷ Row.off ∷ Row.off ∷ Row.off ∷ Row.off ∷ life5 ∷ life6 ∷ Row.dead ∷
-            Row.alive ∷ Row.alive ∷ Row.alive ∷ Row.alive ∷ Row.off ∷ Row.off ∷ Row.off ∷ Row.off ∷ Row.off ∷ List.[]; }
+        G24 = record {
+          locals = List._++_ g22 (List._++_ t20 t2);
+          slots = life0 ∷ Row.off ∷ Row.off ∷ Row.off ∷ Row.off ∷ life5 ∷ life6 ∷ Row.dead ∷ Row.alive ∷ Row.alive ∷
+              Row.alive ∷ Row.alive ∷ Row.off ∷ Row.off ∷ Row.off ∷ Row.off ∷ Row.off ∷ List.[];
+        }
+
         abbrev G25 : Row.Cx
-        G25 = record { locals = List._++_ g22 (List._++_ t20 t2); slots = life0 ∷ Row.off ∷ Row.off ∷ Row.off ∷ Row.off ∷ life5 ∷ life6 ∷ Row.off ∷
-            Row.alive ∷ Row.alive ∷ Row.alive ∷ Row.alive ∷ Row.off ∷ Row.off ∷ Row.off ∷ Row.off ∷ Row.off ∷ List.[]; }
+        G25 = record {
+          locals = List._++_ g22 (List._++_ t20 t2);
+          slots = life0 ∷ Row.off ∷ Row.off ∷ Row.off ∷ Row.off ∷ life5 ∷ life6 ∷ Row.off ∷ Row.alive ∷ Row.alive ∷
+              Row.alive ∷ Row.alive ∷ Row.off ∷ Row.off ∷ Row.off ∷ Row.off ∷ Row.off ∷ List.[];
+        }
+
         abbrev G26 : Row.Cx
-        G26 = record { locals = List._++_ g22 (List._++_ t20 t2); slots = life0 ∷ Row.off ∷ Row.off ∷ Row.off ∷ Row.off ∷ life5 ∷ life6 ∷ Row.off ∷
-            Row.dead ∷ Row.alive ∷ Row.alive ∷ Row.alive ∷ Row.off ∷ Row.off ∷ Row.off ∷ Row.off ∷ Row.off ∷ List.[]; }
+        G26 = record {
+          locals = List._++_ g22 (List._++_ t20 t2);
+          slots = life0 ∷ Row.off ∷ Row.off ∷ Row.off ∷ Row.off ∷ life5 ∷ life6 ∷ Row.off ∷ Row.dead ∷ Row.alive ∷
+              Row.alive ∷ Row.alive ∷ Row.off ∷ Row.off ∷ Row.off ∷ Row.off ∷ Row.off ∷ List.[];
+        }
+
         abbrev G27 : Row.Cx
-        G27 = record { locals = List._++_ g23 (List._++_ t24 t2); slots = life0 ∷ life1 ∷ Row.off ∷ Row.off ∷ Row.off ∷ life5 ∷ life6 ∷ Row.off ∷
-            Row.dead ∷ Row.alive ∷ Row.alive ∷ Row.alive ∷ Row.off ∷ Row.off ∷ Row.off ∷ Row.off ∷ Row.off ∷ List.[]; }
+        G27 = record {
+          locals = List._++_ g23 (List._++_ t24 t2);
+          slots = life0 ∷ life1 ∷ Row.off ∷ Row.off ∷ Row.off ∷ life5 ∷ life6 ∷ Row.off ∷ Row.dead ∷ Row.alive ∷
+              Row.alive ∷ Row.alive ∷ Row.off ∷ Row.off ∷ Row.off ∷ Row.off ∷ Row.off ∷ List.[];
+        }
+
         abbrev G28 : Row.Cx
-        G28 = record { locals = List._++_ g23 (List._++_ t24 t2); slots = life0 ∷ life1 ∷ Row.off ∷ Row.off ∷ Row.off ∷ life5 ∷ life6 ∷ Row.off ∷
-            Row.off ∷ Row.alive ∷ Row.alive ∷ Row.alive ∷ Row.off ∷ Row.off ∷ Row.off ∷ Row.off ∷ Row.off ∷ List.[]; }
+        G28 = record {
+          locals = List._++_ g23 (List._++_ t24 t2);
+          slots = life0 ∷ life1 ∷ Row.off ∷ Row.off ∷ Row.off ∷ life5 ∷ life6 ∷ Row.off ∷ Row.off ∷ Row.alive ∷
+              Row.alive ∷ Row.alive ∷ Row.off ∷ Row.off ∷ Row.off ∷ Row.off ∷ Row.off ∷ List.[];
+        }
+
         abbrev G29 : Row.Cx
-        G29 = record { locals = List._++_ g23 (List._++_ t24 t2); slots = life0 ∷ life1 ∷ Row.off ∷ Row.off ∷ Row.off ∷ life5 ∷ life6 ∷ Row.off ∷
-            Row.off ∷ Row.dead ∷ Row.alive ∷ Row.alive ∷ Row.off ∷ Row.off ∷ Row.off ∷ Row.off ∷ Row.off ∷ List.[]; }
+        G29 = record {
+          locals = List._++_ g23 (List._++_ t24 t2);
+          slots = life0 ∷ life1 ∷ Row.off ∷ Row.off ∷ Row.off ∷ life5 ∷ life6 ∷ Row.off ∷ Row.off ∷ Row.dead ∷
+              Row.alive ∷ Row.alive ∷ Row.off ∷ Row.off ∷ Row.off ∷ Row.off ∷ Row.off ∷ List.[];
+        }
+
         abbrev G30 : Row.Cx
-        G30 = record { locals = List._++_ g25 (List._++_ t26 t2); slots = life0 ∷ life1 ∷ life2 ∷ Row.off ∷ Row.off ∷ life5 ∷ life6 ∷ Row.off ∷
-            Row.off ∷ Row.dead ∷ Row.alive ∷ Row.alive ∷ Row.off ∷ Row.off ∷ Row.off ∷ Row.off ∷ Row.off ∷ List.[]; }
+        G30 = record {
+          locals = List._++_ g25 (List._++_ t26 t2);
+          slots = life0 ∷ life1 ∷ life2 ∷ Row.off ∷ Row.off ∷ life5 ∷ life6 ∷ Row.off ∷ Row.off ∷ Row.dead ∷ Row.alive
+              ∷ Row.alive ∷ Row.off ∷ Row.off ∷ Row.off ∷ Row.off ∷ Row.off ∷ List.[];
+        }
+
         abbrev G31 : Row.Cx
-        G31 = record { locals = List._++_ g25 (List._++_ t26 t2); slots = life0 ∷ life1 ∷ life2 ∷ Row.off ∷ Row.off ∷ life5 ∷ life6 ∷ Row.off ∷
-            Row.off ∷ Row.off ∷ Row.alive ∷ Row.alive ∷ Row.off ∷ Row.off ∷ Row.off ∷ Row.off ∷ Row.off ∷ List.[]; }
+        G31 = record {
+          locals = List._++_ g25 (List._++_ t26 t2);
+          slots = life0 ∷ life1 ∷ life2 ∷ Row.off ∷ Row.off ∷ life5 ∷ life6 ∷ Row.off ∷ Row.off ∷ Row.off ∷ Row.alive ∷
+              Row.alive ∷ Row.off ∷ Row.off ∷ Row.off ∷ Row.off ∷ Row.off ∷ List.[];
+        }
+
         abbrev G32 : Row.Cx
-        G32 = record { locals = List._++_ g25 (List._++_ t26 t2); slots = life0 ∷ life1 ∷ life2 ∷ Row.off ∷ Row.off ∷ life5 ∷ life6 ∷ Row.off ∷
-            Row.off ∷ Row.off ∷ Row.dead ∷ Row.alive ∷ Row.off ∷ Row.off ∷ Row.off ∷ Row.off ∷ Row.off ∷ List.[]; }
+        G32 = record {
+          locals = List._++_ g25 (List._++_ t26 t2);
+          slots = life0 ∷ life1 ∷ life2 ∷ Row.off ∷ Row.off ∷ life5 ∷ life6 ∷ Row.off ∷ Row.off ∷ Row.off ∷ Row.dead ∷
+              Row.alive ∷ Row.off ∷ Row.off ∷ Row.off ∷ Row.off ∷ Row.off ∷ List.[];
+        }
+
         abbrev G33 : Row.Cx
-        G33 = record { locals = List._++_ g27 (List._++_ t28 t2); slots = life0 ∷ life1 ∷ life2 ∷ life3 ∷ Row.off ∷ life5 ∷ life6 ∷ Row.off ∷ Row.off
-            ∷ Row.off ∷ Row.dead ∷ Row.alive ∷ Row.off ∷ Row.off ∷ Row.off ∷ Row.off ∷ Row.off ∷ List.[]; }
+        G33 = record {
+          locals = List._++_ g27 (List._++_ t28 t2);
+          slots = life0 ∷ life1 ∷ life2 ∷ life3 ∷ Row.off ∷ life5 ∷ life6 ∷ Row.off ∷ Row.off ∷ Row.off ∷ Row.dead ∷
+              Row.alive ∷ Row.off ∷ Row.off ∷ Row.off ∷ Row.off ∷ Row.off ∷ List.[];
+        }
+
         abbrev G34 : Row.Cx
-        G34 = record { locals = List._++_ g27 (List._++_ t28 t2); slots = life0 ∷ life1 ∷ life2 ∷ life3 ∷ Row.off ∷ life5 ∷ life6 ∷ Row.off ∷ Row.off
-            ∷ Row.off ∷ Row.off ∷ Row.alive ∷ Row.off ∷ Row.off ∷ Row.off ∷ Row.off ∷ Row.off ∷ List.[]; }
+        G34 = record {
+          locals = List._++_ g27 (List._++_ t28 t2);
+          slots = life0 ∷ life1 ∷ life2 ∷ life3 ∷ Row.off ∷ life5 ∷ life6 ∷ Row.off ∷ Row.off ∷ Row.off ∷ Row.off ∷
+              Row.alive ∷ Row.off ∷ Row.off ∷ Row.off ∷ Row.off ∷ Row.off ∷ List.[];
+        }
+
         abbrev G35 : Row.Cx
-        G35 = record { locals = List._++_ g27 (List._++_ t28 t2); slots = life0 ∷ life1 ∷ life2 ∷ life3 ∷ Row.off ∷ life5 ∷ life6 ∷ Row.off ∷ Row.off
-            ∷ Row.off ∷ Row.off ∷ Row.dead ∷ Row.off ∷ Row.off ∷ Row.off ∷ Row.off ∷ Row.off ∷ List.[]; }
+        G35 = record {
+          locals = List._++_ g27 (List._++_ t28 t2);
+          slots = life0 ∷ life1 ∷ life2 ∷ life3 ∷ Row.off ∷ life5 ∷ life6 ∷ Row.off ∷ Row.off ∷ Row.off ∷ Row.off ∷
+              Row.dead ∷ Row.off ∷ Row.off ∷ Row.off ∷ Row.off ∷ Row.off ∷ List.[];
+        }
+
         abbrev G36 : Row.Cx
-        G36 = record { locals = List._++_ t29 (List._++_ t1 t2); slots = life0 ∷ life1 ∷ life2 ∷ life3 ∷ life4 ∷ life5 ∷ life6 ∷ Row.off ∷ Row.off ∷
-            Row.off ∷ Row.off ∷ Row.dead ∷ Row.off ∷ Row.off ∷ Row.off ∷ Row.off ∷ Row.off ∷ List.[]; }
+        G36 = record {
+          locals = List._++_ t29 (List._++_ t1 t2);
+          slots = life0 ∷ life1 ∷ life2 ∷ life3 ∷ life4 ∷ life5 ∷ life6 ∷ Row.off ∷ Row.off ∷ Row.off ∷ Row.off ∷
+              Row.dead ∷ Row.off ∷ Row.off ∷ Row.off ∷ Row.off ∷ Row.off ∷ List.[];
+        }
+
         abbrev G37 : Row.Cx
-        G37 = record { locals = List._++_ t29 (List._++_ t1 t2); slots = life0 ∷ life1 ∷ life2 ∷ life3 ∷ life4 ∷ life5 ∷ life6 ∷ Row.off ∷ Row.off ∷
-            Row.off ∷ Row.off ∷ Row.dead ∷ Row.off ∷ Row.off ∷ Row.off ∷ Row.off ∷ Row.off ∷ List.[]; }
+        G37 = record {
+          locals = List._++_ t29 (List._++_ t1 t2);
+          slots = life0 ∷ life1 ∷ life2 ∷ life3 ∷ life4 ∷ life5 ∷ life6 ∷ Row.off ∷ Row.off ∷ Row.off ∷ Row.off ∷
+              Row.dead ∷ Row.off ∷ Row.off ∷ Row.off ∷ Row.off ∷ Row.off ∷ List.[];
+        }
+
         abbrev G38 : Row.Cx
-        G38 = record { locals = List._++_ t29 (List._++_ t1 t2); slots = life0 ∷ life1 ∷ life2 ∷ life3 ∷ life4 ∷ life5 ∷ life6 ∷ Row.off ∷ Row.off ∷
-            Row.off ∷ Row.off ∷ Row.off ∷ Row.off ∷ Row.off ∷ Row.off ∷ Row.off ∷ Row.off ∷ List.[]; }
+        G38 = record {
+          locals = List._++_ t29 (List._++_ t1 t2);
+          slots = life0 ∷ life1 ∷ life2 ∷ life3 ∷ life4 ∷ life5 ∷ life6 ∷ Row.off ∷ Row.off ∷ Row.off ∷ Row.off ∷
+              Row.off ∷ Row.off ∷ Row.off ∷ Row.off ∷ Row.off ∷ Row.off ∷ List.[];
+        }
+
         abbrev G39 : Row.Cx
-        G39 = record { locals = List._++_ t30 (List._++_ t1 t2); slots = life0 ∷ life1 ∷ life2 ∷ life3 ∷ life4 ∷ life5 ∷ life6 ∷ Row.off ∷ Row.off ∷
-            Row.off ∷ Row.off ∷ Row.off ∷ Row.off ∷ Row.off ∷ Row.off ∷ Row.off ∷ Row.off ∷ List.[]; }
+        G39 = record {
+          locals = List._++_ t30 (List._++_ t1 t2);
+          slots = life0 ∷ life1 ∷ life2 ∷ life3 ∷ life4 ∷ life5 ∷ life6 ∷ Row.off ∷ Row.off ∷ Row.off ∷ Row.off ∷
+              Row.off ∷ Row.off ∷ Row.off ∷ Row.off ∷ Row.off ∷ Row.off ∷ List.[];
+        }
+
         abbrev G40 : Row.Cx
-        G40 = record { locals = List._++_ t30 (List._++_ t1 t2); slots = life0 ∷ life1 ∷ life2 ∷ life3 ∷ life4 ∷ life5 ∷ life6 ∷ Row.off ∷ Row.off ∷
-            Row.off ∷ Row.off ∷ Row.off ∷ Row.off ∷ Row.off ∷ Row.off ∷ Row.off ∷ Row.off ∷ List.[]; }
+        G40 = record {
+          locals = List._++_ t30 (List._++_ t1 t2);
+          slots = life0 ∷ life1 ∷ life2 ∷ life3 ∷ life4 ∷ life5 ∷ life6 ∷ Row.off ∷ Row.off ∷ Row.off ∷ Row.off ∷
+              Row.off ∷ Row.off ∷ Row.off ∷ Row.off ∷ Row.off ∷ Row.off ∷ List.[];
+        }
+
         abbrev G41 : Row.Cx
-        G41 = record { locals = List._++_ t30 (List._++_ t31 t2); slots = life0 ∷ life1 ∷ life2 ∷ life3 ∷ life4 ∷ life5 ∷ life6 ∷ Row.off ∷ Row.off ∷
-            Row.off ∷ Row.off ∷ Row.off ∷ Row.off ∷ Row.off ∷ Row.off ∷ Row.off ∷ Row.off ∷ List.[]; }
+        G41 = record {
+          locals = List._++_ t30 (List._++_ t31 t2);
+          slots = life0 ∷ life1 ∷ life2 ∷ life3 ∷ life4 ∷ life5 ∷ life6 ∷ Row.off ∷ Row.off ∷ Row.off ∷ Row.off ∷
+              Row.off ∷ Row.off ∷ Row.off ∷ Row.off ∷ Row.off ∷ Row.off ∷ List.[];
+        }
+
         abbrev G42 : Row.Cx
-        G42 = record { locals = List._++_ t29 (List._++_ t1 t2); slots = life0 ∷ life1 ∷ life2 ∷ life3 ∷ life4 ∷ life5 ∷ life6 ∷ Row.off ∷ Row.off ∷
-            Row.off ∷ Row.off ∷ Row.off ∷ Row.off ∷ Row.off ∷ Row.off ∷ Row.off ∷ Row.off ∷ List.[]; }
+        G42 = record {
+          locals = List._++_ t29 (List._++_ t1 t2);
+          slots = life0 ∷ life1 ∷ life2 ∷ life3 ∷ life4 ∷ life5 ∷ life6 ∷ Row.off ∷ Row.off ∷ Row.off ∷ Row.off ∷
+              Row.off ∷ Row.off ∷ Row.off ∷ Row.off ∷ Row.off ∷ Row.off ∷ List.[];
+        }
+
         abbrev G43 : Row.Cx
-        G43 = record { locals = List._++_ t32 (List._++_ t31 t2); slots = life0 ∷ life1 ∷ life2 ∷ life3 ∷ life4 ∷ life5 ∷ life6 ∷ Row.off ∷ Row.off ∷
-            Row.off ∷ Row.off ∷ Row.off ∷ Row.off ∷ Row.off ∷ Row.off ∷ Row.off ∷ Row.off ∷ List.[]; }
+        G43 = record {
+          locals = List._++_ t32 (List._++_ t31 t2);
+          slots = life0 ∷ life1 ∷ life2 ∷ life3 ∷ life4 ∷ life5 ∷ life6 ∷ Row.off ∷ Row.off ∷ Row.off ∷ Row.off ∷
+              Row.off ∷ Row.off ∷ Row.off ∷ Row.off ∷ Row.off ∷ Row.off ∷ List.[];
+        }
+
         abbrev G44 : Row.Cx
-        G44 = record { locals = List._++_ t33 (List._++_ t31 t2); slots = life0 ∷ life1 ∷ life2 ∷ life3 ∷ life4 ∷ life5 ∷ life6 ∷ Row.off ∷ Row.off ∷
-            Row.off ∷ Row.off ∷ Row.off ∷ Row.off ∷ Row.off ∷ Row.off ∷ Row.off ∷ Row.off ∷ List.[]; }
+        G44 = record {
+          locals = List._++_ t33 (List._++_ t31 t2);
+          slots = life0 ∷ life1 ∷ life2 ∷ life3 ∷ life4 ∷ life5 ∷ life6 ∷ Row.off ∷ Row.off ∷ Row.off ∷ Row.off ∷
+              Row.off ∷ Row.off ∷ Row.off ∷ Row.off ∷ Row.off ∷ Row.off ∷ List.[];
+        }
+
         abbrev G45 : Row.Cx
-        G45 = record { locals = List._++_ t34 (List._++_ t31 t2); slots = life0 ∷ life1 ∷ life2 ∷ life3 ∷ life4 ∷ life5 ∷ life6 ∷ Row.off ∷ Row.off ∷
-            Row.off ∷ Row.off ∷ Row.off ∷ Row.off ∷ Row.off ∷ Row.off ∷ Row.off ∷ Row.off ∷ List.[]; }
+        G45 = record {
+          locals = List._++_ t34 (List._++_ t31 t2);
+          slots = life0 ∷ life1 ∷ life2 ∷ life3 ∷ life4 ∷ life5 ∷ life6 ∷ Row.off ∷ Row.off ∷ Row.off ∷ Row.off ∷
+              Row.off ∷ Row.off ∷ Row.off ∷ Row.off ∷ Row.off ∷ Row.off ∷ List.[];
+        }
+
         abbrev G46 : Row.Cx
-        G46 = record { locals = List._++_ t34 (List._++_ t1 t2); slots = life0 ∷ life1 ∷ life2 ∷ life3 ∷ life4 ∷ life5 ∷ life6 ∷ Row.off ∷ Row.off ∷
-            Row.off ∷ Row.off ∷ Row.off ∷ Row.off ∷ Row.off ∷ Row.off ∷ Row.off ∷ Row.off ∷ List.[]; }
+        G46 = record {
+          locals = List._++_ t34 (List._++_ t1 t2);
+          slots = life0 ∷ life1 ∷ life2 ∷ life3 ∷ life4 ∷ life5 ∷ life6 ∷ Row.off ∷ Row.off ∷ Row.off ∷ Row.off ∷
+              Row.off ∷ Row.off ∷ Row.off ∷ Row.off ∷ Row.off ∷ Row.off ∷ List.[];
+        }
+
         abbrev G47 : Row.Cx
-        G47 = record { locals = List._++_ t35 (List._++_ t1 t2); slots = life0 ∷ life1 ∷ life2 ∷ life3 ∷ life4 ∷ life5 ∷ life6 ∷ Row.off ∷ Row.off ∷
-            Row.off ∷ Row.off ∷ Row.off ∷ Row.off ∷ Row.off ∷ Row.off ∷ Row.off ∷ Row.off ∷ List.[]; }
+        G47 = record {
+          locals = List._++_ t35 (List._++_ t1 t2);
+          slots = life0 ∷ life1 ∷ life2 ∷ life3 ∷ life4 ∷ life5 ∷ life6 ∷ Row.off ∷ Row.off ∷ Row.off ∷ Row.off ∷
+              Row.off ∷ Row.off ∷ Row.off ∷ Row.off ∷ Row.off ∷ Row.off ∷ List.[];
+        }
+
         abbrev G48 : Row.Cx
-        G48 = record { locals = List._++_ t3 (List._++_ t1 t2); slots = life0 ∷ life1 ∷ life2 ∷ life3 ∷ life4 ∷ life5 ∷ life6 ∷ Row.off ∷ Row.off ∷
-            Row.off ∷ Row.off ∷ Row.off ∷ Row.off ∷ Row.off ∷ Row.off ∷ Row.off ∷ Row.off ∷ List.[]; }
+        G48 = record {
+          locals = List._++_ t3 (List._++_ t1 t2);
+          slots = life0 ∷ life1 ∷ life2 ∷ life3 ∷ life4 ∷ life5 ∷ life6 ∷ Row.off ∷ Row.off ∷ Row.off ∷ Row.off ∷
+              Row.off ∷ Row.off ∷ Row.off ∷ Row.off ∷ Row.off ∷ Row.off ∷ List.[];
+        }
+
         abbrev G49 : Row.Cx
-        G49 = record { locals = List._++_ t29 (List._++_ t31 t2); slots = life0 ∷ life1 ∷ life2 ∷ life3 ∷ life4 ∷ life5 ∷ life6 ∷ Row.off ∷ Row.off ∷
-            Row.off ∷ Row.off ∷ Row.off ∷ Row.off ∷ Row.off ∷ Row.off ∷ Row.off ∷ Row.off ∷ List.[]; }
+        G49 = record {
+          locals = List._++_ t29 (List._++_ t31 t2);
+          slots = life0 ∷ life1 ∷ life2 ∷ life3 ∷ life4 ∷ life5 ∷ life6 ∷ Row.off ∷ Row.off ∷ Row.off ∷ Row.off ∷
+              Row.off ∷ Row.off ∷ Row.off ∷ Row.off ∷ Row.off ∷ Row.off ∷ List.[];
+        }
+
         abbrev G50 : Row.Cx
-        G50 = record { locals = List._++_ t29 (List._++_ t1 t2); slots = life0 ∷ life1 ∷ life2 ∷ life3 ∷ life4 ∷ life5 ∷ life6 ∷ Row.off ∷ Row.off ∷
-            Row.off ∷ Row.off ∷ Row.off ∷ Row.off ∷ Row.off ∷ Row.off ∷ Row.off ∷ Row.off ∷ List.[]; }
+        G50 = record {
+          locals = List._++_ t29 (List._++_ t1 t2);
+          slots = life0 ∷ life1 ∷ life2 ∷ life3 ∷ life4 ∷ life5 ∷ life6 ∷ Row.off ∷ Row.off ∷ Row.off ∷ Row.off ∷
+              Row.off ∷ Row.off ∷ Row.off ∷ Row.off ∷ Row.off ∷ Row.off ∷ List.[];
+        }
+
         abbrev G51 : Row.Cx
-        G51 = record { locals = List._++_ t29 (List._++_ t1 t2); slots = life0 ∷ life1 ∷ life2 ∷ life3 ∷ life4 ∷ life5 ∷ life6 ∷ Row.off ∷ Row.off ∷
-            Row.off ∷ Row.off ∷ Row.off ∷ Row.alive ∷ Row.off ∷ Row.off ∷ Row.off ∷ Row.off ∷ List.[]; }
+        G51 = record {
+          locals = List._++_ t29 (List._++_ t1 t2);
+          slots = life0 ∷ life1 ∷ life2 ∷ life3 ∷ life4 ∷ life5 ∷ life6 ∷ Row.off ∷ Row.off ∷ Row.off ∷ Row.off ∷
+              Row.off ∷ Row.alive ∷ Row.off ∷ Row.off ∷ Row.off ∷ Row.off ∷ List.[];
+        }
+
         abbrev G52 : Row.Cx
-        G52 = record { locals = List._++_ g36 (List._++_ t37 t2); slots = Row.off ∷ life1 ∷ life2 ∷ life3 ∷ life4 ∷ life5 ∷ life6 ∷ Row.off ∷ Row.off
-            ∷ Row.off ∷ Row.off ∷ Row.off ∷ Row.alive ∷ Row.off ∷ Row.off ∷ Row.off ∷ Row.off ∷ List.[]; }
+        G52 = record {
+          locals = List._++_ g36 (List._++_ t37 t2);
+          slots = Row.off ∷ life1 ∷ life2 ∷ life3 ∷ life4 ∷ life5 ∷ life6 ∷ Row.off ∷ Row.off ∷ Row.off ∷ Row.off ∷
+              Row.off ∷ Row.alive ∷ Row.off ∷ Row.off ∷ Row.off ∷ Row.off ∷ List.[];
+        }
+
         abbrev G53 : Row.Cx
-        G53 = record { locals = List._++_ g36 (List._++_ t38 t2); slots = Row.off ∷ life1 ∷ life2 ∷ life3 ∷ life4 ∷ life5 ∷ life6 ∷ Row.off ∷ Row.off
-            ∷ Row.off ∷ Row.off ∷ Row.off ∷ Row.alive ∷ Row.off ∷ Row.off ∷ Row.off ∷ Row.off ∷ List.[]; }
+        G53 = record {
+          locals = List._++_ g36 (List._++_ t38 t2);
+          slots = Row.off ∷ life1 ∷ life2 ∷ life3 ∷ life4 ∷ life5 ∷ life6 ∷ Row.off ∷ Row.off ∷ Row.off ∷ Row.off ∷
+              Row.off ∷ Row.alive ∷ Row.off ∷ Row.off ∷ Row.off ∷ Row.off ∷ List.[];
+        }
+
         abbrev G54 : Row.Cx
-        G54 = record { locals = List._++_ g36 (List._++_ t38 t2); slots = Row.off ∷ life1 ∷ life2 ∷ life3 ∷ life4 ∷ life5 ∷ life6 ∷ Row.off ∷ Row.off
-            ∷ Row.off ∷ Row.off ∷ Row.off ∷ Row.alive ∷ Row.alive ∷ Row.off ∷ Row.off ∷ Row.off ∷ List.[]; }
+        G54 = record {
+          locals = List._++_ g36 (List._++_ t38 t2);
+          slots = Row.off ∷ life1 ∷ life2 ∷ life3 ∷ life4 ∷ life5 ∷ life6 ∷ Row.off ∷ Row.off ∷ Row.off ∷ Row.off ∷
+              Row.off ∷ Row.alive ∷ Row.alive ∷ Row.off ∷ Row.off ∷ Row.off ∷ List.[];
+        }
+
         abbrev G55 : Row.Cx
-        G55 = record { locals = List._++_ g39 (List._++_ t40 t2); slots = Row.off ∷ Row.off ∷ life2 ∷ life3 ∷ life4 ∷ life5 ∷ life6 ∷ Row.off ∷
-            Row.off ∷ Row.off ∷ Row.off ∷ Row.off ∷ Row.alive ∷ Row.alive ∷ Row.off ∷ Row.off ∷ Row.off ∷ List.[]; }
+        G55 = record {
+          locals = List._++_ g39 (List._++_ t40 t2);
+          slots = Row.off ∷ Row.off ∷ life2 ∷ life3 ∷ life4 ∷ life5 ∷ life6 ∷ Row.off ∷ Row.off ∷ Row.off ∷ Row.off ∷
+              Row.off ∷ Row.alive ∷ Row.alive ∷ Row.off ∷ Row.off ∷ Row.off ∷ List.[];
+        }
+
         abbrev G56 : Row.Cx
-        G56 = record { locals = List._++_ g39 (List._++_ t41 t2); slots = Row.off ∷ Row.off ∷ life2 ∷ life3 ∷ life4 ∷ life5 ∷ life6 ∷ Row.off ∷
-            Row.off ∷ Row.off ∷ Row.off ∷ Row.off ∷ Row.alive ∷ Row.alive ∷ Row.off ∷ Row.off ∷ Row.off ∷ List.[]; }
+        G56 = record {
+          locals = List._++_ g39 (List._++_ t41 t2);
+          slots = Row.off ∷ Row.off ∷ life2 ∷ life3 ∷ life4 ∷ life5 ∷ life6 ∷ Row.off ∷ Row.off ∷ Row.off ∷ Row.off ∷
+              Row.off ∷ Row.alive ∷ Row.alive ∷ Row.off ∷ Row.off ∷ Row.off ∷ List.[];
+        }
+
         abbrev G57 : Row.Cx
-        G57 = record { locals = List._++_ g39 (List._++_ t41 t2); slots = Row.off ∷ Row.off ∷ life2 ∷ life3 ∷ life4 ∷ life5 ∷ life6 ∷ Row.off ∷
-            Row.off ∷ Row.off ∷ Row.off ∷ Row.off ∷ Row.alive ∷ Row.alive ∷ Row.alive ∷ Row.off ∷ Row.off ∷ List.[]; }
+        G57 = record {
+          locals = List._++_ g39 (List._++_ t41 t2);
+          slots = Row.off ∷ Row.off ∷ life2 ∷ life3 ∷ life4 ∷ life5 ∷ life6 ∷ Row.off ∷ Row.off ∷ Row.off ∷ Row.off ∷
+              Row.off ∷ Row.alive ∷ Row.alive ∷ Row.alive ∷ Row.off ∷ Row.off ∷ List.[];
+        }
+
         abbrev G58 : Row.Cx
-        G58 = record { locals = List._++_ g42 (List._++_ t43 t2); slots = Row.off ∷ Row.off ∷ Row.off ∷ life3 ∷ life4 ∷ life5 ∷ life6 ∷ Row.off ∷
-            Row.off ∷ Row.off ∷ Row.off ∷ Row.off ∷ Row.alive ∷ Row.alive ∷ Row.alive ∷ Row.off ∷ Row.off ∷ List.[]; }
+        G58 = record {
+          locals = List._++_ g42 (List._++_ t43 t2);
+          slots = Row.off ∷ Row.off ∷ Row.off ∷ life3 ∷ life4 ∷ life5 ∷ life6 ∷ Row.off ∷ Row.off ∷ Row.off ∷ Row.off ∷
+              Row.off ∷ Row.alive ∷ Row.alive ∷ Row.alive ∷ Row.off ∷ Row.off ∷ List.[];
+        }
+
         abbrev G59 : Row.Cx
-        G59 = record { locals = List._++_ g42 (List._++_ t44 t2); slots = Row.off ∷ Row.off ∷ Row.off ∷ life3 ∷ life4 ∷ life5 ∷ life6 ∷ Row.off ∷
-            Row.off ∷ Row.off ∷ Row.off ∷ Row.off ∷ Row.alive ∷ Row.alive ∷ Row.alive ∷ Row.off ∷ Row.off ∷ List.[]; }
+        G59 = record {
+          locals = List._++_ g42 (List._++_ t44 t2);
+          slots = Row.off ∷ Row.off ∷ Row.off ∷ life3 ∷ life4 ∷ life5 ∷ life6 ∷ Row.off ∷ Row.off ∷ Row.off ∷ Row.off ∷
+              Row.off ∷ Row.alive ∷ Row.alive ∷ Row.alive ∷ Row.off ∷ Row.off ∷ List.[];
+        }
+
         abbrev G60 : Row.Cx
-        G60 = record { locals = List._++_ g42 (List._++_ t44 t2); slots = Row.off ∷ Row.off ∷ Row.off ∷ life3 ∷ life4 ∷ life5 ∷ life6 ∷ Row.off ∷
-            Row.off ∷ Row.off ∷ Row.off ∷ Row.off ∷ Row.alive ∷ Row.alive ∷ Row.alive ∷ Row.alive ∷ Row.off ∷ List.[]; }
+        G60 = record {
+          locals = List._++_ g42 (List._++_ t44 t2);
+          slots = Row.off ∷ Row.off ∷ Row.off ∷ life3 ∷ life4 ∷ life5 ∷ life6 ∷ Row.off ∷ Row.off ∷ Row.off ∷ Row.off ∷
+              Row.off ∷ Row.alive ∷ Row.alive ∷ Row.alive ∷ Row.alive ∷ Row.off ∷ List.[];
+        }
+
         abbrev G61 : Row.Cx
-        G61 = record { locals = List._++_ g45 (List._++_ t46 t2); slots = Row.off ∷ Row.off ∷ Row.off ∷ Row.off ∷ life4 ∷ life5 ∷ life6 ∷ Row.off ∷
-            Row.off ∷ Row.off ∷ Row.off ∷ Row.off ∷ Row.alive ∷ Row.alive ∷ Row.alive ∷ Row.alive ∷ Row.off ∷ List.[]; }
+        G61 = record {
+          locals = List._++_ g45 (List._++_ t46 t2);
+          slots = Row.off ∷ Row.off ∷ Row.off ∷ Row.off ∷ life4 ∷ life5 ∷ life6 ∷ Row.off ∷ Row.off ∷ Row.off ∷ Row.off
+              ∷ Row.off ∷ Row.alive ∷ Row.alive ∷ Row.alive ∷ Row.alive ∷ Row.off ∷ List.[];
+        }
+
         abbrev G62 : Row.Cx
-        G62 = record { locals = List._++_ g45 (List._++_ t47 t2); slots = Row.off ∷ Row.off ∷ Row.off ∷ Row.off ∷ life4 ∷ life5 ∷ life6 ∷ Row.off ∷
-            Row.off ∷ Row.off ∷ Row.off ∷ Row.off ∷ Row.alive ∷ Row.alive ∷ Row.alive ∷ Row.alive ∷ Row.off ∷ List.[]; }
+        G62 = record {
+          locals = List._++_ g45 (List._++_ t47 t2);
+          slots = Row.off ∷ Row.off ∷ Row.off ∷ Row.off ∷ life4 ∷ life5 ∷ life6 ∷ Row.off ∷ Row.off ∷ Row.off ∷ Row.off
+              ∷ Row.off ∷ Row.alive ∷ Row.alive ∷ Row.alive ∷ Row.alive ∷ Row.off ∷ List.[];
+        }
+
         abbrev G63 : Row.Cx
-        G63 = record { locals = List._++_ g45 (List._++_ t47 t2); slots = Row.off ∷ Row.off ∷ Row.off ∷ Row.off ∷ life4 ∷ life5 ∷ life6 ∷ Row.off ∷
-            Row.off ∷ Row.off ∷ Row.off ∷ Row.off ∷ Row.alive ∷ Row.alive ∷ Row.alive ∷ Row.alive ∷ Row.alive ∷ List.[]; }
+        G63 = record {
+          locals = List._++_ g45 (List._++_ t47 t2);
+          slots = Row.off ∷ Row.off ∷ Row.off ∷ Row.off ∷ life4 ∷ life5 ∷ life6 ∷ Row.off ∷ Row.off ∷ Row.off ∷ Row.off
+              ∷ Row.off ∷ Row.alive ∷ Row.alive ∷ Row.alive ∷ Row.alive ∷ Row.alive ∷ List.[];
+        }
+
         abbrev G64 : Row.Cx
-        G64 = record { locals = List._++_ g48 (List._++_ t47 t49); slots = Row.off ∷ Row.off ∷ Row.off ∷ Row.off ∷ Row.off ∷ life5 ∷ life6 ∷ Row.off ∷
-            Row.off ∷ Row.off ∷ Row.off ∷ Row.off ∷ Row.alive ∷ Row.alive ∷ Row.alive ∷ Row.alive ∷ Row.alive ∷ List.[]; }
+        G64 = record {
+          locals = List._++_ g48 (List._++_ t47 t49);
+          slots = Row.off ∷ Row.off ∷ Row.off ∷ Row.off ∷ Row.off ∷ life5 ∷ life6 ∷ Row.off ∷ Row.off ∷ Row.off ∷
+              Row.off ∷ Row.off ∷ Row.alive ∷ Row.alive ∷ Row.alive ∷ Row.alive ∷ Row.alive ∷ List.[];
+        }
+
         abbrev G65 : Row.Cx
-        G65 = record { locals = List._++_ g48 (List._++_ t47 t50); slots = Row.off ∷ Row.off ∷ Row.off ∷ Row.off ∷ Row.off ∷ life5 ∷ life6 ∷ Row.off ∷
-            Row.off ∷ Row.off ∷ Row.off ∷ Row.off ∷ Row.alive ∷ Row.alive ∷ Row.alive ∷ Row.alive ∷ Row.alive ∷ List.[]; }
+        G65 = record {
+          locals = List._++_ g48 (List._++_ t47 t50);
+          slots = Row.off ∷ Row.off ∷ Row.off ∷ Row.off ∷ Row.off ∷ life5 ∷ life6 ∷ Row.off ∷ Row.off ∷ Row.off ∷
+              Row.off ∷ Row.off ∷ Row.alive ∷ Row.alive ∷ Row.alive ∷ Row.alive ∷ Row.alive ∷ List.[];
+        }
+
         abbrev G66 : Row.Cx
-        G66 = record { locals = List._++_ g51 (List._++_ t52 t53); slots = Row.off ∷ Row.off ∷ Row.off ∷ Row.off ∷ Row.off ∷ life5 ∷ life6 ∷ Row.off ∷
-            Row.off ∷ Row.off ∷ Row.off ∷ Row.off ∷ Row.alive ∷ Row.alive ∷ Row.alive ∷ Row.alive ∷ Row.alive ∷ List.[]; }
+        G66 = record {
+          locals = List._++_ g51 (List._++_ t52 t53);
+          slots = Row.off ∷ Row.off ∷ Row.off ∷ Row.off ∷ Row.off ∷ life5 ∷ life6 ∷ Row.off ∷ Row.off ∷ Row.off ∷
+              Row.off ∷ Row.off ∷ Row.alive ∷ Row.alive ∷ Row.alive ∷ Row.alive ∷ Row.alive ∷ List.[];
+        }
+
         abbrev G67 : Row.Cx
-        G67 = record { locals = List._++_ g54 (List._++_ t52 t53); slots = Row.off ∷ Row.off ∷ Row.off ∷ Row.off ∷ Row.off ∷ life5 ∷ life6 ∷ Row.off ∷
-            Row.off ∷ Row.off ∷ Row.off ∷ Row.off ∷ Row.alive ∷ Row.alive ∷ Row.alive ∷ Row.alive ∷ Row.alive ∷ List.[]; }
+        G67 = record {
+          locals = List._++_ g54 (List._++_ t52 t53);
+          slots = Row.off ∷ Row.off ∷ Row.off ∷ Row.off ∷ Row.off ∷ life5 ∷ life6 ∷ Row.off ∷ Row.off ∷ Row.off ∷
+              Row.off ∷ Row.off ∷ Row.alive ∷ Row.alive ∷ Row.alive ∷ Row.alive ∷ Row.alive ∷ List.[];
+        }
+
         abbrev G68 : Row.Cx
-        G68 = record { locals = List._++_ g55 (List._++_ t52 t53); slots = Row.off ∷ Row.off ∷ Row.off ∷ Row.off ∷ Row.off ∷ life5 ∷ life6 ∷ Row.off ∷
-            Row.off ∷ Row.off ∷ Row.off ∷ Row.off ∷ Row.alive ∷ Row.alive ∷ Row.alive ∷ Row.alive ∷ Row.alive ∷ List.[]; }
+        G68 = record {
+          locals = List._++_ g55 (List._++_ t52 t53);
+          slots = Row.off ∷ Row.off ∷ Row.off ∷ Row.off ∷ Row.off ∷ life5 ∷ life6 ∷ Row.off ∷ Row.off ∷ Row.off ∷
+              Row.off ∷ Row.off ∷ Row.alive ∷ Row.alive ∷ Row.alive ∷ Row.alive ∷ Row.alive ∷ List.[];
+        }
+
         abbrev G69 : Row.Cx
-        G69 = record { locals = List._++_ g56 (List._++_ t52 t53); slots = Row.off ∷ Row.off ∷ Row.off ∷ Row.off ∷ Row.off ∷ life5 ∷ life6 ∷ Row.off ∷
-            Row.off ∷ Row.off ∷ Row.off ∷ Row.off ∷ Row.alive ∷ Row.alive ∷ Row.alive ∷ Row.alive ∷ Row.alive ∷ List.[]; }
+        G69 = record {
+          locals = List._++_ g56 (List._++_ t52 t53);
+          slots = Row.off ∷ Row.off ∷ Row.off ∷ Row.off ∷ Row.off ∷ life5 ∷ life6 ∷ Row.off ∷ Row.off ∷ Row.off ∷
+              Row.off ∷ Row.off ∷ Row.alive ∷ Row.alive ∷ Row.alive ∷ Row.alive ∷ Row.alive ∷ List.[];
+        }
+
         abbrev G70 : Row.Cx
-        G70 = record { locals = List._++_ g56 (List._++_ t52 t53); slots = Row.off ∷ Row.off ∷ Row.off ∷ Row.off ∷ Row.off ∷ life5 ∷ life6 ∷ Row.off ∷
-            Row.off ∷ Row.off ∷ Row.off ∷ Row.off ∷ Row.dead ∷ Row.alive ∷ Row.alive ∷ Row.alive ∷ Row.alive ∷ List.[]; }
+        G70 = record {
+          locals = List._++_ g56 (List._++_ t52 t53);
+          slots = Row.off ∷ Row.off ∷ Row.off ∷ Row.off ∷ Row.off ∷ life5 ∷ life6 ∷ Row.off ∷ Row.off ∷ Row.off ∷
+              Row.off ∷ Row.off ∷ Row.dead ∷ Row.alive ∷ Row.alive ∷ Row.alive ∷ Row.alive ∷ List.[];
+        }
+
         abbrev G71 : Row.Cx
-        G71 = record { locals = List._++_ g57 (List._++_ t58 t53); slots = life0 ∷ Row.off ∷ Row.off ∷ Row.off ∷ Row.off ∷ life5 ∷ life6 ∷ Row.off ∷
-            Row.off ∷ Row.off ∷ Row.off ∷ Row.off ∷ Row.dead ∷ Row.alive ∷ Row.alive ∷ Row.alive ∷ Row.alive ∷ List.[]; }
+        G71 = record {
+          locals = List._++_ g57 (List._++_ t58 t53);
+          slots = life0 ∷ Row.off ∷ Row.off ∷ Row.off ∷ Row.off ∷ life5 ∷ life6 ∷ Row.off ∷ Row.off ∷ Row.off ∷ Row.off
+              ∷ Row.off ∷ Row.dead ∷ Row.alive ∷ Row.alive ∷ Row.alive ∷ Row.alive ∷ List.[];
+        }
+
         abbrev G72 : Row.Cx
-        G72 = record { locals = List._++_ g57 (List._++_ t58 t53); slots = life0 ∷ Row.off ∷ Row.off ∷ Row.off ∷ Row.off ∷ life5 ∷ life6 ∷ Row.off ∷
-            Row.off ∷ Row.off ∷ Row.off ∷ Row.off ∷ Row.off ∷ Row.alive ∷ Row.alive ∷ Row.alive ∷ Row.alive ∷ List.[]; }
+        G72 = record {
+          locals = List._++_ g57 (List._++_ t58 t53);
+          slots = life0 ∷ Row.off ∷ Row.off ∷ Row.off ∷ Row.off ∷ life5 ∷ life6 ∷ Row.off ∷ Row.off ∷ Row.off ∷ Row.off
+              ∷ Row.off ∷ Row.off ∷ Row.alive ∷ Row.alive ∷ Row.alive ∷ Row.alive ∷ List.[];
+        }
+
         abbrev G73 : Row.Cx
-        G73 = record { locals = List._++_ g57 (List._++_ t58 t53); slots = life0 ∷ Row.off ∷ Row.off ∷ Row.off ∷ Row.off ∷ life5 ∷ life6 ∷ Row.off ∷
-            Row.off ∷ Row.off ∷ Row.off ∷ Row.off ∷ Row.off ∷ Row.dead ∷ Row.alive ∷ Row.alive ∷ Row.alive ∷ List.[]; }
+        G73 = record {
+          locals = List._++_ g57 (List._++_ t58 t53);
+          slots = life0 ∷ Row.off ∷ Row.off ∷ Row.off ∷ Row.off ∷ life5 ∷ life6 ∷ Row.off ∷ Row.off ∷ Row.off ∷ Row.off
+              ∷ Row.off ∷ Row.off ∷ Row.dead ∷ Row.alive ∷ Row.alive ∷ Row.alive ∷ List.[];
+        }
+
         abbrev G74 : Row.Cx
-        G74 = record { locals = List._++_ g59 (List._++_ t60 t53); slots = life0 ∷ life1 ∷ Row.off ∷ Row.off ∷ Row.off ∷ life5 ∷ life6 ∷ Row.off ∷
-            Row.off ∷ Row.off ∷ Row.off ∷ Row.off ∷ Row.off ∷ Row.dead ∷ Row.alive ∷ Row.alive ∷ Row.alive ∷ List.[]; }
+        G74 = record {
+          locals = List._++_ g59 (List._++_ t60 t53);
+          slots = life0 ∷ life1 ∷ Row.off ∷ Row.off ∷ Row.off ∷ life5 ∷ life6 ∷ Row.off ∷ Row.off ∷ Row.off ∷ Row.off ∷
+              Row.off ∷ Row.off ∷ Row.dead ∷ Row.alive ∷ Row.alive ∷ Row.alive ∷ List.[];
+        }
+
         abbrev G75 : Row.Cx
-        G75 = record { locals = List._++_ g59 (List._++_ t60 t53); slots = life0 ∷ life1 ∷ Row.off ∷ Row.off ∷ Row.off ∷ life5 ∷ life6 ∷ Row.off ∷
-            Row.off ∷ Row.off ∷ Row.off ∷ Row.off ∷ Row.off ∷ Row.off ∷ Row.alive ∷ Row.alive ∷ Row.alive ∷ List.[]; }
+        G75 = record {
+          locals = List._++_ g59 (List._++_ t60 t53);
+          slots = life0 ∷ life1 ∷ Row.off ∷ Row.off ∷ Row.off ∷ life5 ∷ life6 ∷ Row.off ∷ Row.off ∷ Row.off ∷ Row.off ∷
+              Row.off ∷ Row.off ∷ Row.off ∷ Row.alive ∷ Row.alive ∷ Row.alive ∷ List.[];
+        }
+
         abbrev G76 : Row.Cx
-        G76 = record { locals = List._++_ g59 (List._++_ t60 t53); slots = life0 ∷ life1 ∷ Row.off ∷ Row.off ∷ Row.off ∷ life5 ∷ life6 ∷ Row.off ∷
-            Row.off ∷ Row.off ∷ Row.off ∷ Row.off ∷ Row.off ∷ Row.off ∷ Row.dead ∷ Row.alive ∷ Row.alive ∷ List.[]; }
+        G76 = record {
+          locals = List._++_ g59 (List._++_ t60 t53);
+          slots = life0 ∷ life1 ∷ Row.off ∷ Row.off ∷ Row.off ∷ life5 ∷ life6 ∷ Row.off ∷ Row.off ∷ Row.off ∷ Row.off ∷
+              Row.off ∷ Row.off ∷ Row.off ∷ Row.dead ∷ Row.alive ∷ Row.alive ∷ List.[];
+        }
+
         abbrev G77 : Row.Cx
-        G77 = record { locals = List._++_ g61 (List._++_ t62 t53); slots = life0 ∷ life1 ∷ life2 ∷ Row.off ∷ Row.off ∷ life5 ∷ life6 ∷ Row.off ∷
-            Row.off ∷ Row.off ∷ Row.off ∷ Row.off ∷ Row.off ∷ Row.off ∷ Row.dead ∷ Row.alive ∷ Row.alive ∷ List.[]; }
+        G77 = record {
+          locals = List._++_ g61 (List._++_ t62 t53);
+          slots = life0 ∷ life1 ∷ life2 ∷ Row.off ∷ Row.off ∷ life5 ∷ life6 ∷ Row.off ∷ Row.off ∷ Row.off ∷ Row.off ∷
+              Row.off ∷ Row.off ∷ Row.off ∷ Row.dead ∷ Row.alive ∷ Row.alive ∷ List.[];
+        }
+
         abbrev G78 : Row.Cx
-        G78 = record { locals = List._++_ g61 (List._++_ t62 t53); slots = life0 ∷ life1 ∷ life2 ∷ Row.off ∷ Row.off ∷ life5 ∷ life6 ∷ Row.off ∷
-            Row.off ∷ Row.off ∷ Row.off ∷ Row.off ∷ Row.off ∷ Row.off ∷ Row.off ∷ Row.alive ∷ Row.alive ∷ List.[]; }
+        G78 = record {
+          locals = List._++_ g61 (List._++_ t62 t53);
+          slots = life0 ∷ life1 ∷ life2 ∷ Row.off ∷ Row.off ∷ life5 ∷ life6 ∷ Row.off ∷ Row.off ∷ Row.off ∷ Row.off ∷
+              Row.off ∷ Row.off ∷ Row.off ∷ Row.off ∷ Row.alive ∷ Row.alive ∷ List.[];
+        }
+
         abbrev G79 : Row.Cx
-        G79 = record { locals = List._++_ g61 (List._++_ t62 t53); slots = life0 ∷ life1 ∷ life2 ∷ Row.off ∷ Row.off ∷ life5 ∷ life6 ∷ Row.off ∷
-            Row.off ∷ Row.off ∷ Row.off ∷ Row.off ∷ Row.off ∷ Row.off ∷ Row.off ∷ Row.dead ∷ Row.alive ∷ List.[]; }
+        G79 = record {
+          locals = List._++_ g61 (List._++_ t62 t53);
+          slots = life0 ∷ life1 ∷ life2 ∷ Row.off ∷ Row.off ∷ life5 ∷ life6 ∷ Row.off ∷ Row.off ∷ Row.off ∷ Row.off ∷
+              Row.off ∷ Row.off ∷ Row.off ∷ Row.off ∷ Row.dead ∷ Row.alive ∷ List.[];
+        }
+
         abbrev G80 : Row.Cx
-        G80 = record { locals = List._++_ g63 (List._++_ t1 t53); slots = life0 ∷ life1 ∷ life2 ∷ life3 ∷ Row.off ∷ life5 ∷ life6 ∷ Row.off ∷ Row.off
-            ∷ Row.off ∷ Row.off ∷ Row.off ∷ Row.off ∷ Row.off ∷ Row.off ∷ Row.dead ∷ Row.alive ∷ List.[]; }
+        G80 = record {
+          locals = List._++_ g63 (List._++_ t1 t53);
+          slots = life0 ∷ life1 ∷ life2 ∷ life3 ∷ Row.off ∷ life5 ∷ life6 ∷ Row.off ∷ Row.off ∷ Row.off ∷ Row.off ∷
+              Row.off ∷ Row.off ∷ Row.off ∷ Row.off ∷ Row.dead ∷ Row.alive ∷ List.[];
+        }
+
         abbrev G81 : Row.Cx
-        G81 = record { locals = List._++_ g63 (List._++_ t1 t53); slots = life0 ∷ life1 ∷ life2 ∷ life3 ∷ Row.off ∷ life5 ∷ life6 ∷ Row.off ∷ Row.off
-            ∷ Row.off ∷ Row.off ∷ Row.off ∷ Row.off ∷ Row.off ∷ Row.off ∷ Row.off ∷ Row.alive ∷ List.[]; }
+        G81 = record {
+          locals = List._++_ g63 (List._++_ t1 t53);
+          slots = life0 ∷ life1 ∷ life2 ∷ life3 ∷ Row.off ∷ life5 ∷ life6 ∷ Row.off ∷ Row.off ∷ Row.off ∷ Row.off ∷
+              Row.off ∷ Row.off ∷ Row.off ∷ Row.off ∷ Row.off ∷ Row.alive ∷ List.[];
+        }
+
         abbrev G82 : Row.Cx
-        G82 = record { locals = List._++_ g63 (List._++_ t1 t53); slots = life0 ∷ life1 ∷ life2 ∷ life3 ∷ Row.off ∷ life5 ∷ life6 ∷ Row.off ∷ Row.off
-            ∷ Row.off ∷ Row.off ∷ Row.off ∷ Row.off ∷ Row.off ∷ Row.off ∷ Row.off ∷ Row.dead ∷ List.[]; }
+        G82 = record {
+          locals = List._++_ g63 (List._++_ t1 t53);
+          slots = life0 ∷ life1 ∷ life2 ∷ life3 ∷ Row.off ∷ life5 ∷ life6 ∷ Row.off ∷ Row.off ∷ Row.off ∷ Row.off ∷
+              Row.off ∷ Row.off ∷ Row.off ∷ Row.off ∷ Row.off ∷ Row.dead ∷ List.[];
+        }
+
         abbrev G83 : Row.Cx
-        G83 = record { locals = List._++_ t3 (List._++_ t1 t2); slots = life0 ∷ life1 ∷ life2 ∷ life3 ∷ life4 ∷ life5 ∷ life6 ∷ Row.off ∷ Row.off ∷
-            Row.off ∷ Row.off ∷ Row.off ∷ Row.off ∷ Row.off ∷ Row.off ∷ Row.off ∷ Row.dead ∷ List.[]; }
+        G83 = record {
+          locals = List._++_ t3 (List._++_ t1 t2);
+          slots = life0 ∷ life1 ∷ life2 ∷ life3 ∷ life4 ∷ life5 ∷ life6 ∷ Row.off ∷ Row.off ∷ Row.off ∷ Row.off ∷
+              Row.off ∷ Row.off ∷ Row.off ∷ Row.off ∷ Row.off ∷ Row.dead ∷ List.[];
+        }
+
         abbrev G84 : Row.Cx
-        G84 = record { locals = List._++_ t3 (List._++_ t1 t2); slots = life0 ∷ life1 ∷ life2 ∷ life3 ∷ life4 ∷ life5 ∷ life6 ∷ Row.off ∷ Row.off ∷
-            Row.off ∷ Row.off ∷ Row.off ∷ Row.off ∷ Row.off ∷ Row.off ∷ Row.off ∷ Row.dead ∷ List.[]; }
+        G84 = record {
+          locals = List._++_ t3 (List._++_ t1 t2);
+          slots = life0 ∷ life1 ∷ life2 ∷ life3 ∷ life4 ∷ life5 ∷ life6 ∷ Row.off ∷ Row.off ∷ Row.off ∷ Row.off ∷
+              Row.off ∷ Row.off ∷ Row.off ∷ Row.off ∷ Row.off ∷ Row.dead ∷ List.[];
+        }
+
         abbrev G85 : Row.Cx
-        G85 = record { locals = List._++_ t3 (List._++_ t1 t2); slots = life0 ∷ life1 ∷ life2 ∷ life3 ∷ life4 ∷ life5 ∷ life6 ∷ Row.off ∷ Row.off ∷
-            Row.off ∷ Row.off ∷ Row.off ∷ Row.off ∷ Row.off ∷ Row.off ∷ Row.off ∷ Row.off ∷ List.[]; }
+        G85 = record {
+          locals = List._++_ t3 (List._++_ t1 t2);
+          slots = life0 ∷ life1 ∷ life2 ∷ life3 ∷ life4 ∷ life5 ∷ life6 ∷ Row.off ∷ Row.off ∷ Row.off ∷ Row.off ∷
+              Row.off ∷ Row.off ∷ Row.off ∷ Row.off ∷ Row.off ∷ Row.off ∷ List.[];
+        }
+
         abbrev Δ0 : Typed.Outs
         Δ0 = record { next = Option.none; exits = List.[]; returns = Option.some G1 }
+
         abbrev Δ1 : Typed.Outs
         Δ1 = Typed.withNext (Option.some G42) Δ0
-        module _ { M : Type 1 } (𝓤 : URA.URA M) (H : Wp.Heap 𝓤) (A : Atoms.Atoms 𝓤) (W : Kit.Given 𝓤 H A) (𝓣 : Wp.Tables 𝓤 H) (known : Knowns 𝓤 H A W
-            𝓣) (bs : List.List Nat.ℕ) (bd : Lifetimes.AllOutlive 7 (Kinds.osR r) κs) where
+
+        module _ {M : Type 1} (𝓤 : URA.URA M) (H : Wp.Heap 𝓤) (A : Atoms.Atoms 𝓤) (W : Kit.Given 𝓤 H A)
+            (𝓣 : Wp.Tables 𝓤 H) (known : Knowns 𝓤 H A W 𝓣) (bs : List.List Nat.ℕ)
+            (bd : Lifetimes.AllOutlive 7 (Kinds.osR r) κs) where
           abbrev E : Wp.Env 𝓤 H
           E = Frame.EnvOf 𝓤 H ((Kinds.tyR r) ∷ (Enter.tysP ps xs)) bs
+
           d0 : Typed.Typed 𝓤 H A 𝓣 E G48 b15 Δ1 at0
           d0 = Typed.t-return 𝓤 H A W 𝓣 E Δ1 tt
+
           d1 : Typed.Typed 𝓤 H A 𝓣 E G47 b15 Δ1 at1
-          d1 = Typed.g-pre 𝓤 H A W 𝓣 E G47 G48 b15 Δ1 (Typed.pass T47 T48 s45) at0 (Scalar.g-room 𝓤 H A W E G47 12 Laws'.mir (Local.room-whole 𝓤 H A W
-              (Declared.row HnsrAnswer.the-type) Laws'.mir Path.refl)) d0
+          d1 = Typed.g-pre 𝓤 H A W 𝓣 E G47 G48 b15 Δ1 (Typed.pass T47 T48 s45) at0 (Scalar.g-room 𝓤 H A W E G47 12
+              Laws'.mir (Local.room-whole 𝓤 H A W (Declared.row HnsrAnswer.the-type) Laws'.mir Path.refl)) d0
+
           d2 : Typed.Typed 𝓤 H A 𝓣 E G46 b16 Δ1 at2
-          d2 = Typed.s-seq 𝓤 H A W 𝓣 E G46 G47 b14 b15 Δ1 (Typed.both s44) at1 (Plain.t-call-plain 𝓤 H A W 𝓣 0 ps·2 r·2 (claims· .4) (claims· .5)
-              "cases::script::answer_number" (known .2) E (λ pos β. β) G46 (record { pos = 12; st = List.[]; d = 0; at = λ x. x }, tt) 0 List.[]
-              (Call.sub-id 𝓤 H A W (G46 .slots)) ((Yields.yields-copy 𝓤 H A W (λ ρ. Unit) (Declared.row HnsrAnswer.the-type) Path.refl (Copies.cEnum
-              HnsrAnswer.the-type Laws'.the-laws Laws'.the-copy .copy 𝓤 H A W) (Rows.whole (Declared.row HnsrAnswer.the-type)) (λ x. x) (λ x. x) (λ ρ
-              told. Local.mem-whole 𝓤 H A W (Declared.row HnsrAnswer.the-type) ρ) λ ρ told. Local.whole-mem 𝓤 H A W (Declared.row HnsrAnswer.the-type)
-              ρ, Path.refl,), tt,) (Reads'.room-gone 𝓤 H A (Syntax.tyInt Syntax.w64)) tt Path.refl) d1
+          d2 = Typed.s-seq 𝓤 H A W 𝓣 E G46 G47 b14 b15 Δ1 (Typed.both s44) at1 (Plain.t-call-plain 𝓤 H A W 𝓣 0 ps·2 r·2
+              (claims· .4) (claims· .5) "cases::script::answer_number" (known .2) E (λ pos β. β) G46
+              (record { pos = 12; st = List.[]; d = 0; at = λ x. x }, tt) 0 List.[] (Call.sub-id 𝓤 H A W (G46 .slots)) (
+                (
+                  Yields.yields-copy 𝓤 H A W (λ ρ. Unit) (Declared.row HnsrAnswer.the-type) Path.refl (Copies.cEnum
+                      HnsrAnswer.the-type Laws'.the-laws Laws'.the-copy .copy 𝓤 H A W)
+                      (Rows.whole (Declared.row HnsrAnswer.the-type)) (λ x. x) (λ x. x) (λ ρ told. Local.mem-whole 𝓤 H
+                      A W (Declared.row HnsrAnswer.the-type) ρ) λ ρ told. Local.whole-mem 𝓤 H A W
+                      (Declared.row HnsrAnswer.the-type) ρ,
+                  Path.refl,
+                ),
+                tt,
+              ) (Reads'.room-gone 𝓤 H A (Syntax.tyInt Syntax.w64)) tt Path.refl) d1
+
           d3 : Typed.Typed 𝓤 H A 𝓣 E G45 b16 Δ1 at3
-          d3 = Typed.g-pre 𝓤 H A W 𝓣 E G45 G46 b16 Δ1 (Typed.pass T45 T46 s43) at2 (Scalar.g-room 𝓤 H A W E G45 23 Syntax.tyBool (Scalar.room-sc 𝓤 H A
-              W Row.sBool)) d2
+          d3 = Typed.g-pre 𝓤 H A W 𝓣 E G45 G46 b16 Δ1 (Typed.pass T45 T46 s43) at2 (Scalar.g-room 𝓤 H A W E G45 23
+              Syntax.tyBool (Scalar.room-sc 𝓤 H A W Row.sBool)) d2
+
           d4 : Typed.Typed 𝓤 H A 𝓣 E G44 b16 Δ1 at4
-          d4 = Typed.g-pre 𝓤 H A W 𝓣 E G44 G45 b16 Δ1 (Typed.pass T44 T45 s42) at3 (Scalar.g-room 𝓤 H A W E G44 11 Laws'''.mir (Local.room-whole 𝓤 H A
-              W (Declared'.row Relayed.the-type) Laws'''.mir Path.refl)) d3
+          d4 = Typed.g-pre 𝓤 H A W 𝓣 E G44 G45 b16 Δ1 (Typed.pass T44 T45 s42) at3 (Scalar.g-room 𝓤 H A W E G44 11
+              Laws'''.mir (Local.room-whole 𝓤 H A W (Declared'.row Relayed.the-type) Laws'''.mir Path.refl)) d3
+
           d5 : Typed.Typed 𝓤 H A 𝓣 E G43 b16 Δ1 at5
-          d5 = Typed.g-pre 𝓤 H A W 𝓣 E G43 G44 b16 Δ1 (Typed.pass T43 T44 s41) at4 (Scalar.g-room 𝓤 H A W E G43 10 Laws''.mir (Local.room-whole 𝓤 H A
-              W (Declared'.row RelayPacket.the-type) Laws''.mir Path.refl)) d4
+          d5 = Typed.g-pre 𝓤 H A W 𝓣 E G43 G44 b16 Δ1 (Typed.pass T43 T44 s41) at4 (Scalar.g-room 𝓤 H A W E G43 10
+              Laws''.mir (Local.room-whole 𝓤 H A W (Declared'.row RelayPacket.the-type) Laws''.mir Path.refl)) d4
+
           d6 : Typed.Typed 𝓤 H A 𝓣 E G41 b16 Δ1 at6
-          d6 = Typed.g-pre 𝓤 H A W 𝓣 E G41 G43 b16 Δ1 (Typed.pass T41 T43 s40) at5 (Scalar.g-room 𝓤 H A W E G41 9 Laws.mir (Local.room-whole 𝓤 H A W
-              (Declared'.row Script.the-type) Laws.mir Path.refl)) d5
+          d6 = Typed.g-pre 𝓤 H A W 𝓣 E G41 G43 b16 Δ1 (Typed.pass T41 T43 s40) at5 (Scalar.g-room 𝓤 H A W E G41 9
+              Laws.mir (Local.room-whole 𝓤 H A W (Declared'.row Script.the-type) Laws.mir Path.refl)) d5
+
           d7 : Typed.Typed 𝓤 H A 𝓣 E G50 b17 Δ1 at7
           d7 = Typed.t-skip 𝓤 H A W 𝓣 E Δ1 tt
+
           d8 : Typed.Typed 𝓤 H A 𝓣 E G49 b17 Δ1 at8
-          d8 = Typed.g-pre 𝓤 H A W 𝓣 E G49 G50 b17 Δ1 (Typed.pass T49 T50 s47) at7 (Scalar.g-room 𝓤 H A W E G49 23 Syntax.tyBool (Scalar.room-sc 𝓤 H A
-              W Row.sBool)) d7
+          d8 = Typed.g-pre 𝓤 H A W 𝓣 E G49 G50 b17 Δ1 (Typed.pass T49 T50 s47) at7 (Scalar.g-room 𝓤 H A W E G49 23
+              Syntax.tyBool (Scalar.room-sc 𝓤 H A W Row.sBool)) d7
+
           d9 : Typed.Typed 𝓤 H A 𝓣 E G41 b17 Δ1 at9
-          d9 = Typed.g-pre 𝓤 H A W 𝓣 E G41 G49 b17 Δ1 (Typed.pass T41 T49 s46) at8 (Scalar.g-room 𝓤 H A W E G41 12 Laws'.mir (Local.room-whole 𝓤 H A W
-              (Declared.row HnsrAnswer.the-type) Laws'.mir Path.refl)) d8
+          d9 = Typed.g-pre 𝓤 H A W 𝓣 E G41 G49 b17 Δ1 (Typed.pass T41 T49 s46) at8 (Scalar.g-room 𝓤 H A W E G41 12
+              Laws'.mir (Local.room-whole 𝓤 H A W (Declared.row HnsrAnswer.the-type) Laws'.mir Path.refl)) d8
+
           d10 : Typed.Typed 𝓤 H A 𝓣 E G41 b18 Δ1 at10
-          d10 = Scalar.t-cond 𝓤 H A W E 𝓣 G41 23 (λ x. x) b16 b17 Δ1 at6 at9 (Scalar.reads-sc 𝓤 H A W Row.sBool) Path.refl d6 d9
+          d10 = Scalar.t-cond 𝓤 H A W E 𝓣 G41 23 (λ x. x) b16 b17 Δ1 at6 at9 (Scalar.reads-sc 𝓤 H A W Row.sBool)
+              Path.refl d6 d9
+
           d11 : Typed.Typed 𝓤 H A 𝓣 E G85 b30 Δ0 at11
           d11 = Typed.t-return 𝓤 H A W 𝓣 E Δ0 tt
+
           d12 : Typed.Typed 𝓤 H A 𝓣 E G84 b30 Δ0 at12
-          d12 = Typed.g-pre 𝓤 H A W 𝓣 E G84 G85 b30 Δ0 (λ Ψ. Ψ) at11 (Lifetime.g-forget 𝓤 H A W E G84 16 Row.dead Path.refl) d11
+          d12 = Typed.g-pre 𝓤 H A W 𝓣 E G84 G85 b30 Δ0 (λ Ψ. Ψ) at11
+              (Lifetime.g-forget 𝓤 H A W E G84 16 Row.dead Path.refl) d11
+
           d13 : Typed.Typed 𝓤 H A 𝓣 E G83 b30 Δ0 at13
-          d13 = Typed.g-pre 𝓤 H A W 𝓣 E G83 G84 b30 Δ0 (Typed.give s81) at12 (Know.g-sl-known 𝓤 H A W (Referent.fInt Syntax.w32) E G83 5 4 ref9 life4
-              0 (λ x. x) record { fits = Dec.lit< tt } (Reads'.as-is 𝓤 H A (Mut.mslice (Referent.rtF (Referent.fInt Syntax.w32)) ref9 4)) Path.refl
-              tt) d12
+          d13 = Typed.g-pre 𝓤 H A W 𝓣 E G83 G84 b30 Δ0 (Typed.give s81) at12 (Know.g-sl-known 𝓤 H A W
+              (Referent.fInt Syntax.w32) E G83 5 4 ref9 life4 0 (λ x. x) record { fits = Dec.lit< tt } (Reads'.as-is 𝓤
+              H A (Mut.mslice (Referent.rtF (Referent.fInt Syntax.w32)) ref9 4)) Path.refl tt) d12
+
           d14 : Typed.Typed 𝓤 H A 𝓣 E G82 b30 Δ0 at14
-          d14 = Typed.g-pre 𝓤 H A W 𝓣 E G82 G83 b30 Δ0 (Typed.both s80) at13 (Relend.g-back-sl 𝓤 H A W E (Referent.rtF (Referent.fInt Syntax.w32)) G82
-              33 5 4 16 ref9 ref4 life4 (λ x. x) (λ x. x) (Reads'.as-is 𝓤 H A (Mut.msleft (Referent.rtF (Referent.fInt Syntax.w32)) ref4))
-              (Reads'.as-is 𝓤 H A (Relend.mslice-owed (Referent.rtF (Referent.fInt Syntax.w32)) ref9 4 16 life4)) Path.refl Path.refl) d13
+          d14 = Typed.g-pre 𝓤 H A W 𝓣 E G82 G83 b30 Δ0 (Typed.both s80) at13 (Relend.g-back-sl 𝓤 H A W E
+              (Referent.rtF (Referent.fInt Syntax.w32)) G82 33 5 4 16 ref9 ref4 life4 (λ x. x) (λ x. x) (Reads'.as-is 𝓤
+              H A (Mut.msleft (Referent.rtF (Referent.fInt Syntax.w32)) ref4)) (Reads'.as-is 𝓤 H A (Relend.mslice-owed
+              (Referent.rtF (Referent.fInt Syntax.w32)) ref9 4 16 life4)) Path.refl Path.refl) d13
+
           d15 : Typed.Typed 𝓤 H A 𝓣 E G81 b30 Δ0 at15
           d15 = Typed.g-pre 𝓤 H A W 𝓣 E G81 G82 b30 Δ0 (λ Ψ. Ψ) at14 (Lifetime.g-end 𝓤 H A W E G81 16 Path.refl) d14
+
           d16 : Typed.Typed 𝓤 H A 𝓣 E G80 b30 Δ0 at16
-          d16 = Typed.g-pre 𝓤 H A W 𝓣 E G80 G81 b30 Δ0 (λ Ψ. Ψ) at15 (Lifetime.g-forget 𝓤 H A W E G80 15 Row.dead Path.refl) d15
+          d16 = Typed.g-pre 𝓤 H A W 𝓣 E G80 G81 b30 Δ0 (λ Ψ. Ψ) at15
+              (Lifetime.g-forget 𝓤 H A W E G80 15 Row.dead Path.refl) d15
+
           d17 : Typed.Typed 𝓤 H A 𝓣 E G79 b30 Δ0 at17
-          d17 = Typed.g-pre 𝓤 H A W 𝓣 E G79 G80 b30 Δ0 (Typed.both s77) at16 (Relend.g-back-sl 𝓤 H A W E InflightAction.row G79 31 4 3 15 ref8 ref3
-              life3 (λ x. x) (λ x. x) (Reads'.as-is 𝓤 H A (Mut.msleft InflightAction.row ref3)) (Reads'.as-is 𝓤 H A (Relend.mslice-owed
-              InflightAction.row ref8 3 15 life3)) Path.refl Path.refl) d16
+          d17 = Typed.g-pre 𝓤 H A W 𝓣 E G79 G80 b30 Δ0 (Typed.both s77) at16 (Relend.g-back-sl 𝓤 H A W E
+              InflightAction.row G79 31 4 3 15 ref8 ref3 life3 (λ x. x) (λ x. x)
+              (Reads'.as-is 𝓤 H A (Mut.msleft InflightAction.row ref3)) (Reads'.as-is 𝓤 H A
+              (Relend.mslice-owed InflightAction.row ref8 3 15 life3)) Path.refl Path.refl) d16
+
           d18 : Typed.Typed 𝓤 H A 𝓣 E G78 b30 Δ0 at18
           d18 = Typed.g-pre 𝓤 H A W 𝓣 E G78 G79 b30 Δ0 (λ Ψ. Ψ) at17 (Lifetime.g-end 𝓤 H A W E G78 15 Path.refl) d17
+
           d19 : Typed.Typed 𝓤 H A 𝓣 E G77 b30 Δ0 at19
-          d19 = Typed.g-pre 𝓤 H A W 𝓣 E G77 G78 b30 Δ0 (λ Ψ. Ψ) at18 (Lifetime.g-forget 𝓤 H A W E G77 14 Row.dead Path.refl) d18
+          d19 = Typed.g-pre 𝓤 H A W 𝓣 E G77 G78 b30 Δ0 (λ Ψ. Ψ) at18
+              (Lifetime.g-forget 𝓤 H A W E G77 14 Row.dead Path.refl) d18
+
           d20 : Typed.Typed 𝓤 H A 𝓣 E G76 b30 Δ0 at20
-          d20 = Typed.g-pre 𝓤 H A W 𝓣 E G76 G77 b30 Δ0 (Typed.both s74) at19 (Relend.g-back-sl 𝓤 H A W E ReservationUsage.row G76 29 3 2 14 ref7 ref2
-              life2 (λ x. x) (λ x. x) (Reads'.as-is 𝓤 H A (Mut.msleft ReservationUsage.row ref2)) (Reads'.as-is 𝓤 H A (Relend.mslice-owed
-              ReservationUsage.row ref7 2 14 life2)) Path.refl Path.refl) d19
+          d20 = Typed.g-pre 𝓤 H A W 𝓣 E G76 G77 b30 Δ0 (Typed.both s74) at19 (Relend.g-back-sl 𝓤 H A W E
+              ReservationUsage.row G76 29 3 2 14 ref7 ref2 life2 (λ x. x) (λ x. x)
+              (Reads'.as-is 𝓤 H A (Mut.msleft ReservationUsage.row ref2)) (Reads'.as-is 𝓤 H A
+              (Relend.mslice-owed ReservationUsage.row ref7 2 14 life2)) Path.refl Path.refl) d19
+
           d21 : Typed.Typed 𝓤 H A 𝓣 E G75 b30 Δ0 at21
           d21 = Typed.g-pre 𝓤 H A W 𝓣 E G75 G76 b30 Δ0 (λ Ψ. Ψ) at20 (Lifetime.g-end 𝓤 H A W E G75 14 Path.refl) d20
+
           d22 : Typed.Typed 𝓤 H A 𝓣 E G74 b30 Δ0 at22
-          d22 = Typed.g-pre 𝓤 H A W 𝓣 E G74 G75 b30 Δ0 (λ Ψ. Ψ) at21 (Lifetime.g-forget 𝓤 H A W E G74 13 Row.dead Path.refl) d21
+          d22 = Typed.g-pre 𝓤 H A W 𝓣 E G74 G75 b30 Δ0 (λ Ψ. Ψ) at21
+              (Lifetime.g-forget 𝓤 H A W E G74 13 Row.dead Path.refl) d21
+
           d23 : Typed.Typed 𝓤 H A 𝓣 E G73 b30 Δ0 at23
-          d23 = Typed.g-pre 𝓤 H A W 𝓣 E G73 G74 b30 Δ0 (Typed.both s71) at22 (Relend.g-back-sl 𝓤 H A W E RelayCircuit.row G73 27 2 1 13 ref6 ref1
-              life1 (λ x. x) (λ x. x) (Reads'.as-is 𝓤 H A (Mut.msleft RelayCircuit.row ref1)) (Reads'.as-is 𝓤 H A (Relend.mslice-owed RelayCircuit.row
-              ref6 1 13 life1)) Path.refl Path.refl) d22
+          d23 = Typed.g-pre 𝓤 H A W 𝓣 E G73 G74 b30 Δ0 (Typed.both s71) at22 (Relend.g-back-sl 𝓤 H A W E
+              RelayCircuit.row G73 27 2 1 13 ref6 ref1 life1 (λ x. x) (λ x. x)
+              (Reads'.as-is 𝓤 H A (Mut.msleft RelayCircuit.row ref1)) (Reads'.as-is 𝓤 H A
+              (Relend.mslice-owed RelayCircuit.row ref6 1 13 life1)) Path.refl Path.refl) d22
+
           d24 : Typed.Typed 𝓤 H A 𝓣 E G72 b30 Δ0 at24
           d24 = Typed.g-pre 𝓤 H A W 𝓣 E G72 G73 b30 Δ0 (λ Ψ. Ψ) at23 (Lifetime.g-end 𝓤 H A W E G72 13 Path.refl) d23
+
           d25 : Typed.Typed 𝓤 H A 𝓣 E G71 b30 Δ0 at25
-          d25 = Typed.g-pre 𝓤 H A W 𝓣 E G71 G72 b30 Δ0 (λ Ψ. Ψ) at24 (Lifetime.g-forget 𝓤 H A W E G71 12 Row.dead Path.refl) d24
+          d25 = Typed.g-pre 𝓤 H A W 𝓣 E G71 G72 b30 Δ0 (λ Ψ. Ψ) at24
+              (Lifetime.g-forget 𝓤 H A W E G71 12 Row.dead Path.refl) d24
+
           d26 : Typed.Typed 𝓤 H A 𝓣 E G70 b30 Δ0 at26
-          d26 = Typed.g-pre 𝓤 H A W 𝓣 E G70 G71 b30 Δ0 (Typed.both s68) at25 (Relend.g-back-sl 𝓤 H A W E RelayPending.row G70 25 1 0 12 ref5 ref0
-              life0 (λ x. x) (λ x. x) (Reads'.as-is 𝓤 H A (Mut.msleft RelayPending.row ref0)) (Reads'.as-is 𝓤 H A (Relend.mslice-owed RelayPending.row
-              ref5 0 12 life0)) Path.refl Path.refl) d25
+          d26 = Typed.g-pre 𝓤 H A W 𝓣 E G70 G71 b30 Δ0 (Typed.both s68) at25 (Relend.g-back-sl 𝓤 H A W E
+              RelayPending.row G70 25 1 0 12 ref5 ref0 life0 (λ x. x) (λ x. x)
+              (Reads'.as-is 𝓤 H A (Mut.msleft RelayPending.row ref0)) (Reads'.as-is 𝓤 H A
+              (Relend.mslice-owed RelayPending.row ref5 0 12 life0)) Path.refl Path.refl) d25
+
           d27 : Typed.Typed 𝓤 H A 𝓣 E G69 b30 Δ0 at27
           d27 = Typed.g-pre 𝓤 H A W 𝓣 E G69 G70 b30 Δ0 (λ Ψ. Ψ) at26 (Lifetime.g-end 𝓤 H A W E G69 12 Path.refl) d26
+
           d28 : Typed.Typed 𝓤 H A 𝓣 E G68 b30 Δ0 at28
-          d28 = Typed.g-pre 𝓤 H A W 𝓣 E G68 G69 b30 Δ0 (Typed.pass T68 T69 s66) at27 (Scalar.g-room 𝓤 H A W E G68 11 Laws'''.mir (Local.room-whole 𝓤 H
-              A W (Declared'.row Relayed.the-type) Laws'''.mir Path.refl)) d27
+          d28 = Typed.g-pre 𝓤 H A W 𝓣 E G68 G69 b30 Δ0 (Typed.pass T68 T69 s66) at27 (Scalar.g-room 𝓤 H A W E G68 11
+              Laws'''.mir (Local.room-whole 𝓤 H A W (Declared'.row Relayed.the-type) Laws'''.mir Path.refl)) d27
+
           d29 : Typed.Typed 𝓤 H A 𝓣 E G67 b30 Δ0 at29
-          d29 = Typed.g-pre 𝓤 H A W 𝓣 E G67 G68 b30 Δ0 (Typed.pass T67 T68 s65) at28 (Scalar.g-room 𝓤 H A W E G67 10 Laws''.mir (Local.room-whole 𝓤 H
-              A W (Declared'.row RelayPacket.the-type) Laws''.mir Path.refl)) d28
+          d29 = Typed.g-pre 𝓤 H A W 𝓣 E G67 G68 b30 Δ0 (Typed.pass T67 T68 s65) at28 (Scalar.g-room 𝓤 H A W E G67 10
+              Laws''.mir (Local.room-whole 𝓤 H A W (Declared'.row RelayPacket.the-type) Laws''.mir Path.refl)) d28
+
           d30 : Typed.Typed 𝓤 H A 𝓣 E G66 b30 Δ0 at30
-          d30 = Typed.g-pre 𝓤 H A W 𝓣 E G66 G67 b30 Δ0 (Typed.pass T66 T67 s64) at29 (Scalar.g-room 𝓤 H A W E G66 9 Laws.mir (Local.room-whole 𝓤 H A W
-              (Declared'.row Script.the-type) Laws.mir Path.refl)) d29
+          d30 = Typed.g-pre 𝓤 H A W 𝓣 E G66 G67 b30 Δ0 (Typed.pass T66 T67 s64) at29 (Scalar.g-room 𝓤 H A W E G66 9
+              Laws.mir (Local.room-whole 𝓤 H A W (Declared'.row Script.the-type) Laws.mir Path.refl)) d29
+
           d31 : Typed.Typed 𝓤 H A 𝓣 E G65 b31 Δ0 at31
-          d31 = Typed.s-seq 𝓤 H A W 𝓣 E G65 G66 b29 b30 Δ0 (Typed.both s63) at30 (Plain.t-call-plain 𝓤 H A W 𝓣 6 ps·3 r·3 (claims· .6) (claims· .7)
-              "cases::machine::again" (known .3) E (λ pos β. β) G65 (record { pos = 25; ty = Syntax.tyRef Syntax.erased Syntax.mut RelayPending.to;
-              ref = λ x. x; }, (record { pos = 27; ty = Syntax.tyRef Syntax.erased Syntax.mut RelayCircuit.to; ref = λ x. x; }, (record { pos = 29; ty
-              = Syntax.tyRef Syntax.erased Syntax.mut ReservationUsage.to; ref = λ x. x; }, (record { pos = 31; ty = Syntax.tyRef Syntax.erased
-              Syntax.mut InflightAction.to; ref = λ x. x; }, (record { pos = 33; ty = Syntax.tyRef Syntax.erased Syntax.mut (Syntax.tyInt Syntax.w32);
-              ref = λ x. x; }, (record { pos = 11; st = List.[]; d = 0; at = λ x. x }, (record { pos = 10; st = List.[]; d = 0; at = λ x. x }, (record
-              { pos = 8; ty = Syntax.tyRef (Syntax.named 6) Syntax.imm (Syntax.tyInt Syntax.w8); ref = λ x. x; }, (Bool.bFld 9 ((Syntax.field 7) ∷
-              List.[]) 40 λ x. Script.struct .as-values x .1 .1 .1 .1 .1 .1 .1 .0, tt,),),),),),),),),) 0 (12 ∷ 13 ∷ 14 ∷ 15 ∷ 16 ∷ 6 ∷ List.[])
-              (Call.sub-id 𝓤 H A W (G65 .slots)) (Reads'.as-is 𝓤 H A (Mut.mslice RelayPending.row ref0 12), Mut.reads-mslice 𝓤 H A W RelayPending.row
-              ref0 12, Path.refl, (Reads'.as-is 𝓤 H A (Mut.mslice RelayCircuit.row ref1 13), Mut.reads-mslice 𝓤 H A W RelayCircuit.row ref1 13,
-              Path.refl, (Reads'.as-is 𝓤 H A (Mut.mslice ReservationUsage.row ref2 14), Mut.reads-mslice 𝓤 H A W ReservationUsage.row ref2 14,
-              Path.refl, (Reads'.as-is 𝓤 H A (Mut.mslice InflightAction.row ref3 15), Mut.reads-mslice 𝓤 H A W InflightAction.row ref3 15, Path.refl,
-              (Reads'.as-is 𝓤 H A (Mut.mslice (Referent.rtF (Referent.fInt Syntax.w32)) ref4 16), Mut.reads-mslice 𝓤 H A W (Referent.rtF
-              (Referent.fInt Syntax.w32)) ref4 16, Path.refl, ((Yields.yields-copy 𝓤 H A W (λ ρ. Unit) (Declared'.row Relayed.the-type) Path.refl
-              (Copies.cStruct Relayed.the-type Laws'''.the-laws Laws'''.the-copy .copy 𝓤 H A W) (Rows.whole (Declared'.row Relayed.the-type)) (λ x. x)
-              (λ x. x) (λ ρ told. Local.mem-whole 𝓤 H A W (Declared'.row Relayed.the-type) ρ) λ ρ told. Local.whole-mem 𝓤 H A W (Declared'.row
-              Relayed.the-type) ρ, Path.refl,), ((Yields.yields-copy 𝓤 H A W (λ ρ. Unit) (Declared'.row RelayPacket.the-type) Path.refl
-              (Copies.cStruct RelayPacket.the-type Laws''.the-laws Laws''.the-copy .copy 𝓤 H A W) (Rows.whole (Declared'.row RelayPacket.the-type)) (λ
-              x. x) (λ x. x) (λ ρ told. Local.mem-whole 𝓤 H A W (Declared'.row RelayPacket.the-type) ρ) λ ρ told. Local.whole-mem 𝓤 H A W
-              (Declared'.row RelayPacket.the-type) ρ, Path.refl,), (ShrSlice.spares-sslice 𝓤 H A W (Referent.rtF (Referent.fInt Syntax.w8)) ref11 6,
-              Shared.reads-sslice 𝓤 H A W (Referent.rtF (Referent.fInt Syntax.w8)) ref11 6, Path.refl, ((Reads.reads-field 𝓤 H A W Script.the-type
-              Laws.the-laws 7 Syntax.tyBool 40 Path.refl, Path.refl,), tt,),),),),),),),),) (Reads'.room-gone 𝓤 H A (Syntax.tyInt Syntax.w64)) (tt,
-              (tt, (tt, (tt, (tt, (tt, tt)))))) Path.refl) d30
+          d31 = Typed.s-seq 𝓤 H A W 𝓣 E G65 G66 b29 b30 Δ0 (Typed.both s63) at30 (Plain.t-call-plain 𝓤 H A W 𝓣 6 ps·3
+              r·3 (claims· .6) (claims· .7) "cases::machine::again" (known .3) E (λ pos β. β) G65 (
+                record { pos = 25; ty = ref0; ref = λ x. x },
+                (
+                  record { pos = 27; ty = ref1; ref = λ x. x },
+                  (
+                    record { pos = 29; ty = ref2; ref = λ x. x },
+                    (
+                      record { pos = 31; ty = ref3; ref = λ x. x },
+                      (
+                        record { pos = 33; ty = ref4; ref = λ x. x },
+                        (
+                          record { pos = 11; st = List.[]; d = 0; at = λ x. x },
+                          (
+                            record { pos = 10; st = List.[]; d = 0; at = λ x. x },
+                            (
+                              record { pos = 8; ty = ref11; ref = λ x. x },
+                              (
+                                Bool.bFld 9 ((Syntax.field 7) ∷ List.[]) 40 λ x. Script.struct .as-values x .1 .1 .1 .1
+                                    .1 .1 .1 .0,
+                                tt,
+                              ),
+                            ),
+                          ),
+                        ),
+                      ),
+                    ),
+                  ),
+                ),
+              ) 0 (12 ∷ 13 ∷ 14 ∷ 15 ∷ 16 ∷ 6 ∷ List.[]) (Call.sub-id 𝓤 H A W (G65 .slots)) (
+                Reads'.as-is 𝓤 H A (Mut.mslice RelayPending.row ref0 12),
+                Mut.reads-mslice 𝓤 H A W RelayPending.row ref0 12,
+                Path.refl,
+                (
+                  Reads'.as-is 𝓤 H A (Mut.mslice RelayCircuit.row ref1 13),
+                  Mut.reads-mslice 𝓤 H A W RelayCircuit.row ref1 13,
+                  Path.refl,
+                  (
+                    Reads'.as-is 𝓤 H A (Mut.mslice ReservationUsage.row ref2 14),
+                    Mut.reads-mslice 𝓤 H A W ReservationUsage.row ref2 14,
+                    Path.refl,
+                    (
+                      Reads'.as-is 𝓤 H A (Mut.mslice InflightAction.row ref3 15),
+                      Mut.reads-mslice 𝓤 H A W InflightAction.row ref3 15,
+                      Path.refl,
+                      (
+                        Reads'.as-is 𝓤 H A (Mut.mslice (Referent.rtF (Referent.fInt Syntax.w32)) ref4 16),
+                        Mut.reads-mslice 𝓤 H A W (Referent.rtF (Referent.fInt Syntax.w32)) ref4 16,
+                        Path.refl,
+                        (
+                          (
+                            Yields.yields-copy 𝓤 H A W (λ ρ. Unit) (Declared'.row Relayed.the-type) Path.refl (Copies.cStruct
+                                Relayed.the-type Laws'''.the-laws Laws'''.the-copy .copy 𝓤 H A W)
+                                (Rows.whole (Declared'.row Relayed.the-type)) (λ x. x) (λ x. x) (λ ρ told.
+                                Local.mem-whole 𝓤 H A W (Declared'.row Relayed.the-type) ρ) λ ρ told. Local.whole-mem 𝓤
+                                H A W (Declared'.row Relayed.the-type) ρ,
+                            Path.refl,
+                          ),
+                          (
+                            (
+                              Yields.yields-copy 𝓤 H A W (λ ρ. Unit) (Declared'.row RelayPacket.the-type) Path.refl (Copies.cStruct
+                                  RelayPacket.the-type Laws''.the-laws Laws''.the-copy .copy 𝓤 H A W)
+                                  (Rows.whole (Declared'.row RelayPacket.the-type)) (λ x. x) (λ x. x) (λ ρ told.
+                                  Local.mem-whole 𝓤 H A W (Declared'.row RelayPacket.the-type) ρ) λ ρ told.
+                                  Local.whole-mem 𝓤 H A W (Declared'.row RelayPacket.the-type) ρ,
+                              Path.refl,
+                            ),
+                            (
+                              ShrSlice.spares-sslice 𝓤 H A W (Referent.rtF (Referent.fInt Syntax.w8)) ref11 6,
+                              Shared.reads-sslice 𝓤 H A W (Referent.rtF (Referent.fInt Syntax.w8)) ref11 6,
+                              Path.refl,
+                              (
+                                (
+                                  Reads.reads-field 𝓤 H A W Script.the-type Laws.the-laws 7 Syntax.tyBool 40 Path.refl,
+                                  Path.refl,
+                                ),
+                                tt,
+                              ),
+                            ),
+                          ),
+                        ),
+                      ),
+                    ),
+                  ),
+                ),
+              ) (Reads'.room-gone 𝓤 H A (Syntax.tyInt Syntax.w64)) (tt, (tt, (tt, (tt, (tt, (tt, tt)))))) Path.refl)
+              d30
+
           d32 : Typed.Typed 𝓤 H A 𝓣 E G64 b32 Δ0 at32
-          d32 = Typed.s-seq 𝓤 H A W 𝓣 E G64 G65 b28 b31 Δ0 (Typed.ask s62) at31 (Relend.t-sl-aggregate 𝓤 H A W E (Referent.rtF (Referent.fInt
-              Syntax.w32)) 𝓣 (Relend.asMut (Referent.rtF (Referent.fInt Syntax.w32))) G64 32 33 16 ref4 ref4 (λ x. x) (Scalar.oFld 5 ((Syntax.field 1)
-              ∷ List.[]) (Syntax.tyInt Syntax.w64) 8 λ v. Shared.lenV (v .0)) (Reads'.as-is 𝓤 H A (Relend.msptr (Referent.rtF (Referent.fInt
-              Syntax.w32)) ref4 16)) (Reads'.room-gone 𝓤 H A (Syntax.tyStruct (38 ∷ 91 ∷ 93 ∷ List.[]) (Syntax.tcons ref4 (Syntax.tcons (Syntax.tyInt
-              Syntax.w64) Syntax.tnil)))) (Relend.reads-owed-len 𝓤 H A W (Referent.rtF (Referent.fInt Syntax.w32)) ref9 4 16 life4 8 Path.refl,
-              Path.refl,) Path.refl Path.refl λ b o k. tt) d31
+          d32 = Typed.s-seq 𝓤 H A W 𝓣 E G64 G65 b28 b31 Δ0 (Typed.ask s62) at31 (Relend.t-sl-aggregate 𝓤 H A W E
+              (Referent.rtF (Referent.fInt Syntax.w32)) 𝓣 (Relend.asMut (Referent.rtF (Referent.fInt Syntax.w32))) G64
+              32 33 16 ref4 ref4 (λ x. x) (Scalar.oFld 5 ((Syntax.field 1) ∷ List.[]) (Syntax.tyInt Syntax.w64) 8 λ v.
+              Shared.lenV (v .0)) (Reads'.as-is 𝓤 H A (Relend.msptr (Referent.rtF (Referent.fInt Syntax.w32)) ref4 16))
+              (Reads'.room-gone 𝓤 H A slice4) (
+                Relend.reads-owed-len 𝓤 H A W (Referent.rtF (Referent.fInt Syntax.w32)) ref9 4 16 life4 8 Path.refl,
+                Path.refl,
+              ) Path.refl Path.refl λ b o k. tt) d31
+
           d33 : Typed.Typed 𝓤 H A 𝓣 E G63 b33 Δ0 at33
-          d33 = Typed.s-seq 𝓤 H A W 𝓣 E G63 G64 b27 b32 Δ0 (Typed.give s61) at32 (Relend.t-sl-relend 𝓤 H A W E (Referent.rtF (Referent.fInt
-              Syntax.w32)) 𝓣 G63 5 32 4 16 ref9 ref4 life4 0 (λ x. x) (Reads'.as-is 𝓤 H A (Mut.mslice (Referent.rtF (Referent.fInt Syntax.w32)) ref9
-              4)) (Reads'.room-gone 𝓤 H A ref4) Path.refl tt Path.refl Path.refl Path.refl λ b o. tt) d32
+          d33 = Typed.s-seq 𝓤 H A W 𝓣 E G63 G64 b27 b32 Δ0 (Typed.give s61) at32 (Relend.t-sl-relend 𝓤 H A W E
+              (Referent.rtF (Referent.fInt Syntax.w32)) 𝓣 G63 5 32 4 16 ref9 ref4 life4 0 (λ x. x) (Reads'.as-is 𝓤 H A (Mut.mslice
+              (Referent.rtF (Referent.fInt Syntax.w32)) ref9 4)) (Reads'.room-gone 𝓤 H A ref4) Path.refl tt Path.refl
+              Path.refl Path.refl λ b o. tt) d32
+
           d34 : Typed.Typed 𝓤 H A 𝓣 E G62 b33 Δ0 at34
-          d34 = Typed.g-pre 𝓤 H A W 𝓣 E G62 G63 b33 Δ0 (λ Ψ. Ψ) at33 (Lifetime.g-begin 𝓤 H A W E G62 16 (tt, ((tt, tt), ((tt, tt), ((tt, tt), ((tt,
-              tt), (tt, (tt, (tt, (tt, (tt, (tt, (tt, (tt, (tt, (tt, (tt, (tt, (tt, (tt, (tt, (tt, (tt, (tt, (tt, (tt, (tt, (tt, (tt, (tt, (tt, (tt,
-              (tt, (tt, (tt, tt))),),),),),),),),),),),),),),),),),),),),),),),),),),),),),),),)) d33
+          d34 = Typed.g-pre 𝓤 H A W 𝓣 E G62 G63 b33 Δ0 (λ Ψ. Ψ) at33 (Lifetime.g-begin 𝓤 H A W E G62 16 (
+            tt,
+            (
+              (tt, tt),
+              (
+                (tt, tt),
+                (
+                  (tt, tt),
+                  (
+                    (tt, tt),
+                    (
+                      tt,
+                      (
+                        tt,
+                        (
+                          tt,
+                          (
+                            tt,
+                            (
+                              tt,
+                              (
+                                tt,
+                                (
+                                  tt,
+                                  (
+                                    tt,
+                                    (
+                                      tt,
+                                      (
+                                        tt,
+                                        (
+                                          tt,
+                                          (
+                                            tt,
+                                            (
+                                              tt,
+                                              (
+                                                tt,
+                                                (
+                                                  tt,
+                                                  (
+                                                    tt,
+                                                    (
+                                                      tt,
+                                                      (
+                                                        tt,
+                                                        (
+                                                          tt,
+                                                          (
+                                                            tt,
+                                                            (tt, (tt, (tt, (tt, (tt, (tt, (tt, (tt, (tt, tt))))))))),
+                                                          ),
+                                                        ),
+                                                      ),
+                                                    ),
+                                                  ),
+                                                ),
+                                              ),
+                                            ),
+                                          ),
+                                        ),
+                                      ),
+                                    ),
+                                  ),
+                                ),
+                              ),
+                            ),
+                          ),
+                        ),
+                      ),
+                    ),
+                  ),
+                ),
+              ),
+            ),
+          )) d33
+
           d35 : Typed.Typed 𝓤 H A 𝓣 E G61 b34 Δ0 at35
-          d35 = Typed.s-seq 𝓤 H A W 𝓣 E G61 G62 b26 b33 Δ0 (Typed.ask s59) at34 (Relend.t-sl-aggregate 𝓤 H A W E InflightAction.row 𝓣 (Relend.asMut
-              InflightAction.row) G61 30 31 15 ref3 ref3 (λ x. x) (Scalar.oFld 4 ((Syntax.field 1) ∷ List.[]) (Syntax.tyInt Syntax.w64) 8 λ v.
-              Shared.lenV (v .0)) (Reads'.as-is 𝓤 H A (Relend.msptr InflightAction.row ref3 15)) (Reads'.room-gone 𝓤 H A (Syntax.tyStruct (38 ∷ 91 ∷
-              93 ∷ List.[]) (Syntax.tcons ref3 (Syntax.tcons (Syntax.tyInt Syntax.w64) Syntax.tnil)))) (Relend.reads-owed-len 𝓤 H A W
-              InflightAction.row ref8 3 15 life3 8 Path.refl, Path.refl,) Path.refl Path.refl λ b o k. tt) d34
+          d35 = Typed.s-seq 𝓤 H A W 𝓣 E G61 G62 b26 b33 Δ0 (Typed.ask s59) at34 (Relend.t-sl-aggregate 𝓤 H A W E
+              InflightAction.row 𝓣 (Relend.asMut InflightAction.row) G61 30 31 15 ref3 ref3 (λ x. x) (Scalar.oFld 4
+              ((Syntax.field 1) ∷ List.[]) (Syntax.tyInt Syntax.w64) 8 λ v. Shared.lenV (v .0)) (Reads'.as-is 𝓤 H A
+              (Relend.msptr InflightAction.row ref3 15)) (Reads'.room-gone 𝓤 H A slice3) (
+                Relend.reads-owed-len 𝓤 H A W InflightAction.row ref8 3 15 life3 8 Path.refl,
+                Path.refl,
+              ) Path.refl Path.refl λ b o k. tt) d34
+
           d36 : Typed.Typed 𝓤 H A 𝓣 E G60 b35 Δ0 at36
-          d36 = Typed.s-seq 𝓤 H A W 𝓣 E G60 G61 b25 b34 Δ0 (Typed.give s58) at35 (Relend.t-sl-relend 𝓤 H A W E InflightAction.row 𝓣 G60 4 30 3 15 ref8
-              ref3 life3 0 (λ x. x) (Reads'.as-is 𝓤 H A (Mut.mslice InflightAction.row ref8 3)) (Reads'.room-gone 𝓤 H A ref3) Path.refl tt Path.refl
-              Path.refl Path.refl λ b o. tt) d35
+          d36 = Typed.s-seq 𝓤 H A W 𝓣 E G60 G61 b25 b34 Δ0 (Typed.give s58) at35 (Relend.t-sl-relend 𝓤 H A W E
+              InflightAction.row 𝓣 G60 4 30 3 15 ref8 ref3 life3 0 (λ x. x)
+              (Reads'.as-is 𝓤 H A (Mut.mslice InflightAction.row ref8 3)) (Reads'.room-gone 𝓤 H A ref3) Path.refl tt
+              Path.refl Path.refl Path.refl λ b o. tt) d35
+
           d37 : Typed.Typed 𝓤 H A 𝓣 E G59 b35 Δ0 at37
-          d37 = Typed.g-pre 𝓤 H A W 𝓣 E G59 G60 b35 Δ0 (λ Ψ. Ψ) at36 (Lifetime.g-begin 𝓤 H A W E G59 15 (tt, ((tt, tt), ((tt, tt), ((tt, tt), (tt,
-              (tt, (tt, (tt, (tt, (tt, (tt, (tt, (tt, (tt, (tt, (tt, (tt, (tt, (tt, (tt, (tt, (tt, (tt, (tt, (tt, (tt, (tt, (tt, (tt, (tt, (tt, (tt,
-              (tt, (tt, tt))),),),),),),),),),),),),),),),),),),),),),),),),),),),),),),),)) d36
+          d37 = Typed.g-pre 𝓤 H A W 𝓣 E G59 G60 b35 Δ0 (λ Ψ. Ψ) at36 (Lifetime.g-begin 𝓤 H A W E G59 15 (
+            tt,
+            (
+              (tt, tt),
+              (
+                (tt, tt),
+                (
+                  (tt, tt),
+                  (
+                    tt,
+                    (
+                      tt,
+                      (
+                        tt,
+                        (
+                          tt,
+                          (
+                            tt,
+                            (
+                              tt,
+                              (
+                                tt,
+                                (
+                                  tt,
+                                  (
+                                    tt,
+                                    (
+                                      tt,
+                                      (
+                                        tt,
+                                        (
+                                          tt,
+                                          (
+                                            tt,
+                                            (
+                                              tt,
+                                              (
+                                                tt,
+                                                (
+                                                  tt,
+                                                  (
+                                                    tt,
+                                                    (
+                                                      tt,
+                                                      (
+                                                        tt,
+                                                        (
+                                                          tt,
+                                                          (
+                                                            tt,
+                                                            (tt, (tt, (tt, (tt, (tt, (tt, (tt, (tt, (tt, tt))))))))),
+                                                          ),
+                                                        ),
+                                                      ),
+                                                    ),
+                                                  ),
+                                                ),
+                                              ),
+                                            ),
+                                          ),
+                                        ),
+                                      ),
+                                    ),
+                                  ),
+                                ),
+                              ),
+                            ),
+                          ),
+                        ),
+                      ),
+                    ),
+                  ),
+                ),
+              ),
+            ),
+          )) d36
+
           d38 : Typed.Typed 𝓤 H A 𝓣 E G58 b36 Δ0 at38
-          d38 = Typed.s-seq 𝓤 H A W 𝓣 E G58 G59 b24 b35 Δ0 (Typed.ask s56) at37 (Relend.t-sl-aggregate 𝓤 H A W E ReservationUsage.row 𝓣 (Relend.asMut
-              ReservationUsage.row) G58 28 29 14 ref2 ref2 (λ x. x) (Scalar.oFld 3 ((Syntax.field 1) ∷ List.[]) (Syntax.tyInt Syntax.w64) 8 λ v.
-              Shared.lenV (v .0)) (Reads'.as-is 𝓤 H A (Relend.msptr ReservationUsage.row ref2 14)) (Reads'.room-gone 𝓤 H A (Syntax.tyStruct (38 ∷ 91 ∷
-              93 ∷ List.[]) (Syntax.tcons ref2 (Syntax.tcons (Syntax.tyInt Syntax.w64) Syntax.tnil)))) (Relend.reads-owed-len 𝓤 H A W
-              ReservationUsage.row ref7 2 14 life2 8 Path.refl, Path.refl,) Path.refl Path.refl λ b o k. tt) d37
+          d38 = Typed.s-seq 𝓤 H A W 𝓣 E G58 G59 b24 b35 Δ0 (Typed.ask s56) at37 (Relend.t-sl-aggregate 𝓤 H A W E
+              ReservationUsage.row 𝓣 (Relend.asMut ReservationUsage.row) G58 28 29 14 ref2 ref2 (λ x. x) (Scalar.oFld 3
+              ((Syntax.field 1) ∷ List.[]) (Syntax.tyInt Syntax.w64) 8 λ v. Shared.lenV (v .0)) (Reads'.as-is 𝓤 H A
+              (Relend.msptr ReservationUsage.row ref2 14)) (Reads'.room-gone 𝓤 H A slice2) (
+                Relend.reads-owed-len 𝓤 H A W ReservationUsage.row ref7 2 14 life2 8 Path.refl,
+                Path.refl,
+              ) Path.refl Path.refl λ b o k. tt) d37
+
           d39 : Typed.Typed 𝓤 H A 𝓣 E G57 b37 Δ0 at39
-          d39 = Typed.s-seq 𝓤 H A W 𝓣 E G57 G58 b23 b36 Δ0 (Typed.give s55) at38 (Relend.t-sl-relend 𝓤 H A W E ReservationUsage.row 𝓣 G57 3 28 2 14
-              ref7 ref2 life2 0 (λ x. x) (Reads'.as-is 𝓤 H A (Mut.mslice ReservationUsage.row ref7 2)) (Reads'.room-gone 𝓤 H A ref2) Path.refl tt
-              Path.refl Path.refl Path.refl λ b o. tt) d38
+          d39 = Typed.s-seq 𝓤 H A W 𝓣 E G57 G58 b23 b36 Δ0 (Typed.give s55) at38 (Relend.t-sl-relend 𝓤 H A W E
+              ReservationUsage.row 𝓣 G57 3 28 2 14 ref7 ref2 life2 0 (λ x. x) (Reads'.as-is 𝓤 H A
+              (Mut.mslice ReservationUsage.row ref7 2)) (Reads'.room-gone 𝓤 H A ref2) Path.refl tt Path.refl Path.refl
+              Path.refl λ b o. tt) d38
+
           d40 : Typed.Typed 𝓤 H A 𝓣 E G56 b37 Δ0 at40
-          d40 = Typed.g-pre 𝓤 H A W 𝓣 E G56 G57 b37 Δ0 (λ Ψ. Ψ) at39 (Lifetime.g-begin 𝓤 H A W E G56 14 (tt, ((tt, tt), ((tt, tt), (tt, (tt, (tt, (tt,
-              (tt, (tt, (tt, (tt, (tt, (tt, (tt, (tt, (tt, (tt, (tt, (tt, (tt, (tt, (tt, (tt, (tt, (tt, (tt, (tt, (tt, (tt, (tt, (tt, (tt, (tt, (tt,
-              tt))),),),),),),),),),),),),),),),),),),),),),),),),),),),),),),),)) d39
+          d40 = Typed.g-pre 𝓤 H A W 𝓣 E G56 G57 b37 Δ0 (λ Ψ. Ψ) at39 (Lifetime.g-begin 𝓤 H A W E G56 14 (
+            tt,
+            (
+              (tt, tt),
+              (
+                (tt, tt),
+                (
+                  tt,
+                  (
+                    tt,
+                    (
+                      tt,
+                      (
+                        tt,
+                        (
+                          tt,
+                          (
+                            tt,
+                            (
+                              tt,
+                              (
+                                tt,
+                                (
+                                  tt,
+                                  (
+                                    tt,
+                                    (
+                                      tt,
+                                      (
+                                        tt,
+                                        (
+                                          tt,
+                                          (
+                                            tt,
+                                            (
+                                              tt,
+                                              (
+                                                tt,
+                                                (
+                                                  tt,
+                                                  (
+                                                    tt,
+                                                    (
+                                                      tt,
+                                                      (
+                                                        tt,
+                                                        (
+                                                          tt,
+                                                          (
+                                                            tt,
+                                                            (tt, (tt, (tt, (tt, (tt, (tt, (tt, (tt, (tt, tt))))))))),
+                                                          ),
+                                                        ),
+                                                      ),
+                                                    ),
+                                                  ),
+                                                ),
+                                              ),
+                                            ),
+                                          ),
+                                        ),
+                                      ),
+                                    ),
+                                  ),
+                                ),
+                              ),
+                            ),
+                          ),
+                        ),
+                      ),
+                    ),
+                  ),
+                ),
+              ),
+            ),
+          )) d39
+
           d41 : Typed.Typed 𝓤 H A 𝓣 E G55 b38 Δ0 at41
-          d41 = Typed.s-seq 𝓤 H A W 𝓣 E G55 G56 b22 b37 Δ0 (Typed.ask s53) at40 (Relend.t-sl-aggregate 𝓤 H A W E RelayCircuit.row 𝓣 (Relend.asMut
-              RelayCircuit.row) G55 26 27 13 ref1 ref1 (λ x. x) (Scalar.oFld 2 ((Syntax.field 1) ∷ List.[]) (Syntax.tyInt Syntax.w64) 8 λ v.
-              Shared.lenV (v .0)) (Reads'.as-is 𝓤 H A (Relend.msptr RelayCircuit.row ref1 13)) (Reads'.room-gone 𝓤 H A (Syntax.tyStruct (38 ∷ 91 ∷ 93
-              ∷ List.[]) (Syntax.tcons ref1 (Syntax.tcons (Syntax.tyInt Syntax.w64) Syntax.tnil)))) (Relend.reads-owed-len 𝓤 H A W RelayCircuit.row
-              ref6 1 13 life1 8 Path.refl, Path.refl,) Path.refl Path.refl λ b o k. tt) d40
+          d41 = Typed.s-seq 𝓤 H A W 𝓣 E G55 G56 b22 b37 Δ0 (Typed.ask s53) at40 (Relend.t-sl-aggregate 𝓤 H A W E
+              RelayCircuit.row 𝓣 (Relend.asMut RelayCircuit.row) G55 26 27 13 ref1 ref1 (λ x. x) (Scalar.oFld 2
+              ((Syntax.field 1) ∷ List.[]) (Syntax.tyInt Syntax.w64) 8 λ v. Shared.lenV (v .0)) (Reads'.as-is 𝓤 H A
+              (Relend.msptr RelayCircuit.row ref1 13)) (Reads'.room-gone 𝓤 H A slice1) (
+                Relend.reads-owed-len 𝓤 H A W RelayCircuit.row ref6 1 13 life1 8 Path.refl,
+                Path.refl,
+              ) Path.refl Path.refl λ b o k. tt) d40
+
           d42 : Typed.Typed 𝓤 H A 𝓣 E G54 b39 Δ0 at42
-          d42 = Typed.s-seq 𝓤 H A W 𝓣 E G54 G55 b21 b38 Δ0 (Typed.give s52) at41 (Relend.t-sl-relend 𝓤 H A W E RelayCircuit.row 𝓣 G54 2 26 1 13 ref6
-              ref1 life1 0 (λ x. x) (Reads'.as-is 𝓤 H A (Mut.mslice RelayCircuit.row ref6 1)) (Reads'.room-gone 𝓤 H A ref1) Path.refl tt Path.refl
-              Path.refl Path.refl λ b o. tt) d41
+          d42 = Typed.s-seq 𝓤 H A W 𝓣 E G54 G55 b21 b38 Δ0 (Typed.give s52) at41 (Relend.t-sl-relend 𝓤 H A W E
+              RelayCircuit.row 𝓣 G54 2 26 1 13 ref6 ref1 life1 0 (λ x. x)
+              (Reads'.as-is 𝓤 H A (Mut.mslice RelayCircuit.row ref6 1)) (Reads'.room-gone 𝓤 H A ref1) Path.refl tt
+              Path.refl Path.refl Path.refl λ b o. tt) d41
+
           d43 : Typed.Typed 𝓤 H A 𝓣 E G53 b39 Δ0 at43
-          d43 = Typed.g-pre 𝓤 H A W 𝓣 E G53 G54 b39 Δ0 (λ Ψ. Ψ) at42 (Lifetime.g-begin 𝓤 H A W E G53 13 (tt, ((tt, tt), (tt, (tt, (tt, (tt, (tt, (tt,
-              (tt, (tt, (tt, (tt, (tt, (tt, (tt, (tt, (tt, (tt, (tt, (tt, (tt, (tt, (tt, (tt, (tt, (tt, (tt, (tt, (tt, (tt, (tt, (tt, (tt, (tt,
-              tt))),),),),),),),),),),),),),),),),),),),),),),),),),),),),),),),)) d42
+          d43 = Typed.g-pre 𝓤 H A W 𝓣 E G53 G54 b39 Δ0 (λ Ψ. Ψ) at42 (Lifetime.g-begin 𝓤 H A W E G53 13 (
+            tt,
+            (
+              (tt, tt),
+              (
+                tt,
+                (
+                  tt,
+                  (
+                    tt,
+                    (
+                      tt,
+                      (
+                        tt,
+                        (
+                          tt,
+                          (
+                            tt,
+                            (
+                              tt,
+                              (
+                                tt,
+                                (
+                                  tt,
+                                  (
+                                    tt,
+                                    (
+                                      tt,
+                                      (
+                                        tt,
+                                        (
+                                          tt,
+                                          (
+                                            tt,
+                                            (
+                                              tt,
+                                              (
+                                                tt,
+                                                (
+                                                  tt,
+                                                  (
+                                                    tt,
+                                                    (
+                                                      tt,
+                                                      (
+                                                        tt,
+                                                        (
+                                                          tt,
+                                                          (
+                                                            tt,
+                                                            (tt, (tt, (tt, (tt, (tt, (tt, (tt, (tt, (tt, tt))))))))),
+                                                          ),
+                                                        ),
+                                                      ),
+                                                    ),
+                                                  ),
+                                                ),
+                                              ),
+                                            ),
+                                          ),
+                                        ),
+                                      ),
+                                    ),
+                                  ),
+                                ),
+                              ),
+                            ),
+                          ),
+                        ),
+                      ),
+                    ),
+                  ),
+                ),
+              ),
+            ),
+          )) d42
+
           d44 : Typed.Typed 𝓤 H A 𝓣 E G52 b40 Δ0 at44
-          d44 = Typed.s-seq 𝓤 H A W 𝓣 E G52 G53 b20 b39 Δ0 (Typed.ask s50) at43 (Relend.t-sl-aggregate 𝓤 H A W E RelayPending.row 𝓣 (Relend.asMut
-              RelayPending.row) G52 24 25 12 ref0 ref0 (λ x. x) (Scalar.oFld 1 ((Syntax.field 1) ∷ List.[]) (Syntax.tyInt Syntax.w64) 8 λ v.
-              Shared.lenV (v .0)) (Reads'.as-is 𝓤 H A (Relend.msptr RelayPending.row ref0 12)) (Reads'.room-gone 𝓤 H A (Syntax.tyStruct (38 ∷ 91 ∷ 93
-              ∷ List.[]) (Syntax.tcons ref0 (Syntax.tcons (Syntax.tyInt Syntax.w64) Syntax.tnil)))) (Relend.reads-owed-len 𝓤 H A W RelayPending.row
-              ref5 0 12 life0 8 Path.refl, Path.refl,) Path.refl Path.refl λ b o k. tt) d43
+          d44 = Typed.s-seq 𝓤 H A W 𝓣 E G52 G53 b20 b39 Δ0 (Typed.ask s50) at43 (Relend.t-sl-aggregate 𝓤 H A W E
+              RelayPending.row 𝓣 (Relend.asMut RelayPending.row) G52 24 25 12 ref0 ref0 (λ x. x) (Scalar.oFld 1
+              ((Syntax.field 1) ∷ List.[]) (Syntax.tyInt Syntax.w64) 8 λ v. Shared.lenV (v .0)) (Reads'.as-is 𝓤 H A
+              (Relend.msptr RelayPending.row ref0 12)) (Reads'.room-gone 𝓤 H A slice0) (
+                Relend.reads-owed-len 𝓤 H A W RelayPending.row ref5 0 12 life0 8 Path.refl,
+                Path.refl,
+              ) Path.refl Path.refl λ b o k. tt) d43
+
           d45 : Typed.Typed 𝓤 H A 𝓣 E G51 b41 Δ0 at45
-          d45 = Typed.s-seq 𝓤 H A W 𝓣 E G51 G52 b19 b40 Δ0 (Typed.give s49) at44 (Relend.t-sl-relend 𝓤 H A W E RelayPending.row 𝓣 G51 1 24 0 12 ref5
-              ref0 life0 0 (λ x. x) (Reads'.as-is 𝓤 H A (Mut.mslice RelayPending.row ref5 0)) (Reads'.room-gone 𝓤 H A ref0) Path.refl tt Path.refl
-              Path.refl Path.refl λ b o. tt) d44
+          d45 = Typed.s-seq 𝓤 H A W 𝓣 E G51 G52 b19 b40 Δ0 (Typed.give s49) at44 (Relend.t-sl-relend 𝓤 H A W E
+              RelayPending.row 𝓣 G51 1 24 0 12 ref5 ref0 life0 0 (λ x. x)
+              (Reads'.as-is 𝓤 H A (Mut.mslice RelayPending.row ref5 0)) (Reads'.room-gone 𝓤 H A ref0) Path.refl tt
+              Path.refl Path.refl Path.refl λ b o. tt) d44
+
           d46 : Typed.Typed 𝓤 H A 𝓣 E G42 b41 Δ0 at46
-          d46 = Typed.g-pre 𝓤 H A W 𝓣 E G42 G51 b41 Δ0 (λ Ψ. Ψ) at45 (Lifetime.g-begin 𝓤 H A W E G42 12 (tt, (tt, (tt, (tt, (tt, (tt, (tt, (tt, (tt,
-              (tt, (tt, (tt, (tt, (tt, (tt, (tt, (tt, (tt, (tt, (tt, (tt, (tt, (tt, (tt, (tt, (tt, (tt, (tt, (tt, (tt, (tt, (tt, (tt, (tt,
-              tt))),),),),),),),),),),),),),),),),),),),),),),),),),),),),),),),)) d45
+          d46 = Typed.g-pre 𝓤 H A W 𝓣 E G42 G51 b41 Δ0 (λ Ψ. Ψ) at45 (Lifetime.g-begin 𝓤 H A W E G42 12 (
+            tt,
+            (
+              tt,
+              (
+                tt,
+                (
+                  tt,
+                  (
+                    tt,
+                    (
+                      tt,
+                      (
+                        tt,
+                        (
+                          tt,
+                          (
+                            tt,
+                            (
+                              tt,
+                              (
+                                tt,
+                                (
+                                  tt,
+                                  (
+                                    tt,
+                                    (
+                                      tt,
+                                      (
+                                        tt,
+                                        (
+                                          tt,
+                                          (
+                                            tt,
+                                            (
+                                              tt,
+                                              (
+                                                tt,
+                                                (
+                                                  tt,
+                                                  (
+                                                    tt,
+                                                    (
+                                                      tt,
+                                                      (
+                                                        tt,
+                                                        (
+                                                          tt,
+                                                          (
+                                                            tt,
+                                                            (tt, (tt, (tt, (tt, (tt, (tt, (tt, (tt, (tt, tt))))))))),
+                                                          ),
+                                                        ),
+                                                      ),
+                                                    ),
+                                                  ),
+                                                ),
+                                              ),
+                                            ),
+                                          ),
+                                        ),
+                                      ),
+                                    ),
+                                  ),
+                                ),
+                              ),
+                            ),
+                          ),
+                        ),
+                      ),
+                    ),
+                  ),
+                ),
+              ),
+            ),
+          )) d45
+
           d47 : Typed.Typed 𝓤 H A 𝓣 E G41 b42 Δ0 at47
           d47 = Typed.t-seq 𝓤 H A W 𝓣 E G41 G42 b18 b41 Δ0 at10 at46 d10 d46
+
           d48 : Typed.Typed 𝓤 H A 𝓣 E G40 b43 Δ0 at48
-          d48 = Typed.s-seq 𝓤 H A W 𝓣 E G40 G41 b13 b42 Δ0 (Typed.ask s39) at47 (Scalar.t-op2 𝓤 H A W E 𝓣 G40 Syntax.eq (Scalar.oFld 9 ((Syntax.field
-              2) ∷ List.[]) (Syntax.tyInt Syntax.w8) 16 (Reads.fieldV Script.the-type Laws.the-laws 2)) (Scalar.oInt Syntax.w8 1) 23 (Rows.sc-here
-              Row.sBool) Syntax.tyBool (Row.valS Row.sBool) (Row.sBool .of) (Reads.reads-field 𝓤 H A W Script.the-type Laws.the-laws 2 (Syntax.tyInt
-              Syntax.w8) 16 Path.refl, Path.refl,) tt (Reads'.room-gone 𝓤 H A Syntax.tyBool) (Scalar.holds-sc 𝓤 H A W Row.sBool) Path.refl (λ u.
-              Path.refl) λ u. tt) d47
+          d48 = Typed.s-seq 𝓤 H A W 𝓣 E G40 G41 b13 b42 Δ0 (Typed.ask s39) at47 (Scalar.t-op2 𝓤 H A W E 𝓣 G40 Syntax.eq (Scalar.oFld
+              9 ((Syntax.field 2) ∷ List.[]) (Syntax.tyInt Syntax.w8) 16 (Reads.fieldV Script.the-type Laws.the-laws 2))
+              (Scalar.oInt Syntax.w8 1) 23 (Rows.sc-here Row.sBool) Syntax.tyBool (Row.valS Row.sBool) (Row.sBool .of) (
+                Reads.reads-field 𝓤 H A W Script.the-type Laws.the-laws 2 (Syntax.tyInt Syntax.w8) 16 Path.refl,
+                Path.refl,
+              ) tt (Reads'.room-gone 𝓤 H A Syntax.tyBool) (Scalar.holds-sc 𝓤 H A W Row.sBool) Path.refl
+              (λ u. Path.refl) λ u. tt) d47
+
           d49 : Typed.Typed 𝓤 H A 𝓣 E G39 b43 Δ0 at49
-          d49 = Typed.g-pre 𝓤 H A W 𝓣 E G39 G40 b43 Δ0 (Typed.give s38) at48 (Know'.g-struct-known 𝓤 H A W E Script.the-type Laws.the-laws G39 9 (λ x.
-              x) (Reads'.as-is 𝓤 H A (Rows.whole (Declared'.row Script.the-type)))) d48
+          d49 = Typed.g-pre 𝓤 H A W 𝓣 E G39 G40 b43 Δ0 (Typed.give s38) at48 (Know'.g-struct-known 𝓤 H A W E
+              Script.the-type Laws.the-laws G39 9 (λ x. x) (Reads'.as-is 𝓤 H A
+              (Rows.whole (Declared'.row Script.the-type)))) d48
+
           d50 : Typed.Typed 𝓤 H A 𝓣 E G38 b44 Δ0 at50
-          d50 = Typed.s-seq 𝓤 H A W 𝓣 E G38 G39 b12 b43 Δ0 (Typed.pass T37 T39 s37) at49 (CopyOut.t-copy-told 𝓤 H A W E 𝓣 (Declared.row
-              HnsrAnswer.the-type) Path.refl (Laws''''.val HnsrAnswer.the-type Laws'.the-laws) (Laws''''.lawful HnsrAnswer.the-type Laws'.the-laws 𝓤 H
-              A W tt) (Laws''''.makes HnsrAnswer.the-type Laws'.the-plain 𝓤 H A) G38 12 (Scalar.oFld 11 ((Syntax.field 1) ∷ List.[]) Laws'.mir 160 λ
-              x. Laws''''.val HnsrAnswer.the-type Laws'.the-laws (Relayed.struct .as-values x .1 .0)) (λ m. Relayed.struct .as-values (m .1 .1 .1 .1
-              .1 .1 .1 .1 .1 .1 .1 .0) .1 .0) (λ m. Laws'''''.Is (Declared'.row Relayed.the-type) (m .1 .1 .1 .1 .1 .1 .1 .1 .1 .1 .1 .0)
-              (Laws''''''.vals Relayed.the-type Laws'''.the-laws (m .1 .1 .1 .1 .1 .1 .1 .1 .1 .1 .1 .0))) (Reads'.room-gone 𝓤 H A Laws'.mir)
-              (Reads.reads-field 𝓤 H A W Relayed.the-type Laws'''.the-laws 1 Laws'.mir 160 Path.refl, Path.refl,) Path.refl (λ ρ m. Make.tells-row 𝓤 H
-              A W E ρ (Row.out 12 (G38 .locals)) m 11 (Laws'''''.Is (Declared'.row Relayed.the-type) (m .1 .1 .1 .1 .1 .1 .1 .1 .1 .1 .1 .0)
-              (Laws''''''.vals Relayed.the-type Laws'''.the-laws (m .1 .1 .1 .1 .1 .1 .1 .1 .1 .1 .1 .0))) (Make.whole-is 𝓤 H A W E (Declared'.row
-              Relayed.the-type) Path.refl (Laws''''''.val Relayed.the-type Laws'''.the-laws) (Laws''''''.tells Relayed.the-type Laws'''.the-laws) ρ 11
-              (m .1 .1 .1 .1 .1 .1 .1 .1 .1 .1 .1 .0))) (λ m k wa. Path.refl) λ m k wa. Laws''''''.owed Relayed.the-type Laws'''.the-laws (m .1 .1 .1
-              .1 .1 .1 .1 .1 .1 .1 .1 .0) (Laws''''''.vals Relayed.the-type Laws'''.the-laws (m .1 .1 .1 .1 .1 .1 .1 .1 .1 .1 .1 .0)) k .1 .0) d49
+          d50 = Typed.s-seq 𝓤 H A W 𝓣 E G38 G39 b12 b43 Δ0 (Typed.pass T37 T39 s37) at49 (CopyOut.t-copy-told 𝓤 H A W E
+              𝓣 (Declared.row HnsrAnswer.the-type) Path.refl (Laws''''.val HnsrAnswer.the-type Laws'.the-laws) (Laws''''.lawful
+              HnsrAnswer.the-type Laws'.the-laws 𝓤 H A W tt) (Laws''''.makes HnsrAnswer.the-type Laws'.the-plain 𝓤 H A)
+              G38 12 (Scalar.oFld 11 ((Syntax.field 1) ∷ List.[]) Laws'.mir 160 λ x. Laws''''.val HnsrAnswer.the-type
+              Laws'.the-laws (Relayed.struct .as-values x .1 .0)) (λ m. Relayed.struct .as-values
+              (m .1 .1 .1 .1 .1 .1 .1 .1 .1 .1 .1 .0) .1 .0) (λ m. Laws'''''.Is (Declared'.row Relayed.the-type)
+              (m .1 .1 .1 .1 .1 .1 .1 .1 .1 .1 .1 .0) (Laws''''''.vals Relayed.the-type Laws'''.the-laws
+              (m .1 .1 .1 .1 .1 .1 .1 .1 .1 .1 .1 .0))) (Reads'.room-gone 𝓤 H A Laws'.mir) (
+                Reads.reads-field 𝓤 H A W Relayed.the-type Laws'''.the-laws 1 Laws'.mir 160 Path.refl,
+                Path.refl,
+              ) Path.refl (λ ρ m. Make.tells-row 𝓤 H A W E ρ (Row.out 12 (G38 .locals)) m 11 (Laws'''''.Is
+              (Declared'.row Relayed.the-type) (m .1 .1 .1 .1 .1 .1 .1 .1 .1 .1 .1 .0) (Laws''''''.vals
+              Relayed.the-type Laws'''.the-laws (m .1 .1 .1 .1 .1 .1 .1 .1 .1 .1 .1 .0))) (Make.whole-is 𝓤 H A W E
+              (Declared'.row Relayed.the-type) Path.refl (Laws''''''.val Relayed.the-type Laws'''.the-laws)
+              (Laws''''''.tells Relayed.the-type Laws'''.the-laws) ρ 11 (m .1 .1 .1 .1 .1 .1 .1 .1 .1 .1 .1 .0)))
+              (λ m k wa. Path.refl) λ m k wa. Laws''''''.owed Relayed.the-type Laws'''.the-laws
+              (m .1 .1 .1 .1 .1 .1 .1 .1 .1 .1 .1 .0) (Laws''''''.vals Relayed.the-type Laws'''.the-laws
+              (m .1 .1 .1 .1 .1 .1 .1 .1 .1 .1 .1 .0)) k .1 .0) d49
+
           d51 : Typed.Typed 𝓤 H A 𝓣 E G37 b44 Δ0 at51
-          d51 = Typed.g-pre 𝓤 H A W 𝓣 E G37 G38 b44 Δ0 (λ Ψ. Ψ) at50 (Lifetime.g-forget 𝓤 H A W E G37 11 Row.dead Path.refl) d50
+          d51 = Typed.g-pre 𝓤 H A W 𝓣 E G37 G38 b44 Δ0 (λ Ψ. Ψ) at50
+              (Lifetime.g-forget 𝓤 H A W E G37 11 Row.dead Path.refl) d50
+
           d52 : Typed.Typed 𝓤 H A 𝓣 E G36 b44 Δ0 at52
-          d52 = Typed.g-pre 𝓤 H A W 𝓣 E G36 G37 b44 Δ0 (Typed.give s35) at51 (Know.g-sl-known 𝓤 H A W (Referent.fInt Syntax.w32) E G36 5 4 ref9 life4
-              0 (λ x. x) record { fits = Dec.lit< tt } (Reads'.as-is 𝓤 H A (Mut.mslice (Referent.rtF (Referent.fInt Syntax.w32)) ref9 4)) Path.refl
-              tt) d51
+          d52 = Typed.g-pre 𝓤 H A W 𝓣 E G36 G37 b44 Δ0 (Typed.give s35) at51 (Know.g-sl-known 𝓤 H A W
+              (Referent.fInt Syntax.w32) E G36 5 4 ref9 life4 0 (λ x. x) record { fits = Dec.lit< tt } (Reads'.as-is 𝓤
+              H A (Mut.mslice (Referent.rtF (Referent.fInt Syntax.w32)) ref9 4)) Path.refl tt) d51
+
           d53 : Typed.Typed 𝓤 H A 𝓣 E G35 b44 Δ0 at53
-          d53 = Typed.g-pre 𝓤 H A W 𝓣 E G35 G36 b44 Δ0 (Typed.both s34) at52 (Relend.g-back-sl 𝓤 H A W E (Referent.rtF (Referent.fInt Syntax.w32)) G35
-              22 5 4 11 ref9 ref4 life4 (λ x. x) (λ x. x) (Reads'.as-is 𝓤 H A (Mut.msleft (Referent.rtF (Referent.fInt Syntax.w32)) ref4))
-              (Reads'.as-is 𝓤 H A (Relend.mslice-owed (Referent.rtF (Referent.fInt Syntax.w32)) ref9 4 11 life4)) Path.refl Path.refl) d52
+          d53 = Typed.g-pre 𝓤 H A W 𝓣 E G35 G36 b44 Δ0 (Typed.both s34) at52 (Relend.g-back-sl 𝓤 H A W E
+              (Referent.rtF (Referent.fInt Syntax.w32)) G35 22 5 4 11 ref9 ref4 life4 (λ x. x) (λ x. x) (Reads'.as-is 𝓤
+              H A (Mut.msleft (Referent.rtF (Referent.fInt Syntax.w32)) ref4)) (Reads'.as-is 𝓤 H A (Relend.mslice-owed
+              (Referent.rtF (Referent.fInt Syntax.w32)) ref9 4 11 life4)) Path.refl Path.refl) d52
+
           d54 : Typed.Typed 𝓤 H A 𝓣 E G34 b44 Δ0 at54
           d54 = Typed.g-pre 𝓤 H A W 𝓣 E G34 G35 b44 Δ0 (λ Ψ. Ψ) at53 (Lifetime.g-end 𝓤 H A W E G34 11 Path.refl) d53
+
           d55 : Typed.Typed 𝓤 H A 𝓣 E G33 b44 Δ0 at55
-          d55 = Typed.g-pre 𝓤 H A W 𝓣 E G33 G34 b44 Δ0 (λ Ψ. Ψ) at54 (Lifetime.g-forget 𝓤 H A W E G33 10 Row.dead Path.refl) d54
+          d55 = Typed.g-pre 𝓤 H A W 𝓣 E G33 G34 b44 Δ0 (λ Ψ. Ψ) at54
+              (Lifetime.g-forget 𝓤 H A W E G33 10 Row.dead Path.refl) d54
+
           d56 : Typed.Typed 𝓤 H A 𝓣 E G32 b44 Δ0 at56
-          d56 = Typed.g-pre 𝓤 H A W 𝓣 E G32 G33 b44 Δ0 (Typed.both s31) at55 (Relend.g-back-sl 𝓤 H A W E InflightAction.row G32 20 4 3 10 ref8 ref3
-              life3 (λ x. x) (λ x. x) (Reads'.as-is 𝓤 H A (Mut.msleft InflightAction.row ref3)) (Reads'.as-is 𝓤 H A (Relend.mslice-owed
-              InflightAction.row ref8 3 10 life3)) Path.refl Path.refl) d55
+          d56 = Typed.g-pre 𝓤 H A W 𝓣 E G32 G33 b44 Δ0 (Typed.both s31) at55 (Relend.g-back-sl 𝓤 H A W E
+              InflightAction.row G32 20 4 3 10 ref8 ref3 life3 (λ x. x) (λ x. x)
+              (Reads'.as-is 𝓤 H A (Mut.msleft InflightAction.row ref3)) (Reads'.as-is 𝓤 H A
+              (Relend.mslice-owed InflightAction.row ref8 3 10 life3)) Path.refl Path.refl) d55
+
           d57 : Typed.Typed 𝓤 H A 𝓣 E G31 b44 Δ0 at57
           d57 = Typed.g-pre 𝓤 H A W 𝓣 E G31 G32 b44 Δ0 (λ Ψ. Ψ) at56 (Lifetime.g-end 𝓤 H A W E G31 10 Path.refl) d56
+
           d58 : Typed.Typed 𝓤 H A 𝓣 E G30 b44 Δ0 at58
-          d58 = Typed.g-pre 𝓤 H A W 𝓣 E G30 G31 b44 Δ0 (λ Ψ. Ψ) at57 (Lifetime.g-forget 𝓤 H A W E G30 9 Row.dead Path.refl) d57
+          d58 = Typed.g-pre 𝓤 H A W 𝓣 E G30 G31 b44 Δ0 (λ Ψ. Ψ) at57
+              (Lifetime.g-forget 𝓤 H A W E G30 9 Row.dead Path.refl) d57
+
           d59 : Typed.Typed 𝓤 H A 𝓣 E G29 b44 Δ0 at59
-          d59 = Typed.g-pre 𝓤 H A W 𝓣 E G29 G30 b44 Δ0 (Typed.both s28) at58 (Relend.g-back-sl 𝓤 H A W E ReservationUsage.row G29 18 3 2 9 ref7 ref2
-              life2 (λ x. x) (λ x. x) (Reads'.as-is 𝓤 H A (Mut.msleft ReservationUsage.row ref2)) (Reads'.as-is 𝓤 H A (Relend.mslice-owed
-              ReservationUsage.row ref7 2 9 life2)) Path.refl Path.refl) d58
+          d59 = Typed.g-pre 𝓤 H A W 𝓣 E G29 G30 b44 Δ0 (Typed.both s28) at58 (Relend.g-back-sl 𝓤 H A W E
+              ReservationUsage.row G29 18 3 2 9 ref7 ref2 life2 (λ x. x) (λ x. x)
+              (Reads'.as-is 𝓤 H A (Mut.msleft ReservationUsage.row ref2)) (Reads'.as-is 𝓤 H A
+              (Relend.mslice-owed ReservationUsage.row ref7 2 9 life2)) Path.refl Path.refl) d58
+
           d60 : Typed.Typed 𝓤 H A 𝓣 E G28 b44 Δ0 at60
           d60 = Typed.g-pre 𝓤 H A W 𝓣 E G28 G29 b44 Δ0 (λ Ψ. Ψ) at59 (Lifetime.g-end 𝓤 H A W E G28 9 Path.refl) d59
+
           d61 : Typed.Typed 𝓤 H A 𝓣 E G27 b44 Δ0 at61
-          d61 = Typed.g-pre 𝓤 H A W 𝓣 E G27 G28 b44 Δ0 (λ Ψ. Ψ) at60 (Lifetime.g-forget 𝓤 H A W E G27 8 Row.dead Path.refl) d60
+          d61 = Typed.g-pre 𝓤 H A W 𝓣 E G27 G28 b44 Δ0 (λ Ψ. Ψ) at60
+              (Lifetime.g-forget 𝓤 H A W E G27 8 Row.dead Path.refl) d60
+
           d62 : Typed.Typed 𝓤 H A 𝓣 E G26 b44 Δ0 at62
-          d62 = Typed.g-pre 𝓤 H A W 𝓣 E G26 G27 b44 Δ0 (Typed.both s25) at61 (Relend.g-back-sl 𝓤 H A W E RelayCircuit.row G26 16 2 1 8 ref6 ref1 life1
-              (λ x. x) (λ x. x) (Reads'.as-is 𝓤 H A (Mut.msleft RelayCircuit.row ref1)) (Reads'.as-is 𝓤 H A (Relend.mslice-owed RelayCircuit.row ref6
-              1 8 life1)) Path.refl Path.refl) d61
+          d62 = Typed.g-pre 𝓤 H A W 𝓣 E G26 G27 b44 Δ0 (Typed.both s25) at61 (Relend.g-back-sl 𝓤 H A W E
+              RelayCircuit.row G26 16 2 1 8 ref6 ref1 life1 (λ x. x) (λ x. x)
+              (Reads'.as-is 𝓤 H A (Mut.msleft RelayCircuit.row ref1)) (Reads'.as-is 𝓤 H A
+              (Relend.mslice-owed RelayCircuit.row ref6 1 8 life1)) Path.refl Path.refl) d61
+
           d63 : Typed.Typed 𝓤 H A 𝓣 E G25 b44 Δ0 at63
           d63 = Typed.g-pre 𝓤 H A W 𝓣 E G25 G26 b44 Δ0 (λ Ψ. Ψ) at62 (Lifetime.g-end 𝓤 H A W E G25 8 Path.refl) d62
+
           d64 : Typed.Typed 𝓤 H A 𝓣 E G24 b44 Δ0 at64
-          d64 = Typed.g-pre 𝓤 H A W 𝓣 E G24 G25 b44 Δ0 (λ Ψ. Ψ) at63 (Lifetime.g-forget 𝓤 H A W E G24 7 Row.dead Path.refl) d63
+          d64 = Typed.g-pre 𝓤 H A W 𝓣 E G24 G25 b44 Δ0 (λ Ψ. Ψ) at63
+              (Lifetime.g-forget 𝓤 H A W E G24 7 Row.dead Path.refl) d63
+
           d65 : Typed.Typed 𝓤 H A 𝓣 E G23 b44 Δ0 at65
-          d65 = Typed.g-pre 𝓤 H A W 𝓣 E G23 G24 b44 Δ0 (Typed.both s22) at64 (Relend.g-back-sl 𝓤 H A W E RelayPending.row G23 14 1 0 7 ref5 ref0 life0
-              (λ x. x) (λ x. x) (Reads'.as-is 𝓤 H A (Mut.msleft RelayPending.row ref0)) (Reads'.as-is 𝓤 H A (Relend.mslice-owed RelayPending.row ref5
-              0 7 life0)) Path.refl Path.refl) d64
+          d65 = Typed.g-pre 𝓤 H A W 𝓣 E G23 G24 b44 Δ0 (Typed.both s22) at64 (Relend.g-back-sl 𝓤 H A W E
+              RelayPending.row G23 14 1 0 7 ref5 ref0 life0 (λ x. x) (λ x. x)
+              (Reads'.as-is 𝓤 H A (Mut.msleft RelayPending.row ref0)) (Reads'.as-is 𝓤 H A
+              (Relend.mslice-owed RelayPending.row ref5 0 7 life0)) Path.refl Path.refl) d64
+
           d66 : Typed.Typed 𝓤 H A 𝓣 E G22 b44 Δ0 at66
           d66 = Typed.g-pre 𝓤 H A W 𝓣 E G22 G23 b44 Δ0 (λ Ψ. Ψ) at65 (Lifetime.g-end 𝓤 H A W E G22 7 Path.refl) d65
+
           d67 : Typed.Typed 𝓤 H A 𝓣 E G21 b44 Δ0 at67
-          d67 = Typed.g-pre 𝓤 H A W 𝓣 E G21 G22 b44 Δ0 (Typed.pass T21 T22 s20) at66 (Scalar.g-room 𝓤 H A W E G21 6 Laws'''.mir (Local.room-whole 𝓤 H
-              A W (Declared'.row Relayed.the-type) Laws'''.mir Path.refl)) d66
+          d67 = Typed.g-pre 𝓤 H A W 𝓣 E G21 G22 b44 Δ0 (Typed.pass T21 T22 s20) at66 (Scalar.g-room 𝓤 H A W E G21 6
+              Laws'''.mir (Local.room-whole 𝓤 H A W (Declared'.row Relayed.the-type) Laws'''.mir Path.refl)) d66
+
           d68 : Typed.Typed 𝓤 H A 𝓣 E G20 b45 Δ0 at68
-          d68 = Typed.s-seq 𝓤 H A W 𝓣 E G20 G21 b11 b44 Δ0 (Typed.both s19) at67 (Plain.t-call-plain 𝓤 H A W 𝓣 6 ps·1 r·1 (claims· .2) (claims· .3)
-              "cases::machine::deliver" (known .1) E (λ pos β. β) G20 (record { pos = 14; ty = Syntax.tyRef Syntax.erased Syntax.mut RelayPending.to;
-              ref = λ x. x; }, (record { pos = 16; ty = Syntax.tyRef Syntax.erased Syntax.mut RelayCircuit.to; ref = λ x. x; }, (record { pos = 18; ty
-              = Syntax.tyRef Syntax.erased Syntax.mut ReservationUsage.to; ref = λ x. x; }, (record { pos = 20; ty = Syntax.tyRef Syntax.erased
-              Syntax.mut InflightAction.to; ref = λ x. x; }, (record { pos = 22; ty = Syntax.tyRef Syntax.erased Syntax.mut (Syntax.tyInt Syntax.w32);
-              ref = λ x. x; }, (record { pos = 6; st = List.[]; d = 0; at = λ x. x }, (record { pos = 10; st = List.[]; d = 0; at = λ x. x },
-              (Num.vFld 9 ((Syntax.field 4) ∷ List.[]) 18 λ x. Script.struct .as-values x .1 .1 .1 .1 .0, (record { pos = 7; ty = Syntax.tyRef
-              (Syntax.named 5) Syntax.imm (Syntax.tyInt Syntax.w8); ref = λ x. x; }, tt,),),),),),),),),) 11 (7 ∷ 8 ∷ 9 ∷ 10 ∷ 11 ∷ 5 ∷ List.[])
-              (Call.sub-id 𝓤 H A W (G20 .slots)) (Reads'.as-is 𝓤 H A (Mut.mslice RelayPending.row ref0 7), Mut.reads-mslice 𝓤 H A W RelayPending.row
-              ref0 7, Path.refl, (Reads'.as-is 𝓤 H A (Mut.mslice RelayCircuit.row ref1 8), Mut.reads-mslice 𝓤 H A W RelayCircuit.row ref1 8,
-              Path.refl, (Reads'.as-is 𝓤 H A (Mut.mslice ReservationUsage.row ref2 9), Mut.reads-mslice 𝓤 H A W ReservationUsage.row ref2 9,
-              Path.refl, (Reads'.as-is 𝓤 H A (Mut.mslice InflightAction.row ref3 10), Mut.reads-mslice 𝓤 H A W InflightAction.row ref3 10, Path.refl,
-              (Reads'.as-is 𝓤 H A (Mut.mslice (Referent.rtF (Referent.fInt Syntax.w32)) ref4 11), Mut.reads-mslice 𝓤 H A W (Referent.rtF
-              (Referent.fInt Syntax.w32)) ref4 11, Path.refl, ((Yields.yields-copy 𝓤 H A W (λ ρ. Unit) (Declared'.row Relayed.the-type) Path.refl
-              (Copies.cStruct Relayed.the-type Laws'''.the-laws Laws'''.the-copy .copy 𝓤 H A W) (Rows.whole (Declared'.row Relayed.the-type)) (λ x. x)
-              (λ x. x) (λ ρ told. Local.mem-whole 𝓤 H A W (Declared'.row Relayed.the-type) ρ) λ ρ told. Local.whole-mem 𝓤 H A W (Declared'.row
-              Relayed.the-type) ρ, Path.refl,), ((Yields.yields-copy 𝓤 H A W (λ ρ. Unit) (Declared'.row RelayPacket.the-type) Path.refl
-              (Copies.cStruct RelayPacket.the-type Laws''.the-laws Laws''.the-copy .copy 𝓤 H A W) (Rows.whole (Declared'.row RelayPacket.the-type)) (λ
-              x. x) (λ x. x) (λ ρ told. Local.mem-whole 𝓤 H A W (Declared'.row RelayPacket.the-type) ρ) λ ρ told. Local.whole-mem 𝓤 H A W
-              (Declared'.row RelayPacket.the-type) ρ, Path.refl,), ((Reads.reads-field 𝓤 H A W Script.the-type Laws.the-laws 4 (Syntax.tyInt
-              Syntax.w8) 18 Path.refl, Path.refl,), (ShrSlice.spares-sslice 𝓤 H A W (Referent.rtF (Referent.fInt Syntax.w8)) ref10 5,
-              Shared.reads-sslice 𝓤 H A W (Referent.rtF (Referent.fInt Syntax.w8)) ref10 5, Path.refl, tt,),),),),),),),),) (Reads'.room-gone 𝓤 H A
-              Laws'''.mir) (tt, (tt, (tt, (tt, (tt, (tt, tt)))))) Path.refl) d67
+          d68 = Typed.s-seq 𝓤 H A W 𝓣 E G20 G21 b11 b44 Δ0 (Typed.both s19) at67 (Plain.t-call-plain 𝓤 H A W 𝓣 6 ps·1
+              r·1 (claims· .2) (claims· .3) "cases::machine::deliver" (known .1) E (λ pos β. β) G20 (
+                record { pos = 14; ty = ref0; ref = λ x. x },
+                (
+                  record { pos = 16; ty = ref1; ref = λ x. x },
+                  (
+                    record { pos = 18; ty = ref2; ref = λ x. x },
+                    (
+                      record { pos = 20; ty = ref3; ref = λ x. x },
+                      (
+                        record { pos = 22; ty = ref4; ref = λ x. x },
+                        (
+                          record { pos = 6; st = List.[]; d = 0; at = λ x. x },
+                          (
+                            record { pos = 10; st = List.[]; d = 0; at = λ x. x },
+                            (
+                              Num.vFld 9 ((Syntax.field 4) ∷ List.[]) 18 λ x. Script.struct .as-values x .1 .1 .1 .1 .0,
+                              (record { pos = 7; ty = ref10; ref = λ x. x }, tt),
+                            ),
+                          ),
+                        ),
+                      ),
+                    ),
+                  ),
+                ),
+              ) 11 (7 ∷ 8 ∷ 9 ∷ 10 ∷ 11 ∷ 5 ∷ List.[]) (Call.sub-id 𝓤 H A W (G20 .slots)) (
+                Reads'.as-is 𝓤 H A (Mut.mslice RelayPending.row ref0 7),
+                Mut.reads-mslice 𝓤 H A W RelayPending.row ref0 7,
+                Path.refl,
+                (
+                  Reads'.as-is 𝓤 H A (Mut.mslice RelayCircuit.row ref1 8),
+                  Mut.reads-mslice 𝓤 H A W RelayCircuit.row ref1 8,
+                  Path.refl,
+                  (
+                    Reads'.as-is 𝓤 H A (Mut.mslice ReservationUsage.row ref2 9),
+                    Mut.reads-mslice 𝓤 H A W ReservationUsage.row ref2 9,
+                    Path.refl,
+                    (
+                      Reads'.as-is 𝓤 H A (Mut.mslice InflightAction.row ref3 10),
+                      Mut.reads-mslice 𝓤 H A W InflightAction.row ref3 10,
+                      Path.refl,
+                      (
+                        Reads'.as-is 𝓤 H A (Mut.mslice (Referent.rtF (Referent.fInt Syntax.w32)) ref4 11),
+                        Mut.reads-mslice 𝓤 H A W (Referent.rtF (Referent.fInt Syntax.w32)) ref4 11,
+                        Path.refl,
+                        (
+                          (
+                            Yields.yields-copy 𝓤 H A W (λ ρ. Unit) (Declared'.row Relayed.the-type) Path.refl (Copies.cStruct
+                                Relayed.the-type Laws'''.the-laws Laws'''.the-copy .copy 𝓤 H A W)
+                                (Rows.whole (Declared'.row Relayed.the-type)) (λ x. x) (λ x. x) (λ ρ told.
+                                Local.mem-whole 𝓤 H A W (Declared'.row Relayed.the-type) ρ) λ ρ told. Local.whole-mem 𝓤
+                                H A W (Declared'.row Relayed.the-type) ρ,
+                            Path.refl,
+                          ),
+                          (
+                            (
+                              Yields.yields-copy 𝓤 H A W (λ ρ. Unit) (Declared'.row RelayPacket.the-type) Path.refl (Copies.cStruct
+                                  RelayPacket.the-type Laws''.the-laws Laws''.the-copy .copy 𝓤 H A W)
+                                  (Rows.whole (Declared'.row RelayPacket.the-type)) (λ x. x) (λ x. x) (λ ρ told.
+                                  Local.mem-whole 𝓤 H A W (Declared'.row RelayPacket.the-type) ρ) λ ρ told.
+                                  Local.whole-mem 𝓤 H A W (Declared'.row RelayPacket.the-type) ρ,
+                              Path.refl,
+                            ),
+                            (
+                              (
+                                Reads.reads-field 𝓤 H A W Script.the-type Laws.the-laws 4 (Syntax.tyInt Syntax.w8) 18
+                                    Path.refl,
+                                Path.refl,
+                              ),
+                              (
+                                ShrSlice.spares-sslice 𝓤 H A W (Referent.rtF (Referent.fInt Syntax.w8)) ref10 5,
+                                Shared.reads-sslice 𝓤 H A W (Referent.rtF (Referent.fInt Syntax.w8)) ref10 5,
+                                Path.refl,
+                                tt,
+                              ),
+                            ),
+                          ),
+                        ),
+                      ),
+                    ),
+                  ),
+                ),
+              ) (Reads'.room-gone 𝓤 H A Laws'''.mir) (tt, (tt, (tt, (tt, (tt, (tt, tt)))))) Path.refl) d67
+
           d69 : Typed.Typed 𝓤 H A 𝓣 E G19 b46 Δ0 at69
-          d69 = Typed.s-seq 𝓤 H A W 𝓣 E G19 G20 b10 b45 Δ0 (Typed.ask s18) at68 (Relend.t-sl-aggregate 𝓤 H A W E (Referent.rtF (Referent.fInt
-              Syntax.w32)) 𝓣 (Relend.asMut (Referent.rtF (Referent.fInt Syntax.w32))) G19 21 22 11 ref4 ref4 (λ x. x) (Scalar.oFld 5 ((Syntax.field 1)
-              ∷ List.[]) (Syntax.tyInt Syntax.w64) 8 λ v. Shared.lenV (v .0)) (Reads'.as-is 𝓤 H A (Relend.msptr (Referent.rtF (Referent.fInt
-              Syntax.w32)) ref4 11)) (Reads'.room-gone 𝓤 H A (Syntax.tyStruct (38 ∷ 91 ∷ 93 ∷ List.[]) (Syntax.tcons ref4 (Syntax.tcons (Syntax.tyInt
-              Syntax.w64) Syntax.tnil)))) (Relend.reads-owed-len 𝓤 H A W (Referent.rtF (Referent.fInt Syntax.w32)) ref9 4 11 life4 8 Path.refl,
-              Path.refl,) Path.refl Path.refl λ b o k. tt) d68
+          d69 = Typed.s-seq 𝓤 H A W 𝓣 E G19 G20 b10 b45 Δ0 (Typed.ask s18) at68 (Relend.t-sl-aggregate 𝓤 H A W E
+              (Referent.rtF (Referent.fInt Syntax.w32)) 𝓣 (Relend.asMut (Referent.rtF (Referent.fInt Syntax.w32))) G19
+              21 22 11 ref4 ref4 (λ x. x) (Scalar.oFld 5 ((Syntax.field 1) ∷ List.[]) (Syntax.tyInt Syntax.w64) 8 λ v.
+              Shared.lenV (v .0)) (Reads'.as-is 𝓤 H A (Relend.msptr (Referent.rtF (Referent.fInt Syntax.w32)) ref4 11))
+              (Reads'.room-gone 𝓤 H A slice4) (
+                Relend.reads-owed-len 𝓤 H A W (Referent.rtF (Referent.fInt Syntax.w32)) ref9 4 11 life4 8 Path.refl,
+                Path.refl,
+              ) Path.refl Path.refl λ b o k. tt) d68
+
           d70 : Typed.Typed 𝓤 H A 𝓣 E G18 b47 Δ0 at70
-          d70 = Typed.s-seq 𝓤 H A W 𝓣 E G18 G19 b9 b46 Δ0 (Typed.give s17) at69 (Relend.t-sl-relend 𝓤 H A W E (Referent.rtF (Referent.fInt
-              Syntax.w32)) 𝓣 G18 5 21 4 11 ref9 ref4 life4 0 (λ x. x) (Reads'.as-is 𝓤 H A (Mut.mslice (Referent.rtF (Referent.fInt Syntax.w32)) ref9
-              4)) (Reads'.room-gone 𝓤 H A ref4) Path.refl tt Path.refl Path.refl Path.refl λ b o. tt) d69
+          d70 = Typed.s-seq 𝓤 H A W 𝓣 E G18 G19 b9 b46 Δ0 (Typed.give s17) at69 (Relend.t-sl-relend 𝓤 H A W E
+              (Referent.rtF (Referent.fInt Syntax.w32)) 𝓣 G18 5 21 4 11 ref9 ref4 life4 0 (λ x. x) (Reads'.as-is 𝓤 H A (Mut.mslice
+              (Referent.rtF (Referent.fInt Syntax.w32)) ref9 4)) (Reads'.room-gone 𝓤 H A ref4) Path.refl tt Path.refl
+              Path.refl Path.refl λ b o. tt) d69
+
           d71 : Typed.Typed 𝓤 H A 𝓣 E G17 b47 Δ0 at71
-          d71 = Typed.g-pre 𝓤 H A W 𝓣 E G17 G18 b47 Δ0 (λ Ψ. Ψ) at70 (Lifetime.g-begin 𝓤 H A W E G17 11 (tt, ((tt, tt), ((tt, tt), ((tt, tt), ((tt,
-              tt), (tt, (tt, (tt, (tt, (tt, (tt, (tt, (tt, (tt, (tt, (tt, (tt, (tt, (tt, (tt, (tt, (tt, (tt, (tt, (tt, (tt, (tt, (tt, (tt, (tt, (tt,
-              (tt, (tt, (tt, tt))),),),),),),),),),),),),),),),),),),),),),),),),),),),),),),),)) d70
+          d71 = Typed.g-pre 𝓤 H A W 𝓣 E G17 G18 b47 Δ0 (λ Ψ. Ψ) at70 (Lifetime.g-begin 𝓤 H A W E G17 11 (
+            tt,
+            (
+              (tt, tt),
+              (
+                (tt, tt),
+                (
+                  (tt, tt),
+                  (
+                    (tt, tt),
+                    (
+                      tt,
+                      (
+                        tt,
+                        (
+                          tt,
+                          (
+                            tt,
+                            (
+                              tt,
+                              (
+                                tt,
+                                (
+                                  tt,
+                                  (
+                                    tt,
+                                    (
+                                      tt,
+                                      (
+                                        tt,
+                                        (
+                                          tt,
+                                          (
+                                            tt,
+                                            (
+                                              tt,
+                                              (
+                                                tt,
+                                                (
+                                                  tt,
+                                                  (
+                                                    tt,
+                                                    (
+                                                      tt,
+                                                      (
+                                                        tt,
+                                                        (
+                                                          tt,
+                                                          (
+                                                            tt,
+                                                            (tt, (tt, (tt, (tt, (tt, (tt, (tt, (tt, (tt, tt))))))))),
+                                                          ),
+                                                        ),
+                                                      ),
+                                                    ),
+                                                  ),
+                                                ),
+                                              ),
+                                            ),
+                                          ),
+                                        ),
+                                      ),
+                                    ),
+                                  ),
+                                ),
+                              ),
+                            ),
+                          ),
+                        ),
+                      ),
+                    ),
+                  ),
+                ),
+              ),
+            ),
+          )) d70
+
           d72 : Typed.Typed 𝓤 H A 𝓣 E G16 b48 Δ0 at72
-          d72 = Typed.s-seq 𝓤 H A W 𝓣 E G16 G17 b8 b47 Δ0 (Typed.ask s15) at71 (Relend.t-sl-aggregate 𝓤 H A W E InflightAction.row 𝓣 (Relend.asMut
-              InflightAction.row) G16 19 20 10 ref3 ref3 (λ x. x) (Scalar.oFld 4 ((Syntax.field 1) ∷ List.[]) (Syntax.tyInt Syntax.w64) 8 λ v.
-              Shared.lenV (v .0)) (Reads'.as-is 𝓤 H A (Relend.msptr InflightAction.row ref3 10)) (Reads'.room-gone 𝓤 H A (Syntax.tyStruct (38 ∷ 91 ∷
-              93 ∷ List.[]) (Syntax.tcons ref3 (Syntax.tcons (Syntax.tyInt Syntax.w64) Syntax.tnil)))) (Relend.reads-owed-len 𝓤 H A W
-              InflightAction.row ref8 3 10 life3 8 Path.refl, Path.refl,) Path.refl Path.refl λ b o k. tt) d71
+          d72 = Typed.s-seq 𝓤 H A W 𝓣 E G16 G17 b8 b47 Δ0 (Typed.ask s15) at71 (Relend.t-sl-aggregate 𝓤 H A W E
+              InflightAction.row 𝓣 (Relend.asMut InflightAction.row) G16 19 20 10 ref3 ref3 (λ x. x) (Scalar.oFld 4
+              ((Syntax.field 1) ∷ List.[]) (Syntax.tyInt Syntax.w64) 8 λ v. Shared.lenV (v .0)) (Reads'.as-is 𝓤 H A
+              (Relend.msptr InflightAction.row ref3 10)) (Reads'.room-gone 𝓤 H A slice3) (
+                Relend.reads-owed-len 𝓤 H A W InflightAction.row ref8 3 10 life3 8 Path.refl,
+                Path.refl,
+              ) Path.refl Path.refl λ b o k. tt) d71
+
           d73 : Typed.Typed 𝓤 H A 𝓣 E G15 b49 Δ0 at73
-          d73 = Typed.s-seq 𝓤 H A W 𝓣 E G15 G16 b7 b48 Δ0 (Typed.give s14) at72 (Relend.t-sl-relend 𝓤 H A W E InflightAction.row 𝓣 G15 4 19 3 10 ref8
-              ref3 life3 0 (λ x. x) (Reads'.as-is 𝓤 H A (Mut.mslice InflightAction.row ref8 3)) (Reads'.room-gone 𝓤 H A ref3) Path.refl tt Path.refl
-              Path.refl Path.refl λ b o. tt) d72
+          d73 = Typed.s-seq 𝓤 H A W 𝓣 E G15 G16 b7 b48 Δ0 (Typed.give s14) at72 (Relend.t-sl-relend 𝓤 H A W E
+              InflightAction.row 𝓣 G15 4 19 3 10 ref8 ref3 life3 0 (λ x. x)
+              (Reads'.as-is 𝓤 H A (Mut.mslice InflightAction.row ref8 3)) (Reads'.room-gone 𝓤 H A ref3) Path.refl tt
+              Path.refl Path.refl Path.refl λ b o. tt) d72
+
           d74 : Typed.Typed 𝓤 H A 𝓣 E G14 b49 Δ0 at74
-          d74 = Typed.g-pre 𝓤 H A W 𝓣 E G14 G15 b49 Δ0 (λ Ψ. Ψ) at73 (Lifetime.g-begin 𝓤 H A W E G14 10 (tt, ((tt, tt), ((tt, tt), ((tt, tt), (tt,
-              (tt, (tt, (tt, (tt, (tt, (tt, (tt, (tt, (tt, (tt, (tt, (tt, (tt, (tt, (tt, (tt, (tt, (tt, (tt, (tt, (tt, (tt, (tt, (tt, (tt, (tt, (tt,
-              (tt, (tt, tt))),),),),),),),),),),),),),),),),),),),),),),),),),),),),),),),)) d73
+          d74 = Typed.g-pre 𝓤 H A W 𝓣 E G14 G15 b49 Δ0 (λ Ψ. Ψ) at73 (Lifetime.g-begin 𝓤 H A W E G14 10 (
+            tt,
+            (
+              (tt, tt),
+              (
+                (tt, tt),
+                (
+                  (tt, tt),
+                  (
+                    tt,
+                    (
+                      tt,
+                      (
+                        tt,
+                        (
+                          tt,
+                          (
+                            tt,
+                            (
+                              tt,
+                              (
+                                tt,
+                                (
+                                  tt,
+                                  (
+                                    tt,
+                                    (
+                                      tt,
+                                      (
+                                        tt,
+                                        (
+                                          tt,
+                                          (
+                                            tt,
+                                            (
+                                              tt,
+                                              (
+                                                tt,
+                                                (
+                                                  tt,
+                                                  (
+                                                    tt,
+                                                    (
+                                                      tt,
+                                                      (
+                                                        tt,
+                                                        (
+                                                          tt,
+                                                          (
+                                                            tt,
+                                                            (tt, (tt, (tt, (tt, (tt, (tt, (tt, (tt, (tt, tt))))))))),
+                                                          ),
+                                                        ),
+                                                      ),
+                                                    ),
+                                                  ),
+                                                ),
+                                              ),
+                                            ),
+                                          ),
+                                        ),
+                                      ),
+                                    ),
+                                  ),
+                                ),
+                              ),
+                            ),
+                          ),
+                        ),
+                      ),
+                    ),
+                  ),
+                ),
+              ),
+            ),
+          )) d73
+
           d75 : Typed.Typed 𝓤 H A 𝓣 E G13 b50 Δ0 at75
-          d75 = Typed.s-seq 𝓤 H A W 𝓣 E G13 G14 b6 b49 Δ0 (Typed.ask s12) at74 (Relend.t-sl-aggregate 𝓤 H A W E ReservationUsage.row 𝓣 (Relend.asMut
-              ReservationUsage.row) G13 17 18 9 ref2 ref2 (λ x. x) (Scalar.oFld 3 ((Syntax.field 1) ∷ List.[]) (Syntax.tyInt Syntax.w64) 8 λ v.
-              Shared.lenV (v .0)) (Reads'.as-is 𝓤 H A (Relend.msptr ReservationUsage.row ref2 9)) (Reads'.room-gone 𝓤 H A (Syntax.tyStruct (38 ∷ 91 ∷
-              93 ∷ List.[]) (Syntax.tcons ref2 (Syntax.tcons (Syntax.tyInt Syntax.w64) Syntax.tnil)))) (Relend.reads-owed-len 𝓤 H A W
-              ReservationUsage.row ref7 2 9 life2 8 Path.refl, Path.refl,) Path.refl Path.refl λ b o k. tt) d74
+          d75 = Typed.s-seq 𝓤 H A W 𝓣 E G13 G14 b6 b49 Δ0 (Typed.ask s12) at74 (Relend.t-sl-aggregate 𝓤 H A W E
+              ReservationUsage.row 𝓣 (Relend.asMut ReservationUsage.row) G13 17 18 9 ref2 ref2 (λ x. x) (Scalar.oFld 3
+              ((Syntax.field 1) ∷ List.[]) (Syntax.tyInt Syntax.w64) 8 λ v. Shared.lenV (v .0)) (Reads'.as-is 𝓤 H A
+              (Relend.msptr ReservationUsage.row ref2 9)) (Reads'.room-gone 𝓤 H A slice2) (
+                Relend.reads-owed-len 𝓤 H A W ReservationUsage.row ref7 2 9 life2 8 Path.refl,
+                Path.refl,
+              ) Path.refl Path.refl λ b o k. tt) d74
+
           d76 : Typed.Typed 𝓤 H A 𝓣 E G12 b51 Δ0 at76
-          d76 = Typed.s-seq 𝓤 H A W 𝓣 E G12 G13 b5 b50 Δ0 (Typed.give s11) at75 (Relend.t-sl-relend 𝓤 H A W E ReservationUsage.row 𝓣 G12 3 17 2 9 ref7
-              ref2 life2 0 (λ x. x) (Reads'.as-is 𝓤 H A (Mut.mslice ReservationUsage.row ref7 2)) (Reads'.room-gone 𝓤 H A ref2) Path.refl tt Path.refl
-              Path.refl Path.refl λ b o. tt) d75
+          d76 = Typed.s-seq 𝓤 H A W 𝓣 E G12 G13 b5 b50 Δ0 (Typed.give s11) at75 (Relend.t-sl-relend 𝓤 H A W E
+              ReservationUsage.row 𝓣 G12 3 17 2 9 ref7 ref2 life2 0 (λ x. x) (Reads'.as-is 𝓤 H A
+              (Mut.mslice ReservationUsage.row ref7 2)) (Reads'.room-gone 𝓤 H A ref2) Path.refl tt Path.refl Path.refl
+              Path.refl λ b o. tt) d75
+
           d77 : Typed.Typed 𝓤 H A 𝓣 E G11 b51 Δ0 at77
-          d77 = Typed.g-pre 𝓤 H A W 𝓣 E G11 G12 b51 Δ0 (λ Ψ. Ψ) at76 (Lifetime.g-begin 𝓤 H A W E G11 9 (tt, ((tt, tt), ((tt, tt), (tt, (tt, (tt, (tt,
-              (tt, (tt, (tt, (tt, (tt, (tt, (tt, (tt, (tt, (tt, (tt, (tt, (tt, (tt, (tt, (tt, (tt, (tt, (tt, (tt, (tt, (tt, (tt, (tt, (tt, (tt, (tt,
-              tt))),),),),),),),),),),),),),),),),),),),),),),),),),),),),),),),)) d76
+          d77 = Typed.g-pre 𝓤 H A W 𝓣 E G11 G12 b51 Δ0 (λ Ψ. Ψ) at76 (Lifetime.g-begin 𝓤 H A W E G11 9 (
+            tt,
+            (
+              (tt, tt),
+              (
+                (tt, tt),
+                (
+                  tt,
+                  (
+                    tt,
+                    (
+                      tt,
+                      (
+                        tt,
+                        (
+                          tt,
+                          (
+                            tt,
+                            (
+                              tt,
+                              (
+                                tt,
+                                (
+                                  tt,
+                                  (
+                                    tt,
+                                    (
+                                      tt,
+                                      (
+                                        tt,
+                                        (
+                                          tt,
+                                          (
+                                            tt,
+                                            (
+                                              tt,
+                                              (
+                                                tt,
+                                                (
+                                                  tt,
+                                                  (
+                                                    tt,
+                                                    (
+                                                      tt,
+                                                      (
+                                                        tt,
+                                                        (
+                                                          tt,
+                                                          (
+                                                            tt,
+                                                            (tt, (tt, (tt, (tt, (tt, (tt, (tt, (tt, (tt, tt))))))))),
+                                                          ),
+                                                        ),
+                                                      ),
+                                                    ),
+                                                  ),
+                                                ),
+                                              ),
+                                            ),
+                                          ),
+                                        ),
+                                      ),
+                                    ),
+                                  ),
+                                ),
+                              ),
+                            ),
+                          ),
+                        ),
+                      ),
+                    ),
+                  ),
+                ),
+              ),
+            ),
+          )) d76
+
           d78 : Typed.Typed 𝓤 H A 𝓣 E G10 b52 Δ0 at78
-          d78 = Typed.s-seq 𝓤 H A W 𝓣 E G10 G11 b4 b51 Δ0 (Typed.ask s9) at77 (Relend.t-sl-aggregate 𝓤 H A W E RelayCircuit.row 𝓣 (Relend.asMut
-              RelayCircuit.row) G10 15 16 8 ref1 ref1 (λ x. x) (Scalar.oFld 2 ((Syntax.field 1) ∷ List.[]) (Syntax.tyInt Syntax.w64) 8 λ v.
-              Shared.lenV (v .0)) (Reads'.as-is 𝓤 H A (Relend.msptr RelayCircuit.row ref1 8)) (Reads'.room-gone 𝓤 H A (Syntax.tyStruct (38 ∷ 91 ∷ 93 ∷
-              List.[]) (Syntax.tcons ref1 (Syntax.tcons (Syntax.tyInt Syntax.w64) Syntax.tnil)))) (Relend.reads-owed-len 𝓤 H A W RelayCircuit.row ref6
-              1 8 life1 8 Path.refl, Path.refl,) Path.refl Path.refl λ b o k. tt) d77
+          d78 = Typed.s-seq 𝓤 H A W 𝓣 E G10 G11 b4 b51 Δ0 (Typed.ask s9) at77 (Relend.t-sl-aggregate 𝓤 H A W E
+              RelayCircuit.row 𝓣 (Relend.asMut RelayCircuit.row) G10 15 16 8 ref1 ref1 (λ x. x) (Scalar.oFld 2
+              ((Syntax.field 1) ∷ List.[]) (Syntax.tyInt Syntax.w64) 8 λ v. Shared.lenV (v .0))
+              (Reads'.as-is 𝓤 H A (Relend.msptr RelayCircuit.row ref1 8)) (Reads'.room-gone 𝓤 H A slice1) (
+                Relend.reads-owed-len 𝓤 H A W RelayCircuit.row ref6 1 8 life1 8 Path.refl,
+                Path.refl,
+              ) Path.refl Path.refl λ b o k. tt) d77
+
           d79 : Typed.Typed 𝓤 H A 𝓣 E G9 b53 Δ0 at79
-          d79 = Typed.s-seq 𝓤 H A W 𝓣 E G9 G10 b3 b52 Δ0 (Typed.give s8) at78 (Relend.t-sl-relend 𝓤 H A W E RelayCircuit.row 𝓣 G9 2 15 1 8 ref6 ref1
-              life1 0 (λ x. x) (Reads'.as-is 𝓤 H A (Mut.mslice RelayCircuit.row ref6 1)) (Reads'.room-gone 𝓤 H A ref1) Path.refl tt Path.refl
-              Path.refl Path.refl λ b o. tt) d78
+          d79 = Typed.s-seq 𝓤 H A W 𝓣 E G9 G10 b3 b52 Δ0 (Typed.give s8) at78 (Relend.t-sl-relend 𝓤 H A W E
+              RelayCircuit.row 𝓣 G9 2 15 1 8 ref6 ref1 life1 0 (λ x. x)
+              (Reads'.as-is 𝓤 H A (Mut.mslice RelayCircuit.row ref6 1)) (Reads'.room-gone 𝓤 H A ref1) Path.refl tt
+              Path.refl Path.refl Path.refl λ b o. tt) d78
+
           d80 : Typed.Typed 𝓤 H A 𝓣 E G8 b53 Δ0 at80
-          d80 = Typed.g-pre 𝓤 H A W 𝓣 E G8 G9 b53 Δ0 (λ Ψ. Ψ) at79 (Lifetime.g-begin 𝓤 H A W E G8 8 (tt, ((tt, tt), (tt, (tt, (tt, (tt, (tt, (tt, (tt,
-              (tt, (tt, (tt, (tt, (tt, (tt, (tt, (tt, (tt, (tt, (tt, (tt, (tt, (tt, (tt, (tt, (tt, (tt, (tt, (tt, (tt, (tt, (tt, (tt, (tt,
-              tt))),),),),),),),),),),),),),),),),),),),),),),),),),),),),),),),)) d79
+          d80 = Typed.g-pre 𝓤 H A W 𝓣 E G8 G9 b53 Δ0 (λ Ψ. Ψ) at79 (Lifetime.g-begin 𝓤 H A W E G8 8 (
+            tt,
+            (
+              (tt, tt),
+              (
+                tt,
+                (
+                  tt,
+                  (
+                    tt,
+                    (
+                      tt,
+                      (
+                        tt,
+                        (
+                          tt,
+                          (
+                            tt,
+                            (
+                              tt,
+                              (
+                                tt,
+                                (
+                                  tt,
+                                  (
+                                    tt,
+                                    (
+                                      tt,
+                                      (
+                                        tt,
+                                        (
+                                          tt,
+                                          (
+                                            tt,
+                                            (
+                                              tt,
+                                              (
+                                                tt,
+                                                (
+                                                  tt,
+                                                  (
+                                                    tt,
+                                                    (
+                                                      tt,
+                                                      (
+                                                        tt,
+                                                        (
+                                                          tt,
+                                                          (
+                                                            tt,
+                                                            (tt, (tt, (tt, (tt, (tt, (tt, (tt, (tt, (tt, tt))))))))),
+                                                          ),
+                                                        ),
+                                                      ),
+                                                    ),
+                                                  ),
+                                                ),
+                                              ),
+                                            ),
+                                          ),
+                                        ),
+                                      ),
+                                    ),
+                                  ),
+                                ),
+                              ),
+                            ),
+                          ),
+                        ),
+                      ),
+                    ),
+                  ),
+                ),
+              ),
+            ),
+          )) d79
+
           d81 : Typed.Typed 𝓤 H A 𝓣 E G7 b54 Δ0 at81
-          d81 = Typed.s-seq 𝓤 H A W 𝓣 E G7 G8 b2 b53 Δ0 (Typed.ask s6) at80 (Relend.t-sl-aggregate 𝓤 H A W E RelayPending.row 𝓣 (Relend.asMut
-              RelayPending.row) G7 13 14 7 ref0 ref0 (λ x. x) (Scalar.oFld 1 ((Syntax.field 1) ∷ List.[]) (Syntax.tyInt Syntax.w64) 8 λ v. Shared.lenV
-              (v .0)) (Reads'.as-is 𝓤 H A (Relend.msptr RelayPending.row ref0 7)) (Reads'.room-gone 𝓤 H A (Syntax.tyStruct (38 ∷ 91 ∷ 93 ∷ List.[])
-              (Syntax.tcons ref0 (Syntax.tcons (Syntax.tyInt Syntax.w64) Syntax.tnil)))) (Relend.reads-owed-len 𝓤 H A W RelayPending.row ref5 0 7
-              life0 8 Path.refl, Path.refl,) Path.refl Path.refl λ b o k. tt) d80
+          d81 = Typed.s-seq 𝓤 H A W 𝓣 E G7 G8 b2 b53 Δ0 (Typed.ask s6) at80 (Relend.t-sl-aggregate 𝓤 H A W E
+              RelayPending.row 𝓣 (Relend.asMut RelayPending.row) G7 13 14 7 ref0 ref0 (λ x. x) (Scalar.oFld 1
+              ((Syntax.field 1) ∷ List.[]) (Syntax.tyInt Syntax.w64) 8 λ v. Shared.lenV (v .0))
+              (Reads'.as-is 𝓤 H A (Relend.msptr RelayPending.row ref0 7)) (Reads'.room-gone 𝓤 H A slice0) (
+                Relend.reads-owed-len 𝓤 H A W RelayPending.row ref5 0 7 life0 8 Path.refl,
+                Path.refl,
+              ) Path.refl Path.refl λ b o k. tt) d80
+
           d82 : Typed.Typed 𝓤 H A 𝓣 E G6 b55 Δ0 at82
-          d82 = Typed.s-seq 𝓤 H A W 𝓣 E G6 G7 b1 b54 Δ0 (Typed.give s5) at81 (Relend.t-sl-relend 𝓤 H A W E RelayPending.row 𝓣 G6 1 13 0 7 ref5 ref0
-              life0 0 (λ x. x) (Reads'.as-is 𝓤 H A (Mut.mslice RelayPending.row ref5 0)) (Reads'.room-gone 𝓤 H A ref0) Path.refl tt Path.refl
-              Path.refl Path.refl λ b o. tt) d81
+          d82 = Typed.s-seq 𝓤 H A W 𝓣 E G6 G7 b1 b54 Δ0 (Typed.give s5) at81 (Relend.t-sl-relend 𝓤 H A W E
+              RelayPending.row 𝓣 G6 1 13 0 7 ref5 ref0 life0 0 (λ x. x)
+              (Reads'.as-is 𝓤 H A (Mut.mslice RelayPending.row ref5 0)) (Reads'.room-gone 𝓤 H A ref0) Path.refl tt
+              Path.refl Path.refl Path.refl λ b o. tt) d81
+
           d83 : Typed.Typed 𝓤 H A 𝓣 E G5 b55 Δ0 at83
-          d83 = Typed.g-pre 𝓤 H A W 𝓣 E G5 G6 b55 Δ0 (λ Ψ. Ψ) at82 (Lifetime.g-begin 𝓤 H A W E G5 7 (tt, (tt, (tt, (tt, (tt, (tt, (tt, (tt, (tt, (tt,
-              (tt, (tt, (tt, (tt, (tt, (tt, (tt, (tt, (tt, (tt, (tt, (tt, (tt, (tt, (tt, (tt, (tt, (tt, (tt, (tt, (tt, (tt, (tt, (tt,
-              tt))),),),),),),),),),),),),),),),),),),),),),),),),),),),),),),),)) d82
+          d83 = Typed.g-pre 𝓤 H A W 𝓣 E G5 G6 b55 Δ0 (λ Ψ. Ψ) at82 (Lifetime.g-begin 𝓤 H A W E G5 7 (
+            tt,
+            (
+              tt,
+              (
+                tt,
+                (
+                  tt,
+                  (
+                    tt,
+                    (
+                      tt,
+                      (
+                        tt,
+                        (
+                          tt,
+                          (
+                            tt,
+                            (
+                              tt,
+                              (
+                                tt,
+                                (
+                                  tt,
+                                  (
+                                    tt,
+                                    (
+                                      tt,
+                                      (
+                                        tt,
+                                        (
+                                          tt,
+                                          (
+                                            tt,
+                                            (
+                                              tt,
+                                              (
+                                                tt,
+                                                (
+                                                  tt,
+                                                  (
+                                                    tt,
+                                                    (
+                                                      tt,
+                                                      (
+                                                        tt,
+                                                        (
+                                                          tt,
+                                                          (
+                                                            tt,
+                                                            (tt, (tt, (tt, (tt, (tt, (tt, (tt, (tt, (tt, tt))))))))),
+                                                          ),
+                                                        ),
+                                                      ),
+                                                    ),
+                                                  ),
+                                                ),
+                                              ),
+                                            ),
+                                          ),
+                                        ),
+                                      ),
+                                    ),
+                                  ),
+                                ),
+                              ),
+                            ),
+                          ),
+                        ),
+                      ),
+                    ),
+                  ),
+                ),
+              ),
+            ),
+          )) d82
+
           d84 : Typed.Typed 𝓤 H A 𝓣 E G4 b56 Δ0 at84
-          d84 = Typed.s-seq 𝓤 H A W 𝓣 E G4 G5 b0 b55 Δ0 (Typed.both s3) at83 (Plain.t-call-plain 𝓤 H A W 𝓣 0 ps·0 r·0 (claims· .0) (claims· .1)
-              "cases::script::packet" (known .0) E (λ pos β. β) G4 (Num.vFld 9 ((Syntax.field 3) ∷ List.[]) 17 λ x. Script.struct .as-values x .1 .1
-              .1 .0, (Num.vFld 9 ((Syntax.field 5) ∷ List.[]) 24 λ x. Script.struct .as-values x .1 .1 .1 .1 .1 .0, tt,),) 10 List.[] (Call.sub-id 𝓤 H
-              A W (G4 .slots)) ((Reads.reads-field 𝓤 H A W Script.the-type Laws.the-laws 3 (Syntax.tyInt Syntax.w8) 17 Path.refl, Path.refl,),
-              ((Reads.reads-field 𝓤 H A W Script.the-type Laws.the-laws 5 (Syntax.tyInt Syntax.w64) 24 Path.refl, Path.refl,), tt,),)
-              (Reads'.room-gone 𝓤 H A Laws''.mir) tt Path.refl) d83
+          d84 = Typed.s-seq 𝓤 H A W 𝓣 E G4 G5 b0 b55 Δ0 (Typed.both s3) at83 (Plain.t-call-plain 𝓤 H A W 𝓣 0 ps·0 r·0
+              (claims· .0) (claims· .1) "cases::script::packet" (known .0) E (λ pos β. β) G4 (
+                Num.vFld 9 ((Syntax.field 3) ∷ List.[]) 17 λ x. Script.struct .as-values x .1 .1 .1 .0,
+                (Num.vFld 9 ((Syntax.field 5) ∷ List.[]) 24 λ x. Script.struct .as-values x .1 .1 .1 .1 .1 .0, tt),
+              ) 10 List.[] (Call.sub-id 𝓤 H A W (G4 .slots)) (
+                (
+                  Reads.reads-field 𝓤 H A W Script.the-type Laws.the-laws 3 (Syntax.tyInt Syntax.w8) 17 Path.refl,
+                  Path.refl,
+                ),
+                (
+                  (
+                    Reads.reads-field 𝓤 H A W Script.the-type Laws.the-laws 5 (Syntax.tyInt Syntax.w64) 24 Path.refl,
+                    Path.refl,
+                  ),
+                  tt,
+                ),
+              ) (Reads'.room-gone 𝓤 H A Laws''.mir) tt Path.refl) d83
+
           d85 : Typed.Typed 𝓤 H A 𝓣 E G3 b56 Δ0 at85
-          d85 = Typed.g-pre 𝓤 H A W 𝓣 E G3 G4 b56 Δ0 (Typed.give s2) at84 (Know.g-shs-known 𝓤 H A W (Referent.fInt Syntax.w8) E G3 8 6 ref11 life6 0
-              (λ x. x) record { fits = Dec.lit< tt } (Reads'.as-is 𝓤 H A (Rows.sslice (Referent.rtF (Referent.fInt Syntax.w8)) ref11 6)) Path.refl tt)
-              d84
+          d85 = Typed.g-pre 𝓤 H A W 𝓣 E G3 G4 b56 Δ0 (Typed.give s2) at84 (Know.g-shs-known 𝓤 H A W
+              (Referent.fInt Syntax.w8) E G3 8 6 ref11 life6 0 (λ x. x) record { fits = Dec.lit< tt } (Reads'.as-is 𝓤 H
+              A (Rows.sslice (Referent.rtF (Referent.fInt Syntax.w8)) ref11 6)) Path.refl tt) d84
+
           d86 : Typed.Typed 𝓤 H A 𝓣 E G2 b56 Δ0 at86
-          d86 = Typed.g-pre 𝓤 H A W 𝓣 E G2 G3 b56 Δ0 (Typed.give s1) at85 (Know.g-shs-known 𝓤 H A W (Referent.fInt Syntax.w8) E G2 7 5 ref10 life5 0
-              (λ x. x) record { fits = Dec.lit< tt } (Reads'.as-is 𝓤 H A (Rows.sslice (Referent.rtF (Referent.fInt Syntax.w8)) ref10 5)) Path.refl tt)
-              d85
+          d86 = Typed.g-pre 𝓤 H A W 𝓣 E G2 G3 b56 Δ0 (Typed.give s1) at85 (Know.g-shs-known 𝓤 H A W
+              (Referent.fInt Syntax.w8) E G2 7 5 ref10 life5 0 (λ x. x) record { fits = Dec.lit< tt } (Reads'.as-is 𝓤 H
+              A (Rows.sslice (Referent.rtF (Referent.fInt Syntax.w8)) ref10 5)) Path.refl tt) d85
+
           d87 : Typed.Typed 𝓤 H A 𝓣 E G0 b56 Δ0 at87
-          d87 = Typed.g-pre 𝓤 H A W 𝓣 E G0 G2 b56 Δ0 (Typed.give s0) at86 (Know.g-sl-known 𝓤 H A W (Referent.fInt Syntax.w32) E G0 5 4 ref9 life4 0 (λ
-              x. x) record { fits = Dec.lit< tt } (Reads'.as-is 𝓤 H A (Mut.mslice (Referent.rtF (Referent.fInt Syntax.w32)) ref9 4)) Path.refl tt) d86
+          d87 = Typed.g-pre 𝓤 H A W 𝓣 E G0 G2 b56 Δ0 (Typed.give s0) at86 (Know.g-sl-known 𝓤 H A W
+              (Referent.fInt Syntax.w32) E G0 5 4 ref9 life4 0 (λ x. x) record { fits = Dec.lit< tt } (Reads'.as-is 𝓤 H
+              A (Mut.mslice (Referent.rtF (Referent.fInt Syntax.w32)) ref9 4)) Path.refl tt) d86
+
           pub typed : Typed.Typed 𝓤 H A 𝓣 E (Function.Γin 7 ps r xs m κs qs) b56 (Function.Δret 7 ps r xs m κs qs) Φ
           typed = d87
+
       module _ (κs : Lifetimes.Lfts 7) where
         pub record Args : Type 0 where
-          pub pending : Kinds.Den { n = 7 } κs (MutSlice.pMutS RelayPending.row 0 tt)
-          pub circuits : Kinds.Den { n = 7 } κs (MutSlice.pMutS RelayCircuit.row 1 tt)
-          pub ledger : Kinds.Den { n = 7 } κs (MutSlice.pMutS ReservationUsage.row 2 tt)
-          pub inflight : Kinds.Den { n = 7 } κs (MutSlice.pMutS InflightAction.row 3 tt)
-          pub out : Kinds.Den { n = 7 } κs (MutSlice.pMutS (Referent.rtF (Referent.fInt Syntax.w32)) 4 tt)
-          pub kept : Kinds.Den { n = 7 } κs (Value.pVal record { ty = Declared'.row Relayed.the-type; one = Path.refl; val = Laws''''''.val
-              Relayed.the-type Laws'''.the-laws; tells = Laws''''''.tells Relayed.the-type Laws'''.the-laws; still = Laws''''''.still Relayed.the-type
-              Laws'''.the-copy Exit.yes; row = Rows.whole (Declared'.row Relayed.the-type); rd = λ x. x; mk = λ x. x; } λ M 𝓤 H A W. record { copies =
-              Laws''''''.copy Relayed.the-type Laws'''.the-copy 𝓤 H A W; lawful = Laws''''''.lawful Relayed.the-type Laws'''.the-laws 𝓤 H A W; makes =
-              Laws''''''.makes Relayed.the-type Laws'''.the-plain 𝓤 H A; in-mem = Local.mem-whole 𝓤 H A W (Declared'.row Relayed.the-type); of-mem =
-              Local.whole-mem 𝓤 H A W (Declared'.row Relayed.the-type); })
-          pub first : Kinds.Den { n = 7 } κs (ShrSlice.pShrS (Referent.rtF (Referent.fInt Syntax.w8)) 5 tt)
-          pub second : Kinds.Den { n = 7 } κs (ShrSlice.pShrS (Referent.rtF (Referent.fInt Syntax.w8)) 6 tt)
-          pub script : Kinds.Den { n = 7 } κs (Value.pVal record { ty = Declared'.row Script.the-type; one = Path.refl; val = Laws''''''.val
-              Script.the-type Laws.the-laws; tells = Laws''''''.tells Script.the-type Laws.the-laws; still = Laws''''''.still Script.the-type
-              Laws.the-copy Exit.yes; row = Rows.whole (Declared'.row Script.the-type); rd = λ x. x; mk = λ x. x; } λ M 𝓤 H A W. record { copies =
-              Laws''''''.copy Script.the-type Laws.the-copy 𝓤 H A W; lawful = Laws''''''.lawful Script.the-type Laws.the-laws 𝓤 H A W; makes =
-              Laws''''''.makes Script.the-type Laws.the-plain 𝓤 H A; in-mem = Local.mem-whole 𝓤 H A W (Declared'.row Script.the-type); of-mem =
-              Local.whole-mem 𝓤 H A W (Declared'.row Script.the-type); })
+          pub pending : Kinds.Den {n = 7} κs (MutSlice.pMutS RelayPending.row 0 tt)
+          pub circuits : Kinds.Den {n = 7} κs (MutSlice.pMutS RelayCircuit.row 1 tt)
+          pub ledger : Kinds.Den {n = 7} κs (MutSlice.pMutS ReservationUsage.row 2 tt)
+          pub inflight : Kinds.Den {n = 7} κs (MutSlice.pMutS InflightAction.row 3 tt)
+          pub out : Kinds.Den {n = 7} κs (MutSlice.pMutS (Referent.rtF (Referent.fInt Syntax.w32)) 4 tt)
+          pub kept : Kinds.Den {n = 7} κs (StructRow.param Relayed.the-type Laws'''.the-laws Laws'''.the-copy
+              Laws'''.the-plain)
+          pub first : Kinds.Den {n = 7} κs (ShrSlice.pShrS (Referent.rtF (Referent.fInt Syntax.w8)) 5 tt)
+          pub second : Kinds.Den {n = 7} κs (ShrSlice.pShrS (Referent.rtF (Referent.fInt Syntax.w8)) 6 tt)
+          pub script : Kinds.Den {n = 7} κs (StructRow.param Script.the-type Laws.the-laws Laws.the-copy Laws.the-plain)
+
         abbrev pub dens : (a : Args) → Kinds.Dens κs ps
-        dens = λ a. (a .pending, (a .circuits, (a .ledger, (a .inflight, (a .out, (a .kept, (a .first, (a .second, (a .script, tt)))))),),),)
+        dens = λ a. (
+          a .pending,
+          (a .circuits, (a .ledger, (a .inflight, (a .out, (a .kept, (a .first, (a .second, (a .script, tt)))))))),
+        )
+
       abbrev pub m0 : (κs : Lifetimes.Lfts 7) → (args : Args κs) → Typed.Mo T0
       m0 = λ κs args. (tt, Enter.partsP κs 1 ps xs (dens κs args))
+
       abbrev W0 : (κs : Lifetimes.Lfts 7) → (args : Args κs) → Typed.Want O0
-      W0 = λ κs args. (λ u. ⊥, tt, λ u. Enter.Fixs κs 1 ps xs (dens κs args) (u .1) × Post· κs (dens κs args) (Function.resV r κs (u .0))
-          (Clauses.atExit (Kinds.endedOf 7 ps r) κs (dens κs args) (Enter.lastsP κs 1 ps xs (dens κs args) (u .1))),)
+      W0 = λ κs args. (
+        λ u. ⊥,
+        tt,
+        λ u. Enter.Fixs κs 1 ps xs (dens κs args) (u .1) × Post· κs (dens κs args) (Function.resV r κs (u .0)) (Clauses.atExit
+            (Kinds.endedOf 7 ps r) κs (dens κs args) (Enter.lastsP κs 1 ps xs (dens κs args) (u .1))),
+      )
+
       pub record Start : Type 0 where
         pub κs : Lifetimes.Lfts 7
         pub args : Args κs
         pub good : Kinds.GoodsP κs ps (dens κs args)
         pub pre : Pre· κs (dens κs args)
+
       abbrev pub m1 : (before : Start) → (given : s0 .gives (m0 (before .κs) (before .args))) → Typed.Mo T2
       m1 = λ before given. s0 .next (m0 (before .κs) (before .args)) given
+
       module _ (before· : Start) where
         pub record After-slice-known·own : Type 0 where
           pub given : s0 .gives (m0 (before· .κs) (before· .args))
+
       pub record After-slice-known : Type 0 where
         pub before : Start
         pub slice-known : After-slice-known·own before
-      abbrev pub m2 : (before : After-slice-known) → (given : s1 .gives (m1 (before .before) (before .slice-known .given))) → Typed.Mo T3
+
+      abbrev pub m2 : (before : After-slice-known) → (given : s1 .gives
+          (m1 (before .before) (before .slice-known .given))) → Typed.Mo T3
       m2 = λ before given. s1 .next (m1 (before .before) (before .slice-known .given)) given
+
       module _ (before· : After-slice-known) where
         pub record After-shared-slice-known·own : Type 0 where
           pub given : s1 .gives (m1 (before· .before) (before· .slice-known .given))
+
       pub record After-shared-slice-known : Type 0 where
         pub before : After-slice-known
         pub shared-slice-known : After-shared-slice-known·own before
-      abbrev pub m3 : (before : After-shared-slice-known) → (given : s2 .gives (m2 (before .before) (before .shared-slice-known .given))) → Typed.Mo
-          T4
+
+      abbrev pub m3 : (before : After-shared-slice-known) → (given : s2 .gives
+          (m2 (before .before) (before .shared-slice-known .given))) → Typed.Mo T4
       m3 = λ before given. s2 .next (m2 (before .before) (before .shared-slice-known .given)) given
+
       module _ (before· : After-shared-slice-known) where
         pub record After-shared-slice-known2·own : Type 0 where
           pub given : s2 .gives (m2 (before· .before) (before· .shared-slice-known .given))
+
       pub record After-shared-slice-known2 : Type 0 where
         pub before : After-shared-slice-known
         pub shared-slice-known2 : After-shared-slice-known2·own before
+
       abbrev pub Need-packet-requires : Type 0
-      Need-packet-requires = (c : After-shared-slice-known2) → s3 .asks (m3 (c .before) (c .shared-slice-known2 .given))
-      abbrev pub m4 : (before : After-shared-slice-known2) → (given : s3 .gives (m3 (before .before) (before .shared-slice-known2 .given))) → Typed.Mo
-          T5
+      Need-packet-requires = (c : After-shared-slice-known2) → s3 .asks
+          (m3 (c .before) (c .shared-slice-known2 .given))
+
+      abbrev pub m4 : (before : After-shared-slice-known2) → (given : s3 .gives
+          (m3 (before .before) (before .shared-slice-known2 .given))) → Typed.Mo T5
       m4 = λ before given. s3 .next (m3 (before .before) (before .shared-slice-known2 .given)) given
+
       module _ (before· : After-shared-slice-known2) where
         abbrev pub After-packet·own : Type 0
-        After-packet·own = Called.Called ps·0 r·0 (claims· .1) T4 (Num.vFld 9 ((Syntax.field 3) ∷ List.[]) 17 λ x. Script.struct .as-values x .1 .1 .1
-            .0, (Num.vFld 9 ((Syntax.field 5) ∷ List.[]) 24 λ x. Script.struct .as-values x .1 .1 .1 .1 .1 .0, tt,),) (m3 (before· .before) (before·
-            .shared-slice-known2 .given))
+        After-packet·own = Called.Called ps·0 r·0 (claims· .1) T4 args3 (m3 (before· .before)
+            (before· .shared-slice-known2 .given))
+
       pub record After-packet : Type 0 where
         pub before : After-shared-slice-known2
         pub packet : After-packet·own before
-      abbrev pub After-packet·gave : (c : After-packet) → s3 .gives (m3 (c .before .before) (c .before .shared-slice-known2 .given))
-      After-packet·gave = λ c. Called.given ps·0 r·0 (claims· .1) T4 (Num.vFld 9 ((Syntax.field 3) ∷ List.[]) 17 λ x. Script.struct .as-values x .1 .1
-          .1 .0, (Num.vFld 9 ((Syntax.field 5) ∷ List.[]) 24 λ x. Script.struct .as-values x .1 .1 .1 .1 .1 .0, tt,),) (m3 (c .before .before) (c
-          .before .shared-slice-known2 .given)) (c .packet)
-      abbrev pub m5 : (before : After-packet) → (given : s5 .gives (m4 (before .before) (After-packet·gave before))) → Typed.Mo T7
+
+      abbrev pub After-packet·gave : (c : After-packet) → s3 .gives (m3 (c .before .before)
+          (c .before .shared-slice-known2 .given))
+      After-packet·gave = λ c. Called.given ps·0 r·0 (claims· .1) T4 args3 (m3 (c .before .before)
+          (c .before .shared-slice-known2 .given)) (c .packet)
+
+      abbrev pub m5 : (before : After-packet) → (given : s5 .gives (m4 (before .before) (After-packet·gave before))) →
+          Typed.Mo T7
       m5 = λ before given. s5 .next (m4 (before .before) (After-packet·gave before)) given
-      abbrev pub m6 : (before : After-packet) → (given : s5 .gives (m4 (before .before) (After-packet·gave before))) → Typed.Mo T8
+
+      abbrev pub m6 : (before : After-packet) → (given : s5 .gives (m4 (before .before) (After-packet·gave before))) →
+          Typed.Mo T8
       m6 = λ before given. s6 .next (m5 before given)
+
       module _ (before· : After-packet) where
         pub record After-deliver-arg·own : Type 0 where
           pub given : s5 .gives (m4 (before· .before) (After-packet·gave before·))
+
       pub record After-deliver-arg : Type 0 where
         pub before : After-packet
         pub deliver-arg : After-deliver-arg·own before
-      abbrev pub m7 : (before : After-deliver-arg) → (given : s8 .gives (m6 (before .before) (before .deliver-arg .given))) → Typed.Mo T10
+
+      abbrev pub m7 : (before : After-deliver-arg) → (given : s8 .gives
+          (m6 (before .before) (before .deliver-arg .given))) → Typed.Mo T10
       m7 = λ before given. s8 .next (m6 (before .before) (before .deliver-arg .given)) given
-      abbrev pub m8 : (before : After-deliver-arg) → (given : s8 .gives (m6 (before .before) (before .deliver-arg .given))) → Typed.Mo T11
+
+      abbrev pub m8 : (before : After-deliver-arg) → (given : s8 .gives
+          (m6 (before .before) (before .deliver-arg .given))) → Typed.Mo T11
       m8 = λ before given. s9 .next (m7 before given)
+
       module _ (before· : After-deliver-arg) where
         pub record After-deliver-arg2·own : Type 0 where
           pub given : s8 .gives (m6 (before· .before) (before· .deliver-arg .given))
+
       pub record After-deliver-arg2 : Type 0 where
         pub before : After-deliver-arg
         pub deliver-arg2 : After-deliver-arg2·own before
-      abbrev pub m9 : (before : After-deliver-arg2) → (given : s11 .gives (m8 (before .before) (before .deliver-arg2 .given))) → Typed.Mo T13
+
+      abbrev pub m9 : (before : After-deliver-arg2) → (given : s11 .gives
+          (m8 (before .before) (before .deliver-arg2 .given))) → Typed.Mo T13
       m9 = λ before given. s11 .next (m8 (before .before) (before .deliver-arg2 .given)) given
-      abbrev pub m10 : (before : After-deliver-arg2) → (given : s11 .gives (m8 (before .before) (before .deliver-arg2 .given))) → Typed.Mo T14
+
+      abbrev pub m10 : (before : After-deliver-arg2) → (given : s11 .gives
+          (m8 (before .before) (before .deliver-arg2 .given))) → Typed.Mo T14
       m10 = λ before given. s12 .next (m9 before given)
+
       module _ (before· : After-deliver-arg2) where
         pub record After-deliver-arg3·own : Type 0 where
           pub given : s11 .gives (m8 (before· .before) (before· .deliver-arg2 .given))
+
       pub record After-deliver-arg3 : Type 0 where
         pub before : After-deliver-arg2
         pub deliver-arg3 : After-deliver-arg3·own before
-      abbrev pub m11 : (before : After-deliver-arg3) → (given : s14 .gives (m10 (before .before) (before .deliver-arg3 .given))) → Typed.Mo T16
+
+      abbrev pub m11 : (before : After-deliver-arg3) → (given : s14 .gives
+          (m10 (before .before) (before .deliver-arg3 .given))) → Typed.Mo T16
       m11 = λ before given. s14 .next (m10 (before .before) (before .deliver-arg3 .given)) given
-      abbrev pub m12 : (before : After-deliver-arg3) → (given : s14 .gives (m10 (before .before) (before .deliver-arg3 .given))) → Typed.Mo T17
+
+      abbrev pub m12 : (before : After-deliver-arg3) → (given : s14 .gives
+          (m10 (before .before) (before .deliver-arg3 .given))) → Typed.Mo T17
       m12 = λ before given. s15 .next (m11 before given)
+
       module _ (before· : After-deliver-arg3) where
         pub record After-deliver-arg4·own : Type 0 where
           pub given : s14 .gives (m10 (before· .before) (before· .deliver-arg3 .given))
+
       pub record After-deliver-arg4 : Type 0 where
         pub before : After-deliver-arg3
         pub deliver-arg4 : After-deliver-arg4·own before
-      abbrev pub m13 : (before : After-deliver-arg4) → (given : s17 .gives (m12 (before .before) (before .deliver-arg4 .given))) → Typed.Mo T19
+
+      abbrev pub m13 : (before : After-deliver-arg4) → (given : s17 .gives
+          (m12 (before .before) (before .deliver-arg4 .given))) → Typed.Mo T19
       m13 = λ before given. s17 .next (m12 (before .before) (before .deliver-arg4 .given)) given
-      abbrev pub m14 : (before : After-deliver-arg4) → (given : s17 .gives (m12 (before .before) (before .deliver-arg4 .given))) → Typed.Mo T20
+
+      abbrev pub m14 : (before : After-deliver-arg4) → (given : s17 .gives
+          (m12 (before .before) (before .deliver-arg4 .given))) → Typed.Mo T20
       m14 = λ before given. s18 .next (m13 before given)
+
       module _ (before· : After-deliver-arg4) where
         pub record After-deliver-arg5·own : Type 0 where
           pub given : s17 .gives (m12 (before· .before) (before· .deliver-arg4 .given))
+
       pub record After-deliver-arg5 : Type 0 where
         pub before : After-deliver-arg4
         pub deliver-arg5 : After-deliver-arg5·own before
+
       abbrev pub Need-deliver-requires : Type 0
       Need-deliver-requires = (c : After-deliver-arg5) → s19 .asks (m14 (c .before) (c .deliver-arg5 .given))
-      abbrev pub m15 : (before : After-deliver-arg5) → (given : s19 .gives (m14 (before .before) (before .deliver-arg5 .given))) → Typed.Mo T21
+
+      abbrev pub m15 : (before : After-deliver-arg5) → (given : s19 .gives
+          (m14 (before .before) (before .deliver-arg5 .given))) → Typed.Mo T21
       m15 = λ before given. s19 .next (m14 (before .before) (before .deliver-arg5 .given)) given
+
       module _ (before· : After-deliver-arg5) where
         abbrev pub After-deliver·own : Type 0
-        After-deliver·own = Called.Called ps·1 r·1 (claims· .3) T20 (record { pos = 14; ty = Syntax.tyRef Syntax.erased Syntax.mut RelayPending.to;
-            ref = λ x. x; }, (record { pos = 16; ty = Syntax.tyRef Syntax.erased Syntax.mut RelayCircuit.to; ref = λ x. x; }, (record { pos = 18; ty =
-            Syntax.tyRef Syntax.erased Syntax.mut ReservationUsage.to; ref = λ x. x; }, (record { pos = 20; ty = Syntax.tyRef Syntax.erased Syntax.mut
-            InflightAction.to; ref = λ x. x; }, (record { pos = 22; ty = Syntax.tyRef Syntax.erased Syntax.mut (Syntax.tyInt Syntax.w32); ref = λ x.
-            x; }, (record { pos = 6; st = List.[]; d = 0; at = λ x. x }, (record { pos = 10; st = List.[]; d = 0; at = λ x. x }, (Num.vFld 9
-            ((Syntax.field 4) ∷ List.[]) 18 λ x. Script.struct .as-values x .1 .1 .1 .1 .0, (record { pos = 7; ty = Syntax.tyRef (Syntax.named 5)
-            Syntax.imm (Syntax.tyInt Syntax.w8); ref = λ x. x; }, tt,),),),),),),),),) (m14 (before· .before) (before· .deliver-arg5 .given))
+        After-deliver·own = Called.Called ps·1 r·1 (claims· .3) T20 args19
+            (m14 (before· .before) (before· .deliver-arg5 .given))
+
       pub record After-deliver : Type 0 where
         pub before : After-deliver-arg5
         pub deliver : After-deliver·own before
-      abbrev pub After-deliver·gave : (c : After-deliver) → s19 .gives (m14 (c .before .before) (c .before .deliver-arg5 .given))
-      After-deliver·gave = λ c. Called.given ps·1 r·1 (claims· .3) T20 (record { pos = 14; ty = Syntax.tyRef Syntax.erased Syntax.mut RelayPending.to;
-          ref = λ x. x; }, (record { pos = 16; ty = Syntax.tyRef Syntax.erased Syntax.mut RelayCircuit.to; ref = λ x. x; }, (record { pos = 18; ty =
-          Syntax.tyRef Syntax.erased Syntax.mut ReservationUsage.to; ref = λ x. x; }, (record { pos = 20; ty = Syntax.tyRef Syntax.erased Syntax.mut
-          InflightAction.to; ref = λ x. x; }, (record { pos = 22; ty = Syntax.tyRef Syntax.erased Syntax.mut (Syntax.tyInt Syntax.w32); ref = λ x. x;
-          }, (record { pos = 6; st = List.[]; d = 0; at = λ x. x }, (record { pos = 10; st = List.[]; d = 0; at = λ x. x }, (Num.vFld 9 ((Syntax.field
-          4) ∷ List.[]) 18 λ x. Script.struct .as-values x .1 .1 .1 .1 .0, (record { pos = 7; ty = Syntax.tyRef (Syntax.named 5) Syntax.imm
-          (Syntax.tyInt Syntax.w8); ref = λ x. x; }, tt,),),),),),),),),) (m14 (c .before .before) (c .before .deliver-arg5 .given)) (c .deliver)
-      abbrev pub m16 : (before : After-deliver-arg5) → (given : s19 .gives (m14 (before .before) (before .deliver-arg5 .given))) → Typed.Mo T22
+
+      abbrev pub After-deliver·gave : (c : After-deliver) → s19 .gives
+          (m14 (c .before .before) (c .before .deliver-arg5 .given))
+      After-deliver·gave = λ c. Called.given ps·1 r·1 (claims· .3) T20 args19
+          (m14 (c .before .before) (c .before .deliver-arg5 .given)) (c .deliver)
+
+      abbrev pub m16 : (before : After-deliver-arg5) → (given : s19 .gives
+          (m14 (before .before) (before .deliver-arg5 .given))) → Typed.Mo T22
       m16 = λ before given. s20 (m15 before given)
-      abbrev pub m17 : (before : After-deliver) → (given : s22 .gives (m16 (before .before) (After-deliver·gave before))) → Typed.Mo T24
+
+      abbrev pub m17 : (before : After-deliver) → (given : s22 .gives
+          (m16 (before .before) (After-deliver·gave before))) → Typed.Mo T24
       m17 = λ before given. s22 .next (m16 (before .before) (After-deliver·gave before)) given
+
       module _ (before· : After-deliver) where
         pub record After-pending·own : Type 0 where
           pub given : s22 .gives (m16 (before· .before) (After-deliver·gave before·))
+
       pub record After-pending : Type 0 where
         pub before : After-deliver
         pub pending : After-pending·own before
-      abbrev pub m18 : (before : After-pending) → (given : s25 .gives (m17 (before .before) (before .pending .given))) → Typed.Mo T27
+
+      abbrev pub m18 : (before : After-pending) → (given : s25 .gives (m17 (before .before) (before .pending .given)))
+          → Typed.Mo T27
       m18 = λ before given. s25 .next (m17 (before .before) (before .pending .given)) given
+
       module _ (before· : After-pending) where
         pub record After-circuits·own : Type 0 where
           pub given : s25 .gives (m17 (before· .before) (before· .pending .given))
+
       pub record After-circuits : Type 0 where
         pub before : After-pending
         pub circuits : After-circuits·own before
-      abbrev pub m19 : (before : After-circuits) → (given : s28 .gives (m18 (before .before) (before .circuits .given))) → Typed.Mo T30
+
+      abbrev pub m19 : (before : After-circuits) → (given : s28 .gives (m18 (before .before) (before .circuits .given)))
+          → Typed.Mo T30
       m19 = λ before given. s28 .next (m18 (before .before) (before .circuits .given)) given
+
       module _ (before· : After-circuits) where
         pub record After-ledger·own : Type 0 where
           pub given : s28 .gives (m18 (before· .before) (before· .circuits .given))
+
       pub record After-ledger : Type 0 where
         pub before : After-circuits
         pub ledger : After-ledger·own before
-      abbrev pub m20 : (before : After-ledger) → (given : s31 .gives (m19 (before .before) (before .ledger .given))) → Typed.Mo T33
+
+      abbrev pub m20 : (before : After-ledger) → (given : s31 .gives (m19 (before .before) (before .ledger .given))) →
+          Typed.Mo T33
       m20 = λ before given. s31 .next (m19 (before .before) (before .ledger .given)) given
+
       module _ (before· : After-ledger) where
         pub record After-inflight·own : Type 0 where
           pub given : s31 .gives (m19 (before· .before) (before· .ledger .given))
+
       pub record After-inflight : Type 0 where
         pub before : After-ledger
         pub inflight : After-inflight·own before
-      abbrev pub m21 : (before : After-inflight) → (given : s34 .gives (m20 (before .before) (before .inflight .given))) → Typed.Mo T36
+
+      abbrev pub m21 : (before : After-inflight) → (given : s34 .gives (m20 (before .before) (before .inflight .given)))
+          → Typed.Mo T36
       m21 = λ before given. s34 .next (m20 (before .before) (before .inflight .given)) given
+
       module _ (before· : After-inflight) where
         pub record After-out·own : Type 0 where
           pub given : s34 .gives (m20 (before· .before) (before· .inflight .given))
+
       pub record After-out : Type 0 where
         pub before : After-inflight
         pub out : After-out·own before
-      abbrev pub m22 : (before : After-out) → (given : s35 .gives (m21 (before .before) (before .out .given))) → Typed.Mo T37
+
+      abbrev pub m22 : (before : After-out) → (given : s35 .gives (m21 (before .before) (before .out .given))) →
+          Typed.Mo T37
       m22 = λ before given. s35 .next (m21 (before .before) (before .out .given)) given
-      abbrev pub m23 : (before : After-out) → (given : s35 .gives (m21 (before .before) (before .out .given))) → Typed.Mo T39
+
+      abbrev pub m23 : (before : After-out) → (given : s35 .gives (m21 (before .before) (before .out .given))) →
+          Typed.Mo T39
       m23 = λ before given. s37 (m22 before given)
+
       module _ (before· : After-out) where
         pub record After-slice-known2·own : Type 0 where
           pub given : s35 .gives (m21 (before· .before) (before· .out .given))
+
       pub record After-slice-known2 : Type 0 where
         pub before : After-out
         pub slice-known2 : After-slice-known2·own before
-      abbrev pub m24 : (before : After-slice-known2) → (given : s38 .gives (m23 (before .before) (before .slice-known2 .given))) → Typed.Mo T40
+
+      abbrev pub m24 : (before : After-slice-known2) → (given : s38 .gives
+          (m23 (before .before) (before .slice-known2 .given))) → Typed.Mo T40
       m24 = λ before given. s38 .next (m23 (before .before) (before .slice-known2 .given)) given
-      abbrev pub m25 : (before : After-slice-known2) → (given : s38 .gives (m23 (before .before) (before .slice-known2 .given))) → Typed.Mo T41
+
+      abbrev pub m25 : (before : After-slice-known2) → (given : s38 .gives
+          (m23 (before .before) (before .slice-known2 .given))) → Typed.Mo T41
       m25 = λ before given. s39 .next (m24 before given)
-      abbrev W1 : (before : After-slice-known2) → (given : s38 .gives (m23 (before .before) (before .slice-known2 .given))) → Typed.Want O1
-      W1 = λ before given. Typed.wantNext T42 O0 (at46 (W0 (before .before .before .before .before .before .before .before .before .before .before
-          .before .before .before .before .before .before .κs) (before .before .before .before .before .before .before .before .before .before .before
-          .before .before .before .before .before .before .args))) (W0 (before .before .before .before .before .before .before .before .before .before
-          .before .before .before .before .before .before .before .κs) (before .before .before .before .before .before .before .before .before .before
-          .before .before .before .before .before .before .before .args))
+
+      abbrev W1 : (before : After-slice-known2) → (given : s38 .gives
+          (m23 (before .before) (before .slice-known2 .given))) → Typed.Want O1
+      W1 = λ before given. Typed.wantNext T42 O0 (at46 (W0 (before .before .before .before .before .before .before
+          .before .before .before .before .before .before .before .before .before .before .κs) (before .before .before
+          .before .before .before .before .before .before .before .before .before .before .before .before .before
+          .before .args))) (W0 (before .before .before .before .before .before .before .before .before .before .before
+          .before .before .before .before .before .before .κs) (before .before .before .before .before .before .before
+          .before .before .before .before .before .before .before .before .before .before .args))
+
       module _ (before· : After-slice-known2) where
         pub record After-struct-known·own : Type 0 where
           pub given : s38 .gives (m23 (before· .before) (before· .slice-known2 .given))
+
       pub record After-struct-known : Type 0 where
         pub before : After-slice-known2
         pub struct-known : After-struct-known·own before
+
       module _ (before· : After-struct-known) where
         pub record Then1·own : Type 0 where
-          pub taken : Path._≡_ { A = Nat.ℕ } (Script.struct .as-values (Row.get 9 (T40 .locals) (m24 (before· .before) (before· .struct-known
-              .given))) .1 .1 .0) 1
+          pub taken : Path._≡_ {A = Nat.ℕ} (Script.struct .as-values (Row.get 9 (T40 .locals)
+              (m24 (before· .before) (before· .struct-known .given))) .1 .1 .0) 1
+
       pub record Then1 : Type 0 where
         pub before : After-struct-known
         pub if1 : Then1·own before
+
       abbrev pub m26 : (before : After-struct-known) → Typed.Mo T43
       m26 = λ before. s40 (m25 (before .before) (before .struct-known .given))
+
       abbrev pub m27 : (before : After-struct-known) → Typed.Mo T44
       m27 = λ before. s41 (m26 before)
+
       abbrev pub m28 : (before : After-struct-known) → Typed.Mo T45
       m28 = λ before. s42 (m27 before)
+
       abbrev pub m29 : (before : After-struct-known) → Typed.Mo T46
       m29 = λ before. s43 (m28 before)
+
       abbrev pub Need-answer-number-requires : Type 0
       Need-answer-number-requires = (c : Then1) → s44 .asks (m29 (c .before))
+
       abbrev pub m30 : (before : Then1) → (given : s44 .gives (m29 (before .before))) → Typed.Mo T47
       m30 = λ before given. s44 .next (m29 (before .before)) given
+
       module _ (before· : Then1) where
         abbrev pub After-answer-number·own : Type 0
-        After-answer-number·own = Called.Called ps·2 r·2 (claims· .5) T46 (record { pos = 12; st = List.[]; d = 0; at = λ x. x }, tt,) (m29 (before·
-            .before))
+        After-answer-number·own = Called.Called ps·2 r·2 (claims· .5) T46 args44 (m29 (before· .before))
+
       pub record After-answer-number : Type 0 where
         pub before : Then1
         pub answer-number : After-answer-number·own before
+
       abbrev pub After-answer-number·gave : (c : After-answer-number) → s44 .gives (m29 (c .before .before))
-      After-answer-number·gave = λ c. Called.given ps·2 r·2 (claims· .5) T46 (record { pos = 12; st = List.[]; d = 0; at = λ x. x }, tt,) (m29 (c
-          .before .before)) (c .answer-number)
+      After-answer-number·gave = λ c. Called.given ps·2 r·2 (claims· .5) T46 args44 (m29 (c .before .before))
+          (c .answer-number)
+
       abbrev pub m31 : (before : Then1) → (given : s44 .gives (m29 (before .before))) → Typed.Mo T48
       m31 = λ before given. s45 (m30 before given)
+
       abbrev pub Need-same-length : Type 0
-      Need-same-length = (c : After-answer-number) → MutSlice.SameLen (Row.get 1 (T48 .locals) (m31 (c .before) (After-answer-number·gave c))) (dens
-          (c .before .before .before .before .before .before .before .before .before .before .before .before .before .before .before .before .before
-          .before .before .κs) (c .before .before .before .before .before .before .before .before .before .before .before .before .before .before
-          .before .before .before .before .before .args) .0)
+      Need-same-length = (c : After-answer-number) → MutSlice.SameLen (Row.get 1 (T48 .locals)
+          (m31 (c .before) (After-answer-number·gave c))) (dens (c .before .before .before .before .before .before
+          .before .before .before .before .before .before .before .before .before .before .before .before .before .κs) (c
+          .before .before .before .before .before .before .before .before .before .before .before .before .before
+          .before .before .before .before .before .before .args) .0)
+
       abbrev pub Need-same-length-2 : Type 0
-      Need-same-length-2 = (c : After-answer-number) → MutSlice.SameLen (Row.get 2 (T48 .locals) (m31 (c .before) (After-answer-number·gave c))) (dens
-          (c .before .before .before .before .before .before .before .before .before .before .before .before .before .before .before .before .before
-          .before .before .κs) (c .before .before .before .before .before .before .before .before .before .before .before .before .before .before
-          .before .before .before .before .before .args) .1 .0)
+      Need-same-length-2 = (c : After-answer-number) → MutSlice.SameLen (Row.get 2 (T48 .locals)
+          (m31 (c .before) (After-answer-number·gave c))) (dens (c .before .before .before .before .before .before
+          .before .before .before .before .before .before .before .before .before .before .before .before .before .κs) (c
+          .before .before .before .before .before .before .before .before .before .before .before .before .before
+          .before .before .before .before .before .before .args) .1 .0)
+
       abbrev pub Need-same-length-3 : Type 0
-      Need-same-length-3 = (c : After-answer-number) → MutSlice.SameLen (Row.get 3 (T48 .locals) (m31 (c .before) (After-answer-number·gave c))) (dens
-          (c .before .before .before .before .before .before .before .before .before .before .before .before .before .before .before .before .before
-          .before .before .κs) (c .before .before .before .before .before .before .before .before .before .before .before .before .before .before
-          .before .before .before .before .before .args) .1 .1 .0)
+      Need-same-length-3 = (c : After-answer-number) → MutSlice.SameLen (Row.get 3 (T48 .locals)
+          (m31 (c .before) (After-answer-number·gave c))) (dens (c .before .before .before .before .before .before
+          .before .before .before .before .before .before .before .before .before .before .before .before .before .κs) (c
+          .before .before .before .before .before .before .before .before .before .before .before .before .before
+          .before .before .before .before .before .before .args) .1 .1 .0)
+
       abbrev pub Need-same-length-4 : Type 0
-      Need-same-length-4 = (c : After-answer-number) → MutSlice.SameLen (Row.get 4 (T48 .locals) (m31 (c .before) (After-answer-number·gave c))) (dens
-          (c .before .before .before .before .before .before .before .before .before .before .before .before .before .before .before .before .before
-          .before .before .κs) (c .before .before .before .before .before .before .before .before .before .before .before .before .before .before
-          .before .before .before .before .before .args) .1 .1 .1 .0)
+      Need-same-length-4 = (c : After-answer-number) → MutSlice.SameLen (Row.get 4 (T48 .locals)
+          (m31 (c .before) (After-answer-number·gave c))) (dens (c .before .before .before .before .before .before
+          .before .before .before .before .before .before .before .before .before .before .before .before .before .κs) (c
+          .before .before .before .before .before .before .before .before .before .before .before .before .before
+          .before .before .before .before .before .before .args) .1 .1 .1 .0)
+
       abbrev pub Need-same-length-5 : Type 0
-      Need-same-length-5 = (c : After-answer-number) → MutSlice.SameLen (Row.get 5 (T48 .locals) (m31 (c .before) (After-answer-number·gave c))) (dens
-          (c .before .before .before .before .before .before .before .before .before .before .before .before .before .before .before .before .before
-          .before .before .κs) (c .before .before .before .before .before .before .before .before .before .before .before .before .before .before
-          .before .before .before .before .before .args) .1 .1 .1 .1 .0)
+      Need-same-length-5 = (c : After-answer-number) → MutSlice.SameLen (Row.get 5 (T48 .locals)
+          (m31 (c .before) (After-answer-number·gave c))) (dens (c .before .before .before .before .before .before
+          .before .before .before .before .before .before .before .before .before .before .before .before .before .κs) (c
+          .before .before .before .before .before .before .before .before .before .before .before .before .before
+          .before .before .before .before .before .before .args) .1 .1 .1 .1 .0)
+
       abbrev pub Need-returns : Type 0
-      Need-returns = (c : After-answer-number) → Post· (c .before .before .before .before .before .before .before .before .before .before .before
-          .before .before .before .before .before .before .before .before .κs) (dens (c .before .before .before .before .before .before .before
-          .before .before .before .before .before .before .before .before .before .before .before .before .κs) (c .before .before .before .before
-          .before .before .before .before .before .before .before .before .before .before .before .before .before .before .before .args))
-          (Function.resV r (c .before .before .before .before .before .before .before .before .before .before .before .before .before .before .before
-          .before .before .before .before .κs) (m31 (c .before) (After-answer-number·gave c) .0)) (Clauses.atExit (Kinds.endedOf 7 ps r) (c .before
-          .before .before .before .before .before .before .before .before .before .before .before .before .before .before .before .before .before
-          .before .κs) (dens (c .before .before .before .before .before .before .before .before .before .before .before .before .before .before
-          .before .before .before .before .before .κs) (c .before .before .before .before .before .before .before .before .before .before .before
-          .before .before .before .before .before .before .before .before .args)) (Enter.lastsP (c .before .before .before .before .before .before
-          .before .before .before .before .before .before .before .before .before .before .before .before .before .κs) 1 ps xs (dens (c .before
-          .before .before .before .before .before .before .before .before .before .before .before .before .before .before .before .before .before
-          .before .κs) (c .before .before .before .before .before .before .before .before .before .before .before .before .before .before .before
-          .before .before .before .before .args)) (m31 (c .before) (After-answer-number·gave c) .1)))
+      Need-returns = (c : After-answer-number) → Post· (c .before .before .before .before .before .before .before
+          .before .before .before .before .before .before .before .before .before .before .before .before .κs) (dens (c
+          .before .before .before .before .before .before .before .before .before .before .before .before .before
+          .before .before .before .before .before .before .κs) (c .before .before .before .before .before .before
+          .before .before .before .before .before .before .before .before .before .before .before .before .before
+          .args)) (Function.resV r (c .before .before .before .before .before .before .before .before .before .before
+          .before .before .before .before .before .before .before .before .before .κs)
+          (m31 (c .before) (After-answer-number·gave c) .0)) (Clauses.atExit (Kinds.endedOf 7 ps r) (c .before .before
+          .before .before .before .before .before .before .before .before .before .before .before .before .before
+          .before .before .before .before .κs) (dens (c .before .before .before .before .before .before .before .before
+          .before .before .before .before .before .before .before .before .before .before .before .κs) (c .before
+          .before .before .before .before .before .before .before .before .before .before .before .before .before
+          .before .before .before .before .before .args)) (Enter.lastsP (c .before .before .before .before .before
+          .before .before .before .before .before .before .before .before .before .before .before .before .before
+          .before .κs) 1 ps xs (dens (c .before .before .before .before .before .before .before .before .before .before
+          .before .before .before .before .before .before .before .before .before .κs) (c .before .before .before
+          .before .before .before .before .before .before .before .before .before .before .before .before .before
+          .before .before .before .args)) (m31 (c .before) (After-answer-number·gave c) .1)))
+
       module _ (before· : After-struct-known) where
         pub record Else1·own : Type 0 where
-          pub left : Path._≡_ { A = Nat.ℕ } (Script.struct .as-values (Row.get 9 (T40 .locals) (m24 (before· .before) (before· .struct-known .given)))
-              .1 .1 .0) 1 → ⊥
+          pub left : Path._≡_ {A = Nat.ℕ} (Script.struct .as-values (Row.get 9 (T40 .locals)
+              (m24 (before· .before) (before· .struct-known .given))) .1 .1 .0) 1 → ⊥
+
       pub record Else1 : Type 0 where
         pub before : After-struct-known
         pub if1 : Else1·own before
+
       abbrev pub m32 : (before : After-struct-known) → Typed.Mo T49
       m32 = λ before. s46 (m25 (before .before) (before .struct-known .given))
+
       abbrev pub m33 : (before : After-struct-known) → Typed.Mo T50
       m33 = λ before. s47 (m32 before)
+
       abbrev pub m34 : (before : Else1) → (given : s49 .gives (m33 (before .before))) → Typed.Mo T52
       m34 = λ before given. s49 .next (m33 (before .before)) given
+
       abbrev pub m35 : (before : Else1) → (given : s49 .gives (m33 (before .before))) → Typed.Mo T53
       m35 = λ before given. s50 .next (m34 before given)
+
       module _ (before· : Else1) where
         pub record After-again-arg·own : Type 0 where
           pub given : s49 .gives (m33 (before· .before))
+
       pub record After-again-arg : Type 0 where
         pub before : Else1
         pub again-arg : After-again-arg·own before
-      abbrev pub m36 : (before : After-again-arg) → (given : s52 .gives (m35 (before .before) (before .again-arg .given))) → Typed.Mo T55
+
+      abbrev pub m36 : (before : After-again-arg) → (given : s52 .gives
+          (m35 (before .before) (before .again-arg .given))) → Typed.Mo T55
       m36 = λ before given. s52 .next (m35 (before .before) (before .again-arg .given)) given
-      abbrev pub m37 : (before : After-again-arg) → (given : s52 .gives (m35 (before .before) (before .again-arg .given))) → Typed.Mo T56
+
+      abbrev pub m37 : (before : After-again-arg) → (given : s52 .gives
+          (m35 (before .before) (before .again-arg .given))) → Typed.Mo T56
       m37 = λ before given. s53 .next (m36 before given)
+
       module _ (before· : After-again-arg) where
         pub record After-again-arg2·own : Type 0 where
           pub given : s52 .gives (m35 (before· .before) (before· .again-arg .given))
+
       pub record After-again-arg2 : Type 0 where
         pub before : After-again-arg
         pub again-arg2 : After-again-arg2·own before
-      abbrev pub m38 : (before : After-again-arg2) → (given : s55 .gives (m37 (before .before) (before .again-arg2 .given))) → Typed.Mo T58
+
+      abbrev pub m38 : (before : After-again-arg2) → (given : s55 .gives
+          (m37 (before .before) (before .again-arg2 .given))) → Typed.Mo T58
       m38 = λ before given. s55 .next (m37 (before .before) (before .again-arg2 .given)) given
-      abbrev pub m39 : (before : After-again-arg2) → (given : s55 .gives (m37 (before .before) (before .again-arg2 .given))) → Typed.Mo T59
+
+      abbrev pub m39 : (before : After-again-arg2) → (given : s55 .gives
+          (m37 (before .before) (before .again-arg2 .given))) → Typed.Mo T59
       m39 = λ before given. s56 .next (m38 before given)
+
       module _ (before· : After-again-arg2) where
         pub record After-again-arg3·own : Type 0 where
           pub given : s55 .gives (m37 (before· .before) (before· .again-arg2 .given))
+
       pub record After-again-arg3 : Type 0 where
         pub before : After-again-arg2
         pub again-arg3 : After-again-arg3·own before
-      abbrev pub m40 : (before : After-again-arg3) → (given : s58 .gives (m39 (before .before) (before .again-arg3 .given))) → Typed.Mo T61
+
+      abbrev pub m40 : (before : After-again-arg3) → (given : s58 .gives
+          (m39 (before .before) (before .again-arg3 .given))) → Typed.Mo T61
       m40 = λ before given. s58 .next (m39 (before .before) (before .again-arg3 .given)) given
-      abbrev pub m41 : (before : After-again-arg3) → (given : s58 .gives (m39 (before .before) (before .again-arg3 .given))) → Typed.Mo T62
+
+      abbrev pub m41 : (before : After-again-arg3) → (given : s58 .gives
+          (m39 (before .before) (before .again-arg3 .given))) → Typed.Mo T62
       m41 = λ before given. s59 .next (m40 before given)
+
       module _ (before· : After-again-arg3) where
         pub record After-again-arg4·own : Type 0 where
           pub given : s58 .gives (m39 (before· .before) (before· .again-arg3 .given))
+
       pub record After-again-arg4 : Type 0 where
         pub before : After-again-arg3
         pub again-arg4 : After-again-arg4·own before
-      abbrev pub m42 : (before : After-again-arg4) → (given : s61 .gives (m41 (before .before) (before .again-arg4 .given))) → Typed.Mo T64
+
+      abbrev pub m42 : (before : After-again-arg4) → (given : s61 .gives
+          (m41 (before .before) (before .again-arg4 .given))) → Typed.Mo T64
       m42 = λ before given. s61 .next (m41 (before .before) (before .again-arg4 .given)) given
-      abbrev pub m43 : (before : After-again-arg4) → (given : s61 .gives (m41 (before .before) (before .again-arg4 .given))) → Typed.Mo T65
+
+      abbrev pub m43 : (before : After-again-arg4) → (given : s61 .gives
+          (m41 (before .before) (before .again-arg4 .given))) → Typed.Mo T65
       m43 = λ before given. s62 .next (m42 before given)
+
       module _ (before· : After-again-arg4) where
         pub record After-again-arg5·own : Type 0 where
           pub given : s61 .gives (m41 (before· .before) (before· .again-arg4 .given))
+
       pub record After-again-arg5 : Type 0 where
         pub before : After-again-arg4
         pub again-arg5 : After-again-arg5·own before
+
       abbrev pub Need-again-requires : Type 0
       Need-again-requires = (c : After-again-arg5) → s63 .asks (m43 (c .before) (c .again-arg5 .given))
-      abbrev pub m44 : (before : After-again-arg5) → (given : s63 .gives (m43 (before .before) (before .again-arg5 .given))) → Typed.Mo T66
+
+      abbrev pub m44 : (before : After-again-arg5) → (given : s63 .gives
+          (m43 (before .before) (before .again-arg5 .given))) → Typed.Mo T66
       m44 = λ before given. s63 .next (m43 (before .before) (before .again-arg5 .given)) given
+
       module _ (before· : After-again-arg5) where
         abbrev pub After-again·own : Type 0
-        After-again·own = Called.Called ps·3 r·3 (claims· .7) T65 (record { pos = 25; ty = Syntax.tyRef Syntax.erased Syntax.mut RelayPending.to; ref
-            = λ x. x; }, (record { pos = 27; ty = Syntax.tyRef Syntax.erased Syntax.mut RelayCircuit.to; ref = λ x. x; }, (record { pos = 29; ty =
-            Syntax.tyRef Syntax.erased Syntax.mut ReservationUsage.to; ref = λ x. x; }, (record { pos = 31; ty = Syntax.tyRef Syntax.erased Syntax.mut
-            InflightAction.to; ref = λ x. x; }, (record { pos = 33; ty = Syntax.tyRef Syntax.erased Syntax.mut (Syntax.tyInt Syntax.w32); ref = λ x.
-            x; }, (record { pos = 11; st = List.[]; d = 0; at = λ x. x }, (record { pos = 10; st = List.[]; d = 0; at = λ x. x }, (record { pos = 8;
-            ty = Syntax.tyRef (Syntax.named 6) Syntax.imm (Syntax.tyInt Syntax.w8); ref = λ x. x; }, (Bool.bFld 9 ((Syntax.field 7) ∷ List.[]) 40 λ x.
-            Script.struct .as-values x .1 .1 .1 .1 .1 .1 .1 .0, tt,),),),),),),),),) (m43 (before· .before) (before· .again-arg5 .given))
+        After-again·own = Called.Called ps·3 r·3 (claims· .7) T65 args63
+            (m43 (before· .before) (before· .again-arg5 .given))
+
       pub record After-again : Type 0 where
         pub before : After-again-arg5
         pub again : After-again·own before
-      abbrev pub After-again·gave : (c : After-again) → s63 .gives (m43 (c .before .before) (c .before .again-arg5 .given))
-      After-again·gave = λ c. Called.given ps·3 r·3 (claims· .7) T65 (record { pos = 25; ty = Syntax.tyRef Syntax.erased Syntax.mut RelayPending.to;
-          ref = λ x. x; }, (record { pos = 27; ty = Syntax.tyRef Syntax.erased Syntax.mut RelayCircuit.to; ref = λ x. x; }, (record { pos = 29; ty =
-          Syntax.tyRef Syntax.erased Syntax.mut ReservationUsage.to; ref = λ x. x; }, (record { pos = 31; ty = Syntax.tyRef Syntax.erased Syntax.mut
-          InflightAction.to; ref = λ x. x; }, (record { pos = 33; ty = Syntax.tyRef Syntax.erased Syntax.mut (Syntax.tyInt Syntax.w32); ref = λ x. x;
-          }, (record { pos = 11; st = List.[]; d = 0; at = λ x. x }, (record { pos = 10; st = List.[]; d = 0; at = λ x. x }, (record { pos = 8; ty =
-          Syntax.tyRef (Syntax.named 6) Syntax.imm (Syntax.tyInt Syntax.w8); ref = λ x. x; }, (Bool.bFld 9 ((Syntax.field 7) ∷ List.[]) 40 λ x.
-          Script.struct .as-values x .1 .1 .1 .1 .1 .1 .1 .0, tt,),),),),),),),),) (m43 (c .before .before) (c .before .again-arg5 .given)) (c .again)
-      abbrev pub m45 : (before : After-again-arg5) → (given : s63 .gives (m43 (before .before) (before .again-arg5 .given))) → Typed.Mo T67
+
+      abbrev pub After-again·gave : (c : After-again) → s63 .gives
+          (m43 (c .before .before) (c .before .again-arg5 .given))
+      After-again·gave = λ c. Called.given ps·3 r·3 (claims· .7) T65 args63
+          (m43 (c .before .before) (c .before .again-arg5 .given)) (c .again)
+
+      abbrev pub m45 : (before : After-again-arg5) → (given : s63 .gives
+          (m43 (before .before) (before .again-arg5 .given))) → Typed.Mo T67
       m45 = λ before given. s64 (m44 before given)
-      abbrev pub m46 : (before : After-again-arg5) → (given : s63 .gives (m43 (before .before) (before .again-arg5 .given))) → Typed.Mo T68
+
+      abbrev pub m46 : (before : After-again-arg5) → (given : s63 .gives
+          (m43 (before .before) (before .again-arg5 .given))) → Typed.Mo T68
       m46 = λ before given. s65 (m45 before given)
-      abbrev pub m47 : (before : After-again-arg5) → (given : s63 .gives (m43 (before .before) (before .again-arg5 .given))) → Typed.Mo T69
+
+      abbrev pub m47 : (before : After-again-arg5) → (given : s63 .gives
+          (m43 (before .before) (before .again-arg5 .given))) → Typed.Mo T69
       m47 = λ before given. s66 (m46 before given)
-      abbrev pub m48 : (before : After-again) → (given : s68 .gives (m47 (before .before) (After-again·gave before))) → Typed.Mo T71
+
+      abbrev pub m48 : (before : After-again) → (given : s68 .gives (m47 (before .before) (After-again·gave before))) →
+          Typed.Mo T71
       m48 = λ before given. s68 .next (m47 (before .before) (After-again·gave before)) given
+
       module _ (before· : After-again) where
         pub record After-pending2·own : Type 0 where
           pub given : s68 .gives (m47 (before· .before) (After-again·gave before·))
+
       pub record After-pending2 : Type 0 where
         pub before : After-again
         pub pending2 : After-pending2·own before
-      abbrev pub m49 : (before : After-pending2) → (given : s71 .gives (m48 (before .before) (before .pending2 .given))) → Typed.Mo T74
+
+      abbrev pub m49 : (before : After-pending2) → (given : s71 .gives (m48 (before .before) (before .pending2 .given)))
+          → Typed.Mo T74
       m49 = λ before given. s71 .next (m48 (before .before) (before .pending2 .given)) given
+
       module _ (before· : After-pending2) where
         pub record After-circuits2·own : Type 0 where
           pub given : s71 .gives (m48 (before· .before) (before· .pending2 .given))
+
       pub record After-circuits2 : Type 0 where
         pub before : After-pending2
         pub circuits2 : After-circuits2·own before
-      abbrev pub m50 : (before : After-circuits2) → (given : s74 .gives (m49 (before .before) (before .circuits2 .given))) → Typed.Mo T77
+
+      abbrev pub m50 : (before : After-circuits2) → (given : s74 .gives
+          (m49 (before .before) (before .circuits2 .given))) → Typed.Mo T77
       m50 = λ before given. s74 .next (m49 (before .before) (before .circuits2 .given)) given
+
       module _ (before· : After-circuits2) where
         pub record After-ledger2·own : Type 0 where
           pub given : s74 .gives (m49 (before· .before) (before· .circuits2 .given))
+
       pub record After-ledger2 : Type 0 where
         pub before : After-circuits2
         pub ledger2 : After-ledger2·own before
-      abbrev pub m51 : (before : After-ledger2) → (given : s77 .gives (m50 (before .before) (before .ledger2 .given))) → Typed.Mo T80
+
+      abbrev pub m51 : (before : After-ledger2) → (given : s77 .gives (m50 (before .before) (before .ledger2 .given)))
+          → Typed.Mo T80
       m51 = λ before given. s77 .next (m50 (before .before) (before .ledger2 .given)) given
+
       module _ (before· : After-ledger2) where
         pub record After-inflight2·own : Type 0 where
           pub given : s77 .gives (m50 (before· .before) (before· .ledger2 .given))
+
       pub record After-inflight2 : Type 0 where
         pub before : After-ledger2
         pub inflight2 : After-inflight2·own before
-      abbrev pub m52 : (before : After-inflight2) → (given : s80 .gives (m51 (before .before) (before .inflight2 .given))) → Typed.Mo T83
+
+      abbrev pub m52 : (before : After-inflight2) → (given : s80 .gives
+          (m51 (before .before) (before .inflight2 .given))) → Typed.Mo T83
       m52 = λ before given. s80 .next (m51 (before .before) (before .inflight2 .given)) given
+
       module _ (before· : After-inflight2) where
         pub record After-out2·own : Type 0 where
           pub given : s80 .gives (m51 (before· .before) (before· .inflight2 .given))
+
       pub record After-out2 : Type 0 where
         pub before : After-inflight2
         pub out2 : After-out2·own before
-      abbrev pub m53 : (before : After-out2) → (given : s81 .gives (m52 (before .before) (before .out2 .given))) → Typed.Mo T84
+
+      abbrev pub m53 : (before : After-out2) → (given : s81 .gives (m52 (before .before) (before .out2 .given))) →
+          Typed.Mo T84
       m53 = λ before given. s81 .next (m52 (before .before) (before .out2 .given)) given
+
       module _ (before· : After-out2) where
         pub record After-slice-known3·own : Type 0 where
           pub given : s81 .gives (m52 (before· .before) (before· .out2 .given))
+
       pub record After-slice-known3 : Type 0 where
         pub before : After-out2
         pub slice-known3 : After-slice-known3·own before
+
       abbrev pub Need-same-length-6 : Type 0
-      Need-same-length-6 = (c : After-slice-known3) → MutSlice.SameLen (Row.get 1 (T84 .locals) (m53 (c .before) (c .slice-known3 .given))) (dens (c
-          .before .before .before .before .before .before .before .before .before .before .before .before .before .before .before .before .before
-          .before .before .before .before .before .before .before .before .before .before .before .before .before .κs) (c .before .before .before
-          .before .before .before .before .before .before .before .before .before .before .before .before .before .before .before .before .before
-          .before .before .before .before .before .before .before .before .before .before .args) .0)
+      Need-same-length-6 = (c : After-slice-known3) → MutSlice.SameLen (Row.get 1 (T84 .locals)
+          (m53 (c .before) (c .slice-known3 .given))) (dens (c .before .before .before .before .before .before .before
+          .before .before .before .before .before .before .before .before .before .before .before .before .before
+          .before .before .before .before .before .before .before .before .before .before .κs) (c .before .before
+          .before .before .before .before .before .before .before .before .before .before .before .before .before
+          .before .before .before .before .before .before .before .before .before .before .before .before .before
+          .before .before .args) .0)
+
       abbrev pub Need-same-length-7 : Type 0
-      Need-same-length-7 = (c : After-slice-known3) → MutSlice.SameLen (Row.get 2 (T84 .locals) (m53 (c .before) (c .slice-known3 .given))) (dens (c
-          .before .before .before .before .before .before .before .before .before .before .before .before .before .before .before .before .before
-          .before .before .before .before .before .before .before .before .before .before .before .before .before .κs) (c .before .before .before
-          .before .before .before .before .before .before .before .before .before .before .before .before .before .before .before .before .before
-          .before .before .before .before .before .before .before .before .before .before .args) .1 .0)
+      Need-same-length-7 = (c : After-slice-known3) → MutSlice.SameLen (Row.get 2 (T84 .locals)
+          (m53 (c .before) (c .slice-known3 .given))) (dens (c .before .before .before .before .before .before .before
+          .before .before .before .before .before .before .before .before .before .before .before .before .before
+          .before .before .before .before .before .before .before .before .before .before .κs) (c .before .before
+          .before .before .before .before .before .before .before .before .before .before .before .before .before
+          .before .before .before .before .before .before .before .before .before .before .before .before .before
+          .before .before .args) .1 .0)
+
       abbrev pub Need-same-length-8 : Type 0
-      Need-same-length-8 = (c : After-slice-known3) → MutSlice.SameLen (Row.get 3 (T84 .locals) (m53 (c .before) (c .slice-known3 .given))) (dens (c
-          .before .before .before .before .before .before .before .before .before .before .before .before .before .before .before .before .before
-          .before .before .before .before .before .before .before .before .before .before .before .before .before .κs) (c .before .before .before
-          .before .before .before .before .before .before .before .before .before .before .before .before .before .before .before .before .before
-          .before .before .before .before .before .before .before .before .before .before .args) .1 .1 .0)
+      Need-same-length-8 = (c : After-slice-known3) → MutSlice.SameLen (Row.get 3 (T84 .locals)
+          (m53 (c .before) (c .slice-known3 .given))) (dens (c .before .before .before .before .before .before .before
+          .before .before .before .before .before .before .before .before .before .before .before .before .before
+          .before .before .before .before .before .before .before .before .before .before .κs) (c .before .before
+          .before .before .before .before .before .before .before .before .before .before .before .before .before
+          .before .before .before .before .before .before .before .before .before .before .before .before .before
+          .before .before .args) .1 .1 .0)
+
       abbrev pub Need-same-length-9 : Type 0
-      Need-same-length-9 = (c : After-slice-known3) → MutSlice.SameLen (Row.get 4 (T84 .locals) (m53 (c .before) (c .slice-known3 .given))) (dens (c
-          .before .before .before .before .before .before .before .before .before .before .before .before .before .before .before .before .before
-          .before .before .before .before .before .before .before .before .before .before .before .before .before .κs) (c .before .before .before
-          .before .before .before .before .before .before .before .before .before .before .before .before .before .before .before .before .before
-          .before .before .before .before .before .before .before .before .before .before .args) .1 .1 .1 .0)
+      Need-same-length-9 = (c : After-slice-known3) → MutSlice.SameLen (Row.get 4 (T84 .locals)
+          (m53 (c .before) (c .slice-known3 .given))) (dens (c .before .before .before .before .before .before .before
+          .before .before .before .before .before .before .before .before .before .before .before .before .before
+          .before .before .before .before .before .before .before .before .before .before .κs) (c .before .before
+          .before .before .before .before .before .before .before .before .before .before .before .before .before
+          .before .before .before .before .before .before .before .before .before .before .before .before .before
+          .before .before .args) .1 .1 .1 .0)
+
       abbrev pub Need-same-length-10 : Type 0
-      Need-same-length-10 = (c : After-slice-known3) → MutSlice.SameLen (Row.get 5 (T84 .locals) (m53 (c .before) (c .slice-known3 .given))) (dens (c
-          .before .before .before .before .before .before .before .before .before .before .before .before .before .before .before .before .before
-          .before .before .before .before .before .before .before .before .before .before .before .before .before .κs) (c .before .before .before
-          .before .before .before .before .before .before .before .before .before .before .before .before .before .before .before .before .before
-          .before .before .before .before .before .before .before .before .before .before .args) .1 .1 .1 .1 .0)
+      Need-same-length-10 = (c : After-slice-known3) → MutSlice.SameLen (Row.get 5 (T84 .locals)
+          (m53 (c .before) (c .slice-known3 .given))) (dens (c .before .before .before .before .before .before .before
+          .before .before .before .before .before .before .before .before .before .before .before .before .before
+          .before .before .before .before .before .before .before .before .before .before .κs) (c .before .before
+          .before .before .before .before .before .before .before .before .before .before .before .before .before
+          .before .before .before .before .before .before .before .before .before .before .before .before .before
+          .before .before .args) .1 .1 .1 .1 .0)
+
       abbrev pub Need-returns-2 : Type 0
-      Need-returns-2 = (c : After-slice-known3) → Post· (c .before .before .before .before .before .before .before .before .before .before .before
-          .before .before .before .before .before .before .before .before .before .before .before .before .before .before .before .before .before
-          .before .before .κs) (dens (c .before .before .before .before .before .before .before .before .before .before .before .before .before
-          .before .before .before .before .before .before .before .before .before .before .before .before .before .before .before .before .before .κs)
-          (c .before .before .before .before .before .before .before .before .before .before .before .before .before .before .before .before .before
-          .before .before .before .before .before .before .before .before .before .before .before .before .before .args)) (Function.resV r (c .before
-          .before .before .before .before .before .before .before .before .before .before .before .before .before .before .before .before .before
-          .before .before .before .before .before .before .before .before .before .before .before .before .κs) (m53 (c .before) (c .slice-known3
-          .given) .0)) (Clauses.atExit (Kinds.endedOf 7 ps r) (c .before .before .before .before .before .before .before .before .before .before
-          .before .before .before .before .before .before .before .before .before .before .before .before .before .before .before .before .before
-          .before .before .before .κs) (dens (c .before .before .before .before .before .before .before .before .before .before .before .before
-          .before .before .before .before .before .before .before .before .before .before .before .before .before .before .before .before .before
-          .before .κs) (c .before .before .before .before .before .before .before .before .before .before .before .before .before .before .before
-          .before .before .before .before .before .before .before .before .before .before .before .before .before .before .before .args))
-          (Enter.lastsP (c .before .before .before .before .before .before .before .before .before .before .before .before .before .before .before
-          .before .before .before .before .before .before .before .before .before .before .before .before .before .before .before .κs) 1 ps xs (dens
-          (c .before .before .before .before .before .before .before .before .before .before .before .before .before .before .before .before .before
-          .before .before .before .before .before .before .before .before .before .before .before .before .before .κs) (c .before .before .before
-          .before .before .before .before .before .before .before .before .before .before .before .before .before .before .before .before .before
-          .before .before .before .before .before .before .before .before .before .before .args)) (m53 (c .before) (c .slice-known3 .given) .1)))
-      module _ (packet-requires : Need-packet-requires) (deliver-requires : Need-deliver-requires) (answer-number-requires :
-          Need-answer-number-requires) (same-length : Need-same-length) (same-length-2 : Need-same-length-2) (same-length-3 : Need-same-length-3)
-          (same-length-4 : Need-same-length-4) (same-length-5 : Need-same-length-5) (returns : Need-returns) (again-requires : Need-again-requires)
-          (same-length-6 : Need-same-length-6) (same-length-7 : Need-same-length-7) (same-length-8 : Need-same-length-8) (same-length-9 :
-          Need-same-length-9) (same-length-10 : Need-same-length-10) (returns-2 : Need-returns-2) where
-        lay7 : (c : After-again) → at30 (W0 (c .before .before .before .before .before .before .before .before .before .before .before .before .before
-            .before .before .before .before .before .before .before .before .before .before .before .κs) (c .before .before .before .before .before
-            .before .before .before .before .before .before .before .before .before .before .before .before .before .before .before .before .before
-            .before .before .args)) (m44 (c .before) (After-again·gave c))
-        lay7 = λ c. (Path.refl, λ g. (Path.refl, λ g'. (Path.refl, λ g''. (Path.refl, λ g'3. (Path.refl, λ g'4. λ g'5. ((MutSlice.fix-len (Row.get 1
-            (T84 .locals) (m53 record { before = record { before = record { before = record { before = record { before = record { before = c .before;
-            again = c .again }; pending2 = record { given = g }; }; circuits2 = record { given = g' }; }; ledger2 = record { given = g'' }; };
-            inflight2 = record { given = g'3 }; }; out2 = record { given = g'4 }; } g'5) .ptr) (Row.get 1 (T84 .locals) (m53 record { before = record
-            { before = record { before = record { before = record { before = record { before = c .before; again = c .again }; pending2 = record {
-            given = g }; }; circuits2 = record { given = g' }; }; ledger2 = record { given = g'' }; }; inflight2 = record { given = g'3 }; }; out2 =
-            record { given = g'4 }; } g'5) .name) (Row.get 1 (T84 .locals) (m53 record { before = record { before = record { before = record { before
-            = record { before = record { before = c .before; again = c .again }; pending2 = record { given = g }; }; circuits2 = record { given = g'
-            }; }; ledger2 = record { given = g'' }; }; inflight2 = record { given = g'3 }; }; out2 = record { given = g'4 }; } g'5) .now) (dens (c
-            .before .before .before .before .before .before .before .before .before .before .before .before .before .before .before .before .before
-            .before .before .before .before .before .before .before .κs) (c .before .before .before .before .before .before .before .before .before
-            .before .before .before .before .before .before .before .before .before .before .before .before .before .before .before .args) .0 .now)
-            (same-length-6 record { before = record { before = record { before = record { before = record { before = record { before = record { before
-            = c .before; again = c .again }; pending2 = record { given = g }; }; circuits2 = record { given = g' }; }; ledger2 = record { given = g''
-            }; }; inflight2 = record { given = g'3 }; }; out2 = record { given = g'4 }; }; slice-known3 = record { given = g'5 }; }),
-            (MutSlice.fix-len (Row.get 2 (T84 .locals) (m53 record { before = record { before = record { before = record { before = record { before =
-            record { before = c .before; again = c .again }; pending2 = record { given = g }; }; circuits2 = record { given = g' }; }; ledger2 =
-            record { given = g'' }; }; inflight2 = record { given = g'3 }; }; out2 = record { given = g'4 }; } g'5) .ptr) (Row.get 2 (T84 .locals)
-            (m53 record { before = record { before = record { before = record { before = record { before = record { before = c .before; again = c
-            .again }; pending2 = record { given = g }; }; circuits2 = record { given = g' }; }; ledger2 = record { given = g'' }; }; inflight2 =
-            record { given = g'3 }; }; out2 = record { given = g'4 }; } g'5) .name) (Row.get 2 (T84 .locals) (m53 record { before = record { before =
-            record { before = record { before = record { before = record { before = c .before; again = c .again }; pending2 = record { given = g }; };
-            circuits2 = record { given = g' }; }; ledger2 = record { given = g'' }; }; inflight2 = record { given = g'3 }; }; out2 = record { given =
-            g'4 }; } g'5) .now) (dens (c .before .before .before .before .before .before .before .before .before .before .before .before .before
-            .before .before .before .before .before .before .before .before .before .before .before .κs) (c .before .before .before .before .before
-            .before .before .before .before .before .before .before .before .before .before .before .before .before .before .before .before .before
-            .before .before .args) .1 .0 .now) (same-length-7 record { before = record { before = record { before = record { before = record { before
-            = record { before = record { before = c .before; again = c .again }; pending2 = record { given = g }; }; circuits2 = record { given = g'
-            }; }; ledger2 = record { given = g'' }; }; inflight2 = record { given = g'3 }; }; out2 = record { given = g'4 }; }; slice-known3 = record
-            { given = g'5 }; }), (MutSlice.fix-len (Row.get 3 (T84 .locals) (m53 record { before = record { before = record { before = record { before
-            = record { before = record { before = c .before; again = c .again }; pending2 = record { given = g }; }; circuits2 = record { given = g'
-            }; }; ledger2 = record { given = g'' }; }; inflight2 = record { given = g'3 }; }; out2 = record { given = g'4 }; } g'5) .ptr) (Row.get 3
-            (T84 .locals) (m53 record { before = record { before = record { before = record { before = record { before = record { before = c .before;
-            again = c .again }; pending2 = record { given = g }; }; circuits2 = record { given = g' }; }; ledger2 = record { given = g'' }; };
-            inflight2 = record { given = g'3 }; }; out2 = record { given = g'4 }; } g'5) .name) (Row.get 3 (T84 .locals) (m53 record { before = record
-            { before = record { before = record { before = record { before = record { before = c .before; again = c .again }; pending2 = record {
-            given = g }; }; circuits2 = record { given = g' }; }; ledger2 = record { given = g'' }; }; inflight2 = record { given = g'3 }; }; out2 =
-            record { given = g'4 }; } g'5) .now) (dens (c .before .before .before .before .before .before .before .before .before .before .before
-            .before .before .before .before .before .before .before .before .before .before .before .before .before .κs) (c .before .before .before
-            .before .before .before .before .before .before .before .before .before .before .before .before .before .before .before .before .before
-            .before .before .before .before .args) .1 .1 .0 .now) (same-length-8 record { before = record { before = record { before = record { before
-            = record { before = record { before = record { before = c .before; again = c .again; }; pending2 = record { given = g }; }; circuits2 =
-            record { given = g' }; }; ledger2 = record { given = g'' }; }; inflight2 = record { given = g'3 }; }; out2 = record { given = g'4 }; };
-            slice-known3 = record { given = g'5 }; }), (MutSlice.fix-len (Row.get 4 (T84 .locals) (m53 record { before = record { before = record {
-            before = record { before = record { before = record { before = c .before; again = c .again }; pending2 = record { given = g }; };
-            circuits2 = record { given = g' }; }; ledger2 = record { given = g'' }; }; inflight2 = record { given = g'3 }; }; out2 = record { given =
-            g'4 }; } g'5) .ptr) (Row.get 4 (T84 .locals) (m53 record { before = record { before = record { before = record { before = record { before
-            = record { before = c .before; again = c .again }; pending2 = record { given = g }; }; circuits2 = record { given = g' }; }; ledger2 =
-            record { given = g'' }; }; inflight2 = record { given = g'3 }; }; out2 = record { given = g'4 }; } g'5) .name) (Row.get 4 (T84 .locals)
-            (m53 record { before = record { before = record { before = record { before = record { before = record { before = c .before; again = c
-            .again }; pending2 = record { given = g }; }; circuits2 = record { given = g' }; }; ledger2 = record { given = g'' }; }; inflight2 =
-            record { given = g'3 }; }; out2 = record { given = g'4 }; } g'5) .now) (dens (c .before .before .before .before .before .before .before
-            .before .before .before .before .before .before .before .before .before .before .before .before .before .before .before .before .before
-            .κs) (c .before .before .before .before .before .before .before .before .before .before .before .before .before .before .before .before
-            .before .before .before .before .before .before .before .before .args) .1 .1 .1 .0 .now) (same-length-9 record { before = record { before
-            = record { before = record { before = record { before = record { before = record { before = c .before; again = c .again; }; pending2 =
-            record { given = g }; }; circuits2 = record { given = g' }; }; ledger2 = record { given = g'' }; }; inflight2 = record { given = g'3 }; };
-            out2 = record { given = g'4 }; }; slice-known3 = record { given = g'5 }; }), (MutSlice.fix-len (Row.get 5 (T84 .locals) (m53 record {
-            before = record { before = record { before = record { before = record { before = record { before = c .before; again = c .again }; pending2
-            = record { given = g }; }; circuits2 = record { given = g' }; }; ledger2 = record { given = g'' }; }; inflight2 = record { given = g'3 };
-            }; out2 = record { given = g'4 }; } g'5) .ptr) (Row.get 5 (T84 .locals) (m53 record { before = record { before = record { before = record
-            { before = record { before = record { before = c .before; again = c .again }; pending2 = record { given = g }; }; circuits2 = record {
-            given = g' }; }; ledger2 = record { given = g'' }; }; inflight2 = record { given = g'3 }; }; out2 = record { given = g'4 }; } g'5) .name)
-            (Row.get 5 (T84 .locals) (m53 record { before = record { before = record { before = record { before = record { before = record { before =
-            c .before; again = c .again }; pending2 = record { given = g }; }; circuits2 = record { given = g' }; }; ledger2 = record { given = g'' };
-            }; inflight2 = record { given = g'3 }; }; out2 = record { given = g'4 }; } g'5) .now) (dens (c .before .before .before .before .before
-            .before .before .before .before .before .before .before .before .before .before .before .before .before .before .before .before .before
-            .before .before .κs) (c .before .before .before .before .before .before .before .before .before .before .before .before .before .before
-            .before .before .before .before .before .before .before .before .before .before .args) .1 .1 .1 .1 .0 .now) (same-length-10 record {
-            before = record { before = record { before = record { before = record { before = record { before = record { before = c .before; again = c
-            .again; }; pending2 = record { given = g }; }; circuits2 = record { given = g' }; }; ledger2 = record { given = g'' }; }; inflight2 =
-            record { given = g'3 }; }; out2 = record { given = g'4 }; }; slice-known3 = record { given = g'5 }; }), (tt, (Path.refl, (Path.refl, (tt,
-            tt)))),),),),),), returns-2 record { before = record { before = record { before = record { before = record { before = record { before =
-            record { before = c .before; again = c .again }; pending2 = record { given = g }; }; circuits2 = record { given = g' }; }; ledger2 =
-            record { given = g'' }; }; inflight2 = record { given = g'3 }; }; out2 = record { given = g'4 }; }; slice-known3 = record { given = g'5 };
-            },),),),),),)
-        lay6 : (c : Else1) → at46 (W0 (c .before .before .before .before .before .before .before .before .before .before .before .before .before
-            .before .before .before .before .before .κs) (c .before .before .before .before .before .before .before .before .before .before .before
-            .before .before .before .before .before .before .before .args)) (m33 (c .before))
-        lay6 = λ c. λ g. (Path.refl, λ g'. (Path.refl, λ g''. (Path.refl, λ g'3. (Path.refl, λ g'4. (Path.refl, (again-requires record { before =
-            record { before = record { before = record { before = record { before = record { before = c .before; if1 = c .if1 }; again-arg = record {
-            given = g }; }; again-arg2 = record { given = g' }; }; again-arg3 = record { given = g'' }; }; again-arg4 = record { given = g'3 }; };
-            again-arg5 = record { given = g'4 }; }, λ g'5. lay7 record { before = record { before = record { before = record { before = record {
-            before = record { before = record { before = c .before; if1 = c .if1 }; again-arg = record { given = g }; }; again-arg2 = record { given =
-            g' }; }; again-arg3 = record { given = g'' }; }; again-arg4 = record { given = g'3 }; }; again-arg5 = record { given = g'4 }; }; again =
-            Called.called ps·3 r·3 (claims· .7) T65 (record { pos = 25; ty = Syntax.tyRef Syntax.erased Syntax.mut RelayPending.to; ref = λ x. x; },
-            (record { pos = 27; ty = Syntax.tyRef Syntax.erased Syntax.mut RelayCircuit.to; ref = λ x. x; }, (record { pos = 29; ty = Syntax.tyRef
-            Syntax.erased Syntax.mut ReservationUsage.to; ref = λ x. x; }, (record { pos = 31; ty = Syntax.tyRef Syntax.erased Syntax.mut
-            InflightAction.to; ref = λ x. x; }, (record { pos = 33; ty = Syntax.tyRef Syntax.erased Syntax.mut (Syntax.tyInt Syntax.w32); ref = λ x.
-            x; }, (record { pos = 11; st = List.[]; d = 0; at = λ x. x }, (record { pos = 10; st = List.[]; d = 0; at = λ x. x }, (record { pos = 8;
-            ty = Syntax.tyRef (Syntax.named 6) Syntax.imm (Syntax.tyInt Syntax.w8); ref = λ x. x; }, (Bool.bFld 9 ((Syntax.field 7) ∷ List.[]) 40 λ x.
-            Script.struct .as-values x .1 .1 .1 .1 .1 .1 .1 .0, tt,),),),),),),),),) (m43 record { before = record { before = record { before = record
-            { before = record { before = c .before; if1 = c .if1 }; again-arg = record { given = g }; }; again-arg2 = record { given = g' }; };
-            again-arg3 = record { given = g'' }; }; again-arg4 = record { given = g'3 }; } g'4) g'5; },),),),),),)
-        lay5 : (c : Else1) → at9 (W1 (c .before .before) (c .before .struct-known .given)) (m25 (c .before .before) (c .before .struct-known .given))
+      Need-returns-2 = (c : After-slice-known3) → Post· (c .before .before .before .before .before .before .before
+          .before .before .before .before .before .before .before .before .before .before .before .before .before
+          .before .before .before .before .before .before .before .before .before .before .κs) (dens (c .before .before
+          .before .before .before .before .before .before .before .before .before .before .before .before .before
+          .before .before .before .before .before .before .before .before .before .before .before .before .before
+          .before .before .κs) (c .before .before .before .before .before .before .before .before .before .before
+          .before .before .before .before .before .before .before .before .before .before .before .before .before
+          .before .before .before .before .before .before .before .args)) (Function.resV r (c .before .before .before
+          .before .before .before .before .before .before .before .before .before .before .before .before .before
+          .before .before .before .before .before .before .before .before .before .before .before .before .before
+          .before .κs) (m53 (c .before) (c .slice-known3 .given) .0)) (Clauses.atExit (Kinds.endedOf 7 ps r) (c .before
+          .before .before .before .before .before .before .before .before .before .before .before .before .before
+          .before .before .before .before .before .before .before .before .before .before .before .before .before
+          .before .before .before .κs) (dens (c .before .before .before .before .before .before .before .before .before
+          .before .before .before .before .before .before .before .before .before .before .before .before .before
+          .before .before .before .before .before .before .before .before .κs) (c .before .before .before .before
+          .before .before .before .before .before .before .before .before .before .before .before .before .before
+          .before .before .before .before .before .before .before .before .before .before .before .before .before
+          .args)) (Enter.lastsP (c .before .before .before .before .before .before .before .before .before .before
+          .before .before .before .before .before .before .before .before .before .before .before .before .before
+          .before .before .before .before .before .before .before .κs) 1 ps xs (dens (c .before .before .before .before
+          .before .before .before .before .before .before .before .before .before .before .before .before .before
+          .before .before .before .before .before .before .before .before .before .before .before .before .before .κs) (c
+          .before .before .before .before .before .before .before .before .before .before .before .before .before
+          .before .before .before .before .before .before .before .before .before .before .before .before .before
+          .before .before .before .before .args)) (m53 (c .before) (c .slice-known3 .given) .1)))
+
+      module _ (packet-requires : Need-packet-requires) (deliver-requires : Need-deliver-requires)
+          (answer-number-requires : Need-answer-number-requires) (same-length : Need-same-length)
+          (same-length-2 : Need-same-length-2) (same-length-3 : Need-same-length-3)
+          (same-length-4 : Need-same-length-4) (same-length-5 : Need-same-length-5) (returns : Need-returns)
+          (again-requires : Need-again-requires) (same-length-6 : Need-same-length-6)
+          (same-length-7 : Need-same-length-7) (same-length-8 : Need-same-length-8)
+          (same-length-9 : Need-same-length-9) (same-length-10 : Need-same-length-10) (returns-2 : Need-returns-2) where
+        lay7 : (c : After-again) → at30 (W0 (c .before .before .before .before .before .before .before .before .before
+            .before .before .before .before .before .before .before .before .before .before .before .before .before
+            .before .before .κs) (c .before .before .before .before .before .before .before .before .before .before
+            .before .before .before .before .before .before .before .before .before .before .before .before .before
+            .before .args)) (m44 (c .before) (After-again·gave c))
+        lay7 = λ c. (
+          Path.refl,
+          λ g. (
+            Path.refl,
+            λ g'. (
+              Path.refl,
+              λ g''. (
+                Path.refl,
+                λ g'3. (
+                  Path.refl,
+                  λ g'4. λ g'5. (
+                    (
+                      MutSlice.fix-len (Row.get 1 (T84 .locals) (m53
+                          record {
+                            before = record {
+                              before = record {
+                                before = record {
+                                  before = record {
+                                    before = record { before = c .before; again = c .again };
+                                    pending2 = record { given = g };
+                                  };
+                                  circuits2 = record { given = g' };
+                                };
+                                ledger2 = record { given = g'' };
+                              };
+                              inflight2 = record { given = g'3 };
+                            };
+                            out2 = record { given = g'4 };
+                          } g'5) .ptr) (Row.get 1 (T84 .locals) (m53
+                          record {
+                            before = record {
+                              before = record {
+                                before = record {
+                                  before = record {
+                                    before = record { before = c .before; again = c .again };
+                                    pending2 = record { given = g };
+                                  };
+                                  circuits2 = record { given = g' };
+                                };
+                                ledger2 = record { given = g'' };
+                              };
+                              inflight2 = record { given = g'3 };
+                            };
+                            out2 = record { given = g'4 };
+                          } g'5) .name) (Row.get 1 (T84 .locals) (m53
+                          record {
+                            before = record {
+                              before = record {
+                                before = record {
+                                  before = record {
+                                    before = record { before = c .before; again = c .again };
+                                    pending2 = record { given = g };
+                                  };
+                                  circuits2 = record { given = g' };
+                                };
+                                ledger2 = record { given = g'' };
+                              };
+                              inflight2 = record { given = g'3 };
+                            };
+                            out2 = record { given = g'4 };
+                          } g'5) .now) (dens (c .before .before .before .before .before .before .before .before .before
+                          .before .before .before .before .before .before .before .before .before .before .before
+                          .before .before .before .before .κs) (c .before .before .before .before .before .before
+                          .before .before .before .before .before .before .before .before .before .before .before
+                          .before .before .before .before .before .before .before .args) .0 .now) (same-length-6
+                          record {
+                            before = record {
+                              before = record {
+                                before = record {
+                                  before = record {
+                                    before = record {
+                                      before = record { before = c .before; again = c .again };
+                                      pending2 = record { given = g };
+                                    };
+                                    circuits2 = record { given = g' };
+                                  };
+                                  ledger2 = record { given = g'' };
+                                };
+                                inflight2 = record { given = g'3 };
+                              };
+                              out2 = record { given = g'4 };
+                            };
+                            slice-known3 = record { given = g'5 };
+                          }),
+                      (
+                        MutSlice.fix-len (Row.get 2 (T84 .locals) (m53
+                            record {
+                              before = record {
+                                before = record {
+                                  before = record {
+                                    before = record {
+                                      before = record { before = c .before; again = c .again };
+                                      pending2 = record { given = g };
+                                    };
+                                    circuits2 = record { given = g' };
+                                  };
+                                  ledger2 = record { given = g'' };
+                                };
+                                inflight2 = record { given = g'3 };
+                              };
+                              out2 = record { given = g'4 };
+                            } g'5) .ptr) (Row.get 2 (T84 .locals) (m53
+                            record {
+                              before = record {
+                                before = record {
+                                  before = record {
+                                    before = record {
+                                      before = record { before = c .before; again = c .again };
+                                      pending2 = record { given = g };
+                                    };
+                                    circuits2 = record { given = g' };
+                                  };
+                                  ledger2 = record { given = g'' };
+                                };
+                                inflight2 = record { given = g'3 };
+                              };
+                              out2 = record { given = g'4 };
+                            } g'5) .name) (Row.get 2 (T84 .locals) (m53
+                            record {
+                              before = record {
+                                before = record {
+                                  before = record {
+                                    before = record {
+                                      before = record { before = c .before; again = c .again };
+                                      pending2 = record { given = g };
+                                    };
+                                    circuits2 = record { given = g' };
+                                  };
+                                  ledger2 = record { given = g'' };
+                                };
+                                inflight2 = record { given = g'3 };
+                              };
+                              out2 = record { given = g'4 };
+                            } g'5) .now) (dens (c .before .before .before .before .before .before .before .before
+                            .before .before .before .before .before .before .before .before .before .before .before
+                            .before .before .before .before .before .κs) (c .before .before .before .before .before
+                            .before .before .before .before .before .before .before .before .before .before .before
+                            .before .before .before .before .before .before .before .before .args) .1 .0 .now) (same-length-7
+                            record {
+                              before = record {
+                                before = record {
+                                  before = record {
+                                    before = record {
+                                      before = record {
+                                        before = record { before = c .before; again = c .again };
+                                        pending2 = record { given = g };
+                                      };
+                                      circuits2 = record { given = g' };
+                                    };
+                                    ledger2 = record { given = g'' };
+                                  };
+                                  inflight2 = record { given = g'3 };
+                                };
+                                out2 = record { given = g'4 };
+                              };
+                              slice-known3 = record { given = g'5 };
+                            }),
+                        (
+                          MutSlice.fix-len (Row.get 3 (T84 .locals) (m53
+                              record {
+                                before = record {
+                                  before = record {
+                                    before = record {
+                                      before = record {
+                                        before = record { before = c .before; again = c .again };
+                                        pending2 = record { given = g };
+                                      };
+                                      circuits2 = record { given = g' };
+                                    };
+                                    ledger2 = record { given = g'' };
+                                  };
+                                  inflight2 = record { given = g'3 };
+                                };
+                                out2 = record { given = g'4 };
+                              } g'5) .ptr) (Row.get 3 (T84 .locals) (m53
+                              record {
+                                before = record {
+                                  before = record {
+                                    before = record {
+                                      before = record {
+                                        before = record { before = c .before; again = c .again };
+                                        pending2 = record { given = g };
+                                      };
+                                      circuits2 = record { given = g' };
+                                    };
+                                    ledger2 = record { given = g'' };
+                                  };
+                                  inflight2 = record { given = g'3 };
+                                };
+                                out2 = record { given = g'4 };
+                              } g'5) .name) (Row.get 3 (T84 .locals) (m53
+                              record {
+                                before = record {
+                                  before = record {
+                                    before = record {
+                                      before = record {
+                                        before = record { before = c .before; again = c .again };
+                                        pending2 = record { given = g };
+                                      };
+                                      circuits2 = record { given = g' };
+                                    };
+                                    ledger2 = record { given = g'' };
+                                  };
+                                  inflight2 = record { given = g'3 };
+                                };
+                                out2 = record { given = g'4 };
+                              } g'5) .now) (dens (c .before .before .before .before .before .before .before .before
+                              .before .before .before .before .before .before .before .before .before .before .before
+                              .before .before .before .before .before .κs) (c .before .before .before .before .before
+                              .before .before .before .before .before .before .before .before .before .before .before
+                              .before .before .before .before .before .before .before .before .args) .1 .1 .0 .now) (same-length-8
+                              record {
+                                before = record {
+                                  before = record {
+                                    before = record {
+                                      before = record {
+                                        before = record {
+                                          before = record { before = c .before; again = c .again };
+                                          pending2 = record { given = g };
+                                        };
+                                        circuits2 = record { given = g' };
+                                      };
+                                      ledger2 = record { given = g'' };
+                                    };
+                                    inflight2 = record { given = g'3 };
+                                  };
+                                  out2 = record { given = g'4 };
+                                };
+                                slice-known3 = record { given = g'5 };
+                              }),
+                          (
+                            MutSlice.fix-len (Row.get 4 (T84 .locals) (m53
+                                record {
+                                  before = record {
+                                    before = record {
+                                      before = record {
+                                        before = record {
+                                          before = record { before = c .before; again = c .again };
+                                          pending2 = record { given = g };
+                                        };
+                                        circuits2 = record { given = g' };
+                                      };
+                                      ledger2 = record { given = g'' };
+                                    };
+                                    inflight2 = record { given = g'3 };
+                                  };
+                                  out2 = record { given = g'4 };
+                                } g'5) .ptr) (Row.get 4 (T84 .locals) (m53
+                                record {
+                                  before = record {
+                                    before = record {
+                                      before = record {
+                                        before = record {
+                                          before = record { before = c .before; again = c .again };
+                                          pending2 = record { given = g };
+                                        };
+                                        circuits2 = record { given = g' };
+                                      };
+                                      ledger2 = record { given = g'' };
+                                    };
+                                    inflight2 = record { given = g'3 };
+                                  };
+                                  out2 = record { given = g'4 };
+                                } g'5) .name) (Row.get 4 (T84 .locals) (m53
+                                record {
+                                  before = record {
+                                    before = record {
+                                      before = record {
+                                        before = record {
+                                          before = record { before = c .before; again = c .again };
+                                          pending2 = record { given = g };
+                                        };
+                                        circuits2 = record { given = g' };
+                                      };
+                                      ledger2 = record { given = g'' };
+                                    };
+                                    inflight2 = record { given = g'3 };
+                                  };
+                                  out2 = record { given = g'4 };
+                                } g'5) .now) (dens (c .before .before .before .before .before .before .before .before
+                                .before .before .before .before .before .before .before .before .before .before .before
+                                .before .before .before .before .before .κs) (c .before .before .before .before .before
+                                .before .before .before .before .before .before .before .before .before .before .before
+                                .before .before .before .before .before .before .before .before .args) .1 .1 .1 .0 .now) (same-length-9
+                                record {
+                                  before = record {
+                                    before = record {
+                                      before = record {
+                                        before = record {
+                                          before = record {
+                                            before = record { before = c .before; again = c .again };
+                                            pending2 = record { given = g };
+                                          };
+                                          circuits2 = record { given = g' };
+                                        };
+                                        ledger2 = record { given = g'' };
+                                      };
+                                      inflight2 = record { given = g'3 };
+                                    };
+                                    out2 = record { given = g'4 };
+                                  };
+                                  slice-known3 = record { given = g'5 };
+                                }),
+                            (
+                              MutSlice.fix-len (Row.get 5 (T84 .locals) (m53
+                                  record {
+                                    before = record {
+                                      before = record {
+                                        before = record {
+                                          before = record {
+                                            before = record { before = c .before; again = c .again };
+                                            pending2 = record { given = g };
+                                          };
+                                          circuits2 = record { given = g' };
+                                        };
+                                        ledger2 = record { given = g'' };
+                                      };
+                                      inflight2 = record { given = g'3 };
+                                    };
+                                    out2 = record { given = g'4 };
+                                  } g'5) .ptr) (Row.get 5 (T84 .locals) (m53
+                                  record {
+                                    before = record {
+                                      before = record {
+                                        before = record {
+                                          before = record {
+                                            before = record { before = c .before; again = c .again };
+                                            pending2 = record { given = g };
+                                          };
+                                          circuits2 = record { given = g' };
+                                        };
+                                        ledger2 = record { given = g'' };
+                                      };
+                                      inflight2 = record { given = g'3 };
+                                    };
+                                    out2 = record { given = g'4 };
+                                  } g'5) .name) (Row.get 5 (T84 .locals) (m53
+                                  record {
+                                    before = record {
+                                      before = record {
+                                        before = record {
+                                          before = record {
+                                            before = record { before = c .before; again = c .again };
+                                            pending2 = record { given = g };
+                                          };
+                                          circuits2 = record { given = g' };
+                                        };
+                                        ledger2 = record { given = g'' };
+                                      };
+                                      inflight2 = record { given = g'3 };
+                                    };
+                                    out2 = record { given = g'4 };
+                                  } g'5) .now) (dens (c .before .before .before .before .before .before .before .before
+                                  .before .before .before .before .before .before .before .before .before .before
+                                  .before .before .before .before .before .before .κs) (c .before .before .before
+                                  .before .before .before .before .before .before .before .before .before .before
+                                  .before .before .before .before .before .before .before .before .before .before
+                                  .before .args) .1 .1 .1 .1 .0 .now) (same-length-10
+                                  record {
+                                    before = record {
+                                      before = record {
+                                        before = record {
+                                          before = record {
+                                            before = record {
+                                              before = record { before = c .before; again = c .again };
+                                              pending2 = record { given = g };
+                                            };
+                                            circuits2 = record { given = g' };
+                                          };
+                                          ledger2 = record { given = g'' };
+                                        };
+                                        inflight2 = record { given = g'3 };
+                                      };
+                                      out2 = record { given = g'4 };
+                                    };
+                                    slice-known3 = record { given = g'5 };
+                                  }),
+                              (tt, (Path.refl, (Path.refl, (tt, tt)))),
+                            ),
+                          ),
+                        ),
+                      ),
+                    ),
+                    returns-2 record {
+                      before = record {
+                        before = record {
+                          before = record {
+                            before = record {
+                              before = record {
+                                before = record { before = c .before; again = c .again };
+                                pending2 = record { given = g };
+                              };
+                              circuits2 = record { given = g' };
+                            };
+                            ledger2 = record { given = g'' };
+                          };
+                          inflight2 = record { given = g'3 };
+                        };
+                        out2 = record { given = g'4 };
+                      };
+                      slice-known3 = record { given = g'5 };
+                    },
+                  ),
+                ),
+              ),
+            ),
+          ),
+        )
+
+        lay6 : (c : Else1) → at46 (W0 (c .before .before .before .before .before .before .before .before .before
+            .before .before .before .before .before .before .before .before .before .κs) (c .before .before .before
+            .before .before .before .before .before .before .before .before .before .before .before .before .before
+            .before .before .args)) (m33 (c .before))
+        lay6 = λ c. λ g. (
+          Path.refl,
+          λ g'. (
+            Path.refl,
+            λ g''. (
+              Path.refl,
+              λ g'3. (
+                Path.refl,
+                λ g'4. (
+                  Path.refl,
+                  (
+                    again-requires record {
+                      before = record {
+                        before = record {
+                          before = record {
+                            before = record {
+                              before = record { before = c .before; if1 = c .if1 };
+                              again-arg = record { given = g };
+                            };
+                            again-arg2 = record { given = g' };
+                          };
+                          again-arg3 = record { given = g'' };
+                        };
+                        again-arg4 = record { given = g'3 };
+                      };
+                      again-arg5 = record { given = g'4 };
+                    },
+                    λ g'5. lay7 record {
+                      before = record {
+                        before = record {
+                          before = record {
+                            before = record {
+                              before = record {
+                                before = record { before = c .before; if1 = c .if1 };
+                                again-arg = record { given = g };
+                              };
+                              again-arg2 = record { given = g' };
+                            };
+                            again-arg3 = record { given = g'' };
+                          };
+                          again-arg4 = record { given = g'3 };
+                        };
+                        again-arg5 = record { given = g'4 };
+                      };
+                      again = Called.called ps·3 r·3 (claims· .7) T65 args63 (m43
+                          record {
+                            before = record {
+                              before = record {
+                                before = record {
+                                  before = record { before = c .before; if1 = c .if1 };
+                                  again-arg = record { given = g };
+                                };
+                                again-arg2 = record { given = g' };
+                              };
+                              again-arg3 = record { given = g'' };
+                            };
+                            again-arg4 = record { given = g'3 };
+                          } g'4) g'5;
+                    },
+                  ),
+                ),
+              ),
+            ),
+          ),
+        )
+
+        lay5 : (c : Else1) → at9 (W1 (c .before .before) (c .before .struct-known .given))
+            (m25 (c .before .before) (c .before .struct-known .given))
         lay5 = λ c. lay6 record { before = c .before; if1 = c .if1 }
-        lay4 : (c : After-answer-number) → at1 (W1 (c .before .before .before) (c .before .before .struct-known .given)) (m30 (c .before)
-            (After-answer-number·gave c))
-        lay4 = λ c. ((MutSlice.fix-len (Row.get 1 (T48 .locals) (m31 (c .before) (After-answer-number·gave c)) .ptr) (Row.get 1 (T48 .locals) (m31 (c
-            .before) (After-answer-number·gave c)) .name) (Row.get 1 (T48 .locals) (m31 (c .before) (After-answer-number·gave c)) .now) (dens (c
-            .before .before .before .before .before .before .before .before .before .before .before .before .before .before .before .before .before
-            .before .before .κs) (c .before .before .before .before .before .before .before .before .before .before .before .before .before .before
-            .before .before .before .before .before .args) .0 .now) (same-length record { before = c .before; answer-number = c .answer-number }),
-            (MutSlice.fix-len (Row.get 2 (T48 .locals) (m31 (c .before) (After-answer-number·gave c)) .ptr) (Row.get 2 (T48 .locals) (m31 (c .before)
-            (After-answer-number·gave c)) .name) (Row.get 2 (T48 .locals) (m31 (c .before) (After-answer-number·gave c)) .now) (dens (c .before
-            .before .before .before .before .before .before .before .before .before .before .before .before .before .before .before .before .before
-            .before .κs) (c .before .before .before .before .before .before .before .before .before .before .before .before .before .before .before
-            .before .before .before .before .args) .1 .0 .now) (same-length-2 record { before = c .before; answer-number = c .answer-number }),
-            (MutSlice.fix-len (Row.get 3 (T48 .locals) (m31 (c .before) (After-answer-number·gave c)) .ptr) (Row.get 3 (T48 .locals) (m31 (c .before)
-            (After-answer-number·gave c)) .name) (Row.get 3 (T48 .locals) (m31 (c .before) (After-answer-number·gave c)) .now) (dens (c .before
-            .before .before .before .before .before .before .before .before .before .before .before .before .before .before .before .before .before
-            .before .κs) (c .before .before .before .before .before .before .before .before .before .before .before .before .before .before .before
-            .before .before .before .before .args) .1 .1 .0 .now) (same-length-3 record { before = c .before; answer-number = c .answer-number }),
-            (MutSlice.fix-len (Row.get 4 (T48 .locals) (m31 (c .before) (After-answer-number·gave c)) .ptr) (Row.get 4 (T48 .locals) (m31 (c .before)
-            (After-answer-number·gave c)) .name) (Row.get 4 (T48 .locals) (m31 (c .before) (After-answer-number·gave c)) .now) (dens (c .before
-            .before .before .before .before .before .before .before .before .before .before .before .before .before .before .before .before .before
-            .before .κs) (c .before .before .before .before .before .before .before .before .before .before .before .before .before .before .before
-            .before .before .before .before .args) .1 .1 .1 .0 .now) (same-length-4 record { before = c .before; answer-number = c .answer-number }),
-            (MutSlice.fix-len (Row.get 5 (T48 .locals) (m31 (c .before) (After-answer-number·gave c)) .ptr) (Row.get 5 (T48 .locals) (m31 (c .before)
-            (After-answer-number·gave c)) .name) (Row.get 5 (T48 .locals) (m31 (c .before) (After-answer-number·gave c)) .now) (dens (c .before
-            .before .before .before .before .before .before .before .before .before .before .before .before .before .before .before .before .before
-            .before .κs) (c .before .before .before .before .before .before .before .before .before .before .before .before .before .before .before
-            .before .before .before .before .args) .1 .1 .1 .1 .0 .now) (same-length-5 record { before = c .before; answer-number = c .answer-number
-            }), (tt, (Path.refl, (Path.refl, (tt, tt)))),),),),),), returns record { before = c .before; answer-number = c .answer-number },)
-        lay3 : (c : Then1) → at6 (W1 (c .before .before) (c .before .struct-known .given)) (m25 (c .before .before) (c .before .struct-known .given))
-        lay3 = λ c. (answer-number-requires record { before = c .before; if1 = c .if1 }, λ g. lay4 record { before = record { before = c .before; if1
-            = c .if1 }; answer-number = Called.called ps·2 r·2 (claims· .5) T46 (record { pos = 12; st = List.[]; d = 0; at = λ x. x }, tt,) (m29 (c
-            .before)) g; },)
-        lay2 : (c : After-deliver) → at67 (W0 (c .before .before .before .before .before .before .before .before .before .before .κs) (c .before
-            .before .before .before .before .before .before .before .before .before .args)) (m15 (c .before) (After-deliver·gave c))
-        lay2 = λ c. (Path.refl, λ g. (Path.refl, λ g'. (Path.refl, λ g''. (Path.refl, λ g'3. (Path.refl, λ g'4. λ g'5. λ g'6. (tt, (λ taken. lay3
-            record { before = record { before = record { before = record { before = record { before = record { before = record { before = record {
-            before = record { before = c .before; deliver = c .deliver; }; pending = record { given = g }; }; circuits = record { given = g' }; };
-            ledger = record { given = g'' }; }; inflight = record { given = g'3 }; }; out = record { given = g'4 }; }; slice-known2 = record { given =
-            g'5 }; }; struct-known = record { given = g'6 }; }; if1 = record { taken = Tests.eqb-true (Script.struct .as-values (Row.get 9 (T40
-            .locals) (m24 record { before = record { before = record { before = record { before = record { before = record { before = record { before
-            = c .before; deliver = c .deliver; }; pending = record { given = g }; }; circuits = record { given = g' }; }; ledger = record { given =
-            g'' }; }; inflight = record { given = g'3 }; }; out = record { given = g'4 }; }; slice-known2 = record { given = g'5 }; } g'6)) .1 .1 .0)
-            1 taken; }; }, λ left. lay5 record { before = record { before = record { before = record { before = record { before = record { before =
-            record { before = record { before = record { before = c .before; deliver = c .deliver; }; pending = record { given = g }; }; circuits =
-            record { given = g' }; }; ledger = record { given = g'' }; }; inflight = record { given = g'3 }; }; out = record { given = g'4 }; };
-            slice-known2 = record { given = g'5 }; }; struct-known = record { given = g'6 }; }; if1 = record { left = Tests.eqb-false (Script.struct
-            .as-values (Row.get 9 (T40 .locals) (m24 record { before = record { before = record { before = record { before = record { before = record
-            { before = record { before = c .before; deliver = c .deliver; }; pending = record { given = g }; }; circuits = record { given = g' }; };
-            ledger = record { given = g'' }; }; inflight = record { given = g'3 }; }; out = record { given = g'4 }; }; slice-known2 = record { given =
-            g'5 }; } g'6)) .1 .1 .0) 1 left; }; },),),),),),),)
-        lay1 : (c : After-packet) → at83 (W0 (c .before .before .before .before .κs) (c .before .before .before .before .args)) (m4 (c .before)
-            (After-packet·gave c))
-        lay1 = λ c. λ g. (Path.refl, λ g'. (Path.refl, λ g''. (Path.refl, λ g'3. (Path.refl, λ g'4. (Path.refl, (deliver-requires record { before =
-            record { before = record { before = record { before = record { before = record { before = c .before; packet = c .packet }; deliver-arg =
-            record { given = g }; }; deliver-arg2 = record { given = g' }; }; deliver-arg3 = record { given = g'' }; }; deliver-arg4 = record { given
-            = g'3 }; }; deliver-arg5 = record { given = g'4 }; }, λ g'5. lay2 record { before = record { before = record { before = record { before =
-            record { before = record { before = record { before = c .before; packet = c .packet }; deliver-arg = record { given = g }; }; deliver-arg2
-            = record { given = g' }; }; deliver-arg3 = record { given = g'' }; }; deliver-arg4 = record { given = g'3 }; }; deliver-arg5 = record {
-            given = g'4 }; }; deliver = Called.called ps·1 r·1 (claims· .3) T20 (record { pos = 14; ty = Syntax.tyRef Syntax.erased Syntax.mut
-            RelayPending.to; ref = λ x. x; }, (record { pos = 16; ty = Syntax.tyRef Syntax.erased Syntax.mut RelayCircuit.to; ref = λ x. x; }, (record
-            { pos = 18; ty = Syntax.tyRef Syntax.erased Syntax.mut ReservationUsage.to; ref = λ x. x; }, (record { pos = 20; ty = Syntax.tyRef
-            Syntax.erased Syntax.mut InflightAction.to; ref = λ x. x; }, (record { pos = 22; ty = Syntax.tyRef Syntax.erased Syntax.mut (Syntax.tyInt
-            Syntax.w32); ref = λ x. x; }, (record { pos = 6; st = List.[]; d = 0; at = λ x. x }, (record { pos = 10; st = List.[]; d = 0; at = λ x. x
-            }, (Num.vFld 9 ((Syntax.field 4) ∷ List.[]) 18 λ x. Script.struct .as-values x .1 .1 .1 .1 .0, (record { pos = 7; ty = Syntax.tyRef
-            (Syntax.named 5) Syntax.imm (Syntax.tyInt Syntax.w8); ref = λ x. x; }, tt,),),),),),),),),) (m14 record { before = record { before =
-            record { before = record { before = record { before = c .before; packet = c .packet }; deliver-arg = record { given = g }; }; deliver-arg2
-            = record { given = g' }; }; deliver-arg3 = record { given = g'' }; }; deliver-arg4 = record { given = g'3 }; } g'4) g'5; },),),),),),)
+
+        lay4 : (c : After-answer-number) → at1 (W1 (c .before .before .before) (c .before .before .struct-known .given))
+            (m30 (c .before) (After-answer-number·gave c))
+        lay4 = λ c. (
+          (
+            MutSlice.fix-len (Row.get 1 (T48 .locals) (m31 (c .before) (After-answer-number·gave c)) .ptr) (Row.get 1
+                (T48 .locals) (m31 (c .before) (After-answer-number·gave c)) .name) (Row.get 1 (T48 .locals)
+                (m31 (c .before) (After-answer-number·gave c)) .now) (dens (c .before .before .before .before .before
+                .before .before .before .before .before .before .before .before .before .before .before .before .before
+                .before .κs) (c .before .before .before .before .before .before .before .before .before .before .before
+                .before .before .before .before .before .before .before .before .args) .0 .now) (same-length
+                record { before = c .before; answer-number = c .answer-number }),
+            (
+              MutSlice.fix-len (Row.get 2 (T48 .locals) (m31 (c .before) (After-answer-number·gave c)) .ptr) (Row.get 2
+                  (T48 .locals) (m31 (c .before) (After-answer-number·gave c)) .name) (Row.get 2 (T48 .locals)
+                  (m31 (c .before) (After-answer-number·gave c)) .now) (dens (c .before .before .before .before .before
+                  .before .before .before .before .before .before .before .before .before .before .before .before
+                  .before .before .κs) (c .before .before .before .before .before .before .before .before .before
+                  .before .before .before .before .before .before .before .before .before .before .args) .1 .0 .now) (same-length-2
+                  record { before = c .before; answer-number = c .answer-number }),
+              (
+                MutSlice.fix-len (Row.get 3 (T48 .locals) (m31 (c .before) (After-answer-number·gave c)) .ptr) (Row.get
+                    3 (T48 .locals) (m31 (c .before) (After-answer-number·gave c)) .name) (Row.get 3 (T48 .locals)
+                    (m31 (c .before) (After-answer-number·gave c)) .now) (dens (c .before .before .before .before
+                    .before .before .before .before .before .before .before .before .before .before .before .before
+                    .before .before .before .κs) (c .before .before .before .before .before .before .before .before
+                    .before .before .before .before .before .before .before .before .before .before .before .args) .1
+                    .1 .0 .now) (same-length-3 record { before = c .before; answer-number = c .answer-number }),
+                (
+                  MutSlice.fix-len (Row.get 4 (T48 .locals) (m31 (c .before) (After-answer-number·gave c)) .ptr) (Row.get
+                      4 (T48 .locals) (m31 (c .before) (After-answer-number·gave c)) .name) (Row.get 4 (T48 .locals)
+                      (m31 (c .before) (After-answer-number·gave c)) .now) (dens (c .before .before .before .before
+                      .before .before .before .before .before .before .before .before .before .before .before .before
+                      .before .before .before .κs) (c .before .before .before .before .before .before .before .before
+                      .before .before .before .before .before .before .before .before .before .before .before .args) .1
+                      .1 .1 .0 .now) (same-length-4 record { before = c .before; answer-number = c .answer-number }),
+                  (
+                    MutSlice.fix-len (Row.get 5 (T48 .locals) (m31 (c .before) (After-answer-number·gave c)) .ptr) (Row.get
+                        5 (T48 .locals) (m31 (c .before) (After-answer-number·gave c)) .name) (Row.get 5 (T48 .locals)
+                        (m31 (c .before) (After-answer-number·gave c)) .now) (dens (c .before .before .before .before
+                        .before .before .before .before .before .before .before .before .before .before .before .before
+                        .before .before .before .κs) (c .before .before .before .before .before .before .before .before
+                        .before .before .before .before .before .before .before .before .before .before .before .args)
+                        .1 .1 .1 .1 .0 .now) (same-length-5
+                        record { before = c .before; answer-number = c .answer-number }),
+                    (tt, (Path.refl, (Path.refl, (tt, tt)))),
+                  ),
+                ),
+              ),
+            ),
+          ),
+          returns record { before = c .before; answer-number = c .answer-number },
+        )
+
+        lay3 : (c : Then1) → at6 (W1 (c .before .before) (c .before .struct-known .given))
+            (m25 (c .before .before) (c .before .struct-known .given))
+        lay3 = λ c. (
+          answer-number-requires record { before = c .before; if1 = c .if1 },
+          λ g. lay4 record {
+            before = record { before = c .before; if1 = c .if1 };
+            answer-number = Called.called ps·2 r·2 (claims· .5) T46 args44 (m29 (c .before)) g;
+          },
+        )
+
+        lay2 : (c : After-deliver) → at67 (W0 (c .before .before .before .before .before .before .before .before
+            .before .before .κs) (c .before .before .before .before .before .before .before .before .before .before
+            .args)) (m15 (c .before) (After-deliver·gave c))
+        lay2 = λ c. (
+          Path.refl,
+          λ g. (
+            Path.refl,
+            λ g'. (
+              Path.refl,
+              λ g''. (
+                Path.refl,
+                λ g'3. (
+                  Path.refl,
+                  λ g'4. λ g'5. λ g'6. (
+                    tt,
+                    (
+                      λ taken. lay3 record {
+                        before = record {
+                          before = record {
+                            before = record {
+                              before = record {
+                                before = record {
+                                  before = record {
+                                    before = record {
+                                      before = record { before = c .before; deliver = c .deliver };
+                                      pending = record { given = g };
+                                    };
+                                    circuits = record { given = g' };
+                                  };
+                                  ledger = record { given = g'' };
+                                };
+                                inflight = record { given = g'3 };
+                              };
+                              out = record { given = g'4 };
+                            };
+                            slice-known2 = record { given = g'5 };
+                          };
+                          struct-known = record { given = g'6 };
+                        };
+                        if1 = record {
+                          taken = Tests.eqb-true (Script.struct .as-values (Row.get 9 (T40 .locals) (m24
+                              record {
+                                before = record {
+                                  before = record {
+                                    before = record {
+                                      before = record {
+                                        before = record {
+                                          before = record { before = c .before; deliver = c .deliver };
+                                          pending = record { given = g };
+                                        };
+                                        circuits = record { given = g' };
+                                      };
+                                      ledger = record { given = g'' };
+                                    };
+                                    inflight = record { given = g'3 };
+                                  };
+                                  out = record { given = g'4 };
+                                };
+                                slice-known2 = record { given = g'5 };
+                              } g'6)) .1 .1 .0) 1 taken;
+                        };
+                      },
+                      λ left. lay5 record {
+                        before = record {
+                          before = record {
+                            before = record {
+                              before = record {
+                                before = record {
+                                  before = record {
+                                    before = record {
+                                      before = record { before = c .before; deliver = c .deliver };
+                                      pending = record { given = g };
+                                    };
+                                    circuits = record { given = g' };
+                                  };
+                                  ledger = record { given = g'' };
+                                };
+                                inflight = record { given = g'3 };
+                              };
+                              out = record { given = g'4 };
+                            };
+                            slice-known2 = record { given = g'5 };
+                          };
+                          struct-known = record { given = g'6 };
+                        };
+                        if1 = record {
+                          left = Tests.eqb-false (Script.struct .as-values (Row.get 9 (T40 .locals) (m24
+                              record {
+                                before = record {
+                                  before = record {
+                                    before = record {
+                                      before = record {
+                                        before = record {
+                                          before = record { before = c .before; deliver = c .deliver };
+                                          pending = record { given = g };
+                                        };
+                                        circuits = record { given = g' };
+                                      };
+                                      ledger = record { given = g'' };
+                                    };
+                                    inflight = record { given = g'3 };
+                                  };
+                                  out = record { given = g'4 };
+                                };
+                                slice-known2 = record { given = g'5 };
+                              } g'6)) .1 .1 .0) 1 left;
+                        };
+                      },
+                    ),
+                  ),
+                ),
+              ),
+            ),
+          ),
+        )
+
+        lay1 : (c : After-packet) → at83 (W0 (c .before .before .before .before .κs)
+            (c .before .before .before .before .args)) (m4 (c .before) (After-packet·gave c))
+        lay1 = λ c. λ g. (
+          Path.refl,
+          λ g'. (
+            Path.refl,
+            λ g''. (
+              Path.refl,
+              λ g'3. (
+                Path.refl,
+                λ g'4. (
+                  Path.refl,
+                  (
+                    deliver-requires record {
+                      before = record {
+                        before = record {
+                          before = record {
+                            before = record {
+                              before = record { before = c .before; packet = c .packet };
+                              deliver-arg = record { given = g };
+                            };
+                            deliver-arg2 = record { given = g' };
+                          };
+                          deliver-arg3 = record { given = g'' };
+                        };
+                        deliver-arg4 = record { given = g'3 };
+                      };
+                      deliver-arg5 = record { given = g'4 };
+                    },
+                    λ g'5. lay2 record {
+                      before = record {
+                        before = record {
+                          before = record {
+                            before = record {
+                              before = record {
+                                before = record { before = c .before; packet = c .packet };
+                                deliver-arg = record { given = g };
+                              };
+                              deliver-arg2 = record { given = g' };
+                            };
+                            deliver-arg3 = record { given = g'' };
+                          };
+                          deliver-arg4 = record { given = g'3 };
+                        };
+                        deliver-arg5 = record { given = g'4 };
+                      };
+                      deliver = Called.called ps·1 r·1 (claims· .3) T20 args19 (m14
+                          record {
+                            before = record {
+                              before = record {
+                                before = record {
+                                  before = record { before = c .before; packet = c .packet };
+                                  deliver-arg = record { given = g };
+                                };
+                                deliver-arg2 = record { given = g' };
+                              };
+                              deliver-arg3 = record { given = g'' };
+                            };
+                            deliver-arg4 = record { given = g'3 };
+                          } g'4) g'5;
+                    },
+                  ),
+                ),
+              ),
+            ),
+          ),
+        )
+
         pub laid : (c : Start) → at87 (W0 (c .κs) (c .args)) (m0 (c .κs) (c .args))
-        laid = λ c. λ g. λ g'. λ g''. (packet-requires record { before = record { before = record { before = c; slice-known = record { given = g } };
-            shared-slice-known = record { given = g' }; }; shared-slice-known2 = record { given = g'' }; }, λ g'3. lay1 record { before = record {
-            before = record { before = record { before = c; slice-known = record { given = g } }; shared-slice-known = record { given = g' }; };
-            shared-slice-known2 = record { given = g'' }; }; packet = Called.called ps·0 r·0 (claims· .1) T4 (Num.vFld 9 ((Syntax.field 3) ∷ List.[])
-            17 λ x. Script.struct .as-values x .1 .1 .1 .0, (Num.vFld 9 ((Syntax.field 5) ∷ List.[]) 24 λ x. Script.struct .as-values x .1 .1 .1 .1 .1
-            .0, tt,),) (m3 record { before = record { before = c; slice-known = record { given = g } }; shared-slice-known = record { given = g' }; }
-            g'') g'3; },)
+        laid = λ c. λ g. λ g'. λ g''. (
+          packet-requires record {
+            before = record {
+              before = record { before = c; slice-known = record { given = g } };
+              shared-slice-known = record { given = g' };
+            };
+            shared-slice-known2 = record { given = g'' };
+          },
+          λ g'3. lay1 record {
+            before = record {
+              before = record {
+                before = record { before = c; slice-known = record { given = g } };
+                shared-slice-known = record { given = g' };
+              };
+              shared-slice-known2 = record { given = g'' };
+            };
+            packet = Called.called ps·0 r·0 (claims· .1) T4 args3 (m3
+                record {
+                  before = record { before = c; slice-known = record { given = g } };
+                  shared-slice-known = record { given = g' };
+                } g'') g'3;
+          },
+        )
+
         module _ (κs : Lifetimes.Lfts 7) (qs : Lifetimes.Shares 7) where
-          pub asked : (a : Kinds.Dens κs ps) → (good : Kinds.GoodsP κs ps a) → (pre : Pre· κs a) → (bs : List.List Nat.ℕ) → Φ (Any.wantQ 7 ps r xs m
-              κs qs a (Post· κs a)) (Function.init 7 ps r xs m κs qs a)
-          asked = λ a good pre bs. laid record { κs = κs; args = record { pending = a .0; circuits = a .1 .0; ledger = a .1 .1 .0; inflight = a .1 .1
-              .1 .0; out = a .1 .1 .1 .1 .0; kept = a .1 .1 .1 .1 .1 .0; first = a .1 .1 .1 .1 .1 .1 .0; second = a .1 .1 .1 .1 .1 .1 .1 .0; script =
-              a .1 .1 .1 .1 .1 .1 .1 .1 .0; }; good = good; pre = pre; }
-        module _ { M : Type 1 } (𝓤 : URA.URA M) (H : Wp.Heap 𝓤) (A : Atoms.Atoms 𝓤) (W : Kit.Given 𝓤 H A) (𝓣 : Wp.Tables 𝓤 H) (known0 : Plain.Known 𝓤
-            H A W 𝓣 0 ps·0 r·0 (claims· .0) (claims· .1) "cases::script::packet") (known1 : Plain.Known 𝓤 H A W 𝓣 6 ps·1 r·1 (claims· .2) (claims· .3)
-            "cases::machine::deliver") (known2 : Plain.Known 𝓤 H A W 𝓣 0 ps·2 r·2 (claims· .4) (claims· .5) "cases::script::answer_number") (known3 :
-            Plain.Known 𝓤 H A W 𝓣 6 ps·3 r·3 (claims· .6) (claims· .7) "cases::machine::again") where
-          pub spec : Statement.Triple 𝓤 (Wp.WpFn 𝓤 H (𝓣 .C) (𝓣 .Λ) (Function.fnOf 7 ps r xs m hs body)) (Function.plainOf 𝓤 H A 7 ps r Pre· Post·)
-          spec = Plain.t-fn-plain 𝓤 H A W 𝓣 7 ps r xs m hs body (λ κs qs bs. Φ) (λ κs qs bs bd. typed κs qs 𝓤 H A W 𝓣 (known0, known1, known2, known3)
-              bs bd) Pre· Post· asked
+          pub asked : (a : Kinds.Dens κs ps) → (good : Kinds.GoodsP κs ps a) → (pre : Pre· κs a) →
+              (bs : List.List Nat.ℕ) → Φ (Any.wantQ 7 ps r xs m κs qs a (Post· κs a))
+              (Function.init 7 ps r xs m κs qs a)
+          asked = λ a good pre bs. laid record {
+            κs = κs;
+            args = record {
+              pending = a .0;
+              circuits = a .1 .0;
+              ledger = a .1 .1 .0;
+              inflight = a .1 .1 .1 .0;
+              out = a .1 .1 .1 .1 .0;
+              kept = a .1 .1 .1 .1 .1 .0;
+              first = a .1 .1 .1 .1 .1 .1 .0;
+              second = a .1 .1 .1 .1 .1 .1 .1 .0;
+              script = a .1 .1 .1 .1 .1 .1 .1 .1 .0;
+            };
+            good = good;
+            pre = pre;
+          }
+
+        module _ {M : Type 1} (𝓤 : URA.URA M) (H : Wp.Heap 𝓤) (A : Atoms.Atoms 𝓤) (W : Kit.Given 𝓤 H A)
+            (𝓣 : Wp.Tables 𝓤 H) (known0 : Plain.Known 𝓤 H A W 𝓣 0 ps·0 r·0 (claims· .0) (claims· .1)
+            "cases::script::packet") (known1 : Plain.Known 𝓤 H A W 𝓣 6 ps·1 r·1 (claims· .2) (claims· .3)
+            "cases::machine::deliver") (known2 : Plain.Known 𝓤 H A W 𝓣 0 ps·2 r·2 (claims· .4) (claims· .5)
+            "cases::script::answer_number") (known3 : Plain.Known 𝓤 H A W 𝓣 6 ps·3 r·3 (claims· .6) (claims· .7)
+            "cases::machine::again") where
+          pub spec : Statement.Triple 𝓤 (Wp.WpFn 𝓤 H (𝓣 .C) (𝓣 .Λ) (Function.fnOf 7 ps r xs m hs body))
+              (Function.plainOf 𝓤 H A 7 ps r Pre· Post·)
+          spec = Plain.t-fn-plain 𝓤 H A W 𝓣 7 ps r xs m hs body (λ κs qs bs. Φ) (λ κs qs bs bd. typed κs qs 𝓤 H A W 𝓣
+              (known0, known1, known2, known3) bs bd) Pre· Post· asked

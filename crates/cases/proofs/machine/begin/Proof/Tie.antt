@@ -15,45 +15,40 @@ use borrow.Fn.Run
 use borrow.Fn.Written
 use contract.Running
 
+abbrev pub readings : Lts.Claims
+readings = (Reads'.Asked, Reads'.Learnt, Reads''.Asked, Reads''.Learnt)
+
 abbrev pub Start : Type 0
-Start = Lts.Start (Reads'.Asked, Reads'.Learnt, Reads''.Asked, Reads''.Learnt) Reads.Pre Reads.Post
+Start = Lts.Start readings Reads.Pre Reads.Post
 
 abbrev pub After-configured : Type 0
-After-configured = Lts.After-configured (Reads'.Asked, Reads'.Learnt, Reads''.Asked, Reads''.Learnt) Reads.Pre Reads.Post
+After-configured = Lts.After-configured readings Reads.Pre Reads.Post
 
 abbrev pub After-new : Type 0
-After-new = Lts.After-new (Reads'.Asked, Reads'.Learnt, Reads''.Asked, Reads''.Learnt) Reads.Pre Reads.Post
+After-new = Lts.After-new readings Reads.Pre Reads.Post
 
 abbrev pub Need-configured-requires : Type 0
-Need-configured-requires = Lts.Need-configured-requires (Reads'.Asked, Reads'.Learnt, Reads''.Asked, Reads''.Learnt) Reads.Pre Reads.Post
+Need-configured-requires = Lts.Need-configured-requires readings Reads.Pre Reads.Post
 
 abbrev pub Need-new-requires : Type 0
-Need-new-requires = Lts.Need-new-requires (Reads'.Asked, Reads'.Learnt, Reads''.Asked, Reads''.Learnt) Reads.Pre Reads.Post
+Need-new-requires = Lts.Need-new-requires readings Reads.Pre Reads.Post
 
 abbrev pub Need-returns : Type 0
-Need-returns = Lts.Need-returns (Reads'.Asked, Reads'.Learnt, Reads''.Asked, Reads''.Learnt) Reads.Pre Reads.Post
+Need-returns = Lts.Need-returns readings Reads.Pre Reads.Post
 
 module _ {M : Type 1} where
-  pub spec : (answer : Need-configured-requires) → (answer : Need-new-requires) → (answer : Need-returns) → Lts.Closed (
-    Reads'.Asked,
-    Reads'.Learnt,
-    Reads''.Asked,
-    Reads''.Learnt,
-  ) Reads.Pre Reads.Post M
-  spec = λ answer answer' answer''. Lts.spec (Reads'.Asked, Reads'.Learnt, Reads''.Asked, Reads''.Learnt) Reads.Pre Reads.Post answer answer'
-      answer''
+  pub spec : (answer : Need-configured-requires) → (answer : Need-new-requires) → (answer : Need-returns) → Lts.Closed
+      readings Reads.Pre Reads.Post M
+  spec = λ answer answer' answer''. Lts.spec readings Reads.Pre Reads.Post answer answer' answer''
 
-  pub close : Lts.Closed (Reads'.Asked, Reads'.Learnt, Reads''.Asked, Reads''.Learnt) Reads.Pre Reads.Post M → Statement.statement M
+  pub close : Lts.Closed readings Reads.Pre Reads.Post M → Statement.statement M
   unfolding Code.routine Running.tablesOf
-  close = λ closed 𝓤 H 𝓜 𝓖 𝓡. Written.close 4 Kinds.ps Kinds.r Reads.Ghost Reads.requires Reads.ensures Reads.pre-read Reads.Pinned Reads.Owned
-      Reads.post-read record { M = M; 𝓤 = 𝓤; H = H; 𝓜 = 𝓜; 𝓖 = 𝓖; 𝓡 = 𝓡 } Code.env Key.name Code.function (Code.unfolded 𝓤 H 𝓜 𝓡) (λ κs a g. tt) (λ
-      κs. Reads.owns κs record { M = M; 𝓤 = 𝓤; H = H; 𝓜 = 𝓜; 𝓖 = 𝓖; 𝓡 = 𝓡 }) (Reads.passes record { M = M; 𝓤 = 𝓤; H = H; 𝓜 = 𝓜; 𝓖 = 𝓖; 𝓡 = 𝓡 }) λ g.
-      closed 𝓤 H (𝓖 .A) (Running.givenOf 𝓤 H 𝓜 𝓖) (Run.Over 𝓤 H 𝓜 𝓖 𝓡 Code.env) (Reads'.known record { M = M; 𝓤 = 𝓤; H = H; 𝓜 = 𝓜; 𝓖 = 𝓖; 𝓡 = 𝓡 }
-      Code.env Symbol.name Symbol.routine Code.calls-cases·script·configured (Met.met 𝓤 H 𝓜 𝓖 𝓡)) (Reads''.known record {
-        M = M;
-        𝓤 = 𝓤;
-        H = H;
-        𝓜 = 𝓜;
-        𝓖 = 𝓖;
-        𝓡 = 𝓡;
-      } Code.env Symbol'.name Symbol'.routine Code.calls-hnsr-circuit·calls·new (Met'.met 𝓤 H 𝓜 𝓖 𝓡))
+  close = λ closed 𝓤 H 𝓜 𝓖 𝓡. Written.close 4 Kinds.ps Kinds.r Reads.Ghost Reads.requires Reads.ensures Reads.pre-read
+      Reads.Pinned Reads.Owned Reads.post-read record { M = M; 𝓤 = 𝓤; H = H; 𝓜 = 𝓜; 𝓖 = 𝓖; 𝓡 = 𝓡 } Code.env Key.name
+      Code.function (Code.unfolded 𝓤 H 𝓜 𝓡) (λ κs a g. tt) (λ κs. Reads.owns κs
+      record { M = M; 𝓤 = 𝓤; H = H; 𝓜 = 𝓜; 𝓖 = 𝓖; 𝓡 = 𝓡 }) (Reads.passes
+      record { M = M; 𝓤 = 𝓤; H = H; 𝓜 = 𝓜; 𝓖 = 𝓖; 𝓡 = 𝓡 }) λ g. closed 𝓤 H (𝓖 .A) (Running.givenOf 𝓤 H 𝓜 𝓖)
+      (Run.Over 𝓤 H 𝓜 𝓖 𝓡 Code.env) (Reads'.known record { M = M; 𝓤 = 𝓤; H = H; 𝓜 = 𝓜; 𝓖 = 𝓖; 𝓡 = 𝓡 } Code.env
+      Symbol.name Symbol.routine Code.calls-cases·script·configured (Met.met 𝓤 H 𝓜 𝓖 𝓡)) (Reads''.known
+      record { M = M; 𝓤 = 𝓤; H = H; 𝓜 = 𝓜; 𝓖 = 𝓖; 𝓡 = 𝓡 } Code.env Symbol'.name Symbol'.routine
+      Code.calls-hnsr-circuit·calls·new (Met'.met 𝓤 H 𝓜 𝓖 𝓡))

@@ -12,107 +12,113 @@ use borrow.Fn.Run
 use borrow.Fn.Written
 use contract.Running
 
+abbrev pub readings : Lts.Claims
+readings = (Reads'.Asked, Reads'.Learnt)
+
 abbrev pub Start : Type 0
-Start = Lts.Start (Reads'.Asked, Reads'.Learnt) Reads.Pre Reads.Post
+Start = Lts.Start readings Reads.Pre Reads.Post
 
 abbrev pub After-slice-known : Type 0
-After-slice-known = Lts.After-slice-known (Reads'.Asked, Reads'.Learnt) Reads.Pre Reads.Post
+After-slice-known = Lts.After-slice-known readings Reads.Pre Reads.Post
 
 abbrev pub After-shared-slice-known : Type 0
-After-shared-slice-known = Lts.After-shared-slice-known (Reads'.Asked, Reads'.Learnt) Reads.Pre Reads.Post
+After-shared-slice-known = Lts.After-shared-slice-known readings Reads.Pre Reads.Post
 
 abbrev pub After-runtime : Type 0
-After-runtime = Lts.After-runtime (Reads'.Asked, Reads'.Learnt) Reads.Pre Reads.Post
+After-runtime = Lts.After-runtime readings Reads.Pre Reads.Post
 
 abbrev pub After-places : Type 0
-After-places = Lts.After-places (Reads'.Asked, Reads'.Learnt) Reads.Pre Reads.Post
+After-places = Lts.After-places readings Reads.Pre Reads.Post
 
 abbrev pub After-handle-arg : Type 0
-After-handle-arg = Lts.After-handle-arg (Reads'.Asked, Reads'.Learnt) Reads.Pre Reads.Post
+After-handle-arg = Lts.After-handle-arg readings Reads.Pre Reads.Post
 
 abbrev pub After-handle-arg2 : Type 0
-After-handle-arg2 = Lts.After-handle-arg2 (Reads'.Asked, Reads'.Learnt) Reads.Pre Reads.Post
+After-handle-arg2 = Lts.After-handle-arg2 readings Reads.Pre Reads.Post
 
 abbrev pub After-handle-arg3 : Type 0
-After-handle-arg3 = Lts.After-handle-arg3 (Reads'.Asked, Reads'.Learnt) Reads.Pre Reads.Post
+After-handle-arg3 = Lts.After-handle-arg3 readings Reads.Pre Reads.Post
 
 abbrev pub After-handle-arg4 : Type 0
-After-handle-arg4 = Lts.After-handle-arg4 (Reads'.Asked, Reads'.Learnt) Reads.Pre Reads.Post
+After-handle-arg4 = Lts.After-handle-arg4 readings Reads.Pre Reads.Post
 
 abbrev pub After-handle-arg5 : Type 0
-After-handle-arg5 = Lts.After-handle-arg5 (Reads'.Asked, Reads'.Learnt) Reads.Pre Reads.Post
+After-handle-arg5 = Lts.After-handle-arg5 readings Reads.Pre Reads.Post
 
 abbrev pub After-source : Type 0
-After-source = Lts.After-source (Reads'.Asked, Reads'.Learnt) Reads.Pre Reads.Post
+After-source = Lts.After-source readings Reads.Pre Reads.Post
 
 abbrev pub After-none : Type 0
-After-none = Lts.After-none (Reads'.Asked, Reads'.Learnt) Reads.Pre Reads.Post
+After-none = Lts.After-none readings Reads.Pre Reads.Post
 
 abbrev pub After-handle-arg6 : Type 0
-After-handle-arg6 = Lts.After-handle-arg6 (Reads'.Asked, Reads'.Learnt) Reads.Pre Reads.Post
+After-handle-arg6 = Lts.After-handle-arg6 readings Reads.Pre Reads.Post
 
 abbrev pub After-handle : Type 0
-After-handle = Lts.After-handle (Reads'.Asked, Reads'.Learnt) Reads.Pre Reads.Post
+After-handle = Lts.After-handle readings Reads.Pre Reads.Post
 
 abbrev pub After-pending : Type 0
-After-pending = Lts.After-pending (Reads'.Asked, Reads'.Learnt) Reads.Pre Reads.Post
+After-pending = Lts.After-pending readings Reads.Pre Reads.Post
 
 abbrev pub After-circuits : Type 0
-After-circuits = Lts.After-circuits (Reads'.Asked, Reads'.Learnt) Reads.Pre Reads.Post
+After-circuits = Lts.After-circuits readings Reads.Pre Reads.Post
 
 abbrev pub After-ledger : Type 0
-After-ledger = Lts.After-ledger (Reads'.Asked, Reads'.Learnt) Reads.Pre Reads.Post
+After-ledger = Lts.After-ledger readings Reads.Pre Reads.Post
 
 abbrev pub After-inflight : Type 0
-After-inflight = Lts.After-inflight (Reads'.Asked, Reads'.Learnt) Reads.Pre Reads.Post
+After-inflight = Lts.After-inflight readings Reads.Pre Reads.Post
 
 abbrev pub After-out : Type 0
-After-out = Lts.After-out (Reads'.Asked, Reads'.Learnt) Reads.Pre Reads.Post
+After-out = Lts.After-out readings Reads.Pre Reads.Post
 
 abbrev pub After-slice-known2 : Type 0
-After-slice-known2 = Lts.After-slice-known2 (Reads'.Asked, Reads'.Learnt) Reads.Pre Reads.Post
+After-slice-known2 = Lts.After-slice-known2 readings Reads.Pre Reads.Post
 
 abbrev pub Need-slice-aggregate-handle : Type 0
-Need-slice-aggregate-handle = Lts.Need-slice-aggregate-handle (Reads'.Asked, Reads'.Learnt) Reads.Pre Reads.Post
+Need-slice-aggregate-handle = Lts.Need-slice-aggregate-handle readings Reads.Pre Reads.Post
 
 abbrev pub Need-slice-aggregate-handle-2 : Type 0
-Need-slice-aggregate-handle-2 = Lts.Need-slice-aggregate-handle-2 (Reads'.Asked, Reads'.Learnt) Reads.Pre Reads.Post
+Need-slice-aggregate-handle-2 = Lts.Need-slice-aggregate-handle-2 readings Reads.Pre Reads.Post
 
 abbrev pub Need-slice-aggregate-handle-3 : Type 0
-Need-slice-aggregate-handle-3 = Lts.Need-slice-aggregate-handle-3 (Reads'.Asked, Reads'.Learnt) Reads.Pre Reads.Post
+Need-slice-aggregate-handle-3 = Lts.Need-slice-aggregate-handle-3 readings Reads.Pre Reads.Post
 
 abbrev pub Need-handle-requires : Type 0
-Need-handle-requires = Lts.Need-handle-requires (Reads'.Asked, Reads'.Learnt) Reads.Pre Reads.Post
+Need-handle-requires = Lts.Need-handle-requires readings Reads.Pre Reads.Post
 
 abbrev pub Need-same-length : Type 0
-Need-same-length = Lts.Need-same-length (Reads'.Asked, Reads'.Learnt) Reads.Pre Reads.Post
+Need-same-length = Lts.Need-same-length readings Reads.Pre Reads.Post
 
 abbrev pub Need-same-length-2 : Type 0
-Need-same-length-2 = Lts.Need-same-length-2 (Reads'.Asked, Reads'.Learnt) Reads.Pre Reads.Post
+Need-same-length-2 = Lts.Need-same-length-2 readings Reads.Pre Reads.Post
 
 abbrev pub Need-same-length-3 : Type 0
-Need-same-length-3 = Lts.Need-same-length-3 (Reads'.Asked, Reads'.Learnt) Reads.Pre Reads.Post
+Need-same-length-3 = Lts.Need-same-length-3 readings Reads.Pre Reads.Post
 
 abbrev pub Need-same-length-4 : Type 0
-Need-same-length-4 = Lts.Need-same-length-4 (Reads'.Asked, Reads'.Learnt) Reads.Pre Reads.Post
+Need-same-length-4 = Lts.Need-same-length-4 readings Reads.Pre Reads.Post
 
 abbrev pub Need-same-length-5 : Type 0
-Need-same-length-5 = Lts.Need-same-length-5 (Reads'.Asked, Reads'.Learnt) Reads.Pre Reads.Post
+Need-same-length-5 = Lts.Need-same-length-5 readings Reads.Pre Reads.Post
 
 abbrev pub Need-returns : Type 0
-Need-returns = Lts.Need-returns (Reads'.Asked, Reads'.Learnt) Reads.Pre Reads.Post
+Need-returns = Lts.Need-returns readings Reads.Pre Reads.Post
 
 module _ {M : Type 1} where
-  pub spec : (answer : Need-slice-aggregate-handle) → (answer : Need-slice-aggregate-handle-2) → (answer : Need-slice-aggregate-handle-3) → (answer :
-      Need-handle-requires) → (answer : Need-same-length) → (answer : Need-same-length-2) → (answer : Need-same-length-3) → (answer :
-      Need-same-length-4) → (answer : Need-same-length-5) → (answer : Need-returns) → Lts.Closed (Reads'.Asked, Reads'.Learnt) Reads.Pre Reads.Post M
-  spec = λ answer answer' answer'' answer'3 answer'4 answer'5 answer'6 answer'7 answer'8 answer'9. Lts.spec (Reads'.Asked, Reads'.Learnt) Reads.Pre
-      Reads.Post answer answer' answer'' answer'3 answer'4 answer'5 answer'6 answer'7 answer'8 answer'9
+  pub spec : (answer : Need-slice-aggregate-handle) → (answer : Need-slice-aggregate-handle-2) →
+      (answer : Need-slice-aggregate-handle-3) → (answer : Need-handle-requires) → (answer : Need-same-length) →
+      (answer : Need-same-length-2) → (answer : Need-same-length-3) → (answer : Need-same-length-4) →
+      (answer : Need-same-length-5) → (answer : Need-returns) → Lts.Closed readings Reads.Pre Reads.Post M
+  spec = λ answer answer' answer'' answer'3 answer'4 answer'5 answer'6 answer'7 answer'8 answer'9. Lts.spec readings
+      Reads.Pre Reads.Post answer answer' answer'' answer'3 answer'4 answer'5 answer'6 answer'7 answer'8 answer'9
 
-  pub close : Lts.Closed (Reads'.Asked, Reads'.Learnt) Reads.Pre Reads.Post M → Statement.statement M
+  pub close : Lts.Closed readings Reads.Pre Reads.Post M → Statement.statement M
   unfolding Code.routine Running.tablesOf
-  close = λ closed 𝓤 H 𝓜 𝓖 𝓡. Written.close 6 Kinds.ps Kinds.r Reads.Ghost Reads.requires Reads.ensures Reads.pre-read Reads.Pinned Reads.Owned
-      Reads.post-read record { M = M; 𝓤 = 𝓤; H = H; 𝓜 = 𝓜; 𝓖 = 𝓖; 𝓡 = 𝓡 } Code.env Key.name Code.function (Code.unfolded 𝓤 H 𝓜 𝓡) (λ κs a g. tt) (λ
-      κs. Reads.owns κs record { M = M; 𝓤 = 𝓤; H = H; 𝓜 = 𝓜; 𝓖 = 𝓖; 𝓡 = 𝓡 }) (Reads.passes record { M = M; 𝓤 = 𝓤; H = H; 𝓜 = 𝓜; 𝓖 = 𝓖; 𝓡 = 𝓡 }) λ g.
-      closed 𝓤 H (𝓖 .A) (Running.givenOf 𝓤 H 𝓜 𝓖) (Run.Over 𝓤 H 𝓜 𝓖 𝓡 Code.env) (Reads'.known record { M = M; 𝓤 = 𝓤; H = H; 𝓜 = 𝓜; 𝓖 = 𝓖; 𝓡 = 𝓡 }
-      Code.env Symbol.name Symbol.routine Code.calls-hnsr-circuit·handle·handle (Met.met 𝓤 H 𝓜 𝓖 𝓡))
+  close = λ closed 𝓤 H 𝓜 𝓖 𝓡. Written.close 6 Kinds.ps Kinds.r Reads.Ghost Reads.requires Reads.ensures Reads.pre-read
+      Reads.Pinned Reads.Owned Reads.post-read record { M = M; 𝓤 = 𝓤; H = H; 𝓜 = 𝓜; 𝓖 = 𝓖; 𝓡 = 𝓡 } Code.env Key.name
+      Code.function (Code.unfolded 𝓤 H 𝓜 𝓡) (λ κs a g. tt) (λ κs. Reads.owns κs
+      record { M = M; 𝓤 = 𝓤; H = H; 𝓜 = 𝓜; 𝓖 = 𝓖; 𝓡 = 𝓡 }) (Reads.passes
+      record { M = M; 𝓤 = 𝓤; H = H; 𝓜 = 𝓜; 𝓖 = 𝓖; 𝓡 = 𝓡 }) λ g. closed 𝓤 H (𝓖 .A) (Running.givenOf 𝓤 H 𝓜 𝓖)
+      (Run.Over 𝓤 H 𝓜 𝓖 𝓡 Code.env) (Reads'.known record { M = M; 𝓤 = 𝓤; H = H; 𝓜 = 𝓜; 𝓖 = 𝓖; 𝓡 = 𝓡 } Code.env
+      Symbol.name Symbol.routine Code.calls-hnsr-circuit·handle·handle (Met.met 𝓤 H 𝓜 𝓖 𝓡))

@@ -24,8 +24,8 @@ use borrow.Fn.Run
 use borrow.Fn.Written
 use contract.Running
 
-abbrev pub Start : Type 0
-Start = Lts.Start (
+abbrev pub readings : Lts.Claims
+readings = (
   Reads'''''.Asked,
   Reads'''''.Learnt,
   Reads''''.Asked,
@@ -36,541 +36,137 @@ Start = Lts.Start (
   Reads'.Learnt,
   Reads'''.Asked,
   Reads'''.Learnt,
-) Reads.Pre Reads.Post
+)
+
+abbrev pub Start : Type 0
+Start = Lts.Start readings Reads.Pre Reads.Post
 
 abbrev pub After-slice-known : Type 0
-After-slice-known = Lts.After-slice-known (
-  Reads'''''.Asked,
-  Reads'''''.Learnt,
-  Reads''''.Asked,
-  Reads''''.Learnt,
-  Reads''.Asked,
-  Reads''.Learnt,
-  Reads'.Asked,
-  Reads'.Learnt,
-  Reads'''.Asked,
-  Reads'''.Learnt,
-) Reads.Pre Reads.Post
+After-slice-known = Lts.After-slice-known readings Reads.Pre Reads.Post
 
 abbrev pub After-slice-known2 : Type 0
-After-slice-known2 = Lts.After-slice-known2 (
-  Reads'''''.Asked,
-  Reads'''''.Learnt,
-  Reads''''.Asked,
-  Reads''''.Learnt,
-  Reads''.Asked,
-  Reads''.Learnt,
-  Reads'.Asked,
-  Reads'.Learnt,
-  Reads'''.Asked,
-  Reads'''.Learnt,
-) Reads.Pre Reads.Post
+After-slice-known2 = Lts.After-slice-known2 readings Reads.Pre Reads.Post
 
 abbrev pub After-script-of : Type 0
-After-script-of = Lts.After-script-of (
-  Reads'''''.Asked,
-  Reads'''''.Learnt,
-  Reads''''.Asked,
-  Reads''''.Learnt,
-  Reads''.Asked,
-  Reads''.Learnt,
-  Reads'.Asked,
-  Reads'.Learnt,
-  Reads'''.Asked,
-  Reads'''.Learnt,
-) Reads.Pre Reads.Post
+After-script-of = Lts.After-script-of readings Reads.Pre Reads.Post
 
 abbrev pub After-head-of : Type 0
-After-head-of = Lts.After-head-of (
-  Reads'''''.Asked,
-  Reads'''''.Learnt,
-  Reads''''.Asked,
-  Reads''''.Learnt,
-  Reads''.Asked,
-  Reads''.Learnt,
-  Reads'.Asked,
-  Reads'.Learnt,
-  Reads'''.Asked,
-  Reads'''.Learnt,
-) Reads.Pre Reads.Post
+After-head-of = Lts.After-head-of readings Reads.Pre Reads.Post
 
 abbrev pub After-put-head-arg : Type 0
-After-put-head-arg = Lts.After-put-head-arg (
-  Reads'''''.Asked,
-  Reads'''''.Learnt,
-  Reads''''.Asked,
-  Reads''''.Learnt,
-  Reads''.Asked,
-  Reads''.Learnt,
-  Reads'.Asked,
-  Reads'.Learnt,
-  Reads'''.Asked,
-  Reads'''.Learnt,
-) Reads.Pre Reads.Post
+After-put-head-arg = Lts.After-put-head-arg readings Reads.Pre Reads.Post
 
 abbrev pub After-put-head : Type 0
-After-put-head = Lts.After-put-head (
-  Reads'''''.Asked,
-  Reads'''''.Learnt,
-  Reads''''.Asked,
-  Reads''''.Learnt,
-  Reads''.Asked,
-  Reads''.Learnt,
-  Reads'.Asked,
-  Reads'.Learnt,
-  Reads'''.Asked,
-  Reads'''.Learnt,
-) Reads.Pre Reads.Post
+After-put-head = Lts.After-put-head readings Reads.Pre Reads.Post
 
 abbrev pub After-body : Type 0
-After-body = Lts.After-body (
-  Reads'''''.Asked,
-  Reads'''''.Learnt,
-  Reads''''.Asked,
-  Reads''''.Learnt,
-  Reads''.Asked,
-  Reads''.Learnt,
-  Reads'.Asked,
-  Reads'.Learnt,
-  Reads'''.Asked,
-  Reads'''.Learnt,
-) Reads.Pre Reads.Post
+After-body = Lts.After-body readings Reads.Pre Reads.Post
 
 abbrev pub After-slice-known3 : Type 0
-After-slice-known3 = Lts.After-slice-known3 (
-  Reads'''''.Asked,
-  Reads'''''.Learnt,
-  Reads''''.Asked,
-  Reads''''.Learnt,
-  Reads''.Asked,
-  Reads''.Learnt,
-  Reads'.Asked,
-  Reads'.Learnt,
-  Reads'''.Asked,
-  Reads'''.Learnt,
-) Reads.Pre Reads.Post
+After-slice-known3 = Lts.After-slice-known3 readings Reads.Pre Reads.Post
 
 abbrev pub After-run-case-arg : Type 0
-After-run-case-arg = Lts.After-run-case-arg (
-  Reads'''''.Asked,
-  Reads'''''.Learnt,
-  Reads''''.Asked,
-  Reads''''.Learnt,
-  Reads''.Asked,
-  Reads''.Learnt,
-  Reads'.Asked,
-  Reads'.Learnt,
-  Reads'''.Asked,
-  Reads'''.Learnt,
-) Reads.Pre Reads.Post
+After-run-case-arg = Lts.After-run-case-arg readings Reads.Pre Reads.Post
 
 abbrev pub After-run-case-arg2 : Type 0
-After-run-case-arg2 = Lts.After-run-case-arg2 (
-  Reads'''''.Asked,
-  Reads'''''.Learnt,
-  Reads''''.Asked,
-  Reads''''.Learnt,
-  Reads''.Asked,
-  Reads''.Learnt,
-  Reads'.Asked,
-  Reads'.Learnt,
-  Reads'''.Asked,
-  Reads'''.Learnt,
-) Reads.Pre Reads.Post
+After-run-case-arg2 = Lts.After-run-case-arg2 readings Reads.Pre Reads.Post
 
 abbrev pub After-run-case-arg3 : Type 0
-After-run-case-arg3 = Lts.After-run-case-arg3 (
-  Reads'''''.Asked,
-  Reads'''''.Learnt,
-  Reads''''.Asked,
-  Reads''''.Learnt,
-  Reads''.Asked,
-  Reads''.Learnt,
-  Reads'.Asked,
-  Reads'.Learnt,
-  Reads'''.Asked,
-  Reads'''.Learnt,
-) Reads.Pre Reads.Post
+After-run-case-arg3 = Lts.After-run-case-arg3 readings Reads.Pre Reads.Post
 
 abbrev pub After-run-case-arg4 : Type 0
-After-run-case-arg4 = Lts.After-run-case-arg4 (
-  Reads'''''.Asked,
-  Reads'''''.Learnt,
-  Reads''''.Asked,
-  Reads''''.Learnt,
-  Reads''.Asked,
-  Reads''.Learnt,
-  Reads'.Asked,
-  Reads'.Learnt,
-  Reads'''.Asked,
-  Reads'''.Learnt,
-) Reads.Pre Reads.Post
+After-run-case-arg4 = Lts.After-run-case-arg4 readings Reads.Pre Reads.Post
 
 abbrev pub After-run-case-arg5 : Type 0
-After-run-case-arg5 = Lts.After-run-case-arg5 (
-  Reads'''''.Asked,
-  Reads'''''.Learnt,
-  Reads''''.Asked,
-  Reads''''.Learnt,
-  Reads''.Asked,
-  Reads''.Learnt,
-  Reads'.Asked,
-  Reads'.Learnt,
-  Reads'''.Asked,
-  Reads'''.Learnt,
-) Reads.Pre Reads.Post
+After-run-case-arg5 = Lts.After-run-case-arg5 readings Reads.Pre Reads.Post
 
 abbrev pub After-run-case-arg6 : Type 0
-After-run-case-arg6 = Lts.After-run-case-arg6 (
-  Reads'''''.Asked,
-  Reads'''''.Learnt,
-  Reads''''.Asked,
-  Reads''''.Learnt,
-  Reads''.Asked,
-  Reads''.Learnt,
-  Reads'.Asked,
-  Reads'.Learnt,
-  Reads'''.Asked,
-  Reads'''.Learnt,
-) Reads.Pre Reads.Post
+After-run-case-arg6 = Lts.After-run-case-arg6 readings Reads.Pre Reads.Post
 
 abbrev pub After-run-case : Type 0
-After-run-case = Lts.After-run-case (
-  Reads'''''.Asked,
-  Reads'''''.Learnt,
-  Reads''''.Asked,
-  Reads''''.Learnt,
-  Reads''.Asked,
-  Reads''.Learnt,
-  Reads'.Asked,
-  Reads'.Learnt,
-  Reads'''.Asked,
-  Reads'''.Learnt,
-) Reads.Pre Reads.Post
+After-run-case = Lts.After-run-case readings Reads.Pre Reads.Post
 
 abbrev pub After-pending : Type 0
-After-pending = Lts.After-pending (
-  Reads'''''.Asked,
-  Reads'''''.Learnt,
-  Reads''''.Asked,
-  Reads''''.Learnt,
-  Reads''.Asked,
-  Reads''.Learnt,
-  Reads'.Asked,
-  Reads'.Learnt,
-  Reads'''.Asked,
-  Reads'''.Learnt,
-) Reads.Pre Reads.Post
+After-pending = Lts.After-pending readings Reads.Pre Reads.Post
 
 abbrev pub After-circuits : Type 0
-After-circuits = Lts.After-circuits (
-  Reads'''''.Asked,
-  Reads'''''.Learnt,
-  Reads''''.Asked,
-  Reads''''.Learnt,
-  Reads''.Asked,
-  Reads''.Learnt,
-  Reads'.Asked,
-  Reads'.Learnt,
-  Reads'''.Asked,
-  Reads'''.Learnt,
-) Reads.Pre Reads.Post
+After-circuits = Lts.After-circuits readings Reads.Pre Reads.Post
 
 abbrev pub After-ledger : Type 0
-After-ledger = Lts.After-ledger (
-  Reads'''''.Asked,
-  Reads'''''.Learnt,
-  Reads''''.Asked,
-  Reads''''.Learnt,
-  Reads''.Asked,
-  Reads''.Learnt,
-  Reads'.Asked,
-  Reads'.Learnt,
-  Reads'''.Asked,
-  Reads'''.Learnt,
-) Reads.Pre Reads.Post
+After-ledger = Lts.After-ledger readings Reads.Pre Reads.Post
 
 abbrev pub After-inflight : Type 0
-After-inflight = Lts.After-inflight (
-  Reads'''''.Asked,
-  Reads'''''.Learnt,
-  Reads''''.Asked,
-  Reads''''.Learnt,
-  Reads''.Asked,
-  Reads''.Learnt,
-  Reads'.Asked,
-  Reads'.Learnt,
-  Reads'''.Asked,
-  Reads'''.Learnt,
-) Reads.Pre Reads.Post
+After-inflight = Lts.After-inflight readings Reads.Pre Reads.Post
 
 abbrev pub After-out : Type 0
-After-out = Lts.After-out (
-  Reads'''''.Asked,
-  Reads'''''.Learnt,
-  Reads''''.Asked,
-  Reads''''.Learnt,
-  Reads''.Asked,
-  Reads''.Learnt,
-  Reads'.Asked,
-  Reads'.Learnt,
-  Reads'''.Asked,
-  Reads'''.Learnt,
-) Reads.Pre Reads.Post
+After-out = Lts.After-out readings Reads.Pre Reads.Post
 
 abbrev pub After-slice-known4 : Type 0
-After-slice-known4 = Lts.After-slice-known4 (
-  Reads'''''.Asked,
-  Reads'''''.Learnt,
-  Reads''''.Asked,
-  Reads''''.Learnt,
-  Reads''.Asked,
-  Reads''.Learnt,
-  Reads'.Asked,
-  Reads'.Learnt,
-  Reads'''.Asked,
-  Reads'''.Learnt,
-) Reads.Pre Reads.Post
+After-slice-known4 = Lts.After-slice-known4 readings Reads.Pre Reads.Post
 
 abbrev pub After-say : Type 0
-After-say = Lts.After-say (
-  Reads'''''.Asked,
-  Reads'''''.Learnt,
-  Reads''''.Asked,
-  Reads''''.Learnt,
-  Reads''.Asked,
-  Reads''.Learnt,
-  Reads'.Asked,
-  Reads'.Learnt,
-  Reads'''.Asked,
-  Reads'''.Learnt,
-) Reads.Pre Reads.Post
+After-say = Lts.After-say readings Reads.Pre Reads.Post
 
 abbrev pub Need-script-of-requires : Type 0
-Need-script-of-requires = Lts.Need-script-of-requires (
-  Reads'''''.Asked,
-  Reads'''''.Learnt,
-  Reads''''.Asked,
-  Reads''''.Learnt,
-  Reads''.Asked,
-  Reads''.Learnt,
-  Reads'.Asked,
-  Reads'.Learnt,
-  Reads'''.Asked,
-  Reads'''.Learnt,
-) Reads.Pre Reads.Post
+Need-script-of-requires = Lts.Need-script-of-requires readings Reads.Pre Reads.Post
 
 abbrev pub Need-head-of-requires : Type 0
-Need-head-of-requires = Lts.Need-head-of-requires (
-  Reads'''''.Asked,
-  Reads'''''.Learnt,
-  Reads''''.Asked,
-  Reads''''.Learnt,
-  Reads''.Asked,
-  Reads''.Learnt,
-  Reads'.Asked,
-  Reads'.Learnt,
-  Reads'''.Asked,
-  Reads'''.Learnt,
-) Reads.Pre Reads.Post
+Need-head-of-requires = Lts.Need-head-of-requires readings Reads.Pre Reads.Post
 
 abbrev pub Need-put-head-requires : Type 0
-Need-put-head-requires = Lts.Need-put-head-requires (
-  Reads'''''.Asked,
-  Reads'''''.Learnt,
-  Reads''''.Asked,
-  Reads''''.Learnt,
-  Reads''.Asked,
-  Reads''.Learnt,
-  Reads'.Asked,
-  Reads'.Learnt,
-  Reads'''.Asked,
-  Reads'''.Learnt,
-) Reads.Pre Reads.Post
+Need-put-head-requires = Lts.Need-put-head-requires readings Reads.Pre Reads.Post
 
 abbrev pub Need-run-case-requires : Type 0
-Need-run-case-requires = Lts.Need-run-case-requires (
-  Reads'''''.Asked,
-  Reads'''''.Learnt,
-  Reads''''.Asked,
-  Reads''''.Learnt,
-  Reads''.Asked,
-  Reads''.Learnt,
-  Reads'.Asked,
-  Reads'.Learnt,
-  Reads'''.Asked,
-  Reads'''.Learnt,
-) Reads.Pre Reads.Post
+Need-run-case-requires = Lts.Need-run-case-requires readings Reads.Pre Reads.Post
 
 abbrev pub Need-say-requires : Type 0
-Need-say-requires = Lts.Need-say-requires (
-  Reads'''''.Asked,
-  Reads'''''.Learnt,
-  Reads''''.Asked,
-  Reads''''.Learnt,
-  Reads''.Asked,
-  Reads''.Learnt,
-  Reads'.Asked,
-  Reads'.Learnt,
-  Reads'''.Asked,
-  Reads'''.Learnt,
-) Reads.Pre Reads.Post
+Need-say-requires = Lts.Need-say-requires readings Reads.Pre Reads.Post
 
 abbrev pub Need-same-length : Type 0
-Need-same-length = Lts.Need-same-length (
-  Reads'''''.Asked,
-  Reads'''''.Learnt,
-  Reads''''.Asked,
-  Reads''''.Learnt,
-  Reads''.Asked,
-  Reads''.Learnt,
-  Reads'.Asked,
-  Reads'.Learnt,
-  Reads'''.Asked,
-  Reads'''.Learnt,
-) Reads.Pre Reads.Post
+Need-same-length = Lts.Need-same-length readings Reads.Pre Reads.Post
 
 abbrev pub Need-same-length-2 : Type 0
-Need-same-length-2 = Lts.Need-same-length-2 (
-  Reads'''''.Asked,
-  Reads'''''.Learnt,
-  Reads''''.Asked,
-  Reads''''.Learnt,
-  Reads''.Asked,
-  Reads''.Learnt,
-  Reads'.Asked,
-  Reads'.Learnt,
-  Reads'''.Asked,
-  Reads'''.Learnt,
-) Reads.Pre Reads.Post
+Need-same-length-2 = Lts.Need-same-length-2 readings Reads.Pre Reads.Post
 
 abbrev pub Need-same-length-3 : Type 0
-Need-same-length-3 = Lts.Need-same-length-3 (
-  Reads'''''.Asked,
-  Reads'''''.Learnt,
-  Reads''''.Asked,
-  Reads''''.Learnt,
-  Reads''.Asked,
-  Reads''.Learnt,
-  Reads'.Asked,
-  Reads'.Learnt,
-  Reads'''.Asked,
-  Reads'''.Learnt,
-) Reads.Pre Reads.Post
+Need-same-length-3 = Lts.Need-same-length-3 readings Reads.Pre Reads.Post
 
 abbrev pub Need-same-length-4 : Type 0
-Need-same-length-4 = Lts.Need-same-length-4 (
-  Reads'''''.Asked,
-  Reads'''''.Learnt,
-  Reads''''.Asked,
-  Reads''''.Learnt,
-  Reads''.Asked,
-  Reads''.Learnt,
-  Reads'.Asked,
-  Reads'.Learnt,
-  Reads'''.Asked,
-  Reads'''.Learnt,
-) Reads.Pre Reads.Post
+Need-same-length-4 = Lts.Need-same-length-4 readings Reads.Pre Reads.Post
 
 abbrev pub Need-same-length-5 : Type 0
-Need-same-length-5 = Lts.Need-same-length-5 (
-  Reads'''''.Asked,
-  Reads'''''.Learnt,
-  Reads''''.Asked,
-  Reads''''.Learnt,
-  Reads''.Asked,
-  Reads''.Learnt,
-  Reads'.Asked,
-  Reads'.Learnt,
-  Reads'''.Asked,
-  Reads'''.Learnt,
-) Reads.Pre Reads.Post
+Need-same-length-5 = Lts.Need-same-length-5 readings Reads.Pre Reads.Post
 
 abbrev pub Need-same-length-6 : Type 0
-Need-same-length-6 = Lts.Need-same-length-6 (
-  Reads'''''.Asked,
-  Reads'''''.Learnt,
-  Reads''''.Asked,
-  Reads''''.Learnt,
-  Reads''.Asked,
-  Reads''.Learnt,
-  Reads'.Asked,
-  Reads'.Learnt,
-  Reads'''.Asked,
-  Reads'''.Learnt,
-) Reads.Pre Reads.Post
+Need-same-length-6 = Lts.Need-same-length-6 readings Reads.Pre Reads.Post
 
 abbrev pub Need-returns : Type 0
-Need-returns = Lts.Need-returns (
-  Reads'''''.Asked,
-  Reads'''''.Learnt,
-  Reads''''.Asked,
-  Reads''''.Learnt,
-  Reads''.Asked,
-  Reads''.Learnt,
-  Reads'.Asked,
-  Reads'.Learnt,
-  Reads'''.Asked,
-  Reads'''.Learnt,
-) Reads.Pre Reads.Post
+Need-returns = Lts.Need-returns readings Reads.Pre Reads.Post
 
 module _ {M : Type 1} where
-  pub spec : (answer : Need-script-of-requires) → (answer : Need-head-of-requires) → (answer : Need-put-head-requires) → (answer :
-      Need-run-case-requires) → (answer : Need-say-requires) → (answer : Need-same-length) → (answer : Need-same-length-2) → (answer :
-      Need-same-length-3) → (answer : Need-same-length-4) → (answer : Need-same-length-5) → (answer : Need-same-length-6) → (answer : Need-returns) →
-      Lts.Closed (
-        Reads'''''.Asked,
-        Reads'''''.Learnt,
-        Reads''''.Asked,
-        Reads''''.Learnt,
-        Reads''.Asked,
-        Reads''.Learnt,
-        Reads'.Asked,
-        Reads'.Learnt,
-        Reads'''.Asked,
-        Reads'''.Learnt,
-      ) Reads.Pre Reads.Post M
-  spec = λ answer answer' answer'' answer'3 answer'4 answer'5 answer'6 answer'7 answer'8 answer'9 answer'10 answer'11. Lts.spec (
-    Reads'''''.Asked,
-    Reads'''''.Learnt,
-    Reads''''.Asked,
-    Reads''''.Learnt,
-    Reads''.Asked,
-    Reads''.Learnt,
-    Reads'.Asked,
-    Reads'.Learnt,
-    Reads'''.Asked,
-    Reads'''.Learnt,
-  ) Reads.Pre Reads.Post answer answer' answer'' answer'3 answer'4 answer'5 answer'6 answer'7 answer'8 answer'9 answer'10
-      answer'11
+  pub spec : (answer : Need-script-of-requires) → (answer : Need-head-of-requires) → (answer : Need-put-head-requires)
+      → (answer : Need-run-case-requires) → (answer : Need-say-requires) → (answer : Need-same-length) →
+      (answer : Need-same-length-2) → (answer : Need-same-length-3) → (answer : Need-same-length-4) →
+      (answer : Need-same-length-5) → (answer : Need-same-length-6) → (answer : Need-returns) → Lts.Closed readings
+      Reads.Pre Reads.Post M
+  spec = λ answer answer' answer'' answer'3 answer'4 answer'5 answer'6 answer'7 answer'8 answer'9 answer'10 answer'11.
+      Lts.spec readings Reads.Pre Reads.Post answer answer' answer'' answer'3 answer'4 answer'5 answer'6 answer'7
+      answer'8 answer'9 answer'10 answer'11
 
-  pub close : Lts.Closed (
-    Reads'''''.Asked,
-    Reads'''''.Learnt,
-    Reads''''.Asked,
-    Reads''''.Learnt,
-    Reads''.Asked,
-    Reads''.Learnt,
-    Reads'.Asked,
-    Reads'.Learnt,
-    Reads'''.Asked,
-    Reads'''.Learnt,
-  ) Reads.Pre Reads.Post M → Statement.statement M
+  pub close : Lts.Closed readings Reads.Pre Reads.Post M → Statement.statement M
   unfolding Code.routine Running.tablesOf
-  close = λ closed 𝓤 H 𝓜 𝓖 𝓡. Written.close 6 Kinds.ps Kinds.r Reads.Ghost Reads.requires Reads.ensures Reads.pre-read Reads.Pinned Reads.Owned
-      Reads.post-read record { M = M; 𝓤 = 𝓤; H = H; 𝓜 = 𝓜; 𝓖 = 𝓖; 𝓡 = 𝓡 } Code.env Key.name Code.function (Code.unfolded 𝓤 H 𝓜 𝓡) (λ κs a g. tt) (λ
-      κs. Reads.owns κs record { M = M; 𝓤 = 𝓤; H = H; 𝓜 = 𝓜; 𝓖 = 𝓖; 𝓡 = 𝓡 }) (Reads.passes record { M = M; 𝓤 = 𝓤; H = H; 𝓜 = 𝓜; 𝓖 = 𝓖; 𝓡 = 𝓡 }) λ g.
-      closed 𝓤 H (𝓖 .A) (Running.givenOf 𝓤 H 𝓜 𝓖) (Run.Over 𝓤 H 𝓜 𝓖 𝓡 Code.env) (Reads'''''.known record { M = M; 𝓤 = 𝓤; H = H; 𝓜 = 𝓜; 𝓖 = 𝓖; 𝓡 = 𝓡 }
-      Code.env Symbol''''.name Symbol''''.routine Code.calls-cases·script·script-of (Met''''.met 𝓤 H 𝓜 𝓖 𝓡)) (Reads''''.known record {
-        M = M;
-        𝓤 = 𝓤;
-        H
-            = H;
-        𝓜 = 𝓜;
-        𝓖 = 𝓖;
-        𝓡 = 𝓡;
-      } Code.env Symbol'''.name Symbol'''.routine Code.calls-cases·script·head-of (Met'''.met 𝓤 H 𝓜 𝓖 𝓡)) (Reads''.known
-      record { M = M; 𝓤 = 𝓤; H = H; 𝓜 = 𝓜; 𝓖 = 𝓖; 𝓡 = 𝓡 } Code.env Symbol.name Symbol.routine Code.calls-cases·machine·put-head (Met.met 𝓤 H 𝓜 𝓖 𝓡))
-      (Reads'.known record { M = M; 𝓤 = 𝓤; H = H; 𝓜 = 𝓜; 𝓖 = 𝓖; 𝓡 = 𝓡 } Code.env Symbol'.name Symbol'.routine Code.calls-cases·machine·run-case
-      (Met'.met 𝓤 H 𝓜 𝓖 𝓡)) (Reads'''.known record { M = M; 𝓤 = 𝓤; H = H; 𝓜 = 𝓜; 𝓖 = 𝓖; 𝓡 = 𝓡 } Code.env Symbol''.name Symbol''.routine
+  close = λ closed 𝓤 H 𝓜 𝓖 𝓡. Written.close 6 Kinds.ps Kinds.r Reads.Ghost Reads.requires Reads.ensures Reads.pre-read
+      Reads.Pinned Reads.Owned Reads.post-read record { M = M; 𝓤 = 𝓤; H = H; 𝓜 = 𝓜; 𝓖 = 𝓖; 𝓡 = 𝓡 } Code.env Key.name
+      Code.function (Code.unfolded 𝓤 H 𝓜 𝓡) (λ κs a g. tt) (λ κs. Reads.owns κs
+      record { M = M; 𝓤 = 𝓤; H = H; 𝓜 = 𝓜; 𝓖 = 𝓖; 𝓡 = 𝓡 }) (Reads.passes
+      record { M = M; 𝓤 = 𝓤; H = H; 𝓜 = 𝓜; 𝓖 = 𝓖; 𝓡 = 𝓡 }) λ g. closed 𝓤 H (𝓖 .A) (Running.givenOf 𝓤 H 𝓜 𝓖)
+      (Run.Over 𝓤 H 𝓜 𝓖 𝓡 Code.env) (Reads'''''.known record { M = M; 𝓤 = 𝓤; H = H; 𝓜 = 𝓜; 𝓖 = 𝓖; 𝓡 = 𝓡 } Code.env
+      Symbol''''.name Symbol''''.routine Code.calls-cases·script·script-of (Met''''.met 𝓤 H 𝓜 𝓖 𝓡)) (Reads''''.known
+      record { M = M; 𝓤 = 𝓤; H = H; 𝓜 = 𝓜; 𝓖 = 𝓖; 𝓡 = 𝓡 } Code.env Symbol'''.name Symbol'''.routine
+      Code.calls-cases·script·head-of (Met'''.met 𝓤 H 𝓜 𝓖 𝓡)) (Reads''.known
+      record { M = M; 𝓤 = 𝓤; H = H; 𝓜 = 𝓜; 𝓖 = 𝓖; 𝓡 = 𝓡 } Code.env Symbol.name Symbol.routine
+      Code.calls-cases·machine·put-head (Met.met 𝓤 H 𝓜 𝓖 𝓡)) (Reads'.known
+      record { M = M; 𝓤 = 𝓤; H = H; 𝓜 = 𝓜; 𝓖 = 𝓖; 𝓡 = 𝓡 } Code.env Symbol'.name Symbol'.routine
+      Code.calls-cases·machine·run-case (Met'.met 𝓤 H 𝓜 𝓖 𝓡)) (Reads'''.known
+      record { M = M; 𝓤 = 𝓤; H = H; 𝓜 = 𝓜; 𝓖 = 𝓖; 𝓡 = 𝓡 } Code.env Symbol''.name Symbol''.routine
       Code.calls-cases·machine·say (Met''.met 𝓤 H 𝓜 𝓖 𝓡))

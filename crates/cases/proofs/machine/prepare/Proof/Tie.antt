@@ -15,120 +15,105 @@ use borrow.Fn.Run
 use borrow.Fn.Written
 use contract.Running
 
+abbrev pub readings : Lts.Claims
+readings = (Reads.Asked, Reads.Learnt, Reads'.Asked, Reads'.Learnt)
+
 abbrev pub Start : Type 0
-Start = Lts.Start (Reads.Asked, Reads.Learnt, Reads'.Asked, Reads'.Learnt) Reads''.Pre Reads''.Post
+Start = Lts.Start readings Reads''.Pre Reads''.Post
 
 abbrev pub After-slice-known : Type 0
-After-slice-known = Lts.After-slice-known (Reads.Asked, Reads.Learnt, Reads'.Asked, Reads'.Learnt) Reads''.Pre Reads''.Post
+After-slice-known = Lts.After-slice-known readings Reads''.Pre Reads''.Post
 
 abbrev pub After-begin-arg : Type 0
-After-begin-arg = Lts.After-begin-arg (Reads.Asked, Reads.Learnt, Reads'.Asked, Reads'.Learnt) Reads''.Pre Reads''.Post
+After-begin-arg = Lts.After-begin-arg readings Reads''.Pre Reads''.Post
 
 abbrev pub After-begin-arg2 : Type 0
-After-begin-arg2 = Lts.After-begin-arg2 (Reads.Asked, Reads.Learnt, Reads'.Asked, Reads'.Learnt) Reads''.Pre Reads''.Post
+After-begin-arg2 = Lts.After-begin-arg2 readings Reads''.Pre Reads''.Post
 
 abbrev pub After-begin-arg3 : Type 0
-After-begin-arg3 = Lts.After-begin-arg3 (Reads.Asked, Reads.Learnt, Reads'.Asked, Reads'.Learnt) Reads''.Pre Reads''.Post
+After-begin-arg3 = Lts.After-begin-arg3 readings Reads''.Pre Reads''.Post
 
 abbrev pub After-begin-arg4 : Type 0
-After-begin-arg4 = Lts.After-begin-arg4 (Reads.Asked, Reads.Learnt, Reads'.Asked, Reads'.Learnt) Reads''.Pre Reads''.Post
+After-begin-arg4 = Lts.After-begin-arg4 readings Reads''.Pre Reads''.Post
 
 abbrev pub After-begin : Type 0
-After-begin = Lts.After-begin (Reads.Asked, Reads.Learnt, Reads'.Asked, Reads'.Learnt) Reads''.Pre Reads''.Post
+After-begin = Lts.After-begin readings Reads''.Pre Reads''.Post
 
 abbrev pub After-open-and-accept-arg : Type 0
-After-open-and-accept-arg = Lts.After-open-and-accept-arg (Reads.Asked, Reads.Learnt, Reads'.Asked, Reads'.Learnt) Reads''.Pre Reads''.Post
+After-open-and-accept-arg = Lts.After-open-and-accept-arg readings Reads''.Pre Reads''.Post
 
 abbrev pub After-open-and-accept-arg2 : Type 0
-After-open-and-accept-arg2 = Lts.After-open-and-accept-arg2 (Reads.Asked, Reads.Learnt, Reads'.Asked, Reads'.Learnt) Reads''.Pre Reads''.Post
+After-open-and-accept-arg2 = Lts.After-open-and-accept-arg2 readings Reads''.Pre Reads''.Post
 
 abbrev pub After-open-and-accept-arg3 : Type 0
-After-open-and-accept-arg3 = Lts.After-open-and-accept-arg3 (Reads.Asked, Reads.Learnt, Reads'.Asked, Reads'.Learnt) Reads''.Pre Reads''.Post
+After-open-and-accept-arg3 = Lts.After-open-and-accept-arg3 readings Reads''.Pre Reads''.Post
 
 abbrev pub After-open-and-accept-arg4 : Type 0
-After-open-and-accept-arg4 = Lts.After-open-and-accept-arg4 (Reads.Asked, Reads.Learnt, Reads'.Asked, Reads'.Learnt) Reads''.Pre Reads''.Post
+After-open-and-accept-arg4 = Lts.After-open-and-accept-arg4 readings Reads''.Pre Reads''.Post
 
 abbrev pub After-open-and-accept-arg5 : Type 0
-After-open-and-accept-arg5 = Lts.After-open-and-accept-arg5 (Reads.Asked, Reads.Learnt, Reads'.Asked, Reads'.Learnt) Reads''.Pre Reads''.Post
+After-open-and-accept-arg5 = Lts.After-open-and-accept-arg5 readings Reads''.Pre Reads''.Post
 
 abbrev pub After-open-and-accept : Type 0
-After-open-and-accept = Lts.After-open-and-accept (Reads.Asked, Reads.Learnt, Reads'.Asked, Reads'.Learnt) Reads''.Pre Reads''.Post
+After-open-and-accept = Lts.After-open-and-accept readings Reads''.Pre Reads''.Post
 
 abbrev pub After-pending : Type 0
-After-pending = Lts.After-pending (Reads.Asked, Reads.Learnt, Reads'.Asked, Reads'.Learnt) Reads''.Pre Reads''.Post
+After-pending = Lts.After-pending readings Reads''.Pre Reads''.Post
 
 abbrev pub After-circuits : Type 0
-After-circuits = Lts.After-circuits (Reads.Asked, Reads.Learnt, Reads'.Asked, Reads'.Learnt) Reads''.Pre Reads''.Post
+After-circuits = Lts.After-circuits readings Reads''.Pre Reads''.Post
 
 abbrev pub After-ledger : Type 0
-After-ledger = Lts.After-ledger (Reads.Asked, Reads.Learnt, Reads'.Asked, Reads'.Learnt) Reads''.Pre Reads''.Post
+After-ledger = Lts.After-ledger readings Reads''.Pre Reads''.Post
 
 abbrev pub After-inflight : Type 0
-After-inflight = Lts.After-inflight (Reads.Asked, Reads.Learnt, Reads'.Asked, Reads'.Learnt) Reads''.Pre Reads''.Post
+After-inflight = Lts.After-inflight readings Reads''.Pre Reads''.Post
 
 abbrev pub After-out : Type 0
-After-out = Lts.After-out (Reads.Asked, Reads.Learnt, Reads'.Asked, Reads'.Learnt) Reads''.Pre Reads''.Post
+After-out = Lts.After-out readings Reads''.Pre Reads''.Post
 
 abbrev pub After-slice-known2 : Type 0
-After-slice-known2 = Lts.After-slice-known2 (Reads.Asked, Reads.Learnt, Reads'.Asked, Reads'.Learnt) Reads''.Pre Reads''.Post
+After-slice-known2 = Lts.After-slice-known2 readings Reads''.Pre Reads''.Post
 
 abbrev pub Need-begin-requires : Type 0
-Need-begin-requires = Lts.Need-begin-requires (Reads.Asked, Reads.Learnt, Reads'.Asked, Reads'.Learnt) Reads''.Pre Reads''.Post
+Need-begin-requires = Lts.Need-begin-requires readings Reads''.Pre Reads''.Post
 
 abbrev pub Need-open-and-accept-requires : Type 0
-Need-open-and-accept-requires = Lts.Need-open-and-accept-requires (Reads.Asked, Reads.Learnt, Reads'.Asked, Reads'.Learnt) Reads''.Pre Reads''.Post
+Need-open-and-accept-requires = Lts.Need-open-and-accept-requires readings Reads''.Pre Reads''.Post
 
 abbrev pub Need-same-length : Type 0
-Need-same-length = Lts.Need-same-length (Reads.Asked, Reads.Learnt, Reads'.Asked, Reads'.Learnt) Reads''.Pre Reads''.Post
+Need-same-length = Lts.Need-same-length readings Reads''.Pre Reads''.Post
 
 abbrev pub Need-same-length-2 : Type 0
-Need-same-length-2 = Lts.Need-same-length-2 (Reads.Asked, Reads.Learnt, Reads'.Asked, Reads'.Learnt) Reads''.Pre Reads''.Post
+Need-same-length-2 = Lts.Need-same-length-2 readings Reads''.Pre Reads''.Post
 
 abbrev pub Need-same-length-3 : Type 0
-Need-same-length-3 = Lts.Need-same-length-3 (Reads.Asked, Reads.Learnt, Reads'.Asked, Reads'.Learnt) Reads''.Pre Reads''.Post
+Need-same-length-3 = Lts.Need-same-length-3 readings Reads''.Pre Reads''.Post
 
 abbrev pub Need-same-length-4 : Type 0
-Need-same-length-4 = Lts.Need-same-length-4 (Reads.Asked, Reads.Learnt, Reads'.Asked, Reads'.Learnt) Reads''.Pre Reads''.Post
+Need-same-length-4 = Lts.Need-same-length-4 readings Reads''.Pre Reads''.Post
 
 abbrev pub Need-same-length-5 : Type 0
-Need-same-length-5 = Lts.Need-same-length-5 (Reads.Asked, Reads.Learnt, Reads'.Asked, Reads'.Learnt) Reads''.Pre Reads''.Post
+Need-same-length-5 = Lts.Need-same-length-5 readings Reads''.Pre Reads''.Post
 
 abbrev pub Need-returns : Type 0
-Need-returns = Lts.Need-returns (Reads.Asked, Reads.Learnt, Reads'.Asked, Reads'.Learnt) Reads''.Pre Reads''.Post
+Need-returns = Lts.Need-returns readings Reads''.Pre Reads''.Post
 
 module _ {M : Type 1} where
-  pub spec : (answer : Need-begin-requires) → (answer : Need-open-and-accept-requires) → (answer : Need-same-length) → (answer : Need-same-length-2) →
-      (answer : Need-same-length-3) → (answer : Need-same-length-4) → (answer : Need-same-length-5) → (answer : Need-returns) → Lts.Closed
-      (Reads.Asked, Reads.Learnt, Reads'.Asked, Reads'.Learnt) Reads''.Pre Reads''.Post M
-  spec = λ answer answer' answer'' answer'3 answer'4 answer'5 answer'6 answer'7. Lts.spec (Reads.Asked, Reads.Learnt, Reads'.Asked, Reads'.Learnt)
-      Reads''.Pre Reads''.Post answer answer' answer'' answer'3 answer'4 answer'5 answer'6 answer'7
+  pub spec : (answer : Need-begin-requires) → (answer : Need-open-and-accept-requires) → (answer : Need-same-length) →
+      (answer : Need-same-length-2) → (answer : Need-same-length-3) → (answer : Need-same-length-4) →
+      (answer : Need-same-length-5) → (answer : Need-returns) → Lts.Closed readings Reads''.Pre Reads''.Post M
+  spec = λ answer answer' answer'' answer'3 answer'4 answer'5 answer'6 answer'7. Lts.spec readings Reads''.Pre
+      Reads''.Post answer answer' answer'' answer'3 answer'4 answer'5 answer'6 answer'7
 
-  pub close : Lts.Closed (Reads.Asked, Reads.Learnt, Reads'.Asked, Reads'.Learnt) Reads''.Pre Reads''.Post M → Statement.statement M
+  pub close : Lts.Closed readings Reads''.Pre Reads''.Post M → Statement.statement M
   unfolding Code.routine Running.tablesOf
-  close = λ closed 𝓤 H 𝓜 𝓖 𝓡. Written.close 5 Kinds.ps Kinds.r Reads''.Ghost Reads''.requires Reads''.ensures Reads''.pre-read Reads''.Pinned
-      Reads''.Owned Reads''.post-read record { M = M; 𝓤 = 𝓤; H = H; 𝓜 = 𝓜; 𝓖 = 𝓖; 𝓡 = 𝓡 } Code.env Key.name Code.function (Code.unfolded 𝓤 H 𝓜 𝓡) (λ
-      κs a g. tt) (λ κs. Reads''.owns κs record { M = M; 𝓤 = 𝓤; H = H; 𝓜 = 𝓜; 𝓖 = 𝓖; 𝓡 = 𝓡 }) (Reads''.passes record {
-        M = M;
-        𝓤 = 𝓤;
-        H = H;
-        𝓜 = 𝓜;
-        𝓖 =
-            𝓖;
-        𝓡 = 𝓡;
-      }) λ g. closed 𝓤 H (𝓖 .A) (Running.givenOf 𝓤 H 𝓜 𝓖) (Run.Over 𝓤 H 𝓜 𝓖 𝓡 Code.env) (Reads.known record {
-        M = M;
-        𝓤 = 𝓤;
-        H = H;
-        𝓜 = 𝓜;
-        𝓖 =
-            𝓖;
-        𝓡 = 𝓡;
-      } Code.env Symbol.name Symbol.routine Code.calls-cases·machine·begin (Met.met 𝓤 H 𝓜 𝓖 𝓡)) (Reads'.known record {
-        M = M;
-        𝓤 = 𝓤;
-        H = H;
-        𝓜
-            = 𝓜;
-        𝓖 = 𝓖;
-        𝓡 = 𝓡;
-      } Code.env Symbol'.name Symbol'.routine Code.calls-cases·machine·open-and-accept (Met'.met 𝓤 H 𝓜 𝓖 𝓡))
+  close = λ closed 𝓤 H 𝓜 𝓖 𝓡. Written.close 5 Kinds.ps Kinds.r Reads''.Ghost Reads''.requires Reads''.ensures
+      Reads''.pre-read Reads''.Pinned Reads''.Owned Reads''.post-read
+      record { M = M; 𝓤 = 𝓤; H = H; 𝓜 = 𝓜; 𝓖 = 𝓖; 𝓡 = 𝓡 } Code.env Key.name Code.function (Code.unfolded 𝓤 H 𝓜 𝓡)
+      (λ κs a g. tt) (λ κs. Reads''.owns κs record { M = M; 𝓤 = 𝓤; H = H; 𝓜 = 𝓜; 𝓖 = 𝓖; 𝓡 = 𝓡 }) (Reads''.passes
+      record { M = M; 𝓤 = 𝓤; H = H; 𝓜 = 𝓜; 𝓖 = 𝓖; 𝓡 = 𝓡 }) λ g. closed 𝓤 H (𝓖 .A) (Running.givenOf 𝓤 H 𝓜 𝓖)
+      (Run.Over 𝓤 H 𝓜 𝓖 𝓡 Code.env) (Reads.known record { M = M; 𝓤 = 𝓤; H = H; 𝓜 = 𝓜; 𝓖 = 𝓖; 𝓡 = 𝓡 } Code.env
+      Symbol.name Symbol.routine Code.calls-cases·machine·begin (Met.met 𝓤 H 𝓜 𝓖 𝓡)) (Reads'.known
+      record { M = M; 𝓤 = 𝓤; H = H; 𝓜 = 𝓜; 𝓖 = 𝓖; 𝓡 = 𝓡 } Code.env Symbol'.name Symbol'.routine
+      Code.calls-cases·machine·open-and-accept (Met'.met 𝓤 H 𝓜 𝓖 𝓡))

@@ -12,6 +12,9 @@ use borrow.Fn.Run
 use borrow.Fn.Written
 use contract.Running
 
+abbrev pub readings : Lts.Claims
+readings = (Reads.Asked, Reads.Learnt)
+
 abbrev pub InvT-loop : Type 1
 InvT-loop = Lts.InvT-loop
 
@@ -19,119 +22,121 @@ abbrev pub MeasureT-loop : Type 0
 MeasureT-loop = Lts.MeasureT-loop
 
 abbrev pub Start : (Inv : InvT-loop) → (μ : MeasureT-loop) → Type 0
-Start = λ Inv μ. Lts.Start (Reads.Asked, Reads.Learnt) Reads'.Pre Reads'.Post Inv μ
+Start = λ Inv μ. Lts.Start readings Reads'.Pre Reads'.Post Inv μ
 
 abbrev pub After-slice-known : (Inv : InvT-loop) → (μ : MeasureT-loop) → Type 0
-After-slice-known = λ Inv μ. Lts.After-slice-known (Reads.Asked, Reads.Learnt) Reads'.Pre Reads'.Post Inv μ
+After-slice-known = λ Inv μ. Lts.After-slice-known readings Reads'.Pre Reads'.Post Inv μ
 
 abbrev pub After-slice-known2 : (Inv : InvT-loop) → (μ : MeasureT-loop) → Type 0
-After-slice-known2 = λ Inv μ. Lts.After-slice-known2 (Reads.Asked, Reads.Learnt) Reads'.Pre Reads'.Post Inv μ
+After-slice-known2 = λ Inv μ. Lts.After-slice-known2 readings Reads'.Pre Reads'.Post Inv μ
 
 abbrev pub At-loop : (Inv : InvT-loop) → (μ : MeasureT-loop) → Type 0
-At-loop = λ Inv μ. Lts.At-loop (Reads.Asked, Reads.Learnt) Reads'.Pre Reads'.Post Inv μ
+At-loop = λ Inv μ. Lts.At-loop readings Reads'.Pre Reads'.Post Inv μ
 
 abbrev pub In-loop : (Inv : InvT-loop) → (μ : MeasureT-loop) → Type 0
-In-loop = λ Inv μ. Lts.In-loop (Reads.Asked, Reads.Learnt) Reads'.Pre Reads'.Post Inv μ
+In-loop = λ Inv μ. Lts.In-loop readings Reads'.Pre Reads'.Post Inv μ
 
 abbrev pub After-loop : (Inv : InvT-loop) → (μ : MeasureT-loop) → Type 0
-After-loop = λ Inv μ. Lts.After-loop (Reads.Asked, Reads.Learnt) Reads'.Pre Reads'.Post Inv μ
+After-loop = λ Inv μ. Lts.After-loop readings Reads'.Pre Reads'.Post Inv μ
 
 abbrev pub After-one-case-arg : (Inv : InvT-loop) → (μ : MeasureT-loop) → Type 0
-After-one-case-arg = λ Inv μ. Lts.After-one-case-arg (Reads.Asked, Reads.Learnt) Reads'.Pre Reads'.Post Inv μ
+After-one-case-arg = λ Inv μ. Lts.After-one-case-arg readings Reads'.Pre Reads'.Post Inv μ
 
 abbrev pub After-one-case-arg2 : (Inv : InvT-loop) → (μ : MeasureT-loop) → Type 0
-After-one-case-arg2 = λ Inv μ. Lts.After-one-case-arg2 (Reads.Asked, Reads.Learnt) Reads'.Pre Reads'.Post Inv μ
+After-one-case-arg2 = λ Inv μ. Lts.After-one-case-arg2 readings Reads'.Pre Reads'.Post Inv μ
 
 abbrev pub After-one-case-arg3 : (Inv : InvT-loop) → (μ : MeasureT-loop) → Type 0
-After-one-case-arg3 = λ Inv μ. Lts.After-one-case-arg3 (Reads.Asked, Reads.Learnt) Reads'.Pre Reads'.Post Inv μ
+After-one-case-arg3 = λ Inv μ. Lts.After-one-case-arg3 readings Reads'.Pre Reads'.Post Inv μ
 
 abbrev pub After-one-case-arg4 : (Inv : InvT-loop) → (μ : MeasureT-loop) → Type 0
-After-one-case-arg4 = λ Inv μ. Lts.After-one-case-arg4 (Reads.Asked, Reads.Learnt) Reads'.Pre Reads'.Post Inv μ
+After-one-case-arg4 = λ Inv μ. Lts.After-one-case-arg4 readings Reads'.Pre Reads'.Post Inv μ
 
 abbrev pub After-one-case-arg5 : (Inv : InvT-loop) → (μ : MeasureT-loop) → Type 0
-After-one-case-arg5 = λ Inv μ. Lts.After-one-case-arg5 (Reads.Asked, Reads.Learnt) Reads'.Pre Reads'.Post Inv μ
+After-one-case-arg5 = λ Inv μ. Lts.After-one-case-arg5 readings Reads'.Pre Reads'.Post Inv μ
 
 abbrev pub After-one-case-arg6 : (Inv : InvT-loop) → (μ : MeasureT-loop) → Type 0
-After-one-case-arg6 = λ Inv μ. Lts.After-one-case-arg6 (Reads.Asked, Reads.Learnt) Reads'.Pre Reads'.Post Inv μ
+After-one-case-arg6 = λ Inv μ. Lts.After-one-case-arg6 readings Reads'.Pre Reads'.Post Inv μ
 
 abbrev pub After-one-case : (Inv : InvT-loop) → (μ : MeasureT-loop) → Type 0
-After-one-case = λ Inv μ. Lts.After-one-case (Reads.Asked, Reads.Learnt) Reads'.Pre Reads'.Post Inv μ
+After-one-case = λ Inv μ. Lts.After-one-case readings Reads'.Pre Reads'.Post Inv μ
 
 abbrev pub After-pending : (Inv : InvT-loop) → (μ : MeasureT-loop) → Type 0
-After-pending = λ Inv μ. Lts.After-pending (Reads.Asked, Reads.Learnt) Reads'.Pre Reads'.Post Inv μ
+After-pending = λ Inv μ. Lts.After-pending readings Reads'.Pre Reads'.Post Inv μ
 
 abbrev pub After-circuits : (Inv : InvT-loop) → (μ : MeasureT-loop) → Type 0
-After-circuits = λ Inv μ. Lts.After-circuits (Reads.Asked, Reads.Learnt) Reads'.Pre Reads'.Post Inv μ
+After-circuits = λ Inv μ. Lts.After-circuits readings Reads'.Pre Reads'.Post Inv μ
 
 abbrev pub After-ledger : (Inv : InvT-loop) → (μ : MeasureT-loop) → Type 0
-After-ledger = λ Inv μ. Lts.After-ledger (Reads.Asked, Reads.Learnt) Reads'.Pre Reads'.Post Inv μ
+After-ledger = λ Inv μ. Lts.After-ledger readings Reads'.Pre Reads'.Post Inv μ
 
 abbrev pub After-inflight : (Inv : InvT-loop) → (μ : MeasureT-loop) → Type 0
-After-inflight = λ Inv μ. Lts.After-inflight (Reads.Asked, Reads.Learnt) Reads'.Pre Reads'.Post Inv μ
+After-inflight = λ Inv μ. Lts.After-inflight readings Reads'.Pre Reads'.Post Inv μ
 
 abbrev pub After-out : (Inv : InvT-loop) → (μ : MeasureT-loop) → Type 0
-After-out = λ Inv μ. Lts.After-out (Reads.Asked, Reads.Learnt) Reads'.Pre Reads'.Post Inv μ
+After-out = λ Inv μ. Lts.After-out readings Reads'.Pre Reads'.Post Inv μ
 
 abbrev pub After-slice-known3 : (Inv : InvT-loop) → (μ : MeasureT-loop) → Type 0
-After-slice-known3 = λ Inv μ. Lts.After-slice-known3 (Reads.Asked, Reads.Learnt) Reads'.Pre Reads'.Post Inv μ
+After-slice-known3 = λ Inv μ. Lts.After-slice-known3 readings Reads'.Pre Reads'.Post Inv μ
 
 abbrev pub After-body : (Inv : InvT-loop) → (μ : MeasureT-loop) → Type 0
-After-body = λ Inv μ. Lts.After-body (Reads.Asked, Reads.Learnt) Reads'.Pre Reads'.Post Inv μ
+After-body = λ Inv μ. Lts.After-body readings Reads'.Pre Reads'.Post Inv μ
 
 abbrev pub After-slice-known4 : (Inv : InvT-loop) → (μ : MeasureT-loop) → Type 0
-After-slice-known4 = λ Inv μ. Lts.After-slice-known4 (Reads.Asked, Reads.Learnt) Reads'.Pre Reads'.Post Inv μ
+After-slice-known4 = λ Inv μ. Lts.After-slice-known4 readings Reads'.Pre Reads'.Post Inv μ
 
 abbrev pub Need-loop-holds : (Inv : InvT-loop) → (μ : MeasureT-loop) → Type 0
-Need-loop-holds = λ Inv μ. Lts.Need-loop-holds (Reads.Asked, Reads.Learnt) Reads'.Pre Reads'.Post Inv μ
+Need-loop-holds = λ Inv μ. Lts.Need-loop-holds readings Reads'.Pre Reads'.Post Inv μ
 
 abbrev pub Need-one-case-requires : (Inv : InvT-loop) → (μ : MeasureT-loop) → Type 0
-Need-one-case-requires = λ Inv μ. Lts.Need-one-case-requires (Reads.Asked, Reads.Learnt) Reads'.Pre Reads'.Post Inv μ
+Need-one-case-requires = λ Inv μ. Lts.Need-one-case-requires readings Reads'.Pre Reads'.Post Inv μ
 
 abbrev pub Need-add-case : (Inv : InvT-loop) → (μ : MeasureT-loop) → Type 0
-Need-add-case = λ Inv μ. Lts.Need-add-case (Reads.Asked, Reads.Learnt) Reads'.Pre Reads'.Post Inv μ
+Need-add-case = λ Inv μ. Lts.Need-add-case readings Reads'.Pre Reads'.Post Inv μ
 
 abbrev pub Need-loop-less : (Inv : InvT-loop) → (μ : MeasureT-loop) → Type 0
-Need-loop-less = λ Inv μ. Lts.Need-loop-less (Reads.Asked, Reads.Learnt) Reads'.Pre Reads'.Post Inv μ
+Need-loop-less = λ Inv μ. Lts.Need-loop-less readings Reads'.Pre Reads'.Post Inv μ
 
 abbrev pub Need-loop-again : (Inv : InvT-loop) → (μ : MeasureT-loop) → Type 0
-Need-loop-again = λ Inv μ. Lts.Need-loop-again (Reads.Asked, Reads.Learnt) Reads'.Pre Reads'.Post Inv μ
+Need-loop-again = λ Inv μ. Lts.Need-loop-again readings Reads'.Pre Reads'.Post Inv μ
 
 abbrev pub Need-same-length : (Inv : InvT-loop) → (μ : MeasureT-loop) → Type 0
-Need-same-length = λ Inv μ. Lts.Need-same-length (Reads.Asked, Reads.Learnt) Reads'.Pre Reads'.Post Inv μ
+Need-same-length = λ Inv μ. Lts.Need-same-length readings Reads'.Pre Reads'.Post Inv μ
 
 abbrev pub Need-same-length-2 : (Inv : InvT-loop) → (μ : MeasureT-loop) → Type 0
-Need-same-length-2 = λ Inv μ. Lts.Need-same-length-2 (Reads.Asked, Reads.Learnt) Reads'.Pre Reads'.Post Inv μ
+Need-same-length-2 = λ Inv μ. Lts.Need-same-length-2 readings Reads'.Pre Reads'.Post Inv μ
 
 abbrev pub Need-same-length-3 : (Inv : InvT-loop) → (μ : MeasureT-loop) → Type 0
-Need-same-length-3 = λ Inv μ. Lts.Need-same-length-3 (Reads.Asked, Reads.Learnt) Reads'.Pre Reads'.Post Inv μ
+Need-same-length-3 = λ Inv μ. Lts.Need-same-length-3 readings Reads'.Pre Reads'.Post Inv μ
 
 abbrev pub Need-same-length-4 : (Inv : InvT-loop) → (μ : MeasureT-loop) → Type 0
-Need-same-length-4 = λ Inv μ. Lts.Need-same-length-4 (Reads.Asked, Reads.Learnt) Reads'.Pre Reads'.Post Inv μ
+Need-same-length-4 = λ Inv μ. Lts.Need-same-length-4 readings Reads'.Pre Reads'.Post Inv μ
 
 abbrev pub Need-same-length-5 : (Inv : InvT-loop) → (μ : MeasureT-loop) → Type 0
-Need-same-length-5 = λ Inv μ. Lts.Need-same-length-5 (Reads.Asked, Reads.Learnt) Reads'.Pre Reads'.Post Inv μ
+Need-same-length-5 = λ Inv μ. Lts.Need-same-length-5 readings Reads'.Pre Reads'.Post Inv μ
 
 abbrev pub Need-same-length-6 : (Inv : InvT-loop) → (μ : MeasureT-loop) → Type 0
-Need-same-length-6 = λ Inv μ. Lts.Need-same-length-6 (Reads.Asked, Reads.Learnt) Reads'.Pre Reads'.Post Inv μ
+Need-same-length-6 = λ Inv μ. Lts.Need-same-length-6 readings Reads'.Pre Reads'.Post Inv μ
 
 abbrev pub Need-returns : (Inv : InvT-loop) → (μ : MeasureT-loop) → Type 0
-Need-returns = λ Inv μ. Lts.Need-returns (Reads.Asked, Reads.Learnt) Reads'.Pre Reads'.Post Inv μ
+Need-returns = λ Inv μ. Lts.Need-returns readings Reads'.Pre Reads'.Post Inv μ
 
 module _ {M : Type 1} where
-  pub spec : (Inv : InvT-loop) → (μ : MeasureT-loop) → (answer : Need-loop-holds Inv μ) → (answer : Need-one-case-requires Inv μ) → (answer :
-      Need-add-case Inv μ) → (answer : Need-loop-less Inv μ) → (answer : Need-loop-again Inv μ) → (answer : Need-same-length Inv μ) → (answer :
-      Need-same-length-2 Inv μ) → (answer : Need-same-length-3 Inv μ) → (answer : Need-same-length-4 Inv μ) → (answer : Need-same-length-5 Inv μ) →
-      (answer : Need-same-length-6 Inv μ) → (answer : Need-returns Inv μ) → Lts.Closed (Reads.Asked, Reads.Learnt) Reads'.Pre Reads'.Post M
-  spec = λ Inv μ answer answer' answer'' answer'3 answer'4 answer'5 answer'6 answer'7 answer'8 answer'9 answer'10 answer'11. Lts.spec (
-    Reads.Asked,
-    Reads.Learnt,
-  ) Reads'.Pre Reads'.Post Inv μ answer answer' answer'' answer'3 answer'4 answer'5 answer'6 answer'7 answer'8 answer'9 answer'10
-      answer'11
+  pub spec : (Inv : InvT-loop) → (μ : MeasureT-loop) → (answer : Need-loop-holds Inv μ) →
+      (answer : Need-one-case-requires Inv μ) → (answer : Need-add-case Inv μ) → (answer : Need-loop-less Inv μ) →
+      (answer : Need-loop-again Inv μ) → (answer : Need-same-length Inv μ) → (answer : Need-same-length-2 Inv μ) →
+      (answer : Need-same-length-3 Inv μ) → (answer : Need-same-length-4 Inv μ) → (answer : Need-same-length-5 Inv μ) →
+      (answer : Need-same-length-6 Inv μ) → (answer : Need-returns Inv μ) → Lts.Closed readings Reads'.Pre Reads'.Post
+      M
+  spec = λ Inv μ answer answer' answer'' answer'3 answer'4 answer'5 answer'6 answer'7 answer'8 answer'9 answer'10
+      answer'11. Lts.spec readings Reads'.Pre Reads'.Post Inv μ answer answer' answer'' answer'3 answer'4 answer'5
+      answer'6 answer'7 answer'8 answer'9 answer'10 answer'11
 
-  pub close : Lts.Closed (Reads.Asked, Reads.Learnt) Reads'.Pre Reads'.Post M → Statement.statement M
+  pub close : Lts.Closed readings Reads'.Pre Reads'.Post M → Statement.statement M
   unfolding Code.routine Running.tablesOf
-  close = λ closed 𝓤 H 𝓜 𝓖 𝓡. Written.close 6 Kinds.ps Kinds.r Reads'.Ghost Reads'.requires Reads'.ensures Reads'.pre-read Reads'.Pinned Reads'.Owned
-      Reads'.post-read record { M = M; 𝓤 = 𝓤; H = H; 𝓜 = 𝓜; 𝓖 = 𝓖; 𝓡 = 𝓡 } Code.env Key.name Code.function (Code.unfolded 𝓤 H 𝓜 𝓡) (λ κs a g. tt) (λ
-      κs. Reads'.owns κs record { M = M; 𝓤 = 𝓤; H = H; 𝓜 = 𝓜; 𝓖 = 𝓖; 𝓡 = 𝓡 }) (Reads'.passes record { M = M; 𝓤 = 𝓤; H = H; 𝓜 = 𝓜; 𝓖 = 𝓖; 𝓡 = 𝓡 }) λ g.
-      closed 𝓤 H (𝓖 .A) (Running.givenOf 𝓤 H 𝓜 𝓖) (Run.Over 𝓤 H 𝓜 𝓖 𝓡 Code.env) (Reads.known record { M = M; 𝓤 = 𝓤; H = H; 𝓜 = 𝓜; 𝓖 = 𝓖; 𝓡 = 𝓡 }
-      Code.env Symbol.name Symbol.routine Code.calls-cases·machine·one-case (Met.met 𝓤 H 𝓜 𝓖 𝓡))
+  close = λ closed 𝓤 H 𝓜 𝓖 𝓡. Written.close 6 Kinds.ps Kinds.r Reads'.Ghost Reads'.requires Reads'.ensures
+      Reads'.pre-read Reads'.Pinned Reads'.Owned Reads'.post-read record { M = M; 𝓤 = 𝓤; H = H; 𝓜 = 𝓜; 𝓖 = 𝓖; 𝓡 = 𝓡 }
+      Code.env Key.name Code.function (Code.unfolded 𝓤 H 𝓜 𝓡) (λ κs a g. tt) (λ κs. Reads'.owns κs
+      record { M = M; 𝓤 = 𝓤; H = H; 𝓜 = 𝓜; 𝓖 = 𝓖; 𝓡 = 𝓡 }) (Reads'.passes
+      record { M = M; 𝓤 = 𝓤; H = H; 𝓜 = 𝓜; 𝓖 = 𝓖; 𝓡 = 𝓡 }) λ g. closed 𝓤 H (𝓖 .A) (Running.givenOf 𝓤 H 𝓜 𝓖)
+      (Run.Over 𝓤 H 𝓜 𝓖 𝓡 Code.env) (Reads.known record { M = M; 𝓤 = 𝓤; H = H; 𝓜 = 𝓜; 𝓖 = 𝓖; 𝓡 = 𝓡 } Code.env
+      Symbol.name Symbol.routine Code.calls-cases·machine·one-case (Met.met 𝓤 H 𝓜 𝓖 𝓡))

@@ -21,626 +21,189 @@ use borrow.Fn.Run
 use borrow.Fn.Written
 use contract.Running
 
+abbrev pub readings : Lts.Claims
+readings = (
+  Reads''''.Asked,
+  Reads''''.Learnt,
+  Reads'.Asked,
+  Reads'.Learnt,
+  Reads'''.Asked,
+  Reads'''.Learnt,
+  Reads.Asked,
+  Reads.Learnt,
+)
+
 abbrev pub Start : Type 0
-Start = Lts.Start (Reads''''.Asked, Reads''''.Learnt, Reads'.Asked, Reads'.Learnt, Reads'''.Asked, Reads'''.Learnt, Reads.Asked, Reads.Learnt)
-    Reads''.Pre Reads''.Post
+Start = Lts.Start readings Reads''.Pre Reads''.Post
 
 abbrev pub After-slice-known : Type 0
-After-slice-known = Lts.After-slice-known (
-  Reads''''.Asked,
-  Reads''''.Learnt,
-  Reads'.Asked,
-  Reads'.Learnt,
-  Reads'''.Asked,
-  Reads'''.Learnt,
-  Reads.Asked,
-  Reads.Learnt,
-) Reads''.Pre Reads''.Post
+After-slice-known = Lts.After-slice-known readings Reads''.Pre Reads''.Post
 
 abbrev pub After-shared-slice-known : Type 0
-After-shared-slice-known = Lts.After-shared-slice-known (
-  Reads''''.Asked,
-  Reads''''.Learnt,
-  Reads'.Asked,
-  Reads'.Learnt,
-  Reads'''.Asked,
-  Reads'''.Learnt,
-  Reads.Asked,
-  Reads.Learnt,
-) Reads''.Pre Reads''.Post
+After-shared-slice-known = Lts.After-shared-slice-known readings Reads''.Pre Reads''.Post
 
 abbrev pub After-shared-slice-known2 : Type 0
-After-shared-slice-known2 = Lts.After-shared-slice-known2 (
-  Reads''''.Asked,
-  Reads''''.Learnt,
-  Reads'.Asked,
-  Reads'.Learnt,
-  Reads'''.Asked,
-  Reads'''.Learnt,
-  Reads.Asked,
-  Reads.Learnt,
-) Reads''.Pre Reads''.Post
+After-shared-slice-known2 = Lts.After-shared-slice-known2 readings Reads''.Pre Reads''.Post
 
 abbrev pub After-packet : Type 0
-After-packet = Lts.After-packet (
-  Reads''''.Asked,
-  Reads''''.Learnt,
-  Reads'.Asked,
-  Reads'.Learnt,
-  Reads'''.Asked,
-  Reads'''.Learnt,
-  Reads.Asked,
-  Reads.Learnt,
-) Reads''.Pre Reads''.Post
+After-packet = Lts.After-packet readings Reads''.Pre Reads''.Post
 
 abbrev pub After-deliver-arg : Type 0
-After-deliver-arg = Lts.After-deliver-arg (
-  Reads''''.Asked,
-  Reads''''.Learnt,
-  Reads'.Asked,
-  Reads'.Learnt,
-  Reads'''.Asked,
-  Reads'''.Learnt,
-  Reads.Asked,
-  Reads.Learnt,
-) Reads''.Pre Reads''.Post
+After-deliver-arg = Lts.After-deliver-arg readings Reads''.Pre Reads''.Post
 
 abbrev pub After-deliver-arg2 : Type 0
-After-deliver-arg2 = Lts.After-deliver-arg2 (
-  Reads''''.Asked,
-  Reads''''.Learnt,
-  Reads'.Asked,
-  Reads'.Learnt,
-  Reads'''.Asked,
-  Reads'''.Learnt,
-  Reads.Asked,
-  Reads.Learnt,
-) Reads''.Pre Reads''.Post
+After-deliver-arg2 = Lts.After-deliver-arg2 readings Reads''.Pre Reads''.Post
 
 abbrev pub After-deliver-arg3 : Type 0
-After-deliver-arg3 = Lts.After-deliver-arg3 (
-  Reads''''.Asked,
-  Reads''''.Learnt,
-  Reads'.Asked,
-  Reads'.Learnt,
-  Reads'''.Asked,
-  Reads'''.Learnt,
-  Reads.Asked,
-  Reads.Learnt,
-) Reads''.Pre Reads''.Post
+After-deliver-arg3 = Lts.After-deliver-arg3 readings Reads''.Pre Reads''.Post
 
 abbrev pub After-deliver-arg4 : Type 0
-After-deliver-arg4 = Lts.After-deliver-arg4 (
-  Reads''''.Asked,
-  Reads''''.Learnt,
-  Reads'.Asked,
-  Reads'.Learnt,
-  Reads'''.Asked,
-  Reads'''.Learnt,
-  Reads.Asked,
-  Reads.Learnt,
-) Reads''.Pre Reads''.Post
+After-deliver-arg4 = Lts.After-deliver-arg4 readings Reads''.Pre Reads''.Post
 
 abbrev pub After-deliver-arg5 : Type 0
-After-deliver-arg5 = Lts.After-deliver-arg5 (
-  Reads''''.Asked,
-  Reads''''.Learnt,
-  Reads'.Asked,
-  Reads'.Learnt,
-  Reads'''.Asked,
-  Reads'''.Learnt,
-  Reads.Asked,
-  Reads.Learnt,
-) Reads''.Pre Reads''.Post
+After-deliver-arg5 = Lts.After-deliver-arg5 readings Reads''.Pre Reads''.Post
 
 abbrev pub After-deliver : Type 0
-After-deliver = Lts.After-deliver (
-  Reads''''.Asked,
-  Reads''''.Learnt,
-  Reads'.Asked,
-  Reads'.Learnt,
-  Reads'''.Asked,
-  Reads'''.Learnt,
-  Reads.Asked,
-  Reads.Learnt,
-) Reads''.Pre Reads''.Post
+After-deliver = Lts.After-deliver readings Reads''.Pre Reads''.Post
 
 abbrev pub After-pending : Type 0
-After-pending = Lts.After-pending (
-  Reads''''.Asked,
-  Reads''''.Learnt,
-  Reads'.Asked,
-  Reads'.Learnt,
-  Reads'''.Asked,
-  Reads'''.Learnt,
-  Reads.Asked,
-  Reads.Learnt,
-) Reads''.Pre Reads''.Post
+After-pending = Lts.After-pending readings Reads''.Pre Reads''.Post
 
 abbrev pub After-circuits : Type 0
-After-circuits = Lts.After-circuits (
-  Reads''''.Asked,
-  Reads''''.Learnt,
-  Reads'.Asked,
-  Reads'.Learnt,
-  Reads'''.Asked,
-  Reads'''.Learnt,
-  Reads.Asked,
-  Reads.Learnt,
-) Reads''.Pre Reads''.Post
+After-circuits = Lts.After-circuits readings Reads''.Pre Reads''.Post
 
 abbrev pub After-ledger : Type 0
-After-ledger = Lts.After-ledger (
-  Reads''''.Asked,
-  Reads''''.Learnt,
-  Reads'.Asked,
-  Reads'.Learnt,
-  Reads'''.Asked,
-  Reads'''.Learnt,
-  Reads.Asked,
-  Reads.Learnt,
-) Reads''.Pre Reads''.Post
+After-ledger = Lts.After-ledger readings Reads''.Pre Reads''.Post
 
 abbrev pub After-inflight : Type 0
-After-inflight = Lts.After-inflight (
-  Reads''''.Asked,
-  Reads''''.Learnt,
-  Reads'.Asked,
-  Reads'.Learnt,
-  Reads'''.Asked,
-  Reads'''.Learnt,
-  Reads.Asked,
-  Reads.Learnt,
-) Reads''.Pre Reads''.Post
+After-inflight = Lts.After-inflight readings Reads''.Pre Reads''.Post
 
 abbrev pub After-out : Type 0
-After-out = Lts.After-out (
-  Reads''''.Asked,
-  Reads''''.Learnt,
-  Reads'.Asked,
-  Reads'.Learnt,
-  Reads'''.Asked,
-  Reads'''.Learnt,
-  Reads.Asked,
-  Reads.Learnt,
-) Reads''.Pre Reads''.Post
+After-out = Lts.After-out readings Reads''.Pre Reads''.Post
 
 abbrev pub After-slice-known2 : Type 0
-After-slice-known2 = Lts.After-slice-known2 (
-  Reads''''.Asked,
-  Reads''''.Learnt,
-  Reads'.Asked,
-  Reads'.Learnt,
-  Reads'''.Asked,
-  Reads'''.Learnt,
-  Reads.Asked,
-  Reads.Learnt,
-) Reads''.Pre Reads''.Post
+After-slice-known2 = Lts.After-slice-known2 readings Reads''.Pre Reads''.Post
 
 abbrev pub After-struct-known : Type 0
-After-struct-known = Lts.After-struct-known (
-  Reads''''.Asked,
-  Reads''''.Learnt,
-  Reads'.Asked,
-  Reads'.Learnt,
-  Reads'''.Asked,
-  Reads'''.Learnt,
-  Reads.Asked,
-  Reads.Learnt,
-) Reads''.Pre Reads''.Post
+After-struct-known = Lts.After-struct-known readings Reads''.Pre Reads''.Post
 
 abbrev pub Then1 : Type 0
-Then1 = Lts.Then1 (Reads''''.Asked, Reads''''.Learnt, Reads'.Asked, Reads'.Learnt, Reads'''.Asked, Reads'''.Learnt, Reads.Asked, Reads.Learnt)
-    Reads''.Pre Reads''.Post
+Then1 = Lts.Then1 readings Reads''.Pre Reads''.Post
 
 abbrev pub After-answer-number : Type 0
-After-answer-number = Lts.After-answer-number (
-  Reads''''.Asked,
-  Reads''''.Learnt,
-  Reads'.Asked,
-  Reads'.Learnt,
-  Reads'''.Asked,
-  Reads'''.Learnt,
-  Reads.Asked,
-  Reads.Learnt,
-) Reads''.Pre Reads''.Post
+After-answer-number = Lts.After-answer-number readings Reads''.Pre Reads''.Post
 
 abbrev pub Else1 : Type 0
-Else1 = Lts.Else1 (Reads''''.Asked, Reads''''.Learnt, Reads'.Asked, Reads'.Learnt, Reads'''.Asked, Reads'''.Learnt, Reads.Asked, Reads.Learnt)
-    Reads''.Pre Reads''.Post
+Else1 = Lts.Else1 readings Reads''.Pre Reads''.Post
 
 abbrev pub After-again-arg : Type 0
-After-again-arg = Lts.After-again-arg (
-  Reads''''.Asked,
-  Reads''''.Learnt,
-  Reads'.Asked,
-  Reads'.Learnt,
-  Reads'''.Asked,
-  Reads'''.Learnt,
-  Reads.Asked,
-  Reads.Learnt,
-) Reads''.Pre Reads''.Post
+After-again-arg = Lts.After-again-arg readings Reads''.Pre Reads''.Post
 
 abbrev pub After-again-arg2 : Type 0
-After-again-arg2 = Lts.After-again-arg2 (
-  Reads''''.Asked,
-  Reads''''.Learnt,
-  Reads'.Asked,
-  Reads'.Learnt,
-  Reads'''.Asked,
-  Reads'''.Learnt,
-  Reads.Asked,
-  Reads.Learnt,
-) Reads''.Pre Reads''.Post
+After-again-arg2 = Lts.After-again-arg2 readings Reads''.Pre Reads''.Post
 
 abbrev pub After-again-arg3 : Type 0
-After-again-arg3 = Lts.After-again-arg3 (
-  Reads''''.Asked,
-  Reads''''.Learnt,
-  Reads'.Asked,
-  Reads'.Learnt,
-  Reads'''.Asked,
-  Reads'''.Learnt,
-  Reads.Asked,
-  Reads.Learnt,
-) Reads''.Pre Reads''.Post
+After-again-arg3 = Lts.After-again-arg3 readings Reads''.Pre Reads''.Post
 
 abbrev pub After-again-arg4 : Type 0
-After-again-arg4 = Lts.After-again-arg4 (
-  Reads''''.Asked,
-  Reads''''.Learnt,
-  Reads'.Asked,
-  Reads'.Learnt,
-  Reads'''.Asked,
-  Reads'''.Learnt,
-  Reads.Asked,
-  Reads.Learnt,
-) Reads''.Pre Reads''.Post
+After-again-arg4 = Lts.After-again-arg4 readings Reads''.Pre Reads''.Post
 
 abbrev pub After-again-arg5 : Type 0
-After-again-arg5 = Lts.After-again-arg5 (
-  Reads''''.Asked,
-  Reads''''.Learnt,
-  Reads'.Asked,
-  Reads'.Learnt,
-  Reads'''.Asked,
-  Reads'''.Learnt,
-  Reads.Asked,
-  Reads.Learnt,
-) Reads''.Pre Reads''.Post
+After-again-arg5 = Lts.After-again-arg5 readings Reads''.Pre Reads''.Post
 
 abbrev pub After-again : Type 0
-After-again = Lts.After-again (
-  Reads''''.Asked,
-  Reads''''.Learnt,
-  Reads'.Asked,
-  Reads'.Learnt,
-  Reads'''.Asked,
-  Reads'''.Learnt,
-  Reads.Asked,
-  Reads.Learnt,
-) Reads''.Pre Reads''.Post
+After-again = Lts.After-again readings Reads''.Pre Reads''.Post
 
 abbrev pub After-pending2 : Type 0
-After-pending2 = Lts.After-pending2 (
-  Reads''''.Asked,
-  Reads''''.Learnt,
-  Reads'.Asked,
-  Reads'.Learnt,
-  Reads'''.Asked,
-  Reads'''.Learnt,
-  Reads.Asked,
-  Reads.Learnt,
-) Reads''.Pre Reads''.Post
+After-pending2 = Lts.After-pending2 readings Reads''.Pre Reads''.Post
 
 abbrev pub After-circuits2 : Type 0
-After-circuits2 = Lts.After-circuits2 (
-  Reads''''.Asked,
-  Reads''''.Learnt,
-  Reads'.Asked,
-  Reads'.Learnt,
-  Reads'''.Asked,
-  Reads'''.Learnt,
-  Reads.Asked,
-  Reads.Learnt,
-) Reads''.Pre Reads''.Post
+After-circuits2 = Lts.After-circuits2 readings Reads''.Pre Reads''.Post
 
 abbrev pub After-ledger2 : Type 0
-After-ledger2 = Lts.After-ledger2 (
-  Reads''''.Asked,
-  Reads''''.Learnt,
-  Reads'.Asked,
-  Reads'.Learnt,
-  Reads'''.Asked,
-  Reads'''.Learnt,
-  Reads.Asked,
-  Reads.Learnt,
-) Reads''.Pre Reads''.Post
+After-ledger2 = Lts.After-ledger2 readings Reads''.Pre Reads''.Post
 
 abbrev pub After-inflight2 : Type 0
-After-inflight2 = Lts.After-inflight2 (
-  Reads''''.Asked,
-  Reads''''.Learnt,
-  Reads'.Asked,
-  Reads'.Learnt,
-  Reads'''.Asked,
-  Reads'''.Learnt,
-  Reads.Asked,
-  Reads.Learnt,
-) Reads''.Pre Reads''.Post
+After-inflight2 = Lts.After-inflight2 readings Reads''.Pre Reads''.Post
 
 abbrev pub After-out2 : Type 0
-After-out2 = Lts.After-out2 (
-  Reads''''.Asked,
-  Reads''''.Learnt,
-  Reads'.Asked,
-  Reads'.Learnt,
-  Reads'''.Asked,
-  Reads'''.Learnt,
-  Reads.Asked,
-  Reads.Learnt,
-) Reads''.Pre Reads''.Post
+After-out2 = Lts.After-out2 readings Reads''.Pre Reads''.Post
 
 abbrev pub After-slice-known3 : Type 0
-After-slice-known3 = Lts.After-slice-known3 (
-  Reads''''.Asked,
-  Reads''''.Learnt,
-  Reads'.Asked,
-  Reads'.Learnt,
-  Reads'''.Asked,
-  Reads'''.Learnt,
-  Reads.Asked,
-  Reads.Learnt,
-) Reads''.Pre Reads''.Post
+After-slice-known3 = Lts.After-slice-known3 readings Reads''.Pre Reads''.Post
 
 abbrev pub Need-packet-requires : Type 0
-Need-packet-requires = Lts.Need-packet-requires (
-  Reads''''.Asked,
-  Reads''''.Learnt,
-  Reads'.Asked,
-  Reads'.Learnt,
-  Reads'''.Asked,
-  Reads'''.Learnt,
-  Reads.Asked,
-  Reads.Learnt,
-) Reads''.Pre Reads''.Post
+Need-packet-requires = Lts.Need-packet-requires readings Reads''.Pre Reads''.Post
 
 abbrev pub Need-deliver-requires : Type 0
-Need-deliver-requires = Lts.Need-deliver-requires (
-  Reads''''.Asked,
-  Reads''''.Learnt,
-  Reads'.Asked,
-  Reads'.Learnt,
-  Reads'''.Asked,
-  Reads'''.Learnt,
-  Reads.Asked,
-  Reads.Learnt,
-) Reads''.Pre Reads''.Post
+Need-deliver-requires = Lts.Need-deliver-requires readings Reads''.Pre Reads''.Post
 
 abbrev pub Need-answer-number-requires : Type 0
-Need-answer-number-requires = Lts.Need-answer-number-requires (
-  Reads''''.Asked,
-  Reads''''.Learnt,
-  Reads'.Asked,
-  Reads'.Learnt,
-  Reads'''.Asked,
-  Reads'''.Learnt,
-  Reads.Asked,
-  Reads.Learnt,
-) Reads''.Pre Reads''.Post
+Need-answer-number-requires = Lts.Need-answer-number-requires readings Reads''.Pre Reads''.Post
 
 abbrev pub Need-same-length : Type 0
-Need-same-length = Lts.Need-same-length (
-  Reads''''.Asked,
-  Reads''''.Learnt,
-  Reads'.Asked,
-  Reads'.Learnt,
-  Reads'''.Asked,
-  Reads'''.Learnt,
-  Reads.Asked,
-  Reads.Learnt,
-) Reads''.Pre Reads''.Post
+Need-same-length = Lts.Need-same-length readings Reads''.Pre Reads''.Post
 
 abbrev pub Need-same-length-2 : Type 0
-Need-same-length-2 = Lts.Need-same-length-2 (
-  Reads''''.Asked,
-  Reads''''.Learnt,
-  Reads'.Asked,
-  Reads'.Learnt,
-  Reads'''.Asked,
-  Reads'''.Learnt,
-  Reads.Asked,
-  Reads.Learnt,
-) Reads''.Pre Reads''.Post
+Need-same-length-2 = Lts.Need-same-length-2 readings Reads''.Pre Reads''.Post
 
 abbrev pub Need-same-length-3 : Type 0
-Need-same-length-3 = Lts.Need-same-length-3 (
-  Reads''''.Asked,
-  Reads''''.Learnt,
-  Reads'.Asked,
-  Reads'.Learnt,
-  Reads'''.Asked,
-  Reads'''.Learnt,
-  Reads.Asked,
-  Reads.Learnt,
-) Reads''.Pre Reads''.Post
+Need-same-length-3 = Lts.Need-same-length-3 readings Reads''.Pre Reads''.Post
 
 abbrev pub Need-same-length-4 : Type 0
-Need-same-length-4 = Lts.Need-same-length-4 (
-  Reads''''.Asked,
-  Reads''''.Learnt,
-  Reads'.Asked,
-  Reads'.Learnt,
-  Reads'''.Asked,
-  Reads'''.Learnt,
-  Reads.Asked,
-  Reads.Learnt,
-) Reads''.Pre Reads''.Post
+Need-same-length-4 = Lts.Need-same-length-4 readings Reads''.Pre Reads''.Post
 
 abbrev pub Need-same-length-5 : Type 0
-Need-same-length-5 = Lts.Need-same-length-5 (
-  Reads''''.Asked,
-  Reads''''.Learnt,
-  Reads'.Asked,
-  Reads'.Learnt,
-  Reads'''.Asked,
-  Reads'''.Learnt,
-  Reads.Asked,
-  Reads.Learnt,
-) Reads''.Pre Reads''.Post
+Need-same-length-5 = Lts.Need-same-length-5 readings Reads''.Pre Reads''.Post
 
 abbrev pub Need-returns : Type 0
-Need-returns = Lts.Need-returns (
-  Reads''''.Asked,
-  Reads''''.Learnt,
-  Reads'.Asked,
-  Reads'.Learnt,
-  Reads'''.Asked,
-  Reads'''.Learnt,
-  Reads.Asked,
-  Reads.Learnt,
-) Reads''.Pre Reads''.Post
+Need-returns = Lts.Need-returns readings Reads''.Pre Reads''.Post
 
 abbrev pub Need-again-requires : Type 0
-Need-again-requires = Lts.Need-again-requires (
-  Reads''''.Asked,
-  Reads''''.Learnt,
-  Reads'.Asked,
-  Reads'.Learnt,
-  Reads'''.Asked,
-  Reads'''.Learnt,
-  Reads.Asked,
-  Reads.Learnt,
-) Reads''.Pre Reads''.Post
+Need-again-requires = Lts.Need-again-requires readings Reads''.Pre Reads''.Post
 
 abbrev pub Need-same-length-6 : Type 0
-Need-same-length-6 = Lts.Need-same-length-6 (
-  Reads''''.Asked,
-  Reads''''.Learnt,
-  Reads'.Asked,
-  Reads'.Learnt,
-  Reads'''.Asked,
-  Reads'''.Learnt,
-  Reads.Asked,
-  Reads.Learnt,
-) Reads''.Pre Reads''.Post
+Need-same-length-6 = Lts.Need-same-length-6 readings Reads''.Pre Reads''.Post
 
 abbrev pub Need-same-length-7 : Type 0
-Need-same-length-7 = Lts.Need-same-length-7 (
-  Reads''''.Asked,
-  Reads''''.Learnt,
-  Reads'.Asked,
-  Reads'.Learnt,
-  Reads'''.Asked,
-  Reads'''.Learnt,
-  Reads.Asked,
-  Reads.Learnt,
-) Reads''.Pre Reads''.Post
+Need-same-length-7 = Lts.Need-same-length-7 readings Reads''.Pre Reads''.Post
 
 abbrev pub Need-same-length-8 : Type 0
-Need-same-length-8 = Lts.Need-same-length-8 (
-  Reads''''.Asked,
-  Reads''''.Learnt,
-  Reads'.Asked,
-  Reads'.Learnt,
-  Reads'''.Asked,
-  Reads'''.Learnt,
-  Reads.Asked,
-  Reads.Learnt,
-) Reads''.Pre Reads''.Post
+Need-same-length-8 = Lts.Need-same-length-8 readings Reads''.Pre Reads''.Post
 
 abbrev pub Need-same-length-9 : Type 0
-Need-same-length-9 = Lts.Need-same-length-9 (
-  Reads''''.Asked,
-  Reads''''.Learnt,
-  Reads'.Asked,
-  Reads'.Learnt,
-  Reads'''.Asked,
-  Reads'''.Learnt,
-  Reads.Asked,
-  Reads.Learnt,
-) Reads''.Pre Reads''.Post
+Need-same-length-9 = Lts.Need-same-length-9 readings Reads''.Pre Reads''.Post
 
 abbrev pub Need-same-length-10 : Type 0
-Need-same-length-10 = Lts.Need-same-length-10 (
-  Reads''''.Asked,
-  Reads''''.Learnt,
-  Reads'.Asked,
-  Reads'.Learnt,
-  Reads'''.Asked,
-  Reads'''.Learnt,
-  Reads.Asked,
-  Reads.Learnt,
-) Reads''.Pre Reads''.Post
+Need-same-length-10 = Lts.Need-same-length-10 readings Reads''.Pre Reads''.Post
 
 abbrev pub Need-returns-2 : Type 0
-Need-returns-2 = Lts.Need-returns-2 (
-  Reads''''.Asked,
-  Reads''''.Learnt,
-  Reads'.Asked,
-  Reads'.Learnt,
-  Reads'''.Asked,
-  Reads'''.Learnt,
-  Reads.Asked,
-  Reads.Learnt,
-) Reads''.Pre Reads''.Post
+Need-returns-2 = Lts.Need-returns-2 readings Reads''.Pre Reads''.Post
 
 module _ {M : Type 1} where
-  pub spec : (answer : Need-packet-requires) → (answer : Need-deliver-requires) → (answer : Need-answer-number-requires) → (answer : Need-same-length)
-      → (answer : Need-same-length-2) → (answer : Need-same-length-3) → (answer : Need-same-length-4) → (answer : Need-same-length-5) → (answer :
-      Need-returns) → (answer : Need-again-requires) → (answer : Need-same-length-6) → (answer : Need-same-length-7) → (answer : Need-same-length-8) →
-      (answer : Need-same-length-9) → (answer : Need-same-length-10) → (answer : Need-returns-2) → Lts.Closed (
-        Reads''''.Asked,
-        Reads''''.Learnt,
-        Reads'.Asked,
-        Reads'.Learnt,
-        Reads'''.Asked,
-        Reads'''.Learnt,
-        Reads.Asked,
-        Reads.Learnt,
-      ) Reads''.Pre Reads''.Post M
-  spec = λ answer answer' answer'' answer'3 answer'4 answer'5 answer'6 answer'7 answer'8 answer'9 answer'10 answer'11 answer'12 answer'13 answer'14
-      answer'15. Lts.spec (
-        Reads''''.Asked,
-        Reads''''.Learnt,
-        Reads'.Asked,
-        Reads'.Learnt,
-        Reads'''.Asked,
-        Reads'''.Learnt,
-        Reads.Asked,
-        Reads.Learnt,
-      ) Reads''.Pre Reads''.Post answer answer' answer'' answer'3 answer'4 answer'5 answer'6 answer'7 answer'8 answer'9 answer'10
-      answer'11 answer'12 answer'13 answer'14 answer'15
+  pub spec : (answer : Need-packet-requires) → (answer : Need-deliver-requires) →
+      (answer : Need-answer-number-requires) → (answer : Need-same-length) → (answer : Need-same-length-2) →
+      (answer : Need-same-length-3) → (answer : Need-same-length-4) → (answer : Need-same-length-5) →
+      (answer : Need-returns) → (answer : Need-again-requires) → (answer : Need-same-length-6) →
+      (answer : Need-same-length-7) → (answer : Need-same-length-8) → (answer : Need-same-length-9) →
+      (answer : Need-same-length-10) → (answer : Need-returns-2) → Lts.Closed readings Reads''.Pre Reads''.Post M
+  spec = λ answer answer' answer'' answer'3 answer'4 answer'5 answer'6 answer'7 answer'8 answer'9 answer'10 answer'11
+      answer'12 answer'13 answer'14 answer'15. Lts.spec readings Reads''.Pre Reads''.Post answer answer' answer''
+      answer'3 answer'4 answer'5 answer'6 answer'7 answer'8 answer'9 answer'10 answer'11 answer'12 answer'13 answer'14
+      answer'15
 
-  pub close : Lts.Closed (Reads''''.Asked, Reads''''.Learnt, Reads'.Asked, Reads'.Learnt, Reads'''.Asked, Reads'''.Learnt, Reads.Asked, Reads.Learnt)
-      Reads''.Pre Reads''.Post M → Statement.statement M
+  pub close : Lts.Closed readings Reads''.Pre Reads''.Post M → Statement.statement M
   unfolding Code.routine Running.tablesOf
-  close = λ closed 𝓤 H 𝓜 𝓖 𝓡. Written.close 7 Kinds.ps Kinds.r Reads''.Ghost Reads''.requires Reads''.ensures Reads''.pre-read Reads''.Pinned
-      Reads''.Owned Reads''.post-read record { M = M; 𝓤 = 𝓤; H = H; 𝓜 = 𝓜; 𝓖 = 𝓖; 𝓡 = 𝓡 } Code.env Key.name Code.function (Code.unfolded 𝓤 H 𝓜 𝓡) (λ
-      κs a g. tt) (λ κs. Reads''.owns κs record { M = M; 𝓤 = 𝓤; H = H; 𝓜 = 𝓜; 𝓖 = 𝓖; 𝓡 = 𝓡 }) (Reads''.passes record {
-        M = M;
-        𝓤 = 𝓤;
-        H = H;
-        𝓜 = 𝓜;
-        𝓖 =
-            𝓖;
-        𝓡 = 𝓡;
-      }) λ g. closed 𝓤 H (𝓖 .A) (Running.givenOf 𝓤 H 𝓜 𝓖) (Run.Over 𝓤 H 𝓜 𝓖 𝓡 Code.env) (Reads''''.known record {
-        M = M;
-        𝓤 = 𝓤;
-        H = H;
-        𝓜 = 𝓜;
-        𝓖 = 𝓖;
-        𝓡 = 𝓡;
-      } Code.env Symbol'''.name Symbol'''.routine Code.calls-cases·script·packet (Met'''.met 𝓤 H 𝓜 𝓖 𝓡)) (Reads'.known record {
-        M = M;
-        𝓤
-            = 𝓤;
-        H = H;
-        𝓜 = 𝓜;
-        𝓖 = 𝓖;
-        𝓡 = 𝓡;
-      } Code.env Symbol'.name Symbol'.routine Code.calls-cases·machine·deliver (Met'.met 𝓤 H 𝓜 𝓖 𝓡)) (Reads'''.known
-      record { M = M; 𝓤 = 𝓤; H = H; 𝓜 = 𝓜; 𝓖 = 𝓖; 𝓡 = 𝓡 } Code.env Symbol''.name Symbol''.routine Code.calls-cases·script·answer-number (Met''.met 𝓤 H
-      𝓜 𝓖 𝓡)) (Reads.known record { M = M; 𝓤 = 𝓤; H = H; 𝓜 = 𝓜; 𝓖 = 𝓖; 𝓡 = 𝓡 } Code.env Symbol.name Symbol.routine Code.calls-cases·machine·again
-      (Met.met 𝓤 H 𝓜 𝓖 𝓡))
+  close = λ closed 𝓤 H 𝓜 𝓖 𝓡. Written.close 7 Kinds.ps Kinds.r Reads''.Ghost Reads''.requires Reads''.ensures
+      Reads''.pre-read Reads''.Pinned Reads''.Owned Reads''.post-read
+      record { M = M; 𝓤 = 𝓤; H = H; 𝓜 = 𝓜; 𝓖 = 𝓖; 𝓡 = 𝓡 } Code.env Key.name Code.function (Code.unfolded 𝓤 H 𝓜 𝓡)
+      (λ κs a g. tt) (λ κs. Reads''.owns κs record { M = M; 𝓤 = 𝓤; H = H; 𝓜 = 𝓜; 𝓖 = 𝓖; 𝓡 = 𝓡 }) (Reads''.passes
+      record { M = M; 𝓤 = 𝓤; H = H; 𝓜 = 𝓜; 𝓖 = 𝓖; 𝓡 = 𝓡 }) λ g. closed 𝓤 H (𝓖 .A) (Running.givenOf 𝓤 H 𝓜 𝓖)
+      (Run.Over 𝓤 H 𝓜 𝓖 𝓡 Code.env) (Reads''''.known record { M = M; 𝓤 = 𝓤; H = H; 𝓜 = 𝓜; 𝓖 = 𝓖; 𝓡 = 𝓡 } Code.env
+      Symbol'''.name Symbol'''.routine Code.calls-cases·script·packet (Met'''.met 𝓤 H 𝓜 𝓖 𝓡)) (Reads'.known
+      record { M = M; 𝓤 = 𝓤; H = H; 𝓜 = 𝓜; 𝓖 = 𝓖; 𝓡 = 𝓡 } Code.env Symbol'.name Symbol'.routine
+      Code.calls-cases·machine·deliver (Met'.met 𝓤 H 𝓜 𝓖 𝓡)) (Reads'''.known
+      record { M = M; 𝓤 = 𝓤; H = H; 𝓜 = 𝓜; 𝓖 = 𝓖; 𝓡 = 𝓡 } Code.env Symbol''.name Symbol''.routine
+      Code.calls-cases·script·answer-number (Met''.met 𝓤 H 𝓜 𝓖 𝓡)) (Reads.known
+      record { M = M; 𝓤 = 𝓤; H = H; 𝓜 = 𝓜; 𝓖 = 𝓖; 𝓡 = 𝓡 } Code.env Symbol.name Symbol.routine
+      Code.calls-cases·machine·again (Met.met 𝓤 H 𝓜 𝓖 𝓡))

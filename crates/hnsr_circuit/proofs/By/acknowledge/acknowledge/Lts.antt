@@ -3,6 +3,7 @@ use Prim.Native.Nat
 use Rattle.hnsr_circuit.proofs.By.InflightAction
 use Rattle.hnsr_circuit.proofs.By.RelayCircuit
 use Rattle.hnsr_circuit.proofs.By.RelayPending
+use Rattle.hnsr_circuit.proofs.StructRow
 use Rattle.hnsr_circuit.proofs.answer.HnsrAnswer
 use Rattle.hnsr_circuit.proofs.answer.HnsrAnswer.Laws
 use Rattle.hnsr_circuit.proofs.config.OpaqueRelayConfig
@@ -27,7 +28,6 @@ use borrow.Kind.Bool
 use borrow.Kind.MutSlice
 use borrow.Kind.Num
 use borrow.Kind.ShrSlice
-use borrow.Kind.Value
 use borrow.Rule.DerefMove
 use borrow.Rule.Lifetime
 use borrow.Rule.Local
@@ -52,11 +52,8 @@ use borrow.Table.Rows
 use borrow.Table.Typed
 use contract.Lifetimes
 use denote.Enum.Declared
-use denote.Enum.Laws as Laws''''''
-use denote.Exit
 use denote.Struct.At
 use denote.Struct.Declared as Declared'
-use denote.Struct.Laws as Laws'''''''
 use denote.Triple.Clauses
 use denote.Triple.Statement
 use ghost.Atoms
@@ -74,1576 +71,2632 @@ use mathlib.Core.List.{_∷_}
 
 abbrev ref0 : Syntax.Ty
 ref0 = Syntax.tyRef Syntax.erased Syntax.imm InflightAction.to
+
 abbrev ref1 : Syntax.Ty
 ref1 = Syntax.tyRef Syntax.erased Syntax.mut RelayPending.to
+
 abbrev ref2 : Syntax.Ty
 ref2 = Syntax.tyRef Syntax.erased Syntax.mut RelayCircuit.to
+
 abbrev ref3 : Syntax.Ty
 ref3 = Syntax.tyRef Syntax.erased Syntax.mut InflightAction.to
+
 abbrev ref4 : Syntax.Ty
 ref4 = Syntax.tyRef Syntax.erased Syntax.mut (Syntax.tyInt Syntax.w32)
+
 abbrev ref5 : Syntax.Ty
 ref5 = Syntax.tyRef (Syntax.named 0) Syntax.mut RelayPending.to
+
 abbrev ref6 : Syntax.Ty
 ref6 = Syntax.tyRef (Syntax.named 1) Syntax.mut RelayCircuit.to
+
 abbrev ref7 : Syntax.Ty
 ref7 = Syntax.tyRef (Syntax.named 2) Syntax.mut InflightAction.to
+
 abbrev ref8 : Syntax.Ty
 ref8 = Syntax.tyRef (Syntax.named 3) Syntax.mut (Syntax.tyInt Syntax.w32)
+
+abbrev slice0 : Syntax.Ty
+slice0 = Syntax.tyStruct (38 ∷ 91 ∷ 93 ∷ List.[]) (Syntax.tcons ref0
+    (Syntax.tcons (Syntax.tyInt Syntax.w64) Syntax.tnil))
+
+abbrev slice1 : Syntax.Ty
+slice1 = Syntax.tyStruct (38 ∷ 91 ∷ 93 ∷ List.[]) (Syntax.tcons ref1
+    (Syntax.tcons (Syntax.tyInt Syntax.w64) Syntax.tnil))
+
+abbrev slice2 : Syntax.Ty
+slice2 = Syntax.tyStruct (38 ∷ 91 ∷ 93 ∷ List.[]) (Syntax.tcons ref2
+    (Syntax.tcons (Syntax.tyInt Syntax.w64) Syntax.tnil))
+
+abbrev slice3 : Syntax.Ty
+slice3 = Syntax.tyStruct (38 ∷ 91 ∷ 93 ∷ List.[]) (Syntax.tcons ref3
+    (Syntax.tcons (Syntax.tyInt Syntax.w64) Syntax.tnil))
+
+abbrev slice4 : Syntax.Ty
+slice4 = Syntax.tyStruct (38 ∷ 91 ∷ 93 ∷ List.[]) (Syntax.tcons ref4
+    (Syntax.tcons (Syntax.tyInt Syntax.w64) Syntax.tnil))
+
 abbrev pub ps : List.List (Kinds.PK 4)
-ps = (MutSlice.pMutS RelayPending.row 0 tt) ∷ (MutSlice.pMutS RelayCircuit.row 1 tt) ∷ (MutSlice.pMutS InflightAction.row 2 tt) ∷ (MutSlice.pMutS
-    (Referent.rtF (Referent.fInt Syntax.w32)) 3 tt) ∷ (Value.pVal record { ty = Declared'.row OpaqueRelayRuntime.the-type; one = Path.refl; val =
-    Laws'''''''.val OpaqueRelayRuntime.the-type Laws''''.the-laws; tells = Laws'''''''.tells OpaqueRelayRuntime.the-type Laws''''.the-laws; still =
-    Laws'''''''.still OpaqueRelayRuntime.the-type Laws''''.the-copy Exit.yes; row = Rows.whole (Declared'.row OpaqueRelayRuntime.the-type); rd = λ x.
-    x; mk = λ x. x; } λ M 𝓤 H A W. record { copies = Laws'''''''.copy OpaqueRelayRuntime.the-type Laws''''.the-copy 𝓤 H A W; lawful =
-    Laws'''''''.lawful OpaqueRelayRuntime.the-type Laws''''.the-laws 𝓤 H A W; makes = Laws'''''''.makes OpaqueRelayRuntime.the-type Laws''''.the-plain
-    𝓤 H A; in-mem = Local.mem-whole 𝓤 H A W (Declared'.row OpaqueRelayRuntime.the-type); of-mem = Local.whole-mem 𝓤 H A W (Declared'.row
-    OpaqueRelayRuntime.the-type); }) ∷ (Value.pVal record { ty = Declared'.row Places.the-type; one = Path.refl; val = Laws'''''''.val Places.the-type
-    Laws''.the-laws; tells = Laws'''''''.tells Places.the-type Laws''.the-laws; still = Laws'''''''.still Places.the-type Laws''.the-copy Exit.yes;
-    row = Rows.whole (Declared'.row Places.the-type); rd = λ x. x; mk = λ x. x; } λ M 𝓤 H A W. record { copies = Laws'''''''.copy Places.the-type
-    Laws''.the-copy 𝓤 H A W; lawful = Laws'''''''.lawful Places.the-type Laws''.the-laws 𝓤 H A W; makes = Laws'''''''.makes Places.the-type
-    Laws''.the-plain 𝓤 H A; in-mem = Local.mem-whole 𝓤 H A W (Declared'.row Places.the-type); of-mem = Local.whole-mem 𝓤 H A W (Declared'.row
-    Places.the-type); }) ∷ (Num.pNum Syntax.w64) ∷ (Num.pNum Syntax.w64) ∷ Bool.pBool ∷ List.[]
+ps = (MutSlice.pMutS RelayPending.row 0 tt) ∷ (MutSlice.pMutS RelayCircuit.row 1 tt) ∷
+    (MutSlice.pMutS InflightAction.row 2 tt) ∷ (MutSlice.pMutS (Referent.rtF (Referent.fInt Syntax.w32)) 3 tt) ∷ (StructRow.param
+    OpaqueRelayRuntime.the-type Laws''''.the-laws Laws''''.the-copy Laws''''.the-plain) ∷ (StructRow.param
+    Places.the-type Laws''.the-laws Laws''.the-copy Laws''.the-plain) ∷ (Num.pNum Syntax.w64) ∷ (Num.pNum Syntax.w64) ∷
+    Bool.pBool ∷ List.[]
+
 abbrev pub r : Kinds.RK 4
-r = Value.rVal record { ty = Declared'.row Relayed.the-type; one = Path.refl; val = Laws'''''''.val Relayed.the-type Laws'''''.the-laws; tells =
-    Laws'''''''.tells Relayed.the-type Laws'''''.the-laws; still = Laws'''''''.still Relayed.the-type Laws'''''.the-copy Exit.yes; row = Rows.whole
-    (Declared'.row Relayed.the-type); rd = λ x. x; mk = λ x. x; } λ M 𝓤 H A W. record { copies = Laws'''''''.copy Relayed.the-type Laws'''''.the-copy
-    𝓤 H A W; lawful = Laws'''''''.lawful Relayed.the-type Laws'''''.the-laws 𝓤 H A W; makes = Laws'''''''.makes Relayed.the-type Laws'''''.the-plain 𝓤
-    H A; in-mem = Local.mem-whole 𝓤 H A W (Declared'.row Relayed.the-type); of-mem = Local.whole-mem 𝓤 H A W (Declared'.row Relayed.the-type); }
+r = StructRow.result Relayed.the-type Laws'''''.the-laws Laws'''''.the-copy Laws'''''.the-plain
+
 abbrev pub xs : List.List Syntax.Ty
-xs = Laws'.mir ∷ Laws'''.mir ∷ Syntax.tyBool ∷ Laws.mir ∷ ref0 ∷ (Syntax.tyStruct (38 ∷ 91 ∷ 93 ∷ List.[]) (Syntax.tcons ref0 (Syntax.tcons
-    (Syntax.tyInt Syntax.w64) Syntax.tnil))) ∷ (Syntax.tyInt Syntax.w64) ∷ (Syntax.tyInt Syntax.w64) ∷ (Syntax.tyInt Syntax.w64) ∷ Syntax.tyBool ∷
-    ref1 ∷ (Syntax.tyStruct (38 ∷ 91 ∷ 93 ∷ List.[]) (Syntax.tcons ref1 (Syntax.tcons (Syntax.tyInt Syntax.w64) Syntax.tnil))) ∷ ref2 ∷
-    (Syntax.tyStruct (38 ∷ 91 ∷ 93 ∷ List.[]) (Syntax.tcons ref2 (Syntax.tcons (Syntax.tyInt Syntax.w64) Syntax.tnil))) ∷ ref3 ∷ (Syntax.tyStruct (38
-    ∷ 91 ∷ 93 ∷ List.[]) (Syntax.tcons ref3 (Syntax.tcons (Syntax.tyInt Syntax.w64) Syntax.tnil))) ∷ ref4 ∷ (Syntax.tyStruct (38 ∷ 91 ∷ 93 ∷ List.[])
-    (Syntax.tcons ref4 (Syntax.tcons (Syntax.tyInt Syntax.w64) Syntax.tnil))) ∷ List.[]
+xs = Laws'.mir ∷ Laws'''.mir ∷ Syntax.tyBool ∷ Laws.mir ∷ ref0 ∷ slice0 ∷ (Syntax.tyInt Syntax.w64) ∷
+    (Syntax.tyInt Syntax.w64) ∷ (Syntax.tyInt Syntax.w64) ∷ Syntax.tyBool ∷ ref1 ∷ slice1 ∷ ref2 ∷ slice2 ∷ ref3 ∷
+    slice3 ∷ ref4 ∷ slice4 ∷ List.[]
+
 abbrev pub m : Nat.ℕ
 m = 5
+
 abbrev pub ps·0 : List.List (Kinds.PK 1)
-ps·0 = (ShrSlice.pShrS InflightAction.row 0 tt) ∷ (Value.pVal record { ty = Declared'.row Places.the-type; one = Path.refl; val = Laws'''''''.val
-    Places.the-type Laws''.the-laws; tells = Laws'''''''.tells Places.the-type Laws''.the-laws; still = Laws'''''''.still Places.the-type
-    Laws''.the-copy Exit.yes; row = Rows.whole (Declared'.row Places.the-type); rd = λ x. x; mk = λ x. x; } λ M 𝓤 H A W. record { copies =
-    Laws'''''''.copy Places.the-type Laws''.the-copy 𝓤 H A W; lawful = Laws'''''''.lawful Places.the-type Laws''.the-laws 𝓤 H A W; makes =
-    Laws'''''''.makes Places.the-type Laws''.the-plain 𝓤 H A; in-mem = Local.mem-whole 𝓤 H A W (Declared'.row Places.the-type); of-mem =
-    Local.whole-mem 𝓤 H A W (Declared'.row Places.the-type); }) ∷ (Num.pNum Syntax.w64) ∷ (Num.pNum Syntax.w64) ∷ List.[]
+ps·0 = (ShrSlice.pShrS InflightAction.row 0 tt) ∷ (StructRow.param Places.the-type Laws''.the-laws Laws''.the-copy
+    Laws''.the-plain) ∷ (Num.pNum Syntax.w64) ∷ (Num.pNum Syntax.w64) ∷ List.[]
+
 abbrev pub r·0 : Kinds.RK 1
-r·0 = Value.rVal record { ty = Declared'.row ActionFound.the-type; one = Path.refl; val = Laws'''''''.val ActionFound.the-type Laws'''.the-laws; tells
-    = Laws'''''''.tells ActionFound.the-type Laws'''.the-laws; still = Laws'''''''.still ActionFound.the-type Laws'''.the-copy Exit.yes; row =
-    Rows.whole (Declared'.row ActionFound.the-type); rd = λ x. x; mk = λ x. x; } λ M 𝓤 H A W. record { copies = Laws'''''''.copy ActionFound.the-type
-    Laws'''.the-copy 𝓤 H A W; lawful = Laws'''''''.lawful ActionFound.the-type Laws'''.the-laws 𝓤 H A W; makes = Laws'''''''.makes
-    ActionFound.the-type Laws'''.the-plain 𝓤 H A; in-mem = Local.mem-whole 𝓤 H A W (Declared'.row ActionFound.the-type); of-mem = Local.whole-mem 𝓤 H
-    A W (Declared'.row ActionFound.the-type); }
+r·0 = StructRow.result ActionFound.the-type Laws'''.the-laws Laws'''.the-copy Laws'''.the-plain
+
 abbrev pub ps·1 : List.List (Kinds.PK 0)
-ps·1 = (Value.pVal record { ty = Declared'.row OpaqueRelayConfig.the-type; one = Path.refl; val = Laws'''''''.val OpaqueRelayConfig.the-type
-    Laws'.the-laws; tells = Laws'''''''.tells OpaqueRelayConfig.the-type Laws'.the-laws; still = Laws'''''''.still OpaqueRelayConfig.the-type
-    Laws'.the-copy Exit.yes; row = Rows.whole (Declared'.row OpaqueRelayConfig.the-type); rd = λ x. x; mk = λ x. x; } λ M 𝓤 H A W. record { copies =
-    Laws'''''''.copy OpaqueRelayConfig.the-type Laws'.the-copy 𝓤 H A W; lawful = Laws'''''''.lawful OpaqueRelayConfig.the-type Laws'.the-laws 𝓤 H A W;
-    makes = Laws'''''''.makes OpaqueRelayConfig.the-type Laws'.the-plain 𝓤 H A; in-mem = Local.mem-whole 𝓤 H A W (Declared'.row
-    OpaqueRelayConfig.the-type); of-mem = Local.whole-mem 𝓤 H A W (Declared'.row OpaqueRelayConfig.the-type); }) ∷ (Num.pNum Syntax.w64) ∷ (Num.pNum
-    Syntax.w64) ∷ (Num.pNum Syntax.w64) ∷ List.[]
+ps·1 = (StructRow.param OpaqueRelayConfig.the-type Laws'.the-laws Laws'.the-copy Laws'.the-plain) ∷
+    (Num.pNum Syntax.w64) ∷ (Num.pNum Syntax.w64) ∷ (Num.pNum Syntax.w64) ∷ List.[]
+
 abbrev pub r·1 : Kinds.RK 0
 r·1 = Bool.rBool
+
 abbrev pub ps·2 : List.List (Kinds.PK 0)
-ps·2 = (Value.pVal record { ty = Declared'.row OpaqueRelayRuntime.the-type; one = Path.refl; val = Laws'''''''.val OpaqueRelayRuntime.the-type
-    Laws''''.the-laws; tells = Laws'''''''.tells OpaqueRelayRuntime.the-type Laws''''.the-laws; still = Laws'''''''.still OpaqueRelayRuntime.the-type
-    Laws''''.the-copy Exit.yes; row = Rows.whole (Declared'.row OpaqueRelayRuntime.the-type); rd = λ x. x; mk = λ x. x; } λ M 𝓤 H A W. record { copies
-    = Laws'''''''.copy OpaqueRelayRuntime.the-type Laws''''.the-copy 𝓤 H A W; lawful = Laws'''''''.lawful OpaqueRelayRuntime.the-type
-    Laws''''.the-laws 𝓤 H A W; makes = Laws'''''''.makes OpaqueRelayRuntime.the-type Laws''''.the-plain 𝓤 H A; in-mem = Local.mem-whole 𝓤 H A W
-    (Declared'.row OpaqueRelayRuntime.the-type); of-mem = Local.whole-mem 𝓤 H A W (Declared'.row OpaqueRelayRuntime.the-type); }) ∷ Bool.pBool ∷
-    (Num.pNum Syntax.w64) ∷ (Num.pNum Syntax.w64) ∷ (Value.pVal record { ty = Declared'.row ActionFound.the-type; one = Path.refl; val =
-    Laws'''''''.val ActionFound.the-type Laws'''.the-laws; tells = Laws'''''''.tells ActionFound.the-type Laws'''.the-laws; still = Laws'''''''.still
-    ActionFound.the-type Laws'''.the-copy Exit.yes; row = Rows.whole (Declared'.row ActionFound.the-type); rd = λ x. x; mk = λ x. x; } λ M 𝓤 H A W.
-    record { copies = Laws'''''''.copy ActionFound.the-type Laws'''.the-copy 𝓤 H A W; lawful = Laws'''''''.lawful ActionFound.the-type
-    Laws'''.the-laws 𝓤 H A W; makes = Laws'''''''.makes ActionFound.the-type Laws'''.the-plain 𝓤 H A; in-mem = Local.mem-whole 𝓤 H A W (Declared'.row
-    ActionFound.the-type); of-mem = Local.whole-mem 𝓤 H A W (Declared'.row ActionFound.the-type); }) ∷ List.[]
+ps·2 = (StructRow.param OpaqueRelayRuntime.the-type Laws''''.the-laws Laws''''.the-copy Laws''''.the-plain) ∷
+    Bool.pBool ∷ (Num.pNum Syntax.w64) ∷ (Num.pNum Syntax.w64) ∷ (StructRow.param ActionFound.the-type Laws'''.the-laws
+    Laws'''.the-copy Laws'''.the-plain) ∷ List.[]
+
 abbrev pub r·2 : Kinds.RK 0
-r·2 = Value.rVal record { ty = Declared.row HnsrAnswer.the-type; one = Path.refl; val = Laws''''''.val HnsrAnswer.the-type Laws.the-laws; tells =
-    Laws''''''.tells HnsrAnswer.the-type Laws.the-laws; still = Laws''''''.still HnsrAnswer.the-type Laws.the-copy Exit.yes; row = Rows.whole
-    (Declared.row HnsrAnswer.the-type); rd = λ x. x; mk = λ x. x; } λ M 𝓤 H A W. record { copies = Laws''''''.copy HnsrAnswer.the-type Laws.the-copy 𝓤
-    H A W; lawful = Laws''''''.lawful HnsrAnswer.the-type Laws.the-laws 𝓤 H A W tt; makes = Laws''''''.makes HnsrAnswer.the-type Laws.the-plain 𝓤 H A;
-    in-mem = Local.mem-whole 𝓤 H A W (Declared.row HnsrAnswer.the-type); of-mem = Local.whole-mem 𝓤 H A W (Declared.row HnsrAnswer.the-type); }
+r·2 = StructRow.enum-result HnsrAnswer.the-type Laws.the-laws Laws.the-copy Laws.the-plain tt
+
 abbrev pub ps·3 : List.List (Kinds.PK 0)
-ps·3 = (Value.pVal record { ty = Declared.row HnsrAnswer.the-type; one = Path.refl; val = Laws''''''.val HnsrAnswer.the-type Laws.the-laws; tells =
-    Laws''''''.tells HnsrAnswer.the-type Laws.the-laws; still = Laws''''''.still HnsrAnswer.the-type Laws.the-copy Exit.yes; row = Rows.whole
-    (Declared.row HnsrAnswer.the-type); rd = λ x. x; mk = λ x. x; } λ M 𝓤 H A W. record { copies = Laws''''''.copy HnsrAnswer.the-type Laws.the-copy 𝓤
-    H A W; lawful = Laws''''''.lawful HnsrAnswer.the-type Laws.the-laws 𝓤 H A W tt; makes = Laws''''''.makes HnsrAnswer.the-type Laws.the-plain 𝓤 H A;
-    in-mem = Local.mem-whole 𝓤 H A W (Declared.row HnsrAnswer.the-type); of-mem = Local.whole-mem 𝓤 H A W (Declared.row HnsrAnswer.the-type); }) ∷
-    List.[]
+ps·3 = (StructRow.enum-param HnsrAnswer.the-type Laws.the-laws Laws.the-copy Laws.the-plain tt) ∷ List.[]
+
 abbrev pub r·3 : Kinds.RK 0
 r·3 = Bool.rBool
+
 abbrev pub ps·4 : List.List (Kinds.PK 4)
-ps·4 = (MutSlice.pMutS RelayPending.row 0 tt) ∷ (MutSlice.pMutS RelayCircuit.row 1 tt) ∷ (MutSlice.pMutS InflightAction.row 2 tt) ∷ (MutSlice.pMutS
-    (Referent.rtF (Referent.fInt Syntax.w32)) 3 tt) ∷ (Value.pVal record { ty = Declared'.row OpaqueRelayRuntime.the-type; one = Path.refl; val =
-    Laws'''''''.val OpaqueRelayRuntime.the-type Laws''''.the-laws; tells = Laws'''''''.tells OpaqueRelayRuntime.the-type Laws''''.the-laws; still =
-    Laws'''''''.still OpaqueRelayRuntime.the-type Laws''''.the-copy Exit.yes; row = Rows.whole (Declared'.row OpaqueRelayRuntime.the-type); rd = λ x.
-    x; mk = λ x. x; } λ M 𝓤 H A W. record { copies = Laws'''''''.copy OpaqueRelayRuntime.the-type Laws''''.the-copy 𝓤 H A W; lawful =
-    Laws'''''''.lawful OpaqueRelayRuntime.the-type Laws''''.the-laws 𝓤 H A W; makes = Laws'''''''.makes OpaqueRelayRuntime.the-type Laws''''.the-plain
-    𝓤 H A; in-mem = Local.mem-whole 𝓤 H A W (Declared'.row OpaqueRelayRuntime.the-type); of-mem = Local.whole-mem 𝓤 H A W (Declared'.row
-    OpaqueRelayRuntime.the-type); }) ∷ (Value.pVal record { ty = Declared'.row Places.the-type; one = Path.refl; val = Laws'''''''.val Places.the-type
-    Laws''.the-laws; tells = Laws'''''''.tells Places.the-type Laws''.the-laws; still = Laws'''''''.still Places.the-type Laws''.the-copy Exit.yes;
-    row = Rows.whole (Declared'.row Places.the-type); rd = λ x. x; mk = λ x. x; } λ M 𝓤 H A W. record { copies = Laws'''''''.copy Places.the-type
-    Laws''.the-copy 𝓤 H A W; lawful = Laws'''''''.lawful Places.the-type Laws''.the-laws 𝓤 H A W; makes = Laws'''''''.makes Places.the-type
-    Laws''.the-plain 𝓤 H A; in-mem = Local.mem-whole 𝓤 H A W (Declared'.row Places.the-type); of-mem = Local.whole-mem 𝓤 H A W (Declared'.row
-    Places.the-type); }) ∷ (Value.pVal record { ty = Declared'.row ActionFound.the-type; one = Path.refl; val = Laws'''''''.val ActionFound.the-type
-    Laws'''.the-laws; tells = Laws'''''''.tells ActionFound.the-type Laws'''.the-laws; still = Laws'''''''.still ActionFound.the-type Laws'''.the-copy
-    Exit.yes; row = Rows.whole (Declared'.row ActionFound.the-type); rd = λ x. x; mk = λ x. x; } λ M 𝓤 H A W. record { copies = Laws'''''''.copy
-    ActionFound.the-type Laws'''.the-copy 𝓤 H A W; lawful = Laws'''''''.lawful ActionFound.the-type Laws'''.the-laws 𝓤 H A W; makes =
-    Laws'''''''.makes ActionFound.the-type Laws'''.the-plain 𝓤 H A; in-mem = Local.mem-whole 𝓤 H A W (Declared'.row ActionFound.the-type); of-mem =
-    Local.whole-mem 𝓤 H A W (Declared'.row ActionFound.the-type); }) ∷ Bool.pBool ∷ List.[]
+ps·4 = (MutSlice.pMutS RelayPending.row 0 tt) ∷ (MutSlice.pMutS RelayCircuit.row 1 tt) ∷
+    (MutSlice.pMutS InflightAction.row 2 tt) ∷ (MutSlice.pMutS (Referent.rtF (Referent.fInt Syntax.w32)) 3 tt) ∷ (StructRow.param
+    OpaqueRelayRuntime.the-type Laws''''.the-laws Laws''''.the-copy Laws''''.the-plain) ∷ (StructRow.param
+    Places.the-type Laws''.the-laws Laws''.the-copy Laws''.the-plain) ∷ (StructRow.param ActionFound.the-type
+    Laws'''.the-laws Laws'''.the-copy Laws'''.the-plain) ∷ Bool.pBool ∷ List.[]
+
 abbrev pub r·4 : Kinds.RK 4
-r·4 = Value.rVal record { ty = Declared'.row Relayed.the-type; one = Path.refl; val = Laws'''''''.val Relayed.the-type Laws'''''.the-laws; tells =
-    Laws'''''''.tells Relayed.the-type Laws'''''.the-laws; still = Laws'''''''.still Relayed.the-type Laws'''''.the-copy Exit.yes; row = Rows.whole
-    (Declared'.row Relayed.the-type); rd = λ x. x; mk = λ x. x; } λ M 𝓤 H A W. record { copies = Laws'''''''.copy Relayed.the-type Laws'''''.the-copy
-    𝓤 H A W; lawful = Laws'''''''.lawful Relayed.the-type Laws'''''.the-laws 𝓤 H A W; makes = Laws'''''''.makes Relayed.the-type Laws'''''.the-plain 𝓤
-    H A; in-mem = Local.mem-whole 𝓤 H A W (Declared'.row Relayed.the-type); of-mem = Local.whole-mem 𝓤 H A W (Declared'.row Relayed.the-type); }
+r·4 = StructRow.result Relayed.the-type Laws'''''.the-laws Laws'''''.the-copy Laws'''''.the-plain
+
 abbrev pub ps·5 : List.List (Kinds.PK 0)
-ps·5 = (Value.pVal record { ty = Declared'.row OpaqueRelayRuntime.the-type; one = Path.refl; val = Laws'''''''.val OpaqueRelayRuntime.the-type
-    Laws''''.the-laws; tells = Laws'''''''.tells OpaqueRelayRuntime.the-type Laws''''.the-laws; still = Laws'''''''.still OpaqueRelayRuntime.the-type
-    Laws''''.the-copy Exit.yes; row = Rows.whole (Declared'.row OpaqueRelayRuntime.the-type); rd = λ x. x; mk = λ x. x; } λ M 𝓤 H A W. record { copies
-    = Laws'''''''.copy OpaqueRelayRuntime.the-type Laws''''.the-copy 𝓤 H A W; lawful = Laws'''''''.lawful OpaqueRelayRuntime.the-type
-    Laws''''.the-laws 𝓤 H A W; makes = Laws'''''''.makes OpaqueRelayRuntime.the-type Laws''''.the-plain 𝓤 H A; in-mem = Local.mem-whole 𝓤 H A W
-    (Declared'.row OpaqueRelayRuntime.the-type); of-mem = Local.whole-mem 𝓤 H A W (Declared'.row OpaqueRelayRuntime.the-type); }) ∷ (Value.pVal record
-    { ty = Declared'.row Places.the-type; one = Path.refl; val = Laws'''''''.val Places.the-type Laws''.the-laws; tells = Laws'''''''.tells
-    Places.the-type Laws''.the-laws; still = Laws'''''''.still Places.the-type Laws''.the-copy Exit.yes; row = Rows.whole (Declared'.row
-    Places.the-type); rd = λ x. x; mk = λ x. x; } λ M 𝓤 H A W. record { copies = Laws'''''''.copy Places.the-type Laws''.the-copy 𝓤 H A W; lawful =
-    Laws'''''''.lawful Places.the-type Laws''.the-laws 𝓤 H A W; makes = Laws'''''''.makes Places.the-type Laws''.the-plain 𝓤 H A; in-mem =
-    Local.mem-whole 𝓤 H A W (Declared'.row Places.the-type); of-mem = Local.whole-mem 𝓤 H A W (Declared'.row Places.the-type); }) ∷ (Value.pVal record
-    { ty = Declared.row HnsrAnswer.the-type; one = Path.refl; val = Laws''''''.val HnsrAnswer.the-type Laws.the-laws; tells = Laws''''''.tells
-    HnsrAnswer.the-type Laws.the-laws; still = Laws''''''.still HnsrAnswer.the-type Laws.the-copy Exit.yes; row = Rows.whole (Declared.row
-    HnsrAnswer.the-type); rd = λ x. x; mk = λ x. x; } λ M 𝓤 H A W. record { copies = Laws''''''.copy HnsrAnswer.the-type Laws.the-copy 𝓤 H A W; lawful
-    = Laws''''''.lawful HnsrAnswer.the-type Laws.the-laws 𝓤 H A W tt; makes = Laws''''''.makes HnsrAnswer.the-type Laws.the-plain 𝓤 H A; in-mem =
-    Local.mem-whole 𝓤 H A W (Declared.row HnsrAnswer.the-type); of-mem = Local.whole-mem 𝓤 H A W (Declared.row HnsrAnswer.the-type); }) ∷ List.[]
+ps·5 = (StructRow.param OpaqueRelayRuntime.the-type Laws''''.the-laws Laws''''.the-copy Laws''''.the-plain) ∷ (StructRow.param
+    Places.the-type Laws''.the-laws Laws''.the-copy Laws''.the-plain) ∷ (StructRow.enum-param HnsrAnswer.the-type
+    Laws.the-laws Laws.the-copy Laws.the-plain tt) ∷ List.[]
+
 abbrev pub r·5 : Kinds.RK 0
-r·5 = Value.rVal record { ty = Declared'.row Relayed.the-type; one = Path.refl; val = Laws'''''''.val Relayed.the-type Laws'''''.the-laws; tells =
-    Laws'''''''.tells Relayed.the-type Laws'''''.the-laws; still = Laws'''''''.still Relayed.the-type Laws'''''.the-copy Exit.yes; row = Rows.whole
-    (Declared'.row Relayed.the-type); rd = λ x. x; mk = λ x. x; } λ M 𝓤 H A W. record { copies = Laws'''''''.copy Relayed.the-type Laws'''''.the-copy
-    𝓤 H A W; lawful = Laws'''''''.lawful Relayed.the-type Laws'''''.the-laws 𝓤 H A W; makes = Laws'''''''.makes Relayed.the-type Laws'''''.the-plain 𝓤
-    H A; in-mem = Local.mem-whole 𝓤 H A W (Declared'.row Relayed.the-type); of-mem = Local.whole-mem 𝓤 H A W (Declared'.row Relayed.the-type); }
+r·5 = StructRow.result Relayed.the-type Laws'''''.the-laws Laws'''''.the-copy Laws'''''.the-plain
+
 abbrev pub hs : List.List Syntax.Home
-hs = Syntax.valueLocal ∷ Syntax.valueLocal ∷ Syntax.valueLocal ∷ Syntax.valueLocal ∷ Syntax.valueLocal ∷ Syntax.valueLocal ∷ Syntax.valueLocal ∷
-    Syntax.valueLocal ∷ Syntax.valueLocal ∷ Syntax.valueLocal ∷ Syntax.valueLocal ∷ Syntax.valueLocal ∷ Syntax.valueLocal ∷ Syntax.valueLocal ∷
-    Syntax.valueLocal ∷ Syntax.valueLocal ∷ Syntax.valueLocal ∷ Syntax.valueLocal ∷ Syntax.valueLocal ∷ Syntax.valueLocal ∷ Syntax.valueLocal ∷
-    Syntax.valueLocal ∷ Syntax.valueLocal ∷ Syntax.valueLocal ∷ Syntax.valueLocal ∷ Syntax.valueLocal ∷ Syntax.valueLocal ∷ Syntax.valueLocal ∷
-    List.[]
+hs = Syntax.valueLocal ∷ Syntax.valueLocal ∷ Syntax.valueLocal ∷ Syntax.valueLocal ∷ Syntax.valueLocal ∷
+    Syntax.valueLocal ∷ Syntax.valueLocal ∷ Syntax.valueLocal ∷ Syntax.valueLocal ∷ Syntax.valueLocal ∷
+    Syntax.valueLocal ∷ Syntax.valueLocal ∷ Syntax.valueLocal ∷ Syntax.valueLocal ∷ Syntax.valueLocal ∷
+    Syntax.valueLocal ∷ Syntax.valueLocal ∷ Syntax.valueLocal ∷ Syntax.valueLocal ∷ Syntax.valueLocal ∷
+    Syntax.valueLocal ∷ Syntax.valueLocal ∷ Syntax.valueLocal ∷ Syntax.valueLocal ∷ Syntax.valueLocal ∷
+    Syntax.valueLocal ∷ Syntax.valueLocal ∷ Syntax.valueLocal ∷ List.[]
+
 abbrev b0 : Syntax.Body
 b0 = Syntax.assign (Syntax.place 10 List.[]) (Syntax.rvOpd (Syntax.copy (Syntax.place 5 ((Syntax.field 4) ∷ List.[]))))
+
 abbrev b1 : Syntax.Body
-b1 = Syntax.assign (Syntax.place 14 List.[]) (Syntax.addrOf (Syntax.place 3 ((Syntax.field 0) ∷ (Syntax.deref InflightAction.ty) ∷ List.[])))
+b1 = Syntax.assign (Syntax.place 14 List.[]) (Syntax.addrOf (Syntax.place 3 ((Syntax.field 0) ∷
+    (Syntax.deref InflightAction.ty) ∷ List.[])))
+
 abbrev b2 : Syntax.Body
-b2 = Syntax.assign (Syntax.place 15 List.[]) (Syntax.aggregate ((Syntax.copy (Syntax.place 14 List.[])) ∷ (Syntax.copy (Syntax.place 3 ((Syntax.field
-    1) ∷ List.[]))) ∷ List.[]))
+b2 = Syntax.assign (Syntax.place 15 List.[]) (Syntax.aggregate ((Syntax.copy (Syntax.place 14 List.[])) ∷
+    (Syntax.copy (Syntax.place 3 ((Syntax.field 1) ∷ List.[]))) ∷ List.[]))
+
 abbrev b3 : Syntax.Body
-b3 = Syntax.call "hnsr_circuit::lookup::look_up_action" ((Syntax.copy (Syntax.place 15 List.[])) ∷ (Syntax.copy (Syntax.place 6 List.[])) ∷
-    (Syntax.copy (Syntax.place 7 List.[])) ∷ (Syntax.copy (Syntax.place 8 List.[])) ∷ List.[]) (Syntax.place 11 List.[])
+b3 = Syntax.call "hnsr_circuit::lookup::look_up_action" ((Syntax.copy (Syntax.place 15 List.[])) ∷
+    (Syntax.copy (Syntax.place 6 List.[])) ∷ (Syntax.copy (Syntax.place 7 List.[])) ∷
+    (Syntax.copy (Syntax.place 8 List.[])) ∷ List.[]) (Syntax.place 11 List.[])
+
 abbrev b4 : Syntax.Body
 b4 = Syntax.assign (Syntax.place 16 List.[]) (Syntax.rvOpd (Syntax.copy (Syntax.place 1 ((Syntax.field 1) ∷ List.[]))))
+
 abbrev b5 : Syntax.Body
 b5 = Syntax.assign (Syntax.place 17 List.[]) (Syntax.rvOpd (Syntax.copy (Syntax.place 2 ((Syntax.field 1) ∷ List.[]))))
+
 abbrev b6 : Syntax.Body
 b6 = Syntax.assign (Syntax.place 18 List.[]) (Syntax.rvOpd (Syntax.copy (Syntax.place 3 ((Syntax.field 1) ∷ List.[]))))
+
 abbrev b7 : Syntax.Body
-b7 = Syntax.call "hnsr_circuit::entry::too_few" ((Syntax.copy (Syntax.place 10 List.[])) ∷ (Syntax.copy (Syntax.place 16 List.[])) ∷ (Syntax.copy
-    (Syntax.place 17 List.[])) ∷ (Syntax.copy (Syntax.place 18 List.[])) ∷ List.[]) (Syntax.place 12 List.[])
+b7 = Syntax.call "hnsr_circuit::entry::too_few" ((Syntax.copy (Syntax.place 10 List.[])) ∷
+    (Syntax.copy (Syntax.place 16 List.[])) ∷ (Syntax.copy (Syntax.place 17 List.[])) ∷
+    (Syntax.copy (Syntax.place 18 List.[])) ∷ List.[]) (Syntax.place 12 List.[])
+
 abbrev b8 : Syntax.Body
 b8 = Syntax.assign (Syntax.place 16 List.[]) (Syntax.rvOpd (Syntax.copy (Syntax.place 4 ((Syntax.field 1) ∷ List.[]))))
+
 abbrev b9 : Syntax.Body
-b9 = Syntax.call "hnsr_circuit::acknowledge::acknowledge_answer" ((Syntax.copy (Syntax.place 5 List.[])) ∷ (Syntax.copy (Syntax.place 12 List.[])) ∷
-    (Syntax.copy (Syntax.place 16 List.[])) ∷ (Syntax.copy (Syntax.place 7 List.[])) ∷ (Syntax.copy (Syntax.place 11 List.[])) ∷ List.[])
+b9 = Syntax.call "hnsr_circuit::acknowledge::acknowledge_answer" ((Syntax.copy (Syntax.place 5 List.[])) ∷
+    (Syntax.copy (Syntax.place 12 List.[])) ∷ (Syntax.copy (Syntax.place 16 List.[])) ∷
+    (Syntax.copy (Syntax.place 7 List.[])) ∷ (Syntax.copy (Syntax.place 11 List.[])) ∷ List.[])
     (Syntax.place 13 List.[])
+
 abbrev b10 : Syntax.Body
-b10 = Syntax.call "hnsr_circuit::answer::is_taken" ((Syntax.copy (Syntax.place 13 List.[])) ∷ List.[]) (Syntax.place 19 List.[])
+b10 = Syntax.call "hnsr_circuit::answer::is_taken" ((Syntax.copy (Syntax.place 13 List.[])) ∷ List.[])
+    (Syntax.place 19 List.[])
+
 abbrev b11 : Syntax.Body
-b11 = Syntax.assign (Syntax.place 20 List.[]) (Syntax.addrOf (Syntax.place 1 ((Syntax.field 0) ∷ (Syntax.deref RelayPending.ty) ∷ List.[])))
+b11 = Syntax.assign (Syntax.place 20 List.[]) (Syntax.addrOf (Syntax.place 1 ((Syntax.field 0) ∷
+    (Syntax.deref RelayPending.ty) ∷ List.[])))
+
 abbrev b12 : Syntax.Body
-b12 = Syntax.assign (Syntax.place 21 List.[]) (Syntax.aggregate ((Syntax.copy (Syntax.place 20 List.[])) ∷ (Syntax.copy (Syntax.place 1 ((Syntax.field
-    1) ∷ List.[]))) ∷ List.[]))
+b12 = Syntax.assign (Syntax.place 21 List.[]) (Syntax.aggregate ((Syntax.copy (Syntax.place 20 List.[])) ∷
+    (Syntax.copy (Syntax.place 1 ((Syntax.field 1) ∷ List.[]))) ∷ List.[]))
+
 abbrev b13 : Syntax.Body
-b13 = Syntax.assign (Syntax.place 22 List.[]) (Syntax.addrOf (Syntax.place 2 ((Syntax.field 0) ∷ (Syntax.deref RelayCircuit.ty) ∷ List.[])))
+b13 = Syntax.assign (Syntax.place 22 List.[]) (Syntax.addrOf (Syntax.place 2 ((Syntax.field 0) ∷
+    (Syntax.deref RelayCircuit.ty) ∷ List.[])))
+
 abbrev b14 : Syntax.Body
-b14 = Syntax.assign (Syntax.place 23 List.[]) (Syntax.aggregate ((Syntax.copy (Syntax.place 22 List.[])) ∷ (Syntax.copy (Syntax.place 2 ((Syntax.field
-    1) ∷ List.[]))) ∷ List.[]))
+b14 = Syntax.assign (Syntax.place 23 List.[]) (Syntax.aggregate ((Syntax.copy (Syntax.place 22 List.[])) ∷
+    (Syntax.copy (Syntax.place 2 ((Syntax.field 1) ∷ List.[]))) ∷ List.[]))
+
 abbrev b15 : Syntax.Body
-b15 = Syntax.assign (Syntax.place 24 List.[]) (Syntax.addrOf (Syntax.place 3 ((Syntax.field 0) ∷ (Syntax.deref InflightAction.ty) ∷ List.[])))
+b15 = Syntax.assign (Syntax.place 24 List.[]) (Syntax.addrOf (Syntax.place 3 ((Syntax.field 0) ∷
+    (Syntax.deref InflightAction.ty) ∷ List.[])))
+
 abbrev b16 : Syntax.Body
-b16 = Syntax.assign (Syntax.place 25 List.[]) (Syntax.aggregate ((Syntax.copy (Syntax.place 24 List.[])) ∷ (Syntax.copy (Syntax.place 3 ((Syntax.field
-    1) ∷ List.[]))) ∷ List.[]))
+b16 = Syntax.assign (Syntax.place 25 List.[]) (Syntax.aggregate ((Syntax.copy (Syntax.place 24 List.[])) ∷
+    (Syntax.copy (Syntax.place 3 ((Syntax.field 1) ∷ List.[]))) ∷ List.[]))
+
 abbrev b17 : Syntax.Body
-b17 = Syntax.assign (Syntax.place 26 List.[]) (Syntax.addrOf (Syntax.place 4 ((Syntax.field 0) ∷ (Syntax.deref (Syntax.tyInt Syntax.w32)) ∷ List.[])))
+b17 = Syntax.assign (Syntax.place 26 List.[]) (Syntax.addrOf (Syntax.place 4 ((Syntax.field 0) ∷
+    (Syntax.deref (Syntax.tyInt Syntax.w32)) ∷ List.[])))
+
 abbrev b18 : Syntax.Body
-b18 = Syntax.assign (Syntax.place 27 List.[]) (Syntax.aggregate ((Syntax.copy (Syntax.place 26 List.[])) ∷ (Syntax.copy (Syntax.place 4 ((Syntax.field
-    1) ∷ List.[]))) ∷ List.[]))
+b18 = Syntax.assign (Syntax.place 27 List.[]) (Syntax.aggregate ((Syntax.copy (Syntax.place 26 List.[])) ∷
+    (Syntax.copy (Syntax.place 4 ((Syntax.field 1) ∷ List.[]))) ∷ List.[]))
+
 abbrev b19 : Syntax.Body
-b19 = Syntax.call "hnsr_circuit::acknowledge::acknowledge_action" ((Syntax.copy (Syntax.place 21 List.[])) ∷ (Syntax.copy (Syntax.place 23 List.[])) ∷
-    (Syntax.copy (Syntax.place 25 List.[])) ∷ (Syntax.copy (Syntax.place 27 List.[])) ∷ (Syntax.copy (Syntax.place 5 List.[])) ∷ (Syntax.copy
-    (Syntax.place 6 List.[])) ∷ (Syntax.copy (Syntax.place 11 List.[])) ∷ (Syntax.copy (Syntax.place 9 List.[])) ∷ List.[]) (Syntax.place 0 List.[])
+b19 = Syntax.call "hnsr_circuit::acknowledge::acknowledge_action" ((Syntax.copy (Syntax.place 21 List.[])) ∷
+    (Syntax.copy (Syntax.place 23 List.[])) ∷ (Syntax.copy (Syntax.place 25 List.[])) ∷
+    (Syntax.copy (Syntax.place 27 List.[])) ∷ (Syntax.copy (Syntax.place 5 List.[])) ∷
+    (Syntax.copy (Syntax.place 6 List.[])) ∷ (Syntax.copy (Syntax.place 11 List.[])) ∷
+    (Syntax.copy (Syntax.place 9 List.[])) ∷ List.[]) (Syntax.place 0 List.[])
+
 abbrev b20 : Syntax.Body
 b20 = Syntax.return
+
 abbrev b21 : Syntax.Body
 b21 = Syntax.seq b19 b20
+
 abbrev b22 : Syntax.Body
 b22 = Syntax.seq b18 b21
+
 abbrev b23 : Syntax.Body
 b23 = Syntax.seq b17 b22
+
 abbrev b24 : Syntax.Body
 b24 = Syntax.seq b16 b23
+
 abbrev b25 : Syntax.Body
 b25 = Syntax.seq b15 b24
+
 abbrev b26 : Syntax.Body
 b26 = Syntax.seq b14 b25
+
 abbrev b27 : Syntax.Body
 b27 = Syntax.seq b13 b26
+
 abbrev b28 : Syntax.Body
 b28 = Syntax.seq b12 b27
+
 abbrev b29 : Syntax.Body
 b29 = Syntax.seq b11 b28
+
 abbrev b30 : Syntax.Body
 b30 = Syntax.skip
+
 abbrev b31 : Syntax.Body
 b31 = Syntax.cond (Syntax.copy (Syntax.place 19 List.[])) b29 b30
+
 abbrev b32 : Syntax.Body
-b32 = Syntax.call "hnsr_circuit::revoking_calls::refused" ((Syntax.copy (Syntax.place 5 List.[])) ∷ (Syntax.copy (Syntax.place 6 List.[])) ∷
-    (Syntax.copy (Syntax.place 13 List.[])) ∷ List.[]) (Syntax.place 0 List.[])
+b32 = Syntax.call "hnsr_circuit::revoking_calls::refused" ((Syntax.copy (Syntax.place 5 List.[])) ∷
+    (Syntax.copy (Syntax.place 6 List.[])) ∷ (Syntax.copy (Syntax.place 13 List.[])) ∷ List.[])
+    (Syntax.place 0 List.[])
+
 abbrev b33 : Syntax.Body
 b33 = Syntax.return
+
 abbrev b34 : Syntax.Body
 b34 = Syntax.seq b32 b33
+
 abbrev b35 : Syntax.Body
 b35 = Syntax.seq b31 b34
+
 abbrev b36 : Syntax.Body
 b36 = Syntax.seq b10 b35
+
 abbrev b37 : Syntax.Body
 b37 = Syntax.seq b9 b36
+
 abbrev b38 : Syntax.Body
 b38 = Syntax.seq b8 b37
+
 abbrev b39 : Syntax.Body
 b39 = Syntax.seq b7 b38
+
 abbrev b40 : Syntax.Body
 b40 = Syntax.seq b6 b39
+
 abbrev b41 : Syntax.Body
 b41 = Syntax.seq b5 b40
+
 abbrev b42 : Syntax.Body
 b42 = Syntax.seq b4 b41
+
 abbrev b43 : Syntax.Body
 b43 = Syntax.seq b3 b42
+
 abbrev b44 : Syntax.Body
 b44 = Syntax.seq b2 b43
+
 abbrev b45 : Syntax.Body
 b45 = Syntax.seq b1 b44
+
 abbrev b46 : Syntax.Body
 b46 = Syntax.seq b0 b45
+
 abbrev pub body : Syntax.Body
 body = b46
+
 abbrev pub Claims : Type 1
-Claims = Kinds.In 1 ps·0 × Kinds.Out 1 ps·0 r·0 × Kinds.In 0 ps·1 × Kinds.Out 0 ps·1 r·1 × Kinds.In 0 ps·2 × Kinds.Out 0 ps·2 r·2 × Kinds.In 0 ps·3 ×
-    Kinds.Out 0 ps·3 r·3 × Kinds.In 4 ps·4 × Kinds.Out 4 ps·4 r·4 × Kinds.In 0 ps·5 × Kinds.Out 0 ps·5 r·5
+Claims = Kinds.In 1 ps·0 × Kinds.Out 1 ps·0 r·0 × Kinds.In 0 ps·1 × Kinds.Out 0 ps·1 r·1 × Kinds.In 0 ps·2 × Kinds.Out
+    0 ps·2 r·2 × Kinds.In 0 ps·3 × Kinds.Out 0 ps·3 r·3 × Kinds.In 4 ps·4 × Kinds.Out 4 ps·4 r·4 × Kinds.In 0 ps·5 ×
+    Kinds.Out 0 ps·5 r·5
+
 abbrev e0 : Row.Entry
 e0 = (0, Rows.any-gone Laws'''''.mir)
+
 abbrev e1 : Row.Entry
 e1 = (1, Mut.mslice RelayPending.row ref5 0)
+
 abbrev e2 : Row.Entry
 e2 = (2, Mut.mslice RelayCircuit.row ref6 1)
+
 abbrev e3 : Row.Entry
 e3 = (3, Mut.mslice InflightAction.row ref7 2)
+
 abbrev e4 : Row.Entry
 e4 = (4, Mut.mslice (Referent.rtF (Referent.fInt Syntax.w32)) ref8 3)
+
 abbrev e5 : Row.Entry
 e5 = (5, Rows.whole (Declared'.row OpaqueRelayRuntime.the-type))
+
 abbrev e6 : Row.Entry
 e6 = (6, Rows.whole (Declared'.row Places.the-type))
+
 abbrev e7 : Row.Entry
 e7 = (7, Rows.sc-here (Row.sInt Syntax.w64))
+
 abbrev e8 : Row.Entry
 e8 = (8, Rows.sc-here (Row.sInt Syntax.w64))
+
 abbrev e9 : Row.Entry
 e9 = (9, Rows.sc-here Row.sBool)
+
 abbrev e10 : Row.Entry
 e10 = (10, Rows.any-gone Laws'.mir)
+
 abbrev e11 : Row.Entry
 e11 = (11, Rows.any-gone Laws'''.mir)
+
 abbrev e12 : Row.Entry
 e12 = (12, Rows.any-gone Syntax.tyBool)
+
 abbrev e13 : Row.Entry
 e13 = (13, Rows.any-gone Laws.mir)
+
 abbrev e14 : Row.Entry
 e14 = (14, Rows.any-gone ref0)
+
 abbrev e15 : Row.Entry
-e15 = (15, Rows.any-gone (Syntax.tyStruct (38 ∷ 91 ∷ 93 ∷ List.[]) (Syntax.tcons ref0 (Syntax.tcons (Syntax.tyInt Syntax.w64) Syntax.tnil))))
+e15 = (15, Rows.any-gone slice0)
+
 abbrev e16 : Row.Entry
 e16 = (16, Rows.any-gone (Syntax.tyInt Syntax.w64))
+
 abbrev e17 : Row.Entry
 e17 = (17, Rows.any-gone (Syntax.tyInt Syntax.w64))
+
 abbrev e18 : Row.Entry
 e18 = (18, Rows.any-gone (Syntax.tyInt Syntax.w64))
+
 abbrev e19 : Row.Entry
 e19 = (19, Rows.any-gone Syntax.tyBool)
+
 abbrev e20 : Row.Entry
 e20 = (20, Rows.any-gone ref1)
+
 abbrev e21 : Row.Entry
-e21 = (21, Rows.any-gone (Syntax.tyStruct (38 ∷ 91 ∷ 93 ∷ List.[]) (Syntax.tcons ref1 (Syntax.tcons (Syntax.tyInt Syntax.w64) Syntax.tnil))))
+e21 = (21, Rows.any-gone slice1)
+
 abbrev e22 : Row.Entry
 e22 = (22, Rows.any-gone ref2)
+
 abbrev e23 : Row.Entry
-e23 = (23, Rows.any-gone (Syntax.tyStruct (38 ∷ 91 ∷ 93 ∷ List.[]) (Syntax.tcons ref2 (Syntax.tcons (Syntax.tyInt Syntax.w64) Syntax.tnil))))
+e23 = (23, Rows.any-gone slice2)
+
 abbrev e24 : Row.Entry
 e24 = (24, Rows.any-gone ref3)
+
 abbrev e25 : Row.Entry
-e25 = (25, Rows.any-gone (Syntax.tyStruct (38 ∷ 91 ∷ 93 ∷ List.[]) (Syntax.tcons ref3 (Syntax.tcons (Syntax.tyInt Syntax.w64) Syntax.tnil))))
+e25 = (25, Rows.any-gone slice3)
+
 abbrev e26 : Row.Entry
 e26 = (26, Rows.any-gone ref4)
+
 abbrev e27 : Row.Entry
-e27 = (27, Rows.any-gone (Syntax.tyStruct (38 ∷ 91 ∷ 93 ∷ List.[]) (Syntax.tcons ref4 (Syntax.tcons (Syntax.tyInt Syntax.w64) Syntax.tnil))))
+e27 = (27, Rows.any-gone slice4)
+
 abbrev e0·1 : Row.Entry
 e0·1 = (0, Rows.whole (Declared'.row Relayed.the-type))
+
 abbrev e5·1 : Row.Entry
 e5·1 = (5, Rows.any-gone Laws''''.mir)
+
 abbrev e6·1 : Row.Entry
 e6·1 = (6, Rows.any-gone Laws''.mir)
+
 abbrev e7·1 : Row.Entry
 e7·1 = (7, Rows.any-gone (Syntax.tyInt Syntax.w64))
+
 abbrev e8·1 : Row.Entry
 e8·1 = (8, Rows.any-gone (Syntax.tyInt Syntax.w64))
+
 abbrev e9·1 : Row.Entry
 e9·1 = (9, Rows.any-gone Syntax.tyBool)
+
 abbrev e10·1 : Row.Entry
 e10·1 = (10, Rows.whole (Declared'.row OpaqueRelayConfig.the-type))
+
 abbrev e3·1 : Row.Entry
 e3·1 = (3, Reshare.mslice-owedS InflightAction.row ref7 2 4 Row.off)
+
 abbrev e14·1 : Row.Entry
 e14·1 = (14, Relend.ssptr InflightAction.row ref0 4)
+
 abbrev e15·1 : Row.Entry
 e15·1 = (15, Rows.sslice InflightAction.row ref0 4)
+
 abbrev e11·1 : Row.Entry
 e11·1 = (11, Rows.whole (Declared'.row ActionFound.the-type))
+
 abbrev e16·1 : Row.Entry
 e16·1 = (16, Rows.sc-here (Row.sInt Syntax.w64))
+
 abbrev e17·1 : Row.Entry
 e17·1 = (17, Rows.sc-here (Row.sInt Syntax.w64))
+
 abbrev e18·1 : Row.Entry
 e18·1 = (18, Rows.sc-here (Row.sInt Syntax.w64))
+
 abbrev e12·1 : Row.Entry
 e12·1 = (12, Rows.sc-here Row.sBool)
+
 abbrev e13·1 : Row.Entry
 e13·1 = (13, Rows.whole (Declared.row HnsrAnswer.the-type))
+
 abbrev e19·1 : Row.Entry
 e19·1 = (19, Rows.sc-here Row.sBool)
+
 abbrev e1·1 : Row.Entry
 e1·1 = (1, Relend.mslice-owed RelayPending.row ref5 0 5 Row.off)
+
 abbrev e20·1 : Row.Entry
 e20·1 = (20, Relend.msptr RelayPending.row ref1 5)
+
 abbrev e21·1 : Row.Entry
 e21·1 = (21, Mut.mslice RelayPending.row ref1 5)
+
 abbrev e2·1 : Row.Entry
 e2·1 = (2, Relend.mslice-owed RelayCircuit.row ref6 1 6 Row.off)
+
 abbrev e22·1 : Row.Entry
 e22·1 = (22, Relend.msptr RelayCircuit.row ref2 6)
+
 abbrev e23·1 : Row.Entry
 e23·1 = (23, Mut.mslice RelayCircuit.row ref2 6)
+
 abbrev e3·2 : Row.Entry
 e3·2 = (3, Relend.mslice-owed InflightAction.row ref7 2 7 Row.off)
+
 abbrev e24·1 : Row.Entry
 e24·1 = (24, Relend.msptr InflightAction.row ref3 7)
+
 abbrev e25·1 : Row.Entry
 e25·1 = (25, Mut.mslice InflightAction.row ref3 7)
+
 abbrev e4·1 : Row.Entry
 e4·1 = (4, Relend.mslice-owed (Referent.rtF (Referent.fInt Syntax.w32)) ref8 3 8 Row.off)
+
 abbrev e26·1 : Row.Entry
 e26·1 = (26, Relend.msptr (Referent.rtF (Referent.fInt Syntax.w32)) ref4 8)
+
 abbrev e27·1 : Row.Entry
 e27·1 = (27, Mut.mslice (Referent.rtF (Referent.fInt Syntax.w32)) ref4 8)
+
 abbrev e21·2 : Row.Entry
 e21·2 = (21, Mut.msleft RelayPending.row ref1)
+
 abbrev e23·2 : Row.Entry
 e23·2 = (23, Mut.msleft RelayCircuit.row ref2)
+
 abbrev e25·2 : Row.Entry
 e25·2 = (25, Mut.msleft InflightAction.row ref3)
+
 abbrev e27·2 : Row.Entry
 e27·2 = (27, Mut.msleft (Referent.rtF (Referent.fInt Syntax.w32)) ref4)
+
 abbrev pub t0 : List.List Row.Entry
 t0 = e0 ∷ e1 ∷ e2 ∷ e3 ∷ e4 ∷ e5 ∷ e6 ∷ e7 ∷ e8 ∷ e9 ∷ e10 ∷ e11 ∷ e12 ∷ e13 ∷ e14 ∷ e15 ∷ List.[]
+
 abbrev pub t1 : List.List Row.Entry
 t1 = e16 ∷ e17 ∷ e18 ∷ e19 ∷ e20 ∷ e21 ∷ e22 ∷ e23 ∷ e24 ∷ e25 ∷ e26 ∷ e27 ∷ List.[]
+
 abbrev pub t2 : List.List Row.Entry
 t2 = e0·1 ∷ e1 ∷ e2 ∷ e3 ∷ e4 ∷ e5·1 ∷ e6·1 ∷ e7·1 ∷ e8·1 ∷ e9·1 ∷ e10 ∷ e11 ∷ e12 ∷ e13 ∷ e14 ∷ e15 ∷ List.[]
+
 abbrev pub t3 : List.List Row.Entry
 t3 = e0 ∷ e1 ∷ e2 ∷ e3 ∷ e4 ∷ e5 ∷ e6 ∷ e7 ∷ e8 ∷ e9 ∷ e10·1 ∷ e11 ∷ e12 ∷ e13 ∷ e14 ∷ e15 ∷ List.[]
+
 abbrev pub t4 : List.List Row.Entry
 t4 = e0 ∷ e1 ∷ e2 ∷ e3·1 ∷ e4 ∷ e5 ∷ e6 ∷ e7 ∷ e8 ∷ e9 ∷ e10·1 ∷ e11 ∷ e12 ∷ e13 ∷ e14·1 ∷ e15 ∷ List.[]
+
 abbrev pub t5 : List.List Row.Entry
 t5 = e0 ∷ e1 ∷ e2 ∷ e3·1 ∷ e4 ∷ e5 ∷ e6 ∷ e7 ∷ e8 ∷ e9 ∷ e10·1 ∷ e11 ∷ e12 ∷ e13 ∷ e14 ∷ e15·1 ∷ List.[]
+
 abbrev pub t6 : List.List Row.Entry
 t6 = e0 ∷ e1 ∷ e2 ∷ e3·1 ∷ e4 ∷ e5 ∷ e6 ∷ e7 ∷ e8 ∷ e9 ∷ e10·1 ∷ e11·1 ∷ e12 ∷ e13 ∷ e14 ∷ e15·1 ∷ List.[]
+
 abbrev pub t7 : List.List Row.Entry
 t7 = e0 ∷ e1 ∷ e2 ∷ e3·1 ∷ e4 ∷ e5 ∷ e6 ∷ e7 ∷ e8 ∷ e9 ∷ e10·1 ∷ e11·1 ∷ e12 ∷ e13 ∷ e14 ∷ e15 ∷ List.[]
+
 abbrev pub t8 : List.List Row.Entry
 t8 = e0 ∷ e1 ∷ e2 ∷ e3 ∷ e4 ∷ e5 ∷ e6 ∷ e7 ∷ e8 ∷ e9 ∷ e10·1 ∷ e11·1 ∷ e12 ∷ e13 ∷ e14 ∷ e15 ∷ List.[]
+
 abbrev pub t9 : List.List Row.Entry
 t9 = e16·1 ∷ e17 ∷ e18 ∷ e19 ∷ e20 ∷ e21 ∷ e22 ∷ e23 ∷ e24 ∷ e25 ∷ e26 ∷ e27 ∷ List.[]
+
 abbrev pub t10 : List.List Row.Entry
 t10 = e16·1 ∷ e17·1 ∷ e18 ∷ e19 ∷ e20 ∷ e21 ∷ e22 ∷ e23 ∷ e24 ∷ e25 ∷ e26 ∷ e27 ∷ List.[]
+
 abbrev pub t11 : List.List Row.Entry
 t11 = e16·1 ∷ e17·1 ∷ e18·1 ∷ e19 ∷ e20 ∷ e21 ∷ e22 ∷ e23 ∷ e24 ∷ e25 ∷ e26 ∷ e27 ∷ List.[]
+
 abbrev pub t12 : List.List Row.Entry
 t12 = e0 ∷ e1 ∷ e2 ∷ e3 ∷ e4 ∷ e5 ∷ e6 ∷ e7 ∷ e8 ∷ e9 ∷ e10·1 ∷ e11·1 ∷ e12·1 ∷ e13 ∷ e14 ∷ e15 ∷ List.[]
+
 abbrev pub t13 : List.List Row.Entry
 t13 = e0 ∷ e1 ∷ e2 ∷ e3 ∷ e4 ∷ e5 ∷ e6 ∷ e7 ∷ e8 ∷ e9 ∷ e10 ∷ e11·1 ∷ e12·1 ∷ e13 ∷ e14 ∷ e15 ∷ List.[]
+
 abbrev pub t14 : List.List Row.Entry
 t14 = e16 ∷ e17·1 ∷ e18·1 ∷ e19 ∷ e20 ∷ e21 ∷ e22 ∷ e23 ∷ e24 ∷ e25 ∷ e26 ∷ e27 ∷ List.[]
+
 abbrev pub t15 : List.List Row.Entry
 t15 = e16 ∷ e17 ∷ e18·1 ∷ e19 ∷ e20 ∷ e21 ∷ e22 ∷ e23 ∷ e24 ∷ e25 ∷ e26 ∷ e27 ∷ List.[]
+
 abbrev pub t16 : List.List Row.Entry
 t16 = e0 ∷ e1 ∷ e2 ∷ e3 ∷ e4 ∷ e5 ∷ e6 ∷ e7 ∷ e8 ∷ e9 ∷ e10 ∷ e11·1 ∷ e12·1 ∷ e13·1 ∷ e14 ∷ e15 ∷ List.[]
+
 abbrev pub t17 : List.List Row.Entry
 t17 = e16 ∷ e17 ∷ e18 ∷ e19·1 ∷ e20 ∷ e21 ∷ e22 ∷ e23 ∷ e24 ∷ e25 ∷ e26 ∷ e27 ∷ List.[]
+
 abbrev pub t18 : List.List Row.Entry
 t18 = e0 ∷ e1 ∷ e2 ∷ e3 ∷ e4 ∷ e5 ∷ e6 ∷ e7 ∷ e8 ∷ e9 ∷ e10 ∷ e11 ∷ e12·1 ∷ e13·1 ∷ e14 ∷ e15 ∷ List.[]
+
 abbrev pub t19 : List.List Row.Entry
 t19 = e0 ∷ e1·1 ∷ e2 ∷ e3 ∷ e4 ∷ e5 ∷ e6 ∷ e7 ∷ e8 ∷ e9 ∷ e10 ∷ e11·1 ∷ e12·1 ∷ e13 ∷ e14 ∷ e15 ∷ List.[]
+
 abbrev pub t20 : List.List Row.Entry
 t20 = e16 ∷ e17 ∷ e18 ∷ e19 ∷ e20·1 ∷ e21 ∷ e22 ∷ e23 ∷ e24 ∷ e25 ∷ e26 ∷ e27 ∷ List.[]
+
 abbrev pub t21 : List.List Row.Entry
 t21 = e16 ∷ e17 ∷ e18 ∷ e19 ∷ e20 ∷ e21·1 ∷ e22 ∷ e23 ∷ e24 ∷ e25 ∷ e26 ∷ e27 ∷ List.[]
+
 abbrev pub t22 : List.List Row.Entry
 t22 = e0 ∷ e1·1 ∷ e2·1 ∷ e3 ∷ e4 ∷ e5 ∷ e6 ∷ e7 ∷ e8 ∷ e9 ∷ e10 ∷ e11·1 ∷ e12·1 ∷ e13 ∷ e14 ∷ e15 ∷ List.[]
+
 abbrev pub t23 : List.List Row.Entry
 t23 = e16 ∷ e17 ∷ e18 ∷ e19 ∷ e20 ∷ e21·1 ∷ e22·1 ∷ e23 ∷ e24 ∷ e25 ∷ e26 ∷ e27 ∷ List.[]
+
 abbrev pub t24 : List.List Row.Entry
 t24 = e16 ∷ e17 ∷ e18 ∷ e19 ∷ e20 ∷ e21·1 ∷ e22 ∷ e23·1 ∷ e24 ∷ e25 ∷ e26 ∷ e27 ∷ List.[]
+
 abbrev pub t25 : List.List Row.Entry
 t25 = e0 ∷ e1·1 ∷ e2·1 ∷ e3·2 ∷ e4 ∷ e5 ∷ e6 ∷ e7 ∷ e8 ∷ e9 ∷ e10 ∷ e11·1 ∷ e12·1 ∷ e13 ∷ e14 ∷ e15 ∷ List.[]
+
 abbrev pub t26 : List.List Row.Entry
 t26 = e16 ∷ e17 ∷ e18 ∷ e19 ∷ e20 ∷ e21·1 ∷ e22 ∷ e23·1 ∷ e24·1 ∷ e25 ∷ e26 ∷ e27 ∷ List.[]
+
 abbrev pub t27 : List.List Row.Entry
 t27 = e16 ∷ e17 ∷ e18 ∷ e19 ∷ e20 ∷ e21·1 ∷ e22 ∷ e23·1 ∷ e24 ∷ e25·1 ∷ e26 ∷ e27 ∷ List.[]
+
 abbrev pub t28 : List.List Row.Entry
 t28 = e0 ∷ e1·1 ∷ e2·1 ∷ e3·2 ∷ e4·1 ∷ e5 ∷ e6 ∷ e7 ∷ e8 ∷ e9 ∷ e10 ∷ e11·1 ∷ e12·1 ∷ e13 ∷ e14 ∷ e15 ∷ List.[]
+
 abbrev pub t29 : List.List Row.Entry
 t29 = e16 ∷ e17 ∷ e18 ∷ e19 ∷ e20 ∷ e21·1 ∷ e22 ∷ e23·1 ∷ e24 ∷ e25·1 ∷ e26·1 ∷ e27 ∷ List.[]
+
 abbrev pub t30 : List.List Row.Entry
 t30 = e16 ∷ e17 ∷ e18 ∷ e19 ∷ e20 ∷ e21·1 ∷ e22 ∷ e23·1 ∷ e24 ∷ e25·1 ∷ e26 ∷ e27·1 ∷ List.[]
+
 abbrev pub t31 : List.List Row.Entry
 t31 = e0·1 ∷ e1·1 ∷ e2·1 ∷ e3·2 ∷ e4·1 ∷ e5 ∷ e6 ∷ e7 ∷ e8 ∷ e9 ∷ e10 ∷ e11·1 ∷ e12·1 ∷ e13 ∷ e14 ∷ e15 ∷ List.[]
+
 abbrev pub t32 : List.List Row.Entry
 t32 = e16 ∷ e17 ∷ e18 ∷ e19 ∷ e20 ∷ e21·2 ∷ e22 ∷ e23·2 ∷ e24 ∷ e25·2 ∷ e26 ∷ e27·2 ∷ List.[]
+
 abbrev pub t33 : List.List Row.Entry
 t33 = e0·1 ∷ e1·1 ∷ e2·1 ∷ e3·2 ∷ e4·1 ∷ e5·1 ∷ e6 ∷ e7 ∷ e8 ∷ e9 ∷ e10 ∷ e11·1 ∷ e12·1 ∷ e13 ∷ e14 ∷ e15 ∷ List.[]
+
 abbrev pub t34 : List.List Row.Entry
 t34 = e0·1 ∷ e1·1 ∷ e2·1 ∷ e3·2 ∷ e4·1 ∷ e5·1 ∷ e6·1 ∷ e7 ∷ e8 ∷ e9 ∷ e10 ∷ e11·1 ∷ e12·1 ∷ e13 ∷ e14 ∷ e15 ∷ List.[]
+
 abbrev pub t35 : List.List Row.Entry
 t35 = e0·1 ∷ e1·1 ∷ e2·1 ∷ e3·2 ∷ e4·1 ∷ e5·1 ∷ e6·1 ∷ e7 ∷ e8 ∷ e9 ∷ e10 ∷ e11 ∷ e12·1 ∷ e13 ∷ e14 ∷ e15 ∷ List.[]
+
 abbrev pub t36 : List.List Row.Entry
 t36 = e0·1 ∷ e1 ∷ e2·1 ∷ e3·2 ∷ e4·1 ∷ e5·1 ∷ e6·1 ∷ e7 ∷ e8 ∷ e9 ∷ e10 ∷ e11 ∷ e12·1 ∷ e13 ∷ e14 ∷ e15 ∷ List.[]
+
 abbrev pub t37 : List.List Row.Entry
 t37 = e16 ∷ e17 ∷ e18 ∷ e19 ∷ e20 ∷ e21 ∷ e22 ∷ e23·2 ∷ e24 ∷ e25·2 ∷ e26 ∷ e27·2 ∷ List.[]
+
 abbrev pub t38 : List.List Row.Entry
 t38 = e0·1 ∷ e1 ∷ e2 ∷ e3·2 ∷ e4·1 ∷ e5·1 ∷ e6·1 ∷ e7 ∷ e8 ∷ e9 ∷ e10 ∷ e11 ∷ e12·1 ∷ e13 ∷ e14 ∷ e15 ∷ List.[]
+
 abbrev pub t39 : List.List Row.Entry
 t39 = e16 ∷ e17 ∷ e18 ∷ e19 ∷ e20 ∷ e21 ∷ e22 ∷ e23 ∷ e24 ∷ e25·2 ∷ e26 ∷ e27·2 ∷ List.[]
+
 abbrev pub t40 : List.List Row.Entry
 t40 = e0·1 ∷ e1 ∷ e2 ∷ e3 ∷ e4·1 ∷ e5·1 ∷ e6·1 ∷ e7 ∷ e8 ∷ e9 ∷ e10 ∷ e11 ∷ e12·1 ∷ e13 ∷ e14 ∷ e15 ∷ List.[]
+
 abbrev pub t41 : List.List Row.Entry
 t41 = e16 ∷ e17 ∷ e18 ∷ e19 ∷ e20 ∷ e21 ∷ e22 ∷ e23 ∷ e24 ∷ e25 ∷ e26 ∷ e27·2 ∷ List.[]
+
 abbrev pub t42 : List.List Row.Entry
 t42 = e0·1 ∷ e1 ∷ e2 ∷ e3 ∷ e4 ∷ e5·1 ∷ e6·1 ∷ e7 ∷ e8 ∷ e9 ∷ e10 ∷ e11 ∷ e12·1 ∷ e13 ∷ e14 ∷ e15 ∷ List.[]
+
 abbrev pub t43 : List.List Row.Entry
 t43 = e0·1 ∷ e1 ∷ e2 ∷ e3 ∷ e4 ∷ e5·1 ∷ e6·1 ∷ e7·1 ∷ e8 ∷ e9 ∷ e10 ∷ e11 ∷ e12·1 ∷ e13 ∷ e14 ∷ e15 ∷ List.[]
+
 abbrev pub t44 : List.List Row.Entry
 t44 = e0·1 ∷ e1 ∷ e2 ∷ e3 ∷ e4 ∷ e5·1 ∷ e6·1 ∷ e7·1 ∷ e8·1 ∷ e9 ∷ e10 ∷ e11 ∷ e12·1 ∷ e13 ∷ e14 ∷ e15 ∷ List.[]
+
 abbrev pub t45 : List.List Row.Entry
 t45 = e0·1 ∷ e1 ∷ e2 ∷ e3 ∷ e4 ∷ e5·1 ∷ e6·1 ∷ e7·1 ∷ e8·1 ∷ e9·1 ∷ e10 ∷ e11 ∷ e12·1 ∷ e13 ∷ e14 ∷ e15 ∷ List.[]
+
 abbrev pub t46 : List.List Row.Entry
 t46 = e0·1 ∷ e1 ∷ e2 ∷ e3 ∷ e4 ∷ e5 ∷ e6 ∷ e7 ∷ e8 ∷ e9 ∷ e10 ∷ e11 ∷ e12·1 ∷ e13·1 ∷ e14 ∷ e15 ∷ List.[]
+
 abbrev pub t47 : List.List Row.Entry
 t47 = e0·1 ∷ e1 ∷ e2 ∷ e3 ∷ e4 ∷ e5·1 ∷ e6 ∷ e7 ∷ e8 ∷ e9 ∷ e10 ∷ e11 ∷ e12·1 ∷ e13·1 ∷ e14 ∷ e15 ∷ List.[]
+
 abbrev pub t48 : List.List Row.Entry
 t48 = e0·1 ∷ e1 ∷ e2 ∷ e3 ∷ e4 ∷ e5·1 ∷ e6·1 ∷ e7 ∷ e8 ∷ e9 ∷ e10 ∷ e11 ∷ e12·1 ∷ e13·1 ∷ e14 ∷ e15 ∷ List.[]
+
 abbrev pub t49 : List.List Row.Entry
 t49 = e0·1 ∷ e1 ∷ e2 ∷ e3 ∷ e4 ∷ e5·1 ∷ e6·1 ∷ e7 ∷ e8 ∷ e9 ∷ e10 ∷ e11 ∷ e12 ∷ e13·1 ∷ e14 ∷ e15 ∷ List.[]
+
 abbrev pub t50 : List.List Row.Entry
 t50 = e0·1 ∷ e1 ∷ e2 ∷ e3 ∷ e4 ∷ e5·1 ∷ e6·1 ∷ e7 ∷ e8 ∷ e9 ∷ e10 ∷ e11 ∷ e12 ∷ e13 ∷ e14 ∷ e15 ∷ List.[]
+
 abbrev pub t51 : List.List Row.Entry
 t51 = e0·1 ∷ e1 ∷ e2 ∷ e3 ∷ e4 ∷ e5·1 ∷ e6·1 ∷ e7·1 ∷ e8 ∷ e9 ∷ e10 ∷ e11 ∷ e12 ∷ e13 ∷ e14 ∷ e15 ∷ List.[]
+
 abbrev pub t52 : List.List Row.Entry
 t52 = e0·1 ∷ e1 ∷ e2 ∷ e3 ∷ e4 ∷ e5·1 ∷ e6·1 ∷ e7·1 ∷ e8·1 ∷ e9 ∷ e10 ∷ e11 ∷ e12 ∷ e13 ∷ e14 ∷ e15 ∷ List.[]
+
 abbrev pub T0 : Row.Cx
 T0 = record { locals = List._++_ t0 t1; slots = List.[] }
+
 abbrev pub T1 : Row.Cx
 T1 = record { locals = List._++_ t2 t1; slots = List.[] }
+
 abbrev pub T2 : Row.Cx
 T2 = record { locals = List._++_ t0 t1; slots = List.[] }
+
 abbrev pub T3 : Row.Cx
 T3 = record { locals = List._++_ t3 t1; slots = List.[] }
+
 abbrev pub T5 : Row.Cx
 T5 = record { locals = List._++_ t4 t1; slots = List.[] }
+
 abbrev pub T6 : Row.Cx
 T6 = record { locals = List._++_ t5 t1; slots = List.[] }
+
 abbrev pub T7 : Row.Cx
 T7 = record { locals = List._++_ t6 t1; slots = List.[] }
+
 abbrev pub T8 : Row.Cx
 T8 = record { locals = List._++_ t7 t1; slots = List.[] }
+
 abbrev pub T10 : Row.Cx
 T10 = record { locals = List._++_ t8 t1; slots = List.[] }
+
 abbrev pub T12 : Row.Cx
 T12 = record { locals = List._++_ t8 t9; slots = List.[] }
+
 abbrev pub T13 : Row.Cx
 T13 = record { locals = List._++_ t8 t10; slots = List.[] }
+
 abbrev pub T14 : Row.Cx
 T14 = record { locals = List._++_ t8 t11; slots = List.[] }
+
 abbrev pub T15 : Row.Cx
 T15 = record { locals = List._++_ t12 t11; slots = List.[] }
+
 abbrev pub T16 : Row.Cx
 T16 = record { locals = List._++_ t13 t11; slots = List.[] }
+
 abbrev pub T17 : Row.Cx
 T17 = record { locals = List._++_ t13 t14; slots = List.[] }
+
 abbrev pub T18 : Row.Cx
 T18 = record { locals = List._++_ t13 t15; slots = List.[] }
+
 abbrev pub T19 : Row.Cx
 T19 = record { locals = List._++_ t13 t1; slots = List.[] }
+
 abbrev pub T20 : Row.Cx
 T20 = record { locals = List._++_ t13 t9; slots = List.[] }
+
 abbrev pub T21 : Row.Cx
 T21 = record { locals = List._++_ t16 t9; slots = List.[] }
+
 abbrev pub T22 : Row.Cx
 T22 = record { locals = List._++_ t16 t1; slots = List.[] }
+
 abbrev pub T23 : Row.Cx
 T23 = record { locals = List._++_ t16 t17; slots = List.[] }
+
 abbrev pub T24 : Row.Cx
 T24 = record { locals = List._++_ t18 t1; slots = List.[] }
+
 abbrev pub T25 : Row.Cx
 T25 = record { locals = List._++_ t13 t17; slots = List.[] }
+
 abbrev pub T26 : Row.Cx
 T26 = record { locals = List._++_ t13 t1; slots = List.[] }
+
 abbrev pub T28 : Row.Cx
 T28 = record { locals = List._++_ t19 t20; slots = List.[] }
+
 abbrev pub T29 : Row.Cx
 T29 = record { locals = List._++_ t19 t21; slots = List.[] }
+
 abbrev pub T31 : Row.Cx
 T31 = record { locals = List._++_ t22 t23; slots = List.[] }
+
 abbrev pub T32 : Row.Cx
 T32 = record { locals = List._++_ t22 t24; slots = List.[] }
+
 abbrev pub T34 : Row.Cx
 T34 = record { locals = List._++_ t25 t26; slots = List.[] }
+
 abbrev pub T35 : Row.Cx
 T35 = record { locals = List._++_ t25 t27; slots = List.[] }
+
 abbrev pub T37 : Row.Cx
 T37 = record { locals = List._++_ t28 t29; slots = List.[] }
+
 abbrev pub T38 : Row.Cx
 T38 = record { locals = List._++_ t28 t30; slots = List.[] }
+
 abbrev pub T39 : Row.Cx
 T39 = record { locals = List._++_ t31 t32; slots = List.[] }
+
 abbrev pub T40 : Row.Cx
 T40 = record { locals = List._++_ t33 t32; slots = List.[] }
+
 abbrev pub T41 : Row.Cx
 T41 = record { locals = List._++_ t34 t32; slots = List.[] }
+
 abbrev pub T42 : Row.Cx
 T42 = record { locals = List._++_ t35 t32; slots = List.[] }
+
 abbrev pub T44 : Row.Cx
 T44 = record { locals = List._++_ t36 t37; slots = List.[] }
+
 abbrev pub T47 : Row.Cx
 T47 = record { locals = List._++_ t38 t39; slots = List.[] }
+
 abbrev pub T50 : Row.Cx
 T50 = record { locals = List._++_ t40 t41; slots = List.[] }
+
 abbrev pub T53 : Row.Cx
 T53 = record { locals = List._++_ t42 t1; slots = List.[] }
+
 abbrev pub T54 : Row.Cx
 T54 = record { locals = List._++_ t42 t1; slots = List.[] }
+
 abbrev pub T56 : Row.Cx
 T56 = record { locals = List._++_ t43 t1; slots = List.[] }
+
 abbrev pub T57 : Row.Cx
 T57 = record { locals = List._++_ t44 t1; slots = List.[] }
+
 abbrev pub T58 : Row.Cx
 T58 = record { locals = List._++_ t45 t1; slots = List.[] }
+
 abbrev pub T59 : Row.Cx
 T59 = record { locals = List._++_ t2 t1; slots = List.[] }
+
 abbrev pub T60 : Row.Cx
 T60 = record { locals = List._++_ t18 t17; slots = List.[] }
+
 abbrev pub T61 : Row.Cx
 T61 = record { locals = List._++_ t18 t1; slots = List.[] }
+
 abbrev pub T62 : Row.Cx
 T62 = record { locals = List._++_ t46 t1; slots = List.[] }
+
 abbrev pub T63 : Row.Cx
 T63 = record { locals = List._++_ t47 t1; slots = List.[] }
+
 abbrev pub T64 : Row.Cx
 T64 = record { locals = List._++_ t48 t1; slots = List.[] }
+
 abbrev pub T65 : Row.Cx
 T65 = record { locals = List._++_ t49 t1; slots = List.[] }
+
 abbrev pub T66 : Row.Cx
 T66 = record { locals = List._++_ t50 t1; slots = List.[] }
+
 abbrev pub T67 : Row.Cx
 T67 = record { locals = List._++_ t51 t1; slots = List.[] }
+
 abbrev pub T68 : Row.Cx
 T68 = record { locals = List._++_ t52 t1; slots = List.[] }
+
 abbrev pub T69 : Row.Cx
 T69 = record { locals = List._++_ t2 t1; slots = List.[] }
+
 abbrev pub O0 : Typed.Outs
 O0 = record { next = Option.none; exits = List.[]; returns = Option.some T1 }
+
 abbrev pub O1 : Typed.Outs
 O1 = Typed.withNext (Option.some T24) O0
+
 module _ (claims· : Claims) where
   abbrev s0 : (bs : List.List Nat.ℕ) → Typed.Gives T0 T2
   s0 = λ bs. Know.k-sl-known (Referent.fInt Syntax.w32) T0 4 3 ref8 Row.off 0 λ x. x
+
   abbrev s1 : (bs : List.List Nat.ℕ) → Typed.Both T2 T3
-  s1 = λ bs. WayStmt.k-way-copy-out T2 (Row.out 5 (T2 .locals)) (λ u. Row.drop 5 (T2 .locals) u) 10 (Rows.whole (Declared'.row
-      OpaqueRelayConfig.the-type)) (λ u. At.getAt (OpaqueRelayRuntime.the-type .parts) 4 (OpaqueRelayRuntime.struct .as-values (u .1 .1 .1 .1 .1 .0)))
-      (λ T′. record { locals = Row.setRow 5 (5, Rows.whole (Declared'.row OpaqueRelayRuntime.the-type)) T′; slots = List.[]; }) (λ u T′ m′. Row.set 5
-      (5, Rows.whole (Declared'.row OpaqueRelayRuntime.the-type)) (u .1 .1 .1 .1 .1 .0) T′ m′) (λ u. Unit) λ u. Unit
+  s1 = λ bs. WayStmt.k-way-copy-out T2 (Row.out 5 (T2 .locals)) (λ u. Row.drop 5 (T2 .locals) u) 10
+      (Rows.whole (Declared'.row OpaqueRelayConfig.the-type)) (λ u. At.getAt (OpaqueRelayRuntime.the-type .parts) 4 (OpaqueRelayRuntime.struct
+      .as-values (u .1 .1 .1 .1 .1 .0))) (λ T′. record {
+        locals = Row.setRow 5 (5, Rows.whole (Declared'.row OpaqueRelayRuntime.the-type)) T′;
+        slots = List.[];
+      }) (λ u T′ m′. Row.set 5 (5, Rows.whole (Declared'.row OpaqueRelayRuntime.the-type)) (u .1 .1 .1 .1 .1 .0) T′ m′)
+      (λ u. Unit) λ u. Unit
+
   abbrev s3 : (bs : List.List Nat.ℕ) → Typed.Gives T3 T5
   s3 = λ bs. Reshare.k-sl-reshare InflightAction.row T3 3 14 2 4 ref7 ref0 Row.off λ x. x
+
   abbrev s4 : (bs : List.List Nat.ℕ) → Typed.Asks T5 T6
-  s4 = λ bs. Relend.k-sl-aggregate InflightAction.row (Relend.asShr InflightAction.row) T5 14 15 4 ref0 ref0 (λ x. x) (Scalar.oFld 3 ((Syntax.field 1)
-      ∷ List.[]) (Syntax.tyInt Syntax.w64) 8 λ v. Shared.lenV (v .0))
+  s4 = λ bs. Relend.k-sl-aggregate InflightAction.row (Relend.asShr InflightAction.row) T5 14 15 4 ref0 ref0 (λ x. x) (Scalar.oFld
+      3 ((Syntax.field 1) ∷ List.[]) (Syntax.tyInt Syntax.w64) 8 λ v. Shared.lenV (v .0))
+
   abbrev s5 : (bs : List.List Nat.ℕ) → Typed.Both T6 T7
-  s5 = λ bs. Call.callB ps·0 r·0 (claims· .0) (claims· .1) T6 (record { pos = 15; ty = Syntax.tyRef Syntax.erased Syntax.imm InflightAction.to; ref =
-      λ x. x; }, (record { pos = 6; st = List.[]; d = 0; at = λ x. x }, (Num.vAt 7 λ x. x, (Num.vAt 8 λ x. x, tt)),),) 11 (4 ∷ List.[]) Laws'''.mir
+  s5 = λ bs. Call.callB ps·0 r·0 (claims· .0) (claims· .1) T6 (
+    record { pos = 15; ty = ref0; ref = λ x. x },
+    (record { pos = 6; st = List.[]; d = 0; at = λ x. x }, (Num.vAt 7 λ x. x, (Num.vAt 8 λ x. x, tt))),
+  ) 11 (4 ∷ List.[]) Laws'''.mir
+
   abbrev s6 : (bs : List.List Nat.ℕ) → Typed.Mo T7 → Typed.Mo T8
-  s6 = λ bs. Scalar.n-room T7 15 (Syntax.tyStruct (38 ∷ 91 ∷ 93 ∷ List.[]) (Syntax.tcons ref0 (Syntax.tcons (Syntax.tyInt Syntax.w64) Syntax.tnil)))
+  s6 = λ bs. Scalar.n-room T7 15 slice0
+
   abbrev s8 : (bs : List.List Nat.ℕ) → Typed.Mo T8 → Typed.Mo T10
   s8 = λ bs. Reshare.n-back-sl-shr InflightAction.row T8 3 2 4 ref7 Row.off λ x. x
+
   abbrev s10 : (bs : List.List Nat.ℕ) → Typed.Mo T10 → Typed.Mo T12
-  s10 = λ bs. Scalar.n-use T10 (Scalar.oFld 1 ((Syntax.field 1) ∷ List.[]) (Syntax.tyInt Syntax.w64) 8 Shared.lenV) 16 (Rows.sc-here (Row.sInt
-      Syntax.w64)) (Row.sInt Syntax.w64 .of)
+  s10 = λ bs. Scalar.n-use T10 (Scalar.oFld 1 ((Syntax.field 1) ∷ List.[]) (Syntax.tyInt Syntax.w64) 8 Shared.lenV) 16
+      (Rows.sc-here (Row.sInt Syntax.w64)) (Row.sInt Syntax.w64 .of)
+
   abbrev s11 : (bs : List.List Nat.ℕ) → Typed.Mo T12 → Typed.Mo T13
-  s11 = λ bs. Scalar.n-use T12 (Scalar.oFld 2 ((Syntax.field 1) ∷ List.[]) (Syntax.tyInt Syntax.w64) 8 Shared.lenV) 17 (Rows.sc-here (Row.sInt
-      Syntax.w64)) (Row.sInt Syntax.w64 .of)
+  s11 = λ bs. Scalar.n-use T12 (Scalar.oFld 2 ((Syntax.field 1) ∷ List.[]) (Syntax.tyInt Syntax.w64) 8 Shared.lenV) 17
+      (Rows.sc-here (Row.sInt Syntax.w64)) (Row.sInt Syntax.w64 .of)
+
   abbrev s12 : (bs : List.List Nat.ℕ) → Typed.Mo T13 → Typed.Mo T14
-  s12 = λ bs. Scalar.n-use T13 (Scalar.oFld 3 ((Syntax.field 1) ∷ List.[]) (Syntax.tyInt Syntax.w64) 8 Shared.lenV) 18 (Rows.sc-here (Row.sInt
-      Syntax.w64)) (Row.sInt Syntax.w64 .of)
+  s12 = λ bs. Scalar.n-use T13 (Scalar.oFld 3 ((Syntax.field 1) ∷ List.[]) (Syntax.tyInt Syntax.w64) 8 Shared.lenV) 18
+      (Rows.sc-here (Row.sInt Syntax.w64)) (Row.sInt Syntax.w64 .of)
+
   abbrev s13 : (bs : List.List Nat.ℕ) → Typed.Both T14 T15
-  s13 = λ bs. Call.callB ps·1 r·1 (claims· .2) (claims· .3) T14 (record { pos = 10; st = List.[]; d = 0; at = λ x. x }, (Num.vAt 16 λ x. x, (Num.vAt
-      17 λ x. x, (Num.vAt 18 λ x. x, tt))),) 12 List.[] Syntax.tyBool
+  s13 = λ bs. Call.callB ps·1 r·1 (claims· .2) (claims· .3) T14 (
+    record { pos = 10; st = List.[]; d = 0; at = λ x. x },
+    (Num.vAt 16 λ x. x, (Num.vAt 17 λ x. x, (Num.vAt 18 λ x. x, tt))),
+  ) 12 List.[] Syntax.tyBool
+
   abbrev s14 : (bs : List.List Nat.ℕ) → Typed.Mo T15 → Typed.Mo T16
   s14 = λ bs. Scalar.n-room T15 10 Laws'.mir
+
   abbrev s15 : (bs : List.List Nat.ℕ) → Typed.Mo T16 → Typed.Mo T17
   s15 = λ bs. Scalar.n-room T16 16 (Syntax.tyInt Syntax.w64)
+
   abbrev s16 : (bs : List.List Nat.ℕ) → Typed.Mo T17 → Typed.Mo T18
   s16 = λ bs. Scalar.n-room T17 17 (Syntax.tyInt Syntax.w64)
+
   abbrev s17 : (bs : List.List Nat.ℕ) → Typed.Mo T18 → Typed.Mo T19
   s17 = λ bs. Scalar.n-room T18 18 (Syntax.tyInt Syntax.w64)
+
   abbrev s18 : (bs : List.List Nat.ℕ) → Typed.Mo T19 → Typed.Mo T20
-  s18 = λ bs. Scalar.n-use T19 (Scalar.oFld 4 ((Syntax.field 1) ∷ List.[]) (Syntax.tyInt Syntax.w64) 8 Shared.lenV) 16 (Rows.sc-here (Row.sInt
-      Syntax.w64)) (Row.sInt Syntax.w64 .of)
+  s18 = λ bs. Scalar.n-use T19 (Scalar.oFld 4 ((Syntax.field 1) ∷ List.[]) (Syntax.tyInt Syntax.w64) 8 Shared.lenV) 16
+      (Rows.sc-here (Row.sInt Syntax.w64)) (Row.sInt Syntax.w64 .of)
+
   abbrev s19 : (bs : List.List Nat.ℕ) → Typed.Both T20 T21
-  s19 = λ bs. Call.callB ps·2 r·2 (claims· .4) (claims· .5) T20 (record { pos = 5; st = List.[]; d = 0; at = λ x. x }, (Bool.bAt 12 λ x. x, (Num.vAt
-      16 λ x. x, (Num.vAt 7 λ x. x, (record { pos = 11; st = List.[]; d = 0; at = λ x. x }, tt)),),),) 13 List.[] Laws.mir
+  s19 = λ bs. Call.callB ps·2 r·2 (claims· .4) (claims· .5) T20 (
+    record { pos = 5; st = List.[]; d = 0; at = λ x. x },
+    (
+      Bool.bAt 12 λ x. x,
+      (Num.vAt 16 λ x. x, (Num.vAt 7 λ x. x, (record { pos = 11; st = List.[]; d = 0; at = λ x. x }, tt))),
+    ),
+  ) 13 List.[] Laws.mir
+
   abbrev s20 : (bs : List.List Nat.ℕ) → Typed.Mo T21 → Typed.Mo T22
   s20 = λ bs. Scalar.n-room T21 16 (Syntax.tyInt Syntax.w64)
+
   abbrev s21 : (bs : List.List Nat.ℕ) → Typed.Both T22 T23
-  s21 = λ bs. Call.callB ps·3 r·3 (claims· .6) (claims· .7) T22 (record { pos = 13; st = List.[]; d = 0; at = λ x. x }, tt,) 19 List.[] Syntax.tyBool
+  s21 = λ bs. Call.callB ps·3 r·3 (claims· .6) (claims· .7) T22
+      (record { pos = 13; st = List.[]; d = 0; at = λ x. x }, tt) 19 List.[] Syntax.tyBool
+
   abbrev s22 : (bs : List.List Nat.ℕ) → Typed.Mo T23 → Typed.Mo T25
   s22 = λ bs. Scalar.n-room T23 13 Laws.mir
+
   abbrev s23 : (bs : List.List Nat.ℕ) → Typed.Mo T25 → Typed.Mo T26
   s23 = λ bs. Scalar.n-room T25 19 Syntax.tyBool
+
   abbrev s25 : (bs : List.List Nat.ℕ) → Typed.Gives T26 T28
   s25 = λ bs. Relend.k-sl-relend RelayPending.row T26 1 20 0 5 ref5 ref1 Row.off λ x. x
+
   abbrev s26 : (bs : List.List Nat.ℕ) → Typed.Asks T28 T29
-  s26 = λ bs. Relend.k-sl-aggregate RelayPending.row (Relend.asMut RelayPending.row) T28 20 21 5 ref1 ref1 (λ x. x) (Scalar.oFld 1 ((Syntax.field 1) ∷
-      List.[]) (Syntax.tyInt Syntax.w64) 8 λ v. Shared.lenV (v .0))
+  s26 = λ bs. Relend.k-sl-aggregate RelayPending.row (Relend.asMut RelayPending.row) T28 20 21 5 ref1 ref1 (λ x. x) (Scalar.oFld
+      1 ((Syntax.field 1) ∷ List.[]) (Syntax.tyInt Syntax.w64) 8 λ v. Shared.lenV (v .0))
+
   abbrev s28 : (bs : List.List Nat.ℕ) → Typed.Gives T29 T31
   s28 = λ bs. Relend.k-sl-relend RelayCircuit.row T29 2 22 1 6 ref6 ref2 Row.off λ x. x
+
   abbrev s29 : (bs : List.List Nat.ℕ) → Typed.Asks T31 T32
-  s29 = λ bs. Relend.k-sl-aggregate RelayCircuit.row (Relend.asMut RelayCircuit.row) T31 22 23 6 ref2 ref2 (λ x. x) (Scalar.oFld 2 ((Syntax.field 1) ∷
-      List.[]) (Syntax.tyInt Syntax.w64) 8 λ v. Shared.lenV (v .0))
+  s29 = λ bs. Relend.k-sl-aggregate RelayCircuit.row (Relend.asMut RelayCircuit.row) T31 22 23 6 ref2 ref2 (λ x. x) (Scalar.oFld
+      2 ((Syntax.field 1) ∷ List.[]) (Syntax.tyInt Syntax.w64) 8 λ v. Shared.lenV (v .0))
+
   abbrev s31 : (bs : List.List Nat.ℕ) → Typed.Gives T32 T34
   s31 = λ bs. Relend.k-sl-relend InflightAction.row T32 3 24 2 7 ref7 ref3 Row.off λ x. x
+
   abbrev s32 : (bs : List.List Nat.ℕ) → Typed.Asks T34 T35
-  s32 = λ bs. Relend.k-sl-aggregate InflightAction.row (Relend.asMut InflightAction.row) T34 24 25 7 ref3 ref3 (λ x. x) (Scalar.oFld 3 ((Syntax.field
-      1) ∷ List.[]) (Syntax.tyInt Syntax.w64) 8 λ v. Shared.lenV (v .0))
+  s32 = λ bs. Relend.k-sl-aggregate InflightAction.row (Relend.asMut InflightAction.row) T34 24 25 7 ref3 ref3 (λ x. x) (Scalar.oFld
+      3 ((Syntax.field 1) ∷ List.[]) (Syntax.tyInt Syntax.w64) 8 λ v. Shared.lenV (v .0))
+
   abbrev s34 : (bs : List.List Nat.ℕ) → Typed.Gives T35 T37
   s34 = λ bs. Relend.k-sl-relend (Referent.rtF (Referent.fInt Syntax.w32)) T35 4 26 3 8 ref8 ref4 Row.off λ x. x
+
   abbrev s35 : (bs : List.List Nat.ℕ) → Typed.Asks T37 T38
-  s35 = λ bs. Relend.k-sl-aggregate (Referent.rtF (Referent.fInt Syntax.w32)) (Relend.asMut (Referent.rtF (Referent.fInt Syntax.w32))) T37 26 27 8
-      ref4 ref4 (λ x. x) (Scalar.oFld 4 ((Syntax.field 1) ∷ List.[]) (Syntax.tyInt Syntax.w64) 8 λ v. Shared.lenV (v .0))
+  s35 = λ bs. Relend.k-sl-aggregate (Referent.rtF (Referent.fInt Syntax.w32))
+      (Relend.asMut (Referent.rtF (Referent.fInt Syntax.w32))) T37 26 27 8 ref4 ref4 (λ x. x) (Scalar.oFld 4
+      ((Syntax.field 1) ∷ List.[]) (Syntax.tyInt Syntax.w64) 8 λ v. Shared.lenV (v .0))
+
   abbrev s36 : (bs : List.List Nat.ℕ) → Typed.Both T38 T39
-  s36 = λ bs. Call.callB ps·4 r·4 (claims· .8) (claims· .9) T38 (record { pos = 21; ty = Syntax.tyRef Syntax.erased Syntax.mut RelayPending.to; ref =
-      λ x. x; }, (record { pos = 23; ty = Syntax.tyRef Syntax.erased Syntax.mut RelayCircuit.to; ref = λ x. x; }, (record { pos = 25; ty =
-      Syntax.tyRef Syntax.erased Syntax.mut InflightAction.to; ref = λ x. x; }, (record { pos = 27; ty = Syntax.tyRef Syntax.erased Syntax.mut
-      (Syntax.tyInt Syntax.w32); ref = λ x. x; }, (record { pos = 5; st = List.[]; d = 0; at = λ x. x }, (record { pos = 6; st = List.[]; d = 0; at =
-      λ x. x }, (record { pos = 11; st = List.[]; d = 0; at = λ x. x }, (Bool.bAt 9 λ x. x, tt)),),),),),),) 0 (5 ∷ 6 ∷ 7 ∷ 8 ∷ List.[]) Laws'''''.mir
+  s36 = λ bs. Call.callB ps·4 r·4 (claims· .8) (claims· .9) T38 (
+    record { pos = 21; ty = ref1; ref = λ x. x },
+    (
+      record { pos = 23; ty = ref2; ref = λ x. x },
+      (
+        record { pos = 25; ty = ref3; ref = λ x. x },
+        (
+          record { pos = 27; ty = ref4; ref = λ x. x },
+          (
+            record { pos = 5; st = List.[]; d = 0; at = λ x. x },
+            (
+              record { pos = 6; st = List.[]; d = 0; at = λ x. x },
+              (record { pos = 11; st = List.[]; d = 0; at = λ x. x }, (Bool.bAt 9 λ x. x, tt)),
+            ),
+          ),
+        ),
+      ),
+    ),
+  ) 0 (5 ∷ 6 ∷ 7 ∷ 8 ∷ List.[]) Laws'''''.mir
+
   abbrev s37 : (bs : List.List Nat.ℕ) → Typed.Mo T39 → Typed.Mo T40
   s37 = λ bs. Scalar.n-room T39 5 Laws''''.mir
+
   abbrev s38 : (bs : List.List Nat.ℕ) → Typed.Mo T40 → Typed.Mo T41
   s38 = λ bs. Scalar.n-room T40 6 Laws''.mir
+
   abbrev s39 : (bs : List.List Nat.ℕ) → Typed.Mo T41 → Typed.Mo T42
   s39 = λ bs. Scalar.n-room T41 11 Laws'''.mir
+
   abbrev s41 : (bs : List.List Nat.ℕ) → Typed.Both T42 T44
   s41 = λ bs. Relend.k-back-sl RelayPending.row T42 21 1 0 5 ref5 ref1 Row.off (λ x. x) λ x. x
+
   abbrev s44 : (bs : List.List Nat.ℕ) → Typed.Both T44 T47
   s44 = λ bs. Relend.k-back-sl RelayCircuit.row T44 23 2 1 6 ref6 ref2 Row.off (λ x. x) λ x. x
+
   abbrev s47 : (bs : List.List Nat.ℕ) → Typed.Both T47 T50
   s47 = λ bs. Relend.k-back-sl InflightAction.row T47 25 3 2 7 ref7 ref3 Row.off (λ x. x) λ x. x
+
   abbrev s50 : (bs : List.List Nat.ℕ) → Typed.Both T50 T53
   s50 = λ bs. Relend.k-back-sl (Referent.rtF (Referent.fInt Syntax.w32)) T50 27 4 3 8 ref8 ref4 Row.off (λ x. x) λ x. x
+
   abbrev s51 : (bs : List.List Nat.ℕ) → Typed.Gives T53 T54
   s51 = λ bs. Know.k-sl-known (Referent.fInt Syntax.w32) T53 4 3 ref8 Row.off 0 λ x. x
+
   abbrev s53 : (bs : List.List Nat.ℕ) → Typed.Mo T54 → Typed.Mo T56
   s53 = λ bs. Scalar.n-room T54 7 (Syntax.tyInt Syntax.w64)
+
   abbrev s54 : (bs : List.List Nat.ℕ) → Typed.Mo T56 → Typed.Mo T57
   s54 = λ bs. Scalar.n-room T56 8 (Syntax.tyInt Syntax.w64)
+
   abbrev s55 : (bs : List.List Nat.ℕ) → Typed.Mo T57 → Typed.Mo T58
   s55 = λ bs. Scalar.n-room T57 9 Syntax.tyBool
+
   abbrev s56 : (bs : List.List Nat.ℕ) → Typed.Mo T58 → Typed.Mo T59
   s56 = λ bs. Scalar.n-room T58 12 Syntax.tyBool
+
   abbrev s57 : (bs : List.List Nat.ℕ) → Typed.Mo T23 → Typed.Mo T60
   s57 = λ bs. Scalar.n-room T23 11 Laws'''.mir
+
   abbrev s58 : (bs : List.List Nat.ℕ) → Typed.Mo T60 → Typed.Mo T61
   s58 = λ bs. Scalar.n-room T60 19 Syntax.tyBool
+
   abbrev s59 : (bs : List.List Nat.ℕ) → Typed.Both T24 T62
-  s59 = λ bs. Call.callB ps·5 r·5 (claims· .10) (claims· .11) T24 (record { pos = 5; st = List.[]; d = 0; at = λ x. x }, (record { pos = 6; st =
-      List.[]; d = 0; at = λ x. x }, (record { pos = 13; st = List.[]; d = 0; at = λ x. x }, tt),),) 0 List.[] Laws'''''.mir
+  s59 = λ bs. Call.callB ps·5 r·5 (claims· .10) (claims· .11) T24 (
+    record { pos = 5; st = List.[]; d = 0; at = λ x. x },
+    (
+      record { pos = 6; st = List.[]; d = 0; at = λ x. x },
+      (record { pos = 13; st = List.[]; d = 0; at = λ x. x }, tt),
+    ),
+  ) 0 List.[] Laws'''''.mir
+
   abbrev s60 : (bs : List.List Nat.ℕ) → Typed.Mo T62 → Typed.Mo T63
   s60 = λ bs. Scalar.n-room T62 5 Laws''''.mir
+
   abbrev s61 : (bs : List.List Nat.ℕ) → Typed.Mo T63 → Typed.Mo T64
   s61 = λ bs. Scalar.n-room T63 6 Laws''.mir
+
   abbrev s62 : (bs : List.List Nat.ℕ) → Typed.Mo T64 → Typed.Mo T65
   s62 = λ bs. Scalar.n-room T64 12 Syntax.tyBool
+
   abbrev s63 : (bs : List.List Nat.ℕ) → Typed.Mo T65 → Typed.Mo T66
   s63 = λ bs. Scalar.n-room T65 13 Laws.mir
+
   abbrev s64 : (bs : List.List Nat.ℕ) → Typed.Mo T66 → Typed.Mo T67
   s64 = λ bs. Scalar.n-room T66 7 (Syntax.tyInt Syntax.w64)
+
   abbrev s65 : (bs : List.List Nat.ℕ) → Typed.Mo T67 → Typed.Mo T68
   s65 = λ bs. Scalar.n-room T67 8 (Syntax.tyInt Syntax.w64)
+
   abbrev s66 : (bs : List.List Nat.ℕ) → Typed.Mo T68 → Typed.Mo T69
   s66 = λ bs. Scalar.n-room T68 9 Syntax.tyBool
-  module _ (Pre· : (κs : Lifetimes.Lfts 4) → Kinds.Dens κs ps → Type 0) (Post· : (κs : Lifetimes.Lfts 4) → (a : Kinds.Dens κs ps) → Kinds.Plain 4 ps r
-      κs) where
+
+  module _ (Pre· : (κs : Lifetimes.Lfts 4) → Kinds.Dens κs ps → Type 0) (Post· : (κs : Lifetimes.Lfts 4) →
+      (a : Kinds.Dens κs ps) → Kinds.Plain 4 ps r κs) where
     module _ (M : Type 1) where
       abbrev pub Closed : Type 2
-      Closed = (𝓤 : URA.URA M) (H : Wp.Heap 𝓤) (A : Atoms.Atoms 𝓤) (W : Kit.Given 𝓤 H A) (𝓣 : Wp.Tables 𝓤 H) (known0 : Plain.Known 𝓤 H A W 𝓣 1 ps·0
-          r·0 (claims· .0) (claims· .1) "hnsr_circuit::lookup::look_up_action") (known1 : Plain.Known 𝓤 H A W 𝓣 0 ps·1 r·1 (claims· .2) (claims· .3)
-          "hnsr_circuit::entry::too_few") (known2 : Plain.Known 𝓤 H A W 𝓣 0 ps·2 r·2 (claims· .4) (claims· .5)
-          "hnsr_circuit::acknowledge::acknowledge_answer") (known3 : Plain.Known 𝓤 H A W 𝓣 0 ps·3 r·3 (claims· .6) (claims· .7)
-          "hnsr_circuit::answer::is_taken") (known4 : Plain.Known 𝓤 H A W 𝓣 4 ps·4 r·4 (claims· .8) (claims· .9)
-          "hnsr_circuit::acknowledge::acknowledge_action") (known5 : Plain.Known 𝓤 H A W 𝓣 0 ps·5 r·5 (claims· .10) (claims· .11)
-          "hnsr_circuit::revoking_calls::refused") → Statement.Triple 𝓤 (Wp.WpFn 𝓤 H (𝓣 .C) (𝓣 .Λ) (Function.fnOf 4 ps r xs m hs body))
+      Closed = (𝓤 : URA.URA M) (H : Wp.Heap 𝓤) (A : Atoms.Atoms 𝓤) (W : Kit.Given 𝓤 H A) (𝓣 : Wp.Tables 𝓤 H) (known0 :
+          Plain.Known 𝓤 H A W 𝓣 1 ps·0 r·0 (claims· .0) (claims· .1) "hnsr_circuit::lookup::look_up_action") (known1 :
+          Plain.Known 𝓤 H A W 𝓣 0 ps·1 r·1 (claims· .2) (claims· .3) "hnsr_circuit::entry::too_few") (known2 :
+          Plain.Known 𝓤 H A W 𝓣 0 ps·2 r·2 (claims· .4) (claims· .5) "hnsr_circuit::acknowledge::acknowledge_answer") (known3
+          : Plain.Known 𝓤 H A W 𝓣 0 ps·3 r·3 (claims· .6) (claims· .7) "hnsr_circuit::answer::is_taken") (known4 :
+          Plain.Known 𝓤 H A W 𝓣 4 ps·4 r·4 (claims· .8) (claims· .9) "hnsr_circuit::acknowledge::acknowledge_action") (known5
+          : Plain.Known 𝓤 H A W 𝓣 0 ps·5 r·5 (claims· .10) (claims· .11) "hnsr_circuit::revoking_calls::refused") →
+          Statement.Triple 𝓤 (Wp.WpFn 𝓤 H (𝓣 .C) (𝓣 .Λ) (Function.fnOf 4 ps r xs m hs body))
           (Function.plainOf 𝓤 H A 4 ps r Pre· Post·)
+
     module _ where
       abbrev at0 : (bs : List.List Nat.ℕ) → Typed.TF T59 O1
       at0 = λ bs. Typed.atRet O1
+
       abbrev at1 : (bs : List.List Nat.ℕ) → Typed.TF T58 O1
       at1 = λ bs. λ Ψ. Typed.pass T58 T59 (s56 bs) (at0 bs Ψ)
+
       abbrev at2 : (bs : List.List Nat.ℕ) → Typed.TF T57 O1
       at2 = λ bs. λ Ψ. Typed.pass T57 T58 (s55 bs) (at1 bs Ψ)
+
       abbrev at3 : (bs : List.List Nat.ℕ) → Typed.TF T56 O1
       at3 = λ bs. λ Ψ. Typed.pass T56 T57 (s54 bs) (at2 bs Ψ)
+
       abbrev at4 : (bs : List.List Nat.ℕ) → Typed.TF T54 O1
       at4 = λ bs. λ Ψ. Typed.pass T54 T56 (s53 bs) (at3 bs Ψ)
+
       abbrev at5 : (bs : List.List Nat.ℕ) → Typed.TF T54 O1
       at5 = λ bs. λ Ψ. at4 bs Ψ
+
       abbrev at6 : (bs : List.List Nat.ℕ) → Typed.TF T53 O1
       at6 = λ bs. λ Ψ. Typed.give (s51 bs) (at5 bs Ψ)
+
       abbrev at7 : (bs : List.List Nat.ℕ) → Typed.TF T50 O1
       at7 = λ bs. λ Ψ. Typed.both (s50 bs) (at6 bs Ψ)
+
       abbrev at8 : (bs : List.List Nat.ℕ) → Typed.TF T50 O1
       at8 = λ bs. λ Ψ. at7 bs Ψ
+
       abbrev at9 : (bs : List.List Nat.ℕ) → Typed.TF T50 O1
       at9 = λ bs. λ Ψ. at8 bs Ψ
+
       abbrev at10 : (bs : List.List Nat.ℕ) → Typed.TF T47 O1
       at10 = λ bs. λ Ψ. Typed.both (s47 bs) (at9 bs Ψ)
+
       abbrev at11 : (bs : List.List Nat.ℕ) → Typed.TF T47 O1
       at11 = λ bs. λ Ψ. at10 bs Ψ
+
       abbrev at12 : (bs : List.List Nat.ℕ) → Typed.TF T47 O1
       at12 = λ bs. λ Ψ. at11 bs Ψ
+
       abbrev at13 : (bs : List.List Nat.ℕ) → Typed.TF T44 O1
       at13 = λ bs. λ Ψ. Typed.both (s44 bs) (at12 bs Ψ)
+
       abbrev at14 : (bs : List.List Nat.ℕ) → Typed.TF T44 O1
       at14 = λ bs. λ Ψ. at13 bs Ψ
+
       abbrev at15 : (bs : List.List Nat.ℕ) → Typed.TF T44 O1
       at15 = λ bs. λ Ψ. at14 bs Ψ
+
       abbrev at16 : (bs : List.List Nat.ℕ) → Typed.TF T42 O1
       at16 = λ bs. λ Ψ. Typed.both (s41 bs) (at15 bs Ψ)
+
       abbrev at17 : (bs : List.List Nat.ℕ) → Typed.TF T42 O1
       at17 = λ bs. λ Ψ. at16 bs Ψ
+
       abbrev at18 : (bs : List.List Nat.ℕ) → Typed.TF T41 O1
       at18 = λ bs. λ Ψ. Typed.pass T41 T42 (s39 bs) (at17 bs Ψ)
+
       abbrev at19 : (bs : List.List Nat.ℕ) → Typed.TF T40 O1
       at19 = λ bs. λ Ψ. Typed.pass T40 T41 (s38 bs) (at18 bs Ψ)
+
       abbrev at20 : (bs : List.List Nat.ℕ) → Typed.TF T39 O1
       at20 = λ bs. λ Ψ. Typed.pass T39 T40 (s37 bs) (at19 bs Ψ)
+
       abbrev at21 : (bs : List.List Nat.ℕ) → Typed.TF T38 O1
       at21 = λ bs. λ Ψ. Typed.both (s36 bs) (at20 bs Ψ)
+
       abbrev at22 : (bs : List.List Nat.ℕ) → Typed.TF T37 O1
       at22 = λ bs. λ Ψ. Typed.ask (s35 bs) (at21 bs Ψ)
+
       abbrev at23 : (bs : List.List Nat.ℕ) → Typed.TF T35 O1
       at23 = λ bs. λ Ψ. Typed.give (s34 bs) (at22 bs Ψ)
+
       abbrev at24 : (bs : List.List Nat.ℕ) → Typed.TF T35 O1
       at24 = λ bs. λ Ψ. at23 bs Ψ
+
       abbrev at25 : (bs : List.List Nat.ℕ) → Typed.TF T34 O1
       at25 = λ bs. λ Ψ. Typed.ask (s32 bs) (at24 bs Ψ)
+
       abbrev at26 : (bs : List.List Nat.ℕ) → Typed.TF T32 O1
       at26 = λ bs. λ Ψ. Typed.give (s31 bs) (at25 bs Ψ)
+
       abbrev at27 : (bs : List.List Nat.ℕ) → Typed.TF T32 O1
       at27 = λ bs. λ Ψ. at26 bs Ψ
+
       abbrev at28 : (bs : List.List Nat.ℕ) → Typed.TF T31 O1
       at28 = λ bs. λ Ψ. Typed.ask (s29 bs) (at27 bs Ψ)
+
       abbrev at29 : (bs : List.List Nat.ℕ) → Typed.TF T29 O1
       at29 = λ bs. λ Ψ. Typed.give (s28 bs) (at28 bs Ψ)
+
       abbrev at30 : (bs : List.List Nat.ℕ) → Typed.TF T29 O1
       at30 = λ bs. λ Ψ. at29 bs Ψ
+
       abbrev at31 : (bs : List.List Nat.ℕ) → Typed.TF T28 O1
       at31 = λ bs. λ Ψ. Typed.ask (s26 bs) (at30 bs Ψ)
+
       abbrev at32 : (bs : List.List Nat.ℕ) → Typed.TF T26 O1
       at32 = λ bs. λ Ψ. Typed.give (s25 bs) (at31 bs Ψ)
+
       abbrev at33 : (bs : List.List Nat.ℕ) → Typed.TF T26 O1
       at33 = λ bs. λ Ψ. at32 bs Ψ
+
       abbrev at34 : (bs : List.List Nat.ℕ) → Typed.TF T25 O1
       at34 = λ bs. λ Ψ. Typed.pass T25 T26 (s23 bs) (at33 bs Ψ)
+
       abbrev at35 : (bs : List.List Nat.ℕ) → Typed.TF T23 O1
       at35 = λ bs. λ Ψ. Typed.pass T23 T25 (s22 bs) (at34 bs Ψ)
+
       abbrev at36 : (bs : List.List Nat.ℕ) → Typed.TF T61 O1
       at36 = λ bs. Typed.atNext O1
+
       abbrev at37 : (bs : List.List Nat.ℕ) → Typed.TF T60 O1
       at37 = λ bs. λ Ψ. Typed.pass T60 T61 (s58 bs) (at36 bs Ψ)
+
       abbrev at38 : (bs : List.List Nat.ℕ) → Typed.TF T23 O1
       at38 = λ bs. λ Ψ. Typed.pass T23 T60 (s57 bs) (at37 bs Ψ)
+
       abbrev at39 : (bs : List.List Nat.ℕ) → Typed.TF T23 O1
       at39 = λ bs. Scalar.Φcond T23 O1 19 (λ x. x) (at35 bs) (at38 bs)
+
       abbrev at40 : (bs : List.List Nat.ℕ) → Typed.TF T69 O0
       at40 = λ bs. Typed.atRet O0
+
       abbrev at41 : (bs : List.List Nat.ℕ) → Typed.TF T68 O0
       at41 = λ bs. λ Ψ. Typed.pass T68 T69 (s66 bs) (at40 bs Ψ)
+
       abbrev at42 : (bs : List.List Nat.ℕ) → Typed.TF T67 O0
       at42 = λ bs. λ Ψ. Typed.pass T67 T68 (s65 bs) (at41 bs Ψ)
+
       abbrev at43 : (bs : List.List Nat.ℕ) → Typed.TF T66 O0
       at43 = λ bs. λ Ψ. Typed.pass T66 T67 (s64 bs) (at42 bs Ψ)
+
       abbrev at44 : (bs : List.List Nat.ℕ) → Typed.TF T65 O0
       at44 = λ bs. λ Ψ. Typed.pass T65 T66 (s63 bs) (at43 bs Ψ)
+
       abbrev at45 : (bs : List.List Nat.ℕ) → Typed.TF T64 O0
       at45 = λ bs. λ Ψ. Typed.pass T64 T65 (s62 bs) (at44 bs Ψ)
+
       abbrev at46 : (bs : List.List Nat.ℕ) → Typed.TF T63 O0
       at46 = λ bs. λ Ψ. Typed.pass T63 T64 (s61 bs) (at45 bs Ψ)
+
       abbrev at47 : (bs : List.List Nat.ℕ) → Typed.TF T62 O0
       at47 = λ bs. λ Ψ. Typed.pass T62 T63 (s60 bs) (at46 bs Ψ)
+
       abbrev at48 : (bs : List.List Nat.ℕ) → Typed.TF T24 O0
       at48 = λ bs. λ Ψ. Typed.both (s59 bs) (at47 bs Ψ)
+
       abbrev at49 : (bs : List.List Nat.ℕ) → Typed.TF T23 O0
       at49 = λ bs. λ Ψ. at39 bs (Typed.wantNext T24 O0 (at48 bs Ψ) Ψ)
+
       abbrev at50 : (bs : List.List Nat.ℕ) → Typed.TF T22 O0
       at50 = λ bs. λ Ψ. Typed.both (s21 bs) (at49 bs Ψ)
+
       abbrev at51 : (bs : List.List Nat.ℕ) → Typed.TF T21 O0
       at51 = λ bs. λ Ψ. Typed.pass T21 T22 (s20 bs) (at50 bs Ψ)
+
       abbrev at52 : (bs : List.List Nat.ℕ) → Typed.TF T20 O0
       at52 = λ bs. λ Ψ. Typed.both (s19 bs) (at51 bs Ψ)
+
       abbrev at53 : (bs : List.List Nat.ℕ) → Typed.TF T19 O0
       at53 = λ bs. λ Ψ. Typed.pass T19 T20 (s18 bs) (at52 bs Ψ)
+
       abbrev at54 : (bs : List.List Nat.ℕ) → Typed.TF T18 O0
       at54 = λ bs. λ Ψ. Typed.pass T18 T19 (s17 bs) (at53 bs Ψ)
+
       abbrev at55 : (bs : List.List Nat.ℕ) → Typed.TF T17 O0
       at55 = λ bs. λ Ψ. Typed.pass T17 T18 (s16 bs) (at54 bs Ψ)
+
       abbrev at56 : (bs : List.List Nat.ℕ) → Typed.TF T16 O0
       at56 = λ bs. λ Ψ. Typed.pass T16 T17 (s15 bs) (at55 bs Ψ)
+
       abbrev at57 : (bs : List.List Nat.ℕ) → Typed.TF T15 O0
       at57 = λ bs. λ Ψ. Typed.pass T15 T16 (s14 bs) (at56 bs Ψ)
+
       abbrev at58 : (bs : List.List Nat.ℕ) → Typed.TF T14 O0
       at58 = λ bs. λ Ψ. Typed.both (s13 bs) (at57 bs Ψ)
+
       abbrev at59 : (bs : List.List Nat.ℕ) → Typed.TF T13 O0
       at59 = λ bs. λ Ψ. Typed.pass T13 T14 (s12 bs) (at58 bs Ψ)
+
       abbrev at60 : (bs : List.List Nat.ℕ) → Typed.TF T12 O0
       at60 = λ bs. λ Ψ. Typed.pass T12 T13 (s11 bs) (at59 bs Ψ)
+
       abbrev at61 : (bs : List.List Nat.ℕ) → Typed.TF T10 O0
       at61 = λ bs. λ Ψ. Typed.pass T10 T12 (s10 bs) (at60 bs Ψ)
+
       abbrev at62 : (bs : List.List Nat.ℕ) → Typed.TF T10 O0
       at62 = λ bs. λ Ψ. at61 bs Ψ
+
       abbrev at63 : (bs : List.List Nat.ℕ) → Typed.TF T8 O0
       at63 = λ bs. λ Ψ. Typed.pass T8 T10 (s8 bs) (at62 bs Ψ)
+
       abbrev at64 : (bs : List.List Nat.ℕ) → Typed.TF T8 O0
       at64 = λ bs. λ Ψ. at63 bs Ψ
+
       abbrev at65 : (bs : List.List Nat.ℕ) → Typed.TF T7 O0
       at65 = λ bs. λ Ψ. Typed.pass T7 T8 (s6 bs) (at64 bs Ψ)
+
       abbrev at66 : (bs : List.List Nat.ℕ) → Typed.TF T6 O0
       at66 = λ bs. λ Ψ. Typed.both (s5 bs) (at65 bs Ψ)
+
       abbrev at67 : (bs : List.List Nat.ℕ) → Typed.TF T5 O0
       at67 = λ bs. λ Ψ. Typed.ask (s4 bs) (at66 bs Ψ)
+
       abbrev at68 : (bs : List.List Nat.ℕ) → Typed.TF T3 O0
       at68 = λ bs. λ Ψ. Typed.give (s3 bs) (at67 bs Ψ)
+
       abbrev at69 : (bs : List.List Nat.ℕ) → Typed.TF T3 O0
       at69 = λ bs. λ Ψ. at68 bs Ψ
+
       abbrev at70 : (bs : List.List Nat.ℕ) → Typed.TF T2 O0
       at70 = λ bs. λ Ψ. Typed.both (s1 bs) (at69 bs Ψ)
+
       abbrev at71 : (bs : List.List Nat.ℕ) → Typed.TF T0 O0
       at71 = λ bs. λ Ψ. Typed.give (s0 bs) (at70 bs Ψ)
+
       abbrev pub Φ : (bs : List.List Nat.ℕ) → Typed.TF T0 O0
       Φ = λ bs. at71 bs
-      module _ { M : Type 1 } (𝓤 : URA.URA M) (H : Wp.Heap 𝓤) (A : Atoms.Atoms 𝓤) (W : Kit.Given 𝓤 H A) (𝓣 : Wp.Tables 𝓤 H) where
+
+      module _ {M : Type 1} (𝓤 : URA.URA M) (H : Wp.Heap 𝓤) (A : Atoms.Atoms 𝓤) (W : Kit.Given 𝓤 H A)
+          (𝓣 : Wp.Tables 𝓤 H) where
         abbrev Knowns : Type 1
-        Knowns = Plain.Known 𝓤 H A W 𝓣 1 ps·0 r·0 (claims· .0) (claims· .1) "hnsr_circuit::lookup::look_up_action" × Plain.Known 𝓤 H A W 𝓣 0 ps·1 r·1
-            (claims· .2) (claims· .3) "hnsr_circuit::entry::too_few" × Plain.Known 𝓤 H A W 𝓣 0 ps·2 r·2 (claims· .4) (claims· .5)
-            "hnsr_circuit::acknowledge::acknowledge_answer" × Plain.Known 𝓤 H A W 𝓣 0 ps·3 r·3 (claims· .6) (claims· .7)
-            "hnsr_circuit::answer::is_taken" × Plain.Known 𝓤 H A W 𝓣 4 ps·4 r·4 (claims· .8) (claims· .9)
-            "hnsr_circuit::acknowledge::acknowledge_action" × Plain.Known 𝓤 H A W 𝓣 0 ps·5 r·5 (claims· .10) (claims· .11)
-            "hnsr_circuit::revoking_calls::refused"
+        Knowns = Plain.Known 𝓤 H A W 𝓣 1 ps·0 r·0 (claims· .0) (claims· .1) "hnsr_circuit::lookup::look_up_action" ×
+            Plain.Known 𝓤 H A W 𝓣 0 ps·1 r·1 (claims· .2) (claims· .3) "hnsr_circuit::entry::too_few" × Plain.Known 𝓤 H
+            A W 𝓣 0 ps·2 r·2 (claims· .4) (claims· .5) "hnsr_circuit::acknowledge::acknowledge_answer" × Plain.Known 𝓤
+            H A W 𝓣 0 ps·3 r·3 (claims· .6) (claims· .7) "hnsr_circuit::answer::is_taken" × Plain.Known 𝓤 H A W 𝓣 4
+            ps·4 r·4 (claims· .8) (claims· .9) "hnsr_circuit::acknowledge::acknowledge_action" × Plain.Known 𝓤 H A W 𝓣
+            0 ps·5 r·5 (claims· .10) (claims· .11) "hnsr_circuit::revoking_calls::refused"
+
       module _ (κs : Lifetimes.Lfts 4) (qs : Lifetimes.Shares 4) where
         abbrev life0 : Row.Life
         life0 = Row.lease (κs .1 .1 .0) (qs .1 .1 .0)
+
         abbrev life1 : Row.Life
         life1 = Row.lease (κs .0) (qs .0)
+
         abbrev life2 : Row.Life
         life2 = Row.lease (κs .1 .0) (qs .1 .0)
+
         abbrev life3 : Row.Life
         life3 = Row.lease (κs .1 .1 .1 .0) (qs .1 .1 .1 .0)
+
+        abbrev l3 : Row.Entry
+        l3 = (3, Reshare.mslice-owedS InflightAction.row ref7 2 4 life0)
+
+        abbrev l1 : Row.Entry
+        l1 = (1, Relend.mslice-owed RelayPending.row ref5 0 5 life1)
+
+        abbrev l2 : Row.Entry
+        l2 = (2, Relend.mslice-owed RelayCircuit.row ref6 1 6 life2)
+
+        abbrev l3·1 : Row.Entry
+        l3·1 = (3, Relend.mslice-owed InflightAction.row ref7 2 7 life0)
+
+        abbrev l4 : Row.Entry
+        l4 = (4, Relend.mslice-owed (Referent.rtF (Referent.fInt Syntax.w32)) ref8 3 8 life3)
+
         abbrev g4 : List.List Row.Entry
-        g4 = (0, Rows.any-gone Laws'''''.mir,) ∷ (1, Mut.mslice RelayPending.row ref5 0,) ∷ (2, Mut.mslice RelayCircuit.row ref6 1,) ∷ (3,
-            Reshare.mslice-owedS InflightAction.row ref7 2 4 life0,) ∷ (4, Mut.mslice (Referent.rtF (Referent.fInt Syntax.w32)) ref8 3,) ∷ (5,
-            Rows.whole (Declared'.row OpaqueRelayRuntime.the-type)) ∷ (6, Rows.whole (Declared'.row Places.the-type),) ∷ (7, Rows.sc-here (Row.sInt
-            Syntax.w64)) ∷ (8, Rows.sc-here (Row.sInt Syntax.w64),) ∷ (9, Rows.sc-here Row.sBool) ∷ (10, Rows.whole (Declared'.row
-            OpaqueRelayConfig.the-type),) ∷ (11, Rows.any-gone Laws'''.mir,) ∷ (12, Rows.any-gone Syntax.tyBool) ∷ (13, Rows.any-gone Laws.mir,) ∷
-            (14, Relend.ssptr InflightAction.row ref0 4,) ∷ (15, Rows.any-gone (Syntax.tyStruct (38 ∷ 91 ∷ 93 ∷ List.[]) (Syntax.tcons ref0
-            (Syntax.tcons (Syntax.tyInt Syntax.w64) Syntax.tnil))),) ∷ List.[]
+        g4 = e0 ∷ e1 ∷ e2 ∷ l3 ∷ e4 ∷ e5 ∷ e6 ∷ e7 ∷ e8 ∷ e9 ∷ e10·1 ∷ e11 ∷ e12 ∷ e13 ∷ e14·1 ∷ e15 ∷ List.[]
+
         abbrev g5 : List.List Row.Entry
-        g5 = (0, Rows.any-gone Laws'''''.mir,) ∷ (1, Mut.mslice RelayPending.row ref5 0,) ∷ (2, Mut.mslice RelayCircuit.row ref6 1,) ∷ (3,
-            Reshare.mslice-owedS InflightAction.row ref7 2 4 life0,) ∷ (4, Mut.mslice (Referent.rtF (Referent.fInt Syntax.w32)) ref8 3,) ∷ (5,
-            Rows.whole (Declared'.row OpaqueRelayRuntime.the-type)) ∷ (6, Rows.whole (Declared'.row Places.the-type),) ∷ (7, Rows.sc-here (Row.sInt
-            Syntax.w64)) ∷ (8, Rows.sc-here (Row.sInt Syntax.w64),) ∷ (9, Rows.sc-here Row.sBool) ∷ (10, Rows.whole (Declared'.row
-            OpaqueRelayConfig.the-type),) ∷ (11, Rows.any-gone Laws'''.mir,) ∷ (12, Rows.any-gone Syntax.tyBool) ∷ (13, Rows.any-gone Laws.mir,) ∷
-            (14, Rows.any-gone ref0,) ∷ (15, Rows.sslice InflightAction.row ref0 4,) ∷ List.[]
+        g5 = e0 ∷ e1 ∷ e2 ∷ l3 ∷ e4 ∷ e5 ∷ e6 ∷ e7 ∷ e8 ∷ e9 ∷ e10·1 ∷ e11 ∷ e12 ∷ e13 ∷ e14 ∷ e15·1 ∷ List.[]
+
         abbrev g6 : List.List Row.Entry
-        g6 = (0, Rows.any-gone Laws'''''.mir,) ∷ (1, Mut.mslice RelayPending.row ref5 0,) ∷ (2, Mut.mslice RelayCircuit.row ref6 1,) ∷ (3,
-            Reshare.mslice-owedS InflightAction.row ref7 2 4 life0,) ∷ (4, Mut.mslice (Referent.rtF (Referent.fInt Syntax.w32)) ref8 3,) ∷ (5,
-            Rows.whole (Declared'.row OpaqueRelayRuntime.the-type)) ∷ (6, Rows.whole (Declared'.row Places.the-type),) ∷ (7, Rows.sc-here (Row.sInt
-            Syntax.w64)) ∷ (8, Rows.sc-here (Row.sInt Syntax.w64),) ∷ (9, Rows.sc-here Row.sBool) ∷ (10, Rows.whole (Declared'.row
-            OpaqueRelayConfig.the-type),) ∷ (11, Rows.whole (Declared'.row ActionFound.the-type)) ∷ (12, Rows.any-gone Syntax.tyBool,) ∷ (13,
-            Rows.any-gone Laws.mir,) ∷ (14, Rows.any-gone ref0,) ∷ (15, Rows.sslice InflightAction.row ref0 4,) ∷ List.[]
+        g6 = e0 ∷ e1 ∷ e2 ∷ l3 ∷ e4 ∷ e5 ∷ e6 ∷ e7 ∷ e8 ∷ e9 ∷ e10·1 ∷ e11·1 ∷ e12 ∷ e13 ∷ e14 ∷ e15·1 ∷ List.[]
+
         abbrev g7 : List.List Row.Entry
-        g7 = (0, Rows.any-gone Laws'''''.mir,) ∷ (1, Mut.mslice RelayPending.row ref5 0,) ∷ (2, Mut.mslice RelayCircuit.row ref6 1,) ∷ (3,
-            Reshare.mslice-owedS InflightAction.row ref7 2 4 life0,) ∷ (4, Mut.mslice (Referent.rtF (Referent.fInt Syntax.w32)) ref8 3,) ∷ (5,
-            Rows.whole (Declared'.row OpaqueRelayRuntime.the-type)) ∷ (6, Rows.whole (Declared'.row Places.the-type),) ∷ (7, Rows.sc-here (Row.sInt
-            Syntax.w64)) ∷ (8, Rows.sc-here (Row.sInt Syntax.w64),) ∷ (9, Rows.sc-here Row.sBool) ∷ (10, Rows.whole (Declared'.row
-            OpaqueRelayConfig.the-type),) ∷ (11, Rows.whole (Declared'.row ActionFound.the-type)) ∷ (12, Rows.any-gone Syntax.tyBool,) ∷ (13,
-            Rows.any-gone Laws.mir,) ∷ (14, Rows.any-gone ref0,) ∷ (15, Rows.any-gone (Syntax.tyStruct (38 ∷ 91 ∷ 93 ∷ List.[]) (Syntax.tcons ref0
-            (Syntax.tcons (Syntax.tyInt Syntax.w64) Syntax.tnil))),) ∷ List.[]
+        g7 = e0 ∷ e1 ∷ e2 ∷ l3 ∷ e4 ∷ e5 ∷ e6 ∷ e7 ∷ e8 ∷ e9 ∷ e10·1 ∷ e11·1 ∷ e12 ∷ e13 ∷ e14 ∷ e15 ∷ List.[]
+
         abbrev g19 : List.List Row.Entry
-        g19 = (0, Rows.any-gone Laws'''''.mir,) ∷ (1, Relend.mslice-owed RelayPending.row ref5 0 5 life1,) ∷ (2, Mut.mslice RelayCircuit.row ref6 1,)
-            ∷ (3, Mut.mslice InflightAction.row ref7 2,) ∷ (4, Mut.mslice (Referent.rtF (Referent.fInt Syntax.w32)) ref8 3,) ∷ (5, Rows.whole
-            (Declared'.row OpaqueRelayRuntime.the-type)) ∷ (6, Rows.whole (Declared'.row Places.the-type),) ∷ (7, Rows.sc-here (Row.sInt Syntax.w64))
-            ∷ (8, Rows.sc-here (Row.sInt Syntax.w64),) ∷ (9, Rows.sc-here Row.sBool) ∷ (10, Rows.any-gone Laws'.mir,) ∷ (11, Rows.whole (Declared'.row
-            ActionFound.the-type)) ∷ (12, Rows.sc-here Row.sBool,) ∷ (13, Rows.any-gone Laws.mir,) ∷ (14, Rows.any-gone ref0,) ∷ (15, Rows.any-gone
-            (Syntax.tyStruct (38 ∷ 91 ∷ 93 ∷ List.[]) (Syntax.tcons ref0 (Syntax.tcons (Syntax.tyInt Syntax.w64) Syntax.tnil))),) ∷ List.[]
+        g19 = e0 ∷ l1 ∷ e2 ∷ e3 ∷ e4 ∷ e5 ∷ e6 ∷ e7 ∷ e8 ∷ e9 ∷ e10 ∷ e11·1 ∷ e12·1 ∷ e13 ∷ e14 ∷ e15 ∷ List.[]
+
         abbrev g22 : List.List Row.Entry
-        g22 = (0, Rows.any-gone Laws'''''.mir,) ∷ (1, Relend.mslice-owed RelayPending.row ref5 0 5 life1,) ∷ (2, Relend.mslice-owed RelayCircuit.row
-            ref6 1 6 life2,) ∷ (3, Mut.mslice InflightAction.row ref7 2,) ∷ (4, Mut.mslice (Referent.rtF (Referent.fInt Syntax.w32)) ref8 3,) ∷ (5,
-            Rows.whole (Declared'.row OpaqueRelayRuntime.the-type)) ∷ (6, Rows.whole (Declared'.row Places.the-type),) ∷ (7, Rows.sc-here (Row.sInt
-            Syntax.w64)) ∷ (8, Rows.sc-here (Row.sInt Syntax.w64),) ∷ (9, Rows.sc-here Row.sBool) ∷ (10, Rows.any-gone Laws'.mir,) ∷ (11, Rows.whole
-            (Declared'.row ActionFound.the-type)) ∷ (12, Rows.sc-here Row.sBool,) ∷ (13, Rows.any-gone Laws.mir,) ∷ (14, Rows.any-gone ref0,) ∷ (15,
-            Rows.any-gone (Syntax.tyStruct (38 ∷ 91 ∷ 93 ∷ List.[]) (Syntax.tcons ref0 (Syntax.tcons (Syntax.tyInt Syntax.w64) Syntax.tnil))),) ∷
-            List.[]
+        g22 = e0 ∷ l1 ∷ l2 ∷ e3 ∷ e4 ∷ e5 ∷ e6 ∷ e7 ∷ e8 ∷ e9 ∷ e10 ∷ e11·1 ∷ e12·1 ∷ e13 ∷ e14 ∷ e15 ∷ List.[]
+
         abbrev g25 : List.List Row.Entry
-        g25 = (0, Rows.any-gone Laws'''''.mir,) ∷ (1, Relend.mslice-owed RelayPending.row ref5 0 5 life1,) ∷ (2, Relend.mslice-owed RelayCircuit.row
-            ref6 1 6 life2,) ∷ (3, Relend.mslice-owed InflightAction.row ref7 2 7 life0,) ∷ (4, Mut.mslice (Referent.rtF (Referent.fInt Syntax.w32))
-            ref8 3,) ∷ (5, Rows.whole (Declared'.row OpaqueRelayRuntime.the-type)) ∷ (6, Rows.whole (Declared'.row Places.the-type),) ∷ (7,
-            Rows.sc-here (Row.sInt Syntax.w64)) ∷ (8, Rows.sc-here (Row.sInt Syntax.w64),) ∷ (9, Rows.sc-here Row.sBool) ∷ (10, Rows.any-gone
-            Laws'.mir,) ∷ (11, Rows.whole (Declared'.row ActionFound.the-type)) ∷ (12, Rows.sc-here Row.sBool,) ∷ (13, Rows.any-gone Laws.mir,) ∷ (14,
-            Rows.any-gone ref0,) ∷ (15, Rows.any-gone (Syntax.tyStruct (38 ∷ 91 ∷ 93 ∷ List.[]) (Syntax.tcons ref0 (Syntax.tcons (Syntax.tyInt
-            Syntax.w64) Syntax.tnil))),) ∷ List.[]
+        g25 = e0 ∷ l1 ∷ l2 ∷ l3·1 ∷ e4 ∷ e5 ∷ e6 ∷ e7 ∷ e8 ∷ e9 ∷ e10 ∷ e11·1 ∷ e12·1 ∷ e13 ∷ e14 ∷ e15 ∷ List.[]
+
         abbrev g28 : List.List Row.Entry
-        g28 = (0, Rows.any-gone Laws'''''.mir,) ∷ (1, Relend.mslice-owed RelayPending.row ref5 0 5 life1,) ∷ (2, Relend.mslice-owed RelayCircuit.row
-            ref6 1 6 life2,) ∷ (3, Relend.mslice-owed InflightAction.row ref7 2 7 life0,) ∷ (4, Relend.mslice-owed (Referent.rtF (Referent.fInt
-            Syntax.w32)) ref8 3 8 life3,) ∷ (5, Rows.whole (Declared'.row OpaqueRelayRuntime.the-type)) ∷ (6, Rows.whole (Declared'.row
-            Places.the-type),) ∷ (7, Rows.sc-here (Row.sInt Syntax.w64)) ∷ (8, Rows.sc-here (Row.sInt Syntax.w64),) ∷ (9, Rows.sc-here Row.sBool) ∷
-            (10, Rows.any-gone Laws'.mir,) ∷ (11, Rows.whole (Declared'.row ActionFound.the-type)) ∷ (12, Rows.sc-here Row.sBool,) ∷ (13,
-            Rows.any-gone Laws.mir,) ∷ (14, Rows.any-gone ref0,) ∷ (15, Rows.any-gone (Syntax.tyStruct (38 ∷ 91 ∷ 93 ∷ List.[]) (Syntax.tcons ref0
-            (Syntax.tcons (Syntax.tyInt Syntax.w64) Syntax.tnil))),) ∷ List.[]
+        g28 = e0 ∷ l1 ∷ l2 ∷ l3·1 ∷ l4 ∷ e5 ∷ e6 ∷ e7 ∷ e8 ∷ e9 ∷ e10 ∷ e11·1 ∷ e12·1 ∷ e13 ∷ e14 ∷ e15 ∷ List.[]
+
         abbrev g31 : List.List Row.Entry
-        g31 = (0, Rows.whole (Declared'.row Relayed.the-type)) ∷ (1, Relend.mslice-owed RelayPending.row ref5 0 5 life1,) ∷ (2, Relend.mslice-owed
-            RelayCircuit.row ref6 1 6 life2,) ∷ (3, Relend.mslice-owed InflightAction.row ref7 2 7 life0,) ∷ (4, Relend.mslice-owed (Referent.rtF
-            (Referent.fInt Syntax.w32)) ref8 3 8 life3,) ∷ (5, Rows.whole (Declared'.row OpaqueRelayRuntime.the-type)) ∷ (6, Rows.whole (Declared'.row
-            Places.the-type),) ∷ (7, Rows.sc-here (Row.sInt Syntax.w64)) ∷ (8, Rows.sc-here (Row.sInt Syntax.w64),) ∷ (9, Rows.sc-here Row.sBool) ∷
-            (10, Rows.any-gone Laws'.mir,) ∷ (11, Rows.whole (Declared'.row ActionFound.the-type)) ∷ (12, Rows.sc-here Row.sBool,) ∷ (13,
-            Rows.any-gone Laws.mir,) ∷ (14, Rows.any-gone ref0,) ∷ (15, Rows.any-gone (Syntax.tyStruct (38 ∷ 91 ∷ 93 ∷ List.[]) (Syntax.tcons ref0
-            (Syntax.tcons (Syntax.tyInt Syntax.w64) Syntax.tnil))),) ∷ List.[]
+        g31 = e0·1 ∷ l1 ∷ l2 ∷ l3·1 ∷ l4 ∷ e5 ∷ e6 ∷ e7 ∷ e8 ∷ e9 ∷ e10 ∷ e11·1 ∷ e12·1 ∷ e13 ∷ e14 ∷ e15 ∷ List.[]
+
         abbrev g33 : List.List Row.Entry
-        g33 = (0, Rows.whole (Declared'.row Relayed.the-type)) ∷ (1, Relend.mslice-owed RelayPending.row ref5 0 5 life1,) ∷ (2, Relend.mslice-owed
-            RelayCircuit.row ref6 1 6 life2,) ∷ (3, Relend.mslice-owed InflightAction.row ref7 2 7 life0,) ∷ (4, Relend.mslice-owed (Referent.rtF
-            (Referent.fInt Syntax.w32)) ref8 3 8 life3,) ∷ (5, Rows.any-gone Laws''''.mir,) ∷ (6, Rows.whole (Declared'.row Places.the-type)) ∷ (7,
-            Rows.sc-here (Row.sInt Syntax.w64),) ∷ (8, Rows.sc-here (Row.sInt Syntax.w64)) ∷ (9, Rows.sc-here Row.sBool,) ∷ (10, Rows.any-gone
-            Laws'.mir,) ∷ (11, Rows.whole (Declared'.row ActionFound.the-type)) ∷ (12, Rows.sc-here Row.sBool,) ∷ (13, Rows.any-gone Laws.mir,) ∷ (14,
-            Rows.any-gone ref0,) ∷ (15, Rows.any-gone (Syntax.tyStruct (38 ∷ 91 ∷ 93 ∷ List.[]) (Syntax.tcons ref0 (Syntax.tcons (Syntax.tyInt
-            Syntax.w64) Syntax.tnil))),) ∷ List.[]
+        g33 = e0·1 ∷ l1 ∷ l2 ∷ l3·1 ∷ l4 ∷ e5·1 ∷ e6 ∷ e7 ∷ e8 ∷ e9 ∷ e10 ∷ e11·1 ∷ e12·1 ∷ e13 ∷ e14 ∷ e15 ∷ List.[]
+
         abbrev g34 : List.List Row.Entry
-        g34 = (0, Rows.whole (Declared'.row Relayed.the-type)) ∷ (1, Relend.mslice-owed RelayPending.row ref5 0 5 life1,) ∷ (2, Relend.mslice-owed
-            RelayCircuit.row ref6 1 6 life2,) ∷ (3, Relend.mslice-owed InflightAction.row ref7 2 7 life0,) ∷ (4, Relend.mslice-owed (Referent.rtF
-            (Referent.fInt Syntax.w32)) ref8 3 8 life3,) ∷ (5, Rows.any-gone Laws''''.mir,) ∷ (6, Rows.any-gone Laws''.mir,) ∷ (7, Rows.sc-here
-            (Row.sInt Syntax.w64)) ∷ (8, Rows.sc-here (Row.sInt Syntax.w64),) ∷ (9, Rows.sc-here Row.sBool) ∷ (10, Rows.any-gone Laws'.mir,) ∷ (11,
-            Rows.whole (Declared'.row ActionFound.the-type)) ∷ (12, Rows.sc-here Row.sBool,) ∷ (13, Rows.any-gone Laws.mir,) ∷ (14, Rows.any-gone
-            ref0,) ∷ (15, Rows.any-gone (Syntax.tyStruct (38 ∷ 91 ∷ 93 ∷ List.[]) (Syntax.tcons ref0 (Syntax.tcons (Syntax.tyInt Syntax.w64)
-            Syntax.tnil))),) ∷ List.[]
+        g34 = e0·1 ∷ l1 ∷ l2 ∷ l3·1 ∷ l4 ∷ e5·1 ∷ e6·1 ∷ e7 ∷ e8 ∷ e9 ∷ e10 ∷ e11·1 ∷ e12·1 ∷ e13 ∷ e14 ∷ e15 ∷ List.[]
+
         abbrev g35 : List.List Row.Entry
-        g35 = (0, Rows.whole (Declared'.row Relayed.the-type)) ∷ (1, Relend.mslice-owed RelayPending.row ref5 0 5 life1,) ∷ (2, Relend.mslice-owed
-            RelayCircuit.row ref6 1 6 life2,) ∷ (3, Relend.mslice-owed InflightAction.row ref7 2 7 life0,) ∷ (4, Relend.mslice-owed (Referent.rtF
-            (Referent.fInt Syntax.w32)) ref8 3 8 life3,) ∷ (5, Rows.any-gone Laws''''.mir,) ∷ (6, Rows.any-gone Laws''.mir,) ∷ (7, Rows.sc-here
-            (Row.sInt Syntax.w64)) ∷ (8, Rows.sc-here (Row.sInt Syntax.w64),) ∷ (9, Rows.sc-here Row.sBool) ∷ (10, Rows.any-gone Laws'.mir,) ∷ (11,
-            Rows.any-gone Laws'''.mir,) ∷ (12, Rows.sc-here Row.sBool) ∷ (13, Rows.any-gone Laws.mir,) ∷ (14, Rows.any-gone ref0,) ∷ (15,
-            Rows.any-gone (Syntax.tyStruct (38 ∷ 91 ∷ 93 ∷ List.[]) (Syntax.tcons ref0 (Syntax.tcons (Syntax.tyInt Syntax.w64) Syntax.tnil))),) ∷
-            List.[]
+        g35 = e0·1 ∷ l1 ∷ l2 ∷ l3·1 ∷ l4 ∷ e5·1 ∷ e6·1 ∷ e7 ∷ e8 ∷ e9 ∷ e10 ∷ e11 ∷ e12·1 ∷ e13 ∷ e14 ∷ e15 ∷ List.[]
+
         abbrev g36 : List.List Row.Entry
-        g36 = (0, Rows.whole (Declared'.row Relayed.the-type)) ∷ (1, Mut.mslice RelayPending.row ref5 0,) ∷ (2, Relend.mslice-owed RelayCircuit.row
-            ref6 1 6 life2,) ∷ (3, Relend.mslice-owed InflightAction.row ref7 2 7 life0,) ∷ (4, Relend.mslice-owed (Referent.rtF (Referent.fInt
-            Syntax.w32)) ref8 3 8 life3,) ∷ (5, Rows.any-gone Laws''''.mir,) ∷ (6, Rows.any-gone Laws''.mir,) ∷ (7, Rows.sc-here (Row.sInt
-            Syntax.w64)) ∷ (8, Rows.sc-here (Row.sInt Syntax.w64),) ∷ (9, Rows.sc-here Row.sBool) ∷ (10, Rows.any-gone Laws'.mir,) ∷ (11,
-            Rows.any-gone Laws'''.mir,) ∷ (12, Rows.sc-here Row.sBool) ∷ (13, Rows.any-gone Laws.mir,) ∷ (14, Rows.any-gone ref0,) ∷ (15,
-            Rows.any-gone (Syntax.tyStruct (38 ∷ 91 ∷ 93 ∷ List.[]) (Syntax.tcons ref0 (Syntax.tcons (Syntax.tyInt Syntax.w64) Syntax.tnil))),) ∷
-            List.[]
+        g36 = e0·1 ∷ e1 ∷ l2 ∷ l3·1 ∷ l4 ∷ e5·1 ∷ e6·1 ∷ e7 ∷ e8 ∷ e9 ∷ e10 ∷ e11 ∷ e12·1 ∷ e13 ∷ e14 ∷ e15 ∷ List.[]
+
         abbrev g38 : List.List Row.Entry
-        g38 = (0, Rows.whole (Declared'.row Relayed.the-type)) ∷ (1, Mut.mslice RelayPending.row ref5 0,) ∷ (2, Mut.mslice RelayCircuit.row ref6 1,) ∷
-            (3, Relend.mslice-owed InflightAction.row ref7 2 7 life0,) ∷ (4, Relend.mslice-owed (Referent.rtF (Referent.fInt Syntax.w32)) ref8 3 8
-            life3,) ∷ (5, Rows.any-gone Laws''''.mir,) ∷ (6, Rows.any-gone Laws''.mir,) ∷ (7, Rows.sc-here (Row.sInt Syntax.w64)) ∷ (8, Rows.sc-here
-            (Row.sInt Syntax.w64),) ∷ (9, Rows.sc-here Row.sBool) ∷ (10, Rows.any-gone Laws'.mir,) ∷ (11, Rows.any-gone Laws'''.mir,) ∷ (12,
-            Rows.sc-here Row.sBool) ∷ (13, Rows.any-gone Laws.mir,) ∷ (14, Rows.any-gone ref0,) ∷ (15, Rows.any-gone (Syntax.tyStruct (38 ∷ 91 ∷ 93 ∷
-            List.[]) (Syntax.tcons ref0 (Syntax.tcons (Syntax.tyInt Syntax.w64) Syntax.tnil))),) ∷ List.[]
+        g38 = e0·1 ∷ e1 ∷ e2 ∷ l3·1 ∷ l4 ∷ e5·1 ∷ e6·1 ∷ e7 ∷ e8 ∷ e9 ∷ e10 ∷ e11 ∷ e12·1 ∷ e13 ∷ e14 ∷ e15 ∷ List.[]
+
         abbrev g40 : List.List Row.Entry
-        g40 = (0, Rows.whole (Declared'.row Relayed.the-type)) ∷ (1, Mut.mslice RelayPending.row ref5 0,) ∷ (2, Mut.mslice RelayCircuit.row ref6 1,) ∷
-            (3, Mut.mslice InflightAction.row ref7 2,) ∷ (4, Relend.mslice-owed (Referent.rtF (Referent.fInt Syntax.w32)) ref8 3 8 life3,) ∷ (5,
-            Rows.any-gone Laws''''.mir,) ∷ (6, Rows.any-gone Laws''.mir,) ∷ (7, Rows.sc-here (Row.sInt Syntax.w64)) ∷ (8, Rows.sc-here (Row.sInt
-            Syntax.w64),) ∷ (9, Rows.sc-here Row.sBool) ∷ (10, Rows.any-gone Laws'.mir,) ∷ (11, Rows.any-gone Laws'''.mir,) ∷ (12, Rows.sc-here
-            Row.sBool) ∷ (13, Rows.any-gone Laws.mir,) ∷ (14, Rows.any-gone ref0,) ∷ (15, Rows.any-gone (Syntax.tyStruct (38 ∷ 91 ∷ 93 ∷ List.[])
-            (Syntax.tcons ref0 (Syntax.tcons (Syntax.tyInt Syntax.w64) Syntax.tnil))),) ∷ List.[]
+        g40 = e0·1 ∷ e1 ∷ e2 ∷ e3 ∷ l4 ∷ e5·1 ∷ e6·1 ∷ e7 ∷ e8 ∷ e9 ∷ e10 ∷ e11 ∷ e12·1 ∷ e13 ∷ e14 ∷ e15 ∷ List.[]
+
         abbrev G0 : Row.Cx
-        G0 = record { locals = List._++_ t0 t1; slots = life1 ∷ life2 ∷ life0 ∷ life3 ∷ Row.off ∷ Row.off ∷ Row.off ∷ Row.off ∷ Row.off ∷ List.[]; }
+        G0 = record {
+          locals = List._++_ t0 t1;
+          slots = life1 ∷ life2 ∷ life0 ∷ life3 ∷ Row.off ∷ Row.off ∷ Row.off ∷ Row.off ∷ Row.off ∷ List.[];
+        }
+
         abbrev G1 : Row.Cx
-        G1 = record { locals = List._++_ t2 t1; slots = life1 ∷ life2 ∷ life0 ∷ life3 ∷ Row.off ∷ Row.off ∷ Row.off ∷ Row.off ∷ Row.off ∷ List.[]; }
+        G1 = record {
+          locals = List._++_ t2 t1;
+          slots = life1 ∷ life2 ∷ life0 ∷ life3 ∷ Row.off ∷ Row.off ∷ Row.off ∷ Row.off ∷ Row.off ∷ List.[];
+        }
+
         abbrev G2 : Row.Cx
-        G2 = record { locals = List._++_ t0 t1; slots = life1 ∷ life2 ∷ life0 ∷ life3 ∷ Row.off ∷ Row.off ∷ Row.off ∷ Row.off ∷ Row.off ∷ List.[]; }
+        G2 = record {
+          locals = List._++_ t0 t1;
+          slots = life1 ∷ life2 ∷ life0 ∷ life3 ∷ Row.off ∷ Row.off ∷ Row.off ∷ Row.off ∷ Row.off ∷ List.[];
+        }
+
         abbrev G3 : Row.Cx
-        G3 = record { locals = List._++_ t3 t1; slots = life1 ∷ life2 ∷ life0 ∷ life3 ∷ Row.off ∷ Row.off ∷ Row.off ∷ Row.off ∷ Row.off ∷ List.[]; }
+        G3 = record {
+          locals = List._++_ t3 t1;
+          slots = life1 ∷ life2 ∷ life0 ∷ life3 ∷ Row.off ∷ Row.off ∷ Row.off ∷ Row.off ∷ Row.off ∷ List.[];
+        }
+
         abbrev G4 : Row.Cx
-        G4 = record { locals = List._++_ t3 t1; slots = life1 ∷ life2 ∷ life0 ∷ life3 ∷ Row.alive ∷ Row.off ∷ Row.off ∷ Row.off ∷ Row.off ∷ List.[]; }
+        G4 = record {
+          locals = List._++_ t3 t1;
+          slots = life1 ∷ life2 ∷ life0 ∷ life3 ∷ Row.alive ∷ Row.off ∷ Row.off ∷ Row.off ∷ Row.off ∷ List.[];
+        }
+
         abbrev G5 : Row.Cx
-        G5 = record { locals = List._++_ g4 t1; slots = life1 ∷ life2 ∷ Row.off ∷ life3 ∷ Row.alive ∷ Row.off ∷ Row.off ∷ Row.off ∷ Row.off ∷ List.[];
-            }
+        G5 = record {
+          locals = List._++_ g4 t1;
+          slots = life1 ∷ life2 ∷ Row.off ∷ life3 ∷ Row.alive ∷ Row.off ∷ Row.off ∷ Row.off ∷ Row.off ∷ List.[];
+        }
+
         abbrev G6 : Row.Cx
-        G6 = record { locals = List._++_ g5 t1; slots = life1 ∷ life2 ∷ Row.off ∷ life3 ∷ Row.alive ∷ Row.off ∷ Row.off ∷ Row.off ∷ Row.off ∷ List.[];
-            }
+        G6 = record {
+          locals = List._++_ g5 t1;
+          slots = life1 ∷ life2 ∷ Row.off ∷ life3 ∷ Row.alive ∷ Row.off ∷ Row.off ∷ Row.off ∷ Row.off ∷ List.[];
+        }
+
         abbrev G7 : Row.Cx
-        G7 = record { locals = List._++_ g6 t1; slots = life1 ∷ life2 ∷ Row.off ∷ life3 ∷ Row.alive ∷ Row.off ∷ Row.off ∷ Row.off ∷ Row.off ∷ List.[];
-            }
+        G7 = record {
+          locals = List._++_ g6 t1;
+          slots = life1 ∷ life2 ∷ Row.off ∷ life3 ∷ Row.alive ∷ Row.off ∷ Row.off ∷ Row.off ∷ Row.off ∷ List.[];
+        }
+
         abbrev G8 : Row.Cx
-        G8 = record { locals = List._++_ g7 t1; slots = life1 ∷ life2 ∷ Row.off ∷ life3 ∷ Row.alive ∷ Row.off ∷ Row.off ∷ Row.off ∷ Row.off ∷ List.[];
-            }
+        G8 = record {
+          locals = List._++_ g7 t1;
+          slots = life1 ∷ life2 ∷ Row.off ∷ life3 ∷ Row.alive ∷ Row.off ∷ Row.off ∷ Row.off ∷ Row.off ∷ List.[];
+        }
+
         abbrev G9 : Row.Cx
-        G9 = record { locals = List._++_ g7 t1; slots = life1 ∷ life2 ∷ Row.off ∷ life3 ∷ Row.dead ∷ Row.off ∷ Row.off ∷ Row.off ∷ Row.off ∷ List.[];
-            }
+        G9 = record {
+          locals = List._++_ g7 t1;
+          slots = life1 ∷ life2 ∷ Row.off ∷ life3 ∷ Row.dead ∷ Row.off ∷ Row.off ∷ Row.off ∷ Row.off ∷ List.[];
+        }
+
         abbrev G10 : Row.Cx
-        G10 = record { locals = List._++_ t8 t1; slots = life1 ∷ life2 ∷ life0 ∷ life3 ∷ Row.dead ∷ Row.off ∷ Row.off ∷ Row.off ∷ Row.off ∷ List.[]; }
+        G10 = record {
+          locals = List._++_ t8 t1;
+          slots = life1 ∷ life2 ∷ life0 ∷ life3 ∷ Row.dead ∷ Row.off ∷ Row.off ∷ Row.off ∷ Row.off ∷ List.[];
+        }
+
         abbrev G11 : Row.Cx
-        G11 = record { locals = List._++_ t8 t1; slots = life1 ∷ life2 ∷ life0 ∷ life3 ∷ Row.off ∷ Row.off ∷ Row.off ∷ Row.off ∷ Row.off ∷ List.[]; }
+        G11 = record {
+          locals = List._++_ t8 t1;
+          slots = life1 ∷ life2 ∷ life0 ∷ life3 ∷ Row.off ∷ Row.off ∷ Row.off ∷ Row.off ∷ Row.off ∷ List.[];
+        }
+
         abbrev G12 : Row.Cx
-        G12 = record { locals = List._++_ t8 t9; slots = life1 ∷ life2 ∷ life0 ∷ life3 ∷ Row.off ∷ Row.off ∷ Row.off ∷ Row.off ∷ Row.off ∷ List.[]; }
+        G12 = record {
+          locals = List._++_ t8 t9;
+          slots = life1 ∷ life2 ∷ life0 ∷ life3 ∷ Row.off ∷ Row.off ∷ Row.off ∷ Row.off ∷ Row.off ∷ List.[];
+        }
+
         abbrev G13 : Row.Cx
-        G13 = record { locals = List._++_ t8 t10; slots = life1 ∷ life2 ∷ life0 ∷ life3 ∷ Row.off ∷ Row.off ∷ Row.off ∷ Row.off ∷ Row.off ∷ List.[]; }
+        G13 = record {
+          locals = List._++_ t8 t10;
+          slots = life1 ∷ life2 ∷ life0 ∷ life3 ∷ Row.off ∷ Row.off ∷ Row.off ∷ Row.off ∷ Row.off ∷ List.[];
+        }
+
         abbrev G14 : Row.Cx
-        G14 = record { locals = List._++_ t8 t11; slots = life1 ∷ life2 ∷ life0 ∷ life3 ∷ Row.off ∷ Row.off ∷ Row.off ∷ Row.off ∷ Row.off ∷ List.[]; }
+        G14 = record {
+          locals = List._++_ t8 t11;
+          slots = life1 ∷ life2 ∷ life0 ∷ life3 ∷ Row.off ∷ Row.off ∷ Row.off ∷ Row.off ∷ Row.off ∷ List.[];
+        }
+
         abbrev G15 : Row.Cx
-        G15 = record { locals = List._++_ t12 t11; slots = life1 ∷ life2 ∷ life0 ∷ life3 ∷ Row.off ∷ Row.off ∷ Row.off ∷ Row.off ∷ Row.off ∷ List.[];
-            }
+        G15 = record {
+          locals = List._++_ t12 t11;
+          slots = life1 ∷ life2 ∷ life0 ∷ life3 ∷ Row.off ∷ Row.off ∷ Row.off ∷ Row.off ∷ Row.off ∷ List.[];
+        }
+
         abbrev G16 : Row.Cx
-        G16 = record { locals = List._++_ t13 t11; slots = life1 ∷ life2 ∷ life0 ∷ life3 ∷ Row.off ∷ Row.off ∷ Row.off ∷ Row.off ∷ Row.off ∷ List.[];
-            }
+        G16 = record {
+          locals = List._++_ t13 t11;
+          slots = life1 ∷ life2 ∷ life0 ∷ life3 ∷ Row.off ∷ Row.off ∷ Row.off ∷ Row.off ∷ Row.off ∷ List.[];
+        }
+
         abbrev G17 : Row.Cx
-        G17 = record { locals = List._++_ t13 t14; slots = life1 ∷ life2 ∷ life0 ∷ life3 ∷ Row.off ∷ Row.off ∷ Row.off ∷ Row.off ∷ Row.off ∷ List.[];
-            }
+        G17 = record {
+          locals = List._++_ t13 t14;
+          slots = life1 ∷ life2 ∷ life0 ∷ life3 ∷ Row.off ∷ Row.off ∷ Row.off ∷ Row.off ∷ Row.off ∷ List.[];
+        }
+
         abbrev G18 : Row.Cx
-        G18 = record { locals = List._++_ t13 t15; slots = life1 ∷ life2 ∷ life0 ∷ life3 ∷ Row.off ∷ Row.off ∷ Row.off ∷ Row.off ∷ Row.off ∷ List.[];
-            }
+        G18 = record {
+          locals = List._++_ t13 t15;
+          slots = life1 ∷ life2 ∷ life0 ∷ life3 ∷ Row.off ∷ Row.off ∷ Row.off ∷ Row.off ∷ Row.off ∷ List.[];
+        }
+
         abbrev G19 : Row.Cx
-        G19 = record { locals = List._++_ t13 t1; slots = life1 ∷ life2 ∷ life0 ∷ life3 ∷ Row.off ∷ Row.off ∷ Row.off ∷ Row.off ∷ Row.off ∷ List.[]; }
+        G19 = record {
+          locals = List._++_ t13 t1;
+          slots = life1 ∷ life2 ∷ life0 ∷ life3 ∷ Row.off ∷ Row.off ∷ Row.off ∷ Row.off ∷ Row.off ∷ List.[];
+        }
+
         abbrev G20 : Row.Cx
-        G20 = record { locals = List._++_ t13 t9; slots = life1 ∷ life2 ∷ life0 ∷ life3 ∷ Row.off ∷ Row.off ∷ Row.off ∷ Row.off ∷ Row.off ∷ List.[]; }
+        G20 = record {
+          locals = List._++_ t13 t9;
+          slots = life1 ∷ life2 ∷ life0 ∷ life3 ∷ Row.off ∷ Row.off ∷ Row.off ∷ Row.off ∷ Row.off ∷ List.[];
+        }
+
         abbrev G21 : Row.Cx
-        G21 = record { locals = List._++_ t16 t9; slots = life1 ∷ life2 ∷ life0 ∷ life3 ∷ Row.off ∷ Row.off ∷ Row.off ∷ Row.off ∷ Row.off ∷ List.[]; }
+        G21 = record {
+          locals = List._++_ t16 t9;
+          slots = life1 ∷ life2 ∷ life0 ∷ life3 ∷ Row.off ∷ Row.off ∷ Row.off ∷ Row.off ∷ Row.off ∷ List.[];
+        }
+
         abbrev G22 : Row.Cx
-        G22 = record { locals = List._++_ t16 t1; slots = life1 ∷ life2 ∷ life0 ∷ life3 ∷ Row.off ∷ Row.off ∷ Row.off ∷ Row.off ∷ Row.off ∷ List.[]; }
+        G22 = record {
+          locals = List._++_ t16 t1;
+          slots = life1 ∷ life2 ∷ life0 ∷ life3 ∷ Row.off ∷ Row.off ∷ Row.off ∷ Row.off ∷ Row.off ∷ List.[];
+        }
+
         abbrev G23 : Row.Cx
-        G23 = record { locals = List._++_ t16 t17; slots = life1 ∷ life2 ∷ life0 ∷ life3 ∷ Row.off ∷ Row.off ∷ Row.off ∷ Row.off ∷ Row.off ∷ List.[];
-            }
+        G23 = record {
+          locals = List._++_ t16 t17;
+          slots = life1 ∷ life2 ∷ life0 ∷ life3 ∷ Row.off ∷ Row.off ∷ Row.off ∷ Row.off ∷ Row.off ∷ List.[];
+        }
+
         abbrev G24 : Row.Cx
-        G24 = record { locals = List._++_ t18 t1; slots = life1 ∷ life2 ∷ life0 ∷ life3 ∷ Row.off ∷ Row.off ∷ Row.off ∷ Row.off ∷ Row.off ∷ List.[]; }
+        G24 = record {
+          locals = List._++_ t18 t1;
+          slots = life1 ∷ life2 ∷ life0 ∷ life3 ∷ Row.off ∷ Row.off ∷ Row.off ∷ Row.off ∷ Row.off ∷ List.[];
+        }
+
         abbrev G25 : Row.Cx
-        G25 = record { locals = List._++_ t13 t17; slots = life1 ∷ life2 ∷ life0 ∷ life3 ∷ Row.off ∷ Row.off ∷ Row.off ∷ Row.off ∷ Row.off ∷ List.[];
-            }
+        G25 = record {
+          locals = List._++_ t13 t17;
+          slots = life1 ∷ life2 ∷ life0 ∷ life3 ∷ Row.off ∷ Row.off ∷ Row.off ∷ Row.off ∷ Row.off ∷ List.[];
+        }
+
         abbrev G26 : Row.Cx
-        G26 = record { locals = List._++_ t13 t1; slots = life1 ∷ life2 ∷ life0 ∷ life3 ∷ Row.off ∷ Row.off ∷ Row.off ∷ Row.off ∷ Row.off ∷ List.[]; }
+        G26 = record {
+          locals = List._++_ t13 t1;
+          slots = life1 ∷ life2 ∷ life0 ∷ life3 ∷ Row.off ∷ Row.off ∷ Row.off ∷ Row.off ∷ Row.off ∷ List.[];
+        }
+
         abbrev G27 : Row.Cx
-        G27 = record { locals = List._++_ t13 t1; slots = life1 ∷ life2 ∷ life0 ∷ life3 ∷ Row.off ∷ Row.alive ∷ Row.off ∷ Row.off ∷ Row.off ∷ List.[];
-            }
+        G27 = record {
+          locals = List._++_ t13 t1;
+          slots = life1 ∷ life2 ∷ life0 ∷ life3 ∷ Row.off ∷ Row.alive ∷ Row.off ∷ Row.off ∷ Row.off ∷ List.[];
+        }
+
         abbrev G28 : Row.Cx
-        G28 = record { locals = List._++_ g19 t20; slots = Row.off ∷ life2 ∷ life0 ∷ life3 ∷ Row.off ∷ Row.alive ∷ Row.off ∷ Row.off ∷ Row.off ∷
-            List.[]; }
+        G28 = record {
+          locals = List._++_ g19 t20;
+          slots = Row.off ∷ life2 ∷ life0 ∷ life3 ∷ Row.off ∷ Row.alive ∷ Row.off ∷ Row.off ∷ Row.off ∷ List.[];
+        }
+
         abbrev G29 : Row.Cx
-        G29 = record { locals = List._++_ g19 t21; slots = Row.off ∷ life2 ∷ life0 ∷ life3 ∷ Row.off ∷ Row.alive ∷ Row.off ∷ Row.off ∷ Row.off ∷
-            List.[]; }
+        G29 = record {
+          locals = List._++_ g19 t21;
+          slots = Row.off ∷ life2 ∷ life0 ∷ life3 ∷ Row.off ∷ Row.alive ∷ Row.off ∷ Row.off ∷ Row.off ∷ List.[];
+        }
+
         abbrev G30 : Row.Cx
-        G30 = record { locals = List._++_ g19 t21; slots = Row.off ∷ life2 ∷ life0 ∷ life3 ∷ Row.off ∷ Row.alive ∷ Row.alive ∷ Row.off ∷ Row.off ∷
-            List.[]; }
+        G30 = record {
+          locals = List._++_ g19 t21;
+          slots = Row.off ∷ life2 ∷ life0 ∷ life3 ∷ Row.off ∷ Row.alive ∷ Row.alive ∷ Row.off ∷ Row.off ∷ List.[];
+        }
+
         abbrev G31 : Row.Cx
-        G31 = record { locals = List._++_ g22 t23; slots = Row.off ∷ Row.off ∷ life0 ∷ life3 ∷ Row.off ∷ Row.alive ∷ Row.alive ∷ Row.off ∷ Row.off ∷
-            List.[]; }
+        G31 = record {
+          locals = List._++_ g22 t23;
+          slots = Row.off ∷ Row.off ∷ life0 ∷ life3 ∷ Row.off ∷ Row.alive ∷ Row.alive ∷ Row.off ∷ Row.off ∷ List.[];
+        }
+
         abbrev G32 : Row.Cx
-        G32 = record { locals = List._++_ g22 t24; slots = Row.off ∷ Row.off ∷ life0 ∷ life3 ∷ Row.off ∷ Row.alive ∷ Row.alive ∷ Row.off ∷ Row.off ∷
-            List.[]; }
+        G32 = record {
+          locals = List._++_ g22 t24;
+          slots = Row.off ∷ Row.off ∷ life0 ∷ life3 ∷ Row.off ∷ Row.alive ∷ Row.alive ∷ Row.off ∷ Row.off ∷ List.[];
+        }
+
         abbrev G33 : Row.Cx
-        G33 = record { locals = List._++_ g22 t24; slots = Row.off ∷ Row.off ∷ life0 ∷ life3 ∷ Row.off ∷ Row.alive ∷ Row.alive ∷ Row.alive ∷ Row.off ∷
-            List.[]; }
+        G33 = record {
+          locals = List._++_ g22 t24;
+          slots = Row.off ∷ Row.off ∷ life0 ∷ life3 ∷ Row.off ∷ Row.alive ∷ Row.alive ∷ Row.alive ∷ Row.off ∷ List.[];
+        }
+
         abbrev G34 : Row.Cx
-        G34 = record { locals = List._++_ g25 t26; slots = Row.off ∷ Row.off ∷ Row.off ∷ life3 ∷ Row.off ∷ Row.alive ∷ Row.alive ∷ Row.alive ∷ Row.off
-            ∷ List.[]; }
+        G34 = record {
+          locals = List._++_ g25 t26;
+          slots = Row.off ∷ Row.off ∷ Row.off ∷ life3 ∷ Row.off ∷ Row.alive ∷ Row.alive ∷ Row.alive ∷ Row.off ∷ List.[];
+        }
+
         abbrev G35 : Row.Cx
-        G35 = record { locals = List._++_ g25 t27; slots = Row.off ∷ Row.off ∷ Row.off ∷ life3 ∷ Row.off ∷ Row.alive ∷ Row.alive ∷ Row.alive ∷ Row.off
-            ∷ List.[]; }
+        G35 = record {
+          locals = List._++_ g25 t27;
+          slots = Row.off ∷ Row.off ∷ Row.off ∷ life3 ∷ Row.off ∷ Row.alive ∷ Row.alive ∷ Row.alive ∷ Row.off ∷ List.[];
+        }
+
         abbrev G36 : Row.Cx
-        G36 = record { locals = List._++_ g25 t27; slots = Row.off ∷ Row.off ∷ Row.off ∷ life3 ∷ Row.off ∷ Row.alive ∷ Row.alive ∷ Row.alive ∷
-            Row.alive ∷ List.[]; }
+        G36 = record {
+          locals = List._++_ g25 t27;
+          slots = Row.off ∷ Row.off ∷ Row.off ∷ life3 ∷ Row.off ∷ Row.alive ∷ Row.alive ∷ Row.alive ∷ Row.alive ∷
+              List.[];
+        }
+
         abbrev G37 : Row.Cx
-        G37 = record { locals = List._++_ g28 t29; slots = Row.off ∷ Row.off ∷ Row.off ∷ Row.off ∷ Row.off ∷ Row.alive ∷ Row.alive ∷ Row.alive ∷
-            Row.alive ∷ List.[]; }
+        G37 = record {
+          locals = List._++_ g28 t29;
+          slots = Row.off ∷ Row.off ∷ Row.off ∷ Row.off ∷ Row.off ∷ Row.alive ∷ Row.alive ∷ Row.alive ∷ Row.alive ∷
+              List.[];
+        }
+
         abbrev G38 : Row.Cx
-        G38 = record { locals = List._++_ g28 t30; slots = Row.off ∷ Row.off ∷ Row.off ∷ Row.off ∷ Row.off ∷ Row.alive ∷ Row.alive ∷ Row.alive ∷
-            Row.alive ∷ List.[]; }
+        G38 = record {
+          locals = List._++_ g28 t30;
+          slots = Row.off ∷ Row.off ∷ Row.off ∷ Row.off ∷ Row.off ∷ Row.alive ∷ Row.alive ∷ Row.alive ∷ Row.alive ∷
+              List.[];
+        }
+
         abbrev G39 : Row.Cx
-        G39 = record { locals = List._++_ g31 t32; slots = Row.off ∷ Row.off ∷ Row.off ∷ Row.off ∷ Row.off ∷ Row.alive ∷ Row.alive ∷ Row.alive ∷
-            Row.alive ∷ List.[]; }
+        G39 = record {
+          locals = List._++_ g31 t32;
+          slots = Row.off ∷ Row.off ∷ Row.off ∷ Row.off ∷ Row.off ∷ Row.alive ∷ Row.alive ∷ Row.alive ∷ Row.alive ∷
+              List.[];
+        }
+
         abbrev G40 : Row.Cx
-        G40 = record { locals = List._++_ g33 t32; slots = Row.off ∷ Row.off ∷ Row.off ∷ Row.off ∷ Row.off ∷ Row.alive ∷ Row.alive ∷ Row.alive ∷
-            Row.alive ∷ List.[]; }
+        G40 = record {
+          locals = List._++_ g33 t32;
+          slots = Row.off ∷ Row.off ∷ Row.off ∷ Row.off ∷ Row.off ∷ Row.alive ∷ Row.alive ∷ Row.alive ∷ Row.alive ∷
+              List.[];
+        }
+
         abbrev G41 : Row.Cx
-        G41 = record { locals = List._++_ g34 t32; slots = Row.off ∷ Row.off ∷ Row.off ∷ Row.off ∷ Row.off ∷ Row.alive ∷ Row.alive ∷ Row.alive ∷
-            Row.alive ∷ List.[]; }
+        G41 = record {
+          locals = List._++_ g34 t32;
+          slots = Row.off ∷ Row.off ∷ Row.off ∷ Row.off ∷ Row.off ∷ Row.alive ∷ Row.alive ∷ Row.alive ∷ Row.alive ∷
+              List.[];
+        }
+
         abbrev G42 : Row.Cx
-        G42 = record { locals = List._++_ g35 t32; slots = Row.off ∷ Row.off ∷ Row.off ∷ Row.off ∷ Row.off ∷ Row.alive ∷ Row.alive ∷ Row.alive ∷
-            Row.alive ∷ List.[]; }
+        G42 = record {
+          locals = List._++_ g35 t32;
+          slots = Row.off ∷ Row.off ∷ Row.off ∷ Row.off ∷ Row.off ∷ Row.alive ∷ Row.alive ∷ Row.alive ∷ Row.alive ∷
+              List.[];
+        }
+
         abbrev G43 : Row.Cx
-        G43 = record { locals = List._++_ g35 t32; slots = Row.off ∷ Row.off ∷ Row.off ∷ Row.off ∷ Row.off ∷ Row.dead ∷ Row.alive ∷ Row.alive ∷
-            Row.alive ∷ List.[]; }
+        G43 = record {
+          locals = List._++_ g35 t32;
+          slots = Row.off ∷ Row.off ∷ Row.off ∷ Row.off ∷ Row.off ∷ Row.dead ∷ Row.alive ∷ Row.alive ∷ Row.alive ∷
+              List.[];
+        }
+
         abbrev G44 : Row.Cx
-        G44 = record { locals = List._++_ g36 t37; slots = life1 ∷ Row.off ∷ Row.off ∷ Row.off ∷ Row.off ∷ Row.dead ∷ Row.alive ∷ Row.alive ∷
-            Row.alive ∷ List.[]; }
+        G44 = record {
+          locals = List._++_ g36 t37;
+          slots = life1 ∷ Row.off ∷ Row.off ∷ Row.off ∷ Row.off ∷ Row.dead ∷ Row.alive ∷ Row.alive ∷ Row.alive ∷
+              List.[];
+        }
+
         abbrev G45 : Row.Cx
-        G45 = record { locals = List._++_ g36 t37; slots = life1 ∷ Row.off ∷ Row.off ∷ Row.off ∷ Row.off ∷ Row.off ∷ Row.alive ∷ Row.alive ∷ Row.alive
-            ∷ List.[]; }
+        G45 = record {
+          locals = List._++_ g36 t37;
+          slots = life1 ∷ Row.off ∷ Row.off ∷ Row.off ∷ Row.off ∷ Row.off ∷ Row.alive ∷ Row.alive ∷ Row.alive ∷ List.[];
+        }
+
         abbrev G46 : Row.Cx
-        G46 = record { locals = List._++_ g36 t37; slots = life1 ∷ Row.off ∷ Row.off ∷ Row.off ∷ Row.off ∷ Row.off ∷ Row.dead ∷ Row.alive ∷ Row.alive
-            ∷ List.[]; }
+        G46 = record {
+          locals = List._++_ g36 t37;
+          slots = life1 ∷ Row.off ∷ Row.off ∷ Row.off ∷ Row.off ∷ Row.off ∷ Row.dead ∷ Row.alive ∷ Row.alive ∷ List.[];
+        }
+
         abbrev G47 : Row.Cx
-        G47 = record { locals = List._++_ g38 t39; slots = life1 ∷ life2 ∷ Row.off ∷ Row.off ∷ Row.off ∷ Row.off ∷ Row.dead ∷ Row.alive ∷ Row.alive ∷
-            List.[]; }
+        G47 = record {
+          locals = List._++_ g38 t39;
+          slots = life1 ∷ life2 ∷ Row.off ∷ Row.off ∷ Row.off ∷ Row.off ∷ Row.dead ∷ Row.alive ∷ Row.alive ∷ List.[];
+        }
+
         abbrev G48 : Row.Cx
-        G48 = record { locals = List._++_ g38 t39; slots = life1 ∷ life2 ∷ Row.off ∷ Row.off ∷ Row.off ∷ Row.off ∷ Row.off ∷ Row.alive ∷ Row.alive ∷
-            List.[]; }
+        G48 = record {
+          locals = List._++_ g38 t39;
+          slots = life1 ∷ life2 ∷ Row.off ∷ Row.off ∷ Row.off ∷ Row.off ∷ Row.off ∷ Row.alive ∷ Row.alive ∷ List.[];
+        }
+
         abbrev G49 : Row.Cx
-        G49 = record { locals = List._++_ g38 t39; slots = life1 ∷ life2 ∷ Row.off ∷ Row.off ∷ Row.off ∷ Row.off ∷ Row.off ∷ Row.dead ∷ Row.alive ∷
-            List.[]; }
+        G49 = record {
+          locals = List._++_ g38 t39;
+          slots = life1 ∷ life2 ∷ Row.off ∷ Row.off ∷ Row.off ∷ Row.off ∷ Row.off ∷ Row.dead ∷ Row.alive ∷ List.[];
+        }
+
         abbrev G50 : Row.Cx
-        G50 = record { locals = List._++_ g40 t41; slots = life1 ∷ life2 ∷ life0 ∷ Row.off ∷ Row.off ∷ Row.off ∷ Row.off ∷ Row.dead ∷ Row.alive ∷
-            List.[]; }
+        G50 = record {
+          locals = List._++_ g40 t41;
+          slots = life1 ∷ life2 ∷ life0 ∷ Row.off ∷ Row.off ∷ Row.off ∷ Row.off ∷ Row.dead ∷ Row.alive ∷ List.[];
+        }
+
         abbrev G51 : Row.Cx
-        G51 = record { locals = List._++_ g40 t41; slots = life1 ∷ life2 ∷ life0 ∷ Row.off ∷ Row.off ∷ Row.off ∷ Row.off ∷ Row.off ∷ Row.alive ∷
-            List.[]; }
+        G51 = record {
+          locals = List._++_ g40 t41;
+          slots = life1 ∷ life2 ∷ life0 ∷ Row.off ∷ Row.off ∷ Row.off ∷ Row.off ∷ Row.off ∷ Row.alive ∷ List.[];
+        }
+
         abbrev G52 : Row.Cx
-        G52 = record { locals = List._++_ g40 t41; slots = life1 ∷ life2 ∷ life0 ∷ Row.off ∷ Row.off ∷ Row.off ∷ Row.off ∷ Row.off ∷ Row.dead ∷
-            List.[]; }
+        G52 = record {
+          locals = List._++_ g40 t41;
+          slots = life1 ∷ life2 ∷ life0 ∷ Row.off ∷ Row.off ∷ Row.off ∷ Row.off ∷ Row.off ∷ Row.dead ∷ List.[];
+        }
+
         abbrev G53 : Row.Cx
-        G53 = record { locals = List._++_ t42 t1; slots = life1 ∷ life2 ∷ life0 ∷ life3 ∷ Row.off ∷ Row.off ∷ Row.off ∷ Row.off ∷ Row.dead ∷ List.[];
-            }
+        G53 = record {
+          locals = List._++_ t42 t1;
+          slots = life1 ∷ life2 ∷ life0 ∷ life3 ∷ Row.off ∷ Row.off ∷ Row.off ∷ Row.off ∷ Row.dead ∷ List.[];
+        }
+
         abbrev G54 : Row.Cx
-        G54 = record { locals = List._++_ t42 t1; slots = life1 ∷ life2 ∷ life0 ∷ life3 ∷ Row.off ∷ Row.off ∷ Row.off ∷ Row.off ∷ Row.dead ∷ List.[];
-            }
+        G54 = record {
+          locals = List._++_ t42 t1;
+          slots = life1 ∷ life2 ∷ life0 ∷ life3 ∷ Row.off ∷ Row.off ∷ Row.off ∷ Row.off ∷ Row.dead ∷ List.[];
+        }
+
         abbrev G55 : Row.Cx
-        G55 = record { locals = List._++_ t42 t1; slots = life1 ∷ life2 ∷ life0 ∷ life3 ∷ Row.off ∷ Row.off ∷ Row.off ∷ Row.off ∷ Row.off ∷ List.[]; }
+        G55 = record {
+          locals = List._++_ t42 t1;
+          slots = life1 ∷ life2 ∷ life0 ∷ life3 ∷ Row.off ∷ Row.off ∷ Row.off ∷ Row.off ∷ Row.off ∷ List.[];
+        }
+
         abbrev G56 : Row.Cx
-        G56 = record { locals = List._++_ t43 t1; slots = life1 ∷ life2 ∷ life0 ∷ life3 ∷ Row.off ∷ Row.off ∷ Row.off ∷ Row.off ∷ Row.off ∷ List.[]; }
+        G56 = record {
+          locals = List._++_ t43 t1;
+          slots = life1 ∷ life2 ∷ life0 ∷ life3 ∷ Row.off ∷ Row.off ∷ Row.off ∷ Row.off ∷ Row.off ∷ List.[];
+        }
+
         abbrev G57 : Row.Cx
-        G57 = record { locals = List._++_ t44 t1; slots = life1 ∷ life2 ∷ life0 ∷ life3 ∷ Row.off ∷ Row.off ∷ Row.off ∷ Row.off ∷ Row.off ∷ List.[]; }
+        G57 = record {
+          locals = List._++_ t44 t1;
+          slots = life1 ∷ life2 ∷ life0 ∷ life3 ∷ Row.off ∷ Row.off ∷ Row.off ∷ Row.off ∷ Row.off ∷ List.[];
+        }
+
         abbrev G58 : Row.Cx
-        G58 = record { locals = List._++_ t45 t1; slots = life1 ∷ life2 ∷ life0 ∷ life3 ∷ Row.off ∷ Row.off ∷ Row.off ∷ Row.off ∷ Row.off ∷ List.[]; }
+        G58 = record {
+          locals = List._++_ t45 t1;
+          slots = life1 ∷ life2 ∷ life0 ∷ life3 ∷ Row.off ∷ Row.off ∷ Row.off ∷ Row.off ∷ Row.off ∷ List.[];
+        }
+
         abbrev G59 : Row.Cx
-        G59 = record { locals = List._++_ t2 t1; slots = life1 ∷ life2 ∷ life0 ∷ life3 ∷ Row.off ∷ Row.off ∷ Row.off ∷ Row.off ∷ Row.off ∷ List.[]; }
+        G59 = record {
+          locals = List._++_ t2 t1;
+          slots = life1 ∷ life2 ∷ life0 ∷ life3 ∷ Row.off ∷ Row.off ∷ Row.off ∷ Row.off ∷ Row.off ∷ List.[];
+        }
+
         abbrev G60 : Row.Cx
-        G60 = record { locals = List._++_ t18 t17; slots = life1 ∷ life2 ∷ life0 ∷ life3 ∷ Row.off ∷ Row.off ∷ Row.off ∷ Row.off ∷ Row.off ∷ List.[];
-            }
+        G60 = record {
+          locals = List._++_ t18 t17;
+          slots = life1 ∷ life2 ∷ life0 ∷ life3 ∷ Row.off ∷ Row.off ∷ Row.off ∷ Row.off ∷ Row.off ∷ List.[];
+        }
+
         abbrev G61 : Row.Cx
-        G61 = record { locals = List._++_ t18 t1; slots = life1 ∷ life2 ∷ life0 ∷ life3 ∷ Row.off ∷ Row.off ∷ Row.off ∷ Row.off ∷ Row.off ∷ List.[]; }
+        G61 = record {
+          locals = List._++_ t18 t1;
+          slots = life1 ∷ life2 ∷ life0 ∷ life3 ∷ Row.off ∷ Row.off ∷ Row.off ∷ Row.off ∷ Row.off ∷ List.[];
+        }
+
         abbrev G62 : Row.Cx
-        G62 = record { locals = List._++_ t46 t1; slots = life1 ∷ life2 ∷ life0 ∷ life3 ∷ Row.off ∷ Row.off ∷ Row.off ∷ Row.off ∷ Row.off ∷ List.[]; }
+        G62 = record {
+          locals = List._++_ t46 t1;
+          slots = life1 ∷ life2 ∷ life0 ∷ life3 ∷ Row.off ∷ Row.off ∷ Row.off ∷ Row.off ∷ Row.off ∷ List.[];
+        }
+
         abbrev G63 : Row.Cx
-        G63 = record { locals = List._++_ t47 t1; slots = life1 ∷ life2 ∷ life0 ∷ life3 ∷ Row.off ∷ Row.off ∷ Row.off ∷ Row.off ∷ Row.off ∷ List.[]; }
+        G63 = record {
+          locals = List._++_ t47 t1;
+          slots = life1 ∷ life2 ∷ life0 ∷ life3 ∷ Row.off ∷ Row.off ∷ Row.off ∷ Row.off ∷ Row.off ∷ List.[];
+        }
+
         abbrev G64 : Row.Cx
-        G64 = record { locals = List._++_ t48 t1; slots = life1 ∷ life2 ∷ life0 ∷ life3 ∷ Row.off ∷ Row.off ∷ Row.off ∷ Row.off ∷ Row.off ∷ List.[]; }
+        G64 = record {
+          locals = List._++_ t48 t1;
+          slots = life1 ∷ life2 ∷ life0 ∷ life3 ∷ Row.off ∷ Row.off ∷ Row.off ∷ Row.off ∷ Row.off ∷ List.[];
+        }
+
         abbrev G65 : Row.Cx
-        G65 = record { locals = List._++_ t49 t1; slots = life1 ∷ life2 ∷ life0 ∷ life3 ∷ Row.off ∷ Row.off ∷ Row.off ∷ Row.off ∷ Row.off ∷ List.[]; }
+        G65 = record {
+          locals = List._++_ t49 t1;
+          slots = life1 ∷ life2 ∷ life0 ∷ life3 ∷ Row.off ∷ Row.off ∷ Row.off ∷ Row.off ∷ Row.off ∷ List.[];
+        }
+
         abbrev G66 : Row.Cx
-        G66 = record { locals = List._++_ t50 t1; slots = life1 ∷ life2 ∷ life0 ∷ life3 ∷ Row.off ∷ Row.off ∷ Row.off ∷ Row.off ∷ Row.off ∷ List.[]; }
+        G66 = record {
+          locals = List._++_ t50 t1;
+          slots = life1 ∷ life2 ∷ life0 ∷ life3 ∷ Row.off ∷ Row.off ∷ Row.off ∷ Row.off ∷ Row.off ∷ List.[];
+        }
+
         abbrev G67 : Row.Cx
-        G67 = record { locals = List._++_ t51 t1; slots = life1 ∷ life2 ∷ life0 ∷ life3 ∷ Row.off ∷ Row.off ∷ Row.off ∷ Row.off ∷ Row.off ∷ List.[]; }
+        G67 = record {
+          locals = List._++_ t51 t1;
+          slots = life1 ∷ life2 ∷ life0 ∷ life3 ∷ Row.off ∷ Row.off ∷ Row.off ∷ Row.off ∷ Row.off ∷ List.[];
+        }
+
         abbrev G68 : Row.Cx
-        G68 = record { locals = List._++_ t52 t1; slots = life1 ∷ life2 ∷ life0 ∷ life3 ∷ Row.off ∷ Row.off ∷ Row.off ∷ Row.off ∷ Row.off ∷ List.[]; }
+        G68 = record {
+          locals = List._++_ t52 t1;
+          slots = life1 ∷ life2 ∷ life0 ∷ life3 ∷ Row.off ∷ Row.off ∷ Row.off ∷ Row.off ∷ Row.off ∷ List.[];
+        }
+
         abbrev G69 : Row.Cx
-        G69 = record { locals = List._++_ t2 t1; slots = life1 ∷ life2 ∷ life0 ∷ life3 ∷ Row.off ∷ Row.off ∷ Row.off ∷ Row.off ∷ Row.off ∷ List.[]; }
+        G69 = record {
+          locals = List._++_ t2 t1;
+          slots = life1 ∷ life2 ∷ life0 ∷ life3 ∷ Row.off ∷ Row.off ∷ Row.off ∷ Row.off ∷ Row.off ∷ List.[];
+        }
+
         abbrev Δ0 : Typed.Outs
         Δ0 = record { next = Option.none; exits = List.[]; returns = Option.some G1 }
+
         abbrev Δ1 : Typed.Outs
         Δ1 = Typed.withNext (Option.some G24) Δ0
-        module _ { M : Type 1 } (𝓤 : URA.URA M) (H : Wp.Heap 𝓤) (A : Atoms.Atoms 𝓤) (W : Kit.Given 𝓤 H A) (𝓣 : Wp.Tables 𝓤 H) (known : Knowns 𝓤 H A W
-            𝓣) (bs : List.List Nat.ℕ) (bd : Lifetimes.AllOutlive 4 (Kinds.osR r) κs) where
+
+        module _ {M : Type 1} (𝓤 : URA.URA M) (H : Wp.Heap 𝓤) (A : Atoms.Atoms 𝓤) (W : Kit.Given 𝓤 H A)
+            (𝓣 : Wp.Tables 𝓤 H) (known : Knowns 𝓤 H A W 𝓣) (bs : List.List Nat.ℕ)
+            (bd : Lifetimes.AllOutlive 4 (Kinds.osR r) κs) where
           abbrev E : Wp.Env 𝓤 H
           E = Frame.EnvOf 𝓤 H ((Kinds.tyR r) ∷ (Enter.tysP ps xs)) bs
+
           d0 : Typed.Typed 𝓤 H A 𝓣 E G59 b20 Δ1 (at0 bs)
           d0 = Typed.t-return 𝓤 H A W 𝓣 E Δ1 tt
+
           d1 : Typed.Typed 𝓤 H A 𝓣 E G58 b20 Δ1 (at1 bs)
-          d1 = Typed.g-pre 𝓤 H A W 𝓣 E G58 G59 b20 Δ1 (Typed.pass T58 T59 (s56 bs)) (at0 bs) (Scalar.g-room 𝓤 H A W E G58 12 Syntax.tyBool
-              (Scalar.room-sc 𝓤 H A W Row.sBool)) d0
+          d1 = Typed.g-pre 𝓤 H A W 𝓣 E G58 G59 b20 Δ1 (Typed.pass T58 T59 (s56 bs)) (at0 bs) (Scalar.g-room 𝓤 H A W E
+              G58 12 Syntax.tyBool (Scalar.room-sc 𝓤 H A W Row.sBool)) d0
+
           d2 : Typed.Typed 𝓤 H A 𝓣 E G57 b20 Δ1 (at2 bs)
-          d2 = Typed.g-pre 𝓤 H A W 𝓣 E G57 G58 b20 Δ1 (Typed.pass T57 T58 (s55 bs)) (at1 bs) (Scalar.g-room 𝓤 H A W E G57 9 Syntax.tyBool
-              (Scalar.room-sc 𝓤 H A W Row.sBool)) d1
+          d2 = Typed.g-pre 𝓤 H A W 𝓣 E G57 G58 b20 Δ1 (Typed.pass T57 T58 (s55 bs)) (at1 bs) (Scalar.g-room 𝓤 H A W E
+              G57 9 Syntax.tyBool (Scalar.room-sc 𝓤 H A W Row.sBool)) d1
+
           d3 : Typed.Typed 𝓤 H A 𝓣 E G56 b20 Δ1 (at3 bs)
-          d3 = Typed.g-pre 𝓤 H A W 𝓣 E G56 G57 b20 Δ1 (Typed.pass T56 T57 (s54 bs)) (at2 bs) (Scalar.g-room 𝓤 H A W E G56 8 (Syntax.tyInt Syntax.w64)
-              (Scalar.room-sc 𝓤 H A W (Row.sInt Syntax.w64))) d2
+          d3 = Typed.g-pre 𝓤 H A W 𝓣 E G56 G57 b20 Δ1 (Typed.pass T56 T57 (s54 bs)) (at2 bs) (Scalar.g-room 𝓤 H A W E
+              G56 8 (Syntax.tyInt Syntax.w64) (Scalar.room-sc 𝓤 H A W (Row.sInt Syntax.w64))) d2
+
           d4 : Typed.Typed 𝓤 H A 𝓣 E G55 b20 Δ1 (at4 bs)
-          d4 = Typed.g-pre 𝓤 H A W 𝓣 E G55 G56 b20 Δ1 (Typed.pass T54 T56 (s53 bs)) (at3 bs) (Scalar.g-room 𝓤 H A W E G55 7 (Syntax.tyInt Syntax.w64)
-              (Scalar.room-sc 𝓤 H A W (Row.sInt Syntax.w64))) d3
+          d4 = Typed.g-pre 𝓤 H A W 𝓣 E G55 G56 b20 Δ1 (Typed.pass T54 T56 (s53 bs)) (at3 bs) (Scalar.g-room 𝓤 H A W E
+              G55 7 (Syntax.tyInt Syntax.w64) (Scalar.room-sc 𝓤 H A W (Row.sInt Syntax.w64))) d3
+
           d5 : Typed.Typed 𝓤 H A 𝓣 E G54 b20 Δ1 (at5 bs)
-          d5 = Typed.g-pre 𝓤 H A W 𝓣 E G54 G55 b20 Δ1 (λ Ψ. Ψ) (at4 bs) (Lifetime.g-forget 𝓤 H A W E G54 8 Row.dead Path.refl) d4
+          d5 = Typed.g-pre 𝓤 H A W 𝓣 E G54 G55 b20 Δ1 (λ Ψ. Ψ) (at4 bs)
+              (Lifetime.g-forget 𝓤 H A W E G54 8 Row.dead Path.refl) d4
+
           d6 : Typed.Typed 𝓤 H A 𝓣 E G53 b20 Δ1 (at6 bs)
-          d6 = Typed.g-pre 𝓤 H A W 𝓣 E G53 G54 b20 Δ1 (Typed.give (s51 bs)) (at5 bs) (Know.g-sl-known 𝓤 H A W (Referent.fInt Syntax.w32) E G53 4 3
-              ref8 life3 0 (λ x. x) record { fits = Dec.lit< tt } (Reads.as-is 𝓤 H A (Mut.mslice (Referent.rtF (Referent.fInt Syntax.w32)) ref8 3))
-              Path.refl tt) d5
+          d6 = Typed.g-pre 𝓤 H A W 𝓣 E G53 G54 b20 Δ1 (Typed.give (s51 bs)) (at5 bs) (Know.g-sl-known 𝓤 H A W
+              (Referent.fInt Syntax.w32) E G53 4 3 ref8 life3 0 (λ x. x) record { fits = Dec.lit< tt } (Reads.as-is 𝓤 H
+              A (Mut.mslice (Referent.rtF (Referent.fInt Syntax.w32)) ref8 3)) Path.refl tt) d5
+
           d7 : Typed.Typed 𝓤 H A 𝓣 E G52 b20 Δ1 (at7 bs)
-          d7 = Typed.g-pre 𝓤 H A W 𝓣 E G52 G53 b20 Δ1 (Typed.both (s50 bs)) (at6 bs) (Relend.g-back-sl 𝓤 H A W E (Referent.rtF (Referent.fInt
-              Syntax.w32)) G52 27 4 3 8 ref8 ref4 life3 (λ x. x) (λ x. x) (Reads.as-is 𝓤 H A (Mut.msleft (Referent.rtF (Referent.fInt Syntax.w32))
-              ref4)) (Reads.as-is 𝓤 H A (Relend.mslice-owed (Referent.rtF (Referent.fInt Syntax.w32)) ref8 3 8 life3)) Path.refl Path.refl) d6
+          d7 = Typed.g-pre 𝓤 H A W 𝓣 E G52 G53 b20 Δ1 (Typed.both (s50 bs)) (at6 bs) (Relend.g-back-sl 𝓤 H A W E
+              (Referent.rtF (Referent.fInt Syntax.w32)) G52 27 4 3 8 ref8 ref4 life3 (λ x. x) (λ x. x) (Reads.as-is 𝓤 H
+              A (Mut.msleft (Referent.rtF (Referent.fInt Syntax.w32)) ref4)) (Reads.as-is 𝓤 H A (Relend.mslice-owed
+              (Referent.rtF (Referent.fInt Syntax.w32)) ref8 3 8 life3)) Path.refl Path.refl) d6
+
           d8 : Typed.Typed 𝓤 H A 𝓣 E G51 b20 Δ1 (at8 bs)
           d8 = Typed.g-pre 𝓤 H A W 𝓣 E G51 G52 b20 Δ1 (λ Ψ. Ψ) (at7 bs) (Lifetime.g-end 𝓤 H A W E G51 8 Path.refl) d7
+
           d9 : Typed.Typed 𝓤 H A 𝓣 E G50 b20 Δ1 (at9 bs)
-          d9 = Typed.g-pre 𝓤 H A W 𝓣 E G50 G51 b20 Δ1 (λ Ψ. Ψ) (at8 bs) (Lifetime.g-forget 𝓤 H A W E G50 7 Row.dead Path.refl) d8
+          d9 = Typed.g-pre 𝓤 H A W 𝓣 E G50 G51 b20 Δ1 (λ Ψ. Ψ) (at8 bs)
+              (Lifetime.g-forget 𝓤 H A W E G50 7 Row.dead Path.refl) d8
+
           d10 : Typed.Typed 𝓤 H A 𝓣 E G49 b20 Δ1 (at10 bs)
-          d10 = Typed.g-pre 𝓤 H A W 𝓣 E G49 G50 b20 Δ1 (Typed.both (s47 bs)) (at9 bs) (Relend.g-back-sl 𝓤 H A W E InflightAction.row G49 25 3 2 7 ref7
-              ref3 life0 (λ x. x) (λ x. x) (Reads.as-is 𝓤 H A (Mut.msleft InflightAction.row ref3)) (Reads.as-is 𝓤 H A (Relend.mslice-owed
-              InflightAction.row ref7 2 7 life0)) Path.refl Path.refl) d9
+          d10 = Typed.g-pre 𝓤 H A W 𝓣 E G49 G50 b20 Δ1 (Typed.both (s47 bs)) (at9 bs) (Relend.g-back-sl 𝓤 H A W E
+              InflightAction.row G49 25 3 2 7 ref7 ref3 life0 (λ x. x) (λ x. x)
+              (Reads.as-is 𝓤 H A (Mut.msleft InflightAction.row ref3)) (Reads.as-is 𝓤 H A
+              (Relend.mslice-owed InflightAction.row ref7 2 7 life0)) Path.refl Path.refl) d9
+
           d11 : Typed.Typed 𝓤 H A 𝓣 E G48 b20 Δ1 (at11 bs)
-          d11 = Typed.g-pre 𝓤 H A W 𝓣 E G48 G49 b20 Δ1 (λ Ψ. Ψ) (at10 bs) (Lifetime.g-end 𝓤 H A W E G48 7 Path.refl) d10
+          d11 = Typed.g-pre 𝓤 H A W 𝓣 E G48 G49 b20 Δ1 (λ Ψ. Ψ) (at10 bs) (Lifetime.g-end 𝓤 H A W E G48 7 Path.refl)
+              d10
+
           d12 : Typed.Typed 𝓤 H A 𝓣 E G47 b20 Δ1 (at12 bs)
-          d12 = Typed.g-pre 𝓤 H A W 𝓣 E G47 G48 b20 Δ1 (λ Ψ. Ψ) (at11 bs) (Lifetime.g-forget 𝓤 H A W E G47 6 Row.dead Path.refl) d11
+          d12 = Typed.g-pre 𝓤 H A W 𝓣 E G47 G48 b20 Δ1 (λ Ψ. Ψ) (at11 bs)
+              (Lifetime.g-forget 𝓤 H A W E G47 6 Row.dead Path.refl) d11
+
           d13 : Typed.Typed 𝓤 H A 𝓣 E G46 b20 Δ1 (at13 bs)
-          d13 = Typed.g-pre 𝓤 H A W 𝓣 E G46 G47 b20 Δ1 (Typed.both (s44 bs)) (at12 bs) (Relend.g-back-sl 𝓤 H A W E RelayCircuit.row G46 23 2 1 6 ref6
-              ref2 life2 (λ x. x) (λ x. x) (Reads.as-is 𝓤 H A (Mut.msleft RelayCircuit.row ref2)) (Reads.as-is 𝓤 H A (Relend.mslice-owed
-              RelayCircuit.row ref6 1 6 life2)) Path.refl Path.refl) d12
+          d13 = Typed.g-pre 𝓤 H A W 𝓣 E G46 G47 b20 Δ1 (Typed.both (s44 bs)) (at12 bs) (Relend.g-back-sl 𝓤 H A W E
+              RelayCircuit.row G46 23 2 1 6 ref6 ref2 life2 (λ x. x) (λ x. x)
+              (Reads.as-is 𝓤 H A (Mut.msleft RelayCircuit.row ref2)) (Reads.as-is 𝓤 H A
+              (Relend.mslice-owed RelayCircuit.row ref6 1 6 life2)) Path.refl Path.refl) d12
+
           d14 : Typed.Typed 𝓤 H A 𝓣 E G45 b20 Δ1 (at14 bs)
-          d14 = Typed.g-pre 𝓤 H A W 𝓣 E G45 G46 b20 Δ1 (λ Ψ. Ψ) (at13 bs) (Lifetime.g-end 𝓤 H A W E G45 6 Path.refl) d13
+          d14 = Typed.g-pre 𝓤 H A W 𝓣 E G45 G46 b20 Δ1 (λ Ψ. Ψ) (at13 bs) (Lifetime.g-end 𝓤 H A W E G45 6 Path.refl)
+              d13
+
           d15 : Typed.Typed 𝓤 H A 𝓣 E G44 b20 Δ1 (at15 bs)
-          d15 = Typed.g-pre 𝓤 H A W 𝓣 E G44 G45 b20 Δ1 (λ Ψ. Ψ) (at14 bs) (Lifetime.g-forget 𝓤 H A W E G44 5 Row.dead Path.refl) d14
+          d15 = Typed.g-pre 𝓤 H A W 𝓣 E G44 G45 b20 Δ1 (λ Ψ. Ψ) (at14 bs)
+              (Lifetime.g-forget 𝓤 H A W E G44 5 Row.dead Path.refl) d14
+
           d16 : Typed.Typed 𝓤 H A 𝓣 E G43 b20 Δ1 (at16 bs)
-          d16 = Typed.g-pre 𝓤 H A W 𝓣 E G43 G44 b20 Δ1 (Typed.both (s41 bs)) (at15 bs) (Relend.g-back-sl 𝓤 H A W E RelayPending.row G43 21 1 0 5 ref5
-              ref1 life1 (λ x. x) (λ x. x) (Reads.as-is 𝓤 H A (Mut.msleft RelayPending.row ref1)) (Reads.as-is 𝓤 H A (Relend.mslice-owed
-              RelayPending.row ref5 0 5 life1)) Path.refl Path.refl) d15
+          d16 = Typed.g-pre 𝓤 H A W 𝓣 E G43 G44 b20 Δ1 (Typed.both (s41 bs)) (at15 bs) (Relend.g-back-sl 𝓤 H A W E
+              RelayPending.row G43 21 1 0 5 ref5 ref1 life1 (λ x. x) (λ x. x)
+              (Reads.as-is 𝓤 H A (Mut.msleft RelayPending.row ref1)) (Reads.as-is 𝓤 H A
+              (Relend.mslice-owed RelayPending.row ref5 0 5 life1)) Path.refl Path.refl) d15
+
           d17 : Typed.Typed 𝓤 H A 𝓣 E G42 b20 Δ1 (at17 bs)
-          d17 = Typed.g-pre 𝓤 H A W 𝓣 E G42 G43 b20 Δ1 (λ Ψ. Ψ) (at16 bs) (Lifetime.g-end 𝓤 H A W E G42 5 Path.refl) d16
+          d17 = Typed.g-pre 𝓤 H A W 𝓣 E G42 G43 b20 Δ1 (λ Ψ. Ψ) (at16 bs) (Lifetime.g-end 𝓤 H A W E G42 5 Path.refl)
+              d16
+
           d18 : Typed.Typed 𝓤 H A 𝓣 E G41 b20 Δ1 (at18 bs)
-          d18 = Typed.g-pre 𝓤 H A W 𝓣 E G41 G42 b20 Δ1 (Typed.pass T41 T42 (s39 bs)) (at17 bs) (Scalar.g-room 𝓤 H A W E G41 11 Laws'''.mir
-              (Local.room-whole 𝓤 H A W (Declared'.row ActionFound.the-type) Laws'''.mir Path.refl)) d17
+          d18 = Typed.g-pre 𝓤 H A W 𝓣 E G41 G42 b20 Δ1 (Typed.pass T41 T42 (s39 bs)) (at17 bs) (Scalar.g-room 𝓤 H A W E
+              G41 11 Laws'''.mir (Local.room-whole 𝓤 H A W (Declared'.row ActionFound.the-type) Laws'''.mir Path.refl))
+              d17
+
           d19 : Typed.Typed 𝓤 H A 𝓣 E G40 b20 Δ1 (at19 bs)
-          d19 = Typed.g-pre 𝓤 H A W 𝓣 E G40 G41 b20 Δ1 (Typed.pass T40 T41 (s38 bs)) (at18 bs) (Scalar.g-room 𝓤 H A W E G40 6 Laws''.mir
-              (Local.room-whole 𝓤 H A W (Declared'.row Places.the-type) Laws''.mir Path.refl)) d18
+          d19 = Typed.g-pre 𝓤 H A W 𝓣 E G40 G41 b20 Δ1 (Typed.pass T40 T41 (s38 bs)) (at18 bs) (Scalar.g-room 𝓤 H A W E
+              G40 6 Laws''.mir (Local.room-whole 𝓤 H A W (Declared'.row Places.the-type) Laws''.mir Path.refl)) d18
+
           d20 : Typed.Typed 𝓤 H A 𝓣 E G39 b20 Δ1 (at20 bs)
-          d20 = Typed.g-pre 𝓤 H A W 𝓣 E G39 G40 b20 Δ1 (Typed.pass T39 T40 (s37 bs)) (at19 bs) (Scalar.g-room 𝓤 H A W E G39 5 Laws''''.mir
-              (Local.room-whole 𝓤 H A W (Declared'.row OpaqueRelayRuntime.the-type) Laws''''.mir Path.refl)) d19
+          d20 = Typed.g-pre 𝓤 H A W 𝓣 E G39 G40 b20 Δ1 (Typed.pass T39 T40 (s37 bs)) (at19 bs) (Scalar.g-room 𝓤 H A W E
+              G39 5 Laws''''.mir (Local.room-whole 𝓤 H A W (Declared'.row OpaqueRelayRuntime.the-type) Laws''''.mir
+              Path.refl)) d19
+
           d21 : Typed.Typed 𝓤 H A 𝓣 E G38 b21 Δ1 (at21 bs)
-          d21 = Typed.s-seq 𝓤 H A W 𝓣 E G38 G39 b19 b20 Δ1 (Typed.both (s36 bs)) (at20 bs) (Plain.t-call-plain 𝓤 H A W 𝓣 4 ps·4 r·4 (claims· .8)
-              (claims· .9) "hnsr_circuit::acknowledge::acknowledge_action" (known .4) E (λ pos β. β) G38 (record { pos = 21; ty = Syntax.tyRef
-              Syntax.erased Syntax.mut RelayPending.to; ref = λ x. x; }, (record { pos = 23; ty = Syntax.tyRef Syntax.erased Syntax.mut
-              RelayCircuit.to; ref = λ x. x; }, (record { pos = 25; ty = Syntax.tyRef Syntax.erased Syntax.mut InflightAction.to; ref = λ x. x; },
-              (record { pos = 27; ty = Syntax.tyRef Syntax.erased Syntax.mut (Syntax.tyInt Syntax.w32); ref = λ x. x; }, (record { pos = 5; st =
-              List.[]; d = 0; at = λ x. x }, (record { pos = 6; st = List.[]; d = 0; at = λ x. x }, (record { pos = 11; st = List.[]; d = 0; at = λ x.
-              x }, (Bool.bAt 9 λ x. x, tt),),),),),),),) 0 (5 ∷ 6 ∷ 7 ∷ 8 ∷ List.[]) (Call.sub-id 𝓤 H A W (G38 .slots)) (Reads.as-is 𝓤 H A (Mut.mslice
-              RelayPending.row ref1 5), Mut.reads-mslice 𝓤 H A W RelayPending.row ref1 5, Path.refl, (Reads.as-is 𝓤 H A (Mut.mslice RelayCircuit.row
-              ref2 6), Mut.reads-mslice 𝓤 H A W RelayCircuit.row ref2 6, Path.refl, (Reads.as-is 𝓤 H A (Mut.mslice InflightAction.row ref3 7),
-              Mut.reads-mslice 𝓤 H A W InflightAction.row ref3 7, Path.refl, (Reads.as-is 𝓤 H A (Mut.mslice (Referent.rtF (Referent.fInt Syntax.w32))
-              ref4 8), Mut.reads-mslice 𝓤 H A W (Referent.rtF (Referent.fInt Syntax.w32)) ref4 8, Path.refl, ((Yields.yields-copy 𝓤 H A W (λ ρ. Unit)
-              (Declared'.row OpaqueRelayRuntime.the-type) Path.refl (Copies.cStruct OpaqueRelayRuntime.the-type Laws''''.the-laws Laws''''.the-copy
-              .copy 𝓤 H A W) (Rows.whole (Declared'.row OpaqueRelayRuntime.the-type)) (λ x. x) (λ x. x) (λ ρ told. Local.mem-whole 𝓤 H A W
-              (Declared'.row OpaqueRelayRuntime.the-type) ρ) λ ρ told. Local.whole-mem 𝓤 H A W (Declared'.row OpaqueRelayRuntime.the-type) ρ,
-              Path.refl,), ((Yields.yields-copy 𝓤 H A W (λ ρ. Unit) (Declared'.row Places.the-type) Path.refl (Copies.cStruct Places.the-type
-              Laws''.the-laws Laws''.the-copy .copy 𝓤 H A W) (Rows.whole (Declared'.row Places.the-type)) (λ x. x) (λ x. x) (λ ρ told. Local.mem-whole
-              𝓤 H A W (Declared'.row Places.the-type) ρ) λ ρ told. Local.whole-mem 𝓤 H A W (Declared'.row Places.the-type) ρ, Path.refl,),
-              ((Yields.yields-copy 𝓤 H A W (λ ρ. Unit) (Declared'.row ActionFound.the-type) Path.refl (Copies.cStruct ActionFound.the-type
-              Laws'''.the-laws Laws'''.the-copy .copy 𝓤 H A W) (Rows.whole (Declared'.row ActionFound.the-type)) (λ x. x) (λ x. x) (λ ρ told.
-              Local.mem-whole 𝓤 H A W (Declared'.row ActionFound.the-type) ρ) λ ρ told. Local.whole-mem 𝓤 H A W (Declared'.row ActionFound.the-type)
-              ρ, Path.refl,), ((Scalar.reads-sc 𝓤 H A W Row.sBool, Path.refl), tt),),),),),),),) (Reads.room-gone 𝓤 H A Laws'''''.mir) (tt, (tt, (tt,
-              (tt, tt)))) Path.refl) d20
+          d21 = Typed.s-seq 𝓤 H A W 𝓣 E G38 G39 b19 b20 Δ1 (Typed.both (s36 bs)) (at20 bs) (Plain.t-call-plain 𝓤 H A W
+              𝓣 4 ps·4 r·4 (claims· .8) (claims· .9) "hnsr_circuit::acknowledge::acknowledge_action" (known .4) E
+              (λ pos β. β) G38 (
+                record { pos = 21; ty = ref1; ref = λ x. x },
+                (
+                  record { pos = 23; ty = ref2; ref = λ x. x },
+                  (
+                    record { pos = 25; ty = ref3; ref = λ x. x },
+                    (
+                      record { pos = 27; ty = ref4; ref = λ x. x },
+                      (
+                        record { pos = 5; st = List.[]; d = 0; at = λ x. x },
+                        (
+                          record { pos = 6; st = List.[]; d = 0; at = λ x. x },
+                          (record { pos = 11; st = List.[]; d = 0; at = λ x. x }, (Bool.bAt 9 λ x. x, tt)),
+                        ),
+                      ),
+                    ),
+                  ),
+                ),
+              ) 0 (5 ∷ 6 ∷ 7 ∷ 8 ∷ List.[]) (Call.sub-id 𝓤 H A W (G38 .slots)) (
+                Reads.as-is 𝓤 H A (Mut.mslice RelayPending.row ref1 5),
+                Mut.reads-mslice 𝓤 H A W RelayPending.row ref1 5,
+                Path.refl,
+                (
+                  Reads.as-is 𝓤 H A (Mut.mslice RelayCircuit.row ref2 6),
+                  Mut.reads-mslice 𝓤 H A W RelayCircuit.row ref2 6,
+                  Path.refl,
+                  (
+                    Reads.as-is 𝓤 H A (Mut.mslice InflightAction.row ref3 7),
+                    Mut.reads-mslice 𝓤 H A W InflightAction.row ref3 7,
+                    Path.refl,
+                    (
+                      Reads.as-is 𝓤 H A (Mut.mslice (Referent.rtF (Referent.fInt Syntax.w32)) ref4 8),
+                      Mut.reads-mslice 𝓤 H A W (Referent.rtF (Referent.fInt Syntax.w32)) ref4 8,
+                      Path.refl,
+                      (
+                        (
+                          Yields.yields-copy 𝓤 H A W (λ ρ. Unit) (Declared'.row OpaqueRelayRuntime.the-type) Path.refl (Copies.cStruct
+                              OpaqueRelayRuntime.the-type Laws''''.the-laws Laws''''.the-copy .copy 𝓤 H A W)
+                              (Rows.whole (Declared'.row OpaqueRelayRuntime.the-type)) (λ x. x) (λ x. x) (λ ρ told.
+                              Local.mem-whole 𝓤 H A W (Declared'.row OpaqueRelayRuntime.the-type) ρ) λ ρ told.
+                              Local.whole-mem 𝓤 H A W (Declared'.row OpaqueRelayRuntime.the-type) ρ,
+                          Path.refl,
+                        ),
+                        (
+                          (
+                            Yields.yields-copy 𝓤 H A W (λ ρ. Unit) (Declared'.row Places.the-type) Path.refl (Copies.cStruct
+                                Places.the-type Laws''.the-laws Laws''.the-copy .copy 𝓤 H A W)
+                                (Rows.whole (Declared'.row Places.the-type)) (λ x. x) (λ x. x) (λ ρ told.
+                                Local.mem-whole 𝓤 H A W (Declared'.row Places.the-type) ρ) λ ρ told. Local.whole-mem 𝓤
+                                H A W (Declared'.row Places.the-type) ρ,
+                            Path.refl,
+                          ),
+                          (
+                            (
+                              Yields.yields-copy 𝓤 H A W (λ ρ. Unit) (Declared'.row ActionFound.the-type) Path.refl (Copies.cStruct
+                                  ActionFound.the-type Laws'''.the-laws Laws'''.the-copy .copy 𝓤 H A W)
+                                  (Rows.whole (Declared'.row ActionFound.the-type)) (λ x. x) (λ x. x) (λ ρ told.
+                                  Local.mem-whole 𝓤 H A W (Declared'.row ActionFound.the-type) ρ) λ ρ told.
+                                  Local.whole-mem 𝓤 H A W (Declared'.row ActionFound.the-type) ρ,
+                              Path.refl,
+                            ),
+                            ((Scalar.reads-sc 𝓤 H A W Row.sBool, Path.refl), tt),
+                          ),
+                        ),
+                      ),
+                    ),
+                  ),
+                ),
+              ) (Reads.room-gone 𝓤 H A Laws'''''.mir) (tt, (tt, (tt, (tt, tt)))) Path.refl) d20
+
           d22 : Typed.Typed 𝓤 H A 𝓣 E G37 b22 Δ1 (at22 bs)
-          d22 = Typed.s-seq 𝓤 H A W 𝓣 E G37 G38 b18 b21 Δ1 (Typed.ask (s35 bs)) (at21 bs) (Relend.t-sl-aggregate 𝓤 H A W E (Referent.rtF
-              (Referent.fInt Syntax.w32)) 𝓣 (Relend.asMut (Referent.rtF (Referent.fInt Syntax.w32))) G37 26 27 8 ref4 ref4 (λ x. x) (Scalar.oFld 4
-              ((Syntax.field 1) ∷ List.[]) (Syntax.tyInt Syntax.w64) 8 λ v. Shared.lenV (v .0)) (Reads.as-is 𝓤 H A (Relend.msptr (Referent.rtF
-              (Referent.fInt Syntax.w32)) ref4 8)) (Reads.room-gone 𝓤 H A (Syntax.tyStruct (38 ∷ 91 ∷ 93 ∷ List.[]) (Syntax.tcons ref4 (Syntax.tcons
-              (Syntax.tyInt Syntax.w64) Syntax.tnil)))) (Relend.reads-owed-len 𝓤 H A W (Referent.rtF (Referent.fInt Syntax.w32)) ref8 3 8 life3 8
-              Path.refl, Path.refl,) Path.refl Path.refl λ b o k. tt) d21
+          d22 = Typed.s-seq 𝓤 H A W 𝓣 E G37 G38 b18 b21 Δ1 (Typed.ask (s35 bs)) (at21 bs) (Relend.t-sl-aggregate 𝓤 H A
+              W E (Referent.rtF (Referent.fInt Syntax.w32)) 𝓣 (Relend.asMut (Referent.rtF (Referent.fInt Syntax.w32)))
+              G37 26 27 8 ref4 ref4 (λ x. x) (Scalar.oFld 4 ((Syntax.field 1) ∷ List.[]) (Syntax.tyInt Syntax.w64) 8
+              λ v. Shared.lenV (v .0)) (Reads.as-is 𝓤 H A (Relend.msptr (Referent.rtF (Referent.fInt Syntax.w32)) ref4
+              8)) (Reads.room-gone 𝓤 H A slice4) (
+                Relend.reads-owed-len 𝓤 H A W (Referent.rtF (Referent.fInt Syntax.w32)) ref8 3 8 life3 8 Path.refl,
+                Path.refl,
+              ) Path.refl Path.refl λ b o k. tt) d21
+
           d23 : Typed.Typed 𝓤 H A 𝓣 E G36 b23 Δ1 (at23 bs)
-          d23 = Typed.s-seq 𝓤 H A W 𝓣 E G36 G37 b17 b22 Δ1 (Typed.give (s34 bs)) (at22 bs) (Relend.t-sl-relend 𝓤 H A W E (Referent.rtF (Referent.fInt
-              Syntax.w32)) 𝓣 G36 4 26 3 8 ref8 ref4 life3 0 (λ x. x) (Reads.as-is 𝓤 H A (Mut.mslice (Referent.rtF (Referent.fInt Syntax.w32)) ref8 3))
-              (Reads.room-gone 𝓤 H A ref4) Path.refl tt Path.refl Path.refl Path.refl λ b o. tt) d22
+          d23 = Typed.s-seq 𝓤 H A W 𝓣 E G36 G37 b17 b22 Δ1 (Typed.give (s34 bs)) (at22 bs) (Relend.t-sl-relend 𝓤 H A W
+              E (Referent.rtF (Referent.fInt Syntax.w32)) 𝓣 G36 4 26 3 8 ref8 ref4 life3 0 (λ x. x) (Reads.as-is 𝓤 H A (Mut.mslice
+              (Referent.rtF (Referent.fInt Syntax.w32)) ref8 3)) (Reads.room-gone 𝓤 H A ref4) Path.refl tt Path.refl
+              Path.refl Path.refl λ b o. tt) d22
+
           d24 : Typed.Typed 𝓤 H A 𝓣 E G35 b23 Δ1 (at24 bs)
-          d24 = Typed.g-pre 𝓤 H A W 𝓣 E G35 G36 b23 Δ1 (λ Ψ. Ψ) (at23 bs) (Lifetime.g-begin 𝓤 H A W E G35 8 (tt, ((tt, tt), ((tt, tt), ((tt, tt), (tt,
-              (tt, (tt, (tt, (tt, (tt, (tt, (tt, (tt, (tt, (tt, (tt, (tt, (tt, (tt, (tt, (tt, (tt, (tt, (tt, (tt, (tt, (tt, (tt,
-              tt))))),),),),),),),),),),),),),),),),),),),),),),),)) d23
+          d24 = Typed.g-pre 𝓤 H A W 𝓣 E G35 G36 b23 Δ1 (λ Ψ. Ψ) (at23 bs) (Lifetime.g-begin 𝓤 H A W E G35 8 (
+            tt,
+            (
+              (tt, tt),
+              (
+                (tt, tt),
+                (
+                  (tt, tt),
+                  (
+                    tt,
+                    (
+                      tt,
+                      (
+                        tt,
+                        (
+                          tt,
+                          (
+                            tt,
+                            (
+                              tt,
+                              (
+                                tt,
+                                (
+                                  tt,
+                                  (
+                                    tt,
+                                    (
+                                      tt,
+                                      (
+                                        tt,
+                                        (
+                                          tt,
+                                          (tt, (tt, (tt, (tt, (tt, (tt, (tt, (tt, (tt, (tt, (tt, (tt, tt)))))))))))),
+                                        ),
+                                      ),
+                                    ),
+                                  ),
+                                ),
+                              ),
+                            ),
+                          ),
+                        ),
+                      ),
+                    ),
+                  ),
+                ),
+              ),
+            ),
+          )) d23
+
           d25 : Typed.Typed 𝓤 H A 𝓣 E G34 b24 Δ1 (at25 bs)
-          d25 = Typed.s-seq 𝓤 H A W 𝓣 E G34 G35 b16 b23 Δ1 (Typed.ask (s32 bs)) (at24 bs) (Relend.t-sl-aggregate 𝓤 H A W E InflightAction.row 𝓣
-              (Relend.asMut InflightAction.row) G34 24 25 7 ref3 ref3 (λ x. x) (Scalar.oFld 3 ((Syntax.field 1) ∷ List.[]) (Syntax.tyInt Syntax.w64) 8
-              λ v. Shared.lenV (v .0)) (Reads.as-is 𝓤 H A (Relend.msptr InflightAction.row ref3 7)) (Reads.room-gone 𝓤 H A (Syntax.tyStruct (38 ∷ 91 ∷
-              93 ∷ List.[]) (Syntax.tcons ref3 (Syntax.tcons (Syntax.tyInt Syntax.w64) Syntax.tnil)))) (Relend.reads-owed-len 𝓤 H A W
-              InflightAction.row ref7 2 7 life0 8 Path.refl, Path.refl,) Path.refl Path.refl λ b o k. tt) d24
+          d25 = Typed.s-seq 𝓤 H A W 𝓣 E G34 G35 b16 b23 Δ1 (Typed.ask (s32 bs)) (at24 bs) (Relend.t-sl-aggregate 𝓤 H A
+              W E InflightAction.row 𝓣 (Relend.asMut InflightAction.row) G34 24 25 7 ref3 ref3 (λ x. x) (Scalar.oFld 3
+              ((Syntax.field 1) ∷ List.[]) (Syntax.tyInt Syntax.w64) 8 λ v. Shared.lenV (v .0)) (Reads.as-is 𝓤 H A
+              (Relend.msptr InflightAction.row ref3 7)) (Reads.room-gone 𝓤 H A slice3) (
+                Relend.reads-owed-len 𝓤 H A W InflightAction.row ref7 2 7 life0 8 Path.refl,
+                Path.refl,
+              ) Path.refl Path.refl λ b o k. tt) d24
+
           d26 : Typed.Typed 𝓤 H A 𝓣 E G33 b25 Δ1 (at26 bs)
-          d26 = Typed.s-seq 𝓤 H A W 𝓣 E G33 G34 b15 b24 Δ1 (Typed.give (s31 bs)) (at25 bs) (Relend.t-sl-relend 𝓤 H A W E InflightAction.row 𝓣 G33 3 24
-              2 7 ref7 ref3 life0 0 (λ x. x) (Reads.as-is 𝓤 H A (Mut.mslice InflightAction.row ref7 2)) (Reads.room-gone 𝓤 H A ref3) Path.refl tt
+          d26 = Typed.s-seq 𝓤 H A W 𝓣 E G33 G34 b15 b24 Δ1 (Typed.give (s31 bs)) (at25 bs) (Relend.t-sl-relend 𝓤 H A W
+              E InflightAction.row 𝓣 G33 3 24 2 7 ref7 ref3 life0 0 (λ x. x)
+              (Reads.as-is 𝓤 H A (Mut.mslice InflightAction.row ref7 2)) (Reads.room-gone 𝓤 H A ref3) Path.refl tt
               Path.refl Path.refl Path.refl λ b o. tt) d25
+
           d27 : Typed.Typed 𝓤 H A 𝓣 E G32 b25 Δ1 (at27 bs)
-          d27 = Typed.g-pre 𝓤 H A W 𝓣 E G32 G33 b25 Δ1 (λ Ψ. Ψ) (at26 bs) (Lifetime.g-begin 𝓤 H A W E G32 7 (tt, ((tt, tt), ((tt, tt), (tt, (tt, (tt,
-              (tt, (tt, (tt, (tt, (tt, (tt, (tt, (tt, (tt, (tt, (tt, (tt, (tt, (tt, (tt, (tt, (tt, (tt, (tt, (tt, (tt, (tt,
-              tt))))),),),),),),),),),),),),),),),),),),),),),),),)) d26
+          d27 = Typed.g-pre 𝓤 H A W 𝓣 E G32 G33 b25 Δ1 (λ Ψ. Ψ) (at26 bs) (Lifetime.g-begin 𝓤 H A W E G32 7 (
+            tt,
+            (
+              (tt, tt),
+              (
+                (tt, tt),
+                (
+                  tt,
+                  (
+                    tt,
+                    (
+                      tt,
+                      (
+                        tt,
+                        (
+                          tt,
+                          (
+                            tt,
+                            (
+                              tt,
+                              (
+                                tt,
+                                (
+                                  tt,
+                                  (
+                                    tt,
+                                    (
+                                      tt,
+                                      (
+                                        tt,
+                                        (
+                                          tt,
+                                          (tt, (tt, (tt, (tt, (tt, (tt, (tt, (tt, (tt, (tt, (tt, (tt, tt)))))))))))),
+                                        ),
+                                      ),
+                                    ),
+                                  ),
+                                ),
+                              ),
+                            ),
+                          ),
+                        ),
+                      ),
+                    ),
+                  ),
+                ),
+              ),
+            ),
+          )) d26
+
           d28 : Typed.Typed 𝓤 H A 𝓣 E G31 b26 Δ1 (at28 bs)
-          d28 = Typed.s-seq 𝓤 H A W 𝓣 E G31 G32 b14 b25 Δ1 (Typed.ask (s29 bs)) (at27 bs) (Relend.t-sl-aggregate 𝓤 H A W E RelayCircuit.row 𝓣
-              (Relend.asMut RelayCircuit.row) G31 22 23 6 ref2 ref2 (λ x. x) (Scalar.oFld 2 ((Syntax.field 1) ∷ List.[]) (Syntax.tyInt Syntax.w64) 8 λ
-              v. Shared.lenV (v .0)) (Reads.as-is 𝓤 H A (Relend.msptr RelayCircuit.row ref2 6)) (Reads.room-gone 𝓤 H A (Syntax.tyStruct (38 ∷ 91 ∷ 93
-              ∷ List.[]) (Syntax.tcons ref2 (Syntax.tcons (Syntax.tyInt Syntax.w64) Syntax.tnil)))) (Relend.reads-owed-len 𝓤 H A W RelayCircuit.row
-              ref6 1 6 life2 8 Path.refl, Path.refl,) Path.refl Path.refl λ b o k. tt) d27
+          d28 = Typed.s-seq 𝓤 H A W 𝓣 E G31 G32 b14 b25 Δ1 (Typed.ask (s29 bs)) (at27 bs) (Relend.t-sl-aggregate 𝓤 H A
+              W E RelayCircuit.row 𝓣 (Relend.asMut RelayCircuit.row) G31 22 23 6 ref2 ref2 (λ x. x) (Scalar.oFld 2
+              ((Syntax.field 1) ∷ List.[]) (Syntax.tyInt Syntax.w64) 8 λ v. Shared.lenV (v .0))
+              (Reads.as-is 𝓤 H A (Relend.msptr RelayCircuit.row ref2 6)) (Reads.room-gone 𝓤 H A slice2) (
+                Relend.reads-owed-len 𝓤 H A W RelayCircuit.row ref6 1 6 life2 8 Path.refl,
+                Path.refl,
+              ) Path.refl Path.refl λ b o k. tt) d27
+
           d29 : Typed.Typed 𝓤 H A 𝓣 E G30 b27 Δ1 (at29 bs)
-          d29 = Typed.s-seq 𝓤 H A W 𝓣 E G30 G31 b13 b26 Δ1 (Typed.give (s28 bs)) (at28 bs) (Relend.t-sl-relend 𝓤 H A W E RelayCircuit.row 𝓣 G30 2 22 1
-              6 ref6 ref2 life2 0 (λ x. x) (Reads.as-is 𝓤 H A (Mut.mslice RelayCircuit.row ref6 1)) (Reads.room-gone 𝓤 H A ref2) Path.refl tt
+          d29 = Typed.s-seq 𝓤 H A W 𝓣 E G30 G31 b13 b26 Δ1 (Typed.give (s28 bs)) (at28 bs) (Relend.t-sl-relend 𝓤 H A W
+              E RelayCircuit.row 𝓣 G30 2 22 1 6 ref6 ref2 life2 0 (λ x. x)
+              (Reads.as-is 𝓤 H A (Mut.mslice RelayCircuit.row ref6 1)) (Reads.room-gone 𝓤 H A ref2) Path.refl tt
               Path.refl Path.refl Path.refl λ b o. tt) d28
+
           d30 : Typed.Typed 𝓤 H A 𝓣 E G29 b27 Δ1 (at30 bs)
-          d30 = Typed.g-pre 𝓤 H A W 𝓣 E G29 G30 b27 Δ1 (λ Ψ. Ψ) (at29 bs) (Lifetime.g-begin 𝓤 H A W E G29 6 (tt, ((tt, tt), (tt, (tt, (tt, (tt, (tt,
-              (tt, (tt, (tt, (tt, (tt, (tt, (tt, (tt, (tt, (tt, (tt, (tt, (tt, (tt, (tt, (tt, (tt, (tt, (tt, (tt, (tt,
-              tt))))),),),),),),),),),),),),),),),),),),),),),),),)) d29
+          d30 = Typed.g-pre 𝓤 H A W 𝓣 E G29 G30 b27 Δ1 (λ Ψ. Ψ) (at29 bs) (Lifetime.g-begin 𝓤 H A W E G29 6 (
+            tt,
+            (
+              (tt, tt),
+              (
+                tt,
+                (
+                  tt,
+                  (
+                    tt,
+                    (
+                      tt,
+                      (
+                        tt,
+                        (
+                          tt,
+                          (
+                            tt,
+                            (
+                              tt,
+                              (
+                                tt,
+                                (
+                                  tt,
+                                  (
+                                    tt,
+                                    (
+                                      tt,
+                                      (
+                                        tt,
+                                        (
+                                          tt,
+                                          (tt, (tt, (tt, (tt, (tt, (tt, (tt, (tt, (tt, (tt, (tt, (tt, tt)))))))))))),
+                                        ),
+                                      ),
+                                    ),
+                                  ),
+                                ),
+                              ),
+                            ),
+                          ),
+                        ),
+                      ),
+                    ),
+                  ),
+                ),
+              ),
+            ),
+          )) d29
+
           d31 : Typed.Typed 𝓤 H A 𝓣 E G28 b28 Δ1 (at31 bs)
-          d31 = Typed.s-seq 𝓤 H A W 𝓣 E G28 G29 b12 b27 Δ1 (Typed.ask (s26 bs)) (at30 bs) (Relend.t-sl-aggregate 𝓤 H A W E RelayPending.row 𝓣
-              (Relend.asMut RelayPending.row) G28 20 21 5 ref1 ref1 (λ x. x) (Scalar.oFld 1 ((Syntax.field 1) ∷ List.[]) (Syntax.tyInt Syntax.w64) 8 λ
-              v. Shared.lenV (v .0)) (Reads.as-is 𝓤 H A (Relend.msptr RelayPending.row ref1 5)) (Reads.room-gone 𝓤 H A (Syntax.tyStruct (38 ∷ 91 ∷ 93
-              ∷ List.[]) (Syntax.tcons ref1 (Syntax.tcons (Syntax.tyInt Syntax.w64) Syntax.tnil)))) (Relend.reads-owed-len 𝓤 H A W RelayPending.row
-              ref5 0 5 life1 8 Path.refl, Path.refl,) Path.refl Path.refl λ b o k. tt) d30
+          d31 = Typed.s-seq 𝓤 H A W 𝓣 E G28 G29 b12 b27 Δ1 (Typed.ask (s26 bs)) (at30 bs) (Relend.t-sl-aggregate 𝓤 H A
+              W E RelayPending.row 𝓣 (Relend.asMut RelayPending.row) G28 20 21 5 ref1 ref1 (λ x. x) (Scalar.oFld 1
+              ((Syntax.field 1) ∷ List.[]) (Syntax.tyInt Syntax.w64) 8 λ v. Shared.lenV (v .0))
+              (Reads.as-is 𝓤 H A (Relend.msptr RelayPending.row ref1 5)) (Reads.room-gone 𝓤 H A slice1) (
+                Relend.reads-owed-len 𝓤 H A W RelayPending.row ref5 0 5 life1 8 Path.refl,
+                Path.refl,
+              ) Path.refl Path.refl λ b o k. tt) d30
+
           d32 : Typed.Typed 𝓤 H A 𝓣 E G27 b29 Δ1 (at32 bs)
-          d32 = Typed.s-seq 𝓤 H A W 𝓣 E G27 G28 b11 b28 Δ1 (Typed.give (s25 bs)) (at31 bs) (Relend.t-sl-relend 𝓤 H A W E RelayPending.row 𝓣 G27 1 20 0
-              5 ref5 ref1 life1 0 (λ x. x) (Reads.as-is 𝓤 H A (Mut.mslice RelayPending.row ref5 0)) (Reads.room-gone 𝓤 H A ref1) Path.refl tt
+          d32 = Typed.s-seq 𝓤 H A W 𝓣 E G27 G28 b11 b28 Δ1 (Typed.give (s25 bs)) (at31 bs) (Relend.t-sl-relend 𝓤 H A W
+              E RelayPending.row 𝓣 G27 1 20 0 5 ref5 ref1 life1 0 (λ x. x)
+              (Reads.as-is 𝓤 H A (Mut.mslice RelayPending.row ref5 0)) (Reads.room-gone 𝓤 H A ref1) Path.refl tt
               Path.refl Path.refl Path.refl λ b o. tt) d31
+
           d33 : Typed.Typed 𝓤 H A 𝓣 E G26 b29 Δ1 (at33 bs)
-          d33 = Typed.g-pre 𝓤 H A W 𝓣 E G26 G27 b29 Δ1 (λ Ψ. Ψ) (at32 bs) (Lifetime.g-begin 𝓤 H A W E G26 5 (tt, (tt, (tt, (tt, (tt, (tt, (tt, (tt,
-              (tt, (tt, (tt, (tt, (tt, (tt, (tt, (tt, (tt, (tt, (tt, (tt, (tt, (tt, (tt, (tt, (tt, (tt, (tt, (tt,
-              tt))))),),),),),),),),),),),),),),),),),),),),),),),)) d32
+          d33 = Typed.g-pre 𝓤 H A W 𝓣 E G26 G27 b29 Δ1 (λ Ψ. Ψ) (at32 bs) (Lifetime.g-begin 𝓤 H A W E G26 5 (
+            tt,
+            (
+              tt,
+              (
+                tt,
+                (
+                  tt,
+                  (
+                    tt,
+                    (
+                      tt,
+                      (
+                        tt,
+                        (
+                          tt,
+                          (
+                            tt,
+                            (
+                              tt,
+                              (
+                                tt,
+                                (
+                                  tt,
+                                  (
+                                    tt,
+                                    (
+                                      tt,
+                                      (
+                                        tt,
+                                        (
+                                          tt,
+                                          (tt, (tt, (tt, (tt, (tt, (tt, (tt, (tt, (tt, (tt, (tt, (tt, tt)))))))))))),
+                                        ),
+                                      ),
+                                    ),
+                                  ),
+                                ),
+                              ),
+                            ),
+                          ),
+                        ),
+                      ),
+                    ),
+                  ),
+                ),
+              ),
+            ),
+          )) d32
+
           d34 : Typed.Typed 𝓤 H A 𝓣 E G25 b29 Δ1 (at34 bs)
-          d34 = Typed.g-pre 𝓤 H A W 𝓣 E G25 G26 b29 Δ1 (Typed.pass T25 T26 (s23 bs)) (at33 bs) (Scalar.g-room 𝓤 H A W E G25 19 Syntax.tyBool
-              (Scalar.room-sc 𝓤 H A W Row.sBool)) d33
+          d34 = Typed.g-pre 𝓤 H A W 𝓣 E G25 G26 b29 Δ1 (Typed.pass T25 T26 (s23 bs)) (at33 bs) (Scalar.g-room 𝓤 H A W E
+              G25 19 Syntax.tyBool (Scalar.room-sc 𝓤 H A W Row.sBool)) d33
+
           d35 : Typed.Typed 𝓤 H A 𝓣 E G23 b29 Δ1 (at35 bs)
-          d35 = Typed.g-pre 𝓤 H A W 𝓣 E G23 G25 b29 Δ1 (Typed.pass T23 T25 (s22 bs)) (at34 bs) (Scalar.g-room 𝓤 H A W E G23 13 Laws.mir
-              (Local.room-whole 𝓤 H A W (Declared.row HnsrAnswer.the-type) Laws.mir Path.refl)) d34
+          d35 = Typed.g-pre 𝓤 H A W 𝓣 E G23 G25 b29 Δ1 (Typed.pass T23 T25 (s22 bs)) (at34 bs) (Scalar.g-room 𝓤 H A W E
+              G23 13 Laws.mir (Local.room-whole 𝓤 H A W (Declared.row HnsrAnswer.the-type) Laws.mir Path.refl)) d34
+
           d36 : Typed.Typed 𝓤 H A 𝓣 E G61 b30 Δ1 (at36 bs)
           d36 = Typed.t-skip 𝓤 H A W 𝓣 E Δ1 tt
+
           d37 : Typed.Typed 𝓤 H A 𝓣 E G60 b30 Δ1 (at37 bs)
-          d37 = Typed.g-pre 𝓤 H A W 𝓣 E G60 G61 b30 Δ1 (Typed.pass T60 T61 (s58 bs)) (at36 bs) (Scalar.g-room 𝓤 H A W E G60 19 Syntax.tyBool
-              (Scalar.room-sc 𝓤 H A W Row.sBool)) d36
+          d37 = Typed.g-pre 𝓤 H A W 𝓣 E G60 G61 b30 Δ1 (Typed.pass T60 T61 (s58 bs)) (at36 bs) (Scalar.g-room 𝓤 H A W E
+              G60 19 Syntax.tyBool (Scalar.room-sc 𝓤 H A W Row.sBool)) d36
+
           d38 : Typed.Typed 𝓤 H A 𝓣 E G23 b30 Δ1 (at38 bs)
-          d38 = Typed.g-pre 𝓤 H A W 𝓣 E G23 G60 b30 Δ1 (Typed.pass T23 T60 (s57 bs)) (at37 bs) (Scalar.g-room 𝓤 H A W E G23 11 Laws'''.mir
-              (Local.room-whole 𝓤 H A W (Declared'.row ActionFound.the-type) Laws'''.mir Path.refl)) d37
+          d38 = Typed.g-pre 𝓤 H A W 𝓣 E G23 G60 b30 Δ1 (Typed.pass T23 T60 (s57 bs)) (at37 bs) (Scalar.g-room 𝓤 H A W E
+              G23 11 Laws'''.mir (Local.room-whole 𝓤 H A W (Declared'.row ActionFound.the-type) Laws'''.mir Path.refl))
+              d37
+
           d39 : Typed.Typed 𝓤 H A 𝓣 E G23 b31 Δ1 (at39 bs)
-          d39 = Scalar.t-cond 𝓤 H A W E 𝓣 G23 19 (λ x. x) b29 b30 Δ1 (at35 bs) (at38 bs) (Scalar.reads-sc 𝓤 H A W Row.sBool) Path.refl d35 d38
+          d39 = Scalar.t-cond 𝓤 H A W E 𝓣 G23 19 (λ x. x) b29 b30 Δ1 (at35 bs) (at38 bs)
+              (Scalar.reads-sc 𝓤 H A W Row.sBool) Path.refl d35 d38
+
           d40 : Typed.Typed 𝓤 H A 𝓣 E G69 b33 Δ0 (at40 bs)
           d40 = Typed.t-return 𝓤 H A W 𝓣 E Δ0 tt
+
           d41 : Typed.Typed 𝓤 H A 𝓣 E G68 b33 Δ0 (at41 bs)
-          d41 = Typed.g-pre 𝓤 H A W 𝓣 E G68 G69 b33 Δ0 (Typed.pass T68 T69 (s66 bs)) (at40 bs) (Scalar.g-room 𝓤 H A W E G68 9 Syntax.tyBool
-              (Scalar.room-sc 𝓤 H A W Row.sBool)) d40
+          d41 = Typed.g-pre 𝓤 H A W 𝓣 E G68 G69 b33 Δ0 (Typed.pass T68 T69 (s66 bs)) (at40 bs) (Scalar.g-room 𝓤 H A W E
+              G68 9 Syntax.tyBool (Scalar.room-sc 𝓤 H A W Row.sBool)) d40
+
           d42 : Typed.Typed 𝓤 H A 𝓣 E G67 b33 Δ0 (at42 bs)
-          d42 = Typed.g-pre 𝓤 H A W 𝓣 E G67 G68 b33 Δ0 (Typed.pass T67 T68 (s65 bs)) (at41 bs) (Scalar.g-room 𝓤 H A W E G67 8 (Syntax.tyInt
-              Syntax.w64) (Scalar.room-sc 𝓤 H A W (Row.sInt Syntax.w64))) d41
+          d42 = Typed.g-pre 𝓤 H A W 𝓣 E G67 G68 b33 Δ0 (Typed.pass T67 T68 (s65 bs)) (at41 bs) (Scalar.g-room 𝓤 H A W E
+              G67 8 (Syntax.tyInt Syntax.w64) (Scalar.room-sc 𝓤 H A W (Row.sInt Syntax.w64))) d41
+
           d43 : Typed.Typed 𝓤 H A 𝓣 E G66 b33 Δ0 (at43 bs)
-          d43 = Typed.g-pre 𝓤 H A W 𝓣 E G66 G67 b33 Δ0 (Typed.pass T66 T67 (s64 bs)) (at42 bs) (Scalar.g-room 𝓤 H A W E G66 7 (Syntax.tyInt
-              Syntax.w64) (Scalar.room-sc 𝓤 H A W (Row.sInt Syntax.w64))) d42
+          d43 = Typed.g-pre 𝓤 H A W 𝓣 E G66 G67 b33 Δ0 (Typed.pass T66 T67 (s64 bs)) (at42 bs) (Scalar.g-room 𝓤 H A W E
+              G66 7 (Syntax.tyInt Syntax.w64) (Scalar.room-sc 𝓤 H A W (Row.sInt Syntax.w64))) d42
+
           d44 : Typed.Typed 𝓤 H A 𝓣 E G65 b33 Δ0 (at44 bs)
-          d44 = Typed.g-pre 𝓤 H A W 𝓣 E G65 G66 b33 Δ0 (Typed.pass T65 T66 (s63 bs)) (at43 bs) (Scalar.g-room 𝓤 H A W E G65 13 Laws.mir
-              (Local.room-whole 𝓤 H A W (Declared.row HnsrAnswer.the-type) Laws.mir Path.refl)) d43
+          d44 = Typed.g-pre 𝓤 H A W 𝓣 E G65 G66 b33 Δ0 (Typed.pass T65 T66 (s63 bs)) (at43 bs) (Scalar.g-room 𝓤 H A W E
+              G65 13 Laws.mir (Local.room-whole 𝓤 H A W (Declared.row HnsrAnswer.the-type) Laws.mir Path.refl)) d43
+
           d45 : Typed.Typed 𝓤 H A 𝓣 E G64 b33 Δ0 (at45 bs)
-          d45 = Typed.g-pre 𝓤 H A W 𝓣 E G64 G65 b33 Δ0 (Typed.pass T64 T65 (s62 bs)) (at44 bs) (Scalar.g-room 𝓤 H A W E G64 12 Syntax.tyBool
-              (Scalar.room-sc 𝓤 H A W Row.sBool)) d44
+          d45 = Typed.g-pre 𝓤 H A W 𝓣 E G64 G65 b33 Δ0 (Typed.pass T64 T65 (s62 bs)) (at44 bs) (Scalar.g-room 𝓤 H A W E
+              G64 12 Syntax.tyBool (Scalar.room-sc 𝓤 H A W Row.sBool)) d44
+
           d46 : Typed.Typed 𝓤 H A 𝓣 E G63 b33 Δ0 (at46 bs)
-          d46 = Typed.g-pre 𝓤 H A W 𝓣 E G63 G64 b33 Δ0 (Typed.pass T63 T64 (s61 bs)) (at45 bs) (Scalar.g-room 𝓤 H A W E G63 6 Laws''.mir
-              (Local.room-whole 𝓤 H A W (Declared'.row Places.the-type) Laws''.mir Path.refl)) d45
+          d46 = Typed.g-pre 𝓤 H A W 𝓣 E G63 G64 b33 Δ0 (Typed.pass T63 T64 (s61 bs)) (at45 bs) (Scalar.g-room 𝓤 H A W E
+              G63 6 Laws''.mir (Local.room-whole 𝓤 H A W (Declared'.row Places.the-type) Laws''.mir Path.refl)) d45
+
           d47 : Typed.Typed 𝓤 H A 𝓣 E G62 b33 Δ0 (at47 bs)
-          d47 = Typed.g-pre 𝓤 H A W 𝓣 E G62 G63 b33 Δ0 (Typed.pass T62 T63 (s60 bs)) (at46 bs) (Scalar.g-room 𝓤 H A W E G62 5 Laws''''.mir
-              (Local.room-whole 𝓤 H A W (Declared'.row OpaqueRelayRuntime.the-type) Laws''''.mir Path.refl)) d46
+          d47 = Typed.g-pre 𝓤 H A W 𝓣 E G62 G63 b33 Δ0 (Typed.pass T62 T63 (s60 bs)) (at46 bs) (Scalar.g-room 𝓤 H A W E
+              G62 5 Laws''''.mir (Local.room-whole 𝓤 H A W (Declared'.row OpaqueRelayRuntime.the-type) Laws''''.mir
+              Path.refl)) d46
+
           d48 : Typed.Typed 𝓤 H A 𝓣 E G24 b34 Δ0 (at48 bs)
-          d48 = Typed.s-seq 𝓤 H A W 𝓣 E G24 G62 b32 b33 Δ0 (Typed.both (s59 bs)) (at47 bs) (Plain.t-call-plain 𝓤 H A W 𝓣 0 ps·5 r·5 (claims· .10)
-              (claims· .11) "hnsr_circuit::revoking_calls::refused" (known .5) E (λ pos β. β) G24 (record { pos = 5; st = List.[]; d = 0; at = λ x. x
-              }, (record { pos = 6; st = List.[]; d = 0; at = λ x. x }, (record { pos = 13; st = List.[]; d = 0; at = λ x. x }, tt),),) 0 List.[]
-              (Call.sub-id 𝓤 H A W (G24 .slots)) ((Yields.yields-copy 𝓤 H A W (λ ρ. Unit) (Declared'.row OpaqueRelayRuntime.the-type) Path.refl
-              (Copies.cStruct OpaqueRelayRuntime.the-type Laws''''.the-laws Laws''''.the-copy .copy 𝓤 H A W) (Rows.whole (Declared'.row
-              OpaqueRelayRuntime.the-type)) (λ x. x) (λ x. x) (λ ρ told. Local.mem-whole 𝓤 H A W (Declared'.row OpaqueRelayRuntime.the-type) ρ) λ ρ
-              told. Local.whole-mem 𝓤 H A W (Declared'.row OpaqueRelayRuntime.the-type) ρ, Path.refl,), ((Yields.yields-copy 𝓤 H A W (λ ρ. Unit)
-              (Declared'.row Places.the-type) Path.refl (Copies.cStruct Places.the-type Laws''.the-laws Laws''.the-copy .copy 𝓤 H A W) (Rows.whole
-              (Declared'.row Places.the-type)) (λ x. x) (λ x. x) (λ ρ told. Local.mem-whole 𝓤 H A W (Declared'.row Places.the-type) ρ) λ ρ told.
-              Local.whole-mem 𝓤 H A W (Declared'.row Places.the-type) ρ, Path.refl,), ((Yields.yields-copy 𝓤 H A W (λ ρ. Unit) (Declared.row
-              HnsrAnswer.the-type) Path.refl (Copies.cEnum HnsrAnswer.the-type Laws.the-laws Laws.the-copy .copy 𝓤 H A W) (Rows.whole (Declared.row
-              HnsrAnswer.the-type)) (λ x. x) (λ x. x) (λ ρ told. Local.mem-whole 𝓤 H A W (Declared.row HnsrAnswer.the-type) ρ) λ ρ told.
-              Local.whole-mem 𝓤 H A W (Declared.row HnsrAnswer.the-type) ρ, Path.refl,), tt,),),) (Reads.room-gone 𝓤 H A Laws'''''.mir) tt Path.refl)
-              d47
+          d48 = Typed.s-seq 𝓤 H A W 𝓣 E G24 G62 b32 b33 Δ0 (Typed.both (s59 bs)) (at47 bs) (Plain.t-call-plain 𝓤 H A W
+              𝓣 0 ps·5 r·5 (claims· .10) (claims· .11) "hnsr_circuit::revoking_calls::refused" (known .5) E
+              (λ pos β. β) G24 (
+                record { pos = 5; st = List.[]; d = 0; at = λ x. x },
+                (
+                  record { pos = 6; st = List.[]; d = 0; at = λ x. x },
+                  (record { pos = 13; st = List.[]; d = 0; at = λ x. x }, tt),
+                ),
+              ) 0 List.[] (Call.sub-id 𝓤 H A W (G24 .slots)) (
+                (
+                  Yields.yields-copy 𝓤 H A W (λ ρ. Unit) (Declared'.row OpaqueRelayRuntime.the-type) Path.refl (Copies.cStruct
+                      OpaqueRelayRuntime.the-type Laws''''.the-laws Laws''''.the-copy .copy 𝓤 H A W)
+                      (Rows.whole (Declared'.row OpaqueRelayRuntime.the-type)) (λ x. x) (λ x. x) (λ ρ told.
+                      Local.mem-whole 𝓤 H A W (Declared'.row OpaqueRelayRuntime.the-type) ρ) λ ρ told. Local.whole-mem
+                      𝓤 H A W (Declared'.row OpaqueRelayRuntime.the-type) ρ,
+                  Path.refl,
+                ),
+                (
+                  (
+                    Yields.yields-copy 𝓤 H A W (λ ρ. Unit) (Declared'.row Places.the-type) Path.refl (Copies.cStruct
+                        Places.the-type Laws''.the-laws Laws''.the-copy .copy 𝓤 H A W)
+                        (Rows.whole (Declared'.row Places.the-type)) (λ x. x) (λ x. x) (λ ρ told. Local.mem-whole 𝓤 H A
+                        W (Declared'.row Places.the-type) ρ) λ ρ told. Local.whole-mem 𝓤 H A W
+                        (Declared'.row Places.the-type) ρ,
+                    Path.refl,
+                  ),
+                  (
+                    (
+                      Yields.yields-copy 𝓤 H A W (λ ρ. Unit) (Declared.row HnsrAnswer.the-type) Path.refl (Copies.cEnum
+                          HnsrAnswer.the-type Laws.the-laws Laws.the-copy .copy 𝓤 H A W)
+                          (Rows.whole (Declared.row HnsrAnswer.the-type)) (λ x. x) (λ x. x) (λ ρ told. Local.mem-whole
+                          𝓤 H A W (Declared.row HnsrAnswer.the-type) ρ) λ ρ told. Local.whole-mem 𝓤 H A W
+                          (Declared.row HnsrAnswer.the-type) ρ,
+                      Path.refl,
+                    ),
+                    tt,
+                  ),
+                ),
+              ) (Reads.room-gone 𝓤 H A Laws'''''.mir) tt Path.refl) d47
+
           d49 : Typed.Typed 𝓤 H A 𝓣 E G23 b35 Δ0 (at49 bs)
           d49 = Typed.t-seq 𝓤 H A W 𝓣 E G23 G24 b31 b34 Δ0 (at39 bs) (at48 bs) d39 d48
+
           d50 : Typed.Typed 𝓤 H A 𝓣 E G22 b36 Δ0 (at50 bs)
-          d50 = Typed.s-seq 𝓤 H A W 𝓣 E G22 G23 b10 b35 Δ0 (Typed.both (s21 bs)) (at49 bs) (Plain.t-call-plain 𝓤 H A W 𝓣 0 ps·3 r·3 (claims· .6)
-              (claims· .7) "hnsr_circuit::answer::is_taken" (known .3) E (λ pos β. β) G22 (record { pos = 13; st = List.[]; d = 0; at = λ x. x }, tt)
-              19 List.[] (Call.sub-id 𝓤 H A W (G22 .slots)) ((Yields.yields-copy 𝓤 H A W (λ ρ. Unit) (Declared.row HnsrAnswer.the-type) Path.refl
-              (Copies.cEnum HnsrAnswer.the-type Laws.the-laws Laws.the-copy .copy 𝓤 H A W) (Rows.whole (Declared.row HnsrAnswer.the-type)) (λ x. x) (λ
-              x. x) (λ ρ told. Local.mem-whole 𝓤 H A W (Declared.row HnsrAnswer.the-type) ρ) λ ρ told. Local.whole-mem 𝓤 H A W (Declared.row
-              HnsrAnswer.the-type) ρ, Path.refl,), tt,) (Reads.room-gone 𝓤 H A Syntax.tyBool) tt Path.refl) d49
+          d50 = Typed.s-seq 𝓤 H A W 𝓣 E G22 G23 b10 b35 Δ0 (Typed.both (s21 bs)) (at49 bs) (Plain.t-call-plain 𝓤 H A W
+              𝓣 0 ps·3 r·3 (claims· .6) (claims· .7) "hnsr_circuit::answer::is_taken" (known .3) E (λ pos β. β) G22
+              (record { pos = 13; st = List.[]; d = 0; at = λ x. x }, tt) 19 List.[] (Call.sub-id 𝓤 H A W (G22 .slots)) (
+                (
+                  Yields.yields-copy 𝓤 H A W (λ ρ. Unit) (Declared.row HnsrAnswer.the-type) Path.refl (Copies.cEnum
+                      HnsrAnswer.the-type Laws.the-laws Laws.the-copy .copy 𝓤 H A W)
+                      (Rows.whole (Declared.row HnsrAnswer.the-type)) (λ x. x) (λ x. x) (λ ρ told. Local.mem-whole 𝓤 H
+                      A W (Declared.row HnsrAnswer.the-type) ρ) λ ρ told. Local.whole-mem 𝓤 H A W
+                      (Declared.row HnsrAnswer.the-type) ρ,
+                  Path.refl,
+                ),
+                tt,
+              ) (Reads.room-gone 𝓤 H A Syntax.tyBool) tt Path.refl) d49
+
           d51 : Typed.Typed 𝓤 H A 𝓣 E G21 b36 Δ0 (at51 bs)
-          d51 = Typed.g-pre 𝓤 H A W 𝓣 E G21 G22 b36 Δ0 (Typed.pass T21 T22 (s20 bs)) (at50 bs) (Scalar.g-room 𝓤 H A W E G21 16 (Syntax.tyInt
-              Syntax.w64) (Scalar.room-sc 𝓤 H A W (Row.sInt Syntax.w64))) d50
+          d51 = Typed.g-pre 𝓤 H A W 𝓣 E G21 G22 b36 Δ0 (Typed.pass T21 T22 (s20 bs)) (at50 bs) (Scalar.g-room 𝓤 H A W E
+              G21 16 (Syntax.tyInt Syntax.w64) (Scalar.room-sc 𝓤 H A W (Row.sInt Syntax.w64))) d50
+
           d52 : Typed.Typed 𝓤 H A 𝓣 E G20 b37 Δ0 (at52 bs)
-          d52 = Typed.s-seq 𝓤 H A W 𝓣 E G20 G21 b9 b36 Δ0 (Typed.both (s19 bs)) (at51 bs) (Plain.t-call-plain 𝓤 H A W 𝓣 0 ps·2 r·2 (claims· .4)
-              (claims· .5) "hnsr_circuit::acknowledge::acknowledge_answer" (known .2) E (λ pos β. β) G20 (record { pos = 5; st = List.[]; d = 0; at =
-              λ x. x }, (Bool.bAt 12 λ x. x, (Num.vAt 16 λ x. x, (Num.vAt 7 λ x. x, (record { pos = 11; st = List.[]; d = 0; at = λ x. x },
-              tt),),),),) 13 List.[] (Call.sub-id 𝓤 H A W (G20 .slots)) ((Yields.yields-copy 𝓤 H A W (λ ρ. Unit) (Declared'.row
-              OpaqueRelayRuntime.the-type) Path.refl (Copies.cStruct OpaqueRelayRuntime.the-type Laws''''.the-laws Laws''''.the-copy .copy 𝓤 H A W)
-              (Rows.whole (Declared'.row OpaqueRelayRuntime.the-type)) (λ x. x) (λ x. x) (λ ρ told. Local.mem-whole 𝓤 H A W (Declared'.row
-              OpaqueRelayRuntime.the-type) ρ) λ ρ told. Local.whole-mem 𝓤 H A W (Declared'.row OpaqueRelayRuntime.the-type) ρ, Path.refl,),
-              ((Scalar.reads-sc 𝓤 H A W Row.sBool, Path.refl), ((Scalar.reads-sc 𝓤 H A W (Row.sInt Syntax.w64), Path.refl), ((Scalar.reads-sc 𝓤 H A W
-              (Row.sInt Syntax.w64), Path.refl), ((Yields.yields-copy 𝓤 H A W (λ ρ. Unit) (Declared'.row ActionFound.the-type) Path.refl
-              (Copies.cStruct ActionFound.the-type Laws'''.the-laws Laws'''.the-copy .copy 𝓤 H A W) (Rows.whole (Declared'.row ActionFound.the-type))
-              (λ x. x) (λ x. x) (λ ρ told. Local.mem-whole 𝓤 H A W (Declared'.row ActionFound.the-type) ρ) λ ρ told. Local.whole-mem 𝓤 H A W
-              (Declared'.row ActionFound.the-type) ρ, Path.refl,), tt,),),),),) (Reads.room-gone 𝓤 H A Laws.mir) tt Path.refl) d51
+          d52 = Typed.s-seq 𝓤 H A W 𝓣 E G20 G21 b9 b36 Δ0 (Typed.both (s19 bs)) (at51 bs) (Plain.t-call-plain 𝓤 H A W 𝓣
+              0 ps·2 r·2 (claims· .4) (claims· .5) "hnsr_circuit::acknowledge::acknowledge_answer" (known .2) E
+              (λ pos β. β) G20 (
+                record { pos = 5; st = List.[]; d = 0; at = λ x. x },
+                (
+                  Bool.bAt 12 λ x. x,
+                  (Num.vAt 16 λ x. x, (Num.vAt 7 λ x. x, (record { pos = 11; st = List.[]; d = 0; at = λ x. x }, tt))),
+                ),
+              ) 13 List.[] (Call.sub-id 𝓤 H A W (G20 .slots)) (
+                (
+                  Yields.yields-copy 𝓤 H A W (λ ρ. Unit) (Declared'.row OpaqueRelayRuntime.the-type) Path.refl (Copies.cStruct
+                      OpaqueRelayRuntime.the-type Laws''''.the-laws Laws''''.the-copy .copy 𝓤 H A W)
+                      (Rows.whole (Declared'.row OpaqueRelayRuntime.the-type)) (λ x. x) (λ x. x) (λ ρ told.
+                      Local.mem-whole 𝓤 H A W (Declared'.row OpaqueRelayRuntime.the-type) ρ) λ ρ told. Local.whole-mem
+                      𝓤 H A W (Declared'.row OpaqueRelayRuntime.the-type) ρ,
+                  Path.refl,
+                ),
+                (
+                  (Scalar.reads-sc 𝓤 H A W Row.sBool, Path.refl),
+                  (
+                    (Scalar.reads-sc 𝓤 H A W (Row.sInt Syntax.w64), Path.refl),
+                    (
+                      (Scalar.reads-sc 𝓤 H A W (Row.sInt Syntax.w64), Path.refl),
+                      (
+                        (
+                          Yields.yields-copy 𝓤 H A W (λ ρ. Unit) (Declared'.row ActionFound.the-type) Path.refl (Copies.cStruct
+                              ActionFound.the-type Laws'''.the-laws Laws'''.the-copy .copy 𝓤 H A W)
+                              (Rows.whole (Declared'.row ActionFound.the-type)) (λ x. x) (λ x. x) (λ ρ told.
+                              Local.mem-whole 𝓤 H A W (Declared'.row ActionFound.the-type) ρ) λ ρ told. Local.whole-mem
+                              𝓤 H A W (Declared'.row ActionFound.the-type) ρ,
+                          Path.refl,
+                        ),
+                        tt,
+                      ),
+                    ),
+                  ),
+                ),
+              ) (Reads.room-gone 𝓤 H A Laws.mir) tt Path.refl) d51
+
           d53 : Typed.Typed 𝓤 H A 𝓣 E G19 b38 Δ0 (at53 bs)
-          d53 = Typed.s-seq 𝓤 H A W 𝓣 E G19 G20 b8 b37 Δ0 (Typed.pass T19 T20 (s18 bs)) (at52 bs) (Scalar.t-use 𝓤 H A W E 𝓣 G19 (Scalar.oFld 4
-              ((Syntax.field 1) ∷ List.[]) (Syntax.tyInt Syntax.w64) 8 Shared.lenV) 16 (Rows.sc-here (Row.sInt Syntax.w64)) (Syntax.tyInt Syntax.w64)
-              (Row.valS (Row.sInt Syntax.w64)) (Row.sInt Syntax.w64 .of) (Mut.reads-mslice-len 𝓤 H A W (Referent.rtF (Referent.fInt Syntax.w32)) ref8
-              3 8 Path.refl, Path.refl,) (Reads.room-gone 𝓤 H A (Syntax.tyInt Syntax.w64)) (Scalar.holds-sc 𝓤 H A W (Row.sInt Syntax.w64)) Path.refl
-              (λ u. Path.refl) λ u. tt) d52
+          d53 = Typed.s-seq 𝓤 H A W 𝓣 E G19 G20 b8 b37 Δ0 (Typed.pass T19 T20 (s18 bs)) (at52 bs) (Scalar.t-use 𝓤 H A W
+              E 𝓣 G19 (Scalar.oFld 4 ((Syntax.field 1) ∷ List.[]) (Syntax.tyInt Syntax.w64) 8 Shared.lenV) 16
+              (Rows.sc-here (Row.sInt Syntax.w64)) (Syntax.tyInt Syntax.w64) (Row.valS (Row.sInt Syntax.w64))
+              (Row.sInt Syntax.w64 .of) (
+                Mut.reads-mslice-len 𝓤 H A W (Referent.rtF (Referent.fInt Syntax.w32)) ref8 3 8 Path.refl,
+                Path.refl,
+              ) (Reads.room-gone 𝓤 H A (Syntax.tyInt Syntax.w64)) (Scalar.holds-sc 𝓤 H A W (Row.sInt Syntax.w64))
+              Path.refl (λ u. Path.refl) λ u. tt) d52
+
           d54 : Typed.Typed 𝓤 H A 𝓣 E G18 b38 Δ0 (at54 bs)
-          d54 = Typed.g-pre 𝓤 H A W 𝓣 E G18 G19 b38 Δ0 (Typed.pass T18 T19 (s17 bs)) (at53 bs) (Scalar.g-room 𝓤 H A W E G18 18 (Syntax.tyInt
-              Syntax.w64) (Scalar.room-sc 𝓤 H A W (Row.sInt Syntax.w64))) d53
+          d54 = Typed.g-pre 𝓤 H A W 𝓣 E G18 G19 b38 Δ0 (Typed.pass T18 T19 (s17 bs)) (at53 bs) (Scalar.g-room 𝓤 H A W E
+              G18 18 (Syntax.tyInt Syntax.w64) (Scalar.room-sc 𝓤 H A W (Row.sInt Syntax.w64))) d53
+
           d55 : Typed.Typed 𝓤 H A 𝓣 E G17 b38 Δ0 (at55 bs)
-          d55 = Typed.g-pre 𝓤 H A W 𝓣 E G17 G18 b38 Δ0 (Typed.pass T17 T18 (s16 bs)) (at54 bs) (Scalar.g-room 𝓤 H A W E G17 17 (Syntax.tyInt
-              Syntax.w64) (Scalar.room-sc 𝓤 H A W (Row.sInt Syntax.w64))) d54
+          d55 = Typed.g-pre 𝓤 H A W 𝓣 E G17 G18 b38 Δ0 (Typed.pass T17 T18 (s16 bs)) (at54 bs) (Scalar.g-room 𝓤 H A W E
+              G17 17 (Syntax.tyInt Syntax.w64) (Scalar.room-sc 𝓤 H A W (Row.sInt Syntax.w64))) d54
+
           d56 : Typed.Typed 𝓤 H A 𝓣 E G16 b38 Δ0 (at56 bs)
-          d56 = Typed.g-pre 𝓤 H A W 𝓣 E G16 G17 b38 Δ0 (Typed.pass T16 T17 (s15 bs)) (at55 bs) (Scalar.g-room 𝓤 H A W E G16 16 (Syntax.tyInt
-              Syntax.w64) (Scalar.room-sc 𝓤 H A W (Row.sInt Syntax.w64))) d55
+          d56 = Typed.g-pre 𝓤 H A W 𝓣 E G16 G17 b38 Δ0 (Typed.pass T16 T17 (s15 bs)) (at55 bs) (Scalar.g-room 𝓤 H A W E
+              G16 16 (Syntax.tyInt Syntax.w64) (Scalar.room-sc 𝓤 H A W (Row.sInt Syntax.w64))) d55
+
           d57 : Typed.Typed 𝓤 H A 𝓣 E G15 b38 Δ0 (at57 bs)
-          d57 = Typed.g-pre 𝓤 H A W 𝓣 E G15 G16 b38 Δ0 (Typed.pass T15 T16 (s14 bs)) (at56 bs) (Scalar.g-room 𝓤 H A W E G15 10 Laws'.mir
-              (Local.room-whole 𝓤 H A W (Declared'.row OpaqueRelayConfig.the-type) Laws'.mir Path.refl)) d56
+          d57 = Typed.g-pre 𝓤 H A W 𝓣 E G15 G16 b38 Δ0 (Typed.pass T15 T16 (s14 bs)) (at56 bs) (Scalar.g-room 𝓤 H A W E
+              G15 10 Laws'.mir (Local.room-whole 𝓤 H A W (Declared'.row OpaqueRelayConfig.the-type) Laws'.mir
+              Path.refl)) d56
+
           d58 : Typed.Typed 𝓤 H A 𝓣 E G14 b39 Δ0 (at58 bs)
-          d58 = Typed.s-seq 𝓤 H A W 𝓣 E G14 G15 b7 b38 Δ0 (Typed.both (s13 bs)) (at57 bs) (Plain.t-call-plain 𝓤 H A W 𝓣 0 ps·1 r·1 (claims· .2)
-              (claims· .3) "hnsr_circuit::entry::too_few" (known .1) E (λ pos β. β) G14 (record { pos = 10; st = List.[]; d = 0; at = λ x. x },
-              (Num.vAt 16 λ x. x, (Num.vAt 17 λ x. x, (Num.vAt 18 λ x. x, tt))),) 12 List.[] (Call.sub-id 𝓤 H A W (G14 .slots)) ((Yields.yields-copy 𝓤
-              H A W (λ ρ. Unit) (Declared'.row OpaqueRelayConfig.the-type) Path.refl (Copies.cStruct OpaqueRelayConfig.the-type Laws'.the-laws
-              Laws'.the-copy .copy 𝓤 H A W) (Rows.whole (Declared'.row OpaqueRelayConfig.the-type)) (λ x. x) (λ x. x) (λ ρ told. Local.mem-whole 𝓤 H A
-              W (Declared'.row OpaqueRelayConfig.the-type) ρ) λ ρ told. Local.whole-mem 𝓤 H A W (Declared'.row OpaqueRelayConfig.the-type) ρ,
-              Path.refl,), ((Scalar.reads-sc 𝓤 H A W (Row.sInt Syntax.w64), Path.refl), ((Scalar.reads-sc 𝓤 H A W (Row.sInt Syntax.w64), Path.refl),
-              ((Scalar.reads-sc 𝓤 H A W (Row.sInt Syntax.w64), Path.refl), tt),),),) (Reads.room-gone 𝓤 H A Syntax.tyBool) tt Path.refl) d57
+          d58 = Typed.s-seq 𝓤 H A W 𝓣 E G14 G15 b7 b38 Δ0 (Typed.both (s13 bs)) (at57 bs) (Plain.t-call-plain 𝓤 H A W 𝓣
+              0 ps·1 r·1 (claims· .2) (claims· .3) "hnsr_circuit::entry::too_few" (known .1) E (λ pos β. β) G14 (
+                record { pos = 10; st = List.[]; d = 0; at = λ x. x },
+                (Num.vAt 16 λ x. x, (Num.vAt 17 λ x. x, (Num.vAt 18 λ x. x, tt))),
+              ) 12 List.[] (Call.sub-id 𝓤 H A W (G14 .slots)) (
+                (
+                  Yields.yields-copy 𝓤 H A W (λ ρ. Unit) (Declared'.row OpaqueRelayConfig.the-type) Path.refl (Copies.cStruct
+                      OpaqueRelayConfig.the-type Laws'.the-laws Laws'.the-copy .copy 𝓤 H A W)
+                      (Rows.whole (Declared'.row OpaqueRelayConfig.the-type)) (λ x. x) (λ x. x) (λ ρ told.
+                      Local.mem-whole 𝓤 H A W (Declared'.row OpaqueRelayConfig.the-type) ρ) λ ρ told. Local.whole-mem 𝓤
+                      H A W (Declared'.row OpaqueRelayConfig.the-type) ρ,
+                  Path.refl,
+                ),
+                (
+                  (Scalar.reads-sc 𝓤 H A W (Row.sInt Syntax.w64), Path.refl),
+                  (
+                    (Scalar.reads-sc 𝓤 H A W (Row.sInt Syntax.w64), Path.refl),
+                    ((Scalar.reads-sc 𝓤 H A W (Row.sInt Syntax.w64), Path.refl), tt),
+                  ),
+                ),
+              ) (Reads.room-gone 𝓤 H A Syntax.tyBool) tt Path.refl) d57
+
           d59 : Typed.Typed 𝓤 H A 𝓣 E G13 b40 Δ0 (at59 bs)
-          d59 = Typed.s-seq 𝓤 H A W 𝓣 E G13 G14 b6 b39 Δ0 (Typed.pass T13 T14 (s12 bs)) (at58 bs) (Scalar.t-use 𝓤 H A W E 𝓣 G13 (Scalar.oFld 3
-              ((Syntax.field 1) ∷ List.[]) (Syntax.tyInt Syntax.w64) 8 Shared.lenV) 18 (Rows.sc-here (Row.sInt Syntax.w64)) (Syntax.tyInt Syntax.w64)
-              (Row.valS (Row.sInt Syntax.w64)) (Row.sInt Syntax.w64 .of) (Mut.reads-mslice-len 𝓤 H A W InflightAction.row ref7 2 8 Path.refl,
-              Path.refl,) (Reads.room-gone 𝓤 H A (Syntax.tyInt Syntax.w64)) (Scalar.holds-sc 𝓤 H A W (Row.sInt Syntax.w64)) Path.refl (λ u. Path.refl)
-              λ u. tt) d58
+          d59 = Typed.s-seq 𝓤 H A W 𝓣 E G13 G14 b6 b39 Δ0 (Typed.pass T13 T14 (s12 bs)) (at58 bs) (Scalar.t-use 𝓤 H A W
+              E 𝓣 G13 (Scalar.oFld 3 ((Syntax.field 1) ∷ List.[]) (Syntax.tyInt Syntax.w64) 8 Shared.lenV) 18
+              (Rows.sc-here (Row.sInt Syntax.w64)) (Syntax.tyInt Syntax.w64) (Row.valS (Row.sInt Syntax.w64))
+              (Row.sInt Syntax.w64 .of) (Mut.reads-mslice-len 𝓤 H A W InflightAction.row ref7 2 8 Path.refl, Path.refl)
+              (Reads.room-gone 𝓤 H A (Syntax.tyInt Syntax.w64)) (Scalar.holds-sc 𝓤 H A W (Row.sInt Syntax.w64))
+              Path.refl (λ u. Path.refl) λ u. tt) d58
+
           d60 : Typed.Typed 𝓤 H A 𝓣 E G12 b41 Δ0 (at60 bs)
-          d60 = Typed.s-seq 𝓤 H A W 𝓣 E G12 G13 b5 b40 Δ0 (Typed.pass T12 T13 (s11 bs)) (at59 bs) (Scalar.t-use 𝓤 H A W E 𝓣 G12 (Scalar.oFld 2
-              ((Syntax.field 1) ∷ List.[]) (Syntax.tyInt Syntax.w64) 8 Shared.lenV) 17 (Rows.sc-here (Row.sInt Syntax.w64)) (Syntax.tyInt Syntax.w64)
-              (Row.valS (Row.sInt Syntax.w64)) (Row.sInt Syntax.w64 .of) (Mut.reads-mslice-len 𝓤 H A W RelayCircuit.row ref6 1 8 Path.refl,
-              Path.refl,) (Reads.room-gone 𝓤 H A (Syntax.tyInt Syntax.w64)) (Scalar.holds-sc 𝓤 H A W (Row.sInt Syntax.w64)) Path.refl (λ u. Path.refl)
-              λ u. tt) d59
+          d60 = Typed.s-seq 𝓤 H A W 𝓣 E G12 G13 b5 b40 Δ0 (Typed.pass T12 T13 (s11 bs)) (at59 bs) (Scalar.t-use 𝓤 H A W
+              E 𝓣 G12 (Scalar.oFld 2 ((Syntax.field 1) ∷ List.[]) (Syntax.tyInt Syntax.w64) 8 Shared.lenV) 17
+              (Rows.sc-here (Row.sInt Syntax.w64)) (Syntax.tyInt Syntax.w64) (Row.valS (Row.sInt Syntax.w64))
+              (Row.sInt Syntax.w64 .of) (Mut.reads-mslice-len 𝓤 H A W RelayCircuit.row ref6 1 8 Path.refl, Path.refl)
+              (Reads.room-gone 𝓤 H A (Syntax.tyInt Syntax.w64)) (Scalar.holds-sc 𝓤 H A W (Row.sInt Syntax.w64))
+              Path.refl (λ u. Path.refl) λ u. tt) d59
+
           d61 : Typed.Typed 𝓤 H A 𝓣 E G11 b42 Δ0 (at61 bs)
-          d61 = Typed.s-seq 𝓤 H A W 𝓣 E G11 G12 b4 b41 Δ0 (Typed.pass T10 T12 (s10 bs)) (at60 bs) (Scalar.t-use 𝓤 H A W E 𝓣 G11 (Scalar.oFld 1
-              ((Syntax.field 1) ∷ List.[]) (Syntax.tyInt Syntax.w64) 8 Shared.lenV) 16 (Rows.sc-here (Row.sInt Syntax.w64)) (Syntax.tyInt Syntax.w64)
-              (Row.valS (Row.sInt Syntax.w64)) (Row.sInt Syntax.w64 .of) (Mut.reads-mslice-len 𝓤 H A W RelayPending.row ref5 0 8 Path.refl,
-              Path.refl,) (Reads.room-gone 𝓤 H A (Syntax.tyInt Syntax.w64)) (Scalar.holds-sc 𝓤 H A W (Row.sInt Syntax.w64)) Path.refl (λ u. Path.refl)
-              λ u. tt) d60
+          d61 = Typed.s-seq 𝓤 H A W 𝓣 E G11 G12 b4 b41 Δ0 (Typed.pass T10 T12 (s10 bs)) (at60 bs) (Scalar.t-use 𝓤 H A W
+              E 𝓣 G11 (Scalar.oFld 1 ((Syntax.field 1) ∷ List.[]) (Syntax.tyInt Syntax.w64) 8 Shared.lenV) 16
+              (Rows.sc-here (Row.sInt Syntax.w64)) (Syntax.tyInt Syntax.w64) (Row.valS (Row.sInt Syntax.w64))
+              (Row.sInt Syntax.w64 .of) (Mut.reads-mslice-len 𝓤 H A W RelayPending.row ref5 0 8 Path.refl, Path.refl)
+              (Reads.room-gone 𝓤 H A (Syntax.tyInt Syntax.w64)) (Scalar.holds-sc 𝓤 H A W (Row.sInt Syntax.w64))
+              Path.refl (λ u. Path.refl) λ u. tt) d60
+
           d62 : Typed.Typed 𝓤 H A 𝓣 E G10 b42 Δ0 (at62 bs)
-          d62 = Typed.g-pre 𝓤 H A W 𝓣 E G10 G11 b42 Δ0 (λ Ψ. Ψ) (at61 bs) (Lifetime.g-forget 𝓤 H A W E G10 4 Row.dead Path.refl) d61
+          d62 = Typed.g-pre 𝓤 H A W 𝓣 E G10 G11 b42 Δ0 (λ Ψ. Ψ) (at61 bs)
+              (Lifetime.g-forget 𝓤 H A W E G10 4 Row.dead Path.refl) d61
+
           d63 : Typed.Typed 𝓤 H A 𝓣 E G9 b42 Δ0 (at63 bs)
-          d63 = Typed.g-pre 𝓤 H A W 𝓣 E G9 G10 b42 Δ0 (Typed.pass T8 T10 (s8 bs)) (at62 bs) (Reshare.g-back-sl-shr 𝓤 H A W E InflightAction.row G9 3 2
-              4 ref7 life0 (λ x. x) (Reads.as-is 𝓤 H A (Reshare.mslice-owedS InflightAction.row ref7 2 4 life0)) Path.refl Path.refl) d62
+          d63 = Typed.g-pre 𝓤 H A W 𝓣 E G9 G10 b42 Δ0 (Typed.pass T8 T10 (s8 bs)) (at62 bs) (Reshare.g-back-sl-shr 𝓤 H
+              A W E InflightAction.row G9 3 2 4 ref7 life0 (λ x. x) (Reads.as-is 𝓤 H A
+              (Reshare.mslice-owedS InflightAction.row ref7 2 4 life0)) Path.refl Path.refl) d62
+
           d64 : Typed.Typed 𝓤 H A 𝓣 E G8 b42 Δ0 (at64 bs)
           d64 = Typed.g-pre 𝓤 H A W 𝓣 E G8 G9 b42 Δ0 (λ Ψ. Ψ) (at63 bs) (Lifetime.g-end 𝓤 H A W E G8 4 Path.refl) d63
+
           d65 : Typed.Typed 𝓤 H A 𝓣 E G7 b42 Δ0 (at65 bs)
-          d65 = Typed.g-pre 𝓤 H A W 𝓣 E G7 G8 b42 Δ0 (Typed.pass T7 T8 (s6 bs)) (at64 bs) (Scalar.g-room 𝓤 H A W E G7 15 (Syntax.tyStruct (38 ∷ 91 ∷
-              93 ∷ List.[]) (Syntax.tcons ref0 (Syntax.tcons (Syntax.tyInt Syntax.w64) Syntax.tnil))) (Shared.room-sslice 𝓤 H A W InflightAction.row
-              ref0 4)) d64
+          d65 = Typed.g-pre 𝓤 H A W 𝓣 E G7 G8 b42 Δ0 (Typed.pass T7 T8 (s6 bs)) (at64 bs) (Scalar.g-room 𝓤 H A W E G7
+              15 slice0 (Shared.room-sslice 𝓤 H A W InflightAction.row ref0 4)) d64
+
           d66 : Typed.Typed 𝓤 H A 𝓣 E G6 b43 Δ0 (at66 bs)
-          d66 = Typed.s-seq 𝓤 H A W 𝓣 E G6 G7 b3 b42 Δ0 (Typed.both (s5 bs)) (at65 bs) (Plain.t-call-plain 𝓤 H A W 𝓣 1 ps·0 r·0 (claims· .0) (claims·
-              .1) "hnsr_circuit::lookup::look_up_action" (known .0) E (λ pos β. β) G6 (record { pos = 15; ty = Syntax.tyRef Syntax.erased Syntax.imm
-              InflightAction.to; ref = λ x. x; }, (record { pos = 6; st = List.[]; d = 0; at = λ x. x }, (Num.vAt 7 λ x. x, (Num.vAt 8 λ x. x,
-              tt)),),) 11 (4 ∷ List.[]) (Call.sub-id 𝓤 H A W (G6 .slots)) (ShrSlice.spares-sslice 𝓤 H A W InflightAction.row ref0 4,
-              Shared.reads-sslice 𝓤 H A W InflightAction.row ref0 4, Path.refl, ((Yields.yields-copy 𝓤 H A W (λ ρ. Unit) (Declared'.row
-              Places.the-type) Path.refl (Copies.cStruct Places.the-type Laws''.the-laws Laws''.the-copy .copy 𝓤 H A W) (Rows.whole (Declared'.row
-              Places.the-type)) (λ x. x) (λ x. x) (λ ρ told. Local.mem-whole 𝓤 H A W (Declared'.row Places.the-type) ρ) λ ρ told. Local.whole-mem 𝓤 H
-              A W (Declared'.row Places.the-type) ρ, Path.refl,), ((Scalar.reads-sc 𝓤 H A W (Row.sInt Syntax.w64), Path.refl), ((Scalar.reads-sc 𝓤 H A
-              W (Row.sInt Syntax.w64), Path.refl), tt),),),) (Reads.room-gone 𝓤 H A Laws'''.mir) (tt, tt) Path.refl) d65
+          d66 = Typed.s-seq 𝓤 H A W 𝓣 E G6 G7 b3 b42 Δ0 (Typed.both (s5 bs)) (at65 bs) (Plain.t-call-plain 𝓤 H A W 𝓣 1
+              ps·0 r·0 (claims· .0) (claims· .1) "hnsr_circuit::lookup::look_up_action" (known .0) E (λ pos β. β) G6 (
+                record { pos = 15; ty = ref0; ref = λ x. x },
+                (record { pos = 6; st = List.[]; d = 0; at = λ x. x }, (Num.vAt 7 λ x. x, (Num.vAt 8 λ x. x, tt))),
+              ) 11 (4 ∷ List.[]) (Call.sub-id 𝓤 H A W (G6 .slots)) (
+                ShrSlice.spares-sslice 𝓤 H A W InflightAction.row ref0 4,
+                Shared.reads-sslice 𝓤 H A W InflightAction.row ref0 4,
+                Path.refl,
+                (
+                  (
+                    Yields.yields-copy 𝓤 H A W (λ ρ. Unit) (Declared'.row Places.the-type) Path.refl (Copies.cStruct
+                        Places.the-type Laws''.the-laws Laws''.the-copy .copy 𝓤 H A W)
+                        (Rows.whole (Declared'.row Places.the-type)) (λ x. x) (λ x. x) (λ ρ told. Local.mem-whole 𝓤 H A
+                        W (Declared'.row Places.the-type) ρ) λ ρ told. Local.whole-mem 𝓤 H A W
+                        (Declared'.row Places.the-type) ρ,
+                    Path.refl,
+                  ),
+                  (
+                    (Scalar.reads-sc 𝓤 H A W (Row.sInt Syntax.w64), Path.refl),
+                    ((Scalar.reads-sc 𝓤 H A W (Row.sInt Syntax.w64), Path.refl), tt),
+                  ),
+                ),
+              ) (Reads.room-gone 𝓤 H A Laws'''.mir) (tt, tt) Path.refl) d65
+
           d67 : Typed.Typed 𝓤 H A 𝓣 E G5 b44 Δ0 (at67 bs)
-          d67 = Typed.s-seq 𝓤 H A W 𝓣 E G5 G6 b2 b43 Δ0 (Typed.ask (s4 bs)) (at66 bs) (Relend.t-sl-aggregate 𝓤 H A W E InflightAction.row 𝓣
-              (Relend.asShr InflightAction.row) G5 14 15 4 ref0 ref0 (λ x. x) (Scalar.oFld 3 ((Syntax.field 1) ∷ List.[]) (Syntax.tyInt Syntax.w64) 8
-              λ v. Shared.lenV (v .0)) (Reads.as-is 𝓤 H A (Relend.ssptr InflightAction.row ref0 4)) (Reads.room-gone 𝓤 H A (Syntax.tyStruct (38 ∷ 91 ∷
-              93 ∷ List.[]) (Syntax.tcons ref0 (Syntax.tcons (Syntax.tyInt Syntax.w64) Syntax.tnil)))) (Reshare.reads-owedS-len 𝓤 H A W
-              InflightAction.row ref7 2 4 life0 8 Path.refl, Path.refl,) Path.refl Path.refl λ b o k. tt) d66
+          d67 = Typed.s-seq 𝓤 H A W 𝓣 E G5 G6 b2 b43 Δ0 (Typed.ask (s4 bs)) (at66 bs) (Relend.t-sl-aggregate 𝓤 H A W E
+              InflightAction.row 𝓣 (Relend.asShr InflightAction.row) G5 14 15 4 ref0 ref0 (λ x. x) (Scalar.oFld 3
+              ((Syntax.field 1) ∷ List.[]) (Syntax.tyInt Syntax.w64) 8 λ v. Shared.lenV (v .0)) (Reads.as-is 𝓤 H A
+              (Relend.ssptr InflightAction.row ref0 4)) (Reads.room-gone 𝓤 H A slice0) (
+                Reshare.reads-owedS-len 𝓤 H A W InflightAction.row ref7 2 4 life0 8 Path.refl,
+                Path.refl,
+              ) Path.refl Path.refl λ b o k. tt) d66
+
           d68 : Typed.Typed 𝓤 H A 𝓣 E G4 b45 Δ0 (at68 bs)
-          d68 = Typed.s-seq 𝓤 H A W 𝓣 E G4 G5 b1 b44 Δ0 (Typed.give (s3 bs)) (at67 bs) (Reshare.t-sl-reshare 𝓤 H A W E InflightAction.row 𝓣 G4 3 14 2
-              4 ref7 ref0 life0 0 (λ x. x) (Reads.as-is 𝓤 H A (Mut.mslice InflightAction.row ref7 2)) (Reads.room-gone 𝓤 H A ref0) Path.refl tt
+          d68 = Typed.s-seq 𝓤 H A W 𝓣 E G4 G5 b1 b44 Δ0 (Typed.give (s3 bs)) (at67 bs) (Reshare.t-sl-reshare 𝓤 H A W E
+              InflightAction.row 𝓣 G4 3 14 2 4 ref7 ref0 life0 0 (λ x. x)
+              (Reads.as-is 𝓤 H A (Mut.mslice InflightAction.row ref7 2)) (Reads.room-gone 𝓤 H A ref0) Path.refl tt
               Path.refl Path.refl Path.refl λ b o. tt) d67
+
           d69 : Typed.Typed 𝓤 H A 𝓣 E G3 b45 Δ0 (at69 bs)
-          d69 = Typed.g-pre 𝓤 H A W 𝓣 E G3 G4 b45 Δ0 (λ Ψ. Ψ) (at68 bs) (Lifetime.g-begin 𝓤 H A W E G3 4 (tt, (tt, (tt, (tt, (tt, (tt, (tt, (tt, (tt,
-              (tt, (tt, (tt, (tt, (tt, (tt, (tt, (tt, (tt, (tt, (tt, (tt, (tt, (tt, (tt, (tt, (tt, (tt, (tt,
-              tt))))),),),),),),),),),),),),),),),),),),),),),),),)) d68
+          d69 = Typed.g-pre 𝓤 H A W 𝓣 E G3 G4 b45 Δ0 (λ Ψ. Ψ) (at68 bs) (Lifetime.g-begin 𝓤 H A W E G3 4 (
+            tt,
+            (
+              tt,
+              (
+                tt,
+                (
+                  tt,
+                  (
+                    tt,
+                    (
+                      tt,
+                      (
+                        tt,
+                        (
+                          tt,
+                          (
+                            tt,
+                            (
+                              tt,
+                              (
+                                tt,
+                                (
+                                  tt,
+                                  (
+                                    tt,
+                                    (
+                                      tt,
+                                      (
+                                        tt,
+                                        (
+                                          tt,
+                                          (tt, (tt, (tt, (tt, (tt, (tt, (tt, (tt, (tt, (tt, (tt, (tt, tt)))))))))))),
+                                        ),
+                                      ),
+                                    ),
+                                  ),
+                                ),
+                              ),
+                            ),
+                          ),
+                        ),
+                      ),
+                    ),
+                  ),
+                ),
+              ),
+            ),
+          )) d68
+
           d70 : Typed.Typed 𝓤 H A 𝓣 E G2 b46 Δ0 (at70 bs)
-          d70 = Typed.s-seq 𝓤 H A W 𝓣 E G2 G3 b0 b45 Δ0 (Typed.both (s1 bs)) (at69 bs) (WayStmt.t-way-copy-out 𝓤 H A W E 𝓣 (Declared'.row
-              OpaqueRelayConfig.the-type) Path.refl (Copies.cStruct OpaqueRelayConfig.the-type Laws'.the-laws Laws'.the-copy .copy 𝓤 H A W) (λ ρ.
-              Unit) G2 (Row.out 5 (G2 .locals)) (λ u. Row.drop 5 (G2 .locals) u) (G2 .slots) 5 (λ t. (Syntax.field 4) ∷ t) Laws'.mir Laws'.mir 10
-              (Rows.whole (Declared'.row OpaqueRelayConfig.the-type)) (λ x. x) (λ u. At.getAt (OpaqueRelayRuntime.the-type .parts) 4
-              (OpaqueRelayRuntime.struct .as-values (u .1 .1 .1 .1 .1 .0))) (λ u. (Row.hd 0 (Row.tl (Row.tl (Row.tl (Row.tl (Row.tl bs))))), Nat._+_ 0
-              40)) (λ T′. record { locals = Row.setRow 5 (5, Rows.whole (Declared'.row OpaqueRelayRuntime.the-type)) T′; slots = G2 .slots; }) (λ u T′
-              m′. Row.set 5 (5, Rows.whole (Declared'.row OpaqueRelayRuntime.the-type)) (u .1 .1 .1 .1 .1 .0) T′ m′) (λ u. Unit) (λ x. Unit)
-              (Own.told-none 𝓤 H A (G2 .slots)) (DerefMove.learns-nothing 𝓤 H A (Declared'.row OpaqueRelayConfig.the-type)) (λ ρ told u asked.
-              Way'.w-partˢ 𝓤 H A W E (Declared'.row OpaqueRelayRuntime.the-type) (Declared'.row OpaqueRelayConfig.the-type) Laws''''.mir Laws'.mir 4
-              40 (u .1 .1 .1 .1 .1 .0) (At.getAt (OpaqueRelayRuntime.the-type .parts) 4 (OpaqueRelayRuntime.struct .as-values (u .1 .1 .1 .1 .1 .0)))
-              (Row.hd 0 (Row.tl (Row.tl (Row.tl (Row.tl (Row.tl bs))))), 0) (Way.w-look 𝓤 H A W E (Way.w-local 𝓤 H A W E G2 ρ u (G2 .slots) 5
-              (Declared'.row OpaqueRelayRuntime.the-type) (Rows.whole (Declared'.row OpaqueRelayRuntime.the-type)) (λ x. x) (λ x. x) (u .1 .1 .1 .1 .1
-              .0) (Local.mem-whole 𝓤 H A W (Declared'.row OpaqueRelayRuntime.the-type) ρ (u .1 .1 .1 .1 .1 .0) (Row.hd 0 (Row.tl (Row.tl (Row.tl
-              (Row.tl (Row.tl bs))))))) (Local.whole-mem 𝓤 H A W (Declared'.row OpaqueRelayRuntime.the-type) ρ (u .1 .1 .1 .1 .1 .0) (Row.hd 0 (Row.tl
-              (Row.tl (Row.tl (Row.tl (Row.tl bs))))))))) Path.refl λ q. Inner.cut-record 𝓤 H A q (Declared'.row OpaqueRelayRuntime.the-type)
-              OpaqueRelayConfig.the-type 40 (u .1 .1 .1 .1 .1 .0) (u .1 .1 .1 .1 .1 .0) (At.getAt (OpaqueRelayRuntime.the-type .parts) 4
-              (OpaqueRelayRuntime.struct .as-values (u .1 .1 .1 .1 .1 .0))) (At.getAt (OpaqueRelayRuntime.the-type .parts) 4
-              (OpaqueRelayRuntime.struct .as-values (u .1 .1 .1 .1 .1 .0))) (Row.hd 0 (Row.tl (Row.tl (Row.tl (Row.tl (Row.tl bs))))), 0)
-              (Behind.look-at 𝓤 H A W q OpaqueRelayRuntime.the-type Laws''''.the-laws 4 40 Path.refl Path.refl (Row.hd 0 (Row.tl (Row.tl (Row.tl
-              (Row.tl (Row.tl bs))))), 0) (u .1 .1 .1 .1 .1 .0) (OpaqueRelayRuntime.struct .as-values (u .1 .1 .1 .1 .1 .0)) Path.refl))
-              (Reads.room-gone 𝓤 H A Laws'.mir) (Yields.makes-mem 𝓤 H A W (λ ρ. Unit) (Declared'.row OpaqueRelayConfig.the-type) Path.refl (Rows.whole
-              (Declared'.row OpaqueRelayConfig.the-type)) (λ x. x) λ ρ told. Local.whole-mem 𝓤 H A W (Declared'.row OpaqueRelayConfig.the-type) ρ)
-              Path.refl Path.refl Path.refl) d69
+          d70 = Typed.s-seq 𝓤 H A W 𝓣 E G2 G3 b0 b45 Δ0 (Typed.both (s1 bs)) (at69 bs) (WayStmt.t-way-copy-out 𝓤 H A W
+              E 𝓣 (Declared'.row OpaqueRelayConfig.the-type) Path.refl (Copies.cStruct OpaqueRelayConfig.the-type
+              Laws'.the-laws Laws'.the-copy .copy 𝓤 H A W) (λ ρ. Unit) G2 (Row.out 5 (G2 .locals))
+              (λ u. Row.drop 5 (G2 .locals) u) (G2 .slots) 5 (λ t. (Syntax.field 4) ∷ t) Laws'.mir Laws'.mir 10
+              (Rows.whole (Declared'.row OpaqueRelayConfig.the-type)) (λ x. x) (λ u. At.getAt
+              (OpaqueRelayRuntime.the-type .parts) 4 (OpaqueRelayRuntime.struct .as-values (u .1 .1 .1 .1 .1 .0))) (λ
+              u. (Row.hd 0 (Row.tl (Row.tl (Row.tl (Row.tl (Row.tl bs))))), Nat._+_ 0 40)) (λ T′.
+              record {
+                locals = Row.setRow 5 (5, Rows.whole (Declared'.row OpaqueRelayRuntime.the-type)) T′;
+                slots = G2 .slots;
+              }) (λ u T′ m′. Row.set 5 (5, Rows.whole (Declared'.row OpaqueRelayRuntime.the-type))
+              (u .1 .1 .1 .1 .1 .0) T′ m′) (λ u. Unit) (λ x. Unit) (Own.told-none 𝓤 H A (G2 .slots)) (DerefMove.learns-nothing
+              𝓤 H A (Declared'.row OpaqueRelayConfig.the-type)) (λ ρ told u asked. Way'.w-partˢ 𝓤 H A W E
+              (Declared'.row OpaqueRelayRuntime.the-type) (Declared'.row OpaqueRelayConfig.the-type) Laws''''.mir
+              Laws'.mir 4 40 (u .1 .1 .1 .1 .1 .0) (At.getAt (OpaqueRelayRuntime.the-type .parts) 4 (OpaqueRelayRuntime.struct
+              .as-values (u .1 .1 .1 .1 .1 .0))) (Row.hd 0 (Row.tl (Row.tl (Row.tl (Row.tl (Row.tl bs))))), 0) (Way.w-look
+              𝓤 H A W E (Way.w-local 𝓤 H A W E G2 ρ u (G2 .slots) 5 (Declared'.row OpaqueRelayRuntime.the-type)
+              (Rows.whole (Declared'.row OpaqueRelayRuntime.the-type)) (λ x. x) (λ x. x) (u .1 .1 .1 .1 .1 .0) (Local.mem-whole
+              𝓤 H A W (Declared'.row OpaqueRelayRuntime.the-type) ρ (u .1 .1 .1 .1 .1 .0)
+              (Row.hd 0 (Row.tl (Row.tl (Row.tl (Row.tl (Row.tl bs))))))) (Local.whole-mem 𝓤 H A W
+              (Declared'.row OpaqueRelayRuntime.the-type) ρ (u .1 .1 .1 .1 .1 .0) (Row.hd 0
+              (Row.tl (Row.tl (Row.tl (Row.tl (Row.tl bs))))))))) Path.refl λ q. Inner.cut-record 𝓤 H A q
+              (Declared'.row OpaqueRelayRuntime.the-type) OpaqueRelayConfig.the-type 40 (u .1 .1 .1 .1 .1 .0)
+              (u .1 .1 .1 .1 .1 .0) (At.getAt (OpaqueRelayRuntime.the-type .parts) 4 (OpaqueRelayRuntime.struct
+              .as-values (u .1 .1 .1 .1 .1 .0))) (At.getAt (OpaqueRelayRuntime.the-type .parts) 4 (OpaqueRelayRuntime.struct
+              .as-values (u .1 .1 .1 .1 .1 .0))) (Row.hd 0 (Row.tl (Row.tl (Row.tl (Row.tl (Row.tl bs))))), 0) (Behind.look-at
+              𝓤 H A W q OpaqueRelayRuntime.the-type Laws''''.the-laws 4 40 Path.refl Path.refl (
+                Row.hd 0 (Row.tl (Row.tl (Row.tl (Row.tl (Row.tl bs))))),
+                0,
+              ) (u .1 .1 .1 .1 .1 .0) (OpaqueRelayRuntime.struct .as-values (u .1 .1 .1 .1 .1 .0)) Path.refl))
+              (Reads.room-gone 𝓤 H A Laws'.mir) (Yields.makes-mem 𝓤 H A W (λ ρ. Unit)
+              (Declared'.row OpaqueRelayConfig.the-type) Path.refl
+              (Rows.whole (Declared'.row OpaqueRelayConfig.the-type)) (λ x. x) λ ρ told. Local.whole-mem 𝓤 H A W
+              (Declared'.row OpaqueRelayConfig.the-type) ρ) Path.refl Path.refl Path.refl) d69
+
           d71 : Typed.Typed 𝓤 H A 𝓣 E G0 b46 Δ0 (at71 bs)
-          d71 = Typed.g-pre 𝓤 H A W 𝓣 E G0 G2 b46 Δ0 (Typed.give (s0 bs)) (at70 bs) (Know.g-sl-known 𝓤 H A W (Referent.fInt Syntax.w32) E G0 4 3 ref8
-              life3 0 (λ x. x) record { fits = Dec.lit< tt } (Reads.as-is 𝓤 H A (Mut.mslice (Referent.rtF (Referent.fInt Syntax.w32)) ref8 3))
-              Path.refl tt) d70
-          pub typed : Typed.Typed 𝓤 H A 𝓣 E (Function.Γin 4 ps r xs m κs qs) b46 (Function.Δret 4 ps r xs m κs qs) (Φ bs)
+          d71 = Typed.g-pre 𝓤 H A W 𝓣 E G0 G2 b46 Δ0 (Typed.give (s0 bs)) (at70 bs) (Know.g-sl-known 𝓤 H A W
+              (Referent.fInt Syntax.w32) E G0 4 3 ref8 life3 0 (λ x. x) record { fits = Dec.lit< tt } (Reads.as-is 𝓤 H
+              A (Mut.mslice (Referent.rtF (Referent.fInt Syntax.w32)) ref8 3)) Path.refl tt) d70
+
+          pub typed : Typed.Typed 𝓤 H A 𝓣 E (Function.Γin 4 ps r xs m κs qs) b46 (Function.Δret 4 ps r xs m κs qs)
+              (Φ bs)
           typed = d71
+
       module _ (κs : Lifetimes.Lfts 4) where
         pub record Args : Type 0 where
-          pub pending : Kinds.Den { n = 4 } κs (MutSlice.pMutS RelayPending.row 0 tt)
-          pub circuits : Kinds.Den { n = 4 } κs (MutSlice.pMutS RelayCircuit.row 1 tt)
-          pub inflight : Kinds.Den { n = 4 } κs (MutSlice.pMutS InflightAction.row 2 tt)
-          pub out : Kinds.Den { n = 4 } κs (MutSlice.pMutS (Referent.rtF (Referent.fInt Syntax.w32)) 3 tt)
-          pub runtime : Kinds.Den { n = 4 } κs (Value.pVal record { ty = Declared'.row OpaqueRelayRuntime.the-type; one = Path.refl; val =
-              Laws'''''''.val OpaqueRelayRuntime.the-type Laws''''.the-laws; tells = Laws'''''''.tells OpaqueRelayRuntime.the-type Laws''''.the-laws;
-              still = Laws'''''''.still OpaqueRelayRuntime.the-type Laws''''.the-copy Exit.yes; row = Rows.whole (Declared'.row
-              OpaqueRelayRuntime.the-type); rd = λ x. x; mk = λ x. x; } λ M 𝓤 H A W. record { copies = Laws'''''''.copy OpaqueRelayRuntime.the-type
-              Laws''''.the-copy 𝓤 H A W; lawful = Laws'''''''.lawful OpaqueRelayRuntime.the-type Laws''''.the-laws 𝓤 H A W; makes = Laws'''''''.makes
-              OpaqueRelayRuntime.the-type Laws''''.the-plain 𝓤 H A; in-mem = Local.mem-whole 𝓤 H A W (Declared'.row OpaqueRelayRuntime.the-type);
-              of-mem = Local.whole-mem 𝓤 H A W (Declared'.row OpaqueRelayRuntime.the-type); })
-          pub places : Kinds.Den { n = 4 } κs (Value.pVal record { ty = Declared'.row Places.the-type; one = Path.refl; val = Laws'''''''.val
-              Places.the-type Laws''.the-laws; tells = Laws'''''''.tells Places.the-type Laws''.the-laws; still = Laws'''''''.still Places.the-type
-              Laws''.the-copy Exit.yes; row = Rows.whole (Declared'.row Places.the-type); rd = λ x. x; mk = λ x. x; } λ M 𝓤 H A W. record { copies =
-              Laws'''''''.copy Places.the-type Laws''.the-copy 𝓤 H A W; lawful = Laws'''''''.lawful Places.the-type Laws''.the-laws 𝓤 H A W; makes =
-              Laws'''''''.makes Places.the-type Laws''.the-plain 𝓤 H A; in-mem = Local.mem-whole 𝓤 H A W (Declared'.row Places.the-type); of-mem =
-              Local.whole-mem 𝓤 H A W (Declared'.row Places.the-type); })
-          pub generation : Kinds.Den { n = 4 } κs (Num.pNum Syntax.w64)
-          pub sequence : Kinds.Den { n = 4 } κs (Num.pNum Syntax.w64)
-          pub delivered : Kinds.Den { n = 4 } κs Bool.pBool
+          pub pending : Kinds.Den {n = 4} κs (MutSlice.pMutS RelayPending.row 0 tt)
+          pub circuits : Kinds.Den {n = 4} κs (MutSlice.pMutS RelayCircuit.row 1 tt)
+          pub inflight : Kinds.Den {n = 4} κs (MutSlice.pMutS InflightAction.row 2 tt)
+          pub out : Kinds.Den {n = 4} κs (MutSlice.pMutS (Referent.rtF (Referent.fInt Syntax.w32)) 3 tt)
+          pub runtime : Kinds.Den {n = 4} κs (StructRow.param OpaqueRelayRuntime.the-type Laws''''.the-laws
+              Laws''''.the-copy Laws''''.the-plain)
+          pub places : Kinds.Den {n = 4} κs (StructRow.param Places.the-type Laws''.the-laws Laws''.the-copy
+              Laws''.the-plain)
+          pub generation : Kinds.Den {n = 4} κs (Num.pNum Syntax.w64)
+          pub sequence : Kinds.Den {n = 4} κs (Num.pNum Syntax.w64)
+          pub delivered : Kinds.Den {n = 4} κs Bool.pBool
+
         abbrev pub dens : (a : Args) → Kinds.Dens κs ps
-        dens = λ a. (a .pending, (a .circuits, (a .inflight, (a .out, (a .runtime, (a .places, (a .generation, (a .sequence, (a .delivered,
-            tt))))),),),),)
+        dens = λ a. (
+          a .pending,
+          (
+            a .circuits,
+            (a .inflight, (a .out, (a .runtime, (a .places, (a .generation, (a .sequence, (a .delivered, tt))))))),
+          ),
+        )
+
         module _ (args· : Args) where
           pub record Ranges : Type 0 where
             pub generation : Val.Fits Syntax.w64 (args· .generation)
             pub sequence : Val.Fits Syntax.w64 (args· .sequence)
+
       abbrev pub m0 : (κs : Lifetimes.Lfts 4) → (args : Args κs) → (blocks : List.List Nat.ℕ) → Typed.Mo T0
       m0 = λ κs args blocks. (tt, Enter.partsP κs 1 ps xs (dens κs args))
+
       abbrev W0 : (κs : Lifetimes.Lfts 4) → (args : Args κs) → (blocks : List.List Nat.ℕ) → Typed.Want O0
-      W0 = λ κs args blocks. (λ u. ⊥, tt, λ u. Enter.Fixs κs 1 ps xs (dens κs args) (u .1) × Post· κs (dens κs args) (Function.resV r κs (u .0))
-          (Clauses.atExit (Kinds.endedOf 4 ps r) κs (dens κs args) (Enter.lastsP κs 1 ps xs (dens κs args) (u .1))),)
+      W0 = λ κs args blocks. (
+        λ u. ⊥,
+        tt,
+        λ u. Enter.Fixs κs 1 ps xs (dens κs args) (u .1) × Post· κs (dens κs args) (Function.resV r κs (u .0)) (Clauses.atExit
+            (Kinds.endedOf 4 ps r) κs (dens κs args) (Enter.lastsP κs 1 ps xs (dens κs args) (u .1))),
+      )
+
       pub record Start : Type 0 where
         pub κs : Lifetimes.Lfts 4
         pub args : Args κs
@@ -1651,551 +2704,1184 @@ module _ (claims· : Claims) where
         pub good : Kinds.GoodsP κs ps (dens κs args)
         pub fits : Ranges κs args
         pub pre : Pre· κs (dens κs args)
-      abbrev pub m1 : (before : Start) → (given : s0 (before .blocks) .gives (m0 (before .κs) (before .args) (before .blocks))) → Typed.Mo T2
+
+      abbrev pub m1 : (before : Start) → (given : s0 (before .blocks) .gives
+          (m0 (before .κs) (before .args) (before .blocks))) → Typed.Mo T2
       m1 = λ before given. s0 (before .blocks) .next (m0 (before .κs) (before .args) (before .blocks)) given
+
       module _ (before· : Start) where
         pub record After-slice-known·own : Type 0 where
           pub given : s0 (before· .blocks) .gives (m0 (before· .κs) (before· .args) (before· .blocks))
+
       pub record After-slice-known : Type 0 where
         pub before : Start
         pub slice-known : After-slice-known·own before
-      abbrev pub m2 : (before : After-slice-known) → (given : s1 (before .before .blocks) .gives (m1 (before .before) (before .slice-known .given))) →
-          Typed.Mo T3
+
+      abbrev pub m2 : (before : After-slice-known) → (given : s1 (before .before .blocks) .gives
+          (m1 (before .before) (before .slice-known .given))) → Typed.Mo T3
       m2 = λ before given. s1 (before .before .blocks) .next (m1 (before .before) (before .slice-known .given)) given
+
       module _ (before· : After-slice-known) where
         pub record After-config·own : Type 0 where
           pub given : s1 (before· .before .blocks) .gives (m1 (before· .before) (before· .slice-known .given))
+
       pub record After-config : Type 0 where
         pub before : After-slice-known
         pub config : After-config·own before
-      abbrev pub m3 : (before : After-config) → (given : s3 (before .before .before .blocks) .gives (m2 (before .before) (before .config .given))) →
-          Typed.Mo T5
-      m3 = λ before given. s3 (before .before .before .blocks) .next (m2 (before .before) (before .config .given)) given
-      abbrev pub m4 : (before : After-config) → (given : s3 (before .before .before .blocks) .gives (m2 (before .before) (before .config .given))) →
-          Typed.Mo T6
+
+      abbrev pub m3 : (before : After-config) → (given : s3 (before .before .before .blocks) .gives
+          (m2 (before .before) (before .config .given))) → Typed.Mo T5
+      m3 = λ before given. s3 (before .before .before .blocks) .next (m2 (before .before) (before .config .given))
+          given
+
+      abbrev pub m4 : (before : After-config) → (given : s3 (before .before .before .blocks) .gives
+          (m2 (before .before) (before .config .given))) → Typed.Mo T6
       m4 = λ before given. s4 (before .before .before .blocks) .next (m3 before given)
+
       module _ (before· : After-config) where
         pub record After-look-up-action-arg·own : Type 0 where
           pub given : s3 (before· .before .before .blocks) .gives (m2 (before· .before) (before· .config .given))
+
       pub record After-look-up-action-arg : Type 0 where
         pub before : After-config
         pub look-up-action-arg : After-look-up-action-arg·own before
+
       abbrev pub Need-look-up-action-requires : Type 0
-      Need-look-up-action-requires = (c : After-look-up-action-arg) → s5 (c .before .before .before .blocks) .asks (m4 (c .before) (c
-          .look-up-action-arg .given))
-      abbrev pub m5 : (before : After-look-up-action-arg) → (given : s5 (before .before .before .before .blocks) .gives (m4 (before .before) (before
-          .look-up-action-arg .given))) → Typed.Mo T7
-      m5 = λ before given. s5 (before .before .before .before .blocks) .next (m4 (before .before) (before .look-up-action-arg .given)) given
+      Need-look-up-action-requires = (c : After-look-up-action-arg) → s5 (c .before .before .before .blocks) .asks
+          (m4 (c .before) (c .look-up-action-arg .given))
+
+      abbrev pub m5 : (before : After-look-up-action-arg) → (given : s5 (before .before .before .before .blocks) .gives
+          (m4 (before .before) (before .look-up-action-arg .given))) → Typed.Mo T7
+      m5 = λ before given. s5 (before .before .before .before .blocks) .next
+          (m4 (before .before) (before .look-up-action-arg .given)) given
+
       module _ (before· : After-look-up-action-arg) where
         abbrev pub After-look-up-action·own : Type 0
-        After-look-up-action·own = Called.Called ps·0 r·0 (claims· .1) T6 (record { pos = 15; ty = Syntax.tyRef Syntax.erased Syntax.imm
-            InflightAction.to; ref = λ x. x; }, (record { pos = 6; st = List.[]; d = 0; at = λ x. x }, (Num.vAt 7 λ x. x, (Num.vAt 8 λ x. x, tt)),),)
-            (m4 (before· .before) (before· .look-up-action-arg .given))
+        After-look-up-action·own = Called.Called ps·0 r·0 (claims· .1) T6 (
+          record { pos = 15; ty = ref0; ref = λ x. x },
+          (record { pos = 6; st = List.[]; d = 0; at = λ x. x }, (Num.vAt 7 λ x. x, (Num.vAt 8 λ x. x, tt))),
+        ) (m4 (before· .before) (before· .look-up-action-arg .given))
+
       pub record After-look-up-action : Type 0 where
         pub before : After-look-up-action-arg
         pub look-up-action : After-look-up-action·own before
-      abbrev pub After-look-up-action·gave : (c : After-look-up-action) → s5 (c .before .before .before .before .blocks) .gives (m4 (c .before
-          .before) (c .before .look-up-action-arg .given))
-      After-look-up-action·gave = λ c. Called.given ps·0 r·0 (claims· .1) T6 (record { pos = 15; ty = Syntax.tyRef Syntax.erased Syntax.imm
-          InflightAction.to; ref = λ x. x; }, (record { pos = 6; st = List.[]; d = 0; at = λ x. x }, (Num.vAt 7 λ x. x, (Num.vAt 8 λ x. x, tt)),),)
-          (m4 (c .before .before) (c .before .look-up-action-arg .given)) (c .look-up-action)
-      abbrev pub m6 : (before : After-look-up-action-arg) → (given : s5 (before .before .before .before .blocks) .gives (m4 (before .before) (before
-          .look-up-action-arg .given))) → Typed.Mo T8
+
+      abbrev pub After-look-up-action·gave : (c : After-look-up-action) → s5
+          (c .before .before .before .before .blocks) .gives (m4 (c .before .before)
+          (c .before .look-up-action-arg .given))
+      After-look-up-action·gave = λ c. Called.given ps·0 r·0 (claims· .1) T6 (
+        record { pos = 15; ty = ref0; ref = λ x. x },
+        (record { pos = 6; st = List.[]; d = 0; at = λ x. x }, (Num.vAt 7 λ x. x, (Num.vAt 8 λ x. x, tt))),
+      ) (m4 (c .before .before) (c .before .look-up-action-arg .given)) (c .look-up-action)
+
+      abbrev pub m6 : (before : After-look-up-action-arg) → (given : s5 (before .before .before .before .blocks) .gives
+          (m4 (before .before) (before .look-up-action-arg .given))) → Typed.Mo T8
       m6 = λ before given. s6 (before .before .before .before .blocks) (m5 before given)
-      abbrev pub m7 : (before : After-look-up-action-arg) → (given : s5 (before .before .before .before .blocks) .gives (m4 (before .before) (before
-          .look-up-action-arg .given))) → Typed.Mo T10
+
+      abbrev pub m7 : (before : After-look-up-action-arg) → (given : s5 (before .before .before .before .blocks) .gives
+          (m4 (before .before) (before .look-up-action-arg .given))) → Typed.Mo T10
       m7 = λ before given. s8 (before .before .before .before .blocks) (m6 before given)
-      abbrev pub m8 : (before : After-look-up-action-arg) → (given : s5 (before .before .before .before .blocks) .gives (m4 (before .before) (before
-          .look-up-action-arg .given))) → Typed.Mo T12
+
+      abbrev pub m8 : (before : After-look-up-action-arg) → (given : s5 (before .before .before .before .blocks) .gives
+          (m4 (before .before) (before .look-up-action-arg .given))) → Typed.Mo T12
       m8 = λ before given. s10 (before .before .before .before .blocks) (m7 before given)
-      abbrev pub m9 : (before : After-look-up-action-arg) → (given : s5 (before .before .before .before .blocks) .gives (m4 (before .before) (before
-          .look-up-action-arg .given))) → Typed.Mo T13
+
+      abbrev pub m9 : (before : After-look-up-action-arg) → (given : s5 (before .before .before .before .blocks) .gives
+          (m4 (before .before) (before .look-up-action-arg .given))) → Typed.Mo T13
       m9 = λ before given. s11 (before .before .before .before .blocks) (m8 before given)
-      abbrev pub m10 : (before : After-look-up-action-arg) → (given : s5 (before .before .before .before .blocks) .gives (m4 (before .before) (before
-          .look-up-action-arg .given))) → Typed.Mo T14
+
+      abbrev pub m10 : (before : After-look-up-action-arg) → (given : s5 (before .before .before .before .blocks)
+          .gives (m4 (before .before) (before .look-up-action-arg .given))) → Typed.Mo T14
       m10 = λ before given. s12 (before .before .before .before .blocks) (m9 before given)
+
       abbrev pub Need-too-few-requires : Type 0
-      Need-too-few-requires = (c : After-look-up-action) → s13 (c .before .before .before .before .blocks) .asks (m10 (c .before)
-          (After-look-up-action·gave c))
-      abbrev pub m11 : (before : After-look-up-action) → (given : s13 (before .before .before .before .before .blocks) .gives (m10 (before .before)
-          (After-look-up-action·gave before))) → Typed.Mo T15
-      m11 = λ before given. s13 (before .before .before .before .before .blocks) .next (m10 (before .before) (After-look-up-action·gave before)) given
+      Need-too-few-requires = (c : After-look-up-action) → s13 (c .before .before .before .before .blocks) .asks
+          (m10 (c .before) (After-look-up-action·gave c))
+
+      abbrev pub m11 : (before : After-look-up-action) → (given : s13 (before .before .before .before .before .blocks)
+          .gives (m10 (before .before) (After-look-up-action·gave before))) → Typed.Mo T15
+      m11 = λ before given. s13 (before .before .before .before .before .blocks) .next
+          (m10 (before .before) (After-look-up-action·gave before)) given
+
       module _ (before· : After-look-up-action) where
         abbrev pub After-too-few·own : Type 0
-        After-too-few·own = Called.Called ps·1 r·1 (claims· .3) T14 (record { pos = 10; st = List.[]; d = 0; at = λ x. x }, (Num.vAt 16 λ x. x,
-            (Num.vAt 17 λ x. x, (Num.vAt 18 λ x. x, tt))),) (m10 (before· .before) (After-look-up-action·gave before·))
+        After-too-few·own = Called.Called ps·1 r·1 (claims· .3) T14 (
+          record { pos = 10; st = List.[]; d = 0; at = λ x. x },
+          (Num.vAt 16 λ x. x, (Num.vAt 17 λ x. x, (Num.vAt 18 λ x. x, tt))),
+        ) (m10 (before· .before) (After-look-up-action·gave before·))
+
       pub record After-too-few : Type 0 where
         pub before : After-look-up-action
         pub too-few : After-too-few·own before
-      abbrev pub After-too-few·gave : (c : After-too-few) → s13 (c .before .before .before .before .before .blocks) .gives (m10 (c .before .before)
-          (After-look-up-action·gave (c .before)))
-      After-too-few·gave = λ c. Called.given ps·1 r·1 (claims· .3) T14 (record { pos = 10; st = List.[]; d = 0; at = λ x. x }, (Num.vAt 16 λ x. x,
-          (Num.vAt 17 λ x. x, (Num.vAt 18 λ x. x, tt))),) (m10 (c .before .before) (After-look-up-action·gave (c .before))) (c .too-few)
-      abbrev pub m12 : (before : After-look-up-action) → (given : s13 (before .before .before .before .before .blocks) .gives (m10 (before .before)
-          (After-look-up-action·gave before))) → Typed.Mo T16
+
+      abbrev pub After-too-few·gave : (c : After-too-few) → s13 (c .before .before .before .before .before .blocks)
+          .gives (m10 (c .before .before) (After-look-up-action·gave (c .before)))
+      After-too-few·gave = λ c. Called.given ps·1 r·1 (claims· .3) T14 (
+        record { pos = 10; st = List.[]; d = 0; at = λ x. x },
+        (Num.vAt 16 λ x. x, (Num.vAt 17 λ x. x, (Num.vAt 18 λ x. x, tt))),
+      ) (m10 (c .before .before) (After-look-up-action·gave (c .before))) (c .too-few)
+
+      abbrev pub m12 : (before : After-look-up-action) → (given : s13 (before .before .before .before .before .blocks)
+          .gives (m10 (before .before) (After-look-up-action·gave before))) → Typed.Mo T16
       m12 = λ before given. s14 (before .before .before .before .before .blocks) (m11 before given)
-      abbrev pub m13 : (before : After-look-up-action) → (given : s13 (before .before .before .before .before .blocks) .gives (m10 (before .before)
-          (After-look-up-action·gave before))) → Typed.Mo T17
+
+      abbrev pub m13 : (before : After-look-up-action) → (given : s13 (before .before .before .before .before .blocks)
+          .gives (m10 (before .before) (After-look-up-action·gave before))) → Typed.Mo T17
       m13 = λ before given. s15 (before .before .before .before .before .blocks) (m12 before given)
-      abbrev pub m14 : (before : After-look-up-action) → (given : s13 (before .before .before .before .before .blocks) .gives (m10 (before .before)
-          (After-look-up-action·gave before))) → Typed.Mo T18
+
+      abbrev pub m14 : (before : After-look-up-action) → (given : s13 (before .before .before .before .before .blocks)
+          .gives (m10 (before .before) (After-look-up-action·gave before))) → Typed.Mo T18
       m14 = λ before given. s16 (before .before .before .before .before .blocks) (m13 before given)
-      abbrev pub m15 : (before : After-look-up-action) → (given : s13 (before .before .before .before .before .blocks) .gives (m10 (before .before)
-          (After-look-up-action·gave before))) → Typed.Mo T19
+
+      abbrev pub m15 : (before : After-look-up-action) → (given : s13 (before .before .before .before .before .blocks)
+          .gives (m10 (before .before) (After-look-up-action·gave before))) → Typed.Mo T19
       m15 = λ before given. s17 (before .before .before .before .before .blocks) (m14 before given)
-      abbrev pub m16 : (before : After-look-up-action) → (given : s13 (before .before .before .before .before .blocks) .gives (m10 (before .before)
-          (After-look-up-action·gave before))) → Typed.Mo T20
+
+      abbrev pub m16 : (before : After-look-up-action) → (given : s13 (before .before .before .before .before .blocks)
+          .gives (m10 (before .before) (After-look-up-action·gave before))) → Typed.Mo T20
       m16 = λ before given. s18 (before .before .before .before .before .blocks) (m15 before given)
+
       abbrev pub Need-acknowledge-answer-requires : Type 0
-      Need-acknowledge-answer-requires = (c : After-too-few) → s19 (c .before .before .before .before .before .blocks) .asks (m16 (c .before)
-          (After-too-few·gave c))
-      abbrev pub m17 : (before : After-too-few) → (given : s19 (before .before .before .before .before .before .blocks) .gives (m16 (before .before)
-          (After-too-few·gave before))) → Typed.Mo T21
-      m17 = λ before given. s19 (before .before .before .before .before .before .blocks) .next (m16 (before .before) (After-too-few·gave before))
-          given
+      Need-acknowledge-answer-requires = (c : After-too-few) → s19 (c .before .before .before .before .before .blocks)
+          .asks (m16 (c .before) (After-too-few·gave c))
+
+      abbrev pub m17 : (before : After-too-few) → (given : s19 (before .before .before .before .before .before .blocks)
+          .gives (m16 (before .before) (After-too-few·gave before))) → Typed.Mo T21
+      m17 = λ before given. s19 (before .before .before .before .before .before .blocks) .next
+          (m16 (before .before) (After-too-few·gave before)) given
+
       module _ (before· : After-too-few) where
         abbrev pub After-acknowledge-answer·own : Type 0
-        After-acknowledge-answer·own = Called.Called ps·2 r·2 (claims· .5) T20 (record { pos = 5; st = List.[]; d = 0; at = λ x. x }, (Bool.bAt 12 λ
-            x. x, (Num.vAt 16 λ x. x, (Num.vAt 7 λ x. x, (record { pos = 11; st = List.[]; d = 0; at = λ x. x }, tt)),),),) (m16 (before· .before)
-            (After-too-few·gave before·))
+        After-acknowledge-answer·own = Called.Called ps·2 r·2 (claims· .5) T20 (
+          record { pos = 5; st = List.[]; d = 0; at = λ x. x },
+          (
+            Bool.bAt 12 λ x. x,
+            (Num.vAt 16 λ x. x, (Num.vAt 7 λ x. x, (record { pos = 11; st = List.[]; d = 0; at = λ x. x }, tt))),
+          ),
+        ) (m16 (before· .before) (After-too-few·gave before·))
+
       pub record After-acknowledge-answer : Type 0 where
         pub before : After-too-few
         pub acknowledge-answer : After-acknowledge-answer·own before
-      abbrev pub After-acknowledge-answer·gave : (c : After-acknowledge-answer) → s19 (c .before .before .before .before .before .before .blocks)
-          .gives (m16 (c .before .before) (After-too-few·gave (c .before)))
-      After-acknowledge-answer·gave = λ c. Called.given ps·2 r·2 (claims· .5) T20 (record { pos = 5; st = List.[]; d = 0; at = λ x. x }, (Bool.bAt 12
-          λ x. x, (Num.vAt 16 λ x. x, (Num.vAt 7 λ x. x, (record { pos = 11; st = List.[]; d = 0; at = λ x. x }, tt)),),),) (m16 (c .before .before)
-          (After-too-few·gave (c .before))) (c .acknowledge-answer)
-      abbrev pub m18 : (before : After-too-few) → (given : s19 (before .before .before .before .before .before .blocks) .gives (m16 (before .before)
-          (After-too-few·gave before))) → Typed.Mo T22
+
+      abbrev pub After-acknowledge-answer·gave : (c : After-acknowledge-answer) → s19
+          (c .before .before .before .before .before .before .blocks) .gives
+          (m16 (c .before .before) (After-too-few·gave (c .before)))
+      After-acknowledge-answer·gave = λ c. Called.given ps·2 r·2 (claims· .5) T20 (
+        record { pos = 5; st = List.[]; d = 0; at = λ x. x },
+        (
+          Bool.bAt 12 λ x. x,
+          (Num.vAt 16 λ x. x, (Num.vAt 7 λ x. x, (record { pos = 11; st = List.[]; d = 0; at = λ x. x }, tt))),
+        ),
+      ) (m16 (c .before .before) (After-too-few·gave (c .before))) (c .acknowledge-answer)
+
+      abbrev pub m18 : (before : After-too-few) → (given : s19 (before .before .before .before .before .before .blocks)
+          .gives (m16 (before .before) (After-too-few·gave before))) → Typed.Mo T22
       m18 = λ before given. s20 (before .before .before .before .before .before .blocks) (m17 before given)
+
       abbrev pub Need-is-taken-requires : Type 0
-      Need-is-taken-requires = (c : After-acknowledge-answer) → s21 (c .before .before .before .before .before .before .blocks) .asks (m18 (c .before)
-          (After-acknowledge-answer·gave c))
-      abbrev pub m19 : (before : After-acknowledge-answer) → (given : s21 (before .before .before .before .before .before .before .blocks) .gives (m18
-          (before .before) (After-acknowledge-answer·gave before))) → Typed.Mo T23
-      m19 = λ before given. s21 (before .before .before .before .before .before .before .blocks) .next (m18 (before .before)
-          (After-acknowledge-answer·gave before)) given
+      Need-is-taken-requires = (c : After-acknowledge-answer) → s21
+          (c .before .before .before .before .before .before .blocks) .asks
+          (m18 (c .before) (After-acknowledge-answer·gave c))
+
+      abbrev pub m19 : (before : After-acknowledge-answer) → (given : s21 (before .before .before .before .before
+          .before .before .blocks) .gives (m18 (before .before) (After-acknowledge-answer·gave before))) → Typed.Mo T23
+      m19 = λ before given. s21 (before .before .before .before .before .before .before .blocks) .next (m18
+          (before .before) (After-acknowledge-answer·gave before)) given
+
       module _ (before· : After-acknowledge-answer) where
         abbrev pub After-is-taken·own : Type 0
-        After-is-taken·own = Called.Called ps·3 r·3 (claims· .7) T22 (record { pos = 13; st = List.[]; d = 0; at = λ x. x }, tt,) (m18 (before·
-            .before) (After-acknowledge-answer·gave before·))
+        After-is-taken·own = Called.Called ps·3 r·3 (claims· .7) T22
+            (record { pos = 13; st = List.[]; d = 0; at = λ x. x }, tt) (m18 (before· .before)
+            (After-acknowledge-answer·gave before·))
+
       pub record After-is-taken : Type 0 where
         pub before : After-acknowledge-answer
         pub is-taken : After-is-taken·own before
-      abbrev pub After-is-taken·gave : (c : After-is-taken) → s21 (c .before .before .before .before .before .before .before .blocks) .gives (m18 (c
-          .before .before) (After-acknowledge-answer·gave (c .before)))
-      After-is-taken·gave = λ c. Called.given ps·3 r·3 (claims· .7) T22 (record { pos = 13; st = List.[]; d = 0; at = λ x. x }, tt,) (m18 (c .before
-          .before) (After-acknowledge-answer·gave (c .before))) (c .is-taken)
-      abbrev W1 : (before : After-acknowledge-answer) → (given : s21 (before .before .before .before .before .before .before .blocks) .gives (m18
-          (before .before) (After-acknowledge-answer·gave before))) → Typed.Want O1
-      W1 = λ before given. Typed.wantNext T24 O0 (at48 (before .before .before .before .before .before .before .blocks) (W0 (before .before .before
-          .before .before .before .before .κs) (before .before .before .before .before .before .before .args) (before .before .before .before .before
-          .before .before .blocks))) (W0 (before .before .before .before .before .before .before .κs) (before .before .before .before .before .before
-          .before .args) (before .before .before .before .before .before .before .blocks))
+
+      abbrev pub After-is-taken·gave : (c : After-is-taken) → s21 (c .before .before .before .before .before .before
+          .before .blocks) .gives (m18 (c .before .before) (After-acknowledge-answer·gave (c .before)))
+      After-is-taken·gave = λ c. Called.given ps·3 r·3 (claims· .7) T22
+          (record { pos = 13; st = List.[]; d = 0; at = λ x. x }, tt) (m18 (c .before .before)
+          (After-acknowledge-answer·gave (c .before))) (c .is-taken)
+
+      abbrev W1 : (before : After-acknowledge-answer) → (given : s21 (before .before .before .before .before .before
+          .before .blocks) .gives (m18 (before .before) (After-acknowledge-answer·gave before))) → Typed.Want O1
+      W1 = λ before given. Typed.wantNext T24 O0 (at48 (before .before .before .before .before .before .before .blocks) (W0 (before
+          .before .before .before .before .before .before .κs) (before .before .before .before .before .before .before
+          .args) (before .before .before .before .before .before .before .blocks))) (W0 (before .before .before .before
+          .before .before .before .κs) (before .before .before .before .before .before .before .args) (before .before
+          .before .before .before .before .before .blocks))
+
       abbrev pub m20 : (before : After-is-taken) → Typed.Mo T25
-      m20 = λ before. s22 (before .before .before .before .before .before .before .before .blocks) (m19 (before .before) (After-is-taken·gave before))
+      m20 = λ before. s22 (before .before .before .before .before .before .before .before .blocks)
+          (m19 (before .before) (After-is-taken·gave before))
+
       abbrev pub m21 : (before : After-is-taken) → Typed.Mo T26
       m21 = λ before. s23 (before .before .before .before .before .before .before .before .blocks) (m20 before)
+
       module _ (before· : After-is-taken) where
         pub record Then1·own : Type 0 where
-          pub taken : Path._≡_ (Row.get 19 (T23 .locals) (m19 (before· .before) (After-is-taken·gave before·))) Bool'.true
+          pub taken : Path._≡_ (Row.get 19 (T23 .locals) (m19 (before· .before) (After-is-taken·gave before·)))
+              Bool'.true
+
       pub record Then1 : Type 0 where
         pub before : After-is-taken
         pub if1 : Then1·own before
-      abbrev pub m22 : (before : Then1) → (given : s25 (before .before .before .before .before .before .before .before .before .blocks) .gives (m21
-          (before .before))) → Typed.Mo T28
-      m22 = λ before given. s25 (before .before .before .before .before .before .before .before .before .blocks) .next (m21 (before .before)) given
-      abbrev pub m23 : (before : Then1) → (given : s25 (before .before .before .before .before .before .before .before .before .blocks) .gives (m21
-          (before .before))) → Typed.Mo T29
-      m23 = λ before given. s26 (before .before .before .before .before .before .before .before .before .blocks) .next (m22 before given)
+
+      abbrev pub m22 : (before : Then1) → (given : s25 (before .before .before .before .before .before .before .before
+          .before .blocks) .gives (m21 (before .before))) → Typed.Mo T28
+      m22 = λ before given. s25 (before .before .before .before .before .before .before .before .before .blocks) .next
+          (m21 (before .before)) given
+
+      abbrev pub m23 : (before : Then1) → (given : s25 (before .before .before .before .before .before .before .before
+          .before .blocks) .gives (m21 (before .before))) → Typed.Mo T29
+      m23 = λ before given. s26 (before .before .before .before .before .before .before .before .before .blocks) .next
+          (m22 before given)
+
       module _ (before· : Then1) where
         pub record After-acknowledge-action-arg·own : Type 0 where
-          pub given : s25 (before· .before .before .before .before .before .before .before .before .blocks) .gives (m21 (before· .before))
+          pub given : s25 (before· .before .before .before .before .before .before .before .before .blocks) .gives
+              (m21 (before· .before))
+
       pub record After-acknowledge-action-arg : Type 0 where
         pub before : Then1
         pub acknowledge-action-arg : After-acknowledge-action-arg·own before
-      abbrev pub m24 : (before : After-acknowledge-action-arg) → (given : s28 (before .before .before .before .before .before .before .before .before
-          .before .blocks) .gives (m23 (before .before) (before .acknowledge-action-arg .given))) → Typed.Mo T31
-      m24 = λ before given. s28 (before .before .before .before .before .before .before .before .before .before .blocks) .next (m23 (before .before)
-          (before .acknowledge-action-arg .given)) given
-      abbrev pub m25 : (before : After-acknowledge-action-arg) → (given : s28 (before .before .before .before .before .before .before .before .before
-          .before .blocks) .gives (m23 (before .before) (before .acknowledge-action-arg .given))) → Typed.Mo T32
-      m25 = λ before given. s29 (before .before .before .before .before .before .before .before .before .before .blocks) .next (m24 before given)
+
+      abbrev pub m24 : (before : After-acknowledge-action-arg) → (given : s28 (before .before .before .before .before
+          .before .before .before .before .before .blocks) .gives (m23 (before .before)
+          (before .acknowledge-action-arg .given))) → Typed.Mo T31
+      m24 = λ before given. s28 (before .before .before .before .before .before .before .before .before .before .blocks)
+          .next (m23 (before .before) (before .acknowledge-action-arg .given)) given
+
+      abbrev pub m25 : (before : After-acknowledge-action-arg) → (given : s28 (before .before .before .before .before
+          .before .before .before .before .before .blocks) .gives (m23 (before .before)
+          (before .acknowledge-action-arg .given))) → Typed.Mo T32
+      m25 = λ before given. s29 (before .before .before .before .before .before .before .before .before .before .blocks)
+          .next (m24 before given)
+
       module _ (before· : After-acknowledge-action-arg) where
         pub record After-acknowledge-action-arg2·own : Type 0 where
-          pub given : s28 (before· .before .before .before .before .before .before .before .before .before .blocks) .gives (m23 (before· .before)
-              (before· .acknowledge-action-arg .given))
+          pub given : s28 (before· .before .before .before .before .before .before .before .before .before .blocks)
+              .gives (m23 (before· .before) (before· .acknowledge-action-arg .given))
+
       pub record After-acknowledge-action-arg2 : Type 0 where
         pub before : After-acknowledge-action-arg
         pub acknowledge-action-arg2 : After-acknowledge-action-arg2·own before
-      abbrev pub m26 : (before : After-acknowledge-action-arg2) → (given : s31 (before .before .before .before .before .before .before .before .before
-          .before .before .blocks) .gives (m25 (before .before) (before .acknowledge-action-arg2 .given))) → Typed.Mo T34
-      m26 = λ before given. s31 (before .before .before .before .before .before .before .before .before .before .before .blocks) .next (m25 (before
-          .before) (before .acknowledge-action-arg2 .given)) given
-      abbrev pub m27 : (before : After-acknowledge-action-arg2) → (given : s31 (before .before .before .before .before .before .before .before .before
-          .before .before .blocks) .gives (m25 (before .before) (before .acknowledge-action-arg2 .given))) → Typed.Mo T35
-      m27 = λ before given. s32 (before .before .before .before .before .before .before .before .before .before .before .blocks) .next (m26 before
-          given)
+
+      abbrev pub m26 : (before : After-acknowledge-action-arg2) → (given : s31 (before .before .before .before .before
+          .before .before .before .before .before .before .blocks) .gives (m25 (before .before)
+          (before .acknowledge-action-arg2 .given))) → Typed.Mo T34
+      m26 = λ before given. s31 (before .before .before .before .before .before .before .before .before .before .before
+          .blocks) .next (m25 (before .before) (before .acknowledge-action-arg2 .given)) given
+
+      abbrev pub m27 : (before : After-acknowledge-action-arg2) → (given : s31 (before .before .before .before .before
+          .before .before .before .before .before .before .blocks) .gives (m25 (before .before)
+          (before .acknowledge-action-arg2 .given))) → Typed.Mo T35
+      m27 = λ before given. s32 (before .before .before .before .before .before .before .before .before .before .before
+          .blocks) .next (m26 before given)
+
       module _ (before· : After-acknowledge-action-arg2) where
         pub record After-acknowledge-action-arg3·own : Type 0 where
-          pub given : s31 (before· .before .before .before .before .before .before .before .before .before .before .blocks) .gives (m25 (before·
-              .before) (before· .acknowledge-action-arg2 .given))
+          pub given : s31 (before· .before .before .before .before .before .before .before .before .before .before
+              .blocks) .gives (m25 (before· .before) (before· .acknowledge-action-arg2 .given))
+
       pub record After-acknowledge-action-arg3 : Type 0 where
         pub before : After-acknowledge-action-arg2
         pub acknowledge-action-arg3 : After-acknowledge-action-arg3·own before
-      abbrev pub m28 : (before : After-acknowledge-action-arg3) → (given : s34 (before .before .before .before .before .before .before .before .before
-          .before .before .before .blocks) .gives (m27 (before .before) (before .acknowledge-action-arg3 .given))) → Typed.Mo T37
-      m28 = λ before given. s34 (before .before .before .before .before .before .before .before .before .before .before .before .blocks) .next (m27
-          (before .before) (before .acknowledge-action-arg3 .given)) given
-      abbrev pub m29 : (before : After-acknowledge-action-arg3) → (given : s34 (before .before .before .before .before .before .before .before .before
-          .before .before .before .blocks) .gives (m27 (before .before) (before .acknowledge-action-arg3 .given))) → Typed.Mo T38
-      m29 = λ before given. s35 (before .before .before .before .before .before .before .before .before .before .before .before .blocks) .next (m28
-          before given)
+
+      abbrev pub m28 : (before : After-acknowledge-action-arg3) → (given : s34 (before .before .before .before .before
+          .before .before .before .before .before .before .before .blocks) .gives (m27 (before .before)
+          (before .acknowledge-action-arg3 .given))) → Typed.Mo T37
+      m28 = λ before given. s34 (before .before .before .before .before .before .before .before .before .before .before
+          .before .blocks) .next (m27 (before .before) (before .acknowledge-action-arg3 .given)) given
+
+      abbrev pub m29 : (before : After-acknowledge-action-arg3) → (given : s34 (before .before .before .before .before
+          .before .before .before .before .before .before .before .blocks) .gives (m27 (before .before)
+          (before .acknowledge-action-arg3 .given))) → Typed.Mo T38
+      m29 = λ before given. s35 (before .before .before .before .before .before .before .before .before .before .before
+          .before .blocks) .next (m28 before given)
+
       module _ (before· : After-acknowledge-action-arg3) where
         pub record After-acknowledge-action-arg4·own : Type 0 where
-          pub given : s34 (before· .before .before .before .before .before .before .before .before .before .before .before .blocks) .gives (m27
-              (before· .before) (before· .acknowledge-action-arg3 .given))
+          pub given : s34 (before· .before .before .before .before .before .before .before .before .before .before
+              .before .blocks) .gives (m27 (before· .before) (before· .acknowledge-action-arg3 .given))
+
       pub record After-acknowledge-action-arg4 : Type 0 where
         pub before : After-acknowledge-action-arg3
         pub acknowledge-action-arg4 : After-acknowledge-action-arg4·own before
+
       abbrev pub Need-acknowledge-action-requires : Type 0
-      Need-acknowledge-action-requires = (c : After-acknowledge-action-arg4) → s36 (c .before .before .before .before .before .before .before .before
-          .before .before .before .before .blocks) .asks (m29 (c .before) (c .acknowledge-action-arg4 .given))
-      abbrev pub m30 : (before : After-acknowledge-action-arg4) → (given : s36 (before .before .before .before .before .before .before .before .before
-          .before .before .before .before .blocks) .gives (m29 (before .before) (before .acknowledge-action-arg4 .given))) → Typed.Mo T39
-      m30 = λ before given. s36 (before .before .before .before .before .before .before .before .before .before .before .before .before .blocks) .next
-          (m29 (before .before) (before .acknowledge-action-arg4 .given)) given
+      Need-acknowledge-action-requires = (c : After-acknowledge-action-arg4) → s36 (c .before .before .before .before
+          .before .before .before .before .before .before .before .before .blocks) .asks
+          (m29 (c .before) (c .acknowledge-action-arg4 .given))
+
+      abbrev pub m30 : (before : After-acknowledge-action-arg4) → (given : s36 (before .before .before .before .before
+          .before .before .before .before .before .before .before .before .blocks) .gives (m29 (before .before)
+          (before .acknowledge-action-arg4 .given))) → Typed.Mo T39
+      m30 = λ before given. s36 (before .before .before .before .before .before .before .before .before .before .before
+          .before .before .blocks) .next (m29 (before .before) (before .acknowledge-action-arg4 .given)) given
+
       module _ (before· : After-acknowledge-action-arg4) where
         abbrev pub After-acknowledge-action·own : Type 0
-        After-acknowledge-action·own = Called.Called ps·4 r·4 (claims· .9) T38 (record { pos = 21; ty = Syntax.tyRef Syntax.erased Syntax.mut
-            RelayPending.to; ref = λ x. x; }, (record { pos = 23; ty = Syntax.tyRef Syntax.erased Syntax.mut RelayCircuit.to; ref = λ x. x; }, (record
-            { pos = 25; ty = Syntax.tyRef Syntax.erased Syntax.mut InflightAction.to; ref = λ x. x; }, (record { pos = 27; ty = Syntax.tyRef
-            Syntax.erased Syntax.mut (Syntax.tyInt Syntax.w32); ref = λ x. x; }, (record { pos = 5; st = List.[]; d = 0; at = λ x. x }, (record { pos
-            = 6; st = List.[]; d = 0; at = λ x. x }, (record { pos = 11; st = List.[]; d = 0; at = λ x. x }, (Bool.bAt 9 λ x. x, tt),),),),),),),)
-            (m29 (before· .before) (before· .acknowledge-action-arg4 .given))
+        After-acknowledge-action·own = Called.Called ps·4 r·4 (claims· .9) T38 (
+          record { pos = 21; ty = ref1; ref = λ x. x },
+          (
+            record { pos = 23; ty = ref2; ref = λ x. x },
+            (
+              record { pos = 25; ty = ref3; ref = λ x. x },
+              (
+                record { pos = 27; ty = ref4; ref = λ x. x },
+                (
+                  record { pos = 5; st = List.[]; d = 0; at = λ x. x },
+                  (
+                    record { pos = 6; st = List.[]; d = 0; at = λ x. x },
+                    (record { pos = 11; st = List.[]; d = 0; at = λ x. x }, (Bool.bAt 9 λ x. x, tt)),
+                  ),
+                ),
+              ),
+            ),
+          ),
+        ) (m29 (before· .before) (before· .acknowledge-action-arg4 .given))
+
       pub record After-acknowledge-action : Type 0 where
         pub before : After-acknowledge-action-arg4
         pub acknowledge-action : After-acknowledge-action·own before
-      abbrev pub After-acknowledge-action·gave : (c : After-acknowledge-action) → s36 (c .before .before .before .before .before .before .before
-          .before .before .before .before .before .before .blocks) .gives (m29 (c .before .before) (c .before .acknowledge-action-arg4 .given))
-      After-acknowledge-action·gave = λ c. Called.given ps·4 r·4 (claims· .9) T38 (record { pos = 21; ty = Syntax.tyRef Syntax.erased Syntax.mut
-          RelayPending.to; ref = λ x. x; }, (record { pos = 23; ty = Syntax.tyRef Syntax.erased Syntax.mut RelayCircuit.to; ref = λ x. x; }, (record {
-          pos = 25; ty = Syntax.tyRef Syntax.erased Syntax.mut InflightAction.to; ref = λ x. x; }, (record { pos = 27; ty = Syntax.tyRef Syntax.erased
-          Syntax.mut (Syntax.tyInt Syntax.w32); ref = λ x. x; }, (record { pos = 5; st = List.[]; d = 0; at = λ x. x }, (record { pos = 6; st =
-          List.[]; d = 0; at = λ x. x }, (record { pos = 11; st = List.[]; d = 0; at = λ x. x }, (Bool.bAt 9 λ x. x, tt),),),),),),),) (m29 (c .before
-          .before) (c .before .acknowledge-action-arg4 .given)) (c .acknowledge-action)
-      abbrev pub m31 : (before : After-acknowledge-action-arg4) → (given : s36 (before .before .before .before .before .before .before .before .before
-          .before .before .before .before .blocks) .gives (m29 (before .before) (before .acknowledge-action-arg4 .given))) → Typed.Mo T40
-      m31 = λ before given. s37 (before .before .before .before .before .before .before .before .before .before .before .before .before .blocks) (m30
-          before given)
-      abbrev pub m32 : (before : After-acknowledge-action-arg4) → (given : s36 (before .before .before .before .before .before .before .before .before
-          .before .before .before .before .blocks) .gives (m29 (before .before) (before .acknowledge-action-arg4 .given))) → Typed.Mo T41
-      m32 = λ before given. s38 (before .before .before .before .before .before .before .before .before .before .before .before .before .blocks) (m31
-          before given)
-      abbrev pub m33 : (before : After-acknowledge-action-arg4) → (given : s36 (before .before .before .before .before .before .before .before .before
-          .before .before .before .before .blocks) .gives (m29 (before .before) (before .acknowledge-action-arg4 .given))) → Typed.Mo T42
-      m33 = λ before given. s39 (before .before .before .before .before .before .before .before .before .before .before .before .before .blocks) (m32
-          before given)
-      abbrev pub m34 : (before : After-acknowledge-action) → (given : s41 (before .before .before .before .before .before .before .before .before
-          .before .before .before .before .before .blocks) .gives (m33 (before .before) (After-acknowledge-action·gave before))) → Typed.Mo T44
-      m34 = λ before given. s41 (before .before .before .before .before .before .before .before .before .before .before .before .before .before
-          .blocks) .next (m33 (before .before) (After-acknowledge-action·gave before)) given
+
+      abbrev pub After-acknowledge-action·gave : (c : After-acknowledge-action) → s36 (c .before .before .before
+          .before .before .before .before .before .before .before .before .before .before .blocks) .gives (m29
+          (c .before .before) (c .before .acknowledge-action-arg4 .given))
+      After-acknowledge-action·gave = λ c. Called.given ps·4 r·4 (claims· .9) T38 (
+        record { pos = 21; ty = ref1; ref = λ x. x },
+        (
+          record { pos = 23; ty = ref2; ref = λ x. x },
+          (
+            record { pos = 25; ty = ref3; ref = λ x. x },
+            (
+              record { pos = 27; ty = ref4; ref = λ x. x },
+              (
+                record { pos = 5; st = List.[]; d = 0; at = λ x. x },
+                (
+                  record { pos = 6; st = List.[]; d = 0; at = λ x. x },
+                  (record { pos = 11; st = List.[]; d = 0; at = λ x. x }, (Bool.bAt 9 λ x. x, tt)),
+                ),
+              ),
+            ),
+          ),
+        ),
+      ) (m29 (c .before .before) (c .before .acknowledge-action-arg4 .given)) (c .acknowledge-action)
+
+      abbrev pub m31 : (before : After-acknowledge-action-arg4) → (given : s36 (before .before .before .before .before
+          .before .before .before .before .before .before .before .before .blocks) .gives (m29 (before .before)
+          (before .acknowledge-action-arg4 .given))) → Typed.Mo T40
+      m31 = λ before given. s37 (before .before .before .before .before .before .before .before .before .before .before
+          .before .before .blocks) (m30 before given)
+
+      abbrev pub m32 : (before : After-acknowledge-action-arg4) → (given : s36 (before .before .before .before .before
+          .before .before .before .before .before .before .before .before .blocks) .gives (m29 (before .before)
+          (before .acknowledge-action-arg4 .given))) → Typed.Mo T41
+      m32 = λ before given. s38 (before .before .before .before .before .before .before .before .before .before .before
+          .before .before .blocks) (m31 before given)
+
+      abbrev pub m33 : (before : After-acknowledge-action-arg4) → (given : s36 (before .before .before .before .before
+          .before .before .before .before .before .before .before .before .blocks) .gives (m29 (before .before)
+          (before .acknowledge-action-arg4 .given))) → Typed.Mo T42
+      m33 = λ before given. s39 (before .before .before .before .before .before .before .before .before .before .before
+          .before .before .blocks) (m32 before given)
+
+      abbrev pub m34 : (before : After-acknowledge-action) → (given : s41 (before .before .before .before .before
+          .before .before .before .before .before .before .before .before .before .blocks) .gives (m33 (before .before)
+          (After-acknowledge-action·gave before))) → Typed.Mo T44
+      m34 = λ before given. s41 (before .before .before .before .before .before .before .before .before .before .before
+          .before .before .before .blocks) .next (m33 (before .before) (After-acknowledge-action·gave before)) given
+
       module _ (before· : After-acknowledge-action) where
         pub record After-pending·own : Type 0 where
-          pub given : s41 (before· .before .before .before .before .before .before .before .before .before .before .before .before .before .blocks)
-              .gives (m33 (before· .before) (After-acknowledge-action·gave before·))
+          pub given : s41 (before· .before .before .before .before .before .before .before .before .before .before
+              .before .before .before .blocks) .gives (m33 (before· .before) (After-acknowledge-action·gave before·))
+
       pub record After-pending : Type 0 where
         pub before : After-acknowledge-action
         pub pending : After-pending·own before
-      abbrev pub m35 : (before : After-pending) → (given : s44 (before .before .before .before .before .before .before .before .before .before .before
-          .before .before .before .before .blocks) .gives (m34 (before .before) (before .pending .given))) → Typed.Mo T47
-      m35 = λ before given. s44 (before .before .before .before .before .before .before .before .before .before .before .before .before .before
-          .before .blocks) .next (m34 (before .before) (before .pending .given)) given
+
+      abbrev pub m35 : (before : After-pending) → (given : s44 (before .before .before .before .before .before .before
+          .before .before .before .before .before .before .before .before .blocks) .gives
+          (m34 (before .before) (before .pending .given))) → Typed.Mo T47
+      m35 = λ before given. s44 (before .before .before .before .before .before .before .before .before .before .before
+          .before .before .before .before .blocks) .next (m34 (before .before) (before .pending .given)) given
+
       module _ (before· : After-pending) where
         pub record After-circuits·own : Type 0 where
-          pub given : s44 (before· .before .before .before .before .before .before .before .before .before .before .before .before .before .before
-              .blocks) .gives (m34 (before· .before) (before· .pending .given))
+          pub given : s44 (before· .before .before .before .before .before .before .before .before .before .before
+              .before .before .before .before .blocks) .gives (m34 (before· .before) (before· .pending .given))
+
       pub record After-circuits : Type 0 where
         pub before : After-pending
         pub circuits : After-circuits·own before
-      abbrev pub m36 : (before : After-circuits) → (given : s47 (before .before .before .before .before .before .before .before .before .before
-          .before .before .before .before .before .before .blocks) .gives (m35 (before .before) (before .circuits .given))) → Typed.Mo T50
-      m36 = λ before given. s47 (before .before .before .before .before .before .before .before .before .before .before .before .before .before
-          .before .before .blocks) .next (m35 (before .before) (before .circuits .given)) given
+
+      abbrev pub m36 : (before : After-circuits) → (given : s47 (before .before .before .before .before .before .before
+          .before .before .before .before .before .before .before .before .before .blocks) .gives
+          (m35 (before .before) (before .circuits .given))) → Typed.Mo T50
+      m36 = λ before given. s47 (before .before .before .before .before .before .before .before .before .before .before
+          .before .before .before .before .before .blocks) .next (m35 (before .before) (before .circuits .given)) given
+
       module _ (before· : After-circuits) where
         pub record After-inflight·own : Type 0 where
-          pub given : s47 (before· .before .before .before .before .before .before .before .before .before .before .before .before .before .before
-              .before .blocks) .gives (m35 (before· .before) (before· .circuits .given))
+          pub given : s47 (before· .before .before .before .before .before .before .before .before .before .before
+              .before .before .before .before .before .blocks) .gives
+              (m35 (before· .before) (before· .circuits .given))
+
       pub record After-inflight : Type 0 where
         pub before : After-circuits
         pub inflight : After-inflight·own before
-      abbrev pub m37 : (before : After-inflight) → (given : s50 (before .before .before .before .before .before .before .before .before .before
-          .before .before .before .before .before .before .before .blocks) .gives (m36 (before .before) (before .inflight .given))) → Typed.Mo T53
-      m37 = λ before given. s50 (before .before .before .before .before .before .before .before .before .before .before .before .before .before
-          .before .before .before .blocks) .next (m36 (before .before) (before .inflight .given)) given
+
+      abbrev pub m37 : (before : After-inflight) → (given : s50 (before .before .before .before .before .before .before
+          .before .before .before .before .before .before .before .before .before .before .blocks) .gives
+          (m36 (before .before) (before .inflight .given))) → Typed.Mo T53
+      m37 = λ before given. s50 (before .before .before .before .before .before .before .before .before .before .before
+          .before .before .before .before .before .before .blocks) .next
+          (m36 (before .before) (before .inflight .given)) given
+
       module _ (before· : After-inflight) where
         pub record After-out·own : Type 0 where
-          pub given : s50 (before· .before .before .before .before .before .before .before .before .before .before .before .before .before .before
-              .before .before .blocks) .gives (m36 (before· .before) (before· .inflight .given))
+          pub given : s50 (before· .before .before .before .before .before .before .before .before .before .before
+              .before .before .before .before .before .before .blocks) .gives
+              (m36 (before· .before) (before· .inflight .given))
+
       pub record After-out : Type 0 where
         pub before : After-inflight
         pub out : After-out·own before
-      abbrev pub m38 : (before : After-out) → (given : s51 (before .before .before .before .before .before .before .before .before .before .before
-          .before .before .before .before .before .before .before .blocks) .gives (m37 (before .before) (before .out .given))) → Typed.Mo T54
-      m38 = λ before given. s51 (before .before .before .before .before .before .before .before .before .before .before .before .before .before
-          .before .before .before .before .blocks) .next (m37 (before .before) (before .out .given)) given
-      abbrev pub m39 : (before : After-out) → (given : s51 (before .before .before .before .before .before .before .before .before .before .before
-          .before .before .before .before .before .before .before .blocks) .gives (m37 (before .before) (before .out .given))) → Typed.Mo T56
-      m39 = λ before given. s53 (before .before .before .before .before .before .before .before .before .before .before .before .before .before
-          .before .before .before .before .blocks) (m38 before given)
-      abbrev pub m40 : (before : After-out) → (given : s51 (before .before .before .before .before .before .before .before .before .before .before
-          .before .before .before .before .before .before .before .blocks) .gives (m37 (before .before) (before .out .given))) → Typed.Mo T57
-      m40 = λ before given. s54 (before .before .before .before .before .before .before .before .before .before .before .before .before .before
-          .before .before .before .before .blocks) (m39 before given)
-      abbrev pub m41 : (before : After-out) → (given : s51 (before .before .before .before .before .before .before .before .before .before .before
-          .before .before .before .before .before .before .before .blocks) .gives (m37 (before .before) (before .out .given))) → Typed.Mo T58
-      m41 = λ before given. s55 (before .before .before .before .before .before .before .before .before .before .before .before .before .before
-          .before .before .before .before .blocks) (m40 before given)
-      abbrev pub m42 : (before : After-out) → (given : s51 (before .before .before .before .before .before .before .before .before .before .before
-          .before .before .before .before .before .before .before .blocks) .gives (m37 (before .before) (before .out .given))) → Typed.Mo T59
-      m42 = λ before given. s56 (before .before .before .before .before .before .before .before .before .before .before .before .before .before
-          .before .before .before .before .blocks) (m41 before given)
+
+      abbrev pub m38 : (before : After-out) → (given : s51 (before .before .before .before .before .before .before
+          .before .before .before .before .before .before .before .before .before .before .before .blocks) .gives
+          (m37 (before .before) (before .out .given))) → Typed.Mo T54
+      m38 = λ before given. s51 (before .before .before .before .before .before .before .before .before .before .before
+          .before .before .before .before .before .before .before .blocks) .next
+          (m37 (before .before) (before .out .given)) given
+
+      abbrev pub m39 : (before : After-out) → (given : s51 (before .before .before .before .before .before .before
+          .before .before .before .before .before .before .before .before .before .before .before .blocks) .gives
+          (m37 (before .before) (before .out .given))) → Typed.Mo T56
+      m39 = λ before given. s53 (before .before .before .before .before .before .before .before .before .before .before
+          .before .before .before .before .before .before .before .blocks) (m38 before given)
+
+      abbrev pub m40 : (before : After-out) → (given : s51 (before .before .before .before .before .before .before
+          .before .before .before .before .before .before .before .before .before .before .before .blocks) .gives
+          (m37 (before .before) (before .out .given))) → Typed.Mo T57
+      m40 = λ before given. s54 (before .before .before .before .before .before .before .before .before .before .before
+          .before .before .before .before .before .before .before .blocks) (m39 before given)
+
+      abbrev pub m41 : (before : After-out) → (given : s51 (before .before .before .before .before .before .before
+          .before .before .before .before .before .before .before .before .before .before .before .blocks) .gives
+          (m37 (before .before) (before .out .given))) → Typed.Mo T58
+      m41 = λ before given. s55 (before .before .before .before .before .before .before .before .before .before .before
+          .before .before .before .before .before .before .before .blocks) (m40 before given)
+
+      abbrev pub m42 : (before : After-out) → (given : s51 (before .before .before .before .before .before .before
+          .before .before .before .before .before .before .before .before .before .before .before .blocks) .gives
+          (m37 (before .before) (before .out .given))) → Typed.Mo T59
+      m42 = λ before given. s56 (before .before .before .before .before .before .before .before .before .before .before
+          .before .before .before .before .before .before .before .blocks) (m41 before given)
+
       module _ (before· : After-out) where
         pub record After-slice-known2·own : Type 0 where
-          pub given : s51 (before· .before .before .before .before .before .before .before .before .before .before .before .before .before .before
-              .before .before .before .blocks) .gives (m37 (before· .before) (before· .out .given))
+          pub given : s51 (before· .before .before .before .before .before .before .before .before .before .before
+              .before .before .before .before .before .before .before .blocks) .gives
+              (m37 (before· .before) (before· .out .given))
+
       pub record After-slice-known2 : Type 0 where
         pub before : After-out
         pub slice-known2 : After-slice-known2·own before
+
       abbrev pub Need-same-length : Type 0
-      Need-same-length = (c : After-slice-known2) → MutSlice.SameLen (Row.get 1 (T59 .locals) (m42 (c .before) (c .slice-known2 .given))) (dens (c
-          .before .before .before .before .before .before .before .before .before .before .before .before .before .before .before .before .before
-          .before .κs) (c .before .before .before .before .before .before .before .before .before .before .before .before .before .before .before
-          .before .before .before .args) .0)
+      Need-same-length = (c : After-slice-known2) → MutSlice.SameLen (Row.get 1 (T59 .locals)
+          (m42 (c .before) (c .slice-known2 .given))) (dens (c .before .before .before .before .before .before .before
+          .before .before .before .before .before .before .before .before .before .before .before .κs) (c .before
+          .before .before .before .before .before .before .before .before .before .before .before .before .before
+          .before .before .before .before .args) .0)
+
       abbrev pub Need-same-length-2 : Type 0
-      Need-same-length-2 = (c : After-slice-known2) → MutSlice.SameLen (Row.get 2 (T59 .locals) (m42 (c .before) (c .slice-known2 .given))) (dens (c
-          .before .before .before .before .before .before .before .before .before .before .before .before .before .before .before .before .before
-          .before .κs) (c .before .before .before .before .before .before .before .before .before .before .before .before .before .before .before
-          .before .before .before .args) .1 .0)
+      Need-same-length-2 = (c : After-slice-known2) → MutSlice.SameLen (Row.get 2 (T59 .locals)
+          (m42 (c .before) (c .slice-known2 .given))) (dens (c .before .before .before .before .before .before .before
+          .before .before .before .before .before .before .before .before .before .before .before .κs) (c .before
+          .before .before .before .before .before .before .before .before .before .before .before .before .before
+          .before .before .before .before .args) .1 .0)
+
       abbrev pub Need-same-length-3 : Type 0
-      Need-same-length-3 = (c : After-slice-known2) → MutSlice.SameLen (Row.get 3 (T59 .locals) (m42 (c .before) (c .slice-known2 .given))) (dens (c
-          .before .before .before .before .before .before .before .before .before .before .before .before .before .before .before .before .before
-          .before .κs) (c .before .before .before .before .before .before .before .before .before .before .before .before .before .before .before
-          .before .before .before .args) .1 .1 .0)
+      Need-same-length-3 = (c : After-slice-known2) → MutSlice.SameLen (Row.get 3 (T59 .locals)
+          (m42 (c .before) (c .slice-known2 .given))) (dens (c .before .before .before .before .before .before .before
+          .before .before .before .before .before .before .before .before .before .before .before .κs) (c .before
+          .before .before .before .before .before .before .before .before .before .before .before .before .before
+          .before .before .before .before .args) .1 .1 .0)
+
       abbrev pub Need-same-length-4 : Type 0
-      Need-same-length-4 = (c : After-slice-known2) → MutSlice.SameLen (Row.get 4 (T59 .locals) (m42 (c .before) (c .slice-known2 .given))) (dens (c
-          .before .before .before .before .before .before .before .before .before .before .before .before .before .before .before .before .before
-          .before .κs) (c .before .before .before .before .before .before .before .before .before .before .before .before .before .before .before
-          .before .before .before .args) .1 .1 .1 .0)
+      Need-same-length-4 = (c : After-slice-known2) → MutSlice.SameLen (Row.get 4 (T59 .locals)
+          (m42 (c .before) (c .slice-known2 .given))) (dens (c .before .before .before .before .before .before .before
+          .before .before .before .before .before .before .before .before .before .before .before .κs) (c .before
+          .before .before .before .before .before .before .before .before .before .before .before .before .before
+          .before .before .before .before .args) .1 .1 .1 .0)
+
       abbrev pub Need-returns : Type 0
-      Need-returns = (c : After-slice-known2) → Post· (c .before .before .before .before .before .before .before .before .before .before .before
-          .before .before .before .before .before .before .before .κs) (dens (c .before .before .before .before .before .before .before .before
-          .before .before .before .before .before .before .before .before .before .before .κs) (c .before .before .before .before .before .before
-          .before .before .before .before .before .before .before .before .before .before .before .before .args)) (Function.resV r (c .before .before
-          .before .before .before .before .before .before .before .before .before .before .before .before .before .before .before .before .κs) (m42 (c
-          .before) (c .slice-known2 .given) .0)) (Clauses.atExit (Kinds.endedOf 4 ps r) (c .before .before .before .before .before .before .before
-          .before .before .before .before .before .before .before .before .before .before .before .κs) (dens (c .before .before .before .before
-          .before .before .before .before .before .before .before .before .before .before .before .before .before .before .κs) (c .before .before
-          .before .before .before .before .before .before .before .before .before .before .before .before .before .before .before .before .args))
-          (Enter.lastsP (c .before .before .before .before .before .before .before .before .before .before .before .before .before .before .before
-          .before .before .before .κs) 1 ps xs (dens (c .before .before .before .before .before .before .before .before .before .before .before
-          .before .before .before .before .before .before .before .κs) (c .before .before .before .before .before .before .before .before .before
-          .before .before .before .before .before .before .before .before .before .args)) (m42 (c .before) (c .slice-known2 .given) .1)))
+      Need-returns = (c : After-slice-known2) → Post· (c .before .before .before .before .before .before .before
+          .before .before .before .before .before .before .before .before .before .before .before .κs) (dens (c .before
+          .before .before .before .before .before .before .before .before .before .before .before .before .before
+          .before .before .before .before .κs) (c .before .before .before .before .before .before .before .before
+          .before .before .before .before .before .before .before .before .before .before .args)) (Function.resV r (c
+          .before .before .before .before .before .before .before .before .before .before .before .before .before
+          .before .before .before .before .before .κs) (m42 (c .before) (c .slice-known2 .given) .0)) (Clauses.atExit
+          (Kinds.endedOf 4 ps r) (c .before .before .before .before .before .before .before .before .before .before
+          .before .before .before .before .before .before .before .before .κs) (dens (c .before .before .before .before
+          .before .before .before .before .before .before .before .before .before .before .before .before .before
+          .before .κs) (c .before .before .before .before .before .before .before .before .before .before .before
+          .before .before .before .before .before .before .before .args)) (Enter.lastsP (c .before .before .before
+          .before .before .before .before .before .before .before .before .before .before .before .before .before
+          .before .before .κs) 1 ps xs (dens (c .before .before .before .before .before .before .before .before .before
+          .before .before .before .before .before .before .before .before .before .κs) (c .before .before .before
+          .before .before .before .before .before .before .before .before .before .before .before .before .before
+          .before .before .args)) (m42 (c .before) (c .slice-known2 .given) .1)))
+
       abbrev pub m43 : (before : After-is-taken) → Typed.Mo T60
-      m43 = λ before. s57 (before .before .before .before .before .before .before .before .blocks) (m19 (before .before) (After-is-taken·gave before))
+      m43 = λ before. s57 (before .before .before .before .before .before .before .before .blocks)
+          (m19 (before .before) (After-is-taken·gave before))
+
       abbrev pub m44 : (before : After-is-taken) → Typed.Mo T61
       m44 = λ before. s58 (before .before .before .before .before .before .before .before .blocks) (m43 before)
+
       module _ (before· : After-is-taken) where
         pub record Else1·own : Type 0 where
-          pub left : Path._≡_ (Row.get 19 (T23 .locals) (m19 (before· .before) (After-is-taken·gave before·))) Bool'.false
+          pub left : Path._≡_ (Row.get 19 (T23 .locals) (m19 (before· .before) (After-is-taken·gave before·)))
+              Bool'.false
+
       pub record Else1 : Type 0 where
         pub before : After-is-taken
         pub if1 : Else1·own before
+
       abbrev pub Need-refused-requires : Type 0
-      Need-refused-requires = (c : Else1) → s59 (c .before .before .before .before .before .before .before .before .blocks) .asks (m44 (c .before))
-      abbrev pub m45 : (before : Else1) → (given : s59 (before .before .before .before .before .before .before .before .before .blocks) .gives (m44
-          (before .before))) → Typed.Mo T62
-      m45 = λ before given. s59 (before .before .before .before .before .before .before .before .before .blocks) .next (m44 (before .before)) given
+      Need-refused-requires = (c : Else1) → s59 (c .before .before .before .before .before .before .before .before
+          .blocks) .asks (m44 (c .before))
+
+      abbrev pub m45 : (before : Else1) → (given : s59 (before .before .before .before .before .before .before .before
+          .before .blocks) .gives (m44 (before .before))) → Typed.Mo T62
+      m45 = λ before given. s59 (before .before .before .before .before .before .before .before .before .blocks) .next
+          (m44 (before .before)) given
+
       module _ (before· : Else1) where
         abbrev pub After-refused·own : Type 0
-        After-refused·own = Called.Called ps·5 r·5 (claims· .11) T24 (record { pos = 5; st = List.[]; d = 0; at = λ x. x }, (record { pos = 6; st =
-            List.[]; d = 0; at = λ x. x }, (record { pos = 13; st = List.[]; d = 0; at = λ x. x }, tt),),) (m44 (before· .before))
+        After-refused·own = Called.Called ps·5 r·5 (claims· .11) T24 (
+          record { pos = 5; st = List.[]; d = 0; at = λ x. x },
+          (
+            record { pos = 6; st = List.[]; d = 0; at = λ x. x },
+            (record { pos = 13; st = List.[]; d = 0; at = λ x. x }, tt),
+          ),
+        ) (m44 (before· .before))
+
       pub record After-refused : Type 0 where
         pub before : Else1
         pub refused : After-refused·own before
-      abbrev pub After-refused·gave : (c : After-refused) → s59 (c .before .before .before .before .before .before .before .before .before .blocks)
-          .gives (m44 (c .before .before))
-      After-refused·gave = λ c. Called.given ps·5 r·5 (claims· .11) T24 (record { pos = 5; st = List.[]; d = 0; at = λ x. x }, (record { pos = 6; st =
-          List.[]; d = 0; at = λ x. x }, (record { pos = 13; st = List.[]; d = 0; at = λ x. x }, tt),),) (m44 (c .before .before)) (c .refused)
-      abbrev pub m46 : (before : Else1) → (given : s59 (before .before .before .before .before .before .before .before .before .blocks) .gives (m44
-          (before .before))) → Typed.Mo T63
-      m46 = λ before given. s60 (before .before .before .before .before .before .before .before .before .blocks) (m45 before given)
-      abbrev pub m47 : (before : Else1) → (given : s59 (before .before .before .before .before .before .before .before .before .blocks) .gives (m44
-          (before .before))) → Typed.Mo T64
-      m47 = λ before given. s61 (before .before .before .before .before .before .before .before .before .blocks) (m46 before given)
-      abbrev pub m48 : (before : Else1) → (given : s59 (before .before .before .before .before .before .before .before .before .blocks) .gives (m44
-          (before .before))) → Typed.Mo T65
-      m48 = λ before given. s62 (before .before .before .before .before .before .before .before .before .blocks) (m47 before given)
-      abbrev pub m49 : (before : Else1) → (given : s59 (before .before .before .before .before .before .before .before .before .blocks) .gives (m44
-          (before .before))) → Typed.Mo T66
-      m49 = λ before given. s63 (before .before .before .before .before .before .before .before .before .blocks) (m48 before given)
-      abbrev pub m50 : (before : Else1) → (given : s59 (before .before .before .before .before .before .before .before .before .blocks) .gives (m44
-          (before .before))) → Typed.Mo T67
-      m50 = λ before given. s64 (before .before .before .before .before .before .before .before .before .blocks) (m49 before given)
-      abbrev pub m51 : (before : Else1) → (given : s59 (before .before .before .before .before .before .before .before .before .blocks) .gives (m44
-          (before .before))) → Typed.Mo T68
-      m51 = λ before given. s65 (before .before .before .before .before .before .before .before .before .blocks) (m50 before given)
-      abbrev pub m52 : (before : Else1) → (given : s59 (before .before .before .before .before .before .before .before .before .blocks) .gives (m44
-          (before .before))) → Typed.Mo T69
-      m52 = λ before given. s66 (before .before .before .before .before .before .before .before .before .blocks) (m51 before given)
+
+      abbrev pub After-refused·gave : (c : After-refused) → s59 (c .before .before .before .before .before .before
+          .before .before .before .blocks) .gives (m44 (c .before .before))
+      After-refused·gave = λ c. Called.given ps·5 r·5 (claims· .11) T24 (
+        record { pos = 5; st = List.[]; d = 0; at = λ x. x },
+        (
+          record { pos = 6; st = List.[]; d = 0; at = λ x. x },
+          (record { pos = 13; st = List.[]; d = 0; at = λ x. x }, tt),
+        ),
+      ) (m44 (c .before .before)) (c .refused)
+
+      abbrev pub m46 : (before : Else1) → (given : s59 (before .before .before .before .before .before .before .before
+          .before .blocks) .gives (m44 (before .before))) → Typed.Mo T63
+      m46 = λ before given. s60 (before .before .before .before .before .before .before .before .before .blocks)
+          (m45 before given)
+
+      abbrev pub m47 : (before : Else1) → (given : s59 (before .before .before .before .before .before .before .before
+          .before .blocks) .gives (m44 (before .before))) → Typed.Mo T64
+      m47 = λ before given. s61 (before .before .before .before .before .before .before .before .before .blocks)
+          (m46 before given)
+
+      abbrev pub m48 : (before : Else1) → (given : s59 (before .before .before .before .before .before .before .before
+          .before .blocks) .gives (m44 (before .before))) → Typed.Mo T65
+      m48 = λ before given. s62 (before .before .before .before .before .before .before .before .before .blocks)
+          (m47 before given)
+
+      abbrev pub m49 : (before : Else1) → (given : s59 (before .before .before .before .before .before .before .before
+          .before .blocks) .gives (m44 (before .before))) → Typed.Mo T66
+      m49 = λ before given. s63 (before .before .before .before .before .before .before .before .before .blocks)
+          (m48 before given)
+
+      abbrev pub m50 : (before : Else1) → (given : s59 (before .before .before .before .before .before .before .before
+          .before .blocks) .gives (m44 (before .before))) → Typed.Mo T67
+      m50 = λ before given. s64 (before .before .before .before .before .before .before .before .before .blocks)
+          (m49 before given)
+
+      abbrev pub m51 : (before : Else1) → (given : s59 (before .before .before .before .before .before .before .before
+          .before .blocks) .gives (m44 (before .before))) → Typed.Mo T68
+      m51 = λ before given. s65 (before .before .before .before .before .before .before .before .before .blocks)
+          (m50 before given)
+
+      abbrev pub m52 : (before : Else1) → (given : s59 (before .before .before .before .before .before .before .before
+          .before .blocks) .gives (m44 (before .before))) → Typed.Mo T69
+      m52 = λ before given. s66 (before .before .before .before .before .before .before .before .before .blocks)
+          (m51 before given)
+
       abbrev pub Need-same-length-5 : Type 0
-      Need-same-length-5 = (c : After-refused) → MutSlice.SameLen (Row.get 3 (T69 .locals) (m52 (c .before) (After-refused·gave c))) (dens (c .before
-          .before .before .before .before .before .before .before .before .κs) (c .before .before .before .before .before .before .before .before
-          .before .args) .1 .1 .0)
+      Need-same-length-5 = (c : After-refused) → MutSlice.SameLen (Row.get 3 (T69 .locals)
+          (m52 (c .before) (After-refused·gave c))) (dens (c .before .before .before .before .before .before .before
+          .before .before .κs) (c .before .before .before .before .before .before .before .before .before .args) .1 .1
+          .0)
+
       abbrev pub Need-returns-2 : Type 0
-      Need-returns-2 = (c : After-refused) → Post· (c .before .before .before .before .before .before .before .before .before .κs) (dens (c .before
-          .before .before .before .before .before .before .before .before .κs) (c .before .before .before .before .before .before .before .before
-          .before .args)) (Function.resV r (c .before .before .before .before .before .before .before .before .before .κs) (m52 (c .before)
-          (After-refused·gave c) .0)) (Clauses.atExit (Kinds.endedOf 4 ps r) (c .before .before .before .before .before .before .before .before
-          .before .κs) (dens (c .before .before .before .before .before .before .before .before .before .κs) (c .before .before .before .before
-          .before .before .before .before .before .args)) (Enter.lastsP (c .before .before .before .before .before .before .before .before .before
-          .κs) 1 ps xs (dens (c .before .before .before .before .before .before .before .before .before .κs) (c .before .before .before .before
-          .before .before .before .before .before .args)) (m52 (c .before) (After-refused·gave c) .1)))
-      module _ (look-up-action-requires : Need-look-up-action-requires) (too-few-requires : Need-too-few-requires) (acknowledge-answer-requires :
-          Need-acknowledge-answer-requires) (is-taken-requires : Need-is-taken-requires) (acknowledge-action-requires :
-          Need-acknowledge-action-requires) (same-length : Need-same-length) (same-length-2 : Need-same-length-2) (same-length-3 : Need-same-length-3)
-          (same-length-4 : Need-same-length-4) (returns : Need-returns) (refused-requires : Need-refused-requires) (same-length-5 :
-          Need-same-length-5) (returns-2 : Need-returns-2) where
-        lay7 : (c : After-refused) → at47 (c .before .before .before .before .before .before .before .before .before .blocks) (W0 (c .before .before
-            .before .before .before .before .before .before .before .κs) (c .before .before .before .before .before .before .before .before .before
-            .args) (c .before .before .before .before .before .before .before .before .before .blocks)) (m45 (c .before) (After-refused·gave c))
-        lay7 = λ c. ((Path.refl, (Path.refl, (MutSlice.fix-len (Row.get 3 (T69 .locals) (m52 (c .before) (After-refused·gave c)) .ptr) (Row.get 3 (T69
-            .locals) (m52 (c .before) (After-refused·gave c)) .name) (Row.get 3 (T69 .locals) (m52 (c .before) (After-refused·gave c)) .now) (dens (c
-            .before .before .before .before .before .before .before .before .before .κs) (c .before .before .before .before .before .before .before
-            .before .before .args) .1 .1 .0 .now) (same-length-5 record { before = c .before; refused = c .refused }), (Path.refl, (tt, (tt, (tt, (tt,
-            (tt, tt)))))),),),), returns-2 record { before = c .before; refused = c .refused },)
-        lay6 : (c : Else1) → at48 (c .before .before .before .before .before .before .before .before .blocks) (W0 (c .before .before .before .before
-            .before .before .before .before .κs) (c .before .before .before .before .before .before .before .before .args) (c .before .before .before
-            .before .before .before .before .before .blocks)) (m44 (c .before))
-        lay6 = λ c. (refused-requires record { before = c .before; if1 = c .if1 }, λ g. lay7 record { before = record { before = c .before; if1 = c
-            .if1 }; refused = Called.called ps·5 r·5 (claims· .11) T24 (record { pos = 5; st = List.[]; d = 0; at = λ x. x }, (record { pos = 6; st =
-            List.[]; d = 0; at = λ x. x }, (record { pos = 13; st = List.[]; d = 0; at = λ x. x }, tt),),) (m44 (c .before)) g; },)
-        lay5 : (c : After-acknowledge-action) → at20 (c .before .before .before .before .before .before .before .before .before .before .before
-            .before .before .blocks) (W1 (c .before .before .before .before .before .before .before) (After-is-taken·gave (c .before .before .before
-            .before .before .before))) (m30 (c .before) (After-acknowledge-action·gave c))
-        lay5 = λ c. (Path.refl, λ g. (Path.refl, λ g'. (Path.refl, λ g''. (Path.refl, λ g'3. λ g'4. ((MutSlice.fix-len (Row.get 1 (T59 .locals) (m42
-            record { before = record { before = record { before = record { before = record { before = c .before; acknowledge-action = c
-            .acknowledge-action; }; pending = record { given = g }; }; circuits = record { given = g' }; }; inflight = record { given = g'' }; }; out
-            = record { given = g'3 }; } g'4) .ptr) (Row.get 1 (T59 .locals) (m42 record { before = record { before = record { before = record { before
-            = record { before = c .before; acknowledge-action = c .acknowledge-action; }; pending = record { given = g }; }; circuits = record { given
-            = g' }; }; inflight = record { given = g'' }; }; out = record { given = g'3 }; } g'4) .name) (Row.get 1 (T59 .locals) (m42 record { before
-            = record { before = record { before = record { before = record { before = c .before; acknowledge-action = c .acknowledge-action; };
-            pending = record { given = g }; }; circuits = record { given = g' }; }; inflight = record { given = g'' }; }; out = record { given = g'3
-            }; } g'4) .now) (dens (c .before .before .before .before .before .before .before .before .before .before .before .before .before .κs) (c
-            .before .before .before .before .before .before .before .before .before .before .before .before .before .args) .0 .now) (same-length
-            record { before = record { before = record { before = record { before = record { before = record { before = c .before; acknowledge-action
-            = c .acknowledge-action; }; pending = record { given = g }; }; circuits = record { given = g' }; }; inflight = record { given = g'' }; };
-            out = record { given = g'3 }; }; slice-known2 = record { given = g'4 }; }), (MutSlice.fix-len (Row.get 2 (T59 .locals) (m42 record {
-            before = record { before = record { before = record { before = record { before = c .before; acknowledge-action = c .acknowledge-action; };
-            pending = record { given = g }; }; circuits = record { given = g' }; }; inflight = record { given = g'' }; }; out = record { given = g'3
-            }; } g'4) .ptr) (Row.get 2 (T59 .locals) (m42 record { before = record { before = record { before = record { before = record { before = c
-            .before; acknowledge-action = c .acknowledge-action; }; pending = record { given = g }; }; circuits = record { given = g' }; }; inflight =
-            record { given = g'' }; }; out = record { given = g'3 }; } g'4) .name) (Row.get 2 (T59 .locals) (m42 record { before = record { before =
-            record { before = record { before = record { before = c .before; acknowledge-action = c .acknowledge-action; }; pending = record { given =
-            g }; }; circuits = record { given = g' }; }; inflight = record { given = g'' }; }; out = record { given = g'3 }; } g'4) .now) (dens (c
-            .before .before .before .before .before .before .before .before .before .before .before .before .before .κs) (c .before .before .before
-            .before .before .before .before .before .before .before .before .before .before .args) .1 .0 .now) (same-length-2 record { before = record
-            { before = record { before = record { before = record { before = record { before = c .before; acknowledge-action = c .acknowledge-action;
-            }; pending = record { given = g }; }; circuits = record { given = g' }; }; inflight = record { given = g'' }; }; out = record { given =
-            g'3 }; }; slice-known2 = record { given = g'4 }; }), (MutSlice.fix-len (Row.get 3 (T59 .locals) (m42 record { before = record { before =
-            record { before = record { before = record { before = c .before; acknowledge-action = c .acknowledge-action; }; pending = record { given =
-            g }; }; circuits = record { given = g' }; }; inflight = record { given = g'' }; }; out = record { given = g'3 }; } g'4) .ptr) (Row.get 3
-            (T59 .locals) (m42 record { before = record { before = record { before = record { before = record { before = c .before; acknowledge-action
-            = c .acknowledge-action; }; pending = record { given = g }; }; circuits = record { given = g' }; }; inflight = record { given = g'' }; };
-            out = record { given = g'3 }; } g'4) .name) (Row.get 3 (T59 .locals) (m42 record { before = record { before = record { before = record {
-            before = record { before = c .before; acknowledge-action = c .acknowledge-action; }; pending = record { given = g }; }; circuits = record
-            { given = g' }; }; inflight = record { given = g'' }; }; out = record { given = g'3 }; } g'4) .now) (dens (c .before .before .before
-            .before .before .before .before .before .before .before .before .before .before .κs) (c .before .before .before .before .before .before
-            .before .before .before .before .before .before .before .args) .1 .1 .0 .now) (same-length-3 record { before = record { before = record {
-            before = record { before = record { before = record { before = c .before; acknowledge-action = c .acknowledge-action; }; pending = record
-            { given = g }; }; circuits = record { given = g' }; }; inflight = record { given = g'' }; }; out = record { given = g'3 }; }; slice-known2
-            = record { given = g'4 }; }), (MutSlice.fix-len (Row.get 4 (T59 .locals) (m42 record { before = record { before = record { before = record
-            { before = record { before = c .before; acknowledge-action = c .acknowledge-action; }; pending = record { given = g }; }; circuits =
-            record { given = g' }; }; inflight = record { given = g'' }; }; out = record { given = g'3 }; } g'4) .ptr) (Row.get 4 (T59 .locals) (m42
-            record { before = record { before = record { before = record { before = record { before = c .before; acknowledge-action = c
-            .acknowledge-action; }; pending = record { given = g }; }; circuits = record { given = g' }; }; inflight = record { given = g'' }; }; out
-            = record { given = g'3 }; } g'4) .name) (Row.get 4 (T59 .locals) (m42 record { before = record { before = record { before = record {
-            before = record { before = c .before; acknowledge-action = c .acknowledge-action; }; pending = record { given = g }; }; circuits = record
-            { given = g' }; }; inflight = record { given = g'' }; }; out = record { given = g'3 }; } g'4) .now) (dens (c .before .before .before
-            .before .before .before .before .before .before .before .before .before .before .κs) (c .before .before .before .before .before .before
-            .before .before .before .before .before .before .before .args) .1 .1 .1 .0 .now) (same-length-4 record { before = record { before = record
-            { before = record { before = record { before = record { before = c .before; acknowledge-action = c .acknowledge-action; }; pending =
-            record { given = g }; }; circuits = record { given = g' }; }; inflight = record { given = g'' }; }; out = record { given = g'3 }; };
-            slice-known2 = record { given = g'4 }; }), (tt, (tt, (tt, (tt, (tt, tt))))),),),),), returns record { before = record { before = record {
-            before = record { before = record { before = record { before = c .before; acknowledge-action = c .acknowledge-action; }; pending = record
-            { given = g }; }; circuits = record { given = g' }; }; inflight = record { given = g'' }; }; out = record { given = g'3 }; }; slice-known2
-            = record { given = g'4 }; },),),),),)
-        lay4 : (c : After-is-taken) → at49 (c .before .before .before .before .before .before .before .blocks) (W0 (c .before .before .before .before
-            .before .before .before .κs) (c .before .before .before .before .before .before .before .args) (c .before .before .before .before .before
-            .before .before .blocks)) (m19 (c .before) (After-is-taken·gave c))
-        lay4 = λ c. (λ taken. λ g. (Path.refl, λ g'. (Path.refl, λ g''. (Path.refl, λ g'3. (Path.refl, (acknowledge-action-requires record { before =
-            record { before = record { before = record { before = record { before = record { before = c .before; is-taken = c .is-taken }; if1 =
-            record { taken = taken }; }; acknowledge-action-arg = record { given = g }; }; acknowledge-action-arg2 = record { given = g' }; };
-            acknowledge-action-arg3 = record { given = g'' }; }; acknowledge-action-arg4 = record { given = g'3 }; }, λ g'4. lay5 record { before =
-            record { before = record { before = record { before = record { before = record { before = record { before = c .before; is-taken = c
-            .is-taken }; if1 = record { taken = taken }; }; acknowledge-action-arg = record { given = g }; }; acknowledge-action-arg2 = record { given
-            = g' }; }; acknowledge-action-arg3 = record { given = g'' }; }; acknowledge-action-arg4 = record { given = g'3 }; }; acknowledge-action =
-            Called.called ps·4 r·4 (claims· .9) T38 (record { pos = 21; ty = Syntax.tyRef Syntax.erased Syntax.mut RelayPending.to; ref = λ x. x; },
-            (record { pos = 23; ty = Syntax.tyRef Syntax.erased Syntax.mut RelayCircuit.to; ref = λ x. x; }, (record { pos = 25; ty = Syntax.tyRef
-            Syntax.erased Syntax.mut InflightAction.to; ref = λ x. x; }, (record { pos = 27; ty = Syntax.tyRef Syntax.erased Syntax.mut (Syntax.tyInt
-            Syntax.w32); ref = λ x. x; }, (record { pos = 5; st = List.[]; d = 0; at = λ x. x }, (record { pos = 6; st = List.[]; d = 0; at = λ x. x
-            }, (record { pos = 11; st = List.[]; d = 0; at = λ x. x }, (Bool.bAt 9 λ x. x, tt),),),),),),),) (m29 record { before = record { before =
-            record { before = record { before = record { before = c .before; is-taken = c .is-taken }; if1 = record { taken = taken }; };
-            acknowledge-action-arg = record { given = g }; }; acknowledge-action-arg2 = record { given = g' }; }; acknowledge-action-arg3 = record {
-            given = g'' }; } g'3) g'4; },),),),),), λ left. lay6 record { before = record { before = c .before; is-taken = c .is-taken }; if1 = record
-            { left = left }; },)
-        lay3 : (c : After-acknowledge-answer) → at51 (c .before .before .before .before .before .before .blocks) (W0 (c .before .before .before
-            .before .before .before .κs) (c .before .before .before .before .before .before .args) (c .before .before .before .before .before .before
-            .blocks)) (m17 (c .before) (After-acknowledge-answer·gave c))
-        lay3 = λ c. (is-taken-requires record { before = c .before; acknowledge-answer = c .acknowledge-answer; }, λ g. lay4 record { before = record
-            { before = c .before; acknowledge-answer = c .acknowledge-answer }; is-taken = Called.called ps·3 r·3 (claims· .7) T22 (record { pos = 13;
-            st = List.[]; d = 0; at = λ x. x }, tt,) (m18 (c .before) (After-acknowledge-answer·gave c)) g; },)
-        lay2 : (c : After-too-few) → at57 (c .before .before .before .before .before .blocks) (W0 (c .before .before .before .before .before .κs) (c
-            .before .before .before .before .before .args) (c .before .before .before .before .before .blocks)) (m11 (c .before) (After-too-few·gave
-            c))
-        lay2 = λ c. (acknowledge-answer-requires record { before = c .before; too-few = c .too-few }, λ g. lay3 record { before = record { before = c
-            .before; too-few = c .too-few }; acknowledge-answer = Called.called ps·2 r·2 (claims· .5) T20 (record { pos = 5; st = List.[]; d = 0; at =
-            λ x. x }, (Bool.bAt 12 λ x. x, (Num.vAt 16 λ x. x, (Num.vAt 7 λ x. x, (record { pos = 11; st = List.[]; d = 0; at = λ x. x }, tt),),),),)
-            (m16 (c .before) (After-too-few·gave c)) g; },)
-        lay1 : (c : After-look-up-action) → at65 (c .before .before .before .before .blocks) (W0 (c .before .before .before .before .κs) (c .before
-            .before .before .before .args) (c .before .before .before .before .blocks)) (m5 (c .before) (After-look-up-action·gave c))
-        lay1 = λ c. (too-few-requires record { before = c .before; look-up-action = c .look-up-action }, λ g. lay2 record { before = record { before =
-            c .before; look-up-action = c .look-up-action }; too-few = Called.called ps·1 r·1 (claims· .3) T14 (record { pos = 10; st = List.[]; d =
-            0; at = λ x. x }, (Num.vAt 16 λ x. x, (Num.vAt 17 λ x. x, (Num.vAt 18 λ x. x, tt))),) (m10 (c .before) (After-look-up-action·gave c)) g;
-            },)
+      Need-returns-2 = (c : After-refused) → Post· (c .before .before .before .before .before .before .before .before
+          .before .κs) (dens (c .before .before .before .before .before .before .before .before .before .κs) (c .before
+          .before .before .before .before .before .before .before .before .args)) (Function.resV r (c .before .before
+          .before .before .before .before .before .before .before .κs) (m52 (c .before) (After-refused·gave c) .0)) (Clauses.atExit
+          (Kinds.endedOf 4 ps r) (c .before .before .before .before .before .before .before .before .before .κs) (dens (c
+          .before .before .before .before .before .before .before .before .before .κs) (c .before .before .before
+          .before .before .before .before .before .before .args)) (Enter.lastsP (c .before .before .before .before
+          .before .before .before .before .before .κs) 1 ps xs (dens (c .before .before .before .before .before .before
+          .before .before .before .κs) (c .before .before .before .before .before .before .before .before .before
+          .args)) (m52 (c .before) (After-refused·gave c) .1)))
+
+      module _ (look-up-action-requires : Need-look-up-action-requires) (too-few-requires : Need-too-few-requires) (acknowledge-answer-requires
+          : Need-acknowledge-answer-requires) (is-taken-requires : Need-is-taken-requires) (acknowledge-action-requires
+          : Need-acknowledge-action-requires) (same-length : Need-same-length) (same-length-2 : Need-same-length-2)
+          (same-length-3 : Need-same-length-3) (same-length-4 : Need-same-length-4) (returns : Need-returns)
+          (refused-requires : Need-refused-requires) (same-length-5 : Need-same-length-5) (returns-2 : Need-returns-2) where
+        lay7 : (c : After-refused) → at47 (c .before .before .before .before .before .before .before .before .before
+            .blocks) (W0 (c .before .before .before .before .before .before .before .before .before .κs) (c .before
+            .before .before .before .before .before .before .before .before .args) (c .before .before .before .before
+            .before .before .before .before .before .blocks)) (m45 (c .before) (After-refused·gave c))
+        lay7 = λ c. (
+          (
+            Path.refl,
+            (
+              Path.refl,
+              (
+                MutSlice.fix-len (Row.get 3 (T69 .locals) (m52 (c .before) (After-refused·gave c)) .ptr) (Row.get 3
+                    (T69 .locals) (m52 (c .before) (After-refused·gave c)) .name) (Row.get 3 (T69 .locals)
+                    (m52 (c .before) (After-refused·gave c)) .now) (dens (c .before .before .before .before .before
+                    .before .before .before .before .κs) (c .before .before .before .before .before .before .before
+                    .before .before .args) .1 .1 .0 .now) (same-length-5
+                    record { before = c .before; refused = c .refused }),
+                (Path.refl, (tt, (tt, (tt, (tt, (tt, tt)))))),
+              ),
+            ),
+          ),
+          returns-2 record { before = c .before; refused = c .refused },
+        )
+
+        lay6 : (c : Else1) → at48 (c .before .before .before .before .before .before .before .before .blocks) (W0 (c
+            .before .before .before .before .before .before .before .before .κs) (c .before .before .before .before
+            .before .before .before .before .args) (c .before .before .before .before .before .before .before .before
+            .blocks)) (m44 (c .before))
+        lay6 = λ c. (
+          refused-requires record { before = c .before; if1 = c .if1 },
+          λ g. lay7 record {
+            before = record { before = c .before; if1 = c .if1 };
+            refused = Called.called ps·5 r·5 (claims· .11) T24 (
+              record { pos = 5; st = List.[]; d = 0; at = λ x. x },
+              (
+                record { pos = 6; st = List.[]; d = 0; at = λ x. x },
+                (record { pos = 13; st = List.[]; d = 0; at = λ x. x }, tt),
+              ),
+            ) (m44 (c .before)) g;
+          },
+        )
+
+        lay5 : (c : After-acknowledge-action) → at20 (c .before .before .before .before .before .before .before .before
+            .before .before .before .before .before .blocks) (W1
+            (c .before .before .before .before .before .before .before) (After-is-taken·gave
+            (c .before .before .before .before .before .before))) (m30 (c .before) (After-acknowledge-action·gave c))
+        lay5 = λ c. (
+          Path.refl,
+          λ g. (
+            Path.refl,
+            λ g'. (
+              Path.refl,
+              λ g''. (
+                Path.refl,
+                λ g'3. λ g'4. (
+                  (
+                    MutSlice.fix-len (Row.get 1 (T59 .locals) (m42
+                        record {
+                          before = record {
+                            before = record {
+                              before = record {
+                                before = record { before = c .before; acknowledge-action = c .acknowledge-action };
+                                pending = record { given = g };
+                              };
+                              circuits = record { given = g' };
+                            };
+                            inflight = record { given = g'' };
+                          };
+                          out = record { given = g'3 };
+                        } g'4) .ptr) (Row.get 1 (T59 .locals) (m42
+                        record {
+                          before = record {
+                            before = record {
+                              before = record {
+                                before = record { before = c .before; acknowledge-action = c .acknowledge-action };
+                                pending = record { given = g };
+                              };
+                              circuits = record { given = g' };
+                            };
+                            inflight = record { given = g'' };
+                          };
+                          out = record { given = g'3 };
+                        } g'4) .name) (Row.get 1 (T59 .locals) (m42
+                        record {
+                          before = record {
+                            before = record {
+                              before = record {
+                                before = record { before = c .before; acknowledge-action = c .acknowledge-action };
+                                pending = record { given = g };
+                              };
+                              circuits = record { given = g' };
+                            };
+                            inflight = record { given = g'' };
+                          };
+                          out = record { given = g'3 };
+                        } g'4) .now) (dens (c .before .before .before .before .before .before .before .before .before
+                        .before .before .before .before .κs) (c .before .before .before .before .before .before .before
+                        .before .before .before .before .before .before .args) .0 .now) (same-length
+                        record {
+                          before = record {
+                            before = record {
+                              before = record {
+                                before = record {
+                                  before = record { before = c .before; acknowledge-action = c .acknowledge-action };
+                                  pending = record { given = g };
+                                };
+                                circuits = record { given = g' };
+                              };
+                              inflight = record { given = g'' };
+                            };
+                            out = record { given = g'3 };
+                          };
+                          slice-known2 = record { given = g'4 };
+                        }),
+                    (
+                      MutSlice.fix-len (Row.get 2 (T59 .locals) (m42
+                          record {
+                            before = record {
+                              before = record {
+                                before = record {
+                                  before = record { before = c .before; acknowledge-action = c .acknowledge-action };
+                                  pending = record { given = g };
+                                };
+                                circuits = record { given = g' };
+                              };
+                              inflight = record { given = g'' };
+                            };
+                            out = record { given = g'3 };
+                          } g'4) .ptr) (Row.get 2 (T59 .locals) (m42
+                          record {
+                            before = record {
+                              before = record {
+                                before = record {
+                                  before = record { before = c .before; acknowledge-action = c .acknowledge-action };
+                                  pending = record { given = g };
+                                };
+                                circuits = record { given = g' };
+                              };
+                              inflight = record { given = g'' };
+                            };
+                            out = record { given = g'3 };
+                          } g'4) .name) (Row.get 2 (T59 .locals) (m42
+                          record {
+                            before = record {
+                              before = record {
+                                before = record {
+                                  before = record { before = c .before; acknowledge-action = c .acknowledge-action };
+                                  pending = record { given = g };
+                                };
+                                circuits = record { given = g' };
+                              };
+                              inflight = record { given = g'' };
+                            };
+                            out = record { given = g'3 };
+                          } g'4) .now) (dens (c .before .before .before .before .before .before .before .before .before
+                          .before .before .before .before .κs) (c .before .before .before .before .before .before
+                          .before .before .before .before .before .before .before .args) .1 .0 .now) (same-length-2
+                          record {
+                            before = record {
+                              before = record {
+                                before = record {
+                                  before = record {
+                                    before = record { before = c .before; acknowledge-action = c .acknowledge-action };
+                                    pending = record { given = g };
+                                  };
+                                  circuits = record { given = g' };
+                                };
+                                inflight = record { given = g'' };
+                              };
+                              out = record { given = g'3 };
+                            };
+                            slice-known2 = record { given = g'4 };
+                          }),
+                      (
+                        MutSlice.fix-len (Row.get 3 (T59 .locals) (m42
+                            record {
+                              before = record {
+                                before = record {
+                                  before = record {
+                                    before = record { before = c .before; acknowledge-action = c .acknowledge-action };
+                                    pending = record { given = g };
+                                  };
+                                  circuits = record { given = g' };
+                                };
+                                inflight = record { given = g'' };
+                              };
+                              out = record { given = g'3 };
+                            } g'4) .ptr) (Row.get 3 (T59 .locals) (m42
+                            record {
+                              before = record {
+                                before = record {
+                                  before = record {
+                                    before = record { before = c .before; acknowledge-action = c .acknowledge-action };
+                                    pending = record { given = g };
+                                  };
+                                  circuits = record { given = g' };
+                                };
+                                inflight = record { given = g'' };
+                              };
+                              out = record { given = g'3 };
+                            } g'4) .name) (Row.get 3 (T59 .locals) (m42
+                            record {
+                              before = record {
+                                before = record {
+                                  before = record {
+                                    before = record { before = c .before; acknowledge-action = c .acknowledge-action };
+                                    pending = record { given = g };
+                                  };
+                                  circuits = record { given = g' };
+                                };
+                                inflight = record { given = g'' };
+                              };
+                              out = record { given = g'3 };
+                            } g'4) .now) (dens (c .before .before .before .before .before .before .before .before
+                            .before .before .before .before .before .κs) (c .before .before .before .before .before
+                            .before .before .before .before .before .before .before .before .args) .1 .1 .0 .now) (same-length-3
+                            record {
+                              before = record {
+                                before = record {
+                                  before = record {
+                                    before = record {
+                                      before = record {
+                                        before = c .before;
+                                        acknowledge-action = c .acknowledge-action;
+                                      };
+                                      pending = record { given = g };
+                                    };
+                                    circuits = record { given = g' };
+                                  };
+                                  inflight = record { given = g'' };
+                                };
+                                out = record { given = g'3 };
+                              };
+                              slice-known2 = record { given = g'4 };
+                            }),
+                        (
+                          MutSlice.fix-len (Row.get 4 (T59 .locals) (m42
+                              record {
+                                before = record {
+                                  before = record {
+                                    before = record {
+                                      before = record {
+                                        before = c .before;
+                                        acknowledge-action = c .acknowledge-action;
+                                      };
+                                      pending = record { given = g };
+                                    };
+                                    circuits = record { given = g' };
+                                  };
+                                  inflight = record { given = g'' };
+                                };
+                                out = record { given = g'3 };
+                              } g'4) .ptr) (Row.get 4 (T59 .locals) (m42
+                              record {
+                                before = record {
+                                  before = record {
+                                    before = record {
+                                      before = record {
+                                        before = c .before;
+                                        acknowledge-action = c .acknowledge-action;
+                                      };
+                                      pending = record { given = g };
+                                    };
+                                    circuits = record { given = g' };
+                                  };
+                                  inflight = record { given = g'' };
+                                };
+                                out = record { given = g'3 };
+                              } g'4) .name) (Row.get 4 (T59 .locals) (m42
+                              record {
+                                before = record {
+                                  before = record {
+                                    before = record {
+                                      before = record {
+                                        before = c .before;
+                                        acknowledge-action = c .acknowledge-action;
+                                      };
+                                      pending = record { given = g };
+                                    };
+                                    circuits = record { given = g' };
+                                  };
+                                  inflight = record { given = g'' };
+                                };
+                                out = record { given = g'3 };
+                              } g'4) .now) (dens (c .before .before .before .before .before .before .before .before
+                              .before .before .before .before .before .κs) (c .before .before .before .before .before
+                              .before .before .before .before .before .before .before .before .args) .1 .1 .1 .0 .now) (same-length-4
+                              record {
+                                before = record {
+                                  before = record {
+                                    before = record {
+                                      before = record {
+                                        before = record {
+                                          before = c .before;
+                                          acknowledge-action = c .acknowledge-action;
+                                        };
+                                        pending = record { given = g };
+                                      };
+                                      circuits = record { given = g' };
+                                    };
+                                    inflight = record { given = g'' };
+                                  };
+                                  out = record { given = g'3 };
+                                };
+                                slice-known2 = record { given = g'4 };
+                              }),
+                          (tt, (tt, (tt, (tt, (tt, tt))))),
+                        ),
+                      ),
+                    ),
+                  ),
+                  returns record {
+                    before = record {
+                      before = record {
+                        before = record {
+                          before = record {
+                            before = record { before = c .before; acknowledge-action = c .acknowledge-action };
+                            pending = record { given = g };
+                          };
+                          circuits = record { given = g' };
+                        };
+                        inflight = record { given = g'' };
+                      };
+                      out = record { given = g'3 };
+                    };
+                    slice-known2 = record { given = g'4 };
+                  },
+                ),
+              ),
+            ),
+          ),
+        )
+
+        lay4 : (c : After-is-taken) → at49 (c .before .before .before .before .before .before .before .blocks) (W0 (c
+            .before .before .before .before .before .before .before .κs) (c .before .before .before .before .before
+            .before .before .args) (c .before .before .before .before .before .before .before .blocks))
+            (m19 (c .before) (After-is-taken·gave c))
+        lay4 = λ c. (
+          λ taken. λ g. (
+            Path.refl,
+            λ g'. (
+              Path.refl,
+              λ g''. (
+                Path.refl,
+                λ g'3. (
+                  Path.refl,
+                  (
+                    acknowledge-action-requires record {
+                      before = record {
+                        before = record {
+                          before = record {
+                            before = record {
+                              before = record { before = c .before; is-taken = c .is-taken };
+                              if1 = record { taken = taken };
+                            };
+                            acknowledge-action-arg = record { given = g };
+                          };
+                          acknowledge-action-arg2 = record { given = g' };
+                        };
+                        acknowledge-action-arg3 = record { given = g'' };
+                      };
+                      acknowledge-action-arg4 = record { given = g'3 };
+                    },
+                    λ g'4. lay5 record {
+                      before = record {
+                        before = record {
+                          before = record {
+                            before = record {
+                              before = record {
+                                before = record { before = c .before; is-taken = c .is-taken };
+                                if1 = record { taken = taken };
+                              };
+                              acknowledge-action-arg = record { given = g };
+                            };
+                            acknowledge-action-arg2 = record { given = g' };
+                          };
+                          acknowledge-action-arg3 = record { given = g'' };
+                        };
+                        acknowledge-action-arg4 = record { given = g'3 };
+                      };
+                      acknowledge-action = Called.called ps·4 r·4 (claims· .9) T38 (
+                        record { pos = 21; ty = ref1; ref = λ x. x },
+                        (
+                          record { pos = 23; ty = ref2; ref = λ x. x },
+                          (
+                            record { pos = 25; ty = ref3; ref = λ x. x },
+                            (
+                              record { pos = 27; ty = ref4; ref = λ x. x },
+                              (
+                                record { pos = 5; st = List.[]; d = 0; at = λ x. x },
+                                (
+                                  record { pos = 6; st = List.[]; d = 0; at = λ x. x },
+                                  (record { pos = 11; st = List.[]; d = 0; at = λ x. x }, (Bool.bAt 9 λ x. x, tt)),
+                                ),
+                              ),
+                            ),
+                          ),
+                        ),
+                      ) (m29 record {
+                        before = record {
+                          before = record {
+                            before = record {
+                              before = record { before = c .before; is-taken = c .is-taken };
+                              if1 = record { taken = taken };
+                            };
+                            acknowledge-action-arg = record { given = g };
+                          };
+                          acknowledge-action-arg2 = record { given = g' };
+                        };
+                        acknowledge-action-arg3 = record { given = g'' };
+                      } g'3) g'4;
+                    },
+                  ),
+                ),
+              ),
+            ),
+          ),
+          λ left. lay6 record {
+            before = record { before = c .before; is-taken = c .is-taken };
+            if1 = record { left = left };
+          },
+        )
+
+        lay3 : (c : After-acknowledge-answer) → at51 (c .before .before .before .before .before .before .blocks) (W0
+            (c .before .before .before .before .before .before .κs)
+            (c .before .before .before .before .before .before .args) (c .before .before .before .before .before
+            .before .blocks)) (m17 (c .before) (After-acknowledge-answer·gave c))
+        lay3 = λ c. (
+          is-taken-requires record { before = c .before; acknowledge-answer = c .acknowledge-answer },
+          λ g. lay4 record {
+            before = record { before = c .before; acknowledge-answer = c .acknowledge-answer };
+            is-taken = Called.called ps·3 r·3 (claims· .7) T22
+                (record { pos = 13; st = List.[]; d = 0; at = λ x. x }, tt)
+                (m18 (c .before) (After-acknowledge-answer·gave c)) g;
+          },
+        )
+
+        lay2 : (c : After-too-few) → at57 (c .before .before .before .before .before .blocks) (W0
+            (c .before .before .before .before .before .κs) (c .before .before .before .before .before .args)
+            (c .before .before .before .before .before .blocks)) (m11 (c .before) (After-too-few·gave c))
+        lay2 = λ c. (
+          acknowledge-answer-requires record { before = c .before; too-few = c .too-few },
+          λ g. lay3 record {
+            before = record { before = c .before; too-few = c .too-few };
+            acknowledge-answer = Called.called ps·2 r·2 (claims· .5) T20 (
+              record { pos = 5; st = List.[]; d = 0; at = λ x. x },
+              (
+                Bool.bAt 12 λ x. x,
+                (Num.vAt 16 λ x. x, (Num.vAt 7 λ x. x, (record { pos = 11; st = List.[]; d = 0; at = λ x. x }, tt))),
+              ),
+            ) (m16 (c .before) (After-too-few·gave c)) g;
+          },
+        )
+
+        lay1 : (c : After-look-up-action) → at65 (c .before .before .before .before .blocks) (W0
+            (c .before .before .before .before .κs) (c .before .before .before .before .args)
+            (c .before .before .before .before .blocks)) (m5 (c .before) (After-look-up-action·gave c))
+        lay1 = λ c. (
+          too-few-requires record { before = c .before; look-up-action = c .look-up-action },
+          λ g. lay2 record {
+            before = record { before = c .before; look-up-action = c .look-up-action };
+            too-few = Called.called ps·1 r·1 (claims· .3) T14 (
+              record { pos = 10; st = List.[]; d = 0; at = λ x. x },
+              (Num.vAt 16 λ x. x, (Num.vAt 17 λ x. x, (Num.vAt 18 λ x. x, tt))),
+            ) (m10 (c .before) (After-look-up-action·gave c)) g;
+          },
+        )
+
         pub laid : (c : Start) → at71 (c .blocks) (W0 (c .κs) (c .args) (c .blocks)) (m0 (c .κs) (c .args) (c .blocks))
-        laid = λ c. λ g. (tt, λ g'. λ g''. (Path.refl, (look-up-action-requires record { before = record { before = record { before = c; slice-known =
-            record { given = g } }; config = record { given = g' }; }; look-up-action-arg = record { given = g'' }; }, λ g'3. lay1 record { before =
-            record { before = record { before = record { before = c; slice-known = record { given = g } }; config = record { given = g' }; };
-            look-up-action-arg = record { given = g'' }; }; look-up-action = Called.called ps·0 r·0 (claims· .1) T6 (record { pos = 15; ty =
-            Syntax.tyRef Syntax.erased Syntax.imm InflightAction.to; ref = λ x. x; }, (record { pos = 6; st = List.[]; d = 0; at = λ x. x }, (Num.vAt
-            7 λ x. x, (Num.vAt 8 λ x. x, tt)),),) (m4 record { before = record { before = c; slice-known = record { given = g } }; config = record {
-            given = g' }; } g'') g'3; },),),)
+        laid = λ c. λ g. (
+          tt,
+          λ g'. λ g''. (
+            Path.refl,
+            (
+              look-up-action-requires record {
+                before = record {
+                  before = record { before = c; slice-known = record { given = g } };
+                  config = record { given = g' };
+                };
+                look-up-action-arg = record { given = g'' };
+              },
+              λ g'3. lay1 record {
+                before = record {
+                  before = record {
+                    before = record { before = c; slice-known = record { given = g } };
+                    config = record { given = g' };
+                  };
+                  look-up-action-arg = record { given = g'' };
+                };
+                look-up-action = Called.called ps·0 r·0 (claims· .1) T6 (
+                  record { pos = 15; ty = ref0; ref = λ x. x },
+                  (record { pos = 6; st = List.[]; d = 0; at = λ x. x }, (Num.vAt 7 λ x. x, (Num.vAt 8 λ x. x, tt))),
+                ) (m4 record {
+                  before = record { before = c; slice-known = record { given = g } };
+                  config = record { given = g' };
+                } g'') g'3;
+              },
+            ),
+          ),
+        )
+
         module _ (κs : Lifetimes.Lfts 4) (qs : Lifetimes.Shares 4) where
-          pub asked : (a : Kinds.Dens κs ps) → (good : Kinds.GoodsP κs ps a) → (pre : Pre· κs a) → (bs : List.List Nat.ℕ) → Φ bs (Any.wantQ 4 ps r xs
-              m κs qs a (Post· κs a)) (Function.init 4 ps r xs m κs qs a)
-          asked = λ a good pre bs. laid record { κs = κs; args = record { pending = a .0; circuits = a .1 .0; inflight = a .1 .1 .0; out = a .1 .1 .1
-              .0; runtime = a .1 .1 .1 .1 .0; places = a .1 .1 .1 .1 .1 .0; generation = a .1 .1 .1 .1 .1 .1 .0; sequence = a .1 .1 .1 .1 .1 .1 .1 .0;
-              delivered = a .1 .1 .1 .1 .1 .1 .1 .1 .0; }; blocks = bs; good = good; fits = record { generation = record { fits = good .1 .1 .1 .1 .1
-              .1 .0 .1 }; sequence = record { fits = good .1 .1 .1 .1 .1 .1 .1 .0 .1 }; }; pre = pre; }
-        module _ { M : Type 1 } (𝓤 : URA.URA M) (H : Wp.Heap 𝓤) (A : Atoms.Atoms 𝓤) (W : Kit.Given 𝓤 H A) (𝓣 : Wp.Tables 𝓤 H) (known0 : Plain.Known 𝓤
-            H A W 𝓣 1 ps·0 r·0 (claims· .0) (claims· .1) "hnsr_circuit::lookup::look_up_action") (known1 : Plain.Known 𝓤 H A W 𝓣 0 ps·1 r·1 (claims·
-            .2) (claims· .3) "hnsr_circuit::entry::too_few") (known2 : Plain.Known 𝓤 H A W 𝓣 0 ps·2 r·2 (claims· .4) (claims· .5)
-            "hnsr_circuit::acknowledge::acknowledge_answer") (known3 : Plain.Known 𝓤 H A W 𝓣 0 ps·3 r·3 (claims· .6) (claims· .7)
-            "hnsr_circuit::answer::is_taken") (known4 : Plain.Known 𝓤 H A W 𝓣 4 ps·4 r·4 (claims· .8) (claims· .9)
-            "hnsr_circuit::acknowledge::acknowledge_action") (known5 : Plain.Known 𝓤 H A W 𝓣 0 ps·5 r·5 (claims· .10) (claims· .11)
-            "hnsr_circuit::revoking_calls::refused") where
-          pub spec : Statement.Triple 𝓤 (Wp.WpFn 𝓤 H (𝓣 .C) (𝓣 .Λ) (Function.fnOf 4 ps r xs m hs body)) (Function.plainOf 𝓤 H A 4 ps r Pre· Post·)
-          spec = Plain.t-fn-plain 𝓤 H A W 𝓣 4 ps r xs m hs body (λ κs qs bs. Φ bs) (λ κs qs bs bd. typed κs qs 𝓤 H A W 𝓣 (known0, known1, known2,
-              known3, known4, known5,) bs bd) Pre· Post· asked
+          pub asked : (a : Kinds.Dens κs ps) → (good : Kinds.GoodsP κs ps a) → (pre : Pre· κs a) →
+              (bs : List.List Nat.ℕ) → Φ bs (Any.wantQ 4 ps r xs m κs qs a (Post· κs a))
+              (Function.init 4 ps r xs m κs qs a)
+          asked = λ a good pre bs. laid record {
+            κs = κs;
+            args = record {
+              pending = a .0;
+              circuits = a .1 .0;
+              inflight = a .1 .1 .0;
+              out = a .1 .1 .1 .0;
+              runtime = a .1 .1 .1 .1 .0;
+              places = a .1 .1 .1 .1 .1 .0;
+              generation = a .1 .1 .1 .1 .1 .1 .0;
+              sequence = a .1 .1 .1 .1 .1 .1 .1 .0;
+              delivered = a .1 .1 .1 .1 .1 .1 .1 .1 .0;
+            };
+            blocks = bs;
+            good = good;
+            fits = record {
+              generation = record { fits = good .1 .1 .1 .1 .1 .1 .0 .1 };
+              sequence = record { fits = good .1 .1 .1 .1 .1 .1 .1 .0 .1 };
+            };
+            pre = pre;
+          }
+
+        module _ {M : Type 1} (𝓤 : URA.URA M) (H : Wp.Heap 𝓤) (A : Atoms.Atoms 𝓤) (W : Kit.Given 𝓤 H A)
+            (𝓣 : Wp.Tables 𝓤 H) (known0 : Plain.Known 𝓤 H A W 𝓣 1 ps·0 r·0 (claims· .0) (claims· .1)
+            "hnsr_circuit::lookup::look_up_action") (known1 : Plain.Known 𝓤 H A W 𝓣 0 ps·1 r·1 (claims· .2)
+            (claims· .3) "hnsr_circuit::entry::too_few") (known2 : Plain.Known 𝓤 H A W 𝓣 0 ps·2 r·2 (claims· .4)
+            (claims· .5) "hnsr_circuit::acknowledge::acknowledge_answer") (known3 : Plain.Known 𝓤 H A W 𝓣 0 ps·3 r·3
+            (claims· .6) (claims· .7) "hnsr_circuit::answer::is_taken") (known4 : Plain.Known 𝓤 H A W 𝓣 4 ps·4 r·4
+            (claims· .8) (claims· .9) "hnsr_circuit::acknowledge::acknowledge_action") (known5 : Plain.Known 𝓤 H A W 𝓣
+            0 ps·5 r·5 (claims· .10) (claims· .11) "hnsr_circuit::revoking_calls::refused") where
+          pub spec : Statement.Triple 𝓤 (Wp.WpFn 𝓤 H (𝓣 .C) (𝓣 .Λ) (Function.fnOf 4 ps r xs m hs body))
+              (Function.plainOf 𝓤 H A 4 ps r Pre· Post·)
+          spec = Plain.t-fn-plain 𝓤 H A W 𝓣 4 ps r xs m hs body (λ κs qs bs. Φ bs) (λ κs qs bs bd. typed κs qs 𝓤 H A W
+              𝓣 (known0, known1, known2, known3, known4, known5) bs bd) Pre· Post· asked

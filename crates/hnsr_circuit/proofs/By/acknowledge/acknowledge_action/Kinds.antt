@@ -2,6 +2,7 @@
 use Rattle.hnsr_circuit.proofs.By.InflightAction
 use Rattle.hnsr_circuit.proofs.By.RelayCircuit
 use Rattle.hnsr_circuit.proofs.By.RelayPending
+use Rattle.hnsr_circuit.proofs.StructRow
 use Rattle.hnsr_circuit.proofs.places.Places
 use Rattle.hnsr_circuit.proofs.places.Places.Laws
 use Rattle.hnsr_circuit.proofs.records.ActionFound
@@ -12,39 +13,17 @@ use Rattle.hnsr_circuit.proofs.runtime.Relayed
 use Rattle.hnsr_circuit.proofs.runtime.Relayed.Laws as Laws'''
 use borrow.Fn.Kinds
 use borrow.Kind.MutSlice
-use borrow.Kind.Value
-use borrow.Rule.Local
 use borrow.Table.Referent
-use borrow.Table.Rows
-use denote.Exit
-use denote.Struct.Declared
-use denote.Struct.Laws as Laws''''
 use mathlib.Core.List
-use mathlib.Core.Path
 use mir.Syntax
 use mathlib.Core.List.{_∷_}
 
 abbrev pub ps : List.List (Kinds.PK 4)
-ps = (MutSlice.pMutS RelayPending.row 0 tt) ∷ (MutSlice.pMutS RelayCircuit.row 1 tt) ∷ (MutSlice.pMutS InflightAction.row 2 tt) ∷ (MutSlice.pMutS
-    (Referent.rtF (Referent.fInt Syntax.w32)) 3 tt) ∷ (Value.pVal record { ty = Declared.row OpaqueRelayRuntime.the-type; one = Path.refl; val =
-    Laws''''.val OpaqueRelayRuntime.the-type Laws''.the-laws; tells = Laws''''.tells OpaqueRelayRuntime.the-type Laws''.the-laws; still =
-    Laws''''.still OpaqueRelayRuntime.the-type Laws''.the-copy Exit.yes; row = Rows.whole (Declared.row OpaqueRelayRuntime.the-type); rd = λ x. x; mk
-    = λ x. x; } λ M 𝓤 H A W. record { copies = Laws''''.copy OpaqueRelayRuntime.the-type Laws''.the-copy 𝓤 H A W; lawful = Laws''''.lawful
-    OpaqueRelayRuntime.the-type Laws''.the-laws 𝓤 H A W; makes = Laws''''.makes OpaqueRelayRuntime.the-type Laws''.the-plain 𝓤 H A; in-mem =
-    Local.mem-whole 𝓤 H A W (Declared.row OpaqueRelayRuntime.the-type); of-mem = Local.whole-mem 𝓤 H A W (Declared.row OpaqueRelayRuntime.the-type);
-    }) ∷ (Value.pVal record { ty = Declared.row Places.the-type; one = Path.refl; val = Laws''''.val Places.the-type Laws.the-laws; tells =
-    Laws''''.tells Places.the-type Laws.the-laws; still = Laws''''.still Places.the-type Laws.the-copy Exit.yes; row = Rows.whole (Declared.row
-    Places.the-type); rd = λ x. x; mk = λ x. x; } λ M 𝓤 H A W. record { copies = Laws''''.copy Places.the-type Laws.the-copy 𝓤 H A W; lawful =
-    Laws''''.lawful Places.the-type Laws.the-laws 𝓤 H A W; makes = Laws''''.makes Places.the-type Laws.the-plain 𝓤 H A; in-mem = Local.mem-whole 𝓤 H A
-    W (Declared.row Places.the-type); of-mem = Local.whole-mem 𝓤 H A W (Declared.row Places.the-type); }) ∷ (Value.pVal record { ty = Declared.row
-    ActionFound.the-type; one = Path.refl; val = Laws''''.val ActionFound.the-type Laws'.the-laws; tells = Laws''''.tells ActionFound.the-type
-    Laws'.the-laws; still = Laws''''.still ActionFound.the-type Laws'.the-copy Exit.yes; row = Rows.whole (Declared.row ActionFound.the-type); rd = λ
-    x. x; mk = λ x. x; } λ M 𝓤 H A W. record { copies = Laws''''.copy ActionFound.the-type Laws'.the-copy 𝓤 H A W; lawful = Laws''''.lawful
-    ActionFound.the-type Laws'.the-laws 𝓤 H A W; makes = Laws''''.makes ActionFound.the-type Laws'.the-plain 𝓤 H A; in-mem = Local.mem-whole 𝓤 H A W
-    (Declared.row ActionFound.the-type); of-mem = Local.whole-mem 𝓤 H A W (Declared.row ActionFound.the-type); }) ∷ Kinds.pBool ∷ List.[]
+ps = (MutSlice.pMutS RelayPending.row 0 tt) ∷ (MutSlice.pMutS RelayCircuit.row 1 tt) ∷
+    (MutSlice.pMutS InflightAction.row 2 tt) ∷ (MutSlice.pMutS (Referent.rtF (Referent.fInt Syntax.w32)) 3 tt) ∷ (StructRow.param
+    OpaqueRelayRuntime.the-type Laws''.the-laws Laws''.the-copy Laws''.the-plain) ∷ (StructRow.param Places.the-type
+    Laws.the-laws Laws.the-copy Laws.the-plain) ∷ (StructRow.param ActionFound.the-type Laws'.the-laws Laws'.the-copy
+    Laws'.the-plain) ∷ Kinds.pBool ∷ List.[]
+
 abbrev pub r : Kinds.RK 4
-r = Value.rVal record { ty = Declared.row Relayed.the-type; one = Path.refl; val = Laws''''.val Relayed.the-type Laws'''.the-laws; tells =
-    Laws''''.tells Relayed.the-type Laws'''.the-laws; still = Laws''''.still Relayed.the-type Laws'''.the-copy Exit.yes; row = Rows.whole
-    (Declared.row Relayed.the-type); rd = λ x. x; mk = λ x. x; } λ M 𝓤 H A W. record { copies = Laws''''.copy Relayed.the-type Laws'''.the-copy 𝓤 H A
-    W; lawful = Laws''''.lawful Relayed.the-type Laws'''.the-laws 𝓤 H A W; makes = Laws''''.makes Relayed.the-type Laws'''.the-plain 𝓤 H A; in-mem =
-    Local.mem-whole 𝓤 H A W (Declared.row Relayed.the-type); of-mem = Local.whole-mem 𝓤 H A W (Declared.row Relayed.the-type); }
+r = StructRow.result Relayed.the-type Laws'''.the-laws Laws'''.the-copy Laws'''.the-plain

@@ -3,6 +3,7 @@ use Prim.Native.Nat
 use Rattle.hnsr_circuit.proofs.By.InflightAction
 use Rattle.hnsr_circuit.proofs.By.RelayCircuit
 use Rattle.hnsr_circuit.proofs.By.RelayPending
+use Rattle.hnsr_circuit.proofs.StructRow
 use Rattle.hnsr_circuit.proofs.acknowledge.SettlePlan
 use Rattle.hnsr_circuit.proofs.acknowledge.SettlePlan.Laws
 use Rattle.hnsr_circuit.proofs.places.Places
@@ -17,6 +18,7 @@ use Rattle.hnsr_circuit.proofs.runtime.Relayed
 use Rattle.hnsr_circuit.proofs.runtime.Relayed.Laws as Laws'''''
 use borrow.Author.Called
 use borrow.Fn.Any
+use borrow.Fn.Args as Args'
 use borrow.Fn.Call
 use borrow.Fn.Enter
 use borrow.Fn.Frame
@@ -27,7 +29,6 @@ use borrow.Kind.Bool
 use borrow.Kind.MutSlice
 use borrow.Kind.Num
 use borrow.Kind.Unit
-use borrow.Kind.Value
 use borrow.Rule.Lifetime
 use borrow.Rule.Local
 use borrow.Rule.Scalar
@@ -48,7 +49,6 @@ use borrow.Table.Typed
 use contract.Lifetimes
 use denote.Enum.Declared
 use denote.Enum.Laws as Laws''''''
-use denote.Exit
 use denote.Laws as Laws'''''''
 use denote.Struct.Declared as Declared'
 use denote.Struct.Laws as Laws''''''''
@@ -68,1711 +68,3038 @@ use mathlib.Core.List.{_∷_}
 
 abbrev ref0 : Syntax.Ty
 ref0 = Syntax.tyRef Syntax.erased Syntax.mut InflightAction.to
+
 abbrev ref1 : Syntax.Ty
 ref1 = Syntax.tyRef Syntax.erased Syntax.mut RelayCircuit.to
+
 abbrev ref2 : Syntax.Ty
 ref2 = Syntax.tyRef Syntax.erased Syntax.mut RelayPending.to
+
 abbrev ref3 : Syntax.Ty
 ref3 = Syntax.tyRef Syntax.erased Syntax.mut (Syntax.tyInt Syntax.w32)
+
 abbrev ref4 : Syntax.Ty
 ref4 = Syntax.tyRef (Syntax.named 0) Syntax.mut RelayPending.to
+
 abbrev ref5 : Syntax.Ty
 ref5 = Syntax.tyRef (Syntax.named 1) Syntax.mut RelayCircuit.to
+
 abbrev ref6 : Syntax.Ty
 ref6 = Syntax.tyRef (Syntax.named 2) Syntax.mut InflightAction.to
+
 abbrev ref7 : Syntax.Ty
 ref7 = Syntax.tyRef (Syntax.named 3) Syntax.mut (Syntax.tyInt Syntax.w32)
+
+abbrev slice0 : Syntax.Ty
+slice0 = Syntax.tyStruct (38 ∷ 91 ∷ 93 ∷ List.[]) (Syntax.tcons ref0
+    (Syntax.tcons (Syntax.tyInt Syntax.w64) Syntax.tnil))
+
+abbrev slice1 : Syntax.Ty
+slice1 = Syntax.tyStruct (38 ∷ 91 ∷ 93 ∷ List.[]) (Syntax.tcons ref1
+    (Syntax.tcons (Syntax.tyInt Syntax.w64) Syntax.tnil))
+
+abbrev slice2 : Syntax.Ty
+slice2 = Syntax.tyStruct (38 ∷ 91 ∷ 93 ∷ List.[]) (Syntax.tcons ref2
+    (Syntax.tcons (Syntax.tyInt Syntax.w64) Syntax.tnil))
+
+abbrev slice3 : Syntax.Ty
+slice3 = Syntax.tyStruct (38 ∷ 91 ∷ 93 ∷ List.[]) (Syntax.tcons ref3
+    (Syntax.tcons (Syntax.tyInt Syntax.w64) Syntax.tnil))
+
 abbrev pub ps : List.List (Kinds.PK 4)
-ps = (MutSlice.pMutS RelayPending.row 0 tt) ∷ (MutSlice.pMutS RelayCircuit.row 1 tt) ∷ (MutSlice.pMutS InflightAction.row 2 tt) ∷ (MutSlice.pMutS
-    (Referent.rtF (Referent.fInt Syntax.w32)) 3 tt) ∷ (Value.pVal record { ty = Declared'.row OpaqueRelayRuntime.the-type; one = Path.refl; val =
-    Laws''''''''.val OpaqueRelayRuntime.the-type Laws''''.the-laws; tells = Laws''''''''.tells OpaqueRelayRuntime.the-type Laws''''.the-laws; still =
-    Laws''''''''.still OpaqueRelayRuntime.the-type Laws''''.the-copy Exit.yes; row = Rows.whole (Declared'.row OpaqueRelayRuntime.the-type); rd = λ x.
-    x; mk = λ x. x; } λ M 𝓤 H A W. record { copies = Laws''''''''.copy OpaqueRelayRuntime.the-type Laws''''.the-copy 𝓤 H A W; lawful =
-    Laws''''''''.lawful OpaqueRelayRuntime.the-type Laws''''.the-laws 𝓤 H A W; makes = Laws''''''''.makes OpaqueRelayRuntime.the-type
-    Laws''''.the-plain 𝓤 H A; in-mem = Local.mem-whole 𝓤 H A W (Declared'.row OpaqueRelayRuntime.the-type); of-mem = Local.whole-mem 𝓤 H A W
-    (Declared'.row OpaqueRelayRuntime.the-type); }) ∷ (Value.pVal record { ty = Declared'.row Places.the-type; one = Path.refl; val = Laws''''''''.val
-    Places.the-type Laws'.the-laws; tells = Laws''''''''.tells Places.the-type Laws'.the-laws; still = Laws''''''''.still Places.the-type
-    Laws'.the-copy Exit.yes; row = Rows.whole (Declared'.row Places.the-type); rd = λ x. x; mk = λ x. x; } λ M 𝓤 H A W. record { copies =
-    Laws''''''''.copy Places.the-type Laws'.the-copy 𝓤 H A W; lawful = Laws''''''''.lawful Places.the-type Laws'.the-laws 𝓤 H A W; makes =
-    Laws''''''''.makes Places.the-type Laws'.the-plain 𝓤 H A; in-mem = Local.mem-whole 𝓤 H A W (Declared'.row Places.the-type); of-mem =
-    Local.whole-mem 𝓤 H A W (Declared'.row Places.the-type); }) ∷ (Value.pVal record { ty = Declared'.row ActionFound.the-type; one = Path.refl; val =
-    Laws''''''''.val ActionFound.the-type Laws''.the-laws; tells = Laws''''''''.tells ActionFound.the-type Laws''.the-laws; still = Laws''''''''.still
-    ActionFound.the-type Laws''.the-copy Exit.yes; row = Rows.whole (Declared'.row ActionFound.the-type); rd = λ x. x; mk = λ x. x; } λ M 𝓤 H A W.
-    record { copies = Laws''''''''.copy ActionFound.the-type Laws''.the-copy 𝓤 H A W; lawful = Laws''''''''.lawful ActionFound.the-type
-    Laws''.the-laws 𝓤 H A W; makes = Laws''''''''.makes ActionFound.the-type Laws''.the-plain 𝓤 H A; in-mem = Local.mem-whole 𝓤 H A W (Declared'.row
-    ActionFound.the-type); of-mem = Local.whole-mem 𝓤 H A W (Declared'.row ActionFound.the-type); }) ∷ Bool.pBool ∷ List.[]
+ps = (MutSlice.pMutS RelayPending.row 0 tt) ∷ (MutSlice.pMutS RelayCircuit.row 1 tt) ∷
+    (MutSlice.pMutS InflightAction.row 2 tt) ∷ (MutSlice.pMutS (Referent.rtF (Referent.fInt Syntax.w32)) 3 tt) ∷ (StructRow.param
+    OpaqueRelayRuntime.the-type Laws''''.the-laws Laws''''.the-copy Laws''''.the-plain) ∷ (StructRow.param
+    Places.the-type Laws'.the-laws Laws'.the-copy Laws'.the-plain) ∷ (StructRow.param ActionFound.the-type
+    Laws''.the-laws Laws''.the-copy Laws''.the-plain) ∷ Bool.pBool ∷ List.[]
+
 abbrev pub r : Kinds.RK 4
-r = Value.rVal record { ty = Declared'.row Relayed.the-type; one = Path.refl; val = Laws''''''''.val Relayed.the-type Laws'''''.the-laws; tells =
-    Laws''''''''.tells Relayed.the-type Laws'''''.the-laws; still = Laws''''''''.still Relayed.the-type Laws'''''.the-copy Exit.yes; row = Rows.whole
-    (Declared'.row Relayed.the-type); rd = λ x. x; mk = λ x. x; } λ M 𝓤 H A W. record { copies = Laws''''''''.copy Relayed.the-type Laws'''''.the-copy
-    𝓤 H A W; lawful = Laws''''''''.lawful Relayed.the-type Laws'''''.the-laws 𝓤 H A W; makes = Laws''''''''.makes Relayed.the-type Laws'''''.the-plain
-    𝓤 H A; in-mem = Local.mem-whole 𝓤 H A W (Declared'.row Relayed.the-type); of-mem = Local.whole-mem 𝓤 H A W (Declared'.row Relayed.the-type); }
+r = StructRow.result Relayed.the-type Laws'''''.the-laws Laws'''''.the-copy Laws'''''.the-plain
+
 abbrev pub xs : List.List Syntax.Ty
-xs = InflightAction.ty ∷ Laws.mir ∷ Laws'''.mir ∷ Syntax.tyUnit ∷ ref0 ∷ (Syntax.tyStruct (38 ∷ 91 ∷ 93 ∷ List.[]) (Syntax.tcons ref0 (Syntax.tcons
-    (Syntax.tyInt Syntax.w64) Syntax.tnil))) ∷ ref1 ∷ (Syntax.tyStruct (38 ∷ 91 ∷ 93 ∷ List.[]) (Syntax.tcons ref1 (Syntax.tcons (Syntax.tyInt
-    Syntax.w64) Syntax.tnil))) ∷ ref2 ∷ (Syntax.tyStruct (38 ∷ 91 ∷ 93 ∷ List.[]) (Syntax.tcons ref2 (Syntax.tcons (Syntax.tyInt Syntax.w64)
-    Syntax.tnil))) ∷ ref1 ∷ (Syntax.tyStruct (38 ∷ 91 ∷ 93 ∷ List.[]) (Syntax.tcons ref1 (Syntax.tcons (Syntax.tyInt Syntax.w64) Syntax.tnil))) ∷ ref0
-    ∷ (Syntax.tyStruct (38 ∷ 91 ∷ 93 ∷ List.[]) (Syntax.tcons ref0 (Syntax.tcons (Syntax.tyInt Syntax.w64) Syntax.tnil))) ∷ ref3 ∷ (Syntax.tyStruct
-    (38 ∷ 91 ∷ 93 ∷ List.[]) (Syntax.tcons ref3 (Syntax.tcons (Syntax.tyInt Syntax.w64) Syntax.tnil))) ∷ List.[]
+xs = InflightAction.ty ∷ Laws.mir ∷ Laws'''.mir ∷ Syntax.tyUnit ∷ ref0 ∷ slice0 ∷ ref1 ∷ slice1 ∷ ref2 ∷ slice2 ∷ ref1
+    ∷ slice1 ∷ ref0 ∷ slice0 ∷ ref3 ∷ slice3 ∷ List.[]
+
 abbrev pub m : Nat.ℕ
 m = 6
+
 abbrev pub ps·0 : List.List (Kinds.PK 0)
-ps·0 = (Value.pVal record { ty = Declared'.row ActionFound.the-type; one = Path.refl; val = Laws''''''''.val ActionFound.the-type Laws''.the-laws;
-    tells = Laws''''''''.tells ActionFound.the-type Laws''.the-laws; still = Laws''''''''.still ActionFound.the-type Laws''.the-copy Exit.yes; row =
-    Rows.whole (Declared'.row ActionFound.the-type); rd = λ x. x; mk = λ x. x; } λ M 𝓤 H A W. record { copies = Laws''''''''.copy ActionFound.the-type
-    Laws''.the-copy 𝓤 H A W; lawful = Laws''''''''.lawful ActionFound.the-type Laws''.the-laws 𝓤 H A W; makes = Laws''''''''.makes
-    ActionFound.the-type Laws''.the-plain 𝓤 H A; in-mem = Local.mem-whole 𝓤 H A W (Declared'.row ActionFound.the-type); of-mem = Local.whole-mem 𝓤 H A
-    W (Declared'.row ActionFound.the-type); }) ∷ List.[]
+ps·0 = (StructRow.param ActionFound.the-type Laws''.the-laws Laws''.the-copy Laws''.the-plain) ∷ List.[]
+
 abbrev pub r·0 : Kinds.RK 0
 r·0 = InflightAction.result
+
 abbrev pub ps·1 : List.List (Kinds.PK 0)
-ps·1 = (Value.pVal record { ty = Declared'.row ActionFound.the-type; one = Path.refl; val = Laws''''''''.val ActionFound.the-type Laws''.the-laws;
-    tells = Laws''''''''.tells ActionFound.the-type Laws''.the-laws; still = Laws''''''''.still ActionFound.the-type Laws''.the-copy Exit.yes; row =
-    Rows.whole (Declared'.row ActionFound.the-type); rd = λ x. x; mk = λ x. x; } λ M 𝓤 H A W. record { copies = Laws''''''''.copy ActionFound.the-type
-    Laws''.the-copy 𝓤 H A W; lawful = Laws''''''''.lawful ActionFound.the-type Laws''.the-laws 𝓤 H A W; makes = Laws''''''''.makes
-    ActionFound.the-type Laws''.the-plain 𝓤 H A; in-mem = Local.mem-whole 𝓤 H A W (Declared'.row ActionFound.the-type); of-mem = Local.whole-mem 𝓤 H A
-    W (Declared'.row ActionFound.the-type); }) ∷ Bool.pBool ∷ List.[]
+ps·1 = (StructRow.param ActionFound.the-type Laws''.the-laws Laws''.the-copy Laws''.the-plain) ∷ Bool.pBool ∷ List.[]
+
 abbrev pub r·1 : Kinds.RK 0
-r·1 = Value.rVal record { ty = Declared'.row SettlePlan.the-type; one = Path.refl; val = Laws''''''''.val SettlePlan.the-type Laws.the-laws; tells =
-    Laws''''''''.tells SettlePlan.the-type Laws.the-laws; still = Laws''''''''.still SettlePlan.the-type Laws.the-copy Exit.yes; row = Rows.whole
-    (Declared'.row SettlePlan.the-type); rd = λ x. x; mk = λ x. x; } λ M 𝓤 H A W. record { copies = Laws''''''''.copy SettlePlan.the-type
-    Laws.the-copy 𝓤 H A W; lawful = Laws''''''''.lawful SettlePlan.the-type Laws.the-laws 𝓤 H A W; makes = Laws''''''''.makes SettlePlan.the-type
-    Laws.the-plain 𝓤 H A; in-mem = Local.mem-whole 𝓤 H A W (Declared'.row SettlePlan.the-type); of-mem = Local.whole-mem 𝓤 H A W (Declared'.row
-    SettlePlan.the-type); }
+r·1 = StructRow.result SettlePlan.the-type Laws.the-laws Laws.the-copy Laws.the-plain
+
 abbrev pub ps·2 : List.List (Kinds.PK 1)
 ps·2 = (MutSlice.pMutS InflightAction.row 0 tt) ∷ Bool.pBool ∷ (Num.pNum Syntax.w64) ∷ InflightAction.param ∷ List.[]
+
 abbrev pub r·2 : Kinds.RK 1
 r·2 = Unit.rUnit
+
 abbrev pub ps·3 : List.List (Kinds.PK 1)
-ps·3 = (MutSlice.pMutS RelayCircuit.row 0 tt) ∷ (Value.pVal record { ty = Declared'.row Places.the-type; one = Path.refl; val = Laws''''''''.val
-    Places.the-type Laws'.the-laws; tells = Laws''''''''.tells Places.the-type Laws'.the-laws; still = Laws''''''''.still Places.the-type
-    Laws'.the-copy Exit.yes; row = Rows.whole (Declared'.row Places.the-type); rd = λ x. x; mk = λ x. x; } λ M 𝓤 H A W. record { copies =
-    Laws''''''''.copy Places.the-type Laws'.the-copy 𝓤 H A W; lawful = Laws''''''''.lawful Places.the-type Laws'.the-laws 𝓤 H A W; makes =
-    Laws''''''''.makes Places.the-type Laws'.the-plain 𝓤 H A; in-mem = Local.mem-whole 𝓤 H A W (Declared'.row Places.the-type); of-mem =
-    Local.whole-mem 𝓤 H A W (Declared'.row Places.the-type); }) ∷ Bool.pBool ∷ (Num.pNum Syntax.w64) ∷ (Value.pVal record { ty = Declared.row
-    RelaySide.the-type; one = Path.refl; val = Laws''''''.val RelaySide.the-type Laws'''.the-laws; tells = Laws''''''.tells RelaySide.the-type
-    Laws'''.the-laws; still = Laws''''''.still RelaySide.the-type Laws'''.the-copy Exit.yes; row = Rows.whole (Declared.row RelaySide.the-type); rd =
-    λ x. x; mk = λ x. x; } λ M 𝓤 H A W. record { copies = Laws''''''.copy RelaySide.the-type Laws'''.the-copy 𝓤 H A W; lawful = Laws''''''.lawful
-    RelaySide.the-type Laws'''.the-laws 𝓤 H A W tt; makes = Laws''''''.makes RelaySide.the-type Laws'''.the-plain 𝓤 H A; in-mem = Local.mem-whole 𝓤 H
-    A W (Declared.row RelaySide.the-type); of-mem = Local.whole-mem 𝓤 H A W (Declared.row RelaySide.the-type); }) ∷ (Num.pNum Syntax.w64) ∷ List.[]
+ps·3 = (MutSlice.pMutS RelayCircuit.row 0 tt) ∷ (StructRow.param Places.the-type Laws'.the-laws Laws'.the-copy
+    Laws'.the-plain) ∷ Bool.pBool ∷ (Num.pNum Syntax.w64) ∷ (StructRow.enum-param RelaySide.the-type Laws'''.the-laws
+    Laws'''.the-copy Laws'''.the-plain tt) ∷ (Num.pNum Syntax.w64) ∷ List.[]
+
 abbrev pub r·3 : Kinds.RK 1
 r·3 = Unit.rUnit
+
 abbrev pub ps·4 : List.List (Kinds.PK 4)
-ps·4 = (MutSlice.pMutS RelayPending.row 0 tt) ∷ (MutSlice.pMutS RelayCircuit.row 1 tt) ∷ (MutSlice.pMutS InflightAction.row 2 tt) ∷ (MutSlice.pMutS
-    (Referent.rtF (Referent.fInt Syntax.w32)) 3 tt) ∷ (Value.pVal record { ty = Declared'.row OpaqueRelayRuntime.the-type; one = Path.refl; val =
-    Laws''''''''.val OpaqueRelayRuntime.the-type Laws''''.the-laws; tells = Laws''''''''.tells OpaqueRelayRuntime.the-type Laws''''.the-laws; still =
-    Laws''''''''.still OpaqueRelayRuntime.the-type Laws''''.the-copy Exit.yes; row = Rows.whole (Declared'.row OpaqueRelayRuntime.the-type); rd = λ x.
-    x; mk = λ x. x; } λ M 𝓤 H A W. record { copies = Laws''''''''.copy OpaqueRelayRuntime.the-type Laws''''.the-copy 𝓤 H A W; lawful =
-    Laws''''''''.lawful OpaqueRelayRuntime.the-type Laws''''.the-laws 𝓤 H A W; makes = Laws''''''''.makes OpaqueRelayRuntime.the-type
-    Laws''''.the-plain 𝓤 H A; in-mem = Local.mem-whole 𝓤 H A W (Declared'.row OpaqueRelayRuntime.the-type); of-mem = Local.whole-mem 𝓤 H A W
-    (Declared'.row OpaqueRelayRuntime.the-type); }) ∷ (Value.pVal record { ty = Declared'.row Places.the-type; one = Path.refl; val = Laws''''''''.val
-    Places.the-type Laws'.the-laws; tells = Laws''''''''.tells Places.the-type Laws'.the-laws; still = Laws''''''''.still Places.the-type
-    Laws'.the-copy Exit.yes; row = Rows.whole (Declared'.row Places.the-type); rd = λ x. x; mk = λ x. x; } λ M 𝓤 H A W. record { copies =
-    Laws''''''''.copy Places.the-type Laws'.the-copy 𝓤 H A W; lawful = Laws''''''''.lawful Places.the-type Laws'.the-laws 𝓤 H A W; makes =
-    Laws''''''''.makes Places.the-type Laws'.the-plain 𝓤 H A; in-mem = Local.mem-whole 𝓤 H A W (Declared'.row Places.the-type); of-mem =
-    Local.whole-mem 𝓤 H A W (Declared'.row Places.the-type); }) ∷ (Value.pVal record { ty = Declared'.row SettlePlan.the-type; one = Path.refl; val =
-    Laws''''''''.val SettlePlan.the-type Laws.the-laws; tells = Laws''''''''.tells SettlePlan.the-type Laws.the-laws; still = Laws''''''''.still
-    SettlePlan.the-type Laws.the-copy Exit.yes; row = Rows.whole (Declared'.row SettlePlan.the-type); rd = λ x. x; mk = λ x. x; } λ M 𝓤 H A W. record
-    { copies = Laws''''''''.copy SettlePlan.the-type Laws.the-copy 𝓤 H A W; lawful = Laws''''''''.lawful SettlePlan.the-type Laws.the-laws 𝓤 H A W;
-    makes = Laws''''''''.makes SettlePlan.the-type Laws.the-plain 𝓤 H A; in-mem = Local.mem-whole 𝓤 H A W (Declared'.row SettlePlan.the-type); of-mem
-    = Local.whole-mem 𝓤 H A W (Declared'.row SettlePlan.the-type); }) ∷ List.[]
+ps·4 = (MutSlice.pMutS RelayPending.row 0 tt) ∷ (MutSlice.pMutS RelayCircuit.row 1 tt) ∷
+    (MutSlice.pMutS InflightAction.row 2 tt) ∷ (MutSlice.pMutS (Referent.rtF (Referent.fInt Syntax.w32)) 3 tt) ∷ (StructRow.param
+    OpaqueRelayRuntime.the-type Laws''''.the-laws Laws''''.the-copy Laws''''.the-plain) ∷ (StructRow.param
+    Places.the-type Laws'.the-laws Laws'.the-copy Laws'.the-plain) ∷ (StructRow.param SettlePlan.the-type Laws.the-laws
+    Laws.the-copy Laws.the-plain) ∷ List.[]
+
 abbrev pub r·4 : Kinds.RK 4
-r·4 = Value.rVal record { ty = Declared'.row Relayed.the-type; one = Path.refl; val = Laws''''''''.val Relayed.the-type Laws'''''.the-laws; tells =
-    Laws''''''''.tells Relayed.the-type Laws'''''.the-laws; still = Laws''''''''.still Relayed.the-type Laws'''''.the-copy Exit.yes; row = Rows.whole
-    (Declared'.row Relayed.the-type); rd = λ x. x; mk = λ x. x; } λ M 𝓤 H A W. record { copies = Laws''''''''.copy Relayed.the-type Laws'''''.the-copy
-    𝓤 H A W; lawful = Laws''''''''.lawful Relayed.the-type Laws'''''.the-laws 𝓤 H A W; makes = Laws''''''''.makes Relayed.the-type Laws'''''.the-plain
-    𝓤 H A; in-mem = Local.mem-whole 𝓤 H A W (Declared'.row Relayed.the-type); of-mem = Local.whole-mem 𝓤 H A W (Declared'.row Relayed.the-type); }
+r·4 = StructRow.result Relayed.the-type Laws'''''.the-laws Laws'''''.the-copy Laws'''''.the-plain
+
 abbrev pub hs : List.List Syntax.Home
-hs = Syntax.valueLocal ∷ Syntax.valueLocal ∷ Syntax.valueLocal ∷ Syntax.valueLocal ∷ Syntax.valueLocal ∷ Syntax.valueLocal ∷ Syntax.valueLocal ∷
-    Syntax.valueLocal ∷ Syntax.valueLocal ∷ Syntax.valueLocal ∷ Syntax.valueLocal ∷ Syntax.valueLocal ∷ Syntax.valueLocal ∷ Syntax.valueLocal ∷
-    Syntax.valueLocal ∷ Syntax.valueLocal ∷ Syntax.valueLocal ∷ Syntax.valueLocal ∷ Syntax.valueLocal ∷ Syntax.valueLocal ∷ Syntax.valueLocal ∷
-    Syntax.valueLocal ∷ Syntax.valueLocal ∷ Syntax.valueLocal ∷ Syntax.valueLocal ∷ List.[]
+hs = Syntax.valueLocal ∷ Syntax.valueLocal ∷ Syntax.valueLocal ∷ Syntax.valueLocal ∷ Syntax.valueLocal ∷
+    Syntax.valueLocal ∷ Syntax.valueLocal ∷ Syntax.valueLocal ∷ Syntax.valueLocal ∷ Syntax.valueLocal ∷
+    Syntax.valueLocal ∷ Syntax.valueLocal ∷ Syntax.valueLocal ∷ Syntax.valueLocal ∷ Syntax.valueLocal ∷
+    Syntax.valueLocal ∷ Syntax.valueLocal ∷ Syntax.valueLocal ∷ Syntax.valueLocal ∷ Syntax.valueLocal ∷
+    Syntax.valueLocal ∷ Syntax.valueLocal ∷ Syntax.valueLocal ∷ Syntax.valueLocal ∷ Syntax.valueLocal ∷ List.[]
+
 abbrev b0 : Syntax.Body
-b0 = Syntax.call "hnsr_circuit::acknowledge::action_gone" ((Syntax.copy (Syntax.place 7 List.[])) ∷ List.[]) (Syntax.place 9 List.[])
+b0 = Syntax.call "hnsr_circuit::acknowledge::action_gone" ((Syntax.copy (Syntax.place 7 List.[])) ∷ List.[])
+    (Syntax.place 9 List.[])
+
 abbrev b1 : Syntax.Body
-b1 = Syntax.call "hnsr_circuit::acknowledge::settle_plan" ((Syntax.copy (Syntax.place 7 List.[])) ∷ (Syntax.copy (Syntax.place 8 List.[])) ∷ List.[])
-    (Syntax.place 10 List.[])
+b1 = Syntax.call "hnsr_circuit::acknowledge::settle_plan" ((Syntax.copy (Syntax.place 7 List.[])) ∷
+    (Syntax.copy (Syntax.place 8 List.[])) ∷ List.[]) (Syntax.place 10 List.[])
+
 abbrev b2 : Syntax.Body
 b2 = Syntax.assign (Syntax.place 11 List.[]) (Syntax.rvOpd (Syntax.copy (Syntax.place 10 ((Syntax.field 3) ∷ List.[]))))
+
 abbrev b3 : Syntax.Body
-b3 = Syntax.assign (Syntax.place 13 List.[]) (Syntax.addrOf (Syntax.place 3 ((Syntax.field 0) ∷ (Syntax.deref InflightAction.ty) ∷ List.[])))
+b3 = Syntax.assign (Syntax.place 13 List.[]) (Syntax.addrOf (Syntax.place 3 ((Syntax.field 0) ∷
+    (Syntax.deref InflightAction.ty) ∷ List.[])))
+
 abbrev b4 : Syntax.Body
-b4 = Syntax.assign (Syntax.place 14 List.[]) (Syntax.aggregate ((Syntax.copy (Syntax.place 13 List.[])) ∷ (Syntax.copy (Syntax.place 3 ((Syntax.field
-    1) ∷ List.[]))) ∷ List.[]))
+b4 = Syntax.assign (Syntax.place 14 List.[]) (Syntax.aggregate ((Syntax.copy (Syntax.place 13 List.[])) ∷
+    (Syntax.copy (Syntax.place 3 ((Syntax.field 1) ∷ List.[]))) ∷ List.[]))
+
 abbrev b5 : Syntax.Body
-b5 = Syntax.call "hnsr_circuit::tables::inflight::set_action" ((Syntax.copy (Syntax.place 14 List.[])) ∷ Syntax.opdTrue ∷ (Syntax.copy (Syntax.place
-    10 ((Syntax.field 0) ∷ List.[]))) ∷ (Syntax.copy (Syntax.place 9 List.[])) ∷ List.[]) (Syntax.place 12 List.[])
+b5 = Syntax.call "hnsr_circuit::tables::inflight::set_action" ((Syntax.copy (Syntax.place 14 List.[])) ∷ Syntax.opdTrue
+    ∷ (Syntax.copy (Syntax.place 10 ((Syntax.field 0) ∷ List.[]))) ∷ (Syntax.copy (Syntax.place 9 List.[])) ∷ List.[])
+    (Syntax.place 12 List.[])
+
 abbrev b6 : Syntax.Body
-b6 = Syntax.assign (Syntax.place 15 List.[]) (Syntax.addrOf (Syntax.place 2 ((Syntax.field 0) ∷ (Syntax.deref RelayCircuit.ty) ∷ List.[])))
+b6 = Syntax.assign (Syntax.place 15 List.[]) (Syntax.addrOf (Syntax.place 2 ((Syntax.field 0) ∷
+    (Syntax.deref RelayCircuit.ty) ∷ List.[])))
+
 abbrev b7 : Syntax.Body
-b7 = Syntax.assign (Syntax.place 16 List.[]) (Syntax.aggregate ((Syntax.copy (Syntax.place 15 List.[])) ∷ (Syntax.copy (Syntax.place 2 ((Syntax.field
-    1) ∷ List.[]))) ∷ List.[]))
+b7 = Syntax.assign (Syntax.place 16 List.[]) (Syntax.aggregate ((Syntax.copy (Syntax.place 15 List.[])) ∷
+    (Syntax.copy (Syntax.place 2 ((Syntax.field 1) ∷ List.[]))) ∷ List.[]))
+
 abbrev b8 : Syntax.Body
-b8 = Syntax.call "hnsr_circuit::acknowledge::lower_circuit" ((Syntax.copy (Syntax.place 16 List.[])) ∷ (Syntax.copy (Syntax.place 6 List.[])) ∷
-    (Syntax.copy (Syntax.place 10 ((Syntax.field 2) ∷ List.[]))) ∷ (Syntax.copy (Syntax.place 10 ((Syntax.field 1) ∷ List.[]))) ∷ (Syntax.copy
-    (Syntax.place 11 List.[])) ∷ (Syntax.copy (Syntax.place 10 ((Syntax.field 4) ∷ List.[]))) ∷ List.[]) (Syntax.place 12 List.[])
+b8 = Syntax.call "hnsr_circuit::acknowledge::lower_circuit" ((Syntax.copy (Syntax.place 16 List.[])) ∷
+    (Syntax.copy (Syntax.place 6 List.[])) ∷ (Syntax.copy (Syntax.place 10 ((Syntax.field 2) ∷ List.[]))) ∷ (Syntax.copy
+    (Syntax.place 10 ((Syntax.field 1) ∷ List.[]))) ∷ (Syntax.copy (Syntax.place 11 List.[])) ∷ (Syntax.copy
+    (Syntax.place 10 ((Syntax.field 4) ∷ List.[]))) ∷ List.[]) (Syntax.place 12 List.[])
+
 abbrev b9 : Syntax.Body
-b9 = Syntax.assign (Syntax.place 17 List.[]) (Syntax.addrOf (Syntax.place 1 ((Syntax.field 0) ∷ (Syntax.deref RelayPending.ty) ∷ List.[])))
+b9 = Syntax.assign (Syntax.place 17 List.[]) (Syntax.addrOf (Syntax.place 1 ((Syntax.field 0) ∷
+    (Syntax.deref RelayPending.ty) ∷ List.[])))
+
 abbrev b10 : Syntax.Body
-b10 = Syntax.assign (Syntax.place 18 List.[]) (Syntax.aggregate ((Syntax.copy (Syntax.place 17 List.[])) ∷ (Syntax.copy (Syntax.place 1 ((Syntax.field
-    1) ∷ List.[]))) ∷ List.[]))
+b10 = Syntax.assign (Syntax.place 18 List.[]) (Syntax.aggregate ((Syntax.copy (Syntax.place 17 List.[])) ∷
+    (Syntax.copy (Syntax.place 1 ((Syntax.field 1) ∷ List.[]))) ∷ List.[]))
+
 abbrev b11 : Syntax.Body
-b11 = Syntax.assign (Syntax.place 19 List.[]) (Syntax.addrOf (Syntax.place 2 ((Syntax.field 0) ∷ (Syntax.deref RelayCircuit.ty) ∷ List.[])))
+b11 = Syntax.assign (Syntax.place 19 List.[]) (Syntax.addrOf (Syntax.place 2 ((Syntax.field 0) ∷
+    (Syntax.deref RelayCircuit.ty) ∷ List.[])))
+
 abbrev b12 : Syntax.Body
-b12 = Syntax.assign (Syntax.place 20 List.[]) (Syntax.aggregate ((Syntax.copy (Syntax.place 19 List.[])) ∷ (Syntax.copy (Syntax.place 2 ((Syntax.field
-    1) ∷ List.[]))) ∷ List.[]))
+b12 = Syntax.assign (Syntax.place 20 List.[]) (Syntax.aggregate ((Syntax.copy (Syntax.place 19 List.[])) ∷
+    (Syntax.copy (Syntax.place 2 ((Syntax.field 1) ∷ List.[]))) ∷ List.[]))
+
 abbrev b13 : Syntax.Body
-b13 = Syntax.assign (Syntax.place 21 List.[]) (Syntax.addrOf (Syntax.place 3 ((Syntax.field 0) ∷ (Syntax.deref InflightAction.ty) ∷ List.[])))
+b13 = Syntax.assign (Syntax.place 21 List.[]) (Syntax.addrOf (Syntax.place 3 ((Syntax.field 0) ∷
+    (Syntax.deref InflightAction.ty) ∷ List.[])))
+
 abbrev b14 : Syntax.Body
-b14 = Syntax.assign (Syntax.place 22 List.[]) (Syntax.aggregate ((Syntax.copy (Syntax.place 21 List.[])) ∷ (Syntax.copy (Syntax.place 3 ((Syntax.field
-    1) ∷ List.[]))) ∷ List.[]))
+b14 = Syntax.assign (Syntax.place 22 List.[]) (Syntax.aggregate ((Syntax.copy (Syntax.place 21 List.[])) ∷
+    (Syntax.copy (Syntax.place 3 ((Syntax.field 1) ∷ List.[]))) ∷ List.[]))
+
 abbrev b15 : Syntax.Body
-b15 = Syntax.assign (Syntax.place 23 List.[]) (Syntax.addrOf (Syntax.place 4 ((Syntax.field 0) ∷ (Syntax.deref (Syntax.tyInt Syntax.w32)) ∷ List.[])))
+b15 = Syntax.assign (Syntax.place 23 List.[]) (Syntax.addrOf (Syntax.place 4 ((Syntax.field 0) ∷
+    (Syntax.deref (Syntax.tyInt Syntax.w32)) ∷ List.[])))
+
 abbrev b16 : Syntax.Body
-b16 = Syntax.assign (Syntax.place 24 List.[]) (Syntax.aggregate ((Syntax.copy (Syntax.place 23 List.[])) ∷ (Syntax.copy (Syntax.place 4 ((Syntax.field
-    1) ∷ List.[]))) ∷ List.[]))
+b16 = Syntax.assign (Syntax.place 24 List.[]) (Syntax.aggregate ((Syntax.copy (Syntax.place 23 List.[])) ∷
+    (Syntax.copy (Syntax.place 4 ((Syntax.field 1) ∷ List.[]))) ∷ List.[]))
+
 abbrev b17 : Syntax.Body
-b17 = Syntax.call "hnsr_circuit::acknowledge::settle" ((Syntax.copy (Syntax.place 18 List.[])) ∷ (Syntax.copy (Syntax.place 20 List.[])) ∷
-    (Syntax.copy (Syntax.place 22 List.[])) ∷ (Syntax.copy (Syntax.place 24 List.[])) ∷ (Syntax.copy (Syntax.place 5 List.[])) ∷ (Syntax.copy
-    (Syntax.place 6 List.[])) ∷ (Syntax.copy (Syntax.place 10 List.[])) ∷ List.[]) (Syntax.place 0 List.[])
+b17 = Syntax.call "hnsr_circuit::acknowledge::settle" ((Syntax.copy (Syntax.place 18 List.[])) ∷
+    (Syntax.copy (Syntax.place 20 List.[])) ∷ (Syntax.copy (Syntax.place 22 List.[])) ∷
+    (Syntax.copy (Syntax.place 24 List.[])) ∷ (Syntax.copy (Syntax.place 5 List.[])) ∷
+    (Syntax.copy (Syntax.place 6 List.[])) ∷ (Syntax.copy (Syntax.place 10 List.[])) ∷ List.[])
+    (Syntax.place 0 List.[])
+
 abbrev b18 : Syntax.Body
 b18 = Syntax.return
+
 abbrev b19 : Syntax.Body
 b19 = Syntax.seq b17 b18
+
 abbrev b20 : Syntax.Body
 b20 = Syntax.seq b16 b19
+
 abbrev b21 : Syntax.Body
 b21 = Syntax.seq b15 b20
+
 abbrev b22 : Syntax.Body
 b22 = Syntax.seq b14 b21
+
 abbrev b23 : Syntax.Body
 b23 = Syntax.seq b13 b22
+
 abbrev b24 : Syntax.Body
 b24 = Syntax.seq b12 b23
+
 abbrev b25 : Syntax.Body
 b25 = Syntax.seq b11 b24
+
 abbrev b26 : Syntax.Body
 b26 = Syntax.seq b10 b25
+
 abbrev b27 : Syntax.Body
 b27 = Syntax.seq b9 b26
+
 abbrev b28 : Syntax.Body
 b28 = Syntax.seq b8 b27
+
 abbrev b29 : Syntax.Body
 b29 = Syntax.seq b7 b28
+
 abbrev b30 : Syntax.Body
 b30 = Syntax.seq b6 b29
+
 abbrev b31 : Syntax.Body
 b31 = Syntax.seq b5 b30
+
 abbrev b32 : Syntax.Body
 b32 = Syntax.seq b4 b31
+
 abbrev b33 : Syntax.Body
 b33 = Syntax.seq b3 b32
+
 abbrev b34 : Syntax.Body
 b34 = Syntax.seq b2 b33
+
 abbrev b35 : Syntax.Body
 b35 = Syntax.seq b1 b34
+
 abbrev b36 : Syntax.Body
 b36 = Syntax.seq b0 b35
+
 abbrev pub body : Syntax.Body
 body = b36
+
 abbrev pub Claims : Type 1
-Claims = Kinds.In 0 ps·0 × Kinds.Out 0 ps·0 r·0 × Kinds.In 0 ps·1 × Kinds.Out 0 ps·1 r·1 × Kinds.In 1 ps·2 × Kinds.Out 1 ps·2 r·2 × Kinds.In 1 ps·3 ×
-    Kinds.Out 1 ps·3 r·3 × Kinds.In 4 ps·4 × Kinds.Out 4 ps·4 r·4
+Claims = Kinds.In 0 ps·0 × Kinds.Out 0 ps·0 r·0 × Kinds.In 0 ps·1 × Kinds.Out 0 ps·1 r·1 × Kinds.In 1 ps·2 × Kinds.Out
+    1 ps·2 r·2 × Kinds.In 1 ps·3 × Kinds.Out 1 ps·3 r·3 × Kinds.In 4 ps·4 × Kinds.Out 4 ps·4 r·4
+
 abbrev e0 : Row.Entry
 e0 = (0, Rows.any-gone Laws'''''.mir)
+
 abbrev e1 : Row.Entry
 e1 = (1, Mut.mslice RelayPending.row ref4 0)
+
 abbrev e2 : Row.Entry
 e2 = (2, Mut.mslice RelayCircuit.row ref5 1)
+
 abbrev e3 : Row.Entry
 e3 = (3, Mut.mslice InflightAction.row ref6 2)
+
 abbrev e4 : Row.Entry
 e4 = (4, Mut.mslice (Referent.rtF (Referent.fInt Syntax.w32)) ref7 3)
+
 abbrev e5 : Row.Entry
 e5 = (5, Rows.whole (Declared'.row OpaqueRelayRuntime.the-type))
+
 abbrev e6 : Row.Entry
 e6 = (6, Rows.whole (Declared'.row Places.the-type))
+
 abbrev e7 : Row.Entry
 e7 = (7, Rows.whole (Declared'.row ActionFound.the-type))
+
 abbrev e8 : Row.Entry
 e8 = (8, Rows.sc-here Row.sBool)
+
 abbrev e9 : Row.Entry
 e9 = (9, Rows.any-gone InflightAction.ty)
+
 abbrev e10 : Row.Entry
 e10 = (10, Rows.any-gone Laws.mir)
+
 abbrev e11 : Row.Entry
 e11 = (11, Rows.any-gone Laws'''.mir)
+
 abbrev e12 : Row.Entry
 e12 = (12, Rows.any-gone Syntax.tyUnit)
+
 abbrev e13 : Row.Entry
 e13 = (13, Rows.any-gone ref0)
+
 abbrev e14 : Row.Entry
-e14 = (14, Rows.any-gone (Syntax.tyStruct (38 ∷ 91 ∷ 93 ∷ List.[]) (Syntax.tcons ref0 (Syntax.tcons (Syntax.tyInt Syntax.w64) Syntax.tnil))))
+e14 = (14, Rows.any-gone slice0)
+
 abbrev e15 : Row.Entry
 e15 = (15, Rows.any-gone ref1)
+
 abbrev e16 : Row.Entry
-e16 = (16, Rows.any-gone (Syntax.tyStruct (38 ∷ 91 ∷ 93 ∷ List.[]) (Syntax.tcons ref1 (Syntax.tcons (Syntax.tyInt Syntax.w64) Syntax.tnil))))
+e16 = (16, Rows.any-gone slice1)
+
 abbrev e17 : Row.Entry
 e17 = (17, Rows.any-gone ref2)
+
 abbrev e18 : Row.Entry
-e18 = (18, Rows.any-gone (Syntax.tyStruct (38 ∷ 91 ∷ 93 ∷ List.[]) (Syntax.tcons ref2 (Syntax.tcons (Syntax.tyInt Syntax.w64) Syntax.tnil))))
+e18 = (18, Rows.any-gone slice2)
+
 abbrev e19 : Row.Entry
 e19 = (19, Rows.any-gone ref1)
+
 abbrev e20 : Row.Entry
-e20 = (20, Rows.any-gone (Syntax.tyStruct (38 ∷ 91 ∷ 93 ∷ List.[]) (Syntax.tcons ref1 (Syntax.tcons (Syntax.tyInt Syntax.w64) Syntax.tnil))))
+e20 = (20, Rows.any-gone slice1)
+
 abbrev e21 : Row.Entry
 e21 = (21, Rows.any-gone ref0)
+
 abbrev e22 : Row.Entry
-e22 = (22, Rows.any-gone (Syntax.tyStruct (38 ∷ 91 ∷ 93 ∷ List.[]) (Syntax.tcons ref0 (Syntax.tcons (Syntax.tyInt Syntax.w64) Syntax.tnil))))
+e22 = (22, Rows.any-gone slice0)
+
 abbrev e23 : Row.Entry
 e23 = (23, Rows.any-gone ref3)
+
 abbrev e24 : Row.Entry
-e24 = (24, Rows.any-gone (Syntax.tyStruct (38 ∷ 91 ∷ 93 ∷ List.[]) (Syntax.tcons ref3 (Syntax.tcons (Syntax.tyInt Syntax.w64) Syntax.tnil))))
+e24 = (24, Rows.any-gone slice3)
+
 abbrev e0·1 : Row.Entry
 e0·1 = (0, Rows.whole (Declared'.row Relayed.the-type))
+
 abbrev e5·1 : Row.Entry
 e5·1 = (5, Rows.any-gone Laws''''.mir)
+
 abbrev e6·1 : Row.Entry
 e6·1 = (6, Rows.any-gone Laws'.mir)
+
 abbrev e7·1 : Row.Entry
 e7·1 = (7, Rows.any-gone Laws''.mir)
+
 abbrev e8·1 : Row.Entry
 e8·1 = (8, Rows.any-gone Syntax.tyBool)
+
 abbrev e9·1 : Row.Entry
 e9·1 = (9, InflightAction.held)
+
 abbrev e10·1 : Row.Entry
 e10·1 = (10, Rows.whole (Declared'.row SettlePlan.the-type))
+
 abbrev e11·1 : Row.Entry
 e11·1 = (11, Rows.whole (Declared.row RelaySide.the-type))
+
 abbrev e3·1 : Row.Entry
 e3·1 = (3, Relend.mslice-owed InflightAction.row ref6 2 4 Row.off)
+
 abbrev e13·1 : Row.Entry
 e13·1 = (13, Relend.msptr InflightAction.row ref0 4)
+
 abbrev e14·1 : Row.Entry
 e14·1 = (14, Mut.mslice InflightAction.row ref0 4)
+
 abbrev e12·1 : Row.Entry
 e12·1 = (12, Rows.sc-here Row.sUnit)
+
 abbrev e14·2 : Row.Entry
 e14·2 = (14, Mut.msleft InflightAction.row ref0)
+
 abbrev e2·1 : Row.Entry
 e2·1 = (2, Relend.mslice-owed RelayCircuit.row ref5 1 5 Row.off)
+
 abbrev e15·1 : Row.Entry
 e15·1 = (15, Relend.msptr RelayCircuit.row ref1 5)
+
 abbrev e16·1 : Row.Entry
 e16·1 = (16, Mut.mslice RelayCircuit.row ref1 5)
+
 abbrev e16·2 : Row.Entry
 e16·2 = (16, Mut.msleft RelayCircuit.row ref1)
+
 abbrev e1·1 : Row.Entry
 e1·1 = (1, Relend.mslice-owed RelayPending.row ref4 0 6 Row.off)
+
 abbrev e17·1 : Row.Entry
 e17·1 = (17, Relend.msptr RelayPending.row ref2 6)
+
 abbrev e18·1 : Row.Entry
 e18·1 = (18, Mut.mslice RelayPending.row ref2 6)
+
 abbrev e2·2 : Row.Entry
 e2·2 = (2, Relend.mslice-owed RelayCircuit.row ref5 1 7 Row.off)
+
 abbrev e19·1 : Row.Entry
 e19·1 = (19, Relend.msptr RelayCircuit.row ref1 7)
+
 abbrev e20·1 : Row.Entry
 e20·1 = (20, Mut.mslice RelayCircuit.row ref1 7)
+
 abbrev e3·2 : Row.Entry
 e3·2 = (3, Relend.mslice-owed InflightAction.row ref6 2 8 Row.off)
+
 abbrev e21·1 : Row.Entry
 e21·1 = (21, Relend.msptr InflightAction.row ref0 8)
+
 abbrev e22·1 : Row.Entry
 e22·1 = (22, Mut.mslice InflightAction.row ref0 8)
+
 abbrev e4·1 : Row.Entry
 e4·1 = (4, Relend.mslice-owed (Referent.rtF (Referent.fInt Syntax.w32)) ref7 3 9 Row.off)
+
 abbrev e23·1 : Row.Entry
 e23·1 = (23, Relend.msptr (Referent.rtF (Referent.fInt Syntax.w32)) ref3 9)
+
 abbrev e24·1 : Row.Entry
 e24·1 = (24, Mut.mslice (Referent.rtF (Referent.fInt Syntax.w32)) ref3 9)
+
 abbrev e18·2 : Row.Entry
 e18·2 = (18, Mut.msleft RelayPending.row ref2)
+
 abbrev e20·2 : Row.Entry
 e20·2 = (20, Mut.msleft RelayCircuit.row ref1)
+
 abbrev e22·2 : Row.Entry
 e22·2 = (22, Mut.msleft InflightAction.row ref0)
+
 abbrev e24·2 : Row.Entry
 e24·2 = (24, Mut.msleft (Referent.rtF (Referent.fInt Syntax.w32)) ref3)
+
 abbrev pub t0 : List.List Row.Entry
 t0 = e0 ∷ e1 ∷ e2 ∷ e3 ∷ e4 ∷ e5 ∷ e6 ∷ e7 ∷ e8 ∷ e9 ∷ e10 ∷ e11 ∷ e12 ∷ e13 ∷ e14 ∷ e15 ∷ List.[]
+
 abbrev pub t1 : List.List Row.Entry
 t1 = e16 ∷ e17 ∷ e18 ∷ e19 ∷ e20 ∷ e21 ∷ e22 ∷ e23 ∷ e24 ∷ List.[]
+
 abbrev pub t2 : List.List Row.Entry
 t2 = e0·1 ∷ e1 ∷ e2 ∷ e3 ∷ e4 ∷ e5·1 ∷ e6·1 ∷ e7·1 ∷ e8·1 ∷ e9 ∷ e10 ∷ e11 ∷ e12 ∷ e13 ∷ e14 ∷ e15 ∷ List.[]
+
 abbrev pub t3 : List.List Row.Entry
 t3 = e0 ∷ e1 ∷ e2 ∷ e3 ∷ e4 ∷ e5 ∷ e6 ∷ e7 ∷ e8 ∷ e9·1 ∷ e10 ∷ e11 ∷ e12 ∷ e13 ∷ e14 ∷ e15 ∷ List.[]
+
 abbrev pub t4 : List.List Row.Entry
 t4 = e0 ∷ e1 ∷ e2 ∷ e3 ∷ e4 ∷ e5 ∷ e6 ∷ e7 ∷ e8 ∷ e9·1 ∷ e10·1 ∷ e11 ∷ e12 ∷ e13 ∷ e14 ∷ e15 ∷ List.[]
+
 abbrev pub t5 : List.List Row.Entry
 t5 = e0 ∷ e1 ∷ e2 ∷ e3 ∷ e4 ∷ e5 ∷ e6 ∷ e7·1 ∷ e8 ∷ e9·1 ∷ e10·1 ∷ e11 ∷ e12 ∷ e13 ∷ e14 ∷ e15 ∷ List.[]
+
 abbrev pub t6 : List.List Row.Entry
 t6 = e0 ∷ e1 ∷ e2 ∷ e3 ∷ e4 ∷ e5 ∷ e6 ∷ e7·1 ∷ e8 ∷ e9·1 ∷ e10·1 ∷ e11·1 ∷ e12 ∷ e13 ∷ e14 ∷ e15 ∷ List.[]
+
 abbrev pub t7 : List.List Row.Entry
 t7 = e0 ∷ e1 ∷ e2 ∷ e3·1 ∷ e4 ∷ e5 ∷ e6 ∷ e7·1 ∷ e8 ∷ e9·1 ∷ e10·1 ∷ e11·1 ∷ e12 ∷ e13·1 ∷ e14 ∷ e15 ∷ List.[]
+
 abbrev pub t8 : List.List Row.Entry
 t8 = e0 ∷ e1 ∷ e2 ∷ e3·1 ∷ e4 ∷ e5 ∷ e6 ∷ e7·1 ∷ e8 ∷ e9·1 ∷ e10·1 ∷ e11·1 ∷ e12 ∷ e13 ∷ e14·1 ∷ e15 ∷ List.[]
+
 abbrev pub t9 : List.List Row.Entry
 t9 = e0 ∷ e1 ∷ e2 ∷ e3·1 ∷ e4 ∷ e5 ∷ e6 ∷ e7·1 ∷ e8 ∷ e9·1 ∷ e10·1 ∷ e11·1 ∷ e12·1 ∷ e13 ∷ e14·2 ∷ e15 ∷ List.[]
+
 abbrev pub t10 : List.List Row.Entry
 t10 = e0 ∷ e1 ∷ e2 ∷ e3·1 ∷ e4 ∷ e5 ∷ e6 ∷ e7·1 ∷ e8 ∷ e9 ∷ e10·1 ∷ e11·1 ∷ e12·1 ∷ e13 ∷ e14·2 ∷ e15 ∷ List.[]
+
 abbrev pub t11 : List.List Row.Entry
 t11 = e0 ∷ e1 ∷ e2 ∷ e3·1 ∷ e4 ∷ e5 ∷ e6 ∷ e7·1 ∷ e8 ∷ e9 ∷ e10·1 ∷ e11·1 ∷ e12 ∷ e13 ∷ e14·2 ∷ e15 ∷ List.[]
+
 abbrev pub t12 : List.List Row.Entry
 t12 = e0 ∷ e1 ∷ e2 ∷ e3 ∷ e4 ∷ e5 ∷ e6 ∷ e7·1 ∷ e8 ∷ e9 ∷ e10·1 ∷ e11·1 ∷ e12 ∷ e13 ∷ e14 ∷ e15 ∷ List.[]
+
 abbrev pub t13 : List.List Row.Entry
 t13 = e0 ∷ e1 ∷ e2·1 ∷ e3 ∷ e4 ∷ e5 ∷ e6 ∷ e7·1 ∷ e8 ∷ e9 ∷ e10·1 ∷ e11·1 ∷ e12 ∷ e13 ∷ e14 ∷ e15·1 ∷ List.[]
+
 abbrev pub t14 : List.List Row.Entry
 t14 = e0 ∷ e1 ∷ e2·1 ∷ e3 ∷ e4 ∷ e5 ∷ e6 ∷ e7·1 ∷ e8 ∷ e9 ∷ e10·1 ∷ e11·1 ∷ e12 ∷ e13 ∷ e14 ∷ e15 ∷ List.[]
+
 abbrev pub t15 : List.List Row.Entry
 t15 = e16·1 ∷ e17 ∷ e18 ∷ e19 ∷ e20 ∷ e21 ∷ e22 ∷ e23 ∷ e24 ∷ List.[]
+
 abbrev pub t16 : List.List Row.Entry
 t16 = e0 ∷ e1 ∷ e2·1 ∷ e3 ∷ e4 ∷ e5 ∷ e6 ∷ e7·1 ∷ e8 ∷ e9 ∷ e10·1 ∷ e11·1 ∷ e12·1 ∷ e13 ∷ e14 ∷ e15 ∷ List.[]
+
 abbrev pub t17 : List.List Row.Entry
 t17 = e16·2 ∷ e17 ∷ e18 ∷ e19 ∷ e20 ∷ e21 ∷ e22 ∷ e23 ∷ e24 ∷ List.[]
+
 abbrev pub t18 : List.List Row.Entry
 t18 = e0 ∷ e1 ∷ e2·1 ∷ e3 ∷ e4 ∷ e5 ∷ e6 ∷ e7·1 ∷ e8 ∷ e9 ∷ e10·1 ∷ e11 ∷ e12·1 ∷ e13 ∷ e14 ∷ e15 ∷ List.[]
+
 abbrev pub t19 : List.List Row.Entry
 t19 = e0 ∷ e1 ∷ e2·1 ∷ e3 ∷ e4 ∷ e5 ∷ e6 ∷ e7·1 ∷ e8 ∷ e9 ∷ e10·1 ∷ e11 ∷ e12 ∷ e13 ∷ e14 ∷ e15 ∷ List.[]
+
 abbrev pub t20 : List.List Row.Entry
 t20 = e0 ∷ e1 ∷ e2 ∷ e3 ∷ e4 ∷ e5 ∷ e6 ∷ e7·1 ∷ e8 ∷ e9 ∷ e10·1 ∷ e11 ∷ e12 ∷ e13 ∷ e14 ∷ e15 ∷ List.[]
+
 abbrev pub t21 : List.List Row.Entry
 t21 = e0 ∷ e1·1 ∷ e2 ∷ e3 ∷ e4 ∷ e5 ∷ e6 ∷ e7·1 ∷ e8 ∷ e9 ∷ e10·1 ∷ e11 ∷ e12 ∷ e13 ∷ e14 ∷ e15 ∷ List.[]
+
 abbrev pub t22 : List.List Row.Entry
 t22 = e16 ∷ e17·1 ∷ e18 ∷ e19 ∷ e20 ∷ e21 ∷ e22 ∷ e23 ∷ e24 ∷ List.[]
+
 abbrev pub t23 : List.List Row.Entry
 t23 = e16 ∷ e17 ∷ e18·1 ∷ e19 ∷ e20 ∷ e21 ∷ e22 ∷ e23 ∷ e24 ∷ List.[]
+
 abbrev pub t24 : List.List Row.Entry
 t24 = e0 ∷ e1·1 ∷ e2·2 ∷ e3 ∷ e4 ∷ e5 ∷ e6 ∷ e7·1 ∷ e8 ∷ e9 ∷ e10·1 ∷ e11 ∷ e12 ∷ e13 ∷ e14 ∷ e15 ∷ List.[]
+
 abbrev pub t25 : List.List Row.Entry
 t25 = e16 ∷ e17 ∷ e18·1 ∷ e19·1 ∷ e20 ∷ e21 ∷ e22 ∷ e23 ∷ e24 ∷ List.[]
+
 abbrev pub t26 : List.List Row.Entry
 t26 = e16 ∷ e17 ∷ e18·1 ∷ e19 ∷ e20·1 ∷ e21 ∷ e22 ∷ e23 ∷ e24 ∷ List.[]
+
 abbrev pub t27 : List.List Row.Entry
 t27 = e0 ∷ e1·1 ∷ e2·2 ∷ e3·2 ∷ e4 ∷ e5 ∷ e6 ∷ e7·1 ∷ e8 ∷ e9 ∷ e10·1 ∷ e11 ∷ e12 ∷ e13 ∷ e14 ∷ e15 ∷ List.[]
+
 abbrev pub t28 : List.List Row.Entry
 t28 = e16 ∷ e17 ∷ e18·1 ∷ e19 ∷ e20·1 ∷ e21·1 ∷ e22 ∷ e23 ∷ e24 ∷ List.[]
+
 abbrev pub t29 : List.List Row.Entry
 t29 = e16 ∷ e17 ∷ e18·1 ∷ e19 ∷ e20·1 ∷ e21 ∷ e22·1 ∷ e23 ∷ e24 ∷ List.[]
+
 abbrev pub t30 : List.List Row.Entry
 t30 = e0 ∷ e1·1 ∷ e2·2 ∷ e3·2 ∷ e4·1 ∷ e5 ∷ e6 ∷ e7·1 ∷ e8 ∷ e9 ∷ e10·1 ∷ e11 ∷ e12 ∷ e13 ∷ e14 ∷ e15 ∷ List.[]
+
 abbrev pub t31 : List.List Row.Entry
 t31 = e16 ∷ e17 ∷ e18·1 ∷ e19 ∷ e20·1 ∷ e21 ∷ e22·1 ∷ e23·1 ∷ e24 ∷ List.[]
+
 abbrev pub t32 : List.List Row.Entry
 t32 = e16 ∷ e17 ∷ e18·1 ∷ e19 ∷ e20·1 ∷ e21 ∷ e22·1 ∷ e23 ∷ e24·1 ∷ List.[]
+
 abbrev pub t33 : List.List Row.Entry
 t33 = e0·1 ∷ e1·1 ∷ e2·2 ∷ e3·2 ∷ e4·1 ∷ e5 ∷ e6 ∷ e7·1 ∷ e8 ∷ e9 ∷ e10·1 ∷ e11 ∷ e12 ∷ e13 ∷ e14 ∷ e15 ∷ List.[]
+
 abbrev pub t34 : List.List Row.Entry
 t34 = e16 ∷ e17 ∷ e18·2 ∷ e19 ∷ e20·2 ∷ e21 ∷ e22·2 ∷ e23 ∷ e24·2 ∷ List.[]
+
 abbrev pub t35 : List.List Row.Entry
 t35 = e0·1 ∷ e1·1 ∷ e2·2 ∷ e3·2 ∷ e4·1 ∷ e5·1 ∷ e6 ∷ e7·1 ∷ e8 ∷ e9 ∷ e10·1 ∷ e11 ∷ e12 ∷ e13 ∷ e14 ∷ e15 ∷ List.[]
+
 abbrev pub t36 : List.List Row.Entry
 t36 = e0·1 ∷ e1·1 ∷ e2·2 ∷ e3·2 ∷ e4·1 ∷ e5·1 ∷ e6·1 ∷ e7·1 ∷ e8 ∷ e9 ∷ e10·1 ∷ e11 ∷ e12 ∷ e13 ∷ e14 ∷ e15 ∷ List.[]
+
 abbrev pub t37 : List.List Row.Entry
 t37 = e0·1 ∷ e1·1 ∷ e2·2 ∷ e3·2 ∷ e4·1 ∷ e5·1 ∷ e6·1 ∷ e7·1 ∷ e8 ∷ e9 ∷ e10 ∷ e11 ∷ e12 ∷ e13 ∷ e14 ∷ e15 ∷ List.[]
+
 abbrev pub t38 : List.List Row.Entry
 t38 = e0·1 ∷ e1 ∷ e2·2 ∷ e3·2 ∷ e4·1 ∷ e5·1 ∷ e6·1 ∷ e7·1 ∷ e8 ∷ e9 ∷ e10 ∷ e11 ∷ e12 ∷ e13 ∷ e14 ∷ e15 ∷ List.[]
+
 abbrev pub t39 : List.List Row.Entry
 t39 = e16 ∷ e17 ∷ e18 ∷ e19 ∷ e20·2 ∷ e21 ∷ e22·2 ∷ e23 ∷ e24·2 ∷ List.[]
+
 abbrev pub t40 : List.List Row.Entry
 t40 = e0·1 ∷ e1 ∷ e2 ∷ e3·2 ∷ e4·1 ∷ e5·1 ∷ e6·1 ∷ e7·1 ∷ e8 ∷ e9 ∷ e10 ∷ e11 ∷ e12 ∷ e13 ∷ e14 ∷ e15 ∷ List.[]
+
 abbrev pub t41 : List.List Row.Entry
 t41 = e16 ∷ e17 ∷ e18 ∷ e19 ∷ e20 ∷ e21 ∷ e22·2 ∷ e23 ∷ e24·2 ∷ List.[]
+
 abbrev pub t42 : List.List Row.Entry
 t42 = e0·1 ∷ e1 ∷ e2 ∷ e3 ∷ e4·1 ∷ e5·1 ∷ e6·1 ∷ e7·1 ∷ e8 ∷ e9 ∷ e10 ∷ e11 ∷ e12 ∷ e13 ∷ e14 ∷ e15 ∷ List.[]
+
 abbrev pub t43 : List.List Row.Entry
 t43 = e16 ∷ e17 ∷ e18 ∷ e19 ∷ e20 ∷ e21 ∷ e22 ∷ e23 ∷ e24·2 ∷ List.[]
+
 abbrev pub t44 : List.List Row.Entry
 t44 = e0·1 ∷ e1 ∷ e2 ∷ e3 ∷ e4 ∷ e5·1 ∷ e6·1 ∷ e7·1 ∷ e8 ∷ e9 ∷ e10 ∷ e11 ∷ e12 ∷ e13 ∷ e14 ∷ e15 ∷ List.[]
+
 abbrev pub T0 : Row.Cx
 T0 = record { locals = List._++_ t0 t1; slots = List.[] }
+
 abbrev pub T1 : Row.Cx
 T1 = record { locals = List._++_ t2 t1; slots = List.[] }
+
 abbrev pub T2 : Row.Cx
 T2 = record { locals = List._++_ t0 t1; slots = List.[] }
+
 abbrev pub T3 : Row.Cx
 T3 = record { locals = List._++_ t3 t1; slots = List.[] }
+
 abbrev pub T4 : Row.Cx
 T4 = record { locals = List._++_ t4 t1; slots = List.[] }
+
 abbrev pub T5 : Row.Cx
 T5 = record { locals = List._++_ t5 t1; slots = List.[] }
+
 abbrev pub T6 : Row.Cx
 T6 = record { locals = List._++_ t6 t1; slots = List.[] }
+
 abbrev pub T8 : Row.Cx
 T8 = record { locals = List._++_ t7 t1; slots = List.[] }
+
 abbrev pub T9 : Row.Cx
 T9 = record { locals = List._++_ t8 t1; slots = List.[] }
+
 abbrev pub T10 : Row.Cx
 T10 = record { locals = List._++_ t9 t1; slots = List.[] }
+
 abbrev pub T11 : Row.Cx
 T11 = record { locals = List._++_ t10 t1; slots = List.[] }
+
 abbrev pub T12 : Row.Cx
 T12 = record { locals = List._++_ t11 t1; slots = List.[] }
+
 abbrev pub T14 : Row.Cx
 T14 = record { locals = List._++_ t12 t1; slots = List.[] }
+
 abbrev pub T17 : Row.Cx
 T17 = record { locals = List._++_ t13 t1; slots = List.[] }
+
 abbrev pub T18 : Row.Cx
 T18 = record { locals = List._++_ t14 t15; slots = List.[] }
+
 abbrev pub T19 : Row.Cx
 T19 = record { locals = List._++_ t16 t17; slots = List.[] }
+
 abbrev pub T20 : Row.Cx
 T20 = record { locals = List._++_ t18 t17; slots = List.[] }
+
 abbrev pub T21 : Row.Cx
 T21 = record { locals = List._++_ t19 t17; slots = List.[] }
+
 abbrev pub T23 : Row.Cx
 T23 = record { locals = List._++_ t20 t1; slots = List.[] }
+
 abbrev pub T26 : Row.Cx
 T26 = record { locals = List._++_ t21 t22; slots = List.[] }
+
 abbrev pub T27 : Row.Cx
 T27 = record { locals = List._++_ t21 t23; slots = List.[] }
+
 abbrev pub T29 : Row.Cx
 T29 = record { locals = List._++_ t24 t25; slots = List.[] }
+
 abbrev pub T30 : Row.Cx
 T30 = record { locals = List._++_ t24 t26; slots = List.[] }
+
 abbrev pub T32 : Row.Cx
 T32 = record { locals = List._++_ t27 t28; slots = List.[] }
+
 abbrev pub T33 : Row.Cx
 T33 = record { locals = List._++_ t27 t29; slots = List.[] }
+
 abbrev pub T35 : Row.Cx
 T35 = record { locals = List._++_ t30 t31; slots = List.[] }
+
 abbrev pub T36 : Row.Cx
 T36 = record { locals = List._++_ t30 t32; slots = List.[] }
+
 abbrev pub T37 : Row.Cx
 T37 = record { locals = List._++_ t33 t34; slots = List.[] }
+
 abbrev pub T38 : Row.Cx
 T38 = record { locals = List._++_ t35 t34; slots = List.[] }
+
 abbrev pub T39 : Row.Cx
 T39 = record { locals = List._++_ t36 t34; slots = List.[] }
+
 abbrev pub T40 : Row.Cx
 T40 = record { locals = List._++_ t37 t34; slots = List.[] }
+
 abbrev pub T42 : Row.Cx
 T42 = record { locals = List._++_ t38 t39; slots = List.[] }
+
 abbrev pub T45 : Row.Cx
 T45 = record { locals = List._++_ t40 t41; slots = List.[] }
+
 abbrev pub T48 : Row.Cx
 T48 = record { locals = List._++_ t42 t43; slots = List.[] }
+
 abbrev pub T51 : Row.Cx
 T51 = record { locals = List._++_ t44 t1; slots = List.[] }
+
 abbrev pub T52 : Row.Cx
 T52 = record { locals = List._++_ t44 t1; slots = List.[] }
+
 abbrev pub T54 : Row.Cx
 T54 = record { locals = List._++_ t2 t1; slots = List.[] }
+
 abbrev pub O0 : Typed.Outs
 O0 = record { next = Option.none; exits = List.[]; returns = Option.some T1 }
+
 module _ (claims· : Claims) where
   abbrev s0 : Typed.Gives T0 T2
   s0 = Know.k-sl-known (Referent.fInt Syntax.w32) T0 4 3 ref7 Row.off 0 λ x. x
+
+  abbrev args1 : Args'.ArgsT ps·0 (T2 .locals)
+  args1 = (record { pos = 7; st = List.[]; d = 0; at = λ x. x }, tt)
+
   abbrev s1 : Typed.Both T2 T3
-  s1 = Call.callB ps·0 r·0 (claims· .0) (claims· .1) T2 (record { pos = 7; st = List.[]; d = 0; at = λ x. x }, tt,) 9 List.[] InflightAction.ty
+  s1 = Call.callB ps·0 r·0 (claims· .0) (claims· .1) T2 args1 9 List.[] InflightAction.ty
+
+  abbrev args2 : Args'.ArgsT ps·1 (T3 .locals)
+  args2 = (record { pos = 7; st = List.[]; d = 0; at = λ x. x }, (Bool.bAt 8 λ x. x, tt))
+
   abbrev s2 : Typed.Both T3 T4
-  s2 = Call.callB ps·1 r·1 (claims· .2) (claims· .3) T3 (record { pos = 7; st = List.[]; d = 0; at = λ x. x }, (Bool.bAt 8 λ x. x, tt),) 10 List.[]
-      Laws.mir
+  s2 = Call.callB ps·1 r·1 (claims· .2) (claims· .3) T3 args2 10 List.[] Laws.mir
+
   abbrev s3 : Typed.Mo T4 → Typed.Mo T5
   s3 = Scalar.n-room T4 7 Laws''.mir
+
   abbrev s4 : Typed.Mo T5 → Typed.Mo T6
-  s4 = Make.n-make (Declared.row RelaySide.the-type) T5 11 λ m. SettlePlan.struct .as-values (m .1 .1 .1 .1 .1 .1 .1 .1 .1 .1 .0) .1 .1 .1 .0
+  s4 = Make.n-make (Declared.row RelaySide.the-type) T5 11 λ m. SettlePlan.struct .as-values
+      (m .1 .1 .1 .1 .1 .1 .1 .1 .1 .1 .0) .1 .1 .1 .0
+
   abbrev s6 : Typed.Gives T6 T8
   s6 = Relend.k-sl-relend InflightAction.row T6 3 13 2 4 ref6 ref0 Row.off λ x. x
+
   abbrev s7 : Typed.Asks T8 T9
-  s7 = Relend.k-sl-aggregate InflightAction.row (Relend.asMut InflightAction.row) T8 13 14 4 ref0 ref0 (λ x. x) (Scalar.oFld 3 ((Syntax.field 1) ∷
-      List.[]) (Syntax.tyInt Syntax.w64) 8 λ v. Shared.lenV (v .0))
+  s7 = Relend.k-sl-aggregate InflightAction.row (Relend.asMut InflightAction.row) T8 13 14 4 ref0 ref0 (λ x. x) (Scalar.oFld
+      3 ((Syntax.field 1) ∷ List.[]) (Syntax.tyInt Syntax.w64) 8 λ v. Shared.lenV (v .0))
+
+  abbrev args8 : Args'.ArgsT ps·2 (T9 .locals)
+  args8 = (
+    record { pos = 14; ty = ref0; ref = λ x. x },
+    (
+      Bool.bLit Bool'.true,
+      (
+        Num.vFld 10 ((Syntax.field 0) ∷ List.[]) 0 λ x. SettlePlan.struct .as-values x .0,
+        (record { pos = 9; st = List.[]; d = 0; at = λ x. x }, tt),
+      ),
+    ),
+  )
+
   abbrev s8 : Typed.Both T9 T10
-  s8 = Call.callB ps·2 r·2 (claims· .4) (claims· .5) T9 (record { pos = 14; ty = Syntax.tyRef Syntax.erased Syntax.mut InflightAction.to; ref = λ x.
-      x; }, (Bool.bLit Bool'.true, (Num.vFld 10 ((Syntax.field 0) ∷ List.[]) 0 λ x. SettlePlan.struct .as-values x .0, (record { pos = 9; st =
-      List.[]; d = 0; at = λ x. x }, tt),),),) 12 (4 ∷ List.[]) Syntax.tyUnit
+  s8 = Call.callB ps·2 r·2 (claims· .4) (claims· .5) T9 args8 12 (4 ∷ List.[]) Syntax.tyUnit
+
   abbrev s9 : Typed.Mo T10 → Typed.Mo T11
   s9 = Scalar.n-room T10 9 InflightAction.ty
+
   abbrev s10 : Typed.Mo T11 → Typed.Mo T12
   s10 = Scalar.n-room T11 12 Syntax.tyUnit
+
   abbrev s12 : Typed.Both T12 T14
   s12 = Relend.k-back-sl InflightAction.row T12 14 3 2 4 ref6 ref0 Row.off (λ x. x) λ x. x
+
   abbrev s15 : Typed.Gives T14 T17
   s15 = Relend.k-sl-relend RelayCircuit.row T14 2 15 1 5 ref5 ref1 Row.off λ x. x
+
   abbrev s16 : Typed.Asks T17 T18
-  s16 = Relend.k-sl-aggregate RelayCircuit.row (Relend.asMut RelayCircuit.row) T17 15 16 5 ref1 ref1 (λ x. x) (Scalar.oFld 2 ((Syntax.field 1) ∷
-      List.[]) (Syntax.tyInt Syntax.w64) 8 λ v. Shared.lenV (v .0))
+  s16 = Relend.k-sl-aggregate RelayCircuit.row (Relend.asMut RelayCircuit.row) T17 15 16 5 ref1 ref1 (λ x. x) (Scalar.oFld
+      2 ((Syntax.field 1) ∷ List.[]) (Syntax.tyInt Syntax.w64) 8 λ v. Shared.lenV (v .0))
+
+  abbrev args17 : Args'.ArgsT ps·3 (T18 .locals)
+  args17 = (
+    record { pos = 16; ty = ref1; ref = λ x. x },
+    (
+      record { pos = 6; st = List.[]; d = 0; at = λ x. x },
+      (
+        Bool.bFld 10 ((Syntax.field 2) ∷ List.[]) 16 λ x. SettlePlan.struct .as-values x .1 .1 .0,
+        (
+          Num.vFld 10 ((Syntax.field 1) ∷ List.[]) 8 λ x. SettlePlan.struct .as-values x .1 .0,
+          (
+            record { pos = 11; st = List.[]; d = 0; at = λ x. x },
+            (Num.vFld 10 ((Syntax.field 4) ∷ List.[]) 24 λ x. SettlePlan.struct .as-values x .1 .1 .1 .1 .0, tt),
+          ),
+        ),
+      ),
+    ),
+  )
+
   abbrev s17 : Typed.Both T18 T19
-  s17 = Call.callB ps·3 r·3 (claims· .6) (claims· .7) T18 (record { pos = 16; ty = Syntax.tyRef Syntax.erased Syntax.mut RelayCircuit.to; ref = λ x.
-      x; }, (record { pos = 6; st = List.[]; d = 0; at = λ x. x }, (Bool.bFld 10 ((Syntax.field 2) ∷ List.[]) 16 λ x. SettlePlan.struct .as-values x
-      .1 .1 .0, (Num.vFld 10 ((Syntax.field 1) ∷ List.[]) 8 λ x. SettlePlan.struct .as-values x .1 .0, (record { pos = 11; st = List.[]; d = 0; at = λ
-      x. x }, (Num.vFld 10 ((Syntax.field 4) ∷ List.[]) 24 λ x. SettlePlan.struct .as-values x .1 .1 .1 .1 .0, tt,),),),),),) 12 (5 ∷ List.[])
-      Syntax.tyUnit
+  s17 = Call.callB ps·3 r·3 (claims· .6) (claims· .7) T18 args17 12 (5 ∷ List.[]) Syntax.tyUnit
+
   abbrev s18 : Typed.Mo T19 → Typed.Mo T20
   s18 = Scalar.n-room T19 11 Laws'''.mir
+
   abbrev s19 : Typed.Mo T20 → Typed.Mo T21
   s19 = Scalar.n-room T20 12 Syntax.tyUnit
+
   abbrev s21 : Typed.Both T21 T23
   s21 = Relend.k-back-sl RelayCircuit.row T21 16 2 1 5 ref5 ref1 Row.off (λ x. x) λ x. x
+
   abbrev s24 : Typed.Gives T23 T26
   s24 = Relend.k-sl-relend RelayPending.row T23 1 17 0 6 ref4 ref2 Row.off λ x. x
+
   abbrev s25 : Typed.Asks T26 T27
-  s25 = Relend.k-sl-aggregate RelayPending.row (Relend.asMut RelayPending.row) T26 17 18 6 ref2 ref2 (λ x. x) (Scalar.oFld 1 ((Syntax.field 1) ∷
-      List.[]) (Syntax.tyInt Syntax.w64) 8 λ v. Shared.lenV (v .0))
+  s25 = Relend.k-sl-aggregate RelayPending.row (Relend.asMut RelayPending.row) T26 17 18 6 ref2 ref2 (λ x. x) (Scalar.oFld
+      1 ((Syntax.field 1) ∷ List.[]) (Syntax.tyInt Syntax.w64) 8 λ v. Shared.lenV (v .0))
+
   abbrev s27 : Typed.Gives T27 T29
   s27 = Relend.k-sl-relend RelayCircuit.row T27 2 19 1 7 ref5 ref1 Row.off λ x. x
+
   abbrev s28 : Typed.Asks T29 T30
-  s28 = Relend.k-sl-aggregate RelayCircuit.row (Relend.asMut RelayCircuit.row) T29 19 20 7 ref1 ref1 (λ x. x) (Scalar.oFld 2 ((Syntax.field 1) ∷
-      List.[]) (Syntax.tyInt Syntax.w64) 8 λ v. Shared.lenV (v .0))
+  s28 = Relend.k-sl-aggregate RelayCircuit.row (Relend.asMut RelayCircuit.row) T29 19 20 7 ref1 ref1 (λ x. x) (Scalar.oFld
+      2 ((Syntax.field 1) ∷ List.[]) (Syntax.tyInt Syntax.w64) 8 λ v. Shared.lenV (v .0))
+
   abbrev s30 : Typed.Gives T30 T32
   s30 = Relend.k-sl-relend InflightAction.row T30 3 21 2 8 ref6 ref0 Row.off λ x. x
+
   abbrev s31 : Typed.Asks T32 T33
-  s31 = Relend.k-sl-aggregate InflightAction.row (Relend.asMut InflightAction.row) T32 21 22 8 ref0 ref0 (λ x. x) (Scalar.oFld 3 ((Syntax.field 1) ∷
-      List.[]) (Syntax.tyInt Syntax.w64) 8 λ v. Shared.lenV (v .0))
+  s31 = Relend.k-sl-aggregate InflightAction.row (Relend.asMut InflightAction.row) T32 21 22 8 ref0 ref0 (λ x. x) (Scalar.oFld
+      3 ((Syntax.field 1) ∷ List.[]) (Syntax.tyInt Syntax.w64) 8 λ v. Shared.lenV (v .0))
+
   abbrev s33 : Typed.Gives T33 T35
   s33 = Relend.k-sl-relend (Referent.rtF (Referent.fInt Syntax.w32)) T33 4 23 3 9 ref7 ref3 Row.off λ x. x
+
   abbrev s34 : Typed.Asks T35 T36
-  s34 = Relend.k-sl-aggregate (Referent.rtF (Referent.fInt Syntax.w32)) (Relend.asMut (Referent.rtF (Referent.fInt Syntax.w32))) T35 23 24 9 ref3 ref3
-      (λ x. x) (Scalar.oFld 4 ((Syntax.field 1) ∷ List.[]) (Syntax.tyInt Syntax.w64) 8 λ v. Shared.lenV (v .0))
+  s34 = Relend.k-sl-aggregate (Referent.rtF (Referent.fInt Syntax.w32))
+      (Relend.asMut (Referent.rtF (Referent.fInt Syntax.w32))) T35 23 24 9 ref3 ref3 (λ x. x) (Scalar.oFld 4
+      ((Syntax.field 1) ∷ List.[]) (Syntax.tyInt Syntax.w64) 8 λ v. Shared.lenV (v .0))
+
+  abbrev args35 : Args'.ArgsT ps·4 (T36 .locals)
+  args35 = (
+    record { pos = 18; ty = ref2; ref = λ x. x },
+    (
+      record { pos = 20; ty = ref1; ref = λ x. x },
+      (
+        record { pos = 22; ty = ref0; ref = λ x. x },
+        (
+          record { pos = 24; ty = ref3; ref = λ x. x },
+          (
+            record { pos = 5; st = List.[]; d = 0; at = λ x. x },
+            (
+              record { pos = 6; st = List.[]; d = 0; at = λ x. x },
+              (record { pos = 10; st = List.[]; d = 0; at = λ x. x }, tt),
+            ),
+          ),
+        ),
+      ),
+    ),
+  )
+
   abbrev s35 : Typed.Both T36 T37
-  s35 = Call.callB ps·4 r·4 (claims· .8) (claims· .9) T36 (record { pos = 18; ty = Syntax.tyRef Syntax.erased Syntax.mut RelayPending.to; ref = λ x.
-      x; }, (record { pos = 20; ty = Syntax.tyRef Syntax.erased Syntax.mut RelayCircuit.to; ref = λ x. x; }, (record { pos = 22; ty = Syntax.tyRef
-      Syntax.erased Syntax.mut InflightAction.to; ref = λ x. x; }, (record { pos = 24; ty = Syntax.tyRef Syntax.erased Syntax.mut (Syntax.tyInt
-      Syntax.w32); ref = λ x. x; }, (record { pos = 5; st = List.[]; d = 0; at = λ x. x }, (record { pos = 6; st = List.[]; d = 0; at = λ x. x },
-      (record { pos = 10; st = List.[]; d = 0; at = λ x. x }, tt),),),),),),) 0 (6 ∷ 7 ∷ 8 ∷ 9 ∷ List.[]) Laws'''''.mir
+  s35 = Call.callB ps·4 r·4 (claims· .8) (claims· .9) T36 args35 0 (6 ∷ 7 ∷ 8 ∷ 9 ∷ List.[]) Laws'''''.mir
+
   abbrev s36 : Typed.Mo T37 → Typed.Mo T38
   s36 = Scalar.n-room T37 5 Laws''''.mir
+
   abbrev s37 : Typed.Mo T38 → Typed.Mo T39
   s37 = Scalar.n-room T38 6 Laws'.mir
+
   abbrev s38 : Typed.Mo T39 → Typed.Mo T40
   s38 = Scalar.n-room T39 10 Laws.mir
+
   abbrev s40 : Typed.Both T40 T42
   s40 = Relend.k-back-sl RelayPending.row T40 18 1 0 6 ref4 ref2 Row.off (λ x. x) λ x. x
+
   abbrev s43 : Typed.Both T42 T45
   s43 = Relend.k-back-sl RelayCircuit.row T42 20 2 1 7 ref5 ref1 Row.off (λ x. x) λ x. x
+
   abbrev s46 : Typed.Both T45 T48
   s46 = Relend.k-back-sl InflightAction.row T45 22 3 2 8 ref6 ref0 Row.off (λ x. x) λ x. x
+
   abbrev s49 : Typed.Both T48 T51
   s49 = Relend.k-back-sl (Referent.rtF (Referent.fInt Syntax.w32)) T48 24 4 3 9 ref7 ref3 Row.off (λ x. x) λ x. x
+
   abbrev s50 : Typed.Gives T51 T52
   s50 = Know.k-sl-known (Referent.fInt Syntax.w32) T51 4 3 ref7 Row.off 0 λ x. x
+
   abbrev s52 : Typed.Mo T52 → Typed.Mo T54
   s52 = Scalar.n-room T52 8 Syntax.tyBool
-  module _ (Pre· : (κs : Lifetimes.Lfts 4) → Kinds.Dens κs ps → Type 0) (Post· : (κs : Lifetimes.Lfts 4) → (a : Kinds.Dens κs ps) → Kinds.Plain 4 ps r
-      κs) where
+
+  module _ (Pre· : (κs : Lifetimes.Lfts 4) → Kinds.Dens κs ps → Type 0) (Post· : (κs : Lifetimes.Lfts 4) →
+      (a : Kinds.Dens κs ps) → Kinds.Plain 4 ps r κs) where
     module _ (M : Type 1) where
       abbrev pub Closed : Type 2
-      Closed = (𝓤 : URA.URA M) (H : Wp.Heap 𝓤) (A : Atoms.Atoms 𝓤) (W : Kit.Given 𝓤 H A) (𝓣 : Wp.Tables 𝓤 H) (known0 : Plain.Known 𝓤 H A W 𝓣 0 ps·0
-          r·0 (claims· .0) (claims· .1) "hnsr_circuit::acknowledge::action_gone") (known1 : Plain.Known 𝓤 H A W 𝓣 0 ps·1 r·1 (claims· .2) (claims· .3)
-          "hnsr_circuit::acknowledge::settle_plan") (known2 : Plain.Known 𝓤 H A W 𝓣 1 ps·2 r·2 (claims· .4) (claims· .5)
-          "hnsr_circuit::tables::inflight::set_action") (known3 : Plain.Known 𝓤 H A W 𝓣 1 ps·3 r·3 (claims· .6) (claims· .7)
-          "hnsr_circuit::acknowledge::lower_circuit") (known4 : Plain.Known 𝓤 H A W 𝓣 4 ps·4 r·4 (claims· .8) (claims· .9)
-          "hnsr_circuit::acknowledge::settle") → Statement.Triple 𝓤 (Wp.WpFn 𝓤 H (𝓣 .C) (𝓣 .Λ) (Function.fnOf 4 ps r xs m hs body)) (Function.plainOf
-          𝓤 H A 4 ps r Pre· Post·)
+      Closed = (𝓤 : URA.URA M) (H : Wp.Heap 𝓤) (A : Atoms.Atoms 𝓤) (W : Kit.Given 𝓤 H A) (𝓣 : Wp.Tables 𝓤 H) (known0 :
+          Plain.Known 𝓤 H A W 𝓣 0 ps·0 r·0 (claims· .0) (claims· .1) "hnsr_circuit::acknowledge::action_gone") (known1
+          : Plain.Known 𝓤 H A W 𝓣 0 ps·1 r·1 (claims· .2) (claims· .3) "hnsr_circuit::acknowledge::settle_plan") (known2
+          : Plain.Known 𝓤 H A W 𝓣 1 ps·2 r·2 (claims· .4) (claims· .5) "hnsr_circuit::tables::inflight::set_action") (known3
+          : Plain.Known 𝓤 H A W 𝓣 1 ps·3 r·3 (claims· .6) (claims· .7) "hnsr_circuit::acknowledge::lower_circuit") (known4
+          : Plain.Known 𝓤 H A W 𝓣 4 ps·4 r·4 (claims· .8) (claims· .9) "hnsr_circuit::acknowledge::settle") →
+          Statement.Triple 𝓤 (Wp.WpFn 𝓤 H (𝓣 .C) (𝓣 .Λ) (Function.fnOf 4 ps r xs m hs body))
+          (Function.plainOf 𝓤 H A 4 ps r Pre· Post·)
+
     module _ where
       abbrev at0 : Typed.TF T54 O0
       at0 = Typed.atRet O0
+
       abbrev at1 : Typed.TF T52 O0
       at1 = λ Ψ. Typed.pass T52 T54 s52 (at0 Ψ)
+
       abbrev at2 : Typed.TF T52 O0
       at2 = λ Ψ. at1 Ψ
+
       abbrev at3 : Typed.TF T51 O0
       at3 = λ Ψ. Typed.give s50 (at2 Ψ)
+
       abbrev at4 : Typed.TF T48 O0
       at4 = λ Ψ. Typed.both s49 (at3 Ψ)
+
       abbrev at5 : Typed.TF T48 O0
       at5 = λ Ψ. at4 Ψ
+
       abbrev at6 : Typed.TF T48 O0
       at6 = λ Ψ. at5 Ψ
+
       abbrev at7 : Typed.TF T45 O0
       at7 = λ Ψ. Typed.both s46 (at6 Ψ)
+
       abbrev at8 : Typed.TF T45 O0
       at8 = λ Ψ. at7 Ψ
+
       abbrev at9 : Typed.TF T45 O0
       at9 = λ Ψ. at8 Ψ
+
       abbrev at10 : Typed.TF T42 O0
       at10 = λ Ψ. Typed.both s43 (at9 Ψ)
+
       abbrev at11 : Typed.TF T42 O0
       at11 = λ Ψ. at10 Ψ
+
       abbrev at12 : Typed.TF T42 O0
       at12 = λ Ψ. at11 Ψ
+
       abbrev at13 : Typed.TF T40 O0
       at13 = λ Ψ. Typed.both s40 (at12 Ψ)
+
       abbrev at14 : Typed.TF T40 O0
       at14 = λ Ψ. at13 Ψ
+
       abbrev at15 : Typed.TF T39 O0
       at15 = λ Ψ. Typed.pass T39 T40 s38 (at14 Ψ)
+
       abbrev at16 : Typed.TF T38 O0
       at16 = λ Ψ. Typed.pass T38 T39 s37 (at15 Ψ)
+
       abbrev at17 : Typed.TF T37 O0
       at17 = λ Ψ. Typed.pass T37 T38 s36 (at16 Ψ)
+
       abbrev at18 : Typed.TF T36 O0
       at18 = λ Ψ. Typed.both s35 (at17 Ψ)
+
       abbrev at19 : Typed.TF T35 O0
       at19 = λ Ψ. Typed.ask s34 (at18 Ψ)
+
       abbrev at20 : Typed.TF T33 O0
       at20 = λ Ψ. Typed.give s33 (at19 Ψ)
+
       abbrev at21 : Typed.TF T33 O0
       at21 = λ Ψ. at20 Ψ
+
       abbrev at22 : Typed.TF T32 O0
       at22 = λ Ψ. Typed.ask s31 (at21 Ψ)
+
       abbrev at23 : Typed.TF T30 O0
       at23 = λ Ψ. Typed.give s30 (at22 Ψ)
+
       abbrev at24 : Typed.TF T30 O0
       at24 = λ Ψ. at23 Ψ
+
       abbrev at25 : Typed.TF T29 O0
       at25 = λ Ψ. Typed.ask s28 (at24 Ψ)
+
       abbrev at26 : Typed.TF T27 O0
       at26 = λ Ψ. Typed.give s27 (at25 Ψ)
+
       abbrev at27 : Typed.TF T27 O0
       at27 = λ Ψ. at26 Ψ
+
       abbrev at28 : Typed.TF T26 O0
       at28 = λ Ψ. Typed.ask s25 (at27 Ψ)
+
       abbrev at29 : Typed.TF T23 O0
       at29 = λ Ψ. Typed.give s24 (at28 Ψ)
+
       abbrev at30 : Typed.TF T23 O0
       at30 = λ Ψ. at29 Ψ
+
       abbrev at31 : Typed.TF T23 O0
       at31 = λ Ψ. at30 Ψ
+
       abbrev at32 : Typed.TF T21 O0
       at32 = λ Ψ. Typed.both s21 (at31 Ψ)
+
       abbrev at33 : Typed.TF T21 O0
       at33 = λ Ψ. at32 Ψ
+
       abbrev at34 : Typed.TF T20 O0
       at34 = λ Ψ. Typed.pass T20 T21 s19 (at33 Ψ)
+
       abbrev at35 : Typed.TF T19 O0
       at35 = λ Ψ. Typed.pass T19 T20 s18 (at34 Ψ)
+
       abbrev at36 : Typed.TF T18 O0
       at36 = λ Ψ. Typed.both s17 (at35 Ψ)
+
       abbrev at37 : Typed.TF T17 O0
       at37 = λ Ψ. Typed.ask s16 (at36 Ψ)
+
       abbrev at38 : Typed.TF T14 O0
       at38 = λ Ψ. Typed.give s15 (at37 Ψ)
+
       abbrev at39 : Typed.TF T14 O0
       at39 = λ Ψ. at38 Ψ
+
       abbrev at40 : Typed.TF T14 O0
       at40 = λ Ψ. at39 Ψ
+
       abbrev at41 : Typed.TF T12 O0
       at41 = λ Ψ. Typed.both s12 (at40 Ψ)
+
       abbrev at42 : Typed.TF T12 O0
       at42 = λ Ψ. at41 Ψ
+
       abbrev at43 : Typed.TF T11 O0
       at43 = λ Ψ. Typed.pass T11 T12 s10 (at42 Ψ)
+
       abbrev at44 : Typed.TF T10 O0
       at44 = λ Ψ. Typed.pass T10 T11 s9 (at43 Ψ)
+
       abbrev at45 : Typed.TF T9 O0
       at45 = λ Ψ. Typed.both s8 (at44 Ψ)
+
       abbrev at46 : Typed.TF T8 O0
       at46 = λ Ψ. Typed.ask s7 (at45 Ψ)
+
       abbrev at47 : Typed.TF T6 O0
       at47 = λ Ψ. Typed.give s6 (at46 Ψ)
+
       abbrev at48 : Typed.TF T6 O0
       at48 = λ Ψ. at47 Ψ
+
       abbrev at49 : Typed.TF T5 O0
       at49 = λ Ψ. Typed.pass T5 T6 s4 (at48 Ψ)
+
       abbrev at50 : Typed.TF T4 O0
       at50 = λ Ψ. Typed.pass T4 T5 s3 (at49 Ψ)
+
       abbrev at51 : Typed.TF T3 O0
       at51 = λ Ψ. Typed.both s2 (at50 Ψ)
+
       abbrev at52 : Typed.TF T2 O0
       at52 = λ Ψ. Typed.both s1 (at51 Ψ)
+
       abbrev at53 : Typed.TF T0 O0
       at53 = λ Ψ. Typed.give s0 (at52 Ψ)
+
       abbrev pub Φ : Typed.TF T0 O0
       Φ = at53
-      module _ { M : Type 1 } (𝓤 : URA.URA M) (H : Wp.Heap 𝓤) (A : Atoms.Atoms 𝓤) (W : Kit.Given 𝓤 H A) (𝓣 : Wp.Tables 𝓤 H) where
+
+      module _ {M : Type 1} (𝓤 : URA.URA M) (H : Wp.Heap 𝓤) (A : Atoms.Atoms 𝓤) (W : Kit.Given 𝓤 H A)
+          (𝓣 : Wp.Tables 𝓤 H) where
         abbrev Knowns : Type 1
-        Knowns = Plain.Known 𝓤 H A W 𝓣 0 ps·0 r·0 (claims· .0) (claims· .1) "hnsr_circuit::acknowledge::action_gone" × Plain.Known 𝓤 H A W 𝓣 0 ps·1
-            r·1 (claims· .2) (claims· .3) "hnsr_circuit::acknowledge::settle_plan" × Plain.Known 𝓤 H A W 𝓣 1 ps·2 r·2 (claims· .4) (claims· .5)
-            "hnsr_circuit::tables::inflight::set_action" × Plain.Known 𝓤 H A W 𝓣 1 ps·3 r·3 (claims· .6) (claims· .7)
-            "hnsr_circuit::acknowledge::lower_circuit" × Plain.Known 𝓤 H A W 𝓣 4 ps·4 r·4 (claims· .8) (claims· .9)
-            "hnsr_circuit::acknowledge::settle"
+        Knowns = Plain.Known 𝓤 H A W 𝓣 0 ps·0 r·0 (claims· .0) (claims· .1) "hnsr_circuit::acknowledge::action_gone" ×
+            Plain.Known 𝓤 H A W 𝓣 0 ps·1 r·1 (claims· .2) (claims· .3) "hnsr_circuit::acknowledge::settle_plan" ×
+            Plain.Known 𝓤 H A W 𝓣 1 ps·2 r·2 (claims· .4) (claims· .5) "hnsr_circuit::tables::inflight::set_action" ×
+            Plain.Known 𝓤 H A W 𝓣 1 ps·3 r·3 (claims· .6) (claims· .7) "hnsr_circuit::acknowledge::lower_circuit" ×
+            Plain.Known 𝓤 H A W 𝓣 4 ps·4 r·4 (claims· .8) (claims· .9) "hnsr_circuit::acknowledge::settle"
+
       module _ (κs : Lifetimes.Lfts 4) (qs : Lifetimes.Shares 4) where
         abbrev life0 : Row.Life
         life0 = Row.lease (κs .1 .1 .0) (qs .1 .1 .0)
+
         abbrev life1 : Row.Life
         life1 = Row.lease (κs .1 .0) (qs .1 .0)
+
         abbrev life2 : Row.Life
         life2 = Row.lease (κs .0) (qs .0)
+
         abbrev life3 : Row.Life
         life3 = Row.lease (κs .1 .1 .1 .0) (qs .1 .1 .1 .0)
+
+        abbrev l3 : Row.Entry
+        l3 = (3, Relend.mslice-owed InflightAction.row ref6 2 4 life0)
+
+        abbrev l2 : Row.Entry
+        l2 = (2, Relend.mslice-owed RelayCircuit.row ref5 1 5 life1)
+
+        abbrev l1 : Row.Entry
+        l1 = (1, Relend.mslice-owed RelayPending.row ref4 0 6 life2)
+
+        abbrev l2·1 : Row.Entry
+        l2·1 = (2, Relend.mslice-owed RelayCircuit.row ref5 1 7 life1)
+
+        abbrev l3·1 : Row.Entry
+        l3·1 = (3, Relend.mslice-owed InflightAction.row ref6 2 8 life0)
+
+        abbrev l4 : Row.Entry
+        l4 = (4, Relend.mslice-owed (Referent.rtF (Referent.fInt Syntax.w32)) ref7 3 9 life3)
+
         abbrev g7 : List.List Row.Entry
-        g7 = (0, Rows.any-gone Laws'''''.mir,) ∷ (1, Mut.mslice RelayPending.row ref4 0,) ∷ (2, Mut.mslice RelayCircuit.row ref5 1,) ∷ (3,
-            Relend.mslice-owed InflightAction.row ref6 2 4 life0,) ∷ (4, Mut.mslice (Referent.rtF (Referent.fInt Syntax.w32)) ref7 3,) ∷ (5,
-            Rows.whole (Declared'.row OpaqueRelayRuntime.the-type)) ∷ (6, Rows.whole (Declared'.row Places.the-type),) ∷ (7, Rows.any-gone
-            Laws''.mir,) ∷ (8, Rows.sc-here Row.sBool) ∷ (9, InflightAction.held,) ∷ (10, Rows.whole (Declared'.row SettlePlan.the-type)) ∷ (11,
-            Rows.whole (Declared.row RelaySide.the-type),) ∷ (12, Rows.any-gone Syntax.tyUnit) ∷ (13, Relend.msptr InflightAction.row ref0 4,) ∷ (14,
-            Rows.any-gone (Syntax.tyStruct (38 ∷ 91 ∷ 93 ∷ List.[]) (Syntax.tcons ref0 (Syntax.tcons (Syntax.tyInt Syntax.w64) Syntax.tnil))),) ∷ (15,
-            Rows.any-gone ref1,) ∷ List.[]
+        g7 = e0 ∷ e1 ∷ e2 ∷ l3 ∷ e4 ∷ e5 ∷ e6 ∷ e7·1 ∷ e8 ∷ e9·1 ∷ e10·1 ∷ e11·1 ∷ e12 ∷ e13·1 ∷ e14 ∷ e15 ∷ List.[]
+
         abbrev g8 : List.List Row.Entry
-        g8 = (0, Rows.any-gone Laws'''''.mir,) ∷ (1, Mut.mslice RelayPending.row ref4 0,) ∷ (2, Mut.mslice RelayCircuit.row ref5 1,) ∷ (3,
-            Relend.mslice-owed InflightAction.row ref6 2 4 life0,) ∷ (4, Mut.mslice (Referent.rtF (Referent.fInt Syntax.w32)) ref7 3,) ∷ (5,
-            Rows.whole (Declared'.row OpaqueRelayRuntime.the-type)) ∷ (6, Rows.whole (Declared'.row Places.the-type),) ∷ (7, Rows.any-gone
-            Laws''.mir,) ∷ (8, Rows.sc-here Row.sBool) ∷ (9, InflightAction.held,) ∷ (10, Rows.whole (Declared'.row SettlePlan.the-type)) ∷ (11,
-            Rows.whole (Declared.row RelaySide.the-type),) ∷ (12, Rows.any-gone Syntax.tyUnit) ∷ (13, Rows.any-gone ref0,) ∷ (14, Mut.mslice
-            InflightAction.row ref0 4,) ∷ (15, Rows.any-gone ref1,) ∷ List.[]
+        g8 = e0 ∷ e1 ∷ e2 ∷ l3 ∷ e4 ∷ e5 ∷ e6 ∷ e7·1 ∷ e8 ∷ e9·1 ∷ e10·1 ∷ e11·1 ∷ e12 ∷ e13 ∷ e14·1 ∷ e15 ∷ List.[]
+
         abbrev g9 : List.List Row.Entry
-        g9 = (0, Rows.any-gone Laws'''''.mir,) ∷ (1, Mut.mslice RelayPending.row ref4 0,) ∷ (2, Mut.mslice RelayCircuit.row ref5 1,) ∷ (3,
-            Relend.mslice-owed InflightAction.row ref6 2 4 life0,) ∷ (4, Mut.mslice (Referent.rtF (Referent.fInt Syntax.w32)) ref7 3,) ∷ (5,
-            Rows.whole (Declared'.row OpaqueRelayRuntime.the-type)) ∷ (6, Rows.whole (Declared'.row Places.the-type),) ∷ (7, Rows.any-gone
-            Laws''.mir,) ∷ (8, Rows.sc-here Row.sBool) ∷ (9, InflightAction.held,) ∷ (10, Rows.whole (Declared'.row SettlePlan.the-type)) ∷ (11,
-            Rows.whole (Declared.row RelaySide.the-type),) ∷ (12, Rows.sc-here Row.sUnit) ∷ (13, Rows.any-gone ref0,) ∷ (14, Mut.msleft
-            InflightAction.row ref0,) ∷ (15, Rows.any-gone ref1,) ∷ List.[]
+        g9 = e0 ∷ e1 ∷ e2 ∷ l3 ∷ e4 ∷ e5 ∷ e6 ∷ e7·1 ∷ e8 ∷ e9·1 ∷ e10·1 ∷ e11·1 ∷ e12·1 ∷ e13 ∷ e14·2 ∷ e15 ∷ List.[]
+
         abbrev g10 : List.List Row.Entry
-        g10 = (0, Rows.any-gone Laws'''''.mir,) ∷ (1, Mut.mslice RelayPending.row ref4 0,) ∷ (2, Mut.mslice RelayCircuit.row ref5 1,) ∷ (3,
-            Relend.mslice-owed InflightAction.row ref6 2 4 life0,) ∷ (4, Mut.mslice (Referent.rtF (Referent.fInt Syntax.w32)) ref7 3,) ∷ (5,
-            Rows.whole (Declared'.row OpaqueRelayRuntime.the-type)) ∷ (6, Rows.whole (Declared'.row Places.the-type),) ∷ (7, Rows.any-gone
-            Laws''.mir,) ∷ (8, Rows.sc-here Row.sBool) ∷ (9, Rows.any-gone InflightAction.ty,) ∷ (10, Rows.whole (Declared'.row SettlePlan.the-type))
-            ∷ (11, Rows.whole (Declared.row RelaySide.the-type),) ∷ (12, Rows.sc-here Row.sUnit) ∷ (13, Rows.any-gone ref0,) ∷ (14, Mut.msleft
-            InflightAction.row ref0,) ∷ (15, Rows.any-gone ref1,) ∷ List.[]
+        g10 = e0 ∷ e1 ∷ e2 ∷ l3 ∷ e4 ∷ e5 ∷ e6 ∷ e7·1 ∷ e8 ∷ e9 ∷ e10·1 ∷ e11·1 ∷ e12·1 ∷ e13 ∷ e14·2 ∷ e15 ∷ List.[]
+
         abbrev g11 : List.List Row.Entry
-        g11 = (0, Rows.any-gone Laws'''''.mir,) ∷ (1, Mut.mslice RelayPending.row ref4 0,) ∷ (2, Mut.mslice RelayCircuit.row ref5 1,) ∷ (3,
-            Relend.mslice-owed InflightAction.row ref6 2 4 life0,) ∷ (4, Mut.mslice (Referent.rtF (Referent.fInt Syntax.w32)) ref7 3,) ∷ (5,
-            Rows.whole (Declared'.row OpaqueRelayRuntime.the-type)) ∷ (6, Rows.whole (Declared'.row Places.the-type),) ∷ (7, Rows.any-gone
-            Laws''.mir,) ∷ (8, Rows.sc-here Row.sBool) ∷ (9, Rows.any-gone InflightAction.ty,) ∷ (10, Rows.whole (Declared'.row SettlePlan.the-type))
-            ∷ (11, Rows.whole (Declared.row RelaySide.the-type),) ∷ (12, Rows.any-gone Syntax.tyUnit) ∷ (13, Rows.any-gone ref0,) ∷ (14, Mut.msleft
-            InflightAction.row ref0,) ∷ (15, Rows.any-gone ref1,) ∷ List.[]
+        g11 = e0 ∷ e1 ∷ e2 ∷ l3 ∷ e4 ∷ e5 ∷ e6 ∷ e7·1 ∷ e8 ∷ e9 ∷ e10·1 ∷ e11·1 ∷ e12 ∷ e13 ∷ e14·2 ∷ e15 ∷ List.[]
+
         abbrev g13 : List.List Row.Entry
-        g13 = (0, Rows.any-gone Laws'''''.mir,) ∷ (1, Mut.mslice RelayPending.row ref4 0,) ∷ (2, Relend.mslice-owed RelayCircuit.row ref5 1 5 life1,)
-            ∷ (3, Mut.mslice InflightAction.row ref6 2,) ∷ (4, Mut.mslice (Referent.rtF (Referent.fInt Syntax.w32)) ref7 3,) ∷ (5, Rows.whole
-            (Declared'.row OpaqueRelayRuntime.the-type)) ∷ (6, Rows.whole (Declared'.row Places.the-type),) ∷ (7, Rows.any-gone Laws''.mir,) ∷ (8,
-            Rows.sc-here Row.sBool) ∷ (9, Rows.any-gone InflightAction.ty,) ∷ (10, Rows.whole (Declared'.row SettlePlan.the-type)) ∷ (11, Rows.whole
-            (Declared.row RelaySide.the-type),) ∷ (12, Rows.any-gone Syntax.tyUnit) ∷ (13, Rows.any-gone ref0,) ∷ (14, Rows.any-gone (Syntax.tyStruct
-            (38 ∷ 91 ∷ 93 ∷ List.[]) (Syntax.tcons ref0 (Syntax.tcons (Syntax.tyInt Syntax.w64) Syntax.tnil))),) ∷ (15, Relend.msptr RelayCircuit.row
-            ref1 5,) ∷ List.[]
+        g13 = e0 ∷ e1 ∷ l2 ∷ e3 ∷ e4 ∷ e5 ∷ e6 ∷ e7·1 ∷ e8 ∷ e9 ∷ e10·1 ∷ e11·1 ∷ e12 ∷ e13 ∷ e14 ∷ e15·1 ∷ List.[]
+
         abbrev g14 : List.List Row.Entry
-        g14 = (0, Rows.any-gone Laws'''''.mir,) ∷ (1, Mut.mslice RelayPending.row ref4 0,) ∷ (2, Relend.mslice-owed RelayCircuit.row ref5 1 5 life1,)
-            ∷ (3, Mut.mslice InflightAction.row ref6 2,) ∷ (4, Mut.mslice (Referent.rtF (Referent.fInt Syntax.w32)) ref7 3,) ∷ (5, Rows.whole
-            (Declared'.row OpaqueRelayRuntime.the-type)) ∷ (6, Rows.whole (Declared'.row Places.the-type),) ∷ (7, Rows.any-gone Laws''.mir,) ∷ (8,
-            Rows.sc-here Row.sBool) ∷ (9, Rows.any-gone InflightAction.ty,) ∷ (10, Rows.whole (Declared'.row SettlePlan.the-type)) ∷ (11, Rows.whole
-            (Declared.row RelaySide.the-type),) ∷ (12, Rows.any-gone Syntax.tyUnit) ∷ (13, Rows.any-gone ref0,) ∷ (14, Rows.any-gone (Syntax.tyStruct
-            (38 ∷ 91 ∷ 93 ∷ List.[]) (Syntax.tcons ref0 (Syntax.tcons (Syntax.tyInt Syntax.w64) Syntax.tnil))),) ∷ (15, Rows.any-gone ref1,) ∷ List.[]
+        g14 = e0 ∷ e1 ∷ l2 ∷ e3 ∷ e4 ∷ e5 ∷ e6 ∷ e7·1 ∷ e8 ∷ e9 ∷ e10·1 ∷ e11·1 ∷ e12 ∷ e13 ∷ e14 ∷ e15 ∷ List.[]
+
         abbrev g16 : List.List Row.Entry
-        g16 = (0, Rows.any-gone Laws'''''.mir,) ∷ (1, Mut.mslice RelayPending.row ref4 0,) ∷ (2, Relend.mslice-owed RelayCircuit.row ref5 1 5 life1,)
-            ∷ (3, Mut.mslice InflightAction.row ref6 2,) ∷ (4, Mut.mslice (Referent.rtF (Referent.fInt Syntax.w32)) ref7 3,) ∷ (5, Rows.whole
-            (Declared'.row OpaqueRelayRuntime.the-type)) ∷ (6, Rows.whole (Declared'.row Places.the-type),) ∷ (7, Rows.any-gone Laws''.mir,) ∷ (8,
-            Rows.sc-here Row.sBool) ∷ (9, Rows.any-gone InflightAction.ty,) ∷ (10, Rows.whole (Declared'.row SettlePlan.the-type)) ∷ (11, Rows.whole
-            (Declared.row RelaySide.the-type),) ∷ (12, Rows.sc-here Row.sUnit) ∷ (13, Rows.any-gone ref0,) ∷ (14, Rows.any-gone (Syntax.tyStruct (38 ∷
-            91 ∷ 93 ∷ List.[]) (Syntax.tcons ref0 (Syntax.tcons (Syntax.tyInt Syntax.w64) Syntax.tnil))),) ∷ (15, Rows.any-gone ref1,) ∷ List.[]
+        g16 = e0 ∷ e1 ∷ l2 ∷ e3 ∷ e4 ∷ e5 ∷ e6 ∷ e7·1 ∷ e8 ∷ e9 ∷ e10·1 ∷ e11·1 ∷ e12·1 ∷ e13 ∷ e14 ∷ e15 ∷ List.[]
+
         abbrev g18 : List.List Row.Entry
-        g18 = (0, Rows.any-gone Laws'''''.mir,) ∷ (1, Mut.mslice RelayPending.row ref4 0,) ∷ (2, Relend.mslice-owed RelayCircuit.row ref5 1 5 life1,)
-            ∷ (3, Mut.mslice InflightAction.row ref6 2,) ∷ (4, Mut.mslice (Referent.rtF (Referent.fInt Syntax.w32)) ref7 3,) ∷ (5, Rows.whole
-            (Declared'.row OpaqueRelayRuntime.the-type)) ∷ (6, Rows.whole (Declared'.row Places.the-type),) ∷ (7, Rows.any-gone Laws''.mir,) ∷ (8,
-            Rows.sc-here Row.sBool) ∷ (9, Rows.any-gone InflightAction.ty,) ∷ (10, Rows.whole (Declared'.row SettlePlan.the-type)) ∷ (11,
-            Rows.any-gone Laws'''.mir,) ∷ (12, Rows.sc-here Row.sUnit) ∷ (13, Rows.any-gone ref0,) ∷ (14, Rows.any-gone (Syntax.tyStruct (38 ∷ 91 ∷ 93
-            ∷ List.[]) (Syntax.tcons ref0 (Syntax.tcons (Syntax.tyInt Syntax.w64) Syntax.tnil))),) ∷ (15, Rows.any-gone ref1,) ∷ List.[]
+        g18 = e0 ∷ e1 ∷ l2 ∷ e3 ∷ e4 ∷ e5 ∷ e6 ∷ e7·1 ∷ e8 ∷ e9 ∷ e10·1 ∷ e11 ∷ e12·1 ∷ e13 ∷ e14 ∷ e15 ∷ List.[]
+
         abbrev g19 : List.List Row.Entry
-        g19 = (0, Rows.any-gone Laws'''''.mir,) ∷ (1, Mut.mslice RelayPending.row ref4 0,) ∷ (2, Relend.mslice-owed RelayCircuit.row ref5 1 5 life1,)
-            ∷ (3, Mut.mslice InflightAction.row ref6 2,) ∷ (4, Mut.mslice (Referent.rtF (Referent.fInt Syntax.w32)) ref7 3,) ∷ (5, Rows.whole
-            (Declared'.row OpaqueRelayRuntime.the-type)) ∷ (6, Rows.whole (Declared'.row Places.the-type),) ∷ (7, Rows.any-gone Laws''.mir,) ∷ (8,
-            Rows.sc-here Row.sBool) ∷ (9, Rows.any-gone InflightAction.ty,) ∷ (10, Rows.whole (Declared'.row SettlePlan.the-type)) ∷ (11,
-            Rows.any-gone Laws'''.mir,) ∷ (12, Rows.any-gone Syntax.tyUnit) ∷ (13, Rows.any-gone ref0,) ∷ (14, Rows.any-gone (Syntax.tyStruct (38 ∷ 91
-            ∷ 93 ∷ List.[]) (Syntax.tcons ref0 (Syntax.tcons (Syntax.tyInt Syntax.w64) Syntax.tnil))),) ∷ (15, Rows.any-gone ref1,) ∷ List.[]
+        g19 = e0 ∷ e1 ∷ l2 ∷ e3 ∷ e4 ∷ e5 ∷ e6 ∷ e7·1 ∷ e8 ∷ e9 ∷ e10·1 ∷ e11 ∷ e12 ∷ e13 ∷ e14 ∷ e15 ∷ List.[]
+
         abbrev g21 : List.List Row.Entry
-        g21 = (0, Rows.any-gone Laws'''''.mir,) ∷ (1, Relend.mslice-owed RelayPending.row ref4 0 6 life2,) ∷ (2, Mut.mslice RelayCircuit.row ref5 1,)
-            ∷ (3, Mut.mslice InflightAction.row ref6 2,) ∷ (4, Mut.mslice (Referent.rtF (Referent.fInt Syntax.w32)) ref7 3,) ∷ (5, Rows.whole
-            (Declared'.row OpaqueRelayRuntime.the-type)) ∷ (6, Rows.whole (Declared'.row Places.the-type),) ∷ (7, Rows.any-gone Laws''.mir,) ∷ (8,
-            Rows.sc-here Row.sBool) ∷ (9, Rows.any-gone InflightAction.ty,) ∷ (10, Rows.whole (Declared'.row SettlePlan.the-type)) ∷ (11,
-            Rows.any-gone Laws'''.mir,) ∷ (12, Rows.any-gone Syntax.tyUnit) ∷ (13, Rows.any-gone ref0,) ∷ (14, Rows.any-gone (Syntax.tyStruct (38 ∷ 91
-            ∷ 93 ∷ List.[]) (Syntax.tcons ref0 (Syntax.tcons (Syntax.tyInt Syntax.w64) Syntax.tnil))),) ∷ (15, Rows.any-gone ref1,) ∷ List.[]
+        g21 = e0 ∷ l1 ∷ e2 ∷ e3 ∷ e4 ∷ e5 ∷ e6 ∷ e7·1 ∷ e8 ∷ e9 ∷ e10·1 ∷ e11 ∷ e12 ∷ e13 ∷ e14 ∷ e15 ∷ List.[]
+
         abbrev g24 : List.List Row.Entry
-        g24 = (0, Rows.any-gone Laws'''''.mir,) ∷ (1, Relend.mslice-owed RelayPending.row ref4 0 6 life2,) ∷ (2, Relend.mslice-owed RelayCircuit.row
-            ref5 1 7 life1,) ∷ (3, Mut.mslice InflightAction.row ref6 2,) ∷ (4, Mut.mslice (Referent.rtF (Referent.fInt Syntax.w32)) ref7 3,) ∷ (5,
-            Rows.whole (Declared'.row OpaqueRelayRuntime.the-type)) ∷ (6, Rows.whole (Declared'.row Places.the-type),) ∷ (7, Rows.any-gone
-            Laws''.mir,) ∷ (8, Rows.sc-here Row.sBool) ∷ (9, Rows.any-gone InflightAction.ty,) ∷ (10, Rows.whole (Declared'.row SettlePlan.the-type))
-            ∷ (11, Rows.any-gone Laws'''.mir,) ∷ (12, Rows.any-gone Syntax.tyUnit) ∷ (13, Rows.any-gone ref0,) ∷ (14, Rows.any-gone (Syntax.tyStruct
-            (38 ∷ 91 ∷ 93 ∷ List.[]) (Syntax.tcons ref0 (Syntax.tcons (Syntax.tyInt Syntax.w64) Syntax.tnil))),) ∷ (15, Rows.any-gone ref1,) ∷ List.[]
+        g24 = e0 ∷ l1 ∷ l2·1 ∷ e3 ∷ e4 ∷ e5 ∷ e6 ∷ e7·1 ∷ e8 ∷ e9 ∷ e10·1 ∷ e11 ∷ e12 ∷ e13 ∷ e14 ∷ e15 ∷ List.[]
+
         abbrev g27 : List.List Row.Entry
-        g27 = (0, Rows.any-gone Laws'''''.mir,) ∷ (1, Relend.mslice-owed RelayPending.row ref4 0 6 life2,) ∷ (2, Relend.mslice-owed RelayCircuit.row
-            ref5 1 7 life1,) ∷ (3, Relend.mslice-owed InflightAction.row ref6 2 8 life0,) ∷ (4, Mut.mslice (Referent.rtF (Referent.fInt Syntax.w32))
-            ref7 3,) ∷ (5, Rows.whole (Declared'.row OpaqueRelayRuntime.the-type)) ∷ (6, Rows.whole (Declared'.row Places.the-type),) ∷ (7,
-            Rows.any-gone Laws''.mir,) ∷ (8, Rows.sc-here Row.sBool) ∷ (9, Rows.any-gone InflightAction.ty,) ∷ (10, Rows.whole (Declared'.row
-            SettlePlan.the-type)) ∷ (11, Rows.any-gone Laws'''.mir,) ∷ (12, Rows.any-gone Syntax.tyUnit) ∷ (13, Rows.any-gone ref0,) ∷ (14,
-            Rows.any-gone (Syntax.tyStruct (38 ∷ 91 ∷ 93 ∷ List.[]) (Syntax.tcons ref0 (Syntax.tcons (Syntax.tyInt Syntax.w64) Syntax.tnil))),) ∷ (15,
-            Rows.any-gone ref1,) ∷ List.[]
+        g27 = e0 ∷ l1 ∷ l2·1 ∷ l3·1 ∷ e4 ∷ e5 ∷ e6 ∷ e7·1 ∷ e8 ∷ e9 ∷ e10·1 ∷ e11 ∷ e12 ∷ e13 ∷ e14 ∷ e15 ∷ List.[]
+
         abbrev g30 : List.List Row.Entry
-        g30 = (0, Rows.any-gone Laws'''''.mir,) ∷ (1, Relend.mslice-owed RelayPending.row ref4 0 6 life2,) ∷ (2, Relend.mslice-owed RelayCircuit.row
-            ref5 1 7 life1,) ∷ (3, Relend.mslice-owed InflightAction.row ref6 2 8 life0,) ∷ (4, Relend.mslice-owed (Referent.rtF (Referent.fInt
-            Syntax.w32)) ref7 3 9 life3,) ∷ (5, Rows.whole (Declared'.row OpaqueRelayRuntime.the-type)) ∷ (6, Rows.whole (Declared'.row
-            Places.the-type),) ∷ (7, Rows.any-gone Laws''.mir,) ∷ (8, Rows.sc-here Row.sBool) ∷ (9, Rows.any-gone InflightAction.ty,) ∷ (10,
-            Rows.whole (Declared'.row SettlePlan.the-type)) ∷ (11, Rows.any-gone Laws'''.mir,) ∷ (12, Rows.any-gone Syntax.tyUnit) ∷ (13,
-            Rows.any-gone ref0,) ∷ (14, Rows.any-gone (Syntax.tyStruct (38 ∷ 91 ∷ 93 ∷ List.[]) (Syntax.tcons ref0 (Syntax.tcons (Syntax.tyInt
-            Syntax.w64) Syntax.tnil))),) ∷ (15, Rows.any-gone ref1,) ∷ List.[]
+        g30 = e0 ∷ l1 ∷ l2·1 ∷ l3·1 ∷ l4 ∷ e5 ∷ e6 ∷ e7·1 ∷ e8 ∷ e9 ∷ e10·1 ∷ e11 ∷ e12 ∷ e13 ∷ e14 ∷ e15 ∷ List.[]
+
         abbrev g33 : List.List Row.Entry
-        g33 = (0, Rows.whole (Declared'.row Relayed.the-type)) ∷ (1, Relend.mslice-owed RelayPending.row ref4 0 6 life2,) ∷ (2, Relend.mslice-owed
-            RelayCircuit.row ref5 1 7 life1,) ∷ (3, Relend.mslice-owed InflightAction.row ref6 2 8 life0,) ∷ (4, Relend.mslice-owed (Referent.rtF
-            (Referent.fInt Syntax.w32)) ref7 3 9 life3,) ∷ (5, Rows.whole (Declared'.row OpaqueRelayRuntime.the-type)) ∷ (6, Rows.whole (Declared'.row
-            Places.the-type),) ∷ (7, Rows.any-gone Laws''.mir,) ∷ (8, Rows.sc-here Row.sBool) ∷ (9, Rows.any-gone InflightAction.ty,) ∷ (10,
-            Rows.whole (Declared'.row SettlePlan.the-type)) ∷ (11, Rows.any-gone Laws'''.mir,) ∷ (12, Rows.any-gone Syntax.tyUnit) ∷ (13,
-            Rows.any-gone ref0,) ∷ (14, Rows.any-gone (Syntax.tyStruct (38 ∷ 91 ∷ 93 ∷ List.[]) (Syntax.tcons ref0 (Syntax.tcons (Syntax.tyInt
-            Syntax.w64) Syntax.tnil))),) ∷ (15, Rows.any-gone ref1,) ∷ List.[]
+        g33 = e0·1 ∷ l1 ∷ l2·1 ∷ l3·1 ∷ l4 ∷ e5 ∷ e6 ∷ e7·1 ∷ e8 ∷ e9 ∷ e10·1 ∷ e11 ∷ e12 ∷ e13 ∷ e14 ∷ e15 ∷ List.[]
+
         abbrev g35 : List.List Row.Entry
-        g35 = (0, Rows.whole (Declared'.row Relayed.the-type)) ∷ (1, Relend.mslice-owed RelayPending.row ref4 0 6 life2,) ∷ (2, Relend.mslice-owed
-            RelayCircuit.row ref5 1 7 life1,) ∷ (3, Relend.mslice-owed InflightAction.row ref6 2 8 life0,) ∷ (4, Relend.mslice-owed (Referent.rtF
-            (Referent.fInt Syntax.w32)) ref7 3 9 life3,) ∷ (5, Rows.any-gone Laws''''.mir,) ∷ (6, Rows.whole (Declared'.row Places.the-type)) ∷ (7,
-            Rows.any-gone Laws''.mir,) ∷ (8, Rows.sc-here Row.sBool) ∷ (9, Rows.any-gone InflightAction.ty,) ∷ (10, Rows.whole (Declared'.row
-            SettlePlan.the-type)) ∷ (11, Rows.any-gone Laws'''.mir,) ∷ (12, Rows.any-gone Syntax.tyUnit) ∷ (13, Rows.any-gone ref0,) ∷ (14,
-            Rows.any-gone (Syntax.tyStruct (38 ∷ 91 ∷ 93 ∷ List.[]) (Syntax.tcons ref0 (Syntax.tcons (Syntax.tyInt Syntax.w64) Syntax.tnil))),) ∷ (15,
-            Rows.any-gone ref1,) ∷ List.[]
+        g35 = e0·1 ∷ l1 ∷ l2·1 ∷ l3·1 ∷ l4 ∷ e5·1 ∷ e6 ∷ e7·1 ∷ e8 ∷ e9 ∷ e10·1 ∷ e11 ∷ e12 ∷ e13 ∷ e14 ∷ e15 ∷ List.[]
+
         abbrev g36 : List.List Row.Entry
-        g36 = (0, Rows.whole (Declared'.row Relayed.the-type)) ∷ (1, Relend.mslice-owed RelayPending.row ref4 0 6 life2,) ∷ (2, Relend.mslice-owed
-            RelayCircuit.row ref5 1 7 life1,) ∷ (3, Relend.mslice-owed InflightAction.row ref6 2 8 life0,) ∷ (4, Relend.mslice-owed (Referent.rtF
-            (Referent.fInt Syntax.w32)) ref7 3 9 life3,) ∷ (5, Rows.any-gone Laws''''.mir,) ∷ (6, Rows.any-gone Laws'.mir,) ∷ (7, Rows.any-gone
-            Laws''.mir,) ∷ (8, Rows.sc-here Row.sBool) ∷ (9, Rows.any-gone InflightAction.ty,) ∷ (10, Rows.whole (Declared'.row SettlePlan.the-type))
-            ∷ (11, Rows.any-gone Laws'''.mir,) ∷ (12, Rows.any-gone Syntax.tyUnit) ∷ (13, Rows.any-gone ref0,) ∷ (14, Rows.any-gone (Syntax.tyStruct
-            (38 ∷ 91 ∷ 93 ∷ List.[]) (Syntax.tcons ref0 (Syntax.tcons (Syntax.tyInt Syntax.w64) Syntax.tnil))),) ∷ (15, Rows.any-gone ref1,) ∷ List.[]
+        g36 = e0·1 ∷ l1 ∷ l2·1 ∷ l3·1 ∷ l4 ∷ e5·1 ∷ e6·1 ∷ e7·1 ∷ e8 ∷ e9 ∷ e10·1 ∷ e11 ∷ e12 ∷ e13 ∷ e14 ∷ e15 ∷
+            List.[]
+
         abbrev g37 : List.List Row.Entry
-        g37 = (0, Rows.whole (Declared'.row Relayed.the-type)) ∷ (1, Relend.mslice-owed RelayPending.row ref4 0 6 life2,) ∷ (2, Relend.mslice-owed
-            RelayCircuit.row ref5 1 7 life1,) ∷ (3, Relend.mslice-owed InflightAction.row ref6 2 8 life0,) ∷ (4, Relend.mslice-owed (Referent.rtF
-            (Referent.fInt Syntax.w32)) ref7 3 9 life3,) ∷ (5, Rows.any-gone Laws''''.mir,) ∷ (6, Rows.any-gone Laws'.mir,) ∷ (7, Rows.any-gone
-            Laws''.mir,) ∷ (8, Rows.sc-here Row.sBool) ∷ (9, Rows.any-gone InflightAction.ty,) ∷ (10, Rows.any-gone Laws.mir,) ∷ (11, Rows.any-gone
-            Laws'''.mir,) ∷ (12, Rows.any-gone Syntax.tyUnit) ∷ (13, Rows.any-gone ref0,) ∷ (14, Rows.any-gone (Syntax.tyStruct (38 ∷ 91 ∷ 93 ∷
-            List.[]) (Syntax.tcons ref0 (Syntax.tcons (Syntax.tyInt Syntax.w64) Syntax.tnil))),) ∷ (15, Rows.any-gone ref1,) ∷ List.[]
+        g37 = e0·1 ∷ l1 ∷ l2·1 ∷ l3·1 ∷ l4 ∷ e5·1 ∷ e6·1 ∷ e7·1 ∷ e8 ∷ e9 ∷ e10 ∷ e11 ∷ e12 ∷ e13 ∷ e14 ∷ e15 ∷ List.[]
+
         abbrev g38 : List.List Row.Entry
-        g38 = (0, Rows.whole (Declared'.row Relayed.the-type)) ∷ (1, Mut.mslice RelayPending.row ref4 0,) ∷ (2, Relend.mslice-owed RelayCircuit.row
-            ref5 1 7 life1,) ∷ (3, Relend.mslice-owed InflightAction.row ref6 2 8 life0,) ∷ (4, Relend.mslice-owed (Referent.rtF (Referent.fInt
-            Syntax.w32)) ref7 3 9 life3,) ∷ (5, Rows.any-gone Laws''''.mir,) ∷ (6, Rows.any-gone Laws'.mir,) ∷ (7, Rows.any-gone Laws''.mir,) ∷ (8,
-            Rows.sc-here Row.sBool) ∷ (9, Rows.any-gone InflightAction.ty,) ∷ (10, Rows.any-gone Laws.mir,) ∷ (11, Rows.any-gone Laws'''.mir,) ∷ (12,
-            Rows.any-gone Syntax.tyUnit) ∷ (13, Rows.any-gone ref0,) ∷ (14, Rows.any-gone (Syntax.tyStruct (38 ∷ 91 ∷ 93 ∷ List.[]) (Syntax.tcons ref0
-            (Syntax.tcons (Syntax.tyInt Syntax.w64) Syntax.tnil))),) ∷ (15, Rows.any-gone ref1,) ∷ List.[]
+        g38 = e0·1 ∷ e1 ∷ l2·1 ∷ l3·1 ∷ l4 ∷ e5·1 ∷ e6·1 ∷ e7·1 ∷ e8 ∷ e9 ∷ e10 ∷ e11 ∷ e12 ∷ e13 ∷ e14 ∷ e15 ∷ List.[]
+
         abbrev g40 : List.List Row.Entry
-        g40 = (0, Rows.whole (Declared'.row Relayed.the-type)) ∷ (1, Mut.mslice RelayPending.row ref4 0,) ∷ (2, Mut.mslice RelayCircuit.row ref5 1,) ∷
-            (3, Relend.mslice-owed InflightAction.row ref6 2 8 life0,) ∷ (4, Relend.mslice-owed (Referent.rtF (Referent.fInt Syntax.w32)) ref7 3 9
-            life3,) ∷ (5, Rows.any-gone Laws''''.mir,) ∷ (6, Rows.any-gone Laws'.mir,) ∷ (7, Rows.any-gone Laws''.mir,) ∷ (8, Rows.sc-here Row.sBool)
-            ∷ (9, Rows.any-gone InflightAction.ty,) ∷ (10, Rows.any-gone Laws.mir,) ∷ (11, Rows.any-gone Laws'''.mir,) ∷ (12, Rows.any-gone
-            Syntax.tyUnit) ∷ (13, Rows.any-gone ref0,) ∷ (14, Rows.any-gone (Syntax.tyStruct (38 ∷ 91 ∷ 93 ∷ List.[]) (Syntax.tcons ref0 (Syntax.tcons
-            (Syntax.tyInt Syntax.w64) Syntax.tnil))),) ∷ (15, Rows.any-gone ref1,) ∷ List.[]
+        g40 = e0·1 ∷ e1 ∷ e2 ∷ l3·1 ∷ l4 ∷ e5·1 ∷ e6·1 ∷ e7·1 ∷ e8 ∷ e9 ∷ e10 ∷ e11 ∷ e12 ∷ e13 ∷ e14 ∷ e15 ∷ List.[]
+
         abbrev g42 : List.List Row.Entry
-        g42 = (0, Rows.whole (Declared'.row Relayed.the-type)) ∷ (1, Mut.mslice RelayPending.row ref4 0,) ∷ (2, Mut.mslice RelayCircuit.row ref5 1,) ∷
-            (3, Mut.mslice InflightAction.row ref6 2,) ∷ (4, Relend.mslice-owed (Referent.rtF (Referent.fInt Syntax.w32)) ref7 3 9 life3,) ∷ (5,
-            Rows.any-gone Laws''''.mir,) ∷ (6, Rows.any-gone Laws'.mir,) ∷ (7, Rows.any-gone Laws''.mir,) ∷ (8, Rows.sc-here Row.sBool) ∷ (9,
-            Rows.any-gone InflightAction.ty,) ∷ (10, Rows.any-gone Laws.mir,) ∷ (11, Rows.any-gone Laws'''.mir,) ∷ (12, Rows.any-gone Syntax.tyUnit) ∷
-            (13, Rows.any-gone ref0,) ∷ (14, Rows.any-gone (Syntax.tyStruct (38 ∷ 91 ∷ 93 ∷ List.[]) (Syntax.tcons ref0 (Syntax.tcons (Syntax.tyInt
-            Syntax.w64) Syntax.tnil))),) ∷ (15, Rows.any-gone ref1,) ∷ List.[]
+        g42 = e0·1 ∷ e1 ∷ e2 ∷ e3 ∷ l4 ∷ e5·1 ∷ e6·1 ∷ e7·1 ∷ e8 ∷ e9 ∷ e10 ∷ e11 ∷ e12 ∷ e13 ∷ e14 ∷ e15 ∷ List.[]
+
         abbrev G0 : Row.Cx
-        G0 = record { locals = List._++_ t0 t1; slots = life2 ∷ life1 ∷ life0 ∷ life3 ∷ Row.off ∷ Row.off ∷ Row.off ∷ Row.off ∷ Row.off ∷ Row.off ∷
-            List.[]; }
+        G0 = record {
+          locals = List._++_ t0 t1;
+          slots = life2 ∷ life1 ∷ life0 ∷ life3 ∷ Row.off ∷ Row.off ∷ Row.off ∷ Row.off ∷ Row.off ∷ Row.off ∷ List.[];
+        }
+
         abbrev G1 : Row.Cx
-        G1 = record { locals = List._++_ t2 t1; slots = life2 ∷ life1 ∷ life0 ∷ life3 ∷ Row.off ∷ Row.off ∷ Row.off ∷ Row.off ∷ Row.off ∷ Row.off ∷
-            List.[]; }
+        G1 = record {
+          locals = List._++_ t2 t1;
+          slots = life2 ∷ life1 ∷ life0 ∷ life3 ∷ Row.off ∷ Row.off ∷ Row.off ∷ Row.off ∷ Row.off ∷ Row.off ∷ List.[];
+        }
+
         abbrev G2 : Row.Cx
-        G2 = record { locals = List._++_ t0 t1; slots = life2 ∷ life1 ∷ life0 ∷ life3 ∷ Row.off ∷ Row.off ∷ Row.off ∷ Row.off ∷ Row.off ∷ Row.off ∷
-            List.[]; }
+        G2 = record {
+          locals = List._++_ t0 t1;
+          slots = life2 ∷ life1 ∷ life0 ∷ life3 ∷ Row.off ∷ Row.off ∷ Row.off ∷ Row.off ∷ Row.off ∷ Row.off ∷ List.[];
+        }
+
         abbrev G3 : Row.Cx
-        G3 = record { locals = List._++_ t3 t1; slots = life2 ∷ life1 ∷ life0 ∷ life3 ∷ Row.off ∷ Row.off ∷ Row.off ∷ Row.off ∷ Row.off ∷ Row.off ∷
-            List.[]; }
+        G3 = record {
+          locals = List._++_ t3 t1;
+          slots = life2 ∷ life1 ∷ life0 ∷ life3 ∷ Row.off ∷ Row.off ∷ Row.off ∷ Row.off ∷ Row.off ∷ Row.off ∷ List.[];
+        }
+
         abbrev G4 : Row.Cx
-        G4 = record { locals = List._++_ t4 t1; slots = life2 ∷ life1 ∷ life0 ∷ life3 ∷ Row.off ∷ Row.off ∷ Row.off ∷ Row.off ∷ Row.off ∷ Row.off ∷
-            List.[]; }
+        G4 = record {
+          locals = List._++_ t4 t1;
+          slots = life2 ∷ life1 ∷ life0 ∷ life3 ∷ Row.off ∷ Row.off ∷ Row.off ∷ Row.off ∷ Row.off ∷ Row.off ∷ List.[];
+        }
+
         abbrev G5 : Row.Cx
-        G5 = record { locals = List._++_ t5 t1; slots = life2 ∷ life1 ∷ life0 ∷ life3 ∷ Row.off ∷ Row.off ∷ Row.off ∷ Row.off ∷ Row.off ∷ Row.off ∷
-            List.[]; }
+        G5 = record {
+          locals = List._++_ t5 t1;
+          slots = life2 ∷ life1 ∷ life0 ∷ life3 ∷ Row.off ∷ Row.off ∷ Row.off ∷ Row.off ∷ Row.off ∷ Row.off ∷ List.[];
+        }
+
         abbrev G6 : Row.Cx
-        G6 = record { locals = List._++_ t6 t1; slots = life2 ∷ life1 ∷ life0 ∷ life3 ∷ Row.off ∷ Row.off ∷ Row.off ∷ Row.off ∷ Row.off ∷ Row.off ∷
-            List.[]; }
+        G6 = record {
+          locals = List._++_ t6 t1;
+          slots = life2 ∷ life1 ∷ life0 ∷ life3 ∷ Row.off ∷ Row.off ∷ Row.off ∷ Row.off ∷ Row.off ∷ Row.off ∷ List.[];
+        }
+
         abbrev G7 : Row.Cx
-        G7 = record { locals = List._++_ t6 t1; slots = life2 ∷ life1 ∷ life0 ∷ life3 ∷ Row.alive ∷ Row.off ∷ Row.off ∷ Row.off ∷ Row.off ∷ Row.off ∷
-            List.[]; }
+        G7 = record {
+          locals = List._++_ t6 t1;
+          slots = life2 ∷ life1 ∷ life0 ∷ life3 ∷ Row.alive ∷ Row.off ∷ Row.off ∷ Row.off ∷ Row.off ∷ Row.off ∷ List.[];
+        }
+
         abbrev G8 : Row.Cx
-        G8 = record { locals = List._++_ g7 t1; slots = life2 ∷ life1 ∷ Row.off ∷ life3 ∷ Row.alive ∷ Row.off ∷ Row.off ∷ Row.off ∷ Row.off ∷ Row.off
-            ∷ List.[]; }
+        G8 = record {
+          locals = List._++_ g7 t1;
+          slots = life2 ∷ life1 ∷ Row.off ∷ life3 ∷ Row.alive ∷ Row.off ∷ Row.off ∷ Row.off ∷ Row.off ∷ Row.off ∷
+              List.[];
+        }
+
         abbrev G9 : Row.Cx
-        G9 = record { locals = List._++_ g8 t1; slots = life2 ∷ life1 ∷ Row.off ∷ life3 ∷ Row.alive ∷ Row.off ∷ Row.off ∷ Row.off ∷ Row.off ∷ Row.off
-            ∷ List.[]; }
+        G9 = record {
+          locals = List._++_ g8 t1;
+          slots = life2 ∷ life1 ∷ Row.off ∷ life3 ∷ Row.alive ∷ Row.off ∷ Row.off ∷ Row.off ∷ Row.off ∷ Row.off ∷
+              List.[];
+        }
+
         abbrev G10 : Row.Cx
-        G10 = record { locals = List._++_ g9 t1; slots = life2 ∷ life1 ∷ Row.off ∷ life3 ∷ Row.alive ∷ Row.off ∷ Row.off ∷ Row.off ∷ Row.off ∷ Row.off
-            ∷ List.[]; }
+        G10 = record {
+          locals = List._++_ g9 t1;
+          slots = life2 ∷ life1 ∷ Row.off ∷ life3 ∷ Row.alive ∷ Row.off ∷ Row.off ∷ Row.off ∷ Row.off ∷ Row.off ∷
+              List.[];
+        }
+
         abbrev G11 : Row.Cx
-        G11 = record { locals = List._++_ g10 t1; slots = life2 ∷ life1 ∷ Row.off ∷ life3 ∷ Row.alive ∷ Row.off ∷ Row.off ∷ Row.off ∷ Row.off ∷
-            Row.off ∷ List.[]; }
+        G11 = record {
+          locals = List._++_ g10 t1;
+          slots = life2 ∷ life1 ∷ Row.off ∷ life3 ∷ Row.alive ∷ Row.off ∷ Row.off ∷ Row.off ∷ Row.off ∷ Row.off ∷
+              List.[];
+        }
+
         abbrev G12 : Row.Cx
-        G12 = record { locals = List._++_ g11 t1; slots = life2 ∷ life1 ∷ Row.off ∷ life3 ∷ Row.alive ∷ Row.off ∷ Row.off ∷ Row.off ∷ Row.off ∷
-            Row.off ∷ List.[]; }
+        G12 = record {
+          locals = List._++_ g11 t1;
+          slots = life2 ∷ life1 ∷ Row.off ∷ life3 ∷ Row.alive ∷ Row.off ∷ Row.off ∷ Row.off ∷ Row.off ∷ Row.off ∷
+              List.[];
+        }
+
         abbrev G13 : Row.Cx
-        G13 = record { locals = List._++_ g11 t1; slots = life2 ∷ life1 ∷ Row.off ∷ life3 ∷ Row.dead ∷ Row.off ∷ Row.off ∷ Row.off ∷ Row.off ∷ Row.off
-            ∷ List.[]; }
+        G13 = record {
+          locals = List._++_ g11 t1;
+          slots = life2 ∷ life1 ∷ Row.off ∷ life3 ∷ Row.dead ∷ Row.off ∷ Row.off ∷ Row.off ∷ Row.off ∷ Row.off ∷
+              List.[];
+        }
+
         abbrev G14 : Row.Cx
-        G14 = record { locals = List._++_ t12 t1; slots = life2 ∷ life1 ∷ life0 ∷ life3 ∷ Row.dead ∷ Row.off ∷ Row.off ∷ Row.off ∷ Row.off ∷ Row.off ∷
-            List.[]; }
+        G14 = record {
+          locals = List._++_ t12 t1;
+          slots = life2 ∷ life1 ∷ life0 ∷ life3 ∷ Row.dead ∷ Row.off ∷ Row.off ∷ Row.off ∷ Row.off ∷ Row.off ∷ List.[];
+        }
+
         abbrev G15 : Row.Cx
-        G15 = record { locals = List._++_ t12 t1; slots = life2 ∷ life1 ∷ life0 ∷ life3 ∷ Row.off ∷ Row.off ∷ Row.off ∷ Row.off ∷ Row.off ∷ Row.off ∷
-            List.[]; }
+        G15 = record {
+          locals = List._++_ t12 t1;
+          slots = life2 ∷ life1 ∷ life0 ∷ life3 ∷ Row.off ∷ Row.off ∷ Row.off ∷ Row.off ∷ Row.off ∷ Row.off ∷ List.[];
+        }
+
         abbrev G16 : Row.Cx
-        G16 = record { locals = List._++_ t12 t1; slots = life2 ∷ life1 ∷ life0 ∷ life3 ∷ Row.off ∷ Row.alive ∷ Row.off ∷ Row.off ∷ Row.off ∷ Row.off
-            ∷ List.[]; }
+        G16 = record {
+          locals = List._++_ t12 t1;
+          slots = life2 ∷ life1 ∷ life0 ∷ life3 ∷ Row.off ∷ Row.alive ∷ Row.off ∷ Row.off ∷ Row.off ∷ Row.off ∷ List.[];
+        }
+
         abbrev G17 : Row.Cx
-        G17 = record { locals = List._++_ g13 t1; slots = life2 ∷ Row.off ∷ life0 ∷ life3 ∷ Row.off ∷ Row.alive ∷ Row.off ∷ Row.off ∷ Row.off ∷
-            Row.off ∷ List.[]; }
+        G17 = record {
+          locals = List._++_ g13 t1;
+          slots = life2 ∷ Row.off ∷ life0 ∷ life3 ∷ Row.off ∷ Row.alive ∷ Row.off ∷ Row.off ∷ Row.off ∷ Row.off ∷
+              List.[];
+        }
+
         abbrev G18 : Row.Cx
-        G18 = record { locals = List._++_ g14 t15; slots = life2 ∷ Row.off ∷ life0 ∷ life3 ∷ Row.off ∷ Row.alive ∷ Row.off ∷ Row.off ∷ Row.off ∷
-            Row.off ∷ List.[]; }
+        G18 = record {
+          locals = List._++_ g14 t15;
+          slots = life2 ∷ Row.off ∷ life0 ∷ life3 ∷ Row.off ∷ Row.alive ∷ Row.off ∷ Row.off ∷ Row.off ∷ Row.off ∷
+              List.[];
+        }
+
         abbrev G19 : Row.Cx
-        G19 = record { locals = List._++_ g16 t17; slots = life2 ∷ Row.off ∷ life0 ∷ life3 ∷ Row.off ∷ Row.alive ∷ Row.off ∷ Row.off ∷ Row.off ∷
-            Row.off ∷ List.[]; }
+        G19 = record {
+          locals = List._++_ g16 t17;
+          slots = life2 ∷ Row.off ∷ life0 ∷ life3 ∷ Row.off ∷ Row.alive ∷ Row.off ∷ Row.off ∷ Row.off ∷ Row.off ∷
+              List.[];
+        }
+
         abbrev G20 : Row.Cx
-        G20 = record { locals = List._++_ g18 t17; slots = life2 ∷ Row.off ∷ life0 ∷ life3 ∷ Row.off ∷ Row.alive ∷ Row.off ∷ Row.off ∷ Row.off ∷
-            Row.off ∷ List.[]; }
+        G20 = record {
+          locals = List._++_ g18 t17;
+          slots = life2 ∷ Row.off ∷ life0 ∷ life3 ∷ Row.off ∷ Row.alive ∷ Row.off ∷ Row.off ∷ Row.off ∷ Row.off ∷
+              List.[];
+        }
+
         abbrev G21 : Row.Cx
-        G21 = record { locals = List._++_ g19 t17; slots = life2 ∷ Row.off ∷ life0 ∷ life3 ∷ Row.off ∷ Row.alive ∷ Row.off ∷ Row.off ∷ Row.off ∷
-            Row.off ∷ List.[]; }
+        G21 = record {
+          locals = List._++_ g19 t17;
+          slots = life2 ∷ Row.off ∷ life0 ∷ life3 ∷ Row.off ∷ Row.alive ∷ Row.off ∷ Row.off ∷ Row.off ∷ Row.off ∷
+              List.[];
+        }
+
         abbrev G22 : Row.Cx
-        G22 = record { locals = List._++_ g19 t17; slots = life2 ∷ Row.off ∷ life0 ∷ life3 ∷ Row.off ∷ Row.dead ∷ Row.off ∷ Row.off ∷ Row.off ∷
-            Row.off ∷ List.[]; }
+        G22 = record {
+          locals = List._++_ g19 t17;
+          slots = life2 ∷ Row.off ∷ life0 ∷ life3 ∷ Row.off ∷ Row.dead ∷ Row.off ∷ Row.off ∷ Row.off ∷ Row.off ∷
+              List.[];
+        }
+
         abbrev G23 : Row.Cx
-        G23 = record { locals = List._++_ t20 t1; slots = life2 ∷ life1 ∷ life0 ∷ life3 ∷ Row.off ∷ Row.dead ∷ Row.off ∷ Row.off ∷ Row.off ∷ Row.off ∷
-            List.[]; }
+        G23 = record {
+          locals = List._++_ t20 t1;
+          slots = life2 ∷ life1 ∷ life0 ∷ life3 ∷ Row.off ∷ Row.dead ∷ Row.off ∷ Row.off ∷ Row.off ∷ Row.off ∷ List.[];
+        }
+
         abbrev G24 : Row.Cx
-        G24 = record { locals = List._++_ t20 t1; slots = life2 ∷ life1 ∷ life0 ∷ life3 ∷ Row.off ∷ Row.off ∷ Row.off ∷ Row.off ∷ Row.off ∷ Row.off ∷
-            List.[]; }
+        G24 = record {
+          locals = List._++_ t20 t1;
+          slots = life2 ∷ life1 ∷ life0 ∷ life3 ∷ Row.off ∷ Row.off ∷ Row.off ∷ Row.off ∷ Row.off ∷ Row.off ∷ List.[];
+        }
+
         abbrev G25 : Row.Cx
-        G25 = record { locals = List._++_ t20 t1; slots = life2 ∷ life1 ∷ life0 ∷ life3 ∷ Row.off ∷ Row.off ∷ Row.alive ∷ Row.off ∷ Row.off ∷ Row.off
-            ∷ List.[]; }
+        G25 = record {
+          locals = List._++_ t20 t1;
+          slots = life2 ∷ life1 ∷ life0 ∷ life3 ∷ Row.off ∷ Row.off ∷ Row.alive ∷ Row.off ∷ Row.off ∷ Row.off ∷ List.[];
+        }
+
         abbrev G26 : Row.Cx
-        G26 = record { locals = List._++_ g21 t22; slots = Row.off ∷ life1 ∷ life0 ∷ life3 ∷ Row.off ∷ Row.off ∷ Row.alive ∷ Row.off ∷ Row.off ∷
-            Row.off ∷ List.[]; }
+        G26 = record {
+          locals = List._++_ g21 t22;
+          slots = Row.off ∷ life1 ∷ life0 ∷ life3 ∷ Row.off ∷ Row.off ∷ Row.alive ∷ Row.off ∷ Row.off ∷ Row.off ∷
+              List.[];
+        }
+
         abbrev G27 : Row.Cx
-        G27 = record { locals = List._++_ g21 t23; slots = Row.off ∷ life1 ∷ life0 ∷ life3 ∷ Row.off ∷ Row.off ∷ Row.alive ∷ Row.off ∷ Row.off ∷
-            Row.off ∷ List.[]; }
+        G27 = record {
+          locals = List._++_ g21 t23;
+          slots = Row.off ∷ life1 ∷ life0 ∷ life3 ∷ Row.off ∷ Row.off ∷ Row.alive ∷ Row.off ∷ Row.off ∷ Row.off ∷
+              List.[];
+        }
+
         abbrev G28 : Row.Cx
-        G28 = record { locals = List._++_ g21 t23; slots = Row.off ∷ life1 ∷ life0 ∷ life3 ∷ Row.off ∷ Row.off ∷ Row.alive ∷ Row.alive ∷ Row.off ∷
-            Row.off ∷ List.[]; }
+        G28 = record {
+          locals = List._++_ g21 t23;
+          slots = Row.off ∷ life1 ∷ life0 ∷ life3 ∷ Row.off ∷ Row.off ∷ Row.alive ∷ Row.alive ∷ Row.off ∷ Row.off ∷
+              List.[];
+        }
+
         abbrev G29 : Row.Cx
-        G29 = record { locals = List._++_ g24 t25; slots = Row.off ∷ Row.off ∷ life0 ∷ life3 ∷ Row.off ∷ Row.off ∷ Row.alive ∷ Row.alive ∷ Row.off ∷
-            Row.off ∷ List.[]; }
+        G29 = record {
+          locals = List._++_ g24 t25;
+          slots = Row.off ∷ Row.off ∷ life0 ∷ life3 ∷ Row.off ∷ Row.off ∷ Row.alive ∷ Row.alive ∷ Row.off ∷ Row.off ∷
+              List.[];
+        }
+
         abbrev G30 : Row.Cx
-        G30 = record { locals = List._++_ g24 t26; slots = Row.off ∷ Row.off ∷ life0 ∷ life3 ∷ Row.off ∷ Row.off ∷ Row.alive ∷ Row.alive ∷ Row.off ∷
-            Row.off ∷ List.[]; }
+        G30 = record {
+          locals = List._++_ g24 t26;
+          slots = Row.off ∷ Row.off ∷ life0 ∷ life3 ∷ Row.off ∷ Row.off ∷ Row.alive ∷ Row.alive ∷ Row.off ∷ Row.off ∷
+              List.[];
+        }
+
         abbrev G31 : Row.Cx
-        G31 = record { locals = List._++_ g24 t26; slots = Row.off ∷ Row.off ∷ life0 ∷ life3 ∷ Row.off ∷ Row.off ∷ Row.alive ∷ Row.alive ∷ Row.alive ∷
-            Row.off ∷ List.[]; }
+        G31 = record {
+          locals = List._++_ g24 t26;
+          slots = Row.off ∷ Row.off ∷ life0 ∷ life3 ∷ Row.off ∷ Row.off ∷ Row.alive ∷ Row.alive ∷ Row.alive ∷ Row.off ∷
+              List.[];
+        }
+
         abbrev G32 : Row.Cx
-        G32 = record { locals = List._++_ g27 t28; slots = Row.off ∷ Row.off ∷ Row.off ∷ life3 ∷ Row.off ∷ Row.off ∷ Row.alive ∷ Row.alive ∷ Row.alive
-            ∷ Row.off ∷ List.[]; }
+        G32 = record {
+          locals = List._++_ g27 t28;
+          slots = Row.off ∷ Row.off ∷ Row.off ∷ life3 ∷ Row.off ∷ Row.off ∷ Row.alive ∷ Row.alive ∷ Row.alive ∷ Row.off
+              ∷ List.[];
+        }
+
         abbrev G33 : Row.Cx
-        G33 = record { locals = List._++_ g27 t29; slots = Row.off ∷ Row.off ∷ Row.off ∷ life3 ∷ Row.off ∷ Row.off ∷ Row.alive ∷ Row.alive ∷ Row.alive
-            ∷ Row.off ∷ List.[]; }
+        G33 = record {
+          locals = List._++_ g27 t29;
+          slots = Row.off ∷ Row.off ∷ Row.off ∷ life3 ∷ Row.off ∷ Row.off ∷ Row.alive ∷ Row.alive ∷ Row.alive ∷ Row.off
+              ∷ List.[];
+        }
+
         abbrev G34 : Row.Cx
-        G34 = record { locals = List._++_ g27 t29; slots = Row.off ∷ Row.off ∷ Row.off ∷ life3 ∷ Row.off ∷ Row.off ∷ Row.alive ∷ Row.alive ∷ Row.alive
-            ∷ Row.alive ∷ List.[]; }
+        G34 = record {
+          locals = List._++_ g27 t29;
+          slots = Row.off ∷ Row.off ∷ Row.off ∷ life3 ∷ Row.off ∷ Row.off ∷ Row.alive ∷ Row.alive ∷ Row.alive ∷
+              Row.alive ∷ List.[];
+        }
+
         abbrev G35 : Row.Cx
-        G35 = record { locals = List._++_ g30 t31; slots = Row.off ∷ Row.off ∷ Row.off ∷ Row.off ∷ Row.off ∷ Row.off ∷ Row.alive ∷ Row.alive ∷
-            Row.alive ∷ Row.alive ∷ List.[]; }
+        G35 = record {
+          locals = List._++_ g30 t31;
+          slots = Row.off ∷ Row.off ∷ Row.off ∷ Row.off ∷ Row.off ∷ Row.off ∷ Row.alive ∷ Row.alive ∷ Row.alive ∷
+              Row.alive ∷ List.[];
+        }
+
         abbrev G36 : Row.Cx
-        G36 = record { locals = List._++_ g30 t32; slots = Row.off ∷ Row.off ∷ Row.off ∷ Row.off ∷ Row.off ∷ Row.off ∷ Row.alive ∷ Row.alive ∷
-            Row.alive ∷ Row.alive ∷ List.[]; }
+        G36 = record {
+          locals = List._++_ g30 t32;
+          slots = Row.off ∷ Row.off ∷ Row.off ∷ Row.off ∷ Row.off ∷ Row.off ∷ Row.alive ∷ Row.alive ∷ Row.alive ∷
+              Row.alive ∷ List.[];
+        }
+
         abbrev G37 : Row.Cx
-        G37 = record { locals = List._++_ g33 t34; slots = Row.off ∷ Row.off ∷ Row.off ∷ Row.off ∷ Row.off ∷ Row.off ∷ Row.alive ∷ Row.alive ∷
-            Row.alive ∷ Row.alive ∷ List.[]; }
+        G37 = record {
+          locals = List._++_ g33 t34;
+          slots = Row.off ∷ Row.off ∷ Row.off ∷ Row.off ∷ Row.off ∷ Row.off ∷ Row.alive ∷ Row.alive ∷ Row.alive ∷
+              Row.alive ∷ List.[];
+        }
+
         abbrev G38 : Row.Cx
-        G38 = record { locals = List._++_ g35 t34; slots = Row.off ∷ Row.off ∷ Row.off ∷ Row.off ∷ Row.off ∷ Row.off ∷ Row.alive ∷ Row.alive ∷
-            Row.alive ∷ Row.alive ∷ List.[]; }
+        G38 = record {
+          locals = List._++_ g35 t34;
+          slots = Row.off ∷ Row.off ∷ Row.off ∷ Row.off ∷ Row.off ∷ Row.off ∷ Row.alive ∷ Row.alive ∷ Row.alive ∷
+              Row.alive ∷ List.[];
+        }
+
         abbrev G39 : Row.Cx
-        G39 = record { locals = List._++_ g36 t34; slots = Row.off ∷ Row.off ∷ Row.off ∷ Row.off ∷ Row.off ∷ Row.off ∷ Row.alive ∷ Row.alive ∷
-            Row.alive ∷ Row.alive ∷ List.[]; }
+        G39 = record {
+          locals = List._++_ g36 t34;
+          slots = Row.off ∷ Row.off ∷ Row.off ∷ Row.off ∷ Row.off ∷ Row.off ∷ Row.alive ∷ Row.alive ∷ Row.alive ∷
+              Row.alive ∷ List.[];
+        }
+
         abbrev G40 : Row.Cx
-        G40 = record { locals = List._++_ g37 t34; slots = Row.off ∷ Row.off ∷ Row.off ∷ Row.off ∷ Row.off ∷ Row.off ∷ Row.alive ∷ Row.alive ∷
-            Row.alive ∷ Row.alive ∷ List.[]; }
+        G40 = record {
+          locals = List._++_ g37 t34;
+          slots = Row.off ∷ Row.off ∷ Row.off ∷ Row.off ∷ Row.off ∷ Row.off ∷ Row.alive ∷ Row.alive ∷ Row.alive ∷
+              Row.alive ∷ List.[];
+        }
+
         abbrev G41 : Row.Cx
-        G41 = record { locals = List._++_ g37 t34; slots = Row.off ∷ Row.off ∷ Row.off ∷ Row.off ∷ Row.off ∷ Row.off ∷ Row.dead ∷ Row.alive ∷
-            Row.alive ∷ Row.alive ∷ List.[]; }
+        G41 = record {
+          locals = List._++_ g37 t34;
+          slots = Row.off ∷ Row.off ∷ Row.off ∷ Row.off ∷ Row.off ∷ Row.off ∷ Row.dead ∷ Row.alive ∷ Row.alive ∷
+              Row.alive ∷ List.[];
+        }
+
         abbrev G42 : Row.Cx
-        G42 = record { locals = List._++_ g38 t39; slots = life2 ∷ Row.off ∷ Row.off ∷ Row.off ∷ Row.off ∷ Row.off ∷ Row.dead ∷ Row.alive ∷ Row.alive
-            ∷ Row.alive ∷ List.[]; }
+        G42 = record {
+          locals = List._++_ g38 t39;
+          slots = life2 ∷ Row.off ∷ Row.off ∷ Row.off ∷ Row.off ∷ Row.off ∷ Row.dead ∷ Row.alive ∷ Row.alive ∷
+              Row.alive ∷ List.[];
+        }
+
         abbrev G43 : Row.Cx
-        G43 = record { locals = List._++_ g38 t39; slots = life2 ∷ Row.off ∷ Row.off ∷ Row.off ∷ Row.off ∷ Row.off ∷ Row.off ∷ Row.alive ∷ Row.alive ∷
-            Row.alive ∷ List.[]; }
+        G43 = record {
+          locals = List._++_ g38 t39;
+          slots = life2 ∷ Row.off ∷ Row.off ∷ Row.off ∷ Row.off ∷ Row.off ∷ Row.off ∷ Row.alive ∷ Row.alive ∷ Row.alive
+              ∷ List.[];
+        }
+
         abbrev G44 : Row.Cx
-        G44 = record { locals = List._++_ g38 t39; slots = life2 ∷ Row.off ∷ Row.off ∷ Row.off ∷ Row.off ∷ Row.off ∷ Row.off ∷ Row.dead ∷ Row.alive ∷
-            Row.alive ∷ List.[]; }
+        G44 = record {
+          locals = List._++_ g38 t39;
+          slots = life2 ∷ Row.off ∷ Row.off ∷ Row.off ∷ Row.off ∷ Row.off ∷ Row.off ∷ Row.dead ∷ Row.alive ∷ Row.alive
+              ∷ List.[];
+        }
+
         abbrev G45 : Row.Cx
-        G45 = record { locals = List._++_ g40 t41; slots = life2 ∷ life1 ∷ Row.off ∷ Row.off ∷ Row.off ∷ Row.off ∷ Row.off ∷ Row.dead ∷ Row.alive ∷
-            Row.alive ∷ List.[]; }
+        G45 = record {
+          locals = List._++_ g40 t41;
+          slots = life2 ∷ life1 ∷ Row.off ∷ Row.off ∷ Row.off ∷ Row.off ∷ Row.off ∷ Row.dead ∷ Row.alive ∷ Row.alive ∷
+              List.[];
+        }
+
         abbrev G46 : Row.Cx
-        G46 = record { locals = List._++_ g40 t41; slots = life2 ∷ life1 ∷ Row.off ∷ Row.off ∷ Row.off ∷ Row.off ∷ Row.off ∷ Row.off ∷ Row.alive ∷
-            Row.alive ∷ List.[]; }
+        G46 = record {
+          locals = List._++_ g40 t41;
+          slots = life2 ∷ life1 ∷ Row.off ∷ Row.off ∷ Row.off ∷ Row.off ∷ Row.off ∷ Row.off ∷ Row.alive ∷ Row.alive ∷
+              List.[];
+        }
+
         abbrev G47 : Row.Cx
-        G47 = record { locals = List._++_ g40 t41; slots = life2 ∷ life1 ∷ Row.off ∷ Row.off ∷ Row.off ∷ Row.off ∷ Row.off ∷ Row.off ∷ Row.dead ∷
-            Row.alive ∷ List.[]; }
+        G47 = record {
+          locals = List._++_ g40 t41;
+          slots = life2 ∷ life1 ∷ Row.off ∷ Row.off ∷ Row.off ∷ Row.off ∷ Row.off ∷ Row.off ∷ Row.dead ∷ Row.alive ∷
+              List.[];
+        }
+
         abbrev G48 : Row.Cx
-        G48 = record { locals = List._++_ g42 t43; slots = life2 ∷ life1 ∷ life0 ∷ Row.off ∷ Row.off ∷ Row.off ∷ Row.off ∷ Row.off ∷ Row.dead ∷
-            Row.alive ∷ List.[]; }
+        G48 = record {
+          locals = List._++_ g42 t43;
+          slots = life2 ∷ life1 ∷ life0 ∷ Row.off ∷ Row.off ∷ Row.off ∷ Row.off ∷ Row.off ∷ Row.dead ∷ Row.alive ∷
+              List.[];
+        }
+
         abbrev G49 : Row.Cx
-        G49 = record { locals = List._++_ g42 t43; slots = life2 ∷ life1 ∷ life0 ∷ Row.off ∷ Row.off ∷ Row.off ∷ Row.off ∷ Row.off ∷ Row.off ∷
-            Row.alive ∷ List.[]; }
+        G49 = record {
+          locals = List._++_ g42 t43;
+          slots = life2 ∷ life1 ∷ life0 ∷ Row.off ∷ Row.off ∷ Row.off ∷ Row.off ∷ Row.off ∷ Row.off ∷ Row.alive ∷
+              List.[];
+        }
+
         abbrev G50 : Row.Cx
-        G50 = record { locals = List._++_ g42 t43; slots = life2 ∷ life1 ∷ life0 ∷ Row.off ∷ Row.off ∷ Row.off ∷ Row.off ∷ Row.off ∷ Row.off ∷
-            Row.dead ∷ List.[]; }
+        G50 = record {
+          locals = List._++_ g42 t43;
+          slots = life2 ∷ life1 ∷ life0 ∷ Row.off ∷ Row.off ∷ Row.off ∷ Row.off ∷ Row.off ∷ Row.off ∷ Row.dead ∷
+              List.[];
+        }
+
         abbrev G51 : Row.Cx
-        G51 = record { locals = List._++_ t44 t1; slots = life2 ∷ life1 ∷ life0 ∷ life3 ∷ Row.off ∷ Row.off ∷ Row.off ∷ Row.off ∷ Row.off ∷ Row.dead ∷
-            List.[]; }
+        G51 = record {
+          locals = List._++_ t44 t1;
+          slots = life2 ∷ life1 ∷ life0 ∷ life3 ∷ Row.off ∷ Row.off ∷ Row.off ∷ Row.off ∷ Row.off ∷ Row.dead ∷ List.[];
+        }
+
         abbrev G52 : Row.Cx
-        G52 = record { locals = List._++_ t44 t1; slots = life2 ∷ life1 ∷ life0 ∷ life3 ∷ Row.off ∷ Row.off ∷ Row.off ∷ Row.off ∷ Row.off ∷ Row.dead ∷
-            List.[]; }
+        G52 = record {
+          locals = List._++_ t44 t1;
+          slots = life2 ∷ life1 ∷ life0 ∷ life3 ∷ Row.off ∷ Row.off ∷ Row.off ∷ Row.off ∷ Row.off ∷ Row.dead ∷ List.[];
+        }
+
         abbrev G53 : Row.Cx
-        G53 = record { locals = List._++_ t44 t1; slots = life2 ∷ life1 ∷ life0 ∷ life3 ∷ Row.off ∷ Row.off ∷ Row.off ∷ Row.off ∷ Row.off ∷ Row.off ∷
-            List.[]; }
+        G53 = record {
+          locals = List._++_ t44 t1;
+          slots = life2 ∷ life1 ∷ life0 ∷ life3 ∷ Row.off ∷ Row.off ∷ Row.off ∷ Row.off ∷ Row.off ∷ Row.off ∷ List.[];
+        }
+
         abbrev G54 : Row.Cx
-        G54 = record { locals = List._++_ t2 t1; slots = life2 ∷ life1 ∷ life0 ∷ life3 ∷ Row.off ∷ Row.off ∷ Row.off ∷ Row.off ∷ Row.off ∷ Row.off ∷
-            List.[]; }
+        G54 = record {
+          locals = List._++_ t2 t1;
+          slots = life2 ∷ life1 ∷ life0 ∷ life3 ∷ Row.off ∷ Row.off ∷ Row.off ∷ Row.off ∷ Row.off ∷ Row.off ∷ List.[];
+        }
+
         abbrev Δ0 : Typed.Outs
         Δ0 = record { next = Option.none; exits = List.[]; returns = Option.some G1 }
-        module _ { M : Type 1 } (𝓤 : URA.URA M) (H : Wp.Heap 𝓤) (A : Atoms.Atoms 𝓤) (W : Kit.Given 𝓤 H A) (𝓣 : Wp.Tables 𝓤 H) (known : Knowns 𝓤 H A W
-            𝓣) (bs : List.List Nat.ℕ) (bd : Lifetimes.AllOutlive 4 (Kinds.osR r) κs) where
+
+        module _ {M : Type 1} (𝓤 : URA.URA M) (H : Wp.Heap 𝓤) (A : Atoms.Atoms 𝓤) (W : Kit.Given 𝓤 H A)
+            (𝓣 : Wp.Tables 𝓤 H) (known : Knowns 𝓤 H A W 𝓣) (bs : List.List Nat.ℕ)
+            (bd : Lifetimes.AllOutlive 4 (Kinds.osR r) κs) where
           abbrev E : Wp.Env 𝓤 H
           E = Frame.EnvOf 𝓤 H ((Kinds.tyR r) ∷ (Enter.tysP ps xs)) bs
+
           d0 : Typed.Typed 𝓤 H A 𝓣 E G54 b18 Δ0 at0
           d0 = Typed.t-return 𝓤 H A W 𝓣 E Δ0 tt
+
           d1 : Typed.Typed 𝓤 H A 𝓣 E G53 b18 Δ0 at1
-          d1 = Typed.g-pre 𝓤 H A W 𝓣 E G53 G54 b18 Δ0 (Typed.pass T52 T54 s52) at0 (Scalar.g-room 𝓤 H A W E G53 8 Syntax.tyBool (Scalar.room-sc 𝓤 H A
-              W Row.sBool)) d0
+          d1 = Typed.g-pre 𝓤 H A W 𝓣 E G53 G54 b18 Δ0 (Typed.pass T52 T54 s52) at0 (Scalar.g-room 𝓤 H A W E G53 8
+              Syntax.tyBool (Scalar.room-sc 𝓤 H A W Row.sBool)) d0
+
           d2 : Typed.Typed 𝓤 H A 𝓣 E G52 b18 Δ0 at2
-          d2 = Typed.g-pre 𝓤 H A W 𝓣 E G52 G53 b18 Δ0 (λ Ψ. Ψ) at1 (Lifetime.g-forget 𝓤 H A W E G52 9 Row.dead Path.refl) d1
+          d2 = Typed.g-pre 𝓤 H A W 𝓣 E G52 G53 b18 Δ0 (λ Ψ. Ψ) at1
+              (Lifetime.g-forget 𝓤 H A W E G52 9 Row.dead Path.refl) d1
+
           d3 : Typed.Typed 𝓤 H A 𝓣 E G51 b18 Δ0 at3
-          d3 = Typed.g-pre 𝓤 H A W 𝓣 E G51 G52 b18 Δ0 (Typed.give s50) at2 (Know.g-sl-known 𝓤 H A W (Referent.fInt Syntax.w32) E G51 4 3 ref7 life3 0
-              (λ x. x) record { fits = Dec.lit< tt } (Reads'.as-is 𝓤 H A (Mut.mslice (Referent.rtF (Referent.fInt Syntax.w32)) ref7 3)) Path.refl tt)
-              d2
+          d3 = Typed.g-pre 𝓤 H A W 𝓣 E G51 G52 b18 Δ0 (Typed.give s50) at2 (Know.g-sl-known 𝓤 H A W
+              (Referent.fInt Syntax.w32) E G51 4 3 ref7 life3 0 (λ x. x) record { fits = Dec.lit< tt } (Reads'.as-is 𝓤
+              H A (Mut.mslice (Referent.rtF (Referent.fInt Syntax.w32)) ref7 3)) Path.refl tt) d2
+
           d4 : Typed.Typed 𝓤 H A 𝓣 E G50 b18 Δ0 at4
-          d4 = Typed.g-pre 𝓤 H A W 𝓣 E G50 G51 b18 Δ0 (Typed.both s49) at3 (Relend.g-back-sl 𝓤 H A W E (Referent.rtF (Referent.fInt Syntax.w32)) G50
-              24 4 3 9 ref7 ref3 life3 (λ x. x) (λ x. x) (Reads'.as-is 𝓤 H A (Mut.msleft (Referent.rtF (Referent.fInt Syntax.w32)) ref3))
-              (Reads'.as-is 𝓤 H A (Relend.mslice-owed (Referent.rtF (Referent.fInt Syntax.w32)) ref7 3 9 life3)) Path.refl Path.refl) d3
+          d4 = Typed.g-pre 𝓤 H A W 𝓣 E G50 G51 b18 Δ0 (Typed.both s49) at3 (Relend.g-back-sl 𝓤 H A W E
+              (Referent.rtF (Referent.fInt Syntax.w32)) G50 24 4 3 9 ref7 ref3 life3 (λ x. x) (λ x. x) (Reads'.as-is 𝓤
+              H A (Mut.msleft (Referent.rtF (Referent.fInt Syntax.w32)) ref3)) (Reads'.as-is 𝓤 H A (Relend.mslice-owed
+              (Referent.rtF (Referent.fInt Syntax.w32)) ref7 3 9 life3)) Path.refl Path.refl) d3
+
           d5 : Typed.Typed 𝓤 H A 𝓣 E G49 b18 Δ0 at5
           d5 = Typed.g-pre 𝓤 H A W 𝓣 E G49 G50 b18 Δ0 (λ Ψ. Ψ) at4 (Lifetime.g-end 𝓤 H A W E G49 9 Path.refl) d4
+
           d6 : Typed.Typed 𝓤 H A 𝓣 E G48 b18 Δ0 at6
-          d6 = Typed.g-pre 𝓤 H A W 𝓣 E G48 G49 b18 Δ0 (λ Ψ. Ψ) at5 (Lifetime.g-forget 𝓤 H A W E G48 8 Row.dead Path.refl) d5
+          d6 = Typed.g-pre 𝓤 H A W 𝓣 E G48 G49 b18 Δ0 (λ Ψ. Ψ) at5
+              (Lifetime.g-forget 𝓤 H A W E G48 8 Row.dead Path.refl) d5
+
           d7 : Typed.Typed 𝓤 H A 𝓣 E G47 b18 Δ0 at7
-          d7 = Typed.g-pre 𝓤 H A W 𝓣 E G47 G48 b18 Δ0 (Typed.both s46) at6 (Relend.g-back-sl 𝓤 H A W E InflightAction.row G47 22 3 2 8 ref6 ref0 life0
-              (λ x. x) (λ x. x) (Reads'.as-is 𝓤 H A (Mut.msleft InflightAction.row ref0)) (Reads'.as-is 𝓤 H A (Relend.mslice-owed InflightAction.row
-              ref6 2 8 life0)) Path.refl Path.refl) d6
+          d7 = Typed.g-pre 𝓤 H A W 𝓣 E G47 G48 b18 Δ0 (Typed.both s46) at6 (Relend.g-back-sl 𝓤 H A W E
+              InflightAction.row G47 22 3 2 8 ref6 ref0 life0 (λ x. x) (λ x. x)
+              (Reads'.as-is 𝓤 H A (Mut.msleft InflightAction.row ref0)) (Reads'.as-is 𝓤 H A
+              (Relend.mslice-owed InflightAction.row ref6 2 8 life0)) Path.refl Path.refl) d6
+
           d8 : Typed.Typed 𝓤 H A 𝓣 E G46 b18 Δ0 at8
           d8 = Typed.g-pre 𝓤 H A W 𝓣 E G46 G47 b18 Δ0 (λ Ψ. Ψ) at7 (Lifetime.g-end 𝓤 H A W E G46 8 Path.refl) d7
+
           d9 : Typed.Typed 𝓤 H A 𝓣 E G45 b18 Δ0 at9
-          d9 = Typed.g-pre 𝓤 H A W 𝓣 E G45 G46 b18 Δ0 (λ Ψ. Ψ) at8 (Lifetime.g-forget 𝓤 H A W E G45 7 Row.dead Path.refl) d8
+          d9 = Typed.g-pre 𝓤 H A W 𝓣 E G45 G46 b18 Δ0 (λ Ψ. Ψ) at8
+              (Lifetime.g-forget 𝓤 H A W E G45 7 Row.dead Path.refl) d8
+
           d10 : Typed.Typed 𝓤 H A 𝓣 E G44 b18 Δ0 at10
-          d10 = Typed.g-pre 𝓤 H A W 𝓣 E G44 G45 b18 Δ0 (Typed.both s43) at9 (Relend.g-back-sl 𝓤 H A W E RelayCircuit.row G44 20 2 1 7 ref5 ref1 life1
-              (λ x. x) (λ x. x) (Reads'.as-is 𝓤 H A (Mut.msleft RelayCircuit.row ref1)) (Reads'.as-is 𝓤 H A (Relend.mslice-owed RelayCircuit.row ref5
-              1 7 life1)) Path.refl Path.refl) d9
+          d10 = Typed.g-pre 𝓤 H A W 𝓣 E G44 G45 b18 Δ0 (Typed.both s43) at9 (Relend.g-back-sl 𝓤 H A W E
+              RelayCircuit.row G44 20 2 1 7 ref5 ref1 life1 (λ x. x) (λ x. x)
+              (Reads'.as-is 𝓤 H A (Mut.msleft RelayCircuit.row ref1)) (Reads'.as-is 𝓤 H A
+              (Relend.mslice-owed RelayCircuit.row ref5 1 7 life1)) Path.refl Path.refl) d9
+
           d11 : Typed.Typed 𝓤 H A 𝓣 E G43 b18 Δ0 at11
           d11 = Typed.g-pre 𝓤 H A W 𝓣 E G43 G44 b18 Δ0 (λ Ψ. Ψ) at10 (Lifetime.g-end 𝓤 H A W E G43 7 Path.refl) d10
+
           d12 : Typed.Typed 𝓤 H A 𝓣 E G42 b18 Δ0 at12
-          d12 = Typed.g-pre 𝓤 H A W 𝓣 E G42 G43 b18 Δ0 (λ Ψ. Ψ) at11 (Lifetime.g-forget 𝓤 H A W E G42 6 Row.dead Path.refl) d11
+          d12 = Typed.g-pre 𝓤 H A W 𝓣 E G42 G43 b18 Δ0 (λ Ψ. Ψ) at11
+              (Lifetime.g-forget 𝓤 H A W E G42 6 Row.dead Path.refl) d11
+
           d13 : Typed.Typed 𝓤 H A 𝓣 E G41 b18 Δ0 at13
-          d13 = Typed.g-pre 𝓤 H A W 𝓣 E G41 G42 b18 Δ0 (Typed.both s40) at12 (Relend.g-back-sl 𝓤 H A W E RelayPending.row G41 18 1 0 6 ref4 ref2 life2
-              (λ x. x) (λ x. x) (Reads'.as-is 𝓤 H A (Mut.msleft RelayPending.row ref2)) (Reads'.as-is 𝓤 H A (Relend.mslice-owed RelayPending.row ref4
-              0 6 life2)) Path.refl Path.refl) d12
+          d13 = Typed.g-pre 𝓤 H A W 𝓣 E G41 G42 b18 Δ0 (Typed.both s40) at12 (Relend.g-back-sl 𝓤 H A W E
+              RelayPending.row G41 18 1 0 6 ref4 ref2 life2 (λ x. x) (λ x. x)
+              (Reads'.as-is 𝓤 H A (Mut.msleft RelayPending.row ref2)) (Reads'.as-is 𝓤 H A
+              (Relend.mslice-owed RelayPending.row ref4 0 6 life2)) Path.refl Path.refl) d12
+
           d14 : Typed.Typed 𝓤 H A 𝓣 E G40 b18 Δ0 at14
           d14 = Typed.g-pre 𝓤 H A W 𝓣 E G40 G41 b18 Δ0 (λ Ψ. Ψ) at13 (Lifetime.g-end 𝓤 H A W E G40 6 Path.refl) d13
+
           d15 : Typed.Typed 𝓤 H A 𝓣 E G39 b18 Δ0 at15
-          d15 = Typed.g-pre 𝓤 H A W 𝓣 E G39 G40 b18 Δ0 (Typed.pass T39 T40 s38) at14 (Scalar.g-room 𝓤 H A W E G39 10 Laws.mir (Local.room-whole 𝓤 H A
-              W (Declared'.row SettlePlan.the-type) Laws.mir Path.refl)) d14
+          d15 = Typed.g-pre 𝓤 H A W 𝓣 E G39 G40 b18 Δ0 (Typed.pass T39 T40 s38) at14 (Scalar.g-room 𝓤 H A W E G39 10
+              Laws.mir (Local.room-whole 𝓤 H A W (Declared'.row SettlePlan.the-type) Laws.mir Path.refl)) d14
+
           d16 : Typed.Typed 𝓤 H A 𝓣 E G38 b18 Δ0 at16
-          d16 = Typed.g-pre 𝓤 H A W 𝓣 E G38 G39 b18 Δ0 (Typed.pass T38 T39 s37) at15 (Scalar.g-room 𝓤 H A W E G38 6 Laws'.mir (Local.room-whole 𝓤 H A
-              W (Declared'.row Places.the-type) Laws'.mir Path.refl)) d15
+          d16 = Typed.g-pre 𝓤 H A W 𝓣 E G38 G39 b18 Δ0 (Typed.pass T38 T39 s37) at15 (Scalar.g-room 𝓤 H A W E G38 6
+              Laws'.mir (Local.room-whole 𝓤 H A W (Declared'.row Places.the-type) Laws'.mir Path.refl)) d15
+
           d17 : Typed.Typed 𝓤 H A 𝓣 E G37 b18 Δ0 at17
-          d17 = Typed.g-pre 𝓤 H A W 𝓣 E G37 G38 b18 Δ0 (Typed.pass T37 T38 s36) at16 (Scalar.g-room 𝓤 H A W E G37 5 Laws''''.mir (Local.room-whole 𝓤 H
-              A W (Declared'.row OpaqueRelayRuntime.the-type) Laws''''.mir Path.refl)) d16
+          d17 = Typed.g-pre 𝓤 H A W 𝓣 E G37 G38 b18 Δ0 (Typed.pass T37 T38 s36) at16 (Scalar.g-room 𝓤 H A W E G37 5
+              Laws''''.mir (Local.room-whole 𝓤 H A W (Declared'.row OpaqueRelayRuntime.the-type) Laws''''.mir
+              Path.refl)) d16
+
           d18 : Typed.Typed 𝓤 H A 𝓣 E G36 b19 Δ0 at18
-          d18 = Typed.s-seq 𝓤 H A W 𝓣 E G36 G37 b17 b18 Δ0 (Typed.both s35) at17 (Plain.t-call-plain 𝓤 H A W 𝓣 4 ps·4 r·4 (claims· .8) (claims· .9)
-              "hnsr_circuit::acknowledge::settle" (known .4) E (λ pos β. β) G36 (record { pos = 18; ty = Syntax.tyRef Syntax.erased Syntax.mut
-              RelayPending.to; ref = λ x. x; }, (record { pos = 20; ty = Syntax.tyRef Syntax.erased Syntax.mut RelayCircuit.to; ref = λ x. x; },
-              (record { pos = 22; ty = Syntax.tyRef Syntax.erased Syntax.mut InflightAction.to; ref = λ x. x; }, (record { pos = 24; ty = Syntax.tyRef
-              Syntax.erased Syntax.mut (Syntax.tyInt Syntax.w32); ref = λ x. x; }, (record { pos = 5; st = List.[]; d = 0; at = λ x. x }, (record {
-              pos = 6; st = List.[]; d = 0; at = λ x. x }, (record { pos = 10; st = List.[]; d = 0; at = λ x. x }, tt),),),),),),) 0 (6 ∷ 7 ∷ 8 ∷ 9 ∷
-              List.[]) (Call.sub-id 𝓤 H A W (G36 .slots)) (Reads'.as-is 𝓤 H A (Mut.mslice RelayPending.row ref2 6), Mut.reads-mslice 𝓤 H A W
-              RelayPending.row ref2 6, Path.refl, (Reads'.as-is 𝓤 H A (Mut.mslice RelayCircuit.row ref1 7), Mut.reads-mslice 𝓤 H A W RelayCircuit.row
-              ref1 7, Path.refl, (Reads'.as-is 𝓤 H A (Mut.mslice InflightAction.row ref0 8), Mut.reads-mslice 𝓤 H A W InflightAction.row ref0 8,
-              Path.refl, (Reads'.as-is 𝓤 H A (Mut.mslice (Referent.rtF (Referent.fInt Syntax.w32)) ref3 9), Mut.reads-mslice 𝓤 H A W (Referent.rtF
-              (Referent.fInt Syntax.w32)) ref3 9, Path.refl, ((Yields.yields-copy 𝓤 H A W (λ ρ. Unit) (Declared'.row OpaqueRelayRuntime.the-type)
-              Path.refl (Copies.cStruct OpaqueRelayRuntime.the-type Laws''''.the-laws Laws''''.the-copy .copy 𝓤 H A W) (Rows.whole (Declared'.row
-              OpaqueRelayRuntime.the-type)) (λ x. x) (λ x. x) (λ ρ told. Local.mem-whole 𝓤 H A W (Declared'.row OpaqueRelayRuntime.the-type) ρ) λ ρ
-              told. Local.whole-mem 𝓤 H A W (Declared'.row OpaqueRelayRuntime.the-type) ρ, Path.refl,), ((Yields.yields-copy 𝓤 H A W (λ ρ. Unit)
-              (Declared'.row Places.the-type) Path.refl (Copies.cStruct Places.the-type Laws'.the-laws Laws'.the-copy .copy 𝓤 H A W) (Rows.whole
-              (Declared'.row Places.the-type)) (λ x. x) (λ x. x) (λ ρ told. Local.mem-whole 𝓤 H A W (Declared'.row Places.the-type) ρ) λ ρ told.
-              Local.whole-mem 𝓤 H A W (Declared'.row Places.the-type) ρ, Path.refl,), ((Yields.yields-copy 𝓤 H A W (λ ρ. Unit) (Declared'.row
-              SettlePlan.the-type) Path.refl (Copies.cStruct SettlePlan.the-type Laws.the-laws Laws.the-copy .copy 𝓤 H A W) (Rows.whole (Declared'.row
-              SettlePlan.the-type)) (λ x. x) (λ x. x) (λ ρ told. Local.mem-whole 𝓤 H A W (Declared'.row SettlePlan.the-type) ρ) λ ρ told.
-              Local.whole-mem 𝓤 H A W (Declared'.row SettlePlan.the-type) ρ, Path.refl,), tt,),),),),),),) (Reads'.room-gone 𝓤 H A Laws'''''.mir) (tt,
-              (tt, (tt, (tt, tt)))) Path.refl) d17
+          d18 = Typed.s-seq 𝓤 H A W 𝓣 E G36 G37 b17 b18 Δ0 (Typed.both s35) at17 (Plain.t-call-plain 𝓤 H A W 𝓣 4 ps·4
+              r·4 (claims· .8) (claims· .9) "hnsr_circuit::acknowledge::settle" (known .4) E (λ pos β. β) G36 (
+                record { pos = 18; ty = ref2; ref = λ x. x },
+                (
+                  record { pos = 20; ty = ref1; ref = λ x. x },
+                  (
+                    record { pos = 22; ty = ref0; ref = λ x. x },
+                    (
+                      record { pos = 24; ty = ref3; ref = λ x. x },
+                      (
+                        record { pos = 5; st = List.[]; d = 0; at = λ x. x },
+                        (
+                          record { pos = 6; st = List.[]; d = 0; at = λ x. x },
+                          (record { pos = 10; st = List.[]; d = 0; at = λ x. x }, tt),
+                        ),
+                      ),
+                    ),
+                  ),
+                ),
+              ) 0 (6 ∷ 7 ∷ 8 ∷ 9 ∷ List.[]) (Call.sub-id 𝓤 H A W (G36 .slots)) (
+                Reads'.as-is 𝓤 H A (Mut.mslice RelayPending.row ref2 6),
+                Mut.reads-mslice 𝓤 H A W RelayPending.row ref2 6,
+                Path.refl,
+                (
+                  Reads'.as-is 𝓤 H A (Mut.mslice RelayCircuit.row ref1 7),
+                  Mut.reads-mslice 𝓤 H A W RelayCircuit.row ref1 7,
+                  Path.refl,
+                  (
+                    Reads'.as-is 𝓤 H A (Mut.mslice InflightAction.row ref0 8),
+                    Mut.reads-mslice 𝓤 H A W InflightAction.row ref0 8,
+                    Path.refl,
+                    (
+                      Reads'.as-is 𝓤 H A (Mut.mslice (Referent.rtF (Referent.fInt Syntax.w32)) ref3 9),
+                      Mut.reads-mslice 𝓤 H A W (Referent.rtF (Referent.fInt Syntax.w32)) ref3 9,
+                      Path.refl,
+                      (
+                        (
+                          Yields.yields-copy 𝓤 H A W (λ ρ. Unit) (Declared'.row OpaqueRelayRuntime.the-type) Path.refl (Copies.cStruct
+                              OpaqueRelayRuntime.the-type Laws''''.the-laws Laws''''.the-copy .copy 𝓤 H A W)
+                              (Rows.whole (Declared'.row OpaqueRelayRuntime.the-type)) (λ x. x) (λ x. x) (λ ρ told.
+                              Local.mem-whole 𝓤 H A W (Declared'.row OpaqueRelayRuntime.the-type) ρ) λ ρ told.
+                              Local.whole-mem 𝓤 H A W (Declared'.row OpaqueRelayRuntime.the-type) ρ,
+                          Path.refl,
+                        ),
+                        (
+                          (
+                            Yields.yields-copy 𝓤 H A W (λ ρ. Unit) (Declared'.row Places.the-type) Path.refl (Copies.cStruct
+                                Places.the-type Laws'.the-laws Laws'.the-copy .copy 𝓤 H A W)
+                                (Rows.whole (Declared'.row Places.the-type)) (λ x. x) (λ x. x) (λ ρ told.
+                                Local.mem-whole 𝓤 H A W (Declared'.row Places.the-type) ρ) λ ρ told. Local.whole-mem 𝓤
+                                H A W (Declared'.row Places.the-type) ρ,
+                            Path.refl,
+                          ),
+                          (
+                            (
+                              Yields.yields-copy 𝓤 H A W (λ ρ. Unit) (Declared'.row SettlePlan.the-type) Path.refl (Copies.cStruct
+                                  SettlePlan.the-type Laws.the-laws Laws.the-copy .copy 𝓤 H A W)
+                                  (Rows.whole (Declared'.row SettlePlan.the-type)) (λ x. x) (λ x. x) (λ ρ told.
+                                  Local.mem-whole 𝓤 H A W (Declared'.row SettlePlan.the-type) ρ) λ ρ told.
+                                  Local.whole-mem 𝓤 H A W (Declared'.row SettlePlan.the-type) ρ,
+                              Path.refl,
+                            ),
+                            tt,
+                          ),
+                        ),
+                      ),
+                    ),
+                  ),
+                ),
+              ) (Reads'.room-gone 𝓤 H A Laws'''''.mir) (tt, (tt, (tt, (tt, tt)))) Path.refl) d17
+
           d19 : Typed.Typed 𝓤 H A 𝓣 E G35 b20 Δ0 at19
-          d19 = Typed.s-seq 𝓤 H A W 𝓣 E G35 G36 b16 b19 Δ0 (Typed.ask s34) at18 (Relend.t-sl-aggregate 𝓤 H A W E (Referent.rtF (Referent.fInt
-              Syntax.w32)) 𝓣 (Relend.asMut (Referent.rtF (Referent.fInt Syntax.w32))) G35 23 24 9 ref3 ref3 (λ x. x) (Scalar.oFld 4 ((Syntax.field 1)
-              ∷ List.[]) (Syntax.tyInt Syntax.w64) 8 λ v. Shared.lenV (v .0)) (Reads'.as-is 𝓤 H A (Relend.msptr (Referent.rtF (Referent.fInt
-              Syntax.w32)) ref3 9)) (Reads'.room-gone 𝓤 H A (Syntax.tyStruct (38 ∷ 91 ∷ 93 ∷ List.[]) (Syntax.tcons ref3 (Syntax.tcons (Syntax.tyInt
-              Syntax.w64) Syntax.tnil)))) (Relend.reads-owed-len 𝓤 H A W (Referent.rtF (Referent.fInt Syntax.w32)) ref7 3 9 life3 8 Path.refl,
-              Path.refl,) Path.refl Path.refl λ b o k. tt) d18
+          d19 = Typed.s-seq 𝓤 H A W 𝓣 E G35 G36 b16 b19 Δ0 (Typed.ask s34) at18 (Relend.t-sl-aggregate 𝓤 H A W E
+              (Referent.rtF (Referent.fInt Syntax.w32)) 𝓣 (Relend.asMut (Referent.rtF (Referent.fInt Syntax.w32))) G35
+              23 24 9 ref3 ref3 (λ x. x) (Scalar.oFld 4 ((Syntax.field 1) ∷ List.[]) (Syntax.tyInt Syntax.w64) 8 λ v.
+              Shared.lenV (v .0)) (Reads'.as-is 𝓤 H A (Relend.msptr (Referent.rtF (Referent.fInt Syntax.w32)) ref3 9))
+              (Reads'.room-gone 𝓤 H A slice3) (
+                Relend.reads-owed-len 𝓤 H A W (Referent.rtF (Referent.fInt Syntax.w32)) ref7 3 9 life3 8 Path.refl,
+                Path.refl,
+              ) Path.refl Path.refl λ b o k. tt) d18
+
           d20 : Typed.Typed 𝓤 H A 𝓣 E G34 b21 Δ0 at20
-          d20 = Typed.s-seq 𝓤 H A W 𝓣 E G34 G35 b15 b20 Δ0 (Typed.give s33) at19 (Relend.t-sl-relend 𝓤 H A W E (Referent.rtF (Referent.fInt
-              Syntax.w32)) 𝓣 G34 4 23 3 9 ref7 ref3 life3 0 (λ x. x) (Reads'.as-is 𝓤 H A (Mut.mslice (Referent.rtF (Referent.fInt Syntax.w32)) ref7
-              3)) (Reads'.room-gone 𝓤 H A ref3) Path.refl tt Path.refl Path.refl Path.refl λ b o. tt) d19
+          d20 = Typed.s-seq 𝓤 H A W 𝓣 E G34 G35 b15 b20 Δ0 (Typed.give s33) at19 (Relend.t-sl-relend 𝓤 H A W E
+              (Referent.rtF (Referent.fInt Syntax.w32)) 𝓣 G34 4 23 3 9 ref7 ref3 life3 0 (λ x. x) (Reads'.as-is 𝓤 H A (Mut.mslice
+              (Referent.rtF (Referent.fInt Syntax.w32)) ref7 3)) (Reads'.room-gone 𝓤 H A ref3) Path.refl tt Path.refl
+              Path.refl Path.refl λ b o. tt) d19
+
           d21 : Typed.Typed 𝓤 H A 𝓣 E G33 b21 Δ0 at21
-          d21 = Typed.g-pre 𝓤 H A W 𝓣 E G33 G34 b21 Δ0 (λ Ψ. Ψ) at20 (Lifetime.g-begin 𝓤 H A W E G33 9 (tt, ((tt, tt), ((tt, tt), ((tt, tt), (tt, (tt,
-              (tt, (tt, (tt, (tt, (tt, (tt, (tt, (tt, (tt, (tt, (tt, (tt, (tt, (tt, (tt, (tt, (tt, (tt, (tt,
-              tt)))))),),),),),),),),),),),),),),),),),),),)) d20
+          d21 = Typed.g-pre 𝓤 H A W 𝓣 E G33 G34 b21 Δ0 (λ Ψ. Ψ) at20 (Lifetime.g-begin 𝓤 H A W E G33 9 (
+            tt,
+            (
+              (tt, tt),
+              (
+                (tt, tt),
+                (
+                  (tt, tt),
+                  (
+                    tt,
+                    (
+                      tt,
+                      (
+                        tt,
+                        (
+                          tt,
+                          (
+                            tt,
+                            (
+                              tt,
+                              (
+                                tt,
+                                (tt, (tt, (tt, (tt, (tt, (tt, (tt, (tt, (tt, (tt, (tt, (tt, (tt, (tt, tt)))))))))))))),
+                              ),
+                            ),
+                          ),
+                        ),
+                      ),
+                    ),
+                  ),
+                ),
+              ),
+            ),
+          )) d20
+
           d22 : Typed.Typed 𝓤 H A 𝓣 E G32 b22 Δ0 at22
-          d22 = Typed.s-seq 𝓤 H A W 𝓣 E G32 G33 b14 b21 Δ0 (Typed.ask s31) at21 (Relend.t-sl-aggregate 𝓤 H A W E InflightAction.row 𝓣 (Relend.asMut
-              InflightAction.row) G32 21 22 8 ref0 ref0 (λ x. x) (Scalar.oFld 3 ((Syntax.field 1) ∷ List.[]) (Syntax.tyInt Syntax.w64) 8 λ v.
-              Shared.lenV (v .0)) (Reads'.as-is 𝓤 H A (Relend.msptr InflightAction.row ref0 8)) (Reads'.room-gone 𝓤 H A (Syntax.tyStruct (38 ∷ 91 ∷ 93
-              ∷ List.[]) (Syntax.tcons ref0 (Syntax.tcons (Syntax.tyInt Syntax.w64) Syntax.tnil)))) (Relend.reads-owed-len 𝓤 H A W InflightAction.row
-              ref6 2 8 life0 8 Path.refl, Path.refl,) Path.refl Path.refl λ b o k. tt) d21
+          d22 = Typed.s-seq 𝓤 H A W 𝓣 E G32 G33 b14 b21 Δ0 (Typed.ask s31) at21 (Relend.t-sl-aggregate 𝓤 H A W E
+              InflightAction.row 𝓣 (Relend.asMut InflightAction.row) G32 21 22 8 ref0 ref0 (λ x. x) (Scalar.oFld 3
+              ((Syntax.field 1) ∷ List.[]) (Syntax.tyInt Syntax.w64) 8 λ v. Shared.lenV (v .0)) (Reads'.as-is 𝓤 H A
+              (Relend.msptr InflightAction.row ref0 8)) (Reads'.room-gone 𝓤 H A slice0) (
+                Relend.reads-owed-len 𝓤 H A W InflightAction.row ref6 2 8 life0 8 Path.refl,
+                Path.refl,
+              ) Path.refl Path.refl λ b o k. tt) d21
+
           d23 : Typed.Typed 𝓤 H A 𝓣 E G31 b23 Δ0 at23
-          d23 = Typed.s-seq 𝓤 H A W 𝓣 E G31 G32 b13 b22 Δ0 (Typed.give s30) at22 (Relend.t-sl-relend 𝓤 H A W E InflightAction.row 𝓣 G31 3 21 2 8 ref6
-              ref0 life0 0 (λ x. x) (Reads'.as-is 𝓤 H A (Mut.mslice InflightAction.row ref6 2)) (Reads'.room-gone 𝓤 H A ref0) Path.refl tt Path.refl
-              Path.refl Path.refl λ b o. tt) d22
+          d23 = Typed.s-seq 𝓤 H A W 𝓣 E G31 G32 b13 b22 Δ0 (Typed.give s30) at22 (Relend.t-sl-relend 𝓤 H A W E
+              InflightAction.row 𝓣 G31 3 21 2 8 ref6 ref0 life0 0 (λ x. x)
+              (Reads'.as-is 𝓤 H A (Mut.mslice InflightAction.row ref6 2)) (Reads'.room-gone 𝓤 H A ref0) Path.refl tt
+              Path.refl Path.refl Path.refl λ b o. tt) d22
+
           d24 : Typed.Typed 𝓤 H A 𝓣 E G30 b23 Δ0 at24
-          d24 = Typed.g-pre 𝓤 H A W 𝓣 E G30 G31 b23 Δ0 (λ Ψ. Ψ) at23 (Lifetime.g-begin 𝓤 H A W E G30 8 (tt, ((tt, tt), ((tt, tt), (tt, (tt, (tt, (tt,
-              (tt, (tt, (tt, (tt, (tt, (tt, (tt, (tt, (tt, (tt, (tt, (tt, (tt, (tt, (tt, (tt, (tt, (tt,
-              tt)))))),),),),),),),),),),),),),),),),),),),)) d23
+          d24 = Typed.g-pre 𝓤 H A W 𝓣 E G30 G31 b23 Δ0 (λ Ψ. Ψ) at23 (Lifetime.g-begin 𝓤 H A W E G30 8 (
+            tt,
+            (
+              (tt, tt),
+              (
+                (tt, tt),
+                (
+                  tt,
+                  (
+                    tt,
+                    (
+                      tt,
+                      (
+                        tt,
+                        (
+                          tt,
+                          (
+                            tt,
+                            (
+                              tt,
+                              (
+                                tt,
+                                (tt, (tt, (tt, (tt, (tt, (tt, (tt, (tt, (tt, (tt, (tt, (tt, (tt, (tt, tt)))))))))))))),
+                              ),
+                            ),
+                          ),
+                        ),
+                      ),
+                    ),
+                  ),
+                ),
+              ),
+            ),
+          )) d23
+
           d25 : Typed.Typed 𝓤 H A 𝓣 E G29 b24 Δ0 at25
-          d25 = Typed.s-seq 𝓤 H A W 𝓣 E G29 G30 b12 b23 Δ0 (Typed.ask s28) at24 (Relend.t-sl-aggregate 𝓤 H A W E RelayCircuit.row 𝓣 (Relend.asMut
-              RelayCircuit.row) G29 19 20 7 ref1 ref1 (λ x. x) (Scalar.oFld 2 ((Syntax.field 1) ∷ List.[]) (Syntax.tyInt Syntax.w64) 8 λ v.
-              Shared.lenV (v .0)) (Reads'.as-is 𝓤 H A (Relend.msptr RelayCircuit.row ref1 7)) (Reads'.room-gone 𝓤 H A (Syntax.tyStruct (38 ∷ 91 ∷ 93 ∷
-              List.[]) (Syntax.tcons ref1 (Syntax.tcons (Syntax.tyInt Syntax.w64) Syntax.tnil)))) (Relend.reads-owed-len 𝓤 H A W RelayCircuit.row ref5
-              1 7 life1 8 Path.refl, Path.refl,) Path.refl Path.refl λ b o k. tt) d24
+          d25 = Typed.s-seq 𝓤 H A W 𝓣 E G29 G30 b12 b23 Δ0 (Typed.ask s28) at24 (Relend.t-sl-aggregate 𝓤 H A W E
+              RelayCircuit.row 𝓣 (Relend.asMut RelayCircuit.row) G29 19 20 7 ref1 ref1 (λ x. x) (Scalar.oFld 2
+              ((Syntax.field 1) ∷ List.[]) (Syntax.tyInt Syntax.w64) 8 λ v. Shared.lenV (v .0))
+              (Reads'.as-is 𝓤 H A (Relend.msptr RelayCircuit.row ref1 7)) (Reads'.room-gone 𝓤 H A slice1) (
+                Relend.reads-owed-len 𝓤 H A W RelayCircuit.row ref5 1 7 life1 8 Path.refl,
+                Path.refl,
+              ) Path.refl Path.refl λ b o k. tt) d24
+
           d26 : Typed.Typed 𝓤 H A 𝓣 E G28 b25 Δ0 at26
-          d26 = Typed.s-seq 𝓤 H A W 𝓣 E G28 G29 b11 b24 Δ0 (Typed.give s27) at25 (Relend.t-sl-relend 𝓤 H A W E RelayCircuit.row 𝓣 G28 2 19 1 7 ref5
-              ref1 life1 0 (λ x. x) (Reads'.as-is 𝓤 H A (Mut.mslice RelayCircuit.row ref5 1)) (Reads'.room-gone 𝓤 H A ref1) Path.refl tt Path.refl
-              Path.refl Path.refl λ b o. tt) d25
+          d26 = Typed.s-seq 𝓤 H A W 𝓣 E G28 G29 b11 b24 Δ0 (Typed.give s27) at25 (Relend.t-sl-relend 𝓤 H A W E
+              RelayCircuit.row 𝓣 G28 2 19 1 7 ref5 ref1 life1 0 (λ x. x)
+              (Reads'.as-is 𝓤 H A (Mut.mslice RelayCircuit.row ref5 1)) (Reads'.room-gone 𝓤 H A ref1) Path.refl tt
+              Path.refl Path.refl Path.refl λ b o. tt) d25
+
           d27 : Typed.Typed 𝓤 H A 𝓣 E G27 b25 Δ0 at27
-          d27 = Typed.g-pre 𝓤 H A W 𝓣 E G27 G28 b25 Δ0 (λ Ψ. Ψ) at26 (Lifetime.g-begin 𝓤 H A W E G27 7 (tt, ((tt, tt), (tt, (tt, (tt, (tt, (tt, (tt,
-              (tt, (tt, (tt, (tt, (tt, (tt, (tt, (tt, (tt, (tt, (tt, (tt, (tt, (tt, (tt, (tt, (tt, tt)))))),),),),),),),),),),),),),),),),),),),)) d26
+          d27 = Typed.g-pre 𝓤 H A W 𝓣 E G27 G28 b25 Δ0 (λ Ψ. Ψ) at26 (Lifetime.g-begin 𝓤 H A W E G27 7 (
+            tt,
+            (
+              (tt, tt),
+              (
+                tt,
+                (
+                  tt,
+                  (
+                    tt,
+                    (
+                      tt,
+                      (
+                        tt,
+                        (
+                          tt,
+                          (
+                            tt,
+                            (
+                              tt,
+                              (
+                                tt,
+                                (tt, (tt, (tt, (tt, (tt, (tt, (tt, (tt, (tt, (tt, (tt, (tt, (tt, (tt, tt)))))))))))))),
+                              ),
+                            ),
+                          ),
+                        ),
+                      ),
+                    ),
+                  ),
+                ),
+              ),
+            ),
+          )) d26
+
           d28 : Typed.Typed 𝓤 H A 𝓣 E G26 b26 Δ0 at28
-          d28 = Typed.s-seq 𝓤 H A W 𝓣 E G26 G27 b10 b25 Δ0 (Typed.ask s25) at27 (Relend.t-sl-aggregate 𝓤 H A W E RelayPending.row 𝓣 (Relend.asMut
-              RelayPending.row) G26 17 18 6 ref2 ref2 (λ x. x) (Scalar.oFld 1 ((Syntax.field 1) ∷ List.[]) (Syntax.tyInt Syntax.w64) 8 λ v.
-              Shared.lenV (v .0)) (Reads'.as-is 𝓤 H A (Relend.msptr RelayPending.row ref2 6)) (Reads'.room-gone 𝓤 H A (Syntax.tyStruct (38 ∷ 91 ∷ 93 ∷
-              List.[]) (Syntax.tcons ref2 (Syntax.tcons (Syntax.tyInt Syntax.w64) Syntax.tnil)))) (Relend.reads-owed-len 𝓤 H A W RelayPending.row ref4
-              0 6 life2 8 Path.refl, Path.refl,) Path.refl Path.refl λ b o k. tt) d27
+          d28 = Typed.s-seq 𝓤 H A W 𝓣 E G26 G27 b10 b25 Δ0 (Typed.ask s25) at27 (Relend.t-sl-aggregate 𝓤 H A W E
+              RelayPending.row 𝓣 (Relend.asMut RelayPending.row) G26 17 18 6 ref2 ref2 (λ x. x) (Scalar.oFld 1
+              ((Syntax.field 1) ∷ List.[]) (Syntax.tyInt Syntax.w64) 8 λ v. Shared.lenV (v .0))
+              (Reads'.as-is 𝓤 H A (Relend.msptr RelayPending.row ref2 6)) (Reads'.room-gone 𝓤 H A slice2) (
+                Relend.reads-owed-len 𝓤 H A W RelayPending.row ref4 0 6 life2 8 Path.refl,
+                Path.refl,
+              ) Path.refl Path.refl λ b o k. tt) d27
+
           d29 : Typed.Typed 𝓤 H A 𝓣 E G25 b27 Δ0 at29
-          d29 = Typed.s-seq 𝓤 H A W 𝓣 E G25 G26 b9 b26 Δ0 (Typed.give s24) at28 (Relend.t-sl-relend 𝓤 H A W E RelayPending.row 𝓣 G25 1 17 0 6 ref4
-              ref2 life2 0 (λ x. x) (Reads'.as-is 𝓤 H A (Mut.mslice RelayPending.row ref4 0)) (Reads'.room-gone 𝓤 H A ref2) Path.refl tt Path.refl
-              Path.refl Path.refl λ b o. tt) d28
+          d29 = Typed.s-seq 𝓤 H A W 𝓣 E G25 G26 b9 b26 Δ0 (Typed.give s24) at28 (Relend.t-sl-relend 𝓤 H A W E
+              RelayPending.row 𝓣 G25 1 17 0 6 ref4 ref2 life2 0 (λ x. x)
+              (Reads'.as-is 𝓤 H A (Mut.mslice RelayPending.row ref4 0)) (Reads'.room-gone 𝓤 H A ref2) Path.refl tt
+              Path.refl Path.refl Path.refl λ b o. tt) d28
+
           d30 : Typed.Typed 𝓤 H A 𝓣 E G24 b27 Δ0 at30
-          d30 = Typed.g-pre 𝓤 H A W 𝓣 E G24 G25 b27 Δ0 (λ Ψ. Ψ) at29 (Lifetime.g-begin 𝓤 H A W E G24 6 (tt, (tt, (tt, (tt, (tt, (tt, (tt, (tt, (tt,
-              (tt, (tt, (tt, (tt, (tt, (tt, (tt, (tt, (tt, (tt, (tt, (tt, (tt, (tt, (tt, (tt, tt)))))),),),),),),),),),),),),),),),),),),),)) d29
+          d30 = Typed.g-pre 𝓤 H A W 𝓣 E G24 G25 b27 Δ0 (λ Ψ. Ψ) at29 (Lifetime.g-begin 𝓤 H A W E G24 6 (
+            tt,
+            (
+              tt,
+              (
+                tt,
+                (
+                  tt,
+                  (
+                    tt,
+                    (
+                      tt,
+                      (
+                        tt,
+                        (
+                          tt,
+                          (
+                            tt,
+                            (
+                              tt,
+                              (
+                                tt,
+                                (tt, (tt, (tt, (tt, (tt, (tt, (tt, (tt, (tt, (tt, (tt, (tt, (tt, (tt, tt)))))))))))))),
+                              ),
+                            ),
+                          ),
+                        ),
+                      ),
+                    ),
+                  ),
+                ),
+              ),
+            ),
+          )) d29
+
           d31 : Typed.Typed 𝓤 H A 𝓣 E G23 b27 Δ0 at31
-          d31 = Typed.g-pre 𝓤 H A W 𝓣 E G23 G24 b27 Δ0 (λ Ψ. Ψ) at30 (Lifetime.g-forget 𝓤 H A W E G23 5 Row.dead Path.refl) d30
+          d31 = Typed.g-pre 𝓤 H A W 𝓣 E G23 G24 b27 Δ0 (λ Ψ. Ψ) at30
+              (Lifetime.g-forget 𝓤 H A W E G23 5 Row.dead Path.refl) d30
+
           d32 : Typed.Typed 𝓤 H A 𝓣 E G22 b27 Δ0 at32
-          d32 = Typed.g-pre 𝓤 H A W 𝓣 E G22 G23 b27 Δ0 (Typed.both s21) at31 (Relend.g-back-sl 𝓤 H A W E RelayCircuit.row G22 16 2 1 5 ref5 ref1 life1
-              (λ x. x) (λ x. x) (Reads'.as-is 𝓤 H A (Mut.msleft RelayCircuit.row ref1)) (Reads'.as-is 𝓤 H A (Relend.mslice-owed RelayCircuit.row ref5
-              1 5 life1)) Path.refl Path.refl) d31
+          d32 = Typed.g-pre 𝓤 H A W 𝓣 E G22 G23 b27 Δ0 (Typed.both s21) at31 (Relend.g-back-sl 𝓤 H A W E
+              RelayCircuit.row G22 16 2 1 5 ref5 ref1 life1 (λ x. x) (λ x. x)
+              (Reads'.as-is 𝓤 H A (Mut.msleft RelayCircuit.row ref1)) (Reads'.as-is 𝓤 H A
+              (Relend.mslice-owed RelayCircuit.row ref5 1 5 life1)) Path.refl Path.refl) d31
+
           d33 : Typed.Typed 𝓤 H A 𝓣 E G21 b27 Δ0 at33
           d33 = Typed.g-pre 𝓤 H A W 𝓣 E G21 G22 b27 Δ0 (λ Ψ. Ψ) at32 (Lifetime.g-end 𝓤 H A W E G21 5 Path.refl) d32
+
           d34 : Typed.Typed 𝓤 H A 𝓣 E G20 b27 Δ0 at34
-          d34 = Typed.g-pre 𝓤 H A W 𝓣 E G20 G21 b27 Δ0 (Typed.pass T20 T21 s19) at33 (Scalar.g-room 𝓤 H A W E G20 12 Syntax.tyUnit (Scalar.room-sc 𝓤 H
-              A W Row.sUnit)) d33
+          d34 = Typed.g-pre 𝓤 H A W 𝓣 E G20 G21 b27 Δ0 (Typed.pass T20 T21 s19) at33 (Scalar.g-room 𝓤 H A W E G20 12
+              Syntax.tyUnit (Scalar.room-sc 𝓤 H A W Row.sUnit)) d33
+
           d35 : Typed.Typed 𝓤 H A 𝓣 E G19 b27 Δ0 at35
-          d35 = Typed.g-pre 𝓤 H A W 𝓣 E G19 G20 b27 Δ0 (Typed.pass T19 T20 s18) at34 (Scalar.g-room 𝓤 H A W E G19 11 Laws'''.mir (Local.room-whole 𝓤 H
-              A W (Declared.row RelaySide.the-type) Laws'''.mir Path.refl)) d34
+          d35 = Typed.g-pre 𝓤 H A W 𝓣 E G19 G20 b27 Δ0 (Typed.pass T19 T20 s18) at34 (Scalar.g-room 𝓤 H A W E G19 11
+              Laws'''.mir (Local.room-whole 𝓤 H A W (Declared.row RelaySide.the-type) Laws'''.mir Path.refl)) d34
+
           d36 : Typed.Typed 𝓤 H A 𝓣 E G18 b28 Δ0 at36
-          d36 = Typed.s-seq 𝓤 H A W 𝓣 E G18 G19 b8 b27 Δ0 (Typed.both s17) at35 (Plain.t-call-plain 𝓤 H A W 𝓣 1 ps·3 r·3 (claims· .6) (claims· .7)
-              "hnsr_circuit::acknowledge::lower_circuit" (known .3) E (λ pos β. β) G18 (record { pos = 16; ty = Syntax.tyRef Syntax.erased Syntax.mut
-              RelayCircuit.to; ref = λ x. x; }, (record { pos = 6; st = List.[]; d = 0; at = λ x. x }, (Bool.bFld 10 ((Syntax.field 2) ∷ List.[]) 16 λ
-              x. SettlePlan.struct .as-values x .1 .1 .0, (Num.vFld 10 ((Syntax.field 1) ∷ List.[]) 8 λ x. SettlePlan.struct .as-values x .1 .0,
-              (record { pos = 11; st = List.[]; d = 0; at = λ x. x }, (Num.vFld 10 ((Syntax.field 4) ∷ List.[]) 24 λ x. SettlePlan.struct .as-values x
-              .1 .1 .1 .1 .0, tt,),),),),),) 12 (5 ∷ List.[]) (Call.sub-id 𝓤 H A W (G18 .slots)) (Reads'.as-is 𝓤 H A (Mut.mslice RelayCircuit.row ref1
-              5), Mut.reads-mslice 𝓤 H A W RelayCircuit.row ref1 5, Path.refl, ((Yields.yields-copy 𝓤 H A W (λ ρ. Unit) (Declared'.row
-              Places.the-type) Path.refl (Copies.cStruct Places.the-type Laws'.the-laws Laws'.the-copy .copy 𝓤 H A W) (Rows.whole (Declared'.row
-              Places.the-type)) (λ x. x) (λ x. x) (λ ρ told. Local.mem-whole 𝓤 H A W (Declared'.row Places.the-type) ρ) λ ρ told. Local.whole-mem 𝓤 H
-              A W (Declared'.row Places.the-type) ρ, Path.refl,), ((Reads.reads-field 𝓤 H A W SettlePlan.the-type Laws.the-laws 2 Syntax.tyBool 16
-              Path.refl, Path.refl,), ((Reads.reads-field 𝓤 H A W SettlePlan.the-type Laws.the-laws 1 (Syntax.tyInt Syntax.w64) 8 Path.refl,
-              Path.refl,), ((Yields.yields-copy 𝓤 H A W (λ ρ. Unit) (Declared.row RelaySide.the-type) Path.refl (Copies.cEnum RelaySide.the-type
-              Laws'''.the-laws Laws'''.the-copy .copy 𝓤 H A W) (Rows.whole (Declared.row RelaySide.the-type)) (λ x. x) (λ x. x) (λ ρ told.
-              Local.mem-whole 𝓤 H A W (Declared.row RelaySide.the-type) ρ) λ ρ told. Local.whole-mem 𝓤 H A W (Declared.row RelaySide.the-type) ρ,
-              Path.refl,), ((Reads.reads-field 𝓤 H A W SettlePlan.the-type Laws.the-laws 4 (Syntax.tyInt Syntax.w64) 24 Path.refl, Path.refl,),
-              tt,),),),),),) (Reads'.room-gone 𝓤 H A Syntax.tyUnit) (tt, tt) Path.refl) d35
+          d36 = Typed.s-seq 𝓤 H A W 𝓣 E G18 G19 b8 b27 Δ0 (Typed.both s17) at35 (Plain.t-call-plain 𝓤 H A W 𝓣 1 ps·3
+              r·3 (claims· .6) (claims· .7) "hnsr_circuit::acknowledge::lower_circuit" (known .3) E (λ pos β. β) G18 (
+                record { pos = 16; ty = ref1; ref = λ x. x },
+                (
+                  record { pos = 6; st = List.[]; d = 0; at = λ x. x },
+                  (
+                    Bool.bFld 10 ((Syntax.field 2) ∷ List.[]) 16 λ x. SettlePlan.struct .as-values x .1 .1 .0,
+                    (
+                      Num.vFld 10 ((Syntax.field 1) ∷ List.[]) 8 λ x. SettlePlan.struct .as-values x .1 .0,
+                      (
+                        record { pos = 11; st = List.[]; d = 0; at = λ x. x },
+                        (
+                          Num.vFld 10 ((Syntax.field 4) ∷ List.[]) 24 λ x. SettlePlan.struct .as-values x .1 .1 .1 .1
+                              .0,
+                          tt,
+                        ),
+                      ),
+                    ),
+                  ),
+                ),
+              ) 12 (5 ∷ List.[]) (Call.sub-id 𝓤 H A W (G18 .slots)) (
+                Reads'.as-is 𝓤 H A (Mut.mslice RelayCircuit.row ref1 5),
+                Mut.reads-mslice 𝓤 H A W RelayCircuit.row ref1 5,
+                Path.refl,
+                (
+                  (
+                    Yields.yields-copy 𝓤 H A W (λ ρ. Unit) (Declared'.row Places.the-type) Path.refl (Copies.cStruct
+                        Places.the-type Laws'.the-laws Laws'.the-copy .copy 𝓤 H A W)
+                        (Rows.whole (Declared'.row Places.the-type)) (λ x. x) (λ x. x) (λ ρ told. Local.mem-whole 𝓤 H A
+                        W (Declared'.row Places.the-type) ρ) λ ρ told. Local.whole-mem 𝓤 H A W
+                        (Declared'.row Places.the-type) ρ,
+                    Path.refl,
+                  ),
+                  (
+                    (
+                      Reads.reads-field 𝓤 H A W SettlePlan.the-type Laws.the-laws 2 Syntax.tyBool 16 Path.refl,
+                      Path.refl,
+                    ),
+                    (
+                      (
+                        Reads.reads-field 𝓤 H A W SettlePlan.the-type Laws.the-laws 1 (Syntax.tyInt Syntax.w64) 8
+                            Path.refl,
+                        Path.refl,
+                      ),
+                      (
+                        (
+                          Yields.yields-copy 𝓤 H A W (λ ρ. Unit) (Declared.row RelaySide.the-type) Path.refl (Copies.cEnum
+                              RelaySide.the-type Laws'''.the-laws Laws'''.the-copy .copy 𝓤 H A W)
+                              (Rows.whole (Declared.row RelaySide.the-type)) (λ x. x) (λ x. x) (λ ρ told.
+                              Local.mem-whole 𝓤 H A W (Declared.row RelaySide.the-type) ρ) λ ρ told. Local.whole-mem 𝓤
+                              H A W (Declared.row RelaySide.the-type) ρ,
+                          Path.refl,
+                        ),
+                        (
+                          (
+                            Reads.reads-field 𝓤 H A W SettlePlan.the-type Laws.the-laws 4 (Syntax.tyInt Syntax.w64) 24
+                                Path.refl,
+                            Path.refl,
+                          ),
+                          tt,
+                        ),
+                      ),
+                    ),
+                  ),
+                ),
+              ) (Reads'.room-gone 𝓤 H A Syntax.tyUnit) (tt, tt) Path.refl) d35
+
           d37 : Typed.Typed 𝓤 H A 𝓣 E G17 b29 Δ0 at37
-          d37 = Typed.s-seq 𝓤 H A W 𝓣 E G17 G18 b7 b28 Δ0 (Typed.ask s16) at36 (Relend.t-sl-aggregate 𝓤 H A W E RelayCircuit.row 𝓣 (Relend.asMut
-              RelayCircuit.row) G17 15 16 5 ref1 ref1 (λ x. x) (Scalar.oFld 2 ((Syntax.field 1) ∷ List.[]) (Syntax.tyInt Syntax.w64) 8 λ v.
-              Shared.lenV (v .0)) (Reads'.as-is 𝓤 H A (Relend.msptr RelayCircuit.row ref1 5)) (Reads'.room-gone 𝓤 H A (Syntax.tyStruct (38 ∷ 91 ∷ 93 ∷
-              List.[]) (Syntax.tcons ref1 (Syntax.tcons (Syntax.tyInt Syntax.w64) Syntax.tnil)))) (Relend.reads-owed-len 𝓤 H A W RelayCircuit.row ref5
-              1 5 life1 8 Path.refl, Path.refl,) Path.refl Path.refl λ b o k. tt) d36
+          d37 = Typed.s-seq 𝓤 H A W 𝓣 E G17 G18 b7 b28 Δ0 (Typed.ask s16) at36 (Relend.t-sl-aggregate 𝓤 H A W E
+              RelayCircuit.row 𝓣 (Relend.asMut RelayCircuit.row) G17 15 16 5 ref1 ref1 (λ x. x) (Scalar.oFld 2
+              ((Syntax.field 1) ∷ List.[]) (Syntax.tyInt Syntax.w64) 8 λ v. Shared.lenV (v .0))
+              (Reads'.as-is 𝓤 H A (Relend.msptr RelayCircuit.row ref1 5)) (Reads'.room-gone 𝓤 H A slice1) (
+                Relend.reads-owed-len 𝓤 H A W RelayCircuit.row ref5 1 5 life1 8 Path.refl,
+                Path.refl,
+              ) Path.refl Path.refl λ b o k. tt) d36
+
           d38 : Typed.Typed 𝓤 H A 𝓣 E G16 b30 Δ0 at38
-          d38 = Typed.s-seq 𝓤 H A W 𝓣 E G16 G17 b6 b29 Δ0 (Typed.give s15) at37 (Relend.t-sl-relend 𝓤 H A W E RelayCircuit.row 𝓣 G16 2 15 1 5 ref5
-              ref1 life1 0 (λ x. x) (Reads'.as-is 𝓤 H A (Mut.mslice RelayCircuit.row ref5 1)) (Reads'.room-gone 𝓤 H A ref1) Path.refl tt Path.refl
-              Path.refl Path.refl λ b o. tt) d37
+          d38 = Typed.s-seq 𝓤 H A W 𝓣 E G16 G17 b6 b29 Δ0 (Typed.give s15) at37 (Relend.t-sl-relend 𝓤 H A W E
+              RelayCircuit.row 𝓣 G16 2 15 1 5 ref5 ref1 life1 0 (λ x. x)
+              (Reads'.as-is 𝓤 H A (Mut.mslice RelayCircuit.row ref5 1)) (Reads'.room-gone 𝓤 H A ref1) Path.refl tt
+              Path.refl Path.refl Path.refl λ b o. tt) d37
+
           d39 : Typed.Typed 𝓤 H A 𝓣 E G15 b30 Δ0 at39
-          d39 = Typed.g-pre 𝓤 H A W 𝓣 E G15 G16 b30 Δ0 (λ Ψ. Ψ) at38 (Lifetime.g-begin 𝓤 H A W E G15 5 (tt, (tt, (tt, (tt, (tt, (tt, (tt, (tt, (tt,
-              (tt, (tt, (tt, (tt, (tt, (tt, (tt, (tt, (tt, (tt, (tt, (tt, (tt, (tt, (tt, (tt, tt)))))),),),),),),),),),),),),),),),),),),),)) d38
+          d39 = Typed.g-pre 𝓤 H A W 𝓣 E G15 G16 b30 Δ0 (λ Ψ. Ψ) at38 (Lifetime.g-begin 𝓤 H A W E G15 5 (
+            tt,
+            (
+              tt,
+              (
+                tt,
+                (
+                  tt,
+                  (
+                    tt,
+                    (
+                      tt,
+                      (
+                        tt,
+                        (
+                          tt,
+                          (
+                            tt,
+                            (
+                              tt,
+                              (
+                                tt,
+                                (tt, (tt, (tt, (tt, (tt, (tt, (tt, (tt, (tt, (tt, (tt, (tt, (tt, (tt, tt)))))))))))))),
+                              ),
+                            ),
+                          ),
+                        ),
+                      ),
+                    ),
+                  ),
+                ),
+              ),
+            ),
+          )) d38
+
           d40 : Typed.Typed 𝓤 H A 𝓣 E G14 b30 Δ0 at40
-          d40 = Typed.g-pre 𝓤 H A W 𝓣 E G14 G15 b30 Δ0 (λ Ψ. Ψ) at39 (Lifetime.g-forget 𝓤 H A W E G14 4 Row.dead Path.refl) d39
+          d40 = Typed.g-pre 𝓤 H A W 𝓣 E G14 G15 b30 Δ0 (λ Ψ. Ψ) at39
+              (Lifetime.g-forget 𝓤 H A W E G14 4 Row.dead Path.refl) d39
+
           d41 : Typed.Typed 𝓤 H A 𝓣 E G13 b30 Δ0 at41
-          d41 = Typed.g-pre 𝓤 H A W 𝓣 E G13 G14 b30 Δ0 (Typed.both s12) at40 (Relend.g-back-sl 𝓤 H A W E InflightAction.row G13 14 3 2 4 ref6 ref0
-              life0 (λ x. x) (λ x. x) (Reads'.as-is 𝓤 H A (Mut.msleft InflightAction.row ref0)) (Reads'.as-is 𝓤 H A (Relend.mslice-owed
-              InflightAction.row ref6 2 4 life0)) Path.refl Path.refl) d40
+          d41 = Typed.g-pre 𝓤 H A W 𝓣 E G13 G14 b30 Δ0 (Typed.both s12) at40 (Relend.g-back-sl 𝓤 H A W E
+              InflightAction.row G13 14 3 2 4 ref6 ref0 life0 (λ x. x) (λ x. x)
+              (Reads'.as-is 𝓤 H A (Mut.msleft InflightAction.row ref0)) (Reads'.as-is 𝓤 H A
+              (Relend.mslice-owed InflightAction.row ref6 2 4 life0)) Path.refl Path.refl) d40
+
           d42 : Typed.Typed 𝓤 H A 𝓣 E G12 b30 Δ0 at42
           d42 = Typed.g-pre 𝓤 H A W 𝓣 E G12 G13 b30 Δ0 (λ Ψ. Ψ) at41 (Lifetime.g-end 𝓤 H A W E G12 4 Path.refl) d41
+
           d43 : Typed.Typed 𝓤 H A 𝓣 E G11 b30 Δ0 at43
-          d43 = Typed.g-pre 𝓤 H A W 𝓣 E G11 G12 b30 Δ0 (Typed.pass T11 T12 s10) at42 (Scalar.g-room 𝓤 H A W E G11 12 Syntax.tyUnit (Scalar.room-sc 𝓤 H
-              A W Row.sUnit)) d42
+          d43 = Typed.g-pre 𝓤 H A W 𝓣 E G11 G12 b30 Δ0 (Typed.pass T11 T12 s10) at42 (Scalar.g-room 𝓤 H A W E G11 12
+              Syntax.tyUnit (Scalar.room-sc 𝓤 H A W Row.sUnit)) d42
+
           d44 : Typed.Typed 𝓤 H A 𝓣 E G10 b30 Δ0 at44
-          d44 = Typed.g-pre 𝓤 H A W 𝓣 E G10 G11 b30 Δ0 (Typed.pass T10 T11 s9) at43 (Scalar.g-room 𝓤 H A W E G10 9 InflightAction.ty (Local.room-whole
-              𝓤 H A W InflightAction.row InflightAction.ty Path.refl)) d43
+          d44 = Typed.g-pre 𝓤 H A W 𝓣 E G10 G11 b30 Δ0 (Typed.pass T10 T11 s9) at43 (Scalar.g-room 𝓤 H A W E G10 9
+              InflightAction.ty (Local.room-whole 𝓤 H A W InflightAction.row InflightAction.ty Path.refl)) d43
+
           d45 : Typed.Typed 𝓤 H A 𝓣 E G9 b31 Δ0 at45
-          d45 = Typed.s-seq 𝓤 H A W 𝓣 E G9 G10 b5 b30 Δ0 (Typed.both s8) at44 (Plain.t-call-plain 𝓤 H A W 𝓣 1 ps·2 r·2 (claims· .4) (claims· .5)
-              "hnsr_circuit::tables::inflight::set_action" (known .2) E (λ pos β. β) G9 (record { pos = 14; ty = Syntax.tyRef Syntax.erased Syntax.mut
-              InflightAction.to; ref = λ x. x; }, (Bool.bLit Bool'.true, (Num.vFld 10 ((Syntax.field 0) ∷ List.[]) 0 λ x. SettlePlan.struct .as-values
-              x .0, (record { pos = 9; st = List.[]; d = 0; at = λ x. x }, tt),),),) 12 (4 ∷ List.[]) (Call.sub-id 𝓤 H A W (G9 .slots)) (Reads'.as-is
-              𝓤 H A (Mut.mslice InflightAction.row ref0 4), Mut.reads-mslice 𝓤 H A W InflightAction.row ref0 4, Path.refl, (tt, ((Reads.reads-field 𝓤
-              H A W SettlePlan.the-type Laws.the-laws 0 (Syntax.tyInt Syntax.w64) 0 Path.refl, Path.refl,), ((Yields.yields-copy 𝓤 H A W (λ ρ. Unit)
-              InflightAction.row Path.refl (InflightAction.copies .copy 𝓤 H A W) InflightAction.held (λ x. x) (λ x. x) (λ ρ told. Local.mem-whole 𝓤 H
-              A W InflightAction.row ρ) λ ρ told. Local.whole-mem 𝓤 H A W InflightAction.row ρ, Path.refl,), tt,),),),) (Reads'.room-gone 𝓤 H A
-              Syntax.tyUnit) (tt, tt) Path.refl) d44
+          d45 = Typed.s-seq 𝓤 H A W 𝓣 E G9 G10 b5 b30 Δ0 (Typed.both s8) at44 (Plain.t-call-plain 𝓤 H A W 𝓣 1 ps·2 r·2
+              (claims· .4) (claims· .5) "hnsr_circuit::tables::inflight::set_action" (known .2) E (λ pos β. β) G9 (
+                record { pos = 14; ty = ref0; ref = λ x. x },
+                (
+                  Bool.bLit Bool'.true,
+                  (
+                    Num.vFld 10 ((Syntax.field 0) ∷ List.[]) 0 λ x. SettlePlan.struct .as-values x .0,
+                    (record { pos = 9; st = List.[]; d = 0; at = λ x. x }, tt),
+                  ),
+                ),
+              ) 12 (4 ∷ List.[]) (Call.sub-id 𝓤 H A W (G9 .slots)) (
+                Reads'.as-is 𝓤 H A (Mut.mslice InflightAction.row ref0 4),
+                Mut.reads-mslice 𝓤 H A W InflightAction.row ref0 4,
+                Path.refl,
+                (
+                  tt,
+                  (
+                    (
+                      Reads.reads-field 𝓤 H A W SettlePlan.the-type Laws.the-laws 0 (Syntax.tyInt Syntax.w64) 0
+                          Path.refl,
+                      Path.refl,
+                    ),
+                    (
+                      (
+                        Yields.yields-copy 𝓤 H A W (λ ρ. Unit) InflightAction.row Path.refl
+                            (InflightAction.copies .copy 𝓤 H A W) InflightAction.held (λ x. x) (λ x. x)
+                            (λ ρ told. Local.mem-whole 𝓤 H A W InflightAction.row ρ) λ ρ told. Local.whole-mem 𝓤 H A W
+                            InflightAction.row ρ,
+                        Path.refl,
+                      ),
+                      tt,
+                    ),
+                  ),
+                ),
+              ) (Reads'.room-gone 𝓤 H A Syntax.tyUnit) (tt, tt) Path.refl) d44
+
           d46 : Typed.Typed 𝓤 H A 𝓣 E G8 b32 Δ0 at46
-          d46 = Typed.s-seq 𝓤 H A W 𝓣 E G8 G9 b4 b31 Δ0 (Typed.ask s7) at45 (Relend.t-sl-aggregate 𝓤 H A W E InflightAction.row 𝓣 (Relend.asMut
-              InflightAction.row) G8 13 14 4 ref0 ref0 (λ x. x) (Scalar.oFld 3 ((Syntax.field 1) ∷ List.[]) (Syntax.tyInt Syntax.w64) 8 λ v.
-              Shared.lenV (v .0)) (Reads'.as-is 𝓤 H A (Relend.msptr InflightAction.row ref0 4)) (Reads'.room-gone 𝓤 H A (Syntax.tyStruct (38 ∷ 91 ∷ 93
-              ∷ List.[]) (Syntax.tcons ref0 (Syntax.tcons (Syntax.tyInt Syntax.w64) Syntax.tnil)))) (Relend.reads-owed-len 𝓤 H A W InflightAction.row
-              ref6 2 4 life0 8 Path.refl, Path.refl,) Path.refl Path.refl λ b o k. tt) d45
+          d46 = Typed.s-seq 𝓤 H A W 𝓣 E G8 G9 b4 b31 Δ0 (Typed.ask s7) at45 (Relend.t-sl-aggregate 𝓤 H A W E
+              InflightAction.row 𝓣 (Relend.asMut InflightAction.row) G8 13 14 4 ref0 ref0 (λ x. x) (Scalar.oFld 3
+              ((Syntax.field 1) ∷ List.[]) (Syntax.tyInt Syntax.w64) 8 λ v. Shared.lenV (v .0)) (Reads'.as-is 𝓤 H A
+              (Relend.msptr InflightAction.row ref0 4)) (Reads'.room-gone 𝓤 H A slice0) (
+                Relend.reads-owed-len 𝓤 H A W InflightAction.row ref6 2 4 life0 8 Path.refl,
+                Path.refl,
+              ) Path.refl Path.refl λ b o k. tt) d45
+
           d47 : Typed.Typed 𝓤 H A 𝓣 E G7 b33 Δ0 at47
-          d47 = Typed.s-seq 𝓤 H A W 𝓣 E G7 G8 b3 b32 Δ0 (Typed.give s6) at46 (Relend.t-sl-relend 𝓤 H A W E InflightAction.row 𝓣 G7 3 13 2 4 ref6 ref0
-              life0 0 (λ x. x) (Reads'.as-is 𝓤 H A (Mut.mslice InflightAction.row ref6 2)) (Reads'.room-gone 𝓤 H A ref0) Path.refl tt Path.refl
-              Path.refl Path.refl λ b o. tt) d46
+          d47 = Typed.s-seq 𝓤 H A W 𝓣 E G7 G8 b3 b32 Δ0 (Typed.give s6) at46 (Relend.t-sl-relend 𝓤 H A W E
+              InflightAction.row 𝓣 G7 3 13 2 4 ref6 ref0 life0 0 (λ x. x)
+              (Reads'.as-is 𝓤 H A (Mut.mslice InflightAction.row ref6 2)) (Reads'.room-gone 𝓤 H A ref0) Path.refl tt
+              Path.refl Path.refl Path.refl λ b o. tt) d46
+
           d48 : Typed.Typed 𝓤 H A 𝓣 E G6 b33 Δ0 at48
-          d48 = Typed.g-pre 𝓤 H A W 𝓣 E G6 G7 b33 Δ0 (λ Ψ. Ψ) at47 (Lifetime.g-begin 𝓤 H A W E G6 4 (tt, (tt, (tt, (tt, (tt, (tt, (tt, (tt, (tt, (tt,
-              (tt, (tt, (tt, (tt, (tt, (tt, (tt, (tt, (tt, (tt, (tt, (tt, (tt, (tt, (tt, tt)))))),),),),),),),),),),),),),),),),),),),)) d47
+          d48 = Typed.g-pre 𝓤 H A W 𝓣 E G6 G7 b33 Δ0 (λ Ψ. Ψ) at47 (Lifetime.g-begin 𝓤 H A W E G6 4 (
+            tt,
+            (
+              tt,
+              (
+                tt,
+                (
+                  tt,
+                  (
+                    tt,
+                    (
+                      tt,
+                      (
+                        tt,
+                        (
+                          tt,
+                          (
+                            tt,
+                            (
+                              tt,
+                              (
+                                tt,
+                                (tt, (tt, (tt, (tt, (tt, (tt, (tt, (tt, (tt, (tt, (tt, (tt, (tt, (tt, tt)))))))))))))),
+                              ),
+                            ),
+                          ),
+                        ),
+                      ),
+                    ),
+                  ),
+                ),
+              ),
+            ),
+          )) d47
+
           d49 : Typed.Typed 𝓤 H A 𝓣 E G5 b34 Δ0 at49
-          d49 = Typed.s-seq 𝓤 H A W 𝓣 E G5 G6 b2 b33 Δ0 (Typed.pass T5 T6 s4) at48 (CopyOut.t-copy-told 𝓤 H A W E 𝓣 (Declared.row RelaySide.the-type)
-              Path.refl (Laws''''''.val RelaySide.the-type Laws'''.the-laws) (Laws''''''.lawful RelaySide.the-type Laws'''.the-laws 𝓤 H A W tt)
-              (Laws''''''.makes RelaySide.the-type Laws'''.the-plain 𝓤 H A) G5 11 (Scalar.oFld 10 ((Syntax.field 3) ∷ List.[]) Laws'''.mir 17 λ x.
-              Laws''''''.val RelaySide.the-type Laws'''.the-laws (SettlePlan.struct .as-values x .1 .1 .1 .0)) (λ m. SettlePlan.struct .as-values (m
-              .1 .1 .1 .1 .1 .1 .1 .1 .1 .1 .0) .1 .1 .1 .0) (λ m. Laws'''''''.Is (Declared'.row SettlePlan.the-type) (m .1 .1 .1 .1 .1 .1 .1 .1 .1 .1
-              .0) (Laws''''''''.vals SettlePlan.the-type Laws.the-laws (m .1 .1 .1 .1 .1 .1 .1 .1 .1 .1 .0))) (Reads'.room-gone 𝓤 H A Laws'''.mir)
-              (Reads.reads-field 𝓤 H A W SettlePlan.the-type Laws.the-laws 3 Laws'''.mir 17 Path.refl, Path.refl,) Path.refl (λ ρ m. Make.tells-row 𝓤
-              H A W E ρ (Row.out 11 (G5 .locals)) m 10 (Laws'''''''.Is (Declared'.row SettlePlan.the-type) (m .1 .1 .1 .1 .1 .1 .1 .1 .1 .1 .0)
-              (Laws''''''''.vals SettlePlan.the-type Laws.the-laws (m .1 .1 .1 .1 .1 .1 .1 .1 .1 .1 .0))) (Make.whole-is 𝓤 H A W E (Declared'.row
-              SettlePlan.the-type) Path.refl (Laws''''''''.val SettlePlan.the-type Laws.the-laws) (Laws''''''''.tells SettlePlan.the-type
-              Laws.the-laws) ρ 10 (m .1 .1 .1 .1 .1 .1 .1 .1 .1 .1 .0))) (λ m k wa. Path.refl) λ m k wa. Laws''''''''.owed SettlePlan.the-type
-              Laws.the-laws (m .1 .1 .1 .1 .1 .1 .1 .1 .1 .1 .0) (Laws''''''''.vals SettlePlan.the-type Laws.the-laws (m .1 .1 .1 .1 .1 .1 .1 .1 .1 .1
-              .0)) k .1 .1 .1 .0) d48
+          d49 = Typed.s-seq 𝓤 H A W 𝓣 E G5 G6 b2 b33 Δ0 (Typed.pass T5 T6 s4) at48 (CopyOut.t-copy-told 𝓤 H A W E 𝓣
+              (Declared.row RelaySide.the-type) Path.refl (Laws''''''.val RelaySide.the-type Laws'''.the-laws) (Laws''''''.lawful
+              RelaySide.the-type Laws'''.the-laws 𝓤 H A W tt) (Laws''''''.makes RelaySide.the-type Laws'''.the-plain 𝓤
+              H A) G5 11 (Scalar.oFld 10 ((Syntax.field 3) ∷ List.[]) Laws'''.mir 17 λ x. Laws''''''.val
+              RelaySide.the-type Laws'''.the-laws (SettlePlan.struct .as-values x .1 .1 .1 .0)) (λ m. SettlePlan.struct
+              .as-values (m .1 .1 .1 .1 .1 .1 .1 .1 .1 .1 .0) .1 .1 .1 .0) (λ m. Laws'''''''.Is
+              (Declared'.row SettlePlan.the-type) (m .1 .1 .1 .1 .1 .1 .1 .1 .1 .1 .0) (Laws''''''''.vals
+              SettlePlan.the-type Laws.the-laws (m .1 .1 .1 .1 .1 .1 .1 .1 .1 .1 .0)))
+              (Reads'.room-gone 𝓤 H A Laws'''.mir) (
+                Reads.reads-field 𝓤 H A W SettlePlan.the-type Laws.the-laws 3 Laws'''.mir 17 Path.refl,
+                Path.refl,
+              ) Path.refl (λ ρ m. Make.tells-row 𝓤 H A W E ρ (Row.out 11 (G5 .locals)) m 10 (Laws'''''''.Is
+              (Declared'.row SettlePlan.the-type) (m .1 .1 .1 .1 .1 .1 .1 .1 .1 .1 .0) (Laws''''''''.vals
+              SettlePlan.the-type Laws.the-laws (m .1 .1 .1 .1 .1 .1 .1 .1 .1 .1 .0))) (Make.whole-is 𝓤 H A W E
+              (Declared'.row SettlePlan.the-type) Path.refl (Laws''''''''.val SettlePlan.the-type Laws.the-laws)
+              (Laws''''''''.tells SettlePlan.the-type Laws.the-laws) ρ 10 (m .1 .1 .1 .1 .1 .1 .1 .1 .1 .1 .0)))
+              (λ m k wa. Path.refl) λ m k wa. Laws''''''''.owed SettlePlan.the-type Laws.the-laws
+              (m .1 .1 .1 .1 .1 .1 .1 .1 .1 .1 .0) (Laws''''''''.vals SettlePlan.the-type Laws.the-laws
+              (m .1 .1 .1 .1 .1 .1 .1 .1 .1 .1 .0)) k .1 .1 .1 .0) d48
+
           d50 : Typed.Typed 𝓤 H A 𝓣 E G4 b34 Δ0 at50
-          d50 = Typed.g-pre 𝓤 H A W 𝓣 E G4 G5 b34 Δ0 (Typed.pass T4 T5 s3) at49 (Scalar.g-room 𝓤 H A W E G4 7 Laws''.mir (Local.room-whole 𝓤 H A W
-              (Declared'.row ActionFound.the-type) Laws''.mir Path.refl)) d49
+          d50 = Typed.g-pre 𝓤 H A W 𝓣 E G4 G5 b34 Δ0 (Typed.pass T4 T5 s3) at49 (Scalar.g-room 𝓤 H A W E G4 7
+              Laws''.mir (Local.room-whole 𝓤 H A W (Declared'.row ActionFound.the-type) Laws''.mir Path.refl)) d49
+
           d51 : Typed.Typed 𝓤 H A 𝓣 E G3 b35 Δ0 at51
-          d51 = Typed.s-seq 𝓤 H A W 𝓣 E G3 G4 b1 b34 Δ0 (Typed.both s2) at50 (Plain.t-call-plain 𝓤 H A W 𝓣 0 ps·1 r·1 (claims· .2) (claims· .3)
-              "hnsr_circuit::acknowledge::settle_plan" (known .1) E (λ pos β. β) G3 (record { pos = 7; st = List.[]; d = 0; at = λ x. x }, (Bool.bAt 8
-              λ x. x, tt)) 10 List.[] (Call.sub-id 𝓤 H A W (G3 .slots)) ((Yields.yields-copy 𝓤 H A W (λ ρ. Unit) (Declared'.row ActionFound.the-type)
-              Path.refl (Copies.cStruct ActionFound.the-type Laws''.the-laws Laws''.the-copy .copy 𝓤 H A W) (Rows.whole (Declared'.row
-              ActionFound.the-type)) (λ x. x) (λ x. x) (λ ρ told. Local.mem-whole 𝓤 H A W (Declared'.row ActionFound.the-type) ρ) λ ρ told.
-              Local.whole-mem 𝓤 H A W (Declared'.row ActionFound.the-type) ρ, Path.refl,), ((Scalar.reads-sc 𝓤 H A W Row.sBool, Path.refl), tt),)
-              (Reads'.room-gone 𝓤 H A Laws.mir) tt Path.refl) d50
+          d51 = Typed.s-seq 𝓤 H A W 𝓣 E G3 G4 b1 b34 Δ0 (Typed.both s2) at50 (Plain.t-call-plain 𝓤 H A W 𝓣 0 ps·1 r·1
+              (claims· .2) (claims· .3) "hnsr_circuit::acknowledge::settle_plan" (known .1) E (λ pos β. β) G3 (
+                record { pos = 7; st = List.[]; d = 0; at = λ x. x },
+                (Bool.bAt 8 λ x. x, tt),
+              ) 10 List.[] (Call.sub-id 𝓤 H A W (G3 .slots)) (
+                (
+                  Yields.yields-copy 𝓤 H A W (λ ρ. Unit) (Declared'.row ActionFound.the-type) Path.refl (Copies.cStruct
+                      ActionFound.the-type Laws''.the-laws Laws''.the-copy .copy 𝓤 H A W)
+                      (Rows.whole (Declared'.row ActionFound.the-type)) (λ x. x) (λ x. x) (λ ρ told. Local.mem-whole 𝓤
+                      H A W (Declared'.row ActionFound.the-type) ρ) λ ρ told. Local.whole-mem 𝓤 H A W
+                      (Declared'.row ActionFound.the-type) ρ,
+                  Path.refl,
+                ),
+                ((Scalar.reads-sc 𝓤 H A W Row.sBool, Path.refl), tt),
+              ) (Reads'.room-gone 𝓤 H A Laws.mir) tt Path.refl) d50
+
           d52 : Typed.Typed 𝓤 H A 𝓣 E G2 b36 Δ0 at52
-          d52 = Typed.s-seq 𝓤 H A W 𝓣 E G2 G3 b0 b35 Δ0 (Typed.both s1) at51 (Plain.t-call-plain 𝓤 H A W 𝓣 0 ps·0 r·0 (claims· .0) (claims· .1)
-              "hnsr_circuit::acknowledge::action_gone" (known .0) E (λ pos β. β) G2 (record { pos = 7; st = List.[]; d = 0; at = λ x. x }, tt) 9
-              List.[] (Call.sub-id 𝓤 H A W (G2 .slots)) ((Yields.yields-copy 𝓤 H A W (λ ρ. Unit) (Declared'.row ActionFound.the-type) Path.refl
-              (Copies.cStruct ActionFound.the-type Laws''.the-laws Laws''.the-copy .copy 𝓤 H A W) (Rows.whole (Declared'.row ActionFound.the-type)) (λ
-              x. x) (λ x. x) (λ ρ told. Local.mem-whole 𝓤 H A W (Declared'.row ActionFound.the-type) ρ) λ ρ told. Local.whole-mem 𝓤 H A W
-              (Declared'.row ActionFound.the-type) ρ, Path.refl,), tt,) (Reads'.room-gone 𝓤 H A InflightAction.ty) tt Path.refl) d51
+          d52 = Typed.s-seq 𝓤 H A W 𝓣 E G2 G3 b0 b35 Δ0 (Typed.both s1) at51 (Plain.t-call-plain 𝓤 H A W 𝓣 0 ps·0 r·0
+              (claims· .0) (claims· .1) "hnsr_circuit::acknowledge::action_gone" (known .0) E (λ pos β. β) G2
+              (record { pos = 7; st = List.[]; d = 0; at = λ x. x }, tt) 9 List.[] (Call.sub-id 𝓤 H A W (G2 .slots)) (
+                (
+                  Yields.yields-copy 𝓤 H A W (λ ρ. Unit) (Declared'.row ActionFound.the-type) Path.refl (Copies.cStruct
+                      ActionFound.the-type Laws''.the-laws Laws''.the-copy .copy 𝓤 H A W)
+                      (Rows.whole (Declared'.row ActionFound.the-type)) (λ x. x) (λ x. x) (λ ρ told. Local.mem-whole 𝓤
+                      H A W (Declared'.row ActionFound.the-type) ρ) λ ρ told. Local.whole-mem 𝓤 H A W
+                      (Declared'.row ActionFound.the-type) ρ,
+                  Path.refl,
+                ),
+                tt,
+              ) (Reads'.room-gone 𝓤 H A InflightAction.ty) tt Path.refl) d51
+
           d53 : Typed.Typed 𝓤 H A 𝓣 E G0 b36 Δ0 at53
-          d53 = Typed.g-pre 𝓤 H A W 𝓣 E G0 G2 b36 Δ0 (Typed.give s0) at52 (Know.g-sl-known 𝓤 H A W (Referent.fInt Syntax.w32) E G0 4 3 ref7 life3 0 (λ
-              x. x) record { fits = Dec.lit< tt } (Reads'.as-is 𝓤 H A (Mut.mslice (Referent.rtF (Referent.fInt Syntax.w32)) ref7 3)) Path.refl tt) d52
+          d53 = Typed.g-pre 𝓤 H A W 𝓣 E G0 G2 b36 Δ0 (Typed.give s0) at52 (Know.g-sl-known 𝓤 H A W
+              (Referent.fInt Syntax.w32) E G0 4 3 ref7 life3 0 (λ x. x) record { fits = Dec.lit< tt } (Reads'.as-is 𝓤 H
+              A (Mut.mslice (Referent.rtF (Referent.fInt Syntax.w32)) ref7 3)) Path.refl tt) d52
+
           pub typed : Typed.Typed 𝓤 H A 𝓣 E (Function.Γin 4 ps r xs m κs qs) b36 (Function.Δret 4 ps r xs m κs qs) Φ
           typed = d53
+
       module _ (κs : Lifetimes.Lfts 4) where
         pub record Args : Type 0 where
-          pub pending : Kinds.Den { n = 4 } κs (MutSlice.pMutS RelayPending.row 0 tt)
-          pub circuits : Kinds.Den { n = 4 } κs (MutSlice.pMutS RelayCircuit.row 1 tt)
-          pub inflight : Kinds.Den { n = 4 } κs (MutSlice.pMutS InflightAction.row 2 tt)
-          pub out : Kinds.Den { n = 4 } κs (MutSlice.pMutS (Referent.rtF (Referent.fInt Syntax.w32)) 3 tt)
-          pub runtime : Kinds.Den { n = 4 } κs (Value.pVal record { ty = Declared'.row OpaqueRelayRuntime.the-type; one = Path.refl; val =
-              Laws''''''''.val OpaqueRelayRuntime.the-type Laws''''.the-laws; tells = Laws''''''''.tells OpaqueRelayRuntime.the-type
-              Laws''''.the-laws; still = Laws''''''''.still OpaqueRelayRuntime.the-type Laws''''.the-copy Exit.yes; row = Rows.whole (Declared'.row
-              OpaqueRelayRuntime.the-type); rd = λ x. x; mk = λ x. x; } λ M 𝓤 H A W. record { copies = Laws''''''''.copy OpaqueRelayRuntime.the-type
-              Laws''''.the-copy 𝓤 H A W; lawful = Laws''''''''.lawful OpaqueRelayRuntime.the-type Laws''''.the-laws 𝓤 H A W; makes =
-              Laws''''''''.makes OpaqueRelayRuntime.the-type Laws''''.the-plain 𝓤 H A; in-mem = Local.mem-whole 𝓤 H A W (Declared'.row
-              OpaqueRelayRuntime.the-type); of-mem = Local.whole-mem 𝓤 H A W (Declared'.row OpaqueRelayRuntime.the-type); })
-          pub places : Kinds.Den { n = 4 } κs (Value.pVal record { ty = Declared'.row Places.the-type; one = Path.refl; val = Laws''''''''.val
-              Places.the-type Laws'.the-laws; tells = Laws''''''''.tells Places.the-type Laws'.the-laws; still = Laws''''''''.still Places.the-type
-              Laws'.the-copy Exit.yes; row = Rows.whole (Declared'.row Places.the-type); rd = λ x. x; mk = λ x. x; } λ M 𝓤 H A W. record { copies =
-              Laws''''''''.copy Places.the-type Laws'.the-copy 𝓤 H A W; lawful = Laws''''''''.lawful Places.the-type Laws'.the-laws 𝓤 H A W; makes =
-              Laws''''''''.makes Places.the-type Laws'.the-plain 𝓤 H A; in-mem = Local.mem-whole 𝓤 H A W (Declared'.row Places.the-type); of-mem =
-              Local.whole-mem 𝓤 H A W (Declared'.row Places.the-type); })
-          pub found : Kinds.Den { n = 4 } κs (Value.pVal record { ty = Declared'.row ActionFound.the-type; one = Path.refl; val = Laws''''''''.val
-              ActionFound.the-type Laws''.the-laws; tells = Laws''''''''.tells ActionFound.the-type Laws''.the-laws; still = Laws''''''''.still
-              ActionFound.the-type Laws''.the-copy Exit.yes; row = Rows.whole (Declared'.row ActionFound.the-type); rd = λ x. x; mk = λ x. x; } λ M 𝓤
-              H A W. record { copies = Laws''''''''.copy ActionFound.the-type Laws''.the-copy 𝓤 H A W; lawful = Laws''''''''.lawful
-              ActionFound.the-type Laws''.the-laws 𝓤 H A W; makes = Laws''''''''.makes ActionFound.the-type Laws''.the-plain 𝓤 H A; in-mem =
-              Local.mem-whole 𝓤 H A W (Declared'.row ActionFound.the-type); of-mem = Local.whole-mem 𝓤 H A W (Declared'.row ActionFound.the-type); })
-          pub delivered : Kinds.Den { n = 4 } κs Bool.pBool
+          pub pending : Kinds.Den {n = 4} κs (MutSlice.pMutS RelayPending.row 0 tt)
+          pub circuits : Kinds.Den {n = 4} κs (MutSlice.pMutS RelayCircuit.row 1 tt)
+          pub inflight : Kinds.Den {n = 4} κs (MutSlice.pMutS InflightAction.row 2 tt)
+          pub out : Kinds.Den {n = 4} κs (MutSlice.pMutS (Referent.rtF (Referent.fInt Syntax.w32)) 3 tt)
+          pub runtime : Kinds.Den {n = 4} κs (StructRow.param OpaqueRelayRuntime.the-type Laws''''.the-laws
+              Laws''''.the-copy Laws''''.the-plain)
+          pub places : Kinds.Den {n = 4} κs (StructRow.param Places.the-type Laws'.the-laws Laws'.the-copy
+              Laws'.the-plain)
+          pub found : Kinds.Den {n = 4} κs (StructRow.param ActionFound.the-type Laws''.the-laws Laws''.the-copy
+              Laws''.the-plain)
+          pub delivered : Kinds.Den {n = 4} κs Bool.pBool
+
         abbrev pub dens : (a : Args) → Kinds.Dens κs ps
-        dens = λ a. (a .pending, (a .circuits, (a .inflight, (a .out, (a .runtime, (a .places, (a .found, (a .delivered, tt))))),),),)
+        dens = λ a. (
+          a .pending,
+          (a .circuits, (a .inflight, (a .out, (a .runtime, (a .places, (a .found, (a .delivered, tt))))))),
+        )
+
       abbrev pub m0 : (κs : Lifetimes.Lfts 4) → (args : Args κs) → Typed.Mo T0
       m0 = λ κs args. (tt, Enter.partsP κs 1 ps xs (dens κs args))
+
       abbrev W0 : (κs : Lifetimes.Lfts 4) → (args : Args κs) → Typed.Want O0
-      W0 = λ κs args. (λ u. ⊥, tt, λ u. Enter.Fixs κs 1 ps xs (dens κs args) (u .1) × Post· κs (dens κs args) (Function.resV r κs (u .0))
-          (Clauses.atExit (Kinds.endedOf 4 ps r) κs (dens κs args) (Enter.lastsP κs 1 ps xs (dens κs args) (u .1))),)
+      W0 = λ κs args. (
+        λ u. ⊥,
+        tt,
+        λ u. Enter.Fixs κs 1 ps xs (dens κs args) (u .1) × Post· κs (dens κs args) (Function.resV r κs (u .0)) (Clauses.atExit
+            (Kinds.endedOf 4 ps r) κs (dens κs args) (Enter.lastsP κs 1 ps xs (dens κs args) (u .1))),
+      )
+
       pub record Start : Type 0 where
         pub κs : Lifetimes.Lfts 4
         pub args : Args κs
         pub good : Kinds.GoodsP κs ps (dens κs args)
         pub pre : Pre· κs (dens κs args)
+
       abbrev pub m1 : (before : Start) → (given : s0 .gives (m0 (before .κs) (before .args))) → Typed.Mo T2
       m1 = λ before given. s0 .next (m0 (before .κs) (before .args)) given
+
       module _ (before· : Start) where
         pub record After-slice-known·own : Type 0 where
           pub given : s0 .gives (m0 (before· .κs) (before· .args))
+
       pub record After-slice-known : Type 0 where
         pub before : Start
         pub slice-known : After-slice-known·own before
+
       abbrev pub Need-action-gone-requires : Type 0
       Need-action-gone-requires = (c : After-slice-known) → s1 .asks (m1 (c .before) (c .slice-known .given))
-      abbrev pub m2 : (before : After-slice-known) → (given : s1 .gives (m1 (before .before) (before .slice-known .given))) → Typed.Mo T3
+
+      abbrev pub m2 : (before : After-slice-known) → (given : s1 .gives
+          (m1 (before .before) (before .slice-known .given))) → Typed.Mo T3
       m2 = λ before given. s1 .next (m1 (before .before) (before .slice-known .given)) given
+
       module _ (before· : After-slice-known) where
         abbrev pub After-action-gone·own : Type 0
-        After-action-gone·own = Called.Called ps·0 r·0 (claims· .1) T2 (record { pos = 7; st = List.[]; d = 0; at = λ x. x }, tt,) (m1 (before·
-            .before) (before· .slice-known .given))
+        After-action-gone·own = Called.Called ps·0 r·0 (claims· .1) T2 args1
+            (m1 (before· .before) (before· .slice-known .given))
+
       pub record After-action-gone : Type 0 where
         pub before : After-slice-known
         pub action-gone : After-action-gone·own before
-      abbrev pub After-action-gone·gave : (c : After-action-gone) → s1 .gives (m1 (c .before .before) (c .before .slice-known .given))
-      After-action-gone·gave = λ c. Called.given ps·0 r·0 (claims· .1) T2 (record { pos = 7; st = List.[]; d = 0; at = λ x. x }, tt,) (m1 (c .before
-          .before) (c .before .slice-known .given)) (c .action-gone)
+
+      abbrev pub After-action-gone·gave : (c : After-action-gone) → s1 .gives
+          (m1 (c .before .before) (c .before .slice-known .given))
+      After-action-gone·gave = λ c. Called.given ps·0 r·0 (claims· .1) T2 args1
+          (m1 (c .before .before) (c .before .slice-known .given)) (c .action-gone)
+
       abbrev pub Need-settle-plan-requires : Type 0
       Need-settle-plan-requires = (c : After-action-gone) → s2 .asks (m2 (c .before) (After-action-gone·gave c))
-      abbrev pub m3 : (before : After-action-gone) → (given : s2 .gives (m2 (before .before) (After-action-gone·gave before))) → Typed.Mo T4
+
+      abbrev pub m3 : (before : After-action-gone) → (given : s2 .gives
+          (m2 (before .before) (After-action-gone·gave before))) → Typed.Mo T4
       m3 = λ before given. s2 .next (m2 (before .before) (After-action-gone·gave before)) given
+
       module _ (before· : After-action-gone) where
         abbrev pub After-settle-plan·own : Type 0
-        After-settle-plan·own = Called.Called ps·1 r·1 (claims· .3) T3 (record { pos = 7; st = List.[]; d = 0; at = λ x. x }, (Bool.bAt 8 λ x. x,
-            tt),) (m2 (before· .before) (After-action-gone·gave before·))
+        After-settle-plan·own = Called.Called ps·1 r·1 (claims· .3) T3 args2
+            (m2 (before· .before) (After-action-gone·gave before·))
+
       pub record After-settle-plan : Type 0 where
         pub before : After-action-gone
         pub settle-plan : After-settle-plan·own before
-      abbrev pub After-settle-plan·gave : (c : After-settle-plan) → s2 .gives (m2 (c .before .before) (After-action-gone·gave (c .before)))
-      After-settle-plan·gave = λ c. Called.given ps·1 r·1 (claims· .3) T3 (record { pos = 7; st = List.[]; d = 0; at = λ x. x }, (Bool.bAt 8 λ x. x,
-          tt),) (m2 (c .before .before) (After-action-gone·gave (c .before))) (c .settle-plan)
-      abbrev pub m4 : (before : After-action-gone) → (given : s2 .gives (m2 (before .before) (After-action-gone·gave before))) → Typed.Mo T5
+
+      abbrev pub After-settle-plan·gave : (c : After-settle-plan) → s2 .gives (m2 (c .before .before)
+          (After-action-gone·gave (c .before)))
+      After-settle-plan·gave = λ c. Called.given ps·1 r·1 (claims· .3) T3 args2 (m2 (c .before .before)
+          (After-action-gone·gave (c .before))) (c .settle-plan)
+
+      abbrev pub m4 : (before : After-action-gone) → (given : s2 .gives
+          (m2 (before .before) (After-action-gone·gave before))) → Typed.Mo T5
       m4 = λ before given. s3 (m3 before given)
-      abbrev pub m5 : (before : After-action-gone) → (given : s2 .gives (m2 (before .before) (After-action-gone·gave before))) → Typed.Mo T6
+
+      abbrev pub m5 : (before : After-action-gone) → (given : s2 .gives
+          (m2 (before .before) (After-action-gone·gave before))) → Typed.Mo T6
       m5 = λ before given. s4 (m4 before given)
-      abbrev pub m6 : (before : After-settle-plan) → (given : s6 .gives (m5 (before .before) (After-settle-plan·gave before))) → Typed.Mo T8
+
+      abbrev pub m6 : (before : After-settle-plan) → (given : s6 .gives
+          (m5 (before .before) (After-settle-plan·gave before))) → Typed.Mo T8
       m6 = λ before given. s6 .next (m5 (before .before) (After-settle-plan·gave before)) given
-      abbrev pub m7 : (before : After-settle-plan) → (given : s6 .gives (m5 (before .before) (After-settle-plan·gave before))) → Typed.Mo T9
+
+      abbrev pub m7 : (before : After-settle-plan) → (given : s6 .gives
+          (m5 (before .before) (After-settle-plan·gave before))) → Typed.Mo T9
       m7 = λ before given. s7 .next (m6 before given)
+
       module _ (before· : After-settle-plan) where
         pub record After-set-action-arg·own : Type 0 where
           pub given : s6 .gives (m5 (before· .before) (After-settle-plan·gave before·))
+
       pub record After-set-action-arg : Type 0 where
         pub before : After-settle-plan
         pub set-action-arg : After-set-action-arg·own before
+
       abbrev pub Need-set-action-requires : Type 0
       Need-set-action-requires = (c : After-set-action-arg) → s8 .asks (m7 (c .before) (c .set-action-arg .given))
-      abbrev pub m8 : (before : After-set-action-arg) → (given : s8 .gives (m7 (before .before) (before .set-action-arg .given))) → Typed.Mo T10
+
+      abbrev pub m8 : (before : After-set-action-arg) → (given : s8 .gives
+          (m7 (before .before) (before .set-action-arg .given))) → Typed.Mo T10
       m8 = λ before given. s8 .next (m7 (before .before) (before .set-action-arg .given)) given
+
       module _ (before· : After-set-action-arg) where
         abbrev pub After-set-action·own : Type 0
-        After-set-action·own = Called.Called ps·2 r·2 (claims· .5) T9 (record { pos = 14; ty = Syntax.tyRef Syntax.erased Syntax.mut
-            InflightAction.to; ref = λ x. x; }, (Bool.bLit Bool'.true, (Num.vFld 10 ((Syntax.field 0) ∷ List.[]) 0 λ x. SettlePlan.struct .as-values x
-            .0, (record { pos = 9; st = List.[]; d = 0; at = λ x. x }, tt),),),) (m7 (before· .before) (before· .set-action-arg .given))
+        After-set-action·own = Called.Called ps·2 r·2 (claims· .5) T9 args8
+            (m7 (before· .before) (before· .set-action-arg .given))
+
       pub record After-set-action : Type 0 where
         pub before : After-set-action-arg
         pub set-action : After-set-action·own before
-      abbrev pub After-set-action·gave : (c : After-set-action) → s8 .gives (m7 (c .before .before) (c .before .set-action-arg .given))
-      After-set-action·gave = λ c. Called.given ps·2 r·2 (claims· .5) T9 (record { pos = 14; ty = Syntax.tyRef Syntax.erased Syntax.mut
-          InflightAction.to; ref = λ x. x; }, (Bool.bLit Bool'.true, (Num.vFld 10 ((Syntax.field 0) ∷ List.[]) 0 λ x. SettlePlan.struct .as-values x
-          .0, (record { pos = 9; st = List.[]; d = 0; at = λ x. x }, tt),),),) (m7 (c .before .before) (c .before .set-action-arg .given)) (c
-          .set-action)
-      abbrev pub m9 : (before : After-set-action-arg) → (given : s8 .gives (m7 (before .before) (before .set-action-arg .given))) → Typed.Mo T11
+
+      abbrev pub After-set-action·gave : (c : After-set-action) → s8 .gives
+          (m7 (c .before .before) (c .before .set-action-arg .given))
+      After-set-action·gave = λ c. Called.given ps·2 r·2 (claims· .5) T9 args8
+          (m7 (c .before .before) (c .before .set-action-arg .given)) (c .set-action)
+
+      abbrev pub m9 : (before : After-set-action-arg) → (given : s8 .gives
+          (m7 (before .before) (before .set-action-arg .given))) → Typed.Mo T11
       m9 = λ before given. s9 (m8 before given)
-      abbrev pub m10 : (before : After-set-action-arg) → (given : s8 .gives (m7 (before .before) (before .set-action-arg .given))) → Typed.Mo T12
+
+      abbrev pub m10 : (before : After-set-action-arg) → (given : s8 .gives
+          (m7 (before .before) (before .set-action-arg .given))) → Typed.Mo T12
       m10 = λ before given. s10 (m9 before given)
-      abbrev pub m11 : (before : After-set-action) → (given : s12 .gives (m10 (before .before) (After-set-action·gave before))) → Typed.Mo T14
+
+      abbrev pub m11 : (before : After-set-action) → (given : s12 .gives
+          (m10 (before .before) (After-set-action·gave before))) → Typed.Mo T14
       m11 = λ before given. s12 .next (m10 (before .before) (After-set-action·gave before)) given
+
       module _ (before· : After-set-action) where
         pub record After-inflight·own : Type 0 where
           pub given : s12 .gives (m10 (before· .before) (After-set-action·gave before·))
+
       pub record After-inflight : Type 0 where
         pub before : After-set-action
         pub inflight : After-inflight·own before
-      abbrev pub m12 : (before : After-inflight) → (given : s15 .gives (m11 (before .before) (before .inflight .given))) → Typed.Mo T17
+
+      abbrev pub m12 : (before : After-inflight) → (given : s15 .gives (m11 (before .before) (before .inflight .given)))
+          → Typed.Mo T17
       m12 = λ before given. s15 .next (m11 (before .before) (before .inflight .given)) given
-      abbrev pub m13 : (before : After-inflight) → (given : s15 .gives (m11 (before .before) (before .inflight .given))) → Typed.Mo T18
+
+      abbrev pub m13 : (before : After-inflight) → (given : s15 .gives (m11 (before .before) (before .inflight .given)))
+          → Typed.Mo T18
       m13 = λ before given. s16 .next (m12 before given)
+
       module _ (before· : After-inflight) where
         pub record After-lower-circuit-arg·own : Type 0 where
           pub given : s15 .gives (m11 (before· .before) (before· .inflight .given))
+
       pub record After-lower-circuit-arg : Type 0 where
         pub before : After-inflight
         pub lower-circuit-arg : After-lower-circuit-arg·own before
+
       abbrev pub Need-lower-circuit-requires : Type 0
-      Need-lower-circuit-requires = (c : After-lower-circuit-arg) → s17 .asks (m13 (c .before) (c .lower-circuit-arg .given))
-      abbrev pub m14 : (before : After-lower-circuit-arg) → (given : s17 .gives (m13 (before .before) (before .lower-circuit-arg .given))) → Typed.Mo
-          T19
+      Need-lower-circuit-requires = (c : After-lower-circuit-arg) → s17 .asks
+          (m13 (c .before) (c .lower-circuit-arg .given))
+
+      abbrev pub m14 : (before : After-lower-circuit-arg) → (given : s17 .gives
+          (m13 (before .before) (before .lower-circuit-arg .given))) → Typed.Mo T19
       m14 = λ before given. s17 .next (m13 (before .before) (before .lower-circuit-arg .given)) given
+
       module _ (before· : After-lower-circuit-arg) where
         abbrev pub After-lower-circuit·own : Type 0
-        After-lower-circuit·own = Called.Called ps·3 r·3 (claims· .7) T18 (record { pos = 16; ty = Syntax.tyRef Syntax.erased Syntax.mut
-            RelayCircuit.to; ref = λ x. x; }, (record { pos = 6; st = List.[]; d = 0; at = λ x. x }, (Bool.bFld 10 ((Syntax.field 2) ∷ List.[]) 16 λ
-            x. SettlePlan.struct .as-values x .1 .1 .0, (Num.vFld 10 ((Syntax.field 1) ∷ List.[]) 8 λ x. SettlePlan.struct .as-values x .1 .0, (record
-            { pos = 11; st = List.[]; d = 0; at = λ x. x }, (Num.vFld 10 ((Syntax.field 4) ∷ List.[]) 24 λ x. SettlePlan.struct .as-values x .1 .1 .1
-            .1 .0, tt,),),),),),) (m13 (before· .before) (before· .lower-circuit-arg .given))
+        After-lower-circuit·own = Called.Called ps·3 r·3 (claims· .7) T18 args17
+            (m13 (before· .before) (before· .lower-circuit-arg .given))
+
       pub record After-lower-circuit : Type 0 where
         pub before : After-lower-circuit-arg
         pub lower-circuit : After-lower-circuit·own before
-      abbrev pub After-lower-circuit·gave : (c : After-lower-circuit) → s17 .gives (m13 (c .before .before) (c .before .lower-circuit-arg .given))
-      After-lower-circuit·gave = λ c. Called.given ps·3 r·3 (claims· .7) T18 (record { pos = 16; ty = Syntax.tyRef Syntax.erased Syntax.mut
-          RelayCircuit.to; ref = λ x. x; }, (record { pos = 6; st = List.[]; d = 0; at = λ x. x }, (Bool.bFld 10 ((Syntax.field 2) ∷ List.[]) 16 λ x.
-          SettlePlan.struct .as-values x .1 .1 .0, (Num.vFld 10 ((Syntax.field 1) ∷ List.[]) 8 λ x. SettlePlan.struct .as-values x .1 .0, (record {
-          pos = 11; st = List.[]; d = 0; at = λ x. x }, (Num.vFld 10 ((Syntax.field 4) ∷ List.[]) 24 λ x. SettlePlan.struct .as-values x .1 .1 .1 .1
-          .0, tt,),),),),),) (m13 (c .before .before) (c .before .lower-circuit-arg .given)) (c .lower-circuit)
-      abbrev pub m15 : (before : After-lower-circuit-arg) → (given : s17 .gives (m13 (before .before) (before .lower-circuit-arg .given))) → Typed.Mo
-          T20
+
+      abbrev pub After-lower-circuit·gave : (c : After-lower-circuit) → s17 .gives (m13 (c .before .before)
+          (c .before .lower-circuit-arg .given))
+      After-lower-circuit·gave = λ c. Called.given ps·3 r·3 (claims· .7) T18 args17 (m13 (c .before .before)
+          (c .before .lower-circuit-arg .given)) (c .lower-circuit)
+
+      abbrev pub m15 : (before : After-lower-circuit-arg) → (given : s17 .gives
+          (m13 (before .before) (before .lower-circuit-arg .given))) → Typed.Mo T20
       m15 = λ before given. s18 (m14 before given)
-      abbrev pub m16 : (before : After-lower-circuit-arg) → (given : s17 .gives (m13 (before .before) (before .lower-circuit-arg .given))) → Typed.Mo
-          T21
+
+      abbrev pub m16 : (before : After-lower-circuit-arg) → (given : s17 .gives
+          (m13 (before .before) (before .lower-circuit-arg .given))) → Typed.Mo T21
       m16 = λ before given. s19 (m15 before given)
-      abbrev pub m17 : (before : After-lower-circuit) → (given : s21 .gives (m16 (before .before) (After-lower-circuit·gave before))) → Typed.Mo T23
+
+      abbrev pub m17 : (before : After-lower-circuit) → (given : s21 .gives
+          (m16 (before .before) (After-lower-circuit·gave before))) → Typed.Mo T23
       m17 = λ before given. s21 .next (m16 (before .before) (After-lower-circuit·gave before)) given
+
       module _ (before· : After-lower-circuit) where
         pub record After-circuits·own : Type 0 where
           pub given : s21 .gives (m16 (before· .before) (After-lower-circuit·gave before·))
+
       pub record After-circuits : Type 0 where
         pub before : After-lower-circuit
         pub circuits : After-circuits·own before
-      abbrev pub m18 : (before : After-circuits) → (given : s24 .gives (m17 (before .before) (before .circuits .given))) → Typed.Mo T26
+
+      abbrev pub m18 : (before : After-circuits) → (given : s24 .gives (m17 (before .before) (before .circuits .given)))
+          → Typed.Mo T26
       m18 = λ before given. s24 .next (m17 (before .before) (before .circuits .given)) given
-      abbrev pub m19 : (before : After-circuits) → (given : s24 .gives (m17 (before .before) (before .circuits .given))) → Typed.Mo T27
+
+      abbrev pub m19 : (before : After-circuits) → (given : s24 .gives (m17 (before .before) (before .circuits .given)))
+          → Typed.Mo T27
       m19 = λ before given. s25 .next (m18 before given)
+
       module _ (before· : After-circuits) where
         pub record After-settle-arg·own : Type 0 where
           pub given : s24 .gives (m17 (before· .before) (before· .circuits .given))
+
       pub record After-settle-arg : Type 0 where
         pub before : After-circuits
         pub settle-arg : After-settle-arg·own before
-      abbrev pub m20 : (before : After-settle-arg) → (given : s27 .gives (m19 (before .before) (before .settle-arg .given))) → Typed.Mo T29
+
+      abbrev pub m20 : (before : After-settle-arg) → (given : s27 .gives
+          (m19 (before .before) (before .settle-arg .given))) → Typed.Mo T29
       m20 = λ before given. s27 .next (m19 (before .before) (before .settle-arg .given)) given
-      abbrev pub m21 : (before : After-settle-arg) → (given : s27 .gives (m19 (before .before) (before .settle-arg .given))) → Typed.Mo T30
+
+      abbrev pub m21 : (before : After-settle-arg) → (given : s27 .gives
+          (m19 (before .before) (before .settle-arg .given))) → Typed.Mo T30
       m21 = λ before given. s28 .next (m20 before given)
+
       module _ (before· : After-settle-arg) where
         pub record After-settle-arg2·own : Type 0 where
           pub given : s27 .gives (m19 (before· .before) (before· .settle-arg .given))
+
       pub record After-settle-arg2 : Type 0 where
         pub before : After-settle-arg
         pub settle-arg2 : After-settle-arg2·own before
-      abbrev pub m22 : (before : After-settle-arg2) → (given : s30 .gives (m21 (before .before) (before .settle-arg2 .given))) → Typed.Mo T32
+
+      abbrev pub m22 : (before : After-settle-arg2) → (given : s30 .gives
+          (m21 (before .before) (before .settle-arg2 .given))) → Typed.Mo T32
       m22 = λ before given. s30 .next (m21 (before .before) (before .settle-arg2 .given)) given
-      abbrev pub m23 : (before : After-settle-arg2) → (given : s30 .gives (m21 (before .before) (before .settle-arg2 .given))) → Typed.Mo T33
+
+      abbrev pub m23 : (before : After-settle-arg2) → (given : s30 .gives
+          (m21 (before .before) (before .settle-arg2 .given))) → Typed.Mo T33
       m23 = λ before given. s31 .next (m22 before given)
+
       module _ (before· : After-settle-arg2) where
         pub record After-settle-arg3·own : Type 0 where
           pub given : s30 .gives (m21 (before· .before) (before· .settle-arg2 .given))
+
       pub record After-settle-arg3 : Type 0 where
         pub before : After-settle-arg2
         pub settle-arg3 : After-settle-arg3·own before
-      abbrev pub m24 : (before : After-settle-arg3) → (given : s33 .gives (m23 (before .before) (before .settle-arg3 .given))) → Typed.Mo T35
+
+      abbrev pub m24 : (before : After-settle-arg3) → (given : s33 .gives
+          (m23 (before .before) (before .settle-arg3 .given))) → Typed.Mo T35
       m24 = λ before given. s33 .next (m23 (before .before) (before .settle-arg3 .given)) given
-      abbrev pub m25 : (before : After-settle-arg3) → (given : s33 .gives (m23 (before .before) (before .settle-arg3 .given))) → Typed.Mo T36
+
+      abbrev pub m25 : (before : After-settle-arg3) → (given : s33 .gives
+          (m23 (before .before) (before .settle-arg3 .given))) → Typed.Mo T36
       m25 = λ before given. s34 .next (m24 before given)
+
       module _ (before· : After-settle-arg3) where
         pub record After-settle-arg4·own : Type 0 where
           pub given : s33 .gives (m23 (before· .before) (before· .settle-arg3 .given))
+
       pub record After-settle-arg4 : Type 0 where
         pub before : After-settle-arg3
         pub settle-arg4 : After-settle-arg4·own before
+
       abbrev pub Need-settle-requires : Type 0
       Need-settle-requires = (c : After-settle-arg4) → s35 .asks (m25 (c .before) (c .settle-arg4 .given))
-      abbrev pub m26 : (before : After-settle-arg4) → (given : s35 .gives (m25 (before .before) (before .settle-arg4 .given))) → Typed.Mo T37
+
+      abbrev pub m26 : (before : After-settle-arg4) → (given : s35 .gives
+          (m25 (before .before) (before .settle-arg4 .given))) → Typed.Mo T37
       m26 = λ before given. s35 .next (m25 (before .before) (before .settle-arg4 .given)) given
+
       module _ (before· : After-settle-arg4) where
         abbrev pub After-settle·own : Type 0
-        After-settle·own = Called.Called ps·4 r·4 (claims· .9) T36 (record { pos = 18; ty = Syntax.tyRef Syntax.erased Syntax.mut RelayPending.to; ref
-            = λ x. x; }, (record { pos = 20; ty = Syntax.tyRef Syntax.erased Syntax.mut RelayCircuit.to; ref = λ x. x; }, (record { pos = 22; ty =
-            Syntax.tyRef Syntax.erased Syntax.mut InflightAction.to; ref = λ x. x; }, (record { pos = 24; ty = Syntax.tyRef Syntax.erased Syntax.mut
-            (Syntax.tyInt Syntax.w32); ref = λ x. x; }, (record { pos = 5; st = List.[]; d = 0; at = λ x. x }, (record { pos = 6; st = List.[]; d = 0;
-            at = λ x. x }, (record { pos = 10; st = List.[]; d = 0; at = λ x. x }, tt),),),),),),) (m25 (before· .before) (before· .settle-arg4
-            .given))
+        After-settle·own = Called.Called ps·4 r·4 (claims· .9) T36 args35
+            (m25 (before· .before) (before· .settle-arg4 .given))
+
       pub record After-settle : Type 0 where
         pub before : After-settle-arg4
         pub settle : After-settle·own before
-      abbrev pub After-settle·gave : (c : After-settle) → s35 .gives (m25 (c .before .before) (c .before .settle-arg4 .given))
-      After-settle·gave = λ c. Called.given ps·4 r·4 (claims· .9) T36 (record { pos = 18; ty = Syntax.tyRef Syntax.erased Syntax.mut RelayPending.to;
-          ref = λ x. x; }, (record { pos = 20; ty = Syntax.tyRef Syntax.erased Syntax.mut RelayCircuit.to; ref = λ x. x; }, (record { pos = 22; ty =
-          Syntax.tyRef Syntax.erased Syntax.mut InflightAction.to; ref = λ x. x; }, (record { pos = 24; ty = Syntax.tyRef Syntax.erased Syntax.mut
-          (Syntax.tyInt Syntax.w32); ref = λ x. x; }, (record { pos = 5; st = List.[]; d = 0; at = λ x. x }, (record { pos = 6; st = List.[]; d = 0;
-          at = λ x. x }, (record { pos = 10; st = List.[]; d = 0; at = λ x. x }, tt),),),),),),) (m25 (c .before .before) (c .before .settle-arg4
-          .given)) (c .settle)
-      abbrev pub m27 : (before : After-settle-arg4) → (given : s35 .gives (m25 (before .before) (before .settle-arg4 .given))) → Typed.Mo T38
+
+      abbrev pub After-settle·gave : (c : After-settle) → s35 .gives
+          (m25 (c .before .before) (c .before .settle-arg4 .given))
+      After-settle·gave = λ c. Called.given ps·4 r·4 (claims· .9) T36 args35
+          (m25 (c .before .before) (c .before .settle-arg4 .given)) (c .settle)
+
+      abbrev pub m27 : (before : After-settle-arg4) → (given : s35 .gives
+          (m25 (before .before) (before .settle-arg4 .given))) → Typed.Mo T38
       m27 = λ before given. s36 (m26 before given)
-      abbrev pub m28 : (before : After-settle-arg4) → (given : s35 .gives (m25 (before .before) (before .settle-arg4 .given))) → Typed.Mo T39
+
+      abbrev pub m28 : (before : After-settle-arg4) → (given : s35 .gives
+          (m25 (before .before) (before .settle-arg4 .given))) → Typed.Mo T39
       m28 = λ before given. s37 (m27 before given)
-      abbrev pub m29 : (before : After-settle-arg4) → (given : s35 .gives (m25 (before .before) (before .settle-arg4 .given))) → Typed.Mo T40
+
+      abbrev pub m29 : (before : After-settle-arg4) → (given : s35 .gives
+          (m25 (before .before) (before .settle-arg4 .given))) → Typed.Mo T40
       m29 = λ before given. s38 (m28 before given)
-      abbrev pub m30 : (before : After-settle) → (given : s40 .gives (m29 (before .before) (After-settle·gave before))) → Typed.Mo T42
+
+      abbrev pub m30 : (before : After-settle) → (given : s40 .gives (m29 (before .before) (After-settle·gave before)))
+          → Typed.Mo T42
       m30 = λ before given. s40 .next (m29 (before .before) (After-settle·gave before)) given
+
       module _ (before· : After-settle) where
         pub record After-pending·own : Type 0 where
           pub given : s40 .gives (m29 (before· .before) (After-settle·gave before·))
+
       pub record After-pending : Type 0 where
         pub before : After-settle
         pub pending : After-pending·own before
-      abbrev pub m31 : (before : After-pending) → (given : s43 .gives (m30 (before .before) (before .pending .given))) → Typed.Mo T45
+
+      abbrev pub m31 : (before : After-pending) → (given : s43 .gives (m30 (before .before) (before .pending .given)))
+          → Typed.Mo T45
       m31 = λ before given. s43 .next (m30 (before .before) (before .pending .given)) given
+
       module _ (before· : After-pending) where
         pub record After-circuits2·own : Type 0 where
           pub given : s43 .gives (m30 (before· .before) (before· .pending .given))
+
       pub record After-circuits2 : Type 0 where
         pub before : After-pending
         pub circuits2 : After-circuits2·own before
-      abbrev pub m32 : (before : After-circuits2) → (given : s46 .gives (m31 (before .before) (before .circuits2 .given))) → Typed.Mo T48
+
+      abbrev pub m32 : (before : After-circuits2) → (given : s46 .gives
+          (m31 (before .before) (before .circuits2 .given))) → Typed.Mo T48
       m32 = λ before given. s46 .next (m31 (before .before) (before .circuits2 .given)) given
+
       module _ (before· : After-circuits2) where
         pub record After-inflight2·own : Type 0 where
           pub given : s46 .gives (m31 (before· .before) (before· .circuits2 .given))
+
       pub record After-inflight2 : Type 0 where
         pub before : After-circuits2
         pub inflight2 : After-inflight2·own before
-      abbrev pub m33 : (before : After-inflight2) → (given : s49 .gives (m32 (before .before) (before .inflight2 .given))) → Typed.Mo T51
+
+      abbrev pub m33 : (before : After-inflight2) → (given : s49 .gives
+          (m32 (before .before) (before .inflight2 .given))) → Typed.Mo T51
       m33 = λ before given. s49 .next (m32 (before .before) (before .inflight2 .given)) given
+
       module _ (before· : After-inflight2) where
         pub record After-out·own : Type 0 where
           pub given : s49 .gives (m32 (before· .before) (before· .inflight2 .given))
+
       pub record After-out : Type 0 where
         pub before : After-inflight2
         pub out : After-out·own before
-      abbrev pub m34 : (before : After-out) → (given : s50 .gives (m33 (before .before) (before .out .given))) → Typed.Mo T52
+
+      abbrev pub m34 : (before : After-out) → (given : s50 .gives (m33 (before .before) (before .out .given))) →
+          Typed.Mo T52
       m34 = λ before given. s50 .next (m33 (before .before) (before .out .given)) given
-      abbrev pub m35 : (before : After-out) → (given : s50 .gives (m33 (before .before) (before .out .given))) → Typed.Mo T54
+
+      abbrev pub m35 : (before : After-out) → (given : s50 .gives (m33 (before .before) (before .out .given))) →
+          Typed.Mo T54
       m35 = λ before given. s52 (m34 before given)
+
       module _ (before· : After-out) where
         pub record After-slice-known2·own : Type 0 where
           pub given : s50 .gives (m33 (before· .before) (before· .out .given))
+
       pub record After-slice-known2 : Type 0 where
         pub before : After-out
         pub slice-known2 : After-slice-known2·own before
+
       abbrev pub Need-same-length : Type 0
-      Need-same-length = (c : After-slice-known2) → MutSlice.SameLen (Row.get 1 (T54 .locals) (m35 (c .before) (c .slice-known2 .given))) (dens (c
-          .before .before .before .before .before .before .before .before .before .before .before .before .before .before .before .before .before
-          .before .before .κs) (c .before .before .before .before .before .before .before .before .before .before .before .before .before .before
-          .before .before .before .before .before .args) .0)
+      Need-same-length = (c : After-slice-known2) → MutSlice.SameLen (Row.get 1 (T54 .locals)
+          (m35 (c .before) (c .slice-known2 .given))) (dens (c .before .before .before .before .before .before .before
+          .before .before .before .before .before .before .before .before .before .before .before .before .κs) (c
+          .before .before .before .before .before .before .before .before .before .before .before .before .before
+          .before .before .before .before .before .before .args) .0)
+
       abbrev pub Need-same-length-2 : Type 0
-      Need-same-length-2 = (c : After-slice-known2) → MutSlice.SameLen (Row.get 2 (T54 .locals) (m35 (c .before) (c .slice-known2 .given))) (dens (c
-          .before .before .before .before .before .before .before .before .before .before .before .before .before .before .before .before .before
-          .before .before .κs) (c .before .before .before .before .before .before .before .before .before .before .before .before .before .before
-          .before .before .before .before .before .args) .1 .0)
+      Need-same-length-2 = (c : After-slice-known2) → MutSlice.SameLen (Row.get 2 (T54 .locals)
+          (m35 (c .before) (c .slice-known2 .given))) (dens (c .before .before .before .before .before .before .before
+          .before .before .before .before .before .before .before .before .before .before .before .before .κs) (c
+          .before .before .before .before .before .before .before .before .before .before .before .before .before
+          .before .before .before .before .before .before .args) .1 .0)
+
       abbrev pub Need-same-length-3 : Type 0
-      Need-same-length-3 = (c : After-slice-known2) → MutSlice.SameLen (Row.get 3 (T54 .locals) (m35 (c .before) (c .slice-known2 .given))) (dens (c
-          .before .before .before .before .before .before .before .before .before .before .before .before .before .before .before .before .before
-          .before .before .κs) (c .before .before .before .before .before .before .before .before .before .before .before .before .before .before
-          .before .before .before .before .before .args) .1 .1 .0)
+      Need-same-length-3 = (c : After-slice-known2) → MutSlice.SameLen (Row.get 3 (T54 .locals)
+          (m35 (c .before) (c .slice-known2 .given))) (dens (c .before .before .before .before .before .before .before
+          .before .before .before .before .before .before .before .before .before .before .before .before .κs) (c
+          .before .before .before .before .before .before .before .before .before .before .before .before .before
+          .before .before .before .before .before .before .args) .1 .1 .0)
+
       abbrev pub Need-same-length-4 : Type 0
-      Need-same-length-4 = (c : After-slice-known2) → MutSlice.SameLen (Row.get 4 (T54 .locals) (m35 (c .before) (c .slice-known2 .given))) (dens (c
-          .before .before .before .before .before .before .before .before .before .before .before .before .before .before .before .before .before
-          .before .before .κs) (c .before .before .before .before .before .before .before .before .before .before .before .before .before .before
-          .before .before .before .before .before .args) .1 .1 .1 .0)
+      Need-same-length-4 = (c : After-slice-known2) → MutSlice.SameLen (Row.get 4 (T54 .locals)
+          (m35 (c .before) (c .slice-known2 .given))) (dens (c .before .before .before .before .before .before .before
+          .before .before .before .before .before .before .before .before .before .before .before .before .κs) (c
+          .before .before .before .before .before .before .before .before .before .before .before .before .before
+          .before .before .before .before .before .before .args) .1 .1 .1 .0)
+
       abbrev pub Need-returns : Type 0
-      Need-returns = (c : After-slice-known2) → Post· (c .before .before .before .before .before .before .before .before .before .before .before
-          .before .before .before .before .before .before .before .before .κs) (dens (c .before .before .before .before .before .before .before
-          .before .before .before .before .before .before .before .before .before .before .before .before .κs) (c .before .before .before .before
-          .before .before .before .before .before .before .before .before .before .before .before .before .before .before .before .args))
-          (Function.resV r (c .before .before .before .before .before .before .before .before .before .before .before .before .before .before .before
-          .before .before .before .before .κs) (m35 (c .before) (c .slice-known2 .given) .0)) (Clauses.atExit (Kinds.endedOf 4 ps r) (c .before
-          .before .before .before .before .before .before .before .before .before .before .before .before .before .before .before .before .before
-          .before .κs) (dens (c .before .before .before .before .before .before .before .before .before .before .before .before .before .before
-          .before .before .before .before .before .κs) (c .before .before .before .before .before .before .before .before .before .before .before
-          .before .before .before .before .before .before .before .before .args)) (Enter.lastsP (c .before .before .before .before .before .before
-          .before .before .before .before .before .before .before .before .before .before .before .before .before .κs) 1 ps xs (dens (c .before
-          .before .before .before .before .before .before .before .before .before .before .before .before .before .before .before .before .before
-          .before .κs) (c .before .before .before .before .before .before .before .before .before .before .before .before .before .before .before
-          .before .before .before .before .args)) (m35 (c .before) (c .slice-known2 .given) .1)))
-      module _ (action-gone-requires : Need-action-gone-requires) (settle-plan-requires : Need-settle-plan-requires) (set-action-requires :
-          Need-set-action-requires) (lower-circuit-requires : Need-lower-circuit-requires) (settle-requires : Need-settle-requires) (same-length :
-          Need-same-length) (same-length-2 : Need-same-length-2) (same-length-3 : Need-same-length-3) (same-length-4 : Need-same-length-4) (returns :
-          Need-returns) where
-        lay5 : (c : After-settle) → at17 (W0 (c .before .before .before .before .before .before .before .before .before .before .before .before
-            .before .before .κs) (c .before .before .before .before .before .before .before .before .before .before .before .before .before .before
-            .args)) (m26 (c .before) (After-settle·gave c))
-        lay5 = λ c. (Path.refl, λ g. (Path.refl, λ g'. (Path.refl, λ g''. (Path.refl, λ g'3. λ g'4. ((MutSlice.fix-len (Row.get 1 (T54 .locals) (m35
-            record { before = record { before = record { before = record { before = record { before = c .before; settle = c .settle }; pending =
-            record { given = g }; }; circuits2 = record { given = g' }; }; inflight2 = record { given = g'' }; }; out = record { given = g'3 }; } g'4)
-            .ptr) (Row.get 1 (T54 .locals) (m35 record { before = record { before = record { before = record { before = record { before = c .before;
-            settle = c .settle }; pending = record { given = g }; }; circuits2 = record { given = g' }; }; inflight2 = record { given = g'' }; }; out
-            = record { given = g'3 }; } g'4) .name) (Row.get 1 (T54 .locals) (m35 record { before = record { before = record { before = record {
-            before = record { before = c .before; settle = c .settle }; pending = record { given = g }; }; circuits2 = record { given = g' }; };
-            inflight2 = record { given = g'' }; }; out = record { given = g'3 }; } g'4) .now) (dens (c .before .before .before .before .before .before
-            .before .before .before .before .before .before .before .before .κs) (c .before .before .before .before .before .before .before .before
-            .before .before .before .before .before .before .args) .0 .now) (same-length record { before = record { before = record { before = record
-            { before = record { before = record { before = c .before; settle = c .settle }; pending = record { given = g }; }; circuits2 = record {
-            given = g' }; }; inflight2 = record { given = g'' }; }; out = record { given = g'3 }; }; slice-known2 = record { given = g'4 }; }),
-            (MutSlice.fix-len (Row.get 2 (T54 .locals) (m35 record { before = record { before = record { before = record { before = record { before =
-            c .before; settle = c .settle }; pending = record { given = g }; }; circuits2 = record { given = g' }; }; inflight2 = record { given = g''
-            }; }; out = record { given = g'3 }; } g'4) .ptr) (Row.get 2 (T54 .locals) (m35 record { before = record { before = record { before =
-            record { before = record { before = c .before; settle = c .settle }; pending = record { given = g }; }; circuits2 = record { given = g' };
-            }; inflight2 = record { given = g'' }; }; out = record { given = g'3 }; } g'4) .name) (Row.get 2 (T54 .locals) (m35 record { before =
-            record { before = record { before = record { before = record { before = c .before; settle = c .settle }; pending = record { given = g };
-            }; circuits2 = record { given = g' }; }; inflight2 = record { given = g'' }; }; out = record { given = g'3 }; } g'4) .now) (dens (c
-            .before .before .before .before .before .before .before .before .before .before .before .before .before .before .κs) (c .before .before
-            .before .before .before .before .before .before .before .before .before .before .before .before .args) .1 .0 .now) (same-length-2 record {
-            before = record { before = record { before = record { before = record { before = record { before = c .before; settle = c .settle };
-            pending = record { given = g }; }; circuits2 = record { given = g' }; }; inflight2 = record { given = g'' }; }; out = record { given = g'3
-            }; }; slice-known2 = record { given = g'4 }; }), (MutSlice.fix-len (Row.get 3 (T54 .locals) (m35 record { before = record { before =
-            record { before = record { before = record { before = c .before; settle = c .settle }; pending = record { given = g }; }; circuits2 =
-            record { given = g' }; }; inflight2 = record { given = g'' }; }; out = record { given = g'3 }; } g'4) .ptr) (Row.get 3 (T54 .locals) (m35
-            record { before = record { before = record { before = record { before = record { before = c .before; settle = c .settle }; pending =
-            record { given = g }; }; circuits2 = record { given = g' }; }; inflight2 = record { given = g'' }; }; out = record { given = g'3 }; } g'4)
-            .name) (Row.get 3 (T54 .locals) (m35 record { before = record { before = record { before = record { before = record { before = c .before;
-            settle = c .settle }; pending = record { given = g }; }; circuits2 = record { given = g' }; }; inflight2 = record { given = g'' }; }; out
-            = record { given = g'3 }; } g'4) .now) (dens (c .before .before .before .before .before .before .before .before .before .before .before
-            .before .before .before .κs) (c .before .before .before .before .before .before .before .before .before .before .before .before .before
-            .before .args) .1 .1 .0 .now) (same-length-3 record { before = record { before = record { before = record { before = record { before =
-            record { before = c .before; settle = c .settle }; pending = record { given = g }; }; circuits2 = record { given = g' }; }; inflight2 =
-            record { given = g'' }; }; out = record { given = g'3 }; }; slice-known2 = record { given = g'4 }; }), (MutSlice.fix-len (Row.get 4 (T54
-            .locals) (m35 record { before = record { before = record { before = record { before = record { before = c .before; settle = c .settle };
-            pending = record { given = g }; }; circuits2 = record { given = g' }; }; inflight2 = record { given = g'' }; }; out = record { given = g'3
-            }; } g'4) .ptr) (Row.get 4 (T54 .locals) (m35 record { before = record { before = record { before = record { before = record { before = c
-            .before; settle = c .settle }; pending = record { given = g }; }; circuits2 = record { given = g' }; }; inflight2 = record { given = g''
-            }; }; out = record { given = g'3 }; } g'4) .name) (Row.get 4 (T54 .locals) (m35 record { before = record { before = record { before =
-            record { before = record { before = c .before; settle = c .settle }; pending = record { given = g }; }; circuits2 = record { given = g' };
-            }; inflight2 = record { given = g'' }; }; out = record { given = g'3 }; } g'4) .now) (dens (c .before .before .before .before .before
-            .before .before .before .before .before .before .before .before .before .κs) (c .before .before .before .before .before .before .before
-            .before .before .before .before .before .before .before .args) .1 .1 .1 .0 .now) (same-length-4 record { before = record { before = record
-            { before = record { before = record { before = record { before = c .before; settle = c .settle; }; pending = record { given = g }; };
-            circuits2 = record { given = g' }; }; inflight2 = record { given = g'' }; }; out = record { given = g'3 }; }; slice-known2 = record {
-            given = g'4 }; }), (tt, (tt, (tt, (tt, tt)))),),),),), returns record { before = record { before = record { before = record { before =
-            record { before = record { before = c .before; settle = c .settle }; pending = record { given = g }; }; circuits2 = record { given = g' };
-            }; inflight2 = record { given = g'' }; }; out = record { given = g'3 }; }; slice-known2 = record { given = g'4 }; },),),),),)
-        lay4 : (c : After-lower-circuit) → at35 (W0 (c .before .before .before .before .before .before .before .before .κs) (c .before .before .before
-            .before .before .before .before .before .args)) (m14 (c .before) (After-lower-circuit·gave c))
-        lay4 = λ c. (Path.refl, λ g. λ g'. (Path.refl, λ g''. (Path.refl, λ g'3. (Path.refl, λ g'4. (Path.refl, (settle-requires record { before =
-            record { before = record { before = record { before = record { before = record { before = c .before; lower-circuit = c .lower-circuit; };
-            circuits = record { given = g }; }; settle-arg = record { given = g' }; }; settle-arg2 = record { given = g'' }; }; settle-arg3 = record {
-            given = g'3 }; }; settle-arg4 = record { given = g'4 }; }, λ g'5. lay5 record { before = record { before = record { before = record {
-            before = record { before = record { before = record { before = c .before; lower-circuit = c .lower-circuit; }; circuits = record { given =
-            g }; }; settle-arg = record { given = g' }; }; settle-arg2 = record { given = g'' }; }; settle-arg3 = record { given = g'3 }; };
-            settle-arg4 = record { given = g'4 }; }; settle = Called.called ps·4 r·4 (claims· .9) T36 (record { pos = 18; ty = Syntax.tyRef
-            Syntax.erased Syntax.mut RelayPending.to; ref = λ x. x; }, (record { pos = 20; ty = Syntax.tyRef Syntax.erased Syntax.mut RelayCircuit.to;
-            ref = λ x. x; }, (record { pos = 22; ty = Syntax.tyRef Syntax.erased Syntax.mut InflightAction.to; ref = λ x. x; }, (record { pos = 24; ty
-            = Syntax.tyRef Syntax.erased Syntax.mut (Syntax.tyInt Syntax.w32); ref = λ x. x; }, (record { pos = 5; st = List.[]; d = 0; at = λ x. x },
-            (record { pos = 6; st = List.[]; d = 0; at = λ x. x }, (record { pos = 10; st = List.[]; d = 0; at = λ x. x }, tt),),),),),),) (m25 record
-            { before = record { before = record { before = record { before = record { before = c .before; lower-circuit = c .lower-circuit; };
-            circuits = record { given = g }; }; settle-arg = record { given = g' }; }; settle-arg2 = record { given = g'' }; }; settle-arg3 = record {
-            given = g'3 }; } g'4) g'5; },),),),),),)
-        lay3 : (c : After-set-action) → at44 (W0 (c .before .before .before .before .before .κs) (c .before .before .before .before .before .args))
-            (m8 (c .before) (After-set-action·gave c))
-        lay3 = λ c. (Path.refl, λ g. λ g'. (Path.refl, (lower-circuit-requires record { before = record { before = record { before = c .before;
-            set-action = c .set-action }; inflight = record { given = g }; }; lower-circuit-arg = record { given = g' }; }, λ g''. lay4 record {
-            before = record { before = record { before = record { before = c .before; set-action = c .set-action }; inflight = record { given = g };
-            }; lower-circuit-arg = record { given = g' }; }; lower-circuit = Called.called ps·3 r·3 (claims· .7) T18 (record { pos = 16; ty =
-            Syntax.tyRef Syntax.erased Syntax.mut RelayCircuit.to; ref = λ x. x; }, (record { pos = 6; st = List.[]; d = 0; at = λ x. x }, (Bool.bFld
-            10 ((Syntax.field 2) ∷ List.[]) 16 λ x. SettlePlan.struct .as-values x .1 .1 .0, (Num.vFld 10 ((Syntax.field 1) ∷ List.[]) 8 λ x.
-            SettlePlan.struct .as-values x .1 .0, (record { pos = 11; st = List.[]; d = 0; at = λ x. x }, (Num.vFld 10 ((Syntax.field 4) ∷ List.[]) 24
-            λ x. SettlePlan.struct .as-values x .1 .1 .1 .1 .0, tt,),),),),),) (m13 record { before = record { before = c .before; set-action = c
-            .set-action }; inflight = record { given = g }; } g') g''; },),),)
-        lay2 : (c : After-settle-plan) → at50 (W0 (c .before .before .before .κs) (c .before .before .before .args)) (m3 (c .before)
-            (After-settle-plan·gave c))
-        lay2 = λ c. λ g. (Path.refl, (set-action-requires record { before = record { before = c .before; settle-plan = c .settle-plan };
-            set-action-arg = record { given = g }; }, λ g'. lay3 record { before = record { before = record { before = c .before; settle-plan = c
-            .settle-plan }; set-action-arg = record { given = g }; }; set-action = Called.called ps·2 r·2 (claims· .5) T9 (record { pos = 14; ty =
-            Syntax.tyRef Syntax.erased Syntax.mut InflightAction.to; ref = λ x. x; }, (Bool.bLit Bool'.true, (Num.vFld 10 ((Syntax.field 0) ∷ List.[])
-            0 λ x. SettlePlan.struct .as-values x .0, (record { pos = 9; st = List.[]; d = 0; at = λ x. x }, tt),),),) (m7 record { before = c
-            .before; settle-plan = c .settle-plan } g) g'; },),)
-        lay1 : (c : After-action-gone) → at51 (W0 (c .before .before .κs) (c .before .before .args)) (m2 (c .before) (After-action-gone·gave c))
-        lay1 = λ c. (settle-plan-requires record { before = c .before; action-gone = c .action-gone }, λ g. lay2 record { before = record { before = c
-            .before; action-gone = c .action-gone }; settle-plan = Called.called ps·1 r·1 (claims· .3) T3 (record { pos = 7; st = List.[]; d = 0; at =
-            λ x. x }, (Bool.bAt 8 λ x. x, tt),) (m2 (c .before) (After-action-gone·gave c)) g; },)
+      Need-returns = (c : After-slice-known2) → Post· (c .before .before .before .before .before .before .before
+          .before .before .before .before .before .before .before .before .before .before .before .before .κs) (dens (c
+          .before .before .before .before .before .before .before .before .before .before .before .before .before
+          .before .before .before .before .before .before .κs) (c .before .before .before .before .before .before
+          .before .before .before .before .before .before .before .before .before .before .before .before .before
+          .args)) (Function.resV r (c .before .before .before .before .before .before .before .before .before .before
+          .before .before .before .before .before .before .before .before .before .κs)
+          (m35 (c .before) (c .slice-known2 .given) .0)) (Clauses.atExit (Kinds.endedOf 4 ps r) (c .before .before
+          .before .before .before .before .before .before .before .before .before .before .before .before .before
+          .before .before .before .before .κs) (dens (c .before .before .before .before .before .before .before .before
+          .before .before .before .before .before .before .before .before .before .before .before .κs) (c .before
+          .before .before .before .before .before .before .before .before .before .before .before .before .before
+          .before .before .before .before .before .args)) (Enter.lastsP (c .before .before .before .before .before
+          .before .before .before .before .before .before .before .before .before .before .before .before .before
+          .before .κs) 1 ps xs (dens (c .before .before .before .before .before .before .before .before .before .before
+          .before .before .before .before .before .before .before .before .before .κs) (c .before .before .before
+          .before .before .before .before .before .before .before .before .before .before .before .before .before
+          .before .before .before .args)) (m35 (c .before) (c .slice-known2 .given) .1)))
+
+      module _ (action-gone-requires : Need-action-gone-requires) (settle-plan-requires : Need-settle-plan-requires)
+          (set-action-requires : Need-set-action-requires) (lower-circuit-requires : Need-lower-circuit-requires)
+          (settle-requires : Need-settle-requires) (same-length : Need-same-length)
+          (same-length-2 : Need-same-length-2) (same-length-3 : Need-same-length-3)
+          (same-length-4 : Need-same-length-4) (returns : Need-returns) where
+        lay5 : (c : After-settle) → at17 (W0 (c .before .before .before .before .before .before .before .before .before
+            .before .before .before .before .before .κs) (c .before .before .before .before .before .before .before
+            .before .before .before .before .before .before .before .args)) (m26 (c .before) (After-settle·gave c))
+        lay5 = λ c. (
+          Path.refl,
+          λ g. (
+            Path.refl,
+            λ g'. (
+              Path.refl,
+              λ g''. (
+                Path.refl,
+                λ g'3. λ g'4. (
+                  (
+                    MutSlice.fix-len (Row.get 1 (T54 .locals) (m35
+                        record {
+                          before = record {
+                            before = record {
+                              before = record {
+                                before = record { before = c .before; settle = c .settle };
+                                pending = record { given = g };
+                              };
+                              circuits2 = record { given = g' };
+                            };
+                            inflight2 = record { given = g'' };
+                          };
+                          out = record { given = g'3 };
+                        } g'4) .ptr) (Row.get 1 (T54 .locals) (m35
+                        record {
+                          before = record {
+                            before = record {
+                              before = record {
+                                before = record { before = c .before; settle = c .settle };
+                                pending = record { given = g };
+                              };
+                              circuits2 = record { given = g' };
+                            };
+                            inflight2 = record { given = g'' };
+                          };
+                          out = record { given = g'3 };
+                        } g'4) .name) (Row.get 1 (T54 .locals) (m35
+                        record {
+                          before = record {
+                            before = record {
+                              before = record {
+                                before = record { before = c .before; settle = c .settle };
+                                pending = record { given = g };
+                              };
+                              circuits2 = record { given = g' };
+                            };
+                            inflight2 = record { given = g'' };
+                          };
+                          out = record { given = g'3 };
+                        } g'4) .now) (dens (c .before .before .before .before .before .before .before .before .before
+                        .before .before .before .before .before .κs) (c .before .before .before .before .before .before
+                        .before .before .before .before .before .before .before .before .args) .0 .now) (same-length
+                        record {
+                          before = record {
+                            before = record {
+                              before = record {
+                                before = record {
+                                  before = record { before = c .before; settle = c .settle };
+                                  pending = record { given = g };
+                                };
+                                circuits2 = record { given = g' };
+                              };
+                              inflight2 = record { given = g'' };
+                            };
+                            out = record { given = g'3 };
+                          };
+                          slice-known2 = record { given = g'4 };
+                        }),
+                    (
+                      MutSlice.fix-len (Row.get 2 (T54 .locals) (m35
+                          record {
+                            before = record {
+                              before = record {
+                                before = record {
+                                  before = record { before = c .before; settle = c .settle };
+                                  pending = record { given = g };
+                                };
+                                circuits2 = record { given = g' };
+                              };
+                              inflight2 = record { given = g'' };
+                            };
+                            out = record { given = g'3 };
+                          } g'4) .ptr) (Row.get 2 (T54 .locals) (m35
+                          record {
+                            before = record {
+                              before = record {
+                                before = record {
+                                  before = record { before = c .before; settle = c .settle };
+                                  pending = record { given = g };
+                                };
+                                circuits2 = record { given = g' };
+                              };
+                              inflight2 = record { given = g'' };
+                            };
+                            out = record { given = g'3 };
+                          } g'4) .name) (Row.get 2 (T54 .locals) (m35
+                          record {
+                            before = record {
+                              before = record {
+                                before = record {
+                                  before = record { before = c .before; settle = c .settle };
+                                  pending = record { given = g };
+                                };
+                                circuits2 = record { given = g' };
+                              };
+                              inflight2 = record { given = g'' };
+                            };
+                            out = record { given = g'3 };
+                          } g'4) .now) (dens (c .before .before .before .before .before .before .before .before .before
+                          .before .before .before .before .before .κs) (c .before .before .before .before .before
+                          .before .before .before .before .before .before .before .before .before .args) .1 .0 .now) (same-length-2
+                          record {
+                            before = record {
+                              before = record {
+                                before = record {
+                                  before = record {
+                                    before = record { before = c .before; settle = c .settle };
+                                    pending = record { given = g };
+                                  };
+                                  circuits2 = record { given = g' };
+                                };
+                                inflight2 = record { given = g'' };
+                              };
+                              out = record { given = g'3 };
+                            };
+                            slice-known2 = record { given = g'4 };
+                          }),
+                      (
+                        MutSlice.fix-len (Row.get 3 (T54 .locals) (m35
+                            record {
+                              before = record {
+                                before = record {
+                                  before = record {
+                                    before = record { before = c .before; settle = c .settle };
+                                    pending = record { given = g };
+                                  };
+                                  circuits2 = record { given = g' };
+                                };
+                                inflight2 = record { given = g'' };
+                              };
+                              out = record { given = g'3 };
+                            } g'4) .ptr) (Row.get 3 (T54 .locals) (m35
+                            record {
+                              before = record {
+                                before = record {
+                                  before = record {
+                                    before = record { before = c .before; settle = c .settle };
+                                    pending = record { given = g };
+                                  };
+                                  circuits2 = record { given = g' };
+                                };
+                                inflight2 = record { given = g'' };
+                              };
+                              out = record { given = g'3 };
+                            } g'4) .name) (Row.get 3 (T54 .locals) (m35
+                            record {
+                              before = record {
+                                before = record {
+                                  before = record {
+                                    before = record { before = c .before; settle = c .settle };
+                                    pending = record { given = g };
+                                  };
+                                  circuits2 = record { given = g' };
+                                };
+                                inflight2 = record { given = g'' };
+                              };
+                              out = record { given = g'3 };
+                            } g'4) .now) (dens (c .before .before .before .before .before .before .before .before
+                            .before .before .before .before .before .before .κs) (c .before .before .before .before
+                            .before .before .before .before .before .before .before .before .before .before .args) .1
+                            .1 .0 .now) (same-length-3
+                            record {
+                              before = record {
+                                before = record {
+                                  before = record {
+                                    before = record {
+                                      before = record { before = c .before; settle = c .settle };
+                                      pending = record { given = g };
+                                    };
+                                    circuits2 = record { given = g' };
+                                  };
+                                  inflight2 = record { given = g'' };
+                                };
+                                out = record { given = g'3 };
+                              };
+                              slice-known2 = record { given = g'4 };
+                            }),
+                        (
+                          MutSlice.fix-len (Row.get 4 (T54 .locals) (m35
+                              record {
+                                before = record {
+                                  before = record {
+                                    before = record {
+                                      before = record { before = c .before; settle = c .settle };
+                                      pending = record { given = g };
+                                    };
+                                    circuits2 = record { given = g' };
+                                  };
+                                  inflight2 = record { given = g'' };
+                                };
+                                out = record { given = g'3 };
+                              } g'4) .ptr) (Row.get 4 (T54 .locals) (m35
+                              record {
+                                before = record {
+                                  before = record {
+                                    before = record {
+                                      before = record { before = c .before; settle = c .settle };
+                                      pending = record { given = g };
+                                    };
+                                    circuits2 = record { given = g' };
+                                  };
+                                  inflight2 = record { given = g'' };
+                                };
+                                out = record { given = g'3 };
+                              } g'4) .name) (Row.get 4 (T54 .locals) (m35
+                              record {
+                                before = record {
+                                  before = record {
+                                    before = record {
+                                      before = record { before = c .before; settle = c .settle };
+                                      pending = record { given = g };
+                                    };
+                                    circuits2 = record { given = g' };
+                                  };
+                                  inflight2 = record { given = g'' };
+                                };
+                                out = record { given = g'3 };
+                              } g'4) .now) (dens (c .before .before .before .before .before .before .before .before
+                              .before .before .before .before .before .before .κs) (c .before .before .before .before
+                              .before .before .before .before .before .before .before .before .before .before .args) .1
+                              .1 .1 .0 .now) (same-length-4
+                              record {
+                                before = record {
+                                  before = record {
+                                    before = record {
+                                      before = record {
+                                        before = record { before = c .before; settle = c .settle };
+                                        pending = record { given = g };
+                                      };
+                                      circuits2 = record { given = g' };
+                                    };
+                                    inflight2 = record { given = g'' };
+                                  };
+                                  out = record { given = g'3 };
+                                };
+                                slice-known2 = record { given = g'4 };
+                              }),
+                          (tt, (tt, (tt, (tt, tt)))),
+                        ),
+                      ),
+                    ),
+                  ),
+                  returns record {
+                    before = record {
+                      before = record {
+                        before = record {
+                          before = record {
+                            before = record { before = c .before; settle = c .settle };
+                            pending = record { given = g };
+                          };
+                          circuits2 = record { given = g' };
+                        };
+                        inflight2 = record { given = g'' };
+                      };
+                      out = record { given = g'3 };
+                    };
+                    slice-known2 = record { given = g'4 };
+                  },
+                ),
+              ),
+            ),
+          ),
+        )
+
+        lay4 : (c : After-lower-circuit) → at35 (W0 (c .before .before .before .before .before .before .before .before
+            .κs) (c .before .before .before .before .before .before .before .before .args))
+            (m14 (c .before) (After-lower-circuit·gave c))
+        lay4 = λ c. (
+          Path.refl,
+          λ g. λ g'. (
+            Path.refl,
+            λ g''. (
+              Path.refl,
+              λ g'3. (
+                Path.refl,
+                λ g'4. (
+                  Path.refl,
+                  (
+                    settle-requires record {
+                      before = record {
+                        before = record {
+                          before = record {
+                            before = record {
+                              before = record { before = c .before; lower-circuit = c .lower-circuit };
+                              circuits = record { given = g };
+                            };
+                            settle-arg = record { given = g' };
+                          };
+                          settle-arg2 = record { given = g'' };
+                        };
+                        settle-arg3 = record { given = g'3 };
+                      };
+                      settle-arg4 = record { given = g'4 };
+                    },
+                    λ g'5. lay5 record {
+                      before = record {
+                        before = record {
+                          before = record {
+                            before = record {
+                              before = record {
+                                before = record { before = c .before; lower-circuit = c .lower-circuit };
+                                circuits = record { given = g };
+                              };
+                              settle-arg = record { given = g' };
+                            };
+                            settle-arg2 = record { given = g'' };
+                          };
+                          settle-arg3 = record { given = g'3 };
+                        };
+                        settle-arg4 = record { given = g'4 };
+                      };
+                      settle = Called.called ps·4 r·4 (claims· .9) T36 args35 (m25
+                          record {
+                            before = record {
+                              before = record {
+                                before = record {
+                                  before = record { before = c .before; lower-circuit = c .lower-circuit };
+                                  circuits = record { given = g };
+                                };
+                                settle-arg = record { given = g' };
+                              };
+                              settle-arg2 = record { given = g'' };
+                            };
+                            settle-arg3 = record { given = g'3 };
+                          } g'4) g'5;
+                    },
+                  ),
+                ),
+              ),
+            ),
+          ),
+        )
+
+        lay3 : (c : After-set-action) → at44 (W0 (c .before .before .before .before .before .κs)
+            (c .before .before .before .before .before .args)) (m8 (c .before) (After-set-action·gave c))
+        lay3 = λ c. (
+          Path.refl,
+          λ g. λ g'. (
+            Path.refl,
+            (
+              lower-circuit-requires record {
+                before = record {
+                  before = record { before = c .before; set-action = c .set-action };
+                  inflight = record { given = g };
+                };
+                lower-circuit-arg = record { given = g' };
+              },
+              λ g''. lay4 record {
+                before = record {
+                  before = record {
+                    before = record { before = c .before; set-action = c .set-action };
+                    inflight = record { given = g };
+                  };
+                  lower-circuit-arg = record { given = g' };
+                };
+                lower-circuit = Called.called ps·3 r·3 (claims· .7) T18 args17 (m13
+                    record {
+                      before = record { before = c .before; set-action = c .set-action };
+                      inflight = record { given = g };
+                    } g') g'';
+              },
+            ),
+          ),
+        )
+
+        lay2 : (c : After-settle-plan) → at50 (W0 (c .before .before .before .κs) (c .before .before .before .args))
+            (m3 (c .before) (After-settle-plan·gave c))
+        lay2 = λ c. λ g. (
+          Path.refl,
+          (
+            set-action-requires record {
+              before = record { before = c .before; settle-plan = c .settle-plan };
+              set-action-arg = record { given = g };
+            },
+            λ g'. lay3 record {
+              before = record {
+                before = record { before = c .before; settle-plan = c .settle-plan };
+                set-action-arg = record { given = g };
+              };
+              set-action = Called.called ps·2 r·2 (claims· .5) T9 args8 (m7
+                  record { before = c .before; settle-plan = c .settle-plan } g) g';
+            },
+          ),
+        )
+
+        lay1 : (c : After-action-gone) → at51 (W0 (c .before .before .κs) (c .before .before .args))
+            (m2 (c .before) (After-action-gone·gave c))
+        lay1 = λ c. (
+          settle-plan-requires record { before = c .before; action-gone = c .action-gone },
+          λ g. lay2 record {
+            before = record { before = c .before; action-gone = c .action-gone };
+            settle-plan = Called.called ps·1 r·1 (claims· .3) T3 args2 (m2 (c .before) (After-action-gone·gave c)) g;
+          },
+        )
+
         pub laid : (c : Start) → at53 (W0 (c .κs) (c .args)) (m0 (c .κs) (c .args))
-        laid = λ c. λ g. (action-gone-requires record { before = c; slice-known = record { given = g } }, λ g'. lay1 record { before = record { before
-            = c; slice-known = record { given = g } }; action-gone = Called.called ps·0 r·0 (claims· .1) T2 (record { pos = 7; st = List.[]; d = 0; at
-            = λ x. x }, tt,) (m1 c g) g'; },)
+        laid = λ c. λ g. (
+          action-gone-requires record { before = c; slice-known = record { given = g } },
+          λ g'. lay1 record {
+            before = record { before = c; slice-known = record { given = g } };
+            action-gone = Called.called ps·0 r·0 (claims· .1) T2 args1 (m1 c g) g';
+          },
+        )
+
         module _ (κs : Lifetimes.Lfts 4) (qs : Lifetimes.Shares 4) where
-          pub asked : (a : Kinds.Dens κs ps) → (good : Kinds.GoodsP κs ps a) → (pre : Pre· κs a) → (bs : List.List Nat.ℕ) → Φ (Any.wantQ 4 ps r xs m
-              κs qs a (Post· κs a)) (Function.init 4 ps r xs m κs qs a)
-          asked = λ a good pre bs. laid record { κs = κs; args = record { pending = a .0; circuits = a .1 .0; inflight = a .1 .1 .0; out = a .1 .1 .1
-              .0; runtime = a .1 .1 .1 .1 .0; places = a .1 .1 .1 .1 .1 .0; found = a .1 .1 .1 .1 .1 .1 .0; delivered = a .1 .1 .1 .1 .1 .1 .1 .0; };
-              good = good; pre = pre; }
-        module _ { M : Type 1 } (𝓤 : URA.URA M) (H : Wp.Heap 𝓤) (A : Atoms.Atoms 𝓤) (W : Kit.Given 𝓤 H A) (𝓣 : Wp.Tables 𝓤 H) (known0 : Plain.Known 𝓤
-            H A W 𝓣 0 ps·0 r·0 (claims· .0) (claims· .1) "hnsr_circuit::acknowledge::action_gone") (known1 : Plain.Known 𝓤 H A W 𝓣 0 ps·1 r·1 (claims·
-            .2) (claims· .3) "hnsr_circuit::acknowledge::settle_plan") (known2 : Plain.Known 𝓤 H A W 𝓣 1 ps·2 r·2 (claims· .4) (claims· .5)
-            "hnsr_circuit::tables::inflight::set_action") (known3 : Plain.Known 𝓤 H A W 𝓣 1 ps·3 r·3 (claims· .6) (claims· .7)
-            "hnsr_circuit::acknowledge::lower_circuit") (known4 : Plain.Known 𝓤 H A W 𝓣 4 ps·4 r·4 (claims· .8) (claims· .9)
-            "hnsr_circuit::acknowledge::settle") where
-          pub spec : Statement.Triple 𝓤 (Wp.WpFn 𝓤 H (𝓣 .C) (𝓣 .Λ) (Function.fnOf 4 ps r xs m hs body)) (Function.plainOf 𝓤 H A 4 ps r Pre· Post·)
-          spec = Plain.t-fn-plain 𝓤 H A W 𝓣 4 ps r xs m hs body (λ κs qs bs. Φ) (λ κs qs bs bd. typed κs qs 𝓤 H A W 𝓣 (known0, known1, known2, known3,
-              known4) bs bd) Pre· Post· asked
+          pub asked : (a : Kinds.Dens κs ps) → (good : Kinds.GoodsP κs ps a) → (pre : Pre· κs a) →
+              (bs : List.List Nat.ℕ) → Φ (Any.wantQ 4 ps r xs m κs qs a (Post· κs a))
+              (Function.init 4 ps r xs m κs qs a)
+          asked = λ a good pre bs. laid record {
+            κs = κs;
+            args = record {
+              pending = a .0;
+              circuits = a .1 .0;
+              inflight = a .1 .1 .0;
+              out = a .1 .1 .1 .0;
+              runtime = a .1 .1 .1 .1 .0;
+              places = a .1 .1 .1 .1 .1 .0;
+              found = a .1 .1 .1 .1 .1 .1 .0;
+              delivered = a .1 .1 .1 .1 .1 .1 .1 .0;
+            };
+            good = good;
+            pre = pre;
+          }
+
+        module _ {M : Type 1} (𝓤 : URA.URA M) (H : Wp.Heap 𝓤) (A : Atoms.Atoms 𝓤) (W : Kit.Given 𝓤 H A)
+            (𝓣 : Wp.Tables 𝓤 H) (known0 : Plain.Known 𝓤 H A W 𝓣 0 ps·0 r·0 (claims· .0) (claims· .1)
+            "hnsr_circuit::acknowledge::action_gone") (known1 : Plain.Known 𝓤 H A W 𝓣 0 ps·1 r·1 (claims· .2)
+            (claims· .3) "hnsr_circuit::acknowledge::settle_plan") (known2 : Plain.Known 𝓤 H A W 𝓣 1 ps·2 r·2
+            (claims· .4) (claims· .5) "hnsr_circuit::tables::inflight::set_action") (known3 : Plain.Known 𝓤 H A W 𝓣 1
+            ps·3 r·3 (claims· .6) (claims· .7) "hnsr_circuit::acknowledge::lower_circuit") (known4 : Plain.Known 𝓤 H A
+            W 𝓣 4 ps·4 r·4 (claims· .8) (claims· .9) "hnsr_circuit::acknowledge::settle") where
+          pub spec : Statement.Triple 𝓤 (Wp.WpFn 𝓤 H (𝓣 .C) (𝓣 .Λ) (Function.fnOf 4 ps r xs m hs body))
+              (Function.plainOf 𝓤 H A 4 ps r Pre· Post·)
+          spec = Plain.t-fn-plain 𝓤 H A W 𝓣 4 ps r xs m hs body (λ κs qs bs. Φ) (λ κs qs bs bd. typed κs qs 𝓤 H A W 𝓣
+              (known0, known1, known2, known3, known4) bs bd) Pre· Post· asked

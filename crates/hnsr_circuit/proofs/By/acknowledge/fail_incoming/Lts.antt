@@ -4,6 +4,7 @@ use Rattle.hnsr_body.proofs.messages.Notice
 use Rattle.hnsr_body.proofs.messages.Notice.Laws
 use Rattle.hnsr_circuit.proofs.By.InflightAction
 use Rattle.hnsr_circuit.proofs.By.RelayPending
+use Rattle.hnsr_circuit.proofs.StructRow
 use Rattle.hnsr_circuit.proofs.acknowledge.FailPlan
 use Rattle.hnsr_circuit.proofs.acknowledge.FailPlan.Laws as Laws'
 use Rattle.hnsr_circuit.proofs.places.Places
@@ -30,7 +31,6 @@ use borrow.Kind.MutSlice
 use borrow.Kind.Num
 use borrow.Kind.ShrSlice
 use borrow.Kind.Unit
-use borrow.Kind.Value
 use borrow.Rule.DerefMove
 use borrow.Rule.Lifetime
 use borrow.Rule.Local
@@ -56,11 +56,8 @@ use borrow.Table.Rows
 use borrow.Table.Typed
 use contract.Lifetimes
 use denote.Enum.Declared
-use denote.Enum.Laws as Laws'''''''
-use denote.Exit
 use denote.Struct.At
 use denote.Struct.Declared as Declared'
-use denote.Struct.Laws as Laws''''''''
 use denote.Triple.Clauses
 use denote.Triple.Statement
 use ghost.Atoms
@@ -79,1373 +76,2192 @@ use mathlib.Core.List.{_∷_}
 
 abbrev ref0 : Syntax.Ty
 ref0 = Syntax.tyRef Syntax.erased Syntax.imm RelayPending.to
+
 abbrev ref1 : Syntax.Ty
 ref1 = Syntax.tyRef Syntax.erased Syntax.mut RelayPending.to
+
 abbrev ref2 : Syntax.Ty
 ref2 = Syntax.tyRef Syntax.erased Syntax.mut InflightAction.to
+
 abbrev ref3 : Syntax.Ty
 ref3 = Syntax.tyRef Syntax.erased Syntax.mut (Syntax.tyInt Syntax.w32)
+
 abbrev ref4 : Syntax.Ty
 ref4 = Syntax.tyRef (Syntax.named 0) Syntax.mut RelayPending.to
+
 abbrev ref5 : Syntax.Ty
 ref5 = Syntax.tyRef (Syntax.named 1) Syntax.mut InflightAction.to
+
 abbrev ref6 : Syntax.Ty
 ref6 = Syntax.tyRef (Syntax.named 2) Syntax.mut (Syntax.tyInt Syntax.w32)
+
+abbrev slice0 : Syntax.Ty
+slice0 = Syntax.tyStruct (38 ∷ 91 ∷ 93 ∷ List.[]) (Syntax.tcons ref0
+    (Syntax.tcons (Syntax.tyInt Syntax.w64) Syntax.tnil))
+
+abbrev slice1 : Syntax.Ty
+slice1 = Syntax.tyStruct (38 ∷ 91 ∷ 93 ∷ List.[]) (Syntax.tcons ref1
+    (Syntax.tcons (Syntax.tyInt Syntax.w64) Syntax.tnil))
+
+abbrev slice2 : Syntax.Ty
+slice2 = Syntax.tyStruct (38 ∷ 91 ∷ 93 ∷ List.[]) (Syntax.tcons ref2
+    (Syntax.tcons (Syntax.tyInt Syntax.w64) Syntax.tnil))
+
+abbrev slice3 : Syntax.Ty
+slice3 = Syntax.tyStruct (38 ∷ 91 ∷ 93 ∷ List.[]) (Syntax.tcons ref3
+    (Syntax.tcons (Syntax.tyInt Syntax.w64) Syntax.tnil))
+
 abbrev pub ps : List.List (Kinds.PK 3)
-ps = (MutSlice.pMutS RelayPending.row 0 tt) ∷ (MutSlice.pMutS InflightAction.row 1 tt) ∷ (MutSlice.pMutS (Referent.rtF (Referent.fInt Syntax.w32)) 2
-    tt) ∷ (Value.pVal record { ty = Declared'.row OpaqueRelayRuntime.the-type; one = Path.refl; val = Laws''''''''.val OpaqueRelayRuntime.the-type
-    Laws'''''.the-laws; tells = Laws''''''''.tells OpaqueRelayRuntime.the-type Laws'''''.the-laws; still = Laws''''''''.still
-    OpaqueRelayRuntime.the-type Laws'''''.the-copy Exit.yes; row = Rows.whole (Declared'.row OpaqueRelayRuntime.the-type); rd = λ x. x; mk = λ x. x; }
-    λ M 𝓤 H A W. record { copies = Laws''''''''.copy OpaqueRelayRuntime.the-type Laws'''''.the-copy 𝓤 H A W; lawful = Laws''''''''.lawful
-    OpaqueRelayRuntime.the-type Laws'''''.the-laws 𝓤 H A W; makes = Laws''''''''.makes OpaqueRelayRuntime.the-type Laws'''''.the-plain 𝓤 H A; in-mem =
-    Local.mem-whole 𝓤 H A W (Declared'.row OpaqueRelayRuntime.the-type); of-mem = Local.whole-mem 𝓤 H A W (Declared'.row OpaqueRelayRuntime.the-type);
-    }) ∷ (Value.pVal record { ty = Declared'.row Places.the-type; one = Path.refl; val = Laws''''''''.val Places.the-type Laws''.the-laws; tells =
-    Laws''''''''.tells Places.the-type Laws''.the-laws; still = Laws''''''''.still Places.the-type Laws''.the-copy Exit.yes; row = Rows.whole
-    (Declared'.row Places.the-type); rd = λ x. x; mk = λ x. x; } λ M 𝓤 H A W. record { copies = Laws''''''''.copy Places.the-type Laws''.the-copy 𝓤 H
-    A W; lawful = Laws''''''''.lawful Places.the-type Laws''.the-laws 𝓤 H A W; makes = Laws''''''''.makes Places.the-type Laws''.the-plain 𝓤 H A;
-    in-mem = Local.mem-whole 𝓤 H A W (Declared'.row Places.the-type); of-mem = Local.whole-mem 𝓤 H A W (Declared'.row Places.the-type); }) ∷ (Num.pNum
-    Syntax.w64) ∷ List.[]
+ps = (MutSlice.pMutS RelayPending.row 0 tt) ∷ (MutSlice.pMutS InflightAction.row 1 tt) ∷ (MutSlice.pMutS
+    (Referent.rtF (Referent.fInt Syntax.w32)) 2 tt) ∷ (StructRow.param OpaqueRelayRuntime.the-type Laws'''''.the-laws
+    Laws'''''.the-copy Laws'''''.the-plain) ∷ (StructRow.param Places.the-type Laws''.the-laws Laws''.the-copy
+    Laws''.the-plain) ∷ (Num.pNum Syntax.w64) ∷ List.[]
+
 abbrev pub r : Kinds.RK 3
-r = Value.rVal record { ty = Declared'.row Relayed.the-type; one = Path.refl; val = Laws''''''''.val Relayed.the-type Laws''''''.the-laws; tells =
-    Laws''''''''.tells Relayed.the-type Laws''''''.the-laws; still = Laws''''''''.still Relayed.the-type Laws''''''.the-copy Exit.yes; row =
-    Rows.whole (Declared'.row Relayed.the-type); rd = λ x. x; mk = λ x. x; } λ M 𝓤 H A W. record { copies = Laws''''''''.copy Relayed.the-type
-    Laws''''''.the-copy 𝓤 H A W; lawful = Laws''''''''.lawful Relayed.the-type Laws''''''.the-laws 𝓤 H A W; makes = Laws''''''''.makes
-    Relayed.the-type Laws''''''.the-plain 𝓤 H A; in-mem = Local.mem-whole 𝓤 H A W (Declared'.row Relayed.the-type); of-mem = Local.whole-mem 𝓤 H A W
-    (Declared'.row Relayed.the-type); }
+r = StructRow.result Relayed.the-type Laws''''''.the-laws Laws''''''.the-copy Laws''''''.the-plain
+
 abbrev pub xs : List.List Syntax.Ty
-xs = Laws''''.mir ∷ RelayPending.ty ∷ Laws'.mir ∷ Laws'''''.mir ∷ Laws'''.mir ∷ ref0 ∷ (Syntax.tyStruct (38 ∷ 91 ∷ 93 ∷ List.[]) (Syntax.tcons ref0
-    (Syntax.tcons (Syntax.tyInt Syntax.w64) Syntax.tnil))) ∷ Syntax.tyBool ∷ Syntax.tyUnit ∷ ref1 ∷ (Syntax.tyStruct (38 ∷ 91 ∷ 93 ∷ List.[])
-    (Syntax.tcons ref1 (Syntax.tcons (Syntax.tyInt Syntax.w64) Syntax.tnil))) ∷ ref2 ∷ (Syntax.tyStruct (38 ∷ 91 ∷ 93 ∷ List.[]) (Syntax.tcons ref2
-    (Syntax.tcons (Syntax.tyInt Syntax.w64) Syntax.tnil))) ∷ ref3 ∷ (Syntax.tyStruct (38 ∷ 91 ∷ 93 ∷ List.[]) (Syntax.tcons ref3 (Syntax.tcons
-    (Syntax.tyInt Syntax.w64) Syntax.tnil))) ∷ Laws.mir ∷ List.[]
+xs = Laws''''.mir ∷ RelayPending.ty ∷ Laws'.mir ∷ Laws'''''.mir ∷ Laws'''.mir ∷ ref0 ∷ slice0 ∷ Syntax.tyBool ∷
+    Syntax.tyUnit ∷ ref1 ∷ slice1 ∷ ref2 ∷ slice2 ∷ ref3 ∷ slice3 ∷ Laws.mir ∷ List.[]
+
 abbrev pub m : Nat.ℕ
 m = 4
+
 abbrev pub ps·0 : List.List (Kinds.PK 1)
-ps·0 = (ShrSlice.pShrS RelayPending.row 0 tt) ∷ (Value.pVal record { ty = Declared'.row Places.the-type; one = Path.refl; val = Laws''''''''.val
-    Places.the-type Laws''.the-laws; tells = Laws''''''''.tells Places.the-type Laws''.the-laws; still = Laws''''''''.still Places.the-type
-    Laws''.the-copy Exit.yes; row = Rows.whole (Declared'.row Places.the-type); rd = λ x. x; mk = λ x. x; } λ M 𝓤 H A W. record { copies =
-    Laws''''''''.copy Places.the-type Laws''.the-copy 𝓤 H A W; lawful = Laws''''''''.lawful Places.the-type Laws''.the-laws 𝓤 H A W; makes =
-    Laws''''''''.makes Places.the-type Laws''.the-plain 𝓤 H A; in-mem = Local.mem-whole 𝓤 H A W (Declared'.row Places.the-type); of-mem =
-    Local.whole-mem 𝓤 H A W (Declared'.row Places.the-type); }) ∷ (Num.pNum Syntax.w64) ∷ List.[]
+ps·0 = (ShrSlice.pShrS RelayPending.row 0 tt) ∷ (StructRow.param Places.the-type Laws''.the-laws Laws''.the-copy
+    Laws''.the-plain) ∷ (Num.pNum Syntax.w64) ∷ List.[]
+
 abbrev pub r·0 : Kinds.RK 1
-r·0 = Value.rVal record { ty = Declared'.row PendingFound.the-type; one = Path.refl; val = Laws''''''''.val PendingFound.the-type Laws''''.the-laws;
-    tells = Laws''''''''.tells PendingFound.the-type Laws''''.the-laws; still = Laws''''''''.still PendingFound.the-type Laws''''.the-copy Exit.yes;
-    row = Rows.whole (Declared'.row PendingFound.the-type); rd = λ x. x; mk = λ x. x; } λ M 𝓤 H A W. record { copies = Laws''''''''.copy
-    PendingFound.the-type Laws''''.the-copy 𝓤 H A W; lawful = Laws''''''''.lawful PendingFound.the-type Laws''''.the-laws 𝓤 H A W; makes =
-    Laws''''''''.makes PendingFound.the-type Laws''''.the-plain 𝓤 H A; in-mem = Local.mem-whole 𝓤 H A W (Declared'.row PendingFound.the-type); of-mem
-    = Local.whole-mem 𝓤 H A W (Declared'.row PendingFound.the-type); }
+r·0 = StructRow.result PendingFound.the-type Laws''''.the-laws Laws''''.the-copy Laws''''.the-plain
+
 abbrev pub ps·1 : List.List (Kinds.PK 0)
-ps·1 = (Value.pVal record { ty = Declared'.row PendingFound.the-type; one = Path.refl; val = Laws''''''''.val PendingFound.the-type Laws''''.the-laws;
-    tells = Laws''''''''.tells PendingFound.the-type Laws''''.the-laws; still = Laws''''''''.still PendingFound.the-type Laws''''.the-copy Exit.yes;
-    row = Rows.whole (Declared'.row PendingFound.the-type); rd = λ x. x; mk = λ x. x; } λ M 𝓤 H A W. record { copies = Laws''''''''.copy
-    PendingFound.the-type Laws''''.the-copy 𝓤 H A W; lawful = Laws''''''''.lawful PendingFound.the-type Laws''''.the-laws 𝓤 H A W; makes =
-    Laws''''''''.makes PendingFound.the-type Laws''''.the-plain 𝓤 H A; in-mem = Local.mem-whole 𝓤 H A W (Declared'.row PendingFound.the-type); of-mem
-    = Local.whole-mem 𝓤 H A W (Declared'.row PendingFound.the-type); }) ∷ List.[]
+ps·1 = (StructRow.param PendingFound.the-type Laws''''.the-laws Laws''''.the-copy Laws''''.the-plain) ∷ List.[]
+
 abbrev pub r·1 : Kinds.RK 0
 r·1 = RelayPending.result
+
 abbrev pub ps·2 : List.List (Kinds.PK 0)
-ps·2 = (Value.pVal record { ty = Declared'.row PendingFound.the-type; one = Path.refl; val = Laws''''''''.val PendingFound.the-type Laws''''.the-laws;
-    tells = Laws''''''''.tells PendingFound.the-type Laws''''.the-laws; still = Laws''''''''.still PendingFound.the-type Laws''''.the-copy Exit.yes;
-    row = Rows.whole (Declared'.row PendingFound.the-type); rd = λ x. x; mk = λ x. x; } λ M 𝓤 H A W. record { copies = Laws''''''''.copy
-    PendingFound.the-type Laws''''.the-copy 𝓤 H A W; lawful = Laws''''''''.lawful PendingFound.the-type Laws''''.the-laws 𝓤 H A W; makes =
-    Laws''''''''.makes PendingFound.the-type Laws''''.the-plain 𝓤 H A; in-mem = Local.mem-whole 𝓤 H A W (Declared'.row PendingFound.the-type); of-mem
-    = Local.whole-mem 𝓤 H A W (Declared'.row PendingFound.the-type); }) ∷ (Value.pVal record { ty = Declared'.row OpaqueRelayRuntime.the-type; one =
-    Path.refl; val = Laws''''''''.val OpaqueRelayRuntime.the-type Laws'''''.the-laws; tells = Laws''''''''.tells OpaqueRelayRuntime.the-type
-    Laws'''''.the-laws; still = Laws''''''''.still OpaqueRelayRuntime.the-type Laws'''''.the-copy Exit.yes; row = Rows.whole (Declared'.row
-    OpaqueRelayRuntime.the-type); rd = λ x. x; mk = λ x. x; } λ M 𝓤 H A W. record { copies = Laws''''''''.copy OpaqueRelayRuntime.the-type
-    Laws'''''.the-copy 𝓤 H A W; lawful = Laws''''''''.lawful OpaqueRelayRuntime.the-type Laws'''''.the-laws 𝓤 H A W; makes = Laws''''''''.makes
-    OpaqueRelayRuntime.the-type Laws'''''.the-plain 𝓤 H A; in-mem = Local.mem-whole 𝓤 H A W (Declared'.row OpaqueRelayRuntime.the-type); of-mem =
-    Local.whole-mem 𝓤 H A W (Declared'.row OpaqueRelayRuntime.the-type); }) ∷ List.[]
+ps·2 = (StructRow.param PendingFound.the-type Laws''''.the-laws Laws''''.the-copy Laws''''.the-plain) ∷ (StructRow.param
+    OpaqueRelayRuntime.the-type Laws'''''.the-laws Laws'''''.the-copy Laws'''''.the-plain) ∷ List.[]
+
 abbrev pub r·2 : Kinds.RK 0
-r·2 = Value.rVal record { ty = Declared'.row FailPlan.the-type; one = Path.refl; val = Laws''''''''.val FailPlan.the-type Laws'.the-laws; tells =
-    Laws''''''''.tells FailPlan.the-type Laws'.the-laws; still = Laws''''''''.still FailPlan.the-type Laws'.the-copy Exit.yes; row = Rows.whole
-    (Declared'.row FailPlan.the-type); rd = λ x. x; mk = λ x. x; } λ M 𝓤 H A W. record { copies = Laws''''''''.copy FailPlan.the-type Laws'.the-copy 𝓤
-    H A W; lawful = Laws''''''''.lawful FailPlan.the-type Laws'.the-laws 𝓤 H A W; makes = Laws''''''''.makes FailPlan.the-type Laws'.the-plain 𝓤 H A;
-    in-mem = Local.mem-whole 𝓤 H A W (Declared'.row FailPlan.the-type); of-mem = Local.whole-mem 𝓤 H A W (Declared'.row FailPlan.the-type); }
+r·2 = StructRow.result FailPlan.the-type Laws'.the-laws Laws'.the-copy Laws'.the-plain
+
 abbrev pub ps·3 : List.List (Kinds.PK 1)
 ps·3 = (MutSlice.pMutS RelayPending.row 0 tt) ∷ Bool.pBool ∷ (Num.pNum Syntax.w64) ∷ RelayPending.param ∷ List.[]
+
 abbrev pub r·3 : Kinds.RK 1
 r·3 = Unit.rUnit
+
 abbrev pub ps·4 : List.List (Kinds.PK 2)
-ps·4 = (MutSlice.pMutS InflightAction.row 0 tt) ∷ (MutSlice.pMutS (Referent.rtF (Referent.fInt Syntax.w32)) 1 tt) ∷ (Value.pVal record { ty =
-    Declared'.row OpaqueRelayRuntime.the-type; one = Path.refl; val = Laws''''''''.val OpaqueRelayRuntime.the-type Laws'''''.the-laws; tells =
-    Laws''''''''.tells OpaqueRelayRuntime.the-type Laws'''''.the-laws; still = Laws''''''''.still OpaqueRelayRuntime.the-type Laws'''''.the-copy
-    Exit.yes; row = Rows.whole (Declared'.row OpaqueRelayRuntime.the-type); rd = λ x. x; mk = λ x. x; } λ M 𝓤 H A W. record { copies =
-    Laws''''''''.copy OpaqueRelayRuntime.the-type Laws'''''.the-copy 𝓤 H A W; lawful = Laws''''''''.lawful OpaqueRelayRuntime.the-type
-    Laws'''''.the-laws 𝓤 H A W; makes = Laws''''''''.makes OpaqueRelayRuntime.the-type Laws'''''.the-plain 𝓤 H A; in-mem = Local.mem-whole 𝓤 H A W
-    (Declared'.row OpaqueRelayRuntime.the-type); of-mem = Local.whole-mem 𝓤 H A W (Declared'.row OpaqueRelayRuntime.the-type); }) ∷ (Value.pVal record
-    { ty = Declared'.row Places.the-type; one = Path.refl; val = Laws''''''''.val Places.the-type Laws''.the-laws; tells = Laws''''''''.tells
-    Places.the-type Laws''.the-laws; still = Laws''''''''.still Places.the-type Laws''.the-copy Exit.yes; row = Rows.whole (Declared'.row
-    Places.the-type); rd = λ x. x; mk = λ x. x; } λ M 𝓤 H A W. record { copies = Laws''''''''.copy Places.the-type Laws''.the-copy 𝓤 H A W; lawful =
-    Laws''''''''.lawful Places.the-type Laws''.the-laws 𝓤 H A W; makes = Laws''''''''.makes Places.the-type Laws''.the-plain 𝓤 H A; in-mem =
-    Local.mem-whole 𝓤 H A W (Declared'.row Places.the-type); of-mem = Local.whole-mem 𝓤 H A W (Declared'.row Places.the-type); }) ∷ (Value.pVal record
-    { ty = Declared'.row Outgoing.the-type; one = Path.refl; val = Laws''''''''.val Outgoing.the-type Laws'''.the-laws; tells = Laws''''''''.tells
-    Outgoing.the-type Laws'''.the-laws; still = Laws''''''''.still Outgoing.the-type Laws'''.the-copy Exit.yes; row = Rows.whole (Declared'.row
-    Outgoing.the-type); rd = λ x. x; mk = λ x. x; } λ M 𝓤 H A W. record { copies = Laws''''''''.copy Outgoing.the-type Laws'''.the-copy 𝓤 H A W;
-    lawful = Laws''''''''.lawful Outgoing.the-type Laws'''.the-laws 𝓤 H A W; makes = Laws''''''''.makes Outgoing.the-type Laws'''.the-plain 𝓤 H A;
-    in-mem = Local.mem-whole 𝓤 H A W (Declared'.row Outgoing.the-type); of-mem = Local.whole-mem 𝓤 H A W (Declared'.row Outgoing.the-type); }) ∷
-    (Value.pVal record { ty = Declared.row Notice.the-type; one = Path.refl; val = Laws'''''''.val Notice.the-type Laws.the-laws; tells =
-    Laws'''''''.tells Notice.the-type Laws.the-laws; still = Laws'''''''.still Notice.the-type Laws.the-copy Exit.yes; row = Rows.whole (Declared.row
-    Notice.the-type); rd = λ x. x; mk = λ x. x; } λ M 𝓤 H A W. record { copies = Laws'''''''.copy Notice.the-type Laws.the-copy 𝓤 H A W; lawful =
-    Laws'''''''.lawful Notice.the-type Laws.the-laws 𝓤 H A W tt; makes = Laws'''''''.makes Notice.the-type Laws.the-plain 𝓤 H A; in-mem =
-    Local.mem-whole 𝓤 H A W (Declared.row Notice.the-type); of-mem = Local.whole-mem 𝓤 H A W (Declared.row Notice.the-type); }) ∷ List.[]
+ps·4 = (MutSlice.pMutS InflightAction.row 0 tt) ∷ (MutSlice.pMutS (Referent.rtF (Referent.fInt Syntax.w32)) 1 tt) ∷ (StructRow.param
+    OpaqueRelayRuntime.the-type Laws'''''.the-laws Laws'''''.the-copy Laws'''''.the-plain) ∷ (StructRow.param
+    Places.the-type Laws''.the-laws Laws''.the-copy Laws''.the-plain) ∷ (StructRow.param Outgoing.the-type
+    Laws'''.the-laws Laws'''.the-copy Laws'''.the-plain) ∷ (StructRow.enum-param Notice.the-type Laws.the-laws
+    Laws.the-copy Laws.the-plain tt) ∷ List.[]
+
 abbrev pub r·4 : Kinds.RK 2
-r·4 = Value.rVal record { ty = Declared'.row Relayed.the-type; one = Path.refl; val = Laws''''''''.val Relayed.the-type Laws''''''.the-laws; tells =
-    Laws''''''''.tells Relayed.the-type Laws''''''.the-laws; still = Laws''''''''.still Relayed.the-type Laws''''''.the-copy Exit.yes; row =
-    Rows.whole (Declared'.row Relayed.the-type); rd = λ x. x; mk = λ x. x; } λ M 𝓤 H A W. record { copies = Laws''''''''.copy Relayed.the-type
-    Laws''''''.the-copy 𝓤 H A W; lawful = Laws''''''''.lawful Relayed.the-type Laws''''''.the-laws 𝓤 H A W; makes = Laws''''''''.makes
-    Relayed.the-type Laws''''''.the-plain 𝓤 H A; in-mem = Local.mem-whole 𝓤 H A W (Declared'.row Relayed.the-type); of-mem = Local.whole-mem 𝓤 H A W
-    (Declared'.row Relayed.the-type); }
+r·4 = StructRow.result Relayed.the-type Laws''''''.the-laws Laws''''''.the-copy Laws''''''.the-plain
+
 abbrev pub ps·5 : List.List (Kinds.PK 0)
-ps·5 = (Value.pVal record { ty = Declared'.row OpaqueRelayRuntime.the-type; one = Path.refl; val = Laws''''''''.val OpaqueRelayRuntime.the-type
-    Laws'''''.the-laws; tells = Laws''''''''.tells OpaqueRelayRuntime.the-type Laws'''''.the-laws; still = Laws''''''''.still
-    OpaqueRelayRuntime.the-type Laws'''''.the-copy Exit.yes; row = Rows.whole (Declared'.row OpaqueRelayRuntime.the-type); rd = λ x. x; mk = λ x. x; }
-    λ M 𝓤 H A W. record { copies = Laws''''''''.copy OpaqueRelayRuntime.the-type Laws'''''.the-copy 𝓤 H A W; lawful = Laws''''''''.lawful
-    OpaqueRelayRuntime.the-type Laws'''''.the-laws 𝓤 H A W; makes = Laws''''''''.makes OpaqueRelayRuntime.the-type Laws'''''.the-plain 𝓤 H A; in-mem =
-    Local.mem-whole 𝓤 H A W (Declared'.row OpaqueRelayRuntime.the-type); of-mem = Local.whole-mem 𝓤 H A W (Declared'.row OpaqueRelayRuntime.the-type);
-    }) ∷ (Value.pVal record { ty = Declared'.row Places.the-type; one = Path.refl; val = Laws''''''''.val Places.the-type Laws''.the-laws; tells =
-    Laws''''''''.tells Places.the-type Laws''.the-laws; still = Laws''''''''.still Places.the-type Laws''.the-copy Exit.yes; row = Rows.whole
-    (Declared'.row Places.the-type); rd = λ x. x; mk = λ x. x; } λ M 𝓤 H A W. record { copies = Laws''''''''.copy Places.the-type Laws''.the-copy 𝓤 H
-    A W; lawful = Laws''''''''.lawful Places.the-type Laws''.the-laws 𝓤 H A W; makes = Laws''''''''.makes Places.the-type Laws''.the-plain 𝓤 H A;
-    in-mem = Local.mem-whole 𝓤 H A W (Declared'.row Places.the-type); of-mem = Local.whole-mem 𝓤 H A W (Declared'.row Places.the-type); }) ∷ List.[]
+ps·5 = (StructRow.param OpaqueRelayRuntime.the-type Laws'''''.the-laws Laws'''''.the-copy Laws'''''.the-plain) ∷ (StructRow.param
+    Places.the-type Laws''.the-laws Laws''.the-copy Laws''.the-plain) ∷ List.[]
+
 abbrev pub r·5 : Kinds.RK 0
-r·5 = Value.rVal record { ty = Declared'.row Relayed.the-type; one = Path.refl; val = Laws''''''''.val Relayed.the-type Laws''''''.the-laws; tells =
-    Laws''''''''.tells Relayed.the-type Laws''''''.the-laws; still = Laws''''''''.still Relayed.the-type Laws''''''.the-copy Exit.yes; row =
-    Rows.whole (Declared'.row Relayed.the-type); rd = λ x. x; mk = λ x. x; } λ M 𝓤 H A W. record { copies = Laws''''''''.copy Relayed.the-type
-    Laws''''''.the-copy 𝓤 H A W; lawful = Laws''''''''.lawful Relayed.the-type Laws''''''.the-laws 𝓤 H A W; makes = Laws''''''''.makes
-    Relayed.the-type Laws''''''.the-plain 𝓤 H A; in-mem = Local.mem-whole 𝓤 H A W (Declared'.row Relayed.the-type); of-mem = Local.whole-mem 𝓤 H A W
-    (Declared'.row Relayed.the-type); }
+r·5 = StructRow.result Relayed.the-type Laws''''''.the-laws Laws''''''.the-copy Laws''''''.the-plain
+
 abbrev pub hs : List.List Syntax.Home
-hs = Syntax.valueLocal ∷ Syntax.valueLocal ∷ Syntax.valueLocal ∷ Syntax.valueLocal ∷ Syntax.valueLocal ∷ Syntax.valueLocal ∷ Syntax.valueLocal ∷
-    Syntax.valueLocal ∷ Syntax.valueLocal ∷ Syntax.valueLocal ∷ Syntax.valueLocal ∷ Syntax.valueLocal ∷ Syntax.valueLocal ∷ Syntax.valueLocal ∷
-    Syntax.valueLocal ∷ Syntax.valueLocal ∷ Syntax.valueLocal ∷ Syntax.valueLocal ∷ Syntax.valueLocal ∷ Syntax.valueLocal ∷ Syntax.valueLocal ∷
-    Syntax.valueLocal ∷ Syntax.valueLocal ∷ List.[]
+hs = Syntax.valueLocal ∷ Syntax.valueLocal ∷ Syntax.valueLocal ∷ Syntax.valueLocal ∷ Syntax.valueLocal ∷
+    Syntax.valueLocal ∷ Syntax.valueLocal ∷ Syntax.valueLocal ∷ Syntax.valueLocal ∷ Syntax.valueLocal ∷
+    Syntax.valueLocal ∷ Syntax.valueLocal ∷ Syntax.valueLocal ∷ Syntax.valueLocal ∷ Syntax.valueLocal ∷
+    Syntax.valueLocal ∷ Syntax.valueLocal ∷ Syntax.valueLocal ∷ Syntax.valueLocal ∷ Syntax.valueLocal ∷
+    Syntax.valueLocal ∷ Syntax.valueLocal ∷ Syntax.valueLocal ∷ List.[]
+
 abbrev b0 : Syntax.Body
-b0 = Syntax.assign (Syntax.place 12 List.[]) (Syntax.addrOf (Syntax.place 1 ((Syntax.field 0) ∷ (Syntax.deref RelayPending.ty) ∷ List.[])))
+b0 = Syntax.assign (Syntax.place 12 List.[]) (Syntax.addrOf (Syntax.place 1 ((Syntax.field 0) ∷
+    (Syntax.deref RelayPending.ty) ∷ List.[])))
+
 abbrev b1 : Syntax.Body
-b1 = Syntax.assign (Syntax.place 13 List.[]) (Syntax.aggregate ((Syntax.copy (Syntax.place 12 List.[])) ∷ (Syntax.copy (Syntax.place 1 ((Syntax.field
-    1) ∷ List.[]))) ∷ List.[]))
+b1 = Syntax.assign (Syntax.place 13 List.[]) (Syntax.aggregate ((Syntax.copy (Syntax.place 12 List.[])) ∷
+    (Syntax.copy (Syntax.place 1 ((Syntax.field 1) ∷ List.[]))) ∷ List.[]))
+
 abbrev b2 : Syntax.Body
-b2 = Syntax.call "hnsr_circuit::lookup::pending_by_id" ((Syntax.copy (Syntax.place 13 List.[])) ∷ (Syntax.copy (Syntax.place 5 List.[])) ∷
-    (Syntax.copy (Syntax.place 6 List.[])) ∷ List.[]) (Syntax.place 7 List.[])
+b2 = Syntax.call "hnsr_circuit::lookup::pending_by_id" ((Syntax.copy (Syntax.place 13 List.[])) ∷
+    (Syntax.copy (Syntax.place 5 List.[])) ∷ (Syntax.copy (Syntax.place 6 List.[])) ∷ List.[]) (Syntax.place 7 List.[])
+
 abbrev b3 : Syntax.Body
-b3 = Syntax.call "hnsr_circuit::revocation::pending_gone" ((Syntax.copy (Syntax.place 7 List.[])) ∷ List.[]) (Syntax.place 8 List.[])
+b3 = Syntax.call "hnsr_circuit::revocation::pending_gone" ((Syntax.copy (Syntax.place 7 List.[])) ∷ List.[])
+    (Syntax.place 8 List.[])
+
 abbrev b4 : Syntax.Body
-b4 = Syntax.call "hnsr_circuit::acknowledge::fail_plan" ((Syntax.copy (Syntax.place 7 List.[])) ∷ (Syntax.copy (Syntax.place 4 List.[])) ∷ List.[])
-    (Syntax.place 9 List.[])
+b4 = Syntax.call "hnsr_circuit::acknowledge::fail_plan" ((Syntax.copy (Syntax.place 7 List.[])) ∷
+    (Syntax.copy (Syntax.place 4 List.[])) ∷ List.[]) (Syntax.place 9 List.[])
+
 abbrev b5 : Syntax.Body
 b5 = Syntax.assign (Syntax.place 10 List.[]) (Syntax.rvOpd (Syntax.copy (Syntax.place 9 ((Syntax.field 2) ∷ List.[]))))
+
 abbrev b6 : Syntax.Body
 b6 = Syntax.assign (Syntax.place 11 List.[]) (Syntax.rvOpd (Syntax.copy (Syntax.place 9 ((Syntax.field 3) ∷ List.[]))))
+
 abbrev b7 : Syntax.Body
 b7 = Syntax.assign (Syntax.place 14 List.[]) (Syntax.rvOpd (Syntax.copy (Syntax.place 9 ((Syntax.field 0) ∷ List.[]))))
+
 abbrev b8 : Syntax.Body
-b8 = Syntax.assign (Syntax.place 16 List.[]) (Syntax.addrOf (Syntax.place 1 ((Syntax.field 0) ∷ (Syntax.deref RelayPending.ty) ∷ List.[])))
+b8 = Syntax.assign (Syntax.place 16 List.[]) (Syntax.addrOf (Syntax.place 1 ((Syntax.field 0) ∷
+    (Syntax.deref RelayPending.ty) ∷ List.[])))
+
 abbrev b9 : Syntax.Body
-b9 = Syntax.assign (Syntax.place 17 List.[]) (Syntax.aggregate ((Syntax.copy (Syntax.place 16 List.[])) ∷ (Syntax.copy (Syntax.place 1 ((Syntax.field
-    1) ∷ List.[]))) ∷ List.[]))
+b9 = Syntax.assign (Syntax.place 17 List.[]) (Syntax.aggregate ((Syntax.copy (Syntax.place 16 List.[])) ∷
+    (Syntax.copy (Syntax.place 1 ((Syntax.field 1) ∷ List.[]))) ∷ List.[]))
+
 abbrev b10 : Syntax.Body
-b10 = Syntax.call "hnsr_circuit::tables::pending::set_pending" ((Syntax.copy (Syntax.place 17 List.[])) ∷ Syntax.opdTrue ∷ (Syntax.copy (Syntax.place
-    9 ((Syntax.field 1) ∷ List.[]))) ∷ (Syntax.copy (Syntax.place 8 List.[])) ∷ List.[]) (Syntax.place 15 List.[])
+b10 = Syntax.call "hnsr_circuit::tables::pending::set_pending" ((Syntax.copy (Syntax.place 17 List.[])) ∷
+    Syntax.opdTrue ∷ (Syntax.copy (Syntax.place 9 ((Syntax.field 1) ∷ List.[]))) ∷
+    (Syntax.copy (Syntax.place 8 List.[])) ∷ List.[]) (Syntax.place 15 List.[])
+
 abbrev b11 : Syntax.Body
-b11 = Syntax.assign (Syntax.place 18 List.[]) (Syntax.addrOf (Syntax.place 2 ((Syntax.field 0) ∷ (Syntax.deref InflightAction.ty) ∷ List.[])))
+b11 = Syntax.assign (Syntax.place 18 List.[]) (Syntax.addrOf (Syntax.place 2 ((Syntax.field 0) ∷
+    (Syntax.deref InflightAction.ty) ∷ List.[])))
+
 abbrev b12 : Syntax.Body
-b12 = Syntax.assign (Syntax.place 19 List.[]) (Syntax.aggregate ((Syntax.copy (Syntax.place 18 List.[])) ∷ (Syntax.copy (Syntax.place 2 ((Syntax.field
-    1) ∷ List.[]))) ∷ List.[]))
+b12 = Syntax.assign (Syntax.place 19 List.[]) (Syntax.aggregate ((Syntax.copy (Syntax.place 18 List.[])) ∷
+    (Syntax.copy (Syntax.place 2 ((Syntax.field 1) ∷ List.[]))) ∷ List.[]))
+
 abbrev b13 : Syntax.Body
-b13 = Syntax.assign (Syntax.place 20 List.[]) (Syntax.addrOf (Syntax.place 3 ((Syntax.field 0) ∷ (Syntax.deref (Syntax.tyInt Syntax.w32)) ∷ List.[])))
+b13 = Syntax.assign (Syntax.place 20 List.[]) (Syntax.addrOf (Syntax.place 3 ((Syntax.field 0) ∷
+    (Syntax.deref (Syntax.tyInt Syntax.w32)) ∷ List.[])))
+
 abbrev b14 : Syntax.Body
-b14 = Syntax.assign (Syntax.place 21 List.[]) (Syntax.aggregate ((Syntax.copy (Syntax.place 20 List.[])) ∷ (Syntax.copy (Syntax.place 3 ((Syntax.field
-    1) ∷ List.[]))) ∷ List.[]))
+b14 = Syntax.assign (Syntax.place 21 List.[]) (Syntax.aggregate ((Syntax.copy (Syntax.place 20 List.[])) ∷
+    (Syntax.copy (Syntax.place 3 ((Syntax.field 1) ∷ List.[]))) ∷ List.[]))
+
 abbrev b15 : Syntax.Body
 b15 = Syntax.assign (Syntax.place 22 List.[]) (Syntax.aggregate ((Syntax.int Syntax.w8 5) ∷ List.[]))
+
 abbrev b16 : Syntax.Body
-b16 = Syntax.call "hnsr_circuit::acknowledge::send_notice" ((Syntax.copy (Syntax.place 19 List.[])) ∷ (Syntax.copy (Syntax.place 21 List.[])) ∷
-    (Syntax.copy (Syntax.place 10 List.[])) ∷ (Syntax.copy (Syntax.place 5 List.[])) ∷ (Syntax.copy (Syntax.place 11 List.[])) ∷ (Syntax.copy
-    (Syntax.place 22 List.[])) ∷ List.[]) (Syntax.place 0 List.[])
+b16 = Syntax.call "hnsr_circuit::acknowledge::send_notice" ((Syntax.copy (Syntax.place 19 List.[])) ∷
+    (Syntax.copy (Syntax.place 21 List.[])) ∷ (Syntax.copy (Syntax.place 10 List.[])) ∷
+    (Syntax.copy (Syntax.place 5 List.[])) ∷ (Syntax.copy (Syntax.place 11 List.[])) ∷
+    (Syntax.copy (Syntax.place 22 List.[])) ∷ List.[]) (Syntax.place 0 List.[])
+
 abbrev b17 : Syntax.Body
 b17 = Syntax.return
+
 abbrev b18 : Syntax.Body
 b18 = Syntax.seq b16 b17
+
 abbrev b19 : Syntax.Body
 b19 = Syntax.seq b15 b18
+
 abbrev b20 : Syntax.Body
 b20 = Syntax.seq b14 b19
+
 abbrev b21 : Syntax.Body
 b21 = Syntax.seq b13 b20
+
 abbrev b22 : Syntax.Body
 b22 = Syntax.seq b12 b21
+
 abbrev b23 : Syntax.Body
 b23 = Syntax.seq b11 b22
+
 abbrev b24 : Syntax.Body
 b24 = Syntax.seq b10 b23
+
 abbrev b25 : Syntax.Body
 b25 = Syntax.seq b9 b24
+
 abbrev b26 : Syntax.Body
 b26 = Syntax.seq b8 b25
+
 abbrev b27 : Syntax.Body
 b27 = Syntax.skip
+
 abbrev b28 : Syntax.Body
 b28 = Syntax.cond (Syntax.copy (Syntax.place 14 List.[])) b26 b27
+
 abbrev b29 : Syntax.Body
-b29 = Syntax.call "hnsr_circuit::revoking_calls::taken_with" ((Syntax.copy (Syntax.place 4 List.[])) ∷ (Syntax.copy (Syntax.place 5 List.[])) ∷
-    List.[]) (Syntax.place 0 List.[])
+b29 = Syntax.call "hnsr_circuit::revoking_calls::taken_with" ((Syntax.copy (Syntax.place 4 List.[])) ∷
+    (Syntax.copy (Syntax.place 5 List.[])) ∷ List.[]) (Syntax.place 0 List.[])
+
 abbrev b30 : Syntax.Body
 b30 = Syntax.return
+
 abbrev b31 : Syntax.Body
 b31 = Syntax.seq b29 b30
+
 abbrev b32 : Syntax.Body
 b32 = Syntax.seq b28 b31
+
 abbrev b33 : Syntax.Body
 b33 = Syntax.seq b7 b32
+
 abbrev b34 : Syntax.Body
 b34 = Syntax.seq b6 b33
+
 abbrev b35 : Syntax.Body
 b35 = Syntax.seq b5 b34
+
 abbrev b36 : Syntax.Body
 b36 = Syntax.seq b4 b35
+
 abbrev b37 : Syntax.Body
 b37 = Syntax.seq b3 b36
+
 abbrev b38 : Syntax.Body
 b38 = Syntax.seq b2 b37
+
 abbrev b39 : Syntax.Body
 b39 = Syntax.seq b1 b38
+
 abbrev b40 : Syntax.Body
 b40 = Syntax.seq b0 b39
+
 abbrev pub body : Syntax.Body
 body = b40
+
 abbrev pub Claims : Type 1
-Claims = Kinds.In 1 ps·0 × Kinds.Out 1 ps·0 r·0 × Kinds.In 0 ps·1 × Kinds.Out 0 ps·1 r·1 × Kinds.In 0 ps·2 × Kinds.Out 0 ps·2 r·2 × Kinds.In 1 ps·3 ×
-    Kinds.Out 1 ps·3 r·3 × Kinds.In 2 ps·4 × Kinds.Out 2 ps·4 r·4 × Kinds.In 0 ps·5 × Kinds.Out 0 ps·5 r·5
+Claims = Kinds.In 1 ps·0 × Kinds.Out 1 ps·0 r·0 × Kinds.In 0 ps·1 × Kinds.Out 0 ps·1 r·1 × Kinds.In 0 ps·2 × Kinds.Out
+    0 ps·2 r·2 × Kinds.In 1 ps·3 × Kinds.Out 1 ps·3 r·3 × Kinds.In 2 ps·4 × Kinds.Out 2 ps·4 r·4 × Kinds.In 0 ps·5 ×
+    Kinds.Out 0 ps·5 r·5
+
 abbrev e0 : Row.Entry
 e0 = (0, Rows.any-gone Laws''''''.mir)
+
 abbrev e1 : Row.Entry
 e1 = (1, Mut.mslice RelayPending.row ref4 0)
+
 abbrev e2 : Row.Entry
 e2 = (2, Mut.mslice InflightAction.row ref5 1)
+
 abbrev e3 : Row.Entry
 e3 = (3, Mut.mslice (Referent.rtF (Referent.fInt Syntax.w32)) ref6 2)
+
 abbrev e4 : Row.Entry
 e4 = (4, Rows.whole (Declared'.row OpaqueRelayRuntime.the-type))
+
 abbrev e5 : Row.Entry
 e5 = (5, Rows.whole (Declared'.row Places.the-type))
+
 abbrev e6 : Row.Entry
 e6 = (6, Rows.sc-here (Row.sInt Syntax.w64))
+
 abbrev e7 : Row.Entry
 e7 = (7, Rows.any-gone Laws''''.mir)
+
 abbrev e8 : Row.Entry
 e8 = (8, Rows.any-gone RelayPending.ty)
+
 abbrev e9 : Row.Entry
 e9 = (9, Rows.any-gone Laws'.mir)
+
 abbrev e10 : Row.Entry
 e10 = (10, Rows.any-gone Laws'''''.mir)
+
 abbrev e11 : Row.Entry
 e11 = (11, Rows.any-gone Laws'''.mir)
+
 abbrev e12 : Row.Entry
 e12 = (12, Rows.any-gone ref0)
+
 abbrev e13 : Row.Entry
-e13 = (13, Rows.any-gone (Syntax.tyStruct (38 ∷ 91 ∷ 93 ∷ List.[]) (Syntax.tcons ref0 (Syntax.tcons (Syntax.tyInt Syntax.w64) Syntax.tnil))))
+e13 = (13, Rows.any-gone slice0)
+
 abbrev e14 : Row.Entry
 e14 = (14, Rows.any-gone Syntax.tyBool)
+
 abbrev e15 : Row.Entry
 e15 = (15, Rows.any-gone Syntax.tyUnit)
+
 abbrev e16 : Row.Entry
 e16 = (16, Rows.any-gone ref1)
+
 abbrev e17 : Row.Entry
-e17 = (17, Rows.any-gone (Syntax.tyStruct (38 ∷ 91 ∷ 93 ∷ List.[]) (Syntax.tcons ref1 (Syntax.tcons (Syntax.tyInt Syntax.w64) Syntax.tnil))))
+e17 = (17, Rows.any-gone slice1)
+
 abbrev e18 : Row.Entry
 e18 = (18, Rows.any-gone ref2)
+
 abbrev e19 : Row.Entry
-e19 = (19, Rows.any-gone (Syntax.tyStruct (38 ∷ 91 ∷ 93 ∷ List.[]) (Syntax.tcons ref2 (Syntax.tcons (Syntax.tyInt Syntax.w64) Syntax.tnil))))
+e19 = (19, Rows.any-gone slice2)
+
 abbrev e20 : Row.Entry
 e20 = (20, Rows.any-gone ref3)
+
 abbrev e21 : Row.Entry
-e21 = (21, Rows.any-gone (Syntax.tyStruct (38 ∷ 91 ∷ 93 ∷ List.[]) (Syntax.tcons ref3 (Syntax.tcons (Syntax.tyInt Syntax.w64) Syntax.tnil))))
+e21 = (21, Rows.any-gone slice3)
+
 abbrev e22 : Row.Entry
 e22 = (22, Rows.any-gone Laws.mir)
+
 abbrev e0·1 : Row.Entry
 e0·1 = (0, Rows.whole (Declared'.row Relayed.the-type))
+
 abbrev e4·1 : Row.Entry
 e4·1 = (4, Rows.any-gone Laws'''''.mir)
+
 abbrev e5·1 : Row.Entry
 e5·1 = (5, Rows.any-gone Laws''.mir)
+
 abbrev e6·1 : Row.Entry
 e6·1 = (6, Rows.any-gone (Syntax.tyInt Syntax.w64))
+
 abbrev e1·1 : Row.Entry
 e1·1 = (1, Reshare.mslice-owedS RelayPending.row ref4 0 3 Row.off)
+
 abbrev e12·1 : Row.Entry
 e12·1 = (12, Relend.ssptr RelayPending.row ref0 3)
+
 abbrev e13·1 : Row.Entry
 e13·1 = (13, Rows.sslice RelayPending.row ref0 3)
+
 abbrev e7·1 : Row.Entry
 e7·1 = (7, Rows.whole (Declared'.row PendingFound.the-type))
+
 abbrev e8·1 : Row.Entry
 e8·1 = (8, RelayPending.held)
+
 abbrev e9·1 : Row.Entry
 e9·1 = (9, Rows.whole (Declared'.row FailPlan.the-type))
+
 abbrev e10·1 : Row.Entry
 e10·1 = (10, Rows.whole (Declared'.row OpaqueRelayRuntime.the-type))
+
 abbrev e11·1 : Row.Entry
 e11·1 = (11, Rows.whole (Declared'.row Outgoing.the-type))
+
 abbrev e14·1 : Row.Entry
 e14·1 = (14, Rows.sc-here Row.sBool)
+
 abbrev e1·2 : Row.Entry
 e1·2 = (1, Relend.mslice-owed RelayPending.row ref4 0 4 Row.off)
+
 abbrev e16·1 : Row.Entry
 e16·1 = (16, Relend.msptr RelayPending.row ref1 4)
+
 abbrev e17·1 : Row.Entry
 e17·1 = (17, Mut.mslice RelayPending.row ref1 4)
+
 abbrev e15·1 : Row.Entry
 e15·1 = (15, Rows.sc-here Row.sUnit)
+
 abbrev e17·2 : Row.Entry
 e17·2 = (17, Mut.msleft RelayPending.row ref1)
+
 abbrev e2·1 : Row.Entry
 e2·1 = (2, Relend.mslice-owed InflightAction.row ref5 1 5 Row.off)
+
 abbrev e18·1 : Row.Entry
 e18·1 = (18, Relend.msptr InflightAction.row ref2 5)
+
 abbrev e19·1 : Row.Entry
 e19·1 = (19, Mut.mslice InflightAction.row ref2 5)
+
 abbrev e3·1 : Row.Entry
 e3·1 = (3, Relend.mslice-owed (Referent.rtF (Referent.fInt Syntax.w32)) ref6 2 6 Row.off)
+
 abbrev e20·1 : Row.Entry
 e20·1 = (20, Relend.msptr (Referent.rtF (Referent.fInt Syntax.w32)) ref3 6)
+
 abbrev e21·1 : Row.Entry
 e21·1 = (21, Mut.mslice (Referent.rtF (Referent.fInt Syntax.w32)) ref3 6)
+
 abbrev e22·1 : Row.Entry
 e22·1 = (22, Rows.whole (Declared.row Notice.the-type))
+
 abbrev e19·2 : Row.Entry
 e19·2 = (19, Mut.msleft InflightAction.row ref2)
+
 abbrev e21·2 : Row.Entry
 e21·2 = (21, Mut.msleft (Referent.rtF (Referent.fInt Syntax.w32)) ref3)
+
 abbrev pub t0 : List.List Row.Entry
 t0 = e0 ∷ e1 ∷ e2 ∷ e3 ∷ e4 ∷ e5 ∷ e6 ∷ e7 ∷ e8 ∷ e9 ∷ e10 ∷ e11 ∷ e12 ∷ e13 ∷ e14 ∷ e15 ∷ List.[]
+
 abbrev pub t1 : List.List Row.Entry
 t1 = e16 ∷ e17 ∷ e18 ∷ e19 ∷ e20 ∷ e21 ∷ e22 ∷ List.[]
+
 abbrev pub t2 : List.List Row.Entry
 t2 = e0·1 ∷ e1 ∷ e2 ∷ e3 ∷ e4·1 ∷ e5·1 ∷ e6·1 ∷ e7 ∷ e8 ∷ e9 ∷ e10 ∷ e11 ∷ e12 ∷ e13 ∷ e14 ∷ e15 ∷ List.[]
+
 abbrev pub t3 : List.List Row.Entry
 t3 = e0 ∷ e1·1 ∷ e2 ∷ e3 ∷ e4 ∷ e5 ∷ e6 ∷ e7 ∷ e8 ∷ e9 ∷ e10 ∷ e11 ∷ e12·1 ∷ e13 ∷ e14 ∷ e15 ∷ List.[]
+
 abbrev pub t4 : List.List Row.Entry
 t4 = e0 ∷ e1·1 ∷ e2 ∷ e3 ∷ e4 ∷ e5 ∷ e6 ∷ e7 ∷ e8 ∷ e9 ∷ e10 ∷ e11 ∷ e12 ∷ e13·1 ∷ e14 ∷ e15 ∷ List.[]
+
 abbrev pub t5 : List.List Row.Entry
 t5 = e0 ∷ e1·1 ∷ e2 ∷ e3 ∷ e4 ∷ e5 ∷ e6 ∷ e7·1 ∷ e8 ∷ e9 ∷ e10 ∷ e11 ∷ e12 ∷ e13·1 ∷ e14 ∷ e15 ∷ List.[]
+
 abbrev pub t6 : List.List Row.Entry
 t6 = e0 ∷ e1·1 ∷ e2 ∷ e3 ∷ e4 ∷ e5 ∷ e6 ∷ e7·1 ∷ e8 ∷ e9 ∷ e10 ∷ e11 ∷ e12 ∷ e13 ∷ e14 ∷ e15 ∷ List.[]
+
 abbrev pub t7 : List.List Row.Entry
 t7 = e0 ∷ e1 ∷ e2 ∷ e3 ∷ e4 ∷ e5 ∷ e6 ∷ e7·1 ∷ e8 ∷ e9 ∷ e10 ∷ e11 ∷ e12 ∷ e13 ∷ e14 ∷ e15 ∷ List.[]
+
 abbrev pub t8 : List.List Row.Entry
 t8 = e0 ∷ e1 ∷ e2 ∷ e3 ∷ e4 ∷ e5 ∷ e6 ∷ e7·1 ∷ e8·1 ∷ e9 ∷ e10 ∷ e11 ∷ e12 ∷ e13 ∷ e14 ∷ e15 ∷ List.[]
+
 abbrev pub t9 : List.List Row.Entry
 t9 = e0 ∷ e1 ∷ e2 ∷ e3 ∷ e4 ∷ e5 ∷ e6 ∷ e7·1 ∷ e8·1 ∷ e9·1 ∷ e10 ∷ e11 ∷ e12 ∷ e13 ∷ e14 ∷ e15 ∷ List.[]
+
 abbrev pub t10 : List.List Row.Entry
 t10 = e0 ∷ e1 ∷ e2 ∷ e3 ∷ e4 ∷ e5 ∷ e6 ∷ e7 ∷ e8·1 ∷ e9·1 ∷ e10 ∷ e11 ∷ e12 ∷ e13 ∷ e14 ∷ e15 ∷ List.[]
+
 abbrev pub t11 : List.List Row.Entry
 t11 = e0 ∷ e1 ∷ e2 ∷ e3 ∷ e4 ∷ e5 ∷ e6 ∷ e7 ∷ e8·1 ∷ e9·1 ∷ e10·1 ∷ e11 ∷ e12 ∷ e13 ∷ e14 ∷ e15 ∷ List.[]
+
 abbrev pub t12 : List.List Row.Entry
 t12 = e0 ∷ e1 ∷ e2 ∷ e3 ∷ e4 ∷ e5 ∷ e6 ∷ e7 ∷ e8·1 ∷ e9·1 ∷ e10·1 ∷ e11·1 ∷ e12 ∷ e13 ∷ e14 ∷ e15 ∷ List.[]
+
 abbrev pub t13 : List.List Row.Entry
 t13 = e0 ∷ e1 ∷ e2 ∷ e3 ∷ e4 ∷ e5 ∷ e6 ∷ e7 ∷ e8·1 ∷ e9·1 ∷ e10·1 ∷ e11·1 ∷ e12 ∷ e13 ∷ e14·1 ∷ e15 ∷ List.[]
+
 abbrev pub t14 : List.List Row.Entry
 t14 = e0 ∷ e1 ∷ e2 ∷ e3 ∷ e4·1 ∷ e5 ∷ e6 ∷ e7 ∷ e8·1 ∷ e9·1 ∷ e10·1 ∷ e11·1 ∷ e12 ∷ e13 ∷ e14·1 ∷ e15 ∷ List.[]
+
 abbrev pub t15 : List.List Row.Entry
 t15 = e0 ∷ e1 ∷ e2 ∷ e3 ∷ e4·1 ∷ e5 ∷ e6 ∷ e7 ∷ e8·1 ∷ e9·1 ∷ e10·1 ∷ e11·1 ∷ e12 ∷ e13 ∷ e14 ∷ e15 ∷ List.[]
+
 abbrev pub t16 : List.List Row.Entry
 t16 = e0 ∷ e1·2 ∷ e2 ∷ e3 ∷ e4·1 ∷ e5 ∷ e6 ∷ e7 ∷ e8·1 ∷ e9·1 ∷ e10·1 ∷ e11·1 ∷ e12 ∷ e13 ∷ e14 ∷ e15 ∷ List.[]
+
 abbrev pub t17 : List.List Row.Entry
 t17 = e16·1 ∷ e17 ∷ e18 ∷ e19 ∷ e20 ∷ e21 ∷ e22 ∷ List.[]
+
 abbrev pub t18 : List.List Row.Entry
 t18 = e16 ∷ e17·1 ∷ e18 ∷ e19 ∷ e20 ∷ e21 ∷ e22 ∷ List.[]
+
 abbrev pub t19 : List.List Row.Entry
 t19 = e0 ∷ e1·2 ∷ e2 ∷ e3 ∷ e4·1 ∷ e5 ∷ e6 ∷ e7 ∷ e8·1 ∷ e9·1 ∷ e10·1 ∷ e11·1 ∷ e12 ∷ e13 ∷ e14 ∷ e15·1 ∷ List.[]
+
 abbrev pub t20 : List.List Row.Entry
 t20 = e16 ∷ e17·2 ∷ e18 ∷ e19 ∷ e20 ∷ e21 ∷ e22 ∷ List.[]
+
 abbrev pub t21 : List.List Row.Entry
 t21 = e0 ∷ e1·2 ∷ e2 ∷ e3 ∷ e4·1 ∷ e5 ∷ e6 ∷ e7 ∷ e8 ∷ e9·1 ∷ e10·1 ∷ e11·1 ∷ e12 ∷ e13 ∷ e14 ∷ e15·1 ∷ List.[]
+
 abbrev pub t22 : List.List Row.Entry
 t22 = e0 ∷ e1·2 ∷ e2 ∷ e3 ∷ e4·1 ∷ e5 ∷ e6 ∷ e7 ∷ e8 ∷ e9 ∷ e10·1 ∷ e11·1 ∷ e12 ∷ e13 ∷ e14 ∷ e15·1 ∷ List.[]
+
 abbrev pub t23 : List.List Row.Entry
 t23 = e0 ∷ e1·2 ∷ e2 ∷ e3 ∷ e4·1 ∷ e5 ∷ e6 ∷ e7 ∷ e8 ∷ e9 ∷ e10·1 ∷ e11·1 ∷ e12 ∷ e13 ∷ e14 ∷ e15 ∷ List.[]
+
 abbrev pub t24 : List.List Row.Entry
 t24 = e0 ∷ e1 ∷ e2 ∷ e3 ∷ e4·1 ∷ e5 ∷ e6 ∷ e7 ∷ e8 ∷ e9 ∷ e10·1 ∷ e11·1 ∷ e12 ∷ e13 ∷ e14 ∷ e15 ∷ List.[]
+
 abbrev pub t25 : List.List Row.Entry
 t25 = e0 ∷ e1 ∷ e2·1 ∷ e3 ∷ e4·1 ∷ e5 ∷ e6 ∷ e7 ∷ e8 ∷ e9 ∷ e10·1 ∷ e11·1 ∷ e12 ∷ e13 ∷ e14 ∷ e15 ∷ List.[]
+
 abbrev pub t26 : List.List Row.Entry
 t26 = e16 ∷ e17 ∷ e18·1 ∷ e19 ∷ e20 ∷ e21 ∷ e22 ∷ List.[]
+
 abbrev pub t27 : List.List Row.Entry
 t27 = e16 ∷ e17 ∷ e18 ∷ e19·1 ∷ e20 ∷ e21 ∷ e22 ∷ List.[]
+
 abbrev pub t28 : List.List Row.Entry
 t28 = e0 ∷ e1 ∷ e2·1 ∷ e3·1 ∷ e4·1 ∷ e5 ∷ e6 ∷ e7 ∷ e8 ∷ e9 ∷ e10·1 ∷ e11·1 ∷ e12 ∷ e13 ∷ e14 ∷ e15 ∷ List.[]
+
 abbrev pub t29 : List.List Row.Entry
 t29 = e16 ∷ e17 ∷ e18 ∷ e19·1 ∷ e20·1 ∷ e21 ∷ e22 ∷ List.[]
+
 abbrev pub t30 : List.List Row.Entry
 t30 = e16 ∷ e17 ∷ e18 ∷ e19·1 ∷ e20 ∷ e21·1 ∷ e22 ∷ List.[]
+
 abbrev pub t31 : List.List Row.Entry
 t31 = e16 ∷ e17 ∷ e18 ∷ e19·1 ∷ e20 ∷ e21·1 ∷ e22·1 ∷ List.[]
+
 abbrev pub t32 : List.List Row.Entry
 t32 = e0·1 ∷ e1 ∷ e2·1 ∷ e3·1 ∷ e4·1 ∷ e5 ∷ e6 ∷ e7 ∷ e8 ∷ e9 ∷ e10·1 ∷ e11·1 ∷ e12 ∷ e13 ∷ e14 ∷ e15 ∷ List.[]
+
 abbrev pub t33 : List.List Row.Entry
 t33 = e16 ∷ e17 ∷ e18 ∷ e19·2 ∷ e20 ∷ e21·2 ∷ e22·1 ∷ List.[]
+
 abbrev pub t34 : List.List Row.Entry
 t34 = e0·1 ∷ e1 ∷ e2·1 ∷ e3·1 ∷ e4·1 ∷ e5·1 ∷ e6 ∷ e7 ∷ e8 ∷ e9 ∷ e10·1 ∷ e11·1 ∷ e12 ∷ e13 ∷ e14 ∷ e15 ∷ List.[]
+
 abbrev pub t35 : List.List Row.Entry
 t35 = e0·1 ∷ e1 ∷ e2·1 ∷ e3·1 ∷ e4·1 ∷ e5·1 ∷ e6 ∷ e7 ∷ e8 ∷ e9 ∷ e10 ∷ e11·1 ∷ e12 ∷ e13 ∷ e14 ∷ e15 ∷ List.[]
+
 abbrev pub t36 : List.List Row.Entry
 t36 = e0·1 ∷ e1 ∷ e2·1 ∷ e3·1 ∷ e4·1 ∷ e5·1 ∷ e6 ∷ e7 ∷ e8 ∷ e9 ∷ e10 ∷ e11 ∷ e12 ∷ e13 ∷ e14 ∷ e15 ∷ List.[]
+
 abbrev pub t37 : List.List Row.Entry
 t37 = e16 ∷ e17 ∷ e18 ∷ e19·2 ∷ e20 ∷ e21·2 ∷ e22 ∷ List.[]
+
 abbrev pub t38 : List.List Row.Entry
 t38 = e0·1 ∷ e1 ∷ e2 ∷ e3·1 ∷ e4·1 ∷ e5·1 ∷ e6 ∷ e7 ∷ e8 ∷ e9 ∷ e10 ∷ e11 ∷ e12 ∷ e13 ∷ e14 ∷ e15 ∷ List.[]
+
 abbrev pub t39 : List.List Row.Entry
 t39 = e16 ∷ e17 ∷ e18 ∷ e19 ∷ e20 ∷ e21·2 ∷ e22 ∷ List.[]
+
 abbrev pub t40 : List.List Row.Entry
 t40 = e0·1 ∷ e1 ∷ e2 ∷ e3 ∷ e4·1 ∷ e5·1 ∷ e6 ∷ e7 ∷ e8 ∷ e9 ∷ e10 ∷ e11 ∷ e12 ∷ e13 ∷ e14 ∷ e15 ∷ List.[]
+
 abbrev pub t41 : List.List Row.Entry
 t41 = e0 ∷ e1 ∷ e2 ∷ e3 ∷ e4 ∷ e5 ∷ e6 ∷ e7 ∷ e8 ∷ e9·1 ∷ e10·1 ∷ e11·1 ∷ e12 ∷ e13 ∷ e14·1 ∷ e15 ∷ List.[]
+
 abbrev pub t42 : List.List Row.Entry
 t42 = e0 ∷ e1 ∷ e2 ∷ e3 ∷ e4 ∷ e5 ∷ e6 ∷ e7 ∷ e8 ∷ e9 ∷ e10·1 ∷ e11·1 ∷ e12 ∷ e13 ∷ e14·1 ∷ e15 ∷ List.[]
+
 abbrev pub t43 : List.List Row.Entry
 t43 = e0 ∷ e1 ∷ e2 ∷ e3 ∷ e4 ∷ e5 ∷ e6 ∷ e7 ∷ e8 ∷ e9 ∷ e10 ∷ e11·1 ∷ e12 ∷ e13 ∷ e14·1 ∷ e15 ∷ List.[]
+
 abbrev pub t44 : List.List Row.Entry
 t44 = e0 ∷ e1 ∷ e2 ∷ e3 ∷ e4 ∷ e5 ∷ e6 ∷ e7 ∷ e8 ∷ e9 ∷ e10 ∷ e11 ∷ e12 ∷ e13 ∷ e14·1 ∷ e15 ∷ List.[]
+
 abbrev pub t45 : List.List Row.Entry
 t45 = e0·1 ∷ e1 ∷ e2 ∷ e3 ∷ e4 ∷ e5 ∷ e6 ∷ e7 ∷ e8 ∷ e9 ∷ e10 ∷ e11 ∷ e12 ∷ e13 ∷ e14 ∷ e15 ∷ List.[]
+
 abbrev pub t46 : List.List Row.Entry
 t46 = e0·1 ∷ e1 ∷ e2 ∷ e3 ∷ e4·1 ∷ e5 ∷ e6 ∷ e7 ∷ e8 ∷ e9 ∷ e10 ∷ e11 ∷ e12 ∷ e13 ∷ e14 ∷ e15 ∷ List.[]
+
 abbrev pub T0 : Row.Cx
 T0 = record { locals = List._++_ t0 t1; slots = List.[] }
+
 abbrev pub T1 : Row.Cx
 T1 = record { locals = List._++_ t2 t1; slots = List.[] }
+
 abbrev pub T2 : Row.Cx
 T2 = record { locals = List._++_ t0 t1; slots = List.[] }
+
 abbrev pub T4 : Row.Cx
 T4 = record { locals = List._++_ t3 t1; slots = List.[] }
+
 abbrev pub T5 : Row.Cx
 T5 = record { locals = List._++_ t4 t1; slots = List.[] }
+
 abbrev pub T6 : Row.Cx
 T6 = record { locals = List._++_ t5 t1; slots = List.[] }
+
 abbrev pub T7 : Row.Cx
 T7 = record { locals = List._++_ t6 t1; slots = List.[] }
+
 abbrev pub T9 : Row.Cx
 T9 = record { locals = List._++_ t7 t1; slots = List.[] }
+
 abbrev pub T11 : Row.Cx
 T11 = record { locals = List._++_ t8 t1; slots = List.[] }
+
 abbrev pub T12 : Row.Cx
 T12 = record { locals = List._++_ t9 t1; slots = List.[] }
+
 abbrev pub T13 : Row.Cx
 T13 = record { locals = List._++_ t10 t1; slots = List.[] }
+
 abbrev pub T14 : Row.Cx
 T14 = record { locals = List._++_ t11 t1; slots = List.[] }
+
 abbrev pub T15 : Row.Cx
 T15 = record { locals = List._++_ t12 t1; slots = List.[] }
+
 abbrev pub T16 : Row.Cx
 T16 = record { locals = List._++_ t13 t1; slots = List.[] }
+
 abbrev pub T17 : Row.Cx
 T17 = record { locals = List._++_ t0 t1; slots = List.[] }
+
 abbrev pub T18 : Row.Cx
 T18 = record { locals = List._++_ t14 t1; slots = List.[] }
+
 abbrev pub T19 : Row.Cx
 T19 = record { locals = List._++_ t15 t1; slots = List.[] }
+
 abbrev pub T21 : Row.Cx
 T21 = record { locals = List._++_ t16 t17; slots = List.[] }
+
 abbrev pub T22 : Row.Cx
 T22 = record { locals = List._++_ t16 t18; slots = List.[] }
+
 abbrev pub T23 : Row.Cx
 T23 = record { locals = List._++_ t19 t20; slots = List.[] }
+
 abbrev pub T24 : Row.Cx
 T24 = record { locals = List._++_ t21 t20; slots = List.[] }
+
 abbrev pub T25 : Row.Cx
 T25 = record { locals = List._++_ t22 t20; slots = List.[] }
+
 abbrev pub T26 : Row.Cx
 T26 = record { locals = List._++_ t23 t20; slots = List.[] }
+
 abbrev pub T28 : Row.Cx
 T28 = record { locals = List._++_ t24 t1; slots = List.[] }
+
 abbrev pub T31 : Row.Cx
 T31 = record { locals = List._++_ t25 t26; slots = List.[] }
+
 abbrev pub T32 : Row.Cx
 T32 = record { locals = List._++_ t25 t27; slots = List.[] }
+
 abbrev pub T34 : Row.Cx
 T34 = record { locals = List._++_ t28 t29; slots = List.[] }
+
 abbrev pub T35 : Row.Cx
 T35 = record { locals = List._++_ t28 t30; slots = List.[] }
+
 abbrev pub T36 : Row.Cx
 T36 = record { locals = List._++_ t28 t31; slots = List.[] }
+
 abbrev pub T37 : Row.Cx
 T37 = record { locals = List._++_ t32 t33; slots = List.[] }
+
 abbrev pub T38 : Row.Cx
 T38 = record { locals = List._++_ t34 t33; slots = List.[] }
+
 abbrev pub T39 : Row.Cx
 T39 = record { locals = List._++_ t35 t33; slots = List.[] }
+
 abbrev pub T40 : Row.Cx
 T40 = record { locals = List._++_ t36 t33; slots = List.[] }
+
 abbrev pub T41 : Row.Cx
 T41 = record { locals = List._++_ t36 t37; slots = List.[] }
+
 abbrev pub T43 : Row.Cx
 T43 = record { locals = List._++_ t38 t39; slots = List.[] }
+
 abbrev pub T46 : Row.Cx
 T46 = record { locals = List._++_ t40 t1; slots = List.[] }
+
 abbrev pub T47 : Row.Cx
 T47 = record { locals = List._++_ t40 t1; slots = List.[] }
+
 abbrev pub T49 : Row.Cx
 T49 = record { locals = List._++_ t2 t1; slots = List.[] }
+
 abbrev pub T50 : Row.Cx
 T50 = record { locals = List._++_ t41 t1; slots = List.[] }
+
 abbrev pub T51 : Row.Cx
 T51 = record { locals = List._++_ t42 t1; slots = List.[] }
+
 abbrev pub T52 : Row.Cx
 T52 = record { locals = List._++_ t43 t1; slots = List.[] }
+
 abbrev pub T53 : Row.Cx
 T53 = record { locals = List._++_ t44 t1; slots = List.[] }
+
 abbrev pub T54 : Row.Cx
 T54 = record { locals = List._++_ t0 t1; slots = List.[] }
+
 abbrev pub T55 : Row.Cx
 T55 = record { locals = List._++_ t45 t1; slots = List.[] }
+
 abbrev pub T56 : Row.Cx
 T56 = record { locals = List._++_ t46 t1; slots = List.[] }
+
 abbrev pub T57 : Row.Cx
 T57 = record { locals = List._++_ t40 t1; slots = List.[] }
+
 abbrev pub T58 : Row.Cx
 T58 = record { locals = List._++_ t2 t1; slots = List.[] }
+
 abbrev pub O0 : Typed.Outs
 O0 = record { next = Option.none; exits = List.[]; returns = Option.some T1 }
+
 abbrev pub O1 : Typed.Outs
 O1 = Typed.withNext (Option.some T17) O0
+
 module _ (claims· : Claims) where
   abbrev s0 : (bs : List.List Nat.ℕ) → Typed.Gives T0 T2
   s0 = λ bs. Know.k-sl-known (Referent.fInt Syntax.w32) T0 3 2 ref6 Row.off 0 λ x. x
+
   abbrev s2 : (bs : List.List Nat.ℕ) → Typed.Gives T2 T4
   s2 = λ bs. Reshare.k-sl-reshare RelayPending.row T2 1 12 0 3 ref4 ref0 Row.off λ x. x
+
   abbrev s3 : (bs : List.List Nat.ℕ) → Typed.Asks T4 T5
-  s3 = λ bs. Relend.k-sl-aggregate RelayPending.row (Relend.asShr RelayPending.row) T4 12 13 3 ref0 ref0 (λ x. x) (Scalar.oFld 1 ((Syntax.field 1) ∷
-      List.[]) (Syntax.tyInt Syntax.w64) 8 λ v. Shared.lenV (v .0))
+  s3 = λ bs. Relend.k-sl-aggregate RelayPending.row (Relend.asShr RelayPending.row) T4 12 13 3 ref0 ref0 (λ x. x) (Scalar.oFld
+      1 ((Syntax.field 1) ∷ List.[]) (Syntax.tyInt Syntax.w64) 8 λ v. Shared.lenV (v .0))
+
   abbrev s4 : (bs : List.List Nat.ℕ) → Typed.Both T5 T6
-  s4 = λ bs. Call.callB ps·0 r·0 (claims· .0) (claims· .1) T5 (record { pos = 13; ty = Syntax.tyRef Syntax.erased Syntax.imm RelayPending.to; ref = λ
-      x. x; }, (record { pos = 5; st = List.[]; d = 0; at = λ x. x }, (Num.vAt 6 λ x. x, tt)),) 7 (3 ∷ List.[]) Laws''''.mir
+  s4 = λ bs. Call.callB ps·0 r·0 (claims· .0) (claims· .1) T5 (
+    record { pos = 13; ty = ref0; ref = λ x. x },
+    (record { pos = 5; st = List.[]; d = 0; at = λ x. x }, (Num.vAt 6 λ x. x, tt)),
+  ) 7 (3 ∷ List.[]) Laws''''.mir
+
   abbrev s5 : (bs : List.List Nat.ℕ) → Typed.Mo T6 → Typed.Mo T7
-  s5 = λ bs. Scalar.n-room T6 13 (Syntax.tyStruct (38 ∷ 91 ∷ 93 ∷ List.[]) (Syntax.tcons ref0 (Syntax.tcons (Syntax.tyInt Syntax.w64) Syntax.tnil)))
+  s5 = λ bs. Scalar.n-room T6 13 slice0
+
   abbrev s7 : (bs : List.List Nat.ℕ) → Typed.Mo T7 → Typed.Mo T9
   s7 = λ bs. Reshare.n-back-sl-shr RelayPending.row T7 1 0 3 ref4 Row.off λ x. x
+
   abbrev s9 : (bs : List.List Nat.ℕ) → Typed.Both T9 T11
-  s9 = λ bs. Call.callB ps·1 r·1 (claims· .2) (claims· .3) T9 (record { pos = 7; st = List.[]; d = 0; at = λ x. x }, tt,) 8 List.[] RelayPending.ty
+  s9 = λ bs. Call.callB ps·1 r·1 (claims· .2) (claims· .3) T9
+      (record { pos = 7; st = List.[]; d = 0; at = λ x. x }, tt) 8 List.[] RelayPending.ty
+
   abbrev s10 : (bs : List.List Nat.ℕ) → Typed.Both T11 T12
-  s10 = λ bs. Call.callB ps·2 r·2 (claims· .4) (claims· .5) T11 (record { pos = 7; st = List.[]; d = 0; at = λ x. x }, (record { pos = 4; st =
-      List.[]; d = 0; at = λ x. x }, tt),) 9 List.[] Laws'.mir
+  s10 = λ bs. Call.callB ps·2 r·2 (claims· .4) (claims· .5) T11 (
+    record { pos = 7; st = List.[]; d = 0; at = λ x. x },
+    (record { pos = 4; st = List.[]; d = 0; at = λ x. x }, tt),
+  ) 9 List.[] Laws'.mir
+
   abbrev s11 : (bs : List.List Nat.ℕ) → Typed.Mo T12 → Typed.Mo T13
   s11 = λ bs. Scalar.n-room T12 7 Laws''''.mir
+
   abbrev s12 : (bs : List.List Nat.ℕ) → Typed.Both T13 T14
-  s12 = λ bs. WayStmt.k-way-copy-out T13 (Row.out 9 (T13 .locals)) (λ u. Row.drop 9 (T13 .locals) u) 10 (Rows.whole (Declared'.row
-      OpaqueRelayRuntime.the-type)) (λ u. At.getAt (FailPlan.the-type .parts) 2 (FailPlan.struct .as-values (u .1 .1 .1 .1 .1 .1 .1 .1 .1 .0))) (λ T′.
-      record { locals = Row.setRow 9 (9, Rows.whole (Declared'.row FailPlan.the-type)) T′; slots = List.[]; }) (λ u T′ m′. Row.set 9 (9, Rows.whole
-      (Declared'.row FailPlan.the-type)) (u .1 .1 .1 .1 .1 .1 .1 .1 .1 .0) T′ m′) (λ u. Unit) λ u. Unit
+  s12 = λ bs. WayStmt.k-way-copy-out T13 (Row.out 9 (T13 .locals)) (λ u. Row.drop 9 (T13 .locals) u) 10
+      (Rows.whole (Declared'.row OpaqueRelayRuntime.the-type)) (λ u. At.getAt (FailPlan.the-type .parts) 2 (FailPlan.struct
+      .as-values (u .1 .1 .1 .1 .1 .1 .1 .1 .1 .0))) (λ T′.
+      record { locals = Row.setRow 9 (9, Rows.whole (Declared'.row FailPlan.the-type)) T′; slots = List.[] }) (λ u T′
+      m′. Row.set 9 (9, Rows.whole (Declared'.row FailPlan.the-type)) (u .1 .1 .1 .1 .1 .1 .1 .1 .1 .0) T′ m′)
+      (λ u. Unit) λ u. Unit
+
   abbrev s13 : (bs : List.List Nat.ℕ) → Typed.Both T14 T15
-  s13 = λ bs. WayStmt.k-way-copy-out T14 (Row.out 9 (T14 .locals)) (λ u. Row.drop 9 (T14 .locals) u) 11 (Rows.whole (Declared'.row Outgoing.the-type))
-      (λ u. At.getAt (FailPlan.the-type .parts) 3 (FailPlan.struct .as-values (u .1 .1 .1 .1 .1 .1 .1 .1 .1 .0))) (λ T′. record { locals = Row.setRow
-      9 (9, Rows.whole (Declared'.row FailPlan.the-type)) T′; slots = List.[]; }) (λ u T′ m′. Row.set 9 (9, Rows.whole (Declared'.row
-      FailPlan.the-type)) (u .1 .1 .1 .1 .1 .1 .1 .1 .1 .0) T′ m′) (λ u. Unit) λ u. Unit
+  s13 = λ bs. WayStmt.k-way-copy-out T14 (Row.out 9 (T14 .locals)) (λ u. Row.drop 9 (T14 .locals) u) 11
+      (Rows.whole (Declared'.row Outgoing.the-type)) (λ u. At.getAt (FailPlan.the-type .parts) 3 (FailPlan.struct
+      .as-values (u .1 .1 .1 .1 .1 .1 .1 .1 .1 .0))) (λ T′.
+      record { locals = Row.setRow 9 (9, Rows.whole (Declared'.row FailPlan.the-type)) T′; slots = List.[] }) (λ u T′
+      m′. Row.set 9 (9, Rows.whole (Declared'.row FailPlan.the-type)) (u .1 .1 .1 .1 .1 .1 .1 .1 .1 .0) T′ m′)
+      (λ u. Unit) λ u. Unit
+
   abbrev s14 : (bs : List.List Nat.ℕ) → Typed.Mo T15 → Typed.Mo T16
-  s14 = λ bs. Scalar.n-use T15 (Scalar.oFld 9 ((Syntax.field 0) ∷ List.[]) Syntax.tyBool 0 (Reads.fieldV FailPlan.the-type Laws'.the-laws 0)) 14
-      (Rows.sc-here Row.sBool) (Row.sBool .of)
+  s14 = λ bs. Scalar.n-use T15 (Scalar.oFld 9 ((Syntax.field 0) ∷ List.[]) Syntax.tyBool 0
+      (Reads.fieldV FailPlan.the-type Laws'.the-laws 0)) 14 (Rows.sc-here Row.sBool) (Row.sBool .of)
+
   abbrev s15 : (bs : List.List Nat.ℕ) → Typed.Mo T16 → Typed.Mo T18
   s15 = λ bs. Scalar.n-room T16 4 Laws'''''.mir
+
   abbrev s16 : (bs : List.List Nat.ℕ) → Typed.Mo T18 → Typed.Mo T19
   s16 = λ bs. Scalar.n-room T18 14 Syntax.tyBool
+
   abbrev s18 : (bs : List.List Nat.ℕ) → Typed.Gives T19 T21
   s18 = λ bs. Relend.k-sl-relend RelayPending.row T19 1 16 0 4 ref4 ref1 Row.off λ x. x
+
   abbrev s19 : (bs : List.List Nat.ℕ) → Typed.Asks T21 T22
-  s19 = λ bs. Relend.k-sl-aggregate RelayPending.row (Relend.asMut RelayPending.row) T21 16 17 4 ref1 ref1 (λ x. x) (Scalar.oFld 1 ((Syntax.field 1) ∷
-      List.[]) (Syntax.tyInt Syntax.w64) 8 λ v. Shared.lenV (v .0))
+  s19 = λ bs. Relend.k-sl-aggregate RelayPending.row (Relend.asMut RelayPending.row) T21 16 17 4 ref1 ref1 (λ x. x) (Scalar.oFld
+      1 ((Syntax.field 1) ∷ List.[]) (Syntax.tyInt Syntax.w64) 8 λ v. Shared.lenV (v .0))
+
   abbrev s20 : (bs : List.List Nat.ℕ) → Typed.Both T22 T23
-  s20 = λ bs. Call.callB ps·3 r·3 (claims· .6) (claims· .7) T22 (record { pos = 17; ty = Syntax.tyRef Syntax.erased Syntax.mut RelayPending.to; ref =
-      λ x. x; }, (Bool.bLit Bool'.true, (Num.vFld 9 ((Syntax.field 1) ∷ List.[]) 8 λ x. FailPlan.struct .as-values x .1 .0, (record { pos = 8; st =
-      List.[]; d = 0; at = λ x. x }, tt),),),) 15 (4 ∷ List.[]) Syntax.tyUnit
+  s20 = λ bs. Call.callB ps·3 r·3 (claims· .6) (claims· .7) T22 (
+    record { pos = 17; ty = ref1; ref = λ x. x },
+    (
+      Bool.bLit Bool'.true,
+      (
+        Num.vFld 9 ((Syntax.field 1) ∷ List.[]) 8 λ x. FailPlan.struct .as-values x .1 .0,
+        (record { pos = 8; st = List.[]; d = 0; at = λ x. x }, tt),
+      ),
+    ),
+  ) 15 (4 ∷ List.[]) Syntax.tyUnit
+
   abbrev s21 : (bs : List.List Nat.ℕ) → Typed.Mo T23 → Typed.Mo T24
   s21 = λ bs. Scalar.n-room T23 8 RelayPending.ty
+
   abbrev s22 : (bs : List.List Nat.ℕ) → Typed.Mo T24 → Typed.Mo T25
   s22 = λ bs. Scalar.n-room T24 9 Laws'.mir
+
   abbrev s23 : (bs : List.List Nat.ℕ) → Typed.Mo T25 → Typed.Mo T26
   s23 = λ bs. Scalar.n-room T25 15 Syntax.tyUnit
+
   abbrev s25 : (bs : List.List Nat.ℕ) → Typed.Both T26 T28
   s25 = λ bs. Relend.k-back-sl RelayPending.row T26 17 1 0 4 ref4 ref1 Row.off (λ x. x) λ x. x
+
   abbrev s28 : (bs : List.List Nat.ℕ) → Typed.Gives T28 T31
   s28 = λ bs. Relend.k-sl-relend InflightAction.row T28 2 18 1 5 ref5 ref2 Row.off λ x. x
+
   abbrev s29 : (bs : List.List Nat.ℕ) → Typed.Asks T31 T32
-  s29 = λ bs. Relend.k-sl-aggregate InflightAction.row (Relend.asMut InflightAction.row) T31 18 19 5 ref2 ref2 (λ x. x) (Scalar.oFld 2 ((Syntax.field
-      1) ∷ List.[]) (Syntax.tyInt Syntax.w64) 8 λ v. Shared.lenV (v .0))
+  s29 = λ bs. Relend.k-sl-aggregate InflightAction.row (Relend.asMut InflightAction.row) T31 18 19 5 ref2 ref2 (λ x. x) (Scalar.oFld
+      2 ((Syntax.field 1) ∷ List.[]) (Syntax.tyInt Syntax.w64) 8 λ v. Shared.lenV (v .0))
+
   abbrev s31 : (bs : List.List Nat.ℕ) → Typed.Gives T32 T34
   s31 = λ bs. Relend.k-sl-relend (Referent.rtF (Referent.fInt Syntax.w32)) T32 3 20 2 6 ref6 ref3 Row.off λ x. x
+
   abbrev s32 : (bs : List.List Nat.ℕ) → Typed.Asks T34 T35
-  s32 = λ bs. Relend.k-sl-aggregate (Referent.rtF (Referent.fInt Syntax.w32)) (Relend.asMut (Referent.rtF (Referent.fInt Syntax.w32))) T34 20 21 6
-      ref3 ref3 (λ x. x) (Scalar.oFld 3 ((Syntax.field 1) ∷ List.[]) (Syntax.tyInt Syntax.w64) 8 λ v. Shared.lenV (v .0))
+  s32 = λ bs. Relend.k-sl-aggregate (Referent.rtF (Referent.fInt Syntax.w32))
+      (Relend.asMut (Referent.rtF (Referent.fInt Syntax.w32))) T34 20 21 6 ref3 ref3 (λ x. x) (Scalar.oFld 3
+      ((Syntax.field 1) ∷ List.[]) (Syntax.tyInt Syntax.w64) 8 λ v. Shared.lenV (v .0))
+
   abbrev s33 : (bs : List.List Nat.ℕ) → Typed.Mo T35 → Typed.Mo T36
-  s33 = λ bs. Make.n-enum-make Notice.the-type T35 22 λ m. Notice.enum .make (Logic.inr (Logic.inr (Logic.inr (Logic.inr (Logic.inr (Logic.inl
-      tt))))))
+  s33 = λ bs. Make.n-enum-make Notice.the-type T35 22 λ m. Notice.enum .make (Logic.inr (Logic.inr
+      (Logic.inr (Logic.inr (Logic.inr (Logic.inl tt))))))
+
   abbrev s34 : (bs : List.List Nat.ℕ) → Typed.Both T36 T37
-  s34 = λ bs. Call.callB ps·4 r·4 (claims· .8) (claims· .9) T36 (record { pos = 19; ty = Syntax.tyRef Syntax.erased Syntax.mut InflightAction.to; ref
-      = λ x. x; }, (record { pos = 21; ty = Syntax.tyRef Syntax.erased Syntax.mut (Syntax.tyInt Syntax.w32); ref = λ x. x; }, (record { pos = 10; st =
-      List.[]; d = 0; at = λ x. x }, (record { pos = 5; st = List.[]; d = 0; at = λ x. x }, (record { pos = 11; st = List.[]; d = 0; at = λ x. x },
-      (record { pos = 22; st = List.[]; d = 0; at = λ x. x }, tt),),),),),) 0 (5 ∷ 6 ∷ List.[]) Laws''''''.mir
+  s34 = λ bs. Call.callB ps·4 r·4 (claims· .8) (claims· .9) T36 (
+    record { pos = 19; ty = ref2; ref = λ x. x },
+    (
+      record { pos = 21; ty = ref3; ref = λ x. x },
+      (
+        record { pos = 10; st = List.[]; d = 0; at = λ x. x },
+        (
+          record { pos = 5; st = List.[]; d = 0; at = λ x. x },
+          (
+            record { pos = 11; st = List.[]; d = 0; at = λ x. x },
+            (record { pos = 22; st = List.[]; d = 0; at = λ x. x }, tt),
+          ),
+        ),
+      ),
+    ),
+  ) 0 (5 ∷ 6 ∷ List.[]) Laws''''''.mir
+
   abbrev s35 : (bs : List.List Nat.ℕ) → Typed.Mo T37 → Typed.Mo T38
   s35 = λ bs. Scalar.n-room T37 5 Laws''.mir
+
   abbrev s36 : (bs : List.List Nat.ℕ) → Typed.Mo T38 → Typed.Mo T39
   s36 = λ bs. Scalar.n-room T38 10 Laws'''''.mir
+
   abbrev s37 : (bs : List.List Nat.ℕ) → Typed.Mo T39 → Typed.Mo T40
   s37 = λ bs. Scalar.n-room T39 11 Laws'''.mir
+
   abbrev s38 : (bs : List.List Nat.ℕ) → Typed.Mo T40 → Typed.Mo T41
   s38 = λ bs. Scalar.n-room T40 22 Laws.mir
+
   abbrev s40 : (bs : List.List Nat.ℕ) → Typed.Both T41 T43
   s40 = λ bs. Relend.k-back-sl InflightAction.row T41 19 2 1 5 ref5 ref2 Row.off (λ x. x) λ x. x
+
   abbrev s43 : (bs : List.List Nat.ℕ) → Typed.Both T43 T46
   s43 = λ bs. Relend.k-back-sl (Referent.rtF (Referent.fInt Syntax.w32)) T43 21 3 2 6 ref6 ref3 Row.off (λ x. x) λ x. x
+
   abbrev s44 : (bs : List.List Nat.ℕ) → Typed.Gives T46 T47
   s44 = λ bs. Know.k-sl-known (Referent.fInt Syntax.w32) T46 3 2 ref6 Row.off 0 λ x. x
+
   abbrev s46 : (bs : List.List Nat.ℕ) → Typed.Mo T47 → Typed.Mo T49
   s46 = λ bs. Scalar.n-room T47 6 (Syntax.tyInt Syntax.w64)
+
   abbrev s47 : (bs : List.List Nat.ℕ) → Typed.Mo T16 → Typed.Mo T50
   s47 = λ bs. Scalar.n-room T16 8 RelayPending.ty
+
   abbrev s48 : (bs : List.List Nat.ℕ) → Typed.Mo T50 → Typed.Mo T51
   s48 = λ bs. Scalar.n-room T50 9 Laws'.mir
+
   abbrev s49 : (bs : List.List Nat.ℕ) → Typed.Mo T51 → Typed.Mo T52
   s49 = λ bs. Scalar.n-room T51 10 Laws'''''.mir
+
   abbrev s50 : (bs : List.List Nat.ℕ) → Typed.Mo T52 → Typed.Mo T53
   s50 = λ bs. Scalar.n-room T52 11 Laws'''.mir
+
   abbrev s51 : (bs : List.List Nat.ℕ) → Typed.Mo T53 → Typed.Mo T54
   s51 = λ bs. Scalar.n-room T53 14 Syntax.tyBool
+
   abbrev s52 : (bs : List.List Nat.ℕ) → Typed.Both T17 T55
-  s52 = λ bs. Call.callB ps·5 r·5 (claims· .10) (claims· .11) T17 (record { pos = 4; st = List.[]; d = 0; at = λ x. x }, (record { pos = 5; st =
-      List.[]; d = 0; at = λ x. x }, tt),) 0 List.[] Laws''''''.mir
+  s52 = λ bs. Call.callB ps·5 r·5 (claims· .10) (claims· .11) T17 (
+    record { pos = 4; st = List.[]; d = 0; at = λ x. x },
+    (record { pos = 5; st = List.[]; d = 0; at = λ x. x }, tt),
+  ) 0 List.[] Laws''''''.mir
+
   abbrev s53 : (bs : List.List Nat.ℕ) → Typed.Mo T55 → Typed.Mo T56
   s53 = λ bs. Scalar.n-room T55 4 Laws'''''.mir
+
   abbrev s54 : (bs : List.List Nat.ℕ) → Typed.Mo T56 → Typed.Mo T57
   s54 = λ bs. Scalar.n-room T56 5 Laws''.mir
+
   abbrev s55 : (bs : List.List Nat.ℕ) → Typed.Mo T57 → Typed.Mo T58
   s55 = λ bs. Scalar.n-room T57 6 (Syntax.tyInt Syntax.w64)
-  module _ (Pre· : (κs : Lifetimes.Lfts 3) → Kinds.Dens κs ps → Type 0) (Post· : (κs : Lifetimes.Lfts 3) → (a : Kinds.Dens κs ps) → Kinds.Plain 3 ps r
-      κs) where
+
+  module _ (Pre· : (κs : Lifetimes.Lfts 3) → Kinds.Dens κs ps → Type 0) (Post· : (κs : Lifetimes.Lfts 3) →
+      (a : Kinds.Dens κs ps) → Kinds.Plain 3 ps r κs) where
     module _ (M : Type 1) where
       abbrev pub Closed : Type 2
-      Closed = (𝓤 : URA.URA M) (H : Wp.Heap 𝓤) (A : Atoms.Atoms 𝓤) (W : Kit.Given 𝓤 H A) (𝓣 : Wp.Tables 𝓤 H) (known0 : Plain.Known 𝓤 H A W 𝓣 1 ps·0
-          r·0 (claims· .0) (claims· .1) "hnsr_circuit::lookup::pending_by_id") (known1 : Plain.Known 𝓤 H A W 𝓣 0 ps·1 r·1 (claims· .2) (claims· .3)
-          "hnsr_circuit::revocation::pending_gone") (known2 : Plain.Known 𝓤 H A W 𝓣 0 ps·2 r·2 (claims· .4) (claims· .5)
-          "hnsr_circuit::acknowledge::fail_plan") (known3 : Plain.Known 𝓤 H A W 𝓣 1 ps·3 r·3 (claims· .6) (claims· .7)
-          "hnsr_circuit::tables::pending::set_pending") (known4 : Plain.Known 𝓤 H A W 𝓣 2 ps·4 r·4 (claims· .8) (claims· .9)
-          "hnsr_circuit::acknowledge::send_notice") (known5 : Plain.Known 𝓤 H A W 𝓣 0 ps·5 r·5 (claims· .10) (claims· .11)
-          "hnsr_circuit::revoking_calls::taken_with") → Statement.Triple 𝓤 (Wp.WpFn 𝓤 H (𝓣 .C) (𝓣 .Λ) (Function.fnOf 3 ps r xs m hs body))
+      Closed = (𝓤 : URA.URA M) (H : Wp.Heap 𝓤) (A : Atoms.Atoms 𝓤) (W : Kit.Given 𝓤 H A) (𝓣 : Wp.Tables 𝓤 H) (known0 :
+          Plain.Known 𝓤 H A W 𝓣 1 ps·0 r·0 (claims· .0) (claims· .1) "hnsr_circuit::lookup::pending_by_id") (known1 :
+          Plain.Known 𝓤 H A W 𝓣 0 ps·1 r·1 (claims· .2) (claims· .3) "hnsr_circuit::revocation::pending_gone") (known2
+          : Plain.Known 𝓤 H A W 𝓣 0 ps·2 r·2 (claims· .4) (claims· .5) "hnsr_circuit::acknowledge::fail_plan") (known3
+          : Plain.Known 𝓤 H A W 𝓣 1 ps·3 r·3 (claims· .6) (claims· .7) "hnsr_circuit::tables::pending::set_pending") (known4
+          : Plain.Known 𝓤 H A W 𝓣 2 ps·4 r·4 (claims· .8) (claims· .9) "hnsr_circuit::acknowledge::send_notice") (known5
+          : Plain.Known 𝓤 H A W 𝓣 0 ps·5 r·5 (claims· .10) (claims· .11) "hnsr_circuit::revoking_calls::taken_with") →
+          Statement.Triple 𝓤 (Wp.WpFn 𝓤 H (𝓣 .C) (𝓣 .Λ) (Function.fnOf 3 ps r xs m hs body))
           (Function.plainOf 𝓤 H A 3 ps r Pre· Post·)
+
     module _ where
       abbrev at0 : (bs : List.List Nat.ℕ) → Typed.TF T49 O1
       at0 = λ bs. Typed.atRet O1
+
       abbrev at1 : (bs : List.List Nat.ℕ) → Typed.TF T47 O1
       at1 = λ bs. λ Ψ. Typed.pass T47 T49 (s46 bs) (at0 bs Ψ)
+
       abbrev at2 : (bs : List.List Nat.ℕ) → Typed.TF T47 O1
       at2 = λ bs. λ Ψ. at1 bs Ψ
+
       abbrev at3 : (bs : List.List Nat.ℕ) → Typed.TF T46 O1
       at3 = λ bs. λ Ψ. Typed.give (s44 bs) (at2 bs Ψ)
+
       abbrev at4 : (bs : List.List Nat.ℕ) → Typed.TF T43 O1
       at4 = λ bs. λ Ψ. Typed.both (s43 bs) (at3 bs Ψ)
+
       abbrev at5 : (bs : List.List Nat.ℕ) → Typed.TF T43 O1
       at5 = λ bs. λ Ψ. at4 bs Ψ
+
       abbrev at6 : (bs : List.List Nat.ℕ) → Typed.TF T43 O1
       at6 = λ bs. λ Ψ. at5 bs Ψ
+
       abbrev at7 : (bs : List.List Nat.ℕ) → Typed.TF T41 O1
       at7 = λ bs. λ Ψ. Typed.both (s40 bs) (at6 bs Ψ)
+
       abbrev at8 : (bs : List.List Nat.ℕ) → Typed.TF T41 O1
       at8 = λ bs. λ Ψ. at7 bs Ψ
+
       abbrev at9 : (bs : List.List Nat.ℕ) → Typed.TF T40 O1
       at9 = λ bs. λ Ψ. Typed.pass T40 T41 (s38 bs) (at8 bs Ψ)
+
       abbrev at10 : (bs : List.List Nat.ℕ) → Typed.TF T39 O1
       at10 = λ bs. λ Ψ. Typed.pass T39 T40 (s37 bs) (at9 bs Ψ)
+
       abbrev at11 : (bs : List.List Nat.ℕ) → Typed.TF T38 O1
       at11 = λ bs. λ Ψ. Typed.pass T38 T39 (s36 bs) (at10 bs Ψ)
+
       abbrev at12 : (bs : List.List Nat.ℕ) → Typed.TF T37 O1
       at12 = λ bs. λ Ψ. Typed.pass T37 T38 (s35 bs) (at11 bs Ψ)
+
       abbrev at13 : (bs : List.List Nat.ℕ) → Typed.TF T36 O1
       at13 = λ bs. λ Ψ. Typed.both (s34 bs) (at12 bs Ψ)
+
       abbrev at14 : (bs : List.List Nat.ℕ) → Typed.TF T35 O1
       at14 = λ bs. λ Ψ. Typed.pass T35 T36 (s33 bs) (at13 bs Ψ)
+
       abbrev at15 : (bs : List.List Nat.ℕ) → Typed.TF T34 O1
       at15 = λ bs. λ Ψ. Typed.ask (s32 bs) (at14 bs Ψ)
+
       abbrev at16 : (bs : List.List Nat.ℕ) → Typed.TF T32 O1
       at16 = λ bs. λ Ψ. Typed.give (s31 bs) (at15 bs Ψ)
+
       abbrev at17 : (bs : List.List Nat.ℕ) → Typed.TF T32 O1
       at17 = λ bs. λ Ψ. at16 bs Ψ
+
       abbrev at18 : (bs : List.List Nat.ℕ) → Typed.TF T31 O1
       at18 = λ bs. λ Ψ. Typed.ask (s29 bs) (at17 bs Ψ)
+
       abbrev at19 : (bs : List.List Nat.ℕ) → Typed.TF T28 O1
       at19 = λ bs. λ Ψ. Typed.give (s28 bs) (at18 bs Ψ)
+
       abbrev at20 : (bs : List.List Nat.ℕ) → Typed.TF T28 O1
       at20 = λ bs. λ Ψ. at19 bs Ψ
+
       abbrev at21 : (bs : List.List Nat.ℕ) → Typed.TF T28 O1
       at21 = λ bs. λ Ψ. at20 bs Ψ
+
       abbrev at22 : (bs : List.List Nat.ℕ) → Typed.TF T26 O1
       at22 = λ bs. λ Ψ. Typed.both (s25 bs) (at21 bs Ψ)
+
       abbrev at23 : (bs : List.List Nat.ℕ) → Typed.TF T26 O1
       at23 = λ bs. λ Ψ. at22 bs Ψ
+
       abbrev at24 : (bs : List.List Nat.ℕ) → Typed.TF T25 O1
       at24 = λ bs. λ Ψ. Typed.pass T25 T26 (s23 bs) (at23 bs Ψ)
+
       abbrev at25 : (bs : List.List Nat.ℕ) → Typed.TF T24 O1
       at25 = λ bs. λ Ψ. Typed.pass T24 T25 (s22 bs) (at24 bs Ψ)
+
       abbrev at26 : (bs : List.List Nat.ℕ) → Typed.TF T23 O1
       at26 = λ bs. λ Ψ. Typed.pass T23 T24 (s21 bs) (at25 bs Ψ)
+
       abbrev at27 : (bs : List.List Nat.ℕ) → Typed.TF T22 O1
       at27 = λ bs. λ Ψ. Typed.both (s20 bs) (at26 bs Ψ)
+
       abbrev at28 : (bs : List.List Nat.ℕ) → Typed.TF T21 O1
       at28 = λ bs. λ Ψ. Typed.ask (s19 bs) (at27 bs Ψ)
+
       abbrev at29 : (bs : List.List Nat.ℕ) → Typed.TF T19 O1
       at29 = λ bs. λ Ψ. Typed.give (s18 bs) (at28 bs Ψ)
+
       abbrev at30 : (bs : List.List Nat.ℕ) → Typed.TF T19 O1
       at30 = λ bs. λ Ψ. at29 bs Ψ
+
       abbrev at31 : (bs : List.List Nat.ℕ) → Typed.TF T18 O1
       at31 = λ bs. λ Ψ. Typed.pass T18 T19 (s16 bs) (at30 bs Ψ)
+
       abbrev at32 : (bs : List.List Nat.ℕ) → Typed.TF T16 O1
       at32 = λ bs. λ Ψ. Typed.pass T16 T18 (s15 bs) (at31 bs Ψ)
+
       abbrev at33 : (bs : List.List Nat.ℕ) → Typed.TF T54 O1
       at33 = λ bs. Typed.atNext O1
+
       abbrev at34 : (bs : List.List Nat.ℕ) → Typed.TF T53 O1
       at34 = λ bs. λ Ψ. Typed.pass T53 T54 (s51 bs) (at33 bs Ψ)
+
       abbrev at35 : (bs : List.List Nat.ℕ) → Typed.TF T52 O1
       at35 = λ bs. λ Ψ. Typed.pass T52 T53 (s50 bs) (at34 bs Ψ)
+
       abbrev at36 : (bs : List.List Nat.ℕ) → Typed.TF T51 O1
       at36 = λ bs. λ Ψ. Typed.pass T51 T52 (s49 bs) (at35 bs Ψ)
+
       abbrev at37 : (bs : List.List Nat.ℕ) → Typed.TF T50 O1
       at37 = λ bs. λ Ψ. Typed.pass T50 T51 (s48 bs) (at36 bs Ψ)
+
       abbrev at38 : (bs : List.List Nat.ℕ) → Typed.TF T16 O1
       at38 = λ bs. λ Ψ. Typed.pass T16 T50 (s47 bs) (at37 bs Ψ)
+
       abbrev at39 : (bs : List.List Nat.ℕ) → Typed.TF T16 O1
       at39 = λ bs. Scalar.Φcond T16 O1 14 (λ x. x) (at32 bs) (at38 bs)
+
       abbrev at40 : (bs : List.List Nat.ℕ) → Typed.TF T58 O0
       at40 = λ bs. Typed.atRet O0
+
       abbrev at41 : (bs : List.List Nat.ℕ) → Typed.TF T57 O0
       at41 = λ bs. λ Ψ. Typed.pass T57 T58 (s55 bs) (at40 bs Ψ)
+
       abbrev at42 : (bs : List.List Nat.ℕ) → Typed.TF T56 O0
       at42 = λ bs. λ Ψ. Typed.pass T56 T57 (s54 bs) (at41 bs Ψ)
+
       abbrev at43 : (bs : List.List Nat.ℕ) → Typed.TF T55 O0
       at43 = λ bs. λ Ψ. Typed.pass T55 T56 (s53 bs) (at42 bs Ψ)
+
       abbrev at44 : (bs : List.List Nat.ℕ) → Typed.TF T17 O0
       at44 = λ bs. λ Ψ. Typed.both (s52 bs) (at43 bs Ψ)
+
       abbrev at45 : (bs : List.List Nat.ℕ) → Typed.TF T16 O0
       at45 = λ bs. λ Ψ. at39 bs (Typed.wantNext T17 O0 (at44 bs Ψ) Ψ)
+
       abbrev at46 : (bs : List.List Nat.ℕ) → Typed.TF T15 O0
       at46 = λ bs. λ Ψ. Typed.pass T15 T16 (s14 bs) (at45 bs Ψ)
+
       abbrev at47 : (bs : List.List Nat.ℕ) → Typed.TF T14 O0
       at47 = λ bs. λ Ψ. Typed.both (s13 bs) (at46 bs Ψ)
+
       abbrev at48 : (bs : List.List Nat.ℕ) → Typed.TF T13 O0
       at48 = λ bs. λ Ψ. Typed.both (s12 bs) (at47 bs Ψ)
+
       abbrev at49 : (bs : List.List Nat.ℕ) → Typed.TF T12 O0
       at49 = λ bs. λ Ψ. Typed.pass T12 T13 (s11 bs) (at48 bs Ψ)
+
       abbrev at50 : (bs : List.List Nat.ℕ) → Typed.TF T11 O0
       at50 = λ bs. λ Ψ. Typed.both (s10 bs) (at49 bs Ψ)
+
       abbrev at51 : (bs : List.List Nat.ℕ) → Typed.TF T9 O0
       at51 = λ bs. λ Ψ. Typed.both (s9 bs) (at50 bs Ψ)
+
       abbrev at52 : (bs : List.List Nat.ℕ) → Typed.TF T9 O0
       at52 = λ bs. λ Ψ. at51 bs Ψ
+
       abbrev at53 : (bs : List.List Nat.ℕ) → Typed.TF T7 O0
       at53 = λ bs. λ Ψ. Typed.pass T7 T9 (s7 bs) (at52 bs Ψ)
+
       abbrev at54 : (bs : List.List Nat.ℕ) → Typed.TF T7 O0
       at54 = λ bs. λ Ψ. at53 bs Ψ
+
       abbrev at55 : (bs : List.List Nat.ℕ) → Typed.TF T6 O0
       at55 = λ bs. λ Ψ. Typed.pass T6 T7 (s5 bs) (at54 bs Ψ)
+
       abbrev at56 : (bs : List.List Nat.ℕ) → Typed.TF T5 O0
       at56 = λ bs. λ Ψ. Typed.both (s4 bs) (at55 bs Ψ)
+
       abbrev at57 : (bs : List.List Nat.ℕ) → Typed.TF T4 O0
       at57 = λ bs. λ Ψ. Typed.ask (s3 bs) (at56 bs Ψ)
+
       abbrev at58 : (bs : List.List Nat.ℕ) → Typed.TF T2 O0
       at58 = λ bs. λ Ψ. Typed.give (s2 bs) (at57 bs Ψ)
+
       abbrev at59 : (bs : List.List Nat.ℕ) → Typed.TF T2 O0
       at59 = λ bs. λ Ψ. at58 bs Ψ
+
       abbrev at60 : (bs : List.List Nat.ℕ) → Typed.TF T0 O0
       at60 = λ bs. λ Ψ. Typed.give (s0 bs) (at59 bs Ψ)
+
       abbrev pub Φ : (bs : List.List Nat.ℕ) → Typed.TF T0 O0
       Φ = λ bs. at60 bs
-      module _ { M : Type 1 } (𝓤 : URA.URA M) (H : Wp.Heap 𝓤) (A : Atoms.Atoms 𝓤) (W : Kit.Given 𝓤 H A) (𝓣 : Wp.Tables 𝓤 H) where
+
+      module _ {M : Type 1} (𝓤 : URA.URA M) (H : Wp.Heap 𝓤) (A : Atoms.Atoms 𝓤) (W : Kit.Given 𝓤 H A)
+          (𝓣 : Wp.Tables 𝓤 H) where
         abbrev Knowns : Type 1
-        Knowns = Plain.Known 𝓤 H A W 𝓣 1 ps·0 r·0 (claims· .0) (claims· .1) "hnsr_circuit::lookup::pending_by_id" × Plain.Known 𝓤 H A W 𝓣 0 ps·1 r·1
-            (claims· .2) (claims· .3) "hnsr_circuit::revocation::pending_gone" × Plain.Known 𝓤 H A W 𝓣 0 ps·2 r·2 (claims· .4) (claims· .5)
-            "hnsr_circuit::acknowledge::fail_plan" × Plain.Known 𝓤 H A W 𝓣 1 ps·3 r·3 (claims· .6) (claims· .7)
-            "hnsr_circuit::tables::pending::set_pending" × Plain.Known 𝓤 H A W 𝓣 2 ps·4 r·4 (claims· .8) (claims· .9)
-            "hnsr_circuit::acknowledge::send_notice" × Plain.Known 𝓤 H A W 𝓣 0 ps·5 r·5 (claims· .10) (claims· .11)
-            "hnsr_circuit::revoking_calls::taken_with"
+        Knowns = Plain.Known 𝓤 H A W 𝓣 1 ps·0 r·0 (claims· .0) (claims· .1) "hnsr_circuit::lookup::pending_by_id" ×
+            Plain.Known 𝓤 H A W 𝓣 0 ps·1 r·1 (claims· .2) (claims· .3) "hnsr_circuit::revocation::pending_gone" ×
+            Plain.Known 𝓤 H A W 𝓣 0 ps·2 r·2 (claims· .4) (claims· .5) "hnsr_circuit::acknowledge::fail_plan" ×
+            Plain.Known 𝓤 H A W 𝓣 1 ps·3 r·3 (claims· .6) (claims· .7) "hnsr_circuit::tables::pending::set_pending" ×
+            Plain.Known 𝓤 H A W 𝓣 2 ps·4 r·4 (claims· .8) (claims· .9) "hnsr_circuit::acknowledge::send_notice" ×
+            Plain.Known 𝓤 H A W 𝓣 0 ps·5 r·5 (claims· .10) (claims· .11) "hnsr_circuit::revoking_calls::taken_with"
+
       module _ (κs : Lifetimes.Lfts 3) (qs : Lifetimes.Shares 3) where
         abbrev life0 : Row.Life
         life0 = Row.lease (κs .0) (qs .0)
+
         abbrev life1 : Row.Life
         life1 = Row.lease (κs .1 .0) (qs .1 .0)
+
         abbrev life2 : Row.Life
         life2 = Row.lease (κs .1 .1 .0) (qs .1 .1 .0)
+
+        abbrev l1 : Row.Entry
+        l1 = (1, Reshare.mslice-owedS RelayPending.row ref4 0 3 life0)
+
+        abbrev l1·1 : Row.Entry
+        l1·1 = (1, Relend.mslice-owed RelayPending.row ref4 0 4 life0)
+
+        abbrev l2 : Row.Entry
+        l2 = (2, Relend.mslice-owed InflightAction.row ref5 1 5 life1)
+
+        abbrev l3 : Row.Entry
+        l3 = (3, Relend.mslice-owed (Referent.rtF (Referent.fInt Syntax.w32)) ref6 2 6 life2)
+
         abbrev g3 : List.List Row.Entry
-        g3 = (0, Rows.any-gone Laws''''''.mir,) ∷ (1, Reshare.mslice-owedS RelayPending.row ref4 0 3 life0,) ∷ (2, Mut.mslice InflightAction.row ref5
-            1,) ∷ (3, Mut.mslice (Referent.rtF (Referent.fInt Syntax.w32)) ref6 2,) ∷ (4, Rows.whole (Declared'.row OpaqueRelayRuntime.the-type)) ∷
-            (5, Rows.whole (Declared'.row Places.the-type),) ∷ (6, Rows.sc-here (Row.sInt Syntax.w64)) ∷ (7, Rows.any-gone Laws''''.mir,) ∷ (8,
-            Rows.any-gone RelayPending.ty) ∷ (9, Rows.any-gone Laws'.mir,) ∷ (10, Rows.any-gone Laws'''''.mir,) ∷ (11, Rows.any-gone Laws'''.mir,) ∷
-            (12, Relend.ssptr RelayPending.row ref0 3,) ∷ (13, Rows.any-gone (Syntax.tyStruct (38 ∷ 91 ∷ 93 ∷ List.[]) (Syntax.tcons ref0
-            (Syntax.tcons (Syntax.tyInt Syntax.w64) Syntax.tnil))),) ∷ (14, Rows.any-gone Syntax.tyBool) ∷ (15, Rows.any-gone Syntax.tyUnit,) ∷
-            List.[]
+        g3 = e0 ∷ l1 ∷ e2 ∷ e3 ∷ e4 ∷ e5 ∷ e6 ∷ e7 ∷ e8 ∷ e9 ∷ e10 ∷ e11 ∷ e12·1 ∷ e13 ∷ e14 ∷ e15 ∷ List.[]
+
         abbrev g4 : List.List Row.Entry
-        g4 = (0, Rows.any-gone Laws''''''.mir,) ∷ (1, Reshare.mslice-owedS RelayPending.row ref4 0 3 life0,) ∷ (2, Mut.mslice InflightAction.row ref5
-            1,) ∷ (3, Mut.mslice (Referent.rtF (Referent.fInt Syntax.w32)) ref6 2,) ∷ (4, Rows.whole (Declared'.row OpaqueRelayRuntime.the-type)) ∷
-            (5, Rows.whole (Declared'.row Places.the-type),) ∷ (6, Rows.sc-here (Row.sInt Syntax.w64)) ∷ (7, Rows.any-gone Laws''''.mir,) ∷ (8,
-            Rows.any-gone RelayPending.ty) ∷ (9, Rows.any-gone Laws'.mir,) ∷ (10, Rows.any-gone Laws'''''.mir,) ∷ (11, Rows.any-gone Laws'''.mir,) ∷
-            (12, Rows.any-gone ref0,) ∷ (13, Rows.sslice RelayPending.row ref0 3,) ∷ (14, Rows.any-gone Syntax.tyBool) ∷ (15, Rows.any-gone
-            Syntax.tyUnit,) ∷ List.[]
+        g4 = e0 ∷ l1 ∷ e2 ∷ e3 ∷ e4 ∷ e5 ∷ e6 ∷ e7 ∷ e8 ∷ e9 ∷ e10 ∷ e11 ∷ e12 ∷ e13·1 ∷ e14 ∷ e15 ∷ List.[]
+
         abbrev g5 : List.List Row.Entry
-        g5 = (0, Rows.any-gone Laws''''''.mir,) ∷ (1, Reshare.mslice-owedS RelayPending.row ref4 0 3 life0,) ∷ (2, Mut.mslice InflightAction.row ref5
-            1,) ∷ (3, Mut.mslice (Referent.rtF (Referent.fInt Syntax.w32)) ref6 2,) ∷ (4, Rows.whole (Declared'.row OpaqueRelayRuntime.the-type)) ∷
-            (5, Rows.whole (Declared'.row Places.the-type),) ∷ (6, Rows.sc-here (Row.sInt Syntax.w64)) ∷ (7, Rows.whole (Declared'.row
-            PendingFound.the-type),) ∷ (8, Rows.any-gone RelayPending.ty) ∷ (9, Rows.any-gone Laws'.mir,) ∷ (10, Rows.any-gone Laws'''''.mir,) ∷ (11,
-            Rows.any-gone Laws'''.mir,) ∷ (12, Rows.any-gone ref0,) ∷ (13, Rows.sslice RelayPending.row ref0 3,) ∷ (14, Rows.any-gone Syntax.tyBool) ∷
-            (15, Rows.any-gone Syntax.tyUnit,) ∷ List.[]
+        g5 = e0 ∷ l1 ∷ e2 ∷ e3 ∷ e4 ∷ e5 ∷ e6 ∷ e7·1 ∷ e8 ∷ e9 ∷ e10 ∷ e11 ∷ e12 ∷ e13·1 ∷ e14 ∷ e15 ∷ List.[]
+
         abbrev g6 : List.List Row.Entry
-        g6 = (0, Rows.any-gone Laws''''''.mir,) ∷ (1, Reshare.mslice-owedS RelayPending.row ref4 0 3 life0,) ∷ (2, Mut.mslice InflightAction.row ref5
-            1,) ∷ (3, Mut.mslice (Referent.rtF (Referent.fInt Syntax.w32)) ref6 2,) ∷ (4, Rows.whole (Declared'.row OpaqueRelayRuntime.the-type)) ∷
-            (5, Rows.whole (Declared'.row Places.the-type),) ∷ (6, Rows.sc-here (Row.sInt Syntax.w64)) ∷ (7, Rows.whole (Declared'.row
-            PendingFound.the-type),) ∷ (8, Rows.any-gone RelayPending.ty) ∷ (9, Rows.any-gone Laws'.mir,) ∷ (10, Rows.any-gone Laws'''''.mir,) ∷ (11,
-            Rows.any-gone Laws'''.mir,) ∷ (12, Rows.any-gone ref0,) ∷ (13, Rows.any-gone (Syntax.tyStruct (38 ∷ 91 ∷ 93 ∷ List.[]) (Syntax.tcons ref0
-            (Syntax.tcons (Syntax.tyInt Syntax.w64) Syntax.tnil))),) ∷ (14, Rows.any-gone Syntax.tyBool) ∷ (15, Rows.any-gone Syntax.tyUnit,) ∷
-            List.[]
+        g6 = e0 ∷ l1 ∷ e2 ∷ e3 ∷ e4 ∷ e5 ∷ e6 ∷ e7·1 ∷ e8 ∷ e9 ∷ e10 ∷ e11 ∷ e12 ∷ e13 ∷ e14 ∷ e15 ∷ List.[]
+
         abbrev g16 : List.List Row.Entry
-        g16 = (0, Rows.any-gone Laws''''''.mir,) ∷ (1, Relend.mslice-owed RelayPending.row ref4 0 4 life0,) ∷ (2, Mut.mslice InflightAction.row ref5
-            1,) ∷ (3, Mut.mslice (Referent.rtF (Referent.fInt Syntax.w32)) ref6 2,) ∷ (4, Rows.any-gone Laws'''''.mir,) ∷ (5, Rows.whole
-            (Declared'.row Places.the-type)) ∷ (6, Rows.sc-here (Row.sInt Syntax.w64),) ∷ (7, Rows.any-gone Laws''''.mir,) ∷ (8, RelayPending.held) ∷
-            (9, Rows.whole (Declared'.row FailPlan.the-type),) ∷ (10, Rows.whole (Declared'.row OpaqueRelayRuntime.the-type)) ∷ (11, Rows.whole
-            (Declared'.row Outgoing.the-type),) ∷ (12, Rows.any-gone ref0,) ∷ (13, Rows.any-gone (Syntax.tyStruct (38 ∷ 91 ∷ 93 ∷ List.[])
-            (Syntax.tcons ref0 (Syntax.tcons (Syntax.tyInt Syntax.w64) Syntax.tnil))),) ∷ (14, Rows.any-gone Syntax.tyBool) ∷ (15, Rows.any-gone
-            Syntax.tyUnit,) ∷ List.[]
+        g16 = e0 ∷ l1·1 ∷ e2 ∷ e3 ∷ e4·1 ∷ e5 ∷ e6 ∷ e7 ∷ e8·1 ∷ e9·1 ∷ e10·1 ∷ e11·1 ∷ e12 ∷ e13 ∷ e14 ∷ e15 ∷ List.[]
+
         abbrev g19 : List.List Row.Entry
-        g19 = (0, Rows.any-gone Laws''''''.mir,) ∷ (1, Relend.mslice-owed RelayPending.row ref4 0 4 life0,) ∷ (2, Mut.mslice InflightAction.row ref5
-            1,) ∷ (3, Mut.mslice (Referent.rtF (Referent.fInt Syntax.w32)) ref6 2,) ∷ (4, Rows.any-gone Laws'''''.mir,) ∷ (5, Rows.whole
-            (Declared'.row Places.the-type)) ∷ (6, Rows.sc-here (Row.sInt Syntax.w64),) ∷ (7, Rows.any-gone Laws''''.mir,) ∷ (8, RelayPending.held) ∷
-            (9, Rows.whole (Declared'.row FailPlan.the-type),) ∷ (10, Rows.whole (Declared'.row OpaqueRelayRuntime.the-type)) ∷ (11, Rows.whole
-            (Declared'.row Outgoing.the-type),) ∷ (12, Rows.any-gone ref0,) ∷ (13, Rows.any-gone (Syntax.tyStruct (38 ∷ 91 ∷ 93 ∷ List.[])
-            (Syntax.tcons ref0 (Syntax.tcons (Syntax.tyInt Syntax.w64) Syntax.tnil))),) ∷ (14, Rows.any-gone Syntax.tyBool) ∷ (15, Rows.sc-here
-            Row.sUnit) ∷ List.[]
+        g19 = e0 ∷ l1·1 ∷ e2 ∷ e3 ∷ e4·1 ∷ e5 ∷ e6 ∷ e7 ∷ e8·1 ∷ e9·1 ∷ e10·1 ∷ e11·1 ∷ e12 ∷ e13 ∷ e14 ∷ e15·1 ∷
+            List.[]
+
         abbrev g21 : List.List Row.Entry
-        g21 = (0, Rows.any-gone Laws''''''.mir,) ∷ (1, Relend.mslice-owed RelayPending.row ref4 0 4 life0,) ∷ (2, Mut.mslice InflightAction.row ref5
-            1,) ∷ (3, Mut.mslice (Referent.rtF (Referent.fInt Syntax.w32)) ref6 2,) ∷ (4, Rows.any-gone Laws'''''.mir,) ∷ (5, Rows.whole
-            (Declared'.row Places.the-type)) ∷ (6, Rows.sc-here (Row.sInt Syntax.w64),) ∷ (7, Rows.any-gone Laws''''.mir,) ∷ (8, Rows.any-gone
-            RelayPending.ty) ∷ (9, Rows.whole (Declared'.row FailPlan.the-type),) ∷ (10, Rows.whole (Declared'.row OpaqueRelayRuntime.the-type)) ∷
-            (11, Rows.whole (Declared'.row Outgoing.the-type),) ∷ (12, Rows.any-gone ref0,) ∷ (13, Rows.any-gone (Syntax.tyStruct (38 ∷ 91 ∷ 93 ∷
-            List.[]) (Syntax.tcons ref0 (Syntax.tcons (Syntax.tyInt Syntax.w64) Syntax.tnil))),) ∷ (14, Rows.any-gone Syntax.tyBool) ∷ (15,
-            Rows.sc-here Row.sUnit) ∷ List.[]
+        g21 = e0 ∷ l1·1 ∷ e2 ∷ e3 ∷ e4·1 ∷ e5 ∷ e6 ∷ e7 ∷ e8 ∷ e9·1 ∷ e10·1 ∷ e11·1 ∷ e12 ∷ e13 ∷ e14 ∷ e15·1 ∷ List.[]
+
         abbrev g22 : List.List Row.Entry
-        g22 = (0, Rows.any-gone Laws''''''.mir,) ∷ (1, Relend.mslice-owed RelayPending.row ref4 0 4 life0,) ∷ (2, Mut.mslice InflightAction.row ref5
-            1,) ∷ (3, Mut.mslice (Referent.rtF (Referent.fInt Syntax.w32)) ref6 2,) ∷ (4, Rows.any-gone Laws'''''.mir,) ∷ (5, Rows.whole
-            (Declared'.row Places.the-type)) ∷ (6, Rows.sc-here (Row.sInt Syntax.w64),) ∷ (7, Rows.any-gone Laws''''.mir,) ∷ (8, Rows.any-gone
-            RelayPending.ty) ∷ (9, Rows.any-gone Laws'.mir,) ∷ (10, Rows.whole (Declared'.row OpaqueRelayRuntime.the-type)) ∷ (11, Rows.whole
-            (Declared'.row Outgoing.the-type),) ∷ (12, Rows.any-gone ref0,) ∷ (13, Rows.any-gone (Syntax.tyStruct (38 ∷ 91 ∷ 93 ∷ List.[])
-            (Syntax.tcons ref0 (Syntax.tcons (Syntax.tyInt Syntax.w64) Syntax.tnil))),) ∷ (14, Rows.any-gone Syntax.tyBool) ∷ (15, Rows.sc-here
-            Row.sUnit) ∷ List.[]
+        g22 = e0 ∷ l1·1 ∷ e2 ∷ e3 ∷ e4·1 ∷ e5 ∷ e6 ∷ e7 ∷ e8 ∷ e9 ∷ e10·1 ∷ e11·1 ∷ e12 ∷ e13 ∷ e14 ∷ e15·1 ∷ List.[]
+
         abbrev g23 : List.List Row.Entry
-        g23 = (0, Rows.any-gone Laws''''''.mir,) ∷ (1, Relend.mslice-owed RelayPending.row ref4 0 4 life0,) ∷ (2, Mut.mslice InflightAction.row ref5
-            1,) ∷ (3, Mut.mslice (Referent.rtF (Referent.fInt Syntax.w32)) ref6 2,) ∷ (4, Rows.any-gone Laws'''''.mir,) ∷ (5, Rows.whole
-            (Declared'.row Places.the-type)) ∷ (6, Rows.sc-here (Row.sInt Syntax.w64),) ∷ (7, Rows.any-gone Laws''''.mir,) ∷ (8, Rows.any-gone
-            RelayPending.ty) ∷ (9, Rows.any-gone Laws'.mir,) ∷ (10, Rows.whole (Declared'.row OpaqueRelayRuntime.the-type)) ∷ (11, Rows.whole
-            (Declared'.row Outgoing.the-type),) ∷ (12, Rows.any-gone ref0,) ∷ (13, Rows.any-gone (Syntax.tyStruct (38 ∷ 91 ∷ 93 ∷ List.[])
-            (Syntax.tcons ref0 (Syntax.tcons (Syntax.tyInt Syntax.w64) Syntax.tnil))),) ∷ (14, Rows.any-gone Syntax.tyBool) ∷ (15, Rows.any-gone
-            Syntax.tyUnit,) ∷ List.[]
+        g23 = e0 ∷ l1·1 ∷ e2 ∷ e3 ∷ e4·1 ∷ e5 ∷ e6 ∷ e7 ∷ e8 ∷ e9 ∷ e10·1 ∷ e11·1 ∷ e12 ∷ e13 ∷ e14 ∷ e15 ∷ List.[]
+
         abbrev g25 : List.List Row.Entry
-        g25 = (0, Rows.any-gone Laws''''''.mir,) ∷ (1, Mut.mslice RelayPending.row ref4 0,) ∷ (2, Relend.mslice-owed InflightAction.row ref5 1 5
-            life1,) ∷ (3, Mut.mslice (Referent.rtF (Referent.fInt Syntax.w32)) ref6 2,) ∷ (4, Rows.any-gone Laws'''''.mir,) ∷ (5, Rows.whole
-            (Declared'.row Places.the-type)) ∷ (6, Rows.sc-here (Row.sInt Syntax.w64),) ∷ (7, Rows.any-gone Laws''''.mir,) ∷ (8, Rows.any-gone
-            RelayPending.ty) ∷ (9, Rows.any-gone Laws'.mir,) ∷ (10, Rows.whole (Declared'.row OpaqueRelayRuntime.the-type)) ∷ (11, Rows.whole
-            (Declared'.row Outgoing.the-type),) ∷ (12, Rows.any-gone ref0,) ∷ (13, Rows.any-gone (Syntax.tyStruct (38 ∷ 91 ∷ 93 ∷ List.[])
-            (Syntax.tcons ref0 (Syntax.tcons (Syntax.tyInt Syntax.w64) Syntax.tnil))),) ∷ (14, Rows.any-gone Syntax.tyBool) ∷ (15, Rows.any-gone
-            Syntax.tyUnit,) ∷ List.[]
+        g25 = e0 ∷ e1 ∷ l2 ∷ e3 ∷ e4·1 ∷ e5 ∷ e6 ∷ e7 ∷ e8 ∷ e9 ∷ e10·1 ∷ e11·1 ∷ e12 ∷ e13 ∷ e14 ∷ e15 ∷ List.[]
+
         abbrev g28 : List.List Row.Entry
-        g28 = (0, Rows.any-gone Laws''''''.mir,) ∷ (1, Mut.mslice RelayPending.row ref4 0,) ∷ (2, Relend.mslice-owed InflightAction.row ref5 1 5
-            life1,) ∷ (3, Relend.mslice-owed (Referent.rtF (Referent.fInt Syntax.w32)) ref6 2 6 life2,) ∷ (4, Rows.any-gone Laws'''''.mir,) ∷ (5,
-            Rows.whole (Declared'.row Places.the-type)) ∷ (6, Rows.sc-here (Row.sInt Syntax.w64),) ∷ (7, Rows.any-gone Laws''''.mir,) ∷ (8,
-            Rows.any-gone RelayPending.ty) ∷ (9, Rows.any-gone Laws'.mir,) ∷ (10, Rows.whole (Declared'.row OpaqueRelayRuntime.the-type)) ∷ (11,
-            Rows.whole (Declared'.row Outgoing.the-type),) ∷ (12, Rows.any-gone ref0,) ∷ (13, Rows.any-gone (Syntax.tyStruct (38 ∷ 91 ∷ 93 ∷ List.[])
-            (Syntax.tcons ref0 (Syntax.tcons (Syntax.tyInt Syntax.w64) Syntax.tnil))),) ∷ (14, Rows.any-gone Syntax.tyBool) ∷ (15, Rows.any-gone
-            Syntax.tyUnit,) ∷ List.[]
+        g28 = e0 ∷ e1 ∷ l2 ∷ l3 ∷ e4·1 ∷ e5 ∷ e6 ∷ e7 ∷ e8 ∷ e9 ∷ e10·1 ∷ e11·1 ∷ e12 ∷ e13 ∷ e14 ∷ e15 ∷ List.[]
+
         abbrev g32 : List.List Row.Entry
-        g32 = (0, Rows.whole (Declared'.row Relayed.the-type)) ∷ (1, Mut.mslice RelayPending.row ref4 0,) ∷ (2, Relend.mslice-owed InflightAction.row
-            ref5 1 5 life1,) ∷ (3, Relend.mslice-owed (Referent.rtF (Referent.fInt Syntax.w32)) ref6 2 6 life2,) ∷ (4, Rows.any-gone Laws'''''.mir,) ∷
-            (5, Rows.whole (Declared'.row Places.the-type)) ∷ (6, Rows.sc-here (Row.sInt Syntax.w64),) ∷ (7, Rows.any-gone Laws''''.mir,) ∷ (8,
-            Rows.any-gone RelayPending.ty) ∷ (9, Rows.any-gone Laws'.mir,) ∷ (10, Rows.whole (Declared'.row OpaqueRelayRuntime.the-type)) ∷ (11,
-            Rows.whole (Declared'.row Outgoing.the-type),) ∷ (12, Rows.any-gone ref0,) ∷ (13, Rows.any-gone (Syntax.tyStruct (38 ∷ 91 ∷ 93 ∷ List.[])
-            (Syntax.tcons ref0 (Syntax.tcons (Syntax.tyInt Syntax.w64) Syntax.tnil))),) ∷ (14, Rows.any-gone Syntax.tyBool) ∷ (15, Rows.any-gone
-            Syntax.tyUnit,) ∷ List.[]
+        g32 = e0·1 ∷ e1 ∷ l2 ∷ l3 ∷ e4·1 ∷ e5 ∷ e6 ∷ e7 ∷ e8 ∷ e9 ∷ e10·1 ∷ e11·1 ∷ e12 ∷ e13 ∷ e14 ∷ e15 ∷ List.[]
+
         abbrev g34 : List.List Row.Entry
-        g34 = (0, Rows.whole (Declared'.row Relayed.the-type)) ∷ (1, Mut.mslice RelayPending.row ref4 0,) ∷ (2, Relend.mslice-owed InflightAction.row
-            ref5 1 5 life1,) ∷ (3, Relend.mslice-owed (Referent.rtF (Referent.fInt Syntax.w32)) ref6 2 6 life2,) ∷ (4, Rows.any-gone Laws'''''.mir,) ∷
-            (5, Rows.any-gone Laws''.mir,) ∷ (6, Rows.sc-here (Row.sInt Syntax.w64)) ∷ (7, Rows.any-gone Laws''''.mir,) ∷ (8, Rows.any-gone
-            RelayPending.ty) ∷ (9, Rows.any-gone Laws'.mir,) ∷ (10, Rows.whole (Declared'.row OpaqueRelayRuntime.the-type)) ∷ (11, Rows.whole
-            (Declared'.row Outgoing.the-type),) ∷ (12, Rows.any-gone ref0,) ∷ (13, Rows.any-gone (Syntax.tyStruct (38 ∷ 91 ∷ 93 ∷ List.[])
-            (Syntax.tcons ref0 (Syntax.tcons (Syntax.tyInt Syntax.w64) Syntax.tnil))),) ∷ (14, Rows.any-gone Syntax.tyBool) ∷ (15, Rows.any-gone
-            Syntax.tyUnit,) ∷ List.[]
+        g34 = e0·1 ∷ e1 ∷ l2 ∷ l3 ∷ e4·1 ∷ e5·1 ∷ e6 ∷ e7 ∷ e8 ∷ e9 ∷ e10·1 ∷ e11·1 ∷ e12 ∷ e13 ∷ e14 ∷ e15 ∷ List.[]
+
         abbrev g35 : List.List Row.Entry
-        g35 = (0, Rows.whole (Declared'.row Relayed.the-type)) ∷ (1, Mut.mslice RelayPending.row ref4 0,) ∷ (2, Relend.mslice-owed InflightAction.row
-            ref5 1 5 life1,) ∷ (3, Relend.mslice-owed (Referent.rtF (Referent.fInt Syntax.w32)) ref6 2 6 life2,) ∷ (4, Rows.any-gone Laws'''''.mir,) ∷
-            (5, Rows.any-gone Laws''.mir,) ∷ (6, Rows.sc-here (Row.sInt Syntax.w64)) ∷ (7, Rows.any-gone Laws''''.mir,) ∷ (8, Rows.any-gone
-            RelayPending.ty) ∷ (9, Rows.any-gone Laws'.mir,) ∷ (10, Rows.any-gone Laws'''''.mir,) ∷ (11, Rows.whole (Declared'.row Outgoing.the-type))
-            ∷ (12, Rows.any-gone ref0,) ∷ (13, Rows.any-gone (Syntax.tyStruct (38 ∷ 91 ∷ 93 ∷ List.[]) (Syntax.tcons ref0 (Syntax.tcons (Syntax.tyInt
-            Syntax.w64) Syntax.tnil))),) ∷ (14, Rows.any-gone Syntax.tyBool) ∷ (15, Rows.any-gone Syntax.tyUnit,) ∷ List.[]
+        g35 = e0·1 ∷ e1 ∷ l2 ∷ l3 ∷ e4·1 ∷ e5·1 ∷ e6 ∷ e7 ∷ e8 ∷ e9 ∷ e10 ∷ e11·1 ∷ e12 ∷ e13 ∷ e14 ∷ e15 ∷ List.[]
+
         abbrev g36 : List.List Row.Entry
-        g36 = (0, Rows.whole (Declared'.row Relayed.the-type)) ∷ (1, Mut.mslice RelayPending.row ref4 0,) ∷ (2, Relend.mslice-owed InflightAction.row
-            ref5 1 5 life1,) ∷ (3, Relend.mslice-owed (Referent.rtF (Referent.fInt Syntax.w32)) ref6 2 6 life2,) ∷ (4, Rows.any-gone Laws'''''.mir,) ∷
-            (5, Rows.any-gone Laws''.mir,) ∷ (6, Rows.sc-here (Row.sInt Syntax.w64)) ∷ (7, Rows.any-gone Laws''''.mir,) ∷ (8, Rows.any-gone
-            RelayPending.ty) ∷ (9, Rows.any-gone Laws'.mir,) ∷ (10, Rows.any-gone Laws'''''.mir,) ∷ (11, Rows.any-gone Laws'''.mir,) ∷ (12,
-            Rows.any-gone ref0,) ∷ (13, Rows.any-gone (Syntax.tyStruct (38 ∷ 91 ∷ 93 ∷ List.[]) (Syntax.tcons ref0 (Syntax.tcons (Syntax.tyInt
-            Syntax.w64) Syntax.tnil))),) ∷ (14, Rows.any-gone Syntax.tyBool) ∷ (15, Rows.any-gone Syntax.tyUnit,) ∷ List.[]
+        g36 = e0·1 ∷ e1 ∷ l2 ∷ l3 ∷ e4·1 ∷ e5·1 ∷ e6 ∷ e7 ∷ e8 ∷ e9 ∷ e10 ∷ e11 ∷ e12 ∷ e13 ∷ e14 ∷ e15 ∷ List.[]
+
         abbrev g38 : List.List Row.Entry
-        g38 = (0, Rows.whole (Declared'.row Relayed.the-type)) ∷ (1, Mut.mslice RelayPending.row ref4 0,) ∷ (2, Mut.mslice InflightAction.row ref5 1,)
-            ∷ (3, Relend.mslice-owed (Referent.rtF (Referent.fInt Syntax.w32)) ref6 2 6 life2,) ∷ (4, Rows.any-gone Laws'''''.mir,) ∷ (5,
-            Rows.any-gone Laws''.mir,) ∷ (6, Rows.sc-here (Row.sInt Syntax.w64)) ∷ (7, Rows.any-gone Laws''''.mir,) ∷ (8, Rows.any-gone
-            RelayPending.ty) ∷ (9, Rows.any-gone Laws'.mir,) ∷ (10, Rows.any-gone Laws'''''.mir,) ∷ (11, Rows.any-gone Laws'''.mir,) ∷ (12,
-            Rows.any-gone ref0,) ∷ (13, Rows.any-gone (Syntax.tyStruct (38 ∷ 91 ∷ 93 ∷ List.[]) (Syntax.tcons ref0 (Syntax.tcons (Syntax.tyInt
-            Syntax.w64) Syntax.tnil))),) ∷ (14, Rows.any-gone Syntax.tyBool) ∷ (15, Rows.any-gone Syntax.tyUnit,) ∷ List.[]
+        g38 = e0·1 ∷ e1 ∷ e2 ∷ l3 ∷ e4·1 ∷ e5·1 ∷ e6 ∷ e7 ∷ e8 ∷ e9 ∷ e10 ∷ e11 ∷ e12 ∷ e13 ∷ e14 ∷ e15 ∷ List.[]
+
         abbrev G0 : Row.Cx
-        G0 = record { locals = List._++_ t0 t1; slots = life0 ∷ life1 ∷ life2 ∷ Row.off ∷ Row.off ∷ Row.off ∷ Row.off ∷ List.[]; }
+        G0 = record {
+          locals = List._++_ t0 t1;
+          slots = life0 ∷ life1 ∷ life2 ∷ Row.off ∷ Row.off ∷ Row.off ∷ Row.off ∷ List.[];
+        }
+
         abbrev G1 : Row.Cx
-        G1 = record { locals = List._++_ t2 t1; slots = life0 ∷ life1 ∷ life2 ∷ Row.off ∷ Row.off ∷ Row.off ∷ Row.off ∷ List.[]; }
+        G1 = record {
+          locals = List._++_ t2 t1;
+          slots = life0 ∷ life1 ∷ life2 ∷ Row.off ∷ Row.off ∷ Row.off ∷ Row.off ∷ List.[];
+        }
+
         abbrev G2 : Row.Cx
-        G2 = record { locals = List._++_ t0 t1; slots = life0 ∷ life1 ∷ life2 ∷ Row.off ∷ Row.off ∷ Row.off ∷ Row.off ∷ List.[]; }
+        G2 = record {
+          locals = List._++_ t0 t1;
+          slots = life0 ∷ life1 ∷ life2 ∷ Row.off ∷ Row.off ∷ Row.off ∷ Row.off ∷ List.[];
+        }
+
         abbrev G3 : Row.Cx
-        G3 = record { locals = List._++_ t0 t1; slots = life0 ∷ life1 ∷ life2 ∷ Row.alive ∷ Row.off ∷ Row.off ∷ Row.off ∷ List.[]; }
+        G3 = record {
+          locals = List._++_ t0 t1;
+          slots = life0 ∷ life1 ∷ life2 ∷ Row.alive ∷ Row.off ∷ Row.off ∷ Row.off ∷ List.[];
+        }
+
         abbrev G4 : Row.Cx
-        G4 = record { locals = List._++_ g3 t1; slots = Row.off ∷ life1 ∷ life2 ∷ Row.alive ∷ Row.off ∷ Row.off ∷ Row.off ∷ List.[]; }
+        G4 = record {
+          locals = List._++_ g3 t1;
+          slots = Row.off ∷ life1 ∷ life2 ∷ Row.alive ∷ Row.off ∷ Row.off ∷ Row.off ∷ List.[];
+        }
+
         abbrev G5 : Row.Cx
-        G5 = record { locals = List._++_ g4 t1; slots = Row.off ∷ life1 ∷ life2 ∷ Row.alive ∷ Row.off ∷ Row.off ∷ Row.off ∷ List.[]; }
+        G5 = record {
+          locals = List._++_ g4 t1;
+          slots = Row.off ∷ life1 ∷ life2 ∷ Row.alive ∷ Row.off ∷ Row.off ∷ Row.off ∷ List.[];
+        }
+
         abbrev G6 : Row.Cx
-        G6 = record { locals = List._++_ g5 t1; slots = Row.off ∷ life1 ∷ life2 ∷ Row.alive ∷ Row.off ∷ Row.off ∷ Row.off ∷ List.[]; }
+        G6 = record {
+          locals = List._++_ g5 t1;
+          slots = Row.off ∷ life1 ∷ life2 ∷ Row.alive ∷ Row.off ∷ Row.off ∷ Row.off ∷ List.[];
+        }
+
         abbrev G7 : Row.Cx
-        G7 = record { locals = List._++_ g6 t1; slots = Row.off ∷ life1 ∷ life2 ∷ Row.alive ∷ Row.off ∷ Row.off ∷ Row.off ∷ List.[]; }
+        G7 = record {
+          locals = List._++_ g6 t1;
+          slots = Row.off ∷ life1 ∷ life2 ∷ Row.alive ∷ Row.off ∷ Row.off ∷ Row.off ∷ List.[];
+        }
+
         abbrev G8 : Row.Cx
-        G8 = record { locals = List._++_ g6 t1; slots = Row.off ∷ life1 ∷ life2 ∷ Row.dead ∷ Row.off ∷ Row.off ∷ Row.off ∷ List.[]; }
+        G8 = record {
+          locals = List._++_ g6 t1;
+          slots = Row.off ∷ life1 ∷ life2 ∷ Row.dead ∷ Row.off ∷ Row.off ∷ Row.off ∷ List.[];
+        }
+
         abbrev G9 : Row.Cx
-        G9 = record { locals = List._++_ t7 t1; slots = life0 ∷ life1 ∷ life2 ∷ Row.dead ∷ Row.off ∷ Row.off ∷ Row.off ∷ List.[]; }
+        G9 = record {
+          locals = List._++_ t7 t1;
+          slots = life0 ∷ life1 ∷ life2 ∷ Row.dead ∷ Row.off ∷ Row.off ∷ Row.off ∷ List.[];
+        }
+
         abbrev G10 : Row.Cx
-        G10 = record { locals = List._++_ t7 t1; slots = life0 ∷ life1 ∷ life2 ∷ Row.off ∷ Row.off ∷ Row.off ∷ Row.off ∷ List.[]; }
+        G10 = record {
+          locals = List._++_ t7 t1;
+          slots = life0 ∷ life1 ∷ life2 ∷ Row.off ∷ Row.off ∷ Row.off ∷ Row.off ∷ List.[];
+        }
+
         abbrev G11 : Row.Cx
-        G11 = record { locals = List._++_ t8 t1; slots = life0 ∷ life1 ∷ life2 ∷ Row.off ∷ Row.off ∷ Row.off ∷ Row.off ∷ List.[]; }
+        G11 = record {
+          locals = List._++_ t8 t1;
+          slots = life0 ∷ life1 ∷ life2 ∷ Row.off ∷ Row.off ∷ Row.off ∷ Row.off ∷ List.[];
+        }
+
         abbrev G12 : Row.Cx
-        G12 = record { locals = List._++_ t9 t1; slots = life0 ∷ life1 ∷ life2 ∷ Row.off ∷ Row.off ∷ Row.off ∷ Row.off ∷ List.[]; }
+        G12 = record {
+          locals = List._++_ t9 t1;
+          slots = life0 ∷ life1 ∷ life2 ∷ Row.off ∷ Row.off ∷ Row.off ∷ Row.off ∷ List.[];
+        }
+
         abbrev G13 : Row.Cx
-        G13 = record { locals = List._++_ t10 t1; slots = life0 ∷ life1 ∷ life2 ∷ Row.off ∷ Row.off ∷ Row.off ∷ Row.off ∷ List.[]; }
+        G13 = record {
+          locals = List._++_ t10 t1;
+          slots = life0 ∷ life1 ∷ life2 ∷ Row.off ∷ Row.off ∷ Row.off ∷ Row.off ∷ List.[];
+        }
+
         abbrev G14 : Row.Cx
-        G14 = record { locals = List._++_ t11 t1; slots = life0 ∷ life1 ∷ life2 ∷ Row.off ∷ Row.off ∷ Row.off ∷ Row.off ∷ List.[]; }
+        G14 = record {
+          locals = List._++_ t11 t1;
+          slots = life0 ∷ life1 ∷ life2 ∷ Row.off ∷ Row.off ∷ Row.off ∷ Row.off ∷ List.[];
+        }
+
         abbrev G15 : Row.Cx
-        G15 = record { locals = List._++_ t12 t1; slots = life0 ∷ life1 ∷ life2 ∷ Row.off ∷ Row.off ∷ Row.off ∷ Row.off ∷ List.[]; }
+        G15 = record {
+          locals = List._++_ t12 t1;
+          slots = life0 ∷ life1 ∷ life2 ∷ Row.off ∷ Row.off ∷ Row.off ∷ Row.off ∷ List.[];
+        }
+
         abbrev G16 : Row.Cx
-        G16 = record { locals = List._++_ t13 t1; slots = life0 ∷ life1 ∷ life2 ∷ Row.off ∷ Row.off ∷ Row.off ∷ Row.off ∷ List.[]; }
+        G16 = record {
+          locals = List._++_ t13 t1;
+          slots = life0 ∷ life1 ∷ life2 ∷ Row.off ∷ Row.off ∷ Row.off ∷ Row.off ∷ List.[];
+        }
+
         abbrev G17 : Row.Cx
-        G17 = record { locals = List._++_ t0 t1; slots = life0 ∷ life1 ∷ life2 ∷ Row.off ∷ Row.off ∷ Row.off ∷ Row.off ∷ List.[]; }
+        G17 = record {
+          locals = List._++_ t0 t1;
+          slots = life0 ∷ life1 ∷ life2 ∷ Row.off ∷ Row.off ∷ Row.off ∷ Row.off ∷ List.[];
+        }
+
         abbrev G18 : Row.Cx
-        G18 = record { locals = List._++_ t14 t1; slots = life0 ∷ life1 ∷ life2 ∷ Row.off ∷ Row.off ∷ Row.off ∷ Row.off ∷ List.[]; }
+        G18 = record {
+          locals = List._++_ t14 t1;
+          slots = life0 ∷ life1 ∷ life2 ∷ Row.off ∷ Row.off ∷ Row.off ∷ Row.off ∷ List.[];
+        }
+
         abbrev G19 : Row.Cx
-        G19 = record { locals = List._++_ t15 t1; slots = life0 ∷ life1 ∷ life2 ∷ Row.off ∷ Row.off ∷ Row.off ∷ Row.off ∷ List.[]; }
+        G19 = record {
+          locals = List._++_ t15 t1;
+          slots = life0 ∷ life1 ∷ life2 ∷ Row.off ∷ Row.off ∷ Row.off ∷ Row.off ∷ List.[];
+        }
+
         abbrev G20 : Row.Cx
-        G20 = record { locals = List._++_ t15 t1; slots = life0 ∷ life1 ∷ life2 ∷ Row.off ∷ Row.alive ∷ Row.off ∷ Row.off ∷ List.[]; }
+        G20 = record {
+          locals = List._++_ t15 t1;
+          slots = life0 ∷ life1 ∷ life2 ∷ Row.off ∷ Row.alive ∷ Row.off ∷ Row.off ∷ List.[];
+        }
+
         abbrev G21 : Row.Cx
-        G21 = record { locals = List._++_ g16 t17; slots = Row.off ∷ life1 ∷ life2 ∷ Row.off ∷ Row.alive ∷ Row.off ∷ Row.off ∷ List.[]; }
+        G21 = record {
+          locals = List._++_ g16 t17;
+          slots = Row.off ∷ life1 ∷ life2 ∷ Row.off ∷ Row.alive ∷ Row.off ∷ Row.off ∷ List.[];
+        }
+
         abbrev G22 : Row.Cx
-        G22 = record { locals = List._++_ g16 t18; slots = Row.off ∷ life1 ∷ life2 ∷ Row.off ∷ Row.alive ∷ Row.off ∷ Row.off ∷ List.[]; }
+        G22 = record {
+          locals = List._++_ g16 t18;
+          slots = Row.off ∷ life1 ∷ life2 ∷ Row.off ∷ Row.alive ∷ Row.off ∷ Row.off ∷ List.[];
+        }
+
         abbrev G23 : Row.Cx
-        G23 = record { locals = List._++_ g19 t20; slots = Row.off ∷ life1 ∷ life2 ∷ Row.off ∷ Row.alive ∷ Row.off ∷ Row.off ∷ List.[]; }
+        G23 = record {
+          locals = List._++_ g19 t20;
+          slots = Row.off ∷ life1 ∷ life2 ∷ Row.off ∷ Row.alive ∷ Row.off ∷ Row.off ∷ List.[];
+        }
+
         abbrev G24 : Row.Cx
-        G24 = record { locals = List._++_ g21 t20; slots = Row.off ∷ life1 ∷ life2 ∷ Row.off ∷ Row.alive ∷ Row.off ∷ Row.off ∷ List.[]; }
+        G24 = record {
+          locals = List._++_ g21 t20;
+          slots = Row.off ∷ life1 ∷ life2 ∷ Row.off ∷ Row.alive ∷ Row.off ∷ Row.off ∷ List.[];
+        }
+
         abbrev G25 : Row.Cx
-        G25 = record { locals = List._++_ g22 t20; slots = Row.off ∷ life1 ∷ life2 ∷ Row.off ∷ Row.alive ∷ Row.off ∷ Row.off ∷ List.[]; }
+        G25 = record {
+          locals = List._++_ g22 t20;
+          slots = Row.off ∷ life1 ∷ life2 ∷ Row.off ∷ Row.alive ∷ Row.off ∷ Row.off ∷ List.[];
+        }
+
         abbrev G26 : Row.Cx
-        G26 = record { locals = List._++_ g23 t20; slots = Row.off ∷ life1 ∷ life2 ∷ Row.off ∷ Row.alive ∷ Row.off ∷ Row.off ∷ List.[]; }
+        G26 = record {
+          locals = List._++_ g23 t20;
+          slots = Row.off ∷ life1 ∷ life2 ∷ Row.off ∷ Row.alive ∷ Row.off ∷ Row.off ∷ List.[];
+        }
+
         abbrev G27 : Row.Cx
-        G27 = record { locals = List._++_ g23 t20; slots = Row.off ∷ life1 ∷ life2 ∷ Row.off ∷ Row.dead ∷ Row.off ∷ Row.off ∷ List.[]; }
+        G27 = record {
+          locals = List._++_ g23 t20;
+          slots = Row.off ∷ life1 ∷ life2 ∷ Row.off ∷ Row.dead ∷ Row.off ∷ Row.off ∷ List.[];
+        }
+
         abbrev G28 : Row.Cx
-        G28 = record { locals = List._++_ t24 t1; slots = life0 ∷ life1 ∷ life2 ∷ Row.off ∷ Row.dead ∷ Row.off ∷ Row.off ∷ List.[]; }
+        G28 = record {
+          locals = List._++_ t24 t1;
+          slots = life0 ∷ life1 ∷ life2 ∷ Row.off ∷ Row.dead ∷ Row.off ∷ Row.off ∷ List.[];
+        }
+
         abbrev G29 : Row.Cx
-        G29 = record { locals = List._++_ t24 t1; slots = life0 ∷ life1 ∷ life2 ∷ Row.off ∷ Row.off ∷ Row.off ∷ Row.off ∷ List.[]; }
+        G29 = record {
+          locals = List._++_ t24 t1;
+          slots = life0 ∷ life1 ∷ life2 ∷ Row.off ∷ Row.off ∷ Row.off ∷ Row.off ∷ List.[];
+        }
+
         abbrev G30 : Row.Cx
-        G30 = record { locals = List._++_ t24 t1; slots = life0 ∷ life1 ∷ life2 ∷ Row.off ∷ Row.off ∷ Row.alive ∷ Row.off ∷ List.[]; }
+        G30 = record {
+          locals = List._++_ t24 t1;
+          slots = life0 ∷ life1 ∷ life2 ∷ Row.off ∷ Row.off ∷ Row.alive ∷ Row.off ∷ List.[];
+        }
+
         abbrev G31 : Row.Cx
-        G31 = record { locals = List._++_ g25 t26; slots = life0 ∷ Row.off ∷ life2 ∷ Row.off ∷ Row.off ∷ Row.alive ∷ Row.off ∷ List.[]; }
+        G31 = record {
+          locals = List._++_ g25 t26;
+          slots = life0 ∷ Row.off ∷ life2 ∷ Row.off ∷ Row.off ∷ Row.alive ∷ Row.off ∷ List.[];
+        }
+
         abbrev G32 : Row.Cx
-        G32 = record { locals = List._++_ g25 t27; slots = life0 ∷ Row.off ∷ life2 ∷ Row.off ∷ Row.off ∷ Row.alive ∷ Row.off ∷ List.[]; }
+        G32 = record {
+          locals = List._++_ g25 t27;
+          slots = life0 ∷ Row.off ∷ life2 ∷ Row.off ∷ Row.off ∷ Row.alive ∷ Row.off ∷ List.[];
+        }
+
         abbrev G33 : Row.Cx
-        G33 = record { locals = List._++_ g25 t27; slots = life0 ∷ Row.off ∷ life2 ∷ Row.off ∷ Row.off ∷ Row.alive ∷ Row.alive ∷ List.[]; }
+        G33 = record {
+          locals = List._++_ g25 t27;
+          slots = life0 ∷ Row.off ∷ life2 ∷ Row.off ∷ Row.off ∷ Row.alive ∷ Row.alive ∷ List.[];
+        }
+
         abbrev G34 : Row.Cx
-        G34 = record { locals = List._++_ g28 t29; slots = life0 ∷ Row.off ∷ Row.off ∷ Row.off ∷ Row.off ∷ Row.alive ∷ Row.alive ∷ List.[]; }
+        G34 = record {
+          locals = List._++_ g28 t29;
+          slots = life0 ∷ Row.off ∷ Row.off ∷ Row.off ∷ Row.off ∷ Row.alive ∷ Row.alive ∷ List.[];
+        }
+
         abbrev G35 : Row.Cx
-        G35 = record { locals = List._++_ g28 t30; slots = life0 ∷ Row.off ∷ Row.off ∷ Row.off ∷ Row.off ∷ Row.alive ∷ Row.alive ∷ List.[]; }
+        G35 = record {
+          locals = List._++_ g28 t30;
+          slots = life0 ∷ Row.off ∷ Row.off ∷ Row.off ∷ Row.off ∷ Row.alive ∷ Row.alive ∷ List.[];
+        }
+
         abbrev G36 : Row.Cx
-        G36 = record { locals = List._++_ g28 t31; slots = life0 ∷ Row.off ∷ Row.off ∷ Row.off ∷ Row.off ∷ Row.alive ∷ Row.alive ∷ List.[]; }
+        G36 = record {
+          locals = List._++_ g28 t31;
+          slots = life0 ∷ Row.off ∷ Row.off ∷ Row.off ∷ Row.off ∷ Row.alive ∷ Row.alive ∷ List.[];
+        }
+
         abbrev G37 : Row.Cx
-        G37 = record { locals = List._++_ g32 t33; slots = life0 ∷ Row.off ∷ Row.off ∷ Row.off ∷ Row.off ∷ Row.alive ∷ Row.alive ∷ List.[]; }
+        G37 = record {
+          locals = List._++_ g32 t33;
+          slots = life0 ∷ Row.off ∷ Row.off ∷ Row.off ∷ Row.off ∷ Row.alive ∷ Row.alive ∷ List.[];
+        }
+
         abbrev G38 : Row.Cx
-        G38 = record { locals = List._++_ g34 t33; slots = life0 ∷ Row.off ∷ Row.off ∷ Row.off ∷ Row.off ∷ Row.alive ∷ Row.alive ∷ List.[]; }
+        G38 = record {
+          locals = List._++_ g34 t33;
+          slots = life0 ∷ Row.off ∷ Row.off ∷ Row.off ∷ Row.off ∷ Row.alive ∷ Row.alive ∷ List.[];
+        }
+
         abbrev G39 : Row.Cx
-        G39 = record { locals = List._++_ g35 t33; slots = life0 ∷ Row.off ∷ Row.off ∷ Row.off ∷ Row.off ∷ Row.alive ∷ Row.alive ∷ List.[]; }
+        G39 = record {
+          locals = List._++_ g35 t33;
+          slots = life0 ∷ Row.off ∷ Row.off ∷ Row.off ∷ Row.off ∷ Row.alive ∷ Row.alive ∷ List.[];
+        }
+
         abbrev G40 : Row.Cx
-        G40 = record { locals = List._++_ g36 t33; slots = life0 ∷ Row.off ∷ Row.off ∷ Row.off ∷ Row.off ∷ Row.alive ∷ Row.alive ∷ List.[]; }
+        G40 = record {
+          locals = List._++_ g36 t33;
+          slots = life0 ∷ Row.off ∷ Row.off ∷ Row.off ∷ Row.off ∷ Row.alive ∷ Row.alive ∷ List.[];
+        }
+
         abbrev G41 : Row.Cx
-        G41 = record { locals = List._++_ g36 t37; slots = life0 ∷ Row.off ∷ Row.off ∷ Row.off ∷ Row.off ∷ Row.alive ∷ Row.alive ∷ List.[]; }
+        G41 = record {
+          locals = List._++_ g36 t37;
+          slots = life0 ∷ Row.off ∷ Row.off ∷ Row.off ∷ Row.off ∷ Row.alive ∷ Row.alive ∷ List.[];
+        }
+
         abbrev G42 : Row.Cx
-        G42 = record { locals = List._++_ g36 t37; slots = life0 ∷ Row.off ∷ Row.off ∷ Row.off ∷ Row.off ∷ Row.dead ∷ Row.alive ∷ List.[]; }
+        G42 = record {
+          locals = List._++_ g36 t37;
+          slots = life0 ∷ Row.off ∷ Row.off ∷ Row.off ∷ Row.off ∷ Row.dead ∷ Row.alive ∷ List.[];
+        }
+
         abbrev G43 : Row.Cx
-        G43 = record { locals = List._++_ g38 t39; slots = life0 ∷ life1 ∷ Row.off ∷ Row.off ∷ Row.off ∷ Row.dead ∷ Row.alive ∷ List.[]; }
+        G43 = record {
+          locals = List._++_ g38 t39;
+          slots = life0 ∷ life1 ∷ Row.off ∷ Row.off ∷ Row.off ∷ Row.dead ∷ Row.alive ∷ List.[];
+        }
+
         abbrev G44 : Row.Cx
-        G44 = record { locals = List._++_ g38 t39; slots = life0 ∷ life1 ∷ Row.off ∷ Row.off ∷ Row.off ∷ Row.off ∷ Row.alive ∷ List.[]; }
+        G44 = record {
+          locals = List._++_ g38 t39;
+          slots = life0 ∷ life1 ∷ Row.off ∷ Row.off ∷ Row.off ∷ Row.off ∷ Row.alive ∷ List.[];
+        }
+
         abbrev G45 : Row.Cx
-        G45 = record { locals = List._++_ g38 t39; slots = life0 ∷ life1 ∷ Row.off ∷ Row.off ∷ Row.off ∷ Row.off ∷ Row.dead ∷ List.[]; }
+        G45 = record {
+          locals = List._++_ g38 t39;
+          slots = life0 ∷ life1 ∷ Row.off ∷ Row.off ∷ Row.off ∷ Row.off ∷ Row.dead ∷ List.[];
+        }
+
         abbrev G46 : Row.Cx
-        G46 = record { locals = List._++_ t40 t1; slots = life0 ∷ life1 ∷ life2 ∷ Row.off ∷ Row.off ∷ Row.off ∷ Row.dead ∷ List.[]; }
+        G46 = record {
+          locals = List._++_ t40 t1;
+          slots = life0 ∷ life1 ∷ life2 ∷ Row.off ∷ Row.off ∷ Row.off ∷ Row.dead ∷ List.[];
+        }
+
         abbrev G47 : Row.Cx
-        G47 = record { locals = List._++_ t40 t1; slots = life0 ∷ life1 ∷ life2 ∷ Row.off ∷ Row.off ∷ Row.off ∷ Row.dead ∷ List.[]; }
+        G47 = record {
+          locals = List._++_ t40 t1;
+          slots = life0 ∷ life1 ∷ life2 ∷ Row.off ∷ Row.off ∷ Row.off ∷ Row.dead ∷ List.[];
+        }
+
         abbrev G48 : Row.Cx
-        G48 = record { locals = List._++_ t40 t1; slots = life0 ∷ life1 ∷ life2 ∷ Row.off ∷ Row.off ∷ Row.off ∷ Row.off ∷ List.[]; }
+        G48 = record {
+          locals = List._++_ t40 t1;
+          slots = life0 ∷ life1 ∷ life2 ∷ Row.off ∷ Row.off ∷ Row.off ∷ Row.off ∷ List.[];
+        }
+
         abbrev G49 : Row.Cx
-        G49 = record { locals = List._++_ t2 t1; slots = life0 ∷ life1 ∷ life2 ∷ Row.off ∷ Row.off ∷ Row.off ∷ Row.off ∷ List.[]; }
+        G49 = record {
+          locals = List._++_ t2 t1;
+          slots = life0 ∷ life1 ∷ life2 ∷ Row.off ∷ Row.off ∷ Row.off ∷ Row.off ∷ List.[];
+        }
+
         abbrev G50 : Row.Cx
-        G50 = record { locals = List._++_ t41 t1; slots = life0 ∷ life1 ∷ life2 ∷ Row.off ∷ Row.off ∷ Row.off ∷ Row.off ∷ List.[]; }
+        G50 = record {
+          locals = List._++_ t41 t1;
+          slots = life0 ∷ life1 ∷ life2 ∷ Row.off ∷ Row.off ∷ Row.off ∷ Row.off ∷ List.[];
+        }
+
         abbrev G51 : Row.Cx
-        G51 = record { locals = List._++_ t42 t1; slots = life0 ∷ life1 ∷ life2 ∷ Row.off ∷ Row.off ∷ Row.off ∷ Row.off ∷ List.[]; }
+        G51 = record {
+          locals = List._++_ t42 t1;
+          slots = life0 ∷ life1 ∷ life2 ∷ Row.off ∷ Row.off ∷ Row.off ∷ Row.off ∷ List.[];
+        }
+
         abbrev G52 : Row.Cx
-        G52 = record { locals = List._++_ t43 t1; slots = life0 ∷ life1 ∷ life2 ∷ Row.off ∷ Row.off ∷ Row.off ∷ Row.off ∷ List.[]; }
+        G52 = record {
+          locals = List._++_ t43 t1;
+          slots = life0 ∷ life1 ∷ life2 ∷ Row.off ∷ Row.off ∷ Row.off ∷ Row.off ∷ List.[];
+        }
+
         abbrev G53 : Row.Cx
-        G53 = record { locals = List._++_ t44 t1; slots = life0 ∷ life1 ∷ life2 ∷ Row.off ∷ Row.off ∷ Row.off ∷ Row.off ∷ List.[]; }
+        G53 = record {
+          locals = List._++_ t44 t1;
+          slots = life0 ∷ life1 ∷ life2 ∷ Row.off ∷ Row.off ∷ Row.off ∷ Row.off ∷ List.[];
+        }
+
         abbrev G54 : Row.Cx
-        G54 = record { locals = List._++_ t0 t1; slots = life0 ∷ life1 ∷ life2 ∷ Row.off ∷ Row.off ∷ Row.off ∷ Row.off ∷ List.[]; }
+        G54 = record {
+          locals = List._++_ t0 t1;
+          slots = life0 ∷ life1 ∷ life2 ∷ Row.off ∷ Row.off ∷ Row.off ∷ Row.off ∷ List.[];
+        }
+
         abbrev G55 : Row.Cx
-        G55 = record { locals = List._++_ t45 t1; slots = life0 ∷ life1 ∷ life2 ∷ Row.off ∷ Row.off ∷ Row.off ∷ Row.off ∷ List.[]; }
+        G55 = record {
+          locals = List._++_ t45 t1;
+          slots = life0 ∷ life1 ∷ life2 ∷ Row.off ∷ Row.off ∷ Row.off ∷ Row.off ∷ List.[];
+        }
+
         abbrev G56 : Row.Cx
-        G56 = record { locals = List._++_ t46 t1; slots = life0 ∷ life1 ∷ life2 ∷ Row.off ∷ Row.off ∷ Row.off ∷ Row.off ∷ List.[]; }
+        G56 = record {
+          locals = List._++_ t46 t1;
+          slots = life0 ∷ life1 ∷ life2 ∷ Row.off ∷ Row.off ∷ Row.off ∷ Row.off ∷ List.[];
+        }
+
         abbrev G57 : Row.Cx
-        G57 = record { locals = List._++_ t40 t1; slots = life0 ∷ life1 ∷ life2 ∷ Row.off ∷ Row.off ∷ Row.off ∷ Row.off ∷ List.[]; }
+        G57 = record {
+          locals = List._++_ t40 t1;
+          slots = life0 ∷ life1 ∷ life2 ∷ Row.off ∷ Row.off ∷ Row.off ∷ Row.off ∷ List.[];
+        }
+
         abbrev G58 : Row.Cx
-        G58 = record { locals = List._++_ t2 t1; slots = life0 ∷ life1 ∷ life2 ∷ Row.off ∷ Row.off ∷ Row.off ∷ Row.off ∷ List.[]; }
+        G58 = record {
+          locals = List._++_ t2 t1;
+          slots = life0 ∷ life1 ∷ life2 ∷ Row.off ∷ Row.off ∷ Row.off ∷ Row.off ∷ List.[];
+        }
+
         abbrev Δ0 : Typed.Outs
         Δ0 = record { next = Option.none; exits = List.[]; returns = Option.some G1 }
+
         abbrev Δ1 : Typed.Outs
         Δ1 = Typed.withNext (Option.some G17) Δ0
-        module _ { M : Type 1 } (𝓤 : URA.URA M) (H : Wp.Heap 𝓤) (A : Atoms.Atoms 𝓤) (W : Kit.Given 𝓤 H A) (𝓣 : Wp.Tables 𝓤 H) (known : Knowns 𝓤 H A W
-            𝓣) (bs : List.List Nat.ℕ) (bd : Lifetimes.AllOutlive 3 (Kinds.osR r) κs) where
+
+        module _ {M : Type 1} (𝓤 : URA.URA M) (H : Wp.Heap 𝓤) (A : Atoms.Atoms 𝓤) (W : Kit.Given 𝓤 H A)
+            (𝓣 : Wp.Tables 𝓤 H) (known : Knowns 𝓤 H A W 𝓣) (bs : List.List Nat.ℕ)
+            (bd : Lifetimes.AllOutlive 3 (Kinds.osR r) κs) where
           abbrev E : Wp.Env 𝓤 H
           E = Frame.EnvOf 𝓤 H ((Kinds.tyR r) ∷ (Enter.tysP ps xs)) bs
+
           d0 : Typed.Typed 𝓤 H A 𝓣 E G49 b17 Δ1 (at0 bs)
           d0 = Typed.t-return 𝓤 H A W 𝓣 E Δ1 tt
+
           d1 : Typed.Typed 𝓤 H A 𝓣 E G48 b17 Δ1 (at1 bs)
-          d1 = Typed.g-pre 𝓤 H A W 𝓣 E G48 G49 b17 Δ1 (Typed.pass T47 T49 (s46 bs)) (at0 bs) (Scalar.g-room 𝓤 H A W E G48 6 (Syntax.tyInt Syntax.w64)
-              (Scalar.room-sc 𝓤 H A W (Row.sInt Syntax.w64))) d0
+          d1 = Typed.g-pre 𝓤 H A W 𝓣 E G48 G49 b17 Δ1 (Typed.pass T47 T49 (s46 bs)) (at0 bs) (Scalar.g-room 𝓤 H A W E
+              G48 6 (Syntax.tyInt Syntax.w64) (Scalar.room-sc 𝓤 H A W (Row.sInt Syntax.w64))) d0
+
           d2 : Typed.Typed 𝓤 H A 𝓣 E G47 b17 Δ1 (at2 bs)
-          d2 = Typed.g-pre 𝓤 H A W 𝓣 E G47 G48 b17 Δ1 (λ Ψ. Ψ) (at1 bs) (Lifetime.g-forget 𝓤 H A W E G47 6 Row.dead Path.refl) d1
+          d2 = Typed.g-pre 𝓤 H A W 𝓣 E G47 G48 b17 Δ1 (λ Ψ. Ψ) (at1 bs)
+              (Lifetime.g-forget 𝓤 H A W E G47 6 Row.dead Path.refl) d1
+
           d3 : Typed.Typed 𝓤 H A 𝓣 E G46 b17 Δ1 (at3 bs)
-          d3 = Typed.g-pre 𝓤 H A W 𝓣 E G46 G47 b17 Δ1 (Typed.give (s44 bs)) (at2 bs) (Know.g-sl-known 𝓤 H A W (Referent.fInt Syntax.w32) E G46 3 2
-              ref6 life2 0 (λ x. x) record { fits = Dec.lit< tt } (Reads'.as-is 𝓤 H A (Mut.mslice (Referent.rtF (Referent.fInt Syntax.w32)) ref6 2))
-              Path.refl tt) d2
+          d3 = Typed.g-pre 𝓤 H A W 𝓣 E G46 G47 b17 Δ1 (Typed.give (s44 bs)) (at2 bs) (Know.g-sl-known 𝓤 H A W
+              (Referent.fInt Syntax.w32) E G46 3 2 ref6 life2 0 (λ x. x) record { fits = Dec.lit< tt } (Reads'.as-is 𝓤
+              H A (Mut.mslice (Referent.rtF (Referent.fInt Syntax.w32)) ref6 2)) Path.refl tt) d2
+
           d4 : Typed.Typed 𝓤 H A 𝓣 E G45 b17 Δ1 (at4 bs)
-          d4 = Typed.g-pre 𝓤 H A W 𝓣 E G45 G46 b17 Δ1 (Typed.both (s43 bs)) (at3 bs) (Relend.g-back-sl 𝓤 H A W E (Referent.rtF (Referent.fInt
-              Syntax.w32)) G45 21 3 2 6 ref6 ref3 life2 (λ x. x) (λ x. x) (Reads'.as-is 𝓤 H A (Mut.msleft (Referent.rtF (Referent.fInt Syntax.w32))
-              ref3)) (Reads'.as-is 𝓤 H A (Relend.mslice-owed (Referent.rtF (Referent.fInt Syntax.w32)) ref6 2 6 life2)) Path.refl Path.refl) d3
+          d4 = Typed.g-pre 𝓤 H A W 𝓣 E G45 G46 b17 Δ1 (Typed.both (s43 bs)) (at3 bs) (Relend.g-back-sl 𝓤 H A W E
+              (Referent.rtF (Referent.fInt Syntax.w32)) G45 21 3 2 6 ref6 ref3 life2 (λ x. x) (λ x. x) (Reads'.as-is 𝓤
+              H A (Mut.msleft (Referent.rtF (Referent.fInt Syntax.w32)) ref3)) (Reads'.as-is 𝓤 H A (Relend.mslice-owed
+              (Referent.rtF (Referent.fInt Syntax.w32)) ref6 2 6 life2)) Path.refl Path.refl) d3
+
           d5 : Typed.Typed 𝓤 H A 𝓣 E G44 b17 Δ1 (at5 bs)
           d5 = Typed.g-pre 𝓤 H A W 𝓣 E G44 G45 b17 Δ1 (λ Ψ. Ψ) (at4 bs) (Lifetime.g-end 𝓤 H A W E G44 6 Path.refl) d4
+
           d6 : Typed.Typed 𝓤 H A 𝓣 E G43 b17 Δ1 (at6 bs)
-          d6 = Typed.g-pre 𝓤 H A W 𝓣 E G43 G44 b17 Δ1 (λ Ψ. Ψ) (at5 bs) (Lifetime.g-forget 𝓤 H A W E G43 5 Row.dead Path.refl) d5
+          d6 = Typed.g-pre 𝓤 H A W 𝓣 E G43 G44 b17 Δ1 (λ Ψ. Ψ) (at5 bs)
+              (Lifetime.g-forget 𝓤 H A W E G43 5 Row.dead Path.refl) d5
+
           d7 : Typed.Typed 𝓤 H A 𝓣 E G42 b17 Δ1 (at7 bs)
-          d7 = Typed.g-pre 𝓤 H A W 𝓣 E G42 G43 b17 Δ1 (Typed.both (s40 bs)) (at6 bs) (Relend.g-back-sl 𝓤 H A W E InflightAction.row G42 19 2 1 5 ref5
-              ref2 life1 (λ x. x) (λ x. x) (Reads'.as-is 𝓤 H A (Mut.msleft InflightAction.row ref2)) (Reads'.as-is 𝓤 H A (Relend.mslice-owed
-              InflightAction.row ref5 1 5 life1)) Path.refl Path.refl) d6
+          d7 = Typed.g-pre 𝓤 H A W 𝓣 E G42 G43 b17 Δ1 (Typed.both (s40 bs)) (at6 bs) (Relend.g-back-sl 𝓤 H A W E
+              InflightAction.row G42 19 2 1 5 ref5 ref2 life1 (λ x. x) (λ x. x)
+              (Reads'.as-is 𝓤 H A (Mut.msleft InflightAction.row ref2)) (Reads'.as-is 𝓤 H A
+              (Relend.mslice-owed InflightAction.row ref5 1 5 life1)) Path.refl Path.refl) d6
+
           d8 : Typed.Typed 𝓤 H A 𝓣 E G41 b17 Δ1 (at8 bs)
           d8 = Typed.g-pre 𝓤 H A W 𝓣 E G41 G42 b17 Δ1 (λ Ψ. Ψ) (at7 bs) (Lifetime.g-end 𝓤 H A W E G41 5 Path.refl) d7
+
           d9 : Typed.Typed 𝓤 H A 𝓣 E G40 b17 Δ1 (at9 bs)
-          d9 = Typed.g-pre 𝓤 H A W 𝓣 E G40 G41 b17 Δ1 (Typed.pass T40 T41 (s38 bs)) (at8 bs) (Scalar.g-room 𝓤 H A W E G40 22 Laws.mir
-              (Local.room-whole 𝓤 H A W (Declared.row Notice.the-type) Laws.mir Path.refl)) d8
+          d9 = Typed.g-pre 𝓤 H A W 𝓣 E G40 G41 b17 Δ1 (Typed.pass T40 T41 (s38 bs)) (at8 bs) (Scalar.g-room 𝓤 H A W E
+              G40 22 Laws.mir (Local.room-whole 𝓤 H A W (Declared.row Notice.the-type) Laws.mir Path.refl)) d8
+
           d10 : Typed.Typed 𝓤 H A 𝓣 E G39 b17 Δ1 (at10 bs)
-          d10 = Typed.g-pre 𝓤 H A W 𝓣 E G39 G40 b17 Δ1 (Typed.pass T39 T40 (s37 bs)) (at9 bs) (Scalar.g-room 𝓤 H A W E G39 11 Laws'''.mir
-              (Local.room-whole 𝓤 H A W (Declared'.row Outgoing.the-type) Laws'''.mir Path.refl)) d9
+          d10 = Typed.g-pre 𝓤 H A W 𝓣 E G39 G40 b17 Δ1 (Typed.pass T39 T40 (s37 bs)) (at9 bs) (Scalar.g-room 𝓤 H A W E
+              G39 11 Laws'''.mir (Local.room-whole 𝓤 H A W (Declared'.row Outgoing.the-type) Laws'''.mir Path.refl)) d9
+
           d11 : Typed.Typed 𝓤 H A 𝓣 E G38 b17 Δ1 (at11 bs)
-          d11 = Typed.g-pre 𝓤 H A W 𝓣 E G38 G39 b17 Δ1 (Typed.pass T38 T39 (s36 bs)) (at10 bs) (Scalar.g-room 𝓤 H A W E G38 10 Laws'''''.mir
-              (Local.room-whole 𝓤 H A W (Declared'.row OpaqueRelayRuntime.the-type) Laws'''''.mir Path.refl)) d10
+          d11 = Typed.g-pre 𝓤 H A W 𝓣 E G38 G39 b17 Δ1 (Typed.pass T38 T39 (s36 bs)) (at10 bs) (Scalar.g-room 𝓤 H A W E
+              G38 10 Laws'''''.mir (Local.room-whole 𝓤 H A W (Declared'.row OpaqueRelayRuntime.the-type) Laws'''''.mir
+              Path.refl)) d10
+
           d12 : Typed.Typed 𝓤 H A 𝓣 E G37 b17 Δ1 (at12 bs)
-          d12 = Typed.g-pre 𝓤 H A W 𝓣 E G37 G38 b17 Δ1 (Typed.pass T37 T38 (s35 bs)) (at11 bs) (Scalar.g-room 𝓤 H A W E G37 5 Laws''.mir
-              (Local.room-whole 𝓤 H A W (Declared'.row Places.the-type) Laws''.mir Path.refl)) d11
+          d12 = Typed.g-pre 𝓤 H A W 𝓣 E G37 G38 b17 Δ1 (Typed.pass T37 T38 (s35 bs)) (at11 bs) (Scalar.g-room 𝓤 H A W E
+              G37 5 Laws''.mir (Local.room-whole 𝓤 H A W (Declared'.row Places.the-type) Laws''.mir Path.refl)) d11
+
           d13 : Typed.Typed 𝓤 H A 𝓣 E G36 b18 Δ1 (at13 bs)
-          d13 = Typed.s-seq 𝓤 H A W 𝓣 E G36 G37 b16 b17 Δ1 (Typed.both (s34 bs)) (at12 bs) (Plain.t-call-plain 𝓤 H A W 𝓣 2 ps·4 r·4 (claims· .8)
-              (claims· .9) "hnsr_circuit::acknowledge::send_notice" (known .4) E (λ pos β. β) G36 (record { pos = 19; ty = Syntax.tyRef Syntax.erased
-              Syntax.mut InflightAction.to; ref = λ x. x; }, (record { pos = 21; ty = Syntax.tyRef Syntax.erased Syntax.mut (Syntax.tyInt Syntax.w32);
-              ref = λ x. x; }, (record { pos = 10; st = List.[]; d = 0; at = λ x. x }, (record { pos = 5; st = List.[]; d = 0; at = λ x. x }, (record
-              { pos = 11; st = List.[]; d = 0; at = λ x. x }, (record { pos = 22; st = List.[]; d = 0; at = λ x. x }, tt),),),),),) 0 (5 ∷ 6 ∷
-              List.[]) (Call.sub-id 𝓤 H A W (G36 .slots)) (Reads'.as-is 𝓤 H A (Mut.mslice InflightAction.row ref2 5), Mut.reads-mslice 𝓤 H A W
-              InflightAction.row ref2 5, Path.refl, (Reads'.as-is 𝓤 H A (Mut.mslice (Referent.rtF (Referent.fInt Syntax.w32)) ref3 6),
-              Mut.reads-mslice 𝓤 H A W (Referent.rtF (Referent.fInt Syntax.w32)) ref3 6, Path.refl, ((Yields.yields-copy 𝓤 H A W (λ ρ. Unit)
-              (Declared'.row OpaqueRelayRuntime.the-type) Path.refl (Copies.cStruct OpaqueRelayRuntime.the-type Laws'''''.the-laws Laws'''''.the-copy
-              .copy 𝓤 H A W) (Rows.whole (Declared'.row OpaqueRelayRuntime.the-type)) (λ x. x) (λ x. x) (λ ρ told. Local.mem-whole 𝓤 H A W
-              (Declared'.row OpaqueRelayRuntime.the-type) ρ) λ ρ told. Local.whole-mem 𝓤 H A W (Declared'.row OpaqueRelayRuntime.the-type) ρ,
-              Path.refl,), ((Yields.yields-copy 𝓤 H A W (λ ρ. Unit) (Declared'.row Places.the-type) Path.refl (Copies.cStruct Places.the-type
-              Laws''.the-laws Laws''.the-copy .copy 𝓤 H A W) (Rows.whole (Declared'.row Places.the-type)) (λ x. x) (λ x. x) (λ ρ told. Local.mem-whole
-              𝓤 H A W (Declared'.row Places.the-type) ρ) λ ρ told. Local.whole-mem 𝓤 H A W (Declared'.row Places.the-type) ρ, Path.refl,),
-              ((Yields.yields-copy 𝓤 H A W (λ ρ. Unit) (Declared'.row Outgoing.the-type) Path.refl (Copies.cStruct Outgoing.the-type Laws'''.the-laws
-              Laws'''.the-copy .copy 𝓤 H A W) (Rows.whole (Declared'.row Outgoing.the-type)) (λ x. x) (λ x. x) (λ ρ told. Local.mem-whole 𝓤 H A W
-              (Declared'.row Outgoing.the-type) ρ) λ ρ told. Local.whole-mem 𝓤 H A W (Declared'.row Outgoing.the-type) ρ, Path.refl,),
-              ((Yields.yields-copy 𝓤 H A W (λ ρ. Unit) (Declared.row Notice.the-type) Path.refl (Copies.cEnum Notice.the-type Laws.the-laws
-              Laws.the-copy .copy 𝓤 H A W) (Rows.whole (Declared.row Notice.the-type)) (λ x. x) (λ x. x) (λ ρ told. Local.mem-whole 𝓤 H A W
-              (Declared.row Notice.the-type) ρ) λ ρ told. Local.whole-mem 𝓤 H A W (Declared.row Notice.the-type) ρ, Path.refl,), tt,),),),),),)
-              (Reads'.room-gone 𝓤 H A Laws''''''.mir) (tt, (tt, tt)) Path.refl) d12
+          d13 = Typed.s-seq 𝓤 H A W 𝓣 E G36 G37 b16 b17 Δ1 (Typed.both (s34 bs)) (at12 bs) (Plain.t-call-plain 𝓤 H A W
+              𝓣 2 ps·4 r·4 (claims· .8) (claims· .9) "hnsr_circuit::acknowledge::send_notice" (known .4) E (λ pos β. β)
+              G36 (
+                record { pos = 19; ty = ref2; ref = λ x. x },
+                (
+                  record { pos = 21; ty = ref3; ref = λ x. x },
+                  (
+                    record { pos = 10; st = List.[]; d = 0; at = λ x. x },
+                    (
+                      record { pos = 5; st = List.[]; d = 0; at = λ x. x },
+                      (
+                        record { pos = 11; st = List.[]; d = 0; at = λ x. x },
+                        (record { pos = 22; st = List.[]; d = 0; at = λ x. x }, tt),
+                      ),
+                    ),
+                  ),
+                ),
+              ) 0 (5 ∷ 6 ∷ List.[]) (Call.sub-id 𝓤 H A W (G36 .slots)) (
+                Reads'.as-is 𝓤 H A (Mut.mslice InflightAction.row ref2 5),
+                Mut.reads-mslice 𝓤 H A W InflightAction.row ref2 5,
+                Path.refl,
+                (
+                  Reads'.as-is 𝓤 H A (Mut.mslice (Referent.rtF (Referent.fInt Syntax.w32)) ref3 6),
+                  Mut.reads-mslice 𝓤 H A W (Referent.rtF (Referent.fInt Syntax.w32)) ref3 6,
+                  Path.refl,
+                  (
+                    (
+                      Yields.yields-copy 𝓤 H A W (λ ρ. Unit) (Declared'.row OpaqueRelayRuntime.the-type) Path.refl (Copies.cStruct
+                          OpaqueRelayRuntime.the-type Laws'''''.the-laws Laws'''''.the-copy .copy 𝓤 H A W)
+                          (Rows.whole (Declared'.row OpaqueRelayRuntime.the-type)) (λ x. x) (λ x. x) (λ ρ told.
+                          Local.mem-whole 𝓤 H A W (Declared'.row OpaqueRelayRuntime.the-type) ρ) λ ρ told.
+                          Local.whole-mem 𝓤 H A W (Declared'.row OpaqueRelayRuntime.the-type) ρ,
+                      Path.refl,
+                    ),
+                    (
+                      (
+                        Yields.yields-copy 𝓤 H A W (λ ρ. Unit) (Declared'.row Places.the-type) Path.refl (Copies.cStruct
+                            Places.the-type Laws''.the-laws Laws''.the-copy .copy 𝓤 H A W)
+                            (Rows.whole (Declared'.row Places.the-type)) (λ x. x) (λ x. x) (λ ρ told. Local.mem-whole 𝓤
+                            H A W (Declared'.row Places.the-type) ρ) λ ρ told. Local.whole-mem 𝓤 H A W
+                            (Declared'.row Places.the-type) ρ,
+                        Path.refl,
+                      ),
+                      (
+                        (
+                          Yields.yields-copy 𝓤 H A W (λ ρ. Unit) (Declared'.row Outgoing.the-type) Path.refl (Copies.cStruct
+                              Outgoing.the-type Laws'''.the-laws Laws'''.the-copy .copy 𝓤 H A W)
+                              (Rows.whole (Declared'.row Outgoing.the-type)) (λ x. x) (λ x. x) (λ ρ told.
+                              Local.mem-whole 𝓤 H A W (Declared'.row Outgoing.the-type) ρ) λ ρ told. Local.whole-mem 𝓤
+                              H A W (Declared'.row Outgoing.the-type) ρ,
+                          Path.refl,
+                        ),
+                        (
+                          (
+                            Yields.yields-copy 𝓤 H A W (λ ρ. Unit) (Declared.row Notice.the-type) Path.refl (Copies.cEnum
+                                Notice.the-type Laws.the-laws Laws.the-copy .copy 𝓤 H A W)
+                                (Rows.whole (Declared.row Notice.the-type)) (λ x. x) (λ x. x) (λ ρ told.
+                                Local.mem-whole 𝓤 H A W (Declared.row Notice.the-type) ρ) λ ρ told. Local.whole-mem 𝓤 H
+                                A W (Declared.row Notice.the-type) ρ,
+                            Path.refl,
+                          ),
+                          tt,
+                        ),
+                      ),
+                    ),
+                  ),
+                ),
+              ) (Reads'.room-gone 𝓤 H A Laws''''''.mir) (tt, (tt, tt)) Path.refl) d12
+
           d14 : Typed.Typed 𝓤 H A 𝓣 E G35 b19 Δ1 (at14 bs)
-          d14 = Typed.s-seq 𝓤 H A W 𝓣 E G35 G36 b15 b18 Δ1 (Typed.pass T35 T36 (s33 bs)) (at13 bs) (Make.t-enum-make-wt 𝓤 H A W E 𝓣 Notice.the-type
-              Laws.the-laws Laws.the-plain tt G35 22 ((Scalar.oInt Syntax.w8 5) ∷ List.[]) (λ m. Notice.enum .make (Logic.inr (Logic.inr (Logic.inr
-              (Logic.inr (Logic.inr (Logic.inl tt))))))) (Reads'.room-gone 𝓤 H A Laws.mir) (tt, tt) Path.refl (λ m wa. Make.made-val Notice.the-type
-              Laws.the-laws List.[] (Notice.enum .make (Logic.inr (Logic.inr (Logic.inr (Logic.inr (Logic.inr (Logic.inl tt))))))) tt (wa .1)) λ m wa.
-              Make.made-is Notice.the-type Laws.the-laws List.[] (Notice.enum .make (Logic.inr (Logic.inr (Logic.inr (Logic.inr (Logic.inr (Logic.inl
-              tt))))))) tt (wa .1)) d13
+          d14 = Typed.s-seq 𝓤 H A W 𝓣 E G35 G36 b15 b18 Δ1 (Typed.pass T35 T36 (s33 bs)) (at13 bs) (Make.t-enum-make-wt
+              𝓤 H A W E 𝓣 Notice.the-type Laws.the-laws Laws.the-plain tt G35 22 ((Scalar.oInt Syntax.w8 5) ∷ List.[]) (λ
+              m. Notice.enum .make (Logic.inr (Logic.inr (Logic.inr (Logic.inr (Logic.inr (Logic.inl tt)))))))
+              (Reads'.room-gone 𝓤 H A Laws.mir) (tt, tt) Path.refl (λ m wa. Make.made-val Notice.the-type Laws.the-laws
+              List.[] (Notice.enum .make (Logic.inr (Logic.inr (Logic.inr (Logic.inr (Logic.inr (Logic.inl tt))))))) tt
+              (wa .1)) λ m wa. Make.made-is Notice.the-type Laws.the-laws List.[] (Notice.enum .make (Logic.inr (Logic.inr
+              (Logic.inr (Logic.inr (Logic.inr (Logic.inl tt))))))) tt (wa .1)) d13
+
           d15 : Typed.Typed 𝓤 H A 𝓣 E G34 b20 Δ1 (at15 bs)
-          d15 = Typed.s-seq 𝓤 H A W 𝓣 E G34 G35 b14 b19 Δ1 (Typed.ask (s32 bs)) (at14 bs) (Relend.t-sl-aggregate 𝓤 H A W E (Referent.rtF
-              (Referent.fInt Syntax.w32)) 𝓣 (Relend.asMut (Referent.rtF (Referent.fInt Syntax.w32))) G34 20 21 6 ref3 ref3 (λ x. x) (Scalar.oFld 3
-              ((Syntax.field 1) ∷ List.[]) (Syntax.tyInt Syntax.w64) 8 λ v. Shared.lenV (v .0)) (Reads'.as-is 𝓤 H A (Relend.msptr (Referent.rtF
-              (Referent.fInt Syntax.w32)) ref3 6)) (Reads'.room-gone 𝓤 H A (Syntax.tyStruct (38 ∷ 91 ∷ 93 ∷ List.[]) (Syntax.tcons ref3 (Syntax.tcons
-              (Syntax.tyInt Syntax.w64) Syntax.tnil)))) (Relend.reads-owed-len 𝓤 H A W (Referent.rtF (Referent.fInt Syntax.w32)) ref6 2 6 life2 8
-              Path.refl, Path.refl,) Path.refl Path.refl λ b o k. tt) d14
+          d15 = Typed.s-seq 𝓤 H A W 𝓣 E G34 G35 b14 b19 Δ1 (Typed.ask (s32 bs)) (at14 bs) (Relend.t-sl-aggregate 𝓤 H A
+              W E (Referent.rtF (Referent.fInt Syntax.w32)) 𝓣 (Relend.asMut (Referent.rtF (Referent.fInt Syntax.w32)))
+              G34 20 21 6 ref3 ref3 (λ x. x) (Scalar.oFld 3 ((Syntax.field 1) ∷ List.[]) (Syntax.tyInt Syntax.w64) 8
+              λ v. Shared.lenV (v .0)) (Reads'.as-is 𝓤 H A (Relend.msptr (Referent.rtF (Referent.fInt Syntax.w32)) ref3
+              6)) (Reads'.room-gone 𝓤 H A slice3) (
+                Relend.reads-owed-len 𝓤 H A W (Referent.rtF (Referent.fInt Syntax.w32)) ref6 2 6 life2 8 Path.refl,
+                Path.refl,
+              ) Path.refl Path.refl λ b o k. tt) d14
+
           d16 : Typed.Typed 𝓤 H A 𝓣 E G33 b21 Δ1 (at16 bs)
-          d16 = Typed.s-seq 𝓤 H A W 𝓣 E G33 G34 b13 b20 Δ1 (Typed.give (s31 bs)) (at15 bs) (Relend.t-sl-relend 𝓤 H A W E (Referent.rtF (Referent.fInt
-              Syntax.w32)) 𝓣 G33 3 20 2 6 ref6 ref3 life2 0 (λ x. x) (Reads'.as-is 𝓤 H A (Mut.mslice (Referent.rtF (Referent.fInt Syntax.w32)) ref6
-              2)) (Reads'.room-gone 𝓤 H A ref3) Path.refl tt Path.refl Path.refl Path.refl λ b o. tt) d15
+          d16 = Typed.s-seq 𝓤 H A W 𝓣 E G33 G34 b13 b20 Δ1 (Typed.give (s31 bs)) (at15 bs) (Relend.t-sl-relend 𝓤 H A W
+              E (Referent.rtF (Referent.fInt Syntax.w32)) 𝓣 G33 3 20 2 6 ref6 ref3 life2 0 (λ x. x) (Reads'.as-is 𝓤 H A (Mut.mslice
+              (Referent.rtF (Referent.fInt Syntax.w32)) ref6 2)) (Reads'.room-gone 𝓤 H A ref3) Path.refl tt Path.refl
+              Path.refl Path.refl λ b o. tt) d15
+
           d17 : Typed.Typed 𝓤 H A 𝓣 E G32 b21 Δ1 (at17 bs)
-          d17 = Typed.g-pre 𝓤 H A W 𝓣 E G32 G33 b21 Δ1 (λ Ψ. Ψ) (at16 bs) (Lifetime.g-begin 𝓤 H A W E G32 6 (tt, (tt, ((tt, tt), (tt, (tt, (tt, (tt,
-              (tt, (tt, (tt, (tt, (tt, (tt, (tt, (tt, (tt, (tt, (tt, (tt, (tt, (tt, (tt, (tt, tt))))))),),),),),),),),),),),),),),),),)) d16
+          d17 = Typed.g-pre 𝓤 H A W 𝓣 E G32 G33 b21 Δ1 (λ Ψ. Ψ) (at16 bs) (Lifetime.g-begin 𝓤 H A W E G32 6 (
+            tt,
+            (
+              tt,
+              (
+                (tt, tt),
+                (
+                  tt,
+                  (
+                    tt,
+                    (
+                      tt,
+                      (
+                        tt,
+                        (
+                          tt,
+                          (tt, (tt, (tt, (tt, (tt, (tt, (tt, (tt, (tt, (tt, (tt, (tt, (tt, (tt, (tt, tt))))))))))))))),
+                        ),
+                      ),
+                    ),
+                  ),
+                ),
+              ),
+            ),
+          )) d16
+
           d18 : Typed.Typed 𝓤 H A 𝓣 E G31 b22 Δ1 (at18 bs)
-          d18 = Typed.s-seq 𝓤 H A W 𝓣 E G31 G32 b12 b21 Δ1 (Typed.ask (s29 bs)) (at17 bs) (Relend.t-sl-aggregate 𝓤 H A W E InflightAction.row 𝓣
-              (Relend.asMut InflightAction.row) G31 18 19 5 ref2 ref2 (λ x. x) (Scalar.oFld 2 ((Syntax.field 1) ∷ List.[]) (Syntax.tyInt Syntax.w64) 8
-              λ v. Shared.lenV (v .0)) (Reads'.as-is 𝓤 H A (Relend.msptr InflightAction.row ref2 5)) (Reads'.room-gone 𝓤 H A (Syntax.tyStruct (38 ∷ 91
-              ∷ 93 ∷ List.[]) (Syntax.tcons ref2 (Syntax.tcons (Syntax.tyInt Syntax.w64) Syntax.tnil)))) (Relend.reads-owed-len 𝓤 H A W
-              InflightAction.row ref5 1 5 life1 8 Path.refl, Path.refl,) Path.refl Path.refl λ b o k. tt) d17
+          d18 = Typed.s-seq 𝓤 H A W 𝓣 E G31 G32 b12 b21 Δ1 (Typed.ask (s29 bs)) (at17 bs) (Relend.t-sl-aggregate 𝓤 H A
+              W E InflightAction.row 𝓣 (Relend.asMut InflightAction.row) G31 18 19 5 ref2 ref2 (λ x. x) (Scalar.oFld 2
+              ((Syntax.field 1) ∷ List.[]) (Syntax.tyInt Syntax.w64) 8 λ v. Shared.lenV (v .0)) (Reads'.as-is 𝓤 H A
+              (Relend.msptr InflightAction.row ref2 5)) (Reads'.room-gone 𝓤 H A slice2) (
+                Relend.reads-owed-len 𝓤 H A W InflightAction.row ref5 1 5 life1 8 Path.refl,
+                Path.refl,
+              ) Path.refl Path.refl λ b o k. tt) d17
+
           d19 : Typed.Typed 𝓤 H A 𝓣 E G30 b23 Δ1 (at19 bs)
-          d19 = Typed.s-seq 𝓤 H A W 𝓣 E G30 G31 b11 b22 Δ1 (Typed.give (s28 bs)) (at18 bs) (Relend.t-sl-relend 𝓤 H A W E InflightAction.row 𝓣 G30 2 18
-              1 5 ref5 ref2 life1 0 (λ x. x) (Reads'.as-is 𝓤 H A (Mut.mslice InflightAction.row ref5 1)) (Reads'.room-gone 𝓤 H A ref2) Path.refl tt
+          d19 = Typed.s-seq 𝓤 H A W 𝓣 E G30 G31 b11 b22 Δ1 (Typed.give (s28 bs)) (at18 bs) (Relend.t-sl-relend 𝓤 H A W
+              E InflightAction.row 𝓣 G30 2 18 1 5 ref5 ref2 life1 0 (λ x. x)
+              (Reads'.as-is 𝓤 H A (Mut.mslice InflightAction.row ref5 1)) (Reads'.room-gone 𝓤 H A ref2) Path.refl tt
               Path.refl Path.refl Path.refl λ b o. tt) d18
+
           d20 : Typed.Typed 𝓤 H A 𝓣 E G29 b23 Δ1 (at20 bs)
-          d20 = Typed.g-pre 𝓤 H A W 𝓣 E G29 G30 b23 Δ1 (λ Ψ. Ψ) (at19 bs) (Lifetime.g-begin 𝓤 H A W E G29 5 (tt, (tt, (tt, (tt, (tt, (tt, (tt, (tt,
-              (tt, (tt, (tt, (tt, (tt, (tt, (tt, (tt, (tt, (tt, (tt, (tt, (tt, (tt, (tt, tt))))))),),),),),),),),),),),),),),),),)) d19
+          d20 = Typed.g-pre 𝓤 H A W 𝓣 E G29 G30 b23 Δ1 (λ Ψ. Ψ) (at19 bs) (Lifetime.g-begin 𝓤 H A W E G29 5 (
+            tt,
+            (
+              tt,
+              (
+                tt,
+                (
+                  tt,
+                  (
+                    tt,
+                    (
+                      tt,
+                      (
+                        tt,
+                        (
+                          tt,
+                          (tt, (tt, (tt, (tt, (tt, (tt, (tt, (tt, (tt, (tt, (tt, (tt, (tt, (tt, (tt, tt))))))))))))))),
+                        ),
+                      ),
+                    ),
+                  ),
+                ),
+              ),
+            ),
+          )) d19
+
           d21 : Typed.Typed 𝓤 H A 𝓣 E G28 b23 Δ1 (at21 bs)
-          d21 = Typed.g-pre 𝓤 H A W 𝓣 E G28 G29 b23 Δ1 (λ Ψ. Ψ) (at20 bs) (Lifetime.g-forget 𝓤 H A W E G28 4 Row.dead Path.refl) d20
+          d21 = Typed.g-pre 𝓤 H A W 𝓣 E G28 G29 b23 Δ1 (λ Ψ. Ψ) (at20 bs)
+              (Lifetime.g-forget 𝓤 H A W E G28 4 Row.dead Path.refl) d20
+
           d22 : Typed.Typed 𝓤 H A 𝓣 E G27 b23 Δ1 (at22 bs)
-          d22 = Typed.g-pre 𝓤 H A W 𝓣 E G27 G28 b23 Δ1 (Typed.both (s25 bs)) (at21 bs) (Relend.g-back-sl 𝓤 H A W E RelayPending.row G27 17 1 0 4 ref4
-              ref1 life0 (λ x. x) (λ x. x) (Reads'.as-is 𝓤 H A (Mut.msleft RelayPending.row ref1)) (Reads'.as-is 𝓤 H A (Relend.mslice-owed
-              RelayPending.row ref4 0 4 life0)) Path.refl Path.refl) d21
+          d22 = Typed.g-pre 𝓤 H A W 𝓣 E G27 G28 b23 Δ1 (Typed.both (s25 bs)) (at21 bs) (Relend.g-back-sl 𝓤 H A W E
+              RelayPending.row G27 17 1 0 4 ref4 ref1 life0 (λ x. x) (λ x. x)
+              (Reads'.as-is 𝓤 H A (Mut.msleft RelayPending.row ref1)) (Reads'.as-is 𝓤 H A
+              (Relend.mslice-owed RelayPending.row ref4 0 4 life0)) Path.refl Path.refl) d21
+
           d23 : Typed.Typed 𝓤 H A 𝓣 E G26 b23 Δ1 (at23 bs)
-          d23 = Typed.g-pre 𝓤 H A W 𝓣 E G26 G27 b23 Δ1 (λ Ψ. Ψ) (at22 bs) (Lifetime.g-end 𝓤 H A W E G26 4 Path.refl) d22
+          d23 = Typed.g-pre 𝓤 H A W 𝓣 E G26 G27 b23 Δ1 (λ Ψ. Ψ) (at22 bs) (Lifetime.g-end 𝓤 H A W E G26 4 Path.refl)
+              d22
+
           d24 : Typed.Typed 𝓤 H A 𝓣 E G25 b23 Δ1 (at24 bs)
-          d24 = Typed.g-pre 𝓤 H A W 𝓣 E G25 G26 b23 Δ1 (Typed.pass T25 T26 (s23 bs)) (at23 bs) (Scalar.g-room 𝓤 H A W E G25 15 Syntax.tyUnit
-              (Scalar.room-sc 𝓤 H A W Row.sUnit)) d23
+          d24 = Typed.g-pre 𝓤 H A W 𝓣 E G25 G26 b23 Δ1 (Typed.pass T25 T26 (s23 bs)) (at23 bs) (Scalar.g-room 𝓤 H A W E
+              G25 15 Syntax.tyUnit (Scalar.room-sc 𝓤 H A W Row.sUnit)) d23
+
           d25 : Typed.Typed 𝓤 H A 𝓣 E G24 b23 Δ1 (at25 bs)
-          d25 = Typed.g-pre 𝓤 H A W 𝓣 E G24 G25 b23 Δ1 (Typed.pass T24 T25 (s22 bs)) (at24 bs) (Scalar.g-room 𝓤 H A W E G24 9 Laws'.mir
-              (Local.room-whole 𝓤 H A W (Declared'.row FailPlan.the-type) Laws'.mir Path.refl)) d24
+          d25 = Typed.g-pre 𝓤 H A W 𝓣 E G24 G25 b23 Δ1 (Typed.pass T24 T25 (s22 bs)) (at24 bs) (Scalar.g-room 𝓤 H A W E
+              G24 9 Laws'.mir (Local.room-whole 𝓤 H A W (Declared'.row FailPlan.the-type) Laws'.mir Path.refl)) d24
+
           d26 : Typed.Typed 𝓤 H A 𝓣 E G23 b23 Δ1 (at26 bs)
-          d26 = Typed.g-pre 𝓤 H A W 𝓣 E G23 G24 b23 Δ1 (Typed.pass T23 T24 (s21 bs)) (at25 bs) (Scalar.g-room 𝓤 H A W E G23 8 RelayPending.ty
-              (Local.room-whole 𝓤 H A W RelayPending.row RelayPending.ty Path.refl)) d25
+          d26 = Typed.g-pre 𝓤 H A W 𝓣 E G23 G24 b23 Δ1 (Typed.pass T23 T24 (s21 bs)) (at25 bs) (Scalar.g-room 𝓤 H A W E
+              G23 8 RelayPending.ty (Local.room-whole 𝓤 H A W RelayPending.row RelayPending.ty Path.refl)) d25
+
           d27 : Typed.Typed 𝓤 H A 𝓣 E G22 b24 Δ1 (at27 bs)
-          d27 = Typed.s-seq 𝓤 H A W 𝓣 E G22 G23 b10 b23 Δ1 (Typed.both (s20 bs)) (at26 bs) (Plain.t-call-plain 𝓤 H A W 𝓣 1 ps·3 r·3 (claims· .6)
-              (claims· .7) "hnsr_circuit::tables::pending::set_pending" (known .3) E (λ pos β. β) G22 (record { pos = 17; ty = Syntax.tyRef
-              Syntax.erased Syntax.mut RelayPending.to; ref = λ x. x; }, (Bool.bLit Bool'.true, (Num.vFld 9 ((Syntax.field 1) ∷ List.[]) 8 λ x.
-              FailPlan.struct .as-values x .1 .0, (record { pos = 8; st = List.[]; d = 0; at = λ x. x }, tt),),),) 15 (4 ∷ List.[]) (Call.sub-id 𝓤 H A
-              W (G22 .slots)) (Reads'.as-is 𝓤 H A (Mut.mslice RelayPending.row ref1 4), Mut.reads-mslice 𝓤 H A W RelayPending.row ref1 4, Path.refl,
-              (tt, ((Reads.reads-field 𝓤 H A W FailPlan.the-type Laws'.the-laws 1 (Syntax.tyInt Syntax.w64) 8 Path.refl, Path.refl,),
-              ((Yields.yields-copy 𝓤 H A W (λ ρ. Unit) RelayPending.row Path.refl (RelayPending.copies .copy 𝓤 H A W) RelayPending.held (λ x. x) (λ x.
-              x) (λ ρ told. Local.mem-whole 𝓤 H A W RelayPending.row ρ) λ ρ told. Local.whole-mem 𝓤 H A W RelayPending.row ρ, Path.refl,), tt,),),),)
-              (Reads'.room-gone 𝓤 H A Syntax.tyUnit) (tt, tt) Path.refl) d26
+          d27 = Typed.s-seq 𝓤 H A W 𝓣 E G22 G23 b10 b23 Δ1 (Typed.both (s20 bs)) (at26 bs) (Plain.t-call-plain 𝓤 H A W
+              𝓣 1 ps·3 r·3 (claims· .6) (claims· .7) "hnsr_circuit::tables::pending::set_pending" (known .3) E
+              (λ pos β. β) G22 (
+                record { pos = 17; ty = ref1; ref = λ x. x },
+                (
+                  Bool.bLit Bool'.true,
+                  (
+                    Num.vFld 9 ((Syntax.field 1) ∷ List.[]) 8 λ x. FailPlan.struct .as-values x .1 .0,
+                    (record { pos = 8; st = List.[]; d = 0; at = λ x. x }, tt),
+                  ),
+                ),
+              ) 15 (4 ∷ List.[]) (Call.sub-id 𝓤 H A W (G22 .slots)) (
+                Reads'.as-is 𝓤 H A (Mut.mslice RelayPending.row ref1 4),
+                Mut.reads-mslice 𝓤 H A W RelayPending.row ref1 4,
+                Path.refl,
+                (
+                  tt,
+                  (
+                    (
+                      Reads.reads-field 𝓤 H A W FailPlan.the-type Laws'.the-laws 1 (Syntax.tyInt Syntax.w64) 8
+                          Path.refl,
+                      Path.refl,
+                    ),
+                    (
+                      (
+                        Yields.yields-copy 𝓤 H A W (λ ρ. Unit) RelayPending.row Path.refl
+                            (RelayPending.copies .copy 𝓤 H A W) RelayPending.held (λ x. x) (λ x. x)
+                            (λ ρ told. Local.mem-whole 𝓤 H A W RelayPending.row ρ) λ ρ told. Local.whole-mem 𝓤 H A W
+                            RelayPending.row ρ,
+                        Path.refl,
+                      ),
+                      tt,
+                    ),
+                  ),
+                ),
+              ) (Reads'.room-gone 𝓤 H A Syntax.tyUnit) (tt, tt) Path.refl) d26
+
           d28 : Typed.Typed 𝓤 H A 𝓣 E G21 b25 Δ1 (at28 bs)
-          d28 = Typed.s-seq 𝓤 H A W 𝓣 E G21 G22 b9 b24 Δ1 (Typed.ask (s19 bs)) (at27 bs) (Relend.t-sl-aggregate 𝓤 H A W E RelayPending.row 𝓣
-              (Relend.asMut RelayPending.row) G21 16 17 4 ref1 ref1 (λ x. x) (Scalar.oFld 1 ((Syntax.field 1) ∷ List.[]) (Syntax.tyInt Syntax.w64) 8 λ
-              v. Shared.lenV (v .0)) (Reads'.as-is 𝓤 H A (Relend.msptr RelayPending.row ref1 4)) (Reads'.room-gone 𝓤 H A (Syntax.tyStruct (38 ∷ 91 ∷
-              93 ∷ List.[]) (Syntax.tcons ref1 (Syntax.tcons (Syntax.tyInt Syntax.w64) Syntax.tnil)))) (Relend.reads-owed-len 𝓤 H A W RelayPending.row
-              ref4 0 4 life0 8 Path.refl, Path.refl,) Path.refl Path.refl λ b o k. tt) d27
+          d28 = Typed.s-seq 𝓤 H A W 𝓣 E G21 G22 b9 b24 Δ1 (Typed.ask (s19 bs)) (at27 bs) (Relend.t-sl-aggregate 𝓤 H A W
+              E RelayPending.row 𝓣 (Relend.asMut RelayPending.row) G21 16 17 4 ref1 ref1 (λ x. x) (Scalar.oFld 1
+              ((Syntax.field 1) ∷ List.[]) (Syntax.tyInt Syntax.w64) 8 λ v. Shared.lenV (v .0))
+              (Reads'.as-is 𝓤 H A (Relend.msptr RelayPending.row ref1 4)) (Reads'.room-gone 𝓤 H A slice1) (
+                Relend.reads-owed-len 𝓤 H A W RelayPending.row ref4 0 4 life0 8 Path.refl,
+                Path.refl,
+              ) Path.refl Path.refl λ b o k. tt) d27
+
           d29 : Typed.Typed 𝓤 H A 𝓣 E G20 b26 Δ1 (at29 bs)
-          d29 = Typed.s-seq 𝓤 H A W 𝓣 E G20 G21 b8 b25 Δ1 (Typed.give (s18 bs)) (at28 bs) (Relend.t-sl-relend 𝓤 H A W E RelayPending.row 𝓣 G20 1 16 0
-              4 ref4 ref1 life0 0 (λ x. x) (Reads'.as-is 𝓤 H A (Mut.mslice RelayPending.row ref4 0)) (Reads'.room-gone 𝓤 H A ref1) Path.refl tt
+          d29 = Typed.s-seq 𝓤 H A W 𝓣 E G20 G21 b8 b25 Δ1 (Typed.give (s18 bs)) (at28 bs) (Relend.t-sl-relend 𝓤 H A W E
+              RelayPending.row 𝓣 G20 1 16 0 4 ref4 ref1 life0 0 (λ x. x)
+              (Reads'.as-is 𝓤 H A (Mut.mslice RelayPending.row ref4 0)) (Reads'.room-gone 𝓤 H A ref1) Path.refl tt
               Path.refl Path.refl Path.refl λ b o. tt) d28
+
           d30 : Typed.Typed 𝓤 H A 𝓣 E G19 b26 Δ1 (at30 bs)
-          d30 = Typed.g-pre 𝓤 H A W 𝓣 E G19 G20 b26 Δ1 (λ Ψ. Ψ) (at29 bs) (Lifetime.g-begin 𝓤 H A W E G19 4 (tt, (tt, (tt, (tt, (tt, (tt, (tt, (tt,
-              (tt, (tt, (tt, (tt, (tt, (tt, (tt, (tt, (tt, (tt, (tt, (tt, (tt, (tt, (tt, tt))))))),),),),),),),),),),),),),),),),)) d29
+          d30 = Typed.g-pre 𝓤 H A W 𝓣 E G19 G20 b26 Δ1 (λ Ψ. Ψ) (at29 bs) (Lifetime.g-begin 𝓤 H A W E G19 4 (
+            tt,
+            (
+              tt,
+              (
+                tt,
+                (
+                  tt,
+                  (
+                    tt,
+                    (
+                      tt,
+                      (
+                        tt,
+                        (
+                          tt,
+                          (tt, (tt, (tt, (tt, (tt, (tt, (tt, (tt, (tt, (tt, (tt, (tt, (tt, (tt, (tt, tt))))))))))))))),
+                        ),
+                      ),
+                    ),
+                  ),
+                ),
+              ),
+            ),
+          )) d29
+
           d31 : Typed.Typed 𝓤 H A 𝓣 E G18 b26 Δ1 (at31 bs)
-          d31 = Typed.g-pre 𝓤 H A W 𝓣 E G18 G19 b26 Δ1 (Typed.pass T18 T19 (s16 bs)) (at30 bs) (Scalar.g-room 𝓤 H A W E G18 14 Syntax.tyBool
-              (Scalar.room-sc 𝓤 H A W Row.sBool)) d30
+          d31 = Typed.g-pre 𝓤 H A W 𝓣 E G18 G19 b26 Δ1 (Typed.pass T18 T19 (s16 bs)) (at30 bs) (Scalar.g-room 𝓤 H A W E
+              G18 14 Syntax.tyBool (Scalar.room-sc 𝓤 H A W Row.sBool)) d30
+
           d32 : Typed.Typed 𝓤 H A 𝓣 E G16 b26 Δ1 (at32 bs)
-          d32 = Typed.g-pre 𝓤 H A W 𝓣 E G16 G18 b26 Δ1 (Typed.pass T16 T18 (s15 bs)) (at31 bs) (Scalar.g-room 𝓤 H A W E G16 4 Laws'''''.mir
-              (Local.room-whole 𝓤 H A W (Declared'.row OpaqueRelayRuntime.the-type) Laws'''''.mir Path.refl)) d31
+          d32 = Typed.g-pre 𝓤 H A W 𝓣 E G16 G18 b26 Δ1 (Typed.pass T16 T18 (s15 bs)) (at31 bs) (Scalar.g-room 𝓤 H A W E
+              G16 4 Laws'''''.mir (Local.room-whole 𝓤 H A W (Declared'.row OpaqueRelayRuntime.the-type) Laws'''''.mir
+              Path.refl)) d31
+
           d33 : Typed.Typed 𝓤 H A 𝓣 E G54 b27 Δ1 (at33 bs)
           d33 = Typed.t-skip 𝓤 H A W 𝓣 E Δ1 tt
+
           d34 : Typed.Typed 𝓤 H A 𝓣 E G53 b27 Δ1 (at34 bs)
-          d34 = Typed.g-pre 𝓤 H A W 𝓣 E G53 G54 b27 Δ1 (Typed.pass T53 T54 (s51 bs)) (at33 bs) (Scalar.g-room 𝓤 H A W E G53 14 Syntax.tyBool
-              (Scalar.room-sc 𝓤 H A W Row.sBool)) d33
+          d34 = Typed.g-pre 𝓤 H A W 𝓣 E G53 G54 b27 Δ1 (Typed.pass T53 T54 (s51 bs)) (at33 bs) (Scalar.g-room 𝓤 H A W E
+              G53 14 Syntax.tyBool (Scalar.room-sc 𝓤 H A W Row.sBool)) d33
+
           d35 : Typed.Typed 𝓤 H A 𝓣 E G52 b27 Δ1 (at35 bs)
-          d35 = Typed.g-pre 𝓤 H A W 𝓣 E G52 G53 b27 Δ1 (Typed.pass T52 T53 (s50 bs)) (at34 bs) (Scalar.g-room 𝓤 H A W E G52 11 Laws'''.mir
-              (Local.room-whole 𝓤 H A W (Declared'.row Outgoing.the-type) Laws'''.mir Path.refl)) d34
+          d35 = Typed.g-pre 𝓤 H A W 𝓣 E G52 G53 b27 Δ1 (Typed.pass T52 T53 (s50 bs)) (at34 bs) (Scalar.g-room 𝓤 H A W E
+              G52 11 Laws'''.mir (Local.room-whole 𝓤 H A W (Declared'.row Outgoing.the-type) Laws'''.mir Path.refl))
+              d34
+
           d36 : Typed.Typed 𝓤 H A 𝓣 E G51 b27 Δ1 (at36 bs)
-          d36 = Typed.g-pre 𝓤 H A W 𝓣 E G51 G52 b27 Δ1 (Typed.pass T51 T52 (s49 bs)) (at35 bs) (Scalar.g-room 𝓤 H A W E G51 10 Laws'''''.mir
-              (Local.room-whole 𝓤 H A W (Declared'.row OpaqueRelayRuntime.the-type) Laws'''''.mir Path.refl)) d35
+          d36 = Typed.g-pre 𝓤 H A W 𝓣 E G51 G52 b27 Δ1 (Typed.pass T51 T52 (s49 bs)) (at35 bs) (Scalar.g-room 𝓤 H A W E
+              G51 10 Laws'''''.mir (Local.room-whole 𝓤 H A W (Declared'.row OpaqueRelayRuntime.the-type) Laws'''''.mir
+              Path.refl)) d35
+
           d37 : Typed.Typed 𝓤 H A 𝓣 E G50 b27 Δ1 (at37 bs)
-          d37 = Typed.g-pre 𝓤 H A W 𝓣 E G50 G51 b27 Δ1 (Typed.pass T50 T51 (s48 bs)) (at36 bs) (Scalar.g-room 𝓤 H A W E G50 9 Laws'.mir
-              (Local.room-whole 𝓤 H A W (Declared'.row FailPlan.the-type) Laws'.mir Path.refl)) d36
+          d37 = Typed.g-pre 𝓤 H A W 𝓣 E G50 G51 b27 Δ1 (Typed.pass T50 T51 (s48 bs)) (at36 bs) (Scalar.g-room 𝓤 H A W E
+              G50 9 Laws'.mir (Local.room-whole 𝓤 H A W (Declared'.row FailPlan.the-type) Laws'.mir Path.refl)) d36
+
           d38 : Typed.Typed 𝓤 H A 𝓣 E G16 b27 Δ1 (at38 bs)
-          d38 = Typed.g-pre 𝓤 H A W 𝓣 E G16 G50 b27 Δ1 (Typed.pass T16 T50 (s47 bs)) (at37 bs) (Scalar.g-room 𝓤 H A W E G16 8 RelayPending.ty
-              (Local.room-whole 𝓤 H A W RelayPending.row RelayPending.ty Path.refl)) d37
+          d38 = Typed.g-pre 𝓤 H A W 𝓣 E G16 G50 b27 Δ1 (Typed.pass T16 T50 (s47 bs)) (at37 bs) (Scalar.g-room 𝓤 H A W E
+              G16 8 RelayPending.ty (Local.room-whole 𝓤 H A W RelayPending.row RelayPending.ty Path.refl)) d37
+
           d39 : Typed.Typed 𝓤 H A 𝓣 E G16 b28 Δ1 (at39 bs)
-          d39 = Scalar.t-cond 𝓤 H A W E 𝓣 G16 14 (λ x. x) b26 b27 Δ1 (at32 bs) (at38 bs) (Scalar.reads-sc 𝓤 H A W Row.sBool) Path.refl d32 d38
+          d39 = Scalar.t-cond 𝓤 H A W E 𝓣 G16 14 (λ x. x) b26 b27 Δ1 (at32 bs) (at38 bs)
+              (Scalar.reads-sc 𝓤 H A W Row.sBool) Path.refl d32 d38
+
           d40 : Typed.Typed 𝓤 H A 𝓣 E G58 b30 Δ0 (at40 bs)
           d40 = Typed.t-return 𝓤 H A W 𝓣 E Δ0 tt
+
           d41 : Typed.Typed 𝓤 H A 𝓣 E G57 b30 Δ0 (at41 bs)
-          d41 = Typed.g-pre 𝓤 H A W 𝓣 E G57 G58 b30 Δ0 (Typed.pass T57 T58 (s55 bs)) (at40 bs) (Scalar.g-room 𝓤 H A W E G57 6 (Syntax.tyInt
-              Syntax.w64) (Scalar.room-sc 𝓤 H A W (Row.sInt Syntax.w64))) d40
+          d41 = Typed.g-pre 𝓤 H A W 𝓣 E G57 G58 b30 Δ0 (Typed.pass T57 T58 (s55 bs)) (at40 bs) (Scalar.g-room 𝓤 H A W E
+              G57 6 (Syntax.tyInt Syntax.w64) (Scalar.room-sc 𝓤 H A W (Row.sInt Syntax.w64))) d40
+
           d42 : Typed.Typed 𝓤 H A 𝓣 E G56 b30 Δ0 (at42 bs)
-          d42 = Typed.g-pre 𝓤 H A W 𝓣 E G56 G57 b30 Δ0 (Typed.pass T56 T57 (s54 bs)) (at41 bs) (Scalar.g-room 𝓤 H A W E G56 5 Laws''.mir
-              (Local.room-whole 𝓤 H A W (Declared'.row Places.the-type) Laws''.mir Path.refl)) d41
+          d42 = Typed.g-pre 𝓤 H A W 𝓣 E G56 G57 b30 Δ0 (Typed.pass T56 T57 (s54 bs)) (at41 bs) (Scalar.g-room 𝓤 H A W E
+              G56 5 Laws''.mir (Local.room-whole 𝓤 H A W (Declared'.row Places.the-type) Laws''.mir Path.refl)) d41
+
           d43 : Typed.Typed 𝓤 H A 𝓣 E G55 b30 Δ0 (at43 bs)
-          d43 = Typed.g-pre 𝓤 H A W 𝓣 E G55 G56 b30 Δ0 (Typed.pass T55 T56 (s53 bs)) (at42 bs) (Scalar.g-room 𝓤 H A W E G55 4 Laws'''''.mir
-              (Local.room-whole 𝓤 H A W (Declared'.row OpaqueRelayRuntime.the-type) Laws'''''.mir Path.refl)) d42
+          d43 = Typed.g-pre 𝓤 H A W 𝓣 E G55 G56 b30 Δ0 (Typed.pass T55 T56 (s53 bs)) (at42 bs) (Scalar.g-room 𝓤 H A W E
+              G55 4 Laws'''''.mir (Local.room-whole 𝓤 H A W (Declared'.row OpaqueRelayRuntime.the-type) Laws'''''.mir
+              Path.refl)) d42
+
           d44 : Typed.Typed 𝓤 H A 𝓣 E G17 b31 Δ0 (at44 bs)
-          d44 = Typed.s-seq 𝓤 H A W 𝓣 E G17 G55 b29 b30 Δ0 (Typed.both (s52 bs)) (at43 bs) (Plain.t-call-plain 𝓤 H A W 𝓣 0 ps·5 r·5 (claims· .10)
-              (claims· .11) "hnsr_circuit::revoking_calls::taken_with" (known .5) E (λ pos β. β) G17 (record { pos = 4; st = List.[]; d = 0; at = λ x.
-              x }, (record { pos = 5; st = List.[]; d = 0; at = λ x. x }, tt),) 0 List.[] (Call.sub-id 𝓤 H A W (G17 .slots)) ((Yields.yields-copy 𝓤 H
-              A W (λ ρ. Unit) (Declared'.row OpaqueRelayRuntime.the-type) Path.refl (Copies.cStruct OpaqueRelayRuntime.the-type Laws'''''.the-laws
-              Laws'''''.the-copy .copy 𝓤 H A W) (Rows.whole (Declared'.row OpaqueRelayRuntime.the-type)) (λ x. x) (λ x. x) (λ ρ told. Local.mem-whole
-              𝓤 H A W (Declared'.row OpaqueRelayRuntime.the-type) ρ) λ ρ told. Local.whole-mem 𝓤 H A W (Declared'.row OpaqueRelayRuntime.the-type) ρ,
-              Path.refl,), ((Yields.yields-copy 𝓤 H A W (λ ρ. Unit) (Declared'.row Places.the-type) Path.refl (Copies.cStruct Places.the-type
-              Laws''.the-laws Laws''.the-copy .copy 𝓤 H A W) (Rows.whole (Declared'.row Places.the-type)) (λ x. x) (λ x. x) (λ ρ told. Local.mem-whole
-              𝓤 H A W (Declared'.row Places.the-type) ρ) λ ρ told. Local.whole-mem 𝓤 H A W (Declared'.row Places.the-type) ρ, Path.refl,), tt,),)
-              (Reads'.room-gone 𝓤 H A Laws''''''.mir) tt Path.refl) d43
+          d44 = Typed.s-seq 𝓤 H A W 𝓣 E G17 G55 b29 b30 Δ0 (Typed.both (s52 bs)) (at43 bs) (Plain.t-call-plain 𝓤 H A W
+              𝓣 0 ps·5 r·5 (claims· .10) (claims· .11) "hnsr_circuit::revoking_calls::taken_with" (known .5) E
+              (λ pos β. β) G17 (
+                record { pos = 4; st = List.[]; d = 0; at = λ x. x },
+                (record { pos = 5; st = List.[]; d = 0; at = λ x. x }, tt),
+              ) 0 List.[] (Call.sub-id 𝓤 H A W (G17 .slots)) (
+                (
+                  Yields.yields-copy 𝓤 H A W (λ ρ. Unit) (Declared'.row OpaqueRelayRuntime.the-type) Path.refl (Copies.cStruct
+                      OpaqueRelayRuntime.the-type Laws'''''.the-laws Laws'''''.the-copy .copy 𝓤 H A W)
+                      (Rows.whole (Declared'.row OpaqueRelayRuntime.the-type)) (λ x. x) (λ x. x) (λ ρ told.
+                      Local.mem-whole 𝓤 H A W (Declared'.row OpaqueRelayRuntime.the-type) ρ) λ ρ told. Local.whole-mem
+                      𝓤 H A W (Declared'.row OpaqueRelayRuntime.the-type) ρ,
+                  Path.refl,
+                ),
+                (
+                  (
+                    Yields.yields-copy 𝓤 H A W (λ ρ. Unit) (Declared'.row Places.the-type) Path.refl (Copies.cStruct
+                        Places.the-type Laws''.the-laws Laws''.the-copy .copy 𝓤 H A W)
+                        (Rows.whole (Declared'.row Places.the-type)) (λ x. x) (λ x. x) (λ ρ told. Local.mem-whole 𝓤 H A
+                        W (Declared'.row Places.the-type) ρ) λ ρ told. Local.whole-mem 𝓤 H A W
+                        (Declared'.row Places.the-type) ρ,
+                    Path.refl,
+                  ),
+                  tt,
+                ),
+              ) (Reads'.room-gone 𝓤 H A Laws''''''.mir) tt Path.refl) d43
+
           d45 : Typed.Typed 𝓤 H A 𝓣 E G16 b32 Δ0 (at45 bs)
           d45 = Typed.t-seq 𝓤 H A W 𝓣 E G16 G17 b28 b31 Δ0 (at39 bs) (at44 bs) d39 d44
+
           d46 : Typed.Typed 𝓤 H A 𝓣 E G15 b33 Δ0 (at46 bs)
-          d46 = Typed.s-seq 𝓤 H A W 𝓣 E G15 G16 b7 b32 Δ0 (Typed.pass T15 T16 (s14 bs)) (at45 bs) (Scalar.t-use 𝓤 H A W E 𝓣 G15 (Scalar.oFld 9
-              ((Syntax.field 0) ∷ List.[]) Syntax.tyBool 0 (Reads.fieldV FailPlan.the-type Laws'.the-laws 0)) 14 (Rows.sc-here Row.sBool)
-              Syntax.tyBool (Row.valS Row.sBool) (Row.sBool .of) (Reads.reads-field 𝓤 H A W FailPlan.the-type Laws'.the-laws 0 Syntax.tyBool 0
-              Path.refl, Path.refl,) (Reads'.room-gone 𝓤 H A Syntax.tyBool) (Scalar.holds-sc 𝓤 H A W Row.sBool) Path.refl (λ u. Path.refl) λ u. tt)
-              d45
+          d46 = Typed.s-seq 𝓤 H A W 𝓣 E G15 G16 b7 b32 Δ0 (Typed.pass T15 T16 (s14 bs)) (at45 bs) (Scalar.t-use 𝓤 H A W
+              E 𝓣 G15 (Scalar.oFld 9 ((Syntax.field 0) ∷ List.[]) Syntax.tyBool 0
+              (Reads.fieldV FailPlan.the-type Laws'.the-laws 0)) 14 (Rows.sc-here Row.sBool) Syntax.tyBool
+              (Row.valS Row.sBool) (Row.sBool .of) (
+                Reads.reads-field 𝓤 H A W FailPlan.the-type Laws'.the-laws 0 Syntax.tyBool 0 Path.refl,
+                Path.refl,
+              ) (Reads'.room-gone 𝓤 H A Syntax.tyBool) (Scalar.holds-sc 𝓤 H A W Row.sBool) Path.refl (λ u. Path.refl)
+              λ u. tt) d45
+
           d47 : Typed.Typed 𝓤 H A 𝓣 E G14 b34 Δ0 (at47 bs)
-          d47 = Typed.s-seq 𝓤 H A W 𝓣 E G14 G15 b6 b33 Δ0 (Typed.both (s13 bs)) (at46 bs) (WayStmt.t-way-copy-out 𝓤 H A W E 𝓣 (Declared'.row
-              Outgoing.the-type) Path.refl (Copies.cStruct Outgoing.the-type Laws'''.the-laws Laws'''.the-copy .copy 𝓤 H A W) (λ ρ. Unit) G14 (Row.out
-              9 (G14 .locals)) (λ u. Row.drop 9 (G14 .locals) u) (G14 .slots) 9 (λ t. (Syntax.field 3) ∷ t) Laws'''.mir Laws'''.mir 11 (Rows.whole
-              (Declared'.row Outgoing.the-type)) (λ x. x) (λ u. At.getAt (FailPlan.the-type .parts) 3 (FailPlan.struct .as-values (u .1 .1 .1 .1 .1 .1
-              .1 .1 .1 .0))) (λ u. (Row.hd 0 (Row.tl (Row.tl (Row.tl (Row.tl (Row.tl (Row.tl (Row.tl (Row.tl (Row.tl bs))))))))), Nat._+_ 0 176,)) (λ
-              T′. record { locals = Row.setRow 9 (9, Rows.whole (Declared'.row FailPlan.the-type)) T′; slots = G14 .slots; }) (λ u T′ m′. Row.set 9
-              (9, Rows.whole (Declared'.row FailPlan.the-type)) (u .1 .1 .1 .1 .1 .1 .1 .1 .1 .0) T′ m′) (λ u. Unit) (λ x. Unit) (Own.told-none 𝓤 H A
-              (G14 .slots)) (DerefMove.learns-nothing 𝓤 H A (Declared'.row Outgoing.the-type)) (λ ρ told u asked. Way'.w-partˢ 𝓤 H A W E
-              (Declared'.row FailPlan.the-type) (Declared'.row Outgoing.the-type) Laws'.mir Laws'''.mir 3 176 (u .1 .1 .1 .1 .1 .1 .1 .1 .1 .0)
-              (At.getAt (FailPlan.the-type .parts) 3 (FailPlan.struct .as-values (u .1 .1 .1 .1 .1 .1 .1 .1 .1 .0))) (Row.hd 0 (Row.tl (Row.tl (Row.tl
-              (Row.tl (Row.tl (Row.tl (Row.tl (Row.tl (Row.tl bs))))))))), 0,) (Way.w-look 𝓤 H A W E (Way.w-local 𝓤 H A W E G14 ρ u (G14 .slots) 9
-              (Declared'.row FailPlan.the-type) (Rows.whole (Declared'.row FailPlan.the-type)) (λ x. x) (λ x. x) (u .1 .1 .1 .1 .1 .1 .1 .1 .1 .0)
-              (Local.mem-whole 𝓤 H A W (Declared'.row FailPlan.the-type) ρ (u .1 .1 .1 .1 .1 .1 .1 .1 .1 .0) (Row.hd 0 (Row.tl (Row.tl (Row.tl (Row.tl
-              (Row.tl (Row.tl (Row.tl (Row.tl (Row.tl bs))))))))))) (Local.whole-mem 𝓤 H A W (Declared'.row FailPlan.the-type) ρ (u .1 .1 .1 .1 .1 .1
-              .1 .1 .1 .0) (Row.hd 0 (Row.tl (Row.tl (Row.tl (Row.tl (Row.tl (Row.tl (Row.tl (Row.tl (Row.tl bs))))))))))))) Path.refl λ q.
-              Inner.cut-record 𝓤 H A q (Declared'.row FailPlan.the-type) Outgoing.the-type 176 (u .1 .1 .1 .1 .1 .1 .1 .1 .1 .0) (u .1 .1 .1 .1 .1 .1
-              .1 .1 .1 .0) (At.getAt (FailPlan.the-type .parts) 3 (FailPlan.struct .as-values (u .1 .1 .1 .1 .1 .1 .1 .1 .1 .0))) (At.getAt
-              (FailPlan.the-type .parts) 3 (FailPlan.struct .as-values (u .1 .1 .1 .1 .1 .1 .1 .1 .1 .0))) (Row.hd 0 (Row.tl (Row.tl (Row.tl (Row.tl
-              (Row.tl (Row.tl (Row.tl (Row.tl (Row.tl bs))))))))), 0,) (Behind.look-at 𝓤 H A W q FailPlan.the-type Laws'.the-laws 3 176 Path.refl
-              Path.refl (Row.hd 0 (Row.tl (Row.tl (Row.tl (Row.tl (Row.tl (Row.tl (Row.tl (Row.tl (Row.tl bs))))))))), 0,) (u .1 .1 .1 .1 .1 .1 .1 .1
-              .1 .0) (FailPlan.struct .as-values (u .1 .1 .1 .1 .1 .1 .1 .1 .1 .0)) Path.refl)) (Reads'.room-gone 𝓤 H A Laws'''.mir) (Yields.makes-mem
-              𝓤 H A W (λ ρ. Unit) (Declared'.row Outgoing.the-type) Path.refl (Rows.whole (Declared'.row Outgoing.the-type)) (λ x. x) λ ρ told.
-              Local.whole-mem 𝓤 H A W (Declared'.row Outgoing.the-type) ρ) Path.refl Path.refl Path.refl) d46
+          d47 = Typed.s-seq 𝓤 H A W 𝓣 E G14 G15 b6 b33 Δ0 (Typed.both (s13 bs)) (at46 bs) (WayStmt.t-way-copy-out 𝓤 H A
+              W E 𝓣 (Declared'.row Outgoing.the-type) Path.refl (Copies.cStruct Outgoing.the-type Laws'''.the-laws
+              Laws'''.the-copy .copy 𝓤 H A W) (λ ρ. Unit) G14 (Row.out 9 (G14 .locals))
+              (λ u. Row.drop 9 (G14 .locals) u) (G14 .slots) 9 (λ t. (Syntax.field 3) ∷ t) Laws'''.mir Laws'''.mir 11
+              (Rows.whole (Declared'.row Outgoing.the-type)) (λ x. x) (λ u. At.getAt (FailPlan.the-type .parts) 3 (FailPlan.struct
+              .as-values (u .1 .1 .1 .1 .1 .1 .1 .1 .1 .0))) (λ u. (
+                Row.hd 0 (Row.tl (Row.tl (Row.tl (Row.tl (Row.tl (Row.tl (Row.tl (Row.tl (Row.tl bs))))))))),
+                Nat._+_ 0 176,
+              )) (λ T′. record {
+                locals = Row.setRow 9 (9, Rows.whole (Declared'.row FailPlan.the-type)) T′;
+                slots = G14 .slots;
+              }) (λ u T′ m′. Row.set 9 (9, Rows.whole (Declared'.row FailPlan.the-type))
+              (u .1 .1 .1 .1 .1 .1 .1 .1 .1 .0) T′ m′) (λ u. Unit) (λ x. Unit) (Own.told-none 𝓤 H A (G14 .slots)) (DerefMove.learns-nothing
+              𝓤 H A (Declared'.row Outgoing.the-type)) (λ ρ told u asked. Way'.w-partˢ 𝓤 H A W E
+              (Declared'.row FailPlan.the-type) (Declared'.row Outgoing.the-type) Laws'.mir Laws'''.mir 3 176
+              (u .1 .1 .1 .1 .1 .1 .1 .1 .1 .0) (At.getAt (FailPlan.the-type .parts) 3 (FailPlan.struct .as-values
+              (u .1 .1 .1 .1 .1 .1 .1 .1 .1 .0))) (
+                Row.hd 0 (Row.tl (Row.tl (Row.tl (Row.tl (Row.tl (Row.tl (Row.tl (Row.tl (Row.tl bs))))))))),
+                0,
+              ) (Way.w-look 𝓤 H A W E (Way.w-local 𝓤 H A W E G14 ρ u (G14 .slots) 9 (Declared'.row FailPlan.the-type)
+              (Rows.whole (Declared'.row FailPlan.the-type)) (λ x. x) (λ x. x) (u .1 .1 .1 .1 .1 .1 .1 .1 .1 .0) (Local.mem-whole
+              𝓤 H A W (Declared'.row FailPlan.the-type) ρ (u .1 .1 .1 .1 .1 .1 .1 .1 .1 .0) (Row.hd 0 (Row.tl (Row.tl (Row.tl (Row.tl
+              (Row.tl (Row.tl (Row.tl (Row.tl (Row.tl bs))))))))))) (Local.whole-mem 𝓤 H A W
+              (Declared'.row FailPlan.the-type) ρ (u .1 .1 .1 .1 .1 .1 .1 .1 .1 .0) (Row.hd 0 (Row.tl (Row.tl (Row.tl (Row.tl
+              (Row.tl (Row.tl (Row.tl (Row.tl (Row.tl bs))))))))))))) Path.refl λ q. Inner.cut-record 𝓤 H A q
+              (Declared'.row FailPlan.the-type) Outgoing.the-type 176 (u .1 .1 .1 .1 .1 .1 .1 .1 .1 .0)
+              (u .1 .1 .1 .1 .1 .1 .1 .1 .1 .0) (At.getAt (FailPlan.the-type .parts) 3 (FailPlan.struct .as-values
+              (u .1 .1 .1 .1 .1 .1 .1 .1 .1 .0))) (At.getAt (FailPlan.the-type .parts) 3 (FailPlan.struct .as-values
+              (u .1 .1 .1 .1 .1 .1 .1 .1 .1 .0))) (
+                Row.hd 0 (Row.tl (Row.tl (Row.tl (Row.tl (Row.tl (Row.tl (Row.tl (Row.tl (Row.tl bs))))))))),
+                0,
+              ) (Behind.look-at 𝓤 H A W q FailPlan.the-type Laws'.the-laws 3 176 Path.refl Path.refl (
+                Row.hd 0 (Row.tl (Row.tl (Row.tl (Row.tl (Row.tl (Row.tl (Row.tl (Row.tl (Row.tl bs))))))))),
+                0,
+              ) (u .1 .1 .1 .1 .1 .1 .1 .1 .1 .0) (FailPlan.struct .as-values (u .1 .1 .1 .1 .1 .1 .1 .1 .1 .0))
+              Path.refl)) (Reads'.room-gone 𝓤 H A Laws'''.mir) (Yields.makes-mem 𝓤 H A W (λ ρ. Unit)
+              (Declared'.row Outgoing.the-type) Path.refl (Rows.whole (Declared'.row Outgoing.the-type)) (λ x. x) λ ρ
+              told. Local.whole-mem 𝓤 H A W (Declared'.row Outgoing.the-type) ρ) Path.refl Path.refl Path.refl) d46
+
           d48 : Typed.Typed 𝓤 H A 𝓣 E G13 b35 Δ0 (at48 bs)
-          d48 = Typed.s-seq 𝓤 H A W 𝓣 E G13 G14 b5 b34 Δ0 (Typed.both (s12 bs)) (at47 bs) (WayStmt.t-way-copy-out 𝓤 H A W E 𝓣 (Declared'.row
-              OpaqueRelayRuntime.the-type) Path.refl (Copies.cStruct OpaqueRelayRuntime.the-type Laws'''''.the-laws Laws'''''.the-copy .copy 𝓤 H A W)
-              (λ ρ. Unit) G13 (Row.out 9 (G13 .locals)) (λ u. Row.drop 9 (G13 .locals) u) (G13 .slots) 9 (λ t. (Syntax.field 2) ∷ t) Laws'''''.mir
-              Laws'''''.mir 10 (Rows.whole (Declared'.row OpaqueRelayRuntime.the-type)) (λ x. x) (λ u. At.getAt (FailPlan.the-type .parts) 2
-              (FailPlan.struct .as-values (u .1 .1 .1 .1 .1 .1 .1 .1 .1 .0))) (λ u. (Row.hd 0 (Row.tl (Row.tl (Row.tl (Row.tl (Row.tl (Row.tl (Row.tl
-              (Row.tl (Row.tl bs))))))))), Nat._+_ 0 16,)) (λ T′. record { locals = Row.setRow 9 (9, Rows.whole (Declared'.row FailPlan.the-type)) T′;
-              slots = G13 .slots; }) (λ u T′ m′. Row.set 9 (9, Rows.whole (Declared'.row FailPlan.the-type)) (u .1 .1 .1 .1 .1 .1 .1 .1 .1 .0) T′ m′)
-              (λ u. Unit) (λ x. Unit) (Own.told-none 𝓤 H A (G13 .slots)) (DerefMove.learns-nothing 𝓤 H A (Declared'.row OpaqueRelayRuntime.the-type))
-              (λ ρ told u asked. Way'.w-partˢ 𝓤 H A W E (Declared'.row FailPlan.the-type) (Declared'.row OpaqueRelayRuntime.the-type) Laws'.mir
-              Laws'''''.mir 2 16 (u .1 .1 .1 .1 .1 .1 .1 .1 .1 .0) (At.getAt (FailPlan.the-type .parts) 2 (FailPlan.struct .as-values (u .1 .1 .1 .1
-              .1 .1 .1 .1 .1 .0))) (Row.hd 0 (Row.tl (Row.tl (Row.tl (Row.tl (Row.tl (Row.tl (Row.tl (Row.tl (Row.tl bs))))))))), 0,) (Way.w-look 𝓤 H
-              A W E (Way.w-local 𝓤 H A W E G13 ρ u (G13 .slots) 9 (Declared'.row FailPlan.the-type) (Rows.whole (Declared'.row FailPlan.the-type)) (λ
-              x. x) (λ x. x) (u .1 .1 .1 .1 .1 .1 .1 .1 .1 .0) (Local.mem-whole 𝓤 H A W (Declared'.row FailPlan.the-type) ρ (u .1 .1 .1 .1 .1 .1 .1 .1
-              .1 .0) (Row.hd 0 (Row.tl (Row.tl (Row.tl (Row.tl (Row.tl (Row.tl (Row.tl (Row.tl (Row.tl bs))))))))))) (Local.whole-mem 𝓤 H A W
-              (Declared'.row FailPlan.the-type) ρ (u .1 .1 .1 .1 .1 .1 .1 .1 .1 .0) (Row.hd 0 (Row.tl (Row.tl (Row.tl (Row.tl (Row.tl (Row.tl (Row.tl
-              (Row.tl (Row.tl bs))))))))))))) Path.refl λ q. Inner.cut-record 𝓤 H A q (Declared'.row FailPlan.the-type) OpaqueRelayRuntime.the-type 16
-              (u .1 .1 .1 .1 .1 .1 .1 .1 .1 .0) (u .1 .1 .1 .1 .1 .1 .1 .1 .1 .0) (At.getAt (FailPlan.the-type .parts) 2 (FailPlan.struct .as-values
-              (u .1 .1 .1 .1 .1 .1 .1 .1 .1 .0))) (At.getAt (FailPlan.the-type .parts) 2 (FailPlan.struct .as-values (u .1 .1 .1 .1 .1 .1 .1 .1 .1
-              .0))) (Row.hd 0 (Row.tl (Row.tl (Row.tl (Row.tl (Row.tl (Row.tl (Row.tl (Row.tl (Row.tl bs))))))))), 0,) (Behind.look-at 𝓤 H A W q
-              FailPlan.the-type Laws'.the-laws 2 16 Path.refl Path.refl (Row.hd 0 (Row.tl (Row.tl (Row.tl (Row.tl (Row.tl (Row.tl (Row.tl (Row.tl
-              (Row.tl bs))))))))), 0,) (u .1 .1 .1 .1 .1 .1 .1 .1 .1 .0) (FailPlan.struct .as-values (u .1 .1 .1 .1 .1 .1 .1 .1 .1 .0)) Path.refl))
-              (Reads'.room-gone 𝓤 H A Laws'''''.mir) (Yields.makes-mem 𝓤 H A W (λ ρ. Unit) (Declared'.row OpaqueRelayRuntime.the-type) Path.refl
-              (Rows.whole (Declared'.row OpaqueRelayRuntime.the-type)) (λ x. x) λ ρ told. Local.whole-mem 𝓤 H A W (Declared'.row
-              OpaqueRelayRuntime.the-type) ρ) Path.refl Path.refl Path.refl) d47
+          d48 = Typed.s-seq 𝓤 H A W 𝓣 E G13 G14 b5 b34 Δ0 (Typed.both (s12 bs)) (at47 bs) (WayStmt.t-way-copy-out 𝓤 H A
+              W E 𝓣 (Declared'.row OpaqueRelayRuntime.the-type) Path.refl (Copies.cStruct OpaqueRelayRuntime.the-type
+              Laws'''''.the-laws Laws'''''.the-copy .copy 𝓤 H A W) (λ ρ. Unit) G13 (Row.out 9 (G13 .locals))
+              (λ u. Row.drop 9 (G13 .locals) u) (G13 .slots) 9 (λ t. (Syntax.field 2) ∷ t) Laws'''''.mir Laws'''''.mir
+              10 (Rows.whole (Declared'.row OpaqueRelayRuntime.the-type)) (λ x. x) (λ u. At.getAt
+              (FailPlan.the-type .parts) 2 (FailPlan.struct .as-values (u .1 .1 .1 .1 .1 .1 .1 .1 .1 .0))) (λ u. (
+                Row.hd 0 (Row.tl (Row.tl (Row.tl (Row.tl (Row.tl (Row.tl (Row.tl (Row.tl (Row.tl bs))))))))),
+                Nat._+_ 0 16,
+              )) (λ T′. record {
+                locals = Row.setRow 9 (9, Rows.whole (Declared'.row FailPlan.the-type)) T′;
+                slots = G13 .slots;
+              }) (λ u T′ m′. Row.set 9 (9, Rows.whole (Declared'.row FailPlan.the-type))
+              (u .1 .1 .1 .1 .1 .1 .1 .1 .1 .0) T′ m′) (λ u. Unit) (λ x. Unit) (Own.told-none 𝓤 H A (G13 .slots)) (DerefMove.learns-nothing
+              𝓤 H A (Declared'.row OpaqueRelayRuntime.the-type)) (λ ρ told u asked. Way'.w-partˢ 𝓤 H A W E
+              (Declared'.row FailPlan.the-type) (Declared'.row OpaqueRelayRuntime.the-type) Laws'.mir Laws'''''.mir 2
+              16 (u .1 .1 .1 .1 .1 .1 .1 .1 .1 .0) (At.getAt (FailPlan.the-type .parts) 2 (FailPlan.struct .as-values
+              (u .1 .1 .1 .1 .1 .1 .1 .1 .1 .0))) (
+                Row.hd 0 (Row.tl (Row.tl (Row.tl (Row.tl (Row.tl (Row.tl (Row.tl (Row.tl (Row.tl bs))))))))),
+                0,
+              ) (Way.w-look 𝓤 H A W E (Way.w-local 𝓤 H A W E G13 ρ u (G13 .slots) 9 (Declared'.row FailPlan.the-type)
+              (Rows.whole (Declared'.row FailPlan.the-type)) (λ x. x) (λ x. x) (u .1 .1 .1 .1 .1 .1 .1 .1 .1 .0) (Local.mem-whole
+              𝓤 H A W (Declared'.row FailPlan.the-type) ρ (u .1 .1 .1 .1 .1 .1 .1 .1 .1 .0) (Row.hd 0 (Row.tl (Row.tl (Row.tl (Row.tl
+              (Row.tl (Row.tl (Row.tl (Row.tl (Row.tl bs))))))))))) (Local.whole-mem 𝓤 H A W
+              (Declared'.row FailPlan.the-type) ρ (u .1 .1 .1 .1 .1 .1 .1 .1 .1 .0) (Row.hd 0 (Row.tl (Row.tl (Row.tl (Row.tl
+              (Row.tl (Row.tl (Row.tl (Row.tl (Row.tl bs))))))))))))) Path.refl λ q. Inner.cut-record 𝓤 H A q
+              (Declared'.row FailPlan.the-type) OpaqueRelayRuntime.the-type 16 (u .1 .1 .1 .1 .1 .1 .1 .1 .1 .0)
+              (u .1 .1 .1 .1 .1 .1 .1 .1 .1 .0) (At.getAt (FailPlan.the-type .parts) 2 (FailPlan.struct .as-values
+              (u .1 .1 .1 .1 .1 .1 .1 .1 .1 .0))) (At.getAt (FailPlan.the-type .parts) 2 (FailPlan.struct .as-values
+              (u .1 .1 .1 .1 .1 .1 .1 .1 .1 .0))) (
+                Row.hd 0 (Row.tl (Row.tl (Row.tl (Row.tl (Row.tl (Row.tl (Row.tl (Row.tl (Row.tl bs))))))))),
+                0,
+              ) (Behind.look-at 𝓤 H A W q FailPlan.the-type Laws'.the-laws 2 16 Path.refl Path.refl (
+                Row.hd 0 (Row.tl (Row.tl (Row.tl (Row.tl (Row.tl (Row.tl (Row.tl (Row.tl (Row.tl bs))))))))),
+                0,
+              ) (u .1 .1 .1 .1 .1 .1 .1 .1 .1 .0) (FailPlan.struct .as-values (u .1 .1 .1 .1 .1 .1 .1 .1 .1 .0))
+              Path.refl)) (Reads'.room-gone 𝓤 H A Laws'''''.mir) (Yields.makes-mem 𝓤 H A W (λ ρ. Unit)
+              (Declared'.row OpaqueRelayRuntime.the-type) Path.refl
+              (Rows.whole (Declared'.row OpaqueRelayRuntime.the-type)) (λ x. x) λ ρ told. Local.whole-mem 𝓤 H A W
+              (Declared'.row OpaqueRelayRuntime.the-type) ρ) Path.refl Path.refl Path.refl) d47
+
           d49 : Typed.Typed 𝓤 H A 𝓣 E G12 b35 Δ0 (at49 bs)
-          d49 = Typed.g-pre 𝓤 H A W 𝓣 E G12 G13 b35 Δ0 (Typed.pass T12 T13 (s11 bs)) (at48 bs) (Scalar.g-room 𝓤 H A W E G12 7 Laws''''.mir
-              (Local.room-whole 𝓤 H A W (Declared'.row PendingFound.the-type) Laws''''.mir Path.refl)) d48
+          d49 = Typed.g-pre 𝓤 H A W 𝓣 E G12 G13 b35 Δ0 (Typed.pass T12 T13 (s11 bs)) (at48 bs) (Scalar.g-room 𝓤 H A W E
+              G12 7 Laws''''.mir (Local.room-whole 𝓤 H A W (Declared'.row PendingFound.the-type) Laws''''.mir
+              Path.refl)) d48
+
           d50 : Typed.Typed 𝓤 H A 𝓣 E G11 b36 Δ0 (at50 bs)
-          d50 = Typed.s-seq 𝓤 H A W 𝓣 E G11 G12 b4 b35 Δ0 (Typed.both (s10 bs)) (at49 bs) (Plain.t-call-plain 𝓤 H A W 𝓣 0 ps·2 r·2 (claims· .4)
-              (claims· .5) "hnsr_circuit::acknowledge::fail_plan" (known .2) E (λ pos β. β) G11 (record { pos = 7; st = List.[]; d = 0; at = λ x. x },
-              (record { pos = 4; st = List.[]; d = 0; at = λ x. x }, tt),) 9 List.[] (Call.sub-id 𝓤 H A W (G11 .slots)) ((Yields.yields-copy 𝓤 H A W
-              (λ ρ. Unit) (Declared'.row PendingFound.the-type) Path.refl (Copies.cStruct PendingFound.the-type Laws''''.the-laws Laws''''.the-copy
-              .copy 𝓤 H A W) (Rows.whole (Declared'.row PendingFound.the-type)) (λ x. x) (λ x. x) (λ ρ told. Local.mem-whole 𝓤 H A W (Declared'.row
-              PendingFound.the-type) ρ) λ ρ told. Local.whole-mem 𝓤 H A W (Declared'.row PendingFound.the-type) ρ, Path.refl,), ((Yields.yields-copy 𝓤
-              H A W (λ ρ. Unit) (Declared'.row OpaqueRelayRuntime.the-type) Path.refl (Copies.cStruct OpaqueRelayRuntime.the-type Laws'''''.the-laws
-              Laws'''''.the-copy .copy 𝓤 H A W) (Rows.whole (Declared'.row OpaqueRelayRuntime.the-type)) (λ x. x) (λ x. x) (λ ρ told. Local.mem-whole
-              𝓤 H A W (Declared'.row OpaqueRelayRuntime.the-type) ρ) λ ρ told. Local.whole-mem 𝓤 H A W (Declared'.row OpaqueRelayRuntime.the-type) ρ,
-              Path.refl,), tt,),) (Reads'.room-gone 𝓤 H A Laws'.mir) tt Path.refl) d49
+          d50 = Typed.s-seq 𝓤 H A W 𝓣 E G11 G12 b4 b35 Δ0 (Typed.both (s10 bs)) (at49 bs) (Plain.t-call-plain 𝓤 H A W 𝓣
+              0 ps·2 r·2 (claims· .4) (claims· .5) "hnsr_circuit::acknowledge::fail_plan" (known .2) E (λ pos β. β) G11 (
+                record { pos = 7; st = List.[]; d = 0; at = λ x. x },
+                (record { pos = 4; st = List.[]; d = 0; at = λ x. x }, tt),
+              ) 9 List.[] (Call.sub-id 𝓤 H A W (G11 .slots)) (
+                (
+                  Yields.yields-copy 𝓤 H A W (λ ρ. Unit) (Declared'.row PendingFound.the-type) Path.refl (Copies.cStruct
+                      PendingFound.the-type Laws''''.the-laws Laws''''.the-copy .copy 𝓤 H A W)
+                      (Rows.whole (Declared'.row PendingFound.the-type)) (λ x. x) (λ x. x) (λ ρ told. Local.mem-whole 𝓤
+                      H A W (Declared'.row PendingFound.the-type) ρ) λ ρ told. Local.whole-mem 𝓤 H A W
+                      (Declared'.row PendingFound.the-type) ρ,
+                  Path.refl,
+                ),
+                (
+                  (
+                    Yields.yields-copy 𝓤 H A W (λ ρ. Unit) (Declared'.row OpaqueRelayRuntime.the-type) Path.refl (Copies.cStruct
+                        OpaqueRelayRuntime.the-type Laws'''''.the-laws Laws'''''.the-copy .copy 𝓤 H A W)
+                        (Rows.whole (Declared'.row OpaqueRelayRuntime.the-type)) (λ x. x) (λ x. x) (λ ρ told.
+                        Local.mem-whole 𝓤 H A W (Declared'.row OpaqueRelayRuntime.the-type) ρ) λ ρ told.
+                        Local.whole-mem 𝓤 H A W (Declared'.row OpaqueRelayRuntime.the-type) ρ,
+                    Path.refl,
+                  ),
+                  tt,
+                ),
+              ) (Reads'.room-gone 𝓤 H A Laws'.mir) tt Path.refl) d49
+
           d51 : Typed.Typed 𝓤 H A 𝓣 E G10 b37 Δ0 (at51 bs)
-          d51 = Typed.s-seq 𝓤 H A W 𝓣 E G10 G11 b3 b36 Δ0 (Typed.both (s9 bs)) (at50 bs) (Plain.t-call-plain 𝓤 H A W 𝓣 0 ps·1 r·1 (claims· .2)
-              (claims· .3) "hnsr_circuit::revocation::pending_gone" (known .1) E (λ pos β. β) G10 (record { pos = 7; st = List.[]; d = 0; at = λ x. x
-              }, tt) 8 List.[] (Call.sub-id 𝓤 H A W (G10 .slots)) ((Yields.yields-copy 𝓤 H A W (λ ρ. Unit) (Declared'.row PendingFound.the-type)
-              Path.refl (Copies.cStruct PendingFound.the-type Laws''''.the-laws Laws''''.the-copy .copy 𝓤 H A W) (Rows.whole (Declared'.row
-              PendingFound.the-type)) (λ x. x) (λ x. x) (λ ρ told. Local.mem-whole 𝓤 H A W (Declared'.row PendingFound.the-type) ρ) λ ρ told.
-              Local.whole-mem 𝓤 H A W (Declared'.row PendingFound.the-type) ρ, Path.refl,), tt,) (Reads'.room-gone 𝓤 H A RelayPending.ty) tt
-              Path.refl) d50
+          d51 = Typed.s-seq 𝓤 H A W 𝓣 E G10 G11 b3 b36 Δ0 (Typed.both (s9 bs)) (at50 bs) (Plain.t-call-plain 𝓤 H A W 𝓣
+              0 ps·1 r·1 (claims· .2) (claims· .3) "hnsr_circuit::revocation::pending_gone" (known .1) E (λ pos β. β)
+              G10 (record { pos = 7; st = List.[]; d = 0; at = λ x. x }, tt) 8 List.[]
+              (Call.sub-id 𝓤 H A W (G10 .slots)) (
+                (
+                  Yields.yields-copy 𝓤 H A W (λ ρ. Unit) (Declared'.row PendingFound.the-type) Path.refl (Copies.cStruct
+                      PendingFound.the-type Laws''''.the-laws Laws''''.the-copy .copy 𝓤 H A W)
+                      (Rows.whole (Declared'.row PendingFound.the-type)) (λ x. x) (λ x. x) (λ ρ told. Local.mem-whole 𝓤
+                      H A W (Declared'.row PendingFound.the-type) ρ) λ ρ told. Local.whole-mem 𝓤 H A W
+                      (Declared'.row PendingFound.the-type) ρ,
+                  Path.refl,
+                ),
+                tt,
+              ) (Reads'.room-gone 𝓤 H A RelayPending.ty) tt Path.refl) d50
+
           d52 : Typed.Typed 𝓤 H A 𝓣 E G9 b37 Δ0 (at52 bs)
-          d52 = Typed.g-pre 𝓤 H A W 𝓣 E G9 G10 b37 Δ0 (λ Ψ. Ψ) (at51 bs) (Lifetime.g-forget 𝓤 H A W E G9 3 Row.dead Path.refl) d51
+          d52 = Typed.g-pre 𝓤 H A W 𝓣 E G9 G10 b37 Δ0 (λ Ψ. Ψ) (at51 bs)
+              (Lifetime.g-forget 𝓤 H A W E G9 3 Row.dead Path.refl) d51
+
           d53 : Typed.Typed 𝓤 H A 𝓣 E G8 b37 Δ0 (at53 bs)
-          d53 = Typed.g-pre 𝓤 H A W 𝓣 E G8 G9 b37 Δ0 (Typed.pass T7 T9 (s7 bs)) (at52 bs) (Reshare.g-back-sl-shr 𝓤 H A W E RelayPending.row G8 1 0 3
-              ref4 life0 (λ x. x) (Reads'.as-is 𝓤 H A (Reshare.mslice-owedS RelayPending.row ref4 0 3 life0)) Path.refl Path.refl) d52
+          d53 = Typed.g-pre 𝓤 H A W 𝓣 E G8 G9 b37 Δ0 (Typed.pass T7 T9 (s7 bs)) (at52 bs) (Reshare.g-back-sl-shr 𝓤 H A
+              W E RelayPending.row G8 1 0 3 ref4 life0 (λ x. x) (Reads'.as-is 𝓤 H A
+              (Reshare.mslice-owedS RelayPending.row ref4 0 3 life0)) Path.refl Path.refl) d52
+
           d54 : Typed.Typed 𝓤 H A 𝓣 E G7 b37 Δ0 (at54 bs)
           d54 = Typed.g-pre 𝓤 H A W 𝓣 E G7 G8 b37 Δ0 (λ Ψ. Ψ) (at53 bs) (Lifetime.g-end 𝓤 H A W E G7 3 Path.refl) d53
+
           d55 : Typed.Typed 𝓤 H A 𝓣 E G6 b37 Δ0 (at55 bs)
-          d55 = Typed.g-pre 𝓤 H A W 𝓣 E G6 G7 b37 Δ0 (Typed.pass T6 T7 (s5 bs)) (at54 bs) (Scalar.g-room 𝓤 H A W E G6 13 (Syntax.tyStruct (38 ∷ 91 ∷
-              93 ∷ List.[]) (Syntax.tcons ref0 (Syntax.tcons (Syntax.tyInt Syntax.w64) Syntax.tnil))) (Shared.room-sslice 𝓤 H A W RelayPending.row
-              ref0 3)) d54
+          d55 = Typed.g-pre 𝓤 H A W 𝓣 E G6 G7 b37 Δ0 (Typed.pass T6 T7 (s5 bs)) (at54 bs) (Scalar.g-room 𝓤 H A W E G6
+              13 slice0 (Shared.room-sslice 𝓤 H A W RelayPending.row ref0 3)) d54
+
           d56 : Typed.Typed 𝓤 H A 𝓣 E G5 b38 Δ0 (at56 bs)
-          d56 = Typed.s-seq 𝓤 H A W 𝓣 E G5 G6 b2 b37 Δ0 (Typed.both (s4 bs)) (at55 bs) (Plain.t-call-plain 𝓤 H A W 𝓣 1 ps·0 r·0 (claims· .0) (claims·
-              .1) "hnsr_circuit::lookup::pending_by_id" (known .0) E (λ pos β. β) G5 (record { pos = 13; ty = Syntax.tyRef Syntax.erased Syntax.imm
-              RelayPending.to; ref = λ x. x; }, (record { pos = 5; st = List.[]; d = 0; at = λ x. x }, (Num.vAt 6 λ x. x, tt)),) 7 (3 ∷ List.[])
-              (Call.sub-id 𝓤 H A W (G5 .slots)) (ShrSlice.spares-sslice 𝓤 H A W RelayPending.row ref0 3, Shared.reads-sslice 𝓤 H A W RelayPending.row
-              ref0 3, Path.refl, ((Yields.yields-copy 𝓤 H A W (λ ρ. Unit) (Declared'.row Places.the-type) Path.refl (Copies.cStruct Places.the-type
-              Laws''.the-laws Laws''.the-copy .copy 𝓤 H A W) (Rows.whole (Declared'.row Places.the-type)) (λ x. x) (λ x. x) (λ ρ told. Local.mem-whole
-              𝓤 H A W (Declared'.row Places.the-type) ρ) λ ρ told. Local.whole-mem 𝓤 H A W (Declared'.row Places.the-type) ρ, Path.refl,),
-              ((Scalar.reads-sc 𝓤 H A W (Row.sInt Syntax.w64), Path.refl), tt),),) (Reads'.room-gone 𝓤 H A Laws''''.mir) (tt, tt) Path.refl) d55
+          d56 = Typed.s-seq 𝓤 H A W 𝓣 E G5 G6 b2 b37 Δ0 (Typed.both (s4 bs)) (at55 bs) (Plain.t-call-plain 𝓤 H A W 𝓣 1
+              ps·0 r·0 (claims· .0) (claims· .1) "hnsr_circuit::lookup::pending_by_id" (known .0) E (λ pos β. β) G5 (
+                record { pos = 13; ty = ref0; ref = λ x. x },
+                (record { pos = 5; st = List.[]; d = 0; at = λ x. x }, (Num.vAt 6 λ x. x, tt)),
+              ) 7 (3 ∷ List.[]) (Call.sub-id 𝓤 H A W (G5 .slots)) (
+                ShrSlice.spares-sslice 𝓤 H A W RelayPending.row ref0 3,
+                Shared.reads-sslice 𝓤 H A W RelayPending.row ref0 3,
+                Path.refl,
+                (
+                  (
+                    Yields.yields-copy 𝓤 H A W (λ ρ. Unit) (Declared'.row Places.the-type) Path.refl (Copies.cStruct
+                        Places.the-type Laws''.the-laws Laws''.the-copy .copy 𝓤 H A W)
+                        (Rows.whole (Declared'.row Places.the-type)) (λ x. x) (λ x. x) (λ ρ told. Local.mem-whole 𝓤 H A
+                        W (Declared'.row Places.the-type) ρ) λ ρ told. Local.whole-mem 𝓤 H A W
+                        (Declared'.row Places.the-type) ρ,
+                    Path.refl,
+                  ),
+                  ((Scalar.reads-sc 𝓤 H A W (Row.sInt Syntax.w64), Path.refl), tt),
+                ),
+              ) (Reads'.room-gone 𝓤 H A Laws''''.mir) (tt, tt) Path.refl) d55
+
           d57 : Typed.Typed 𝓤 H A 𝓣 E G4 b39 Δ0 (at57 bs)
-          d57 = Typed.s-seq 𝓤 H A W 𝓣 E G4 G5 b1 b38 Δ0 (Typed.ask (s3 bs)) (at56 bs) (Relend.t-sl-aggregate 𝓤 H A W E RelayPending.row 𝓣
-              (Relend.asShr RelayPending.row) G4 12 13 3 ref0 ref0 (λ x. x) (Scalar.oFld 1 ((Syntax.field 1) ∷ List.[]) (Syntax.tyInt Syntax.w64) 8 λ
-              v. Shared.lenV (v .0)) (Reads'.as-is 𝓤 H A (Relend.ssptr RelayPending.row ref0 3)) (Reads'.room-gone 𝓤 H A (Syntax.tyStruct (38 ∷ 91 ∷
-              93 ∷ List.[]) (Syntax.tcons ref0 (Syntax.tcons (Syntax.tyInt Syntax.w64) Syntax.tnil)))) (Reshare.reads-owedS-len 𝓤 H A W
-              RelayPending.row ref4 0 3 life0 8 Path.refl, Path.refl,) Path.refl Path.refl λ b o k. tt) d56
+          d57 = Typed.s-seq 𝓤 H A W 𝓣 E G4 G5 b1 b38 Δ0 (Typed.ask (s3 bs)) (at56 bs) (Relend.t-sl-aggregate 𝓤 H A W E
+              RelayPending.row 𝓣 (Relend.asShr RelayPending.row) G4 12 13 3 ref0 ref0 (λ x. x) (Scalar.oFld 1
+              ((Syntax.field 1) ∷ List.[]) (Syntax.tyInt Syntax.w64) 8 λ v. Shared.lenV (v .0))
+              (Reads'.as-is 𝓤 H A (Relend.ssptr RelayPending.row ref0 3)) (Reads'.room-gone 𝓤 H A slice0) (
+                Reshare.reads-owedS-len 𝓤 H A W RelayPending.row ref4 0 3 life0 8 Path.refl,
+                Path.refl,
+              ) Path.refl Path.refl λ b o k. tt) d56
+
           d58 : Typed.Typed 𝓤 H A 𝓣 E G3 b40 Δ0 (at58 bs)
-          d58 = Typed.s-seq 𝓤 H A W 𝓣 E G3 G4 b0 b39 Δ0 (Typed.give (s2 bs)) (at57 bs) (Reshare.t-sl-reshare 𝓤 H A W E RelayPending.row 𝓣 G3 1 12 0 3
-              ref4 ref0 life0 0 (λ x. x) (Reads'.as-is 𝓤 H A (Mut.mslice RelayPending.row ref4 0)) (Reads'.room-gone 𝓤 H A ref0) Path.refl tt
+          d58 = Typed.s-seq 𝓤 H A W 𝓣 E G3 G4 b0 b39 Δ0 (Typed.give (s2 bs)) (at57 bs) (Reshare.t-sl-reshare 𝓤 H A W E
+              RelayPending.row 𝓣 G3 1 12 0 3 ref4 ref0 life0 0 (λ x. x)
+              (Reads'.as-is 𝓤 H A (Mut.mslice RelayPending.row ref4 0)) (Reads'.room-gone 𝓤 H A ref0) Path.refl tt
               Path.refl Path.refl Path.refl λ b o. tt) d57
+
           d59 : Typed.Typed 𝓤 H A 𝓣 E G2 b40 Δ0 (at59 bs)
-          d59 = Typed.g-pre 𝓤 H A W 𝓣 E G2 G3 b40 Δ0 (λ Ψ. Ψ) (at58 bs) (Lifetime.g-begin 𝓤 H A W E G2 3 (tt, (tt, (tt, (tt, (tt, (tt, (tt, (tt, (tt,
-              (tt, (tt, (tt, (tt, (tt, (tt, (tt, (tt, (tt, (tt, (tt, (tt, (tt, (tt, tt))))))),),),),),),),),),),),),),),),),)) d58
+          d59 = Typed.g-pre 𝓤 H A W 𝓣 E G2 G3 b40 Δ0 (λ Ψ. Ψ) (at58 bs) (Lifetime.g-begin 𝓤 H A W E G2 3 (
+            tt,
+            (
+              tt,
+              (
+                tt,
+                (
+                  tt,
+                  (
+                    tt,
+                    (
+                      tt,
+                      (
+                        tt,
+                        (
+                          tt,
+                          (tt, (tt, (tt, (tt, (tt, (tt, (tt, (tt, (tt, (tt, (tt, (tt, (tt, (tt, (tt, tt))))))))))))))),
+                        ),
+                      ),
+                    ),
+                  ),
+                ),
+              ),
+            ),
+          )) d58
+
           d60 : Typed.Typed 𝓤 H A 𝓣 E G0 b40 Δ0 (at60 bs)
-          d60 = Typed.g-pre 𝓤 H A W 𝓣 E G0 G2 b40 Δ0 (Typed.give (s0 bs)) (at59 bs) (Know.g-sl-known 𝓤 H A W (Referent.fInt Syntax.w32) E G0 3 2 ref6
-              life2 0 (λ x. x) record { fits = Dec.lit< tt } (Reads'.as-is 𝓤 H A (Mut.mslice (Referent.rtF (Referent.fInt Syntax.w32)) ref6 2))
-              Path.refl tt) d59
-          pub typed : Typed.Typed 𝓤 H A 𝓣 E (Function.Γin 3 ps r xs m κs qs) b40 (Function.Δret 3 ps r xs m κs qs) (Φ bs)
+          d60 = Typed.g-pre 𝓤 H A W 𝓣 E G0 G2 b40 Δ0 (Typed.give (s0 bs)) (at59 bs) (Know.g-sl-known 𝓤 H A W
+              (Referent.fInt Syntax.w32) E G0 3 2 ref6 life2 0 (λ x. x) record { fits = Dec.lit< tt } (Reads'.as-is 𝓤 H
+              A (Mut.mslice (Referent.rtF (Referent.fInt Syntax.w32)) ref6 2)) Path.refl tt) d59
+
+          pub typed : Typed.Typed 𝓤 H A 𝓣 E (Function.Γin 3 ps r xs m κs qs) b40 (Function.Δret 3 ps r xs m κs qs)
+              (Φ bs)
           typed = d60
+
       module _ (κs : Lifetimes.Lfts 3) where
         pub record Args : Type 0 where
-          pub pending : Kinds.Den { n = 3 } κs (MutSlice.pMutS RelayPending.row 0 tt)
-          pub inflight : Kinds.Den { n = 3 } κs (MutSlice.pMutS InflightAction.row 1 tt)
-          pub out : Kinds.Den { n = 3 } κs (MutSlice.pMutS (Referent.rtF (Referent.fInt Syntax.w32)) 2 tt)
-          pub runtime : Kinds.Den { n = 3 } κs (Value.pVal record { ty = Declared'.row OpaqueRelayRuntime.the-type; one = Path.refl; val =
-              Laws''''''''.val OpaqueRelayRuntime.the-type Laws'''''.the-laws; tells = Laws''''''''.tells OpaqueRelayRuntime.the-type
-              Laws'''''.the-laws; still = Laws''''''''.still OpaqueRelayRuntime.the-type Laws'''''.the-copy Exit.yes; row = Rows.whole (Declared'.row
-              OpaqueRelayRuntime.the-type); rd = λ x. x; mk = λ x. x; } λ M 𝓤 H A W. record { copies = Laws''''''''.copy OpaqueRelayRuntime.the-type
-              Laws'''''.the-copy 𝓤 H A W; lawful = Laws''''''''.lawful OpaqueRelayRuntime.the-type Laws'''''.the-laws 𝓤 H A W; makes =
-              Laws''''''''.makes OpaqueRelayRuntime.the-type Laws'''''.the-plain 𝓤 H A; in-mem = Local.mem-whole 𝓤 H A W (Declared'.row
-              OpaqueRelayRuntime.the-type); of-mem = Local.whole-mem 𝓤 H A W (Declared'.row OpaqueRelayRuntime.the-type); })
-          pub places : Kinds.Den { n = 3 } κs (Value.pVal record { ty = Declared'.row Places.the-type; one = Path.refl; val = Laws''''''''.val
-              Places.the-type Laws''.the-laws; tells = Laws''''''''.tells Places.the-type Laws''.the-laws; still = Laws''''''''.still Places.the-type
-              Laws''.the-copy Exit.yes; row = Rows.whole (Declared'.row Places.the-type); rd = λ x. x; mk = λ x. x; } λ M 𝓤 H A W. record { copies =
-              Laws''''''''.copy Places.the-type Laws''.the-copy 𝓤 H A W; lawful = Laws''''''''.lawful Places.the-type Laws''.the-laws 𝓤 H A W; makes =
-              Laws''''''''.makes Places.the-type Laws''.the-plain 𝓤 H A; in-mem = Local.mem-whole 𝓤 H A W (Declared'.row Places.the-type); of-mem =
-              Local.whole-mem 𝓤 H A W (Declared'.row Places.the-type); })
-          pub id : Kinds.Den { n = 3 } κs (Num.pNum Syntax.w64)
+          pub pending : Kinds.Den {n = 3} κs (MutSlice.pMutS RelayPending.row 0 tt)
+          pub inflight : Kinds.Den {n = 3} κs (MutSlice.pMutS InflightAction.row 1 tt)
+          pub out : Kinds.Den {n = 3} κs (MutSlice.pMutS (Referent.rtF (Referent.fInt Syntax.w32)) 2 tt)
+          pub runtime : Kinds.Den {n = 3} κs (StructRow.param OpaqueRelayRuntime.the-type Laws'''''.the-laws
+              Laws'''''.the-copy Laws'''''.the-plain)
+          pub places : Kinds.Den {n = 3} κs (StructRow.param Places.the-type Laws''.the-laws Laws''.the-copy
+              Laws''.the-plain)
+          pub id : Kinds.Den {n = 3} κs (Num.pNum Syntax.w64)
+
         abbrev pub dens : (a : Args) → Kinds.Dens κs ps
-        dens = λ a. (a .pending, (a .inflight, (a .out, (a .runtime, (a .places, (a .id, tt))))),)
+        dens = λ a. (a .pending, (a .inflight, (a .out, (a .runtime, (a .places, (a .id, tt))))))
+
         module _ (args· : Args) where
           pub record Ranges : Type 0 where
             pub id : Val.Fits Syntax.w64 (args· .id)
+
       abbrev pub m0 : (κs : Lifetimes.Lfts 3) → (args : Args κs) → (blocks : List.List Nat.ℕ) → Typed.Mo T0
       m0 = λ κs args blocks. (tt, Enter.partsP κs 1 ps xs (dens κs args))
+
       abbrev W0 : (κs : Lifetimes.Lfts 3) → (args : Args κs) → (blocks : List.List Nat.ℕ) → Typed.Want O0
-      W0 = λ κs args blocks. (λ u. ⊥, tt, λ u. Enter.Fixs κs 1 ps xs (dens κs args) (u .1) × Post· κs (dens κs args) (Function.resV r κs (u .0))
-          (Clauses.atExit (Kinds.endedOf 3 ps r) κs (dens κs args) (Enter.lastsP κs 1 ps xs (dens κs args) (u .1))),)
+      W0 = λ κs args blocks. (
+        λ u. ⊥,
+        tt,
+        λ u. Enter.Fixs κs 1 ps xs (dens κs args) (u .1) × Post· κs (dens κs args) (Function.resV r κs (u .0)) (Clauses.atExit
+            (Kinds.endedOf 3 ps r) κs (dens κs args) (Enter.lastsP κs 1 ps xs (dens κs args) (u .1))),
+      )
+
       pub record Start : Type 0 where
         pub κs : Lifetimes.Lfts 3
         pub args : Args κs
@@ -1453,479 +2269,957 @@ module _ (claims· : Claims) where
         pub good : Kinds.GoodsP κs ps (dens κs args)
         pub fits : Ranges κs args
         pub pre : Pre· κs (dens κs args)
-      abbrev pub m1 : (before : Start) → (given : s0 (before .blocks) .gives (m0 (before .κs) (before .args) (before .blocks))) → Typed.Mo T2
+
+      abbrev pub m1 : (before : Start) → (given : s0 (before .blocks) .gives
+          (m0 (before .κs) (before .args) (before .blocks))) → Typed.Mo T2
       m1 = λ before given. s0 (before .blocks) .next (m0 (before .κs) (before .args) (before .blocks)) given
+
       module _ (before· : Start) where
         pub record After-slice-known·own : Type 0 where
           pub given : s0 (before· .blocks) .gives (m0 (before· .κs) (before· .args) (before· .blocks))
+
       pub record After-slice-known : Type 0 where
         pub before : Start
         pub slice-known : After-slice-known·own before
-      abbrev pub m2 : (before : After-slice-known) → (given : s2 (before .before .blocks) .gives (m1 (before .before) (before .slice-known .given))) →
-          Typed.Mo T4
+
+      abbrev pub m2 : (before : After-slice-known) → (given : s2 (before .before .blocks) .gives
+          (m1 (before .before) (before .slice-known .given))) → Typed.Mo T4
       m2 = λ before given. s2 (before .before .blocks) .next (m1 (before .before) (before .slice-known .given)) given
-      abbrev pub m3 : (before : After-slice-known) → (given : s2 (before .before .blocks) .gives (m1 (before .before) (before .slice-known .given))) →
-          Typed.Mo T5
+
+      abbrev pub m3 : (before : After-slice-known) → (given : s2 (before .before .blocks) .gives
+          (m1 (before .before) (before .slice-known .given))) → Typed.Mo T5
       m3 = λ before given. s3 (before .before .blocks) .next (m2 before given)
+
       module _ (before· : After-slice-known) where
         pub record After-pending-by-id-arg·own : Type 0 where
           pub given : s2 (before· .before .blocks) .gives (m1 (before· .before) (before· .slice-known .given))
+
       pub record After-pending-by-id-arg : Type 0 where
         pub before : After-slice-known
         pub pending-by-id-arg : After-pending-by-id-arg·own before
+
       abbrev pub Need-pending-by-id-requires : Type 0
-      Need-pending-by-id-requires = (c : After-pending-by-id-arg) → s4 (c .before .before .blocks) .asks (m3 (c .before) (c .pending-by-id-arg
-          .given))
-      abbrev pub m4 : (before : After-pending-by-id-arg) → (given : s4 (before .before .before .blocks) .gives (m3 (before .before) (before
-          .pending-by-id-arg .given))) → Typed.Mo T6
-      m4 = λ before given. s4 (before .before .before .blocks) .next (m3 (before .before) (before .pending-by-id-arg .given)) given
+      Need-pending-by-id-requires = (c : After-pending-by-id-arg) → s4 (c .before .before .blocks) .asks
+          (m3 (c .before) (c .pending-by-id-arg .given))
+
+      abbrev pub m4 : (before : After-pending-by-id-arg) → (given : s4 (before .before .before .blocks) .gives
+          (m3 (before .before) (before .pending-by-id-arg .given))) → Typed.Mo T6
+      m4 = λ before given. s4 (before .before .before .blocks) .next
+          (m3 (before .before) (before .pending-by-id-arg .given)) given
+
       module _ (before· : After-pending-by-id-arg) where
         abbrev pub After-pending-by-id·own : Type 0
-        After-pending-by-id·own = Called.Called ps·0 r·0 (claims· .1) T5 (record { pos = 13; ty = Syntax.tyRef Syntax.erased Syntax.imm
-            RelayPending.to; ref = λ x. x; }, (record { pos = 5; st = List.[]; d = 0; at = λ x. x }, (Num.vAt 6 λ x. x, tt)),) (m3 (before· .before)
-            (before· .pending-by-id-arg .given))
+        After-pending-by-id·own = Called.Called ps·0 r·0 (claims· .1) T5 (
+          record { pos = 13; ty = ref0; ref = λ x. x },
+          (record { pos = 5; st = List.[]; d = 0; at = λ x. x }, (Num.vAt 6 λ x. x, tt)),
+        ) (m3 (before· .before) (before· .pending-by-id-arg .given))
+
       pub record After-pending-by-id : Type 0 where
         pub before : After-pending-by-id-arg
         pub pending-by-id : After-pending-by-id·own before
-      abbrev pub After-pending-by-id·gave : (c : After-pending-by-id) → s4 (c .before .before .before .blocks) .gives (m3 (c .before .before) (c
-          .before .pending-by-id-arg .given))
-      After-pending-by-id·gave = λ c. Called.given ps·0 r·0 (claims· .1) T5 (record { pos = 13; ty = Syntax.tyRef Syntax.erased Syntax.imm
-          RelayPending.to; ref = λ x. x; }, (record { pos = 5; st = List.[]; d = 0; at = λ x. x }, (Num.vAt 6 λ x. x, tt)),) (m3 (c .before .before)
-          (c .before .pending-by-id-arg .given)) (c .pending-by-id)
-      abbrev pub m5 : (before : After-pending-by-id-arg) → (given : s4 (before .before .before .blocks) .gives (m3 (before .before) (before
-          .pending-by-id-arg .given))) → Typed.Mo T7
+
+      abbrev pub After-pending-by-id·gave : (c : After-pending-by-id) → s4 (c .before .before .before .blocks) .gives (m3
+          (c .before .before) (c .before .pending-by-id-arg .given))
+      After-pending-by-id·gave = λ c. Called.given ps·0 r·0 (claims· .1) T5 (
+        record { pos = 13; ty = ref0; ref = λ x. x },
+        (record { pos = 5; st = List.[]; d = 0; at = λ x. x }, (Num.vAt 6 λ x. x, tt)),
+      ) (m3 (c .before .before) (c .before .pending-by-id-arg .given)) (c .pending-by-id)
+
+      abbrev pub m5 : (before : After-pending-by-id-arg) → (given : s4 (before .before .before .blocks) .gives
+          (m3 (before .before) (before .pending-by-id-arg .given))) → Typed.Mo T7
       m5 = λ before given. s5 (before .before .before .blocks) (m4 before given)
-      abbrev pub m6 : (before : After-pending-by-id-arg) → (given : s4 (before .before .before .blocks) .gives (m3 (before .before) (before
-          .pending-by-id-arg .given))) → Typed.Mo T9
+
+      abbrev pub m6 : (before : After-pending-by-id-arg) → (given : s4 (before .before .before .blocks) .gives
+          (m3 (before .before) (before .pending-by-id-arg .given))) → Typed.Mo T9
       m6 = λ before given. s7 (before .before .before .blocks) (m5 before given)
+
       abbrev pub Need-pending-gone-requires : Type 0
-      Need-pending-gone-requires = (c : After-pending-by-id) → s9 (c .before .before .before .blocks) .asks (m6 (c .before) (After-pending-by-id·gave
-          c))
-      abbrev pub m7 : (before : After-pending-by-id) → (given : s9 (before .before .before .before .blocks) .gives (m6 (before .before)
-          (After-pending-by-id·gave before))) → Typed.Mo T11
-      m7 = λ before given. s9 (before .before .before .before .blocks) .next (m6 (before .before) (After-pending-by-id·gave before)) given
+      Need-pending-gone-requires = (c : After-pending-by-id) → s9 (c .before .before .before .blocks) .asks
+          (m6 (c .before) (After-pending-by-id·gave c))
+
+      abbrev pub m7 : (before : After-pending-by-id) → (given : s9 (before .before .before .before .blocks) .gives
+          (m6 (before .before) (After-pending-by-id·gave before))) → Typed.Mo T11
+      m7 = λ before given. s9 (before .before .before .before .blocks) .next
+          (m6 (before .before) (After-pending-by-id·gave before)) given
+
       module _ (before· : After-pending-by-id) where
         abbrev pub After-pending-gone·own : Type 0
-        After-pending-gone·own = Called.Called ps·1 r·1 (claims· .3) T9 (record { pos = 7; st = List.[]; d = 0; at = λ x. x }, tt,) (m6 (before·
-            .before) (After-pending-by-id·gave before·))
+        After-pending-gone·own = Called.Called ps·1 r·1 (claims· .3) T9
+            (record { pos = 7; st = List.[]; d = 0; at = λ x. x }, tt)
+            (m6 (before· .before) (After-pending-by-id·gave before·))
+
       pub record After-pending-gone : Type 0 where
         pub before : After-pending-by-id
         pub pending-gone : After-pending-gone·own before
-      abbrev pub After-pending-gone·gave : (c : After-pending-gone) → s9 (c .before .before .before .before .blocks) .gives (m6 (c .before .before)
-          (After-pending-by-id·gave (c .before)))
-      After-pending-gone·gave = λ c. Called.given ps·1 r·1 (claims· .3) T9 (record { pos = 7; st = List.[]; d = 0; at = λ x. x }, tt,) (m6 (c .before
-          .before) (After-pending-by-id·gave (c .before))) (c .pending-gone)
+
+      abbrev pub After-pending-gone·gave : (c : After-pending-gone) → s9 (c .before .before .before .before .blocks)
+          .gives (m6 (c .before .before) (After-pending-by-id·gave (c .before)))
+      After-pending-gone·gave = λ c. Called.given ps·1 r·1 (claims· .3) T9
+          (record { pos = 7; st = List.[]; d = 0; at = λ x. x }, tt) (m6 (c .before .before)
+          (After-pending-by-id·gave (c .before))) (c .pending-gone)
+
       abbrev pub Need-fail-plan-requires : Type 0
-      Need-fail-plan-requires = (c : After-pending-gone) → s10 (c .before .before .before .before .blocks) .asks (m7 (c .before)
-          (After-pending-gone·gave c))
-      abbrev pub m8 : (before : After-pending-gone) → (given : s10 (before .before .before .before .before .blocks) .gives (m7 (before .before)
-          (After-pending-gone·gave before))) → Typed.Mo T12
-      m8 = λ before given. s10 (before .before .before .before .before .blocks) .next (m7 (before .before) (After-pending-gone·gave before)) given
+      Need-fail-plan-requires = (c : After-pending-gone) → s10 (c .before .before .before .before .blocks) .asks
+          (m7 (c .before) (After-pending-gone·gave c))
+
+      abbrev pub m8 : (before : After-pending-gone) → (given : s10 (before .before .before .before .before .blocks)
+          .gives (m7 (before .before) (After-pending-gone·gave before))) → Typed.Mo T12
+      m8 = λ before given. s10 (before .before .before .before .before .blocks) .next
+          (m7 (before .before) (After-pending-gone·gave before)) given
+
       module _ (before· : After-pending-gone) where
         abbrev pub After-fail-plan·own : Type 0
-        After-fail-plan·own = Called.Called ps·2 r·2 (claims· .5) T11 (record { pos = 7; st = List.[]; d = 0; at = λ x. x }, (record { pos = 4; st =
-            List.[]; d = 0; at = λ x. x }, tt),) (m7 (before· .before) (After-pending-gone·gave before·))
+        After-fail-plan·own = Called.Called ps·2 r·2 (claims· .5) T11 (
+          record { pos = 7; st = List.[]; d = 0; at = λ x. x },
+          (record { pos = 4; st = List.[]; d = 0; at = λ x. x }, tt),
+        ) (m7 (before· .before) (After-pending-gone·gave before·))
+
       pub record After-fail-plan : Type 0 where
         pub before : After-pending-gone
         pub fail-plan : After-fail-plan·own before
-      abbrev pub After-fail-plan·gave : (c : After-fail-plan) → s10 (c .before .before .before .before .before .blocks) .gives (m7 (c .before .before)
-          (After-pending-gone·gave (c .before)))
-      After-fail-plan·gave = λ c. Called.given ps·2 r·2 (claims· .5) T11 (record { pos = 7; st = List.[]; d = 0; at = λ x. x }, (record { pos = 4; st
-          = List.[]; d = 0; at = λ x. x }, tt),) (m7 (c .before .before) (After-pending-gone·gave (c .before))) (c .fail-plan)
-      abbrev pub m9 : (before : After-pending-gone) → (given : s10 (before .before .before .before .before .blocks) .gives (m7 (before .before)
-          (After-pending-gone·gave before))) → Typed.Mo T13
+
+      abbrev pub After-fail-plan·gave : (c : After-fail-plan) → s10 (c .before .before .before .before .before .blocks)
+          .gives (m7 (c .before .before) (After-pending-gone·gave (c .before)))
+      After-fail-plan·gave = λ c. Called.given ps·2 r·2 (claims· .5) T11 (
+        record { pos = 7; st = List.[]; d = 0; at = λ x. x },
+        (record { pos = 4; st = List.[]; d = 0; at = λ x. x }, tt),
+      ) (m7 (c .before .before) (After-pending-gone·gave (c .before))) (c .fail-plan)
+
+      abbrev pub m9 : (before : After-pending-gone) → (given : s10 (before .before .before .before .before .blocks)
+          .gives (m7 (before .before) (After-pending-gone·gave before))) → Typed.Mo T13
       m9 = λ before given. s11 (before .before .before .before .before .blocks) (m8 before given)
-      abbrev pub m10 : (before : After-fail-plan) → (given : s12 (before .before .before .before .before .before .blocks) .gives (m9 (before .before)
-          (After-fail-plan·gave before))) → Typed.Mo T14
-      m10 = λ before given. s12 (before .before .before .before .before .before .blocks) .next (m9 (before .before) (After-fail-plan·gave before))
-          given
+
+      abbrev pub m10 : (before : After-fail-plan) → (given : s12
+          (before .before .before .before .before .before .blocks) .gives
+          (m9 (before .before) (After-fail-plan·gave before))) → Typed.Mo T14
+      m10 = λ before given. s12 (before .before .before .before .before .before .blocks) .next
+          (m9 (before .before) (After-fail-plan·gave before)) given
+
       module _ (before· : After-fail-plan) where
         pub record After-after·own : Type 0 where
-          pub given : s12 (before· .before .before .before .before .before .blocks) .gives (m9 (before· .before) (After-fail-plan·gave before·))
+          pub given : s12 (before· .before .before .before .before .before .blocks) .gives
+              (m9 (before· .before) (After-fail-plan·gave before·))
+
       pub record After-after : Type 0 where
         pub before : After-fail-plan
         pub after : After-after·own before
-      abbrev pub m11 : (before : After-after) → (given : s13 (before .before .before .before .before .before .before .blocks) .gives (m10 (before
-          .before) (before .after .given))) → Typed.Mo T15
-      m11 = λ before given. s13 (before .before .before .before .before .before .before .blocks) .next (m10 (before .before) (before .after .given))
-          given
-      abbrev pub m12 : (before : After-after) → (given : s13 (before .before .before .before .before .before .before .blocks) .gives (m10 (before
-          .before) (before .after .given))) → Typed.Mo T16
+
+      abbrev pub m11 : (before : After-after) → (given : s13 (before .before .before .before .before .before .before
+          .blocks) .gives (m10 (before .before) (before .after .given))) → Typed.Mo T15
+      m11 = λ before given. s13 (before .before .before .before .before .before .before .blocks) .next
+          (m10 (before .before) (before .after .given)) given
+
+      abbrev pub m12 : (before : After-after) → (given : s13 (before .before .before .before .before .before .before
+          .blocks) .gives (m10 (before .before) (before .after .given))) → Typed.Mo T16
       m12 = λ before given. s14 (before .before .before .before .before .before .before .blocks) (m11 before given)
-      abbrev W1 : (before : After-after) → (given : s13 (before .before .before .before .before .before .before .blocks) .gives (m10 (before .before)
-          (before .after .given))) → Typed.Want O1
-      W1 = λ before given. Typed.wantNext T17 O0 (at44 (before .before .before .before .before .before .before .blocks) (W0 (before .before .before
-          .before .before .before .before .κs) (before .before .before .before .before .before .before .args) (before .before .before .before .before
-          .before .before .blocks))) (W0 (before .before .before .before .before .before .before .κs) (before .before .before .before .before .before
-          .before .args) (before .before .before .before .before .before .before .blocks))
+
+      abbrev W1 : (before : After-after) → (given : s13 (before .before .before .before .before .before .before .blocks)
+          .gives (m10 (before .before) (before .after .given))) → Typed.Want O1
+      W1 = λ before given. Typed.wantNext T17 O0 (at44 (before .before .before .before .before .before .before .blocks) (W0 (before
+          .before .before .before .before .before .before .κs) (before .before .before .before .before .before .before
+          .args) (before .before .before .before .before .before .before .blocks))) (W0 (before .before .before .before
+          .before .before .before .κs) (before .before .before .before .before .before .before .args) (before .before
+          .before .before .before .before .before .blocks))
+
       module _ (before· : After-after) where
         pub record After-message·own : Type 0 where
-          pub given : s13 (before· .before .before .before .before .before .before .blocks) .gives (m10 (before· .before) (before· .after .given))
+          pub given : s13 (before· .before .before .before .before .before .before .blocks) .gives
+              (m10 (before· .before) (before· .after .given))
+
       pub record After-message : Type 0 where
         pub before : After-after
         pub message : After-message·own before
+
       abbrev pub m13 : (before : After-message) → Typed.Mo T18
-      m13 = λ before. s15 (before .before .before .before .before .before .before .before .blocks) (m12 (before .before) (before .message .given))
+      m13 = λ before. s15 (before .before .before .before .before .before .before .before .blocks)
+          (m12 (before .before) (before .message .given))
+
       abbrev pub m14 : (before : After-message) → Typed.Mo T19
       m14 = λ before. s16 (before .before .before .before .before .before .before .before .blocks) (m13 before)
+
       module _ (before· : After-message) where
         pub record Then1·own : Type 0 where
           pub taken : Path._≡_ (Row.get 14 (T16 .locals) (m12 (before· .before) (before· .message .given))) Bool'.true
+
       pub record Then1 : Type 0 where
         pub before : After-message
         pub if1 : Then1·own before
-      abbrev pub m15 : (before : Then1) → (given : s18 (before .before .before .before .before .before .before .before .before .blocks) .gives (m14
-          (before .before))) → Typed.Mo T21
-      m15 = λ before given. s18 (before .before .before .before .before .before .before .before .before .blocks) .next (m14 (before .before)) given
-      abbrev pub m16 : (before : Then1) → (given : s18 (before .before .before .before .before .before .before .before .before .blocks) .gives (m14
-          (before .before))) → Typed.Mo T22
-      m16 = λ before given. s19 (before .before .before .before .before .before .before .before .before .blocks) .next (m15 before given)
+
+      abbrev pub m15 : (before : Then1) → (given : s18 (before .before .before .before .before .before .before .before
+          .before .blocks) .gives (m14 (before .before))) → Typed.Mo T21
+      m15 = λ before given. s18 (before .before .before .before .before .before .before .before .before .blocks) .next
+          (m14 (before .before)) given
+
+      abbrev pub m16 : (before : Then1) → (given : s18 (before .before .before .before .before .before .before .before
+          .before .blocks) .gives (m14 (before .before))) → Typed.Mo T22
+      m16 = λ before given. s19 (before .before .before .before .before .before .before .before .before .blocks) .next
+          (m15 before given)
+
       module _ (before· : Then1) where
         pub record After-set-pending-arg·own : Type 0 where
-          pub given : s18 (before· .before .before .before .before .before .before .before .before .blocks) .gives (m14 (before· .before))
+          pub given : s18 (before· .before .before .before .before .before .before .before .before .blocks) .gives
+              (m14 (before· .before))
+
       pub record After-set-pending-arg : Type 0 where
         pub before : Then1
         pub set-pending-arg : After-set-pending-arg·own before
+
       abbrev pub Need-set-pending-requires : Type 0
-      Need-set-pending-requires = (c : After-set-pending-arg) → s20 (c .before .before .before .before .before .before .before .before .before
-          .blocks) .asks (m16 (c .before) (c .set-pending-arg .given))
-      abbrev pub m17 : (before : After-set-pending-arg) → (given : s20 (before .before .before .before .before .before .before .before .before .before
-          .blocks) .gives (m16 (before .before) (before .set-pending-arg .given))) → Typed.Mo T23
-      m17 = λ before given. s20 (before .before .before .before .before .before .before .before .before .before .blocks) .next (m16 (before .before)
-          (before .set-pending-arg .given)) given
+      Need-set-pending-requires = (c : After-set-pending-arg) → s20 (c .before .before .before .before .before .before
+          .before .before .before .blocks) .asks (m16 (c .before) (c .set-pending-arg .given))
+
+      abbrev pub m17 : (before : After-set-pending-arg) → (given : s20 (before .before .before .before .before .before
+          .before .before .before .before .blocks) .gives (m16 (before .before) (before .set-pending-arg .given))) →
+          Typed.Mo T23
+      m17 = λ before given. s20 (before .before .before .before .before .before .before .before .before .before .blocks)
+          .next (m16 (before .before) (before .set-pending-arg .given)) given
+
       module _ (before· : After-set-pending-arg) where
         abbrev pub After-set-pending·own : Type 0
-        After-set-pending·own = Called.Called ps·3 r·3 (claims· .7) T22 (record { pos = 17; ty = Syntax.tyRef Syntax.erased Syntax.mut
-            RelayPending.to; ref = λ x. x; }, (Bool.bLit Bool'.true, (Num.vFld 9 ((Syntax.field 1) ∷ List.[]) 8 λ x. FailPlan.struct .as-values x .1
-            .0, (record { pos = 8; st = List.[]; d = 0; at = λ x. x }, tt),),),) (m16 (before· .before) (before· .set-pending-arg .given))
+        After-set-pending·own = Called.Called ps·3 r·3 (claims· .7) T22 (
+          record { pos = 17; ty = ref1; ref = λ x. x },
+          (
+            Bool.bLit Bool'.true,
+            (
+              Num.vFld 9 ((Syntax.field 1) ∷ List.[]) 8 λ x. FailPlan.struct .as-values x .1 .0,
+              (record { pos = 8; st = List.[]; d = 0; at = λ x. x }, tt),
+            ),
+          ),
+        ) (m16 (before· .before) (before· .set-pending-arg .given))
+
       pub record After-set-pending : Type 0 where
         pub before : After-set-pending-arg
         pub set-pending : After-set-pending·own before
-      abbrev pub After-set-pending·gave : (c : After-set-pending) → s20 (c .before .before .before .before .before .before .before .before .before
-          .before .blocks) .gives (m16 (c .before .before) (c .before .set-pending-arg .given))
-      After-set-pending·gave = λ c. Called.given ps·3 r·3 (claims· .7) T22 (record { pos = 17; ty = Syntax.tyRef Syntax.erased Syntax.mut
-          RelayPending.to; ref = λ x. x; }, (Bool.bLit Bool'.true, (Num.vFld 9 ((Syntax.field 1) ∷ List.[]) 8 λ x. FailPlan.struct .as-values x .1 .0,
-          (record { pos = 8; st = List.[]; d = 0; at = λ x. x }, tt),),),) (m16 (c .before .before) (c .before .set-pending-arg .given)) (c
-          .set-pending)
-      abbrev pub m18 : (before : After-set-pending-arg) → (given : s20 (before .before .before .before .before .before .before .before .before .before
-          .blocks) .gives (m16 (before .before) (before .set-pending-arg .given))) → Typed.Mo T24
-      m18 = λ before given. s21 (before .before .before .before .before .before .before .before .before .before .blocks) (m17 before given)
-      abbrev pub m19 : (before : After-set-pending-arg) → (given : s20 (before .before .before .before .before .before .before .before .before .before
-          .blocks) .gives (m16 (before .before) (before .set-pending-arg .given))) → Typed.Mo T25
-      m19 = λ before given. s22 (before .before .before .before .before .before .before .before .before .before .blocks) (m18 before given)
-      abbrev pub m20 : (before : After-set-pending-arg) → (given : s20 (before .before .before .before .before .before .before .before .before .before
-          .blocks) .gives (m16 (before .before) (before .set-pending-arg .given))) → Typed.Mo T26
-      m20 = λ before given. s23 (before .before .before .before .before .before .before .before .before .before .blocks) (m19 before given)
-      abbrev pub m21 : (before : After-set-pending) → (given : s25 (before .before .before .before .before .before .before .before .before .before
-          .before .blocks) .gives (m20 (before .before) (After-set-pending·gave before))) → Typed.Mo T28
-      m21 = λ before given. s25 (before .before .before .before .before .before .before .before .before .before .before .blocks) .next (m20 (before
-          .before) (After-set-pending·gave before)) given
+
+      abbrev pub After-set-pending·gave : (c : After-set-pending) → s20 (c .before .before .before .before .before
+          .before .before .before .before .before .blocks) .gives (m16 (c .before .before)
+          (c .before .set-pending-arg .given))
+      After-set-pending·gave = λ c. Called.given ps·3 r·3 (claims· .7) T22 (
+        record { pos = 17; ty = ref1; ref = λ x. x },
+        (
+          Bool.bLit Bool'.true,
+          (
+            Num.vFld 9 ((Syntax.field 1) ∷ List.[]) 8 λ x. FailPlan.struct .as-values x .1 .0,
+            (record { pos = 8; st = List.[]; d = 0; at = λ x. x }, tt),
+          ),
+        ),
+      ) (m16 (c .before .before) (c .before .set-pending-arg .given)) (c .set-pending)
+
+      abbrev pub m18 : (before : After-set-pending-arg) → (given : s20 (before .before .before .before .before .before
+          .before .before .before .before .blocks) .gives (m16 (before .before) (before .set-pending-arg .given))) →
+          Typed.Mo T24
+      m18 = λ before given. s21 (before .before .before .before .before .before .before .before .before .before .blocks)
+          (m17 before given)
+
+      abbrev pub m19 : (before : After-set-pending-arg) → (given : s20 (before .before .before .before .before .before
+          .before .before .before .before .blocks) .gives (m16 (before .before) (before .set-pending-arg .given))) →
+          Typed.Mo T25
+      m19 = λ before given. s22 (before .before .before .before .before .before .before .before .before .before .blocks)
+          (m18 before given)
+
+      abbrev pub m20 : (before : After-set-pending-arg) → (given : s20 (before .before .before .before .before .before
+          .before .before .before .before .blocks) .gives (m16 (before .before) (before .set-pending-arg .given))) →
+          Typed.Mo T26
+      m20 = λ before given. s23 (before .before .before .before .before .before .before .before .before .before .blocks)
+          (m19 before given)
+
+      abbrev pub m21 : (before : After-set-pending) → (given : s25 (before .before .before .before .before .before
+          .before .before .before .before .before .blocks) .gives
+          (m20 (before .before) (After-set-pending·gave before))) → Typed.Mo T28
+      m21 = λ before given. s25 (before .before .before .before .before .before .before .before .before .before .before
+          .blocks) .next (m20 (before .before) (After-set-pending·gave before)) given
+
       module _ (before· : After-set-pending) where
         pub record After-pending·own : Type 0 where
-          pub given : s25 (before· .before .before .before .before .before .before .before .before .before .before .blocks) .gives (m20 (before·
-              .before) (After-set-pending·gave before·))
+          pub given : s25 (before· .before .before .before .before .before .before .before .before .before .before
+              .blocks) .gives (m20 (before· .before) (After-set-pending·gave before·))
+
       pub record After-pending : Type 0 where
         pub before : After-set-pending
         pub pending : After-pending·own before
-      abbrev pub m22 : (before : After-pending) → (given : s28 (before .before .before .before .before .before .before .before .before .before .before
-          .before .blocks) .gives (m21 (before .before) (before .pending .given))) → Typed.Mo T31
-      m22 = λ before given. s28 (before .before .before .before .before .before .before .before .before .before .before .before .blocks) .next (m21
-          (before .before) (before .pending .given)) given
-      abbrev pub m23 : (before : After-pending) → (given : s28 (before .before .before .before .before .before .before .before .before .before .before
-          .before .blocks) .gives (m21 (before .before) (before .pending .given))) → Typed.Mo T32
-      m23 = λ before given. s29 (before .before .before .before .before .before .before .before .before .before .before .before .blocks) .next (m22
-          before given)
+
+      abbrev pub m22 : (before : After-pending) → (given : s28 (before .before .before .before .before .before .before
+          .before .before .before .before .before .blocks) .gives (m21 (before .before) (before .pending .given))) →
+          Typed.Mo T31
+      m22 = λ before given. s28 (before .before .before .before .before .before .before .before .before .before .before
+          .before .blocks) .next (m21 (before .before) (before .pending .given)) given
+
+      abbrev pub m23 : (before : After-pending) → (given : s28 (before .before .before .before .before .before .before
+          .before .before .before .before .before .blocks) .gives (m21 (before .before) (before .pending .given))) →
+          Typed.Mo T32
+      m23 = λ before given. s29 (before .before .before .before .before .before .before .before .before .before .before
+          .before .blocks) .next (m22 before given)
+
       module _ (before· : After-pending) where
         pub record After-send-notice-arg·own : Type 0 where
-          pub given : s28 (before· .before .before .before .before .before .before .before .before .before .before .before .blocks) .gives (m21
-              (before· .before) (before· .pending .given))
+          pub given : s28 (before· .before .before .before .before .before .before .before .before .before .before
+              .before .blocks) .gives (m21 (before· .before) (before· .pending .given))
+
       pub record After-send-notice-arg : Type 0 where
         pub before : After-pending
         pub send-notice-arg : After-send-notice-arg·own before
-      abbrev pub m24 : (before : After-send-notice-arg) → (given : s31 (before .before .before .before .before .before .before .before .before .before
-          .before .before .before .blocks) .gives (m23 (before .before) (before .send-notice-arg .given))) → Typed.Mo T34
-      m24 = λ before given. s31 (before .before .before .before .before .before .before .before .before .before .before .before .before .blocks) .next
-          (m23 (before .before) (before .send-notice-arg .given)) given
-      abbrev pub m25 : (before : After-send-notice-arg) → (given : s31 (before .before .before .before .before .before .before .before .before .before
-          .before .before .before .blocks) .gives (m23 (before .before) (before .send-notice-arg .given))) → Typed.Mo T35
-      m25 = λ before given. s32 (before .before .before .before .before .before .before .before .before .before .before .before .before .blocks) .next
-          (m24 before given)
-      abbrev pub m26 : (before : After-send-notice-arg) → (given : s31 (before .before .before .before .before .before .before .before .before .before
-          .before .before .before .blocks) .gives (m23 (before .before) (before .send-notice-arg .given))) → Typed.Mo T36
-      m26 = λ before given. s33 (before .before .before .before .before .before .before .before .before .before .before .before .before .blocks) (m25
-          before given)
+
+      abbrev pub m24 : (before : After-send-notice-arg) → (given : s31 (before .before .before .before .before .before
+          .before .before .before .before .before .before .before .blocks) .gives
+          (m23 (before .before) (before .send-notice-arg .given))) → Typed.Mo T34
+      m24 = λ before given. s31 (before .before .before .before .before .before .before .before .before .before .before
+          .before .before .blocks) .next (m23 (before .before) (before .send-notice-arg .given)) given
+
+      abbrev pub m25 : (before : After-send-notice-arg) → (given : s31 (before .before .before .before .before .before
+          .before .before .before .before .before .before .before .blocks) .gives
+          (m23 (before .before) (before .send-notice-arg .given))) → Typed.Mo T35
+      m25 = λ before given. s32 (before .before .before .before .before .before .before .before .before .before .before
+          .before .before .blocks) .next (m24 before given)
+
+      abbrev pub m26 : (before : After-send-notice-arg) → (given : s31 (before .before .before .before .before .before
+          .before .before .before .before .before .before .before .blocks) .gives
+          (m23 (before .before) (before .send-notice-arg .given))) → Typed.Mo T36
+      m26 = λ before given. s33 (before .before .before .before .before .before .before .before .before .before .before
+          .before .before .blocks) (m25 before given)
+
       module _ (before· : After-send-notice-arg) where
         pub record After-send-notice-arg2·own : Type 0 where
-          pub given : s31 (before· .before .before .before .before .before .before .before .before .before .before .before .before .blocks) .gives
-              (m23 (before· .before) (before· .send-notice-arg .given))
+          pub given : s31 (before· .before .before .before .before .before .before .before .before .before .before
+              .before .before .blocks) .gives (m23 (before· .before) (before· .send-notice-arg .given))
+
       pub record After-send-notice-arg2 : Type 0 where
         pub before : After-send-notice-arg
         pub send-notice-arg2 : After-send-notice-arg2·own before
+
       abbrev pub Need-send-notice-requires : Type 0
-      Need-send-notice-requires = (c : After-send-notice-arg2) → s34 (c .before .before .before .before .before .before .before .before .before
-          .before .before .before .before .blocks) .asks (m26 (c .before) (c .send-notice-arg2 .given))
-      abbrev pub m27 : (before : After-send-notice-arg2) → (given : s34 (before .before .before .before .before .before .before .before .before
-          .before .before .before .before .before .blocks) .gives (m26 (before .before) (before .send-notice-arg2 .given))) → Typed.Mo T37
-      m27 = λ before given. s34 (before .before .before .before .before .before .before .before .before .before .before .before .before .before
-          .blocks) .next (m26 (before .before) (before .send-notice-arg2 .given)) given
+      Need-send-notice-requires = (c : After-send-notice-arg2) → s34 (c .before .before .before .before .before .before
+          .before .before .before .before .before .before .before .blocks) .asks
+          (m26 (c .before) (c .send-notice-arg2 .given))
+
+      abbrev pub m27 : (before : After-send-notice-arg2) → (given : s34 (before .before .before .before .before .before
+          .before .before .before .before .before .before .before .before .blocks) .gives
+          (m26 (before .before) (before .send-notice-arg2 .given))) → Typed.Mo T37
+      m27 = λ before given. s34 (before .before .before .before .before .before .before .before .before .before .before
+          .before .before .before .blocks) .next (m26 (before .before) (before .send-notice-arg2 .given)) given
+
       module _ (before· : After-send-notice-arg2) where
         abbrev pub After-send-notice·own : Type 0
-        After-send-notice·own = Called.Called ps·4 r·4 (claims· .9) T36 (record { pos = 19; ty = Syntax.tyRef Syntax.erased Syntax.mut
-            InflightAction.to; ref = λ x. x; }, (record { pos = 21; ty = Syntax.tyRef Syntax.erased Syntax.mut (Syntax.tyInt Syntax.w32); ref = λ x.
-            x; }, (record { pos = 10; st = List.[]; d = 0; at = λ x. x }, (record { pos = 5; st = List.[]; d = 0; at = λ x. x }, (record { pos = 11;
-            st = List.[]; d = 0; at = λ x. x }, (record { pos = 22; st = List.[]; d = 0; at = λ x. x }, tt),),),),),) (m26 (before· .before) (before·
-            .send-notice-arg2 .given))
+        After-send-notice·own = Called.Called ps·4 r·4 (claims· .9) T36 (
+          record { pos = 19; ty = ref2; ref = λ x. x },
+          (
+            record { pos = 21; ty = ref3; ref = λ x. x },
+            (
+              record { pos = 10; st = List.[]; d = 0; at = λ x. x },
+              (
+                record { pos = 5; st = List.[]; d = 0; at = λ x. x },
+                (
+                  record { pos = 11; st = List.[]; d = 0; at = λ x. x },
+                  (record { pos = 22; st = List.[]; d = 0; at = λ x. x }, tt),
+                ),
+              ),
+            ),
+          ),
+        ) (m26 (before· .before) (before· .send-notice-arg2 .given))
+
       pub record After-send-notice : Type 0 where
         pub before : After-send-notice-arg2
         pub send-notice : After-send-notice·own before
-      abbrev pub After-send-notice·gave : (c : After-send-notice) → s34 (c .before .before .before .before .before .before .before .before .before
-          .before .before .before .before .before .blocks) .gives (m26 (c .before .before) (c .before .send-notice-arg2 .given))
-      After-send-notice·gave = λ c. Called.given ps·4 r·4 (claims· .9) T36 (record { pos = 19; ty = Syntax.tyRef Syntax.erased Syntax.mut
-          InflightAction.to; ref = λ x. x; }, (record { pos = 21; ty = Syntax.tyRef Syntax.erased Syntax.mut (Syntax.tyInt Syntax.w32); ref = λ x. x;
-          }, (record { pos = 10; st = List.[]; d = 0; at = λ x. x }, (record { pos = 5; st = List.[]; d = 0; at = λ x. x }, (record { pos = 11; st =
-          List.[]; d = 0; at = λ x. x }, (record { pos = 22; st = List.[]; d = 0; at = λ x. x }, tt),),),),),) (m26 (c .before .before) (c .before
-          .send-notice-arg2 .given)) (c .send-notice)
-      abbrev pub m28 : (before : After-send-notice-arg2) → (given : s34 (before .before .before .before .before .before .before .before .before
-          .before .before .before .before .before .blocks) .gives (m26 (before .before) (before .send-notice-arg2 .given))) → Typed.Mo T38
-      m28 = λ before given. s35 (before .before .before .before .before .before .before .before .before .before .before .before .before .before
-          .blocks) (m27 before given)
-      abbrev pub m29 : (before : After-send-notice-arg2) → (given : s34 (before .before .before .before .before .before .before .before .before
-          .before .before .before .before .before .blocks) .gives (m26 (before .before) (before .send-notice-arg2 .given))) → Typed.Mo T39
-      m29 = λ before given. s36 (before .before .before .before .before .before .before .before .before .before .before .before .before .before
-          .blocks) (m28 before given)
-      abbrev pub m30 : (before : After-send-notice-arg2) → (given : s34 (before .before .before .before .before .before .before .before .before
-          .before .before .before .before .before .blocks) .gives (m26 (before .before) (before .send-notice-arg2 .given))) → Typed.Mo T40
-      m30 = λ before given. s37 (before .before .before .before .before .before .before .before .before .before .before .before .before .before
-          .blocks) (m29 before given)
-      abbrev pub m31 : (before : After-send-notice-arg2) → (given : s34 (before .before .before .before .before .before .before .before .before
-          .before .before .before .before .before .blocks) .gives (m26 (before .before) (before .send-notice-arg2 .given))) → Typed.Mo T41
-      m31 = λ before given. s38 (before .before .before .before .before .before .before .before .before .before .before .before .before .before
-          .blocks) (m30 before given)
-      abbrev pub m32 : (before : After-send-notice) → (given : s40 (before .before .before .before .before .before .before .before .before .before
-          .before .before .before .before .before .blocks) .gives (m31 (before .before) (After-send-notice·gave before))) → Typed.Mo T43
-      m32 = λ before given. s40 (before .before .before .before .before .before .before .before .before .before .before .before .before .before
-          .before .blocks) .next (m31 (before .before) (After-send-notice·gave before)) given
+
+      abbrev pub After-send-notice·gave : (c : After-send-notice) → s34 (c .before .before .before .before .before
+          .before .before .before .before .before .before .before .before .before .blocks) .gives (m26
+          (c .before .before) (c .before .send-notice-arg2 .given))
+      After-send-notice·gave = λ c. Called.given ps·4 r·4 (claims· .9) T36 (
+        record { pos = 19; ty = ref2; ref = λ x. x },
+        (
+          record { pos = 21; ty = ref3; ref = λ x. x },
+          (
+            record { pos = 10; st = List.[]; d = 0; at = λ x. x },
+            (
+              record { pos = 5; st = List.[]; d = 0; at = λ x. x },
+              (
+                record { pos = 11; st = List.[]; d = 0; at = λ x. x },
+                (record { pos = 22; st = List.[]; d = 0; at = λ x. x }, tt),
+              ),
+            ),
+          ),
+        ),
+      ) (m26 (c .before .before) (c .before .send-notice-arg2 .given)) (c .send-notice)
+
+      abbrev pub m28 : (before : After-send-notice-arg2) → (given : s34 (before .before .before .before .before .before
+          .before .before .before .before .before .before .before .before .blocks) .gives
+          (m26 (before .before) (before .send-notice-arg2 .given))) → Typed.Mo T38
+      m28 = λ before given. s35 (before .before .before .before .before .before .before .before .before .before .before
+          .before .before .before .blocks) (m27 before given)
+
+      abbrev pub m29 : (before : After-send-notice-arg2) → (given : s34 (before .before .before .before .before .before
+          .before .before .before .before .before .before .before .before .blocks) .gives
+          (m26 (before .before) (before .send-notice-arg2 .given))) → Typed.Mo T39
+      m29 = λ before given. s36 (before .before .before .before .before .before .before .before .before .before .before
+          .before .before .before .blocks) (m28 before given)
+
+      abbrev pub m30 : (before : After-send-notice-arg2) → (given : s34 (before .before .before .before .before .before
+          .before .before .before .before .before .before .before .before .blocks) .gives
+          (m26 (before .before) (before .send-notice-arg2 .given))) → Typed.Mo T40
+      m30 = λ before given. s37 (before .before .before .before .before .before .before .before .before .before .before
+          .before .before .before .blocks) (m29 before given)
+
+      abbrev pub m31 : (before : After-send-notice-arg2) → (given : s34 (before .before .before .before .before .before
+          .before .before .before .before .before .before .before .before .blocks) .gives
+          (m26 (before .before) (before .send-notice-arg2 .given))) → Typed.Mo T41
+      m31 = λ before given. s38 (before .before .before .before .before .before .before .before .before .before .before
+          .before .before .before .blocks) (m30 before given)
+
+      abbrev pub m32 : (before : After-send-notice) → (given : s40 (before .before .before .before .before .before
+          .before .before .before .before .before .before .before .before .before .blocks) .gives
+          (m31 (before .before) (After-send-notice·gave before))) → Typed.Mo T43
+      m32 = λ before given. s40 (before .before .before .before .before .before .before .before .before .before .before
+          .before .before .before .before .blocks) .next (m31 (before .before) (After-send-notice·gave before)) given
+
       module _ (before· : After-send-notice) where
         pub record After-inflight·own : Type 0 where
-          pub given : s40 (before· .before .before .before .before .before .before .before .before .before .before .before .before .before .before
-              .blocks) .gives (m31 (before· .before) (After-send-notice·gave before·))
+          pub given : s40 (before· .before .before .before .before .before .before .before .before .before .before
+              .before .before .before .before .blocks) .gives (m31 (before· .before) (After-send-notice·gave before·))
+
       pub record After-inflight : Type 0 where
         pub before : After-send-notice
         pub inflight : After-inflight·own before
-      abbrev pub m33 : (before : After-inflight) → (given : s43 (before .before .before .before .before .before .before .before .before .before
-          .before .before .before .before .before .before .blocks) .gives (m32 (before .before) (before .inflight .given))) → Typed.Mo T46
-      m33 = λ before given. s43 (before .before .before .before .before .before .before .before .before .before .before .before .before .before
-          .before .before .blocks) .next (m32 (before .before) (before .inflight .given)) given
+
+      abbrev pub m33 : (before : After-inflight) → (given : s43 (before .before .before .before .before .before .before
+          .before .before .before .before .before .before .before .before .before .blocks) .gives
+          (m32 (before .before) (before .inflight .given))) → Typed.Mo T46
+      m33 = λ before given. s43 (before .before .before .before .before .before .before .before .before .before .before
+          .before .before .before .before .before .blocks) .next (m32 (before .before) (before .inflight .given)) given
+
       module _ (before· : After-inflight) where
         pub record After-out·own : Type 0 where
-          pub given : s43 (before· .before .before .before .before .before .before .before .before .before .before .before .before .before .before
-              .before .blocks) .gives (m32 (before· .before) (before· .inflight .given))
+          pub given : s43 (before· .before .before .before .before .before .before .before .before .before .before
+              .before .before .before .before .before .blocks) .gives
+              (m32 (before· .before) (before· .inflight .given))
+
       pub record After-out : Type 0 where
         pub before : After-inflight
         pub out : After-out·own before
-      abbrev pub m34 : (before : After-out) → (given : s44 (before .before .before .before .before .before .before .before .before .before .before
-          .before .before .before .before .before .before .blocks) .gives (m33 (before .before) (before .out .given))) → Typed.Mo T47
-      m34 = λ before given. s44 (before .before .before .before .before .before .before .before .before .before .before .before .before .before
-          .before .before .before .blocks) .next (m33 (before .before) (before .out .given)) given
-      abbrev pub m35 : (before : After-out) → (given : s44 (before .before .before .before .before .before .before .before .before .before .before
-          .before .before .before .before .before .before .blocks) .gives (m33 (before .before) (before .out .given))) → Typed.Mo T49
-      m35 = λ before given. s46 (before .before .before .before .before .before .before .before .before .before .before .before .before .before
-          .before .before .before .blocks) (m34 before given)
+
+      abbrev pub m34 : (before : After-out) → (given : s44 (before .before .before .before .before .before .before
+          .before .before .before .before .before .before .before .before .before .before .blocks) .gives
+          (m33 (before .before) (before .out .given))) → Typed.Mo T47
+      m34 = λ before given. s44 (before .before .before .before .before .before .before .before .before .before .before
+          .before .before .before .before .before .before .blocks) .next (m33 (before .before) (before .out .given))
+          given
+
+      abbrev pub m35 : (before : After-out) → (given : s44 (before .before .before .before .before .before .before
+          .before .before .before .before .before .before .before .before .before .before .blocks) .gives
+          (m33 (before .before) (before .out .given))) → Typed.Mo T49
+      m35 = λ before given. s46 (before .before .before .before .before .before .before .before .before .before .before
+          .before .before .before .before .before .before .blocks) (m34 before given)
+
       module _ (before· : After-out) where
         pub record After-slice-known2·own : Type 0 where
-          pub given : s44 (before· .before .before .before .before .before .before .before .before .before .before .before .before .before .before
-              .before .before .blocks) .gives (m33 (before· .before) (before· .out .given))
+          pub given : s44 (before· .before .before .before .before .before .before .before .before .before .before
+              .before .before .before .before .before .before .blocks) .gives
+              (m33 (before· .before) (before· .out .given))
+
       pub record After-slice-known2 : Type 0 where
         pub before : After-out
         pub slice-known2 : After-slice-known2·own before
+
       abbrev pub Need-same-length : Type 0
-      Need-same-length = (c : After-slice-known2) → MutSlice.SameLen (Row.get 1 (T49 .locals) (m35 (c .before) (c .slice-known2 .given))) (dens (c
-          .before .before .before .before .before .before .before .before .before .before .before .before .before .before .before .before .before .κs)
-          (c .before .before .before .before .before .before .before .before .before .before .before .before .before .before .before .before .before
-          .args) .0)
+      Need-same-length = (c : After-slice-known2) → MutSlice.SameLen (Row.get 1 (T49 .locals)
+          (m35 (c .before) (c .slice-known2 .given))) (dens (c .before .before .before .before .before .before .before
+          .before .before .before .before .before .before .before .before .before .before .κs) (c .before .before
+          .before .before .before .before .before .before .before .before .before .before .before .before .before
+          .before .before .args) .0)
+
       abbrev pub Need-same-length-2 : Type 0
-      Need-same-length-2 = (c : After-slice-known2) → MutSlice.SameLen (Row.get 2 (T49 .locals) (m35 (c .before) (c .slice-known2 .given))) (dens (c
-          .before .before .before .before .before .before .before .before .before .before .before .before .before .before .before .before .before .κs)
-          (c .before .before .before .before .before .before .before .before .before .before .before .before .before .before .before .before .before
-          .args) .1 .0)
+      Need-same-length-2 = (c : After-slice-known2) → MutSlice.SameLen (Row.get 2 (T49 .locals)
+          (m35 (c .before) (c .slice-known2 .given))) (dens (c .before .before .before .before .before .before .before
+          .before .before .before .before .before .before .before .before .before .before .κs) (c .before .before
+          .before .before .before .before .before .before .before .before .before .before .before .before .before
+          .before .before .args) .1 .0)
+
       abbrev pub Need-same-length-3 : Type 0
-      Need-same-length-3 = (c : After-slice-known2) → MutSlice.SameLen (Row.get 3 (T49 .locals) (m35 (c .before) (c .slice-known2 .given))) (dens (c
-          .before .before .before .before .before .before .before .before .before .before .before .before .before .before .before .before .before .κs)
-          (c .before .before .before .before .before .before .before .before .before .before .before .before .before .before .before .before .before
-          .args) .1 .1 .0)
+      Need-same-length-3 = (c : After-slice-known2) → MutSlice.SameLen (Row.get 3 (T49 .locals)
+          (m35 (c .before) (c .slice-known2 .given))) (dens (c .before .before .before .before .before .before .before
+          .before .before .before .before .before .before .before .before .before .before .κs) (c .before .before
+          .before .before .before .before .before .before .before .before .before .before .before .before .before
+          .before .before .args) .1 .1 .0)
+
       abbrev pub Need-returns : Type 0
-      Need-returns = (c : After-slice-known2) → Post· (c .before .before .before .before .before .before .before .before .before .before .before
-          .before .before .before .before .before .before .κs) (dens (c .before .before .before .before .before .before .before .before .before
-          .before .before .before .before .before .before .before .before .κs) (c .before .before .before .before .before .before .before .before
-          .before .before .before .before .before .before .before .before .before .args)) (Function.resV r (c .before .before .before .before .before
-          .before .before .before .before .before .before .before .before .before .before .before .before .κs) (m35 (c .before) (c .slice-known2
-          .given) .0)) (Clauses.atExit (Kinds.endedOf 3 ps r) (c .before .before .before .before .before .before .before .before .before .before
-          .before .before .before .before .before .before .before .κs) (dens (c .before .before .before .before .before .before .before .before
-          .before .before .before .before .before .before .before .before .before .κs) (c .before .before .before .before .before .before .before
-          .before .before .before .before .before .before .before .before .before .before .args)) (Enter.lastsP (c .before .before .before .before
-          .before .before .before .before .before .before .before .before .before .before .before .before .before .κs) 1 ps xs (dens (c .before
-          .before .before .before .before .before .before .before .before .before .before .before .before .before .before .before .before .κs) (c
-          .before .before .before .before .before .before .before .before .before .before .before .before .before .before .before .before .before
-          .args)) (m35 (c .before) (c .slice-known2 .given) .1)))
+      Need-returns = (c : After-slice-known2) → Post· (c .before .before .before .before .before .before .before
+          .before .before .before .before .before .before .before .before .before .before .κs) (dens (c .before .before
+          .before .before .before .before .before .before .before .before .before .before .before .before .before
+          .before .before .κs) (c .before .before .before .before .before .before .before .before .before .before
+          .before .before .before .before .before .before .before .args)) (Function.resV r (c .before .before .before
+          .before .before .before .before .before .before .before .before .before .before .before .before .before
+          .before .κs) (m35 (c .before) (c .slice-known2 .given) .0)) (Clauses.atExit (Kinds.endedOf 3 ps r) (c .before
+          .before .before .before .before .before .before .before .before .before .before .before .before .before
+          .before .before .before .κs) (dens (c .before .before .before .before .before .before .before .before .before
+          .before .before .before .before .before .before .before .before .κs) (c .before .before .before .before
+          .before .before .before .before .before .before .before .before .before .before .before .before .before
+          .args)) (Enter.lastsP (c .before .before .before .before .before .before .before .before .before .before
+          .before .before .before .before .before .before .before .κs) 1 ps xs (dens (c .before .before .before .before
+          .before .before .before .before .before .before .before .before .before .before .before .before .before .κs) (c
+          .before .before .before .before .before .before .before .before .before .before .before .before .before
+          .before .before .before .before .args)) (m35 (c .before) (c .slice-known2 .given) .1)))
+
       abbrev pub m36 : (before : After-message) → Typed.Mo T50
-      m36 = λ before. s47 (before .before .before .before .before .before .before .before .blocks) (m12 (before .before) (before .message .given))
+      m36 = λ before. s47 (before .before .before .before .before .before .before .before .blocks)
+          (m12 (before .before) (before .message .given))
+
       abbrev pub m37 : (before : After-message) → Typed.Mo T51
       m37 = λ before. s48 (before .before .before .before .before .before .before .before .blocks) (m36 before)
+
       abbrev pub m38 : (before : After-message) → Typed.Mo T52
       m38 = λ before. s49 (before .before .before .before .before .before .before .before .blocks) (m37 before)
+
       abbrev pub m39 : (before : After-message) → Typed.Mo T53
       m39 = λ before. s50 (before .before .before .before .before .before .before .before .blocks) (m38 before)
+
       abbrev pub m40 : (before : After-message) → Typed.Mo T54
       m40 = λ before. s51 (before .before .before .before .before .before .before .before .blocks) (m39 before)
+
       module _ (before· : After-message) where
         pub record Else1·own : Type 0 where
           pub left : Path._≡_ (Row.get 14 (T16 .locals) (m12 (before· .before) (before· .message .given))) Bool'.false
+
       pub record Else1 : Type 0 where
         pub before : After-message
         pub if1 : Else1·own before
+
       abbrev pub Need-taken-with-requires : Type 0
-      Need-taken-with-requires = (c : Else1) → s52 (c .before .before .before .before .before .before .before .before .blocks) .asks (m40 (c .before))
-      abbrev pub m41 : (before : Else1) → (given : s52 (before .before .before .before .before .before .before .before .before .blocks) .gives (m40
-          (before .before))) → Typed.Mo T55
-      m41 = λ before given. s52 (before .before .before .before .before .before .before .before .before .blocks) .next (m40 (before .before)) given
+      Need-taken-with-requires = (c : Else1) → s52 (c .before .before .before .before .before .before .before .before
+          .blocks) .asks (m40 (c .before))
+
+      abbrev pub m41 : (before : Else1) → (given : s52 (before .before .before .before .before .before .before .before
+          .before .blocks) .gives (m40 (before .before))) → Typed.Mo T55
+      m41 = λ before given. s52 (before .before .before .before .before .before .before .before .before .blocks) .next
+          (m40 (before .before)) given
+
       module _ (before· : Else1) where
         abbrev pub After-taken-with·own : Type 0
-        After-taken-with·own = Called.Called ps·5 r·5 (claims· .11) T17 (record { pos = 4; st = List.[]; d = 0; at = λ x. x }, (record { pos = 5; st =
-            List.[]; d = 0; at = λ x. x }, tt),) (m40 (before· .before))
+        After-taken-with·own = Called.Called ps·5 r·5 (claims· .11) T17 (
+          record { pos = 4; st = List.[]; d = 0; at = λ x. x },
+          (record { pos = 5; st = List.[]; d = 0; at = λ x. x }, tt),
+        ) (m40 (before· .before))
+
       pub record After-taken-with : Type 0 where
         pub before : Else1
         pub taken-with : After-taken-with·own before
-      abbrev pub After-taken-with·gave : (c : After-taken-with) → s52 (c .before .before .before .before .before .before .before .before .before
-          .blocks) .gives (m40 (c .before .before))
-      After-taken-with·gave = λ c. Called.given ps·5 r·5 (claims· .11) T17 (record { pos = 4; st = List.[]; d = 0; at = λ x. x }, (record { pos = 5;
-          st = List.[]; d = 0; at = λ x. x }, tt),) (m40 (c .before .before)) (c .taken-with)
-      abbrev pub m42 : (before : Else1) → (given : s52 (before .before .before .before .before .before .before .before .before .blocks) .gives (m40
-          (before .before))) → Typed.Mo T56
-      m42 = λ before given. s53 (before .before .before .before .before .before .before .before .before .blocks) (m41 before given)
-      abbrev pub m43 : (before : Else1) → (given : s52 (before .before .before .before .before .before .before .before .before .blocks) .gives (m40
-          (before .before))) → Typed.Mo T57
-      m43 = λ before given. s54 (before .before .before .before .before .before .before .before .before .blocks) (m42 before given)
-      abbrev pub m44 : (before : Else1) → (given : s52 (before .before .before .before .before .before .before .before .before .blocks) .gives (m40
-          (before .before))) → Typed.Mo T58
-      m44 = λ before given. s55 (before .before .before .before .before .before .before .before .before .blocks) (m43 before given)
+
+      abbrev pub After-taken-with·gave : (c : After-taken-with) → s52 (c .before .before .before .before .before
+          .before .before .before .before .blocks) .gives (m40 (c .before .before))
+      After-taken-with·gave = λ c. Called.given ps·5 r·5 (claims· .11) T17 (
+        record { pos = 4; st = List.[]; d = 0; at = λ x. x },
+        (record { pos = 5; st = List.[]; d = 0; at = λ x. x }, tt),
+      ) (m40 (c .before .before)) (c .taken-with)
+
+      abbrev pub m42 : (before : Else1) → (given : s52 (before .before .before .before .before .before .before .before
+          .before .blocks) .gives (m40 (before .before))) → Typed.Mo T56
+      m42 = λ before given. s53 (before .before .before .before .before .before .before .before .before .blocks)
+          (m41 before given)
+
+      abbrev pub m43 : (before : Else1) → (given : s52 (before .before .before .before .before .before .before .before
+          .before .blocks) .gives (m40 (before .before))) → Typed.Mo T57
+      m43 = λ before given. s54 (before .before .before .before .before .before .before .before .before .blocks)
+          (m42 before given)
+
+      abbrev pub m44 : (before : Else1) → (given : s52 (before .before .before .before .before .before .before .before
+          .before .blocks) .gives (m40 (before .before))) → Typed.Mo T58
+      m44 = λ before given. s55 (before .before .before .before .before .before .before .before .before .blocks)
+          (m43 before given)
+
       abbrev pub Need-same-length-4 : Type 0
-      Need-same-length-4 = (c : After-taken-with) → MutSlice.SameLen (Row.get 1 (T58 .locals) (m44 (c .before) (After-taken-with·gave c))) (dens (c
-          .before .before .before .before .before .before .before .before .before .κs) (c .before .before .before .before .before .before .before
-          .before .before .args) .0)
+      Need-same-length-4 = (c : After-taken-with) → MutSlice.SameLen (Row.get 1 (T58 .locals)
+          (m44 (c .before) (After-taken-with·gave c))) (dens (c .before .before .before .before .before .before .before
+          .before .before .κs) (c .before .before .before .before .before .before .before .before .before .args) .0)
+
       abbrev pub Need-returns-2 : Type 0
-      Need-returns-2 = (c : After-taken-with) → Post· (c .before .before .before .before .before .before .before .before .before .κs) (dens (c .before
-          .before .before .before .before .before .before .before .before .κs) (c .before .before .before .before .before .before .before .before
-          .before .args)) (Function.resV r (c .before .before .before .before .before .before .before .before .before .κs) (m44 (c .before)
-          (After-taken-with·gave c) .0)) (Clauses.atExit (Kinds.endedOf 3 ps r) (c .before .before .before .before .before .before .before .before
-          .before .κs) (dens (c .before .before .before .before .before .before .before .before .before .κs) (c .before .before .before .before
-          .before .before .before .before .before .args)) (Enter.lastsP (c .before .before .before .before .before .before .before .before .before
-          .κs) 1 ps xs (dens (c .before .before .before .before .before .before .before .before .before .κs) (c .before .before .before .before
-          .before .before .before .before .before .args)) (m44 (c .before) (After-taken-with·gave c) .1)))
-      module _ (pending-by-id-requires : Need-pending-by-id-requires) (pending-gone-requires : Need-pending-gone-requires) (fail-plan-requires :
-          Need-fail-plan-requires) (set-pending-requires : Need-set-pending-requires) (send-notice-requires : Need-send-notice-requires) (same-length
-          : Need-same-length) (same-length-2 : Need-same-length-2) (same-length-3 : Need-same-length-3) (returns : Need-returns) (taken-with-requires
-          : Need-taken-with-requires) (same-length-4 : Need-same-length-4) (returns-2 : Need-returns-2) where
-        lay7 : (c : After-taken-with) → at43 (c .before .before .before .before .before .before .before .before .before .blocks) (W0 (c .before
-            .before .before .before .before .before .before .before .before .κs) (c .before .before .before .before .before .before .before .before
-            .before .args) (c .before .before .before .before .before .before .before .before .before .blocks)) (m41 (c .before)
-            (After-taken-with·gave c))
-        lay7 = λ c. ((MutSlice.fix-len (Row.get 1 (T58 .locals) (m44 (c .before) (After-taken-with·gave c)) .ptr) (Row.get 1 (T58 .locals) (m44 (c
-            .before) (After-taken-with·gave c)) .name) (Row.get 1 (T58 .locals) (m44 (c .before) (After-taken-with·gave c)) .now) (dens (c .before
-            .before .before .before .before .before .before .before .before .κs) (c .before .before .before .before .before .before .before .before
-            .before .args) .0 .now) (same-length-4 record { before = c .before; taken-with = c .taken-with }), (Path.refl, (Path.refl, (tt, (tt, (tt,
-            tt))))),), returns-2 record { before = c .before; taken-with = c .taken-with },)
-        lay6 : (c : Else1) → at44 (c .before .before .before .before .before .before .before .before .blocks) (W0 (c .before .before .before .before
-            .before .before .before .before .κs) (c .before .before .before .before .before .before .before .before .args) (c .before .before .before
-            .before .before .before .before .before .blocks)) (m40 (c .before))
-        lay6 = λ c. (taken-with-requires record { before = c .before; if1 = c .if1 }, λ g. lay7 record { before = record { before = c .before; if1 = c
-            .if1 }; taken-with = Called.called ps·5 r·5 (claims· .11) T17 (record { pos = 4; st = List.[]; d = 0; at = λ x. x }, (record { pos = 5; st
-            = List.[]; d = 0; at = λ x. x }, tt),) (m40 (c .before)) g; },)
-        lay5 : (c : After-send-notice) → at12 (c .before .before .before .before .before .before .before .before .before .before .before .before
-            .before .before .blocks) (W1 (c .before .before .before .before .before .before .before .before) (c .before .before .before .before
-            .before .before .before .message .given)) (m27 (c .before) (After-send-notice·gave c))
-        lay5 = λ c. (Path.refl, λ g. (Path.refl, λ g'. λ g''. ((MutSlice.fix-len (Row.get 1 (T49 .locals) (m35 record { before = record { before =
-            record { before = c .before; send-notice = c .send-notice }; inflight = record { given = g }; }; out = record { given = g' }; } g'') .ptr)
-            (Row.get 1 (T49 .locals) (m35 record { before = record { before = record { before = c .before; send-notice = c .send-notice }; inflight =
-            record { given = g }; }; out = record { given = g' }; } g'') .name) (Row.get 1 (T49 .locals) (m35 record { before = record { before =
-            record { before = c .before; send-notice = c .send-notice }; inflight = record { given = g }; }; out = record { given = g' }; } g'') .now)
-            (dens (c .before .before .before .before .before .before .before .before .before .before .before .before .before .before .κs) (c .before
-            .before .before .before .before .before .before .before .before .before .before .before .before .before .args) .0 .now) (same-length
-            record { before = record { before = record { before = record { before = c .before; send-notice = c .send-notice }; inflight = record {
-            given = g }; }; out = record { given = g' }; }; slice-known2 = record { given = g'' }; }), (MutSlice.fix-len (Row.get 2 (T49 .locals) (m35
-            record { before = record { before = record { before = c .before; send-notice = c .send-notice }; inflight = record { given = g }; }; out =
-            record { given = g' }; } g'') .ptr) (Row.get 2 (T49 .locals) (m35 record { before = record { before = record { before = c .before;
-            send-notice = c .send-notice }; inflight = record { given = g }; }; out = record { given = g' }; } g'') .name) (Row.get 2 (T49 .locals)
-            (m35 record { before = record { before = record { before = c .before; send-notice = c .send-notice }; inflight = record { given = g }; };
-            out = record { given = g' }; } g'') .now) (dens (c .before .before .before .before .before .before .before .before .before .before .before
-            .before .before .before .κs) (c .before .before .before .before .before .before .before .before .before .before .before .before .before
-            .before .args) .1 .0 .now) (same-length-2 record { before = record { before = record { before = record { before = c .before; send-notice =
-            c .send-notice }; inflight = record { given = g }; }; out = record { given = g' }; }; slice-known2 = record { given = g'' }; }),
-            (MutSlice.fix-len (Row.get 3 (T49 .locals) (m35 record { before = record { before = record { before = c .before; send-notice = c
-            .send-notice }; inflight = record { given = g }; }; out = record { given = g' }; } g'') .ptr) (Row.get 3 (T49 .locals) (m35 record {
-            before = record { before = record { before = c .before; send-notice = c .send-notice }; inflight = record { given = g }; }; out = record {
-            given = g' }; } g'') .name) (Row.get 3 (T49 .locals) (m35 record { before = record { before = record { before = c .before; send-notice = c
-            .send-notice }; inflight = record { given = g }; }; out = record { given = g' }; } g'') .now) (dens (c .before .before .before .before
-            .before .before .before .before .before .before .before .before .before .before .κs) (c .before .before .before .before .before .before
-            .before .before .before .before .before .before .before .before .args) .1 .1 .0 .now) (same-length-3 record { before = record { before =
-            record { before = record { before = c .before; send-notice = c .send-notice; }; inflight = record { given = g }; }; out = record { given =
-            g' }; }; slice-known2 = record { given = g'' }; }), (tt, (tt, (tt, tt))),),),), returns record { before = record { before = record {
-            before = record { before = c .before; send-notice = c .send-notice }; inflight = record { given = g }; }; out = record { given = g' }; };
-            slice-known2 = record { given = g'' }; },),),)
-        lay4 : (c : After-set-pending) → at26 (c .before .before .before .before .before .before .before .before .before .before .blocks) (W1 (c
-            .before .before .before .before) (c .before .before .before .message .given)) (m17 (c .before) (After-set-pending·gave c))
-        lay4 = λ c. (Path.refl, λ g. λ g'. (Path.refl, λ g''. (Path.refl, (send-notice-requires record { before = record { before = record { before =
-            record { before = c .before; set-pending = c .set-pending }; pending = record { given = g }; }; send-notice-arg = record { given = g' };
-            }; send-notice-arg2 = record { given = g'' }; }, λ g'3. lay5 record { before = record { before = record { before = record { before =
-            record { before = c .before; set-pending = c .set-pending }; pending = record { given = g }; }; send-notice-arg = record { given = g' };
-            }; send-notice-arg2 = record { given = g'' }; }; send-notice = Called.called ps·4 r·4 (claims· .9) T36 (record { pos = 19; ty =
-            Syntax.tyRef Syntax.erased Syntax.mut InflightAction.to; ref = λ x. x; }, (record { pos = 21; ty = Syntax.tyRef Syntax.erased Syntax.mut
-            (Syntax.tyInt Syntax.w32); ref = λ x. x; }, (record { pos = 10; st = List.[]; d = 0; at = λ x. x }, (record { pos = 5; st = List.[]; d =
-            0; at = λ x. x }, (record { pos = 11; st = List.[]; d = 0; at = λ x. x }, (record { pos = 22; st = List.[]; d = 0; at = λ x. x },
-            tt),),),),),) (m26 record { before = record { before = record { before = c .before; set-pending = c .set-pending }; pending = record {
-            given = g }; }; send-notice-arg = record { given = g' }; } g'') g'3; },),),),)
-        lay3 : (c : After-fail-plan) → at49 (c .before .before .before .before .before .blocks) (W0 (c .before .before .before .before .before .κs) (c
-            .before .before .before .before .before .args) (c .before .before .before .before .before .blocks)) (m8 (c .before) (After-fail-plan·gave
-            c))
-        lay3 = λ c. (tt, λ g. (tt, λ g'. (λ taken. λ g''. (Path.refl, (set-pending-requires record { before = record { before = record { before =
-            record { before = record { before = c .before; fail-plan = c .fail-plan }; after = record { given = g }; }; message = record { given = g'
-            }; }; if1 = record { taken = taken }; }; set-pending-arg = record { given = g'' }; }, λ g'3. lay4 record { before = record { before =
-            record { before = record { before = record { before = record { before = c .before; fail-plan = c .fail-plan }; after = record { given = g
-            }; }; message = record { given = g' }; }; if1 = record { taken = taken }; }; set-pending-arg = record { given = g'' }; }; set-pending =
-            Called.called ps·3 r·3 (claims· .7) T22 (record { pos = 17; ty = Syntax.tyRef Syntax.erased Syntax.mut RelayPending.to; ref = λ x. x; },
-            (Bool.bLit Bool'.true, (Num.vFld 9 ((Syntax.field 1) ∷ List.[]) 8 λ x. FailPlan.struct .as-values x .1 .0, (record { pos = 8; st =
-            List.[]; d = 0; at = λ x. x }, tt),),),) (m16 record { before = record { before = record { before = record { before = c .before; fail-plan
-            = c .fail-plan }; after = record { given = g }; }; message = record { given = g' }; }; if1 = record { taken = taken }; } g'') g'3; },),),
-            λ left. lay6 record { before = record { before = record { before = record { before = c .before; fail-plan = c .fail-plan }; after = record
-            { given = g }; }; message = record { given = g' }; }; if1 = record { left = left }; },),),)
-        lay2 : (c : After-pending-gone) → at50 (c .before .before .before .before .blocks) (W0 (c .before .before .before .before .κs) (c .before
-            .before .before .before .args) (c .before .before .before .before .blocks)) (m7 (c .before) (After-pending-gone·gave c))
-        lay2 = λ c. (fail-plan-requires record { before = c .before; pending-gone = c .pending-gone }, λ g. lay3 record { before = record { before = c
-            .before; pending-gone = c .pending-gone }; fail-plan = Called.called ps·2 r·2 (claims· .5) T11 (record { pos = 7; st = List.[]; d = 0; at
-            = λ x. x }, (record { pos = 4; st = List.[]; d = 0; at = λ x. x }, tt),) (m7 (c .before) (After-pending-gone·gave c)) g; },)
-        lay1 : (c : After-pending-by-id) → at55 (c .before .before .before .blocks) (W0 (c .before .before .before .κs) (c .before .before .before
-            .args) (c .before .before .before .blocks)) (m4 (c .before) (After-pending-by-id·gave c))
-        lay1 = λ c. (pending-gone-requires record { before = c .before; pending-by-id = c .pending-by-id }, λ g. lay2 record { before = record {
-            before = c .before; pending-by-id = c .pending-by-id }; pending-gone = Called.called ps·1 r·1 (claims· .3) T9 (record { pos = 7; st =
-            List.[]; d = 0; at = λ x. x }, tt,) (m6 (c .before) (After-pending-by-id·gave c)) g; },)
+      Need-returns-2 = (c : After-taken-with) → Post· (c .before .before .before .before .before .before .before
+          .before .before .κs) (dens (c .before .before .before .before .before .before .before .before .before .κs) (c
+          .before .before .before .before .before .before .before .before .before .args)) (Function.resV r (c .before
+          .before .before .before .before .before .before .before .before .κs)
+          (m44 (c .before) (After-taken-with·gave c) .0)) (Clauses.atExit (Kinds.endedOf 3 ps r) (c .before .before
+          .before .before .before .before .before .before .before .κs) (dens (c .before .before .before .before .before
+          .before .before .before .before .κs) (c .before .before .before .before .before .before .before .before
+          .before .args)) (Enter.lastsP (c .before .before .before .before .before .before .before .before .before .κs)
+          1 ps xs (dens (c .before .before .before .before .before .before .before .before .before .κs) (c .before
+          .before .before .before .before .before .before .before .before .args))
+          (m44 (c .before) (After-taken-with·gave c) .1)))
+
+      module _ (pending-by-id-requires : Need-pending-by-id-requires)
+          (pending-gone-requires : Need-pending-gone-requires) (fail-plan-requires : Need-fail-plan-requires)
+          (set-pending-requires : Need-set-pending-requires) (send-notice-requires : Need-send-notice-requires)
+          (same-length : Need-same-length) (same-length-2 : Need-same-length-2) (same-length-3 : Need-same-length-3)
+          (returns : Need-returns) (taken-with-requires : Need-taken-with-requires)
+          (same-length-4 : Need-same-length-4) (returns-2 : Need-returns-2) where
+        lay7 : (c : After-taken-with) → at43 (c .before .before .before .before .before .before .before .before .before
+            .blocks) (W0 (c .before .before .before .before .before .before .before .before .before .κs) (c .before
+            .before .before .before .before .before .before .before .before .args) (c .before .before .before .before
+            .before .before .before .before .before .blocks)) (m41 (c .before) (After-taken-with·gave c))
+        lay7 = λ c. (
+          (
+            MutSlice.fix-len (Row.get 1 (T58 .locals) (m44 (c .before) (After-taken-with·gave c)) .ptr) (Row.get 1
+                (T58 .locals) (m44 (c .before) (After-taken-with·gave c)) .name) (Row.get 1 (T58 .locals)
+                (m44 (c .before) (After-taken-with·gave c)) .now) (dens (c .before .before .before .before .before
+                .before .before .before .before .κs) (c .before .before .before .before .before .before .before .before
+                .before .args) .0 .now) (same-length-4 record { before = c .before; taken-with = c .taken-with }),
+            (Path.refl, (Path.refl, (tt, (tt, (tt, tt))))),
+          ),
+          returns-2 record { before = c .before; taken-with = c .taken-with },
+        )
+
+        lay6 : (c : Else1) → at44 (c .before .before .before .before .before .before .before .before .blocks) (W0 (c
+            .before .before .before .before .before .before .before .before .κs) (c .before .before .before .before
+            .before .before .before .before .args) (c .before .before .before .before .before .before .before .before
+            .blocks)) (m40 (c .before))
+        lay6 = λ c. (
+          taken-with-requires record { before = c .before; if1 = c .if1 },
+          λ g. lay7 record {
+            before = record { before = c .before; if1 = c .if1 };
+            taken-with = Called.called ps·5 r·5 (claims· .11) T17 (
+              record { pos = 4; st = List.[]; d = 0; at = λ x. x },
+              (record { pos = 5; st = List.[]; d = 0; at = λ x. x }, tt),
+            ) (m40 (c .before)) g;
+          },
+        )
+
+        lay5 : (c : After-send-notice) → at12 (c .before .before .before .before .before .before .before .before
+            .before .before .before .before .before .before .blocks) (W1 (c .before .before .before .before .before
+            .before .before .before) (c .before .before .before .before .before .before .before .message .given))
+            (m27 (c .before) (After-send-notice·gave c))
+        lay5 = λ c. (
+          Path.refl,
+          λ g. (
+            Path.refl,
+            λ g'. λ g''. (
+              (
+                MutSlice.fix-len (Row.get 1 (T49 .locals) (m35
+                    record {
+                      before = record {
+                        before = record { before = c .before; send-notice = c .send-notice };
+                        inflight = record { given = g };
+                      };
+                      out = record { given = g' };
+                    } g'') .ptr) (Row.get 1 (T49 .locals) (m35
+                    record {
+                      before = record {
+                        before = record { before = c .before; send-notice = c .send-notice };
+                        inflight = record { given = g };
+                      };
+                      out = record { given = g' };
+                    } g'') .name) (Row.get 1 (T49 .locals) (m35
+                    record {
+                      before = record {
+                        before = record { before = c .before; send-notice = c .send-notice };
+                        inflight = record { given = g };
+                      };
+                      out = record { given = g' };
+                    } g'') .now) (dens (c .before .before .before .before .before .before .before .before .before
+                    .before .before .before .before .before .κs) (c .before .before .before .before .before .before
+                    .before .before .before .before .before .before .before .before .args) .0 .now) (same-length
+                    record {
+                      before = record {
+                        before = record {
+                          before = record { before = c .before; send-notice = c .send-notice };
+                          inflight = record { given = g };
+                        };
+                        out = record { given = g' };
+                      };
+                      slice-known2 = record { given = g'' };
+                    }),
+                (
+                  MutSlice.fix-len (Row.get 2 (T49 .locals) (m35
+                      record {
+                        before = record {
+                          before = record { before = c .before; send-notice = c .send-notice };
+                          inflight = record { given = g };
+                        };
+                        out = record { given = g' };
+                      } g'') .ptr) (Row.get 2 (T49 .locals) (m35
+                      record {
+                        before = record {
+                          before = record { before = c .before; send-notice = c .send-notice };
+                          inflight = record { given = g };
+                        };
+                        out = record { given = g' };
+                      } g'') .name) (Row.get 2 (T49 .locals) (m35
+                      record {
+                        before = record {
+                          before = record { before = c .before; send-notice = c .send-notice };
+                          inflight = record { given = g };
+                        };
+                        out = record { given = g' };
+                      } g'') .now) (dens (c .before .before .before .before .before .before .before .before .before
+                      .before .before .before .before .before .κs) (c .before .before .before .before .before .before
+                      .before .before .before .before .before .before .before .before .args) .1 .0 .now) (same-length-2
+                      record {
+                        before = record {
+                          before = record {
+                            before = record { before = c .before; send-notice = c .send-notice };
+                            inflight = record { given = g };
+                          };
+                          out = record { given = g' };
+                        };
+                        slice-known2 = record { given = g'' };
+                      }),
+                  (
+                    MutSlice.fix-len (Row.get 3 (T49 .locals) (m35
+                        record {
+                          before = record {
+                            before = record { before = c .before; send-notice = c .send-notice };
+                            inflight = record { given = g };
+                          };
+                          out = record { given = g' };
+                        } g'') .ptr) (Row.get 3 (T49 .locals) (m35
+                        record {
+                          before = record {
+                            before = record { before = c .before; send-notice = c .send-notice };
+                            inflight = record { given = g };
+                          };
+                          out = record { given = g' };
+                        } g'') .name) (Row.get 3 (T49 .locals) (m35
+                        record {
+                          before = record {
+                            before = record { before = c .before; send-notice = c .send-notice };
+                            inflight = record { given = g };
+                          };
+                          out = record { given = g' };
+                        } g'') .now) (dens (c .before .before .before .before .before .before .before .before .before
+                        .before .before .before .before .before .κs) (c .before .before .before .before .before .before
+                        .before .before .before .before .before .before .before .before .args) .1 .1 .0 .now) (same-length-3
+                        record {
+                          before = record {
+                            before = record {
+                              before = record { before = c .before; send-notice = c .send-notice };
+                              inflight = record { given = g };
+                            };
+                            out = record { given = g' };
+                          };
+                          slice-known2 = record { given = g'' };
+                        }),
+                    (tt, (tt, (tt, tt))),
+                  ),
+                ),
+              ),
+              returns record {
+                before = record {
+                  before = record {
+                    before = record { before = c .before; send-notice = c .send-notice };
+                    inflight = record { given = g };
+                  };
+                  out = record { given = g' };
+                };
+                slice-known2 = record { given = g'' };
+              },
+            ),
+          ),
+        )
+
+        lay4 : (c : After-set-pending) → at26 (c .before .before .before .before .before .before .before .before
+            .before .before .blocks) (W1 (c .before .before .before .before)
+            (c .before .before .before .message .given)) (m17 (c .before) (After-set-pending·gave c))
+        lay4 = λ c. (
+          Path.refl,
+          λ g. λ g'. (
+            Path.refl,
+            λ g''. (
+              Path.refl,
+              (
+                send-notice-requires record {
+                  before = record {
+                    before = record {
+                      before = record { before = c .before; set-pending = c .set-pending };
+                      pending = record { given = g };
+                    };
+                    send-notice-arg = record { given = g' };
+                  };
+                  send-notice-arg2 = record { given = g'' };
+                },
+                λ g'3. lay5 record {
+                  before = record {
+                    before = record {
+                      before = record {
+                        before = record { before = c .before; set-pending = c .set-pending };
+                        pending = record { given = g };
+                      };
+                      send-notice-arg = record { given = g' };
+                    };
+                    send-notice-arg2 = record { given = g'' };
+                  };
+                  send-notice = Called.called ps·4 r·4 (claims· .9) T36 (
+                    record { pos = 19; ty = ref2; ref = λ x. x },
+                    (
+                      record { pos = 21; ty = ref3; ref = λ x. x },
+                      (
+                        record { pos = 10; st = List.[]; d = 0; at = λ x. x },
+                        (
+                          record { pos = 5; st = List.[]; d = 0; at = λ x. x },
+                          (
+                            record { pos = 11; st = List.[]; d = 0; at = λ x. x },
+                            (record { pos = 22; st = List.[]; d = 0; at = λ x. x }, tt),
+                          ),
+                        ),
+                      ),
+                    ),
+                  ) (m26 record {
+                    before = record {
+                      before = record { before = c .before; set-pending = c .set-pending };
+                      pending = record { given = g };
+                    };
+                    send-notice-arg = record { given = g' };
+                  } g'') g'3;
+                },
+              ),
+            ),
+          ),
+        )
+
+        lay3 : (c : After-fail-plan) → at49 (c .before .before .before .before .before .blocks) (W0
+            (c .before .before .before .before .before .κs) (c .before .before .before .before .before .args)
+            (c .before .before .before .before .before .blocks)) (m8 (c .before) (After-fail-plan·gave c))
+        lay3 = λ c. (
+          tt,
+          λ g. (
+            tt,
+            λ g'. (
+              λ taken. λ g''. (
+                Path.refl,
+                (
+                  set-pending-requires record {
+                    before = record {
+                      before = record {
+                        before = record {
+                          before = record { before = c .before; fail-plan = c .fail-plan };
+                          after = record { given = g };
+                        };
+                        message = record { given = g' };
+                      };
+                      if1 = record { taken = taken };
+                    };
+                    set-pending-arg = record { given = g'' };
+                  },
+                  λ g'3. lay4 record {
+                    before = record {
+                      before = record {
+                        before = record {
+                          before = record {
+                            before = record { before = c .before; fail-plan = c .fail-plan };
+                            after = record { given = g };
+                          };
+                          message = record { given = g' };
+                        };
+                        if1 = record { taken = taken };
+                      };
+                      set-pending-arg = record { given = g'' };
+                    };
+                    set-pending = Called.called ps·3 r·3 (claims· .7) T22 (
+                      record { pos = 17; ty = ref1; ref = λ x. x },
+                      (
+                        Bool.bLit Bool'.true,
+                        (
+                          Num.vFld 9 ((Syntax.field 1) ∷ List.[]) 8 λ x. FailPlan.struct .as-values x .1 .0,
+                          (record { pos = 8; st = List.[]; d = 0; at = λ x. x }, tt),
+                        ),
+                      ),
+                    ) (m16 record {
+                      before = record {
+                        before = record {
+                          before = record { before = c .before; fail-plan = c .fail-plan };
+                          after = record { given = g };
+                        };
+                        message = record { given = g' };
+                      };
+                      if1 = record { taken = taken };
+                    } g'') g'3;
+                  },
+                ),
+              ),
+              λ left. lay6 record {
+                before = record {
+                  before = record {
+                    before = record { before = c .before; fail-plan = c .fail-plan };
+                    after = record { given = g };
+                  };
+                  message = record { given = g' };
+                };
+                if1 = record { left = left };
+              },
+            ),
+          ),
+        )
+
+        lay2 : (c : After-pending-gone) → at50 (c .before .before .before .before .blocks) (W0
+            (c .before .before .before .before .κs) (c .before .before .before .before .args)
+            (c .before .before .before .before .blocks)) (m7 (c .before) (After-pending-gone·gave c))
+        lay2 = λ c. (
+          fail-plan-requires record { before = c .before; pending-gone = c .pending-gone },
+          λ g. lay3 record {
+            before = record { before = c .before; pending-gone = c .pending-gone };
+            fail-plan = Called.called ps·2 r·2 (claims· .5) T11 (
+              record { pos = 7; st = List.[]; d = 0; at = λ x. x },
+              (record { pos = 4; st = List.[]; d = 0; at = λ x. x }, tt),
+            ) (m7 (c .before) (After-pending-gone·gave c)) g;
+          },
+        )
+
+        lay1 : (c : After-pending-by-id) → at55 (c .before .before .before .blocks) (W0 (c .before .before .before .κs)
+            (c .before .before .before .args) (c .before .before .before .blocks))
+            (m4 (c .before) (After-pending-by-id·gave c))
+        lay1 = λ c. (
+          pending-gone-requires record { before = c .before; pending-by-id = c .pending-by-id },
+          λ g. lay2 record {
+            before = record { before = c .before; pending-by-id = c .pending-by-id };
+            pending-gone = Called.called ps·1 r·1 (claims· .3) T9
+                (record { pos = 7; st = List.[]; d = 0; at = λ x. x }, tt)
+                (m6 (c .before) (After-pending-by-id·gave c)) g;
+          },
+        )
+
         pub laid : (c : Start) → at60 (c .blocks) (W0 (c .κs) (c .args) (c .blocks)) (m0 (c .κs) (c .args) (c .blocks))
-        laid = λ c. λ g. λ g'. (Path.refl, (pending-by-id-requires record { before = record { before = c; slice-known = record { given = g } };
-            pending-by-id-arg = record { given = g' }; }, λ g''. lay1 record { before = record { before = record { before = c; slice-known = record {
-            given = g } }; pending-by-id-arg = record { given = g' }; }; pending-by-id = Called.called ps·0 r·0 (claims· .1) T5 (record { pos = 13; ty
-            = Syntax.tyRef Syntax.erased Syntax.imm RelayPending.to; ref = λ x. x; }, (record { pos = 5; st = List.[]; d = 0; at = λ x. x }, (Num.vAt
-            6 λ x. x, tt)),) (m3 record { before = c; slice-known = record { given = g } } g') g''; },),)
+        laid = λ c. λ g. λ g'. (
+          Path.refl,
+          (
+            pending-by-id-requires record {
+              before = record { before = c; slice-known = record { given = g } };
+              pending-by-id-arg = record { given = g' };
+            },
+            λ g''. lay1 record {
+              before = record {
+                before = record { before = c; slice-known = record { given = g } };
+                pending-by-id-arg = record { given = g' };
+              };
+              pending-by-id = Called.called ps·0 r·0 (claims· .1) T5 (
+                record { pos = 13; ty = ref0; ref = λ x. x },
+                (record { pos = 5; st = List.[]; d = 0; at = λ x. x }, (Num.vAt 6 λ x. x, tt)),
+              ) (m3 record { before = c; slice-known = record { given = g } } g') g'';
+            },
+          ),
+        )
+
         module _ (κs : Lifetimes.Lfts 3) (qs : Lifetimes.Shares 3) where
-          pub asked : (a : Kinds.Dens κs ps) → (good : Kinds.GoodsP κs ps a) → (pre : Pre· κs a) → (bs : List.List Nat.ℕ) → Φ bs (Any.wantQ 3 ps r xs
-              m κs qs a (Post· κs a)) (Function.init 3 ps r xs m κs qs a)
-          asked = λ a good pre bs. laid record { κs = κs; args = record { pending = a .0; inflight = a .1 .0; out = a .1 .1 .0; runtime = a .1 .1 .1
-              .0; places = a .1 .1 .1 .1 .0; id = a .1 .1 .1 .1 .1 .0; }; blocks = bs; good = good; fits = record { id = record { fits = good .1 .1 .1
-              .1 .1 .0 .1 } }; pre = pre; }
-        module _ { M : Type 1 } (𝓤 : URA.URA M) (H : Wp.Heap 𝓤) (A : Atoms.Atoms 𝓤) (W : Kit.Given 𝓤 H A) (𝓣 : Wp.Tables 𝓤 H) (known0 : Plain.Known 𝓤
-            H A W 𝓣 1 ps·0 r·0 (claims· .0) (claims· .1) "hnsr_circuit::lookup::pending_by_id") (known1 : Plain.Known 𝓤 H A W 𝓣 0 ps·1 r·1 (claims·
-            .2) (claims· .3) "hnsr_circuit::revocation::pending_gone") (known2 : Plain.Known 𝓤 H A W 𝓣 0 ps·2 r·2 (claims· .4) (claims· .5)
-            "hnsr_circuit::acknowledge::fail_plan") (known3 : Plain.Known 𝓤 H A W 𝓣 1 ps·3 r·3 (claims· .6) (claims· .7)
-            "hnsr_circuit::tables::pending::set_pending") (known4 : Plain.Known 𝓤 H A W 𝓣 2 ps·4 r·4 (claims· .8) (claims· .9)
-            "hnsr_circuit::acknowledge::send_notice") (known5 : Plain.Known 𝓤 H A W 𝓣 0 ps·5 r·5 (claims· .10) (claims· .11)
-            "hnsr_circuit::revoking_calls::taken_with") where
-          pub spec : Statement.Triple 𝓤 (Wp.WpFn 𝓤 H (𝓣 .C) (𝓣 .Λ) (Function.fnOf 3 ps r xs m hs body)) (Function.plainOf 𝓤 H A 3 ps r Pre· Post·)
-          spec = Plain.t-fn-plain 𝓤 H A W 𝓣 3 ps r xs m hs body (λ κs qs bs. Φ bs) (λ κs qs bs bd. typed κs qs 𝓤 H A W 𝓣 (known0, known1, known2,
-              known3, known4, known5,) bs bd) Pre· Post· asked
+          pub asked : (a : Kinds.Dens κs ps) → (good : Kinds.GoodsP κs ps a) → (pre : Pre· κs a) →
+              (bs : List.List Nat.ℕ) → Φ bs (Any.wantQ 3 ps r xs m κs qs a (Post· κs a))
+              (Function.init 3 ps r xs m κs qs a)
+          asked = λ a good pre bs. laid record {
+            κs = κs;
+            args = record {
+              pending = a .0;
+              inflight = a .1 .0;
+              out = a .1 .1 .0;
+              runtime = a .1 .1 .1 .0;
+              places = a .1 .1 .1 .1 .0;
+              id = a .1 .1 .1 .1 .1 .0;
+            };
+            blocks = bs;
+            good = good;
+            fits = record { id = record { fits = good .1 .1 .1 .1 .1 .0 .1 } };
+            pre = pre;
+          }
+
+        module _ {M : Type 1} (𝓤 : URA.URA M) (H : Wp.Heap 𝓤) (A : Atoms.Atoms 𝓤) (W : Kit.Given 𝓤 H A)
+            (𝓣 : Wp.Tables 𝓤 H) (known0 : Plain.Known 𝓤 H A W 𝓣 1 ps·0 r·0 (claims· .0) (claims· .1)
+            "hnsr_circuit::lookup::pending_by_id") (known1 : Plain.Known 𝓤 H A W 𝓣 0 ps·1 r·1 (claims· .2) (claims· .3)
+            "hnsr_circuit::revocation::pending_gone") (known2 : Plain.Known 𝓤 H A W 𝓣 0 ps·2 r·2 (claims· .4)
+            (claims· .5) "hnsr_circuit::acknowledge::fail_plan") (known3 : Plain.Known 𝓤 H A W 𝓣 1 ps·3 r·3
+            (claims· .6) (claims· .7) "hnsr_circuit::tables::pending::set_pending") (known4 : Plain.Known 𝓤 H A W 𝓣 2
+            ps·4 r·4 (claims· .8) (claims· .9) "hnsr_circuit::acknowledge::send_notice") (known5 : Plain.Known 𝓤 H A W
+            𝓣 0 ps·5 r·5 (claims· .10) (claims· .11) "hnsr_circuit::revoking_calls::taken_with") where
+          pub spec : Statement.Triple 𝓤 (Wp.WpFn 𝓤 H (𝓣 .C) (𝓣 .Λ) (Function.fnOf 3 ps r xs m hs body))
+              (Function.plainOf 𝓤 H A 3 ps r Pre· Post·)
+          spec = Plain.t-fn-plain 𝓤 H A W 𝓣 3 ps r xs m hs body (λ κs qs bs. Φ bs) (λ κs qs bs bd. typed κs qs 𝓤 H A W
+              𝓣 (known0, known1, known2, known3, known4, known5) bs bd) Pre· Post· asked

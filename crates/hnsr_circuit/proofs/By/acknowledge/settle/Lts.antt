@@ -5,6 +5,7 @@ use Rattle.hnsr_body.proofs.messages.Notice.Laws
 use Rattle.hnsr_circuit.proofs.By.InflightAction
 use Rattle.hnsr_circuit.proofs.By.RelayCircuit
 use Rattle.hnsr_circuit.proofs.By.RelayPending
+use Rattle.hnsr_circuit.proofs.StructRow
 use Rattle.hnsr_circuit.proofs.acknowledge.SettlePlan
 use Rattle.hnsr_circuit.proofs.acknowledge.SettlePlan.Laws as Laws'
 use Rattle.hnsr_circuit.proofs.places.Places
@@ -16,6 +17,7 @@ use Rattle.hnsr_circuit.proofs.runtime.Relayed.Laws as Laws''''
 use borrow.Author.Called
 use borrow.Enum.Make
 use borrow.Fn.Any
+use borrow.Fn.Args as Args'
 use borrow.Fn.Call
 use borrow.Fn.Enter
 use borrow.Fn.Frame
@@ -24,7 +26,6 @@ use borrow.Fn.Kinds
 use borrow.Fn.Plain
 use borrow.Kind.MutSlice
 use borrow.Kind.Num
-use borrow.Kind.Value
 use borrow.Rule.Lifetime
 use borrow.Rule.Local
 use borrow.Rule.Scalar
@@ -42,10 +43,7 @@ use borrow.Table.Rows
 use borrow.Table.Typed
 use contract.Lifetimes
 use denote.Enum.Declared
-use denote.Enum.Laws as Laws'''''
-use denote.Exit
 use denote.Struct.Declared as Declared'
-use denote.Struct.Laws as Laws''''''
 use denote.Triple.Clauses
 use denote.Triple.Statement
 use ghost.Atoms
@@ -63,1869 +61,3190 @@ use mathlib.Core.List.{_∷_}
 
 abbrev ref0 : Syntax.Ty
 ref0 = Syntax.tyRef Syntax.erased Syntax.mut RelayPending.to
+
 abbrev ref1 : Syntax.Ty
 ref1 = Syntax.tyRef Syntax.erased Syntax.mut InflightAction.to
+
 abbrev ref2 : Syntax.Ty
 ref2 = Syntax.tyRef Syntax.erased Syntax.mut (Syntax.tyInt Syntax.w32)
+
 abbrev ref3 : Syntax.Ty
 ref3 = Syntax.tyRef Syntax.erased Syntax.mut RelayCircuit.to
+
 abbrev ref4 : Syntax.Ty
 ref4 = Syntax.tyRef (Syntax.named 0) Syntax.mut RelayPending.to
+
 abbrev ref5 : Syntax.Ty
 ref5 = Syntax.tyRef (Syntax.named 1) Syntax.mut RelayCircuit.to
+
 abbrev ref6 : Syntax.Ty
 ref6 = Syntax.tyRef (Syntax.named 2) Syntax.mut InflightAction.to
+
 abbrev ref7 : Syntax.Ty
 ref7 = Syntax.tyRef (Syntax.named 3) Syntax.mut (Syntax.tyInt Syntax.w32)
+
+abbrev slice0 : Syntax.Ty
+slice0 = Syntax.tyStruct (38 ∷ 91 ∷ 93 ∷ List.[]) (Syntax.tcons ref0
+    (Syntax.tcons (Syntax.tyInt Syntax.w64) Syntax.tnil))
+
+abbrev slice1 : Syntax.Ty
+slice1 = Syntax.tyStruct (38 ∷ 91 ∷ 93 ∷ List.[]) (Syntax.tcons ref1
+    (Syntax.tcons (Syntax.tyInt Syntax.w64) Syntax.tnil))
+
+abbrev slice2 : Syntax.Ty
+slice2 = Syntax.tyStruct (38 ∷ 91 ∷ 93 ∷ List.[]) (Syntax.tcons ref2
+    (Syntax.tcons (Syntax.tyInt Syntax.w64) Syntax.tnil))
+
+abbrev slice3 : Syntax.Ty
+slice3 = Syntax.tyStruct (38 ∷ 91 ∷ 93 ∷ List.[]) (Syntax.tcons ref3
+    (Syntax.tcons (Syntax.tyInt Syntax.w64) Syntax.tnil))
+
 abbrev pub ps : List.List (Kinds.PK 4)
-ps = (MutSlice.pMutS RelayPending.row 0 tt) ∷ (MutSlice.pMutS RelayCircuit.row 1 tt) ∷ (MutSlice.pMutS InflightAction.row 2 tt) ∷ (MutSlice.pMutS
-    (Referent.rtF (Referent.fInt Syntax.w32)) 3 tt) ∷ (Value.pVal record { ty = Declared'.row OpaqueRelayRuntime.the-type; one = Path.refl; val =
-    Laws''''''.val OpaqueRelayRuntime.the-type Laws'''.the-laws; tells = Laws''''''.tells OpaqueRelayRuntime.the-type Laws'''.the-laws; still =
-    Laws''''''.still OpaqueRelayRuntime.the-type Laws'''.the-copy Exit.yes; row = Rows.whole (Declared'.row OpaqueRelayRuntime.the-type); rd = λ x. x;
-    mk = λ x. x; } λ M 𝓤 H A W. record { copies = Laws''''''.copy OpaqueRelayRuntime.the-type Laws'''.the-copy 𝓤 H A W; lawful = Laws''''''.lawful
-    OpaqueRelayRuntime.the-type Laws'''.the-laws 𝓤 H A W; makes = Laws''''''.makes OpaqueRelayRuntime.the-type Laws'''.the-plain 𝓤 H A; in-mem =
-    Local.mem-whole 𝓤 H A W (Declared'.row OpaqueRelayRuntime.the-type); of-mem = Local.whole-mem 𝓤 H A W (Declared'.row OpaqueRelayRuntime.the-type);
-    }) ∷ (Value.pVal record { ty = Declared'.row Places.the-type; one = Path.refl; val = Laws''''''.val Places.the-type Laws''.the-laws; tells =
-    Laws''''''.tells Places.the-type Laws''.the-laws; still = Laws''''''.still Places.the-type Laws''.the-copy Exit.yes; row = Rows.whole
-    (Declared'.row Places.the-type); rd = λ x. x; mk = λ x. x; } λ M 𝓤 H A W. record { copies = Laws''''''.copy Places.the-type Laws''.the-copy 𝓤 H A
-    W; lawful = Laws''''''.lawful Places.the-type Laws''.the-laws 𝓤 H A W; makes = Laws''''''.makes Places.the-type Laws''.the-plain 𝓤 H A; in-mem =
-    Local.mem-whole 𝓤 H A W (Declared'.row Places.the-type); of-mem = Local.whole-mem 𝓤 H A W (Declared'.row Places.the-type); }) ∷ (Value.pVal record
-    { ty = Declared'.row SettlePlan.the-type; one = Path.refl; val = Laws''''''.val SettlePlan.the-type Laws'.the-laws; tells = Laws''''''.tells
-    SettlePlan.the-type Laws'.the-laws; still = Laws''''''.still SettlePlan.the-type Laws'.the-copy Exit.yes; row = Rows.whole (Declared'.row
-    SettlePlan.the-type); rd = λ x. x; mk = λ x. x; } λ M 𝓤 H A W. record { copies = Laws''''''.copy SettlePlan.the-type Laws'.the-copy 𝓤 H A W;
-    lawful = Laws''''''.lawful SettlePlan.the-type Laws'.the-laws 𝓤 H A W; makes = Laws''''''.makes SettlePlan.the-type Laws'.the-plain 𝓤 H A; in-mem
-    = Local.mem-whole 𝓤 H A W (Declared'.row SettlePlan.the-type); of-mem = Local.whole-mem 𝓤 H A W (Declared'.row SettlePlan.the-type); }) ∷ List.[]
+ps = (MutSlice.pMutS RelayPending.row 0 tt) ∷ (MutSlice.pMutS RelayCircuit.row 1 tt) ∷
+    (MutSlice.pMutS InflightAction.row 2 tt) ∷ (MutSlice.pMutS (Referent.rtF (Referent.fInt Syntax.w32)) 3 tt) ∷ (StructRow.param
+    OpaqueRelayRuntime.the-type Laws'''.the-laws Laws'''.the-copy Laws'''.the-plain) ∷ (StructRow.param Places.the-type
+    Laws''.the-laws Laws''.the-copy Laws''.the-plain) ∷ (StructRow.param SettlePlan.the-type Laws'.the-laws
+    Laws'.the-copy Laws'.the-plain) ∷ List.[]
+
 abbrev pub r : Kinds.RK 4
-r = Value.rVal record { ty = Declared'.row Relayed.the-type; one = Path.refl; val = Laws''''''.val Relayed.the-type Laws''''.the-laws; tells =
-    Laws''''''.tells Relayed.the-type Laws''''.the-laws; still = Laws''''''.still Relayed.the-type Laws''''.the-copy Exit.yes; row = Rows.whole
-    (Declared'.row Relayed.the-type); rd = λ x. x; mk = λ x. x; } λ M 𝓤 H A W. record { copies = Laws''''''.copy Relayed.the-type Laws''''.the-copy 𝓤
-    H A W; lawful = Laws''''''.lawful Relayed.the-type Laws''''.the-laws 𝓤 H A W; makes = Laws''''''.makes Relayed.the-type Laws''''.the-plain 𝓤 H A;
-    in-mem = Local.mem-whole 𝓤 H A W (Declared'.row Relayed.the-type); of-mem = Local.whole-mem 𝓤 H A W (Declared'.row Relayed.the-type); }
+r = StructRow.result Relayed.the-type Laws''''.the-laws Laws''''.the-copy Laws''''.the-plain
+
 abbrev pub xs : List.List Syntax.Ty
-xs = Syntax.tyBool ∷ ref0 ∷ (Syntax.tyStruct (38 ∷ 91 ∷ 93 ∷ List.[]) (Syntax.tcons ref0 (Syntax.tcons (Syntax.tyInt Syntax.w64) Syntax.tnil))) ∷ ref1
-    ∷ (Syntax.tyStruct (38 ∷ 91 ∷ 93 ∷ List.[]) (Syntax.tcons ref1 (Syntax.tcons (Syntax.tyInt Syntax.w64) Syntax.tnil))) ∷ ref2 ∷ (Syntax.tyStruct
-    (38 ∷ 91 ∷ 93 ∷ List.[]) (Syntax.tcons ref2 (Syntax.tcons (Syntax.tyInt Syntax.w64) Syntax.tnil))) ∷ ref3 ∷ (Syntax.tyStruct (38 ∷ 91 ∷ 93 ∷
-    List.[]) (Syntax.tcons ref3 (Syntax.tcons (Syntax.tyInt Syntax.w64) Syntax.tnil))) ∷ ref1 ∷ (Syntax.tyStruct (38 ∷ 91 ∷ 93 ∷ List.[])
-    (Syntax.tcons ref1 (Syntax.tcons (Syntax.tyInt Syntax.w64) Syntax.tnil))) ∷ ref2 ∷ (Syntax.tyStruct (38 ∷ 91 ∷ 93 ∷ List.[]) (Syntax.tcons ref2
-    (Syntax.tcons (Syntax.tyInt Syntax.w64) Syntax.tnil))) ∷ Laws.mir ∷ List.[]
+xs = Syntax.tyBool ∷ ref0 ∷ slice0 ∷ ref1 ∷ slice1 ∷ ref2 ∷ slice2 ∷ ref3 ∷ slice3 ∷ ref1 ∷ slice1 ∷ ref2 ∷ slice2 ∷
+    Laws.mir ∷ List.[]
+
 abbrev pub m : Nat.ℕ
 m = 6
+
 abbrev pub ps·0 : List.List (Kinds.PK 3)
-ps·0 = (MutSlice.pMutS RelayPending.row 0 tt) ∷ (MutSlice.pMutS InflightAction.row 1 tt) ∷ (MutSlice.pMutS (Referent.rtF (Referent.fInt Syntax.w32)) 2
-    tt) ∷ (Value.pVal record { ty = Declared'.row OpaqueRelayRuntime.the-type; one = Path.refl; val = Laws''''''.val OpaqueRelayRuntime.the-type
-    Laws'''.the-laws; tells = Laws''''''.tells OpaqueRelayRuntime.the-type Laws'''.the-laws; still = Laws''''''.still OpaqueRelayRuntime.the-type
-    Laws'''.the-copy Exit.yes; row = Rows.whole (Declared'.row OpaqueRelayRuntime.the-type); rd = λ x. x; mk = λ x. x; } λ M 𝓤 H A W. record { copies
-    = Laws''''''.copy OpaqueRelayRuntime.the-type Laws'''.the-copy 𝓤 H A W; lawful = Laws''''''.lawful OpaqueRelayRuntime.the-type Laws'''.the-laws 𝓤
-    H A W; makes = Laws''''''.makes OpaqueRelayRuntime.the-type Laws'''.the-plain 𝓤 H A; in-mem = Local.mem-whole 𝓤 H A W (Declared'.row
-    OpaqueRelayRuntime.the-type); of-mem = Local.whole-mem 𝓤 H A W (Declared'.row OpaqueRelayRuntime.the-type); }) ∷ (Value.pVal record { ty =
-    Declared'.row Places.the-type; one = Path.refl; val = Laws''''''.val Places.the-type Laws''.the-laws; tells = Laws''''''.tells Places.the-type
-    Laws''.the-laws; still = Laws''''''.still Places.the-type Laws''.the-copy Exit.yes; row = Rows.whole (Declared'.row Places.the-type); rd = λ x. x;
-    mk = λ x. x; } λ M 𝓤 H A W. record { copies = Laws''''''.copy Places.the-type Laws''.the-copy 𝓤 H A W; lawful = Laws''''''.lawful Places.the-type
-    Laws''.the-laws 𝓤 H A W; makes = Laws''''''.makes Places.the-type Laws''.the-plain 𝓤 H A; in-mem = Local.mem-whole 𝓤 H A W (Declared'.row
-    Places.the-type); of-mem = Local.whole-mem 𝓤 H A W (Declared'.row Places.the-type); }) ∷ (Num.pNum Syntax.w64) ∷ List.[]
+ps·0 = (MutSlice.pMutS RelayPending.row 0 tt) ∷ (MutSlice.pMutS InflightAction.row 1 tt) ∷ (MutSlice.pMutS
+    (Referent.rtF (Referent.fInt Syntax.w32)) 2 tt) ∷ (StructRow.param OpaqueRelayRuntime.the-type Laws'''.the-laws
+    Laws'''.the-copy Laws'''.the-plain) ∷ (StructRow.param Places.the-type Laws''.the-laws Laws''.the-copy
+    Laws''.the-plain) ∷ (Num.pNum Syntax.w64) ∷ List.[]
+
 abbrev pub r·0 : Kinds.RK 3
-r·0 = Value.rVal record { ty = Declared'.row Relayed.the-type; one = Path.refl; val = Laws''''''.val Relayed.the-type Laws''''.the-laws; tells =
-    Laws''''''.tells Relayed.the-type Laws''''.the-laws; still = Laws''''''.still Relayed.the-type Laws''''.the-copy Exit.yes; row = Rows.whole
-    (Declared'.row Relayed.the-type); rd = λ x. x; mk = λ x. x; } λ M 𝓤 H A W. record { copies = Laws''''''.copy Relayed.the-type Laws''''.the-copy 𝓤
-    H A W; lawful = Laws''''''.lawful Relayed.the-type Laws''''.the-laws 𝓤 H A W; makes = Laws''''''.makes Relayed.the-type Laws''''.the-plain 𝓤 H A;
-    in-mem = Local.mem-whole 𝓤 H A W (Declared'.row Relayed.the-type); of-mem = Local.whole-mem 𝓤 H A W (Declared'.row Relayed.the-type); }
+r·0 = StructRow.result Relayed.the-type Laws''''.the-laws Laws''''.the-copy Laws''''.the-plain
+
 abbrev pub ps·1 : List.List (Kinds.PK 3)
-ps·1 = (MutSlice.pMutS RelayCircuit.row 0 tt) ∷ (MutSlice.pMutS InflightAction.row 1 tt) ∷ (MutSlice.pMutS (Referent.rtF (Referent.fInt Syntax.w32)) 2
-    tt) ∷ (Value.pVal record { ty = Declared'.row OpaqueRelayRuntime.the-type; one = Path.refl; val = Laws''''''.val OpaqueRelayRuntime.the-type
-    Laws'''.the-laws; tells = Laws''''''.tells OpaqueRelayRuntime.the-type Laws'''.the-laws; still = Laws''''''.still OpaqueRelayRuntime.the-type
-    Laws'''.the-copy Exit.yes; row = Rows.whole (Declared'.row OpaqueRelayRuntime.the-type); rd = λ x. x; mk = λ x. x; } λ M 𝓤 H A W. record { copies
-    = Laws''''''.copy OpaqueRelayRuntime.the-type Laws'''.the-copy 𝓤 H A W; lawful = Laws''''''.lawful OpaqueRelayRuntime.the-type Laws'''.the-laws 𝓤
-    H A W; makes = Laws''''''.makes OpaqueRelayRuntime.the-type Laws'''.the-plain 𝓤 H A; in-mem = Local.mem-whole 𝓤 H A W (Declared'.row
-    OpaqueRelayRuntime.the-type); of-mem = Local.whole-mem 𝓤 H A W (Declared'.row OpaqueRelayRuntime.the-type); }) ∷ (Value.pVal record { ty =
-    Declared'.row Places.the-type; one = Path.refl; val = Laws''''''.val Places.the-type Laws''.the-laws; tells = Laws''''''.tells Places.the-type
-    Laws''.the-laws; still = Laws''''''.still Places.the-type Laws''.the-copy Exit.yes; row = Rows.whole (Declared'.row Places.the-type); rd = λ x. x;
-    mk = λ x. x; } λ M 𝓤 H A W. record { copies = Laws''''''.copy Places.the-type Laws''.the-copy 𝓤 H A W; lawful = Laws''''''.lawful Places.the-type
-    Laws''.the-laws 𝓤 H A W; makes = Laws''''''.makes Places.the-type Laws''.the-plain 𝓤 H A; in-mem = Local.mem-whole 𝓤 H A W (Declared'.row
-    Places.the-type); of-mem = Local.whole-mem 𝓤 H A W (Declared'.row Places.the-type); }) ∷ (Value.pVal record { ty = Declared.row Notice.the-type;
-    one = Path.refl; val = Laws'''''.val Notice.the-type Laws.the-laws; tells = Laws'''''.tells Notice.the-type Laws.the-laws; still = Laws'''''.still
-    Notice.the-type Laws.the-copy Exit.yes; row = Rows.whole (Declared.row Notice.the-type); rd = λ x. x; mk = λ x. x; } λ M 𝓤 H A W. record { copies
-    = Laws'''''.copy Notice.the-type Laws.the-copy 𝓤 H A W; lawful = Laws'''''.lawful Notice.the-type Laws.the-laws 𝓤 H A W tt; makes =
-    Laws'''''.makes Notice.the-type Laws.the-plain 𝓤 H A; in-mem = Local.mem-whole 𝓤 H A W (Declared.row Notice.the-type); of-mem = Local.whole-mem 𝓤
-    H A W (Declared.row Notice.the-type); }) ∷ (Num.pNum Syntax.w64) ∷ List.[]
+ps·1 = (MutSlice.pMutS RelayCircuit.row 0 tt) ∷ (MutSlice.pMutS InflightAction.row 1 tt) ∷ (MutSlice.pMutS
+    (Referent.rtF (Referent.fInt Syntax.w32)) 2 tt) ∷ (StructRow.param OpaqueRelayRuntime.the-type Laws'''.the-laws
+    Laws'''.the-copy Laws'''.the-plain) ∷ (StructRow.param Places.the-type Laws''.the-laws Laws''.the-copy
+    Laws''.the-plain) ∷ (StructRow.enum-param Notice.the-type Laws.the-laws Laws.the-copy Laws.the-plain tt) ∷
+    (Num.pNum Syntax.w64) ∷ List.[]
+
 abbrev pub r·1 : Kinds.RK 3
-r·1 = Value.rVal record { ty = Declared'.row Relayed.the-type; one = Path.refl; val = Laws''''''.val Relayed.the-type Laws''''.the-laws; tells =
-    Laws''''''.tells Relayed.the-type Laws''''.the-laws; still = Laws''''''.still Relayed.the-type Laws''''.the-copy Exit.yes; row = Rows.whole
-    (Declared'.row Relayed.the-type); rd = λ x. x; mk = λ x. x; } λ M 𝓤 H A W. record { copies = Laws''''''.copy Relayed.the-type Laws''''.the-copy 𝓤
-    H A W; lawful = Laws''''''.lawful Relayed.the-type Laws''''.the-laws 𝓤 H A W; makes = Laws''''''.makes Relayed.the-type Laws''''.the-plain 𝓤 H A;
-    in-mem = Local.mem-whole 𝓤 H A W (Declared'.row Relayed.the-type); of-mem = Local.whole-mem 𝓤 H A W (Declared'.row Relayed.the-type); }
+r·1 = StructRow.result Relayed.the-type Laws''''.the-laws Laws''''.the-copy Laws''''.the-plain
+
 abbrev pub ps·2 : List.List (Kinds.PK 0)
-ps·2 = (Value.pVal record { ty = Declared'.row OpaqueRelayRuntime.the-type; one = Path.refl; val = Laws''''''.val OpaqueRelayRuntime.the-type
-    Laws'''.the-laws; tells = Laws''''''.tells OpaqueRelayRuntime.the-type Laws'''.the-laws; still = Laws''''''.still OpaqueRelayRuntime.the-type
-    Laws'''.the-copy Exit.yes; row = Rows.whole (Declared'.row OpaqueRelayRuntime.the-type); rd = λ x. x; mk = λ x. x; } λ M 𝓤 H A W. record { copies
-    = Laws''''''.copy OpaqueRelayRuntime.the-type Laws'''.the-copy 𝓤 H A W; lawful = Laws''''''.lawful OpaqueRelayRuntime.the-type Laws'''.the-laws 𝓤
-    H A W; makes = Laws''''''.makes OpaqueRelayRuntime.the-type Laws'''.the-plain 𝓤 H A; in-mem = Local.mem-whole 𝓤 H A W (Declared'.row
-    OpaqueRelayRuntime.the-type); of-mem = Local.whole-mem 𝓤 H A W (Declared'.row OpaqueRelayRuntime.the-type); }) ∷ (Value.pVal record { ty =
-    Declared'.row Places.the-type; one = Path.refl; val = Laws''''''.val Places.the-type Laws''.the-laws; tells = Laws''''''.tells Places.the-type
-    Laws''.the-laws; still = Laws''''''.still Places.the-type Laws''.the-copy Exit.yes; row = Rows.whole (Declared'.row Places.the-type); rd = λ x. x;
-    mk = λ x. x; } λ M 𝓤 H A W. record { copies = Laws''''''.copy Places.the-type Laws''.the-copy 𝓤 H A W; lawful = Laws''''''.lawful Places.the-type
-    Laws''.the-laws 𝓤 H A W; makes = Laws''''''.makes Places.the-type Laws''.the-plain 𝓤 H A; in-mem = Local.mem-whole 𝓤 H A W (Declared'.row
-    Places.the-type); of-mem = Local.whole-mem 𝓤 H A W (Declared'.row Places.the-type); }) ∷ List.[]
+ps·2 = (StructRow.param OpaqueRelayRuntime.the-type Laws'''.the-laws Laws'''.the-copy Laws'''.the-plain) ∷ (StructRow.param
+    Places.the-type Laws''.the-laws Laws''.the-copy Laws''.the-plain) ∷ List.[]
+
 abbrev pub r·2 : Kinds.RK 0
-r·2 = Value.rVal record { ty = Declared'.row Relayed.the-type; one = Path.refl; val = Laws''''''.val Relayed.the-type Laws''''.the-laws; tells =
-    Laws''''''.tells Relayed.the-type Laws''''.the-laws; still = Laws''''''.still Relayed.the-type Laws''''.the-copy Exit.yes; row = Rows.whole
-    (Declared'.row Relayed.the-type); rd = λ x. x; mk = λ x. x; } λ M 𝓤 H A W. record { copies = Laws''''''.copy Relayed.the-type Laws''''.the-copy 𝓤
-    H A W; lawful = Laws''''''.lawful Relayed.the-type Laws''''.the-laws 𝓤 H A W; makes = Laws''''''.makes Relayed.the-type Laws''''.the-plain 𝓤 H A;
-    in-mem = Local.mem-whole 𝓤 H A W (Declared'.row Relayed.the-type); of-mem = Local.whole-mem 𝓤 H A W (Declared'.row Relayed.the-type); }
+r·2 = StructRow.result Relayed.the-type Laws''''.the-laws Laws''''.the-copy Laws''''.the-plain
+
 abbrev pub hs : List.List Syntax.Home
-hs = Syntax.valueLocal ∷ Syntax.valueLocal ∷ Syntax.valueLocal ∷ Syntax.valueLocal ∷ Syntax.valueLocal ∷ Syntax.valueLocal ∷ Syntax.valueLocal ∷
-    Syntax.valueLocal ∷ Syntax.valueLocal ∷ Syntax.valueLocal ∷ Syntax.valueLocal ∷ Syntax.valueLocal ∷ Syntax.valueLocal ∷ Syntax.valueLocal ∷
-    Syntax.valueLocal ∷ Syntax.valueLocal ∷ Syntax.valueLocal ∷ Syntax.valueLocal ∷ Syntax.valueLocal ∷ Syntax.valueLocal ∷ Syntax.valueLocal ∷
-    Syntax.valueLocal ∷ List.[]
+hs = Syntax.valueLocal ∷ Syntax.valueLocal ∷ Syntax.valueLocal ∷ Syntax.valueLocal ∷ Syntax.valueLocal ∷
+    Syntax.valueLocal ∷ Syntax.valueLocal ∷ Syntax.valueLocal ∷ Syntax.valueLocal ∷ Syntax.valueLocal ∷
+    Syntax.valueLocal ∷ Syntax.valueLocal ∷ Syntax.valueLocal ∷ Syntax.valueLocal ∷ Syntax.valueLocal ∷
+    Syntax.valueLocal ∷ Syntax.valueLocal ∷ Syntax.valueLocal ∷ Syntax.valueLocal ∷ Syntax.valueLocal ∷
+    Syntax.valueLocal ∷ Syntax.valueLocal ∷ List.[]
+
 abbrev b0 : Syntax.Body
 b0 = Syntax.assign (Syntax.place 8 List.[]) (Syntax.rvOpd (Syntax.copy (Syntax.place 7 ((Syntax.field 5) ∷ List.[]))))
+
 abbrev b1 : Syntax.Body
-b1 = Syntax.assign (Syntax.place 9 List.[]) (Syntax.addrOf (Syntax.place 1 ((Syntax.field 0) ∷ (Syntax.deref RelayPending.ty) ∷ List.[])))
+b1 = Syntax.assign (Syntax.place 9 List.[]) (Syntax.addrOf (Syntax.place 1 ((Syntax.field 0) ∷
+    (Syntax.deref RelayPending.ty) ∷ List.[])))
+
 abbrev b2 : Syntax.Body
-b2 = Syntax.assign (Syntax.place 10 List.[]) (Syntax.aggregate ((Syntax.copy (Syntax.place 9 List.[])) ∷ (Syntax.copy (Syntax.place 1 ((Syntax.field
-    1) ∷ List.[]))) ∷ List.[]))
+b2 = Syntax.assign (Syntax.place 10 List.[]) (Syntax.aggregate ((Syntax.copy (Syntax.place 9 List.[])) ∷
+    (Syntax.copy (Syntax.place 1 ((Syntax.field 1) ∷ List.[]))) ∷ List.[]))
+
 abbrev b3 : Syntax.Body
-b3 = Syntax.assign (Syntax.place 11 List.[]) (Syntax.addrOf (Syntax.place 3 ((Syntax.field 0) ∷ (Syntax.deref InflightAction.ty) ∷ List.[])))
+b3 = Syntax.assign (Syntax.place 11 List.[]) (Syntax.addrOf (Syntax.place 3 ((Syntax.field 0) ∷
+    (Syntax.deref InflightAction.ty) ∷ List.[])))
+
 abbrev b4 : Syntax.Body
-b4 = Syntax.assign (Syntax.place 12 List.[]) (Syntax.aggregate ((Syntax.copy (Syntax.place 11 List.[])) ∷ (Syntax.copy (Syntax.place 3 ((Syntax.field
-    1) ∷ List.[]))) ∷ List.[]))
+b4 = Syntax.assign (Syntax.place 12 List.[]) (Syntax.aggregate ((Syntax.copy (Syntax.place 11 List.[])) ∷
+    (Syntax.copy (Syntax.place 3 ((Syntax.field 1) ∷ List.[]))) ∷ List.[]))
+
 abbrev b5 : Syntax.Body
-b5 = Syntax.assign (Syntax.place 13 List.[]) (Syntax.addrOf (Syntax.place 4 ((Syntax.field 0) ∷ (Syntax.deref (Syntax.tyInt Syntax.w32)) ∷ List.[])))
+b5 = Syntax.assign (Syntax.place 13 List.[]) (Syntax.addrOf (Syntax.place 4 ((Syntax.field 0) ∷
+    (Syntax.deref (Syntax.tyInt Syntax.w32)) ∷ List.[])))
+
 abbrev b6 : Syntax.Body
-b6 = Syntax.assign (Syntax.place 14 List.[]) (Syntax.aggregate ((Syntax.copy (Syntax.place 13 List.[])) ∷ (Syntax.copy (Syntax.place 4 ((Syntax.field
-    1) ∷ List.[]))) ∷ List.[]))
+b6 = Syntax.assign (Syntax.place 14 List.[]) (Syntax.aggregate ((Syntax.copy (Syntax.place 13 List.[])) ∷
+    (Syntax.copy (Syntax.place 4 ((Syntax.field 1) ∷ List.[]))) ∷ List.[]))
+
 abbrev b7 : Syntax.Body
-b7 = Syntax.call "hnsr_circuit::acknowledge::fail_incoming" ((Syntax.copy (Syntax.place 10 List.[])) ∷ (Syntax.copy (Syntax.place 12 List.[])) ∷
-    (Syntax.copy (Syntax.place 14 List.[])) ∷ (Syntax.copy (Syntax.place 5 List.[])) ∷ (Syntax.copy (Syntax.place 6 List.[])) ∷ (Syntax.copy
-    (Syntax.place 7 ((Syntax.field 1) ∷ List.[]))) ∷ List.[]) (Syntax.place 0 List.[])
+b7 = Syntax.call "hnsr_circuit::acknowledge::fail_incoming" ((Syntax.copy (Syntax.place 10 List.[])) ∷
+    (Syntax.copy (Syntax.place 12 List.[])) ∷ (Syntax.copy (Syntax.place 14 List.[])) ∷
+    (Syntax.copy (Syntax.place 5 List.[])) ∷ (Syntax.copy (Syntax.place 6 List.[])) ∷
+    (Syntax.copy (Syntax.place 7 ((Syntax.field 1) ∷ List.[]))) ∷ List.[]) (Syntax.place 0 List.[])
+
 abbrev b8 : Syntax.Body
 b8 = Syntax.return
+
 abbrev b9 : Syntax.Body
 b9 = Syntax.seq b7 b8
+
 abbrev b10 : Syntax.Body
 b10 = Syntax.seq b6 b9
+
 abbrev b11 : Syntax.Body
 b11 = Syntax.seq b5 b10
+
 abbrev b12 : Syntax.Body
 b12 = Syntax.seq b4 b11
+
 abbrev b13 : Syntax.Body
 b13 = Syntax.seq b3 b12
+
 abbrev b14 : Syntax.Body
 b14 = Syntax.seq b2 b13
+
 abbrev b15 : Syntax.Body
 b15 = Syntax.seq b1 b14
+
 abbrev b16 : Syntax.Body
 b16 = Syntax.skip
+
 abbrev b17 : Syntax.Body
 b17 = Syntax.cond (Syntax.copy (Syntax.place 8 List.[])) b15 b16
+
 abbrev b18 : Syntax.Body
 b18 = Syntax.assign (Syntax.place 8 List.[]) (Syntax.rvOpd (Syntax.copy (Syntax.place 7 ((Syntax.field 6) ∷ List.[]))))
+
 abbrev b19 : Syntax.Body
-b19 = Syntax.assign (Syntax.place 15 List.[]) (Syntax.addrOf (Syntax.place 2 ((Syntax.field 0) ∷ (Syntax.deref RelayCircuit.ty) ∷ List.[])))
+b19 = Syntax.assign (Syntax.place 15 List.[]) (Syntax.addrOf (Syntax.place 2 ((Syntax.field 0) ∷
+    (Syntax.deref RelayCircuit.ty) ∷ List.[])))
+
 abbrev b20 : Syntax.Body
-b20 = Syntax.assign (Syntax.place 16 List.[]) (Syntax.aggregate ((Syntax.copy (Syntax.place 15 List.[])) ∷ (Syntax.copy (Syntax.place 2 ((Syntax.field
-    1) ∷ List.[]))) ∷ List.[]))
+b20 = Syntax.assign (Syntax.place 16 List.[]) (Syntax.aggregate ((Syntax.copy (Syntax.place 15 List.[])) ∷
+    (Syntax.copy (Syntax.place 2 ((Syntax.field 1) ∷ List.[]))) ∷ List.[]))
+
 abbrev b21 : Syntax.Body
-b21 = Syntax.assign (Syntax.place 17 List.[]) (Syntax.addrOf (Syntax.place 3 ((Syntax.field 0) ∷ (Syntax.deref InflightAction.ty) ∷ List.[])))
+b21 = Syntax.assign (Syntax.place 17 List.[]) (Syntax.addrOf (Syntax.place 3 ((Syntax.field 0) ∷
+    (Syntax.deref InflightAction.ty) ∷ List.[])))
+
 abbrev b22 : Syntax.Body
-b22 = Syntax.assign (Syntax.place 18 List.[]) (Syntax.aggregate ((Syntax.copy (Syntax.place 17 List.[])) ∷ (Syntax.copy (Syntax.place 3 ((Syntax.field
-    1) ∷ List.[]))) ∷ List.[]))
+b22 = Syntax.assign (Syntax.place 18 List.[]) (Syntax.aggregate ((Syntax.copy (Syntax.place 17 List.[])) ∷
+    (Syntax.copy (Syntax.place 3 ((Syntax.field 1) ∷ List.[]))) ∷ List.[]))
+
 abbrev b23 : Syntax.Body
-b23 = Syntax.assign (Syntax.place 19 List.[]) (Syntax.addrOf (Syntax.place 4 ((Syntax.field 0) ∷ (Syntax.deref (Syntax.tyInt Syntax.w32)) ∷ List.[])))
+b23 = Syntax.assign (Syntax.place 19 List.[]) (Syntax.addrOf (Syntax.place 4 ((Syntax.field 0) ∷
+    (Syntax.deref (Syntax.tyInt Syntax.w32)) ∷ List.[])))
+
 abbrev b24 : Syntax.Body
-b24 = Syntax.assign (Syntax.place 20 List.[]) (Syntax.aggregate ((Syntax.copy (Syntax.place 19 List.[])) ∷ (Syntax.copy (Syntax.place 4 ((Syntax.field
-    1) ∷ List.[]))) ∷ List.[]))
+b24 = Syntax.assign (Syntax.place 20 List.[]) (Syntax.aggregate ((Syntax.copy (Syntax.place 19 List.[])) ∷
+    (Syntax.copy (Syntax.place 4 ((Syntax.field 1) ∷ List.[]))) ∷ List.[]))
+
 abbrev b25 : Syntax.Body
 b25 = Syntax.assign (Syntax.place 21 List.[]) (Syntax.aggregate ((Syntax.int Syntax.w8 6) ∷ List.[]))
+
 abbrev b26 : Syntax.Body
-b26 = Syntax.call "hnsr_circuit::revocation::revoke_one" ((Syntax.copy (Syntax.place 16 List.[])) ∷ (Syntax.copy (Syntax.place 18 List.[])) ∷
-    (Syntax.copy (Syntax.place 20 List.[])) ∷ (Syntax.copy (Syntax.place 5 List.[])) ∷ (Syntax.copy (Syntax.place 6 List.[])) ∷ (Syntax.copy
-    (Syntax.place 21 List.[])) ∷ (Syntax.copy (Syntax.place 7 ((Syntax.field 1) ∷ List.[]))) ∷ List.[]) (Syntax.place 0 List.[])
+b26 = Syntax.call "hnsr_circuit::revocation::revoke_one" ((Syntax.copy (Syntax.place 16 List.[])) ∷
+    (Syntax.copy (Syntax.place 18 List.[])) ∷ (Syntax.copy (Syntax.place 20 List.[])) ∷
+    (Syntax.copy (Syntax.place 5 List.[])) ∷ (Syntax.copy (Syntax.place 6 List.[])) ∷
+    (Syntax.copy (Syntax.place 21 List.[])) ∷ (Syntax.copy (Syntax.place 7 ((Syntax.field 1) ∷ List.[]))) ∷ List.[])
+    (Syntax.place 0 List.[])
+
 abbrev b27 : Syntax.Body
 b27 = Syntax.return
+
 abbrev b28 : Syntax.Body
 b28 = Syntax.seq b26 b27
+
 abbrev b29 : Syntax.Body
 b29 = Syntax.seq b25 b28
+
 abbrev b30 : Syntax.Body
 b30 = Syntax.seq b24 b29
+
 abbrev b31 : Syntax.Body
 b31 = Syntax.seq b23 b30
+
 abbrev b32 : Syntax.Body
 b32 = Syntax.seq b22 b31
+
 abbrev b33 : Syntax.Body
 b33 = Syntax.seq b21 b32
+
 abbrev b34 : Syntax.Body
 b34 = Syntax.seq b20 b33
+
 abbrev b35 : Syntax.Body
 b35 = Syntax.seq b19 b34
+
 abbrev b36 : Syntax.Body
 b36 = Syntax.skip
+
 abbrev b37 : Syntax.Body
 b37 = Syntax.cond (Syntax.copy (Syntax.place 8 List.[])) b35 b36
+
 abbrev b38 : Syntax.Body
-b38 = Syntax.call "hnsr_circuit::revoking_calls::taken_with" ((Syntax.copy (Syntax.place 5 List.[])) ∷ (Syntax.copy (Syntax.place 6 List.[])) ∷
-    List.[]) (Syntax.place 0 List.[])
+b38 = Syntax.call "hnsr_circuit::revoking_calls::taken_with" ((Syntax.copy (Syntax.place 5 List.[])) ∷
+    (Syntax.copy (Syntax.place 6 List.[])) ∷ List.[]) (Syntax.place 0 List.[])
+
 abbrev b39 : Syntax.Body
 b39 = Syntax.return
+
 abbrev b40 : Syntax.Body
 b40 = Syntax.seq b38 b39
+
 abbrev b41 : Syntax.Body
 b41 = Syntax.seq b37 b40
+
 abbrev b42 : Syntax.Body
 b42 = Syntax.seq b18 b41
+
 abbrev b43 : Syntax.Body
 b43 = Syntax.seq b17 b42
+
 abbrev b44 : Syntax.Body
 b44 = Syntax.seq b0 b43
+
 abbrev pub body : Syntax.Body
 body = b44
+
 abbrev pub Claims : Type 1
-Claims = Kinds.In 3 ps·0 × Kinds.Out 3 ps·0 r·0 × Kinds.In 3 ps·1 × Kinds.Out 3 ps·1 r·1 × Kinds.In 0 ps·2 × Kinds.Out 0 ps·2 r·2
+Claims = Kinds.In 3 ps·0 × Kinds.Out 3 ps·0 r·0 × Kinds.In 3 ps·1 × Kinds.Out 3 ps·1 r·1 × Kinds.In 0 ps·2 × Kinds.Out
+    0 ps·2 r·2
+
 abbrev e0 : Row.Entry
 e0 = (0, Rows.any-gone Laws''''.mir)
+
 abbrev e1 : Row.Entry
 e1 = (1, Mut.mslice RelayPending.row ref4 0)
+
 abbrev e2 : Row.Entry
 e2 = (2, Mut.mslice RelayCircuit.row ref5 1)
+
 abbrev e3 : Row.Entry
 e3 = (3, Mut.mslice InflightAction.row ref6 2)
+
 abbrev e4 : Row.Entry
 e4 = (4, Mut.mslice (Referent.rtF (Referent.fInt Syntax.w32)) ref7 3)
+
 abbrev e5 : Row.Entry
 e5 = (5, Rows.whole (Declared'.row OpaqueRelayRuntime.the-type))
+
 abbrev e6 : Row.Entry
 e6 = (6, Rows.whole (Declared'.row Places.the-type))
+
 abbrev e7 : Row.Entry
 e7 = (7, Rows.whole (Declared'.row SettlePlan.the-type))
+
 abbrev e8 : Row.Entry
 e8 = (8, Rows.any-gone Syntax.tyBool)
+
 abbrev e9 : Row.Entry
 e9 = (9, Rows.any-gone ref0)
+
 abbrev e10 : Row.Entry
-e10 = (10, Rows.any-gone (Syntax.tyStruct (38 ∷ 91 ∷ 93 ∷ List.[]) (Syntax.tcons ref0 (Syntax.tcons (Syntax.tyInt Syntax.w64) Syntax.tnil))))
+e10 = (10, Rows.any-gone slice0)
+
 abbrev e11 : Row.Entry
 e11 = (11, Rows.any-gone ref1)
+
 abbrev e12 : Row.Entry
-e12 = (12, Rows.any-gone (Syntax.tyStruct (38 ∷ 91 ∷ 93 ∷ List.[]) (Syntax.tcons ref1 (Syntax.tcons (Syntax.tyInt Syntax.w64) Syntax.tnil))))
+e12 = (12, Rows.any-gone slice1)
+
 abbrev e13 : Row.Entry
 e13 = (13, Rows.any-gone ref2)
+
 abbrev e14 : Row.Entry
-e14 = (14, Rows.any-gone (Syntax.tyStruct (38 ∷ 91 ∷ 93 ∷ List.[]) (Syntax.tcons ref2 (Syntax.tcons (Syntax.tyInt Syntax.w64) Syntax.tnil))))
+e14 = (14, Rows.any-gone slice2)
+
 abbrev e15 : Row.Entry
 e15 = (15, Rows.any-gone ref3)
+
 abbrev e16 : Row.Entry
-e16 = (16, Rows.any-gone (Syntax.tyStruct (38 ∷ 91 ∷ 93 ∷ List.[]) (Syntax.tcons ref3 (Syntax.tcons (Syntax.tyInt Syntax.w64) Syntax.tnil))))
+e16 = (16, Rows.any-gone slice3)
+
 abbrev e17 : Row.Entry
 e17 = (17, Rows.any-gone ref1)
+
 abbrev e18 : Row.Entry
-e18 = (18, Rows.any-gone (Syntax.tyStruct (38 ∷ 91 ∷ 93 ∷ List.[]) (Syntax.tcons ref1 (Syntax.tcons (Syntax.tyInt Syntax.w64) Syntax.tnil))))
+e18 = (18, Rows.any-gone slice1)
+
 abbrev e19 : Row.Entry
 e19 = (19, Rows.any-gone ref2)
+
 abbrev e20 : Row.Entry
-e20 = (20, Rows.any-gone (Syntax.tyStruct (38 ∷ 91 ∷ 93 ∷ List.[]) (Syntax.tcons ref2 (Syntax.tcons (Syntax.tyInt Syntax.w64) Syntax.tnil))))
+e20 = (20, Rows.any-gone slice2)
+
 abbrev e21 : Row.Entry
 e21 = (21, Rows.any-gone Laws.mir)
+
 abbrev e0·1 : Row.Entry
 e0·1 = (0, Rows.whole (Declared'.row Relayed.the-type))
+
 abbrev e5·1 : Row.Entry
 e5·1 = (5, Rows.any-gone Laws'''.mir)
+
 abbrev e6·1 : Row.Entry
 e6·1 = (6, Rows.any-gone Laws''.mir)
+
 abbrev e7·1 : Row.Entry
 e7·1 = (7, Rows.any-gone Laws'.mir)
+
 abbrev e8·1 : Row.Entry
 e8·1 = (8, Rows.sc-here Row.sBool)
+
 abbrev e1·1 : Row.Entry
 e1·1 = (1, Relend.mslice-owed RelayPending.row ref4 0 4 Row.off)
+
 abbrev e9·1 : Row.Entry
 e9·1 = (9, Relend.msptr RelayPending.row ref0 4)
+
 abbrev e10·1 : Row.Entry
 e10·1 = (10, Mut.mslice RelayPending.row ref0 4)
+
 abbrev e3·1 : Row.Entry
 e3·1 = (3, Relend.mslice-owed InflightAction.row ref6 2 5 Row.off)
+
 abbrev e11·1 : Row.Entry
 e11·1 = (11, Relend.msptr InflightAction.row ref1 5)
+
 abbrev e12·1 : Row.Entry
 e12·1 = (12, Mut.mslice InflightAction.row ref1 5)
+
 abbrev e4·1 : Row.Entry
 e4·1 = (4, Relend.mslice-owed (Referent.rtF (Referent.fInt Syntax.w32)) ref7 3 6 Row.off)
+
 abbrev e13·1 : Row.Entry
 e13·1 = (13, Relend.msptr (Referent.rtF (Referent.fInt Syntax.w32)) ref2 6)
+
 abbrev e14·1 : Row.Entry
 e14·1 = (14, Mut.mslice (Referent.rtF (Referent.fInt Syntax.w32)) ref2 6)
+
 abbrev e10·2 : Row.Entry
 e10·2 = (10, Mut.msleft RelayPending.row ref0)
+
 abbrev e12·2 : Row.Entry
 e12·2 = (12, Mut.msleft InflightAction.row ref1)
+
 abbrev e14·2 : Row.Entry
 e14·2 = (14, Mut.msleft (Referent.rtF (Referent.fInt Syntax.w32)) ref2)
+
 abbrev e2·1 : Row.Entry
 e2·1 = (2, Relend.mslice-owed RelayCircuit.row ref5 1 7 Row.off)
+
 abbrev e15·1 : Row.Entry
 e15·1 = (15, Relend.msptr RelayCircuit.row ref3 7)
+
 abbrev e16·1 : Row.Entry
 e16·1 = (16, Mut.mslice RelayCircuit.row ref3 7)
+
 abbrev e3·2 : Row.Entry
 e3·2 = (3, Relend.mslice-owed InflightAction.row ref6 2 8 Row.off)
+
 abbrev e17·1 : Row.Entry
 e17·1 = (17, Relend.msptr InflightAction.row ref1 8)
+
 abbrev e18·1 : Row.Entry
 e18·1 = (18, Mut.mslice InflightAction.row ref1 8)
+
 abbrev e4·2 : Row.Entry
 e4·2 = (4, Relend.mslice-owed (Referent.rtF (Referent.fInt Syntax.w32)) ref7 3 9 Row.off)
+
 abbrev e19·1 : Row.Entry
 e19·1 = (19, Relend.msptr (Referent.rtF (Referent.fInt Syntax.w32)) ref2 9)
+
 abbrev e20·1 : Row.Entry
 e20·1 = (20, Mut.mslice (Referent.rtF (Referent.fInt Syntax.w32)) ref2 9)
+
 abbrev e21·1 : Row.Entry
 e21·1 = (21, Rows.whole (Declared.row Notice.the-type))
+
 abbrev e16·2 : Row.Entry
 e16·2 = (16, Mut.msleft RelayCircuit.row ref3)
+
 abbrev e18·2 : Row.Entry
 e18·2 = (18, Mut.msleft InflightAction.row ref1)
+
 abbrev e20·2 : Row.Entry
 e20·2 = (20, Mut.msleft (Referent.rtF (Referent.fInt Syntax.w32)) ref2)
+
 abbrev pub t0 : List.List Row.Entry
 t0 = e0 ∷ e1 ∷ e2 ∷ e3 ∷ e4 ∷ e5 ∷ e6 ∷ e7 ∷ e8 ∷ e9 ∷ e10 ∷ e11 ∷ e12 ∷ e13 ∷ e14 ∷ e15 ∷ List.[]
+
 abbrev pub t1 : List.List Row.Entry
 t1 = e16 ∷ e17 ∷ e18 ∷ e19 ∷ e20 ∷ e21 ∷ List.[]
+
 abbrev pub t2 : List.List Row.Entry
 t2 = e0·1 ∷ e1 ∷ e2 ∷ e3 ∷ e4 ∷ e5·1 ∷ e6·1 ∷ e7·1 ∷ e8 ∷ e9 ∷ e10 ∷ e11 ∷ e12 ∷ e13 ∷ e14 ∷ e15 ∷ List.[]
+
 abbrev pub t3 : List.List Row.Entry
 t3 = e0 ∷ e1 ∷ e2 ∷ e3 ∷ e4 ∷ e5 ∷ e6 ∷ e7 ∷ e8·1 ∷ e9 ∷ e10 ∷ e11 ∷ e12 ∷ e13 ∷ e14 ∷ e15 ∷ List.[]
+
 abbrev pub t4 : List.List Row.Entry
 t4 = e0 ∷ e1·1 ∷ e2 ∷ e3 ∷ e4 ∷ e5 ∷ e6 ∷ e7 ∷ e8 ∷ e9·1 ∷ e10 ∷ e11 ∷ e12 ∷ e13 ∷ e14 ∷ e15 ∷ List.[]
+
 abbrev pub t5 : List.List Row.Entry
 t5 = e0 ∷ e1·1 ∷ e2 ∷ e3 ∷ e4 ∷ e5 ∷ e6 ∷ e7 ∷ e8 ∷ e9 ∷ e10·1 ∷ e11 ∷ e12 ∷ e13 ∷ e14 ∷ e15 ∷ List.[]
+
 abbrev pub t6 : List.List Row.Entry
 t6 = e0 ∷ e1·1 ∷ e2 ∷ e3·1 ∷ e4 ∷ e5 ∷ e6 ∷ e7 ∷ e8 ∷ e9 ∷ e10·1 ∷ e11·1 ∷ e12 ∷ e13 ∷ e14 ∷ e15 ∷ List.[]
+
 abbrev pub t7 : List.List Row.Entry
 t7 = e0 ∷ e1·1 ∷ e2 ∷ e3·1 ∷ e4 ∷ e5 ∷ e6 ∷ e7 ∷ e8 ∷ e9 ∷ e10·1 ∷ e11 ∷ e12·1 ∷ e13 ∷ e14 ∷ e15 ∷ List.[]
+
 abbrev pub t8 : List.List Row.Entry
 t8 = e0 ∷ e1·1 ∷ e2 ∷ e3·1 ∷ e4·1 ∷ e5 ∷ e6 ∷ e7 ∷ e8 ∷ e9 ∷ e10·1 ∷ e11 ∷ e12·1 ∷ e13·1 ∷ e14 ∷ e15 ∷ List.[]
+
 abbrev pub t9 : List.List Row.Entry
 t9 = e0 ∷ e1·1 ∷ e2 ∷ e3·1 ∷ e4·1 ∷ e5 ∷ e6 ∷ e7 ∷ e8 ∷ e9 ∷ e10·1 ∷ e11 ∷ e12·1 ∷ e13 ∷ e14·1 ∷ e15 ∷ List.[]
+
 abbrev pub t10 : List.List Row.Entry
 t10 = e0·1 ∷ e1·1 ∷ e2 ∷ e3·1 ∷ e4·1 ∷ e5 ∷ e6 ∷ e7 ∷ e8 ∷ e9 ∷ e10·2 ∷ e11 ∷ e12·2 ∷ e13 ∷ e14·2 ∷ e15 ∷ List.[]
+
 abbrev pub t11 : List.List Row.Entry
 t11 = e0·1 ∷ e1·1 ∷ e2 ∷ e3·1 ∷ e4·1 ∷ e5·1 ∷ e6 ∷ e7 ∷ e8 ∷ e9 ∷ e10·2 ∷ e11 ∷ e12·2 ∷ e13 ∷ e14·2 ∷ e15 ∷ List.[]
+
 abbrev pub t12 : List.List Row.Entry
 t12 = e0·1 ∷ e1·1 ∷ e2 ∷ e3·1 ∷ e4·1 ∷ e5·1 ∷ e6·1 ∷ e7 ∷ e8 ∷ e9 ∷ e10·2 ∷ e11 ∷ e12·2 ∷ e13 ∷ e14·2 ∷ e15 ∷ List.[]
+
 abbrev pub t13 : List.List Row.Entry
 t13 = e0·1 ∷ e1·1 ∷ e2 ∷ e3·1 ∷ e4·1 ∷ e5·1 ∷ e6·1 ∷ e7·1 ∷ e8 ∷ e9 ∷ e10·2 ∷ e11 ∷ e12·2 ∷ e13 ∷ e14·2 ∷ e15 ∷ List.[]
+
 abbrev pub t14 : List.List Row.Entry
 t14 = e0·1 ∷ e1 ∷ e2 ∷ e3·1 ∷ e4·1 ∷ e5·1 ∷ e6·1 ∷ e7·1 ∷ e8 ∷ e9 ∷ e10 ∷ e11 ∷ e12·2 ∷ e13 ∷ e14·2 ∷ e15 ∷ List.[]
+
 abbrev pub t15 : List.List Row.Entry
 t15 = e0·1 ∷ e1 ∷ e2 ∷ e3 ∷ e4·1 ∷ e5·1 ∷ e6·1 ∷ e7·1 ∷ e8 ∷ e9 ∷ e10 ∷ e11 ∷ e12 ∷ e13 ∷ e14·2 ∷ e15 ∷ List.[]
+
 abbrev pub t16 : List.List Row.Entry
 t16 = e0 ∷ e1 ∷ e2 ∷ e3 ∷ e4 ∷ e5 ∷ e6 ∷ e7·1 ∷ e8 ∷ e9 ∷ e10 ∷ e11 ∷ e12 ∷ e13 ∷ e14 ∷ e15 ∷ List.[]
+
 abbrev pub t17 : List.List Row.Entry
 t17 = e0 ∷ e1 ∷ e2·1 ∷ e3 ∷ e4 ∷ e5 ∷ e6 ∷ e7 ∷ e8 ∷ e9 ∷ e10 ∷ e11 ∷ e12 ∷ e13 ∷ e14 ∷ e15·1 ∷ List.[]
+
 abbrev pub t18 : List.List Row.Entry
 t18 = e0 ∷ e1 ∷ e2·1 ∷ e3 ∷ e4 ∷ e5 ∷ e6 ∷ e7 ∷ e8 ∷ e9 ∷ e10 ∷ e11 ∷ e12 ∷ e13 ∷ e14 ∷ e15 ∷ List.[]
+
 abbrev pub t19 : List.List Row.Entry
 t19 = e16·1 ∷ e17 ∷ e18 ∷ e19 ∷ e20 ∷ e21 ∷ List.[]
+
 abbrev pub t20 : List.List Row.Entry
 t20 = e0 ∷ e1 ∷ e2·1 ∷ e3·2 ∷ e4 ∷ e5 ∷ e6 ∷ e7 ∷ e8 ∷ e9 ∷ e10 ∷ e11 ∷ e12 ∷ e13 ∷ e14 ∷ e15 ∷ List.[]
+
 abbrev pub t21 : List.List Row.Entry
 t21 = e16·1 ∷ e17·1 ∷ e18 ∷ e19 ∷ e20 ∷ e21 ∷ List.[]
+
 abbrev pub t22 : List.List Row.Entry
 t22 = e16·1 ∷ e17 ∷ e18·1 ∷ e19 ∷ e20 ∷ e21 ∷ List.[]
+
 abbrev pub t23 : List.List Row.Entry
 t23 = e0 ∷ e1 ∷ e2·1 ∷ e3·2 ∷ e4·2 ∷ e5 ∷ e6 ∷ e7 ∷ e8 ∷ e9 ∷ e10 ∷ e11 ∷ e12 ∷ e13 ∷ e14 ∷ e15 ∷ List.[]
+
 abbrev pub t24 : List.List Row.Entry
 t24 = e16·1 ∷ e17 ∷ e18·1 ∷ e19·1 ∷ e20 ∷ e21 ∷ List.[]
+
 abbrev pub t25 : List.List Row.Entry
 t25 = e16·1 ∷ e17 ∷ e18·1 ∷ e19 ∷ e20·1 ∷ e21 ∷ List.[]
+
 abbrev pub t26 : List.List Row.Entry
 t26 = e16·1 ∷ e17 ∷ e18·1 ∷ e19 ∷ e20·1 ∷ e21·1 ∷ List.[]
+
 abbrev pub t27 : List.List Row.Entry
 t27 = e0·1 ∷ e1 ∷ e2·1 ∷ e3·2 ∷ e4·2 ∷ e5 ∷ e6 ∷ e7 ∷ e8 ∷ e9 ∷ e10 ∷ e11 ∷ e12 ∷ e13 ∷ e14 ∷ e15 ∷ List.[]
+
 abbrev pub t28 : List.List Row.Entry
 t28 = e16·2 ∷ e17 ∷ e18·2 ∷ e19 ∷ e20·2 ∷ e21·1 ∷ List.[]
+
 abbrev pub t29 : List.List Row.Entry
 t29 = e0·1 ∷ e1 ∷ e2·1 ∷ e3·2 ∷ e4·2 ∷ e5·1 ∷ e6 ∷ e7 ∷ e8 ∷ e9 ∷ e10 ∷ e11 ∷ e12 ∷ e13 ∷ e14 ∷ e15 ∷ List.[]
+
 abbrev pub t30 : List.List Row.Entry
 t30 = e0·1 ∷ e1 ∷ e2·1 ∷ e3·2 ∷ e4·2 ∷ e5·1 ∷ e6·1 ∷ e7 ∷ e8 ∷ e9 ∷ e10 ∷ e11 ∷ e12 ∷ e13 ∷ e14 ∷ e15 ∷ List.[]
+
 abbrev pub t31 : List.List Row.Entry
 t31 = e0·1 ∷ e1 ∷ e2·1 ∷ e3·2 ∷ e4·2 ∷ e5·1 ∷ e6·1 ∷ e7·1 ∷ e8 ∷ e9 ∷ e10 ∷ e11 ∷ e12 ∷ e13 ∷ e14 ∷ e15 ∷ List.[]
+
 abbrev pub t32 : List.List Row.Entry
 t32 = e16·2 ∷ e17 ∷ e18·2 ∷ e19 ∷ e20·2 ∷ e21 ∷ List.[]
+
 abbrev pub t33 : List.List Row.Entry
 t33 = e0·1 ∷ e1 ∷ e2 ∷ e3·2 ∷ e4·2 ∷ e5·1 ∷ e6·1 ∷ e7·1 ∷ e8 ∷ e9 ∷ e10 ∷ e11 ∷ e12 ∷ e13 ∷ e14 ∷ e15 ∷ List.[]
+
 abbrev pub t34 : List.List Row.Entry
 t34 = e16 ∷ e17 ∷ e18·2 ∷ e19 ∷ e20·2 ∷ e21 ∷ List.[]
+
 abbrev pub t35 : List.List Row.Entry
 t35 = e0·1 ∷ e1 ∷ e2 ∷ e3 ∷ e4·2 ∷ e5·1 ∷ e6·1 ∷ e7·1 ∷ e8 ∷ e9 ∷ e10 ∷ e11 ∷ e12 ∷ e13 ∷ e14 ∷ e15 ∷ List.[]
+
 abbrev pub t36 : List.List Row.Entry
 t36 = e16 ∷ e17 ∷ e18 ∷ e19 ∷ e20·2 ∷ e21 ∷ List.[]
+
 abbrev pub t37 : List.List Row.Entry
 t37 = e0 ∷ e1 ∷ e2 ∷ e3 ∷ e4 ∷ e5 ∷ e6 ∷ e7·1 ∷ e8·1 ∷ e9 ∷ e10 ∷ e11 ∷ e12 ∷ e13 ∷ e14 ∷ e15 ∷ List.[]
+
 abbrev pub t38 : List.List Row.Entry
 t38 = e0·1 ∷ e1 ∷ e2 ∷ e3 ∷ e4 ∷ e5 ∷ e6 ∷ e7·1 ∷ e8 ∷ e9 ∷ e10 ∷ e11 ∷ e12 ∷ e13 ∷ e14 ∷ e15 ∷ List.[]
+
 abbrev pub t39 : List.List Row.Entry
 t39 = e0·1 ∷ e1 ∷ e2 ∷ e3 ∷ e4 ∷ e5·1 ∷ e6 ∷ e7·1 ∷ e8 ∷ e9 ∷ e10 ∷ e11 ∷ e12 ∷ e13 ∷ e14 ∷ e15 ∷ List.[]
+
 abbrev pub T0 : Row.Cx
 T0 = record { locals = List._++_ t0 t1; slots = List.[] }
+
 abbrev pub T1 : Row.Cx
 T1 = record { locals = List._++_ t2 t1; slots = List.[] }
+
 abbrev pub T2 : Row.Cx
 T2 = record { locals = List._++_ t0 t1; slots = List.[] }
+
 abbrev pub T3 : Row.Cx
 T3 = record { locals = List._++_ t3 t1; slots = List.[] }
+
 abbrev pub T4 : Row.Cx
 T4 = record { locals = List._++_ t0 t1; slots = List.[] }
+
 abbrev pub T5 : Row.Cx
 T5 = record { locals = List._++_ t0 t1; slots = List.[] }
+
 abbrev pub T7 : Row.Cx
 T7 = record { locals = List._++_ t4 t1; slots = List.[] }
+
 abbrev pub T8 : Row.Cx
 T8 = record { locals = List._++_ t5 t1; slots = List.[] }
+
 abbrev pub T10 : Row.Cx
 T10 = record { locals = List._++_ t6 t1; slots = List.[] }
+
 abbrev pub T11 : Row.Cx
 T11 = record { locals = List._++_ t7 t1; slots = List.[] }
+
 abbrev pub T13 : Row.Cx
 T13 = record { locals = List._++_ t8 t1; slots = List.[] }
+
 abbrev pub T14 : Row.Cx
 T14 = record { locals = List._++_ t9 t1; slots = List.[] }
+
 abbrev pub T15 : Row.Cx
 T15 = record { locals = List._++_ t10 t1; slots = List.[] }
+
 abbrev pub T16 : Row.Cx
 T16 = record { locals = List._++_ t11 t1; slots = List.[] }
+
 abbrev pub T17 : Row.Cx
 T17 = record { locals = List._++_ t12 t1; slots = List.[] }
+
 abbrev pub T18 : Row.Cx
 T18 = record { locals = List._++_ t13 t1; slots = List.[] }
+
 abbrev pub T20 : Row.Cx
 T20 = record { locals = List._++_ t14 t1; slots = List.[] }
+
 abbrev pub T23 : Row.Cx
 T23 = record { locals = List._++_ t15 t1; slots = List.[] }
+
 abbrev pub T26 : Row.Cx
 T26 = record { locals = List._++_ t2 t1; slots = List.[] }
+
 abbrev pub T27 : Row.Cx
 T27 = record { locals = List._++_ t2 t1; slots = List.[] }
+
 abbrev pub T29 : Row.Cx
 T29 = record { locals = List._++_ t0 t1; slots = List.[] }
+
 abbrev pub T30 : Row.Cx
 T30 = record { locals = List._++_ t3 t1; slots = List.[] }
+
 abbrev pub T31 : Row.Cx
 T31 = record { locals = List._++_ t16 t1; slots = List.[] }
+
 abbrev pub T32 : Row.Cx
 T32 = record { locals = List._++_ t0 t1; slots = List.[] }
+
 abbrev pub T34 : Row.Cx
 T34 = record { locals = List._++_ t17 t1; slots = List.[] }
+
 abbrev pub T35 : Row.Cx
 T35 = record { locals = List._++_ t18 t19; slots = List.[] }
+
 abbrev pub T37 : Row.Cx
 T37 = record { locals = List._++_ t20 t21; slots = List.[] }
+
 abbrev pub T38 : Row.Cx
 T38 = record { locals = List._++_ t20 t22; slots = List.[] }
+
 abbrev pub T40 : Row.Cx
 T40 = record { locals = List._++_ t23 t24; slots = List.[] }
+
 abbrev pub T41 : Row.Cx
 T41 = record { locals = List._++_ t23 t25; slots = List.[] }
+
 abbrev pub T42 : Row.Cx
 T42 = record { locals = List._++_ t23 t26; slots = List.[] }
+
 abbrev pub T43 : Row.Cx
 T43 = record { locals = List._++_ t27 t28; slots = List.[] }
+
 abbrev pub T44 : Row.Cx
 T44 = record { locals = List._++_ t29 t28; slots = List.[] }
+
 abbrev pub T45 : Row.Cx
 T45 = record { locals = List._++_ t30 t28; slots = List.[] }
+
 abbrev pub T46 : Row.Cx
 T46 = record { locals = List._++_ t31 t28; slots = List.[] }
+
 abbrev pub T47 : Row.Cx
 T47 = record { locals = List._++_ t31 t32; slots = List.[] }
+
 abbrev pub T49 : Row.Cx
 T49 = record { locals = List._++_ t33 t34; slots = List.[] }
+
 abbrev pub T52 : Row.Cx
 T52 = record { locals = List._++_ t35 t36; slots = List.[] }
+
 abbrev pub T55 : Row.Cx
 T55 = record { locals = List._++_ t2 t1; slots = List.[] }
+
 abbrev pub T56 : Row.Cx
 T56 = record { locals = List._++_ t2 t1; slots = List.[] }
+
 abbrev pub T58 : Row.Cx
 T58 = record { locals = List._++_ t37 t1; slots = List.[] }
+
 abbrev pub T59 : Row.Cx
 T59 = record { locals = List._++_ t16 t1; slots = List.[] }
+
 abbrev pub T60 : Row.Cx
 T60 = record { locals = List._++_ t38 t1; slots = List.[] }
+
 abbrev pub T61 : Row.Cx
 T61 = record { locals = List._++_ t39 t1; slots = List.[] }
+
 abbrev pub T62 : Row.Cx
 T62 = record { locals = List._++_ t2 t1; slots = List.[] }
+
 abbrev pub O0 : Typed.Outs
 O0 = record { next = Option.none; exits = List.[]; returns = Option.some T1 }
+
 abbrev pub O1 : Typed.Outs
 O1 = Typed.withNext (Option.some T4) O0
+
 abbrev pub O2 : Typed.Outs
 O2 = Typed.withNext (Option.some T31) O0
+
 module _ (claims· : Claims) where
   abbrev s0 : Typed.Gives T0 T2
   s0 = Know.k-sl-known (Referent.fInt Syntax.w32) T0 4 3 ref7 Row.off 0 λ x. x
+
   abbrev s1 : Typed.Mo T2 → Typed.Mo T3
-  s1 = Scalar.n-use T2 (Scalar.oFld 7 ((Syntax.field 5) ∷ List.[]) Syntax.tyBool 32 (Reads.fieldV SettlePlan.the-type Laws'.the-laws 5)) 8
-      (Rows.sc-here Row.sBool) (Row.sBool .of)
+  s1 = Scalar.n-use T2 (Scalar.oFld 7 ((Syntax.field 5) ∷ List.[]) Syntax.tyBool 32
+      (Reads.fieldV SettlePlan.the-type Laws'.the-laws 5)) 8 (Rows.sc-here Row.sBool) (Row.sBool .of)
+
   abbrev s2 : Typed.Mo T3 → Typed.Mo T5
   s2 = Scalar.n-room T3 8 Syntax.tyBool
+
   abbrev s4 : Typed.Gives T5 T7
   s4 = Relend.k-sl-relend RelayPending.row T5 1 9 0 4 ref4 ref0 Row.off λ x. x
+
   abbrev s5 : Typed.Asks T7 T8
-  s5 = Relend.k-sl-aggregate RelayPending.row (Relend.asMut RelayPending.row) T7 9 10 4 ref0 ref0 (λ x. x) (Scalar.oFld 1 ((Syntax.field 1) ∷ List.[])
-      (Syntax.tyInt Syntax.w64) 8 λ v. Shared.lenV (v .0))
+  s5 = Relend.k-sl-aggregate RelayPending.row (Relend.asMut RelayPending.row) T7 9 10 4 ref0 ref0 (λ x. x) (Scalar.oFld
+      1 ((Syntax.field 1) ∷ List.[]) (Syntax.tyInt Syntax.w64) 8 λ v. Shared.lenV (v .0))
+
   abbrev s7 : Typed.Gives T8 T10
   s7 = Relend.k-sl-relend InflightAction.row T8 3 11 2 5 ref6 ref1 Row.off λ x. x
+
   abbrev s8 : Typed.Asks T10 T11
-  s8 = Relend.k-sl-aggregate InflightAction.row (Relend.asMut InflightAction.row) T10 11 12 5 ref1 ref1 (λ x. x) (Scalar.oFld 3 ((Syntax.field 1) ∷
-      List.[]) (Syntax.tyInt Syntax.w64) 8 λ v. Shared.lenV (v .0))
+  s8 = Relend.k-sl-aggregate InflightAction.row (Relend.asMut InflightAction.row) T10 11 12 5 ref1 ref1 (λ x. x) (Scalar.oFld
+      3 ((Syntax.field 1) ∷ List.[]) (Syntax.tyInt Syntax.w64) 8 λ v. Shared.lenV (v .0))
+
   abbrev s10 : Typed.Gives T11 T13
   s10 = Relend.k-sl-relend (Referent.rtF (Referent.fInt Syntax.w32)) T11 4 13 3 6 ref7 ref2 Row.off λ x. x
+
   abbrev s11 : Typed.Asks T13 T14
-  s11 = Relend.k-sl-aggregate (Referent.rtF (Referent.fInt Syntax.w32)) (Relend.asMut (Referent.rtF (Referent.fInt Syntax.w32))) T13 13 14 6 ref2 ref2
-      (λ x. x) (Scalar.oFld 4 ((Syntax.field 1) ∷ List.[]) (Syntax.tyInt Syntax.w64) 8 λ v. Shared.lenV (v .0))
+  s11 = Relend.k-sl-aggregate (Referent.rtF (Referent.fInt Syntax.w32))
+      (Relend.asMut (Referent.rtF (Referent.fInt Syntax.w32))) T13 13 14 6 ref2 ref2 (λ x. x) (Scalar.oFld 4
+      ((Syntax.field 1) ∷ List.[]) (Syntax.tyInt Syntax.w64) 8 λ v. Shared.lenV (v .0))
+
+  abbrev args12 : Args'.ArgsT ps·0 (T14 .locals)
+  args12 = (
+    record { pos = 10; ty = ref0; ref = λ x. x },
+    (
+      record { pos = 12; ty = ref1; ref = λ x. x },
+      (
+        record { pos = 14; ty = ref2; ref = λ x. x },
+        (
+          record { pos = 5; st = List.[]; d = 0; at = λ x. x },
+          (
+            record { pos = 6; st = List.[]; d = 0; at = λ x. x },
+            (Num.vFld 7 ((Syntax.field 1) ∷ List.[]) 8 λ x. SettlePlan.struct .as-values x .1 .0, tt),
+          ),
+        ),
+      ),
+    ),
+  )
+
   abbrev s12 : Typed.Both T14 T15
-  s12 = Call.callB ps·0 r·0 (claims· .0) (claims· .1) T14 (record { pos = 10; ty = Syntax.tyRef Syntax.erased Syntax.mut RelayPending.to; ref = λ x.
-      x; }, (record { pos = 12; ty = Syntax.tyRef Syntax.erased Syntax.mut InflightAction.to; ref = λ x. x; }, (record { pos = 14; ty = Syntax.tyRef
-      Syntax.erased Syntax.mut (Syntax.tyInt Syntax.w32); ref = λ x. x; }, (record { pos = 5; st = List.[]; d = 0; at = λ x. x }, (record { pos = 6;
-      st = List.[]; d = 0; at = λ x. x }, (Num.vFld 7 ((Syntax.field 1) ∷ List.[]) 8 λ x. SettlePlan.struct .as-values x .1 .0, tt,),),),),),) 0 (4 ∷
-      5 ∷ 6 ∷ List.[]) Laws''''.mir
+  s12 = Call.callB ps·0 r·0 (claims· .0) (claims· .1) T14 args12 0 (4 ∷ 5 ∷ 6 ∷ List.[]) Laws''''.mir
+
   abbrev s13 : Typed.Mo T15 → Typed.Mo T16
   s13 = Scalar.n-room T15 5 Laws'''.mir
+
   abbrev s14 : Typed.Mo T16 → Typed.Mo T17
   s14 = Scalar.n-room T16 6 Laws''.mir
+
   abbrev s15 : Typed.Mo T17 → Typed.Mo T18
   s15 = Scalar.n-room T17 7 Laws'.mir
+
   abbrev s17 : Typed.Both T18 T20
   s17 = Relend.k-back-sl RelayPending.row T18 10 1 0 4 ref4 ref0 Row.off (λ x. x) λ x. x
+
   abbrev s20 : Typed.Both T20 T23
   s20 = Relend.k-back-sl InflightAction.row T20 12 3 2 5 ref6 ref1 Row.off (λ x. x) λ x. x
+
   abbrev s23 : Typed.Both T23 T26
   s23 = Relend.k-back-sl (Referent.rtF (Referent.fInt Syntax.w32)) T23 14 4 3 6 ref7 ref2 Row.off (λ x. x) λ x. x
+
   abbrev s24 : Typed.Gives T26 T27
   s24 = Know.k-sl-known (Referent.fInt Syntax.w32) T26 4 3 ref7 Row.off 0 λ x. x
+
   abbrev s26 : Typed.Mo T3 → Typed.Mo T29
   s26 = Scalar.n-room T3 8 Syntax.tyBool
+
   abbrev s27 : Typed.Mo T4 → Typed.Mo T30
-  s27 = Scalar.n-use T4 (Scalar.oFld 7 ((Syntax.field 6) ∷ List.[]) Syntax.tyBool 33 (Reads.fieldV SettlePlan.the-type Laws'.the-laws 6)) 8
-      (Rows.sc-here Row.sBool) (Row.sBool .of)
+  s27 = Scalar.n-use T4 (Scalar.oFld 7 ((Syntax.field 6) ∷ List.[]) Syntax.tyBool 33
+      (Reads.fieldV SettlePlan.the-type Laws'.the-laws 6)) 8 (Rows.sc-here Row.sBool) (Row.sBool .of)
+
   abbrev s28 : Typed.Mo T30 → Typed.Mo T32
   s28 = Scalar.n-room T30 8 Syntax.tyBool
+
   abbrev s30 : Typed.Gives T32 T34
   s30 = Relend.k-sl-relend RelayCircuit.row T32 2 15 1 7 ref5 ref3 Row.off λ x. x
+
   abbrev s31 : Typed.Asks T34 T35
-  s31 = Relend.k-sl-aggregate RelayCircuit.row (Relend.asMut RelayCircuit.row) T34 15 16 7 ref3 ref3 (λ x. x) (Scalar.oFld 2 ((Syntax.field 1) ∷
-      List.[]) (Syntax.tyInt Syntax.w64) 8 λ v. Shared.lenV (v .0))
+  s31 = Relend.k-sl-aggregate RelayCircuit.row (Relend.asMut RelayCircuit.row) T34 15 16 7 ref3 ref3 (λ x. x) (Scalar.oFld
+      2 ((Syntax.field 1) ∷ List.[]) (Syntax.tyInt Syntax.w64) 8 λ v. Shared.lenV (v .0))
+
   abbrev s33 : Typed.Gives T35 T37
   s33 = Relend.k-sl-relend InflightAction.row T35 3 17 2 8 ref6 ref1 Row.off λ x. x
+
   abbrev s34 : Typed.Asks T37 T38
-  s34 = Relend.k-sl-aggregate InflightAction.row (Relend.asMut InflightAction.row) T37 17 18 8 ref1 ref1 (λ x. x) (Scalar.oFld 3 ((Syntax.field 1) ∷
-      List.[]) (Syntax.tyInt Syntax.w64) 8 λ v. Shared.lenV (v .0))
+  s34 = Relend.k-sl-aggregate InflightAction.row (Relend.asMut InflightAction.row) T37 17 18 8 ref1 ref1 (λ x. x) (Scalar.oFld
+      3 ((Syntax.field 1) ∷ List.[]) (Syntax.tyInt Syntax.w64) 8 λ v. Shared.lenV (v .0))
+
   abbrev s36 : Typed.Gives T38 T40
   s36 = Relend.k-sl-relend (Referent.rtF (Referent.fInt Syntax.w32)) T38 4 19 3 9 ref7 ref2 Row.off λ x. x
+
   abbrev s37 : Typed.Asks T40 T41
-  s37 = Relend.k-sl-aggregate (Referent.rtF (Referent.fInt Syntax.w32)) (Relend.asMut (Referent.rtF (Referent.fInt Syntax.w32))) T40 19 20 9 ref2 ref2
-      (λ x. x) (Scalar.oFld 4 ((Syntax.field 1) ∷ List.[]) (Syntax.tyInt Syntax.w64) 8 λ v. Shared.lenV (v .0))
+  s37 = Relend.k-sl-aggregate (Referent.rtF (Referent.fInt Syntax.w32))
+      (Relend.asMut (Referent.rtF (Referent.fInt Syntax.w32))) T40 19 20 9 ref2 ref2 (λ x. x) (Scalar.oFld 4
+      ((Syntax.field 1) ∷ List.[]) (Syntax.tyInt Syntax.w64) 8 λ v. Shared.lenV (v .0))
+
   abbrev s38 : Typed.Mo T41 → Typed.Mo T42
-  s38 = Make.n-enum-make Notice.the-type T41 21 λ m. Notice.enum .make (Logic.inr (Logic.inr (Logic.inr (Logic.inr (Logic.inr (Logic.inr (Logic.inl
-      tt)))))))
+  s38 = Make.n-enum-make Notice.the-type T41 21 λ m. Notice.enum .make (Logic.inr (Logic.inr (Logic.inr
+      (Logic.inr (Logic.inr (Logic.inr (Logic.inl tt)))))))
+
+  abbrev args39 : Args'.ArgsT ps·1 (T42 .locals)
+  args39 = (
+    record { pos = 16; ty = ref3; ref = λ x. x },
+    (
+      record { pos = 18; ty = ref1; ref = λ x. x },
+      (
+        record { pos = 20; ty = ref2; ref = λ x. x },
+        (
+          record { pos = 5; st = List.[]; d = 0; at = λ x. x },
+          (
+            record { pos = 6; st = List.[]; d = 0; at = λ x. x },
+            (
+              record { pos = 21; st = List.[]; d = 0; at = λ x. x },
+              (Num.vFld 7 ((Syntax.field 1) ∷ List.[]) 8 λ x. SettlePlan.struct .as-values x .1 .0, tt),
+            ),
+          ),
+        ),
+      ),
+    ),
+  )
+
   abbrev s39 : Typed.Both T42 T43
-  s39 = Call.callB ps·1 r·1 (claims· .2) (claims· .3) T42 (record { pos = 16; ty = Syntax.tyRef Syntax.erased Syntax.mut RelayCircuit.to; ref = λ x.
-      x; }, (record { pos = 18; ty = Syntax.tyRef Syntax.erased Syntax.mut InflightAction.to; ref = λ x. x; }, (record { pos = 20; ty = Syntax.tyRef
-      Syntax.erased Syntax.mut (Syntax.tyInt Syntax.w32); ref = λ x. x; }, (record { pos = 5; st = List.[]; d = 0; at = λ x. x }, (record { pos = 6;
-      st = List.[]; d = 0; at = λ x. x }, (record { pos = 21; st = List.[]; d = 0; at = λ x. x }, (Num.vFld 7 ((Syntax.field 1) ∷ List.[]) 8 λ x.
-      SettlePlan.struct .as-values x .1 .0, tt,),),),),),),) 0 (7 ∷ 8 ∷ 9 ∷ List.[]) Laws''''.mir
+  s39 = Call.callB ps·1 r·1 (claims· .2) (claims· .3) T42 args39 0 (7 ∷ 8 ∷ 9 ∷ List.[]) Laws''''.mir
+
   abbrev s40 : Typed.Mo T43 → Typed.Mo T44
   s40 = Scalar.n-room T43 5 Laws'''.mir
+
   abbrev s41 : Typed.Mo T44 → Typed.Mo T45
   s41 = Scalar.n-room T44 6 Laws''.mir
+
   abbrev s42 : Typed.Mo T45 → Typed.Mo T46
   s42 = Scalar.n-room T45 7 Laws'.mir
+
   abbrev s43 : Typed.Mo T46 → Typed.Mo T47
   s43 = Scalar.n-room T46 21 Laws.mir
+
   abbrev s45 : Typed.Both T47 T49
   s45 = Relend.k-back-sl RelayCircuit.row T47 16 2 1 7 ref5 ref3 Row.off (λ x. x) λ x. x
+
   abbrev s48 : Typed.Both T49 T52
   s48 = Relend.k-back-sl InflightAction.row T49 18 3 2 8 ref6 ref1 Row.off (λ x. x) λ x. x
+
   abbrev s51 : Typed.Both T52 T55
   s51 = Relend.k-back-sl (Referent.rtF (Referent.fInt Syntax.w32)) T52 20 4 3 9 ref7 ref2 Row.off (λ x. x) λ x. x
+
   abbrev s52 : Typed.Gives T55 T56
   s52 = Know.k-sl-known (Referent.fInt Syntax.w32) T55 4 3 ref7 Row.off 0 λ x. x
+
   abbrev s54 : Typed.Mo T30 → Typed.Mo T58
   s54 = Scalar.n-room T30 7 Laws'.mir
+
   abbrev s55 : Typed.Mo T58 → Typed.Mo T59
   s55 = Scalar.n-room T58 8 Syntax.tyBool
+
+  abbrev args56 : Args'.ArgsT ps·2 (T31 .locals)
+  args56 = (
+    record { pos = 5; st = List.[]; d = 0; at = λ x. x },
+    (record { pos = 6; st = List.[]; d = 0; at = λ x. x }, tt),
+  )
+
   abbrev s56 : Typed.Both T31 T60
-  s56 = Call.callB ps·2 r·2 (claims· .4) (claims· .5) T31 (record { pos = 5; st = List.[]; d = 0; at = λ x. x }, (record { pos = 6; st = List.[]; d =
-      0; at = λ x. x }, tt),) 0 List.[] Laws''''.mir
+  s56 = Call.callB ps·2 r·2 (claims· .4) (claims· .5) T31 args56 0 List.[] Laws''''.mir
+
   abbrev s57 : Typed.Mo T60 → Typed.Mo T61
   s57 = Scalar.n-room T60 5 Laws'''.mir
+
   abbrev s58 : Typed.Mo T61 → Typed.Mo T62
   s58 = Scalar.n-room T61 6 Laws''.mir
-  module _ (Pre· : (κs : Lifetimes.Lfts 4) → Kinds.Dens κs ps → Type 0) (Post· : (κs : Lifetimes.Lfts 4) → (a : Kinds.Dens κs ps) → Kinds.Plain 4 ps r
-      κs) where
+
+  module _ (Pre· : (κs : Lifetimes.Lfts 4) → Kinds.Dens κs ps → Type 0) (Post· : (κs : Lifetimes.Lfts 4) →
+      (a : Kinds.Dens κs ps) → Kinds.Plain 4 ps r κs) where
     module _ (M : Type 1) where
       abbrev pub Closed : Type 2
-      Closed = (𝓤 : URA.URA M) (H : Wp.Heap 𝓤) (A : Atoms.Atoms 𝓤) (W : Kit.Given 𝓤 H A) (𝓣 : Wp.Tables 𝓤 H) (known0 : Plain.Known 𝓤 H A W 𝓣 3 ps·0
-          r·0 (claims· .0) (claims· .1) "hnsr_circuit::acknowledge::fail_incoming") (known1 : Plain.Known 𝓤 H A W 𝓣 3 ps·1 r·1 (claims· .2) (claims·
-          .3) "hnsr_circuit::revocation::revoke_one") (known2 : Plain.Known 𝓤 H A W 𝓣 0 ps·2 r·2 (claims· .4) (claims· .5)
-          "hnsr_circuit::revoking_calls::taken_with") → Statement.Triple 𝓤 (Wp.WpFn 𝓤 H (𝓣 .C) (𝓣 .Λ) (Function.fnOf 4 ps r xs m hs body))
+      Closed = (𝓤 : URA.URA M) (H : Wp.Heap 𝓤) (A : Atoms.Atoms 𝓤) (W : Kit.Given 𝓤 H A) (𝓣 : Wp.Tables 𝓤 H) (known0 :
+          Plain.Known 𝓤 H A W 𝓣 3 ps·0 r·0 (claims· .0) (claims· .1) "hnsr_circuit::acknowledge::fail_incoming") (known1
+          : Plain.Known 𝓤 H A W 𝓣 3 ps·1 r·1 (claims· .2) (claims· .3) "hnsr_circuit::revocation::revoke_one") (known2
+          : Plain.Known 𝓤 H A W 𝓣 0 ps·2 r·2 (claims· .4) (claims· .5) "hnsr_circuit::revoking_calls::taken_with") →
+          Statement.Triple 𝓤 (Wp.WpFn 𝓤 H (𝓣 .C) (𝓣 .Λ) (Function.fnOf 4 ps r xs m hs body))
           (Function.plainOf 𝓤 H A 4 ps r Pre· Post·)
+
     module _ where
       abbrev at0 : Typed.TF T27 O1
       at0 = Typed.atRet O1
+
       abbrev at1 : Typed.TF T27 O1
       at1 = λ Ψ. at0 Ψ
+
       abbrev at2 : Typed.TF T26 O1
       at2 = λ Ψ. Typed.give s24 (at1 Ψ)
+
       abbrev at3 : Typed.TF T23 O1
       at3 = λ Ψ. Typed.both s23 (at2 Ψ)
+
       abbrev at4 : Typed.TF T23 O1
       at4 = λ Ψ. at3 Ψ
+
       abbrev at5 : Typed.TF T23 O1
       at5 = λ Ψ. at4 Ψ
+
       abbrev at6 : Typed.TF T20 O1
       at6 = λ Ψ. Typed.both s20 (at5 Ψ)
+
       abbrev at7 : Typed.TF T20 O1
       at7 = λ Ψ. at6 Ψ
+
       abbrev at8 : Typed.TF T20 O1
       at8 = λ Ψ. at7 Ψ
+
       abbrev at9 : Typed.TF T18 O1
       at9 = λ Ψ. Typed.both s17 (at8 Ψ)
+
       abbrev at10 : Typed.TF T18 O1
       at10 = λ Ψ. at9 Ψ
+
       abbrev at11 : Typed.TF T17 O1
       at11 = λ Ψ. Typed.pass T17 T18 s15 (at10 Ψ)
+
       abbrev at12 : Typed.TF T16 O1
       at12 = λ Ψ. Typed.pass T16 T17 s14 (at11 Ψ)
+
       abbrev at13 : Typed.TF T15 O1
       at13 = λ Ψ. Typed.pass T15 T16 s13 (at12 Ψ)
+
       abbrev at14 : Typed.TF T14 O1
       at14 = λ Ψ. Typed.both s12 (at13 Ψ)
+
       abbrev at15 : Typed.TF T13 O1
       at15 = λ Ψ. Typed.ask s11 (at14 Ψ)
+
       abbrev at16 : Typed.TF T11 O1
       at16 = λ Ψ. Typed.give s10 (at15 Ψ)
+
       abbrev at17 : Typed.TF T11 O1
       at17 = λ Ψ. at16 Ψ
+
       abbrev at18 : Typed.TF T10 O1
       at18 = λ Ψ. Typed.ask s8 (at17 Ψ)
+
       abbrev at19 : Typed.TF T8 O1
       at19 = λ Ψ. Typed.give s7 (at18 Ψ)
+
       abbrev at20 : Typed.TF T8 O1
       at20 = λ Ψ. at19 Ψ
+
       abbrev at21 : Typed.TF T7 O1
       at21 = λ Ψ. Typed.ask s5 (at20 Ψ)
+
       abbrev at22 : Typed.TF T5 O1
       at22 = λ Ψ. Typed.give s4 (at21 Ψ)
+
       abbrev at23 : Typed.TF T5 O1
       at23 = λ Ψ. at22 Ψ
+
       abbrev at24 : Typed.TF T3 O1
       at24 = λ Ψ. Typed.pass T3 T5 s2 (at23 Ψ)
+
       abbrev at25 : Typed.TF T29 O1
       at25 = Typed.atNext O1
+
       abbrev at26 : Typed.TF T3 O1
       at26 = λ Ψ. Typed.pass T3 T29 s26 (at25 Ψ)
+
       abbrev at27 : Typed.TF T3 O1
       at27 = Scalar.Φcond T3 O1 8 (λ x. x) at24 at26
+
       abbrev at28 : Typed.TF T56 O2
       at28 = Typed.atRet O2
+
       abbrev at29 : Typed.TF T56 O2
       at29 = λ Ψ. at28 Ψ
+
       abbrev at30 : Typed.TF T55 O2
       at30 = λ Ψ. Typed.give s52 (at29 Ψ)
+
       abbrev at31 : Typed.TF T52 O2
       at31 = λ Ψ. Typed.both s51 (at30 Ψ)
+
       abbrev at32 : Typed.TF T52 O2
       at32 = λ Ψ. at31 Ψ
+
       abbrev at33 : Typed.TF T52 O2
       at33 = λ Ψ. at32 Ψ
+
       abbrev at34 : Typed.TF T49 O2
       at34 = λ Ψ. Typed.both s48 (at33 Ψ)
+
       abbrev at35 : Typed.TF T49 O2
       at35 = λ Ψ. at34 Ψ
+
       abbrev at36 : Typed.TF T49 O2
       at36 = λ Ψ. at35 Ψ
+
       abbrev at37 : Typed.TF T47 O2
       at37 = λ Ψ. Typed.both s45 (at36 Ψ)
+
       abbrev at38 : Typed.TF T47 O2
       at38 = λ Ψ. at37 Ψ
+
       abbrev at39 : Typed.TF T46 O2
       at39 = λ Ψ. Typed.pass T46 T47 s43 (at38 Ψ)
+
       abbrev at40 : Typed.TF T45 O2
       at40 = λ Ψ. Typed.pass T45 T46 s42 (at39 Ψ)
+
       abbrev at41 : Typed.TF T44 O2
       at41 = λ Ψ. Typed.pass T44 T45 s41 (at40 Ψ)
+
       abbrev at42 : Typed.TF T43 O2
       at42 = λ Ψ. Typed.pass T43 T44 s40 (at41 Ψ)
+
       abbrev at43 : Typed.TF T42 O2
       at43 = λ Ψ. Typed.both s39 (at42 Ψ)
+
       abbrev at44 : Typed.TF T41 O2
       at44 = λ Ψ. Typed.pass T41 T42 s38 (at43 Ψ)
+
       abbrev at45 : Typed.TF T40 O2
       at45 = λ Ψ. Typed.ask s37 (at44 Ψ)
+
       abbrev at46 : Typed.TF T38 O2
       at46 = λ Ψ. Typed.give s36 (at45 Ψ)
+
       abbrev at47 : Typed.TF T38 O2
       at47 = λ Ψ. at46 Ψ
+
       abbrev at48 : Typed.TF T37 O2
       at48 = λ Ψ. Typed.ask s34 (at47 Ψ)
+
       abbrev at49 : Typed.TF T35 O2
       at49 = λ Ψ. Typed.give s33 (at48 Ψ)
+
       abbrev at50 : Typed.TF T35 O2
       at50 = λ Ψ. at49 Ψ
+
       abbrev at51 : Typed.TF T34 O2
       at51 = λ Ψ. Typed.ask s31 (at50 Ψ)
+
       abbrev at52 : Typed.TF T32 O2
       at52 = λ Ψ. Typed.give s30 (at51 Ψ)
+
       abbrev at53 : Typed.TF T32 O2
       at53 = λ Ψ. at52 Ψ
+
       abbrev at54 : Typed.TF T30 O2
       at54 = λ Ψ. Typed.pass T30 T32 s28 (at53 Ψ)
+
       abbrev at55 : Typed.TF T59 O2
       at55 = Typed.atNext O2
+
       abbrev at56 : Typed.TF T58 O2
       at56 = λ Ψ. Typed.pass T58 T59 s55 (at55 Ψ)
+
       abbrev at57 : Typed.TF T30 O2
       at57 = λ Ψ. Typed.pass T30 T58 s54 (at56 Ψ)
+
       abbrev at58 : Typed.TF T30 O2
       at58 = Scalar.Φcond T30 O2 8 (λ x. x) at54 at57
+
       abbrev at59 : Typed.TF T62 O0
       at59 = Typed.atRet O0
+
       abbrev at60 : Typed.TF T61 O0
       at60 = λ Ψ. Typed.pass T61 T62 s58 (at59 Ψ)
+
       abbrev at61 : Typed.TF T60 O0
       at61 = λ Ψ. Typed.pass T60 T61 s57 (at60 Ψ)
+
       abbrev at62 : Typed.TF T31 O0
       at62 = λ Ψ. Typed.both s56 (at61 Ψ)
+
       abbrev at63 : Typed.TF T30 O0
       at63 = λ Ψ. at58 (Typed.wantNext T31 O0 (at62 Ψ) Ψ)
+
       abbrev at64 : Typed.TF T4 O0
       at64 = λ Ψ. Typed.pass T4 T30 s27 (at63 Ψ)
+
       abbrev at65 : Typed.TF T3 O0
       at65 = λ Ψ. at27 (Typed.wantNext T4 O0 (at64 Ψ) Ψ)
+
       abbrev at66 : Typed.TF T2 O0
       at66 = λ Ψ. Typed.pass T2 T3 s1 (at65 Ψ)
+
       abbrev at67 : Typed.TF T0 O0
       at67 = λ Ψ. Typed.give s0 (at66 Ψ)
+
       abbrev pub Φ : Typed.TF T0 O0
       Φ = at67
-      module _ { M : Type 1 } (𝓤 : URA.URA M) (H : Wp.Heap 𝓤) (A : Atoms.Atoms 𝓤) (W : Kit.Given 𝓤 H A) (𝓣 : Wp.Tables 𝓤 H) where
+
+      module _ {M : Type 1} (𝓤 : URA.URA M) (H : Wp.Heap 𝓤) (A : Atoms.Atoms 𝓤) (W : Kit.Given 𝓤 H A)
+          (𝓣 : Wp.Tables 𝓤 H) where
         abbrev Knowns : Type 1
-        Knowns = Plain.Known 𝓤 H A W 𝓣 3 ps·0 r·0 (claims· .0) (claims· .1) "hnsr_circuit::acknowledge::fail_incoming" × Plain.Known 𝓤 H A W 𝓣 3 ps·1
-            r·1 (claims· .2) (claims· .3) "hnsr_circuit::revocation::revoke_one" × Plain.Known 𝓤 H A W 𝓣 0 ps·2 r·2 (claims· .4) (claims· .5)
-            "hnsr_circuit::revoking_calls::taken_with"
+        Knowns = Plain.Known 𝓤 H A W 𝓣 3 ps·0 r·0 (claims· .0) (claims· .1) "hnsr_circuit::acknowledge::fail_incoming"
+            × Plain.Known 𝓤 H A W 𝓣 3 ps·1 r·1 (claims· .2) (claims· .3) "hnsr_circuit::revocation::revoke_one" ×
+            Plain.Known 𝓤 H A W 𝓣 0 ps·2 r·2 (claims· .4) (claims· .5) "hnsr_circuit::revoking_calls::taken_with"
+
       module _ (κs : Lifetimes.Lfts 4) (qs : Lifetimes.Shares 4) where
         abbrev life0 : Row.Life
         life0 = Row.lease (κs .0) (qs .0)
+
         abbrev life1 : Row.Life
         life1 = Row.lease (κs .1 .1 .0) (qs .1 .1 .0)
+
         abbrev life2 : Row.Life
         life2 = Row.lease (κs .1 .1 .1 .0) (qs .1 .1 .1 .0)
+
         abbrev life3 : Row.Life
         life3 = Row.lease (κs .1 .0) (qs .1 .0)
+
+        abbrev l1 : Row.Entry
+        l1 = (1, Relend.mslice-owed RelayPending.row ref4 0 4 life0)
+
+        abbrev l3 : Row.Entry
+        l3 = (3, Relend.mslice-owed InflightAction.row ref6 2 5 life1)
+
+        abbrev l4 : Row.Entry
+        l4 = (4, Relend.mslice-owed (Referent.rtF (Referent.fInt Syntax.w32)) ref7 3 6 life2)
+
+        abbrev l2 : Row.Entry
+        l2 = (2, Relend.mslice-owed RelayCircuit.row ref5 1 7 life3)
+
+        abbrev l3·1 : Row.Entry
+        l3·1 = (3, Relend.mslice-owed InflightAction.row ref6 2 8 life1)
+
+        abbrev l4·1 : Row.Entry
+        l4·1 = (4, Relend.mslice-owed (Referent.rtF (Referent.fInt Syntax.w32)) ref7 3 9 life2)
+
         abbrev g4 : List.List Row.Entry
-        g4 = (0, Rows.any-gone Laws''''.mir,) ∷ (1, Relend.mslice-owed RelayPending.row ref4 0 4 life0,) ∷ (2, Mut.mslice RelayCircuit.row ref5 1,) ∷
-            (3, Mut.mslice InflightAction.row ref6 2,) ∷ (4, Mut.mslice (Referent.rtF (Referent.fInt Syntax.w32)) ref7 3,) ∷ (5, Rows.whole
-            (Declared'.row OpaqueRelayRuntime.the-type)) ∷ (6, Rows.whole (Declared'.row Places.the-type),) ∷ (7, Rows.whole (Declared'.row
-            SettlePlan.the-type)) ∷ (8, Rows.any-gone Syntax.tyBool,) ∷ (9, Relend.msptr RelayPending.row ref0 4,) ∷ (10, Rows.any-gone
-            (Syntax.tyStruct (38 ∷ 91 ∷ 93 ∷ List.[]) (Syntax.tcons ref0 (Syntax.tcons (Syntax.tyInt Syntax.w64) Syntax.tnil))),) ∷ (11, Rows.any-gone
-            ref1,) ∷ (12, Rows.any-gone (Syntax.tyStruct (38 ∷ 91 ∷ 93 ∷ List.[]) (Syntax.tcons ref1 (Syntax.tcons (Syntax.tyInt Syntax.w64)
-            Syntax.tnil))),) ∷ (13, Rows.any-gone ref2,) ∷ (14, Rows.any-gone (Syntax.tyStruct (38 ∷ 91 ∷ 93 ∷ List.[]) (Syntax.tcons ref2
-            (Syntax.tcons (Syntax.tyInt Syntax.w64) Syntax.tnil))),) ∷ (15, Rows.any-gone ref3,) ∷ List.[]
+        g4 = e0 ∷ l1 ∷ e2 ∷ e3 ∷ e4 ∷ e5 ∷ e6 ∷ e7 ∷ e8 ∷ e9·1 ∷ e10 ∷ e11 ∷ e12 ∷ e13 ∷ e14 ∷ e15 ∷ List.[]
+
         abbrev g5 : List.List Row.Entry
-        g5 = (0, Rows.any-gone Laws''''.mir,) ∷ (1, Relend.mslice-owed RelayPending.row ref4 0 4 life0,) ∷ (2, Mut.mslice RelayCircuit.row ref5 1,) ∷
-            (3, Mut.mslice InflightAction.row ref6 2,) ∷ (4, Mut.mslice (Referent.rtF (Referent.fInt Syntax.w32)) ref7 3,) ∷ (5, Rows.whole
-            (Declared'.row OpaqueRelayRuntime.the-type)) ∷ (6, Rows.whole (Declared'.row Places.the-type),) ∷ (7, Rows.whole (Declared'.row
-            SettlePlan.the-type)) ∷ (8, Rows.any-gone Syntax.tyBool,) ∷ (9, Rows.any-gone ref0,) ∷ (10, Mut.mslice RelayPending.row ref0 4,) ∷ (11,
-            Rows.any-gone ref1,) ∷ (12, Rows.any-gone (Syntax.tyStruct (38 ∷ 91 ∷ 93 ∷ List.[]) (Syntax.tcons ref1 (Syntax.tcons (Syntax.tyInt
-            Syntax.w64) Syntax.tnil))),) ∷ (13, Rows.any-gone ref2,) ∷ (14, Rows.any-gone (Syntax.tyStruct (38 ∷ 91 ∷ 93 ∷ List.[]) (Syntax.tcons ref2
-            (Syntax.tcons (Syntax.tyInt Syntax.w64) Syntax.tnil))),) ∷ (15, Rows.any-gone ref3,) ∷ List.[]
+        g5 = e0 ∷ l1 ∷ e2 ∷ e3 ∷ e4 ∷ e5 ∷ e6 ∷ e7 ∷ e8 ∷ e9 ∷ e10·1 ∷ e11 ∷ e12 ∷ e13 ∷ e14 ∷ e15 ∷ List.[]
+
         abbrev g6 : List.List Row.Entry
-        g6 = (0, Rows.any-gone Laws''''.mir,) ∷ (1, Relend.mslice-owed RelayPending.row ref4 0 4 life0,) ∷ (2, Mut.mslice RelayCircuit.row ref5 1,) ∷
-            (3, Relend.mslice-owed InflightAction.row ref6 2 5 life1,) ∷ (4, Mut.mslice (Referent.rtF (Referent.fInt Syntax.w32)) ref7 3,) ∷ (5,
-            Rows.whole (Declared'.row OpaqueRelayRuntime.the-type)) ∷ (6, Rows.whole (Declared'.row Places.the-type),) ∷ (7, Rows.whole (Declared'.row
-            SettlePlan.the-type)) ∷ (8, Rows.any-gone Syntax.tyBool,) ∷ (9, Rows.any-gone ref0,) ∷ (10, Mut.mslice RelayPending.row ref0 4,) ∷ (11,
-            Relend.msptr InflightAction.row ref1 5,) ∷ (12, Rows.any-gone (Syntax.tyStruct (38 ∷ 91 ∷ 93 ∷ List.[]) (Syntax.tcons ref1 (Syntax.tcons
-            (Syntax.tyInt Syntax.w64) Syntax.tnil))),) ∷ (13, Rows.any-gone ref2,) ∷ (14, Rows.any-gone (Syntax.tyStruct (38 ∷ 91 ∷ 93 ∷ List.[])
-            (Syntax.tcons ref2 (Syntax.tcons (Syntax.tyInt Syntax.w64) Syntax.tnil))),) ∷ (15, Rows.any-gone ref3,) ∷ List.[]
+        g6 = e0 ∷ l1 ∷ e2 ∷ l3 ∷ e4 ∷ e5 ∷ e6 ∷ e7 ∷ e8 ∷ e9 ∷ e10·1 ∷ e11·1 ∷ e12 ∷ e13 ∷ e14 ∷ e15 ∷ List.[]
+
         abbrev g7 : List.List Row.Entry
-        g7 = (0, Rows.any-gone Laws''''.mir,) ∷ (1, Relend.mslice-owed RelayPending.row ref4 0 4 life0,) ∷ (2, Mut.mslice RelayCircuit.row ref5 1,) ∷
-            (3, Relend.mslice-owed InflightAction.row ref6 2 5 life1,) ∷ (4, Mut.mslice (Referent.rtF (Referent.fInt Syntax.w32)) ref7 3,) ∷ (5,
-            Rows.whole (Declared'.row OpaqueRelayRuntime.the-type)) ∷ (6, Rows.whole (Declared'.row Places.the-type),) ∷ (7, Rows.whole (Declared'.row
-            SettlePlan.the-type)) ∷ (8, Rows.any-gone Syntax.tyBool,) ∷ (9, Rows.any-gone ref0,) ∷ (10, Mut.mslice RelayPending.row ref0 4,) ∷ (11,
-            Rows.any-gone ref1,) ∷ (12, Mut.mslice InflightAction.row ref1 5,) ∷ (13, Rows.any-gone ref2,) ∷ (14, Rows.any-gone (Syntax.tyStruct (38 ∷
-            91 ∷ 93 ∷ List.[]) (Syntax.tcons ref2 (Syntax.tcons (Syntax.tyInt Syntax.w64) Syntax.tnil))),) ∷ (15, Rows.any-gone ref3,) ∷ List.[]
+        g7 = e0 ∷ l1 ∷ e2 ∷ l3 ∷ e4 ∷ e5 ∷ e6 ∷ e7 ∷ e8 ∷ e9 ∷ e10·1 ∷ e11 ∷ e12·1 ∷ e13 ∷ e14 ∷ e15 ∷ List.[]
+
         abbrev g8 : List.List Row.Entry
-        g8 = (0, Rows.any-gone Laws''''.mir,) ∷ (1, Relend.mslice-owed RelayPending.row ref4 0 4 life0,) ∷ (2, Mut.mslice RelayCircuit.row ref5 1,) ∷
-            (3, Relend.mslice-owed InflightAction.row ref6 2 5 life1,) ∷ (4, Relend.mslice-owed (Referent.rtF (Referent.fInt Syntax.w32)) ref7 3 6
-            life2,) ∷ (5, Rows.whole (Declared'.row OpaqueRelayRuntime.the-type)) ∷ (6, Rows.whole (Declared'.row Places.the-type),) ∷ (7, Rows.whole
-            (Declared'.row SettlePlan.the-type)) ∷ (8, Rows.any-gone Syntax.tyBool,) ∷ (9, Rows.any-gone ref0,) ∷ (10, Mut.mslice RelayPending.row
-            ref0 4,) ∷ (11, Rows.any-gone ref1,) ∷ (12, Mut.mslice InflightAction.row ref1 5,) ∷ (13, Relend.msptr (Referent.rtF (Referent.fInt
-            Syntax.w32)) ref2 6,) ∷ (14, Rows.any-gone (Syntax.tyStruct (38 ∷ 91 ∷ 93 ∷ List.[]) (Syntax.tcons ref2 (Syntax.tcons (Syntax.tyInt
-            Syntax.w64) Syntax.tnil))),) ∷ (15, Rows.any-gone ref3,) ∷ List.[]
+        g8 = e0 ∷ l1 ∷ e2 ∷ l3 ∷ l4 ∷ e5 ∷ e6 ∷ e7 ∷ e8 ∷ e9 ∷ e10·1 ∷ e11 ∷ e12·1 ∷ e13·1 ∷ e14 ∷ e15 ∷ List.[]
+
         abbrev g9 : List.List Row.Entry
-        g9 = (0, Rows.any-gone Laws''''.mir,) ∷ (1, Relend.mslice-owed RelayPending.row ref4 0 4 life0,) ∷ (2, Mut.mslice RelayCircuit.row ref5 1,) ∷
-            (3, Relend.mslice-owed InflightAction.row ref6 2 5 life1,) ∷ (4, Relend.mslice-owed (Referent.rtF (Referent.fInt Syntax.w32)) ref7 3 6
-            life2,) ∷ (5, Rows.whole (Declared'.row OpaqueRelayRuntime.the-type)) ∷ (6, Rows.whole (Declared'.row Places.the-type),) ∷ (7, Rows.whole
-            (Declared'.row SettlePlan.the-type)) ∷ (8, Rows.any-gone Syntax.tyBool,) ∷ (9, Rows.any-gone ref0,) ∷ (10, Mut.mslice RelayPending.row
-            ref0 4,) ∷ (11, Rows.any-gone ref1,) ∷ (12, Mut.mslice InflightAction.row ref1 5,) ∷ (13, Rows.any-gone ref2,) ∷ (14, Mut.mslice
-            (Referent.rtF (Referent.fInt Syntax.w32)) ref2 6,) ∷ (15, Rows.any-gone ref3,) ∷ List.[]
+        g9 = e0 ∷ l1 ∷ e2 ∷ l3 ∷ l4 ∷ e5 ∷ e6 ∷ e7 ∷ e8 ∷ e9 ∷ e10·1 ∷ e11 ∷ e12·1 ∷ e13 ∷ e14·1 ∷ e15 ∷ List.[]
+
         abbrev g10 : List.List Row.Entry
-        g10 = (0, Rows.whole (Declared'.row Relayed.the-type)) ∷ (1, Relend.mslice-owed RelayPending.row ref4 0 4 life0,) ∷ (2, Mut.mslice
-            RelayCircuit.row ref5 1,) ∷ (3, Relend.mslice-owed InflightAction.row ref6 2 5 life1,) ∷ (4, Relend.mslice-owed (Referent.rtF
-            (Referent.fInt Syntax.w32)) ref7 3 6 life2,) ∷ (5, Rows.whole (Declared'.row OpaqueRelayRuntime.the-type)) ∷ (6, Rows.whole (Declared'.row
-            Places.the-type),) ∷ (7, Rows.whole (Declared'.row SettlePlan.the-type)) ∷ (8, Rows.any-gone Syntax.tyBool,) ∷ (9, Rows.any-gone ref0,) ∷
-            (10, Mut.msleft RelayPending.row ref0,) ∷ (11, Rows.any-gone ref1,) ∷ (12, Mut.msleft InflightAction.row ref1,) ∷ (13, Rows.any-gone
-            ref2,) ∷ (14, Mut.msleft (Referent.rtF (Referent.fInt Syntax.w32)) ref2,) ∷ (15, Rows.any-gone ref3,) ∷ List.[]
+        g10 = e0·1 ∷ l1 ∷ e2 ∷ l3 ∷ l4 ∷ e5 ∷ e6 ∷ e7 ∷ e8 ∷ e9 ∷ e10·2 ∷ e11 ∷ e12·2 ∷ e13 ∷ e14·2 ∷ e15 ∷ List.[]
+
         abbrev g11 : List.List Row.Entry
-        g11 = (0, Rows.whole (Declared'.row Relayed.the-type)) ∷ (1, Relend.mslice-owed RelayPending.row ref4 0 4 life0,) ∷ (2, Mut.mslice
-            RelayCircuit.row ref5 1,) ∷ (3, Relend.mslice-owed InflightAction.row ref6 2 5 life1,) ∷ (4, Relend.mslice-owed (Referent.rtF
-            (Referent.fInt Syntax.w32)) ref7 3 6 life2,) ∷ (5, Rows.any-gone Laws'''.mir,) ∷ (6, Rows.whole (Declared'.row Places.the-type)) ∷ (7,
-            Rows.whole (Declared'.row SettlePlan.the-type),) ∷ (8, Rows.any-gone Syntax.tyBool) ∷ (9, Rows.any-gone ref0,) ∷ (10, Mut.msleft
-            RelayPending.row ref0,) ∷ (11, Rows.any-gone ref1,) ∷ (12, Mut.msleft InflightAction.row ref1,) ∷ (13, Rows.any-gone ref2,) ∷ (14,
-            Mut.msleft (Referent.rtF (Referent.fInt Syntax.w32)) ref2,) ∷ (15, Rows.any-gone ref3,) ∷ List.[]
+        g11 = e0·1 ∷ l1 ∷ e2 ∷ l3 ∷ l4 ∷ e5·1 ∷ e6 ∷ e7 ∷ e8 ∷ e9 ∷ e10·2 ∷ e11 ∷ e12·2 ∷ e13 ∷ e14·2 ∷ e15 ∷ List.[]
+
         abbrev g12 : List.List Row.Entry
-        g12 = (0, Rows.whole (Declared'.row Relayed.the-type)) ∷ (1, Relend.mslice-owed RelayPending.row ref4 0 4 life0,) ∷ (2, Mut.mslice
-            RelayCircuit.row ref5 1,) ∷ (3, Relend.mslice-owed InflightAction.row ref6 2 5 life1,) ∷ (4, Relend.mslice-owed (Referent.rtF
-            (Referent.fInt Syntax.w32)) ref7 3 6 life2,) ∷ (5, Rows.any-gone Laws'''.mir,) ∷ (6, Rows.any-gone Laws''.mir,) ∷ (7, Rows.whole
-            (Declared'.row SettlePlan.the-type)) ∷ (8, Rows.any-gone Syntax.tyBool,) ∷ (9, Rows.any-gone ref0,) ∷ (10, Mut.msleft RelayPending.row
-            ref0,) ∷ (11, Rows.any-gone ref1,) ∷ (12, Mut.msleft InflightAction.row ref1,) ∷ (13, Rows.any-gone ref2,) ∷ (14, Mut.msleft (Referent.rtF
-            (Referent.fInt Syntax.w32)) ref2,) ∷ (15, Rows.any-gone ref3,) ∷ List.[]
+        g12 = e0·1 ∷ l1 ∷ e2 ∷ l3 ∷ l4 ∷ e5·1 ∷ e6·1 ∷ e7 ∷ e8 ∷ e9 ∷ e10·2 ∷ e11 ∷ e12·2 ∷ e13 ∷ e14·2 ∷ e15 ∷ List.[]
+
         abbrev g13 : List.List Row.Entry
-        g13 = (0, Rows.whole (Declared'.row Relayed.the-type)) ∷ (1, Relend.mslice-owed RelayPending.row ref4 0 4 life0,) ∷ (2, Mut.mslice
-            RelayCircuit.row ref5 1,) ∷ (3, Relend.mslice-owed InflightAction.row ref6 2 5 life1,) ∷ (4, Relend.mslice-owed (Referent.rtF
-            (Referent.fInt Syntax.w32)) ref7 3 6 life2,) ∷ (5, Rows.any-gone Laws'''.mir,) ∷ (6, Rows.any-gone Laws''.mir,) ∷ (7, Rows.any-gone
-            Laws'.mir,) ∷ (8, Rows.any-gone Syntax.tyBool) ∷ (9, Rows.any-gone ref0,) ∷ (10, Mut.msleft RelayPending.row ref0,) ∷ (11, Rows.any-gone
-            ref1,) ∷ (12, Mut.msleft InflightAction.row ref1,) ∷ (13, Rows.any-gone ref2,) ∷ (14, Mut.msleft (Referent.rtF (Referent.fInt Syntax.w32))
-            ref2,) ∷ (15, Rows.any-gone ref3,) ∷ List.[]
+        g13 = e0·1 ∷ l1 ∷ e2 ∷ l3 ∷ l4 ∷ e5·1 ∷ e6·1 ∷ e7·1 ∷ e8 ∷ e9 ∷ e10·2 ∷ e11 ∷ e12·2 ∷ e13 ∷ e14·2 ∷ e15 ∷
+            List.[]
+
         abbrev g14 : List.List Row.Entry
-        g14 = (0, Rows.whole (Declared'.row Relayed.the-type)) ∷ (1, Mut.mslice RelayPending.row ref4 0,) ∷ (2, Mut.mslice RelayCircuit.row ref5 1,) ∷
-            (3, Relend.mslice-owed InflightAction.row ref6 2 5 life1,) ∷ (4, Relend.mslice-owed (Referent.rtF (Referent.fInt Syntax.w32)) ref7 3 6
-            life2,) ∷ (5, Rows.any-gone Laws'''.mir,) ∷ (6, Rows.any-gone Laws''.mir,) ∷ (7, Rows.any-gone Laws'.mir,) ∷ (8, Rows.any-gone
-            Syntax.tyBool) ∷ (9, Rows.any-gone ref0,) ∷ (10, Rows.any-gone (Syntax.tyStruct (38 ∷ 91 ∷ 93 ∷ List.[]) (Syntax.tcons ref0 (Syntax.tcons
-            (Syntax.tyInt Syntax.w64) Syntax.tnil))),) ∷ (11, Rows.any-gone ref1,) ∷ (12, Mut.msleft InflightAction.row ref1,) ∷ (13, Rows.any-gone
-            ref2,) ∷ (14, Mut.msleft (Referent.rtF (Referent.fInt Syntax.w32)) ref2,) ∷ (15, Rows.any-gone ref3,) ∷ List.[]
+        g14 = e0·1 ∷ e1 ∷ e2 ∷ l3 ∷ l4 ∷ e5·1 ∷ e6·1 ∷ e7·1 ∷ e8 ∷ e9 ∷ e10 ∷ e11 ∷ e12·2 ∷ e13 ∷ e14·2 ∷ e15 ∷ List.[]
+
         abbrev g15 : List.List Row.Entry
-        g15 = (0, Rows.whole (Declared'.row Relayed.the-type)) ∷ (1, Mut.mslice RelayPending.row ref4 0,) ∷ (2, Mut.mslice RelayCircuit.row ref5 1,) ∷
-            (3, Mut.mslice InflightAction.row ref6 2,) ∷ (4, Relend.mslice-owed (Referent.rtF (Referent.fInt Syntax.w32)) ref7 3 6 life2,) ∷ (5,
-            Rows.any-gone Laws'''.mir,) ∷ (6, Rows.any-gone Laws''.mir,) ∷ (7, Rows.any-gone Laws'.mir,) ∷ (8, Rows.any-gone Syntax.tyBool) ∷ (9,
-            Rows.any-gone ref0,) ∷ (10, Rows.any-gone (Syntax.tyStruct (38 ∷ 91 ∷ 93 ∷ List.[]) (Syntax.tcons ref0 (Syntax.tcons (Syntax.tyInt
-            Syntax.w64) Syntax.tnil))),) ∷ (11, Rows.any-gone ref1,) ∷ (12, Rows.any-gone (Syntax.tyStruct (38 ∷ 91 ∷ 93 ∷ List.[]) (Syntax.tcons ref1
-            (Syntax.tcons (Syntax.tyInt Syntax.w64) Syntax.tnil))),) ∷ (13, Rows.any-gone ref2,) ∷ (14, Mut.msleft (Referent.rtF (Referent.fInt
-            Syntax.w32)) ref2,) ∷ (15, Rows.any-gone ref3,) ∷ List.[]
+        g15 = e0·1 ∷ e1 ∷ e2 ∷ e3 ∷ l4 ∷ e5·1 ∷ e6·1 ∷ e7·1 ∷ e8 ∷ e9 ∷ e10 ∷ e11 ∷ e12 ∷ e13 ∷ e14·2 ∷ e15 ∷ List.[]
+
         abbrev g17 : List.List Row.Entry
-        g17 = (0, Rows.any-gone Laws''''.mir,) ∷ (1, Mut.mslice RelayPending.row ref4 0,) ∷ (2, Relend.mslice-owed RelayCircuit.row ref5 1 7 life3,) ∷
-            (3, Mut.mslice InflightAction.row ref6 2,) ∷ (4, Mut.mslice (Referent.rtF (Referent.fInt Syntax.w32)) ref7 3,) ∷ (5, Rows.whole
-            (Declared'.row OpaqueRelayRuntime.the-type)) ∷ (6, Rows.whole (Declared'.row Places.the-type),) ∷ (7, Rows.whole (Declared'.row
-            SettlePlan.the-type)) ∷ (8, Rows.any-gone Syntax.tyBool,) ∷ (9, Rows.any-gone ref0,) ∷ (10, Rows.any-gone (Syntax.tyStruct (38 ∷ 91 ∷ 93 ∷
-            List.[]) (Syntax.tcons ref0 (Syntax.tcons (Syntax.tyInt Syntax.w64) Syntax.tnil))),) ∷ (11, Rows.any-gone ref1,) ∷ (12, Rows.any-gone
-            (Syntax.tyStruct (38 ∷ 91 ∷ 93 ∷ List.[]) (Syntax.tcons ref1 (Syntax.tcons (Syntax.tyInt Syntax.w64) Syntax.tnil))),) ∷ (13, Rows.any-gone
-            ref2,) ∷ (14, Rows.any-gone (Syntax.tyStruct (38 ∷ 91 ∷ 93 ∷ List.[]) (Syntax.tcons ref2 (Syntax.tcons (Syntax.tyInt Syntax.w64)
-            Syntax.tnil))),) ∷ (15, Relend.msptr RelayCircuit.row ref3 7,) ∷ List.[]
+        g17 = e0 ∷ e1 ∷ l2 ∷ e3 ∷ e4 ∷ e5 ∷ e6 ∷ e7 ∷ e8 ∷ e9 ∷ e10 ∷ e11 ∷ e12 ∷ e13 ∷ e14 ∷ e15·1 ∷ List.[]
+
         abbrev g18 : List.List Row.Entry
-        g18 = (0, Rows.any-gone Laws''''.mir,) ∷ (1, Mut.mslice RelayPending.row ref4 0,) ∷ (2, Relend.mslice-owed RelayCircuit.row ref5 1 7 life3,) ∷
-            (3, Mut.mslice InflightAction.row ref6 2,) ∷ (4, Mut.mslice (Referent.rtF (Referent.fInt Syntax.w32)) ref7 3,) ∷ (5, Rows.whole
-            (Declared'.row OpaqueRelayRuntime.the-type)) ∷ (6, Rows.whole (Declared'.row Places.the-type),) ∷ (7, Rows.whole (Declared'.row
-            SettlePlan.the-type)) ∷ (8, Rows.any-gone Syntax.tyBool,) ∷ (9, Rows.any-gone ref0,) ∷ (10, Rows.any-gone (Syntax.tyStruct (38 ∷ 91 ∷ 93 ∷
-            List.[]) (Syntax.tcons ref0 (Syntax.tcons (Syntax.tyInt Syntax.w64) Syntax.tnil))),) ∷ (11, Rows.any-gone ref1,) ∷ (12, Rows.any-gone
-            (Syntax.tyStruct (38 ∷ 91 ∷ 93 ∷ List.[]) (Syntax.tcons ref1 (Syntax.tcons (Syntax.tyInt Syntax.w64) Syntax.tnil))),) ∷ (13, Rows.any-gone
-            ref2,) ∷ (14, Rows.any-gone (Syntax.tyStruct (38 ∷ 91 ∷ 93 ∷ List.[]) (Syntax.tcons ref2 (Syntax.tcons (Syntax.tyInt Syntax.w64)
-            Syntax.tnil))),) ∷ (15, Rows.any-gone ref3,) ∷ List.[]
+        g18 = e0 ∷ e1 ∷ l2 ∷ e3 ∷ e4 ∷ e5 ∷ e6 ∷ e7 ∷ e8 ∷ e9 ∷ e10 ∷ e11 ∷ e12 ∷ e13 ∷ e14 ∷ e15 ∷ List.[]
+
         abbrev g20 : List.List Row.Entry
-        g20 = (0, Rows.any-gone Laws''''.mir,) ∷ (1, Mut.mslice RelayPending.row ref4 0,) ∷ (2, Relend.mslice-owed RelayCircuit.row ref5 1 7 life3,) ∷
-            (3, Relend.mslice-owed InflightAction.row ref6 2 8 life1,) ∷ (4, Mut.mslice (Referent.rtF (Referent.fInt Syntax.w32)) ref7 3,) ∷ (5,
-            Rows.whole (Declared'.row OpaqueRelayRuntime.the-type)) ∷ (6, Rows.whole (Declared'.row Places.the-type),) ∷ (7, Rows.whole (Declared'.row
-            SettlePlan.the-type)) ∷ (8, Rows.any-gone Syntax.tyBool,) ∷ (9, Rows.any-gone ref0,) ∷ (10, Rows.any-gone (Syntax.tyStruct (38 ∷ 91 ∷ 93 ∷
-            List.[]) (Syntax.tcons ref0 (Syntax.tcons (Syntax.tyInt Syntax.w64) Syntax.tnil))),) ∷ (11, Rows.any-gone ref1,) ∷ (12, Rows.any-gone
-            (Syntax.tyStruct (38 ∷ 91 ∷ 93 ∷ List.[]) (Syntax.tcons ref1 (Syntax.tcons (Syntax.tyInt Syntax.w64) Syntax.tnil))),) ∷ (13, Rows.any-gone
-            ref2,) ∷ (14, Rows.any-gone (Syntax.tyStruct (38 ∷ 91 ∷ 93 ∷ List.[]) (Syntax.tcons ref2 (Syntax.tcons (Syntax.tyInt Syntax.w64)
-            Syntax.tnil))),) ∷ (15, Rows.any-gone ref3,) ∷ List.[]
+        g20 = e0 ∷ e1 ∷ l2 ∷ l3·1 ∷ e4 ∷ e5 ∷ e6 ∷ e7 ∷ e8 ∷ e9 ∷ e10 ∷ e11 ∷ e12 ∷ e13 ∷ e14 ∷ e15 ∷ List.[]
+
         abbrev g23 : List.List Row.Entry
-        g23 = (0, Rows.any-gone Laws''''.mir,) ∷ (1, Mut.mslice RelayPending.row ref4 0,) ∷ (2, Relend.mslice-owed RelayCircuit.row ref5 1 7 life3,) ∷
-            (3, Relend.mslice-owed InflightAction.row ref6 2 8 life1,) ∷ (4, Relend.mslice-owed (Referent.rtF (Referent.fInt Syntax.w32)) ref7 3 9
-            life2,) ∷ (5, Rows.whole (Declared'.row OpaqueRelayRuntime.the-type)) ∷ (6, Rows.whole (Declared'.row Places.the-type),) ∷ (7, Rows.whole
-            (Declared'.row SettlePlan.the-type)) ∷ (8, Rows.any-gone Syntax.tyBool,) ∷ (9, Rows.any-gone ref0,) ∷ (10, Rows.any-gone (Syntax.tyStruct
-            (38 ∷ 91 ∷ 93 ∷ List.[]) (Syntax.tcons ref0 (Syntax.tcons (Syntax.tyInt Syntax.w64) Syntax.tnil))),) ∷ (11, Rows.any-gone ref1,) ∷ (12,
-            Rows.any-gone (Syntax.tyStruct (38 ∷ 91 ∷ 93 ∷ List.[]) (Syntax.tcons ref1 (Syntax.tcons (Syntax.tyInt Syntax.w64) Syntax.tnil))),) ∷ (13,
-            Rows.any-gone ref2,) ∷ (14, Rows.any-gone (Syntax.tyStruct (38 ∷ 91 ∷ 93 ∷ List.[]) (Syntax.tcons ref2 (Syntax.tcons (Syntax.tyInt
-            Syntax.w64) Syntax.tnil))),) ∷ (15, Rows.any-gone ref3,) ∷ List.[]
+        g23 = e0 ∷ e1 ∷ l2 ∷ l3·1 ∷ l4·1 ∷ e5 ∷ e6 ∷ e7 ∷ e8 ∷ e9 ∷ e10 ∷ e11 ∷ e12 ∷ e13 ∷ e14 ∷ e15 ∷ List.[]
+
         abbrev g27 : List.List Row.Entry
-        g27 = (0, Rows.whole (Declared'.row Relayed.the-type)) ∷ (1, Mut.mslice RelayPending.row ref4 0,) ∷ (2, Relend.mslice-owed RelayCircuit.row
-            ref5 1 7 life3,) ∷ (3, Relend.mslice-owed InflightAction.row ref6 2 8 life1,) ∷ (4, Relend.mslice-owed (Referent.rtF (Referent.fInt
-            Syntax.w32)) ref7 3 9 life2,) ∷ (5, Rows.whole (Declared'.row OpaqueRelayRuntime.the-type)) ∷ (6, Rows.whole (Declared'.row
-            Places.the-type),) ∷ (7, Rows.whole (Declared'.row SettlePlan.the-type)) ∷ (8, Rows.any-gone Syntax.tyBool,) ∷ (9, Rows.any-gone ref0,) ∷
-            (10, Rows.any-gone (Syntax.tyStruct (38 ∷ 91 ∷ 93 ∷ List.[]) (Syntax.tcons ref0 (Syntax.tcons (Syntax.tyInt Syntax.w64) Syntax.tnil))),) ∷
-            (11, Rows.any-gone ref1,) ∷ (12, Rows.any-gone (Syntax.tyStruct (38 ∷ 91 ∷ 93 ∷ List.[]) (Syntax.tcons ref1 (Syntax.tcons (Syntax.tyInt
-            Syntax.w64) Syntax.tnil))),) ∷ (13, Rows.any-gone ref2,) ∷ (14, Rows.any-gone (Syntax.tyStruct (38 ∷ 91 ∷ 93 ∷ List.[]) (Syntax.tcons ref2
-            (Syntax.tcons (Syntax.tyInt Syntax.w64) Syntax.tnil))),) ∷ (15, Rows.any-gone ref3,) ∷ List.[]
+        g27 = e0·1 ∷ e1 ∷ l2 ∷ l3·1 ∷ l4·1 ∷ e5 ∷ e6 ∷ e7 ∷ e8 ∷ e9 ∷ e10 ∷ e11 ∷ e12 ∷ e13 ∷ e14 ∷ e15 ∷ List.[]
+
         abbrev g29 : List.List Row.Entry
-        g29 = (0, Rows.whole (Declared'.row Relayed.the-type)) ∷ (1, Mut.mslice RelayPending.row ref4 0,) ∷ (2, Relend.mslice-owed RelayCircuit.row
-            ref5 1 7 life3,) ∷ (3, Relend.mslice-owed InflightAction.row ref6 2 8 life1,) ∷ (4, Relend.mslice-owed (Referent.rtF (Referent.fInt
-            Syntax.w32)) ref7 3 9 life2,) ∷ (5, Rows.any-gone Laws'''.mir,) ∷ (6, Rows.whole (Declared'.row Places.the-type)) ∷ (7, Rows.whole
-            (Declared'.row SettlePlan.the-type),) ∷ (8, Rows.any-gone Syntax.tyBool) ∷ (9, Rows.any-gone ref0,) ∷ (10, Rows.any-gone (Syntax.tyStruct
-            (38 ∷ 91 ∷ 93 ∷ List.[]) (Syntax.tcons ref0 (Syntax.tcons (Syntax.tyInt Syntax.w64) Syntax.tnil))),) ∷ (11, Rows.any-gone ref1,) ∷ (12,
-            Rows.any-gone (Syntax.tyStruct (38 ∷ 91 ∷ 93 ∷ List.[]) (Syntax.tcons ref1 (Syntax.tcons (Syntax.tyInt Syntax.w64) Syntax.tnil))),) ∷ (13,
-            Rows.any-gone ref2,) ∷ (14, Rows.any-gone (Syntax.tyStruct (38 ∷ 91 ∷ 93 ∷ List.[]) (Syntax.tcons ref2 (Syntax.tcons (Syntax.tyInt
-            Syntax.w64) Syntax.tnil))),) ∷ (15, Rows.any-gone ref3,) ∷ List.[]
+        g29 = e0·1 ∷ e1 ∷ l2 ∷ l3·1 ∷ l4·1 ∷ e5·1 ∷ e6 ∷ e7 ∷ e8 ∷ e9 ∷ e10 ∷ e11 ∷ e12 ∷ e13 ∷ e14 ∷ e15 ∷ List.[]
+
         abbrev g30 : List.List Row.Entry
-        g30 = (0, Rows.whole (Declared'.row Relayed.the-type)) ∷ (1, Mut.mslice RelayPending.row ref4 0,) ∷ (2, Relend.mslice-owed RelayCircuit.row
-            ref5 1 7 life3,) ∷ (3, Relend.mslice-owed InflightAction.row ref6 2 8 life1,) ∷ (4, Relend.mslice-owed (Referent.rtF (Referent.fInt
-            Syntax.w32)) ref7 3 9 life2,) ∷ (5, Rows.any-gone Laws'''.mir,) ∷ (6, Rows.any-gone Laws''.mir,) ∷ (7, Rows.whole (Declared'.row
-            SettlePlan.the-type)) ∷ (8, Rows.any-gone Syntax.tyBool,) ∷ (9, Rows.any-gone ref0,) ∷ (10, Rows.any-gone (Syntax.tyStruct (38 ∷ 91 ∷ 93 ∷
-            List.[]) (Syntax.tcons ref0 (Syntax.tcons (Syntax.tyInt Syntax.w64) Syntax.tnil))),) ∷ (11, Rows.any-gone ref1,) ∷ (12, Rows.any-gone
-            (Syntax.tyStruct (38 ∷ 91 ∷ 93 ∷ List.[]) (Syntax.tcons ref1 (Syntax.tcons (Syntax.tyInt Syntax.w64) Syntax.tnil))),) ∷ (13, Rows.any-gone
-            ref2,) ∷ (14, Rows.any-gone (Syntax.tyStruct (38 ∷ 91 ∷ 93 ∷ List.[]) (Syntax.tcons ref2 (Syntax.tcons (Syntax.tyInt Syntax.w64)
-            Syntax.tnil))),) ∷ (15, Rows.any-gone ref3,) ∷ List.[]
+        g30 = e0·1 ∷ e1 ∷ l2 ∷ l3·1 ∷ l4·1 ∷ e5·1 ∷ e6·1 ∷ e7 ∷ e8 ∷ e9 ∷ e10 ∷ e11 ∷ e12 ∷ e13 ∷ e14 ∷ e15 ∷ List.[]
+
         abbrev g31 : List.List Row.Entry
-        g31 = (0, Rows.whole (Declared'.row Relayed.the-type)) ∷ (1, Mut.mslice RelayPending.row ref4 0,) ∷ (2, Relend.mslice-owed RelayCircuit.row
-            ref5 1 7 life3,) ∷ (3, Relend.mslice-owed InflightAction.row ref6 2 8 life1,) ∷ (4, Relend.mslice-owed (Referent.rtF (Referent.fInt
-            Syntax.w32)) ref7 3 9 life2,) ∷ (5, Rows.any-gone Laws'''.mir,) ∷ (6, Rows.any-gone Laws''.mir,) ∷ (7, Rows.any-gone Laws'.mir,) ∷ (8,
-            Rows.any-gone Syntax.tyBool) ∷ (9, Rows.any-gone ref0,) ∷ (10, Rows.any-gone (Syntax.tyStruct (38 ∷ 91 ∷ 93 ∷ List.[]) (Syntax.tcons ref0
-            (Syntax.tcons (Syntax.tyInt Syntax.w64) Syntax.tnil))),) ∷ (11, Rows.any-gone ref1,) ∷ (12, Rows.any-gone (Syntax.tyStruct (38 ∷ 91 ∷ 93 ∷
-            List.[]) (Syntax.tcons ref1 (Syntax.tcons (Syntax.tyInt Syntax.w64) Syntax.tnil))),) ∷ (13, Rows.any-gone ref2,) ∷ (14, Rows.any-gone
-            (Syntax.tyStruct (38 ∷ 91 ∷ 93 ∷ List.[]) (Syntax.tcons ref2 (Syntax.tcons (Syntax.tyInt Syntax.w64) Syntax.tnil))),) ∷ (15, Rows.any-gone
-            ref3,) ∷ List.[]
+        g31 = e0·1 ∷ e1 ∷ l2 ∷ l3·1 ∷ l4·1 ∷ e5·1 ∷ e6·1 ∷ e7·1 ∷ e8 ∷ e9 ∷ e10 ∷ e11 ∷ e12 ∷ e13 ∷ e14 ∷ e15 ∷ List.[]
+
         abbrev g33 : List.List Row.Entry
-        g33 = (0, Rows.whole (Declared'.row Relayed.the-type)) ∷ (1, Mut.mslice RelayPending.row ref4 0,) ∷ (2, Mut.mslice RelayCircuit.row ref5 1,) ∷
-            (3, Relend.mslice-owed InflightAction.row ref6 2 8 life1,) ∷ (4, Relend.mslice-owed (Referent.rtF (Referent.fInt Syntax.w32)) ref7 3 9
-            life2,) ∷ (5, Rows.any-gone Laws'''.mir,) ∷ (6, Rows.any-gone Laws''.mir,) ∷ (7, Rows.any-gone Laws'.mir,) ∷ (8, Rows.any-gone
-            Syntax.tyBool) ∷ (9, Rows.any-gone ref0,) ∷ (10, Rows.any-gone (Syntax.tyStruct (38 ∷ 91 ∷ 93 ∷ List.[]) (Syntax.tcons ref0 (Syntax.tcons
-            (Syntax.tyInt Syntax.w64) Syntax.tnil))),) ∷ (11, Rows.any-gone ref1,) ∷ (12, Rows.any-gone (Syntax.tyStruct (38 ∷ 91 ∷ 93 ∷ List.[])
-            (Syntax.tcons ref1 (Syntax.tcons (Syntax.tyInt Syntax.w64) Syntax.tnil))),) ∷ (13, Rows.any-gone ref2,) ∷ (14, Rows.any-gone
-            (Syntax.tyStruct (38 ∷ 91 ∷ 93 ∷ List.[]) (Syntax.tcons ref2 (Syntax.tcons (Syntax.tyInt Syntax.w64) Syntax.tnil))),) ∷ (15, Rows.any-gone
-            ref3,) ∷ List.[]
+        g33 = e0·1 ∷ e1 ∷ e2 ∷ l3·1 ∷ l4·1 ∷ e5·1 ∷ e6·1 ∷ e7·1 ∷ e8 ∷ e9 ∷ e10 ∷ e11 ∷ e12 ∷ e13 ∷ e14 ∷ e15 ∷ List.[]
+
         abbrev g35 : List.List Row.Entry
-        g35 = (0, Rows.whole (Declared'.row Relayed.the-type)) ∷ (1, Mut.mslice RelayPending.row ref4 0,) ∷ (2, Mut.mslice RelayCircuit.row ref5 1,) ∷
-            (3, Mut.mslice InflightAction.row ref6 2,) ∷ (4, Relend.mslice-owed (Referent.rtF (Referent.fInt Syntax.w32)) ref7 3 9 life2,) ∷ (5,
-            Rows.any-gone Laws'''.mir,) ∷ (6, Rows.any-gone Laws''.mir,) ∷ (7, Rows.any-gone Laws'.mir,) ∷ (8, Rows.any-gone Syntax.tyBool) ∷ (9,
-            Rows.any-gone ref0,) ∷ (10, Rows.any-gone (Syntax.tyStruct (38 ∷ 91 ∷ 93 ∷ List.[]) (Syntax.tcons ref0 (Syntax.tcons (Syntax.tyInt
-            Syntax.w64) Syntax.tnil))),) ∷ (11, Rows.any-gone ref1,) ∷ (12, Rows.any-gone (Syntax.tyStruct (38 ∷ 91 ∷ 93 ∷ List.[]) (Syntax.tcons ref1
-            (Syntax.tcons (Syntax.tyInt Syntax.w64) Syntax.tnil))),) ∷ (13, Rows.any-gone ref2,) ∷ (14, Rows.any-gone (Syntax.tyStruct (38 ∷ 91 ∷ 93 ∷
-            List.[]) (Syntax.tcons ref2 (Syntax.tcons (Syntax.tyInt Syntax.w64) Syntax.tnil))),) ∷ (15, Rows.any-gone ref3,) ∷ List.[]
+        g35 = e0·1 ∷ e1 ∷ e2 ∷ e3 ∷ l4·1 ∷ e5·1 ∷ e6·1 ∷ e7·1 ∷ e8 ∷ e9 ∷ e10 ∷ e11 ∷ e12 ∷ e13 ∷ e14 ∷ e15 ∷ List.[]
+
         abbrev G0 : Row.Cx
-        G0 = record { locals = List._++_ t0 t1; slots = life0 ∷ life3 ∷ life1 ∷ life2 ∷ Row.off ∷ Row.off ∷ Row.off ∷ Row.off ∷ Row.off ∷ Row.off ∷
-            List.[]; }
+        G0 = record {
+          locals = List._++_ t0 t1;
+          slots = life0 ∷ life3 ∷ life1 ∷ life2 ∷ Row.off ∷ Row.off ∷ Row.off ∷ Row.off ∷ Row.off ∷ Row.off ∷ List.[];
+        }
+
         abbrev G1 : Row.Cx
-        G1 = record { locals = List._++_ t2 t1; slots = life0 ∷ life3 ∷ life1 ∷ life2 ∷ Row.off ∷ Row.off ∷ Row.off ∷ Row.off ∷ Row.off ∷ Row.off ∷
-            List.[]; }
+        G1 = record {
+          locals = List._++_ t2 t1;
+          slots = life0 ∷ life3 ∷ life1 ∷ life2 ∷ Row.off ∷ Row.off ∷ Row.off ∷ Row.off ∷ Row.off ∷ Row.off ∷ List.[];
+        }
+
         abbrev G2 : Row.Cx
-        G2 = record { locals = List._++_ t0 t1; slots = life0 ∷ life3 ∷ life1 ∷ life2 ∷ Row.off ∷ Row.off ∷ Row.off ∷ Row.off ∷ Row.off ∷ Row.off ∷
-            List.[]; }
+        G2 = record {
+          locals = List._++_ t0 t1;
+          slots = life0 ∷ life3 ∷ life1 ∷ life2 ∷ Row.off ∷ Row.off ∷ Row.off ∷ Row.off ∷ Row.off ∷ Row.off ∷ List.[];
+        }
+
         abbrev G3 : Row.Cx
-        G3 = record { locals = List._++_ t3 t1; slots = life0 ∷ life3 ∷ life1 ∷ life2 ∷ Row.off ∷ Row.off ∷ Row.off ∷ Row.off ∷ Row.off ∷ Row.off ∷
-            List.[]; }
+        G3 = record {
+          locals = List._++_ t3 t1;
+          slots = life0 ∷ life3 ∷ life1 ∷ life2 ∷ Row.off ∷ Row.off ∷ Row.off ∷ Row.off ∷ Row.off ∷ Row.off ∷ List.[];
+        }
+
         abbrev G4 : Row.Cx
-        G4 = record { locals = List._++_ t0 t1; slots = life0 ∷ life3 ∷ life1 ∷ life2 ∷ Row.off ∷ Row.off ∷ Row.off ∷ Row.off ∷ Row.off ∷ Row.off ∷
-            List.[]; }
+        G4 = record {
+          locals = List._++_ t0 t1;
+          slots = life0 ∷ life3 ∷ life1 ∷ life2 ∷ Row.off ∷ Row.off ∷ Row.off ∷ Row.off ∷ Row.off ∷ Row.off ∷ List.[];
+        }
+
         abbrev G5 : Row.Cx
-        G5 = record { locals = List._++_ t0 t1; slots = life0 ∷ life3 ∷ life1 ∷ life2 ∷ Row.off ∷ Row.off ∷ Row.off ∷ Row.off ∷ Row.off ∷ Row.off ∷
-            List.[]; }
+        G5 = record {
+          locals = List._++_ t0 t1;
+          slots = life0 ∷ life3 ∷ life1 ∷ life2 ∷ Row.off ∷ Row.off ∷ Row.off ∷ Row.off ∷ Row.off ∷ Row.off ∷ List.[];
+        }
+
         abbrev G6 : Row.Cx
-        G6 = record { locals = List._++_ t0 t1; slots = life0 ∷ life3 ∷ life1 ∷ life2 ∷ Row.alive ∷ Row.off ∷ Row.off ∷ Row.off ∷ Row.off ∷ Row.off ∷
-            List.[]; }
+        G6 = record {
+          locals = List._++_ t0 t1;
+          slots = life0 ∷ life3 ∷ life1 ∷ life2 ∷ Row.alive ∷ Row.off ∷ Row.off ∷ Row.off ∷ Row.off ∷ Row.off ∷ List.[];
+        }
+
         abbrev G7 : Row.Cx
-        G7 = record { locals = List._++_ g4 t1; slots = Row.off ∷ life3 ∷ life1 ∷ life2 ∷ Row.alive ∷ Row.off ∷ Row.off ∷ Row.off ∷ Row.off ∷ Row.off
-            ∷ List.[]; }
+        G7 = record {
+          locals = List._++_ g4 t1;
+          slots = Row.off ∷ life3 ∷ life1 ∷ life2 ∷ Row.alive ∷ Row.off ∷ Row.off ∷ Row.off ∷ Row.off ∷ Row.off ∷
+              List.[];
+        }
+
         abbrev G8 : Row.Cx
-        G8 = record { locals = List._++_ g5 t1; slots = Row.off ∷ life3 ∷ life1 ∷ life2 ∷ Row.alive ∷ Row.off ∷ Row.off ∷ Row.off ∷ Row.off ∷ Row.off
-            ∷ List.[]; }
+        G8 = record {
+          locals = List._++_ g5 t1;
+          slots = Row.off ∷ life3 ∷ life1 ∷ life2 ∷ Row.alive ∷ Row.off ∷ Row.off ∷ Row.off ∷ Row.off ∷ Row.off ∷
+              List.[];
+        }
+
         abbrev G9 : Row.Cx
-        G9 = record { locals = List._++_ g5 t1; slots = Row.off ∷ life3 ∷ life1 ∷ life2 ∷ Row.alive ∷ Row.alive ∷ Row.off ∷ Row.off ∷ Row.off ∷
-            Row.off ∷ List.[]; }
+        G9 = record {
+          locals = List._++_ g5 t1;
+          slots = Row.off ∷ life3 ∷ life1 ∷ life2 ∷ Row.alive ∷ Row.alive ∷ Row.off ∷ Row.off ∷ Row.off ∷ Row.off ∷
+              List.[];
+        }
+
         abbrev G10 : Row.Cx
-        G10 = record { locals = List._++_ g6 t1; slots = Row.off ∷ life3 ∷ Row.off ∷ life2 ∷ Row.alive ∷ Row.alive ∷ Row.off ∷ Row.off ∷ Row.off ∷
-            Row.off ∷ List.[]; }
+        G10 = record {
+          locals = List._++_ g6 t1;
+          slots = Row.off ∷ life3 ∷ Row.off ∷ life2 ∷ Row.alive ∷ Row.alive ∷ Row.off ∷ Row.off ∷ Row.off ∷ Row.off ∷
+              List.[];
+        }
+
         abbrev G11 : Row.Cx
-        G11 = record { locals = List._++_ g7 t1; slots = Row.off ∷ life3 ∷ Row.off ∷ life2 ∷ Row.alive ∷ Row.alive ∷ Row.off ∷ Row.off ∷ Row.off ∷
-            Row.off ∷ List.[]; }
+        G11 = record {
+          locals = List._++_ g7 t1;
+          slots = Row.off ∷ life3 ∷ Row.off ∷ life2 ∷ Row.alive ∷ Row.alive ∷ Row.off ∷ Row.off ∷ Row.off ∷ Row.off ∷
+              List.[];
+        }
+
         abbrev G12 : Row.Cx
-        G12 = record { locals = List._++_ g7 t1; slots = Row.off ∷ life3 ∷ Row.off ∷ life2 ∷ Row.alive ∷ Row.alive ∷ Row.alive ∷ Row.off ∷ Row.off ∷
-            Row.off ∷ List.[]; }
+        G12 = record {
+          locals = List._++_ g7 t1;
+          slots = Row.off ∷ life3 ∷ Row.off ∷ life2 ∷ Row.alive ∷ Row.alive ∷ Row.alive ∷ Row.off ∷ Row.off ∷ Row.off ∷
+              List.[];
+        }
+
         abbrev G13 : Row.Cx
-        G13 = record { locals = List._++_ g8 t1; slots = Row.off ∷ life3 ∷ Row.off ∷ Row.off ∷ Row.alive ∷ Row.alive ∷ Row.alive ∷ Row.off ∷ Row.off ∷
-            Row.off ∷ List.[]; }
+        G13 = record {
+          locals = List._++_ g8 t1;
+          slots = Row.off ∷ life3 ∷ Row.off ∷ Row.off ∷ Row.alive ∷ Row.alive ∷ Row.alive ∷ Row.off ∷ Row.off ∷ Row.off
+              ∷ List.[];
+        }
+
         abbrev G14 : Row.Cx
-        G14 = record { locals = List._++_ g9 t1; slots = Row.off ∷ life3 ∷ Row.off ∷ Row.off ∷ Row.alive ∷ Row.alive ∷ Row.alive ∷ Row.off ∷ Row.off ∷
-            Row.off ∷ List.[]; }
+        G14 = record {
+          locals = List._++_ g9 t1;
+          slots = Row.off ∷ life3 ∷ Row.off ∷ Row.off ∷ Row.alive ∷ Row.alive ∷ Row.alive ∷ Row.off ∷ Row.off ∷ Row.off
+              ∷ List.[];
+        }
+
         abbrev G15 : Row.Cx
-        G15 = record { locals = List._++_ g10 t1; slots = Row.off ∷ life3 ∷ Row.off ∷ Row.off ∷ Row.alive ∷ Row.alive ∷ Row.alive ∷ Row.off ∷ Row.off
-            ∷ Row.off ∷ List.[]; }
+        G15 = record {
+          locals = List._++_ g10 t1;
+          slots = Row.off ∷ life3 ∷ Row.off ∷ Row.off ∷ Row.alive ∷ Row.alive ∷ Row.alive ∷ Row.off ∷ Row.off ∷ Row.off
+              ∷ List.[];
+        }
+
         abbrev G16 : Row.Cx
-        G16 = record { locals = List._++_ g11 t1; slots = Row.off ∷ life3 ∷ Row.off ∷ Row.off ∷ Row.alive ∷ Row.alive ∷ Row.alive ∷ Row.off ∷ Row.off
-            ∷ Row.off ∷ List.[]; }
+        G16 = record {
+          locals = List._++_ g11 t1;
+          slots = Row.off ∷ life3 ∷ Row.off ∷ Row.off ∷ Row.alive ∷ Row.alive ∷ Row.alive ∷ Row.off ∷ Row.off ∷ Row.off
+              ∷ List.[];
+        }
+
         abbrev G17 : Row.Cx
-        G17 = record { locals = List._++_ g12 t1; slots = Row.off ∷ life3 ∷ Row.off ∷ Row.off ∷ Row.alive ∷ Row.alive ∷ Row.alive ∷ Row.off ∷ Row.off
-            ∷ Row.off ∷ List.[]; }
+        G17 = record {
+          locals = List._++_ g12 t1;
+          slots = Row.off ∷ life3 ∷ Row.off ∷ Row.off ∷ Row.alive ∷ Row.alive ∷ Row.alive ∷ Row.off ∷ Row.off ∷ Row.off
+              ∷ List.[];
+        }
+
         abbrev G18 : Row.Cx
-        G18 = record { locals = List._++_ g13 t1; slots = Row.off ∷ life3 ∷ Row.off ∷ Row.off ∷ Row.alive ∷ Row.alive ∷ Row.alive ∷ Row.off ∷ Row.off
-            ∷ Row.off ∷ List.[]; }
+        G18 = record {
+          locals = List._++_ g13 t1;
+          slots = Row.off ∷ life3 ∷ Row.off ∷ Row.off ∷ Row.alive ∷ Row.alive ∷ Row.alive ∷ Row.off ∷ Row.off ∷ Row.off
+              ∷ List.[];
+        }
+
         abbrev G19 : Row.Cx
-        G19 = record { locals = List._++_ g13 t1; slots = Row.off ∷ life3 ∷ Row.off ∷ Row.off ∷ Row.dead ∷ Row.alive ∷ Row.alive ∷ Row.off ∷ Row.off ∷
-            Row.off ∷ List.[]; }
+        G19 = record {
+          locals = List._++_ g13 t1;
+          slots = Row.off ∷ life3 ∷ Row.off ∷ Row.off ∷ Row.dead ∷ Row.alive ∷ Row.alive ∷ Row.off ∷ Row.off ∷ Row.off
+              ∷ List.[];
+        }
+
         abbrev G20 : Row.Cx
-        G20 = record { locals = List._++_ g14 t1; slots = life0 ∷ life3 ∷ Row.off ∷ Row.off ∷ Row.dead ∷ Row.alive ∷ Row.alive ∷ Row.off ∷ Row.off ∷
-            Row.off ∷ List.[]; }
+        G20 = record {
+          locals = List._++_ g14 t1;
+          slots = life0 ∷ life3 ∷ Row.off ∷ Row.off ∷ Row.dead ∷ Row.alive ∷ Row.alive ∷ Row.off ∷ Row.off ∷ Row.off ∷
+              List.[];
+        }
+
         abbrev G21 : Row.Cx
-        G21 = record { locals = List._++_ g14 t1; slots = life0 ∷ life3 ∷ Row.off ∷ Row.off ∷ Row.off ∷ Row.alive ∷ Row.alive ∷ Row.off ∷ Row.off ∷
-            Row.off ∷ List.[]; }
+        G21 = record {
+          locals = List._++_ g14 t1;
+          slots = life0 ∷ life3 ∷ Row.off ∷ Row.off ∷ Row.off ∷ Row.alive ∷ Row.alive ∷ Row.off ∷ Row.off ∷ Row.off ∷
+              List.[];
+        }
+
         abbrev G22 : Row.Cx
-        G22 = record { locals = List._++_ g14 t1; slots = life0 ∷ life3 ∷ Row.off ∷ Row.off ∷ Row.off ∷ Row.dead ∷ Row.alive ∷ Row.off ∷ Row.off ∷
-            Row.off ∷ List.[]; }
+        G22 = record {
+          locals = List._++_ g14 t1;
+          slots = life0 ∷ life3 ∷ Row.off ∷ Row.off ∷ Row.off ∷ Row.dead ∷ Row.alive ∷ Row.off ∷ Row.off ∷ Row.off ∷
+              List.[];
+        }
+
         abbrev G23 : Row.Cx
-        G23 = record { locals = List._++_ g15 t1; slots = life0 ∷ life3 ∷ life1 ∷ Row.off ∷ Row.off ∷ Row.dead ∷ Row.alive ∷ Row.off ∷ Row.off ∷
-            Row.off ∷ List.[]; }
+        G23 = record {
+          locals = List._++_ g15 t1;
+          slots = life0 ∷ life3 ∷ life1 ∷ Row.off ∷ Row.off ∷ Row.dead ∷ Row.alive ∷ Row.off ∷ Row.off ∷ Row.off ∷
+              List.[];
+        }
+
         abbrev G24 : Row.Cx
-        G24 = record { locals = List._++_ g15 t1; slots = life0 ∷ life3 ∷ life1 ∷ Row.off ∷ Row.off ∷ Row.off ∷ Row.alive ∷ Row.off ∷ Row.off ∷
-            Row.off ∷ List.[]; }
+        G24 = record {
+          locals = List._++_ g15 t1;
+          slots = life0 ∷ life3 ∷ life1 ∷ Row.off ∷ Row.off ∷ Row.off ∷ Row.alive ∷ Row.off ∷ Row.off ∷ Row.off ∷
+              List.[];
+        }
+
         abbrev G25 : Row.Cx
-        G25 = record { locals = List._++_ g15 t1; slots = life0 ∷ life3 ∷ life1 ∷ Row.off ∷ Row.off ∷ Row.off ∷ Row.dead ∷ Row.off ∷ Row.off ∷ Row.off
-            ∷ List.[]; }
+        G25 = record {
+          locals = List._++_ g15 t1;
+          slots = life0 ∷ life3 ∷ life1 ∷ Row.off ∷ Row.off ∷ Row.off ∷ Row.dead ∷ Row.off ∷ Row.off ∷ Row.off ∷
+              List.[];
+        }
+
         abbrev G26 : Row.Cx
-        G26 = record { locals = List._++_ t2 t1; slots = life0 ∷ life3 ∷ life1 ∷ life2 ∷ Row.off ∷ Row.off ∷ Row.dead ∷ Row.off ∷ Row.off ∷ Row.off ∷
-            List.[]; }
+        G26 = record {
+          locals = List._++_ t2 t1;
+          slots = life0 ∷ life3 ∷ life1 ∷ life2 ∷ Row.off ∷ Row.off ∷ Row.dead ∷ Row.off ∷ Row.off ∷ Row.off ∷ List.[];
+        }
+
         abbrev G27 : Row.Cx
-        G27 = record { locals = List._++_ t2 t1; slots = life0 ∷ life3 ∷ life1 ∷ life2 ∷ Row.off ∷ Row.off ∷ Row.dead ∷ Row.off ∷ Row.off ∷ Row.off ∷
-            List.[]; }
+        G27 = record {
+          locals = List._++_ t2 t1;
+          slots = life0 ∷ life3 ∷ life1 ∷ life2 ∷ Row.off ∷ Row.off ∷ Row.dead ∷ Row.off ∷ Row.off ∷ Row.off ∷ List.[];
+        }
+
         abbrev G28 : Row.Cx
-        G28 = record { locals = List._++_ t2 t1; slots = life0 ∷ life3 ∷ life1 ∷ life2 ∷ Row.off ∷ Row.off ∷ Row.off ∷ Row.off ∷ Row.off ∷ Row.off ∷
-            List.[]; }
+        G28 = record {
+          locals = List._++_ t2 t1;
+          slots = life0 ∷ life3 ∷ life1 ∷ life2 ∷ Row.off ∷ Row.off ∷ Row.off ∷ Row.off ∷ Row.off ∷ Row.off ∷ List.[];
+        }
+
         abbrev G29 : Row.Cx
-        G29 = record { locals = List._++_ t0 t1; slots = life0 ∷ life3 ∷ life1 ∷ life2 ∷ Row.off ∷ Row.off ∷ Row.off ∷ Row.off ∷ Row.off ∷ Row.off ∷
-            List.[]; }
+        G29 = record {
+          locals = List._++_ t0 t1;
+          slots = life0 ∷ life3 ∷ life1 ∷ life2 ∷ Row.off ∷ Row.off ∷ Row.off ∷ Row.off ∷ Row.off ∷ Row.off ∷ List.[];
+        }
+
         abbrev G30 : Row.Cx
-        G30 = record { locals = List._++_ t3 t1; slots = life0 ∷ life3 ∷ life1 ∷ life2 ∷ Row.off ∷ Row.off ∷ Row.off ∷ Row.off ∷ Row.off ∷ Row.off ∷
-            List.[]; }
+        G30 = record {
+          locals = List._++_ t3 t1;
+          slots = life0 ∷ life3 ∷ life1 ∷ life2 ∷ Row.off ∷ Row.off ∷ Row.off ∷ Row.off ∷ Row.off ∷ Row.off ∷ List.[];
+        }
+
         abbrev G31 : Row.Cx
-        G31 = record { locals = List._++_ t16 t1; slots = life0 ∷ life3 ∷ life1 ∷ life2 ∷ Row.off ∷ Row.off ∷ Row.off ∷ Row.off ∷ Row.off ∷ Row.off ∷
-            List.[]; }
+        G31 = record {
+          locals = List._++_ t16 t1;
+          slots = life0 ∷ life3 ∷ life1 ∷ life2 ∷ Row.off ∷ Row.off ∷ Row.off ∷ Row.off ∷ Row.off ∷ Row.off ∷ List.[];
+        }
+
         abbrev G32 : Row.Cx
-        G32 = record { locals = List._++_ t0 t1; slots = life0 ∷ life3 ∷ life1 ∷ life2 ∷ Row.off ∷ Row.off ∷ Row.off ∷ Row.off ∷ Row.off ∷ Row.off ∷
-            List.[]; }
+        G32 = record {
+          locals = List._++_ t0 t1;
+          slots = life0 ∷ life3 ∷ life1 ∷ life2 ∷ Row.off ∷ Row.off ∷ Row.off ∷ Row.off ∷ Row.off ∷ Row.off ∷ List.[];
+        }
+
         abbrev G33 : Row.Cx
-        G33 = record { locals = List._++_ t0 t1; slots = life0 ∷ life3 ∷ life1 ∷ life2 ∷ Row.off ∷ Row.off ∷ Row.off ∷ Row.alive ∷ Row.off ∷ Row.off ∷
-            List.[]; }
+        G33 = record {
+          locals = List._++_ t0 t1;
+          slots = life0 ∷ life3 ∷ life1 ∷ life2 ∷ Row.off ∷ Row.off ∷ Row.off ∷ Row.alive ∷ Row.off ∷ Row.off ∷ List.[];
+        }
+
         abbrev G34 : Row.Cx
-        G34 = record { locals = List._++_ g17 t1; slots = life0 ∷ Row.off ∷ life1 ∷ life2 ∷ Row.off ∷ Row.off ∷ Row.off ∷ Row.alive ∷ Row.off ∷
-            Row.off ∷ List.[]; }
+        G34 = record {
+          locals = List._++_ g17 t1;
+          slots = life0 ∷ Row.off ∷ life1 ∷ life2 ∷ Row.off ∷ Row.off ∷ Row.off ∷ Row.alive ∷ Row.off ∷ Row.off ∷
+              List.[];
+        }
+
         abbrev G35 : Row.Cx
-        G35 = record { locals = List._++_ g18 t19; slots = life0 ∷ Row.off ∷ life1 ∷ life2 ∷ Row.off ∷ Row.off ∷ Row.off ∷ Row.alive ∷ Row.off ∷
-            Row.off ∷ List.[]; }
+        G35 = record {
+          locals = List._++_ g18 t19;
+          slots = life0 ∷ Row.off ∷ life1 ∷ life2 ∷ Row.off ∷ Row.off ∷ Row.off ∷ Row.alive ∷ Row.off ∷ Row.off ∷
+              List.[];
+        }
+
         abbrev G36 : Row.Cx
-        G36 = record { locals = List._++_ g18 t19; slots = life0 ∷ Row.off ∷ life1 ∷ life2 ∷ Row.off ∷ Row.off ∷ Row.off ∷ Row.alive ∷ Row.alive ∷
-            Row.off ∷ List.[]; }
+        G36 = record {
+          locals = List._++_ g18 t19;
+          slots = life0 ∷ Row.off ∷ life1 ∷ life2 ∷ Row.off ∷ Row.off ∷ Row.off ∷ Row.alive ∷ Row.alive ∷ Row.off ∷
+              List.[];
+        }
+
         abbrev G37 : Row.Cx
-        G37 = record { locals = List._++_ g20 t21; slots = life0 ∷ Row.off ∷ Row.off ∷ life2 ∷ Row.off ∷ Row.off ∷ Row.off ∷ Row.alive ∷ Row.alive ∷
-            Row.off ∷ List.[]; }
+        G37 = record {
+          locals = List._++_ g20 t21;
+          slots = life0 ∷ Row.off ∷ Row.off ∷ life2 ∷ Row.off ∷ Row.off ∷ Row.off ∷ Row.alive ∷ Row.alive ∷ Row.off ∷
+              List.[];
+        }
+
         abbrev G38 : Row.Cx
-        G38 = record { locals = List._++_ g20 t22; slots = life0 ∷ Row.off ∷ Row.off ∷ life2 ∷ Row.off ∷ Row.off ∷ Row.off ∷ Row.alive ∷ Row.alive ∷
-            Row.off ∷ List.[]; }
+        G38 = record {
+          locals = List._++_ g20 t22;
+          slots = life0 ∷ Row.off ∷ Row.off ∷ life2 ∷ Row.off ∷ Row.off ∷ Row.off ∷ Row.alive ∷ Row.alive ∷ Row.off ∷
+              List.[];
+        }
+
         abbrev G39 : Row.Cx
-        G39 = record { locals = List._++_ g20 t22; slots = life0 ∷ Row.off ∷ Row.off ∷ life2 ∷ Row.off ∷ Row.off ∷ Row.off ∷ Row.alive ∷ Row.alive ∷
-            Row.alive ∷ List.[]; }
+        G39 = record {
+          locals = List._++_ g20 t22;
+          slots = life0 ∷ Row.off ∷ Row.off ∷ life2 ∷ Row.off ∷ Row.off ∷ Row.off ∷ Row.alive ∷ Row.alive ∷ Row.alive ∷
+              List.[];
+        }
+
         abbrev G40 : Row.Cx
-        G40 = record { locals = List._++_ g23 t24; slots = life0 ∷ Row.off ∷ Row.off ∷ Row.off ∷ Row.off ∷ Row.off ∷ Row.off ∷ Row.alive ∷ Row.alive ∷
-            Row.alive ∷ List.[]; }
+        G40 = record {
+          locals = List._++_ g23 t24;
+          slots = life0 ∷ Row.off ∷ Row.off ∷ Row.off ∷ Row.off ∷ Row.off ∷ Row.off ∷ Row.alive ∷ Row.alive ∷ Row.alive
+              ∷ List.[];
+        }
+
         abbrev G41 : Row.Cx
-        G41 = record { locals = List._++_ g23 t25; slots = life0 ∷ Row.off ∷ Row.off ∷ Row.off ∷ Row.off ∷ Row.off ∷ Row.off ∷ Row.alive ∷ Row.alive ∷
-            Row.alive ∷ List.[]; }
+        G41 = record {
+          locals = List._++_ g23 t25;
+          slots = life0 ∷ Row.off ∷ Row.off ∷ Row.off ∷ Row.off ∷ Row.off ∷ Row.off ∷ Row.alive ∷ Row.alive ∷ Row.alive
+              ∷ List.[];
+        }
+
         abbrev G42 : Row.Cx
-        G42 = record { locals = List._++_ g23 t26; slots = life0 ∷ Row.off ∷ Row.off ∷ Row.off ∷ Row.off ∷ Row.off ∷ Row.off ∷ Row.alive ∷ Row.alive ∷
-            Row.alive ∷ List.[]; }
+        G42 = record {
+          locals = List._++_ g23 t26;
+          slots = life0 ∷ Row.off ∷ Row.off ∷ Row.off ∷ Row.off ∷ Row.off ∷ Row.off ∷ Row.alive ∷ Row.alive ∷ Row.alive
+              ∷ List.[];
+        }
+
         abbrev G43 : Row.Cx
-        G43 = record { locals = List._++_ g27 t28; slots = life0 ∷ Row.off ∷ Row.off ∷ Row.off ∷ Row.off ∷ Row.off ∷ Row.off ∷ Row.alive ∷ Row.alive ∷
-            Row.alive ∷ List.[]; }
+        G43 = record {
+          locals = List._++_ g27 t28;
+          slots = life0 ∷ Row.off ∷ Row.off ∷ Row.off ∷ Row.off ∷ Row.off ∷ Row.off ∷ Row.alive ∷ Row.alive ∷ Row.alive
+              ∷ List.[];
+        }
+
         abbrev G44 : Row.Cx
-        G44 = record { locals = List._++_ g29 t28; slots = life0 ∷ Row.off ∷ Row.off ∷ Row.off ∷ Row.off ∷ Row.off ∷ Row.off ∷ Row.alive ∷ Row.alive ∷
-            Row.alive ∷ List.[]; }
+        G44 = record {
+          locals = List._++_ g29 t28;
+          slots = life0 ∷ Row.off ∷ Row.off ∷ Row.off ∷ Row.off ∷ Row.off ∷ Row.off ∷ Row.alive ∷ Row.alive ∷ Row.alive
+              ∷ List.[];
+        }
+
         abbrev G45 : Row.Cx
-        G45 = record { locals = List._++_ g30 t28; slots = life0 ∷ Row.off ∷ Row.off ∷ Row.off ∷ Row.off ∷ Row.off ∷ Row.off ∷ Row.alive ∷ Row.alive ∷
-            Row.alive ∷ List.[]; }
+        G45 = record {
+          locals = List._++_ g30 t28;
+          slots = life0 ∷ Row.off ∷ Row.off ∷ Row.off ∷ Row.off ∷ Row.off ∷ Row.off ∷ Row.alive ∷ Row.alive ∷ Row.alive
+              ∷ List.[];
+        }
+
         abbrev G46 : Row.Cx
-        G46 = record { locals = List._++_ g31 t28; slots = life0 ∷ Row.off ∷ Row.off ∷ Row.off ∷ Row.off ∷ Row.off ∷ Row.off ∷ Row.alive ∷ Row.alive ∷
-            Row.alive ∷ List.[]; }
+        G46 = record {
+          locals = List._++_ g31 t28;
+          slots = life0 ∷ Row.off ∷ Row.off ∷ Row.off ∷ Row.off ∷ Row.off ∷ Row.off ∷ Row.alive ∷ Row.alive ∷ Row.alive
+              ∷ List.[];
+        }
+
         abbrev G47 : Row.Cx
-        G47 = record { locals = List._++_ g31 t32; slots = life0 ∷ Row.off ∷ Row.off ∷ Row.off ∷ Row.off ∷ Row.off ∷ Row.off ∷ Row.alive ∷ Row.alive ∷
-            Row.alive ∷ List.[]; }
+        G47 = record {
+          locals = List._++_ g31 t32;
+          slots = life0 ∷ Row.off ∷ Row.off ∷ Row.off ∷ Row.off ∷ Row.off ∷ Row.off ∷ Row.alive ∷ Row.alive ∷ Row.alive
+              ∷ List.[];
+        }
+
         abbrev G48 : Row.Cx
-        G48 = record { locals = List._++_ g31 t32; slots = life0 ∷ Row.off ∷ Row.off ∷ Row.off ∷ Row.off ∷ Row.off ∷ Row.off ∷ Row.dead ∷ Row.alive ∷
-            Row.alive ∷ List.[]; }
+        G48 = record {
+          locals = List._++_ g31 t32;
+          slots = life0 ∷ Row.off ∷ Row.off ∷ Row.off ∷ Row.off ∷ Row.off ∷ Row.off ∷ Row.dead ∷ Row.alive ∷ Row.alive
+              ∷ List.[];
+        }
+
         abbrev G49 : Row.Cx
-        G49 = record { locals = List._++_ g33 t34; slots = life0 ∷ life3 ∷ Row.off ∷ Row.off ∷ Row.off ∷ Row.off ∷ Row.off ∷ Row.dead ∷ Row.alive ∷
-            Row.alive ∷ List.[]; }
+        G49 = record {
+          locals = List._++_ g33 t34;
+          slots = life0 ∷ life3 ∷ Row.off ∷ Row.off ∷ Row.off ∷ Row.off ∷ Row.off ∷ Row.dead ∷ Row.alive ∷ Row.alive ∷
+              List.[];
+        }
+
         abbrev G50 : Row.Cx
-        G50 = record { locals = List._++_ g33 t34; slots = life0 ∷ life3 ∷ Row.off ∷ Row.off ∷ Row.off ∷ Row.off ∷ Row.off ∷ Row.off ∷ Row.alive ∷
-            Row.alive ∷ List.[]; }
+        G50 = record {
+          locals = List._++_ g33 t34;
+          slots = life0 ∷ life3 ∷ Row.off ∷ Row.off ∷ Row.off ∷ Row.off ∷ Row.off ∷ Row.off ∷ Row.alive ∷ Row.alive ∷
+              List.[];
+        }
+
         abbrev G51 : Row.Cx
-        G51 = record { locals = List._++_ g33 t34; slots = life0 ∷ life3 ∷ Row.off ∷ Row.off ∷ Row.off ∷ Row.off ∷ Row.off ∷ Row.off ∷ Row.dead ∷
-            Row.alive ∷ List.[]; }
+        G51 = record {
+          locals = List._++_ g33 t34;
+          slots = life0 ∷ life3 ∷ Row.off ∷ Row.off ∷ Row.off ∷ Row.off ∷ Row.off ∷ Row.off ∷ Row.dead ∷ Row.alive ∷
+              List.[];
+        }
+
         abbrev G52 : Row.Cx
-        G52 = record { locals = List._++_ g35 t36; slots = life0 ∷ life3 ∷ life1 ∷ Row.off ∷ Row.off ∷ Row.off ∷ Row.off ∷ Row.off ∷ Row.dead ∷
-            Row.alive ∷ List.[]; }
+        G52 = record {
+          locals = List._++_ g35 t36;
+          slots = life0 ∷ life3 ∷ life1 ∷ Row.off ∷ Row.off ∷ Row.off ∷ Row.off ∷ Row.off ∷ Row.dead ∷ Row.alive ∷
+              List.[];
+        }
+
         abbrev G53 : Row.Cx
-        G53 = record { locals = List._++_ g35 t36; slots = life0 ∷ life3 ∷ life1 ∷ Row.off ∷ Row.off ∷ Row.off ∷ Row.off ∷ Row.off ∷ Row.off ∷
-            Row.alive ∷ List.[]; }
+        G53 = record {
+          locals = List._++_ g35 t36;
+          slots = life0 ∷ life3 ∷ life1 ∷ Row.off ∷ Row.off ∷ Row.off ∷ Row.off ∷ Row.off ∷ Row.off ∷ Row.alive ∷
+              List.[];
+        }
+
         abbrev G54 : Row.Cx
-        G54 = record { locals = List._++_ g35 t36; slots = life0 ∷ life3 ∷ life1 ∷ Row.off ∷ Row.off ∷ Row.off ∷ Row.off ∷ Row.off ∷ Row.off ∷
-            Row.dead ∷ List.[]; }
+        G54 = record {
+          locals = List._++_ g35 t36;
+          slots = life0 ∷ life3 ∷ life1 ∷ Row.off ∷ Row.off ∷ Row.off ∷ Row.off ∷ Row.off ∷ Row.off ∷ Row.dead ∷
+              List.[];
+        }
+
         abbrev G55 : Row.Cx
-        G55 = record { locals = List._++_ t2 t1; slots = life0 ∷ life3 ∷ life1 ∷ life2 ∷ Row.off ∷ Row.off ∷ Row.off ∷ Row.off ∷ Row.off ∷ Row.dead ∷
-            List.[]; }
+        G55 = record {
+          locals = List._++_ t2 t1;
+          slots = life0 ∷ life3 ∷ life1 ∷ life2 ∷ Row.off ∷ Row.off ∷ Row.off ∷ Row.off ∷ Row.off ∷ Row.dead ∷ List.[];
+        }
+
         abbrev G56 : Row.Cx
-        G56 = record { locals = List._++_ t2 t1; slots = life0 ∷ life3 ∷ life1 ∷ life2 ∷ Row.off ∷ Row.off ∷ Row.off ∷ Row.off ∷ Row.off ∷ Row.dead ∷
-            List.[]; }
+        G56 = record {
+          locals = List._++_ t2 t1;
+          slots = life0 ∷ life3 ∷ life1 ∷ life2 ∷ Row.off ∷ Row.off ∷ Row.off ∷ Row.off ∷ Row.off ∷ Row.dead ∷ List.[];
+        }
+
         abbrev G57 : Row.Cx
-        G57 = record { locals = List._++_ t2 t1; slots = life0 ∷ life3 ∷ life1 ∷ life2 ∷ Row.off ∷ Row.off ∷ Row.off ∷ Row.off ∷ Row.off ∷ Row.off ∷
-            List.[]; }
+        G57 = record {
+          locals = List._++_ t2 t1;
+          slots = life0 ∷ life3 ∷ life1 ∷ life2 ∷ Row.off ∷ Row.off ∷ Row.off ∷ Row.off ∷ Row.off ∷ Row.off ∷ List.[];
+        }
+
         abbrev G58 : Row.Cx
-        G58 = record { locals = List._++_ t37 t1; slots = life0 ∷ life3 ∷ life1 ∷ life2 ∷ Row.off ∷ Row.off ∷ Row.off ∷ Row.off ∷ Row.off ∷ Row.off ∷
-            List.[]; }
+        G58 = record {
+          locals = List._++_ t37 t1;
+          slots = life0 ∷ life3 ∷ life1 ∷ life2 ∷ Row.off ∷ Row.off ∷ Row.off ∷ Row.off ∷ Row.off ∷ Row.off ∷ List.[];
+        }
+
         abbrev G59 : Row.Cx
-        G59 = record { locals = List._++_ t16 t1; slots = life0 ∷ life3 ∷ life1 ∷ life2 ∷ Row.off ∷ Row.off ∷ Row.off ∷ Row.off ∷ Row.off ∷ Row.off ∷
-            List.[]; }
+        G59 = record {
+          locals = List._++_ t16 t1;
+          slots = life0 ∷ life3 ∷ life1 ∷ life2 ∷ Row.off ∷ Row.off ∷ Row.off ∷ Row.off ∷ Row.off ∷ Row.off ∷ List.[];
+        }
+
         abbrev G60 : Row.Cx
-        G60 = record { locals = List._++_ t38 t1; slots = life0 ∷ life3 ∷ life1 ∷ life2 ∷ Row.off ∷ Row.off ∷ Row.off ∷ Row.off ∷ Row.off ∷ Row.off ∷
-            List.[]; }
+        G60 = record {
+          locals = List._++_ t38 t1;
+          slots = life0 ∷ life3 ∷ life1 ∷ life2 ∷ Row.off ∷ Row.off ∷ Row.off ∷ Row.off ∷ Row.off ∷ Row.off ∷ List.[];
+        }
+
         abbrev G61 : Row.Cx
-        G61 = record { locals = List._++_ t39 t1; slots = life0 ∷ life3 ∷ life1 ∷ life2 ∷ Row.off ∷ Row.off ∷ Row.off ∷ Row.off ∷ Row.off ∷ Row.off ∷
-            List.[]; }
+        G61 = record {
+          locals = List._++_ t39 t1;
+          slots = life0 ∷ life3 ∷ life1 ∷ life2 ∷ Row.off ∷ Row.off ∷ Row.off ∷ Row.off ∷ Row.off ∷ Row.off ∷ List.[];
+        }
+
         abbrev G62 : Row.Cx
-        G62 = record { locals = List._++_ t2 t1; slots = life0 ∷ life3 ∷ life1 ∷ life2 ∷ Row.off ∷ Row.off ∷ Row.off ∷ Row.off ∷ Row.off ∷ Row.off ∷
-            List.[]; }
+        G62 = record {
+          locals = List._++_ t2 t1;
+          slots = life0 ∷ life3 ∷ life1 ∷ life2 ∷ Row.off ∷ Row.off ∷ Row.off ∷ Row.off ∷ Row.off ∷ Row.off ∷ List.[];
+        }
+
         abbrev Δ0 : Typed.Outs
         Δ0 = record { next = Option.none; exits = List.[]; returns = Option.some G1 }
+
         abbrev Δ1 : Typed.Outs
         Δ1 = Typed.withNext (Option.some G4) Δ0
+
         abbrev Δ2 : Typed.Outs
         Δ2 = Typed.withNext (Option.some G31) Δ0
-        module _ { M : Type 1 } (𝓤 : URA.URA M) (H : Wp.Heap 𝓤) (A : Atoms.Atoms 𝓤) (W : Kit.Given 𝓤 H A) (𝓣 : Wp.Tables 𝓤 H) (known : Knowns 𝓤 H A W
-            𝓣) (bs : List.List Nat.ℕ) (bd : Lifetimes.AllOutlive 4 (Kinds.osR r) κs) where
+
+        module _ {M : Type 1} (𝓤 : URA.URA M) (H : Wp.Heap 𝓤) (A : Atoms.Atoms 𝓤) (W : Kit.Given 𝓤 H A)
+            (𝓣 : Wp.Tables 𝓤 H) (known : Knowns 𝓤 H A W 𝓣) (bs : List.List Nat.ℕ)
+            (bd : Lifetimes.AllOutlive 4 (Kinds.osR r) κs) where
           abbrev E : Wp.Env 𝓤 H
           E = Frame.EnvOf 𝓤 H ((Kinds.tyR r) ∷ (Enter.tysP ps xs)) bs
+
           d0 : Typed.Typed 𝓤 H A 𝓣 E G28 b8 Δ1 at0
           d0 = Typed.t-return 𝓤 H A W 𝓣 E Δ1 tt
+
           d1 : Typed.Typed 𝓤 H A 𝓣 E G27 b8 Δ1 at1
-          d1 = Typed.g-pre 𝓤 H A W 𝓣 E G27 G28 b8 Δ1 (λ Ψ. Ψ) at0 (Lifetime.g-forget 𝓤 H A W E G27 6 Row.dead Path.refl) d0
+          d1 = Typed.g-pre 𝓤 H A W 𝓣 E G27 G28 b8 Δ1 (λ Ψ. Ψ) at0
+              (Lifetime.g-forget 𝓤 H A W E G27 6 Row.dead Path.refl) d0
+
           d2 : Typed.Typed 𝓤 H A 𝓣 E G26 b8 Δ1 at2
-          d2 = Typed.g-pre 𝓤 H A W 𝓣 E G26 G27 b8 Δ1 (Typed.give s24) at1 (Know.g-sl-known 𝓤 H A W (Referent.fInt Syntax.w32) E G26 4 3 ref7 life2 0
-              (λ x. x) record { fits = Dec.lit< tt } (Reads'.as-is 𝓤 H A (Mut.mslice (Referent.rtF (Referent.fInt Syntax.w32)) ref7 3)) Path.refl tt)
-              d1
+          d2 = Typed.g-pre 𝓤 H A W 𝓣 E G26 G27 b8 Δ1 (Typed.give s24) at1 (Know.g-sl-known 𝓤 H A W
+              (Referent.fInt Syntax.w32) E G26 4 3 ref7 life2 0 (λ x. x) record { fits = Dec.lit< tt } (Reads'.as-is 𝓤
+              H A (Mut.mslice (Referent.rtF (Referent.fInt Syntax.w32)) ref7 3)) Path.refl tt) d1
+
           d3 : Typed.Typed 𝓤 H A 𝓣 E G25 b8 Δ1 at3
-          d3 = Typed.g-pre 𝓤 H A W 𝓣 E G25 G26 b8 Δ1 (Typed.both s23) at2 (Relend.g-back-sl 𝓤 H A W E (Referent.rtF (Referent.fInt Syntax.w32)) G25 14
-              4 3 6 ref7 ref2 life2 (λ x. x) (λ x. x) (Reads'.as-is 𝓤 H A (Mut.msleft (Referent.rtF (Referent.fInt Syntax.w32)) ref2)) (Reads'.as-is 𝓤
-              H A (Relend.mslice-owed (Referent.rtF (Referent.fInt Syntax.w32)) ref7 3 6 life2)) Path.refl Path.refl) d2
+          d3 = Typed.g-pre 𝓤 H A W 𝓣 E G25 G26 b8 Δ1 (Typed.both s23) at2 (Relend.g-back-sl 𝓤 H A W E
+              (Referent.rtF (Referent.fInt Syntax.w32)) G25 14 4 3 6 ref7 ref2 life2 (λ x. x) (λ x. x) (Reads'.as-is 𝓤
+              H A (Mut.msleft (Referent.rtF (Referent.fInt Syntax.w32)) ref2)) (Reads'.as-is 𝓤 H A (Relend.mslice-owed
+              (Referent.rtF (Referent.fInt Syntax.w32)) ref7 3 6 life2)) Path.refl Path.refl) d2
+
           d4 : Typed.Typed 𝓤 H A 𝓣 E G24 b8 Δ1 at4
           d4 = Typed.g-pre 𝓤 H A W 𝓣 E G24 G25 b8 Δ1 (λ Ψ. Ψ) at3 (Lifetime.g-end 𝓤 H A W E G24 6 Path.refl) d3
+
           d5 : Typed.Typed 𝓤 H A 𝓣 E G23 b8 Δ1 at5
-          d5 = Typed.g-pre 𝓤 H A W 𝓣 E G23 G24 b8 Δ1 (λ Ψ. Ψ) at4 (Lifetime.g-forget 𝓤 H A W E G23 5 Row.dead Path.refl) d4
+          d5 = Typed.g-pre 𝓤 H A W 𝓣 E G23 G24 b8 Δ1 (λ Ψ. Ψ) at4
+              (Lifetime.g-forget 𝓤 H A W E G23 5 Row.dead Path.refl) d4
+
           d6 : Typed.Typed 𝓤 H A 𝓣 E G22 b8 Δ1 at6
-          d6 = Typed.g-pre 𝓤 H A W 𝓣 E G22 G23 b8 Δ1 (Typed.both s20) at5 (Relend.g-back-sl 𝓤 H A W E InflightAction.row G22 12 3 2 5 ref6 ref1 life1
-              (λ x. x) (λ x. x) (Reads'.as-is 𝓤 H A (Mut.msleft InflightAction.row ref1)) (Reads'.as-is 𝓤 H A (Relend.mslice-owed InflightAction.row
-              ref6 2 5 life1)) Path.refl Path.refl) d5
+          d6 = Typed.g-pre 𝓤 H A W 𝓣 E G22 G23 b8 Δ1 (Typed.both s20) at5 (Relend.g-back-sl 𝓤 H A W E
+              InflightAction.row G22 12 3 2 5 ref6 ref1 life1 (λ x. x) (λ x. x)
+              (Reads'.as-is 𝓤 H A (Mut.msleft InflightAction.row ref1)) (Reads'.as-is 𝓤 H A
+              (Relend.mslice-owed InflightAction.row ref6 2 5 life1)) Path.refl Path.refl) d5
+
           d7 : Typed.Typed 𝓤 H A 𝓣 E G21 b8 Δ1 at7
           d7 = Typed.g-pre 𝓤 H A W 𝓣 E G21 G22 b8 Δ1 (λ Ψ. Ψ) at6 (Lifetime.g-end 𝓤 H A W E G21 5 Path.refl) d6
+
           d8 : Typed.Typed 𝓤 H A 𝓣 E G20 b8 Δ1 at8
-          d8 = Typed.g-pre 𝓤 H A W 𝓣 E G20 G21 b8 Δ1 (λ Ψ. Ψ) at7 (Lifetime.g-forget 𝓤 H A W E G20 4 Row.dead Path.refl) d7
+          d8 = Typed.g-pre 𝓤 H A W 𝓣 E G20 G21 b8 Δ1 (λ Ψ. Ψ) at7
+              (Lifetime.g-forget 𝓤 H A W E G20 4 Row.dead Path.refl) d7
+
           d9 : Typed.Typed 𝓤 H A 𝓣 E G19 b8 Δ1 at9
-          d9 = Typed.g-pre 𝓤 H A W 𝓣 E G19 G20 b8 Δ1 (Typed.both s17) at8 (Relend.g-back-sl 𝓤 H A W E RelayPending.row G19 10 1 0 4 ref4 ref0 life0 (λ
-              x. x) (λ x. x) (Reads'.as-is 𝓤 H A (Mut.msleft RelayPending.row ref0)) (Reads'.as-is 𝓤 H A (Relend.mslice-owed RelayPending.row ref4 0 4
-              life0)) Path.refl Path.refl) d8
+          d9 = Typed.g-pre 𝓤 H A W 𝓣 E G19 G20 b8 Δ1 (Typed.both s17) at8 (Relend.g-back-sl 𝓤 H A W E RelayPending.row
+              G19 10 1 0 4 ref4 ref0 life0 (λ x. x) (λ x. x) (Reads'.as-is 𝓤 H A (Mut.msleft RelayPending.row ref0)) (Reads'.as-is
+              𝓤 H A (Relend.mslice-owed RelayPending.row ref4 0 4 life0)) Path.refl Path.refl) d8
+
           d10 : Typed.Typed 𝓤 H A 𝓣 E G18 b8 Δ1 at10
           d10 = Typed.g-pre 𝓤 H A W 𝓣 E G18 G19 b8 Δ1 (λ Ψ. Ψ) at9 (Lifetime.g-end 𝓤 H A W E G18 4 Path.refl) d9
+
           d11 : Typed.Typed 𝓤 H A 𝓣 E G17 b8 Δ1 at11
-          d11 = Typed.g-pre 𝓤 H A W 𝓣 E G17 G18 b8 Δ1 (Typed.pass T17 T18 s15) at10 (Scalar.g-room 𝓤 H A W E G17 7 Laws'.mir (Local.room-whole 𝓤 H A W
-              (Declared'.row SettlePlan.the-type) Laws'.mir Path.refl)) d10
+          d11 = Typed.g-pre 𝓤 H A W 𝓣 E G17 G18 b8 Δ1 (Typed.pass T17 T18 s15) at10 (Scalar.g-room 𝓤 H A W E G17 7
+              Laws'.mir (Local.room-whole 𝓤 H A W (Declared'.row SettlePlan.the-type) Laws'.mir Path.refl)) d10
+
           d12 : Typed.Typed 𝓤 H A 𝓣 E G16 b8 Δ1 at12
-          d12 = Typed.g-pre 𝓤 H A W 𝓣 E G16 G17 b8 Δ1 (Typed.pass T16 T17 s14) at11 (Scalar.g-room 𝓤 H A W E G16 6 Laws''.mir (Local.room-whole 𝓤 H A
-              W (Declared'.row Places.the-type) Laws''.mir Path.refl)) d11
+          d12 = Typed.g-pre 𝓤 H A W 𝓣 E G16 G17 b8 Δ1 (Typed.pass T16 T17 s14) at11 (Scalar.g-room 𝓤 H A W E G16 6
+              Laws''.mir (Local.room-whole 𝓤 H A W (Declared'.row Places.the-type) Laws''.mir Path.refl)) d11
+
           d13 : Typed.Typed 𝓤 H A 𝓣 E G15 b8 Δ1 at13
-          d13 = Typed.g-pre 𝓤 H A W 𝓣 E G15 G16 b8 Δ1 (Typed.pass T15 T16 s13) at12 (Scalar.g-room 𝓤 H A W E G15 5 Laws'''.mir (Local.room-whole 𝓤 H A
-              W (Declared'.row OpaqueRelayRuntime.the-type) Laws'''.mir Path.refl)) d12
+          d13 = Typed.g-pre 𝓤 H A W 𝓣 E G15 G16 b8 Δ1 (Typed.pass T15 T16 s13) at12 (Scalar.g-room 𝓤 H A W E G15 5
+              Laws'''.mir (Local.room-whole 𝓤 H A W (Declared'.row OpaqueRelayRuntime.the-type) Laws'''.mir Path.refl))
+              d12
+
           d14 : Typed.Typed 𝓤 H A 𝓣 E G14 b9 Δ1 at14
-          d14 = Typed.s-seq 𝓤 H A W 𝓣 E G14 G15 b7 b8 Δ1 (Typed.both s12) at13 (Plain.t-call-plain 𝓤 H A W 𝓣 3 ps·0 r·0 (claims· .0) (claims· .1)
-              "hnsr_circuit::acknowledge::fail_incoming" (known .0) E (λ pos β. β) G14 (record { pos = 10; ty = Syntax.tyRef Syntax.erased Syntax.mut
-              RelayPending.to; ref = λ x. x; }, (record { pos = 12; ty = Syntax.tyRef Syntax.erased Syntax.mut InflightAction.to; ref = λ x. x; },
-              (record { pos = 14; ty = Syntax.tyRef Syntax.erased Syntax.mut (Syntax.tyInt Syntax.w32); ref = λ x. x; }, (record { pos = 5; st =
-              List.[]; d = 0; at = λ x. x }, (record { pos = 6; st = List.[]; d = 0; at = λ x. x }, (Num.vFld 7 ((Syntax.field 1) ∷ List.[]) 8 λ x.
-              SettlePlan.struct .as-values x .1 .0, tt,),),),),),) 0 (4 ∷ 5 ∷ 6 ∷ List.[]) (Call.sub-id 𝓤 H A W (G14 .slots)) (Reads'.as-is 𝓤 H A
-              (Mut.mslice RelayPending.row ref0 4), Mut.reads-mslice 𝓤 H A W RelayPending.row ref0 4, Path.refl, (Reads'.as-is 𝓤 H A (Mut.mslice
-              InflightAction.row ref1 5), Mut.reads-mslice 𝓤 H A W InflightAction.row ref1 5, Path.refl, (Reads'.as-is 𝓤 H A (Mut.mslice (Referent.rtF
-              (Referent.fInt Syntax.w32)) ref2 6), Mut.reads-mslice 𝓤 H A W (Referent.rtF (Referent.fInt Syntax.w32)) ref2 6, Path.refl,
-              ((Yields.yields-copy 𝓤 H A W (λ ρ. Unit) (Declared'.row OpaqueRelayRuntime.the-type) Path.refl (Copies.cStruct
-              OpaqueRelayRuntime.the-type Laws'''.the-laws Laws'''.the-copy .copy 𝓤 H A W) (Rows.whole (Declared'.row OpaqueRelayRuntime.the-type)) (λ
-              x. x) (λ x. x) (λ ρ told. Local.mem-whole 𝓤 H A W (Declared'.row OpaqueRelayRuntime.the-type) ρ) λ ρ told. Local.whole-mem 𝓤 H A W
-              (Declared'.row OpaqueRelayRuntime.the-type) ρ, Path.refl,), ((Yields.yields-copy 𝓤 H A W (λ ρ. Unit) (Declared'.row Places.the-type)
-              Path.refl (Copies.cStruct Places.the-type Laws''.the-laws Laws''.the-copy .copy 𝓤 H A W) (Rows.whole (Declared'.row Places.the-type)) (λ
-              x. x) (λ x. x) (λ ρ told. Local.mem-whole 𝓤 H A W (Declared'.row Places.the-type) ρ) λ ρ told. Local.whole-mem 𝓤 H A W (Declared'.row
-              Places.the-type) ρ, Path.refl,), ((Reads.reads-field 𝓤 H A W SettlePlan.the-type Laws'.the-laws 1 (Syntax.tyInt Syntax.w64) 8 Path.refl,
-              Path.refl,), tt,),),),),),) (Reads'.room-gone 𝓤 H A Laws''''.mir) (tt, (tt, (tt, tt))) Path.refl) d13
+          d14 = Typed.s-seq 𝓤 H A W 𝓣 E G14 G15 b7 b8 Δ1 (Typed.both s12) at13 (Plain.t-call-plain 𝓤 H A W 𝓣 3 ps·0 r·0
+              (claims· .0) (claims· .1) "hnsr_circuit::acknowledge::fail_incoming" (known .0) E (λ pos β. β) G14 (
+                record { pos = 10; ty = ref0; ref = λ x. x },
+                (
+                  record { pos = 12; ty = ref1; ref = λ x. x },
+                  (
+                    record { pos = 14; ty = ref2; ref = λ x. x },
+                    (
+                      record { pos = 5; st = List.[]; d = 0; at = λ x. x },
+                      (
+                        record { pos = 6; st = List.[]; d = 0; at = λ x. x },
+                        (Num.vFld 7 ((Syntax.field 1) ∷ List.[]) 8 λ x. SettlePlan.struct .as-values x .1 .0, tt),
+                      ),
+                    ),
+                  ),
+                ),
+              ) 0 (4 ∷ 5 ∷ 6 ∷ List.[]) (Call.sub-id 𝓤 H A W (G14 .slots)) (
+                Reads'.as-is 𝓤 H A (Mut.mslice RelayPending.row ref0 4),
+                Mut.reads-mslice 𝓤 H A W RelayPending.row ref0 4,
+                Path.refl,
+                (
+                  Reads'.as-is 𝓤 H A (Mut.mslice InflightAction.row ref1 5),
+                  Mut.reads-mslice 𝓤 H A W InflightAction.row ref1 5,
+                  Path.refl,
+                  (
+                    Reads'.as-is 𝓤 H A (Mut.mslice (Referent.rtF (Referent.fInt Syntax.w32)) ref2 6),
+                    Mut.reads-mslice 𝓤 H A W (Referent.rtF (Referent.fInt Syntax.w32)) ref2 6,
+                    Path.refl,
+                    (
+                      (
+                        Yields.yields-copy 𝓤 H A W (λ ρ. Unit) (Declared'.row OpaqueRelayRuntime.the-type) Path.refl (Copies.cStruct
+                            OpaqueRelayRuntime.the-type Laws'''.the-laws Laws'''.the-copy .copy 𝓤 H A W)
+                            (Rows.whole (Declared'.row OpaqueRelayRuntime.the-type)) (λ x. x) (λ x. x) (λ ρ told.
+                            Local.mem-whole 𝓤 H A W (Declared'.row OpaqueRelayRuntime.the-type) ρ) λ ρ told.
+                            Local.whole-mem 𝓤 H A W (Declared'.row OpaqueRelayRuntime.the-type) ρ,
+                        Path.refl,
+                      ),
+                      (
+                        (
+                          Yields.yields-copy 𝓤 H A W (λ ρ. Unit) (Declared'.row Places.the-type) Path.refl (Copies.cStruct
+                              Places.the-type Laws''.the-laws Laws''.the-copy .copy 𝓤 H A W)
+                              (Rows.whole (Declared'.row Places.the-type)) (λ x. x) (λ x. x) (λ ρ told. Local.mem-whole
+                              𝓤 H A W (Declared'.row Places.the-type) ρ) λ ρ told. Local.whole-mem 𝓤 H A W
+                              (Declared'.row Places.the-type) ρ,
+                          Path.refl,
+                        ),
+                        (
+                          (
+                            Reads.reads-field 𝓤 H A W SettlePlan.the-type Laws'.the-laws 1 (Syntax.tyInt Syntax.w64) 8
+                                Path.refl,
+                            Path.refl,
+                          ),
+                          tt,
+                        ),
+                      ),
+                    ),
+                  ),
+                ),
+              ) (Reads'.room-gone 𝓤 H A Laws''''.mir) (tt, (tt, (tt, tt))) Path.refl) d13
+
           d15 : Typed.Typed 𝓤 H A 𝓣 E G13 b10 Δ1 at15
-          d15 = Typed.s-seq 𝓤 H A W 𝓣 E G13 G14 b6 b9 Δ1 (Typed.ask s11) at14 (Relend.t-sl-aggregate 𝓤 H A W E (Referent.rtF (Referent.fInt
-              Syntax.w32)) 𝓣 (Relend.asMut (Referent.rtF (Referent.fInt Syntax.w32))) G13 13 14 6 ref2 ref2 (λ x. x) (Scalar.oFld 4 ((Syntax.field 1)
-              ∷ List.[]) (Syntax.tyInt Syntax.w64) 8 λ v. Shared.lenV (v .0)) (Reads'.as-is 𝓤 H A (Relend.msptr (Referent.rtF (Referent.fInt
-              Syntax.w32)) ref2 6)) (Reads'.room-gone 𝓤 H A (Syntax.tyStruct (38 ∷ 91 ∷ 93 ∷ List.[]) (Syntax.tcons ref2 (Syntax.tcons (Syntax.tyInt
-              Syntax.w64) Syntax.tnil)))) (Relend.reads-owed-len 𝓤 H A W (Referent.rtF (Referent.fInt Syntax.w32)) ref7 3 6 life2 8 Path.refl,
-              Path.refl,) Path.refl Path.refl λ b o k. tt) d14
+          d15 = Typed.s-seq 𝓤 H A W 𝓣 E G13 G14 b6 b9 Δ1 (Typed.ask s11) at14 (Relend.t-sl-aggregate 𝓤 H A W E
+              (Referent.rtF (Referent.fInt Syntax.w32)) 𝓣 (Relend.asMut (Referent.rtF (Referent.fInt Syntax.w32))) G13
+              13 14 6 ref2 ref2 (λ x. x) (Scalar.oFld 4 ((Syntax.field 1) ∷ List.[]) (Syntax.tyInt Syntax.w64) 8 λ v.
+              Shared.lenV (v .0)) (Reads'.as-is 𝓤 H A (Relend.msptr (Referent.rtF (Referent.fInt Syntax.w32)) ref2 6))
+              (Reads'.room-gone 𝓤 H A slice2) (
+                Relend.reads-owed-len 𝓤 H A W (Referent.rtF (Referent.fInt Syntax.w32)) ref7 3 6 life2 8 Path.refl,
+                Path.refl,
+              ) Path.refl Path.refl λ b o k. tt) d14
+
           d16 : Typed.Typed 𝓤 H A 𝓣 E G12 b11 Δ1 at16
-          d16 = Typed.s-seq 𝓤 H A W 𝓣 E G12 G13 b5 b10 Δ1 (Typed.give s10) at15 (Relend.t-sl-relend 𝓤 H A W E (Referent.rtF (Referent.fInt
-              Syntax.w32)) 𝓣 G12 4 13 3 6 ref7 ref2 life2 0 (λ x. x) (Reads'.as-is 𝓤 H A (Mut.mslice (Referent.rtF (Referent.fInt Syntax.w32)) ref7
-              3)) (Reads'.room-gone 𝓤 H A ref2) Path.refl tt Path.refl Path.refl Path.refl λ b o. tt) d15
+          d16 = Typed.s-seq 𝓤 H A W 𝓣 E G12 G13 b5 b10 Δ1 (Typed.give s10) at15 (Relend.t-sl-relend 𝓤 H A W E
+              (Referent.rtF (Referent.fInt Syntax.w32)) 𝓣 G12 4 13 3 6 ref7 ref2 life2 0 (λ x. x) (Reads'.as-is 𝓤 H A (Mut.mslice
+              (Referent.rtF (Referent.fInt Syntax.w32)) ref7 3)) (Reads'.room-gone 𝓤 H A ref2) Path.refl tt Path.refl
+              Path.refl Path.refl λ b o. tt) d15
+
           d17 : Typed.Typed 𝓤 H A 𝓣 E G11 b11 Δ1 at17
-          d17 = Typed.g-pre 𝓤 H A W 𝓣 E G11 G12 b11 Δ1 (λ Ψ. Ψ) at16 (Lifetime.g-begin 𝓤 H A W E G11 6 (tt, ((tt, tt), (tt, ((tt, tt), (tt, (tt, (tt,
-              (tt, (tt, (tt, (tt, (tt, (tt, (tt, (tt, (tt, (tt, (tt, (tt, (tt, (tt, (tt, tt))))))),),),),),),),),),),),),),),),)) d16
+          d17 = Typed.g-pre 𝓤 H A W 𝓣 E G11 G12 b11 Δ1 (λ Ψ. Ψ) at16 (Lifetime.g-begin 𝓤 H A W E G11 6 (
+            tt,
+            (
+              (tt, tt),
+              (
+                tt,
+                (
+                  (tt, tt),
+                  (
+                    tt,
+                    (
+                      tt,
+                      (
+                        tt,
+                        (tt, (tt, (tt, (tt, (tt, (tt, (tt, (tt, (tt, (tt, (tt, (tt, (tt, (tt, (tt, tt))))))))))))))),
+                      ),
+                    ),
+                  ),
+                ),
+              ),
+            ),
+          )) d16
+
           d18 : Typed.Typed 𝓤 H A 𝓣 E G10 b12 Δ1 at18
-          d18 = Typed.s-seq 𝓤 H A W 𝓣 E G10 G11 b4 b11 Δ1 (Typed.ask s8) at17 (Relend.t-sl-aggregate 𝓤 H A W E InflightAction.row 𝓣 (Relend.asMut
-              InflightAction.row) G10 11 12 5 ref1 ref1 (λ x. x) (Scalar.oFld 3 ((Syntax.field 1) ∷ List.[]) (Syntax.tyInt Syntax.w64) 8 λ v.
-              Shared.lenV (v .0)) (Reads'.as-is 𝓤 H A (Relend.msptr InflightAction.row ref1 5)) (Reads'.room-gone 𝓤 H A (Syntax.tyStruct (38 ∷ 91 ∷ 93
-              ∷ List.[]) (Syntax.tcons ref1 (Syntax.tcons (Syntax.tyInt Syntax.w64) Syntax.tnil)))) (Relend.reads-owed-len 𝓤 H A W InflightAction.row
-              ref6 2 5 life1 8 Path.refl, Path.refl,) Path.refl Path.refl λ b o k. tt) d17
+          d18 = Typed.s-seq 𝓤 H A W 𝓣 E G10 G11 b4 b11 Δ1 (Typed.ask s8) at17 (Relend.t-sl-aggregate 𝓤 H A W E
+              InflightAction.row 𝓣 (Relend.asMut InflightAction.row) G10 11 12 5 ref1 ref1 (λ x. x) (Scalar.oFld 3
+              ((Syntax.field 1) ∷ List.[]) (Syntax.tyInt Syntax.w64) 8 λ v. Shared.lenV (v .0)) (Reads'.as-is 𝓤 H A
+              (Relend.msptr InflightAction.row ref1 5)) (Reads'.room-gone 𝓤 H A slice1) (
+                Relend.reads-owed-len 𝓤 H A W InflightAction.row ref6 2 5 life1 8 Path.refl,
+                Path.refl,
+              ) Path.refl Path.refl λ b o k. tt) d17
+
           d19 : Typed.Typed 𝓤 H A 𝓣 E G9 b13 Δ1 at19
-          d19 = Typed.s-seq 𝓤 H A W 𝓣 E G9 G10 b3 b12 Δ1 (Typed.give s7) at18 (Relend.t-sl-relend 𝓤 H A W E InflightAction.row 𝓣 G9 3 11 2 5 ref6 ref1
-              life1 0 (λ x. x) (Reads'.as-is 𝓤 H A (Mut.mslice InflightAction.row ref6 2)) (Reads'.room-gone 𝓤 H A ref1) Path.refl tt Path.refl
-              Path.refl Path.refl λ b o. tt) d18
+          d19 = Typed.s-seq 𝓤 H A W 𝓣 E G9 G10 b3 b12 Δ1 (Typed.give s7) at18 (Relend.t-sl-relend 𝓤 H A W E
+              InflightAction.row 𝓣 G9 3 11 2 5 ref6 ref1 life1 0 (λ x. x)
+              (Reads'.as-is 𝓤 H A (Mut.mslice InflightAction.row ref6 2)) (Reads'.room-gone 𝓤 H A ref1) Path.refl tt
+              Path.refl Path.refl Path.refl λ b o. tt) d18
+
           d20 : Typed.Typed 𝓤 H A 𝓣 E G8 b13 Δ1 at20
-          d20 = Typed.g-pre 𝓤 H A W 𝓣 E G8 G9 b13 Δ1 (λ Ψ. Ψ) at19 (Lifetime.g-begin 𝓤 H A W E G8 5 (tt, ((tt, tt), (tt, (tt, (tt, (tt, (tt, (tt, (tt,
-              (tt, (tt, (tt, (tt, (tt, (tt, (tt, (tt, (tt, (tt, (tt, (tt, (tt, tt))))))),),),),),),),),),),),),),),),)) d19
+          d20 = Typed.g-pre 𝓤 H A W 𝓣 E G8 G9 b13 Δ1 (λ Ψ. Ψ) at19 (Lifetime.g-begin 𝓤 H A W E G8 5 (
+            tt,
+            (
+              (tt, tt),
+              (
+                tt,
+                (
+                  tt,
+                  (
+                    tt,
+                    (
+                      tt,
+                      (
+                        tt,
+                        (tt, (tt, (tt, (tt, (tt, (tt, (tt, (tt, (tt, (tt, (tt, (tt, (tt, (tt, (tt, tt))))))))))))))),
+                      ),
+                    ),
+                  ),
+                ),
+              ),
+            ),
+          )) d19
+
           d21 : Typed.Typed 𝓤 H A 𝓣 E G7 b14 Δ1 at21
-          d21 = Typed.s-seq 𝓤 H A W 𝓣 E G7 G8 b2 b13 Δ1 (Typed.ask s5) at20 (Relend.t-sl-aggregate 𝓤 H A W E RelayPending.row 𝓣 (Relend.asMut
-              RelayPending.row) G7 9 10 4 ref0 ref0 (λ x. x) (Scalar.oFld 1 ((Syntax.field 1) ∷ List.[]) (Syntax.tyInt Syntax.w64) 8 λ v. Shared.lenV
-              (v .0)) (Reads'.as-is 𝓤 H A (Relend.msptr RelayPending.row ref0 4)) (Reads'.room-gone 𝓤 H A (Syntax.tyStruct (38 ∷ 91 ∷ 93 ∷ List.[])
-              (Syntax.tcons ref0 (Syntax.tcons (Syntax.tyInt Syntax.w64) Syntax.tnil)))) (Relend.reads-owed-len 𝓤 H A W RelayPending.row ref4 0 4
-              life0 8 Path.refl, Path.refl,) Path.refl Path.refl λ b o k. tt) d20
+          d21 = Typed.s-seq 𝓤 H A W 𝓣 E G7 G8 b2 b13 Δ1 (Typed.ask s5) at20 (Relend.t-sl-aggregate 𝓤 H A W E
+              RelayPending.row 𝓣 (Relend.asMut RelayPending.row) G7 9 10 4 ref0 ref0 (λ x. x) (Scalar.oFld 1
+              ((Syntax.field 1) ∷ List.[]) (Syntax.tyInt Syntax.w64) 8 λ v. Shared.lenV (v .0))
+              (Reads'.as-is 𝓤 H A (Relend.msptr RelayPending.row ref0 4)) (Reads'.room-gone 𝓤 H A slice0) (
+                Relend.reads-owed-len 𝓤 H A W RelayPending.row ref4 0 4 life0 8 Path.refl,
+                Path.refl,
+              ) Path.refl Path.refl λ b o k. tt) d20
+
           d22 : Typed.Typed 𝓤 H A 𝓣 E G6 b15 Δ1 at22
-          d22 = Typed.s-seq 𝓤 H A W 𝓣 E G6 G7 b1 b14 Δ1 (Typed.give s4) at21 (Relend.t-sl-relend 𝓤 H A W E RelayPending.row 𝓣 G6 1 9 0 4 ref4 ref0
-              life0 0 (λ x. x) (Reads'.as-is 𝓤 H A (Mut.mslice RelayPending.row ref4 0)) (Reads'.room-gone 𝓤 H A ref0) Path.refl tt Path.refl
-              Path.refl Path.refl λ b o. tt) d21
+          d22 = Typed.s-seq 𝓤 H A W 𝓣 E G6 G7 b1 b14 Δ1 (Typed.give s4) at21 (Relend.t-sl-relend 𝓤 H A W E
+              RelayPending.row 𝓣 G6 1 9 0 4 ref4 ref0 life0 0 (λ x. x)
+              (Reads'.as-is 𝓤 H A (Mut.mslice RelayPending.row ref4 0)) (Reads'.room-gone 𝓤 H A ref0) Path.refl tt
+              Path.refl Path.refl Path.refl λ b o. tt) d21
+
           d23 : Typed.Typed 𝓤 H A 𝓣 E G5 b15 Δ1 at23
-          d23 = Typed.g-pre 𝓤 H A W 𝓣 E G5 G6 b15 Δ1 (λ Ψ. Ψ) at22 (Lifetime.g-begin 𝓤 H A W E G5 4 (tt, (tt, (tt, (tt, (tt, (tt, (tt, (tt, (tt, (tt,
-              (tt, (tt, (tt, (tt, (tt, (tt, (tt, (tt, (tt, (tt, (tt, (tt, tt))))))),),),),),),),),),),),),),),),)) d22
+          d23 = Typed.g-pre 𝓤 H A W 𝓣 E G5 G6 b15 Δ1 (λ Ψ. Ψ) at22 (Lifetime.g-begin 𝓤 H A W E G5 4 (
+            tt,
+            (
+              tt,
+              (
+                tt,
+                (
+                  tt,
+                  (
+                    tt,
+                    (
+                      tt,
+                      (
+                        tt,
+                        (tt, (tt, (tt, (tt, (tt, (tt, (tt, (tt, (tt, (tt, (tt, (tt, (tt, (tt, (tt, tt))))))))))))))),
+                      ),
+                    ),
+                  ),
+                ),
+              ),
+            ),
+          )) d22
+
           d24 : Typed.Typed 𝓤 H A 𝓣 E G3 b15 Δ1 at24
-          d24 = Typed.g-pre 𝓤 H A W 𝓣 E G3 G5 b15 Δ1 (Typed.pass T3 T5 s2) at23 (Scalar.g-room 𝓤 H A W E G3 8 Syntax.tyBool (Scalar.room-sc 𝓤 H A W
-              Row.sBool)) d23
+          d24 = Typed.g-pre 𝓤 H A W 𝓣 E G3 G5 b15 Δ1 (Typed.pass T3 T5 s2) at23 (Scalar.g-room 𝓤 H A W E G3 8
+              Syntax.tyBool (Scalar.room-sc 𝓤 H A W Row.sBool)) d23
+
           d25 : Typed.Typed 𝓤 H A 𝓣 E G29 b16 Δ1 at25
           d25 = Typed.t-skip 𝓤 H A W 𝓣 E Δ1 tt
+
           d26 : Typed.Typed 𝓤 H A 𝓣 E G3 b16 Δ1 at26
-          d26 = Typed.g-pre 𝓤 H A W 𝓣 E G3 G29 b16 Δ1 (Typed.pass T3 T29 s26) at25 (Scalar.g-room 𝓤 H A W E G3 8 Syntax.tyBool (Scalar.room-sc 𝓤 H A W
-              Row.sBool)) d25
+          d26 = Typed.g-pre 𝓤 H A W 𝓣 E G3 G29 b16 Δ1 (Typed.pass T3 T29 s26) at25 (Scalar.g-room 𝓤 H A W E G3 8
+              Syntax.tyBool (Scalar.room-sc 𝓤 H A W Row.sBool)) d25
+
           d27 : Typed.Typed 𝓤 H A 𝓣 E G3 b17 Δ1 at27
-          d27 = Scalar.t-cond 𝓤 H A W E 𝓣 G3 8 (λ x. x) b15 b16 Δ1 at24 at26 (Scalar.reads-sc 𝓤 H A W Row.sBool) Path.refl d24 d26
+          d27 = Scalar.t-cond 𝓤 H A W E 𝓣 G3 8 (λ x. x) b15 b16 Δ1 at24 at26 (Scalar.reads-sc 𝓤 H A W Row.sBool)
+              Path.refl d24 d26
+
           d28 : Typed.Typed 𝓤 H A 𝓣 E G57 b27 Δ2 at28
           d28 = Typed.t-return 𝓤 H A W 𝓣 E Δ2 tt
+
           d29 : Typed.Typed 𝓤 H A 𝓣 E G56 b27 Δ2 at29
-          d29 = Typed.g-pre 𝓤 H A W 𝓣 E G56 G57 b27 Δ2 (λ Ψ. Ψ) at28 (Lifetime.g-forget 𝓤 H A W E G56 9 Row.dead Path.refl) d28
+          d29 = Typed.g-pre 𝓤 H A W 𝓣 E G56 G57 b27 Δ2 (λ Ψ. Ψ) at28
+              (Lifetime.g-forget 𝓤 H A W E G56 9 Row.dead Path.refl) d28
+
           d30 : Typed.Typed 𝓤 H A 𝓣 E G55 b27 Δ2 at30
-          d30 = Typed.g-pre 𝓤 H A W 𝓣 E G55 G56 b27 Δ2 (Typed.give s52) at29 (Know.g-sl-known 𝓤 H A W (Referent.fInt Syntax.w32) E G55 4 3 ref7 life2
-              0 (λ x. x) record { fits = Dec.lit< tt } (Reads'.as-is 𝓤 H A (Mut.mslice (Referent.rtF (Referent.fInt Syntax.w32)) ref7 3)) Path.refl
-              tt) d29
+          d30 = Typed.g-pre 𝓤 H A W 𝓣 E G55 G56 b27 Δ2 (Typed.give s52) at29 (Know.g-sl-known 𝓤 H A W
+              (Referent.fInt Syntax.w32) E G55 4 3 ref7 life2 0 (λ x. x) record { fits = Dec.lit< tt } (Reads'.as-is 𝓤
+              H A (Mut.mslice (Referent.rtF (Referent.fInt Syntax.w32)) ref7 3)) Path.refl tt) d29
+
           d31 : Typed.Typed 𝓤 H A 𝓣 E G54 b27 Δ2 at31
-          d31 = Typed.g-pre 𝓤 H A W 𝓣 E G54 G55 b27 Δ2 (Typed.both s51) at30 (Relend.g-back-sl 𝓤 H A W E (Referent.rtF (Referent.fInt Syntax.w32)) G54
-              20 4 3 9 ref7 ref2 life2 (λ x. x) (λ x. x) (Reads'.as-is 𝓤 H A (Mut.msleft (Referent.rtF (Referent.fInt Syntax.w32)) ref2))
-              (Reads'.as-is 𝓤 H A (Relend.mslice-owed (Referent.rtF (Referent.fInt Syntax.w32)) ref7 3 9 life2)) Path.refl Path.refl) d30
+          d31 = Typed.g-pre 𝓤 H A W 𝓣 E G54 G55 b27 Δ2 (Typed.both s51) at30 (Relend.g-back-sl 𝓤 H A W E
+              (Referent.rtF (Referent.fInt Syntax.w32)) G54 20 4 3 9 ref7 ref2 life2 (λ x. x) (λ x. x) (Reads'.as-is 𝓤
+              H A (Mut.msleft (Referent.rtF (Referent.fInt Syntax.w32)) ref2)) (Reads'.as-is 𝓤 H A (Relend.mslice-owed
+              (Referent.rtF (Referent.fInt Syntax.w32)) ref7 3 9 life2)) Path.refl Path.refl) d30
+
           d32 : Typed.Typed 𝓤 H A 𝓣 E G53 b27 Δ2 at32
           d32 = Typed.g-pre 𝓤 H A W 𝓣 E G53 G54 b27 Δ2 (λ Ψ. Ψ) at31 (Lifetime.g-end 𝓤 H A W E G53 9 Path.refl) d31
+
           d33 : Typed.Typed 𝓤 H A 𝓣 E G52 b27 Δ2 at33
-          d33 = Typed.g-pre 𝓤 H A W 𝓣 E G52 G53 b27 Δ2 (λ Ψ. Ψ) at32 (Lifetime.g-forget 𝓤 H A W E G52 8 Row.dead Path.refl) d32
+          d33 = Typed.g-pre 𝓤 H A W 𝓣 E G52 G53 b27 Δ2 (λ Ψ. Ψ) at32
+              (Lifetime.g-forget 𝓤 H A W E G52 8 Row.dead Path.refl) d32
+
           d34 : Typed.Typed 𝓤 H A 𝓣 E G51 b27 Δ2 at34
-          d34 = Typed.g-pre 𝓤 H A W 𝓣 E G51 G52 b27 Δ2 (Typed.both s48) at33 (Relend.g-back-sl 𝓤 H A W E InflightAction.row G51 18 3 2 8 ref6 ref1
-              life1 (λ x. x) (λ x. x) (Reads'.as-is 𝓤 H A (Mut.msleft InflightAction.row ref1)) (Reads'.as-is 𝓤 H A (Relend.mslice-owed
-              InflightAction.row ref6 2 8 life1)) Path.refl Path.refl) d33
+          d34 = Typed.g-pre 𝓤 H A W 𝓣 E G51 G52 b27 Δ2 (Typed.both s48) at33 (Relend.g-back-sl 𝓤 H A W E
+              InflightAction.row G51 18 3 2 8 ref6 ref1 life1 (λ x. x) (λ x. x)
+              (Reads'.as-is 𝓤 H A (Mut.msleft InflightAction.row ref1)) (Reads'.as-is 𝓤 H A
+              (Relend.mslice-owed InflightAction.row ref6 2 8 life1)) Path.refl Path.refl) d33
+
           d35 : Typed.Typed 𝓤 H A 𝓣 E G50 b27 Δ2 at35
           d35 = Typed.g-pre 𝓤 H A W 𝓣 E G50 G51 b27 Δ2 (λ Ψ. Ψ) at34 (Lifetime.g-end 𝓤 H A W E G50 8 Path.refl) d34
+
           d36 : Typed.Typed 𝓤 H A 𝓣 E G49 b27 Δ2 at36
-          d36 = Typed.g-pre 𝓤 H A W 𝓣 E G49 G50 b27 Δ2 (λ Ψ. Ψ) at35 (Lifetime.g-forget 𝓤 H A W E G49 7 Row.dead Path.refl) d35
+          d36 = Typed.g-pre 𝓤 H A W 𝓣 E G49 G50 b27 Δ2 (λ Ψ. Ψ) at35
+              (Lifetime.g-forget 𝓤 H A W E G49 7 Row.dead Path.refl) d35
+
           d37 : Typed.Typed 𝓤 H A 𝓣 E G48 b27 Δ2 at37
-          d37 = Typed.g-pre 𝓤 H A W 𝓣 E G48 G49 b27 Δ2 (Typed.both s45) at36 (Relend.g-back-sl 𝓤 H A W E RelayCircuit.row G48 16 2 1 7 ref5 ref3 life3
-              (λ x. x) (λ x. x) (Reads'.as-is 𝓤 H A (Mut.msleft RelayCircuit.row ref3)) (Reads'.as-is 𝓤 H A (Relend.mslice-owed RelayCircuit.row ref5
-              1 7 life3)) Path.refl Path.refl) d36
+          d37 = Typed.g-pre 𝓤 H A W 𝓣 E G48 G49 b27 Δ2 (Typed.both s45) at36 (Relend.g-back-sl 𝓤 H A W E
+              RelayCircuit.row G48 16 2 1 7 ref5 ref3 life3 (λ x. x) (λ x. x)
+              (Reads'.as-is 𝓤 H A (Mut.msleft RelayCircuit.row ref3)) (Reads'.as-is 𝓤 H A
+              (Relend.mslice-owed RelayCircuit.row ref5 1 7 life3)) Path.refl Path.refl) d36
+
           d38 : Typed.Typed 𝓤 H A 𝓣 E G47 b27 Δ2 at38
           d38 = Typed.g-pre 𝓤 H A W 𝓣 E G47 G48 b27 Δ2 (λ Ψ. Ψ) at37 (Lifetime.g-end 𝓤 H A W E G47 7 Path.refl) d37
+
           d39 : Typed.Typed 𝓤 H A 𝓣 E G46 b27 Δ2 at39
-          d39 = Typed.g-pre 𝓤 H A W 𝓣 E G46 G47 b27 Δ2 (Typed.pass T46 T47 s43) at38 (Scalar.g-room 𝓤 H A W E G46 21 Laws.mir (Local.room-whole 𝓤 H A
-              W (Declared.row Notice.the-type) Laws.mir Path.refl)) d38
+          d39 = Typed.g-pre 𝓤 H A W 𝓣 E G46 G47 b27 Δ2 (Typed.pass T46 T47 s43) at38 (Scalar.g-room 𝓤 H A W E G46 21
+              Laws.mir (Local.room-whole 𝓤 H A W (Declared.row Notice.the-type) Laws.mir Path.refl)) d38
+
           d40 : Typed.Typed 𝓤 H A 𝓣 E G45 b27 Δ2 at40
-          d40 = Typed.g-pre 𝓤 H A W 𝓣 E G45 G46 b27 Δ2 (Typed.pass T45 T46 s42) at39 (Scalar.g-room 𝓤 H A W E G45 7 Laws'.mir (Local.room-whole 𝓤 H A
-              W (Declared'.row SettlePlan.the-type) Laws'.mir Path.refl)) d39
+          d40 = Typed.g-pre 𝓤 H A W 𝓣 E G45 G46 b27 Δ2 (Typed.pass T45 T46 s42) at39 (Scalar.g-room 𝓤 H A W E G45 7
+              Laws'.mir (Local.room-whole 𝓤 H A W (Declared'.row SettlePlan.the-type) Laws'.mir Path.refl)) d39
+
           d41 : Typed.Typed 𝓤 H A 𝓣 E G44 b27 Δ2 at41
-          d41 = Typed.g-pre 𝓤 H A W 𝓣 E G44 G45 b27 Δ2 (Typed.pass T44 T45 s41) at40 (Scalar.g-room 𝓤 H A W E G44 6 Laws''.mir (Local.room-whole 𝓤 H A
-              W (Declared'.row Places.the-type) Laws''.mir Path.refl)) d40
+          d41 = Typed.g-pre 𝓤 H A W 𝓣 E G44 G45 b27 Δ2 (Typed.pass T44 T45 s41) at40 (Scalar.g-room 𝓤 H A W E G44 6
+              Laws''.mir (Local.room-whole 𝓤 H A W (Declared'.row Places.the-type) Laws''.mir Path.refl)) d40
+
           d42 : Typed.Typed 𝓤 H A 𝓣 E G43 b27 Δ2 at42
-          d42 = Typed.g-pre 𝓤 H A W 𝓣 E G43 G44 b27 Δ2 (Typed.pass T43 T44 s40) at41 (Scalar.g-room 𝓤 H A W E G43 5 Laws'''.mir (Local.room-whole 𝓤 H
-              A W (Declared'.row OpaqueRelayRuntime.the-type) Laws'''.mir Path.refl)) d41
+          d42 = Typed.g-pre 𝓤 H A W 𝓣 E G43 G44 b27 Δ2 (Typed.pass T43 T44 s40) at41 (Scalar.g-room 𝓤 H A W E G43 5
+              Laws'''.mir (Local.room-whole 𝓤 H A W (Declared'.row OpaqueRelayRuntime.the-type) Laws'''.mir Path.refl))
+              d41
+
           d43 : Typed.Typed 𝓤 H A 𝓣 E G42 b28 Δ2 at43
-          d43 = Typed.s-seq 𝓤 H A W 𝓣 E G42 G43 b26 b27 Δ2 (Typed.both s39) at42 (Plain.t-call-plain 𝓤 H A W 𝓣 3 ps·1 r·1 (claims· .2) (claims· .3)
-              "hnsr_circuit::revocation::revoke_one" (known .1) E (λ pos β. β) G42 (record { pos = 16; ty = Syntax.tyRef Syntax.erased Syntax.mut
-              RelayCircuit.to; ref = λ x. x; }, (record { pos = 18; ty = Syntax.tyRef Syntax.erased Syntax.mut InflightAction.to; ref = λ x. x; },
-              (record { pos = 20; ty = Syntax.tyRef Syntax.erased Syntax.mut (Syntax.tyInt Syntax.w32); ref = λ x. x; }, (record { pos = 5; st =
-              List.[]; d = 0; at = λ x. x }, (record { pos = 6; st = List.[]; d = 0; at = λ x. x }, (record { pos = 21; st = List.[]; d = 0; at = λ x.
-              x }, (Num.vFld 7 ((Syntax.field 1) ∷ List.[]) 8 λ x. SettlePlan.struct .as-values x .1 .0, tt,),),),),),),) 0 (7 ∷ 8 ∷ 9 ∷ List.[])
-              (Call.sub-id 𝓤 H A W (G42 .slots)) (Reads'.as-is 𝓤 H A (Mut.mslice RelayCircuit.row ref3 7), Mut.reads-mslice 𝓤 H A W RelayCircuit.row
-              ref3 7, Path.refl, (Reads'.as-is 𝓤 H A (Mut.mslice InflightAction.row ref1 8), Mut.reads-mslice 𝓤 H A W InflightAction.row ref1 8,
-              Path.refl, (Reads'.as-is 𝓤 H A (Mut.mslice (Referent.rtF (Referent.fInt Syntax.w32)) ref2 9), Mut.reads-mslice 𝓤 H A W (Referent.rtF
-              (Referent.fInt Syntax.w32)) ref2 9, Path.refl, ((Yields.yields-copy 𝓤 H A W (λ ρ. Unit) (Declared'.row OpaqueRelayRuntime.the-type)
-              Path.refl (Copies.cStruct OpaqueRelayRuntime.the-type Laws'''.the-laws Laws'''.the-copy .copy 𝓤 H A W) (Rows.whole (Declared'.row
-              OpaqueRelayRuntime.the-type)) (λ x. x) (λ x. x) (λ ρ told. Local.mem-whole 𝓤 H A W (Declared'.row OpaqueRelayRuntime.the-type) ρ) λ ρ
-              told. Local.whole-mem 𝓤 H A W (Declared'.row OpaqueRelayRuntime.the-type) ρ, Path.refl,), ((Yields.yields-copy 𝓤 H A W (λ ρ. Unit)
-              (Declared'.row Places.the-type) Path.refl (Copies.cStruct Places.the-type Laws''.the-laws Laws''.the-copy .copy 𝓤 H A W) (Rows.whole
-              (Declared'.row Places.the-type)) (λ x. x) (λ x. x) (λ ρ told. Local.mem-whole 𝓤 H A W (Declared'.row Places.the-type) ρ) λ ρ told.
-              Local.whole-mem 𝓤 H A W (Declared'.row Places.the-type) ρ, Path.refl,), ((Yields.yields-copy 𝓤 H A W (λ ρ. Unit) (Declared.row
-              Notice.the-type) Path.refl (Copies.cEnum Notice.the-type Laws.the-laws Laws.the-copy .copy 𝓤 H A W) (Rows.whole (Declared.row
-              Notice.the-type)) (λ x. x) (λ x. x) (λ ρ told. Local.mem-whole 𝓤 H A W (Declared.row Notice.the-type) ρ) λ ρ told. Local.whole-mem 𝓤 H A
-              W (Declared.row Notice.the-type) ρ, Path.refl,), ((Reads.reads-field 𝓤 H A W SettlePlan.the-type Laws'.the-laws 1 (Syntax.tyInt
-              Syntax.w64) 8 Path.refl, Path.refl,), tt,),),),),),),) (Reads'.room-gone 𝓤 H A Laws''''.mir) (tt, (tt, (tt, tt))) Path.refl) d42
+          d43 = Typed.s-seq 𝓤 H A W 𝓣 E G42 G43 b26 b27 Δ2 (Typed.both s39) at42 (Plain.t-call-plain 𝓤 H A W 𝓣 3 ps·1
+              r·1 (claims· .2) (claims· .3) "hnsr_circuit::revocation::revoke_one" (known .1) E (λ pos β. β) G42 (
+                record { pos = 16; ty = ref3; ref = λ x. x },
+                (
+                  record { pos = 18; ty = ref1; ref = λ x. x },
+                  (
+                    record { pos = 20; ty = ref2; ref = λ x. x },
+                    (
+                      record { pos = 5; st = List.[]; d = 0; at = λ x. x },
+                      (
+                        record { pos = 6; st = List.[]; d = 0; at = λ x. x },
+                        (
+                          record { pos = 21; st = List.[]; d = 0; at = λ x. x },
+                          (Num.vFld 7 ((Syntax.field 1) ∷ List.[]) 8 λ x. SettlePlan.struct .as-values x .1 .0, tt),
+                        ),
+                      ),
+                    ),
+                  ),
+                ),
+              ) 0 (7 ∷ 8 ∷ 9 ∷ List.[]) (Call.sub-id 𝓤 H A W (G42 .slots)) (
+                Reads'.as-is 𝓤 H A (Mut.mslice RelayCircuit.row ref3 7),
+                Mut.reads-mslice 𝓤 H A W RelayCircuit.row ref3 7,
+                Path.refl,
+                (
+                  Reads'.as-is 𝓤 H A (Mut.mslice InflightAction.row ref1 8),
+                  Mut.reads-mslice 𝓤 H A W InflightAction.row ref1 8,
+                  Path.refl,
+                  (
+                    Reads'.as-is 𝓤 H A (Mut.mslice (Referent.rtF (Referent.fInt Syntax.w32)) ref2 9),
+                    Mut.reads-mslice 𝓤 H A W (Referent.rtF (Referent.fInt Syntax.w32)) ref2 9,
+                    Path.refl,
+                    (
+                      (
+                        Yields.yields-copy 𝓤 H A W (λ ρ. Unit) (Declared'.row OpaqueRelayRuntime.the-type) Path.refl (Copies.cStruct
+                            OpaqueRelayRuntime.the-type Laws'''.the-laws Laws'''.the-copy .copy 𝓤 H A W)
+                            (Rows.whole (Declared'.row OpaqueRelayRuntime.the-type)) (λ x. x) (λ x. x) (λ ρ told.
+                            Local.mem-whole 𝓤 H A W (Declared'.row OpaqueRelayRuntime.the-type) ρ) λ ρ told.
+                            Local.whole-mem 𝓤 H A W (Declared'.row OpaqueRelayRuntime.the-type) ρ,
+                        Path.refl,
+                      ),
+                      (
+                        (
+                          Yields.yields-copy 𝓤 H A W (λ ρ. Unit) (Declared'.row Places.the-type) Path.refl (Copies.cStruct
+                              Places.the-type Laws''.the-laws Laws''.the-copy .copy 𝓤 H A W)
+                              (Rows.whole (Declared'.row Places.the-type)) (λ x. x) (λ x. x) (λ ρ told. Local.mem-whole
+                              𝓤 H A W (Declared'.row Places.the-type) ρ) λ ρ told. Local.whole-mem 𝓤 H A W
+                              (Declared'.row Places.the-type) ρ,
+                          Path.refl,
+                        ),
+                        (
+                          (
+                            Yields.yields-copy 𝓤 H A W (λ ρ. Unit) (Declared.row Notice.the-type) Path.refl (Copies.cEnum
+                                Notice.the-type Laws.the-laws Laws.the-copy .copy 𝓤 H A W)
+                                (Rows.whole (Declared.row Notice.the-type)) (λ x. x) (λ x. x) (λ ρ told.
+                                Local.mem-whole 𝓤 H A W (Declared.row Notice.the-type) ρ) λ ρ told. Local.whole-mem 𝓤 H
+                                A W (Declared.row Notice.the-type) ρ,
+                            Path.refl,
+                          ),
+                          (
+                            (
+                              Reads.reads-field 𝓤 H A W SettlePlan.the-type Laws'.the-laws 1 (Syntax.tyInt Syntax.w64)
+                                  8 Path.refl,
+                              Path.refl,
+                            ),
+                            tt,
+                          ),
+                        ),
+                      ),
+                    ),
+                  ),
+                ),
+              ) (Reads'.room-gone 𝓤 H A Laws''''.mir) (tt, (tt, (tt, tt))) Path.refl) d42
+
           d44 : Typed.Typed 𝓤 H A 𝓣 E G41 b29 Δ2 at44
-          d44 = Typed.s-seq 𝓤 H A W 𝓣 E G41 G42 b25 b28 Δ2 (Typed.pass T41 T42 s38) at43 (Make.t-enum-make-wt 𝓤 H A W E 𝓣 Notice.the-type
-              Laws.the-laws Laws.the-plain tt G41 21 ((Scalar.oInt Syntax.w8 6) ∷ List.[]) (λ m. Notice.enum .make (Logic.inr (Logic.inr (Logic.inr
-              (Logic.inr (Logic.inr (Logic.inr (Logic.inl tt)))))))) (Reads'.room-gone 𝓤 H A Laws.mir) (tt, tt) Path.refl (λ m wa. Make.made-val
-              Notice.the-type Laws.the-laws List.[] (Notice.enum .make (Logic.inr (Logic.inr (Logic.inr (Logic.inr (Logic.inr (Logic.inr (Logic.inl
-              tt)))))))) tt (wa .1)) λ m wa. Make.made-is Notice.the-type Laws.the-laws List.[] (Notice.enum .make (Logic.inr (Logic.inr (Logic.inr
+          d44 = Typed.s-seq 𝓤 H A W 𝓣 E G41 G42 b25 b28 Δ2 (Typed.pass T41 T42 s38) at43 (Make.t-enum-make-wt 𝓤 H A W E
+              𝓣 Notice.the-type Laws.the-laws Laws.the-plain tt G41 21 ((Scalar.oInt Syntax.w8 6) ∷ List.[]) (λ m.
+              Notice.enum .make (Logic.inr (Logic.inr (Logic.inr (Logic.inr (Logic.inr (Logic.inr (Logic.inl tt))))))))
+              (Reads'.room-gone 𝓤 H A Laws.mir) (tt, tt) Path.refl (λ m wa. Make.made-val Notice.the-type Laws.the-laws
+              List.[] (Notice.enum .make (Logic.inr (Logic.inr (Logic.inr
+              (Logic.inr (Logic.inr (Logic.inr (Logic.inl tt)))))))) tt (wa .1)) λ m wa. Make.made-is Notice.the-type
+              Laws.the-laws List.[] (Notice.enum .make (Logic.inr (Logic.inr (Logic.inr
               (Logic.inr (Logic.inr (Logic.inr (Logic.inl tt)))))))) tt (wa .1)) d43
+
           d45 : Typed.Typed 𝓤 H A 𝓣 E G40 b30 Δ2 at45
-          d45 = Typed.s-seq 𝓤 H A W 𝓣 E G40 G41 b24 b29 Δ2 (Typed.ask s37) at44 (Relend.t-sl-aggregate 𝓤 H A W E (Referent.rtF (Referent.fInt
-              Syntax.w32)) 𝓣 (Relend.asMut (Referent.rtF (Referent.fInt Syntax.w32))) G40 19 20 9 ref2 ref2 (λ x. x) (Scalar.oFld 4 ((Syntax.field 1)
-              ∷ List.[]) (Syntax.tyInt Syntax.w64) 8 λ v. Shared.lenV (v .0)) (Reads'.as-is 𝓤 H A (Relend.msptr (Referent.rtF (Referent.fInt
-              Syntax.w32)) ref2 9)) (Reads'.room-gone 𝓤 H A (Syntax.tyStruct (38 ∷ 91 ∷ 93 ∷ List.[]) (Syntax.tcons ref2 (Syntax.tcons (Syntax.tyInt
-              Syntax.w64) Syntax.tnil)))) (Relend.reads-owed-len 𝓤 H A W (Referent.rtF (Referent.fInt Syntax.w32)) ref7 3 9 life2 8 Path.refl,
-              Path.refl,) Path.refl Path.refl λ b o k. tt) d44
+          d45 = Typed.s-seq 𝓤 H A W 𝓣 E G40 G41 b24 b29 Δ2 (Typed.ask s37) at44 (Relend.t-sl-aggregate 𝓤 H A W E
+              (Referent.rtF (Referent.fInt Syntax.w32)) 𝓣 (Relend.asMut (Referent.rtF (Referent.fInt Syntax.w32))) G40
+              19 20 9 ref2 ref2 (λ x. x) (Scalar.oFld 4 ((Syntax.field 1) ∷ List.[]) (Syntax.tyInt Syntax.w64) 8 λ v.
+              Shared.lenV (v .0)) (Reads'.as-is 𝓤 H A (Relend.msptr (Referent.rtF (Referent.fInt Syntax.w32)) ref2 9))
+              (Reads'.room-gone 𝓤 H A slice2) (
+                Relend.reads-owed-len 𝓤 H A W (Referent.rtF (Referent.fInt Syntax.w32)) ref7 3 9 life2 8 Path.refl,
+                Path.refl,
+              ) Path.refl Path.refl λ b o k. tt) d44
+
           d46 : Typed.Typed 𝓤 H A 𝓣 E G39 b31 Δ2 at46
-          d46 = Typed.s-seq 𝓤 H A W 𝓣 E G39 G40 b23 b30 Δ2 (Typed.give s36) at45 (Relend.t-sl-relend 𝓤 H A W E (Referent.rtF (Referent.fInt
-              Syntax.w32)) 𝓣 G39 4 19 3 9 ref7 ref2 life2 0 (λ x. x) (Reads'.as-is 𝓤 H A (Mut.mslice (Referent.rtF (Referent.fInt Syntax.w32)) ref7
-              3)) (Reads'.room-gone 𝓤 H A ref2) Path.refl tt Path.refl Path.refl Path.refl λ b o. tt) d45
+          d46 = Typed.s-seq 𝓤 H A W 𝓣 E G39 G40 b23 b30 Δ2 (Typed.give s36) at45 (Relend.t-sl-relend 𝓤 H A W E
+              (Referent.rtF (Referent.fInt Syntax.w32)) 𝓣 G39 4 19 3 9 ref7 ref2 life2 0 (λ x. x) (Reads'.as-is 𝓤 H A (Mut.mslice
+              (Referent.rtF (Referent.fInt Syntax.w32)) ref7 3)) (Reads'.room-gone 𝓤 H A ref2) Path.refl tt Path.refl
+              Path.refl Path.refl λ b o. tt) d45
+
           d47 : Typed.Typed 𝓤 H A 𝓣 E G38 b31 Δ2 at47
-          d47 = Typed.g-pre 𝓤 H A W 𝓣 E G38 G39 b31 Δ2 (λ Ψ. Ψ) at46 (Lifetime.g-begin 𝓤 H A W E G38 9 (tt, (tt, ((tt, tt), ((tt, tt), (tt, (tt, (tt,
-              (tt, (tt, (tt, (tt, (tt, (tt, (tt, (tt, (tt, (tt, (tt, (tt, (tt, (tt, (tt, tt))))))),),),),),),),),),),),),),),),)) d46
+          d47 = Typed.g-pre 𝓤 H A W 𝓣 E G38 G39 b31 Δ2 (λ Ψ. Ψ) at46 (Lifetime.g-begin 𝓤 H A W E G38 9 (
+            tt,
+            (
+              tt,
+              (
+                (tt, tt),
+                (
+                  (tt, tt),
+                  (
+                    tt,
+                    (
+                      tt,
+                      (
+                        tt,
+                        (tt, (tt, (tt, (tt, (tt, (tt, (tt, (tt, (tt, (tt, (tt, (tt, (tt, (tt, (tt, tt))))))))))))))),
+                      ),
+                    ),
+                  ),
+                ),
+              ),
+            ),
+          )) d46
+
           d48 : Typed.Typed 𝓤 H A 𝓣 E G37 b32 Δ2 at48
-          d48 = Typed.s-seq 𝓤 H A W 𝓣 E G37 G38 b22 b31 Δ2 (Typed.ask s34) at47 (Relend.t-sl-aggregate 𝓤 H A W E InflightAction.row 𝓣 (Relend.asMut
-              InflightAction.row) G37 17 18 8 ref1 ref1 (λ x. x) (Scalar.oFld 3 ((Syntax.field 1) ∷ List.[]) (Syntax.tyInt Syntax.w64) 8 λ v.
-              Shared.lenV (v .0)) (Reads'.as-is 𝓤 H A (Relend.msptr InflightAction.row ref1 8)) (Reads'.room-gone 𝓤 H A (Syntax.tyStruct (38 ∷ 91 ∷ 93
-              ∷ List.[]) (Syntax.tcons ref1 (Syntax.tcons (Syntax.tyInt Syntax.w64) Syntax.tnil)))) (Relend.reads-owed-len 𝓤 H A W InflightAction.row
-              ref6 2 8 life1 8 Path.refl, Path.refl,) Path.refl Path.refl λ b o k. tt) d47
+          d48 = Typed.s-seq 𝓤 H A W 𝓣 E G37 G38 b22 b31 Δ2 (Typed.ask s34) at47 (Relend.t-sl-aggregate 𝓤 H A W E
+              InflightAction.row 𝓣 (Relend.asMut InflightAction.row) G37 17 18 8 ref1 ref1 (λ x. x) (Scalar.oFld 3
+              ((Syntax.field 1) ∷ List.[]) (Syntax.tyInt Syntax.w64) 8 λ v. Shared.lenV (v .0)) (Reads'.as-is 𝓤 H A
+              (Relend.msptr InflightAction.row ref1 8)) (Reads'.room-gone 𝓤 H A slice1) (
+                Relend.reads-owed-len 𝓤 H A W InflightAction.row ref6 2 8 life1 8 Path.refl,
+                Path.refl,
+              ) Path.refl Path.refl λ b o k. tt) d47
+
           d49 : Typed.Typed 𝓤 H A 𝓣 E G36 b33 Δ2 at49
-          d49 = Typed.s-seq 𝓤 H A W 𝓣 E G36 G37 b21 b32 Δ2 (Typed.give s33) at48 (Relend.t-sl-relend 𝓤 H A W E InflightAction.row 𝓣 G36 3 17 2 8 ref6
-              ref1 life1 0 (λ x. x) (Reads'.as-is 𝓤 H A (Mut.mslice InflightAction.row ref6 2)) (Reads'.room-gone 𝓤 H A ref1) Path.refl tt Path.refl
-              Path.refl Path.refl λ b o. tt) d48
+          d49 = Typed.s-seq 𝓤 H A W 𝓣 E G36 G37 b21 b32 Δ2 (Typed.give s33) at48 (Relend.t-sl-relend 𝓤 H A W E
+              InflightAction.row 𝓣 G36 3 17 2 8 ref6 ref1 life1 0 (λ x. x)
+              (Reads'.as-is 𝓤 H A (Mut.mslice InflightAction.row ref6 2)) (Reads'.room-gone 𝓤 H A ref1) Path.refl tt
+              Path.refl Path.refl Path.refl λ b o. tt) d48
+
           d50 : Typed.Typed 𝓤 H A 𝓣 E G35 b33 Δ2 at50
-          d50 = Typed.g-pre 𝓤 H A W 𝓣 E G35 G36 b33 Δ2 (λ Ψ. Ψ) at49 (Lifetime.g-begin 𝓤 H A W E G35 8 (tt, (tt, ((tt, tt), (tt, (tt, (tt, (tt, (tt,
-              (tt, (tt, (tt, (tt, (tt, (tt, (tt, (tt, (tt, (tt, (tt, (tt, (tt, (tt, tt))))))),),),),),),),),),),),),),),),)) d49
+          d50 = Typed.g-pre 𝓤 H A W 𝓣 E G35 G36 b33 Δ2 (λ Ψ. Ψ) at49 (Lifetime.g-begin 𝓤 H A W E G35 8 (
+            tt,
+            (
+              tt,
+              (
+                (tt, tt),
+                (
+                  tt,
+                  (
+                    tt,
+                    (
+                      tt,
+                      (
+                        tt,
+                        (tt, (tt, (tt, (tt, (tt, (tt, (tt, (tt, (tt, (tt, (tt, (tt, (tt, (tt, (tt, tt))))))))))))))),
+                      ),
+                    ),
+                  ),
+                ),
+              ),
+            ),
+          )) d49
+
           d51 : Typed.Typed 𝓤 H A 𝓣 E G34 b34 Δ2 at51
-          d51 = Typed.s-seq 𝓤 H A W 𝓣 E G34 G35 b20 b33 Δ2 (Typed.ask s31) at50 (Relend.t-sl-aggregate 𝓤 H A W E RelayCircuit.row 𝓣 (Relend.asMut
-              RelayCircuit.row) G34 15 16 7 ref3 ref3 (λ x. x) (Scalar.oFld 2 ((Syntax.field 1) ∷ List.[]) (Syntax.tyInt Syntax.w64) 8 λ v.
-              Shared.lenV (v .0)) (Reads'.as-is 𝓤 H A (Relend.msptr RelayCircuit.row ref3 7)) (Reads'.room-gone 𝓤 H A (Syntax.tyStruct (38 ∷ 91 ∷ 93 ∷
-              List.[]) (Syntax.tcons ref3 (Syntax.tcons (Syntax.tyInt Syntax.w64) Syntax.tnil)))) (Relend.reads-owed-len 𝓤 H A W RelayCircuit.row ref5
-              1 7 life3 8 Path.refl, Path.refl,) Path.refl Path.refl λ b o k. tt) d50
+          d51 = Typed.s-seq 𝓤 H A W 𝓣 E G34 G35 b20 b33 Δ2 (Typed.ask s31) at50 (Relend.t-sl-aggregate 𝓤 H A W E
+              RelayCircuit.row 𝓣 (Relend.asMut RelayCircuit.row) G34 15 16 7 ref3 ref3 (λ x. x) (Scalar.oFld 2
+              ((Syntax.field 1) ∷ List.[]) (Syntax.tyInt Syntax.w64) 8 λ v. Shared.lenV (v .0))
+              (Reads'.as-is 𝓤 H A (Relend.msptr RelayCircuit.row ref3 7)) (Reads'.room-gone 𝓤 H A slice3) (
+                Relend.reads-owed-len 𝓤 H A W RelayCircuit.row ref5 1 7 life3 8 Path.refl,
+                Path.refl,
+              ) Path.refl Path.refl λ b o k. tt) d50
+
           d52 : Typed.Typed 𝓤 H A 𝓣 E G33 b35 Δ2 at52
-          d52 = Typed.s-seq 𝓤 H A W 𝓣 E G33 G34 b19 b34 Δ2 (Typed.give s30) at51 (Relend.t-sl-relend 𝓤 H A W E RelayCircuit.row 𝓣 G33 2 15 1 7 ref5
-              ref3 life3 0 (λ x. x) (Reads'.as-is 𝓤 H A (Mut.mslice RelayCircuit.row ref5 1)) (Reads'.room-gone 𝓤 H A ref3) Path.refl tt Path.refl
-              Path.refl Path.refl λ b o. tt) d51
+          d52 = Typed.s-seq 𝓤 H A W 𝓣 E G33 G34 b19 b34 Δ2 (Typed.give s30) at51 (Relend.t-sl-relend 𝓤 H A W E
+              RelayCircuit.row 𝓣 G33 2 15 1 7 ref5 ref3 life3 0 (λ x. x)
+              (Reads'.as-is 𝓤 H A (Mut.mslice RelayCircuit.row ref5 1)) (Reads'.room-gone 𝓤 H A ref3) Path.refl tt
+              Path.refl Path.refl Path.refl λ b o. tt) d51
+
           d53 : Typed.Typed 𝓤 H A 𝓣 E G32 b35 Δ2 at53
-          d53 = Typed.g-pre 𝓤 H A W 𝓣 E G32 G33 b35 Δ2 (λ Ψ. Ψ) at52 (Lifetime.g-begin 𝓤 H A W E G32 7 (tt, (tt, (tt, (tt, (tt, (tt, (tt, (tt, (tt,
-              (tt, (tt, (tt, (tt, (tt, (tt, (tt, (tt, (tt, (tt, (tt, (tt, (tt, tt))))))),),),),),),),),),),),),),),),)) d52
+          d53 = Typed.g-pre 𝓤 H A W 𝓣 E G32 G33 b35 Δ2 (λ Ψ. Ψ) at52 (Lifetime.g-begin 𝓤 H A W E G32 7 (
+            tt,
+            (
+              tt,
+              (
+                tt,
+                (
+                  tt,
+                  (
+                    tt,
+                    (
+                      tt,
+                      (
+                        tt,
+                        (tt, (tt, (tt, (tt, (tt, (tt, (tt, (tt, (tt, (tt, (tt, (tt, (tt, (tt, (tt, tt))))))))))))))),
+                      ),
+                    ),
+                  ),
+                ),
+              ),
+            ),
+          )) d52
+
           d54 : Typed.Typed 𝓤 H A 𝓣 E G30 b35 Δ2 at54
-          d54 = Typed.g-pre 𝓤 H A W 𝓣 E G30 G32 b35 Δ2 (Typed.pass T30 T32 s28) at53 (Scalar.g-room 𝓤 H A W E G30 8 Syntax.tyBool (Scalar.room-sc 𝓤 H
-              A W Row.sBool)) d53
+          d54 = Typed.g-pre 𝓤 H A W 𝓣 E G30 G32 b35 Δ2 (Typed.pass T30 T32 s28) at53 (Scalar.g-room 𝓤 H A W E G30 8
+              Syntax.tyBool (Scalar.room-sc 𝓤 H A W Row.sBool)) d53
+
           d55 : Typed.Typed 𝓤 H A 𝓣 E G59 b36 Δ2 at55
           d55 = Typed.t-skip 𝓤 H A W 𝓣 E Δ2 tt
+
           d56 : Typed.Typed 𝓤 H A 𝓣 E G58 b36 Δ2 at56
-          d56 = Typed.g-pre 𝓤 H A W 𝓣 E G58 G59 b36 Δ2 (Typed.pass T58 T59 s55) at55 (Scalar.g-room 𝓤 H A W E G58 8 Syntax.tyBool (Scalar.room-sc 𝓤 H
-              A W Row.sBool)) d55
+          d56 = Typed.g-pre 𝓤 H A W 𝓣 E G58 G59 b36 Δ2 (Typed.pass T58 T59 s55) at55 (Scalar.g-room 𝓤 H A W E G58 8
+              Syntax.tyBool (Scalar.room-sc 𝓤 H A W Row.sBool)) d55
+
           d57 : Typed.Typed 𝓤 H A 𝓣 E G30 b36 Δ2 at57
-          d57 = Typed.g-pre 𝓤 H A W 𝓣 E G30 G58 b36 Δ2 (Typed.pass T30 T58 s54) at56 (Scalar.g-room 𝓤 H A W E G30 7 Laws'.mir (Local.room-whole 𝓤 H A
-              W (Declared'.row SettlePlan.the-type) Laws'.mir Path.refl)) d56
+          d57 = Typed.g-pre 𝓤 H A W 𝓣 E G30 G58 b36 Δ2 (Typed.pass T30 T58 s54) at56 (Scalar.g-room 𝓤 H A W E G30 7
+              Laws'.mir (Local.room-whole 𝓤 H A W (Declared'.row SettlePlan.the-type) Laws'.mir Path.refl)) d56
+
           d58 : Typed.Typed 𝓤 H A 𝓣 E G30 b37 Δ2 at58
-          d58 = Scalar.t-cond 𝓤 H A W E 𝓣 G30 8 (λ x. x) b35 b36 Δ2 at54 at57 (Scalar.reads-sc 𝓤 H A W Row.sBool) Path.refl d54 d57
+          d58 = Scalar.t-cond 𝓤 H A W E 𝓣 G30 8 (λ x. x) b35 b36 Δ2 at54 at57 (Scalar.reads-sc 𝓤 H A W Row.sBool)
+              Path.refl d54 d57
+
           d59 : Typed.Typed 𝓤 H A 𝓣 E G62 b39 Δ0 at59
           d59 = Typed.t-return 𝓤 H A W 𝓣 E Δ0 tt
+
           d60 : Typed.Typed 𝓤 H A 𝓣 E G61 b39 Δ0 at60
-          d60 = Typed.g-pre 𝓤 H A W 𝓣 E G61 G62 b39 Δ0 (Typed.pass T61 T62 s58) at59 (Scalar.g-room 𝓤 H A W E G61 6 Laws''.mir (Local.room-whole 𝓤 H A
-              W (Declared'.row Places.the-type) Laws''.mir Path.refl)) d59
+          d60 = Typed.g-pre 𝓤 H A W 𝓣 E G61 G62 b39 Δ0 (Typed.pass T61 T62 s58) at59 (Scalar.g-room 𝓤 H A W E G61 6
+              Laws''.mir (Local.room-whole 𝓤 H A W (Declared'.row Places.the-type) Laws''.mir Path.refl)) d59
+
           d61 : Typed.Typed 𝓤 H A 𝓣 E G60 b39 Δ0 at61
-          d61 = Typed.g-pre 𝓤 H A W 𝓣 E G60 G61 b39 Δ0 (Typed.pass T60 T61 s57) at60 (Scalar.g-room 𝓤 H A W E G60 5 Laws'''.mir (Local.room-whole 𝓤 H
-              A W (Declared'.row OpaqueRelayRuntime.the-type) Laws'''.mir Path.refl)) d60
+          d61 = Typed.g-pre 𝓤 H A W 𝓣 E G60 G61 b39 Δ0 (Typed.pass T60 T61 s57) at60 (Scalar.g-room 𝓤 H A W E G60 5
+              Laws'''.mir (Local.room-whole 𝓤 H A W (Declared'.row OpaqueRelayRuntime.the-type) Laws'''.mir Path.refl))
+              d60
+
           d62 : Typed.Typed 𝓤 H A 𝓣 E G31 b40 Δ0 at62
-          d62 = Typed.s-seq 𝓤 H A W 𝓣 E G31 G60 b38 b39 Δ0 (Typed.both s56) at61 (Plain.t-call-plain 𝓤 H A W 𝓣 0 ps·2 r·2 (claims· .4) (claims· .5)
-              "hnsr_circuit::revoking_calls::taken_with" (known .2) E (λ pos β. β) G31 (record { pos = 5; st = List.[]; d = 0; at = λ x. x }, (record
-              { pos = 6; st = List.[]; d = 0; at = λ x. x }, tt),) 0 List.[] (Call.sub-id 𝓤 H A W (G31 .slots)) ((Yields.yields-copy 𝓤 H A W (λ ρ.
-              Unit) (Declared'.row OpaqueRelayRuntime.the-type) Path.refl (Copies.cStruct OpaqueRelayRuntime.the-type Laws'''.the-laws
-              Laws'''.the-copy .copy 𝓤 H A W) (Rows.whole (Declared'.row OpaqueRelayRuntime.the-type)) (λ x. x) (λ x. x) (λ ρ told. Local.mem-whole 𝓤
-              H A W (Declared'.row OpaqueRelayRuntime.the-type) ρ) λ ρ told. Local.whole-mem 𝓤 H A W (Declared'.row OpaqueRelayRuntime.the-type) ρ,
-              Path.refl,), ((Yields.yields-copy 𝓤 H A W (λ ρ. Unit) (Declared'.row Places.the-type) Path.refl (Copies.cStruct Places.the-type
-              Laws''.the-laws Laws''.the-copy .copy 𝓤 H A W) (Rows.whole (Declared'.row Places.the-type)) (λ x. x) (λ x. x) (λ ρ told. Local.mem-whole
-              𝓤 H A W (Declared'.row Places.the-type) ρ) λ ρ told. Local.whole-mem 𝓤 H A W (Declared'.row Places.the-type) ρ, Path.refl,), tt,),)
-              (Reads'.room-gone 𝓤 H A Laws''''.mir) tt Path.refl) d61
+          d62 = Typed.s-seq 𝓤 H A W 𝓣 E G31 G60 b38 b39 Δ0 (Typed.both s56) at61 (Plain.t-call-plain 𝓤 H A W 𝓣 0 ps·2
+              r·2 (claims· .4) (claims· .5) "hnsr_circuit::revoking_calls::taken_with" (known .2) E (λ pos β. β) G31 (
+                record { pos = 5; st = List.[]; d = 0; at = λ x. x },
+                (record { pos = 6; st = List.[]; d = 0; at = λ x. x }, tt),
+              ) 0 List.[] (Call.sub-id 𝓤 H A W (G31 .slots)) (
+                (
+                  Yields.yields-copy 𝓤 H A W (λ ρ. Unit) (Declared'.row OpaqueRelayRuntime.the-type) Path.refl (Copies.cStruct
+                      OpaqueRelayRuntime.the-type Laws'''.the-laws Laws'''.the-copy .copy 𝓤 H A W)
+                      (Rows.whole (Declared'.row OpaqueRelayRuntime.the-type)) (λ x. x) (λ x. x) (λ ρ told.
+                      Local.mem-whole 𝓤 H A W (Declared'.row OpaqueRelayRuntime.the-type) ρ) λ ρ told. Local.whole-mem
+                      𝓤 H A W (Declared'.row OpaqueRelayRuntime.the-type) ρ,
+                  Path.refl,
+                ),
+                (
+                  (
+                    Yields.yields-copy 𝓤 H A W (λ ρ. Unit) (Declared'.row Places.the-type) Path.refl (Copies.cStruct
+                        Places.the-type Laws''.the-laws Laws''.the-copy .copy 𝓤 H A W)
+                        (Rows.whole (Declared'.row Places.the-type)) (λ x. x) (λ x. x) (λ ρ told. Local.mem-whole 𝓤 H A
+                        W (Declared'.row Places.the-type) ρ) λ ρ told. Local.whole-mem 𝓤 H A W
+                        (Declared'.row Places.the-type) ρ,
+                    Path.refl,
+                  ),
+                  tt,
+                ),
+              ) (Reads'.room-gone 𝓤 H A Laws''''.mir) tt Path.refl) d61
+
           d63 : Typed.Typed 𝓤 H A 𝓣 E G30 b41 Δ0 at63
           d63 = Typed.t-seq 𝓤 H A W 𝓣 E G30 G31 b37 b40 Δ0 at58 at62 d58 d62
+
           d64 : Typed.Typed 𝓤 H A 𝓣 E G4 b42 Δ0 at64
-          d64 = Typed.s-seq 𝓤 H A W 𝓣 E G4 G30 b18 b41 Δ0 (Typed.pass T4 T30 s27) at63 (Scalar.t-use 𝓤 H A W E 𝓣 G4 (Scalar.oFld 7 ((Syntax.field 6) ∷
-              List.[]) Syntax.tyBool 33 (Reads.fieldV SettlePlan.the-type Laws'.the-laws 6)) 8 (Rows.sc-here Row.sBool) Syntax.tyBool (Row.valS
-              Row.sBool) (Row.sBool .of) (Reads.reads-field 𝓤 H A W SettlePlan.the-type Laws'.the-laws 6 Syntax.tyBool 33 Path.refl, Path.refl,)
-              (Reads'.room-gone 𝓤 H A Syntax.tyBool) (Scalar.holds-sc 𝓤 H A W Row.sBool) Path.refl (λ u. Path.refl) λ u. tt) d63
+          d64 = Typed.s-seq 𝓤 H A W 𝓣 E G4 G30 b18 b41 Δ0 (Typed.pass T4 T30 s27) at63 (Scalar.t-use 𝓤 H A W E 𝓣 G4 (Scalar.oFld
+              7 ((Syntax.field 6) ∷ List.[]) Syntax.tyBool 33 (Reads.fieldV SettlePlan.the-type Laws'.the-laws 6)) 8
+              (Rows.sc-here Row.sBool) Syntax.tyBool (Row.valS Row.sBool) (Row.sBool .of) (
+                Reads.reads-field 𝓤 H A W SettlePlan.the-type Laws'.the-laws 6 Syntax.tyBool 33 Path.refl,
+                Path.refl,
+              ) (Reads'.room-gone 𝓤 H A Syntax.tyBool) (Scalar.holds-sc 𝓤 H A W Row.sBool) Path.refl (λ u. Path.refl)
+              λ u. tt) d63
+
           d65 : Typed.Typed 𝓤 H A 𝓣 E G3 b43 Δ0 at65
           d65 = Typed.t-seq 𝓤 H A W 𝓣 E G3 G4 b17 b42 Δ0 at27 at64 d27 d64
+
           d66 : Typed.Typed 𝓤 H A 𝓣 E G2 b44 Δ0 at66
-          d66 = Typed.s-seq 𝓤 H A W 𝓣 E G2 G3 b0 b43 Δ0 (Typed.pass T2 T3 s1) at65 (Scalar.t-use 𝓤 H A W E 𝓣 G2 (Scalar.oFld 7 ((Syntax.field 5) ∷
-              List.[]) Syntax.tyBool 32 (Reads.fieldV SettlePlan.the-type Laws'.the-laws 5)) 8 (Rows.sc-here Row.sBool) Syntax.tyBool (Row.valS
-              Row.sBool) (Row.sBool .of) (Reads.reads-field 𝓤 H A W SettlePlan.the-type Laws'.the-laws 5 Syntax.tyBool 32 Path.refl, Path.refl,)
-              (Reads'.room-gone 𝓤 H A Syntax.tyBool) (Scalar.holds-sc 𝓤 H A W Row.sBool) Path.refl (λ u. Path.refl) λ u. tt) d65
+          d66 = Typed.s-seq 𝓤 H A W 𝓣 E G2 G3 b0 b43 Δ0 (Typed.pass T2 T3 s1) at65 (Scalar.t-use 𝓤 H A W E 𝓣 G2 (Scalar.oFld
+              7 ((Syntax.field 5) ∷ List.[]) Syntax.tyBool 32 (Reads.fieldV SettlePlan.the-type Laws'.the-laws 5)) 8
+              (Rows.sc-here Row.sBool) Syntax.tyBool (Row.valS Row.sBool) (Row.sBool .of) (
+                Reads.reads-field 𝓤 H A W SettlePlan.the-type Laws'.the-laws 5 Syntax.tyBool 32 Path.refl,
+                Path.refl,
+              ) (Reads'.room-gone 𝓤 H A Syntax.tyBool) (Scalar.holds-sc 𝓤 H A W Row.sBool) Path.refl (λ u. Path.refl)
+              λ u. tt) d65
+
           d67 : Typed.Typed 𝓤 H A 𝓣 E G0 b44 Δ0 at67
-          d67 = Typed.g-pre 𝓤 H A W 𝓣 E G0 G2 b44 Δ0 (Typed.give s0) at66 (Know.g-sl-known 𝓤 H A W (Referent.fInt Syntax.w32) E G0 4 3 ref7 life2 0 (λ
-              x. x) record { fits = Dec.lit< tt } (Reads'.as-is 𝓤 H A (Mut.mslice (Referent.rtF (Referent.fInt Syntax.w32)) ref7 3)) Path.refl tt) d66
+          d67 = Typed.g-pre 𝓤 H A W 𝓣 E G0 G2 b44 Δ0 (Typed.give s0) at66 (Know.g-sl-known 𝓤 H A W
+              (Referent.fInt Syntax.w32) E G0 4 3 ref7 life2 0 (λ x. x) record { fits = Dec.lit< tt } (Reads'.as-is 𝓤 H
+              A (Mut.mslice (Referent.rtF (Referent.fInt Syntax.w32)) ref7 3)) Path.refl tt) d66
+
           pub typed : Typed.Typed 𝓤 H A 𝓣 E (Function.Γin 4 ps r xs m κs qs) b44 (Function.Δret 4 ps r xs m κs qs) Φ
           typed = d67
+
       module _ (κs : Lifetimes.Lfts 4) where
         pub record Args : Type 0 where
-          pub pending : Kinds.Den { n = 4 } κs (MutSlice.pMutS RelayPending.row 0 tt)
-          pub circuits : Kinds.Den { n = 4 } κs (MutSlice.pMutS RelayCircuit.row 1 tt)
-          pub inflight : Kinds.Den { n = 4 } κs (MutSlice.pMutS InflightAction.row 2 tt)
-          pub out : Kinds.Den { n = 4 } κs (MutSlice.pMutS (Referent.rtF (Referent.fInt Syntax.w32)) 3 tt)
-          pub runtime : Kinds.Den { n = 4 } κs (Value.pVal record { ty = Declared'.row OpaqueRelayRuntime.the-type; one = Path.refl; val =
-              Laws''''''.val OpaqueRelayRuntime.the-type Laws'''.the-laws; tells = Laws''''''.tells OpaqueRelayRuntime.the-type Laws'''.the-laws;
-              still = Laws''''''.still OpaqueRelayRuntime.the-type Laws'''.the-copy Exit.yes; row = Rows.whole (Declared'.row
-              OpaqueRelayRuntime.the-type); rd = λ x. x; mk = λ x. x; } λ M 𝓤 H A W. record { copies = Laws''''''.copy OpaqueRelayRuntime.the-type
-              Laws'''.the-copy 𝓤 H A W; lawful = Laws''''''.lawful OpaqueRelayRuntime.the-type Laws'''.the-laws 𝓤 H A W; makes = Laws''''''.makes
-              OpaqueRelayRuntime.the-type Laws'''.the-plain 𝓤 H A; in-mem = Local.mem-whole 𝓤 H A W (Declared'.row OpaqueRelayRuntime.the-type);
-              of-mem = Local.whole-mem 𝓤 H A W (Declared'.row OpaqueRelayRuntime.the-type); })
-          pub places : Kinds.Den { n = 4 } κs (Value.pVal record { ty = Declared'.row Places.the-type; one = Path.refl; val = Laws''''''.val
-              Places.the-type Laws''.the-laws; tells = Laws''''''.tells Places.the-type Laws''.the-laws; still = Laws''''''.still Places.the-type
-              Laws''.the-copy Exit.yes; row = Rows.whole (Declared'.row Places.the-type); rd = λ x. x; mk = λ x. x; } λ M 𝓤 H A W. record { copies =
-              Laws''''''.copy Places.the-type Laws''.the-copy 𝓤 H A W; lawful = Laws''''''.lawful Places.the-type Laws''.the-laws 𝓤 H A W; makes =
-              Laws''''''.makes Places.the-type Laws''.the-plain 𝓤 H A; in-mem = Local.mem-whole 𝓤 H A W (Declared'.row Places.the-type); of-mem =
-              Local.whole-mem 𝓤 H A W (Declared'.row Places.the-type); })
-          pub plan : Kinds.Den { n = 4 } κs (Value.pVal record { ty = Declared'.row SettlePlan.the-type; one = Path.refl; val = Laws''''''.val
-              SettlePlan.the-type Laws'.the-laws; tells = Laws''''''.tells SettlePlan.the-type Laws'.the-laws; still = Laws''''''.still
-              SettlePlan.the-type Laws'.the-copy Exit.yes; row = Rows.whole (Declared'.row SettlePlan.the-type); rd = λ x. x; mk = λ x. x; } λ M 𝓤 H A
-              W. record { copies = Laws''''''.copy SettlePlan.the-type Laws'.the-copy 𝓤 H A W; lawful = Laws''''''.lawful SettlePlan.the-type
-              Laws'.the-laws 𝓤 H A W; makes = Laws''''''.makes SettlePlan.the-type Laws'.the-plain 𝓤 H A; in-mem = Local.mem-whole 𝓤 H A W
-              (Declared'.row SettlePlan.the-type); of-mem = Local.whole-mem 𝓤 H A W (Declared'.row SettlePlan.the-type); })
+          pub pending : Kinds.Den {n = 4} κs (MutSlice.pMutS RelayPending.row 0 tt)
+          pub circuits : Kinds.Den {n = 4} κs (MutSlice.pMutS RelayCircuit.row 1 tt)
+          pub inflight : Kinds.Den {n = 4} κs (MutSlice.pMutS InflightAction.row 2 tt)
+          pub out : Kinds.Den {n = 4} κs (MutSlice.pMutS (Referent.rtF (Referent.fInt Syntax.w32)) 3 tt)
+          pub runtime : Kinds.Den {n = 4} κs (StructRow.param OpaqueRelayRuntime.the-type Laws'''.the-laws
+              Laws'''.the-copy Laws'''.the-plain)
+          pub places : Kinds.Den {n = 4} κs (StructRow.param Places.the-type Laws''.the-laws Laws''.the-copy
+              Laws''.the-plain)
+          pub plan : Kinds.Den {n = 4} κs (StructRow.param SettlePlan.the-type Laws'.the-laws Laws'.the-copy
+              Laws'.the-plain)
+
         abbrev pub dens : (a : Args) → Kinds.Dens κs ps
-        dens = λ a. (a .pending, (a .circuits, (a .inflight, (a .out, (a .runtime, (a .places, (a .plan, tt)))))),)
+        dens = λ a. (a .pending, (a .circuits, (a .inflight, (a .out, (a .runtime, (a .places, (a .plan, tt)))))))
+
       abbrev pub m0 : (κs : Lifetimes.Lfts 4) → (args : Args κs) → Typed.Mo T0
       m0 = λ κs args. (tt, Enter.partsP κs 1 ps xs (dens κs args))
+
       abbrev W0 : (κs : Lifetimes.Lfts 4) → (args : Args κs) → Typed.Want O0
-      W0 = λ κs args. (λ u. ⊥, tt, λ u. Enter.Fixs κs 1 ps xs (dens κs args) (u .1) × Post· κs (dens κs args) (Function.resV r κs (u .0))
-          (Clauses.atExit (Kinds.endedOf 4 ps r) κs (dens κs args) (Enter.lastsP κs 1 ps xs (dens κs args) (u .1))),)
+      W0 = λ κs args. (
+        λ u. ⊥,
+        tt,
+        λ u. Enter.Fixs κs 1 ps xs (dens κs args) (u .1) × Post· κs (dens κs args) (Function.resV r κs (u .0)) (Clauses.atExit
+            (Kinds.endedOf 4 ps r) κs (dens κs args) (Enter.lastsP κs 1 ps xs (dens κs args) (u .1))),
+      )
+
       pub record Start : Type 0 where
         pub κs : Lifetimes.Lfts 4
         pub args : Args κs
         pub good : Kinds.GoodsP κs ps (dens κs args)
         pub pre : Pre· κs (dens κs args)
+
       abbrev pub m1 : (before : Start) → (given : s0 .gives (m0 (before .κs) (before .args))) → Typed.Mo T2
       m1 = λ before given. s0 .next (m0 (before .κs) (before .args)) given
+
       abbrev pub m2 : (before : Start) → (given : s0 .gives (m0 (before .κs) (before .args))) → Typed.Mo T3
       m2 = λ before given. s1 (m1 before given)
+
       abbrev W1 : (before : Start) → (given : s0 .gives (m0 (before .κs) (before .args))) → Typed.Want O1
-      W1 = λ before given. Typed.wantNext T4 O0 (at64 (W0 (before .κs) (before .args))) (W0 (before .κs) (before .args))
+      W1 = λ before given. Typed.wantNext T4 O0 (at64 (W0 (before .κs) (before .args)))
+          (W0 (before .κs) (before .args))
+
       module _ (before· : Start) where
         pub record After-slice-known·own : Type 0 where
           pub given : s0 .gives (m0 (before· .κs) (before· .args))
+
       pub record After-slice-known : Type 0 where
         pub before : Start
         pub slice-known : After-slice-known·own before
+
       abbrev pub m3 : (before : After-slice-known) → Typed.Mo T5
       m3 = λ before. s2 (m2 (before .before) (before .slice-known .given))
+
       module _ (before· : After-slice-known) where
         pub record Then1·own : Type 0 where
           pub taken : Path._≡_ (Row.get 8 (T3 .locals) (m2 (before· .before) (before· .slice-known .given))) Bool.true
+
       pub record Then1 : Type 0 where
         pub before : After-slice-known
         pub if1 : Then1·own before
+
       abbrev pub m4 : (before : Then1) → (given : s4 .gives (m3 (before .before))) → Typed.Mo T7
       m4 = λ before given. s4 .next (m3 (before .before)) given
+
       abbrev pub m5 : (before : Then1) → (given : s4 .gives (m3 (before .before))) → Typed.Mo T8
       m5 = λ before given. s5 .next (m4 before given)
+
       module _ (before· : Then1) where
         pub record After-fail-incoming-arg·own : Type 0 where
           pub given : s4 .gives (m3 (before· .before))
+
       pub record After-fail-incoming-arg : Type 0 where
         pub before : Then1
         pub fail-incoming-arg : After-fail-incoming-arg·own before
-      abbrev pub m6 : (before : After-fail-incoming-arg) → (given : s7 .gives (m5 (before .before) (before .fail-incoming-arg .given))) → Typed.Mo T10
+
+      abbrev pub m6 : (before : After-fail-incoming-arg) → (given : s7 .gives
+          (m5 (before .before) (before .fail-incoming-arg .given))) → Typed.Mo T10
       m6 = λ before given. s7 .next (m5 (before .before) (before .fail-incoming-arg .given)) given
-      abbrev pub m7 : (before : After-fail-incoming-arg) → (given : s7 .gives (m5 (before .before) (before .fail-incoming-arg .given))) → Typed.Mo T11
+
+      abbrev pub m7 : (before : After-fail-incoming-arg) → (given : s7 .gives
+          (m5 (before .before) (before .fail-incoming-arg .given))) → Typed.Mo T11
       m7 = λ before given. s8 .next (m6 before given)
+
       module _ (before· : After-fail-incoming-arg) where
         pub record After-fail-incoming-arg2·own : Type 0 where
           pub given : s7 .gives (m5 (before· .before) (before· .fail-incoming-arg .given))
+
       pub record After-fail-incoming-arg2 : Type 0 where
         pub before : After-fail-incoming-arg
         pub fail-incoming-arg2 : After-fail-incoming-arg2·own before
-      abbrev pub m8 : (before : After-fail-incoming-arg2) → (given : s10 .gives (m7 (before .before) (before .fail-incoming-arg2 .given))) → Typed.Mo
-          T13
+
+      abbrev pub m8 : (before : After-fail-incoming-arg2) → (given : s10 .gives
+          (m7 (before .before) (before .fail-incoming-arg2 .given))) → Typed.Mo T13
       m8 = λ before given. s10 .next (m7 (before .before) (before .fail-incoming-arg2 .given)) given
-      abbrev pub m9 : (before : After-fail-incoming-arg2) → (given : s10 .gives (m7 (before .before) (before .fail-incoming-arg2 .given))) → Typed.Mo
-          T14
+
+      abbrev pub m9 : (before : After-fail-incoming-arg2) → (given : s10 .gives
+          (m7 (before .before) (before .fail-incoming-arg2 .given))) → Typed.Mo T14
       m9 = λ before given. s11 .next (m8 before given)
+
       module _ (before· : After-fail-incoming-arg2) where
         pub record After-fail-incoming-arg3·own : Type 0 where
           pub given : s10 .gives (m7 (before· .before) (before· .fail-incoming-arg2 .given))
+
       pub record After-fail-incoming-arg3 : Type 0 where
         pub before : After-fail-incoming-arg2
         pub fail-incoming-arg3 : After-fail-incoming-arg3·own before
+
       abbrev pub Need-fail-incoming-requires : Type 0
-      Need-fail-incoming-requires = (c : After-fail-incoming-arg3) → s12 .asks (m9 (c .before) (c .fail-incoming-arg3 .given))
-      abbrev pub m10 : (before : After-fail-incoming-arg3) → (given : s12 .gives (m9 (before .before) (before .fail-incoming-arg3 .given))) → Typed.Mo
-          T15
+      Need-fail-incoming-requires = (c : After-fail-incoming-arg3) → s12 .asks
+          (m9 (c .before) (c .fail-incoming-arg3 .given))
+
+      abbrev pub m10 : (before : After-fail-incoming-arg3) → (given : s12 .gives
+          (m9 (before .before) (before .fail-incoming-arg3 .given))) → Typed.Mo T15
       m10 = λ before given. s12 .next (m9 (before .before) (before .fail-incoming-arg3 .given)) given
+
       module _ (before· : After-fail-incoming-arg3) where
         abbrev pub After-fail-incoming·own : Type 0
-        After-fail-incoming·own = Called.Called ps·0 r·0 (claims· .1) T14 (record { pos = 10; ty = Syntax.tyRef Syntax.erased Syntax.mut
-            RelayPending.to; ref = λ x. x; }, (record { pos = 12; ty = Syntax.tyRef Syntax.erased Syntax.mut InflightAction.to; ref = λ x. x; },
-            (record { pos = 14; ty = Syntax.tyRef Syntax.erased Syntax.mut (Syntax.tyInt Syntax.w32); ref = λ x. x; }, (record { pos = 5; st =
-            List.[]; d = 0; at = λ x. x }, (record { pos = 6; st = List.[]; d = 0; at = λ x. x }, (Num.vFld 7 ((Syntax.field 1) ∷ List.[]) 8 λ x.
-            SettlePlan.struct .as-values x .1 .0, tt,),),),),),) (m9 (before· .before) (before· .fail-incoming-arg3 .given))
+        After-fail-incoming·own = Called.Called ps·0 r·0 (claims· .1) T14 args12
+            (m9 (before· .before) (before· .fail-incoming-arg3 .given))
+
       pub record After-fail-incoming : Type 0 where
         pub before : After-fail-incoming-arg3
         pub fail-incoming : After-fail-incoming·own before
-      abbrev pub After-fail-incoming·gave : (c : After-fail-incoming) → s12 .gives (m9 (c .before .before) (c .before .fail-incoming-arg3 .given))
-      After-fail-incoming·gave = λ c. Called.given ps·0 r·0 (claims· .1) T14 (record { pos = 10; ty = Syntax.tyRef Syntax.erased Syntax.mut
-          RelayPending.to; ref = λ x. x; }, (record { pos = 12; ty = Syntax.tyRef Syntax.erased Syntax.mut InflightAction.to; ref = λ x. x; }, (record
-          { pos = 14; ty = Syntax.tyRef Syntax.erased Syntax.mut (Syntax.tyInt Syntax.w32); ref = λ x. x; }, (record { pos = 5; st = List.[]; d = 0;
-          at = λ x. x }, (record { pos = 6; st = List.[]; d = 0; at = λ x. x }, (Num.vFld 7 ((Syntax.field 1) ∷ List.[]) 8 λ x. SettlePlan.struct
-          .as-values x .1 .0, tt,),),),),),) (m9 (c .before .before) (c .before .fail-incoming-arg3 .given)) (c .fail-incoming)
-      abbrev pub m11 : (before : After-fail-incoming-arg3) → (given : s12 .gives (m9 (before .before) (before .fail-incoming-arg3 .given))) → Typed.Mo
-          T16
+
+      abbrev pub After-fail-incoming·gave : (c : After-fail-incoming) → s12 .gives (m9 (c .before .before)
+          (c .before .fail-incoming-arg3 .given))
+      After-fail-incoming·gave = λ c. Called.given ps·0 r·0 (claims· .1) T14 args12 (m9 (c .before .before)
+          (c .before .fail-incoming-arg3 .given)) (c .fail-incoming)
+
+      abbrev pub m11 : (before : After-fail-incoming-arg3) → (given : s12 .gives
+          (m9 (before .before) (before .fail-incoming-arg3 .given))) → Typed.Mo T16
       m11 = λ before given. s13 (m10 before given)
-      abbrev pub m12 : (before : After-fail-incoming-arg3) → (given : s12 .gives (m9 (before .before) (before .fail-incoming-arg3 .given))) → Typed.Mo
-          T17
+
+      abbrev pub m12 : (before : After-fail-incoming-arg3) → (given : s12 .gives
+          (m9 (before .before) (before .fail-incoming-arg3 .given))) → Typed.Mo T17
       m12 = λ before given. s14 (m11 before given)
-      abbrev pub m13 : (before : After-fail-incoming-arg3) → (given : s12 .gives (m9 (before .before) (before .fail-incoming-arg3 .given))) → Typed.Mo
-          T18
+
+      abbrev pub m13 : (before : After-fail-incoming-arg3) → (given : s12 .gives
+          (m9 (before .before) (before .fail-incoming-arg3 .given))) → Typed.Mo T18
       m13 = λ before given. s15 (m12 before given)
-      abbrev pub m14 : (before : After-fail-incoming) → (given : s17 .gives (m13 (before .before) (After-fail-incoming·gave before))) → Typed.Mo T20
+
+      abbrev pub m14 : (before : After-fail-incoming) → (given : s17 .gives
+          (m13 (before .before) (After-fail-incoming·gave before))) → Typed.Mo T20
       m14 = λ before given. s17 .next (m13 (before .before) (After-fail-incoming·gave before)) given
+
       module _ (before· : After-fail-incoming) where
         pub record After-pending·own : Type 0 where
           pub given : s17 .gives (m13 (before· .before) (After-fail-incoming·gave before·))
+
       pub record After-pending : Type 0 where
         pub before : After-fail-incoming
         pub pending : After-pending·own before
-      abbrev pub m15 : (before : After-pending) → (given : s20 .gives (m14 (before .before) (before .pending .given))) → Typed.Mo T23
+
+      abbrev pub m15 : (before : After-pending) → (given : s20 .gives (m14 (before .before) (before .pending .given)))
+          → Typed.Mo T23
       m15 = λ before given. s20 .next (m14 (before .before) (before .pending .given)) given
+
       module _ (before· : After-pending) where
         pub record After-inflight·own : Type 0 where
           pub given : s20 .gives (m14 (before· .before) (before· .pending .given))
+
       pub record After-inflight : Type 0 where
         pub before : After-pending
         pub inflight : After-inflight·own before
-      abbrev pub m16 : (before : After-inflight) → (given : s23 .gives (m15 (before .before) (before .inflight .given))) → Typed.Mo T26
+
+      abbrev pub m16 : (before : After-inflight) → (given : s23 .gives (m15 (before .before) (before .inflight .given)))
+          → Typed.Mo T26
       m16 = λ before given. s23 .next (m15 (before .before) (before .inflight .given)) given
+
       module _ (before· : After-inflight) where
         pub record After-out·own : Type 0 where
           pub given : s23 .gives (m15 (before· .before) (before· .inflight .given))
+
       pub record After-out : Type 0 where
         pub before : After-inflight
         pub out : After-out·own before
-      abbrev pub m17 : (before : After-out) → (given : s24 .gives (m16 (before .before) (before .out .given))) → Typed.Mo T27
+
+      abbrev pub m17 : (before : After-out) → (given : s24 .gives (m16 (before .before) (before .out .given))) →
+          Typed.Mo T27
       m17 = λ before given. s24 .next (m16 (before .before) (before .out .given)) given
+
       module _ (before· : After-out) where
         pub record After-slice-known2·own : Type 0 where
           pub given : s24 .gives (m16 (before· .before) (before· .out .given))
+
       pub record After-slice-known2 : Type 0 where
         pub before : After-out
         pub slice-known2 : After-slice-known2·own before
+
       abbrev pub Need-same-length : Type 0
-      Need-same-length = (c : After-slice-known2) → MutSlice.SameLen (Row.get 1 (T27 .locals) (m17 (c .before) (c .slice-known2 .given))) (dens (c
-          .before .before .before .before .before .before .before .before .before .before .κs) (c .before .before .before .before .before .before
-          .before .before .before .before .args) .0)
+      Need-same-length = (c : After-slice-known2) → MutSlice.SameLen (Row.get 1 (T27 .locals)
+          (m17 (c .before) (c .slice-known2 .given))) (dens (c .before .before .before .before .before .before .before
+          .before .before .before .κs) (c .before .before .before .before .before .before .before .before .before
+          .before .args) .0)
+
       abbrev pub Need-same-length-2 : Type 0
-      Need-same-length-2 = (c : After-slice-known2) → MutSlice.SameLen (Row.get 3 (T27 .locals) (m17 (c .before) (c .slice-known2 .given))) (dens (c
-          .before .before .before .before .before .before .before .before .before .before .κs) (c .before .before .before .before .before .before
-          .before .before .before .before .args) .1 .1 .0)
+      Need-same-length-2 = (c : After-slice-known2) → MutSlice.SameLen (Row.get 3 (T27 .locals)
+          (m17 (c .before) (c .slice-known2 .given))) (dens (c .before .before .before .before .before .before .before
+          .before .before .before .κs) (c .before .before .before .before .before .before .before .before .before
+          .before .args) .1 .1 .0)
+
       abbrev pub Need-same-length-3 : Type 0
-      Need-same-length-3 = (c : After-slice-known2) → MutSlice.SameLen (Row.get 4 (T27 .locals) (m17 (c .before) (c .slice-known2 .given))) (dens (c
-          .before .before .before .before .before .before .before .before .before .before .κs) (c .before .before .before .before .before .before
-          .before .before .before .before .args) .1 .1 .1 .0)
+      Need-same-length-3 = (c : After-slice-known2) → MutSlice.SameLen (Row.get 4 (T27 .locals)
+          (m17 (c .before) (c .slice-known2 .given))) (dens (c .before .before .before .before .before .before .before
+          .before .before .before .κs) (c .before .before .before .before .before .before .before .before .before
+          .before .args) .1 .1 .1 .0)
+
       abbrev pub Need-returns : Type 0
-      Need-returns = (c : After-slice-known2) → Post· (c .before .before .before .before .before .before .before .before .before .before .κs) (dens (c
-          .before .before .before .before .before .before .before .before .before .before .κs) (c .before .before .before .before .before .before
-          .before .before .before .before .args)) (Function.resV r (c .before .before .before .before .before .before .before .before .before .before
-          .κs) (m17 (c .before) (c .slice-known2 .given) .0)) (Clauses.atExit (Kinds.endedOf 4 ps r) (c .before .before .before .before .before
-          .before .before .before .before .before .κs) (dens (c .before .before .before .before .before .before .before .before .before .before .κs)
-          (c .before .before .before .before .before .before .before .before .before .before .args)) (Enter.lastsP (c .before .before .before .before
-          .before .before .before .before .before .before .κs) 1 ps xs (dens (c .before .before .before .before .before .before .before .before
-          .before .before .κs) (c .before .before .before .before .before .before .before .before .before .before .args)) (m17 (c .before) (c
-          .slice-known2 .given) .1)))
+      Need-returns = (c : After-slice-known2) → Post· (c .before .before .before .before .before .before .before
+          .before .before .before .κs) (dens (c .before .before .before .before .before .before .before .before .before
+          .before .κs) (c .before .before .before .before .before .before .before .before .before .before .args)) (Function.resV
+          r (c .before .before .before .before .before .before .before .before .before .before .κs)
+          (m17 (c .before) (c .slice-known2 .given) .0)) (Clauses.atExit (Kinds.endedOf 4 ps r) (c .before .before
+          .before .before .before .before .before .before .before .before .κs) (dens (c .before .before .before .before
+          .before .before .before .before .before .before .κs) (c .before .before .before .before .before .before
+          .before .before .before .before .args)) (Enter.lastsP (c .before .before .before .before .before .before
+          .before .before .before .before .κs) 1 ps xs (dens (c .before .before .before .before .before .before .before
+          .before .before .before .κs) (c .before .before .before .before .before .before .before .before .before
+          .before .args)) (m17 (c .before) (c .slice-known2 .given) .1)))
+
       abbrev pub m18 : (before : After-slice-known) → Typed.Mo T29
       m18 = λ before. s26 (m2 (before .before) (before .slice-known .given))
+
       module _ (before· : After-slice-known) where
         pub record Else1·own : Type 0 where
           pub left : Path._≡_ (Row.get 8 (T3 .locals) (m2 (before· .before) (before· .slice-known .given))) Bool.false
+
       pub record Else1 : Type 0 where
         pub before : After-slice-known
         pub if1 : Else1·own before
+
       abbrev pub m19 : (before : After-slice-known) → Typed.Mo T30
       m19 = λ before. s27 (m18 before)
+
       abbrev W2 : (before : After-slice-known) → Typed.Want O2
-      W2 = λ before. Typed.wantNext T31 O0 (at62 (W0 (before .before .κs) (before .before .args))) (W0 (before .before .κs) (before .before .args))
+      W2 = λ before. Typed.wantNext T31 O0 (at62 (W0 (before .before .κs) (before .before .args)))
+          (W0 (before .before .κs) (before .before .args))
+
       abbrev pub m20 : (before : Else1) → Typed.Mo T32
       m20 = λ before. s28 (m19 (before .before))
+
       module _ (before· : Else1) where
         pub record Then2·own : Type 0 where
           pub taken : Path._≡_ (Row.get 8 (T30 .locals) (m19 (before· .before))) Bool.true
+
       pub record Then2 : Type 0 where
         pub before : Else1
         pub if2 : Then2·own before
+
       abbrev pub m21 : (before : Then2) → (given : s30 .gives (m20 (before .before))) → Typed.Mo T34
       m21 = λ before given. s30 .next (m20 (before .before)) given
+
       abbrev pub m22 : (before : Then2) → (given : s30 .gives (m20 (before .before))) → Typed.Mo T35
       m22 = λ before given. s31 .next (m21 before given)
+
       module _ (before· : Then2) where
         pub record After-revoke-one-arg·own : Type 0 where
           pub given : s30 .gives (m20 (before· .before))
+
       pub record After-revoke-one-arg : Type 0 where
         pub before : Then2
         pub revoke-one-arg : After-revoke-one-arg·own before
-      abbrev pub m23 : (before : After-revoke-one-arg) → (given : s33 .gives (m22 (before .before) (before .revoke-one-arg .given))) → Typed.Mo T37
+
+      abbrev pub m23 : (before : After-revoke-one-arg) → (given : s33 .gives
+          (m22 (before .before) (before .revoke-one-arg .given))) → Typed.Mo T37
       m23 = λ before given. s33 .next (m22 (before .before) (before .revoke-one-arg .given)) given
-      abbrev pub m24 : (before : After-revoke-one-arg) → (given : s33 .gives (m22 (before .before) (before .revoke-one-arg .given))) → Typed.Mo T38
+
+      abbrev pub m24 : (before : After-revoke-one-arg) → (given : s33 .gives
+          (m22 (before .before) (before .revoke-one-arg .given))) → Typed.Mo T38
       m24 = λ before given. s34 .next (m23 before given)
+
       module _ (before· : After-revoke-one-arg) where
         pub record After-revoke-one-arg2·own : Type 0 where
           pub given : s33 .gives (m22 (before· .before) (before· .revoke-one-arg .given))
+
       pub record After-revoke-one-arg2 : Type 0 where
         pub before : After-revoke-one-arg
         pub revoke-one-arg2 : After-revoke-one-arg2·own before
-      abbrev pub m25 : (before : After-revoke-one-arg2) → (given : s36 .gives (m24 (before .before) (before .revoke-one-arg2 .given))) → Typed.Mo T40
+
+      abbrev pub m25 : (before : After-revoke-one-arg2) → (given : s36 .gives
+          (m24 (before .before) (before .revoke-one-arg2 .given))) → Typed.Mo T40
       m25 = λ before given. s36 .next (m24 (before .before) (before .revoke-one-arg2 .given)) given
-      abbrev pub m26 : (before : After-revoke-one-arg2) → (given : s36 .gives (m24 (before .before) (before .revoke-one-arg2 .given))) → Typed.Mo T41
+
+      abbrev pub m26 : (before : After-revoke-one-arg2) → (given : s36 .gives
+          (m24 (before .before) (before .revoke-one-arg2 .given))) → Typed.Mo T41
       m26 = λ before given. s37 .next (m25 before given)
-      abbrev pub m27 : (before : After-revoke-one-arg2) → (given : s36 .gives (m24 (before .before) (before .revoke-one-arg2 .given))) → Typed.Mo T42
+
+      abbrev pub m27 : (before : After-revoke-one-arg2) → (given : s36 .gives
+          (m24 (before .before) (before .revoke-one-arg2 .given))) → Typed.Mo T42
       m27 = λ before given. s38 (m26 before given)
+
       module _ (before· : After-revoke-one-arg2) where
         pub record After-revoke-one-arg3·own : Type 0 where
           pub given : s36 .gives (m24 (before· .before) (before· .revoke-one-arg2 .given))
+
       pub record After-revoke-one-arg3 : Type 0 where
         pub before : After-revoke-one-arg2
         pub revoke-one-arg3 : After-revoke-one-arg3·own before
+
       abbrev pub Need-revoke-one-requires : Type 0
       Need-revoke-one-requires = (c : After-revoke-one-arg3) → s39 .asks (m27 (c .before) (c .revoke-one-arg3 .given))
-      abbrev pub m28 : (before : After-revoke-one-arg3) → (given : s39 .gives (m27 (before .before) (before .revoke-one-arg3 .given))) → Typed.Mo T43
+
+      abbrev pub m28 : (before : After-revoke-one-arg3) → (given : s39 .gives
+          (m27 (before .before) (before .revoke-one-arg3 .given))) → Typed.Mo T43
       m28 = λ before given. s39 .next (m27 (before .before) (before .revoke-one-arg3 .given)) given
+
       module _ (before· : After-revoke-one-arg3) where
         abbrev pub After-revoke-one·own : Type 0
-        After-revoke-one·own = Called.Called ps·1 r·1 (claims· .3) T42 (record { pos = 16; ty = Syntax.tyRef Syntax.erased Syntax.mut RelayCircuit.to;
-            ref = λ x. x; }, (record { pos = 18; ty = Syntax.tyRef Syntax.erased Syntax.mut InflightAction.to; ref = λ x. x; }, (record { pos = 20; ty
-            = Syntax.tyRef Syntax.erased Syntax.mut (Syntax.tyInt Syntax.w32); ref = λ x. x; }, (record { pos = 5; st = List.[]; d = 0; at = λ x. x },
-            (record { pos = 6; st = List.[]; d = 0; at = λ x. x }, (record { pos = 21; st = List.[]; d = 0; at = λ x. x }, (Num.vFld 7 ((Syntax.field
-            1) ∷ List.[]) 8 λ x. SettlePlan.struct .as-values x .1 .0, tt,),),),),),),) (m27 (before· .before) (before· .revoke-one-arg3 .given))
+        After-revoke-one·own = Called.Called ps·1 r·1 (claims· .3) T42 args39
+            (m27 (before· .before) (before· .revoke-one-arg3 .given))
+
       pub record After-revoke-one : Type 0 where
         pub before : After-revoke-one-arg3
         pub revoke-one : After-revoke-one·own before
-      abbrev pub After-revoke-one·gave : (c : After-revoke-one) → s39 .gives (m27 (c .before .before) (c .before .revoke-one-arg3 .given))
-      After-revoke-one·gave = λ c. Called.given ps·1 r·1 (claims· .3) T42 (record { pos = 16; ty = Syntax.tyRef Syntax.erased Syntax.mut
-          RelayCircuit.to; ref = λ x. x; }, (record { pos = 18; ty = Syntax.tyRef Syntax.erased Syntax.mut InflightAction.to; ref = λ x. x; }, (record
-          { pos = 20; ty = Syntax.tyRef Syntax.erased Syntax.mut (Syntax.tyInt Syntax.w32); ref = λ x. x; }, (record { pos = 5; st = List.[]; d = 0;
-          at = λ x. x }, (record { pos = 6; st = List.[]; d = 0; at = λ x. x }, (record { pos = 21; st = List.[]; d = 0; at = λ x. x }, (Num.vFld 7
-          ((Syntax.field 1) ∷ List.[]) 8 λ x. SettlePlan.struct .as-values x .1 .0, tt,),),),),),),) (m27 (c .before .before) (c .before
-          .revoke-one-arg3 .given)) (c .revoke-one)
-      abbrev pub m29 : (before : After-revoke-one-arg3) → (given : s39 .gives (m27 (before .before) (before .revoke-one-arg3 .given))) → Typed.Mo T44
+
+      abbrev pub After-revoke-one·gave : (c : After-revoke-one) → s39 .gives (m27 (c .before .before)
+          (c .before .revoke-one-arg3 .given))
+      After-revoke-one·gave = λ c. Called.given ps·1 r·1 (claims· .3) T42 args39 (m27 (c .before .before)
+          (c .before .revoke-one-arg3 .given)) (c .revoke-one)
+
+      abbrev pub m29 : (before : After-revoke-one-arg3) → (given : s39 .gives
+          (m27 (before .before) (before .revoke-one-arg3 .given))) → Typed.Mo T44
       m29 = λ before given. s40 (m28 before given)
-      abbrev pub m30 : (before : After-revoke-one-arg3) → (given : s39 .gives (m27 (before .before) (before .revoke-one-arg3 .given))) → Typed.Mo T45
+
+      abbrev pub m30 : (before : After-revoke-one-arg3) → (given : s39 .gives
+          (m27 (before .before) (before .revoke-one-arg3 .given))) → Typed.Mo T45
       m30 = λ before given. s41 (m29 before given)
-      abbrev pub m31 : (before : After-revoke-one-arg3) → (given : s39 .gives (m27 (before .before) (before .revoke-one-arg3 .given))) → Typed.Mo T46
+
+      abbrev pub m31 : (before : After-revoke-one-arg3) → (given : s39 .gives
+          (m27 (before .before) (before .revoke-one-arg3 .given))) → Typed.Mo T46
       m31 = λ before given. s42 (m30 before given)
-      abbrev pub m32 : (before : After-revoke-one-arg3) → (given : s39 .gives (m27 (before .before) (before .revoke-one-arg3 .given))) → Typed.Mo T47
+
+      abbrev pub m32 : (before : After-revoke-one-arg3) → (given : s39 .gives
+          (m27 (before .before) (before .revoke-one-arg3 .given))) → Typed.Mo T47
       m32 = λ before given. s43 (m31 before given)
-      abbrev pub m33 : (before : After-revoke-one) → (given : s45 .gives (m32 (before .before) (After-revoke-one·gave before))) → Typed.Mo T49
+
+      abbrev pub m33 : (before : After-revoke-one) → (given : s45 .gives
+          (m32 (before .before) (After-revoke-one·gave before))) → Typed.Mo T49
       m33 = λ before given. s45 .next (m32 (before .before) (After-revoke-one·gave before)) given
+
       module _ (before· : After-revoke-one) where
         pub record After-circuits·own : Type 0 where
           pub given : s45 .gives (m32 (before· .before) (After-revoke-one·gave before·))
+
       pub record After-circuits : Type 0 where
         pub before : After-revoke-one
         pub circuits : After-circuits·own before
-      abbrev pub m34 : (before : After-circuits) → (given : s48 .gives (m33 (before .before) (before .circuits .given))) → Typed.Mo T52
+
+      abbrev pub m34 : (before : After-circuits) → (given : s48 .gives (m33 (before .before) (before .circuits .given)))
+          → Typed.Mo T52
       m34 = λ before given. s48 .next (m33 (before .before) (before .circuits .given)) given
+
       module _ (before· : After-circuits) where
         pub record After-inflight2·own : Type 0 where
           pub given : s48 .gives (m33 (before· .before) (before· .circuits .given))
+
       pub record After-inflight2 : Type 0 where
         pub before : After-circuits
         pub inflight2 : After-inflight2·own before
-      abbrev pub m35 : (before : After-inflight2) → (given : s51 .gives (m34 (before .before) (before .inflight2 .given))) → Typed.Mo T55
+
+      abbrev pub m35 : (before : After-inflight2) → (given : s51 .gives
+          (m34 (before .before) (before .inflight2 .given))) → Typed.Mo T55
       m35 = λ before given. s51 .next (m34 (before .before) (before .inflight2 .given)) given
+
       module _ (before· : After-inflight2) where
         pub record After-out2·own : Type 0 where
           pub given : s51 .gives (m34 (before· .before) (before· .inflight2 .given))
+
       pub record After-out2 : Type 0 where
         pub before : After-inflight2
         pub out2 : After-out2·own before
-      abbrev pub m36 : (before : After-out2) → (given : s52 .gives (m35 (before .before) (before .out2 .given))) → Typed.Mo T56
+
+      abbrev pub m36 : (before : After-out2) → (given : s52 .gives (m35 (before .before) (before .out2 .given))) →
+          Typed.Mo T56
       m36 = λ before given. s52 .next (m35 (before .before) (before .out2 .given)) given
+
       module _ (before· : After-out2) where
         pub record After-slice-known3·own : Type 0 where
           pub given : s52 .gives (m35 (before· .before) (before· .out2 .given))
+
       pub record After-slice-known3 : Type 0 where
         pub before : After-out2
         pub slice-known3 : After-slice-known3·own before
+
       abbrev pub Need-same-length-4 : Type 0
-      Need-same-length-4 = (c : After-slice-known3) → MutSlice.SameLen (Row.get 2 (T56 .locals) (m36 (c .before) (c .slice-known3 .given))) (dens (c
-          .before .before .before .before .before .before .before .before .before .before .before .κs) (c .before .before .before .before .before
-          .before .before .before .before .before .before .args) .1 .0)
+      Need-same-length-4 = (c : After-slice-known3) → MutSlice.SameLen (Row.get 2 (T56 .locals)
+          (m36 (c .before) (c .slice-known3 .given))) (dens (c .before .before .before .before .before .before .before
+          .before .before .before .before .κs) (c .before .before .before .before .before .before .before .before
+          .before .before .before .args) .1 .0)
+
       abbrev pub Need-same-length-5 : Type 0
-      Need-same-length-5 = (c : After-slice-known3) → MutSlice.SameLen (Row.get 3 (T56 .locals) (m36 (c .before) (c .slice-known3 .given))) (dens (c
-          .before .before .before .before .before .before .before .before .before .before .before .κs) (c .before .before .before .before .before
-          .before .before .before .before .before .before .args) .1 .1 .0)
+      Need-same-length-5 = (c : After-slice-known3) → MutSlice.SameLen (Row.get 3 (T56 .locals)
+          (m36 (c .before) (c .slice-known3 .given))) (dens (c .before .before .before .before .before .before .before
+          .before .before .before .before .κs) (c .before .before .before .before .before .before .before .before
+          .before .before .before .args) .1 .1 .0)
+
       abbrev pub Need-same-length-6 : Type 0
-      Need-same-length-6 = (c : After-slice-known3) → MutSlice.SameLen (Row.get 4 (T56 .locals) (m36 (c .before) (c .slice-known3 .given))) (dens (c
-          .before .before .before .before .before .before .before .before .before .before .before .κs) (c .before .before .before .before .before
-          .before .before .before .before .before .before .args) .1 .1 .1 .0)
+      Need-same-length-6 = (c : After-slice-known3) → MutSlice.SameLen (Row.get 4 (T56 .locals)
+          (m36 (c .before) (c .slice-known3 .given))) (dens (c .before .before .before .before .before .before .before
+          .before .before .before .before .κs) (c .before .before .before .before .before .before .before .before
+          .before .before .before .args) .1 .1 .1 .0)
+
       abbrev pub Need-returns-2 : Type 0
-      Need-returns-2 = (c : After-slice-known3) → Post· (c .before .before .before .before .before .before .before .before .before .before .before
-          .κs) (dens (c .before .before .before .before .before .before .before .before .before .before .before .κs) (c .before .before .before
-          .before .before .before .before .before .before .before .before .args)) (Function.resV r (c .before .before .before .before .before .before
-          .before .before .before .before .before .κs) (m36 (c .before) (c .slice-known3 .given) .0)) (Clauses.atExit (Kinds.endedOf 4 ps r) (c
-          .before .before .before .before .before .before .before .before .before .before .before .κs) (dens (c .before .before .before .before
-          .before .before .before .before .before .before .before .κs) (c .before .before .before .before .before .before .before .before .before
-          .before .before .args)) (Enter.lastsP (c .before .before .before .before .before .before .before .before .before .before .before .κs) 1 ps
-          xs (dens (c .before .before .before .before .before .before .before .before .before .before .before .κs) (c .before .before .before .before
-          .before .before .before .before .before .before .before .args)) (m36 (c .before) (c .slice-known3 .given) .1)))
+      Need-returns-2 = (c : After-slice-known3) → Post· (c .before .before .before .before .before .before .before
+          .before .before .before .before .κs) (dens (c .before .before .before .before .before .before .before .before
+          .before .before .before .κs) (c .before .before .before .before .before .before .before .before .before
+          .before .before .args)) (Function.resV r (c .before .before .before .before .before .before .before .before
+          .before .before .before .κs) (m36 (c .before) (c .slice-known3 .given) .0)) (Clauses.atExit
+          (Kinds.endedOf 4 ps r) (c .before .before .before .before .before .before .before .before .before .before
+          .before .κs) (dens (c .before .before .before .before .before .before .before .before .before .before .before
+          .κs) (c .before .before .before .before .before .before .before .before .before .before .before .args)) (Enter.lastsP (c
+          .before .before .before .before .before .before .before .before .before .before .before .κs) 1 ps xs (dens (c
+          .before .before .before .before .before .before .before .before .before .before .before .κs) (c .before
+          .before .before .before .before .before .before .before .before .before .before .args))
+          (m36 (c .before) (c .slice-known3 .given) .1)))
+
       abbrev pub m37 : (before : Else1) → Typed.Mo T58
       m37 = λ before. s54 (m19 (before .before))
+
       abbrev pub m38 : (before : Else1) → Typed.Mo T59
       m38 = λ before. s55 (m37 before)
+
       module _ (before· : Else1) where
         pub record Else2·own : Type 0 where
           pub left : Path._≡_ (Row.get 8 (T30 .locals) (m19 (before· .before))) Bool.false
+
       pub record Else2 : Type 0 where
         pub before : Else1
         pub if2 : Else2·own before
+
       abbrev pub Need-taken-with-requires : Type 0
       Need-taken-with-requires = (c : Else2) → s56 .asks (m38 (c .before))
+
       abbrev pub m39 : (before : Else2) → (given : s56 .gives (m38 (before .before))) → Typed.Mo T60
       m39 = λ before given. s56 .next (m38 (before .before)) given
+
       module _ (before· : Else2) where
         abbrev pub After-taken-with·own : Type 0
-        After-taken-with·own = Called.Called ps·2 r·2 (claims· .5) T31 (record { pos = 5; st = List.[]; d = 0; at = λ x. x }, (record { pos = 6; st =
-            List.[]; d = 0; at = λ x. x }, tt),) (m38 (before· .before))
+        After-taken-with·own = Called.Called ps·2 r·2 (claims· .5) T31 args56 (m38 (before· .before))
+
       pub record After-taken-with : Type 0 where
         pub before : Else2
         pub taken-with : After-taken-with·own before
+
       abbrev pub After-taken-with·gave : (c : After-taken-with) → s56 .gives (m38 (c .before .before))
-      After-taken-with·gave = λ c. Called.given ps·2 r·2 (claims· .5) T31 (record { pos = 5; st = List.[]; d = 0; at = λ x. x }, (record { pos = 6; st
-          = List.[]; d = 0; at = λ x. x }, tt),) (m38 (c .before .before)) (c .taken-with)
+      After-taken-with·gave = λ c. Called.given ps·2 r·2 (claims· .5) T31 args56 (m38 (c .before .before))
+          (c .taken-with)
+
       abbrev pub m40 : (before : Else2) → (given : s56 .gives (m38 (before .before))) → Typed.Mo T61
       m40 = λ before given. s57 (m39 before given)
+
       abbrev pub m41 : (before : Else2) → (given : s56 .gives (m38 (before .before))) → Typed.Mo T62
       m41 = λ before given. s58 (m40 before given)
+
       abbrev pub Need-returns-3 : Type 0
-      Need-returns-3 = (c : After-taken-with) → Post· (c .before .before .before .before .κs) (dens (c .before .before .before .before .κs) (c .before
-          .before .before .before .args)) (Function.resV r (c .before .before .before .before .κs) (m41 (c .before) (After-taken-with·gave c) .0))
-          (Clauses.atExit (Kinds.endedOf 4 ps r) (c .before .before .before .before .κs) (dens (c .before .before .before .before .κs) (c .before
-          .before .before .before .args)) (Enter.lastsP (c .before .before .before .before .κs) 1 ps xs (dens (c .before .before .before .before .κs)
-          (c .before .before .before .before .args)) (m41 (c .before) (After-taken-with·gave c) .1)))
-      module _ (fail-incoming-requires : Need-fail-incoming-requires) (same-length : Need-same-length) (same-length-2 : Need-same-length-2)
-          (same-length-3 : Need-same-length-3) (returns : Need-returns) (revoke-one-requires : Need-revoke-one-requires) (same-length-4 :
-          Need-same-length-4) (same-length-5 : Need-same-length-5) (same-length-6 : Need-same-length-6) (returns-2 : Need-returns-2)
+      Need-returns-3 = (c : After-taken-with) → Post· (c .before .before .before .before .κs) (dens
+          (c .before .before .before .before .κs) (c .before .before .before .before .args)) (Function.resV r
+          (c .before .before .before .before .κs) (m41 (c .before) (After-taken-with·gave c) .0)) (Clauses.atExit
+          (Kinds.endedOf 4 ps r) (c .before .before .before .before .κs) (dens (c .before .before .before .before .κs)
+          (c .before .before .before .before .args)) (Enter.lastsP (c .before .before .before .before .κs) 1 ps xs (dens
+          (c .before .before .before .before .κs) (c .before .before .before .before .args))
+          (m41 (c .before) (After-taken-with·gave c) .1)))
+
+      module _ (fail-incoming-requires : Need-fail-incoming-requires) (same-length : Need-same-length)
+          (same-length-2 : Need-same-length-2) (same-length-3 : Need-same-length-3) (returns : Need-returns)
+          (revoke-one-requires : Need-revoke-one-requires) (same-length-4 : Need-same-length-4)
+          (same-length-5 : Need-same-length-5) (same-length-6 : Need-same-length-6) (returns-2 : Need-returns-2)
           (taken-with-requires : Need-taken-with-requires) (returns-3 : Need-returns-3) where
-        lay5 : (c : After-taken-with) → at61 (W0 (c .before .before .before .before .κs) (c .before .before .before .before .args)) (m39 (c .before)
-            (After-taken-with·gave c))
-        lay5 = λ c. ((Path.refl, (Path.refl, (Path.refl, (Path.refl, (tt, (tt, (tt, tt))))))), returns-3 record { before = c .before; taken-with = c
-            .taken-with },)
-        lay4 : (c : Else2) → at62 (W0 (c .before .before .before .κs) (c .before .before .before .args)) (m38 (c .before))
-        lay4 = λ c. (taken-with-requires record { before = c .before; if2 = c .if2 }, λ g. lay5 record { before = record { before = c .before; if2 = c
-            .if2 }; taken-with = Called.called ps·2 r·2 (claims· .5) T31 (record { pos = 5; st = List.[]; d = 0; at = λ x. x }, (record { pos = 6; st
-            = List.[]; d = 0; at = λ x. x }, tt),) (m38 (c .before)) g; },)
-        lay3 : (c : After-revoke-one) → at42 (W2 (c .before .before .before .before .before .before)) (m28 (c .before) (After-revoke-one·gave c))
-        lay3 = λ c. (Path.refl, λ g. (Path.refl, λ g'. (Path.refl, λ g''. λ g'3. ((Path.refl, (MutSlice.fix-len (Row.get 2 (T56 .locals) (m36 record {
-            before = record { before = record { before = record { before = c .before; revoke-one = c .revoke-one }; circuits = record { given = g };
-            }; inflight2 = record { given = g' }; }; out2 = record { given = g'' }; } g'3) .ptr) (Row.get 2 (T56 .locals) (m36 record { before =
-            record { before = record { before = record { before = c .before; revoke-one = c .revoke-one }; circuits = record { given = g }; };
-            inflight2 = record { given = g' }; }; out2 = record { given = g'' }; } g'3) .name) (Row.get 2 (T56 .locals) (m36 record { before = record
-            { before = record { before = record { before = c .before; revoke-one = c .revoke-one }; circuits = record { given = g }; }; inflight2 =
-            record { given = g' }; }; out2 = record { given = g'' }; } g'3) .now) (dens (c .before .before .before .before .before .before .before
-            .κs) (c .before .before .before .before .before .before .before .args) .1 .0 .now) (same-length-4 record { before = record { before =
-            record { before = record { before = record { before = c .before; revoke-one = c .revoke-one; }; circuits = record { given = g }; };
-            inflight2 = record { given = g' }; }; out2 = record { given = g'' }; }; slice-known3 = record { given = g'3 }; }), (MutSlice.fix-len
-            (Row.get 3 (T56 .locals) (m36 record { before = record { before = record { before = record { before = c .before; revoke-one = c
-            .revoke-one }; circuits = record { given = g }; }; inflight2 = record { given = g' }; }; out2 = record { given = g'' }; } g'3) .ptr)
-            (Row.get 3 (T56 .locals) (m36 record { before = record { before = record { before = record { before = c .before; revoke-one = c
-            .revoke-one }; circuits = record { given = g }; }; inflight2 = record { given = g' }; }; out2 = record { given = g'' }; } g'3) .name)
-            (Row.get 3 (T56 .locals) (m36 record { before = record { before = record { before = record { before = c .before; revoke-one = c
-            .revoke-one }; circuits = record { given = g }; }; inflight2 = record { given = g' }; }; out2 = record { given = g'' }; } g'3) .now) (dens
-            (c .before .before .before .before .before .before .before .κs) (c .before .before .before .before .before .before .before .args) .1 .1 .0
-            .now) (same-length-5 record { before = record { before = record { before = record { before = record { before = c .before; revoke-one = c
-            .revoke-one; }; circuits = record { given = g }; }; inflight2 = record { given = g' }; }; out2 = record { given = g'' }; }; slice-known3 =
-            record { given = g'3 }; }), (MutSlice.fix-len (Row.get 4 (T56 .locals) (m36 record { before = record { before = record { before = record {
-            before = c .before; revoke-one = c .revoke-one }; circuits = record { given = g }; }; inflight2 = record { given = g' }; }; out2 = record
-            { given = g'' }; } g'3) .ptr) (Row.get 4 (T56 .locals) (m36 record { before = record { before = record { before = record { before = c
-            .before; revoke-one = c .revoke-one }; circuits = record { given = g }; }; inflight2 = record { given = g' }; }; out2 = record { given =
-            g'' }; } g'3) .name) (Row.get 4 (T56 .locals) (m36 record { before = record { before = record { before = record { before = c .before;
-            revoke-one = c .revoke-one }; circuits = record { given = g }; }; inflight2 = record { given = g' }; }; out2 = record { given = g'' }; }
-            g'3) .now) (dens (c .before .before .before .before .before .before .before .κs) (c .before .before .before .before .before .before
-            .before .args) .1 .1 .1 .0 .now) (same-length-6 record { before = record { before = record { before = record { before = record { before =
-            c .before; revoke-one = c .revoke-one; }; circuits = record { given = g }; }; inflight2 = record { given = g' }; }; out2 = record { given
-            = g'' }; }; slice-known3 = record { given = g'3 }; }), (tt, (tt, (tt, tt))),),),),), returns-2 record { before = record { before = record
-            { before = record { before = record { before = c .before; revoke-one = c .revoke-one }; circuits = record { given = g }; }; inflight2 =
-            record { given = g' }; }; out2 = record { given = g'' }; }; slice-known3 = record { given = g'3 }; },),),),)
+        lay5 : (c : After-taken-with) → at61 (W0 (c .before .before .before .before .κs)
+            (c .before .before .before .before .args)) (m39 (c .before) (After-taken-with·gave c))
+        lay5 = λ c. (
+          (Path.refl, (Path.refl, (Path.refl, (Path.refl, (tt, (tt, (tt, tt))))))),
+          returns-3 record { before = c .before; taken-with = c .taken-with },
+        )
+
+        lay4 : (c : Else2) → at62 (W0 (c .before .before .before .κs) (c .before .before .before .args))
+            (m38 (c .before))
+        lay4 = λ c. (
+          taken-with-requires record { before = c .before; if2 = c .if2 },
+          λ g. lay5 record {
+            before = record { before = c .before; if2 = c .if2 };
+            taken-with = Called.called ps·2 r·2 (claims· .5) T31 args56 (m38 (c .before)) g;
+          },
+        )
+
+        lay3 : (c : After-revoke-one) → at42 (W2 (c .before .before .before .before .before .before))
+            (m28 (c .before) (After-revoke-one·gave c))
+        lay3 = λ c. (
+          Path.refl,
+          λ g. (
+            Path.refl,
+            λ g'. (
+              Path.refl,
+              λ g''. λ g'3. (
+                (
+                  Path.refl,
+                  (
+                    MutSlice.fix-len (Row.get 2 (T56 .locals) (m36
+                        record {
+                          before = record {
+                            before = record {
+                              before = record { before = c .before; revoke-one = c .revoke-one };
+                              circuits = record { given = g };
+                            };
+                            inflight2 = record { given = g' };
+                          };
+                          out2 = record { given = g'' };
+                        } g'3) .ptr) (Row.get 2 (T56 .locals) (m36
+                        record {
+                          before = record {
+                            before = record {
+                              before = record { before = c .before; revoke-one = c .revoke-one };
+                              circuits = record { given = g };
+                            };
+                            inflight2 = record { given = g' };
+                          };
+                          out2 = record { given = g'' };
+                        } g'3) .name) (Row.get 2 (T56 .locals) (m36
+                        record {
+                          before = record {
+                            before = record {
+                              before = record { before = c .before; revoke-one = c .revoke-one };
+                              circuits = record { given = g };
+                            };
+                            inflight2 = record { given = g' };
+                          };
+                          out2 = record { given = g'' };
+                        } g'3) .now) (dens (c .before .before .before .before .before .before .before .κs) (c .before
+                        .before .before .before .before .before .before .args) .1 .0 .now) (same-length-4
+                        record {
+                          before = record {
+                            before = record {
+                              before = record {
+                                before = record { before = c .before; revoke-one = c .revoke-one };
+                                circuits = record { given = g };
+                              };
+                              inflight2 = record { given = g' };
+                            };
+                            out2 = record { given = g'' };
+                          };
+                          slice-known3 = record { given = g'3 };
+                        }),
+                    (
+                      MutSlice.fix-len (Row.get 3 (T56 .locals) (m36
+                          record {
+                            before = record {
+                              before = record {
+                                before = record { before = c .before; revoke-one = c .revoke-one };
+                                circuits = record { given = g };
+                              };
+                              inflight2 = record { given = g' };
+                            };
+                            out2 = record { given = g'' };
+                          } g'3) .ptr) (Row.get 3 (T56 .locals) (m36
+                          record {
+                            before = record {
+                              before = record {
+                                before = record { before = c .before; revoke-one = c .revoke-one };
+                                circuits = record { given = g };
+                              };
+                              inflight2 = record { given = g' };
+                            };
+                            out2 = record { given = g'' };
+                          } g'3) .name) (Row.get 3 (T56 .locals) (m36
+                          record {
+                            before = record {
+                              before = record {
+                                before = record { before = c .before; revoke-one = c .revoke-one };
+                                circuits = record { given = g };
+                              };
+                              inflight2 = record { given = g' };
+                            };
+                            out2 = record { given = g'' };
+                          } g'3) .now) (dens (c .before .before .before .before .before .before .before .κs) (c .before
+                          .before .before .before .before .before .before .args) .1 .1 .0 .now) (same-length-5
+                          record {
+                            before = record {
+                              before = record {
+                                before = record {
+                                  before = record { before = c .before; revoke-one = c .revoke-one };
+                                  circuits = record { given = g };
+                                };
+                                inflight2 = record { given = g' };
+                              };
+                              out2 = record { given = g'' };
+                            };
+                            slice-known3 = record { given = g'3 };
+                          }),
+                      (
+                        MutSlice.fix-len (Row.get 4 (T56 .locals) (m36
+                            record {
+                              before = record {
+                                before = record {
+                                  before = record { before = c .before; revoke-one = c .revoke-one };
+                                  circuits = record { given = g };
+                                };
+                                inflight2 = record { given = g' };
+                              };
+                              out2 = record { given = g'' };
+                            } g'3) .ptr) (Row.get 4 (T56 .locals) (m36
+                            record {
+                              before = record {
+                                before = record {
+                                  before = record { before = c .before; revoke-one = c .revoke-one };
+                                  circuits = record { given = g };
+                                };
+                                inflight2 = record { given = g' };
+                              };
+                              out2 = record { given = g'' };
+                            } g'3) .name) (Row.get 4 (T56 .locals) (m36
+                            record {
+                              before = record {
+                                before = record {
+                                  before = record { before = c .before; revoke-one = c .revoke-one };
+                                  circuits = record { given = g };
+                                };
+                                inflight2 = record { given = g' };
+                              };
+                              out2 = record { given = g'' };
+                            } g'3) .now) (dens (c .before .before .before .before .before .before .before .κs) (c
+                            .before .before .before .before .before .before .before .args) .1 .1 .1 .0 .now) (same-length-6
+                            record {
+                              before = record {
+                                before = record {
+                                  before = record {
+                                    before = record { before = c .before; revoke-one = c .revoke-one };
+                                    circuits = record { given = g };
+                                  };
+                                  inflight2 = record { given = g' };
+                                };
+                                out2 = record { given = g'' };
+                              };
+                              slice-known3 = record { given = g'3 };
+                            }),
+                        (tt, (tt, (tt, tt))),
+                      ),
+                    ),
+                  ),
+                ),
+                returns-2 record {
+                  before = record {
+                    before = record {
+                      before = record {
+                        before = record { before = c .before; revoke-one = c .revoke-one };
+                        circuits = record { given = g };
+                      };
+                      inflight2 = record { given = g' };
+                    };
+                    out2 = record { given = g'' };
+                  };
+                  slice-known3 = record { given = g'3 };
+                },
+              ),
+            ),
+          ),
+        )
+
         lay2 : (c : Else1) → at64 (W0 (c .before .before .κs) (c .before .before .args)) (m18 (c .before))
-        lay2 = λ c. (λ taken. λ g. (Path.refl, λ g'. (Path.refl, λ g''. (Path.refl, (revoke-one-requires record { before = record { before = record {
-            before = record { before = record { before = c .before; if1 = c .if1 }; if2 = record { taken = taken }; }; revoke-one-arg = record { given
-            = g }; }; revoke-one-arg2 = record { given = g' }; }; revoke-one-arg3 = record { given = g'' }; }, λ g'3. lay3 record { before = record {
-            before = record { before = record { before = record { before = record { before = c .before; if1 = c .if1 }; if2 = record { taken = taken
-            }; }; revoke-one-arg = record { given = g }; }; revoke-one-arg2 = record { given = g' }; }; revoke-one-arg3 = record { given = g'' }; };
-            revoke-one = Called.called ps·1 r·1 (claims· .3) T42 (record { pos = 16; ty = Syntax.tyRef Syntax.erased Syntax.mut RelayCircuit.to; ref =
-            λ x. x; }, (record { pos = 18; ty = Syntax.tyRef Syntax.erased Syntax.mut InflightAction.to; ref = λ x. x; }, (record { pos = 20; ty =
-            Syntax.tyRef Syntax.erased Syntax.mut (Syntax.tyInt Syntax.w32); ref = λ x. x; }, (record { pos = 5; st = List.[]; d = 0; at = λ x. x },
-            (record { pos = 6; st = List.[]; d = 0; at = λ x. x }, (record { pos = 21; st = List.[]; d = 0; at = λ x. x }, (Num.vFld 7 ((Syntax.field
-            1) ∷ List.[]) 8 λ x. SettlePlan.struct .as-values x .1 .0, tt,),),),),),),) (m27 record { before = record { before = record { before =
-            record { before = c .before; if1 = c .if1 }; if2 = record { taken = taken }; }; revoke-one-arg = record { given = g }; }; revoke-one-arg2
-            = record { given = g' }; } g'') g'3; },),),),), λ left. lay4 record { before = record { before = c .before; if1 = c .if1 }; if2 = record {
-            left = left }; },)
-        lay1 : (c : After-fail-incoming) → at13 (W1 (c .before .before .before .before .before .before) (c .before .before .before .before .before
-            .slice-known .given)) (m10 (c .before) (After-fail-incoming·gave c))
-        lay1 = λ c. (Path.refl, λ g. (Path.refl, λ g'. (Path.refl, λ g''. λ g'3. ((MutSlice.fix-len (Row.get 1 (T27 .locals) (m17 record { before =
-            record { before = record { before = record { before = c .before; fail-incoming = c .fail-incoming }; pending = record { given = g }; };
-            inflight = record { given = g' }; }; out = record { given = g'' }; } g'3) .ptr) (Row.get 1 (T27 .locals) (m17 record { before = record {
-            before = record { before = record { before = c .before; fail-incoming = c .fail-incoming }; pending = record { given = g }; }; inflight =
-            record { given = g' }; }; out = record { given = g'' }; } g'3) .name) (Row.get 1 (T27 .locals) (m17 record { before = record { before =
-            record { before = record { before = c .before; fail-incoming = c .fail-incoming }; pending = record { given = g }; }; inflight = record {
-            given = g' }; }; out = record { given = g'' }; } g'3) .now) (dens (c .before .before .before .before .before .before .κs) (c .before
-            .before .before .before .before .before .args) .0 .now) (same-length record { before = record { before = record { before = record { before
-            = record { before = c .before; fail-incoming = c .fail-incoming; }; pending = record { given = g }; }; inflight = record { given = g' };
-            }; out = record { given = g'' }; }; slice-known2 = record { given = g'3 }; }), (Path.refl, (MutSlice.fix-len (Row.get 3 (T27 .locals) (m17
-            record { before = record { before = record { before = record { before = c .before; fail-incoming = c .fail-incoming; }; pending = record {
-            given = g }; }; inflight = record { given = g' }; }; out = record { given = g'' }; } g'3) .ptr) (Row.get 3 (T27 .locals) (m17 record {
-            before = record { before = record { before = record { before = c .before; fail-incoming = c .fail-incoming; }; pending = record { given =
-            g }; }; inflight = record { given = g' }; }; out = record { given = g'' }; } g'3) .name) (Row.get 3 (T27 .locals) (m17 record { before =
-            record { before = record { before = record { before = c .before; fail-incoming = c .fail-incoming; }; pending = record { given = g }; };
-            inflight = record { given = g' }; }; out = record { given = g'' }; } g'3) .now) (dens (c .before .before .before .before .before .before
-            .κs) (c .before .before .before .before .before .before .args) .1 .1 .0 .now) (same-length-2 record { before = record { before = record {
-            before = record { before = record { before = c .before; fail-incoming = c .fail-incoming; }; pending = record { given = g }; }; inflight =
-            record { given = g' }; }; out = record { given = g'' }; }; slice-known2 = record { given = g'3 }; }), (MutSlice.fix-len (Row.get 4 (T27
-            .locals) (m17 record { before = record { before = record { before = record { before = c .before; fail-incoming = c .fail-incoming; };
-            pending = record { given = g }; }; inflight = record { given = g' }; }; out = record { given = g'' }; } g'3) .ptr) (Row.get 4 (T27
-            .locals) (m17 record { before = record { before = record { before = record { before = c .before; fail-incoming = c .fail-incoming; };
-            pending = record { given = g }; }; inflight = record { given = g' }; }; out = record { given = g'' }; } g'3) .name) (Row.get 4 (T27
-            .locals) (m17 record { before = record { before = record { before = record { before = c .before; fail-incoming = c .fail-incoming; };
-            pending = record { given = g }; }; inflight = record { given = g' }; }; out = record { given = g'' }; } g'3) .now) (dens (c .before
-            .before .before .before .before .before .κs) (c .before .before .before .before .before .before .args) .1 .1 .1 .0 .now) (same-length-3
-            record { before = record { before = record { before = record { before = record { before = c .before; fail-incoming = c .fail-incoming; };
-            pending = record { given = g }; }; inflight = record { given = g' }; }; out = record { given = g'' }; }; slice-known2 = record { given =
-            g'3 }; }), (tt, (tt, (tt, tt))),),),),), returns record { before = record { before = record { before = record { before = record { before =
-            c .before; fail-incoming = c .fail-incoming }; pending = record { given = g }; }; inflight = record { given = g' }; }; out = record {
-            given = g'' }; }; slice-known2 = record { given = g'3 }; },),),),)
+        lay2 = λ c. (
+          λ taken. λ g. (
+            Path.refl,
+            λ g'. (
+              Path.refl,
+              λ g''. (
+                Path.refl,
+                (
+                  revoke-one-requires record {
+                    before = record {
+                      before = record {
+                        before = record {
+                          before = record { before = c .before; if1 = c .if1 };
+                          if2 = record { taken = taken };
+                        };
+                        revoke-one-arg = record { given = g };
+                      };
+                      revoke-one-arg2 = record { given = g' };
+                    };
+                    revoke-one-arg3 = record { given = g'' };
+                  },
+                  λ g'3. lay3 record {
+                    before = record {
+                      before = record {
+                        before = record {
+                          before = record {
+                            before = record { before = c .before; if1 = c .if1 };
+                            if2 = record { taken = taken };
+                          };
+                          revoke-one-arg = record { given = g };
+                        };
+                        revoke-one-arg2 = record { given = g' };
+                      };
+                      revoke-one-arg3 = record { given = g'' };
+                    };
+                    revoke-one = Called.called ps·1 r·1 (claims· .3) T42 args39 (m27
+                        record {
+                          before = record {
+                            before = record {
+                              before = record { before = c .before; if1 = c .if1 };
+                              if2 = record { taken = taken };
+                            };
+                            revoke-one-arg = record { given = g };
+                          };
+                          revoke-one-arg2 = record { given = g' };
+                        } g'') g'3;
+                  },
+                ),
+              ),
+            ),
+          ),
+          λ left. lay4 record { before = record { before = c .before; if1 = c .if1 }; if2 = record { left = left } },
+        )
+
+        lay1 : (c : After-fail-incoming) → at13 (W1 (c .before .before .before .before .before .before) (c .before
+            .before .before .before .before .slice-known .given)) (m10 (c .before) (After-fail-incoming·gave c))
+        lay1 = λ c. (
+          Path.refl,
+          λ g. (
+            Path.refl,
+            λ g'. (
+              Path.refl,
+              λ g''. λ g'3. (
+                (
+                  MutSlice.fix-len (Row.get 1 (T27 .locals) (m17
+                      record {
+                        before = record {
+                          before = record {
+                            before = record { before = c .before; fail-incoming = c .fail-incoming };
+                            pending = record { given = g };
+                          };
+                          inflight = record { given = g' };
+                        };
+                        out = record { given = g'' };
+                      } g'3) .ptr) (Row.get 1 (T27 .locals) (m17
+                      record {
+                        before = record {
+                          before = record {
+                            before = record { before = c .before; fail-incoming = c .fail-incoming };
+                            pending = record { given = g };
+                          };
+                          inflight = record { given = g' };
+                        };
+                        out = record { given = g'' };
+                      } g'3) .name) (Row.get 1 (T27 .locals) (m17
+                      record {
+                        before = record {
+                          before = record {
+                            before = record { before = c .before; fail-incoming = c .fail-incoming };
+                            pending = record { given = g };
+                          };
+                          inflight = record { given = g' };
+                        };
+                        out = record { given = g'' };
+                      } g'3) .now) (dens (c .before .before .before .before .before .before .κs)
+                      (c .before .before .before .before .before .before .args) .0 .now) (same-length
+                      record {
+                        before = record {
+                          before = record {
+                            before = record {
+                              before = record { before = c .before; fail-incoming = c .fail-incoming };
+                              pending = record { given = g };
+                            };
+                            inflight = record { given = g' };
+                          };
+                          out = record { given = g'' };
+                        };
+                        slice-known2 = record { given = g'3 };
+                      }),
+                  (
+                    Path.refl,
+                    (
+                      MutSlice.fix-len (Row.get 3 (T27 .locals) (m17
+                          record {
+                            before = record {
+                              before = record {
+                                before = record { before = c .before; fail-incoming = c .fail-incoming };
+                                pending = record { given = g };
+                              };
+                              inflight = record { given = g' };
+                            };
+                            out = record { given = g'' };
+                          } g'3) .ptr) (Row.get 3 (T27 .locals) (m17
+                          record {
+                            before = record {
+                              before = record {
+                                before = record { before = c .before; fail-incoming = c .fail-incoming };
+                                pending = record { given = g };
+                              };
+                              inflight = record { given = g' };
+                            };
+                            out = record { given = g'' };
+                          } g'3) .name) (Row.get 3 (T27 .locals) (m17
+                          record {
+                            before = record {
+                              before = record {
+                                before = record { before = c .before; fail-incoming = c .fail-incoming };
+                                pending = record { given = g };
+                              };
+                              inflight = record { given = g' };
+                            };
+                            out = record { given = g'' };
+                          } g'3) .now) (dens (c .before .before .before .before .before .before .κs)
+                          (c .before .before .before .before .before .before .args) .1 .1 .0 .now) (same-length-2
+                          record {
+                            before = record {
+                              before = record {
+                                before = record {
+                                  before = record { before = c .before; fail-incoming = c .fail-incoming };
+                                  pending = record { given = g };
+                                };
+                                inflight = record { given = g' };
+                              };
+                              out = record { given = g'' };
+                            };
+                            slice-known2 = record { given = g'3 };
+                          }),
+                      (
+                        MutSlice.fix-len (Row.get 4 (T27 .locals) (m17
+                            record {
+                              before = record {
+                                before = record {
+                                  before = record { before = c .before; fail-incoming = c .fail-incoming };
+                                  pending = record { given = g };
+                                };
+                                inflight = record { given = g' };
+                              };
+                              out = record { given = g'' };
+                            } g'3) .ptr) (Row.get 4 (T27 .locals) (m17
+                            record {
+                              before = record {
+                                before = record {
+                                  before = record { before = c .before; fail-incoming = c .fail-incoming };
+                                  pending = record { given = g };
+                                };
+                                inflight = record { given = g' };
+                              };
+                              out = record { given = g'' };
+                            } g'3) .name) (Row.get 4 (T27 .locals) (m17
+                            record {
+                              before = record {
+                                before = record {
+                                  before = record { before = c .before; fail-incoming = c .fail-incoming };
+                                  pending = record { given = g };
+                                };
+                                inflight = record { given = g' };
+                              };
+                              out = record { given = g'' };
+                            } g'3) .now) (dens (c .before .before .before .before .before .before .κs)
+                            (c .before .before .before .before .before .before .args) .1 .1 .1 .0 .now) (same-length-3
+                            record {
+                              before = record {
+                                before = record {
+                                  before = record {
+                                    before = record { before = c .before; fail-incoming = c .fail-incoming };
+                                    pending = record { given = g };
+                                  };
+                                  inflight = record { given = g' };
+                                };
+                                out = record { given = g'' };
+                              };
+                              slice-known2 = record { given = g'3 };
+                            }),
+                        (tt, (tt, (tt, tt))),
+                      ),
+                    ),
+                  ),
+                ),
+                returns record {
+                  before = record {
+                    before = record {
+                      before = record {
+                        before = record { before = c .before; fail-incoming = c .fail-incoming };
+                        pending = record { given = g };
+                      };
+                      inflight = record { given = g' };
+                    };
+                    out = record { given = g'' };
+                  };
+                  slice-known2 = record { given = g'3 };
+                },
+              ),
+            ),
+          ),
+        )
+
         pub laid : (c : Start) → at67 (W0 (c .κs) (c .args)) (m0 (c .κs) (c .args))
-        laid = λ c. λ g. (λ taken. λ g'. (Path.refl, λ g''. (Path.refl, λ g'3. (Path.refl, (fail-incoming-requires record { before = record { before =
-            record { before = record { before = record { before = c; slice-known = record { given = g } }; if1 = record { taken = taken }; };
-            fail-incoming-arg = record { given = g' }; }; fail-incoming-arg2 = record { given = g'' }; }; fail-incoming-arg3 = record { given = g'3 };
-            }, λ g'4. lay1 record { before = record { before = record { before = record { before = record { before = record { before = c; slice-known
-            = record { given = g } }; if1 = record { taken = taken }; }; fail-incoming-arg = record { given = g' }; }; fail-incoming-arg2 = record {
-            given = g'' }; }; fail-incoming-arg3 = record { given = g'3 }; }; fail-incoming = Called.called ps·0 r·0 (claims· .1) T14 (record { pos =
-            10; ty = Syntax.tyRef Syntax.erased Syntax.mut RelayPending.to; ref = λ x. x; }, (record { pos = 12; ty = Syntax.tyRef Syntax.erased
-            Syntax.mut InflightAction.to; ref = λ x. x; }, (record { pos = 14; ty = Syntax.tyRef Syntax.erased Syntax.mut (Syntax.tyInt Syntax.w32);
-            ref = λ x. x; }, (record { pos = 5; st = List.[]; d = 0; at = λ x. x }, (record { pos = 6; st = List.[]; d = 0; at = λ x. x }, (Num.vFld 7
-            ((Syntax.field 1) ∷ List.[]) 8 λ x. SettlePlan.struct .as-values x .1 .0, tt,),),),),),) (m9 record { before = record { before = record {
-            before = record { before = c; slice-known = record { given = g } }; if1 = record { taken = taken }; }; fail-incoming-arg = record { given
-            = g' }; }; fail-incoming-arg2 = record { given = g'' }; } g'3) g'4; },),),),), λ left. lay2 record { before = record { before = c;
-            slice-known = record { given = g } }; if1 = record { left = left }; },)
+        laid = λ c. λ g. (
+          λ taken. λ g'. (
+            Path.refl,
+            λ g''. (
+              Path.refl,
+              λ g'3. (
+                Path.refl,
+                (
+                  fail-incoming-requires record {
+                    before = record {
+                      before = record {
+                        before = record {
+                          before = record { before = c; slice-known = record { given = g } };
+                          if1 = record { taken = taken };
+                        };
+                        fail-incoming-arg = record { given = g' };
+                      };
+                      fail-incoming-arg2 = record { given = g'' };
+                    };
+                    fail-incoming-arg3 = record { given = g'3 };
+                  },
+                  λ g'4. lay1 record {
+                    before = record {
+                      before = record {
+                        before = record {
+                          before = record {
+                            before = record { before = c; slice-known = record { given = g } };
+                            if1 = record { taken = taken };
+                          };
+                          fail-incoming-arg = record { given = g' };
+                        };
+                        fail-incoming-arg2 = record { given = g'' };
+                      };
+                      fail-incoming-arg3 = record { given = g'3 };
+                    };
+                    fail-incoming = Called.called ps·0 r·0 (claims· .1) T14 args12 (m9
+                        record {
+                          before = record {
+                            before = record {
+                              before = record { before = c; slice-known = record { given = g } };
+                              if1 = record { taken = taken };
+                            };
+                            fail-incoming-arg = record { given = g' };
+                          };
+                          fail-incoming-arg2 = record { given = g'' };
+                        } g'3) g'4;
+                  },
+                ),
+              ),
+            ),
+          ),
+          λ left. lay2 record {
+            before = record { before = c; slice-known = record { given = g } };
+            if1 = record { left = left };
+          },
+        )
+
         module _ (κs : Lifetimes.Lfts 4) (qs : Lifetimes.Shares 4) where
-          pub asked : (a : Kinds.Dens κs ps) → (good : Kinds.GoodsP κs ps a) → (pre : Pre· κs a) → (bs : List.List Nat.ℕ) → Φ (Any.wantQ 4 ps r xs m
-              κs qs a (Post· κs a)) (Function.init 4 ps r xs m κs qs a)
-          asked = λ a good pre bs. laid record { κs = κs; args = record { pending = a .0; circuits = a .1 .0; inflight = a .1 .1 .0; out = a .1 .1 .1
-              .0; runtime = a .1 .1 .1 .1 .0; places = a .1 .1 .1 .1 .1 .0; plan = a .1 .1 .1 .1 .1 .1 .0; }; good = good; pre = pre; }
-        module _ { M : Type 1 } (𝓤 : URA.URA M) (H : Wp.Heap 𝓤) (A : Atoms.Atoms 𝓤) (W : Kit.Given 𝓤 H A) (𝓣 : Wp.Tables 𝓤 H) (known0 : Plain.Known 𝓤
-            H A W 𝓣 3 ps·0 r·0 (claims· .0) (claims· .1) "hnsr_circuit::acknowledge::fail_incoming") (known1 : Plain.Known 𝓤 H A W 𝓣 3 ps·1 r·1
-            (claims· .2) (claims· .3) "hnsr_circuit::revocation::revoke_one") (known2 : Plain.Known 𝓤 H A W 𝓣 0 ps·2 r·2 (claims· .4) (claims· .5)
-            "hnsr_circuit::revoking_calls::taken_with") where
-          pub spec : Statement.Triple 𝓤 (Wp.WpFn 𝓤 H (𝓣 .C) (𝓣 .Λ) (Function.fnOf 4 ps r xs m hs body)) (Function.plainOf 𝓤 H A 4 ps r Pre· Post·)
-          spec = Plain.t-fn-plain 𝓤 H A W 𝓣 4 ps r xs m hs body (λ κs qs bs. Φ) (λ κs qs bs bd. typed κs qs 𝓤 H A W 𝓣 (known0, known1, known2) bs bd)
-              Pre· Post· asked
+          pub asked : (a : Kinds.Dens κs ps) → (good : Kinds.GoodsP κs ps a) → (pre : Pre· κs a) →
+              (bs : List.List Nat.ℕ) → Φ (Any.wantQ 4 ps r xs m κs qs a (Post· κs a))
+              (Function.init 4 ps r xs m κs qs a)
+          asked = λ a good pre bs. laid record {
+            κs = κs;
+            args = record {
+              pending = a .0;
+              circuits = a .1 .0;
+              inflight = a .1 .1 .0;
+              out = a .1 .1 .1 .0;
+              runtime = a .1 .1 .1 .1 .0;
+              places = a .1 .1 .1 .1 .1 .0;
+              plan = a .1 .1 .1 .1 .1 .1 .0;
+            };
+            good = good;
+            pre = pre;
+          }
+
+        module _ {M : Type 1} (𝓤 : URA.URA M) (H : Wp.Heap 𝓤) (A : Atoms.Atoms 𝓤) (W : Kit.Given 𝓤 H A)
+            (𝓣 : Wp.Tables 𝓤 H) (known0 : Plain.Known 𝓤 H A W 𝓣 3 ps·0 r·0 (claims· .0) (claims· .1)
+            "hnsr_circuit::acknowledge::fail_incoming") (known1 : Plain.Known 𝓤 H A W 𝓣 3 ps·1 r·1 (claims· .2)
+            (claims· .3) "hnsr_circuit::revocation::revoke_one") (known2 : Plain.Known 𝓤 H A W 𝓣 0 ps·2 r·2
+            (claims· .4) (claims· .5) "hnsr_circuit::revoking_calls::taken_with") where
+          pub spec : Statement.Triple 𝓤 (Wp.WpFn 𝓤 H (𝓣 .C) (𝓣 .Λ) (Function.fnOf 4 ps r xs m hs body))
+              (Function.plainOf 𝓤 H A 4 ps r Pre· Post·)
+          spec = Plain.t-fn-plain 𝓤 H A W 𝓣 4 ps r xs m hs body (λ κs qs bs. Φ) (λ κs qs bs bd. typed κs qs 𝓤 H A W 𝓣
+              (known0, known1, known2) bs bd) Pre· Post· asked

@@ -3,6 +3,7 @@ use Rattle.hnsr_circuit.proofs.By.InflightAction
 use Rattle.hnsr_circuit.proofs.By.RelayCircuit
 use Rattle.hnsr_circuit.proofs.By.RelayPending
 use Rattle.hnsr_circuit.proofs.By.ReservationUsage
+use Rattle.hnsr_circuit.proofs.StructRow
 use Rattle.hnsr_circuit.proofs.config.OpaqueRelayConfig
 use Rattle.hnsr_circuit.proofs.config.OpaqueRelayConfig.Laws
 use Rattle.hnsr_circuit.proofs.runtime.Relayed
@@ -10,29 +11,15 @@ use Rattle.hnsr_circuit.proofs.runtime.Relayed.Laws as Laws'
 use borrow.Fn.Kinds
 use borrow.Kind.Array
 use borrow.Kind.ShrSlice
-use borrow.Kind.Value
-use borrow.Rule.Local
-use borrow.Table.Rows
-use denote.Exit
-use denote.Struct.Declared
-use denote.Struct.Laws as Laws''
 use mathlib.Core.List
-use mathlib.Core.Path
 use mir.Syntax
 use mathlib.Core.List.{_∷_}
 
 abbrev pub ps : List.List (Kinds.PK 4)
-ps = (ShrSlice.pShrS RelayPending.row 0 tt) ∷ (ShrSlice.pShrS RelayCircuit.row 1 tt) ∷ (ShrSlice.pShrS ReservationUsage.row 2 tt) ∷ (ShrSlice.pShrS
-    InflightAction.row 3 tt) ∷ (Array.pArr (Array.eInt Syntax.w8) (Array.eInt-laws Syntax.w8) 16) ∷ (Kinds.pNum Syntax.w64) ∷ (Value.pVal record { ty
-    = Declared.row OpaqueRelayConfig.the-type; one = Path.refl; val = Laws''.val OpaqueRelayConfig.the-type Laws.the-laws; tells = Laws''.tells
-    OpaqueRelayConfig.the-type Laws.the-laws; still = Laws''.still OpaqueRelayConfig.the-type Laws.the-copy Exit.yes; row = Rows.whole (Declared.row
-    OpaqueRelayConfig.the-type); rd = λ x. x; mk = λ x. x; } λ M 𝓤 H A W. record { copies = Laws''.copy OpaqueRelayConfig.the-type Laws.the-copy 𝓤 H A
-    W; lawful = Laws''.lawful OpaqueRelayConfig.the-type Laws.the-laws 𝓤 H A W; makes = Laws''.makes OpaqueRelayConfig.the-type Laws.the-plain 𝓤 H A;
-    in-mem = Local.mem-whole 𝓤 H A W (Declared.row OpaqueRelayConfig.the-type); of-mem = Local.whole-mem 𝓤 H A W (Declared.row
-    OpaqueRelayConfig.the-type); }) ∷ (Kinds.pNum Syntax.w64) ∷ List.[]
+ps = (ShrSlice.pShrS RelayPending.row 0 tt) ∷ (ShrSlice.pShrS RelayCircuit.row 1 tt) ∷
+    (ShrSlice.pShrS ReservationUsage.row 2 tt) ∷ (ShrSlice.pShrS InflightAction.row 3 tt) ∷ (Array.pArr
+    (Array.eInt Syntax.w8) (Array.eInt-laws Syntax.w8) 16) ∷ (Kinds.pNum Syntax.w64) ∷ (StructRow.param
+    OpaqueRelayConfig.the-type Laws.the-laws Laws.the-copy Laws.the-plain) ∷ (Kinds.pNum Syntax.w64) ∷ List.[]
+
 abbrev pub r : Kinds.RK 4
-r = Value.rVal record { ty = Declared.row Relayed.the-type; one = Path.refl; val = Laws''.val Relayed.the-type Laws'.the-laws; tells = Laws''.tells
-    Relayed.the-type Laws'.the-laws; still = Laws''.still Relayed.the-type Laws'.the-copy Exit.yes; row = Rows.whole (Declared.row Relayed.the-type);
-    rd = λ x. x; mk = λ x. x; } λ M 𝓤 H A W. record { copies = Laws''.copy Relayed.the-type Laws'.the-copy 𝓤 H A W; lawful = Laws''.lawful
-    Relayed.the-type Laws'.the-laws 𝓤 H A W; makes = Laws''.makes Relayed.the-type Laws'.the-plain 𝓤 H A; in-mem = Local.mem-whole 𝓤 H A W
-    (Declared.row Relayed.the-type); of-mem = Local.whole-mem 𝓤 H A W (Declared.row Relayed.the-type); }
+r = StructRow.result Relayed.the-type Laws'.the-laws Laws'.the-copy Laws'.the-plain

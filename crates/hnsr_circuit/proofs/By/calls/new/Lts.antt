@@ -4,6 +4,7 @@ use Rattle.hnsr_circuit.proofs.By.InflightAction
 use Rattle.hnsr_circuit.proofs.By.RelayCircuit
 use Rattle.hnsr_circuit.proofs.By.RelayPending
 use Rattle.hnsr_circuit.proofs.By.ReservationUsage
+use Rattle.hnsr_circuit.proofs.StructRow
 use Rattle.hnsr_circuit.proofs.answer.HnsrAnswer
 use Rattle.hnsr_circuit.proofs.answer.HnsrAnswer.Laws
 use Rattle.hnsr_circuit.proofs.config.OpaqueRelayConfig
@@ -16,6 +17,7 @@ use Rattle.hnsr_circuit.proofs.runtime.Relayed
 use Rattle.hnsr_circuit.proofs.runtime.Relayed.Laws as Laws''''
 use borrow.Author.Called
 use borrow.Fn.Any
+use borrow.Fn.Args as Args'
 use borrow.Fn.Call
 use borrow.Fn.Enter
 use borrow.Fn.Frame
@@ -26,7 +28,6 @@ use borrow.Kind.Array
 use borrow.Kind.Bool
 use borrow.Kind.Num
 use borrow.Kind.ShrSlice
-use borrow.Kind.Value
 use borrow.Rule.Array.Init
 use borrow.Rule.Array.Rows
 use borrow.Rule.Local
@@ -41,10 +42,7 @@ use borrow.Table.Rows as Rows'
 use borrow.Table.Typed
 use contract.Lifetimes
 use denote.Enum.Declared
-use denote.Enum.Laws as Laws'''''
-use denote.Exit
 use denote.Struct.Declared as Declared'
-use denote.Struct.Laws as Laws''''''
 use denote.Triple.Clauses
 use denote.Triple.Statement
 use ghost.Atoms
@@ -61,1189 +59,1800 @@ use mathlib.Core.List.{_∷_}
 
 abbrev ref0 : Syntax.Ty
 ref0 = Syntax.tyRef (Syntax.named 0) Syntax.imm RelayPending.to
+
 abbrev ref1 : Syntax.Ty
 ref1 = Syntax.tyRef (Syntax.named 1) Syntax.imm RelayCircuit.to
+
 abbrev ref2 : Syntax.Ty
 ref2 = Syntax.tyRef (Syntax.named 2) Syntax.imm ReservationUsage.to
+
 abbrev ref3 : Syntax.Ty
 ref3 = Syntax.tyRef (Syntax.named 3) Syntax.imm InflightAction.to
+
 abbrev pub ps : List.List (Kinds.PK 4)
-ps = (ShrSlice.pShrS RelayPending.row 0 tt) ∷ (ShrSlice.pShrS RelayCircuit.row 1 tt) ∷ (ShrSlice.pShrS ReservationUsage.row 2 tt) ∷ (ShrSlice.pShrS
-    InflightAction.row 3 tt) ∷ (Array.pArr (Array.eInt Syntax.w8) (Array.eInt-laws Syntax.w8) 16) ∷ (Num.pNum Syntax.w64) ∷ (Value.pVal record { ty =
-    Declared'.row OpaqueRelayConfig.the-type; one = Path.refl; val = Laws''''''.val OpaqueRelayConfig.the-type Laws'.the-laws; tells =
-    Laws''''''.tells OpaqueRelayConfig.the-type Laws'.the-laws; still = Laws''''''.still OpaqueRelayConfig.the-type Laws'.the-copy Exit.yes; row =
-    Rows'.whole (Declared'.row OpaqueRelayConfig.the-type); rd = λ x. x; mk = λ x. x; } λ M 𝓤 H A W. record { copies = Laws''''''.copy
-    OpaqueRelayConfig.the-type Laws'.the-copy 𝓤 H A W; lawful = Laws''''''.lawful OpaqueRelayConfig.the-type Laws'.the-laws 𝓤 H A W; makes =
-    Laws''''''.makes OpaqueRelayConfig.the-type Laws'.the-plain 𝓤 H A; in-mem = Local.mem-whole 𝓤 H A W (Declared'.row OpaqueRelayConfig.the-type);
-    of-mem = Local.whole-mem 𝓤 H A W (Declared'.row OpaqueRelayConfig.the-type); }) ∷ (Num.pNum Syntax.w64) ∷ List.[]
+ps = (ShrSlice.pShrS RelayPending.row 0 tt) ∷ (ShrSlice.pShrS RelayCircuit.row 1 tt) ∷
+    (ShrSlice.pShrS ReservationUsage.row 2 tt) ∷ (ShrSlice.pShrS InflightAction.row 3 tt) ∷ (Array.pArr
+    (Array.eInt Syntax.w8) (Array.eInt-laws Syntax.w8) 16) ∷ (Num.pNum Syntax.w64) ∷ (StructRow.param
+    OpaqueRelayConfig.the-type Laws'.the-laws Laws'.the-copy Laws'.the-plain) ∷ (Num.pNum Syntax.w64) ∷ List.[]
+
 abbrev pub r : Kinds.RK 4
-r = Value.rVal record { ty = Declared'.row Relayed.the-type; one = Path.refl; val = Laws''''''.val Relayed.the-type Laws''''.the-laws; tells =
-    Laws''''''.tells Relayed.the-type Laws''''.the-laws; still = Laws''''''.still Relayed.the-type Laws''''.the-copy Exit.yes; row = Rows'.whole
-    (Declared'.row Relayed.the-type); rd = λ x. x; mk = λ x. x; } λ M 𝓤 H A W. record { copies = Laws''''''.copy Relayed.the-type Laws''''.the-copy 𝓤
-    H A W; lawful = Laws''''''.lawful Relayed.the-type Laws''''.the-laws 𝓤 H A W; makes = Laws''''''.makes Relayed.the-type Laws''''.the-plain 𝓤 H A;
-    in-mem = Local.mem-whole 𝓤 H A W (Declared'.row Relayed.the-type); of-mem = Local.whole-mem 𝓤 H A W (Declared'.row Relayed.the-type); }
+r = StructRow.result Relayed.the-type Laws''''.the-laws Laws''''.the-copy Laws''''.the-plain
+
 abbrev pub xs : List.List Syntax.Ty
-xs = Syntax.tyBool ∷ Laws.mir ∷ Laws'''.mir ∷ Laws''.mir ∷ Laws'''.mir ∷ Laws''.mir ∷ (Syntax.tyInt Syntax.w64) ∷ (Syntax.tyInt Syntax.w64) ∷
-    (Syntax.tyInt Syntax.w64) ∷ Syntax.tyBool ∷ List.[]
+xs = Syntax.tyBool ∷ Laws.mir ∷ Laws'''.mir ∷ Laws''.mir ∷ Laws'''.mir ∷ Laws''.mir ∷ (Syntax.tyInt Syntax.w64) ∷
+    (Syntax.tyInt Syntax.w64) ∷ (Syntax.tyInt Syntax.w64) ∷ Syntax.tyBool ∷ List.[]
+
 abbrev pub m : Nat.ℕ
 m = 0
+
 abbrev pub ps·0 : List.List (Kinds.PK 0)
-ps·0 = (Value.pVal record { ty = Declared'.row OpaqueRelayConfig.the-type; one = Path.refl; val = Laws''''''.val OpaqueRelayConfig.the-type
-    Laws'.the-laws; tells = Laws''''''.tells OpaqueRelayConfig.the-type Laws'.the-laws; still = Laws''''''.still OpaqueRelayConfig.the-type
-    Laws'.the-copy Exit.yes; row = Rows'.whole (Declared'.row OpaqueRelayConfig.the-type); rd = λ x. x; mk = λ x. x; } λ M 𝓤 H A W. record { copies =
-    Laws''''''.copy OpaqueRelayConfig.the-type Laws'.the-copy 𝓤 H A W; lawful = Laws''''''.lawful OpaqueRelayConfig.the-type Laws'.the-laws 𝓤 H A W;
-    makes = Laws''''''.makes OpaqueRelayConfig.the-type Laws'.the-plain 𝓤 H A; in-mem = Local.mem-whole 𝓤 H A W (Declared'.row
-    OpaqueRelayConfig.the-type); of-mem = Local.whole-mem 𝓤 H A W (Declared'.row OpaqueRelayConfig.the-type); }) ∷ (Num.pNum Syntax.w64) ∷ (Num.pNum
-    Syntax.w64) ∷ (Num.pNum Syntax.w64) ∷ List.[]
+ps·0 = (StructRow.param OpaqueRelayConfig.the-type Laws'.the-laws Laws'.the-copy Laws'.the-plain) ∷
+    (Num.pNum Syntax.w64) ∷ (Num.pNum Syntax.w64) ∷ (Num.pNum Syntax.w64) ∷ List.[]
+
 abbrev pub r·0 : Kinds.RK 0
 r·0 = Bool.rBool
+
 abbrev pub ps·1 : List.List (Kinds.PK 0)
-ps·1 = (Array.pArr (Array.eInt Syntax.w8) (Array.eInt-laws Syntax.w8) 16) ∷ (Num.pNum Syntax.w64) ∷ (Value.pVal record { ty = Declared'.row
-    OpaqueRelayConfig.the-type; one = Path.refl; val = Laws''''''.val OpaqueRelayConfig.the-type Laws'.the-laws; tells = Laws''''''.tells
-    OpaqueRelayConfig.the-type Laws'.the-laws; still = Laws''''''.still OpaqueRelayConfig.the-type Laws'.the-copy Exit.yes; row = Rows'.whole
-    (Declared'.row OpaqueRelayConfig.the-type); rd = λ x. x; mk = λ x. x; } λ M 𝓤 H A W. record { copies = Laws''''''.copy OpaqueRelayConfig.the-type
-    Laws'.the-copy 𝓤 H A W; lawful = Laws''''''.lawful OpaqueRelayConfig.the-type Laws'.the-laws 𝓤 H A W; makes = Laws''''''.makes
-    OpaqueRelayConfig.the-type Laws'.the-plain 𝓤 H A; in-mem = Local.mem-whole 𝓤 H A W (Declared'.row OpaqueRelayConfig.the-type); of-mem =
-    Local.whole-mem 𝓤 H A W (Declared'.row OpaqueRelayConfig.the-type); }) ∷ Bool.pBool ∷ (Num.pNum Syntax.w64) ∷ List.[]
-abbrev pub r·1 : Kinds.RK 0
-r·1 = Value.rVal record { ty = Declared.row HnsrAnswer.the-type; one = Path.refl; val = Laws'''''.val HnsrAnswer.the-type Laws.the-laws; tells =
-    Laws'''''.tells HnsrAnswer.the-type Laws.the-laws; still = Laws'''''.still HnsrAnswer.the-type Laws.the-copy Exit.yes; row = Rows'.whole
-    (Declared.row HnsrAnswer.the-type); rd = λ x. x; mk = λ x. x; } λ M 𝓤 H A W. record { copies = Laws'''''.copy HnsrAnswer.the-type Laws.the-copy 𝓤
-    H A W; lawful = Laws'''''.lawful HnsrAnswer.the-type Laws.the-laws 𝓤 H A W tt; makes = Laws'''''.makes HnsrAnswer.the-type Laws.the-plain 𝓤 H A;
-    in-mem = Local.mem-whole 𝓤 H A W (Declared.row HnsrAnswer.the-type); of-mem = Local.whole-mem 𝓤 H A W (Declared.row HnsrAnswer.the-type); }
-abbrev pub ps·2 : List.List (Kinds.PK 0)
-ps·2 = (Array.pArr (Array.eInt Syntax.w8) (Array.eInt-laws Syntax.w8) 16) ∷ (Num.pNum Syntax.w64) ∷ (Value.pVal record { ty = Declared'.row
-    OpaqueRelayConfig.the-type; one = Path.refl; val = Laws''''''.val OpaqueRelayConfig.the-type Laws'.the-laws; tells = Laws''''''.tells
-    OpaqueRelayConfig.the-type Laws'.the-laws; still = Laws''''''.still OpaqueRelayConfig.the-type Laws'.the-copy Exit.yes; row = Rows'.whole
-    (Declared'.row OpaqueRelayConfig.the-type); rd = λ x. x; mk = λ x. x; } λ M 𝓤 H A W. record { copies = Laws''''''.copy OpaqueRelayConfig.the-type
-    Laws'.the-copy 𝓤 H A W; lawful = Laws''''''.lawful OpaqueRelayConfig.the-type Laws'.the-laws 𝓤 H A W; makes = Laws''''''.makes
-    OpaqueRelayConfig.the-type Laws'.the-plain 𝓤 H A; in-mem = Local.mem-whole 𝓤 H A W (Declared'.row OpaqueRelayConfig.the-type); of-mem =
-    Local.whole-mem 𝓤 H A W (Declared'.row OpaqueRelayConfig.the-type); }) ∷ (Num.pNum Syntax.w64) ∷ List.[]
-abbrev pub r·2 : Kinds.RK 0
-r·2 = Value.rVal record { ty = Declared'.row OpaqueRelayRuntime.the-type; one = Path.refl; val = Laws''''''.val OpaqueRelayRuntime.the-type
-    Laws'''.the-laws; tells = Laws''''''.tells OpaqueRelayRuntime.the-type Laws'''.the-laws; still = Laws''''''.still OpaqueRelayRuntime.the-type
-    Laws'''.the-copy Exit.yes; row = Rows'.whole (Declared'.row OpaqueRelayRuntime.the-type); rd = λ x. x; mk = λ x. x; } λ M 𝓤 H A W. record { copies
-    = Laws''''''.copy OpaqueRelayRuntime.the-type Laws'''.the-copy 𝓤 H A W; lawful = Laws''''''.lawful OpaqueRelayRuntime.the-type Laws'''.the-laws 𝓤
-    H A W; makes = Laws''''''.makes OpaqueRelayRuntime.the-type Laws'''.the-plain 𝓤 H A; in-mem = Local.mem-whole 𝓤 H A W (Declared'.row
-    OpaqueRelayRuntime.the-type); of-mem = Local.whole-mem 𝓤 H A W (Declared'.row OpaqueRelayRuntime.the-type); }
-abbrev pub ps·3 : List.List (Kinds.PK 0)
-ps·3 = (Value.pVal record { ty = Declared.row HnsrAnswer.the-type; one = Path.refl; val = Laws'''''.val HnsrAnswer.the-type Laws.the-laws; tells =
-    Laws'''''.tells HnsrAnswer.the-type Laws.the-laws; still = Laws'''''.still HnsrAnswer.the-type Laws.the-copy Exit.yes; row = Rows'.whole
-    (Declared.row HnsrAnswer.the-type); rd = λ x. x; mk = λ x. x; } λ M 𝓤 H A W. record { copies = Laws'''''.copy HnsrAnswer.the-type Laws.the-copy 𝓤
-    H A W; lawful = Laws'''''.lawful HnsrAnswer.the-type Laws.the-laws 𝓤 H A W tt; makes = Laws'''''.makes HnsrAnswer.the-type Laws.the-plain 𝓤 H A;
-    in-mem = Local.mem-whole 𝓤 H A W (Declared.row HnsrAnswer.the-type); of-mem = Local.whole-mem 𝓤 H A W (Declared.row HnsrAnswer.the-type); }) ∷
+ps·1 = (Array.pArr (Array.eInt Syntax.w8) (Array.eInt-laws Syntax.w8) 16) ∷ (Num.pNum Syntax.w64) ∷ (StructRow.param
+    OpaqueRelayConfig.the-type Laws'.the-laws Laws'.the-copy Laws'.the-plain) ∷ Bool.pBool ∷ (Num.pNum Syntax.w64) ∷
     List.[]
+
+abbrev pub r·1 : Kinds.RK 0
+r·1 = StructRow.enum-result HnsrAnswer.the-type Laws.the-laws Laws.the-copy Laws.the-plain tt
+
+abbrev pub ps·2 : List.List (Kinds.PK 0)
+ps·2 = (Array.pArr (Array.eInt Syntax.w8) (Array.eInt-laws Syntax.w8) 16) ∷ (Num.pNum Syntax.w64) ∷ (StructRow.param
+    OpaqueRelayConfig.the-type Laws'.the-laws Laws'.the-copy Laws'.the-plain) ∷ (Num.pNum Syntax.w64) ∷ List.[]
+
+abbrev pub r·2 : Kinds.RK 0
+r·2 = StructRow.result OpaqueRelayRuntime.the-type Laws'''.the-laws Laws'''.the-copy Laws'''.the-plain
+
+abbrev pub ps·3 : List.List (Kinds.PK 0)
+ps·3 = (StructRow.enum-param HnsrAnswer.the-type Laws.the-laws Laws.the-copy Laws.the-plain tt) ∷ List.[]
+
 abbrev pub r·3 : Kinds.RK 0
 r·3 = Bool.rBool
+
 abbrev pub ps·4 : List.List (Kinds.PK 0)
 ps·4 = List.[]
+
 abbrev pub r·4 : Kinds.RK 0
-r·4 = Value.rVal record { ty = Declared'.row Places.the-type; one = Path.refl; val = Laws''''''.val Places.the-type Laws''.the-laws; tells =
-    Laws''''''.tells Places.the-type Laws''.the-laws; still = Laws''''''.still Places.the-type Laws''.the-copy Exit.yes; row = Rows'.whole
-    (Declared'.row Places.the-type); rd = λ x. x; mk = λ x. x; } λ M 𝓤 H A W. record { copies = Laws''''''.copy Places.the-type Laws''.the-copy 𝓤 H A
-    W; lawful = Laws''''''.lawful Places.the-type Laws''.the-laws 𝓤 H A W; makes = Laws''''''.makes Places.the-type Laws''.the-plain 𝓤 H A; in-mem =
-    Local.mem-whole 𝓤 H A W (Declared'.row Places.the-type); of-mem = Local.whole-mem 𝓤 H A W (Declared'.row Places.the-type); }
+r·4 = StructRow.result Places.the-type Laws''.the-laws Laws''.the-copy Laws''.the-plain
+
 abbrev pub ps·5 : List.List (Kinds.PK 0)
-ps·5 = (Value.pVal record { ty = Declared'.row OpaqueRelayRuntime.the-type; one = Path.refl; val = Laws''''''.val OpaqueRelayRuntime.the-type
-    Laws'''.the-laws; tells = Laws''''''.tells OpaqueRelayRuntime.the-type Laws'''.the-laws; still = Laws''''''.still OpaqueRelayRuntime.the-type
-    Laws'''.the-copy Exit.yes; row = Rows'.whole (Declared'.row OpaqueRelayRuntime.the-type); rd = λ x. x; mk = λ x. x; } λ M 𝓤 H A W. record { copies
-    = Laws''''''.copy OpaqueRelayRuntime.the-type Laws'''.the-copy 𝓤 H A W; lawful = Laws''''''.lawful OpaqueRelayRuntime.the-type Laws'''.the-laws 𝓤
-    H A W; makes = Laws''''''.makes OpaqueRelayRuntime.the-type Laws'''.the-plain 𝓤 H A; in-mem = Local.mem-whole 𝓤 H A W (Declared'.row
-    OpaqueRelayRuntime.the-type); of-mem = Local.whole-mem 𝓤 H A W (Declared'.row OpaqueRelayRuntime.the-type); }) ∷ (Value.pVal record { ty =
-    Declared'.row Places.the-type; one = Path.refl; val = Laws''''''.val Places.the-type Laws''.the-laws; tells = Laws''''''.tells Places.the-type
-    Laws''.the-laws; still = Laws''''''.still Places.the-type Laws''.the-copy Exit.yes; row = Rows'.whole (Declared'.row Places.the-type); rd = λ x.
-    x; mk = λ x. x; } λ M 𝓤 H A W. record { copies = Laws''''''.copy Places.the-type Laws''.the-copy 𝓤 H A W; lawful = Laws''''''.lawful
-    Places.the-type Laws''.the-laws 𝓤 H A W; makes = Laws''''''.makes Places.the-type Laws''.the-plain 𝓤 H A; in-mem = Local.mem-whole 𝓤 H A W
-    (Declared'.row Places.the-type); of-mem = Local.whole-mem 𝓤 H A W (Declared'.row Places.the-type); }) ∷ List.[]
+ps·5 = (StructRow.param OpaqueRelayRuntime.the-type Laws'''.the-laws Laws'''.the-copy Laws'''.the-plain) ∷ (StructRow.param
+    Places.the-type Laws''.the-laws Laws''.the-copy Laws''.the-plain) ∷ List.[]
+
 abbrev pub r·5 : Kinds.RK 0
-r·5 = Value.rVal record { ty = Declared'.row Relayed.the-type; one = Path.refl; val = Laws''''''.val Relayed.the-type Laws''''.the-laws; tells =
-    Laws''''''.tells Relayed.the-type Laws''''.the-laws; still = Laws''''''.still Relayed.the-type Laws''''.the-copy Exit.yes; row = Rows'.whole
-    (Declared'.row Relayed.the-type); rd = λ x. x; mk = λ x. x; } λ M 𝓤 H A W. record { copies = Laws''''''.copy Relayed.the-type Laws''''.the-copy 𝓤
-    H A W; lawful = Laws''''''.lawful Relayed.the-type Laws''''.the-laws 𝓤 H A W; makes = Laws''''''.makes Relayed.the-type Laws''''.the-plain 𝓤 H A;
-    in-mem = Local.mem-whole 𝓤 H A W (Declared'.row Relayed.the-type); of-mem = Local.whole-mem 𝓤 H A W (Declared'.row Relayed.the-type); }
+r·5 = StructRow.result Relayed.the-type Laws''''.the-laws Laws''''.the-copy Laws''''.the-plain
+
 abbrev pub ps·6 : List.List (Kinds.PK 0)
 ps·6 = List.[]
+
 abbrev pub r·6 : Kinds.RK 0
-r·6 = Value.rVal record { ty = Declared'.row OpaqueRelayRuntime.the-type; one = Path.refl; val = Laws''''''.val OpaqueRelayRuntime.the-type
-    Laws'''.the-laws; tells = Laws''''''.tells OpaqueRelayRuntime.the-type Laws'''.the-laws; still = Laws''''''.still OpaqueRelayRuntime.the-type
-    Laws'''.the-copy Exit.yes; row = Rows'.whole (Declared'.row OpaqueRelayRuntime.the-type); rd = λ x. x; mk = λ x. x; } λ M 𝓤 H A W. record { copies
-    = Laws''''''.copy OpaqueRelayRuntime.the-type Laws'''.the-copy 𝓤 H A W; lawful = Laws''''''.lawful OpaqueRelayRuntime.the-type Laws'''.the-laws 𝓤
-    H A W; makes = Laws''''''.makes OpaqueRelayRuntime.the-type Laws'''.the-plain 𝓤 H A; in-mem = Local.mem-whole 𝓤 H A W (Declared'.row
-    OpaqueRelayRuntime.the-type); of-mem = Local.whole-mem 𝓤 H A W (Declared'.row OpaqueRelayRuntime.the-type); }
+r·6 = StructRow.result OpaqueRelayRuntime.the-type Laws'''.the-laws Laws'''.the-copy Laws'''.the-plain
+
 abbrev pub ps·7 : List.List (Kinds.PK 0)
 ps·7 = List.[]
+
 abbrev pub r·7 : Kinds.RK 0
-r·7 = Value.rVal record { ty = Declared'.row Places.the-type; one = Path.refl; val = Laws''''''.val Places.the-type Laws''.the-laws; tells =
-    Laws''''''.tells Places.the-type Laws''.the-laws; still = Laws''''''.still Places.the-type Laws''.the-copy Exit.yes; row = Rows'.whole
-    (Declared'.row Places.the-type); rd = λ x. x; mk = λ x. x; } λ M 𝓤 H A W. record { copies = Laws''''''.copy Places.the-type Laws''.the-copy 𝓤 H A
-    W; lawful = Laws''''''.lawful Places.the-type Laws''.the-laws 𝓤 H A W; makes = Laws''''''.makes Places.the-type Laws''.the-plain 𝓤 H A; in-mem =
-    Local.mem-whole 𝓤 H A W (Declared'.row Places.the-type); of-mem = Local.whole-mem 𝓤 H A W (Declared'.row Places.the-type); }
+r·7 = StructRow.result Places.the-type Laws''.the-laws Laws''.the-copy Laws''.the-plain
+
 abbrev pub ps·8 : List.List (Kinds.PK 0)
-ps·8 = (Value.pVal record { ty = Declared'.row OpaqueRelayRuntime.the-type; one = Path.refl; val = Laws''''''.val OpaqueRelayRuntime.the-type
-    Laws'''.the-laws; tells = Laws''''''.tells OpaqueRelayRuntime.the-type Laws'''.the-laws; still = Laws''''''.still OpaqueRelayRuntime.the-type
-    Laws'''.the-copy Exit.yes; row = Rows'.whole (Declared'.row OpaqueRelayRuntime.the-type); rd = λ x. x; mk = λ x. x; } λ M 𝓤 H A W. record { copies
-    = Laws''''''.copy OpaqueRelayRuntime.the-type Laws'''.the-copy 𝓤 H A W; lawful = Laws''''''.lawful OpaqueRelayRuntime.the-type Laws'''.the-laws 𝓤
-    H A W; makes = Laws''''''.makes OpaqueRelayRuntime.the-type Laws'''.the-plain 𝓤 H A; in-mem = Local.mem-whole 𝓤 H A W (Declared'.row
-    OpaqueRelayRuntime.the-type); of-mem = Local.whole-mem 𝓤 H A W (Declared'.row OpaqueRelayRuntime.the-type); }) ∷ (Value.pVal record { ty =
-    Declared'.row Places.the-type; one = Path.refl; val = Laws''''''.val Places.the-type Laws''.the-laws; tells = Laws''''''.tells Places.the-type
-    Laws''.the-laws; still = Laws''''''.still Places.the-type Laws''.the-copy Exit.yes; row = Rows'.whole (Declared'.row Places.the-type); rd = λ x.
-    x; mk = λ x. x; } λ M 𝓤 H A W. record { copies = Laws''''''.copy Places.the-type Laws''.the-copy 𝓤 H A W; lawful = Laws''''''.lawful
-    Places.the-type Laws''.the-laws 𝓤 H A W; makes = Laws''''''.makes Places.the-type Laws''.the-plain 𝓤 H A; in-mem = Local.mem-whole 𝓤 H A W
-    (Declared'.row Places.the-type); of-mem = Local.whole-mem 𝓤 H A W (Declared'.row Places.the-type); }) ∷ (Value.pVal record { ty = Declared.row
-    HnsrAnswer.the-type; one = Path.refl; val = Laws'''''.val HnsrAnswer.the-type Laws.the-laws; tells = Laws'''''.tells HnsrAnswer.the-type
-    Laws.the-laws; still = Laws'''''.still HnsrAnswer.the-type Laws.the-copy Exit.yes; row = Rows'.whole (Declared.row HnsrAnswer.the-type); rd = λ x.
-    x; mk = λ x. x; } λ M 𝓤 H A W. record { copies = Laws'''''.copy HnsrAnswer.the-type Laws.the-copy 𝓤 H A W; lawful = Laws'''''.lawful
-    HnsrAnswer.the-type Laws.the-laws 𝓤 H A W tt; makes = Laws'''''.makes HnsrAnswer.the-type Laws.the-plain 𝓤 H A; in-mem = Local.mem-whole 𝓤 H A W
-    (Declared.row HnsrAnswer.the-type); of-mem = Local.whole-mem 𝓤 H A W (Declared.row HnsrAnswer.the-type); }) ∷ List.[]
+ps·8 = (StructRow.param OpaqueRelayRuntime.the-type Laws'''.the-laws Laws'''.the-copy Laws'''.the-plain) ∷ (StructRow.param
+    Places.the-type Laws''.the-laws Laws''.the-copy Laws''.the-plain) ∷ (StructRow.enum-param HnsrAnswer.the-type
+    Laws.the-laws Laws.the-copy Laws.the-plain tt) ∷ List.[]
+
 abbrev pub r·8 : Kinds.RK 0
-r·8 = Value.rVal record { ty = Declared'.row Relayed.the-type; one = Path.refl; val = Laws''''''.val Relayed.the-type Laws''''.the-laws; tells =
-    Laws''''''.tells Relayed.the-type Laws''''.the-laws; still = Laws''''''.still Relayed.the-type Laws''''.the-copy Exit.yes; row = Rows'.whole
-    (Declared'.row Relayed.the-type); rd = λ x. x; mk = λ x. x; } λ M 𝓤 H A W. record { copies = Laws''''''.copy Relayed.the-type Laws''''.the-copy 𝓤
-    H A W; lawful = Laws''''''.lawful Relayed.the-type Laws''''.the-laws 𝓤 H A W; makes = Laws''''''.makes Relayed.the-type Laws''''.the-plain 𝓤 H A;
-    in-mem = Local.mem-whole 𝓤 H A W (Declared'.row Relayed.the-type); of-mem = Local.whole-mem 𝓤 H A W (Declared'.row Relayed.the-type); }
+r·8 = StructRow.result Relayed.the-type Laws''''.the-laws Laws''''.the-copy Laws''''.the-plain
+
 abbrev pub hs : List.List Syntax.Home
-hs = Syntax.valueLocal ∷ Syntax.valueLocal ∷ Syntax.valueLocal ∷ Syntax.valueLocal ∷ Syntax.valueLocal ∷ Syntax.valueLocal ∷ Syntax.valueLocal ∷
-    Syntax.valueLocal ∷ Syntax.valueLocal ∷ Syntax.valueLocal ∷ Syntax.valueLocal ∷ Syntax.valueLocal ∷ Syntax.valueLocal ∷ Syntax.valueLocal ∷
-    Syntax.valueLocal ∷ Syntax.valueLocal ∷ Syntax.valueLocal ∷ Syntax.valueLocal ∷ Syntax.valueLocal ∷ List.[]
+hs = Syntax.valueLocal ∷ Syntax.valueLocal ∷ Syntax.valueLocal ∷ Syntax.valueLocal ∷ Syntax.valueLocal ∷
+    Syntax.valueLocal ∷ Syntax.valueLocal ∷ Syntax.valueLocal ∷ Syntax.valueLocal ∷ Syntax.valueLocal ∷
+    Syntax.valueLocal ∷ Syntax.valueLocal ∷ Syntax.valueLocal ∷ Syntax.valueLocal ∷ Syntax.valueLocal ∷
+    Syntax.valueLocal ∷ Syntax.valueLocal ∷ Syntax.valueLocal ∷ Syntax.valueLocal ∷ List.[]
+
 abbrev b0 : Syntax.Body
 b0 = Syntax.assign (Syntax.place 15 List.[]) (Syntax.rvOpd (Syntax.copy (Syntax.place 1 ((Syntax.field 1) ∷ List.[]))))
+
 abbrev b1 : Syntax.Body
 b1 = Syntax.assign (Syntax.place 16 List.[]) (Syntax.rvOpd (Syntax.copy (Syntax.place 2 ((Syntax.field 1) ∷ List.[]))))
+
 abbrev b2 : Syntax.Body
 b2 = Syntax.assign (Syntax.place 17 List.[]) (Syntax.rvOpd (Syntax.copy (Syntax.place 4 ((Syntax.field 1) ∷ List.[]))))
+
 abbrev b3 : Syntax.Body
-b3 = Syntax.call "hnsr_circuit::entry::too_few" ((Syntax.copy (Syntax.place 7 List.[])) ∷ (Syntax.copy (Syntax.place 15 List.[])) ∷ (Syntax.copy
-    (Syntax.place 16 List.[])) ∷ (Syntax.copy (Syntax.place 17 List.[])) ∷ List.[]) (Syntax.place 9 List.[])
+b3 = Syntax.call "hnsr_circuit::entry::too_few" ((Syntax.copy (Syntax.place 7 List.[])) ∷
+    (Syntax.copy (Syntax.place 15 List.[])) ∷ (Syntax.copy (Syntax.place 16 List.[])) ∷
+    (Syntax.copy (Syntax.place 17 List.[])) ∷ List.[]) (Syntax.place 9 List.[])
+
 abbrev b4 : Syntax.Body
 b4 = Syntax.assign (Syntax.place 15 List.[]) (Syntax.rvOpd (Syntax.copy (Syntax.place 3 ((Syntax.field 1) ∷ List.[]))))
+
 abbrev b5 : Syntax.Body
-b5 = Syntax.call "hnsr_circuit::calls::new_answer" ((Syntax.copy (Syntax.place 5 List.[])) ∷ (Syntax.copy (Syntax.place 6 List.[])) ∷ (Syntax.copy
-    (Syntax.place 7 List.[])) ∷ (Syntax.copy (Syntax.place 9 List.[])) ∷ (Syntax.copy (Syntax.place 15 List.[])) ∷ List.[]) (Syntax.place 10 List.[])
+b5 = Syntax.call "hnsr_circuit::calls::new_answer" ((Syntax.copy (Syntax.place 5 List.[])) ∷
+    (Syntax.copy (Syntax.place 6 List.[])) ∷ (Syntax.copy (Syntax.place 7 List.[])) ∷
+    (Syntax.copy (Syntax.place 9 List.[])) ∷ (Syntax.copy (Syntax.place 15 List.[])) ∷ List.[])
+    (Syntax.place 10 List.[])
+
 abbrev b6 : Syntax.Body
-b6 = Syntax.call "hnsr_circuit::header::new_header" ((Syntax.copy (Syntax.place 5 List.[])) ∷ (Syntax.copy (Syntax.place 6 List.[])) ∷ (Syntax.copy
-    (Syntax.place 7 List.[])) ∷ (Syntax.copy (Syntax.place 8 List.[])) ∷ List.[]) (Syntax.place 11 List.[])
+b6 = Syntax.call "hnsr_circuit::header::new_header" ((Syntax.copy (Syntax.place 5 List.[])) ∷
+    (Syntax.copy (Syntax.place 6 List.[])) ∷ (Syntax.copy (Syntax.place 7 List.[])) ∷
+    (Syntax.copy (Syntax.place 8 List.[])) ∷ List.[]) (Syntax.place 11 List.[])
+
 abbrev b7 : Syntax.Body
-b7 = Syntax.call "hnsr_circuit::answer::is_taken" ((Syntax.copy (Syntax.place 10 List.[])) ∷ List.[]) (Syntax.place 18 List.[])
+b7 = Syntax.call "hnsr_circuit::answer::is_taken" ((Syntax.copy (Syntax.place 10 List.[])) ∷ List.[])
+    (Syntax.place 18 List.[])
+
 abbrev b8 : Syntax.Body
 b8 = Syntax.call "hnsr_circuit::places::no_place" List.[] (Syntax.place 12 List.[])
+
 abbrev b9 : Syntax.Body
-b9 = Syntax.call "hnsr_circuit::revoking_calls::taken_with" ((Syntax.copy (Syntax.place 11 List.[])) ∷ (Syntax.copy (Syntax.place 12 List.[])) ∷
-    List.[]) (Syntax.place 0 List.[])
+b9 = Syntax.call "hnsr_circuit::revoking_calls::taken_with" ((Syntax.copy (Syntax.place 11 List.[])) ∷
+    (Syntax.copy (Syntax.place 12 List.[])) ∷ List.[]) (Syntax.place 0 List.[])
+
 abbrev b10 : Syntax.Body
 b10 = Syntax.return
+
 abbrev b11 : Syntax.Body
 b11 = Syntax.seq b9 b10
+
 abbrev b12 : Syntax.Body
 b12 = Syntax.seq b8 b11
+
 abbrev b13 : Syntax.Body
 b13 = Syntax.skip
+
 abbrev b14 : Syntax.Body
 b14 = Syntax.cond (Syntax.copy (Syntax.place 18 List.[])) b12 b13
+
 abbrev b15 : Syntax.Body
 b15 = Syntax.call "hnsr_circuit::header::no_runtime" List.[] (Syntax.place 13 List.[])
+
 abbrev b16 : Syntax.Body
 b16 = Syntax.call "hnsr_circuit::places::every_place" List.[] (Syntax.place 14 List.[])
+
 abbrev b17 : Syntax.Body
-b17 = Syntax.call "hnsr_circuit::revoking_calls::refused" ((Syntax.copy (Syntax.place 13 List.[])) ∷ (Syntax.copy (Syntax.place 14 List.[])) ∷
-    (Syntax.copy (Syntax.place 10 List.[])) ∷ List.[]) (Syntax.place 0 List.[])
+b17 = Syntax.call "hnsr_circuit::revoking_calls::refused" ((Syntax.copy (Syntax.place 13 List.[])) ∷
+    (Syntax.copy (Syntax.place 14 List.[])) ∷ (Syntax.copy (Syntax.place 10 List.[])) ∷ List.[])
+    (Syntax.place 0 List.[])
+
 abbrev b18 : Syntax.Body
 b18 = Syntax.return
+
 abbrev b19 : Syntax.Body
 b19 = Syntax.seq b17 b18
+
 abbrev b20 : Syntax.Body
 b20 = Syntax.seq b16 b19
+
 abbrev b21 : Syntax.Body
 b21 = Syntax.seq b15 b20
+
 abbrev b22 : Syntax.Body
 b22 = Syntax.seq b14 b21
+
 abbrev b23 : Syntax.Body
 b23 = Syntax.seq b7 b22
+
 abbrev b24 : Syntax.Body
 b24 = Syntax.seq b6 b23
+
 abbrev b25 : Syntax.Body
 b25 = Syntax.seq b5 b24
+
 abbrev b26 : Syntax.Body
 b26 = Syntax.seq b4 b25
+
 abbrev b27 : Syntax.Body
 b27 = Syntax.seq b3 b26
+
 abbrev b28 : Syntax.Body
 b28 = Syntax.seq b2 b27
+
 abbrev b29 : Syntax.Body
 b29 = Syntax.seq b1 b28
+
 abbrev b30 : Syntax.Body
 b30 = Syntax.seq b0 b29
+
 abbrev pub body : Syntax.Body
 body = b30
+
 abbrev pub Claims : Type 1
-Claims = Kinds.In 0 ps·0 × Kinds.Out 0 ps·0 r·0 × Kinds.In 0 ps·1 × Kinds.Out 0 ps·1 r·1 × Kinds.In 0 ps·2 × Kinds.Out 0 ps·2 r·2 × Kinds.In 0 ps·3 ×
-    Kinds.Out 0 ps·3 r·3 × Kinds.In 0 ps·4 × Kinds.Out 0 ps·4 r·4 × Kinds.In 0 ps·5 × Kinds.Out 0 ps·5 r·5 × Kinds.In 0 ps·6 × Kinds.Out 0 ps·6 r·6 ×
-    Kinds.In 0 ps·7 × Kinds.Out 0 ps·7 r·7 × Kinds.In 0 ps·8 × Kinds.Out 0 ps·8 r·8
+Claims = Kinds.In 0 ps·0 × Kinds.Out 0 ps·0 r·0 × Kinds.In 0 ps·1 × Kinds.Out 0 ps·1 r·1 × Kinds.In 0 ps·2 × Kinds.Out
+    0 ps·2 r·2 × Kinds.In 0 ps·3 × Kinds.Out 0 ps·3 r·3 × Kinds.In 0 ps·4 × Kinds.Out 0 ps·4 r·4 × Kinds.In 0 ps·5 ×
+    Kinds.Out 0 ps·5 r·5 × Kinds.In 0 ps·6 × Kinds.Out 0 ps·6 r·6 × Kinds.In 0 ps·7 × Kinds.Out 0 ps·7 r·7 × Kinds.In 0
+    ps·8 × Kinds.Out 0 ps·8 r·8
+
 abbrev e0 : Row.Entry
 e0 = (0, Rows'.any-gone Laws''''.mir)
+
 abbrev e1 : Row.Entry
 e1 = (1, Rows'.sslice RelayPending.row ref0 0)
+
 abbrev e2 : Row.Entry
 e2 = (2, Rows'.sslice RelayCircuit.row ref1 1)
+
 abbrev e3 : Row.Entry
 e3 = (3, Rows'.sslice ReservationUsage.row ref2 2)
+
 abbrev e4 : Row.Entry
 e4 = (4, Rows'.sslice InflightAction.row ref3 3)
+
 abbrev e5 : Row.Entry
 e5 = (5, Rows.arrF (Referent.rtF (Referent.fInt Syntax.w8)) 16 0)
+
 abbrev e6 : Row.Entry
 e6 = (6, Rows'.sc-here (Row.sInt Syntax.w64))
+
 abbrev e7 : Row.Entry
 e7 = (7, Rows'.whole (Declared'.row OpaqueRelayConfig.the-type))
+
 abbrev e8 : Row.Entry
 e8 = (8, Rows'.sc-here (Row.sInt Syntax.w64))
+
 abbrev e9 : Row.Entry
 e9 = (9, Rows'.any-gone Syntax.tyBool)
+
 abbrev e10 : Row.Entry
 e10 = (10, Rows'.any-gone Laws.mir)
+
 abbrev e11 : Row.Entry
 e11 = (11, Rows'.any-gone Laws'''.mir)
+
 abbrev e12 : Row.Entry
 e12 = (12, Rows'.any-gone Laws''.mir)
+
 abbrev e13 : Row.Entry
 e13 = (13, Rows'.any-gone Laws'''.mir)
+
 abbrev e14 : Row.Entry
 e14 = (14, Rows'.any-gone Laws''.mir)
+
 abbrev e15 : Row.Entry
 e15 = (15, Rows'.any-gone (Syntax.tyInt Syntax.w64))
+
 abbrev e16 : Row.Entry
 e16 = (16, Rows'.any-gone (Syntax.tyInt Syntax.w64))
+
 abbrev e17 : Row.Entry
 e17 = (17, Rows'.any-gone (Syntax.tyInt Syntax.w64))
+
 abbrev e18 : Row.Entry
 e18 = (18, Rows'.any-gone Syntax.tyBool)
+
 abbrev e0·1 : Row.Entry
 e0·1 = (0, Rows'.whole (Declared'.row Relayed.the-type))
+
 abbrev e5·1 : Row.Entry
 e5·1 = (5, Rows'.any-gone (Syntax.tyArray (Syntax.tyInt Syntax.w8) 16))
+
 abbrev e6·1 : Row.Entry
 e6·1 = (6, Rows'.any-gone (Syntax.tyInt Syntax.w64))
+
 abbrev e7·1 : Row.Entry
 e7·1 = (7, Rows'.any-gone Laws'.mir)
+
 abbrev e8·1 : Row.Entry
 e8·1 = (8, Rows'.any-gone (Syntax.tyInt Syntax.w64))
+
 abbrev e15·1 : Row.Entry
 e15·1 = (15, Rows'.sc-here (Row.sInt Syntax.w64))
+
 abbrev e16·1 : Row.Entry
 e16·1 = (16, Rows'.sc-here (Row.sInt Syntax.w64))
+
 abbrev e17·1 : Row.Entry
 e17·1 = (17, Rows'.sc-here (Row.sInt Syntax.w64))
+
 abbrev e9·1 : Row.Entry
 e9·1 = (9, Rows'.sc-here Row.sBool)
+
 abbrev e10·1 : Row.Entry
 e10·1 = (10, Rows'.whole (Declared.row HnsrAnswer.the-type))
+
 abbrev e11·1 : Row.Entry
 e11·1 = (11, Rows'.whole (Declared'.row OpaqueRelayRuntime.the-type))
+
 abbrev e18·1 : Row.Entry
 e18·1 = (18, Rows'.sc-here Row.sBool)
+
 abbrev e12·1 : Row.Entry
 e12·1 = (12, Rows'.whole (Declared'.row Places.the-type))
+
 abbrev e13·1 : Row.Entry
 e13·1 = (13, Rows'.whole (Declared'.row OpaqueRelayRuntime.the-type))
+
 abbrev e14·1 : Row.Entry
 e14·1 = (14, Rows'.whole (Declared'.row Places.the-type))
+
 abbrev pub t0 : List.List Row.Entry
 t0 = e0 ∷ e1 ∷ e2 ∷ e3 ∷ e4 ∷ e5 ∷ e6 ∷ e7 ∷ e8 ∷ e9 ∷ e10 ∷ e11 ∷ e12 ∷ e13 ∷ e14 ∷ e15 ∷ List.[]
+
 abbrev pub t1 : List.List Row.Entry
 t1 = e16 ∷ e17 ∷ e18 ∷ List.[]
+
 abbrev pub t2 : List.List Row.Entry
 t2 = e0·1 ∷ e1 ∷ e2 ∷ e3 ∷ e4 ∷ e5·1 ∷ e6·1 ∷ e7·1 ∷ e8·1 ∷ e9 ∷ e10 ∷ e11 ∷ e12 ∷ e13 ∷ e14 ∷ e15 ∷ List.[]
+
 abbrev pub t3 : List.List Row.Entry
 t3 = e0 ∷ e1 ∷ e2 ∷ e3 ∷ e4 ∷ e5 ∷ e6 ∷ e7 ∷ e8 ∷ e9 ∷ e10 ∷ e11 ∷ e12 ∷ e13 ∷ e14 ∷ e15·1 ∷ List.[]
+
 abbrev pub t4 : List.List Row.Entry
 t4 = e16·1 ∷ e17 ∷ e18 ∷ List.[]
+
 abbrev pub t5 : List.List Row.Entry
 t5 = e16·1 ∷ e17·1 ∷ e18 ∷ List.[]
+
 abbrev pub t6 : List.List Row.Entry
 t6 = e0 ∷ e1 ∷ e2 ∷ e3 ∷ e4 ∷ e5 ∷ e6 ∷ e7 ∷ e8 ∷ e9·1 ∷ e10 ∷ e11 ∷ e12 ∷ e13 ∷ e14 ∷ e15·1 ∷ List.[]
+
 abbrev pub t7 : List.List Row.Entry
 t7 = e0 ∷ e1 ∷ e2 ∷ e3 ∷ e4 ∷ e5 ∷ e6 ∷ e7 ∷ e8 ∷ e9·1 ∷ e10 ∷ e11 ∷ e12 ∷ e13 ∷ e14 ∷ e15 ∷ List.[]
+
 abbrev pub t8 : List.List Row.Entry
 t8 = e16 ∷ e17·1 ∷ e18 ∷ List.[]
+
 abbrev pub t9 : List.List Row.Entry
 t9 = e0 ∷ e1 ∷ e2 ∷ e3 ∷ e4 ∷ e5 ∷ e6 ∷ e7 ∷ e8 ∷ e9·1 ∷ e10·1 ∷ e11 ∷ e12 ∷ e13 ∷ e14 ∷ e15·1 ∷ List.[]
+
 abbrev pub t10 : List.List Row.Entry
 t10 = e0 ∷ e1 ∷ e2 ∷ e3 ∷ e4 ∷ e5 ∷ e6 ∷ e7 ∷ e8 ∷ e9·1 ∷ e10·1 ∷ e11 ∷ e12 ∷ e13 ∷ e14 ∷ e15 ∷ List.[]
+
 abbrev pub t11 : List.List Row.Entry
 t11 = e0 ∷ e1 ∷ e2 ∷ e3 ∷ e4 ∷ e5 ∷ e6 ∷ e7 ∷ e8 ∷ e9·1 ∷ e10·1 ∷ e11·1 ∷ e12 ∷ e13 ∷ e14 ∷ e15 ∷ List.[]
+
 abbrev pub t12 : List.List Row.Entry
 t12 = e0 ∷ e1 ∷ e2 ∷ e3 ∷ e4 ∷ e5·1 ∷ e6 ∷ e7 ∷ e8 ∷ e9·1 ∷ e10·1 ∷ e11·1 ∷ e12 ∷ e13 ∷ e14 ∷ e15 ∷ List.[]
+
 abbrev pub t13 : List.List Row.Entry
 t13 = e0 ∷ e1 ∷ e2 ∷ e3 ∷ e4 ∷ e5·1 ∷ e6 ∷ e7·1 ∷ e8 ∷ e9·1 ∷ e10·1 ∷ e11·1 ∷ e12 ∷ e13 ∷ e14 ∷ e15 ∷ List.[]
+
 abbrev pub t14 : List.List Row.Entry
 t14 = e16 ∷ e17 ∷ e18·1 ∷ List.[]
+
 abbrev pub t15 : List.List Row.Entry
 t15 = e0 ∷ e1 ∷ e2 ∷ e3 ∷ e4 ∷ e5·1 ∷ e6 ∷ e7·1 ∷ e8 ∷ e9·1 ∷ e10·1 ∷ e11 ∷ e12 ∷ e13 ∷ e14 ∷ e15 ∷ List.[]
+
 abbrev pub t16 : List.List Row.Entry
 t16 = e0 ∷ e1 ∷ e2 ∷ e3 ∷ e4 ∷ e5·1 ∷ e6 ∷ e7·1 ∷ e8 ∷ e9·1 ∷ e10 ∷ e11·1 ∷ e12 ∷ e13 ∷ e14 ∷ e15 ∷ List.[]
+
 abbrev pub t17 : List.List Row.Entry
 t17 = e0 ∷ e1 ∷ e2 ∷ e3 ∷ e4 ∷ e5·1 ∷ e6 ∷ e7·1 ∷ e8 ∷ e9·1 ∷ e10 ∷ e11·1 ∷ e12·1 ∷ e13 ∷ e14 ∷ e15 ∷ List.[]
+
 abbrev pub t18 : List.List Row.Entry
 t18 = e0·1 ∷ e1 ∷ e2 ∷ e3 ∷ e4 ∷ e5·1 ∷ e6 ∷ e7·1 ∷ e8 ∷ e9·1 ∷ e10 ∷ e11·1 ∷ e12·1 ∷ e13 ∷ e14 ∷ e15 ∷ List.[]
+
 abbrev pub t19 : List.List Row.Entry
 t19 = e0·1 ∷ e1 ∷ e2 ∷ e3 ∷ e4 ∷ e5·1 ∷ e6 ∷ e7·1 ∷ e8 ∷ e9·1 ∷ e10 ∷ e11 ∷ e12·1 ∷ e13 ∷ e14 ∷ e15 ∷ List.[]
+
 abbrev pub t20 : List.List Row.Entry
 t20 = e0·1 ∷ e1 ∷ e2 ∷ e3 ∷ e4 ∷ e5·1 ∷ e6 ∷ e7·1 ∷ e8 ∷ e9·1 ∷ e10 ∷ e11 ∷ e12 ∷ e13 ∷ e14 ∷ e15 ∷ List.[]
+
 abbrev pub t21 : List.List Row.Entry
 t21 = e0·1 ∷ e1 ∷ e2 ∷ e3 ∷ e4 ∷ e5·1 ∷ e6·1 ∷ e7·1 ∷ e8 ∷ e9·1 ∷ e10 ∷ e11 ∷ e12 ∷ e13 ∷ e14 ∷ e15 ∷ List.[]
+
 abbrev pub t22 : List.List Row.Entry
 t22 = e0·1 ∷ e1 ∷ e2 ∷ e3 ∷ e4 ∷ e5·1 ∷ e6·1 ∷ e7·1 ∷ e8·1 ∷ e9·1 ∷ e10 ∷ e11 ∷ e12 ∷ e13 ∷ e14 ∷ e15 ∷ List.[]
+
 abbrev pub t23 : List.List Row.Entry
 t23 = e0 ∷ e1 ∷ e2 ∷ e3 ∷ e4 ∷ e5·1 ∷ e6 ∷ e7·1 ∷ e8 ∷ e9·1 ∷ e10·1 ∷ e11 ∷ e12 ∷ e13·1 ∷ e14 ∷ e15 ∷ List.[]
+
 abbrev pub t24 : List.List Row.Entry
 t24 = e0 ∷ e1 ∷ e2 ∷ e3 ∷ e4 ∷ e5·1 ∷ e6 ∷ e7·1 ∷ e8 ∷ e9·1 ∷ e10·1 ∷ e11 ∷ e12 ∷ e13·1 ∷ e14·1 ∷ e15 ∷ List.[]
+
 abbrev pub t25 : List.List Row.Entry
 t25 = e0·1 ∷ e1 ∷ e2 ∷ e3 ∷ e4 ∷ e5·1 ∷ e6 ∷ e7·1 ∷ e8 ∷ e9·1 ∷ e10·1 ∷ e11 ∷ e12 ∷ e13·1 ∷ e14·1 ∷ e15 ∷ List.[]
+
 abbrev pub t26 : List.List Row.Entry
 t26 = e0·1 ∷ e1 ∷ e2 ∷ e3 ∷ e4 ∷ e5·1 ∷ e6 ∷ e7·1 ∷ e8 ∷ e9 ∷ e10·1 ∷ e11 ∷ e12 ∷ e13·1 ∷ e14·1 ∷ e15 ∷ List.[]
+
 abbrev pub t27 : List.List Row.Entry
 t27 = e0·1 ∷ e1 ∷ e2 ∷ e3 ∷ e4 ∷ e5·1 ∷ e6 ∷ e7·1 ∷ e8 ∷ e9 ∷ e10 ∷ e11 ∷ e12 ∷ e13·1 ∷ e14·1 ∷ e15 ∷ List.[]
+
 abbrev pub t28 : List.List Row.Entry
 t28 = e0·1 ∷ e1 ∷ e2 ∷ e3 ∷ e4 ∷ e5·1 ∷ e6 ∷ e7·1 ∷ e8 ∷ e9 ∷ e10 ∷ e11 ∷ e12 ∷ e13 ∷ e14·1 ∷ e15 ∷ List.[]
+
 abbrev pub t29 : List.List Row.Entry
 t29 = e0·1 ∷ e1 ∷ e2 ∷ e3 ∷ e4 ∷ e5·1 ∷ e6 ∷ e7·1 ∷ e8 ∷ e9 ∷ e10 ∷ e11 ∷ e12 ∷ e13 ∷ e14 ∷ e15 ∷ List.[]
+
 abbrev pub t30 : List.List Row.Entry
 t30 = e0·1 ∷ e1 ∷ e2 ∷ e3 ∷ e4 ∷ e5·1 ∷ e6·1 ∷ e7·1 ∷ e8 ∷ e9 ∷ e10 ∷ e11 ∷ e12 ∷ e13 ∷ e14 ∷ e15 ∷ List.[]
+
 abbrev pub T0 : Row.Cx
 T0 = record { locals = List._++_ t0 t1; slots = List.[] }
+
 abbrev pub T1 : Row.Cx
 T1 = record { locals = List._++_ t2 t1; slots = List.[] }
+
 abbrev pub T2 : Row.Cx
 T2 = record { locals = List._++_ t3 t1; slots = List.[] }
+
 abbrev pub T3 : Row.Cx
 T3 = record { locals = List._++_ t3 t4; slots = List.[] }
+
 abbrev pub T4 : Row.Cx
 T4 = record { locals = List._++_ t3 t5; slots = List.[] }
+
 abbrev pub T5 : Row.Cx
 T5 = record { locals = List._++_ t6 t5; slots = List.[] }
+
 abbrev pub T6 : Row.Cx
 T6 = record { locals = List._++_ t7 t5; slots = List.[] }
+
 abbrev pub T7 : Row.Cx
 T7 = record { locals = List._++_ t7 t8; slots = List.[] }
+
 abbrev pub T8 : Row.Cx
 T8 = record { locals = List._++_ t7 t1; slots = List.[] }
+
 abbrev pub T9 : Row.Cx
 T9 = record { locals = List._++_ t6 t1; slots = List.[] }
+
 abbrev pub T10 : Row.Cx
 T10 = record { locals = List._++_ t9 t1; slots = List.[] }
+
 abbrev pub T11 : Row.Cx
 T11 = record { locals = List._++_ t10 t1; slots = List.[] }
+
 abbrev pub T12 : Row.Cx
 T12 = record { locals = List._++_ t11 t1; slots = List.[] }
+
 abbrev pub T13 : Row.Cx
 T13 = record { locals = List._++_ t12 t1; slots = List.[] }
+
 abbrev pub T14 : Row.Cx
 T14 = record { locals = List._++_ t13 t1; slots = List.[] }
+
 abbrev pub T15 : Row.Cx
 T15 = record { locals = List._++_ t13 t14; slots = List.[] }
+
 abbrev pub T16 : Row.Cx
 T16 = record { locals = List._++_ t15 t1; slots = List.[] }
+
 abbrev pub T17 : Row.Cx
 T17 = record { locals = List._++_ t16 t14; slots = List.[] }
+
 abbrev pub T18 : Row.Cx
 T18 = record { locals = List._++_ t16 t1; slots = List.[] }
+
 abbrev pub T19 : Row.Cx
 T19 = record { locals = List._++_ t17 t1; slots = List.[] }
+
 abbrev pub T20 : Row.Cx
 T20 = record { locals = List._++_ t18 t1; slots = List.[] }
+
 abbrev pub T21 : Row.Cx
 T21 = record { locals = List._++_ t19 t1; slots = List.[] }
+
 abbrev pub T22 : Row.Cx
 T22 = record { locals = List._++_ t20 t1; slots = List.[] }
+
 abbrev pub T23 : Row.Cx
 T23 = record { locals = List._++_ t21 t1; slots = List.[] }
+
 abbrev pub T24 : Row.Cx
 T24 = record { locals = List._++_ t22 t1; slots = List.[] }
+
 abbrev pub T25 : Row.Cx
 T25 = record { locals = List._++_ t2 t1; slots = List.[] }
+
 abbrev pub T26 : Row.Cx
 T26 = record { locals = List._++_ t15 t14; slots = List.[] }
+
 abbrev pub T27 : Row.Cx
 T27 = record { locals = List._++_ t15 t1; slots = List.[] }
+
 abbrev pub T28 : Row.Cx
 T28 = record { locals = List._++_ t23 t1; slots = List.[] }
+
 abbrev pub T29 : Row.Cx
 T29 = record { locals = List._++_ t24 t1; slots = List.[] }
+
 abbrev pub T30 : Row.Cx
 T30 = record { locals = List._++_ t25 t1; slots = List.[] }
+
 abbrev pub T31 : Row.Cx
 T31 = record { locals = List._++_ t26 t1; slots = List.[] }
+
 abbrev pub T32 : Row.Cx
 T32 = record { locals = List._++_ t27 t1; slots = List.[] }
+
 abbrev pub T33 : Row.Cx
 T33 = record { locals = List._++_ t28 t1; slots = List.[] }
+
 abbrev pub T34 : Row.Cx
 T34 = record { locals = List._++_ t29 t1; slots = List.[] }
+
 abbrev pub T35 : Row.Cx
 T35 = record { locals = List._++_ t30 t1; slots = List.[] }
+
 abbrev pub T36 : Row.Cx
 T36 = record { locals = List._++_ t2 t1; slots = List.[] }
+
 abbrev pub O0 : Typed.Outs
 O0 = record { next = Option.none; exits = List.[]; returns = Option.some T1 }
+
 abbrev pub O1 : Typed.Outs
 O1 = Typed.withNext (Option.some T16) O0
+
 module _ (claims· : Claims) where
   abbrev s0 : Typed.Mo T0 → Typed.Mo T2
-  s0 = Scalar.n-use T0 (Scalar.oFld 1 ((Syntax.field 1) ∷ List.[]) (Syntax.tyInt Syntax.w64) 8 Shared.lenV) 15 (Rows'.sc-here (Row.sInt Syntax.w64))
-      (Row.sInt Syntax.w64 .of)
+  s0 = Scalar.n-use T0 (Scalar.oFld 1 ((Syntax.field 1) ∷ List.[]) (Syntax.tyInt Syntax.w64) 8 Shared.lenV) 15
+      (Rows'.sc-here (Row.sInt Syntax.w64)) (Row.sInt Syntax.w64 .of)
+
   abbrev s1 : Typed.Mo T2 → Typed.Mo T3
-  s1 = Scalar.n-use T2 (Scalar.oFld 2 ((Syntax.field 1) ∷ List.[]) (Syntax.tyInt Syntax.w64) 8 Shared.lenV) 16 (Rows'.sc-here (Row.sInt Syntax.w64))
-      (Row.sInt Syntax.w64 .of)
+  s1 = Scalar.n-use T2 (Scalar.oFld 2 ((Syntax.field 1) ∷ List.[]) (Syntax.tyInt Syntax.w64) 8 Shared.lenV) 16
+      (Rows'.sc-here (Row.sInt Syntax.w64)) (Row.sInt Syntax.w64 .of)
+
   abbrev s2 : Typed.Mo T3 → Typed.Mo T4
-  s2 = Scalar.n-use T3 (Scalar.oFld 4 ((Syntax.field 1) ∷ List.[]) (Syntax.tyInt Syntax.w64) 8 Shared.lenV) 17 (Rows'.sc-here (Row.sInt Syntax.w64))
-      (Row.sInt Syntax.w64 .of)
+  s2 = Scalar.n-use T3 (Scalar.oFld 4 ((Syntax.field 1) ∷ List.[]) (Syntax.tyInt Syntax.w64) 8 Shared.lenV) 17
+      (Rows'.sc-here (Row.sInt Syntax.w64)) (Row.sInt Syntax.w64 .of)
+
+  abbrev args3 : Args'.ArgsT ps·0 (T4 .locals)
+  args3 = (
+    record { pos = 7; st = List.[]; d = 0; at = λ x. x },
+    (Num.vAt 15 λ x. x, (Num.vAt 16 λ x. x, (Num.vAt 17 λ x. x, tt))),
+  )
+
   abbrev s3 : Typed.Both T4 T5
-  s3 = Call.callB ps·0 r·0 (claims· .0) (claims· .1) T4 (record { pos = 7; st = List.[]; d = 0; at = λ x. x }, (Num.vAt 15 λ x. x, (Num.vAt 16 λ x. x,
-      (Num.vAt 17 λ x. x, tt))),) 9 List.[] Syntax.tyBool
+  s3 = Call.callB ps·0 r·0 (claims· .0) (claims· .1) T4 args3 9 List.[] Syntax.tyBool
+
   abbrev s4 : Typed.Mo T5 → Typed.Mo T6
   s4 = Scalar.n-room T5 15 (Syntax.tyInt Syntax.w64)
+
   abbrev s5 : Typed.Mo T6 → Typed.Mo T7
   s5 = Scalar.n-room T6 16 (Syntax.tyInt Syntax.w64)
+
   abbrev s6 : Typed.Mo T7 → Typed.Mo T8
   s6 = Scalar.n-room T7 17 (Syntax.tyInt Syntax.w64)
+
   abbrev s7 : Typed.Mo T8 → Typed.Mo T9
-  s7 = Scalar.n-use T8 (Scalar.oFld 3 ((Syntax.field 1) ∷ List.[]) (Syntax.tyInt Syntax.w64) 8 Shared.lenV) 15 (Rows'.sc-here (Row.sInt Syntax.w64))
-      (Row.sInt Syntax.w64 .of)
+  s7 = Scalar.n-use T8 (Scalar.oFld 3 ((Syntax.field 1) ∷ List.[]) (Syntax.tyInt Syntax.w64) 8 Shared.lenV) 15
+      (Rows'.sc-here (Row.sInt Syntax.w64)) (Row.sInt Syntax.w64 .of)
+
+  abbrev args8 : Args'.ArgsT ps·1 (T9 .locals)
+  args8 = (
+    record { pos = 5; st = List.[]; d = 0; at = λ x. x },
+    (
+      Num.vAt 6 λ x. x,
+      (record { pos = 7; st = List.[]; d = 0; at = λ x. x }, (Bool.bAt 9 λ x. x, (Num.vAt 15 λ x. x, tt))),
+    ),
+  )
+
   abbrev s8 : Typed.Both T9 T10
-  s8 = Call.callB ps·1 r·1 (claims· .2) (claims· .3) T9 (record { pos = 5; st = List.[]; d = 0; at = λ x. x }, (Num.vAt 6 λ x. x, (record { pos = 7;
-      st = List.[]; d = 0; at = λ x. x }, (Bool.bAt 9 λ x. x, (Num.vAt 15 λ x. x, tt)),),),) 10 List.[] Laws.mir
+  s8 = Call.callB ps·1 r·1 (claims· .2) (claims· .3) T9 args8 10 List.[] Laws.mir
+
   abbrev s9 : Typed.Mo T10 → Typed.Mo T11
   s9 = Scalar.n-room T10 15 (Syntax.tyInt Syntax.w64)
+
+  abbrev args10 : Args'.ArgsT ps·2 (T11 .locals)
+  args10 = (
+    record { pos = 5; st = List.[]; d = 0; at = λ x. x },
+    (Num.vAt 6 λ x. x, (record { pos = 7; st = List.[]; d = 0; at = λ x. x }, (Num.vAt 8 λ x. x, tt))),
+  )
+
   abbrev s10 : Typed.Both T11 T12
-  s10 = Call.callB ps·2 r·2 (claims· .4) (claims· .5) T11 (record { pos = 5; st = List.[]; d = 0; at = λ x. x }, (Num.vAt 6 λ x. x, (record { pos = 7;
-      st = List.[]; d = 0; at = λ x. x }, (Num.vAt 8 λ x. x, tt)),),) 11 List.[] Laws'''.mir
+  s10 = Call.callB ps·2 r·2 (claims· .4) (claims· .5) T11 args10 11 List.[] Laws'''.mir
+
   abbrev s11 : Typed.Mo T12 → Typed.Mo T13
   s11 = Scalar.n-room T12 5 (Syntax.tyArray (Syntax.tyInt Syntax.w8) 16)
+
   abbrev s12 : Typed.Mo T13 → Typed.Mo T14
   s12 = Scalar.n-room T13 7 Laws'.mir
+
+  abbrev args13 : Args'.ArgsT ps·3 (T14 .locals)
+  args13 = (record { pos = 10; st = List.[]; d = 0; at = λ x. x }, tt)
+
   abbrev s13 : Typed.Both T14 T15
-  s13 = Call.callB ps·3 r·3 (claims· .6) (claims· .7) T14 (record { pos = 10; st = List.[]; d = 0; at = λ x. x }, tt,) 18 List.[] Syntax.tyBool
+  s13 = Call.callB ps·3 r·3 (claims· .6) (claims· .7) T14 args13 18 List.[] Syntax.tyBool
+
   abbrev s14 : Typed.Mo T15 → Typed.Mo T17
   s14 = Scalar.n-room T15 10 Laws.mir
+
   abbrev s15 : Typed.Mo T17 → Typed.Mo T18
   s15 = Scalar.n-room T17 18 Syntax.tyBool
+
   abbrev s16 : Typed.Both T18 T19
   s16 = Call.callB ps·4 r·4 (claims· .8) (claims· .9) T18 tt 12 List.[] Laws''.mir
+
+  abbrev args17 : Args'.ArgsT ps·5 (T19 .locals)
+  args17 = (
+    record { pos = 11; st = List.[]; d = 0; at = λ x. x },
+    (record { pos = 12; st = List.[]; d = 0; at = λ x. x }, tt),
+  )
+
   abbrev s17 : Typed.Both T19 T20
-  s17 = Call.callB ps·5 r·5 (claims· .10) (claims· .11) T19 (record { pos = 11; st = List.[]; d = 0; at = λ x. x }, (record { pos = 12; st = List.[];
-      d = 0; at = λ x. x }, tt),) 0 List.[] Laws''''.mir
+  s17 = Call.callB ps·5 r·5 (claims· .10) (claims· .11) T19 args17 0 List.[] Laws''''.mir
+
   abbrev s18 : Typed.Mo T20 → Typed.Mo T21
   s18 = Scalar.n-room T20 11 Laws'''.mir
+
   abbrev s19 : Typed.Mo T21 → Typed.Mo T22
   s19 = Scalar.n-room T21 12 Laws''.mir
+
   abbrev s20 : Typed.Mo T22 → Typed.Mo T23
   s20 = Scalar.n-room T22 6 (Syntax.tyInt Syntax.w64)
+
   abbrev s21 : Typed.Mo T23 → Typed.Mo T24
   s21 = Scalar.n-room T23 8 (Syntax.tyInt Syntax.w64)
+
   abbrev s22 : Typed.Mo T24 → Typed.Mo T25
   s22 = Scalar.n-room T24 9 Syntax.tyBool
+
   abbrev s23 : Typed.Mo T15 → Typed.Mo T26
   s23 = Scalar.n-room T15 11 Laws'''.mir
+
   abbrev s24 : Typed.Mo T26 → Typed.Mo T27
   s24 = Scalar.n-room T26 18 Syntax.tyBool
+
   abbrev s25 : Typed.Both T16 T28
   s25 = Call.callB ps·6 r·6 (claims· .12) (claims· .13) T16 tt 13 List.[] Laws'''.mir
+
   abbrev s26 : Typed.Both T28 T29
   s26 = Call.callB ps·7 r·7 (claims· .14) (claims· .15) T28 tt 14 List.[] Laws''.mir
+
+  abbrev args27 : Args'.ArgsT ps·8 (T29 .locals)
+  args27 = (
+    record { pos = 13; st = List.[]; d = 0; at = λ x. x },
+    (
+      record { pos = 14; st = List.[]; d = 0; at = λ x. x },
+      (record { pos = 10; st = List.[]; d = 0; at = λ x. x }, tt),
+    ),
+  )
+
   abbrev s27 : Typed.Both T29 T30
-  s27 = Call.callB ps·8 r·8 (claims· .16) (claims· .17) T29 (record { pos = 13; st = List.[]; d = 0; at = λ x. x }, (record { pos = 14; st = List.[];
-      d = 0; at = λ x. x }, (record { pos = 10; st = List.[]; d = 0; at = λ x. x }, tt),),) 0 List.[] Laws''''.mir
+  s27 = Call.callB ps·8 r·8 (claims· .16) (claims· .17) T29 args27 0 List.[] Laws''''.mir
+
   abbrev s28 : Typed.Mo T30 → Typed.Mo T31
   s28 = Scalar.n-room T30 9 Syntax.tyBool
+
   abbrev s29 : Typed.Mo T31 → Typed.Mo T32
   s29 = Scalar.n-room T31 10 Laws.mir
+
   abbrev s30 : Typed.Mo T32 → Typed.Mo T33
   s30 = Scalar.n-room T32 13 Laws'''.mir
+
   abbrev s31 : Typed.Mo T33 → Typed.Mo T34
   s31 = Scalar.n-room T33 14 Laws''.mir
+
   abbrev s32 : Typed.Mo T34 → Typed.Mo T35
   s32 = Scalar.n-room T34 6 (Syntax.tyInt Syntax.w64)
+
   abbrev s33 : Typed.Mo T35 → Typed.Mo T36
   s33 = Scalar.n-room T35 8 (Syntax.tyInt Syntax.w64)
-  module _ (Pre· : (κs : Lifetimes.Lfts 4) → Kinds.Dens κs ps → Type 0) (Post· : (κs : Lifetimes.Lfts 4) → (a : Kinds.Dens κs ps) → Kinds.Plain 4 ps r
-      κs) where
+
+  module _ (Pre· : (κs : Lifetimes.Lfts 4) → Kinds.Dens κs ps → Type 0) (Post· : (κs : Lifetimes.Lfts 4) →
+      (a : Kinds.Dens κs ps) → Kinds.Plain 4 ps r κs) where
     module _ (M : Type 1) where
       abbrev pub Closed : Type 2
-      Closed = (𝓤 : URA.URA M) (H : Wp.Heap 𝓤) (A : Atoms.Atoms 𝓤) (W : Kit.Given 𝓤 H A) (𝓣 : Wp.Tables 𝓤 H) (known0 : Plain.Known 𝓤 H A W 𝓣 0 ps·0
-          r·0 (claims· .0) (claims· .1) "hnsr_circuit::entry::too_few") (known1 : Plain.Known 𝓤 H A W 𝓣 0 ps·1 r·1 (claims· .2) (claims· .3)
-          "hnsr_circuit::calls::new_answer") (known2 : Plain.Known 𝓤 H A W 𝓣 0 ps·2 r·2 (claims· .4) (claims· .5) "hnsr_circuit::header::new_header")
-          (known3 : Plain.Known 𝓤 H A W 𝓣 0 ps·3 r·3 (claims· .6) (claims· .7) "hnsr_circuit::answer::is_taken") (known4 : Plain.Known 𝓤 H A W 𝓣 0
-          ps·4 r·4 (claims· .8) (claims· .9) "hnsr_circuit::places::no_place") (known5 : Plain.Known 𝓤 H A W 𝓣 0 ps·5 r·5 (claims· .10) (claims· .11)
-          "hnsr_circuit::revoking_calls::taken_with") (known6 : Plain.Known 𝓤 H A W 𝓣 0 ps·6 r·6 (claims· .12) (claims· .13)
-          "hnsr_circuit::header::no_runtime") (known7 : Plain.Known 𝓤 H A W 𝓣 0 ps·7 r·7 (claims· .14) (claims· .15)
-          "hnsr_circuit::places::every_place") (known8 : Plain.Known 𝓤 H A W 𝓣 0 ps·8 r·8 (claims· .16) (claims· .17)
-          "hnsr_circuit::revoking_calls::refused") → Statement.Triple 𝓤 (Wp.WpFn 𝓤 H (𝓣 .C) (𝓣 .Λ) (Function.fnOf 4 ps r xs m hs body))
+      Closed = (𝓤 : URA.URA M) (H : Wp.Heap 𝓤) (A : Atoms.Atoms 𝓤) (W : Kit.Given 𝓤 H A) (𝓣 : Wp.Tables 𝓤 H) (known0 :
+          Plain.Known 𝓤 H A W 𝓣 0 ps·0 r·0 (claims· .0) (claims· .1) "hnsr_circuit::entry::too_few") (known1 :
+          Plain.Known 𝓤 H A W 𝓣 0 ps·1 r·1 (claims· .2) (claims· .3) "hnsr_circuit::calls::new_answer") (known2 :
+          Plain.Known 𝓤 H A W 𝓣 0 ps·2 r·2 (claims· .4) (claims· .5) "hnsr_circuit::header::new_header") (known3 :
+          Plain.Known 𝓤 H A W 𝓣 0 ps·3 r·3 (claims· .6) (claims· .7) "hnsr_circuit::answer::is_taken") (known4 :
+          Plain.Known 𝓤 H A W 𝓣 0 ps·4 r·4 (claims· .8) (claims· .9) "hnsr_circuit::places::no_place") (known5 :
+          Plain.Known 𝓤 H A W 𝓣 0 ps·5 r·5 (claims· .10) (claims· .11) "hnsr_circuit::revoking_calls::taken_with") (known6
+          : Plain.Known 𝓤 H A W 𝓣 0 ps·6 r·6 (claims· .12) (claims· .13) "hnsr_circuit::header::no_runtime") (known7 :
+          Plain.Known 𝓤 H A W 𝓣 0 ps·7 r·7 (claims· .14) (claims· .15) "hnsr_circuit::places::every_place") (known8 :
+          Plain.Known 𝓤 H A W 𝓣 0 ps·8 r·8 (claims· .16) (claims· .17) "hnsr_circuit::revoking_calls::refused") →
+          Statement.Triple 𝓤 (Wp.WpFn 𝓤 H (𝓣 .C) (𝓣 .Λ) (Function.fnOf 4 ps r xs m hs body))
           (Function.plainOf 𝓤 H A 4 ps r Pre· Post·)
+
     module _ where
       abbrev at0 : Typed.TF T25 O1
       at0 = Typed.atRet O1
+
       abbrev at1 : Typed.TF T24 O1
       at1 = λ Ψ. Typed.pass T24 T25 s22 (at0 Ψ)
+
       abbrev at2 : Typed.TF T23 O1
       at2 = λ Ψ. Typed.pass T23 T24 s21 (at1 Ψ)
+
       abbrev at3 : Typed.TF T22 O1
       at3 = λ Ψ. Typed.pass T22 T23 s20 (at2 Ψ)
+
       abbrev at4 : Typed.TF T21 O1
       at4 = λ Ψ. Typed.pass T21 T22 s19 (at3 Ψ)
+
       abbrev at5 : Typed.TF T20 O1
       at5 = λ Ψ. Typed.pass T20 T21 s18 (at4 Ψ)
+
       abbrev at6 : Typed.TF T19 O1
       at6 = λ Ψ. Typed.both s17 (at5 Ψ)
+
       abbrev at7 : Typed.TF T18 O1
       at7 = λ Ψ. Typed.both s16 (at6 Ψ)
+
       abbrev at8 : Typed.TF T17 O1
       at8 = λ Ψ. Typed.pass T17 T18 s15 (at7 Ψ)
+
       abbrev at9 : Typed.TF T15 O1
       at9 = λ Ψ. Typed.pass T15 T17 s14 (at8 Ψ)
+
       abbrev at10 : Typed.TF T27 O1
       at10 = Typed.atNext O1
+
       abbrev at11 : Typed.TF T26 O1
       at11 = λ Ψ. Typed.pass T26 T27 s24 (at10 Ψ)
+
       abbrev at12 : Typed.TF T15 O1
       at12 = λ Ψ. Typed.pass T15 T26 s23 (at11 Ψ)
+
       abbrev at13 : Typed.TF T15 O1
       at13 = Scalar.Φcond T15 O1 18 (λ x. x) at9 at12
+
       abbrev at14 : Typed.TF T36 O0
       at14 = Typed.atRet O0
+
       abbrev at15 : Typed.TF T35 O0
       at15 = λ Ψ. Typed.pass T35 T36 s33 (at14 Ψ)
+
       abbrev at16 : Typed.TF T34 O0
       at16 = λ Ψ. Typed.pass T34 T35 s32 (at15 Ψ)
+
       abbrev at17 : Typed.TF T33 O0
       at17 = λ Ψ. Typed.pass T33 T34 s31 (at16 Ψ)
+
       abbrev at18 : Typed.TF T32 O0
       at18 = λ Ψ. Typed.pass T32 T33 s30 (at17 Ψ)
+
       abbrev at19 : Typed.TF T31 O0
       at19 = λ Ψ. Typed.pass T31 T32 s29 (at18 Ψ)
+
       abbrev at20 : Typed.TF T30 O0
       at20 = λ Ψ. Typed.pass T30 T31 s28 (at19 Ψ)
+
       abbrev at21 : Typed.TF T29 O0
       at21 = λ Ψ. Typed.both s27 (at20 Ψ)
+
       abbrev at22 : Typed.TF T28 O0
       at22 = λ Ψ. Typed.both s26 (at21 Ψ)
+
       abbrev at23 : Typed.TF T16 O0
       at23 = λ Ψ. Typed.both s25 (at22 Ψ)
+
       abbrev at24 : Typed.TF T15 O0
       at24 = λ Ψ. at13 (Typed.wantNext T16 O0 (at23 Ψ) Ψ)
+
       abbrev at25 : Typed.TF T14 O0
       at25 = λ Ψ. Typed.both s13 (at24 Ψ)
+
       abbrev at26 : Typed.TF T13 O0
       at26 = λ Ψ. Typed.pass T13 T14 s12 (at25 Ψ)
+
       abbrev at27 : Typed.TF T12 O0
       at27 = λ Ψ. Typed.pass T12 T13 s11 (at26 Ψ)
+
       abbrev at28 : Typed.TF T11 O0
       at28 = λ Ψ. Typed.both s10 (at27 Ψ)
+
       abbrev at29 : Typed.TF T10 O0
       at29 = λ Ψ. Typed.pass T10 T11 s9 (at28 Ψ)
+
       abbrev at30 : Typed.TF T9 O0
       at30 = λ Ψ. Typed.both s8 (at29 Ψ)
+
       abbrev at31 : Typed.TF T8 O0
       at31 = λ Ψ. Typed.pass T8 T9 s7 (at30 Ψ)
+
       abbrev at32 : Typed.TF T7 O0
       at32 = λ Ψ. Typed.pass T7 T8 s6 (at31 Ψ)
+
       abbrev at33 : Typed.TF T6 O0
       at33 = λ Ψ. Typed.pass T6 T7 s5 (at32 Ψ)
+
       abbrev at34 : Typed.TF T5 O0
       at34 = λ Ψ. Typed.pass T5 T6 s4 (at33 Ψ)
+
       abbrev at35 : Typed.TF T4 O0
       at35 = λ Ψ. Typed.both s3 (at34 Ψ)
+
       abbrev at36 : Typed.TF T3 O0
       at36 = λ Ψ. Typed.pass T3 T4 s2 (at35 Ψ)
+
       abbrev at37 : Typed.TF T2 O0
       at37 = λ Ψ. Typed.pass T2 T3 s1 (at36 Ψ)
+
       abbrev at38 : Typed.TF T0 O0
       at38 = λ Ψ. Typed.pass T0 T2 s0 (at37 Ψ)
+
       abbrev pub Φ : Typed.TF T0 O0
       Φ = at38
-      module _ { M : Type 1 } (𝓤 : URA.URA M) (H : Wp.Heap 𝓤) (A : Atoms.Atoms 𝓤) (W : Kit.Given 𝓤 H A) (𝓣 : Wp.Tables 𝓤 H) where
+
+      module _ {M : Type 1} (𝓤 : URA.URA M) (H : Wp.Heap 𝓤) (A : Atoms.Atoms 𝓤) (W : Kit.Given 𝓤 H A)
+          (𝓣 : Wp.Tables 𝓤 H) where
         abbrev Knowns : Type 1
-        Knowns = Plain.Known 𝓤 H A W 𝓣 0 ps·0 r·0 (claims· .0) (claims· .1) "hnsr_circuit::entry::too_few" × Plain.Known 𝓤 H A W 𝓣 0 ps·1 r·1 (claims·
-            .2) (claims· .3) "hnsr_circuit::calls::new_answer" × Plain.Known 𝓤 H A W 𝓣 0 ps·2 r·2 (claims· .4) (claims· .5)
-            "hnsr_circuit::header::new_header" × Plain.Known 𝓤 H A W 𝓣 0 ps·3 r·3 (claims· .6) (claims· .7) "hnsr_circuit::answer::is_taken" ×
-            Plain.Known 𝓤 H A W 𝓣 0 ps·4 r·4 (claims· .8) (claims· .9) "hnsr_circuit::places::no_place" × Plain.Known 𝓤 H A W 𝓣 0 ps·5 r·5 (claims·
-            .10) (claims· .11) "hnsr_circuit::revoking_calls::taken_with" × Plain.Known 𝓤 H A W 𝓣 0 ps·6 r·6 (claims· .12) (claims· .13)
-            "hnsr_circuit::header::no_runtime" × Plain.Known 𝓤 H A W 𝓣 0 ps·7 r·7 (claims· .14) (claims· .15) "hnsr_circuit::places::every_place" ×
-            Plain.Known 𝓤 H A W 𝓣 0 ps·8 r·8 (claims· .16) (claims· .17) "hnsr_circuit::revoking_calls::refused"
+        Knowns = Plain.Known 𝓤 H A W 𝓣 0 ps·0 r·0 (claims· .0) (claims· .1) "hnsr_circuit::entry::too_few" ×
+            Plain.Known 𝓤 H A W 𝓣 0 ps·1 r·1 (claims· .2) (claims· .3) "hnsr_circuit::calls::new_answer" × Plain.Known
+            𝓤 H A W 𝓣 0 ps·2 r·2 (claims· .4) (claims· .5) "hnsr_circuit::header::new_header" × Plain.Known 𝓤 H A W 𝓣 0
+            ps·3 r·3 (claims· .6) (claims· .7) "hnsr_circuit::answer::is_taken" × Plain.Known 𝓤 H A W 𝓣 0 ps·4 r·4
+            (claims· .8) (claims· .9) "hnsr_circuit::places::no_place" × Plain.Known 𝓤 H A W 𝓣 0 ps·5 r·5 (claims· .10)
+            (claims· .11) "hnsr_circuit::revoking_calls::taken_with" × Plain.Known 𝓤 H A W 𝓣 0 ps·6 r·6 (claims· .12)
+            (claims· .13) "hnsr_circuit::header::no_runtime" × Plain.Known 𝓤 H A W 𝓣 0 ps·7 r·7 (claims· .14)
+            (claims· .15) "hnsr_circuit::places::every_place" × Plain.Known 𝓤 H A W 𝓣 0 ps·8 r·8 (claims· .16)
+            (claims· .17) "hnsr_circuit::revoking_calls::refused"
+
       module _ (κs : Lifetimes.Lfts 4) (qs : Lifetimes.Shares 4) where
         abbrev life0 : Row.Life
         life0 = Row.lease (κs .0) (qs .0)
+
         abbrev life1 : Row.Life
         life1 = Row.lease (κs .1 .0) (qs .1 .0)
+
         abbrev life2 : Row.Life
         life2 = Row.lease (κs .1 .1 .0) (qs .1 .1 .0)
+
         abbrev life3 : Row.Life
         life3 = Row.lease (κs .1 .1 .1 .0) (qs .1 .1 .1 .0)
+
         abbrev G0 : Row.Cx
-        G0 = record { locals = List._++_ t0 t1; slots = life0 ∷ life1 ∷ life2 ∷ life3 ∷ List.[]; }
+        G0 = record { locals = List._++_ t0 t1; slots = life0 ∷ life1 ∷ life2 ∷ life3 ∷ List.[] }
+
         abbrev G1 : Row.Cx
-        G1 = record { locals = List._++_ t2 t1; slots = life0 ∷ life1 ∷ life2 ∷ life3 ∷ List.[]; }
+        G1 = record { locals = List._++_ t2 t1; slots = life0 ∷ life1 ∷ life2 ∷ life3 ∷ List.[] }
+
         abbrev G2 : Row.Cx
-        G2 = record { locals = List._++_ t3 t1; slots = life0 ∷ life1 ∷ life2 ∷ life3 ∷ List.[]; }
+        G2 = record { locals = List._++_ t3 t1; slots = life0 ∷ life1 ∷ life2 ∷ life3 ∷ List.[] }
+
         abbrev G3 : Row.Cx
-        G3 = record { locals = List._++_ t3 t4; slots = life0 ∷ life1 ∷ life2 ∷ life3 ∷ List.[]; }
+        G3 = record { locals = List._++_ t3 t4; slots = life0 ∷ life1 ∷ life2 ∷ life3 ∷ List.[] }
+
         abbrev G4 : Row.Cx
-        G4 = record { locals = List._++_ t3 t5; slots = life0 ∷ life1 ∷ life2 ∷ life3 ∷ List.[]; }
+        G4 = record { locals = List._++_ t3 t5; slots = life0 ∷ life1 ∷ life2 ∷ life3 ∷ List.[] }
+
         abbrev G5 : Row.Cx
-        G5 = record { locals = List._++_ t6 t5; slots = life0 ∷ life1 ∷ life2 ∷ life3 ∷ List.[]; }
+        G5 = record { locals = List._++_ t6 t5; slots = life0 ∷ life1 ∷ life2 ∷ life3 ∷ List.[] }
+
         abbrev G6 : Row.Cx
-        G6 = record { locals = List._++_ t7 t5; slots = life0 ∷ life1 ∷ life2 ∷ life3 ∷ List.[]; }
+        G6 = record { locals = List._++_ t7 t5; slots = life0 ∷ life1 ∷ life2 ∷ life3 ∷ List.[] }
+
         abbrev G7 : Row.Cx
-        G7 = record { locals = List._++_ t7 t8; slots = life0 ∷ life1 ∷ life2 ∷ life3 ∷ List.[]; }
+        G7 = record { locals = List._++_ t7 t8; slots = life0 ∷ life1 ∷ life2 ∷ life3 ∷ List.[] }
+
         abbrev G8 : Row.Cx
-        G8 = record { locals = List._++_ t7 t1; slots = life0 ∷ life1 ∷ life2 ∷ life3 ∷ List.[]; }
+        G8 = record { locals = List._++_ t7 t1; slots = life0 ∷ life1 ∷ life2 ∷ life3 ∷ List.[] }
+
         abbrev G9 : Row.Cx
-        G9 = record { locals = List._++_ t6 t1; slots = life0 ∷ life1 ∷ life2 ∷ life3 ∷ List.[]; }
+        G9 = record { locals = List._++_ t6 t1; slots = life0 ∷ life1 ∷ life2 ∷ life3 ∷ List.[] }
+
         abbrev G10 : Row.Cx
-        G10 = record { locals = List._++_ t9 t1; slots = life0 ∷ life1 ∷ life2 ∷ life3 ∷ List.[]; }
+        G10 = record { locals = List._++_ t9 t1; slots = life0 ∷ life1 ∷ life2 ∷ life3 ∷ List.[] }
+
         abbrev G11 : Row.Cx
-        G11 = record { locals = List._++_ t10 t1; slots = life0 ∷ life1 ∷ life2 ∷ life3 ∷ List.[]; }
+        G11 = record { locals = List._++_ t10 t1; slots = life0 ∷ life1 ∷ life2 ∷ life3 ∷ List.[] }
+
         abbrev G12 : Row.Cx
-        G12 = record { locals = List._++_ t11 t1; slots = life0 ∷ life1 ∷ life2 ∷ life3 ∷ List.[]; }
+        G12 = record { locals = List._++_ t11 t1; slots = life0 ∷ life1 ∷ life2 ∷ life3 ∷ List.[] }
+
         abbrev G13 : Row.Cx
-        G13 = record { locals = List._++_ t12 t1; slots = life0 ∷ life1 ∷ life2 ∷ life3 ∷ List.[]; }
+        G13 = record { locals = List._++_ t12 t1; slots = life0 ∷ life1 ∷ life2 ∷ life3 ∷ List.[] }
+
         abbrev G14 : Row.Cx
-        G14 = record { locals = List._++_ t13 t1; slots = life0 ∷ life1 ∷ life2 ∷ life3 ∷ List.[]; }
+        G14 = record { locals = List._++_ t13 t1; slots = life0 ∷ life1 ∷ life2 ∷ life3 ∷ List.[] }
+
         abbrev G15 : Row.Cx
-        G15 = record { locals = List._++_ t13 t14; slots = life0 ∷ life1 ∷ life2 ∷ life3 ∷ List.[]; }
+        G15 = record { locals = List._++_ t13 t14; slots = life0 ∷ life1 ∷ life2 ∷ life3 ∷ List.[] }
+
         abbrev G16 : Row.Cx
-        G16 = record { locals = List._++_ t15 t1; slots = life0 ∷ life1 ∷ life2 ∷ life3 ∷ List.[]; }
+        G16 = record { locals = List._++_ t15 t1; slots = life0 ∷ life1 ∷ life2 ∷ life3 ∷ List.[] }
+
         abbrev G17 : Row.Cx
-        G17 = record { locals = List._++_ t16 t14; slots = life0 ∷ life1 ∷ life2 ∷ life3 ∷ List.[]; }
+        G17 = record { locals = List._++_ t16 t14; slots = life0 ∷ life1 ∷ life2 ∷ life3 ∷ List.[] }
+
         abbrev G18 : Row.Cx
-        G18 = record { locals = List._++_ t16 t1; slots = life0 ∷ life1 ∷ life2 ∷ life3 ∷ List.[]; }
+        G18 = record { locals = List._++_ t16 t1; slots = life0 ∷ life1 ∷ life2 ∷ life3 ∷ List.[] }
+
         abbrev G19 : Row.Cx
-        G19 = record { locals = List._++_ t17 t1; slots = life0 ∷ life1 ∷ life2 ∷ life3 ∷ List.[]; }
+        G19 = record { locals = List._++_ t17 t1; slots = life0 ∷ life1 ∷ life2 ∷ life3 ∷ List.[] }
+
         abbrev G20 : Row.Cx
-        G20 = record { locals = List._++_ t18 t1; slots = life0 ∷ life1 ∷ life2 ∷ life3 ∷ List.[]; }
+        G20 = record { locals = List._++_ t18 t1; slots = life0 ∷ life1 ∷ life2 ∷ life3 ∷ List.[] }
+
         abbrev G21 : Row.Cx
-        G21 = record { locals = List._++_ t19 t1; slots = life0 ∷ life1 ∷ life2 ∷ life3 ∷ List.[]; }
+        G21 = record { locals = List._++_ t19 t1; slots = life0 ∷ life1 ∷ life2 ∷ life3 ∷ List.[] }
+
         abbrev G22 : Row.Cx
-        G22 = record { locals = List._++_ t20 t1; slots = life0 ∷ life1 ∷ life2 ∷ life3 ∷ List.[]; }
+        G22 = record { locals = List._++_ t20 t1; slots = life0 ∷ life1 ∷ life2 ∷ life3 ∷ List.[] }
+
         abbrev G23 : Row.Cx
-        G23 = record { locals = List._++_ t21 t1; slots = life0 ∷ life1 ∷ life2 ∷ life3 ∷ List.[]; }
+        G23 = record { locals = List._++_ t21 t1; slots = life0 ∷ life1 ∷ life2 ∷ life3 ∷ List.[] }
+
         abbrev G24 : Row.Cx
-        G24 = record { locals = List._++_ t22 t1; slots = life0 ∷ life1 ∷ life2 ∷ life3 ∷ List.[]; }
+        G24 = record { locals = List._++_ t22 t1; slots = life0 ∷ life1 ∷ life2 ∷ life3 ∷ List.[] }
+
         abbrev G25 : Row.Cx
-        G25 = record { locals = List._++_ t2 t1; slots = life0 ∷ life1 ∷ life2 ∷ life3 ∷ List.[]; }
+        G25 = record { locals = List._++_ t2 t1; slots = life0 ∷ life1 ∷ life2 ∷ life3 ∷ List.[] }
+
         abbrev G26 : Row.Cx
-        G26 = record { locals = List._++_ t15 t14; slots = life0 ∷ life1 ∷ life2 ∷ life3 ∷ List.[]; }
+        G26 = record { locals = List._++_ t15 t14; slots = life0 ∷ life1 ∷ life2 ∷ life3 ∷ List.[] }
+
         abbrev G27 : Row.Cx
-        G27 = record { locals = List._++_ t15 t1; slots = life0 ∷ life1 ∷ life2 ∷ life3 ∷ List.[]; }
+        G27 = record { locals = List._++_ t15 t1; slots = life0 ∷ life1 ∷ life2 ∷ life3 ∷ List.[] }
+
         abbrev G28 : Row.Cx
-        G28 = record { locals = List._++_ t23 t1; slots = life0 ∷ life1 ∷ life2 ∷ life3 ∷ List.[]; }
+        G28 = record { locals = List._++_ t23 t1; slots = life0 ∷ life1 ∷ life2 ∷ life3 ∷ List.[] }
+
         abbrev G29 : Row.Cx
-        G29 = record { locals = List._++_ t24 t1; slots = life0 ∷ life1 ∷ life2 ∷ life3 ∷ List.[]; }
+        G29 = record { locals = List._++_ t24 t1; slots = life0 ∷ life1 ∷ life2 ∷ life3 ∷ List.[] }
+
         abbrev G30 : Row.Cx
-        G30 = record { locals = List._++_ t25 t1; slots = life0 ∷ life1 ∷ life2 ∷ life3 ∷ List.[]; }
+        G30 = record { locals = List._++_ t25 t1; slots = life0 ∷ life1 ∷ life2 ∷ life3 ∷ List.[] }
+
         abbrev G31 : Row.Cx
-        G31 = record { locals = List._++_ t26 t1; slots = life0 ∷ life1 ∷ life2 ∷ life3 ∷ List.[]; }
+        G31 = record { locals = List._++_ t26 t1; slots = life0 ∷ life1 ∷ life2 ∷ life3 ∷ List.[] }
+
         abbrev G32 : Row.Cx
-        G32 = record { locals = List._++_ t27 t1; slots = life0 ∷ life1 ∷ life2 ∷ life3 ∷ List.[]; }
+        G32 = record { locals = List._++_ t27 t1; slots = life0 ∷ life1 ∷ life2 ∷ life3 ∷ List.[] }
+
         abbrev G33 : Row.Cx
-        G33 = record { locals = List._++_ t28 t1; slots = life0 ∷ life1 ∷ life2 ∷ life3 ∷ List.[]; }
+        G33 = record { locals = List._++_ t28 t1; slots = life0 ∷ life1 ∷ life2 ∷ life3 ∷ List.[] }
+
         abbrev G34 : Row.Cx
-        G34 = record { locals = List._++_ t29 t1; slots = life0 ∷ life1 ∷ life2 ∷ life3 ∷ List.[]; }
+        G34 = record { locals = List._++_ t29 t1; slots = life0 ∷ life1 ∷ life2 ∷ life3 ∷ List.[] }
+
         abbrev G35 : Row.Cx
-        G35 = record { locals = List._++_ t30 t1; slots = life0 ∷ life1 ∷ life2 ∷ life3 ∷ List.[]; }
+        G35 = record { locals = List._++_ t30 t1; slots = life0 ∷ life1 ∷ life2 ∷ life3 ∷ List.[] }
+
         abbrev G36 : Row.Cx
-        G36 = record { locals = List._++_ t2 t1; slots = life0 ∷ life1 ∷ life2 ∷ life3 ∷ List.[]; }
+        G36 = record { locals = List._++_ t2 t1; slots = life0 ∷ life1 ∷ life2 ∷ life3 ∷ List.[] }
+
         abbrev Δ0 : Typed.Outs
         Δ0 = record { next = Option.none; exits = List.[]; returns = Option.some G1 }
+
         abbrev Δ1 : Typed.Outs
         Δ1 = Typed.withNext (Option.some G16) Δ0
-        module _ { M : Type 1 } (𝓤 : URA.URA M) (H : Wp.Heap 𝓤) (A : Atoms.Atoms 𝓤) (W : Kit.Given 𝓤 H A) (𝓣 : Wp.Tables 𝓤 H) (known : Knowns 𝓤 H A W
-            𝓣) (bs : List.List Nat.ℕ) (bd : Lifetimes.AllOutlive 4 (Kinds.osR r) κs) where
+
+        module _ {M : Type 1} (𝓤 : URA.URA M) (H : Wp.Heap 𝓤) (A : Atoms.Atoms 𝓤) (W : Kit.Given 𝓤 H A)
+            (𝓣 : Wp.Tables 𝓤 H) (known : Knowns 𝓤 H A W 𝓣) (bs : List.List Nat.ℕ)
+            (bd : Lifetimes.AllOutlive 4 (Kinds.osR r) κs) where
           abbrev E : Wp.Env 𝓤 H
           E = Frame.EnvOf 𝓤 H ((Kinds.tyR r) ∷ (Enter.tysP ps xs)) bs
+
           d0 : Typed.Typed 𝓤 H A 𝓣 E G25 b10 Δ1 at0
           d0 = Typed.t-return 𝓤 H A W 𝓣 E Δ1 tt
+
           d1 : Typed.Typed 𝓤 H A 𝓣 E G24 b10 Δ1 at1
-          d1 = Typed.g-pre 𝓤 H A W 𝓣 E G24 G25 b10 Δ1 (Typed.pass T24 T25 s22) at0 (Scalar.g-room 𝓤 H A W E G24 9 Syntax.tyBool (Scalar.room-sc 𝓤 H A
-              W Row.sBool)) d0
+          d1 = Typed.g-pre 𝓤 H A W 𝓣 E G24 G25 b10 Δ1 (Typed.pass T24 T25 s22) at0 (Scalar.g-room 𝓤 H A W E G24 9
+              Syntax.tyBool (Scalar.room-sc 𝓤 H A W Row.sBool)) d0
+
           d2 : Typed.Typed 𝓤 H A 𝓣 E G23 b10 Δ1 at2
-          d2 = Typed.g-pre 𝓤 H A W 𝓣 E G23 G24 b10 Δ1 (Typed.pass T23 T24 s21) at1 (Scalar.g-room 𝓤 H A W E G23 8 (Syntax.tyInt Syntax.w64)
-              (Scalar.room-sc 𝓤 H A W (Row.sInt Syntax.w64))) d1
+          d2 = Typed.g-pre 𝓤 H A W 𝓣 E G23 G24 b10 Δ1 (Typed.pass T23 T24 s21) at1 (Scalar.g-room 𝓤 H A W E G23 8
+              (Syntax.tyInt Syntax.w64) (Scalar.room-sc 𝓤 H A W (Row.sInt Syntax.w64))) d1
+
           d3 : Typed.Typed 𝓤 H A 𝓣 E G22 b10 Δ1 at3
-          d3 = Typed.g-pre 𝓤 H A W 𝓣 E G22 G23 b10 Δ1 (Typed.pass T22 T23 s20) at2 (Scalar.g-room 𝓤 H A W E G22 6 (Syntax.tyInt Syntax.w64)
-              (Scalar.room-sc 𝓤 H A W (Row.sInt Syntax.w64))) d2
+          d3 = Typed.g-pre 𝓤 H A W 𝓣 E G22 G23 b10 Δ1 (Typed.pass T22 T23 s20) at2 (Scalar.g-room 𝓤 H A W E G22 6
+              (Syntax.tyInt Syntax.w64) (Scalar.room-sc 𝓤 H A W (Row.sInt Syntax.w64))) d2
+
           d4 : Typed.Typed 𝓤 H A 𝓣 E G21 b10 Δ1 at4
-          d4 = Typed.g-pre 𝓤 H A W 𝓣 E G21 G22 b10 Δ1 (Typed.pass T21 T22 s19) at3 (Scalar.g-room 𝓤 H A W E G21 12 Laws''.mir (Local.room-whole 𝓤 H A
-              W (Declared'.row Places.the-type) Laws''.mir Path.refl)) d3
+          d4 = Typed.g-pre 𝓤 H A W 𝓣 E G21 G22 b10 Δ1 (Typed.pass T21 T22 s19) at3 (Scalar.g-room 𝓤 H A W E G21 12
+              Laws''.mir (Local.room-whole 𝓤 H A W (Declared'.row Places.the-type) Laws''.mir Path.refl)) d3
+
           d5 : Typed.Typed 𝓤 H A 𝓣 E G20 b10 Δ1 at5
-          d5 = Typed.g-pre 𝓤 H A W 𝓣 E G20 G21 b10 Δ1 (Typed.pass T20 T21 s18) at4 (Scalar.g-room 𝓤 H A W E G20 11 Laws'''.mir (Local.room-whole 𝓤 H A
-              W (Declared'.row OpaqueRelayRuntime.the-type) Laws'''.mir Path.refl)) d4
+          d5 = Typed.g-pre 𝓤 H A W 𝓣 E G20 G21 b10 Δ1 (Typed.pass T20 T21 s18) at4 (Scalar.g-room 𝓤 H A W E G20 11
+              Laws'''.mir (Local.room-whole 𝓤 H A W (Declared'.row OpaqueRelayRuntime.the-type) Laws'''.mir Path.refl))
+              d4
+
           d6 : Typed.Typed 𝓤 H A 𝓣 E G19 b11 Δ1 at6
-          d6 = Typed.s-seq 𝓤 H A W 𝓣 E G19 G20 b9 b10 Δ1 (Typed.both s17) at5 (Plain.t-call-plain 𝓤 H A W 𝓣 0 ps·5 r·5 (claims· .10) (claims· .11)
-              "hnsr_circuit::revoking_calls::taken_with" (known .5) E (λ pos β. β) G19 (record { pos = 11; st = List.[]; d = 0; at = λ x. x }, (record
-              { pos = 12; st = List.[]; d = 0; at = λ x. x }, tt),) 0 List.[] (Call.sub-id 𝓤 H A W (G19 .slots)) ((Yields.yields-copy 𝓤 H A W (λ ρ.
-              Unit) (Declared'.row OpaqueRelayRuntime.the-type) Path.refl (Copies.cStruct OpaqueRelayRuntime.the-type Laws'''.the-laws
-              Laws'''.the-copy .copy 𝓤 H A W) (Rows'.whole (Declared'.row OpaqueRelayRuntime.the-type)) (λ x. x) (λ x. x) (λ ρ told. Local.mem-whole 𝓤
-              H A W (Declared'.row OpaqueRelayRuntime.the-type) ρ) λ ρ told. Local.whole-mem 𝓤 H A W (Declared'.row OpaqueRelayRuntime.the-type) ρ,
-              Path.refl,), ((Yields.yields-copy 𝓤 H A W (λ ρ. Unit) (Declared'.row Places.the-type) Path.refl (Copies.cStruct Places.the-type
-              Laws''.the-laws Laws''.the-copy .copy 𝓤 H A W) (Rows'.whole (Declared'.row Places.the-type)) (λ x. x) (λ x. x) (λ ρ told.
-              Local.mem-whole 𝓤 H A W (Declared'.row Places.the-type) ρ) λ ρ told. Local.whole-mem 𝓤 H A W (Declared'.row Places.the-type) ρ,
-              Path.refl,), tt,),) (Reads.room-gone 𝓤 H A Laws''''.mir) tt Path.refl) d5
+          d6 = Typed.s-seq 𝓤 H A W 𝓣 E G19 G20 b9 b10 Δ1 (Typed.both s17) at5 (Plain.t-call-plain 𝓤 H A W 𝓣 0 ps·5 r·5
+              (claims· .10) (claims· .11) "hnsr_circuit::revoking_calls::taken_with" (known .5) E (λ pos β. β) G19 (
+                record { pos = 11; st = List.[]; d = 0; at = λ x. x },
+                (record { pos = 12; st = List.[]; d = 0; at = λ x. x }, tt),
+              ) 0 List.[] (Call.sub-id 𝓤 H A W (G19 .slots)) (
+                (
+                  Yields.yields-copy 𝓤 H A W (λ ρ. Unit) (Declared'.row OpaqueRelayRuntime.the-type) Path.refl (Copies.cStruct
+                      OpaqueRelayRuntime.the-type Laws'''.the-laws Laws'''.the-copy .copy 𝓤 H A W)
+                      (Rows'.whole (Declared'.row OpaqueRelayRuntime.the-type)) (λ x. x) (λ x. x) (λ ρ told.
+                      Local.mem-whole 𝓤 H A W (Declared'.row OpaqueRelayRuntime.the-type) ρ) λ ρ told. Local.whole-mem
+                      𝓤 H A W (Declared'.row OpaqueRelayRuntime.the-type) ρ,
+                  Path.refl,
+                ),
+                (
+                  (
+                    Yields.yields-copy 𝓤 H A W (λ ρ. Unit) (Declared'.row Places.the-type) Path.refl (Copies.cStruct
+                        Places.the-type Laws''.the-laws Laws''.the-copy .copy 𝓤 H A W)
+                        (Rows'.whole (Declared'.row Places.the-type)) (λ x. x) (λ x. x) (λ ρ told. Local.mem-whole 𝓤 H
+                        A W (Declared'.row Places.the-type) ρ) λ ρ told. Local.whole-mem 𝓤 H A W
+                        (Declared'.row Places.the-type) ρ,
+                    Path.refl,
+                  ),
+                  tt,
+                ),
+              ) (Reads.room-gone 𝓤 H A Laws''''.mir) tt Path.refl) d5
+
           d7 : Typed.Typed 𝓤 H A 𝓣 E G18 b12 Δ1 at7
-          d7 = Typed.s-seq 𝓤 H A W 𝓣 E G18 G19 b8 b11 Δ1 (Typed.both s16) at6 (Plain.t-call-plain 𝓤 H A W 𝓣 0 ps·4 r·4 (claims· .8) (claims· .9)
-              "hnsr_circuit::places::no_place" (known .4) E (λ pos β. β) G18 tt 12 List.[] (Call.sub-id 𝓤 H A W (G18 .slots)) tt (Reads.room-gone 𝓤 H
-              A Laws''.mir) tt Path.refl) d6
+          d7 = Typed.s-seq 𝓤 H A W 𝓣 E G18 G19 b8 b11 Δ1 (Typed.both s16) at6 (Plain.t-call-plain 𝓤 H A W 𝓣 0 ps·4 r·4
+              (claims· .8) (claims· .9) "hnsr_circuit::places::no_place" (known .4) E (λ pos β. β) G18 tt 12 List.[]
+              (Call.sub-id 𝓤 H A W (G18 .slots)) tt (Reads.room-gone 𝓤 H A Laws''.mir) tt Path.refl) d6
+
           d8 : Typed.Typed 𝓤 H A 𝓣 E G17 b12 Δ1 at8
-          d8 = Typed.g-pre 𝓤 H A W 𝓣 E G17 G18 b12 Δ1 (Typed.pass T17 T18 s15) at7 (Scalar.g-room 𝓤 H A W E G17 18 Syntax.tyBool (Scalar.room-sc 𝓤 H A
-              W Row.sBool)) d7
+          d8 = Typed.g-pre 𝓤 H A W 𝓣 E G17 G18 b12 Δ1 (Typed.pass T17 T18 s15) at7 (Scalar.g-room 𝓤 H A W E G17 18
+              Syntax.tyBool (Scalar.room-sc 𝓤 H A W Row.sBool)) d7
+
           d9 : Typed.Typed 𝓤 H A 𝓣 E G15 b12 Δ1 at9
-          d9 = Typed.g-pre 𝓤 H A W 𝓣 E G15 G17 b12 Δ1 (Typed.pass T15 T17 s14) at8 (Scalar.g-room 𝓤 H A W E G15 10 Laws.mir (Local.room-whole 𝓤 H A W
-              (Declared.row HnsrAnswer.the-type) Laws.mir Path.refl)) d8
+          d9 = Typed.g-pre 𝓤 H A W 𝓣 E G15 G17 b12 Δ1 (Typed.pass T15 T17 s14) at8 (Scalar.g-room 𝓤 H A W E G15 10
+              Laws.mir (Local.room-whole 𝓤 H A W (Declared.row HnsrAnswer.the-type) Laws.mir Path.refl)) d8
+
           d10 : Typed.Typed 𝓤 H A 𝓣 E G27 b13 Δ1 at10
           d10 = Typed.t-skip 𝓤 H A W 𝓣 E Δ1 tt
+
           d11 : Typed.Typed 𝓤 H A 𝓣 E G26 b13 Δ1 at11
-          d11 = Typed.g-pre 𝓤 H A W 𝓣 E G26 G27 b13 Δ1 (Typed.pass T26 T27 s24) at10 (Scalar.g-room 𝓤 H A W E G26 18 Syntax.tyBool (Scalar.room-sc 𝓤 H
-              A W Row.sBool)) d10
+          d11 = Typed.g-pre 𝓤 H A W 𝓣 E G26 G27 b13 Δ1 (Typed.pass T26 T27 s24) at10 (Scalar.g-room 𝓤 H A W E G26 18
+              Syntax.tyBool (Scalar.room-sc 𝓤 H A W Row.sBool)) d10
+
           d12 : Typed.Typed 𝓤 H A 𝓣 E G15 b13 Δ1 at12
-          d12 = Typed.g-pre 𝓤 H A W 𝓣 E G15 G26 b13 Δ1 (Typed.pass T15 T26 s23) at11 (Scalar.g-room 𝓤 H A W E G15 11 Laws'''.mir (Local.room-whole 𝓤 H
-              A W (Declared'.row OpaqueRelayRuntime.the-type) Laws'''.mir Path.refl)) d11
+          d12 = Typed.g-pre 𝓤 H A W 𝓣 E G15 G26 b13 Δ1 (Typed.pass T15 T26 s23) at11 (Scalar.g-room 𝓤 H A W E G15 11
+              Laws'''.mir (Local.room-whole 𝓤 H A W (Declared'.row OpaqueRelayRuntime.the-type) Laws'''.mir Path.refl))
+              d11
+
           d13 : Typed.Typed 𝓤 H A 𝓣 E G15 b14 Δ1 at13
-          d13 = Scalar.t-cond 𝓤 H A W E 𝓣 G15 18 (λ x. x) b12 b13 Δ1 at9 at12 (Scalar.reads-sc 𝓤 H A W Row.sBool) Path.refl d9 d12
+          d13 = Scalar.t-cond 𝓤 H A W E 𝓣 G15 18 (λ x. x) b12 b13 Δ1 at9 at12 (Scalar.reads-sc 𝓤 H A W Row.sBool)
+              Path.refl d9 d12
+
           d14 : Typed.Typed 𝓤 H A 𝓣 E G36 b18 Δ0 at14
           d14 = Typed.t-return 𝓤 H A W 𝓣 E Δ0 tt
+
           d15 : Typed.Typed 𝓤 H A 𝓣 E G35 b18 Δ0 at15
-          d15 = Typed.g-pre 𝓤 H A W 𝓣 E G35 G36 b18 Δ0 (Typed.pass T35 T36 s33) at14 (Scalar.g-room 𝓤 H A W E G35 8 (Syntax.tyInt Syntax.w64)
-              (Scalar.room-sc 𝓤 H A W (Row.sInt Syntax.w64))) d14
+          d15 = Typed.g-pre 𝓤 H A W 𝓣 E G35 G36 b18 Δ0 (Typed.pass T35 T36 s33) at14 (Scalar.g-room 𝓤 H A W E G35 8
+              (Syntax.tyInt Syntax.w64) (Scalar.room-sc 𝓤 H A W (Row.sInt Syntax.w64))) d14
+
           d16 : Typed.Typed 𝓤 H A 𝓣 E G34 b18 Δ0 at16
-          d16 = Typed.g-pre 𝓤 H A W 𝓣 E G34 G35 b18 Δ0 (Typed.pass T34 T35 s32) at15 (Scalar.g-room 𝓤 H A W E G34 6 (Syntax.tyInt Syntax.w64)
-              (Scalar.room-sc 𝓤 H A W (Row.sInt Syntax.w64))) d15
+          d16 = Typed.g-pre 𝓤 H A W 𝓣 E G34 G35 b18 Δ0 (Typed.pass T34 T35 s32) at15 (Scalar.g-room 𝓤 H A W E G34 6
+              (Syntax.tyInt Syntax.w64) (Scalar.room-sc 𝓤 H A W (Row.sInt Syntax.w64))) d15
+
           d17 : Typed.Typed 𝓤 H A 𝓣 E G33 b18 Δ0 at17
-          d17 = Typed.g-pre 𝓤 H A W 𝓣 E G33 G34 b18 Δ0 (Typed.pass T33 T34 s31) at16 (Scalar.g-room 𝓤 H A W E G33 14 Laws''.mir (Local.room-whole 𝓤 H
-              A W (Declared'.row Places.the-type) Laws''.mir Path.refl)) d16
+          d17 = Typed.g-pre 𝓤 H A W 𝓣 E G33 G34 b18 Δ0 (Typed.pass T33 T34 s31) at16 (Scalar.g-room 𝓤 H A W E G33 14
+              Laws''.mir (Local.room-whole 𝓤 H A W (Declared'.row Places.the-type) Laws''.mir Path.refl)) d16
+
           d18 : Typed.Typed 𝓤 H A 𝓣 E G32 b18 Δ0 at18
-          d18 = Typed.g-pre 𝓤 H A W 𝓣 E G32 G33 b18 Δ0 (Typed.pass T32 T33 s30) at17 (Scalar.g-room 𝓤 H A W E G32 13 Laws'''.mir (Local.room-whole 𝓤 H
-              A W (Declared'.row OpaqueRelayRuntime.the-type) Laws'''.mir Path.refl)) d17
+          d18 = Typed.g-pre 𝓤 H A W 𝓣 E G32 G33 b18 Δ0 (Typed.pass T32 T33 s30) at17 (Scalar.g-room 𝓤 H A W E G32 13
+              Laws'''.mir (Local.room-whole 𝓤 H A W (Declared'.row OpaqueRelayRuntime.the-type) Laws'''.mir Path.refl))
+              d17
+
           d19 : Typed.Typed 𝓤 H A 𝓣 E G31 b18 Δ0 at19
-          d19 = Typed.g-pre 𝓤 H A W 𝓣 E G31 G32 b18 Δ0 (Typed.pass T31 T32 s29) at18 (Scalar.g-room 𝓤 H A W E G31 10 Laws.mir (Local.room-whole 𝓤 H A
-              W (Declared.row HnsrAnswer.the-type) Laws.mir Path.refl)) d18
+          d19 = Typed.g-pre 𝓤 H A W 𝓣 E G31 G32 b18 Δ0 (Typed.pass T31 T32 s29) at18 (Scalar.g-room 𝓤 H A W E G31 10
+              Laws.mir (Local.room-whole 𝓤 H A W (Declared.row HnsrAnswer.the-type) Laws.mir Path.refl)) d18
+
           d20 : Typed.Typed 𝓤 H A 𝓣 E G30 b18 Δ0 at20
-          d20 = Typed.g-pre 𝓤 H A W 𝓣 E G30 G31 b18 Δ0 (Typed.pass T30 T31 s28) at19 (Scalar.g-room 𝓤 H A W E G30 9 Syntax.tyBool (Scalar.room-sc 𝓤 H
-              A W Row.sBool)) d19
+          d20 = Typed.g-pre 𝓤 H A W 𝓣 E G30 G31 b18 Δ0 (Typed.pass T30 T31 s28) at19 (Scalar.g-room 𝓤 H A W E G30 9
+              Syntax.tyBool (Scalar.room-sc 𝓤 H A W Row.sBool)) d19
+
           d21 : Typed.Typed 𝓤 H A 𝓣 E G29 b19 Δ0 at21
-          d21 = Typed.s-seq 𝓤 H A W 𝓣 E G29 G30 b17 b18 Δ0 (Typed.both s27) at20 (Plain.t-call-plain 𝓤 H A W 𝓣 0 ps·8 r·8 (claims· .16) (claims· .17)
-              "hnsr_circuit::revoking_calls::refused" (known .8) E (λ pos β. β) G29 (record { pos = 13; st = List.[]; d = 0; at = λ x. x }, (record {
-              pos = 14; st = List.[]; d = 0; at = λ x. x }, (record { pos = 10; st = List.[]; d = 0; at = λ x. x }, tt),),) 0 List.[] (Call.sub-id 𝓤 H
-              A W (G29 .slots)) ((Yields.yields-copy 𝓤 H A W (λ ρ. Unit) (Declared'.row OpaqueRelayRuntime.the-type) Path.refl (Copies.cStruct
-              OpaqueRelayRuntime.the-type Laws'''.the-laws Laws'''.the-copy .copy 𝓤 H A W) (Rows'.whole (Declared'.row OpaqueRelayRuntime.the-type))
-              (λ x. x) (λ x. x) (λ ρ told. Local.mem-whole 𝓤 H A W (Declared'.row OpaqueRelayRuntime.the-type) ρ) λ ρ told. Local.whole-mem 𝓤 H A W
-              (Declared'.row OpaqueRelayRuntime.the-type) ρ, Path.refl,), ((Yields.yields-copy 𝓤 H A W (λ ρ. Unit) (Declared'.row Places.the-type)
-              Path.refl (Copies.cStruct Places.the-type Laws''.the-laws Laws''.the-copy .copy 𝓤 H A W) (Rows'.whole (Declared'.row Places.the-type))
-              (λ x. x) (λ x. x) (λ ρ told. Local.mem-whole 𝓤 H A W (Declared'.row Places.the-type) ρ) λ ρ told. Local.whole-mem 𝓤 H A W (Declared'.row
-              Places.the-type) ρ, Path.refl,), ((Yields.yields-copy 𝓤 H A W (λ ρ. Unit) (Declared.row HnsrAnswer.the-type) Path.refl (Copies.cEnum
-              HnsrAnswer.the-type Laws.the-laws Laws.the-copy .copy 𝓤 H A W) (Rows'.whole (Declared.row HnsrAnswer.the-type)) (λ x. x) (λ x. x) (λ ρ
-              told. Local.mem-whole 𝓤 H A W (Declared.row HnsrAnswer.the-type) ρ) λ ρ told. Local.whole-mem 𝓤 H A W (Declared.row HnsrAnswer.the-type)
-              ρ, Path.refl,), tt,),),) (Reads.room-gone 𝓤 H A Laws''''.mir) tt Path.refl) d20
+          d21 = Typed.s-seq 𝓤 H A W 𝓣 E G29 G30 b17 b18 Δ0 (Typed.both s27) at20 (Plain.t-call-plain 𝓤 H A W 𝓣 0 ps·8
+              r·8 (claims· .16) (claims· .17) "hnsr_circuit::revoking_calls::refused" (known .8) E (λ pos β. β) G29 (
+                record { pos = 13; st = List.[]; d = 0; at = λ x. x },
+                (
+                  record { pos = 14; st = List.[]; d = 0; at = λ x. x },
+                  (record { pos = 10; st = List.[]; d = 0; at = λ x. x }, tt),
+                ),
+              ) 0 List.[] (Call.sub-id 𝓤 H A W (G29 .slots)) (
+                (
+                  Yields.yields-copy 𝓤 H A W (λ ρ. Unit) (Declared'.row OpaqueRelayRuntime.the-type) Path.refl (Copies.cStruct
+                      OpaqueRelayRuntime.the-type Laws'''.the-laws Laws'''.the-copy .copy 𝓤 H A W)
+                      (Rows'.whole (Declared'.row OpaqueRelayRuntime.the-type)) (λ x. x) (λ x. x) (λ ρ told.
+                      Local.mem-whole 𝓤 H A W (Declared'.row OpaqueRelayRuntime.the-type) ρ) λ ρ told. Local.whole-mem
+                      𝓤 H A W (Declared'.row OpaqueRelayRuntime.the-type) ρ,
+                  Path.refl,
+                ),
+                (
+                  (
+                    Yields.yields-copy 𝓤 H A W (λ ρ. Unit) (Declared'.row Places.the-type) Path.refl (Copies.cStruct
+                        Places.the-type Laws''.the-laws Laws''.the-copy .copy 𝓤 H A W)
+                        (Rows'.whole (Declared'.row Places.the-type)) (λ x. x) (λ x. x) (λ ρ told. Local.mem-whole 𝓤 H
+                        A W (Declared'.row Places.the-type) ρ) λ ρ told. Local.whole-mem 𝓤 H A W
+                        (Declared'.row Places.the-type) ρ,
+                    Path.refl,
+                  ),
+                  (
+                    (
+                      Yields.yields-copy 𝓤 H A W (λ ρ. Unit) (Declared.row HnsrAnswer.the-type) Path.refl (Copies.cEnum
+                          HnsrAnswer.the-type Laws.the-laws Laws.the-copy .copy 𝓤 H A W)
+                          (Rows'.whole (Declared.row HnsrAnswer.the-type)) (λ x. x) (λ x. x) (λ ρ told. Local.mem-whole
+                          𝓤 H A W (Declared.row HnsrAnswer.the-type) ρ) λ ρ told. Local.whole-mem 𝓤 H A W
+                          (Declared.row HnsrAnswer.the-type) ρ,
+                      Path.refl,
+                    ),
+                    tt,
+                  ),
+                ),
+              ) (Reads.room-gone 𝓤 H A Laws''''.mir) tt Path.refl) d20
+
           d22 : Typed.Typed 𝓤 H A 𝓣 E G28 b20 Δ0 at22
-          d22 = Typed.s-seq 𝓤 H A W 𝓣 E G28 G29 b16 b19 Δ0 (Typed.both s26) at21 (Plain.t-call-plain 𝓤 H A W 𝓣 0 ps·7 r·7 (claims· .14) (claims· .15)
-              "hnsr_circuit::places::every_place" (known .7) E (λ pos β. β) G28 tt 14 List.[] (Call.sub-id 𝓤 H A W (G28 .slots)) tt (Reads.room-gone 𝓤
-              H A Laws''.mir) tt Path.refl) d21
+          d22 = Typed.s-seq 𝓤 H A W 𝓣 E G28 G29 b16 b19 Δ0 (Typed.both s26) at21 (Plain.t-call-plain 𝓤 H A W 𝓣 0 ps·7
+              r·7 (claims· .14) (claims· .15) "hnsr_circuit::places::every_place" (known .7) E (λ pos β. β) G28 tt 14
+              List.[] (Call.sub-id 𝓤 H A W (G28 .slots)) tt (Reads.room-gone 𝓤 H A Laws''.mir) tt Path.refl) d21
+
           d23 : Typed.Typed 𝓤 H A 𝓣 E G16 b21 Δ0 at23
-          d23 = Typed.s-seq 𝓤 H A W 𝓣 E G16 G28 b15 b20 Δ0 (Typed.both s25) at22 (Plain.t-call-plain 𝓤 H A W 𝓣 0 ps·6 r·6 (claims· .12) (claims· .13)
-              "hnsr_circuit::header::no_runtime" (known .6) E (λ pos β. β) G16 tt 13 List.[] (Call.sub-id 𝓤 H A W (G16 .slots)) tt (Reads.room-gone 𝓤
-              H A Laws'''.mir) tt Path.refl) d22
+          d23 = Typed.s-seq 𝓤 H A W 𝓣 E G16 G28 b15 b20 Δ0 (Typed.both s25) at22 (Plain.t-call-plain 𝓤 H A W 𝓣 0 ps·6
+              r·6 (claims· .12) (claims· .13) "hnsr_circuit::header::no_runtime" (known .6) E (λ pos β. β) G16 tt 13
+              List.[] (Call.sub-id 𝓤 H A W (G16 .slots)) tt (Reads.room-gone 𝓤 H A Laws'''.mir) tt Path.refl) d22
+
           d24 : Typed.Typed 𝓤 H A 𝓣 E G15 b22 Δ0 at24
           d24 = Typed.t-seq 𝓤 H A W 𝓣 E G15 G16 b14 b21 Δ0 at13 at23 d13 d23
+
           d25 : Typed.Typed 𝓤 H A 𝓣 E G14 b23 Δ0 at25
-          d25 = Typed.s-seq 𝓤 H A W 𝓣 E G14 G15 b7 b22 Δ0 (Typed.both s13) at24 (Plain.t-call-plain 𝓤 H A W 𝓣 0 ps·3 r·3 (claims· .6) (claims· .7)
-              "hnsr_circuit::answer::is_taken" (known .3) E (λ pos β. β) G14 (record { pos = 10; st = List.[]; d = 0; at = λ x. x }, tt) 18 List.[]
-              (Call.sub-id 𝓤 H A W (G14 .slots)) ((Yields.yields-copy 𝓤 H A W (λ ρ. Unit) (Declared.row HnsrAnswer.the-type) Path.refl (Copies.cEnum
-              HnsrAnswer.the-type Laws.the-laws Laws.the-copy .copy 𝓤 H A W) (Rows'.whole (Declared.row HnsrAnswer.the-type)) (λ x. x) (λ x. x) (λ ρ
-              told. Local.mem-whole 𝓤 H A W (Declared.row HnsrAnswer.the-type) ρ) λ ρ told. Local.whole-mem 𝓤 H A W (Declared.row HnsrAnswer.the-type)
-              ρ, Path.refl,), tt,) (Reads.room-gone 𝓤 H A Syntax.tyBool) tt Path.refl) d24
+          d25 = Typed.s-seq 𝓤 H A W 𝓣 E G14 G15 b7 b22 Δ0 (Typed.both s13) at24 (Plain.t-call-plain 𝓤 H A W 𝓣 0 ps·3
+              r·3 (claims· .6) (claims· .7) "hnsr_circuit::answer::is_taken" (known .3) E (λ pos β. β) G14
+              (record { pos = 10; st = List.[]; d = 0; at = λ x. x }, tt) 18 List.[] (Call.sub-id 𝓤 H A W (G14 .slots)) (
+                (
+                  Yields.yields-copy 𝓤 H A W (λ ρ. Unit) (Declared.row HnsrAnswer.the-type) Path.refl (Copies.cEnum
+                      HnsrAnswer.the-type Laws.the-laws Laws.the-copy .copy 𝓤 H A W)
+                      (Rows'.whole (Declared.row HnsrAnswer.the-type)) (λ x. x) (λ x. x) (λ ρ told. Local.mem-whole 𝓤 H
+                      A W (Declared.row HnsrAnswer.the-type) ρ) λ ρ told. Local.whole-mem 𝓤 H A W
+                      (Declared.row HnsrAnswer.the-type) ρ,
+                  Path.refl,
+                ),
+                tt,
+              ) (Reads.room-gone 𝓤 H A Syntax.tyBool) tt Path.refl) d24
+
           d26 : Typed.Typed 𝓤 H A 𝓣 E G13 b23 Δ0 at26
-          d26 = Typed.g-pre 𝓤 H A W 𝓣 E G13 G14 b23 Δ0 (Typed.pass T13 T14 s12) at25 (Scalar.g-room 𝓤 H A W E G13 7 Laws'.mir (Local.room-whole 𝓤 H A
-              W (Declared'.row OpaqueRelayConfig.the-type) Laws'.mir Path.refl)) d25
+          d26 = Typed.g-pre 𝓤 H A W 𝓣 E G13 G14 b23 Δ0 (Typed.pass T13 T14 s12) at25 (Scalar.g-room 𝓤 H A W E G13 7
+              Laws'.mir (Local.room-whole 𝓤 H A W (Declared'.row OpaqueRelayConfig.the-type) Laws'.mir Path.refl)) d25
+
           d27 : Typed.Typed 𝓤 H A 𝓣 E G12 b23 Δ0 at27
-          d27 = Typed.g-pre 𝓤 H A W 𝓣 E G12 G13 b23 Δ0 (Typed.pass T12 T13 s11) at26 (Scalar.g-room 𝓤 H A W E G12 5 (Syntax.tyArray (Syntax.tyInt
-              Syntax.w8) 16) (Init.room-arr 𝓤 H A W (Referent.rtF (Referent.fInt Syntax.w8)) 16 0 16 Path.refl)) d26
+          d27 = Typed.g-pre 𝓤 H A W 𝓣 E G12 G13 b23 Δ0 (Typed.pass T12 T13 s11) at26 (Scalar.g-room 𝓤 H A W E G12 5
+              (Syntax.tyArray (Syntax.tyInt Syntax.w8) 16) (Init.room-arr 𝓤 H A W
+              (Referent.rtF (Referent.fInt Syntax.w8)) 16 0 16 Path.refl)) d26
+
           d28 : Typed.Typed 𝓤 H A 𝓣 E G11 b24 Δ0 at28
-          d28 = Typed.s-seq 𝓤 H A W 𝓣 E G11 G12 b6 b23 Δ0 (Typed.both s10) at27 (Plain.t-call-plain 𝓤 H A W 𝓣 0 ps·2 r·2 (claims· .4) (claims· .5)
-              "hnsr_circuit::header::new_header" (known .2) E (λ pos β. β) G11 (record { pos = 5; st = List.[]; d = 0; at = λ x. x }, (Num.vAt 6 λ x.
-              x, (record { pos = 7; st = List.[]; d = 0; at = λ x. x }, (Num.vAt 8 λ x. x, tt)),),) 11 List.[] (Call.sub-id 𝓤 H A W (G11 .slots))
-              ((Array.arr-yields 𝓤 H A W (Array.eInt Syntax.w8) (Array.eInt-laws Syntax.w8) 16, Path.refl,), ((Scalar.reads-sc 𝓤 H A W (Row.sInt
-              Syntax.w64), Path.refl), ((Yields.yields-copy 𝓤 H A W (λ ρ. Unit) (Declared'.row OpaqueRelayConfig.the-type) Path.refl (Copies.cStruct
-              OpaqueRelayConfig.the-type Laws'.the-laws Laws'.the-copy .copy 𝓤 H A W) (Rows'.whole (Declared'.row OpaqueRelayConfig.the-type)) (λ x.
-              x) (λ x. x) (λ ρ told. Local.mem-whole 𝓤 H A W (Declared'.row OpaqueRelayConfig.the-type) ρ) λ ρ told. Local.whole-mem 𝓤 H A W
-              (Declared'.row OpaqueRelayConfig.the-type) ρ, Path.refl,), ((Scalar.reads-sc 𝓤 H A W (Row.sInt Syntax.w64), Path.refl), tt),),),)
-              (Reads.room-gone 𝓤 H A Laws'''.mir) tt Path.refl) d27
+          d28 = Typed.s-seq 𝓤 H A W 𝓣 E G11 G12 b6 b23 Δ0 (Typed.both s10) at27 (Plain.t-call-plain 𝓤 H A W 𝓣 0 ps·2
+              r·2 (claims· .4) (claims· .5) "hnsr_circuit::header::new_header" (known .2) E (λ pos β. β) G11 (
+                record { pos = 5; st = List.[]; d = 0; at = λ x. x },
+                (Num.vAt 6 λ x. x, (record { pos = 7; st = List.[]; d = 0; at = λ x. x }, (Num.vAt 8 λ x. x, tt))),
+              ) 11 List.[] (Call.sub-id 𝓤 H A W (G11 .slots)) (
+                (Array.arr-yields 𝓤 H A W (Array.eInt Syntax.w8) (Array.eInt-laws Syntax.w8) 16, Path.refl),
+                (
+                  (Scalar.reads-sc 𝓤 H A W (Row.sInt Syntax.w64), Path.refl),
+                  (
+                    (
+                      Yields.yields-copy 𝓤 H A W (λ ρ. Unit) (Declared'.row OpaqueRelayConfig.the-type) Path.refl (Copies.cStruct
+                          OpaqueRelayConfig.the-type Laws'.the-laws Laws'.the-copy .copy 𝓤 H A W)
+                          (Rows'.whole (Declared'.row OpaqueRelayConfig.the-type)) (λ x. x) (λ x. x) (λ ρ told.
+                          Local.mem-whole 𝓤 H A W (Declared'.row OpaqueRelayConfig.the-type) ρ) λ ρ told.
+                          Local.whole-mem 𝓤 H A W (Declared'.row OpaqueRelayConfig.the-type) ρ,
+                      Path.refl,
+                    ),
+                    ((Scalar.reads-sc 𝓤 H A W (Row.sInt Syntax.w64), Path.refl), tt),
+                  ),
+                ),
+              ) (Reads.room-gone 𝓤 H A Laws'''.mir) tt Path.refl) d27
+
           d29 : Typed.Typed 𝓤 H A 𝓣 E G10 b24 Δ0 at29
-          d29 = Typed.g-pre 𝓤 H A W 𝓣 E G10 G11 b24 Δ0 (Typed.pass T10 T11 s9) at28 (Scalar.g-room 𝓤 H A W E G10 15 (Syntax.tyInt Syntax.w64)
-              (Scalar.room-sc 𝓤 H A W (Row.sInt Syntax.w64))) d28
+          d29 = Typed.g-pre 𝓤 H A W 𝓣 E G10 G11 b24 Δ0 (Typed.pass T10 T11 s9) at28 (Scalar.g-room 𝓤 H A W E G10 15
+              (Syntax.tyInt Syntax.w64) (Scalar.room-sc 𝓤 H A W (Row.sInt Syntax.w64))) d28
+
           d30 : Typed.Typed 𝓤 H A 𝓣 E G9 b25 Δ0 at30
-          d30 = Typed.s-seq 𝓤 H A W 𝓣 E G9 G10 b5 b24 Δ0 (Typed.both s8) at29 (Plain.t-call-plain 𝓤 H A W 𝓣 0 ps·1 r·1 (claims· .2) (claims· .3)
-              "hnsr_circuit::calls::new_answer" (known .1) E (λ pos β. β) G9 (record { pos = 5; st = List.[]; d = 0; at = λ x. x }, (Num.vAt 6 λ x. x,
-              (record { pos = 7; st = List.[]; d = 0; at = λ x. x }, (Bool.bAt 9 λ x. x, (Num.vAt 15 λ x. x, tt)),),),) 10 List.[] (Call.sub-id 𝓤 H A
-              W (G9 .slots)) ((Array.arr-yields 𝓤 H A W (Array.eInt Syntax.w8) (Array.eInt-laws Syntax.w8) 16, Path.refl,), ((Scalar.reads-sc 𝓤 H A W
-              (Row.sInt Syntax.w64), Path.refl), ((Yields.yields-copy 𝓤 H A W (λ ρ. Unit) (Declared'.row OpaqueRelayConfig.the-type) Path.refl
-              (Copies.cStruct OpaqueRelayConfig.the-type Laws'.the-laws Laws'.the-copy .copy 𝓤 H A W) (Rows'.whole (Declared'.row
-              OpaqueRelayConfig.the-type)) (λ x. x) (λ x. x) (λ ρ told. Local.mem-whole 𝓤 H A W (Declared'.row OpaqueRelayConfig.the-type) ρ) λ ρ
-              told. Local.whole-mem 𝓤 H A W (Declared'.row OpaqueRelayConfig.the-type) ρ, Path.refl,), ((Scalar.reads-sc 𝓤 H A W Row.sBool,
-              Path.refl), ((Scalar.reads-sc 𝓤 H A W (Row.sInt Syntax.w64), Path.refl), tt),),),),) (Reads.room-gone 𝓤 H A Laws.mir) tt Path.refl) d29
+          d30 = Typed.s-seq 𝓤 H A W 𝓣 E G9 G10 b5 b24 Δ0 (Typed.both s8) at29 (Plain.t-call-plain 𝓤 H A W 𝓣 0 ps·1 r·1
+              (claims· .2) (claims· .3) "hnsr_circuit::calls::new_answer" (known .1) E (λ pos β. β) G9 (
+                record { pos = 5; st = List.[]; d = 0; at = λ x. x },
+                (
+                  Num.vAt 6 λ x. x,
+                  (record { pos = 7; st = List.[]; d = 0; at = λ x. x }, (Bool.bAt 9 λ x. x, (Num.vAt 15 λ x. x, tt))),
+                ),
+              ) 10 List.[] (Call.sub-id 𝓤 H A W (G9 .slots)) (
+                (Array.arr-yields 𝓤 H A W (Array.eInt Syntax.w8) (Array.eInt-laws Syntax.w8) 16, Path.refl),
+                (
+                  (Scalar.reads-sc 𝓤 H A W (Row.sInt Syntax.w64), Path.refl),
+                  (
+                    (
+                      Yields.yields-copy 𝓤 H A W (λ ρ. Unit) (Declared'.row OpaqueRelayConfig.the-type) Path.refl (Copies.cStruct
+                          OpaqueRelayConfig.the-type Laws'.the-laws Laws'.the-copy .copy 𝓤 H A W)
+                          (Rows'.whole (Declared'.row OpaqueRelayConfig.the-type)) (λ x. x) (λ x. x) (λ ρ told.
+                          Local.mem-whole 𝓤 H A W (Declared'.row OpaqueRelayConfig.the-type) ρ) λ ρ told.
+                          Local.whole-mem 𝓤 H A W (Declared'.row OpaqueRelayConfig.the-type) ρ,
+                      Path.refl,
+                    ),
+                    (
+                      (Scalar.reads-sc 𝓤 H A W Row.sBool, Path.refl),
+                      ((Scalar.reads-sc 𝓤 H A W (Row.sInt Syntax.w64), Path.refl), tt),
+                    ),
+                  ),
+                ),
+              ) (Reads.room-gone 𝓤 H A Laws.mir) tt Path.refl) d29
+
           d31 : Typed.Typed 𝓤 H A 𝓣 E G8 b26 Δ0 at31
-          d31 = Typed.s-seq 𝓤 H A W 𝓣 E G8 G9 b4 b25 Δ0 (Typed.pass T8 T9 s7) at30 (Scalar.t-use 𝓤 H A W E 𝓣 G8 (Scalar.oFld 3 ((Syntax.field 1) ∷
-              List.[]) (Syntax.tyInt Syntax.w64) 8 Shared.lenV) 15 (Rows'.sc-here (Row.sInt Syntax.w64)) (Syntax.tyInt Syntax.w64) (Row.valS (Row.sInt
-              Syntax.w64)) (Row.sInt Syntax.w64 .of) (Shared.reads-sslice-len 𝓤 H A W ReservationUsage.row ref2 2 8 Path.refl, Path.refl,)
-              (Reads.room-gone 𝓤 H A (Syntax.tyInt Syntax.w64)) (Scalar.holds-sc 𝓤 H A W (Row.sInt Syntax.w64)) Path.refl (λ u. Path.refl) λ u. tt)
-              d30
+          d31 = Typed.s-seq 𝓤 H A W 𝓣 E G8 G9 b4 b25 Δ0 (Typed.pass T8 T9 s7) at30 (Scalar.t-use 𝓤 H A W E 𝓣 G8 (Scalar.oFld
+              3 ((Syntax.field 1) ∷ List.[]) (Syntax.tyInt Syntax.w64) 8 Shared.lenV) 15
+              (Rows'.sc-here (Row.sInt Syntax.w64)) (Syntax.tyInt Syntax.w64) (Row.valS (Row.sInt Syntax.w64))
+              (Row.sInt Syntax.w64 .of) (
+                Shared.reads-sslice-len 𝓤 H A W ReservationUsage.row ref2 2 8 Path.refl,
+                Path.refl,
+              ) (Reads.room-gone 𝓤 H A (Syntax.tyInt Syntax.w64)) (Scalar.holds-sc 𝓤 H A W (Row.sInt Syntax.w64))
+              Path.refl (λ u. Path.refl) λ u. tt) d30
+
           d32 : Typed.Typed 𝓤 H A 𝓣 E G7 b26 Δ0 at32
-          d32 = Typed.g-pre 𝓤 H A W 𝓣 E G7 G8 b26 Δ0 (Typed.pass T7 T8 s6) at31 (Scalar.g-room 𝓤 H A W E G7 17 (Syntax.tyInt Syntax.w64)
-              (Scalar.room-sc 𝓤 H A W (Row.sInt Syntax.w64))) d31
+          d32 = Typed.g-pre 𝓤 H A W 𝓣 E G7 G8 b26 Δ0 (Typed.pass T7 T8 s6) at31 (Scalar.g-room 𝓤 H A W E G7 17
+              (Syntax.tyInt Syntax.w64) (Scalar.room-sc 𝓤 H A W (Row.sInt Syntax.w64))) d31
+
           d33 : Typed.Typed 𝓤 H A 𝓣 E G6 b26 Δ0 at33
-          d33 = Typed.g-pre 𝓤 H A W 𝓣 E G6 G7 b26 Δ0 (Typed.pass T6 T7 s5) at32 (Scalar.g-room 𝓤 H A W E G6 16 (Syntax.tyInt Syntax.w64)
-              (Scalar.room-sc 𝓤 H A W (Row.sInt Syntax.w64))) d32
+          d33 = Typed.g-pre 𝓤 H A W 𝓣 E G6 G7 b26 Δ0 (Typed.pass T6 T7 s5) at32 (Scalar.g-room 𝓤 H A W E G6 16
+              (Syntax.tyInt Syntax.w64) (Scalar.room-sc 𝓤 H A W (Row.sInt Syntax.w64))) d32
+
           d34 : Typed.Typed 𝓤 H A 𝓣 E G5 b26 Δ0 at34
-          d34 = Typed.g-pre 𝓤 H A W 𝓣 E G5 G6 b26 Δ0 (Typed.pass T5 T6 s4) at33 (Scalar.g-room 𝓤 H A W E G5 15 (Syntax.tyInt Syntax.w64)
-              (Scalar.room-sc 𝓤 H A W (Row.sInt Syntax.w64))) d33
+          d34 = Typed.g-pre 𝓤 H A W 𝓣 E G5 G6 b26 Δ0 (Typed.pass T5 T6 s4) at33 (Scalar.g-room 𝓤 H A W E G5 15
+              (Syntax.tyInt Syntax.w64) (Scalar.room-sc 𝓤 H A W (Row.sInt Syntax.w64))) d33
+
           d35 : Typed.Typed 𝓤 H A 𝓣 E G4 b27 Δ0 at35
-          d35 = Typed.s-seq 𝓤 H A W 𝓣 E G4 G5 b3 b26 Δ0 (Typed.both s3) at34 (Plain.t-call-plain 𝓤 H A W 𝓣 0 ps·0 r·0 (claims· .0) (claims· .1)
-              "hnsr_circuit::entry::too_few" (known .0) E (λ pos β. β) G4 (record { pos = 7; st = List.[]; d = 0; at = λ x. x }, (Num.vAt 15 λ x. x,
-              (Num.vAt 16 λ x. x, (Num.vAt 17 λ x. x, tt))),) 9 List.[] (Call.sub-id 𝓤 H A W (G4 .slots)) ((Yields.yields-copy 𝓤 H A W (λ ρ. Unit)
-              (Declared'.row OpaqueRelayConfig.the-type) Path.refl (Copies.cStruct OpaqueRelayConfig.the-type Laws'.the-laws Laws'.the-copy .copy 𝓤 H
-              A W) (Rows'.whole (Declared'.row OpaqueRelayConfig.the-type)) (λ x. x) (λ x. x) (λ ρ told. Local.mem-whole 𝓤 H A W (Declared'.row
-              OpaqueRelayConfig.the-type) ρ) λ ρ told. Local.whole-mem 𝓤 H A W (Declared'.row OpaqueRelayConfig.the-type) ρ, Path.refl,),
-              ((Scalar.reads-sc 𝓤 H A W (Row.sInt Syntax.w64), Path.refl), ((Scalar.reads-sc 𝓤 H A W (Row.sInt Syntax.w64), Path.refl),
-              ((Scalar.reads-sc 𝓤 H A W (Row.sInt Syntax.w64), Path.refl), tt),),),) (Reads.room-gone 𝓤 H A Syntax.tyBool) tt Path.refl) d34
+          d35 = Typed.s-seq 𝓤 H A W 𝓣 E G4 G5 b3 b26 Δ0 (Typed.both s3) at34 (Plain.t-call-plain 𝓤 H A W 𝓣 0 ps·0 r·0
+              (claims· .0) (claims· .1) "hnsr_circuit::entry::too_few" (known .0) E (λ pos β. β) G4 (
+                record { pos = 7; st = List.[]; d = 0; at = λ x. x },
+                (Num.vAt 15 λ x. x, (Num.vAt 16 λ x. x, (Num.vAt 17 λ x. x, tt))),
+              ) 9 List.[] (Call.sub-id 𝓤 H A W (G4 .slots)) (
+                (
+                  Yields.yields-copy 𝓤 H A W (λ ρ. Unit) (Declared'.row OpaqueRelayConfig.the-type) Path.refl (Copies.cStruct
+                      OpaqueRelayConfig.the-type Laws'.the-laws Laws'.the-copy .copy 𝓤 H A W)
+                      (Rows'.whole (Declared'.row OpaqueRelayConfig.the-type)) (λ x. x) (λ x. x) (λ ρ told.
+                      Local.mem-whole 𝓤 H A W (Declared'.row OpaqueRelayConfig.the-type) ρ) λ ρ told. Local.whole-mem 𝓤
+                      H A W (Declared'.row OpaqueRelayConfig.the-type) ρ,
+                  Path.refl,
+                ),
+                (
+                  (Scalar.reads-sc 𝓤 H A W (Row.sInt Syntax.w64), Path.refl),
+                  (
+                    (Scalar.reads-sc 𝓤 H A W (Row.sInt Syntax.w64), Path.refl),
+                    ((Scalar.reads-sc 𝓤 H A W (Row.sInt Syntax.w64), Path.refl), tt),
+                  ),
+                ),
+              ) (Reads.room-gone 𝓤 H A Syntax.tyBool) tt Path.refl) d34
+
           d36 : Typed.Typed 𝓤 H A 𝓣 E G3 b28 Δ0 at36
-          d36 = Typed.s-seq 𝓤 H A W 𝓣 E G3 G4 b2 b27 Δ0 (Typed.pass T3 T4 s2) at35 (Scalar.t-use 𝓤 H A W E 𝓣 G3 (Scalar.oFld 4 ((Syntax.field 1) ∷
-              List.[]) (Syntax.tyInt Syntax.w64) 8 Shared.lenV) 17 (Rows'.sc-here (Row.sInt Syntax.w64)) (Syntax.tyInt Syntax.w64) (Row.valS (Row.sInt
-              Syntax.w64)) (Row.sInt Syntax.w64 .of) (Shared.reads-sslice-len 𝓤 H A W InflightAction.row ref3 3 8 Path.refl, Path.refl,)
-              (Reads.room-gone 𝓤 H A (Syntax.tyInt Syntax.w64)) (Scalar.holds-sc 𝓤 H A W (Row.sInt Syntax.w64)) Path.refl (λ u. Path.refl) λ u. tt)
-              d35
+          d36 = Typed.s-seq 𝓤 H A W 𝓣 E G3 G4 b2 b27 Δ0 (Typed.pass T3 T4 s2) at35 (Scalar.t-use 𝓤 H A W E 𝓣 G3 (Scalar.oFld
+              4 ((Syntax.field 1) ∷ List.[]) (Syntax.tyInt Syntax.w64) 8 Shared.lenV) 17
+              (Rows'.sc-here (Row.sInt Syntax.w64)) (Syntax.tyInt Syntax.w64) (Row.valS (Row.sInt Syntax.w64))
+              (Row.sInt Syntax.w64 .of) (
+                Shared.reads-sslice-len 𝓤 H A W InflightAction.row ref3 3 8 Path.refl,
+                Path.refl,
+              ) (Reads.room-gone 𝓤 H A (Syntax.tyInt Syntax.w64)) (Scalar.holds-sc 𝓤 H A W (Row.sInt Syntax.w64))
+              Path.refl (λ u. Path.refl) λ u. tt) d35
+
           d37 : Typed.Typed 𝓤 H A 𝓣 E G2 b29 Δ0 at37
-          d37 = Typed.s-seq 𝓤 H A W 𝓣 E G2 G3 b1 b28 Δ0 (Typed.pass T2 T3 s1) at36 (Scalar.t-use 𝓤 H A W E 𝓣 G2 (Scalar.oFld 2 ((Syntax.field 1) ∷
-              List.[]) (Syntax.tyInt Syntax.w64) 8 Shared.lenV) 16 (Rows'.sc-here (Row.sInt Syntax.w64)) (Syntax.tyInt Syntax.w64) (Row.valS (Row.sInt
-              Syntax.w64)) (Row.sInt Syntax.w64 .of) (Shared.reads-sslice-len 𝓤 H A W RelayCircuit.row ref1 1 8 Path.refl, Path.refl,)
-              (Reads.room-gone 𝓤 H A (Syntax.tyInt Syntax.w64)) (Scalar.holds-sc 𝓤 H A W (Row.sInt Syntax.w64)) Path.refl (λ u. Path.refl) λ u. tt)
-              d36
+          d37 = Typed.s-seq 𝓤 H A W 𝓣 E G2 G3 b1 b28 Δ0 (Typed.pass T2 T3 s1) at36 (Scalar.t-use 𝓤 H A W E 𝓣 G2 (Scalar.oFld
+              2 ((Syntax.field 1) ∷ List.[]) (Syntax.tyInt Syntax.w64) 8 Shared.lenV) 16
+              (Rows'.sc-here (Row.sInt Syntax.w64)) (Syntax.tyInt Syntax.w64) (Row.valS (Row.sInt Syntax.w64))
+              (Row.sInt Syntax.w64 .of) (
+                Shared.reads-sslice-len 𝓤 H A W RelayCircuit.row ref1 1 8 Path.refl,
+                Path.refl,
+              ) (Reads.room-gone 𝓤 H A (Syntax.tyInt Syntax.w64)) (Scalar.holds-sc 𝓤 H A W (Row.sInt Syntax.w64))
+              Path.refl (λ u. Path.refl) λ u. tt) d36
+
           d38 : Typed.Typed 𝓤 H A 𝓣 E G0 b30 Δ0 at38
-          d38 = Typed.s-seq 𝓤 H A W 𝓣 E G0 G2 b0 b29 Δ0 (Typed.pass T0 T2 s0) at37 (Scalar.t-use 𝓤 H A W E 𝓣 G0 (Scalar.oFld 1 ((Syntax.field 1) ∷
-              List.[]) (Syntax.tyInt Syntax.w64) 8 Shared.lenV) 15 (Rows'.sc-here (Row.sInt Syntax.w64)) (Syntax.tyInt Syntax.w64) (Row.valS (Row.sInt
-              Syntax.w64)) (Row.sInt Syntax.w64 .of) (Shared.reads-sslice-len 𝓤 H A W RelayPending.row ref0 0 8 Path.refl, Path.refl,)
-              (Reads.room-gone 𝓤 H A (Syntax.tyInt Syntax.w64)) (Scalar.holds-sc 𝓤 H A W (Row.sInt Syntax.w64)) Path.refl (λ u. Path.refl) λ u. tt)
-              d37
+          d38 = Typed.s-seq 𝓤 H A W 𝓣 E G0 G2 b0 b29 Δ0 (Typed.pass T0 T2 s0) at37 (Scalar.t-use 𝓤 H A W E 𝓣 G0 (Scalar.oFld
+              1 ((Syntax.field 1) ∷ List.[]) (Syntax.tyInt Syntax.w64) 8 Shared.lenV) 15
+              (Rows'.sc-here (Row.sInt Syntax.w64)) (Syntax.tyInt Syntax.w64) (Row.valS (Row.sInt Syntax.w64))
+              (Row.sInt Syntax.w64 .of) (
+                Shared.reads-sslice-len 𝓤 H A W RelayPending.row ref0 0 8 Path.refl,
+                Path.refl,
+              ) (Reads.room-gone 𝓤 H A (Syntax.tyInt Syntax.w64)) (Scalar.holds-sc 𝓤 H A W (Row.sInt Syntax.w64))
+              Path.refl (λ u. Path.refl) λ u. tt) d37
+
           pub typed : Typed.Typed 𝓤 H A 𝓣 E (Function.Γin 4 ps r xs m κs qs) b30 (Function.Δret 4 ps r xs m κs qs) Φ
           typed = d38
+
       module _ (κs : Lifetimes.Lfts 4) where
         pub record Args : Type 0 where
-          pub pending : Kinds.Den { n = 4 } κs (ShrSlice.pShrS RelayPending.row 0 tt)
-          pub circuits : Kinds.Den { n = 4 } κs (ShrSlice.pShrS RelayCircuit.row 1 tt)
-          pub ledger : Kinds.Den { n = 4 } κs (ShrSlice.pShrS ReservationUsage.row 2 tt)
-          pub inflight : Kinds.Den { n = 4 } κs (ShrSlice.pShrS InflightAction.row 3 tt)
-          pub session : Kinds.Den { n = 4 } κs (Array.pArr (Array.eInt Syntax.w8) (Array.eInt-laws Syntax.w8) 16)
-          pub generation : Kinds.Den { n = 4 } κs (Num.pNum Syntax.w64)
-          pub config : Kinds.Den { n = 4 } κs (Value.pVal record { ty = Declared'.row OpaqueRelayConfig.the-type; one = Path.refl; val =
-              Laws''''''.val OpaqueRelayConfig.the-type Laws'.the-laws; tells = Laws''''''.tells OpaqueRelayConfig.the-type Laws'.the-laws; still =
-              Laws''''''.still OpaqueRelayConfig.the-type Laws'.the-copy Exit.yes; row = Rows'.whole (Declared'.row OpaqueRelayConfig.the-type); rd =
-              λ x. x; mk = λ x. x; } λ M 𝓤 H A W. record { copies = Laws''''''.copy OpaqueRelayConfig.the-type Laws'.the-copy 𝓤 H A W; lawful =
-              Laws''''''.lawful OpaqueRelayConfig.the-type Laws'.the-laws 𝓤 H A W; makes = Laws''''''.makes OpaqueRelayConfig.the-type Laws'.the-plain
-              𝓤 H A; in-mem = Local.mem-whole 𝓤 H A W (Declared'.row OpaqueRelayConfig.the-type); of-mem = Local.whole-mem 𝓤 H A W (Declared'.row
-              OpaqueRelayConfig.the-type); })
-          pub time : Kinds.Den { n = 4 } κs (Num.pNum Syntax.w64)
+          pub pending : Kinds.Den {n = 4} κs (ShrSlice.pShrS RelayPending.row 0 tt)
+          pub circuits : Kinds.Den {n = 4} κs (ShrSlice.pShrS RelayCircuit.row 1 tt)
+          pub ledger : Kinds.Den {n = 4} κs (ShrSlice.pShrS ReservationUsage.row 2 tt)
+          pub inflight : Kinds.Den {n = 4} κs (ShrSlice.pShrS InflightAction.row 3 tt)
+          pub session : Kinds.Den {n = 4} κs (Array.pArr (Array.eInt Syntax.w8) (Array.eInt-laws Syntax.w8) 16)
+          pub generation : Kinds.Den {n = 4} κs (Num.pNum Syntax.w64)
+          pub config : Kinds.Den {n = 4} κs (StructRow.param OpaqueRelayConfig.the-type Laws'.the-laws Laws'.the-copy
+              Laws'.the-plain)
+          pub time : Kinds.Den {n = 4} κs (Num.pNum Syntax.w64)
+
         abbrev pub dens : (a : Args) → Kinds.Dens κs ps
-        dens = λ a. (a .pending, (a .circuits, (a .ledger, (a .inflight, (a .session, (a .generation, (a .config, (a .time, tt))))),),),)
+        dens = λ a. (
+          a .pending,
+          (a .circuits, (a .ledger, (a .inflight, (a .session, (a .generation, (a .config, (a .time, tt))))))),
+        )
+
         module _ (args· : Args) where
           pub record Ranges : Type 0 where
             pub generation : Val.Fits Syntax.w64 (args· .generation)
             pub time : Val.Fits Syntax.w64 (args· .time)
+
       abbrev pub m0 : (κs : Lifetimes.Lfts 4) → (args : Args κs) → Typed.Mo T0
       m0 = λ κs args. (tt, Enter.partsP κs 1 ps xs (dens κs args))
+
       abbrev W0 : (κs : Lifetimes.Lfts 4) → (args : Args κs) → Typed.Want O0
-      W0 = λ κs args. (λ u. ⊥, tt, λ u. Enter.Fixs κs 1 ps xs (dens κs args) (u .1) × Post· κs (dens κs args) (Function.resV r κs (u .0))
-          (Clauses.atExit (Kinds.endedOf 4 ps r) κs (dens κs args) (Enter.lastsP κs 1 ps xs (dens κs args) (u .1))),)
+      W0 = λ κs args. (
+        λ u. ⊥,
+        tt,
+        λ u. Enter.Fixs κs 1 ps xs (dens κs args) (u .1) × Post· κs (dens κs args) (Function.resV r κs (u .0)) (Clauses.atExit
+            (Kinds.endedOf 4 ps r) κs (dens κs args) (Enter.lastsP κs 1 ps xs (dens κs args) (u .1))),
+      )
+
       pub record Start : Type 0 where
         pub κs : Lifetimes.Lfts 4
         pub args : Args κs
         pub good : Kinds.GoodsP κs ps (dens κs args)
         pub fits : Ranges κs args
         pub pre : Pre· κs (dens κs args)
+
       abbrev pub m1 : (κs : Lifetimes.Lfts 4) → (args : Args κs) → Typed.Mo T2
       m1 = λ κs args. s0 (m0 κs args)
+
       abbrev pub m2 : (κs : Lifetimes.Lfts 4) → (args : Args κs) → Typed.Mo T3
       m2 = λ κs args. s1 (m1 κs args)
+
       abbrev pub m3 : (κs : Lifetimes.Lfts 4) → (args : Args κs) → Typed.Mo T4
       m3 = λ κs args. s2 (m2 κs args)
+
       abbrev pub Need-too-few-requires : Type 0
       Need-too-few-requires = (c : Start) → s3 .asks (m3 (c .κs) (c .args))
+
       abbrev pub m4 : (before : Start) → (given : s3 .gives (m3 (before .κs) (before .args))) → Typed.Mo T5
       m4 = λ before given. s3 .next (m3 (before .κs) (before .args)) given
+
       module _ (before· : Start) where
         abbrev pub After-too-few·own : Type 0
-        After-too-few·own = Called.Called ps·0 r·0 (claims· .1) T4 (record { pos = 7; st = List.[]; d = 0; at = λ x. x }, (Num.vAt 15 λ x. x, (Num.vAt
-            16 λ x. x, (Num.vAt 17 λ x. x, tt))),) (m3 (before· .κs) (before· .args))
+        After-too-few·own = Called.Called ps·0 r·0 (claims· .1) T4 args3 (m3 (before· .κs) (before· .args))
+
       pub record After-too-few : Type 0 where
         pub before : Start
         pub too-few : After-too-few·own before
+
       abbrev pub After-too-few·gave : (c : After-too-few) → s3 .gives (m3 (c .before .κs) (c .before .args))
-      After-too-few·gave = λ c. Called.given ps·0 r·0 (claims· .1) T4 (record { pos = 7; st = List.[]; d = 0; at = λ x. x }, (Num.vAt 15 λ x. x,
-          (Num.vAt 16 λ x. x, (Num.vAt 17 λ x. x, tt))),) (m3 (c .before .κs) (c .before .args)) (c .too-few)
+      After-too-few·gave = λ c. Called.given ps·0 r·0 (claims· .1) T4 args3 (m3 (c .before .κs) (c .before .args))
+          (c .too-few)
+
       abbrev pub m5 : (before : Start) → (given : s3 .gives (m3 (before .κs) (before .args))) → Typed.Mo T6
       m5 = λ before given. s4 (m4 before given)
+
       abbrev pub m6 : (before : Start) → (given : s3 .gives (m3 (before .κs) (before .args))) → Typed.Mo T7
       m6 = λ before given. s5 (m5 before given)
+
       abbrev pub m7 : (before : Start) → (given : s3 .gives (m3 (before .κs) (before .args))) → Typed.Mo T8
       m7 = λ before given. s6 (m6 before given)
+
       abbrev pub m8 : (before : Start) → (given : s3 .gives (m3 (before .κs) (before .args))) → Typed.Mo T9
       m8 = λ before given. s7 (m7 before given)
+
       abbrev pub Need-new-answer-requires : Type 0
       Need-new-answer-requires = (c : After-too-few) → s8 .asks (m8 (c .before) (After-too-few·gave c))
-      abbrev pub m9 : (before : After-too-few) → (given : s8 .gives (m8 (before .before) (After-too-few·gave before))) → Typed.Mo T10
+
+      abbrev pub m9 : (before : After-too-few) → (given : s8 .gives (m8 (before .before) (After-too-few·gave before)))
+          → Typed.Mo T10
       m9 = λ before given. s8 .next (m8 (before .before) (After-too-few·gave before)) given
+
       module _ (before· : After-too-few) where
         abbrev pub After-new-answer·own : Type 0
-        After-new-answer·own = Called.Called ps·1 r·1 (claims· .3) T9 (record { pos = 5; st = List.[]; d = 0; at = λ x. x }, (Num.vAt 6 λ x. x,
-            (record { pos = 7; st = List.[]; d = 0; at = λ x. x }, (Bool.bAt 9 λ x. x, (Num.vAt 15 λ x. x, tt)),),),) (m8 (before· .before)
-            (After-too-few·gave before·))
+        After-new-answer·own = Called.Called ps·1 r·1 (claims· .3) T9 args8
+            (m8 (before· .before) (After-too-few·gave before·))
+
       pub record After-new-answer : Type 0 where
         pub before : After-too-few
         pub new-answer : After-new-answer·own before
-      abbrev pub After-new-answer·gave : (c : After-new-answer) → s8 .gives (m8 (c .before .before) (After-too-few·gave (c .before)))
-      After-new-answer·gave = λ c. Called.given ps·1 r·1 (claims· .3) T9 (record { pos = 5; st = List.[]; d = 0; at = λ x. x }, (Num.vAt 6 λ x. x,
-          (record { pos = 7; st = List.[]; d = 0; at = λ x. x }, (Bool.bAt 9 λ x. x, (Num.vAt 15 λ x. x, tt)),),),) (m8 (c .before .before)
-          (After-too-few·gave (c .before))) (c .new-answer)
-      abbrev pub m10 : (before : After-too-few) → (given : s8 .gives (m8 (before .before) (After-too-few·gave before))) → Typed.Mo T11
+
+      abbrev pub After-new-answer·gave : (c : After-new-answer) → s8 .gives
+          (m8 (c .before .before) (After-too-few·gave (c .before)))
+      After-new-answer·gave = λ c. Called.given ps·1 r·1 (claims· .3) T9 args8
+          (m8 (c .before .before) (After-too-few·gave (c .before))) (c .new-answer)
+
+      abbrev pub m10 : (before : After-too-few) → (given : s8 .gives (m8 (before .before) (After-too-few·gave before)))
+          → Typed.Mo T11
       m10 = λ before given. s9 (m9 before given)
+
       abbrev pub Need-new-header-requires : Type 0
       Need-new-header-requires = (c : After-new-answer) → s10 .asks (m10 (c .before) (After-new-answer·gave c))
-      abbrev pub m11 : (before : After-new-answer) → (given : s10 .gives (m10 (before .before) (After-new-answer·gave before))) → Typed.Mo T12
+
+      abbrev pub m11 : (before : After-new-answer) → (given : s10 .gives
+          (m10 (before .before) (After-new-answer·gave before))) → Typed.Mo T12
       m11 = λ before given. s10 .next (m10 (before .before) (After-new-answer·gave before)) given
+
       module _ (before· : After-new-answer) where
         abbrev pub After-new-header·own : Type 0
-        After-new-header·own = Called.Called ps·2 r·2 (claims· .5) T11 (record { pos = 5; st = List.[]; d = 0; at = λ x. x }, (Num.vAt 6 λ x. x,
-            (record { pos = 7; st = List.[]; d = 0; at = λ x. x }, (Num.vAt 8 λ x. x, tt)),),) (m10 (before· .before) (After-new-answer·gave before·))
+        After-new-header·own = Called.Called ps·2 r·2 (claims· .5) T11 args10
+            (m10 (before· .before) (After-new-answer·gave before·))
+
       pub record After-new-header : Type 0 where
         pub before : After-new-answer
         pub new-header : After-new-header·own before
-      abbrev pub After-new-header·gave : (c : After-new-header) → s10 .gives (m10 (c .before .before) (After-new-answer·gave (c .before)))
-      After-new-header·gave = λ c. Called.given ps·2 r·2 (claims· .5) T11 (record { pos = 5; st = List.[]; d = 0; at = λ x. x }, (Num.vAt 6 λ x. x,
-          (record { pos = 7; st = List.[]; d = 0; at = λ x. x }, (Num.vAt 8 λ x. x, tt)),),) (m10 (c .before .before) (After-new-answer·gave (c
-          .before))) (c .new-header)
-      abbrev pub m12 : (before : After-new-answer) → (given : s10 .gives (m10 (before .before) (After-new-answer·gave before))) → Typed.Mo T13
+
+      abbrev pub After-new-header·gave : (c : After-new-header) → s10 .gives (m10 (c .before .before)
+          (After-new-answer·gave (c .before)))
+      After-new-header·gave = λ c. Called.given ps·2 r·2 (claims· .5) T11 args10 (m10 (c .before .before)
+          (After-new-answer·gave (c .before))) (c .new-header)
+
+      abbrev pub m12 : (before : After-new-answer) → (given : s10 .gives
+          (m10 (before .before) (After-new-answer·gave before))) → Typed.Mo T13
       m12 = λ before given. s11 (m11 before given)
-      abbrev pub m13 : (before : After-new-answer) → (given : s10 .gives (m10 (before .before) (After-new-answer·gave before))) → Typed.Mo T14
+
+      abbrev pub m13 : (before : After-new-answer) → (given : s10 .gives
+          (m10 (before .before) (After-new-answer·gave before))) → Typed.Mo T14
       m13 = λ before given. s12 (m12 before given)
+
       abbrev pub Need-is-taken-requires : Type 0
       Need-is-taken-requires = (c : After-new-header) → s13 .asks (m13 (c .before) (After-new-header·gave c))
-      abbrev pub m14 : (before : After-new-header) → (given : s13 .gives (m13 (before .before) (After-new-header·gave before))) → Typed.Mo T15
+
+      abbrev pub m14 : (before : After-new-header) → (given : s13 .gives
+          (m13 (before .before) (After-new-header·gave before))) → Typed.Mo T15
       m14 = λ before given. s13 .next (m13 (before .before) (After-new-header·gave before)) given
+
       module _ (before· : After-new-header) where
         abbrev pub After-is-taken·own : Type 0
-        After-is-taken·own = Called.Called ps·3 r·3 (claims· .7) T14 (record { pos = 10; st = List.[]; d = 0; at = λ x. x }, tt,) (m13 (before·
-            .before) (After-new-header·gave before·))
+        After-is-taken·own = Called.Called ps·3 r·3 (claims· .7) T14 args13
+            (m13 (before· .before) (After-new-header·gave before·))
+
       pub record After-is-taken : Type 0 where
         pub before : After-new-header
         pub is-taken : After-is-taken·own before
-      abbrev pub After-is-taken·gave : (c : After-is-taken) → s13 .gives (m13 (c .before .before) (After-new-header·gave (c .before)))
-      After-is-taken·gave = λ c. Called.given ps·3 r·3 (claims· .7) T14 (record { pos = 10; st = List.[]; d = 0; at = λ x. x }, tt,) (m13 (c .before
-          .before) (After-new-header·gave (c .before))) (c .is-taken)
-      abbrev W1 : (before : After-new-header) → (given : s13 .gives (m13 (before .before) (After-new-header·gave before))) → Typed.Want O1
-      W1 = λ before given. Typed.wantNext T16 O0 (at23 (W0 (before .before .before .before .κs) (before .before .before .before .args))) (W0 (before
-          .before .before .before .κs) (before .before .before .before .args))
+
+      abbrev pub After-is-taken·gave : (c : After-is-taken) → s13 .gives (m13 (c .before .before)
+          (After-new-header·gave (c .before)))
+      After-is-taken·gave = λ c. Called.given ps·3 r·3 (claims· .7) T14 args13 (m13 (c .before .before)
+          (After-new-header·gave (c .before))) (c .is-taken)
+
+      abbrev W1 : (before : After-new-header) → (given : s13 .gives
+          (m13 (before .before) (After-new-header·gave before))) → Typed.Want O1
+      W1 = λ before given. Typed.wantNext T16 O0 (at23 (W0 (before .before .before .before .κs)
+          (before .before .before .before .args))) (W0 (before .before .before .before .κs)
+          (before .before .before .before .args))
+
       abbrev pub m15 : (before : After-is-taken) → Typed.Mo T17
       m15 = λ before. s14 (m14 (before .before) (After-is-taken·gave before))
+
       abbrev pub m16 : (before : After-is-taken) → Typed.Mo T18
       m16 = λ before. s15 (m15 before)
+
       module _ (before· : After-is-taken) where
         pub record Then1·own : Type 0 where
-          pub taken : Path._≡_ (Row.get 18 (T15 .locals) (m14 (before· .before) (After-is-taken·gave before·))) Bool'.true
+          pub taken : Path._≡_ (Row.get 18 (T15 .locals) (m14 (before· .before) (After-is-taken·gave before·)))
+              Bool'.true
+
       pub record Then1 : Type 0 where
         pub before : After-is-taken
         pub if1 : Then1·own before
+
       abbrev pub Need-no-place-requires : Type 0
       Need-no-place-requires = (c : Then1) → s16 .asks (m16 (c .before))
+
       abbrev pub m17 : (before : Then1) → (given : s16 .gives (m16 (before .before))) → Typed.Mo T19
       m17 = λ before given. s16 .next (m16 (before .before)) given
+
       module _ (before· : Then1) where
         abbrev pub After-no-place·own : Type 0
         After-no-place·own = Called.Called ps·4 r·4 (claims· .9) T18 tt (m16 (before· .before))
+
       pub record After-no-place : Type 0 where
         pub before : Then1
         pub no-place : After-no-place·own before
+
       abbrev pub After-no-place·gave : (c : After-no-place) → s16 .gives (m16 (c .before .before))
       After-no-place·gave = λ c. Called.given ps·4 r·4 (claims· .9) T18 tt (m16 (c .before .before)) (c .no-place)
+
       abbrev pub Need-taken-with-requires : Type 0
       Need-taken-with-requires = (c : After-no-place) → s17 .asks (m17 (c .before) (After-no-place·gave c))
-      abbrev pub m18 : (before : After-no-place) → (given : s17 .gives (m17 (before .before) (After-no-place·gave before))) → Typed.Mo T20
+
+      abbrev pub m18 : (before : After-no-place) → (given : s17 .gives
+          (m17 (before .before) (After-no-place·gave before))) → Typed.Mo T20
       m18 = λ before given. s17 .next (m17 (before .before) (After-no-place·gave before)) given
+
       module _ (before· : After-no-place) where
         abbrev pub After-taken-with·own : Type 0
-        After-taken-with·own = Called.Called ps·5 r·5 (claims· .11) T19 (record { pos = 11; st = List.[]; d = 0; at = λ x. x }, (record { pos = 12; st
-            = List.[]; d = 0; at = λ x. x }, tt),) (m17 (before· .before) (After-no-place·gave before·))
+        After-taken-with·own = Called.Called ps·5 r·5 (claims· .11) T19 args17
+            (m17 (before· .before) (After-no-place·gave before·))
+
       pub record After-taken-with : Type 0 where
         pub before : After-no-place
         pub taken-with : After-taken-with·own before
-      abbrev pub After-taken-with·gave : (c : After-taken-with) → s17 .gives (m17 (c .before .before) (After-no-place·gave (c .before)))
-      After-taken-with·gave = λ c. Called.given ps·5 r·5 (claims· .11) T19 (record { pos = 11; st = List.[]; d = 0; at = λ x. x }, (record { pos = 12;
-          st = List.[]; d = 0; at = λ x. x }, tt),) (m17 (c .before .before) (After-no-place·gave (c .before))) (c .taken-with)
-      abbrev pub m19 : (before : After-no-place) → (given : s17 .gives (m17 (before .before) (After-no-place·gave before))) → Typed.Mo T21
+
+      abbrev pub After-taken-with·gave : (c : After-taken-with) → s17 .gives
+          (m17 (c .before .before) (After-no-place·gave (c .before)))
+      After-taken-with·gave = λ c. Called.given ps·5 r·5 (claims· .11) T19 args17
+          (m17 (c .before .before) (After-no-place·gave (c .before))) (c .taken-with)
+
+      abbrev pub m19 : (before : After-no-place) → (given : s17 .gives
+          (m17 (before .before) (After-no-place·gave before))) → Typed.Mo T21
       m19 = λ before given. s18 (m18 before given)
-      abbrev pub m20 : (before : After-no-place) → (given : s17 .gives (m17 (before .before) (After-no-place·gave before))) → Typed.Mo T22
+
+      abbrev pub m20 : (before : After-no-place) → (given : s17 .gives
+          (m17 (before .before) (After-no-place·gave before))) → Typed.Mo T22
       m20 = λ before given. s19 (m19 before given)
-      abbrev pub m21 : (before : After-no-place) → (given : s17 .gives (m17 (before .before) (After-no-place·gave before))) → Typed.Mo T23
+
+      abbrev pub m21 : (before : After-no-place) → (given : s17 .gives
+          (m17 (before .before) (After-no-place·gave before))) → Typed.Mo T23
       m21 = λ before given. s20 (m20 before given)
-      abbrev pub m22 : (before : After-no-place) → (given : s17 .gives (m17 (before .before) (After-no-place·gave before))) → Typed.Mo T24
+
+      abbrev pub m22 : (before : After-no-place) → (given : s17 .gives
+          (m17 (before .before) (After-no-place·gave before))) → Typed.Mo T24
       m22 = λ before given. s21 (m21 before given)
-      abbrev pub m23 : (before : After-no-place) → (given : s17 .gives (m17 (before .before) (After-no-place·gave before))) → Typed.Mo T25
+
+      abbrev pub m23 : (before : After-no-place) → (given : s17 .gives
+          (m17 (before .before) (After-no-place·gave before))) → Typed.Mo T25
       m23 = λ before given. s22 (m22 before given)
+
       abbrev pub Need-returns : Type 0
-      Need-returns = (c : After-taken-with) → Post· (c .before .before .before .before .before .before .before .κs) (dens (c .before .before .before
-          .before .before .before .before .κs) (c .before .before .before .before .before .before .before .args)) (Function.resV r (c .before .before
-          .before .before .before .before .before .κs) (m23 (c .before) (After-taken-with·gave c) .0)) (Clauses.atExit (Kinds.endedOf 4 ps r) (c
-          .before .before .before .before .before .before .before .κs) (dens (c .before .before .before .before .before .before .before .κs) (c
-          .before .before .before .before .before .before .before .args)) (Enter.lastsP (c .before .before .before .before .before .before .before
-          .κs) 1 ps xs (dens (c .before .before .before .before .before .before .before .κs) (c .before .before .before .before .before .before
-          .before .args)) (m23 (c .before) (After-taken-with·gave c) .1)))
+      Need-returns = (c : After-taken-with) → Post· (c .before .before .before .before .before .before .before .κs) (dens (c
+          .before .before .before .before .before .before .before .κs) (c .before .before .before .before .before
+          .before .before .args)) (Function.resV r (c .before .before .before .before .before .before .before .κs)
+          (m23 (c .before) (After-taken-with·gave c) .0)) (Clauses.atExit (Kinds.endedOf 4 ps r) (c .before .before
+          .before .before .before .before .before .κs) (dens (c .before .before .before .before .before .before .before
+          .κs) (c .before .before .before .before .before .before .before .args)) (Enter.lastsP (c .before .before
+          .before .before .before .before .before .κs) 1 ps xs (dens (c .before .before .before .before .before .before
+          .before .κs) (c .before .before .before .before .before .before .before .args))
+          (m23 (c .before) (After-taken-with·gave c) .1)))
+
       abbrev pub m24 : (before : After-is-taken) → Typed.Mo T26
       m24 = λ before. s23 (m14 (before .before) (After-is-taken·gave before))
+
       abbrev pub m25 : (before : After-is-taken) → Typed.Mo T27
       m25 = λ before. s24 (m24 before)
+
       module _ (before· : After-is-taken) where
         pub record Else1·own : Type 0 where
-          pub left : Path._≡_ (Row.get 18 (T15 .locals) (m14 (before· .before) (After-is-taken·gave before·))) Bool'.false
+          pub left : Path._≡_ (Row.get 18 (T15 .locals) (m14 (before· .before) (After-is-taken·gave before·)))
+              Bool'.false
+
       pub record Else1 : Type 0 where
         pub before : After-is-taken
         pub if1 : Else1·own before
+
       abbrev pub Need-no-runtime-requires : Type 0
       Need-no-runtime-requires = (c : Else1) → s25 .asks (m25 (c .before))
+
       abbrev pub m26 : (before : Else1) → (given : s25 .gives (m25 (before .before))) → Typed.Mo T28
       m26 = λ before given. s25 .next (m25 (before .before)) given
+
       module _ (before· : Else1) where
         abbrev pub After-no-runtime·own : Type 0
         After-no-runtime·own = Called.Called ps·6 r·6 (claims· .13) T16 tt (m25 (before· .before))
+
       pub record After-no-runtime : Type 0 where
         pub before : Else1
         pub no-runtime : After-no-runtime·own before
+
       abbrev pub After-no-runtime·gave : (c : After-no-runtime) → s25 .gives (m25 (c .before .before))
       After-no-runtime·gave = λ c. Called.given ps·6 r·6 (claims· .13) T16 tt (m25 (c .before .before)) (c .no-runtime)
+
       abbrev pub Need-every-place-requires : Type 0
       Need-every-place-requires = (c : After-no-runtime) → s26 .asks (m26 (c .before) (After-no-runtime·gave c))
-      abbrev pub m27 : (before : After-no-runtime) → (given : s26 .gives (m26 (before .before) (After-no-runtime·gave before))) → Typed.Mo T29
+
+      abbrev pub m27 : (before : After-no-runtime) → (given : s26 .gives
+          (m26 (before .before) (After-no-runtime·gave before))) → Typed.Mo T29
       m27 = λ before given. s26 .next (m26 (before .before) (After-no-runtime·gave before)) given
+
       module _ (before· : After-no-runtime) where
         abbrev pub After-every-place·own : Type 0
-        After-every-place·own = Called.Called ps·7 r·7 (claims· .15) T28 tt (m26 (before· .before) (After-no-runtime·gave before·))
+        After-every-place·own = Called.Called ps·7 r·7 (claims· .15) T28 tt
+            (m26 (before· .before) (After-no-runtime·gave before·))
+
       pub record After-every-place : Type 0 where
         pub before : After-no-runtime
         pub every-place : After-every-place·own before
-      abbrev pub After-every-place·gave : (c : After-every-place) → s26 .gives (m26 (c .before .before) (After-no-runtime·gave (c .before)))
-      After-every-place·gave = λ c. Called.given ps·7 r·7 (claims· .15) T28 tt (m26 (c .before .before) (After-no-runtime·gave (c .before))) (c
-          .every-place)
+
+      abbrev pub After-every-place·gave : (c : After-every-place) → s26 .gives (m26 (c .before .before)
+          (After-no-runtime·gave (c .before)))
+      After-every-place·gave = λ c. Called.given ps·7 r·7 (claims· .15) T28 tt (m26 (c .before .before)
+          (After-no-runtime·gave (c .before))) (c .every-place)
+
       abbrev pub Need-refused-requires : Type 0
       Need-refused-requires = (c : After-every-place) → s27 .asks (m27 (c .before) (After-every-place·gave c))
-      abbrev pub m28 : (before : After-every-place) → (given : s27 .gives (m27 (before .before) (After-every-place·gave before))) → Typed.Mo T30
+
+      abbrev pub m28 : (before : After-every-place) → (given : s27 .gives
+          (m27 (before .before) (After-every-place·gave before))) → Typed.Mo T30
       m28 = λ before given. s27 .next (m27 (before .before) (After-every-place·gave before)) given
+
       module _ (before· : After-every-place) where
         abbrev pub After-refused·own : Type 0
-        After-refused·own = Called.Called ps·8 r·8 (claims· .17) T29 (record { pos = 13; st = List.[]; d = 0; at = λ x. x }, (record { pos = 14; st =
-            List.[]; d = 0; at = λ x. x }, (record { pos = 10; st = List.[]; d = 0; at = λ x. x }, tt),),) (m27 (before· .before)
-            (After-every-place·gave before·))
+        After-refused·own = Called.Called ps·8 r·8 (claims· .17) T29 args27
+            (m27 (before· .before) (After-every-place·gave before·))
+
       pub record After-refused : Type 0 where
         pub before : After-every-place
         pub refused : After-refused·own before
-      abbrev pub After-refused·gave : (c : After-refused) → s27 .gives (m27 (c .before .before) (After-every-place·gave (c .before)))
-      After-refused·gave = λ c. Called.given ps·8 r·8 (claims· .17) T29 (record { pos = 13; st = List.[]; d = 0; at = λ x. x }, (record { pos = 14; st
-          = List.[]; d = 0; at = λ x. x }, (record { pos = 10; st = List.[]; d = 0; at = λ x. x }, tt),),) (m27 (c .before .before)
+
+      abbrev pub After-refused·gave : (c : After-refused) → s27 .gives (m27 (c .before .before)
+          (After-every-place·gave (c .before)))
+      After-refused·gave = λ c. Called.given ps·8 r·8 (claims· .17) T29 args27 (m27 (c .before .before)
           (After-every-place·gave (c .before))) (c .refused)
-      abbrev pub m29 : (before : After-every-place) → (given : s27 .gives (m27 (before .before) (After-every-place·gave before))) → Typed.Mo T31
+
+      abbrev pub m29 : (before : After-every-place) → (given : s27 .gives
+          (m27 (before .before) (After-every-place·gave before))) → Typed.Mo T31
       m29 = λ before given. s28 (m28 before given)
-      abbrev pub m30 : (before : After-every-place) → (given : s27 .gives (m27 (before .before) (After-every-place·gave before))) → Typed.Mo T32
+
+      abbrev pub m30 : (before : After-every-place) → (given : s27 .gives
+          (m27 (before .before) (After-every-place·gave before))) → Typed.Mo T32
       m30 = λ before given. s29 (m29 before given)
-      abbrev pub m31 : (before : After-every-place) → (given : s27 .gives (m27 (before .before) (After-every-place·gave before))) → Typed.Mo T33
+
+      abbrev pub m31 : (before : After-every-place) → (given : s27 .gives
+          (m27 (before .before) (After-every-place·gave before))) → Typed.Mo T33
       m31 = λ before given. s30 (m30 before given)
-      abbrev pub m32 : (before : After-every-place) → (given : s27 .gives (m27 (before .before) (After-every-place·gave before))) → Typed.Mo T34
+
+      abbrev pub m32 : (before : After-every-place) → (given : s27 .gives
+          (m27 (before .before) (After-every-place·gave before))) → Typed.Mo T34
       m32 = λ before given. s31 (m31 before given)
-      abbrev pub m33 : (before : After-every-place) → (given : s27 .gives (m27 (before .before) (After-every-place·gave before))) → Typed.Mo T35
+
+      abbrev pub m33 : (before : After-every-place) → (given : s27 .gives
+          (m27 (before .before) (After-every-place·gave before))) → Typed.Mo T35
       m33 = λ before given. s32 (m32 before given)
-      abbrev pub m34 : (before : After-every-place) → (given : s27 .gives (m27 (before .before) (After-every-place·gave before))) → Typed.Mo T36
+
+      abbrev pub m34 : (before : After-every-place) → (given : s27 .gives
+          (m27 (before .before) (After-every-place·gave before))) → Typed.Mo T36
       m34 = λ before given. s33 (m33 before given)
+
       abbrev pub Need-returns-2 : Type 0
-      Need-returns-2 = (c : After-refused) → Post· (c .before .before .before .before .before .before .before .before .κs) (dens (c .before .before
-          .before .before .before .before .before .before .κs) (c .before .before .before .before .before .before .before .before .args))
-          (Function.resV r (c .before .before .before .before .before .before .before .before .κs) (m34 (c .before) (After-refused·gave c) .0))
-          (Clauses.atExit (Kinds.endedOf 4 ps r) (c .before .before .before .before .before .before .before .before .κs) (dens (c .before .before
-          .before .before .before .before .before .before .κs) (c .before .before .before .before .before .before .before .before .args))
-          (Enter.lastsP (c .before .before .before .before .before .before .before .before .κs) 1 ps xs (dens (c .before .before .before .before
-          .before .before .before .before .κs) (c .before .before .before .before .before .before .before .before .args)) (m34 (c .before)
-          (After-refused·gave c) .1)))
-      module _ (too-few-requires : Need-too-few-requires) (new-answer-requires : Need-new-answer-requires) (new-header-requires :
-          Need-new-header-requires) (is-taken-requires : Need-is-taken-requires) (no-place-requires : Need-no-place-requires) (taken-with-requires :
-          Need-taken-with-requires) (returns : Need-returns) (no-runtime-requires : Need-no-runtime-requires) (every-place-requires :
-          Need-every-place-requires) (refused-requires : Need-refused-requires) (returns-2 : Need-returns-2) where
-        lay10 : (c : After-refused) → at20 (W0 (c .before .before .before .before .before .before .before .before .κs) (c .before .before .before
-            .before .before .before .before .before .args)) (m28 (c .before) (After-refused·gave c))
-        lay10 = λ c. ((Path.refl, (Path.refl, (Path.refl, (Path.refl, (tt, (tt, (tt, (tt, tt))))))),), returns-2 record { before = c .before; refused
-            = c .refused },)
-        lay9 : (c : After-every-place) → at21 (W0 (c .before .before .before .before .before .before .before .κs) (c .before .before .before .before
-            .before .before .before .args)) (m27 (c .before) (After-every-place·gave c))
-        lay9 = λ c. (refused-requires record { before = c .before; every-place = c .every-place }, λ g. lay10 record { before = record { before = c
-            .before; every-place = c .every-place }; refused = Called.called ps·8 r·8 (claims· .17) T29 (record { pos = 13; st = List.[]; d = 0; at =
-            λ x. x }, (record { pos = 14; st = List.[]; d = 0; at = λ x. x }, (record { pos = 10; st = List.[]; d = 0; at = λ x. x }, tt),),) (m27 (c
-            .before) (After-every-place·gave c)) g; },)
-        lay8 : (c : After-no-runtime) → at22 (W0 (c .before .before .before .before .before .before .κs) (c .before .before .before .before .before
-            .before .args)) (m26 (c .before) (After-no-runtime·gave c))
-        lay8 = λ c. (every-place-requires record { before = c .before; no-runtime = c .no-runtime }, λ g. lay9 record { before = record { before = c
-            .before; no-runtime = c .no-runtime }; every-place = Called.called ps·7 r·7 (claims· .15) T28 tt (m26 (c .before) (After-no-runtime·gave
-            c)) g; },)
-        lay7 : (c : Else1) → at23 (W0 (c .before .before .before .before .before .κs) (c .before .before .before .before .before .args)) (m25 (c
-            .before))
-        lay7 = λ c. (no-runtime-requires record { before = c .before; if1 = c .if1 }, λ g. lay8 record { before = record { before = c .before; if1 = c
-            .if1 }; no-runtime = Called.called ps·6 r·6 (claims· .13) T16 tt (m25 (c .before)) g; },)
-        lay6 : (c : After-taken-with) → at5 (W1 (c .before .before .before .before) (After-is-taken·gave (c .before .before .before))) (m18 (c
-            .before) (After-taken-with·gave c))
-        lay6 = λ c. ((Path.refl, (Path.refl, (Path.refl, (Path.refl, (tt, (tt, (tt, (tt, tt))))))),), returns record { before = c .before; taken-with
-            = c .taken-with },)
-        lay5 : (c : After-no-place) → at6 (W1 (c .before .before .before) (After-is-taken·gave (c .before .before))) (m17 (c .before)
-            (After-no-place·gave c))
-        lay5 = λ c. (taken-with-requires record { before = c .before; no-place = c .no-place }, λ g. lay6 record { before = record { before = c
-            .before; no-place = c .no-place }; taken-with = Called.called ps·5 r·5 (claims· .11) T19 (record { pos = 11; st = List.[]; d = 0; at = λ
-            x. x }, (record { pos = 12; st = List.[]; d = 0; at = λ x. x }, tt),) (m17 (c .before) (After-no-place·gave c)) g; },)
-        lay4 : (c : After-is-taken) → at24 (W0 (c .before .before .before .before .κs) (c .before .before .before .before .args)) (m14 (c .before)
-            (After-is-taken·gave c))
-        lay4 = λ c. (λ taken. (no-place-requires record { before = record { before = c .before; is-taken = c .is-taken }; if1 = record { taken = taken
-            }; }, λ g. lay5 record { before = record { before = record { before = c .before; is-taken = c .is-taken }; if1 = record { taken = taken };
-            }; no-place = Called.called ps·4 r·4 (claims· .9) T18 tt (m16 record { before = c .before; is-taken = c .is-taken; }) g; },), λ left. lay7
-            record { before = record { before = c .before; is-taken = c .is-taken }; if1 = record { left = left }; },)
-        lay3 : (c : After-new-header) → at27 (W0 (c .before .before .before .κs) (c .before .before .before .args)) (m11 (c .before)
-            (After-new-header·gave c))
-        lay3 = λ c. (is-taken-requires record { before = c .before; new-header = c .new-header }, λ g. lay4 record { before = record { before = c
-            .before; new-header = c .new-header }; is-taken = Called.called ps·3 r·3 (claims· .7) T14 (record { pos = 10; st = List.[]; d = 0; at = λ
-            x. x }, tt,) (m13 (c .before) (After-new-header·gave c)) g; },)
-        lay2 : (c : After-new-answer) → at29 (W0 (c .before .before .κs) (c .before .before .args)) (m9 (c .before) (After-new-answer·gave c))
-        lay2 = λ c. (new-header-requires record { before = c .before; new-answer = c .new-answer }, λ g. lay3 record { before = record { before = c
-            .before; new-answer = c .new-answer }; new-header = Called.called ps·2 r·2 (claims· .5) T11 (record { pos = 5; st = List.[]; d = 0; at = λ
-            x. x }, (Num.vAt 6 λ x. x, (record { pos = 7; st = List.[]; d = 0; at = λ x. x }, (Num.vAt 8 λ x. x, tt)),),) (m10 (c .before)
-            (After-new-answer·gave c)) g; },)
-        lay1 : (c : After-too-few) → at34 (W0 (c .before .κs) (c .before .args)) (m4 (c .before) (After-too-few·gave c))
-        lay1 = λ c. (new-answer-requires record { before = c .before; too-few = c .too-few }, λ g. lay2 record { before = record { before = c .before;
-            too-few = c .too-few }; new-answer = Called.called ps·1 r·1 (claims· .3) T9 (record { pos = 5; st = List.[]; d = 0; at = λ x. x },
-            (Num.vAt 6 λ x. x, (record { pos = 7; st = List.[]; d = 0; at = λ x. x }, (Bool.bAt 9 λ x. x, (Num.vAt 15 λ x. x, tt)),),),) (m8 (c
-            .before) (After-too-few·gave c)) g; },)
+      Need-returns-2 = (c : After-refused) → Post· (c .before .before .before .before .before .before .before .before
+          .κs) (dens (c .before .before .before .before .before .before .before .before .κs) (c .before .before .before
+          .before .before .before .before .before .args)) (Function.resV r (c .before .before .before .before .before
+          .before .before .before .κs) (m34 (c .before) (After-refused·gave c) .0)) (Clauses.atExit
+          (Kinds.endedOf 4 ps r) (c .before .before .before .before .before .before .before .before .κs) (dens (c
+          .before .before .before .before .before .before .before .before .κs) (c .before .before .before .before
+          .before .before .before .before .args)) (Enter.lastsP (c .before .before .before .before .before .before
+          .before .before .κs) 1 ps xs (dens (c .before .before .before .before .before .before .before .before .κs) (c
+          .before .before .before .before .before .before .before .before .args))
+          (m34 (c .before) (After-refused·gave c) .1)))
+
+      module _ (too-few-requires : Need-too-few-requires) (new-answer-requires : Need-new-answer-requires)
+          (new-header-requires : Need-new-header-requires) (is-taken-requires : Need-is-taken-requires)
+          (no-place-requires : Need-no-place-requires) (taken-with-requires : Need-taken-with-requires)
+          (returns : Need-returns) (no-runtime-requires : Need-no-runtime-requires)
+          (every-place-requires : Need-every-place-requires) (refused-requires : Need-refused-requires)
+          (returns-2 : Need-returns-2) where
+        lay10 : (c : After-refused) → at20 (W0 (c .before .before .before .before .before .before .before .before .κs) (c
+            .before .before .before .before .before .before .before .before .args))
+            (m28 (c .before) (After-refused·gave c))
+        lay10 = λ c. (
+          (Path.refl, (Path.refl, (Path.refl, (Path.refl, (tt, (tt, (tt, (tt, tt)))))))),
+          returns-2 record { before = c .before; refused = c .refused },
+        )
+
+        lay9 : (c : After-every-place) → at21 (W0 (c .before .before .before .before .before .before .before .κs) (c
+            .before .before .before .before .before .before .before .args))
+            (m27 (c .before) (After-every-place·gave c))
+        lay9 = λ c. (
+          refused-requires record { before = c .before; every-place = c .every-place },
+          λ g. lay10 record {
+            before = record { before = c .before; every-place = c .every-place };
+            refused = Called.called ps·8 r·8 (claims· .17) T29 args27 (m27 (c .before) (After-every-place·gave c)) g;
+          },
+        )
+
+        lay8 : (c : After-no-runtime) → at22 (W0 (c .before .before .before .before .before .before .κs)
+            (c .before .before .before .before .before .before .args)) (m26 (c .before) (After-no-runtime·gave c))
+        lay8 = λ c. (
+          every-place-requires record { before = c .before; no-runtime = c .no-runtime },
+          λ g. lay9 record {
+            before = record { before = c .before; no-runtime = c .no-runtime };
+            every-place = Called.called ps·7 r·7 (claims· .15) T28 tt (m26 (c .before) (After-no-runtime·gave c)) g;
+          },
+        )
+
+        lay7 : (c : Else1) → at23 (W0 (c .before .before .before .before .before .κs)
+            (c .before .before .before .before .before .args)) (m25 (c .before))
+        lay7 = λ c. (
+          no-runtime-requires record { before = c .before; if1 = c .if1 },
+          λ g. lay8 record {
+            before = record { before = c .before; if1 = c .if1 };
+            no-runtime = Called.called ps·6 r·6 (claims· .13) T16 tt (m25 (c .before)) g;
+          },
+        )
+
+        lay6 : (c : After-taken-with) → at5 (W1 (c .before .before .before .before)
+            (After-is-taken·gave (c .before .before .before))) (m18 (c .before) (After-taken-with·gave c))
+        lay6 = λ c. (
+          (Path.refl, (Path.refl, (Path.refl, (Path.refl, (tt, (tt, (tt, (tt, tt)))))))),
+          returns record { before = c .before; taken-with = c .taken-with },
+        )
+
+        lay5 : (c : After-no-place) → at6 (W1 (c .before .before .before) (After-is-taken·gave (c .before .before)))
+            (m17 (c .before) (After-no-place·gave c))
+        lay5 = λ c. (
+          taken-with-requires record { before = c .before; no-place = c .no-place },
+          λ g. lay6 record {
+            before = record { before = c .before; no-place = c .no-place };
+            taken-with = Called.called ps·5 r·5 (claims· .11) T19 args17 (m17 (c .before) (After-no-place·gave c)) g;
+          },
+        )
+
+        lay4 : (c : After-is-taken) → at24 (W0 (c .before .before .before .before .κs)
+            (c .before .before .before .before .args)) (m14 (c .before) (After-is-taken·gave c))
+        lay4 = λ c. (
+          λ taken. (
+            no-place-requires record {
+              before = record { before = c .before; is-taken = c .is-taken };
+              if1 = record { taken = taken };
+            },
+            λ g. lay5 record {
+              before = record {
+                before = record { before = c .before; is-taken = c .is-taken };
+                if1 = record { taken = taken };
+              };
+              no-place = Called.called ps·4 r·4 (claims· .9) T18 tt
+                  (m16 record { before = c .before; is-taken = c .is-taken }) g;
+            },
+          ),
+          λ left. lay7 record {
+            before = record { before = c .before; is-taken = c .is-taken };
+            if1 = record { left = left };
+          },
+        )
+
+        lay3 : (c : After-new-header) → at27 (W0 (c .before .before .before .κs) (c .before .before .before .args))
+            (m11 (c .before) (After-new-header·gave c))
+        lay3 = λ c. (
+          is-taken-requires record { before = c .before; new-header = c .new-header },
+          λ g. lay4 record {
+            before = record { before = c .before; new-header = c .new-header };
+            is-taken = Called.called ps·3 r·3 (claims· .7) T14 args13 (m13 (c .before) (After-new-header·gave c)) g;
+          },
+        )
+
+        lay2 : (c : After-new-answer) → at29 (W0 (c .before .before .κs) (c .before .before .args))
+            (m9 (c .before) (After-new-answer·gave c))
+        lay2 = λ c. (
+          new-header-requires record { before = c .before; new-answer = c .new-answer },
+          λ g. lay3 record {
+            before = record { before = c .before; new-answer = c .new-answer };
+            new-header = Called.called ps·2 r·2 (claims· .5) T11 args10 (m10 (c .before) (After-new-answer·gave c)) g;
+          },
+        )
+
+        lay1 : (c : After-too-few) → at34 (W0 (c .before .κs) (c .before .args))
+            (m4 (c .before) (After-too-few·gave c))
+        lay1 = λ c. (
+          new-answer-requires record { before = c .before; too-few = c .too-few },
+          λ g. lay2 record {
+            before = record { before = c .before; too-few = c .too-few };
+            new-answer = Called.called ps·1 r·1 (claims· .3) T9 args8 (m8 (c .before) (After-too-few·gave c)) g;
+          },
+        )
+
         pub laid : (c : Start) → at38 (W0 (c .κs) (c .args)) (m0 (c .κs) (c .args))
-        laid = λ c. (too-few-requires c, λ g. lay1 record { before = c; too-few = Called.called ps·0 r·0 (claims· .1) T4 (record { pos = 7; st =
-            List.[]; d = 0; at = λ x. x }, (Num.vAt 15 λ x. x, (Num.vAt 16 λ x. x, (Num.vAt 17 λ x. x, tt))),) (m3 (c .κs) (c .args)) g; },)
+        laid = λ c. (
+          too-few-requires c,
+          λ g. lay1 record {
+            before = c;
+            too-few = Called.called ps·0 r·0 (claims· .1) T4 args3 (m3 (c .κs) (c .args)) g;
+          },
+        )
+
         module _ (κs : Lifetimes.Lfts 4) (qs : Lifetimes.Shares 4) where
-          pub asked : (a : Kinds.Dens κs ps) → (good : Kinds.GoodsP κs ps a) → (pre : Pre· κs a) → (bs : List.List Nat.ℕ) → Φ (Any.wantQ 4 ps r xs m
-              κs qs a (Post· κs a)) (Function.init 4 ps r xs m κs qs a)
-          asked = λ a good pre bs. laid record { κs = κs; args = record { pending = a .0; circuits = a .1 .0; ledger = a .1 .1 .0; inflight = a .1 .1
-              .1 .0; session = a .1 .1 .1 .1 .0; generation = a .1 .1 .1 .1 .1 .0; config = a .1 .1 .1 .1 .1 .1 .0; time = a .1 .1 .1 .1 .1 .1 .1 .0;
-              }; good = good; fits = record { generation = record { fits = good .1 .1 .1 .1 .1 .0 .1 }; time = record { fits = good .1 .1 .1 .1 .1 .1
-              .1 .0 .1 }; }; pre = pre; }
-        module _ { M : Type 1 } (𝓤 : URA.URA M) (H : Wp.Heap 𝓤) (A : Atoms.Atoms 𝓤) (W : Kit.Given 𝓤 H A) (𝓣 : Wp.Tables 𝓤 H) (known0 : Plain.Known 𝓤
-            H A W 𝓣 0 ps·0 r·0 (claims· .0) (claims· .1) "hnsr_circuit::entry::too_few") (known1 : Plain.Known 𝓤 H A W 𝓣 0 ps·1 r·1 (claims· .2)
-            (claims· .3) "hnsr_circuit::calls::new_answer") (known2 : Plain.Known 𝓤 H A W 𝓣 0 ps·2 r·2 (claims· .4) (claims· .5)
-            "hnsr_circuit::header::new_header") (known3 : Plain.Known 𝓤 H A W 𝓣 0 ps·3 r·3 (claims· .6) (claims· .7) "hnsr_circuit::answer::is_taken")
-            (known4 : Plain.Known 𝓤 H A W 𝓣 0 ps·4 r·4 (claims· .8) (claims· .9) "hnsr_circuit::places::no_place") (known5 : Plain.Known 𝓤 H A W 𝓣 0
-            ps·5 r·5 (claims· .10) (claims· .11) "hnsr_circuit::revoking_calls::taken_with") (known6 : Plain.Known 𝓤 H A W 𝓣 0 ps·6 r·6 (claims· .12)
-            (claims· .13) "hnsr_circuit::header::no_runtime") (known7 : Plain.Known 𝓤 H A W 𝓣 0 ps·7 r·7 (claims· .14) (claims· .15)
-            "hnsr_circuit::places::every_place") (known8 : Plain.Known 𝓤 H A W 𝓣 0 ps·8 r·8 (claims· .16) (claims· .17)
-            "hnsr_circuit::revoking_calls::refused") where
-          pub spec : Statement.Triple 𝓤 (Wp.WpFn 𝓤 H (𝓣 .C) (𝓣 .Λ) (Function.fnOf 4 ps r xs m hs body)) (Function.plainOf 𝓤 H A 4 ps r Pre· Post·)
-          spec = Plain.t-fn-plain 𝓤 H A W 𝓣 4 ps r xs m hs body (λ κs qs bs. Φ) (λ κs qs bs bd. typed κs qs 𝓤 H A W 𝓣 (known0, known1, known2, known3,
-              known4, known5, known6, known7, known8,) bs bd) Pre· Post· asked
+          pub asked : (a : Kinds.Dens κs ps) → (good : Kinds.GoodsP κs ps a) → (pre : Pre· κs a) →
+              (bs : List.List Nat.ℕ) → Φ (Any.wantQ 4 ps r xs m κs qs a (Post· κs a))
+              (Function.init 4 ps r xs m κs qs a)
+          asked = λ a good pre bs. laid record {
+            κs = κs;
+            args = record {
+              pending = a .0;
+              circuits = a .1 .0;
+              ledger = a .1 .1 .0;
+              inflight = a .1 .1 .1 .0;
+              session = a .1 .1 .1 .1 .0;
+              generation = a .1 .1 .1 .1 .1 .0;
+              config = a .1 .1 .1 .1 .1 .1 .0;
+              time = a .1 .1 .1 .1 .1 .1 .1 .0;
+            };
+            good = good;
+            fits = record {
+              generation = record { fits = good .1 .1 .1 .1 .1 .0 .1 };
+              time = record { fits = good .1 .1 .1 .1 .1 .1 .1 .0 .1 };
+            };
+            pre = pre;
+          }
+
+        module _ {M : Type 1} (𝓤 : URA.URA M) (H : Wp.Heap 𝓤) (A : Atoms.Atoms 𝓤) (W : Kit.Given 𝓤 H A)
+            (𝓣 : Wp.Tables 𝓤 H) (known0 : Plain.Known 𝓤 H A W 𝓣 0 ps·0 r·0 (claims· .0) (claims· .1)
+            "hnsr_circuit::entry::too_few") (known1 : Plain.Known 𝓤 H A W 𝓣 0 ps·1 r·1 (claims· .2) (claims· .3)
+            "hnsr_circuit::calls::new_answer") (known2 : Plain.Known 𝓤 H A W 𝓣 0 ps·2 r·2 (claims· .4) (claims· .5)
+            "hnsr_circuit::header::new_header") (known3 : Plain.Known 𝓤 H A W 𝓣 0 ps·3 r·3 (claims· .6) (claims· .7)
+            "hnsr_circuit::answer::is_taken") (known4 : Plain.Known 𝓤 H A W 𝓣 0 ps·4 r·4 (claims· .8) (claims· .9)
+            "hnsr_circuit::places::no_place") (known5 : Plain.Known 𝓤 H A W 𝓣 0 ps·5 r·5 (claims· .10) (claims· .11)
+            "hnsr_circuit::revoking_calls::taken_with") (known6 : Plain.Known 𝓤 H A W 𝓣 0 ps·6 r·6 (claims· .12)
+            (claims· .13) "hnsr_circuit::header::no_runtime") (known7 : Plain.Known 𝓤 H A W 𝓣 0 ps·7 r·7 (claims· .14)
+            (claims· .15) "hnsr_circuit::places::every_place") (known8 : Plain.Known 𝓤 H A W 𝓣 0 ps·8 r·8 (claims· .16)
+            (claims· .17) "hnsr_circuit::revoking_calls::refused") where
+          pub spec : Statement.Triple 𝓤 (Wp.WpFn 𝓤 H (𝓣 .C) (𝓣 .Λ) (Function.fnOf 4 ps r xs m hs body))
+              (Function.plainOf 𝓤 H A 4 ps r Pre· Post·)
+          spec = Plain.t-fn-plain 𝓤 H A W 𝓣 4 ps r xs m hs body (λ κs qs bs. Φ) (λ κs qs bs bd. typed κs qs 𝓤 H A W 𝓣 (
+            known0,
+            known1,
+            known2,
+            known3,
+            known4,
+            known5,
+            known6,
+            known7,
+            known8,
+          ) bs bd) Pre· Post· asked

@@ -4,6 +4,7 @@ use Rattle.hnsr_circuit.proofs.By.InflightAction
 use Rattle.hnsr_circuit.proofs.By.RelayCircuit
 use Rattle.hnsr_circuit.proofs.By.RelayPending
 use Rattle.hnsr_circuit.proofs.By.ReservationUsage
+use Rattle.hnsr_circuit.proofs.StructRow
 use Rattle.hnsr_circuit.proofs.answer.HnsrAnswer
 use Rattle.hnsr_circuit.proofs.answer.HnsrAnswer.Laws
 use Rattle.hnsr_circuit.proofs.config.OpaqueRelayConfig
@@ -28,7 +29,6 @@ use borrow.Kind.Bool
 use borrow.Kind.MutSlice
 use borrow.Kind.Num
 use borrow.Kind.ShrSlice
-use borrow.Kind.Value
 use borrow.Rule.DerefMove
 use borrow.Rule.Lifetime
 use borrow.Rule.Local
@@ -54,11 +54,8 @@ use borrow.Table.Rows
 use borrow.Table.Typed
 use contract.Lifetimes
 use denote.Enum.Declared
-use denote.Enum.Laws as Laws''''''
-use denote.Exit
 use denote.Struct.At
 use denote.Struct.Declared as Declared'
-use denote.Struct.Laws as Laws'''''''
 use denote.Triple.Clauses
 use denote.Triple.Statement
 use ghost.Atoms
@@ -75,3160 +72,6335 @@ use mathlib.Core.List.{_∷_}
 
 abbrev ref0 : Syntax.Ty
 ref0 = Syntax.tyRef Syntax.erased Syntax.imm RelayPending.to
+
 abbrev ref1 : Syntax.Ty
 ref1 = Syntax.tyRef Syntax.erased Syntax.imm RelayCircuit.to
+
 abbrev ref2 : Syntax.Ty
 ref2 = Syntax.tyRef Syntax.erased Syntax.imm ReservationUsage.to
+
 abbrev ref3 : Syntax.Ty
 ref3 = Syntax.tyRef Syntax.erased Syntax.imm InflightAction.to
+
 abbrev ref4 : Syntax.Ty
 ref4 = Syntax.tyRef Syntax.erased Syntax.mut RelayPending.to
+
 abbrev ref5 : Syntax.Ty
 ref5 = Syntax.tyRef Syntax.erased Syntax.mut RelayCircuit.to
+
 abbrev ref6 : Syntax.Ty
 ref6 = Syntax.tyRef Syntax.erased Syntax.mut ReservationUsage.to
+
 abbrev ref7 : Syntax.Ty
 ref7 = Syntax.tyRef Syntax.erased Syntax.mut InflightAction.to
+
 abbrev ref8 : Syntax.Ty
 ref8 = Syntax.tyRef Syntax.erased Syntax.mut (Syntax.tyInt Syntax.w32)
+
 abbrev ref9 : Syntax.Ty
 ref9 = Syntax.tyRef (Syntax.named 0) Syntax.mut RelayPending.to
+
 abbrev ref10 : Syntax.Ty
 ref10 = Syntax.tyRef (Syntax.named 1) Syntax.mut RelayCircuit.to
+
 abbrev ref11 : Syntax.Ty
 ref11 = Syntax.tyRef (Syntax.named 2) Syntax.mut ReservationUsage.to
+
 abbrev ref12 : Syntax.Ty
 ref12 = Syntax.tyRef (Syntax.named 3) Syntax.mut InflightAction.to
+
 abbrev ref13 : Syntax.Ty
 ref13 = Syntax.tyRef (Syntax.named 4) Syntax.mut (Syntax.tyInt Syntax.w32)
+
 abbrev ref14 : Syntax.Ty
 ref14 = Syntax.tyRef (Syntax.named 5) Syntax.imm (Syntax.tyInt Syntax.w8)
+
 abbrev ref15 : Syntax.Ty
 ref15 = Syntax.tyRef (Syntax.named 6) Syntax.imm (Syntax.tyInt Syntax.w8)
+
 abbrev ref16 : Syntax.Ty
 ref16 = Syntax.tyRef (Syntax.named 7) Syntax.imm (Syntax.tyInt Syntax.w8)
+
 abbrev ref17 : Syntax.Ty
 ref17 = Syntax.tyRef (Syntax.named 8) Syntax.imm (Syntax.tyInt Syntax.w8)
+
+abbrev slice0 : Syntax.Ty
+slice0 = Syntax.tyStruct (38 ∷ 91 ∷ 93 ∷ List.[]) (Syntax.tcons ref0
+    (Syntax.tcons (Syntax.tyInt Syntax.w64) Syntax.tnil))
+
+abbrev slice1 : Syntax.Ty
+slice1 = Syntax.tyStruct (38 ∷ 91 ∷ 93 ∷ List.[]) (Syntax.tcons ref1
+    (Syntax.tcons (Syntax.tyInt Syntax.w64) Syntax.tnil))
+
+abbrev slice2 : Syntax.Ty
+slice2 = Syntax.tyStruct (38 ∷ 91 ∷ 93 ∷ List.[]) (Syntax.tcons ref2
+    (Syntax.tcons (Syntax.tyInt Syntax.w64) Syntax.tnil))
+
+abbrev slice3 : Syntax.Ty
+slice3 = Syntax.tyStruct (38 ∷ 91 ∷ 93 ∷ List.[]) (Syntax.tcons ref3
+    (Syntax.tcons (Syntax.tyInt Syntax.w64) Syntax.tnil))
+
+abbrev slice4 : Syntax.Ty
+slice4 = Syntax.tyStruct (38 ∷ 91 ∷ 93 ∷ List.[]) (Syntax.tcons ref4
+    (Syntax.tcons (Syntax.tyInt Syntax.w64) Syntax.tnil))
+
+abbrev slice5 : Syntax.Ty
+slice5 = Syntax.tyStruct (38 ∷ 91 ∷ 93 ∷ List.[]) (Syntax.tcons ref5
+    (Syntax.tcons (Syntax.tyInt Syntax.w64) Syntax.tnil))
+
+abbrev slice6 : Syntax.Ty
+slice6 = Syntax.tyStruct (38 ∷ 91 ∷ 93 ∷ List.[]) (Syntax.tcons ref6
+    (Syntax.tcons (Syntax.tyInt Syntax.w64) Syntax.tnil))
+
+abbrev slice7 : Syntax.Ty
+slice7 = Syntax.tyStruct (38 ∷ 91 ∷ 93 ∷ List.[]) (Syntax.tcons ref7
+    (Syntax.tcons (Syntax.tyInt Syntax.w64) Syntax.tnil))
+
+abbrev slice8 : Syntax.Ty
+slice8 = Syntax.tyStruct (38 ∷ 91 ∷ 93 ∷ List.[]) (Syntax.tcons ref8
+    (Syntax.tcons (Syntax.tyInt Syntax.w64) Syntax.tnil))
+
 abbrev pub ps : List.List (Kinds.PK 9)
-ps = (MutSlice.pMutS RelayPending.row 0 tt) ∷ (MutSlice.pMutS RelayCircuit.row 1 tt) ∷ (MutSlice.pMutS ReservationUsage.row 2 tt) ∷ (MutSlice.pMutS
-    InflightAction.row 3 tt) ∷ (MutSlice.pMutS (Referent.rtF (Referent.fInt Syntax.w32)) 4 tt) ∷ (Value.pVal record { ty = Declared'.row
-    OpaqueRelayRuntime.the-type; one = Path.refl; val = Laws'''''''.val OpaqueRelayRuntime.the-type Laws''''.the-laws; tells = Laws'''''''.tells
-    OpaqueRelayRuntime.the-type Laws''''.the-laws; still = Laws'''''''.still OpaqueRelayRuntime.the-type Laws''''.the-copy Exit.yes; row = Rows.whole
-    (Declared'.row OpaqueRelayRuntime.the-type); rd = λ x. x; mk = λ x. x; } λ M 𝓤 H A W. record { copies = Laws'''''''.copy
-    OpaqueRelayRuntime.the-type Laws''''.the-copy 𝓤 H A W; lawful = Laws'''''''.lawful OpaqueRelayRuntime.the-type Laws''''.the-laws 𝓤 H A W; makes =
-    Laws'''''''.makes OpaqueRelayRuntime.the-type Laws''''.the-plain 𝓤 H A; in-mem = Local.mem-whole 𝓤 H A W (Declared'.row
-    OpaqueRelayRuntime.the-type); of-mem = Local.whole-mem 𝓤 H A W (Declared'.row OpaqueRelayRuntime.the-type); }) ∷ (Value.pVal record { ty =
-    Declared'.row Places.the-type; one = Path.refl; val = Laws'''''''.val Places.the-type Laws''.the-laws; tells = Laws'''''''.tells Places.the-type
-    Laws''.the-laws; still = Laws'''''''.still Places.the-type Laws''.the-copy Exit.yes; row = Rows.whole (Declared'.row Places.the-type); rd = λ x.
-    x; mk = λ x. x; } λ M 𝓤 H A W. record { copies = Laws'''''''.copy Places.the-type Laws''.the-copy 𝓤 H A W; lawful = Laws'''''''.lawful
-    Places.the-type Laws''.the-laws 𝓤 H A W; makes = Laws'''''''.makes Places.the-type Laws''.the-plain 𝓤 H A; in-mem = Local.mem-whole 𝓤 H A W
-    (Declared'.row Places.the-type); of-mem = Local.whole-mem 𝓤 H A W (Declared'.row Places.the-type); }) ∷ (Value.pVal record { ty = Declared'.row
-    RelayPacket.the-type; one = Path.refl; val = Laws'''''''.val RelayPacket.the-type Laws'''.the-laws; tells = Laws'''''''.tells RelayPacket.the-type
-    Laws'''.the-laws; still = Laws'''''''.still RelayPacket.the-type Laws'''.the-copy Exit.yes; row = Rows.whole (Declared'.row RelayPacket.the-type);
-    rd = λ x. x; mk = λ x. x; } λ M 𝓤 H A W. record { copies = Laws'''''''.copy RelayPacket.the-type Laws'''.the-copy 𝓤 H A W; lawful =
-    Laws'''''''.lawful RelayPacket.the-type Laws'''.the-laws 𝓤 H A W; makes = Laws'''''''.makes RelayPacket.the-type Laws'''.the-plain 𝓤 H A; in-mem =
-    Local.mem-whole 𝓤 H A W (Declared'.row RelayPacket.the-type); of-mem = Local.whole-mem 𝓤 H A W (Declared'.row RelayPacket.the-type); }) ∷
-    (ShrSlice.pShrS (Referent.rtF (Referent.fInt Syntax.w8)) 5 tt) ∷ (ShrSlice.pShrS (Referent.rtF (Referent.fInt Syntax.w8)) 6 tt) ∷ (ShrSlice.pShrS
-    (Referent.rtF (Referent.fInt Syntax.w8)) 7 tt) ∷ (ShrSlice.pShrS (Referent.rtF (Referent.fInt Syntax.w8)) 8 tt) ∷ List.[]
+ps = (MutSlice.pMutS RelayPending.row 0 tt) ∷ (MutSlice.pMutS RelayCircuit.row 1 tt) ∷
+    (MutSlice.pMutS ReservationUsage.row 2 tt) ∷ (MutSlice.pMutS InflightAction.row 3 tt) ∷ (MutSlice.pMutS
+    (Referent.rtF (Referent.fInt Syntax.w32)) 4 tt) ∷ (StructRow.param OpaqueRelayRuntime.the-type Laws''''.the-laws
+    Laws''''.the-copy Laws''''.the-plain) ∷ (StructRow.param Places.the-type Laws''.the-laws Laws''.the-copy
+    Laws''.the-plain) ∷ (StructRow.param RelayPacket.the-type Laws'''.the-laws Laws'''.the-copy Laws'''.the-plain) ∷ (ShrSlice.pShrS
+    (Referent.rtF (Referent.fInt Syntax.w8)) 5 tt) ∷ (ShrSlice.pShrS (Referent.rtF (Referent.fInt Syntax.w8)) 6 tt) ∷ (ShrSlice.pShrS
+    (Referent.rtF (Referent.fInt Syntax.w8)) 7 tt) ∷ (ShrSlice.pShrS (Referent.rtF (Referent.fInt Syntax.w8)) 8 tt) ∷
+    List.[]
+
 abbrev pub r : Kinds.RK 9
-r = Value.rVal record { ty = Declared'.row Relayed.the-type; one = Path.refl; val = Laws'''''''.val Relayed.the-type Laws'''''.the-laws; tells =
-    Laws'''''''.tells Relayed.the-type Laws'''''.the-laws; still = Laws'''''''.still Relayed.the-type Laws'''''.the-copy Exit.yes; row = Rows.whole
-    (Declared'.row Relayed.the-type); rd = λ x. x; mk = λ x. x; } λ M 𝓤 H A W. record { copies = Laws'''''''.copy Relayed.the-type Laws'''''.the-copy
-    𝓤 H A W; lawful = Laws'''''''.lawful Relayed.the-type Laws'''''.the-laws 𝓤 H A W; makes = Laws'''''''.makes Relayed.the-type Laws'''''.the-plain 𝓤
-    H A; in-mem = Local.mem-whole 𝓤 H A W (Declared'.row Relayed.the-type); of-mem = Local.whole-mem 𝓤 H A W (Declared'.row Relayed.the-type); }
+r = StructRow.result Relayed.the-type Laws'''''.the-laws Laws'''''.the-copy Laws'''''.the-plain
+
 abbrev pub xs : List.List Syntax.Ty
-xs = Laws'.mir ∷ Syntax.tyBool ∷ Laws.mir ∷ Laws.mir ∷ Laws''''.mir ∷ Laws''.mir ∷ (Syntax.tyInt Syntax.w64) ∷ (Syntax.tyInt Syntax.w64) ∷
-    (Syntax.tyInt Syntax.w64) ∷ Syntax.tyBool ∷ ref0 ∷ (Syntax.tyStruct (38 ∷ 91 ∷ 93 ∷ List.[]) (Syntax.tcons ref0 (Syntax.tcons (Syntax.tyInt
-    Syntax.w64) Syntax.tnil))) ∷ ref1 ∷ (Syntax.tyStruct (38 ∷ 91 ∷ 93 ∷ List.[]) (Syntax.tcons ref1 (Syntax.tcons (Syntax.tyInt Syntax.w64)
-    Syntax.tnil))) ∷ ref2 ∷ (Syntax.tyStruct (38 ∷ 91 ∷ 93 ∷ List.[]) (Syntax.tcons ref2 (Syntax.tcons (Syntax.tyInt Syntax.w64) Syntax.tnil))) ∷ ref3
-    ∷ (Syntax.tyStruct (38 ∷ 91 ∷ 93 ∷ List.[]) (Syntax.tcons ref3 (Syntax.tcons (Syntax.tyInt Syntax.w64) Syntax.tnil))) ∷ ref4 ∷ (Syntax.tyStruct
-    (38 ∷ 91 ∷ 93 ∷ List.[]) (Syntax.tcons ref4 (Syntax.tcons (Syntax.tyInt Syntax.w64) Syntax.tnil))) ∷ ref5 ∷ (Syntax.tyStruct (38 ∷ 91 ∷ 93 ∷
-    List.[]) (Syntax.tcons ref5 (Syntax.tcons (Syntax.tyInt Syntax.w64) Syntax.tnil))) ∷ ref6 ∷ (Syntax.tyStruct (38 ∷ 91 ∷ 93 ∷ List.[])
-    (Syntax.tcons ref6 (Syntax.tcons (Syntax.tyInt Syntax.w64) Syntax.tnil))) ∷ ref7 ∷ (Syntax.tyStruct (38 ∷ 91 ∷ 93 ∷ List.[]) (Syntax.tcons ref7
-    (Syntax.tcons (Syntax.tyInt Syntax.w64) Syntax.tnil))) ∷ ref8 ∷ (Syntax.tyStruct (38 ∷ 91 ∷ 93 ∷ List.[]) (Syntax.tcons ref8 (Syntax.tcons
-    (Syntax.tyInt Syntax.w64) Syntax.tnil))) ∷ List.[]
+xs = Laws'.mir ∷ Syntax.tyBool ∷ Laws.mir ∷ Laws.mir ∷ Laws''''.mir ∷ Laws''.mir ∷ (Syntax.tyInt Syntax.w64) ∷
+    (Syntax.tyInt Syntax.w64) ∷ (Syntax.tyInt Syntax.w64) ∷ Syntax.tyBool ∷ ref0 ∷ slice0 ∷ ref1 ∷ slice1 ∷ ref2 ∷
+    slice2 ∷ ref3 ∷ slice3 ∷ ref4 ∷ slice4 ∷ ref5 ∷ slice5 ∷ ref6 ∷ slice6 ∷ ref7 ∷ slice7 ∷ ref8 ∷ slice8 ∷ List.[]
+
 abbrev pub m : Nat.ℕ
 m = 9
+
 abbrev pub ps·0 : List.List (Kinds.PK 0)
-ps·0 = (Value.pVal record { ty = Declared'.row OpaqueRelayConfig.the-type; one = Path.refl; val = Laws'''''''.val OpaqueRelayConfig.the-type
-    Laws'.the-laws; tells = Laws'''''''.tells OpaqueRelayConfig.the-type Laws'.the-laws; still = Laws'''''''.still OpaqueRelayConfig.the-type
-    Laws'.the-copy Exit.yes; row = Rows.whole (Declared'.row OpaqueRelayConfig.the-type); rd = λ x. x; mk = λ x. x; } λ M 𝓤 H A W. record { copies =
-    Laws'''''''.copy OpaqueRelayConfig.the-type Laws'.the-copy 𝓤 H A W; lawful = Laws'''''''.lawful OpaqueRelayConfig.the-type Laws'.the-laws 𝓤 H A W;
-    makes = Laws'''''''.makes OpaqueRelayConfig.the-type Laws'.the-plain 𝓤 H A; in-mem = Local.mem-whole 𝓤 H A W (Declared'.row
-    OpaqueRelayConfig.the-type); of-mem = Local.whole-mem 𝓤 H A W (Declared'.row OpaqueRelayConfig.the-type); }) ∷ (Num.pNum Syntax.w64) ∷ (Num.pNum
-    Syntax.w64) ∷ (Num.pNum Syntax.w64) ∷ List.[]
+ps·0 = (StructRow.param OpaqueRelayConfig.the-type Laws'.the-laws Laws'.the-copy Laws'.the-plain) ∷
+    (Num.pNum Syntax.w64) ∷ (Num.pNum Syntax.w64) ∷ (Num.pNum Syntax.w64) ∷ List.[]
+
 abbrev pub r·0 : Kinds.RK 0
 r·0 = Bool.rBool
+
 abbrev pub ps·1 : List.List (Kinds.PK 0)
 ps·1 = (Num.pNum Syntax.w64) ∷ Bool.pBool ∷ List.[]
+
 abbrev pub r·1 : Kinds.RK 0
-r·1 = Value.rVal record { ty = Declared.row HnsrAnswer.the-type; one = Path.refl; val = Laws''''''.val HnsrAnswer.the-type Laws.the-laws; tells =
-    Laws''''''.tells HnsrAnswer.the-type Laws.the-laws; still = Laws''''''.still HnsrAnswer.the-type Laws.the-copy Exit.yes; row = Rows.whole
-    (Declared.row HnsrAnswer.the-type); rd = λ x. x; mk = λ x. x; } λ M 𝓤 H A W. record { copies = Laws''''''.copy HnsrAnswer.the-type Laws.the-copy 𝓤
-    H A W; lawful = Laws''''''.lawful HnsrAnswer.the-type Laws.the-laws 𝓤 H A W tt; makes = Laws''''''.makes HnsrAnswer.the-type Laws.the-plain 𝓤 H A;
-    in-mem = Local.mem-whole 𝓤 H A W (Declared.row HnsrAnswer.the-type); of-mem = Local.whole-mem 𝓤 H A W (Declared.row HnsrAnswer.the-type); }
+r·1 = StructRow.enum-result HnsrAnswer.the-type Laws.the-laws Laws.the-copy Laws.the-plain tt
+
 abbrev pub ps·2 : List.List (Kinds.PK 0)
-ps·2 = (Value.pVal record { ty = Declared.row HnsrAnswer.the-type; one = Path.refl; val = Laws''''''.val HnsrAnswer.the-type Laws.the-laws; tells =
-    Laws''''''.tells HnsrAnswer.the-type Laws.the-laws; still = Laws''''''.still HnsrAnswer.the-type Laws.the-copy Exit.yes; row = Rows.whole
-    (Declared.row HnsrAnswer.the-type); rd = λ x. x; mk = λ x. x; } λ M 𝓤 H A W. record { copies = Laws''''''.copy HnsrAnswer.the-type Laws.the-copy 𝓤
-    H A W; lawful = Laws''''''.lawful HnsrAnswer.the-type Laws.the-laws 𝓤 H A W tt; makes = Laws''''''.makes HnsrAnswer.the-type Laws.the-plain 𝓤 H A;
-    in-mem = Local.mem-whole 𝓤 H A W (Declared.row HnsrAnswer.the-type); of-mem = Local.whole-mem 𝓤 H A W (Declared.row HnsrAnswer.the-type); }) ∷
-    (Value.pVal record { ty = Declared'.row OpaqueRelayRuntime.the-type; one = Path.refl; val = Laws'''''''.val OpaqueRelayRuntime.the-type
-    Laws''''.the-laws; tells = Laws'''''''.tells OpaqueRelayRuntime.the-type Laws''''.the-laws; still = Laws'''''''.still OpaqueRelayRuntime.the-type
-    Laws''''.the-copy Exit.yes; row = Rows.whole (Declared'.row OpaqueRelayRuntime.the-type); rd = λ x. x; mk = λ x. x; } λ M 𝓤 H A W. record { copies
-    = Laws'''''''.copy OpaqueRelayRuntime.the-type Laws''''.the-copy 𝓤 H A W; lawful = Laws'''''''.lawful OpaqueRelayRuntime.the-type
-    Laws''''.the-laws 𝓤 H A W; makes = Laws'''''''.makes OpaqueRelayRuntime.the-type Laws''''.the-plain 𝓤 H A; in-mem = Local.mem-whole 𝓤 H A W
-    (Declared'.row OpaqueRelayRuntime.the-type); of-mem = Local.whole-mem 𝓤 H A W (Declared'.row OpaqueRelayRuntime.the-type); }) ∷ (Value.pVal record
-    { ty = Declared'.row RelayPacket.the-type; one = Path.refl; val = Laws'''''''.val RelayPacket.the-type Laws'''.the-laws; tells = Laws'''''''.tells
-    RelayPacket.the-type Laws'''.the-laws; still = Laws'''''''.still RelayPacket.the-type Laws'''.the-copy Exit.yes; row = Rows.whole (Declared'.row
-    RelayPacket.the-type); rd = λ x. x; mk = λ x. x; } λ M 𝓤 H A W. record { copies = Laws'''''''.copy RelayPacket.the-type Laws'''.the-copy 𝓤 H A W;
-    lawful = Laws'''''''.lawful RelayPacket.the-type Laws'''.the-laws 𝓤 H A W; makes = Laws'''''''.makes RelayPacket.the-type Laws'''.the-plain 𝓤 H A;
-    in-mem = Local.mem-whole 𝓤 H A W (Declared'.row RelayPacket.the-type); of-mem = Local.whole-mem 𝓤 H A W (Declared'.row RelayPacket.the-type); }) ∷
-    (Num.pNum Syntax.w64) ∷ (Num.pNum Syntax.w64) ∷ List.[]
+ps·2 = (StructRow.enum-param HnsrAnswer.the-type Laws.the-laws Laws.the-copy Laws.the-plain tt) ∷ (StructRow.param
+    OpaqueRelayRuntime.the-type Laws''''.the-laws Laws''''.the-copy Laws''''.the-plain) ∷ (StructRow.param
+    RelayPacket.the-type Laws'''.the-laws Laws'''.the-copy Laws'''.the-plain) ∷ (Num.pNum Syntax.w64) ∷
+    (Num.pNum Syntax.w64) ∷ List.[]
+
 abbrev pub r·2 : Kinds.RK 0
-r·2 = Value.rVal record { ty = Declared.row HnsrAnswer.the-type; one = Path.refl; val = Laws''''''.val HnsrAnswer.the-type Laws.the-laws; tells =
-    Laws''''''.tells HnsrAnswer.the-type Laws.the-laws; still = Laws''''''.still HnsrAnswer.the-type Laws.the-copy Exit.yes; row = Rows.whole
-    (Declared.row HnsrAnswer.the-type); rd = λ x. x; mk = λ x. x; } λ M 𝓤 H A W. record { copies = Laws''''''.copy HnsrAnswer.the-type Laws.the-copy 𝓤
-    H A W; lawful = Laws''''''.lawful HnsrAnswer.the-type Laws.the-laws 𝓤 H A W tt; makes = Laws''''''.makes HnsrAnswer.the-type Laws.the-plain 𝓤 H A;
-    in-mem = Local.mem-whole 𝓤 H A W (Declared.row HnsrAnswer.the-type); of-mem = Local.whole-mem 𝓤 H A W (Declared.row HnsrAnswer.the-type); }
+r·2 = StructRow.enum-result HnsrAnswer.the-type Laws.the-laws Laws.the-copy Laws.the-plain tt
+
 abbrev pub ps·3 : List.List (Kinds.PK 0)
-ps·3 = (Value.pVal record { ty = Declared.row HnsrAnswer.the-type; one = Path.refl; val = Laws''''''.val HnsrAnswer.the-type Laws.the-laws; tells =
-    Laws''''''.tells HnsrAnswer.the-type Laws.the-laws; still = Laws''''''.still HnsrAnswer.the-type Laws.the-copy Exit.yes; row = Rows.whole
-    (Declared.row HnsrAnswer.the-type); rd = λ x. x; mk = λ x. x; } λ M 𝓤 H A W. record { copies = Laws''''''.copy HnsrAnswer.the-type Laws.the-copy 𝓤
-    H A W; lawful = Laws''''''.lawful HnsrAnswer.the-type Laws.the-laws 𝓤 H A W tt; makes = Laws''''''.makes HnsrAnswer.the-type Laws.the-plain 𝓤 H A;
-    in-mem = Local.mem-whole 𝓤 H A W (Declared.row HnsrAnswer.the-type); of-mem = Local.whole-mem 𝓤 H A W (Declared.row HnsrAnswer.the-type); }) ∷
-    List.[]
+ps·3 = (StructRow.enum-param HnsrAnswer.the-type Laws.the-laws Laws.the-copy Laws.the-plain tt) ∷ List.[]
+
 abbrev pub r·3 : Kinds.RK 0
 r·3 = Bool.rBool
+
 abbrev pub ps·4 : List.List (Kinds.PK 0)
-ps·4 = (Value.pVal record { ty = Declared'.row OpaqueRelayRuntime.the-type; one = Path.refl; val = Laws'''''''.val OpaqueRelayRuntime.the-type
-    Laws''''.the-laws; tells = Laws'''''''.tells OpaqueRelayRuntime.the-type Laws''''.the-laws; still = Laws'''''''.still OpaqueRelayRuntime.the-type
-    Laws''''.the-copy Exit.yes; row = Rows.whole (Declared'.row OpaqueRelayRuntime.the-type); rd = λ x. x; mk = λ x. x; } λ M 𝓤 H A W. record { copies
-    = Laws'''''''.copy OpaqueRelayRuntime.the-type Laws''''.the-copy 𝓤 H A W; lawful = Laws'''''''.lawful OpaqueRelayRuntime.the-type
-    Laws''''.the-laws 𝓤 H A W; makes = Laws'''''''.makes OpaqueRelayRuntime.the-type Laws''''.the-plain 𝓤 H A; in-mem = Local.mem-whole 𝓤 H A W
-    (Declared'.row OpaqueRelayRuntime.the-type); of-mem = Local.whole-mem 𝓤 H A W (Declared'.row OpaqueRelayRuntime.the-type); }) ∷ (Num.pNum
-    Syntax.w64) ∷ List.[]
+ps·4 = (StructRow.param OpaqueRelayRuntime.the-type Laws''''.the-laws Laws''''.the-copy Laws''''.the-plain) ∷
+    (Num.pNum Syntax.w64) ∷ List.[]
+
 abbrev pub r·4 : Kinds.RK 0
-r·4 = Value.rVal record { ty = Declared'.row OpaqueRelayRuntime.the-type; one = Path.refl; val = Laws'''''''.val OpaqueRelayRuntime.the-type
-    Laws''''.the-laws; tells = Laws'''''''.tells OpaqueRelayRuntime.the-type Laws''''.the-laws; still = Laws'''''''.still OpaqueRelayRuntime.the-type
-    Laws''''.the-copy Exit.yes; row = Rows.whole (Declared'.row OpaqueRelayRuntime.the-type); rd = λ x. x; mk = λ x. x; } λ M 𝓤 H A W. record { copies
-    = Laws'''''''.copy OpaqueRelayRuntime.the-type Laws''''.the-copy 𝓤 H A W; lawful = Laws'''''''.lawful OpaqueRelayRuntime.the-type
-    Laws''''.the-laws 𝓤 H A W; makes = Laws'''''''.makes OpaqueRelayRuntime.the-type Laws''''.the-plain 𝓤 H A; in-mem = Local.mem-whole 𝓤 H A W
-    (Declared'.row OpaqueRelayRuntime.the-type); of-mem = Local.whole-mem 𝓤 H A W (Declared'.row OpaqueRelayRuntime.the-type); }
+r·4 = StructRow.result OpaqueRelayRuntime.the-type Laws''''.the-laws Laws''''.the-copy Laws''''.the-plain
+
 abbrev pub ps·5 : List.List (Kinds.PK 4)
-ps·5 = (ShrSlice.pShrS RelayPending.row 0 tt) ∷ (ShrSlice.pShrS RelayCircuit.row 1 tt) ∷ (ShrSlice.pShrS ReservationUsage.row 2 tt) ∷ (ShrSlice.pShrS
-    InflightAction.row 3 tt) ∷ (Value.pVal record { ty = Declared'.row Places.the-type; one = Path.refl; val = Laws'''''''.val Places.the-type
-    Laws''.the-laws; tells = Laws'''''''.tells Places.the-type Laws''.the-laws; still = Laws'''''''.still Places.the-type Laws''.the-copy Exit.yes;
-    row = Rows.whole (Declared'.row Places.the-type); rd = λ x. x; mk = λ x. x; } λ M 𝓤 H A W. record { copies = Laws'''''''.copy Places.the-type
-    Laws''.the-copy 𝓤 H A W; lawful = Laws'''''''.lawful Places.the-type Laws''.the-laws 𝓤 H A W; makes = Laws'''''''.makes Places.the-type
-    Laws''.the-plain 𝓤 H A; in-mem = Local.mem-whole 𝓤 H A W (Declared'.row Places.the-type); of-mem = Local.whole-mem 𝓤 H A W (Declared'.row
-    Places.the-type); }) ∷ List.[]
+ps·5 = (ShrSlice.pShrS RelayPending.row 0 tt) ∷ (ShrSlice.pShrS RelayCircuit.row 1 tt) ∷
+    (ShrSlice.pShrS ReservationUsage.row 2 tt) ∷ (ShrSlice.pShrS InflightAction.row 3 tt) ∷ (StructRow.param
+    Places.the-type Laws''.the-laws Laws''.the-copy Laws''.the-plain) ∷ List.[]
+
 abbrev pub r·5 : Kinds.RK 4
-r·5 = Value.rVal record { ty = Declared'.row Places.the-type; one = Path.refl; val = Laws'''''''.val Places.the-type Laws''.the-laws; tells =
-    Laws'''''''.tells Places.the-type Laws''.the-laws; still = Laws'''''''.still Places.the-type Laws''.the-copy Exit.yes; row = Rows.whole
-    (Declared'.row Places.the-type); rd = λ x. x; mk = λ x. x; } λ M 𝓤 H A W. record { copies = Laws'''''''.copy Places.the-type Laws''.the-copy 𝓤 H A
-    W; lawful = Laws'''''''.lawful Places.the-type Laws''.the-laws 𝓤 H A W; makes = Laws'''''''.makes Places.the-type Laws''.the-plain 𝓤 H A; in-mem =
-    Local.mem-whole 𝓤 H A W (Declared'.row Places.the-type); of-mem = Local.whole-mem 𝓤 H A W (Declared'.row Places.the-type); }
+r·5 = StructRow.result Places.the-type Laws''.the-laws Laws''.the-copy Laws''.the-plain
+
 abbrev pub ps·6 : List.List (Kinds.PK 9)
-ps·6 = (MutSlice.pMutS RelayPending.row 0 tt) ∷ (MutSlice.pMutS RelayCircuit.row 1 tt) ∷ (MutSlice.pMutS ReservationUsage.row 2 tt) ∷ (MutSlice.pMutS
-    InflightAction.row 3 tt) ∷ (MutSlice.pMutS (Referent.rtF (Referent.fInt Syntax.w32)) 4 tt) ∷ (Value.pVal record { ty = Declared'.row
-    OpaqueRelayRuntime.the-type; one = Path.refl; val = Laws'''''''.val OpaqueRelayRuntime.the-type Laws''''.the-laws; tells = Laws'''''''.tells
-    OpaqueRelayRuntime.the-type Laws''''.the-laws; still = Laws'''''''.still OpaqueRelayRuntime.the-type Laws''''.the-copy Exit.yes; row = Rows.whole
-    (Declared'.row OpaqueRelayRuntime.the-type); rd = λ x. x; mk = λ x. x; } λ M 𝓤 H A W. record { copies = Laws'''''''.copy
-    OpaqueRelayRuntime.the-type Laws''''.the-copy 𝓤 H A W; lawful = Laws'''''''.lawful OpaqueRelayRuntime.the-type Laws''''.the-laws 𝓤 H A W; makes =
-    Laws'''''''.makes OpaqueRelayRuntime.the-type Laws''''.the-plain 𝓤 H A; in-mem = Local.mem-whole 𝓤 H A W (Declared'.row
-    OpaqueRelayRuntime.the-type); of-mem = Local.whole-mem 𝓤 H A W (Declared'.row OpaqueRelayRuntime.the-type); }) ∷ (Value.pVal record { ty =
-    Declared'.row Places.the-type; one = Path.refl; val = Laws'''''''.val Places.the-type Laws''.the-laws; tells = Laws'''''''.tells Places.the-type
-    Laws''.the-laws; still = Laws'''''''.still Places.the-type Laws''.the-copy Exit.yes; row = Rows.whole (Declared'.row Places.the-type); rd = λ x.
-    x; mk = λ x. x; } λ M 𝓤 H A W. record { copies = Laws'''''''.copy Places.the-type Laws''.the-copy 𝓤 H A W; lawful = Laws'''''''.lawful
-    Places.the-type Laws''.the-laws 𝓤 H A W; makes = Laws'''''''.makes Places.the-type Laws''.the-plain 𝓤 H A; in-mem = Local.mem-whole 𝓤 H A W
-    (Declared'.row Places.the-type); of-mem = Local.whole-mem 𝓤 H A W (Declared'.row Places.the-type); }) ∷ (Value.pVal record { ty = Declared'.row
-    RelayPacket.the-type; one = Path.refl; val = Laws'''''''.val RelayPacket.the-type Laws'''.the-laws; tells = Laws'''''''.tells RelayPacket.the-type
-    Laws'''.the-laws; still = Laws'''''''.still RelayPacket.the-type Laws'''.the-copy Exit.yes; row = Rows.whole (Declared'.row RelayPacket.the-type);
-    rd = λ x. x; mk = λ x. x; } λ M 𝓤 H A W. record { copies = Laws'''''''.copy RelayPacket.the-type Laws'''.the-copy 𝓤 H A W; lawful =
-    Laws'''''''.lawful RelayPacket.the-type Laws'''.the-laws 𝓤 H A W; makes = Laws'''''''.makes RelayPacket.the-type Laws'''.the-plain 𝓤 H A; in-mem =
-    Local.mem-whole 𝓤 H A W (Declared'.row RelayPacket.the-type); of-mem = Local.whole-mem 𝓤 H A W (Declared'.row RelayPacket.the-type); }) ∷
-    (ShrSlice.pShrS (Referent.rtF (Referent.fInt Syntax.w8)) 5 tt) ∷ (ShrSlice.pShrS (Referent.rtF (Referent.fInt Syntax.w8)) 6 tt) ∷ (ShrSlice.pShrS
-    (Referent.rtF (Referent.fInt Syntax.w8)) 7 tt) ∷ (ShrSlice.pShrS (Referent.rtF (Referent.fInt Syntax.w8)) 8 tt) ∷ List.[]
+ps·6 = (MutSlice.pMutS RelayPending.row 0 tt) ∷ (MutSlice.pMutS RelayCircuit.row 1 tt) ∷
+    (MutSlice.pMutS ReservationUsage.row 2 tt) ∷ (MutSlice.pMutS InflightAction.row 3 tt) ∷ (MutSlice.pMutS
+    (Referent.rtF (Referent.fInt Syntax.w32)) 4 tt) ∷ (StructRow.param OpaqueRelayRuntime.the-type Laws''''.the-laws
+    Laws''''.the-copy Laws''''.the-plain) ∷ (StructRow.param Places.the-type Laws''.the-laws Laws''.the-copy
+    Laws''.the-plain) ∷ (StructRow.param RelayPacket.the-type Laws'''.the-laws Laws'''.the-copy Laws'''.the-plain) ∷ (ShrSlice.pShrS
+    (Referent.rtF (Referent.fInt Syntax.w8)) 5 tt) ∷ (ShrSlice.pShrS (Referent.rtF (Referent.fInt Syntax.w8)) 6 tt) ∷ (ShrSlice.pShrS
+    (Referent.rtF (Referent.fInt Syntax.w8)) 7 tt) ∷ (ShrSlice.pShrS (Referent.rtF (Referent.fInt Syntax.w8)) 8 tt) ∷
+    List.[]
+
 abbrev pub r·6 : Kinds.RK 9
-r·6 = Value.rVal record { ty = Declared'.row Relayed.the-type; one = Path.refl; val = Laws'''''''.val Relayed.the-type Laws'''''.the-laws; tells =
-    Laws'''''''.tells Relayed.the-type Laws'''''.the-laws; still = Laws'''''''.still Relayed.the-type Laws'''''.the-copy Exit.yes; row = Rows.whole
-    (Declared'.row Relayed.the-type); rd = λ x. x; mk = λ x. x; } λ M 𝓤 H A W. record { copies = Laws'''''''.copy Relayed.the-type Laws'''''.the-copy
-    𝓤 H A W; lawful = Laws'''''''.lawful Relayed.the-type Laws'''''.the-laws 𝓤 H A W; makes = Laws'''''''.makes Relayed.the-type Laws'''''.the-plain 𝓤
-    H A; in-mem = Local.mem-whole 𝓤 H A W (Declared'.row Relayed.the-type); of-mem = Local.whole-mem 𝓤 H A W (Declared'.row Relayed.the-type); }
+r·6 = StructRow.result Relayed.the-type Laws'''''.the-laws Laws'''''.the-copy Laws'''''.the-plain
+
 abbrev pub ps·7 : List.List (Kinds.PK 0)
-ps·7 = (Value.pVal record { ty = Declared'.row OpaqueRelayRuntime.the-type; one = Path.refl; val = Laws'''''''.val OpaqueRelayRuntime.the-type
-    Laws''''.the-laws; tells = Laws'''''''.tells OpaqueRelayRuntime.the-type Laws''''.the-laws; still = Laws'''''''.still OpaqueRelayRuntime.the-type
-    Laws''''.the-copy Exit.yes; row = Rows.whole (Declared'.row OpaqueRelayRuntime.the-type); rd = λ x. x; mk = λ x. x; } λ M 𝓤 H A W. record { copies
-    = Laws'''''''.copy OpaqueRelayRuntime.the-type Laws''''.the-copy 𝓤 H A W; lawful = Laws'''''''.lawful OpaqueRelayRuntime.the-type
-    Laws''''.the-laws 𝓤 H A W; makes = Laws'''''''.makes OpaqueRelayRuntime.the-type Laws''''.the-plain 𝓤 H A; in-mem = Local.mem-whole 𝓤 H A W
-    (Declared'.row OpaqueRelayRuntime.the-type); of-mem = Local.whole-mem 𝓤 H A W (Declared'.row OpaqueRelayRuntime.the-type); }) ∷ (Value.pVal record
-    { ty = Declared'.row Places.the-type; one = Path.refl; val = Laws'''''''.val Places.the-type Laws''.the-laws; tells = Laws'''''''.tells
-    Places.the-type Laws''.the-laws; still = Laws'''''''.still Places.the-type Laws''.the-copy Exit.yes; row = Rows.whole (Declared'.row
-    Places.the-type); rd = λ x. x; mk = λ x. x; } λ M 𝓤 H A W. record { copies = Laws'''''''.copy Places.the-type Laws''.the-copy 𝓤 H A W; lawful =
-    Laws'''''''.lawful Places.the-type Laws''.the-laws 𝓤 H A W; makes = Laws'''''''.makes Places.the-type Laws''.the-plain 𝓤 H A; in-mem =
-    Local.mem-whole 𝓤 H A W (Declared'.row Places.the-type); of-mem = Local.whole-mem 𝓤 H A W (Declared'.row Places.the-type); }) ∷ (Value.pVal record
-    { ty = Declared.row HnsrAnswer.the-type; one = Path.refl; val = Laws''''''.val HnsrAnswer.the-type Laws.the-laws; tells = Laws''''''.tells
-    HnsrAnswer.the-type Laws.the-laws; still = Laws''''''.still HnsrAnswer.the-type Laws.the-copy Exit.yes; row = Rows.whole (Declared.row
-    HnsrAnswer.the-type); rd = λ x. x; mk = λ x. x; } λ M 𝓤 H A W. record { copies = Laws''''''.copy HnsrAnswer.the-type Laws.the-copy 𝓤 H A W; lawful
-    = Laws''''''.lawful HnsrAnswer.the-type Laws.the-laws 𝓤 H A W tt; makes = Laws''''''.makes HnsrAnswer.the-type Laws.the-plain 𝓤 H A; in-mem =
-    Local.mem-whole 𝓤 H A W (Declared.row HnsrAnswer.the-type); of-mem = Local.whole-mem 𝓤 H A W (Declared.row HnsrAnswer.the-type); }) ∷ List.[]
+ps·7 = (StructRow.param OpaqueRelayRuntime.the-type Laws''''.the-laws Laws''''.the-copy Laws''''.the-plain) ∷ (StructRow.param
+    Places.the-type Laws''.the-laws Laws''.the-copy Laws''.the-plain) ∷ (StructRow.enum-param HnsrAnswer.the-type
+    Laws.the-laws Laws.the-copy Laws.the-plain tt) ∷ List.[]
+
 abbrev pub r·7 : Kinds.RK 0
-r·7 = Value.rVal record { ty = Declared'.row Relayed.the-type; one = Path.refl; val = Laws'''''''.val Relayed.the-type Laws'''''.the-laws; tells =
-    Laws'''''''.tells Relayed.the-type Laws'''''.the-laws; still = Laws'''''''.still Relayed.the-type Laws'''''.the-copy Exit.yes; row = Rows.whole
-    (Declared'.row Relayed.the-type); rd = λ x. x; mk = λ x. x; } λ M 𝓤 H A W. record { copies = Laws'''''''.copy Relayed.the-type Laws'''''.the-copy
-    𝓤 H A W; lawful = Laws'''''''.lawful Relayed.the-type Laws'''''.the-laws 𝓤 H A W; makes = Laws'''''''.makes Relayed.the-type Laws'''''.the-plain 𝓤
-    H A; in-mem = Local.mem-whole 𝓤 H A W (Declared'.row Relayed.the-type); of-mem = Local.whole-mem 𝓤 H A W (Declared'.row Relayed.the-type); }
+r·7 = StructRow.result Relayed.the-type Laws'''''.the-laws Laws'''''.the-copy Laws'''''.the-plain
+
 abbrev pub hs : List.List Syntax.Home
-hs = Syntax.valueLocal ∷ Syntax.valueLocal ∷ Syntax.valueLocal ∷ Syntax.valueLocal ∷ Syntax.valueLocal ∷ Syntax.valueLocal ∷ Syntax.valueLocal ∷
-    Syntax.valueLocal ∷ Syntax.valueLocal ∷ Syntax.valueLocal ∷ Syntax.valueLocal ∷ Syntax.valueLocal ∷ Syntax.valueLocal ∷ Syntax.valueLocal ∷
-    Syntax.valueLocal ∷ Syntax.valueLocal ∷ Syntax.valueLocal ∷ Syntax.valueLocal ∷ Syntax.valueLocal ∷ Syntax.valueLocal ∷ Syntax.valueLocal ∷
-    Syntax.valueLocal ∷ Syntax.valueLocal ∷ Syntax.valueLocal ∷ Syntax.valueLocal ∷ Syntax.valueLocal ∷ Syntax.valueLocal ∷ Syntax.valueLocal ∷
-    Syntax.valueLocal ∷ Syntax.valueLocal ∷ Syntax.valueLocal ∷ Syntax.valueLocal ∷ Syntax.valueLocal ∷ Syntax.valueLocal ∷ Syntax.valueLocal ∷
-    Syntax.valueLocal ∷ Syntax.valueLocal ∷ Syntax.valueLocal ∷ Syntax.valueLocal ∷ Syntax.valueLocal ∷ Syntax.valueLocal ∷ List.[]
+hs = Syntax.valueLocal ∷ Syntax.valueLocal ∷ Syntax.valueLocal ∷ Syntax.valueLocal ∷ Syntax.valueLocal ∷
+    Syntax.valueLocal ∷ Syntax.valueLocal ∷ Syntax.valueLocal ∷ Syntax.valueLocal ∷ Syntax.valueLocal ∷
+    Syntax.valueLocal ∷ Syntax.valueLocal ∷ Syntax.valueLocal ∷ Syntax.valueLocal ∷ Syntax.valueLocal ∷
+    Syntax.valueLocal ∷ Syntax.valueLocal ∷ Syntax.valueLocal ∷ Syntax.valueLocal ∷ Syntax.valueLocal ∷
+    Syntax.valueLocal ∷ Syntax.valueLocal ∷ Syntax.valueLocal ∷ Syntax.valueLocal ∷ Syntax.valueLocal ∷
+    Syntax.valueLocal ∷ Syntax.valueLocal ∷ Syntax.valueLocal ∷ Syntax.valueLocal ∷ Syntax.valueLocal ∷
+    Syntax.valueLocal ∷ Syntax.valueLocal ∷ Syntax.valueLocal ∷ Syntax.valueLocal ∷ Syntax.valueLocal ∷
+    Syntax.valueLocal ∷ Syntax.valueLocal ∷ Syntax.valueLocal ∷ Syntax.valueLocal ∷ Syntax.valueLocal ∷
+    Syntax.valueLocal ∷ List.[]
+
 abbrev b0 : Syntax.Body
 b0 = Syntax.assign (Syntax.place 13 List.[]) (Syntax.rvOpd (Syntax.copy (Syntax.place 6 ((Syntax.field 4) ∷ List.[]))))
+
 abbrev b1 : Syntax.Body
 b1 = Syntax.assign (Syntax.place 19 List.[]) (Syntax.rvOpd (Syntax.copy (Syntax.place 1 ((Syntax.field 1) ∷ List.[]))))
+
 abbrev b2 : Syntax.Body
 b2 = Syntax.assign (Syntax.place 20 List.[]) (Syntax.rvOpd (Syntax.copy (Syntax.place 2 ((Syntax.field 1) ∷ List.[]))))
+
 abbrev b3 : Syntax.Body
 b3 = Syntax.assign (Syntax.place 21 List.[]) (Syntax.rvOpd (Syntax.copy (Syntax.place 4 ((Syntax.field 1) ∷ List.[]))))
+
 abbrev b4 : Syntax.Body
-b4 = Syntax.call "hnsr_circuit::entry::too_few" ((Syntax.copy (Syntax.place 13 List.[])) ∷ (Syntax.copy (Syntax.place 19 List.[])) ∷ (Syntax.copy
-    (Syntax.place 20 List.[])) ∷ (Syntax.copy (Syntax.place 21 List.[])) ∷ List.[]) (Syntax.place 14 List.[])
+b4 = Syntax.call "hnsr_circuit::entry::too_few" ((Syntax.copy (Syntax.place 13 List.[])) ∷
+    (Syntax.copy (Syntax.place 19 List.[])) ∷ (Syntax.copy (Syntax.place 20 List.[])) ∷
+    (Syntax.copy (Syntax.place 21 List.[])) ∷ List.[]) (Syntax.place 14 List.[])
+
 abbrev b5 : Syntax.Body
 b5 = Syntax.assign (Syntax.place 19 List.[]) (Syntax.rvOpd (Syntax.copy (Syntax.place 5 ((Syntax.field 1) ∷ List.[]))))
+
 abbrev b6 : Syntax.Body
-b6 = Syntax.call "hnsr_circuit::handle::room_answer" ((Syntax.copy (Syntax.place 19 List.[])) ∷ (Syntax.copy (Syntax.place 14 List.[])) ∷ List.[])
-    (Syntax.place 15 List.[])
+b6 = Syntax.call "hnsr_circuit::handle::room_answer" ((Syntax.copy (Syntax.place 19 List.[])) ∷
+    (Syntax.copy (Syntax.place 14 List.[])) ∷ List.[]) (Syntax.place 15 List.[])
+
 abbrev b7 : Syntax.Body
 b7 = Syntax.assign (Syntax.place 21 List.[]) (Syntax.rvOpd (Syntax.copy (Syntax.place 9 ((Syntax.field 1) ∷ List.[]))))
+
 abbrev b8 : Syntax.Body
 b8 = Syntax.assign (Syntax.place 19 List.[]) (Syntax.rvOpd (Syntax.copy (Syntax.place 10 ((Syntax.field 1) ∷ List.[]))))
+
 abbrev b9 : Syntax.Body
-b9 = Syntax.call "hnsr_circuit::handle::entry_answer" ((Syntax.copy (Syntax.place 15 List.[])) ∷ (Syntax.copy (Syntax.place 6 List.[])) ∷ (Syntax.copy
-    (Syntax.place 8 List.[])) ∷ (Syntax.copy (Syntax.place 21 List.[])) ∷ (Syntax.copy (Syntax.place 19 List.[])) ∷ List.[]) (Syntax.place 16 List.[])
+b9 = Syntax.call "hnsr_circuit::handle::entry_answer" ((Syntax.copy (Syntax.place 15 List.[])) ∷
+    (Syntax.copy (Syntax.place 6 List.[])) ∷ (Syntax.copy (Syntax.place 8 List.[])) ∷
+    (Syntax.copy (Syntax.place 21 List.[])) ∷ (Syntax.copy (Syntax.place 19 List.[])) ∷ List.[])
+    (Syntax.place 16 List.[])
+
 abbrev b10 : Syntax.Body
-b10 = Syntax.call "hnsr_circuit::answer::is_taken" ((Syntax.copy (Syntax.place 16 List.[])) ∷ List.[]) (Syntax.place 22 List.[])
+b10 = Syntax.call "hnsr_circuit::answer::is_taken" ((Syntax.copy (Syntax.place 16 List.[])) ∷ List.[])
+    (Syntax.place 22 List.[])
+
 abbrev b11 : Syntax.Body
-b11 = Syntax.call "hnsr_circuit::header::with_clock" ((Syntax.copy (Syntax.place 6 List.[])) ∷ (Syntax.copy (Syntax.place 8 ((Syntax.field 2) ∷
-    List.[]))) ∷ List.[]) (Syntax.place 17 List.[])
+b11 = Syntax.call "hnsr_circuit::header::with_clock" ((Syntax.copy (Syntax.place 6 List.[])) ∷
+    (Syntax.copy (Syntax.place 8 ((Syntax.field 2) ∷ List.[]))) ∷ List.[]) (Syntax.place 17 List.[])
+
 abbrev b12 : Syntax.Body
-b12 = Syntax.assign (Syntax.place 23 List.[]) (Syntax.addrOf (Syntax.place 1 ((Syntax.field 0) ∷ (Syntax.deref RelayPending.ty) ∷ List.[])))
+b12 = Syntax.assign (Syntax.place 23 List.[]) (Syntax.addrOf (Syntax.place 1 ((Syntax.field 0) ∷
+    (Syntax.deref RelayPending.ty) ∷ List.[])))
+
 abbrev b13 : Syntax.Body
-b13 = Syntax.assign (Syntax.place 24 List.[]) (Syntax.aggregate ((Syntax.copy (Syntax.place 23 List.[])) ∷ (Syntax.copy (Syntax.place 1 ((Syntax.field
-    1) ∷ List.[]))) ∷ List.[]))
+b13 = Syntax.assign (Syntax.place 24 List.[]) (Syntax.aggregate ((Syntax.copy (Syntax.place 23 List.[])) ∷
+    (Syntax.copy (Syntax.place 1 ((Syntax.field 1) ∷ List.[]))) ∷ List.[]))
+
 abbrev b14 : Syntax.Body
-b14 = Syntax.assign (Syntax.place 25 List.[]) (Syntax.addrOf (Syntax.place 2 ((Syntax.field 0) ∷ (Syntax.deref RelayCircuit.ty) ∷ List.[])))
+b14 = Syntax.assign (Syntax.place 25 List.[]) (Syntax.addrOf (Syntax.place 2 ((Syntax.field 0) ∷
+    (Syntax.deref RelayCircuit.ty) ∷ List.[])))
+
 abbrev b15 : Syntax.Body
-b15 = Syntax.assign (Syntax.place 26 List.[]) (Syntax.aggregate ((Syntax.copy (Syntax.place 25 List.[])) ∷ (Syntax.copy (Syntax.place 2 ((Syntax.field
-    1) ∷ List.[]))) ∷ List.[]))
+b15 = Syntax.assign (Syntax.place 26 List.[]) (Syntax.aggregate ((Syntax.copy (Syntax.place 25 List.[])) ∷
+    (Syntax.copy (Syntax.place 2 ((Syntax.field 1) ∷ List.[]))) ∷ List.[]))
+
 abbrev b16 : Syntax.Body
-b16 = Syntax.assign (Syntax.place 27 List.[]) (Syntax.addrOf (Syntax.place 3 ((Syntax.field 0) ∷ (Syntax.deref ReservationUsage.ty) ∷ List.[])))
+b16 = Syntax.assign (Syntax.place 27 List.[]) (Syntax.addrOf (Syntax.place 3 ((Syntax.field 0) ∷
+    (Syntax.deref ReservationUsage.ty) ∷ List.[])))
+
 abbrev b17 : Syntax.Body
-b17 = Syntax.assign (Syntax.place 28 List.[]) (Syntax.aggregate ((Syntax.copy (Syntax.place 27 List.[])) ∷ (Syntax.copy (Syntax.place 3 ((Syntax.field
-    1) ∷ List.[]))) ∷ List.[]))
+b17 = Syntax.assign (Syntax.place 28 List.[]) (Syntax.aggregate ((Syntax.copy (Syntax.place 27 List.[])) ∷
+    (Syntax.copy (Syntax.place 3 ((Syntax.field 1) ∷ List.[]))) ∷ List.[]))
+
 abbrev b18 : Syntax.Body
-b18 = Syntax.assign (Syntax.place 29 List.[]) (Syntax.addrOf (Syntax.place 4 ((Syntax.field 0) ∷ (Syntax.deref InflightAction.ty) ∷ List.[])))
+b18 = Syntax.assign (Syntax.place 29 List.[]) (Syntax.addrOf (Syntax.place 4 ((Syntax.field 0) ∷
+    (Syntax.deref InflightAction.ty) ∷ List.[])))
+
 abbrev b19 : Syntax.Body
-b19 = Syntax.assign (Syntax.place 30 List.[]) (Syntax.aggregate ((Syntax.copy (Syntax.place 29 List.[])) ∷ (Syntax.copy (Syntax.place 4 ((Syntax.field
-    1) ∷ List.[]))) ∷ List.[]))
+b19 = Syntax.assign (Syntax.place 30 List.[]) (Syntax.aggregate ((Syntax.copy (Syntax.place 29 List.[])) ∷
+    (Syntax.copy (Syntax.place 4 ((Syntax.field 1) ∷ List.[]))) ∷ List.[]))
+
 abbrev b20 : Syntax.Body
-b20 = Syntax.call "hnsr_circuit::lookup::trim" ((Syntax.copy (Syntax.place 24 List.[])) ∷ (Syntax.copy (Syntax.place 26 List.[])) ∷ (Syntax.copy
-    (Syntax.place 28 List.[])) ∷ (Syntax.copy (Syntax.place 30 List.[])) ∷ (Syntax.copy (Syntax.place 7 List.[])) ∷ List.[]) (Syntax.place 18 List.[])
+b20 = Syntax.call "hnsr_circuit::lookup::trim" ((Syntax.copy (Syntax.place 24 List.[])) ∷
+    (Syntax.copy (Syntax.place 26 List.[])) ∷ (Syntax.copy (Syntax.place 28 List.[])) ∷
+    (Syntax.copy (Syntax.place 30 List.[])) ∷ (Syntax.copy (Syntax.place 7 List.[])) ∷ List.[])
+    (Syntax.place 18 List.[])
+
 abbrev b21 : Syntax.Body
-b21 = Syntax.assign (Syntax.place 31 List.[]) (Syntax.addrOf (Syntax.place 1 ((Syntax.field 0) ∷ (Syntax.deref RelayPending.ty) ∷ List.[])))
+b21 = Syntax.assign (Syntax.place 31 List.[]) (Syntax.addrOf (Syntax.place 1 ((Syntax.field 0) ∷
+    (Syntax.deref RelayPending.ty) ∷ List.[])))
+
 abbrev b22 : Syntax.Body
-b22 = Syntax.assign (Syntax.place 32 List.[]) (Syntax.aggregate ((Syntax.copy (Syntax.place 31 List.[])) ∷ (Syntax.copy (Syntax.place 1 ((Syntax.field
-    1) ∷ List.[]))) ∷ List.[]))
+b22 = Syntax.assign (Syntax.place 32 List.[]) (Syntax.aggregate ((Syntax.copy (Syntax.place 31 List.[])) ∷
+    (Syntax.copy (Syntax.place 1 ((Syntax.field 1) ∷ List.[]))) ∷ List.[]))
+
 abbrev b23 : Syntax.Body
-b23 = Syntax.assign (Syntax.place 33 List.[]) (Syntax.addrOf (Syntax.place 2 ((Syntax.field 0) ∷ (Syntax.deref RelayCircuit.ty) ∷ List.[])))
+b23 = Syntax.assign (Syntax.place 33 List.[]) (Syntax.addrOf (Syntax.place 2 ((Syntax.field 0) ∷
+    (Syntax.deref RelayCircuit.ty) ∷ List.[])))
+
 abbrev b24 : Syntax.Body
-b24 = Syntax.assign (Syntax.place 34 List.[]) (Syntax.aggregate ((Syntax.copy (Syntax.place 33 List.[])) ∷ (Syntax.copy (Syntax.place 2 ((Syntax.field
-    1) ∷ List.[]))) ∷ List.[]))
+b24 = Syntax.assign (Syntax.place 34 List.[]) (Syntax.aggregate ((Syntax.copy (Syntax.place 33 List.[])) ∷
+    (Syntax.copy (Syntax.place 2 ((Syntax.field 1) ∷ List.[]))) ∷ List.[]))
+
 abbrev b25 : Syntax.Body
-b25 = Syntax.assign (Syntax.place 35 List.[]) (Syntax.addrOf (Syntax.place 3 ((Syntax.field 0) ∷ (Syntax.deref ReservationUsage.ty) ∷ List.[])))
+b25 = Syntax.assign (Syntax.place 35 List.[]) (Syntax.addrOf (Syntax.place 3 ((Syntax.field 0) ∷
+    (Syntax.deref ReservationUsage.ty) ∷ List.[])))
+
 abbrev b26 : Syntax.Body
-b26 = Syntax.assign (Syntax.place 36 List.[]) (Syntax.aggregate ((Syntax.copy (Syntax.place 35 List.[])) ∷ (Syntax.copy (Syntax.place 3 ((Syntax.field
-    1) ∷ List.[]))) ∷ List.[]))
+b26 = Syntax.assign (Syntax.place 36 List.[]) (Syntax.aggregate ((Syntax.copy (Syntax.place 35 List.[])) ∷
+    (Syntax.copy (Syntax.place 3 ((Syntax.field 1) ∷ List.[]))) ∷ List.[]))
+
 abbrev b27 : Syntax.Body
-b27 = Syntax.assign (Syntax.place 37 List.[]) (Syntax.addrOf (Syntax.place 4 ((Syntax.field 0) ∷ (Syntax.deref InflightAction.ty) ∷ List.[])))
+b27 = Syntax.assign (Syntax.place 37 List.[]) (Syntax.addrOf (Syntax.place 4 ((Syntax.field 0) ∷
+    (Syntax.deref InflightAction.ty) ∷ List.[])))
+
 abbrev b28 : Syntax.Body
-b28 = Syntax.assign (Syntax.place 38 List.[]) (Syntax.aggregate ((Syntax.copy (Syntax.place 37 List.[])) ∷ (Syntax.copy (Syntax.place 4 ((Syntax.field
-    1) ∷ List.[]))) ∷ List.[]))
+b28 = Syntax.assign (Syntax.place 38 List.[]) (Syntax.aggregate ((Syntax.copy (Syntax.place 37 List.[])) ∷
+    (Syntax.copy (Syntax.place 4 ((Syntax.field 1) ∷ List.[]))) ∷ List.[]))
+
 abbrev b29 : Syntax.Body
-b29 = Syntax.assign (Syntax.place 39 List.[]) (Syntax.addrOf (Syntax.place 5 ((Syntax.field 0) ∷ (Syntax.deref (Syntax.tyInt Syntax.w32)) ∷ List.[])))
+b29 = Syntax.assign (Syntax.place 39 List.[]) (Syntax.addrOf (Syntax.place 5 ((Syntax.field 0) ∷
+    (Syntax.deref (Syntax.tyInt Syntax.w32)) ∷ List.[])))
+
 abbrev b30 : Syntax.Body
-b30 = Syntax.assign (Syntax.place 40 List.[]) (Syntax.aggregate ((Syntax.copy (Syntax.place 39 List.[])) ∷ (Syntax.copy (Syntax.place 5 ((Syntax.field
-    1) ∷ List.[]))) ∷ List.[]))
+b30 = Syntax.assign (Syntax.place 40 List.[]) (Syntax.aggregate ((Syntax.copy (Syntax.place 39 List.[])) ∷
+    (Syntax.copy (Syntax.place 5 ((Syntax.field 1) ∷ List.[]))) ∷ List.[]))
+
 abbrev b31 : Syntax.Body
-b31 = Syntax.call "hnsr_circuit::handle::handle_gate" ((Syntax.copy (Syntax.place 32 List.[])) ∷ (Syntax.copy (Syntax.place 34 List.[])) ∷
-    (Syntax.copy (Syntax.place 36 List.[])) ∷ (Syntax.copy (Syntax.place 38 List.[])) ∷ (Syntax.copy (Syntax.place 40 List.[])) ∷ (Syntax.copy
-    (Syntax.place 17 List.[])) ∷ (Syntax.copy (Syntax.place 18 List.[])) ∷ (Syntax.copy (Syntax.place 8 List.[])) ∷ (Syntax.copy (Syntax.place 9
-    List.[])) ∷ (Syntax.copy (Syntax.place 10 List.[])) ∷ (Syntax.copy (Syntax.place 11 List.[])) ∷ (Syntax.copy (Syntax.place 12 List.[])) ∷ List.[])
-    (Syntax.place 0 List.[])
+b31 = Syntax.call "hnsr_circuit::handle::handle_gate" ((Syntax.copy (Syntax.place 32 List.[])) ∷
+    (Syntax.copy (Syntax.place 34 List.[])) ∷ (Syntax.copy (Syntax.place 36 List.[])) ∷
+    (Syntax.copy (Syntax.place 38 List.[])) ∷ (Syntax.copy (Syntax.place 40 List.[])) ∷
+    (Syntax.copy (Syntax.place 17 List.[])) ∷ (Syntax.copy (Syntax.place 18 List.[])) ∷
+    (Syntax.copy (Syntax.place 8 List.[])) ∷ (Syntax.copy (Syntax.place 9 List.[])) ∷
+    (Syntax.copy (Syntax.place 10 List.[])) ∷ (Syntax.copy (Syntax.place 11 List.[])) ∷
+    (Syntax.copy (Syntax.place 12 List.[])) ∷ List.[]) (Syntax.place 0 List.[])
+
 abbrev b32 : Syntax.Body
 b32 = Syntax.return
+
 abbrev b33 : Syntax.Body
 b33 = Syntax.seq b31 b32
+
 abbrev b34 : Syntax.Body
 b34 = Syntax.seq b30 b33
+
 abbrev b35 : Syntax.Body
 b35 = Syntax.seq b29 b34
+
 abbrev b36 : Syntax.Body
 b36 = Syntax.seq b28 b35
+
 abbrev b37 : Syntax.Body
 b37 = Syntax.seq b27 b36
+
 abbrev b38 : Syntax.Body
 b38 = Syntax.seq b26 b37
+
 abbrev b39 : Syntax.Body
 b39 = Syntax.seq b25 b38
+
 abbrev b40 : Syntax.Body
 b40 = Syntax.seq b24 b39
+
 abbrev b41 : Syntax.Body
 b41 = Syntax.seq b23 b40
+
 abbrev b42 : Syntax.Body
 b42 = Syntax.seq b22 b41
+
 abbrev b43 : Syntax.Body
 b43 = Syntax.seq b21 b42
+
 abbrev b44 : Syntax.Body
 b44 = Syntax.seq b20 b43
+
 abbrev b45 : Syntax.Body
 b45 = Syntax.seq b19 b44
+
 abbrev b46 : Syntax.Body
 b46 = Syntax.seq b18 b45
+
 abbrev b47 : Syntax.Body
 b47 = Syntax.seq b17 b46
+
 abbrev b48 : Syntax.Body
 b48 = Syntax.seq b16 b47
+
 abbrev b49 : Syntax.Body
 b49 = Syntax.seq b15 b48
+
 abbrev b50 : Syntax.Body
 b50 = Syntax.seq b14 b49
+
 abbrev b51 : Syntax.Body
 b51 = Syntax.seq b13 b50
+
 abbrev b52 : Syntax.Body
 b52 = Syntax.seq b12 b51
+
 abbrev b53 : Syntax.Body
 b53 = Syntax.seq b11 b52
+
 abbrev b54 : Syntax.Body
 b54 = Syntax.skip
+
 abbrev b55 : Syntax.Body
 b55 = Syntax.cond (Syntax.copy (Syntax.place 22 List.[])) b53 b54
+
 abbrev b56 : Syntax.Body
-b56 = Syntax.call "hnsr_circuit::revoking_calls::refused" ((Syntax.copy (Syntax.place 6 List.[])) ∷ (Syntax.copy (Syntax.place 7 List.[])) ∷
-    (Syntax.copy (Syntax.place 16 List.[])) ∷ List.[]) (Syntax.place 0 List.[])
+b56 = Syntax.call "hnsr_circuit::revoking_calls::refused" ((Syntax.copy (Syntax.place 6 List.[])) ∷
+    (Syntax.copy (Syntax.place 7 List.[])) ∷ (Syntax.copy (Syntax.place 16 List.[])) ∷ List.[])
+    (Syntax.place 0 List.[])
+
 abbrev b57 : Syntax.Body
 b57 = Syntax.return
+
 abbrev b58 : Syntax.Body
 b58 = Syntax.seq b56 b57
+
 abbrev b59 : Syntax.Body
 b59 = Syntax.seq b55 b58
+
 abbrev b60 : Syntax.Body
 b60 = Syntax.seq b10 b59
+
 abbrev b61 : Syntax.Body
 b61 = Syntax.seq b9 b60
+
 abbrev b62 : Syntax.Body
 b62 = Syntax.seq b8 b61
+
 abbrev b63 : Syntax.Body
 b63 = Syntax.seq b7 b62
+
 abbrev b64 : Syntax.Body
 b64 = Syntax.seq b6 b63
+
 abbrev b65 : Syntax.Body
 b65 = Syntax.seq b5 b64
+
 abbrev b66 : Syntax.Body
 b66 = Syntax.seq b4 b65
+
 abbrev b67 : Syntax.Body
 b67 = Syntax.seq b3 b66
+
 abbrev b68 : Syntax.Body
 b68 = Syntax.seq b2 b67
+
 abbrev b69 : Syntax.Body
 b69 = Syntax.seq b1 b68
+
 abbrev b70 : Syntax.Body
 b70 = Syntax.seq b0 b69
+
 abbrev pub body : Syntax.Body
 body = b70
+
 abbrev pub Claims : Type 1
-Claims = Kinds.In 0 ps·0 × Kinds.Out 0 ps·0 r·0 × Kinds.In 0 ps·1 × Kinds.Out 0 ps·1 r·1 × Kinds.In 0 ps·2 × Kinds.Out 0 ps·2 r·2 × Kinds.In 0 ps·3 ×
-    Kinds.Out 0 ps·3 r·3 × Kinds.In 0 ps·4 × Kinds.Out 0 ps·4 r·4 × Kinds.In 4 ps·5 × Kinds.Out 4 ps·5 r·5 × Kinds.In 9 ps·6 × Kinds.Out 9 ps·6 r·6 ×
-    Kinds.In 0 ps·7 × Kinds.Out 0 ps·7 r·7
+Claims = Kinds.In 0 ps·0 × Kinds.Out 0 ps·0 r·0 × Kinds.In 0 ps·1 × Kinds.Out 0 ps·1 r·1 × Kinds.In 0 ps·2 × Kinds.Out
+    0 ps·2 r·2 × Kinds.In 0 ps·3 × Kinds.Out 0 ps·3 r·3 × Kinds.In 0 ps·4 × Kinds.Out 0 ps·4 r·4 × Kinds.In 4 ps·5 ×
+    Kinds.Out 4 ps·5 r·5 × Kinds.In 9 ps·6 × Kinds.Out 9 ps·6 r·6 × Kinds.In 0 ps·7 × Kinds.Out 0 ps·7 r·7
+
 abbrev e0 : Row.Entry
 e0 = (0, Rows.any-gone Laws'''''.mir)
+
 abbrev e1 : Row.Entry
 e1 = (1, Mut.mslice RelayPending.row ref9 0)
+
 abbrev e2 : Row.Entry
 e2 = (2, Mut.mslice RelayCircuit.row ref10 1)
+
 abbrev e3 : Row.Entry
 e3 = (3, Mut.mslice ReservationUsage.row ref11 2)
+
 abbrev e4 : Row.Entry
 e4 = (4, Mut.mslice InflightAction.row ref12 3)
+
 abbrev e5 : Row.Entry
 e5 = (5, Mut.mslice (Referent.rtF (Referent.fInt Syntax.w32)) ref13 4)
+
 abbrev e6 : Row.Entry
 e6 = (6, Rows.whole (Declared'.row OpaqueRelayRuntime.the-type))
+
 abbrev e7 : Row.Entry
 e7 = (7, Rows.whole (Declared'.row Places.the-type))
+
 abbrev e8 : Row.Entry
 e8 = (8, Rows.whole (Declared'.row RelayPacket.the-type))
+
 abbrev e9 : Row.Entry
 e9 = (9, Rows.sslice (Referent.rtF (Referent.fInt Syntax.w8)) ref14 5)
+
 abbrev e10 : Row.Entry
 e10 = (10, Rows.sslice (Referent.rtF (Referent.fInt Syntax.w8)) ref15 6)
+
 abbrev e11 : Row.Entry
 e11 = (11, Rows.sslice (Referent.rtF (Referent.fInt Syntax.w8)) ref16 7)
+
 abbrev e12 : Row.Entry
 e12 = (12, Rows.sslice (Referent.rtF (Referent.fInt Syntax.w8)) ref17 8)
+
 abbrev e13 : Row.Entry
 e13 = (13, Rows.any-gone Laws'.mir)
+
 abbrev e14 : Row.Entry
 e14 = (14, Rows.any-gone Syntax.tyBool)
+
 abbrev e15 : Row.Entry
 e15 = (15, Rows.any-gone Laws.mir)
+
 abbrev e16 : Row.Entry
 e16 = (16, Rows.any-gone Laws.mir)
+
 abbrev e17 : Row.Entry
 e17 = (17, Rows.any-gone Laws''''.mir)
+
 abbrev e18 : Row.Entry
 e18 = (18, Rows.any-gone Laws''.mir)
+
 abbrev e19 : Row.Entry
 e19 = (19, Rows.any-gone (Syntax.tyInt Syntax.w64))
+
 abbrev e20 : Row.Entry
 e20 = (20, Rows.any-gone (Syntax.tyInt Syntax.w64))
+
 abbrev e21 : Row.Entry
 e21 = (21, Rows.any-gone (Syntax.tyInt Syntax.w64))
+
 abbrev e22 : Row.Entry
 e22 = (22, Rows.any-gone Syntax.tyBool)
+
 abbrev e23 : Row.Entry
 e23 = (23, Rows.any-gone ref0)
+
 abbrev e24 : Row.Entry
-e24 = (24, Rows.any-gone (Syntax.tyStruct (38 ∷ 91 ∷ 93 ∷ List.[]) (Syntax.tcons ref0 (Syntax.tcons (Syntax.tyInt Syntax.w64) Syntax.tnil))))
+e24 = (24, Rows.any-gone slice0)
+
 abbrev e25 : Row.Entry
 e25 = (25, Rows.any-gone ref1)
+
 abbrev e26 : Row.Entry
-e26 = (26, Rows.any-gone (Syntax.tyStruct (38 ∷ 91 ∷ 93 ∷ List.[]) (Syntax.tcons ref1 (Syntax.tcons (Syntax.tyInt Syntax.w64) Syntax.tnil))))
+e26 = (26, Rows.any-gone slice1)
+
 abbrev e27 : Row.Entry
 e27 = (27, Rows.any-gone ref2)
+
 abbrev e28 : Row.Entry
-e28 = (28, Rows.any-gone (Syntax.tyStruct (38 ∷ 91 ∷ 93 ∷ List.[]) (Syntax.tcons ref2 (Syntax.tcons (Syntax.tyInt Syntax.w64) Syntax.tnil))))
+e28 = (28, Rows.any-gone slice2)
+
 abbrev e29 : Row.Entry
 e29 = (29, Rows.any-gone ref3)
+
 abbrev e30 : Row.Entry
-e30 = (30, Rows.any-gone (Syntax.tyStruct (38 ∷ 91 ∷ 93 ∷ List.[]) (Syntax.tcons ref3 (Syntax.tcons (Syntax.tyInt Syntax.w64) Syntax.tnil))))
+e30 = (30, Rows.any-gone slice3)
+
 abbrev e31 : Row.Entry
 e31 = (31, Rows.any-gone ref4)
+
 abbrev e32 : Row.Entry
-e32 = (32, Rows.any-gone (Syntax.tyStruct (38 ∷ 91 ∷ 93 ∷ List.[]) (Syntax.tcons ref4 (Syntax.tcons (Syntax.tyInt Syntax.w64) Syntax.tnil))))
+e32 = (32, Rows.any-gone slice4)
+
 abbrev e33 : Row.Entry
 e33 = (33, Rows.any-gone ref5)
+
 abbrev e34 : Row.Entry
-e34 = (34, Rows.any-gone (Syntax.tyStruct (38 ∷ 91 ∷ 93 ∷ List.[]) (Syntax.tcons ref5 (Syntax.tcons (Syntax.tyInt Syntax.w64) Syntax.tnil))))
+e34 = (34, Rows.any-gone slice5)
+
 abbrev e35 : Row.Entry
 e35 = (35, Rows.any-gone ref6)
+
 abbrev e36 : Row.Entry
-e36 = (36, Rows.any-gone (Syntax.tyStruct (38 ∷ 91 ∷ 93 ∷ List.[]) (Syntax.tcons ref6 (Syntax.tcons (Syntax.tyInt Syntax.w64) Syntax.tnil))))
+e36 = (36, Rows.any-gone slice6)
+
 abbrev e37 : Row.Entry
 e37 = (37, Rows.any-gone ref7)
+
 abbrev e38 : Row.Entry
-e38 = (38, Rows.any-gone (Syntax.tyStruct (38 ∷ 91 ∷ 93 ∷ List.[]) (Syntax.tcons ref7 (Syntax.tcons (Syntax.tyInt Syntax.w64) Syntax.tnil))))
+e38 = (38, Rows.any-gone slice7)
+
 abbrev e39 : Row.Entry
 e39 = (39, Rows.any-gone ref8)
+
 abbrev e40 : Row.Entry
-e40 = (40, Rows.any-gone (Syntax.tyStruct (38 ∷ 91 ∷ 93 ∷ List.[]) (Syntax.tcons ref8 (Syntax.tcons (Syntax.tyInt Syntax.w64) Syntax.tnil))))
+e40 = (40, Rows.any-gone slice8)
+
 abbrev e0·1 : Row.Entry
 e0·1 = (0, Rows.whole (Declared'.row Relayed.the-type))
+
 abbrev e6·1 : Row.Entry
 e6·1 = (6, Rows.any-gone Laws''''.mir)
+
 abbrev e7·1 : Row.Entry
 e7·1 = (7, Rows.any-gone Laws''.mir)
+
 abbrev e8·1 : Row.Entry
 e8·1 = (8, Rows.any-gone Laws'''.mir)
+
 abbrev e13·1 : Row.Entry
 e13·1 = (13, Rows.whole (Declared'.row OpaqueRelayConfig.the-type))
+
 abbrev e19·1 : Row.Entry
 e19·1 = (19, Rows.sc-here (Row.sInt Syntax.w64))
+
 abbrev e20·1 : Row.Entry
 e20·1 = (20, Rows.sc-here (Row.sInt Syntax.w64))
+
 abbrev e21·1 : Row.Entry
 e21·1 = (21, Rows.sc-here (Row.sInt Syntax.w64))
+
 abbrev e14·1 : Row.Entry
 e14·1 = (14, Rows.sc-here Row.sBool)
+
 abbrev e15·1 : Row.Entry
 e15·1 = (15, Rows.whole (Declared.row HnsrAnswer.the-type))
+
 abbrev e16·1 : Row.Entry
 e16·1 = (16, Rows.whole (Declared.row HnsrAnswer.the-type))
+
 abbrev e22·1 : Row.Entry
 e22·1 = (22, Rows.sc-here Row.sBool)
+
 abbrev e17·1 : Row.Entry
 e17·1 = (17, Rows.whole (Declared'.row OpaqueRelayRuntime.the-type))
+
 abbrev e1·1 : Row.Entry
 e1·1 = (1, Reshare.mslice-owedS RelayPending.row ref9 0 9 Row.off)
+
 abbrev e23·1 : Row.Entry
 e23·1 = (23, Relend.ssptr RelayPending.row ref0 9)
+
 abbrev e24·1 : Row.Entry
 e24·1 = (24, Rows.sslice RelayPending.row ref0 9)
+
 abbrev e2·1 : Row.Entry
 e2·1 = (2, Reshare.mslice-owedS RelayCircuit.row ref10 1 10 Row.off)
+
 abbrev e25·1 : Row.Entry
 e25·1 = (25, Relend.ssptr RelayCircuit.row ref1 10)
+
 abbrev e26·1 : Row.Entry
 e26·1 = (26, Rows.sslice RelayCircuit.row ref1 10)
+
 abbrev e3·1 : Row.Entry
 e3·1 = (3, Reshare.mslice-owedS ReservationUsage.row ref11 2 11 Row.off)
+
 abbrev e27·1 : Row.Entry
 e27·1 = (27, Relend.ssptr ReservationUsage.row ref2 11)
+
 abbrev e28·1 : Row.Entry
 e28·1 = (28, Rows.sslice ReservationUsage.row ref2 11)
+
 abbrev e4·1 : Row.Entry
 e4·1 = (4, Reshare.mslice-owedS InflightAction.row ref12 3 12 Row.off)
+
 abbrev e29·1 : Row.Entry
 e29·1 = (29, Relend.ssptr InflightAction.row ref3 12)
+
 abbrev e30·1 : Row.Entry
 e30·1 = (30, Rows.sslice InflightAction.row ref3 12)
+
 abbrev e18·1 : Row.Entry
 e18·1 = (18, Rows.whole (Declared'.row Places.the-type))
+
 abbrev e1·2 : Row.Entry
 e1·2 = (1, Relend.mslice-owed RelayPending.row ref9 0 13 Row.off)
+
 abbrev e31·1 : Row.Entry
 e31·1 = (31, Relend.msptr RelayPending.row ref4 13)
+
 abbrev e32·1 : Row.Entry
 e32·1 = (32, Mut.mslice RelayPending.row ref4 13)
+
 abbrev e2·2 : Row.Entry
 e2·2 = (2, Relend.mslice-owed RelayCircuit.row ref10 1 14 Row.off)
+
 abbrev e33·1 : Row.Entry
 e33·1 = (33, Relend.msptr RelayCircuit.row ref5 14)
+
 abbrev e34·1 : Row.Entry
 e34·1 = (34, Mut.mslice RelayCircuit.row ref5 14)
+
 abbrev e3·2 : Row.Entry
 e3·2 = (3, Relend.mslice-owed ReservationUsage.row ref11 2 15 Row.off)
+
 abbrev e35·1 : Row.Entry
 e35·1 = (35, Relend.msptr ReservationUsage.row ref6 15)
+
 abbrev e36·1 : Row.Entry
 e36·1 = (36, Mut.mslice ReservationUsage.row ref6 15)
+
 abbrev e4·2 : Row.Entry
 e4·2 = (4, Relend.mslice-owed InflightAction.row ref12 3 16 Row.off)
+
 abbrev e37·1 : Row.Entry
 e37·1 = (37, Relend.msptr InflightAction.row ref7 16)
+
 abbrev e38·1 : Row.Entry
 e38·1 = (38, Mut.mslice InflightAction.row ref7 16)
+
 abbrev e5·1 : Row.Entry
 e5·1 = (5, Relend.mslice-owed (Referent.rtF (Referent.fInt Syntax.w32)) ref13 4 17 Row.off)
+
 abbrev e39·1 : Row.Entry
 e39·1 = (39, Relend.msptr (Referent.rtF (Referent.fInt Syntax.w32)) ref8 17)
+
 abbrev e40·1 : Row.Entry
 e40·1 = (40, Mut.mslice (Referent.rtF (Referent.fInt Syntax.w32)) ref8 17)
+
 abbrev e32·2 : Row.Entry
 e32·2 = (32, Mut.msleft RelayPending.row ref4)
+
 abbrev e34·2 : Row.Entry
 e34·2 = (34, Mut.msleft RelayCircuit.row ref5)
+
 abbrev e36·2 : Row.Entry
 e36·2 = (36, Mut.msleft ReservationUsage.row ref6)
+
 abbrev e38·2 : Row.Entry
 e38·2 = (38, Mut.msleft InflightAction.row ref7)
+
 abbrev e40·2 : Row.Entry
 e40·2 = (40, Mut.msleft (Referent.rtF (Referent.fInt Syntax.w32)) ref8)
+
 abbrev pub t0 : List.List Row.Entry
 t0 = e0 ∷ e1 ∷ e2 ∷ e3 ∷ e4 ∷ e5 ∷ e6 ∷ e7 ∷ e8 ∷ e9 ∷ e10 ∷ e11 ∷ e12 ∷ e13 ∷ e14 ∷ e15 ∷ List.[]
+
 abbrev pub t1 : List.List Row.Entry
 t1 = e16 ∷ e17 ∷ e18 ∷ e19 ∷ e20 ∷ e21 ∷ e22 ∷ e23 ∷ e24 ∷ e25 ∷ e26 ∷ e27 ∷ e28 ∷ e29 ∷ e30 ∷ e31 ∷ List.[]
+
 abbrev pub t2 : List.List Row.Entry
 t2 = e32 ∷ e33 ∷ e34 ∷ e35 ∷ e36 ∷ e37 ∷ e38 ∷ e39 ∷ e40 ∷ List.[]
+
 abbrev pub t3 : List.List Row.Entry
 t3 = e0·1 ∷ e1 ∷ e2 ∷ e3 ∷ e4 ∷ e5 ∷ e6·1 ∷ e7·1 ∷ e8·1 ∷ e9 ∷ e10 ∷ e11 ∷ e12 ∷ e13 ∷ e14 ∷ e15 ∷ List.[]
+
 abbrev pub t4 : List.List Row.Entry
 t4 = e0 ∷ e1 ∷ e2 ∷ e3 ∷ e4 ∷ e5 ∷ e6 ∷ e7 ∷ e8 ∷ e9 ∷ e10 ∷ e11 ∷ e12 ∷ e13·1 ∷ e14 ∷ e15 ∷ List.[]
+
 abbrev pub t5 : List.List Row.Entry
 t5 = e16 ∷ e17 ∷ e18 ∷ e19·1 ∷ e20 ∷ e21 ∷ e22 ∷ e23 ∷ e24 ∷ e25 ∷ e26 ∷ e27 ∷ e28 ∷ e29 ∷ e30 ∷ e31 ∷ List.[]
+
 abbrev pub t6 : List.List Row.Entry
 t6 = e16 ∷ e17 ∷ e18 ∷ e19·1 ∷ e20·1 ∷ e21 ∷ e22 ∷ e23 ∷ e24 ∷ e25 ∷ e26 ∷ e27 ∷ e28 ∷ e29 ∷ e30 ∷ e31 ∷ List.[]
+
 abbrev pub t7 : List.List Row.Entry
 t7 = e16 ∷ e17 ∷ e18 ∷ e19·1 ∷ e20·1 ∷ e21·1 ∷ e22 ∷ e23 ∷ e24 ∷ e25 ∷ e26 ∷ e27 ∷ e28 ∷ e29 ∷ e30 ∷ e31 ∷ List.[]
+
 abbrev pub t8 : List.List Row.Entry
 t8 = e0 ∷ e1 ∷ e2 ∷ e3 ∷ e4 ∷ e5 ∷ e6 ∷ e7 ∷ e8 ∷ e9 ∷ e10 ∷ e11 ∷ e12 ∷ e13·1 ∷ e14·1 ∷ e15 ∷ List.[]
+
 abbrev pub t9 : List.List Row.Entry
 t9 = e0 ∷ e1 ∷ e2 ∷ e3 ∷ e4 ∷ e5 ∷ e6 ∷ e7 ∷ e8 ∷ e9 ∷ e10 ∷ e11 ∷ e12 ∷ e13 ∷ e14·1 ∷ e15 ∷ List.[]
+
 abbrev pub t10 : List.List Row.Entry
 t10 = e16 ∷ e17 ∷ e18 ∷ e19 ∷ e20·1 ∷ e21·1 ∷ e22 ∷ e23 ∷ e24 ∷ e25 ∷ e26 ∷ e27 ∷ e28 ∷ e29 ∷ e30 ∷ e31 ∷ List.[]
+
 abbrev pub t11 : List.List Row.Entry
 t11 = e16 ∷ e17 ∷ e18 ∷ e19 ∷ e20 ∷ e21·1 ∷ e22 ∷ e23 ∷ e24 ∷ e25 ∷ e26 ∷ e27 ∷ e28 ∷ e29 ∷ e30 ∷ e31 ∷ List.[]
+
 abbrev pub t12 : List.List Row.Entry
 t12 = e0 ∷ e1 ∷ e2 ∷ e3 ∷ e4 ∷ e5 ∷ e6 ∷ e7 ∷ e8 ∷ e9 ∷ e10 ∷ e11 ∷ e12 ∷ e13 ∷ e14·1 ∷ e15·1 ∷ List.[]
+
 abbrev pub t13 : List.List Row.Entry
 t13 = e16 ∷ e17 ∷ e18 ∷ e19·1 ∷ e20 ∷ e21·1 ∷ e22 ∷ e23 ∷ e24 ∷ e25 ∷ e26 ∷ e27 ∷ e28 ∷ e29 ∷ e30 ∷ e31 ∷ List.[]
+
 abbrev pub t14 : List.List Row.Entry
 t14 = e16·1 ∷ e17 ∷ e18 ∷ e19·1 ∷ e20 ∷ e21·1 ∷ e22 ∷ e23 ∷ e24 ∷ e25 ∷ e26 ∷ e27 ∷ e28 ∷ e29 ∷ e30 ∷ e31 ∷ List.[]
+
 abbrev pub t15 : List.List Row.Entry
 t15 = e16·1 ∷ e17 ∷ e18 ∷ e19 ∷ e20 ∷ e21·1 ∷ e22 ∷ e23 ∷ e24 ∷ e25 ∷ e26 ∷ e27 ∷ e28 ∷ e29 ∷ e30 ∷ e31 ∷ List.[]
+
 abbrev pub t16 : List.List Row.Entry
 t16 = e16·1 ∷ e17 ∷ e18 ∷ e19 ∷ e20 ∷ e21 ∷ e22 ∷ e23 ∷ e24 ∷ e25 ∷ e26 ∷ e27 ∷ e28 ∷ e29 ∷ e30 ∷ e31 ∷ List.[]
+
 abbrev pub t17 : List.List Row.Entry
 t17 = e16·1 ∷ e17 ∷ e18 ∷ e19 ∷ e20 ∷ e21 ∷ e22·1 ∷ e23 ∷ e24 ∷ e25 ∷ e26 ∷ e27 ∷ e28 ∷ e29 ∷ e30 ∷ e31 ∷ List.[]
+
 abbrev pub t18 : List.List Row.Entry
 t18 = e0 ∷ e1 ∷ e2 ∷ e3 ∷ e4 ∷ e5 ∷ e6 ∷ e7 ∷ e8·1 ∷ e9 ∷ e10 ∷ e11 ∷ e12 ∷ e13 ∷ e14·1 ∷ e15 ∷ List.[]
+
 abbrev pub t19 : List.List Row.Entry
 t19 = e16 ∷ e17 ∷ e18 ∷ e19 ∷ e20 ∷ e21 ∷ e22·1 ∷ e23 ∷ e24 ∷ e25 ∷ e26 ∷ e27 ∷ e28 ∷ e29 ∷ e30 ∷ e31 ∷ List.[]
+
 abbrev pub t20 : List.List Row.Entry
 t20 = e16 ∷ e17·1 ∷ e18 ∷ e19 ∷ e20 ∷ e21 ∷ e22 ∷ e23 ∷ e24 ∷ e25 ∷ e26 ∷ e27 ∷ e28 ∷ e29 ∷ e30 ∷ e31 ∷ List.[]
+
 abbrev pub t21 : List.List Row.Entry
 t21 = e0 ∷ e1 ∷ e2 ∷ e3 ∷ e4 ∷ e5 ∷ e6·1 ∷ e7 ∷ e8 ∷ e9 ∷ e10 ∷ e11 ∷ e12 ∷ e13 ∷ e14·1 ∷ e15 ∷ List.[]
+
 abbrev pub t22 : List.List Row.Entry
 t22 = e0 ∷ e1·1 ∷ e2 ∷ e3 ∷ e4 ∷ e5 ∷ e6·1 ∷ e7 ∷ e8 ∷ e9 ∷ e10 ∷ e11 ∷ e12 ∷ e13 ∷ e14·1 ∷ e15 ∷ List.[]
+
 abbrev pub t23 : List.List Row.Entry
 t23 = e16 ∷ e17·1 ∷ e18 ∷ e19 ∷ e20 ∷ e21 ∷ e22 ∷ e23·1 ∷ e24 ∷ e25 ∷ e26 ∷ e27 ∷ e28 ∷ e29 ∷ e30 ∷ e31 ∷ List.[]
+
 abbrev pub t24 : List.List Row.Entry
 t24 = e16 ∷ e17·1 ∷ e18 ∷ e19 ∷ e20 ∷ e21 ∷ e22 ∷ e23 ∷ e24·1 ∷ e25 ∷ e26 ∷ e27 ∷ e28 ∷ e29 ∷ e30 ∷ e31 ∷ List.[]
+
 abbrev pub t25 : List.List Row.Entry
 t25 = e0 ∷ e1·1 ∷ e2·1 ∷ e3 ∷ e4 ∷ e5 ∷ e6·1 ∷ e7 ∷ e8 ∷ e9 ∷ e10 ∷ e11 ∷ e12 ∷ e13 ∷ e14·1 ∷ e15 ∷ List.[]
+
 abbrev pub t26 : List.List Row.Entry
 t26 = e16 ∷ e17·1 ∷ e18 ∷ e19 ∷ e20 ∷ e21 ∷ e22 ∷ e23 ∷ e24·1 ∷ e25·1 ∷ e26 ∷ e27 ∷ e28 ∷ e29 ∷ e30 ∷ e31 ∷ List.[]
+
 abbrev pub t27 : List.List Row.Entry
 t27 = e16 ∷ e17·1 ∷ e18 ∷ e19 ∷ e20 ∷ e21 ∷ e22 ∷ e23 ∷ e24·1 ∷ e25 ∷ e26·1 ∷ e27 ∷ e28 ∷ e29 ∷ e30 ∷ e31 ∷ List.[]
+
 abbrev pub t28 : List.List Row.Entry
 t28 = e0 ∷ e1·1 ∷ e2·1 ∷ e3·1 ∷ e4 ∷ e5 ∷ e6·1 ∷ e7 ∷ e8 ∷ e9 ∷ e10 ∷ e11 ∷ e12 ∷ e13 ∷ e14·1 ∷ e15 ∷ List.[]
+
 abbrev pub t29 : List.List Row.Entry
 t29 = e16 ∷ e17·1 ∷ e18 ∷ e19 ∷ e20 ∷ e21 ∷ e22 ∷ e23 ∷ e24·1 ∷ e25 ∷ e26·1 ∷ e27·1 ∷ e28 ∷ e29 ∷ e30 ∷ e31 ∷ List.[]
+
 abbrev pub t30 : List.List Row.Entry
 t30 = e16 ∷ e17·1 ∷ e18 ∷ e19 ∷ e20 ∷ e21 ∷ e22 ∷ e23 ∷ e24·1 ∷ e25 ∷ e26·1 ∷ e27 ∷ e28·1 ∷ e29 ∷ e30 ∷ e31 ∷ List.[]
+
 abbrev pub t31 : List.List Row.Entry
 t31 = e0 ∷ e1·1 ∷ e2·1 ∷ e3·1 ∷ e4·1 ∷ e5 ∷ e6·1 ∷ e7 ∷ e8 ∷ e9 ∷ e10 ∷ e11 ∷ e12 ∷ e13 ∷ e14·1 ∷ e15 ∷ List.[]
+
 abbrev pub t32 : List.List Row.Entry
 t32 = e16 ∷ e17·1 ∷ e18 ∷ e19 ∷ e20 ∷ e21 ∷ e22 ∷ e23 ∷ e24·1 ∷ e25 ∷ e26·1 ∷ e27 ∷ e28·1 ∷ e29·1 ∷ e30 ∷ e31 ∷ List.[]
+
 abbrev pub t33 : List.List Row.Entry
 t33 = e16 ∷ e17·1 ∷ e18 ∷ e19 ∷ e20 ∷ e21 ∷ e22 ∷ e23 ∷ e24·1 ∷ e25 ∷ e26·1 ∷ e27 ∷ e28·1 ∷ e29 ∷ e30·1 ∷ e31 ∷ List.[]
+
 abbrev pub t34 : List.List Row.Entry
-t34 = e16 ∷ e17·1 ∷ e18·1 ∷ e19 ∷ e20 ∷ e21 ∷ e22 ∷ e23 ∷ e24·1 ∷ e25 ∷ e26·1 ∷ e27 ∷ e28·1 ∷ e29 ∷ e30·1 ∷ e31 ∷ List.[]
+t34 = e16 ∷ e17·1 ∷ e18·1 ∷ e19 ∷ e20 ∷ e21 ∷ e22 ∷ e23 ∷ e24·1 ∷ e25 ∷ e26·1 ∷ e27 ∷ e28·1 ∷ e29 ∷ e30·1 ∷ e31 ∷
+    List.[]
+
 abbrev pub t35 : List.List Row.Entry
 t35 = e16 ∷ e17·1 ∷ e18·1 ∷ e19 ∷ e20 ∷ e21 ∷ e22 ∷ e23 ∷ e24 ∷ e25 ∷ e26·1 ∷ e27 ∷ e28·1 ∷ e29 ∷ e30·1 ∷ e31 ∷ List.[]
+
 abbrev pub t36 : List.List Row.Entry
 t36 = e16 ∷ e17·1 ∷ e18·1 ∷ e19 ∷ e20 ∷ e21 ∷ e22 ∷ e23 ∷ e24 ∷ e25 ∷ e26 ∷ e27 ∷ e28·1 ∷ e29 ∷ e30·1 ∷ e31 ∷ List.[]
+
 abbrev pub t37 : List.List Row.Entry
 t37 = e16 ∷ e17·1 ∷ e18·1 ∷ e19 ∷ e20 ∷ e21 ∷ e22 ∷ e23 ∷ e24 ∷ e25 ∷ e26 ∷ e27 ∷ e28 ∷ e29 ∷ e30·1 ∷ e31 ∷ List.[]
+
 abbrev pub t38 : List.List Row.Entry
 t38 = e16 ∷ e17·1 ∷ e18·1 ∷ e19 ∷ e20 ∷ e21 ∷ e22 ∷ e23 ∷ e24 ∷ e25 ∷ e26 ∷ e27 ∷ e28 ∷ e29 ∷ e30 ∷ e31 ∷ List.[]
+
 abbrev pub t39 : List.List Row.Entry
 t39 = e0 ∷ e1·1 ∷ e2·1 ∷ e3·1 ∷ e4·1 ∷ e5 ∷ e6·1 ∷ e7·1 ∷ e8 ∷ e9 ∷ e10 ∷ e11 ∷ e12 ∷ e13 ∷ e14·1 ∷ e15 ∷ List.[]
+
 abbrev pub t40 : List.List Row.Entry
 t40 = e0 ∷ e1 ∷ e2·1 ∷ e3·1 ∷ e4·1 ∷ e5 ∷ e6·1 ∷ e7·1 ∷ e8 ∷ e9 ∷ e10 ∷ e11 ∷ e12 ∷ e13 ∷ e14·1 ∷ e15 ∷ List.[]
+
 abbrev pub t41 : List.List Row.Entry
 t41 = e0 ∷ e1 ∷ e2 ∷ e3·1 ∷ e4·1 ∷ e5 ∷ e6·1 ∷ e7·1 ∷ e8 ∷ e9 ∷ e10 ∷ e11 ∷ e12 ∷ e13 ∷ e14·1 ∷ e15 ∷ List.[]
+
 abbrev pub t42 : List.List Row.Entry
 t42 = e0 ∷ e1 ∷ e2 ∷ e3 ∷ e4·1 ∷ e5 ∷ e6·1 ∷ e7·1 ∷ e8 ∷ e9 ∷ e10 ∷ e11 ∷ e12 ∷ e13 ∷ e14·1 ∷ e15 ∷ List.[]
+
 abbrev pub t43 : List.List Row.Entry
 t43 = e0 ∷ e1 ∷ e2 ∷ e3 ∷ e4 ∷ e5 ∷ e6·1 ∷ e7·1 ∷ e8 ∷ e9 ∷ e10 ∷ e11 ∷ e12 ∷ e13 ∷ e14·1 ∷ e15 ∷ List.[]
+
 abbrev pub t44 : List.List Row.Entry
 t44 = e0 ∷ e1·2 ∷ e2 ∷ e3 ∷ e4 ∷ e5 ∷ e6·1 ∷ e7·1 ∷ e8 ∷ e9 ∷ e10 ∷ e11 ∷ e12 ∷ e13 ∷ e14·1 ∷ e15 ∷ List.[]
+
 abbrev pub t45 : List.List Row.Entry
 t45 = e16 ∷ e17·1 ∷ e18·1 ∷ e19 ∷ e20 ∷ e21 ∷ e22 ∷ e23 ∷ e24 ∷ e25 ∷ e26 ∷ e27 ∷ e28 ∷ e29 ∷ e30 ∷ e31·1 ∷ List.[]
+
 abbrev pub t46 : List.List Row.Entry
 t46 = e32·1 ∷ e33 ∷ e34 ∷ e35 ∷ e36 ∷ e37 ∷ e38 ∷ e39 ∷ e40 ∷ List.[]
+
 abbrev pub t47 : List.List Row.Entry
 t47 = e0 ∷ e1·2 ∷ e2·2 ∷ e3 ∷ e4 ∷ e5 ∷ e6·1 ∷ e7·1 ∷ e8 ∷ e9 ∷ e10 ∷ e11 ∷ e12 ∷ e13 ∷ e14·1 ∷ e15 ∷ List.[]
+
 abbrev pub t48 : List.List Row.Entry
 t48 = e32·1 ∷ e33·1 ∷ e34 ∷ e35 ∷ e36 ∷ e37 ∷ e38 ∷ e39 ∷ e40 ∷ List.[]
+
 abbrev pub t49 : List.List Row.Entry
 t49 = e32·1 ∷ e33 ∷ e34·1 ∷ e35 ∷ e36 ∷ e37 ∷ e38 ∷ e39 ∷ e40 ∷ List.[]
+
 abbrev pub t50 : List.List Row.Entry
 t50 = e0 ∷ e1·2 ∷ e2·2 ∷ e3·2 ∷ e4 ∷ e5 ∷ e6·1 ∷ e7·1 ∷ e8 ∷ e9 ∷ e10 ∷ e11 ∷ e12 ∷ e13 ∷ e14·1 ∷ e15 ∷ List.[]
+
 abbrev pub t51 : List.List Row.Entry
 t51 = e32·1 ∷ e33 ∷ e34·1 ∷ e35·1 ∷ e36 ∷ e37 ∷ e38 ∷ e39 ∷ e40 ∷ List.[]
+
 abbrev pub t52 : List.List Row.Entry
 t52 = e32·1 ∷ e33 ∷ e34·1 ∷ e35 ∷ e36·1 ∷ e37 ∷ e38 ∷ e39 ∷ e40 ∷ List.[]
+
 abbrev pub t53 : List.List Row.Entry
 t53 = e0 ∷ e1·2 ∷ e2·2 ∷ e3·2 ∷ e4·2 ∷ e5 ∷ e6·1 ∷ e7·1 ∷ e8 ∷ e9 ∷ e10 ∷ e11 ∷ e12 ∷ e13 ∷ e14·1 ∷ e15 ∷ List.[]
+
 abbrev pub t54 : List.List Row.Entry
 t54 = e32·1 ∷ e33 ∷ e34·1 ∷ e35 ∷ e36·1 ∷ e37·1 ∷ e38 ∷ e39 ∷ e40 ∷ List.[]
+
 abbrev pub t55 : List.List Row.Entry
 t55 = e32·1 ∷ e33 ∷ e34·1 ∷ e35 ∷ e36·1 ∷ e37 ∷ e38·1 ∷ e39 ∷ e40 ∷ List.[]
+
 abbrev pub t56 : List.List Row.Entry
 t56 = e0 ∷ e1·2 ∷ e2·2 ∷ e3·2 ∷ e4·2 ∷ e5·1 ∷ e6·1 ∷ e7·1 ∷ e8 ∷ e9 ∷ e10 ∷ e11 ∷ e12 ∷ e13 ∷ e14·1 ∷ e15 ∷ List.[]
+
 abbrev pub t57 : List.List Row.Entry
 t57 = e32·1 ∷ e33 ∷ e34·1 ∷ e35 ∷ e36·1 ∷ e37 ∷ e38·1 ∷ e39·1 ∷ e40 ∷ List.[]
+
 abbrev pub t58 : List.List Row.Entry
 t58 = e32·1 ∷ e33 ∷ e34·1 ∷ e35 ∷ e36·1 ∷ e37 ∷ e38·1 ∷ e39 ∷ e40·1 ∷ List.[]
+
 abbrev pub t59 : List.List Row.Entry
 t59 = e0·1 ∷ e1·2 ∷ e2·2 ∷ e3·2 ∷ e4·2 ∷ e5·1 ∷ e6·1 ∷ e7·1 ∷ e8 ∷ e9 ∷ e10 ∷ e11 ∷ e12 ∷ e13 ∷ e14·1 ∷ e15 ∷ List.[]
+
 abbrev pub t60 : List.List Row.Entry
 t60 = e32·2 ∷ e33 ∷ e34·2 ∷ e35 ∷ e36·2 ∷ e37 ∷ e38·2 ∷ e39 ∷ e40·2 ∷ List.[]
+
 abbrev pub t61 : List.List Row.Entry
 t61 = e0·1 ∷ e1·2 ∷ e2·2 ∷ e3·2 ∷ e4·2 ∷ e5·1 ∷ e6·1 ∷ e7·1 ∷ e8·1 ∷ e9 ∷ e10 ∷ e11 ∷ e12 ∷ e13 ∷ e14·1 ∷ e15 ∷ List.[]
+
 abbrev pub t62 : List.List Row.Entry
 t62 = e16 ∷ e17 ∷ e18·1 ∷ e19 ∷ e20 ∷ e21 ∷ e22 ∷ e23 ∷ e24 ∷ e25 ∷ e26 ∷ e27 ∷ e28 ∷ e29 ∷ e30 ∷ e31 ∷ List.[]
+
 abbrev pub t63 : List.List Row.Entry
 t63 = e0·1 ∷ e1 ∷ e2·2 ∷ e3·2 ∷ e4·2 ∷ e5·1 ∷ e6·1 ∷ e7·1 ∷ e8·1 ∷ e9 ∷ e10 ∷ e11 ∷ e12 ∷ e13 ∷ e14·1 ∷ e15 ∷ List.[]
+
 abbrev pub t64 : List.List Row.Entry
 t64 = e32 ∷ e33 ∷ e34·2 ∷ e35 ∷ e36·2 ∷ e37 ∷ e38·2 ∷ e39 ∷ e40·2 ∷ List.[]
+
 abbrev pub t65 : List.List Row.Entry
 t65 = e0·1 ∷ e1 ∷ e2 ∷ e3·2 ∷ e4·2 ∷ e5·1 ∷ e6·1 ∷ e7·1 ∷ e8·1 ∷ e9 ∷ e10 ∷ e11 ∷ e12 ∷ e13 ∷ e14·1 ∷ e15 ∷ List.[]
+
 abbrev pub t66 : List.List Row.Entry
 t66 = e32 ∷ e33 ∷ e34 ∷ e35 ∷ e36·2 ∷ e37 ∷ e38·2 ∷ e39 ∷ e40·2 ∷ List.[]
+
 abbrev pub t67 : List.List Row.Entry
 t67 = e0·1 ∷ e1 ∷ e2 ∷ e3 ∷ e4·2 ∷ e5·1 ∷ e6·1 ∷ e7·1 ∷ e8·1 ∷ e9 ∷ e10 ∷ e11 ∷ e12 ∷ e13 ∷ e14·1 ∷ e15 ∷ List.[]
+
 abbrev pub t68 : List.List Row.Entry
 t68 = e32 ∷ e33 ∷ e34 ∷ e35 ∷ e36 ∷ e37 ∷ e38·2 ∷ e39 ∷ e40·2 ∷ List.[]
+
 abbrev pub t69 : List.List Row.Entry
 t69 = e0·1 ∷ e1 ∷ e2 ∷ e3 ∷ e4 ∷ e5·1 ∷ e6·1 ∷ e7·1 ∷ e8·1 ∷ e9 ∷ e10 ∷ e11 ∷ e12 ∷ e13 ∷ e14·1 ∷ e15 ∷ List.[]
+
 abbrev pub t70 : List.List Row.Entry
 t70 = e32 ∷ e33 ∷ e34 ∷ e35 ∷ e36 ∷ e37 ∷ e38 ∷ e39 ∷ e40·2 ∷ List.[]
+
 abbrev pub t71 : List.List Row.Entry
 t71 = e0·1 ∷ e1 ∷ e2 ∷ e3 ∷ e4 ∷ e5 ∷ e6·1 ∷ e7·1 ∷ e8·1 ∷ e9 ∷ e10 ∷ e11 ∷ e12 ∷ e13 ∷ e14·1 ∷ e15 ∷ List.[]
+
 abbrev pub t72 : List.List Row.Entry
 t72 = e0·1 ∷ e1 ∷ e2 ∷ e3 ∷ e4 ∷ e5 ∷ e6 ∷ e7 ∷ e8·1 ∷ e9 ∷ e10 ∷ e11 ∷ e12 ∷ e13 ∷ e14·1 ∷ e15 ∷ List.[]
+
 abbrev pub t73 : List.List Row.Entry
 t73 = e0·1 ∷ e1 ∷ e2 ∷ e3 ∷ e4 ∷ e5 ∷ e6·1 ∷ e7 ∷ e8·1 ∷ e9 ∷ e10 ∷ e11 ∷ e12 ∷ e13 ∷ e14·1 ∷ e15 ∷ List.[]
+
 abbrev pub T0 : Row.Cx
 T0 = record { locals = List._++_ t0 (List._++_ t1 t2); slots = List.[] }
+
 abbrev pub T1 : Row.Cx
 T1 = record { locals = List._++_ t3 (List._++_ t1 t2); slots = List.[] }
+
 abbrev pub T2 : Row.Cx
 T2 = record { locals = List._++_ t0 (List._++_ t1 t2); slots = List.[] }
+
 abbrev pub T3 : Row.Cx
 T3 = record { locals = List._++_ t0 (List._++_ t1 t2); slots = List.[] }
+
 abbrev pub T4 : Row.Cx
 T4 = record { locals = List._++_ t0 (List._++_ t1 t2); slots = List.[] }
+
 abbrev pub T5 : Row.Cx
 T5 = record { locals = List._++_ t0 (List._++_ t1 t2); slots = List.[] }
+
 abbrev pub T6 : Row.Cx
 T6 = record { locals = List._++_ t0 (List._++_ t1 t2); slots = List.[] }
+
 abbrev pub T7 : Row.Cx
 T7 = record { locals = List._++_ t4 (List._++_ t1 t2); slots = List.[] }
+
 abbrev pub T8 : Row.Cx
 T8 = record { locals = List._++_ t4 (List._++_ t5 t2); slots = List.[] }
+
 abbrev pub T9 : Row.Cx
 T9 = record { locals = List._++_ t4 (List._++_ t6 t2); slots = List.[] }
+
 abbrev pub T10 : Row.Cx
 T10 = record { locals = List._++_ t4 (List._++_ t7 t2); slots = List.[] }
+
 abbrev pub T11 : Row.Cx
 T11 = record { locals = List._++_ t8 (List._++_ t7 t2); slots = List.[] }
+
 abbrev pub T12 : Row.Cx
 T12 = record { locals = List._++_ t9 (List._++_ t7 t2); slots = List.[] }
+
 abbrev pub T13 : Row.Cx
 T13 = record { locals = List._++_ t9 (List._++_ t10 t2); slots = List.[] }
+
 abbrev pub T14 : Row.Cx
 T14 = record { locals = List._++_ t9 (List._++_ t11 t2); slots = List.[] }
+
 abbrev pub T15 : Row.Cx
 T15 = record { locals = List._++_ t9 (List._++_ t1 t2); slots = List.[] }
+
 abbrev pub T16 : Row.Cx
 T16 = record { locals = List._++_ t9 (List._++_ t5 t2); slots = List.[] }
+
 abbrev pub T17 : Row.Cx
 T17 = record { locals = List._++_ t12 (List._++_ t5 t2); slots = List.[] }
+
 abbrev pub T18 : Row.Cx
 T18 = record { locals = List._++_ t12 (List._++_ t1 t2); slots = List.[] }
+
 abbrev pub T19 : Row.Cx
 T19 = record { locals = List._++_ t12 (List._++_ t11 t2); slots = List.[] }
+
 abbrev pub T20 : Row.Cx
 T20 = record { locals = List._++_ t12 (List._++_ t13 t2); slots = List.[] }
+
 abbrev pub T21 : Row.Cx
 T21 = record { locals = List._++_ t12 (List._++_ t14 t2); slots = List.[] }
+
 abbrev pub T22 : Row.Cx
 T22 = record { locals = List._++_ t9 (List._++_ t14 t2); slots = List.[] }
+
 abbrev pub T23 : Row.Cx
 T23 = record { locals = List._++_ t9 (List._++_ t15 t2); slots = List.[] }
+
 abbrev pub T24 : Row.Cx
 T24 = record { locals = List._++_ t9 (List._++_ t16 t2); slots = List.[] }
+
 abbrev pub T25 : Row.Cx
 T25 = record { locals = List._++_ t9 (List._++_ t17 t2); slots = List.[] }
+
 abbrev pub T26 : Row.Cx
 T26 = record { locals = List._++_ t18 (List._++_ t16 t2); slots = List.[] }
+
 abbrev pub T27 : Row.Cx
 T27 = record { locals = List._++_ t9 (List._++_ t19 t2); slots = List.[] }
+
 abbrev pub T28 : Row.Cx
 T28 = record { locals = List._++_ t9 (List._++_ t1 t2); slots = List.[] }
+
 abbrev pub T29 : Row.Cx
 T29 = record { locals = List._++_ t9 (List._++_ t20 t2); slots = List.[] }
+
 abbrev pub T30 : Row.Cx
 T30 = record { locals = List._++_ t21 (List._++_ t20 t2); slots = List.[] }
+
 abbrev pub T32 : Row.Cx
 T32 = record { locals = List._++_ t22 (List._++_ t23 t2); slots = List.[] }
+
 abbrev pub T33 : Row.Cx
 T33 = record { locals = List._++_ t22 (List._++_ t24 t2); slots = List.[] }
+
 abbrev pub T35 : Row.Cx
 T35 = record { locals = List._++_ t25 (List._++_ t26 t2); slots = List.[] }
+
 abbrev pub T36 : Row.Cx
 T36 = record { locals = List._++_ t25 (List._++_ t27 t2); slots = List.[] }
+
 abbrev pub T38 : Row.Cx
 T38 = record { locals = List._++_ t28 (List._++_ t29 t2); slots = List.[] }
+
 abbrev pub T39 : Row.Cx
 T39 = record { locals = List._++_ t28 (List._++_ t30 t2); slots = List.[] }
+
 abbrev pub T41 : Row.Cx
 T41 = record { locals = List._++_ t31 (List._++_ t32 t2); slots = List.[] }
+
 abbrev pub T42 : Row.Cx
 T42 = record { locals = List._++_ t31 (List._++_ t33 t2); slots = List.[] }
+
 abbrev pub T43 : Row.Cx
 T43 = record { locals = List._++_ t31 (List._++_ t34 t2); slots = List.[] }
+
 abbrev pub T44 : Row.Cx
 T44 = record { locals = List._++_ t31 (List._++_ t35 t2); slots = List.[] }
+
 abbrev pub T45 : Row.Cx
 T45 = record { locals = List._++_ t31 (List._++_ t36 t2); slots = List.[] }
+
 abbrev pub T46 : Row.Cx
 T46 = record { locals = List._++_ t31 (List._++_ t37 t2); slots = List.[] }
+
 abbrev pub T47 : Row.Cx
 T47 = record { locals = List._++_ t31 (List._++_ t38 t2); slots = List.[] }
+
 abbrev pub T48 : Row.Cx
 T48 = record { locals = List._++_ t39 (List._++_ t38 t2); slots = List.[] }
+
 abbrev pub T50 : Row.Cx
 T50 = record { locals = List._++_ t40 (List._++_ t38 t2); slots = List.[] }
+
 abbrev pub T53 : Row.Cx
 T53 = record { locals = List._++_ t41 (List._++_ t38 t2); slots = List.[] }
+
 abbrev pub T56 : Row.Cx
 T56 = record { locals = List._++_ t42 (List._++_ t38 t2); slots = List.[] }
+
 abbrev pub T59 : Row.Cx
 T59 = record { locals = List._++_ t43 (List._++_ t38 t2); slots = List.[] }
+
 abbrev pub T62 : Row.Cx
 T62 = record { locals = List._++_ t44 (List._++_ t45 t2); slots = List.[] }
+
 abbrev pub T63 : Row.Cx
 T63 = record { locals = List._++_ t44 (List._++_ t38 t46); slots = List.[] }
+
 abbrev pub T65 : Row.Cx
 T65 = record { locals = List._++_ t47 (List._++_ t38 t48); slots = List.[] }
+
 abbrev pub T66 : Row.Cx
 T66 = record { locals = List._++_ t47 (List._++_ t38 t49); slots = List.[] }
+
 abbrev pub T68 : Row.Cx
 T68 = record { locals = List._++_ t50 (List._++_ t38 t51); slots = List.[] }
+
 abbrev pub T69 : Row.Cx
 T69 = record { locals = List._++_ t50 (List._++_ t38 t52); slots = List.[] }
+
 abbrev pub T71 : Row.Cx
 T71 = record { locals = List._++_ t53 (List._++_ t38 t54); slots = List.[] }
+
 abbrev pub T72 : Row.Cx
 T72 = record { locals = List._++_ t53 (List._++_ t38 t55); slots = List.[] }
+
 abbrev pub T74 : Row.Cx
 T74 = record { locals = List._++_ t56 (List._++_ t38 t57); slots = List.[] }
+
 abbrev pub T75 : Row.Cx
 T75 = record { locals = List._++_ t56 (List._++_ t38 t58); slots = List.[] }
+
 abbrev pub T76 : Row.Cx
 T76 = record { locals = List._++_ t59 (List._++_ t38 t60); slots = List.[] }
+
 abbrev pub T77 : Row.Cx
 T77 = record { locals = List._++_ t61 (List._++_ t38 t60); slots = List.[] }
+
 abbrev pub T78 : Row.Cx
 T78 = record { locals = List._++_ t61 (List._++_ t62 t60); slots = List.[] }
+
 abbrev pub T79 : Row.Cx
 T79 = record { locals = List._++_ t61 (List._++_ t1 t60); slots = List.[] }
+
 abbrev pub T81 : Row.Cx
 T81 = record { locals = List._++_ t63 (List._++_ t1 t64); slots = List.[] }
+
 abbrev pub T84 : Row.Cx
 T84 = record { locals = List._++_ t65 (List._++_ t1 t66); slots = List.[] }
+
 abbrev pub T87 : Row.Cx
 T87 = record { locals = List._++_ t67 (List._++_ t1 t68); slots = List.[] }
+
 abbrev pub T90 : Row.Cx
 T90 = record { locals = List._++_ t69 (List._++_ t1 t70); slots = List.[] }
+
 abbrev pub T93 : Row.Cx
 T93 = record { locals = List._++_ t71 (List._++_ t1 t2); slots = List.[] }
+
 abbrev pub T94 : Row.Cx
 T94 = record { locals = List._++_ t71 (List._++_ t1 t2); slots = List.[] }
+
 abbrev pub T96 : Row.Cx
 T96 = record { locals = List._++_ t3 (List._++_ t1 t2); slots = List.[] }
+
 abbrev pub T97 : Row.Cx
 T97 = record { locals = List._++_ t18 (List._++_ t17 t2); slots = List.[] }
+
 abbrev pub T98 : Row.Cx
 T98 = record { locals = List._++_ t18 (List._++_ t16 t2); slots = List.[] }
+
 abbrev pub T99 : Row.Cx
 T99 = record { locals = List._++_ t72 (List._++_ t16 t2); slots = List.[] }
+
 abbrev pub T100 : Row.Cx
 T100 = record { locals = List._++_ t73 (List._++_ t16 t2); slots = List.[] }
+
 abbrev pub T101 : Row.Cx
 T101 = record { locals = List._++_ t71 (List._++_ t16 t2); slots = List.[] }
+
 abbrev pub T102 : Row.Cx
 T102 = record { locals = List._++_ t3 (List._++_ t16 t2); slots = List.[] }
+
 abbrev pub T103 : Row.Cx
 T103 = record { locals = List._++_ t3 (List._++_ t1 t2); slots = List.[] }
+
 abbrev pub O0 : Typed.Outs
 O0 = record { next = Option.none; exits = List.[]; returns = Option.some T1 }
+
 abbrev pub O1 : Typed.Outs
 O1 = Typed.withNext (Option.some T26) O0
+
 module _ (claims· : Claims) where
   abbrev s0 : (bs : List.List Nat.ℕ) → Typed.Gives T0 T2
   s0 = λ bs. Know.k-sl-known (Referent.fInt Syntax.w32) T0 5 4 ref13 Row.off 0 λ x. x
+
   abbrev s1 : (bs : List.List Nat.ℕ) → Typed.Gives T2 T3
   s1 = λ bs. Know.k-shs-known (Referent.fInt Syntax.w8) T2 9 5 ref14 Row.off 0 λ x. x
+
   abbrev s2 : (bs : List.List Nat.ℕ) → Typed.Gives T3 T4
   s2 = λ bs. Know.k-shs-known (Referent.fInt Syntax.w8) T3 10 6 ref15 Row.off 0 λ x. x
+
   abbrev s3 : (bs : List.List Nat.ℕ) → Typed.Gives T4 T5
   s3 = λ bs. Know.k-shs-known (Referent.fInt Syntax.w8) T4 11 7 ref16 Row.off 0 λ x. x
+
   abbrev s4 : (bs : List.List Nat.ℕ) → Typed.Gives T5 T6
   s4 = λ bs. Know.k-shs-known (Referent.fInt Syntax.w8) T5 12 8 ref17 Row.off 0 λ x. x
+
   abbrev s5 : (bs : List.List Nat.ℕ) → Typed.Both T6 T7
-  s5 = λ bs. WayStmt.k-way-copy-out T6 (Row.out 6 (T6 .locals)) (λ u. Row.drop 6 (T6 .locals) u) 13 (Rows.whole (Declared'.row
-      OpaqueRelayConfig.the-type)) (λ u. At.getAt (OpaqueRelayRuntime.the-type .parts) 4 (OpaqueRelayRuntime.struct .as-values (u .1 .1 .1 .1 .1 .1
-      .0))) (λ T′. record { locals = Row.setRow 6 (6, Rows.whole (Declared'.row OpaqueRelayRuntime.the-type)) T′; slots = List.[]; }) (λ u T′ m′.
-      Row.set 6 (6, Rows.whole (Declared'.row OpaqueRelayRuntime.the-type)) (u .1 .1 .1 .1 .1 .1 .0) T′ m′) (λ u. Unit) λ u. Unit
+  s5 = λ bs. WayStmt.k-way-copy-out T6 (Row.out 6 (T6 .locals)) (λ u. Row.drop 6 (T6 .locals) u) 13
+      (Rows.whole (Declared'.row OpaqueRelayConfig.the-type)) (λ u. At.getAt (OpaqueRelayRuntime.the-type .parts) 4 (OpaqueRelayRuntime.struct
+      .as-values (u .1 .1 .1 .1 .1 .1 .0))) (λ T′. record {
+        locals = Row.setRow 6 (6, Rows.whole (Declared'.row OpaqueRelayRuntime.the-type)) T′;
+        slots = List.[];
+      }) (λ u T′ m′. Row.set 6 (6, Rows.whole (Declared'.row OpaqueRelayRuntime.the-type)) (u .1 .1 .1 .1 .1 .1 .0) T′
+      m′) (λ u. Unit) λ u. Unit
+
   abbrev s6 : (bs : List.List Nat.ℕ) → Typed.Mo T7 → Typed.Mo T8
-  s6 = λ bs. Scalar.n-use T7 (Scalar.oFld 1 ((Syntax.field 1) ∷ List.[]) (Syntax.tyInt Syntax.w64) 8 Shared.lenV) 19 (Rows.sc-here (Row.sInt
-      Syntax.w64)) (Row.sInt Syntax.w64 .of)
+  s6 = λ bs. Scalar.n-use T7 (Scalar.oFld 1 ((Syntax.field 1) ∷ List.[]) (Syntax.tyInt Syntax.w64) 8 Shared.lenV) 19
+      (Rows.sc-here (Row.sInt Syntax.w64)) (Row.sInt Syntax.w64 .of)
+
   abbrev s7 : (bs : List.List Nat.ℕ) → Typed.Mo T8 → Typed.Mo T9
-  s7 = λ bs. Scalar.n-use T8 (Scalar.oFld 2 ((Syntax.field 1) ∷ List.[]) (Syntax.tyInt Syntax.w64) 8 Shared.lenV) 20 (Rows.sc-here (Row.sInt
-      Syntax.w64)) (Row.sInt Syntax.w64 .of)
+  s7 = λ bs. Scalar.n-use T8 (Scalar.oFld 2 ((Syntax.field 1) ∷ List.[]) (Syntax.tyInt Syntax.w64) 8 Shared.lenV) 20
+      (Rows.sc-here (Row.sInt Syntax.w64)) (Row.sInt Syntax.w64 .of)
+
   abbrev s8 : (bs : List.List Nat.ℕ) → Typed.Mo T9 → Typed.Mo T10
-  s8 = λ bs. Scalar.n-use T9 (Scalar.oFld 4 ((Syntax.field 1) ∷ List.[]) (Syntax.tyInt Syntax.w64) 8 Shared.lenV) 21 (Rows.sc-here (Row.sInt
-      Syntax.w64)) (Row.sInt Syntax.w64 .of)
+  s8 = λ bs. Scalar.n-use T9 (Scalar.oFld 4 ((Syntax.field 1) ∷ List.[]) (Syntax.tyInt Syntax.w64) 8 Shared.lenV) 21
+      (Rows.sc-here (Row.sInt Syntax.w64)) (Row.sInt Syntax.w64 .of)
+
   abbrev s9 : (bs : List.List Nat.ℕ) → Typed.Both T10 T11
-  s9 = λ bs. Call.callB ps·0 r·0 (claims· .0) (claims· .1) T10 (record { pos = 13; st = List.[]; d = 0; at = λ x. x }, (Num.vAt 19 λ x. x, (Num.vAt 20
-      λ x. x, (Num.vAt 21 λ x. x, tt))),) 14 List.[] Syntax.tyBool
+  s9 = λ bs. Call.callB ps·0 r·0 (claims· .0) (claims· .1) T10 (
+    record { pos = 13; st = List.[]; d = 0; at = λ x. x },
+    (Num.vAt 19 λ x. x, (Num.vAt 20 λ x. x, (Num.vAt 21 λ x. x, tt))),
+  ) 14 List.[] Syntax.tyBool
+
   abbrev s10 : (bs : List.List Nat.ℕ) → Typed.Mo T11 → Typed.Mo T12
   s10 = λ bs. Scalar.n-room T11 13 Laws'.mir
+
   abbrev s11 : (bs : List.List Nat.ℕ) → Typed.Mo T12 → Typed.Mo T13
   s11 = λ bs. Scalar.n-room T12 19 (Syntax.tyInt Syntax.w64)
+
   abbrev s12 : (bs : List.List Nat.ℕ) → Typed.Mo T13 → Typed.Mo T14
   s12 = λ bs. Scalar.n-room T13 20 (Syntax.tyInt Syntax.w64)
+
   abbrev s13 : (bs : List.List Nat.ℕ) → Typed.Mo T14 → Typed.Mo T15
   s13 = λ bs. Scalar.n-room T14 21 (Syntax.tyInt Syntax.w64)
+
   abbrev s14 : (bs : List.List Nat.ℕ) → Typed.Mo T15 → Typed.Mo T16
-  s14 = λ bs. Scalar.n-use T15 (Scalar.oFld 5 ((Syntax.field 1) ∷ List.[]) (Syntax.tyInt Syntax.w64) 8 Shared.lenV) 19 (Rows.sc-here (Row.sInt
-      Syntax.w64)) (Row.sInt Syntax.w64 .of)
+  s14 = λ bs. Scalar.n-use T15 (Scalar.oFld 5 ((Syntax.field 1) ∷ List.[]) (Syntax.tyInt Syntax.w64) 8 Shared.lenV) 19
+      (Rows.sc-here (Row.sInt Syntax.w64)) (Row.sInt Syntax.w64 .of)
+
   abbrev s15 : (bs : List.List Nat.ℕ) → Typed.Both T16 T17
-  s15 = λ bs. Call.callB ps·1 r·1 (claims· .2) (claims· .3) T16 (Num.vAt 19 λ x. x, (Bool.bAt 14 λ x. x, tt),) 15 List.[] Laws.mir
+  s15 = λ bs. Call.callB ps·1 r·1 (claims· .2) (claims· .3) T16 (Num.vAt 19 λ x. x, (Bool.bAt 14 λ x. x, tt)) 15
+      List.[] Laws.mir
+
   abbrev s16 : (bs : List.List Nat.ℕ) → Typed.Mo T17 → Typed.Mo T18
   s16 = λ bs. Scalar.n-room T17 19 (Syntax.tyInt Syntax.w64)
+
   abbrev s17 : (bs : List.List Nat.ℕ) → Typed.Mo T18 → Typed.Mo T19
-  s17 = λ bs. Scalar.n-use T18 (Scalar.oFld 9 ((Syntax.field 1) ∷ List.[]) (Syntax.tyInt Syntax.w64) 8 Shared.lenV) 21 (Rows.sc-here (Row.sInt
-      Syntax.w64)) (Row.sInt Syntax.w64 .of)
+  s17 = λ bs. Scalar.n-use T18 (Scalar.oFld 9 ((Syntax.field 1) ∷ List.[]) (Syntax.tyInt Syntax.w64) 8 Shared.lenV) 21
+      (Rows.sc-here (Row.sInt Syntax.w64)) (Row.sInt Syntax.w64 .of)
+
   abbrev s18 : (bs : List.List Nat.ℕ) → Typed.Mo T19 → Typed.Mo T20
-  s18 = λ bs. Scalar.n-use T19 (Scalar.oFld 10 ((Syntax.field 1) ∷ List.[]) (Syntax.tyInt Syntax.w64) 8 Shared.lenV) 19 (Rows.sc-here (Row.sInt
-      Syntax.w64)) (Row.sInt Syntax.w64 .of)
+  s18 = λ bs. Scalar.n-use T19 (Scalar.oFld 10 ((Syntax.field 1) ∷ List.[]) (Syntax.tyInt Syntax.w64) 8 Shared.lenV) 19
+      (Rows.sc-here (Row.sInt Syntax.w64)) (Row.sInt Syntax.w64 .of)
+
   abbrev s19 : (bs : List.List Nat.ℕ) → Typed.Both T20 T21
-  s19 = λ bs. Call.callB ps·2 r·2 (claims· .4) (claims· .5) T20 (record { pos = 15; st = List.[]; d = 0; at = λ x. x }, (record { pos = 6; st =
-      List.[]; d = 0; at = λ x. x }, (record { pos = 8; st = List.[]; d = 0; at = λ x. x }, (Num.vAt 21 λ x. x, (Num.vAt 19 λ x. x, tt)),),),) 16
-      List.[] Laws.mir
+  s19 = λ bs. Call.callB ps·2 r·2 (claims· .4) (claims· .5) T20 (
+    record { pos = 15; st = List.[]; d = 0; at = λ x. x },
+    (
+      record { pos = 6; st = List.[]; d = 0; at = λ x. x },
+      (record { pos = 8; st = List.[]; d = 0; at = λ x. x }, (Num.vAt 21 λ x. x, (Num.vAt 19 λ x. x, tt))),
+    ),
+  ) 16 List.[] Laws.mir
+
   abbrev s20 : (bs : List.List Nat.ℕ) → Typed.Mo T21 → Typed.Mo T22
   s20 = λ bs. Scalar.n-room T21 15 Laws.mir
+
   abbrev s21 : (bs : List.List Nat.ℕ) → Typed.Mo T22 → Typed.Mo T23
   s21 = λ bs. Scalar.n-room T22 19 (Syntax.tyInt Syntax.w64)
+
   abbrev s22 : (bs : List.List Nat.ℕ) → Typed.Mo T23 → Typed.Mo T24
   s22 = λ bs. Scalar.n-room T23 21 (Syntax.tyInt Syntax.w64)
+
   abbrev s23 : (bs : List.List Nat.ℕ) → Typed.Both T24 T25
-  s23 = λ bs. Call.callB ps·3 r·3 (claims· .6) (claims· .7) T24 (record { pos = 16; st = List.[]; d = 0; at = λ x. x }, tt,) 22 List.[] Syntax.tyBool
+  s23 = λ bs. Call.callB ps·3 r·3 (claims· .6) (claims· .7) T24
+      (record { pos = 16; st = List.[]; d = 0; at = λ x. x }, tt) 22 List.[] Syntax.tyBool
+
   abbrev s24 : (bs : List.List Nat.ℕ) → Typed.Mo T25 → Typed.Mo T27
   s24 = λ bs. Scalar.n-room T25 16 Laws.mir
+
   abbrev s25 : (bs : List.List Nat.ℕ) → Typed.Mo T27 → Typed.Mo T28
   s25 = λ bs. Scalar.n-room T27 22 Syntax.tyBool
+
   abbrev s26 : (bs : List.List Nat.ℕ) → Typed.Both T28 T29
-  s26 = λ bs. Call.callB ps·4 r·4 (claims· .8) (claims· .9) T28 (record { pos = 6; st = List.[]; d = 0; at = λ x. x }, (Num.vFld 8 ((Syntax.field 2) ∷
-      List.[]) 16 λ x. RelayPacket.struct .as-values x .1 .1 .0, tt,),) 17 List.[] Laws''''.mir
+  s26 = λ bs. Call.callB ps·4 r·4 (claims· .8) (claims· .9) T28 (
+    record { pos = 6; st = List.[]; d = 0; at = λ x. x },
+    (Num.vFld 8 ((Syntax.field 2) ∷ List.[]) 16 λ x. RelayPacket.struct .as-values x .1 .1 .0, tt),
+  ) 17 List.[] Laws''''.mir
+
   abbrev s27 : (bs : List.List Nat.ℕ) → Typed.Mo T29 → Typed.Mo T30
   s27 = λ bs. Scalar.n-room T29 6 Laws''''.mir
+
   abbrev s29 : (bs : List.List Nat.ℕ) → Typed.Gives T30 T32
   s29 = λ bs. Reshare.k-sl-reshare RelayPending.row T30 1 23 0 9 ref9 ref0 Row.off λ x. x
+
   abbrev s30 : (bs : List.List Nat.ℕ) → Typed.Asks T32 T33
-  s30 = λ bs. Relend.k-sl-aggregate RelayPending.row (Relend.asShr RelayPending.row) T32 23 24 9 ref0 ref0 (λ x. x) (Scalar.oFld 1 ((Syntax.field 1) ∷
-      List.[]) (Syntax.tyInt Syntax.w64) 8 λ v. Shared.lenV (v .0))
+  s30 = λ bs. Relend.k-sl-aggregate RelayPending.row (Relend.asShr RelayPending.row) T32 23 24 9 ref0 ref0 (λ x. x) (Scalar.oFld
+      1 ((Syntax.field 1) ∷ List.[]) (Syntax.tyInt Syntax.w64) 8 λ v. Shared.lenV (v .0))
+
   abbrev s32 : (bs : List.List Nat.ℕ) → Typed.Gives T33 T35
   s32 = λ bs. Reshare.k-sl-reshare RelayCircuit.row T33 2 25 1 10 ref10 ref1 Row.off λ x. x
+
   abbrev s33 : (bs : List.List Nat.ℕ) → Typed.Asks T35 T36
-  s33 = λ bs. Relend.k-sl-aggregate RelayCircuit.row (Relend.asShr RelayCircuit.row) T35 25 26 10 ref1 ref1 (λ x. x) (Scalar.oFld 2 ((Syntax.field 1)
-      ∷ List.[]) (Syntax.tyInt Syntax.w64) 8 λ v. Shared.lenV (v .0))
+  s33 = λ bs. Relend.k-sl-aggregate RelayCircuit.row (Relend.asShr RelayCircuit.row) T35 25 26 10 ref1 ref1 (λ x. x) (Scalar.oFld
+      2 ((Syntax.field 1) ∷ List.[]) (Syntax.tyInt Syntax.w64) 8 λ v. Shared.lenV (v .0))
+
   abbrev s35 : (bs : List.List Nat.ℕ) → Typed.Gives T36 T38
   s35 = λ bs. Reshare.k-sl-reshare ReservationUsage.row T36 3 27 2 11 ref11 ref2 Row.off λ x. x
+
   abbrev s36 : (bs : List.List Nat.ℕ) → Typed.Asks T38 T39
-  s36 = λ bs. Relend.k-sl-aggregate ReservationUsage.row (Relend.asShr ReservationUsage.row) T38 27 28 11 ref2 ref2 (λ x. x) (Scalar.oFld 3
-      ((Syntax.field 1) ∷ List.[]) (Syntax.tyInt Syntax.w64) 8 λ v. Shared.lenV (v .0))
+  s36 = λ bs. Relend.k-sl-aggregate ReservationUsage.row (Relend.asShr ReservationUsage.row) T38 27 28 11 ref2 ref2
+      (λ x. x) (Scalar.oFld 3 ((Syntax.field 1) ∷ List.[]) (Syntax.tyInt Syntax.w64) 8 λ v. Shared.lenV (v .0))
+
   abbrev s38 : (bs : List.List Nat.ℕ) → Typed.Gives T39 T41
   s38 = λ bs. Reshare.k-sl-reshare InflightAction.row T39 4 29 3 12 ref12 ref3 Row.off λ x. x
+
   abbrev s39 : (bs : List.List Nat.ℕ) → Typed.Asks T41 T42
-  s39 = λ bs. Relend.k-sl-aggregate InflightAction.row (Relend.asShr InflightAction.row) T41 29 30 12 ref3 ref3 (λ x. x) (Scalar.oFld 4 ((Syntax.field
-      1) ∷ List.[]) (Syntax.tyInt Syntax.w64) 8 λ v. Shared.lenV (v .0))
+  s39 = λ bs. Relend.k-sl-aggregate InflightAction.row (Relend.asShr InflightAction.row) T41 29 30 12 ref3 ref3
+      (λ x. x) (Scalar.oFld 4 ((Syntax.field 1) ∷ List.[]) (Syntax.tyInt Syntax.w64) 8 λ v. Shared.lenV (v .0))
+
   abbrev s40 : (bs : List.List Nat.ℕ) → Typed.Both T42 T43
-  s40 = λ bs. Call.callB ps·5 r·5 (claims· .10) (claims· .11) T42 (record { pos = 24; ty = Syntax.tyRef Syntax.erased Syntax.imm RelayPending.to; ref
-      = λ x. x; }, (record { pos = 26; ty = Syntax.tyRef Syntax.erased Syntax.imm RelayCircuit.to; ref = λ x. x; }, (record { pos = 28; ty =
-      Syntax.tyRef Syntax.erased Syntax.imm ReservationUsage.to; ref = λ x. x; }, (record { pos = 30; ty = Syntax.tyRef Syntax.erased Syntax.imm
-      InflightAction.to; ref = λ x. x; }, (record { pos = 7; st = List.[]; d = 0; at = λ x. x }, tt),),),),) 18 (9 ∷ 10 ∷ 11 ∷ 12 ∷ List.[])
-      Laws''.mir
+  s40 = λ bs. Call.callB ps·5 r·5 (claims· .10) (claims· .11) T42 (
+    record { pos = 24; ty = ref0; ref = λ x. x },
+    (
+      record { pos = 26; ty = ref1; ref = λ x. x },
+      (
+        record { pos = 28; ty = ref2; ref = λ x. x },
+        (record { pos = 30; ty = ref3; ref = λ x. x }, (record { pos = 7; st = List.[]; d = 0; at = λ x. x }, tt)),
+      ),
+    ),
+  ) 18 (9 ∷ 10 ∷ 11 ∷ 12 ∷ List.[]) Laws''.mir
+
   abbrev s41 : (bs : List.List Nat.ℕ) → Typed.Mo T43 → Typed.Mo T44
-  s41 = λ bs. Scalar.n-room T43 24 (Syntax.tyStruct (38 ∷ 91 ∷ 93 ∷ List.[]) (Syntax.tcons ref0 (Syntax.tcons (Syntax.tyInt Syntax.w64) Syntax.tnil)))
+  s41 = λ bs. Scalar.n-room T43 24 slice0
+
   abbrev s42 : (bs : List.List Nat.ℕ) → Typed.Mo T44 → Typed.Mo T45
-  s42 = λ bs. Scalar.n-room T44 26 (Syntax.tyStruct (38 ∷ 91 ∷ 93 ∷ List.[]) (Syntax.tcons ref1 (Syntax.tcons (Syntax.tyInt Syntax.w64) Syntax.tnil)))
+  s42 = λ bs. Scalar.n-room T44 26 slice1
+
   abbrev s43 : (bs : List.List Nat.ℕ) → Typed.Mo T45 → Typed.Mo T46
-  s43 = λ bs. Scalar.n-room T45 28 (Syntax.tyStruct (38 ∷ 91 ∷ 93 ∷ List.[]) (Syntax.tcons ref2 (Syntax.tcons (Syntax.tyInt Syntax.w64) Syntax.tnil)))
+  s43 = λ bs. Scalar.n-room T45 28 slice2
+
   abbrev s44 : (bs : List.List Nat.ℕ) → Typed.Mo T46 → Typed.Mo T47
-  s44 = λ bs. Scalar.n-room T46 30 (Syntax.tyStruct (38 ∷ 91 ∷ 93 ∷ List.[]) (Syntax.tcons ref3 (Syntax.tcons (Syntax.tyInt Syntax.w64) Syntax.tnil)))
+  s44 = λ bs. Scalar.n-room T46 30 slice3
+
   abbrev s45 : (bs : List.List Nat.ℕ) → Typed.Mo T47 → Typed.Mo T48
   s45 = λ bs. Scalar.n-room T47 7 Laws''.mir
+
   abbrev s47 : (bs : List.List Nat.ℕ) → Typed.Mo T48 → Typed.Mo T50
   s47 = λ bs. Reshare.n-back-sl-shr RelayPending.row T48 1 0 9 ref9 Row.off λ x. x
+
   abbrev s50 : (bs : List.List Nat.ℕ) → Typed.Mo T50 → Typed.Mo T53
   s50 = λ bs. Reshare.n-back-sl-shr RelayCircuit.row T50 2 1 10 ref10 Row.off λ x. x
+
   abbrev s53 : (bs : List.List Nat.ℕ) → Typed.Mo T53 → Typed.Mo T56
   s53 = λ bs. Reshare.n-back-sl-shr ReservationUsage.row T53 3 2 11 ref11 Row.off λ x. x
+
   abbrev s56 : (bs : List.List Nat.ℕ) → Typed.Mo T56 → Typed.Mo T59
   s56 = λ bs. Reshare.n-back-sl-shr InflightAction.row T56 4 3 12 ref12 Row.off λ x. x
+
   abbrev s59 : (bs : List.List Nat.ℕ) → Typed.Gives T59 T62
   s59 = λ bs. Relend.k-sl-relend RelayPending.row T59 1 31 0 13 ref9 ref4 Row.off λ x. x
+
   abbrev s60 : (bs : List.List Nat.ℕ) → Typed.Asks T62 T63
-  s60 = λ bs. Relend.k-sl-aggregate RelayPending.row (Relend.asMut RelayPending.row) T62 31 32 13 ref4 ref4 (λ x. x) (Scalar.oFld 1 ((Syntax.field 1)
-      ∷ List.[]) (Syntax.tyInt Syntax.w64) 8 λ v. Shared.lenV (v .0))
+  s60 = λ bs. Relend.k-sl-aggregate RelayPending.row (Relend.asMut RelayPending.row) T62 31 32 13 ref4 ref4 (λ x. x) (Scalar.oFld
+      1 ((Syntax.field 1) ∷ List.[]) (Syntax.tyInt Syntax.w64) 8 λ v. Shared.lenV (v .0))
+
   abbrev s62 : (bs : List.List Nat.ℕ) → Typed.Gives T63 T65
   s62 = λ bs. Relend.k-sl-relend RelayCircuit.row T63 2 33 1 14 ref10 ref5 Row.off λ x. x
+
   abbrev s63 : (bs : List.List Nat.ℕ) → Typed.Asks T65 T66
-  s63 = λ bs. Relend.k-sl-aggregate RelayCircuit.row (Relend.asMut RelayCircuit.row) T65 33 34 14 ref5 ref5 (λ x. x) (Scalar.oFld 2 ((Syntax.field 1)
-      ∷ List.[]) (Syntax.tyInt Syntax.w64) 8 λ v. Shared.lenV (v .0))
+  s63 = λ bs. Relend.k-sl-aggregate RelayCircuit.row (Relend.asMut RelayCircuit.row) T65 33 34 14 ref5 ref5 (λ x. x) (Scalar.oFld
+      2 ((Syntax.field 1) ∷ List.[]) (Syntax.tyInt Syntax.w64) 8 λ v. Shared.lenV (v .0))
+
   abbrev s65 : (bs : List.List Nat.ℕ) → Typed.Gives T66 T68
   s65 = λ bs. Relend.k-sl-relend ReservationUsage.row T66 3 35 2 15 ref11 ref6 Row.off λ x. x
+
   abbrev s66 : (bs : List.List Nat.ℕ) → Typed.Asks T68 T69
-  s66 = λ bs. Relend.k-sl-aggregate ReservationUsage.row (Relend.asMut ReservationUsage.row) T68 35 36 15 ref6 ref6 (λ x. x) (Scalar.oFld 3
-      ((Syntax.field 1) ∷ List.[]) (Syntax.tyInt Syntax.w64) 8 λ v. Shared.lenV (v .0))
+  s66 = λ bs. Relend.k-sl-aggregate ReservationUsage.row (Relend.asMut ReservationUsage.row) T68 35 36 15 ref6 ref6
+      (λ x. x) (Scalar.oFld 3 ((Syntax.field 1) ∷ List.[]) (Syntax.tyInt Syntax.w64) 8 λ v. Shared.lenV (v .0))
+
   abbrev s68 : (bs : List.List Nat.ℕ) → Typed.Gives T69 T71
   s68 = λ bs. Relend.k-sl-relend InflightAction.row T69 4 37 3 16 ref12 ref7 Row.off λ x. x
+
   abbrev s69 : (bs : List.List Nat.ℕ) → Typed.Asks T71 T72
-  s69 = λ bs. Relend.k-sl-aggregate InflightAction.row (Relend.asMut InflightAction.row) T71 37 38 16 ref7 ref7 (λ x. x) (Scalar.oFld 4 ((Syntax.field
-      1) ∷ List.[]) (Syntax.tyInt Syntax.w64) 8 λ v. Shared.lenV (v .0))
+  s69 = λ bs. Relend.k-sl-aggregate InflightAction.row (Relend.asMut InflightAction.row) T71 37 38 16 ref7 ref7
+      (λ x. x) (Scalar.oFld 4 ((Syntax.field 1) ∷ List.[]) (Syntax.tyInt Syntax.w64) 8 λ v. Shared.lenV (v .0))
+
   abbrev s71 : (bs : List.List Nat.ℕ) → Typed.Gives T72 T74
   s71 = λ bs. Relend.k-sl-relend (Referent.rtF (Referent.fInt Syntax.w32)) T72 5 39 4 17 ref13 ref8 Row.off λ x. x
+
   abbrev s72 : (bs : List.List Nat.ℕ) → Typed.Asks T74 T75
-  s72 = λ bs. Relend.k-sl-aggregate (Referent.rtF (Referent.fInt Syntax.w32)) (Relend.asMut (Referent.rtF (Referent.fInt Syntax.w32))) T74 39 40 17
-      ref8 ref8 (λ x. x) (Scalar.oFld 5 ((Syntax.field 1) ∷ List.[]) (Syntax.tyInt Syntax.w64) 8 λ v. Shared.lenV (v .0))
+  s72 = λ bs. Relend.k-sl-aggregate (Referent.rtF (Referent.fInt Syntax.w32))
+      (Relend.asMut (Referent.rtF (Referent.fInt Syntax.w32))) T74 39 40 17 ref8 ref8 (λ x. x) (Scalar.oFld 5
+      ((Syntax.field 1) ∷ List.[]) (Syntax.tyInt Syntax.w64) 8 λ v. Shared.lenV (v .0))
+
   abbrev s73 : (bs : List.List Nat.ℕ) → Typed.Both T75 T76
-  s73 = λ bs. Call.callB ps·6 r·6 (claims· .12) (claims· .13) T75 (record { pos = 32; ty = Syntax.tyRef Syntax.erased Syntax.mut RelayPending.to; ref
-      = λ x. x; }, (record { pos = 34; ty = Syntax.tyRef Syntax.erased Syntax.mut RelayCircuit.to; ref = λ x. x; }, (record { pos = 36; ty =
-      Syntax.tyRef Syntax.erased Syntax.mut ReservationUsage.to; ref = λ x. x; }, (record { pos = 38; ty = Syntax.tyRef Syntax.erased Syntax.mut
-      InflightAction.to; ref = λ x. x; }, (record { pos = 40; ty = Syntax.tyRef Syntax.erased Syntax.mut (Syntax.tyInt Syntax.w32); ref = λ x. x; },
-      (record { pos = 17; st = List.[]; d = 0; at = λ x. x }, (record { pos = 18; st = List.[]; d = 0; at = λ x. x }, (record { pos = 8; st = List.[];
-      d = 0; at = λ x. x }, (record { pos = 9; ty = Syntax.tyRef (Syntax.named 5) Syntax.imm (Syntax.tyInt Syntax.w8); ref = λ x. x; }, (record { pos
-      = 10; ty = Syntax.tyRef (Syntax.named 6) Syntax.imm (Syntax.tyInt Syntax.w8); ref = λ x. x; }, (record { pos = 11; ty = Syntax.tyRef
-      (Syntax.named 7) Syntax.imm (Syntax.tyInt Syntax.w8); ref = λ x. x; }, (record { pos = 12; ty = Syntax.tyRef (Syntax.named 8) Syntax.imm
-      (Syntax.tyInt Syntax.w8); ref = λ x. x; }, tt,),),),),),),),),),),),) 0 (13 ∷ 14 ∷ 15 ∷ 16 ∷ 17 ∷ 5 ∷ 6 ∷ 7 ∷ 8 ∷ List.[]) Laws'''''.mir
+  s73 = λ bs. Call.callB ps·6 r·6 (claims· .12) (claims· .13) T75 (
+    record { pos = 32; ty = ref4; ref = λ x. x },
+    (
+      record { pos = 34; ty = ref5; ref = λ x. x },
+      (
+        record { pos = 36; ty = ref6; ref = λ x. x },
+        (
+          record { pos = 38; ty = ref7; ref = λ x. x },
+          (
+            record { pos = 40; ty = ref8; ref = λ x. x },
+            (
+              record { pos = 17; st = List.[]; d = 0; at = λ x. x },
+              (
+                record { pos = 18; st = List.[]; d = 0; at = λ x. x },
+                (
+                  record { pos = 8; st = List.[]; d = 0; at = λ x. x },
+                  (
+                    record { pos = 9; ty = ref14; ref = λ x. x },
+                    (
+                      record { pos = 10; ty = ref15; ref = λ x. x },
+                      (
+                        record { pos = 11; ty = ref16; ref = λ x. x },
+                        (record { pos = 12; ty = ref17; ref = λ x. x }, tt),
+                      ),
+                    ),
+                  ),
+                ),
+              ),
+            ),
+          ),
+        ),
+      ),
+    ),
+  ) 0 (13 ∷ 14 ∷ 15 ∷ 16 ∷ 17 ∷ 5 ∷ 6 ∷ 7 ∷ 8 ∷ List.[]) Laws'''''.mir
+
   abbrev s74 : (bs : List.List Nat.ℕ) → Typed.Mo T76 → Typed.Mo T77
   s74 = λ bs. Scalar.n-room T76 8 Laws'''.mir
+
   abbrev s75 : (bs : List.List Nat.ℕ) → Typed.Mo T77 → Typed.Mo T78
   s75 = λ bs. Scalar.n-room T77 17 Laws''''.mir
+
   abbrev s76 : (bs : List.List Nat.ℕ) → Typed.Mo T78 → Typed.Mo T79
   s76 = λ bs. Scalar.n-room T78 18 Laws''.mir
+
   abbrev s78 : (bs : List.List Nat.ℕ) → Typed.Both T79 T81
   s78 = λ bs. Relend.k-back-sl RelayPending.row T79 32 1 0 13 ref9 ref4 Row.off (λ x. x) λ x. x
+
   abbrev s81 : (bs : List.List Nat.ℕ) → Typed.Both T81 T84
   s81 = λ bs. Relend.k-back-sl RelayCircuit.row T81 34 2 1 14 ref10 ref5 Row.off (λ x. x) λ x. x
+
   abbrev s84 : (bs : List.List Nat.ℕ) → Typed.Both T84 T87
   s84 = λ bs. Relend.k-back-sl ReservationUsage.row T84 36 3 2 15 ref11 ref6 Row.off (λ x. x) λ x. x
+
   abbrev s87 : (bs : List.List Nat.ℕ) → Typed.Both T87 T90
   s87 = λ bs. Relend.k-back-sl InflightAction.row T87 38 4 3 16 ref12 ref7 Row.off (λ x. x) λ x. x
+
   abbrev s90 : (bs : List.List Nat.ℕ) → Typed.Both T90 T93
-  s90 = λ bs. Relend.k-back-sl (Referent.rtF (Referent.fInt Syntax.w32)) T90 40 5 4 17 ref13 ref8 Row.off (λ x. x) λ x. x
+  s90 = λ bs. Relend.k-back-sl (Referent.rtF (Referent.fInt Syntax.w32)) T90 40 5 4 17 ref13 ref8 Row.off (λ x. x) λ x.
+      x
+
   abbrev s91 : (bs : List.List Nat.ℕ) → Typed.Gives T93 T94
   s91 = λ bs. Know.k-sl-known (Referent.fInt Syntax.w32) T93 5 4 ref13 Row.off 0 λ x. x
+
   abbrev s93 : (bs : List.List Nat.ℕ) → Typed.Mo T94 → Typed.Mo T96
   s93 = λ bs. Scalar.n-room T94 14 Syntax.tyBool
+
   abbrev s94 : (bs : List.List Nat.ℕ) → Typed.Mo T25 → Typed.Mo T97
   s94 = λ bs. Scalar.n-room T25 8 Laws'''.mir
+
   abbrev s95 : (bs : List.List Nat.ℕ) → Typed.Mo T97 → Typed.Mo T98
   s95 = λ bs. Scalar.n-room T97 22 Syntax.tyBool
+
   abbrev s96 : (bs : List.List Nat.ℕ) → Typed.Both T26 T99
-  s96 = λ bs. Call.callB ps·7 r·7 (claims· .14) (claims· .15) T26 (record { pos = 6; st = List.[]; d = 0; at = λ x. x }, (record { pos = 7; st =
-      List.[]; d = 0; at = λ x. x }, (record { pos = 16; st = List.[]; d = 0; at = λ x. x }, tt),),) 0 List.[] Laws'''''.mir
+  s96 = λ bs. Call.callB ps·7 r·7 (claims· .14) (claims· .15) T26 (
+    record { pos = 6; st = List.[]; d = 0; at = λ x. x },
+    (
+      record { pos = 7; st = List.[]; d = 0; at = λ x. x },
+      (record { pos = 16; st = List.[]; d = 0; at = λ x. x }, tt),
+    ),
+  ) 0 List.[] Laws'''''.mir
+
   abbrev s97 : (bs : List.List Nat.ℕ) → Typed.Mo T99 → Typed.Mo T100
   s97 = λ bs. Scalar.n-room T99 6 Laws''''.mir
+
   abbrev s98 : (bs : List.List Nat.ℕ) → Typed.Mo T100 → Typed.Mo T101
   s98 = λ bs. Scalar.n-room T100 7 Laws''.mir
+
   abbrev s99 : (bs : List.List Nat.ℕ) → Typed.Mo T101 → Typed.Mo T102
   s99 = λ bs. Scalar.n-room T101 14 Syntax.tyBool
+
   abbrev s100 : (bs : List.List Nat.ℕ) → Typed.Mo T102 → Typed.Mo T103
   s100 = λ bs. Scalar.n-room T102 16 Laws.mir
-  module _ (Pre· : (κs : Lifetimes.Lfts 9) → Kinds.Dens κs ps → Type 0) (Post· : (κs : Lifetimes.Lfts 9) → (a : Kinds.Dens κs ps) → Kinds.Plain 9 ps r
-      κs) where
+
+  module _ (Pre· : (κs : Lifetimes.Lfts 9) → Kinds.Dens κs ps → Type 0) (Post· : (κs : Lifetimes.Lfts 9) →
+      (a : Kinds.Dens κs ps) → Kinds.Plain 9 ps r κs) where
     module _ (M : Type 1) where
       abbrev pub Closed : Type 2
-      Closed = (𝓤 : URA.URA M) (H : Wp.Heap 𝓤) (A : Atoms.Atoms 𝓤) (W : Kit.Given 𝓤 H A) (𝓣 : Wp.Tables 𝓤 H) (known0 : Plain.Known 𝓤 H A W 𝓣 0 ps·0
-          r·0 (claims· .0) (claims· .1) "hnsr_circuit::entry::too_few") (known1 : Plain.Known 𝓤 H A W 𝓣 0 ps·1 r·1 (claims· .2) (claims· .3)
-          "hnsr_circuit::handle::room_answer") (known2 : Plain.Known 𝓤 H A W 𝓣 0 ps·2 r·2 (claims· .4) (claims· .5)
-          "hnsr_circuit::handle::entry_answer") (known3 : Plain.Known 𝓤 H A W 𝓣 0 ps·3 r·3 (claims· .6) (claims· .7) "hnsr_circuit::answer::is_taken")
-          (known4 : Plain.Known 𝓤 H A W 𝓣 0 ps·4 r·4 (claims· .8) (claims· .9) "hnsr_circuit::header::with_clock") (known5 : Plain.Known 𝓤 H A W 𝓣 4
-          ps·5 r·5 (claims· .10) (claims· .11) "hnsr_circuit::lookup::trim") (known6 : Plain.Known 𝓤 H A W 𝓣 9 ps·6 r·6 (claims· .12) (claims· .13)
-          "hnsr_circuit::handle::handle_gate") (known7 : Plain.Known 𝓤 H A W 𝓣 0 ps·7 r·7 (claims· .14) (claims· .15)
-          "hnsr_circuit::revoking_calls::refused") → Statement.Triple 𝓤 (Wp.WpFn 𝓤 H (𝓣 .C) (𝓣 .Λ) (Function.fnOf 9 ps r xs m hs body))
+      Closed = (𝓤 : URA.URA M) (H : Wp.Heap 𝓤) (A : Atoms.Atoms 𝓤) (W : Kit.Given 𝓤 H A) (𝓣 : Wp.Tables 𝓤 H) (known0 :
+          Plain.Known 𝓤 H A W 𝓣 0 ps·0 r·0 (claims· .0) (claims· .1) "hnsr_circuit::entry::too_few") (known1 :
+          Plain.Known 𝓤 H A W 𝓣 0 ps·1 r·1 (claims· .2) (claims· .3) "hnsr_circuit::handle::room_answer") (known2 :
+          Plain.Known 𝓤 H A W 𝓣 0 ps·2 r·2 (claims· .4) (claims· .5) "hnsr_circuit::handle::entry_answer") (known3 :
+          Plain.Known 𝓤 H A W 𝓣 0 ps·3 r·3 (claims· .6) (claims· .7) "hnsr_circuit::answer::is_taken") (known4 :
+          Plain.Known 𝓤 H A W 𝓣 0 ps·4 r·4 (claims· .8) (claims· .9) "hnsr_circuit::header::with_clock") (known5 :
+          Plain.Known 𝓤 H A W 𝓣 4 ps·5 r·5 (claims· .10) (claims· .11) "hnsr_circuit::lookup::trim") (known6 :
+          Plain.Known 𝓤 H A W 𝓣 9 ps·6 r·6 (claims· .12) (claims· .13) "hnsr_circuit::handle::handle_gate") (known7 :
+          Plain.Known 𝓤 H A W 𝓣 0 ps·7 r·7 (claims· .14) (claims· .15) "hnsr_circuit::revoking_calls::refused") →
+          Statement.Triple 𝓤 (Wp.WpFn 𝓤 H (𝓣 .C) (𝓣 .Λ) (Function.fnOf 9 ps r xs m hs body))
           (Function.plainOf 𝓤 H A 9 ps r Pre· Post·)
+
     module _ where
       abbrev at0 : (bs : List.List Nat.ℕ) → Typed.TF T96 O1
       at0 = λ bs. Typed.atRet O1
+
       abbrev at1 : (bs : List.List Nat.ℕ) → Typed.TF T94 O1
       at1 = λ bs. λ Ψ. Typed.pass T94 T96 (s93 bs) (at0 bs Ψ)
+
       abbrev at2 : (bs : List.List Nat.ℕ) → Typed.TF T94 O1
       at2 = λ bs. λ Ψ. at1 bs Ψ
+
       abbrev at3 : (bs : List.List Nat.ℕ) → Typed.TF T93 O1
       at3 = λ bs. λ Ψ. Typed.give (s91 bs) (at2 bs Ψ)
+
       abbrev at4 : (bs : List.List Nat.ℕ) → Typed.TF T90 O1
       at4 = λ bs. λ Ψ. Typed.both (s90 bs) (at3 bs Ψ)
+
       abbrev at5 : (bs : List.List Nat.ℕ) → Typed.TF T90 O1
       at5 = λ bs. λ Ψ. at4 bs Ψ
+
       abbrev at6 : (bs : List.List Nat.ℕ) → Typed.TF T90 O1
       at6 = λ bs. λ Ψ. at5 bs Ψ
+
       abbrev at7 : (bs : List.List Nat.ℕ) → Typed.TF T87 O1
       at7 = λ bs. λ Ψ. Typed.both (s87 bs) (at6 bs Ψ)
+
       abbrev at8 : (bs : List.List Nat.ℕ) → Typed.TF T87 O1
       at8 = λ bs. λ Ψ. at7 bs Ψ
+
       abbrev at9 : (bs : List.List Nat.ℕ) → Typed.TF T87 O1
       at9 = λ bs. λ Ψ. at8 bs Ψ
+
       abbrev at10 : (bs : List.List Nat.ℕ) → Typed.TF T84 O1
       at10 = λ bs. λ Ψ. Typed.both (s84 bs) (at9 bs Ψ)
+
       abbrev at11 : (bs : List.List Nat.ℕ) → Typed.TF T84 O1
       at11 = λ bs. λ Ψ. at10 bs Ψ
+
       abbrev at12 : (bs : List.List Nat.ℕ) → Typed.TF T84 O1
       at12 = λ bs. λ Ψ. at11 bs Ψ
+
       abbrev at13 : (bs : List.List Nat.ℕ) → Typed.TF T81 O1
       at13 = λ bs. λ Ψ. Typed.both (s81 bs) (at12 bs Ψ)
+
       abbrev at14 : (bs : List.List Nat.ℕ) → Typed.TF T81 O1
       at14 = λ bs. λ Ψ. at13 bs Ψ
+
       abbrev at15 : (bs : List.List Nat.ℕ) → Typed.TF T81 O1
       at15 = λ bs. λ Ψ. at14 bs Ψ
+
       abbrev at16 : (bs : List.List Nat.ℕ) → Typed.TF T79 O1
       at16 = λ bs. λ Ψ. Typed.both (s78 bs) (at15 bs Ψ)
+
       abbrev at17 : (bs : List.List Nat.ℕ) → Typed.TF T79 O1
       at17 = λ bs. λ Ψ. at16 bs Ψ
+
       abbrev at18 : (bs : List.List Nat.ℕ) → Typed.TF T78 O1
       at18 = λ bs. λ Ψ. Typed.pass T78 T79 (s76 bs) (at17 bs Ψ)
+
       abbrev at19 : (bs : List.List Nat.ℕ) → Typed.TF T77 O1
       at19 = λ bs. λ Ψ. Typed.pass T77 T78 (s75 bs) (at18 bs Ψ)
+
       abbrev at20 : (bs : List.List Nat.ℕ) → Typed.TF T76 O1
       at20 = λ bs. λ Ψ. Typed.pass T76 T77 (s74 bs) (at19 bs Ψ)
+
       abbrev at21 : (bs : List.List Nat.ℕ) → Typed.TF T75 O1
       at21 = λ bs. λ Ψ. Typed.both (s73 bs) (at20 bs Ψ)
+
       abbrev at22 : (bs : List.List Nat.ℕ) → Typed.TF T74 O1
       at22 = λ bs. λ Ψ. Typed.ask (s72 bs) (at21 bs Ψ)
+
       abbrev at23 : (bs : List.List Nat.ℕ) → Typed.TF T72 O1
       at23 = λ bs. λ Ψ. Typed.give (s71 bs) (at22 bs Ψ)
+
       abbrev at24 : (bs : List.List Nat.ℕ) → Typed.TF T72 O1
       at24 = λ bs. λ Ψ. at23 bs Ψ
+
       abbrev at25 : (bs : List.List Nat.ℕ) → Typed.TF T71 O1
       at25 = λ bs. λ Ψ. Typed.ask (s69 bs) (at24 bs Ψ)
+
       abbrev at26 : (bs : List.List Nat.ℕ) → Typed.TF T69 O1
       at26 = λ bs. λ Ψ. Typed.give (s68 bs) (at25 bs Ψ)
+
       abbrev at27 : (bs : List.List Nat.ℕ) → Typed.TF T69 O1
       at27 = λ bs. λ Ψ. at26 bs Ψ
+
       abbrev at28 : (bs : List.List Nat.ℕ) → Typed.TF T68 O1
       at28 = λ bs. λ Ψ. Typed.ask (s66 bs) (at27 bs Ψ)
+
       abbrev at29 : (bs : List.List Nat.ℕ) → Typed.TF T66 O1
       at29 = λ bs. λ Ψ. Typed.give (s65 bs) (at28 bs Ψ)
+
       abbrev at30 : (bs : List.List Nat.ℕ) → Typed.TF T66 O1
       at30 = λ bs. λ Ψ. at29 bs Ψ
+
       abbrev at31 : (bs : List.List Nat.ℕ) → Typed.TF T65 O1
       at31 = λ bs. λ Ψ. Typed.ask (s63 bs) (at30 bs Ψ)
+
       abbrev at32 : (bs : List.List Nat.ℕ) → Typed.TF T63 O1
       at32 = λ bs. λ Ψ. Typed.give (s62 bs) (at31 bs Ψ)
+
       abbrev at33 : (bs : List.List Nat.ℕ) → Typed.TF T63 O1
       at33 = λ bs. λ Ψ. at32 bs Ψ
+
       abbrev at34 : (bs : List.List Nat.ℕ) → Typed.TF T62 O1
       at34 = λ bs. λ Ψ. Typed.ask (s60 bs) (at33 bs Ψ)
+
       abbrev at35 : (bs : List.List Nat.ℕ) → Typed.TF T59 O1
       at35 = λ bs. λ Ψ. Typed.give (s59 bs) (at34 bs Ψ)
+
       abbrev at36 : (bs : List.List Nat.ℕ) → Typed.TF T59 O1
       at36 = λ bs. λ Ψ. at35 bs Ψ
+
       abbrev at37 : (bs : List.List Nat.ℕ) → Typed.TF T59 O1
       at37 = λ bs. λ Ψ. at36 bs Ψ
+
       abbrev at38 : (bs : List.List Nat.ℕ) → Typed.TF T56 O1
       at38 = λ bs. λ Ψ. Typed.pass T56 T59 (s56 bs) (at37 bs Ψ)
+
       abbrev at39 : (bs : List.List Nat.ℕ) → Typed.TF T56 O1
       at39 = λ bs. λ Ψ. at38 bs Ψ
+
       abbrev at40 : (bs : List.List Nat.ℕ) → Typed.TF T56 O1
       at40 = λ bs. λ Ψ. at39 bs Ψ
+
       abbrev at41 : (bs : List.List Nat.ℕ) → Typed.TF T53 O1
       at41 = λ bs. λ Ψ. Typed.pass T53 T56 (s53 bs) (at40 bs Ψ)
+
       abbrev at42 : (bs : List.List Nat.ℕ) → Typed.TF T53 O1
       at42 = λ bs. λ Ψ. at41 bs Ψ
+
       abbrev at43 : (bs : List.List Nat.ℕ) → Typed.TF T53 O1
       at43 = λ bs. λ Ψ. at42 bs Ψ
+
       abbrev at44 : (bs : List.List Nat.ℕ) → Typed.TF T50 O1
       at44 = λ bs. λ Ψ. Typed.pass T50 T53 (s50 bs) (at43 bs Ψ)
+
       abbrev at45 : (bs : List.List Nat.ℕ) → Typed.TF T50 O1
       at45 = λ bs. λ Ψ. at44 bs Ψ
+
       abbrev at46 : (bs : List.List Nat.ℕ) → Typed.TF T50 O1
       at46 = λ bs. λ Ψ. at45 bs Ψ
+
       abbrev at47 : (bs : List.List Nat.ℕ) → Typed.TF T48 O1
       at47 = λ bs. λ Ψ. Typed.pass T48 T50 (s47 bs) (at46 bs Ψ)
+
       abbrev at48 : (bs : List.List Nat.ℕ) → Typed.TF T48 O1
       at48 = λ bs. λ Ψ. at47 bs Ψ
+
       abbrev at49 : (bs : List.List Nat.ℕ) → Typed.TF T47 O1
       at49 = λ bs. λ Ψ. Typed.pass T47 T48 (s45 bs) (at48 bs Ψ)
+
       abbrev at50 : (bs : List.List Nat.ℕ) → Typed.TF T46 O1
       at50 = λ bs. λ Ψ. Typed.pass T46 T47 (s44 bs) (at49 bs Ψ)
+
       abbrev at51 : (bs : List.List Nat.ℕ) → Typed.TF T45 O1
       at51 = λ bs. λ Ψ. Typed.pass T45 T46 (s43 bs) (at50 bs Ψ)
+
       abbrev at52 : (bs : List.List Nat.ℕ) → Typed.TF T44 O1
       at52 = λ bs. λ Ψ. Typed.pass T44 T45 (s42 bs) (at51 bs Ψ)
+
       abbrev at53 : (bs : List.List Nat.ℕ) → Typed.TF T43 O1
       at53 = λ bs. λ Ψ. Typed.pass T43 T44 (s41 bs) (at52 bs Ψ)
+
       abbrev at54 : (bs : List.List Nat.ℕ) → Typed.TF T42 O1
       at54 = λ bs. λ Ψ. Typed.both (s40 bs) (at53 bs Ψ)
+
       abbrev at55 : (bs : List.List Nat.ℕ) → Typed.TF T41 O1
       at55 = λ bs. λ Ψ. Typed.ask (s39 bs) (at54 bs Ψ)
+
       abbrev at56 : (bs : List.List Nat.ℕ) → Typed.TF T39 O1
       at56 = λ bs. λ Ψ. Typed.give (s38 bs) (at55 bs Ψ)
+
       abbrev at57 : (bs : List.List Nat.ℕ) → Typed.TF T39 O1
       at57 = λ bs. λ Ψ. at56 bs Ψ
+
       abbrev at58 : (bs : List.List Nat.ℕ) → Typed.TF T38 O1
       at58 = λ bs. λ Ψ. Typed.ask (s36 bs) (at57 bs Ψ)
+
       abbrev at59 : (bs : List.List Nat.ℕ) → Typed.TF T36 O1
       at59 = λ bs. λ Ψ. Typed.give (s35 bs) (at58 bs Ψ)
+
       abbrev at60 : (bs : List.List Nat.ℕ) → Typed.TF T36 O1
       at60 = λ bs. λ Ψ. at59 bs Ψ
+
       abbrev at61 : (bs : List.List Nat.ℕ) → Typed.TF T35 O1
       at61 = λ bs. λ Ψ. Typed.ask (s33 bs) (at60 bs Ψ)
+
       abbrev at62 : (bs : List.List Nat.ℕ) → Typed.TF T33 O1
       at62 = λ bs. λ Ψ. Typed.give (s32 bs) (at61 bs Ψ)
+
       abbrev at63 : (bs : List.List Nat.ℕ) → Typed.TF T33 O1
       at63 = λ bs. λ Ψ. at62 bs Ψ
+
       abbrev at64 : (bs : List.List Nat.ℕ) → Typed.TF T32 O1
       at64 = λ bs. λ Ψ. Typed.ask (s30 bs) (at63 bs Ψ)
+
       abbrev at65 : (bs : List.List Nat.ℕ) → Typed.TF T30 O1
       at65 = λ bs. λ Ψ. Typed.give (s29 bs) (at64 bs Ψ)
+
       abbrev at66 : (bs : List.List Nat.ℕ) → Typed.TF T30 O1
       at66 = λ bs. λ Ψ. at65 bs Ψ
+
       abbrev at67 : (bs : List.List Nat.ℕ) → Typed.TF T29 O1
       at67 = λ bs. λ Ψ. Typed.pass T29 T30 (s27 bs) (at66 bs Ψ)
+
       abbrev at68 : (bs : List.List Nat.ℕ) → Typed.TF T28 O1
       at68 = λ bs. λ Ψ. Typed.both (s26 bs) (at67 bs Ψ)
+
       abbrev at69 : (bs : List.List Nat.ℕ) → Typed.TF T27 O1
       at69 = λ bs. λ Ψ. Typed.pass T27 T28 (s25 bs) (at68 bs Ψ)
+
       abbrev at70 : (bs : List.List Nat.ℕ) → Typed.TF T25 O1
       at70 = λ bs. λ Ψ. Typed.pass T25 T27 (s24 bs) (at69 bs Ψ)
+
       abbrev at71 : (bs : List.List Nat.ℕ) → Typed.TF T98 O1
       at71 = λ bs. Typed.atNext O1
+
       abbrev at72 : (bs : List.List Nat.ℕ) → Typed.TF T97 O1
       at72 = λ bs. λ Ψ. Typed.pass T97 T98 (s95 bs) (at71 bs Ψ)
+
       abbrev at73 : (bs : List.List Nat.ℕ) → Typed.TF T25 O1
       at73 = λ bs. λ Ψ. Typed.pass T25 T97 (s94 bs) (at72 bs Ψ)
+
       abbrev at74 : (bs : List.List Nat.ℕ) → Typed.TF T25 O1
       at74 = λ bs. Scalar.Φcond T25 O1 22 (λ x. x) (at70 bs) (at73 bs)
+
       abbrev at75 : (bs : List.List Nat.ℕ) → Typed.TF T103 O0
       at75 = λ bs. Typed.atRet O0
+
       abbrev at76 : (bs : List.List Nat.ℕ) → Typed.TF T102 O0
       at76 = λ bs. λ Ψ. Typed.pass T102 T103 (s100 bs) (at75 bs Ψ)
+
       abbrev at77 : (bs : List.List Nat.ℕ) → Typed.TF T101 O0
       at77 = λ bs. λ Ψ. Typed.pass T101 T102 (s99 bs) (at76 bs Ψ)
+
       abbrev at78 : (bs : List.List Nat.ℕ) → Typed.TF T100 O0
       at78 = λ bs. λ Ψ. Typed.pass T100 T101 (s98 bs) (at77 bs Ψ)
+
       abbrev at79 : (bs : List.List Nat.ℕ) → Typed.TF T99 O0
       at79 = λ bs. λ Ψ. Typed.pass T99 T100 (s97 bs) (at78 bs Ψ)
+
       abbrev at80 : (bs : List.List Nat.ℕ) → Typed.TF T26 O0
       at80 = λ bs. λ Ψ. Typed.both (s96 bs) (at79 bs Ψ)
+
       abbrev at81 : (bs : List.List Nat.ℕ) → Typed.TF T25 O0
       at81 = λ bs. λ Ψ. at74 bs (Typed.wantNext T26 O0 (at80 bs Ψ) Ψ)
+
       abbrev at82 : (bs : List.List Nat.ℕ) → Typed.TF T24 O0
       at82 = λ bs. λ Ψ. Typed.both (s23 bs) (at81 bs Ψ)
+
       abbrev at83 : (bs : List.List Nat.ℕ) → Typed.TF T23 O0
       at83 = λ bs. λ Ψ. Typed.pass T23 T24 (s22 bs) (at82 bs Ψ)
+
       abbrev at84 : (bs : List.List Nat.ℕ) → Typed.TF T22 O0
       at84 = λ bs. λ Ψ. Typed.pass T22 T23 (s21 bs) (at83 bs Ψ)
+
       abbrev at85 : (bs : List.List Nat.ℕ) → Typed.TF T21 O0
       at85 = λ bs. λ Ψ. Typed.pass T21 T22 (s20 bs) (at84 bs Ψ)
+
       abbrev at86 : (bs : List.List Nat.ℕ) → Typed.TF T20 O0
       at86 = λ bs. λ Ψ. Typed.both (s19 bs) (at85 bs Ψ)
+
       abbrev at87 : (bs : List.List Nat.ℕ) → Typed.TF T19 O0
       at87 = λ bs. λ Ψ. Typed.pass T19 T20 (s18 bs) (at86 bs Ψ)
+
       abbrev at88 : (bs : List.List Nat.ℕ) → Typed.TF T18 O0
       at88 = λ bs. λ Ψ. Typed.pass T18 T19 (s17 bs) (at87 bs Ψ)
+
       abbrev at89 : (bs : List.List Nat.ℕ) → Typed.TF T17 O0
       at89 = λ bs. λ Ψ. Typed.pass T17 T18 (s16 bs) (at88 bs Ψ)
+
       abbrev at90 : (bs : List.List Nat.ℕ) → Typed.TF T16 O0
       at90 = λ bs. λ Ψ. Typed.both (s15 bs) (at89 bs Ψ)
+
       abbrev at91 : (bs : List.List Nat.ℕ) → Typed.TF T15 O0
       at91 = λ bs. λ Ψ. Typed.pass T15 T16 (s14 bs) (at90 bs Ψ)
+
       abbrev at92 : (bs : List.List Nat.ℕ) → Typed.TF T14 O0
       at92 = λ bs. λ Ψ. Typed.pass T14 T15 (s13 bs) (at91 bs Ψ)
+
       abbrev at93 : (bs : List.List Nat.ℕ) → Typed.TF T13 O0
       at93 = λ bs. λ Ψ. Typed.pass T13 T14 (s12 bs) (at92 bs Ψ)
+
       abbrev at94 : (bs : List.List Nat.ℕ) → Typed.TF T12 O0
       at94 = λ bs. λ Ψ. Typed.pass T12 T13 (s11 bs) (at93 bs Ψ)
+
       abbrev at95 : (bs : List.List Nat.ℕ) → Typed.TF T11 O0
       at95 = λ bs. λ Ψ. Typed.pass T11 T12 (s10 bs) (at94 bs Ψ)
+
       abbrev at96 : (bs : List.List Nat.ℕ) → Typed.TF T10 O0
       at96 = λ bs. λ Ψ. Typed.both (s9 bs) (at95 bs Ψ)
+
       abbrev at97 : (bs : List.List Nat.ℕ) → Typed.TF T9 O0
       at97 = λ bs. λ Ψ. Typed.pass T9 T10 (s8 bs) (at96 bs Ψ)
+
       abbrev at98 : (bs : List.List Nat.ℕ) → Typed.TF T8 O0
       at98 = λ bs. λ Ψ. Typed.pass T8 T9 (s7 bs) (at97 bs Ψ)
+
       abbrev at99 : (bs : List.List Nat.ℕ) → Typed.TF T7 O0
       at99 = λ bs. λ Ψ. Typed.pass T7 T8 (s6 bs) (at98 bs Ψ)
+
       abbrev at100 : (bs : List.List Nat.ℕ) → Typed.TF T6 O0
       at100 = λ bs. λ Ψ. Typed.both (s5 bs) (at99 bs Ψ)
+
       abbrev at101 : (bs : List.List Nat.ℕ) → Typed.TF T5 O0
       at101 = λ bs. λ Ψ. Typed.give (s4 bs) (at100 bs Ψ)
+
       abbrev at102 : (bs : List.List Nat.ℕ) → Typed.TF T4 O0
       at102 = λ bs. λ Ψ. Typed.give (s3 bs) (at101 bs Ψ)
+
       abbrev at103 : (bs : List.List Nat.ℕ) → Typed.TF T3 O0
       at103 = λ bs. λ Ψ. Typed.give (s2 bs) (at102 bs Ψ)
+
       abbrev at104 : (bs : List.List Nat.ℕ) → Typed.TF T2 O0
       at104 = λ bs. λ Ψ. Typed.give (s1 bs) (at103 bs Ψ)
+
       abbrev at105 : (bs : List.List Nat.ℕ) → Typed.TF T0 O0
       at105 = λ bs. λ Ψ. Typed.give (s0 bs) (at104 bs Ψ)
+
       abbrev pub Φ : (bs : List.List Nat.ℕ) → Typed.TF T0 O0
       Φ = λ bs. at105 bs
-      module _ { M : Type 1 } (𝓤 : URA.URA M) (H : Wp.Heap 𝓤) (A : Atoms.Atoms 𝓤) (W : Kit.Given 𝓤 H A) (𝓣 : Wp.Tables 𝓤 H) where
+
+      module _ {M : Type 1} (𝓤 : URA.URA M) (H : Wp.Heap 𝓤) (A : Atoms.Atoms 𝓤) (W : Kit.Given 𝓤 H A)
+          (𝓣 : Wp.Tables 𝓤 H) where
         abbrev Knowns : Type 1
-        Knowns = Plain.Known 𝓤 H A W 𝓣 0 ps·0 r·0 (claims· .0) (claims· .1) "hnsr_circuit::entry::too_few" × Plain.Known 𝓤 H A W 𝓣 0 ps·1 r·1 (claims·
-            .2) (claims· .3) "hnsr_circuit::handle::room_answer" × Plain.Known 𝓤 H A W 𝓣 0 ps·2 r·2 (claims· .4) (claims· .5)
-            "hnsr_circuit::handle::entry_answer" × Plain.Known 𝓤 H A W 𝓣 0 ps·3 r·3 (claims· .6) (claims· .7) "hnsr_circuit::answer::is_taken" ×
-            Plain.Known 𝓤 H A W 𝓣 0 ps·4 r·4 (claims· .8) (claims· .9) "hnsr_circuit::header::with_clock" × Plain.Known 𝓤 H A W 𝓣 4 ps·5 r·5 (claims·
-            .10) (claims· .11) "hnsr_circuit::lookup::trim" × Plain.Known 𝓤 H A W 𝓣 9 ps·6 r·6 (claims· .12) (claims· .13)
-            "hnsr_circuit::handle::handle_gate" × Plain.Known 𝓤 H A W 𝓣 0 ps·7 r·7 (claims· .14) (claims· .15) "hnsr_circuit::revoking_calls::refused"
+        Knowns = Plain.Known 𝓤 H A W 𝓣 0 ps·0 r·0 (claims· .0) (claims· .1) "hnsr_circuit::entry::too_few" ×
+            Plain.Known 𝓤 H A W 𝓣 0 ps·1 r·1 (claims· .2) (claims· .3) "hnsr_circuit::handle::room_answer" ×
+            Plain.Known 𝓤 H A W 𝓣 0 ps·2 r·2 (claims· .4) (claims· .5) "hnsr_circuit::handle::entry_answer" ×
+            Plain.Known 𝓤 H A W 𝓣 0 ps·3 r·3 (claims· .6) (claims· .7) "hnsr_circuit::answer::is_taken" × Plain.Known 𝓤
+            H A W 𝓣 0 ps·4 r·4 (claims· .8) (claims· .9) "hnsr_circuit::header::with_clock" × Plain.Known 𝓤 H A W 𝓣 4
+            ps·5 r·5 (claims· .10) (claims· .11) "hnsr_circuit::lookup::trim" × Plain.Known 𝓤 H A W 𝓣 9 ps·6 r·6
+            (claims· .12) (claims· .13) "hnsr_circuit::handle::handle_gate" × Plain.Known 𝓤 H A W 𝓣 0 ps·7 r·7
+            (claims· .14) (claims· .15) "hnsr_circuit::revoking_calls::refused"
+
       module _ (κs : Lifetimes.Lfts 9) (qs : Lifetimes.Shares 9) where
         abbrev life0 : Row.Life
         life0 = Row.lease (κs .0) (qs .0)
+
         abbrev life1 : Row.Life
         life1 = Row.lease (κs .1 .0) (qs .1 .0)
+
         abbrev life2 : Row.Life
         life2 = Row.lease (κs .1 .1 .0) (qs .1 .1 .0)
+
         abbrev life3 : Row.Life
         life3 = Row.lease (κs .1 .1 .1 .0) (qs .1 .1 .1 .0)
+
         abbrev life4 : Row.Life
         life4 = Row.lease (κs .1 .1 .1 .1 .0) (qs .1 .1 .1 .1 .0)
+
         abbrev life5 : Row.Life
         life5 = Row.lease (κs .1 .1 .1 .1 .1 .0) (qs .1 .1 .1 .1 .1 .0)
+
         abbrev life6 : Row.Life
         life6 = Row.lease (κs .1 .1 .1 .1 .1 .1 .0) (qs .1 .1 .1 .1 .1 .1 .0)
+
         abbrev life7 : Row.Life
         life7 = Row.lease (κs .1 .1 .1 .1 .1 .1 .1 .0) (qs .1 .1 .1 .1 .1 .1 .1 .0)
+
         abbrev life8 : Row.Life
         life8 = Row.lease (κs .1 .1 .1 .1 .1 .1 .1 .1 .0) (qs .1 .1 .1 .1 .1 .1 .1 .1 .0)
+
+        abbrev l1 : Row.Entry
+        l1 = (1, Reshare.mslice-owedS RelayPending.row ref9 0 9 life0)
+
+        abbrev l2 : Row.Entry
+        l2 = (2, Reshare.mslice-owedS RelayCircuit.row ref10 1 10 life1)
+
+        abbrev l3 : Row.Entry
+        l3 = (3, Reshare.mslice-owedS ReservationUsage.row ref11 2 11 life2)
+
+        abbrev l4 : Row.Entry
+        l4 = (4, Reshare.mslice-owedS InflightAction.row ref12 3 12 life3)
+
+        abbrev l1·1 : Row.Entry
+        l1·1 = (1, Relend.mslice-owed RelayPending.row ref9 0 13 life0)
+
+        abbrev l2·1 : Row.Entry
+        l2·1 = (2, Relend.mslice-owed RelayCircuit.row ref10 1 14 life1)
+
+        abbrev l3·1 : Row.Entry
+        l3·1 = (3, Relend.mslice-owed ReservationUsage.row ref11 2 15 life2)
+
+        abbrev l4·1 : Row.Entry
+        l4·1 = (4, Relend.mslice-owed InflightAction.row ref12 3 16 life3)
+
+        abbrev l5 : Row.Entry
+        l5 = (5, Relend.mslice-owed (Referent.rtF (Referent.fInt Syntax.w32)) ref13 4 17 life4)
+
         abbrev g22 : List.List Row.Entry
-        g22 = (0, Rows.any-gone Laws'''''.mir,) ∷ (1, Reshare.mslice-owedS RelayPending.row ref9 0 9 life0,) ∷ (2, Mut.mslice RelayCircuit.row ref10
-            1,) ∷ (3, Mut.mslice ReservationUsage.row ref11 2,) ∷ (4, Mut.mslice InflightAction.row ref12 3,) ∷ (5, Mut.mslice (Referent.rtF
-            (Referent.fInt Syntax.w32)) ref13 4,) ∷ (6, Rows.any-gone Laws''''.mir,) ∷ (7, Rows.whole (Declared'.row Places.the-type)) ∷ (8,
-            Rows.whole (Declared'.row RelayPacket.the-type),) ∷ (9, Rows.sslice (Referent.rtF (Referent.fInt Syntax.w8)) ref14 5,) ∷ (10, Rows.sslice
-            (Referent.rtF (Referent.fInt Syntax.w8)) ref15 6,) ∷ (11, Rows.sslice (Referent.rtF (Referent.fInt Syntax.w8)) ref16 7,) ∷ (12,
-            Rows.sslice (Referent.rtF (Referent.fInt Syntax.w8)) ref17 8,) ∷ (13, Rows.any-gone Laws'.mir,) ∷ (14, Rows.sc-here Row.sBool) ∷ (15,
-            Rows.any-gone Laws.mir,) ∷ List.[]
+        g22 = e0 ∷ l1 ∷ e2 ∷ e3 ∷ e4 ∷ e5 ∷ e6·1 ∷ e7 ∷ e8 ∷ e9 ∷ e10 ∷ e11 ∷ e12 ∷ e13 ∷ e14·1 ∷ e15 ∷ List.[]
+
         abbrev g25 : List.List Row.Entry
-        g25 = (0, Rows.any-gone Laws'''''.mir,) ∷ (1, Reshare.mslice-owedS RelayPending.row ref9 0 9 life0,) ∷ (2, Reshare.mslice-owedS
-            RelayCircuit.row ref10 1 10 life1,) ∷ (3, Mut.mslice ReservationUsage.row ref11 2,) ∷ (4, Mut.mslice InflightAction.row ref12 3,) ∷ (5,
-            Mut.mslice (Referent.rtF (Referent.fInt Syntax.w32)) ref13 4,) ∷ (6, Rows.any-gone Laws''''.mir,) ∷ (7, Rows.whole (Declared'.row
-            Places.the-type)) ∷ (8, Rows.whole (Declared'.row RelayPacket.the-type),) ∷ (9, Rows.sslice (Referent.rtF (Referent.fInt Syntax.w8)) ref14
-            5,) ∷ (10, Rows.sslice (Referent.rtF (Referent.fInt Syntax.w8)) ref15 6,) ∷ (11, Rows.sslice (Referent.rtF (Referent.fInt Syntax.w8))
-            ref16 7,) ∷ (12, Rows.sslice (Referent.rtF (Referent.fInt Syntax.w8)) ref17 8,) ∷ (13, Rows.any-gone Laws'.mir,) ∷ (14, Rows.sc-here
-            Row.sBool) ∷ (15, Rows.any-gone Laws.mir,) ∷ List.[]
+        g25 = e0 ∷ l1 ∷ l2 ∷ e3 ∷ e4 ∷ e5 ∷ e6·1 ∷ e7 ∷ e8 ∷ e9 ∷ e10 ∷ e11 ∷ e12 ∷ e13 ∷ e14·1 ∷ e15 ∷ List.[]
+
         abbrev g28 : List.List Row.Entry
-        g28 = (0, Rows.any-gone Laws'''''.mir,) ∷ (1, Reshare.mslice-owedS RelayPending.row ref9 0 9 life0,) ∷ (2, Reshare.mslice-owedS
-            RelayCircuit.row ref10 1 10 life1,) ∷ (3, Reshare.mslice-owedS ReservationUsage.row ref11 2 11 life2,) ∷ (4, Mut.mslice InflightAction.row
-            ref12 3,) ∷ (5, Mut.mslice (Referent.rtF (Referent.fInt Syntax.w32)) ref13 4,) ∷ (6, Rows.any-gone Laws''''.mir,) ∷ (7, Rows.whole
-            (Declared'.row Places.the-type)) ∷ (8, Rows.whole (Declared'.row RelayPacket.the-type),) ∷ (9, Rows.sslice (Referent.rtF (Referent.fInt
-            Syntax.w8)) ref14 5,) ∷ (10, Rows.sslice (Referent.rtF (Referent.fInt Syntax.w8)) ref15 6,) ∷ (11, Rows.sslice (Referent.rtF
-            (Referent.fInt Syntax.w8)) ref16 7,) ∷ (12, Rows.sslice (Referent.rtF (Referent.fInt Syntax.w8)) ref17 8,) ∷ (13, Rows.any-gone
-            Laws'.mir,) ∷ (14, Rows.sc-here Row.sBool) ∷ (15, Rows.any-gone Laws.mir,) ∷ List.[]
+        g28 = e0 ∷ l1 ∷ l2 ∷ l3 ∷ e4 ∷ e5 ∷ e6·1 ∷ e7 ∷ e8 ∷ e9 ∷ e10 ∷ e11 ∷ e12 ∷ e13 ∷ e14·1 ∷ e15 ∷ List.[]
+
         abbrev g31 : List.List Row.Entry
-        g31 = (0, Rows.any-gone Laws'''''.mir,) ∷ (1, Reshare.mslice-owedS RelayPending.row ref9 0 9 life0,) ∷ (2, Reshare.mslice-owedS
-            RelayCircuit.row ref10 1 10 life1,) ∷ (3, Reshare.mslice-owedS ReservationUsage.row ref11 2 11 life2,) ∷ (4, Reshare.mslice-owedS
-            InflightAction.row ref12 3 12 life3,) ∷ (5, Mut.mslice (Referent.rtF (Referent.fInt Syntax.w32)) ref13 4,) ∷ (6, Rows.any-gone
-            Laws''''.mir,) ∷ (7, Rows.whole (Declared'.row Places.the-type)) ∷ (8, Rows.whole (Declared'.row RelayPacket.the-type),) ∷ (9, Rows.sslice
-            (Referent.rtF (Referent.fInt Syntax.w8)) ref14 5,) ∷ (10, Rows.sslice (Referent.rtF (Referent.fInt Syntax.w8)) ref15 6,) ∷ (11,
-            Rows.sslice (Referent.rtF (Referent.fInt Syntax.w8)) ref16 7,) ∷ (12, Rows.sslice (Referent.rtF (Referent.fInt Syntax.w8)) ref17 8,) ∷
-            (13, Rows.any-gone Laws'.mir,) ∷ (14, Rows.sc-here Row.sBool) ∷ (15, Rows.any-gone Laws.mir,) ∷ List.[]
+        g31 = e0 ∷ l1 ∷ l2 ∷ l3 ∷ l4 ∷ e5 ∷ e6·1 ∷ e7 ∷ e8 ∷ e9 ∷ e10 ∷ e11 ∷ e12 ∷ e13 ∷ e14·1 ∷ e15 ∷ List.[]
+
         abbrev g39 : List.List Row.Entry
-        g39 = (0, Rows.any-gone Laws'''''.mir,) ∷ (1, Reshare.mslice-owedS RelayPending.row ref9 0 9 life0,) ∷ (2, Reshare.mslice-owedS
-            RelayCircuit.row ref10 1 10 life1,) ∷ (3, Reshare.mslice-owedS ReservationUsage.row ref11 2 11 life2,) ∷ (4, Reshare.mslice-owedS
-            InflightAction.row ref12 3 12 life3,) ∷ (5, Mut.mslice (Referent.rtF (Referent.fInt Syntax.w32)) ref13 4,) ∷ (6, Rows.any-gone
-            Laws''''.mir,) ∷ (7, Rows.any-gone Laws''.mir,) ∷ (8, Rows.whole (Declared'.row RelayPacket.the-type)) ∷ (9, Rows.sslice (Referent.rtF
-            (Referent.fInt Syntax.w8)) ref14 5,) ∷ (10, Rows.sslice (Referent.rtF (Referent.fInt Syntax.w8)) ref15 6,) ∷ (11, Rows.sslice
-            (Referent.rtF (Referent.fInt Syntax.w8)) ref16 7,) ∷ (12, Rows.sslice (Referent.rtF (Referent.fInt Syntax.w8)) ref17 8,) ∷ (13,
-            Rows.any-gone Laws'.mir,) ∷ (14, Rows.sc-here Row.sBool) ∷ (15, Rows.any-gone Laws.mir,) ∷ List.[]
+        g39 = e0 ∷ l1 ∷ l2 ∷ l3 ∷ l4 ∷ e5 ∷ e6·1 ∷ e7·1 ∷ e8 ∷ e9 ∷ e10 ∷ e11 ∷ e12 ∷ e13 ∷ e14·1 ∷ e15 ∷ List.[]
+
         abbrev g40 : List.List Row.Entry
-        g40 = (0, Rows.any-gone Laws'''''.mir,) ∷ (1, Mut.mslice RelayPending.row ref9 0,) ∷ (2, Reshare.mslice-owedS RelayCircuit.row ref10 1 10
-            life1,) ∷ (3, Reshare.mslice-owedS ReservationUsage.row ref11 2 11 life2,) ∷ (4, Reshare.mslice-owedS InflightAction.row ref12 3 12
-            life3,) ∷ (5, Mut.mslice (Referent.rtF (Referent.fInt Syntax.w32)) ref13 4,) ∷ (6, Rows.any-gone Laws''''.mir,) ∷ (7, Rows.any-gone
-            Laws''.mir,) ∷ (8, Rows.whole (Declared'.row RelayPacket.the-type)) ∷ (9, Rows.sslice (Referent.rtF (Referent.fInt Syntax.w8)) ref14 5,) ∷
-            (10, Rows.sslice (Referent.rtF (Referent.fInt Syntax.w8)) ref15 6,) ∷ (11, Rows.sslice (Referent.rtF (Referent.fInt Syntax.w8)) ref16 7,)
-            ∷ (12, Rows.sslice (Referent.rtF (Referent.fInt Syntax.w8)) ref17 8,) ∷ (13, Rows.any-gone Laws'.mir,) ∷ (14, Rows.sc-here Row.sBool) ∷
-            (15, Rows.any-gone Laws.mir,) ∷ List.[]
+        g40 = e0 ∷ e1 ∷ l2 ∷ l3 ∷ l4 ∷ e5 ∷ e6·1 ∷ e7·1 ∷ e8 ∷ e9 ∷ e10 ∷ e11 ∷ e12 ∷ e13 ∷ e14·1 ∷ e15 ∷ List.[]
+
         abbrev g41 : List.List Row.Entry
-        g41 = (0, Rows.any-gone Laws'''''.mir,) ∷ (1, Mut.mslice RelayPending.row ref9 0,) ∷ (2, Mut.mslice RelayCircuit.row ref10 1,) ∷ (3,
-            Reshare.mslice-owedS ReservationUsage.row ref11 2 11 life2,) ∷ (4, Reshare.mslice-owedS InflightAction.row ref12 3 12 life3,) ∷ (5,
-            Mut.mslice (Referent.rtF (Referent.fInt Syntax.w32)) ref13 4,) ∷ (6, Rows.any-gone Laws''''.mir,) ∷ (7, Rows.any-gone Laws''.mir,) ∷ (8,
-            Rows.whole (Declared'.row RelayPacket.the-type)) ∷ (9, Rows.sslice (Referent.rtF (Referent.fInt Syntax.w8)) ref14 5,) ∷ (10, Rows.sslice
-            (Referent.rtF (Referent.fInt Syntax.w8)) ref15 6,) ∷ (11, Rows.sslice (Referent.rtF (Referent.fInt Syntax.w8)) ref16 7,) ∷ (12,
-            Rows.sslice (Referent.rtF (Referent.fInt Syntax.w8)) ref17 8,) ∷ (13, Rows.any-gone Laws'.mir,) ∷ (14, Rows.sc-here Row.sBool) ∷ (15,
-            Rows.any-gone Laws.mir,) ∷ List.[]
+        g41 = e0 ∷ e1 ∷ e2 ∷ l3 ∷ l4 ∷ e5 ∷ e6·1 ∷ e7·1 ∷ e8 ∷ e9 ∷ e10 ∷ e11 ∷ e12 ∷ e13 ∷ e14·1 ∷ e15 ∷ List.[]
+
         abbrev g42 : List.List Row.Entry
-        g42 = (0, Rows.any-gone Laws'''''.mir,) ∷ (1, Mut.mslice RelayPending.row ref9 0,) ∷ (2, Mut.mslice RelayCircuit.row ref10 1,) ∷ (3,
-            Mut.mslice ReservationUsage.row ref11 2,) ∷ (4, Reshare.mslice-owedS InflightAction.row ref12 3 12 life3,) ∷ (5, Mut.mslice (Referent.rtF
-            (Referent.fInt Syntax.w32)) ref13 4,) ∷ (6, Rows.any-gone Laws''''.mir,) ∷ (7, Rows.any-gone Laws''.mir,) ∷ (8, Rows.whole (Declared'.row
-            RelayPacket.the-type)) ∷ (9, Rows.sslice (Referent.rtF (Referent.fInt Syntax.w8)) ref14 5,) ∷ (10, Rows.sslice (Referent.rtF
-            (Referent.fInt Syntax.w8)) ref15 6,) ∷ (11, Rows.sslice (Referent.rtF (Referent.fInt Syntax.w8)) ref16 7,) ∷ (12, Rows.sslice
-            (Referent.rtF (Referent.fInt Syntax.w8)) ref17 8,) ∷ (13, Rows.any-gone Laws'.mir,) ∷ (14, Rows.sc-here Row.sBool) ∷ (15, Rows.any-gone
-            Laws.mir,) ∷ List.[]
+        g42 = e0 ∷ e1 ∷ e2 ∷ e3 ∷ l4 ∷ e5 ∷ e6·1 ∷ e7·1 ∷ e8 ∷ e9 ∷ e10 ∷ e11 ∷ e12 ∷ e13 ∷ e14·1 ∷ e15 ∷ List.[]
+
         abbrev g44 : List.List Row.Entry
-        g44 = (0, Rows.any-gone Laws'''''.mir,) ∷ (1, Relend.mslice-owed RelayPending.row ref9 0 13 life0,) ∷ (2, Mut.mslice RelayCircuit.row ref10
-            1,) ∷ (3, Mut.mslice ReservationUsage.row ref11 2,) ∷ (4, Mut.mslice InflightAction.row ref12 3,) ∷ (5, Mut.mslice (Referent.rtF
-            (Referent.fInt Syntax.w32)) ref13 4,) ∷ (6, Rows.any-gone Laws''''.mir,) ∷ (7, Rows.any-gone Laws''.mir,) ∷ (8, Rows.whole (Declared'.row
-            RelayPacket.the-type)) ∷ (9, Rows.sslice (Referent.rtF (Referent.fInt Syntax.w8)) ref14 5,) ∷ (10, Rows.sslice (Referent.rtF
-            (Referent.fInt Syntax.w8)) ref15 6,) ∷ (11, Rows.sslice (Referent.rtF (Referent.fInt Syntax.w8)) ref16 7,) ∷ (12, Rows.sslice
-            (Referent.rtF (Referent.fInt Syntax.w8)) ref17 8,) ∷ (13, Rows.any-gone Laws'.mir,) ∷ (14, Rows.sc-here Row.sBool) ∷ (15, Rows.any-gone
-            Laws.mir,) ∷ List.[]
+        g44 = e0 ∷ l1·1 ∷ e2 ∷ e3 ∷ e4 ∷ e5 ∷ e6·1 ∷ e7·1 ∷ e8 ∷ e9 ∷ e10 ∷ e11 ∷ e12 ∷ e13 ∷ e14·1 ∷ e15 ∷ List.[]
+
         abbrev g47 : List.List Row.Entry
-        g47 = (0, Rows.any-gone Laws'''''.mir,) ∷ (1, Relend.mslice-owed RelayPending.row ref9 0 13 life0,) ∷ (2, Relend.mslice-owed RelayCircuit.row
-            ref10 1 14 life1,) ∷ (3, Mut.mslice ReservationUsage.row ref11 2,) ∷ (4, Mut.mslice InflightAction.row ref12 3,) ∷ (5, Mut.mslice
-            (Referent.rtF (Referent.fInt Syntax.w32)) ref13 4,) ∷ (6, Rows.any-gone Laws''''.mir,) ∷ (7, Rows.any-gone Laws''.mir,) ∷ (8, Rows.whole
-            (Declared'.row RelayPacket.the-type)) ∷ (9, Rows.sslice (Referent.rtF (Referent.fInt Syntax.w8)) ref14 5,) ∷ (10, Rows.sslice
-            (Referent.rtF (Referent.fInt Syntax.w8)) ref15 6,) ∷ (11, Rows.sslice (Referent.rtF (Referent.fInt Syntax.w8)) ref16 7,) ∷ (12,
-            Rows.sslice (Referent.rtF (Referent.fInt Syntax.w8)) ref17 8,) ∷ (13, Rows.any-gone Laws'.mir,) ∷ (14, Rows.sc-here Row.sBool) ∷ (15,
-            Rows.any-gone Laws.mir,) ∷ List.[]
+        g47 = e0 ∷ l1·1 ∷ l2·1 ∷ e3 ∷ e4 ∷ e5 ∷ e6·1 ∷ e7·1 ∷ e8 ∷ e9 ∷ e10 ∷ e11 ∷ e12 ∷ e13 ∷ e14·1 ∷ e15 ∷ List.[]
+
         abbrev g50 : List.List Row.Entry
-        g50 = (0, Rows.any-gone Laws'''''.mir,) ∷ (1, Relend.mslice-owed RelayPending.row ref9 0 13 life0,) ∷ (2, Relend.mslice-owed RelayCircuit.row
-            ref10 1 14 life1,) ∷ (3, Relend.mslice-owed ReservationUsage.row ref11 2 15 life2,) ∷ (4, Mut.mslice InflightAction.row ref12 3,) ∷ (5,
-            Mut.mslice (Referent.rtF (Referent.fInt Syntax.w32)) ref13 4,) ∷ (6, Rows.any-gone Laws''''.mir,) ∷ (7, Rows.any-gone Laws''.mir,) ∷ (8,
-            Rows.whole (Declared'.row RelayPacket.the-type)) ∷ (9, Rows.sslice (Referent.rtF (Referent.fInt Syntax.w8)) ref14 5,) ∷ (10, Rows.sslice
-            (Referent.rtF (Referent.fInt Syntax.w8)) ref15 6,) ∷ (11, Rows.sslice (Referent.rtF (Referent.fInt Syntax.w8)) ref16 7,) ∷ (12,
-            Rows.sslice (Referent.rtF (Referent.fInt Syntax.w8)) ref17 8,) ∷ (13, Rows.any-gone Laws'.mir,) ∷ (14, Rows.sc-here Row.sBool) ∷ (15,
-            Rows.any-gone Laws.mir,) ∷ List.[]
+        g50 = e0 ∷ l1·1 ∷ l2·1 ∷ l3·1 ∷ e4 ∷ e5 ∷ e6·1 ∷ e7·1 ∷ e8 ∷ e9 ∷ e10 ∷ e11 ∷ e12 ∷ e13 ∷ e14·1 ∷ e15 ∷ List.[]
+
         abbrev g53 : List.List Row.Entry
-        g53 = (0, Rows.any-gone Laws'''''.mir,) ∷ (1, Relend.mslice-owed RelayPending.row ref9 0 13 life0,) ∷ (2, Relend.mslice-owed RelayCircuit.row
-            ref10 1 14 life1,) ∷ (3, Relend.mslice-owed ReservationUsage.row ref11 2 15 life2,) ∷ (4, Relend.mslice-owed InflightAction.row ref12 3 16
-            life3,) ∷ (5, Mut.mslice (Referent.rtF (Referent.fInt Syntax.w32)) ref13 4,) ∷ (6, Rows.any-gone Laws''''.mir,) ∷ (7, Rows.any-gone
-            Laws''.mir,) ∷ (8, Rows.whole (Declared'.row RelayPacket.the-type)) ∷ (9, Rows.sslice (Referent.rtF (Referent.fInt Syntax.w8)) ref14 5,) ∷
-            (10, Rows.sslice (Referent.rtF (Referent.fInt Syntax.w8)) ref15 6,) ∷ (11, Rows.sslice (Referent.rtF (Referent.fInt Syntax.w8)) ref16 7,)
-            ∷ (12, Rows.sslice (Referent.rtF (Referent.fInt Syntax.w8)) ref17 8,) ∷ (13, Rows.any-gone Laws'.mir,) ∷ (14, Rows.sc-here Row.sBool) ∷
-            (15, Rows.any-gone Laws.mir,) ∷ List.[]
-        abbrev g56 : List.List Row.Entry
-        g56 = (0, Rows.any-gone Laws'''''.mir,) ∷ (1, Relend.mslice-owed RelayPending.row ref9 0 13 life0,) ∷ (2, Relend.mslice-owed RelayCircuit.row
-            ref10 1 14 life1,) ∷ (3, Relend.mslice-owed ReservationUsage.row ref11 2 15 life2,) ∷ (4, Relend.mslice-owed InflightAction.row ref12 3 16
-            life3,) ∷ (5, Relend.mslice-owed (Referent.rtF (Referent.fInt Syntax.w32)) ref13 4 17 life4,) ∷ (6, Rows.any-gone Laws''''.mir,) ∷ (7,
-            Rows.any-gone Laws''.mir,) ∷ (8, Rows.whole (Declared'.row RelayPacket.the-type)) ∷ (9, Rows.sslice (Referent.rtF (Referent.fInt
-            Syntax.w8)) ref14 5,) ∷ (10, Rows.sslice (Referent.rtF (Referent.fInt Syntax.w8)) ref15 6,) ∷ (11, Rows.sslice (Referent.rtF
-            (Referent.fInt Syntax.w8)) ref16 7,) ∷ (12, Rows.sslice (Referent.rtF (Referent.fInt Syntax.w8)) ref17 8,) ∷ (13, Rows.any-gone
-            Laws'.mir,) ∷ (14, Rows.sc-here Row.sBool) ∷ (15, Rows.any-gone Laws.mir,) ∷ List.[]
-        abbrev g59 : List.List Row.Entry
-        g59 = (0, Rows.whole (Declared'.row Relayed.the-type)) ∷ (1, Relend.mslice-owed RelayPending.row ref9 0 13 life0,) ∷ (2, Relend.mslice-owed
-            RelayCircuit.row ref10 1 14 life1,) ∷ (3, Relend.mslice-owed ReservationUsage.row ref11 2 15 life2,) ∷ (4, Relend.mslice-owed
-            InflightAction.row ref12 3 16 life3,) ∷ (5, Relend.mslice-owed (Referent.rtF (Referent.fInt Syntax.w32)) ref13 4 17 life4,) ∷ (6,
-            Rows.any-gone Laws''''.mir,) ∷ (7, Rows.any-gone Laws''.mir,) ∷ (8, Rows.whole (Declared'.row RelayPacket.the-type)) ∷ (9, Rows.sslice
-            (Referent.rtF (Referent.fInt Syntax.w8)) ref14 5,) ∷ (10, Rows.sslice (Referent.rtF (Referent.fInt Syntax.w8)) ref15 6,) ∷ (11,
-            Rows.sslice (Referent.rtF (Referent.fInt Syntax.w8)) ref16 7,) ∷ (12, Rows.sslice (Referent.rtF (Referent.fInt Syntax.w8)) ref17 8,) ∷
-            (13, Rows.any-gone Laws'.mir,) ∷ (14, Rows.sc-here Row.sBool) ∷ (15, Rows.any-gone Laws.mir,) ∷ List.[]
-        abbrev g61 : List.List Row.Entry
-        g61 = (0, Rows.whole (Declared'.row Relayed.the-type)) ∷ (1, Relend.mslice-owed RelayPending.row ref9 0 13 life0,) ∷ (2, Relend.mslice-owed
-            RelayCircuit.row ref10 1 14 life1,) ∷ (3, Relend.mslice-owed ReservationUsage.row ref11 2 15 life2,) ∷ (4, Relend.mslice-owed
-            InflightAction.row ref12 3 16 life3,) ∷ (5, Relend.mslice-owed (Referent.rtF (Referent.fInt Syntax.w32)) ref13 4 17 life4,) ∷ (6,
-            Rows.any-gone Laws''''.mir,) ∷ (7, Rows.any-gone Laws''.mir,) ∷ (8, Rows.any-gone Laws'''.mir,) ∷ (9, Rows.sslice (Referent.rtF
-            (Referent.fInt Syntax.w8)) ref14 5,) ∷ (10, Rows.sslice (Referent.rtF (Referent.fInt Syntax.w8)) ref15 6,) ∷ (11, Rows.sslice
-            (Referent.rtF (Referent.fInt Syntax.w8)) ref16 7,) ∷ (12, Rows.sslice (Referent.rtF (Referent.fInt Syntax.w8)) ref17 8,) ∷ (13,
-            Rows.any-gone Laws'.mir,) ∷ (14, Rows.sc-here Row.sBool) ∷ (15, Rows.any-gone Laws.mir,) ∷ List.[]
-        abbrev g63 : List.List Row.Entry
-        g63 = (0, Rows.whole (Declared'.row Relayed.the-type)) ∷ (1, Mut.mslice RelayPending.row ref9 0,) ∷ (2, Relend.mslice-owed RelayCircuit.row
-            ref10 1 14 life1,) ∷ (3, Relend.mslice-owed ReservationUsage.row ref11 2 15 life2,) ∷ (4, Relend.mslice-owed InflightAction.row ref12 3 16
-            life3,) ∷ (5, Relend.mslice-owed (Referent.rtF (Referent.fInt Syntax.w32)) ref13 4 17 life4,) ∷ (6, Rows.any-gone Laws''''.mir,) ∷ (7,
-            Rows.any-gone Laws''.mir,) ∷ (8, Rows.any-gone Laws'''.mir,) ∷ (9, Rows.sslice (Referent.rtF (Referent.fInt Syntax.w8)) ref14 5,) ∷ (10,
-            Rows.sslice (Referent.rtF (Referent.fInt Syntax.w8)) ref15 6,) ∷ (11, Rows.sslice (Referent.rtF (Referent.fInt Syntax.w8)) ref16 7,) ∷
-            (12, Rows.sslice (Referent.rtF (Referent.fInt Syntax.w8)) ref17 8,) ∷ (13, Rows.any-gone Laws'.mir,) ∷ (14, Rows.sc-here Row.sBool) ∷ (15,
-            Rows.any-gone Laws.mir,) ∷ List.[]
-        abbrev g65 : List.List Row.Entry
-        g65 = (0, Rows.whole (Declared'.row Relayed.the-type)) ∷ (1, Mut.mslice RelayPending.row ref9 0,) ∷ (2, Mut.mslice RelayCircuit.row ref10 1,)
-            ∷ (3, Relend.mslice-owed ReservationUsage.row ref11 2 15 life2,) ∷ (4, Relend.mslice-owed InflightAction.row ref12 3 16 life3,) ∷ (5,
-            Relend.mslice-owed (Referent.rtF (Referent.fInt Syntax.w32)) ref13 4 17 life4,) ∷ (6, Rows.any-gone Laws''''.mir,) ∷ (7, Rows.any-gone
-            Laws''.mir,) ∷ (8, Rows.any-gone Laws'''.mir,) ∷ (9, Rows.sslice (Referent.rtF (Referent.fInt Syntax.w8)) ref14 5,) ∷ (10, Rows.sslice
-            (Referent.rtF (Referent.fInt Syntax.w8)) ref15 6,) ∷ (11, Rows.sslice (Referent.rtF (Referent.fInt Syntax.w8)) ref16 7,) ∷ (12,
-            Rows.sslice (Referent.rtF (Referent.fInt Syntax.w8)) ref17 8,) ∷ (13, Rows.any-gone Laws'.mir,) ∷ (14, Rows.sc-here Row.sBool) ∷ (15,
-            Rows.any-gone Laws.mir,) ∷ List.[]
-        abbrev g67 : List.List Row.Entry
-        g67 = (0, Rows.whole (Declared'.row Relayed.the-type)) ∷ (1, Mut.mslice RelayPending.row ref9 0,) ∷ (2, Mut.mslice RelayCircuit.row ref10 1,)
-            ∷ (3, Mut.mslice ReservationUsage.row ref11 2,) ∷ (4, Relend.mslice-owed InflightAction.row ref12 3 16 life3,) ∷ (5, Relend.mslice-owed
-            (Referent.rtF (Referent.fInt Syntax.w32)) ref13 4 17 life4,) ∷ (6, Rows.any-gone Laws''''.mir,) ∷ (7, Rows.any-gone Laws''.mir,) ∷ (8,
-            Rows.any-gone Laws'''.mir,) ∷ (9, Rows.sslice (Referent.rtF (Referent.fInt Syntax.w8)) ref14 5,) ∷ (10, Rows.sslice (Referent.rtF
-            (Referent.fInt Syntax.w8)) ref15 6,) ∷ (11, Rows.sslice (Referent.rtF (Referent.fInt Syntax.w8)) ref16 7,) ∷ (12, Rows.sslice
-            (Referent.rtF (Referent.fInt Syntax.w8)) ref17 8,) ∷ (13, Rows.any-gone Laws'.mir,) ∷ (14, Rows.sc-here Row.sBool) ∷ (15, Rows.any-gone
-            Laws.mir,) ∷ List.[]
-        abbrev g69 : List.List Row.Entry
-        g69 = (0, Rows.whole (Declared'.row Relayed.the-type)) ∷ (1, Mut.mslice RelayPending.row ref9 0,) ∷ (2, Mut.mslice RelayCircuit.row ref10 1,)
-            ∷ (3, Mut.mslice ReservationUsage.row ref11 2,) ∷ (4, Mut.mslice InflightAction.row ref12 3,) ∷ (5, Relend.mslice-owed (Referent.rtF
-            (Referent.fInt Syntax.w32)) ref13 4 17 life4,) ∷ (6, Rows.any-gone Laws''''.mir,) ∷ (7, Rows.any-gone Laws''.mir,) ∷ (8, Rows.any-gone
-            Laws'''.mir,) ∷ (9, Rows.sslice (Referent.rtF (Referent.fInt Syntax.w8)) ref14 5,) ∷ (10, Rows.sslice (Referent.rtF (Referent.fInt
-            Syntax.w8)) ref15 6,) ∷ (11, Rows.sslice (Referent.rtF (Referent.fInt Syntax.w8)) ref16 7,) ∷ (12, Rows.sslice (Referent.rtF
-            (Referent.fInt Syntax.w8)) ref17 8,) ∷ (13, Rows.any-gone Laws'.mir,) ∷ (14, Rows.sc-here Row.sBool) ∷ (15, Rows.any-gone Laws.mir,) ∷
+        g53 = e0 ∷ l1·1 ∷ l2·1 ∷ l3·1 ∷ l4·1 ∷ e5 ∷ e6·1 ∷ e7·1 ∷ e8 ∷ e9 ∷ e10 ∷ e11 ∷ e12 ∷ e13 ∷ e14·1 ∷ e15 ∷
             List.[]
+
+        abbrev g56 : List.List Row.Entry
+        g56 = e0 ∷ l1·1 ∷ l2·1 ∷ l3·1 ∷ l4·1 ∷ l5 ∷ e6·1 ∷ e7·1 ∷ e8 ∷ e9 ∷ e10 ∷ e11 ∷ e12 ∷ e13 ∷ e14·1 ∷ e15 ∷
+            List.[]
+
+        abbrev g59 : List.List Row.Entry
+        g59 = e0·1 ∷ l1·1 ∷ l2·1 ∷ l3·1 ∷ l4·1 ∷ l5 ∷ e6·1 ∷ e7·1 ∷ e8 ∷ e9 ∷ e10 ∷ e11 ∷ e12 ∷ e13 ∷ e14·1 ∷ e15 ∷
+            List.[]
+
+        abbrev g61 : List.List Row.Entry
+        g61 = e0·1 ∷ l1·1 ∷ l2·1 ∷ l3·1 ∷ l4·1 ∷ l5 ∷ e6·1 ∷ e7·1 ∷ e8·1 ∷ e9 ∷ e10 ∷ e11 ∷ e12 ∷ e13 ∷ e14·1 ∷ e15 ∷
+            List.[]
+
+        abbrev g63 : List.List Row.Entry
+        g63 = e0·1 ∷ e1 ∷ l2·1 ∷ l3·1 ∷ l4·1 ∷ l5 ∷ e6·1 ∷ e7·1 ∷ e8·1 ∷ e9 ∷ e10 ∷ e11 ∷ e12 ∷ e13 ∷ e14·1 ∷ e15 ∷
+            List.[]
+
+        abbrev g65 : List.List Row.Entry
+        g65 = e0·1 ∷ e1 ∷ e2 ∷ l3·1 ∷ l4·1 ∷ l5 ∷ e6·1 ∷ e7·1 ∷ e8·1 ∷ e9 ∷ e10 ∷ e11 ∷ e12 ∷ e13 ∷ e14·1 ∷ e15 ∷
+            List.[]
+
+        abbrev g67 : List.List Row.Entry
+        g67 = e0·1 ∷ e1 ∷ e2 ∷ e3 ∷ l4·1 ∷ l5 ∷ e6·1 ∷ e7·1 ∷ e8·1 ∷ e9 ∷ e10 ∷ e11 ∷ e12 ∷ e13 ∷ e14·1 ∷ e15 ∷ List.[]
+
+        abbrev g69 : List.List Row.Entry
+        g69 = e0·1 ∷ e1 ∷ e2 ∷ e3 ∷ e4 ∷ l5 ∷ e6·1 ∷ e7·1 ∷ e8·1 ∷ e9 ∷ e10 ∷ e11 ∷ e12 ∷ e13 ∷ e14·1 ∷ e15 ∷ List.[]
+
         abbrev G0 : Row.Cx
-        G0 = record { locals = List._++_ t0 (List._++_ t1 t2); slots = life0 ∷ life1 ∷ life2 ∷ life3 ∷ life4 ∷ life5 ∷ life6 ∷ life7 ∷ life8 ∷ Row.off
-            ∷ Row.off ∷ Row.off ∷ Row.off ∷ Row.off ∷ Row.off ∷ Row.off ∷ Row.off ∷ Row.off ∷ List.[]; }
+        G0 = record {
+          locals = List._++_ t0 (List._++_ t1 t2);
+          slots = life0 ∷ life1 ∷ life2 ∷ life3 ∷ life4 ∷ life5 ∷ life6 ∷ life7 ∷ life8 ∷ Row.off ∷ Row.off ∷ Row.off ∷
+              Row.off ∷ Row.off ∷ Row.off ∷ Row.off ∷ Row.off ∷ Row.off ∷ List.[];
+        }
+
         abbrev G1 : Row.Cx
-        G1 = record { locals = List._++_ t3 (List._++_ t1 t2); slots = life0 ∷ life1 ∷ life2 ∷ life3 ∷ life4 ∷ life5 ∷ life6 ∷ life7 ∷ life8 ∷ Row.off
-            ∷ Row.off ∷ Row.off ∷ Row.off ∷ Row.off ∷ Row.off ∷ Row.off ∷ Row.off ∷ Row.off ∷ List.[]; }
+        G1 = record {
+          locals = List._++_ t3 (List._++_ t1 t2);
+          slots = life0 ∷ life1 ∷ life2 ∷ life3 ∷ life4 ∷ life5 ∷ life6 ∷ life7 ∷ life8 ∷ Row.off ∷ Row.off ∷ Row.off ∷
+              Row.off ∷ Row.off ∷ Row.off ∷ Row.off ∷ Row.off ∷ Row.off ∷ List.[];
+        }
+
         abbrev G2 : Row.Cx
-        G2 = record { locals = List._++_ t0 (List._++_ t1 t2); slots = life0 ∷ life1 ∷ life2 ∷ life3 ∷ life4 ∷ life5 ∷ life6 ∷ life7 ∷ life8 ∷ Row.off
-            ∷ Row.off ∷ Row.off ∷ Row.off ∷ Row.off ∷ Row.off ∷ Row.off ∷ Row.off ∷ Row.off ∷ List.[]; }
+        G2 = record {
+          locals = List._++_ t0 (List._++_ t1 t2);
+          slots = life0 ∷ life1 ∷ life2 ∷ life3 ∷ life4 ∷ life5 ∷ life6 ∷ life7 ∷ life8 ∷ Row.off ∷ Row.off ∷ Row.off ∷
+              Row.off ∷ Row.off ∷ Row.off ∷ Row.off ∷ Row.off ∷ Row.off ∷ List.[];
+        }
+
         abbrev G3 : Row.Cx
-        G3 = record { locals = List._++_ t0 (List._++_ t1 t2); slots = life0 ∷ life1 ∷ life2 ∷ life3 ∷ life4 ∷ life5 ∷ life6 ∷ life7 ∷ life8 ∷ Row.off
-            ∷ Row.off ∷ Row.off ∷ Row.off ∷ Row.off ∷ Row.off ∷ Row.off ∷ Row.off ∷ Row.off ∷ List.[]; }
+        G3 = record {
+          locals = List._++_ t0 (List._++_ t1 t2);
+          slots = life0 ∷ life1 ∷ life2 ∷ life3 ∷ life4 ∷ life5 ∷ life6 ∷ life7 ∷ life8 ∷ Row.off ∷ Row.off ∷ Row.off ∷
+              Row.off ∷ Row.off ∷ Row.off ∷ Row.off ∷ Row.off ∷ Row.off ∷ List.[];
+        }
+
         abbrev G4 : Row.Cx
-        G4 = record { locals = List._++_ t0 (List._++_ t1 t2); slots = life0 ∷ life1 ∷ life2 ∷ life3 ∷ life4 ∷ life5 ∷ life6 ∷ life7 ∷ life8 ∷ Row.off
-            ∷ Row.off ∷ Row.off ∷ Row.off ∷ Row.off ∷ Row.off ∷ Row.off ∷ Row.off ∷ Row.off ∷ List.[]; }
+        G4 = record {
+          locals = List._++_ t0 (List._++_ t1 t2);
+          slots = life0 ∷ life1 ∷ life2 ∷ life3 ∷ life4 ∷ life5 ∷ life6 ∷ life7 ∷ life8 ∷ Row.off ∷ Row.off ∷ Row.off ∷
+              Row.off ∷ Row.off ∷ Row.off ∷ Row.off ∷ Row.off ∷ Row.off ∷ List.[];
+        }
+
         abbrev G5 : Row.Cx
-        G5 = record { locals = List._++_ t0 (List._++_ t1 t2); slots = life0 ∷ life1 ∷ life2 ∷ life3 ∷ life4 ∷ life5 ∷ life6 ∷ life7 ∷ life8 ∷ Row.off
-            ∷ Row.off ∷ Row.off ∷ Row.off ∷ Row.off ∷ Row.off ∷ Row.off ∷ Row.off ∷ Row.off ∷ List.[]; }
+        G5 = record {
+          locals = List._++_ t0 (List._++_ t1 t2);
+          slots = life0 ∷ life1 ∷ life2 ∷ life3 ∷ life4 ∷ life5 ∷ life6 ∷ life7 ∷ life8 ∷ Row.off ∷ Row.off ∷ Row.off ∷
+              Row.off ∷ Row.off ∷ Row.off ∷ Row.off ∷ Row.off ∷ Row.off ∷ List.[];
+        }
+
         abbrev G6 : Row.Cx
-        G6 = record { locals = List._++_ t0 (List._++_ t1 t2); slots = life0 ∷ life1 ∷ life2 ∷ life3 ∷ life4 ∷ life5 ∷ life6 ∷ life7 ∷ life8 ∷ Row.off
-            ∷ Row.off ∷ Row.off ∷ Row.off ∷ Row.off ∷ Row.off ∷ Row.off ∷ Row.off ∷ Row.off ∷ List.[]; }
+        G6 = record {
+          locals = List._++_ t0 (List._++_ t1 t2);
+          slots = life0 ∷ life1 ∷ life2 ∷ life3 ∷ life4 ∷ life5 ∷ life6 ∷ life7 ∷ life8 ∷ Row.off ∷ Row.off ∷ Row.off ∷
+              Row.off ∷ Row.off ∷ Row.off ∷ Row.off ∷ Row.off ∷ Row.off ∷ List.[];
+        }
+
         abbrev G7 : Row.Cx
-        G7 = record { locals = List._++_ t4 (List._++_ t1 t2); slots = life0 ∷ life1 ∷ life2 ∷ life3 ∷ life4 ∷ life5 ∷ life6 ∷ life7 ∷ life8 ∷ Row.off
-            ∷ Row.off ∷ Row.off ∷ Row.off ∷ Row.off ∷ Row.off ∷ Row.off ∷ Row.off ∷ Row.off ∷ List.[]; }
+        G7 = record {
+          locals = List._++_ t4 (List._++_ t1 t2);
+          slots = life0 ∷ life1 ∷ life2 ∷ life3 ∷ life4 ∷ life5 ∷ life6 ∷ life7 ∷ life8 ∷ Row.off ∷ Row.off ∷ Row.off ∷
+              Row.off ∷ Row.off ∷ Row.off ∷ Row.off ∷ Row.off ∷ Row.off ∷ List.[];
+        }
+
         abbrev G8 : Row.Cx
-        G8 = record { locals = List._++_ t4 (List._++_ t5 t2); slots = life0 ∷ life1 ∷ life2 ∷ life3 ∷ life4 ∷ life5 ∷ life6 ∷ life7 ∷ life8 ∷ Row.off
-            ∷ Row.off ∷ Row.off ∷ Row.off ∷ Row.off ∷ Row.off ∷ Row.off ∷ Row.off ∷ Row.off ∷ List.[]; }
+        G8 = record {
+          locals = List._++_ t4 (List._++_ t5 t2);
+          slots = life0 ∷ life1 ∷ life2 ∷ life3 ∷ life4 ∷ life5 ∷ life6 ∷ life7 ∷ life8 ∷ Row.off ∷ Row.off ∷ Row.off ∷
+              Row.off ∷ Row.off ∷ Row.off ∷ Row.off ∷ Row.off ∷ Row.off ∷ List.[];
+        }
+
         abbrev G9 : Row.Cx
-        G9 = record { locals = List._++_ t4 (List._++_ t6 t2); slots = life0 ∷ life1 ∷ life2 ∷ life3 ∷ life4 ∷ life5 ∷ life6 ∷ life7 ∷ life8 ∷ Row.off
-            ∷ Row.off ∷ Row.off ∷ Row.off ∷ Row.off ∷ Row.off ∷ Row.off ∷ Row.off ∷ Row.off ∷ List.[]; }
+        G9 = record {
+          locals = List._++_ t4 (List._++_ t6 t2);
+          slots = life0 ∷ life1 ∷ life2 ∷ life3 ∷ life4 ∷ life5 ∷ life6 ∷ life7 ∷ life8 ∷ Row.off ∷ Row.off ∷ Row.off ∷
+              Row.off ∷ Row.off ∷ Row.off ∷ Row.off ∷ Row.off ∷ Row.off ∷ List.[];
+        }
+
         abbrev G10 : Row.Cx
-        G10 = record { locals = List._++_ t4 (List._++_ t7 t2); slots = life0 ∷ life1 ∷ life2 ∷ life3 ∷ life4 ∷ life5 ∷ life6 ∷ life7 ∷ life8 ∷
-            Row.off ∷ Row.off ∷ Row.off ∷ Row.off ∷ Row.off ∷ Row.off ∷ Row.off ∷ Row.off ∷ Row.off ∷ List.[]; }
+        G10 = record {
+          locals = List._++_ t4 (List._++_ t7 t2);
+          slots = life0 ∷ life1 ∷ life2 ∷ life3 ∷ life4 ∷ life5 ∷ life6 ∷ life7 ∷ life8 ∷ Row.off ∷ Row.off ∷ Row.off ∷
+              Row.off ∷ Row.off ∷ Row.off ∷ Row.off ∷ Row.off ∷ Row.off ∷ List.[];
+        }
+
         abbrev G11 : Row.Cx
-        G11 = record { locals = List._++_ t8 (List._++_ t7 t2); slots = life0 ∷ life1 ∷ life2 ∷ life3 ∷ life4 ∷ life5 ∷ life6 ∷ life7 ∷ life8 ∷
-            Row.off ∷ Row.off ∷ Row.off ∷ Row.off ∷ Row.off ∷ Row.off ∷ Row.off ∷ Row.off ∷ Row.off ∷ List.[]; }
+        G11 = record {
+          locals = List._++_ t8 (List._++_ t7 t2);
+          slots = life0 ∷ life1 ∷ life2 ∷ life3 ∷ life4 ∷ life5 ∷ life6 ∷ life7 ∷ life8 ∷ Row.off ∷ Row.off ∷ Row.off ∷
+              Row.off ∷ Row.off ∷ Row.off ∷ Row.off ∷ Row.off ∷ Row.off ∷ List.[];
+        }
+
         abbrev G12 : Row.Cx
-        G12 = record { locals = List._++_ t9 (List._++_ t7 t2); slots = life0 ∷ life1 ∷ life2 ∷ life3 ∷ life4 ∷ life5 ∷ life6 ∷ life7 ∷ life8 ∷
-            Row.off ∷ Row.off ∷ Row.off ∷ Row.off ∷ Row.off ∷ Row.off ∷ Row.off ∷ Row.off ∷ Row.off ∷ List.[]; }
+        G12 = record {
+          locals = List._++_ t9 (List._++_ t7 t2);
+          slots = life0 ∷ life1 ∷ life2 ∷ life3 ∷ life4 ∷ life5 ∷ life6 ∷ life7 ∷ life8 ∷ Row.off ∷ Row.off ∷ Row.off ∷
+              Row.off ∷ Row.off ∷ Row.off ∷ Row.off ∷ Row.off ∷ Row.off ∷ List.[];
+        }
+
         abbrev G13 : Row.Cx
-        G13 = record { locals = List._++_ t9 (List._++_ t10 t2); slots = life0 ∷ life1 ∷ life2 ∷ life3 ∷ life4 ∷ life5 ∷ life6 ∷ life7 ∷ life8 ∷
-            Row.off ∷ Row.off ∷ Row.off ∷ Row.off ∷ Row.off ∷ Row.off ∷ Row.off ∷ Row.off ∷ Row.off ∷ List.[]; }
+        G13 = record {
+          locals = List._++_ t9 (List._++_ t10 t2);
+          slots = life0 ∷ life1 ∷ life2 ∷ life3 ∷ life4 ∷ life5 ∷ life6 ∷ life7 ∷ life8 ∷ Row.off ∷ Row.off ∷ Row.off ∷
+              Row.off ∷ Row.off ∷ Row.off ∷ Row.off ∷ Row.off ∷ Row.off ∷ List.[];
+        }
+
         abbrev G14 : Row.Cx
-        G14 = record { locals = List._++_ t9 (List._++_ t11 t2); slots = life0 ∷ life1 ∷ life2 ∷ life3 ∷ life4 ∷ life5 ∷ life6 ∷ life7 ∷ life8 ∷
-            Row.off ∷ Row.off ∷ Row.off ∷ Row.off ∷ Row.off ∷ Row.off ∷ Row.off ∷ Row.off ∷ Row.off ∷ List.[]; }
+        G14 = record {
+          locals = List._++_ t9 (List._++_ t11 t2);
+          slots = life0 ∷ life1 ∷ life2 ∷ life3 ∷ life4 ∷ life5 ∷ life6 ∷ life7 ∷ life8 ∷ Row.off ∷ Row.off ∷ Row.off ∷
+              Row.off ∷ Row.off ∷ Row.off ∷ Row.off ∷ Row.off ∷ Row.off ∷ List.[];
+        }
+
         abbrev G15 : Row.Cx
-        G15 = record { locals = List._++_ t9 (List._++_ t1 t2); slots = life0 ∷ life1 ∷ life2 ∷ life3 ∷ life4 ∷ life5 ∷ life6 ∷ life7 ∷ life8 ∷
-            Row.off ∷ Row.off ∷ Row.off ∷ Row.off ∷ Row.off ∷ Row.off ∷ Row.off ∷ Row.off ∷ Row.off ∷ List.[]; }
+        G15 = record {
+          locals = List._++_ t9 (List._++_ t1 t2);
+          slots = life0 ∷ life1 ∷ life2 ∷ life3 ∷ life4 ∷ life5 ∷ life6 ∷ life7 ∷ life8 ∷ Row.off ∷ Row.off ∷ Row.off ∷
+              Row.off ∷ Row.off ∷ Row.off ∷ Row.off ∷ Row.off ∷ Row.off ∷ List.[];
+        }
+
         abbrev G16 : Row.Cx
-        G16 = record { locals = List._++_ t9 (List._++_ t5 t2); slots = life0 ∷ life1 ∷ life2 ∷ life3 ∷ life4 ∷ life5 ∷ life6 ∷ life7 ∷ life8 ∷
-            Row.off ∷ Row.off ∷ Row.off ∷ Row.off ∷ Row.off ∷ Row.off ∷ Row.off ∷ Row.off ∷ Row.off ∷ List.[]; }
+        G16 = record {
+          locals = List._++_ t9 (List._++_ t5 t2);
+          slots = life0 ∷ life1 ∷ life2 ∷ life3 ∷ life4 ∷ life5 ∷ life6 ∷ life7 ∷ life8 ∷ Row.off ∷ Row.off ∷ Row.off ∷
+              Row.off ∷ Row.off ∷ Row.off ∷ Row.off ∷ Row.off ∷ Row.off ∷ List.[];
+        }
+
         abbrev G17 : Row.Cx
-        G17 = record { locals = List._++_ t12 (List._++_ t5 t2); slots = life0 ∷ life1 ∷ life2 ∷ life3 ∷ life4 ∷ life5 ∷ life6 ∷ life7 ∷ life8 ∷
-            Row.off ∷ Row.off ∷ Row.off ∷ Row.off ∷ Row.off ∷ Row.off ∷ Row.off ∷ Row.off ∷ Row.off ∷ List.[]; }
+        G17 = record {
+          locals = List._++_ t12 (List._++_ t5 t2);
+          slots = life0 ∷ life1 ∷ life2 ∷ life3 ∷ life4 ∷ life5 ∷ life6 ∷ life7 ∷ life8 ∷ Row.off ∷ Row.off ∷ Row.off ∷
+              Row.off ∷ Row.off ∷ Row.off ∷ Row.off ∷ Row.off ∷ Row.off ∷ List.[];
+        }
+
         abbrev G18 : Row.Cx
-        G18 = record { locals = List._++_ t12 (List._++_ t1 t2); slots = life0 ∷ life1 ∷ life2 ∷ life3 ∷ life4 ∷ life5 ∷ life6 ∷ life7 ∷ life8 ∷
-            Row.off ∷ Row.off ∷ Row.off ∷ Row.off ∷ Row.off ∷ Row.off ∷ Row.off ∷ Row.off ∷ Row.off ∷ List.[]; }
+        G18 = record {
+          locals = List._++_ t12 (List._++_ t1 t2);
+          slots = life0 ∷ life1 ∷ life2 ∷ life3 ∷ life4 ∷ life5 ∷ life6 ∷ life7 ∷ life8 ∷ Row.off ∷ Row.off ∷ Row.off ∷
+              Row.off ∷ Row.off ∷ Row.off ∷ Row.off ∷ Row.off ∷ Row.off ∷ List.[];
+        }
+
         abbrev G19 : Row.Cx
-        G19 = record { locals = List._++_ t12 (List._++_ t11 t2); slots = life0 ∷ life1 ∷ life2 ∷ life3 ∷ life4 ∷ life5 ∷ life6 ∷ life7 ∷ life8 ∷
-            Row.off ∷ Row.off ∷ Row.off ∷ Row.off ∷ Row.off ∷ Row.off ∷ Row.off ∷ Row.off ∷ Row.off ∷ List.[]; }
+        G19 = record {
+          locals = List._++_ t12 (List._++_ t11 t2);
+          slots = life0 ∷ life1 ∷ life2 ∷ life3 ∷ life4 ∷ life5 ∷ life6 ∷ life7 ∷ life8 ∷ Row.off ∷ Row.off ∷ Row.off ∷
+              Row.off ∷ Row.off ∷ Row.off ∷ Row.off ∷ Row.off ∷ Row.off ∷ List.[];
+        }
+
         abbrev G20 : Row.Cx
-        G20 = record { locals = List._++_ t12 (List._++_ t13 t2); slots = life0 ∷ life1 ∷ life2 ∷ life3 ∷ life4 ∷ life5 ∷ life6 ∷ life7 ∷ life8 ∷
-            Row.off ∷ Row.off ∷ Row.off ∷ Row.off ∷ Row.off ∷ Row.off ∷ Row.off ∷ Row.off ∷ Row.off ∷ List.[]; }
+        G20 = record {
+          locals = List._++_ t12 (List._++_ t13 t2);
+          slots = life0 ∷ life1 ∷ life2 ∷ life3 ∷ life4 ∷ life5 ∷ life6 ∷ life7 ∷ life8 ∷ Row.off ∷ Row.off ∷ Row.off ∷
+              Row.off ∷ Row.off ∷ Row.off ∷ Row.off ∷ Row.off ∷ Row.off ∷ List.[];
+        }
+
         abbrev G21 : Row.Cx
-        G21 = record { locals = List._++_ t12 (List._++_ t14 t2); slots = life0 ∷ life1 ∷ life2 ∷ life3 ∷ life4 ∷ life5 ∷ life6 ∷ life7 ∷ life8 ∷
-            Row.off ∷ Row.off ∷ Row.off ∷ Row.off ∷ Row.off ∷ Row.off ∷ Row.off ∷ Row.off ∷ Row.off ∷ List.[]; }
+        G21 = record {
+          locals = List._++_ t12 (List._++_ t14 t2);
+          slots = life0 ∷ life1 ∷ life2 ∷ life3 ∷ life4 ∷ life5 ∷ life6 ∷ life7 ∷ life8 ∷ Row.off ∷ Row.off ∷ Row.off ∷
+              Row.off ∷ Row.off ∷ Row.off ∷ Row.off ∷ Row.off ∷ Row.off ∷ List.[];
+        }
+
         abbrev G22 : Row.Cx
-        G22 = record { locals = List._++_ t9 (List._++_ t14 t2); slots = life0 ∷ life1 ∷ life2 ∷ life3 ∷ life4 ∷ life5 ∷ life6 ∷ life7 ∷ life8 ∷
-            Row.off ∷ Row.off ∷ Row.off ∷ Row.off ∷ Row.off ∷ Row.off ∷ Row.off ∷ Row.off ∷ Row.off ∷ List.[]; }
+        G22 = record {
+          locals = List._++_ t9 (List._++_ t14 t2);
+          slots = life0 ∷ life1 ∷ life2 ∷ life3 ∷ life4 ∷ life5 ∷ life6 ∷ life7 ∷ life8 ∷ Row.off ∷ Row.off ∷ Row.off ∷
+              Row.off ∷ Row.off ∷ Row.off ∷ Row.off ∷ Row.off ∷ Row.off ∷ List.[];
+        }
+
         abbrev G23 : Row.Cx
-        G23 = record { locals = List._++_ t9 (List._++_ t15 t2); slots = life0 ∷ life1 ∷ life2 ∷ life3 ∷ life4 ∷ life5 ∷ life6 ∷ life7 ∷ life8 ∷
-            Row.off ∷ Row.off ∷ Row.off ∷ Row.off ∷ Row.off ∷ Row.off ∷ Row.off ∷ Row.off ∷ Row.off ∷ List.[]; }
+        G23 = record {
+          locals = List._++_ t9 (List._++_ t15 t2);
+          slots = life0 ∷ life1 ∷ life2 ∷ life3 ∷ life4 ∷ life5 ∷ life6 ∷ life7 ∷ life8 ∷ Row.off ∷ Row.off ∷ Row.off ∷
+              Row.off ∷ Row.off ∷ Row.off ∷ Row.off ∷ Row.off ∷ Row.off ∷ List.[];
+        }
+
         abbrev G24 : Row.Cx
-        G24 = record { locals = List._++_ t9 (List._++_ t16 t2); slots = life0 ∷ life1 ∷ life2 ∷ life3 ∷ life4 ∷ life5 ∷ life6 ∷ life7 ∷ life8 ∷
-            Row.off ∷ Row.off ∷ Row.off ∷ Row.off ∷ Row.off ∷ Row.off ∷ Row.off ∷ Row.off ∷ Row.off ∷ List.[]; }
+        G24 = record {
+          locals = List._++_ t9 (List._++_ t16 t2);
+          slots = life0 ∷ life1 ∷ life2 ∷ life3 ∷ life4 ∷ life5 ∷ life6 ∷ life7 ∷ life8 ∷ Row.off ∷ Row.off ∷ Row.off ∷
+              Row.off ∷ Row.off ∷ Row.off ∷ Row.off ∷ Row.off ∷ Row.off ∷ List.[];
+        }
+
         abbrev G25 : Row.Cx
-        G25 = record { locals = List._++_ t9 (List._++_ t17 t2); slots = life0 ∷ life1 ∷ life2 ∷ life3 ∷ life4 ∷ life5 ∷ life6 ∷ life7 ∷ life8 ∷
-            Row.off ∷ Row.off ∷ Row.off ∷ Row.off ∷ Row.off ∷ Row.off ∷ Row.off ∷ Row.off ∷ Row.off ∷ List.[]; }
+        G25 = record {
+          locals = List._++_ t9 (List._++_ t17 t2);
+          slots = life0 ∷ life1 ∷ life2 ∷ life3 ∷ life4 ∷ life5 ∷ life6 ∷ life7 ∷ life8 ∷ Row.off ∷ Row.off ∷ Row.off ∷
+              Row.off ∷ Row.off ∷ Row.off ∷ Row.off ∷ Row.off ∷ Row.off ∷ List.[];
+        }
+
         abbrev G26 : Row.Cx
-        G26 = record { locals = List._++_ t18 (List._++_ t16 t2); slots = life0 ∷ life1 ∷ life2 ∷ life3 ∷ life4 ∷ life5 ∷ life6 ∷ life7 ∷ life8 ∷
-            Row.off ∷ Row.off ∷ Row.off ∷ Row.off ∷ Row.off ∷ Row.off ∷ Row.off ∷ Row.off ∷ Row.off ∷ List.[]; }
+        G26 = record {
+          locals = List._++_ t18 (List._++_ t16 t2);
+          slots = life0 ∷ life1 ∷ life2 ∷ life3 ∷ life4 ∷ life5 ∷ life6 ∷ life7 ∷ life8 ∷ Row.off ∷ Row.off ∷ Row.off ∷
+              Row.off ∷ Row.off ∷ Row.off ∷ Row.off ∷ Row.off ∷ Row.off ∷ List.[];
+        }
+
         abbrev G27 : Row.Cx
-        G27 = record { locals = List._++_ t9 (List._++_ t19 t2); slots = life0 ∷ life1 ∷ life2 ∷ life3 ∷ life4 ∷ life5 ∷ life6 ∷ life7 ∷ life8 ∷
-            Row.off ∷ Row.off ∷ Row.off ∷ Row.off ∷ Row.off ∷ Row.off ∷ Row.off ∷ Row.off ∷ Row.off ∷ List.[]; }
+        G27 = record {
+          locals = List._++_ t9 (List._++_ t19 t2);
+          slots = life0 ∷ life1 ∷ life2 ∷ life3 ∷ life4 ∷ life5 ∷ life6 ∷ life7 ∷ life8 ∷ Row.off ∷ Row.off ∷ Row.off ∷
+              Row.off ∷ Row.off ∷ Row.off ∷ Row.off ∷ Row.off ∷ Row.off ∷ List.[];
+        }
+
         abbrev G28 : Row.Cx
-        G28 = record { locals = List._++_ t9 (List._++_ t1 t2); slots = life0 ∷ life1 ∷ life2 ∷ life3 ∷ life4 ∷ life5 ∷ life6 ∷ life7 ∷ life8 ∷
-            Row.off ∷ Row.off ∷ Row.off ∷ Row.off ∷ Row.off ∷ Row.off ∷ Row.off ∷ Row.off ∷ Row.off ∷ List.[]; }
+        G28 = record {
+          locals = List._++_ t9 (List._++_ t1 t2);
+          slots = life0 ∷ life1 ∷ life2 ∷ life3 ∷ life4 ∷ life5 ∷ life6 ∷ life7 ∷ life8 ∷ Row.off ∷ Row.off ∷ Row.off ∷
+              Row.off ∷ Row.off ∷ Row.off ∷ Row.off ∷ Row.off ∷ Row.off ∷ List.[];
+        }
+
         abbrev G29 : Row.Cx
-        G29 = record { locals = List._++_ t9 (List._++_ t20 t2); slots = life0 ∷ life1 ∷ life2 ∷ life3 ∷ life4 ∷ life5 ∷ life6 ∷ life7 ∷ life8 ∷
-            Row.off ∷ Row.off ∷ Row.off ∷ Row.off ∷ Row.off ∷ Row.off ∷ Row.off ∷ Row.off ∷ Row.off ∷ List.[]; }
+        G29 = record {
+          locals = List._++_ t9 (List._++_ t20 t2);
+          slots = life0 ∷ life1 ∷ life2 ∷ life3 ∷ life4 ∷ life5 ∷ life6 ∷ life7 ∷ life8 ∷ Row.off ∷ Row.off ∷ Row.off ∷
+              Row.off ∷ Row.off ∷ Row.off ∷ Row.off ∷ Row.off ∷ Row.off ∷ List.[];
+        }
+
         abbrev G30 : Row.Cx
-        G30 = record { locals = List._++_ t21 (List._++_ t20 t2); slots = life0 ∷ life1 ∷ life2 ∷ life3 ∷ life4 ∷ life5 ∷ life6 ∷ life7 ∷ life8 ∷
-            Row.off ∷ Row.off ∷ Row.off ∷ Row.off ∷ Row.off ∷ Row.off ∷ Row.off ∷ Row.off ∷ Row.off ∷ List.[]; }
+        G30 = record {
+          locals = List._++_ t21 (List._++_ t20 t2);
+          slots = life0 ∷ life1 ∷ life2 ∷ life3 ∷ life4 ∷ life5 ∷ life6 ∷ life7 ∷ life8 ∷ Row.off ∷ Row.off ∷ Row.off ∷
+              Row.off ∷ Row.off ∷ Row.off ∷ Row.off ∷ Row.off ∷ Row.off ∷ List.[];
+        }
+
         abbrev G31 : Row.Cx
-        G31 = record { locals = List._++_ t21 (List._++_ t20 t2); slots = life0 ∷ life1 ∷ life2 ∷ life3 ∷ life4 ∷ life5 ∷ life6 ∷ life7 ∷ life8 ∷
-            Row.alive ∷ Row.off ∷ Row.off ∷ Row.off ∷ Row.off ∷ Row.off ∷ Row.off ∷ Row.off ∷ Row.off ∷ List.[]; }
+        G31 = record {
+          locals = List._++_ t21 (List._++_ t20 t2);
+          slots = life0 ∷ life1 ∷ life2 ∷ life3 ∷ life4 ∷ life5 ∷ life6 ∷ life7 ∷ life8 ∷ Row.alive ∷ Row.off ∷ Row.off
+              ∷ Row.off ∷ Row.off ∷ Row.off ∷ Row.off ∷ Row.off ∷ Row.off ∷ List.[];
+        }
+
         abbrev G32 : Row.Cx
-        G32 = record { locals = List._++_ g22 (List._++_ t23 t2); slots = Row.off ∷ life1 ∷ life2 ∷ life3 ∷ life4 ∷ life5 ∷ life6 ∷ life7 ∷ life8 ∷
-            Row.alive ∷ Row.off ∷ Row.off ∷ Row.off ∷ Row.off ∷ Row.off ∷ Row.off ∷ Row.off ∷ Row.off ∷ List.[]; }
+        G32 = record {
+          locals = List._++_ g22 (List._++_ t23 t2);
+          slots = Row.off ∷ life1 ∷ life2 ∷ life3 ∷ life4 ∷ life5 ∷ life6 ∷ life7 ∷ life8 ∷ Row.alive ∷ Row.off ∷
+              Row.off ∷ Row.off ∷ Row.off ∷ Row.off ∷ Row.off ∷ Row.off ∷ Row.off ∷ List.[];
+        }
+
         abbrev G33 : Row.Cx
-        G33 = record { locals = List._++_ g22 (List._++_ t24 t2); slots = Row.off ∷ life1 ∷ life2 ∷ life3 ∷ life4 ∷ life5 ∷ life6 ∷ life7 ∷ life8 ∷
-            Row.alive ∷ Row.off ∷ Row.off ∷ Row.off ∷ Row.off ∷ Row.off ∷ Row.off ∷ Row.off ∷ Row.off ∷ List.[]; }
+        G33 = record {
+          locals = List._++_ g22 (List._++_ t24 t2);
+          slots = Row.off ∷ life1 ∷ life2 ∷ life3 ∷ life4 ∷ life5 ∷ life6 ∷ life7 ∷ life8 ∷ Row.alive ∷ Row.off ∷
+              Row.off ∷ Row.off ∷ Row.off ∷ Row.off ∷ Row.off ∷ Row.off ∷ Row.off ∷ List.[];
+        }
+
         abbrev G34 : Row.Cx
-        G34 = record { locals = List._++_ g22 (List._++_ t24 t2); slots = Row.off ∷ life1 ∷ life2 ∷ life3 ∷ life4 ∷ life5 ∷ life6 ∷ life7 ∷ life8 ∷
-            Row.alive ∷ Row.alive ∷ Row.off ∷ Row.off ∷ Row.off ∷ Row.off ∷ Row.off ∷ Row.off ∷ Row.off ∷ List.[]; }
+        G34 = record {
+          locals = List._++_ g22 (List._++_ t24 t2);
+          slots = Row.off ∷ life1 ∷ life2 ∷ life3 ∷ life4 ∷ life5 ∷ life6 ∷ life7 ∷ life8 ∷ Row.alive ∷ Row.alive ∷
+              Row.off ∷ Row.off ∷ Row.off ∷ Row.off ∷ Row.off ∷ Row.off ∷ Row.off ∷ List.[];
+        }
+
         abbrev G35 : Row.Cx
-        G35 = record { locals = List._++_ g25 (List._++_ t26 t2); slots = Row.off ∷ Row.off ∷ life2 ∷ life3 ∷ life4 ∷ life5 ∷ life6 ∷ life7 ∷ life8 ∷
-            Row.alive ∷ Row.alive ∷ Row.off ∷ Row.off ∷ Row.off ∷ Row.off ∷ Row.off ∷ Row.off ∷ Row.off ∷ List.[]; }
+        G35 = record {
+          locals = List._++_ g25 (List._++_ t26 t2);
+          slots = Row.off ∷ Row.off ∷ life2 ∷ life3 ∷ life4 ∷ life5 ∷ life6 ∷ life7 ∷ life8 ∷ Row.alive ∷ Row.alive ∷
+              Row.off ∷ Row.off ∷ Row.off ∷ Row.off ∷ Row.off ∷ Row.off ∷ Row.off ∷ List.[];
+        }
+
         abbrev G36 : Row.Cx
-        G36 = record { locals = List._++_ g25 (List._++_ t27 t2); slots = Row.off ∷ Row.off ∷ life2 ∷ life3 ∷ life4 ∷ life5 ∷ life6 ∷ life7 ∷ life8 ∷
-            Row.alive ∷ Row.alive ∷ Row.off ∷ Row.off ∷ Row.off ∷ Row.off ∷ Row.off ∷ Row.off ∷ Row.off ∷ List.[]; }
+        G36 = record {
+          locals = List._++_ g25 (List._++_ t27 t2);
+          slots = Row.off ∷ Row.off ∷ life2 ∷ life3 ∷ life4 ∷ life5 ∷ life6 ∷ life7 ∷ life8 ∷ Row.alive ∷ Row.alive ∷
+              Row.off ∷ Row.off ∷ Row.off ∷ Row.off ∷ Row.off ∷ Row.off ∷ Row.off ∷ List.[];
+        }
+
         abbrev G37 : Row.Cx
-        G37 = record { locals = List._++_ g25 (List._++_ t27 t2); slots = Row.off ∷ Row.off ∷ life2 ∷ life3 ∷ life4 ∷ life5 ∷ life6 ∷ life7 ∷ life8 ∷
-            Row.alive ∷ Row.alive ∷ Row.alive ∷ Row.off ∷ Row.off ∷ Row.off ∷ Row.off ∷ Row.off ∷ Row.off ∷ List.[]; }
+        G37 = record {
+          locals = List._++_ g25 (List._++_ t27 t2);
+          slots = Row.off ∷ Row.off ∷ life2 ∷ life3 ∷ life4 ∷ life5 ∷ life6 ∷ life7 ∷ life8 ∷ Row.alive ∷ Row.alive ∷
+              Row.alive ∷ Row.off ∷ Row.off ∷ Row.off ∷ Row.off ∷ Row.off ∷ Row.off ∷ List.[];
+        }
+
         abbrev G38 : Row.Cx
-        G38 = record { locals = List._++_ g28 (List._++_ t29 t2); slots = Row.off ∷ Row.off ∷ Row.off ∷ life3 ∷ life4 ∷ life5 ∷ life6 ∷ life7 ∷ life8
-            ∷ Row.alive ∷ Row.alive ∷ Row.alive ∷ Row.off ∷ Row.off ∷ Row.off ∷ Row.off ∷ Row.off ∷ Row.off ∷ List.[]; }
+        G38 = record {
+          locals = List._++_ g28 (List._++_ t29 t2);
+          slots = Row.off ∷ Row.off ∷ Row.off ∷ life3 ∷ life4 ∷ life5 ∷ life6 ∷ life7 ∷ life8 ∷ Row.alive ∷ Row.alive ∷
+              Row.alive ∷ Row.off ∷ Row.off ∷ Row.off ∷ Row.off ∷ Row.off ∷ Row.off ∷ List.[];
+        }
+
         abbrev G39 : Row.Cx
-        G39 = record { locals = List._++_ g28 (List._++_ t30 t2); slots = Row.off ∷ Row.off ∷ Row.off ∷ life3 ∷ life4 ∷ life5 ∷ life6 ∷ life7 ∷ life8
-            ∷ Row.alive ∷ Row.alive ∷ Row.alive ∷ Row.off ∷ Row.off ∷ Row.off ∷ Row.off ∷ Row.off ∷ Row.off ∷ List.[]; }
+        G39 = record {
+          locals = List._++_ g28 (List._++_ t30 t2);
+          slots = Row.off ∷ Row.off ∷ Row.off ∷ life3 ∷ life4 ∷ life5 ∷ life6 ∷ life7 ∷ life8 ∷ Row.alive ∷ Row.alive ∷
+              Row.alive ∷ Row.off ∷ Row.off ∷ Row.off ∷ Row.off ∷ Row.off ∷ Row.off ∷ List.[];
+        }
+
         abbrev G40 : Row.Cx
-        G40 = record { locals = List._++_ g28 (List._++_ t30 t2); slots = Row.off ∷ Row.off ∷ Row.off ∷ life3 ∷ life4 ∷ life5 ∷ life6 ∷ life7 ∷ life8
-            ∷ Row.alive ∷ Row.alive ∷ Row.alive ∷ Row.alive ∷ Row.off ∷ Row.off ∷ Row.off ∷ Row.off ∷ Row.off ∷ List.[]; }
+        G40 = record {
+          locals = List._++_ g28 (List._++_ t30 t2);
+          slots = Row.off ∷ Row.off ∷ Row.off ∷ life3 ∷ life4 ∷ life5 ∷ life6 ∷ life7 ∷ life8 ∷ Row.alive ∷ Row.alive ∷
+              Row.alive ∷ Row.alive ∷ Row.off ∷ Row.off ∷ Row.off ∷ Row.off ∷ Row.off ∷ List.[];
+        }
+
         abbrev G41 : Row.Cx
-        G41 = record { locals = List._++_ g31 (List._++_ t32 t2); slots = Row.off ∷ Row.off ∷ Row.off ∷ Row.off ∷ life4 ∷ life5 ∷ life6 ∷ life7 ∷
-            life8 ∷ Row.alive ∷ Row.alive ∷ Row.alive ∷ Row.alive ∷ Row.off ∷ Row.off ∷ Row.off ∷ Row.off ∷ Row.off ∷ List.[]; }
+        G41 = record {
+          locals = List._++_ g31 (List._++_ t32 t2);
+          slots = Row.off ∷ Row.off ∷ Row.off ∷ Row.off ∷ life4 ∷ life5 ∷ life6 ∷ life7 ∷ life8 ∷ Row.alive ∷ Row.alive
+              ∷ Row.alive ∷ Row.alive ∷ Row.off ∷ Row.off ∷ Row.off ∷ Row.off ∷ Row.off ∷ List.[];
+        }
+
         abbrev G42 : Row.Cx
-        G42 = record { locals = List._++_ g31 (List._++_ t33 t2); slots = Row.off ∷ Row.off ∷ Row.off ∷ Row.off ∷ life4 ∷ life5 ∷ life6 ∷ life7 ∷
-            life8 ∷ Row.alive ∷ Row.alive ∷ Row.alive ∷ Row.alive ∷ Row.off ∷ Row.off ∷ Row.off ∷ Row.off ∷ Row.off ∷ List.[]; }
+        G42 = record {
+          locals = List._++_ g31 (List._++_ t33 t2);
+          slots = Row.off ∷ Row.off ∷ Row.off ∷ Row.off ∷ life4 ∷ life5 ∷ life6 ∷ life7 ∷ life8 ∷ Row.alive ∷ Row.alive
+              ∷ Row.alive ∷ Row.alive ∷ Row.off ∷ Row.off ∷ Row.off ∷ Row.off ∷ Row.off ∷ List.[];
+        }
+
         abbrev G43 : Row.Cx
-        G43 = record { locals = List._++_ g31 (List._++_ t34 t2); slots = Row.off ∷ Row.off ∷ Row.off ∷ Row.off ∷ life4 ∷ life5 ∷ life6 ∷ life7 ∷
-            life8 ∷ Row.alive ∷ Row.alive ∷ Row.alive ∷ Row.alive ∷ Row.off ∷ Row.off ∷ Row.off ∷ Row.off ∷ Row.off ∷ List.[]; }
+        G43 = record {
+          locals = List._++_ g31 (List._++_ t34 t2);
+          slots = Row.off ∷ Row.off ∷ Row.off ∷ Row.off ∷ life4 ∷ life5 ∷ life6 ∷ life7 ∷ life8 ∷ Row.alive ∷ Row.alive
+              ∷ Row.alive ∷ Row.alive ∷ Row.off ∷ Row.off ∷ Row.off ∷ Row.off ∷ Row.off ∷ List.[];
+        }
+
         abbrev G44 : Row.Cx
-        G44 = record { locals = List._++_ g31 (List._++_ t35 t2); slots = Row.off ∷ Row.off ∷ Row.off ∷ Row.off ∷ life4 ∷ life5 ∷ life6 ∷ life7 ∷
-            life8 ∷ Row.alive ∷ Row.alive ∷ Row.alive ∷ Row.alive ∷ Row.off ∷ Row.off ∷ Row.off ∷ Row.off ∷ Row.off ∷ List.[]; }
+        G44 = record {
+          locals = List._++_ g31 (List._++_ t35 t2);
+          slots = Row.off ∷ Row.off ∷ Row.off ∷ Row.off ∷ life4 ∷ life5 ∷ life6 ∷ life7 ∷ life8 ∷ Row.alive ∷ Row.alive
+              ∷ Row.alive ∷ Row.alive ∷ Row.off ∷ Row.off ∷ Row.off ∷ Row.off ∷ Row.off ∷ List.[];
+        }
+
         abbrev G45 : Row.Cx
-        G45 = record { locals = List._++_ g31 (List._++_ t36 t2); slots = Row.off ∷ Row.off ∷ Row.off ∷ Row.off ∷ life4 ∷ life5 ∷ life6 ∷ life7 ∷
-            life8 ∷ Row.alive ∷ Row.alive ∷ Row.alive ∷ Row.alive ∷ Row.off ∷ Row.off ∷ Row.off ∷ Row.off ∷ Row.off ∷ List.[]; }
+        G45 = record {
+          locals = List._++_ g31 (List._++_ t36 t2);
+          slots = Row.off ∷ Row.off ∷ Row.off ∷ Row.off ∷ life4 ∷ life5 ∷ life6 ∷ life7 ∷ life8 ∷ Row.alive ∷ Row.alive
+              ∷ Row.alive ∷ Row.alive ∷ Row.off ∷ Row.off ∷ Row.off ∷ Row.off ∷ Row.off ∷ List.[];
+        }
+
         abbrev G46 : Row.Cx
-        G46 = record { locals = List._++_ g31 (List._++_ t37 t2); slots = Row.off ∷ Row.off ∷ Row.off ∷ Row.off ∷ life4 ∷ life5 ∷ life6 ∷ life7 ∷
-            life8 ∷ Row.alive ∷ Row.alive ∷ Row.alive ∷ Row.alive ∷ Row.off ∷ Row.off ∷ Row.off ∷ Row.off ∷ Row.off ∷ List.[]; }
+        G46 = record {
+          locals = List._++_ g31 (List._++_ t37 t2);
+          slots = Row.off ∷ Row.off ∷ Row.off ∷ Row.off ∷ life4 ∷ life5 ∷ life6 ∷ life7 ∷ life8 ∷ Row.alive ∷ Row.alive
+              ∷ Row.alive ∷ Row.alive ∷ Row.off ∷ Row.off ∷ Row.off ∷ Row.off ∷ Row.off ∷ List.[];
+        }
+
         abbrev G47 : Row.Cx
-        G47 = record { locals = List._++_ g31 (List._++_ t38 t2); slots = Row.off ∷ Row.off ∷ Row.off ∷ Row.off ∷ life4 ∷ life5 ∷ life6 ∷ life7 ∷
-            life8 ∷ Row.alive ∷ Row.alive ∷ Row.alive ∷ Row.alive ∷ Row.off ∷ Row.off ∷ Row.off ∷ Row.off ∷ Row.off ∷ List.[]; }
+        G47 = record {
+          locals = List._++_ g31 (List._++_ t38 t2);
+          slots = Row.off ∷ Row.off ∷ Row.off ∷ Row.off ∷ life4 ∷ life5 ∷ life6 ∷ life7 ∷ life8 ∷ Row.alive ∷ Row.alive
+              ∷ Row.alive ∷ Row.alive ∷ Row.off ∷ Row.off ∷ Row.off ∷ Row.off ∷ Row.off ∷ List.[];
+        }
+
         abbrev G48 : Row.Cx
-        G48 = record { locals = List._++_ g39 (List._++_ t38 t2); slots = Row.off ∷ Row.off ∷ Row.off ∷ Row.off ∷ life4 ∷ life5 ∷ life6 ∷ life7 ∷
-            life8 ∷ Row.alive ∷ Row.alive ∷ Row.alive ∷ Row.alive ∷ Row.off ∷ Row.off ∷ Row.off ∷ Row.off ∷ Row.off ∷ List.[]; }
+        G48 = record {
+          locals = List._++_ g39 (List._++_ t38 t2);
+          slots = Row.off ∷ Row.off ∷ Row.off ∷ Row.off ∷ life4 ∷ life5 ∷ life6 ∷ life7 ∷ life8 ∷ Row.alive ∷ Row.alive
+              ∷ Row.alive ∷ Row.alive ∷ Row.off ∷ Row.off ∷ Row.off ∷ Row.off ∷ Row.off ∷ List.[];
+        }
+
         abbrev G49 : Row.Cx
-        G49 = record { locals = List._++_ g39 (List._++_ t38 t2); slots = Row.off ∷ Row.off ∷ Row.off ∷ Row.off ∷ life4 ∷ life5 ∷ life6 ∷ life7 ∷
-            life8 ∷ Row.dead ∷ Row.alive ∷ Row.alive ∷ Row.alive ∷ Row.off ∷ Row.off ∷ Row.off ∷ Row.off ∷ Row.off ∷ List.[]; }
+        G49 = record {
+          locals = List._++_ g39 (List._++_ t38 t2);
+          slots = Row.off ∷ Row.off ∷ Row.off ∷ Row.off ∷ life4 ∷ life5 ∷ life6 ∷ life7 ∷ life8 ∷ Row.dead ∷ Row.alive
+              ∷ Row.alive ∷ Row.alive ∷ Row.off ∷ Row.off ∷ Row.off ∷ Row.off ∷ Row.off ∷ List.[];
+        }
+
         abbrev G50 : Row.Cx
-        G50 = record { locals = List._++_ g40 (List._++_ t38 t2); slots = life0 ∷ Row.off ∷ Row.off ∷ Row.off ∷ life4 ∷ life5 ∷ life6 ∷ life7 ∷ life8
-            ∷ Row.dead ∷ Row.alive ∷ Row.alive ∷ Row.alive ∷ Row.off ∷ Row.off ∷ Row.off ∷ Row.off ∷ Row.off ∷ List.[]; }
+        G50 = record {
+          locals = List._++_ g40 (List._++_ t38 t2);
+          slots = life0 ∷ Row.off ∷ Row.off ∷ Row.off ∷ life4 ∷ life5 ∷ life6 ∷ life7 ∷ life8 ∷ Row.dead ∷ Row.alive ∷
+              Row.alive ∷ Row.alive ∷ Row.off ∷ Row.off ∷ Row.off ∷ Row.off ∷ Row.off ∷ List.[];
+        }
+
         abbrev G51 : Row.Cx
-        G51 = record { locals = List._++_ g40 (List._++_ t38 t2); slots = life0 ∷ Row.off ∷ Row.off ∷ Row.off ∷ life4 ∷ life5 ∷ life6 ∷ life7 ∷ life8
-            ∷ Row.off ∷ Row.alive ∷ Row.alive ∷ Row.alive ∷ Row.off ∷ Row.off ∷ Row.off ∷ Row.off ∷ Row.off ∷ List.[]; }
+        G51 = record {
+          locals = List._++_ g40 (List._++_ t38 t2);
+          slots = life0 ∷ Row.off ∷ Row.off ∷ Row.off ∷ life4 ∷ life5 ∷ life6 ∷ life7 ∷ life8 ∷ Row.off ∷ Row.alive ∷
+              Row.alive ∷ Row.alive ∷ Row.off ∷ Row.off ∷ Row.off ∷ Row.off ∷ Row.off ∷ List.[];
+        }
+
         abbrev G52 : Row.Cx
-        G52 = record { locals = List._++_ g40 (List._++_ t38 t2); slots = life0 ∷ Row.off ∷ Row.off ∷ Row.off ∷ life4 ∷ life5 ∷ life6 ∷ life7 ∷ life8
-            ∷ Row.off ∷ Row.dead ∷ Row.alive ∷ Row.alive ∷ Row.off ∷ Row.off ∷ Row.off ∷ Row.off ∷ Row.off ∷ List.[]; }
+        G52 = record {
+          locals = List._++_ g40 (List._++_ t38 t2);
+          slots = life0 ∷ Row.off ∷ Row.off ∷ Row.off ∷ life4 ∷ life5 ∷ life6 ∷ life7 ∷ life8 ∷ Row.off ∷ Row.dead ∷
+              Row.alive ∷ Row.alive ∷ Row.off ∷ Row.off ∷ Row.off ∷ Row.off ∷ Row.off ∷ List.[];
+        }
+
         abbrev G53 : Row.Cx
-        G53 = record { locals = List._++_ g41 (List._++_ t38 t2); slots = life0 ∷ life1 ∷ Row.off ∷ Row.off ∷ life4 ∷ life5 ∷ life6 ∷ life7 ∷ life8 ∷
-            Row.off ∷ Row.dead ∷ Row.alive ∷ Row.alive ∷ Row.off ∷ Row.off ∷ Row.off ∷ Row.off ∷ Row.off ∷ List.[]; }
+        G53 = record {
+          locals = List._++_ g41 (List._++_ t38 t2);
+          slots = life0 ∷ life1 ∷ Row.off ∷ Row.off ∷ life4 ∷ life5 ∷ life6 ∷ life7 ∷ life8 ∷ Row.off ∷ Row.dead ∷
+              Row.alive ∷ Row.alive ∷ Row.off ∷ Row.off ∷ Row.off ∷ Row.off ∷ Row.off ∷ List.[];
+        }
+
         abbrev G54 : Row.Cx
-        G54 = record { locals = List._++_ g41 (List._++_ t38 t2); slots = life0 ∷ life1 ∷ Row.off ∷ Row.off ∷ life4 ∷ life5 ∷ life6 ∷ life7 ∷ life8 ∷
-            Row.off ∷ Row.off ∷ Row.alive ∷ Row.alive ∷ Row.off ∷ Row.off ∷ Row.off ∷ Row.off ∷ Row.off ∷ List.[]; }
+        G54 = record {
+          locals = List._++_ g41 (List._++_ t38 t2);
+          slots = life0 ∷ life1 ∷ Row.off ∷ Row.off ∷ life4 ∷ life5 ∷ life6 ∷ life7 ∷ life8 ∷ Row.off ∷ Row.off ∷
+              Row.alive ∷ Row.alive ∷ Row.off ∷ Row.off ∷ Row.off ∷ Row.off ∷ Row.off ∷ List.[];
+        }
+
         abbrev G55 : Row.Cx
-        G55 = record { locals = List._++_ g41 (List._++_ t38 t2); slots = life0 ∷ life1 ∷ Row.off ∷ Row.off ∷ life4 ∷ life5 ∷ life6 ∷ life7 ∷ life8 ∷
-            Row.off ∷ Row.off ∷ Row.dead ∷ Row.alive ∷ Row.off ∷ Row.off ∷ Row.off ∷ Row.off ∷ Row.off ∷ List.[]; }
+        G55 = record {
+          locals = List._++_ g41 (List._++_ t38 t2);
+          slots = life0 ∷ life1 ∷ Row.off ∷ Row.off ∷ life4 ∷ life5 ∷ life6 ∷ life7 ∷ life8 ∷ Row.off ∷ Row.off ∷
+              Row.dead ∷ Row.alive ∷ Row.off ∷ Row.off ∷ Row.off ∷ Row.off ∷ Row.off ∷ List.[];
+        }
+
         abbrev G56 : Row.Cx
-        G56 = record { locals = List._++_ g42 (List._++_ t38 t2); slots = life0 ∷ life1 ∷ life2 ∷ Row.off ∷ life4 ∷ life5 ∷ life6 ∷ life7 ∷ life8 ∷
-            Row.off ∷ Row.off ∷ Row.dead ∷ Row.alive ∷ Row.off ∷ Row.off ∷ Row.off ∷ Row.off ∷ Row.off ∷ List.[]; }
+        G56 = record {
+          locals = List._++_ g42 (List._++_ t38 t2);
+          slots = life0 ∷ life1 ∷ life2 ∷ Row.off ∷ life4 ∷ life5 ∷ life6 ∷ life7 ∷ life8 ∷ Row.off ∷ Row.off ∷
+              Row.dead ∷ Row.alive ∷ Row.off ∷ Row.off ∷ Row.off ∷ Row.off ∷ Row.off ∷ List.[];
+        }
+
         abbrev G57 : Row.Cx
-        G57 = record { locals = List._++_ g42 (List._++_ t38 t2); slots = life0 ∷ life1 ∷ life2 ∷ Row.off ∷ life4 ∷ life5 ∷ life6 ∷ life7 ∷ life8 ∷
-            Row.off ∷ Row.off ∷ Row.off ∷ Row.alive ∷ Row.off ∷ Row.off ∷ Row.off ∷ Row.off ∷ Row.off ∷ List.[]; }
+        G57 = record {
+          locals = List._++_ g42 (List._++_ t38 t2);
+          slots = life0 ∷ life1 ∷ life2 ∷ Row.off ∷ life4 ∷ life5 ∷ life6 ∷ life7 ∷ life8 ∷ Row.off ∷ Row.off ∷ Row.off
+              ∷ Row.alive ∷ Row.off ∷ Row.off ∷ Row.off ∷ Row.off ∷ Row.off ∷ List.[];
+        }
+
         abbrev G58 : Row.Cx
-        G58 = record { locals = List._++_ g42 (List._++_ t38 t2); slots = life0 ∷ life1 ∷ life2 ∷ Row.off ∷ life4 ∷ life5 ∷ life6 ∷ life7 ∷ life8 ∷
-            Row.off ∷ Row.off ∷ Row.off ∷ Row.dead ∷ Row.off ∷ Row.off ∷ Row.off ∷ Row.off ∷ Row.off ∷ List.[]; }
+        G58 = record {
+          locals = List._++_ g42 (List._++_ t38 t2);
+          slots = life0 ∷ life1 ∷ life2 ∷ Row.off ∷ life4 ∷ life5 ∷ life6 ∷ life7 ∷ life8 ∷ Row.off ∷ Row.off ∷ Row.off
+              ∷ Row.dead ∷ Row.off ∷ Row.off ∷ Row.off ∷ Row.off ∷ Row.off ∷ List.[];
+        }
+
         abbrev G59 : Row.Cx
-        G59 = record { locals = List._++_ t43 (List._++_ t38 t2); slots = life0 ∷ life1 ∷ life2 ∷ life3 ∷ life4 ∷ life5 ∷ life6 ∷ life7 ∷ life8 ∷
-            Row.off ∷ Row.off ∷ Row.off ∷ Row.dead ∷ Row.off ∷ Row.off ∷ Row.off ∷ Row.off ∷ Row.off ∷ List.[]; }
+        G59 = record {
+          locals = List._++_ t43 (List._++_ t38 t2);
+          slots = life0 ∷ life1 ∷ life2 ∷ life3 ∷ life4 ∷ life5 ∷ life6 ∷ life7 ∷ life8 ∷ Row.off ∷ Row.off ∷ Row.off ∷
+              Row.dead ∷ Row.off ∷ Row.off ∷ Row.off ∷ Row.off ∷ Row.off ∷ List.[];
+        }
+
         abbrev G60 : Row.Cx
-        G60 = record { locals = List._++_ t43 (List._++_ t38 t2); slots = life0 ∷ life1 ∷ life2 ∷ life3 ∷ life4 ∷ life5 ∷ life6 ∷ life7 ∷ life8 ∷
-            Row.off ∷ Row.off ∷ Row.off ∷ Row.off ∷ Row.off ∷ Row.off ∷ Row.off ∷ Row.off ∷ Row.off ∷ List.[]; }
+        G60 = record {
+          locals = List._++_ t43 (List._++_ t38 t2);
+          slots = life0 ∷ life1 ∷ life2 ∷ life3 ∷ life4 ∷ life5 ∷ life6 ∷ life7 ∷ life8 ∷ Row.off ∷ Row.off ∷ Row.off ∷
+              Row.off ∷ Row.off ∷ Row.off ∷ Row.off ∷ Row.off ∷ Row.off ∷ List.[];
+        }
+
         abbrev G61 : Row.Cx
-        G61 = record { locals = List._++_ t43 (List._++_ t38 t2); slots = life0 ∷ life1 ∷ life2 ∷ life3 ∷ life4 ∷ life5 ∷ life6 ∷ life7 ∷ life8 ∷
-            Row.off ∷ Row.off ∷ Row.off ∷ Row.off ∷ Row.alive ∷ Row.off ∷ Row.off ∷ Row.off ∷ Row.off ∷ List.[]; }
+        G61 = record {
+          locals = List._++_ t43 (List._++_ t38 t2);
+          slots = life0 ∷ life1 ∷ life2 ∷ life3 ∷ life4 ∷ life5 ∷ life6 ∷ life7 ∷ life8 ∷ Row.off ∷ Row.off ∷ Row.off ∷
+              Row.off ∷ Row.alive ∷ Row.off ∷ Row.off ∷ Row.off ∷ Row.off ∷ List.[];
+        }
+
         abbrev G62 : Row.Cx
-        G62 = record { locals = List._++_ g44 (List._++_ t45 t2); slots = Row.off ∷ life1 ∷ life2 ∷ life3 ∷ life4 ∷ life5 ∷ life6 ∷ life7 ∷ life8 ∷
-            Row.off ∷ Row.off ∷ Row.off ∷ Row.off ∷ Row.alive ∷ Row.off ∷ Row.off ∷ Row.off ∷ Row.off ∷ List.[]; }
+        G62 = record {
+          locals = List._++_ g44 (List._++_ t45 t2);
+          slots = Row.off ∷ life1 ∷ life2 ∷ life3 ∷ life4 ∷ life5 ∷ life6 ∷ life7 ∷ life8 ∷ Row.off ∷ Row.off ∷ Row.off
+              ∷ Row.off ∷ Row.alive ∷ Row.off ∷ Row.off ∷ Row.off ∷ Row.off ∷ List.[];
+        }
+
         abbrev G63 : Row.Cx
-        G63 = record { locals = List._++_ g44 (List._++_ t38 t46); slots = Row.off ∷ life1 ∷ life2 ∷ life3 ∷ life4 ∷ life5 ∷ life6 ∷ life7 ∷ life8 ∷
-            Row.off ∷ Row.off ∷ Row.off ∷ Row.off ∷ Row.alive ∷ Row.off ∷ Row.off ∷ Row.off ∷ Row.off ∷ List.[]; }
+        G63 = record {
+          locals = List._++_ g44 (List._++_ t38 t46);
+          slots = Row.off ∷ life1 ∷ life2 ∷ life3 ∷ life4 ∷ life5 ∷ life6 ∷ life7 ∷ life8 ∷ Row.off ∷ Row.off ∷ Row.off
+              ∷ Row.off ∷ Row.alive ∷ Row.off ∷ Row.off ∷ Row.off ∷ Row.off ∷ List.[];
+        }
+
         abbrev G64 : Row.Cx
-        G64 = record { locals = List._++_ g44 (List._++_ t38 t46); slots = Row.off ∷ life1 ∷ life2 ∷ life3 ∷ life4 ∷ life5 ∷ life6 ∷ life7 ∷ life8 ∷
-            Row.off ∷ Row.off ∷ Row.off ∷ Row.off ∷ Row.alive ∷ Row.alive ∷ Row.off ∷ Row.off ∷ Row.off ∷ List.[]; }
+        G64 = record {
+          locals = List._++_ g44 (List._++_ t38 t46);
+          slots = Row.off ∷ life1 ∷ life2 ∷ life3 ∷ life4 ∷ life5 ∷ life6 ∷ life7 ∷ life8 ∷ Row.off ∷ Row.off ∷ Row.off
+              ∷ Row.off ∷ Row.alive ∷ Row.alive ∷ Row.off ∷ Row.off ∷ Row.off ∷ List.[];
+        }
+
         abbrev G65 : Row.Cx
-        G65 = record { locals = List._++_ g47 (List._++_ t38 t48); slots = Row.off ∷ Row.off ∷ life2 ∷ life3 ∷ life4 ∷ life5 ∷ life6 ∷ life7 ∷ life8 ∷
-            Row.off ∷ Row.off ∷ Row.off ∷ Row.off ∷ Row.alive ∷ Row.alive ∷ Row.off ∷ Row.off ∷ Row.off ∷ List.[]; }
+        G65 = record {
+          locals = List._++_ g47 (List._++_ t38 t48);
+          slots = Row.off ∷ Row.off ∷ life2 ∷ life3 ∷ life4 ∷ life5 ∷ life6 ∷ life7 ∷ life8 ∷ Row.off ∷ Row.off ∷
+              Row.off ∷ Row.off ∷ Row.alive ∷ Row.alive ∷ Row.off ∷ Row.off ∷ Row.off ∷ List.[];
+        }
+
         abbrev G66 : Row.Cx
-        G66 = record { locals = List._++_ g47 (List._++_ t38 t49); slots = Row.off ∷ Row.off ∷ life2 ∷ life3 ∷ life4 ∷ life5 ∷ life6 ∷ life7 ∷ life8 ∷
-            Row.off ∷ Row.off ∷ Row.off ∷ Row.off ∷ Row.alive ∷ Row.alive ∷ Row.off ∷ Row.off ∷ Row.off ∷ List.[]; }
+        G66 = record {
+          locals = List._++_ g47 (List._++_ t38 t49);
+          slots = Row.off ∷ Row.off ∷ life2 ∷ life3 ∷ life4 ∷ life5 ∷ life6 ∷ life7 ∷ life8 ∷ Row.off ∷ Row.off ∷
+              Row.off ∷ Row.off ∷ Row.alive ∷ Row.alive ∷ Row.off ∷ Row.off ∷ Row.off ∷ List.[];
+        }
+
         abbrev G67 : Row.Cx
-        G67 = record { locals = List._++_ g47 (List._++_ t38 t49); slots = Row.off ∷ Row.off ∷ life2 ∷ life3 ∷ life4 ∷ life5 ∷ life6 ∷ life7 ∷ life8 ∷
-            Row.off ∷ Row.off ∷ Row.off ∷ Row.off ∷ Row.alive ∷ Row.alive ∷ Row.alive ∷ Row.off ∷ Row.off ∷ List.[]; }
+        G67 = record {
+          locals = List._++_ g47 (List._++_ t38 t49);
+          slots = Row.off ∷ Row.off ∷ life2 ∷ life3 ∷ life4 ∷ life5 ∷ life6 ∷ life7 ∷ life8 ∷ Row.off ∷ Row.off ∷
+              Row.off ∷ Row.off ∷ Row.alive ∷ Row.alive ∷ Row.alive ∷ Row.off ∷ Row.off ∷ List.[];
+        }
+
         abbrev G68 : Row.Cx
-        G68 = record { locals = List._++_ g50 (List._++_ t38 t51); slots = Row.off ∷ Row.off ∷ Row.off ∷ life3 ∷ life4 ∷ life5 ∷ life6 ∷ life7 ∷ life8
-            ∷ Row.off ∷ Row.off ∷ Row.off ∷ Row.off ∷ Row.alive ∷ Row.alive ∷ Row.alive ∷ Row.off ∷ Row.off ∷ List.[]; }
+        G68 = record {
+          locals = List._++_ g50 (List._++_ t38 t51);
+          slots = Row.off ∷ Row.off ∷ Row.off ∷ life3 ∷ life4 ∷ life5 ∷ life6 ∷ life7 ∷ life8 ∷ Row.off ∷ Row.off ∷
+              Row.off ∷ Row.off ∷ Row.alive ∷ Row.alive ∷ Row.alive ∷ Row.off ∷ Row.off ∷ List.[];
+        }
+
         abbrev G69 : Row.Cx
-        G69 = record { locals = List._++_ g50 (List._++_ t38 t52); slots = Row.off ∷ Row.off ∷ Row.off ∷ life3 ∷ life4 ∷ life5 ∷ life6 ∷ life7 ∷ life8
-            ∷ Row.off ∷ Row.off ∷ Row.off ∷ Row.off ∷ Row.alive ∷ Row.alive ∷ Row.alive ∷ Row.off ∷ Row.off ∷ List.[]; }
+        G69 = record {
+          locals = List._++_ g50 (List._++_ t38 t52);
+          slots = Row.off ∷ Row.off ∷ Row.off ∷ life3 ∷ life4 ∷ life5 ∷ life6 ∷ life7 ∷ life8 ∷ Row.off ∷ Row.off ∷
+              Row.off ∷ Row.off ∷ Row.alive ∷ Row.alive ∷ Row.alive ∷ Row.off ∷ Row.off ∷ List.[];
+        }
+
         abbrev G70 : Row.Cx
-        G70 = record { locals = List._++_ g50 (List._++_ t38 t52); slots = Row.off ∷ Row.off ∷ Row.off ∷ life3 ∷ life4 ∷ life5 ∷ life6 ∷ life7 ∷ life8
-            ∷ Row.off ∷ Row.off ∷ Row.off ∷ Row.off ∷ Row.alive ∷ Row.alive ∷ Row.alive ∷ Row.alive ∷ Row.off ∷ List.[]; }
+        G70 = record {
+          locals = List._++_ g50 (List._++_ t38 t52);
+          slots = Row.off ∷ Row.off ∷ Row.off ∷ life3 ∷ life4 ∷ life5 ∷ life6 ∷ life7 ∷ life8 ∷ Row.off ∷ Row.off ∷
+              Row.off ∷ Row.off ∷ Row.alive ∷ Row.alive ∷ Row.alive ∷ Row.alive ∷ Row.off ∷ List.[];
+        }
+
         abbrev G71 : Row.Cx
-        G71 = record { locals = List._++_ g53 (List._++_ t38 t54); slots = Row.off ∷ Row.off ∷ Row.off ∷ Row.off ∷ life4 ∷ life5 ∷ life6 ∷ life7 ∷
-            life8 ∷ Row.off ∷ Row.off ∷ Row.off ∷ Row.off ∷ Row.alive ∷ Row.alive ∷ Row.alive ∷ Row.alive ∷ Row.off ∷ List.[]; }
+        G71 = record {
+          locals = List._++_ g53 (List._++_ t38 t54);
+          slots = Row.off ∷ Row.off ∷ Row.off ∷ Row.off ∷ life4 ∷ life5 ∷ life6 ∷ life7 ∷ life8 ∷ Row.off ∷ Row.off ∷
+              Row.off ∷ Row.off ∷ Row.alive ∷ Row.alive ∷ Row.alive ∷ Row.alive ∷ Row.off ∷ List.[];
+        }
+
         abbrev G72 : Row.Cx
-        G72 = record { locals = List._++_ g53 (List._++_ t38 t55); slots = Row.off ∷ Row.off ∷ Row.off ∷ Row.off ∷ life4 ∷ life5 ∷ life6 ∷ life7 ∷
-            life8 ∷ Row.off ∷ Row.off ∷ Row.off ∷ Row.off ∷ Row.alive ∷ Row.alive ∷ Row.alive ∷ Row.alive ∷ Row.off ∷ List.[]; }
+        G72 = record {
+          locals = List._++_ g53 (List._++_ t38 t55);
+          slots = Row.off ∷ Row.off ∷ Row.off ∷ Row.off ∷ life4 ∷ life5 ∷ life6 ∷ life7 ∷ life8 ∷ Row.off ∷ Row.off ∷
+              Row.off ∷ Row.off ∷ Row.alive ∷ Row.alive ∷ Row.alive ∷ Row.alive ∷ Row.off ∷ List.[];
+        }
+
         abbrev G73 : Row.Cx
-        G73 = record { locals = List._++_ g53 (List._++_ t38 t55); slots = Row.off ∷ Row.off ∷ Row.off ∷ Row.off ∷ life4 ∷ life5 ∷ life6 ∷ life7 ∷
-            life8 ∷ Row.off ∷ Row.off ∷ Row.off ∷ Row.off ∷ Row.alive ∷ Row.alive ∷ Row.alive ∷ Row.alive ∷ Row.alive ∷ List.[]; }
+        G73 = record {
+          locals = List._++_ g53 (List._++_ t38 t55);
+          slots = Row.off ∷ Row.off ∷ Row.off ∷ Row.off ∷ life4 ∷ life5 ∷ life6 ∷ life7 ∷ life8 ∷ Row.off ∷ Row.off ∷
+              Row.off ∷ Row.off ∷ Row.alive ∷ Row.alive ∷ Row.alive ∷ Row.alive ∷ Row.alive ∷ List.[];
+        }
+
         abbrev G74 : Row.Cx
-        G74 = record { locals = List._++_ g56 (List._++_ t38 t57); slots = Row.off ∷ Row.off ∷ Row.off ∷ Row.off ∷ Row.off ∷ life5 ∷ life6 ∷ life7 ∷
-            life8 ∷ Row.off ∷ Row.off ∷ Row.off ∷ Row.off ∷ Row.alive ∷ Row.alive ∷ Row.alive ∷ Row.alive ∷ Row.alive ∷ List.[]; }
+        G74 = record {
+          locals = List._++_ g56 (List._++_ t38 t57);
+          slots = Row.off ∷ Row.off ∷ Row.off ∷ Row.off ∷ Row.off ∷ life5 ∷ life6 ∷ life7 ∷ life8 ∷ Row.off ∷ Row.off ∷
+              Row.off ∷ Row.off ∷ Row.alive ∷ Row.alive ∷ Row.alive ∷ Row.alive ∷ Row.alive ∷ List.[];
+        }
+
         abbrev G75 : Row.Cx
-        G75 = record { locals = List._++_ g56 (List._++_ t38 t58); slots = Row.off ∷ Row.off ∷ Row.off ∷ Row.off ∷ Row.off ∷ life5 ∷ life6 ∷ life7 ∷
-            life8 ∷ Row.off ∷ Row.off ∷ Row.off ∷ Row.off ∷ Row.alive ∷ Row.alive ∷ Row.alive ∷ Row.alive ∷ Row.alive ∷ List.[]; }
+        G75 = record {
+          locals = List._++_ g56 (List._++_ t38 t58);
+          slots = Row.off ∷ Row.off ∷ Row.off ∷ Row.off ∷ Row.off ∷ life5 ∷ life6 ∷ life7 ∷ life8 ∷ Row.off ∷ Row.off ∷
+              Row.off ∷ Row.off ∷ Row.alive ∷ Row.alive ∷ Row.alive ∷ Row.alive ∷ Row.alive ∷ List.[];
+        }
+
         abbrev G76 : Row.Cx
-        G76 = record { locals = List._++_ g59 (List._++_ t38 t60); slots = Row.off ∷ Row.off ∷ Row.off ∷ Row.off ∷ Row.off ∷ life5 ∷ life6 ∷ life7 ∷
-            life8 ∷ Row.off ∷ Row.off ∷ Row.off ∷ Row.off ∷ Row.alive ∷ Row.alive ∷ Row.alive ∷ Row.alive ∷ Row.alive ∷ List.[]; }
+        G76 = record {
+          locals = List._++_ g59 (List._++_ t38 t60);
+          slots = Row.off ∷ Row.off ∷ Row.off ∷ Row.off ∷ Row.off ∷ life5 ∷ life6 ∷ life7 ∷ life8 ∷ Row.off ∷ Row.off ∷
+              Row.off ∷ Row.off ∷ Row.alive ∷ Row.alive ∷ Row.alive ∷ Row.alive ∷ Row.alive ∷ List.[];
+        }
+
         abbrev G77 : Row.Cx
-        G77 = record { locals = List._++_ g61 (List._++_ t38 t60); slots = Row.off ∷ Row.off ∷ Row.off ∷ Row.off ∷ Row.off ∷ life5 ∷ life6 ∷ life7 ∷
-            life8 ∷ Row.off ∷ Row.off ∷ Row.off ∷ Row.off ∷ Row.alive ∷ Row.alive ∷ Row.alive ∷ Row.alive ∷ Row.alive ∷ List.[]; }
+        G77 = record {
+          locals = List._++_ g61 (List._++_ t38 t60);
+          slots = Row.off ∷ Row.off ∷ Row.off ∷ Row.off ∷ Row.off ∷ life5 ∷ life6 ∷ life7 ∷ life8 ∷ Row.off ∷ Row.off ∷
+              Row.off ∷ Row.off ∷ Row.alive ∷ Row.alive ∷ Row.alive ∷ Row.alive ∷ Row.alive ∷ List.[];
+        }
+
         abbrev G78 : Row.Cx
-        G78 = record { locals = List._++_ g61 (List._++_ t62 t60); slots = Row.off ∷ Row.off ∷ Row.off ∷ Row.off ∷ Row.off ∷ life5 ∷ life6 ∷ life7 ∷
-            life8 ∷ Row.off ∷ Row.off ∷ Row.off ∷ Row.off ∷ Row.alive ∷ Row.alive ∷ Row.alive ∷ Row.alive ∷ Row.alive ∷ List.[]; }
+        G78 = record {
+          locals = List._++_ g61 (List._++_ t62 t60);
+          slots = Row.off ∷ Row.off ∷ Row.off ∷ Row.off ∷ Row.off ∷ life5 ∷ life6 ∷ life7 ∷ life8 ∷ Row.off ∷ Row.off ∷
+              Row.off ∷ Row.off ∷ Row.alive ∷ Row.alive ∷ Row.alive ∷ Row.alive ∷ Row.alive ∷ List.[];
+        }
+
         abbrev G79 : Row.Cx
-        G79 = record { locals = List._++_ g61 (List._++_ t1 t60); slots = Row.off ∷ Row.off ∷ Row.off ∷ Row.off ∷ Row.off ∷ life5 ∷ life6 ∷ life7 ∷
-            life8 ∷ Row.off ∷ Row.off ∷ Row.off ∷ Row.off ∷ Row.alive ∷ Row.alive ∷ Row.alive ∷ Row.alive ∷ Row.alive ∷ List.[]; }
+        G79 = record {
+          locals = List._++_ g61 (List._++_ t1 t60);
+          slots = Row.off ∷ Row.off ∷ Row.off ∷ Row.off ∷ Row.off ∷ life5 ∷ life6 ∷ life7 ∷ life8 ∷ Row.off ∷ Row.off ∷
+              Row.off ∷ Row.off ∷ Row.alive ∷ Row.alive ∷ Row.alive ∷ Row.alive ∷ Row.alive ∷ List.[];
+        }
+
         abbrev G80 : Row.Cx
-        G80 = record { locals = List._++_ g61 (List._++_ t1 t60); slots = Row.off ∷ Row.off ∷ Row.off ∷ Row.off ∷ Row.off ∷ life5 ∷ life6 ∷ life7 ∷
-            life8 ∷ Row.off ∷ Row.off ∷ Row.off ∷ Row.off ∷ Row.dead ∷ Row.alive ∷ Row.alive ∷ Row.alive ∷ Row.alive ∷ List.[]; }
+        G80 = record {
+          locals = List._++_ g61 (List._++_ t1 t60);
+          slots = Row.off ∷ Row.off ∷ Row.off ∷ Row.off ∷ Row.off ∷ life5 ∷ life6 ∷ life7 ∷ life8 ∷ Row.off ∷ Row.off ∷
+              Row.off ∷ Row.off ∷ Row.dead ∷ Row.alive ∷ Row.alive ∷ Row.alive ∷ Row.alive ∷ List.[];
+        }
+
         abbrev G81 : Row.Cx
-        G81 = record { locals = List._++_ g63 (List._++_ t1 t64); slots = life0 ∷ Row.off ∷ Row.off ∷ Row.off ∷ Row.off ∷ life5 ∷ life6 ∷ life7 ∷
-            life8 ∷ Row.off ∷ Row.off ∷ Row.off ∷ Row.off ∷ Row.dead ∷ Row.alive ∷ Row.alive ∷ Row.alive ∷ Row.alive ∷ List.[]; }
+        G81 = record {
+          locals = List._++_ g63 (List._++_ t1 t64);
+          slots = life0 ∷ Row.off ∷ Row.off ∷ Row.off ∷ Row.off ∷ life5 ∷ life6 ∷ life7 ∷ life8 ∷ Row.off ∷ Row.off ∷
+              Row.off ∷ Row.off ∷ Row.dead ∷ Row.alive ∷ Row.alive ∷ Row.alive ∷ Row.alive ∷ List.[];
+        }
+
         abbrev G82 : Row.Cx
-        G82 = record { locals = List._++_ g63 (List._++_ t1 t64); slots = life0 ∷ Row.off ∷ Row.off ∷ Row.off ∷ Row.off ∷ life5 ∷ life6 ∷ life7 ∷
-            life8 ∷ Row.off ∷ Row.off ∷ Row.off ∷ Row.off ∷ Row.off ∷ Row.alive ∷ Row.alive ∷ Row.alive ∷ Row.alive ∷ List.[]; }
+        G82 = record {
+          locals = List._++_ g63 (List._++_ t1 t64);
+          slots = life0 ∷ Row.off ∷ Row.off ∷ Row.off ∷ Row.off ∷ life5 ∷ life6 ∷ life7 ∷ life8 ∷ Row.off ∷ Row.off ∷
+              Row.off ∷ Row.off ∷ Row.off ∷ Row.alive ∷ Row.alive ∷ Row.alive ∷ Row.alive ∷ List.[];
+        }
+
         abbrev G83 : Row.Cx
-        G83 = record { locals = List._++_ g63 (List._++_ t1 t64); slots = life0 ∷ Row.off ∷ Row.off ∷ Row.off ∷ Row.off ∷ life5 ∷ life6 ∷ life7 ∷
-            life8 ∷ Row.off ∷ Row.off ∷ Row.off ∷ Row.off ∷ Row.off ∷ Row.dead ∷ Row.alive ∷ Row.alive ∷ Row.alive ∷ List.[]; }
+        G83 = record {
+          locals = List._++_ g63 (List._++_ t1 t64);
+          slots = life0 ∷ Row.off ∷ Row.off ∷ Row.off ∷ Row.off ∷ life5 ∷ life6 ∷ life7 ∷ life8 ∷ Row.off ∷ Row.off ∷
+              Row.off ∷ Row.off ∷ Row.off ∷ Row.dead ∷ Row.alive ∷ Row.alive ∷ Row.alive ∷ List.[];
+        }
+
         abbrev G84 : Row.Cx
-        G84 = record { locals = List._++_ g65 (List._++_ t1 t66); slots = life0 ∷ life1 ∷ Row.off ∷ Row.off ∷ Row.off ∷ life5 ∷ life6 ∷ life7 ∷ life8
-            ∷ Row.off ∷ Row.off ∷ Row.off ∷ Row.off ∷ Row.off ∷ Row.dead ∷ Row.alive ∷ Row.alive ∷ Row.alive ∷ List.[]; }
+        G84 = record {
+          locals = List._++_ g65 (List._++_ t1 t66);
+          slots = life0 ∷ life1 ∷ Row.off ∷ Row.off ∷ Row.off ∷ life5 ∷ life6 ∷ life7 ∷ life8 ∷ Row.off ∷ Row.off ∷
+              Row.off ∷ Row.off ∷ Row.off ∷ Row.dead ∷ Row.alive ∷ Row.alive ∷ Row.alive ∷ List.[];
+        }
+
         abbrev G85 : Row.Cx
-        G85 = record { locals = List._++_ g65 (List._++_ t1 t66); slots = life0 ∷ life1 ∷ Row.off ∷ Row.off ∷ Row.off ∷ life5 ∷ life6 ∷ life7 ∷ life8
-            ∷ Row.off ∷ Row.off ∷ Row.off ∷ Row.off ∷ Row.off ∷ Row.off ∷ Row.alive ∷ Row.alive ∷ Row.alive ∷ List.[]; }
+        G85 = record {
+          locals = List._++_ g65 (List._++_ t1 t66);
+          slots = life0 ∷ life1 ∷ Row.off ∷ Row.off ∷ Row.off ∷ life5 ∷ life6 ∷ life7 ∷ life8 ∷ Row.off ∷ Row.off ∷
+              Row.off ∷ Row.off ∷ Row.off ∷ Row.off ∷ Row.alive ∷ Row.alive ∷ Row.alive ∷ List.[];
+        }
+
         abbrev G86 : Row.Cx
-        G86 = record { locals = List._++_ g65 (List._++_ t1 t66); slots = life0 ∷ life1 ∷ Row.off ∷ Row.off ∷ Row.off ∷ life5 ∷ life6 ∷ life7 ∷ life8
-            ∷ Row.off ∷ Row.off ∷ Row.off ∷ Row.off ∷ Row.off ∷ Row.off ∷ Row.dead ∷ Row.alive ∷ Row.alive ∷ List.[]; }
+        G86 = record {
+          locals = List._++_ g65 (List._++_ t1 t66);
+          slots = life0 ∷ life1 ∷ Row.off ∷ Row.off ∷ Row.off ∷ life5 ∷ life6 ∷ life7 ∷ life8 ∷ Row.off ∷ Row.off ∷
+              Row.off ∷ Row.off ∷ Row.off ∷ Row.off ∷ Row.dead ∷ Row.alive ∷ Row.alive ∷ List.[];
+        }
+
         abbrev G87 : Row.Cx
-        G87 = record { locals = List._++_ g67 (List._++_ t1 t68); slots = life0 ∷ life1 ∷ life2 ∷ Row.off ∷ Row.off ∷ life5 ∷ life6 ∷ life7 ∷ life8 ∷
-            Row.off ∷ Row.off ∷ Row.off ∷ Row.off ∷ Row.off ∷ Row.off ∷ Row.dead ∷ Row.alive ∷ Row.alive ∷ List.[]; }
+        G87 = record {
+          locals = List._++_ g67 (List._++_ t1 t68);
+          slots = life0 ∷ life1 ∷ life2 ∷ Row.off ∷ Row.off ∷ life5 ∷ life6 ∷ life7 ∷ life8 ∷ Row.off ∷ Row.off ∷
+              Row.off ∷ Row.off ∷ Row.off ∷ Row.off ∷ Row.dead ∷ Row.alive ∷ Row.alive ∷ List.[];
+        }
+
         abbrev G88 : Row.Cx
-        G88 = record { locals = List._++_ g67 (List._++_ t1 t68); slots = life0 ∷ life1 ∷ life2 ∷ Row.off ∷ Row.off ∷ life5 ∷ life6 ∷ life7 ∷ life8 ∷
-            Row.off ∷ Row.off ∷ Row.off ∷ Row.off ∷ Row.off ∷ Row.off ∷ Row.off ∷ Row.alive ∷ Row.alive ∷ List.[]; }
+        G88 = record {
+          locals = List._++_ g67 (List._++_ t1 t68);
+          slots = life0 ∷ life1 ∷ life2 ∷ Row.off ∷ Row.off ∷ life5 ∷ life6 ∷ life7 ∷ life8 ∷ Row.off ∷ Row.off ∷
+              Row.off ∷ Row.off ∷ Row.off ∷ Row.off ∷ Row.off ∷ Row.alive ∷ Row.alive ∷ List.[];
+        }
+
         abbrev G89 : Row.Cx
-        G89 = record { locals = List._++_ g67 (List._++_ t1 t68); slots = life0 ∷ life1 ∷ life2 ∷ Row.off ∷ Row.off ∷ life5 ∷ life6 ∷ life7 ∷ life8 ∷
-            Row.off ∷ Row.off ∷ Row.off ∷ Row.off ∷ Row.off ∷ Row.off ∷ Row.off ∷ Row.dead ∷ Row.alive ∷ List.[]; }
+        G89 = record {
+          locals = List._++_ g67 (List._++_ t1 t68);
+          slots = life0 ∷ life1 ∷ life2 ∷ Row.off ∷ Row.off ∷ life5 ∷ life6 ∷ life7 ∷ life8 ∷ Row.off ∷ Row.off ∷
+              Row.off ∷ Row.off ∷ Row.off ∷ Row.off ∷ Row.off ∷ Row.dead ∷ Row.alive ∷ List.[];
+        }
+
         abbrev G90 : Row.Cx
-        G90 = record { locals = List._++_ g69 (List._++_ t1 t70); slots = life0 ∷ life1 ∷ life2 ∷ life3 ∷ Row.off ∷ life5 ∷ life6 ∷ life7 ∷ life8 ∷
-            Row.off ∷ Row.off ∷ Row.off ∷ Row.off ∷ Row.off ∷ Row.off ∷ Row.off ∷ Row.dead ∷ Row.alive ∷ List.[]; }
+        G90 = record {
+          locals = List._++_ g69 (List._++_ t1 t70);
+          slots = life0 ∷ life1 ∷ life2 ∷ life3 ∷ Row.off ∷ life5 ∷ life6 ∷ life7 ∷ life8 ∷ Row.off ∷ Row.off ∷ Row.off
+              ∷ Row.off ∷ Row.off ∷ Row.off ∷ Row.off ∷ Row.dead ∷ Row.alive ∷ List.[];
+        }
+
         abbrev G91 : Row.Cx
-        G91 = record { locals = List._++_ g69 (List._++_ t1 t70); slots = life0 ∷ life1 ∷ life2 ∷ life3 ∷ Row.off ∷ life5 ∷ life6 ∷ life7 ∷ life8 ∷
-            Row.off ∷ Row.off ∷ Row.off ∷ Row.off ∷ Row.off ∷ Row.off ∷ Row.off ∷ Row.off ∷ Row.alive ∷ List.[]; }
+        G91 = record {
+          locals = List._++_ g69 (List._++_ t1 t70);
+          slots = life0 ∷ life1 ∷ life2 ∷ life3 ∷ Row.off ∷ life5 ∷ life6 ∷ life7 ∷ life8 ∷ Row.off ∷ Row.off ∷ Row.off
+              ∷ Row.off ∷ Row.off ∷ Row.off ∷ Row.off ∷ Row.off ∷ Row.alive ∷ List.[];
+        }
+
         abbrev G92 : Row.Cx
-        G92 = record { locals = List._++_ g69 (List._++_ t1 t70); slots = life0 ∷ life1 ∷ life2 ∷ life3 ∷ Row.off ∷ life5 ∷ life6 ∷ life7 ∷ life8 ∷
-            Row.off ∷ Row.off ∷ Row.off ∷ Row.off ∷ Row.off ∷ Row.off ∷ Row.off ∷ Row.off ∷ Row.dead ∷ List.[]; }
+        G92 = record {
+          locals = List._++_ g69 (List._++_ t1 t70);
+          slots = life0 ∷ life1 ∷ life2 ∷ life3 ∷ Row.off ∷ life5 ∷ life6 ∷ life7 ∷ life8 ∷ Row.off ∷ Row.off ∷ Row.off
+              ∷ Row.off ∷ Row.off ∷ Row.off ∷ Row.off ∷ Row.off ∷ Row.dead ∷ List.[];
+        }
+
         abbrev G93 : Row.Cx
-        G93 = record { locals = List._++_ t71 (List._++_ t1 t2); slots = life0 ∷ life1 ∷ life2 ∷ life3 ∷ life4 ∷ life5 ∷ life6 ∷ life7 ∷ life8 ∷
-            Row.off ∷ Row.off ∷ Row.off ∷ Row.off ∷ Row.off ∷ Row.off ∷ Row.off ∷ Row.off ∷ Row.dead ∷ List.[]; }
+        G93 = record {
+          locals = List._++_ t71 (List._++_ t1 t2);
+          slots = life0 ∷ life1 ∷ life2 ∷ life3 ∷ life4 ∷ life5 ∷ life6 ∷ life7 ∷ life8 ∷ Row.off ∷ Row.off ∷ Row.off ∷
+              Row.off ∷ Row.off ∷ Row.off ∷ Row.off ∷ Row.off ∷ Row.dead ∷ List.[];
+        }
+
         abbrev G94 : Row.Cx
-        G94 = record { locals = List._++_ t71 (List._++_ t1 t2); slots = life0 ∷ life1 ∷ life2 ∷ life3 ∷ life4 ∷ life5 ∷ life6 ∷ life7 ∷ life8 ∷
-            Row.off ∷ Row.off ∷ Row.off ∷ Row.off ∷ Row.off ∷ Row.off ∷ Row.off ∷ Row.off ∷ Row.dead ∷ List.[]; }
+        G94 = record {
+          locals = List._++_ t71 (List._++_ t1 t2);
+          slots = life0 ∷ life1 ∷ life2 ∷ life3 ∷ life4 ∷ life5 ∷ life6 ∷ life7 ∷ life8 ∷ Row.off ∷ Row.off ∷ Row.off ∷
+              Row.off ∷ Row.off ∷ Row.off ∷ Row.off ∷ Row.off ∷ Row.dead ∷ List.[];
+        }
+
         abbrev G95 : Row.Cx
-        G95 = record { locals = List._++_ t71 (List._++_ t1 t2); slots = life0 ∷ life1 ∷ life2 ∷ life3 ∷ life4 ∷ life5 ∷ life6 ∷ life7 ∷ life8 ∷
-            Row.off ∷ Row.off ∷ Row.off ∷ Row.off ∷ Row.off ∷ Row.off ∷ Row.off ∷ Row.off ∷ Row.off ∷ List.[]; }
+        G95 = record {
+          locals = List._++_ t71 (List._++_ t1 t2);
+          slots = life0 ∷ life1 ∷ life2 ∷ life3 ∷ life4 ∷ life5 ∷ life6 ∷ life7 ∷ life8 ∷ Row.off ∷ Row.off ∷ Row.off ∷
+              Row.off ∷ Row.off ∷ Row.off ∷ Row.off ∷ Row.off ∷ Row.off ∷ List.[];
+        }
+
         abbrev G96 : Row.Cx
-        G96 = record { locals = List._++_ t3 (List._++_ t1 t2); slots = life0 ∷ life1 ∷ life2 ∷ life3 ∷ life4 ∷ life5 ∷ life6 ∷ life7 ∷ life8 ∷
-            Row.off ∷ Row.off ∷ Row.off ∷ Row.off ∷ Row.off ∷ Row.off ∷ Row.off ∷ Row.off ∷ Row.off ∷ List.[]; }
+        G96 = record {
+          locals = List._++_ t3 (List._++_ t1 t2);
+          slots = life0 ∷ life1 ∷ life2 ∷ life3 ∷ life4 ∷ life5 ∷ life6 ∷ life7 ∷ life8 ∷ Row.off ∷ Row.off ∷ Row.off ∷
+              Row.off ∷ Row.off ∷ Row.off ∷ Row.off ∷ Row.off ∷ Row.off ∷ List.[];
+        }
+
         abbrev G97 : Row.Cx
-        G97 = record { locals = List._++_ t18 (List._++_ t17 t2); slots = life0 ∷ life1 ∷ life2 ∷ life3 ∷ life4 ∷ life5 ∷ life6 ∷ life7 ∷ life8 ∷
-            Row.off ∷ Row.off ∷ Row.off ∷ Row.off ∷ Row.off ∷ Row.off ∷ Row.off ∷ Row.off ∷ Row.off ∷ List.[]; }
+        G97 = record {
+          locals = List._++_ t18 (List._++_ t17 t2);
+          slots = life0 ∷ life1 ∷ life2 ∷ life3 ∷ life4 ∷ life5 ∷ life6 ∷ life7 ∷ life8 ∷ Row.off ∷ Row.off ∷ Row.off ∷
+              Row.off ∷ Row.off ∷ Row.off ∷ Row.off ∷ Row.off ∷ Row.off ∷ List.[];
+        }
+
         abbrev G98 : Row.Cx
-        G98 = record { locals = List._++_ t18 (List._++_ t16 t2); slots = life0 ∷ life1 ∷ life2 ∷ life3 ∷ life4 ∷ life5 ∷ life6 ∷ life7 ∷ life8 ∷
-            Row.off ∷ Row.off ∷ Row.off ∷ Row.off ∷ Row.off ∷ Row.off ∷ Row.off ∷ Row.off ∷ Row.off ∷ List.[]; }
+        G98 = record {
+          locals = List._++_ t18 (List._++_ t16 t2);
+          slots = life0 ∷ life1 ∷ life2 ∷ life3 ∷ life4 ∷ life5 ∷ life6 ∷ life7 ∷ life8 ∷ Row.off ∷ Row.off ∷ Row.off ∷
+              Row.off ∷ Row.off ∷ Row.off ∷ Row.off ∷ Row.off ∷ Row.off ∷ List.[];
+        }
+
         abbrev G99 : Row.Cx
-        G99 = record { locals = List._++_ t72 (List._++_ t16 t2); slots = life0 ∷ life1 ∷ life2 ∷ life3 ∷ life4 ∷ life5 ∷ life6 ∷ life7 ∷ life8 ∷
-            Row.off ∷ Row.off ∷ Row.off ∷ Row.off ∷ Row.off ∷ Row.off ∷ Row.off ∷ Row.off ∷ Row.off ∷ List.[]; }
+        G99 = record {
+          locals = List._++_ t72 (List._++_ t16 t2);
+          slots = life0 ∷ life1 ∷ life2 ∷ life3 ∷ life4 ∷ life5 ∷ life6 ∷ life7 ∷ life8 ∷ Row.off ∷ Row.off ∷ Row.off ∷
+              Row.off ∷ Row.off ∷ Row.off ∷ Row.off ∷ Row.off ∷ Row.off ∷ List.[];
+        }
+
         abbrev G100 : Row.Cx
-        G100 = record { locals = List._++_ t73 (List._++_ t16 t2); slots = life0 ∷ life1 ∷ life2 ∷ life3 ∷ life4 ∷ life5 ∷ life6 ∷ life7 ∷ life8 ∷
-            Row.off ∷ Row.off ∷ Row.off ∷ Row.off ∷ Row.off ∷ Row.off ∷ Row.off ∷ Row.off ∷ Row.off ∷ List.[]; }
+        G100 = record {
+          locals = List._++_ t73 (List._++_ t16 t2);
+          slots = life0 ∷ life1 ∷ life2 ∷ life3 ∷ life4 ∷ life5 ∷ life6 ∷ life7 ∷ life8 ∷ Row.off ∷ Row.off ∷ Row.off ∷
+              Row.off ∷ Row.off ∷ Row.off ∷ Row.off ∷ Row.off ∷ Row.off ∷ List.[];
+        }
+
         abbrev G101 : Row.Cx
-        G101 = record { locals = List._++_ t71 (List._++_ t16 t2); slots = life0 ∷ life1 ∷ life2 ∷ life3 ∷ life4 ∷ life5 ∷ life6 ∷ life7 ∷ life8 ∷
-            Row.off ∷ Row.off ∷ Row.off ∷ Row.off ∷ Row.off ∷ Row.off ∷ Row.off ∷ Row.off ∷ Row.off ∷ List.[]; }
+        G101 = record {
+          locals = List._++_ t71 (List._++_ t16 t2);
+          slots = life0 ∷ life1 ∷ life2 ∷ life3 ∷ life4 ∷ life5 ∷ life6 ∷ life7 ∷ life8 ∷ Row.off ∷ Row.off ∷ Row.off ∷
+              Row.off ∷ Row.off ∷ Row.off ∷ Row.off ∷ Row.off ∷ Row.off ∷ List.[];
+        }
+
         abbrev G102 : Row.Cx
-        G102 = record { locals = List._++_ t3 (List._++_ t16 t2); slots = life0 ∷ life1 ∷ life2 ∷ life3 ∷ life4 ∷ life5 ∷ life6 ∷ life7 ∷ life8 ∷
-            Row.off ∷ Row.off ∷ Row.off ∷ Row.off ∷ Row.off ∷ Row.off ∷ Row.off ∷ Row.off ∷ Row.off ∷ List.[]; }
+        G102 = record {
+          locals = List._++_ t3 (List._++_ t16 t2);
+          slots = life0 ∷ life1 ∷ life2 ∷ life3 ∷ life4 ∷ life5 ∷ life6 ∷ life7 ∷ life8 ∷ Row.off ∷ Row.off ∷ Row.off ∷
+              Row.off ∷ Row.off ∷ Row.off ∷ Row.off ∷ Row.off ∷ Row.off ∷ List.[];
+        }
+
         abbrev G103 : Row.Cx
-        G103 = record { locals = List._++_ t3 (List._++_ t1 t2); slots = life0 ∷ life1 ∷ life2 ∷ life3 ∷ life4 ∷ life5 ∷ life6 ∷ life7 ∷ life8 ∷
-            Row.off ∷ Row.off ∷ Row.off ∷ Row.off ∷ Row.off ∷ Row.off ∷ Row.off ∷ Row.off ∷ Row.off ∷ List.[]; }
+        G103 = record {
+          locals = List._++_ t3 (List._++_ t1 t2);
+          slots = life0 ∷ life1 ∷ life2 ∷ life3 ∷ life4 ∷ life5 ∷ life6 ∷ life7 ∷ life8 ∷ Row.off ∷ Row.off ∷ Row.off ∷
+              Row.off ∷ Row.off ∷ Row.off ∷ Row.off ∷ Row.off ∷ Row.off ∷ List.[];
+        }
+
         abbrev Δ0 : Typed.Outs
         Δ0 = record { next = Option.none; exits = List.[]; returns = Option.some G1 }
+
         abbrev Δ1 : Typed.Outs
         Δ1 = Typed.withNext (Option.some G26) Δ0
-        module _ { M : Type 1 } (𝓤 : URA.URA M) (H : Wp.Heap 𝓤) (A : Atoms.Atoms 𝓤) (W : Kit.Given 𝓤 H A) (𝓣 : Wp.Tables 𝓤 H) (known : Knowns 𝓤 H A W
-            𝓣) (bs : List.List Nat.ℕ) (bd : Lifetimes.AllOutlive 9 (Kinds.osR r) κs) where
+
+        module _ {M : Type 1} (𝓤 : URA.URA M) (H : Wp.Heap 𝓤) (A : Atoms.Atoms 𝓤) (W : Kit.Given 𝓤 H A)
+            (𝓣 : Wp.Tables 𝓤 H) (known : Knowns 𝓤 H A W 𝓣) (bs : List.List Nat.ℕ)
+            (bd : Lifetimes.AllOutlive 9 (Kinds.osR r) κs) where
           abbrev E : Wp.Env 𝓤 H
           E = Frame.EnvOf 𝓤 H ((Kinds.tyR r) ∷ (Enter.tysP ps xs)) bs
+
           d0 : Typed.Typed 𝓤 H A 𝓣 E G96 b32 Δ1 (at0 bs)
           d0 = Typed.t-return 𝓤 H A W 𝓣 E Δ1 tt
+
           d1 : Typed.Typed 𝓤 H A 𝓣 E G95 b32 Δ1 (at1 bs)
-          d1 = Typed.g-pre 𝓤 H A W 𝓣 E G95 G96 b32 Δ1 (Typed.pass T94 T96 (s93 bs)) (at0 bs) (Scalar.g-room 𝓤 H A W E G95 14 Syntax.tyBool
-              (Scalar.room-sc 𝓤 H A W Row.sBool)) d0
+          d1 = Typed.g-pre 𝓤 H A W 𝓣 E G95 G96 b32 Δ1 (Typed.pass T94 T96 (s93 bs)) (at0 bs) (Scalar.g-room 𝓤 H A W E
+              G95 14 Syntax.tyBool (Scalar.room-sc 𝓤 H A W Row.sBool)) d0
+
           d2 : Typed.Typed 𝓤 H A 𝓣 E G94 b32 Δ1 (at2 bs)
-          d2 = Typed.g-pre 𝓤 H A W 𝓣 E G94 G95 b32 Δ1 (λ Ψ. Ψ) (at1 bs) (Lifetime.g-forget 𝓤 H A W E G94 17 Row.dead Path.refl) d1
+          d2 = Typed.g-pre 𝓤 H A W 𝓣 E G94 G95 b32 Δ1 (λ Ψ. Ψ) (at1 bs)
+              (Lifetime.g-forget 𝓤 H A W E G94 17 Row.dead Path.refl) d1
+
           d3 : Typed.Typed 𝓤 H A 𝓣 E G93 b32 Δ1 (at3 bs)
-          d3 = Typed.g-pre 𝓤 H A W 𝓣 E G93 G94 b32 Δ1 (Typed.give (s91 bs)) (at2 bs) (Know.g-sl-known 𝓤 H A W (Referent.fInt Syntax.w32) E G93 5 4
-              ref13 life4 0 (λ x. x) record { fits = Dec.lit< tt } (Reads'.as-is 𝓤 H A (Mut.mslice (Referent.rtF (Referent.fInt Syntax.w32)) ref13 4))
-              Path.refl tt) d2
+          d3 = Typed.g-pre 𝓤 H A W 𝓣 E G93 G94 b32 Δ1 (Typed.give (s91 bs)) (at2 bs) (Know.g-sl-known 𝓤 H A W
+              (Referent.fInt Syntax.w32) E G93 5 4 ref13 life4 0 (λ x. x) record { fits = Dec.lit< tt } (Reads'.as-is 𝓤
+              H A (Mut.mslice (Referent.rtF (Referent.fInt Syntax.w32)) ref13 4)) Path.refl tt) d2
+
           d4 : Typed.Typed 𝓤 H A 𝓣 E G92 b32 Δ1 (at4 bs)
-          d4 = Typed.g-pre 𝓤 H A W 𝓣 E G92 G93 b32 Δ1 (Typed.both (s90 bs)) (at3 bs) (Relend.g-back-sl 𝓤 H A W E (Referent.rtF (Referent.fInt
-              Syntax.w32)) G92 40 5 4 17 ref13 ref8 life4 (λ x. x) (λ x. x) (Reads'.as-is 𝓤 H A (Mut.msleft (Referent.rtF (Referent.fInt Syntax.w32))
-              ref8)) (Reads'.as-is 𝓤 H A (Relend.mslice-owed (Referent.rtF (Referent.fInt Syntax.w32)) ref13 4 17 life4)) Path.refl Path.refl) d3
+          d4 = Typed.g-pre 𝓤 H A W 𝓣 E G92 G93 b32 Δ1 (Typed.both (s90 bs)) (at3 bs) (Relend.g-back-sl 𝓤 H A W E
+              (Referent.rtF (Referent.fInt Syntax.w32)) G92 40 5 4 17 ref13 ref8 life4 (λ x. x) (λ x. x) (Reads'.as-is
+              𝓤 H A (Mut.msleft (Referent.rtF (Referent.fInt Syntax.w32)) ref8)) (Reads'.as-is 𝓤 H A (Relend.mslice-owed
+              (Referent.rtF (Referent.fInt Syntax.w32)) ref13 4 17 life4)) Path.refl Path.refl) d3
+
           d5 : Typed.Typed 𝓤 H A 𝓣 E G91 b32 Δ1 (at5 bs)
           d5 = Typed.g-pre 𝓤 H A W 𝓣 E G91 G92 b32 Δ1 (λ Ψ. Ψ) (at4 bs) (Lifetime.g-end 𝓤 H A W E G91 17 Path.refl) d4
+
           d6 : Typed.Typed 𝓤 H A 𝓣 E G90 b32 Δ1 (at6 bs)
-          d6 = Typed.g-pre 𝓤 H A W 𝓣 E G90 G91 b32 Δ1 (λ Ψ. Ψ) (at5 bs) (Lifetime.g-forget 𝓤 H A W E G90 16 Row.dead Path.refl) d5
+          d6 = Typed.g-pre 𝓤 H A W 𝓣 E G90 G91 b32 Δ1 (λ Ψ. Ψ) (at5 bs)
+              (Lifetime.g-forget 𝓤 H A W E G90 16 Row.dead Path.refl) d5
+
           d7 : Typed.Typed 𝓤 H A 𝓣 E G89 b32 Δ1 (at7 bs)
-          d7 = Typed.g-pre 𝓤 H A W 𝓣 E G89 G90 b32 Δ1 (Typed.both (s87 bs)) (at6 bs) (Relend.g-back-sl 𝓤 H A W E InflightAction.row G89 38 4 3 16
-              ref12 ref7 life3 (λ x. x) (λ x. x) (Reads'.as-is 𝓤 H A (Mut.msleft InflightAction.row ref7)) (Reads'.as-is 𝓤 H A (Relend.mslice-owed
-              InflightAction.row ref12 3 16 life3)) Path.refl Path.refl) d6
+          d7 = Typed.g-pre 𝓤 H A W 𝓣 E G89 G90 b32 Δ1 (Typed.both (s87 bs)) (at6 bs) (Relend.g-back-sl 𝓤 H A W E
+              InflightAction.row G89 38 4 3 16 ref12 ref7 life3 (λ x. x) (λ x. x)
+              (Reads'.as-is 𝓤 H A (Mut.msleft InflightAction.row ref7)) (Reads'.as-is 𝓤 H A
+              (Relend.mslice-owed InflightAction.row ref12 3 16 life3)) Path.refl Path.refl) d6
+
           d8 : Typed.Typed 𝓤 H A 𝓣 E G88 b32 Δ1 (at8 bs)
           d8 = Typed.g-pre 𝓤 H A W 𝓣 E G88 G89 b32 Δ1 (λ Ψ. Ψ) (at7 bs) (Lifetime.g-end 𝓤 H A W E G88 16 Path.refl) d7
+
           d9 : Typed.Typed 𝓤 H A 𝓣 E G87 b32 Δ1 (at9 bs)
-          d9 = Typed.g-pre 𝓤 H A W 𝓣 E G87 G88 b32 Δ1 (λ Ψ. Ψ) (at8 bs) (Lifetime.g-forget 𝓤 H A W E G87 15 Row.dead Path.refl) d8
+          d9 = Typed.g-pre 𝓤 H A W 𝓣 E G87 G88 b32 Δ1 (λ Ψ. Ψ) (at8 bs)
+              (Lifetime.g-forget 𝓤 H A W E G87 15 Row.dead Path.refl) d8
+
           d10 : Typed.Typed 𝓤 H A 𝓣 E G86 b32 Δ1 (at10 bs)
-          d10 = Typed.g-pre 𝓤 H A W 𝓣 E G86 G87 b32 Δ1 (Typed.both (s84 bs)) (at9 bs) (Relend.g-back-sl 𝓤 H A W E ReservationUsage.row G86 36 3 2 15
-              ref11 ref6 life2 (λ x. x) (λ x. x) (Reads'.as-is 𝓤 H A (Mut.msleft ReservationUsage.row ref6)) (Reads'.as-is 𝓤 H A (Relend.mslice-owed
-              ReservationUsage.row ref11 2 15 life2)) Path.refl Path.refl) d9
+          d10 = Typed.g-pre 𝓤 H A W 𝓣 E G86 G87 b32 Δ1 (Typed.both (s84 bs)) (at9 bs) (Relend.g-back-sl 𝓤 H A W E
+              ReservationUsage.row G86 36 3 2 15 ref11 ref6 life2 (λ x. x) (λ x. x)
+              (Reads'.as-is 𝓤 H A (Mut.msleft ReservationUsage.row ref6)) (Reads'.as-is 𝓤 H A
+              (Relend.mslice-owed ReservationUsage.row ref11 2 15 life2)) Path.refl Path.refl) d9
+
           d11 : Typed.Typed 𝓤 H A 𝓣 E G85 b32 Δ1 (at11 bs)
-          d11 = Typed.g-pre 𝓤 H A W 𝓣 E G85 G86 b32 Δ1 (λ Ψ. Ψ) (at10 bs) (Lifetime.g-end 𝓤 H A W E G85 15 Path.refl) d10
+          d11 = Typed.g-pre 𝓤 H A W 𝓣 E G85 G86 b32 Δ1 (λ Ψ. Ψ) (at10 bs) (Lifetime.g-end 𝓤 H A W E G85 15 Path.refl)
+              d10
+
           d12 : Typed.Typed 𝓤 H A 𝓣 E G84 b32 Δ1 (at12 bs)
-          d12 = Typed.g-pre 𝓤 H A W 𝓣 E G84 G85 b32 Δ1 (λ Ψ. Ψ) (at11 bs) (Lifetime.g-forget 𝓤 H A W E G84 14 Row.dead Path.refl) d11
+          d12 = Typed.g-pre 𝓤 H A W 𝓣 E G84 G85 b32 Δ1 (λ Ψ. Ψ) (at11 bs)
+              (Lifetime.g-forget 𝓤 H A W E G84 14 Row.dead Path.refl) d11
+
           d13 : Typed.Typed 𝓤 H A 𝓣 E G83 b32 Δ1 (at13 bs)
-          d13 = Typed.g-pre 𝓤 H A W 𝓣 E G83 G84 b32 Δ1 (Typed.both (s81 bs)) (at12 bs) (Relend.g-back-sl 𝓤 H A W E RelayCircuit.row G83 34 2 1 14
-              ref10 ref5 life1 (λ x. x) (λ x. x) (Reads'.as-is 𝓤 H A (Mut.msleft RelayCircuit.row ref5)) (Reads'.as-is 𝓤 H A (Relend.mslice-owed
-              RelayCircuit.row ref10 1 14 life1)) Path.refl Path.refl) d12
+          d13 = Typed.g-pre 𝓤 H A W 𝓣 E G83 G84 b32 Δ1 (Typed.both (s81 bs)) (at12 bs) (Relend.g-back-sl 𝓤 H A W E
+              RelayCircuit.row G83 34 2 1 14 ref10 ref5 life1 (λ x. x) (λ x. x)
+              (Reads'.as-is 𝓤 H A (Mut.msleft RelayCircuit.row ref5)) (Reads'.as-is 𝓤 H A
+              (Relend.mslice-owed RelayCircuit.row ref10 1 14 life1)) Path.refl Path.refl) d12
+
           d14 : Typed.Typed 𝓤 H A 𝓣 E G82 b32 Δ1 (at14 bs)
-          d14 = Typed.g-pre 𝓤 H A W 𝓣 E G82 G83 b32 Δ1 (λ Ψ. Ψ) (at13 bs) (Lifetime.g-end 𝓤 H A W E G82 14 Path.refl) d13
+          d14 = Typed.g-pre 𝓤 H A W 𝓣 E G82 G83 b32 Δ1 (λ Ψ. Ψ) (at13 bs) (Lifetime.g-end 𝓤 H A W E G82 14 Path.refl)
+              d13
+
           d15 : Typed.Typed 𝓤 H A 𝓣 E G81 b32 Δ1 (at15 bs)
-          d15 = Typed.g-pre 𝓤 H A W 𝓣 E G81 G82 b32 Δ1 (λ Ψ. Ψ) (at14 bs) (Lifetime.g-forget 𝓤 H A W E G81 13 Row.dead Path.refl) d14
+          d15 = Typed.g-pre 𝓤 H A W 𝓣 E G81 G82 b32 Δ1 (λ Ψ. Ψ) (at14 bs)
+              (Lifetime.g-forget 𝓤 H A W E G81 13 Row.dead Path.refl) d14
+
           d16 : Typed.Typed 𝓤 H A 𝓣 E G80 b32 Δ1 (at16 bs)
-          d16 = Typed.g-pre 𝓤 H A W 𝓣 E G80 G81 b32 Δ1 (Typed.both (s78 bs)) (at15 bs) (Relend.g-back-sl 𝓤 H A W E RelayPending.row G80 32 1 0 13 ref9
-              ref4 life0 (λ x. x) (λ x. x) (Reads'.as-is 𝓤 H A (Mut.msleft RelayPending.row ref4)) (Reads'.as-is 𝓤 H A (Relend.mslice-owed
-              RelayPending.row ref9 0 13 life0)) Path.refl Path.refl) d15
+          d16 = Typed.g-pre 𝓤 H A W 𝓣 E G80 G81 b32 Δ1 (Typed.both (s78 bs)) (at15 bs) (Relend.g-back-sl 𝓤 H A W E
+              RelayPending.row G80 32 1 0 13 ref9 ref4 life0 (λ x. x) (λ x. x)
+              (Reads'.as-is 𝓤 H A (Mut.msleft RelayPending.row ref4)) (Reads'.as-is 𝓤 H A
+              (Relend.mslice-owed RelayPending.row ref9 0 13 life0)) Path.refl Path.refl) d15
+
           d17 : Typed.Typed 𝓤 H A 𝓣 E G79 b32 Δ1 (at17 bs)
-          d17 = Typed.g-pre 𝓤 H A W 𝓣 E G79 G80 b32 Δ1 (λ Ψ. Ψ) (at16 bs) (Lifetime.g-end 𝓤 H A W E G79 13 Path.refl) d16
+          d17 = Typed.g-pre 𝓤 H A W 𝓣 E G79 G80 b32 Δ1 (λ Ψ. Ψ) (at16 bs) (Lifetime.g-end 𝓤 H A W E G79 13 Path.refl)
+              d16
+
           d18 : Typed.Typed 𝓤 H A 𝓣 E G78 b32 Δ1 (at18 bs)
-          d18 = Typed.g-pre 𝓤 H A W 𝓣 E G78 G79 b32 Δ1 (Typed.pass T78 T79 (s76 bs)) (at17 bs) (Scalar.g-room 𝓤 H A W E G78 18 Laws''.mir
-              (Local.room-whole 𝓤 H A W (Declared'.row Places.the-type) Laws''.mir Path.refl)) d17
+          d18 = Typed.g-pre 𝓤 H A W 𝓣 E G78 G79 b32 Δ1 (Typed.pass T78 T79 (s76 bs)) (at17 bs) (Scalar.g-room 𝓤 H A W E
+              G78 18 Laws''.mir (Local.room-whole 𝓤 H A W (Declared'.row Places.the-type) Laws''.mir Path.refl)) d17
+
           d19 : Typed.Typed 𝓤 H A 𝓣 E G77 b32 Δ1 (at19 bs)
-          d19 = Typed.g-pre 𝓤 H A W 𝓣 E G77 G78 b32 Δ1 (Typed.pass T77 T78 (s75 bs)) (at18 bs) (Scalar.g-room 𝓤 H A W E G77 17 Laws''''.mir
-              (Local.room-whole 𝓤 H A W (Declared'.row OpaqueRelayRuntime.the-type) Laws''''.mir Path.refl)) d18
+          d19 = Typed.g-pre 𝓤 H A W 𝓣 E G77 G78 b32 Δ1 (Typed.pass T77 T78 (s75 bs)) (at18 bs) (Scalar.g-room 𝓤 H A W E
+              G77 17 Laws''''.mir (Local.room-whole 𝓤 H A W (Declared'.row OpaqueRelayRuntime.the-type) Laws''''.mir
+              Path.refl)) d18
+
           d20 : Typed.Typed 𝓤 H A 𝓣 E G76 b32 Δ1 (at20 bs)
-          d20 = Typed.g-pre 𝓤 H A W 𝓣 E G76 G77 b32 Δ1 (Typed.pass T76 T77 (s74 bs)) (at19 bs) (Scalar.g-room 𝓤 H A W E G76 8 Laws'''.mir
-              (Local.room-whole 𝓤 H A W (Declared'.row RelayPacket.the-type) Laws'''.mir Path.refl)) d19
+          d20 = Typed.g-pre 𝓤 H A W 𝓣 E G76 G77 b32 Δ1 (Typed.pass T76 T77 (s74 bs)) (at19 bs) (Scalar.g-room 𝓤 H A W E
+              G76 8 Laws'''.mir (Local.room-whole 𝓤 H A W (Declared'.row RelayPacket.the-type) Laws'''.mir Path.refl))
+              d19
+
           d21 : Typed.Typed 𝓤 H A 𝓣 E G75 b33 Δ1 (at21 bs)
-          d21 = Typed.s-seq 𝓤 H A W 𝓣 E G75 G76 b31 b32 Δ1 (Typed.both (s73 bs)) (at20 bs) (Plain.t-call-plain 𝓤 H A W 𝓣 9 ps·6 r·6 (claims· .12)
-              (claims· .13) "hnsr_circuit::handle::handle_gate" (known .6) E (λ pos β. β) G75 (record { pos = 32; ty = Syntax.tyRef Syntax.erased
-              Syntax.mut RelayPending.to; ref = λ x. x; }, (record { pos = 34; ty = Syntax.tyRef Syntax.erased Syntax.mut RelayCircuit.to; ref = λ x.
-              x; }, (record { pos = 36; ty = Syntax.tyRef Syntax.erased Syntax.mut ReservationUsage.to; ref = λ x. x; }, (record { pos = 38; ty =
-              Syntax.tyRef Syntax.erased Syntax.mut InflightAction.to; ref = λ x. x; }, (record { pos = 40; ty = Syntax.tyRef Syntax.erased Syntax.mut
-              (Syntax.tyInt Syntax.w32); ref = λ x. x; }, (record { pos = 17; st = List.[]; d = 0; at = λ x. x }, (record { pos = 18; st = List.[]; d
-              = 0; at = λ x. x }, (record { pos = 8; st = List.[]; d = 0; at = λ x. x }, (record { pos = 9; ty = Syntax.tyRef (Syntax.named 5)
-              Syntax.imm (Syntax.tyInt Syntax.w8); ref = λ x. x; }, (record { pos = 10; ty = Syntax.tyRef (Syntax.named 6) Syntax.imm (Syntax.tyInt
-              Syntax.w8); ref = λ x. x; }, (record { pos = 11; ty = Syntax.tyRef (Syntax.named 7) Syntax.imm (Syntax.tyInt Syntax.w8); ref = λ x. x;
-              }, (record { pos = 12; ty = Syntax.tyRef (Syntax.named 8) Syntax.imm (Syntax.tyInt Syntax.w8); ref = λ x. x; },
-              tt,),),),),),),),),),),),) 0 (13 ∷ 14 ∷ 15 ∷ 16 ∷ 17 ∷ 5 ∷ 6 ∷ 7 ∷ 8 ∷ List.[]) (Call.sub-id 𝓤 H A W (G75 .slots)) (Reads'.as-is 𝓤 H A
-              (Mut.mslice RelayPending.row ref4 13), Mut.reads-mslice 𝓤 H A W RelayPending.row ref4 13, Path.refl, (Reads'.as-is 𝓤 H A (Mut.mslice
-              RelayCircuit.row ref5 14), Mut.reads-mslice 𝓤 H A W RelayCircuit.row ref5 14, Path.refl, (Reads'.as-is 𝓤 H A (Mut.mslice
-              ReservationUsage.row ref6 15), Mut.reads-mslice 𝓤 H A W ReservationUsage.row ref6 15, Path.refl, (Reads'.as-is 𝓤 H A (Mut.mslice
-              InflightAction.row ref7 16), Mut.reads-mslice 𝓤 H A W InflightAction.row ref7 16, Path.refl, (Reads'.as-is 𝓤 H A (Mut.mslice
-              (Referent.rtF (Referent.fInt Syntax.w32)) ref8 17), Mut.reads-mslice 𝓤 H A W (Referent.rtF (Referent.fInt Syntax.w32)) ref8 17,
-              Path.refl, ((Yields.yields-copy 𝓤 H A W (λ ρ. Unit) (Declared'.row OpaqueRelayRuntime.the-type) Path.refl (Copies.cStruct
-              OpaqueRelayRuntime.the-type Laws''''.the-laws Laws''''.the-copy .copy 𝓤 H A W) (Rows.whole (Declared'.row OpaqueRelayRuntime.the-type))
-              (λ x. x) (λ x. x) (λ ρ told. Local.mem-whole 𝓤 H A W (Declared'.row OpaqueRelayRuntime.the-type) ρ) λ ρ told. Local.whole-mem 𝓤 H A W
-              (Declared'.row OpaqueRelayRuntime.the-type) ρ, Path.refl,), ((Yields.yields-copy 𝓤 H A W (λ ρ. Unit) (Declared'.row Places.the-type)
-              Path.refl (Copies.cStruct Places.the-type Laws''.the-laws Laws''.the-copy .copy 𝓤 H A W) (Rows.whole (Declared'.row Places.the-type)) (λ
-              x. x) (λ x. x) (λ ρ told. Local.mem-whole 𝓤 H A W (Declared'.row Places.the-type) ρ) λ ρ told. Local.whole-mem 𝓤 H A W (Declared'.row
-              Places.the-type) ρ, Path.refl,), ((Yields.yields-copy 𝓤 H A W (λ ρ. Unit) (Declared'.row RelayPacket.the-type) Path.refl (Copies.cStruct
-              RelayPacket.the-type Laws'''.the-laws Laws'''.the-copy .copy 𝓤 H A W) (Rows.whole (Declared'.row RelayPacket.the-type)) (λ x. x) (λ x.
-              x) (λ ρ told. Local.mem-whole 𝓤 H A W (Declared'.row RelayPacket.the-type) ρ) λ ρ told. Local.whole-mem 𝓤 H A W (Declared'.row
-              RelayPacket.the-type) ρ, Path.refl,), (ShrSlice.spares-sslice 𝓤 H A W (Referent.rtF (Referent.fInt Syntax.w8)) ref14 5,
-              Shared.reads-sslice 𝓤 H A W (Referent.rtF (Referent.fInt Syntax.w8)) ref14 5, Path.refl, (ShrSlice.spares-sslice 𝓤 H A W (Referent.rtF
-              (Referent.fInt Syntax.w8)) ref15 6, Shared.reads-sslice 𝓤 H A W (Referent.rtF (Referent.fInt Syntax.w8)) ref15 6, Path.refl,
-              (ShrSlice.spares-sslice 𝓤 H A W (Referent.rtF (Referent.fInt Syntax.w8)) ref16 7, Shared.reads-sslice 𝓤 H A W (Referent.rtF
-              (Referent.fInt Syntax.w8)) ref16 7, Path.refl, (ShrSlice.spares-sslice 𝓤 H A W (Referent.rtF (Referent.fInt Syntax.w8)) ref17 8,
-              Shared.reads-sslice 𝓤 H A W (Referent.rtF (Referent.fInt Syntax.w8)) ref17 8, Path.refl, tt,),),),),),),),),),),),) (Reads'.room-gone 𝓤
-              H A Laws'''''.mir) (tt, (tt, (tt, (tt, (tt, (tt, (tt, (tt, (tt, tt))))))))) Path.refl) d20
+          d21 = Typed.s-seq 𝓤 H A W 𝓣 E G75 G76 b31 b32 Δ1 (Typed.both (s73 bs)) (at20 bs) (Plain.t-call-plain 𝓤 H A W
+              𝓣 9 ps·6 r·6 (claims· .12) (claims· .13) "hnsr_circuit::handle::handle_gate" (known .6) E (λ pos β. β)
+              G75 (
+                record { pos = 32; ty = ref4; ref = λ x. x },
+                (
+                  record { pos = 34; ty = ref5; ref = λ x. x },
+                  (
+                    record { pos = 36; ty = ref6; ref = λ x. x },
+                    (
+                      record { pos = 38; ty = ref7; ref = λ x. x },
+                      (
+                        record { pos = 40; ty = ref8; ref = λ x. x },
+                        (
+                          record { pos = 17; st = List.[]; d = 0; at = λ x. x },
+                          (
+                            record { pos = 18; st = List.[]; d = 0; at = λ x. x },
+                            (
+                              record { pos = 8; st = List.[]; d = 0; at = λ x. x },
+                              (
+                                record { pos = 9; ty = ref14; ref = λ x. x },
+                                (
+                                  record { pos = 10; ty = ref15; ref = λ x. x },
+                                  (
+                                    record { pos = 11; ty = ref16; ref = λ x. x },
+                                    (record { pos = 12; ty = ref17; ref = λ x. x }, tt),
+                                  ),
+                                ),
+                              ),
+                            ),
+                          ),
+                        ),
+                      ),
+                    ),
+                  ),
+                ),
+              ) 0 (13 ∷ 14 ∷ 15 ∷ 16 ∷ 17 ∷ 5 ∷ 6 ∷ 7 ∷ 8 ∷ List.[]) (Call.sub-id 𝓤 H A W (G75 .slots)) (
+                Reads'.as-is 𝓤 H A (Mut.mslice RelayPending.row ref4 13),
+                Mut.reads-mslice 𝓤 H A W RelayPending.row ref4 13,
+                Path.refl,
+                (
+                  Reads'.as-is 𝓤 H A (Mut.mslice RelayCircuit.row ref5 14),
+                  Mut.reads-mslice 𝓤 H A W RelayCircuit.row ref5 14,
+                  Path.refl,
+                  (
+                    Reads'.as-is 𝓤 H A (Mut.mslice ReservationUsage.row ref6 15),
+                    Mut.reads-mslice 𝓤 H A W ReservationUsage.row ref6 15,
+                    Path.refl,
+                    (
+                      Reads'.as-is 𝓤 H A (Mut.mslice InflightAction.row ref7 16),
+                      Mut.reads-mslice 𝓤 H A W InflightAction.row ref7 16,
+                      Path.refl,
+                      (
+                        Reads'.as-is 𝓤 H A (Mut.mslice (Referent.rtF (Referent.fInt Syntax.w32)) ref8 17),
+                        Mut.reads-mslice 𝓤 H A W (Referent.rtF (Referent.fInt Syntax.w32)) ref8 17,
+                        Path.refl,
+                        (
+                          (
+                            Yields.yields-copy 𝓤 H A W (λ ρ. Unit) (Declared'.row OpaqueRelayRuntime.the-type)
+                                Path.refl (Copies.cStruct OpaqueRelayRuntime.the-type Laws''''.the-laws
+                                Laws''''.the-copy .copy 𝓤 H A W)
+                                (Rows.whole (Declared'.row OpaqueRelayRuntime.the-type)) (λ x. x) (λ x. x) (λ ρ told.
+                                Local.mem-whole 𝓤 H A W (Declared'.row OpaqueRelayRuntime.the-type) ρ) λ ρ told.
+                                Local.whole-mem 𝓤 H A W (Declared'.row OpaqueRelayRuntime.the-type) ρ,
+                            Path.refl,
+                          ),
+                          (
+                            (
+                              Yields.yields-copy 𝓤 H A W (λ ρ. Unit) (Declared'.row Places.the-type) Path.refl (Copies.cStruct
+                                  Places.the-type Laws''.the-laws Laws''.the-copy .copy 𝓤 H A W)
+                                  (Rows.whole (Declared'.row Places.the-type)) (λ x. x) (λ x. x) (λ ρ told.
+                                  Local.mem-whole 𝓤 H A W (Declared'.row Places.the-type) ρ) λ ρ told. Local.whole-mem
+                                  𝓤 H A W (Declared'.row Places.the-type) ρ,
+                              Path.refl,
+                            ),
+                            (
+                              (
+                                Yields.yields-copy 𝓤 H A W (λ ρ. Unit) (Declared'.row RelayPacket.the-type) Path.refl (Copies.cStruct
+                                    RelayPacket.the-type Laws'''.the-laws Laws'''.the-copy .copy 𝓤 H A W)
+                                    (Rows.whole (Declared'.row RelayPacket.the-type)) (λ x. x) (λ x. x) (λ ρ told.
+                                    Local.mem-whole 𝓤 H A W (Declared'.row RelayPacket.the-type) ρ) λ ρ told.
+                                    Local.whole-mem 𝓤 H A W (Declared'.row RelayPacket.the-type) ρ,
+                                Path.refl,
+                              ),
+                              (
+                                ShrSlice.spares-sslice 𝓤 H A W (Referent.rtF (Referent.fInt Syntax.w8)) ref14 5,
+                                Shared.reads-sslice 𝓤 H A W (Referent.rtF (Referent.fInt Syntax.w8)) ref14 5,
+                                Path.refl,
+                                (
+                                  ShrSlice.spares-sslice 𝓤 H A W (Referent.rtF (Referent.fInt Syntax.w8)) ref15 6,
+                                  Shared.reads-sslice 𝓤 H A W (Referent.rtF (Referent.fInt Syntax.w8)) ref15 6,
+                                  Path.refl,
+                                  (
+                                    ShrSlice.spares-sslice 𝓤 H A W (Referent.rtF (Referent.fInt Syntax.w8)) ref16 7,
+                                    Shared.reads-sslice 𝓤 H A W (Referent.rtF (Referent.fInt Syntax.w8)) ref16 7,
+                                    Path.refl,
+                                    (
+                                      ShrSlice.spares-sslice 𝓤 H A W (Referent.rtF (Referent.fInt Syntax.w8)) ref17 8,
+                                      Shared.reads-sslice 𝓤 H A W (Referent.rtF (Referent.fInt Syntax.w8)) ref17 8,
+                                      Path.refl,
+                                      tt,
+                                    ),
+                                  ),
+                                ),
+                              ),
+                            ),
+                          ),
+                        ),
+                      ),
+                    ),
+                  ),
+                ),
+              ) (Reads'.room-gone 𝓤 H A Laws'''''.mir) (tt, (tt, (tt, (tt, (tt, (tt, (tt, (tt, (tt, tt)))))))))
+              Path.refl) d20
+
           d22 : Typed.Typed 𝓤 H A 𝓣 E G74 b34 Δ1 (at22 bs)
-          d22 = Typed.s-seq 𝓤 H A W 𝓣 E G74 G75 b30 b33 Δ1 (Typed.ask (s72 bs)) (at21 bs) (Relend.t-sl-aggregate 𝓤 H A W E (Referent.rtF
-              (Referent.fInt Syntax.w32)) 𝓣 (Relend.asMut (Referent.rtF (Referent.fInt Syntax.w32))) G74 39 40 17 ref8 ref8 (λ x. x) (Scalar.oFld 5
-              ((Syntax.field 1) ∷ List.[]) (Syntax.tyInt Syntax.w64) 8 λ v. Shared.lenV (v .0)) (Reads'.as-is 𝓤 H A (Relend.msptr (Referent.rtF
-              (Referent.fInt Syntax.w32)) ref8 17)) (Reads'.room-gone 𝓤 H A (Syntax.tyStruct (38 ∷ 91 ∷ 93 ∷ List.[]) (Syntax.tcons ref8 (Syntax.tcons
-              (Syntax.tyInt Syntax.w64) Syntax.tnil)))) (Relend.reads-owed-len 𝓤 H A W (Referent.rtF (Referent.fInt Syntax.w32)) ref13 4 17 life4 8
-              Path.refl, Path.refl,) Path.refl Path.refl λ b o k. tt) d21
+          d22 = Typed.s-seq 𝓤 H A W 𝓣 E G74 G75 b30 b33 Δ1 (Typed.ask (s72 bs)) (at21 bs) (Relend.t-sl-aggregate 𝓤 H A
+              W E (Referent.rtF (Referent.fInt Syntax.w32)) 𝓣 (Relend.asMut (Referent.rtF (Referent.fInt Syntax.w32)))
+              G74 39 40 17 ref8 ref8 (λ x. x) (Scalar.oFld 5 ((Syntax.field 1) ∷ List.[]) (Syntax.tyInt Syntax.w64) 8
+              λ v. Shared.lenV (v .0)) (Reads'.as-is 𝓤 H A (Relend.msptr (Referent.rtF (Referent.fInt Syntax.w32)) ref8
+              17)) (Reads'.room-gone 𝓤 H A slice8) (
+                Relend.reads-owed-len 𝓤 H A W (Referent.rtF (Referent.fInt Syntax.w32)) ref13 4 17 life4 8 Path.refl,
+                Path.refl,
+              ) Path.refl Path.refl λ b o k. tt) d21
+
           d23 : Typed.Typed 𝓤 H A 𝓣 E G73 b35 Δ1 (at23 bs)
-          d23 = Typed.s-seq 𝓤 H A W 𝓣 E G73 G74 b29 b34 Δ1 (Typed.give (s71 bs)) (at22 bs) (Relend.t-sl-relend 𝓤 H A W E (Referent.rtF (Referent.fInt
-              Syntax.w32)) 𝓣 G73 5 39 4 17 ref13 ref8 life4 0 (λ x. x) (Reads'.as-is 𝓤 H A (Mut.mslice (Referent.rtF (Referent.fInt Syntax.w32)) ref13
-              4)) (Reads'.room-gone 𝓤 H A ref8) Path.refl tt Path.refl Path.refl Path.refl λ b o. tt) d22
+          d23 = Typed.s-seq 𝓤 H A W 𝓣 E G73 G74 b29 b34 Δ1 (Typed.give (s71 bs)) (at22 bs) (Relend.t-sl-relend 𝓤 H A W
+              E (Referent.rtF (Referent.fInt Syntax.w32)) 𝓣 G73 5 39 4 17 ref13 ref8 life4 0 (λ x. x) (Reads'.as-is 𝓤 H
+              A (Mut.mslice (Referent.rtF (Referent.fInt Syntax.w32)) ref13 4)) (Reads'.room-gone 𝓤 H A ref8) Path.refl
+              tt Path.refl Path.refl Path.refl λ b o. tt) d22
+
           d24 : Typed.Typed 𝓤 H A 𝓣 E G72 b35 Δ1 (at24 bs)
-          d24 = Typed.g-pre 𝓤 H A W 𝓣 E G72 G73 b35 Δ1 (λ Ψ. Ψ) (at23 bs) (Lifetime.g-begin 𝓤 H A W E G72 17 (tt, ((tt, tt), ((tt, tt), ((tt, tt),
-              ((tt, tt), (tt, (tt, (tt, (tt, (tt, (tt, (tt, (tt, (tt, (tt, (tt, (tt, (tt, (tt, (tt, (tt, (tt, (tt, (tt, (tt, (tt, (tt, (tt, (tt, (tt,
-              (tt, (tt, (tt, (tt, (tt, (tt, (tt, (tt, (tt, (tt, (tt,
-              tt,),),),),),),),),),),),),),),),),),),),),),),),),),),),),),),),),),),),),),),),),)) d23
+          d24 = Typed.g-pre 𝓤 H A W 𝓣 E G72 G73 b35 Δ1 (λ Ψ. Ψ) (at23 bs) (Lifetime.g-begin 𝓤 H A W E G72 17 (
+            tt,
+            (
+              (tt, tt),
+              (
+                (tt, tt),
+                (
+                  (tt, tt),
+                  (
+                    (tt, tt),
+                    (
+                      tt,
+                      (
+                        tt,
+                        (
+                          tt,
+                          (
+                            tt,
+                            (
+                              tt,
+                              (
+                                tt,
+                                (
+                                  tt,
+                                  (
+                                    tt,
+                                    (
+                                      tt,
+                                      (
+                                        tt,
+                                        (
+                                          tt,
+                                          (
+                                            tt,
+                                            (
+                                              tt,
+                                              (
+                                                tt,
+                                                (
+                                                  tt,
+                                                  (
+                                                    tt,
+                                                    (
+                                                      tt,
+                                                      (
+                                                        tt,
+                                                        (
+                                                          tt,
+                                                          (
+                                                            tt,
+                                                            (
+                                                              tt,
+                                                              (
+                                                                tt,
+                                                                (
+                                                                  tt,
+                                                                  (
+                                                                    tt,
+                                                                    (
+                                                                      tt,
+                                                                      (
+                                                                        tt,
+                                                                        (
+                                                                          tt,
+                                                                          (
+                                                                            tt,
+                                                                            (
+                                                                              tt,
+                                                                              (
+                                                                                tt,
+                                                                                (tt, (tt, (tt, (tt, (tt, (tt, tt)))))),
+                                                                              ),
+                                                                            ),
+                                                                          ),
+                                                                        ),
+                                                                      ),
+                                                                    ),
+                                                                  ),
+                                                                ),
+                                                              ),
+                                                            ),
+                                                          ),
+                                                        ),
+                                                      ),
+                                                    ),
+                                                  ),
+                                                ),
+                                              ),
+                                            ),
+                                          ),
+                                        ),
+                                      ),
+                                    ),
+                                  ),
+                                ),
+                              ),
+                            ),
+                          ),
+                        ),
+                      ),
+                    ),
+                  ),
+                ),
+              ),
+            ),
+          )) d23
+
           d25 : Typed.Typed 𝓤 H A 𝓣 E G71 b36 Δ1 (at25 bs)
-          d25 = Typed.s-seq 𝓤 H A W 𝓣 E G71 G72 b28 b35 Δ1 (Typed.ask (s69 bs)) (at24 bs) (Relend.t-sl-aggregate 𝓤 H A W E InflightAction.row 𝓣
-              (Relend.asMut InflightAction.row) G71 37 38 16 ref7 ref7 (λ x. x) (Scalar.oFld 4 ((Syntax.field 1) ∷ List.[]) (Syntax.tyInt Syntax.w64)
-              8 λ v. Shared.lenV (v .0)) (Reads'.as-is 𝓤 H A (Relend.msptr InflightAction.row ref7 16)) (Reads'.room-gone 𝓤 H A (Syntax.tyStruct (38 ∷
-              91 ∷ 93 ∷ List.[]) (Syntax.tcons ref7 (Syntax.tcons (Syntax.tyInt Syntax.w64) Syntax.tnil)))) (Relend.reads-owed-len 𝓤 H A W
-              InflightAction.row ref12 3 16 life3 8 Path.refl, Path.refl,) Path.refl Path.refl λ b o k. tt) d24
+          d25 = Typed.s-seq 𝓤 H A W 𝓣 E G71 G72 b28 b35 Δ1 (Typed.ask (s69 bs)) (at24 bs) (Relend.t-sl-aggregate 𝓤 H A
+              W E InflightAction.row 𝓣 (Relend.asMut InflightAction.row) G71 37 38 16 ref7 ref7 (λ x. x) (Scalar.oFld 4
+              ((Syntax.field 1) ∷ List.[]) (Syntax.tyInt Syntax.w64) 8 λ v. Shared.lenV (v .0)) (Reads'.as-is 𝓤 H A
+              (Relend.msptr InflightAction.row ref7 16)) (Reads'.room-gone 𝓤 H A slice7) (
+                Relend.reads-owed-len 𝓤 H A W InflightAction.row ref12 3 16 life3 8 Path.refl,
+                Path.refl,
+              ) Path.refl Path.refl λ b o k. tt) d24
+
           d26 : Typed.Typed 𝓤 H A 𝓣 E G70 b37 Δ1 (at26 bs)
-          d26 = Typed.s-seq 𝓤 H A W 𝓣 E G70 G71 b27 b36 Δ1 (Typed.give (s68 bs)) (at25 bs) (Relend.t-sl-relend 𝓤 H A W E InflightAction.row 𝓣 G70 4 37
-              3 16 ref12 ref7 life3 0 (λ x. x) (Reads'.as-is 𝓤 H A (Mut.mslice InflightAction.row ref12 3)) (Reads'.room-gone 𝓤 H A ref7) Path.refl tt
-              Path.refl Path.refl Path.refl λ b o. tt) d25
+          d26 = Typed.s-seq 𝓤 H A W 𝓣 E G70 G71 b27 b36 Δ1 (Typed.give (s68 bs)) (at25 bs) (Relend.t-sl-relend 𝓤 H A W
+              E InflightAction.row 𝓣 G70 4 37 3 16 ref12 ref7 life3 0 (λ x. x) (Reads'.as-is 𝓤 H A
+              (Mut.mslice InflightAction.row ref12 3)) (Reads'.room-gone 𝓤 H A ref7) Path.refl tt Path.refl Path.refl
+              Path.refl λ b o. tt) d25
+
           d27 : Typed.Typed 𝓤 H A 𝓣 E G69 b37 Δ1 (at27 bs)
-          d27 = Typed.g-pre 𝓤 H A W 𝓣 E G69 G70 b37 Δ1 (λ Ψ. Ψ) (at26 bs) (Lifetime.g-begin 𝓤 H A W E G69 16 (tt, ((tt, tt), ((tt, tt), ((tt, tt),
-              (tt, (tt, (tt, (tt, (tt, (tt, (tt, (tt, (tt, (tt, (tt, (tt, (tt, (tt, (tt, (tt, (tt, (tt, (tt, (tt, (tt, (tt, (tt, (tt, (tt, (tt, (tt,
-              (tt, (tt, (tt, (tt, (tt, (tt, (tt, (tt, (tt, (tt, tt,),),),),),),),),),),),),),),),),),),),),),),),),),),),),),),),),),),),),),),),),))
-              d26
+          d27 = Typed.g-pre 𝓤 H A W 𝓣 E G69 G70 b37 Δ1 (λ Ψ. Ψ) (at26 bs) (Lifetime.g-begin 𝓤 H A W E G69 16 (
+            tt,
+            (
+              (tt, tt),
+              (
+                (tt, tt),
+                (
+                  (tt, tt),
+                  (
+                    tt,
+                    (
+                      tt,
+                      (
+                        tt,
+                        (
+                          tt,
+                          (
+                            tt,
+                            (
+                              tt,
+                              (
+                                tt,
+                                (
+                                  tt,
+                                  (
+                                    tt,
+                                    (
+                                      tt,
+                                      (
+                                        tt,
+                                        (
+                                          tt,
+                                          (
+                                            tt,
+                                            (
+                                              tt,
+                                              (
+                                                tt,
+                                                (
+                                                  tt,
+                                                  (
+                                                    tt,
+                                                    (
+                                                      tt,
+                                                      (
+                                                        tt,
+                                                        (
+                                                          tt,
+                                                          (
+                                                            tt,
+                                                            (
+                                                              tt,
+                                                              (
+                                                                tt,
+                                                                (
+                                                                  tt,
+                                                                  (
+                                                                    tt,
+                                                                    (
+                                                                      tt,
+                                                                      (
+                                                                        tt,
+                                                                        (
+                                                                          tt,
+                                                                          (
+                                                                            tt,
+                                                                            (
+                                                                              tt,
+                                                                              (
+                                                                                tt,
+                                                                                (tt, (tt, (tt, (tt, (tt, (tt, tt)))))),
+                                                                              ),
+                                                                            ),
+                                                                          ),
+                                                                        ),
+                                                                      ),
+                                                                    ),
+                                                                  ),
+                                                                ),
+                                                              ),
+                                                            ),
+                                                          ),
+                                                        ),
+                                                      ),
+                                                    ),
+                                                  ),
+                                                ),
+                                              ),
+                                            ),
+                                          ),
+                                        ),
+                                      ),
+                                    ),
+                                  ),
+                                ),
+                              ),
+                            ),
+                          ),
+                        ),
+                      ),
+                    ),
+                  ),
+                ),
+              ),
+            ),
+          )) d26
+
           d28 : Typed.Typed 𝓤 H A 𝓣 E G68 b38 Δ1 (at28 bs)
-          d28 = Typed.s-seq 𝓤 H A W 𝓣 E G68 G69 b26 b37 Δ1 (Typed.ask (s66 bs)) (at27 bs) (Relend.t-sl-aggregate 𝓤 H A W E ReservationUsage.row 𝓣
-              (Relend.asMut ReservationUsage.row) G68 35 36 15 ref6 ref6 (λ x. x) (Scalar.oFld 3 ((Syntax.field 1) ∷ List.[]) (Syntax.tyInt
-              Syntax.w64) 8 λ v. Shared.lenV (v .0)) (Reads'.as-is 𝓤 H A (Relend.msptr ReservationUsage.row ref6 15)) (Reads'.room-gone 𝓤 H A
-              (Syntax.tyStruct (38 ∷ 91 ∷ 93 ∷ List.[]) (Syntax.tcons ref6 (Syntax.tcons (Syntax.tyInt Syntax.w64) Syntax.tnil))))
-              (Relend.reads-owed-len 𝓤 H A W ReservationUsage.row ref11 2 15 life2 8 Path.refl, Path.refl,) Path.refl Path.refl λ b o k. tt) d27
+          d28 = Typed.s-seq 𝓤 H A W 𝓣 E G68 G69 b26 b37 Δ1 (Typed.ask (s66 bs)) (at27 bs) (Relend.t-sl-aggregate 𝓤 H A
+              W E ReservationUsage.row 𝓣 (Relend.asMut ReservationUsage.row) G68 35 36 15 ref6 ref6 (λ x. x) (Scalar.oFld
+              3 ((Syntax.field 1) ∷ List.[]) (Syntax.tyInt Syntax.w64) 8 λ v. Shared.lenV (v .0)) (Reads'.as-is 𝓤 H A
+              (Relend.msptr ReservationUsage.row ref6 15)) (Reads'.room-gone 𝓤 H A slice6) (
+                Relend.reads-owed-len 𝓤 H A W ReservationUsage.row ref11 2 15 life2 8 Path.refl,
+                Path.refl,
+              ) Path.refl Path.refl λ b o k. tt) d27
+
           d29 : Typed.Typed 𝓤 H A 𝓣 E G67 b39 Δ1 (at29 bs)
-          d29 = Typed.s-seq 𝓤 H A W 𝓣 E G67 G68 b25 b38 Δ1 (Typed.give (s65 bs)) (at28 bs) (Relend.t-sl-relend 𝓤 H A W E ReservationUsage.row 𝓣 G67 3
-              35 2 15 ref11 ref6 life2 0 (λ x. x) (Reads'.as-is 𝓤 H A (Mut.mslice ReservationUsage.row ref11 2)) (Reads'.room-gone 𝓤 H A ref6)
-              Path.refl tt Path.refl Path.refl Path.refl λ b o. tt) d28
+          d29 = Typed.s-seq 𝓤 H A W 𝓣 E G67 G68 b25 b38 Δ1 (Typed.give (s65 bs)) (at28 bs) (Relend.t-sl-relend 𝓤 H A W
+              E ReservationUsage.row 𝓣 G67 3 35 2 15 ref11 ref6 life2 0 (λ x. x) (Reads'.as-is 𝓤 H A
+              (Mut.mslice ReservationUsage.row ref11 2)) (Reads'.room-gone 𝓤 H A ref6) Path.refl tt Path.refl Path.refl
+              Path.refl λ b o. tt) d28
+
           d30 : Typed.Typed 𝓤 H A 𝓣 E G66 b39 Δ1 (at30 bs)
-          d30 = Typed.g-pre 𝓤 H A W 𝓣 E G66 G67 b39 Δ1 (λ Ψ. Ψ) (at29 bs) (Lifetime.g-begin 𝓤 H A W E G66 15 (tt, ((tt, tt), ((tt, tt), (tt, (tt, (tt,
-              (tt, (tt, (tt, (tt, (tt, (tt, (tt, (tt, (tt, (tt, (tt, (tt, (tt, (tt, (tt, (tt, (tt, (tt, (tt, (tt, (tt, (tt, (tt, (tt, (tt, (tt, (tt,
-              (tt, (tt, (tt, (tt, (tt, (tt, (tt, (tt, tt,),),),),),),),),),),),),),),),),),),),),),),),),),),),),),),),),),),),),),),),),)) d29
+          d30 = Typed.g-pre 𝓤 H A W 𝓣 E G66 G67 b39 Δ1 (λ Ψ. Ψ) (at29 bs) (Lifetime.g-begin 𝓤 H A W E G66 15 (
+            tt,
+            (
+              (tt, tt),
+              (
+                (tt, tt),
+                (
+                  tt,
+                  (
+                    tt,
+                    (
+                      tt,
+                      (
+                        tt,
+                        (
+                          tt,
+                          (
+                            tt,
+                            (
+                              tt,
+                              (
+                                tt,
+                                (
+                                  tt,
+                                  (
+                                    tt,
+                                    (
+                                      tt,
+                                      (
+                                        tt,
+                                        (
+                                          tt,
+                                          (
+                                            tt,
+                                            (
+                                              tt,
+                                              (
+                                                tt,
+                                                (
+                                                  tt,
+                                                  (
+                                                    tt,
+                                                    (
+                                                      tt,
+                                                      (
+                                                        tt,
+                                                        (
+                                                          tt,
+                                                          (
+                                                            tt,
+                                                            (
+                                                              tt,
+                                                              (
+                                                                tt,
+                                                                (
+                                                                  tt,
+                                                                  (
+                                                                    tt,
+                                                                    (
+                                                                      tt,
+                                                                      (
+                                                                        tt,
+                                                                        (
+                                                                          tt,
+                                                                          (
+                                                                            tt,
+                                                                            (
+                                                                              tt,
+                                                                              (
+                                                                                tt,
+                                                                                (tt, (tt, (tt, (tt, (tt, (tt, tt)))))),
+                                                                              ),
+                                                                            ),
+                                                                          ),
+                                                                        ),
+                                                                      ),
+                                                                    ),
+                                                                  ),
+                                                                ),
+                                                              ),
+                                                            ),
+                                                          ),
+                                                        ),
+                                                      ),
+                                                    ),
+                                                  ),
+                                                ),
+                                              ),
+                                            ),
+                                          ),
+                                        ),
+                                      ),
+                                    ),
+                                  ),
+                                ),
+                              ),
+                            ),
+                          ),
+                        ),
+                      ),
+                    ),
+                  ),
+                ),
+              ),
+            ),
+          )) d29
+
           d31 : Typed.Typed 𝓤 H A 𝓣 E G65 b40 Δ1 (at31 bs)
-          d31 = Typed.s-seq 𝓤 H A W 𝓣 E G65 G66 b24 b39 Δ1 (Typed.ask (s63 bs)) (at30 bs) (Relend.t-sl-aggregate 𝓤 H A W E RelayCircuit.row 𝓣
-              (Relend.asMut RelayCircuit.row) G65 33 34 14 ref5 ref5 (λ x. x) (Scalar.oFld 2 ((Syntax.field 1) ∷ List.[]) (Syntax.tyInt Syntax.w64) 8
-              λ v. Shared.lenV (v .0)) (Reads'.as-is 𝓤 H A (Relend.msptr RelayCircuit.row ref5 14)) (Reads'.room-gone 𝓤 H A (Syntax.tyStruct (38 ∷ 91
-              ∷ 93 ∷ List.[]) (Syntax.tcons ref5 (Syntax.tcons (Syntax.tyInt Syntax.w64) Syntax.tnil)))) (Relend.reads-owed-len 𝓤 H A W
-              RelayCircuit.row ref10 1 14 life1 8 Path.refl, Path.refl,) Path.refl Path.refl λ b o k. tt) d30
+          d31 = Typed.s-seq 𝓤 H A W 𝓣 E G65 G66 b24 b39 Δ1 (Typed.ask (s63 bs)) (at30 bs) (Relend.t-sl-aggregate 𝓤 H A
+              W E RelayCircuit.row 𝓣 (Relend.asMut RelayCircuit.row) G65 33 34 14 ref5 ref5 (λ x. x) (Scalar.oFld 2
+              ((Syntax.field 1) ∷ List.[]) (Syntax.tyInt Syntax.w64) 8 λ v. Shared.lenV (v .0)) (Reads'.as-is 𝓤 H A
+              (Relend.msptr RelayCircuit.row ref5 14)) (Reads'.room-gone 𝓤 H A slice5) (
+                Relend.reads-owed-len 𝓤 H A W RelayCircuit.row ref10 1 14 life1 8 Path.refl,
+                Path.refl,
+              ) Path.refl Path.refl λ b o k. tt) d30
+
           d32 : Typed.Typed 𝓤 H A 𝓣 E G64 b41 Δ1 (at32 bs)
-          d32 = Typed.s-seq 𝓤 H A W 𝓣 E G64 G65 b23 b40 Δ1 (Typed.give (s62 bs)) (at31 bs) (Relend.t-sl-relend 𝓤 H A W E RelayCircuit.row 𝓣 G64 2 33 1
-              14 ref10 ref5 life1 0 (λ x. x) (Reads'.as-is 𝓤 H A (Mut.mslice RelayCircuit.row ref10 1)) (Reads'.room-gone 𝓤 H A ref5) Path.refl tt
+          d32 = Typed.s-seq 𝓤 H A W 𝓣 E G64 G65 b23 b40 Δ1 (Typed.give (s62 bs)) (at31 bs) (Relend.t-sl-relend 𝓤 H A W
+              E RelayCircuit.row 𝓣 G64 2 33 1 14 ref10 ref5 life1 0 (λ x. x)
+              (Reads'.as-is 𝓤 H A (Mut.mslice RelayCircuit.row ref10 1)) (Reads'.room-gone 𝓤 H A ref5) Path.refl tt
               Path.refl Path.refl Path.refl λ b o. tt) d31
+
           d33 : Typed.Typed 𝓤 H A 𝓣 E G63 b41 Δ1 (at33 bs)
-          d33 = Typed.g-pre 𝓤 H A W 𝓣 E G63 G64 b41 Δ1 (λ Ψ. Ψ) (at32 bs) (Lifetime.g-begin 𝓤 H A W E G63 14 (tt, ((tt, tt), (tt, (tt, (tt, (tt, (tt,
-              (tt, (tt, (tt, (tt, (tt, (tt, (tt, (tt, (tt, (tt, (tt, (tt, (tt, (tt, (tt, (tt, (tt, (tt, (tt, (tt, (tt, (tt, (tt, (tt, (tt, (tt, (tt,
-              (tt, (tt, (tt, (tt, (tt, (tt, (tt, tt,),),),),),),),),),),),),),),),),),),),),),),),),),),),),),),),),),),),),),),),),)) d32
+          d33 = Typed.g-pre 𝓤 H A W 𝓣 E G63 G64 b41 Δ1 (λ Ψ. Ψ) (at32 bs) (Lifetime.g-begin 𝓤 H A W E G63 14 (
+            tt,
+            (
+              (tt, tt),
+              (
+                tt,
+                (
+                  tt,
+                  (
+                    tt,
+                    (
+                      tt,
+                      (
+                        tt,
+                        (
+                          tt,
+                          (
+                            tt,
+                            (
+                              tt,
+                              (
+                                tt,
+                                (
+                                  tt,
+                                  (
+                                    tt,
+                                    (
+                                      tt,
+                                      (
+                                        tt,
+                                        (
+                                          tt,
+                                          (
+                                            tt,
+                                            (
+                                              tt,
+                                              (
+                                                tt,
+                                                (
+                                                  tt,
+                                                  (
+                                                    tt,
+                                                    (
+                                                      tt,
+                                                      (
+                                                        tt,
+                                                        (
+                                                          tt,
+                                                          (
+                                                            tt,
+                                                            (
+                                                              tt,
+                                                              (
+                                                                tt,
+                                                                (
+                                                                  tt,
+                                                                  (
+                                                                    tt,
+                                                                    (
+                                                                      tt,
+                                                                      (
+                                                                        tt,
+                                                                        (
+                                                                          tt,
+                                                                          (
+                                                                            tt,
+                                                                            (
+                                                                              tt,
+                                                                              (
+                                                                                tt,
+                                                                                (tt, (tt, (tt, (tt, (tt, (tt, tt)))))),
+                                                                              ),
+                                                                            ),
+                                                                          ),
+                                                                        ),
+                                                                      ),
+                                                                    ),
+                                                                  ),
+                                                                ),
+                                                              ),
+                                                            ),
+                                                          ),
+                                                        ),
+                                                      ),
+                                                    ),
+                                                  ),
+                                                ),
+                                              ),
+                                            ),
+                                          ),
+                                        ),
+                                      ),
+                                    ),
+                                  ),
+                                ),
+                              ),
+                            ),
+                          ),
+                        ),
+                      ),
+                    ),
+                  ),
+                ),
+              ),
+            ),
+          )) d32
+
           d34 : Typed.Typed 𝓤 H A 𝓣 E G62 b42 Δ1 (at34 bs)
-          d34 = Typed.s-seq 𝓤 H A W 𝓣 E G62 G63 b22 b41 Δ1 (Typed.ask (s60 bs)) (at33 bs) (Relend.t-sl-aggregate 𝓤 H A W E RelayPending.row 𝓣
-              (Relend.asMut RelayPending.row) G62 31 32 13 ref4 ref4 (λ x. x) (Scalar.oFld 1 ((Syntax.field 1) ∷ List.[]) (Syntax.tyInt Syntax.w64) 8
-              λ v. Shared.lenV (v .0)) (Reads'.as-is 𝓤 H A (Relend.msptr RelayPending.row ref4 13)) (Reads'.room-gone 𝓤 H A (Syntax.tyStruct (38 ∷ 91
-              ∷ 93 ∷ List.[]) (Syntax.tcons ref4 (Syntax.tcons (Syntax.tyInt Syntax.w64) Syntax.tnil)))) (Relend.reads-owed-len 𝓤 H A W
-              RelayPending.row ref9 0 13 life0 8 Path.refl, Path.refl,) Path.refl Path.refl λ b o k. tt) d33
+          d34 = Typed.s-seq 𝓤 H A W 𝓣 E G62 G63 b22 b41 Δ1 (Typed.ask (s60 bs)) (at33 bs) (Relend.t-sl-aggregate 𝓤 H A
+              W E RelayPending.row 𝓣 (Relend.asMut RelayPending.row) G62 31 32 13 ref4 ref4 (λ x. x) (Scalar.oFld 1
+              ((Syntax.field 1) ∷ List.[]) (Syntax.tyInt Syntax.w64) 8 λ v. Shared.lenV (v .0)) (Reads'.as-is 𝓤 H A
+              (Relend.msptr RelayPending.row ref4 13)) (Reads'.room-gone 𝓤 H A slice4) (
+                Relend.reads-owed-len 𝓤 H A W RelayPending.row ref9 0 13 life0 8 Path.refl,
+                Path.refl,
+              ) Path.refl Path.refl λ b o k. tt) d33
+
           d35 : Typed.Typed 𝓤 H A 𝓣 E G61 b43 Δ1 (at35 bs)
-          d35 = Typed.s-seq 𝓤 H A W 𝓣 E G61 G62 b21 b42 Δ1 (Typed.give (s59 bs)) (at34 bs) (Relend.t-sl-relend 𝓤 H A W E RelayPending.row 𝓣 G61 1 31 0
-              13 ref9 ref4 life0 0 (λ x. x) (Reads'.as-is 𝓤 H A (Mut.mslice RelayPending.row ref9 0)) (Reads'.room-gone 𝓤 H A ref4) Path.refl tt
+          d35 = Typed.s-seq 𝓤 H A W 𝓣 E G61 G62 b21 b42 Δ1 (Typed.give (s59 bs)) (at34 bs) (Relend.t-sl-relend 𝓤 H A W
+              E RelayPending.row 𝓣 G61 1 31 0 13 ref9 ref4 life0 0 (λ x. x)
+              (Reads'.as-is 𝓤 H A (Mut.mslice RelayPending.row ref9 0)) (Reads'.room-gone 𝓤 H A ref4) Path.refl tt
               Path.refl Path.refl Path.refl λ b o. tt) d34
+
           d36 : Typed.Typed 𝓤 H A 𝓣 E G60 b43 Δ1 (at36 bs)
-          d36 = Typed.g-pre 𝓤 H A W 𝓣 E G60 G61 b43 Δ1 (λ Ψ. Ψ) (at35 bs) (Lifetime.g-begin 𝓤 H A W E G60 13 (tt, (tt, (tt, (tt, (tt, (tt, (tt, (tt,
-              (tt, (tt, (tt, (tt, (tt, (tt, (tt, (tt, (tt, (tt, (tt, (tt, (tt, (tt, (tt, (tt, (tt, (tt, (tt, (tt, (tt, (tt, (tt, (tt, (tt, (tt, (tt,
-              (tt, (tt, (tt, (tt, (tt, (tt, tt,),),),),),),),),),),),),),),),),),),),),),),),),),),),),),),),),),),),),),),),),)) d35
+          d36 = Typed.g-pre 𝓤 H A W 𝓣 E G60 G61 b43 Δ1 (λ Ψ. Ψ) (at35 bs) (Lifetime.g-begin 𝓤 H A W E G60 13 (
+            tt,
+            (
+              tt,
+              (
+                tt,
+                (
+                  tt,
+                  (
+                    tt,
+                    (
+                      tt,
+                      (
+                        tt,
+                        (
+                          tt,
+                          (
+                            tt,
+                            (
+                              tt,
+                              (
+                                tt,
+                                (
+                                  tt,
+                                  (
+                                    tt,
+                                    (
+                                      tt,
+                                      (
+                                        tt,
+                                        (
+                                          tt,
+                                          (
+                                            tt,
+                                            (
+                                              tt,
+                                              (
+                                                tt,
+                                                (
+                                                  tt,
+                                                  (
+                                                    tt,
+                                                    (
+                                                      tt,
+                                                      (
+                                                        tt,
+                                                        (
+                                                          tt,
+                                                          (
+                                                            tt,
+                                                            (
+                                                              tt,
+                                                              (
+                                                                tt,
+                                                                (
+                                                                  tt,
+                                                                  (
+                                                                    tt,
+                                                                    (
+                                                                      tt,
+                                                                      (
+                                                                        tt,
+                                                                        (
+                                                                          tt,
+                                                                          (
+                                                                            tt,
+                                                                            (
+                                                                              tt,
+                                                                              (
+                                                                                tt,
+                                                                                (tt, (tt, (tt, (tt, (tt, (tt, tt)))))),
+                                                                              ),
+                                                                            ),
+                                                                          ),
+                                                                        ),
+                                                                      ),
+                                                                    ),
+                                                                  ),
+                                                                ),
+                                                              ),
+                                                            ),
+                                                          ),
+                                                        ),
+                                                      ),
+                                                    ),
+                                                  ),
+                                                ),
+                                              ),
+                                            ),
+                                          ),
+                                        ),
+                                      ),
+                                    ),
+                                  ),
+                                ),
+                              ),
+                            ),
+                          ),
+                        ),
+                      ),
+                    ),
+                  ),
+                ),
+              ),
+            ),
+          )) d35
+
           d37 : Typed.Typed 𝓤 H A 𝓣 E G59 b43 Δ1 (at37 bs)
-          d37 = Typed.g-pre 𝓤 H A W 𝓣 E G59 G60 b43 Δ1 (λ Ψ. Ψ) (at36 bs) (Lifetime.g-forget 𝓤 H A W E G59 12 Row.dead Path.refl) d36
+          d37 = Typed.g-pre 𝓤 H A W 𝓣 E G59 G60 b43 Δ1 (λ Ψ. Ψ) (at36 bs)
+              (Lifetime.g-forget 𝓤 H A W E G59 12 Row.dead Path.refl) d36
+
           d38 : Typed.Typed 𝓤 H A 𝓣 E G58 b43 Δ1 (at38 bs)
-          d38 = Typed.g-pre 𝓤 H A W 𝓣 E G58 G59 b43 Δ1 (Typed.pass T56 T59 (s56 bs)) (at37 bs) (Reshare.g-back-sl-shr 𝓤 H A W E InflightAction.row G58
-              4 3 12 ref12 life3 (λ x. x) (Reads'.as-is 𝓤 H A (Reshare.mslice-owedS InflightAction.row ref12 3 12 life3)) Path.refl Path.refl) d37
+          d38 = Typed.g-pre 𝓤 H A W 𝓣 E G58 G59 b43 Δ1 (Typed.pass T56 T59 (s56 bs)) (at37 bs) (Reshare.g-back-sl-shr 𝓤
+              H A W E InflightAction.row G58 4 3 12 ref12 life3 (λ x. x) (Reads'.as-is 𝓤 H A
+              (Reshare.mslice-owedS InflightAction.row ref12 3 12 life3)) Path.refl Path.refl) d37
+
           d39 : Typed.Typed 𝓤 H A 𝓣 E G57 b43 Δ1 (at39 bs)
-          d39 = Typed.g-pre 𝓤 H A W 𝓣 E G57 G58 b43 Δ1 (λ Ψ. Ψ) (at38 bs) (Lifetime.g-end 𝓤 H A W E G57 12 Path.refl) d38
+          d39 = Typed.g-pre 𝓤 H A W 𝓣 E G57 G58 b43 Δ1 (λ Ψ. Ψ) (at38 bs) (Lifetime.g-end 𝓤 H A W E G57 12 Path.refl)
+              d38
+
           d40 : Typed.Typed 𝓤 H A 𝓣 E G56 b43 Δ1 (at40 bs)
-          d40 = Typed.g-pre 𝓤 H A W 𝓣 E G56 G57 b43 Δ1 (λ Ψ. Ψ) (at39 bs) (Lifetime.g-forget 𝓤 H A W E G56 11 Row.dead Path.refl) d39
+          d40 = Typed.g-pre 𝓤 H A W 𝓣 E G56 G57 b43 Δ1 (λ Ψ. Ψ) (at39 bs)
+              (Lifetime.g-forget 𝓤 H A W E G56 11 Row.dead Path.refl) d39
+
           d41 : Typed.Typed 𝓤 H A 𝓣 E G55 b43 Δ1 (at41 bs)
-          d41 = Typed.g-pre 𝓤 H A W 𝓣 E G55 G56 b43 Δ1 (Typed.pass T53 T56 (s53 bs)) (at40 bs) (Reshare.g-back-sl-shr 𝓤 H A W E ReservationUsage.row
-              G55 3 2 11 ref11 life2 (λ x. x) (Reads'.as-is 𝓤 H A (Reshare.mslice-owedS ReservationUsage.row ref11 2 11 life2)) Path.refl Path.refl)
-              d40
+          d41 = Typed.g-pre 𝓤 H A W 𝓣 E G55 G56 b43 Δ1 (Typed.pass T53 T56 (s53 bs)) (at40 bs) (Reshare.g-back-sl-shr 𝓤
+              H A W E ReservationUsage.row G55 3 2 11 ref11 life2 (λ x. x) (Reads'.as-is 𝓤 H A (Reshare.mslice-owedS
+              ReservationUsage.row ref11 2 11 life2)) Path.refl Path.refl) d40
+
           d42 : Typed.Typed 𝓤 H A 𝓣 E G54 b43 Δ1 (at42 bs)
-          d42 = Typed.g-pre 𝓤 H A W 𝓣 E G54 G55 b43 Δ1 (λ Ψ. Ψ) (at41 bs) (Lifetime.g-end 𝓤 H A W E G54 11 Path.refl) d41
+          d42 = Typed.g-pre 𝓤 H A W 𝓣 E G54 G55 b43 Δ1 (λ Ψ. Ψ) (at41 bs) (Lifetime.g-end 𝓤 H A W E G54 11 Path.refl)
+              d41
+
           d43 : Typed.Typed 𝓤 H A 𝓣 E G53 b43 Δ1 (at43 bs)
-          d43 = Typed.g-pre 𝓤 H A W 𝓣 E G53 G54 b43 Δ1 (λ Ψ. Ψ) (at42 bs) (Lifetime.g-forget 𝓤 H A W E G53 10 Row.dead Path.refl) d42
+          d43 = Typed.g-pre 𝓤 H A W 𝓣 E G53 G54 b43 Δ1 (λ Ψ. Ψ) (at42 bs)
+              (Lifetime.g-forget 𝓤 H A W E G53 10 Row.dead Path.refl) d42
+
           d44 : Typed.Typed 𝓤 H A 𝓣 E G52 b43 Δ1 (at44 bs)
-          d44 = Typed.g-pre 𝓤 H A W 𝓣 E G52 G53 b43 Δ1 (Typed.pass T50 T53 (s50 bs)) (at43 bs) (Reshare.g-back-sl-shr 𝓤 H A W E RelayCircuit.row G52 2
-              1 10 ref10 life1 (λ x. x) (Reads'.as-is 𝓤 H A (Reshare.mslice-owedS RelayCircuit.row ref10 1 10 life1)) Path.refl Path.refl) d43
+          d44 = Typed.g-pre 𝓤 H A W 𝓣 E G52 G53 b43 Δ1 (Typed.pass T50 T53 (s50 bs)) (at43 bs) (Reshare.g-back-sl-shr 𝓤
+              H A W E RelayCircuit.row G52 2 1 10 ref10 life1 (λ x. x) (Reads'.as-is 𝓤 H A
+              (Reshare.mslice-owedS RelayCircuit.row ref10 1 10 life1)) Path.refl Path.refl) d43
+
           d45 : Typed.Typed 𝓤 H A 𝓣 E G51 b43 Δ1 (at45 bs)
-          d45 = Typed.g-pre 𝓤 H A W 𝓣 E G51 G52 b43 Δ1 (λ Ψ. Ψ) (at44 bs) (Lifetime.g-end 𝓤 H A W E G51 10 Path.refl) d44
+          d45 = Typed.g-pre 𝓤 H A W 𝓣 E G51 G52 b43 Δ1 (λ Ψ. Ψ) (at44 bs) (Lifetime.g-end 𝓤 H A W E G51 10 Path.refl)
+              d44
+
           d46 : Typed.Typed 𝓤 H A 𝓣 E G50 b43 Δ1 (at46 bs)
-          d46 = Typed.g-pre 𝓤 H A W 𝓣 E G50 G51 b43 Δ1 (λ Ψ. Ψ) (at45 bs) (Lifetime.g-forget 𝓤 H A W E G50 9 Row.dead Path.refl) d45
+          d46 = Typed.g-pre 𝓤 H A W 𝓣 E G50 G51 b43 Δ1 (λ Ψ. Ψ) (at45 bs)
+              (Lifetime.g-forget 𝓤 H A W E G50 9 Row.dead Path.refl) d45
+
           d47 : Typed.Typed 𝓤 H A 𝓣 E G49 b43 Δ1 (at47 bs)
-          d47 = Typed.g-pre 𝓤 H A W 𝓣 E G49 G50 b43 Δ1 (Typed.pass T48 T50 (s47 bs)) (at46 bs) (Reshare.g-back-sl-shr 𝓤 H A W E RelayPending.row G49 1
-              0 9 ref9 life0 (λ x. x) (Reads'.as-is 𝓤 H A (Reshare.mslice-owedS RelayPending.row ref9 0 9 life0)) Path.refl Path.refl) d46
+          d47 = Typed.g-pre 𝓤 H A W 𝓣 E G49 G50 b43 Δ1 (Typed.pass T48 T50 (s47 bs)) (at46 bs) (Reshare.g-back-sl-shr 𝓤
+              H A W E RelayPending.row G49 1 0 9 ref9 life0 (λ x. x) (Reads'.as-is 𝓤 H A
+              (Reshare.mslice-owedS RelayPending.row ref9 0 9 life0)) Path.refl Path.refl) d46
+
           d48 : Typed.Typed 𝓤 H A 𝓣 E G48 b43 Δ1 (at48 bs)
-          d48 = Typed.g-pre 𝓤 H A W 𝓣 E G48 G49 b43 Δ1 (λ Ψ. Ψ) (at47 bs) (Lifetime.g-end 𝓤 H A W E G48 9 Path.refl) d47
+          d48 = Typed.g-pre 𝓤 H A W 𝓣 E G48 G49 b43 Δ1 (λ Ψ. Ψ) (at47 bs) (Lifetime.g-end 𝓤 H A W E G48 9 Path.refl)
+              d47
+
           d49 : Typed.Typed 𝓤 H A 𝓣 E G47 b43 Δ1 (at49 bs)
-          d49 = Typed.g-pre 𝓤 H A W 𝓣 E G47 G48 b43 Δ1 (Typed.pass T47 T48 (s45 bs)) (at48 bs) (Scalar.g-room 𝓤 H A W E G47 7 Laws''.mir
-              (Local.room-whole 𝓤 H A W (Declared'.row Places.the-type) Laws''.mir Path.refl)) d48
+          d49 = Typed.g-pre 𝓤 H A W 𝓣 E G47 G48 b43 Δ1 (Typed.pass T47 T48 (s45 bs)) (at48 bs) (Scalar.g-room 𝓤 H A W E
+              G47 7 Laws''.mir (Local.room-whole 𝓤 H A W (Declared'.row Places.the-type) Laws''.mir Path.refl)) d48
+
           d50 : Typed.Typed 𝓤 H A 𝓣 E G46 b43 Δ1 (at50 bs)
-          d50 = Typed.g-pre 𝓤 H A W 𝓣 E G46 G47 b43 Δ1 (Typed.pass T46 T47 (s44 bs)) (at49 bs) (Scalar.g-room 𝓤 H A W E G46 30 (Syntax.tyStruct (38 ∷
-              91 ∷ 93 ∷ List.[]) (Syntax.tcons ref3 (Syntax.tcons (Syntax.tyInt Syntax.w64) Syntax.tnil))) (Shared.room-sslice 𝓤 H A W
-              InflightAction.row ref3 12)) d49
+          d50 = Typed.g-pre 𝓤 H A W 𝓣 E G46 G47 b43 Δ1 (Typed.pass T46 T47 (s44 bs)) (at49 bs) (Scalar.g-room 𝓤 H A W E
+              G46 30 slice3 (Shared.room-sslice 𝓤 H A W InflightAction.row ref3 12)) d49
+
           d51 : Typed.Typed 𝓤 H A 𝓣 E G45 b43 Δ1 (at51 bs)
-          d51 = Typed.g-pre 𝓤 H A W 𝓣 E G45 G46 b43 Δ1 (Typed.pass T45 T46 (s43 bs)) (at50 bs) (Scalar.g-room 𝓤 H A W E G45 28 (Syntax.tyStruct (38 ∷
-              91 ∷ 93 ∷ List.[]) (Syntax.tcons ref2 (Syntax.tcons (Syntax.tyInt Syntax.w64) Syntax.tnil))) (Shared.room-sslice 𝓤 H A W
-              ReservationUsage.row ref2 11)) d50
+          d51 = Typed.g-pre 𝓤 H A W 𝓣 E G45 G46 b43 Δ1 (Typed.pass T45 T46 (s43 bs)) (at50 bs) (Scalar.g-room 𝓤 H A W E
+              G45 28 slice2 (Shared.room-sslice 𝓤 H A W ReservationUsage.row ref2 11)) d50
+
           d52 : Typed.Typed 𝓤 H A 𝓣 E G44 b43 Δ1 (at52 bs)
-          d52 = Typed.g-pre 𝓤 H A W 𝓣 E G44 G45 b43 Δ1 (Typed.pass T44 T45 (s42 bs)) (at51 bs) (Scalar.g-room 𝓤 H A W E G44 26 (Syntax.tyStruct (38 ∷
-              91 ∷ 93 ∷ List.[]) (Syntax.tcons ref1 (Syntax.tcons (Syntax.tyInt Syntax.w64) Syntax.tnil))) (Shared.room-sslice 𝓤 H A W
-              RelayCircuit.row ref1 10)) d51
+          d52 = Typed.g-pre 𝓤 H A W 𝓣 E G44 G45 b43 Δ1 (Typed.pass T44 T45 (s42 bs)) (at51 bs) (Scalar.g-room 𝓤 H A W E
+              G44 26 slice1 (Shared.room-sslice 𝓤 H A W RelayCircuit.row ref1 10)) d51
+
           d53 : Typed.Typed 𝓤 H A 𝓣 E G43 b43 Δ1 (at53 bs)
-          d53 = Typed.g-pre 𝓤 H A W 𝓣 E G43 G44 b43 Δ1 (Typed.pass T43 T44 (s41 bs)) (at52 bs) (Scalar.g-room 𝓤 H A W E G43 24 (Syntax.tyStruct (38 ∷
-              91 ∷ 93 ∷ List.[]) (Syntax.tcons ref0 (Syntax.tcons (Syntax.tyInt Syntax.w64) Syntax.tnil))) (Shared.room-sslice 𝓤 H A W
-              RelayPending.row ref0 9)) d52
+          d53 = Typed.g-pre 𝓤 H A W 𝓣 E G43 G44 b43 Δ1 (Typed.pass T43 T44 (s41 bs)) (at52 bs) (Scalar.g-room 𝓤 H A W E
+              G43 24 slice0 (Shared.room-sslice 𝓤 H A W RelayPending.row ref0 9)) d52
+
           d54 : Typed.Typed 𝓤 H A 𝓣 E G42 b44 Δ1 (at54 bs)
-          d54 = Typed.s-seq 𝓤 H A W 𝓣 E G42 G43 b20 b43 Δ1 (Typed.both (s40 bs)) (at53 bs) (Plain.t-call-plain 𝓤 H A W 𝓣 4 ps·5 r·5 (claims· .10)
-              (claims· .11) "hnsr_circuit::lookup::trim" (known .5) E (λ pos β. β) G42 (record { pos = 24; ty = Syntax.tyRef Syntax.erased Syntax.imm
-              RelayPending.to; ref = λ x. x; }, (record { pos = 26; ty = Syntax.tyRef Syntax.erased Syntax.imm RelayCircuit.to; ref = λ x. x; },
-              (record { pos = 28; ty = Syntax.tyRef Syntax.erased Syntax.imm ReservationUsage.to; ref = λ x. x; }, (record { pos = 30; ty =
-              Syntax.tyRef Syntax.erased Syntax.imm InflightAction.to; ref = λ x. x; }, (record { pos = 7; st = List.[]; d = 0; at = λ x. x },
-              tt),),),),) 18 (9 ∷ 10 ∷ 11 ∷ 12 ∷ List.[]) (Call.sub-id 𝓤 H A W (G42 .slots)) (ShrSlice.spares-sslice 𝓤 H A W RelayPending.row ref0 9,
-              Shared.reads-sslice 𝓤 H A W RelayPending.row ref0 9, Path.refl, (ShrSlice.spares-sslice 𝓤 H A W RelayCircuit.row ref1 10,
-              Shared.reads-sslice 𝓤 H A W RelayCircuit.row ref1 10, Path.refl, (ShrSlice.spares-sslice 𝓤 H A W ReservationUsage.row ref2 11,
-              Shared.reads-sslice 𝓤 H A W ReservationUsage.row ref2 11, Path.refl, (ShrSlice.spares-sslice 𝓤 H A W InflightAction.row ref3 12,
-              Shared.reads-sslice 𝓤 H A W InflightAction.row ref3 12, Path.refl, ((Yields.yields-copy 𝓤 H A W (λ ρ. Unit) (Declared'.row
-              Places.the-type) Path.refl (Copies.cStruct Places.the-type Laws''.the-laws Laws''.the-copy .copy 𝓤 H A W) (Rows.whole (Declared'.row
-              Places.the-type)) (λ x. x) (λ x. x) (λ ρ told. Local.mem-whole 𝓤 H A W (Declared'.row Places.the-type) ρ) λ ρ told. Local.whole-mem 𝓤 H
-              A W (Declared'.row Places.the-type) ρ, Path.refl,), tt,),),),),) (Reads'.room-gone 𝓤 H A Laws''.mir) (tt, (tt, (tt, (tt, tt))))
-              Path.refl) d53
+          d54 = Typed.s-seq 𝓤 H A W 𝓣 E G42 G43 b20 b43 Δ1 (Typed.both (s40 bs)) (at53 bs) (Plain.t-call-plain 𝓤 H A W
+              𝓣 4 ps·5 r·5 (claims· .10) (claims· .11) "hnsr_circuit::lookup::trim" (known .5) E (λ pos β. β) G42 (
+                record { pos = 24; ty = ref0; ref = λ x. x },
+                (
+                  record { pos = 26; ty = ref1; ref = λ x. x },
+                  (
+                    record { pos = 28; ty = ref2; ref = λ x. x },
+                    (
+                      record { pos = 30; ty = ref3; ref = λ x. x },
+                      (record { pos = 7; st = List.[]; d = 0; at = λ x. x }, tt),
+                    ),
+                  ),
+                ),
+              ) 18 (9 ∷ 10 ∷ 11 ∷ 12 ∷ List.[]) (Call.sub-id 𝓤 H A W (G42 .slots)) (
+                ShrSlice.spares-sslice 𝓤 H A W RelayPending.row ref0 9,
+                Shared.reads-sslice 𝓤 H A W RelayPending.row ref0 9,
+                Path.refl,
+                (
+                  ShrSlice.spares-sslice 𝓤 H A W RelayCircuit.row ref1 10,
+                  Shared.reads-sslice 𝓤 H A W RelayCircuit.row ref1 10,
+                  Path.refl,
+                  (
+                    ShrSlice.spares-sslice 𝓤 H A W ReservationUsage.row ref2 11,
+                    Shared.reads-sslice 𝓤 H A W ReservationUsage.row ref2 11,
+                    Path.refl,
+                    (
+                      ShrSlice.spares-sslice 𝓤 H A W InflightAction.row ref3 12,
+                      Shared.reads-sslice 𝓤 H A W InflightAction.row ref3 12,
+                      Path.refl,
+                      (
+                        (
+                          Yields.yields-copy 𝓤 H A W (λ ρ. Unit) (Declared'.row Places.the-type) Path.refl (Copies.cStruct
+                              Places.the-type Laws''.the-laws Laws''.the-copy .copy 𝓤 H A W)
+                              (Rows.whole (Declared'.row Places.the-type)) (λ x. x) (λ x. x) (λ ρ told. Local.mem-whole
+                              𝓤 H A W (Declared'.row Places.the-type) ρ) λ ρ told. Local.whole-mem 𝓤 H A W
+                              (Declared'.row Places.the-type) ρ,
+                          Path.refl,
+                        ),
+                        tt,
+                      ),
+                    ),
+                  ),
+                ),
+              ) (Reads'.room-gone 𝓤 H A Laws''.mir) (tt, (tt, (tt, (tt, tt)))) Path.refl) d53
+
           d55 : Typed.Typed 𝓤 H A 𝓣 E G41 b45 Δ1 (at55 bs)
-          d55 = Typed.s-seq 𝓤 H A W 𝓣 E G41 G42 b19 b44 Δ1 (Typed.ask (s39 bs)) (at54 bs) (Relend.t-sl-aggregate 𝓤 H A W E InflightAction.row 𝓣
-              (Relend.asShr InflightAction.row) G41 29 30 12 ref3 ref3 (λ x. x) (Scalar.oFld 4 ((Syntax.field 1) ∷ List.[]) (Syntax.tyInt Syntax.w64)
-              8 λ v. Shared.lenV (v .0)) (Reads'.as-is 𝓤 H A (Relend.ssptr InflightAction.row ref3 12)) (Reads'.room-gone 𝓤 H A (Syntax.tyStruct (38 ∷
-              91 ∷ 93 ∷ List.[]) (Syntax.tcons ref3 (Syntax.tcons (Syntax.tyInt Syntax.w64) Syntax.tnil)))) (Reshare.reads-owedS-len 𝓤 H A W
-              InflightAction.row ref12 3 12 life3 8 Path.refl, Path.refl,) Path.refl Path.refl λ b o k. tt) d54
+          d55 = Typed.s-seq 𝓤 H A W 𝓣 E G41 G42 b19 b44 Δ1 (Typed.ask (s39 bs)) (at54 bs) (Relend.t-sl-aggregate 𝓤 H A
+              W E InflightAction.row 𝓣 (Relend.asShr InflightAction.row) G41 29 30 12 ref3 ref3 (λ x. x) (Scalar.oFld 4
+              ((Syntax.field 1) ∷ List.[]) (Syntax.tyInt Syntax.w64) 8 λ v. Shared.lenV (v .0)) (Reads'.as-is 𝓤 H A
+              (Relend.ssptr InflightAction.row ref3 12)) (Reads'.room-gone 𝓤 H A slice3) (
+                Reshare.reads-owedS-len 𝓤 H A W InflightAction.row ref12 3 12 life3 8 Path.refl,
+                Path.refl,
+              ) Path.refl Path.refl λ b o k. tt) d54
+
           d56 : Typed.Typed 𝓤 H A 𝓣 E G40 b46 Δ1 (at56 bs)
-          d56 = Typed.s-seq 𝓤 H A W 𝓣 E G40 G41 b18 b45 Δ1 (Typed.give (s38 bs)) (at55 bs) (Reshare.t-sl-reshare 𝓤 H A W E InflightAction.row 𝓣 G40 4
-              29 3 12 ref12 ref3 life3 0 (λ x. x) (Reads'.as-is 𝓤 H A (Mut.mslice InflightAction.row ref12 3)) (Reads'.room-gone 𝓤 H A ref3) Path.refl
-              tt Path.refl Path.refl Path.refl λ b o. tt) d55
+          d56 = Typed.s-seq 𝓤 H A W 𝓣 E G40 G41 b18 b45 Δ1 (Typed.give (s38 bs)) (at55 bs) (Reshare.t-sl-reshare 𝓤 H A
+              W E InflightAction.row 𝓣 G40 4 29 3 12 ref12 ref3 life3 0 (λ x. x) (Reads'.as-is 𝓤 H A
+              (Mut.mslice InflightAction.row ref12 3)) (Reads'.room-gone 𝓤 H A ref3) Path.refl tt Path.refl Path.refl
+              Path.refl λ b o. tt) d55
+
           d57 : Typed.Typed 𝓤 H A 𝓣 E G39 b46 Δ1 (at57 bs)
-          d57 = Typed.g-pre 𝓤 H A W 𝓣 E G39 G40 b46 Δ1 (λ Ψ. Ψ) (at56 bs) (Lifetime.g-begin 𝓤 H A W E G39 12 (tt, ((tt, tt), ((tt, tt), ((tt, tt),
-              (tt, (tt, (tt, (tt, (tt, (tt, (tt, (tt, (tt, (tt, (tt, (tt, (tt, (tt, (tt, (tt, (tt, (tt, (tt, (tt, (tt, (tt, (tt, (tt, (tt, (tt, (tt,
-              (tt, (tt, (tt, (tt, (tt, (tt, (tt, (tt, (tt, (tt, tt,),),),),),),),),),),),),),),),),),),),),),),),),),),),),),),),),),),),),),),),),))
-              d56
+          d57 = Typed.g-pre 𝓤 H A W 𝓣 E G39 G40 b46 Δ1 (λ Ψ. Ψ) (at56 bs) (Lifetime.g-begin 𝓤 H A W E G39 12 (
+            tt,
+            (
+              (tt, tt),
+              (
+                (tt, tt),
+                (
+                  (tt, tt),
+                  (
+                    tt,
+                    (
+                      tt,
+                      (
+                        tt,
+                        (
+                          tt,
+                          (
+                            tt,
+                            (
+                              tt,
+                              (
+                                tt,
+                                (
+                                  tt,
+                                  (
+                                    tt,
+                                    (
+                                      tt,
+                                      (
+                                        tt,
+                                        (
+                                          tt,
+                                          (
+                                            tt,
+                                            (
+                                              tt,
+                                              (
+                                                tt,
+                                                (
+                                                  tt,
+                                                  (
+                                                    tt,
+                                                    (
+                                                      tt,
+                                                      (
+                                                        tt,
+                                                        (
+                                                          tt,
+                                                          (
+                                                            tt,
+                                                            (
+                                                              tt,
+                                                              (
+                                                                tt,
+                                                                (
+                                                                  tt,
+                                                                  (
+                                                                    tt,
+                                                                    (
+                                                                      tt,
+                                                                      (
+                                                                        tt,
+                                                                        (
+                                                                          tt,
+                                                                          (
+                                                                            tt,
+                                                                            (
+                                                                              tt,
+                                                                              (
+                                                                                tt,
+                                                                                (tt, (tt, (tt, (tt, (tt, (tt, tt)))))),
+                                                                              ),
+                                                                            ),
+                                                                          ),
+                                                                        ),
+                                                                      ),
+                                                                    ),
+                                                                  ),
+                                                                ),
+                                                              ),
+                                                            ),
+                                                          ),
+                                                        ),
+                                                      ),
+                                                    ),
+                                                  ),
+                                                ),
+                                              ),
+                                            ),
+                                          ),
+                                        ),
+                                      ),
+                                    ),
+                                  ),
+                                ),
+                              ),
+                            ),
+                          ),
+                        ),
+                      ),
+                    ),
+                  ),
+                ),
+              ),
+            ),
+          )) d56
+
           d58 : Typed.Typed 𝓤 H A 𝓣 E G38 b47 Δ1 (at58 bs)
-          d58 = Typed.s-seq 𝓤 H A W 𝓣 E G38 G39 b17 b46 Δ1 (Typed.ask (s36 bs)) (at57 bs) (Relend.t-sl-aggregate 𝓤 H A W E ReservationUsage.row 𝓣
-              (Relend.asShr ReservationUsage.row) G38 27 28 11 ref2 ref2 (λ x. x) (Scalar.oFld 3 ((Syntax.field 1) ∷ List.[]) (Syntax.tyInt
-              Syntax.w64) 8 λ v. Shared.lenV (v .0)) (Reads'.as-is 𝓤 H A (Relend.ssptr ReservationUsage.row ref2 11)) (Reads'.room-gone 𝓤 H A
-              (Syntax.tyStruct (38 ∷ 91 ∷ 93 ∷ List.[]) (Syntax.tcons ref2 (Syntax.tcons (Syntax.tyInt Syntax.w64) Syntax.tnil))))
-              (Reshare.reads-owedS-len 𝓤 H A W ReservationUsage.row ref11 2 11 life2 8 Path.refl, Path.refl,) Path.refl Path.refl λ b o k. tt) d57
+          d58 = Typed.s-seq 𝓤 H A W 𝓣 E G38 G39 b17 b46 Δ1 (Typed.ask (s36 bs)) (at57 bs) (Relend.t-sl-aggregate 𝓤 H A
+              W E ReservationUsage.row 𝓣 (Relend.asShr ReservationUsage.row) G38 27 28 11 ref2 ref2 (λ x. x) (Scalar.oFld
+              3 ((Syntax.field 1) ∷ List.[]) (Syntax.tyInt Syntax.w64) 8 λ v. Shared.lenV (v .0)) (Reads'.as-is 𝓤 H A
+              (Relend.ssptr ReservationUsage.row ref2 11)) (Reads'.room-gone 𝓤 H A slice2) (
+                Reshare.reads-owedS-len 𝓤 H A W ReservationUsage.row ref11 2 11 life2 8 Path.refl,
+                Path.refl,
+              ) Path.refl Path.refl λ b o k. tt) d57
+
           d59 : Typed.Typed 𝓤 H A 𝓣 E G37 b48 Δ1 (at59 bs)
-          d59 = Typed.s-seq 𝓤 H A W 𝓣 E G37 G38 b16 b47 Δ1 (Typed.give (s35 bs)) (at58 bs) (Reshare.t-sl-reshare 𝓤 H A W E ReservationUsage.row 𝓣 G37
-              3 27 2 11 ref11 ref2 life2 0 (λ x. x) (Reads'.as-is 𝓤 H A (Mut.mslice ReservationUsage.row ref11 2)) (Reads'.room-gone 𝓤 H A ref2)
-              Path.refl tt Path.refl Path.refl Path.refl λ b o. tt) d58
+          d59 = Typed.s-seq 𝓤 H A W 𝓣 E G37 G38 b16 b47 Δ1 (Typed.give (s35 bs)) (at58 bs) (Reshare.t-sl-reshare 𝓤 H A
+              W E ReservationUsage.row 𝓣 G37 3 27 2 11 ref11 ref2 life2 0 (λ x. x) (Reads'.as-is 𝓤 H A
+              (Mut.mslice ReservationUsage.row ref11 2)) (Reads'.room-gone 𝓤 H A ref2) Path.refl tt Path.refl Path.refl
+              Path.refl λ b o. tt) d58
+
           d60 : Typed.Typed 𝓤 H A 𝓣 E G36 b48 Δ1 (at60 bs)
-          d60 = Typed.g-pre 𝓤 H A W 𝓣 E G36 G37 b48 Δ1 (λ Ψ. Ψ) (at59 bs) (Lifetime.g-begin 𝓤 H A W E G36 11 (tt, ((tt, tt), ((tt, tt), (tt, (tt, (tt,
-              (tt, (tt, (tt, (tt, (tt, (tt, (tt, (tt, (tt, (tt, (tt, (tt, (tt, (tt, (tt, (tt, (tt, (tt, (tt, (tt, (tt, (tt, (tt, (tt, (tt, (tt, (tt,
-              (tt, (tt, (tt, (tt, (tt, (tt, (tt, (tt, tt,),),),),),),),),),),),),),),),),),),),),),),),),),),),),),),),),),),),),),),),),)) d59
+          d60 = Typed.g-pre 𝓤 H A W 𝓣 E G36 G37 b48 Δ1 (λ Ψ. Ψ) (at59 bs) (Lifetime.g-begin 𝓤 H A W E G36 11 (
+            tt,
+            (
+              (tt, tt),
+              (
+                (tt, tt),
+                (
+                  tt,
+                  (
+                    tt,
+                    (
+                      tt,
+                      (
+                        tt,
+                        (
+                          tt,
+                          (
+                            tt,
+                            (
+                              tt,
+                              (
+                                tt,
+                                (
+                                  tt,
+                                  (
+                                    tt,
+                                    (
+                                      tt,
+                                      (
+                                        tt,
+                                        (
+                                          tt,
+                                          (
+                                            tt,
+                                            (
+                                              tt,
+                                              (
+                                                tt,
+                                                (
+                                                  tt,
+                                                  (
+                                                    tt,
+                                                    (
+                                                      tt,
+                                                      (
+                                                        tt,
+                                                        (
+                                                          tt,
+                                                          (
+                                                            tt,
+                                                            (
+                                                              tt,
+                                                              (
+                                                                tt,
+                                                                (
+                                                                  tt,
+                                                                  (
+                                                                    tt,
+                                                                    (
+                                                                      tt,
+                                                                      (
+                                                                        tt,
+                                                                        (
+                                                                          tt,
+                                                                          (
+                                                                            tt,
+                                                                            (
+                                                                              tt,
+                                                                              (
+                                                                                tt,
+                                                                                (tt, (tt, (tt, (tt, (tt, (tt, tt)))))),
+                                                                              ),
+                                                                            ),
+                                                                          ),
+                                                                        ),
+                                                                      ),
+                                                                    ),
+                                                                  ),
+                                                                ),
+                                                              ),
+                                                            ),
+                                                          ),
+                                                        ),
+                                                      ),
+                                                    ),
+                                                  ),
+                                                ),
+                                              ),
+                                            ),
+                                          ),
+                                        ),
+                                      ),
+                                    ),
+                                  ),
+                                ),
+                              ),
+                            ),
+                          ),
+                        ),
+                      ),
+                    ),
+                  ),
+                ),
+              ),
+            ),
+          )) d59
+
           d61 : Typed.Typed 𝓤 H A 𝓣 E G35 b49 Δ1 (at61 bs)
-          d61 = Typed.s-seq 𝓤 H A W 𝓣 E G35 G36 b15 b48 Δ1 (Typed.ask (s33 bs)) (at60 bs) (Relend.t-sl-aggregate 𝓤 H A W E RelayCircuit.row 𝓣
-              (Relend.asShr RelayCircuit.row) G35 25 26 10 ref1 ref1 (λ x. x) (Scalar.oFld 2 ((Syntax.field 1) ∷ List.[]) (Syntax.tyInt Syntax.w64) 8
-              λ v. Shared.lenV (v .0)) (Reads'.as-is 𝓤 H A (Relend.ssptr RelayCircuit.row ref1 10)) (Reads'.room-gone 𝓤 H A (Syntax.tyStruct (38 ∷ 91
-              ∷ 93 ∷ List.[]) (Syntax.tcons ref1 (Syntax.tcons (Syntax.tyInt Syntax.w64) Syntax.tnil)))) (Reshare.reads-owedS-len 𝓤 H A W
-              RelayCircuit.row ref10 1 10 life1 8 Path.refl, Path.refl,) Path.refl Path.refl λ b o k. tt) d60
+          d61 = Typed.s-seq 𝓤 H A W 𝓣 E G35 G36 b15 b48 Δ1 (Typed.ask (s33 bs)) (at60 bs) (Relend.t-sl-aggregate 𝓤 H A
+              W E RelayCircuit.row 𝓣 (Relend.asShr RelayCircuit.row) G35 25 26 10 ref1 ref1 (λ x. x) (Scalar.oFld 2
+              ((Syntax.field 1) ∷ List.[]) (Syntax.tyInt Syntax.w64) 8 λ v. Shared.lenV (v .0)) (Reads'.as-is 𝓤 H A
+              (Relend.ssptr RelayCircuit.row ref1 10)) (Reads'.room-gone 𝓤 H A slice1) (
+                Reshare.reads-owedS-len 𝓤 H A W RelayCircuit.row ref10 1 10 life1 8 Path.refl,
+                Path.refl,
+              ) Path.refl Path.refl λ b o k. tt) d60
+
           d62 : Typed.Typed 𝓤 H A 𝓣 E G34 b50 Δ1 (at62 bs)
-          d62 = Typed.s-seq 𝓤 H A W 𝓣 E G34 G35 b14 b49 Δ1 (Typed.give (s32 bs)) (at61 bs) (Reshare.t-sl-reshare 𝓤 H A W E RelayCircuit.row 𝓣 G34 2 25
-              1 10 ref10 ref1 life1 0 (λ x. x) (Reads'.as-is 𝓤 H A (Mut.mslice RelayCircuit.row ref10 1)) (Reads'.room-gone 𝓤 H A ref1) Path.refl tt
+          d62 = Typed.s-seq 𝓤 H A W 𝓣 E G34 G35 b14 b49 Δ1 (Typed.give (s32 bs)) (at61 bs) (Reshare.t-sl-reshare 𝓤 H A
+              W E RelayCircuit.row 𝓣 G34 2 25 1 10 ref10 ref1 life1 0 (λ x. x)
+              (Reads'.as-is 𝓤 H A (Mut.mslice RelayCircuit.row ref10 1)) (Reads'.room-gone 𝓤 H A ref1) Path.refl tt
               Path.refl Path.refl Path.refl λ b o. tt) d61
+
           d63 : Typed.Typed 𝓤 H A 𝓣 E G33 b50 Δ1 (at63 bs)
-          d63 = Typed.g-pre 𝓤 H A W 𝓣 E G33 G34 b50 Δ1 (λ Ψ. Ψ) (at62 bs) (Lifetime.g-begin 𝓤 H A W E G33 10 (tt, ((tt, tt), (tt, (tt, (tt, (tt, (tt,
-              (tt, (tt, (tt, (tt, (tt, (tt, (tt, (tt, (tt, (tt, (tt, (tt, (tt, (tt, (tt, (tt, (tt, (tt, (tt, (tt, (tt, (tt, (tt, (tt, (tt, (tt, (tt,
-              (tt, (tt, (tt, (tt, (tt, (tt, (tt, tt,),),),),),),),),),),),),),),),),),),),),),),),),),),),),),),),),),),),),),),),),)) d62
+          d63 = Typed.g-pre 𝓤 H A W 𝓣 E G33 G34 b50 Δ1 (λ Ψ. Ψ) (at62 bs) (Lifetime.g-begin 𝓤 H A W E G33 10 (
+            tt,
+            (
+              (tt, tt),
+              (
+                tt,
+                (
+                  tt,
+                  (
+                    tt,
+                    (
+                      tt,
+                      (
+                        tt,
+                        (
+                          tt,
+                          (
+                            tt,
+                            (
+                              tt,
+                              (
+                                tt,
+                                (
+                                  tt,
+                                  (
+                                    tt,
+                                    (
+                                      tt,
+                                      (
+                                        tt,
+                                        (
+                                          tt,
+                                          (
+                                            tt,
+                                            (
+                                              tt,
+                                              (
+                                                tt,
+                                                (
+                                                  tt,
+                                                  (
+                                                    tt,
+                                                    (
+                                                      tt,
+                                                      (
+                                                        tt,
+                                                        (
+                                                          tt,
+                                                          (
+                                                            tt,
+                                                            (
+                                                              tt,
+                                                              (
+                                                                tt,
+                                                                (
+                                                                  tt,
+                                                                  (
+                                                                    tt,
+                                                                    (
+                                                                      tt,
+                                                                      (
+                                                                        tt,
+                                                                        (
+                                                                          tt,
+                                                                          (
+                                                                            tt,
+                                                                            (
+                                                                              tt,
+                                                                              (
+                                                                                tt,
+                                                                                (tt, (tt, (tt, (tt, (tt, (tt, tt)))))),
+                                                                              ),
+                                                                            ),
+                                                                          ),
+                                                                        ),
+                                                                      ),
+                                                                    ),
+                                                                  ),
+                                                                ),
+                                                              ),
+                                                            ),
+                                                          ),
+                                                        ),
+                                                      ),
+                                                    ),
+                                                  ),
+                                                ),
+                                              ),
+                                            ),
+                                          ),
+                                        ),
+                                      ),
+                                    ),
+                                  ),
+                                ),
+                              ),
+                            ),
+                          ),
+                        ),
+                      ),
+                    ),
+                  ),
+                ),
+              ),
+            ),
+          )) d62
+
           d64 : Typed.Typed 𝓤 H A 𝓣 E G32 b51 Δ1 (at64 bs)
-          d64 = Typed.s-seq 𝓤 H A W 𝓣 E G32 G33 b13 b50 Δ1 (Typed.ask (s30 bs)) (at63 bs) (Relend.t-sl-aggregate 𝓤 H A W E RelayPending.row 𝓣
-              (Relend.asShr RelayPending.row) G32 23 24 9 ref0 ref0 (λ x. x) (Scalar.oFld 1 ((Syntax.field 1) ∷ List.[]) (Syntax.tyInt Syntax.w64) 8 λ
-              v. Shared.lenV (v .0)) (Reads'.as-is 𝓤 H A (Relend.ssptr RelayPending.row ref0 9)) (Reads'.room-gone 𝓤 H A (Syntax.tyStruct (38 ∷ 91 ∷
-              93 ∷ List.[]) (Syntax.tcons ref0 (Syntax.tcons (Syntax.tyInt Syntax.w64) Syntax.tnil)))) (Reshare.reads-owedS-len 𝓤 H A W
-              RelayPending.row ref9 0 9 life0 8 Path.refl, Path.refl,) Path.refl Path.refl λ b o k. tt) d63
+          d64 = Typed.s-seq 𝓤 H A W 𝓣 E G32 G33 b13 b50 Δ1 (Typed.ask (s30 bs)) (at63 bs) (Relend.t-sl-aggregate 𝓤 H A
+              W E RelayPending.row 𝓣 (Relend.asShr RelayPending.row) G32 23 24 9 ref0 ref0 (λ x. x) (Scalar.oFld 1
+              ((Syntax.field 1) ∷ List.[]) (Syntax.tyInt Syntax.w64) 8 λ v. Shared.lenV (v .0))
+              (Reads'.as-is 𝓤 H A (Relend.ssptr RelayPending.row ref0 9)) (Reads'.room-gone 𝓤 H A slice0) (
+                Reshare.reads-owedS-len 𝓤 H A W RelayPending.row ref9 0 9 life0 8 Path.refl,
+                Path.refl,
+              ) Path.refl Path.refl λ b o k. tt) d63
+
           d65 : Typed.Typed 𝓤 H A 𝓣 E G31 b52 Δ1 (at65 bs)
-          d65 = Typed.s-seq 𝓤 H A W 𝓣 E G31 G32 b12 b51 Δ1 (Typed.give (s29 bs)) (at64 bs) (Reshare.t-sl-reshare 𝓤 H A W E RelayPending.row 𝓣 G31 1 23
-              0 9 ref9 ref0 life0 0 (λ x. x) (Reads'.as-is 𝓤 H A (Mut.mslice RelayPending.row ref9 0)) (Reads'.room-gone 𝓤 H A ref0) Path.refl tt
+          d65 = Typed.s-seq 𝓤 H A W 𝓣 E G31 G32 b12 b51 Δ1 (Typed.give (s29 bs)) (at64 bs) (Reshare.t-sl-reshare 𝓤 H A
+              W E RelayPending.row 𝓣 G31 1 23 0 9 ref9 ref0 life0 0 (λ x. x)
+              (Reads'.as-is 𝓤 H A (Mut.mslice RelayPending.row ref9 0)) (Reads'.room-gone 𝓤 H A ref0) Path.refl tt
               Path.refl Path.refl Path.refl λ b o. tt) d64
+
           d66 : Typed.Typed 𝓤 H A 𝓣 E G30 b52 Δ1 (at66 bs)
-          d66 = Typed.g-pre 𝓤 H A W 𝓣 E G30 G31 b52 Δ1 (λ Ψ. Ψ) (at65 bs) (Lifetime.g-begin 𝓤 H A W E G30 9 (tt, (tt, (tt, (tt, (tt, (tt, (tt, (tt,
-              (tt, (tt, (tt, (tt, (tt, (tt, (tt, (tt, (tt, (tt, (tt, (tt, (tt, (tt, (tt, (tt, (tt, (tt, (tt, (tt, (tt, (tt, (tt, (tt, (tt, (tt, (tt,
-              (tt, (tt, (tt, (tt, (tt, (tt, tt,),),),),),),),),),),),),),),),),),),),),),),),),),),),),),),),),),),),),),),),),)) d65
+          d66 = Typed.g-pre 𝓤 H A W 𝓣 E G30 G31 b52 Δ1 (λ Ψ. Ψ) (at65 bs) (Lifetime.g-begin 𝓤 H A W E G30 9 (
+            tt,
+            (
+              tt,
+              (
+                tt,
+                (
+                  tt,
+                  (
+                    tt,
+                    (
+                      tt,
+                      (
+                        tt,
+                        (
+                          tt,
+                          (
+                            tt,
+                            (
+                              tt,
+                              (
+                                tt,
+                                (
+                                  tt,
+                                  (
+                                    tt,
+                                    (
+                                      tt,
+                                      (
+                                        tt,
+                                        (
+                                          tt,
+                                          (
+                                            tt,
+                                            (
+                                              tt,
+                                              (
+                                                tt,
+                                                (
+                                                  tt,
+                                                  (
+                                                    tt,
+                                                    (
+                                                      tt,
+                                                      (
+                                                        tt,
+                                                        (
+                                                          tt,
+                                                          (
+                                                            tt,
+                                                            (
+                                                              tt,
+                                                              (
+                                                                tt,
+                                                                (
+                                                                  tt,
+                                                                  (
+                                                                    tt,
+                                                                    (
+                                                                      tt,
+                                                                      (
+                                                                        tt,
+                                                                        (
+                                                                          tt,
+                                                                          (
+                                                                            tt,
+                                                                            (
+                                                                              tt,
+                                                                              (
+                                                                                tt,
+                                                                                (tt, (tt, (tt, (tt, (tt, (tt, tt)))))),
+                                                                              ),
+                                                                            ),
+                                                                          ),
+                                                                        ),
+                                                                      ),
+                                                                    ),
+                                                                  ),
+                                                                ),
+                                                              ),
+                                                            ),
+                                                          ),
+                                                        ),
+                                                      ),
+                                                    ),
+                                                  ),
+                                                ),
+                                              ),
+                                            ),
+                                          ),
+                                        ),
+                                      ),
+                                    ),
+                                  ),
+                                ),
+                              ),
+                            ),
+                          ),
+                        ),
+                      ),
+                    ),
+                  ),
+                ),
+              ),
+            ),
+          )) d65
+
           d67 : Typed.Typed 𝓤 H A 𝓣 E G29 b52 Δ1 (at67 bs)
-          d67 = Typed.g-pre 𝓤 H A W 𝓣 E G29 G30 b52 Δ1 (Typed.pass T29 T30 (s27 bs)) (at66 bs) (Scalar.g-room 𝓤 H A W E G29 6 Laws''''.mir
-              (Local.room-whole 𝓤 H A W (Declared'.row OpaqueRelayRuntime.the-type) Laws''''.mir Path.refl)) d66
+          d67 = Typed.g-pre 𝓤 H A W 𝓣 E G29 G30 b52 Δ1 (Typed.pass T29 T30 (s27 bs)) (at66 bs) (Scalar.g-room 𝓤 H A W E
+              G29 6 Laws''''.mir (Local.room-whole 𝓤 H A W (Declared'.row OpaqueRelayRuntime.the-type) Laws''''.mir
+              Path.refl)) d66
+
           d68 : Typed.Typed 𝓤 H A 𝓣 E G28 b53 Δ1 (at68 bs)
-          d68 = Typed.s-seq 𝓤 H A W 𝓣 E G28 G29 b11 b52 Δ1 (Typed.both (s26 bs)) (at67 bs) (Plain.t-call-plain 𝓤 H A W 𝓣 0 ps·4 r·4 (claims· .8)
-              (claims· .9) "hnsr_circuit::header::with_clock" (known .4) E (λ pos β. β) G28 (record { pos = 6; st = List.[]; d = 0; at = λ x. x },
-              (Num.vFld 8 ((Syntax.field 2) ∷ List.[]) 16 λ x. RelayPacket.struct .as-values x .1 .1 .0, tt,),) 17 List.[] (Call.sub-id 𝓤 H A W (G28
-              .slots)) ((Yields.yields-copy 𝓤 H A W (λ ρ. Unit) (Declared'.row OpaqueRelayRuntime.the-type) Path.refl (Copies.cStruct
-              OpaqueRelayRuntime.the-type Laws''''.the-laws Laws''''.the-copy .copy 𝓤 H A W) (Rows.whole (Declared'.row OpaqueRelayRuntime.the-type))
-              (λ x. x) (λ x. x) (λ ρ told. Local.mem-whole 𝓤 H A W (Declared'.row OpaqueRelayRuntime.the-type) ρ) λ ρ told. Local.whole-mem 𝓤 H A W
-              (Declared'.row OpaqueRelayRuntime.the-type) ρ, Path.refl,), ((Reads.reads-field 𝓤 H A W RelayPacket.the-type Laws'''.the-laws 2
-              (Syntax.tyInt Syntax.w64) 16 Path.refl, Path.refl,), tt,),) (Reads'.room-gone 𝓤 H A Laws''''.mir) tt Path.refl) d67
+          d68 = Typed.s-seq 𝓤 H A W 𝓣 E G28 G29 b11 b52 Δ1 (Typed.both (s26 bs)) (at67 bs) (Plain.t-call-plain 𝓤 H A W
+              𝓣 0 ps·4 r·4 (claims· .8) (claims· .9) "hnsr_circuit::header::with_clock" (known .4) E (λ pos β. β) G28 (
+                record { pos = 6; st = List.[]; d = 0; at = λ x. x },
+                (Num.vFld 8 ((Syntax.field 2) ∷ List.[]) 16 λ x. RelayPacket.struct .as-values x .1 .1 .0, tt),
+              ) 17 List.[] (Call.sub-id 𝓤 H A W (G28 .slots)) (
+                (
+                  Yields.yields-copy 𝓤 H A W (λ ρ. Unit) (Declared'.row OpaqueRelayRuntime.the-type) Path.refl (Copies.cStruct
+                      OpaqueRelayRuntime.the-type Laws''''.the-laws Laws''''.the-copy .copy 𝓤 H A W)
+                      (Rows.whole (Declared'.row OpaqueRelayRuntime.the-type)) (λ x. x) (λ x. x) (λ ρ told.
+                      Local.mem-whole 𝓤 H A W (Declared'.row OpaqueRelayRuntime.the-type) ρ) λ ρ told. Local.whole-mem
+                      𝓤 H A W (Declared'.row OpaqueRelayRuntime.the-type) ρ,
+                  Path.refl,
+                ),
+                (
+                  (
+                    Reads.reads-field 𝓤 H A W RelayPacket.the-type Laws'''.the-laws 2 (Syntax.tyInt Syntax.w64) 16
+                        Path.refl,
+                    Path.refl,
+                  ),
+                  tt,
+                ),
+              ) (Reads'.room-gone 𝓤 H A Laws''''.mir) tt Path.refl) d67
+
           d69 : Typed.Typed 𝓤 H A 𝓣 E G27 b53 Δ1 (at69 bs)
-          d69 = Typed.g-pre 𝓤 H A W 𝓣 E G27 G28 b53 Δ1 (Typed.pass T27 T28 (s25 bs)) (at68 bs) (Scalar.g-room 𝓤 H A W E G27 22 Syntax.tyBool
-              (Scalar.room-sc 𝓤 H A W Row.sBool)) d68
+          d69 = Typed.g-pre 𝓤 H A W 𝓣 E G27 G28 b53 Δ1 (Typed.pass T27 T28 (s25 bs)) (at68 bs) (Scalar.g-room 𝓤 H A W E
+              G27 22 Syntax.tyBool (Scalar.room-sc 𝓤 H A W Row.sBool)) d68
+
           d70 : Typed.Typed 𝓤 H A 𝓣 E G25 b53 Δ1 (at70 bs)
-          d70 = Typed.g-pre 𝓤 H A W 𝓣 E G25 G27 b53 Δ1 (Typed.pass T25 T27 (s24 bs)) (at69 bs) (Scalar.g-room 𝓤 H A W E G25 16 Laws.mir
-              (Local.room-whole 𝓤 H A W (Declared.row HnsrAnswer.the-type) Laws.mir Path.refl)) d69
+          d70 = Typed.g-pre 𝓤 H A W 𝓣 E G25 G27 b53 Δ1 (Typed.pass T25 T27 (s24 bs)) (at69 bs) (Scalar.g-room 𝓤 H A W E
+              G25 16 Laws.mir (Local.room-whole 𝓤 H A W (Declared.row HnsrAnswer.the-type) Laws.mir Path.refl)) d69
+
           d71 : Typed.Typed 𝓤 H A 𝓣 E G98 b54 Δ1 (at71 bs)
           d71 = Typed.t-skip 𝓤 H A W 𝓣 E Δ1 tt
+
           d72 : Typed.Typed 𝓤 H A 𝓣 E G97 b54 Δ1 (at72 bs)
-          d72 = Typed.g-pre 𝓤 H A W 𝓣 E G97 G98 b54 Δ1 (Typed.pass T97 T98 (s95 bs)) (at71 bs) (Scalar.g-room 𝓤 H A W E G97 22 Syntax.tyBool
-              (Scalar.room-sc 𝓤 H A W Row.sBool)) d71
+          d72 = Typed.g-pre 𝓤 H A W 𝓣 E G97 G98 b54 Δ1 (Typed.pass T97 T98 (s95 bs)) (at71 bs) (Scalar.g-room 𝓤 H A W E
+              G97 22 Syntax.tyBool (Scalar.room-sc 𝓤 H A W Row.sBool)) d71
+
           d73 : Typed.Typed 𝓤 H A 𝓣 E G25 b54 Δ1 (at73 bs)
-          d73 = Typed.g-pre 𝓤 H A W 𝓣 E G25 G97 b54 Δ1 (Typed.pass T25 T97 (s94 bs)) (at72 bs) (Scalar.g-room 𝓤 H A W E G25 8 Laws'''.mir
-              (Local.room-whole 𝓤 H A W (Declared'.row RelayPacket.the-type) Laws'''.mir Path.refl)) d72
+          d73 = Typed.g-pre 𝓤 H A W 𝓣 E G25 G97 b54 Δ1 (Typed.pass T25 T97 (s94 bs)) (at72 bs) (Scalar.g-room 𝓤 H A W E
+              G25 8 Laws'''.mir (Local.room-whole 𝓤 H A W (Declared'.row RelayPacket.the-type) Laws'''.mir Path.refl))
+              d72
+
           d74 : Typed.Typed 𝓤 H A 𝓣 E G25 b55 Δ1 (at74 bs)
-          d74 = Scalar.t-cond 𝓤 H A W E 𝓣 G25 22 (λ x. x) b53 b54 Δ1 (at70 bs) (at73 bs) (Scalar.reads-sc 𝓤 H A W Row.sBool) Path.refl d70 d73
+          d74 = Scalar.t-cond 𝓤 H A W E 𝓣 G25 22 (λ x. x) b53 b54 Δ1 (at70 bs) (at73 bs)
+              (Scalar.reads-sc 𝓤 H A W Row.sBool) Path.refl d70 d73
+
           d75 : Typed.Typed 𝓤 H A 𝓣 E G103 b57 Δ0 (at75 bs)
           d75 = Typed.t-return 𝓤 H A W 𝓣 E Δ0 tt
+
           d76 : Typed.Typed 𝓤 H A 𝓣 E G102 b57 Δ0 (at76 bs)
-          d76 = Typed.g-pre 𝓤 H A W 𝓣 E G102 G103 b57 Δ0 (Typed.pass T102 T103 (s100 bs)) (at75 bs) (Scalar.g-room 𝓤 H A W E G102 16 Laws.mir
-              (Local.room-whole 𝓤 H A W (Declared.row HnsrAnswer.the-type) Laws.mir Path.refl)) d75
+          d76 = Typed.g-pre 𝓤 H A W 𝓣 E G102 G103 b57 Δ0 (Typed.pass T102 T103 (s100 bs)) (at75 bs) (Scalar.g-room 𝓤 H
+              A W E G102 16 Laws.mir (Local.room-whole 𝓤 H A W (Declared.row HnsrAnswer.the-type) Laws.mir Path.refl))
+              d75
+
           d77 : Typed.Typed 𝓤 H A 𝓣 E G101 b57 Δ0 (at77 bs)
-          d77 = Typed.g-pre 𝓤 H A W 𝓣 E G101 G102 b57 Δ0 (Typed.pass T101 T102 (s99 bs)) (at76 bs) (Scalar.g-room 𝓤 H A W E G101 14 Syntax.tyBool
-              (Scalar.room-sc 𝓤 H A W Row.sBool)) d76
+          d77 = Typed.g-pre 𝓤 H A W 𝓣 E G101 G102 b57 Δ0 (Typed.pass T101 T102 (s99 bs)) (at76 bs) (Scalar.g-room 𝓤 H A
+              W E G101 14 Syntax.tyBool (Scalar.room-sc 𝓤 H A W Row.sBool)) d76
+
           d78 : Typed.Typed 𝓤 H A 𝓣 E G100 b57 Δ0 (at78 bs)
-          d78 = Typed.g-pre 𝓤 H A W 𝓣 E G100 G101 b57 Δ0 (Typed.pass T100 T101 (s98 bs)) (at77 bs) (Scalar.g-room 𝓤 H A W E G100 7 Laws''.mir
-              (Local.room-whole 𝓤 H A W (Declared'.row Places.the-type) Laws''.mir Path.refl)) d77
+          d78 = Typed.g-pre 𝓤 H A W 𝓣 E G100 G101 b57 Δ0 (Typed.pass T100 T101 (s98 bs)) (at77 bs) (Scalar.g-room 𝓤 H A
+              W E G100 7 Laws''.mir (Local.room-whole 𝓤 H A W (Declared'.row Places.the-type) Laws''.mir Path.refl))
+              d77
+
           d79 : Typed.Typed 𝓤 H A 𝓣 E G99 b57 Δ0 (at79 bs)
-          d79 = Typed.g-pre 𝓤 H A W 𝓣 E G99 G100 b57 Δ0 (Typed.pass T99 T100 (s97 bs)) (at78 bs) (Scalar.g-room 𝓤 H A W E G99 6 Laws''''.mir
-              (Local.room-whole 𝓤 H A W (Declared'.row OpaqueRelayRuntime.the-type) Laws''''.mir Path.refl)) d78
+          d79 = Typed.g-pre 𝓤 H A W 𝓣 E G99 G100 b57 Δ0 (Typed.pass T99 T100 (s97 bs)) (at78 bs) (Scalar.g-room 𝓤 H A W
+              E G99 6 Laws''''.mir (Local.room-whole 𝓤 H A W (Declared'.row OpaqueRelayRuntime.the-type) Laws''''.mir
+              Path.refl)) d78
+
           d80 : Typed.Typed 𝓤 H A 𝓣 E G26 b58 Δ0 (at80 bs)
-          d80 = Typed.s-seq 𝓤 H A W 𝓣 E G26 G99 b56 b57 Δ0 (Typed.both (s96 bs)) (at79 bs) (Plain.t-call-plain 𝓤 H A W 𝓣 0 ps·7 r·7 (claims· .14)
-              (claims· .15) "hnsr_circuit::revoking_calls::refused" (known .7) E (λ pos β. β) G26 (record { pos = 6; st = List.[]; d = 0; at = λ x. x
-              }, (record { pos = 7; st = List.[]; d = 0; at = λ x. x }, (record { pos = 16; st = List.[]; d = 0; at = λ x. x }, tt),),) 0 List.[]
-              (Call.sub-id 𝓤 H A W (G26 .slots)) ((Yields.yields-copy 𝓤 H A W (λ ρ. Unit) (Declared'.row OpaqueRelayRuntime.the-type) Path.refl
-              (Copies.cStruct OpaqueRelayRuntime.the-type Laws''''.the-laws Laws''''.the-copy .copy 𝓤 H A W) (Rows.whole (Declared'.row
-              OpaqueRelayRuntime.the-type)) (λ x. x) (λ x. x) (λ ρ told. Local.mem-whole 𝓤 H A W (Declared'.row OpaqueRelayRuntime.the-type) ρ) λ ρ
-              told. Local.whole-mem 𝓤 H A W (Declared'.row OpaqueRelayRuntime.the-type) ρ, Path.refl,), ((Yields.yields-copy 𝓤 H A W (λ ρ. Unit)
-              (Declared'.row Places.the-type) Path.refl (Copies.cStruct Places.the-type Laws''.the-laws Laws''.the-copy .copy 𝓤 H A W) (Rows.whole
-              (Declared'.row Places.the-type)) (λ x. x) (λ x. x) (λ ρ told. Local.mem-whole 𝓤 H A W (Declared'.row Places.the-type) ρ) λ ρ told.
-              Local.whole-mem 𝓤 H A W (Declared'.row Places.the-type) ρ, Path.refl,), ((Yields.yields-copy 𝓤 H A W (λ ρ. Unit) (Declared.row
-              HnsrAnswer.the-type) Path.refl (Copies.cEnum HnsrAnswer.the-type Laws.the-laws Laws.the-copy .copy 𝓤 H A W) (Rows.whole (Declared.row
-              HnsrAnswer.the-type)) (λ x. x) (λ x. x) (λ ρ told. Local.mem-whole 𝓤 H A W (Declared.row HnsrAnswer.the-type) ρ) λ ρ told.
-              Local.whole-mem 𝓤 H A W (Declared.row HnsrAnswer.the-type) ρ, Path.refl,), tt,),),) (Reads'.room-gone 𝓤 H A Laws'''''.mir) tt Path.refl)
-              d79
+          d80 = Typed.s-seq 𝓤 H A W 𝓣 E G26 G99 b56 b57 Δ0 (Typed.both (s96 bs)) (at79 bs) (Plain.t-call-plain 𝓤 H A W
+              𝓣 0 ps·7 r·7 (claims· .14) (claims· .15) "hnsr_circuit::revoking_calls::refused" (known .7) E
+              (λ pos β. β) G26 (
+                record { pos = 6; st = List.[]; d = 0; at = λ x. x },
+                (
+                  record { pos = 7; st = List.[]; d = 0; at = λ x. x },
+                  (record { pos = 16; st = List.[]; d = 0; at = λ x. x }, tt),
+                ),
+              ) 0 List.[] (Call.sub-id 𝓤 H A W (G26 .slots)) (
+                (
+                  Yields.yields-copy 𝓤 H A W (λ ρ. Unit) (Declared'.row OpaqueRelayRuntime.the-type) Path.refl (Copies.cStruct
+                      OpaqueRelayRuntime.the-type Laws''''.the-laws Laws''''.the-copy .copy 𝓤 H A W)
+                      (Rows.whole (Declared'.row OpaqueRelayRuntime.the-type)) (λ x. x) (λ x. x) (λ ρ told.
+                      Local.mem-whole 𝓤 H A W (Declared'.row OpaqueRelayRuntime.the-type) ρ) λ ρ told. Local.whole-mem
+                      𝓤 H A W (Declared'.row OpaqueRelayRuntime.the-type) ρ,
+                  Path.refl,
+                ),
+                (
+                  (
+                    Yields.yields-copy 𝓤 H A W (λ ρ. Unit) (Declared'.row Places.the-type) Path.refl (Copies.cStruct
+                        Places.the-type Laws''.the-laws Laws''.the-copy .copy 𝓤 H A W)
+                        (Rows.whole (Declared'.row Places.the-type)) (λ x. x) (λ x. x) (λ ρ told. Local.mem-whole 𝓤 H A
+                        W (Declared'.row Places.the-type) ρ) λ ρ told. Local.whole-mem 𝓤 H A W
+                        (Declared'.row Places.the-type) ρ,
+                    Path.refl,
+                  ),
+                  (
+                    (
+                      Yields.yields-copy 𝓤 H A W (λ ρ. Unit) (Declared.row HnsrAnswer.the-type) Path.refl (Copies.cEnum
+                          HnsrAnswer.the-type Laws.the-laws Laws.the-copy .copy 𝓤 H A W)
+                          (Rows.whole (Declared.row HnsrAnswer.the-type)) (λ x. x) (λ x. x) (λ ρ told. Local.mem-whole
+                          𝓤 H A W (Declared.row HnsrAnswer.the-type) ρ) λ ρ told. Local.whole-mem 𝓤 H A W
+                          (Declared.row HnsrAnswer.the-type) ρ,
+                      Path.refl,
+                    ),
+                    tt,
+                  ),
+                ),
+              ) (Reads'.room-gone 𝓤 H A Laws'''''.mir) tt Path.refl) d79
+
           d81 : Typed.Typed 𝓤 H A 𝓣 E G25 b59 Δ0 (at81 bs)
           d81 = Typed.t-seq 𝓤 H A W 𝓣 E G25 G26 b55 b58 Δ0 (at74 bs) (at80 bs) d74 d80
+
           d82 : Typed.Typed 𝓤 H A 𝓣 E G24 b60 Δ0 (at82 bs)
-          d82 = Typed.s-seq 𝓤 H A W 𝓣 E G24 G25 b10 b59 Δ0 (Typed.both (s23 bs)) (at81 bs) (Plain.t-call-plain 𝓤 H A W 𝓣 0 ps·3 r·3 (claims· .6)
-              (claims· .7) "hnsr_circuit::answer::is_taken" (known .3) E (λ pos β. β) G24 (record { pos = 16; st = List.[]; d = 0; at = λ x. x }, tt)
-              22 List.[] (Call.sub-id 𝓤 H A W (G24 .slots)) ((Yields.yields-copy 𝓤 H A W (λ ρ. Unit) (Declared.row HnsrAnswer.the-type) Path.refl
-              (Copies.cEnum HnsrAnswer.the-type Laws.the-laws Laws.the-copy .copy 𝓤 H A W) (Rows.whole (Declared.row HnsrAnswer.the-type)) (λ x. x) (λ
-              x. x) (λ ρ told. Local.mem-whole 𝓤 H A W (Declared.row HnsrAnswer.the-type) ρ) λ ρ told. Local.whole-mem 𝓤 H A W (Declared.row
-              HnsrAnswer.the-type) ρ, Path.refl,), tt,) (Reads'.room-gone 𝓤 H A Syntax.tyBool) tt Path.refl) d81
+          d82 = Typed.s-seq 𝓤 H A W 𝓣 E G24 G25 b10 b59 Δ0 (Typed.both (s23 bs)) (at81 bs) (Plain.t-call-plain 𝓤 H A W
+              𝓣 0 ps·3 r·3 (claims· .6) (claims· .7) "hnsr_circuit::answer::is_taken" (known .3) E (λ pos β. β) G24
+              (record { pos = 16; st = List.[]; d = 0; at = λ x. x }, tt) 22 List.[] (Call.sub-id 𝓤 H A W (G24 .slots)) (
+                (
+                  Yields.yields-copy 𝓤 H A W (λ ρ. Unit) (Declared.row HnsrAnswer.the-type) Path.refl (Copies.cEnum
+                      HnsrAnswer.the-type Laws.the-laws Laws.the-copy .copy 𝓤 H A W)
+                      (Rows.whole (Declared.row HnsrAnswer.the-type)) (λ x. x) (λ x. x) (λ ρ told. Local.mem-whole 𝓤 H
+                      A W (Declared.row HnsrAnswer.the-type) ρ) λ ρ told. Local.whole-mem 𝓤 H A W
+                      (Declared.row HnsrAnswer.the-type) ρ,
+                  Path.refl,
+                ),
+                tt,
+              ) (Reads'.room-gone 𝓤 H A Syntax.tyBool) tt Path.refl) d81
+
           d83 : Typed.Typed 𝓤 H A 𝓣 E G23 b60 Δ0 (at83 bs)
-          d83 = Typed.g-pre 𝓤 H A W 𝓣 E G23 G24 b60 Δ0 (Typed.pass T23 T24 (s22 bs)) (at82 bs) (Scalar.g-room 𝓤 H A W E G23 21 (Syntax.tyInt
-              Syntax.w64) (Scalar.room-sc 𝓤 H A W (Row.sInt Syntax.w64))) d82
+          d83 = Typed.g-pre 𝓤 H A W 𝓣 E G23 G24 b60 Δ0 (Typed.pass T23 T24 (s22 bs)) (at82 bs) (Scalar.g-room 𝓤 H A W E
+              G23 21 (Syntax.tyInt Syntax.w64) (Scalar.room-sc 𝓤 H A W (Row.sInt Syntax.w64))) d82
+
           d84 : Typed.Typed 𝓤 H A 𝓣 E G22 b60 Δ0 (at84 bs)
-          d84 = Typed.g-pre 𝓤 H A W 𝓣 E G22 G23 b60 Δ0 (Typed.pass T22 T23 (s21 bs)) (at83 bs) (Scalar.g-room 𝓤 H A W E G22 19 (Syntax.tyInt
-              Syntax.w64) (Scalar.room-sc 𝓤 H A W (Row.sInt Syntax.w64))) d83
+          d84 = Typed.g-pre 𝓤 H A W 𝓣 E G22 G23 b60 Δ0 (Typed.pass T22 T23 (s21 bs)) (at83 bs) (Scalar.g-room 𝓤 H A W E
+              G22 19 (Syntax.tyInt Syntax.w64) (Scalar.room-sc 𝓤 H A W (Row.sInt Syntax.w64))) d83
+
           d85 : Typed.Typed 𝓤 H A 𝓣 E G21 b60 Δ0 (at85 bs)
-          d85 = Typed.g-pre 𝓤 H A W 𝓣 E G21 G22 b60 Δ0 (Typed.pass T21 T22 (s20 bs)) (at84 bs) (Scalar.g-room 𝓤 H A W E G21 15 Laws.mir
-              (Local.room-whole 𝓤 H A W (Declared.row HnsrAnswer.the-type) Laws.mir Path.refl)) d84
+          d85 = Typed.g-pre 𝓤 H A W 𝓣 E G21 G22 b60 Δ0 (Typed.pass T21 T22 (s20 bs)) (at84 bs) (Scalar.g-room 𝓤 H A W E
+              G21 15 Laws.mir (Local.room-whole 𝓤 H A W (Declared.row HnsrAnswer.the-type) Laws.mir Path.refl)) d84
+
           d86 : Typed.Typed 𝓤 H A 𝓣 E G20 b61 Δ0 (at86 bs)
-          d86 = Typed.s-seq 𝓤 H A W 𝓣 E G20 G21 b9 b60 Δ0 (Typed.both (s19 bs)) (at85 bs) (Plain.t-call-plain 𝓤 H A W 𝓣 0 ps·2 r·2 (claims· .4)
-              (claims· .5) "hnsr_circuit::handle::entry_answer" (known .2) E (λ pos β. β) G20 (record { pos = 15; st = List.[]; d = 0; at = λ x. x },
-              (record { pos = 6; st = List.[]; d = 0; at = λ x. x }, (record { pos = 8; st = List.[]; d = 0; at = λ x. x }, (Num.vAt 21 λ x. x,
-              (Num.vAt 19 λ x. x, tt)),),),) 16 List.[] (Call.sub-id 𝓤 H A W (G20 .slots)) ((Yields.yields-copy 𝓤 H A W (λ ρ. Unit) (Declared.row
-              HnsrAnswer.the-type) Path.refl (Copies.cEnum HnsrAnswer.the-type Laws.the-laws Laws.the-copy .copy 𝓤 H A W) (Rows.whole (Declared.row
-              HnsrAnswer.the-type)) (λ x. x) (λ x. x) (λ ρ told. Local.mem-whole 𝓤 H A W (Declared.row HnsrAnswer.the-type) ρ) λ ρ told.
-              Local.whole-mem 𝓤 H A W (Declared.row HnsrAnswer.the-type) ρ, Path.refl,), ((Yields.yields-copy 𝓤 H A W (λ ρ. Unit) (Declared'.row
-              OpaqueRelayRuntime.the-type) Path.refl (Copies.cStruct OpaqueRelayRuntime.the-type Laws''''.the-laws Laws''''.the-copy .copy 𝓤 H A W)
-              (Rows.whole (Declared'.row OpaqueRelayRuntime.the-type)) (λ x. x) (λ x. x) (λ ρ told. Local.mem-whole 𝓤 H A W (Declared'.row
-              OpaqueRelayRuntime.the-type) ρ) λ ρ told. Local.whole-mem 𝓤 H A W (Declared'.row OpaqueRelayRuntime.the-type) ρ, Path.refl,),
-              ((Yields.yields-copy 𝓤 H A W (λ ρ. Unit) (Declared'.row RelayPacket.the-type) Path.refl (Copies.cStruct RelayPacket.the-type
-              Laws'''.the-laws Laws'''.the-copy .copy 𝓤 H A W) (Rows.whole (Declared'.row RelayPacket.the-type)) (λ x. x) (λ x. x) (λ ρ told.
-              Local.mem-whole 𝓤 H A W (Declared'.row RelayPacket.the-type) ρ) λ ρ told. Local.whole-mem 𝓤 H A W (Declared'.row RelayPacket.the-type)
-              ρ, Path.refl,), ((Scalar.reads-sc 𝓤 H A W (Row.sInt Syntax.w64), Path.refl), ((Scalar.reads-sc 𝓤 H A W (Row.sInt Syntax.w64),
-              Path.refl), tt),),),),) (Reads'.room-gone 𝓤 H A Laws.mir) tt Path.refl) d85
+          d86 = Typed.s-seq 𝓤 H A W 𝓣 E G20 G21 b9 b60 Δ0 (Typed.both (s19 bs)) (at85 bs) (Plain.t-call-plain 𝓤 H A W 𝓣
+              0 ps·2 r·2 (claims· .4) (claims· .5) "hnsr_circuit::handle::entry_answer" (known .2) E (λ pos β. β) G20 (
+                record { pos = 15; st = List.[]; d = 0; at = λ x. x },
+                (
+                  record { pos = 6; st = List.[]; d = 0; at = λ x. x },
+                  (record { pos = 8; st = List.[]; d = 0; at = λ x. x }, (Num.vAt 21 λ x. x, (Num.vAt 19 λ x. x, tt))),
+                ),
+              ) 16 List.[] (Call.sub-id 𝓤 H A W (G20 .slots)) (
+                (
+                  Yields.yields-copy 𝓤 H A W (λ ρ. Unit) (Declared.row HnsrAnswer.the-type) Path.refl (Copies.cEnum
+                      HnsrAnswer.the-type Laws.the-laws Laws.the-copy .copy 𝓤 H A W)
+                      (Rows.whole (Declared.row HnsrAnswer.the-type)) (λ x. x) (λ x. x) (λ ρ told. Local.mem-whole 𝓤 H
+                      A W (Declared.row HnsrAnswer.the-type) ρ) λ ρ told. Local.whole-mem 𝓤 H A W
+                      (Declared.row HnsrAnswer.the-type) ρ,
+                  Path.refl,
+                ),
+                (
+                  (
+                    Yields.yields-copy 𝓤 H A W (λ ρ. Unit) (Declared'.row OpaqueRelayRuntime.the-type) Path.refl (Copies.cStruct
+                        OpaqueRelayRuntime.the-type Laws''''.the-laws Laws''''.the-copy .copy 𝓤 H A W)
+                        (Rows.whole (Declared'.row OpaqueRelayRuntime.the-type)) (λ x. x) (λ x. x) (λ ρ told.
+                        Local.mem-whole 𝓤 H A W (Declared'.row OpaqueRelayRuntime.the-type) ρ) λ ρ told.
+                        Local.whole-mem 𝓤 H A W (Declared'.row OpaqueRelayRuntime.the-type) ρ,
+                    Path.refl,
+                  ),
+                  (
+                    (
+                      Yields.yields-copy 𝓤 H A W (λ ρ. Unit) (Declared'.row RelayPacket.the-type) Path.refl (Copies.cStruct
+                          RelayPacket.the-type Laws'''.the-laws Laws'''.the-copy .copy 𝓤 H A W)
+                          (Rows.whole (Declared'.row RelayPacket.the-type)) (λ x. x) (λ x. x) (λ ρ told.
+                          Local.mem-whole 𝓤 H A W (Declared'.row RelayPacket.the-type) ρ) λ ρ told. Local.whole-mem 𝓤 H
+                          A W (Declared'.row RelayPacket.the-type) ρ,
+                      Path.refl,
+                    ),
+                    (
+                      (Scalar.reads-sc 𝓤 H A W (Row.sInt Syntax.w64), Path.refl),
+                      ((Scalar.reads-sc 𝓤 H A W (Row.sInt Syntax.w64), Path.refl), tt),
+                    ),
+                  ),
+                ),
+              ) (Reads'.room-gone 𝓤 H A Laws.mir) tt Path.refl) d85
+
           d87 : Typed.Typed 𝓤 H A 𝓣 E G19 b62 Δ0 (at87 bs)
-          d87 = Typed.s-seq 𝓤 H A W 𝓣 E G19 G20 b8 b61 Δ0 (Typed.pass T19 T20 (s18 bs)) (at86 bs) (Scalar.t-use 𝓤 H A W E 𝓣 G19 (Scalar.oFld 10
-              ((Syntax.field 1) ∷ List.[]) (Syntax.tyInt Syntax.w64) 8 Shared.lenV) 19 (Rows.sc-here (Row.sInt Syntax.w64)) (Syntax.tyInt Syntax.w64)
-              (Row.valS (Row.sInt Syntax.w64)) (Row.sInt Syntax.w64 .of) (Shared.reads-sslice-len 𝓤 H A W (Referent.rtF (Referent.fInt Syntax.w8))
-              ref15 6 8 Path.refl, Path.refl,) (Reads'.room-gone 𝓤 H A (Syntax.tyInt Syntax.w64)) (Scalar.holds-sc 𝓤 H A W (Row.sInt Syntax.w64))
+          d87 = Typed.s-seq 𝓤 H A W 𝓣 E G19 G20 b8 b61 Δ0 (Typed.pass T19 T20 (s18 bs)) (at86 bs) (Scalar.t-use 𝓤 H A W
+              E 𝓣 G19 (Scalar.oFld 10 ((Syntax.field 1) ∷ List.[]) (Syntax.tyInt Syntax.w64) 8 Shared.lenV) 19
+              (Rows.sc-here (Row.sInt Syntax.w64)) (Syntax.tyInt Syntax.w64) (Row.valS (Row.sInt Syntax.w64))
+              (Row.sInt Syntax.w64 .of) (
+                Shared.reads-sslice-len 𝓤 H A W (Referent.rtF (Referent.fInt Syntax.w8)) ref15 6 8 Path.refl,
+                Path.refl,
+              ) (Reads'.room-gone 𝓤 H A (Syntax.tyInt Syntax.w64)) (Scalar.holds-sc 𝓤 H A W (Row.sInt Syntax.w64))
               Path.refl (λ u. Path.refl) λ u. tt) d86
+
           d88 : Typed.Typed 𝓤 H A 𝓣 E G18 b63 Δ0 (at88 bs)
-          d88 = Typed.s-seq 𝓤 H A W 𝓣 E G18 G19 b7 b62 Δ0 (Typed.pass T18 T19 (s17 bs)) (at87 bs) (Scalar.t-use 𝓤 H A W E 𝓣 G18 (Scalar.oFld 9
-              ((Syntax.field 1) ∷ List.[]) (Syntax.tyInt Syntax.w64) 8 Shared.lenV) 21 (Rows.sc-here (Row.sInt Syntax.w64)) (Syntax.tyInt Syntax.w64)
-              (Row.valS (Row.sInt Syntax.w64)) (Row.sInt Syntax.w64 .of) (Shared.reads-sslice-len 𝓤 H A W (Referent.rtF (Referent.fInt Syntax.w8))
-              ref14 5 8 Path.refl, Path.refl,) (Reads'.room-gone 𝓤 H A (Syntax.tyInt Syntax.w64)) (Scalar.holds-sc 𝓤 H A W (Row.sInt Syntax.w64))
+          d88 = Typed.s-seq 𝓤 H A W 𝓣 E G18 G19 b7 b62 Δ0 (Typed.pass T18 T19 (s17 bs)) (at87 bs) (Scalar.t-use 𝓤 H A W
+              E 𝓣 G18 (Scalar.oFld 9 ((Syntax.field 1) ∷ List.[]) (Syntax.tyInt Syntax.w64) 8 Shared.lenV) 21
+              (Rows.sc-here (Row.sInt Syntax.w64)) (Syntax.tyInt Syntax.w64) (Row.valS (Row.sInt Syntax.w64))
+              (Row.sInt Syntax.w64 .of) (
+                Shared.reads-sslice-len 𝓤 H A W (Referent.rtF (Referent.fInt Syntax.w8)) ref14 5 8 Path.refl,
+                Path.refl,
+              ) (Reads'.room-gone 𝓤 H A (Syntax.tyInt Syntax.w64)) (Scalar.holds-sc 𝓤 H A W (Row.sInt Syntax.w64))
               Path.refl (λ u. Path.refl) λ u. tt) d87
+
           d89 : Typed.Typed 𝓤 H A 𝓣 E G17 b63 Δ0 (at89 bs)
-          d89 = Typed.g-pre 𝓤 H A W 𝓣 E G17 G18 b63 Δ0 (Typed.pass T17 T18 (s16 bs)) (at88 bs) (Scalar.g-room 𝓤 H A W E G17 19 (Syntax.tyInt
-              Syntax.w64) (Scalar.room-sc 𝓤 H A W (Row.sInt Syntax.w64))) d88
+          d89 = Typed.g-pre 𝓤 H A W 𝓣 E G17 G18 b63 Δ0 (Typed.pass T17 T18 (s16 bs)) (at88 bs) (Scalar.g-room 𝓤 H A W E
+              G17 19 (Syntax.tyInt Syntax.w64) (Scalar.room-sc 𝓤 H A W (Row.sInt Syntax.w64))) d88
+
           d90 : Typed.Typed 𝓤 H A 𝓣 E G16 b64 Δ0 (at90 bs)
-          d90 = Typed.s-seq 𝓤 H A W 𝓣 E G16 G17 b6 b63 Δ0 (Typed.both (s15 bs)) (at89 bs) (Plain.t-call-plain 𝓤 H A W 𝓣 0 ps·1 r·1 (claims· .2)
-              (claims· .3) "hnsr_circuit::handle::room_answer" (known .1) E (λ pos β. β) G16 (Num.vAt 19 λ x. x, (Bool.bAt 14 λ x. x, tt)) 15 List.[]
-              (Call.sub-id 𝓤 H A W (G16 .slots)) ((Scalar.reads-sc 𝓤 H A W (Row.sInt Syntax.w64), Path.refl), ((Scalar.reads-sc 𝓤 H A W Row.sBool,
-              Path.refl), tt),) (Reads'.room-gone 𝓤 H A Laws.mir) tt Path.refl) d89
+          d90 = Typed.s-seq 𝓤 H A W 𝓣 E G16 G17 b6 b63 Δ0 (Typed.both (s15 bs)) (at89 bs) (Plain.t-call-plain 𝓤 H A W 𝓣
+              0 ps·1 r·1 (claims· .2) (claims· .3) "hnsr_circuit::handle::room_answer" (known .1) E (λ pos β. β) G16
+              (Num.vAt 19 λ x. x, (Bool.bAt 14 λ x. x, tt)) 15 List.[] (Call.sub-id 𝓤 H A W (G16 .slots)) (
+                (Scalar.reads-sc 𝓤 H A W (Row.sInt Syntax.w64), Path.refl),
+                ((Scalar.reads-sc 𝓤 H A W Row.sBool, Path.refl), tt),
+              ) (Reads'.room-gone 𝓤 H A Laws.mir) tt Path.refl) d89
+
           d91 : Typed.Typed 𝓤 H A 𝓣 E G15 b65 Δ0 (at91 bs)
-          d91 = Typed.s-seq 𝓤 H A W 𝓣 E G15 G16 b5 b64 Δ0 (Typed.pass T15 T16 (s14 bs)) (at90 bs) (Scalar.t-use 𝓤 H A W E 𝓣 G15 (Scalar.oFld 5
-              ((Syntax.field 1) ∷ List.[]) (Syntax.tyInt Syntax.w64) 8 Shared.lenV) 19 (Rows.sc-here (Row.sInt Syntax.w64)) (Syntax.tyInt Syntax.w64)
-              (Row.valS (Row.sInt Syntax.w64)) (Row.sInt Syntax.w64 .of) (Mut.reads-mslice-len 𝓤 H A W (Referent.rtF (Referent.fInt Syntax.w32)) ref13
-              4 8 Path.refl, Path.refl,) (Reads'.room-gone 𝓤 H A (Syntax.tyInt Syntax.w64)) (Scalar.holds-sc 𝓤 H A W (Row.sInt Syntax.w64)) Path.refl
-              (λ u. Path.refl) λ u. tt) d90
+          d91 = Typed.s-seq 𝓤 H A W 𝓣 E G15 G16 b5 b64 Δ0 (Typed.pass T15 T16 (s14 bs)) (at90 bs) (Scalar.t-use 𝓤 H A W
+              E 𝓣 G15 (Scalar.oFld 5 ((Syntax.field 1) ∷ List.[]) (Syntax.tyInt Syntax.w64) 8 Shared.lenV) 19
+              (Rows.sc-here (Row.sInt Syntax.w64)) (Syntax.tyInt Syntax.w64) (Row.valS (Row.sInt Syntax.w64))
+              (Row.sInt Syntax.w64 .of) (
+                Mut.reads-mslice-len 𝓤 H A W (Referent.rtF (Referent.fInt Syntax.w32)) ref13 4 8 Path.refl,
+                Path.refl,
+              ) (Reads'.room-gone 𝓤 H A (Syntax.tyInt Syntax.w64)) (Scalar.holds-sc 𝓤 H A W (Row.sInt Syntax.w64))
+              Path.refl (λ u. Path.refl) λ u. tt) d90
+
           d92 : Typed.Typed 𝓤 H A 𝓣 E G14 b65 Δ0 (at92 bs)
-          d92 = Typed.g-pre 𝓤 H A W 𝓣 E G14 G15 b65 Δ0 (Typed.pass T14 T15 (s13 bs)) (at91 bs) (Scalar.g-room 𝓤 H A W E G14 21 (Syntax.tyInt
-              Syntax.w64) (Scalar.room-sc 𝓤 H A W (Row.sInt Syntax.w64))) d91
+          d92 = Typed.g-pre 𝓤 H A W 𝓣 E G14 G15 b65 Δ0 (Typed.pass T14 T15 (s13 bs)) (at91 bs) (Scalar.g-room 𝓤 H A W E
+              G14 21 (Syntax.tyInt Syntax.w64) (Scalar.room-sc 𝓤 H A W (Row.sInt Syntax.w64))) d91
+
           d93 : Typed.Typed 𝓤 H A 𝓣 E G13 b65 Δ0 (at93 bs)
-          d93 = Typed.g-pre 𝓤 H A W 𝓣 E G13 G14 b65 Δ0 (Typed.pass T13 T14 (s12 bs)) (at92 bs) (Scalar.g-room 𝓤 H A W E G13 20 (Syntax.tyInt
-              Syntax.w64) (Scalar.room-sc 𝓤 H A W (Row.sInt Syntax.w64))) d92
+          d93 = Typed.g-pre 𝓤 H A W 𝓣 E G13 G14 b65 Δ0 (Typed.pass T13 T14 (s12 bs)) (at92 bs) (Scalar.g-room 𝓤 H A W E
+              G13 20 (Syntax.tyInt Syntax.w64) (Scalar.room-sc 𝓤 H A W (Row.sInt Syntax.w64))) d92
+
           d94 : Typed.Typed 𝓤 H A 𝓣 E G12 b65 Δ0 (at94 bs)
-          d94 = Typed.g-pre 𝓤 H A W 𝓣 E G12 G13 b65 Δ0 (Typed.pass T12 T13 (s11 bs)) (at93 bs) (Scalar.g-room 𝓤 H A W E G12 19 (Syntax.tyInt
-              Syntax.w64) (Scalar.room-sc 𝓤 H A W (Row.sInt Syntax.w64))) d93
+          d94 = Typed.g-pre 𝓤 H A W 𝓣 E G12 G13 b65 Δ0 (Typed.pass T12 T13 (s11 bs)) (at93 bs) (Scalar.g-room 𝓤 H A W E
+              G12 19 (Syntax.tyInt Syntax.w64) (Scalar.room-sc 𝓤 H A W (Row.sInt Syntax.w64))) d93
+
           d95 : Typed.Typed 𝓤 H A 𝓣 E G11 b65 Δ0 (at95 bs)
-          d95 = Typed.g-pre 𝓤 H A W 𝓣 E G11 G12 b65 Δ0 (Typed.pass T11 T12 (s10 bs)) (at94 bs) (Scalar.g-room 𝓤 H A W E G11 13 Laws'.mir
-              (Local.room-whole 𝓤 H A W (Declared'.row OpaqueRelayConfig.the-type) Laws'.mir Path.refl)) d94
+          d95 = Typed.g-pre 𝓤 H A W 𝓣 E G11 G12 b65 Δ0 (Typed.pass T11 T12 (s10 bs)) (at94 bs) (Scalar.g-room 𝓤 H A W E
+              G11 13 Laws'.mir (Local.room-whole 𝓤 H A W (Declared'.row OpaqueRelayConfig.the-type) Laws'.mir
+              Path.refl)) d94
+
           d96 : Typed.Typed 𝓤 H A 𝓣 E G10 b66 Δ0 (at96 bs)
-          d96 = Typed.s-seq 𝓤 H A W 𝓣 E G10 G11 b4 b65 Δ0 (Typed.both (s9 bs)) (at95 bs) (Plain.t-call-plain 𝓤 H A W 𝓣 0 ps·0 r·0 (claims· .0)
-              (claims· .1) "hnsr_circuit::entry::too_few" (known .0) E (λ pos β. β) G10 (record { pos = 13; st = List.[]; d = 0; at = λ x. x },
-              (Num.vAt 19 λ x. x, (Num.vAt 20 λ x. x, (Num.vAt 21 λ x. x, tt))),) 14 List.[] (Call.sub-id 𝓤 H A W (G10 .slots)) ((Yields.yields-copy 𝓤
-              H A W (λ ρ. Unit) (Declared'.row OpaqueRelayConfig.the-type) Path.refl (Copies.cStruct OpaqueRelayConfig.the-type Laws'.the-laws
-              Laws'.the-copy .copy 𝓤 H A W) (Rows.whole (Declared'.row OpaqueRelayConfig.the-type)) (λ x. x) (λ x. x) (λ ρ told. Local.mem-whole 𝓤 H A
-              W (Declared'.row OpaqueRelayConfig.the-type) ρ) λ ρ told. Local.whole-mem 𝓤 H A W (Declared'.row OpaqueRelayConfig.the-type) ρ,
-              Path.refl,), ((Scalar.reads-sc 𝓤 H A W (Row.sInt Syntax.w64), Path.refl), ((Scalar.reads-sc 𝓤 H A W (Row.sInt Syntax.w64), Path.refl),
-              ((Scalar.reads-sc 𝓤 H A W (Row.sInt Syntax.w64), Path.refl), tt),),),) (Reads'.room-gone 𝓤 H A Syntax.tyBool) tt Path.refl) d95
+          d96 = Typed.s-seq 𝓤 H A W 𝓣 E G10 G11 b4 b65 Δ0 (Typed.both (s9 bs)) (at95 bs) (Plain.t-call-plain 𝓤 H A W 𝓣
+              0 ps·0 r·0 (claims· .0) (claims· .1) "hnsr_circuit::entry::too_few" (known .0) E (λ pos β. β) G10 (
+                record { pos = 13; st = List.[]; d = 0; at = λ x. x },
+                (Num.vAt 19 λ x. x, (Num.vAt 20 λ x. x, (Num.vAt 21 λ x. x, tt))),
+              ) 14 List.[] (Call.sub-id 𝓤 H A W (G10 .slots)) (
+                (
+                  Yields.yields-copy 𝓤 H A W (λ ρ. Unit) (Declared'.row OpaqueRelayConfig.the-type) Path.refl (Copies.cStruct
+                      OpaqueRelayConfig.the-type Laws'.the-laws Laws'.the-copy .copy 𝓤 H A W)
+                      (Rows.whole (Declared'.row OpaqueRelayConfig.the-type)) (λ x. x) (λ x. x) (λ ρ told.
+                      Local.mem-whole 𝓤 H A W (Declared'.row OpaqueRelayConfig.the-type) ρ) λ ρ told. Local.whole-mem 𝓤
+                      H A W (Declared'.row OpaqueRelayConfig.the-type) ρ,
+                  Path.refl,
+                ),
+                (
+                  (Scalar.reads-sc 𝓤 H A W (Row.sInt Syntax.w64), Path.refl),
+                  (
+                    (Scalar.reads-sc 𝓤 H A W (Row.sInt Syntax.w64), Path.refl),
+                    ((Scalar.reads-sc 𝓤 H A W (Row.sInt Syntax.w64), Path.refl), tt),
+                  ),
+                ),
+              ) (Reads'.room-gone 𝓤 H A Syntax.tyBool) tt Path.refl) d95
+
           d97 : Typed.Typed 𝓤 H A 𝓣 E G9 b67 Δ0 (at97 bs)
-          d97 = Typed.s-seq 𝓤 H A W 𝓣 E G9 G10 b3 b66 Δ0 (Typed.pass T9 T10 (s8 bs)) (at96 bs) (Scalar.t-use 𝓤 H A W E 𝓣 G9 (Scalar.oFld 4
-              ((Syntax.field 1) ∷ List.[]) (Syntax.tyInt Syntax.w64) 8 Shared.lenV) 21 (Rows.sc-here (Row.sInt Syntax.w64)) (Syntax.tyInt Syntax.w64)
-              (Row.valS (Row.sInt Syntax.w64)) (Row.sInt Syntax.w64 .of) (Mut.reads-mslice-len 𝓤 H A W InflightAction.row ref12 3 8 Path.refl,
-              Path.refl,) (Reads'.room-gone 𝓤 H A (Syntax.tyInt Syntax.w64)) (Scalar.holds-sc 𝓤 H A W (Row.sInt Syntax.w64)) Path.refl (λ u.
-              Path.refl) λ u. tt) d96
+          d97 = Typed.s-seq 𝓤 H A W 𝓣 E G9 G10 b3 b66 Δ0 (Typed.pass T9 T10 (s8 bs)) (at96 bs) (Scalar.t-use 𝓤 H A W E
+              𝓣 G9 (Scalar.oFld 4 ((Syntax.field 1) ∷ List.[]) (Syntax.tyInt Syntax.w64) 8 Shared.lenV) 21
+              (Rows.sc-here (Row.sInt Syntax.w64)) (Syntax.tyInt Syntax.w64) (Row.valS (Row.sInt Syntax.w64))
+              (Row.sInt Syntax.w64 .of) (
+                Mut.reads-mslice-len 𝓤 H A W InflightAction.row ref12 3 8 Path.refl,
+                Path.refl,
+              ) (Reads'.room-gone 𝓤 H A (Syntax.tyInt Syntax.w64)) (Scalar.holds-sc 𝓤 H A W (Row.sInt Syntax.w64))
+              Path.refl (λ u. Path.refl) λ u. tt) d96
+
           d98 : Typed.Typed 𝓤 H A 𝓣 E G8 b68 Δ0 (at98 bs)
-          d98 = Typed.s-seq 𝓤 H A W 𝓣 E G8 G9 b2 b67 Δ0 (Typed.pass T8 T9 (s7 bs)) (at97 bs) (Scalar.t-use 𝓤 H A W E 𝓣 G8 (Scalar.oFld 2
-              ((Syntax.field 1) ∷ List.[]) (Syntax.tyInt Syntax.w64) 8 Shared.lenV) 20 (Rows.sc-here (Row.sInt Syntax.w64)) (Syntax.tyInt Syntax.w64)
-              (Row.valS (Row.sInt Syntax.w64)) (Row.sInt Syntax.w64 .of) (Mut.reads-mslice-len 𝓤 H A W RelayCircuit.row ref10 1 8 Path.refl,
-              Path.refl,) (Reads'.room-gone 𝓤 H A (Syntax.tyInt Syntax.w64)) (Scalar.holds-sc 𝓤 H A W (Row.sInt Syntax.w64)) Path.refl (λ u.
-              Path.refl) λ u. tt) d97
+          d98 = Typed.s-seq 𝓤 H A W 𝓣 E G8 G9 b2 b67 Δ0 (Typed.pass T8 T9 (s7 bs)) (at97 bs) (Scalar.t-use 𝓤 H A W E 𝓣
+              G8 (Scalar.oFld 2 ((Syntax.field 1) ∷ List.[]) (Syntax.tyInt Syntax.w64) 8 Shared.lenV) 20
+              (Rows.sc-here (Row.sInt Syntax.w64)) (Syntax.tyInt Syntax.w64) (Row.valS (Row.sInt Syntax.w64))
+              (Row.sInt Syntax.w64 .of) (Mut.reads-mslice-len 𝓤 H A W RelayCircuit.row ref10 1 8 Path.refl, Path.refl)
+              (Reads'.room-gone 𝓤 H A (Syntax.tyInt Syntax.w64)) (Scalar.holds-sc 𝓤 H A W (Row.sInt Syntax.w64))
+              Path.refl (λ u. Path.refl) λ u. tt) d97
+
           d99 : Typed.Typed 𝓤 H A 𝓣 E G7 b69 Δ0 (at99 bs)
-          d99 = Typed.s-seq 𝓤 H A W 𝓣 E G7 G8 b1 b68 Δ0 (Typed.pass T7 T8 (s6 bs)) (at98 bs) (Scalar.t-use 𝓤 H A W E 𝓣 G7 (Scalar.oFld 1
-              ((Syntax.field 1) ∷ List.[]) (Syntax.tyInt Syntax.w64) 8 Shared.lenV) 19 (Rows.sc-here (Row.sInt Syntax.w64)) (Syntax.tyInt Syntax.w64)
-              (Row.valS (Row.sInt Syntax.w64)) (Row.sInt Syntax.w64 .of) (Mut.reads-mslice-len 𝓤 H A W RelayPending.row ref9 0 8 Path.refl,
-              Path.refl,) (Reads'.room-gone 𝓤 H A (Syntax.tyInt Syntax.w64)) (Scalar.holds-sc 𝓤 H A W (Row.sInt Syntax.w64)) Path.refl (λ u.
-              Path.refl) λ u. tt) d98
+          d99 = Typed.s-seq 𝓤 H A W 𝓣 E G7 G8 b1 b68 Δ0 (Typed.pass T7 T8 (s6 bs)) (at98 bs) (Scalar.t-use 𝓤 H A W E 𝓣
+              G7 (Scalar.oFld 1 ((Syntax.field 1) ∷ List.[]) (Syntax.tyInt Syntax.w64) 8 Shared.lenV) 19
+              (Rows.sc-here (Row.sInt Syntax.w64)) (Syntax.tyInt Syntax.w64) (Row.valS (Row.sInt Syntax.w64))
+              (Row.sInt Syntax.w64 .of) (Mut.reads-mslice-len 𝓤 H A W RelayPending.row ref9 0 8 Path.refl, Path.refl)
+              (Reads'.room-gone 𝓤 H A (Syntax.tyInt Syntax.w64)) (Scalar.holds-sc 𝓤 H A W (Row.sInt Syntax.w64))
+              Path.refl (λ u. Path.refl) λ u. tt) d98
+
           d100 : Typed.Typed 𝓤 H A 𝓣 E G6 b70 Δ0 (at100 bs)
-          d100 = Typed.s-seq 𝓤 H A W 𝓣 E G6 G7 b0 b69 Δ0 (Typed.both (s5 bs)) (at99 bs) (WayStmt.t-way-copy-out 𝓤 H A W E 𝓣 (Declared'.row
-              OpaqueRelayConfig.the-type) Path.refl (Copies.cStruct OpaqueRelayConfig.the-type Laws'.the-laws Laws'.the-copy .copy 𝓤 H A W) (λ ρ.
-              Unit) G6 (Row.out 6 (G6 .locals)) (λ u. Row.drop 6 (G6 .locals) u) (G6 .slots) 6 (λ t. (Syntax.field 4) ∷ t) Laws'.mir Laws'.mir 13
-              (Rows.whole (Declared'.row OpaqueRelayConfig.the-type)) (λ x. x) (λ u. At.getAt (OpaqueRelayRuntime.the-type .parts) 4
-              (OpaqueRelayRuntime.struct .as-values (u .1 .1 .1 .1 .1 .1 .0))) (λ u. (Row.hd 0 (Row.tl (Row.tl (Row.tl (Row.tl (Row.tl (Row.tl
-              bs)))))), Nat._+_ 0 40,)) (λ T′. record { locals = Row.setRow 6 (6, Rows.whole (Declared'.row OpaqueRelayRuntime.the-type)) T′; slots =
-              G6 .slots; }) (λ u T′ m′. Row.set 6 (6, Rows.whole (Declared'.row OpaqueRelayRuntime.the-type)) (u .1 .1 .1 .1 .1 .1 .0) T′ m′) (λ u.
-              Unit) (λ x. Unit) (Own.told-none 𝓤 H A (G6 .slots)) (DerefMove.learns-nothing 𝓤 H A (Declared'.row OpaqueRelayConfig.the-type)) (λ ρ
-              told u asked. Way'.w-partˢ 𝓤 H A W E (Declared'.row OpaqueRelayRuntime.the-type) (Declared'.row OpaqueRelayConfig.the-type) Laws''''.mir
-              Laws'.mir 4 40 (u .1 .1 .1 .1 .1 .1 .0) (At.getAt (OpaqueRelayRuntime.the-type .parts) 4 (OpaqueRelayRuntime.struct .as-values (u .1 .1
-              .1 .1 .1 .1 .0))) (Row.hd 0 (Row.tl (Row.tl (Row.tl (Row.tl (Row.tl (Row.tl bs)))))), 0) (Way.w-look 𝓤 H A W E (Way.w-local 𝓤 H A W E G6
-              ρ u (G6 .slots) 6 (Declared'.row OpaqueRelayRuntime.the-type) (Rows.whole (Declared'.row OpaqueRelayRuntime.the-type)) (λ x. x) (λ x. x)
-              (u .1 .1 .1 .1 .1 .1 .0) (Local.mem-whole 𝓤 H A W (Declared'.row OpaqueRelayRuntime.the-type) ρ (u .1 .1 .1 .1 .1 .1 .0) (Row.hd 0
-              (Row.tl (Row.tl (Row.tl (Row.tl (Row.tl (Row.tl bs)))))))) (Local.whole-mem 𝓤 H A W (Declared'.row OpaqueRelayRuntime.the-type) ρ (u .1
-              .1 .1 .1 .1 .1 .0) (Row.hd 0 (Row.tl (Row.tl (Row.tl (Row.tl (Row.tl (Row.tl bs)))))))))) Path.refl λ q. Inner.cut-record 𝓤 H A q
-              (Declared'.row OpaqueRelayRuntime.the-type) OpaqueRelayConfig.the-type 40 (u .1 .1 .1 .1 .1 .1 .0) (u .1 .1 .1 .1 .1 .1 .0) (At.getAt
-              (OpaqueRelayRuntime.the-type .parts) 4 (OpaqueRelayRuntime.struct .as-values (u .1 .1 .1 .1 .1 .1 .0))) (At.getAt
-              (OpaqueRelayRuntime.the-type .parts) 4 (OpaqueRelayRuntime.struct .as-values (u .1 .1 .1 .1 .1 .1 .0))) (Row.hd 0 (Row.tl (Row.tl
-              (Row.tl (Row.tl (Row.tl (Row.tl bs)))))), 0) (Behind.look-at 𝓤 H A W q OpaqueRelayRuntime.the-type Laws''''.the-laws 4 40 Path.refl
-              Path.refl (Row.hd 0 (Row.tl (Row.tl (Row.tl (Row.tl (Row.tl (Row.tl bs)))))), 0) (u .1 .1 .1 .1 .1 .1 .0) (OpaqueRelayRuntime.struct
-              .as-values (u .1 .1 .1 .1 .1 .1 .0)) Path.refl)) (Reads'.room-gone 𝓤 H A Laws'.mir) (Yields.makes-mem 𝓤 H A W (λ ρ. Unit) (Declared'.row
-              OpaqueRelayConfig.the-type) Path.refl (Rows.whole (Declared'.row OpaqueRelayConfig.the-type)) (λ x. x) λ ρ told. Local.whole-mem 𝓤 H A W
+          d100 = Typed.s-seq 𝓤 H A W 𝓣 E G6 G7 b0 b69 Δ0 (Typed.both (s5 bs)) (at99 bs) (WayStmt.t-way-copy-out 𝓤 H A W
+              E 𝓣 (Declared'.row OpaqueRelayConfig.the-type) Path.refl (Copies.cStruct OpaqueRelayConfig.the-type
+              Laws'.the-laws Laws'.the-copy .copy 𝓤 H A W) (λ ρ. Unit) G6 (Row.out 6 (G6 .locals))
+              (λ u. Row.drop 6 (G6 .locals) u) (G6 .slots) 6 (λ t. (Syntax.field 4) ∷ t) Laws'.mir Laws'.mir 13
+              (Rows.whole (Declared'.row OpaqueRelayConfig.the-type)) (λ x. x) (λ u. At.getAt
+              (OpaqueRelayRuntime.the-type .parts) 4 (OpaqueRelayRuntime.struct .as-values (u .1 .1 .1 .1 .1 .1 .0))) (λ
+              u. (Row.hd 0 (Row.tl (Row.tl (Row.tl (Row.tl (Row.tl (Row.tl bs)))))), Nat._+_ 0 40)) (λ T′.
+              record {
+                locals = Row.setRow 6 (6, Rows.whole (Declared'.row OpaqueRelayRuntime.the-type)) T′;
+                slots = G6 .slots;
+              }) (λ u T′ m′. Row.set 6 (6, Rows.whole (Declared'.row OpaqueRelayRuntime.the-type))
+              (u .1 .1 .1 .1 .1 .1 .0) T′ m′) (λ u. Unit) (λ x. Unit) (Own.told-none 𝓤 H A (G6 .slots)) (DerefMove.learns-nothing
+              𝓤 H A (Declared'.row OpaqueRelayConfig.the-type)) (λ ρ told u asked. Way'.w-partˢ 𝓤 H A W E
+              (Declared'.row OpaqueRelayRuntime.the-type) (Declared'.row OpaqueRelayConfig.the-type) Laws''''.mir
+              Laws'.mir 4 40 (u .1 .1 .1 .1 .1 .1 .0) (At.getAt (OpaqueRelayRuntime.the-type .parts) 4 (OpaqueRelayRuntime.struct
+              .as-values (u .1 .1 .1 .1 .1 .1 .0))) (
+                Row.hd 0 (Row.tl (Row.tl (Row.tl (Row.tl (Row.tl (Row.tl bs)))))),
+                0,
+              ) (Way.w-look 𝓤 H A W E (Way.w-local 𝓤 H A W E G6 ρ u (G6 .slots) 6
+              (Declared'.row OpaqueRelayRuntime.the-type) (Rows.whole (Declared'.row OpaqueRelayRuntime.the-type))
+              (λ x. x) (λ x. x) (u .1 .1 .1 .1 .1 .1 .0) (Local.mem-whole 𝓤 H A W
+              (Declared'.row OpaqueRelayRuntime.the-type) ρ (u .1 .1 .1 .1 .1 .1 .0) (Row.hd 0
+              (Row.tl (Row.tl (Row.tl (Row.tl (Row.tl (Row.tl bs)))))))) (Local.whole-mem 𝓤 H A W
+              (Declared'.row OpaqueRelayRuntime.the-type) ρ (u .1 .1 .1 .1 .1 .1 .0) (Row.hd 0 (Row.tl
+              (Row.tl (Row.tl (Row.tl (Row.tl (Row.tl bs)))))))))) Path.refl λ q. Inner.cut-record 𝓤 H A q
+              (Declared'.row OpaqueRelayRuntime.the-type) OpaqueRelayConfig.the-type 40 (u .1 .1 .1 .1 .1 .1 .0)
+              (u .1 .1 .1 .1 .1 .1 .0) (At.getAt (OpaqueRelayRuntime.the-type .parts) 4 (OpaqueRelayRuntime.struct
+              .as-values (u .1 .1 .1 .1 .1 .1 .0))) (At.getAt (OpaqueRelayRuntime.the-type .parts) 4 (OpaqueRelayRuntime.struct
+              .as-values (u .1 .1 .1 .1 .1 .1 .0))) (
+                Row.hd 0 (Row.tl (Row.tl (Row.tl (Row.tl (Row.tl (Row.tl bs)))))),
+                0,
+              ) (Behind.look-at 𝓤 H A W q OpaqueRelayRuntime.the-type Laws''''.the-laws 4 40 Path.refl Path.refl (
+                Row.hd 0 (Row.tl (Row.tl (Row.tl (Row.tl (Row.tl (Row.tl bs)))))),
+                0,
+              ) (u .1 .1 .1 .1 .1 .1 .0) (OpaqueRelayRuntime.struct .as-values (u .1 .1 .1 .1 .1 .1 .0)) Path.refl))
+              (Reads'.room-gone 𝓤 H A Laws'.mir) (Yields.makes-mem 𝓤 H A W (λ ρ. Unit)
+              (Declared'.row OpaqueRelayConfig.the-type) Path.refl
+              (Rows.whole (Declared'.row OpaqueRelayConfig.the-type)) (λ x. x) λ ρ told. Local.whole-mem 𝓤 H A W
               (Declared'.row OpaqueRelayConfig.the-type) ρ) Path.refl Path.refl Path.refl) d99
+
           d101 : Typed.Typed 𝓤 H A 𝓣 E G5 b70 Δ0 (at101 bs)
-          d101 = Typed.g-pre 𝓤 H A W 𝓣 E G5 G6 b70 Δ0 (Typed.give (s4 bs)) (at100 bs) (Know.g-shs-known 𝓤 H A W (Referent.fInt Syntax.w8) E G5 12 8
-              ref17 life8 0 (λ x. x) record { fits = Dec.lit< tt } (Reads'.as-is 𝓤 H A (Rows.sslice (Referent.rtF (Referent.fInt Syntax.w8)) ref17 8))
-              Path.refl tt) d100
+          d101 = Typed.g-pre 𝓤 H A W 𝓣 E G5 G6 b70 Δ0 (Typed.give (s4 bs)) (at100 bs) (Know.g-shs-known 𝓤 H A W
+              (Referent.fInt Syntax.w8) E G5 12 8 ref17 life8 0 (λ x. x) record { fits = Dec.lit< tt } (Reads'.as-is 𝓤
+              H A (Rows.sslice (Referent.rtF (Referent.fInt Syntax.w8)) ref17 8)) Path.refl tt) d100
+
           d102 : Typed.Typed 𝓤 H A 𝓣 E G4 b70 Δ0 (at102 bs)
-          d102 = Typed.g-pre 𝓤 H A W 𝓣 E G4 G5 b70 Δ0 (Typed.give (s3 bs)) (at101 bs) (Know.g-shs-known 𝓤 H A W (Referent.fInt Syntax.w8) E G4 11 7
-              ref16 life7 0 (λ x. x) record { fits = Dec.lit< tt } (Reads'.as-is 𝓤 H A (Rows.sslice (Referent.rtF (Referent.fInt Syntax.w8)) ref16 7))
-              Path.refl tt) d101
+          d102 = Typed.g-pre 𝓤 H A W 𝓣 E G4 G5 b70 Δ0 (Typed.give (s3 bs)) (at101 bs) (Know.g-shs-known 𝓤 H A W
+              (Referent.fInt Syntax.w8) E G4 11 7 ref16 life7 0 (λ x. x) record { fits = Dec.lit< tt } (Reads'.as-is 𝓤
+              H A (Rows.sslice (Referent.rtF (Referent.fInt Syntax.w8)) ref16 7)) Path.refl tt) d101
+
           d103 : Typed.Typed 𝓤 H A 𝓣 E G3 b70 Δ0 (at103 bs)
-          d103 = Typed.g-pre 𝓤 H A W 𝓣 E G3 G4 b70 Δ0 (Typed.give (s2 bs)) (at102 bs) (Know.g-shs-known 𝓤 H A W (Referent.fInt Syntax.w8) E G3 10 6
-              ref15 life6 0 (λ x. x) record { fits = Dec.lit< tt } (Reads'.as-is 𝓤 H A (Rows.sslice (Referent.rtF (Referent.fInt Syntax.w8)) ref15 6))
-              Path.refl tt) d102
+          d103 = Typed.g-pre 𝓤 H A W 𝓣 E G3 G4 b70 Δ0 (Typed.give (s2 bs)) (at102 bs) (Know.g-shs-known 𝓤 H A W
+              (Referent.fInt Syntax.w8) E G3 10 6 ref15 life6 0 (λ x. x) record { fits = Dec.lit< tt } (Reads'.as-is 𝓤
+              H A (Rows.sslice (Referent.rtF (Referent.fInt Syntax.w8)) ref15 6)) Path.refl tt) d102
+
           d104 : Typed.Typed 𝓤 H A 𝓣 E G2 b70 Δ0 (at104 bs)
-          d104 = Typed.g-pre 𝓤 H A W 𝓣 E G2 G3 b70 Δ0 (Typed.give (s1 bs)) (at103 bs) (Know.g-shs-known 𝓤 H A W (Referent.fInt Syntax.w8) E G2 9 5
-              ref14 life5 0 (λ x. x) record { fits = Dec.lit< tt } (Reads'.as-is 𝓤 H A (Rows.sslice (Referent.rtF (Referent.fInt Syntax.w8)) ref14 5))
-              Path.refl tt) d103
+          d104 = Typed.g-pre 𝓤 H A W 𝓣 E G2 G3 b70 Δ0 (Typed.give (s1 bs)) (at103 bs) (Know.g-shs-known 𝓤 H A W
+              (Referent.fInt Syntax.w8) E G2 9 5 ref14 life5 0 (λ x. x) record { fits = Dec.lit< tt } (Reads'.as-is 𝓤 H
+              A (Rows.sslice (Referent.rtF (Referent.fInt Syntax.w8)) ref14 5)) Path.refl tt) d103
+
           d105 : Typed.Typed 𝓤 H A 𝓣 E G0 b70 Δ0 (at105 bs)
-          d105 = Typed.g-pre 𝓤 H A W 𝓣 E G0 G2 b70 Δ0 (Typed.give (s0 bs)) (at104 bs) (Know.g-sl-known 𝓤 H A W (Referent.fInt Syntax.w32) E G0 5 4
-              ref13 life4 0 (λ x. x) record { fits = Dec.lit< tt } (Reads'.as-is 𝓤 H A (Mut.mslice (Referent.rtF (Referent.fInt Syntax.w32)) ref13 4))
-              Path.refl tt) d104
-          pub typed : Typed.Typed 𝓤 H A 𝓣 E (Function.Γin 9 ps r xs m κs qs) b70 (Function.Δret 9 ps r xs m κs qs) (Φ bs)
+          d105 = Typed.g-pre 𝓤 H A W 𝓣 E G0 G2 b70 Δ0 (Typed.give (s0 bs)) (at104 bs) (Know.g-sl-known 𝓤 H A W
+              (Referent.fInt Syntax.w32) E G0 5 4 ref13 life4 0 (λ x. x) record { fits = Dec.lit< tt } (Reads'.as-is 𝓤
+              H A (Mut.mslice (Referent.rtF (Referent.fInt Syntax.w32)) ref13 4)) Path.refl tt) d104
+
+          pub typed : Typed.Typed 𝓤 H A 𝓣 E (Function.Γin 9 ps r xs m κs qs) b70 (Function.Δret 9 ps r xs m κs qs)
+              (Φ bs)
           typed = d105
+
       module _ (κs : Lifetimes.Lfts 9) where
         pub record Args : Type 0 where
-          pub pending : Kinds.Den { n = 9 } κs (MutSlice.pMutS RelayPending.row 0 tt)
-          pub circuits : Kinds.Den { n = 9 } κs (MutSlice.pMutS RelayCircuit.row 1 tt)
-          pub ledger : Kinds.Den { n = 9 } κs (MutSlice.pMutS ReservationUsage.row 2 tt)
-          pub inflight : Kinds.Den { n = 9 } κs (MutSlice.pMutS InflightAction.row 3 tt)
-          pub out : Kinds.Den { n = 9 } κs (MutSlice.pMutS (Referent.rtF (Referent.fInt Syntax.w32)) 4 tt)
-          pub runtime : Kinds.Den { n = 9 } κs (Value.pVal record { ty = Declared'.row OpaqueRelayRuntime.the-type; one = Path.refl; val =
-              Laws'''''''.val OpaqueRelayRuntime.the-type Laws''''.the-laws; tells = Laws'''''''.tells OpaqueRelayRuntime.the-type Laws''''.the-laws;
-              still = Laws'''''''.still OpaqueRelayRuntime.the-type Laws''''.the-copy Exit.yes; row = Rows.whole (Declared'.row
-              OpaqueRelayRuntime.the-type); rd = λ x. x; mk = λ x. x; } λ M 𝓤 H A W. record { copies = Laws'''''''.copy OpaqueRelayRuntime.the-type
-              Laws''''.the-copy 𝓤 H A W; lawful = Laws'''''''.lawful OpaqueRelayRuntime.the-type Laws''''.the-laws 𝓤 H A W; makes = Laws'''''''.makes
-              OpaqueRelayRuntime.the-type Laws''''.the-plain 𝓤 H A; in-mem = Local.mem-whole 𝓤 H A W (Declared'.row OpaqueRelayRuntime.the-type);
-              of-mem = Local.whole-mem 𝓤 H A W (Declared'.row OpaqueRelayRuntime.the-type); })
-          pub places : Kinds.Den { n = 9 } κs (Value.pVal record { ty = Declared'.row Places.the-type; one = Path.refl; val = Laws'''''''.val
-              Places.the-type Laws''.the-laws; tells = Laws'''''''.tells Places.the-type Laws''.the-laws; still = Laws'''''''.still Places.the-type
-              Laws''.the-copy Exit.yes; row = Rows.whole (Declared'.row Places.the-type); rd = λ x. x; mk = λ x. x; } λ M 𝓤 H A W. record { copies =
-              Laws'''''''.copy Places.the-type Laws''.the-copy 𝓤 H A W; lawful = Laws'''''''.lawful Places.the-type Laws''.the-laws 𝓤 H A W; makes =
-              Laws'''''''.makes Places.the-type Laws''.the-plain 𝓤 H A; in-mem = Local.mem-whole 𝓤 H A W (Declared'.row Places.the-type); of-mem =
-              Local.whole-mem 𝓤 H A W (Declared'.row Places.the-type); })
-          pub packet : Kinds.Den { n = 9 } κs (Value.pVal record { ty = Declared'.row RelayPacket.the-type; one = Path.refl; val = Laws'''''''.val
-              RelayPacket.the-type Laws'''.the-laws; tells = Laws'''''''.tells RelayPacket.the-type Laws'''.the-laws; still = Laws'''''''.still
-              RelayPacket.the-type Laws'''.the-copy Exit.yes; row = Rows.whole (Declared'.row RelayPacket.the-type); rd = λ x. x; mk = λ x. x; } λ M 𝓤
-              H A W. record { copies = Laws'''''''.copy RelayPacket.the-type Laws'''.the-copy 𝓤 H A W; lawful = Laws'''''''.lawful
-              RelayPacket.the-type Laws'''.the-laws 𝓤 H A W; makes = Laws'''''''.makes RelayPacket.the-type Laws'''.the-plain 𝓤 H A; in-mem =
-              Local.mem-whole 𝓤 H A W (Declared'.row RelayPacket.the-type); of-mem = Local.whole-mem 𝓤 H A W (Declared'.row RelayPacket.the-type); })
-          pub source : Kinds.Den { n = 9 } κs (ShrSlice.pShrS (Referent.rtF (Referent.fInt Syntax.w8)) 5 tt)
-          pub body : Kinds.Den { n = 9 } κs (ShrSlice.pShrS (Referent.rtF (Referent.fInt Syntax.w8)) 6 tt)
-          pub endpoint : Kinds.Den { n = 9 } κs (ShrSlice.pShrS (Referent.rtF (Referent.fInt Syntax.w8)) 7 tt)
-          pub random : Kinds.Den { n = 9 } κs (ShrSlice.pShrS (Referent.rtF (Referent.fInt Syntax.w8)) 8 tt)
+          pub pending : Kinds.Den {n = 9} κs (MutSlice.pMutS RelayPending.row 0 tt)
+          pub circuits : Kinds.Den {n = 9} κs (MutSlice.pMutS RelayCircuit.row 1 tt)
+          pub ledger : Kinds.Den {n = 9} κs (MutSlice.pMutS ReservationUsage.row 2 tt)
+          pub inflight : Kinds.Den {n = 9} κs (MutSlice.pMutS InflightAction.row 3 tt)
+          pub out : Kinds.Den {n = 9} κs (MutSlice.pMutS (Referent.rtF (Referent.fInt Syntax.w32)) 4 tt)
+          pub runtime : Kinds.Den {n = 9} κs (StructRow.param OpaqueRelayRuntime.the-type Laws''''.the-laws
+              Laws''''.the-copy Laws''''.the-plain)
+          pub places : Kinds.Den {n = 9} κs (StructRow.param Places.the-type Laws''.the-laws Laws''.the-copy
+              Laws''.the-plain)
+          pub packet : Kinds.Den {n = 9} κs (StructRow.param RelayPacket.the-type Laws'''.the-laws Laws'''.the-copy
+              Laws'''.the-plain)
+          pub source : Kinds.Den {n = 9} κs (ShrSlice.pShrS (Referent.rtF (Referent.fInt Syntax.w8)) 5 tt)
+          pub body : Kinds.Den {n = 9} κs (ShrSlice.pShrS (Referent.rtF (Referent.fInt Syntax.w8)) 6 tt)
+          pub endpoint : Kinds.Den {n = 9} κs (ShrSlice.pShrS (Referent.rtF (Referent.fInt Syntax.w8)) 7 tt)
+          pub random : Kinds.Den {n = 9} κs (ShrSlice.pShrS (Referent.rtF (Referent.fInt Syntax.w8)) 8 tt)
+
         abbrev pub dens : (a : Args) → Kinds.Dens κs ps
-        dens = λ a. (a .pending, (a .circuits, (a .ledger, (a .inflight, (a .out, (a .runtime, (a .places, (a .packet, (a .source, (a .body, (a
-            .endpoint, (a .random, tt))))),),),),),),),)
+        dens = λ a. (
+          a .pending,
+          (
+            a .circuits,
+            (
+              a .ledger,
+              (
+                a .inflight,
+                (
+                  a .out,
+                  (a .runtime, (a .places, (a .packet, (a .source, (a .body, (a .endpoint, (a .random, tt))))))),
+                ),
+              ),
+            ),
+          ),
+        )
+
       abbrev pub m0 : (κs : Lifetimes.Lfts 9) → (args : Args κs) → (blocks : List.List Nat.ℕ) → Typed.Mo T0
       m0 = λ κs args blocks. (tt, Enter.partsP κs 1 ps xs (dens κs args))
+
       abbrev W0 : (κs : Lifetimes.Lfts 9) → (args : Args κs) → (blocks : List.List Nat.ℕ) → Typed.Want O0
-      W0 = λ κs args blocks. (λ u. ⊥, tt, λ u. Enter.Fixs κs 1 ps xs (dens κs args) (u .1) × Post· κs (dens κs args) (Function.resV r κs (u .0))
-          (Clauses.atExit (Kinds.endedOf 9 ps r) κs (dens κs args) (Enter.lastsP κs 1 ps xs (dens κs args) (u .1))),)
+      W0 = λ κs args blocks. (
+        λ u. ⊥,
+        tt,
+        λ u. Enter.Fixs κs 1 ps xs (dens κs args) (u .1) × Post· κs (dens κs args) (Function.resV r κs (u .0)) (Clauses.atExit
+            (Kinds.endedOf 9 ps r) κs (dens κs args) (Enter.lastsP κs 1 ps xs (dens κs args) (u .1))),
+      )
+
       pub record Start : Type 0 where
         pub κs : Lifetimes.Lfts 9
         pub args : Args κs
         pub blocks : List.List Nat.ℕ
         pub good : Kinds.GoodsP κs ps (dens κs args)
         pub pre : Pre· κs (dens κs args)
-      abbrev pub m1 : (before : Start) → (given : s0 (before .blocks) .gives (m0 (before .κs) (before .args) (before .blocks))) → Typed.Mo T2
+
+      abbrev pub m1 : (before : Start) → (given : s0 (before .blocks) .gives
+          (m0 (before .κs) (before .args) (before .blocks))) → Typed.Mo T2
       m1 = λ before given. s0 (before .blocks) .next (m0 (before .κs) (before .args) (before .blocks)) given
+
       module _ (before· : Start) where
         pub record After-slice-known·own : Type 0 where
           pub given : s0 (before· .blocks) .gives (m0 (before· .κs) (before· .args) (before· .blocks))
+
       pub record After-slice-known : Type 0 where
         pub before : Start
         pub slice-known : After-slice-known·own before
-      abbrev pub m2 : (before : After-slice-known) → (given : s1 (before .before .blocks) .gives (m1 (before .before) (before .slice-known .given))) →
-          Typed.Mo T3
+
+      abbrev pub m2 : (before : After-slice-known) → (given : s1 (before .before .blocks) .gives
+          (m1 (before .before) (before .slice-known .given))) → Typed.Mo T3
       m2 = λ before given. s1 (before .before .blocks) .next (m1 (before .before) (before .slice-known .given)) given
+
       module _ (before· : After-slice-known) where
         pub record After-shared-slice-known·own : Type 0 where
           pub given : s1 (before· .before .blocks) .gives (m1 (before· .before) (before· .slice-known .given))
+
       pub record After-shared-slice-known : Type 0 where
         pub before : After-slice-known
         pub shared-slice-known : After-shared-slice-known·own before
-      abbrev pub m3 : (before : After-shared-slice-known) → (given : s2 (before .before .before .blocks) .gives (m2 (before .before) (before
-          .shared-slice-known .given))) → Typed.Mo T4
-      m3 = λ before given. s2 (before .before .before .blocks) .next (m2 (before .before) (before .shared-slice-known .given)) given
+
+      abbrev pub m3 : (before : After-shared-slice-known) → (given : s2 (before .before .before .blocks) .gives
+          (m2 (before .before) (before .shared-slice-known .given))) → Typed.Mo T4
+      m3 = λ before given. s2 (before .before .before .blocks) .next
+          (m2 (before .before) (before .shared-slice-known .given)) given
+
       module _ (before· : After-shared-slice-known) where
         pub record After-shared-slice-known2·own : Type 0 where
-          pub given : s2 (before· .before .before .blocks) .gives (m2 (before· .before) (before· .shared-slice-known .given))
+          pub given : s2 (before· .before .before .blocks) .gives
+              (m2 (before· .before) (before· .shared-slice-known .given))
+
       pub record After-shared-slice-known2 : Type 0 where
         pub before : After-shared-slice-known
         pub shared-slice-known2 : After-shared-slice-known2·own before
-      abbrev pub m4 : (before : After-shared-slice-known2) → (given : s3 (before .before .before .before .blocks) .gives (m3 (before .before) (before
-          .shared-slice-known2 .given))) → Typed.Mo T5
-      m4 = λ before given. s3 (before .before .before .before .blocks) .next (m3 (before .before) (before .shared-slice-known2 .given)) given
+
+      abbrev pub m4 : (before : After-shared-slice-known2) → (given : s3 (before .before .before .before .blocks)
+          .gives (m3 (before .before) (before .shared-slice-known2 .given))) → Typed.Mo T5
+      m4 = λ before given. s3 (before .before .before .before .blocks) .next
+          (m3 (before .before) (before .shared-slice-known2 .given)) given
+
       module _ (before· : After-shared-slice-known2) where
         pub record After-shared-slice-known3·own : Type 0 where
-          pub given : s3 (before· .before .before .before .blocks) .gives (m3 (before· .before) (before· .shared-slice-known2 .given))
+          pub given : s3 (before· .before .before .before .blocks) .gives (m3 (before· .before)
+              (before· .shared-slice-known2 .given))
+
       pub record After-shared-slice-known3 : Type 0 where
         pub before : After-shared-slice-known2
         pub shared-slice-known3 : After-shared-slice-known3·own before
-      abbrev pub m5 : (before : After-shared-slice-known3) → (given : s4 (before .before .before .before .before .blocks) .gives (m4 (before .before)
-          (before .shared-slice-known3 .given))) → Typed.Mo T6
-      m5 = λ before given. s4 (before .before .before .before .before .blocks) .next (m4 (before .before) (before .shared-slice-known3 .given)) given
+
+      abbrev pub m5 : (before : After-shared-slice-known3) → (given : s4
+          (before .before .before .before .before .blocks) .gives
+          (m4 (before .before) (before .shared-slice-known3 .given))) → Typed.Mo T6
+      m5 = λ before given. s4 (before .before .before .before .before .blocks) .next
+          (m4 (before .before) (before .shared-slice-known3 .given)) given
+
       module _ (before· : After-shared-slice-known3) where
         pub record After-shared-slice-known4·own : Type 0 where
-          pub given : s4 (before· .before .before .before .before .blocks) .gives (m4 (before· .before) (before· .shared-slice-known3 .given))
+          pub given : s4 (before· .before .before .before .before .blocks) .gives (m4 (before· .before)
+              (before· .shared-slice-known3 .given))
+
       pub record After-shared-slice-known4 : Type 0 where
         pub before : After-shared-slice-known3
         pub shared-slice-known4 : After-shared-slice-known4·own before
-      abbrev pub m6 : (before : After-shared-slice-known4) → (given : s5 (before .before .before .before .before .before .blocks) .gives (m5 (before
-          .before) (before .shared-slice-known4 .given))) → Typed.Mo T7
-      m6 = λ before given. s5 (before .before .before .before .before .before .blocks) .next (m5 (before .before) (before .shared-slice-known4
-          .given)) given
-      abbrev pub m7 : (before : After-shared-slice-known4) → (given : s5 (before .before .before .before .before .before .blocks) .gives (m5 (before
-          .before) (before .shared-slice-known4 .given))) → Typed.Mo T8
+
+      abbrev pub m6 : (before : After-shared-slice-known4) → (given : s5
+          (before .before .before .before .before .before .blocks) .gives
+          (m5 (before .before) (before .shared-slice-known4 .given))) → Typed.Mo T7
+      m6 = λ before given. s5 (before .before .before .before .before .before .blocks) .next
+          (m5 (before .before) (before .shared-slice-known4 .given)) given
+
+      abbrev pub m7 : (before : After-shared-slice-known4) → (given : s5
+          (before .before .before .before .before .before .blocks) .gives
+          (m5 (before .before) (before .shared-slice-known4 .given))) → Typed.Mo T8
       m7 = λ before given. s6 (before .before .before .before .before .before .blocks) (m6 before given)
-      abbrev pub m8 : (before : After-shared-slice-known4) → (given : s5 (before .before .before .before .before .before .blocks) .gives (m5 (before
-          .before) (before .shared-slice-known4 .given))) → Typed.Mo T9
+
+      abbrev pub m8 : (before : After-shared-slice-known4) → (given : s5
+          (before .before .before .before .before .before .blocks) .gives
+          (m5 (before .before) (before .shared-slice-known4 .given))) → Typed.Mo T9
       m8 = λ before given. s7 (before .before .before .before .before .before .blocks) (m7 before given)
-      abbrev pub m9 : (before : After-shared-slice-known4) → (given : s5 (before .before .before .before .before .before .blocks) .gives (m5 (before
-          .before) (before .shared-slice-known4 .given))) → Typed.Mo T10
+
+      abbrev pub m9 : (before : After-shared-slice-known4) → (given : s5
+          (before .before .before .before .before .before .blocks) .gives
+          (m5 (before .before) (before .shared-slice-known4 .given))) → Typed.Mo T10
       m9 = λ before given. s8 (before .before .before .before .before .before .blocks) (m8 before given)
+
       module _ (before· : After-shared-slice-known4) where
         pub record After-config·own : Type 0 where
-          pub given : s5 (before· .before .before .before .before .before .blocks) .gives (m5 (before· .before) (before· .shared-slice-known4 .given))
+          pub given : s5 (before· .before .before .before .before .before .blocks) .gives (m5 (before· .before)
+              (before· .shared-slice-known4 .given))
+
       pub record After-config : Type 0 where
         pub before : After-shared-slice-known4
         pub config : After-config·own before
+
       abbrev pub Need-too-few-requires : Type 0
-      Need-too-few-requires = (c : After-config) → s9 (c .before .before .before .before .before .before .blocks) .asks (m9 (c .before) (c .config
-          .given))
-      abbrev pub m10 : (before : After-config) → (given : s9 (before .before .before .before .before .before .before .blocks) .gives (m9 (before
-          .before) (before .config .given))) → Typed.Mo T11
-      m10 = λ before given. s9 (before .before .before .before .before .before .before .blocks) .next (m9 (before .before) (before .config .given))
-          given
+      Need-too-few-requires = (c : After-config) → s9 (c .before .before .before .before .before .before .blocks) .asks
+          (m9 (c .before) (c .config .given))
+
+      abbrev pub m10 : (before : After-config) → (given : s9 (before .before .before .before .before .before .before
+          .blocks) .gives (m9 (before .before) (before .config .given))) → Typed.Mo T11
+      m10 = λ before given. s9 (before .before .before .before .before .before .before .blocks) .next
+          (m9 (before .before) (before .config .given)) given
+
       module _ (before· : After-config) where
         abbrev pub After-too-few·own : Type 0
-        After-too-few·own = Called.Called ps·0 r·0 (claims· .1) T10 (record { pos = 13; st = List.[]; d = 0; at = λ x. x }, (Num.vAt 19 λ x. x,
-            (Num.vAt 20 λ x. x, (Num.vAt 21 λ x. x, tt))),) (m9 (before· .before) (before· .config .given))
+        After-too-few·own = Called.Called ps·0 r·0 (claims· .1) T10 (
+          record { pos = 13; st = List.[]; d = 0; at = λ x. x },
+          (Num.vAt 19 λ x. x, (Num.vAt 20 λ x. x, (Num.vAt 21 λ x. x, tt))),
+        ) (m9 (before· .before) (before· .config .given))
+
       pub record After-too-few : Type 0 where
         pub before : After-config
         pub too-few : After-too-few·own before
-      abbrev pub After-too-few·gave : (c : After-too-few) → s9 (c .before .before .before .before .before .before .before .blocks) .gives (m9 (c
-          .before .before) (c .before .config .given))
-      After-too-few·gave = λ c. Called.given ps·0 r·0 (claims· .1) T10 (record { pos = 13; st = List.[]; d = 0; at = λ x. x }, (Num.vAt 19 λ x. x,
-          (Num.vAt 20 λ x. x, (Num.vAt 21 λ x. x, tt))),) (m9 (c .before .before) (c .before .config .given)) (c .too-few)
-      abbrev pub m11 : (before : After-config) → (given : s9 (before .before .before .before .before .before .before .blocks) .gives (m9 (before
-          .before) (before .config .given))) → Typed.Mo T12
+
+      abbrev pub After-too-few·gave : (c : After-too-few) → s9 (c .before .before .before .before .before .before
+          .before .blocks) .gives (m9 (c .before .before) (c .before .config .given))
+      After-too-few·gave = λ c. Called.given ps·0 r·0 (claims· .1) T10 (
+        record { pos = 13; st = List.[]; d = 0; at = λ x. x },
+        (Num.vAt 19 λ x. x, (Num.vAt 20 λ x. x, (Num.vAt 21 λ x. x, tt))),
+      ) (m9 (c .before .before) (c .before .config .given)) (c .too-few)
+
+      abbrev pub m11 : (before : After-config) → (given : s9 (before .before .before .before .before .before .before
+          .blocks) .gives (m9 (before .before) (before .config .given))) → Typed.Mo T12
       m11 = λ before given. s10 (before .before .before .before .before .before .before .blocks) (m10 before given)
-      abbrev pub m12 : (before : After-config) → (given : s9 (before .before .before .before .before .before .before .blocks) .gives (m9 (before
-          .before) (before .config .given))) → Typed.Mo T13
+
+      abbrev pub m12 : (before : After-config) → (given : s9 (before .before .before .before .before .before .before
+          .blocks) .gives (m9 (before .before) (before .config .given))) → Typed.Mo T13
       m12 = λ before given. s11 (before .before .before .before .before .before .before .blocks) (m11 before given)
-      abbrev pub m13 : (before : After-config) → (given : s9 (before .before .before .before .before .before .before .blocks) .gives (m9 (before
-          .before) (before .config .given))) → Typed.Mo T14
+
+      abbrev pub m13 : (before : After-config) → (given : s9 (before .before .before .before .before .before .before
+          .blocks) .gives (m9 (before .before) (before .config .given))) → Typed.Mo T14
       m13 = λ before given. s12 (before .before .before .before .before .before .before .blocks) (m12 before given)
-      abbrev pub m14 : (before : After-config) → (given : s9 (before .before .before .before .before .before .before .blocks) .gives (m9 (before
-          .before) (before .config .given))) → Typed.Mo T15
+
+      abbrev pub m14 : (before : After-config) → (given : s9 (before .before .before .before .before .before .before
+          .blocks) .gives (m9 (before .before) (before .config .given))) → Typed.Mo T15
       m14 = λ before given. s13 (before .before .before .before .before .before .before .blocks) (m13 before given)
-      abbrev pub m15 : (before : After-config) → (given : s9 (before .before .before .before .before .before .before .blocks) .gives (m9 (before
-          .before) (before .config .given))) → Typed.Mo T16
+
+      abbrev pub m15 : (before : After-config) → (given : s9 (before .before .before .before .before .before .before
+          .blocks) .gives (m9 (before .before) (before .config .given))) → Typed.Mo T16
       m15 = λ before given. s14 (before .before .before .before .before .before .before .blocks) (m14 before given)
+
       abbrev pub Need-room-answer-requires : Type 0
-      Need-room-answer-requires = (c : After-too-few) → s15 (c .before .before .before .before .before .before .before .blocks) .asks (m15 (c .before)
-          (After-too-few·gave c))
-      abbrev pub m16 : (before : After-too-few) → (given : s15 (before .before .before .before .before .before .before .before .blocks) .gives (m15
-          (before .before) (After-too-few·gave before))) → Typed.Mo T17
-      m16 = λ before given. s15 (before .before .before .before .before .before .before .before .blocks) .next (m15 (before .before)
-          (After-too-few·gave before)) given
+      Need-room-answer-requires = (c : After-too-few) → s15 (c .before .before .before .before .before .before .before
+          .blocks) .asks (m15 (c .before) (After-too-few·gave c))
+
+      abbrev pub m16 : (before : After-too-few) → (given : s15 (before .before .before .before .before .before .before
+          .before .blocks) .gives (m15 (before .before) (After-too-few·gave before))) → Typed.Mo T17
+      m16 = λ before given. s15 (before .before .before .before .before .before .before .before .blocks) .next
+          (m15 (before .before) (After-too-few·gave before)) given
+
       module _ (before· : After-too-few) where
         abbrev pub After-room-answer·own : Type 0
-        After-room-answer·own = Called.Called ps·1 r·1 (claims· .3) T16 (Num.vAt 19 λ x. x, (Bool.bAt 14 λ x. x, tt),) (m15 (before· .before)
-            (After-too-few·gave before·))
+        After-room-answer·own = Called.Called ps·1 r·1 (claims· .3) T16 (Num.vAt 19 λ x. x, (Bool.bAt 14 λ x. x, tt))
+            (m15 (before· .before) (After-too-few·gave before·))
+
       pub record After-room-answer : Type 0 where
         pub before : After-too-few
         pub room-answer : After-room-answer·own before
-      abbrev pub After-room-answer·gave : (c : After-room-answer) → s15 (c .before .before .before .before .before .before .before .before .blocks)
-          .gives (m15 (c .before .before) (After-too-few·gave (c .before)))
-      After-room-answer·gave = λ c. Called.given ps·1 r·1 (claims· .3) T16 (Num.vAt 19 λ x. x, (Bool.bAt 14 λ x. x, tt),) (m15 (c .before .before)
-          (After-too-few·gave (c .before))) (c .room-answer)
-      abbrev pub m17 : (before : After-too-few) → (given : s15 (before .before .before .before .before .before .before .before .blocks) .gives (m15
-          (before .before) (After-too-few·gave before))) → Typed.Mo T18
-      m17 = λ before given. s16 (before .before .before .before .before .before .before .before .blocks) (m16 before given)
-      abbrev pub m18 : (before : After-too-few) → (given : s15 (before .before .before .before .before .before .before .before .blocks) .gives (m15
-          (before .before) (After-too-few·gave before))) → Typed.Mo T19
-      m18 = λ before given. s17 (before .before .before .before .before .before .before .before .blocks) (m17 before given)
-      abbrev pub m19 : (before : After-too-few) → (given : s15 (before .before .before .before .before .before .before .before .blocks) .gives (m15
-          (before .before) (After-too-few·gave before))) → Typed.Mo T20
-      m19 = λ before given. s18 (before .before .before .before .before .before .before .before .blocks) (m18 before given)
+
+      abbrev pub After-room-answer·gave : (c : After-room-answer) → s15 (c .before .before .before .before .before
+          .before .before .before .blocks) .gives (m15 (c .before .before) (After-too-few·gave (c .before)))
+      After-room-answer·gave = λ c. Called.given ps·1 r·1 (claims· .3) T16
+          (Num.vAt 19 λ x. x, (Bool.bAt 14 λ x. x, tt)) (m15 (c .before .before) (After-too-few·gave (c .before)))
+          (c .room-answer)
+
+      abbrev pub m17 : (before : After-too-few) → (given : s15 (before .before .before .before .before .before .before
+          .before .blocks) .gives (m15 (before .before) (After-too-few·gave before))) → Typed.Mo T18
+      m17 = λ before given. s16 (before .before .before .before .before .before .before .before .blocks)
+          (m16 before given)
+
+      abbrev pub m18 : (before : After-too-few) → (given : s15 (before .before .before .before .before .before .before
+          .before .blocks) .gives (m15 (before .before) (After-too-few·gave before))) → Typed.Mo T19
+      m18 = λ before given. s17 (before .before .before .before .before .before .before .before .blocks)
+          (m17 before given)
+
+      abbrev pub m19 : (before : After-too-few) → (given : s15 (before .before .before .before .before .before .before
+          .before .blocks) .gives (m15 (before .before) (After-too-few·gave before))) → Typed.Mo T20
+      m19 = λ before given. s18 (before .before .before .before .before .before .before .before .blocks)
+          (m18 before given)
+
       abbrev pub Need-entry-answer-requires : Type 0
-      Need-entry-answer-requires = (c : After-room-answer) → s19 (c .before .before .before .before .before .before .before .before .blocks) .asks
-          (m19 (c .before) (After-room-answer·gave c))
-      abbrev pub m20 : (before : After-room-answer) → (given : s19 (before .before .before .before .before .before .before .before .before .blocks)
-          .gives (m19 (before .before) (After-room-answer·gave before))) → Typed.Mo T21
-      m20 = λ before given. s19 (before .before .before .before .before .before .before .before .before .blocks) .next (m19 (before .before)
-          (After-room-answer·gave before)) given
+      Need-entry-answer-requires = (c : After-room-answer) → s19 (c .before .before .before .before .before .before
+          .before .before .blocks) .asks (m19 (c .before) (After-room-answer·gave c))
+
+      abbrev pub m20 : (before : After-room-answer) → (given : s19 (before .before .before .before .before .before
+          .before .before .before .blocks) .gives (m19 (before .before) (After-room-answer·gave before))) → Typed.Mo
+          T21
+      m20 = λ before given. s19 (before .before .before .before .before .before .before .before .before .blocks) .next
+          (m19 (before .before) (After-room-answer·gave before)) given
+
       module _ (before· : After-room-answer) where
         abbrev pub After-entry-answer·own : Type 0
-        After-entry-answer·own = Called.Called ps·2 r·2 (claims· .5) T20 (record { pos = 15; st = List.[]; d = 0; at = λ x. x }, (record { pos = 6; st
-            = List.[]; d = 0; at = λ x. x }, (record { pos = 8; st = List.[]; d = 0; at = λ x. x }, (Num.vAt 21 λ x. x, (Num.vAt 19 λ x. x, tt)),),),)
-            (m19 (before· .before) (After-room-answer·gave before·))
+        After-entry-answer·own = Called.Called ps·2 r·2 (claims· .5) T20 (
+          record { pos = 15; st = List.[]; d = 0; at = λ x. x },
+          (
+            record { pos = 6; st = List.[]; d = 0; at = λ x. x },
+            (record { pos = 8; st = List.[]; d = 0; at = λ x. x }, (Num.vAt 21 λ x. x, (Num.vAt 19 λ x. x, tt))),
+          ),
+        ) (m19 (before· .before) (After-room-answer·gave before·))
+
       pub record After-entry-answer : Type 0 where
         pub before : After-room-answer
         pub entry-answer : After-entry-answer·own before
-      abbrev pub After-entry-answer·gave : (c : After-entry-answer) → s19 (c .before .before .before .before .before .before .before .before .before
-          .blocks) .gives (m19 (c .before .before) (After-room-answer·gave (c .before)))
-      After-entry-answer·gave = λ c. Called.given ps·2 r·2 (claims· .5) T20 (record { pos = 15; st = List.[]; d = 0; at = λ x. x }, (record { pos = 6;
-          st = List.[]; d = 0; at = λ x. x }, (record { pos = 8; st = List.[]; d = 0; at = λ x. x }, (Num.vAt 21 λ x. x, (Num.vAt 19 λ x. x,
-          tt)),),),) (m19 (c .before .before) (After-room-answer·gave (c .before))) (c .entry-answer)
-      abbrev pub m21 : (before : After-room-answer) → (given : s19 (before .before .before .before .before .before .before .before .before .blocks)
-          .gives (m19 (before .before) (After-room-answer·gave before))) → Typed.Mo T22
-      m21 = λ before given. s20 (before .before .before .before .before .before .before .before .before .blocks) (m20 before given)
-      abbrev pub m22 : (before : After-room-answer) → (given : s19 (before .before .before .before .before .before .before .before .before .blocks)
-          .gives (m19 (before .before) (After-room-answer·gave before))) → Typed.Mo T23
-      m22 = λ before given. s21 (before .before .before .before .before .before .before .before .before .blocks) (m21 before given)
-      abbrev pub m23 : (before : After-room-answer) → (given : s19 (before .before .before .before .before .before .before .before .before .blocks)
-          .gives (m19 (before .before) (After-room-answer·gave before))) → Typed.Mo T24
-      m23 = λ before given. s22 (before .before .before .before .before .before .before .before .before .blocks) (m22 before given)
+
+      abbrev pub After-entry-answer·gave : (c : After-entry-answer) → s19 (c .before .before .before .before .before
+          .before .before .before .before .blocks) .gives (m19 (c .before .before) (After-room-answer·gave (c .before)))
+      After-entry-answer·gave = λ c. Called.given ps·2 r·2 (claims· .5) T20 (
+        record { pos = 15; st = List.[]; d = 0; at = λ x. x },
+        (
+          record { pos = 6; st = List.[]; d = 0; at = λ x. x },
+          (record { pos = 8; st = List.[]; d = 0; at = λ x. x }, (Num.vAt 21 λ x. x, (Num.vAt 19 λ x. x, tt))),
+        ),
+      ) (m19 (c .before .before) (After-room-answer·gave (c .before))) (c .entry-answer)
+
+      abbrev pub m21 : (before : After-room-answer) → (given : s19 (before .before .before .before .before .before
+          .before .before .before .blocks) .gives (m19 (before .before) (After-room-answer·gave before))) → Typed.Mo
+          T22
+      m21 = λ before given. s20 (before .before .before .before .before .before .before .before .before .blocks)
+          (m20 before given)
+
+      abbrev pub m22 : (before : After-room-answer) → (given : s19 (before .before .before .before .before .before
+          .before .before .before .blocks) .gives (m19 (before .before) (After-room-answer·gave before))) → Typed.Mo
+          T23
+      m22 = λ before given. s21 (before .before .before .before .before .before .before .before .before .blocks)
+          (m21 before given)
+
+      abbrev pub m23 : (before : After-room-answer) → (given : s19 (before .before .before .before .before .before
+          .before .before .before .blocks) .gives (m19 (before .before) (After-room-answer·gave before))) → Typed.Mo
+          T24
+      m23 = λ before given. s22 (before .before .before .before .before .before .before .before .before .blocks)
+          (m22 before given)
+
       abbrev pub Need-is-taken-requires : Type 0
-      Need-is-taken-requires = (c : After-entry-answer) → s23 (c .before .before .before .before .before .before .before .before .before .blocks)
-          .asks (m23 (c .before) (After-entry-answer·gave c))
-      abbrev pub m24 : (before : After-entry-answer) → (given : s23 (before .before .before .before .before .before .before .before .before .before
-          .blocks) .gives (m23 (before .before) (After-entry-answer·gave before))) → Typed.Mo T25
-      m24 = λ before given. s23 (before .before .before .before .before .before .before .before .before .before .blocks) .next (m23 (before .before)
-          (After-entry-answer·gave before)) given
+      Need-is-taken-requires = (c : After-entry-answer) → s23 (c .before .before .before .before .before .before
+          .before .before .before .blocks) .asks (m23 (c .before) (After-entry-answer·gave c))
+
+      abbrev pub m24 : (before : After-entry-answer) → (given : s23 (before .before .before .before .before .before
+          .before .before .before .before .blocks) .gives (m23 (before .before) (After-entry-answer·gave before))) →
+          Typed.Mo T25
+      m24 = λ before given. s23 (before .before .before .before .before .before .before .before .before .before .blocks)
+          .next (m23 (before .before) (After-entry-answer·gave before)) given
+
       module _ (before· : After-entry-answer) where
         abbrev pub After-is-taken·own : Type 0
-        After-is-taken·own = Called.Called ps·3 r·3 (claims· .7) T24 (record { pos = 16; st = List.[]; d = 0; at = λ x. x }, tt,) (m23 (before·
-            .before) (After-entry-answer·gave before·))
+        After-is-taken·own = Called.Called ps·3 r·3 (claims· .7) T24
+            (record { pos = 16; st = List.[]; d = 0; at = λ x. x }, tt)
+            (m23 (before· .before) (After-entry-answer·gave before·))
+
       pub record After-is-taken : Type 0 where
         pub before : After-entry-answer
         pub is-taken : After-is-taken·own before
-      abbrev pub After-is-taken·gave : (c : After-is-taken) → s23 (c .before .before .before .before .before .before .before .before .before .before
-          .blocks) .gives (m23 (c .before .before) (After-entry-answer·gave (c .before)))
-      After-is-taken·gave = λ c. Called.given ps·3 r·3 (claims· .7) T24 (record { pos = 16; st = List.[]; d = 0; at = λ x. x }, tt,) (m23 (c .before
-          .before) (After-entry-answer·gave (c .before))) (c .is-taken)
-      abbrev W1 : (before : After-entry-answer) → (given : s23 (before .before .before .before .before .before .before .before .before .before
-          .blocks) .gives (m23 (before .before) (After-entry-answer·gave before))) → Typed.Want O1
-      W1 = λ before given. Typed.wantNext T26 O0 (at80 (before .before .before .before .before .before .before .before .before .before .blocks) (W0
-          (before .before .before .before .before .before .before .before .before .before .κs) (before .before .before .before .before .before .before
-          .before .before .before .args) (before .before .before .before .before .before .before .before .before .before .blocks))) (W0 (before
-          .before .before .before .before .before .before .before .before .before .κs) (before .before .before .before .before .before .before .before
-          .before .before .args) (before .before .before .before .before .before .before .before .before .before .blocks))
+
+      abbrev pub After-is-taken·gave : (c : After-is-taken) → s23 (c .before .before .before .before .before .before
+          .before .before .before .before .blocks) .gives (m23 (c .before .before)
+          (After-entry-answer·gave (c .before)))
+      After-is-taken·gave = λ c. Called.given ps·3 r·3 (claims· .7) T24
+          (record { pos = 16; st = List.[]; d = 0; at = λ x. x }, tt) (m23 (c .before .before)
+          (After-entry-answer·gave (c .before))) (c .is-taken)
+
+      abbrev W1 : (before : After-entry-answer) → (given : s23 (before .before .before .before .before .before .before
+          .before .before .before .blocks) .gives (m23 (before .before) (After-entry-answer·gave before))) → Typed.Want
+          O1
+      W1 = λ before given. Typed.wantNext T26 O0 (at80 (before .before .before .before .before .before .before .before
+          .before .before .blocks) (W0 (before .before .before .before .before .before .before .before .before .before
+          .κs) (before .before .before .before .before .before .before .before .before .before .args) (before .before
+          .before .before .before .before .before .before .before .before .blocks))) (W0 (before .before .before
+          .before .before .before .before .before .before .before .κs) (before .before .before .before .before .before
+          .before .before .before .before .args) (before .before .before .before .before .before .before .before
+          .before .before .blocks))
+
       abbrev pub m25 : (before : After-is-taken) → Typed.Mo T27
-      m25 = λ before. s24 (before .before .before .before .before .before .before .before .before .before .before .blocks) (m24 (before .before)
-          (After-is-taken·gave before))
+      m25 = λ before. s24 (before .before .before .before .before .before .before .before .before .before .before
+          .blocks) (m24 (before .before) (After-is-taken·gave before))
+
       abbrev pub m26 : (before : After-is-taken) → Typed.Mo T28
-      m26 = λ before. s25 (before .before .before .before .before .before .before .before .before .before .before .blocks) (m25 before)
+      m26 = λ before. s25 (before .before .before .before .before .before .before .before .before .before .before
+          .blocks) (m25 before)
+
       module _ (before· : After-is-taken) where
         pub record Then1·own : Type 0 where
-          pub taken : Path._≡_ (Row.get 22 (T25 .locals) (m24 (before· .before) (After-is-taken·gave before·))) Bool'.true
+          pub taken : Path._≡_ (Row.get 22 (T25 .locals) (m24 (before· .before) (After-is-taken·gave before·)))
+              Bool'.true
+
       pub record Then1 : Type 0 where
         pub before : After-is-taken
         pub if1 : Then1·own before
+
       abbrev pub Need-with-clock-requires : Type 0
-      Need-with-clock-requires = (c : Then1) → s26 (c .before .before .before .before .before .before .before .before .before .before .before .blocks)
-          .asks (m26 (c .before))
-      abbrev pub m27 : (before : Then1) → (given : s26 (before .before .before .before .before .before .before .before .before .before .before .before
-          .blocks) .gives (m26 (before .before))) → Typed.Mo T29
-      m27 = λ before given. s26 (before .before .before .before .before .before .before .before .before .before .before .before .blocks) .next (m26
-          (before .before)) given
+      Need-with-clock-requires = (c : Then1) → s26 (c .before .before .before .before .before .before .before .before
+          .before .before .before .blocks) .asks (m26 (c .before))
+
+      abbrev pub m27 : (before : Then1) → (given : s26 (before .before .before .before .before .before .before .before
+          .before .before .before .before .blocks) .gives (m26 (before .before))) → Typed.Mo T29
+      m27 = λ before given. s26 (before .before .before .before .before .before .before .before .before .before .before
+          .before .blocks) .next (m26 (before .before)) given
+
       module _ (before· : Then1) where
         abbrev pub After-with-clock·own : Type 0
-        After-with-clock·own = Called.Called ps·4 r·4 (claims· .9) T28 (record { pos = 6; st = List.[]; d = 0; at = λ x. x }, (Num.vFld 8
-            ((Syntax.field 2) ∷ List.[]) 16 λ x. RelayPacket.struct .as-values x .1 .1 .0, tt,),) (m26 (before· .before))
+        After-with-clock·own = Called.Called ps·4 r·4 (claims· .9) T28 (
+          record { pos = 6; st = List.[]; d = 0; at = λ x. x },
+          (Num.vFld 8 ((Syntax.field 2) ∷ List.[]) 16 λ x. RelayPacket.struct .as-values x .1 .1 .0, tt),
+        ) (m26 (before· .before))
+
       pub record After-with-clock : Type 0 where
         pub before : Then1
         pub with-clock : After-with-clock·own before
-      abbrev pub After-with-clock·gave : (c : After-with-clock) → s26 (c .before .before .before .before .before .before .before .before .before
-          .before .before .before .blocks) .gives (m26 (c .before .before))
-      After-with-clock·gave = λ c. Called.given ps·4 r·4 (claims· .9) T28 (record { pos = 6; st = List.[]; d = 0; at = λ x. x }, (Num.vFld 8
-          ((Syntax.field 2) ∷ List.[]) 16 λ x. RelayPacket.struct .as-values x .1 .1 .0, tt,),) (m26 (c .before .before)) (c .with-clock)
-      abbrev pub m28 : (before : Then1) → (given : s26 (before .before .before .before .before .before .before .before .before .before .before .before
-          .blocks) .gives (m26 (before .before))) → Typed.Mo T30
-      m28 = λ before given. s27 (before .before .before .before .before .before .before .before .before .before .before .before .blocks) (m27 before
-          given)
-      abbrev pub m29 : (before : After-with-clock) → (given : s29 (before .before .before .before .before .before .before .before .before .before
-          .before .before .before .blocks) .gives (m28 (before .before) (After-with-clock·gave before))) → Typed.Mo T32
-      m29 = λ before given. s29 (before .before .before .before .before .before .before .before .before .before .before .before .before .blocks) .next
-          (m28 (before .before) (After-with-clock·gave before)) given
-      abbrev pub m30 : (before : After-with-clock) → (given : s29 (before .before .before .before .before .before .before .before .before .before
-          .before .before .before .blocks) .gives (m28 (before .before) (After-with-clock·gave before))) → Typed.Mo T33
-      m30 = λ before given. s30 (before .before .before .before .before .before .before .before .before .before .before .before .before .blocks) .next
-          (m29 before given)
+
+      abbrev pub After-with-clock·gave : (c : After-with-clock) → s26 (c .before .before .before .before .before
+          .before .before .before .before .before .before .before .blocks) .gives (m26 (c .before .before))
+      After-with-clock·gave = λ c. Called.given ps·4 r·4 (claims· .9) T28 (
+        record { pos = 6; st = List.[]; d = 0; at = λ x. x },
+        (Num.vFld 8 ((Syntax.field 2) ∷ List.[]) 16 λ x. RelayPacket.struct .as-values x .1 .1 .0, tt),
+      ) (m26 (c .before .before)) (c .with-clock)
+
+      abbrev pub m28 : (before : Then1) → (given : s26 (before .before .before .before .before .before .before .before
+          .before .before .before .before .blocks) .gives (m26 (before .before))) → Typed.Mo T30
+      m28 = λ before given. s27 (before .before .before .before .before .before .before .before .before .before .before
+          .before .blocks) (m27 before given)
+
+      abbrev pub m29 : (before : After-with-clock) → (given : s29 (before .before .before .before .before .before
+          .before .before .before .before .before .before .before .blocks) .gives
+          (m28 (before .before) (After-with-clock·gave before))) → Typed.Mo T32
+      m29 = λ before given. s29 (before .before .before .before .before .before .before .before .before .before .before
+          .before .before .blocks) .next (m28 (before .before) (After-with-clock·gave before)) given
+
+      abbrev pub m30 : (before : After-with-clock) → (given : s29 (before .before .before .before .before .before
+          .before .before .before .before .before .before .before .blocks) .gives
+          (m28 (before .before) (After-with-clock·gave before))) → Typed.Mo T33
+      m30 = λ before given. s30 (before .before .before .before .before .before .before .before .before .before .before
+          .before .before .blocks) .next (m29 before given)
+
       module _ (before· : After-with-clock) where
         pub record After-trim-arg·own : Type 0 where
-          pub given : s29 (before· .before .before .before .before .before .before .before .before .before .before .before .before .blocks) .gives
-              (m28 (before· .before) (After-with-clock·gave before·))
+          pub given : s29 (before· .before .before .before .before .before .before .before .before .before .before
+              .before .before .blocks) .gives (m28 (before· .before) (After-with-clock·gave before·))
+
       pub record After-trim-arg : Type 0 where
         pub before : After-with-clock
         pub trim-arg : After-trim-arg·own before
-      abbrev pub m31 : (before : After-trim-arg) → (given : s32 (before .before .before .before .before .before .before .before .before .before
-          .before .before .before .before .blocks) .gives (m30 (before .before) (before .trim-arg .given))) → Typed.Mo T35
-      m31 = λ before given. s32 (before .before .before .before .before .before .before .before .before .before .before .before .before .before
-          .blocks) .next (m30 (before .before) (before .trim-arg .given)) given
-      abbrev pub m32 : (before : After-trim-arg) → (given : s32 (before .before .before .before .before .before .before .before .before .before
-          .before .before .before .before .blocks) .gives (m30 (before .before) (before .trim-arg .given))) → Typed.Mo T36
-      m32 = λ before given. s33 (before .before .before .before .before .before .before .before .before .before .before .before .before .before
-          .blocks) .next (m31 before given)
+
+      abbrev pub m31 : (before : After-trim-arg) → (given : s32 (before .before .before .before .before .before .before
+          .before .before .before .before .before .before .before .blocks) .gives
+          (m30 (before .before) (before .trim-arg .given))) → Typed.Mo T35
+      m31 = λ before given. s32 (before .before .before .before .before .before .before .before .before .before .before
+          .before .before .before .blocks) .next (m30 (before .before) (before .trim-arg .given)) given
+
+      abbrev pub m32 : (before : After-trim-arg) → (given : s32 (before .before .before .before .before .before .before
+          .before .before .before .before .before .before .before .blocks) .gives
+          (m30 (before .before) (before .trim-arg .given))) → Typed.Mo T36
+      m32 = λ before given. s33 (before .before .before .before .before .before .before .before .before .before .before
+          .before .before .before .blocks) .next (m31 before given)
+
       module _ (before· : After-trim-arg) where
         pub record After-trim-arg2·own : Type 0 where
-          pub given : s32 (before· .before .before .before .before .before .before .before .before .before .before .before .before .before .blocks)
-              .gives (m30 (before· .before) (before· .trim-arg .given))
+          pub given : s32 (before· .before .before .before .before .before .before .before .before .before .before
+              .before .before .before .blocks) .gives (m30 (before· .before) (before· .trim-arg .given))
+
       pub record After-trim-arg2 : Type 0 where
         pub before : After-trim-arg
         pub trim-arg2 : After-trim-arg2·own before
-      abbrev pub m33 : (before : After-trim-arg2) → (given : s35 (before .before .before .before .before .before .before .before .before .before
-          .before .before .before .before .before .blocks) .gives (m32 (before .before) (before .trim-arg2 .given))) → Typed.Mo T38
-      m33 = λ before given. s35 (before .before .before .before .before .before .before .before .before .before .before .before .before .before
-          .before .blocks) .next (m32 (before .before) (before .trim-arg2 .given)) given
-      abbrev pub m34 : (before : After-trim-arg2) → (given : s35 (before .before .before .before .before .before .before .before .before .before
-          .before .before .before .before .before .blocks) .gives (m32 (before .before) (before .trim-arg2 .given))) → Typed.Mo T39
-      m34 = λ before given. s36 (before .before .before .before .before .before .before .before .before .before .before .before .before .before
-          .before .blocks) .next (m33 before given)
+
+      abbrev pub m33 : (before : After-trim-arg2) → (given : s35 (before .before .before .before .before .before
+          .before .before .before .before .before .before .before .before .before .blocks) .gives
+          (m32 (before .before) (before .trim-arg2 .given))) → Typed.Mo T38
+      m33 = λ before given. s35 (before .before .before .before .before .before .before .before .before .before .before
+          .before .before .before .before .blocks) .next (m32 (before .before) (before .trim-arg2 .given)) given
+
+      abbrev pub m34 : (before : After-trim-arg2) → (given : s35 (before .before .before .before .before .before
+          .before .before .before .before .before .before .before .before .before .blocks) .gives
+          (m32 (before .before) (before .trim-arg2 .given))) → Typed.Mo T39
+      m34 = λ before given. s36 (before .before .before .before .before .before .before .before .before .before .before
+          .before .before .before .before .blocks) .next (m33 before given)
+
       module _ (before· : After-trim-arg2) where
         pub record After-trim-arg3·own : Type 0 where
-          pub given : s35 (before· .before .before .before .before .before .before .before .before .before .before .before .before .before .before
-              .blocks) .gives (m32 (before· .before) (before· .trim-arg2 .given))
+          pub given : s35 (before· .before .before .before .before .before .before .before .before .before .before
+              .before .before .before .before .blocks) .gives (m32 (before· .before) (before· .trim-arg2 .given))
+
       pub record After-trim-arg3 : Type 0 where
         pub before : After-trim-arg2
         pub trim-arg3 : After-trim-arg3·own before
-      abbrev pub m35 : (before : After-trim-arg3) → (given : s38 (before .before .before .before .before .before .before .before .before .before
-          .before .before .before .before .before .before .blocks) .gives (m34 (before .before) (before .trim-arg3 .given))) → Typed.Mo T41
-      m35 = λ before given. s38 (before .before .before .before .before .before .before .before .before .before .before .before .before .before
-          .before .before .blocks) .next (m34 (before .before) (before .trim-arg3 .given)) given
-      abbrev pub m36 : (before : After-trim-arg3) → (given : s38 (before .before .before .before .before .before .before .before .before .before
-          .before .before .before .before .before .before .blocks) .gives (m34 (before .before) (before .trim-arg3 .given))) → Typed.Mo T42
-      m36 = λ before given. s39 (before .before .before .before .before .before .before .before .before .before .before .before .before .before
-          .before .before .blocks) .next (m35 before given)
+
+      abbrev pub m35 : (before : After-trim-arg3) → (given : s38 (before .before .before .before .before .before
+          .before .before .before .before .before .before .before .before .before .before .blocks) .gives
+          (m34 (before .before) (before .trim-arg3 .given))) → Typed.Mo T41
+      m35 = λ before given. s38 (before .before .before .before .before .before .before .before .before .before .before
+          .before .before .before .before .before .blocks) .next (m34 (before .before) (before .trim-arg3 .given))
+          given
+
+      abbrev pub m36 : (before : After-trim-arg3) → (given : s38 (before .before .before .before .before .before
+          .before .before .before .before .before .before .before .before .before .before .blocks) .gives
+          (m34 (before .before) (before .trim-arg3 .given))) → Typed.Mo T42
+      m36 = λ before given. s39 (before .before .before .before .before .before .before .before .before .before .before
+          .before .before .before .before .before .blocks) .next (m35 before given)
+
       module _ (before· : After-trim-arg3) where
         pub record After-trim-arg4·own : Type 0 where
-          pub given : s38 (before· .before .before .before .before .before .before .before .before .before .before .before .before .before .before
-              .before .blocks) .gives (m34 (before· .before) (before· .trim-arg3 .given))
+          pub given : s38 (before· .before .before .before .before .before .before .before .before .before .before
+              .before .before .before .before .before .blocks) .gives
+              (m34 (before· .before) (before· .trim-arg3 .given))
+
       pub record After-trim-arg4 : Type 0 where
         pub before : After-trim-arg3
         pub trim-arg4 : After-trim-arg4·own before
+
       abbrev pub Need-trim-requires : Type 0
-      Need-trim-requires = (c : After-trim-arg4) → s40 (c .before .before .before .before .before .before .before .before .before .before .before
-          .before .before .before .before .before .blocks) .asks (m36 (c .before) (c .trim-arg4 .given))
-      abbrev pub m37 : (before : After-trim-arg4) → (given : s40 (before .before .before .before .before .before .before .before .before .before
-          .before .before .before .before .before .before .before .blocks) .gives (m36 (before .before) (before .trim-arg4 .given))) → Typed.Mo T43
-      m37 = λ before given. s40 (before .before .before .before .before .before .before .before .before .before .before .before .before .before
-          .before .before .before .blocks) .next (m36 (before .before) (before .trim-arg4 .given)) given
+      Need-trim-requires = (c : After-trim-arg4) → s40 (c .before .before .before .before .before .before .before
+          .before .before .before .before .before .before .before .before .before .blocks) .asks
+          (m36 (c .before) (c .trim-arg4 .given))
+
+      abbrev pub m37 : (before : After-trim-arg4) → (given : s40 (before .before .before .before .before .before
+          .before .before .before .before .before .before .before .before .before .before .before .blocks) .gives
+          (m36 (before .before) (before .trim-arg4 .given))) → Typed.Mo T43
+      m37 = λ before given. s40 (before .before .before .before .before .before .before .before .before .before .before
+          .before .before .before .before .before .before .blocks) .next
+          (m36 (before .before) (before .trim-arg4 .given)) given
+
       module _ (before· : After-trim-arg4) where
         abbrev pub After-trim·own : Type 0
-        After-trim·own = Called.Called ps·5 r·5 (claims· .11) T42 (record { pos = 24; ty = Syntax.tyRef Syntax.erased Syntax.imm RelayPending.to; ref
-            = λ x. x; }, (record { pos = 26; ty = Syntax.tyRef Syntax.erased Syntax.imm RelayCircuit.to; ref = λ x. x; }, (record { pos = 28; ty =
-            Syntax.tyRef Syntax.erased Syntax.imm ReservationUsage.to; ref = λ x. x; }, (record { pos = 30; ty = Syntax.tyRef Syntax.erased Syntax.imm
-            InflightAction.to; ref = λ x. x; }, (record { pos = 7; st = List.[]; d = 0; at = λ x. x }, tt),),),),) (m36 (before· .before) (before·
-            .trim-arg4 .given))
+        After-trim·own = Called.Called ps·5 r·5 (claims· .11) T42 (
+          record { pos = 24; ty = ref0; ref = λ x. x },
+          (
+            record { pos = 26; ty = ref1; ref = λ x. x },
+            (
+              record { pos = 28; ty = ref2; ref = λ x. x },
+              (
+                record { pos = 30; ty = ref3; ref = λ x. x },
+                (record { pos = 7; st = List.[]; d = 0; at = λ x. x }, tt),
+              ),
+            ),
+          ),
+        ) (m36 (before· .before) (before· .trim-arg4 .given))
+
       pub record After-trim : Type 0 where
         pub before : After-trim-arg4
         pub trim : After-trim·own before
-      abbrev pub After-trim·gave : (c : After-trim) → s40 (c .before .before .before .before .before .before .before .before .before .before .before
-          .before .before .before .before .before .before .blocks) .gives (m36 (c .before .before) (c .before .trim-arg4 .given))
-      After-trim·gave = λ c. Called.given ps·5 r·5 (claims· .11) T42 (record { pos = 24; ty = Syntax.tyRef Syntax.erased Syntax.imm RelayPending.to;
-          ref = λ x. x; }, (record { pos = 26; ty = Syntax.tyRef Syntax.erased Syntax.imm RelayCircuit.to; ref = λ x. x; }, (record { pos = 28; ty =
-          Syntax.tyRef Syntax.erased Syntax.imm ReservationUsage.to; ref = λ x. x; }, (record { pos = 30; ty = Syntax.tyRef Syntax.erased Syntax.imm
-          InflightAction.to; ref = λ x. x; }, (record { pos = 7; st = List.[]; d = 0; at = λ x. x }, tt),),),),) (m36 (c .before .before) (c .before
-          .trim-arg4 .given)) (c .trim)
-      abbrev pub m38 : (before : After-trim-arg4) → (given : s40 (before .before .before .before .before .before .before .before .before .before
-          .before .before .before .before .before .before .before .blocks) .gives (m36 (before .before) (before .trim-arg4 .given))) → Typed.Mo T44
-      m38 = λ before given. s41 (before .before .before .before .before .before .before .before .before .before .before .before .before .before
-          .before .before .before .blocks) (m37 before given)
-      abbrev pub m39 : (before : After-trim-arg4) → (given : s40 (before .before .before .before .before .before .before .before .before .before
-          .before .before .before .before .before .before .before .blocks) .gives (m36 (before .before) (before .trim-arg4 .given))) → Typed.Mo T45
-      m39 = λ before given. s42 (before .before .before .before .before .before .before .before .before .before .before .before .before .before
-          .before .before .before .blocks) (m38 before given)
-      abbrev pub m40 : (before : After-trim-arg4) → (given : s40 (before .before .before .before .before .before .before .before .before .before
-          .before .before .before .before .before .before .before .blocks) .gives (m36 (before .before) (before .trim-arg4 .given))) → Typed.Mo T46
-      m40 = λ before given. s43 (before .before .before .before .before .before .before .before .before .before .before .before .before .before
-          .before .before .before .blocks) (m39 before given)
-      abbrev pub m41 : (before : After-trim-arg4) → (given : s40 (before .before .before .before .before .before .before .before .before .before
-          .before .before .before .before .before .before .before .blocks) .gives (m36 (before .before) (before .trim-arg4 .given))) → Typed.Mo T47
-      m41 = λ before given. s44 (before .before .before .before .before .before .before .before .before .before .before .before .before .before
-          .before .before .before .blocks) (m40 before given)
-      abbrev pub m42 : (before : After-trim-arg4) → (given : s40 (before .before .before .before .before .before .before .before .before .before
-          .before .before .before .before .before .before .before .blocks) .gives (m36 (before .before) (before .trim-arg4 .given))) → Typed.Mo T48
-      m42 = λ before given. s45 (before .before .before .before .before .before .before .before .before .before .before .before .before .before
-          .before .before .before .blocks) (m41 before given)
-      abbrev pub m43 : (before : After-trim-arg4) → (given : s40 (before .before .before .before .before .before .before .before .before .before
-          .before .before .before .before .before .before .before .blocks) .gives (m36 (before .before) (before .trim-arg4 .given))) → Typed.Mo T50
-      m43 = λ before given. s47 (before .before .before .before .before .before .before .before .before .before .before .before .before .before
-          .before .before .before .blocks) (m42 before given)
-      abbrev pub m44 : (before : After-trim-arg4) → (given : s40 (before .before .before .before .before .before .before .before .before .before
-          .before .before .before .before .before .before .before .blocks) .gives (m36 (before .before) (before .trim-arg4 .given))) → Typed.Mo T53
-      m44 = λ before given. s50 (before .before .before .before .before .before .before .before .before .before .before .before .before .before
-          .before .before .before .blocks) (m43 before given)
-      abbrev pub m45 : (before : After-trim-arg4) → (given : s40 (before .before .before .before .before .before .before .before .before .before
-          .before .before .before .before .before .before .before .blocks) .gives (m36 (before .before) (before .trim-arg4 .given))) → Typed.Mo T56
-      m45 = λ before given. s53 (before .before .before .before .before .before .before .before .before .before .before .before .before .before
-          .before .before .before .blocks) (m44 before given)
-      abbrev pub m46 : (before : After-trim-arg4) → (given : s40 (before .before .before .before .before .before .before .before .before .before
-          .before .before .before .before .before .before .before .blocks) .gives (m36 (before .before) (before .trim-arg4 .given))) → Typed.Mo T59
-      m46 = λ before given. s56 (before .before .before .before .before .before .before .before .before .before .before .before .before .before
-          .before .before .before .blocks) (m45 before given)
-      abbrev pub m47 : (before : After-trim) → (given : s59 (before .before .before .before .before .before .before .before .before .before .before
-          .before .before .before .before .before .before .before .blocks) .gives (m46 (before .before) (After-trim·gave before))) → Typed.Mo T62
-      m47 = λ before given. s59 (before .before .before .before .before .before .before .before .before .before .before .before .before .before
-          .before .before .before .before .blocks) .next (m46 (before .before) (After-trim·gave before)) given
-      abbrev pub m48 : (before : After-trim) → (given : s59 (before .before .before .before .before .before .before .before .before .before .before
-          .before .before .before .before .before .before .before .blocks) .gives (m46 (before .before) (After-trim·gave before))) → Typed.Mo T63
-      m48 = λ before given. s60 (before .before .before .before .before .before .before .before .before .before .before .before .before .before
-          .before .before .before .before .blocks) .next (m47 before given)
+
+      abbrev pub After-trim·gave : (c : After-trim) → s40 (c .before .before .before .before .before .before .before
+          .before .before .before .before .before .before .before .before .before .before .blocks) .gives
+          (m36 (c .before .before) (c .before .trim-arg4 .given))
+      After-trim·gave = λ c. Called.given ps·5 r·5 (claims· .11) T42 (
+        record { pos = 24; ty = ref0; ref = λ x. x },
+        (
+          record { pos = 26; ty = ref1; ref = λ x. x },
+          (
+            record { pos = 28; ty = ref2; ref = λ x. x },
+            (record { pos = 30; ty = ref3; ref = λ x. x }, (record { pos = 7; st = List.[]; d = 0; at = λ x. x }, tt)),
+          ),
+        ),
+      ) (m36 (c .before .before) (c .before .trim-arg4 .given)) (c .trim)
+
+      abbrev pub m38 : (before : After-trim-arg4) → (given : s40 (before .before .before .before .before .before
+          .before .before .before .before .before .before .before .before .before .before .before .blocks) .gives
+          (m36 (before .before) (before .trim-arg4 .given))) → Typed.Mo T44
+      m38 = λ before given. s41 (before .before .before .before .before .before .before .before .before .before .before
+          .before .before .before .before .before .before .blocks) (m37 before given)
+
+      abbrev pub m39 : (before : After-trim-arg4) → (given : s40 (before .before .before .before .before .before
+          .before .before .before .before .before .before .before .before .before .before .before .blocks) .gives
+          (m36 (before .before) (before .trim-arg4 .given))) → Typed.Mo T45
+      m39 = λ before given. s42 (before .before .before .before .before .before .before .before .before .before .before
+          .before .before .before .before .before .before .blocks) (m38 before given)
+
+      abbrev pub m40 : (before : After-trim-arg4) → (given : s40 (before .before .before .before .before .before
+          .before .before .before .before .before .before .before .before .before .before .before .blocks) .gives
+          (m36 (before .before) (before .trim-arg4 .given))) → Typed.Mo T46
+      m40 = λ before given. s43 (before .before .before .before .before .before .before .before .before .before .before
+          .before .before .before .before .before .before .blocks) (m39 before given)
+
+      abbrev pub m41 : (before : After-trim-arg4) → (given : s40 (before .before .before .before .before .before
+          .before .before .before .before .before .before .before .before .before .before .before .blocks) .gives
+          (m36 (before .before) (before .trim-arg4 .given))) → Typed.Mo T47
+      m41 = λ before given. s44 (before .before .before .before .before .before .before .before .before .before .before
+          .before .before .before .before .before .before .blocks) (m40 before given)
+
+      abbrev pub m42 : (before : After-trim-arg4) → (given : s40 (before .before .before .before .before .before
+          .before .before .before .before .before .before .before .before .before .before .before .blocks) .gives
+          (m36 (before .before) (before .trim-arg4 .given))) → Typed.Mo T48
+      m42 = λ before given. s45 (before .before .before .before .before .before .before .before .before .before .before
+          .before .before .before .before .before .before .blocks) (m41 before given)
+
+      abbrev pub m43 : (before : After-trim-arg4) → (given : s40 (before .before .before .before .before .before
+          .before .before .before .before .before .before .before .before .before .before .before .blocks) .gives
+          (m36 (before .before) (before .trim-arg4 .given))) → Typed.Mo T50
+      m43 = λ before given. s47 (before .before .before .before .before .before .before .before .before .before .before
+          .before .before .before .before .before .before .blocks) (m42 before given)
+
+      abbrev pub m44 : (before : After-trim-arg4) → (given : s40 (before .before .before .before .before .before
+          .before .before .before .before .before .before .before .before .before .before .before .blocks) .gives
+          (m36 (before .before) (before .trim-arg4 .given))) → Typed.Mo T53
+      m44 = λ before given. s50 (before .before .before .before .before .before .before .before .before .before .before
+          .before .before .before .before .before .before .blocks) (m43 before given)
+
+      abbrev pub m45 : (before : After-trim-arg4) → (given : s40 (before .before .before .before .before .before
+          .before .before .before .before .before .before .before .before .before .before .before .blocks) .gives
+          (m36 (before .before) (before .trim-arg4 .given))) → Typed.Mo T56
+      m45 = λ before given. s53 (before .before .before .before .before .before .before .before .before .before .before
+          .before .before .before .before .before .before .blocks) (m44 before given)
+
+      abbrev pub m46 : (before : After-trim-arg4) → (given : s40 (before .before .before .before .before .before
+          .before .before .before .before .before .before .before .before .before .before .before .blocks) .gives
+          (m36 (before .before) (before .trim-arg4 .given))) → Typed.Mo T59
+      m46 = λ before given. s56 (before .before .before .before .before .before .before .before .before .before .before
+          .before .before .before .before .before .before .blocks) (m45 before given)
+
+      abbrev pub m47 : (before : After-trim) → (given : s59 (before .before .before .before .before .before .before
+          .before .before .before .before .before .before .before .before .before .before .before .blocks) .gives
+          (m46 (before .before) (After-trim·gave before))) → Typed.Mo T62
+      m47 = λ before given. s59 (before .before .before .before .before .before .before .before .before .before .before
+          .before .before .before .before .before .before .before .blocks) .next
+          (m46 (before .before) (After-trim·gave before)) given
+
+      abbrev pub m48 : (before : After-trim) → (given : s59 (before .before .before .before .before .before .before
+          .before .before .before .before .before .before .before .before .before .before .before .blocks) .gives
+          (m46 (before .before) (After-trim·gave before))) → Typed.Mo T63
+      m48 = λ before given. s60 (before .before .before .before .before .before .before .before .before .before .before
+          .before .before .before .before .before .before .before .blocks) .next (m47 before given)
+
       module _ (before· : After-trim) where
         pub record After-handle-gate-arg·own : Type 0 where
-          pub given : s59 (before· .before .before .before .before .before .before .before .before .before .before .before .before .before .before
-              .before .before .before .blocks) .gives (m46 (before· .before) (After-trim·gave before·))
+          pub given : s59 (before· .before .before .before .before .before .before .before .before .before .before
+              .before .before .before .before .before .before .before .blocks) .gives
+              (m46 (before· .before) (After-trim·gave before·))
+
       pub record After-handle-gate-arg : Type 0 where
         pub before : After-trim
         pub handle-gate-arg : After-handle-gate-arg·own before
-      abbrev pub m49 : (before : After-handle-gate-arg) → (given : s62 (before .before .before .before .before .before .before .before .before .before
-          .before .before .before .before .before .before .before .before .before .blocks) .gives (m48 (before .before) (before .handle-gate-arg
-          .given))) → Typed.Mo T65
-      m49 = λ before given. s62 (before .before .before .before .before .before .before .before .before .before .before .before .before .before
-          .before .before .before .before .before .blocks) .next (m48 (before .before) (before .handle-gate-arg .given)) given
-      abbrev pub m50 : (before : After-handle-gate-arg) → (given : s62 (before .before .before .before .before .before .before .before .before .before
-          .before .before .before .before .before .before .before .before .before .blocks) .gives (m48 (before .before) (before .handle-gate-arg
-          .given))) → Typed.Mo T66
-      m50 = λ before given. s63 (before .before .before .before .before .before .before .before .before .before .before .before .before .before
-          .before .before .before .before .before .blocks) .next (m49 before given)
+
+      abbrev pub m49 : (before : After-handle-gate-arg) → (given : s62 (before .before .before .before .before .before
+          .before .before .before .before .before .before .before .before .before .before .before .before .before
+          .blocks) .gives (m48 (before .before) (before .handle-gate-arg .given))) → Typed.Mo T65
+      m49 = λ before given. s62 (before .before .before .before .before .before .before .before .before .before .before
+          .before .before .before .before .before .before .before .before .blocks) .next
+          (m48 (before .before) (before .handle-gate-arg .given)) given
+
+      abbrev pub m50 : (before : After-handle-gate-arg) → (given : s62 (before .before .before .before .before .before
+          .before .before .before .before .before .before .before .before .before .before .before .before .before
+          .blocks) .gives (m48 (before .before) (before .handle-gate-arg .given))) → Typed.Mo T66
+      m50 = λ before given. s63 (before .before .before .before .before .before .before .before .before .before .before
+          .before .before .before .before .before .before .before .before .blocks) .next (m49 before given)
+
       module _ (before· : After-handle-gate-arg) where
         pub record After-handle-gate-arg2·own : Type 0 where
-          pub given : s62 (before· .before .before .before .before .before .before .before .before .before .before .before .before .before .before
-              .before .before .before .before .blocks) .gives (m48 (before· .before) (before· .handle-gate-arg .given))
+          pub given : s62 (before· .before .before .before .before .before .before .before .before .before .before
+              .before .before .before .before .before .before .before .before .blocks) .gives
+              (m48 (before· .before) (before· .handle-gate-arg .given))
+
       pub record After-handle-gate-arg2 : Type 0 where
         pub before : After-handle-gate-arg
         pub handle-gate-arg2 : After-handle-gate-arg2·own before
-      abbrev pub m51 : (before : After-handle-gate-arg2) → (given : s65 (before .before .before .before .before .before .before .before .before
-          .before .before .before .before .before .before .before .before .before .before .before .blocks) .gives (m50 (before .before) (before
-          .handle-gate-arg2 .given))) → Typed.Mo T68
-      m51 = λ before given. s65 (before .before .before .before .before .before .before .before .before .before .before .before .before .before
-          .before .before .before .before .before .before .blocks) .next (m50 (before .before) (before .handle-gate-arg2 .given)) given
-      abbrev pub m52 : (before : After-handle-gate-arg2) → (given : s65 (before .before .before .before .before .before .before .before .before
-          .before .before .before .before .before .before .before .before .before .before .before .blocks) .gives (m50 (before .before) (before
-          .handle-gate-arg2 .given))) → Typed.Mo T69
-      m52 = λ before given. s66 (before .before .before .before .before .before .before .before .before .before .before .before .before .before
-          .before .before .before .before .before .before .blocks) .next (m51 before given)
+
+      abbrev pub m51 : (before : After-handle-gate-arg2) → (given : s65 (before .before .before .before .before .before
+          .before .before .before .before .before .before .before .before .before .before .before .before .before
+          .before .blocks) .gives (m50 (before .before) (before .handle-gate-arg2 .given))) → Typed.Mo T68
+      m51 = λ before given. s65 (before .before .before .before .before .before .before .before .before .before .before
+          .before .before .before .before .before .before .before .before .before .blocks) .next
+          (m50 (before .before) (before .handle-gate-arg2 .given)) given
+
+      abbrev pub m52 : (before : After-handle-gate-arg2) → (given : s65 (before .before .before .before .before .before
+          .before .before .before .before .before .before .before .before .before .before .before .before .before
+          .before .blocks) .gives (m50 (before .before) (before .handle-gate-arg2 .given))) → Typed.Mo T69
+      m52 = λ before given. s66 (before .before .before .before .before .before .before .before .before .before .before
+          .before .before .before .before .before .before .before .before .before .blocks) .next (m51 before given)
+
       module _ (before· : After-handle-gate-arg2) where
         pub record After-handle-gate-arg3·own : Type 0 where
-          pub given : s65 (before· .before .before .before .before .before .before .before .before .before .before .before .before .before .before
-              .before .before .before .before .before .blocks) .gives (m50 (before· .before) (before· .handle-gate-arg2 .given))
+          pub given : s65 (before· .before .before .before .before .before .before .before .before .before .before
+              .before .before .before .before .before .before .before .before .before .blocks) .gives
+              (m50 (before· .before) (before· .handle-gate-arg2 .given))
+
       pub record After-handle-gate-arg3 : Type 0 where
         pub before : After-handle-gate-arg2
         pub handle-gate-arg3 : After-handle-gate-arg3·own before
-      abbrev pub m53 : (before : After-handle-gate-arg3) → (given : s68 (before .before .before .before .before .before .before .before .before
-          .before .before .before .before .before .before .before .before .before .before .before .before .blocks) .gives (m52 (before .before)
-          (before .handle-gate-arg3 .given))) → Typed.Mo T71
-      m53 = λ before given. s68 (before .before .before .before .before .before .before .before .before .before .before .before .before .before
-          .before .before .before .before .before .before .before .blocks) .next (m52 (before .before) (before .handle-gate-arg3 .given)) given
-      abbrev pub m54 : (before : After-handle-gate-arg3) → (given : s68 (before .before .before .before .before .before .before .before .before
-          .before .before .before .before .before .before .before .before .before .before .before .before .blocks) .gives (m52 (before .before)
-          (before .handle-gate-arg3 .given))) → Typed.Mo T72
-      m54 = λ before given. s69 (before .before .before .before .before .before .before .before .before .before .before .before .before .before
-          .before .before .before .before .before .before .before .blocks) .next (m53 before given)
+
+      abbrev pub m53 : (before : After-handle-gate-arg3) → (given : s68 (before .before .before .before .before .before
+          .before .before .before .before .before .before .before .before .before .before .before .before .before
+          .before .before .blocks) .gives (m52 (before .before) (before .handle-gate-arg3 .given))) → Typed.Mo T71
+      m53 = λ before given. s68 (before .before .before .before .before .before .before .before .before .before .before
+          .before .before .before .before .before .before .before .before .before .before .blocks) .next
+          (m52 (before .before) (before .handle-gate-arg3 .given)) given
+
+      abbrev pub m54 : (before : After-handle-gate-arg3) → (given : s68 (before .before .before .before .before .before
+          .before .before .before .before .before .before .before .before .before .before .before .before .before
+          .before .before .blocks) .gives (m52 (before .before) (before .handle-gate-arg3 .given))) → Typed.Mo T72
+      m54 = λ before given. s69 (before .before .before .before .before .before .before .before .before .before .before
+          .before .before .before .before .before .before .before .before .before .before .blocks) .next
+          (m53 before given)
+
       module _ (before· : After-handle-gate-arg3) where
         pub record After-handle-gate-arg4·own : Type 0 where
-          pub given : s68 (before· .before .before .before .before .before .before .before .before .before .before .before .before .before .before
-              .before .before .before .before .before .before .blocks) .gives (m52 (before· .before) (before· .handle-gate-arg3 .given))
+          pub given : s68 (before· .before .before .before .before .before .before .before .before .before .before
+              .before .before .before .before .before .before .before .before .before .before .blocks) .gives
+              (m52 (before· .before) (before· .handle-gate-arg3 .given))
+
       pub record After-handle-gate-arg4 : Type 0 where
         pub before : After-handle-gate-arg3
         pub handle-gate-arg4 : After-handle-gate-arg4·own before
-      abbrev pub m55 : (before : After-handle-gate-arg4) → (given : s71 (before .before .before .before .before .before .before .before .before
-          .before .before .before .before .before .before .before .before .before .before .before .before .before .blocks) .gives (m54 (before
-          .before) (before .handle-gate-arg4 .given))) → Typed.Mo T74
-      m55 = λ before given. s71 (before .before .before .before .before .before .before .before .before .before .before .before .before .before
-          .before .before .before .before .before .before .before .before .blocks) .next (m54 (before .before) (before .handle-gate-arg4 .given))
-          given
-      abbrev pub m56 : (before : After-handle-gate-arg4) → (given : s71 (before .before .before .before .before .before .before .before .before
-          .before .before .before .before .before .before .before .before .before .before .before .before .before .blocks) .gives (m54 (before
-          .before) (before .handle-gate-arg4 .given))) → Typed.Mo T75
-      m56 = λ before given. s72 (before .before .before .before .before .before .before .before .before .before .before .before .before .before
-          .before .before .before .before .before .before .before .before .blocks) .next (m55 before given)
+
+      abbrev pub m55 : (before : After-handle-gate-arg4) → (given : s71 (before .before .before .before .before .before
+          .before .before .before .before .before .before .before .before .before .before .before .before .before
+          .before .before .before .blocks) .gives (m54 (before .before) (before .handle-gate-arg4 .given))) → Typed.Mo
+          T74
+      m55 = λ before given. s71 (before .before .before .before .before .before .before .before .before .before .before
+          .before .before .before .before .before .before .before .before .before .before .before .blocks) .next
+          (m54 (before .before) (before .handle-gate-arg4 .given)) given
+
+      abbrev pub m56 : (before : After-handle-gate-arg4) → (given : s71 (before .before .before .before .before .before
+          .before .before .before .before .before .before .before .before .before .before .before .before .before
+          .before .before .before .blocks) .gives (m54 (before .before) (before .handle-gate-arg4 .given))) → Typed.Mo
+          T75
+      m56 = λ before given. s72 (before .before .before .before .before .before .before .before .before .before .before
+          .before .before .before .before .before .before .before .before .before .before .before .blocks) .next
+          (m55 before given)
+
       module _ (before· : After-handle-gate-arg4) where
         pub record After-handle-gate-arg5·own : Type 0 where
-          pub given : s71 (before· .before .before .before .before .before .before .before .before .before .before .before .before .before .before
-              .before .before .before .before .before .before .before .blocks) .gives (m54 (before· .before) (before· .handle-gate-arg4 .given))
+          pub given : s71 (before· .before .before .before .before .before .before .before .before .before .before
+              .before .before .before .before .before .before .before .before .before .before .before .blocks) .gives
+              (m54 (before· .before) (before· .handle-gate-arg4 .given))
+
       pub record After-handle-gate-arg5 : Type 0 where
         pub before : After-handle-gate-arg4
         pub handle-gate-arg5 : After-handle-gate-arg5·own before
+
       abbrev pub Need-handle-gate-requires : Type 0
-      Need-handle-gate-requires = (c : After-handle-gate-arg5) → s73 (c .before .before .before .before .before .before .before .before .before
-          .before .before .before .before .before .before .before .before .before .before .before .before .before .blocks) .asks (m56 (c .before) (c
-          .handle-gate-arg5 .given))
-      abbrev pub m57 : (before : After-handle-gate-arg5) → (given : s73 (before .before .before .before .before .before .before .before .before
-          .before .before .before .before .before .before .before .before .before .before .before .before .before .before .blocks) .gives (m56 (before
-          .before) (before .handle-gate-arg5 .given))) → Typed.Mo T76
-      m57 = λ before given. s73 (before .before .before .before .before .before .before .before .before .before .before .before .before .before
-          .before .before .before .before .before .before .before .before .before .blocks) .next (m56 (before .before) (before .handle-gate-arg5
-          .given)) given
+      Need-handle-gate-requires = (c : After-handle-gate-arg5) → s73 (c .before .before .before .before .before .before
+          .before .before .before .before .before .before .before .before .before .before .before .before .before
+          .before .before .before .blocks) .asks (m56 (c .before) (c .handle-gate-arg5 .given))
+
+      abbrev pub m57 : (before : After-handle-gate-arg5) → (given : s73 (before .before .before .before .before .before
+          .before .before .before .before .before .before .before .before .before .before .before .before .before
+          .before .before .before .before .blocks) .gives (m56 (before .before) (before .handle-gate-arg5 .given))) →
+          Typed.Mo T76
+      m57 = λ before given. s73 (before .before .before .before .before .before .before .before .before .before .before
+          .before .before .before .before .before .before .before .before .before .before .before .before .blocks)
+          .next (m56 (before .before) (before .handle-gate-arg5 .given)) given
+
       module _ (before· : After-handle-gate-arg5) where
         abbrev pub After-handle-gate·own : Type 0
-        After-handle-gate·own = Called.Called ps·6 r·6 (claims· .13) T75 (record { pos = 32; ty = Syntax.tyRef Syntax.erased Syntax.mut
-            RelayPending.to; ref = λ x. x; }, (record { pos = 34; ty = Syntax.tyRef Syntax.erased Syntax.mut RelayCircuit.to; ref = λ x. x; }, (record
-            { pos = 36; ty = Syntax.tyRef Syntax.erased Syntax.mut ReservationUsage.to; ref = λ x. x; }, (record { pos = 38; ty = Syntax.tyRef
-            Syntax.erased Syntax.mut InflightAction.to; ref = λ x. x; }, (record { pos = 40; ty = Syntax.tyRef Syntax.erased Syntax.mut (Syntax.tyInt
-            Syntax.w32); ref = λ x. x; }, (record { pos = 17; st = List.[]; d = 0; at = λ x. x }, (record { pos = 18; st = List.[]; d = 0; at = λ x. x
-            }, (record { pos = 8; st = List.[]; d = 0; at = λ x. x }, (record { pos = 9; ty = Syntax.tyRef (Syntax.named 5) Syntax.imm (Syntax.tyInt
-            Syntax.w8); ref = λ x. x; }, (record { pos = 10; ty = Syntax.tyRef (Syntax.named 6) Syntax.imm (Syntax.tyInt Syntax.w8); ref = λ x. x; },
-            (record { pos = 11; ty = Syntax.tyRef (Syntax.named 7) Syntax.imm (Syntax.tyInt Syntax.w8); ref = λ x. x; }, (record { pos = 12; ty =
-            Syntax.tyRef (Syntax.named 8) Syntax.imm (Syntax.tyInt Syntax.w8); ref = λ x. x; }, tt,),),),),),),),),),),),) (m56 (before· .before)
-            (before· .handle-gate-arg5 .given))
+        After-handle-gate·own = Called.Called ps·6 r·6 (claims· .13) T75 (
+          record { pos = 32; ty = ref4; ref = λ x. x },
+          (
+            record { pos = 34; ty = ref5; ref = λ x. x },
+            (
+              record { pos = 36; ty = ref6; ref = λ x. x },
+              (
+                record { pos = 38; ty = ref7; ref = λ x. x },
+                (
+                  record { pos = 40; ty = ref8; ref = λ x. x },
+                  (
+                    record { pos = 17; st = List.[]; d = 0; at = λ x. x },
+                    (
+                      record { pos = 18; st = List.[]; d = 0; at = λ x. x },
+                      (
+                        record { pos = 8; st = List.[]; d = 0; at = λ x. x },
+                        (
+                          record { pos = 9; ty = ref14; ref = λ x. x },
+                          (
+                            record { pos = 10; ty = ref15; ref = λ x. x },
+                            (
+                              record { pos = 11; ty = ref16; ref = λ x. x },
+                              (record { pos = 12; ty = ref17; ref = λ x. x }, tt),
+                            ),
+                          ),
+                        ),
+                      ),
+                    ),
+                  ),
+                ),
+              ),
+            ),
+          ),
+        ) (m56 (before· .before) (before· .handle-gate-arg5 .given))
+
       pub record After-handle-gate : Type 0 where
         pub before : After-handle-gate-arg5
         pub handle-gate : After-handle-gate·own before
-      abbrev pub After-handle-gate·gave : (c : After-handle-gate) → s73 (c .before .before .before .before .before .before .before .before .before
-          .before .before .before .before .before .before .before .before .before .before .before .before .before .before .blocks) .gives (m56 (c
-          .before .before) (c .before .handle-gate-arg5 .given))
-      After-handle-gate·gave = λ c. Called.given ps·6 r·6 (claims· .13) T75 (record { pos = 32; ty = Syntax.tyRef Syntax.erased Syntax.mut
-          RelayPending.to; ref = λ x. x; }, (record { pos = 34; ty = Syntax.tyRef Syntax.erased Syntax.mut RelayCircuit.to; ref = λ x. x; }, (record {
-          pos = 36; ty = Syntax.tyRef Syntax.erased Syntax.mut ReservationUsage.to; ref = λ x. x; }, (record { pos = 38; ty = Syntax.tyRef
-          Syntax.erased Syntax.mut InflightAction.to; ref = λ x. x; }, (record { pos = 40; ty = Syntax.tyRef Syntax.erased Syntax.mut (Syntax.tyInt
-          Syntax.w32); ref = λ x. x; }, (record { pos = 17; st = List.[]; d = 0; at = λ x. x }, (record { pos = 18; st = List.[]; d = 0; at = λ x. x
-          }, (record { pos = 8; st = List.[]; d = 0; at = λ x. x }, (record { pos = 9; ty = Syntax.tyRef (Syntax.named 5) Syntax.imm (Syntax.tyInt
-          Syntax.w8); ref = λ x. x; }, (record { pos = 10; ty = Syntax.tyRef (Syntax.named 6) Syntax.imm (Syntax.tyInt Syntax.w8); ref = λ x. x; },
-          (record { pos = 11; ty = Syntax.tyRef (Syntax.named 7) Syntax.imm (Syntax.tyInt Syntax.w8); ref = λ x. x; }, (record { pos = 12; ty =
-          Syntax.tyRef (Syntax.named 8) Syntax.imm (Syntax.tyInt Syntax.w8); ref = λ x. x; }, tt,),),),),),),),),),),),) (m56 (c .before .before) (c
-          .before .handle-gate-arg5 .given)) (c .handle-gate)
-      abbrev pub m58 : (before : After-handle-gate-arg5) → (given : s73 (before .before .before .before .before .before .before .before .before
-          .before .before .before .before .before .before .before .before .before .before .before .before .before .before .blocks) .gives (m56 (before
-          .before) (before .handle-gate-arg5 .given))) → Typed.Mo T77
-      m58 = λ before given. s74 (before .before .before .before .before .before .before .before .before .before .before .before .before .before
-          .before .before .before .before .before .before .before .before .before .blocks) (m57 before given)
-      abbrev pub m59 : (before : After-handle-gate-arg5) → (given : s73 (before .before .before .before .before .before .before .before .before
-          .before .before .before .before .before .before .before .before .before .before .before .before .before .before .blocks) .gives (m56 (before
-          .before) (before .handle-gate-arg5 .given))) → Typed.Mo T78
-      m59 = λ before given. s75 (before .before .before .before .before .before .before .before .before .before .before .before .before .before
-          .before .before .before .before .before .before .before .before .before .blocks) (m58 before given)
-      abbrev pub m60 : (before : After-handle-gate-arg5) → (given : s73 (before .before .before .before .before .before .before .before .before
-          .before .before .before .before .before .before .before .before .before .before .before .before .before .before .blocks) .gives (m56 (before
-          .before) (before .handle-gate-arg5 .given))) → Typed.Mo T79
-      m60 = λ before given. s76 (before .before .before .before .before .before .before .before .before .before .before .before .before .before
-          .before .before .before .before .before .before .before .before .before .blocks) (m59 before given)
-      abbrev pub m61 : (before : After-handle-gate) → (given : s78 (before .before .before .before .before .before .before .before .before .before
-          .before .before .before .before .before .before .before .before .before .before .before .before .before .before .blocks) .gives (m60 (before
-          .before) (After-handle-gate·gave before))) → Typed.Mo T81
-      m61 = λ before given. s78 (before .before .before .before .before .before .before .before .before .before .before .before .before .before
-          .before .before .before .before .before .before .before .before .before .before .blocks) .next (m60 (before .before) (After-handle-gate·gave
-          before)) given
+
+      abbrev pub After-handle-gate·gave : (c : After-handle-gate) → s73 (c .before .before .before .before .before
+          .before .before .before .before .before .before .before .before .before .before .before .before .before
+          .before .before .before .before .before .blocks) .gives (m56 (c .before .before)
+          (c .before .handle-gate-arg5 .given))
+      After-handle-gate·gave = λ c. Called.given ps·6 r·6 (claims· .13) T75 (
+        record { pos = 32; ty = ref4; ref = λ x. x },
+        (
+          record { pos = 34; ty = ref5; ref = λ x. x },
+          (
+            record { pos = 36; ty = ref6; ref = λ x. x },
+            (
+              record { pos = 38; ty = ref7; ref = λ x. x },
+              (
+                record { pos = 40; ty = ref8; ref = λ x. x },
+                (
+                  record { pos = 17; st = List.[]; d = 0; at = λ x. x },
+                  (
+                    record { pos = 18; st = List.[]; d = 0; at = λ x. x },
+                    (
+                      record { pos = 8; st = List.[]; d = 0; at = λ x. x },
+                      (
+                        record { pos = 9; ty = ref14; ref = λ x. x },
+                        (
+                          record { pos = 10; ty = ref15; ref = λ x. x },
+                          (
+                            record { pos = 11; ty = ref16; ref = λ x. x },
+                            (record { pos = 12; ty = ref17; ref = λ x. x }, tt),
+                          ),
+                        ),
+                      ),
+                    ),
+                  ),
+                ),
+              ),
+            ),
+          ),
+        ),
+      ) (m56 (c .before .before) (c .before .handle-gate-arg5 .given)) (c .handle-gate)
+
+      abbrev pub m58 : (before : After-handle-gate-arg5) → (given : s73 (before .before .before .before .before .before
+          .before .before .before .before .before .before .before .before .before .before .before .before .before
+          .before .before .before .before .blocks) .gives (m56 (before .before) (before .handle-gate-arg5 .given))) →
+          Typed.Mo T77
+      m58 = λ before given. s74 (before .before .before .before .before .before .before .before .before .before .before
+          .before .before .before .before .before .before .before .before .before .before .before .before .blocks)
+          (m57 before given)
+
+      abbrev pub m59 : (before : After-handle-gate-arg5) → (given : s73 (before .before .before .before .before .before
+          .before .before .before .before .before .before .before .before .before .before .before .before .before
+          .before .before .before .before .blocks) .gives (m56 (before .before) (before .handle-gate-arg5 .given))) →
+          Typed.Mo T78
+      m59 = λ before given. s75 (before .before .before .before .before .before .before .before .before .before .before
+          .before .before .before .before .before .before .before .before .before .before .before .before .blocks)
+          (m58 before given)
+
+      abbrev pub m60 : (before : After-handle-gate-arg5) → (given : s73 (before .before .before .before .before .before
+          .before .before .before .before .before .before .before .before .before .before .before .before .before
+          .before .before .before .before .blocks) .gives (m56 (before .before) (before .handle-gate-arg5 .given))) →
+          Typed.Mo T79
+      m60 = λ before given. s76 (before .before .before .before .before .before .before .before .before .before .before
+          .before .before .before .before .before .before .before .before .before .before .before .before .blocks)
+          (m59 before given)
+
+      abbrev pub m61 : (before : After-handle-gate) → (given : s78 (before .before .before .before .before .before
+          .before .before .before .before .before .before .before .before .before .before .before .before .before
+          .before .before .before .before .before .blocks) .gives
+          (m60 (before .before) (After-handle-gate·gave before))) → Typed.Mo T81
+      m61 = λ before given. s78 (before .before .before .before .before .before .before .before .before .before .before
+          .before .before .before .before .before .before .before .before .before .before .before .before .before
+          .blocks) .next (m60 (before .before) (After-handle-gate·gave before)) given
+
       module _ (before· : After-handle-gate) where
         pub record After-pending·own : Type 0 where
-          pub given : s78 (before· .before .before .before .before .before .before .before .before .before .before .before .before .before .before
-              .before .before .before .before .before .before .before .before .before .blocks) .gives (m60 (before· .before) (After-handle-gate·gave
-              before·))
+          pub given : s78 (before· .before .before .before .before .before .before .before .before .before .before
+              .before .before .before .before .before .before .before .before .before .before .before .before .before
+              .blocks) .gives (m60 (before· .before) (After-handle-gate·gave before·))
+
       pub record After-pending : Type 0 where
         pub before : After-handle-gate
         pub pending : After-pending·own before
-      abbrev pub m62 : (before : After-pending) → (given : s81 (before .before .before .before .before .before .before .before .before .before .before
-          .before .before .before .before .before .before .before .before .before .before .before .before .before .before .blocks) .gives (m61 (before
-          .before) (before .pending .given))) → Typed.Mo T84
-      m62 = λ before given. s81 (before .before .before .before .before .before .before .before .before .before .before .before .before .before
-          .before .before .before .before .before .before .before .before .before .before .before .blocks) .next (m61 (before .before) (before
-          .pending .given)) given
+
+      abbrev pub m62 : (before : After-pending) → (given : s81 (before .before .before .before .before .before .before
+          .before .before .before .before .before .before .before .before .before .before .before .before .before
+          .before .before .before .before .before .blocks) .gives (m61 (before .before) (before .pending .given))) →
+          Typed.Mo T84
+      m62 = λ before given. s81 (before .before .before .before .before .before .before .before .before .before .before
+          .before .before .before .before .before .before .before .before .before .before .before .before .before
+          .before .blocks) .next (m61 (before .before) (before .pending .given)) given
+
       module _ (before· : After-pending) where
         pub record After-circuits·own : Type 0 where
-          pub given : s81 (before· .before .before .before .before .before .before .before .before .before .before .before .before .before .before
-              .before .before .before .before .before .before .before .before .before .before .blocks) .gives (m61 (before· .before) (before· .pending
-              .given))
+          pub given : s81 (before· .before .before .before .before .before .before .before .before .before .before
+              .before .before .before .before .before .before .before .before .before .before .before .before .before
+              .before .blocks) .gives (m61 (before· .before) (before· .pending .given))
+
       pub record After-circuits : Type 0 where
         pub before : After-pending
         pub circuits : After-circuits·own before
-      abbrev pub m63 : (before : After-circuits) → (given : s84 (before .before .before .before .before .before .before .before .before .before
-          .before .before .before .before .before .before .before .before .before .before .before .before .before .before .before .before .blocks)
-          .gives (m62 (before .before) (before .circuits .given))) → Typed.Mo T87
-      m63 = λ before given. s84 (before .before .before .before .before .before .before .before .before .before .before .before .before .before
-          .before .before .before .before .before .before .before .before .before .before .before .before .blocks) .next (m62 (before .before) (before
-          .circuits .given)) given
+
+      abbrev pub m63 : (before : After-circuits) → (given : s84 (before .before .before .before .before .before .before
+          .before .before .before .before .before .before .before .before .before .before .before .before .before
+          .before .before .before .before .before .before .blocks) .gives
+          (m62 (before .before) (before .circuits .given))) → Typed.Mo T87
+      m63 = λ before given. s84 (before .before .before .before .before .before .before .before .before .before .before
+          .before .before .before .before .before .before .before .before .before .before .before .before .before
+          .before .before .blocks) .next (m62 (before .before) (before .circuits .given)) given
+
       module _ (before· : After-circuits) where
         pub record After-ledger·own : Type 0 where
-          pub given : s84 (before· .before .before .before .before .before .before .before .before .before .before .before .before .before .before
-              .before .before .before .before .before .before .before .before .before .before .before .blocks) .gives (m62 (before· .before) (before·
-              .circuits .given))
+          pub given : s84 (before· .before .before .before .before .before .before .before .before .before .before
+              .before .before .before .before .before .before .before .before .before .before .before .before .before
+              .before .before .blocks) .gives (m62 (before· .before) (before· .circuits .given))
+
       pub record After-ledger : Type 0 where
         pub before : After-circuits
         pub ledger : After-ledger·own before
-      abbrev pub m64 : (before : After-ledger) → (given : s87 (before .before .before .before .before .before .before .before .before .before .before
-          .before .before .before .before .before .before .before .before .before .before .before .before .before .before .before .before .blocks)
-          .gives (m63 (before .before) (before .ledger .given))) → Typed.Mo T90
-      m64 = λ before given. s87 (before .before .before .before .before .before .before .before .before .before .before .before .before .before
-          .before .before .before .before .before .before .before .before .before .before .before .before .before .blocks) .next (m63 (before .before)
-          (before .ledger .given)) given
+
+      abbrev pub m64 : (before : After-ledger) → (given : s87 (before .before .before .before .before .before .before
+          .before .before .before .before .before .before .before .before .before .before .before .before .before
+          .before .before .before .before .before .before .before .blocks) .gives
+          (m63 (before .before) (before .ledger .given))) → Typed.Mo T90
+      m64 = λ before given. s87 (before .before .before .before .before .before .before .before .before .before .before
+          .before .before .before .before .before .before .before .before .before .before .before .before .before
+          .before .before .before .blocks) .next (m63 (before .before) (before .ledger .given)) given
+
       module _ (before· : After-ledger) where
         pub record After-inflight·own : Type 0 where
-          pub given : s87 (before· .before .before .before .before .before .before .before .before .before .before .before .before .before .before
-              .before .before .before .before .before .before .before .before .before .before .before .before .blocks) .gives (m63 (before· .before)
-              (before· .ledger .given))
+          pub given : s87 (before· .before .before .before .before .before .before .before .before .before .before
+              .before .before .before .before .before .before .before .before .before .before .before .before .before
+              .before .before .before .blocks) .gives (m63 (before· .before) (before· .ledger .given))
+
       pub record After-inflight : Type 0 where
         pub before : After-ledger
         pub inflight : After-inflight·own before
-      abbrev pub m65 : (before : After-inflight) → (given : s90 (before .before .before .before .before .before .before .before .before .before
-          .before .before .before .before .before .before .before .before .before .before .before .before .before .before .before .before .before
-          .before .blocks) .gives (m64 (before .before) (before .inflight .given))) → Typed.Mo T93
-      m65 = λ before given. s90 (before .before .before .before .before .before .before .before .before .before .before .before .before .before
-          .before .before .before .before .before .before .before .before .before .before .before .before .before .before .blocks) .next (m64 (before
-          .before) (before .inflight .given)) given
+
+      abbrev pub m65 : (before : After-inflight) → (given : s90 (before .before .before .before .before .before .before
+          .before .before .before .before .before .before .before .before .before .before .before .before .before
+          .before .before .before .before .before .before .before .before .blocks) .gives
+          (m64 (before .before) (before .inflight .given))) → Typed.Mo T93
+      m65 = λ before given. s90 (before .before .before .before .before .before .before .before .before .before .before
+          .before .before .before .before .before .before .before .before .before .before .before .before .before
+          .before .before .before .before .blocks) .next (m64 (before .before) (before .inflight .given)) given
+
       module _ (before· : After-inflight) where
         pub record After-out·own : Type 0 where
-          pub given : s90 (before· .before .before .before .before .before .before .before .before .before .before .before .before .before .before
-              .before .before .before .before .before .before .before .before .before .before .before .before .before .blocks) .gives (m64 (before·
-              .before) (before· .inflight .given))
+          pub given : s90 (before· .before .before .before .before .before .before .before .before .before .before
+              .before .before .before .before .before .before .before .before .before .before .before .before .before
+              .before .before .before .before .blocks) .gives (m64 (before· .before) (before· .inflight .given))
+
       pub record After-out : Type 0 where
         pub before : After-inflight
         pub out : After-out·own before
-      abbrev pub m66 : (before : After-out) → (given : s91 (before .before .before .before .before .before .before .before .before .before .before
-          .before .before .before .before .before .before .before .before .before .before .before .before .before .before .before .before .before
-          .before .blocks) .gives (m65 (before .before) (before .out .given))) → Typed.Mo T94
-      m66 = λ before given. s91 (before .before .before .before .before .before .before .before .before .before .before .before .before .before
-          .before .before .before .before .before .before .before .before .before .before .before .before .before .before .before .blocks) .next (m65
-          (before .before) (before .out .given)) given
-      abbrev pub m67 : (before : After-out) → (given : s91 (before .before .before .before .before .before .before .before .before .before .before
-          .before .before .before .before .before .before .before .before .before .before .before .before .before .before .before .before .before
-          .before .blocks) .gives (m65 (before .before) (before .out .given))) → Typed.Mo T96
-      m67 = λ before given. s93 (before .before .before .before .before .before .before .before .before .before .before .before .before .before
-          .before .before .before .before .before .before .before .before .before .before .before .before .before .before .before .blocks) (m66 before
-          given)
+
+      abbrev pub m66 : (before : After-out) → (given : s91 (before .before .before .before .before .before .before
+          .before .before .before .before .before .before .before .before .before .before .before .before .before
+          .before .before .before .before .before .before .before .before .before .blocks) .gives
+          (m65 (before .before) (before .out .given))) → Typed.Mo T94
+      m66 = λ before given. s91 (before .before .before .before .before .before .before .before .before .before .before
+          .before .before .before .before .before .before .before .before .before .before .before .before .before
+          .before .before .before .before .before .blocks) .next (m65 (before .before) (before .out .given)) given
+
+      abbrev pub m67 : (before : After-out) → (given : s91 (before .before .before .before .before .before .before
+          .before .before .before .before .before .before .before .before .before .before .before .before .before
+          .before .before .before .before .before .before .before .before .before .blocks) .gives
+          (m65 (before .before) (before .out .given))) → Typed.Mo T96
+      m67 = λ before given. s93 (before .before .before .before .before .before .before .before .before .before .before
+          .before .before .before .before .before .before .before .before .before .before .before .before .before
+          .before .before .before .before .before .blocks) (m66 before given)
+
       module _ (before· : After-out) where
         pub record After-slice-known2·own : Type 0 where
-          pub given : s91 (before· .before .before .before .before .before .before .before .before .before .before .before .before .before .before
-              .before .before .before .before .before .before .before .before .before .before .before .before .before .before .blocks) .gives (m65
-              (before· .before) (before· .out .given))
+          pub given : s91 (before· .before .before .before .before .before .before .before .before .before .before
+              .before .before .before .before .before .before .before .before .before .before .before .before .before
+              .before .before .before .before .before .blocks) .gives (m65 (before· .before) (before· .out .given))
+
       pub record After-slice-known2 : Type 0 where
         pub before : After-out
         pub slice-known2 : After-slice-known2·own before
+
       abbrev pub Need-same-length : Type 0
-      Need-same-length = (c : After-slice-known2) → MutSlice.SameLen (Row.get 1 (T96 .locals) (m67 (c .before) (c .slice-known2 .given))) (dens (c
-          .before .before .before .before .before .before .before .before .before .before .before .before .before .before .before .before .before
-          .before .before .before .before .before .before .before .before .before .before .before .before .κs) (c .before .before .before .before
-          .before .before .before .before .before .before .before .before .before .before .before .before .before .before .before .before .before
-          .before .before .before .before .before .before .before .before .args) .0)
+      Need-same-length = (c : After-slice-known2) → MutSlice.SameLen (Row.get 1 (T96 .locals)
+          (m67 (c .before) (c .slice-known2 .given))) (dens (c .before .before .before .before .before .before .before
+          .before .before .before .before .before .before .before .before .before .before .before .before .before
+          .before .before .before .before .before .before .before .before .before .κs) (c .before .before .before
+          .before .before .before .before .before .before .before .before .before .before .before .before .before
+          .before .before .before .before .before .before .before .before .before .before .before .before .before .args)
+          .0)
+
       abbrev pub Need-same-length-2 : Type 0
-      Need-same-length-2 = (c : After-slice-known2) → MutSlice.SameLen (Row.get 2 (T96 .locals) (m67 (c .before) (c .slice-known2 .given))) (dens (c
-          .before .before .before .before .before .before .before .before .before .before .before .before .before .before .before .before .before
-          .before .before .before .before .before .before .before .before .before .before .before .before .κs) (c .before .before .before .before
-          .before .before .before .before .before .before .before .before .before .before .before .before .before .before .before .before .before
-          .before .before .before .before .before .before .before .before .args) .1 .0)
+      Need-same-length-2 = (c : After-slice-known2) → MutSlice.SameLen (Row.get 2 (T96 .locals)
+          (m67 (c .before) (c .slice-known2 .given))) (dens (c .before .before .before .before .before .before .before
+          .before .before .before .before .before .before .before .before .before .before .before .before .before
+          .before .before .before .before .before .before .before .before .before .κs) (c .before .before .before
+          .before .before .before .before .before .before .before .before .before .before .before .before .before
+          .before .before .before .before .before .before .before .before .before .before .before .before .before .args)
+          .1 .0)
+
       abbrev pub Need-same-length-3 : Type 0
-      Need-same-length-3 = (c : After-slice-known2) → MutSlice.SameLen (Row.get 3 (T96 .locals) (m67 (c .before) (c .slice-known2 .given))) (dens (c
-          .before .before .before .before .before .before .before .before .before .before .before .before .before .before .before .before .before
-          .before .before .before .before .before .before .before .before .before .before .before .before .κs) (c .before .before .before .before
-          .before .before .before .before .before .before .before .before .before .before .before .before .before .before .before .before .before
-          .before .before .before .before .before .before .before .before .args) .1 .1 .0)
+      Need-same-length-3 = (c : After-slice-known2) → MutSlice.SameLen (Row.get 3 (T96 .locals)
+          (m67 (c .before) (c .slice-known2 .given))) (dens (c .before .before .before .before .before .before .before
+          .before .before .before .before .before .before .before .before .before .before .before .before .before
+          .before .before .before .before .before .before .before .before .before .κs) (c .before .before .before
+          .before .before .before .before .before .before .before .before .before .before .before .before .before
+          .before .before .before .before .before .before .before .before .before .before .before .before .before .args)
+          .1 .1 .0)
+
       abbrev pub Need-same-length-4 : Type 0
-      Need-same-length-4 = (c : After-slice-known2) → MutSlice.SameLen (Row.get 4 (T96 .locals) (m67 (c .before) (c .slice-known2 .given))) (dens (c
-          .before .before .before .before .before .before .before .before .before .before .before .before .before .before .before .before .before
-          .before .before .before .before .before .before .before .before .before .before .before .before .κs) (c .before .before .before .before
-          .before .before .before .before .before .before .before .before .before .before .before .before .before .before .before .before .before
-          .before .before .before .before .before .before .before .before .args) .1 .1 .1 .0)
+      Need-same-length-4 = (c : After-slice-known2) → MutSlice.SameLen (Row.get 4 (T96 .locals)
+          (m67 (c .before) (c .slice-known2 .given))) (dens (c .before .before .before .before .before .before .before
+          .before .before .before .before .before .before .before .before .before .before .before .before .before
+          .before .before .before .before .before .before .before .before .before .κs) (c .before .before .before
+          .before .before .before .before .before .before .before .before .before .before .before .before .before
+          .before .before .before .before .before .before .before .before .before .before .before .before .before .args)
+          .1 .1 .1 .0)
+
       abbrev pub Need-same-length-5 : Type 0
-      Need-same-length-5 = (c : After-slice-known2) → MutSlice.SameLen (Row.get 5 (T96 .locals) (m67 (c .before) (c .slice-known2 .given))) (dens (c
-          .before .before .before .before .before .before .before .before .before .before .before .before .before .before .before .before .before
-          .before .before .before .before .before .before .before .before .before .before .before .before .κs) (c .before .before .before .before
-          .before .before .before .before .before .before .before .before .before .before .before .before .before .before .before .before .before
-          .before .before .before .before .before .before .before .before .args) .1 .1 .1 .1 .0)
+      Need-same-length-5 = (c : After-slice-known2) → MutSlice.SameLen (Row.get 5 (T96 .locals)
+          (m67 (c .before) (c .slice-known2 .given))) (dens (c .before .before .before .before .before .before .before
+          .before .before .before .before .before .before .before .before .before .before .before .before .before
+          .before .before .before .before .before .before .before .before .before .κs) (c .before .before .before
+          .before .before .before .before .before .before .before .before .before .before .before .before .before
+          .before .before .before .before .before .before .before .before .before .before .before .before .before .args)
+          .1 .1 .1 .1 .0)
+
       abbrev pub Need-returns : Type 0
-      Need-returns = (c : After-slice-known2) → Post· (c .before .before .before .before .before .before .before .before .before .before .before
-          .before .before .before .before .before .before .before .before .before .before .before .before .before .before .before .before .before
-          .before .κs) (dens (c .before .before .before .before .before .before .before .before .before .before .before .before .before .before
-          .before .before .before .before .before .before .before .before .before .before .before .before .before .before .before .κs) (c .before
-          .before .before .before .before .before .before .before .before .before .before .before .before .before .before .before .before .before
-          .before .before .before .before .before .before .before .before .before .before .before .args)) (Function.resV r (c .before .before .before
-          .before .before .before .before .before .before .before .before .before .before .before .before .before .before .before .before .before
-          .before .before .before .before .before .before .before .before .before .κs) (m67 (c .before) (c .slice-known2 .given) .0)) (Clauses.atExit
-          (Kinds.endedOf 9 ps r) (c .before .before .before .before .before .before .before .before .before .before .before .before .before .before
-          .before .before .before .before .before .before .before .before .before .before .before .before .before .before .before .κs) (dens (c
-          .before .before .before .before .before .before .before .before .before .before .before .before .before .before .before .before .before
-          .before .before .before .before .before .before .before .before .before .before .before .before .κs) (c .before .before .before .before
-          .before .before .before .before .before .before .before .before .before .before .before .before .before .before .before .before .before
-          .before .before .before .before .before .before .before .before .args)) (Enter.lastsP (c .before .before .before .before .before .before
-          .before .before .before .before .before .before .before .before .before .before .before .before .before .before .before .before .before
-          .before .before .before .before .before .before .κs) 1 ps xs (dens (c .before .before .before .before .before .before .before .before
-          .before .before .before .before .before .before .before .before .before .before .before .before .before .before .before .before .before
-          .before .before .before .before .κs) (c .before .before .before .before .before .before .before .before .before .before .before .before
-          .before .before .before .before .before .before .before .before .before .before .before .before .before .before .before .before .before
-          .args)) (m67 (c .before) (c .slice-known2 .given) .1)))
+      Need-returns = (c : After-slice-known2) → Post· (c .before .before .before .before .before .before .before
+          .before .before .before .before .before .before .before .before .before .before .before .before .before
+          .before .before .before .before .before .before .before .before .before .κs) (dens (c .before .before .before
+          .before .before .before .before .before .before .before .before .before .before .before .before .before
+          .before .before .before .before .before .before .before .before .before .before .before .before .before .κs) (c
+          .before .before .before .before .before .before .before .before .before .before .before .before .before
+          .before .before .before .before .before .before .before .before .before .before .before .before .before
+          .before .before .before .args)) (Function.resV r (c .before .before .before .before .before .before .before
+          .before .before .before .before .before .before .before .before .before .before .before .before .before
+          .before .before .before .before .before .before .before .before .before .κs)
+          (m67 (c .before) (c .slice-known2 .given) .0)) (Clauses.atExit (Kinds.endedOf 9 ps r) (c .before .before
+          .before .before .before .before .before .before .before .before .before .before .before .before .before
+          .before .before .before .before .before .before .before .before .before .before .before .before .before
+          .before .κs) (dens (c .before .before .before .before .before .before .before .before .before .before .before
+          .before .before .before .before .before .before .before .before .before .before .before .before .before
+          .before .before .before .before .before .κs) (c .before .before .before .before .before .before .before
+          .before .before .before .before .before .before .before .before .before .before .before .before .before
+          .before .before .before .before .before .before .before .before .before .args)) (Enter.lastsP (c .before
+          .before .before .before .before .before .before .before .before .before .before .before .before .before
+          .before .before .before .before .before .before .before .before .before .before .before .before .before
+          .before .before .κs) 1 ps xs (dens (c .before .before .before .before .before .before .before .before .before
+          .before .before .before .before .before .before .before .before .before .before .before .before .before
+          .before .before .before .before .before .before .before .κs) (c .before .before .before .before .before
+          .before .before .before .before .before .before .before .before .before .before .before .before .before
+          .before .before .before .before .before .before .before .before .before .before .before .args))
+          (m67 (c .before) (c .slice-known2 .given) .1)))
+
       abbrev pub m68 : (before : After-is-taken) → Typed.Mo T97
-      m68 = λ before. s94 (before .before .before .before .before .before .before .before .before .before .before .blocks) (m24 (before .before)
-          (After-is-taken·gave before))
+      m68 = λ before. s94 (before .before .before .before .before .before .before .before .before .before .before
+          .blocks) (m24 (before .before) (After-is-taken·gave before))
+
       abbrev pub m69 : (before : After-is-taken) → Typed.Mo T98
-      m69 = λ before. s95 (before .before .before .before .before .before .before .before .before .before .before .blocks) (m68 before)
+      m69 = λ before. s95 (before .before .before .before .before .before .before .before .before .before .before
+          .blocks) (m68 before)
+
       module _ (before· : After-is-taken) where
         pub record Else1·own : Type 0 where
-          pub left : Path._≡_ (Row.get 22 (T25 .locals) (m24 (before· .before) (After-is-taken·gave before·))) Bool'.false
+          pub left : Path._≡_ (Row.get 22 (T25 .locals) (m24 (before· .before) (After-is-taken·gave before·)))
+              Bool'.false
+
       pub record Else1 : Type 0 where
         pub before : After-is-taken
         pub if1 : Else1·own before
+
       abbrev pub Need-refused-requires : Type 0
-      Need-refused-requires = (c : Else1) → s96 (c .before .before .before .before .before .before .before .before .before .before .before .blocks)
-          .asks (m69 (c .before))
-      abbrev pub m70 : (before : Else1) → (given : s96 (before .before .before .before .before .before .before .before .before .before .before .before
-          .blocks) .gives (m69 (before .before))) → Typed.Mo T99
-      m70 = λ before given. s96 (before .before .before .before .before .before .before .before .before .before .before .before .blocks) .next (m69
-          (before .before)) given
+      Need-refused-requires = (c : Else1) → s96 (c .before .before .before .before .before .before .before .before
+          .before .before .before .blocks) .asks (m69 (c .before))
+
+      abbrev pub m70 : (before : Else1) → (given : s96 (before .before .before .before .before .before .before .before
+          .before .before .before .before .blocks) .gives (m69 (before .before))) → Typed.Mo T99
+      m70 = λ before given. s96 (before .before .before .before .before .before .before .before .before .before .before
+          .before .blocks) .next (m69 (before .before)) given
+
       module _ (before· : Else1) where
         abbrev pub After-refused·own : Type 0
-        After-refused·own = Called.Called ps·7 r·7 (claims· .15) T26 (record { pos = 6; st = List.[]; d = 0; at = λ x. x }, (record { pos = 7; st =
-            List.[]; d = 0; at = λ x. x }, (record { pos = 16; st = List.[]; d = 0; at = λ x. x }, tt),),) (m69 (before· .before))
+        After-refused·own = Called.Called ps·7 r·7 (claims· .15) T26 (
+          record { pos = 6; st = List.[]; d = 0; at = λ x. x },
+          (
+            record { pos = 7; st = List.[]; d = 0; at = λ x. x },
+            (record { pos = 16; st = List.[]; d = 0; at = λ x. x }, tt),
+          ),
+        ) (m69 (before· .before))
+
       pub record After-refused : Type 0 where
         pub before : Else1
         pub refused : After-refused·own before
-      abbrev pub After-refused·gave : (c : After-refused) → s96 (c .before .before .before .before .before .before .before .before .before .before
-          .before .before .blocks) .gives (m69 (c .before .before))
-      After-refused·gave = λ c. Called.given ps·7 r·7 (claims· .15) T26 (record { pos = 6; st = List.[]; d = 0; at = λ x. x }, (record { pos = 7; st =
-          List.[]; d = 0; at = λ x. x }, (record { pos = 16; st = List.[]; d = 0; at = λ x. x }, tt),),) (m69 (c .before .before)) (c .refused)
-      abbrev pub m71 : (before : Else1) → (given : s96 (before .before .before .before .before .before .before .before .before .before .before .before
-          .blocks) .gives (m69 (before .before))) → Typed.Mo T100
-      m71 = λ before given. s97 (before .before .before .before .before .before .before .before .before .before .before .before .blocks) (m70 before
-          given)
-      abbrev pub m72 : (before : Else1) → (given : s96 (before .before .before .before .before .before .before .before .before .before .before .before
-          .blocks) .gives (m69 (before .before))) → Typed.Mo T101
-      m72 = λ before given. s98 (before .before .before .before .before .before .before .before .before .before .before .before .blocks) (m71 before
-          given)
-      abbrev pub m73 : (before : Else1) → (given : s96 (before .before .before .before .before .before .before .before .before .before .before .before
-          .blocks) .gives (m69 (before .before))) → Typed.Mo T102
-      m73 = λ before given. s99 (before .before .before .before .before .before .before .before .before .before .before .before .blocks) (m72 before
-          given)
-      abbrev pub m74 : (before : Else1) → (given : s96 (before .before .before .before .before .before .before .before .before .before .before .before
-          .blocks) .gives (m69 (before .before))) → Typed.Mo T103
-      m74 = λ before given. s100 (before .before .before .before .before .before .before .before .before .before .before .before .blocks) (m73 before
-          given)
+
+      abbrev pub After-refused·gave : (c : After-refused) → s96 (c .before .before .before .before .before .before
+          .before .before .before .before .before .before .blocks) .gives (m69 (c .before .before))
+      After-refused·gave = λ c. Called.given ps·7 r·7 (claims· .15) T26 (
+        record { pos = 6; st = List.[]; d = 0; at = λ x. x },
+        (
+          record { pos = 7; st = List.[]; d = 0; at = λ x. x },
+          (record { pos = 16; st = List.[]; d = 0; at = λ x. x }, tt),
+        ),
+      ) (m69 (c .before .before)) (c .refused)
+
+      abbrev pub m71 : (before : Else1) → (given : s96 (before .before .before .before .before .before .before .before
+          .before .before .before .before .blocks) .gives (m69 (before .before))) → Typed.Mo T100
+      m71 = λ before given. s97 (before .before .before .before .before .before .before .before .before .before .before
+          .before .blocks) (m70 before given)
+
+      abbrev pub m72 : (before : Else1) → (given : s96 (before .before .before .before .before .before .before .before
+          .before .before .before .before .blocks) .gives (m69 (before .before))) → Typed.Mo T101
+      m72 = λ before given. s98 (before .before .before .before .before .before .before .before .before .before .before
+          .before .blocks) (m71 before given)
+
+      abbrev pub m73 : (before : Else1) → (given : s96 (before .before .before .before .before .before .before .before
+          .before .before .before .before .blocks) .gives (m69 (before .before))) → Typed.Mo T102
+      m73 = λ before given. s99 (before .before .before .before .before .before .before .before .before .before .before
+          .before .blocks) (m72 before given)
+
+      abbrev pub m74 : (before : Else1) → (given : s96 (before .before .before .before .before .before .before .before
+          .before .before .before .before .blocks) .gives (m69 (before .before))) → Typed.Mo T103
+      m74 = λ before given. s100 (before .before .before .before .before .before .before .before .before .before
+          .before .before .blocks) (m73 before given)
+
       abbrev pub Need-returns-2 : Type 0
-      Need-returns-2 = (c : After-refused) → Post· (c .before .before .before .before .before .before .before .before .before .before .before .before
-          .κs) (dens (c .before .before .before .before .before .before .before .before .before .before .before .before .κs) (c .before .before
-          .before .before .before .before .before .before .before .before .before .before .args)) (Function.resV r (c .before .before .before .before
-          .before .before .before .before .before .before .before .before .κs) (m74 (c .before) (After-refused·gave c) .0)) (Clauses.atExit
-          (Kinds.endedOf 9 ps r) (c .before .before .before .before .before .before .before .before .before .before .before .before .κs) (dens (c
-          .before .before .before .before .before .before .before .before .before .before .before .before .κs) (c .before .before .before .before
-          .before .before .before .before .before .before .before .before .args)) (Enter.lastsP (c .before .before .before .before .before .before
-          .before .before .before .before .before .before .κs) 1 ps xs (dens (c .before .before .before .before .before .before .before .before
-          .before .before .before .before .κs) (c .before .before .before .before .before .before .before .before .before .before .before .before
-          .args)) (m74 (c .before) (After-refused·gave c) .1)))
-      module _ (too-few-requires : Need-too-few-requires) (room-answer-requires : Need-room-answer-requires) (entry-answer-requires :
-          Need-entry-answer-requires) (is-taken-requires : Need-is-taken-requires) (with-clock-requires : Need-with-clock-requires) (trim-requires :
-          Need-trim-requires) (handle-gate-requires : Need-handle-gate-requires) (same-length : Need-same-length) (same-length-2 : Need-same-length-2)
-          (same-length-3 : Need-same-length-3) (same-length-4 : Need-same-length-4) (same-length-5 : Need-same-length-5) (returns : Need-returns)
+      Need-returns-2 = (c : After-refused) → Post· (c .before .before .before .before .before .before .before .before
+          .before .before .before .before .κs) (dens (c .before .before .before .before .before .before .before .before
+          .before .before .before .before .κs) (c .before .before .before .before .before .before .before .before
+          .before .before .before .before .args)) (Function.resV r (c .before .before .before .before .before .before
+          .before .before .before .before .before .before .κs) (m74 (c .before) (After-refused·gave c) .0)) (Clauses.atExit
+          (Kinds.endedOf 9 ps r) (c .before .before .before .before .before .before .before .before .before .before
+          .before .before .κs) (dens (c .before .before .before .before .before .before .before .before .before .before
+          .before .before .κs) (c .before .before .before .before .before .before .before .before .before .before
+          .before .before .args)) (Enter.lastsP (c .before .before .before .before .before .before .before .before
+          .before .before .before .before .κs) 1 ps xs (dens (c .before .before .before .before .before .before .before
+          .before .before .before .before .before .κs) (c .before .before .before .before .before .before .before
+          .before .before .before .before .before .args)) (m74 (c .before) (After-refused·gave c) .1)))
+
+      module _ (too-few-requires : Need-too-few-requires) (room-answer-requires : Need-room-answer-requires)
+          (entry-answer-requires : Need-entry-answer-requires) (is-taken-requires : Need-is-taken-requires)
+          (with-clock-requires : Need-with-clock-requires) (trim-requires : Need-trim-requires)
+          (handle-gate-requires : Need-handle-gate-requires) (same-length : Need-same-length)
+          (same-length-2 : Need-same-length-2) (same-length-3 : Need-same-length-3)
+          (same-length-4 : Need-same-length-4) (same-length-5 : Need-same-length-5) (returns : Need-returns)
           (refused-requires : Need-refused-requires) (returns-2 : Need-returns-2) where
-        lay10 : (c : After-refused) → at79 (c .before .before .before .before .before .before .before .before .before .before .before .before .blocks)
-            (W0 (c .before .before .before .before .before .before .before .before .before .before .before .before .κs) (c .before .before .before
-            .before .before .before .before .before .before .before .before .before .args) (c .before .before .before .before .before .before .before
-            .before .before .before .before .before .blocks)) (m70 (c .before) (After-refused·gave c))
-        lay10 = λ c. ((Path.refl, (Path.refl, (Path.refl, (Path.refl, (Path.refl, (tt, (tt, (tt, (Path.refl, (Path.refl, (Path.refl, (Path.refl,
-            tt)))))),),),),),),), returns-2 record { before = c .before; refused = c .refused },)
-        lay9 : (c : Else1) → at80 (c .before .before .before .before .before .before .before .before .before .before .before .blocks) (W0 (c .before
-            .before .before .before .before .before .before .before .before .before .before .κs) (c .before .before .before .before .before .before
-            .before .before .before .before .before .args) (c .before .before .before .before .before .before .before .before .before .before .before
-            .blocks)) (m69 (c .before))
-        lay9 = λ c. (refused-requires record { before = c .before; if1 = c .if1 }, λ g. lay10 record { before = record { before = c .before; if1 = c
-            .if1 }; refused = Called.called ps·7 r·7 (claims· .15) T26 (record { pos = 6; st = List.[]; d = 0; at = λ x. x }, (record { pos = 7; st =
-            List.[]; d = 0; at = λ x. x }, (record { pos = 16; st = List.[]; d = 0; at = λ x. x }, tt),),) (m69 (c .before)) g; },)
-        lay8 : (c : After-handle-gate) → at20 (c .before .before .before .before .before .before .before .before .before .before .before .before
-            .before .before .before .before .before .before .before .before .before .before .before .blocks) (W1 (c .before .before .before .before
-            .before .before .before .before .before .before .before .before .before .before) (After-is-taken·gave (c .before .before .before .before
-            .before .before .before .before .before .before .before .before .before))) (m57 (c .before) (After-handle-gate·gave c))
-        lay8 = λ c. (Path.refl, λ g. (Path.refl, λ g'. (Path.refl, λ g''. (Path.refl, λ g'3. (Path.refl, λ g'4. λ g'5. ((MutSlice.fix-len (Row.get 1
-            (T96 .locals) (m67 record { before = record { before = record { before = record { before = record { before = record { before = c .before;
-            handle-gate = c .handle-gate; }; pending = record { given = g }; }; circuits = record { given = g' }; }; ledger = record { given = g'' };
-            }; inflight = record { given = g'3 }; }; out = record { given = g'4 }; } g'5) .ptr) (Row.get 1 (T96 .locals) (m67 record { before = record
-            { before = record { before = record { before = record { before = record { before = c .before; handle-gate = c .handle-gate; }; pending =
-            record { given = g }; }; circuits = record { given = g' }; }; ledger = record { given = g'' }; }; inflight = record { given = g'3 }; };
-            out = record { given = g'4 }; } g'5) .name) (Row.get 1 (T96 .locals) (m67 record { before = record { before = record { before = record {
-            before = record { before = record { before = c .before; handle-gate = c .handle-gate; }; pending = record { given = g }; }; circuits =
-            record { given = g' }; }; ledger = record { given = g'' }; }; inflight = record { given = g'3 }; }; out = record { given = g'4 }; } g'5)
-            .now) (dens (c .before .before .before .before .before .before .before .before .before .before .before .before .before .before .before
-            .before .before .before .before .before .before .before .before .κs) (c .before .before .before .before .before .before .before .before
-            .before .before .before .before .before .before .before .before .before .before .before .before .before .before .before .args) .0 .now)
-            (same-length record { before = record { before = record { before = record { before = record { before = record { before = record { before =
-            c .before; handle-gate = c .handle-gate; }; pending = record { given = g }; }; circuits = record { given = g' }; }; ledger = record {
-            given = g'' }; }; inflight = record { given = g'3 }; }; out = record { given = g'4 }; }; slice-known2 = record { given = g'5 }; }),
-            (MutSlice.fix-len (Row.get 2 (T96 .locals) (m67 record { before = record { before = record { before = record { before = record { before =
-            record { before = c .before; handle-gate = c .handle-gate; }; pending = record { given = g }; }; circuits = record { given = g' }; };
-            ledger = record { given = g'' }; }; inflight = record { given = g'3 }; }; out = record { given = g'4 }; } g'5) .ptr) (Row.get 2 (T96
-            .locals) (m67 record { before = record { before = record { before = record { before = record { before = record { before = c .before;
-            handle-gate = c .handle-gate; }; pending = record { given = g }; }; circuits = record { given = g' }; }; ledger = record { given = g'' };
-            }; inflight = record { given = g'3 }; }; out = record { given = g'4 }; } g'5) .name) (Row.get 2 (T96 .locals) (m67 record { before =
-            record { before = record { before = record { before = record { before = record { before = c .before; handle-gate = c .handle-gate; };
-            pending = record { given = g }; }; circuits = record { given = g' }; }; ledger = record { given = g'' }; }; inflight = record { given =
-            g'3 }; }; out = record { given = g'4 }; } g'5) .now) (dens (c .before .before .before .before .before .before .before .before .before
-            .before .before .before .before .before .before .before .before .before .before .before .before .before .before .κs) (c .before .before
-            .before .before .before .before .before .before .before .before .before .before .before .before .before .before .before .before .before
-            .before .before .before .before .args) .1 .0 .now) (same-length-2 record { before = record { before = record { before = record { before =
-            record { before = record { before = record { before = c .before; handle-gate = c .handle-gate; }; pending = record { given = g }; };
-            circuits = record { given = g' }; }; ledger = record { given = g'' }; }; inflight = record { given = g'3 }; }; out = record { given = g'4
-            }; }; slice-known2 = record { given = g'5 }; }), (MutSlice.fix-len (Row.get 3 (T96 .locals) (m67 record { before = record { before =
-            record { before = record { before = record { before = record { before = c .before; handle-gate = c .handle-gate; }; pending = record {
-            given = g }; }; circuits = record { given = g' }; }; ledger = record { given = g'' }; }; inflight = record { given = g'3 }; }; out =
-            record { given = g'4 }; } g'5) .ptr) (Row.get 3 (T96 .locals) (m67 record { before = record { before = record { before = record { before =
-            record { before = record { before = c .before; handle-gate = c .handle-gate; }; pending = record { given = g }; }; circuits = record {
-            given = g' }; }; ledger = record { given = g'' }; }; inflight = record { given = g'3 }; }; out = record { given = g'4 }; } g'5) .name)
-            (Row.get 3 (T96 .locals) (m67 record { before = record { before = record { before = record { before = record { before = record { before =
-            c .before; handle-gate = c .handle-gate; }; pending = record { given = g }; }; circuits = record { given = g' }; }; ledger = record {
-            given = g'' }; }; inflight = record { given = g'3 }; }; out = record { given = g'4 }; } g'5) .now) (dens (c .before .before .before
-            .before .before .before .before .before .before .before .before .before .before .before .before .before .before .before .before .before
-            .before .before .before .κs) (c .before .before .before .before .before .before .before .before .before .before .before .before .before
-            .before .before .before .before .before .before .before .before .before .before .args) .1 .1 .0 .now) (same-length-3 record { before =
-            record { before = record { before = record { before = record { before = record { before = record { before = c .before; handle-gate = c
-            .handle-gate; }; pending = record { given = g }; }; circuits = record { given = g' }; }; ledger = record { given = g'' }; }; inflight =
-            record { given = g'3 }; }; out = record { given = g'4 }; }; slice-known2 = record { given = g'5 }; }), (MutSlice.fix-len (Row.get 4 (T96
-            .locals) (m67 record { before = record { before = record { before = record { before = record { before = record { before = c .before;
-            handle-gate = c .handle-gate; }; pending = record { given = g }; }; circuits = record { given = g' }; }; ledger = record { given = g'' };
-            }; inflight = record { given = g'3 }; }; out = record { given = g'4 }; } g'5) .ptr) (Row.get 4 (T96 .locals) (m67 record { before = record
-            { before = record { before = record { before = record { before = record { before = c .before; handle-gate = c .handle-gate; }; pending =
-            record { given = g }; }; circuits = record { given = g' }; }; ledger = record { given = g'' }; }; inflight = record { given = g'3 }; };
-            out = record { given = g'4 }; } g'5) .name) (Row.get 4 (T96 .locals) (m67 record { before = record { before = record { before = record {
-            before = record { before = record { before = c .before; handle-gate = c .handle-gate; }; pending = record { given = g }; }; circuits =
-            record { given = g' }; }; ledger = record { given = g'' }; }; inflight = record { given = g'3 }; }; out = record { given = g'4 }; } g'5)
-            .now) (dens (c .before .before .before .before .before .before .before .before .before .before .before .before .before .before .before
-            .before .before .before .before .before .before .before .before .κs) (c .before .before .before .before .before .before .before .before
-            .before .before .before .before .before .before .before .before .before .before .before .before .before .before .before .args) .1 .1 .1 .0
-            .now) (same-length-4 record { before = record { before = record { before = record { before = record { before = record { before = record {
-            before = c .before; handle-gate = c .handle-gate; }; pending = record { given = g }; }; circuits = record { given = g' }; }; ledger =
-            record { given = g'' }; }; inflight = record { given = g'3 }; }; out = record { given = g'4 }; }; slice-known2 = record { given = g'5 };
-            }), (MutSlice.fix-len (Row.get 5 (T96 .locals) (m67 record { before = record { before = record { before = record { before = record {
-            before = record { before = c .before; handle-gate = c .handle-gate; }; pending = record { given = g }; }; circuits = record { given = g'
-            }; }; ledger = record { given = g'' }; }; inflight = record { given = g'3 }; }; out = record { given = g'4 }; } g'5) .ptr) (Row.get 5 (T96
-            .locals) (m67 record { before = record { before = record { before = record { before = record { before = record { before = c .before;
-            handle-gate = c .handle-gate; }; pending = record { given = g }; }; circuits = record { given = g' }; }; ledger = record { given = g'' };
-            }; inflight = record { given = g'3 }; }; out = record { given = g'4 }; } g'5) .name) (Row.get 5 (T96 .locals) (m67 record { before =
-            record { before = record { before = record { before = record { before = record { before = c .before; handle-gate = c .handle-gate; };
-            pending = record { given = g }; }; circuits = record { given = g' }; }; ledger = record { given = g'' }; }; inflight = record { given =
-            g'3 }; }; out = record { given = g'4 }; } g'5) .now) (dens (c .before .before .before .before .before .before .before .before .before
-            .before .before .before .before .before .before .before .before .before .before .before .before .before .before .κs) (c .before .before
-            .before .before .before .before .before .before .before .before .before .before .before .before .before .before .before .before .before
-            .before .before .before .before .args) .1 .1 .1 .1 .0 .now) (same-length-5 record { before = record { before = record { before = record {
-            before = record { before = record { before = record { before = c .before; handle-gate = c .handle-gate; }; pending = record { given = g };
-            }; circuits = record { given = g' }; }; ledger = record { given = g'' }; }; inflight = record { given = g'3 }; }; out = record { given =
-            g'4 }; }; slice-known2 = record { given = g'5 }; }), (tt, (tt, (tt, (Path.refl, (Path.refl, (Path.refl, (Path.refl,
-            tt)))),),),),),),),),), returns record { before = record { before = record { before = record { before = record { before = record { before
-            = record { before = c .before; handle-gate = c .handle-gate; }; pending = record { given = g }; }; circuits = record { given = g' }; };
-            ledger = record { given = g'' }; }; inflight = record { given = g'3 }; }; out = record { given = g'4 }; }; slice-known2 = record { given =
-            g'5 }; },),),),),),)
-        lay7 : (c : After-handle-gate-arg5) → at21 (c .before .before .before .before .before .before .before .before .before .before .before .before
-            .before .before .before .before .before .before .before .before .before .before .blocks) (W1 (c .before .before .before .before .before
-            .before .before .before .before .before .before .before .before) (After-is-taken·gave (c .before .before .before .before .before .before
-            .before .before .before .before .before .before))) (m56 (c .before) (c .handle-gate-arg5 .given))
-        lay7 = λ c. (handle-gate-requires record { before = c .before; handle-gate-arg5 = c .handle-gate-arg5; }, λ g. lay8 record { before = record {
-            before = c .before; handle-gate-arg5 = c .handle-gate-arg5 }; handle-gate = Called.called ps·6 r·6 (claims· .13) T75 (record { pos = 32;
-            ty = Syntax.tyRef Syntax.erased Syntax.mut RelayPending.to; ref = λ x. x; }, (record { pos = 34; ty = Syntax.tyRef Syntax.erased
-            Syntax.mut RelayCircuit.to; ref = λ x. x; }, (record { pos = 36; ty = Syntax.tyRef Syntax.erased Syntax.mut ReservationUsage.to; ref = λ
-            x. x; }, (record { pos = 38; ty = Syntax.tyRef Syntax.erased Syntax.mut InflightAction.to; ref = λ x. x; }, (record { pos = 40; ty =
-            Syntax.tyRef Syntax.erased Syntax.mut (Syntax.tyInt Syntax.w32); ref = λ x. x; }, (record { pos = 17; st = List.[]; d = 0; at = λ x. x },
-            (record { pos = 18; st = List.[]; d = 0; at = λ x. x }, (record { pos = 8; st = List.[]; d = 0; at = λ x. x }, (record { pos = 9; ty =
-            Syntax.tyRef (Syntax.named 5) Syntax.imm (Syntax.tyInt Syntax.w8); ref = λ x. x; }, (record { pos = 10; ty = Syntax.tyRef (Syntax.named 6)
-            Syntax.imm (Syntax.tyInt Syntax.w8); ref = λ x. x; }, (record { pos = 11; ty = Syntax.tyRef (Syntax.named 7) Syntax.imm (Syntax.tyInt
-            Syntax.w8); ref = λ x. x; }, (record { pos = 12; ty = Syntax.tyRef (Syntax.named 8) Syntax.imm (Syntax.tyInt Syntax.w8); ref = λ x. x; },
-            tt,),),),),),),),),),),),) (m56 (c .before) (c .handle-gate-arg5 .given)) g; },)
-        lay6 : (c : After-trim) → at53 (c .before .before .before .before .before .before .before .before .before .before .before .before .before
-            .before .before .before .before .blocks) (W1 (c .before .before .before .before .before .before .before .before) (After-is-taken·gave (c
-            .before .before .before .before .before .before .before))) (m37 (c .before) (After-trim·gave c))
-        lay6 = λ c. λ g. (Path.refl, λ g'. (Path.refl, λ g''. (Path.refl, λ g'3. (Path.refl, λ g'4. (Path.refl, lay7 record { before = record { before
-            = record { before = record { before = record { before = record { before = c .before; trim = c .trim }; handle-gate-arg = record { given =
-            g }; }; handle-gate-arg2 = record { given = g' }; }; handle-gate-arg3 = record { given = g'' }; }; handle-gate-arg4 = record { given = g'3
-            }; }; handle-gate-arg5 = record { given = g'4 }; },),),),),)
-        lay5 : (c : After-with-clock) → at67 (c .before .before .before .before .before .before .before .before .before .before .before .before
-            .blocks) (W1 (c .before .before .before) (After-is-taken·gave (c .before .before))) (m27 (c .before) (After-with-clock·gave c))
-        lay5 = λ c. λ g. (Path.refl, λ g'. (Path.refl, λ g''. (Path.refl, λ g'3. (Path.refl, (trim-requires record { before = record { before = record
-            { before = record { before = record { before = c .before; with-clock = c .with-clock }; trim-arg = record { given = g }; }; trim-arg2 =
-            record { given = g' }; }; trim-arg3 = record { given = g'' }; }; trim-arg4 = record { given = g'3 }; }, λ g'4. lay6 record { before =
-            record { before = record { before = record { before = record { before = record { before = c .before; with-clock = c .with-clock };
-            trim-arg = record { given = g }; }; trim-arg2 = record { given = g' }; }; trim-arg3 = record { given = g'' }; }; trim-arg4 = record {
-            given = g'3 }; }; trim = Called.called ps·5 r·5 (claims· .11) T42 (record { pos = 24; ty = Syntax.tyRef Syntax.erased Syntax.imm
-            RelayPending.to; ref = λ x. x; }, (record { pos = 26; ty = Syntax.tyRef Syntax.erased Syntax.imm RelayCircuit.to; ref = λ x. x; }, (record
-            { pos = 28; ty = Syntax.tyRef Syntax.erased Syntax.imm ReservationUsage.to; ref = λ x. x; }, (record { pos = 30; ty = Syntax.tyRef
-            Syntax.erased Syntax.imm InflightAction.to; ref = λ x. x; }, (record { pos = 7; st = List.[]; d = 0; at = λ x. x }, tt),),),),) (m36
-            record { before = record { before = record { before = record { before = c .before; with-clock = c .with-clock }; trim-arg = record { given
-            = g }; }; trim-arg2 = record { given = g' }; }; trim-arg3 = record { given = g'' }; } g'3) g'4; },),),),),)
-        lay4 : (c : After-is-taken) → at81 (c .before .before .before .before .before .before .before .before .before .before .blocks) (W0 (c .before
-            .before .before .before .before .before .before .before .before .before .κs) (c .before .before .before .before .before .before .before
-            .before .before .before .args) (c .before .before .before .before .before .before .before .before .before .before .blocks)) (m24 (c
-            .before) (After-is-taken·gave c))
-        lay4 = λ c. (λ taken. (with-clock-requires record { before = record { before = c .before; is-taken = c .is-taken }; if1 = record { taken =
-            taken }; }, λ g. lay5 record { before = record { before = record { before = c .before; is-taken = c .is-taken }; if1 = record { taken =
-            taken }; }; with-clock = Called.called ps·4 r·4 (claims· .9) T28 (record { pos = 6; st = List.[]; d = 0; at = λ x. x }, (Num.vFld 8
-            ((Syntax.field 2) ∷ List.[]) 16 λ x. RelayPacket.struct .as-values x .1 .1 .0, tt,),) (m26 record { before = c .before; is-taken = c
-            .is-taken }) g; },), λ left. lay9 record { before = record { before = c .before; is-taken = c .is-taken }; if1 = record { left = left };
-            },)
-        lay3 : (c : After-entry-answer) → at85 (c .before .before .before .before .before .before .before .before .before .blocks) (W0 (c .before
-            .before .before .before .before .before .before .before .before .κs) (c .before .before .before .before .before .before .before .before
-            .before .args) (c .before .before .before .before .before .before .before .before .before .blocks)) (m20 (c .before)
-            (After-entry-answer·gave c))
-        lay3 = λ c. (is-taken-requires record { before = c .before; entry-answer = c .entry-answer }, λ g. lay4 record { before = record { before = c
-            .before; entry-answer = c .entry-answer }; is-taken = Called.called ps·3 r·3 (claims· .7) T24 (record { pos = 16; st = List.[]; d = 0; at
-            = λ x. x }, tt,) (m23 (c .before) (After-entry-answer·gave c)) g; },)
-        lay2 : (c : After-room-answer) → at89 (c .before .before .before .before .before .before .before .before .blocks) (W0 (c .before .before
-            .before .before .before .before .before .before .κs) (c .before .before .before .before .before .before .before .before .args) (c .before
-            .before .before .before .before .before .before .before .blocks)) (m16 (c .before) (After-room-answer·gave c))
-        lay2 = λ c. (entry-answer-requires record { before = c .before; room-answer = c .room-answer }, λ g. lay3 record { before = record { before =
-            c .before; room-answer = c .room-answer }; entry-answer = Called.called ps·2 r·2 (claims· .5) T20 (record { pos = 15; st = List.[]; d = 0;
-            at = λ x. x }, (record { pos = 6; st = List.[]; d = 0; at = λ x. x }, (record { pos = 8; st = List.[]; d = 0; at = λ x. x }, (Num.vAt 21 λ
-            x. x, (Num.vAt 19 λ x. x, tt)),),),) (m19 (c .before) (After-room-answer·gave c)) g; },)
-        lay1 : (c : After-too-few) → at95 (c .before .before .before .before .before .before .before .blocks) (W0 (c .before .before .before .before
-            .before .before .before .κs) (c .before .before .before .before .before .before .before .args) (c .before .before .before .before .before
-            .before .before .blocks)) (m10 (c .before) (After-too-few·gave c))
-        lay1 = λ c. (room-answer-requires record { before = c .before; too-few = c .too-few }, λ g. lay2 record { before = record { before = c
-            .before; too-few = c .too-few }; room-answer = Called.called ps·1 r·1 (claims· .3) T16 (Num.vAt 19 λ x. x, (Bool.bAt 14 λ x. x, tt),) (m15
-            (c .before) (After-too-few·gave c)) g; },)
-        pub laid : (c : Start) → at105 (c .blocks) (W0 (c .κs) (c .args) (c .blocks)) (m0 (c .κs) (c .args) (c .blocks))
-        laid = λ c. λ g. λ g'. λ g''. λ g'3. λ g'4. (tt, λ g'5. (too-few-requires record { before = record { before = record { before = record {
-            before = record { before = record { before = c; slice-known = record { given = g } }; shared-slice-known = record { given = g' }; };
-            shared-slice-known2 = record { given = g'' }; }; shared-slice-known3 = record { given = g'3 }; }; shared-slice-known4 = record { given =
-            g'4 }; }; config = record { given = g'5 }; }, λ g'6. lay1 record { before = record { before = record { before = record { before = record {
-            before = record { before = record { before = c; slice-known = record { given = g } }; shared-slice-known = record { given = g' }; };
-            shared-slice-known2 = record { given = g'' }; }; shared-slice-known3 = record { given = g'3 }; }; shared-slice-known4 = record { given =
-            g'4 }; }; config = record { given = g'5 }; }; too-few = Called.called ps·0 r·0 (claims· .1) T10 (record { pos = 13; st = List.[]; d = 0;
-            at = λ x. x }, (Num.vAt 19 λ x. x, (Num.vAt 20 λ x. x, (Num.vAt 21 λ x. x, tt))),) (m9 record { before = record { before = record { before
-            = record { before = record { before = c; slice-known = record { given = g } }; shared-slice-known = record { given = g' }; };
-            shared-slice-known2 = record { given = g'' }; }; shared-slice-known3 = record { given = g'3 }; }; shared-slice-known4 = record { given =
-            g'4 }; } g'5) g'6; },),)
+        lay10 : (c : After-refused) → at79 (c .before .before .before .before .before .before .before .before .before
+            .before .before .before .blocks) (W0 (c .before .before .before .before .before .before .before .before
+            .before .before .before .before .κs) (c .before .before .before .before .before .before .before .before
+            .before .before .before .before .args) (c .before .before .before .before .before .before .before .before
+            .before .before .before .before .blocks)) (m70 (c .before) (After-refused·gave c))
+        lay10 = λ c. (
+          (
+            Path.refl,
+            (
+              Path.refl,
+              (
+                Path.refl,
+                (Path.refl, (Path.refl, (tt, (tt, (tt, (Path.refl, (Path.refl, (Path.refl, (Path.refl, tt))))))))),
+              ),
+            ),
+          ),
+          returns-2 record { before = c .before; refused = c .refused },
+        )
+
+        lay9 : (c : Else1) → at80 (c .before .before .before .before .before .before .before .before .before .before
+            .before .blocks) (W0 (c .before .before .before .before .before .before .before .before .before .before
+            .before .κs) (c .before .before .before .before .before .before .before .before .before .before .before
+            .args) (c .before .before .before .before .before .before .before .before .before .before .before .blocks))
+            (m69 (c .before))
+        lay9 = λ c. (
+          refused-requires record { before = c .before; if1 = c .if1 },
+          λ g. lay10 record {
+            before = record { before = c .before; if1 = c .if1 };
+            refused = Called.called ps·7 r·7 (claims· .15) T26 (
+              record { pos = 6; st = List.[]; d = 0; at = λ x. x },
+              (
+                record { pos = 7; st = List.[]; d = 0; at = λ x. x },
+                (record { pos = 16; st = List.[]; d = 0; at = λ x. x }, tt),
+              ),
+            ) (m69 (c .before)) g;
+          },
+        )
+
+        lay8 : (c : After-handle-gate) → at20 (c .before .before .before .before .before .before .before .before
+            .before .before .before .before .before .before .before .before .before .before .before .before .before
+            .before .before .blocks) (W1 (c .before .before .before .before .before .before .before .before .before
+            .before .before .before .before .before) (After-is-taken·gave (c .before .before .before .before .before
+            .before .before .before .before .before .before .before .before)))
+            (m57 (c .before) (After-handle-gate·gave c))
+        lay8 = λ c. (
+          Path.refl,
+          λ g. (
+            Path.refl,
+            λ g'. (
+              Path.refl,
+              λ g''. (
+                Path.refl,
+                λ g'3. (
+                  Path.refl,
+                  λ g'4. λ g'5. (
+                    (
+                      MutSlice.fix-len (Row.get 1 (T96 .locals) (m67
+                          record {
+                            before = record {
+                              before = record {
+                                before = record {
+                                  before = record {
+                                    before = record { before = c .before; handle-gate = c .handle-gate };
+                                    pending = record { given = g };
+                                  };
+                                  circuits = record { given = g' };
+                                };
+                                ledger = record { given = g'' };
+                              };
+                              inflight = record { given = g'3 };
+                            };
+                            out = record { given = g'4 };
+                          } g'5) .ptr) (Row.get 1 (T96 .locals) (m67
+                          record {
+                            before = record {
+                              before = record {
+                                before = record {
+                                  before = record {
+                                    before = record { before = c .before; handle-gate = c .handle-gate };
+                                    pending = record { given = g };
+                                  };
+                                  circuits = record { given = g' };
+                                };
+                                ledger = record { given = g'' };
+                              };
+                              inflight = record { given = g'3 };
+                            };
+                            out = record { given = g'4 };
+                          } g'5) .name) (Row.get 1 (T96 .locals) (m67
+                          record {
+                            before = record {
+                              before = record {
+                                before = record {
+                                  before = record {
+                                    before = record { before = c .before; handle-gate = c .handle-gate };
+                                    pending = record { given = g };
+                                  };
+                                  circuits = record { given = g' };
+                                };
+                                ledger = record { given = g'' };
+                              };
+                              inflight = record { given = g'3 };
+                            };
+                            out = record { given = g'4 };
+                          } g'5) .now) (dens (c .before .before .before .before .before .before .before .before .before
+                          .before .before .before .before .before .before .before .before .before .before .before
+                          .before .before .before .κs) (c .before .before .before .before .before .before .before
+                          .before .before .before .before .before .before .before .before .before .before .before
+                          .before .before .before .before .before .args) .0 .now) (same-length
+                          record {
+                            before = record {
+                              before = record {
+                                before = record {
+                                  before = record {
+                                    before = record {
+                                      before = record { before = c .before; handle-gate = c .handle-gate };
+                                      pending = record { given = g };
+                                    };
+                                    circuits = record { given = g' };
+                                  };
+                                  ledger = record { given = g'' };
+                                };
+                                inflight = record { given = g'3 };
+                              };
+                              out = record { given = g'4 };
+                            };
+                            slice-known2 = record { given = g'5 };
+                          }),
+                      (
+                        MutSlice.fix-len (Row.get 2 (T96 .locals) (m67
+                            record {
+                              before = record {
+                                before = record {
+                                  before = record {
+                                    before = record {
+                                      before = record { before = c .before; handle-gate = c .handle-gate };
+                                      pending = record { given = g };
+                                    };
+                                    circuits = record { given = g' };
+                                  };
+                                  ledger = record { given = g'' };
+                                };
+                                inflight = record { given = g'3 };
+                              };
+                              out = record { given = g'4 };
+                            } g'5) .ptr) (Row.get 2 (T96 .locals) (m67
+                            record {
+                              before = record {
+                                before = record {
+                                  before = record {
+                                    before = record {
+                                      before = record { before = c .before; handle-gate = c .handle-gate };
+                                      pending = record { given = g };
+                                    };
+                                    circuits = record { given = g' };
+                                  };
+                                  ledger = record { given = g'' };
+                                };
+                                inflight = record { given = g'3 };
+                              };
+                              out = record { given = g'4 };
+                            } g'5) .name) (Row.get 2 (T96 .locals) (m67
+                            record {
+                              before = record {
+                                before = record {
+                                  before = record {
+                                    before = record {
+                                      before = record { before = c .before; handle-gate = c .handle-gate };
+                                      pending = record { given = g };
+                                    };
+                                    circuits = record { given = g' };
+                                  };
+                                  ledger = record { given = g'' };
+                                };
+                                inflight = record { given = g'3 };
+                              };
+                              out = record { given = g'4 };
+                            } g'5) .now) (dens (c .before .before .before .before .before .before .before .before
+                            .before .before .before .before .before .before .before .before .before .before .before
+                            .before .before .before .before .κs) (c .before .before .before .before .before .before
+                            .before .before .before .before .before .before .before .before .before .before .before
+                            .before .before .before .before .before .before .args) .1 .0 .now) (same-length-2
+                            record {
+                              before = record {
+                                before = record {
+                                  before = record {
+                                    before = record {
+                                      before = record {
+                                        before = record { before = c .before; handle-gate = c .handle-gate };
+                                        pending = record { given = g };
+                                      };
+                                      circuits = record { given = g' };
+                                    };
+                                    ledger = record { given = g'' };
+                                  };
+                                  inflight = record { given = g'3 };
+                                };
+                                out = record { given = g'4 };
+                              };
+                              slice-known2 = record { given = g'5 };
+                            }),
+                        (
+                          MutSlice.fix-len (Row.get 3 (T96 .locals) (m67
+                              record {
+                                before = record {
+                                  before = record {
+                                    before = record {
+                                      before = record {
+                                        before = record { before = c .before; handle-gate = c .handle-gate };
+                                        pending = record { given = g };
+                                      };
+                                      circuits = record { given = g' };
+                                    };
+                                    ledger = record { given = g'' };
+                                  };
+                                  inflight = record { given = g'3 };
+                                };
+                                out = record { given = g'4 };
+                              } g'5) .ptr) (Row.get 3 (T96 .locals) (m67
+                              record {
+                                before = record {
+                                  before = record {
+                                    before = record {
+                                      before = record {
+                                        before = record { before = c .before; handle-gate = c .handle-gate };
+                                        pending = record { given = g };
+                                      };
+                                      circuits = record { given = g' };
+                                    };
+                                    ledger = record { given = g'' };
+                                  };
+                                  inflight = record { given = g'3 };
+                                };
+                                out = record { given = g'4 };
+                              } g'5) .name) (Row.get 3 (T96 .locals) (m67
+                              record {
+                                before = record {
+                                  before = record {
+                                    before = record {
+                                      before = record {
+                                        before = record { before = c .before; handle-gate = c .handle-gate };
+                                        pending = record { given = g };
+                                      };
+                                      circuits = record { given = g' };
+                                    };
+                                    ledger = record { given = g'' };
+                                  };
+                                  inflight = record { given = g'3 };
+                                };
+                                out = record { given = g'4 };
+                              } g'5) .now) (dens (c .before .before .before .before .before .before .before .before
+                              .before .before .before .before .before .before .before .before .before .before .before
+                              .before .before .before .before .κs) (c .before .before .before .before .before .before
+                              .before .before .before .before .before .before .before .before .before .before .before
+                              .before .before .before .before .before .before .args) .1 .1 .0 .now) (same-length-3
+                              record {
+                                before = record {
+                                  before = record {
+                                    before = record {
+                                      before = record {
+                                        before = record {
+                                          before = record { before = c .before; handle-gate = c .handle-gate };
+                                          pending = record { given = g };
+                                        };
+                                        circuits = record { given = g' };
+                                      };
+                                      ledger = record { given = g'' };
+                                    };
+                                    inflight = record { given = g'3 };
+                                  };
+                                  out = record { given = g'4 };
+                                };
+                                slice-known2 = record { given = g'5 };
+                              }),
+                          (
+                            MutSlice.fix-len (Row.get 4 (T96 .locals) (m67
+                                record {
+                                  before = record {
+                                    before = record {
+                                      before = record {
+                                        before = record {
+                                          before = record { before = c .before; handle-gate = c .handle-gate };
+                                          pending = record { given = g };
+                                        };
+                                        circuits = record { given = g' };
+                                      };
+                                      ledger = record { given = g'' };
+                                    };
+                                    inflight = record { given = g'3 };
+                                  };
+                                  out = record { given = g'4 };
+                                } g'5) .ptr) (Row.get 4 (T96 .locals) (m67
+                                record {
+                                  before = record {
+                                    before = record {
+                                      before = record {
+                                        before = record {
+                                          before = record { before = c .before; handle-gate = c .handle-gate };
+                                          pending = record { given = g };
+                                        };
+                                        circuits = record { given = g' };
+                                      };
+                                      ledger = record { given = g'' };
+                                    };
+                                    inflight = record { given = g'3 };
+                                  };
+                                  out = record { given = g'4 };
+                                } g'5) .name) (Row.get 4 (T96 .locals) (m67
+                                record {
+                                  before = record {
+                                    before = record {
+                                      before = record {
+                                        before = record {
+                                          before = record { before = c .before; handle-gate = c .handle-gate };
+                                          pending = record { given = g };
+                                        };
+                                        circuits = record { given = g' };
+                                      };
+                                      ledger = record { given = g'' };
+                                    };
+                                    inflight = record { given = g'3 };
+                                  };
+                                  out = record { given = g'4 };
+                                } g'5) .now) (dens (c .before .before .before .before .before .before .before .before
+                                .before .before .before .before .before .before .before .before .before .before .before
+                                .before .before .before .before .κs) (c .before .before .before .before .before .before
+                                .before .before .before .before .before .before .before .before .before .before .before
+                                .before .before .before .before .before .before .args) .1 .1 .1 .0 .now) (same-length-4
+                                record {
+                                  before = record {
+                                    before = record {
+                                      before = record {
+                                        before = record {
+                                          before = record {
+                                            before = record { before = c .before; handle-gate = c .handle-gate };
+                                            pending = record { given = g };
+                                          };
+                                          circuits = record { given = g' };
+                                        };
+                                        ledger = record { given = g'' };
+                                      };
+                                      inflight = record { given = g'3 };
+                                    };
+                                    out = record { given = g'4 };
+                                  };
+                                  slice-known2 = record { given = g'5 };
+                                }),
+                            (
+                              MutSlice.fix-len (Row.get 5 (T96 .locals) (m67
+                                  record {
+                                    before = record {
+                                      before = record {
+                                        before = record {
+                                          before = record {
+                                            before = record { before = c .before; handle-gate = c .handle-gate };
+                                            pending = record { given = g };
+                                          };
+                                          circuits = record { given = g' };
+                                        };
+                                        ledger = record { given = g'' };
+                                      };
+                                      inflight = record { given = g'3 };
+                                    };
+                                    out = record { given = g'4 };
+                                  } g'5) .ptr) (Row.get 5 (T96 .locals) (m67
+                                  record {
+                                    before = record {
+                                      before = record {
+                                        before = record {
+                                          before = record {
+                                            before = record { before = c .before; handle-gate = c .handle-gate };
+                                            pending = record { given = g };
+                                          };
+                                          circuits = record { given = g' };
+                                        };
+                                        ledger = record { given = g'' };
+                                      };
+                                      inflight = record { given = g'3 };
+                                    };
+                                    out = record { given = g'4 };
+                                  } g'5) .name) (Row.get 5 (T96 .locals) (m67
+                                  record {
+                                    before = record {
+                                      before = record {
+                                        before = record {
+                                          before = record {
+                                            before = record { before = c .before; handle-gate = c .handle-gate };
+                                            pending = record { given = g };
+                                          };
+                                          circuits = record { given = g' };
+                                        };
+                                        ledger = record { given = g'' };
+                                      };
+                                      inflight = record { given = g'3 };
+                                    };
+                                    out = record { given = g'4 };
+                                  } g'5) .now) (dens (c .before .before .before .before .before .before .before .before
+                                  .before .before .before .before .before .before .before .before .before .before
+                                  .before .before .before .before .before .κs) (c .before .before .before .before
+                                  .before .before .before .before .before .before .before .before .before .before
+                                  .before .before .before .before .before .before .before .before .before .args) .1 .1
+                                  .1 .1 .0 .now) (same-length-5
+                                  record {
+                                    before = record {
+                                      before = record {
+                                        before = record {
+                                          before = record {
+                                            before = record {
+                                              before = record { before = c .before; handle-gate = c .handle-gate };
+                                              pending = record { given = g };
+                                            };
+                                            circuits = record { given = g' };
+                                          };
+                                          ledger = record { given = g'' };
+                                        };
+                                        inflight = record { given = g'3 };
+                                      };
+                                      out = record { given = g'4 };
+                                    };
+                                    slice-known2 = record { given = g'5 };
+                                  }),
+                              (tt, (tt, (tt, (Path.refl, (Path.refl, (Path.refl, (Path.refl, tt))))))),
+                            ),
+                          ),
+                        ),
+                      ),
+                    ),
+                    returns record {
+                      before = record {
+                        before = record {
+                          before = record {
+                            before = record {
+                              before = record {
+                                before = record { before = c .before; handle-gate = c .handle-gate };
+                                pending = record { given = g };
+                              };
+                              circuits = record { given = g' };
+                            };
+                            ledger = record { given = g'' };
+                          };
+                          inflight = record { given = g'3 };
+                        };
+                        out = record { given = g'4 };
+                      };
+                      slice-known2 = record { given = g'5 };
+                    },
+                  ),
+                ),
+              ),
+            ),
+          ),
+        )
+
+        lay7 : (c : After-handle-gate-arg5) → at21 (c .before .before .before .before .before .before .before .before
+            .before .before .before .before .before .before .before .before .before .before .before .before .before
+            .before .blocks) (W1 (c .before .before .before .before .before .before .before .before .before .before
+            .before .before .before) (After-is-taken·gave (c .before .before .before .before .before .before .before
+            .before .before .before .before .before))) (m56 (c .before) (c .handle-gate-arg5 .given))
+        lay7 = λ c. (
+          handle-gate-requires record { before = c .before; handle-gate-arg5 = c .handle-gate-arg5 },
+          λ g. lay8 record {
+            before = record { before = c .before; handle-gate-arg5 = c .handle-gate-arg5 };
+            handle-gate = Called.called ps·6 r·6 (claims· .13) T75 (
+              record { pos = 32; ty = ref4; ref = λ x. x },
+              (
+                record { pos = 34; ty = ref5; ref = λ x. x },
+                (
+                  record { pos = 36; ty = ref6; ref = λ x. x },
+                  (
+                    record { pos = 38; ty = ref7; ref = λ x. x },
+                    (
+                      record { pos = 40; ty = ref8; ref = λ x. x },
+                      (
+                        record { pos = 17; st = List.[]; d = 0; at = λ x. x },
+                        (
+                          record { pos = 18; st = List.[]; d = 0; at = λ x. x },
+                          (
+                            record { pos = 8; st = List.[]; d = 0; at = λ x. x },
+                            (
+                              record { pos = 9; ty = ref14; ref = λ x. x },
+                              (
+                                record { pos = 10; ty = ref15; ref = λ x. x },
+                                (
+                                  record { pos = 11; ty = ref16; ref = λ x. x },
+                                  (record { pos = 12; ty = ref17; ref = λ x. x }, tt),
+                                ),
+                              ),
+                            ),
+                          ),
+                        ),
+                      ),
+                    ),
+                  ),
+                ),
+              ),
+            ) (m56 (c .before) (c .handle-gate-arg5 .given)) g;
+          },
+        )
+
+        lay6 : (c : After-trim) → at53 (c .before .before .before .before .before .before .before .before .before
+            .before .before .before .before .before .before .before .before .blocks) (W1 (c .before .before .before
+            .before .before .before .before .before) (After-is-taken·gave (c .before .before .before .before .before
+            .before .before))) (m37 (c .before) (After-trim·gave c))
+        lay6 = λ c. λ g. (
+          Path.refl,
+          λ g'. (
+            Path.refl,
+            λ g''. (
+              Path.refl,
+              λ g'3. (
+                Path.refl,
+                λ g'4. (
+                  Path.refl,
+                  lay7 record {
+                    before = record {
+                      before = record {
+                        before = record {
+                          before = record {
+                            before = record { before = c .before; trim = c .trim };
+                            handle-gate-arg = record { given = g };
+                          };
+                          handle-gate-arg2 = record { given = g' };
+                        };
+                        handle-gate-arg3 = record { given = g'' };
+                      };
+                      handle-gate-arg4 = record { given = g'3 };
+                    };
+                    handle-gate-arg5 = record { given = g'4 };
+                  },
+                ),
+              ),
+            ),
+          ),
+        )
+
+        lay5 : (c : After-with-clock) → at67 (c .before .before .before .before .before .before .before .before .before
+            .before .before .before .blocks) (W1 (c .before .before .before) (After-is-taken·gave (c .before .before)))
+            (m27 (c .before) (After-with-clock·gave c))
+        lay5 = λ c. λ g. (
+          Path.refl,
+          λ g'. (
+            Path.refl,
+            λ g''. (
+              Path.refl,
+              λ g'3. (
+                Path.refl,
+                (
+                  trim-requires record {
+                    before = record {
+                      before = record {
+                        before = record {
+                          before = record { before = c .before; with-clock = c .with-clock };
+                          trim-arg = record { given = g };
+                        };
+                        trim-arg2 = record { given = g' };
+                      };
+                      trim-arg3 = record { given = g'' };
+                    };
+                    trim-arg4 = record { given = g'3 };
+                  },
+                  λ g'4. lay6 record {
+                    before = record {
+                      before = record {
+                        before = record {
+                          before = record {
+                            before = record { before = c .before; with-clock = c .with-clock };
+                            trim-arg = record { given = g };
+                          };
+                          trim-arg2 = record { given = g' };
+                        };
+                        trim-arg3 = record { given = g'' };
+                      };
+                      trim-arg4 = record { given = g'3 };
+                    };
+                    trim = Called.called ps·5 r·5 (claims· .11) T42 (
+                      record { pos = 24; ty = ref0; ref = λ x. x },
+                      (
+                        record { pos = 26; ty = ref1; ref = λ x. x },
+                        (
+                          record { pos = 28; ty = ref2; ref = λ x. x },
+                          (
+                            record { pos = 30; ty = ref3; ref = λ x. x },
+                            (record { pos = 7; st = List.[]; d = 0; at = λ x. x }, tt),
+                          ),
+                        ),
+                      ),
+                    ) (m36 record {
+                      before = record {
+                        before = record {
+                          before = record { before = c .before; with-clock = c .with-clock };
+                          trim-arg = record { given = g };
+                        };
+                        trim-arg2 = record { given = g' };
+                      };
+                      trim-arg3 = record { given = g'' };
+                    } g'3) g'4;
+                  },
+                ),
+              ),
+            ),
+          ),
+        )
+
+        lay4 : (c : After-is-taken) → at81 (c .before .before .before .before .before .before .before .before .before
+            .before .blocks) (W0 (c .before .before .before .before .before .before .before .before .before .before .κs) (c
+            .before .before .before .before .before .before .before .before .before .before .args) (c .before .before
+            .before .before .before .before .before .before .before .before .blocks))
+            (m24 (c .before) (After-is-taken·gave c))
+        lay4 = λ c. (
+          λ taken. (
+            with-clock-requires record {
+              before = record { before = c .before; is-taken = c .is-taken };
+              if1 = record { taken = taken };
+            },
+            λ g. lay5 record {
+              before = record {
+                before = record { before = c .before; is-taken = c .is-taken };
+                if1 = record { taken = taken };
+              };
+              with-clock = Called.called ps·4 r·4 (claims· .9) T28 (
+                record { pos = 6; st = List.[]; d = 0; at = λ x. x },
+                (Num.vFld 8 ((Syntax.field 2) ∷ List.[]) 16 λ x. RelayPacket.struct .as-values x .1 .1 .0, tt),
+              ) (m26 record { before = c .before; is-taken = c .is-taken }) g;
+            },
+          ),
+          λ left. lay9 record {
+            before = record { before = c .before; is-taken = c .is-taken };
+            if1 = record { left = left };
+          },
+        )
+
+        lay3 : (c : After-entry-answer) → at85 (c .before .before .before .before .before .before .before .before
+            .before .blocks) (W0 (c .before .before .before .before .before .before .before .before .before .κs) (c
+            .before .before .before .before .before .before .before .before .before .args) (c .before .before .before
+            .before .before .before .before .before .before .blocks)) (m20 (c .before) (After-entry-answer·gave c))
+        lay3 = λ c. (
+          is-taken-requires record { before = c .before; entry-answer = c .entry-answer },
+          λ g. lay4 record {
+            before = record { before = c .before; entry-answer = c .entry-answer };
+            is-taken = Called.called ps·3 r·3 (claims· .7) T24
+                (record { pos = 16; st = List.[]; d = 0; at = λ x. x }, tt)
+                (m23 (c .before) (After-entry-answer·gave c)) g;
+          },
+        )
+
+        lay2 : (c : After-room-answer) → at89 (c .before .before .before .before .before .before .before .before
+            .blocks) (W0 (c .before .before .before .before .before .before .before .before .κs) (c .before .before
+            .before .before .before .before .before .before .args) (c .before .before .before .before .before .before
+            .before .before .blocks)) (m16 (c .before) (After-room-answer·gave c))
+        lay2 = λ c. (
+          entry-answer-requires record { before = c .before; room-answer = c .room-answer },
+          λ g. lay3 record {
+            before = record { before = c .before; room-answer = c .room-answer };
+            entry-answer = Called.called ps·2 r·2 (claims· .5) T20 (
+              record { pos = 15; st = List.[]; d = 0; at = λ x. x },
+              (
+                record { pos = 6; st = List.[]; d = 0; at = λ x. x },
+                (record { pos = 8; st = List.[]; d = 0; at = λ x. x }, (Num.vAt 21 λ x. x, (Num.vAt 19 λ x. x, tt))),
+              ),
+            ) (m19 (c .before) (After-room-answer·gave c)) g;
+          },
+        )
+
+        lay1 : (c : After-too-few) → at95 (c .before .before .before .before .before .before .before .blocks) (W0 (c
+            .before .before .before .before .before .before .before .κs) (c .before .before .before .before .before
+            .before .before .args) (c .before .before .before .before .before .before .before .blocks))
+            (m10 (c .before) (After-too-few·gave c))
+        lay1 = λ c. (
+          room-answer-requires record { before = c .before; too-few = c .too-few },
+          λ g. lay2 record {
+            before = record { before = c .before; too-few = c .too-few };
+            room-answer = Called.called ps·1 r·1 (claims· .3) T16 (Num.vAt 19 λ x. x, (Bool.bAt 14 λ x. x, tt))
+                (m15 (c .before) (After-too-few·gave c)) g;
+          },
+        )
+
+        pub laid : (c : Start) → at105 (c .blocks) (W0 (c .κs) (c .args) (c .blocks))
+            (m0 (c .κs) (c .args) (c .blocks))
+        laid = λ c. λ g. λ g'. λ g''. λ g'3. λ g'4. (
+          tt,
+          λ g'5. (
+            too-few-requires record {
+              before = record {
+                before = record {
+                  before = record {
+                    before = record {
+                      before = record { before = c; slice-known = record { given = g } };
+                      shared-slice-known = record { given = g' };
+                    };
+                    shared-slice-known2 = record { given = g'' };
+                  };
+                  shared-slice-known3 = record { given = g'3 };
+                };
+                shared-slice-known4 = record { given = g'4 };
+              };
+              config = record { given = g'5 };
+            },
+            λ g'6. lay1 record {
+              before = record {
+                before = record {
+                  before = record {
+                    before = record {
+                      before = record {
+                        before = record { before = c; slice-known = record { given = g } };
+                        shared-slice-known = record { given = g' };
+                      };
+                      shared-slice-known2 = record { given = g'' };
+                    };
+                    shared-slice-known3 = record { given = g'3 };
+                  };
+                  shared-slice-known4 = record { given = g'4 };
+                };
+                config = record { given = g'5 };
+              };
+              too-few = Called.called ps·0 r·0 (claims· .1) T10 (
+                record { pos = 13; st = List.[]; d = 0; at = λ x. x },
+                (Num.vAt 19 λ x. x, (Num.vAt 20 λ x. x, (Num.vAt 21 λ x. x, tt))),
+              ) (m9 record {
+                before = record {
+                  before = record {
+                    before = record {
+                      before = record { before = c; slice-known = record { given = g } };
+                      shared-slice-known = record { given = g' };
+                    };
+                    shared-slice-known2 = record { given = g'' };
+                  };
+                  shared-slice-known3 = record { given = g'3 };
+                };
+                shared-slice-known4 = record { given = g'4 };
+              } g'5) g'6;
+            },
+          ),
+        )
+
         module _ (κs : Lifetimes.Lfts 9) (qs : Lifetimes.Shares 9) where
-          pub asked : (a : Kinds.Dens κs ps) → (good : Kinds.GoodsP κs ps a) → (pre : Pre· κs a) → (bs : List.List Nat.ℕ) → Φ bs (Any.wantQ 9 ps r xs
-              m κs qs a (Post· κs a)) (Function.init 9 ps r xs m κs qs a)
-          asked = λ a good pre bs. laid record { κs = κs; args = record { pending = a .0; circuits = a .1 .0; ledger = a .1 .1 .0; inflight = a .1 .1
-              .1 .0; out = a .1 .1 .1 .1 .0; runtime = a .1 .1 .1 .1 .1 .0; places = a .1 .1 .1 .1 .1 .1 .0; packet = a .1 .1 .1 .1 .1 .1 .1 .0;
-              source = a .1 .1 .1 .1 .1 .1 .1 .1 .0; body = a .1 .1 .1 .1 .1 .1 .1 .1 .1 .0; endpoint = a .1 .1 .1 .1 .1 .1 .1 .1 .1 .1 .0; random = a
-              .1 .1 .1 .1 .1 .1 .1 .1 .1 .1 .1 .0; }; blocks = bs; good = good; pre = pre; }
-        module _ { M : Type 1 } (𝓤 : URA.URA M) (H : Wp.Heap 𝓤) (A : Atoms.Atoms 𝓤) (W : Kit.Given 𝓤 H A) (𝓣 : Wp.Tables 𝓤 H) (known0 : Plain.Known 𝓤
-            H A W 𝓣 0 ps·0 r·0 (claims· .0) (claims· .1) "hnsr_circuit::entry::too_few") (known1 : Plain.Known 𝓤 H A W 𝓣 0 ps·1 r·1 (claims· .2)
-            (claims· .3) "hnsr_circuit::handle::room_answer") (known2 : Plain.Known 𝓤 H A W 𝓣 0 ps·2 r·2 (claims· .4) (claims· .5)
+          pub asked : (a : Kinds.Dens κs ps) → (good : Kinds.GoodsP κs ps a) → (pre : Pre· κs a) →
+              (bs : List.List Nat.ℕ) → Φ bs (Any.wantQ 9 ps r xs m κs qs a (Post· κs a))
+              (Function.init 9 ps r xs m κs qs a)
+          asked = λ a good pre bs. laid record {
+            κs = κs;
+            args = record {
+              pending = a .0;
+              circuits = a .1 .0;
+              ledger = a .1 .1 .0;
+              inflight = a .1 .1 .1 .0;
+              out = a .1 .1 .1 .1 .0;
+              runtime = a .1 .1 .1 .1 .1 .0;
+              places = a .1 .1 .1 .1 .1 .1 .0;
+              packet = a .1 .1 .1 .1 .1 .1 .1 .0;
+              source = a .1 .1 .1 .1 .1 .1 .1 .1 .0;
+              body = a .1 .1 .1 .1 .1 .1 .1 .1 .1 .0;
+              endpoint = a .1 .1 .1 .1 .1 .1 .1 .1 .1 .1 .0;
+              random = a .1 .1 .1 .1 .1 .1 .1 .1 .1 .1 .1 .0;
+            };
+            blocks = bs;
+            good = good;
+            pre = pre;
+          }
+
+        module _ {M : Type 1} (𝓤 : URA.URA M) (H : Wp.Heap 𝓤) (A : Atoms.Atoms 𝓤) (W : Kit.Given 𝓤 H A)
+            (𝓣 : Wp.Tables 𝓤 H) (known0 : Plain.Known 𝓤 H A W 𝓣 0 ps·0 r·0 (claims· .0) (claims· .1)
+            "hnsr_circuit::entry::too_few") (known1 : Plain.Known 𝓤 H A W 𝓣 0 ps·1 r·1 (claims· .2) (claims· .3)
+            "hnsr_circuit::handle::room_answer") (known2 : Plain.Known 𝓤 H A W 𝓣 0 ps·2 r·2 (claims· .4) (claims· .5)
             "hnsr_circuit::handle::entry_answer") (known3 : Plain.Known 𝓤 H A W 𝓣 0 ps·3 r·3 (claims· .6) (claims· .7)
-            "hnsr_circuit::answer::is_taken") (known4 : Plain.Known 𝓤 H A W 𝓣 0 ps·4 r·4 (claims· .8) (claims· .9) "hnsr_circuit::header::with_clock")
-            (known5 : Plain.Known 𝓤 H A W 𝓣 4 ps·5 r·5 (claims· .10) (claims· .11) "hnsr_circuit::lookup::trim") (known6 : Plain.Known 𝓤 H A W 𝓣 9
-            ps·6 r·6 (claims· .12) (claims· .13) "hnsr_circuit::handle::handle_gate") (known7 : Plain.Known 𝓤 H A W 𝓣 0 ps·7 r·7 (claims· .14)
-            (claims· .15) "hnsr_circuit::revoking_calls::refused") where
-          pub spec : Statement.Triple 𝓤 (Wp.WpFn 𝓤 H (𝓣 .C) (𝓣 .Λ) (Function.fnOf 9 ps r xs m hs body)) (Function.plainOf 𝓤 H A 9 ps r Pre· Post·)
-          spec = Plain.t-fn-plain 𝓤 H A W 𝓣 9 ps r xs m hs body (λ κs qs bs. Φ bs) (λ κs qs bs bd. typed κs qs 𝓤 H A W 𝓣 (known0, known1, known2,
-              known3, known4, known5, known6, known7,) bs bd) Pre· Post· asked
+            "hnsr_circuit::answer::is_taken") (known4 : Plain.Known 𝓤 H A W 𝓣 0 ps·4 r·4 (claims· .8) (claims· .9)
+            "hnsr_circuit::header::with_clock") (known5 : Plain.Known 𝓤 H A W 𝓣 4 ps·5 r·5 (claims· .10) (claims· .11)
+            "hnsr_circuit::lookup::trim") (known6 : Plain.Known 𝓤 H A W 𝓣 9 ps·6 r·6 (claims· .12) (claims· .13)
+            "hnsr_circuit::handle::handle_gate") (known7 : Plain.Known 𝓤 H A W 𝓣 0 ps·7 r·7 (claims· .14) (claims· .15)
+            "hnsr_circuit::revoking_calls::refused") where
+          pub spec : Statement.Triple 𝓤 (Wp.WpFn 𝓤 H (𝓣 .C) (𝓣 .Λ) (Function.fnOf 9 ps r xs m hs body))
+              (Function.plainOf 𝓤 H A 9 ps r Pre· Post·)
+          spec = Plain.t-fn-plain 𝓤 H A W 𝓣 9 ps r xs m hs body (λ κs qs bs. Φ bs) (λ κs qs bs bd. typed κs qs 𝓤 H A W
+              𝓣 (known0, known1, known2, known3, known4, known5, known6, known7) bs bd) Pre· Post· asked

@@ -4,6 +4,7 @@ use Rattle.hnsr_circuit.proofs.By.InflightAction
 use Rattle.hnsr_circuit.proofs.By.RelayCircuit
 use Rattle.hnsr_circuit.proofs.By.RelayPending
 use Rattle.hnsr_circuit.proofs.By.ReservationUsage
+use Rattle.hnsr_circuit.proofs.StructRow
 use Rattle.hnsr_circuit.proofs.answer.HnsrAnswer
 use Rattle.hnsr_circuit.proofs.answer.HnsrAnswer.Laws
 use Rattle.hnsr_circuit.proofs.places.Places
@@ -16,6 +17,7 @@ use Rattle.hnsr_circuit.proofs.runtime.Relayed
 use Rattle.hnsr_circuit.proofs.runtime.Relayed.Laws as Laws''''
 use borrow.Author.Called
 use borrow.Fn.Any
+use borrow.Fn.Args as Args'
 use borrow.Fn.Call
 use borrow.Fn.Enter
 use borrow.Fn.Frame
@@ -25,7 +27,6 @@ use borrow.Fn.Plain
 use borrow.Kind.Bool
 use borrow.Kind.MutSlice
 use borrow.Kind.ShrSlice
-use borrow.Kind.Value
 use borrow.Rule.Lifetime
 use borrow.Rule.Local
 use borrow.Rule.Scalar
@@ -43,10 +44,7 @@ use borrow.Table.Rows
 use borrow.Table.Typed
 use contract.Lifetimes
 use denote.Enum.Declared
-use denote.Enum.Laws as Laws'''''
-use denote.Exit
 use denote.Struct.Declared as Declared'
-use denote.Struct.Laws as Laws''''''
 use denote.Triple.Clauses
 use denote.Triple.Statement
 use ghost.Atoms
@@ -63,1702 +61,3125 @@ use mathlib.Core.List.{_∷_}
 
 abbrev ref0 : Syntax.Ty
 ref0 = Syntax.tyRef Syntax.erased Syntax.mut RelayPending.to
+
 abbrev ref1 : Syntax.Ty
 ref1 = Syntax.tyRef Syntax.erased Syntax.mut RelayCircuit.to
+
 abbrev ref2 : Syntax.Ty
 ref2 = Syntax.tyRef Syntax.erased Syntax.mut ReservationUsage.to
+
 abbrev ref3 : Syntax.Ty
 ref3 = Syntax.tyRef Syntax.erased Syntax.mut InflightAction.to
+
 abbrev ref4 : Syntax.Ty
 ref4 = Syntax.tyRef Syntax.erased Syntax.mut (Syntax.tyInt Syntax.w32)
+
 abbrev ref5 : Syntax.Ty
 ref5 = Syntax.tyRef (Syntax.named 0) Syntax.mut RelayPending.to
+
 abbrev ref6 : Syntax.Ty
 ref6 = Syntax.tyRef (Syntax.named 1) Syntax.mut RelayCircuit.to
+
 abbrev ref7 : Syntax.Ty
 ref7 = Syntax.tyRef (Syntax.named 2) Syntax.mut ReservationUsage.to
+
 abbrev ref8 : Syntax.Ty
 ref8 = Syntax.tyRef (Syntax.named 3) Syntax.mut InflightAction.to
+
 abbrev ref9 : Syntax.Ty
 ref9 = Syntax.tyRef (Syntax.named 4) Syntax.mut (Syntax.tyInt Syntax.w32)
+
 abbrev ref10 : Syntax.Ty
 ref10 = Syntax.tyRef (Syntax.named 5) Syntax.imm (Syntax.tyInt Syntax.w8)
+
 abbrev ref11 : Syntax.Ty
 ref11 = Syntax.tyRef (Syntax.named 6) Syntax.imm (Syntax.tyInt Syntax.w8)
+
 abbrev ref12 : Syntax.Ty
 ref12 = Syntax.tyRef (Syntax.named 7) Syntax.imm (Syntax.tyInt Syntax.w8)
+
 abbrev ref13 : Syntax.Ty
 ref13 = Syntax.tyRef (Syntax.named 8) Syntax.imm (Syntax.tyInt Syntax.w8)
+
+abbrev slice0 : Syntax.Ty
+slice0 = Syntax.tyStruct (38 ∷ 91 ∷ 93 ∷ List.[]) (Syntax.tcons ref0
+    (Syntax.tcons (Syntax.tyInt Syntax.w64) Syntax.tnil))
+
+abbrev slice1 : Syntax.Ty
+slice1 = Syntax.tyStruct (38 ∷ 91 ∷ 93 ∷ List.[]) (Syntax.tcons ref1
+    (Syntax.tcons (Syntax.tyInt Syntax.w64) Syntax.tnil))
+
+abbrev slice2 : Syntax.Ty
+slice2 = Syntax.tyStruct (38 ∷ 91 ∷ 93 ∷ List.[]) (Syntax.tcons ref2
+    (Syntax.tcons (Syntax.tyInt Syntax.w64) Syntax.tnil))
+
+abbrev slice3 : Syntax.Ty
+slice3 = Syntax.tyStruct (38 ∷ 91 ∷ 93 ∷ List.[]) (Syntax.tcons ref3
+    (Syntax.tcons (Syntax.tyInt Syntax.w64) Syntax.tnil))
+
+abbrev slice4 : Syntax.Ty
+slice4 = Syntax.tyStruct (38 ∷ 91 ∷ 93 ∷ List.[]) (Syntax.tcons ref4
+    (Syntax.tcons (Syntax.tyInt Syntax.w64) Syntax.tnil))
+
 abbrev pub ps : List.List (Kinds.PK 9)
-ps = (MutSlice.pMutS RelayPending.row 0 tt) ∷ (MutSlice.pMutS RelayCircuit.row 1 tt) ∷ (MutSlice.pMutS ReservationUsage.row 2 tt) ∷ (MutSlice.pMutS
-    InflightAction.row 3 tt) ∷ (MutSlice.pMutS (Referent.rtF (Referent.fInt Syntax.w32)) 4 tt) ∷ (Value.pVal record { ty = Declared'.row
-    OpaqueRelayRuntime.the-type; one = Path.refl; val = Laws''''''.val OpaqueRelayRuntime.the-type Laws'''.the-laws; tells = Laws''''''.tells
-    OpaqueRelayRuntime.the-type Laws'''.the-laws; still = Laws''''''.still OpaqueRelayRuntime.the-type Laws'''.the-copy Exit.yes; row = Rows.whole
-    (Declared'.row OpaqueRelayRuntime.the-type); rd = λ x. x; mk = λ x. x; } λ M 𝓤 H A W. record { copies = Laws''''''.copy
-    OpaqueRelayRuntime.the-type Laws'''.the-copy 𝓤 H A W; lawful = Laws''''''.lawful OpaqueRelayRuntime.the-type Laws'''.the-laws 𝓤 H A W; makes =
-    Laws''''''.makes OpaqueRelayRuntime.the-type Laws'''.the-plain 𝓤 H A; in-mem = Local.mem-whole 𝓤 H A W (Declared'.row
-    OpaqueRelayRuntime.the-type); of-mem = Local.whole-mem 𝓤 H A W (Declared'.row OpaqueRelayRuntime.the-type); }) ∷ (Value.pVal record { ty =
-    Declared'.row Places.the-type; one = Path.refl; val = Laws''''''.val Places.the-type Laws'.the-laws; tells = Laws''''''.tells Places.the-type
-    Laws'.the-laws; still = Laws''''''.still Places.the-type Laws'.the-copy Exit.yes; row = Rows.whole (Declared'.row Places.the-type); rd = λ x. x;
-    mk = λ x. x; } λ M 𝓤 H A W. record { copies = Laws''''''.copy Places.the-type Laws'.the-copy 𝓤 H A W; lawful = Laws''''''.lawful Places.the-type
-    Laws'.the-laws 𝓤 H A W; makes = Laws''''''.makes Places.the-type Laws'.the-plain 𝓤 H A; in-mem = Local.mem-whole 𝓤 H A W (Declared'.row
-    Places.the-type); of-mem = Local.whole-mem 𝓤 H A W (Declared'.row Places.the-type); }) ∷ (Value.pVal record { ty = Declared'.row
-    RelayPacket.the-type; one = Path.refl; val = Laws''''''.val RelayPacket.the-type Laws''.the-laws; tells = Laws''''''.tells RelayPacket.the-type
-    Laws''.the-laws; still = Laws''''''.still RelayPacket.the-type Laws''.the-copy Exit.yes; row = Rows.whole (Declared'.row RelayPacket.the-type); rd
-    = λ x. x; mk = λ x. x; } λ M 𝓤 H A W. record { copies = Laws''''''.copy RelayPacket.the-type Laws''.the-copy 𝓤 H A W; lawful = Laws''''''.lawful
-    RelayPacket.the-type Laws''.the-laws 𝓤 H A W; makes = Laws''''''.makes RelayPacket.the-type Laws''.the-plain 𝓤 H A; in-mem = Local.mem-whole 𝓤 H A
-    W (Declared'.row RelayPacket.the-type); of-mem = Local.whole-mem 𝓤 H A W (Declared'.row RelayPacket.the-type); }) ∷ (ShrSlice.pShrS (Referent.rtF
-    (Referent.fInt Syntax.w8)) 5 tt) ∷ (ShrSlice.pShrS (Referent.rtF (Referent.fInt Syntax.w8)) 6 tt) ∷ (ShrSlice.pShrS (Referent.rtF (Referent.fInt
-    Syntax.w8)) 7 tt) ∷ (ShrSlice.pShrS (Referent.rtF (Referent.fInt Syntax.w8)) 8 tt) ∷ List.[]
+ps = (MutSlice.pMutS RelayPending.row 0 tt) ∷ (MutSlice.pMutS RelayCircuit.row 1 tt) ∷
+    (MutSlice.pMutS ReservationUsage.row 2 tt) ∷ (MutSlice.pMutS InflightAction.row 3 tt) ∷ (MutSlice.pMutS
+    (Referent.rtF (Referent.fInt Syntax.w32)) 4 tt) ∷ (StructRow.param OpaqueRelayRuntime.the-type Laws'''.the-laws
+    Laws'''.the-copy Laws'''.the-plain) ∷ (StructRow.param Places.the-type Laws'.the-laws Laws'.the-copy
+    Laws'.the-plain) ∷ (StructRow.param RelayPacket.the-type Laws''.the-laws Laws''.the-copy Laws''.the-plain) ∷ (ShrSlice.pShrS
+    (Referent.rtF (Referent.fInt Syntax.w8)) 5 tt) ∷ (ShrSlice.pShrS (Referent.rtF (Referent.fInt Syntax.w8)) 6 tt) ∷ (ShrSlice.pShrS
+    (Referent.rtF (Referent.fInt Syntax.w8)) 7 tt) ∷ (ShrSlice.pShrS (Referent.rtF (Referent.fInt Syntax.w8)) 8 tt) ∷
+    List.[]
+
 abbrev pub r : Kinds.RK 9
-r = Value.rVal record { ty = Declared'.row Relayed.the-type; one = Path.refl; val = Laws''''''.val Relayed.the-type Laws''''.the-laws; tells =
-    Laws''''''.tells Relayed.the-type Laws''''.the-laws; still = Laws''''''.still Relayed.the-type Laws''''.the-copy Exit.yes; row = Rows.whole
-    (Declared'.row Relayed.the-type); rd = λ x. x; mk = λ x. x; } λ M 𝓤 H A W. record { copies = Laws''''''.copy Relayed.the-type Laws''''.the-copy 𝓤
-    H A W; lawful = Laws''''''.lawful Relayed.the-type Laws''''.the-laws 𝓤 H A W; makes = Laws''''''.makes Relayed.the-type Laws''''.the-plain 𝓤 H A;
-    in-mem = Local.mem-whole 𝓤 H A W (Declared'.row Relayed.the-type); of-mem = Local.whole-mem 𝓤 H A W (Declared'.row Relayed.the-type); }
+r = StructRow.result Relayed.the-type Laws''''.the-laws Laws''''.the-copy Laws''''.the-plain
+
 abbrev pub xs : List.List Syntax.Ty
-xs = Laws.mir ∷ Syntax.tyBool ∷ ref0 ∷ (Syntax.tyStruct (38 ∷ 91 ∷ 93 ∷ List.[]) (Syntax.tcons ref0 (Syntax.tcons (Syntax.tyInt Syntax.w64)
-    Syntax.tnil))) ∷ ref1 ∷ (Syntax.tyStruct (38 ∷ 91 ∷ 93 ∷ List.[]) (Syntax.tcons ref1 (Syntax.tcons (Syntax.tyInt Syntax.w64) Syntax.tnil))) ∷ ref2
-    ∷ (Syntax.tyStruct (38 ∷ 91 ∷ 93 ∷ List.[]) (Syntax.tcons ref2 (Syntax.tcons (Syntax.tyInt Syntax.w64) Syntax.tnil))) ∷ ref3 ∷ (Syntax.tyStruct
-    (38 ∷ 91 ∷ 93 ∷ List.[]) (Syntax.tcons ref3 (Syntax.tcons (Syntax.tyInt Syntax.w64) Syntax.tnil))) ∷ ref4 ∷ (Syntax.tyStruct (38 ∷ 91 ∷ 93 ∷
-    List.[]) (Syntax.tcons ref4 (Syntax.tcons (Syntax.tyInt Syntax.w64) Syntax.tnil))) ∷ List.[]
+xs = Laws.mir ∷ Syntax.tyBool ∷ ref0 ∷ slice0 ∷ ref1 ∷ slice1 ∷ ref2 ∷ slice2 ∷ ref3 ∷ slice3 ∷ ref4 ∷ slice4 ∷ List.[]
+
 abbrev pub m : Nat.ℕ
 m = 5
+
 abbrev pub ps·0 : List.List (Kinds.PK 0)
 ps·0 = Bool.pBool ∷ List.[]
+
 abbrev pub r·0 : Kinds.RK 0
-r·0 = Value.rVal record { ty = Declared.row HnsrAnswer.the-type; one = Path.refl; val = Laws'''''.val HnsrAnswer.the-type Laws.the-laws; tells =
-    Laws'''''.tells HnsrAnswer.the-type Laws.the-laws; still = Laws'''''.still HnsrAnswer.the-type Laws.the-copy Exit.yes; row = Rows.whole
-    (Declared.row HnsrAnswer.the-type); rd = λ x. x; mk = λ x. x; } λ M 𝓤 H A W. record { copies = Laws'''''.copy HnsrAnswer.the-type Laws.the-copy 𝓤
-    H A W; lawful = Laws'''''.lawful HnsrAnswer.the-type Laws.the-laws 𝓤 H A W tt; makes = Laws'''''.makes HnsrAnswer.the-type Laws.the-plain 𝓤 H A;
-    in-mem = Local.mem-whole 𝓤 H A W (Declared.row HnsrAnswer.the-type); of-mem = Local.whole-mem 𝓤 H A W (Declared.row HnsrAnswer.the-type); }
+r·0 = StructRow.enum-result HnsrAnswer.the-type Laws.the-laws Laws.the-copy Laws.the-plain tt
+
 abbrev pub ps·1 : List.List (Kinds.PK 0)
-ps·1 = (Value.pVal record { ty = Declared.row HnsrAnswer.the-type; one = Path.refl; val = Laws'''''.val HnsrAnswer.the-type Laws.the-laws; tells =
-    Laws'''''.tells HnsrAnswer.the-type Laws.the-laws; still = Laws'''''.still HnsrAnswer.the-type Laws.the-copy Exit.yes; row = Rows.whole
-    (Declared.row HnsrAnswer.the-type); rd = λ x. x; mk = λ x. x; } λ M 𝓤 H A W. record { copies = Laws'''''.copy HnsrAnswer.the-type Laws.the-copy 𝓤
-    H A W; lawful = Laws'''''.lawful HnsrAnswer.the-type Laws.the-laws 𝓤 H A W tt; makes = Laws'''''.makes HnsrAnswer.the-type Laws.the-plain 𝓤 H A;
-    in-mem = Local.mem-whole 𝓤 H A W (Declared.row HnsrAnswer.the-type); of-mem = Local.whole-mem 𝓤 H A W (Declared.row HnsrAnswer.the-type); }) ∷
-    List.[]
+ps·1 = (StructRow.enum-param HnsrAnswer.the-type Laws.the-laws Laws.the-copy Laws.the-plain tt) ∷ List.[]
+
 abbrev pub r·1 : Kinds.RK 0
 r·1 = Bool.rBool
+
 abbrev pub ps·2 : List.List (Kinds.PK 9)
-ps·2 = (MutSlice.pMutS RelayPending.row 0 tt) ∷ (MutSlice.pMutS RelayCircuit.row 1 tt) ∷ (MutSlice.pMutS ReservationUsage.row 2 tt) ∷ (MutSlice.pMutS
-    InflightAction.row 3 tt) ∷ (MutSlice.pMutS (Referent.rtF (Referent.fInt Syntax.w32)) 4 tt) ∷ (Value.pVal record { ty = Declared'.row
-    OpaqueRelayRuntime.the-type; one = Path.refl; val = Laws''''''.val OpaqueRelayRuntime.the-type Laws'''.the-laws; tells = Laws''''''.tells
-    OpaqueRelayRuntime.the-type Laws'''.the-laws; still = Laws''''''.still OpaqueRelayRuntime.the-type Laws'''.the-copy Exit.yes; row = Rows.whole
-    (Declared'.row OpaqueRelayRuntime.the-type); rd = λ x. x; mk = λ x. x; } λ M 𝓤 H A W. record { copies = Laws''''''.copy
-    OpaqueRelayRuntime.the-type Laws'''.the-copy 𝓤 H A W; lawful = Laws''''''.lawful OpaqueRelayRuntime.the-type Laws'''.the-laws 𝓤 H A W; makes =
-    Laws''''''.makes OpaqueRelayRuntime.the-type Laws'''.the-plain 𝓤 H A; in-mem = Local.mem-whole 𝓤 H A W (Declared'.row
-    OpaqueRelayRuntime.the-type); of-mem = Local.whole-mem 𝓤 H A W (Declared'.row OpaqueRelayRuntime.the-type); }) ∷ (Value.pVal record { ty =
-    Declared'.row Places.the-type; one = Path.refl; val = Laws''''''.val Places.the-type Laws'.the-laws; tells = Laws''''''.tells Places.the-type
-    Laws'.the-laws; still = Laws''''''.still Places.the-type Laws'.the-copy Exit.yes; row = Rows.whole (Declared'.row Places.the-type); rd = λ x. x;
-    mk = λ x. x; } λ M 𝓤 H A W. record { copies = Laws''''''.copy Places.the-type Laws'.the-copy 𝓤 H A W; lawful = Laws''''''.lawful Places.the-type
-    Laws'.the-laws 𝓤 H A W; makes = Laws''''''.makes Places.the-type Laws'.the-plain 𝓤 H A; in-mem = Local.mem-whole 𝓤 H A W (Declared'.row
-    Places.the-type); of-mem = Local.whole-mem 𝓤 H A W (Declared'.row Places.the-type); }) ∷ (Value.pVal record { ty = Declared'.row
-    RelayPacket.the-type; one = Path.refl; val = Laws''''''.val RelayPacket.the-type Laws''.the-laws; tells = Laws''''''.tells RelayPacket.the-type
-    Laws''.the-laws; still = Laws''''''.still RelayPacket.the-type Laws''.the-copy Exit.yes; row = Rows.whole (Declared'.row RelayPacket.the-type); rd
-    = λ x. x; mk = λ x. x; } λ M 𝓤 H A W. record { copies = Laws''''''.copy RelayPacket.the-type Laws''.the-copy 𝓤 H A W; lawful = Laws''''''.lawful
-    RelayPacket.the-type Laws''.the-laws 𝓤 H A W; makes = Laws''''''.makes RelayPacket.the-type Laws''.the-plain 𝓤 H A; in-mem = Local.mem-whole 𝓤 H A
-    W (Declared'.row RelayPacket.the-type); of-mem = Local.whole-mem 𝓤 H A W (Declared'.row RelayPacket.the-type); }) ∷ (ShrSlice.pShrS (Referent.rtF
-    (Referent.fInt Syntax.w8)) 5 tt) ∷ (ShrSlice.pShrS (Referent.rtF (Referent.fInt Syntax.w8)) 6 tt) ∷ (ShrSlice.pShrS (Referent.rtF (Referent.fInt
-    Syntax.w8)) 7 tt) ∷ (ShrSlice.pShrS (Referent.rtF (Referent.fInt Syntax.w8)) 8 tt) ∷ List.[]
+ps·2 = (MutSlice.pMutS RelayPending.row 0 tt) ∷ (MutSlice.pMutS RelayCircuit.row 1 tt) ∷
+    (MutSlice.pMutS ReservationUsage.row 2 tt) ∷ (MutSlice.pMutS InflightAction.row 3 tt) ∷ (MutSlice.pMutS
+    (Referent.rtF (Referent.fInt Syntax.w32)) 4 tt) ∷ (StructRow.param OpaqueRelayRuntime.the-type Laws'''.the-laws
+    Laws'''.the-copy Laws'''.the-plain) ∷ (StructRow.param Places.the-type Laws'.the-laws Laws'.the-copy
+    Laws'.the-plain) ∷ (StructRow.param RelayPacket.the-type Laws''.the-laws Laws''.the-copy Laws''.the-plain) ∷ (ShrSlice.pShrS
+    (Referent.rtF (Referent.fInt Syntax.w8)) 5 tt) ∷ (ShrSlice.pShrS (Referent.rtF (Referent.fInt Syntax.w8)) 6 tt) ∷ (ShrSlice.pShrS
+    (Referent.rtF (Referent.fInt Syntax.w8)) 7 tt) ∷ (ShrSlice.pShrS (Referent.rtF (Referent.fInt Syntax.w8)) 8 tt) ∷
+    List.[]
+
 abbrev pub r·2 : Kinds.RK 9
-r·2 = Value.rVal record { ty = Declared'.row Relayed.the-type; one = Path.refl; val = Laws''''''.val Relayed.the-type Laws''''.the-laws; tells =
-    Laws''''''.tells Relayed.the-type Laws''''.the-laws; still = Laws''''''.still Relayed.the-type Laws''''.the-copy Exit.yes; row = Rows.whole
-    (Declared'.row Relayed.the-type); rd = λ x. x; mk = λ x. x; } λ M 𝓤 H A W. record { copies = Laws''''''.copy Relayed.the-type Laws''''.the-copy 𝓤
-    H A W; lawful = Laws''''''.lawful Relayed.the-type Laws''''.the-laws 𝓤 H A W; makes = Laws''''''.makes Relayed.the-type Laws''''.the-plain 𝓤 H A;
-    in-mem = Local.mem-whole 𝓤 H A W (Declared'.row Relayed.the-type); of-mem = Local.whole-mem 𝓤 H A W (Declared'.row Relayed.the-type); }
+r·2 = StructRow.result Relayed.the-type Laws''''.the-laws Laws''''.the-copy Laws''''.the-plain
+
 abbrev pub ps·3 : List.List (Kinds.PK 0)
-ps·3 = (Value.pVal record { ty = Declared'.row OpaqueRelayRuntime.the-type; one = Path.refl; val = Laws''''''.val OpaqueRelayRuntime.the-type
-    Laws'''.the-laws; tells = Laws''''''.tells OpaqueRelayRuntime.the-type Laws'''.the-laws; still = Laws''''''.still OpaqueRelayRuntime.the-type
-    Laws'''.the-copy Exit.yes; row = Rows.whole (Declared'.row OpaqueRelayRuntime.the-type); rd = λ x. x; mk = λ x. x; } λ M 𝓤 H A W. record { copies
-    = Laws''''''.copy OpaqueRelayRuntime.the-type Laws'''.the-copy 𝓤 H A W; lawful = Laws''''''.lawful OpaqueRelayRuntime.the-type Laws'''.the-laws 𝓤
-    H A W; makes = Laws''''''.makes OpaqueRelayRuntime.the-type Laws'''.the-plain 𝓤 H A; in-mem = Local.mem-whole 𝓤 H A W (Declared'.row
-    OpaqueRelayRuntime.the-type); of-mem = Local.whole-mem 𝓤 H A W (Declared'.row OpaqueRelayRuntime.the-type); }) ∷ (Value.pVal record { ty =
-    Declared'.row Places.the-type; one = Path.refl; val = Laws''''''.val Places.the-type Laws'.the-laws; tells = Laws''''''.tells Places.the-type
-    Laws'.the-laws; still = Laws''''''.still Places.the-type Laws'.the-copy Exit.yes; row = Rows.whole (Declared'.row Places.the-type); rd = λ x. x;
-    mk = λ x. x; } λ M 𝓤 H A W. record { copies = Laws''''''.copy Places.the-type Laws'.the-copy 𝓤 H A W; lawful = Laws''''''.lawful Places.the-type
-    Laws'.the-laws 𝓤 H A W; makes = Laws''''''.makes Places.the-type Laws'.the-plain 𝓤 H A; in-mem = Local.mem-whole 𝓤 H A W (Declared'.row
-    Places.the-type); of-mem = Local.whole-mem 𝓤 H A W (Declared'.row Places.the-type); }) ∷ (Value.pVal record { ty = Declared.row
-    HnsrAnswer.the-type; one = Path.refl; val = Laws'''''.val HnsrAnswer.the-type Laws.the-laws; tells = Laws'''''.tells HnsrAnswer.the-type
-    Laws.the-laws; still = Laws'''''.still HnsrAnswer.the-type Laws.the-copy Exit.yes; row = Rows.whole (Declared.row HnsrAnswer.the-type); rd = λ x.
-    x; mk = λ x. x; } λ M 𝓤 H A W. record { copies = Laws'''''.copy HnsrAnswer.the-type Laws.the-copy 𝓤 H A W; lawful = Laws'''''.lawful
-    HnsrAnswer.the-type Laws.the-laws 𝓤 H A W tt; makes = Laws'''''.makes HnsrAnswer.the-type Laws.the-plain 𝓤 H A; in-mem = Local.mem-whole 𝓤 H A W
-    (Declared.row HnsrAnswer.the-type); of-mem = Local.whole-mem 𝓤 H A W (Declared.row HnsrAnswer.the-type); }) ∷ List.[]
+ps·3 = (StructRow.param OpaqueRelayRuntime.the-type Laws'''.the-laws Laws'''.the-copy Laws'''.the-plain) ∷ (StructRow.param
+    Places.the-type Laws'.the-laws Laws'.the-copy Laws'.the-plain) ∷ (StructRow.enum-param HnsrAnswer.the-type
+    Laws.the-laws Laws.the-copy Laws.the-plain tt) ∷ List.[]
+
 abbrev pub r·3 : Kinds.RK 0
-r·3 = Value.rVal record { ty = Declared'.row Relayed.the-type; one = Path.refl; val = Laws''''''.val Relayed.the-type Laws''''.the-laws; tells =
-    Laws''''''.tells Relayed.the-type Laws''''.the-laws; still = Laws''''''.still Relayed.the-type Laws''''.the-copy Exit.yes; row = Rows.whole
-    (Declared'.row Relayed.the-type); rd = λ x. x; mk = λ x. x; } λ M 𝓤 H A W. record { copies = Laws''''''.copy Relayed.the-type Laws''''.the-copy 𝓤
-    H A W; lawful = Laws''''''.lawful Relayed.the-type Laws''''.the-laws 𝓤 H A W; makes = Laws''''''.makes Relayed.the-type Laws''''.the-plain 𝓤 H A;
-    in-mem = Local.mem-whole 𝓤 H A W (Declared'.row Relayed.the-type); of-mem = Local.whole-mem 𝓤 H A W (Declared'.row Relayed.the-type); }
+r·3 = StructRow.result Relayed.the-type Laws''''.the-laws Laws''''.the-copy Laws''''.the-plain
+
 abbrev pub hs : List.List Syntax.Home
-hs = Syntax.valueLocal ∷ Syntax.valueLocal ∷ Syntax.valueLocal ∷ Syntax.valueLocal ∷ Syntax.valueLocal ∷ Syntax.valueLocal ∷ Syntax.valueLocal ∷
-    Syntax.valueLocal ∷ Syntax.valueLocal ∷ Syntax.valueLocal ∷ Syntax.valueLocal ∷ Syntax.valueLocal ∷ Syntax.valueLocal ∷ Syntax.valueLocal ∷
-    Syntax.valueLocal ∷ Syntax.valueLocal ∷ Syntax.valueLocal ∷ Syntax.valueLocal ∷ Syntax.valueLocal ∷ Syntax.valueLocal ∷ Syntax.valueLocal ∷
-    Syntax.valueLocal ∷ Syntax.valueLocal ∷ Syntax.valueLocal ∷ Syntax.valueLocal ∷ List.[]
+hs = Syntax.valueLocal ∷ Syntax.valueLocal ∷ Syntax.valueLocal ∷ Syntax.valueLocal ∷ Syntax.valueLocal ∷
+    Syntax.valueLocal ∷ Syntax.valueLocal ∷ Syntax.valueLocal ∷ Syntax.valueLocal ∷ Syntax.valueLocal ∷
+    Syntax.valueLocal ∷ Syntax.valueLocal ∷ Syntax.valueLocal ∷ Syntax.valueLocal ∷ Syntax.valueLocal ∷
+    Syntax.valueLocal ∷ Syntax.valueLocal ∷ Syntax.valueLocal ∷ Syntax.valueLocal ∷ Syntax.valueLocal ∷
+    Syntax.valueLocal ∷ Syntax.valueLocal ∷ Syntax.valueLocal ∷ Syntax.valueLocal ∷ Syntax.valueLocal ∷ List.[]
+
 abbrev b0 : Syntax.Body
-b0 = Syntax.call "hnsr_circuit::handle::gate_answer" ((Syntax.copy (Syntax.place 6 ((Syntax.field 2) ∷ List.[]))) ∷ List.[]) (Syntax.place 13 List.[])
+b0 = Syntax.call "hnsr_circuit::handle::gate_answer" ((Syntax.copy (Syntax.place 6 ((Syntax.field 2) ∷ List.[]))) ∷
+    List.[]) (Syntax.place 13 List.[])
+
 abbrev b1 : Syntax.Body
-b1 = Syntax.call "hnsr_circuit::answer::is_taken" ((Syntax.copy (Syntax.place 13 List.[])) ∷ List.[]) (Syntax.place 14 List.[])
+b1 = Syntax.call "hnsr_circuit::answer::is_taken" ((Syntax.copy (Syntax.place 13 List.[])) ∷ List.[])
+    (Syntax.place 14 List.[])
+
 abbrev b2 : Syntax.Body
-b2 = Syntax.assign (Syntax.place 15 List.[]) (Syntax.addrOf (Syntax.place 1 ((Syntax.field 0) ∷ (Syntax.deref RelayPending.ty) ∷ List.[])))
+b2 = Syntax.assign (Syntax.place 15 List.[]) (Syntax.addrOf (Syntax.place 1 ((Syntax.field 0) ∷
+    (Syntax.deref RelayPending.ty) ∷ List.[])))
+
 abbrev b3 : Syntax.Body
-b3 = Syntax.assign (Syntax.place 16 List.[]) (Syntax.aggregate ((Syntax.copy (Syntax.place 15 List.[])) ∷ (Syntax.copy (Syntax.place 1 ((Syntax.field
-    1) ∷ List.[]))) ∷ List.[]))
+b3 = Syntax.assign (Syntax.place 16 List.[]) (Syntax.aggregate ((Syntax.copy (Syntax.place 15 List.[])) ∷
+    (Syntax.copy (Syntax.place 1 ((Syntax.field 1) ∷ List.[]))) ∷ List.[]))
+
 abbrev b4 : Syntax.Body
-b4 = Syntax.assign (Syntax.place 17 List.[]) (Syntax.addrOf (Syntax.place 2 ((Syntax.field 0) ∷ (Syntax.deref RelayCircuit.ty) ∷ List.[])))
+b4 = Syntax.assign (Syntax.place 17 List.[]) (Syntax.addrOf (Syntax.place 2 ((Syntax.field 0) ∷
+    (Syntax.deref RelayCircuit.ty) ∷ List.[])))
+
 abbrev b5 : Syntax.Body
-b5 = Syntax.assign (Syntax.place 18 List.[]) (Syntax.aggregate ((Syntax.copy (Syntax.place 17 List.[])) ∷ (Syntax.copy (Syntax.place 2 ((Syntax.field
-    1) ∷ List.[]))) ∷ List.[]))
+b5 = Syntax.assign (Syntax.place 18 List.[]) (Syntax.aggregate ((Syntax.copy (Syntax.place 17 List.[])) ∷
+    (Syntax.copy (Syntax.place 2 ((Syntax.field 1) ∷ List.[]))) ∷ List.[]))
+
 abbrev b6 : Syntax.Body
-b6 = Syntax.assign (Syntax.place 19 List.[]) (Syntax.addrOf (Syntax.place 3 ((Syntax.field 0) ∷ (Syntax.deref ReservationUsage.ty) ∷ List.[])))
+b6 = Syntax.assign (Syntax.place 19 List.[]) (Syntax.addrOf (Syntax.place 3 ((Syntax.field 0) ∷
+    (Syntax.deref ReservationUsage.ty) ∷ List.[])))
+
 abbrev b7 : Syntax.Body
-b7 = Syntax.assign (Syntax.place 20 List.[]) (Syntax.aggregate ((Syntax.copy (Syntax.place 19 List.[])) ∷ (Syntax.copy (Syntax.place 3 ((Syntax.field
-    1) ∷ List.[]))) ∷ List.[]))
+b7 = Syntax.assign (Syntax.place 20 List.[]) (Syntax.aggregate ((Syntax.copy (Syntax.place 19 List.[])) ∷
+    (Syntax.copy (Syntax.place 3 ((Syntax.field 1) ∷ List.[]))) ∷ List.[]))
+
 abbrev b8 : Syntax.Body
-b8 = Syntax.assign (Syntax.place 21 List.[]) (Syntax.addrOf (Syntax.place 4 ((Syntax.field 0) ∷ (Syntax.deref InflightAction.ty) ∷ List.[])))
+b8 = Syntax.assign (Syntax.place 21 List.[]) (Syntax.addrOf (Syntax.place 4 ((Syntax.field 0) ∷
+    (Syntax.deref InflightAction.ty) ∷ List.[])))
+
 abbrev b9 : Syntax.Body
-b9 = Syntax.assign (Syntax.place 22 List.[]) (Syntax.aggregate ((Syntax.copy (Syntax.place 21 List.[])) ∷ (Syntax.copy (Syntax.place 4 ((Syntax.field
-    1) ∷ List.[]))) ∷ List.[]))
+b9 = Syntax.assign (Syntax.place 22 List.[]) (Syntax.aggregate ((Syntax.copy (Syntax.place 21 List.[])) ∷
+    (Syntax.copy (Syntax.place 4 ((Syntax.field 1) ∷ List.[]))) ∷ List.[]))
+
 abbrev b10 : Syntax.Body
-b10 = Syntax.assign (Syntax.place 23 List.[]) (Syntax.addrOf (Syntax.place 5 ((Syntax.field 0) ∷ (Syntax.deref (Syntax.tyInt Syntax.w32)) ∷ List.[])))
+b10 = Syntax.assign (Syntax.place 23 List.[]) (Syntax.addrOf (Syntax.place 5 ((Syntax.field 0) ∷
+    (Syntax.deref (Syntax.tyInt Syntax.w32)) ∷ List.[])))
+
 abbrev b11 : Syntax.Body
-b11 = Syntax.assign (Syntax.place 24 List.[]) (Syntax.aggregate ((Syntax.copy (Syntax.place 23 List.[])) ∷ (Syntax.copy (Syntax.place 5 ((Syntax.field
-    1) ∷ List.[]))) ∷ List.[]))
+b11 = Syntax.assign (Syntax.place 24 List.[]) (Syntax.aggregate ((Syntax.copy (Syntax.place 23 List.[])) ∷
+    (Syntax.copy (Syntax.place 5 ((Syntax.field 1) ∷ List.[]))) ∷ List.[]))
+
 abbrev b12 : Syntax.Body
-b12 = Syntax.call "hnsr_circuit::handle::dispatch" ((Syntax.copy (Syntax.place 16 List.[])) ∷ (Syntax.copy (Syntax.place 18 List.[])) ∷ (Syntax.copy
-    (Syntax.place 20 List.[])) ∷ (Syntax.copy (Syntax.place 22 List.[])) ∷ (Syntax.copy (Syntax.place 24 List.[])) ∷ (Syntax.copy (Syntax.place 6
-    List.[])) ∷ (Syntax.copy (Syntax.place 7 List.[])) ∷ (Syntax.copy (Syntax.place 8 List.[])) ∷ (Syntax.copy (Syntax.place 9 List.[])) ∷
-    (Syntax.copy (Syntax.place 10 List.[])) ∷ (Syntax.copy (Syntax.place 11 List.[])) ∷ (Syntax.copy (Syntax.place 12 List.[])) ∷ List.[])
-    (Syntax.place 0 List.[])
+b12 = Syntax.call "hnsr_circuit::handle::dispatch" ((Syntax.copy (Syntax.place 16 List.[])) ∷
+    (Syntax.copy (Syntax.place 18 List.[])) ∷ (Syntax.copy (Syntax.place 20 List.[])) ∷
+    (Syntax.copy (Syntax.place 22 List.[])) ∷ (Syntax.copy (Syntax.place 24 List.[])) ∷
+    (Syntax.copy (Syntax.place 6 List.[])) ∷ (Syntax.copy (Syntax.place 7 List.[])) ∷
+    (Syntax.copy (Syntax.place 8 List.[])) ∷ (Syntax.copy (Syntax.place 9 List.[])) ∷
+    (Syntax.copy (Syntax.place 10 List.[])) ∷ (Syntax.copy (Syntax.place 11 List.[])) ∷
+    (Syntax.copy (Syntax.place 12 List.[])) ∷ List.[]) (Syntax.place 0 List.[])
+
 abbrev b13 : Syntax.Body
 b13 = Syntax.return
+
 abbrev b14 : Syntax.Body
 b14 = Syntax.seq b12 b13
+
 abbrev b15 : Syntax.Body
 b15 = Syntax.seq b11 b14
+
 abbrev b16 : Syntax.Body
 b16 = Syntax.seq b10 b15
+
 abbrev b17 : Syntax.Body
 b17 = Syntax.seq b9 b16
+
 abbrev b18 : Syntax.Body
 b18 = Syntax.seq b8 b17
+
 abbrev b19 : Syntax.Body
 b19 = Syntax.seq b7 b18
+
 abbrev b20 : Syntax.Body
 b20 = Syntax.seq b6 b19
+
 abbrev b21 : Syntax.Body
 b21 = Syntax.seq b5 b20
+
 abbrev b22 : Syntax.Body
 b22 = Syntax.seq b4 b21
+
 abbrev b23 : Syntax.Body
 b23 = Syntax.seq b3 b22
+
 abbrev b24 : Syntax.Body
 b24 = Syntax.seq b2 b23
+
 abbrev b25 : Syntax.Body
 b25 = Syntax.skip
+
 abbrev b26 : Syntax.Body
 b26 = Syntax.cond (Syntax.copy (Syntax.place 14 List.[])) b24 b25
+
 abbrev b27 : Syntax.Body
-b27 = Syntax.call "hnsr_circuit::revoking_calls::refused" ((Syntax.copy (Syntax.place 6 List.[])) ∷ (Syntax.copy (Syntax.place 7 List.[])) ∷
-    (Syntax.copy (Syntax.place 13 List.[])) ∷ List.[]) (Syntax.place 0 List.[])
+b27 = Syntax.call "hnsr_circuit::revoking_calls::refused" ((Syntax.copy (Syntax.place 6 List.[])) ∷
+    (Syntax.copy (Syntax.place 7 List.[])) ∷ (Syntax.copy (Syntax.place 13 List.[])) ∷ List.[])
+    (Syntax.place 0 List.[])
+
 abbrev b28 : Syntax.Body
 b28 = Syntax.return
+
 abbrev b29 : Syntax.Body
 b29 = Syntax.seq b27 b28
+
 abbrev b30 : Syntax.Body
 b30 = Syntax.seq b26 b29
+
 abbrev b31 : Syntax.Body
 b31 = Syntax.seq b1 b30
+
 abbrev b32 : Syntax.Body
 b32 = Syntax.seq b0 b31
+
 abbrev pub body : Syntax.Body
 body = b32
+
 abbrev pub Claims : Type 1
-Claims = Kinds.In 0 ps·0 × Kinds.Out 0 ps·0 r·0 × Kinds.In 0 ps·1 × Kinds.Out 0 ps·1 r·1 × Kinds.In 9 ps·2 × Kinds.Out 9 ps·2 r·2 × Kinds.In 0 ps·3 ×
-    Kinds.Out 0 ps·3 r·3
+Claims = Kinds.In 0 ps·0 × Kinds.Out 0 ps·0 r·0 × Kinds.In 0 ps·1 × Kinds.Out 0 ps·1 r·1 × Kinds.In 9 ps·2 × Kinds.Out
+    9 ps·2 r·2 × Kinds.In 0 ps·3 × Kinds.Out 0 ps·3 r·3
+
 abbrev e0 : Row.Entry
 e0 = (0, Rows.any-gone Laws''''.mir)
+
 abbrev e1 : Row.Entry
 e1 = (1, Mut.mslice RelayPending.row ref5 0)
+
 abbrev e2 : Row.Entry
 e2 = (2, Mut.mslice RelayCircuit.row ref6 1)
+
 abbrev e3 : Row.Entry
 e3 = (3, Mut.mslice ReservationUsage.row ref7 2)
+
 abbrev e4 : Row.Entry
 e4 = (4, Mut.mslice InflightAction.row ref8 3)
+
 abbrev e5 : Row.Entry
 e5 = (5, Mut.mslice (Referent.rtF (Referent.fInt Syntax.w32)) ref9 4)
+
 abbrev e6 : Row.Entry
 e6 = (6, Rows.whole (Declared'.row OpaqueRelayRuntime.the-type))
+
 abbrev e7 : Row.Entry
 e7 = (7, Rows.whole (Declared'.row Places.the-type))
+
 abbrev e8 : Row.Entry
 e8 = (8, Rows.whole (Declared'.row RelayPacket.the-type))
+
 abbrev e9 : Row.Entry
 e9 = (9, Rows.sslice (Referent.rtF (Referent.fInt Syntax.w8)) ref10 5)
+
 abbrev e10 : Row.Entry
 e10 = (10, Rows.sslice (Referent.rtF (Referent.fInt Syntax.w8)) ref11 6)
+
 abbrev e11 : Row.Entry
 e11 = (11, Rows.sslice (Referent.rtF (Referent.fInt Syntax.w8)) ref12 7)
+
 abbrev e12 : Row.Entry
 e12 = (12, Rows.sslice (Referent.rtF (Referent.fInt Syntax.w8)) ref13 8)
+
 abbrev e13 : Row.Entry
 e13 = (13, Rows.any-gone Laws.mir)
+
 abbrev e14 : Row.Entry
 e14 = (14, Rows.any-gone Syntax.tyBool)
+
 abbrev e15 : Row.Entry
 e15 = (15, Rows.any-gone ref0)
+
 abbrev e16 : Row.Entry
-e16 = (16, Rows.any-gone (Syntax.tyStruct (38 ∷ 91 ∷ 93 ∷ List.[]) (Syntax.tcons ref0 (Syntax.tcons (Syntax.tyInt Syntax.w64) Syntax.tnil))))
+e16 = (16, Rows.any-gone slice0)
+
 abbrev e17 : Row.Entry
 e17 = (17, Rows.any-gone ref1)
+
 abbrev e18 : Row.Entry
-e18 = (18, Rows.any-gone (Syntax.tyStruct (38 ∷ 91 ∷ 93 ∷ List.[]) (Syntax.tcons ref1 (Syntax.tcons (Syntax.tyInt Syntax.w64) Syntax.tnil))))
+e18 = (18, Rows.any-gone slice1)
+
 abbrev e19 : Row.Entry
 e19 = (19, Rows.any-gone ref2)
+
 abbrev e20 : Row.Entry
-e20 = (20, Rows.any-gone (Syntax.tyStruct (38 ∷ 91 ∷ 93 ∷ List.[]) (Syntax.tcons ref2 (Syntax.tcons (Syntax.tyInt Syntax.w64) Syntax.tnil))))
+e20 = (20, Rows.any-gone slice2)
+
 abbrev e21 : Row.Entry
 e21 = (21, Rows.any-gone ref3)
+
 abbrev e22 : Row.Entry
-e22 = (22, Rows.any-gone (Syntax.tyStruct (38 ∷ 91 ∷ 93 ∷ List.[]) (Syntax.tcons ref3 (Syntax.tcons (Syntax.tyInt Syntax.w64) Syntax.tnil))))
+e22 = (22, Rows.any-gone slice3)
+
 abbrev e23 : Row.Entry
 e23 = (23, Rows.any-gone ref4)
+
 abbrev e24 : Row.Entry
-e24 = (24, Rows.any-gone (Syntax.tyStruct (38 ∷ 91 ∷ 93 ∷ List.[]) (Syntax.tcons ref4 (Syntax.tcons (Syntax.tyInt Syntax.w64) Syntax.tnil))))
+e24 = (24, Rows.any-gone slice4)
+
 abbrev e0·1 : Row.Entry
 e0·1 = (0, Rows.whole (Declared'.row Relayed.the-type))
+
 abbrev e6·1 : Row.Entry
 e6·1 = (6, Rows.any-gone Laws'''.mir)
+
 abbrev e7·1 : Row.Entry
 e7·1 = (7, Rows.any-gone Laws'.mir)
+
 abbrev e8·1 : Row.Entry
 e8·1 = (8, Rows.any-gone Laws''.mir)
+
 abbrev e13·1 : Row.Entry
 e13·1 = (13, Rows.whole (Declared.row HnsrAnswer.the-type))
+
 abbrev e14·1 : Row.Entry
 e14·1 = (14, Rows.sc-here Row.sBool)
+
 abbrev e1·1 : Row.Entry
 e1·1 = (1, Relend.mslice-owed RelayPending.row ref5 0 9 Row.off)
+
 abbrev e15·1 : Row.Entry
 e15·1 = (15, Relend.msptr RelayPending.row ref0 9)
+
 abbrev e16·1 : Row.Entry
 e16·1 = (16, Mut.mslice RelayPending.row ref0 9)
+
 abbrev e2·1 : Row.Entry
 e2·1 = (2, Relend.mslice-owed RelayCircuit.row ref6 1 10 Row.off)
+
 abbrev e17·1 : Row.Entry
 e17·1 = (17, Relend.msptr RelayCircuit.row ref1 10)
+
 abbrev e18·1 : Row.Entry
 e18·1 = (18, Mut.mslice RelayCircuit.row ref1 10)
+
 abbrev e3·1 : Row.Entry
 e3·1 = (3, Relend.mslice-owed ReservationUsage.row ref7 2 11 Row.off)
+
 abbrev e19·1 : Row.Entry
 e19·1 = (19, Relend.msptr ReservationUsage.row ref2 11)
+
 abbrev e20·1 : Row.Entry
 e20·1 = (20, Mut.mslice ReservationUsage.row ref2 11)
+
 abbrev e4·1 : Row.Entry
 e4·1 = (4, Relend.mslice-owed InflightAction.row ref8 3 12 Row.off)
+
 abbrev e21·1 : Row.Entry
 e21·1 = (21, Relend.msptr InflightAction.row ref3 12)
+
 abbrev e22·1 : Row.Entry
 e22·1 = (22, Mut.mslice InflightAction.row ref3 12)
+
 abbrev e5·1 : Row.Entry
 e5·1 = (5, Relend.mslice-owed (Referent.rtF (Referent.fInt Syntax.w32)) ref9 4 13 Row.off)
+
 abbrev e23·1 : Row.Entry
 e23·1 = (23, Relend.msptr (Referent.rtF (Referent.fInt Syntax.w32)) ref4 13)
+
 abbrev e24·1 : Row.Entry
 e24·1 = (24, Mut.mslice (Referent.rtF (Referent.fInt Syntax.w32)) ref4 13)
+
 abbrev e16·2 : Row.Entry
 e16·2 = (16, Mut.msleft RelayPending.row ref0)
+
 abbrev e18·2 : Row.Entry
 e18·2 = (18, Mut.msleft RelayCircuit.row ref1)
+
 abbrev e20·2 : Row.Entry
 e20·2 = (20, Mut.msleft ReservationUsage.row ref2)
+
 abbrev e22·2 : Row.Entry
 e22·2 = (22, Mut.msleft InflightAction.row ref3)
+
 abbrev e24·2 : Row.Entry
 e24·2 = (24, Mut.msleft (Referent.rtF (Referent.fInt Syntax.w32)) ref4)
+
 abbrev pub t0 : List.List Row.Entry
 t0 = e0 ∷ e1 ∷ e2 ∷ e3 ∷ e4 ∷ e5 ∷ e6 ∷ e7 ∷ e8 ∷ e9 ∷ e10 ∷ e11 ∷ e12 ∷ e13 ∷ e14 ∷ e15 ∷ List.[]
+
 abbrev pub t1 : List.List Row.Entry
 t1 = e16 ∷ e17 ∷ e18 ∷ e19 ∷ e20 ∷ e21 ∷ e22 ∷ e23 ∷ e24 ∷ List.[]
+
 abbrev pub t2 : List.List Row.Entry
 t2 = e0·1 ∷ e1 ∷ e2 ∷ e3 ∷ e4 ∷ e5 ∷ e6·1 ∷ e7·1 ∷ e8·1 ∷ e9 ∷ e10 ∷ e11 ∷ e12 ∷ e13 ∷ e14 ∷ e15 ∷ List.[]
+
 abbrev pub t3 : List.List Row.Entry
 t3 = e0 ∷ e1 ∷ e2 ∷ e3 ∷ e4 ∷ e5 ∷ e6 ∷ e7 ∷ e8 ∷ e9 ∷ e10 ∷ e11 ∷ e12 ∷ e13·1 ∷ e14 ∷ e15 ∷ List.[]
+
 abbrev pub t4 : List.List Row.Entry
 t4 = e0 ∷ e1 ∷ e2 ∷ e3 ∷ e4 ∷ e5 ∷ e6 ∷ e7 ∷ e8 ∷ e9 ∷ e10 ∷ e11 ∷ e12 ∷ e13·1 ∷ e14·1 ∷ e15 ∷ List.[]
+
 abbrev pub t5 : List.List Row.Entry
 t5 = e0 ∷ e1 ∷ e2 ∷ e3 ∷ e4 ∷ e5 ∷ e6 ∷ e7 ∷ e8·1 ∷ e9 ∷ e10 ∷ e11 ∷ e12 ∷ e13·1 ∷ e14 ∷ e15 ∷ List.[]
+
 abbrev pub t6 : List.List Row.Entry
 t6 = e0 ∷ e1 ∷ e2 ∷ e3 ∷ e4 ∷ e5 ∷ e6 ∷ e7 ∷ e8 ∷ e9 ∷ e10 ∷ e11 ∷ e12 ∷ e13 ∷ e14·1 ∷ e15 ∷ List.[]
+
 abbrev pub t7 : List.List Row.Entry
 t7 = e0 ∷ e1·1 ∷ e2 ∷ e3 ∷ e4 ∷ e5 ∷ e6 ∷ e7 ∷ e8 ∷ e9 ∷ e10 ∷ e11 ∷ e12 ∷ e13 ∷ e14 ∷ e15·1 ∷ List.[]
+
 abbrev pub t8 : List.List Row.Entry
 t8 = e0 ∷ e1·1 ∷ e2 ∷ e3 ∷ e4 ∷ e5 ∷ e6 ∷ e7 ∷ e8 ∷ e9 ∷ e10 ∷ e11 ∷ e12 ∷ e13 ∷ e14 ∷ e15 ∷ List.[]
+
 abbrev pub t9 : List.List Row.Entry
 t9 = e16·1 ∷ e17 ∷ e18 ∷ e19 ∷ e20 ∷ e21 ∷ e22 ∷ e23 ∷ e24 ∷ List.[]
+
 abbrev pub t10 : List.List Row.Entry
 t10 = e0 ∷ e1·1 ∷ e2·1 ∷ e3 ∷ e4 ∷ e5 ∷ e6 ∷ e7 ∷ e8 ∷ e9 ∷ e10 ∷ e11 ∷ e12 ∷ e13 ∷ e14 ∷ e15 ∷ List.[]
+
 abbrev pub t11 : List.List Row.Entry
 t11 = e16·1 ∷ e17·1 ∷ e18 ∷ e19 ∷ e20 ∷ e21 ∷ e22 ∷ e23 ∷ e24 ∷ List.[]
+
 abbrev pub t12 : List.List Row.Entry
 t12 = e16·1 ∷ e17 ∷ e18·1 ∷ e19 ∷ e20 ∷ e21 ∷ e22 ∷ e23 ∷ e24 ∷ List.[]
+
 abbrev pub t13 : List.List Row.Entry
 t13 = e0 ∷ e1·1 ∷ e2·1 ∷ e3·1 ∷ e4 ∷ e5 ∷ e6 ∷ e7 ∷ e8 ∷ e9 ∷ e10 ∷ e11 ∷ e12 ∷ e13 ∷ e14 ∷ e15 ∷ List.[]
+
 abbrev pub t14 : List.List Row.Entry
 t14 = e16·1 ∷ e17 ∷ e18·1 ∷ e19·1 ∷ e20 ∷ e21 ∷ e22 ∷ e23 ∷ e24 ∷ List.[]
+
 abbrev pub t15 : List.List Row.Entry
 t15 = e16·1 ∷ e17 ∷ e18·1 ∷ e19 ∷ e20·1 ∷ e21 ∷ e22 ∷ e23 ∷ e24 ∷ List.[]
+
 abbrev pub t16 : List.List Row.Entry
 t16 = e0 ∷ e1·1 ∷ e2·1 ∷ e3·1 ∷ e4·1 ∷ e5 ∷ e6 ∷ e7 ∷ e8 ∷ e9 ∷ e10 ∷ e11 ∷ e12 ∷ e13 ∷ e14 ∷ e15 ∷ List.[]
+
 abbrev pub t17 : List.List Row.Entry
 t17 = e16·1 ∷ e17 ∷ e18·1 ∷ e19 ∷ e20·1 ∷ e21·1 ∷ e22 ∷ e23 ∷ e24 ∷ List.[]
+
 abbrev pub t18 : List.List Row.Entry
 t18 = e16·1 ∷ e17 ∷ e18·1 ∷ e19 ∷ e20·1 ∷ e21 ∷ e22·1 ∷ e23 ∷ e24 ∷ List.[]
+
 abbrev pub t19 : List.List Row.Entry
 t19 = e0 ∷ e1·1 ∷ e2·1 ∷ e3·1 ∷ e4·1 ∷ e5·1 ∷ e6 ∷ e7 ∷ e8 ∷ e9 ∷ e10 ∷ e11 ∷ e12 ∷ e13 ∷ e14 ∷ e15 ∷ List.[]
+
 abbrev pub t20 : List.List Row.Entry
 t20 = e16·1 ∷ e17 ∷ e18·1 ∷ e19 ∷ e20·1 ∷ e21 ∷ e22·1 ∷ e23·1 ∷ e24 ∷ List.[]
+
 abbrev pub t21 : List.List Row.Entry
 t21 = e16·1 ∷ e17 ∷ e18·1 ∷ e19 ∷ e20·1 ∷ e21 ∷ e22·1 ∷ e23 ∷ e24·1 ∷ List.[]
+
 abbrev pub t22 : List.List Row.Entry
 t22 = e0·1 ∷ e1·1 ∷ e2·1 ∷ e3·1 ∷ e4·1 ∷ e5·1 ∷ e6 ∷ e7 ∷ e8 ∷ e9 ∷ e10 ∷ e11 ∷ e12 ∷ e13 ∷ e14 ∷ e15 ∷ List.[]
+
 abbrev pub t23 : List.List Row.Entry
 t23 = e16·2 ∷ e17 ∷ e18·2 ∷ e19 ∷ e20·2 ∷ e21 ∷ e22·2 ∷ e23 ∷ e24·2 ∷ List.[]
+
 abbrev pub t24 : List.List Row.Entry
 t24 = e0·1 ∷ e1·1 ∷ e2·1 ∷ e3·1 ∷ e4·1 ∷ e5·1 ∷ e6·1 ∷ e7 ∷ e8 ∷ e9 ∷ e10 ∷ e11 ∷ e12 ∷ e13 ∷ e14 ∷ e15 ∷ List.[]
+
 abbrev pub t25 : List.List Row.Entry
 t25 = e0·1 ∷ e1·1 ∷ e2·1 ∷ e3·1 ∷ e4·1 ∷ e5·1 ∷ e6·1 ∷ e7·1 ∷ e8 ∷ e9 ∷ e10 ∷ e11 ∷ e12 ∷ e13 ∷ e14 ∷ e15 ∷ List.[]
+
 abbrev pub t26 : List.List Row.Entry
 t26 = e0·1 ∷ e1·1 ∷ e2·1 ∷ e3·1 ∷ e4·1 ∷ e5·1 ∷ e6·1 ∷ e7·1 ∷ e8·1 ∷ e9 ∷ e10 ∷ e11 ∷ e12 ∷ e13 ∷ e14 ∷ e15 ∷ List.[]
+
 abbrev pub t27 : List.List Row.Entry
 t27 = e0·1 ∷ e1 ∷ e2·1 ∷ e3·1 ∷ e4·1 ∷ e5·1 ∷ e6·1 ∷ e7·1 ∷ e8·1 ∷ e9 ∷ e10 ∷ e11 ∷ e12 ∷ e13 ∷ e14 ∷ e15 ∷ List.[]
+
 abbrev pub t28 : List.List Row.Entry
 t28 = e16 ∷ e17 ∷ e18·2 ∷ e19 ∷ e20·2 ∷ e21 ∷ e22·2 ∷ e23 ∷ e24·2 ∷ List.[]
+
 abbrev pub t29 : List.List Row.Entry
 t29 = e0·1 ∷ e1 ∷ e2 ∷ e3·1 ∷ e4·1 ∷ e5·1 ∷ e6·1 ∷ e7·1 ∷ e8·1 ∷ e9 ∷ e10 ∷ e11 ∷ e12 ∷ e13 ∷ e14 ∷ e15 ∷ List.[]
+
 abbrev pub t30 : List.List Row.Entry
 t30 = e16 ∷ e17 ∷ e18 ∷ e19 ∷ e20·2 ∷ e21 ∷ e22·2 ∷ e23 ∷ e24·2 ∷ List.[]
+
 abbrev pub t31 : List.List Row.Entry
 t31 = e0·1 ∷ e1 ∷ e2 ∷ e3 ∷ e4·1 ∷ e5·1 ∷ e6·1 ∷ e7·1 ∷ e8·1 ∷ e9 ∷ e10 ∷ e11 ∷ e12 ∷ e13 ∷ e14 ∷ e15 ∷ List.[]
+
 abbrev pub t32 : List.List Row.Entry
 t32 = e16 ∷ e17 ∷ e18 ∷ e19 ∷ e20 ∷ e21 ∷ e22·2 ∷ e23 ∷ e24·2 ∷ List.[]
+
 abbrev pub t33 : List.List Row.Entry
 t33 = e0·1 ∷ e1 ∷ e2 ∷ e3 ∷ e4 ∷ e5·1 ∷ e6·1 ∷ e7·1 ∷ e8·1 ∷ e9 ∷ e10 ∷ e11 ∷ e12 ∷ e13 ∷ e14 ∷ e15 ∷ List.[]
+
 abbrev pub t34 : List.List Row.Entry
 t34 = e16 ∷ e17 ∷ e18 ∷ e19 ∷ e20 ∷ e21 ∷ e22 ∷ e23 ∷ e24·2 ∷ List.[]
+
 abbrev pub t35 : List.List Row.Entry
 t35 = e0 ∷ e1 ∷ e2 ∷ e3 ∷ e4 ∷ e5 ∷ e6 ∷ e7 ∷ e8·1 ∷ e9 ∷ e10 ∷ e11 ∷ e12 ∷ e13·1 ∷ e14·1 ∷ e15 ∷ List.[]
+
 abbrev pub t36 : List.List Row.Entry
 t36 = e0·1 ∷ e1 ∷ e2 ∷ e3 ∷ e4 ∷ e5 ∷ e6 ∷ e7 ∷ e8·1 ∷ e9 ∷ e10 ∷ e11 ∷ e12 ∷ e13·1 ∷ e14 ∷ e15 ∷ List.[]
+
 abbrev pub t37 : List.List Row.Entry
 t37 = e0·1 ∷ e1 ∷ e2 ∷ e3 ∷ e4 ∷ e5 ∷ e6·1 ∷ e7 ∷ e8·1 ∷ e9 ∷ e10 ∷ e11 ∷ e12 ∷ e13·1 ∷ e14 ∷ e15 ∷ List.[]
+
 abbrev pub t38 : List.List Row.Entry
 t38 = e0·1 ∷ e1 ∷ e2 ∷ e3 ∷ e4 ∷ e5 ∷ e6·1 ∷ e7·1 ∷ e8·1 ∷ e9 ∷ e10 ∷ e11 ∷ e12 ∷ e13·1 ∷ e14 ∷ e15 ∷ List.[]
+
 abbrev pub T0 : Row.Cx
 T0 = record { locals = List._++_ t0 t1; slots = List.[] }
+
 abbrev pub T1 : Row.Cx
 T1 = record { locals = List._++_ t2 t1; slots = List.[] }
+
 abbrev pub T2 : Row.Cx
 T2 = record { locals = List._++_ t0 t1; slots = List.[] }
+
 abbrev pub T3 : Row.Cx
 T3 = record { locals = List._++_ t0 t1; slots = List.[] }
+
 abbrev pub T4 : Row.Cx
 T4 = record { locals = List._++_ t0 t1; slots = List.[] }
+
 abbrev pub T5 : Row.Cx
 T5 = record { locals = List._++_ t0 t1; slots = List.[] }
+
 abbrev pub T6 : Row.Cx
 T6 = record { locals = List._++_ t0 t1; slots = List.[] }
+
 abbrev pub T7 : Row.Cx
 T7 = record { locals = List._++_ t3 t1; slots = List.[] }
+
 abbrev pub T8 : Row.Cx
 T8 = record { locals = List._++_ t4 t1; slots = List.[] }
+
 abbrev pub T9 : Row.Cx
 T9 = record { locals = List._++_ t5 t1; slots = List.[] }
+
 abbrev pub T10 : Row.Cx
 T10 = record { locals = List._++_ t6 t1; slots = List.[] }
+
 abbrev pub T11 : Row.Cx
 T11 = record { locals = List._++_ t0 t1; slots = List.[] }
+
 abbrev pub T13 : Row.Cx
 T13 = record { locals = List._++_ t7 t1; slots = List.[] }
+
 abbrev pub T14 : Row.Cx
 T14 = record { locals = List._++_ t8 t9; slots = List.[] }
+
 abbrev pub T16 : Row.Cx
 T16 = record { locals = List._++_ t10 t11; slots = List.[] }
+
 abbrev pub T17 : Row.Cx
 T17 = record { locals = List._++_ t10 t12; slots = List.[] }
+
 abbrev pub T19 : Row.Cx
 T19 = record { locals = List._++_ t13 t14; slots = List.[] }
+
 abbrev pub T20 : Row.Cx
 T20 = record { locals = List._++_ t13 t15; slots = List.[] }
+
 abbrev pub T22 : Row.Cx
 T22 = record { locals = List._++_ t16 t17; slots = List.[] }
+
 abbrev pub T23 : Row.Cx
 T23 = record { locals = List._++_ t16 t18; slots = List.[] }
+
 abbrev pub T25 : Row.Cx
 T25 = record { locals = List._++_ t19 t20; slots = List.[] }
+
 abbrev pub T26 : Row.Cx
 T26 = record { locals = List._++_ t19 t21; slots = List.[] }
+
 abbrev pub T27 : Row.Cx
 T27 = record { locals = List._++_ t22 t23; slots = List.[] }
+
 abbrev pub T28 : Row.Cx
 T28 = record { locals = List._++_ t24 t23; slots = List.[] }
+
 abbrev pub T29 : Row.Cx
 T29 = record { locals = List._++_ t25 t23; slots = List.[] }
+
 abbrev pub T30 : Row.Cx
 T30 = record { locals = List._++_ t26 t23; slots = List.[] }
+
 abbrev pub T32 : Row.Cx
 T32 = record { locals = List._++_ t27 t28; slots = List.[] }
+
 abbrev pub T35 : Row.Cx
 T35 = record { locals = List._++_ t29 t30; slots = List.[] }
+
 abbrev pub T38 : Row.Cx
 T38 = record { locals = List._++_ t31 t32; slots = List.[] }
+
 abbrev pub T41 : Row.Cx
 T41 = record { locals = List._++_ t33 t34; slots = List.[] }
+
 abbrev pub T44 : Row.Cx
 T44 = record { locals = List._++_ t2 t1; slots = List.[] }
+
 abbrev pub T45 : Row.Cx
 T45 = record { locals = List._++_ t2 t1; slots = List.[] }
+
 abbrev pub T47 : Row.Cx
 T47 = record { locals = List._++_ t35 t1; slots = List.[] }
+
 abbrev pub T48 : Row.Cx
 T48 = record { locals = List._++_ t5 t1; slots = List.[] }
+
 abbrev pub T49 : Row.Cx
 T49 = record { locals = List._++_ t36 t1; slots = List.[] }
+
 abbrev pub T50 : Row.Cx
 T50 = record { locals = List._++_ t37 t1; slots = List.[] }
+
 abbrev pub T51 : Row.Cx
 T51 = record { locals = List._++_ t38 t1; slots = List.[] }
+
 abbrev pub T52 : Row.Cx
 T52 = record { locals = List._++_ t2 t1; slots = List.[] }
+
 abbrev pub O0 : Typed.Outs
 O0 = record { next = Option.none; exits = List.[]; returns = Option.some T1 }
+
 abbrev pub O1 : Typed.Outs
 O1 = Typed.withNext (Option.some T9) O0
+
 module _ (claims· : Claims) where
   abbrev s0 : Typed.Gives T0 T2
   s0 = Know.k-sl-known (Referent.fInt Syntax.w32) T0 5 4 ref9 Row.off 0 λ x. x
+
   abbrev s1 : Typed.Gives T2 T3
   s1 = Know.k-shs-known (Referent.fInt Syntax.w8) T2 9 5 ref10 Row.off 0 λ x. x
+
   abbrev s2 : Typed.Gives T3 T4
   s2 = Know.k-shs-known (Referent.fInt Syntax.w8) T3 10 6 ref11 Row.off 0 λ x. x
+
   abbrev s3 : Typed.Gives T4 T5
   s3 = Know.k-shs-known (Referent.fInt Syntax.w8) T4 11 7 ref12 Row.off 0 λ x. x
+
   abbrev s4 : Typed.Gives T5 T6
   s4 = Know.k-shs-known (Referent.fInt Syntax.w8) T5 12 8 ref13 Row.off 0 λ x. x
+
+  abbrev args5 : Args'.ArgsT ps·0 (T6 .locals)
+  args5 = (Bool.bFld 6 ((Syntax.field 2) ∷ List.[]) 24 λ x. OpaqueRelayRuntime.struct .as-values x .1 .1 .0, tt)
+
   abbrev s5 : Typed.Both T6 T7
-  s5 = Call.callB ps·0 r·0 (claims· .0) (claims· .1) T6 (Bool.bFld 6 ((Syntax.field 2) ∷ List.[]) 24 λ x. OpaqueRelayRuntime.struct .as-values x .1 .1
-      .0, tt,) 13 List.[] Laws.mir
+  s5 = Call.callB ps·0 r·0 (claims· .0) (claims· .1) T6 args5 13 List.[] Laws.mir
+
+  abbrev args6 : Args'.ArgsT ps·1 (T7 .locals)
+  args6 = (record { pos = 13; st = List.[]; d = 0; at = λ x. x }, tt)
+
   abbrev s6 : Typed.Both T7 T8
-  s6 = Call.callB ps·1 r·1 (claims· .2) (claims· .3) T7 (record { pos = 13; st = List.[]; d = 0; at = λ x. x }, tt,) 14 List.[] Syntax.tyBool
+  s6 = Call.callB ps·1 r·1 (claims· .2) (claims· .3) T7 args6 14 List.[] Syntax.tyBool
+
   abbrev s7 : Typed.Mo T8 → Typed.Mo T10
   s7 = Scalar.n-room T8 13 Laws.mir
+
   abbrev s8 : Typed.Mo T10 → Typed.Mo T11
   s8 = Scalar.n-room T10 14 Syntax.tyBool
+
   abbrev s10 : Typed.Gives T11 T13
   s10 = Relend.k-sl-relend RelayPending.row T11 1 15 0 9 ref5 ref0 Row.off λ x. x
+
   abbrev s11 : Typed.Asks T13 T14
-  s11 = Relend.k-sl-aggregate RelayPending.row (Relend.asMut RelayPending.row) T13 15 16 9 ref0 ref0 (λ x. x) (Scalar.oFld 1 ((Syntax.field 1) ∷
-      List.[]) (Syntax.tyInt Syntax.w64) 8 λ v. Shared.lenV (v .0))
+  s11 = Relend.k-sl-aggregate RelayPending.row (Relend.asMut RelayPending.row) T13 15 16 9 ref0 ref0 (λ x. x) (Scalar.oFld
+      1 ((Syntax.field 1) ∷ List.[]) (Syntax.tyInt Syntax.w64) 8 λ v. Shared.lenV (v .0))
+
   abbrev s13 : Typed.Gives T14 T16
   s13 = Relend.k-sl-relend RelayCircuit.row T14 2 17 1 10 ref6 ref1 Row.off λ x. x
+
   abbrev s14 : Typed.Asks T16 T17
-  s14 = Relend.k-sl-aggregate RelayCircuit.row (Relend.asMut RelayCircuit.row) T16 17 18 10 ref1 ref1 (λ x. x) (Scalar.oFld 2 ((Syntax.field 1) ∷
-      List.[]) (Syntax.tyInt Syntax.w64) 8 λ v. Shared.lenV (v .0))
+  s14 = Relend.k-sl-aggregate RelayCircuit.row (Relend.asMut RelayCircuit.row) T16 17 18 10 ref1 ref1 (λ x. x) (Scalar.oFld
+      2 ((Syntax.field 1) ∷ List.[]) (Syntax.tyInt Syntax.w64) 8 λ v. Shared.lenV (v .0))
+
   abbrev s16 : Typed.Gives T17 T19
   s16 = Relend.k-sl-relend ReservationUsage.row T17 3 19 2 11 ref7 ref2 Row.off λ x. x
+
   abbrev s17 : Typed.Asks T19 T20
-  s17 = Relend.k-sl-aggregate ReservationUsage.row (Relend.asMut ReservationUsage.row) T19 19 20 11 ref2 ref2 (λ x. x) (Scalar.oFld 3 ((Syntax.field
-      1) ∷ List.[]) (Syntax.tyInt Syntax.w64) 8 λ v. Shared.lenV (v .0))
+  s17 = Relend.k-sl-aggregate ReservationUsage.row (Relend.asMut ReservationUsage.row) T19 19 20 11 ref2 ref2 (λ x. x) (Scalar.oFld
+      3 ((Syntax.field 1) ∷ List.[]) (Syntax.tyInt Syntax.w64) 8 λ v. Shared.lenV (v .0))
+
   abbrev s19 : Typed.Gives T20 T22
   s19 = Relend.k-sl-relend InflightAction.row T20 4 21 3 12 ref8 ref3 Row.off λ x. x
+
   abbrev s20 : Typed.Asks T22 T23
-  s20 = Relend.k-sl-aggregate InflightAction.row (Relend.asMut InflightAction.row) T22 21 22 12 ref3 ref3 (λ x. x) (Scalar.oFld 4 ((Syntax.field 1) ∷
-      List.[]) (Syntax.tyInt Syntax.w64) 8 λ v. Shared.lenV (v .0))
+  s20 = Relend.k-sl-aggregate InflightAction.row (Relend.asMut InflightAction.row) T22 21 22 12 ref3 ref3 (λ x. x) (Scalar.oFld
+      4 ((Syntax.field 1) ∷ List.[]) (Syntax.tyInt Syntax.w64) 8 λ v. Shared.lenV (v .0))
+
   abbrev s22 : Typed.Gives T23 T25
   s22 = Relend.k-sl-relend (Referent.rtF (Referent.fInt Syntax.w32)) T23 5 23 4 13 ref9 ref4 Row.off λ x. x
+
   abbrev s23 : Typed.Asks T25 T26
-  s23 = Relend.k-sl-aggregate (Referent.rtF (Referent.fInt Syntax.w32)) (Relend.asMut (Referent.rtF (Referent.fInt Syntax.w32))) T25 23 24 13 ref4
-      ref4 (λ x. x) (Scalar.oFld 5 ((Syntax.field 1) ∷ List.[]) (Syntax.tyInt Syntax.w64) 8 λ v. Shared.lenV (v .0))
+  s23 = Relend.k-sl-aggregate (Referent.rtF (Referent.fInt Syntax.w32))
+      (Relend.asMut (Referent.rtF (Referent.fInt Syntax.w32))) T25 23 24 13 ref4 ref4 (λ x. x) (Scalar.oFld 5
+      ((Syntax.field 1) ∷ List.[]) (Syntax.tyInt Syntax.w64) 8 λ v. Shared.lenV (v .0))
+
+  abbrev args24 : Args'.ArgsT ps·2 (T26 .locals)
+  args24 = (
+    record { pos = 16; ty = ref0; ref = λ x. x },
+    (
+      record { pos = 18; ty = ref1; ref = λ x. x },
+      (
+        record { pos = 20; ty = ref2; ref = λ x. x },
+        (
+          record { pos = 22; ty = ref3; ref = λ x. x },
+          (
+            record { pos = 24; ty = ref4; ref = λ x. x },
+            (
+              record { pos = 6; st = List.[]; d = 0; at = λ x. x },
+              (
+                record { pos = 7; st = List.[]; d = 0; at = λ x. x },
+                (
+                  record { pos = 8; st = List.[]; d = 0; at = λ x. x },
+                  (
+                    record { pos = 9; ty = ref10; ref = λ x. x },
+                    (
+                      record { pos = 10; ty = ref11; ref = λ x. x },
+                      (
+                        record { pos = 11; ty = ref12; ref = λ x. x },
+                        (record { pos = 12; ty = ref13; ref = λ x. x }, tt),
+                      ),
+                    ),
+                  ),
+                ),
+              ),
+            ),
+          ),
+        ),
+      ),
+    ),
+  )
+
   abbrev s24 : Typed.Both T26 T27
-  s24 = Call.callB ps·2 r·2 (claims· .4) (claims· .5) T26 (record { pos = 16; ty = Syntax.tyRef Syntax.erased Syntax.mut RelayPending.to; ref = λ x.
-      x; }, (record { pos = 18; ty = Syntax.tyRef Syntax.erased Syntax.mut RelayCircuit.to; ref = λ x. x; }, (record { pos = 20; ty = Syntax.tyRef
-      Syntax.erased Syntax.mut ReservationUsage.to; ref = λ x. x; }, (record { pos = 22; ty = Syntax.tyRef Syntax.erased Syntax.mut InflightAction.to;
-      ref = λ x. x; }, (record { pos = 24; ty = Syntax.tyRef Syntax.erased Syntax.mut (Syntax.tyInt Syntax.w32); ref = λ x. x; }, (record { pos = 6;
-      st = List.[]; d = 0; at = λ x. x }, (record { pos = 7; st = List.[]; d = 0; at = λ x. x }, (record { pos = 8; st = List.[]; d = 0; at = λ x. x
-      }, (record { pos = 9; ty = Syntax.tyRef (Syntax.named 5) Syntax.imm (Syntax.tyInt Syntax.w8); ref = λ x. x; }, (record { pos = 10; ty =
-      Syntax.tyRef (Syntax.named 6) Syntax.imm (Syntax.tyInt Syntax.w8); ref = λ x. x; }, (record { pos = 11; ty = Syntax.tyRef (Syntax.named 7)
-      Syntax.imm (Syntax.tyInt Syntax.w8); ref = λ x. x; }, (record { pos = 12; ty = Syntax.tyRef (Syntax.named 8) Syntax.imm (Syntax.tyInt
-      Syntax.w8); ref = λ x. x; }, tt,),),),),),),),),),),),) 0 (9 ∷ 10 ∷ 11 ∷ 12 ∷ 13 ∷ 5 ∷ 6 ∷ 7 ∷ 8 ∷ List.[]) Laws''''.mir
+  s24 = Call.callB ps·2 r·2 (claims· .4) (claims· .5) T26 args24 0 (9 ∷ 10 ∷ 11 ∷ 12 ∷ 13 ∷ 5 ∷ 6 ∷ 7 ∷ 8 ∷ List.[])
+      Laws''''.mir
+
   abbrev s25 : Typed.Mo T27 → Typed.Mo T28
   s25 = Scalar.n-room T27 6 Laws'''.mir
+
   abbrev s26 : Typed.Mo T28 → Typed.Mo T29
   s26 = Scalar.n-room T28 7 Laws'.mir
+
   abbrev s27 : Typed.Mo T29 → Typed.Mo T30
   s27 = Scalar.n-room T29 8 Laws''.mir
+
   abbrev s29 : Typed.Both T30 T32
   s29 = Relend.k-back-sl RelayPending.row T30 16 1 0 9 ref5 ref0 Row.off (λ x. x) λ x. x
+
   abbrev s32 : Typed.Both T32 T35
   s32 = Relend.k-back-sl RelayCircuit.row T32 18 2 1 10 ref6 ref1 Row.off (λ x. x) λ x. x
+
   abbrev s35 : Typed.Both T35 T38
   s35 = Relend.k-back-sl ReservationUsage.row T35 20 3 2 11 ref7 ref2 Row.off (λ x. x) λ x. x
+
   abbrev s38 : Typed.Both T38 T41
   s38 = Relend.k-back-sl InflightAction.row T38 22 4 3 12 ref8 ref3 Row.off (λ x. x) λ x. x
+
   abbrev s41 : Typed.Both T41 T44
   s41 = Relend.k-back-sl (Referent.rtF (Referent.fInt Syntax.w32)) T41 24 5 4 13 ref9 ref4 Row.off (λ x. x) λ x. x
+
   abbrev s42 : Typed.Gives T44 T45
   s42 = Know.k-sl-known (Referent.fInt Syntax.w32) T44 5 4 ref9 Row.off 0 λ x. x
+
   abbrev s44 : Typed.Mo T8 → Typed.Mo T47
   s44 = Scalar.n-room T8 8 Laws''.mir
+
   abbrev s45 : Typed.Mo T47 → Typed.Mo T48
   s45 = Scalar.n-room T47 14 Syntax.tyBool
+
+  abbrev args46 : Args'.ArgsT ps·3 (T9 .locals)
+  args46 = (
+    record { pos = 6; st = List.[]; d = 0; at = λ x. x },
+    (
+      record { pos = 7; st = List.[]; d = 0; at = λ x. x },
+      (record { pos = 13; st = List.[]; d = 0; at = λ x. x }, tt),
+    ),
+  )
+
   abbrev s46 : Typed.Both T9 T49
-  s46 = Call.callB ps·3 r·3 (claims· .6) (claims· .7) T9 (record { pos = 6; st = List.[]; d = 0; at = λ x. x }, (record { pos = 7; st = List.[]; d =
-      0; at = λ x. x }, (record { pos = 13; st = List.[]; d = 0; at = λ x. x }, tt),),) 0 List.[] Laws''''.mir
+  s46 = Call.callB ps·3 r·3 (claims· .6) (claims· .7) T9 args46 0 List.[] Laws''''.mir
+
   abbrev s47 : Typed.Mo T49 → Typed.Mo T50
   s47 = Scalar.n-room T49 6 Laws'''.mir
+
   abbrev s48 : Typed.Mo T50 → Typed.Mo T51
   s48 = Scalar.n-room T50 7 Laws'.mir
+
   abbrev s49 : Typed.Mo T51 → Typed.Mo T52
   s49 = Scalar.n-room T51 13 Laws.mir
-  module _ (Pre· : (κs : Lifetimes.Lfts 9) → Kinds.Dens κs ps → Type 0) (Post· : (κs : Lifetimes.Lfts 9) → (a : Kinds.Dens κs ps) → Kinds.Plain 9 ps r
-      κs) where
+
+  module _ (Pre· : (κs : Lifetimes.Lfts 9) → Kinds.Dens κs ps → Type 0) (Post· : (κs : Lifetimes.Lfts 9) →
+      (a : Kinds.Dens κs ps) → Kinds.Plain 9 ps r κs) where
     module _ (M : Type 1) where
       abbrev pub Closed : Type 2
-      Closed = (𝓤 : URA.URA M) (H : Wp.Heap 𝓤) (A : Atoms.Atoms 𝓤) (W : Kit.Given 𝓤 H A) (𝓣 : Wp.Tables 𝓤 H) (known0 : Plain.Known 𝓤 H A W 𝓣 0 ps·0
-          r·0 (claims· .0) (claims· .1) "hnsr_circuit::handle::gate_answer") (known1 : Plain.Known 𝓤 H A W 𝓣 0 ps·1 r·1 (claims· .2) (claims· .3)
-          "hnsr_circuit::answer::is_taken") (known2 : Plain.Known 𝓤 H A W 𝓣 9 ps·2 r·2 (claims· .4) (claims· .5) "hnsr_circuit::handle::dispatch")
-          (known3 : Plain.Known 𝓤 H A W 𝓣 0 ps·3 r·3 (claims· .6) (claims· .7) "hnsr_circuit::revoking_calls::refused") → Statement.Triple 𝓤 (Wp.WpFn
-          𝓤 H (𝓣 .C) (𝓣 .Λ) (Function.fnOf 9 ps r xs m hs body)) (Function.plainOf 𝓤 H A 9 ps r Pre· Post·)
+      Closed = (𝓤 : URA.URA M) (H : Wp.Heap 𝓤) (A : Atoms.Atoms 𝓤) (W : Kit.Given 𝓤 H A) (𝓣 : Wp.Tables 𝓤 H) (known0 :
+          Plain.Known 𝓤 H A W 𝓣 0 ps·0 r·0 (claims· .0) (claims· .1) "hnsr_circuit::handle::gate_answer") (known1 :
+          Plain.Known 𝓤 H A W 𝓣 0 ps·1 r·1 (claims· .2) (claims· .3) "hnsr_circuit::answer::is_taken") (known2 :
+          Plain.Known 𝓤 H A W 𝓣 9 ps·2 r·2 (claims· .4) (claims· .5) "hnsr_circuit::handle::dispatch") (known3 :
+          Plain.Known 𝓤 H A W 𝓣 0 ps·3 r·3 (claims· .6) (claims· .7) "hnsr_circuit::revoking_calls::refused") →
+          Statement.Triple 𝓤 (Wp.WpFn 𝓤 H (𝓣 .C) (𝓣 .Λ) (Function.fnOf 9 ps r xs m hs body))
+          (Function.plainOf 𝓤 H A 9 ps r Pre· Post·)
+
     module _ where
       abbrev at0 : Typed.TF T45 O1
       at0 = Typed.atRet O1
+
       abbrev at1 : Typed.TF T45 O1
       at1 = λ Ψ. at0 Ψ
+
       abbrev at2 : Typed.TF T44 O1
       at2 = λ Ψ. Typed.give s42 (at1 Ψ)
+
       abbrev at3 : Typed.TF T41 O1
       at3 = λ Ψ. Typed.both s41 (at2 Ψ)
+
       abbrev at4 : Typed.TF T41 O1
       at4 = λ Ψ. at3 Ψ
+
       abbrev at5 : Typed.TF T41 O1
       at5 = λ Ψ. at4 Ψ
+
       abbrev at6 : Typed.TF T38 O1
       at6 = λ Ψ. Typed.both s38 (at5 Ψ)
+
       abbrev at7 : Typed.TF T38 O1
       at7 = λ Ψ. at6 Ψ
+
       abbrev at8 : Typed.TF T38 O1
       at8 = λ Ψ. at7 Ψ
+
       abbrev at9 : Typed.TF T35 O1
       at9 = λ Ψ. Typed.both s35 (at8 Ψ)
+
       abbrev at10 : Typed.TF T35 O1
       at10 = λ Ψ. at9 Ψ
+
       abbrev at11 : Typed.TF T35 O1
       at11 = λ Ψ. at10 Ψ
+
       abbrev at12 : Typed.TF T32 O1
       at12 = λ Ψ. Typed.both s32 (at11 Ψ)
+
       abbrev at13 : Typed.TF T32 O1
       at13 = λ Ψ. at12 Ψ
+
       abbrev at14 : Typed.TF T32 O1
       at14 = λ Ψ. at13 Ψ
+
       abbrev at15 : Typed.TF T30 O1
       at15 = λ Ψ. Typed.both s29 (at14 Ψ)
+
       abbrev at16 : Typed.TF T30 O1
       at16 = λ Ψ. at15 Ψ
+
       abbrev at17 : Typed.TF T29 O1
       at17 = λ Ψ. Typed.pass T29 T30 s27 (at16 Ψ)
+
       abbrev at18 : Typed.TF T28 O1
       at18 = λ Ψ. Typed.pass T28 T29 s26 (at17 Ψ)
+
       abbrev at19 : Typed.TF T27 O1
       at19 = λ Ψ. Typed.pass T27 T28 s25 (at18 Ψ)
+
       abbrev at20 : Typed.TF T26 O1
       at20 = λ Ψ. Typed.both s24 (at19 Ψ)
+
       abbrev at21 : Typed.TF T25 O1
       at21 = λ Ψ. Typed.ask s23 (at20 Ψ)
+
       abbrev at22 : Typed.TF T23 O1
       at22 = λ Ψ. Typed.give s22 (at21 Ψ)
+
       abbrev at23 : Typed.TF T23 O1
       at23 = λ Ψ. at22 Ψ
+
       abbrev at24 : Typed.TF T22 O1
       at24 = λ Ψ. Typed.ask s20 (at23 Ψ)
+
       abbrev at25 : Typed.TF T20 O1
       at25 = λ Ψ. Typed.give s19 (at24 Ψ)
+
       abbrev at26 : Typed.TF T20 O1
       at26 = λ Ψ. at25 Ψ
+
       abbrev at27 : Typed.TF T19 O1
       at27 = λ Ψ. Typed.ask s17 (at26 Ψ)
+
       abbrev at28 : Typed.TF T17 O1
       at28 = λ Ψ. Typed.give s16 (at27 Ψ)
+
       abbrev at29 : Typed.TF T17 O1
       at29 = λ Ψ. at28 Ψ
+
       abbrev at30 : Typed.TF T16 O1
       at30 = λ Ψ. Typed.ask s14 (at29 Ψ)
+
       abbrev at31 : Typed.TF T14 O1
       at31 = λ Ψ. Typed.give s13 (at30 Ψ)
+
       abbrev at32 : Typed.TF T14 O1
       at32 = λ Ψ. at31 Ψ
+
       abbrev at33 : Typed.TF T13 O1
       at33 = λ Ψ. Typed.ask s11 (at32 Ψ)
+
       abbrev at34 : Typed.TF T11 O1
       at34 = λ Ψ. Typed.give s10 (at33 Ψ)
+
       abbrev at35 : Typed.TF T11 O1
       at35 = λ Ψ. at34 Ψ
+
       abbrev at36 : Typed.TF T10 O1
       at36 = λ Ψ. Typed.pass T10 T11 s8 (at35 Ψ)
+
       abbrev at37 : Typed.TF T8 O1
       at37 = λ Ψ. Typed.pass T8 T10 s7 (at36 Ψ)
+
       abbrev at38 : Typed.TF T48 O1
       at38 = Typed.atNext O1
+
       abbrev at39 : Typed.TF T47 O1
       at39 = λ Ψ. Typed.pass T47 T48 s45 (at38 Ψ)
+
       abbrev at40 : Typed.TF T8 O1
       at40 = λ Ψ. Typed.pass T8 T47 s44 (at39 Ψ)
+
       abbrev at41 : Typed.TF T8 O1
       at41 = Scalar.Φcond T8 O1 14 (λ x. x) at37 at40
+
       abbrev at42 : Typed.TF T52 O0
       at42 = Typed.atRet O0
+
       abbrev at43 : Typed.TF T51 O0
       at43 = λ Ψ. Typed.pass T51 T52 s49 (at42 Ψ)
+
       abbrev at44 : Typed.TF T50 O0
       at44 = λ Ψ. Typed.pass T50 T51 s48 (at43 Ψ)
+
       abbrev at45 : Typed.TF T49 O0
       at45 = λ Ψ. Typed.pass T49 T50 s47 (at44 Ψ)
+
       abbrev at46 : Typed.TF T9 O0
       at46 = λ Ψ. Typed.both s46 (at45 Ψ)
+
       abbrev at47 : Typed.TF T8 O0
       at47 = λ Ψ. at41 (Typed.wantNext T9 O0 (at46 Ψ) Ψ)
+
       abbrev at48 : Typed.TF T7 O0
       at48 = λ Ψ. Typed.both s6 (at47 Ψ)
+
       abbrev at49 : Typed.TF T6 O0
       at49 = λ Ψ. Typed.both s5 (at48 Ψ)
+
       abbrev at50 : Typed.TF T5 O0
       at50 = λ Ψ. Typed.give s4 (at49 Ψ)
+
       abbrev at51 : Typed.TF T4 O0
       at51 = λ Ψ. Typed.give s3 (at50 Ψ)
+
       abbrev at52 : Typed.TF T3 O0
       at52 = λ Ψ. Typed.give s2 (at51 Ψ)
+
       abbrev at53 : Typed.TF T2 O0
       at53 = λ Ψ. Typed.give s1 (at52 Ψ)
+
       abbrev at54 : Typed.TF T0 O0
       at54 = λ Ψ. Typed.give s0 (at53 Ψ)
+
       abbrev pub Φ : Typed.TF T0 O0
       Φ = at54
-      module _ { M : Type 1 } (𝓤 : URA.URA M) (H : Wp.Heap 𝓤) (A : Atoms.Atoms 𝓤) (W : Kit.Given 𝓤 H A) (𝓣 : Wp.Tables 𝓤 H) where
+
+      module _ {M : Type 1} (𝓤 : URA.URA M) (H : Wp.Heap 𝓤) (A : Atoms.Atoms 𝓤) (W : Kit.Given 𝓤 H A)
+          (𝓣 : Wp.Tables 𝓤 H) where
         abbrev Knowns : Type 1
-        Knowns = Plain.Known 𝓤 H A W 𝓣 0 ps·0 r·0 (claims· .0) (claims· .1) "hnsr_circuit::handle::gate_answer" × Plain.Known 𝓤 H A W 𝓣 0 ps·1 r·1
-            (claims· .2) (claims· .3) "hnsr_circuit::answer::is_taken" × Plain.Known 𝓤 H A W 𝓣 9 ps·2 r·2 (claims· .4) (claims· .5)
-            "hnsr_circuit::handle::dispatch" × Plain.Known 𝓤 H A W 𝓣 0 ps·3 r·3 (claims· .6) (claims· .7) "hnsr_circuit::revoking_calls::refused"
+        Knowns = Plain.Known 𝓤 H A W 𝓣 0 ps·0 r·0 (claims· .0) (claims· .1) "hnsr_circuit::handle::gate_answer" ×
+            Plain.Known 𝓤 H A W 𝓣 0 ps·1 r·1 (claims· .2) (claims· .3) "hnsr_circuit::answer::is_taken" × Plain.Known 𝓤
+            H A W 𝓣 9 ps·2 r·2 (claims· .4) (claims· .5) "hnsr_circuit::handle::dispatch" × Plain.Known 𝓤 H A W 𝓣 0
+            ps·3 r·3 (claims· .6) (claims· .7) "hnsr_circuit::revoking_calls::refused"
+
       module _ (κs : Lifetimes.Lfts 9) (qs : Lifetimes.Shares 9) where
         abbrev life0 : Row.Life
         life0 = Row.lease (κs .0) (qs .0)
+
         abbrev life1 : Row.Life
         life1 = Row.lease (κs .1 .0) (qs .1 .0)
+
         abbrev life2 : Row.Life
         life2 = Row.lease (κs .1 .1 .0) (qs .1 .1 .0)
+
         abbrev life3 : Row.Life
         life3 = Row.lease (κs .1 .1 .1 .0) (qs .1 .1 .1 .0)
+
         abbrev life4 : Row.Life
         life4 = Row.lease (κs .1 .1 .1 .1 .0) (qs .1 .1 .1 .1 .0)
+
         abbrev life5 : Row.Life
         life5 = Row.lease (κs .1 .1 .1 .1 .1 .0) (qs .1 .1 .1 .1 .1 .0)
+
         abbrev life6 : Row.Life
         life6 = Row.lease (κs .1 .1 .1 .1 .1 .1 .0) (qs .1 .1 .1 .1 .1 .1 .0)
+
         abbrev life7 : Row.Life
         life7 = Row.lease (κs .1 .1 .1 .1 .1 .1 .1 .0) (qs .1 .1 .1 .1 .1 .1 .1 .0)
+
         abbrev life8 : Row.Life
         life8 = Row.lease (κs .1 .1 .1 .1 .1 .1 .1 .1 .0) (qs .1 .1 .1 .1 .1 .1 .1 .1 .0)
+
+        abbrev l1 : Row.Entry
+        l1 = (1, Relend.mslice-owed RelayPending.row ref5 0 9 life0)
+
+        abbrev l2 : Row.Entry
+        l2 = (2, Relend.mslice-owed RelayCircuit.row ref6 1 10 life1)
+
+        abbrev l3 : Row.Entry
+        l3 = (3, Relend.mslice-owed ReservationUsage.row ref7 2 11 life2)
+
+        abbrev l4 : Row.Entry
+        l4 = (4, Relend.mslice-owed InflightAction.row ref8 3 12 life3)
+
+        abbrev l5 : Row.Entry
+        l5 = (5, Relend.mslice-owed (Referent.rtF (Referent.fInt Syntax.w32)) ref9 4 13 life4)
+
         abbrev g7 : List.List Row.Entry
-        g7 = (0, Rows.any-gone Laws''''.mir,) ∷ (1, Relend.mslice-owed RelayPending.row ref5 0 9 life0,) ∷ (2, Mut.mslice RelayCircuit.row ref6 1,) ∷
-            (3, Mut.mslice ReservationUsage.row ref7 2,) ∷ (4, Mut.mslice InflightAction.row ref8 3,) ∷ (5, Mut.mslice (Referent.rtF (Referent.fInt
-            Syntax.w32)) ref9 4,) ∷ (6, Rows.whole (Declared'.row OpaqueRelayRuntime.the-type)) ∷ (7, Rows.whole (Declared'.row Places.the-type),) ∷
-            (8, Rows.whole (Declared'.row RelayPacket.the-type)) ∷ (9, Rows.sslice (Referent.rtF (Referent.fInt Syntax.w8)) ref10 5,) ∷ (10,
-            Rows.sslice (Referent.rtF (Referent.fInt Syntax.w8)) ref11 6,) ∷ (11, Rows.sslice (Referent.rtF (Referent.fInt Syntax.w8)) ref12 7,) ∷
-            (12, Rows.sslice (Referent.rtF (Referent.fInt Syntax.w8)) ref13 8,) ∷ (13, Rows.any-gone Laws.mir,) ∷ (14, Rows.any-gone Syntax.tyBool) ∷
-            (15, Relend.msptr RelayPending.row ref0 9,) ∷ List.[]
+        g7 = e0 ∷ l1 ∷ e2 ∷ e3 ∷ e4 ∷ e5 ∷ e6 ∷ e7 ∷ e8 ∷ e9 ∷ e10 ∷ e11 ∷ e12 ∷ e13 ∷ e14 ∷ e15·1 ∷ List.[]
+
         abbrev g8 : List.List Row.Entry
-        g8 = (0, Rows.any-gone Laws''''.mir,) ∷ (1, Relend.mslice-owed RelayPending.row ref5 0 9 life0,) ∷ (2, Mut.mslice RelayCircuit.row ref6 1,) ∷
-            (3, Mut.mslice ReservationUsage.row ref7 2,) ∷ (4, Mut.mslice InflightAction.row ref8 3,) ∷ (5, Mut.mslice (Referent.rtF (Referent.fInt
-            Syntax.w32)) ref9 4,) ∷ (6, Rows.whole (Declared'.row OpaqueRelayRuntime.the-type)) ∷ (7, Rows.whole (Declared'.row Places.the-type),) ∷
-            (8, Rows.whole (Declared'.row RelayPacket.the-type)) ∷ (9, Rows.sslice (Referent.rtF (Referent.fInt Syntax.w8)) ref10 5,) ∷ (10,
-            Rows.sslice (Referent.rtF (Referent.fInt Syntax.w8)) ref11 6,) ∷ (11, Rows.sslice (Referent.rtF (Referent.fInt Syntax.w8)) ref12 7,) ∷
-            (12, Rows.sslice (Referent.rtF (Referent.fInt Syntax.w8)) ref13 8,) ∷ (13, Rows.any-gone Laws.mir,) ∷ (14, Rows.any-gone Syntax.tyBool) ∷
-            (15, Rows.any-gone ref0,) ∷ List.[]
+        g8 = e0 ∷ l1 ∷ e2 ∷ e3 ∷ e4 ∷ e5 ∷ e6 ∷ e7 ∷ e8 ∷ e9 ∷ e10 ∷ e11 ∷ e12 ∷ e13 ∷ e14 ∷ e15 ∷ List.[]
+
         abbrev g10 : List.List Row.Entry
-        g10 = (0, Rows.any-gone Laws''''.mir,) ∷ (1, Relend.mslice-owed RelayPending.row ref5 0 9 life0,) ∷ (2, Relend.mslice-owed RelayCircuit.row
-            ref6 1 10 life1,) ∷ (3, Mut.mslice ReservationUsage.row ref7 2,) ∷ (4, Mut.mslice InflightAction.row ref8 3,) ∷ (5, Mut.mslice
-            (Referent.rtF (Referent.fInt Syntax.w32)) ref9 4,) ∷ (6, Rows.whole (Declared'.row OpaqueRelayRuntime.the-type)) ∷ (7, Rows.whole
-            (Declared'.row Places.the-type),) ∷ (8, Rows.whole (Declared'.row RelayPacket.the-type)) ∷ (9, Rows.sslice (Referent.rtF (Referent.fInt
-            Syntax.w8)) ref10 5,) ∷ (10, Rows.sslice (Referent.rtF (Referent.fInt Syntax.w8)) ref11 6,) ∷ (11, Rows.sslice (Referent.rtF
-            (Referent.fInt Syntax.w8)) ref12 7,) ∷ (12, Rows.sslice (Referent.rtF (Referent.fInt Syntax.w8)) ref13 8,) ∷ (13, Rows.any-gone Laws.mir,)
-            ∷ (14, Rows.any-gone Syntax.tyBool) ∷ (15, Rows.any-gone ref0,) ∷ List.[]
+        g10 = e0 ∷ l1 ∷ l2 ∷ e3 ∷ e4 ∷ e5 ∷ e6 ∷ e7 ∷ e8 ∷ e9 ∷ e10 ∷ e11 ∷ e12 ∷ e13 ∷ e14 ∷ e15 ∷ List.[]
+
         abbrev g13 : List.List Row.Entry
-        g13 = (0, Rows.any-gone Laws''''.mir,) ∷ (1, Relend.mslice-owed RelayPending.row ref5 0 9 life0,) ∷ (2, Relend.mslice-owed RelayCircuit.row
-            ref6 1 10 life1,) ∷ (3, Relend.mslice-owed ReservationUsage.row ref7 2 11 life2,) ∷ (4, Mut.mslice InflightAction.row ref8 3,) ∷ (5,
-            Mut.mslice (Referent.rtF (Referent.fInt Syntax.w32)) ref9 4,) ∷ (6, Rows.whole (Declared'.row OpaqueRelayRuntime.the-type)) ∷ (7,
-            Rows.whole (Declared'.row Places.the-type),) ∷ (8, Rows.whole (Declared'.row RelayPacket.the-type)) ∷ (9, Rows.sslice (Referent.rtF
-            (Referent.fInt Syntax.w8)) ref10 5,) ∷ (10, Rows.sslice (Referent.rtF (Referent.fInt Syntax.w8)) ref11 6,) ∷ (11, Rows.sslice
-            (Referent.rtF (Referent.fInt Syntax.w8)) ref12 7,) ∷ (12, Rows.sslice (Referent.rtF (Referent.fInt Syntax.w8)) ref13 8,) ∷ (13,
-            Rows.any-gone Laws.mir,) ∷ (14, Rows.any-gone Syntax.tyBool) ∷ (15, Rows.any-gone ref0,) ∷ List.[]
+        g13 = e0 ∷ l1 ∷ l2 ∷ l3 ∷ e4 ∷ e5 ∷ e6 ∷ e7 ∷ e8 ∷ e9 ∷ e10 ∷ e11 ∷ e12 ∷ e13 ∷ e14 ∷ e15 ∷ List.[]
+
         abbrev g16 : List.List Row.Entry
-        g16 = (0, Rows.any-gone Laws''''.mir,) ∷ (1, Relend.mslice-owed RelayPending.row ref5 0 9 life0,) ∷ (2, Relend.mslice-owed RelayCircuit.row
-            ref6 1 10 life1,) ∷ (3, Relend.mslice-owed ReservationUsage.row ref7 2 11 life2,) ∷ (4, Relend.mslice-owed InflightAction.row ref8 3 12
-            life3,) ∷ (5, Mut.mslice (Referent.rtF (Referent.fInt Syntax.w32)) ref9 4,) ∷ (6, Rows.whole (Declared'.row OpaqueRelayRuntime.the-type))
-            ∷ (7, Rows.whole (Declared'.row Places.the-type),) ∷ (8, Rows.whole (Declared'.row RelayPacket.the-type)) ∷ (9, Rows.sslice (Referent.rtF
-            (Referent.fInt Syntax.w8)) ref10 5,) ∷ (10, Rows.sslice (Referent.rtF (Referent.fInt Syntax.w8)) ref11 6,) ∷ (11, Rows.sslice
-            (Referent.rtF (Referent.fInt Syntax.w8)) ref12 7,) ∷ (12, Rows.sslice (Referent.rtF (Referent.fInt Syntax.w8)) ref13 8,) ∷ (13,
-            Rows.any-gone Laws.mir,) ∷ (14, Rows.any-gone Syntax.tyBool) ∷ (15, Rows.any-gone ref0,) ∷ List.[]
+        g16 = e0 ∷ l1 ∷ l2 ∷ l3 ∷ l4 ∷ e5 ∷ e6 ∷ e7 ∷ e8 ∷ e9 ∷ e10 ∷ e11 ∷ e12 ∷ e13 ∷ e14 ∷ e15 ∷ List.[]
+
         abbrev g19 : List.List Row.Entry
-        g19 = (0, Rows.any-gone Laws''''.mir,) ∷ (1, Relend.mslice-owed RelayPending.row ref5 0 9 life0,) ∷ (2, Relend.mslice-owed RelayCircuit.row
-            ref6 1 10 life1,) ∷ (3, Relend.mslice-owed ReservationUsage.row ref7 2 11 life2,) ∷ (4, Relend.mslice-owed InflightAction.row ref8 3 12
-            life3,) ∷ (5, Relend.mslice-owed (Referent.rtF (Referent.fInt Syntax.w32)) ref9 4 13 life4,) ∷ (6, Rows.whole (Declared'.row
-            OpaqueRelayRuntime.the-type)) ∷ (7, Rows.whole (Declared'.row Places.the-type),) ∷ (8, Rows.whole (Declared'.row RelayPacket.the-type)) ∷
-            (9, Rows.sslice (Referent.rtF (Referent.fInt Syntax.w8)) ref10 5,) ∷ (10, Rows.sslice (Referent.rtF (Referent.fInt Syntax.w8)) ref11 6,) ∷
-            (11, Rows.sslice (Referent.rtF (Referent.fInt Syntax.w8)) ref12 7,) ∷ (12, Rows.sslice (Referent.rtF (Referent.fInt Syntax.w8)) ref13 8,)
-            ∷ (13, Rows.any-gone Laws.mir,) ∷ (14, Rows.any-gone Syntax.tyBool) ∷ (15, Rows.any-gone ref0,) ∷ List.[]
+        g19 = e0 ∷ l1 ∷ l2 ∷ l3 ∷ l4 ∷ l5 ∷ e6 ∷ e7 ∷ e8 ∷ e9 ∷ e10 ∷ e11 ∷ e12 ∷ e13 ∷ e14 ∷ e15 ∷ List.[]
+
         abbrev g22 : List.List Row.Entry
-        g22 = (0, Rows.whole (Declared'.row Relayed.the-type)) ∷ (1, Relend.mslice-owed RelayPending.row ref5 0 9 life0,) ∷ (2, Relend.mslice-owed
-            RelayCircuit.row ref6 1 10 life1,) ∷ (3, Relend.mslice-owed ReservationUsage.row ref7 2 11 life2,) ∷ (4, Relend.mslice-owed
-            InflightAction.row ref8 3 12 life3,) ∷ (5, Relend.mslice-owed (Referent.rtF (Referent.fInt Syntax.w32)) ref9 4 13 life4,) ∷ (6, Rows.whole
-            (Declared'.row OpaqueRelayRuntime.the-type)) ∷ (7, Rows.whole (Declared'.row Places.the-type),) ∷ (8, Rows.whole (Declared'.row
-            RelayPacket.the-type)) ∷ (9, Rows.sslice (Referent.rtF (Referent.fInt Syntax.w8)) ref10 5,) ∷ (10, Rows.sslice (Referent.rtF
-            (Referent.fInt Syntax.w8)) ref11 6,) ∷ (11, Rows.sslice (Referent.rtF (Referent.fInt Syntax.w8)) ref12 7,) ∷ (12, Rows.sslice
-            (Referent.rtF (Referent.fInt Syntax.w8)) ref13 8,) ∷ (13, Rows.any-gone Laws.mir,) ∷ (14, Rows.any-gone Syntax.tyBool) ∷ (15,
-            Rows.any-gone ref0,) ∷ List.[]
+        g22 = e0·1 ∷ l1 ∷ l2 ∷ l3 ∷ l4 ∷ l5 ∷ e6 ∷ e7 ∷ e8 ∷ e9 ∷ e10 ∷ e11 ∷ e12 ∷ e13 ∷ e14 ∷ e15 ∷ List.[]
+
         abbrev g24 : List.List Row.Entry
-        g24 = (0, Rows.whole (Declared'.row Relayed.the-type)) ∷ (1, Relend.mslice-owed RelayPending.row ref5 0 9 life0,) ∷ (2, Relend.mslice-owed
-            RelayCircuit.row ref6 1 10 life1,) ∷ (3, Relend.mslice-owed ReservationUsage.row ref7 2 11 life2,) ∷ (4, Relend.mslice-owed
-            InflightAction.row ref8 3 12 life3,) ∷ (5, Relend.mslice-owed (Referent.rtF (Referent.fInt Syntax.w32)) ref9 4 13 life4,) ∷ (6,
-            Rows.any-gone Laws'''.mir,) ∷ (7, Rows.whole (Declared'.row Places.the-type)) ∷ (8, Rows.whole (Declared'.row RelayPacket.the-type),) ∷
-            (9, Rows.sslice (Referent.rtF (Referent.fInt Syntax.w8)) ref10 5,) ∷ (10, Rows.sslice (Referent.rtF (Referent.fInt Syntax.w8)) ref11 6,) ∷
-            (11, Rows.sslice (Referent.rtF (Referent.fInt Syntax.w8)) ref12 7,) ∷ (12, Rows.sslice (Referent.rtF (Referent.fInt Syntax.w8)) ref13 8,)
-            ∷ (13, Rows.any-gone Laws.mir,) ∷ (14, Rows.any-gone Syntax.tyBool) ∷ (15, Rows.any-gone ref0,) ∷ List.[]
+        g24 = e0·1 ∷ l1 ∷ l2 ∷ l3 ∷ l4 ∷ l5 ∷ e6·1 ∷ e7 ∷ e8 ∷ e9 ∷ e10 ∷ e11 ∷ e12 ∷ e13 ∷ e14 ∷ e15 ∷ List.[]
+
         abbrev g25 : List.List Row.Entry
-        g25 = (0, Rows.whole (Declared'.row Relayed.the-type)) ∷ (1, Relend.mslice-owed RelayPending.row ref5 0 9 life0,) ∷ (2, Relend.mslice-owed
-            RelayCircuit.row ref6 1 10 life1,) ∷ (3, Relend.mslice-owed ReservationUsage.row ref7 2 11 life2,) ∷ (4, Relend.mslice-owed
-            InflightAction.row ref8 3 12 life3,) ∷ (5, Relend.mslice-owed (Referent.rtF (Referent.fInt Syntax.w32)) ref9 4 13 life4,) ∷ (6,
-            Rows.any-gone Laws'''.mir,) ∷ (7, Rows.any-gone Laws'.mir,) ∷ (8, Rows.whole (Declared'.row RelayPacket.the-type)) ∷ (9, Rows.sslice
-            (Referent.rtF (Referent.fInt Syntax.w8)) ref10 5,) ∷ (10, Rows.sslice (Referent.rtF (Referent.fInt Syntax.w8)) ref11 6,) ∷ (11,
-            Rows.sslice (Referent.rtF (Referent.fInt Syntax.w8)) ref12 7,) ∷ (12, Rows.sslice (Referent.rtF (Referent.fInt Syntax.w8)) ref13 8,) ∷
-            (13, Rows.any-gone Laws.mir,) ∷ (14, Rows.any-gone Syntax.tyBool) ∷ (15, Rows.any-gone ref0,) ∷ List.[]
+        g25 = e0·1 ∷ l1 ∷ l2 ∷ l3 ∷ l4 ∷ l5 ∷ e6·1 ∷ e7·1 ∷ e8 ∷ e9 ∷ e10 ∷ e11 ∷ e12 ∷ e13 ∷ e14 ∷ e15 ∷ List.[]
+
         abbrev g26 : List.List Row.Entry
-        g26 = (0, Rows.whole (Declared'.row Relayed.the-type)) ∷ (1, Relend.mslice-owed RelayPending.row ref5 0 9 life0,) ∷ (2, Relend.mslice-owed
-            RelayCircuit.row ref6 1 10 life1,) ∷ (3, Relend.mslice-owed ReservationUsage.row ref7 2 11 life2,) ∷ (4, Relend.mslice-owed
-            InflightAction.row ref8 3 12 life3,) ∷ (5, Relend.mslice-owed (Referent.rtF (Referent.fInt Syntax.w32)) ref9 4 13 life4,) ∷ (6,
-            Rows.any-gone Laws'''.mir,) ∷ (7, Rows.any-gone Laws'.mir,) ∷ (8, Rows.any-gone Laws''.mir,) ∷ (9, Rows.sslice (Referent.rtF
-            (Referent.fInt Syntax.w8)) ref10 5,) ∷ (10, Rows.sslice (Referent.rtF (Referent.fInt Syntax.w8)) ref11 6,) ∷ (11, Rows.sslice
-            (Referent.rtF (Referent.fInt Syntax.w8)) ref12 7,) ∷ (12, Rows.sslice (Referent.rtF (Referent.fInt Syntax.w8)) ref13 8,) ∷ (13,
-            Rows.any-gone Laws.mir,) ∷ (14, Rows.any-gone Syntax.tyBool) ∷ (15, Rows.any-gone ref0,) ∷ List.[]
+        g26 = e0·1 ∷ l1 ∷ l2 ∷ l3 ∷ l4 ∷ l5 ∷ e6·1 ∷ e7·1 ∷ e8·1 ∷ e9 ∷ e10 ∷ e11 ∷ e12 ∷ e13 ∷ e14 ∷ e15 ∷ List.[]
+
         abbrev g27 : List.List Row.Entry
-        g27 = (0, Rows.whole (Declared'.row Relayed.the-type)) ∷ (1, Mut.mslice RelayPending.row ref5 0,) ∷ (2, Relend.mslice-owed RelayCircuit.row
-            ref6 1 10 life1,) ∷ (3, Relend.mslice-owed ReservationUsage.row ref7 2 11 life2,) ∷ (4, Relend.mslice-owed InflightAction.row ref8 3 12
-            life3,) ∷ (5, Relend.mslice-owed (Referent.rtF (Referent.fInt Syntax.w32)) ref9 4 13 life4,) ∷ (6, Rows.any-gone Laws'''.mir,) ∷ (7,
-            Rows.any-gone Laws'.mir,) ∷ (8, Rows.any-gone Laws''.mir,) ∷ (9, Rows.sslice (Referent.rtF (Referent.fInt Syntax.w8)) ref10 5,) ∷ (10,
-            Rows.sslice (Referent.rtF (Referent.fInt Syntax.w8)) ref11 6,) ∷ (11, Rows.sslice (Referent.rtF (Referent.fInt Syntax.w8)) ref12 7,) ∷
-            (12, Rows.sslice (Referent.rtF (Referent.fInt Syntax.w8)) ref13 8,) ∷ (13, Rows.any-gone Laws.mir,) ∷ (14, Rows.any-gone Syntax.tyBool) ∷
-            (15, Rows.any-gone ref0,) ∷ List.[]
+        g27 = e0·1 ∷ e1 ∷ l2 ∷ l3 ∷ l4 ∷ l5 ∷ e6·1 ∷ e7·1 ∷ e8·1 ∷ e9 ∷ e10 ∷ e11 ∷ e12 ∷ e13 ∷ e14 ∷ e15 ∷ List.[]
+
         abbrev g29 : List.List Row.Entry
-        g29 = (0, Rows.whole (Declared'.row Relayed.the-type)) ∷ (1, Mut.mslice RelayPending.row ref5 0,) ∷ (2, Mut.mslice RelayCircuit.row ref6 1,) ∷
-            (3, Relend.mslice-owed ReservationUsage.row ref7 2 11 life2,) ∷ (4, Relend.mslice-owed InflightAction.row ref8 3 12 life3,) ∷ (5,
-            Relend.mslice-owed (Referent.rtF (Referent.fInt Syntax.w32)) ref9 4 13 life4,) ∷ (6, Rows.any-gone Laws'''.mir,) ∷ (7, Rows.any-gone
-            Laws'.mir,) ∷ (8, Rows.any-gone Laws''.mir,) ∷ (9, Rows.sslice (Referent.rtF (Referent.fInt Syntax.w8)) ref10 5,) ∷ (10, Rows.sslice
-            (Referent.rtF (Referent.fInt Syntax.w8)) ref11 6,) ∷ (11, Rows.sslice (Referent.rtF (Referent.fInt Syntax.w8)) ref12 7,) ∷ (12,
-            Rows.sslice (Referent.rtF (Referent.fInt Syntax.w8)) ref13 8,) ∷ (13, Rows.any-gone Laws.mir,) ∷ (14, Rows.any-gone Syntax.tyBool) ∷ (15,
-            Rows.any-gone ref0,) ∷ List.[]
+        g29 = e0·1 ∷ e1 ∷ e2 ∷ l3 ∷ l4 ∷ l5 ∷ e6·1 ∷ e7·1 ∷ e8·1 ∷ e9 ∷ e10 ∷ e11 ∷ e12 ∷ e13 ∷ e14 ∷ e15 ∷ List.[]
+
         abbrev g31 : List.List Row.Entry
-        g31 = (0, Rows.whole (Declared'.row Relayed.the-type)) ∷ (1, Mut.mslice RelayPending.row ref5 0,) ∷ (2, Mut.mslice RelayCircuit.row ref6 1,) ∷
-            (3, Mut.mslice ReservationUsage.row ref7 2,) ∷ (4, Relend.mslice-owed InflightAction.row ref8 3 12 life3,) ∷ (5, Relend.mslice-owed
-            (Referent.rtF (Referent.fInt Syntax.w32)) ref9 4 13 life4,) ∷ (6, Rows.any-gone Laws'''.mir,) ∷ (7, Rows.any-gone Laws'.mir,) ∷ (8,
-            Rows.any-gone Laws''.mir,) ∷ (9, Rows.sslice (Referent.rtF (Referent.fInt Syntax.w8)) ref10 5,) ∷ (10, Rows.sslice (Referent.rtF
-            (Referent.fInt Syntax.w8)) ref11 6,) ∷ (11, Rows.sslice (Referent.rtF (Referent.fInt Syntax.w8)) ref12 7,) ∷ (12, Rows.sslice
-            (Referent.rtF (Referent.fInt Syntax.w8)) ref13 8,) ∷ (13, Rows.any-gone Laws.mir,) ∷ (14, Rows.any-gone Syntax.tyBool) ∷ (15,
-            Rows.any-gone ref0,) ∷ List.[]
+        g31 = e0·1 ∷ e1 ∷ e2 ∷ e3 ∷ l4 ∷ l5 ∷ e6·1 ∷ e7·1 ∷ e8·1 ∷ e9 ∷ e10 ∷ e11 ∷ e12 ∷ e13 ∷ e14 ∷ e15 ∷ List.[]
+
         abbrev g33 : List.List Row.Entry
-        g33 = (0, Rows.whole (Declared'.row Relayed.the-type)) ∷ (1, Mut.mslice RelayPending.row ref5 0,) ∷ (2, Mut.mslice RelayCircuit.row ref6 1,) ∷
-            (3, Mut.mslice ReservationUsage.row ref7 2,) ∷ (4, Mut.mslice InflightAction.row ref8 3,) ∷ (5, Relend.mslice-owed (Referent.rtF
-            (Referent.fInt Syntax.w32)) ref9 4 13 life4,) ∷ (6, Rows.any-gone Laws'''.mir,) ∷ (7, Rows.any-gone Laws'.mir,) ∷ (8, Rows.any-gone
-            Laws''.mir,) ∷ (9, Rows.sslice (Referent.rtF (Referent.fInt Syntax.w8)) ref10 5,) ∷ (10, Rows.sslice (Referent.rtF (Referent.fInt
-            Syntax.w8)) ref11 6,) ∷ (11, Rows.sslice (Referent.rtF (Referent.fInt Syntax.w8)) ref12 7,) ∷ (12, Rows.sslice (Referent.rtF
-            (Referent.fInt Syntax.w8)) ref13 8,) ∷ (13, Rows.any-gone Laws.mir,) ∷ (14, Rows.any-gone Syntax.tyBool) ∷ (15, Rows.any-gone ref0,) ∷
-            List.[]
+        g33 = e0·1 ∷ e1 ∷ e2 ∷ e3 ∷ e4 ∷ l5 ∷ e6·1 ∷ e7·1 ∷ e8·1 ∷ e9 ∷ e10 ∷ e11 ∷ e12 ∷ e13 ∷ e14 ∷ e15 ∷ List.[]
+
         abbrev G0 : Row.Cx
-        G0 = record { locals = List._++_ t0 t1; slots = life0 ∷ life1 ∷ life2 ∷ life3 ∷ life4 ∷ life5 ∷ life6 ∷ life7 ∷ life8 ∷ Row.off ∷ Row.off ∷
-            Row.off ∷ Row.off ∷ Row.off ∷ List.[]; }
+        G0 = record {
+          locals = List._++_ t0 t1;
+          slots = life0 ∷ life1 ∷ life2 ∷ life3 ∷ life4 ∷ life5 ∷ life6 ∷ life7 ∷ life8 ∷ Row.off ∷ Row.off ∷ Row.off ∷
+              Row.off ∷ Row.off ∷ List.[];
+        }
+
         abbrev G1 : Row.Cx
-        G1 = record { locals = List._++_ t2 t1; slots = life0 ∷ life1 ∷ life2 ∷ life3 ∷ life4 ∷ life5 ∷ life6 ∷ life7 ∷ life8 ∷ Row.off ∷ Row.off ∷
-            Row.off ∷ Row.off ∷ Row.off ∷ List.[]; }
+        G1 = record {
+          locals = List._++_ t2 t1;
+          slots = life0 ∷ life1 ∷ life2 ∷ life3 ∷ life4 ∷ life5 ∷ life6 ∷ life7 ∷ life8 ∷ Row.off ∷ Row.off ∷ Row.off ∷
+              Row.off ∷ Row.off ∷ List.[];
+        }
+
         abbrev G2 : Row.Cx
-        G2 = record { locals = List._++_ t0 t1; slots = life0 ∷ life1 ∷ life2 ∷ life3 ∷ life4 ∷ life5 ∷ life6 ∷ life7 ∷ life8 ∷ Row.off ∷ Row.off ∷
-            Row.off ∷ Row.off ∷ Row.off ∷ List.[]; }
+        G2 = record {
+          locals = List._++_ t0 t1;
+          slots = life0 ∷ life1 ∷ life2 ∷ life3 ∷ life4 ∷ life5 ∷ life6 ∷ life7 ∷ life8 ∷ Row.off ∷ Row.off ∷ Row.off ∷
+              Row.off ∷ Row.off ∷ List.[];
+        }
+
         abbrev G3 : Row.Cx
-        G3 = record { locals = List._++_ t0 t1; slots = life0 ∷ life1 ∷ life2 ∷ life3 ∷ life4 ∷ life5 ∷ life6 ∷ life7 ∷ life8 ∷ Row.off ∷ Row.off ∷
-            Row.off ∷ Row.off ∷ Row.off ∷ List.[]; }
+        G3 = record {
+          locals = List._++_ t0 t1;
+          slots = life0 ∷ life1 ∷ life2 ∷ life3 ∷ life4 ∷ life5 ∷ life6 ∷ life7 ∷ life8 ∷ Row.off ∷ Row.off ∷ Row.off ∷
+              Row.off ∷ Row.off ∷ List.[];
+        }
+
         abbrev G4 : Row.Cx
-        G4 = record { locals = List._++_ t0 t1; slots = life0 ∷ life1 ∷ life2 ∷ life3 ∷ life4 ∷ life5 ∷ life6 ∷ life7 ∷ life8 ∷ Row.off ∷ Row.off ∷
-            Row.off ∷ Row.off ∷ Row.off ∷ List.[]; }
+        G4 = record {
+          locals = List._++_ t0 t1;
+          slots = life0 ∷ life1 ∷ life2 ∷ life3 ∷ life4 ∷ life5 ∷ life6 ∷ life7 ∷ life8 ∷ Row.off ∷ Row.off ∷ Row.off ∷
+              Row.off ∷ Row.off ∷ List.[];
+        }
+
         abbrev G5 : Row.Cx
-        G5 = record { locals = List._++_ t0 t1; slots = life0 ∷ life1 ∷ life2 ∷ life3 ∷ life4 ∷ life5 ∷ life6 ∷ life7 ∷ life8 ∷ Row.off ∷ Row.off ∷
-            Row.off ∷ Row.off ∷ Row.off ∷ List.[]; }
+        G5 = record {
+          locals = List._++_ t0 t1;
+          slots = life0 ∷ life1 ∷ life2 ∷ life3 ∷ life4 ∷ life5 ∷ life6 ∷ life7 ∷ life8 ∷ Row.off ∷ Row.off ∷ Row.off ∷
+              Row.off ∷ Row.off ∷ List.[];
+        }
+
         abbrev G6 : Row.Cx
-        G6 = record { locals = List._++_ t0 t1; slots = life0 ∷ life1 ∷ life2 ∷ life3 ∷ life4 ∷ life5 ∷ life6 ∷ life7 ∷ life8 ∷ Row.off ∷ Row.off ∷
-            Row.off ∷ Row.off ∷ Row.off ∷ List.[]; }
+        G6 = record {
+          locals = List._++_ t0 t1;
+          slots = life0 ∷ life1 ∷ life2 ∷ life3 ∷ life4 ∷ life5 ∷ life6 ∷ life7 ∷ life8 ∷ Row.off ∷ Row.off ∷ Row.off ∷
+              Row.off ∷ Row.off ∷ List.[];
+        }
+
         abbrev G7 : Row.Cx
-        G7 = record { locals = List._++_ t3 t1; slots = life0 ∷ life1 ∷ life2 ∷ life3 ∷ life4 ∷ life5 ∷ life6 ∷ life7 ∷ life8 ∷ Row.off ∷ Row.off ∷
-            Row.off ∷ Row.off ∷ Row.off ∷ List.[]; }
+        G7 = record {
+          locals = List._++_ t3 t1;
+          slots = life0 ∷ life1 ∷ life2 ∷ life3 ∷ life4 ∷ life5 ∷ life6 ∷ life7 ∷ life8 ∷ Row.off ∷ Row.off ∷ Row.off ∷
+              Row.off ∷ Row.off ∷ List.[];
+        }
+
         abbrev G8 : Row.Cx
-        G8 = record { locals = List._++_ t4 t1; slots = life0 ∷ life1 ∷ life2 ∷ life3 ∷ life4 ∷ life5 ∷ life6 ∷ life7 ∷ life8 ∷ Row.off ∷ Row.off ∷
-            Row.off ∷ Row.off ∷ Row.off ∷ List.[]; }
+        G8 = record {
+          locals = List._++_ t4 t1;
+          slots = life0 ∷ life1 ∷ life2 ∷ life3 ∷ life4 ∷ life5 ∷ life6 ∷ life7 ∷ life8 ∷ Row.off ∷ Row.off ∷ Row.off ∷
+              Row.off ∷ Row.off ∷ List.[];
+        }
+
         abbrev G9 : Row.Cx
-        G9 = record { locals = List._++_ t5 t1; slots = life0 ∷ life1 ∷ life2 ∷ life3 ∷ life4 ∷ life5 ∷ life6 ∷ life7 ∷ life8 ∷ Row.off ∷ Row.off ∷
-            Row.off ∷ Row.off ∷ Row.off ∷ List.[]; }
+        G9 = record {
+          locals = List._++_ t5 t1;
+          slots = life0 ∷ life1 ∷ life2 ∷ life3 ∷ life4 ∷ life5 ∷ life6 ∷ life7 ∷ life8 ∷ Row.off ∷ Row.off ∷ Row.off ∷
+              Row.off ∷ Row.off ∷ List.[];
+        }
+
         abbrev G10 : Row.Cx
-        G10 = record { locals = List._++_ t6 t1; slots = life0 ∷ life1 ∷ life2 ∷ life3 ∷ life4 ∷ life5 ∷ life6 ∷ life7 ∷ life8 ∷ Row.off ∷ Row.off ∷
-            Row.off ∷ Row.off ∷ Row.off ∷ List.[]; }
+        G10 = record {
+          locals = List._++_ t6 t1;
+          slots = life0 ∷ life1 ∷ life2 ∷ life3 ∷ life4 ∷ life5 ∷ life6 ∷ life7 ∷ life8 ∷ Row.off ∷ Row.off ∷ Row.off ∷
+              Row.off ∷ Row.off ∷ List.[];
+        }
+
         abbrev G11 : Row.Cx
-        G11 = record { locals = List._++_ t0 t1; slots = life0 ∷ life1 ∷ life2 ∷ life3 ∷ life4 ∷ life5 ∷ life6 ∷ life7 ∷ life8 ∷ Row.off ∷ Row.off ∷
-            Row.off ∷ Row.off ∷ Row.off ∷ List.[]; }
+        G11 = record {
+          locals = List._++_ t0 t1;
+          slots = life0 ∷ life1 ∷ life2 ∷ life3 ∷ life4 ∷ life5 ∷ life6 ∷ life7 ∷ life8 ∷ Row.off ∷ Row.off ∷ Row.off ∷
+              Row.off ∷ Row.off ∷ List.[];
+        }
+
         abbrev G12 : Row.Cx
-        G12 = record { locals = List._++_ t0 t1; slots = life0 ∷ life1 ∷ life2 ∷ life3 ∷ life4 ∷ life5 ∷ life6 ∷ life7 ∷ life8 ∷ Row.alive ∷ Row.off ∷
-            Row.off ∷ Row.off ∷ Row.off ∷ List.[]; }
+        G12 = record {
+          locals = List._++_ t0 t1;
+          slots = life0 ∷ life1 ∷ life2 ∷ life3 ∷ life4 ∷ life5 ∷ life6 ∷ life7 ∷ life8 ∷ Row.alive ∷ Row.off ∷ Row.off
+              ∷ Row.off ∷ Row.off ∷ List.[];
+        }
+
         abbrev G13 : Row.Cx
-        G13 = record { locals = List._++_ g7 t1; slots = Row.off ∷ life1 ∷ life2 ∷ life3 ∷ life4 ∷ life5 ∷ life6 ∷ life7 ∷ life8 ∷ Row.alive ∷ Row.off
-            ∷ Row.off ∷ Row.off ∷ Row.off ∷ List.[]; }
+        G13 = record {
+          locals = List._++_ g7 t1;
+          slots = Row.off ∷ life1 ∷ life2 ∷ life3 ∷ life4 ∷ life5 ∷ life6 ∷ life7 ∷ life8 ∷ Row.alive ∷ Row.off ∷
+              Row.off ∷ Row.off ∷ Row.off ∷ List.[];
+        }
+
         abbrev G14 : Row.Cx
-        G14 = record { locals = List._++_ g8 t9; slots = Row.off ∷ life1 ∷ life2 ∷ life3 ∷ life4 ∷ life5 ∷ life6 ∷ life7 ∷ life8 ∷ Row.alive ∷ Row.off
-            ∷ Row.off ∷ Row.off ∷ Row.off ∷ List.[]; }
+        G14 = record {
+          locals = List._++_ g8 t9;
+          slots = Row.off ∷ life1 ∷ life2 ∷ life3 ∷ life4 ∷ life5 ∷ life6 ∷ life7 ∷ life8 ∷ Row.alive ∷ Row.off ∷
+              Row.off ∷ Row.off ∷ Row.off ∷ List.[];
+        }
+
         abbrev G15 : Row.Cx
-        G15 = record { locals = List._++_ g8 t9; slots = Row.off ∷ life1 ∷ life2 ∷ life3 ∷ life4 ∷ life5 ∷ life6 ∷ life7 ∷ life8 ∷ Row.alive ∷
-            Row.alive ∷ Row.off ∷ Row.off ∷ Row.off ∷ List.[]; }
+        G15 = record {
+          locals = List._++_ g8 t9;
+          slots = Row.off ∷ life1 ∷ life2 ∷ life3 ∷ life4 ∷ life5 ∷ life6 ∷ life7 ∷ life8 ∷ Row.alive ∷ Row.alive ∷
+              Row.off ∷ Row.off ∷ Row.off ∷ List.[];
+        }
+
         abbrev G16 : Row.Cx
-        G16 = record { locals = List._++_ g10 t11; slots = Row.off ∷ Row.off ∷ life2 ∷ life3 ∷ life4 ∷ life5 ∷ life6 ∷ life7 ∷ life8 ∷ Row.alive ∷
-            Row.alive ∷ Row.off ∷ Row.off ∷ Row.off ∷ List.[]; }
+        G16 = record {
+          locals = List._++_ g10 t11;
+          slots = Row.off ∷ Row.off ∷ life2 ∷ life3 ∷ life4 ∷ life5 ∷ life6 ∷ life7 ∷ life8 ∷ Row.alive ∷ Row.alive ∷
+              Row.off ∷ Row.off ∷ Row.off ∷ List.[];
+        }
+
         abbrev G17 : Row.Cx
-        G17 = record { locals = List._++_ g10 t12; slots = Row.off ∷ Row.off ∷ life2 ∷ life3 ∷ life4 ∷ life5 ∷ life6 ∷ life7 ∷ life8 ∷ Row.alive ∷
-            Row.alive ∷ Row.off ∷ Row.off ∷ Row.off ∷ List.[]; }
+        G17 = record {
+          locals = List._++_ g10 t12;
+          slots = Row.off ∷ Row.off ∷ life2 ∷ life3 ∷ life4 ∷ life5 ∷ life6 ∷ life7 ∷ life8 ∷ Row.alive ∷ Row.alive ∷
+              Row.off ∷ Row.off ∷ Row.off ∷ List.[];
+        }
+
         abbrev G18 : Row.Cx
-        G18 = record { locals = List._++_ g10 t12; slots = Row.off ∷ Row.off ∷ life2 ∷ life3 ∷ life4 ∷ life5 ∷ life6 ∷ life7 ∷ life8 ∷ Row.alive ∷
-            Row.alive ∷ Row.alive ∷ Row.off ∷ Row.off ∷ List.[]; }
+        G18 = record {
+          locals = List._++_ g10 t12;
+          slots = Row.off ∷ Row.off ∷ life2 ∷ life3 ∷ life4 ∷ life5 ∷ life6 ∷ life7 ∷ life8 ∷ Row.alive ∷ Row.alive ∷
+              Row.alive ∷ Row.off ∷ Row.off ∷ List.[];
+        }
+
         abbrev G19 : Row.Cx
-        G19 = record { locals = List._++_ g13 t14; slots = Row.off ∷ Row.off ∷ Row.off ∷ life3 ∷ life4 ∷ life5 ∷ life6 ∷ life7 ∷ life8 ∷ Row.alive ∷
-            Row.alive ∷ Row.alive ∷ Row.off ∷ Row.off ∷ List.[]; }
+        G19 = record {
+          locals = List._++_ g13 t14;
+          slots = Row.off ∷ Row.off ∷ Row.off ∷ life3 ∷ life4 ∷ life5 ∷ life6 ∷ life7 ∷ life8 ∷ Row.alive ∷ Row.alive ∷
+              Row.alive ∷ Row.off ∷ Row.off ∷ List.[];
+        }
+
         abbrev G20 : Row.Cx
-        G20 = record { locals = List._++_ g13 t15; slots = Row.off ∷ Row.off ∷ Row.off ∷ life3 ∷ life4 ∷ life5 ∷ life6 ∷ life7 ∷ life8 ∷ Row.alive ∷
-            Row.alive ∷ Row.alive ∷ Row.off ∷ Row.off ∷ List.[]; }
+        G20 = record {
+          locals = List._++_ g13 t15;
+          slots = Row.off ∷ Row.off ∷ Row.off ∷ life3 ∷ life4 ∷ life5 ∷ life6 ∷ life7 ∷ life8 ∷ Row.alive ∷ Row.alive ∷
+              Row.alive ∷ Row.off ∷ Row.off ∷ List.[];
+        }
+
         abbrev G21 : Row.Cx
-        G21 = record { locals = List._++_ g13 t15; slots = Row.off ∷ Row.off ∷ Row.off ∷ life3 ∷ life4 ∷ life5 ∷ life6 ∷ life7 ∷ life8 ∷ Row.alive ∷
-            Row.alive ∷ Row.alive ∷ Row.alive ∷ Row.off ∷ List.[]; }
+        G21 = record {
+          locals = List._++_ g13 t15;
+          slots = Row.off ∷ Row.off ∷ Row.off ∷ life3 ∷ life4 ∷ life5 ∷ life6 ∷ life7 ∷ life8 ∷ Row.alive ∷ Row.alive ∷
+              Row.alive ∷ Row.alive ∷ Row.off ∷ List.[];
+        }
+
         abbrev G22 : Row.Cx
-        G22 = record { locals = List._++_ g16 t17; slots = Row.off ∷ Row.off ∷ Row.off ∷ Row.off ∷ life4 ∷ life5 ∷ life6 ∷ life7 ∷ life8 ∷ Row.alive ∷
-            Row.alive ∷ Row.alive ∷ Row.alive ∷ Row.off ∷ List.[]; }
+        G22 = record {
+          locals = List._++_ g16 t17;
+          slots = Row.off ∷ Row.off ∷ Row.off ∷ Row.off ∷ life4 ∷ life5 ∷ life6 ∷ life7 ∷ life8 ∷ Row.alive ∷ Row.alive
+              ∷ Row.alive ∷ Row.alive ∷ Row.off ∷ List.[];
+        }
+
         abbrev G23 : Row.Cx
-        G23 = record { locals = List._++_ g16 t18; slots = Row.off ∷ Row.off ∷ Row.off ∷ Row.off ∷ life4 ∷ life5 ∷ life6 ∷ life7 ∷ life8 ∷ Row.alive ∷
-            Row.alive ∷ Row.alive ∷ Row.alive ∷ Row.off ∷ List.[]; }
+        G23 = record {
+          locals = List._++_ g16 t18;
+          slots = Row.off ∷ Row.off ∷ Row.off ∷ Row.off ∷ life4 ∷ life5 ∷ life6 ∷ life7 ∷ life8 ∷ Row.alive ∷ Row.alive
+              ∷ Row.alive ∷ Row.alive ∷ Row.off ∷ List.[];
+        }
+
         abbrev G24 : Row.Cx
-        G24 = record { locals = List._++_ g16 t18; slots = Row.off ∷ Row.off ∷ Row.off ∷ Row.off ∷ life4 ∷ life5 ∷ life6 ∷ life7 ∷ life8 ∷ Row.alive ∷
-            Row.alive ∷ Row.alive ∷ Row.alive ∷ Row.alive ∷ List.[]; }
+        G24 = record {
+          locals = List._++_ g16 t18;
+          slots = Row.off ∷ Row.off ∷ Row.off ∷ Row.off ∷ life4 ∷ life5 ∷ life6 ∷ life7 ∷ life8 ∷ Row.alive ∷ Row.alive
+              ∷ Row.alive ∷ Row.alive ∷ Row.alive ∷ List.[];
+        }
+
         abbrev G25 : Row.Cx
-        G25 = record { locals = List._++_ g19 t20; slots = Row.off ∷ Row.off ∷ Row.off ∷ Row.off ∷ Row.off ∷ life5 ∷ life6 ∷ life7 ∷ life8 ∷ Row.alive
-            ∷ Row.alive ∷ Row.alive ∷ Row.alive ∷ Row.alive ∷ List.[]; }
+        G25 = record {
+          locals = List._++_ g19 t20;
+          slots = Row.off ∷ Row.off ∷ Row.off ∷ Row.off ∷ Row.off ∷ life5 ∷ life6 ∷ life7 ∷ life8 ∷ Row.alive ∷
+              Row.alive ∷ Row.alive ∷ Row.alive ∷ Row.alive ∷ List.[];
+        }
+
         abbrev G26 : Row.Cx
-        G26 = record { locals = List._++_ g19 t21; slots = Row.off ∷ Row.off ∷ Row.off ∷ Row.off ∷ Row.off ∷ life5 ∷ life6 ∷ life7 ∷ life8 ∷ Row.alive
-            ∷ Row.alive ∷ Row.alive ∷ Row.alive ∷ Row.alive ∷ List.[]; }
+        G26 = record {
+          locals = List._++_ g19 t21;
+          slots = Row.off ∷ Row.off ∷ Row.off ∷ Row.off ∷ Row.off ∷ life5 ∷ life6 ∷ life7 ∷ life8 ∷ Row.alive ∷
+              Row.alive ∷ Row.alive ∷ Row.alive ∷ Row.alive ∷ List.[];
+        }
+
         abbrev G27 : Row.Cx
-        G27 = record { locals = List._++_ g22 t23; slots = Row.off ∷ Row.off ∷ Row.off ∷ Row.off ∷ Row.off ∷ life5 ∷ life6 ∷ life7 ∷ life8 ∷ Row.alive
-            ∷ Row.alive ∷ Row.alive ∷ Row.alive ∷ Row.alive ∷ List.[]; }
+        G27 = record {
+          locals = List._++_ g22 t23;
+          slots = Row.off ∷ Row.off ∷ Row.off ∷ Row.off ∷ Row.off ∷ life5 ∷ life6 ∷ life7 ∷ life8 ∷ Row.alive ∷
+              Row.alive ∷ Row.alive ∷ Row.alive ∷ Row.alive ∷ List.[];
+        }
+
         abbrev G28 : Row.Cx
-        G28 = record { locals = List._++_ g24 t23; slots = Row.off ∷ Row.off ∷ Row.off ∷ Row.off ∷ Row.off ∷ life5 ∷ life6 ∷ life7 ∷ life8 ∷ Row.alive
-            ∷ Row.alive ∷ Row.alive ∷ Row.alive ∷ Row.alive ∷ List.[]; }
+        G28 = record {
+          locals = List._++_ g24 t23;
+          slots = Row.off ∷ Row.off ∷ Row.off ∷ Row.off ∷ Row.off ∷ life5 ∷ life6 ∷ life7 ∷ life8 ∷ Row.alive ∷
+              Row.alive ∷ Row.alive ∷ Row.alive ∷ Row.alive ∷ List.[];
+        }
+
         abbrev G29 : Row.Cx
-        G29 = record { locals = List._++_ g25 t23; slots = Row.off ∷ Row.off ∷ Row.off ∷ Row.off ∷ Row.off ∷ life5 ∷ life6 ∷ life7 ∷ life8 ∷ Row.alive
-            ∷ Row.alive ∷ Row.alive ∷ Row.alive ∷ Row.alive ∷ List.[]; }
+        G29 = record {
+          locals = List._++_ g25 t23;
+          slots = Row.off ∷ Row.off ∷ Row.off ∷ Row.off ∷ Row.off ∷ life5 ∷ life6 ∷ life7 ∷ life8 ∷ Row.alive ∷
+              Row.alive ∷ Row.alive ∷ Row.alive ∷ Row.alive ∷ List.[];
+        }
+
         abbrev G30 : Row.Cx
-        G30 = record { locals = List._++_ g26 t23; slots = Row.off ∷ Row.off ∷ Row.off ∷ Row.off ∷ Row.off ∷ life5 ∷ life6 ∷ life7 ∷ life8 ∷ Row.alive
-            ∷ Row.alive ∷ Row.alive ∷ Row.alive ∷ Row.alive ∷ List.[]; }
+        G30 = record {
+          locals = List._++_ g26 t23;
+          slots = Row.off ∷ Row.off ∷ Row.off ∷ Row.off ∷ Row.off ∷ life5 ∷ life6 ∷ life7 ∷ life8 ∷ Row.alive ∷
+              Row.alive ∷ Row.alive ∷ Row.alive ∷ Row.alive ∷ List.[];
+        }
+
         abbrev G31 : Row.Cx
-        G31 = record { locals = List._++_ g26 t23; slots = Row.off ∷ Row.off ∷ Row.off ∷ Row.off ∷ Row.off ∷ life5 ∷ life6 ∷ life7 ∷ life8 ∷ Row.dead
-            ∷ Row.alive ∷ Row.alive ∷ Row.alive ∷ Row.alive ∷ List.[]; }
+        G31 = record {
+          locals = List._++_ g26 t23;
+          slots = Row.off ∷ Row.off ∷ Row.off ∷ Row.off ∷ Row.off ∷ life5 ∷ life6 ∷ life7 ∷ life8 ∷ Row.dead ∷
+              Row.alive ∷ Row.alive ∷ Row.alive ∷ Row.alive ∷ List.[];
+        }
+
         abbrev G32 : Row.Cx
-        G32 = record { locals = List._++_ g27 t28; slots = life0 ∷ Row.off ∷ Row.off ∷ Row.off ∷ Row.off ∷ life5 ∷ life6 ∷ life7 ∷ life8 ∷ Row.dead ∷
-            Row.alive ∷ Row.alive ∷ Row.alive ∷ Row.alive ∷ List.[]; }
+        G32 = record {
+          locals = List._++_ g27 t28;
+          slots = life0 ∷ Row.off ∷ Row.off ∷ Row.off ∷ Row.off ∷ life5 ∷ life6 ∷ life7 ∷ life8 ∷ Row.dead ∷ Row.alive
+              ∷ Row.alive ∷ Row.alive ∷ Row.alive ∷ List.[];
+        }
+
         abbrev G33 : Row.Cx
-        G33 = record { locals = List._++_ g27 t28; slots = life0 ∷ Row.off ∷ Row.off ∷ Row.off ∷ Row.off ∷ life5 ∷ life6 ∷ life7 ∷ life8 ∷ Row.off ∷
-            Row.alive ∷ Row.alive ∷ Row.alive ∷ Row.alive ∷ List.[]; }
+        G33 = record {
+          locals = List._++_ g27 t28;
+          slots = life0 ∷ Row.off ∷ Row.off ∷ Row.off ∷ Row.off ∷ life5 ∷ life6 ∷ life7 ∷ life8 ∷ Row.off ∷ Row.alive ∷
+              Row.alive ∷ Row.alive ∷ Row.alive ∷ List.[];
+        }
+
         abbrev G34 : Row.Cx
-        G34 = record { locals = List._++_ g27 t28; slots = life0 ∷ Row.off ∷ Row.off ∷ Row.off ∷ Row.off ∷ life5 ∷ life6 ∷ life7 ∷ life8 ∷ Row.off ∷
-            Row.dead ∷ Row.alive ∷ Row.alive ∷ Row.alive ∷ List.[]; }
+        G34 = record {
+          locals = List._++_ g27 t28;
+          slots = life0 ∷ Row.off ∷ Row.off ∷ Row.off ∷ Row.off ∷ life5 ∷ life6 ∷ life7 ∷ life8 ∷ Row.off ∷ Row.dead ∷
+              Row.alive ∷ Row.alive ∷ Row.alive ∷ List.[];
+        }
+
         abbrev G35 : Row.Cx
-        G35 = record { locals = List._++_ g29 t30; slots = life0 ∷ life1 ∷ Row.off ∷ Row.off ∷ Row.off ∷ life5 ∷ life6 ∷ life7 ∷ life8 ∷ Row.off ∷
-            Row.dead ∷ Row.alive ∷ Row.alive ∷ Row.alive ∷ List.[]; }
+        G35 = record {
+          locals = List._++_ g29 t30;
+          slots = life0 ∷ life1 ∷ Row.off ∷ Row.off ∷ Row.off ∷ life5 ∷ life6 ∷ life7 ∷ life8 ∷ Row.off ∷ Row.dead ∷
+              Row.alive ∷ Row.alive ∷ Row.alive ∷ List.[];
+        }
+
         abbrev G36 : Row.Cx
-        G36 = record { locals = List._++_ g29 t30; slots = life0 ∷ life1 ∷ Row.off ∷ Row.off ∷ Row.off ∷ life5 ∷ life6 ∷ life7 ∷ life8 ∷ Row.off ∷
-            Row.off ∷ Row.alive ∷ Row.alive ∷ Row.alive ∷ List.[]; }
+        G36 = record {
+          locals = List._++_ g29 t30;
+          slots = life0 ∷ life1 ∷ Row.off ∷ Row.off ∷ Row.off ∷ life5 ∷ life6 ∷ life7 ∷ life8 ∷ Row.off ∷ Row.off ∷
+              Row.alive ∷ Row.alive ∷ Row.alive ∷ List.[];
+        }
+
         abbrev G37 : Row.Cx
-        G37 = record { locals = List._++_ g29 t30; slots = life0 ∷ life1 ∷ Row.off ∷ Row.off ∷ Row.off ∷ life5 ∷ life6 ∷ life7 ∷ life8 ∷ Row.off ∷
-            Row.off ∷ Row.dead ∷ Row.alive ∷ Row.alive ∷ List.[]; }
+        G37 = record {
+          locals = List._++_ g29 t30;
+          slots = life0 ∷ life1 ∷ Row.off ∷ Row.off ∷ Row.off ∷ life5 ∷ life6 ∷ life7 ∷ life8 ∷ Row.off ∷ Row.off ∷
+              Row.dead ∷ Row.alive ∷ Row.alive ∷ List.[];
+        }
+
         abbrev G38 : Row.Cx
-        G38 = record { locals = List._++_ g31 t32; slots = life0 ∷ life1 ∷ life2 ∷ Row.off ∷ Row.off ∷ life5 ∷ life6 ∷ life7 ∷ life8 ∷ Row.off ∷
-            Row.off ∷ Row.dead ∷ Row.alive ∷ Row.alive ∷ List.[]; }
+        G38 = record {
+          locals = List._++_ g31 t32;
+          slots = life0 ∷ life1 ∷ life2 ∷ Row.off ∷ Row.off ∷ life5 ∷ life6 ∷ life7 ∷ life8 ∷ Row.off ∷ Row.off ∷
+              Row.dead ∷ Row.alive ∷ Row.alive ∷ List.[];
+        }
+
         abbrev G39 : Row.Cx
-        G39 = record { locals = List._++_ g31 t32; slots = life0 ∷ life1 ∷ life2 ∷ Row.off ∷ Row.off ∷ life5 ∷ life6 ∷ life7 ∷ life8 ∷ Row.off ∷
-            Row.off ∷ Row.off ∷ Row.alive ∷ Row.alive ∷ List.[]; }
+        G39 = record {
+          locals = List._++_ g31 t32;
+          slots = life0 ∷ life1 ∷ life2 ∷ Row.off ∷ Row.off ∷ life5 ∷ life6 ∷ life7 ∷ life8 ∷ Row.off ∷ Row.off ∷
+              Row.off ∷ Row.alive ∷ Row.alive ∷ List.[];
+        }
+
         abbrev G40 : Row.Cx
-        G40 = record { locals = List._++_ g31 t32; slots = life0 ∷ life1 ∷ life2 ∷ Row.off ∷ Row.off ∷ life5 ∷ life6 ∷ life7 ∷ life8 ∷ Row.off ∷
-            Row.off ∷ Row.off ∷ Row.dead ∷ Row.alive ∷ List.[]; }
+        G40 = record {
+          locals = List._++_ g31 t32;
+          slots = life0 ∷ life1 ∷ life2 ∷ Row.off ∷ Row.off ∷ life5 ∷ life6 ∷ life7 ∷ life8 ∷ Row.off ∷ Row.off ∷
+              Row.off ∷ Row.dead ∷ Row.alive ∷ List.[];
+        }
+
         abbrev G41 : Row.Cx
-        G41 = record { locals = List._++_ g33 t34; slots = life0 ∷ life1 ∷ life2 ∷ life3 ∷ Row.off ∷ life5 ∷ life6 ∷ life7 ∷ life8 ∷ Row.off ∷ Row.off
-            ∷ Row.off ∷ Row.dead ∷ Row.alive ∷ List.[]; }
+        G41 = record {
+          locals = List._++_ g33 t34;
+          slots = life0 ∷ life1 ∷ life2 ∷ life3 ∷ Row.off ∷ life5 ∷ life6 ∷ life7 ∷ life8 ∷ Row.off ∷ Row.off ∷ Row.off
+              ∷ Row.dead ∷ Row.alive ∷ List.[];
+        }
+
         abbrev G42 : Row.Cx
-        G42 = record { locals = List._++_ g33 t34; slots = life0 ∷ life1 ∷ life2 ∷ life3 ∷ Row.off ∷ life5 ∷ life6 ∷ life7 ∷ life8 ∷ Row.off ∷ Row.off
-            ∷ Row.off ∷ Row.off ∷ Row.alive ∷ List.[]; }
+        G42 = record {
+          locals = List._++_ g33 t34;
+          slots = life0 ∷ life1 ∷ life2 ∷ life3 ∷ Row.off ∷ life5 ∷ life6 ∷ life7 ∷ life8 ∷ Row.off ∷ Row.off ∷ Row.off
+              ∷ Row.off ∷ Row.alive ∷ List.[];
+        }
+
         abbrev G43 : Row.Cx
-        G43 = record { locals = List._++_ g33 t34; slots = life0 ∷ life1 ∷ life2 ∷ life3 ∷ Row.off ∷ life5 ∷ life6 ∷ life7 ∷ life8 ∷ Row.off ∷ Row.off
-            ∷ Row.off ∷ Row.off ∷ Row.dead ∷ List.[]; }
+        G43 = record {
+          locals = List._++_ g33 t34;
+          slots = life0 ∷ life1 ∷ life2 ∷ life3 ∷ Row.off ∷ life5 ∷ life6 ∷ life7 ∷ life8 ∷ Row.off ∷ Row.off ∷ Row.off
+              ∷ Row.off ∷ Row.dead ∷ List.[];
+        }
+
         abbrev G44 : Row.Cx
-        G44 = record { locals = List._++_ t2 t1; slots = life0 ∷ life1 ∷ life2 ∷ life3 ∷ life4 ∷ life5 ∷ life6 ∷ life7 ∷ life8 ∷ Row.off ∷ Row.off ∷
-            Row.off ∷ Row.off ∷ Row.dead ∷ List.[]; }
+        G44 = record {
+          locals = List._++_ t2 t1;
+          slots = life0 ∷ life1 ∷ life2 ∷ life3 ∷ life4 ∷ life5 ∷ life6 ∷ life7 ∷ life8 ∷ Row.off ∷ Row.off ∷ Row.off ∷
+              Row.off ∷ Row.dead ∷ List.[];
+        }
+
         abbrev G45 : Row.Cx
-        G45 = record { locals = List._++_ t2 t1; slots = life0 ∷ life1 ∷ life2 ∷ life3 ∷ life4 ∷ life5 ∷ life6 ∷ life7 ∷ life8 ∷ Row.off ∷ Row.off ∷
-            Row.off ∷ Row.off ∷ Row.dead ∷ List.[]; }
+        G45 = record {
+          locals = List._++_ t2 t1;
+          slots = life0 ∷ life1 ∷ life2 ∷ life3 ∷ life4 ∷ life5 ∷ life6 ∷ life7 ∷ life8 ∷ Row.off ∷ Row.off ∷ Row.off ∷
+              Row.off ∷ Row.dead ∷ List.[];
+        }
+
         abbrev G46 : Row.Cx
-        G46 = record { locals = List._++_ t2 t1; slots = life0 ∷ life1 ∷ life2 ∷ life3 ∷ life4 ∷ life5 ∷ life6 ∷ life7 ∷ life8 ∷ Row.off ∷ Row.off ∷
-            Row.off ∷ Row.off ∷ Row.off ∷ List.[]; }
+        G46 = record {
+          locals = List._++_ t2 t1;
+          slots = life0 ∷ life1 ∷ life2 ∷ life3 ∷ life4 ∷ life5 ∷ life6 ∷ life7 ∷ life8 ∷ Row.off ∷ Row.off ∷ Row.off ∷
+              Row.off ∷ Row.off ∷ List.[];
+        }
+
         abbrev G47 : Row.Cx
-        G47 = record { locals = List._++_ t35 t1; slots = life0 ∷ life1 ∷ life2 ∷ life3 ∷ life4 ∷ life5 ∷ life6 ∷ life7 ∷ life8 ∷ Row.off ∷ Row.off ∷
-            Row.off ∷ Row.off ∷ Row.off ∷ List.[]; }
+        G47 = record {
+          locals = List._++_ t35 t1;
+          slots = life0 ∷ life1 ∷ life2 ∷ life3 ∷ life4 ∷ life5 ∷ life6 ∷ life7 ∷ life8 ∷ Row.off ∷ Row.off ∷ Row.off ∷
+              Row.off ∷ Row.off ∷ List.[];
+        }
+
         abbrev G48 : Row.Cx
-        G48 = record { locals = List._++_ t5 t1; slots = life0 ∷ life1 ∷ life2 ∷ life3 ∷ life4 ∷ life5 ∷ life6 ∷ life7 ∷ life8 ∷ Row.off ∷ Row.off ∷
-            Row.off ∷ Row.off ∷ Row.off ∷ List.[]; }
+        G48 = record {
+          locals = List._++_ t5 t1;
+          slots = life0 ∷ life1 ∷ life2 ∷ life3 ∷ life4 ∷ life5 ∷ life6 ∷ life7 ∷ life8 ∷ Row.off ∷ Row.off ∷ Row.off ∷
+              Row.off ∷ Row.off ∷ List.[];
+        }
+
         abbrev G49 : Row.Cx
-        G49 = record { locals = List._++_ t36 t1; slots = life0 ∷ life1 ∷ life2 ∷ life3 ∷ life4 ∷ life5 ∷ life6 ∷ life7 ∷ life8 ∷ Row.off ∷ Row.off ∷
-            Row.off ∷ Row.off ∷ Row.off ∷ List.[]; }
+        G49 = record {
+          locals = List._++_ t36 t1;
+          slots = life0 ∷ life1 ∷ life2 ∷ life3 ∷ life4 ∷ life5 ∷ life6 ∷ life7 ∷ life8 ∷ Row.off ∷ Row.off ∷ Row.off ∷
+              Row.off ∷ Row.off ∷ List.[];
+        }
+
         abbrev G50 : Row.Cx
-        G50 = record { locals = List._++_ t37 t1; slots = life0 ∷ life1 ∷ life2 ∷ life3 ∷ life4 ∷ life5 ∷ life6 ∷ life7 ∷ life8 ∷ Row.off ∷ Row.off ∷
-            Row.off ∷ Row.off ∷ Row.off ∷ List.[]; }
+        G50 = record {
+          locals = List._++_ t37 t1;
+          slots = life0 ∷ life1 ∷ life2 ∷ life3 ∷ life4 ∷ life5 ∷ life6 ∷ life7 ∷ life8 ∷ Row.off ∷ Row.off ∷ Row.off ∷
+              Row.off ∷ Row.off ∷ List.[];
+        }
+
         abbrev G51 : Row.Cx
-        G51 = record { locals = List._++_ t38 t1; slots = life0 ∷ life1 ∷ life2 ∷ life3 ∷ life4 ∷ life5 ∷ life6 ∷ life7 ∷ life8 ∷ Row.off ∷ Row.off ∷
-            Row.off ∷ Row.off ∷ Row.off ∷ List.[]; }
+        G51 = record {
+          locals = List._++_ t38 t1;
+          slots = life0 ∷ life1 ∷ life2 ∷ life3 ∷ life4 ∷ life5 ∷ life6 ∷ life7 ∷ life8 ∷ Row.off ∷ Row.off ∷ Row.off ∷
+              Row.off ∷ Row.off ∷ List.[];
+        }
+
         abbrev G52 : Row.Cx
-        G52 = record { locals = List._++_ t2 t1; slots = life0 ∷ life1 ∷ life2 ∷ life3 ∷ life4 ∷ life5 ∷ life6 ∷ life7 ∷ life8 ∷ Row.off ∷ Row.off ∷
-            Row.off ∷ Row.off ∷ Row.off ∷ List.[]; }
+        G52 = record {
+          locals = List._++_ t2 t1;
+          slots = life0 ∷ life1 ∷ life2 ∷ life3 ∷ life4 ∷ life5 ∷ life6 ∷ life7 ∷ life8 ∷ Row.off ∷ Row.off ∷ Row.off ∷
+              Row.off ∷ Row.off ∷ List.[];
+        }
+
         abbrev Δ0 : Typed.Outs
         Δ0 = record { next = Option.none; exits = List.[]; returns = Option.some G1 }
+
         abbrev Δ1 : Typed.Outs
         Δ1 = Typed.withNext (Option.some G9) Δ0
-        module _ { M : Type 1 } (𝓤 : URA.URA M) (H : Wp.Heap 𝓤) (A : Atoms.Atoms 𝓤) (W : Kit.Given 𝓤 H A) (𝓣 : Wp.Tables 𝓤 H) (known : Knowns 𝓤 H A W
-            𝓣) (bs : List.List Nat.ℕ) (bd : Lifetimes.AllOutlive 9 (Kinds.osR r) κs) where
+
+        module _ {M : Type 1} (𝓤 : URA.URA M) (H : Wp.Heap 𝓤) (A : Atoms.Atoms 𝓤) (W : Kit.Given 𝓤 H A)
+            (𝓣 : Wp.Tables 𝓤 H) (known : Knowns 𝓤 H A W 𝓣) (bs : List.List Nat.ℕ)
+            (bd : Lifetimes.AllOutlive 9 (Kinds.osR r) κs) where
           abbrev E : Wp.Env 𝓤 H
           E = Frame.EnvOf 𝓤 H ((Kinds.tyR r) ∷ (Enter.tysP ps xs)) bs
+
           d0 : Typed.Typed 𝓤 H A 𝓣 E G46 b13 Δ1 at0
           d0 = Typed.t-return 𝓤 H A W 𝓣 E Δ1 tt
+
           d1 : Typed.Typed 𝓤 H A 𝓣 E G45 b13 Δ1 at1
-          d1 = Typed.g-pre 𝓤 H A W 𝓣 E G45 G46 b13 Δ1 (λ Ψ. Ψ) at0 (Lifetime.g-forget 𝓤 H A W E G45 13 Row.dead Path.refl) d0
+          d1 = Typed.g-pre 𝓤 H A W 𝓣 E G45 G46 b13 Δ1 (λ Ψ. Ψ) at0
+              (Lifetime.g-forget 𝓤 H A W E G45 13 Row.dead Path.refl) d0
+
           d2 : Typed.Typed 𝓤 H A 𝓣 E G44 b13 Δ1 at2
-          d2 = Typed.g-pre 𝓤 H A W 𝓣 E G44 G45 b13 Δ1 (Typed.give s42) at1 (Know.g-sl-known 𝓤 H A W (Referent.fInt Syntax.w32) E G44 5 4 ref9 life4 0
-              (λ x. x) record { fits = Dec.lit< tt } (Reads'.as-is 𝓤 H A (Mut.mslice (Referent.rtF (Referent.fInt Syntax.w32)) ref9 4)) Path.refl tt)
-              d1
+          d2 = Typed.g-pre 𝓤 H A W 𝓣 E G44 G45 b13 Δ1 (Typed.give s42) at1 (Know.g-sl-known 𝓤 H A W
+              (Referent.fInt Syntax.w32) E G44 5 4 ref9 life4 0 (λ x. x) record { fits = Dec.lit< tt } (Reads'.as-is 𝓤
+              H A (Mut.mslice (Referent.rtF (Referent.fInt Syntax.w32)) ref9 4)) Path.refl tt) d1
+
           d3 : Typed.Typed 𝓤 H A 𝓣 E G43 b13 Δ1 at3
-          d3 = Typed.g-pre 𝓤 H A W 𝓣 E G43 G44 b13 Δ1 (Typed.both s41) at2 (Relend.g-back-sl 𝓤 H A W E (Referent.rtF (Referent.fInt Syntax.w32)) G43
-              24 5 4 13 ref9 ref4 life4 (λ x. x) (λ x. x) (Reads'.as-is 𝓤 H A (Mut.msleft (Referent.rtF (Referent.fInt Syntax.w32)) ref4))
-              (Reads'.as-is 𝓤 H A (Relend.mslice-owed (Referent.rtF (Referent.fInt Syntax.w32)) ref9 4 13 life4)) Path.refl Path.refl) d2
+          d3 = Typed.g-pre 𝓤 H A W 𝓣 E G43 G44 b13 Δ1 (Typed.both s41) at2 (Relend.g-back-sl 𝓤 H A W E
+              (Referent.rtF (Referent.fInt Syntax.w32)) G43 24 5 4 13 ref9 ref4 life4 (λ x. x) (λ x. x) (Reads'.as-is 𝓤
+              H A (Mut.msleft (Referent.rtF (Referent.fInt Syntax.w32)) ref4)) (Reads'.as-is 𝓤 H A (Relend.mslice-owed
+              (Referent.rtF (Referent.fInt Syntax.w32)) ref9 4 13 life4)) Path.refl Path.refl) d2
+
           d4 : Typed.Typed 𝓤 H A 𝓣 E G42 b13 Δ1 at4
           d4 = Typed.g-pre 𝓤 H A W 𝓣 E G42 G43 b13 Δ1 (λ Ψ. Ψ) at3 (Lifetime.g-end 𝓤 H A W E G42 13 Path.refl) d3
+
           d5 : Typed.Typed 𝓤 H A 𝓣 E G41 b13 Δ1 at5
-          d5 = Typed.g-pre 𝓤 H A W 𝓣 E G41 G42 b13 Δ1 (λ Ψ. Ψ) at4 (Lifetime.g-forget 𝓤 H A W E G41 12 Row.dead Path.refl) d4
+          d5 = Typed.g-pre 𝓤 H A W 𝓣 E G41 G42 b13 Δ1 (λ Ψ. Ψ) at4
+              (Lifetime.g-forget 𝓤 H A W E G41 12 Row.dead Path.refl) d4
+
           d6 : Typed.Typed 𝓤 H A 𝓣 E G40 b13 Δ1 at6
-          d6 = Typed.g-pre 𝓤 H A W 𝓣 E G40 G41 b13 Δ1 (Typed.both s38) at5 (Relend.g-back-sl 𝓤 H A W E InflightAction.row G40 22 4 3 12 ref8 ref3
-              life3 (λ x. x) (λ x. x) (Reads'.as-is 𝓤 H A (Mut.msleft InflightAction.row ref3)) (Reads'.as-is 𝓤 H A (Relend.mslice-owed
-              InflightAction.row ref8 3 12 life3)) Path.refl Path.refl) d5
+          d6 = Typed.g-pre 𝓤 H A W 𝓣 E G40 G41 b13 Δ1 (Typed.both s38) at5 (Relend.g-back-sl 𝓤 H A W E
+              InflightAction.row G40 22 4 3 12 ref8 ref3 life3 (λ x. x) (λ x. x)
+              (Reads'.as-is 𝓤 H A (Mut.msleft InflightAction.row ref3)) (Reads'.as-is 𝓤 H A
+              (Relend.mslice-owed InflightAction.row ref8 3 12 life3)) Path.refl Path.refl) d5
+
           d7 : Typed.Typed 𝓤 H A 𝓣 E G39 b13 Δ1 at7
           d7 = Typed.g-pre 𝓤 H A W 𝓣 E G39 G40 b13 Δ1 (λ Ψ. Ψ) at6 (Lifetime.g-end 𝓤 H A W E G39 12 Path.refl) d6
+
           d8 : Typed.Typed 𝓤 H A 𝓣 E G38 b13 Δ1 at8
-          d8 = Typed.g-pre 𝓤 H A W 𝓣 E G38 G39 b13 Δ1 (λ Ψ. Ψ) at7 (Lifetime.g-forget 𝓤 H A W E G38 11 Row.dead Path.refl) d7
+          d8 = Typed.g-pre 𝓤 H A W 𝓣 E G38 G39 b13 Δ1 (λ Ψ. Ψ) at7
+              (Lifetime.g-forget 𝓤 H A W E G38 11 Row.dead Path.refl) d7
+
           d9 : Typed.Typed 𝓤 H A 𝓣 E G37 b13 Δ1 at9
-          d9 = Typed.g-pre 𝓤 H A W 𝓣 E G37 G38 b13 Δ1 (Typed.both s35) at8 (Relend.g-back-sl 𝓤 H A W E ReservationUsage.row G37 20 3 2 11 ref7 ref2
-              life2 (λ x. x) (λ x. x) (Reads'.as-is 𝓤 H A (Mut.msleft ReservationUsage.row ref2)) (Reads'.as-is 𝓤 H A (Relend.mslice-owed
-              ReservationUsage.row ref7 2 11 life2)) Path.refl Path.refl) d8
+          d9 = Typed.g-pre 𝓤 H A W 𝓣 E G37 G38 b13 Δ1 (Typed.both s35) at8 (Relend.g-back-sl 𝓤 H A W E
+              ReservationUsage.row G37 20 3 2 11 ref7 ref2 life2 (λ x. x) (λ x. x)
+              (Reads'.as-is 𝓤 H A (Mut.msleft ReservationUsage.row ref2)) (Reads'.as-is 𝓤 H A
+              (Relend.mslice-owed ReservationUsage.row ref7 2 11 life2)) Path.refl Path.refl) d8
+
           d10 : Typed.Typed 𝓤 H A 𝓣 E G36 b13 Δ1 at10
           d10 = Typed.g-pre 𝓤 H A W 𝓣 E G36 G37 b13 Δ1 (λ Ψ. Ψ) at9 (Lifetime.g-end 𝓤 H A W E G36 11 Path.refl) d9
+
           d11 : Typed.Typed 𝓤 H A 𝓣 E G35 b13 Δ1 at11
-          d11 = Typed.g-pre 𝓤 H A W 𝓣 E G35 G36 b13 Δ1 (λ Ψ. Ψ) at10 (Lifetime.g-forget 𝓤 H A W E G35 10 Row.dead Path.refl) d10
+          d11 = Typed.g-pre 𝓤 H A W 𝓣 E G35 G36 b13 Δ1 (λ Ψ. Ψ) at10
+              (Lifetime.g-forget 𝓤 H A W E G35 10 Row.dead Path.refl) d10
+
           d12 : Typed.Typed 𝓤 H A 𝓣 E G34 b13 Δ1 at12
-          d12 = Typed.g-pre 𝓤 H A W 𝓣 E G34 G35 b13 Δ1 (Typed.both s32) at11 (Relend.g-back-sl 𝓤 H A W E RelayCircuit.row G34 18 2 1 10 ref6 ref1
-              life1 (λ x. x) (λ x. x) (Reads'.as-is 𝓤 H A (Mut.msleft RelayCircuit.row ref1)) (Reads'.as-is 𝓤 H A (Relend.mslice-owed RelayCircuit.row
-              ref6 1 10 life1)) Path.refl Path.refl) d11
+          d12 = Typed.g-pre 𝓤 H A W 𝓣 E G34 G35 b13 Δ1 (Typed.both s32) at11 (Relend.g-back-sl 𝓤 H A W E
+              RelayCircuit.row G34 18 2 1 10 ref6 ref1 life1 (λ x. x) (λ x. x)
+              (Reads'.as-is 𝓤 H A (Mut.msleft RelayCircuit.row ref1)) (Reads'.as-is 𝓤 H A
+              (Relend.mslice-owed RelayCircuit.row ref6 1 10 life1)) Path.refl Path.refl) d11
+
           d13 : Typed.Typed 𝓤 H A 𝓣 E G33 b13 Δ1 at13
           d13 = Typed.g-pre 𝓤 H A W 𝓣 E G33 G34 b13 Δ1 (λ Ψ. Ψ) at12 (Lifetime.g-end 𝓤 H A W E G33 10 Path.refl) d12
+
           d14 : Typed.Typed 𝓤 H A 𝓣 E G32 b13 Δ1 at14
-          d14 = Typed.g-pre 𝓤 H A W 𝓣 E G32 G33 b13 Δ1 (λ Ψ. Ψ) at13 (Lifetime.g-forget 𝓤 H A W E G32 9 Row.dead Path.refl) d13
+          d14 = Typed.g-pre 𝓤 H A W 𝓣 E G32 G33 b13 Δ1 (λ Ψ. Ψ) at13
+              (Lifetime.g-forget 𝓤 H A W E G32 9 Row.dead Path.refl) d13
+
           d15 : Typed.Typed 𝓤 H A 𝓣 E G31 b13 Δ1 at15
-          d15 = Typed.g-pre 𝓤 H A W 𝓣 E G31 G32 b13 Δ1 (Typed.both s29) at14 (Relend.g-back-sl 𝓤 H A W E RelayPending.row G31 16 1 0 9 ref5 ref0 life0
-              (λ x. x) (λ x. x) (Reads'.as-is 𝓤 H A (Mut.msleft RelayPending.row ref0)) (Reads'.as-is 𝓤 H A (Relend.mslice-owed RelayPending.row ref5
-              0 9 life0)) Path.refl Path.refl) d14
+          d15 = Typed.g-pre 𝓤 H A W 𝓣 E G31 G32 b13 Δ1 (Typed.both s29) at14 (Relend.g-back-sl 𝓤 H A W E
+              RelayPending.row G31 16 1 0 9 ref5 ref0 life0 (λ x. x) (λ x. x)
+              (Reads'.as-is 𝓤 H A (Mut.msleft RelayPending.row ref0)) (Reads'.as-is 𝓤 H A
+              (Relend.mslice-owed RelayPending.row ref5 0 9 life0)) Path.refl Path.refl) d14
+
           d16 : Typed.Typed 𝓤 H A 𝓣 E G30 b13 Δ1 at16
           d16 = Typed.g-pre 𝓤 H A W 𝓣 E G30 G31 b13 Δ1 (λ Ψ. Ψ) at15 (Lifetime.g-end 𝓤 H A W E G30 9 Path.refl) d15
+
           d17 : Typed.Typed 𝓤 H A 𝓣 E G29 b13 Δ1 at17
-          d17 = Typed.g-pre 𝓤 H A W 𝓣 E G29 G30 b13 Δ1 (Typed.pass T29 T30 s27) at16 (Scalar.g-room 𝓤 H A W E G29 8 Laws''.mir (Local.room-whole 𝓤 H A
-              W (Declared'.row RelayPacket.the-type) Laws''.mir Path.refl)) d16
+          d17 = Typed.g-pre 𝓤 H A W 𝓣 E G29 G30 b13 Δ1 (Typed.pass T29 T30 s27) at16 (Scalar.g-room 𝓤 H A W E G29 8
+              Laws''.mir (Local.room-whole 𝓤 H A W (Declared'.row RelayPacket.the-type) Laws''.mir Path.refl)) d16
+
           d18 : Typed.Typed 𝓤 H A 𝓣 E G28 b13 Δ1 at18
-          d18 = Typed.g-pre 𝓤 H A W 𝓣 E G28 G29 b13 Δ1 (Typed.pass T28 T29 s26) at17 (Scalar.g-room 𝓤 H A W E G28 7 Laws'.mir (Local.room-whole 𝓤 H A
-              W (Declared'.row Places.the-type) Laws'.mir Path.refl)) d17
+          d18 = Typed.g-pre 𝓤 H A W 𝓣 E G28 G29 b13 Δ1 (Typed.pass T28 T29 s26) at17 (Scalar.g-room 𝓤 H A W E G28 7
+              Laws'.mir (Local.room-whole 𝓤 H A W (Declared'.row Places.the-type) Laws'.mir Path.refl)) d17
+
           d19 : Typed.Typed 𝓤 H A 𝓣 E G27 b13 Δ1 at19
-          d19 = Typed.g-pre 𝓤 H A W 𝓣 E G27 G28 b13 Δ1 (Typed.pass T27 T28 s25) at18 (Scalar.g-room 𝓤 H A W E G27 6 Laws'''.mir (Local.room-whole 𝓤 H
-              A W (Declared'.row OpaqueRelayRuntime.the-type) Laws'''.mir Path.refl)) d18
+          d19 = Typed.g-pre 𝓤 H A W 𝓣 E G27 G28 b13 Δ1 (Typed.pass T27 T28 s25) at18 (Scalar.g-room 𝓤 H A W E G27 6
+              Laws'''.mir (Local.room-whole 𝓤 H A W (Declared'.row OpaqueRelayRuntime.the-type) Laws'''.mir Path.refl))
+              d18
+
           d20 : Typed.Typed 𝓤 H A 𝓣 E G26 b14 Δ1 at20
-          d20 = Typed.s-seq 𝓤 H A W 𝓣 E G26 G27 b12 b13 Δ1 (Typed.both s24) at19 (Plain.t-call-plain 𝓤 H A W 𝓣 9 ps·2 r·2 (claims· .4) (claims· .5)
-              "hnsr_circuit::handle::dispatch" (known .2) E (λ pos β. β) G26 (record { pos = 16; ty = Syntax.tyRef Syntax.erased Syntax.mut
-              RelayPending.to; ref = λ x. x; }, (record { pos = 18; ty = Syntax.tyRef Syntax.erased Syntax.mut RelayCircuit.to; ref = λ x. x; },
-              (record { pos = 20; ty = Syntax.tyRef Syntax.erased Syntax.mut ReservationUsage.to; ref = λ x. x; }, (record { pos = 22; ty =
-              Syntax.tyRef Syntax.erased Syntax.mut InflightAction.to; ref = λ x. x; }, (record { pos = 24; ty = Syntax.tyRef Syntax.erased Syntax.mut
-              (Syntax.tyInt Syntax.w32); ref = λ x. x; }, (record { pos = 6; st = List.[]; d = 0; at = λ x. x }, (record { pos = 7; st = List.[]; d =
-              0; at = λ x. x }, (record { pos = 8; st = List.[]; d = 0; at = λ x. x }, (record { pos = 9; ty = Syntax.tyRef (Syntax.named 5)
-              Syntax.imm (Syntax.tyInt Syntax.w8); ref = λ x. x; }, (record { pos = 10; ty = Syntax.tyRef (Syntax.named 6) Syntax.imm (Syntax.tyInt
-              Syntax.w8); ref = λ x. x; }, (record { pos = 11; ty = Syntax.tyRef (Syntax.named 7) Syntax.imm (Syntax.tyInt Syntax.w8); ref = λ x. x;
-              }, (record { pos = 12; ty = Syntax.tyRef (Syntax.named 8) Syntax.imm (Syntax.tyInt Syntax.w8); ref = λ x. x; },
-              tt,),),),),),),),),),),),) 0 (9 ∷ 10 ∷ 11 ∷ 12 ∷ 13 ∷ 5 ∷ 6 ∷ 7 ∷ 8 ∷ List.[]) (Call.sub-id 𝓤 H A W (G26 .slots)) (Reads'.as-is 𝓤 H A
-              (Mut.mslice RelayPending.row ref0 9), Mut.reads-mslice 𝓤 H A W RelayPending.row ref0 9, Path.refl, (Reads'.as-is 𝓤 H A (Mut.mslice
-              RelayCircuit.row ref1 10), Mut.reads-mslice 𝓤 H A W RelayCircuit.row ref1 10, Path.refl, (Reads'.as-is 𝓤 H A (Mut.mslice
-              ReservationUsage.row ref2 11), Mut.reads-mslice 𝓤 H A W ReservationUsage.row ref2 11, Path.refl, (Reads'.as-is 𝓤 H A (Mut.mslice
-              InflightAction.row ref3 12), Mut.reads-mslice 𝓤 H A W InflightAction.row ref3 12, Path.refl, (Reads'.as-is 𝓤 H A (Mut.mslice
-              (Referent.rtF (Referent.fInt Syntax.w32)) ref4 13), Mut.reads-mslice 𝓤 H A W (Referent.rtF (Referent.fInt Syntax.w32)) ref4 13,
-              Path.refl, ((Yields.yields-copy 𝓤 H A W (λ ρ. Unit) (Declared'.row OpaqueRelayRuntime.the-type) Path.refl (Copies.cStruct
-              OpaqueRelayRuntime.the-type Laws'''.the-laws Laws'''.the-copy .copy 𝓤 H A W) (Rows.whole (Declared'.row OpaqueRelayRuntime.the-type)) (λ
-              x. x) (λ x. x) (λ ρ told. Local.mem-whole 𝓤 H A W (Declared'.row OpaqueRelayRuntime.the-type) ρ) λ ρ told. Local.whole-mem 𝓤 H A W
-              (Declared'.row OpaqueRelayRuntime.the-type) ρ, Path.refl,), ((Yields.yields-copy 𝓤 H A W (λ ρ. Unit) (Declared'.row Places.the-type)
-              Path.refl (Copies.cStruct Places.the-type Laws'.the-laws Laws'.the-copy .copy 𝓤 H A W) (Rows.whole (Declared'.row Places.the-type)) (λ
-              x. x) (λ x. x) (λ ρ told. Local.mem-whole 𝓤 H A W (Declared'.row Places.the-type) ρ) λ ρ told. Local.whole-mem 𝓤 H A W (Declared'.row
-              Places.the-type) ρ, Path.refl,), ((Yields.yields-copy 𝓤 H A W (λ ρ. Unit) (Declared'.row RelayPacket.the-type) Path.refl (Copies.cStruct
-              RelayPacket.the-type Laws''.the-laws Laws''.the-copy .copy 𝓤 H A W) (Rows.whole (Declared'.row RelayPacket.the-type)) (λ x. x) (λ x. x)
-              (λ ρ told. Local.mem-whole 𝓤 H A W (Declared'.row RelayPacket.the-type) ρ) λ ρ told. Local.whole-mem 𝓤 H A W (Declared'.row
-              RelayPacket.the-type) ρ, Path.refl,), (ShrSlice.spares-sslice 𝓤 H A W (Referent.rtF (Referent.fInt Syntax.w8)) ref10 5,
-              Shared.reads-sslice 𝓤 H A W (Referent.rtF (Referent.fInt Syntax.w8)) ref10 5, Path.refl, (ShrSlice.spares-sslice 𝓤 H A W (Referent.rtF
-              (Referent.fInt Syntax.w8)) ref11 6, Shared.reads-sslice 𝓤 H A W (Referent.rtF (Referent.fInt Syntax.w8)) ref11 6, Path.refl,
-              (ShrSlice.spares-sslice 𝓤 H A W (Referent.rtF (Referent.fInt Syntax.w8)) ref12 7, Shared.reads-sslice 𝓤 H A W (Referent.rtF
-              (Referent.fInt Syntax.w8)) ref12 7, Path.refl, (ShrSlice.spares-sslice 𝓤 H A W (Referent.rtF (Referent.fInt Syntax.w8)) ref13 8,
-              Shared.reads-sslice 𝓤 H A W (Referent.rtF (Referent.fInt Syntax.w8)) ref13 8, Path.refl, tt,),),),),),),),),),),),) (Reads'.room-gone 𝓤
-              H A Laws''''.mir) (tt, (tt, (tt, (tt, (tt, (tt, (tt, (tt, (tt, tt))))))))) Path.refl) d19
+          d20 = Typed.s-seq 𝓤 H A W 𝓣 E G26 G27 b12 b13 Δ1 (Typed.both s24) at19 (Plain.t-call-plain 𝓤 H A W 𝓣 9 ps·2
+              r·2 (claims· .4) (claims· .5) "hnsr_circuit::handle::dispatch" (known .2) E (λ pos β. β) G26 (
+                record { pos = 16; ty = ref0; ref = λ x. x },
+                (
+                  record { pos = 18; ty = ref1; ref = λ x. x },
+                  (
+                    record { pos = 20; ty = ref2; ref = λ x. x },
+                    (
+                      record { pos = 22; ty = ref3; ref = λ x. x },
+                      (
+                        record { pos = 24; ty = ref4; ref = λ x. x },
+                        (
+                          record { pos = 6; st = List.[]; d = 0; at = λ x. x },
+                          (
+                            record { pos = 7; st = List.[]; d = 0; at = λ x. x },
+                            (
+                              record { pos = 8; st = List.[]; d = 0; at = λ x. x },
+                              (
+                                record { pos = 9; ty = ref10; ref = λ x. x },
+                                (
+                                  record { pos = 10; ty = ref11; ref = λ x. x },
+                                  (
+                                    record { pos = 11; ty = ref12; ref = λ x. x },
+                                    (record { pos = 12; ty = ref13; ref = λ x. x }, tt),
+                                  ),
+                                ),
+                              ),
+                            ),
+                          ),
+                        ),
+                      ),
+                    ),
+                  ),
+                ),
+              ) 0 (9 ∷ 10 ∷ 11 ∷ 12 ∷ 13 ∷ 5 ∷ 6 ∷ 7 ∷ 8 ∷ List.[]) (Call.sub-id 𝓤 H A W (G26 .slots)) (
+                Reads'.as-is 𝓤 H A (Mut.mslice RelayPending.row ref0 9),
+                Mut.reads-mslice 𝓤 H A W RelayPending.row ref0 9,
+                Path.refl,
+                (
+                  Reads'.as-is 𝓤 H A (Mut.mslice RelayCircuit.row ref1 10),
+                  Mut.reads-mslice 𝓤 H A W RelayCircuit.row ref1 10,
+                  Path.refl,
+                  (
+                    Reads'.as-is 𝓤 H A (Mut.mslice ReservationUsage.row ref2 11),
+                    Mut.reads-mslice 𝓤 H A W ReservationUsage.row ref2 11,
+                    Path.refl,
+                    (
+                      Reads'.as-is 𝓤 H A (Mut.mslice InflightAction.row ref3 12),
+                      Mut.reads-mslice 𝓤 H A W InflightAction.row ref3 12,
+                      Path.refl,
+                      (
+                        Reads'.as-is 𝓤 H A (Mut.mslice (Referent.rtF (Referent.fInt Syntax.w32)) ref4 13),
+                        Mut.reads-mslice 𝓤 H A W (Referent.rtF (Referent.fInt Syntax.w32)) ref4 13,
+                        Path.refl,
+                        (
+                          (
+                            Yields.yields-copy 𝓤 H A W (λ ρ. Unit) (Declared'.row OpaqueRelayRuntime.the-type)
+                                Path.refl (Copies.cStruct OpaqueRelayRuntime.the-type Laws'''.the-laws Laws'''.the-copy
+                                .copy 𝓤 H A W) (Rows.whole (Declared'.row OpaqueRelayRuntime.the-type)) (λ x. x)
+                                (λ x. x) (λ ρ told. Local.mem-whole 𝓤 H A W (Declared'.row OpaqueRelayRuntime.the-type)
+                                ρ) λ ρ told. Local.whole-mem 𝓤 H A W (Declared'.row OpaqueRelayRuntime.the-type) ρ,
+                            Path.refl,
+                          ),
+                          (
+                            (
+                              Yields.yields-copy 𝓤 H A W (λ ρ. Unit) (Declared'.row Places.the-type) Path.refl (Copies.cStruct
+                                  Places.the-type Laws'.the-laws Laws'.the-copy .copy 𝓤 H A W)
+                                  (Rows.whole (Declared'.row Places.the-type)) (λ x. x) (λ x. x) (λ ρ told.
+                                  Local.mem-whole 𝓤 H A W (Declared'.row Places.the-type) ρ) λ ρ told. Local.whole-mem
+                                  𝓤 H A W (Declared'.row Places.the-type) ρ,
+                              Path.refl,
+                            ),
+                            (
+                              (
+                                Yields.yields-copy 𝓤 H A W (λ ρ. Unit) (Declared'.row RelayPacket.the-type) Path.refl (Copies.cStruct
+                                    RelayPacket.the-type Laws''.the-laws Laws''.the-copy .copy 𝓤 H A W)
+                                    (Rows.whole (Declared'.row RelayPacket.the-type)) (λ x. x) (λ x. x) (λ ρ told.
+                                    Local.mem-whole 𝓤 H A W (Declared'.row RelayPacket.the-type) ρ) λ ρ told.
+                                    Local.whole-mem 𝓤 H A W (Declared'.row RelayPacket.the-type) ρ,
+                                Path.refl,
+                              ),
+                              (
+                                ShrSlice.spares-sslice 𝓤 H A W (Referent.rtF (Referent.fInt Syntax.w8)) ref10 5,
+                                Shared.reads-sslice 𝓤 H A W (Referent.rtF (Referent.fInt Syntax.w8)) ref10 5,
+                                Path.refl,
+                                (
+                                  ShrSlice.spares-sslice 𝓤 H A W (Referent.rtF (Referent.fInt Syntax.w8)) ref11 6,
+                                  Shared.reads-sslice 𝓤 H A W (Referent.rtF (Referent.fInt Syntax.w8)) ref11 6,
+                                  Path.refl,
+                                  (
+                                    ShrSlice.spares-sslice 𝓤 H A W (Referent.rtF (Referent.fInt Syntax.w8)) ref12 7,
+                                    Shared.reads-sslice 𝓤 H A W (Referent.rtF (Referent.fInt Syntax.w8)) ref12 7,
+                                    Path.refl,
+                                    (
+                                      ShrSlice.spares-sslice 𝓤 H A W (Referent.rtF (Referent.fInt Syntax.w8)) ref13 8,
+                                      Shared.reads-sslice 𝓤 H A W (Referent.rtF (Referent.fInt Syntax.w8)) ref13 8,
+                                      Path.refl,
+                                      tt,
+                                    ),
+                                  ),
+                                ),
+                              ),
+                            ),
+                          ),
+                        ),
+                      ),
+                    ),
+                  ),
+                ),
+              ) (Reads'.room-gone 𝓤 H A Laws''''.mir) (tt, (tt, (tt, (tt, (tt, (tt, (tt, (tt, (tt, tt)))))))))
+              Path.refl) d19
+
           d21 : Typed.Typed 𝓤 H A 𝓣 E G25 b15 Δ1 at21
-          d21 = Typed.s-seq 𝓤 H A W 𝓣 E G25 G26 b11 b14 Δ1 (Typed.ask s23) at20 (Relend.t-sl-aggregate 𝓤 H A W E (Referent.rtF (Referent.fInt
-              Syntax.w32)) 𝓣 (Relend.asMut (Referent.rtF (Referent.fInt Syntax.w32))) G25 23 24 13 ref4 ref4 (λ x. x) (Scalar.oFld 5 ((Syntax.field 1)
-              ∷ List.[]) (Syntax.tyInt Syntax.w64) 8 λ v. Shared.lenV (v .0)) (Reads'.as-is 𝓤 H A (Relend.msptr (Referent.rtF (Referent.fInt
-              Syntax.w32)) ref4 13)) (Reads'.room-gone 𝓤 H A (Syntax.tyStruct (38 ∷ 91 ∷ 93 ∷ List.[]) (Syntax.tcons ref4 (Syntax.tcons (Syntax.tyInt
-              Syntax.w64) Syntax.tnil)))) (Relend.reads-owed-len 𝓤 H A W (Referent.rtF (Referent.fInt Syntax.w32)) ref9 4 13 life4 8 Path.refl,
-              Path.refl,) Path.refl Path.refl λ b o k. tt) d20
+          d21 = Typed.s-seq 𝓤 H A W 𝓣 E G25 G26 b11 b14 Δ1 (Typed.ask s23) at20 (Relend.t-sl-aggregate 𝓤 H A W E
+              (Referent.rtF (Referent.fInt Syntax.w32)) 𝓣 (Relend.asMut (Referent.rtF (Referent.fInt Syntax.w32))) G25
+              23 24 13 ref4 ref4 (λ x. x) (Scalar.oFld 5 ((Syntax.field 1) ∷ List.[]) (Syntax.tyInt Syntax.w64) 8 λ v.
+              Shared.lenV (v .0)) (Reads'.as-is 𝓤 H A (Relend.msptr (Referent.rtF (Referent.fInt Syntax.w32)) ref4 13))
+              (Reads'.room-gone 𝓤 H A slice4) (
+                Relend.reads-owed-len 𝓤 H A W (Referent.rtF (Referent.fInt Syntax.w32)) ref9 4 13 life4 8 Path.refl,
+                Path.refl,
+              ) Path.refl Path.refl λ b o k. tt) d20
+
           d22 : Typed.Typed 𝓤 H A 𝓣 E G24 b16 Δ1 at22
-          d22 = Typed.s-seq 𝓤 H A W 𝓣 E G24 G25 b10 b15 Δ1 (Typed.give s22) at21 (Relend.t-sl-relend 𝓤 H A W E (Referent.rtF (Referent.fInt
-              Syntax.w32)) 𝓣 G24 5 23 4 13 ref9 ref4 life4 0 (λ x. x) (Reads'.as-is 𝓤 H A (Mut.mslice (Referent.rtF (Referent.fInt Syntax.w32)) ref9
-              4)) (Reads'.room-gone 𝓤 H A ref4) Path.refl tt Path.refl Path.refl Path.refl λ b o. tt) d21
+          d22 = Typed.s-seq 𝓤 H A W 𝓣 E G24 G25 b10 b15 Δ1 (Typed.give s22) at21 (Relend.t-sl-relend 𝓤 H A W E
+              (Referent.rtF (Referent.fInt Syntax.w32)) 𝓣 G24 5 23 4 13 ref9 ref4 life4 0 (λ x. x) (Reads'.as-is 𝓤 H A (Mut.mslice
+              (Referent.rtF (Referent.fInt Syntax.w32)) ref9 4)) (Reads'.room-gone 𝓤 H A ref4) Path.refl tt Path.refl
+              Path.refl Path.refl λ b o. tt) d21
+
           d23 : Typed.Typed 𝓤 H A 𝓣 E G23 b16 Δ1 at23
-          d23 = Typed.g-pre 𝓤 H A W 𝓣 E G23 G24 b16 Δ1 (λ Ψ. Ψ) at22 (Lifetime.g-begin 𝓤 H A W E G23 13 (tt, ((tt, tt), ((tt, tt), ((tt, tt), ((tt,
-              tt), (tt, (tt, (tt, (tt, (tt, (tt, (tt, (tt, (tt, (tt, (tt, (tt, (tt, (tt, (tt, (tt, (tt, (tt, (tt, (tt,
-              tt)))))),),),),),),),),),),),),),),),),),),),)) d22
+          d23 = Typed.g-pre 𝓤 H A W 𝓣 E G23 G24 b16 Δ1 (λ Ψ. Ψ) at22 (Lifetime.g-begin 𝓤 H A W E G23 13 (
+            tt,
+            (
+              (tt, tt),
+              (
+                (tt, tt),
+                (
+                  (tt, tt),
+                  (
+                    (tt, tt),
+                    (
+                      tt,
+                      (
+                        tt,
+                        (
+                          tt,
+                          (
+                            tt,
+                            (
+                              tt,
+                              (
+                                tt,
+                                (tt, (tt, (tt, (tt, (tt, (tt, (tt, (tt, (tt, (tt, (tt, (tt, (tt, (tt, tt)))))))))))))),
+                              ),
+                            ),
+                          ),
+                        ),
+                      ),
+                    ),
+                  ),
+                ),
+              ),
+            ),
+          )) d22
+
           d24 : Typed.Typed 𝓤 H A 𝓣 E G22 b17 Δ1 at24
-          d24 = Typed.s-seq 𝓤 H A W 𝓣 E G22 G23 b9 b16 Δ1 (Typed.ask s20) at23 (Relend.t-sl-aggregate 𝓤 H A W E InflightAction.row 𝓣 (Relend.asMut
-              InflightAction.row) G22 21 22 12 ref3 ref3 (λ x. x) (Scalar.oFld 4 ((Syntax.field 1) ∷ List.[]) (Syntax.tyInt Syntax.w64) 8 λ v.
-              Shared.lenV (v .0)) (Reads'.as-is 𝓤 H A (Relend.msptr InflightAction.row ref3 12)) (Reads'.room-gone 𝓤 H A (Syntax.tyStruct (38 ∷ 91 ∷
-              93 ∷ List.[]) (Syntax.tcons ref3 (Syntax.tcons (Syntax.tyInt Syntax.w64) Syntax.tnil)))) (Relend.reads-owed-len 𝓤 H A W
-              InflightAction.row ref8 3 12 life3 8 Path.refl, Path.refl,) Path.refl Path.refl λ b o k. tt) d23
+          d24 = Typed.s-seq 𝓤 H A W 𝓣 E G22 G23 b9 b16 Δ1 (Typed.ask s20) at23 (Relend.t-sl-aggregate 𝓤 H A W E
+              InflightAction.row 𝓣 (Relend.asMut InflightAction.row) G22 21 22 12 ref3 ref3 (λ x. x) (Scalar.oFld 4
+              ((Syntax.field 1) ∷ List.[]) (Syntax.tyInt Syntax.w64) 8 λ v. Shared.lenV (v .0)) (Reads'.as-is 𝓤 H A
+              (Relend.msptr InflightAction.row ref3 12)) (Reads'.room-gone 𝓤 H A slice3) (
+                Relend.reads-owed-len 𝓤 H A W InflightAction.row ref8 3 12 life3 8 Path.refl,
+                Path.refl,
+              ) Path.refl Path.refl λ b o k. tt) d23
+
           d25 : Typed.Typed 𝓤 H A 𝓣 E G21 b18 Δ1 at25
-          d25 = Typed.s-seq 𝓤 H A W 𝓣 E G21 G22 b8 b17 Δ1 (Typed.give s19) at24 (Relend.t-sl-relend 𝓤 H A W E InflightAction.row 𝓣 G21 4 21 3 12 ref8
-              ref3 life3 0 (λ x. x) (Reads'.as-is 𝓤 H A (Mut.mslice InflightAction.row ref8 3)) (Reads'.room-gone 𝓤 H A ref3) Path.refl tt Path.refl
-              Path.refl Path.refl λ b o. tt) d24
+          d25 = Typed.s-seq 𝓤 H A W 𝓣 E G21 G22 b8 b17 Δ1 (Typed.give s19) at24 (Relend.t-sl-relend 𝓤 H A W E
+              InflightAction.row 𝓣 G21 4 21 3 12 ref8 ref3 life3 0 (λ x. x)
+              (Reads'.as-is 𝓤 H A (Mut.mslice InflightAction.row ref8 3)) (Reads'.room-gone 𝓤 H A ref3) Path.refl tt
+              Path.refl Path.refl Path.refl λ b o. tt) d24
+
           d26 : Typed.Typed 𝓤 H A 𝓣 E G20 b18 Δ1 at26
-          d26 = Typed.g-pre 𝓤 H A W 𝓣 E G20 G21 b18 Δ1 (λ Ψ. Ψ) at25 (Lifetime.g-begin 𝓤 H A W E G20 12 (tt, ((tt, tt), ((tt, tt), ((tt, tt), (tt,
-              (tt, (tt, (tt, (tt, (tt, (tt, (tt, (tt, (tt, (tt, (tt, (tt, (tt, (tt, (tt, (tt, (tt, (tt, (tt, (tt,
-              tt)))))),),),),),),),),),),),),),),),),),),),)) d25
+          d26 = Typed.g-pre 𝓤 H A W 𝓣 E G20 G21 b18 Δ1 (λ Ψ. Ψ) at25 (Lifetime.g-begin 𝓤 H A W E G20 12 (
+            tt,
+            (
+              (tt, tt),
+              (
+                (tt, tt),
+                (
+                  (tt, tt),
+                  (
+                    tt,
+                    (
+                      tt,
+                      (
+                        tt,
+                        (
+                          tt,
+                          (
+                            tt,
+                            (
+                              tt,
+                              (
+                                tt,
+                                (tt, (tt, (tt, (tt, (tt, (tt, (tt, (tt, (tt, (tt, (tt, (tt, (tt, (tt, tt)))))))))))))),
+                              ),
+                            ),
+                          ),
+                        ),
+                      ),
+                    ),
+                  ),
+                ),
+              ),
+            ),
+          )) d25
+
           d27 : Typed.Typed 𝓤 H A 𝓣 E G19 b19 Δ1 at27
-          d27 = Typed.s-seq 𝓤 H A W 𝓣 E G19 G20 b7 b18 Δ1 (Typed.ask s17) at26 (Relend.t-sl-aggregate 𝓤 H A W E ReservationUsage.row 𝓣 (Relend.asMut
-              ReservationUsage.row) G19 19 20 11 ref2 ref2 (λ x. x) (Scalar.oFld 3 ((Syntax.field 1) ∷ List.[]) (Syntax.tyInt Syntax.w64) 8 λ v.
-              Shared.lenV (v .0)) (Reads'.as-is 𝓤 H A (Relend.msptr ReservationUsage.row ref2 11)) (Reads'.room-gone 𝓤 H A (Syntax.tyStruct (38 ∷ 91 ∷
-              93 ∷ List.[]) (Syntax.tcons ref2 (Syntax.tcons (Syntax.tyInt Syntax.w64) Syntax.tnil)))) (Relend.reads-owed-len 𝓤 H A W
-              ReservationUsage.row ref7 2 11 life2 8 Path.refl, Path.refl,) Path.refl Path.refl λ b o k. tt) d26
+          d27 = Typed.s-seq 𝓤 H A W 𝓣 E G19 G20 b7 b18 Δ1 (Typed.ask s17) at26 (Relend.t-sl-aggregate 𝓤 H A W E
+              ReservationUsage.row 𝓣 (Relend.asMut ReservationUsage.row) G19 19 20 11 ref2 ref2 (λ x. x) (Scalar.oFld 3
+              ((Syntax.field 1) ∷ List.[]) (Syntax.tyInt Syntax.w64) 8 λ v. Shared.lenV (v .0)) (Reads'.as-is 𝓤 H A
+              (Relend.msptr ReservationUsage.row ref2 11)) (Reads'.room-gone 𝓤 H A slice2) (
+                Relend.reads-owed-len 𝓤 H A W ReservationUsage.row ref7 2 11 life2 8 Path.refl,
+                Path.refl,
+              ) Path.refl Path.refl λ b o k. tt) d26
+
           d28 : Typed.Typed 𝓤 H A 𝓣 E G18 b20 Δ1 at28
-          d28 = Typed.s-seq 𝓤 H A W 𝓣 E G18 G19 b6 b19 Δ1 (Typed.give s16) at27 (Relend.t-sl-relend 𝓤 H A W E ReservationUsage.row 𝓣 G18 3 19 2 11
-              ref7 ref2 life2 0 (λ x. x) (Reads'.as-is 𝓤 H A (Mut.mslice ReservationUsage.row ref7 2)) (Reads'.room-gone 𝓤 H A ref2) Path.refl tt
-              Path.refl Path.refl Path.refl λ b o. tt) d27
+          d28 = Typed.s-seq 𝓤 H A W 𝓣 E G18 G19 b6 b19 Δ1 (Typed.give s16) at27 (Relend.t-sl-relend 𝓤 H A W E
+              ReservationUsage.row 𝓣 G18 3 19 2 11 ref7 ref2 life2 0 (λ x. x) (Reads'.as-is 𝓤 H A
+              (Mut.mslice ReservationUsage.row ref7 2)) (Reads'.room-gone 𝓤 H A ref2) Path.refl tt Path.refl Path.refl
+              Path.refl λ b o. tt) d27
+
           d29 : Typed.Typed 𝓤 H A 𝓣 E G17 b20 Δ1 at29
-          d29 = Typed.g-pre 𝓤 H A W 𝓣 E G17 G18 b20 Δ1 (λ Ψ. Ψ) at28 (Lifetime.g-begin 𝓤 H A W E G17 11 (tt, ((tt, tt), ((tt, tt), (tt, (tt, (tt, (tt,
-              (tt, (tt, (tt, (tt, (tt, (tt, (tt, (tt, (tt, (tt, (tt, (tt, (tt, (tt, (tt, (tt, (tt, (tt,
-              tt)))))),),),),),),),),),),),),),),),),),),),)) d28
+          d29 = Typed.g-pre 𝓤 H A W 𝓣 E G17 G18 b20 Δ1 (λ Ψ. Ψ) at28 (Lifetime.g-begin 𝓤 H A W E G17 11 (
+            tt,
+            (
+              (tt, tt),
+              (
+                (tt, tt),
+                (
+                  tt,
+                  (
+                    tt,
+                    (
+                      tt,
+                      (
+                        tt,
+                        (
+                          tt,
+                          (
+                            tt,
+                            (
+                              tt,
+                              (
+                                tt,
+                                (tt, (tt, (tt, (tt, (tt, (tt, (tt, (tt, (tt, (tt, (tt, (tt, (tt, (tt, tt)))))))))))))),
+                              ),
+                            ),
+                          ),
+                        ),
+                      ),
+                    ),
+                  ),
+                ),
+              ),
+            ),
+          )) d28
+
           d30 : Typed.Typed 𝓤 H A 𝓣 E G16 b21 Δ1 at30
-          d30 = Typed.s-seq 𝓤 H A W 𝓣 E G16 G17 b5 b20 Δ1 (Typed.ask s14) at29 (Relend.t-sl-aggregate 𝓤 H A W E RelayCircuit.row 𝓣 (Relend.asMut
-              RelayCircuit.row) G16 17 18 10 ref1 ref1 (λ x. x) (Scalar.oFld 2 ((Syntax.field 1) ∷ List.[]) (Syntax.tyInt Syntax.w64) 8 λ v.
-              Shared.lenV (v .0)) (Reads'.as-is 𝓤 H A (Relend.msptr RelayCircuit.row ref1 10)) (Reads'.room-gone 𝓤 H A (Syntax.tyStruct (38 ∷ 91 ∷ 93
-              ∷ List.[]) (Syntax.tcons ref1 (Syntax.tcons (Syntax.tyInt Syntax.w64) Syntax.tnil)))) (Relend.reads-owed-len 𝓤 H A W RelayCircuit.row
-              ref6 1 10 life1 8 Path.refl, Path.refl,) Path.refl Path.refl λ b o k. tt) d29
+          d30 = Typed.s-seq 𝓤 H A W 𝓣 E G16 G17 b5 b20 Δ1 (Typed.ask s14) at29 (Relend.t-sl-aggregate 𝓤 H A W E
+              RelayCircuit.row 𝓣 (Relend.asMut RelayCircuit.row) G16 17 18 10 ref1 ref1 (λ x. x) (Scalar.oFld 2
+              ((Syntax.field 1) ∷ List.[]) (Syntax.tyInt Syntax.w64) 8 λ v. Shared.lenV (v .0)) (Reads'.as-is 𝓤 H A
+              (Relend.msptr RelayCircuit.row ref1 10)) (Reads'.room-gone 𝓤 H A slice1) (
+                Relend.reads-owed-len 𝓤 H A W RelayCircuit.row ref6 1 10 life1 8 Path.refl,
+                Path.refl,
+              ) Path.refl Path.refl λ b o k. tt) d29
+
           d31 : Typed.Typed 𝓤 H A 𝓣 E G15 b22 Δ1 at31
-          d31 = Typed.s-seq 𝓤 H A W 𝓣 E G15 G16 b4 b21 Δ1 (Typed.give s13) at30 (Relend.t-sl-relend 𝓤 H A W E RelayCircuit.row 𝓣 G15 2 17 1 10 ref6
-              ref1 life1 0 (λ x. x) (Reads'.as-is 𝓤 H A (Mut.mslice RelayCircuit.row ref6 1)) (Reads'.room-gone 𝓤 H A ref1) Path.refl tt Path.refl
-              Path.refl Path.refl λ b o. tt) d30
+          d31 = Typed.s-seq 𝓤 H A W 𝓣 E G15 G16 b4 b21 Δ1 (Typed.give s13) at30 (Relend.t-sl-relend 𝓤 H A W E
+              RelayCircuit.row 𝓣 G15 2 17 1 10 ref6 ref1 life1 0 (λ x. x)
+              (Reads'.as-is 𝓤 H A (Mut.mslice RelayCircuit.row ref6 1)) (Reads'.room-gone 𝓤 H A ref1) Path.refl tt
+              Path.refl Path.refl Path.refl λ b o. tt) d30
+
           d32 : Typed.Typed 𝓤 H A 𝓣 E G14 b22 Δ1 at32
-          d32 = Typed.g-pre 𝓤 H A W 𝓣 E G14 G15 b22 Δ1 (λ Ψ. Ψ) at31 (Lifetime.g-begin 𝓤 H A W E G14 10 (tt, ((tt, tt), (tt, (tt, (tt, (tt, (tt, (tt,
-              (tt, (tt, (tt, (tt, (tt, (tt, (tt, (tt, (tt, (tt, (tt, (tt, (tt, (tt, (tt, (tt, (tt, tt)))))),),),),),),),),),),),),),),),),),),),)) d31
+          d32 = Typed.g-pre 𝓤 H A W 𝓣 E G14 G15 b22 Δ1 (λ Ψ. Ψ) at31 (Lifetime.g-begin 𝓤 H A W E G14 10 (
+            tt,
+            (
+              (tt, tt),
+              (
+                tt,
+                (
+                  tt,
+                  (
+                    tt,
+                    (
+                      tt,
+                      (
+                        tt,
+                        (
+                          tt,
+                          (
+                            tt,
+                            (
+                              tt,
+                              (
+                                tt,
+                                (tt, (tt, (tt, (tt, (tt, (tt, (tt, (tt, (tt, (tt, (tt, (tt, (tt, (tt, tt)))))))))))))),
+                              ),
+                            ),
+                          ),
+                        ),
+                      ),
+                    ),
+                  ),
+                ),
+              ),
+            ),
+          )) d31
+
           d33 : Typed.Typed 𝓤 H A 𝓣 E G13 b23 Δ1 at33
-          d33 = Typed.s-seq 𝓤 H A W 𝓣 E G13 G14 b3 b22 Δ1 (Typed.ask s11) at32 (Relend.t-sl-aggregate 𝓤 H A W E RelayPending.row 𝓣 (Relend.asMut
-              RelayPending.row) G13 15 16 9 ref0 ref0 (λ x. x) (Scalar.oFld 1 ((Syntax.field 1) ∷ List.[]) (Syntax.tyInt Syntax.w64) 8 λ v.
-              Shared.lenV (v .0)) (Reads'.as-is 𝓤 H A (Relend.msptr RelayPending.row ref0 9)) (Reads'.room-gone 𝓤 H A (Syntax.tyStruct (38 ∷ 91 ∷ 93 ∷
-              List.[]) (Syntax.tcons ref0 (Syntax.tcons (Syntax.tyInt Syntax.w64) Syntax.tnil)))) (Relend.reads-owed-len 𝓤 H A W RelayPending.row ref5
-              0 9 life0 8 Path.refl, Path.refl,) Path.refl Path.refl λ b o k. tt) d32
+          d33 = Typed.s-seq 𝓤 H A W 𝓣 E G13 G14 b3 b22 Δ1 (Typed.ask s11) at32 (Relend.t-sl-aggregate 𝓤 H A W E
+              RelayPending.row 𝓣 (Relend.asMut RelayPending.row) G13 15 16 9 ref0 ref0 (λ x. x) (Scalar.oFld 1
+              ((Syntax.field 1) ∷ List.[]) (Syntax.tyInt Syntax.w64) 8 λ v. Shared.lenV (v .0))
+              (Reads'.as-is 𝓤 H A (Relend.msptr RelayPending.row ref0 9)) (Reads'.room-gone 𝓤 H A slice0) (
+                Relend.reads-owed-len 𝓤 H A W RelayPending.row ref5 0 9 life0 8 Path.refl,
+                Path.refl,
+              ) Path.refl Path.refl λ b o k. tt) d32
+
           d34 : Typed.Typed 𝓤 H A 𝓣 E G12 b24 Δ1 at34
-          d34 = Typed.s-seq 𝓤 H A W 𝓣 E G12 G13 b2 b23 Δ1 (Typed.give s10) at33 (Relend.t-sl-relend 𝓤 H A W E RelayPending.row 𝓣 G12 1 15 0 9 ref5
-              ref0 life0 0 (λ x. x) (Reads'.as-is 𝓤 H A (Mut.mslice RelayPending.row ref5 0)) (Reads'.room-gone 𝓤 H A ref0) Path.refl tt Path.refl
-              Path.refl Path.refl λ b o. tt) d33
+          d34 = Typed.s-seq 𝓤 H A W 𝓣 E G12 G13 b2 b23 Δ1 (Typed.give s10) at33 (Relend.t-sl-relend 𝓤 H A W E
+              RelayPending.row 𝓣 G12 1 15 0 9 ref5 ref0 life0 0 (λ x. x)
+              (Reads'.as-is 𝓤 H A (Mut.mslice RelayPending.row ref5 0)) (Reads'.room-gone 𝓤 H A ref0) Path.refl tt
+              Path.refl Path.refl Path.refl λ b o. tt) d33
+
           d35 : Typed.Typed 𝓤 H A 𝓣 E G11 b24 Δ1 at35
-          d35 = Typed.g-pre 𝓤 H A W 𝓣 E G11 G12 b24 Δ1 (λ Ψ. Ψ) at34 (Lifetime.g-begin 𝓤 H A W E G11 9 (tt, (tt, (tt, (tt, (tt, (tt, (tt, (tt, (tt,
-              (tt, (tt, (tt, (tt, (tt, (tt, (tt, (tt, (tt, (tt, (tt, (tt, (tt, (tt, (tt, (tt, tt)))))),),),),),),),),),),),),),),),),),),),)) d34
+          d35 = Typed.g-pre 𝓤 H A W 𝓣 E G11 G12 b24 Δ1 (λ Ψ. Ψ) at34 (Lifetime.g-begin 𝓤 H A W E G11 9 (
+            tt,
+            (
+              tt,
+              (
+                tt,
+                (
+                  tt,
+                  (
+                    tt,
+                    (
+                      tt,
+                      (
+                        tt,
+                        (
+                          tt,
+                          (
+                            tt,
+                            (
+                              tt,
+                              (
+                                tt,
+                                (tt, (tt, (tt, (tt, (tt, (tt, (tt, (tt, (tt, (tt, (tt, (tt, (tt, (tt, tt)))))))))))))),
+                              ),
+                            ),
+                          ),
+                        ),
+                      ),
+                    ),
+                  ),
+                ),
+              ),
+            ),
+          )) d34
+
           d36 : Typed.Typed 𝓤 H A 𝓣 E G10 b24 Δ1 at36
-          d36 = Typed.g-pre 𝓤 H A W 𝓣 E G10 G11 b24 Δ1 (Typed.pass T10 T11 s8) at35 (Scalar.g-room 𝓤 H A W E G10 14 Syntax.tyBool (Scalar.room-sc 𝓤 H
-              A W Row.sBool)) d35
+          d36 = Typed.g-pre 𝓤 H A W 𝓣 E G10 G11 b24 Δ1 (Typed.pass T10 T11 s8) at35 (Scalar.g-room 𝓤 H A W E G10 14
+              Syntax.tyBool (Scalar.room-sc 𝓤 H A W Row.sBool)) d35
+
           d37 : Typed.Typed 𝓤 H A 𝓣 E G8 b24 Δ1 at37
-          d37 = Typed.g-pre 𝓤 H A W 𝓣 E G8 G10 b24 Δ1 (Typed.pass T8 T10 s7) at36 (Scalar.g-room 𝓤 H A W E G8 13 Laws.mir (Local.room-whole 𝓤 H A W
-              (Declared.row HnsrAnswer.the-type) Laws.mir Path.refl)) d36
+          d37 = Typed.g-pre 𝓤 H A W 𝓣 E G8 G10 b24 Δ1 (Typed.pass T8 T10 s7) at36 (Scalar.g-room 𝓤 H A W E G8 13
+              Laws.mir (Local.room-whole 𝓤 H A W (Declared.row HnsrAnswer.the-type) Laws.mir Path.refl)) d36
+
           d38 : Typed.Typed 𝓤 H A 𝓣 E G48 b25 Δ1 at38
           d38 = Typed.t-skip 𝓤 H A W 𝓣 E Δ1 tt
+
           d39 : Typed.Typed 𝓤 H A 𝓣 E G47 b25 Δ1 at39
-          d39 = Typed.g-pre 𝓤 H A W 𝓣 E G47 G48 b25 Δ1 (Typed.pass T47 T48 s45) at38 (Scalar.g-room 𝓤 H A W E G47 14 Syntax.tyBool (Scalar.room-sc 𝓤 H
-              A W Row.sBool)) d38
+          d39 = Typed.g-pre 𝓤 H A W 𝓣 E G47 G48 b25 Δ1 (Typed.pass T47 T48 s45) at38 (Scalar.g-room 𝓤 H A W E G47 14
+              Syntax.tyBool (Scalar.room-sc 𝓤 H A W Row.sBool)) d38
+
           d40 : Typed.Typed 𝓤 H A 𝓣 E G8 b25 Δ1 at40
-          d40 = Typed.g-pre 𝓤 H A W 𝓣 E G8 G47 b25 Δ1 (Typed.pass T8 T47 s44) at39 (Scalar.g-room 𝓤 H A W E G8 8 Laws''.mir (Local.room-whole 𝓤 H A W
-              (Declared'.row RelayPacket.the-type) Laws''.mir Path.refl)) d39
+          d40 = Typed.g-pre 𝓤 H A W 𝓣 E G8 G47 b25 Δ1 (Typed.pass T8 T47 s44) at39 (Scalar.g-room 𝓤 H A W E G8 8
+              Laws''.mir (Local.room-whole 𝓤 H A W (Declared'.row RelayPacket.the-type) Laws''.mir Path.refl)) d39
+
           d41 : Typed.Typed 𝓤 H A 𝓣 E G8 b26 Δ1 at41
-          d41 = Scalar.t-cond 𝓤 H A W E 𝓣 G8 14 (λ x. x) b24 b25 Δ1 at37 at40 (Scalar.reads-sc 𝓤 H A W Row.sBool) Path.refl d37 d40
+          d41 = Scalar.t-cond 𝓤 H A W E 𝓣 G8 14 (λ x. x) b24 b25 Δ1 at37 at40 (Scalar.reads-sc 𝓤 H A W Row.sBool)
+              Path.refl d37 d40
+
           d42 : Typed.Typed 𝓤 H A 𝓣 E G52 b28 Δ0 at42
           d42 = Typed.t-return 𝓤 H A W 𝓣 E Δ0 tt
+
           d43 : Typed.Typed 𝓤 H A 𝓣 E G51 b28 Δ0 at43
-          d43 = Typed.g-pre 𝓤 H A W 𝓣 E G51 G52 b28 Δ0 (Typed.pass T51 T52 s49) at42 (Scalar.g-room 𝓤 H A W E G51 13 Laws.mir (Local.room-whole 𝓤 H A
-              W (Declared.row HnsrAnswer.the-type) Laws.mir Path.refl)) d42
+          d43 = Typed.g-pre 𝓤 H A W 𝓣 E G51 G52 b28 Δ0 (Typed.pass T51 T52 s49) at42 (Scalar.g-room 𝓤 H A W E G51 13
+              Laws.mir (Local.room-whole 𝓤 H A W (Declared.row HnsrAnswer.the-type) Laws.mir Path.refl)) d42
+
           d44 : Typed.Typed 𝓤 H A 𝓣 E G50 b28 Δ0 at44
-          d44 = Typed.g-pre 𝓤 H A W 𝓣 E G50 G51 b28 Δ0 (Typed.pass T50 T51 s48) at43 (Scalar.g-room 𝓤 H A W E G50 7 Laws'.mir (Local.room-whole 𝓤 H A
-              W (Declared'.row Places.the-type) Laws'.mir Path.refl)) d43
+          d44 = Typed.g-pre 𝓤 H A W 𝓣 E G50 G51 b28 Δ0 (Typed.pass T50 T51 s48) at43 (Scalar.g-room 𝓤 H A W E G50 7
+              Laws'.mir (Local.room-whole 𝓤 H A W (Declared'.row Places.the-type) Laws'.mir Path.refl)) d43
+
           d45 : Typed.Typed 𝓤 H A 𝓣 E G49 b28 Δ0 at45
-          d45 = Typed.g-pre 𝓤 H A W 𝓣 E G49 G50 b28 Δ0 (Typed.pass T49 T50 s47) at44 (Scalar.g-room 𝓤 H A W E G49 6 Laws'''.mir (Local.room-whole 𝓤 H
-              A W (Declared'.row OpaqueRelayRuntime.the-type) Laws'''.mir Path.refl)) d44
+          d45 = Typed.g-pre 𝓤 H A W 𝓣 E G49 G50 b28 Δ0 (Typed.pass T49 T50 s47) at44 (Scalar.g-room 𝓤 H A W E G49 6
+              Laws'''.mir (Local.room-whole 𝓤 H A W (Declared'.row OpaqueRelayRuntime.the-type) Laws'''.mir Path.refl))
+              d44
+
           d46 : Typed.Typed 𝓤 H A 𝓣 E G9 b29 Δ0 at46
-          d46 = Typed.s-seq 𝓤 H A W 𝓣 E G9 G49 b27 b28 Δ0 (Typed.both s46) at45 (Plain.t-call-plain 𝓤 H A W 𝓣 0 ps·3 r·3 (claims· .6) (claims· .7)
-              "hnsr_circuit::revoking_calls::refused" (known .3) E (λ pos β. β) G9 (record { pos = 6; st = List.[]; d = 0; at = λ x. x }, (record {
-              pos = 7; st = List.[]; d = 0; at = λ x. x }, (record { pos = 13; st = List.[]; d = 0; at = λ x. x }, tt),),) 0 List.[] (Call.sub-id 𝓤 H
-              A W (G9 .slots)) ((Yields.yields-copy 𝓤 H A W (λ ρ. Unit) (Declared'.row OpaqueRelayRuntime.the-type) Path.refl (Copies.cStruct
-              OpaqueRelayRuntime.the-type Laws'''.the-laws Laws'''.the-copy .copy 𝓤 H A W) (Rows.whole (Declared'.row OpaqueRelayRuntime.the-type)) (λ
-              x. x) (λ x. x) (λ ρ told. Local.mem-whole 𝓤 H A W (Declared'.row OpaqueRelayRuntime.the-type) ρ) λ ρ told. Local.whole-mem 𝓤 H A W
-              (Declared'.row OpaqueRelayRuntime.the-type) ρ, Path.refl,), ((Yields.yields-copy 𝓤 H A W (λ ρ. Unit) (Declared'.row Places.the-type)
-              Path.refl (Copies.cStruct Places.the-type Laws'.the-laws Laws'.the-copy .copy 𝓤 H A W) (Rows.whole (Declared'.row Places.the-type)) (λ
-              x. x) (λ x. x) (λ ρ told. Local.mem-whole 𝓤 H A W (Declared'.row Places.the-type) ρ) λ ρ told. Local.whole-mem 𝓤 H A W (Declared'.row
-              Places.the-type) ρ, Path.refl,), ((Yields.yields-copy 𝓤 H A W (λ ρ. Unit) (Declared.row HnsrAnswer.the-type) Path.refl (Copies.cEnum
-              HnsrAnswer.the-type Laws.the-laws Laws.the-copy .copy 𝓤 H A W) (Rows.whole (Declared.row HnsrAnswer.the-type)) (λ x. x) (λ x. x) (λ ρ
-              told. Local.mem-whole 𝓤 H A W (Declared.row HnsrAnswer.the-type) ρ) λ ρ told. Local.whole-mem 𝓤 H A W (Declared.row HnsrAnswer.the-type)
-              ρ, Path.refl,), tt,),),) (Reads'.room-gone 𝓤 H A Laws''''.mir) tt Path.refl) d45
+          d46 = Typed.s-seq 𝓤 H A W 𝓣 E G9 G49 b27 b28 Δ0 (Typed.both s46) at45 (Plain.t-call-plain 𝓤 H A W 𝓣 0 ps·3
+              r·3 (claims· .6) (claims· .7) "hnsr_circuit::revoking_calls::refused" (known .3) E (λ pos β. β) G9 (
+                record { pos = 6; st = List.[]; d = 0; at = λ x. x },
+                (
+                  record { pos = 7; st = List.[]; d = 0; at = λ x. x },
+                  (record { pos = 13; st = List.[]; d = 0; at = λ x. x }, tt),
+                ),
+              ) 0 List.[] (Call.sub-id 𝓤 H A W (G9 .slots)) (
+                (
+                  Yields.yields-copy 𝓤 H A W (λ ρ. Unit) (Declared'.row OpaqueRelayRuntime.the-type) Path.refl (Copies.cStruct
+                      OpaqueRelayRuntime.the-type Laws'''.the-laws Laws'''.the-copy .copy 𝓤 H A W)
+                      (Rows.whole (Declared'.row OpaqueRelayRuntime.the-type)) (λ x. x) (λ x. x) (λ ρ told.
+                      Local.mem-whole 𝓤 H A W (Declared'.row OpaqueRelayRuntime.the-type) ρ) λ ρ told. Local.whole-mem
+                      𝓤 H A W (Declared'.row OpaqueRelayRuntime.the-type) ρ,
+                  Path.refl,
+                ),
+                (
+                  (
+                    Yields.yields-copy 𝓤 H A W (λ ρ. Unit) (Declared'.row Places.the-type) Path.refl (Copies.cStruct
+                        Places.the-type Laws'.the-laws Laws'.the-copy .copy 𝓤 H A W)
+                        (Rows.whole (Declared'.row Places.the-type)) (λ x. x) (λ x. x) (λ ρ told. Local.mem-whole 𝓤 H A
+                        W (Declared'.row Places.the-type) ρ) λ ρ told. Local.whole-mem 𝓤 H A W
+                        (Declared'.row Places.the-type) ρ,
+                    Path.refl,
+                  ),
+                  (
+                    (
+                      Yields.yields-copy 𝓤 H A W (λ ρ. Unit) (Declared.row HnsrAnswer.the-type) Path.refl (Copies.cEnum
+                          HnsrAnswer.the-type Laws.the-laws Laws.the-copy .copy 𝓤 H A W)
+                          (Rows.whole (Declared.row HnsrAnswer.the-type)) (λ x. x) (λ x. x) (λ ρ told. Local.mem-whole
+                          𝓤 H A W (Declared.row HnsrAnswer.the-type) ρ) λ ρ told. Local.whole-mem 𝓤 H A W
+                          (Declared.row HnsrAnswer.the-type) ρ,
+                      Path.refl,
+                    ),
+                    tt,
+                  ),
+                ),
+              ) (Reads'.room-gone 𝓤 H A Laws''''.mir) tt Path.refl) d45
+
           d47 : Typed.Typed 𝓤 H A 𝓣 E G8 b30 Δ0 at47
           d47 = Typed.t-seq 𝓤 H A W 𝓣 E G8 G9 b26 b29 Δ0 at41 at46 d41 d46
+
           d48 : Typed.Typed 𝓤 H A 𝓣 E G7 b31 Δ0 at48
-          d48 = Typed.s-seq 𝓤 H A W 𝓣 E G7 G8 b1 b30 Δ0 (Typed.both s6) at47 (Plain.t-call-plain 𝓤 H A W 𝓣 0 ps·1 r·1 (claims· .2) (claims· .3)
-              "hnsr_circuit::answer::is_taken" (known .1) E (λ pos β. β) G7 (record { pos = 13; st = List.[]; d = 0; at = λ x. x }, tt) 14 List.[]
-              (Call.sub-id 𝓤 H A W (G7 .slots)) ((Yields.yields-copy 𝓤 H A W (λ ρ. Unit) (Declared.row HnsrAnswer.the-type) Path.refl (Copies.cEnum
-              HnsrAnswer.the-type Laws.the-laws Laws.the-copy .copy 𝓤 H A W) (Rows.whole (Declared.row HnsrAnswer.the-type)) (λ x. x) (λ x. x) (λ ρ
-              told. Local.mem-whole 𝓤 H A W (Declared.row HnsrAnswer.the-type) ρ) λ ρ told. Local.whole-mem 𝓤 H A W (Declared.row HnsrAnswer.the-type)
-              ρ, Path.refl,), tt,) (Reads'.room-gone 𝓤 H A Syntax.tyBool) tt Path.refl) d47
+          d48 = Typed.s-seq 𝓤 H A W 𝓣 E G7 G8 b1 b30 Δ0 (Typed.both s6) at47 (Plain.t-call-plain 𝓤 H A W 𝓣 0 ps·1 r·1
+              (claims· .2) (claims· .3) "hnsr_circuit::answer::is_taken" (known .1) E (λ pos β. β) G7
+              (record { pos = 13; st = List.[]; d = 0; at = λ x. x }, tt) 14 List.[] (Call.sub-id 𝓤 H A W (G7 .slots)) (
+                (
+                  Yields.yields-copy 𝓤 H A W (λ ρ. Unit) (Declared.row HnsrAnswer.the-type) Path.refl (Copies.cEnum
+                      HnsrAnswer.the-type Laws.the-laws Laws.the-copy .copy 𝓤 H A W)
+                      (Rows.whole (Declared.row HnsrAnswer.the-type)) (λ x. x) (λ x. x) (λ ρ told. Local.mem-whole 𝓤 H
+                      A W (Declared.row HnsrAnswer.the-type) ρ) λ ρ told. Local.whole-mem 𝓤 H A W
+                      (Declared.row HnsrAnswer.the-type) ρ,
+                  Path.refl,
+                ),
+                tt,
+              ) (Reads'.room-gone 𝓤 H A Syntax.tyBool) tt Path.refl) d47
+
           d49 : Typed.Typed 𝓤 H A 𝓣 E G6 b32 Δ0 at49
-          d49 = Typed.s-seq 𝓤 H A W 𝓣 E G6 G7 b0 b31 Δ0 (Typed.both s5) at48 (Plain.t-call-plain 𝓤 H A W 𝓣 0 ps·0 r·0 (claims· .0) (claims· .1)
-              "hnsr_circuit::handle::gate_answer" (known .0) E (λ pos β. β) G6 (Bool.bFld 6 ((Syntax.field 2) ∷ List.[]) 24 λ x.
-              OpaqueRelayRuntime.struct .as-values x .1 .1 .0, tt,) 13 List.[] (Call.sub-id 𝓤 H A W (G6 .slots)) ((Reads.reads-field 𝓤 H A W
-              OpaqueRelayRuntime.the-type Laws'''.the-laws 2 Syntax.tyBool 24 Path.refl, Path.refl,), tt,) (Reads'.room-gone 𝓤 H A Laws.mir) tt
-              Path.refl) d48
+          d49 = Typed.s-seq 𝓤 H A W 𝓣 E G6 G7 b0 b31 Δ0 (Typed.both s5) at48 (Plain.t-call-plain 𝓤 H A W 𝓣 0 ps·0 r·0
+              (claims· .0) (claims· .1) "hnsr_circuit::handle::gate_answer" (known .0) E (λ pos β. β) G6 (
+                Bool.bFld 6 ((Syntax.field 2) ∷ List.[]) 24 λ x. OpaqueRelayRuntime.struct .as-values x .1 .1 .0,
+                tt,
+              ) 13 List.[] (Call.sub-id 𝓤 H A W (G6 .slots)) (
+                (
+                  Reads.reads-field 𝓤 H A W OpaqueRelayRuntime.the-type Laws'''.the-laws 2 Syntax.tyBool 24 Path.refl,
+                  Path.refl,
+                ),
+                tt,
+              ) (Reads'.room-gone 𝓤 H A Laws.mir) tt Path.refl) d48
+
           d50 : Typed.Typed 𝓤 H A 𝓣 E G5 b32 Δ0 at50
-          d50 = Typed.g-pre 𝓤 H A W 𝓣 E G5 G6 b32 Δ0 (Typed.give s4) at49 (Know.g-shs-known 𝓤 H A W (Referent.fInt Syntax.w8) E G5 12 8 ref13 life8 0
-              (λ x. x) record { fits = Dec.lit< tt } (Reads'.as-is 𝓤 H A (Rows.sslice (Referent.rtF (Referent.fInt Syntax.w8)) ref13 8)) Path.refl tt)
-              d49
+          d50 = Typed.g-pre 𝓤 H A W 𝓣 E G5 G6 b32 Δ0 (Typed.give s4) at49 (Know.g-shs-known 𝓤 H A W
+              (Referent.fInt Syntax.w8) E G5 12 8 ref13 life8 0 (λ x. x) record { fits = Dec.lit< tt } (Reads'.as-is 𝓤
+              H A (Rows.sslice (Referent.rtF (Referent.fInt Syntax.w8)) ref13 8)) Path.refl tt) d49
+
           d51 : Typed.Typed 𝓤 H A 𝓣 E G4 b32 Δ0 at51
-          d51 = Typed.g-pre 𝓤 H A W 𝓣 E G4 G5 b32 Δ0 (Typed.give s3) at50 (Know.g-shs-known 𝓤 H A W (Referent.fInt Syntax.w8) E G4 11 7 ref12 life7 0
-              (λ x. x) record { fits = Dec.lit< tt } (Reads'.as-is 𝓤 H A (Rows.sslice (Referent.rtF (Referent.fInt Syntax.w8)) ref12 7)) Path.refl tt)
-              d50
+          d51 = Typed.g-pre 𝓤 H A W 𝓣 E G4 G5 b32 Δ0 (Typed.give s3) at50 (Know.g-shs-known 𝓤 H A W
+              (Referent.fInt Syntax.w8) E G4 11 7 ref12 life7 0 (λ x. x) record { fits = Dec.lit< tt } (Reads'.as-is 𝓤
+              H A (Rows.sslice (Referent.rtF (Referent.fInt Syntax.w8)) ref12 7)) Path.refl tt) d50
+
           d52 : Typed.Typed 𝓤 H A 𝓣 E G3 b32 Δ0 at52
-          d52 = Typed.g-pre 𝓤 H A W 𝓣 E G3 G4 b32 Δ0 (Typed.give s2) at51 (Know.g-shs-known 𝓤 H A W (Referent.fInt Syntax.w8) E G3 10 6 ref11 life6 0
-              (λ x. x) record { fits = Dec.lit< tt } (Reads'.as-is 𝓤 H A (Rows.sslice (Referent.rtF (Referent.fInt Syntax.w8)) ref11 6)) Path.refl tt)
-              d51
+          d52 = Typed.g-pre 𝓤 H A W 𝓣 E G3 G4 b32 Δ0 (Typed.give s2) at51 (Know.g-shs-known 𝓤 H A W
+              (Referent.fInt Syntax.w8) E G3 10 6 ref11 life6 0 (λ x. x) record { fits = Dec.lit< tt } (Reads'.as-is 𝓤
+              H A (Rows.sslice (Referent.rtF (Referent.fInt Syntax.w8)) ref11 6)) Path.refl tt) d51
+
           d53 : Typed.Typed 𝓤 H A 𝓣 E G2 b32 Δ0 at53
-          d53 = Typed.g-pre 𝓤 H A W 𝓣 E G2 G3 b32 Δ0 (Typed.give s1) at52 (Know.g-shs-known 𝓤 H A W (Referent.fInt Syntax.w8) E G2 9 5 ref10 life5 0
-              (λ x. x) record { fits = Dec.lit< tt } (Reads'.as-is 𝓤 H A (Rows.sslice (Referent.rtF (Referent.fInt Syntax.w8)) ref10 5)) Path.refl tt)
-              d52
+          d53 = Typed.g-pre 𝓤 H A W 𝓣 E G2 G3 b32 Δ0 (Typed.give s1) at52 (Know.g-shs-known 𝓤 H A W
+              (Referent.fInt Syntax.w8) E G2 9 5 ref10 life5 0 (λ x. x) record { fits = Dec.lit< tt } (Reads'.as-is 𝓤 H
+              A (Rows.sslice (Referent.rtF (Referent.fInt Syntax.w8)) ref10 5)) Path.refl tt) d52
+
           d54 : Typed.Typed 𝓤 H A 𝓣 E G0 b32 Δ0 at54
-          d54 = Typed.g-pre 𝓤 H A W 𝓣 E G0 G2 b32 Δ0 (Typed.give s0) at53 (Know.g-sl-known 𝓤 H A W (Referent.fInt Syntax.w32) E G0 5 4 ref9 life4 0 (λ
-              x. x) record { fits = Dec.lit< tt } (Reads'.as-is 𝓤 H A (Mut.mslice (Referent.rtF (Referent.fInt Syntax.w32)) ref9 4)) Path.refl tt) d53
+          d54 = Typed.g-pre 𝓤 H A W 𝓣 E G0 G2 b32 Δ0 (Typed.give s0) at53 (Know.g-sl-known 𝓤 H A W
+              (Referent.fInt Syntax.w32) E G0 5 4 ref9 life4 0 (λ x. x) record { fits = Dec.lit< tt } (Reads'.as-is 𝓤 H
+              A (Mut.mslice (Referent.rtF (Referent.fInt Syntax.w32)) ref9 4)) Path.refl tt) d53
+
           pub typed : Typed.Typed 𝓤 H A 𝓣 E (Function.Γin 9 ps r xs m κs qs) b32 (Function.Δret 9 ps r xs m κs qs) Φ
           typed = d54
+
       module _ (κs : Lifetimes.Lfts 9) where
         pub record Args : Type 0 where
-          pub pending : Kinds.Den { n = 9 } κs (MutSlice.pMutS RelayPending.row 0 tt)
-          pub circuits : Kinds.Den { n = 9 } κs (MutSlice.pMutS RelayCircuit.row 1 tt)
-          pub ledger : Kinds.Den { n = 9 } κs (MutSlice.pMutS ReservationUsage.row 2 tt)
-          pub inflight : Kinds.Den { n = 9 } κs (MutSlice.pMutS InflightAction.row 3 tt)
-          pub out : Kinds.Den { n = 9 } κs (MutSlice.pMutS (Referent.rtF (Referent.fInt Syntax.w32)) 4 tt)
-          pub runtime : Kinds.Den { n = 9 } κs (Value.pVal record { ty = Declared'.row OpaqueRelayRuntime.the-type; one = Path.refl; val =
-              Laws''''''.val OpaqueRelayRuntime.the-type Laws'''.the-laws; tells = Laws''''''.tells OpaqueRelayRuntime.the-type Laws'''.the-laws;
-              still = Laws''''''.still OpaqueRelayRuntime.the-type Laws'''.the-copy Exit.yes; row = Rows.whole (Declared'.row
-              OpaqueRelayRuntime.the-type); rd = λ x. x; mk = λ x. x; } λ M 𝓤 H A W. record { copies = Laws''''''.copy OpaqueRelayRuntime.the-type
-              Laws'''.the-copy 𝓤 H A W; lawful = Laws''''''.lawful OpaqueRelayRuntime.the-type Laws'''.the-laws 𝓤 H A W; makes = Laws''''''.makes
-              OpaqueRelayRuntime.the-type Laws'''.the-plain 𝓤 H A; in-mem = Local.mem-whole 𝓤 H A W (Declared'.row OpaqueRelayRuntime.the-type);
-              of-mem = Local.whole-mem 𝓤 H A W (Declared'.row OpaqueRelayRuntime.the-type); })
-          pub places : Kinds.Den { n = 9 } κs (Value.pVal record { ty = Declared'.row Places.the-type; one = Path.refl; val = Laws''''''.val
-              Places.the-type Laws'.the-laws; tells = Laws''''''.tells Places.the-type Laws'.the-laws; still = Laws''''''.still Places.the-type
-              Laws'.the-copy Exit.yes; row = Rows.whole (Declared'.row Places.the-type); rd = λ x. x; mk = λ x. x; } λ M 𝓤 H A W. record { copies =
-              Laws''''''.copy Places.the-type Laws'.the-copy 𝓤 H A W; lawful = Laws''''''.lawful Places.the-type Laws'.the-laws 𝓤 H A W; makes =
-              Laws''''''.makes Places.the-type Laws'.the-plain 𝓤 H A; in-mem = Local.mem-whole 𝓤 H A W (Declared'.row Places.the-type); of-mem =
-              Local.whole-mem 𝓤 H A W (Declared'.row Places.the-type); })
-          pub packet : Kinds.Den { n = 9 } κs (Value.pVal record { ty = Declared'.row RelayPacket.the-type; one = Path.refl; val = Laws''''''.val
-              RelayPacket.the-type Laws''.the-laws; tells = Laws''''''.tells RelayPacket.the-type Laws''.the-laws; still = Laws''''''.still
-              RelayPacket.the-type Laws''.the-copy Exit.yes; row = Rows.whole (Declared'.row RelayPacket.the-type); rd = λ x. x; mk = λ x. x; } λ M 𝓤
-              H A W. record { copies = Laws''''''.copy RelayPacket.the-type Laws''.the-copy 𝓤 H A W; lawful = Laws''''''.lawful RelayPacket.the-type
-              Laws''.the-laws 𝓤 H A W; makes = Laws''''''.makes RelayPacket.the-type Laws''.the-plain 𝓤 H A; in-mem = Local.mem-whole 𝓤 H A W
-              (Declared'.row RelayPacket.the-type); of-mem = Local.whole-mem 𝓤 H A W (Declared'.row RelayPacket.the-type); })
-          pub source : Kinds.Den { n = 9 } κs (ShrSlice.pShrS (Referent.rtF (Referent.fInt Syntax.w8)) 5 tt)
-          pub body : Kinds.Den { n = 9 } κs (ShrSlice.pShrS (Referent.rtF (Referent.fInt Syntax.w8)) 6 tt)
-          pub endpoint : Kinds.Den { n = 9 } κs (ShrSlice.pShrS (Referent.rtF (Referent.fInt Syntax.w8)) 7 tt)
-          pub random : Kinds.Den { n = 9 } κs (ShrSlice.pShrS (Referent.rtF (Referent.fInt Syntax.w8)) 8 tt)
+          pub pending : Kinds.Den {n = 9} κs (MutSlice.pMutS RelayPending.row 0 tt)
+          pub circuits : Kinds.Den {n = 9} κs (MutSlice.pMutS RelayCircuit.row 1 tt)
+          pub ledger : Kinds.Den {n = 9} κs (MutSlice.pMutS ReservationUsage.row 2 tt)
+          pub inflight : Kinds.Den {n = 9} κs (MutSlice.pMutS InflightAction.row 3 tt)
+          pub out : Kinds.Den {n = 9} κs (MutSlice.pMutS (Referent.rtF (Referent.fInt Syntax.w32)) 4 tt)
+          pub runtime : Kinds.Den {n = 9} κs (StructRow.param OpaqueRelayRuntime.the-type Laws'''.the-laws
+              Laws'''.the-copy Laws'''.the-plain)
+          pub places : Kinds.Den {n = 9} κs (StructRow.param Places.the-type Laws'.the-laws Laws'.the-copy
+              Laws'.the-plain)
+          pub packet : Kinds.Den {n = 9} κs (StructRow.param RelayPacket.the-type Laws''.the-laws Laws''.the-copy
+              Laws''.the-plain)
+          pub source : Kinds.Den {n = 9} κs (ShrSlice.pShrS (Referent.rtF (Referent.fInt Syntax.w8)) 5 tt)
+          pub body : Kinds.Den {n = 9} κs (ShrSlice.pShrS (Referent.rtF (Referent.fInt Syntax.w8)) 6 tt)
+          pub endpoint : Kinds.Den {n = 9} κs (ShrSlice.pShrS (Referent.rtF (Referent.fInt Syntax.w8)) 7 tt)
+          pub random : Kinds.Den {n = 9} κs (ShrSlice.pShrS (Referent.rtF (Referent.fInt Syntax.w8)) 8 tt)
+
         abbrev pub dens : (a : Args) → Kinds.Dens κs ps
-        dens = λ a. (a .pending, (a .circuits, (a .ledger, (a .inflight, (a .out, (a .runtime, (a .places, (a .packet, (a .source, (a .body, (a
-            .endpoint, (a .random, tt))))),),),),),),),)
+        dens = λ a. (
+          a .pending,
+          (
+            a .circuits,
+            (
+              a .ledger,
+              (
+                a .inflight,
+                (
+                  a .out,
+                  (a .runtime, (a .places, (a .packet, (a .source, (a .body, (a .endpoint, (a .random, tt))))))),
+                ),
+              ),
+            ),
+          ),
+        )
+
       abbrev pub m0 : (κs : Lifetimes.Lfts 9) → (args : Args κs) → Typed.Mo T0
       m0 = λ κs args. (tt, Enter.partsP κs 1 ps xs (dens κs args))
+
       abbrev W0 : (κs : Lifetimes.Lfts 9) → (args : Args κs) → Typed.Want O0
-      W0 = λ κs args. (λ u. ⊥, tt, λ u. Enter.Fixs κs 1 ps xs (dens κs args) (u .1) × Post· κs (dens κs args) (Function.resV r κs (u .0))
-          (Clauses.atExit (Kinds.endedOf 9 ps r) κs (dens κs args) (Enter.lastsP κs 1 ps xs (dens κs args) (u .1))),)
+      W0 = λ κs args. (
+        λ u. ⊥,
+        tt,
+        λ u. Enter.Fixs κs 1 ps xs (dens κs args) (u .1) × Post· κs (dens κs args) (Function.resV r κs (u .0)) (Clauses.atExit
+            (Kinds.endedOf 9 ps r) κs (dens κs args) (Enter.lastsP κs 1 ps xs (dens κs args) (u .1))),
+      )
+
       pub record Start : Type 0 where
         pub κs : Lifetimes.Lfts 9
         pub args : Args κs
         pub good : Kinds.GoodsP κs ps (dens κs args)
         pub pre : Pre· κs (dens κs args)
+
       abbrev pub m1 : (before : Start) → (given : s0 .gives (m0 (before .κs) (before .args))) → Typed.Mo T2
       m1 = λ before given. s0 .next (m0 (before .κs) (before .args)) given
+
       module _ (before· : Start) where
         pub record After-slice-known·own : Type 0 where
           pub given : s0 .gives (m0 (before· .κs) (before· .args))
+
       pub record After-slice-known : Type 0 where
         pub before : Start
         pub slice-known : After-slice-known·own before
-      abbrev pub m2 : (before : After-slice-known) → (given : s1 .gives (m1 (before .before) (before .slice-known .given))) → Typed.Mo T3
+
+      abbrev pub m2 : (before : After-slice-known) → (given : s1 .gives
+          (m1 (before .before) (before .slice-known .given))) → Typed.Mo T3
       m2 = λ before given. s1 .next (m1 (before .before) (before .slice-known .given)) given
+
       module _ (before· : After-slice-known) where
         pub record After-shared-slice-known·own : Type 0 where
           pub given : s1 .gives (m1 (before· .before) (before· .slice-known .given))
+
       pub record After-shared-slice-known : Type 0 where
         pub before : After-slice-known
         pub shared-slice-known : After-shared-slice-known·own before
-      abbrev pub m3 : (before : After-shared-slice-known) → (given : s2 .gives (m2 (before .before) (before .shared-slice-known .given))) → Typed.Mo
-          T4
+
+      abbrev pub m3 : (before : After-shared-slice-known) → (given : s2 .gives
+          (m2 (before .before) (before .shared-slice-known .given))) → Typed.Mo T4
       m3 = λ before given. s2 .next (m2 (before .before) (before .shared-slice-known .given)) given
+
       module _ (before· : After-shared-slice-known) where
         pub record After-shared-slice-known2·own : Type 0 where
           pub given : s2 .gives (m2 (before· .before) (before· .shared-slice-known .given))
+
       pub record After-shared-slice-known2 : Type 0 where
         pub before : After-shared-slice-known
         pub shared-slice-known2 : After-shared-slice-known2·own before
-      abbrev pub m4 : (before : After-shared-slice-known2) → (given : s3 .gives (m3 (before .before) (before .shared-slice-known2 .given))) → Typed.Mo
-          T5
+
+      abbrev pub m4 : (before : After-shared-slice-known2) → (given : s3 .gives
+          (m3 (before .before) (before .shared-slice-known2 .given))) → Typed.Mo T5
       m4 = λ before given. s3 .next (m3 (before .before) (before .shared-slice-known2 .given)) given
+
       module _ (before· : After-shared-slice-known2) where
         pub record After-shared-slice-known3·own : Type 0 where
           pub given : s3 .gives (m3 (before· .before) (before· .shared-slice-known2 .given))
+
       pub record After-shared-slice-known3 : Type 0 where
         pub before : After-shared-slice-known2
         pub shared-slice-known3 : After-shared-slice-known3·own before
-      abbrev pub m5 : (before : After-shared-slice-known3) → (given : s4 .gives (m4 (before .before) (before .shared-slice-known3 .given))) → Typed.Mo
-          T6
+
+      abbrev pub m5 : (before : After-shared-slice-known3) → (given : s4 .gives
+          (m4 (before .before) (before .shared-slice-known3 .given))) → Typed.Mo T6
       m5 = λ before given. s4 .next (m4 (before .before) (before .shared-slice-known3 .given)) given
+
       module _ (before· : After-shared-slice-known3) where
         pub record After-shared-slice-known4·own : Type 0 where
           pub given : s4 .gives (m4 (before· .before) (before· .shared-slice-known3 .given))
+
       pub record After-shared-slice-known4 : Type 0 where
         pub before : After-shared-slice-known3
         pub shared-slice-known4 : After-shared-slice-known4·own before
+
       abbrev pub Need-gate-answer-requires : Type 0
-      Need-gate-answer-requires = (c : After-shared-slice-known4) → s5 .asks (m5 (c .before) (c .shared-slice-known4 .given))
-      abbrev pub m6 : (before : After-shared-slice-known4) → (given : s5 .gives (m5 (before .before) (before .shared-slice-known4 .given))) → Typed.Mo
-          T7
+      Need-gate-answer-requires = (c : After-shared-slice-known4) → s5 .asks
+          (m5 (c .before) (c .shared-slice-known4 .given))
+
+      abbrev pub m6 : (before : After-shared-slice-known4) → (given : s5 .gives
+          (m5 (before .before) (before .shared-slice-known4 .given))) → Typed.Mo T7
       m6 = λ before given. s5 .next (m5 (before .before) (before .shared-slice-known4 .given)) given
+
       module _ (before· : After-shared-slice-known4) where
         abbrev pub After-gate-answer·own : Type 0
-        After-gate-answer·own = Called.Called ps·0 r·0 (claims· .1) T6 (Bool.bFld 6 ((Syntax.field 2) ∷ List.[]) 24 λ x. OpaqueRelayRuntime.struct
-            .as-values x .1 .1 .0, tt,) (m5 (before· .before) (before· .shared-slice-known4 .given))
+        After-gate-answer·own = Called.Called ps·0 r·0 (claims· .1) T6 args5 (m5 (before· .before)
+            (before· .shared-slice-known4 .given))
+
       pub record After-gate-answer : Type 0 where
         pub before : After-shared-slice-known4
         pub gate-answer : After-gate-answer·own before
-      abbrev pub After-gate-answer·gave : (c : After-gate-answer) → s5 .gives (m5 (c .before .before) (c .before .shared-slice-known4 .given))
-      After-gate-answer·gave = λ c. Called.given ps·0 r·0 (claims· .1) T6 (Bool.bFld 6 ((Syntax.field 2) ∷ List.[]) 24 λ x. OpaqueRelayRuntime.struct
-          .as-values x .1 .1 .0, tt,) (m5 (c .before .before) (c .before .shared-slice-known4 .given)) (c .gate-answer)
+
+      abbrev pub After-gate-answer·gave : (c : After-gate-answer) → s5 .gives (m5 (c .before .before)
+          (c .before .shared-slice-known4 .given))
+      After-gate-answer·gave = λ c. Called.given ps·0 r·0 (claims· .1) T6 args5 (m5 (c .before .before)
+          (c .before .shared-slice-known4 .given)) (c .gate-answer)
+
       abbrev pub Need-is-taken-requires : Type 0
       Need-is-taken-requires = (c : After-gate-answer) → s6 .asks (m6 (c .before) (After-gate-answer·gave c))
-      abbrev pub m7 : (before : After-gate-answer) → (given : s6 .gives (m6 (before .before) (After-gate-answer·gave before))) → Typed.Mo T8
+
+      abbrev pub m7 : (before : After-gate-answer) → (given : s6 .gives
+          (m6 (before .before) (After-gate-answer·gave before))) → Typed.Mo T8
       m7 = λ before given. s6 .next (m6 (before .before) (After-gate-answer·gave before)) given
+
       module _ (before· : After-gate-answer) where
         abbrev pub After-is-taken·own : Type 0
-        After-is-taken·own = Called.Called ps·1 r·1 (claims· .3) T7 (record { pos = 13; st = List.[]; d = 0; at = λ x. x }, tt,) (m6 (before· .before)
-            (After-gate-answer·gave before·))
+        After-is-taken·own = Called.Called ps·1 r·1 (claims· .3) T7 args6
+            (m6 (before· .before) (After-gate-answer·gave before·))
+
       pub record After-is-taken : Type 0 where
         pub before : After-gate-answer
         pub is-taken : After-is-taken·own before
-      abbrev pub After-is-taken·gave : (c : After-is-taken) → s6 .gives (m6 (c .before .before) (After-gate-answer·gave (c .before)))
-      After-is-taken·gave = λ c. Called.given ps·1 r·1 (claims· .3) T7 (record { pos = 13; st = List.[]; d = 0; at = λ x. x }, tt,) (m6 (c .before
-          .before) (After-gate-answer·gave (c .before))) (c .is-taken)
-      abbrev W1 : (before : After-gate-answer) → (given : s6 .gives (m6 (before .before) (After-gate-answer·gave before))) → Typed.Want O1
-      W1 = λ before given. Typed.wantNext T9 O0 (at46 (W0 (before .before .before .before .before .before .before .κs) (before .before .before .before
-          .before .before .before .args))) (W0 (before .before .before .before .before .before .before .κs) (before .before .before .before .before
-          .before .before .args))
+
+      abbrev pub After-is-taken·gave : (c : After-is-taken) → s6 .gives (m6 (c .before .before)
+          (After-gate-answer·gave (c .before)))
+      After-is-taken·gave = λ c. Called.given ps·1 r·1 (claims· .3) T7 args6 (m6 (c .before .before)
+          (After-gate-answer·gave (c .before))) (c .is-taken)
+
+      abbrev W1 : (before : After-gate-answer) → (given : s6 .gives
+          (m6 (before .before) (After-gate-answer·gave before))) → Typed.Want O1
+      W1 = λ before given. Typed.wantNext T9 O0 (at46 (W0 (before .before .before .before .before .before .before .κs) (before
+          .before .before .before .before .before .before .args))) (W0 (before .before .before .before .before .before
+          .before .κs) (before .before .before .before .before .before .before .args))
+
       abbrev pub m8 : (before : After-is-taken) → Typed.Mo T10
       m8 = λ before. s7 (m7 (before .before) (After-is-taken·gave before))
+
       abbrev pub m9 : (before : After-is-taken) → Typed.Mo T11
       m9 = λ before. s8 (m8 before)
+
       module _ (before· : After-is-taken) where
         pub record Then1·own : Type 0 where
-          pub taken : Path._≡_ (Row.get 14 (T8 .locals) (m7 (before· .before) (After-is-taken·gave before·))) Bool'.true
+          pub taken : Path._≡_ (Row.get 14 (T8 .locals) (m7 (before· .before) (After-is-taken·gave before·)))
+              Bool'.true
+
       pub record Then1 : Type 0 where
         pub before : After-is-taken
         pub if1 : Then1·own before
+
       abbrev pub m10 : (before : Then1) → (given : s10 .gives (m9 (before .before))) → Typed.Mo T13
       m10 = λ before given. s10 .next (m9 (before .before)) given
+
       abbrev pub m11 : (before : Then1) → (given : s10 .gives (m9 (before .before))) → Typed.Mo T14
       m11 = λ before given. s11 .next (m10 before given)
+
       module _ (before· : Then1) where
         pub record After-dispatch-arg·own : Type 0 where
           pub given : s10 .gives (m9 (before· .before))
+
       pub record After-dispatch-arg : Type 0 where
         pub before : Then1
         pub dispatch-arg : After-dispatch-arg·own before
-      abbrev pub m12 : (before : After-dispatch-arg) → (given : s13 .gives (m11 (before .before) (before .dispatch-arg .given))) → Typed.Mo T16
+
+      abbrev pub m12 : (before : After-dispatch-arg) → (given : s13 .gives
+          (m11 (before .before) (before .dispatch-arg .given))) → Typed.Mo T16
       m12 = λ before given. s13 .next (m11 (before .before) (before .dispatch-arg .given)) given
-      abbrev pub m13 : (before : After-dispatch-arg) → (given : s13 .gives (m11 (before .before) (before .dispatch-arg .given))) → Typed.Mo T17
+
+      abbrev pub m13 : (before : After-dispatch-arg) → (given : s13 .gives
+          (m11 (before .before) (before .dispatch-arg .given))) → Typed.Mo T17
       m13 = λ before given. s14 .next (m12 before given)
+
       module _ (before· : After-dispatch-arg) where
         pub record After-dispatch-arg2·own : Type 0 where
           pub given : s13 .gives (m11 (before· .before) (before· .dispatch-arg .given))
+
       pub record After-dispatch-arg2 : Type 0 where
         pub before : After-dispatch-arg
         pub dispatch-arg2 : After-dispatch-arg2·own before
-      abbrev pub m14 : (before : After-dispatch-arg2) → (given : s16 .gives (m13 (before .before) (before .dispatch-arg2 .given))) → Typed.Mo T19
+
+      abbrev pub m14 : (before : After-dispatch-arg2) → (given : s16 .gives
+          (m13 (before .before) (before .dispatch-arg2 .given))) → Typed.Mo T19
       m14 = λ before given. s16 .next (m13 (before .before) (before .dispatch-arg2 .given)) given
-      abbrev pub m15 : (before : After-dispatch-arg2) → (given : s16 .gives (m13 (before .before) (before .dispatch-arg2 .given))) → Typed.Mo T20
+
+      abbrev pub m15 : (before : After-dispatch-arg2) → (given : s16 .gives
+          (m13 (before .before) (before .dispatch-arg2 .given))) → Typed.Mo T20
       m15 = λ before given. s17 .next (m14 before given)
+
       module _ (before· : After-dispatch-arg2) where
         pub record After-dispatch-arg3·own : Type 0 where
           pub given : s16 .gives (m13 (before· .before) (before· .dispatch-arg2 .given))
+
       pub record After-dispatch-arg3 : Type 0 where
         pub before : After-dispatch-arg2
         pub dispatch-arg3 : After-dispatch-arg3·own before
-      abbrev pub m16 : (before : After-dispatch-arg3) → (given : s19 .gives (m15 (before .before) (before .dispatch-arg3 .given))) → Typed.Mo T22
+
+      abbrev pub m16 : (before : After-dispatch-arg3) → (given : s19 .gives
+          (m15 (before .before) (before .dispatch-arg3 .given))) → Typed.Mo T22
       m16 = λ before given. s19 .next (m15 (before .before) (before .dispatch-arg3 .given)) given
-      abbrev pub m17 : (before : After-dispatch-arg3) → (given : s19 .gives (m15 (before .before) (before .dispatch-arg3 .given))) → Typed.Mo T23
+
+      abbrev pub m17 : (before : After-dispatch-arg3) → (given : s19 .gives
+          (m15 (before .before) (before .dispatch-arg3 .given))) → Typed.Mo T23
       m17 = λ before given. s20 .next (m16 before given)
+
       module _ (before· : After-dispatch-arg3) where
         pub record After-dispatch-arg4·own : Type 0 where
           pub given : s19 .gives (m15 (before· .before) (before· .dispatch-arg3 .given))
+
       pub record After-dispatch-arg4 : Type 0 where
         pub before : After-dispatch-arg3
         pub dispatch-arg4 : After-dispatch-arg4·own before
-      abbrev pub m18 : (before : After-dispatch-arg4) → (given : s22 .gives (m17 (before .before) (before .dispatch-arg4 .given))) → Typed.Mo T25
+
+      abbrev pub m18 : (before : After-dispatch-arg4) → (given : s22 .gives
+          (m17 (before .before) (before .dispatch-arg4 .given))) → Typed.Mo T25
       m18 = λ before given. s22 .next (m17 (before .before) (before .dispatch-arg4 .given)) given
-      abbrev pub m19 : (before : After-dispatch-arg4) → (given : s22 .gives (m17 (before .before) (before .dispatch-arg4 .given))) → Typed.Mo T26
+
+      abbrev pub m19 : (before : After-dispatch-arg4) → (given : s22 .gives
+          (m17 (before .before) (before .dispatch-arg4 .given))) → Typed.Mo T26
       m19 = λ before given. s23 .next (m18 before given)
+
       module _ (before· : After-dispatch-arg4) where
         pub record After-dispatch-arg5·own : Type 0 where
           pub given : s22 .gives (m17 (before· .before) (before· .dispatch-arg4 .given))
+
       pub record After-dispatch-arg5 : Type 0 where
         pub before : After-dispatch-arg4
         pub dispatch-arg5 : After-dispatch-arg5·own before
+
       abbrev pub Need-dispatch-requires : Type 0
       Need-dispatch-requires = (c : After-dispatch-arg5) → s24 .asks (m19 (c .before) (c .dispatch-arg5 .given))
-      abbrev pub m20 : (before : After-dispatch-arg5) → (given : s24 .gives (m19 (before .before) (before .dispatch-arg5 .given))) → Typed.Mo T27
+
+      abbrev pub m20 : (before : After-dispatch-arg5) → (given : s24 .gives
+          (m19 (before .before) (before .dispatch-arg5 .given))) → Typed.Mo T27
       m20 = λ before given. s24 .next (m19 (before .before) (before .dispatch-arg5 .given)) given
+
       module _ (before· : After-dispatch-arg5) where
         abbrev pub After-dispatch·own : Type 0
-        After-dispatch·own = Called.Called ps·2 r·2 (claims· .5) T26 (record { pos = 16; ty = Syntax.tyRef Syntax.erased Syntax.mut RelayPending.to;
-            ref = λ x. x; }, (record { pos = 18; ty = Syntax.tyRef Syntax.erased Syntax.mut RelayCircuit.to; ref = λ x. x; }, (record { pos = 20; ty =
-            Syntax.tyRef Syntax.erased Syntax.mut ReservationUsage.to; ref = λ x. x; }, (record { pos = 22; ty = Syntax.tyRef Syntax.erased Syntax.mut
-            InflightAction.to; ref = λ x. x; }, (record { pos = 24; ty = Syntax.tyRef Syntax.erased Syntax.mut (Syntax.tyInt Syntax.w32); ref = λ x.
-            x; }, (record { pos = 6; st = List.[]; d = 0; at = λ x. x }, (record { pos = 7; st = List.[]; d = 0; at = λ x. x }, (record { pos = 8; st
-            = List.[]; d = 0; at = λ x. x }, (record { pos = 9; ty = Syntax.tyRef (Syntax.named 5) Syntax.imm (Syntax.tyInt Syntax.w8); ref = λ x. x;
-            }, (record { pos = 10; ty = Syntax.tyRef (Syntax.named 6) Syntax.imm (Syntax.tyInt Syntax.w8); ref = λ x. x; }, (record { pos = 11; ty =
-            Syntax.tyRef (Syntax.named 7) Syntax.imm (Syntax.tyInt Syntax.w8); ref = λ x. x; }, (record { pos = 12; ty = Syntax.tyRef (Syntax.named 8)
-            Syntax.imm (Syntax.tyInt Syntax.w8); ref = λ x. x; }, tt,),),),),),),),),),),),) (m19 (before· .before) (before· .dispatch-arg5 .given))
+        After-dispatch·own = Called.Called ps·2 r·2 (claims· .5) T26 args24
+            (m19 (before· .before) (before· .dispatch-arg5 .given))
+
       pub record After-dispatch : Type 0 where
         pub before : After-dispatch-arg5
         pub dispatch : After-dispatch·own before
-      abbrev pub After-dispatch·gave : (c : After-dispatch) → s24 .gives (m19 (c .before .before) (c .before .dispatch-arg5 .given))
-      After-dispatch·gave = λ c. Called.given ps·2 r·2 (claims· .5) T26 (record { pos = 16; ty = Syntax.tyRef Syntax.erased Syntax.mut
-          RelayPending.to; ref = λ x. x; }, (record { pos = 18; ty = Syntax.tyRef Syntax.erased Syntax.mut RelayCircuit.to; ref = λ x. x; }, (record {
-          pos = 20; ty = Syntax.tyRef Syntax.erased Syntax.mut ReservationUsage.to; ref = λ x. x; }, (record { pos = 22; ty = Syntax.tyRef
-          Syntax.erased Syntax.mut InflightAction.to; ref = λ x. x; }, (record { pos = 24; ty = Syntax.tyRef Syntax.erased Syntax.mut (Syntax.tyInt
-          Syntax.w32); ref = λ x. x; }, (record { pos = 6; st = List.[]; d = 0; at = λ x. x }, (record { pos = 7; st = List.[]; d = 0; at = λ x. x },
-          (record { pos = 8; st = List.[]; d = 0; at = λ x. x }, (record { pos = 9; ty = Syntax.tyRef (Syntax.named 5) Syntax.imm (Syntax.tyInt
-          Syntax.w8); ref = λ x. x; }, (record { pos = 10; ty = Syntax.tyRef (Syntax.named 6) Syntax.imm (Syntax.tyInt Syntax.w8); ref = λ x. x; },
-          (record { pos = 11; ty = Syntax.tyRef (Syntax.named 7) Syntax.imm (Syntax.tyInt Syntax.w8); ref = λ x. x; }, (record { pos = 12; ty =
-          Syntax.tyRef (Syntax.named 8) Syntax.imm (Syntax.tyInt Syntax.w8); ref = λ x. x; }, tt,),),),),),),),),),),),) (m19 (c .before .before) (c
-          .before .dispatch-arg5 .given)) (c .dispatch)
-      abbrev pub m21 : (before : After-dispatch-arg5) → (given : s24 .gives (m19 (before .before) (before .dispatch-arg5 .given))) → Typed.Mo T28
+
+      abbrev pub After-dispatch·gave : (c : After-dispatch) → s24 .gives
+          (m19 (c .before .before) (c .before .dispatch-arg5 .given))
+      After-dispatch·gave = λ c. Called.given ps·2 r·2 (claims· .5) T26 args24
+          (m19 (c .before .before) (c .before .dispatch-arg5 .given)) (c .dispatch)
+
+      abbrev pub m21 : (before : After-dispatch-arg5) → (given : s24 .gives
+          (m19 (before .before) (before .dispatch-arg5 .given))) → Typed.Mo T28
       m21 = λ before given. s25 (m20 before given)
-      abbrev pub m22 : (before : After-dispatch-arg5) → (given : s24 .gives (m19 (before .before) (before .dispatch-arg5 .given))) → Typed.Mo T29
+
+      abbrev pub m22 : (before : After-dispatch-arg5) → (given : s24 .gives
+          (m19 (before .before) (before .dispatch-arg5 .given))) → Typed.Mo T29
       m22 = λ before given. s26 (m21 before given)
-      abbrev pub m23 : (before : After-dispatch-arg5) → (given : s24 .gives (m19 (before .before) (before .dispatch-arg5 .given))) → Typed.Mo T30
+
+      abbrev pub m23 : (before : After-dispatch-arg5) → (given : s24 .gives
+          (m19 (before .before) (before .dispatch-arg5 .given))) → Typed.Mo T30
       m23 = λ before given. s27 (m22 before given)
-      abbrev pub m24 : (before : After-dispatch) → (given : s29 .gives (m23 (before .before) (After-dispatch·gave before))) → Typed.Mo T32
+
+      abbrev pub m24 : (before : After-dispatch) → (given : s29 .gives
+          (m23 (before .before) (After-dispatch·gave before))) → Typed.Mo T32
       m24 = λ before given. s29 .next (m23 (before .before) (After-dispatch·gave before)) given
+
       module _ (before· : After-dispatch) where
         pub record After-pending·own : Type 0 where
           pub given : s29 .gives (m23 (before· .before) (After-dispatch·gave before·))
+
       pub record After-pending : Type 0 where
         pub before : After-dispatch
         pub pending : After-pending·own before
-      abbrev pub m25 : (before : After-pending) → (given : s32 .gives (m24 (before .before) (before .pending .given))) → Typed.Mo T35
+
+      abbrev pub m25 : (before : After-pending) → (given : s32 .gives (m24 (before .before) (before .pending .given)))
+          → Typed.Mo T35
       m25 = λ before given. s32 .next (m24 (before .before) (before .pending .given)) given
+
       module _ (before· : After-pending) where
         pub record After-circuits·own : Type 0 where
           pub given : s32 .gives (m24 (before· .before) (before· .pending .given))
+
       pub record After-circuits : Type 0 where
         pub before : After-pending
         pub circuits : After-circuits·own before
-      abbrev pub m26 : (before : After-circuits) → (given : s35 .gives (m25 (before .before) (before .circuits .given))) → Typed.Mo T38
+
+      abbrev pub m26 : (before : After-circuits) → (given : s35 .gives (m25 (before .before) (before .circuits .given)))
+          → Typed.Mo T38
       m26 = λ before given. s35 .next (m25 (before .before) (before .circuits .given)) given
+
       module _ (before· : After-circuits) where
         pub record After-ledger·own : Type 0 where
           pub given : s35 .gives (m25 (before· .before) (before· .circuits .given))
+
       pub record After-ledger : Type 0 where
         pub before : After-circuits
         pub ledger : After-ledger·own before
-      abbrev pub m27 : (before : After-ledger) → (given : s38 .gives (m26 (before .before) (before .ledger .given))) → Typed.Mo T41
+
+      abbrev pub m27 : (before : After-ledger) → (given : s38 .gives (m26 (before .before) (before .ledger .given))) →
+          Typed.Mo T41
       m27 = λ before given. s38 .next (m26 (before .before) (before .ledger .given)) given
+
       module _ (before· : After-ledger) where
         pub record After-inflight·own : Type 0 where
           pub given : s38 .gives (m26 (before· .before) (before· .ledger .given))
+
       pub record After-inflight : Type 0 where
         pub before : After-ledger
         pub inflight : After-inflight·own before
-      abbrev pub m28 : (before : After-inflight) → (given : s41 .gives (m27 (before .before) (before .inflight .given))) → Typed.Mo T44
+
+      abbrev pub m28 : (before : After-inflight) → (given : s41 .gives (m27 (before .before) (before .inflight .given)))
+          → Typed.Mo T44
       m28 = λ before given. s41 .next (m27 (before .before) (before .inflight .given)) given
+
       module _ (before· : After-inflight) where
         pub record After-out·own : Type 0 where
           pub given : s41 .gives (m27 (before· .before) (before· .inflight .given))
+
       pub record After-out : Type 0 where
         pub before : After-inflight
         pub out : After-out·own before
-      abbrev pub m29 : (before : After-out) → (given : s42 .gives (m28 (before .before) (before .out .given))) → Typed.Mo T45
+
+      abbrev pub m29 : (before : After-out) → (given : s42 .gives (m28 (before .before) (before .out .given))) →
+          Typed.Mo T45
       m29 = λ before given. s42 .next (m28 (before .before) (before .out .given)) given
+
       module _ (before· : After-out) where
         pub record After-slice-known2·own : Type 0 where
           pub given : s42 .gives (m28 (before· .before) (before· .out .given))
+
       pub record After-slice-known2 : Type 0 where
         pub before : After-out
         pub slice-known2 : After-slice-known2·own before
+
       abbrev pub Need-same-length : Type 0
-      Need-same-length = (c : After-slice-known2) → MutSlice.SameLen (Row.get 1 (T45 .locals) (m29 (c .before) (c .slice-known2 .given))) (dens (c
-          .before .before .before .before .before .before .before .before .before .before .before .before .before .before .before .before .before
-          .before .before .before .κs) (c .before .before .before .before .before .before .before .before .before .before .before .before .before
+      Need-same-length = (c : After-slice-known2) → MutSlice.SameLen (Row.get 1 (T45 .locals)
+          (m29 (c .before) (c .slice-known2 .given))) (dens (c .before .before .before .before .before .before .before
+          .before .before .before .before .before .before .before .before .before .before .before .before .before .κs) (c
+          .before .before .before .before .before .before .before .before .before .before .before .before .before
           .before .before .before .before .before .before .before .args) .0)
+
       abbrev pub Need-same-length-2 : Type 0
-      Need-same-length-2 = (c : After-slice-known2) → MutSlice.SameLen (Row.get 2 (T45 .locals) (m29 (c .before) (c .slice-known2 .given))) (dens (c
-          .before .before .before .before .before .before .before .before .before .before .before .before .before .before .before .before .before
-          .before .before .before .κs) (c .before .before .before .before .before .before .before .before .before .before .before .before .before
+      Need-same-length-2 = (c : After-slice-known2) → MutSlice.SameLen (Row.get 2 (T45 .locals)
+          (m29 (c .before) (c .slice-known2 .given))) (dens (c .before .before .before .before .before .before .before
+          .before .before .before .before .before .before .before .before .before .before .before .before .before .κs) (c
+          .before .before .before .before .before .before .before .before .before .before .before .before .before
           .before .before .before .before .before .before .before .args) .1 .0)
+
       abbrev pub Need-same-length-3 : Type 0
-      Need-same-length-3 = (c : After-slice-known2) → MutSlice.SameLen (Row.get 3 (T45 .locals) (m29 (c .before) (c .slice-known2 .given))) (dens (c
-          .before .before .before .before .before .before .before .before .before .before .before .before .before .before .before .before .before
-          .before .before .before .κs) (c .before .before .before .before .before .before .before .before .before .before .before .before .before
+      Need-same-length-3 = (c : After-slice-known2) → MutSlice.SameLen (Row.get 3 (T45 .locals)
+          (m29 (c .before) (c .slice-known2 .given))) (dens (c .before .before .before .before .before .before .before
+          .before .before .before .before .before .before .before .before .before .before .before .before .before .κs) (c
+          .before .before .before .before .before .before .before .before .before .before .before .before .before
           .before .before .before .before .before .before .before .args) .1 .1 .0)
+
       abbrev pub Need-same-length-4 : Type 0
-      Need-same-length-4 = (c : After-slice-known2) → MutSlice.SameLen (Row.get 4 (T45 .locals) (m29 (c .before) (c .slice-known2 .given))) (dens (c
-          .before .before .before .before .before .before .before .before .before .before .before .before .before .before .before .before .before
-          .before .before .before .κs) (c .before .before .before .before .before .before .before .before .before .before .before .before .before
+      Need-same-length-4 = (c : After-slice-known2) → MutSlice.SameLen (Row.get 4 (T45 .locals)
+          (m29 (c .before) (c .slice-known2 .given))) (dens (c .before .before .before .before .before .before .before
+          .before .before .before .before .before .before .before .before .before .before .before .before .before .κs) (c
+          .before .before .before .before .before .before .before .before .before .before .before .before .before
           .before .before .before .before .before .before .before .args) .1 .1 .1 .0)
+
       abbrev pub Need-same-length-5 : Type 0
-      Need-same-length-5 = (c : After-slice-known2) → MutSlice.SameLen (Row.get 5 (T45 .locals) (m29 (c .before) (c .slice-known2 .given))) (dens (c
-          .before .before .before .before .before .before .before .before .before .before .before .before .before .before .before .before .before
-          .before .before .before .κs) (c .before .before .before .before .before .before .before .before .before .before .before .before .before
+      Need-same-length-5 = (c : After-slice-known2) → MutSlice.SameLen (Row.get 5 (T45 .locals)
+          (m29 (c .before) (c .slice-known2 .given))) (dens (c .before .before .before .before .before .before .before
+          .before .before .before .before .before .before .before .before .before .before .before .before .before .κs) (c
+          .before .before .before .before .before .before .before .before .before .before .before .before .before
           .before .before .before .before .before .before .before .args) .1 .1 .1 .1 .0)
+
       abbrev pub Need-returns : Type 0
-      Need-returns = (c : After-slice-known2) → Post· (c .before .before .before .before .before .before .before .before .before .before .before
-          .before .before .before .before .before .before .before .before .before .κs) (dens (c .before .before .before .before .before .before
-          .before .before .before .before .before .before .before .before .before .before .before .before .before .before .κs) (c .before .before
-          .before .before .before .before .before .before .before .before .before .before .before .before .before .before .before .before .before
-          .before .args)) (Function.resV r (c .before .before .before .before .before .before .before .before .before .before .before .before .before
-          .before .before .before .before .before .before .before .κs) (m29 (c .before) (c .slice-known2 .given) .0)) (Clauses.atExit (Kinds.endedOf 9
-          ps r) (c .before .before .before .before .before .before .before .before .before .before .before .before .before .before .before .before
-          .before .before .before .before .κs) (dens (c .before .before .before .before .before .before .before .before .before .before .before
-          .before .before .before .before .before .before .before .before .before .κs) (c .before .before .before .before .before .before .before
-          .before .before .before .before .before .before .before .before .before .before .before .before .before .args)) (Enter.lastsP (c .before
-          .before .before .before .before .before .before .before .before .before .before .before .before .before .before .before .before .before
-          .before .before .κs) 1 ps xs (dens (c .before .before .before .before .before .before .before .before .before .before .before .before
-          .before .before .before .before .before .before .before .before .κs) (c .before .before .before .before .before .before .before .before
-          .before .before .before .before .before .before .before .before .before .before .before .before .args)) (m29 (c .before) (c .slice-known2
-          .given) .1)))
+      Need-returns = (c : After-slice-known2) → Post· (c .before .before .before .before .before .before .before
+          .before .before .before .before .before .before .before .before .before .before .before .before .before .κs) (dens (c
+          .before .before .before .before .before .before .before .before .before .before .before .before .before
+          .before .before .before .before .before .before .before .κs) (c .before .before .before .before .before
+          .before .before .before .before .before .before .before .before .before .before .before .before .before
+          .before .before .args)) (Function.resV r (c .before .before .before .before .before .before .before .before
+          .before .before .before .before .before .before .before .before .before .before .before .before .κs)
+          (m29 (c .before) (c .slice-known2 .given) .0)) (Clauses.atExit (Kinds.endedOf 9 ps r) (c .before .before
+          .before .before .before .before .before .before .before .before .before .before .before .before .before
+          .before .before .before .before .before .κs) (dens (c .before .before .before .before .before .before .before
+          .before .before .before .before .before .before .before .before .before .before .before .before .before .κs) (c
+          .before .before .before .before .before .before .before .before .before .before .before .before .before
+          .before .before .before .before .before .before .before .args)) (Enter.lastsP (c .before .before .before
+          .before .before .before .before .before .before .before .before .before .before .before .before .before
+          .before .before .before .before .κs) 1 ps xs (dens (c .before .before .before .before .before .before .before
+          .before .before .before .before .before .before .before .before .before .before .before .before .before .κs) (c
+          .before .before .before .before .before .before .before .before .before .before .before .before .before
+          .before .before .before .before .before .before .before .args))
+          (m29 (c .before) (c .slice-known2 .given) .1)))
+
       abbrev pub m30 : (before : After-is-taken) → Typed.Mo T47
       m30 = λ before. s44 (m7 (before .before) (After-is-taken·gave before))
+
       abbrev pub m31 : (before : After-is-taken) → Typed.Mo T48
       m31 = λ before. s45 (m30 before)
+
       module _ (before· : After-is-taken) where
         pub record Else1·own : Type 0 where
-          pub left : Path._≡_ (Row.get 14 (T8 .locals) (m7 (before· .before) (After-is-taken·gave before·))) Bool'.false
+          pub left : Path._≡_ (Row.get 14 (T8 .locals) (m7 (before· .before) (After-is-taken·gave before·)))
+              Bool'.false
+
       pub record Else1 : Type 0 where
         pub before : After-is-taken
         pub if1 : Else1·own before
+
       abbrev pub Need-refused-requires : Type 0
       Need-refused-requires = (c : Else1) → s46 .asks (m31 (c .before))
+
       abbrev pub m32 : (before : Else1) → (given : s46 .gives (m31 (before .before))) → Typed.Mo T49
       m32 = λ before given. s46 .next (m31 (before .before)) given
+
       module _ (before· : Else1) where
         abbrev pub After-refused·own : Type 0
-        After-refused·own = Called.Called ps·3 r·3 (claims· .7) T9 (record { pos = 6; st = List.[]; d = 0; at = λ x. x }, (record { pos = 7; st =
-            List.[]; d = 0; at = λ x. x }, (record { pos = 13; st = List.[]; d = 0; at = λ x. x }, tt),),) (m31 (before· .before))
+        After-refused·own = Called.Called ps·3 r·3 (claims· .7) T9 args46 (m31 (before· .before))
+
       pub record After-refused : Type 0 where
         pub before : Else1
         pub refused : After-refused·own before
+
       abbrev pub After-refused·gave : (c : After-refused) → s46 .gives (m31 (c .before .before))
-      After-refused·gave = λ c. Called.given ps·3 r·3 (claims· .7) T9 (record { pos = 6; st = List.[]; d = 0; at = λ x. x }, (record { pos = 7; st =
-          List.[]; d = 0; at = λ x. x }, (record { pos = 13; st = List.[]; d = 0; at = λ x. x }, tt),),) (m31 (c .before .before)) (c .refused)
+      After-refused·gave = λ c. Called.given ps·3 r·3 (claims· .7) T9 args46 (m31 (c .before .before)) (c .refused)
+
       abbrev pub m33 : (before : Else1) → (given : s46 .gives (m31 (before .before))) → Typed.Mo T50
       m33 = λ before given. s47 (m32 before given)
+
       abbrev pub m34 : (before : Else1) → (given : s46 .gives (m31 (before .before))) → Typed.Mo T51
       m34 = λ before given. s48 (m33 before given)
+
       abbrev pub m35 : (before : Else1) → (given : s46 .gives (m31 (before .before))) → Typed.Mo T52
       m35 = λ before given. s49 (m34 before given)
+
       abbrev pub Need-returns-2 : Type 0
-      Need-returns-2 = (c : After-refused) → Post· (c .before .before .before .before .before .before .before .before .before .κs) (dens (c .before
-          .before .before .before .before .before .before .before .before .κs) (c .before .before .before .before .before .before .before .before
-          .before .args)) (Function.resV r (c .before .before .before .before .before .before .before .before .before .κs) (m35 (c .before)
-          (After-refused·gave c) .0)) (Clauses.atExit (Kinds.endedOf 9 ps r) (c .before .before .before .before .before .before .before .before
-          .before .κs) (dens (c .before .before .before .before .before .before .before .before .before .κs) (c .before .before .before .before
-          .before .before .before .before .before .args)) (Enter.lastsP (c .before .before .before .before .before .before .before .before .before
-          .κs) 1 ps xs (dens (c .before .before .before .before .before .before .before .before .before .κs) (c .before .before .before .before
-          .before .before .before .before .before .args)) (m35 (c .before) (After-refused·gave c) .1)))
-      module _ (gate-answer-requires : Need-gate-answer-requires) (is-taken-requires : Need-is-taken-requires) (dispatch-requires :
-          Need-dispatch-requires) (same-length : Need-same-length) (same-length-2 : Need-same-length-2) (same-length-3 : Need-same-length-3)
-          (same-length-4 : Need-same-length-4) (same-length-5 : Need-same-length-5) (returns : Need-returns) (refused-requires :
-          Need-refused-requires) (returns-2 : Need-returns-2) where
-        lay5 : (c : After-refused) → at45 (W0 (c .before .before .before .before .before .before .before .before .before .κs) (c .before .before
-            .before .before .before .before .before .before .before .args)) (m32 (c .before) (After-refused·gave c))
-        lay5 = λ c. ((Path.refl, (Path.refl, (Path.refl, (Path.refl, (Path.refl, (tt, (tt, (tt, (Path.refl, (Path.refl, (Path.refl, (Path.refl,
-            tt)))))),),),),),),), returns-2 record { before = c .before; refused = c .refused },)
-        lay4 : (c : Else1) → at46 (W0 (c .before .before .before .before .before .before .before .before .κs) (c .before .before .before .before
-            .before .before .before .before .args)) (m31 (c .before))
-        lay4 = λ c. (refused-requires record { before = c .before; if1 = c .if1 }, λ g. lay5 record { before = record { before = c .before; if1 = c
-            .if1 }; refused = Called.called ps·3 r·3 (claims· .7) T9 (record { pos = 6; st = List.[]; d = 0; at = λ x. x }, (record { pos = 7; st =
-            List.[]; d = 0; at = λ x. x }, (record { pos = 13; st = List.[]; d = 0; at = λ x. x }, tt),),) (m31 (c .before)) g; },)
-        lay3 : (c : After-dispatch) → at19 (W1 (c .before .before .before .before .before .before .before .before) (After-is-taken·gave (c .before
-            .before .before .before .before .before .before))) (m20 (c .before) (After-dispatch·gave c))
-        lay3 = λ c. (Path.refl, λ g. (Path.refl, λ g'. (Path.refl, λ g''. (Path.refl, λ g'3. (Path.refl, λ g'4. λ g'5. ((MutSlice.fix-len (Row.get 1
-            (T45 .locals) (m29 record { before = record { before = record { before = record { before = record { before = record { before = c .before;
-            dispatch = c .dispatch }; pending = record { given = g }; }; circuits = record { given = g' }; }; ledger = record { given = g'' }; };
-            inflight = record { given = g'3 }; }; out = record { given = g'4 }; } g'5) .ptr) (Row.get 1 (T45 .locals) (m29 record { before = record {
-            before = record { before = record { before = record { before = record { before = c .before; dispatch = c .dispatch }; pending = record {
-            given = g }; }; circuits = record { given = g' }; }; ledger = record { given = g'' }; }; inflight = record { given = g'3 }; }; out =
-            record { given = g'4 }; } g'5) .name) (Row.get 1 (T45 .locals) (m29 record { before = record { before = record { before = record { before
-            = record { before = record { before = c .before; dispatch = c .dispatch }; pending = record { given = g }; }; circuits = record { given =
-            g' }; }; ledger = record { given = g'' }; }; inflight = record { given = g'3 }; }; out = record { given = g'4 }; } g'5) .now) (dens (c
-            .before .before .before .before .before .before .before .before .before .before .before .before .before .before .κs) (c .before .before
-            .before .before .before .before .before .before .before .before .before .before .before .before .args) .0 .now) (same-length record {
-            before = record { before = record { before = record { before = record { before = record { before = record { before = c .before; dispatch =
-            c .dispatch; }; pending = record { given = g }; }; circuits = record { given = g' }; }; ledger = record { given = g'' }; }; inflight =
-            record { given = g'3 }; }; out = record { given = g'4 }; }; slice-known2 = record { given = g'5 }; }), (MutSlice.fix-len (Row.get 2 (T45
-            .locals) (m29 record { before = record { before = record { before = record { before = record { before = record { before = c .before;
-            dispatch = c .dispatch }; pending = record { given = g }; }; circuits = record { given = g' }; }; ledger = record { given = g'' }; };
-            inflight = record { given = g'3 }; }; out = record { given = g'4 }; } g'5) .ptr) (Row.get 2 (T45 .locals) (m29 record { before = record {
-            before = record { before = record { before = record { before = record { before = c .before; dispatch = c .dispatch }; pending = record {
-            given = g }; }; circuits = record { given = g' }; }; ledger = record { given = g'' }; }; inflight = record { given = g'3 }; }; out =
-            record { given = g'4 }; } g'5) .name) (Row.get 2 (T45 .locals) (m29 record { before = record { before = record { before = record { before
-            = record { before = record { before = c .before; dispatch = c .dispatch }; pending = record { given = g }; }; circuits = record { given =
-            g' }; }; ledger = record { given = g'' }; }; inflight = record { given = g'3 }; }; out = record { given = g'4 }; } g'5) .now) (dens (c
-            .before .before .before .before .before .before .before .before .before .before .before .before .before .before .κs) (c .before .before
-            .before .before .before .before .before .before .before .before .before .before .before .before .args) .1 .0 .now) (same-length-2 record {
-            before = record { before = record { before = record { before = record { before = record { before = record { before = c .before; dispatch =
-            c .dispatch; }; pending = record { given = g }; }; circuits = record { given = g' }; }; ledger = record { given = g'' }; }; inflight =
-            record { given = g'3 }; }; out = record { given = g'4 }; }; slice-known2 = record { given = g'5 }; }), (MutSlice.fix-len (Row.get 3 (T45
-            .locals) (m29 record { before = record { before = record { before = record { before = record { before = record { before = c .before;
-            dispatch = c .dispatch; }; pending = record { given = g }; }; circuits = record { given = g' }; }; ledger = record { given = g'' }; };
-            inflight = record { given = g'3 }; }; out = record { given = g'4 }; } g'5) .ptr) (Row.get 3 (T45 .locals) (m29 record { before = record {
-            before = record { before = record { before = record { before = record { before = c .before; dispatch = c .dispatch; }; pending = record {
-            given = g }; }; circuits = record { given = g' }; }; ledger = record { given = g'' }; }; inflight = record { given = g'3 }; }; out =
-            record { given = g'4 }; } g'5) .name) (Row.get 3 (T45 .locals) (m29 record { before = record { before = record { before = record { before
-            = record { before = record { before = c .before; dispatch = c .dispatch; }; pending = record { given = g }; }; circuits = record { given =
-            g' }; }; ledger = record { given = g'' }; }; inflight = record { given = g'3 }; }; out = record { given = g'4 }; } g'5) .now) (dens (c
-            .before .before .before .before .before .before .before .before .before .before .before .before .before .before .κs) (c .before .before
-            .before .before .before .before .before .before .before .before .before .before .before .before .args) .1 .1 .0 .now) (same-length-3
-            record { before = record { before = record { before = record { before = record { before = record { before = record { before = c .before;
-            dispatch = c .dispatch; }; pending = record { given = g }; }; circuits = record { given = g' }; }; ledger = record { given = g'' }; };
-            inflight = record { given = g'3 }; }; out = record { given = g'4 }; }; slice-known2 = record { given = g'5 }; }), (MutSlice.fix-len
-            (Row.get 4 (T45 .locals) (m29 record { before = record { before = record { before = record { before = record { before = record { before =
-            c .before; dispatch = c .dispatch; }; pending = record { given = g }; }; circuits = record { given = g' }; }; ledger = record { given =
-            g'' }; }; inflight = record { given = g'3 }; }; out = record { given = g'4 }; } g'5) .ptr) (Row.get 4 (T45 .locals) (m29 record { before =
-            record { before = record { before = record { before = record { before = record { before = c .before; dispatch = c .dispatch; }; pending =
-            record { given = g }; }; circuits = record { given = g' }; }; ledger = record { given = g'' }; }; inflight = record { given = g'3 }; };
-            out = record { given = g'4 }; } g'5) .name) (Row.get 4 (T45 .locals) (m29 record { before = record { before = record { before = record {
-            before = record { before = record { before = c .before; dispatch = c .dispatch; }; pending = record { given = g }; }; circuits = record {
-            given = g' }; }; ledger = record { given = g'' }; }; inflight = record { given = g'3 }; }; out = record { given = g'4 }; } g'5) .now)
-            (dens (c .before .before .before .before .before .before .before .before .before .before .before .before .before .before .κs) (c .before
-            .before .before .before .before .before .before .before .before .before .before .before .before .before .args) .1 .1 .1 .0 .now)
-            (same-length-4 record { before = record { before = record { before = record { before = record { before = record { before = record { before
-            = c .before; dispatch = c .dispatch; }; pending = record { given = g }; }; circuits = record { given = g' }; }; ledger = record { given =
-            g'' }; }; inflight = record { given = g'3 }; }; out = record { given = g'4 }; }; slice-known2 = record { given = g'5 }; }),
-            (MutSlice.fix-len (Row.get 5 (T45 .locals) (m29 record { before = record { before = record { before = record { before = record { before =
-            record { before = c .before; dispatch = c .dispatch; }; pending = record { given = g }; }; circuits = record { given = g' }; }; ledger =
-            record { given = g'' }; }; inflight = record { given = g'3 }; }; out = record { given = g'4 }; } g'5) .ptr) (Row.get 5 (T45 .locals) (m29
-            record { before = record { before = record { before = record { before = record { before = record { before = c .before; dispatch = c
-            .dispatch; }; pending = record { given = g }; }; circuits = record { given = g' }; }; ledger = record { given = g'' }; }; inflight =
-            record { given = g'3 }; }; out = record { given = g'4 }; } g'5) .name) (Row.get 5 (T45 .locals) (m29 record { before = record { before =
-            record { before = record { before = record { before = record { before = c .before; dispatch = c .dispatch; }; pending = record { given = g
-            }; }; circuits = record { given = g' }; }; ledger = record { given = g'' }; }; inflight = record { given = g'3 }; }; out = record { given
-            = g'4 }; } g'5) .now) (dens (c .before .before .before .before .before .before .before .before .before .before .before .before .before
-            .before .κs) (c .before .before .before .before .before .before .before .before .before .before .before .before .before .before .args) .1
-            .1 .1 .1 .0 .now) (same-length-5 record { before = record { before = record { before = record { before = record { before = record { before
-            = record { before = c .before; dispatch = c .dispatch; }; pending = record { given = g }; }; circuits = record { given = g' }; }; ledger =
-            record { given = g'' }; }; inflight = record { given = g'3 }; }; out = record { given = g'4 }; }; slice-known2 = record { given = g'5 };
-            }), (tt, (tt, (tt, (Path.refl, (Path.refl, (Path.refl, (Path.refl, tt)))),),),),),),),),), returns record { before = record { before =
-            record { before = record { before = record { before = record { before = record { before = c .before; dispatch = c .dispatch }; pending =
-            record { given = g }; }; circuits = record { given = g' }; }; ledger = record { given = g'' }; }; inflight = record { given = g'3 }; };
-            out = record { given = g'4 }; }; slice-known2 = record { given = g'5 }; },),),),),),)
-        lay2 : (c : After-is-taken) → at47 (W0 (c .before .before .before .before .before .before .before .κs) (c .before .before .before .before
-            .before .before .before .args)) (m7 (c .before) (After-is-taken·gave c))
-        lay2 = λ c. (λ taken. λ g. (Path.refl, λ g'. (Path.refl, λ g''. (Path.refl, λ g'3. (Path.refl, λ g'4. (Path.refl, (dispatch-requires record {
-            before = record { before = record { before = record { before = record { before = record { before = record { before = c .before; is-taken =
-            c .is-taken }; if1 = record { taken = taken }; }; dispatch-arg = record { given = g }; }; dispatch-arg2 = record { given = g' }; };
-            dispatch-arg3 = record { given = g'' }; }; dispatch-arg4 = record { given = g'3 }; }; dispatch-arg5 = record { given = g'4 }; }, λ g'5.
-            lay3 record { before = record { before = record { before = record { before = record { before = record { before = record { before = record
-            { before = c .before; is-taken = c .is-taken; }; if1 = record { taken = taken }; }; dispatch-arg = record { given = g }; }; dispatch-arg2
-            = record { given = g' }; }; dispatch-arg3 = record { given = g'' }; }; dispatch-arg4 = record { given = g'3 }; }; dispatch-arg5 = record {
-            given = g'4 }; }; dispatch = Called.called ps·2 r·2 (claims· .5) T26 (record { pos = 16; ty = Syntax.tyRef Syntax.erased Syntax.mut
-            RelayPending.to; ref = λ x. x; }, (record { pos = 18; ty = Syntax.tyRef Syntax.erased Syntax.mut RelayCircuit.to; ref = λ x. x; }, (record
-            { pos = 20; ty = Syntax.tyRef Syntax.erased Syntax.mut ReservationUsage.to; ref = λ x. x; }, (record { pos = 22; ty = Syntax.tyRef
-            Syntax.erased Syntax.mut InflightAction.to; ref = λ x. x; }, (record { pos = 24; ty = Syntax.tyRef Syntax.erased Syntax.mut (Syntax.tyInt
-            Syntax.w32); ref = λ x. x; }, (record { pos = 6; st = List.[]; d = 0; at = λ x. x }, (record { pos = 7; st = List.[]; d = 0; at = λ x. x
-            }, (record { pos = 8; st = List.[]; d = 0; at = λ x. x }, (record { pos = 9; ty = Syntax.tyRef (Syntax.named 5) Syntax.imm (Syntax.tyInt
-            Syntax.w8); ref = λ x. x; }, (record { pos = 10; ty = Syntax.tyRef (Syntax.named 6) Syntax.imm (Syntax.tyInt Syntax.w8); ref = λ x. x; },
-            (record { pos = 11; ty = Syntax.tyRef (Syntax.named 7) Syntax.imm (Syntax.tyInt Syntax.w8); ref = λ x. x; }, (record { pos = 12; ty =
-            Syntax.tyRef (Syntax.named 8) Syntax.imm (Syntax.tyInt Syntax.w8); ref = λ x. x; }, tt,),),),),),),),),),),),) (m19 record { before =
-            record { before = record { before = record { before = record { before = record { before = c .before; is-taken = c .is-taken }; if1 =
-            record { taken = taken }; }; dispatch-arg = record { given = g }; }; dispatch-arg2 = record { given = g' }; }; dispatch-arg3 = record {
-            given = g'' }; }; dispatch-arg4 = record { given = g'3 }; } g'4) g'5; },),),),),),), λ left. lay4 record { before = record { before = c
-            .before; is-taken = c .is-taken }; if1 = record { left = left }; },)
-        lay1 : (c : After-gate-answer) → at48 (W0 (c .before .before .before .before .before .before .κs) (c .before .before .before .before .before
-            .before .args)) (m6 (c .before) (After-gate-answer·gave c))
-        lay1 = λ c. (is-taken-requires record { before = c .before; gate-answer = c .gate-answer }, λ g. lay2 record { before = record { before = c
-            .before; gate-answer = c .gate-answer }; is-taken = Called.called ps·1 r·1 (claims· .3) T7 (record { pos = 13; st = List.[]; d = 0; at = λ
-            x. x }, tt,) (m6 (c .before) (After-gate-answer·gave c)) g; },)
+      Need-returns-2 = (c : After-refused) → Post· (c .before .before .before .before .before .before .before .before
+          .before .κs) (dens (c .before .before .before .before .before .before .before .before .before .κs) (c .before
+          .before .before .before .before .before .before .before .before .args)) (Function.resV r (c .before .before
+          .before .before .before .before .before .before .before .κs) (m35 (c .before) (After-refused·gave c) .0)) (Clauses.atExit
+          (Kinds.endedOf 9 ps r) (c .before .before .before .before .before .before .before .before .before .κs) (dens (c
+          .before .before .before .before .before .before .before .before .before .κs) (c .before .before .before
+          .before .before .before .before .before .before .args)) (Enter.lastsP (c .before .before .before .before
+          .before .before .before .before .before .κs) 1 ps xs (dens (c .before .before .before .before .before .before
+          .before .before .before .κs) (c .before .before .before .before .before .before .before .before .before
+          .args)) (m35 (c .before) (After-refused·gave c) .1)))
+
+      module _ (gate-answer-requires : Need-gate-answer-requires) (is-taken-requires : Need-is-taken-requires)
+          (dispatch-requires : Need-dispatch-requires) (same-length : Need-same-length)
+          (same-length-2 : Need-same-length-2) (same-length-3 : Need-same-length-3)
+          (same-length-4 : Need-same-length-4) (same-length-5 : Need-same-length-5) (returns : Need-returns)
+          (refused-requires : Need-refused-requires) (returns-2 : Need-returns-2) where
+        lay5 : (c : After-refused) → at45 (W0 (c .before .before .before .before .before .before .before .before
+            .before .κs) (c .before .before .before .before .before .before .before .before .before .args))
+            (m32 (c .before) (After-refused·gave c))
+        lay5 = λ c. (
+          (
+            Path.refl,
+            (
+              Path.refl,
+              (
+                Path.refl,
+                (Path.refl, (Path.refl, (tt, (tt, (tt, (Path.refl, (Path.refl, (Path.refl, (Path.refl, tt))))))))),
+              ),
+            ),
+          ),
+          returns-2 record { before = c .before; refused = c .refused },
+        )
+
+        lay4 : (c : Else1) → at46 (W0 (c .before .before .before .before .before .before .before .before .κs) (c
+            .before .before .before .before .before .before .before .before .args)) (m31 (c .before))
+        lay4 = λ c. (
+          refused-requires record { before = c .before; if1 = c .if1 },
+          λ g. lay5 record {
+            before = record { before = c .before; if1 = c .if1 };
+            refused = Called.called ps·3 r·3 (claims· .7) T9 args46 (m31 (c .before)) g;
+          },
+        )
+
+        lay3 : (c : After-dispatch) → at19 (W1 (c .before .before .before .before .before .before .before .before) (After-is-taken·gave (c
+            .before .before .before .before .before .before .before))) (m20 (c .before) (After-dispatch·gave c))
+        lay3 = λ c. (
+          Path.refl,
+          λ g. (
+            Path.refl,
+            λ g'. (
+              Path.refl,
+              λ g''. (
+                Path.refl,
+                λ g'3. (
+                  Path.refl,
+                  λ g'4. λ g'5. (
+                    (
+                      MutSlice.fix-len (Row.get 1 (T45 .locals) (m29
+                          record {
+                            before = record {
+                              before = record {
+                                before = record {
+                                  before = record {
+                                    before = record { before = c .before; dispatch = c .dispatch };
+                                    pending = record { given = g };
+                                  };
+                                  circuits = record { given = g' };
+                                };
+                                ledger = record { given = g'' };
+                              };
+                              inflight = record { given = g'3 };
+                            };
+                            out = record { given = g'4 };
+                          } g'5) .ptr) (Row.get 1 (T45 .locals) (m29
+                          record {
+                            before = record {
+                              before = record {
+                                before = record {
+                                  before = record {
+                                    before = record { before = c .before; dispatch = c .dispatch };
+                                    pending = record { given = g };
+                                  };
+                                  circuits = record { given = g' };
+                                };
+                                ledger = record { given = g'' };
+                              };
+                              inflight = record { given = g'3 };
+                            };
+                            out = record { given = g'4 };
+                          } g'5) .name) (Row.get 1 (T45 .locals) (m29
+                          record {
+                            before = record {
+                              before = record {
+                                before = record {
+                                  before = record {
+                                    before = record { before = c .before; dispatch = c .dispatch };
+                                    pending = record { given = g };
+                                  };
+                                  circuits = record { given = g' };
+                                };
+                                ledger = record { given = g'' };
+                              };
+                              inflight = record { given = g'3 };
+                            };
+                            out = record { given = g'4 };
+                          } g'5) .now) (dens (c .before .before .before .before .before .before .before .before .before
+                          .before .before .before .before .before .κs) (c .before .before .before .before .before
+                          .before .before .before .before .before .before .before .before .before .args) .0 .now) (same-length
+                          record {
+                            before = record {
+                              before = record {
+                                before = record {
+                                  before = record {
+                                    before = record {
+                                      before = record { before = c .before; dispatch = c .dispatch };
+                                      pending = record { given = g };
+                                    };
+                                    circuits = record { given = g' };
+                                  };
+                                  ledger = record { given = g'' };
+                                };
+                                inflight = record { given = g'3 };
+                              };
+                              out = record { given = g'4 };
+                            };
+                            slice-known2 = record { given = g'5 };
+                          }),
+                      (
+                        MutSlice.fix-len (Row.get 2 (T45 .locals) (m29
+                            record {
+                              before = record {
+                                before = record {
+                                  before = record {
+                                    before = record {
+                                      before = record { before = c .before; dispatch = c .dispatch };
+                                      pending = record { given = g };
+                                    };
+                                    circuits = record { given = g' };
+                                  };
+                                  ledger = record { given = g'' };
+                                };
+                                inflight = record { given = g'3 };
+                              };
+                              out = record { given = g'4 };
+                            } g'5) .ptr) (Row.get 2 (T45 .locals) (m29
+                            record {
+                              before = record {
+                                before = record {
+                                  before = record {
+                                    before = record {
+                                      before = record { before = c .before; dispatch = c .dispatch };
+                                      pending = record { given = g };
+                                    };
+                                    circuits = record { given = g' };
+                                  };
+                                  ledger = record { given = g'' };
+                                };
+                                inflight = record { given = g'3 };
+                              };
+                              out = record { given = g'4 };
+                            } g'5) .name) (Row.get 2 (T45 .locals) (m29
+                            record {
+                              before = record {
+                                before = record {
+                                  before = record {
+                                    before = record {
+                                      before = record { before = c .before; dispatch = c .dispatch };
+                                      pending = record { given = g };
+                                    };
+                                    circuits = record { given = g' };
+                                  };
+                                  ledger = record { given = g'' };
+                                };
+                                inflight = record { given = g'3 };
+                              };
+                              out = record { given = g'4 };
+                            } g'5) .now) (dens (c .before .before .before .before .before .before .before .before
+                            .before .before .before .before .before .before .κs) (c .before .before .before .before
+                            .before .before .before .before .before .before .before .before .before .before .args) .1
+                            .0 .now) (same-length-2 record {
+                              before = record {
+                                before = record {
+                                  before = record {
+                                    before = record {
+                                      before = record {
+                                        before = record { before = c .before; dispatch = c .dispatch };
+                                        pending = record { given = g };
+                                      };
+                                      circuits = record { given = g' };
+                                    };
+                                    ledger = record { given = g'' };
+                                  };
+                                  inflight = record { given = g'3 };
+                                };
+                                out = record { given = g'4 };
+                              };
+                              slice-known2 = record { given = g'5 };
+                            }),
+                        (
+                          MutSlice.fix-len (Row.get 3 (T45 .locals) (m29
+                              record {
+                                before = record {
+                                  before = record {
+                                    before = record {
+                                      before = record {
+                                        before = record { before = c .before; dispatch = c .dispatch };
+                                        pending = record { given = g };
+                                      };
+                                      circuits = record { given = g' };
+                                    };
+                                    ledger = record { given = g'' };
+                                  };
+                                  inflight = record { given = g'3 };
+                                };
+                                out = record { given = g'4 };
+                              } g'5) .ptr) (Row.get 3 (T45 .locals) (m29
+                              record {
+                                before = record {
+                                  before = record {
+                                    before = record {
+                                      before = record {
+                                        before = record { before = c .before; dispatch = c .dispatch };
+                                        pending = record { given = g };
+                                      };
+                                      circuits = record { given = g' };
+                                    };
+                                    ledger = record { given = g'' };
+                                  };
+                                  inflight = record { given = g'3 };
+                                };
+                                out = record { given = g'4 };
+                              } g'5) .name) (Row.get 3 (T45 .locals) (m29
+                              record {
+                                before = record {
+                                  before = record {
+                                    before = record {
+                                      before = record {
+                                        before = record { before = c .before; dispatch = c .dispatch };
+                                        pending = record { given = g };
+                                      };
+                                      circuits = record { given = g' };
+                                    };
+                                    ledger = record { given = g'' };
+                                  };
+                                  inflight = record { given = g'3 };
+                                };
+                                out = record { given = g'4 };
+                              } g'5) .now) (dens (c .before .before .before .before .before .before .before .before
+                              .before .before .before .before .before .before .κs) (c .before .before .before .before
+                              .before .before .before .before .before .before .before .before .before .before .args) .1
+                              .1 .0 .now) (same-length-3
+                              record {
+                                before = record {
+                                  before = record {
+                                    before = record {
+                                      before = record {
+                                        before = record {
+                                          before = record { before = c .before; dispatch = c .dispatch };
+                                          pending = record { given = g };
+                                        };
+                                        circuits = record { given = g' };
+                                      };
+                                      ledger = record { given = g'' };
+                                    };
+                                    inflight = record { given = g'3 };
+                                  };
+                                  out = record { given = g'4 };
+                                };
+                                slice-known2 = record { given = g'5 };
+                              }),
+                          (
+                            MutSlice.fix-len (Row.get 4 (T45 .locals) (m29
+                                record {
+                                  before = record {
+                                    before = record {
+                                      before = record {
+                                        before = record {
+                                          before = record { before = c .before; dispatch = c .dispatch };
+                                          pending = record { given = g };
+                                        };
+                                        circuits = record { given = g' };
+                                      };
+                                      ledger = record { given = g'' };
+                                    };
+                                    inflight = record { given = g'3 };
+                                  };
+                                  out = record { given = g'4 };
+                                } g'5) .ptr) (Row.get 4 (T45 .locals) (m29
+                                record {
+                                  before = record {
+                                    before = record {
+                                      before = record {
+                                        before = record {
+                                          before = record { before = c .before; dispatch = c .dispatch };
+                                          pending = record { given = g };
+                                        };
+                                        circuits = record { given = g' };
+                                      };
+                                      ledger = record { given = g'' };
+                                    };
+                                    inflight = record { given = g'3 };
+                                  };
+                                  out = record { given = g'4 };
+                                } g'5) .name) (Row.get 4 (T45 .locals) (m29
+                                record {
+                                  before = record {
+                                    before = record {
+                                      before = record {
+                                        before = record {
+                                          before = record { before = c .before; dispatch = c .dispatch };
+                                          pending = record { given = g };
+                                        };
+                                        circuits = record { given = g' };
+                                      };
+                                      ledger = record { given = g'' };
+                                    };
+                                    inflight = record { given = g'3 };
+                                  };
+                                  out = record { given = g'4 };
+                                } g'5) .now) (dens (c .before .before .before .before .before .before .before .before
+                                .before .before .before .before .before .before .κs) (c .before .before .before .before
+                                .before .before .before .before .before .before .before .before .before .before .args)
+                                .1 .1 .1 .0 .now) (same-length-4
+                                record {
+                                  before = record {
+                                    before = record {
+                                      before = record {
+                                        before = record {
+                                          before = record {
+                                            before = record { before = c .before; dispatch = c .dispatch };
+                                            pending = record { given = g };
+                                          };
+                                          circuits = record { given = g' };
+                                        };
+                                        ledger = record { given = g'' };
+                                      };
+                                      inflight = record { given = g'3 };
+                                    };
+                                    out = record { given = g'4 };
+                                  };
+                                  slice-known2 = record { given = g'5 };
+                                }),
+                            (
+                              MutSlice.fix-len (Row.get 5 (T45 .locals) (m29
+                                  record {
+                                    before = record {
+                                      before = record {
+                                        before = record {
+                                          before = record {
+                                            before = record { before = c .before; dispatch = c .dispatch };
+                                            pending = record { given = g };
+                                          };
+                                          circuits = record { given = g' };
+                                        };
+                                        ledger = record { given = g'' };
+                                      };
+                                      inflight = record { given = g'3 };
+                                    };
+                                    out = record { given = g'4 };
+                                  } g'5) .ptr) (Row.get 5 (T45 .locals) (m29
+                                  record {
+                                    before = record {
+                                      before = record {
+                                        before = record {
+                                          before = record {
+                                            before = record { before = c .before; dispatch = c .dispatch };
+                                            pending = record { given = g };
+                                          };
+                                          circuits = record { given = g' };
+                                        };
+                                        ledger = record { given = g'' };
+                                      };
+                                      inflight = record { given = g'3 };
+                                    };
+                                    out = record { given = g'4 };
+                                  } g'5) .name) (Row.get 5 (T45 .locals) (m29
+                                  record {
+                                    before = record {
+                                      before = record {
+                                        before = record {
+                                          before = record {
+                                            before = record { before = c .before; dispatch = c .dispatch };
+                                            pending = record { given = g };
+                                          };
+                                          circuits = record { given = g' };
+                                        };
+                                        ledger = record { given = g'' };
+                                      };
+                                      inflight = record { given = g'3 };
+                                    };
+                                    out = record { given = g'4 };
+                                  } g'5) .now) (dens (c .before .before .before .before .before .before .before .before
+                                  .before .before .before .before .before .before .κs) (c .before .before .before
+                                  .before .before .before .before .before .before .before .before .before .before
+                                  .before .args) .1 .1 .1 .1 .0 .now) (same-length-5
+                                  record {
+                                    before = record {
+                                      before = record {
+                                        before = record {
+                                          before = record {
+                                            before = record {
+                                              before = record { before = c .before; dispatch = c .dispatch };
+                                              pending = record { given = g };
+                                            };
+                                            circuits = record { given = g' };
+                                          };
+                                          ledger = record { given = g'' };
+                                        };
+                                        inflight = record { given = g'3 };
+                                      };
+                                      out = record { given = g'4 };
+                                    };
+                                    slice-known2 = record { given = g'5 };
+                                  }),
+                              (tt, (tt, (tt, (Path.refl, (Path.refl, (Path.refl, (Path.refl, tt))))))),
+                            ),
+                          ),
+                        ),
+                      ),
+                    ),
+                    returns record {
+                      before = record {
+                        before = record {
+                          before = record {
+                            before = record {
+                              before = record {
+                                before = record { before = c .before; dispatch = c .dispatch };
+                                pending = record { given = g };
+                              };
+                              circuits = record { given = g' };
+                            };
+                            ledger = record { given = g'' };
+                          };
+                          inflight = record { given = g'3 };
+                        };
+                        out = record { given = g'4 };
+                      };
+                      slice-known2 = record { given = g'5 };
+                    },
+                  ),
+                ),
+              ),
+            ),
+          ),
+        )
+
+        lay2 : (c : After-is-taken) → at47 (W0 (c .before .before .before .before .before .before .before .κs) (c
+            .before .before .before .before .before .before .before .args)) (m7 (c .before) (After-is-taken·gave c))
+        lay2 = λ c. (
+          λ taken. λ g. (
+            Path.refl,
+            λ g'. (
+              Path.refl,
+              λ g''. (
+                Path.refl,
+                λ g'3. (
+                  Path.refl,
+                  λ g'4. (
+                    Path.refl,
+                    (
+                      dispatch-requires record {
+                        before = record {
+                          before = record {
+                            before = record {
+                              before = record {
+                                before = record {
+                                  before = record { before = c .before; is-taken = c .is-taken };
+                                  if1 = record { taken = taken };
+                                };
+                                dispatch-arg = record { given = g };
+                              };
+                              dispatch-arg2 = record { given = g' };
+                            };
+                            dispatch-arg3 = record { given = g'' };
+                          };
+                          dispatch-arg4 = record { given = g'3 };
+                        };
+                        dispatch-arg5 = record { given = g'4 };
+                      },
+                      λ g'5. lay3 record {
+                        before = record {
+                          before = record {
+                            before = record {
+                              before = record {
+                                before = record {
+                                  before = record {
+                                    before = record { before = c .before; is-taken = c .is-taken };
+                                    if1 = record { taken = taken };
+                                  };
+                                  dispatch-arg = record { given = g };
+                                };
+                                dispatch-arg2 = record { given = g' };
+                              };
+                              dispatch-arg3 = record { given = g'' };
+                            };
+                            dispatch-arg4 = record { given = g'3 };
+                          };
+                          dispatch-arg5 = record { given = g'4 };
+                        };
+                        dispatch = Called.called ps·2 r·2 (claims· .5) T26 args24 (m19
+                            record {
+                              before = record {
+                                before = record {
+                                  before = record {
+                                    before = record {
+                                      before = record { before = c .before; is-taken = c .is-taken };
+                                      if1 = record { taken = taken };
+                                    };
+                                    dispatch-arg = record { given = g };
+                                  };
+                                  dispatch-arg2 = record { given = g' };
+                                };
+                                dispatch-arg3 = record { given = g'' };
+                              };
+                              dispatch-arg4 = record { given = g'3 };
+                            } g'4) g'5;
+                      },
+                    ),
+                  ),
+                ),
+              ),
+            ),
+          ),
+          λ left. lay4 record {
+            before = record { before = c .before; is-taken = c .is-taken };
+            if1 = record { left = left };
+          },
+        )
+
+        lay1 : (c : After-gate-answer) → at48 (W0 (c .before .before .before .before .before .before .κs)
+            (c .before .before .before .before .before .before .args)) (m6 (c .before) (After-gate-answer·gave c))
+        lay1 = λ c. (
+          is-taken-requires record { before = c .before; gate-answer = c .gate-answer },
+          λ g. lay2 record {
+            before = record { before = c .before; gate-answer = c .gate-answer };
+            is-taken = Called.called ps·1 r·1 (claims· .3) T7 args6 (m6 (c .before) (After-gate-answer·gave c)) g;
+          },
+        )
+
         pub laid : (c : Start) → at54 (W0 (c .κs) (c .args)) (m0 (c .κs) (c .args))
-        laid = λ c. λ g. λ g'. λ g''. λ g'3. λ g'4. (gate-answer-requires record { before = record { before = record { before = record { before =
-            record { before = c; slice-known = record { given = g } }; shared-slice-known = record { given = g' }; }; shared-slice-known2 = record {
-            given = g'' }; }; shared-slice-known3 = record { given = g'3 }; }; shared-slice-known4 = record { given = g'4 }; }, λ g'5. lay1 record {
-            before = record { before = record { before = record { before = record { before = record { before = c; slice-known = record { given = g }
-            }; shared-slice-known = record { given = g' }; }; shared-slice-known2 = record { given = g'' }; }; shared-slice-known3 = record { given =
-            g'3 }; }; shared-slice-known4 = record { given = g'4 }; }; gate-answer = Called.called ps·0 r·0 (claims· .1) T6 (Bool.bFld 6
-            ((Syntax.field 2) ∷ List.[]) 24 λ x. OpaqueRelayRuntime.struct .as-values x .1 .1 .0, tt,) (m5 record { before = record { before = record
-            { before = record { before = c; slice-known = record { given = g } }; shared-slice-known = record { given = g' }; }; shared-slice-known2 =
-            record { given = g'' }; }; shared-slice-known3 = record { given = g'3 }; } g'4) g'5; },)
+        laid = λ c. λ g. λ g'. λ g''. λ g'3. λ g'4. (
+          gate-answer-requires record {
+            before = record {
+              before = record {
+                before = record {
+                  before = record { before = c; slice-known = record { given = g } };
+                  shared-slice-known = record { given = g' };
+                };
+                shared-slice-known2 = record { given = g'' };
+              };
+              shared-slice-known3 = record { given = g'3 };
+            };
+            shared-slice-known4 = record { given = g'4 };
+          },
+          λ g'5. lay1 record {
+            before = record {
+              before = record {
+                before = record {
+                  before = record {
+                    before = record { before = c; slice-known = record { given = g } };
+                    shared-slice-known = record { given = g' };
+                  };
+                  shared-slice-known2 = record { given = g'' };
+                };
+                shared-slice-known3 = record { given = g'3 };
+              };
+              shared-slice-known4 = record { given = g'4 };
+            };
+            gate-answer = Called.called ps·0 r·0 (claims· .1) T6 args5 (m5
+                record {
+                  before = record {
+                    before = record {
+                      before = record { before = c; slice-known = record { given = g } };
+                      shared-slice-known = record { given = g' };
+                    };
+                    shared-slice-known2 = record { given = g'' };
+                  };
+                  shared-slice-known3 = record { given = g'3 };
+                } g'4) g'5;
+          },
+        )
+
         module _ (κs : Lifetimes.Lfts 9) (qs : Lifetimes.Shares 9) where
-          pub asked : (a : Kinds.Dens κs ps) → (good : Kinds.GoodsP κs ps a) → (pre : Pre· κs a) → (bs : List.List Nat.ℕ) → Φ (Any.wantQ 9 ps r xs m
-              κs qs a (Post· κs a)) (Function.init 9 ps r xs m κs qs a)
-          asked = λ a good pre bs. laid record { κs = κs; args = record { pending = a .0; circuits = a .1 .0; ledger = a .1 .1 .0; inflight = a .1 .1
-              .1 .0; out = a .1 .1 .1 .1 .0; runtime = a .1 .1 .1 .1 .1 .0; places = a .1 .1 .1 .1 .1 .1 .0; packet = a .1 .1 .1 .1 .1 .1 .1 .0;
-              source = a .1 .1 .1 .1 .1 .1 .1 .1 .0; body = a .1 .1 .1 .1 .1 .1 .1 .1 .1 .0; endpoint = a .1 .1 .1 .1 .1 .1 .1 .1 .1 .1 .0; random = a
-              .1 .1 .1 .1 .1 .1 .1 .1 .1 .1 .1 .0; }; good = good; pre = pre; }
-        module _ { M : Type 1 } (𝓤 : URA.URA M) (H : Wp.Heap 𝓤) (A : Atoms.Atoms 𝓤) (W : Kit.Given 𝓤 H A) (𝓣 : Wp.Tables 𝓤 H) (known0 : Plain.Known 𝓤
-            H A W 𝓣 0 ps·0 r·0 (claims· .0) (claims· .1) "hnsr_circuit::handle::gate_answer") (known1 : Plain.Known 𝓤 H A W 𝓣 0 ps·1 r·1 (claims· .2)
-            (claims· .3) "hnsr_circuit::answer::is_taken") (known2 : Plain.Known 𝓤 H A W 𝓣 9 ps·2 r·2 (claims· .4) (claims· .5)
+          pub asked : (a : Kinds.Dens κs ps) → (good : Kinds.GoodsP κs ps a) → (pre : Pre· κs a) →
+              (bs : List.List Nat.ℕ) → Φ (Any.wantQ 9 ps r xs m κs qs a (Post· κs a))
+              (Function.init 9 ps r xs m κs qs a)
+          asked = λ a good pre bs. laid record {
+            κs = κs;
+            args = record {
+              pending = a .0;
+              circuits = a .1 .0;
+              ledger = a .1 .1 .0;
+              inflight = a .1 .1 .1 .0;
+              out = a .1 .1 .1 .1 .0;
+              runtime = a .1 .1 .1 .1 .1 .0;
+              places = a .1 .1 .1 .1 .1 .1 .0;
+              packet = a .1 .1 .1 .1 .1 .1 .1 .0;
+              source = a .1 .1 .1 .1 .1 .1 .1 .1 .0;
+              body = a .1 .1 .1 .1 .1 .1 .1 .1 .1 .0;
+              endpoint = a .1 .1 .1 .1 .1 .1 .1 .1 .1 .1 .0;
+              random = a .1 .1 .1 .1 .1 .1 .1 .1 .1 .1 .1 .0;
+            };
+            good = good;
+            pre = pre;
+          }
+
+        module _ {M : Type 1} (𝓤 : URA.URA M) (H : Wp.Heap 𝓤) (A : Atoms.Atoms 𝓤) (W : Kit.Given 𝓤 H A)
+            (𝓣 : Wp.Tables 𝓤 H) (known0 : Plain.Known 𝓤 H A W 𝓣 0 ps·0 r·0 (claims· .0) (claims· .1)
+            "hnsr_circuit::handle::gate_answer") (known1 : Plain.Known 𝓤 H A W 𝓣 0 ps·1 r·1 (claims· .2) (claims· .3)
+            "hnsr_circuit::answer::is_taken") (known2 : Plain.Known 𝓤 H A W 𝓣 9 ps·2 r·2 (claims· .4) (claims· .5)
             "hnsr_circuit::handle::dispatch") (known3 : Plain.Known 𝓤 H A W 𝓣 0 ps·3 r·3 (claims· .6) (claims· .7)
             "hnsr_circuit::revoking_calls::refused") where
-          pub spec : Statement.Triple 𝓤 (Wp.WpFn 𝓤 H (𝓣 .C) (𝓣 .Λ) (Function.fnOf 9 ps r xs m hs body)) (Function.plainOf 𝓤 H A 9 ps r Pre· Post·)
-          spec = Plain.t-fn-plain 𝓤 H A W 𝓣 9 ps r xs m hs body (λ κs qs bs. Φ) (λ κs qs bs bd. typed κs qs 𝓤 H A W 𝓣 (known0, known1, known2, known3)
-              bs bd) Pre· Post· asked
+          pub spec : Statement.Triple 𝓤 (Wp.WpFn 𝓤 H (𝓣 .C) (𝓣 .Λ) (Function.fnOf 9 ps r xs m hs body))
+              (Function.plainOf 𝓤 H A 9 ps r Pre· Post·)
+          spec = Plain.t-fn-plain 𝓤 H A W 𝓣 9 ps r xs m hs body (λ κs qs bs. Φ) (λ κs qs bs bd. typed κs qs 𝓤 H A W 𝓣
+              (known0, known1, known2, known3) bs bd) Pre· Post· asked

@@ -4,6 +4,7 @@ use Rattle.hnsr_body.proofs.accept_body.AcceptRead.Laws
 use Rattle.hnsr_circuit.proofs.By.InflightAction
 use Rattle.hnsr_circuit.proofs.By.RelayCircuit
 use Rattle.hnsr_circuit.proofs.By.RelayPending
+use Rattle.hnsr_circuit.proofs.StructRow
 use Rattle.hnsr_circuit.proofs.answer.HnsrAnswer
 use Rattle.hnsr_circuit.proofs.answer.HnsrAnswer.Laws as Laws'
 use Rattle.hnsr_circuit.proofs.config.OpaqueRelayConfig
@@ -16,52 +17,19 @@ use Rattle.hnsr_circuit.proofs.records.RelayPacket
 use Rattle.hnsr_circuit.proofs.records.RelayPacket.Laws as Laws'''''
 use borrow.Fn.Kinds
 use borrow.Kind.ShrSlice
-use borrow.Kind.Value
-use borrow.Rule.Local
 use borrow.Table.Referent
-use borrow.Table.Rows
-use denote.Enum.Declared
-use denote.Enum.Laws as Laws''''''
-use denote.Exit
-use denote.Struct.Declared as Declared'
-use denote.Struct.Laws as Laws'''''''
 use mathlib.Core.List
-use mathlib.Core.Path
 use mir.Syntax
 use mathlib.Core.List.{_∷_}
 
 abbrev pub ps : List.List (Kinds.PK 4)
-ps = (ShrSlice.pShrS RelayPending.row 0 tt) ∷ (ShrSlice.pShrS RelayCircuit.row 1 tt) ∷ (ShrSlice.pShrS InflightAction.row 2 tt) ∷ (Value.pVal record {
-    ty = Declared'.row Places.the-type; one = Path.refl; val = Laws'''''''.val Places.the-type Laws'''.the-laws; tells = Laws'''''''.tells
-    Places.the-type Laws'''.the-laws; still = Laws'''''''.still Places.the-type Laws'''.the-copy Exit.yes; row = Rows.whole (Declared'.row
-    Places.the-type); rd = λ x. x; mk = λ x. x; } λ M 𝓤 H A W. record { copies = Laws'''''''.copy Places.the-type Laws'''.the-copy 𝓤 H A W; lawful =
-    Laws'''''''.lawful Places.the-type Laws'''.the-laws 𝓤 H A W; makes = Laws'''''''.makes Places.the-type Laws'''.the-plain 𝓤 H A; in-mem =
-    Local.mem-whole 𝓤 H A W (Declared'.row Places.the-type); of-mem = Local.whole-mem 𝓤 H A W (Declared'.row Places.the-type); }) ∷ (Value.pVal record
-    { ty = Declared'.row OpaqueRelayConfig.the-type; one = Path.refl; val = Laws'''''''.val OpaqueRelayConfig.the-type Laws''.the-laws; tells =
-    Laws'''''''.tells OpaqueRelayConfig.the-type Laws''.the-laws; still = Laws'''''''.still OpaqueRelayConfig.the-type Laws''.the-copy Exit.yes; row =
-    Rows.whole (Declared'.row OpaqueRelayConfig.the-type); rd = λ x. x; mk = λ x. x; } λ M 𝓤 H A W. record { copies = Laws'''''''.copy
-    OpaqueRelayConfig.the-type Laws''.the-copy 𝓤 H A W; lawful = Laws'''''''.lawful OpaqueRelayConfig.the-type Laws''.the-laws 𝓤 H A W; makes =
-    Laws'''''''.makes OpaqueRelayConfig.the-type Laws''.the-plain 𝓤 H A; in-mem = Local.mem-whole 𝓤 H A W (Declared'.row OpaqueRelayConfig.the-type);
-    of-mem = Local.whole-mem 𝓤 H A W (Declared'.row OpaqueRelayConfig.the-type); }) ∷ (Value.pVal record { ty = Declared'.row RelayPacket.the-type;
-    one = Path.refl; val = Laws'''''''.val RelayPacket.the-type Laws'''''.the-laws; tells = Laws'''''''.tells RelayPacket.the-type Laws'''''.the-laws;
-    still = Laws'''''''.still RelayPacket.the-type Laws'''''.the-copy Exit.yes; row = Rows.whole (Declared'.row RelayPacket.the-type); rd = λ x. x; mk
-    = λ x. x; } λ M 𝓤 H A W. record { copies = Laws'''''''.copy RelayPacket.the-type Laws'''''.the-copy 𝓤 H A W; lawful = Laws'''''''.lawful
-    RelayPacket.the-type Laws'''''.the-laws 𝓤 H A W; makes = Laws'''''''.makes RelayPacket.the-type Laws'''''.the-plain 𝓤 H A; in-mem =
-    Local.mem-whole 𝓤 H A W (Declared'.row RelayPacket.the-type); of-mem = Local.whole-mem 𝓤 H A W (Declared'.row RelayPacket.the-type); }) ∷
-    (Value.pVal record { ty = Declared'.row PendingFound.the-type; one = Path.refl; val = Laws'''''''.val PendingFound.the-type Laws''''.the-laws;
-    tells = Laws'''''''.tells PendingFound.the-type Laws''''.the-laws; still = Laws'''''''.still PendingFound.the-type Laws''''.the-copy Exit.yes; row
-    = Rows.whole (Declared'.row PendingFound.the-type); rd = λ x. x; mk = λ x. x; } λ M 𝓤 H A W. record { copies = Laws'''''''.copy
-    PendingFound.the-type Laws''''.the-copy 𝓤 H A W; lawful = Laws'''''''.lawful PendingFound.the-type Laws''''.the-laws 𝓤 H A W; makes =
-    Laws'''''''.makes PendingFound.the-type Laws''''.the-plain 𝓤 H A; in-mem = Local.mem-whole 𝓤 H A W (Declared'.row PendingFound.the-type); of-mem =
-    Local.whole-mem 𝓤 H A W (Declared'.row PendingFound.the-type); }) ∷ (Value.pVal record { ty = Declared'.row AcceptRead.the-type; one = Path.refl;
-    val = Laws'''''''.val AcceptRead.the-type Laws.the-laws; tells = Laws'''''''.tells AcceptRead.the-type Laws.the-laws; still = Laws'''''''.still
-    AcceptRead.the-type Laws.the-copy Exit.yes; row = Rows.whole (Declared'.row AcceptRead.the-type); rd = λ x. x; mk = λ x. x; } λ M 𝓤 H A W. record
-    { copies = Laws'''''''.copy AcceptRead.the-type Laws.the-copy 𝓤 H A W; lawful = Laws'''''''.lawful AcceptRead.the-type Laws.the-laws 𝓤 H A W;
-    makes = Laws'''''''.makes AcceptRead.the-type Laws.the-plain 𝓤 H A; in-mem = Local.mem-whole 𝓤 H A W (Declared'.row AcceptRead.the-type); of-mem =
-    Local.whole-mem 𝓤 H A W (Declared'.row AcceptRead.the-type); }) ∷ (ShrSlice.pShrS (Referent.rtF (Referent.fInt Syntax.w8)) 3 tt) ∷ List.[]
+ps = (ShrSlice.pShrS RelayPending.row 0 tt) ∷ (ShrSlice.pShrS RelayCircuit.row 1 tt) ∷
+    (ShrSlice.pShrS InflightAction.row 2 tt) ∷ (StructRow.param Places.the-type Laws'''.the-laws Laws'''.the-copy
+    Laws'''.the-plain) ∷ (StructRow.param OpaqueRelayConfig.the-type Laws''.the-laws Laws''.the-copy Laws''.the-plain)
+    ∷ (StructRow.param RelayPacket.the-type Laws'''''.the-laws Laws'''''.the-copy Laws'''''.the-plain) ∷ (StructRow.param
+    PendingFound.the-type Laws''''.the-laws Laws''''.the-copy Laws''''.the-plain) ∷ (StructRow.param
+    AcceptRead.the-type Laws.the-laws Laws.the-copy Laws.the-plain) ∷ (ShrSlice.pShrS
+    (Referent.rtF (Referent.fInt Syntax.w8)) 3 tt) ∷ List.[]
+
 abbrev pub r : Kinds.RK 4
-r = Value.rVal record { ty = Declared.row HnsrAnswer.the-type; one = Path.refl; val = Laws''''''.val HnsrAnswer.the-type Laws'.the-laws; tells =
-    Laws''''''.tells HnsrAnswer.the-type Laws'.the-laws; still = Laws''''''.still HnsrAnswer.the-type Laws'.the-copy Exit.yes; row = Rows.whole
-    (Declared.row HnsrAnswer.the-type); rd = λ x. x; mk = λ x. x; } λ M 𝓤 H A W. record { copies = Laws''''''.copy HnsrAnswer.the-type Laws'.the-copy
-    𝓤 H A W; lawful = Laws''''''.lawful HnsrAnswer.the-type Laws'.the-laws 𝓤 H A W tt; makes = Laws''''''.makes HnsrAnswer.the-type Laws'.the-plain 𝓤
-    H A; in-mem = Local.mem-whole 𝓤 H A W (Declared.row HnsrAnswer.the-type); of-mem = Local.whole-mem 𝓤 H A W (Declared.row HnsrAnswer.the-type); }
+r = StructRow.enum-result HnsrAnswer.the-type Laws'.the-laws Laws'.the-copy Laws'.the-plain tt

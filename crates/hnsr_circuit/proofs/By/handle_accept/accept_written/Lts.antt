@@ -2,12 +2,14 @@
 use Prim.Native.Nat
 use Rattle.hnsr_circuit.proofs.By.RelayCircuit
 use Rattle.hnsr_circuit.proofs.By.RelayPending
+use Rattle.hnsr_circuit.proofs.StructRow
 use Rattle.hnsr_circuit.proofs.accept.AcceptPlan
 use Rattle.hnsr_circuit.proofs.accept.AcceptPlan.Laws
 use Rattle.hnsr_circuit.proofs.places.Places
 use Rattle.hnsr_circuit.proofs.places.Places.Laws as Laws'
 use borrow.Author.Called
 use borrow.Fn.Any
+use borrow.Fn.Args as Args'
 use borrow.Fn.Call
 use borrow.Fn.Enter
 use borrow.Fn.Frame
@@ -18,7 +20,6 @@ use borrow.Kind.Bool
 use borrow.Kind.MutSlice
 use borrow.Kind.Num
 use borrow.Kind.Unit
-use borrow.Kind.Value
 use borrow.Rule.Lifetime
 use borrow.Rule.Local
 use borrow.Rule.Scalar
@@ -33,9 +34,7 @@ use borrow.Table.Row
 use borrow.Table.Rows
 use borrow.Table.Typed
 use contract.Lifetimes
-use denote.Exit
 use denote.Struct.Declared
-use denote.Struct.Laws as Laws''
 use denote.Triple.Clauses
 use denote.Triple.Statement
 use ghost.Atoms
@@ -50,653 +49,1004 @@ use mathlib.Core.List.{_∷_}
 
 abbrev ref0 : Syntax.Ty
 ref0 = Syntax.tyRef Syntax.erased Syntax.mut RelayPending.to
+
 abbrev ref1 : Syntax.Ty
 ref1 = Syntax.tyRef Syntax.erased Syntax.mut RelayCircuit.to
+
 abbrev ref2 : Syntax.Ty
 ref2 = Syntax.tyRef (Syntax.named 0) Syntax.mut RelayPending.to
+
 abbrev ref3 : Syntax.Ty
 ref3 = Syntax.tyRef (Syntax.named 1) Syntax.mut RelayCircuit.to
+
+abbrev slice0 : Syntax.Ty
+slice0 = Syntax.tyStruct (38 ∷ 91 ∷ 93 ∷ List.[]) (Syntax.tcons ref0
+    (Syntax.tcons (Syntax.tyInt Syntax.w64) Syntax.tnil))
+
+abbrev slice1 : Syntax.Ty
+slice1 = Syntax.tyStruct (38 ∷ 91 ∷ 93 ∷ List.[]) (Syntax.tcons ref1
+    (Syntax.tcons (Syntax.tyInt Syntax.w64) Syntax.tnil))
+
 abbrev pub ps : List.List (Kinds.PK 2)
-ps = (MutSlice.pMutS RelayPending.row 0 tt) ∷ (MutSlice.pMutS RelayCircuit.row 1 tt) ∷ (Value.pVal record { ty = Declared.row Places.the-type; one =
-    Path.refl; val = Laws''.val Places.the-type Laws'.the-laws; tells = Laws''.tells Places.the-type Laws'.the-laws; still = Laws''.still
-    Places.the-type Laws'.the-copy Exit.yes; row = Rows.whole (Declared.row Places.the-type); rd = λ x. x; mk = λ x. x; } λ M 𝓤 H A W. record { copies
-    = Laws''.copy Places.the-type Laws'.the-copy 𝓤 H A W; lawful = Laws''.lawful Places.the-type Laws'.the-laws 𝓤 H A W; makes = Laws''.makes
-    Places.the-type Laws'.the-plain 𝓤 H A; in-mem = Local.mem-whole 𝓤 H A W (Declared.row Places.the-type); of-mem = Local.whole-mem 𝓤 H A W
-    (Declared.row Places.the-type); }) ∷ (Value.pVal record { ty = Declared.row AcceptPlan.the-type; one = Path.refl; val = Laws''.val
-    AcceptPlan.the-type Laws.the-laws; tells = Laws''.tells AcceptPlan.the-type Laws.the-laws; still = Laws''.still AcceptPlan.the-type Laws.the-copy
-    Exit.yes; row = Rows.whole (Declared.row AcceptPlan.the-type); rd = λ x. x; mk = λ x. x; } λ M 𝓤 H A W. record { copies = Laws''.copy
-    AcceptPlan.the-type Laws.the-copy 𝓤 H A W; lawful = Laws''.lawful AcceptPlan.the-type Laws.the-laws 𝓤 H A W; makes = Laws''.makes
-    AcceptPlan.the-type Laws.the-plain 𝓤 H A; in-mem = Local.mem-whole 𝓤 H A W (Declared.row AcceptPlan.the-type); of-mem = Local.whole-mem 𝓤 H A W
-    (Declared.row AcceptPlan.the-type); }) ∷ RelayPending.param ∷ RelayCircuit.param ∷ List.[]
+ps = (MutSlice.pMutS RelayPending.row 0 tt) ∷ (MutSlice.pMutS RelayCircuit.row 1 tt) ∷ (StructRow.param Places.the-type
+    Laws'.the-laws Laws'.the-copy Laws'.the-plain) ∷ (StructRow.param AcceptPlan.the-type Laws.the-laws Laws.the-copy
+    Laws.the-plain) ∷ RelayPending.param ∷ RelayCircuit.param ∷ List.[]
+
 abbrev pub r : Kinds.RK 2
 r = Num.rNum Syntax.w64
+
 abbrev pub xs : List.List Syntax.Ty
-xs = Syntax.tyUnit ∷ ref0 ∷ (Syntax.tyStruct (38 ∷ 91 ∷ 93 ∷ List.[]) (Syntax.tcons ref0 (Syntax.tcons (Syntax.tyInt Syntax.w64) Syntax.tnil))) ∷ ref1
-    ∷ (Syntax.tyStruct (38 ∷ 91 ∷ 93 ∷ List.[]) (Syntax.tcons ref1 (Syntax.tcons (Syntax.tyInt Syntax.w64) Syntax.tnil))) ∷ List.[]
+xs = Syntax.tyUnit ∷ ref0 ∷ slice0 ∷ ref1 ∷ slice1 ∷ List.[]
+
 abbrev pub m : Nat.ℕ
 m = 2
+
 abbrev pub ps·0 : List.List (Kinds.PK 1)
 ps·0 = (MutSlice.pMutS RelayPending.row 0 tt) ∷ Bool.pBool ∷ (Num.pNum Syntax.w64) ∷ RelayPending.param ∷ List.[]
+
 abbrev pub r·0 : Kinds.RK 1
 r·0 = Unit.rUnit
+
 abbrev pub ps·1 : List.List (Kinds.PK 1)
-ps·1 = (MutSlice.pMutS RelayCircuit.row 0 tt) ∷ (Value.pVal record { ty = Declared.row Places.the-type; one = Path.refl; val = Laws''.val
-    Places.the-type Laws'.the-laws; tells = Laws''.tells Places.the-type Laws'.the-laws; still = Laws''.still Places.the-type Laws'.the-copy Exit.yes;
-    row = Rows.whole (Declared.row Places.the-type); rd = λ x. x; mk = λ x. x; } λ M 𝓤 H A W. record { copies = Laws''.copy Places.the-type
-    Laws'.the-copy 𝓤 H A W; lawful = Laws''.lawful Places.the-type Laws'.the-laws 𝓤 H A W; makes = Laws''.makes Places.the-type Laws'.the-plain 𝓤 H A;
-    in-mem = Local.mem-whole 𝓤 H A W (Declared.row Places.the-type); of-mem = Local.whole-mem 𝓤 H A W (Declared.row Places.the-type); }) ∷ Bool.pBool
-    ∷ (Num.pNum Syntax.w64) ∷ RelayCircuit.param ∷ List.[]
+ps·1 = (MutSlice.pMutS RelayCircuit.row 0 tt) ∷ (StructRow.param Places.the-type Laws'.the-laws Laws'.the-copy
+    Laws'.the-plain) ∷ Bool.pBool ∷ (Num.pNum Syntax.w64) ∷ RelayCircuit.param ∷ List.[]
+
 abbrev pub r·1 : Kinds.RK 1
 r·1 = Num.rNum Syntax.w64
+
 abbrev pub hs : List.List Syntax.Home
-hs = Syntax.valueLocal ∷ Syntax.valueLocal ∷ Syntax.valueLocal ∷ Syntax.valueLocal ∷ Syntax.valueLocal ∷ Syntax.valueLocal ∷ Syntax.valueLocal ∷
-    Syntax.valueLocal ∷ Syntax.valueLocal ∷ Syntax.valueLocal ∷ Syntax.valueLocal ∷ Syntax.valueLocal ∷ List.[]
+hs = Syntax.valueLocal ∷ Syntax.valueLocal ∷ Syntax.valueLocal ∷ Syntax.valueLocal ∷ Syntax.valueLocal ∷
+    Syntax.valueLocal ∷ Syntax.valueLocal ∷ Syntax.valueLocal ∷ Syntax.valueLocal ∷ Syntax.valueLocal ∷
+    Syntax.valueLocal ∷ Syntax.valueLocal ∷ List.[]
+
 abbrev b0 : Syntax.Body
-b0 = Syntax.assign (Syntax.place 8 List.[]) (Syntax.addrOf (Syntax.place 1 ((Syntax.field 0) ∷ (Syntax.deref RelayPending.ty) ∷ List.[])))
+b0 = Syntax.assign (Syntax.place 8 List.[]) (Syntax.addrOf (Syntax.place 1 ((Syntax.field 0) ∷
+    (Syntax.deref RelayPending.ty) ∷ List.[])))
+
 abbrev b1 : Syntax.Body
-b1 = Syntax.assign (Syntax.place 9 List.[]) (Syntax.aggregate ((Syntax.copy (Syntax.place 8 List.[])) ∷ (Syntax.copy (Syntax.place 1 ((Syntax.field 1)
-    ∷ List.[]))) ∷ List.[]))
+b1 = Syntax.assign (Syntax.place 9 List.[]) (Syntax.aggregate ((Syntax.copy (Syntax.place 8 List.[])) ∷
+    (Syntax.copy (Syntax.place 1 ((Syntax.field 1) ∷ List.[]))) ∷ List.[]))
+
 abbrev b2 : Syntax.Body
-b2 = Syntax.call "hnsr_circuit::tables::pending::set_pending" ((Syntax.copy (Syntax.place 9 List.[])) ∷ (Syntax.copy (Syntax.place 4 ((Syntax.field 0)
-    ∷ List.[]))) ∷ (Syntax.copy (Syntax.place 4 ((Syntax.field 1) ∷ List.[]))) ∷ (Syntax.copy (Syntax.place 5 List.[])) ∷ List.[]) (Syntax.place 7
-    List.[])
+b2 = Syntax.call "hnsr_circuit::tables::pending::set_pending" ((Syntax.copy (Syntax.place 9 List.[])) ∷
+    (Syntax.copy (Syntax.place 4 ((Syntax.field 0) ∷ List.[]))) ∷
+    (Syntax.copy (Syntax.place 4 ((Syntax.field 1) ∷ List.[]))) ∷ (Syntax.copy (Syntax.place 5 List.[])) ∷ List.[])
+    (Syntax.place 7 List.[])
+
 abbrev b3 : Syntax.Body
-b3 = Syntax.assign (Syntax.place 10 List.[]) (Syntax.addrOf (Syntax.place 2 ((Syntax.field 0) ∷ (Syntax.deref RelayCircuit.ty) ∷ List.[])))
+b3 = Syntax.assign (Syntax.place 10 List.[]) (Syntax.addrOf (Syntax.place 2 ((Syntax.field 0) ∷
+    (Syntax.deref RelayCircuit.ty) ∷ List.[])))
+
 abbrev b4 : Syntax.Body
-b4 = Syntax.assign (Syntax.place 11 List.[]) (Syntax.aggregate ((Syntax.copy (Syntax.place 10 List.[])) ∷ (Syntax.copy (Syntax.place 2 ((Syntax.field
-    1) ∷ List.[]))) ∷ List.[]))
+b4 = Syntax.assign (Syntax.place 11 List.[]) (Syntax.aggregate ((Syntax.copy (Syntax.place 10 List.[])) ∷
+    (Syntax.copy (Syntax.place 2 ((Syntax.field 1) ∷ List.[]))) ∷ List.[]))
+
 abbrev b5 : Syntax.Body
-b5 = Syntax.call "hnsr_circuit::handle_accept::put_circuit" ((Syntax.copy (Syntax.place 11 List.[])) ∷ (Syntax.copy (Syntax.place 3 List.[])) ∷
-    (Syntax.copy (Syntax.place 4 ((Syntax.field 0) ∷ List.[]))) ∷ (Syntax.copy (Syntax.place 4 ((Syntax.field 2) ∷ List.[]))) ∷ (Syntax.copy
-    (Syntax.place 6 List.[])) ∷ List.[]) (Syntax.place 0 List.[])
+b5 = Syntax.call "hnsr_circuit::handle_accept::put_circuit" ((Syntax.copy (Syntax.place 11 List.[])) ∷
+    (Syntax.copy (Syntax.place 3 List.[])) ∷ (Syntax.copy (Syntax.place 4 ((Syntax.field 0) ∷ List.[]))) ∷
+    (Syntax.copy (Syntax.place 4 ((Syntax.field 2) ∷ List.[]))) ∷ (Syntax.copy (Syntax.place 6 List.[])) ∷ List.[])
+    (Syntax.place 0 List.[])
+
 abbrev b6 : Syntax.Body
 b6 = Syntax.return
+
 abbrev b7 : Syntax.Body
 b7 = Syntax.seq b5 b6
+
 abbrev b8 : Syntax.Body
 b8 = Syntax.seq b4 b7
+
 abbrev b9 : Syntax.Body
 b9 = Syntax.seq b3 b8
+
 abbrev b10 : Syntax.Body
 b10 = Syntax.seq b2 b9
+
 abbrev b11 : Syntax.Body
 b11 = Syntax.seq b1 b10
+
 abbrev b12 : Syntax.Body
 b12 = Syntax.seq b0 b11
+
 abbrev pub body : Syntax.Body
 body = b12
+
 abbrev pub Claims : Type 1
 Claims = Kinds.In 1 ps·0 × Kinds.Out 1 ps·0 r·0 × Kinds.In 1 ps·1 × Kinds.Out 1 ps·1 r·1
+
 abbrev e0 : Row.Entry
 e0 = (0, Rows.any-gone (Syntax.tyInt Syntax.w64))
+
 abbrev e1 : Row.Entry
 e1 = (1, Mut.mslice RelayPending.row ref2 0)
+
 abbrev e2 : Row.Entry
 e2 = (2, Mut.mslice RelayCircuit.row ref3 1)
+
 abbrev e3 : Row.Entry
 e3 = (3, Rows.whole (Declared.row Places.the-type))
+
 abbrev e4 : Row.Entry
 e4 = (4, Rows.whole (Declared.row AcceptPlan.the-type))
+
 abbrev e5 : Row.Entry
 e5 = (5, RelayPending.held)
+
 abbrev e6 : Row.Entry
 e6 = (6, RelayCircuit.held)
+
 abbrev e7 : Row.Entry
 e7 = (7, Rows.any-gone Syntax.tyUnit)
+
 abbrev e8 : Row.Entry
 e8 = (8, Rows.any-gone ref0)
+
 abbrev e9 : Row.Entry
-e9 = (9, Rows.any-gone (Syntax.tyStruct (38 ∷ 91 ∷ 93 ∷ List.[]) (Syntax.tcons ref0 (Syntax.tcons (Syntax.tyInt Syntax.w64) Syntax.tnil))))
+e9 = (9, Rows.any-gone slice0)
+
 abbrev e10 : Row.Entry
 e10 = (10, Rows.any-gone ref1)
+
 abbrev e11 : Row.Entry
-e11 = (11, Rows.any-gone (Syntax.tyStruct (38 ∷ 91 ∷ 93 ∷ List.[]) (Syntax.tcons ref1 (Syntax.tcons (Syntax.tyInt Syntax.w64) Syntax.tnil))))
+e11 = (11, Rows.any-gone slice1)
+
 abbrev e0·1 : Row.Entry
 e0·1 = (0, Rows.sc-here (Row.sInt Syntax.w64))
+
 abbrev e3·1 : Row.Entry
 e3·1 = (3, Rows.any-gone Laws'.mir)
+
 abbrev e4·1 : Row.Entry
 e4·1 = (4, Rows.any-gone Laws.mir)
+
 abbrev e5·1 : Row.Entry
 e5·1 = (5, Rows.any-gone RelayPending.ty)
+
 abbrev e6·1 : Row.Entry
 e6·1 = (6, Rows.any-gone RelayCircuit.ty)
+
 abbrev e1·1 : Row.Entry
 e1·1 = (1, Relend.mslice-owed RelayPending.row ref2 0 2 Row.off)
+
 abbrev e8·1 : Row.Entry
 e8·1 = (8, Relend.msptr RelayPending.row ref0 2)
+
 abbrev e9·1 : Row.Entry
 e9·1 = (9, Mut.mslice RelayPending.row ref0 2)
+
 abbrev e7·1 : Row.Entry
 e7·1 = (7, Rows.sc-here Row.sUnit)
+
 abbrev e9·2 : Row.Entry
 e9·2 = (9, Mut.msleft RelayPending.row ref0)
+
 abbrev e2·1 : Row.Entry
 e2·1 = (2, Relend.mslice-owed RelayCircuit.row ref3 1 3 Row.off)
+
 abbrev e10·1 : Row.Entry
 e10·1 = (10, Relend.msptr RelayCircuit.row ref1 3)
+
 abbrev e11·1 : Row.Entry
 e11·1 = (11, Mut.mslice RelayCircuit.row ref1 3)
+
 abbrev e11·2 : Row.Entry
 e11·2 = (11, Mut.msleft RelayCircuit.row ref1)
+
 abbrev pub t0 : List.List Row.Entry
 t0 = e0 ∷ e1 ∷ e2 ∷ e3 ∷ e4 ∷ e5 ∷ e6 ∷ e7 ∷ e8 ∷ e9 ∷ e10 ∷ e11 ∷ List.[]
+
 abbrev pub t1 : List.List Row.Entry
 t1 = e0·1 ∷ e1 ∷ e2 ∷ e3·1 ∷ e4·1 ∷ e5·1 ∷ e6·1 ∷ e7 ∷ e8 ∷ e9 ∷ e10 ∷ e11 ∷ List.[]
+
 abbrev pub t2 : List.List Row.Entry
 t2 = e0 ∷ e1·1 ∷ e2 ∷ e3 ∷ e4 ∷ e5 ∷ e6 ∷ e7 ∷ e8·1 ∷ e9 ∷ e10 ∷ e11 ∷ List.[]
+
 abbrev pub t3 : List.List Row.Entry
 t3 = e0 ∷ e1·1 ∷ e2 ∷ e3 ∷ e4 ∷ e5 ∷ e6 ∷ e7 ∷ e8 ∷ e9·1 ∷ e10 ∷ e11 ∷ List.[]
+
 abbrev pub t4 : List.List Row.Entry
 t4 = e0 ∷ e1·1 ∷ e2 ∷ e3 ∷ e4 ∷ e5 ∷ e6 ∷ e7·1 ∷ e8 ∷ e9·2 ∷ e10 ∷ e11 ∷ List.[]
+
 abbrev pub t5 : List.List Row.Entry
 t5 = e0 ∷ e1·1 ∷ e2 ∷ e3 ∷ e4 ∷ e5·1 ∷ e6 ∷ e7·1 ∷ e8 ∷ e9·2 ∷ e10 ∷ e11 ∷ List.[]
+
 abbrev pub t6 : List.List Row.Entry
 t6 = e0 ∷ e1·1 ∷ e2 ∷ e3 ∷ e4 ∷ e5·1 ∷ e6 ∷ e7 ∷ e8 ∷ e9·2 ∷ e10 ∷ e11 ∷ List.[]
+
 abbrev pub t7 : List.List Row.Entry
 t7 = e0 ∷ e1 ∷ e2 ∷ e3 ∷ e4 ∷ e5·1 ∷ e6 ∷ e7 ∷ e8 ∷ e9 ∷ e10 ∷ e11 ∷ List.[]
+
 abbrev pub t8 : List.List Row.Entry
 t8 = e0 ∷ e1 ∷ e2·1 ∷ e3 ∷ e4 ∷ e5·1 ∷ e6 ∷ e7 ∷ e8 ∷ e9 ∷ e10·1 ∷ e11 ∷ List.[]
+
 abbrev pub t9 : List.List Row.Entry
 t9 = e0 ∷ e1 ∷ e2·1 ∷ e3 ∷ e4 ∷ e5·1 ∷ e6 ∷ e7 ∷ e8 ∷ e9 ∷ e10 ∷ e11·1 ∷ List.[]
+
 abbrev pub t10 : List.List Row.Entry
 t10 = e0·1 ∷ e1 ∷ e2·1 ∷ e3 ∷ e4 ∷ e5·1 ∷ e6 ∷ e7 ∷ e8 ∷ e9 ∷ e10 ∷ e11·2 ∷ List.[]
+
 abbrev pub t11 : List.List Row.Entry
 t11 = e0·1 ∷ e1 ∷ e2·1 ∷ e3·1 ∷ e4 ∷ e5·1 ∷ e6 ∷ e7 ∷ e8 ∷ e9 ∷ e10 ∷ e11·2 ∷ List.[]
+
 abbrev pub t12 : List.List Row.Entry
 t12 = e0·1 ∷ e1 ∷ e2·1 ∷ e3·1 ∷ e4·1 ∷ e5·1 ∷ e6 ∷ e7 ∷ e8 ∷ e9 ∷ e10 ∷ e11·2 ∷ List.[]
+
 abbrev pub t13 : List.List Row.Entry
 t13 = e0·1 ∷ e1 ∷ e2·1 ∷ e3·1 ∷ e4·1 ∷ e5·1 ∷ e6·1 ∷ e7 ∷ e8 ∷ e9 ∷ e10 ∷ e11·2 ∷ List.[]
+
 abbrev pub T0 : Row.Cx
 T0 = record { locals = t0; slots = List.[] }
+
 abbrev pub T1 : Row.Cx
 T1 = record { locals = t1; slots = List.[] }
+
 abbrev pub T3 : Row.Cx
 T3 = record { locals = t2; slots = List.[] }
+
 abbrev pub T4 : Row.Cx
 T4 = record { locals = t3; slots = List.[] }
+
 abbrev pub T5 : Row.Cx
 T5 = record { locals = t4; slots = List.[] }
+
 abbrev pub T6 : Row.Cx
 T6 = record { locals = t5; slots = List.[] }
+
 abbrev pub T7 : Row.Cx
 T7 = record { locals = t6; slots = List.[] }
+
 abbrev pub T9 : Row.Cx
 T9 = record { locals = t7; slots = List.[] }
+
 abbrev pub T12 : Row.Cx
 T12 = record { locals = t8; slots = List.[] }
+
 abbrev pub T13 : Row.Cx
 T13 = record { locals = t9; slots = List.[] }
+
 abbrev pub T14 : Row.Cx
 T14 = record { locals = t10; slots = List.[] }
+
 abbrev pub T15 : Row.Cx
 T15 = record { locals = t11; slots = List.[] }
+
 abbrev pub T16 : Row.Cx
 T16 = record { locals = t12; slots = List.[] }
+
 abbrev pub T17 : Row.Cx
 T17 = record { locals = t13; slots = List.[] }
+
 abbrev pub T19 : Row.Cx
 T19 = record { locals = t1; slots = List.[] }
+
 abbrev pub O0 : Typed.Outs
 O0 = record { next = Option.none; exits = List.[]; returns = Option.some T1 }
+
 module _ (claims· : Claims) where
   abbrev s1 : Typed.Gives T0 T3
   s1 = Relend.k-sl-relend RelayPending.row T0 1 8 0 2 ref2 ref0 Row.off λ x. x
+
   abbrev s2 : Typed.Asks T3 T4
-  s2 = Relend.k-sl-aggregate RelayPending.row (Relend.asMut RelayPending.row) T3 8 9 2 ref0 ref0 (λ x. x) (Scalar.oFld 1 ((Syntax.field 1) ∷ List.[])
-      (Syntax.tyInt Syntax.w64) 8 λ v. Shared.lenV (v .0))
+  s2 = Relend.k-sl-aggregate RelayPending.row (Relend.asMut RelayPending.row) T3 8 9 2 ref0 ref0 (λ x. x) (Scalar.oFld
+      1 ((Syntax.field 1) ∷ List.[]) (Syntax.tyInt Syntax.w64) 8 λ v. Shared.lenV (v .0))
+
+  abbrev args3 : Args'.ArgsT ps·0 (T4 .locals)
+  args3 = (
+    record { pos = 9; ty = ref0; ref = λ x. x },
+    (
+      Bool.bFld 4 ((Syntax.field 0) ∷ List.[]) 0 λ x. AcceptPlan.struct .as-values x .0,
+      (
+        Num.vFld 4 ((Syntax.field 1) ∷ List.[]) 8 λ x. AcceptPlan.struct .as-values x .1 .0,
+        (record { pos = 5; st = List.[]; d = 0; at = λ x. x }, tt),
+      ),
+    ),
+  )
+
   abbrev s3 : Typed.Both T4 T5
-  s3 = Call.callB ps·0 r·0 (claims· .0) (claims· .1) T4 (record { pos = 9; ty = Syntax.tyRef Syntax.erased Syntax.mut RelayPending.to; ref = λ x. x;
-      }, (Bool.bFld 4 ((Syntax.field 0) ∷ List.[]) 0 λ x. AcceptPlan.struct .as-values x .0, (Num.vFld 4 ((Syntax.field 1) ∷ List.[]) 8 λ x.
-      AcceptPlan.struct .as-values x .1 .0, (record { pos = 5; st = List.[]; d = 0; at = λ x. x }, tt),),),) 7 (2 ∷ List.[]) Syntax.tyUnit
+  s3 = Call.callB ps·0 r·0 (claims· .0) (claims· .1) T4 args3 7 (2 ∷ List.[]) Syntax.tyUnit
+
   abbrev s4 : Typed.Mo T5 → Typed.Mo T6
   s4 = Scalar.n-room T5 5 RelayPending.ty
+
   abbrev s5 : Typed.Mo T6 → Typed.Mo T7
   s5 = Scalar.n-room T6 7 Syntax.tyUnit
+
   abbrev s7 : Typed.Both T7 T9
   s7 = Relend.k-back-sl RelayPending.row T7 9 1 0 2 ref2 ref0 Row.off (λ x. x) λ x. x
+
   abbrev s10 : Typed.Gives T9 T12
   s10 = Relend.k-sl-relend RelayCircuit.row T9 2 10 1 3 ref3 ref1 Row.off λ x. x
+
   abbrev s11 : Typed.Asks T12 T13
-  s11 = Relend.k-sl-aggregate RelayCircuit.row (Relend.asMut RelayCircuit.row) T12 10 11 3 ref1 ref1 (λ x. x) (Scalar.oFld 2 ((Syntax.field 1) ∷
-      List.[]) (Syntax.tyInt Syntax.w64) 8 λ v. Shared.lenV (v .0))
+  s11 = Relend.k-sl-aggregate RelayCircuit.row (Relend.asMut RelayCircuit.row) T12 10 11 3 ref1 ref1 (λ x. x) (Scalar.oFld
+      2 ((Syntax.field 1) ∷ List.[]) (Syntax.tyInt Syntax.w64) 8 λ v. Shared.lenV (v .0))
+
+  abbrev args12 : Args'.ArgsT ps·1 (T13 .locals)
+  args12 = (
+    record { pos = 11; ty = ref1; ref = λ x. x },
+    (
+      record { pos = 3; st = List.[]; d = 0; at = λ x. x },
+      (
+        Bool.bFld 4 ((Syntax.field 0) ∷ List.[]) 0 λ x. AcceptPlan.struct .as-values x .0,
+        (
+          Num.vFld 4 ((Syntax.field 2) ∷ List.[]) 16 λ x. AcceptPlan.struct .as-values x .1 .1 .0,
+          (record { pos = 6; st = List.[]; d = 0; at = λ x. x }, tt),
+        ),
+      ),
+    ),
+  )
+
   abbrev s12 : Typed.Both T13 T14
-  s12 = Call.callB ps·1 r·1 (claims· .2) (claims· .3) T13 (record { pos = 11; ty = Syntax.tyRef Syntax.erased Syntax.mut RelayCircuit.to; ref = λ x.
-      x; }, (record { pos = 3; st = List.[]; d = 0; at = λ x. x }, (Bool.bFld 4 ((Syntax.field 0) ∷ List.[]) 0 λ x. AcceptPlan.struct .as-values x .0,
-      (Num.vFld 4 ((Syntax.field 2) ∷ List.[]) 16 λ x. AcceptPlan.struct .as-values x .1 .1 .0, (record { pos = 6; st = List.[]; d = 0; at = λ x. x },
-      tt),),),),) 0 (3 ∷ List.[]) (Syntax.tyInt Syntax.w64)
+  s12 = Call.callB ps·1 r·1 (claims· .2) (claims· .3) T13 args12 0 (3 ∷ List.[]) (Syntax.tyInt Syntax.w64)
+
   abbrev s13 : Typed.Mo T14 → Typed.Mo T15
   s13 = Scalar.n-room T14 3 Laws'.mir
+
   abbrev s14 : Typed.Mo T15 → Typed.Mo T16
   s14 = Scalar.n-room T15 4 Laws.mir
+
   abbrev s15 : Typed.Mo T16 → Typed.Mo T17
   s15 = Scalar.n-room T16 6 RelayCircuit.ty
+
   abbrev s17 : Typed.Both T17 T19
   s17 = Relend.k-back-sl RelayCircuit.row T17 11 2 1 3 ref3 ref1 Row.off (λ x. x) λ x. x
-  module _ (Pre· : (κs : Lifetimes.Lfts 2) → Kinds.Dens κs ps → Type 0) (Post· : (κs : Lifetimes.Lfts 2) → (a : Kinds.Dens κs ps) → Kinds.Plain 2 ps r
-      κs) where
+
+  module _ (Pre· : (κs : Lifetimes.Lfts 2) → Kinds.Dens κs ps → Type 0) (Post· : (κs : Lifetimes.Lfts 2) →
+      (a : Kinds.Dens κs ps) → Kinds.Plain 2 ps r κs) where
     module _ (M : Type 1) where
       abbrev pub Closed : Type 2
-      Closed = (𝓤 : URA.URA M) (H : Wp.Heap 𝓤) (A : Atoms.Atoms 𝓤) (W : Kit.Given 𝓤 H A) (𝓣 : Wp.Tables 𝓤 H) (known0 : Plain.Known 𝓤 H A W 𝓣 1 ps·0
-          r·0 (claims· .0) (claims· .1) "hnsr_circuit::tables::pending::set_pending") (known1 : Plain.Known 𝓤 H A W 𝓣 1 ps·1 r·1 (claims· .2) (claims·
-          .3) "hnsr_circuit::handle_accept::put_circuit") → Statement.Triple 𝓤 (Wp.WpFn 𝓤 H (𝓣 .C) (𝓣 .Λ) (Function.fnOf 2 ps r xs m hs body))
+      Closed = (𝓤 : URA.URA M) (H : Wp.Heap 𝓤) (A : Atoms.Atoms 𝓤) (W : Kit.Given 𝓤 H A) (𝓣 : Wp.Tables 𝓤 H) (known0 :
+          Plain.Known 𝓤 H A W 𝓣 1 ps·0 r·0 (claims· .0) (claims· .1) "hnsr_circuit::tables::pending::set_pending") (known1
+          : Plain.Known 𝓤 H A W 𝓣 1 ps·1 r·1 (claims· .2) (claims· .3) "hnsr_circuit::handle_accept::put_circuit") →
+          Statement.Triple 𝓤 (Wp.WpFn 𝓤 H (𝓣 .C) (𝓣 .Λ) (Function.fnOf 2 ps r xs m hs body))
           (Function.plainOf 𝓤 H A 2 ps r Pre· Post·)
+
     module _ where
       abbrev at0 : Typed.TF T19 O0
       at0 = Typed.atRet O0
+
       abbrev at1 : Typed.TF T19 O0
       at1 = λ Ψ. at0 Ψ
+
       abbrev at2 : Typed.TF T17 O0
       at2 = λ Ψ. Typed.both s17 (at1 Ψ)
+
       abbrev at3 : Typed.TF T17 O0
       at3 = λ Ψ. at2 Ψ
+
       abbrev at4 : Typed.TF T16 O0
       at4 = λ Ψ. Typed.pass T16 T17 s15 (at3 Ψ)
+
       abbrev at5 : Typed.TF T15 O0
       at5 = λ Ψ. Typed.pass T15 T16 s14 (at4 Ψ)
+
       abbrev at6 : Typed.TF T14 O0
       at6 = λ Ψ. Typed.pass T14 T15 s13 (at5 Ψ)
+
       abbrev at7 : Typed.TF T13 O0
       at7 = λ Ψ. Typed.both s12 (at6 Ψ)
+
       abbrev at8 : Typed.TF T12 O0
       at8 = λ Ψ. Typed.ask s11 (at7 Ψ)
+
       abbrev at9 : Typed.TF T9 O0
       at9 = λ Ψ. Typed.give s10 (at8 Ψ)
+
       abbrev at10 : Typed.TF T9 O0
       at10 = λ Ψ. at9 Ψ
+
       abbrev at11 : Typed.TF T9 O0
       at11 = λ Ψ. at10 Ψ
+
       abbrev at12 : Typed.TF T7 O0
       at12 = λ Ψ. Typed.both s7 (at11 Ψ)
+
       abbrev at13 : Typed.TF T7 O0
       at13 = λ Ψ. at12 Ψ
+
       abbrev at14 : Typed.TF T6 O0
       at14 = λ Ψ. Typed.pass T6 T7 s5 (at13 Ψ)
+
       abbrev at15 : Typed.TF T5 O0
       at15 = λ Ψ. Typed.pass T5 T6 s4 (at14 Ψ)
+
       abbrev at16 : Typed.TF T4 O0
       at16 = λ Ψ. Typed.both s3 (at15 Ψ)
+
       abbrev at17 : Typed.TF T3 O0
       at17 = λ Ψ. Typed.ask s2 (at16 Ψ)
+
       abbrev at18 : Typed.TF T0 O0
       at18 = λ Ψ. Typed.give s1 (at17 Ψ)
+
       abbrev at19 : Typed.TF T0 O0
       at19 = λ Ψ. at18 Ψ
+
       abbrev pub Φ : Typed.TF T0 O0
       Φ = at19
-      module _ { M : Type 1 } (𝓤 : URA.URA M) (H : Wp.Heap 𝓤) (A : Atoms.Atoms 𝓤) (W : Kit.Given 𝓤 H A) (𝓣 : Wp.Tables 𝓤 H) where
+
+      module _ {M : Type 1} (𝓤 : URA.URA M) (H : Wp.Heap 𝓤) (A : Atoms.Atoms 𝓤) (W : Kit.Given 𝓤 H A)
+          (𝓣 : Wp.Tables 𝓤 H) where
         abbrev Knowns : Type 1
-        Knowns = Plain.Known 𝓤 H A W 𝓣 1 ps·0 r·0 (claims· .0) (claims· .1) "hnsr_circuit::tables::pending::set_pending" × Plain.Known 𝓤 H A W 𝓣 1
-            ps·1 r·1 (claims· .2) (claims· .3) "hnsr_circuit::handle_accept::put_circuit"
+        Knowns = Plain.Known 𝓤 H A W 𝓣 1 ps·0 r·0 (claims· .0) (claims· .1)
+            "hnsr_circuit::tables::pending::set_pending" × Plain.Known 𝓤 H A W 𝓣 1 ps·1 r·1 (claims· .2) (claims· .3)
+            "hnsr_circuit::handle_accept::put_circuit"
+
       module _ (κs : Lifetimes.Lfts 2) (qs : Lifetimes.Shares 2) where
         abbrev life0 : Row.Life
         life0 = Row.lease (κs .0) (qs .0)
+
         abbrev life1 : Row.Life
         life1 = Row.lease (κs .1 .0) (qs .1 .0)
+
+        abbrev l1 : Row.Entry
+        l1 = (1, Relend.mslice-owed RelayPending.row ref2 0 2 life0)
+
+        abbrev l2 : Row.Entry
+        l2 = (2, Relend.mslice-owed RelayCircuit.row ref3 1 3 life1)
+
         abbrev g2 : List.List Row.Entry
-        g2 = (0, Rows.any-gone (Syntax.tyInt Syntax.w64)) ∷ (1, Relend.mslice-owed RelayPending.row ref2 0 2 life0,) ∷ (2, Mut.mslice RelayCircuit.row
-            ref3 1,) ∷ (3, Rows.whole (Declared.row Places.the-type)) ∷ (4, Rows.whole (Declared.row AcceptPlan.the-type),) ∷ (5, RelayPending.held) ∷
-            (6, RelayCircuit.held,) ∷ (7, Rows.any-gone Syntax.tyUnit) ∷ (8, Relend.msptr RelayPending.row ref0 2,) ∷ (9, Rows.any-gone
-            (Syntax.tyStruct (38 ∷ 91 ∷ 93 ∷ List.[]) (Syntax.tcons ref0 (Syntax.tcons (Syntax.tyInt Syntax.w64) Syntax.tnil))),) ∷ (10, Rows.any-gone
-            ref1,) ∷ (11, Rows.any-gone (Syntax.tyStruct (38 ∷ 91 ∷ 93 ∷ List.[]) (Syntax.tcons ref1 (Syntax.tcons (Syntax.tyInt Syntax.w64)
-            Syntax.tnil))),) ∷ List.[]
+        g2 = e0 ∷ l1 ∷ e2 ∷ e3 ∷ e4 ∷ e5 ∷ e6 ∷ e7 ∷ e8·1 ∷ e9 ∷ e10 ∷ e11 ∷ List.[]
+
         abbrev g3 : List.List Row.Entry
-        g3 = (0, Rows.any-gone (Syntax.tyInt Syntax.w64)) ∷ (1, Relend.mslice-owed RelayPending.row ref2 0 2 life0,) ∷ (2, Mut.mslice RelayCircuit.row
-            ref3 1,) ∷ (3, Rows.whole (Declared.row Places.the-type)) ∷ (4, Rows.whole (Declared.row AcceptPlan.the-type),) ∷ (5, RelayPending.held) ∷
-            (6, RelayCircuit.held,) ∷ (7, Rows.any-gone Syntax.tyUnit) ∷ (8, Rows.any-gone ref0,) ∷ (9, Mut.mslice RelayPending.row ref0 2,) ∷ (10,
-            Rows.any-gone ref1,) ∷ (11, Rows.any-gone (Syntax.tyStruct (38 ∷ 91 ∷ 93 ∷ List.[]) (Syntax.tcons ref1 (Syntax.tcons (Syntax.tyInt
-            Syntax.w64) Syntax.tnil))),) ∷ List.[]
+        g3 = e0 ∷ l1 ∷ e2 ∷ e3 ∷ e4 ∷ e5 ∷ e6 ∷ e7 ∷ e8 ∷ e9·1 ∷ e10 ∷ e11 ∷ List.[]
+
         abbrev g4 : List.List Row.Entry
-        g4 = (0, Rows.any-gone (Syntax.tyInt Syntax.w64)) ∷ (1, Relend.mslice-owed RelayPending.row ref2 0 2 life0,) ∷ (2, Mut.mslice RelayCircuit.row
-            ref3 1,) ∷ (3, Rows.whole (Declared.row Places.the-type)) ∷ (4, Rows.whole (Declared.row AcceptPlan.the-type),) ∷ (5, RelayPending.held) ∷
-            (6, RelayCircuit.held,) ∷ (7, Rows.sc-here Row.sUnit) ∷ (8, Rows.any-gone ref0,) ∷ (9, Mut.msleft RelayPending.row ref0,) ∷ (10,
-            Rows.any-gone ref1,) ∷ (11, Rows.any-gone (Syntax.tyStruct (38 ∷ 91 ∷ 93 ∷ List.[]) (Syntax.tcons ref1 (Syntax.tcons (Syntax.tyInt
-            Syntax.w64) Syntax.tnil))),) ∷ List.[]
+        g4 = e0 ∷ l1 ∷ e2 ∷ e3 ∷ e4 ∷ e5 ∷ e6 ∷ e7·1 ∷ e8 ∷ e9·2 ∷ e10 ∷ e11 ∷ List.[]
+
         abbrev g5 : List.List Row.Entry
-        g5 = (0, Rows.any-gone (Syntax.tyInt Syntax.w64)) ∷ (1, Relend.mslice-owed RelayPending.row ref2 0 2 life0,) ∷ (2, Mut.mslice RelayCircuit.row
-            ref3 1,) ∷ (3, Rows.whole (Declared.row Places.the-type)) ∷ (4, Rows.whole (Declared.row AcceptPlan.the-type),) ∷ (5, Rows.any-gone
-            RelayPending.ty) ∷ (6, RelayCircuit.held,) ∷ (7, Rows.sc-here Row.sUnit) ∷ (8, Rows.any-gone ref0,) ∷ (9, Mut.msleft RelayPending.row
-            ref0,) ∷ (10, Rows.any-gone ref1,) ∷ (11, Rows.any-gone (Syntax.tyStruct (38 ∷ 91 ∷ 93 ∷ List.[]) (Syntax.tcons ref1 (Syntax.tcons
-            (Syntax.tyInt Syntax.w64) Syntax.tnil))),) ∷ List.[]
+        g5 = e0 ∷ l1 ∷ e2 ∷ e3 ∷ e4 ∷ e5·1 ∷ e6 ∷ e7·1 ∷ e8 ∷ e9·2 ∷ e10 ∷ e11 ∷ List.[]
+
         abbrev g6 : List.List Row.Entry
-        g6 = (0, Rows.any-gone (Syntax.tyInt Syntax.w64)) ∷ (1, Relend.mslice-owed RelayPending.row ref2 0 2 life0,) ∷ (2, Mut.mslice RelayCircuit.row
-            ref3 1,) ∷ (3, Rows.whole (Declared.row Places.the-type)) ∷ (4, Rows.whole (Declared.row AcceptPlan.the-type),) ∷ (5, Rows.any-gone
-            RelayPending.ty) ∷ (6, RelayCircuit.held,) ∷ (7, Rows.any-gone Syntax.tyUnit) ∷ (8, Rows.any-gone ref0,) ∷ (9, Mut.msleft RelayPending.row
-            ref0,) ∷ (10, Rows.any-gone ref1,) ∷ (11, Rows.any-gone (Syntax.tyStruct (38 ∷ 91 ∷ 93 ∷ List.[]) (Syntax.tcons ref1 (Syntax.tcons
-            (Syntax.tyInt Syntax.w64) Syntax.tnil))),) ∷ List.[]
+        g6 = e0 ∷ l1 ∷ e2 ∷ e3 ∷ e4 ∷ e5·1 ∷ e6 ∷ e7 ∷ e8 ∷ e9·2 ∷ e10 ∷ e11 ∷ List.[]
+
         abbrev g8 : List.List Row.Entry
-        g8 = (0, Rows.any-gone (Syntax.tyInt Syntax.w64)) ∷ (1, Mut.mslice RelayPending.row ref2 0,) ∷ (2, Relend.mslice-owed RelayCircuit.row ref3 1
-            3 life1,) ∷ (3, Rows.whole (Declared.row Places.the-type)) ∷ (4, Rows.whole (Declared.row AcceptPlan.the-type),) ∷ (5, Rows.any-gone
-            RelayPending.ty) ∷ (6, RelayCircuit.held,) ∷ (7, Rows.any-gone Syntax.tyUnit) ∷ (8, Rows.any-gone ref0,) ∷ (9, Rows.any-gone
-            (Syntax.tyStruct (38 ∷ 91 ∷ 93 ∷ List.[]) (Syntax.tcons ref0 (Syntax.tcons (Syntax.tyInt Syntax.w64) Syntax.tnil))),) ∷ (10, Relend.msptr
-            RelayCircuit.row ref1 3,) ∷ (11, Rows.any-gone (Syntax.tyStruct (38 ∷ 91 ∷ 93 ∷ List.[]) (Syntax.tcons ref1 (Syntax.tcons (Syntax.tyInt
-            Syntax.w64) Syntax.tnil))),) ∷ List.[]
+        g8 = e0 ∷ e1 ∷ l2 ∷ e3 ∷ e4 ∷ e5·1 ∷ e6 ∷ e7 ∷ e8 ∷ e9 ∷ e10·1 ∷ e11 ∷ List.[]
+
         abbrev g9 : List.List Row.Entry
-        g9 = (0, Rows.any-gone (Syntax.tyInt Syntax.w64)) ∷ (1, Mut.mslice RelayPending.row ref2 0,) ∷ (2, Relend.mslice-owed RelayCircuit.row ref3 1
-            3 life1,) ∷ (3, Rows.whole (Declared.row Places.the-type)) ∷ (4, Rows.whole (Declared.row AcceptPlan.the-type),) ∷ (5, Rows.any-gone
-            RelayPending.ty) ∷ (6, RelayCircuit.held,) ∷ (7, Rows.any-gone Syntax.tyUnit) ∷ (8, Rows.any-gone ref0,) ∷ (9, Rows.any-gone
-            (Syntax.tyStruct (38 ∷ 91 ∷ 93 ∷ List.[]) (Syntax.tcons ref0 (Syntax.tcons (Syntax.tyInt Syntax.w64) Syntax.tnil))),) ∷ (10, Rows.any-gone
-            ref1,) ∷ (11, Mut.mslice RelayCircuit.row ref1 3,) ∷ List.[]
+        g9 = e0 ∷ e1 ∷ l2 ∷ e3 ∷ e4 ∷ e5·1 ∷ e6 ∷ e7 ∷ e8 ∷ e9 ∷ e10 ∷ e11·1 ∷ List.[]
+
         abbrev g10 : List.List Row.Entry
-        g10 = (0, Rows.sc-here (Row.sInt Syntax.w64)) ∷ (1, Mut.mslice RelayPending.row ref2 0,) ∷ (2, Relend.mslice-owed RelayCircuit.row ref3 1 3
-            life1,) ∷ (3, Rows.whole (Declared.row Places.the-type)) ∷ (4, Rows.whole (Declared.row AcceptPlan.the-type),) ∷ (5, Rows.any-gone
-            RelayPending.ty) ∷ (6, RelayCircuit.held,) ∷ (7, Rows.any-gone Syntax.tyUnit) ∷ (8, Rows.any-gone ref0,) ∷ (9, Rows.any-gone
-            (Syntax.tyStruct (38 ∷ 91 ∷ 93 ∷ List.[]) (Syntax.tcons ref0 (Syntax.tcons (Syntax.tyInt Syntax.w64) Syntax.tnil))),) ∷ (10, Rows.any-gone
-            ref1,) ∷ (11, Mut.msleft RelayCircuit.row ref1,) ∷ List.[]
+        g10 = e0·1 ∷ e1 ∷ l2 ∷ e3 ∷ e4 ∷ e5·1 ∷ e6 ∷ e7 ∷ e8 ∷ e9 ∷ e10 ∷ e11·2 ∷ List.[]
+
         abbrev g11 : List.List Row.Entry
-        g11 = (0, Rows.sc-here (Row.sInt Syntax.w64)) ∷ (1, Mut.mslice RelayPending.row ref2 0,) ∷ (2, Relend.mslice-owed RelayCircuit.row ref3 1 3
-            life1,) ∷ (3, Rows.any-gone Laws'.mir,) ∷ (4, Rows.whole (Declared.row AcceptPlan.the-type)) ∷ (5, Rows.any-gone RelayPending.ty,) ∷ (6,
-            RelayCircuit.held) ∷ (7, Rows.any-gone Syntax.tyUnit,) ∷ (8, Rows.any-gone ref0,) ∷ (9, Rows.any-gone (Syntax.tyStruct (38 ∷ 91 ∷ 93 ∷
-            List.[]) (Syntax.tcons ref0 (Syntax.tcons (Syntax.tyInt Syntax.w64) Syntax.tnil))),) ∷ (10, Rows.any-gone ref1,) ∷ (11, Mut.msleft
-            RelayCircuit.row ref1,) ∷ List.[]
+        g11 = e0·1 ∷ e1 ∷ l2 ∷ e3·1 ∷ e4 ∷ e5·1 ∷ e6 ∷ e7 ∷ e8 ∷ e9 ∷ e10 ∷ e11·2 ∷ List.[]
+
         abbrev g12 : List.List Row.Entry
-        g12 = (0, Rows.sc-here (Row.sInt Syntax.w64)) ∷ (1, Mut.mslice RelayPending.row ref2 0,) ∷ (2, Relend.mslice-owed RelayCircuit.row ref3 1 3
-            life1,) ∷ (3, Rows.any-gone Laws'.mir,) ∷ (4, Rows.any-gone Laws.mir,) ∷ (5, Rows.any-gone RelayPending.ty) ∷ (6, RelayCircuit.held,) ∷
-            (7, Rows.any-gone Syntax.tyUnit) ∷ (8, Rows.any-gone ref0,) ∷ (9, Rows.any-gone (Syntax.tyStruct (38 ∷ 91 ∷ 93 ∷ List.[]) (Syntax.tcons
-            ref0 (Syntax.tcons (Syntax.tyInt Syntax.w64) Syntax.tnil))),) ∷ (10, Rows.any-gone ref1,) ∷ (11, Mut.msleft RelayCircuit.row ref1,) ∷
-            List.[]
+        g12 = e0·1 ∷ e1 ∷ l2 ∷ e3·1 ∷ e4·1 ∷ e5·1 ∷ e6 ∷ e7 ∷ e8 ∷ e9 ∷ e10 ∷ e11·2 ∷ List.[]
+
         abbrev g13 : List.List Row.Entry
-        g13 = (0, Rows.sc-here (Row.sInt Syntax.w64)) ∷ (1, Mut.mslice RelayPending.row ref2 0,) ∷ (2, Relend.mslice-owed RelayCircuit.row ref3 1 3
-            life1,) ∷ (3, Rows.any-gone Laws'.mir,) ∷ (4, Rows.any-gone Laws.mir,) ∷ (5, Rows.any-gone RelayPending.ty) ∷ (6, Rows.any-gone
-            RelayCircuit.ty,) ∷ (7, Rows.any-gone Syntax.tyUnit) ∷ (8, Rows.any-gone ref0,) ∷ (9, Rows.any-gone (Syntax.tyStruct (38 ∷ 91 ∷ 93 ∷
-            List.[]) (Syntax.tcons ref0 (Syntax.tcons (Syntax.tyInt Syntax.w64) Syntax.tnil))),) ∷ (10, Rows.any-gone ref1,) ∷ (11, Mut.msleft
-            RelayCircuit.row ref1,) ∷ List.[]
+        g13 = e0·1 ∷ e1 ∷ l2 ∷ e3·1 ∷ e4·1 ∷ e5·1 ∷ e6·1 ∷ e7 ∷ e8 ∷ e9 ∷ e10 ∷ e11·2 ∷ List.[]
+
         abbrev G0 : Row.Cx
-        G0 = record { locals = t0; slots = life0 ∷ life1 ∷ Row.off ∷ Row.off ∷ List.[]; }
+        G0 = record { locals = t0; slots = life0 ∷ life1 ∷ Row.off ∷ Row.off ∷ List.[] }
+
         abbrev G1 : Row.Cx
-        G1 = record { locals = t1; slots = life0 ∷ life1 ∷ Row.off ∷ Row.off ∷ List.[]; }
+        G1 = record { locals = t1; slots = life0 ∷ life1 ∷ Row.off ∷ Row.off ∷ List.[] }
+
         abbrev G2 : Row.Cx
-        G2 = record { locals = t0; slots = life0 ∷ life1 ∷ Row.alive ∷ Row.off ∷ List.[]; }
+        G2 = record { locals = t0; slots = life0 ∷ life1 ∷ Row.alive ∷ Row.off ∷ List.[] }
+
         abbrev G3 : Row.Cx
-        G3 = record { locals = g2; slots = Row.off ∷ life1 ∷ Row.alive ∷ Row.off ∷ List.[]; }
+        G3 = record { locals = g2; slots = Row.off ∷ life1 ∷ Row.alive ∷ Row.off ∷ List.[] }
+
         abbrev G4 : Row.Cx
-        G4 = record { locals = g3; slots = Row.off ∷ life1 ∷ Row.alive ∷ Row.off ∷ List.[]; }
+        G4 = record { locals = g3; slots = Row.off ∷ life1 ∷ Row.alive ∷ Row.off ∷ List.[] }
+
         abbrev G5 : Row.Cx
-        G5 = record { locals = g4; slots = Row.off ∷ life1 ∷ Row.alive ∷ Row.off ∷ List.[]; }
+        G5 = record { locals = g4; slots = Row.off ∷ life1 ∷ Row.alive ∷ Row.off ∷ List.[] }
+
         abbrev G6 : Row.Cx
-        G6 = record { locals = g5; slots = Row.off ∷ life1 ∷ Row.alive ∷ Row.off ∷ List.[]; }
+        G6 = record { locals = g5; slots = Row.off ∷ life1 ∷ Row.alive ∷ Row.off ∷ List.[] }
+
         abbrev G7 : Row.Cx
-        G7 = record { locals = g6; slots = Row.off ∷ life1 ∷ Row.alive ∷ Row.off ∷ List.[]; }
+        G7 = record { locals = g6; slots = Row.off ∷ life1 ∷ Row.alive ∷ Row.off ∷ List.[] }
+
         abbrev G8 : Row.Cx
-        G8 = record { locals = g6; slots = Row.off ∷ life1 ∷ Row.dead ∷ Row.off ∷ List.[]; }
+        G8 = record { locals = g6; slots = Row.off ∷ life1 ∷ Row.dead ∷ Row.off ∷ List.[] }
+
         abbrev G9 : Row.Cx
-        G9 = record { locals = t7; slots = life0 ∷ life1 ∷ Row.dead ∷ Row.off ∷ List.[]; }
+        G9 = record { locals = t7; slots = life0 ∷ life1 ∷ Row.dead ∷ Row.off ∷ List.[] }
+
         abbrev G10 : Row.Cx
-        G10 = record { locals = t7; slots = life0 ∷ life1 ∷ Row.off ∷ Row.off ∷ List.[]; }
+        G10 = record { locals = t7; slots = life0 ∷ life1 ∷ Row.off ∷ Row.off ∷ List.[] }
+
         abbrev G11 : Row.Cx
-        G11 = record { locals = t7; slots = life0 ∷ life1 ∷ Row.off ∷ Row.alive ∷ List.[]; }
+        G11 = record { locals = t7; slots = life0 ∷ life1 ∷ Row.off ∷ Row.alive ∷ List.[] }
+
         abbrev G12 : Row.Cx
-        G12 = record { locals = g8; slots = life0 ∷ Row.off ∷ Row.off ∷ Row.alive ∷ List.[]; }
+        G12 = record { locals = g8; slots = life0 ∷ Row.off ∷ Row.off ∷ Row.alive ∷ List.[] }
+
         abbrev G13 : Row.Cx
-        G13 = record { locals = g9; slots = life0 ∷ Row.off ∷ Row.off ∷ Row.alive ∷ List.[]; }
+        G13 = record { locals = g9; slots = life0 ∷ Row.off ∷ Row.off ∷ Row.alive ∷ List.[] }
+
         abbrev G14 : Row.Cx
-        G14 = record { locals = g10; slots = life0 ∷ Row.off ∷ Row.off ∷ Row.alive ∷ List.[]; }
+        G14 = record { locals = g10; slots = life0 ∷ Row.off ∷ Row.off ∷ Row.alive ∷ List.[] }
+
         abbrev G15 : Row.Cx
-        G15 = record { locals = g11; slots = life0 ∷ Row.off ∷ Row.off ∷ Row.alive ∷ List.[]; }
+        G15 = record { locals = g11; slots = life0 ∷ Row.off ∷ Row.off ∷ Row.alive ∷ List.[] }
+
         abbrev G16 : Row.Cx
-        G16 = record { locals = g12; slots = life0 ∷ Row.off ∷ Row.off ∷ Row.alive ∷ List.[]; }
+        G16 = record { locals = g12; slots = life0 ∷ Row.off ∷ Row.off ∷ Row.alive ∷ List.[] }
+
         abbrev G17 : Row.Cx
-        G17 = record { locals = g13; slots = life0 ∷ Row.off ∷ Row.off ∷ Row.alive ∷ List.[]; }
+        G17 = record { locals = g13; slots = life0 ∷ Row.off ∷ Row.off ∷ Row.alive ∷ List.[] }
+
         abbrev G18 : Row.Cx
-        G18 = record { locals = g13; slots = life0 ∷ Row.off ∷ Row.off ∷ Row.dead ∷ List.[]; }
+        G18 = record { locals = g13; slots = life0 ∷ Row.off ∷ Row.off ∷ Row.dead ∷ List.[] }
+
         abbrev G19 : Row.Cx
-        G19 = record { locals = t1; slots = life0 ∷ life1 ∷ Row.off ∷ Row.dead ∷ List.[]; }
+        G19 = record { locals = t1; slots = life0 ∷ life1 ∷ Row.off ∷ Row.dead ∷ List.[] }
+
         abbrev G20 : Row.Cx
-        G20 = record { locals = t1; slots = life0 ∷ life1 ∷ Row.off ∷ Row.off ∷ List.[]; }
+        G20 = record { locals = t1; slots = life0 ∷ life1 ∷ Row.off ∷ Row.off ∷ List.[] }
+
         abbrev Δ0 : Typed.Outs
         Δ0 = record { next = Option.none; exits = List.[]; returns = Option.some G1 }
-        module _ { M : Type 1 } (𝓤 : URA.URA M) (H : Wp.Heap 𝓤) (A : Atoms.Atoms 𝓤) (W : Kit.Given 𝓤 H A) (𝓣 : Wp.Tables 𝓤 H) (known : Knowns 𝓤 H A W
-            𝓣) (bs : List.List Nat.ℕ) (bd : Lifetimes.AllOutlive 2 (Kinds.osR r) κs) where
+
+        module _ {M : Type 1} (𝓤 : URA.URA M) (H : Wp.Heap 𝓤) (A : Atoms.Atoms 𝓤) (W : Kit.Given 𝓤 H A)
+            (𝓣 : Wp.Tables 𝓤 H) (known : Knowns 𝓤 H A W 𝓣) (bs : List.List Nat.ℕ)
+            (bd : Lifetimes.AllOutlive 2 (Kinds.osR r) κs) where
           abbrev E : Wp.Env 𝓤 H
           E = Frame.EnvOf 𝓤 H ((Kinds.tyR r) ∷ (Enter.tysP ps xs)) bs
+
           d0 : Typed.Typed 𝓤 H A 𝓣 E G20 b6 Δ0 at0
           d0 = Typed.t-return 𝓤 H A W 𝓣 E Δ0 tt
+
           d1 : Typed.Typed 𝓤 H A 𝓣 E G19 b6 Δ0 at1
-          d1 = Typed.g-pre 𝓤 H A W 𝓣 E G19 G20 b6 Δ0 (λ Ψ. Ψ) at0 (Lifetime.g-forget 𝓤 H A W E G19 3 Row.dead Path.refl) d0
+          d1 = Typed.g-pre 𝓤 H A W 𝓣 E G19 G20 b6 Δ0 (λ Ψ. Ψ) at0
+              (Lifetime.g-forget 𝓤 H A W E G19 3 Row.dead Path.refl) d0
+
           d2 : Typed.Typed 𝓤 H A 𝓣 E G18 b6 Δ0 at2
-          d2 = Typed.g-pre 𝓤 H A W 𝓣 E G18 G19 b6 Δ0 (Typed.both s17) at1 (Relend.g-back-sl 𝓤 H A W E RelayCircuit.row G18 11 2 1 3 ref3 ref1 life1 (λ
-              x. x) (λ x. x) (Reads'.as-is 𝓤 H A (Mut.msleft RelayCircuit.row ref1)) (Reads'.as-is 𝓤 H A (Relend.mslice-owed RelayCircuit.row ref3 1 3
-              life1)) Path.refl Path.refl) d1
+          d2 = Typed.g-pre 𝓤 H A W 𝓣 E G18 G19 b6 Δ0 (Typed.both s17) at1 (Relend.g-back-sl 𝓤 H A W E RelayCircuit.row
+              G18 11 2 1 3 ref3 ref1 life1 (λ x. x) (λ x. x) (Reads'.as-is 𝓤 H A (Mut.msleft RelayCircuit.row ref1)) (Reads'.as-is
+              𝓤 H A (Relend.mslice-owed RelayCircuit.row ref3 1 3 life1)) Path.refl Path.refl) d1
+
           d3 : Typed.Typed 𝓤 H A 𝓣 E G17 b6 Δ0 at3
           d3 = Typed.g-pre 𝓤 H A W 𝓣 E G17 G18 b6 Δ0 (λ Ψ. Ψ) at2 (Lifetime.g-end 𝓤 H A W E G17 3 Path.refl) d2
+
           d4 : Typed.Typed 𝓤 H A 𝓣 E G16 b6 Δ0 at4
-          d4 = Typed.g-pre 𝓤 H A W 𝓣 E G16 G17 b6 Δ0 (Typed.pass T16 T17 s15) at3 (Scalar.g-room 𝓤 H A W E G16 6 RelayCircuit.ty (Local.room-whole 𝓤 H
-              A W RelayCircuit.row RelayCircuit.ty Path.refl)) d3
+          d4 = Typed.g-pre 𝓤 H A W 𝓣 E G16 G17 b6 Δ0 (Typed.pass T16 T17 s15) at3 (Scalar.g-room 𝓤 H A W E G16 6
+              RelayCircuit.ty (Local.room-whole 𝓤 H A W RelayCircuit.row RelayCircuit.ty Path.refl)) d3
+
           d5 : Typed.Typed 𝓤 H A 𝓣 E G15 b6 Δ0 at5
-          d5 = Typed.g-pre 𝓤 H A W 𝓣 E G15 G16 b6 Δ0 (Typed.pass T15 T16 s14) at4 (Scalar.g-room 𝓤 H A W E G15 4 Laws.mir (Local.room-whole 𝓤 H A W
-              (Declared.row AcceptPlan.the-type) Laws.mir Path.refl)) d4
+          d5 = Typed.g-pre 𝓤 H A W 𝓣 E G15 G16 b6 Δ0 (Typed.pass T15 T16 s14) at4 (Scalar.g-room 𝓤 H A W E G15 4
+              Laws.mir (Local.room-whole 𝓤 H A W (Declared.row AcceptPlan.the-type) Laws.mir Path.refl)) d4
+
           d6 : Typed.Typed 𝓤 H A 𝓣 E G14 b6 Δ0 at6
-          d6 = Typed.g-pre 𝓤 H A W 𝓣 E G14 G15 b6 Δ0 (Typed.pass T14 T15 s13) at5 (Scalar.g-room 𝓤 H A W E G14 3 Laws'.mir (Local.room-whole 𝓤 H A W
-              (Declared.row Places.the-type) Laws'.mir Path.refl)) d5
+          d6 = Typed.g-pre 𝓤 H A W 𝓣 E G14 G15 b6 Δ0 (Typed.pass T14 T15 s13) at5 (Scalar.g-room 𝓤 H A W E G14 3
+              Laws'.mir (Local.room-whole 𝓤 H A W (Declared.row Places.the-type) Laws'.mir Path.refl)) d5
+
           d7 : Typed.Typed 𝓤 H A 𝓣 E G13 b7 Δ0 at7
-          d7 = Typed.s-seq 𝓤 H A W 𝓣 E G13 G14 b5 b6 Δ0 (Typed.both s12) at6 (Plain.t-call-plain 𝓤 H A W 𝓣 1 ps·1 r·1 (claims· .2) (claims· .3)
-              "hnsr_circuit::handle_accept::put_circuit" (known .1) E (λ pos β. β) G13 (record { pos = 11; ty = Syntax.tyRef Syntax.erased Syntax.mut
-              RelayCircuit.to; ref = λ x. x; }, (record { pos = 3; st = List.[]; d = 0; at = λ x. x }, (Bool.bFld 4 ((Syntax.field 0) ∷ List.[]) 0 λ
-              x. AcceptPlan.struct .as-values x .0, (Num.vFld 4 ((Syntax.field 2) ∷ List.[]) 16 λ x. AcceptPlan.struct .as-values x .1 .1 .0, (record
-              { pos = 6; st = List.[]; d = 0; at = λ x. x }, tt),),),),) 0 (3 ∷ List.[]) (Call.sub-id 𝓤 H A W (G13 .slots)) (Reads'.as-is 𝓤 H A
-              (Mut.mslice RelayCircuit.row ref1 3), Mut.reads-mslice 𝓤 H A W RelayCircuit.row ref1 3, Path.refl, ((Yields.yields-copy 𝓤 H A W (λ ρ.
-              Unit) (Declared.row Places.the-type) Path.refl (Copies.cStruct Places.the-type Laws'.the-laws Laws'.the-copy .copy 𝓤 H A W) (Rows.whole
-              (Declared.row Places.the-type)) (λ x. x) (λ x. x) (λ ρ told. Local.mem-whole 𝓤 H A W (Declared.row Places.the-type) ρ) λ ρ told.
-              Local.whole-mem 𝓤 H A W (Declared.row Places.the-type) ρ, Path.refl,), ((Reads.reads-field 𝓤 H A W AcceptPlan.the-type Laws.the-laws 0
-              Syntax.tyBool 0 Path.refl, Path.refl,), ((Reads.reads-field 𝓤 H A W AcceptPlan.the-type Laws.the-laws 2 (Syntax.tyInt Syntax.w64) 16
-              Path.refl, Path.refl,), ((Yields.yields-copy 𝓤 H A W (λ ρ. Unit) RelayCircuit.row Path.refl (RelayCircuit.copies .copy 𝓤 H A W)
-              RelayCircuit.held (λ x. x) (λ x. x) (λ ρ told. Local.mem-whole 𝓤 H A W RelayCircuit.row ρ) λ ρ told. Local.whole-mem 𝓤 H A W
-              RelayCircuit.row ρ, Path.refl,), tt,),),),),) (Reads'.room-gone 𝓤 H A (Syntax.tyInt Syntax.w64)) (tt, tt) Path.refl) d6
+          d7 = Typed.s-seq 𝓤 H A W 𝓣 E G13 G14 b5 b6 Δ0 (Typed.both s12) at6 (Plain.t-call-plain 𝓤 H A W 𝓣 1 ps·1 r·1
+              (claims· .2) (claims· .3) "hnsr_circuit::handle_accept::put_circuit" (known .1) E (λ pos β. β) G13 (
+                record { pos = 11; ty = ref1; ref = λ x. x },
+                (
+                  record { pos = 3; st = List.[]; d = 0; at = λ x. x },
+                  (
+                    Bool.bFld 4 ((Syntax.field 0) ∷ List.[]) 0 λ x. AcceptPlan.struct .as-values x .0,
+                    (
+                      Num.vFld 4 ((Syntax.field 2) ∷ List.[]) 16 λ x. AcceptPlan.struct .as-values x .1 .1 .0,
+                      (record { pos = 6; st = List.[]; d = 0; at = λ x. x }, tt),
+                    ),
+                  ),
+                ),
+              ) 0 (3 ∷ List.[]) (Call.sub-id 𝓤 H A W (G13 .slots)) (
+                Reads'.as-is 𝓤 H A (Mut.mslice RelayCircuit.row ref1 3),
+                Mut.reads-mslice 𝓤 H A W RelayCircuit.row ref1 3,
+                Path.refl,
+                (
+                  (
+                    Yields.yields-copy 𝓤 H A W (λ ρ. Unit) (Declared.row Places.the-type) Path.refl (Copies.cStruct
+                        Places.the-type Laws'.the-laws Laws'.the-copy .copy 𝓤 H A W)
+                        (Rows.whole (Declared.row Places.the-type)) (λ x. x) (λ x. x) (λ ρ told. Local.mem-whole 𝓤 H A
+                        W (Declared.row Places.the-type) ρ) λ ρ told. Local.whole-mem 𝓤 H A W
+                        (Declared.row Places.the-type) ρ,
+                    Path.refl,
+                  ),
+                  (
+                    (
+                      Reads.reads-field 𝓤 H A W AcceptPlan.the-type Laws.the-laws 0 Syntax.tyBool 0 Path.refl,
+                      Path.refl,
+                    ),
+                    (
+                      (
+                        Reads.reads-field 𝓤 H A W AcceptPlan.the-type Laws.the-laws 2 (Syntax.tyInt Syntax.w64) 16
+                            Path.refl,
+                        Path.refl,
+                      ),
+                      (
+                        (
+                          Yields.yields-copy 𝓤 H A W (λ ρ. Unit) RelayCircuit.row Path.refl
+                              (RelayCircuit.copies .copy 𝓤 H A W) RelayCircuit.held (λ x. x) (λ x. x)
+                              (λ ρ told. Local.mem-whole 𝓤 H A W RelayCircuit.row ρ) λ ρ told. Local.whole-mem 𝓤 H A W
+                              RelayCircuit.row ρ,
+                          Path.refl,
+                        ),
+                        tt,
+                      ),
+                    ),
+                  ),
+                ),
+              ) (Reads'.room-gone 𝓤 H A (Syntax.tyInt Syntax.w64)) (tt, tt) Path.refl) d6
+
           d8 : Typed.Typed 𝓤 H A 𝓣 E G12 b8 Δ0 at8
-          d8 = Typed.s-seq 𝓤 H A W 𝓣 E G12 G13 b4 b7 Δ0 (Typed.ask s11) at7 (Relend.t-sl-aggregate 𝓤 H A W E RelayCircuit.row 𝓣 (Relend.asMut
-              RelayCircuit.row) G12 10 11 3 ref1 ref1 (λ x. x) (Scalar.oFld 2 ((Syntax.field 1) ∷ List.[]) (Syntax.tyInt Syntax.w64) 8 λ v.
-              Shared.lenV (v .0)) (Reads'.as-is 𝓤 H A (Relend.msptr RelayCircuit.row ref1 3)) (Reads'.room-gone 𝓤 H A (Syntax.tyStruct (38 ∷ 91 ∷ 93 ∷
-              List.[]) (Syntax.tcons ref1 (Syntax.tcons (Syntax.tyInt Syntax.w64) Syntax.tnil)))) (Relend.reads-owed-len 𝓤 H A W RelayCircuit.row ref3
-              1 3 life1 8 Path.refl, Path.refl,) Path.refl Path.refl λ b o k. tt) d7
+          d8 = Typed.s-seq 𝓤 H A W 𝓣 E G12 G13 b4 b7 Δ0 (Typed.ask s11) at7 (Relend.t-sl-aggregate 𝓤 H A W E
+              RelayCircuit.row 𝓣 (Relend.asMut RelayCircuit.row) G12 10 11 3 ref1 ref1 (λ x. x) (Scalar.oFld 2
+              ((Syntax.field 1) ∷ List.[]) (Syntax.tyInt Syntax.w64) 8 λ v. Shared.lenV (v .0))
+              (Reads'.as-is 𝓤 H A (Relend.msptr RelayCircuit.row ref1 3)) (Reads'.room-gone 𝓤 H A slice1) (
+                Relend.reads-owed-len 𝓤 H A W RelayCircuit.row ref3 1 3 life1 8 Path.refl,
+                Path.refl,
+              ) Path.refl Path.refl λ b o k. tt) d7
+
           d9 : Typed.Typed 𝓤 H A 𝓣 E G11 b9 Δ0 at9
-          d9 = Typed.s-seq 𝓤 H A W 𝓣 E G11 G12 b3 b8 Δ0 (Typed.give s10) at8 (Relend.t-sl-relend 𝓤 H A W E RelayCircuit.row 𝓣 G11 2 10 1 3 ref3 ref1
-              life1 0 (λ x. x) (Reads'.as-is 𝓤 H A (Mut.mslice RelayCircuit.row ref3 1)) (Reads'.room-gone 𝓤 H A ref1) Path.refl tt Path.refl
-              Path.refl Path.refl λ b o. tt) d8
+          d9 = Typed.s-seq 𝓤 H A W 𝓣 E G11 G12 b3 b8 Δ0 (Typed.give s10) at8 (Relend.t-sl-relend 𝓤 H A W E
+              RelayCircuit.row 𝓣 G11 2 10 1 3 ref3 ref1 life1 0 (λ x. x)
+              (Reads'.as-is 𝓤 H A (Mut.mslice RelayCircuit.row ref3 1)) (Reads'.room-gone 𝓤 H A ref1) Path.refl tt
+              Path.refl Path.refl Path.refl λ b o. tt) d8
+
           d10 : Typed.Typed 𝓤 H A 𝓣 E G10 b9 Δ0 at10
-          d10 = Typed.g-pre 𝓤 H A W 𝓣 E G10 G11 b9 Δ0 (λ Ψ. Ψ) at9 (Lifetime.g-begin 𝓤 H A W E G10 3 (tt, (tt, (tt, (tt, (tt, (tt, (tt, (tt, (tt, (tt,
-              (tt, (tt, tt))))))))))),)) d9
+          d10 = Typed.g-pre 𝓤 H A W 𝓣 E G10 G11 b9 Δ0 (λ Ψ. Ψ) at9 (Lifetime.g-begin 𝓤 H A W E G10 3 (
+            tt,
+            (tt, (tt, (tt, (tt, (tt, (tt, (tt, (tt, (tt, (tt, (tt, tt))))))))))),
+          )) d9
+
           d11 : Typed.Typed 𝓤 H A 𝓣 E G9 b9 Δ0 at11
-          d11 = Typed.g-pre 𝓤 H A W 𝓣 E G9 G10 b9 Δ0 (λ Ψ. Ψ) at10 (Lifetime.g-forget 𝓤 H A W E G9 2 Row.dead Path.refl) d10
+          d11 = Typed.g-pre 𝓤 H A W 𝓣 E G9 G10 b9 Δ0 (λ Ψ. Ψ) at10
+              (Lifetime.g-forget 𝓤 H A W E G9 2 Row.dead Path.refl) d10
+
           d12 : Typed.Typed 𝓤 H A 𝓣 E G8 b9 Δ0 at12
-          d12 = Typed.g-pre 𝓤 H A W 𝓣 E G8 G9 b9 Δ0 (Typed.both s7) at11 (Relend.g-back-sl 𝓤 H A W E RelayPending.row G8 9 1 0 2 ref2 ref0 life0 (λ x.
-              x) (λ x. x) (Reads'.as-is 𝓤 H A (Mut.msleft RelayPending.row ref0)) (Reads'.as-is 𝓤 H A (Relend.mslice-owed RelayPending.row ref2 0 2
-              life0)) Path.refl Path.refl) d11
+          d12 = Typed.g-pre 𝓤 H A W 𝓣 E G8 G9 b9 Δ0 (Typed.both s7) at11 (Relend.g-back-sl 𝓤 H A W E RelayPending.row
+              G8 9 1 0 2 ref2 ref0 life0 (λ x. x) (λ x. x) (Reads'.as-is 𝓤 H A (Mut.msleft RelayPending.row ref0)) (Reads'.as-is
+              𝓤 H A (Relend.mslice-owed RelayPending.row ref2 0 2 life0)) Path.refl Path.refl) d11
+
           d13 : Typed.Typed 𝓤 H A 𝓣 E G7 b9 Δ0 at13
           d13 = Typed.g-pre 𝓤 H A W 𝓣 E G7 G8 b9 Δ0 (λ Ψ. Ψ) at12 (Lifetime.g-end 𝓤 H A W E G7 2 Path.refl) d12
+
           d14 : Typed.Typed 𝓤 H A 𝓣 E G6 b9 Δ0 at14
-          d14 = Typed.g-pre 𝓤 H A W 𝓣 E G6 G7 b9 Δ0 (Typed.pass T6 T7 s5) at13 (Scalar.g-room 𝓤 H A W E G6 7 Syntax.tyUnit (Scalar.room-sc 𝓤 H A W
-              Row.sUnit)) d13
+          d14 = Typed.g-pre 𝓤 H A W 𝓣 E G6 G7 b9 Δ0 (Typed.pass T6 T7 s5) at13 (Scalar.g-room 𝓤 H A W E G6 7
+              Syntax.tyUnit (Scalar.room-sc 𝓤 H A W Row.sUnit)) d13
+
           d15 : Typed.Typed 𝓤 H A 𝓣 E G5 b9 Δ0 at15
-          d15 = Typed.g-pre 𝓤 H A W 𝓣 E G5 G6 b9 Δ0 (Typed.pass T5 T6 s4) at14 (Scalar.g-room 𝓤 H A W E G5 5 RelayPending.ty (Local.room-whole 𝓤 H A W
-              RelayPending.row RelayPending.ty Path.refl)) d14
+          d15 = Typed.g-pre 𝓤 H A W 𝓣 E G5 G6 b9 Δ0 (Typed.pass T5 T6 s4) at14 (Scalar.g-room 𝓤 H A W E G5 5
+              RelayPending.ty (Local.room-whole 𝓤 H A W RelayPending.row RelayPending.ty Path.refl)) d14
+
           d16 : Typed.Typed 𝓤 H A 𝓣 E G4 b10 Δ0 at16
-          d16 = Typed.s-seq 𝓤 H A W 𝓣 E G4 G5 b2 b9 Δ0 (Typed.both s3) at15 (Plain.t-call-plain 𝓤 H A W 𝓣 1 ps·0 r·0 (claims· .0) (claims· .1)
-              "hnsr_circuit::tables::pending::set_pending" (known .0) E (λ pos β. β) G4 (record { pos = 9; ty = Syntax.tyRef Syntax.erased Syntax.mut
-              RelayPending.to; ref = λ x. x; }, (Bool.bFld 4 ((Syntax.field 0) ∷ List.[]) 0 λ x. AcceptPlan.struct .as-values x .0, (Num.vFld 4
-              ((Syntax.field 1) ∷ List.[]) 8 λ x. AcceptPlan.struct .as-values x .1 .0, (record { pos = 5; st = List.[]; d = 0; at = λ x. x },
-              tt),),),) 7 (2 ∷ List.[]) (Call.sub-id 𝓤 H A W (G4 .slots)) (Reads'.as-is 𝓤 H A (Mut.mslice RelayPending.row ref0 2), Mut.reads-mslice 𝓤
-              H A W RelayPending.row ref0 2, Path.refl, ((Reads.reads-field 𝓤 H A W AcceptPlan.the-type Laws.the-laws 0 Syntax.tyBool 0 Path.refl,
-              Path.refl,), ((Reads.reads-field 𝓤 H A W AcceptPlan.the-type Laws.the-laws 1 (Syntax.tyInt Syntax.w64) 8 Path.refl, Path.refl,),
-              ((Yields.yields-copy 𝓤 H A W (λ ρ. Unit) RelayPending.row Path.refl (RelayPending.copies .copy 𝓤 H A W) RelayPending.held (λ x. x) (λ x.
-              x) (λ ρ told. Local.mem-whole 𝓤 H A W RelayPending.row ρ) λ ρ told. Local.whole-mem 𝓤 H A W RelayPending.row ρ, Path.refl,), tt,),),),)
-              (Reads'.room-gone 𝓤 H A Syntax.tyUnit) (tt, tt) Path.refl) d15
+          d16 = Typed.s-seq 𝓤 H A W 𝓣 E G4 G5 b2 b9 Δ0 (Typed.both s3) at15 (Plain.t-call-plain 𝓤 H A W 𝓣 1 ps·0 r·0
+              (claims· .0) (claims· .1) "hnsr_circuit::tables::pending::set_pending" (known .0) E (λ pos β. β) G4 (
+                record { pos = 9; ty = ref0; ref = λ x. x },
+                (
+                  Bool.bFld 4 ((Syntax.field 0) ∷ List.[]) 0 λ x. AcceptPlan.struct .as-values x .0,
+                  (
+                    Num.vFld 4 ((Syntax.field 1) ∷ List.[]) 8 λ x. AcceptPlan.struct .as-values x .1 .0,
+                    (record { pos = 5; st = List.[]; d = 0; at = λ x. x }, tt),
+                  ),
+                ),
+              ) 7 (2 ∷ List.[]) (Call.sub-id 𝓤 H A W (G4 .slots)) (
+                Reads'.as-is 𝓤 H A (Mut.mslice RelayPending.row ref0 2),
+                Mut.reads-mslice 𝓤 H A W RelayPending.row ref0 2,
+                Path.refl,
+                (
+                  (Reads.reads-field 𝓤 H A W AcceptPlan.the-type Laws.the-laws 0 Syntax.tyBool 0 Path.refl, Path.refl),
+                  (
+                    (
+                      Reads.reads-field 𝓤 H A W AcceptPlan.the-type Laws.the-laws 1 (Syntax.tyInt Syntax.w64) 8
+                          Path.refl,
+                      Path.refl,
+                    ),
+                    (
+                      (
+                        Yields.yields-copy 𝓤 H A W (λ ρ. Unit) RelayPending.row Path.refl
+                            (RelayPending.copies .copy 𝓤 H A W) RelayPending.held (λ x. x) (λ x. x)
+                            (λ ρ told. Local.mem-whole 𝓤 H A W RelayPending.row ρ) λ ρ told. Local.whole-mem 𝓤 H A W
+                            RelayPending.row ρ,
+                        Path.refl,
+                      ),
+                      tt,
+                    ),
+                  ),
+                ),
+              ) (Reads'.room-gone 𝓤 H A Syntax.tyUnit) (tt, tt) Path.refl) d15
+
           d17 : Typed.Typed 𝓤 H A 𝓣 E G3 b11 Δ0 at17
-          d17 = Typed.s-seq 𝓤 H A W 𝓣 E G3 G4 b1 b10 Δ0 (Typed.ask s2) at16 (Relend.t-sl-aggregate 𝓤 H A W E RelayPending.row 𝓣 (Relend.asMut
-              RelayPending.row) G3 8 9 2 ref0 ref0 (λ x. x) (Scalar.oFld 1 ((Syntax.field 1) ∷ List.[]) (Syntax.tyInt Syntax.w64) 8 λ v. Shared.lenV
-              (v .0)) (Reads'.as-is 𝓤 H A (Relend.msptr RelayPending.row ref0 2)) (Reads'.room-gone 𝓤 H A (Syntax.tyStruct (38 ∷ 91 ∷ 93 ∷ List.[])
-              (Syntax.tcons ref0 (Syntax.tcons (Syntax.tyInt Syntax.w64) Syntax.tnil)))) (Relend.reads-owed-len 𝓤 H A W RelayPending.row ref2 0 2
-              life0 8 Path.refl, Path.refl,) Path.refl Path.refl λ b o k. tt) d16
+          d17 = Typed.s-seq 𝓤 H A W 𝓣 E G3 G4 b1 b10 Δ0 (Typed.ask s2) at16 (Relend.t-sl-aggregate 𝓤 H A W E
+              RelayPending.row 𝓣 (Relend.asMut RelayPending.row) G3 8 9 2 ref0 ref0 (λ x. x) (Scalar.oFld 1
+              ((Syntax.field 1) ∷ List.[]) (Syntax.tyInt Syntax.w64) 8 λ v. Shared.lenV (v .0))
+              (Reads'.as-is 𝓤 H A (Relend.msptr RelayPending.row ref0 2)) (Reads'.room-gone 𝓤 H A slice0) (
+                Relend.reads-owed-len 𝓤 H A W RelayPending.row ref2 0 2 life0 8 Path.refl,
+                Path.refl,
+              ) Path.refl Path.refl λ b o k. tt) d16
+
           d18 : Typed.Typed 𝓤 H A 𝓣 E G2 b12 Δ0 at18
-          d18 = Typed.s-seq 𝓤 H A W 𝓣 E G2 G3 b0 b11 Δ0 (Typed.give s1) at17 (Relend.t-sl-relend 𝓤 H A W E RelayPending.row 𝓣 G2 1 8 0 2 ref2 ref0
-              life0 0 (λ x. x) (Reads'.as-is 𝓤 H A (Mut.mslice RelayPending.row ref2 0)) (Reads'.room-gone 𝓤 H A ref0) Path.refl tt Path.refl
-              Path.refl Path.refl λ b o. tt) d17
+          d18 = Typed.s-seq 𝓤 H A W 𝓣 E G2 G3 b0 b11 Δ0 (Typed.give s1) at17 (Relend.t-sl-relend 𝓤 H A W E
+              RelayPending.row 𝓣 G2 1 8 0 2 ref2 ref0 life0 0 (λ x. x)
+              (Reads'.as-is 𝓤 H A (Mut.mslice RelayPending.row ref2 0)) (Reads'.room-gone 𝓤 H A ref0) Path.refl tt
+              Path.refl Path.refl Path.refl λ b o. tt) d17
+
           d19 : Typed.Typed 𝓤 H A 𝓣 E G0 b12 Δ0 at19
-          d19 = Typed.g-pre 𝓤 H A W 𝓣 E G0 G2 b12 Δ0 (λ Ψ. Ψ) at18 (Lifetime.g-begin 𝓤 H A W E G0 2 (tt, (tt, (tt, (tt, (tt, (tt, (tt, (tt, (tt, (tt,
-              (tt, (tt, tt))))))))))),)) d18
+          d19 = Typed.g-pre 𝓤 H A W 𝓣 E G0 G2 b12 Δ0 (λ Ψ. Ψ) at18 (Lifetime.g-begin 𝓤 H A W E G0 2 (
+            tt,
+            (tt, (tt, (tt, (tt, (tt, (tt, (tt, (tt, (tt, (tt, (tt, tt))))))))))),
+          )) d18
+
           pub typed : Typed.Typed 𝓤 H A 𝓣 E (Function.Γin 2 ps r xs m κs qs) b12 (Function.Δret 2 ps r xs m κs qs) Φ
           typed = d19
+
       module _ (κs : Lifetimes.Lfts 2) where
         pub record Args : Type 0 where
-          pub pending : Kinds.Den { n = 2 } κs (MutSlice.pMutS RelayPending.row 0 tt)
-          pub circuits : Kinds.Den { n = 2 } κs (MutSlice.pMutS RelayCircuit.row 1 tt)
-          pub places : Kinds.Den { n = 2 } κs (Value.pVal record { ty = Declared.row Places.the-type; one = Path.refl; val = Laws''.val
-              Places.the-type Laws'.the-laws; tells = Laws''.tells Places.the-type Laws'.the-laws; still = Laws''.still Places.the-type Laws'.the-copy
-              Exit.yes; row = Rows.whole (Declared.row Places.the-type); rd = λ x. x; mk = λ x. x; } λ M 𝓤 H A W. record { copies = Laws''.copy
-              Places.the-type Laws'.the-copy 𝓤 H A W; lawful = Laws''.lawful Places.the-type Laws'.the-laws 𝓤 H A W; makes = Laws''.makes
-              Places.the-type Laws'.the-plain 𝓤 H A; in-mem = Local.mem-whole 𝓤 H A W (Declared.row Places.the-type); of-mem = Local.whole-mem 𝓤 H A W
-              (Declared.row Places.the-type); })
-          pub plan : Kinds.Den { n = 2 } κs (Value.pVal record { ty = Declared.row AcceptPlan.the-type; one = Path.refl; val = Laws''.val
-              AcceptPlan.the-type Laws.the-laws; tells = Laws''.tells AcceptPlan.the-type Laws.the-laws; still = Laws''.still AcceptPlan.the-type
-              Laws.the-copy Exit.yes; row = Rows.whole (Declared.row AcceptPlan.the-type); rd = λ x. x; mk = λ x. x; } λ M 𝓤 H A W. record { copies =
-              Laws''.copy AcceptPlan.the-type Laws.the-copy 𝓤 H A W; lawful = Laws''.lawful AcceptPlan.the-type Laws.the-laws 𝓤 H A W; makes =
-              Laws''.makes AcceptPlan.the-type Laws.the-plain 𝓤 H A; in-mem = Local.mem-whole 𝓤 H A W (Declared.row AcceptPlan.the-type); of-mem =
-              Local.whole-mem 𝓤 H A W (Declared.row AcceptPlan.the-type); })
-          pub unmarked : Kinds.Den { n = 2 } κs RelayPending.param
-          pub circuit : Kinds.Den { n = 2 } κs RelayCircuit.param
+          pub pending : Kinds.Den {n = 2} κs (MutSlice.pMutS RelayPending.row 0 tt)
+          pub circuits : Kinds.Den {n = 2} κs (MutSlice.pMutS RelayCircuit.row 1 tt)
+          pub places : Kinds.Den {n = 2} κs (StructRow.param Places.the-type Laws'.the-laws Laws'.the-copy
+              Laws'.the-plain)
+          pub plan : Kinds.Den {n = 2} κs (StructRow.param AcceptPlan.the-type Laws.the-laws Laws.the-copy
+              Laws.the-plain)
+          pub unmarked : Kinds.Den {n = 2} κs RelayPending.param
+          pub circuit : Kinds.Den {n = 2} κs RelayCircuit.param
+
         abbrev pub dens : (a : Args) → Kinds.Dens κs ps
-        dens = λ a. (a .pending, (a .circuits, (a .places, (a .plan, (a .unmarked, (a .circuit, tt))))),)
+        dens = λ a. (a .pending, (a .circuits, (a .places, (a .plan, (a .unmarked, (a .circuit, tt))))))
+
       abbrev pub m0 : (κs : Lifetimes.Lfts 2) → (args : Args κs) → Typed.Mo T0
       m0 = λ κs args. (tt, Enter.partsP κs 1 ps xs (dens κs args))
+
       abbrev W0 : (κs : Lifetimes.Lfts 2) → (args : Args κs) → Typed.Want O0
-      W0 = λ κs args. (λ u. ⊥, tt, λ u. Enter.Fixs κs 1 ps xs (dens κs args) (u .1) × Post· κs (dens κs args) (Function.resV r κs (u .0))
-          (Clauses.atExit (Kinds.endedOf 2 ps r) κs (dens κs args) (Enter.lastsP κs 1 ps xs (dens κs args) (u .1))),)
+      W0 = λ κs args. (
+        λ u. ⊥,
+        tt,
+        λ u. Enter.Fixs κs 1 ps xs (dens κs args) (u .1) × Post· κs (dens κs args) (Function.resV r κs (u .0)) (Clauses.atExit
+            (Kinds.endedOf 2 ps r) κs (dens κs args) (Enter.lastsP κs 1 ps xs (dens κs args) (u .1))),
+      )
+
       pub record Start : Type 0 where
         pub κs : Lifetimes.Lfts 2
         pub args : Args κs
         pub good : Kinds.GoodsP κs ps (dens κs args)
         pub pre : Pre· κs (dens κs args)
+
       abbrev pub m1 : (before : Start) → (given : s1 .gives (m0 (before .κs) (before .args))) → Typed.Mo T3
       m1 = λ before given. s1 .next (m0 (before .κs) (before .args)) given
+
       abbrev pub m2 : (before : Start) → (given : s1 .gives (m0 (before .κs) (before .args))) → Typed.Mo T4
       m2 = λ before given. s2 .next (m1 before given)
+
       module _ (before· : Start) where
         pub record After-set-pending-arg·own : Type 0 where
           pub given : s1 .gives (m0 (before· .κs) (before· .args))
+
       pub record After-set-pending-arg : Type 0 where
         pub before : Start
         pub set-pending-arg : After-set-pending-arg·own before
+
       abbrev pub Need-set-pending-requires : Type 0
       Need-set-pending-requires = (c : After-set-pending-arg) → s3 .asks (m2 (c .before) (c .set-pending-arg .given))
-      abbrev pub m3 : (before : After-set-pending-arg) → (given : s3 .gives (m2 (before .before) (before .set-pending-arg .given))) → Typed.Mo T5
+
+      abbrev pub m3 : (before : After-set-pending-arg) → (given : s3 .gives
+          (m2 (before .before) (before .set-pending-arg .given))) → Typed.Mo T5
       m3 = λ before given. s3 .next (m2 (before .before) (before .set-pending-arg .given)) given
+
       module _ (before· : After-set-pending-arg) where
         abbrev pub After-set-pending·own : Type 0
-        After-set-pending·own = Called.Called ps·0 r·0 (claims· .1) T4 (record { pos = 9; ty = Syntax.tyRef Syntax.erased Syntax.mut RelayPending.to;
-            ref = λ x. x; }, (Bool.bFld 4 ((Syntax.field 0) ∷ List.[]) 0 λ x. AcceptPlan.struct .as-values x .0, (Num.vFld 4 ((Syntax.field 1) ∷
-            List.[]) 8 λ x. AcceptPlan.struct .as-values x .1 .0, (record { pos = 5; st = List.[]; d = 0; at = λ x. x }, tt),),),) (m2 (before·
-            .before) (before· .set-pending-arg .given))
+        After-set-pending·own = Called.Called ps·0 r·0 (claims· .1) T4 args3
+            (m2 (before· .before) (before· .set-pending-arg .given))
+
       pub record After-set-pending : Type 0 where
         pub before : After-set-pending-arg
         pub set-pending : After-set-pending·own before
-      abbrev pub After-set-pending·gave : (c : After-set-pending) → s3 .gives (m2 (c .before .before) (c .before .set-pending-arg .given))
-      After-set-pending·gave = λ c. Called.given ps·0 r·0 (claims· .1) T4 (record { pos = 9; ty = Syntax.tyRef Syntax.erased Syntax.mut
-          RelayPending.to; ref = λ x. x; }, (Bool.bFld 4 ((Syntax.field 0) ∷ List.[]) 0 λ x. AcceptPlan.struct .as-values x .0, (Num.vFld 4
-          ((Syntax.field 1) ∷ List.[]) 8 λ x. AcceptPlan.struct .as-values x .1 .0, (record { pos = 5; st = List.[]; d = 0; at = λ x. x }, tt),),),)
-          (m2 (c .before .before) (c .before .set-pending-arg .given)) (c .set-pending)
-      abbrev pub m4 : (before : After-set-pending-arg) → (given : s3 .gives (m2 (before .before) (before .set-pending-arg .given))) → Typed.Mo T6
+
+      abbrev pub After-set-pending·gave : (c : After-set-pending) → s3 .gives (m2 (c .before .before)
+          (c .before .set-pending-arg .given))
+      After-set-pending·gave = λ c. Called.given ps·0 r·0 (claims· .1) T4 args3 (m2 (c .before .before)
+          (c .before .set-pending-arg .given)) (c .set-pending)
+
+      abbrev pub m4 : (before : After-set-pending-arg) → (given : s3 .gives
+          (m2 (before .before) (before .set-pending-arg .given))) → Typed.Mo T6
       m4 = λ before given. s4 (m3 before given)
-      abbrev pub m5 : (before : After-set-pending-arg) → (given : s3 .gives (m2 (before .before) (before .set-pending-arg .given))) → Typed.Mo T7
+
+      abbrev pub m5 : (before : After-set-pending-arg) → (given : s3 .gives
+          (m2 (before .before) (before .set-pending-arg .given))) → Typed.Mo T7
       m5 = λ before given. s5 (m4 before given)
-      abbrev pub m6 : (before : After-set-pending) → (given : s7 .gives (m5 (before .before) (After-set-pending·gave before))) → Typed.Mo T9
+
+      abbrev pub m6 : (before : After-set-pending) → (given : s7 .gives
+          (m5 (before .before) (After-set-pending·gave before))) → Typed.Mo T9
       m6 = λ before given. s7 .next (m5 (before .before) (After-set-pending·gave before)) given
+
       module _ (before· : After-set-pending) where
         pub record After-pending·own : Type 0 where
           pub given : s7 .gives (m5 (before· .before) (After-set-pending·gave before·))
+
       pub record After-pending : Type 0 where
         pub before : After-set-pending
         pub pending : After-pending·own before
-      abbrev pub m7 : (before : After-pending) → (given : s10 .gives (m6 (before .before) (before .pending .given))) → Typed.Mo T12
+
+      abbrev pub m7 : (before : After-pending) → (given : s10 .gives (m6 (before .before) (before .pending .given))) →
+          Typed.Mo T12
       m7 = λ before given. s10 .next (m6 (before .before) (before .pending .given)) given
-      abbrev pub m8 : (before : After-pending) → (given : s10 .gives (m6 (before .before) (before .pending .given))) → Typed.Mo T13
+
+      abbrev pub m8 : (before : After-pending) → (given : s10 .gives (m6 (before .before) (before .pending .given))) →
+          Typed.Mo T13
       m8 = λ before given. s11 .next (m7 before given)
+
       module _ (before· : After-pending) where
         pub record After-put-circuit-arg·own : Type 0 where
           pub given : s10 .gives (m6 (before· .before) (before· .pending .given))
+
       pub record After-put-circuit-arg : Type 0 where
         pub before : After-pending
         pub put-circuit-arg : After-put-circuit-arg·own before
+
       abbrev pub Need-put-circuit-requires : Type 0
       Need-put-circuit-requires = (c : After-put-circuit-arg) → s12 .asks (m8 (c .before) (c .put-circuit-arg .given))
-      abbrev pub m9 : (before : After-put-circuit-arg) → (given : s12 .gives (m8 (before .before) (before .put-circuit-arg .given))) → Typed.Mo T14
+
+      abbrev pub m9 : (before : After-put-circuit-arg) → (given : s12 .gives
+          (m8 (before .before) (before .put-circuit-arg .given))) → Typed.Mo T14
       m9 = λ before given. s12 .next (m8 (before .before) (before .put-circuit-arg .given)) given
+
       module _ (before· : After-put-circuit-arg) where
         abbrev pub After-put-circuit·own : Type 0
-        After-put-circuit·own = Called.Called ps·1 r·1 (claims· .3) T13 (record { pos = 11; ty = Syntax.tyRef Syntax.erased Syntax.mut
-            RelayCircuit.to; ref = λ x. x; }, (record { pos = 3; st = List.[]; d = 0; at = λ x. x }, (Bool.bFld 4 ((Syntax.field 0) ∷ List.[]) 0 λ x.
-            AcceptPlan.struct .as-values x .0, (Num.vFld 4 ((Syntax.field 2) ∷ List.[]) 16 λ x. AcceptPlan.struct .as-values x .1 .1 .0, (record { pos
-            = 6; st = List.[]; d = 0; at = λ x. x }, tt),),),),) (m8 (before· .before) (before· .put-circuit-arg .given))
+        After-put-circuit·own = Called.Called ps·1 r·1 (claims· .3) T13 args12
+            (m8 (before· .before) (before· .put-circuit-arg .given))
+
       pub record After-put-circuit : Type 0 where
         pub before : After-put-circuit-arg
         pub put-circuit : After-put-circuit·own before
-      abbrev pub After-put-circuit·gave : (c : After-put-circuit) → s12 .gives (m8 (c .before .before) (c .before .put-circuit-arg .given))
-      After-put-circuit·gave = λ c. Called.given ps·1 r·1 (claims· .3) T13 (record { pos = 11; ty = Syntax.tyRef Syntax.erased Syntax.mut
-          RelayCircuit.to; ref = λ x. x; }, (record { pos = 3; st = List.[]; d = 0; at = λ x. x }, (Bool.bFld 4 ((Syntax.field 0) ∷ List.[]) 0 λ x.
-          AcceptPlan.struct .as-values x .0, (Num.vFld 4 ((Syntax.field 2) ∷ List.[]) 16 λ x. AcceptPlan.struct .as-values x .1 .1 .0, (record { pos =
-          6; st = List.[]; d = 0; at = λ x. x }, tt),),),),) (m8 (c .before .before) (c .before .put-circuit-arg .given)) (c .put-circuit)
-      abbrev pub m10 : (before : After-put-circuit-arg) → (given : s12 .gives (m8 (before .before) (before .put-circuit-arg .given))) → Typed.Mo T15
+
+      abbrev pub After-put-circuit·gave : (c : After-put-circuit) → s12 .gives (m8 (c .before .before)
+          (c .before .put-circuit-arg .given))
+      After-put-circuit·gave = λ c. Called.given ps·1 r·1 (claims· .3) T13 args12 (m8 (c .before .before)
+          (c .before .put-circuit-arg .given)) (c .put-circuit)
+
+      abbrev pub m10 : (before : After-put-circuit-arg) → (given : s12 .gives
+          (m8 (before .before) (before .put-circuit-arg .given))) → Typed.Mo T15
       m10 = λ before given. s13 (m9 before given)
-      abbrev pub m11 : (before : After-put-circuit-arg) → (given : s12 .gives (m8 (before .before) (before .put-circuit-arg .given))) → Typed.Mo T16
+
+      abbrev pub m11 : (before : After-put-circuit-arg) → (given : s12 .gives
+          (m8 (before .before) (before .put-circuit-arg .given))) → Typed.Mo T16
       m11 = λ before given. s14 (m10 before given)
-      abbrev pub m12 : (before : After-put-circuit-arg) → (given : s12 .gives (m8 (before .before) (before .put-circuit-arg .given))) → Typed.Mo T17
+
+      abbrev pub m12 : (before : After-put-circuit-arg) → (given : s12 .gives
+          (m8 (before .before) (before .put-circuit-arg .given))) → Typed.Mo T17
       m12 = λ before given. s15 (m11 before given)
-      abbrev pub m13 : (before : After-put-circuit) → (given : s17 .gives (m12 (before .before) (After-put-circuit·gave before))) → Typed.Mo T19
+
+      abbrev pub m13 : (before : After-put-circuit) → (given : s17 .gives
+          (m12 (before .before) (After-put-circuit·gave before))) → Typed.Mo T19
       m13 = λ before given. s17 .next (m12 (before .before) (After-put-circuit·gave before)) given
+
       module _ (before· : After-put-circuit) where
         pub record After-circuits·own : Type 0 where
           pub given : s17 .gives (m12 (before· .before) (After-put-circuit·gave before·))
+
       pub record After-circuits : Type 0 where
         pub before : After-put-circuit
         pub circuits : After-circuits·own before
+
       abbrev pub Need-same-length : Type 0
-      Need-same-length = (c : After-circuits) → MutSlice.SameLen (Row.get 1 (T19 .locals) (m13 (c .before) (c .circuits .given))) (dens (c .before
-          .before .before .before .before .before .κs) (c .before .before .before .before .before .before .args) .0)
+      Need-same-length = (c : After-circuits) → MutSlice.SameLen (Row.get 1 (T19 .locals)
+          (m13 (c .before) (c .circuits .given))) (dens (c .before .before .before .before .before .before .κs)
+          (c .before .before .before .before .before .before .args) .0)
+
       abbrev pub Need-same-length-2 : Type 0
-      Need-same-length-2 = (c : After-circuits) → MutSlice.SameLen (Row.get 2 (T19 .locals) (m13 (c .before) (c .circuits .given))) (dens (c .before
-          .before .before .before .before .before .κs) (c .before .before .before .before .before .before .args) .1 .0)
+      Need-same-length-2 = (c : After-circuits) → MutSlice.SameLen (Row.get 2 (T19 .locals)
+          (m13 (c .before) (c .circuits .given))) (dens (c .before .before .before .before .before .before .κs)
+          (c .before .before .before .before .before .before .args) .1 .0)
+
       abbrev pub Need-returns : Type 0
-      Need-returns = (c : After-circuits) → Post· (c .before .before .before .before .before .before .κs) (dens (c .before .before .before .before
-          .before .before .κs) (c .before .before .before .before .before .before .args)) (Function.resV r (c .before .before .before .before .before
-          .before .κs) (m13 (c .before) (c .circuits .given) .0)) (Clauses.atExit (Kinds.endedOf 2 ps r) (c .before .before .before .before .before
-          .before .κs) (dens (c .before .before .before .before .before .before .κs) (c .before .before .before .before .before .before .args))
-          (Enter.lastsP (c .before .before .before .before .before .before .κs) 1 ps xs (dens (c .before .before .before .before .before .before .κs)
+      Need-returns = (c : After-circuits) → Post· (c .before .before .before .before .before .before .κs) (dens
+          (c .before .before .before .before .before .before .κs)
+          (c .before .before .before .before .before .before .args)) (Function.resV r
+          (c .before .before .before .before .before .before .κs) (m13 (c .before) (c .circuits .given) .0)) (Clauses.atExit
+          (Kinds.endedOf 2 ps r) (c .before .before .before .before .before .before .κs) (dens
+          (c .before .before .before .before .before .before .κs)
+          (c .before .before .before .before .before .before .args)) (Enter.lastsP
+          (c .before .before .before .before .before .before .κs) 1 ps xs (dens
+          (c .before .before .before .before .before .before .κs)
           (c .before .before .before .before .before .before .args)) (m13 (c .before) (c .circuits .given) .1)))
-      module _ (set-pending-requires : Need-set-pending-requires) (put-circuit-requires : Need-put-circuit-requires) (same-length : Need-same-length)
-          (same-length-2 : Need-same-length-2) (returns : Need-returns) where
-        lay2 : (c : After-put-circuit) → at6 (W0 (c .before .before .before .before .before .κs) (c .before .before .before .before .before .args))
-            (m9 (c .before) (After-put-circuit·gave c))
-        lay2 = λ c. (Path.refl, λ g. ((MutSlice.fix-len (Row.get 1 (T19 .locals) (m13 record { before = c .before; put-circuit = c .put-circuit; } g)
-            .ptr) (Row.get 1 (T19 .locals) (m13 record { before = c .before; put-circuit = c .put-circuit; } g) .name) (Row.get 1 (T19 .locals) (m13
-            record { before = c .before; put-circuit = c .put-circuit; } g) .now) (dens (c .before .before .before .before .before .κs) (c .before
-            .before .before .before .before .args) .0 .now) (same-length record { before = record { before = c .before; put-circuit = c .put-circuit
-            }; circuits = record { given = g }; }), (MutSlice.fix-len (Row.get 2 (T19 .locals) (m13 record { before = c .before; put-circuit = c
-            .put-circuit; } g) .ptr) (Row.get 2 (T19 .locals) (m13 record { before = c .before; put-circuit = c .put-circuit; } g) .name) (Row.get 2
-            (T19 .locals) (m13 record { before = c .before; put-circuit = c .put-circuit; } g) .now) (dens (c .before .before .before .before .before
-            .κs) (c .before .before .before .before .before .args) .1 .0 .now) (same-length-2 record { before = record { before = c .before;
-            put-circuit = c .put-circuit }; circuits = record { given = g }; }), (tt, (tt, (tt, (tt, tt)))),),), returns record { before = record {
-            before = c .before; put-circuit = c .put-circuit }; circuits = record { given = g }; },),)
-        lay1 : (c : After-set-pending) → at15 (W0 (c .before .before .κs) (c .before .before .args)) (m3 (c .before) (After-set-pending·gave c))
-        lay1 = λ c. (Path.refl, λ g. λ g'. (Path.refl, (put-circuit-requires record { before = record { before = record { before = c .before;
-            set-pending = c .set-pending }; pending = record { given = g }; }; put-circuit-arg = record { given = g' }; }, λ g''. lay2 record { before
-            = record { before = record { before = record { before = c .before; set-pending = c .set-pending }; pending = record { given = g }; };
-            put-circuit-arg = record { given = g' }; }; put-circuit = Called.called ps·1 r·1 (claims· .3) T13 (record { pos = 11; ty = Syntax.tyRef
-            Syntax.erased Syntax.mut RelayCircuit.to; ref = λ x. x; }, (record { pos = 3; st = List.[]; d = 0; at = λ x. x }, (Bool.bFld 4
-            ((Syntax.field 0) ∷ List.[]) 0 λ x. AcceptPlan.struct .as-values x .0, (Num.vFld 4 ((Syntax.field 2) ∷ List.[]) 16 λ x. AcceptPlan.struct
-            .as-values x .1 .1 .0, (record { pos = 6; st = List.[]; d = 0; at = λ x. x }, tt),),),),) (m8 record { before = record { before = c
-            .before; set-pending = c .set-pending }; pending = record { given = g }; } g') g''; },),),)
+
+      module _ (set-pending-requires : Need-set-pending-requires) (put-circuit-requires : Need-put-circuit-requires)
+          (same-length : Need-same-length) (same-length-2 : Need-same-length-2) (returns : Need-returns) where
+        lay2 : (c : After-put-circuit) → at6 (W0 (c .before .before .before .before .before .κs)
+            (c .before .before .before .before .before .args)) (m9 (c .before) (After-put-circuit·gave c))
+        lay2 = λ c. (
+          Path.refl,
+          λ g. (
+            (
+              MutSlice.fix-len (Row.get 1 (T19 .locals) (m13 record {
+                before = c .before;
+                put-circuit = c .put-circuit;
+              } g) .ptr) (Row.get 1 (T19 .locals) (m13 record { before = c .before; put-circuit = c .put-circuit } g)
+                  .name) (Row.get 1 (T19 .locals) (m13 record { before = c .before; put-circuit = c .put-circuit } g)
+                  .now) (dens (c .before .before .before .before .before .κs)
+                  (c .before .before .before .before .before .args) .0 .now) (same-length
+                  record {
+                    before = record { before = c .before; put-circuit = c .put-circuit };
+                    circuits = record { given = g };
+                  }),
+              (
+                MutSlice.fix-len (Row.get 2 (T19 .locals) (m13
+                    record { before = c .before; put-circuit = c .put-circuit } g) .ptr) (Row.get 2 (T19 .locals) (m13
+                    record { before = c .before; put-circuit = c .put-circuit } g) .name) (Row.get 2 (T19 .locals) (m13
+                    record { before = c .before; put-circuit = c .put-circuit } g) .now) (dens
+                    (c .before .before .before .before .before .κs) (c .before .before .before .before .before .args)
+                    .1 .0 .now) (same-length-2 record {
+                      before = record { before = c .before; put-circuit = c .put-circuit };
+                      circuits = record { given = g };
+                    }),
+                (tt, (tt, (tt, (tt, tt)))),
+              ),
+            ),
+            returns record {
+              before = record { before = c .before; put-circuit = c .put-circuit };
+              circuits = record { given = g };
+            },
+          ),
+        )
+
+        lay1 : (c : After-set-pending) → at15 (W0 (c .before .before .κs) (c .before .before .args))
+            (m3 (c .before) (After-set-pending·gave c))
+        lay1 = λ c. (
+          Path.refl,
+          λ g. λ g'. (
+            Path.refl,
+            (
+              put-circuit-requires record {
+                before = record {
+                  before = record { before = c .before; set-pending = c .set-pending };
+                  pending = record { given = g };
+                };
+                put-circuit-arg = record { given = g' };
+              },
+              λ g''. lay2 record {
+                before = record {
+                  before = record {
+                    before = record { before = c .before; set-pending = c .set-pending };
+                    pending = record { given = g };
+                  };
+                  put-circuit-arg = record { given = g' };
+                };
+                put-circuit = Called.called ps·1 r·1 (claims· .3) T13 args12 (m8
+                    record {
+                      before = record { before = c .before; set-pending = c .set-pending };
+                      pending = record { given = g };
+                    } g') g'';
+              },
+            ),
+          ),
+        )
+
         pub laid : (c : Start) → at19 (W0 (c .κs) (c .args)) (m0 (c .κs) (c .args))
-        laid = λ c. λ g. (Path.refl, (set-pending-requires record { before = c; set-pending-arg = record { given = g } }, λ g'. lay1 record { before =
-            record { before = c; set-pending-arg = record { given = g } }; set-pending = Called.called ps·0 r·0 (claims· .1) T4 (record { pos = 9; ty
-            = Syntax.tyRef Syntax.erased Syntax.mut RelayPending.to; ref = λ x. x; }, (Bool.bFld 4 ((Syntax.field 0) ∷ List.[]) 0 λ x.
-            AcceptPlan.struct .as-values x .0, (Num.vFld 4 ((Syntax.field 1) ∷ List.[]) 8 λ x. AcceptPlan.struct .as-values x .1 .0, (record { pos =
-            5; st = List.[]; d = 0; at = λ x. x }, tt),),),) (m2 c g) g'; },),)
+        laid = λ c. λ g. (
+          Path.refl,
+          (
+            set-pending-requires record { before = c; set-pending-arg = record { given = g } },
+            λ g'. lay1 record {
+              before = record { before = c; set-pending-arg = record { given = g } };
+              set-pending = Called.called ps·0 r·0 (claims· .1) T4 args3 (m2 c g) g';
+            },
+          ),
+        )
+
         module _ (κs : Lifetimes.Lfts 2) (qs : Lifetimes.Shares 2) where
-          pub asked : (a : Kinds.Dens κs ps) → (good : Kinds.GoodsP κs ps a) → (pre : Pre· κs a) → (bs : List.List Nat.ℕ) → Φ (Any.wantQ 2 ps r xs m
-              κs qs a (Post· κs a)) (Function.init 2 ps r xs m κs qs a)
-          asked = λ a good pre bs. laid record { κs = κs; args = record { pending = a .0; circuits = a .1 .0; places = a .1 .1 .0; plan = a .1 .1 .1
-              .0; unmarked = a .1 .1 .1 .1 .0; circuit = a .1 .1 .1 .1 .1 .0; }; good = good; pre = pre; }
-        module _ { M : Type 1 } (𝓤 : URA.URA M) (H : Wp.Heap 𝓤) (A : Atoms.Atoms 𝓤) (W : Kit.Given 𝓤 H A) (𝓣 : Wp.Tables 𝓤 H) (known0 : Plain.Known 𝓤
-            H A W 𝓣 1 ps·0 r·0 (claims· .0) (claims· .1) "hnsr_circuit::tables::pending::set_pending") (known1 : Plain.Known 𝓤 H A W 𝓣 1 ps·1 r·1
-            (claims· .2) (claims· .3) "hnsr_circuit::handle_accept::put_circuit") where
-          pub spec : Statement.Triple 𝓤 (Wp.WpFn 𝓤 H (𝓣 .C) (𝓣 .Λ) (Function.fnOf 2 ps r xs m hs body)) (Function.plainOf 𝓤 H A 2 ps r Pre· Post·)
-          spec = Plain.t-fn-plain 𝓤 H A W 𝓣 2 ps r xs m hs body (λ κs qs bs. Φ) (λ κs qs bs bd. typed κs qs 𝓤 H A W 𝓣 (known0, known1) bs bd) Pre·
-              Post· asked
+          pub asked : (a : Kinds.Dens κs ps) → (good : Kinds.GoodsP κs ps a) → (pre : Pre· κs a) →
+              (bs : List.List Nat.ℕ) → Φ (Any.wantQ 2 ps r xs m κs qs a (Post· κs a))
+              (Function.init 2 ps r xs m κs qs a)
+          asked = λ a good pre bs. laid record {
+            κs = κs;
+            args = record {
+              pending = a .0;
+              circuits = a .1 .0;
+              places = a .1 .1 .0;
+              plan = a .1 .1 .1 .0;
+              unmarked = a .1 .1 .1 .1 .0;
+              circuit = a .1 .1 .1 .1 .1 .0;
+            };
+            good = good;
+            pre = pre;
+          }
+
+        module _ {M : Type 1} (𝓤 : URA.URA M) (H : Wp.Heap 𝓤) (A : Atoms.Atoms 𝓤) (W : Kit.Given 𝓤 H A)
+            (𝓣 : Wp.Tables 𝓤 H) (known0 : Plain.Known 𝓤 H A W 𝓣 1 ps·0 r·0 (claims· .0) (claims· .1)
+            "hnsr_circuit::tables::pending::set_pending") (known1 : Plain.Known 𝓤 H A W 𝓣 1 ps·1 r·1 (claims· .2)
+            (claims· .3) "hnsr_circuit::handle_accept::put_circuit") where
+          pub spec : Statement.Triple 𝓤 (Wp.WpFn 𝓤 H (𝓣 .C) (𝓣 .Λ) (Function.fnOf 2 ps r xs m hs body))
+              (Function.plainOf 𝓤 H A 2 ps r Pre· Post·)
+          spec = Plain.t-fn-plain 𝓤 H A W 𝓣 2 ps r xs m hs body (λ κs qs bs. Φ) (λ κs qs bs bd. typed κs qs 𝓤 H A W 𝓣
+              (known0, known1) bs bd) Pre· Post· asked

@@ -3,6 +3,7 @@ use Rattle.hnsr_body.proofs.detail_body.DetailRead
 use Rattle.hnsr_body.proofs.detail_body.DetailRead.Laws
 use Rattle.hnsr_circuit.proofs.By.RelayCircuit
 use Rattle.hnsr_circuit.proofs.By.RelayPending
+use Rattle.hnsr_circuit.proofs.StructRow
 use Rattle.hnsr_circuit.proofs.close.ClosePlan
 use Rattle.hnsr_circuit.proofs.close.ClosePlan.Laws as Laws'
 use Rattle.hnsr_circuit.proofs.places.Places
@@ -13,44 +14,17 @@ use Rattle.hnsr_circuit.proofs.runtime.OpaqueRelayRuntime
 use Rattle.hnsr_circuit.proofs.runtime.OpaqueRelayRuntime.Laws as Laws''''
 use borrow.Fn.Kinds
 use borrow.Kind.ShrSlice
-use borrow.Kind.Value
-use borrow.Rule.Local
 use borrow.Table.Referent
-use borrow.Table.Rows
-use denote.Exit
-use denote.Struct.Declared
-use denote.Struct.Laws as Laws'''''
 use mathlib.Core.List
-use mathlib.Core.Path
 use mir.Syntax
 use mathlib.Core.List.{_∷_}
 
 abbrev pub ps : List.List (Kinds.PK 3)
-ps = (ShrSlice.pShrS RelayPending.row 0 tt) ∷ (ShrSlice.pShrS RelayCircuit.row 1 tt) ∷ (Value.pVal record { ty = Declared.row
-    OpaqueRelayRuntime.the-type; one = Path.refl; val = Laws'''''.val OpaqueRelayRuntime.the-type Laws''''.the-laws; tells = Laws'''''.tells
-    OpaqueRelayRuntime.the-type Laws''''.the-laws; still = Laws'''''.still OpaqueRelayRuntime.the-type Laws''''.the-copy Exit.yes; row = Rows.whole
-    (Declared.row OpaqueRelayRuntime.the-type); rd = λ x. x; mk = λ x. x; } λ M 𝓤 H A W. record { copies = Laws'''''.copy OpaqueRelayRuntime.the-type
-    Laws''''.the-copy 𝓤 H A W; lawful = Laws'''''.lawful OpaqueRelayRuntime.the-type Laws''''.the-laws 𝓤 H A W; makes = Laws'''''.makes
-    OpaqueRelayRuntime.the-type Laws''''.the-plain 𝓤 H A; in-mem = Local.mem-whole 𝓤 H A W (Declared.row OpaqueRelayRuntime.the-type); of-mem =
-    Local.whole-mem 𝓤 H A W (Declared.row OpaqueRelayRuntime.the-type); }) ∷ (Value.pVal record { ty = Declared.row Places.the-type; one = Path.refl;
-    val = Laws'''''.val Places.the-type Laws''.the-laws; tells = Laws'''''.tells Places.the-type Laws''.the-laws; still = Laws'''''.still
-    Places.the-type Laws''.the-copy Exit.yes; row = Rows.whole (Declared.row Places.the-type); rd = λ x. x; mk = λ x. x; } λ M 𝓤 H A W. record {
-    copies = Laws'''''.copy Places.the-type Laws''.the-copy 𝓤 H A W; lawful = Laws'''''.lawful Places.the-type Laws''.the-laws 𝓤 H A W; makes =
-    Laws'''''.makes Places.the-type Laws''.the-plain 𝓤 H A; in-mem = Local.mem-whole 𝓤 H A W (Declared.row Places.the-type); of-mem = Local.whole-mem
-    𝓤 H A W (Declared.row Places.the-type); }) ∷ (Value.pVal record { ty = Declared.row RelayPacket.the-type; one = Path.refl; val = Laws'''''.val
-    RelayPacket.the-type Laws'''.the-laws; tells = Laws'''''.tells RelayPacket.the-type Laws'''.the-laws; still = Laws'''''.still RelayPacket.the-type
-    Laws'''.the-copy Exit.yes; row = Rows.whole (Declared.row RelayPacket.the-type); rd = λ x. x; mk = λ x. x; } λ M 𝓤 H A W. record { copies =
-    Laws'''''.copy RelayPacket.the-type Laws'''.the-copy 𝓤 H A W; lawful = Laws'''''.lawful RelayPacket.the-type Laws'''.the-laws 𝓤 H A W; makes =
-    Laws'''''.makes RelayPacket.the-type Laws'''.the-plain 𝓤 H A; in-mem = Local.mem-whole 𝓤 H A W (Declared.row RelayPacket.the-type); of-mem =
-    Local.whole-mem 𝓤 H A W (Declared.row RelayPacket.the-type); }) ∷ (Value.pVal record { ty = Declared.row DetailRead.the-type; one = Path.refl; val
-    = Laws'''''.val DetailRead.the-type Laws.the-laws; tells = Laws'''''.tells DetailRead.the-type Laws.the-laws; still = Laws'''''.still
-    DetailRead.the-type Laws.the-copy Exit.yes; row = Rows.whole (Declared.row DetailRead.the-type); rd = λ x. x; mk = λ x. x; } λ M 𝓤 H A W. record {
-    copies = Laws'''''.copy DetailRead.the-type Laws.the-copy 𝓤 H A W; lawful = Laws'''''.lawful DetailRead.the-type Laws.the-laws 𝓤 H A W; makes =
-    Laws'''''.makes DetailRead.the-type Laws.the-plain 𝓤 H A; in-mem = Local.mem-whole 𝓤 H A W (Declared.row DetailRead.the-type); of-mem =
-    Local.whole-mem 𝓤 H A W (Declared.row DetailRead.the-type); }) ∷ (ShrSlice.pShrS (Referent.rtF (Referent.fInt Syntax.w8)) 2 tt) ∷ List.[]
+ps = (ShrSlice.pShrS RelayPending.row 0 tt) ∷ (ShrSlice.pShrS RelayCircuit.row 1 tt) ∷ (StructRow.param
+    OpaqueRelayRuntime.the-type Laws''''.the-laws Laws''''.the-copy Laws''''.the-plain) ∷ (StructRow.param
+    Places.the-type Laws''.the-laws Laws''.the-copy Laws''.the-plain) ∷ (StructRow.param RelayPacket.the-type
+    Laws'''.the-laws Laws'''.the-copy Laws'''.the-plain) ∷ (StructRow.param DetailRead.the-type Laws.the-laws
+    Laws.the-copy Laws.the-plain) ∷ (ShrSlice.pShrS (Referent.rtF (Referent.fInt Syntax.w8)) 2 tt) ∷ List.[]
+
 abbrev pub r : Kinds.RK 3
-r = Value.rVal record { ty = Declared.row ClosePlan.the-type; one = Path.refl; val = Laws'''''.val ClosePlan.the-type Laws'.the-laws; tells =
-    Laws'''''.tells ClosePlan.the-type Laws'.the-laws; still = Laws'''''.still ClosePlan.the-type Laws'.the-copy Exit.yes; row = Rows.whole
-    (Declared.row ClosePlan.the-type); rd = λ x. x; mk = λ x. x; } λ M 𝓤 H A W. record { copies = Laws'''''.copy ClosePlan.the-type Laws'.the-copy 𝓤 H
-    A W; lawful = Laws'''''.lawful ClosePlan.the-type Laws'.the-laws 𝓤 H A W; makes = Laws'''''.makes ClosePlan.the-type Laws'.the-plain 𝓤 H A; in-mem
-    = Local.mem-whole 𝓤 H A W (Declared.row ClosePlan.the-type); of-mem = Local.whole-mem 𝓤 H A W (Declared.row ClosePlan.the-type); }
+r = StructRow.result ClosePlan.the-type Laws'.the-laws Laws'.the-copy Laws'.the-plain

@@ -2,6 +2,7 @@
 use Prim.Native.Nat
 use Rattle.hnsr_circuit.proofs.By.RelayCircuit
 use Rattle.hnsr_circuit.proofs.By.RelayPending
+use Rattle.hnsr_circuit.proofs.StructRow
 use Rattle.hnsr_circuit.proofs.places.Places
 use Rattle.hnsr_circuit.proofs.places.Places.Laws
 use Rattle.hnsr_circuit.proofs.records.Drawing
@@ -9,6 +10,7 @@ use Rattle.hnsr_circuit.proofs.records.Drawing.Laws as Laws'
 use borrow.Author.Called
 use borrow.Author.Tests
 use borrow.Fn.Any
+use borrow.Fn.Args as Args'
 use borrow.Fn.Call
 use borrow.Fn.Enter
 use borrow.Fn.Frame
@@ -18,7 +20,6 @@ use borrow.Fn.Plain
 use borrow.Kind.Bool
 use borrow.Kind.Num
 use borrow.Kind.ShrSlice
-use borrow.Kind.Value
 use borrow.Rule.Local
 use borrow.Rule.LocalCopy
 use borrow.Rule.Scalar
@@ -34,9 +35,7 @@ use borrow.Table.Row
 use borrow.Table.Rows
 use borrow.Table.Typed
 use contract.Lifetimes
-use denote.Exit
 use denote.Struct.Declared
-use denote.Struct.Laws as Laws''
 use denote.Triple.Clauses
 use denote.Triple.Statement
 use ghost.Atoms
@@ -54,1128 +53,1743 @@ use mathlib.Core.List.{_∷_}
 
 abbrev ref0 : Syntax.Ty
 ref0 = Syntax.tyRef (Syntax.named 0) Syntax.imm RelayPending.to
+
 abbrev ref1 : Syntax.Ty
 ref1 = Syntax.tyRef (Syntax.named 1) Syntax.imm RelayCircuit.to
+
 abbrev ref2 : Syntax.Ty
 ref2 = Syntax.tyRef (Syntax.named 2) Syntax.imm (Syntax.tyInt Syntax.w8)
+
 abbrev pub ps : List.List (Kinds.PK 3)
-ps = (ShrSlice.pShrS RelayPending.row 0 tt) ∷ (ShrSlice.pShrS RelayCircuit.row 1 tt) ∷ (Value.pVal record { ty = Declared.row Places.the-type; one =
-    Path.refl; val = Laws''.val Places.the-type Laws.the-laws; tells = Laws''.tells Places.the-type Laws.the-laws; still = Laws''.still
-    Places.the-type Laws.the-copy Exit.yes; row = Rows.whole (Declared.row Places.the-type); rd = λ x. x; mk = λ x. x; } λ M 𝓤 H A W. record { copies
-    = Laws''.copy Places.the-type Laws.the-copy 𝓤 H A W; lawful = Laws''.lawful Places.the-type Laws.the-laws 𝓤 H A W; makes = Laws''.makes
-    Places.the-type Laws.the-plain 𝓤 H A; in-mem = Local.mem-whole 𝓤 H A W (Declared.row Places.the-type); of-mem = Local.whole-mem 𝓤 H A W
-    (Declared.row Places.the-type); }) ∷ (ShrSlice.pShrS (Referent.rtF (Referent.fInt Syntax.w8)) 2 tt) ∷ (Num.pNum Syntax.w64) ∷ Bool.pBool ∷ List.[]
+ps = (ShrSlice.pShrS RelayPending.row 0 tt) ∷ (ShrSlice.pShrS RelayCircuit.row 1 tt) ∷ (StructRow.param Places.the-type
+    Laws.the-laws Laws.the-copy Laws.the-plain) ∷ (ShrSlice.pShrS (Referent.rtF (Referent.fInt Syntax.w8)) 2 tt) ∷
+    (Num.pNum Syntax.w64) ∷ Bool.pBool ∷ List.[]
+
 abbrev pub r : Kinds.RK 3
-r = Value.rVal record { ty = Declared.row Drawing.the-type; one = Path.refl; val = Laws''.val Drawing.the-type Laws'.the-laws; tells = Laws''.tells
-    Drawing.the-type Laws'.the-laws; still = Laws''.still Drawing.the-type Laws'.the-copy Exit.yes; row = Rows.whole (Declared.row Drawing.the-type);
-    rd = λ x. x; mk = λ x. x; } λ M 𝓤 H A W. record { copies = Laws''.copy Drawing.the-type Laws'.the-copy 𝓤 H A W; lawful = Laws''.lawful
-    Drawing.the-type Laws'.the-laws 𝓤 H A W; makes = Laws''.makes Drawing.the-type Laws'.the-plain 𝓤 H A; in-mem = Local.mem-whole 𝓤 H A W
-    (Declared.row Drawing.the-type); of-mem = Local.whole-mem 𝓤 H A W (Declared.row Drawing.the-type); }
+r = StructRow.result Drawing.the-type Laws'.the-laws Laws'.the-copy Laws'.the-plain
+
 abbrev pub xs : List.List Syntax.Ty
-xs = Laws'.mir ∷ (Syntax.tyInt Syntax.w64) ∷ (Syntax.tyInt Syntax.w64) ∷ Syntax.tyBool ∷ (Syntax.tyInt Syntax.w64) ∷ (Syntax.tyInt Syntax.w64) ∷
-    Syntax.tyBool ∷ List.[]
+xs = Laws'.mir ∷ (Syntax.tyInt Syntax.w64) ∷ (Syntax.tyInt Syntax.w64) ∷ Syntax.tyBool ∷ (Syntax.tyInt Syntax.w64) ∷
+    (Syntax.tyInt Syntax.w64) ∷ Syntax.tyBool ∷ List.[]
+
 abbrev pub m : Nat.ℕ
 m = 0
+
 abbrev pub ps·0 : List.List (Kinds.PK 0)
 ps·0 = List.[]
+
 abbrev pub r·0 : Kinds.RK 0
-r·0 = Value.rVal record { ty = Declared.row Drawing.the-type; one = Path.refl; val = Laws''.val Drawing.the-type Laws'.the-laws; tells = Laws''.tells
-    Drawing.the-type Laws'.the-laws; still = Laws''.still Drawing.the-type Laws'.the-copy Exit.yes; row = Rows.whole (Declared.row Drawing.the-type);
-    rd = λ x. x; mk = λ x. x; } λ M 𝓤 H A W. record { copies = Laws''.copy Drawing.the-type Laws'.the-copy 𝓤 H A W; lawful = Laws''.lawful
-    Drawing.the-type Laws'.the-laws 𝓤 H A W; makes = Laws''.makes Drawing.the-type Laws'.the-plain 𝓤 H A; in-mem = Local.mem-whole 𝓤 H A W
-    (Declared.row Drawing.the-type); of-mem = Local.whole-mem 𝓤 H A W (Declared.row Drawing.the-type); }
+r·0 = StructRow.result Drawing.the-type Laws'.the-laws Laws'.the-copy Laws'.the-plain
+
 abbrev pub ps·1 : List.List (Kinds.PK 1)
 ps·1 = (ShrSlice.pShrS (Referent.rtF (Referent.fInt Syntax.w8)) 0 tt) ∷ (Num.pNum Syntax.w64) ∷ List.[]
+
 abbrev pub r·1 : Kinds.RK 1
 r·1 = Num.rNum Syntax.w64
+
 abbrev pub ps·2 : List.List (Kinds.PK 2)
-ps·2 = (ShrSlice.pShrS RelayPending.row 0 tt) ∷ (ShrSlice.pShrS RelayCircuit.row 1 tt) ∷ (Value.pVal record { ty = Declared.row Places.the-type; one =
-    Path.refl; val = Laws''.val Places.the-type Laws.the-laws; tells = Laws''.tells Places.the-type Laws.the-laws; still = Laws''.still
-    Places.the-type Laws.the-copy Exit.yes; row = Rows.whole (Declared.row Places.the-type); rd = λ x. x; mk = λ x. x; } λ M 𝓤 H A W. record { copies
-    = Laws''.copy Places.the-type Laws.the-copy 𝓤 H A W; lawful = Laws''.lawful Places.the-type Laws.the-laws 𝓤 H A W; makes = Laws''.makes
-    Places.the-type Laws.the-plain 𝓤 H A; in-mem = Local.mem-whole 𝓤 H A W (Declared.row Places.the-type); of-mem = Local.whole-mem 𝓤 H A W
-    (Declared.row Places.the-type); }) ∷ (Num.pNum Syntax.w64) ∷ Bool.pBool ∷ (Num.pNum Syntax.w64) ∷ List.[]
+ps·2 = (ShrSlice.pShrS RelayPending.row 0 tt) ∷ (ShrSlice.pShrS RelayCircuit.row 1 tt) ∷ (StructRow.param
+    Places.the-type Laws.the-laws Laws.the-copy Laws.the-plain) ∷ (Num.pNum Syntax.w64) ∷ Bool.pBool ∷
+    (Num.pNum Syntax.w64) ∷ List.[]
+
 abbrev pub r·2 : Kinds.RK 2
 r·2 = Bool.rBool
+
 abbrev pub ps·3 : List.List (Kinds.PK 0)
-ps·3 = (Value.pVal record { ty = Declared.row Drawing.the-type; one = Path.refl; val = Laws''.val Drawing.the-type Laws'.the-laws; tells =
-    Laws''.tells Drawing.the-type Laws'.the-laws; still = Laws''.still Drawing.the-type Laws'.the-copy Exit.yes; row = Rows.whole (Declared.row
-    Drawing.the-type); rd = λ x. x; mk = λ x. x; } λ M 𝓤 H A W. record { copies = Laws''.copy Drawing.the-type Laws'.the-copy 𝓤 H A W; lawful =
-    Laws''.lawful Drawing.the-type Laws'.the-laws 𝓤 H A W; makes = Laws''.makes Drawing.the-type Laws'.the-plain 𝓤 H A; in-mem = Local.mem-whole 𝓤 H A
-    W (Declared.row Drawing.the-type); of-mem = Local.whole-mem 𝓤 H A W (Declared.row Drawing.the-type); }) ∷ (Num.pNum Syntax.w64) ∷ Bool.pBool ∷
-    List.[]
+ps·3 = (StructRow.param Drawing.the-type Laws'.the-laws Laws'.the-copy Laws'.the-plain) ∷ (Num.pNum Syntax.w64) ∷
+    Bool.pBool ∷ List.[]
+
 abbrev pub r·3 : Kinds.RK 0
-r·3 = Value.rVal record { ty = Declared.row Drawing.the-type; one = Path.refl; val = Laws''.val Drawing.the-type Laws'.the-laws; tells = Laws''.tells
-    Drawing.the-type Laws'.the-laws; still = Laws''.still Drawing.the-type Laws'.the-copy Exit.yes; row = Rows.whole (Declared.row Drawing.the-type);
-    rd = λ x. x; mk = λ x. x; } λ M 𝓤 H A W. record { copies = Laws''.copy Drawing.the-type Laws'.the-copy 𝓤 H A W; lawful = Laws''.lawful
-    Drawing.the-type Laws'.the-laws 𝓤 H A W; makes = Laws''.makes Drawing.the-type Laws'.the-plain 𝓤 H A; in-mem = Local.mem-whole 𝓤 H A W
-    (Declared.row Drawing.the-type); of-mem = Local.whole-mem 𝓤 H A W (Declared.row Drawing.the-type); }
+r·3 = StructRow.result Drawing.the-type Laws'.the-laws Laws'.the-copy Laws'.the-plain
+
 abbrev pub hs : List.List Syntax.Home
-hs = Syntax.valueLocal ∷ Syntax.valueLocal ∷ Syntax.valueLocal ∷ Syntax.valueLocal ∷ Syntax.valueLocal ∷ Syntax.valueLocal ∷ Syntax.valueLocal ∷
-    Syntax.valueLocal ∷ Syntax.valueLocal ∷ Syntax.valueLocal ∷ Syntax.valueLocal ∷ Syntax.valueLocal ∷ Syntax.valueLocal ∷ Syntax.valueLocal ∷
-    List.[]
+hs = Syntax.valueLocal ∷ Syntax.valueLocal ∷ Syntax.valueLocal ∷ Syntax.valueLocal ∷ Syntax.valueLocal ∷
+    Syntax.valueLocal ∷ Syntax.valueLocal ∷ Syntax.valueLocal ∷ Syntax.valueLocal ∷ Syntax.valueLocal ∷
+    Syntax.valueLocal ∷ Syntax.valueLocal ∷ Syntax.valueLocal ∷ Syntax.valueLocal ∷ List.[]
+
 abbrev b0 : Syntax.Body
 b0 = Syntax.call "hnsr_circuit::draw::undrawn" List.[] (Syntax.place 7 List.[])
+
 abbrev b1 : Syntax.Body
 b1 = Syntax.assign (Syntax.place 8 List.[]) (Syntax.rvOpd (Syntax.int Syntax.w64 0))
+
 abbrev b2 : Syntax.Body
 b2 = Syntax.assign (Syntax.place 11 List.[]) (Syntax.rvOpd (Syntax.copy (Syntax.place 4 ((Syntax.field 1) ∷ List.[]))))
+
 abbrev b3 : Syntax.Body
-b3 = Syntax.assign (Syntax.place 12 List.[]) (Syntax.op2 (Syntax.sub Syntax.unsigned) (Syntax.copy (Syntax.place 11 List.[])) (Syntax.copy
-    (Syntax.place 8 List.[])))
+b3 = Syntax.assign (Syntax.place 12 List.[]) (Syntax.op2 (Syntax.sub Syntax.unsigned)
+    (Syntax.copy (Syntax.place 11 List.[])) (Syntax.copy (Syntax.place 8 List.[])))
+
 abbrev b4 : Syntax.Body
-b4 = Syntax.assign (Syntax.place 13 List.[]) (Syntax.op2 (Syntax.le Syntax.unsigned) (Syntax.int Syntax.w64 8) (Syntax.copy (Syntax.place 12
-    List.[])))
+b4 = Syntax.assign (Syntax.place 13 List.[]) (Syntax.op2 (Syntax.le Syntax.unsigned) (Syntax.int Syntax.w64 8)
+    (Syntax.copy (Syntax.place 12 List.[])))
+
 abbrev b5 : Syntax.Body
 b5 = Syntax.skip
+
 abbrev b6 : Syntax.Body
 b6 = Syntax.exit 1
+
 abbrev b7 : Syntax.Body
 b7 = Syntax.cond (Syntax.copy (Syntax.place 13 List.[])) b5 b6
+
 abbrev b8 : Syntax.Body
 b8 = Syntax.assign (Syntax.place 13 List.[]) (Syntax.rvOpd (Syntax.copy (Syntax.place 7 ((Syntax.field 2) ∷ List.[]))))
+
 abbrev b9 : Syntax.Body
 b9 = Syntax.assign (Syntax.place 0 List.[]) (Syntax.rvOpd (Syntax.copy (Syntax.place 7 List.[])))
+
 abbrev b10 : Syntax.Body
 b10 = Syntax.return
+
 abbrev b11 : Syntax.Body
 b11 = Syntax.seq b9 b10
+
 abbrev b12 : Syntax.Body
 b12 = Syntax.skip
+
 abbrev b13 : Syntax.Body
 b13 = Syntax.cond (Syntax.copy (Syntax.place 13 List.[])) b11 b12
+
 abbrev b14 : Syntax.Body
-b14 = Syntax.call "hnsr_circuit::draw::draw_at" ((Syntax.copy (Syntax.place 4 List.[])) ∷ (Syntax.copy (Syntax.place 8 List.[])) ∷ List.[])
-    (Syntax.place 9 List.[])
+b14 = Syntax.call "hnsr_circuit::draw::draw_at" ((Syntax.copy (Syntax.place 4 List.[])) ∷
+    (Syntax.copy (Syntax.place 8 List.[])) ∷ List.[]) (Syntax.place 9 List.[])
+
 abbrev b15 : Syntax.Body
-b15 = Syntax.call "hnsr_circuit::handle_open::id_taken" ((Syntax.copy (Syntax.place 1 List.[])) ∷ (Syntax.copy (Syntax.place 2 List.[])) ∷
-    (Syntax.copy (Syntax.place 3 List.[])) ∷ (Syntax.copy (Syntax.place 5 List.[])) ∷ (Syntax.copy (Syntax.place 6 List.[])) ∷ (Syntax.copy
-    (Syntax.place 9 List.[])) ∷ List.[]) (Syntax.place 10 List.[])
+b15 = Syntax.call "hnsr_circuit::handle_open::id_taken" ((Syntax.copy (Syntax.place 1 List.[])) ∷
+    (Syntax.copy (Syntax.place 2 List.[])) ∷ (Syntax.copy (Syntax.place 3 List.[])) ∷
+    (Syntax.copy (Syntax.place 5 List.[])) ∷ (Syntax.copy (Syntax.place 6 List.[])) ∷
+    (Syntax.copy (Syntax.place 9 List.[])) ∷ List.[]) (Syntax.place 10 List.[])
+
 abbrev b16 : Syntax.Body
-b16 = Syntax.call "hnsr_circuit::draw::draw_turn" ((Syntax.copy (Syntax.place 7 List.[])) ∷ (Syntax.copy (Syntax.place 9 List.[])) ∷ (Syntax.copy
-    (Syntax.place 10 List.[])) ∷ List.[]) (Syntax.place 7 List.[])
+b16 = Syntax.call "hnsr_circuit::draw::draw_turn" ((Syntax.copy (Syntax.place 7 List.[])) ∷
+    (Syntax.copy (Syntax.place 9 List.[])) ∷ (Syntax.copy (Syntax.place 10 List.[])) ∷ List.[])
+    (Syntax.place 7 List.[])
+
 abbrev b17 : Syntax.Body
-b17 = Syntax.assign (Syntax.place 8 List.[]) (Syntax.op2 (Syntax.add Syntax.unsigned) (Syntax.copy (Syntax.place 8 List.[])) (Syntax.int Syntax.w64
-    8))
+b17 = Syntax.assign (Syntax.place 8 List.[]) (Syntax.op2 (Syntax.add Syntax.unsigned)
+    (Syntax.copy (Syntax.place 8 List.[])) (Syntax.int Syntax.w64 8))
+
 abbrev b18 : Syntax.Body
 b18 = Syntax.seq b16 b17
+
 abbrev b19 : Syntax.Body
 b19 = Syntax.seq b15 b18
+
 abbrev b20 : Syntax.Body
 b20 = Syntax.seq b14 b19
+
 abbrev b21 : Syntax.Body
 b21 = Syntax.seq b13 b20
+
 abbrev b22 : Syntax.Body
 b22 = Syntax.seq b8 b21
+
 abbrev b23 : Syntax.Body
 b23 = Syntax.seq b7 b22
+
 abbrev b24 : Syntax.Body
 b24 = Syntax.seq b4 b23
+
 abbrev b25 : Syntax.Body
 b25 = Syntax.seq b3 b24
+
 abbrev b26 : Syntax.Body
 b26 = Syntax.seq b2 b25
+
 abbrev b27 : Syntax.Body
 b27 = Syntax.loop b26
+
 abbrev b28 : Syntax.Body
 b28 = Syntax.block b27
+
 abbrev b29 : Syntax.Body
 b29 = Syntax.assign (Syntax.place 0 List.[]) (Syntax.rvOpd (Syntax.copy (Syntax.place 7 List.[])))
+
 abbrev b30 : Syntax.Body
 b30 = Syntax.return
+
 abbrev b31 : Syntax.Body
 b31 = Syntax.seq b29 b30
+
 abbrev b32 : Syntax.Body
 b32 = Syntax.seq b28 b31
+
 abbrev b33 : Syntax.Body
 b33 = Syntax.seq b1 b32
+
 abbrev b34 : Syntax.Body
 b34 = Syntax.seq b0 b33
+
 abbrev pub body : Syntax.Body
 body = b34
+
 abbrev pub Claims : Type 1
-Claims = Kinds.In 0 ps·0 × Kinds.Out 0 ps·0 r·0 × Kinds.In 1 ps·1 × Kinds.Out 1 ps·1 r·1 × Kinds.In 2 ps·2 × Kinds.Out 2 ps·2 r·2 × Kinds.In 0 ps·3 ×
-    Kinds.Out 0 ps·3 r·3
+Claims = Kinds.In 0 ps·0 × Kinds.Out 0 ps·0 r·0 × Kinds.In 1 ps·1 × Kinds.Out 1 ps·1 r·1 × Kinds.In 2 ps·2 × Kinds.Out
+    2 ps·2 r·2 × Kinds.In 0 ps·3 × Kinds.Out 0 ps·3 r·3
+
 abbrev e0 : Row.Entry
 e0 = (0, Rows.any-gone Laws'.mir)
+
 abbrev e1 : Row.Entry
 e1 = (1, Rows.sslice RelayPending.row ref0 0)
+
 abbrev e2 : Row.Entry
 e2 = (2, Rows.sslice RelayCircuit.row ref1 1)
+
 abbrev e3 : Row.Entry
 e3 = (3, Rows.whole (Declared.row Places.the-type))
+
 abbrev e4 : Row.Entry
 e4 = (4, Rows.sslice (Referent.rtF (Referent.fInt Syntax.w8)) ref2 2)
+
 abbrev e5 : Row.Entry
 e5 = (5, Rows.sc-here (Row.sInt Syntax.w64))
+
 abbrev e6 : Row.Entry
 e6 = (6, Rows.sc-here Row.sBool)
+
 abbrev e7 : Row.Entry
 e7 = (7, Rows.any-gone Laws'.mir)
+
 abbrev e8 : Row.Entry
 e8 = (8, Rows.any-gone (Syntax.tyInt Syntax.w64))
+
 abbrev e9 : Row.Entry
 e9 = (9, Rows.any-gone (Syntax.tyInt Syntax.w64))
+
 abbrev e10 : Row.Entry
 e10 = (10, Rows.any-gone Syntax.tyBool)
+
 abbrev e11 : Row.Entry
 e11 = (11, Rows.any-gone (Syntax.tyInt Syntax.w64))
+
 abbrev e12 : Row.Entry
 e12 = (12, Rows.any-gone (Syntax.tyInt Syntax.w64))
+
 abbrev e13 : Row.Entry
 e13 = (13, Rows.any-gone Syntax.tyBool)
+
 abbrev e0·1 : Row.Entry
 e0·1 = (0, Rows.whole (Declared.row Drawing.the-type))
+
 abbrev e3·1 : Row.Entry
 e3·1 = (3, Rows.any-gone Laws.mir)
+
 abbrev e5·1 : Row.Entry
 e5·1 = (5, Rows.any-gone (Syntax.tyInt Syntax.w64))
+
 abbrev e6·1 : Row.Entry
 e6·1 = (6, Rows.any-gone Syntax.tyBool)
+
 abbrev e7·1 : Row.Entry
 e7·1 = (7, Rows.whole (Declared.row Drawing.the-type))
+
 abbrev e8·1 : Row.Entry
 e8·1 = (8, Rows.sc-here (Row.sInt Syntax.w64))
+
 abbrev e11·1 : Row.Entry
 e11·1 = (11, Rows.sc-here (Row.sInt Syntax.w64))
+
 abbrev e12·1 : Row.Entry
 e12·1 = (12, Rows.sc-here (Row.sInt Syntax.w64))
+
 abbrev e13·1 : Row.Entry
 e13·1 = (13, Rows.sc-here Row.sBool)
+
 abbrev e9·1 : Row.Entry
 e9·1 = (9, Rows.sc-here (Row.sInt Syntax.w64))
+
 abbrev e10·1 : Row.Entry
 e10·1 = (10, Rows.sc-here Row.sBool)
+
 abbrev pub t0 : List.List Row.Entry
 t0 = e0 ∷ e1 ∷ e2 ∷ e3 ∷ e4 ∷ e5 ∷ e6 ∷ e7 ∷ e8 ∷ e9 ∷ e10 ∷ e11 ∷ e12 ∷ e13 ∷ List.[]
+
 abbrev pub t1 : List.List Row.Entry
 t1 = e0·1 ∷ e1 ∷ e2 ∷ e3·1 ∷ e4 ∷ e5·1 ∷ e6·1 ∷ e7 ∷ e8 ∷ e9 ∷ e10 ∷ e11 ∷ e12 ∷ e13 ∷ List.[]
+
 abbrev pub t2 : List.List Row.Entry
 t2 = e0 ∷ e1 ∷ e2 ∷ e3 ∷ e4 ∷ e5 ∷ e6 ∷ e7·1 ∷ e8 ∷ e9 ∷ e10 ∷ e11 ∷ e12 ∷ e13 ∷ List.[]
+
 abbrev pub t3 : List.List Row.Entry
 t3 = e0 ∷ e1 ∷ e2 ∷ e3 ∷ e4 ∷ e5 ∷ e6 ∷ e7·1 ∷ e8·1 ∷ e9 ∷ e10 ∷ e11 ∷ e12 ∷ e13 ∷ List.[]
+
 abbrev pub t4 : List.List Row.Entry
 t4 = e0 ∷ e1 ∷ e2 ∷ e3·1 ∷ e4 ∷ e5 ∷ e6 ∷ e7·1 ∷ e8·1 ∷ e9 ∷ e10 ∷ e11 ∷ e12 ∷ e13 ∷ List.[]
+
 abbrev pub t5 : List.List Row.Entry
 t5 = e0 ∷ e1 ∷ e2 ∷ e3 ∷ e4 ∷ e5 ∷ e6 ∷ e7·1 ∷ e8·1 ∷ e9 ∷ e10 ∷ e11·1 ∷ e12 ∷ e13 ∷ List.[]
+
 abbrev pub t6 : List.List Row.Entry
 t6 = e0 ∷ e1 ∷ e2 ∷ e3 ∷ e4 ∷ e5 ∷ e6 ∷ e7·1 ∷ e8·1 ∷ e9 ∷ e10 ∷ e11·1 ∷ e12·1 ∷ e13 ∷ List.[]
+
 abbrev pub t7 : List.List Row.Entry
 t7 = e0 ∷ e1 ∷ e2 ∷ e3 ∷ e4 ∷ e5 ∷ e6 ∷ e7·1 ∷ e8·1 ∷ e9 ∷ e10 ∷ e11 ∷ e12·1 ∷ e13 ∷ List.[]
+
 abbrev pub t8 : List.List Row.Entry
 t8 = e0 ∷ e1 ∷ e2 ∷ e3 ∷ e4 ∷ e5 ∷ e6 ∷ e7·1 ∷ e8·1 ∷ e9 ∷ e10 ∷ e11 ∷ e12·1 ∷ e13·1 ∷ List.[]
+
 abbrev pub t9 : List.List Row.Entry
 t9 = e0 ∷ e1 ∷ e2 ∷ e3 ∷ e4 ∷ e5 ∷ e6 ∷ e7·1 ∷ e8·1 ∷ e9 ∷ e10 ∷ e11 ∷ e12 ∷ e13·1 ∷ List.[]
+
 abbrev pub t10 : List.List Row.Entry
 t10 = e0 ∷ e1 ∷ e2 ∷ e3·1 ∷ e4 ∷ e5 ∷ e6 ∷ e7·1 ∷ e8·1 ∷ e9 ∷ e10 ∷ e11 ∷ e12 ∷ e13·1 ∷ List.[]
+
 abbrev pub t11 : List.List Row.Entry
 t11 = e0·1 ∷ e1 ∷ e2 ∷ e3·1 ∷ e4 ∷ e5 ∷ e6 ∷ e7·1 ∷ e8·1 ∷ e9 ∷ e10 ∷ e11 ∷ e12 ∷ e13 ∷ List.[]
+
 abbrev pub t12 : List.List Row.Entry
 t12 = e0·1 ∷ e1 ∷ e2 ∷ e3·1 ∷ e4 ∷ e5 ∷ e6 ∷ e7 ∷ e8·1 ∷ e9 ∷ e10 ∷ e11 ∷ e12 ∷ e13 ∷ List.[]
+
 abbrev pub t13 : List.List Row.Entry
 t13 = e0·1 ∷ e1 ∷ e2 ∷ e3·1 ∷ e4 ∷ e5·1 ∷ e6 ∷ e7 ∷ e8·1 ∷ e9 ∷ e10 ∷ e11 ∷ e12 ∷ e13 ∷ List.[]
+
 abbrev pub t14 : List.List Row.Entry
 t14 = e0·1 ∷ e1 ∷ e2 ∷ e3·1 ∷ e4 ∷ e5·1 ∷ e6·1 ∷ e7 ∷ e8·1 ∷ e9 ∷ e10 ∷ e11 ∷ e12 ∷ e13 ∷ List.[]
+
 abbrev pub t15 : List.List Row.Entry
 t15 = e0 ∷ e1 ∷ e2 ∷ e3 ∷ e4 ∷ e5 ∷ e6 ∷ e7·1 ∷ e8·1 ∷ e9·1 ∷ e10 ∷ e11 ∷ e12 ∷ e13 ∷ List.[]
+
 abbrev pub t16 : List.List Row.Entry
 t16 = e0 ∷ e1 ∷ e2 ∷ e3 ∷ e4 ∷ e5 ∷ e6 ∷ e7·1 ∷ e8·1 ∷ e9·1 ∷ e10·1 ∷ e11 ∷ e12 ∷ e13 ∷ List.[]
+
 abbrev pub t17 : List.List Row.Entry
 t17 = e0 ∷ e1 ∷ e2 ∷ e3 ∷ e4 ∷ e5 ∷ e6 ∷ e7·1 ∷ e8·1 ∷ e9 ∷ e10·1 ∷ e11 ∷ e12 ∷ e13 ∷ List.[]
+
 abbrev pub t18 : List.List Row.Entry
 t18 = e0·1 ∷ e1 ∷ e2 ∷ e3·1 ∷ e4 ∷ e5 ∷ e6 ∷ e7 ∷ e8 ∷ e9 ∷ e10 ∷ e11 ∷ e12 ∷ e13 ∷ List.[]
+
 abbrev pub t19 : List.List Row.Entry
 t19 = e0·1 ∷ e1 ∷ e2 ∷ e3·1 ∷ e4 ∷ e5·1 ∷ e6 ∷ e7 ∷ e8 ∷ e9 ∷ e10 ∷ e11 ∷ e12 ∷ e13 ∷ List.[]
+
 abbrev pub T0 : Row.Cx
 T0 = record { locals = t0; slots = List.[] }
+
 abbrev pub T1 : Row.Cx
 T1 = record { locals = t1; slots = List.[] }
+
 abbrev pub T2 : Row.Cx
 T2 = record { locals = t0; slots = List.[] }
+
 abbrev pub T3 : Row.Cx
 T3 = record { locals = t2; slots = List.[] }
+
 abbrev pub T4 : Row.Cx
 T4 = record { locals = t3; slots = List.[] }
+
 abbrev pub T5 : Row.Cx
 T5 = record { locals = t4; slots = List.[] }
+
 abbrev pub T6 : Row.Cx
 T6 = record { locals = t5; slots = List.[] }
+
 abbrev pub T7 : Row.Cx
 T7 = record { locals = t6; slots = List.[] }
+
 abbrev pub T8 : Row.Cx
 T8 = record { locals = t7; slots = List.[] }
+
 abbrev pub T9 : Row.Cx
 T9 = record { locals = t8; slots = List.[] }
+
 abbrev pub T10 : Row.Cx
 T10 = record { locals = t3; slots = List.[] }
+
 abbrev pub T11 : Row.Cx
 T11 = record { locals = t9; slots = List.[] }
+
 abbrev pub T12 : Row.Cx
 T12 = record { locals = t3; slots = List.[] }
+
 abbrev pub T13 : Row.Cx
 T13 = record { locals = t10; slots = List.[] }
+
 abbrev pub T14 : Row.Cx
 T14 = record { locals = t4; slots = List.[] }
+
 abbrev pub T15 : Row.Cx
 T15 = record { locals = t9; slots = List.[] }
+
 abbrev pub T16 : Row.Cx
 T16 = record { locals = t3; slots = List.[] }
+
 abbrev pub T17 : Row.Cx
 T17 = record { locals = t10; slots = List.[] }
+
 abbrev pub T18 : Row.Cx
 T18 = record { locals = t4; slots = List.[] }
+
 abbrev pub T19 : Row.Cx
 T19 = record { locals = t11; slots = List.[] }
+
 abbrev pub T20 : Row.Cx
 T20 = record { locals = t12; slots = List.[] }
+
 abbrev pub T21 : Row.Cx
 T21 = record { locals = t13; slots = List.[] }
+
 abbrev pub T22 : Row.Cx
 T22 = record { locals = t14; slots = List.[] }
+
 abbrev pub T23 : Row.Cx
 T23 = record { locals = t1; slots = List.[] }
+
 abbrev pub T24 : Row.Cx
 T24 = record { locals = t3; slots = List.[] }
+
 abbrev pub T25 : Row.Cx
 T25 = record { locals = t15; slots = List.[] }
+
 abbrev pub T26 : Row.Cx
 T26 = record { locals = t16; slots = List.[] }
+
 abbrev pub T27 : Row.Cx
 T27 = record { locals = t16; slots = List.[] }
+
 abbrev pub T28 : Row.Cx
 T28 = record { locals = t16; slots = List.[] }
+
 abbrev pub T29 : Row.Cx
 T29 = record { locals = t17; slots = List.[] }
+
 abbrev pub T30 : Row.Cx
 T30 = record { locals = t3; slots = List.[] }
+
 abbrev pub T31 : Row.Cx
 T31 = record { locals = t11; slots = List.[] }
+
 abbrev pub T32 : Row.Cx
 T32 = record { locals = t12; slots = List.[] }
+
 abbrev pub T33 : Row.Cx
 T33 = record { locals = t18; slots = List.[] }
+
 abbrev pub T34 : Row.Cx
 T34 = record { locals = t19; slots = List.[] }
+
 abbrev pub T35 : Row.Cx
 T35 = record { locals = t1; slots = List.[] }
+
 abbrev pub O0 : Typed.Outs
 O0 = record { next = Option.none; exits = List.[]; returns = Option.some T1 }
+
 abbrev pub O1 : Typed.Outs
 O1 = Typed.withNext (Option.some T5) O0
+
 abbrev pub O2 : Typed.Outs
 O2 = Typed.inBlock₀ O1
+
 abbrev pub O3 : Typed.Outs
 O3 = Typed.inLoop₀ T4 O2
+
 abbrev pub O4 : Typed.Outs
 O4 = Typed.withNext (Option.some T10) O3
+
 abbrev pub O5 : Typed.Outs
 O5 = Typed.withNext (Option.some T16) O3
+
 abbrev pub InvT-loop : Type 1
-InvT-loop = List.List (RelayPending.row .Denot) → List.List (RelayCircuit.row .Denot) → Rows.whole (Declared.row Places.the-type) .Mod → List.List
-    (Referent.rtF (Referent.fInt Syntax.w8) .Denot) → Rows.sc-here (Row.sInt Syntax.w64) .Mod → Rows.sc-here Row.sBool .Mod → Rows.whole (Declared.row
-    Drawing.the-type) .Mod → Rows.sc-here (Row.sInt Syntax.w64) .Mod → Rows.whole (Declared.row Drawing.the-type) .Mod → Rows.sc-here (Row.sInt
-    Syntax.w64) .Mod → Type 0
+InvT-loop = List.List (RelayPending.row .Denot) → List.List (RelayCircuit.row .Denot) → Rows.whole
+    (Declared.row Places.the-type) .Mod → List.List (Referent.rtF (Referent.fInt Syntax.w8) .Denot) → Rows.sc-here
+    (Row.sInt Syntax.w64) .Mod → Rows.sc-here Row.sBool .Mod → Rows.whole (Declared.row Drawing.the-type) .Mod →
+    Rows.sc-here (Row.sInt Syntax.w64) .Mod → Rows.whole (Declared.row Drawing.the-type) .Mod → Rows.sc-here
+    (Row.sInt Syntax.w64) .Mod → Type 0
+
 abbrev pub MeasureT-loop : Type 0
-MeasureT-loop = List.List (RelayPending.row .Denot) → List.List (RelayCircuit.row .Denot) → Rows.whole (Declared.row Places.the-type) .Mod → List.List
-    (Referent.rtF (Referent.fInt Syntax.w8) .Denot) → Rows.sc-here (Row.sInt Syntax.w64) .Mod → Rows.sc-here Row.sBool .Mod → Rows.whole (Declared.row
-    Drawing.the-type) .Mod → Rows.sc-here (Row.sInt Syntax.w64) .Mod → Rows.whole (Declared.row Drawing.the-type) .Mod → Rows.sc-here (Row.sInt
-    Syntax.w64) .Mod → Nat.ℕ
+MeasureT-loop = List.List (RelayPending.row .Denot) → List.List (RelayCircuit.row .Denot) → Rows.whole
+    (Declared.row Places.the-type) .Mod → List.List (Referent.rtF (Referent.fInt Syntax.w8) .Denot) → Rows.sc-here
+    (Row.sInt Syntax.w64) .Mod → Rows.sc-here Row.sBool .Mod → Rows.whole (Declared.row Drawing.the-type) .Mod →
+    Rows.sc-here (Row.sInt Syntax.w64) .Mod → Rows.whole (Declared.row Drawing.the-type) .Mod → Rows.sc-here
+    (Row.sInt Syntax.w64) .Mod → Nat.ℕ
+
 module _ (claims· : Claims) where
   abbrev s0 : Typed.Gives T0 T2
   s0 = Know.k-shs-known (Referent.fInt Syntax.w8) T0 4 2 ref2 Row.off 0 λ x. x
+
   abbrev s1 : Typed.Both T2 T3
   s1 = Call.callB ps·0 r·0 (claims· .0) (claims· .1) T2 tt 7 List.[] Laws'.mir
+
   abbrev s2 : Typed.Mo T3 → Typed.Mo T4
   s2 = Scalar.n-use T3 (Scalar.oInt Syntax.w64 0) 8 (Rows.sc-here (Row.sInt Syntax.w64)) (Row.sInt Syntax.w64 .of)
+
   abbrev s3 : Typed.Mo T4 → Typed.Mo T6
-  s3 = Scalar.n-use T4 (Scalar.oFld 4 ((Syntax.field 1) ∷ List.[]) (Syntax.tyInt Syntax.w64) 8 Shared.lenV) 11 (Rows.sc-here (Row.sInt Syntax.w64))
-      (Row.sInt Syntax.w64 .of)
+  s3 = Scalar.n-use T4 (Scalar.oFld 4 ((Syntax.field 1) ∷ List.[]) (Syntax.tyInt Syntax.w64) 8 Shared.lenV) 11
+      (Rows.sc-here (Row.sInt Syntax.w64)) (Row.sInt Syntax.w64 .of)
+
   abbrev s4 : Typed.Asks T6 T7
-  s4 = Scalar.k-op2 T6 (Syntax.sub Syntax.unsigned) (Scalar.oAt 11 (Syntax.tyInt Syntax.w64) (Row.valS (Row.sInt Syntax.w64))) (Scalar.oAt 8
-      (Syntax.tyInt Syntax.w64) (Row.valS (Row.sInt Syntax.w64))) 12 (Rows.sc-here (Row.sInt Syntax.w64)) (Row.sInt Syntax.w64 .of)
+  s4 = Scalar.k-op2 T6 (Syntax.sub Syntax.unsigned) (Scalar.oAt 11 (Syntax.tyInt Syntax.w64)
+      (Row.valS (Row.sInt Syntax.w64))) (Scalar.oAt 8 (Syntax.tyInt Syntax.w64) (Row.valS (Row.sInt Syntax.w64))) 12
+      (Rows.sc-here (Row.sInt Syntax.w64)) (Row.sInt Syntax.w64 .of)
+
   abbrev s5 : Typed.Mo T7 → Typed.Mo T8
   s5 = Scalar.n-room T7 11 (Syntax.tyInt Syntax.w64)
+
   abbrev s6 : Typed.Asks T8 T9
-  s6 = Scalar.k-op2 T8 (Syntax.le Syntax.unsigned) (Scalar.oInt Syntax.w64 8) (Scalar.oAt 12 (Syntax.tyInt Syntax.w64) (Row.valS (Row.sInt
-      Syntax.w64))) 13 (Rows.sc-here Row.sBool) (Row.sBool .of)
+  s6 = Scalar.k-op2 T8 (Syntax.le Syntax.unsigned) (Scalar.oInt Syntax.w64 8) (Scalar.oAt 12 (Syntax.tyInt Syntax.w64)
+      (Row.valS (Row.sInt Syntax.w64))) 13 (Rows.sc-here Row.sBool) (Row.sBool .of)
+
   abbrev s7 : Typed.Mo T9 → Typed.Mo T11
   s7 = Scalar.n-room T9 12 (Syntax.tyInt Syntax.w64)
+
   abbrev s8 : Typed.Mo T11 → Typed.Mo T12
   s8 = Scalar.n-room T11 13 Syntax.tyBool
+
   abbrev s9 : Typed.Mo T11 → Typed.Mo T13
   s9 = Scalar.n-room T11 3 Laws.mir
+
   abbrev s10 : Typed.Mo T13 → Typed.Mo T14
   s10 = Scalar.n-room T13 13 Syntax.tyBool
+
   abbrev s11 : Typed.Mo T10 → Typed.Mo T15
-  s11 = Scalar.n-use T10 (Scalar.oFld 7 ((Syntax.field 2) ∷ List.[]) Syntax.tyBool 2 (Reads.fieldV Drawing.the-type Laws'.the-laws 2)) 13
-      (Rows.sc-here Row.sBool) (Row.sBool .of)
+  s11 = Scalar.n-use T10 (Scalar.oFld 7 ((Syntax.field 2) ∷ List.[]) Syntax.tyBool 2
+      (Reads.fieldV Drawing.the-type Laws'.the-laws 2)) 13 (Rows.sc-here Row.sBool) (Row.sBool .of)
+
   abbrev s12 : Typed.Mo T15 → Typed.Mo T17
   s12 = Scalar.n-room T15 3 Laws.mir
+
   abbrev s13 : Typed.Mo T17 → Typed.Mo T18
   s13 = Scalar.n-room T17 13 Syntax.tyBool
+
   abbrev s14 : Typed.Mo T18 → Typed.Mo T19
-  s14 = LocalCopy.n-val-copy T18 7 0 (Declared.row Drawing.the-type) (Rows.whole (Declared.row Drawing.the-type)) (Rows.whole (Declared.row
-      Drawing.the-type)) (λ x. x) (λ x. x) λ x. x
+  s14 = LocalCopy.n-val-copy T18 7 0 (Declared.row Drawing.the-type) (Rows.whole (Declared.row Drawing.the-type))
+      (Rows.whole (Declared.row Drawing.the-type)) (λ x. x) (λ x. x) λ x. x
+
   abbrev s15 : Typed.Mo T19 → Typed.Mo T20
   s15 = Scalar.n-room T19 7 Laws'.mir
+
   abbrev s16 : Typed.Mo T20 → Typed.Mo T21
   s16 = Scalar.n-room T20 5 (Syntax.tyInt Syntax.w64)
+
   abbrev s17 : Typed.Mo T21 → Typed.Mo T22
   s17 = Scalar.n-room T21 6 Syntax.tyBool
+
   abbrev s18 : Typed.Mo T22 → Typed.Mo T23
   s18 = Scalar.n-room T22 8 (Syntax.tyInt Syntax.w64)
+
   abbrev s19 : Typed.Mo T15 → Typed.Mo T24
   s19 = Scalar.n-room T15 13 Syntax.tyBool
+
+  abbrev args20 : Args'.ArgsT ps·1 (T16 .locals)
+  args20 = (record { pos = 4; ty = ref2; ref = λ x. x }, (Num.vAt 8 λ x. x, tt))
+
   abbrev s20 : Typed.Both T16 T25
-  s20 = Call.callB ps·1 r·1 (claims· .2) (claims· .3) T16 (record { pos = 4; ty = Syntax.tyRef (Syntax.named 2) Syntax.imm (Syntax.tyInt Syntax.w8);
-      ref = λ x. x; }, (Num.vAt 8 λ x. x, tt),) 9 (2 ∷ List.[]) (Syntax.tyInt Syntax.w64)
+  s20 = Call.callB ps·1 r·1 (claims· .2) (claims· .3) T16 args20 9 (2 ∷ List.[]) (Syntax.tyInt Syntax.w64)
+
+  abbrev args21 : Args'.ArgsT ps·2 (T25 .locals)
+  args21 = (
+    record { pos = 1; ty = ref0; ref = λ x. x },
+    (
+      record { pos = 2; ty = ref1; ref = λ x. x },
+      (
+        record { pos = 3; st = List.[]; d = 0; at = λ x. x },
+        (Num.vAt 5 λ x. x, (Bool.bAt 6 λ x. x, (Num.vAt 9 λ x. x, tt))),
+      ),
+    ),
+  )
+
   abbrev s21 : Typed.Both T25 T26
-  s21 = Call.callB ps·2 r·2 (claims· .4) (claims· .5) T25 (record { pos = 1; ty = Syntax.tyRef (Syntax.named 0) Syntax.imm RelayPending.to; ref = λ x.
-      x; }, (record { pos = 2; ty = Syntax.tyRef (Syntax.named 1) Syntax.imm RelayCircuit.to; ref = λ x. x; }, (record { pos = 3; st = List.[]; d = 0;
-      at = λ x. x }, (Num.vAt 5 λ x. x, (Bool.bAt 6 λ x. x, (Num.vAt 9 λ x. x, tt))),),),) 10 (0 ∷ 1 ∷ List.[]) Syntax.tyBool
+  s21 = Call.callB ps·2 r·2 (claims· .4) (claims· .5) T25 args21 10 (0 ∷ 1 ∷ List.[]) Syntax.tyBool
+
+  abbrev args22 : Args'.ArgsT ps·3 (T26 .locals)
+  args22 = (record { pos = 7; st = List.[]; d = 0; at = λ x. x }, (Num.vAt 9 λ x. x, (Bool.bAt 10 λ x. x, tt)))
+
   abbrev s22 : Typed.Both T26 T27
-  s22 = Call.callB ps·3 r·3 (claims· .6) (claims· .7) T26 (record { pos = 7; st = List.[]; d = 0; at = λ x. x }, (Num.vAt 9 λ x. x, (Bool.bAt 10 λ x.
-      x, tt)),) 7 List.[] Laws'.mir
+  s22 = Call.callB ps·3 r·3 (claims· .6) (claims· .7) T26 args22 7 List.[] Laws'.mir
+
   abbrev s23 : Typed.Asks T27 T28
-  s23 = Scalar.k-op2 T27 (Syntax.add Syntax.unsigned) (Scalar.oAt 8 (Syntax.tyInt Syntax.w64) (Row.valS (Row.sInt Syntax.w64))) (Scalar.oInt
-      Syntax.w64 8) 8 (Rows.sc-here (Row.sInt Syntax.w64)) (Row.sInt Syntax.w64 .of)
+  s23 = Scalar.k-op2 T27 (Syntax.add Syntax.unsigned) (Scalar.oAt 8 (Syntax.tyInt Syntax.w64)
+      (Row.valS (Row.sInt Syntax.w64))) (Scalar.oInt Syntax.w64 8) 8 (Rows.sc-here (Row.sInt Syntax.w64))
+      (Row.sInt Syntax.w64 .of)
+
   abbrev s24 : Typed.Mo T28 → Typed.Mo T29
   s24 = Scalar.n-room T28 9 (Syntax.tyInt Syntax.w64)
+
   abbrev s25 : Typed.Mo T29 → Typed.Mo T30
   s25 = Scalar.n-room T29 10 Syntax.tyBool
+
   abbrev s26 : Typed.Mo T5 → Typed.Mo T31
-  s26 = LocalCopy.n-val-copy T5 7 0 (Declared.row Drawing.the-type) (Rows.whole (Declared.row Drawing.the-type)) (Rows.whole (Declared.row
-      Drawing.the-type)) (λ x. x) (λ x. x) λ x. x
+  s26 = LocalCopy.n-val-copy T5 7 0 (Declared.row Drawing.the-type) (Rows.whole (Declared.row Drawing.the-type))
+      (Rows.whole (Declared.row Drawing.the-type)) (λ x. x) (λ x. x) λ x. x
+
   abbrev s27 : Typed.Mo T31 → Typed.Mo T32
   s27 = Scalar.n-room T31 7 Laws'.mir
+
   abbrev s28 : Typed.Mo T32 → Typed.Mo T33
   s28 = Scalar.n-room T32 8 (Syntax.tyInt Syntax.w64)
+
   abbrev s29 : Typed.Mo T33 → Typed.Mo T34
   s29 = Scalar.n-room T33 5 (Syntax.tyInt Syntax.w64)
+
   abbrev s30 : Typed.Mo T34 → Typed.Mo T35
   s30 = Scalar.n-room T34 6 Syntax.tyBool
-  abbrev put0 : Rows.whole (Declared.row Drawing.the-type) .Mod × Rows.sc-here (Row.sInt Syntax.w64) .Mod → Typed.Mo T4 → Typed.Mo T4
-  put0 = λ vs u. Row.set 8 (8, Rows.sc-here (Row.sInt Syntax.w64)) (vs .1) (T4 .locals) (Row.set 7 (7, Rows.whole (Declared.row Drawing.the-type),)
-      (vs .0) (T4 .locals) u)
-  module _ (Pre· : (κs : Lifetimes.Lfts 3) → Kinds.Dens κs ps → Type 0) (Post· : (κs : Lifetimes.Lfts 3) → (a : Kinds.Dens κs ps) → Kinds.Plain 3 ps r
-      κs) where
+
+  abbrev put0 : Rows.whole (Declared.row Drawing.the-type) .Mod × Rows.sc-here (Row.sInt Syntax.w64) .Mod → Typed.Mo T4
+      → Typed.Mo T4
+  put0 = λ vs u. Row.set 8 (8, Rows.sc-here (Row.sInt Syntax.w64)) (vs .1) (T4 .locals) (Row.set 7
+      (7, Rows.whole (Declared.row Drawing.the-type)) (vs .0) (T4 .locals) u)
+
+  module _ (Pre· : (κs : Lifetimes.Lfts 3) → Kinds.Dens κs ps → Type 0) (Post· : (κs : Lifetimes.Lfts 3) →
+      (a : Kinds.Dens κs ps) → Kinds.Plain 3 ps r κs) where
     module _ (M : Type 1) where
       abbrev pub Closed : Type 2
-      Closed = (𝓤 : URA.URA M) (H : Wp.Heap 𝓤) (A : Atoms.Atoms 𝓤) (W : Kit.Given 𝓤 H A) (𝓣 : Wp.Tables 𝓤 H) (known0 : Plain.Known 𝓤 H A W 𝓣 0 ps·0
-          r·0 (claims· .0) (claims· .1) "hnsr_circuit::draw::undrawn") (known1 : Plain.Known 𝓤 H A W 𝓣 1 ps·1 r·1 (claims· .2) (claims· .3)
-          "hnsr_circuit::draw::draw_at") (known2 : Plain.Known 𝓤 H A W 𝓣 2 ps·2 r·2 (claims· .4) (claims· .5) "hnsr_circuit::handle_open::id_taken")
-          (known3 : Plain.Known 𝓤 H A W 𝓣 0 ps·3 r·3 (claims· .6) (claims· .7) "hnsr_circuit::draw::draw_turn") → Statement.Triple 𝓤 (Wp.WpFn 𝓤 H (𝓣
-          .C) (𝓣 .Λ) (Function.fnOf 3 ps r xs m hs body)) (Function.plainOf 𝓤 H A 3 ps r Pre· Post·)
+      Closed = (𝓤 : URA.URA M) (H : Wp.Heap 𝓤) (A : Atoms.Atoms 𝓤) (W : Kit.Given 𝓤 H A) (𝓣 : Wp.Tables 𝓤 H) (known0 :
+          Plain.Known 𝓤 H A W 𝓣 0 ps·0 r·0 (claims· .0) (claims· .1) "hnsr_circuit::draw::undrawn") (known1 :
+          Plain.Known 𝓤 H A W 𝓣 1 ps·1 r·1 (claims· .2) (claims· .3) "hnsr_circuit::draw::draw_at") (known2 :
+          Plain.Known 𝓤 H A W 𝓣 2 ps·2 r·2 (claims· .4) (claims· .5) "hnsr_circuit::handle_open::id_taken") (known3 :
+          Plain.Known 𝓤 H A W 𝓣 0 ps·3 r·3 (claims· .6) (claims· .7) "hnsr_circuit::draw::draw_turn") →
+          Statement.Triple 𝓤 (Wp.WpFn 𝓤 H (𝓣 .C) (𝓣 .Λ) (Function.fnOf 3 ps r xs m hs body))
+          (Function.plainOf 𝓤 H A 3 ps r Pre· Post·)
+
     module _ (Inv·0 : InvT-loop) (μ·0 : MeasureT-loop) where
       abbrev at0 : Typed.TF T12 O4
       at0 = Typed.atNext O4
+
       abbrev at1 : Typed.TF T11 O4
       at1 = λ Ψ. Typed.pass T11 T12 s8 (at0 Ψ)
+
       abbrev at2 : Typed.TF T14 O4
       at2 = Typed.atExit 1 O4
+
       abbrev at3 : Typed.TF T13 O4
       at3 = λ Ψ. Typed.pass T13 T14 s10 (at2 Ψ)
+
       abbrev at4 : Typed.TF T11 O4
       at4 = λ Ψ. Typed.pass T11 T13 s9 (at3 Ψ)
+
       abbrev at5 : Typed.TF T11 O4
       at5 = Scalar.Φcond T11 O4 13 (λ x. x) at1 at4
+
       abbrev at6 : Typed.TF T9 O4
       at6 = λ Ψ. Typed.pass T9 T11 s7 (at5 Ψ)
+
       abbrev at7 : Typed.TF T23 O5
       at7 = Typed.atRet O5
+
       abbrev at8 : Typed.TF T22 O5
       at8 = λ Ψ. Typed.pass T22 T23 s18 (at7 Ψ)
+
       abbrev at9 : Typed.TF T21 O5
       at9 = λ Ψ. Typed.pass T21 T22 s17 (at8 Ψ)
+
       abbrev at10 : Typed.TF T20 O5
       at10 = λ Ψ. Typed.pass T20 T21 s16 (at9 Ψ)
+
       abbrev at11 : Typed.TF T19 O5
       at11 = λ Ψ. Typed.pass T19 T20 s15 (at10 Ψ)
+
       abbrev at12 : Typed.TF T18 O5
       at12 = λ Ψ. Typed.pass T18 T19 s14 (at11 Ψ)
+
       abbrev at13 : Typed.TF T17 O5
       at13 = λ Ψ. Typed.pass T17 T18 s13 (at12 Ψ)
+
       abbrev at14 : Typed.TF T15 O5
       at14 = λ Ψ. Typed.pass T15 T17 s12 (at13 Ψ)
+
       abbrev at15 : Typed.TF T24 O5
       at15 = Typed.atNext O5
+
       abbrev at16 : Typed.TF T15 O5
       at16 = λ Ψ. Typed.pass T15 T24 s19 (at15 Ψ)
+
       abbrev at17 : Typed.TF T15 O5
       at17 = Scalar.Φcond T15 O5 13 (λ x. x) at14 at16
+
       abbrev at18 : Typed.TF T27 O3
       at18 = λ Ψ. Typed.ask s23 (Typed.pass T28 T29 s24 (Typed.pass T29 T30 s25 (Typed.atNext O3 Ψ)))
+
       abbrev at19 : Typed.TF T26 O3
       at19 = λ Ψ. Typed.both s22 (at18 Ψ)
+
       abbrev at20 : Typed.TF T25 O3
       at20 = λ Ψ. Typed.both s21 (at19 Ψ)
+
       abbrev at21 : Typed.TF T16 O3
       at21 = λ Ψ. Typed.both s20 (at20 Ψ)
+
       abbrev at22 : Typed.TF T15 O3
       at22 = λ Ψ. at17 (Typed.wantNext T16 O3 (at21 Ψ) Ψ)
+
       abbrev at23 : Typed.TF T10 O3
       at23 = λ Ψ. Typed.pass T10 T15 s11 (at22 Ψ)
+
       abbrev at24 : Typed.TF T9 O3
       at24 = λ Ψ. at6 (Typed.wantNext T10 O3 (at23 Ψ) Ψ)
+
       abbrev at25 : Typed.TF T8 O3
       at25 = λ Ψ. Typed.ask s6 (at24 Ψ)
+
       abbrev at26 : Typed.TF T7 O3
       at26 = λ Ψ. Typed.pass T7 T8 s5 (at25 Ψ)
+
       abbrev at27 : Typed.TF T6 O3
       at27 = λ Ψ. Typed.ask s4 (at26 Ψ)
+
       abbrev at28 : Typed.TF T4 O3
       at28 = λ Ψ. Typed.pass T4 T6 s3 (at27 Ψ)
+
       abbrev at29 : Typed.TF T4 O2
-      at29 = Typed.LoopBy T4 O2 put0 (λ u vs. Inv·0 (Row.get 1 (T4 .locals) u .now) (Row.get 2 (T4 .locals) u .now) (Row.get 3 (T4 .locals) u)
-          (Row.get 4 (T4 .locals) u .now) (Row.get 5 (T4 .locals) u) (Row.get 6 (T4 .locals) u) (Row.get 7 (T4 .locals) u) (Row.get 8 (T4 .locals) u)
-          (vs .0) (vs .1)) (λ u vs. μ·0 (Row.get 1 (T4 .locals) u .now) (Row.get 2 (T4 .locals) u .now) (Row.get 3 (T4 .locals) u) (Row.get 4 (T4
-          .locals) u .now) (Row.get 5 (T4 .locals) u) (Row.get 6 (T4 .locals) u) (Row.get 7 (T4 .locals) u) (Row.get 8 (T4 .locals) u) (vs .0) (vs
-          .1)) at28
+      at29 = Typed.LoopBy T4 O2 put0 (λ u vs. Inv·0 (Row.get 1 (T4 .locals) u .now) (Row.get 2 (T4 .locals) u .now)
+          (Row.get 3 (T4 .locals) u) (Row.get 4 (T4 .locals) u .now) (Row.get 5 (T4 .locals) u)
+          (Row.get 6 (T4 .locals) u) (Row.get 7 (T4 .locals) u) (Row.get 8 (T4 .locals) u) (vs .0) (vs .1)) (λ u vs.
+          μ·0 (Row.get 1 (T4 .locals) u .now) (Row.get 2 (T4 .locals) u .now) (Row.get 3 (T4 .locals) u)
+          (Row.get 4 (T4 .locals) u .now) (Row.get 5 (T4 .locals) u) (Row.get 6 (T4 .locals) u)
+          (Row.get 7 (T4 .locals) u) (Row.get 8 (T4 .locals) u) (vs .0) (vs .1)) at28
+
       abbrev at30 : Typed.TF T4 O1
       at30 = λ Ψ. at29 (Typed.inBlock O1 Ψ)
+
       abbrev at31 : Typed.TF T35 O0
       at31 = Typed.atRet O0
+
       abbrev at32 : Typed.TF T34 O0
       at32 = λ Ψ. Typed.pass T34 T35 s30 (at31 Ψ)
+
       abbrev at33 : Typed.TF T33 O0
       at33 = λ Ψ. Typed.pass T33 T34 s29 (at32 Ψ)
+
       abbrev at34 : Typed.TF T32 O0
       at34 = λ Ψ. Typed.pass T32 T33 s28 (at33 Ψ)
+
       abbrev at35 : Typed.TF T31 O0
       at35 = λ Ψ. Typed.pass T31 T32 s27 (at34 Ψ)
+
       abbrev at36 : Typed.TF T5 O0
       at36 = λ Ψ. Typed.pass T5 T31 s26 (at35 Ψ)
+
       abbrev at37 : Typed.TF T4 O0
       at37 = λ Ψ. at30 (Typed.wantNext T5 O0 (at36 Ψ) Ψ)
+
       abbrev at38 : Typed.TF T3 O0
       at38 = λ Ψ. Typed.pass T3 T4 s2 (at37 Ψ)
+
       abbrev at39 : Typed.TF T2 O0
       at39 = λ Ψ. Typed.both s1 (at38 Ψ)
+
       abbrev at40 : Typed.TF T0 O0
       at40 = λ Ψ. Typed.give s0 (at39 Ψ)
+
       abbrev pub Φ : Typed.TF T0 O0
       Φ = at40
-      module _ { M : Type 1 } (𝓤 : URA.URA M) (H : Wp.Heap 𝓤) (A : Atoms.Atoms 𝓤) (W : Kit.Given 𝓤 H A) (𝓣 : Wp.Tables 𝓤 H) where
+
+      module _ {M : Type 1} (𝓤 : URA.URA M) (H : Wp.Heap 𝓤) (A : Atoms.Atoms 𝓤) (W : Kit.Given 𝓤 H A)
+          (𝓣 : Wp.Tables 𝓤 H) where
         abbrev Knowns : Type 1
-        Knowns = Plain.Known 𝓤 H A W 𝓣 0 ps·0 r·0 (claims· .0) (claims· .1) "hnsr_circuit::draw::undrawn" × Plain.Known 𝓤 H A W 𝓣 1 ps·1 r·1 (claims·
-            .2) (claims· .3) "hnsr_circuit::draw::draw_at" × Plain.Known 𝓤 H A W 𝓣 2 ps·2 r·2 (claims· .4) (claims· .5)
-            "hnsr_circuit::handle_open::id_taken" × Plain.Known 𝓤 H A W 𝓣 0 ps·3 r·3 (claims· .6) (claims· .7) "hnsr_circuit::draw::draw_turn"
+        Knowns = Plain.Known 𝓤 H A W 𝓣 0 ps·0 r·0 (claims· .0) (claims· .1) "hnsr_circuit::draw::undrawn" × Plain.Known
+            𝓤 H A W 𝓣 1 ps·1 r·1 (claims· .2) (claims· .3) "hnsr_circuit::draw::draw_at" × Plain.Known 𝓤 H A W 𝓣 2 ps·2
+            r·2 (claims· .4) (claims· .5) "hnsr_circuit::handle_open::id_taken" × Plain.Known 𝓤 H A W 𝓣 0 ps·3 r·3
+            (claims· .6) (claims· .7) "hnsr_circuit::draw::draw_turn"
+
       module _ (κs : Lifetimes.Lfts 3) (qs : Lifetimes.Shares 3) where
         abbrev life0 : Row.Life
         life0 = Row.lease (κs .0) (qs .0)
+
         abbrev life1 : Row.Life
         life1 = Row.lease (κs .1 .0) (qs .1 .0)
+
         abbrev life2 : Row.Life
         life2 = Row.lease (κs .1 .1 .0) (qs .1 .1 .0)
+
         abbrev G0 : Row.Cx
-        G0 = record { locals = t0; slots = life0 ∷ life1 ∷ life2 ∷ List.[]; }
+        G0 = record { locals = t0; slots = life0 ∷ life1 ∷ life2 ∷ List.[] }
+
         abbrev G1 : Row.Cx
-        G1 = record { locals = t1; slots = life0 ∷ life1 ∷ life2 ∷ List.[]; }
+        G1 = record { locals = t1; slots = life0 ∷ life1 ∷ life2 ∷ List.[] }
+
         abbrev G2 : Row.Cx
-        G2 = record { locals = t0; slots = life0 ∷ life1 ∷ life2 ∷ List.[]; }
+        G2 = record { locals = t0; slots = life0 ∷ life1 ∷ life2 ∷ List.[] }
+
         abbrev G3 : Row.Cx
-        G3 = record { locals = t2; slots = life0 ∷ life1 ∷ life2 ∷ List.[]; }
+        G3 = record { locals = t2; slots = life0 ∷ life1 ∷ life2 ∷ List.[] }
+
         abbrev G4 : Row.Cx
-        G4 = record { locals = t3; slots = life0 ∷ life1 ∷ life2 ∷ List.[]; }
+        G4 = record { locals = t3; slots = life0 ∷ life1 ∷ life2 ∷ List.[] }
+
         abbrev G5 : Row.Cx
-        G5 = record { locals = t4; slots = life0 ∷ life1 ∷ life2 ∷ List.[]; }
+        G5 = record { locals = t4; slots = life0 ∷ life1 ∷ life2 ∷ List.[] }
+
         abbrev G6 : Row.Cx
-        G6 = record { locals = t5; slots = life0 ∷ life1 ∷ life2 ∷ List.[]; }
+        G6 = record { locals = t5; slots = life0 ∷ life1 ∷ life2 ∷ List.[] }
+
         abbrev G7 : Row.Cx
-        G7 = record { locals = t6; slots = life0 ∷ life1 ∷ life2 ∷ List.[]; }
+        G7 = record { locals = t6; slots = life0 ∷ life1 ∷ life2 ∷ List.[] }
+
         abbrev G8 : Row.Cx
-        G8 = record { locals = t7; slots = life0 ∷ life1 ∷ life2 ∷ List.[]; }
+        G8 = record { locals = t7; slots = life0 ∷ life1 ∷ life2 ∷ List.[] }
+
         abbrev G9 : Row.Cx
-        G9 = record { locals = t8; slots = life0 ∷ life1 ∷ life2 ∷ List.[]; }
+        G9 = record { locals = t8; slots = life0 ∷ life1 ∷ life2 ∷ List.[] }
+
         abbrev G10 : Row.Cx
-        G10 = record { locals = t3; slots = life0 ∷ life1 ∷ life2 ∷ List.[]; }
+        G10 = record { locals = t3; slots = life0 ∷ life1 ∷ life2 ∷ List.[] }
+
         abbrev G11 : Row.Cx
-        G11 = record { locals = t9; slots = life0 ∷ life1 ∷ life2 ∷ List.[]; }
+        G11 = record { locals = t9; slots = life0 ∷ life1 ∷ life2 ∷ List.[] }
+
         abbrev G12 : Row.Cx
-        G12 = record { locals = t3; slots = life0 ∷ life1 ∷ life2 ∷ List.[]; }
+        G12 = record { locals = t3; slots = life0 ∷ life1 ∷ life2 ∷ List.[] }
+
         abbrev G13 : Row.Cx
-        G13 = record { locals = t10; slots = life0 ∷ life1 ∷ life2 ∷ List.[]; }
+        G13 = record { locals = t10; slots = life0 ∷ life1 ∷ life2 ∷ List.[] }
+
         abbrev G14 : Row.Cx
-        G14 = record { locals = t4; slots = life0 ∷ life1 ∷ life2 ∷ List.[]; }
+        G14 = record { locals = t4; slots = life0 ∷ life1 ∷ life2 ∷ List.[] }
+
         abbrev G15 : Row.Cx
-        G15 = record { locals = t9; slots = life0 ∷ life1 ∷ life2 ∷ List.[]; }
+        G15 = record { locals = t9; slots = life0 ∷ life1 ∷ life2 ∷ List.[] }
+
         abbrev G16 : Row.Cx
-        G16 = record { locals = t3; slots = life0 ∷ life1 ∷ life2 ∷ List.[]; }
+        G16 = record { locals = t3; slots = life0 ∷ life1 ∷ life2 ∷ List.[] }
+
         abbrev G17 : Row.Cx
-        G17 = record { locals = t10; slots = life0 ∷ life1 ∷ life2 ∷ List.[]; }
+        G17 = record { locals = t10; slots = life0 ∷ life1 ∷ life2 ∷ List.[] }
+
         abbrev G18 : Row.Cx
-        G18 = record { locals = t4; slots = life0 ∷ life1 ∷ life2 ∷ List.[]; }
+        G18 = record { locals = t4; slots = life0 ∷ life1 ∷ life2 ∷ List.[] }
+
         abbrev G19 : Row.Cx
-        G19 = record { locals = t11; slots = life0 ∷ life1 ∷ life2 ∷ List.[]; }
+        G19 = record { locals = t11; slots = life0 ∷ life1 ∷ life2 ∷ List.[] }
+
         abbrev G20 : Row.Cx
-        G20 = record { locals = t12; slots = life0 ∷ life1 ∷ life2 ∷ List.[]; }
+        G20 = record { locals = t12; slots = life0 ∷ life1 ∷ life2 ∷ List.[] }
+
         abbrev G21 : Row.Cx
-        G21 = record { locals = t13; slots = life0 ∷ life1 ∷ life2 ∷ List.[]; }
+        G21 = record { locals = t13; slots = life0 ∷ life1 ∷ life2 ∷ List.[] }
+
         abbrev G22 : Row.Cx
-        G22 = record { locals = t14; slots = life0 ∷ life1 ∷ life2 ∷ List.[]; }
+        G22 = record { locals = t14; slots = life0 ∷ life1 ∷ life2 ∷ List.[] }
+
         abbrev G23 : Row.Cx
-        G23 = record { locals = t1; slots = life0 ∷ life1 ∷ life2 ∷ List.[]; }
+        G23 = record { locals = t1; slots = life0 ∷ life1 ∷ life2 ∷ List.[] }
+
         abbrev G24 : Row.Cx
-        G24 = record { locals = t3; slots = life0 ∷ life1 ∷ life2 ∷ List.[]; }
+        G24 = record { locals = t3; slots = life0 ∷ life1 ∷ life2 ∷ List.[] }
+
         abbrev G25 : Row.Cx
-        G25 = record { locals = t15; slots = life0 ∷ life1 ∷ life2 ∷ List.[]; }
+        G25 = record { locals = t15; slots = life0 ∷ life1 ∷ life2 ∷ List.[] }
+
         abbrev G26 : Row.Cx
-        G26 = record { locals = t16; slots = life0 ∷ life1 ∷ life2 ∷ List.[]; }
+        G26 = record { locals = t16; slots = life0 ∷ life1 ∷ life2 ∷ List.[] }
+
         abbrev G27 : Row.Cx
-        G27 = record { locals = t16; slots = life0 ∷ life1 ∷ life2 ∷ List.[]; }
+        G27 = record { locals = t16; slots = life0 ∷ life1 ∷ life2 ∷ List.[] }
+
         abbrev G28 : Row.Cx
-        G28 = record { locals = t16; slots = life0 ∷ life1 ∷ life2 ∷ List.[]; }
+        G28 = record { locals = t16; slots = life0 ∷ life1 ∷ life2 ∷ List.[] }
+
         abbrev G29 : Row.Cx
-        G29 = record { locals = t17; slots = life0 ∷ life1 ∷ life2 ∷ List.[]; }
+        G29 = record { locals = t17; slots = life0 ∷ life1 ∷ life2 ∷ List.[] }
+
         abbrev G30 : Row.Cx
-        G30 = record { locals = t3; slots = life0 ∷ life1 ∷ life2 ∷ List.[]; }
+        G30 = record { locals = t3; slots = life0 ∷ life1 ∷ life2 ∷ List.[] }
+
         abbrev G31 : Row.Cx
-        G31 = record { locals = t11; slots = life0 ∷ life1 ∷ life2 ∷ List.[]; }
+        G31 = record { locals = t11; slots = life0 ∷ life1 ∷ life2 ∷ List.[] }
+
         abbrev G32 : Row.Cx
-        G32 = record { locals = t12; slots = life0 ∷ life1 ∷ life2 ∷ List.[]; }
+        G32 = record { locals = t12; slots = life0 ∷ life1 ∷ life2 ∷ List.[] }
+
         abbrev G33 : Row.Cx
-        G33 = record { locals = t18; slots = life0 ∷ life1 ∷ life2 ∷ List.[]; }
+        G33 = record { locals = t18; slots = life0 ∷ life1 ∷ life2 ∷ List.[] }
+
         abbrev G34 : Row.Cx
-        G34 = record { locals = t19; slots = life0 ∷ life1 ∷ life2 ∷ List.[]; }
+        G34 = record { locals = t19; slots = life0 ∷ life1 ∷ life2 ∷ List.[] }
+
         abbrev G35 : Row.Cx
-        G35 = record { locals = t1; slots = life0 ∷ life1 ∷ life2 ∷ List.[]; }
+        G35 = record { locals = t1; slots = life0 ∷ life1 ∷ life2 ∷ List.[] }
+
         abbrev Δ0 : Typed.Outs
         Δ0 = record { next = Option.none; exits = List.[]; returns = Option.some G1 }
+
         abbrev Δ1 : Typed.Outs
         Δ1 = Typed.withNext (Option.some G5) Δ0
+
         abbrev Δ2 : Typed.Outs
         Δ2 = Typed.inBlock₀ Δ1
+
         abbrev Δ3 : Typed.Outs
         Δ3 = Typed.inLoop₀ G4 Δ2
+
         abbrev Δ4 : Typed.Outs
         Δ4 = Typed.withNext (Option.some G10) Δ3
+
         abbrev Δ5 : Typed.Outs
         Δ5 = Typed.withNext (Option.some G16) Δ3
-        module _ { M : Type 1 } (𝓤 : URA.URA M) (H : Wp.Heap 𝓤) (A : Atoms.Atoms 𝓤) (W : Kit.Given 𝓤 H A) (𝓣 : Wp.Tables 𝓤 H) (known : Knowns 𝓤 H A W
-            𝓣) (bs : List.List Nat.ℕ) (bd : Lifetimes.AllOutlive 3 (Kinds.osR r) κs) where
+
+        module _ {M : Type 1} (𝓤 : URA.URA M) (H : Wp.Heap 𝓤) (A : Atoms.Atoms 𝓤) (W : Kit.Given 𝓤 H A)
+            (𝓣 : Wp.Tables 𝓤 H) (known : Knowns 𝓤 H A W 𝓣) (bs : List.List Nat.ℕ)
+            (bd : Lifetimes.AllOutlive 3 (Kinds.osR r) κs) where
           abbrev E : Wp.Env 𝓤 H
           E = Frame.EnvOf 𝓤 H ((Kinds.tyR r) ∷ (Enter.tysP ps xs)) bs
+
           d0 : Typed.Typed 𝓤 H A 𝓣 E G12 b5 Δ4 at0
           d0 = Typed.t-skip 𝓤 H A W 𝓣 E Δ4 tt
+
           d1 : Typed.Typed 𝓤 H A 𝓣 E G11 b5 Δ4 at1
-          d1 = Typed.g-pre 𝓤 H A W 𝓣 E G11 G12 b5 Δ4 (Typed.pass T11 T12 s8) at0 (Scalar.g-room 𝓤 H A W E G11 13 Syntax.tyBool (Scalar.room-sc 𝓤 H A W
-              Row.sBool)) d0
+          d1 = Typed.g-pre 𝓤 H A W 𝓣 E G11 G12 b5 Δ4 (Typed.pass T11 T12 s8) at0 (Scalar.g-room 𝓤 H A W E G11 13
+              Syntax.tyBool (Scalar.room-sc 𝓤 H A W Row.sBool)) d0
+
           d2 : Typed.Typed 𝓤 H A 𝓣 E G14 b6 Δ4 at2
           d2 = Typed.t-exit 𝓤 H A W 𝓣 E 1 Δ4 tt
+
           d3 : Typed.Typed 𝓤 H A 𝓣 E G13 b6 Δ4 at3
-          d3 = Typed.g-pre 𝓤 H A W 𝓣 E G13 G14 b6 Δ4 (Typed.pass T13 T14 s10) at2 (Scalar.g-room 𝓤 H A W E G13 13 Syntax.tyBool (Scalar.room-sc 𝓤 H A
-              W Row.sBool)) d2
+          d3 = Typed.g-pre 𝓤 H A W 𝓣 E G13 G14 b6 Δ4 (Typed.pass T13 T14 s10) at2 (Scalar.g-room 𝓤 H A W E G13 13
+              Syntax.tyBool (Scalar.room-sc 𝓤 H A W Row.sBool)) d2
+
           d4 : Typed.Typed 𝓤 H A 𝓣 E G11 b6 Δ4 at4
-          d4 = Typed.g-pre 𝓤 H A W 𝓣 E G11 G13 b6 Δ4 (Typed.pass T11 T13 s9) at3 (Scalar.g-room 𝓤 H A W E G11 3 Laws.mir (Local.room-whole 𝓤 H A W
-              (Declared.row Places.the-type) Laws.mir Path.refl)) d3
+          d4 = Typed.g-pre 𝓤 H A W 𝓣 E G11 G13 b6 Δ4 (Typed.pass T11 T13 s9) at3 (Scalar.g-room 𝓤 H A W E G11 3
+              Laws.mir (Local.room-whole 𝓤 H A W (Declared.row Places.the-type) Laws.mir Path.refl)) d3
+
           d5 : Typed.Typed 𝓤 H A 𝓣 E G11 b7 Δ4 at5
-          d5 = Scalar.t-cond 𝓤 H A W E 𝓣 G11 13 (λ x. x) b5 b6 Δ4 at1 at4 (Scalar.reads-sc 𝓤 H A W Row.sBool) Path.refl d1 d4
+          d5 = Scalar.t-cond 𝓤 H A W E 𝓣 G11 13 (λ x. x) b5 b6 Δ4 at1 at4 (Scalar.reads-sc 𝓤 H A W Row.sBool) Path.refl
+              d1 d4
+
           d6 : Typed.Typed 𝓤 H A 𝓣 E G9 b7 Δ4 at6
-          d6 = Typed.g-pre 𝓤 H A W 𝓣 E G9 G11 b7 Δ4 (Typed.pass T9 T11 s7) at5 (Scalar.g-room 𝓤 H A W E G9 12 (Syntax.tyInt Syntax.w64)
-              (Scalar.room-sc 𝓤 H A W (Row.sInt Syntax.w64))) d5
+          d6 = Typed.g-pre 𝓤 H A W 𝓣 E G9 G11 b7 Δ4 (Typed.pass T9 T11 s7) at5 (Scalar.g-room 𝓤 H A W E G9 12
+              (Syntax.tyInt Syntax.w64) (Scalar.room-sc 𝓤 H A W (Row.sInt Syntax.w64))) d5
+
           d7 : Typed.Typed 𝓤 H A 𝓣 E G23 b10 Δ5 at7
           d7 = Typed.t-return 𝓤 H A W 𝓣 E Δ5 tt
+
           d8 : Typed.Typed 𝓤 H A 𝓣 E G22 b10 Δ5 at8
-          d8 = Typed.g-pre 𝓤 H A W 𝓣 E G22 G23 b10 Δ5 (Typed.pass T22 T23 s18) at7 (Scalar.g-room 𝓤 H A W E G22 8 (Syntax.tyInt Syntax.w64)
-              (Scalar.room-sc 𝓤 H A W (Row.sInt Syntax.w64))) d7
+          d8 = Typed.g-pre 𝓤 H A W 𝓣 E G22 G23 b10 Δ5 (Typed.pass T22 T23 s18) at7 (Scalar.g-room 𝓤 H A W E G22 8
+              (Syntax.tyInt Syntax.w64) (Scalar.room-sc 𝓤 H A W (Row.sInt Syntax.w64))) d7
+
           d9 : Typed.Typed 𝓤 H A 𝓣 E G21 b10 Δ5 at9
-          d9 = Typed.g-pre 𝓤 H A W 𝓣 E G21 G22 b10 Δ5 (Typed.pass T21 T22 s17) at8 (Scalar.g-room 𝓤 H A W E G21 6 Syntax.tyBool (Scalar.room-sc 𝓤 H A
-              W Row.sBool)) d8
+          d9 = Typed.g-pre 𝓤 H A W 𝓣 E G21 G22 b10 Δ5 (Typed.pass T21 T22 s17) at8 (Scalar.g-room 𝓤 H A W E G21 6
+              Syntax.tyBool (Scalar.room-sc 𝓤 H A W Row.sBool)) d8
+
           d10 : Typed.Typed 𝓤 H A 𝓣 E G20 b10 Δ5 at10
-          d10 = Typed.g-pre 𝓤 H A W 𝓣 E G20 G21 b10 Δ5 (Typed.pass T20 T21 s16) at9 (Scalar.g-room 𝓤 H A W E G20 5 (Syntax.tyInt Syntax.w64)
-              (Scalar.room-sc 𝓤 H A W (Row.sInt Syntax.w64))) d9
+          d10 = Typed.g-pre 𝓤 H A W 𝓣 E G20 G21 b10 Δ5 (Typed.pass T20 T21 s16) at9 (Scalar.g-room 𝓤 H A W E G20 5
+              (Syntax.tyInt Syntax.w64) (Scalar.room-sc 𝓤 H A W (Row.sInt Syntax.w64))) d9
+
           d11 : Typed.Typed 𝓤 H A 𝓣 E G19 b10 Δ5 at11
-          d11 = Typed.g-pre 𝓤 H A W 𝓣 E G19 G20 b10 Δ5 (Typed.pass T19 T20 s15) at10 (Scalar.g-room 𝓤 H A W E G19 7 Laws'.mir (Local.room-whole 𝓤 H A
-              W (Declared.row Drawing.the-type) Laws'.mir Path.refl)) d10
+          d11 = Typed.g-pre 𝓤 H A W 𝓣 E G19 G20 b10 Δ5 (Typed.pass T19 T20 s15) at10 (Scalar.g-room 𝓤 H A W E G19 7
+              Laws'.mir (Local.room-whole 𝓤 H A W (Declared.row Drawing.the-type) Laws'.mir Path.refl)) d10
+
           d12 : Typed.Typed 𝓤 H A 𝓣 E G18 b11 Δ5 at12
-          d12 = Typed.s-seq 𝓤 H A W 𝓣 E G18 G19 b9 b10 Δ5 (Typed.pass T18 T19 s14) at11 (LocalCopy.t-val-copy 𝓤 H A W E 𝓣 (λ ρ. Unit) G18 7 0
-              (Declared.row Drawing.the-type) Laws'.mir Laws'.mir (Rows.whole (Declared.row Drawing.the-type)) (Rows.whole (Declared.row
-              Drawing.the-type)) (λ x. x) (λ x. x) (λ x. x) Path.refl (Own.told-none 𝓤 H A (G18 .slots)) (Yields.yields-copy 𝓤 H A W (λ ρ. Unit)
-              (Declared.row Drawing.the-type) Path.refl (Copies.cStruct Drawing.the-type Laws'.the-laws Laws'.the-copy .copy 𝓤 H A W) (Rows.whole
-              (Declared.row Drawing.the-type)) (λ x. x) (λ x. x) (λ ρ told. Local.mem-whole 𝓤 H A W (Declared.row Drawing.the-type) ρ) λ ρ told.
-              Local.whole-mem 𝓤 H A W (Declared.row Drawing.the-type) ρ) (Reads'.room-gone 𝓤 H A Laws'.mir) (Yields.makes-mem 𝓤 H A W (λ ρ. Unit)
-              (Declared.row Drawing.the-type) Path.refl (Rows.whole (Declared.row Drawing.the-type)) (λ x. x) λ ρ told. Local.whole-mem 𝓤 H A W
-              (Declared.row Drawing.the-type) ρ) Path.refl Path.refl) d11
+          d12 = Typed.s-seq 𝓤 H A W 𝓣 E G18 G19 b9 b10 Δ5 (Typed.pass T18 T19 s14) at11 (LocalCopy.t-val-copy 𝓤 H A W E
+              𝓣 (λ ρ. Unit) G18 7 0 (Declared.row Drawing.the-type) Laws'.mir Laws'.mir
+              (Rows.whole (Declared.row Drawing.the-type)) (Rows.whole (Declared.row Drawing.the-type)) (λ x. x)
+              (λ x. x) (λ x. x) Path.refl (Own.told-none 𝓤 H A (G18 .slots)) (Yields.yields-copy 𝓤 H A W (λ ρ. Unit)
+              (Declared.row Drawing.the-type) Path.refl (Copies.cStruct Drawing.the-type Laws'.the-laws Laws'.the-copy
+              .copy 𝓤 H A W) (Rows.whole (Declared.row Drawing.the-type)) (λ x. x) (λ x. x) (λ ρ told. Local.mem-whole
+              𝓤 H A W (Declared.row Drawing.the-type) ρ) λ ρ told. Local.whole-mem 𝓤 H A W
+              (Declared.row Drawing.the-type) ρ) (Reads'.room-gone 𝓤 H A Laws'.mir) (Yields.makes-mem 𝓤 H A W
+              (λ ρ. Unit) (Declared.row Drawing.the-type) Path.refl (Rows.whole (Declared.row Drawing.the-type))
+              (λ x. x) λ ρ told. Local.whole-mem 𝓤 H A W (Declared.row Drawing.the-type) ρ) Path.refl Path.refl) d11
+
           d13 : Typed.Typed 𝓤 H A 𝓣 E G17 b11 Δ5 at13
-          d13 = Typed.g-pre 𝓤 H A W 𝓣 E G17 G18 b11 Δ5 (Typed.pass T17 T18 s13) at12 (Scalar.g-room 𝓤 H A W E G17 13 Syntax.tyBool (Scalar.room-sc 𝓤 H
-              A W Row.sBool)) d12
+          d13 = Typed.g-pre 𝓤 H A W 𝓣 E G17 G18 b11 Δ5 (Typed.pass T17 T18 s13) at12 (Scalar.g-room 𝓤 H A W E G17 13
+              Syntax.tyBool (Scalar.room-sc 𝓤 H A W Row.sBool)) d12
+
           d14 : Typed.Typed 𝓤 H A 𝓣 E G15 b11 Δ5 at14
-          d14 = Typed.g-pre 𝓤 H A W 𝓣 E G15 G17 b11 Δ5 (Typed.pass T15 T17 s12) at13 (Scalar.g-room 𝓤 H A W E G15 3 Laws.mir (Local.room-whole 𝓤 H A W
-              (Declared.row Places.the-type) Laws.mir Path.refl)) d13
+          d14 = Typed.g-pre 𝓤 H A W 𝓣 E G15 G17 b11 Δ5 (Typed.pass T15 T17 s12) at13 (Scalar.g-room 𝓤 H A W E G15 3
+              Laws.mir (Local.room-whole 𝓤 H A W (Declared.row Places.the-type) Laws.mir Path.refl)) d13
+
           d15 : Typed.Typed 𝓤 H A 𝓣 E G24 b12 Δ5 at15
           d15 = Typed.t-skip 𝓤 H A W 𝓣 E Δ5 tt
+
           d16 : Typed.Typed 𝓤 H A 𝓣 E G15 b12 Δ5 at16
-          d16 = Typed.g-pre 𝓤 H A W 𝓣 E G15 G24 b12 Δ5 (Typed.pass T15 T24 s19) at15 (Scalar.g-room 𝓤 H A W E G15 13 Syntax.tyBool (Scalar.room-sc 𝓤 H
-              A W Row.sBool)) d15
+          d16 = Typed.g-pre 𝓤 H A W 𝓣 E G15 G24 b12 Δ5 (Typed.pass T15 T24 s19) at15 (Scalar.g-room 𝓤 H A W E G15 13
+              Syntax.tyBool (Scalar.room-sc 𝓤 H A W Row.sBool)) d15
+
           d17 : Typed.Typed 𝓤 H A 𝓣 E G15 b13 Δ5 at17
-          d17 = Scalar.t-cond 𝓤 H A W E 𝓣 G15 13 (λ x. x) b11 b12 Δ5 at14 at16 (Scalar.reads-sc 𝓤 H A W Row.sBool) Path.refl d14 d16
+          d17 = Scalar.t-cond 𝓤 H A W E 𝓣 G15 13 (λ x. x) b11 b12 Δ5 at14 at16 (Scalar.reads-sc 𝓤 H A W Row.sBool)
+              Path.refl d14 d16
+
           d18 : Typed.Typed 𝓤 H A 𝓣 E G27 b17 Δ3 at18
-          d18 = Typed.s-typed 𝓤 H A W 𝓣 E G27 b17 Δ3 (λ Ψ. Typed.ask s23 (Typed.pass T28 T29 s24 (Typed.pass T29 T30 s25 Ψ))) tt (Typed.g-post 𝓤 H A W
-              𝓣 E G27 G29 G30 b17 (λ Ψ. Typed.ask s23 (Typed.pass T28 T29 s24 Ψ)) (Typed.pass T29 T30 s25) (Typed.g-post 𝓤 H A W 𝓣 E G27 G28 G29 b17
-              (Typed.ask s23) (Typed.pass T28 T29 s24) (Scalar.t-op2 𝓤 H A W E 𝓣 G27 (Syntax.add Syntax.unsigned) (Scalar.oAt 8 (Syntax.tyInt
-              Syntax.w64) (Row.valS (Row.sInt Syntax.w64))) (Scalar.oInt Syntax.w64 8) 8 (Rows.sc-here (Row.sInt Syntax.w64)) (Syntax.tyInt
-              Syntax.w64) (Row.valS (Row.sInt Syntax.w64)) (Row.sInt Syntax.w64 .of) (Scalar.reads-sc 𝓤 H A W (Row.sInt Syntax.w64), Path.refl) tt
-              (Scalar.room-sc 𝓤 H A W (Row.sInt Syntax.w64)) (Scalar.holds-sc 𝓤 H A W (Row.sInt Syntax.w64)) Path.refl (λ u. Path.refl) λ u. tt)
-              (Scalar.g-room 𝓤 H A W E G28 9 (Syntax.tyInt Syntax.w64) (Scalar.room-sc 𝓤 H A W (Row.sInt Syntax.w64)))) (Scalar.g-room 𝓤 H A W E G29
-              10 Syntax.tyBool (Scalar.room-sc 𝓤 H A W Row.sBool)))
+          d18 = Typed.s-typed 𝓤 H A W 𝓣 E G27 b17 Δ3 (λ Ψ. Typed.ask s23
+              (Typed.pass T28 T29 s24 (Typed.pass T29 T30 s25 Ψ))) tt (Typed.g-post 𝓤 H A W 𝓣 E G27 G29 G30 b17
+              (λ Ψ. Typed.ask s23 (Typed.pass T28 T29 s24 Ψ)) (Typed.pass T29 T30 s25) (Typed.g-post 𝓤 H A W 𝓣 E G27
+              G28 G29 b17 (Typed.ask s23) (Typed.pass T28 T29 s24) (Scalar.t-op2 𝓤 H A W E 𝓣 G27
+              (Syntax.add Syntax.unsigned) (Scalar.oAt 8 (Syntax.tyInt Syntax.w64) (Row.valS (Row.sInt Syntax.w64)))
+              (Scalar.oInt Syntax.w64 8) 8 (Rows.sc-here (Row.sInt Syntax.w64)) (Syntax.tyInt Syntax.w64)
+              (Row.valS (Row.sInt Syntax.w64)) (Row.sInt Syntax.w64 .of)
+              (Scalar.reads-sc 𝓤 H A W (Row.sInt Syntax.w64), Path.refl) tt
+              (Scalar.room-sc 𝓤 H A W (Row.sInt Syntax.w64)) (Scalar.holds-sc 𝓤 H A W (Row.sInt Syntax.w64)) Path.refl
+              (λ u. Path.refl) λ u. tt) (Scalar.g-room 𝓤 H A W E G28 9 (Syntax.tyInt Syntax.w64)
+              (Scalar.room-sc 𝓤 H A W (Row.sInt Syntax.w64)))) (Scalar.g-room 𝓤 H A W E G29 10 Syntax.tyBool
+              (Scalar.room-sc 𝓤 H A W Row.sBool)))
+
           d19 : Typed.Typed 𝓤 H A 𝓣 E G26 b18 Δ3 at19
-          d19 = Typed.s-seq 𝓤 H A W 𝓣 E G26 G27 b16 b17 Δ3 (Typed.both s22) at18 (Plain.t-call-plain 𝓤 H A W 𝓣 0 ps·3 r·3 (claims· .6) (claims· .7)
-              "hnsr_circuit::draw::draw_turn" (known .3) E (λ pos β. β) G26 (record { pos = 7; st = List.[]; d = 0; at = λ x. x }, (Num.vAt 9 λ x. x,
-              (Bool.bAt 10 λ x. x, tt)),) 7 List.[] (Call.sub-id 𝓤 H A W (G26 .slots)) ((Yields.yields-copy 𝓤 H A W (λ ρ. Unit) (Declared.row
-              Drawing.the-type) Path.refl (Copies.cStruct Drawing.the-type Laws'.the-laws Laws'.the-copy .copy 𝓤 H A W) (Rows.whole (Declared.row
-              Drawing.the-type)) (λ x. x) (λ x. x) (λ ρ told. Local.mem-whole 𝓤 H A W (Declared.row Drawing.the-type) ρ) λ ρ told. Local.whole-mem 𝓤 H
-              A W (Declared.row Drawing.the-type) ρ, Path.refl,), ((Scalar.reads-sc 𝓤 H A W (Row.sInt Syntax.w64), Path.refl), ((Scalar.reads-sc 𝓤 H A
-              W Row.sBool, Path.refl), tt),),) (Local.room-whole 𝓤 H A W (Declared.row Drawing.the-type) Laws'.mir Path.refl) tt Path.refl) d18
+          d19 = Typed.s-seq 𝓤 H A W 𝓣 E G26 G27 b16 b17 Δ3 (Typed.both s22) at18 (Plain.t-call-plain 𝓤 H A W 𝓣 0 ps·3
+              r·3 (claims· .6) (claims· .7) "hnsr_circuit::draw::draw_turn" (known .3) E (λ pos β. β) G26 (
+                record { pos = 7; st = List.[]; d = 0; at = λ x. x },
+                (Num.vAt 9 λ x. x, (Bool.bAt 10 λ x. x, tt)),
+              ) 7 List.[] (Call.sub-id 𝓤 H A W (G26 .slots)) (
+                (
+                  Yields.yields-copy 𝓤 H A W (λ ρ. Unit) (Declared.row Drawing.the-type) Path.refl (Copies.cStruct
+                      Drawing.the-type Laws'.the-laws Laws'.the-copy .copy 𝓤 H A W)
+                      (Rows.whole (Declared.row Drawing.the-type)) (λ x. x) (λ x. x) (λ ρ told. Local.mem-whole 𝓤 H A W
+                      (Declared.row Drawing.the-type) ρ) λ ρ told. Local.whole-mem 𝓤 H A W
+                      (Declared.row Drawing.the-type) ρ,
+                  Path.refl,
+                ),
+                (
+                  (Scalar.reads-sc 𝓤 H A W (Row.sInt Syntax.w64), Path.refl),
+                  ((Scalar.reads-sc 𝓤 H A W Row.sBool, Path.refl), tt),
+                ),
+              ) (Local.room-whole 𝓤 H A W (Declared.row Drawing.the-type) Laws'.mir Path.refl) tt Path.refl) d18
+
           d20 : Typed.Typed 𝓤 H A 𝓣 E G25 b19 Δ3 at20
-          d20 = Typed.s-seq 𝓤 H A W 𝓣 E G25 G26 b15 b18 Δ3 (Typed.both s21) at19 (Plain.t-call-plain 𝓤 H A W 𝓣 2 ps·2 r·2 (claims· .4) (claims· .5)
-              "hnsr_circuit::handle_open::id_taken" (known .2) E (λ pos β. β) G25 (record { pos = 1; ty = Syntax.tyRef (Syntax.named 0) Syntax.imm
-              RelayPending.to; ref = λ x. x; }, (record { pos = 2; ty = Syntax.tyRef (Syntax.named 1) Syntax.imm RelayCircuit.to; ref = λ x. x; },
-              (record { pos = 3; st = List.[]; d = 0; at = λ x. x }, (Num.vAt 5 λ x. x, (Bool.bAt 6 λ x. x, (Num.vAt 9 λ x. x, tt))),),),) 10 (0 ∷ 1 ∷
-              List.[]) (Call.sub-id 𝓤 H A W (G25 .slots)) (ShrSlice.spares-sslice 𝓤 H A W RelayPending.row ref0 0, Shared.reads-sslice 𝓤 H A W
-              RelayPending.row ref0 0, Path.refl, (ShrSlice.spares-sslice 𝓤 H A W RelayCircuit.row ref1 1, Shared.reads-sslice 𝓤 H A W
-              RelayCircuit.row ref1 1, Path.refl, ((Yields.yields-copy 𝓤 H A W (λ ρ. Unit) (Declared.row Places.the-type) Path.refl (Copies.cStruct
-              Places.the-type Laws.the-laws Laws.the-copy .copy 𝓤 H A W) (Rows.whole (Declared.row Places.the-type)) (λ x. x) (λ x. x) (λ ρ told.
-              Local.mem-whole 𝓤 H A W (Declared.row Places.the-type) ρ) λ ρ told. Local.whole-mem 𝓤 H A W (Declared.row Places.the-type) ρ,
-              Path.refl,), ((Scalar.reads-sc 𝓤 H A W (Row.sInt Syntax.w64), Path.refl), ((Scalar.reads-sc 𝓤 H A W Row.sBool, Path.refl),
-              ((Scalar.reads-sc 𝓤 H A W (Row.sInt Syntax.w64), Path.refl), tt),),),),),) (Reads'.room-gone 𝓤 H A Syntax.tyBool) (tt, (tt, tt))
-              Path.refl) d19
+          d20 = Typed.s-seq 𝓤 H A W 𝓣 E G25 G26 b15 b18 Δ3 (Typed.both s21) at19 (Plain.t-call-plain 𝓤 H A W 𝓣 2 ps·2
+              r·2 (claims· .4) (claims· .5) "hnsr_circuit::handle_open::id_taken" (known .2) E (λ pos β. β) G25 (
+                record { pos = 1; ty = ref0; ref = λ x. x },
+                (
+                  record { pos = 2; ty = ref1; ref = λ x. x },
+                  (
+                    record { pos = 3; st = List.[]; d = 0; at = λ x. x },
+                    (Num.vAt 5 λ x. x, (Bool.bAt 6 λ x. x, (Num.vAt 9 λ x. x, tt))),
+                  ),
+                ),
+              ) 10 (0 ∷ 1 ∷ List.[]) (Call.sub-id 𝓤 H A W (G25 .slots)) (
+                ShrSlice.spares-sslice 𝓤 H A W RelayPending.row ref0 0,
+                Shared.reads-sslice 𝓤 H A W RelayPending.row ref0 0,
+                Path.refl,
+                (
+                  ShrSlice.spares-sslice 𝓤 H A W RelayCircuit.row ref1 1,
+                  Shared.reads-sslice 𝓤 H A W RelayCircuit.row ref1 1,
+                  Path.refl,
+                  (
+                    (
+                      Yields.yields-copy 𝓤 H A W (λ ρ. Unit) (Declared.row Places.the-type) Path.refl (Copies.cStruct
+                          Places.the-type Laws.the-laws Laws.the-copy .copy 𝓤 H A W)
+                          (Rows.whole (Declared.row Places.the-type)) (λ x. x) (λ x. x) (λ ρ told. Local.mem-whole 𝓤 H
+                          A W (Declared.row Places.the-type) ρ) λ ρ told. Local.whole-mem 𝓤 H A W
+                          (Declared.row Places.the-type) ρ,
+                      Path.refl,
+                    ),
+                    (
+                      (Scalar.reads-sc 𝓤 H A W (Row.sInt Syntax.w64), Path.refl),
+                      (
+                        (Scalar.reads-sc 𝓤 H A W Row.sBool, Path.refl),
+                        ((Scalar.reads-sc 𝓤 H A W (Row.sInt Syntax.w64), Path.refl), tt),
+                      ),
+                    ),
+                  ),
+                ),
+              ) (Reads'.room-gone 𝓤 H A Syntax.tyBool) (tt, (tt, tt)) Path.refl) d19
+
           d21 : Typed.Typed 𝓤 H A 𝓣 E G16 b20 Δ3 at21
-          d21 = Typed.s-seq 𝓤 H A W 𝓣 E G16 G25 b14 b19 Δ3 (Typed.both s20) at20 (Plain.t-call-plain 𝓤 H A W 𝓣 1 ps·1 r·1 (claims· .2) (claims· .3)
-              "hnsr_circuit::draw::draw_at" (known .1) E (λ pos β. β) G16 (record { pos = 4; ty = Syntax.tyRef (Syntax.named 2) Syntax.imm
-              (Syntax.tyInt Syntax.w8); ref = λ x. x; }, (Num.vAt 8 λ x. x, tt),) 9 (2 ∷ List.[]) (Call.sub-id 𝓤 H A W (G16 .slots))
-              (ShrSlice.spares-sslice 𝓤 H A W (Referent.rtF (Referent.fInt Syntax.w8)) ref2 2, Shared.reads-sslice 𝓤 H A W (Referent.rtF
-              (Referent.fInt Syntax.w8)) ref2 2, Path.refl, ((Scalar.reads-sc 𝓤 H A W (Row.sInt Syntax.w64), Path.refl), tt),) (Reads'.room-gone 𝓤 H A
-              (Syntax.tyInt Syntax.w64)) (tt, tt) Path.refl) d20
+          d21 = Typed.s-seq 𝓤 H A W 𝓣 E G16 G25 b14 b19 Δ3 (Typed.both s20) at20 (Plain.t-call-plain 𝓤 H A W 𝓣 1 ps·1
+              r·1 (claims· .2) (claims· .3) "hnsr_circuit::draw::draw_at" (known .1) E (λ pos β. β) G16 (
+                record { pos = 4; ty = ref2; ref = λ x. x },
+                (Num.vAt 8 λ x. x, tt),
+              ) 9 (2 ∷ List.[]) (Call.sub-id 𝓤 H A W (G16 .slots)) (
+                ShrSlice.spares-sslice 𝓤 H A W (Referent.rtF (Referent.fInt Syntax.w8)) ref2 2,
+                Shared.reads-sslice 𝓤 H A W (Referent.rtF (Referent.fInt Syntax.w8)) ref2 2,
+                Path.refl,
+                ((Scalar.reads-sc 𝓤 H A W (Row.sInt Syntax.w64), Path.refl), tt),
+              ) (Reads'.room-gone 𝓤 H A (Syntax.tyInt Syntax.w64)) (tt, tt) Path.refl) d20
+
           d22 : Typed.Typed 𝓤 H A 𝓣 E G15 b21 Δ3 at22
           d22 = Typed.t-seq 𝓤 H A W 𝓣 E G15 G16 b13 b20 Δ3 at17 at21 d17 d21
+
           d23 : Typed.Typed 𝓤 H A 𝓣 E G10 b22 Δ3 at23
-          d23 = Typed.s-seq 𝓤 H A W 𝓣 E G10 G15 b8 b21 Δ3 (Typed.pass T10 T15 s11) at22 (Scalar.t-use 𝓤 H A W E 𝓣 G10 (Scalar.oFld 7 ((Syntax.field 2)
-              ∷ List.[]) Syntax.tyBool 2 (Reads.fieldV Drawing.the-type Laws'.the-laws 2)) 13 (Rows.sc-here Row.sBool) Syntax.tyBool (Row.valS
-              Row.sBool) (Row.sBool .of) (Reads.reads-field 𝓤 H A W Drawing.the-type Laws'.the-laws 2 Syntax.tyBool 2 Path.refl, Path.refl,)
-              (Reads'.room-gone 𝓤 H A Syntax.tyBool) (Scalar.holds-sc 𝓤 H A W Row.sBool) Path.refl (λ u. Path.refl) λ u. tt) d22
+          d23 = Typed.s-seq 𝓤 H A W 𝓣 E G10 G15 b8 b21 Δ3 (Typed.pass T10 T15 s11) at22 (Scalar.t-use 𝓤 H A W E 𝓣 G10 (Scalar.oFld
+              7 ((Syntax.field 2) ∷ List.[]) Syntax.tyBool 2 (Reads.fieldV Drawing.the-type Laws'.the-laws 2)) 13
+              (Rows.sc-here Row.sBool) Syntax.tyBool (Row.valS Row.sBool) (Row.sBool .of) (
+                Reads.reads-field 𝓤 H A W Drawing.the-type Laws'.the-laws 2 Syntax.tyBool 2 Path.refl,
+                Path.refl,
+              ) (Reads'.room-gone 𝓤 H A Syntax.tyBool) (Scalar.holds-sc 𝓤 H A W Row.sBool) Path.refl (λ u. Path.refl)
+              λ u. tt) d22
+
           d24 : Typed.Typed 𝓤 H A 𝓣 E G9 b23 Δ3 at24
           d24 = Typed.t-seq 𝓤 H A W 𝓣 E G9 G10 b7 b22 Δ3 at6 at23 d6 d23
+
           d25 : Typed.Typed 𝓤 H A 𝓣 E G8 b24 Δ3 at25
-          d25 = Typed.s-seq 𝓤 H A W 𝓣 E G8 G9 b4 b23 Δ3 (Typed.ask s6) at24 (Scalar.t-op2 𝓤 H A W E 𝓣 G8 (Syntax.le Syntax.unsigned) (Scalar.oInt
-              Syntax.w64 8) (Scalar.oAt 12 (Syntax.tyInt Syntax.w64) (Row.valS (Row.sInt Syntax.w64))) 13 (Rows.sc-here Row.sBool) Syntax.tyBool
-              (Row.valS Row.sBool) (Row.sBool .of) tt (Scalar.reads-sc 𝓤 H A W (Row.sInt Syntax.w64), Path.refl) (Reads'.room-gone 𝓤 H A
-              Syntax.tyBool) (Scalar.holds-sc 𝓤 H A W Row.sBool) Path.refl (λ u. Path.refl) λ u. tt) d24
+          d25 = Typed.s-seq 𝓤 H A W 𝓣 E G8 G9 b4 b23 Δ3 (Typed.ask s6) at24 (Scalar.t-op2 𝓤 H A W E 𝓣 G8
+              (Syntax.le Syntax.unsigned) (Scalar.oInt Syntax.w64 8) (Scalar.oAt 12 (Syntax.tyInt Syntax.w64)
+              (Row.valS (Row.sInt Syntax.w64))) 13 (Rows.sc-here Row.sBool) Syntax.tyBool (Row.valS Row.sBool)
+              (Row.sBool .of) tt (Scalar.reads-sc 𝓤 H A W (Row.sInt Syntax.w64), Path.refl)
+              (Reads'.room-gone 𝓤 H A Syntax.tyBool) (Scalar.holds-sc 𝓤 H A W Row.sBool) Path.refl (λ u. Path.refl) λ
+              u. tt) d24
+
           d26 : Typed.Typed 𝓤 H A 𝓣 E G7 b24 Δ3 at26
-          d26 = Typed.g-pre 𝓤 H A W 𝓣 E G7 G8 b24 Δ3 (Typed.pass T7 T8 s5) at25 (Scalar.g-room 𝓤 H A W E G7 11 (Syntax.tyInt Syntax.w64)
-              (Scalar.room-sc 𝓤 H A W (Row.sInt Syntax.w64))) d25
+          d26 = Typed.g-pre 𝓤 H A W 𝓣 E G7 G8 b24 Δ3 (Typed.pass T7 T8 s5) at25 (Scalar.g-room 𝓤 H A W E G7 11
+              (Syntax.tyInt Syntax.w64) (Scalar.room-sc 𝓤 H A W (Row.sInt Syntax.w64))) d25
+
           d27 : Typed.Typed 𝓤 H A 𝓣 E G6 b25 Δ3 at27
-          d27 = Typed.s-seq 𝓤 H A W 𝓣 E G6 G7 b3 b24 Δ3 (Typed.ask s4) at26 (Scalar.t-op2 𝓤 H A W E 𝓣 G6 (Syntax.sub Syntax.unsigned) (Scalar.oAt 11
-              (Syntax.tyInt Syntax.w64) (Row.valS (Row.sInt Syntax.w64))) (Scalar.oAt 8 (Syntax.tyInt Syntax.w64) (Row.valS (Row.sInt Syntax.w64))) 12
-              (Rows.sc-here (Row.sInt Syntax.w64)) (Syntax.tyInt Syntax.w64) (Row.valS (Row.sInt Syntax.w64)) (Row.sInt Syntax.w64 .of)
-              (Scalar.reads-sc 𝓤 H A W (Row.sInt Syntax.w64), Path.refl) (Scalar.reads-sc 𝓤 H A W (Row.sInt Syntax.w64), Path.refl) (Reads'.room-gone
-              𝓤 H A (Syntax.tyInt Syntax.w64)) (Scalar.holds-sc 𝓤 H A W (Row.sInt Syntax.w64)) Path.refl (λ u. Path.refl) λ u. tt) d26
+          d27 = Typed.s-seq 𝓤 H A W 𝓣 E G6 G7 b3 b24 Δ3 (Typed.ask s4) at26 (Scalar.t-op2 𝓤 H A W E 𝓣 G6
+              (Syntax.sub Syntax.unsigned) (Scalar.oAt 11 (Syntax.tyInt Syntax.w64) (Row.valS (Row.sInt Syntax.w64))) (Scalar.oAt
+              8 (Syntax.tyInt Syntax.w64) (Row.valS (Row.sInt Syntax.w64))) 12 (Rows.sc-here (Row.sInt Syntax.w64))
+              (Syntax.tyInt Syntax.w64) (Row.valS (Row.sInt Syntax.w64)) (Row.sInt Syntax.w64 .of)
+              (Scalar.reads-sc 𝓤 H A W (Row.sInt Syntax.w64), Path.refl)
+              (Scalar.reads-sc 𝓤 H A W (Row.sInt Syntax.w64), Path.refl)
+              (Reads'.room-gone 𝓤 H A (Syntax.tyInt Syntax.w64)) (Scalar.holds-sc 𝓤 H A W (Row.sInt Syntax.w64))
+              Path.refl (λ u. Path.refl) λ u. tt) d26
+
           d28 : Typed.Typed 𝓤 H A 𝓣 E G4 b26 Δ3 at28
-          d28 = Typed.s-seq 𝓤 H A W 𝓣 E G4 G6 b2 b25 Δ3 (Typed.pass T4 T6 s3) at27 (Scalar.t-use 𝓤 H A W E 𝓣 G4 (Scalar.oFld 4 ((Syntax.field 1) ∷
-              List.[]) (Syntax.tyInt Syntax.w64) 8 Shared.lenV) 11 (Rows.sc-here (Row.sInt Syntax.w64)) (Syntax.tyInt Syntax.w64) (Row.valS (Row.sInt
-              Syntax.w64)) (Row.sInt Syntax.w64 .of) (Shared.reads-sslice-len 𝓤 H A W (Referent.rtF (Referent.fInt Syntax.w8)) ref2 2 8 Path.refl,
-              Path.refl,) (Reads'.room-gone 𝓤 H A (Syntax.tyInt Syntax.w64)) (Scalar.holds-sc 𝓤 H A W (Row.sInt Syntax.w64)) Path.refl (λ u.
-              Path.refl) λ u. tt) d27
+          d28 = Typed.s-seq 𝓤 H A W 𝓣 E G4 G6 b2 b25 Δ3 (Typed.pass T4 T6 s3) at27 (Scalar.t-use 𝓤 H A W E 𝓣 G4 (Scalar.oFld
+              4 ((Syntax.field 1) ∷ List.[]) (Syntax.tyInt Syntax.w64) 8 Shared.lenV) 11
+              (Rows.sc-here (Row.sInt Syntax.w64)) (Syntax.tyInt Syntax.w64) (Row.valS (Row.sInt Syntax.w64))
+              (Row.sInt Syntax.w64 .of) (
+                Shared.reads-sslice-len 𝓤 H A W (Referent.rtF (Referent.fInt Syntax.w8)) ref2 2 8 Path.refl,
+                Path.refl,
+              ) (Reads'.room-gone 𝓤 H A (Syntax.tyInt Syntax.w64)) (Scalar.holds-sc 𝓤 H A W (Row.sInt Syntax.w64))
+              Path.refl (λ u. Path.refl) λ u. tt) d27
+
           d29 : Typed.Typed 𝓤 H A 𝓣 E G4 b27 Δ2 at29
-          d29 = Typed.t-loop-by 𝓤 H A W 𝓣 E G4 b26 Δ2 put0 (λ u vs. Inv·0 (Row.get 1 (T4 .locals) u .now) (Row.get 2 (T4 .locals) u .now) (Row.get 3
-              (T4 .locals) u) (Row.get 4 (T4 .locals) u .now) (Row.get 5 (T4 .locals) u) (Row.get 6 (T4 .locals) u) (Row.get 7 (T4 .locals) u)
-              (Row.get 8 (T4 .locals) u) (vs .0) (vs .1)) (λ u vs. μ·0 (Row.get 1 (T4 .locals) u .now) (Row.get 2 (T4 .locals) u .now) (Row.get 3 (T4
-              .locals) u) (Row.get 4 (T4 .locals) u .now) (Row.get 5 (T4 .locals) u) (Row.get 6 (T4 .locals) u) (Row.get 7 (T4 .locals) u) (Row.get 8
-              (T4 .locals) u) (vs .0) (vs .1)) at28 d28
+          d29 = Typed.t-loop-by 𝓤 H A W 𝓣 E G4 b26 Δ2 put0 (λ u vs. Inv·0 (Row.get 1 (T4 .locals) u .now)
+              (Row.get 2 (T4 .locals) u .now) (Row.get 3 (T4 .locals) u) (Row.get 4 (T4 .locals) u .now)
+              (Row.get 5 (T4 .locals) u) (Row.get 6 (T4 .locals) u) (Row.get 7 (T4 .locals) u)
+              (Row.get 8 (T4 .locals) u) (vs .0) (vs .1)) (λ u vs. μ·0 (Row.get 1 (T4 .locals) u .now)
+              (Row.get 2 (T4 .locals) u .now) (Row.get 3 (T4 .locals) u) (Row.get 4 (T4 .locals) u .now)
+              (Row.get 5 (T4 .locals) u) (Row.get 6 (T4 .locals) u) (Row.get 7 (T4 .locals) u)
+              (Row.get 8 (T4 .locals) u) (vs .0) (vs .1)) at28 d28
+
           d30 : Typed.Typed 𝓤 H A 𝓣 E G4 b28 Δ1 at30
           d30 = Typed.t-block 𝓤 H A W 𝓣 E G4 b27 Δ1 at29 d29
+
           d31 : Typed.Typed 𝓤 H A 𝓣 E G35 b30 Δ0 at31
           d31 = Typed.t-return 𝓤 H A W 𝓣 E Δ0 tt
+
           d32 : Typed.Typed 𝓤 H A 𝓣 E G34 b30 Δ0 at32
-          d32 = Typed.g-pre 𝓤 H A W 𝓣 E G34 G35 b30 Δ0 (Typed.pass T34 T35 s30) at31 (Scalar.g-room 𝓤 H A W E G34 6 Syntax.tyBool (Scalar.room-sc 𝓤 H
-              A W Row.sBool)) d31
+          d32 = Typed.g-pre 𝓤 H A W 𝓣 E G34 G35 b30 Δ0 (Typed.pass T34 T35 s30) at31 (Scalar.g-room 𝓤 H A W E G34 6
+              Syntax.tyBool (Scalar.room-sc 𝓤 H A W Row.sBool)) d31
+
           d33 : Typed.Typed 𝓤 H A 𝓣 E G33 b30 Δ0 at33
-          d33 = Typed.g-pre 𝓤 H A W 𝓣 E G33 G34 b30 Δ0 (Typed.pass T33 T34 s29) at32 (Scalar.g-room 𝓤 H A W E G33 5 (Syntax.tyInt Syntax.w64)
-              (Scalar.room-sc 𝓤 H A W (Row.sInt Syntax.w64))) d32
+          d33 = Typed.g-pre 𝓤 H A W 𝓣 E G33 G34 b30 Δ0 (Typed.pass T33 T34 s29) at32 (Scalar.g-room 𝓤 H A W E G33 5
+              (Syntax.tyInt Syntax.w64) (Scalar.room-sc 𝓤 H A W (Row.sInt Syntax.w64))) d32
+
           d34 : Typed.Typed 𝓤 H A 𝓣 E G32 b30 Δ0 at34
-          d34 = Typed.g-pre 𝓤 H A W 𝓣 E G32 G33 b30 Δ0 (Typed.pass T32 T33 s28) at33 (Scalar.g-room 𝓤 H A W E G32 8 (Syntax.tyInt Syntax.w64)
-              (Scalar.room-sc 𝓤 H A W (Row.sInt Syntax.w64))) d33
+          d34 = Typed.g-pre 𝓤 H A W 𝓣 E G32 G33 b30 Δ0 (Typed.pass T32 T33 s28) at33 (Scalar.g-room 𝓤 H A W E G32 8
+              (Syntax.tyInt Syntax.w64) (Scalar.room-sc 𝓤 H A W (Row.sInt Syntax.w64))) d33
+
           d35 : Typed.Typed 𝓤 H A 𝓣 E G31 b30 Δ0 at35
-          d35 = Typed.g-pre 𝓤 H A W 𝓣 E G31 G32 b30 Δ0 (Typed.pass T31 T32 s27) at34 (Scalar.g-room 𝓤 H A W E G31 7 Laws'.mir (Local.room-whole 𝓤 H A
-              W (Declared.row Drawing.the-type) Laws'.mir Path.refl)) d34
+          d35 = Typed.g-pre 𝓤 H A W 𝓣 E G31 G32 b30 Δ0 (Typed.pass T31 T32 s27) at34 (Scalar.g-room 𝓤 H A W E G31 7
+              Laws'.mir (Local.room-whole 𝓤 H A W (Declared.row Drawing.the-type) Laws'.mir Path.refl)) d34
+
           d36 : Typed.Typed 𝓤 H A 𝓣 E G5 b31 Δ0 at36
-          d36 = Typed.s-seq 𝓤 H A W 𝓣 E G5 G31 b29 b30 Δ0 (Typed.pass T5 T31 s26) at35 (LocalCopy.t-val-copy 𝓤 H A W E 𝓣 (λ ρ. Unit) G5 7 0
-              (Declared.row Drawing.the-type) Laws'.mir Laws'.mir (Rows.whole (Declared.row Drawing.the-type)) (Rows.whole (Declared.row
-              Drawing.the-type)) (λ x. x) (λ x. x) (λ x. x) Path.refl (Own.told-none 𝓤 H A (G5 .slots)) (Yields.yields-copy 𝓤 H A W (λ ρ. Unit)
-              (Declared.row Drawing.the-type) Path.refl (Copies.cStruct Drawing.the-type Laws'.the-laws Laws'.the-copy .copy 𝓤 H A W) (Rows.whole
-              (Declared.row Drawing.the-type)) (λ x. x) (λ x. x) (λ ρ told. Local.mem-whole 𝓤 H A W (Declared.row Drawing.the-type) ρ) λ ρ told.
-              Local.whole-mem 𝓤 H A W (Declared.row Drawing.the-type) ρ) (Reads'.room-gone 𝓤 H A Laws'.mir) (Yields.makes-mem 𝓤 H A W (λ ρ. Unit)
-              (Declared.row Drawing.the-type) Path.refl (Rows.whole (Declared.row Drawing.the-type)) (λ x. x) λ ρ told. Local.whole-mem 𝓤 H A W
-              (Declared.row Drawing.the-type) ρ) Path.refl Path.refl) d35
+          d36 = Typed.s-seq 𝓤 H A W 𝓣 E G5 G31 b29 b30 Δ0 (Typed.pass T5 T31 s26) at35 (LocalCopy.t-val-copy 𝓤 H A W E
+              𝓣 (λ ρ. Unit) G5 7 0 (Declared.row Drawing.the-type) Laws'.mir Laws'.mir
+              (Rows.whole (Declared.row Drawing.the-type)) (Rows.whole (Declared.row Drawing.the-type)) (λ x. x)
+              (λ x. x) (λ x. x) Path.refl (Own.told-none 𝓤 H A (G5 .slots)) (Yields.yields-copy 𝓤 H A W (λ ρ. Unit)
+              (Declared.row Drawing.the-type) Path.refl (Copies.cStruct Drawing.the-type Laws'.the-laws Laws'.the-copy
+              .copy 𝓤 H A W) (Rows.whole (Declared.row Drawing.the-type)) (λ x. x) (λ x. x) (λ ρ told. Local.mem-whole
+              𝓤 H A W (Declared.row Drawing.the-type) ρ) λ ρ told. Local.whole-mem 𝓤 H A W
+              (Declared.row Drawing.the-type) ρ) (Reads'.room-gone 𝓤 H A Laws'.mir) (Yields.makes-mem 𝓤 H A W
+              (λ ρ. Unit) (Declared.row Drawing.the-type) Path.refl (Rows.whole (Declared.row Drawing.the-type))
+              (λ x. x) λ ρ told. Local.whole-mem 𝓤 H A W (Declared.row Drawing.the-type) ρ) Path.refl Path.refl) d35
+
           d37 : Typed.Typed 𝓤 H A 𝓣 E G4 b32 Δ0 at37
           d37 = Typed.t-seq 𝓤 H A W 𝓣 E G4 G5 b28 b31 Δ0 at30 at36 d30 d36
+
           d38 : Typed.Typed 𝓤 H A 𝓣 E G3 b33 Δ0 at38
-          d38 = Typed.s-seq 𝓤 H A W 𝓣 E G3 G4 b1 b32 Δ0 (Typed.pass T3 T4 s2) at37 (Scalar.t-use 𝓤 H A W E 𝓣 G3 (Scalar.oInt Syntax.w64 0) 8
-              (Rows.sc-here (Row.sInt Syntax.w64)) (Syntax.tyInt Syntax.w64) (Row.valS (Row.sInt Syntax.w64)) (Row.sInt Syntax.w64 .of) tt
-              (Reads'.room-gone 𝓤 H A (Syntax.tyInt Syntax.w64)) (Scalar.holds-sc 𝓤 H A W (Row.sInt Syntax.w64)) Path.refl (λ u. Path.refl) λ u. tt)
-              d37
+          d38 = Typed.s-seq 𝓤 H A W 𝓣 E G3 G4 b1 b32 Δ0 (Typed.pass T3 T4 s2) at37 (Scalar.t-use 𝓤 H A W E 𝓣 G3
+              (Scalar.oInt Syntax.w64 0) 8 (Rows.sc-here (Row.sInt Syntax.w64)) (Syntax.tyInt Syntax.w64)
+              (Row.valS (Row.sInt Syntax.w64)) (Row.sInt Syntax.w64 .of) tt
+              (Reads'.room-gone 𝓤 H A (Syntax.tyInt Syntax.w64)) (Scalar.holds-sc 𝓤 H A W (Row.sInt Syntax.w64))
+              Path.refl (λ u. Path.refl) λ u. tt) d37
+
           d39 : Typed.Typed 𝓤 H A 𝓣 E G2 b34 Δ0 at39
-          d39 = Typed.s-seq 𝓤 H A W 𝓣 E G2 G3 b0 b33 Δ0 (Typed.both s1) at38 (Plain.t-call-plain 𝓤 H A W 𝓣 0 ps·0 r·0 (claims· .0) (claims· .1)
-              "hnsr_circuit::draw::undrawn" (known .0) E (λ pos β. β) G2 tt 7 List.[] (Call.sub-id 𝓤 H A W (G2 .slots)) tt (Reads'.room-gone 𝓤 H A
-              Laws'.mir) tt Path.refl) d38
+          d39 = Typed.s-seq 𝓤 H A W 𝓣 E G2 G3 b0 b33 Δ0 (Typed.both s1) at38 (Plain.t-call-plain 𝓤 H A W 𝓣 0 ps·0 r·0
+              (claims· .0) (claims· .1) "hnsr_circuit::draw::undrawn" (known .0) E (λ pos β. β) G2 tt 7 List.[]
+              (Call.sub-id 𝓤 H A W (G2 .slots)) tt (Reads'.room-gone 𝓤 H A Laws'.mir) tt Path.refl) d38
+
           d40 : Typed.Typed 𝓤 H A 𝓣 E G0 b34 Δ0 at40
-          d40 = Typed.g-pre 𝓤 H A W 𝓣 E G0 G2 b34 Δ0 (Typed.give s0) at39 (Know.g-shs-known 𝓤 H A W (Referent.fInt Syntax.w8) E G0 4 2 ref2 life2 0 (λ
-              x. x) record { fits = Dec.lit< tt } (Reads'.as-is 𝓤 H A (Rows.sslice (Referent.rtF (Referent.fInt Syntax.w8)) ref2 2)) Path.refl tt) d39
+          d40 = Typed.g-pre 𝓤 H A W 𝓣 E G0 G2 b34 Δ0 (Typed.give s0) at39 (Know.g-shs-known 𝓤 H A W
+              (Referent.fInt Syntax.w8) E G0 4 2 ref2 life2 0 (λ x. x) record { fits = Dec.lit< tt } (Reads'.as-is 𝓤 H
+              A (Rows.sslice (Referent.rtF (Referent.fInt Syntax.w8)) ref2 2)) Path.refl tt) d39
+
           pub typed : Typed.Typed 𝓤 H A 𝓣 E (Function.Γin 3 ps r xs m κs qs) b34 (Function.Δret 3 ps r xs m κs qs) Φ
           typed = d40
+
       module _ (κs : Lifetimes.Lfts 3) where
         pub record Args : Type 0 where
-          pub pending : Kinds.Den { n = 3 } κs (ShrSlice.pShrS RelayPending.row 0 tt)
-          pub circuits : Kinds.Den { n = 3 } κs (ShrSlice.pShrS RelayCircuit.row 1 tt)
-          pub places : Kinds.Den { n = 3 } κs (Value.pVal record { ty = Declared.row Places.the-type; one = Path.refl; val = Laws''.val
-              Places.the-type Laws.the-laws; tells = Laws''.tells Places.the-type Laws.the-laws; still = Laws''.still Places.the-type Laws.the-copy
-              Exit.yes; row = Rows.whole (Declared.row Places.the-type); rd = λ x. x; mk = λ x. x; } λ M 𝓤 H A W. record { copies = Laws''.copy
-              Places.the-type Laws.the-copy 𝓤 H A W; lawful = Laws''.lawful Places.the-type Laws.the-laws 𝓤 H A W; makes = Laws''.makes
-              Places.the-type Laws.the-plain 𝓤 H A; in-mem = Local.mem-whole 𝓤 H A W (Declared.row Places.the-type); of-mem = Local.whole-mem 𝓤 H A W
-              (Declared.row Places.the-type); })
-          pub random : Kinds.Den { n = 3 } κs (ShrSlice.pShrS (Referent.rtF (Referent.fInt Syntax.w8)) 2 tt)
-          pub first : Kinds.Den { n = 3 } κs (Num.pNum Syntax.w64)
-          pub known : Kinds.Den { n = 3 } κs Bool.pBool
+          pub pending : Kinds.Den {n = 3} κs (ShrSlice.pShrS RelayPending.row 0 tt)
+          pub circuits : Kinds.Den {n = 3} κs (ShrSlice.pShrS RelayCircuit.row 1 tt)
+          pub places : Kinds.Den {n = 3} κs (StructRow.param Places.the-type Laws.the-laws Laws.the-copy Laws.the-plain)
+          pub random : Kinds.Den {n = 3} κs (ShrSlice.pShrS (Referent.rtF (Referent.fInt Syntax.w8)) 2 tt)
+          pub first : Kinds.Den {n = 3} κs (Num.pNum Syntax.w64)
+          pub known : Kinds.Den {n = 3} κs Bool.pBool
+
         abbrev pub dens : (a : Args) → Kinds.Dens κs ps
-        dens = λ a. (a .pending, (a .circuits, (a .places, (a .random, (a .first, (a .known, tt))))),)
+        dens = λ a. (a .pending, (a .circuits, (a .places, (a .random, (a .first, (a .known, tt))))))
+
         module _ (args· : Args) where
           pub record Ranges : Type 0 where
             pub first : Val.Fits Syntax.w64 (args· .first)
+
       abbrev pub m0 : (κs : Lifetimes.Lfts 3) → (args : Args κs) → Typed.Mo T0
       m0 = λ κs args. (tt, Enter.partsP κs 1 ps xs (dens κs args))
+
       abbrev W0 : (κs : Lifetimes.Lfts 3) → (args : Args κs) → Typed.Want O0
-      W0 = λ κs args. (λ u. ⊥, tt, λ u. Enter.Fixs κs 1 ps xs (dens κs args) (u .1) × Post· κs (dens κs args) (Function.resV r κs (u .0))
-          (Clauses.atExit (Kinds.endedOf 3 ps r) κs (dens κs args) (Enter.lastsP κs 1 ps xs (dens κs args) (u .1))),)
+      W0 = λ κs args. (
+        λ u. ⊥,
+        tt,
+        λ u. Enter.Fixs κs 1 ps xs (dens κs args) (u .1) × Post· κs (dens κs args) (Function.resV r κs (u .0)) (Clauses.atExit
+            (Kinds.endedOf 3 ps r) κs (dens κs args) (Enter.lastsP κs 1 ps xs (dens κs args) (u .1))),
+      )
+
       pub record Start : Type 0 where
         pub κs : Lifetimes.Lfts 3
         pub args : Args κs
         pub good : Kinds.GoodsP κs ps (dens κs args)
         pub fits : Ranges κs args
         pub pre : Pre· κs (dens κs args)
+
       abbrev pub m1 : (before : Start) → (given : s0 .gives (m0 (before .κs) (before .args))) → Typed.Mo T2
       m1 = λ before given. s0 .next (m0 (before .κs) (before .args)) given
+
       module _ (before· : Start) where
         pub record After-shared-slice-known·own : Type 0 where
           pub given : s0 .gives (m0 (before· .κs) (before· .args))
+
       pub record After-shared-slice-known : Type 0 where
         pub before : Start
         pub shared-slice-known : After-shared-slice-known·own before
+
       abbrev pub Need-undrawn-requires : Type 0
       Need-undrawn-requires = (c : After-shared-slice-known) → s1 .asks (m1 (c .before) (c .shared-slice-known .given))
-      abbrev pub m2 : (before : After-shared-slice-known) → (given : s1 .gives (m1 (before .before) (before .shared-slice-known .given))) → Typed.Mo
-          T3
+
+      abbrev pub m2 : (before : After-shared-slice-known) → (given : s1 .gives
+          (m1 (before .before) (before .shared-slice-known .given))) → Typed.Mo T3
       m2 = λ before given. s1 .next (m1 (before .before) (before .shared-slice-known .given)) given
+
       module _ (before· : After-shared-slice-known) where
         abbrev pub After-undrawn·own : Type 0
-        After-undrawn·own = Called.Called ps·0 r·0 (claims· .1) T2 tt (m1 (before· .before) (before· .shared-slice-known .given))
+        After-undrawn·own = Called.Called ps·0 r·0 (claims· .1) T2 tt
+            (m1 (before· .before) (before· .shared-slice-known .given))
+
       pub record After-undrawn : Type 0 where
         pub before : After-shared-slice-known
         pub undrawn : After-undrawn·own before
-      abbrev pub After-undrawn·gave : (c : After-undrawn) → s1 .gives (m1 (c .before .before) (c .before .shared-slice-known .given))
-      After-undrawn·gave = λ c. Called.given ps·0 r·0 (claims· .1) T2 tt (m1 (c .before .before) (c .before .shared-slice-known .given)) (c .undrawn)
-      abbrev pub m3 : (before : After-shared-slice-known) → (given : s1 .gives (m1 (before .before) (before .shared-slice-known .given))) → Typed.Mo
-          T4
+
+      abbrev pub After-undrawn·gave : (c : After-undrawn) → s1 .gives (m1 (c .before .before)
+          (c .before .shared-slice-known .given))
+      After-undrawn·gave = λ c. Called.given ps·0 r·0 (claims· .1) T2 tt (m1 (c .before .before)
+          (c .before .shared-slice-known .given)) (c .undrawn)
+
+      abbrev pub m3 : (before : After-shared-slice-known) → (given : s1 .gives
+          (m1 (before .before) (before .shared-slice-known .given))) → Typed.Mo T4
       m3 = λ before given. s2 (m2 before given)
-      abbrev W1 : (before : After-shared-slice-known) → (given : s1 .gives (m1 (before .before) (before .shared-slice-known .given))) → Typed.Want O1
-      W1 = λ before given. Typed.wantNext T5 O0 (at36 (W0 (before .before .κs) (before .before .args))) (W0 (before .before .κs) (before .before
-          .args))
-      abbrev W2 : (before : After-shared-slice-known) → (given : s1 .gives (m1 (before .before) (before .shared-slice-known .given))) → Typed.Want O2
+
+      abbrev W1 : (before : After-shared-slice-known) → (given : s1 .gives
+          (m1 (before .before) (before .shared-slice-known .given))) → Typed.Want O1
+      W1 = λ before given. Typed.wantNext T5 O0 (at36 (W0 (before .before .κs) (before .before .args)))
+          (W0 (before .before .κs) (before .before .args))
+
+      abbrev W2 : (before : After-shared-slice-known) → (given : s1 .gives
+          (m1 (before .before) (before .shared-slice-known .given))) → Typed.Want O2
       W2 = λ before given. Typed.inBlock O1 (W1 before given)
+
       abbrev pub Need-loop-holds : Type 0
-      Need-loop-holds = (c : After-undrawn) → Inv·0 (Row.get 1 (T4 .locals) (m3 (c .before) (After-undrawn·gave c)) .now) (Row.get 2 (T4 .locals) (m3
-          (c .before) (After-undrawn·gave c)) .now) (Row.get 3 (T4 .locals) (m3 (c .before) (After-undrawn·gave c))) (Row.get 4 (T4 .locals) (m3 (c
-          .before) (After-undrawn·gave c)) .now) (Row.get 5 (T4 .locals) (m3 (c .before) (After-undrawn·gave c))) (Row.get 6 (T4 .locals) (m3 (c
-          .before) (After-undrawn·gave c))) (Row.get 7 (T4 .locals) (m3 (c .before) (After-undrawn·gave c))) (Row.get 8 (T4 .locals) (m3 (c .before)
-          (After-undrawn·gave c))) (Row.get 7 (T4 .locals) (m3 (c .before) (After-undrawn·gave c))) (Row.get 8 (T4 .locals) (m3 (c .before)
-          (After-undrawn·gave c)))
-      abbrev pub m4 : (before : After-undrawn) → (drawing : Rows.whole (Declared.row Drawing.the-type) .Mod) → (place : Rows.sc-here (Row.sInt
-          Syntax.w64) .Mod) → Typed.Mo T4
-      m4 = λ before drawing place. Row.set 8 (8, Rows.sc-here (Row.sInt Syntax.w64)) place (Row.setRow 7 (7, Rows.whole (Declared.row
-          Drawing.the-type)) (T4 .locals)) (Row.set 7 (7, Rows.whole (Declared.row Drawing.the-type)) drawing (T4 .locals) (m3 (before .before)
-          (After-undrawn·gave before)))
-      abbrev W3 : (before : After-undrawn) → (drawing : Rows.whole (Declared.row Drawing.the-type) .Mod) → (place : Rows.sc-here (Row.sInt Syntax.w64)
-          .Mod) → Typed.Want O3
-      W3 = λ before drawing place. Typed.inLoop T4 O2 (Typed.Round T4 O2 put0 (λ u vs. Inv·0 (Row.get 1 (T4 .locals) u .now) (Row.get 2 (T4 .locals) u
-          .now) (Row.get 3 (T4 .locals) u) (Row.get 4 (T4 .locals) u .now) (Row.get 5 (T4 .locals) u) (Row.get 6 (T4 .locals) u) (Row.get 7 (T4
-          .locals) u) (Row.get 8 (T4 .locals) u) (vs .0) (vs .1)) (λ u vs. μ·0 (Row.get 1 (T4 .locals) u .now) (Row.get 2 (T4 .locals) u .now)
-          (Row.get 3 (T4 .locals) u) (Row.get 4 (T4 .locals) u .now) (Row.get 5 (T4 .locals) u) (Row.get 6 (T4 .locals) u) (Row.get 7 (T4 .locals) u)
-          (Row.get 8 (T4 .locals) u) (vs .0) (vs .1)) at28 (m3 (before .before) (After-undrawn·gave before)) (drawing, place)) (W2 (before .before)
-          (After-undrawn·gave before))
-      abbrev pub m5 : (before : After-undrawn) → (drawing : Rows.whole (Declared.row Drawing.the-type) .Mod) → (place : Rows.sc-here (Row.sInt
-          Syntax.w64) .Mod) → Typed.Mo T6
+      Need-loop-holds = (c : After-undrawn) → Inv·0 (Row.get 1 (T4 .locals) (m3 (c .before) (After-undrawn·gave c))
+          .now) (Row.get 2 (T4 .locals) (m3 (c .before) (After-undrawn·gave c)) .now) (Row.get 3 (T4 .locals)
+          (m3 (c .before) (After-undrawn·gave c))) (Row.get 4 (T4 .locals) (m3 (c .before) (After-undrawn·gave c)) .now) (Row.get
+          5 (T4 .locals) (m3 (c .before) (After-undrawn·gave c))) (Row.get 6 (T4 .locals)
+          (m3 (c .before) (After-undrawn·gave c))) (Row.get 7 (T4 .locals) (m3 (c .before) (After-undrawn·gave c))) (Row.get
+          8 (T4 .locals) (m3 (c .before) (After-undrawn·gave c))) (Row.get 7 (T4 .locals)
+          (m3 (c .before) (After-undrawn·gave c))) (Row.get 8 (T4 .locals) (m3 (c .before) (After-undrawn·gave c)))
+
+      abbrev pub m4 : (before : After-undrawn) → (drawing : Rows.whole (Declared.row Drawing.the-type) .Mod) →
+          (place : Rows.sc-here (Row.sInt Syntax.w64) .Mod) → Typed.Mo T4
+      m4 = λ before drawing place. Row.set 8 (8, Rows.sc-here (Row.sInt Syntax.w64)) place (Row.setRow 7
+          (7, Rows.whole (Declared.row Drawing.the-type)) (T4 .locals)) (Row.set 7
+          (7, Rows.whole (Declared.row Drawing.the-type)) drawing (T4 .locals)
+          (m3 (before .before) (After-undrawn·gave before)))
+
+      abbrev W3 : (before : After-undrawn) → (drawing : Rows.whole (Declared.row Drawing.the-type) .Mod) →
+          (place : Rows.sc-here (Row.sInt Syntax.w64) .Mod) → Typed.Want O3
+      W3 = λ before drawing place. Typed.inLoop T4 O2 (Typed.Round T4 O2 put0 (λ u vs. Inv·0
+          (Row.get 1 (T4 .locals) u .now) (Row.get 2 (T4 .locals) u .now) (Row.get 3 (T4 .locals) u)
+          (Row.get 4 (T4 .locals) u .now) (Row.get 5 (T4 .locals) u) (Row.get 6 (T4 .locals) u)
+          (Row.get 7 (T4 .locals) u) (Row.get 8 (T4 .locals) u) (vs .0) (vs .1)) (λ u vs. μ·0
+          (Row.get 1 (T4 .locals) u .now) (Row.get 2 (T4 .locals) u .now) (Row.get 3 (T4 .locals) u)
+          (Row.get 4 (T4 .locals) u .now) (Row.get 5 (T4 .locals) u) (Row.get 6 (T4 .locals) u)
+          (Row.get 7 (T4 .locals) u) (Row.get 8 (T4 .locals) u) (vs .0) (vs .1)) at28
+          (m3 (before .before) (After-undrawn·gave before)) (drawing, place))
+          (W2 (before .before) (After-undrawn·gave before))
+
+      abbrev pub m5 : (before : After-undrawn) → (drawing : Rows.whole (Declared.row Drawing.the-type) .Mod) →
+          (place : Rows.sc-here (Row.sInt Syntax.w64) .Mod) → Typed.Mo T6
       m5 = λ before drawing place. s3 (m4 before drawing place)
+
       module _ (before· : After-undrawn) where
         pub record At-loop·own : Type 0 where
           pub drawing : Rows.whole (Declared.row Drawing.the-type) .Mod
           pub place : Rows.sc-here (Row.sInt Syntax.w64) .Mod
-          pub inv : Inv·0 (Row.get 1 (T4 .locals) (m3 (before· .before) (After-undrawn·gave before·)) .now) (Row.get 2 (T4 .locals) (m3 (before·
-              .before) (After-undrawn·gave before·)) .now) (Row.get 3 (T4 .locals) (m3 (before· .before) (After-undrawn·gave before·))) (Row.get 4 (T4
-              .locals) (m3 (before· .before) (After-undrawn·gave before·)) .now) (Row.get 5 (T4 .locals) (m3 (before· .before) (After-undrawn·gave
-              before·))) (Row.get 6 (T4 .locals) (m3 (before· .before) (After-undrawn·gave before·))) (Row.get 7 (T4 .locals) (m3 (before· .before)
-              (After-undrawn·gave before·))) (Row.get 8 (T4 .locals) (m3 (before· .before) (After-undrawn·gave before·))) drawing place
+          pub inv : Inv·0 (Row.get 1 (T4 .locals) (m3 (before· .before) (After-undrawn·gave before·)) .now) (Row.get 2
+              (T4 .locals) (m3 (before· .before) (After-undrawn·gave before·)) .now) (Row.get 3 (T4 .locals)
+              (m3 (before· .before) (After-undrawn·gave before·))) (Row.get 4 (T4 .locals)
+              (m3 (before· .before) (After-undrawn·gave before·)) .now) (Row.get 5 (T4 .locals)
+              (m3 (before· .before) (After-undrawn·gave before·))) (Row.get 6 (T4 .locals)
+              (m3 (before· .before) (After-undrawn·gave before·))) (Row.get 7 (T4 .locals)
+              (m3 (before· .before) (After-undrawn·gave before·))) (Row.get 8 (T4 .locals)
+              (m3 (before· .before) (After-undrawn·gave before·))) drawing place
+
       pub record At-loop : Type 0 where
         pub before : After-undrawn
         pub loop : At-loop·own before
+
       abbrev pub Need-sub-loop : Type 0
       Need-sub-loop = (c : At-loop) → s4 .asks (m5 (c .before) (c .loop .drawing) (c .loop .place))
-      abbrev pub m6 : (before : After-undrawn) → (drawing : Rows.whole (Declared.row Drawing.the-type) .Mod) → (place : Rows.sc-here (Row.sInt
-          Syntax.w64) .Mod) → Typed.Mo T7
+
+      abbrev pub m6 : (before : After-undrawn) → (drawing : Rows.whole (Declared.row Drawing.the-type) .Mod) →
+          (place : Rows.sc-here (Row.sInt Syntax.w64) .Mod) → Typed.Mo T7
       m6 = λ before drawing place. s4 .next (m5 before drawing place)
-      abbrev pub m7 : (before : After-undrawn) → (drawing : Rows.whole (Declared.row Drawing.the-type) .Mod) → (place : Rows.sc-here (Row.sInt
-          Syntax.w64) .Mod) → Typed.Mo T8
+
+      abbrev pub m7 : (before : After-undrawn) → (drawing : Rows.whole (Declared.row Drawing.the-type) .Mod) →
+          (place : Rows.sc-here (Row.sInt Syntax.w64) .Mod) → Typed.Mo T8
       m7 = λ before drawing place. s5 (m6 before drawing place)
-      abbrev pub m8 : (before : After-undrawn) → (drawing : Rows.whole (Declared.row Drawing.the-type) .Mod) → (place : Rows.sc-here (Row.sInt
-          Syntax.w64) .Mod) → Typed.Mo T9
+
+      abbrev pub m8 : (before : After-undrawn) → (drawing : Rows.whole (Declared.row Drawing.the-type) .Mod) →
+          (place : Rows.sc-here (Row.sInt Syntax.w64) .Mod) → Typed.Mo T9
       m8 = λ before drawing place. s6 .next (m7 before drawing place)
-      abbrev W4 : (before : After-undrawn) → (drawing : Rows.whole (Declared.row Drawing.the-type) .Mod) → (place : Rows.sc-here (Row.sInt Syntax.w64)
-          .Mod) → Typed.Want O4
+
+      abbrev W4 : (before : After-undrawn) → (drawing : Rows.whole (Declared.row Drawing.the-type) .Mod) →
+          (place : Rows.sc-here (Row.sInt Syntax.w64) .Mod) → Typed.Want O4
       W4 = λ before drawing place. Typed.wantNext T10 O3 (at23 (W3 before drawing place)) (W3 before drawing place)
-      abbrev pub m9 : (before : After-undrawn) → (drawing : Rows.whole (Declared.row Drawing.the-type) .Mod) → (place : Rows.sc-here (Row.sInt
-          Syntax.w64) .Mod) → Typed.Mo T11
+
+      abbrev pub m9 : (before : After-undrawn) → (drawing : Rows.whole (Declared.row Drawing.the-type) .Mod) →
+          (place : Rows.sc-here (Row.sInt Syntax.w64) .Mod) → Typed.Mo T11
       m9 = λ before drawing place. s7 (m8 before drawing place)
+
       module _ (before· : At-loop) where
         pub record In-loop·own : Type 0 where
-          pub taken : Nat._≤_ 8 (Row.get 12 (T8 .locals) (m7 (before· .before) (before· .loop .drawing) (before· .loop .place)))
+          pub taken : Nat._≤_ 8 (Row.get 12 (T8 .locals) (m7 (before· .before) (before· .loop .drawing)
+              (before· .loop .place)))
+
       pub record In-loop : Type 0 where
         pub before : At-loop
         pub loop-test : In-loop·own before
+
       abbrev pub m10 : (before : At-loop) → Typed.Mo T12
       m10 = λ before. s8 (m9 (before .before) (before .loop .drawing) (before .loop .place))
+
       module _ (before· : At-loop) where
         pub record After-loop·own : Type 0 where
-          pub left : Nat._<_ (Row.get 12 (T8 .locals) (m7 (before· .before) (before· .loop .drawing) (before· .loop .place))) 8
+          pub left : Nat._<_ (Row.get 12 (T8 .locals) (m7 (before· .before) (before· .loop .drawing)
+              (before· .loop .place))) 8
+
       pub record After-loop : Type 0 where
         pub before : At-loop
         pub loop-test : After-loop·own before
+
       abbrev pub m11 : (before : At-loop) → Typed.Mo T13
       m11 = λ before. s9 (m9 (before .before) (before .loop .drawing) (before .loop .place))
+
       abbrev pub m12 : (before : At-loop) → Typed.Mo T14
       m12 = λ before. s10 (m11 before)
+
       abbrev pub m13 : (before : At-loop) → Typed.Mo T15
       m13 = λ before. s11 (m10 before)
+
       abbrev W5 : (before : At-loop) → Typed.Want O5
-      W5 = λ before. Typed.wantNext T16 O3 (at21 (W3 (before .before) (before .loop .drawing) (before .loop .place))) (W3 (before .before) (before
-          .loop .drawing) (before .loop .place))
+      W5 = λ before. Typed.wantNext T16 O3 (at21 (W3 (before .before) (before .loop .drawing) (before .loop .place))) (W3
+          (before .before) (before .loop .drawing) (before .loop .place))
+
       abbrev pub m14 : (before : In-loop) → Typed.Mo T17
       m14 = λ before. s12 (m13 (before .before))
+
       abbrev pub m15 : (before : In-loop) → Typed.Mo T18
       m15 = λ before. s13 (m14 before)
+
       abbrev pub m16 : (before : In-loop) → Typed.Mo T19
       m16 = λ before. s14 (m15 before)
+
       abbrev pub m17 : (before : In-loop) → Typed.Mo T20
       m17 = λ before. s15 (m16 before)
+
       abbrev pub m18 : (before : In-loop) → Typed.Mo T21
       m18 = λ before. s16 (m17 before)
+
       abbrev pub m19 : (before : In-loop) → Typed.Mo T22
       m19 = λ before. s17 (m18 before)
+
       abbrev pub m20 : (before : In-loop) → Typed.Mo T23
       m20 = λ before. s18 (m19 before)
+
       module _ (before· : In-loop) where
         pub record Then1·own : Type 0 where
           pub taken : Path._≡_ (Row.get 13 (T15 .locals) (m13 (before· .before))) Bool'.true
+
       pub record Then1 : Type 0 where
         pub before : In-loop
         pub if1 : Then1·own before
+
       abbrev pub Need-returns : Type 0
-      Need-returns = (c : Then1) → Post· (c .before .before .before .before .before .κs) (dens (c .before .before .before .before .before .κs) (c
-          .before .before .before .before .before .args)) (Function.resV r (c .before .before .before .before .before .κs) (m20 (c .before) .0))
-          (Clauses.atExit (Kinds.endedOf 3 ps r) (c .before .before .before .before .before .κs) (dens (c .before .before .before .before .before .κs)
-          (c .before .before .before .before .before .args)) (Enter.lastsP (c .before .before .before .before .before .κs) 1 ps xs (dens (c .before
-          .before .before .before .before .κs) (c .before .before .before .before .before .args)) (m20 (c .before) .1)))
+      Need-returns = (c : Then1) → Post· (c .before .before .before .before .before .κs) (dens
+          (c .before .before .before .before .before .κs) (c .before .before .before .before .before .args)) (Function.resV
+          r (c .before .before .before .before .before .κs) (m20 (c .before) .0)) (Clauses.atExit
+          (Kinds.endedOf 3 ps r) (c .before .before .before .before .before .κs) (dens
+          (c .before .before .before .before .before .κs) (c .before .before .before .before .before .args)) (Enter.lastsP
+          (c .before .before .before .before .before .κs) 1 ps xs (dens (c .before .before .before .before .before .κs)
+          (c .before .before .before .before .before .args)) (m20 (c .before) .1)))
+
       abbrev pub m21 : (before : In-loop) → Typed.Mo T24
       m21 = λ before. s19 (m13 (before .before))
+
       module _ (before· : In-loop) where
         pub record Else1·own : Type 0 where
           pub left : Path._≡_ (Row.get 13 (T15 .locals) (m13 (before· .before))) Bool'.false
+
       pub record Else1 : Type 0 where
         pub before : In-loop
         pub if1 : Else1·own before
+
       abbrev pub Need-draw-at-requires : Type 0
       Need-draw-at-requires = (c : Else1) → s20 .asks (m21 (c .before))
+
       abbrev pub m22 : (before : Else1) → (given : s20 .gives (m21 (before .before))) → Typed.Mo T25
       m22 = λ before given. s20 .next (m21 (before .before)) given
+
       module _ (before· : Else1) where
         abbrev pub After-draw-at·own : Type 0
-        After-draw-at·own = Called.Called ps·1 r·1 (claims· .3) T16 (record { pos = 4; ty = Syntax.tyRef (Syntax.named 2) Syntax.imm (Syntax.tyInt
-            Syntax.w8); ref = λ x. x; }, (Num.vAt 8 λ x. x, tt),) (m21 (before· .before))
+        After-draw-at·own = Called.Called ps·1 r·1 (claims· .3) T16 args20 (m21 (before· .before))
+
       pub record After-draw-at : Type 0 where
         pub before : Else1
         pub draw-at : After-draw-at·own before
+
       abbrev pub After-draw-at·gave : (c : After-draw-at) → s20 .gives (m21 (c .before .before))
-      After-draw-at·gave = λ c. Called.given ps·1 r·1 (claims· .3) T16 (record { pos = 4; ty = Syntax.tyRef (Syntax.named 2) Syntax.imm (Syntax.tyInt
-          Syntax.w8); ref = λ x. x; }, (Num.vAt 8 λ x. x, tt),) (m21 (c .before .before)) (c .draw-at)
+      After-draw-at·gave = λ c. Called.given ps·1 r·1 (claims· .3) T16 args20 (m21 (c .before .before)) (c .draw-at)
+
       abbrev pub Need-id-taken-requires : Type 0
       Need-id-taken-requires = (c : After-draw-at) → s21 .asks (m22 (c .before) (After-draw-at·gave c))
-      abbrev pub m23 : (before : After-draw-at) → (given : s21 .gives (m22 (before .before) (After-draw-at·gave before))) → Typed.Mo T26
+
+      abbrev pub m23 : (before : After-draw-at) → (given : s21 .gives
+          (m22 (before .before) (After-draw-at·gave before))) → Typed.Mo T26
       m23 = λ before given. s21 .next (m22 (before .before) (After-draw-at·gave before)) given
+
       module _ (before· : After-draw-at) where
         abbrev pub After-id-taken·own : Type 0
-        After-id-taken·own = Called.Called ps·2 r·2 (claims· .5) T25 (record { pos = 1; ty = Syntax.tyRef (Syntax.named 0) Syntax.imm RelayPending.to;
-            ref = λ x. x; }, (record { pos = 2; ty = Syntax.tyRef (Syntax.named 1) Syntax.imm RelayCircuit.to; ref = λ x. x; }, (record { pos = 3; st
-            = List.[]; d = 0; at = λ x. x }, (Num.vAt 5 λ x. x, (Bool.bAt 6 λ x. x, (Num.vAt 9 λ x. x, tt))),),),) (m22 (before· .before)
-            (After-draw-at·gave before·))
+        After-id-taken·own = Called.Called ps·2 r·2 (claims· .5) T25 args21
+            (m22 (before· .before) (After-draw-at·gave before·))
+
       pub record After-id-taken : Type 0 where
         pub before : After-draw-at
         pub id-taken : After-id-taken·own before
-      abbrev pub After-id-taken·gave : (c : After-id-taken) → s21 .gives (m22 (c .before .before) (After-draw-at·gave (c .before)))
-      After-id-taken·gave = λ c. Called.given ps·2 r·2 (claims· .5) T25 (record { pos = 1; ty = Syntax.tyRef (Syntax.named 0) Syntax.imm
-          RelayPending.to; ref = λ x. x; }, (record { pos = 2; ty = Syntax.tyRef (Syntax.named 1) Syntax.imm RelayCircuit.to; ref = λ x. x; }, (record
-          { pos = 3; st = List.[]; d = 0; at = λ x. x }, (Num.vAt 5 λ x. x, (Bool.bAt 6 λ x. x, (Num.vAt 9 λ x. x, tt))),),),) (m22 (c .before
-          .before) (After-draw-at·gave (c .before))) (c .id-taken)
+
+      abbrev pub After-id-taken·gave : (c : After-id-taken) → s21 .gives
+          (m22 (c .before .before) (After-draw-at·gave (c .before)))
+      After-id-taken·gave = λ c. Called.given ps·2 r·2 (claims· .5) T25 args21
+          (m22 (c .before .before) (After-draw-at·gave (c .before))) (c .id-taken)
+
       abbrev pub Need-draw-turn-requires : Type 0
       Need-draw-turn-requires = (c : After-id-taken) → s22 .asks (m23 (c .before) (After-id-taken·gave c))
-      abbrev pub m24 : (before : After-id-taken) → (given : s22 .gives (m23 (before .before) (After-id-taken·gave before))) → Typed.Mo T27
+
+      abbrev pub m24 : (before : After-id-taken) → (given : s22 .gives
+          (m23 (before .before) (After-id-taken·gave before))) → Typed.Mo T27
       m24 = λ before given. s22 .next (m23 (before .before) (After-id-taken·gave before)) given
+
       module _ (before· : After-id-taken) where
         abbrev pub After-draw-turn·own : Type 0
-        After-draw-turn·own = Called.Called ps·3 r·3 (claims· .7) T26 (record { pos = 7; st = List.[]; d = 0; at = λ x. x }, (Num.vAt 9 λ x. x,
-            (Bool.bAt 10 λ x. x, tt)),) (m23 (before· .before) (After-id-taken·gave before·))
+        After-draw-turn·own = Called.Called ps·3 r·3 (claims· .7) T26 args22
+            (m23 (before· .before) (After-id-taken·gave before·))
+
       pub record After-draw-turn : Type 0 where
         pub before : After-id-taken
         pub draw-turn : After-draw-turn·own before
-      abbrev pub After-draw-turn·gave : (c : After-draw-turn) → s22 .gives (m23 (c .before .before) (After-id-taken·gave (c .before)))
-      After-draw-turn·gave = λ c. Called.given ps·3 r·3 (claims· .7) T26 (record { pos = 7; st = List.[]; d = 0; at = λ x. x }, (Num.vAt 9 λ x. x,
-          (Bool.bAt 10 λ x. x, tt)),) (m23 (c .before .before) (After-id-taken·gave (c .before))) (c .draw-turn)
+
+      abbrev pub After-draw-turn·gave : (c : After-draw-turn) → s22 .gives
+          (m23 (c .before .before) (After-id-taken·gave (c .before)))
+      After-draw-turn·gave = λ c. Called.given ps·3 r·3 (claims· .7) T26 args22
+          (m23 (c .before .before) (After-id-taken·gave (c .before))) (c .draw-turn)
+
       abbrev pub Need-add-place : Type 0
       Need-add-place = (c : After-draw-turn) → s23 .asks (m24 (c .before) (After-draw-turn·gave c))
-      abbrev pub m25 : (before : After-id-taken) → (given : s22 .gives (m23 (before .before) (After-id-taken·gave before))) → Typed.Mo T28
+
+      abbrev pub m25 : (before : After-id-taken) → (given : s22 .gives
+          (m23 (before .before) (After-id-taken·gave before))) → Typed.Mo T28
       m25 = λ before given. s23 .next (m24 before given)
-      abbrev pub m26 : (before : After-id-taken) → (given : s22 .gives (m23 (before .before) (After-id-taken·gave before))) → Typed.Mo T29
+
+      abbrev pub m26 : (before : After-id-taken) → (given : s22 .gives
+          (m23 (before .before) (After-id-taken·gave before))) → Typed.Mo T29
       m26 = λ before given. s24 (m25 before given)
-      abbrev pub m27 : (before : After-id-taken) → (given : s22 .gives (m23 (before .before) (After-id-taken·gave before))) → Typed.Mo T30
+
+      abbrev pub m27 : (before : After-id-taken) → (given : s22 .gives
+          (m23 (before .before) (After-id-taken·gave before))) → Typed.Mo T30
       m27 = λ before given. s25 (m26 before given)
+
       abbrev pub Need-loop-less : Type 0
-      Need-loop-less = (c : After-draw-turn) → Nat._<_ (μ·0 (Row.get 1 (T4 .locals) (m3 (c .before .before .before .before .before .before .before)
-          (After-undrawn·gave (c .before .before .before .before .before .before))) .now) (Row.get 2 (T4 .locals) (m3 (c .before .before .before
-          .before .before .before .before) (After-undrawn·gave (c .before .before .before .before .before .before))) .now) (Row.get 3 (T4 .locals) (m3
-          (c .before .before .before .before .before .before .before) (After-undrawn·gave (c .before .before .before .before .before .before))))
-          (Row.get 4 (T4 .locals) (m3 (c .before .before .before .before .before .before .before) (After-undrawn·gave (c .before .before .before
-          .before .before .before))) .now) (Row.get 5 (T4 .locals) (m3 (c .before .before .before .before .before .before .before) (After-undrawn·gave
-          (c .before .before .before .before .before .before)))) (Row.get 6 (T4 .locals) (m3 (c .before .before .before .before .before .before
-          .before) (After-undrawn·gave (c .before .before .before .before .before .before)))) (Row.get 7 (T4 .locals) (m3 (c .before .before .before
-          .before .before .before .before) (After-undrawn·gave (c .before .before .before .before .before .before)))) (Row.get 8 (T4 .locals) (m3 (c
-          .before .before .before .before .before .before .before) (After-undrawn·gave (c .before .before .before .before .before .before)))) (Row.get
-          7 (T4 .locals) (m27 (c .before) (After-draw-turn·gave c))) (Row.get 8 (T4 .locals) (m27 (c .before) (After-draw-turn·gave c)))) (μ·0
-          (Row.get 1 (T4 .locals) (m3 (c .before .before .before .before .before .before .before) (After-undrawn·gave (c .before .before .before
-          .before .before .before))) .now) (Row.get 2 (T4 .locals) (m3 (c .before .before .before .before .before .before .before) (After-undrawn·gave
-          (c .before .before .before .before .before .before))) .now) (Row.get 3 (T4 .locals) (m3 (c .before .before .before .before .before .before
-          .before) (After-undrawn·gave (c .before .before .before .before .before .before)))) (Row.get 4 (T4 .locals) (m3 (c .before .before .before
-          .before .before .before .before) (After-undrawn·gave (c .before .before .before .before .before .before))) .now) (Row.get 5 (T4 .locals) (m3
-          (c .before .before .before .before .before .before .before) (After-undrawn·gave (c .before .before .before .before .before .before))))
-          (Row.get 6 (T4 .locals) (m3 (c .before .before .before .before .before .before .before) (After-undrawn·gave (c .before .before .before
-          .before .before .before)))) (Row.get 7 (T4 .locals) (m3 (c .before .before .before .before .before .before .before) (After-undrawn·gave (c
-          .before .before .before .before .before .before)))) (Row.get 8 (T4 .locals) (m3 (c .before .before .before .before .before .before .before)
-          (After-undrawn·gave (c .before .before .before .before .before .before)))) (c .before .before .before .before .before .loop .drawing) (c
-          .before .before .before .before .before .loop .place))
+      Need-loop-less = (c : After-draw-turn) → Nat._<_ (μ·0 (Row.get 1 (T4 .locals) (m3
+          (c .before .before .before .before .before .before .before) (After-undrawn·gave
+          (c .before .before .before .before .before .before))) .now) (Row.get 2 (T4 .locals) (m3
+          (c .before .before .before .before .before .before .before) (After-undrawn·gave
+          (c .before .before .before .before .before .before))) .now) (Row.get 3 (T4 .locals) (m3
+          (c .before .before .before .before .before .before .before) (After-undrawn·gave
+          (c .before .before .before .before .before .before)))) (Row.get 4 (T4 .locals) (m3
+          (c .before .before .before .before .before .before .before) (After-undrawn·gave
+          (c .before .before .before .before .before .before))) .now) (Row.get 5 (T4 .locals) (m3
+          (c .before .before .before .before .before .before .before) (After-undrawn·gave
+          (c .before .before .before .before .before .before)))) (Row.get 6 (T4 .locals) (m3
+          (c .before .before .before .before .before .before .before) (After-undrawn·gave
+          (c .before .before .before .before .before .before)))) (Row.get 7 (T4 .locals) (m3
+          (c .before .before .before .before .before .before .before) (After-undrawn·gave
+          (c .before .before .before .before .before .before)))) (Row.get 8 (T4 .locals) (m3
+          (c .before .before .before .before .before .before .before) (After-undrawn·gave
+          (c .before .before .before .before .before .before)))) (Row.get 7 (T4 .locals)
+          (m27 (c .before) (After-draw-turn·gave c))) (Row.get 8 (T4 .locals)
+          (m27 (c .before) (After-draw-turn·gave c)))) (μ·0 (Row.get 1 (T4 .locals) (m3
+          (c .before .before .before .before .before .before .before) (After-undrawn·gave
+          (c .before .before .before .before .before .before))) .now) (Row.get 2 (T4 .locals) (m3
+          (c .before .before .before .before .before .before .before) (After-undrawn·gave
+          (c .before .before .before .before .before .before))) .now) (Row.get 3 (T4 .locals) (m3
+          (c .before .before .before .before .before .before .before) (After-undrawn·gave
+          (c .before .before .before .before .before .before)))) (Row.get 4 (T4 .locals) (m3
+          (c .before .before .before .before .before .before .before) (After-undrawn·gave
+          (c .before .before .before .before .before .before))) .now) (Row.get 5 (T4 .locals) (m3
+          (c .before .before .before .before .before .before .before) (After-undrawn·gave
+          (c .before .before .before .before .before .before)))) (Row.get 6 (T4 .locals) (m3
+          (c .before .before .before .before .before .before .before) (After-undrawn·gave
+          (c .before .before .before .before .before .before)))) (Row.get 7 (T4 .locals) (m3
+          (c .before .before .before .before .before .before .before) (After-undrawn·gave
+          (c .before .before .before .before .before .before)))) (Row.get 8 (T4 .locals) (m3
+          (c .before .before .before .before .before .before .before) (After-undrawn·gave
+          (c .before .before .before .before .before .before))))
+          (c .before .before .before .before .before .loop .drawing)
+          (c .before .before .before .before .before .loop .place))
+
       abbrev pub Need-loop-again : Type 0
-      Need-loop-again = (c : After-draw-turn) → Inv·0 (Row.get 1 (T4 .locals) (m3 (c .before .before .before .before .before .before .before)
-          (After-undrawn·gave (c .before .before .before .before .before .before))) .now) (Row.get 2 (T4 .locals) (m3 (c .before .before .before
-          .before .before .before .before) (After-undrawn·gave (c .before .before .before .before .before .before))) .now) (Row.get 3 (T4 .locals) (m3
-          (c .before .before .before .before .before .before .before) (After-undrawn·gave (c .before .before .before .before .before .before))))
-          (Row.get 4 (T4 .locals) (m3 (c .before .before .before .before .before .before .before) (After-undrawn·gave (c .before .before .before
-          .before .before .before))) .now) (Row.get 5 (T4 .locals) (m3 (c .before .before .before .before .before .before .before) (After-undrawn·gave
-          (c .before .before .before .before .before .before)))) (Row.get 6 (T4 .locals) (m3 (c .before .before .before .before .before .before
-          .before) (After-undrawn·gave (c .before .before .before .before .before .before)))) (Row.get 7 (T4 .locals) (m3 (c .before .before .before
-          .before .before .before .before) (After-undrawn·gave (c .before .before .before .before .before .before)))) (Row.get 8 (T4 .locals) (m3 (c
-          .before .before .before .before .before .before .before) (After-undrawn·gave (c .before .before .before .before .before .before)))) (Row.get
-          7 (T4 .locals) (m27 (c .before) (After-draw-turn·gave c))) (Row.get 8 (T4 .locals) (m27 (c .before) (After-draw-turn·gave c)))
+      Need-loop-again = (c : After-draw-turn) → Inv·0 (Row.get 1 (T4 .locals) (m3
+          (c .before .before .before .before .before .before .before) (After-undrawn·gave
+          (c .before .before .before .before .before .before))) .now) (Row.get 2 (T4 .locals) (m3
+          (c .before .before .before .before .before .before .before) (After-undrawn·gave
+          (c .before .before .before .before .before .before))) .now) (Row.get 3 (T4 .locals) (m3
+          (c .before .before .before .before .before .before .before) (After-undrawn·gave
+          (c .before .before .before .before .before .before)))) (Row.get 4 (T4 .locals) (m3
+          (c .before .before .before .before .before .before .before) (After-undrawn·gave
+          (c .before .before .before .before .before .before))) .now) (Row.get 5 (T4 .locals) (m3
+          (c .before .before .before .before .before .before .before) (After-undrawn·gave
+          (c .before .before .before .before .before .before)))) (Row.get 6 (T4 .locals) (m3
+          (c .before .before .before .before .before .before .before) (After-undrawn·gave
+          (c .before .before .before .before .before .before)))) (Row.get 7 (T4 .locals) (m3
+          (c .before .before .before .before .before .before .before) (After-undrawn·gave
+          (c .before .before .before .before .before .before)))) (Row.get 8 (T4 .locals) (m3
+          (c .before .before .before .before .before .before .before) (After-undrawn·gave
+          (c .before .before .before .before .before .before)))) (Row.get 7 (T4 .locals)
+          (m27 (c .before) (After-draw-turn·gave c))) (Row.get 8 (T4 .locals)
+          (m27 (c .before) (After-draw-turn·gave c)))
+
       abbrev pub m28 : (before : At-loop) → Typed.Mo T31
       m28 = λ before. s26 (m12 before)
+
       abbrev pub m29 : (before : At-loop) → Typed.Mo T32
       m29 = λ before. s27 (m28 before)
+
       abbrev pub m30 : (before : At-loop) → Typed.Mo T33
       m30 = λ before. s28 (m29 before)
+
       abbrev pub m31 : (before : At-loop) → Typed.Mo T34
       m31 = λ before. s29 (m30 before)
+
       abbrev pub m32 : (before : At-loop) → Typed.Mo T35
       m32 = λ before. s30 (m31 before)
+
       abbrev pub Need-returns-2 : Type 0
-      Need-returns-2 = (c : After-loop) → Post· (c .before .before .before .before .κs) (dens (c .before .before .before .before .κs) (c .before
-          .before .before .before .args)) (Function.resV r (c .before .before .before .before .κs) (m32 (c .before) .0)) (Clauses.atExit
-          (Kinds.endedOf 3 ps r) (c .before .before .before .before .κs) (dens (c .before .before .before .before .κs) (c .before .before .before
-          .before .args)) (Enter.lastsP (c .before .before .before .before .κs) 1 ps xs (dens (c .before .before .before .before .κs) (c .before
-          .before .before .before .args)) (m32 (c .before) .1)))
-      module _ (undrawn-requires : Need-undrawn-requires) (loop-holds : Need-loop-holds) (sub-loop : Need-sub-loop) (returns : Need-returns)
-          (draw-at-requires : Need-draw-at-requires) (id-taken-requires : Need-id-taken-requires) (draw-turn-requires : Need-draw-turn-requires)
-          (add-place : Need-add-place) (loop-less : Need-loop-less) (loop-again : Need-loop-again) (returns-2 : Need-returns-2) where
-        lay9 : (c : After-loop) → at36 (W0 (c .before .before .before .before .κs) (c .before .before .before .before .args)) (m12 (c .before))
-        lay9 = λ c. ((Path.refl, (Path.refl, (tt, (Path.refl, (tt, (tt, tt)))))), returns-2 record { before = c .before; loop-test = c .loop-test },)
-        lay8 : (c : After-draw-turn) → at18 (W3 (c .before .before .before .before .before .before) (c .before .before .before .before .before .loop
-            .drawing) (c .before .before .before .before .before .loop .place)) (m24 (c .before) (After-draw-turn·gave c))
-        lay8 = λ c. (add-place record { before = c .before; draw-turn = c .draw-turn }, (μ·0 (Row.get 1 (T4 .locals) (m3 (c .before .before .before
-            .before .before .before .before) (After-undrawn·gave (c .before .before .before .before .before .before))) .now) (Row.get 2 (T4 .locals)
-            (m3 (c .before .before .before .before .before .before .before) (After-undrawn·gave (c .before .before .before .before .before .before)))
-            .now) (Row.get 3 (T4 .locals) (m3 (c .before .before .before .before .before .before .before) (After-undrawn·gave (c .before .before
-            .before .before .before .before)))) (Row.get 4 (T4 .locals) (m3 (c .before .before .before .before .before .before .before)
-            (After-undrawn·gave (c .before .before .before .before .before .before))) .now) (Row.get 5 (T4 .locals) (m3 (c .before .before .before
-            .before .before .before .before) (After-undrawn·gave (c .before .before .before .before .before .before)))) (Row.get 6 (T4 .locals) (m3 (c
-            .before .before .before .before .before .before .before) (After-undrawn·gave (c .before .before .before .before .before .before))))
-            (Row.get 7 (T4 .locals) (m3 (c .before .before .before .before .before .before .before) (After-undrawn·gave (c .before .before .before
-            .before .before .before)))) (Row.get 8 (T4 .locals) (m3 (c .before .before .before .before .before .before .before) (After-undrawn·gave (c
-            .before .before .before .before .before .before)))) (Row.get 7 (T4 .locals) (m27 (c .before) (After-draw-turn·gave c))) (Row.get 8 (T4
-            .locals) (m27 (c .before) (After-draw-turn·gave c))), loop-less record { before = c .before; draw-turn = c .draw-turn }, ((Row.get 7 (T4
-            .locals) (m27 (c .before) (After-draw-turn·gave c)), Row.get 8 (T4 .locals) (m27 (c .before) (After-draw-turn·gave c)),), Path.refl { a =
-            m27 (c .before) (After-draw-turn·gave c) }, loop-again record { before = c .before; draw-turn = c .draw-turn }, Path.refl { a = μ·0
-            (Row.get 1 (T4 .locals) (m3 (c .before .before .before .before .before .before .before) (After-undrawn·gave (c .before .before .before
-            .before .before .before))) .now) (Row.get 2 (T4 .locals) (m3 (c .before .before .before .before .before .before .before)
-            (After-undrawn·gave (c .before .before .before .before .before .before))) .now) (Row.get 3 (T4 .locals) (m3 (c .before .before .before
-            .before .before .before .before) (After-undrawn·gave (c .before .before .before .before .before .before)))) (Row.get 4 (T4 .locals) (m3 (c
-            .before .before .before .before .before .before .before) (After-undrawn·gave (c .before .before .before .before .before .before))) .now)
-            (Row.get 5 (T4 .locals) (m3 (c .before .before .before .before .before .before .before) (After-undrawn·gave (c .before .before .before
-            .before .before .before)))) (Row.get 6 (T4 .locals) (m3 (c .before .before .before .before .before .before .before) (After-undrawn·gave (c
-            .before .before .before .before .before .before)))) (Row.get 7 (T4 .locals) (m3 (c .before .before .before .before .before .before
-            .before) (After-undrawn·gave (c .before .before .before .before .before .before)))) (Row.get 8 (T4 .locals) (m3 (c .before .before .before
-            .before .before .before .before) (After-undrawn·gave (c .before .before .before .before .before .before)))) (Row.get 7 (T4 .locals) (m27
-            (c .before) (After-draw-turn·gave c))) (Row.get 8 (T4 .locals) (m27 (c .before) (After-draw-turn·gave c))) },),),)
-        lay7 : (c : After-id-taken) → at19 (W3 (c .before .before .before .before .before) (c .before .before .before .before .loop .drawing) (c
-            .before .before .before .before .loop .place)) (m23 (c .before) (After-id-taken·gave c))
-        lay7 = λ c. (draw-turn-requires record { before = c .before; id-taken = c .id-taken }, λ g. lay8 record { before = record { before = c
-            .before; id-taken = c .id-taken }; draw-turn = Called.called ps·3 r·3 (claims· .7) T26 (record { pos = 7; st = List.[]; d = 0; at = λ x. x
-            }, (Num.vAt 9 λ x. x, (Bool.bAt 10 λ x. x, tt)),) (m23 (c .before) (After-id-taken·gave c)) g; },)
-        lay6 : (c : After-draw-at) → at20 (W3 (c .before .before .before .before) (c .before .before .before .loop .drawing) (c .before .before
-            .before .loop .place)) (m22 (c .before) (After-draw-at·gave c))
-        lay6 = λ c. (id-taken-requires record { before = c .before; draw-at = c .draw-at }, λ g. lay7 record { before = record { before = c .before;
-            draw-at = c .draw-at }; id-taken = Called.called ps·2 r·2 (claims· .5) T25 (record { pos = 1; ty = Syntax.tyRef (Syntax.named 0)
-            Syntax.imm RelayPending.to; ref = λ x. x; }, (record { pos = 2; ty = Syntax.tyRef (Syntax.named 1) Syntax.imm RelayCircuit.to; ref = λ x.
-            x; }, (record { pos = 3; st = List.[]; d = 0; at = λ x. x }, (Num.vAt 5 λ x. x, (Bool.bAt 6 λ x. x, (Num.vAt 9 λ x. x, tt))),),),) (m22 (c
-            .before) (After-draw-at·gave c)) g; },)
-        lay5 : (c : Else1) → at21 (W3 (c .before .before .before) (c .before .before .loop .drawing) (c .before .before .loop .place)) (m21 (c
-            .before))
-        lay5 = λ c. (draw-at-requires record { before = c .before; if1 = c .if1 }, λ g. lay6 record { before = record { before = c .before; if1 = c
-            .if1 }; draw-at = Called.called ps·1 r·1 (claims· .3) T16 (record { pos = 4; ty = Syntax.tyRef (Syntax.named 2) Syntax.imm (Syntax.tyInt
-            Syntax.w8); ref = λ x. x; }, (Num.vAt 8 λ x. x, tt),) (m21 (c .before)) g; },)
-        lay4 : (c : In-loop) → at23 (W3 (c .before .before) (c .before .loop .drawing) (c .before .loop .place)) (m10 (c .before))
-        lay4 = λ c. (λ taken. ((Path.refl, (Path.refl, (tt, (Path.refl, (tt, (tt, tt)))))), returns record { before = record { before = c .before;
-            loop-test = c .loop-test }; if1 = record { taken = taken }; },), λ left. lay5 record { before = record { before = c .before; loop-test = c
-            .loop-test }; if1 = record { left = left }; },)
-        lay3 : (c : After-loop) → at4 (W4 (c .before .before) (c .before .loop .drawing) (c .before .loop .place)) (m9 (c .before .before) (c .before
-            .loop .drawing) (c .before .loop .place))
+      Need-returns-2 = (c : After-loop) → Post· (c .before .before .before .before .κs) (dens
+          (c .before .before .before .before .κs) (c .before .before .before .before .args)) (Function.resV r
+          (c .before .before .before .before .κs) (m32 (c .before) .0)) (Clauses.atExit (Kinds.endedOf 3 ps r)
+          (c .before .before .before .before .κs) (dens (c .before .before .before .before .κs)
+          (c .before .before .before .before .args)) (Enter.lastsP (c .before .before .before .before .κs) 1 ps xs (dens
+          (c .before .before .before .before .κs) (c .before .before .before .before .args)) (m32 (c .before) .1)))
+
+      module _ (undrawn-requires : Need-undrawn-requires) (loop-holds : Need-loop-holds) (sub-loop : Need-sub-loop)
+          (returns : Need-returns) (draw-at-requires : Need-draw-at-requires)
+          (id-taken-requires : Need-id-taken-requires) (draw-turn-requires : Need-draw-turn-requires)
+          (add-place : Need-add-place) (loop-less : Need-loop-less) (loop-again : Need-loop-again)
+          (returns-2 : Need-returns-2) where
+        lay9 : (c : After-loop) → at36 (W0 (c .before .before .before .before .κs)
+            (c .before .before .before .before .args)) (m12 (c .before))
+        lay9 = λ c. (
+          (Path.refl, (Path.refl, (tt, (Path.refl, (tt, (tt, tt)))))),
+          returns-2 record { before = c .before; loop-test = c .loop-test },
+        )
+
+        lay8 : (c : After-draw-turn) → at18 (W3 (c .before .before .before .before .before .before)
+            (c .before .before .before .before .before .loop .drawing)
+            (c .before .before .before .before .before .loop .place)) (m24 (c .before) (After-draw-turn·gave c))
+        lay8 = λ c. (
+          add-place record { before = c .before; draw-turn = c .draw-turn },
+          (
+            μ·0 (Row.get 1 (T4 .locals) (m3 (c .before .before .before .before .before .before .before) (After-undrawn·gave
+                (c .before .before .before .before .before .before))) .now) (Row.get 2 (T4 .locals) (m3
+                (c .before .before .before .before .before .before .before) (After-undrawn·gave
+                (c .before .before .before .before .before .before))) .now) (Row.get 3 (T4 .locals) (m3
+                (c .before .before .before .before .before .before .before) (After-undrawn·gave
+                (c .before .before .before .before .before .before)))) (Row.get 4 (T4 .locals) (m3
+                (c .before .before .before .before .before .before .before) (After-undrawn·gave
+                (c .before .before .before .before .before .before))) .now) (Row.get 5 (T4 .locals) (m3
+                (c .before .before .before .before .before .before .before) (After-undrawn·gave
+                (c .before .before .before .before .before .before)))) (Row.get 6 (T4 .locals) (m3
+                (c .before .before .before .before .before .before .before) (After-undrawn·gave
+                (c .before .before .before .before .before .before)))) (Row.get 7 (T4 .locals) (m3
+                (c .before .before .before .before .before .before .before) (After-undrawn·gave
+                (c .before .before .before .before .before .before)))) (Row.get 8 (T4 .locals) (m3
+                (c .before .before .before .before .before .before .before) (After-undrawn·gave
+                (c .before .before .before .before .before .before)))) (Row.get 7 (T4 .locals)
+                (m27 (c .before) (After-draw-turn·gave c))) (Row.get 8 (T4 .locals)
+                (m27 (c .before) (After-draw-turn·gave c))),
+            loop-less record { before = c .before; draw-turn = c .draw-turn },
+            (
+              (
+                Row.get 7 (T4 .locals) (m27 (c .before) (After-draw-turn·gave c)),
+                Row.get 8 (T4 .locals) (m27 (c .before) (After-draw-turn·gave c)),
+              ),
+              Path.refl {a = m27 (c .before) (After-draw-turn·gave c)},
+              loop-again record { before = c .before; draw-turn = c .draw-turn },
+              Path.refl {a = μ·0 (Row.get 1 (T4 .locals) (m3
+                  (c .before .before .before .before .before .before .before) (After-undrawn·gave
+                  (c .before .before .before .before .before .before))) .now) (Row.get 2 (T4 .locals) (m3
+                  (c .before .before .before .before .before .before .before) (After-undrawn·gave
+                  (c .before .before .before .before .before .before))) .now) (Row.get 3 (T4 .locals) (m3
+                  (c .before .before .before .before .before .before .before) (After-undrawn·gave
+                  (c .before .before .before .before .before .before)))) (Row.get 4 (T4 .locals) (m3
+                  (c .before .before .before .before .before .before .before) (After-undrawn·gave
+                  (c .before .before .before .before .before .before))) .now) (Row.get 5 (T4 .locals) (m3
+                  (c .before .before .before .before .before .before .before) (After-undrawn·gave
+                  (c .before .before .before .before .before .before)))) (Row.get 6 (T4 .locals) (m3
+                  (c .before .before .before .before .before .before .before) (After-undrawn·gave
+                  (c .before .before .before .before .before .before)))) (Row.get 7 (T4 .locals) (m3
+                  (c .before .before .before .before .before .before .before) (After-undrawn·gave
+                  (c .before .before .before .before .before .before)))) (Row.get 8 (T4 .locals) (m3
+                  (c .before .before .before .before .before .before .before) (After-undrawn·gave
+                  (c .before .before .before .before .before .before)))) (Row.get 7 (T4 .locals)
+                  (m27 (c .before) (After-draw-turn·gave c))) (Row.get 8 (T4 .locals)
+                  (m27 (c .before) (After-draw-turn·gave c)))},
+            ),
+          ),
+        )
+
+        lay7 : (c : After-id-taken) → at19 (W3 (c .before .before .before .before .before)
+            (c .before .before .before .before .loop .drawing) (c .before .before .before .before .loop .place))
+            (m23 (c .before) (After-id-taken·gave c))
+        lay7 = λ c. (
+          draw-turn-requires record { before = c .before; id-taken = c .id-taken },
+          λ g. lay8 record {
+            before = record { before = c .before; id-taken = c .id-taken };
+            draw-turn = Called.called ps·3 r·3 (claims· .7) T26 args22 (m23 (c .before) (After-id-taken·gave c)) g;
+          },
+        )
+
+        lay6 : (c : After-draw-at) → at20 (W3 (c .before .before .before .before)
+            (c .before .before .before .loop .drawing) (c .before .before .before .loop .place))
+            (m22 (c .before) (After-draw-at·gave c))
+        lay6 = λ c. (
+          id-taken-requires record { before = c .before; draw-at = c .draw-at },
+          λ g. lay7 record {
+            before = record { before = c .before; draw-at = c .draw-at };
+            id-taken = Called.called ps·2 r·2 (claims· .5) T25 args21 (m22 (c .before) (After-draw-at·gave c)) g;
+          },
+        )
+
+        lay5 : (c : Else1) → at21 (W3 (c .before .before .before) (c .before .before .loop .drawing)
+            (c .before .before .loop .place)) (m21 (c .before))
+        lay5 = λ c. (
+          draw-at-requires record { before = c .before; if1 = c .if1 },
+          λ g. lay6 record {
+            before = record { before = c .before; if1 = c .if1 };
+            draw-at = Called.called ps·1 r·1 (claims· .3) T16 args20 (m21 (c .before)) g;
+          },
+        )
+
+        lay4 : (c : In-loop) → at23 (W3 (c .before .before) (c .before .loop .drawing) (c .before .loop .place))
+            (m10 (c .before))
+        lay4 = λ c. (
+          λ taken. (
+            (Path.refl, (Path.refl, (tt, (Path.refl, (tt, (tt, tt)))))),
+            returns record {
+              before = record { before = c .before; loop-test = c .loop-test };
+              if1 = record { taken = taken };
+            },
+          ),
+          λ left. lay5 record {
+            before = record { before = c .before; loop-test = c .loop-test };
+            if1 = record { left = left };
+          },
+        )
+
+        lay3 : (c : After-loop) → at4 (W4 (c .before .before) (c .before .loop .drawing) (c .before .loop .place)) (m9
+            (c .before .before) (c .before .loop .drawing) (c .before .loop .place))
         lay3 = λ c. lay9 record { before = c .before; loop-test = c .loop-test }
-        lay2 : (c : In-loop) → at1 (W4 (c .before .before) (c .before .loop .drawing) (c .before .loop .place)) (m9 (c .before .before) (c .before
-            .loop .drawing) (c .before .loop .place))
+
+        lay2 : (c : In-loop) → at1 (W4 (c .before .before) (c .before .loop .drawing) (c .before .loop .place)) (m9
+            (c .before .before) (c .before .loop .drawing) (c .before .loop .place))
         lay2 = λ c. lay4 record { before = c .before; loop-test = c .loop-test }
-        lay1 : (c : After-undrawn) → at38 (W0 (c .before .before .κs) (c .before .before .args)) (m2 (c .before) (After-undrawn·gave c))
-        lay1 = λ c. (((Row.get 7 (T4 .locals) (m3 (c .before) (After-undrawn·gave c)), Row.get 8 (T4 .locals) (m3 (c .before) (After-undrawn·gave
-            c)),), Path.refl { a = m3 (c .before) (After-undrawn·gave c) }, loop-holds record { before = c .before; undrawn = c .undrawn },), λ vs
-            inv. (sub-loop record { before = record { before = c .before; undrawn = c .undrawn }; loop = record { drawing = vs .0; place = vs .1; inv
-            = inv }; }, (tt, (λ taken. lay2 record { before = record { before = record { before = c .before; undrawn = c .undrawn }; loop = record {
-            drawing = vs .0; place = vs .1; inv = inv }; }; loop-test = record { taken = Tests.leb-true 8 (Row.get 12 (T8 .locals) (m7 record { before
-            = c .before; undrawn = c .undrawn; } (vs .0) (vs .1))) taken; }; }, λ left. lay3 record { before = record { before = record { before = c
-            .before; undrawn = c .undrawn }; loop = record { drawing = vs .0; place = vs .1; inv = inv }; }; loop-test = record { left =
-            Tests.leb-false 8 (Row.get 12 (T8 .locals) (m7 record { before = c .before; undrawn = c .undrawn; } (vs .0) (vs .1))) left; }; },),),),)
+
+        lay1 : (c : After-undrawn) → at38 (W0 (c .before .before .κs) (c .before .before .args))
+            (m2 (c .before) (After-undrawn·gave c))
+        lay1 = λ c. (
+          (
+            (
+              Row.get 7 (T4 .locals) (m3 (c .before) (After-undrawn·gave c)),
+              Row.get 8 (T4 .locals) (m3 (c .before) (After-undrawn·gave c)),
+            ),
+            Path.refl {a = m3 (c .before) (After-undrawn·gave c)},
+            loop-holds record { before = c .before; undrawn = c .undrawn },
+          ),
+          λ vs inv. (
+            sub-loop record {
+              before = record { before = c .before; undrawn = c .undrawn };
+              loop = record { drawing = vs .0; place = vs .1; inv = inv };
+            },
+            (
+              tt,
+              (
+                λ taken. lay2 record {
+                  before = record {
+                    before = record { before = c .before; undrawn = c .undrawn };
+                    loop = record { drawing = vs .0; place = vs .1; inv = inv };
+                  };
+                  loop-test = record {
+                    taken = Tests.leb-true 8 (Row.get 12 (T8 .locals) (m7
+                        record { before = c .before; undrawn = c .undrawn } (vs .0) (vs .1))) taken;
+                  };
+                },
+                λ left. lay3 record {
+                  before = record {
+                    before = record { before = c .before; undrawn = c .undrawn };
+                    loop = record { drawing = vs .0; place = vs .1; inv = inv };
+                  };
+                  loop-test = record {
+                    left = Tests.leb-false 8 (Row.get 12 (T8 .locals) (m7
+                        record { before = c .before; undrawn = c .undrawn } (vs .0) (vs .1))) left;
+                  };
+                },
+              ),
+            ),
+          ),
+        )
+
         pub laid : (c : Start) → at40 (W0 (c .κs) (c .args)) (m0 (c .κs) (c .args))
-        laid = λ c. λ g. (undrawn-requires record { before = c; shared-slice-known = record { given = g } }, λ g'. lay1 record { before = record {
-            before = c; shared-slice-known = record { given = g } }; undrawn = Called.called ps·0 r·0 (claims· .1) T2 tt (m1 c g) g'; },)
+        laid = λ c. λ g. (
+          undrawn-requires record { before = c; shared-slice-known = record { given = g } },
+          λ g'. lay1 record {
+            before = record { before = c; shared-slice-known = record { given = g } };
+            undrawn = Called.called ps·0 r·0 (claims· .1) T2 tt (m1 c g) g';
+          },
+        )
+
         module _ (κs : Lifetimes.Lfts 3) (qs : Lifetimes.Shares 3) where
-          pub asked : (a : Kinds.Dens κs ps) → (good : Kinds.GoodsP κs ps a) → (pre : Pre· κs a) → (bs : List.List Nat.ℕ) → Φ (Any.wantQ 3 ps r xs m
-              κs qs a (Post· κs a)) (Function.init 3 ps r xs m κs qs a)
-          asked = λ a good pre bs. laid record { κs = κs; args = record { pending = a .0; circuits = a .1 .0; places = a .1 .1 .0; random = a .1 .1 .1
-              .0; first = a .1 .1 .1 .1 .0; known = a .1 .1 .1 .1 .1 .0; }; good = good; fits = record { first = record { fits = good .1 .1 .1 .1 .0
-              .1 } }; pre = pre; }
-        module _ { M : Type 1 } (𝓤 : URA.URA M) (H : Wp.Heap 𝓤) (A : Atoms.Atoms 𝓤) (W : Kit.Given 𝓤 H A) (𝓣 : Wp.Tables 𝓤 H) (known0 : Plain.Known 𝓤
-            H A W 𝓣 0 ps·0 r·0 (claims· .0) (claims· .1) "hnsr_circuit::draw::undrawn") (known1 : Plain.Known 𝓤 H A W 𝓣 1 ps·1 r·1 (claims· .2)
-            (claims· .3) "hnsr_circuit::draw::draw_at") (known2 : Plain.Known 𝓤 H A W 𝓣 2 ps·2 r·2 (claims· .4) (claims· .5)
+          pub asked : (a : Kinds.Dens κs ps) → (good : Kinds.GoodsP κs ps a) → (pre : Pre· κs a) →
+              (bs : List.List Nat.ℕ) → Φ (Any.wantQ 3 ps r xs m κs qs a (Post· κs a))
+              (Function.init 3 ps r xs m κs qs a)
+          asked = λ a good pre bs. laid record {
+            κs = κs;
+            args = record {
+              pending = a .0;
+              circuits = a .1 .0;
+              places = a .1 .1 .0;
+              random = a .1 .1 .1 .0;
+              first = a .1 .1 .1 .1 .0;
+              known = a .1 .1 .1 .1 .1 .0;
+            };
+            good = good;
+            fits = record { first = record { fits = good .1 .1 .1 .1 .0 .1 } };
+            pre = pre;
+          }
+
+        module _ {M : Type 1} (𝓤 : URA.URA M) (H : Wp.Heap 𝓤) (A : Atoms.Atoms 𝓤) (W : Kit.Given 𝓤 H A)
+            (𝓣 : Wp.Tables 𝓤 H) (known0 : Plain.Known 𝓤 H A W 𝓣 0 ps·0 r·0 (claims· .0) (claims· .1)
+            "hnsr_circuit::draw::undrawn") (known1 : Plain.Known 𝓤 H A W 𝓣 1 ps·1 r·1 (claims· .2) (claims· .3)
+            "hnsr_circuit::draw::draw_at") (known2 : Plain.Known 𝓤 H A W 𝓣 2 ps·2 r·2 (claims· .4) (claims· .5)
             "hnsr_circuit::handle_open::id_taken") (known3 : Plain.Known 𝓤 H A W 𝓣 0 ps·3 r·3 (claims· .6) (claims· .7)
             "hnsr_circuit::draw::draw_turn") where
-          pub spec : Statement.Triple 𝓤 (Wp.WpFn 𝓤 H (𝓣 .C) (𝓣 .Λ) (Function.fnOf 3 ps r xs m hs body)) (Function.plainOf 𝓤 H A 3 ps r Pre· Post·)
-          spec = Plain.t-fn-plain 𝓤 H A W 𝓣 3 ps r xs m hs body (λ κs qs bs. Φ) (λ κs qs bs bd. typed κs qs 𝓤 H A W 𝓣 (known0, known1, known2, known3)
-              bs bd) Pre· Post· asked
+          pub spec : Statement.Triple 𝓤 (Wp.WpFn 𝓤 H (𝓣 .C) (𝓣 .Λ) (Function.fnOf 3 ps r xs m hs body))
+              (Function.plainOf 𝓤 H A 3 ps r Pre· Post·)
+          spec = Plain.t-fn-plain 𝓤 H A W 𝓣 3 ps r xs m hs body (λ κs qs bs. Φ) (λ κs qs bs bd. typed κs qs 𝓤 H A W 𝓣
+              (known0, known1, known2, known3) bs bd) Pre· Post· asked

@@ -2,11 +2,13 @@
 use Prim.Native.Nat
 use Rattle.hnsr_circuit.proofs.By.RelayCircuit
 use Rattle.hnsr_circuit.proofs.By.RelayPending
+use Rattle.hnsr_circuit.proofs.StructRow
 use Rattle.hnsr_circuit.proofs.places.Places
 use Rattle.hnsr_circuit.proofs.places.Places.Laws
 use borrow.Author.Called
 use borrow.Author.Tests
 use borrow.Fn.Any
+use borrow.Fn.Args as Args'
 use borrow.Fn.Call
 use borrow.Fn.Enter
 use borrow.Fn.Frame
@@ -16,7 +18,6 @@ use borrow.Fn.Plain
 use borrow.Kind.Bool
 use borrow.Kind.Num
 use borrow.Kind.ShrSlice
-use borrow.Kind.Value
 use borrow.Rule.Local
 use borrow.Rule.Scalar
 use borrow.Rule.Slice.Shared
@@ -27,9 +28,7 @@ use borrow.Table.Row
 use borrow.Table.Rows
 use borrow.Table.Typed
 use contract.Lifetimes
-use denote.Exit
 use denote.Struct.Declared
-use denote.Struct.Laws as Laws'
 use denote.Triple.Clauses
 use denote.Triple.Statement
 use ghost.Atoms
@@ -45,686 +44,1053 @@ use mathlib.Core.List.{_∷_}
 
 abbrev ref0 : Syntax.Ty
 ref0 = Syntax.tyRef (Syntax.named 0) Syntax.imm RelayPending.to
+
 abbrev ref1 : Syntax.Ty
 ref1 = Syntax.tyRef (Syntax.named 1) Syntax.imm RelayCircuit.to
+
 abbrev pub ps : List.List (Kinds.PK 2)
-ps = (ShrSlice.pShrS RelayPending.row 0 tt) ∷ (ShrSlice.pShrS RelayCircuit.row 1 tt) ∷ (Value.pVal record { ty = Declared.row Places.the-type; one =
-    Path.refl; val = Laws'.val Places.the-type Laws.the-laws; tells = Laws'.tells Places.the-type Laws.the-laws; still = Laws'.still Places.the-type
-    Laws.the-copy Exit.yes; row = Rows.whole (Declared.row Places.the-type); rd = λ x. x; mk = λ x. x; } λ M 𝓤 H A W. record { copies = Laws'.copy
-    Places.the-type Laws.the-copy 𝓤 H A W; lawful = Laws'.lawful Places.the-type Laws.the-laws 𝓤 H A W; makes = Laws'.makes Places.the-type
-    Laws.the-plain 𝓤 H A; in-mem = Local.mem-whole 𝓤 H A W (Declared.row Places.the-type); of-mem = Local.whole-mem 𝓤 H A W (Declared.row
-    Places.the-type); }) ∷ (Num.pNum Syntax.w64) ∷ Bool.pBool ∷ (Num.pNum Syntax.w64) ∷ List.[]
+ps = (ShrSlice.pShrS RelayPending.row 0 tt) ∷ (ShrSlice.pShrS RelayCircuit.row 1 tt) ∷ (StructRow.param Places.the-type
+    Laws.the-laws Laws.the-copy Laws.the-plain) ∷ (Num.pNum Syntax.w64) ∷ Bool.pBool ∷ (Num.pNum Syntax.w64) ∷ List.[]
+
 abbrev pub r : Kinds.RK 2
 r = Bool.rBool
+
 abbrev pub xs : List.List Syntax.Ty
-xs = (Syntax.tyInt Syntax.w64) ∷ (Syntax.tyInt Syntax.w64) ∷ Syntax.tyBool ∷ (Syntax.tyInt Syntax.w64) ∷ (Syntax.tyInt Syntax.w64) ∷ List.[]
+xs = (Syntax.tyInt Syntax.w64) ∷ (Syntax.tyInt Syntax.w64) ∷ Syntax.tyBool ∷ (Syntax.tyInt Syntax.w64) ∷
+    (Syntax.tyInt Syntax.w64) ∷ List.[]
+
 abbrev pub m : Nat.ℕ
 m = 0
+
 abbrev pub ps·0 : List.List (Kinds.PK 1)
-ps·0 = (ShrSlice.pShrS RelayPending.row 0 tt) ∷ (Value.pVal record { ty = Declared.row Places.the-type; one = Path.refl; val = Laws'.val
-    Places.the-type Laws.the-laws; tells = Laws'.tells Places.the-type Laws.the-laws; still = Laws'.still Places.the-type Laws.the-copy Exit.yes; row
-    = Rows.whole (Declared.row Places.the-type); rd = λ x. x; mk = λ x. x; } λ M 𝓤 H A W. record { copies = Laws'.copy Places.the-type Laws.the-copy 𝓤
-    H A W; lawful = Laws'.lawful Places.the-type Laws.the-laws 𝓤 H A W; makes = Laws'.makes Places.the-type Laws.the-plain 𝓤 H A; in-mem =
-    Local.mem-whole 𝓤 H A W (Declared.row Places.the-type); of-mem = Local.whole-mem 𝓤 H A W (Declared.row Places.the-type); }) ∷ (Num.pNum
-    Syntax.w64) ∷ List.[]
+ps·0 = (ShrSlice.pShrS RelayPending.row 0 tt) ∷ (StructRow.param Places.the-type Laws.the-laws Laws.the-copy
+    Laws.the-plain) ∷ (Num.pNum Syntax.w64) ∷ List.[]
+
 abbrev pub r·0 : Kinds.RK 1
 r·0 = Num.rNum Syntax.w64
+
 abbrev pub ps·1 : List.List (Kinds.PK 1)
-ps·1 = (ShrSlice.pShrS RelayCircuit.row 0 tt) ∷ (Value.pVal record { ty = Declared.row Places.the-type; one = Path.refl; val = Laws'.val
-    Places.the-type Laws.the-laws; tells = Laws'.tells Places.the-type Laws.the-laws; still = Laws'.still Places.the-type Laws.the-copy Exit.yes; row
-    = Rows.whole (Declared.row Places.the-type); rd = λ x. x; mk = λ x. x; } λ M 𝓤 H A W. record { copies = Laws'.copy Places.the-type Laws.the-copy 𝓤
-    H A W; lawful = Laws'.lawful Places.the-type Laws.the-laws 𝓤 H A W; makes = Laws'.makes Places.the-type Laws.the-plain 𝓤 H A; in-mem =
-    Local.mem-whole 𝓤 H A W (Declared.row Places.the-type); of-mem = Local.whole-mem 𝓤 H A W (Declared.row Places.the-type); }) ∷ (Num.pNum
-    Syntax.w64) ∷ List.[]
+ps·1 = (ShrSlice.pShrS RelayCircuit.row 0 tt) ∷ (StructRow.param Places.the-type Laws.the-laws Laws.the-copy
+    Laws.the-plain) ∷ (Num.pNum Syntax.w64) ∷ List.[]
+
 abbrev pub r·1 : Kinds.RK 1
 r·1 = Num.rNum Syntax.w64
+
 abbrev pub ps·2 : List.List (Kinds.PK 0)
 ps·2 = (Num.pNum Syntax.w64) ∷ (Num.pNum Syntax.w64) ∷ (Num.pNum Syntax.w64) ∷ (Num.pNum Syntax.w64) ∷ List.[]
+
 abbrev pub r·2 : Kinds.RK 0
 r·2 = Bool.rBool
+
 abbrev pub hs : List.List Syntax.Home
-hs = Syntax.valueLocal ∷ Syntax.valueLocal ∷ Syntax.valueLocal ∷ Syntax.valueLocal ∷ Syntax.valueLocal ∷ Syntax.valueLocal ∷ Syntax.valueLocal ∷
-    Syntax.valueLocal ∷ Syntax.valueLocal ∷ Syntax.valueLocal ∷ Syntax.valueLocal ∷ Syntax.valueLocal ∷ List.[]
+hs = Syntax.valueLocal ∷ Syntax.valueLocal ∷ Syntax.valueLocal ∷ Syntax.valueLocal ∷ Syntax.valueLocal ∷
+    Syntax.valueLocal ∷ Syntax.valueLocal ∷ Syntax.valueLocal ∷ Syntax.valueLocal ∷ Syntax.valueLocal ∷
+    Syntax.valueLocal ∷ Syntax.valueLocal ∷ List.[]
+
 abbrev b0 : Syntax.Body
-b0 = Syntax.assign (Syntax.place 9 List.[]) (Syntax.op2 Syntax.eq (Syntax.copy (Syntax.place 6 List.[])) (Syntax.copy (Syntax.place 4 List.[])))
+b0 = Syntax.assign (Syntax.place 9 List.[]) (Syntax.op2 Syntax.eq (Syntax.copy (Syntax.place 6 List.[]))
+    (Syntax.copy (Syntax.place 4 List.[])))
+
 abbrev b1 : Syntax.Body
 b1 = Syntax.assign (Syntax.place 0 List.[]) (Syntax.rvOpd (Syntax.copy (Syntax.place 5 List.[])))
+
 abbrev b2 : Syntax.Body
 b2 = Syntax.return
+
 abbrev b3 : Syntax.Body
 b3 = Syntax.seq b1 b2
+
 abbrev b4 : Syntax.Body
 b4 = Syntax.skip
+
 abbrev b5 : Syntax.Body
 b5 = Syntax.cond (Syntax.copy (Syntax.place 9 List.[])) b3 b4
+
 abbrev b6 : Syntax.Body
-b6 = Syntax.call "hnsr_circuit::tables::pending::find_pending_id" ((Syntax.copy (Syntax.place 1 List.[])) ∷ (Syntax.copy (Syntax.place 3 List.[])) ∷
-    (Syntax.copy (Syntax.place 6 List.[])) ∷ List.[]) (Syntax.place 7 List.[])
+b6 = Syntax.call "hnsr_circuit::tables::pending::find_pending_id" ((Syntax.copy (Syntax.place 1 List.[])) ∷
+    (Syntax.copy (Syntax.place 3 List.[])) ∷ (Syntax.copy (Syntax.place 6 List.[])) ∷ List.[]) (Syntax.place 7 List.[])
+
 abbrev b7 : Syntax.Body
-b7 = Syntax.call "hnsr_circuit::tables::circuits::find_circuit_id" ((Syntax.copy (Syntax.place 2 List.[])) ∷ (Syntax.copy (Syntax.place 3 List.[])) ∷
-    (Syntax.copy (Syntax.place 6 List.[])) ∷ List.[]) (Syntax.place 8 List.[])
+b7 = Syntax.call "hnsr_circuit::tables::circuits::find_circuit_id" ((Syntax.copy (Syntax.place 2 List.[])) ∷
+    (Syntax.copy (Syntax.place 3 List.[])) ∷ (Syntax.copy (Syntax.place 6 List.[])) ∷ List.[]) (Syntax.place 8 List.[])
+
 abbrev b8 : Syntax.Body
 b8 = Syntax.assign (Syntax.place 10 List.[]) (Syntax.rvOpd (Syntax.copy (Syntax.place 1 ((Syntax.field 1) ∷ List.[]))))
+
 abbrev b9 : Syntax.Body
 b9 = Syntax.assign (Syntax.place 11 List.[]) (Syntax.rvOpd (Syntax.copy (Syntax.place 2 ((Syntax.field 1) ∷ List.[]))))
+
 abbrev b10 : Syntax.Body
-b10 = Syntax.call "hnsr_circuit::draw::either_found" ((Syntax.copy (Syntax.place 7 List.[])) ∷ (Syntax.copy (Syntax.place 10 List.[])) ∷ (Syntax.copy
-    (Syntax.place 8 List.[])) ∷ (Syntax.copy (Syntax.place 11 List.[])) ∷ List.[]) (Syntax.place 0 List.[])
+b10 = Syntax.call "hnsr_circuit::draw::either_found" ((Syntax.copy (Syntax.place 7 List.[])) ∷
+    (Syntax.copy (Syntax.place 10 List.[])) ∷ (Syntax.copy (Syntax.place 8 List.[])) ∷
+    (Syntax.copy (Syntax.place 11 List.[])) ∷ List.[]) (Syntax.place 0 List.[])
+
 abbrev b11 : Syntax.Body
 b11 = Syntax.return
+
 abbrev b12 : Syntax.Body
 b12 = Syntax.seq b10 b11
+
 abbrev b13 : Syntax.Body
 b13 = Syntax.seq b9 b12
+
 abbrev b14 : Syntax.Body
 b14 = Syntax.seq b8 b13
+
 abbrev b15 : Syntax.Body
 b15 = Syntax.seq b7 b14
+
 abbrev b16 : Syntax.Body
 b16 = Syntax.seq b6 b15
+
 abbrev b17 : Syntax.Body
 b17 = Syntax.seq b5 b16
+
 abbrev b18 : Syntax.Body
 b18 = Syntax.seq b0 b17
+
 abbrev pub body : Syntax.Body
 body = b18
+
 abbrev pub Claims : Type 1
-Claims = Kinds.In 1 ps·0 × Kinds.Out 1 ps·0 r·0 × Kinds.In 1 ps·1 × Kinds.Out 1 ps·1 r·1 × Kinds.In 0 ps·2 × Kinds.Out 0 ps·2 r·2
+Claims = Kinds.In 1 ps·0 × Kinds.Out 1 ps·0 r·0 × Kinds.In 1 ps·1 × Kinds.Out 1 ps·1 r·1 × Kinds.In 0 ps·2 × Kinds.Out
+    0 ps·2 r·2
+
 abbrev e0 : Row.Entry
 e0 = (0, Rows.any-gone Syntax.tyBool)
+
 abbrev e1 : Row.Entry
 e1 = (1, Rows.sslice RelayPending.row ref0 0)
+
 abbrev e2 : Row.Entry
 e2 = (2, Rows.sslice RelayCircuit.row ref1 1)
+
 abbrev e3 : Row.Entry
 e3 = (3, Rows.whole (Declared.row Places.the-type))
+
 abbrev e4 : Row.Entry
 e4 = (4, Rows.sc-here (Row.sInt Syntax.w64))
+
 abbrev e5 : Row.Entry
 e5 = (5, Rows.sc-here Row.sBool)
+
 abbrev e6 : Row.Entry
 e6 = (6, Rows.sc-here (Row.sInt Syntax.w64))
+
 abbrev e7 : Row.Entry
 e7 = (7, Rows.any-gone (Syntax.tyInt Syntax.w64))
+
 abbrev e8 : Row.Entry
 e8 = (8, Rows.any-gone (Syntax.tyInt Syntax.w64))
+
 abbrev e9 : Row.Entry
 e9 = (9, Rows.any-gone Syntax.tyBool)
+
 abbrev e10 : Row.Entry
 e10 = (10, Rows.any-gone (Syntax.tyInt Syntax.w64))
+
 abbrev e11 : Row.Entry
 e11 = (11, Rows.any-gone (Syntax.tyInt Syntax.w64))
+
 abbrev e0·1 : Row.Entry
 e0·1 = (0, Rows.sc-here Row.sBool)
+
 abbrev e3·1 : Row.Entry
 e3·1 = (3, Rows.any-gone Laws.mir)
+
 abbrev e4·1 : Row.Entry
 e4·1 = (4, Rows.any-gone (Syntax.tyInt Syntax.w64))
+
 abbrev e5·1 : Row.Entry
 e5·1 = (5, Rows.any-gone Syntax.tyBool)
+
 abbrev e6·1 : Row.Entry
 e6·1 = (6, Rows.any-gone (Syntax.tyInt Syntax.w64))
+
 abbrev e9·1 : Row.Entry
 e9·1 = (9, Rows.sc-here Row.sBool)
+
 abbrev e7·1 : Row.Entry
 e7·1 = (7, Rows.sc-here (Row.sInt Syntax.w64))
+
 abbrev e8·1 : Row.Entry
 e8·1 = (8, Rows.sc-here (Row.sInt Syntax.w64))
+
 abbrev e10·1 : Row.Entry
 e10·1 = (10, Rows.sc-here (Row.sInt Syntax.w64))
+
 abbrev e11·1 : Row.Entry
 e11·1 = (11, Rows.sc-here (Row.sInt Syntax.w64))
+
 abbrev pub t0 : List.List Row.Entry
 t0 = e0 ∷ e1 ∷ e2 ∷ e3 ∷ e4 ∷ e5 ∷ e6 ∷ e7 ∷ e8 ∷ e9 ∷ e10 ∷ e11 ∷ List.[]
+
 abbrev pub t1 : List.List Row.Entry
 t1 = e0·1 ∷ e1 ∷ e2 ∷ e3·1 ∷ e4·1 ∷ e5·1 ∷ e6·1 ∷ e7 ∷ e8 ∷ e9 ∷ e10 ∷ e11 ∷ List.[]
+
 abbrev pub t2 : List.List Row.Entry
 t2 = e0 ∷ e1 ∷ e2 ∷ e3 ∷ e4 ∷ e5 ∷ e6 ∷ e7 ∷ e8 ∷ e9·1 ∷ e10 ∷ e11 ∷ List.[]
+
 abbrev pub t3 : List.List Row.Entry
 t3 = e0 ∷ e1 ∷ e2 ∷ e3·1 ∷ e4 ∷ e5 ∷ e6 ∷ e7 ∷ e8 ∷ e9·1 ∷ e10 ∷ e11 ∷ List.[]
+
 abbrev pub t4 : List.List Row.Entry
 t4 = e0 ∷ e1 ∷ e2 ∷ e3·1 ∷ e4 ∷ e5 ∷ e6 ∷ e7 ∷ e8 ∷ e9 ∷ e10 ∷ e11 ∷ List.[]
+
 abbrev pub t5 : List.List Row.Entry
 t5 = e0·1 ∷ e1 ∷ e2 ∷ e3·1 ∷ e4 ∷ e5 ∷ e6 ∷ e7 ∷ e8 ∷ e9 ∷ e10 ∷ e11 ∷ List.[]
+
 abbrev pub t6 : List.List Row.Entry
 t6 = e0·1 ∷ e1 ∷ e2 ∷ e3·1 ∷ e4·1 ∷ e5 ∷ e6 ∷ e7 ∷ e8 ∷ e9 ∷ e10 ∷ e11 ∷ List.[]
+
 abbrev pub t7 : List.List Row.Entry
 t7 = e0·1 ∷ e1 ∷ e2 ∷ e3·1 ∷ e4·1 ∷ e5·1 ∷ e6 ∷ e7 ∷ e8 ∷ e9 ∷ e10 ∷ e11 ∷ List.[]
+
 abbrev pub t8 : List.List Row.Entry
 t8 = e0 ∷ e1 ∷ e2 ∷ e3 ∷ e4 ∷ e5 ∷ e6 ∷ e7·1 ∷ e8 ∷ e9 ∷ e10 ∷ e11 ∷ List.[]
+
 abbrev pub t9 : List.List Row.Entry
 t9 = e0 ∷ e1 ∷ e2 ∷ e3 ∷ e4 ∷ e5 ∷ e6 ∷ e7·1 ∷ e8·1 ∷ e9 ∷ e10 ∷ e11 ∷ List.[]
+
 abbrev pub t10 : List.List Row.Entry
 t10 = e0 ∷ e1 ∷ e2 ∷ e3·1 ∷ e4 ∷ e5 ∷ e6 ∷ e7·1 ∷ e8·1 ∷ e9 ∷ e10 ∷ e11 ∷ List.[]
+
 abbrev pub t11 : List.List Row.Entry
 t11 = e0 ∷ e1 ∷ e2 ∷ e3·1 ∷ e4 ∷ e5 ∷ e6 ∷ e7·1 ∷ e8·1 ∷ e9 ∷ e10·1 ∷ e11 ∷ List.[]
+
 abbrev pub t12 : List.List Row.Entry
 t12 = e0 ∷ e1 ∷ e2 ∷ e3·1 ∷ e4 ∷ e5 ∷ e6 ∷ e7·1 ∷ e8·1 ∷ e9 ∷ e10·1 ∷ e11·1 ∷ List.[]
+
 abbrev pub t13 : List.List Row.Entry
 t13 = e0·1 ∷ e1 ∷ e2 ∷ e3·1 ∷ e4 ∷ e5 ∷ e6 ∷ e7·1 ∷ e8·1 ∷ e9 ∷ e10·1 ∷ e11·1 ∷ List.[]
+
 abbrev pub t14 : List.List Row.Entry
 t14 = e0·1 ∷ e1 ∷ e2 ∷ e3·1 ∷ e4 ∷ e5 ∷ e6 ∷ e7 ∷ e8·1 ∷ e9 ∷ e10·1 ∷ e11·1 ∷ List.[]
+
 abbrev pub t15 : List.List Row.Entry
 t15 = e0·1 ∷ e1 ∷ e2 ∷ e3·1 ∷ e4 ∷ e5 ∷ e6 ∷ e7 ∷ e8 ∷ e9 ∷ e10·1 ∷ e11·1 ∷ List.[]
+
 abbrev pub t16 : List.List Row.Entry
 t16 = e0·1 ∷ e1 ∷ e2 ∷ e3·1 ∷ e4 ∷ e5 ∷ e6 ∷ e7 ∷ e8 ∷ e9 ∷ e10 ∷ e11·1 ∷ List.[]
+
 abbrev pub T0 : Row.Cx
 T0 = record { locals = t0; slots = List.[] }
+
 abbrev pub T1 : Row.Cx
 T1 = record { locals = t1; slots = List.[] }
+
 abbrev pub T2 : Row.Cx
 T2 = record { locals = t2; slots = List.[] }
+
 abbrev pub T3 : Row.Cx
 T3 = record { locals = t0; slots = List.[] }
+
 abbrev pub T4 : Row.Cx
 T4 = record { locals = t3; slots = List.[] }
+
 abbrev pub T5 : Row.Cx
 T5 = record { locals = t4; slots = List.[] }
+
 abbrev pub T6 : Row.Cx
 T6 = record { locals = t5; slots = List.[] }
+
 abbrev pub T7 : Row.Cx
 T7 = record { locals = t6; slots = List.[] }
+
 abbrev pub T8 : Row.Cx
 T8 = record { locals = t7; slots = List.[] }
+
 abbrev pub T9 : Row.Cx
 T9 = record { locals = t1; slots = List.[] }
+
 abbrev pub T10 : Row.Cx
 T10 = record { locals = t0; slots = List.[] }
+
 abbrev pub T11 : Row.Cx
 T11 = record { locals = t8; slots = List.[] }
+
 abbrev pub T12 : Row.Cx
 T12 = record { locals = t9; slots = List.[] }
+
 abbrev pub T13 : Row.Cx
 T13 = record { locals = t10; slots = List.[] }
+
 abbrev pub T14 : Row.Cx
 T14 = record { locals = t11; slots = List.[] }
+
 abbrev pub T15 : Row.Cx
 T15 = record { locals = t12; slots = List.[] }
+
 abbrev pub T16 : Row.Cx
 T16 = record { locals = t13; slots = List.[] }
+
 abbrev pub T17 : Row.Cx
 T17 = record { locals = t14; slots = List.[] }
+
 abbrev pub T18 : Row.Cx
 T18 = record { locals = t15; slots = List.[] }
+
 abbrev pub T19 : Row.Cx
 T19 = record { locals = t16; slots = List.[] }
+
 abbrev pub T20 : Row.Cx
 T20 = record { locals = t5; slots = List.[] }
+
 abbrev pub T21 : Row.Cx
 T21 = record { locals = t6; slots = List.[] }
+
 abbrev pub T22 : Row.Cx
 T22 = record { locals = t7; slots = List.[] }
+
 abbrev pub T23 : Row.Cx
 T23 = record { locals = t1; slots = List.[] }
+
 abbrev pub O0 : Typed.Outs
 O0 = record { next = Option.none; exits = List.[]; returns = Option.some T1 }
+
 abbrev pub O1 : Typed.Outs
 O1 = Typed.withNext (Option.some T3) O0
+
 module _ (claims· : Claims) where
   abbrev s0 : Typed.Asks T0 T2
-  s0 = Scalar.k-op2 T0 Syntax.eq (Scalar.oAt 6 (Syntax.tyInt Syntax.w64) (Row.valS (Row.sInt Syntax.w64))) (Scalar.oAt 4 (Syntax.tyInt Syntax.w64)
-      (Row.valS (Row.sInt Syntax.w64))) 9 (Rows.sc-here Row.sBool) (Row.sBool .of)
+  s0 = Scalar.k-op2 T0 Syntax.eq (Scalar.oAt 6 (Syntax.tyInt Syntax.w64) (Row.valS (Row.sInt Syntax.w64))) (Scalar.oAt
+      4 (Syntax.tyInt Syntax.w64) (Row.valS (Row.sInt Syntax.w64))) 9 (Rows.sc-here Row.sBool) (Row.sBool .of)
+
   abbrev s1 : Typed.Mo T2 → Typed.Mo T4
   s1 = Scalar.n-room T2 3 Laws.mir
+
   abbrev s2 : Typed.Mo T4 → Typed.Mo T5
   s2 = Scalar.n-room T4 9 Syntax.tyBool
+
   abbrev s3 : Typed.Mo T5 → Typed.Mo T6
   s3 = Scalar.n-use T5 (Scalar.oAt 5 Syntax.tyBool (Row.valS Row.sBool)) 0 (Rows.sc-here Row.sBool) (Row.sBool .of)
+
   abbrev s4 : Typed.Mo T6 → Typed.Mo T7
   s4 = Scalar.n-room T6 4 (Syntax.tyInt Syntax.w64)
+
   abbrev s5 : Typed.Mo T7 → Typed.Mo T8
   s5 = Scalar.n-room T7 5 Syntax.tyBool
+
   abbrev s6 : Typed.Mo T8 → Typed.Mo T9
   s6 = Scalar.n-room T8 6 (Syntax.tyInt Syntax.w64)
+
   abbrev s7 : Typed.Mo T2 → Typed.Mo T10
   s7 = Scalar.n-room T2 9 Syntax.tyBool
+
+  abbrev args8 : Args'.ArgsT ps·0 (T3 .locals)
+  args8 = (
+    record { pos = 1; ty = ref0; ref = λ x. x },
+    (record { pos = 3; st = List.[]; d = 0; at = λ x. x }, (Num.vAt 6 λ x. x, tt)),
+  )
+
   abbrev s8 : Typed.Both T3 T11
-  s8 = Call.callB ps·0 r·0 (claims· .0) (claims· .1) T3 (record { pos = 1; ty = Syntax.tyRef (Syntax.named 0) Syntax.imm RelayPending.to; ref = λ x.
-      x; }, (record { pos = 3; st = List.[]; d = 0; at = λ x. x }, (Num.vAt 6 λ x. x, tt)),) 7 (0 ∷ List.[]) (Syntax.tyInt Syntax.w64)
+  s8 = Call.callB ps·0 r·0 (claims· .0) (claims· .1) T3 args8 7 (0 ∷ List.[]) (Syntax.tyInt Syntax.w64)
+
+  abbrev args9 : Args'.ArgsT ps·1 (T11 .locals)
+  args9 = (
+    record { pos = 2; ty = ref1; ref = λ x. x },
+    (record { pos = 3; st = List.[]; d = 0; at = λ x. x }, (Num.vAt 6 λ x. x, tt)),
+  )
+
   abbrev s9 : Typed.Both T11 T12
-  s9 = Call.callB ps·1 r·1 (claims· .2) (claims· .3) T11 (record { pos = 2; ty = Syntax.tyRef (Syntax.named 1) Syntax.imm RelayCircuit.to; ref = λ x.
-      x; }, (record { pos = 3; st = List.[]; d = 0; at = λ x. x }, (Num.vAt 6 λ x. x, tt)),) 8 (1 ∷ List.[]) (Syntax.tyInt Syntax.w64)
+  s9 = Call.callB ps·1 r·1 (claims· .2) (claims· .3) T11 args9 8 (1 ∷ List.[]) (Syntax.tyInt Syntax.w64)
+
   abbrev s10 : Typed.Mo T12 → Typed.Mo T13
   s10 = Scalar.n-room T12 3 Laws.mir
+
   abbrev s11 : Typed.Mo T13 → Typed.Mo T14
-  s11 = Scalar.n-use T13 (Scalar.oFld 1 ((Syntax.field 1) ∷ List.[]) (Syntax.tyInt Syntax.w64) 8 Shared.lenV) 10 (Rows.sc-here (Row.sInt Syntax.w64))
-      (Row.sInt Syntax.w64 .of)
+  s11 = Scalar.n-use T13 (Scalar.oFld 1 ((Syntax.field 1) ∷ List.[]) (Syntax.tyInt Syntax.w64) 8 Shared.lenV) 10
+      (Rows.sc-here (Row.sInt Syntax.w64)) (Row.sInt Syntax.w64 .of)
+
   abbrev s12 : Typed.Mo T14 → Typed.Mo T15
-  s12 = Scalar.n-use T14 (Scalar.oFld 2 ((Syntax.field 1) ∷ List.[]) (Syntax.tyInt Syntax.w64) 8 Shared.lenV) 11 (Rows.sc-here (Row.sInt Syntax.w64))
-      (Row.sInt Syntax.w64 .of)
+  s12 = Scalar.n-use T14 (Scalar.oFld 2 ((Syntax.field 1) ∷ List.[]) (Syntax.tyInt Syntax.w64) 8 Shared.lenV) 11
+      (Rows.sc-here (Row.sInt Syntax.w64)) (Row.sInt Syntax.w64 .of)
+
+  abbrev args13 : Args'.ArgsT ps·2 (T15 .locals)
+  args13 = (Num.vAt 7 λ x. x, (Num.vAt 10 λ x. x, (Num.vAt 8 λ x. x, (Num.vAt 11 λ x. x, tt))))
+
   abbrev s13 : Typed.Both T15 T16
-  s13 = Call.callB ps·2 r·2 (claims· .4) (claims· .5) T15 (Num.vAt 7 λ x. x, (Num.vAt 10 λ x. x, (Num.vAt 8 λ x. x, (Num.vAt 11 λ x. x, tt))),) 0
-      List.[] Syntax.tyBool
+  s13 = Call.callB ps·2 r·2 (claims· .4) (claims· .5) T15 args13 0 List.[] Syntax.tyBool
+
   abbrev s14 : Typed.Mo T16 → Typed.Mo T17
   s14 = Scalar.n-room T16 7 (Syntax.tyInt Syntax.w64)
+
   abbrev s15 : Typed.Mo T17 → Typed.Mo T18
   s15 = Scalar.n-room T17 8 (Syntax.tyInt Syntax.w64)
+
   abbrev s16 : Typed.Mo T18 → Typed.Mo T19
   s16 = Scalar.n-room T18 10 (Syntax.tyInt Syntax.w64)
+
   abbrev s17 : Typed.Mo T19 → Typed.Mo T20
   s17 = Scalar.n-room T19 11 (Syntax.tyInt Syntax.w64)
+
   abbrev s18 : Typed.Mo T20 → Typed.Mo T21
   s18 = Scalar.n-room T20 4 (Syntax.tyInt Syntax.w64)
+
   abbrev s19 : Typed.Mo T21 → Typed.Mo T22
   s19 = Scalar.n-room T21 5 Syntax.tyBool
+
   abbrev s20 : Typed.Mo T22 → Typed.Mo T23
   s20 = Scalar.n-room T22 6 (Syntax.tyInt Syntax.w64)
-  module _ (Pre· : (κs : Lifetimes.Lfts 2) → Kinds.Dens κs ps → Type 0) (Post· : (κs : Lifetimes.Lfts 2) → (a : Kinds.Dens κs ps) → Kinds.Plain 2 ps r
-      κs) where
+
+  module _ (Pre· : (κs : Lifetimes.Lfts 2) → Kinds.Dens κs ps → Type 0) (Post· : (κs : Lifetimes.Lfts 2) →
+      (a : Kinds.Dens κs ps) → Kinds.Plain 2 ps r κs) where
     module _ (M : Type 1) where
       abbrev pub Closed : Type 2
-      Closed = (𝓤 : URA.URA M) (H : Wp.Heap 𝓤) (A : Atoms.Atoms 𝓤) (W : Kit.Given 𝓤 H A) (𝓣 : Wp.Tables 𝓤 H) (known0 : Plain.Known 𝓤 H A W 𝓣 1 ps·0
-          r·0 (claims· .0) (claims· .1) "hnsr_circuit::tables::pending::find_pending_id") (known1 : Plain.Known 𝓤 H A W 𝓣 1 ps·1 r·1 (claims· .2)
-          (claims· .3) "hnsr_circuit::tables::circuits::find_circuit_id") (known2 : Plain.Known 𝓤 H A W 𝓣 0 ps·2 r·2 (claims· .4) (claims· .5)
-          "hnsr_circuit::draw::either_found") → Statement.Triple 𝓤 (Wp.WpFn 𝓤 H (𝓣 .C) (𝓣 .Λ) (Function.fnOf 2 ps r xs m hs body)) (Function.plainOf 𝓤
-          H A 2 ps r Pre· Post·)
+      Closed = (𝓤 : URA.URA M) (H : Wp.Heap 𝓤) (A : Atoms.Atoms 𝓤) (W : Kit.Given 𝓤 H A) (𝓣 : Wp.Tables 𝓤 H) (known0 :
+          Plain.Known 𝓤 H A W 𝓣 1 ps·0 r·0 (claims· .0) (claims· .1) "hnsr_circuit::tables::pending::find_pending_id") (known1
+          : Plain.Known 𝓤 H A W 𝓣 1 ps·1 r·1 (claims· .2) (claims· .3)
+          "hnsr_circuit::tables::circuits::find_circuit_id") (known2 : Plain.Known 𝓤 H A W 𝓣 0 ps·2 r·2 (claims· .4)
+          (claims· .5) "hnsr_circuit::draw::either_found") → Statement.Triple 𝓤 (Wp.WpFn 𝓤 H (𝓣 .C) (𝓣 .Λ)
+          (Function.fnOf 2 ps r xs m hs body)) (Function.plainOf 𝓤 H A 2 ps r Pre· Post·)
+
     module _ where
       abbrev at0 : Typed.TF T9 O1
       at0 = Typed.atRet O1
+
       abbrev at1 : Typed.TF T8 O1
       at1 = λ Ψ. Typed.pass T8 T9 s6 (at0 Ψ)
+
       abbrev at2 : Typed.TF T7 O1
       at2 = λ Ψ. Typed.pass T7 T8 s5 (at1 Ψ)
+
       abbrev at3 : Typed.TF T6 O1
       at3 = λ Ψ. Typed.pass T6 T7 s4 (at2 Ψ)
+
       abbrev at4 : Typed.TF T5 O1
       at4 = λ Ψ. Typed.pass T5 T6 s3 (at3 Ψ)
+
       abbrev at5 : Typed.TF T4 O1
       at5 = λ Ψ. Typed.pass T4 T5 s2 (at4 Ψ)
+
       abbrev at6 : Typed.TF T2 O1
       at6 = λ Ψ. Typed.pass T2 T4 s1 (at5 Ψ)
+
       abbrev at7 : Typed.TF T10 O1
       at7 = Typed.atNext O1
+
       abbrev at8 : Typed.TF T2 O1
       at8 = λ Ψ. Typed.pass T2 T10 s7 (at7 Ψ)
+
       abbrev at9 : Typed.TF T2 O1
       at9 = Scalar.Φcond T2 O1 9 (λ x. x) at6 at8
+
       abbrev at10 : Typed.TF T23 O0
       at10 = Typed.atRet O0
+
       abbrev at11 : Typed.TF T22 O0
       at11 = λ Ψ. Typed.pass T22 T23 s20 (at10 Ψ)
+
       abbrev at12 : Typed.TF T21 O0
       at12 = λ Ψ. Typed.pass T21 T22 s19 (at11 Ψ)
+
       abbrev at13 : Typed.TF T20 O0
       at13 = λ Ψ. Typed.pass T20 T21 s18 (at12 Ψ)
+
       abbrev at14 : Typed.TF T19 O0
       at14 = λ Ψ. Typed.pass T19 T20 s17 (at13 Ψ)
+
       abbrev at15 : Typed.TF T18 O0
       at15 = λ Ψ. Typed.pass T18 T19 s16 (at14 Ψ)
+
       abbrev at16 : Typed.TF T17 O0
       at16 = λ Ψ. Typed.pass T17 T18 s15 (at15 Ψ)
+
       abbrev at17 : Typed.TF T16 O0
       at17 = λ Ψ. Typed.pass T16 T17 s14 (at16 Ψ)
+
       abbrev at18 : Typed.TF T15 O0
       at18 = λ Ψ. Typed.both s13 (at17 Ψ)
+
       abbrev at19 : Typed.TF T14 O0
       at19 = λ Ψ. Typed.pass T14 T15 s12 (at18 Ψ)
+
       abbrev at20 : Typed.TF T13 O0
       at20 = λ Ψ. Typed.pass T13 T14 s11 (at19 Ψ)
+
       abbrev at21 : Typed.TF T12 O0
       at21 = λ Ψ. Typed.pass T12 T13 s10 (at20 Ψ)
+
       abbrev at22 : Typed.TF T11 O0
       at22 = λ Ψ. Typed.both s9 (at21 Ψ)
+
       abbrev at23 : Typed.TF T3 O0
       at23 = λ Ψ. Typed.both s8 (at22 Ψ)
+
       abbrev at24 : Typed.TF T2 O0
       at24 = λ Ψ. at9 (Typed.wantNext T3 O0 (at23 Ψ) Ψ)
+
       abbrev at25 : Typed.TF T0 O0
       at25 = λ Ψ. Typed.ask s0 (at24 Ψ)
+
       abbrev pub Φ : Typed.TF T0 O0
       Φ = at25
-      module _ { M : Type 1 } (𝓤 : URA.URA M) (H : Wp.Heap 𝓤) (A : Atoms.Atoms 𝓤) (W : Kit.Given 𝓤 H A) (𝓣 : Wp.Tables 𝓤 H) where
+
+      module _ {M : Type 1} (𝓤 : URA.URA M) (H : Wp.Heap 𝓤) (A : Atoms.Atoms 𝓤) (W : Kit.Given 𝓤 H A)
+          (𝓣 : Wp.Tables 𝓤 H) where
         abbrev Knowns : Type 1
-        Knowns = Plain.Known 𝓤 H A W 𝓣 1 ps·0 r·0 (claims· .0) (claims· .1) "hnsr_circuit::tables::pending::find_pending_id" × Plain.Known 𝓤 H A W 𝓣 1
-            ps·1 r·1 (claims· .2) (claims· .3) "hnsr_circuit::tables::circuits::find_circuit_id" × Plain.Known 𝓤 H A W 𝓣 0 ps·2 r·2 (claims· .4)
-            (claims· .5) "hnsr_circuit::draw::either_found"
+        Knowns = Plain.Known 𝓤 H A W 𝓣 1 ps·0 r·0 (claims· .0) (claims· .1)
+            "hnsr_circuit::tables::pending::find_pending_id" × Plain.Known 𝓤 H A W 𝓣 1 ps·1 r·1 (claims· .2)
+            (claims· .3) "hnsr_circuit::tables::circuits::find_circuit_id" × Plain.Known 𝓤 H A W 𝓣 0 ps·2 r·2
+            (claims· .4) (claims· .5) "hnsr_circuit::draw::either_found"
+
       module _ (κs : Lifetimes.Lfts 2) (qs : Lifetimes.Shares 2) where
         abbrev life0 : Row.Life
         life0 = Row.lease (κs .0) (qs .0)
+
         abbrev life1 : Row.Life
         life1 = Row.lease (κs .1 .0) (qs .1 .0)
+
         abbrev G0 : Row.Cx
-        G0 = record { locals = t0; slots = life0 ∷ life1 ∷ List.[]; }
+        G0 = record { locals = t0; slots = life0 ∷ life1 ∷ List.[] }
+
         abbrev G1 : Row.Cx
-        G1 = record { locals = t1; slots = life0 ∷ life1 ∷ List.[]; }
+        G1 = record { locals = t1; slots = life0 ∷ life1 ∷ List.[] }
+
         abbrev G2 : Row.Cx
-        G2 = record { locals = t2; slots = life0 ∷ life1 ∷ List.[]; }
+        G2 = record { locals = t2; slots = life0 ∷ life1 ∷ List.[] }
+
         abbrev G3 : Row.Cx
-        G3 = record { locals = t0; slots = life0 ∷ life1 ∷ List.[]; }
+        G3 = record { locals = t0; slots = life0 ∷ life1 ∷ List.[] }
+
         abbrev G4 : Row.Cx
-        G4 = record { locals = t3; slots = life0 ∷ life1 ∷ List.[]; }
+        G4 = record { locals = t3; slots = life0 ∷ life1 ∷ List.[] }
+
         abbrev G5 : Row.Cx
-        G5 = record { locals = t4; slots = life0 ∷ life1 ∷ List.[]; }
+        G5 = record { locals = t4; slots = life0 ∷ life1 ∷ List.[] }
+
         abbrev G6 : Row.Cx
-        G6 = record { locals = t5; slots = life0 ∷ life1 ∷ List.[]; }
+        G6 = record { locals = t5; slots = life0 ∷ life1 ∷ List.[] }
+
         abbrev G7 : Row.Cx
-        G7 = record { locals = t6; slots = life0 ∷ life1 ∷ List.[]; }
+        G7 = record { locals = t6; slots = life0 ∷ life1 ∷ List.[] }
+
         abbrev G8 : Row.Cx
-        G8 = record { locals = t7; slots = life0 ∷ life1 ∷ List.[]; }
+        G8 = record { locals = t7; slots = life0 ∷ life1 ∷ List.[] }
+
         abbrev G9 : Row.Cx
-        G9 = record { locals = t1; slots = life0 ∷ life1 ∷ List.[]; }
+        G9 = record { locals = t1; slots = life0 ∷ life1 ∷ List.[] }
+
         abbrev G10 : Row.Cx
-        G10 = record { locals = t0; slots = life0 ∷ life1 ∷ List.[]; }
+        G10 = record { locals = t0; slots = life0 ∷ life1 ∷ List.[] }
+
         abbrev G11 : Row.Cx
-        G11 = record { locals = t8; slots = life0 ∷ life1 ∷ List.[]; }
+        G11 = record { locals = t8; slots = life0 ∷ life1 ∷ List.[] }
+
         abbrev G12 : Row.Cx
-        G12 = record { locals = t9; slots = life0 ∷ life1 ∷ List.[]; }
+        G12 = record { locals = t9; slots = life0 ∷ life1 ∷ List.[] }
+
         abbrev G13 : Row.Cx
-        G13 = record { locals = t10; slots = life0 ∷ life1 ∷ List.[]; }
+        G13 = record { locals = t10; slots = life0 ∷ life1 ∷ List.[] }
+
         abbrev G14 : Row.Cx
-        G14 = record { locals = t11; slots = life0 ∷ life1 ∷ List.[]; }
+        G14 = record { locals = t11; slots = life0 ∷ life1 ∷ List.[] }
+
         abbrev G15 : Row.Cx
-        G15 = record { locals = t12; slots = life0 ∷ life1 ∷ List.[]; }
+        G15 = record { locals = t12; slots = life0 ∷ life1 ∷ List.[] }
+
         abbrev G16 : Row.Cx
-        G16 = record { locals = t13; slots = life0 ∷ life1 ∷ List.[]; }
+        G16 = record { locals = t13; slots = life0 ∷ life1 ∷ List.[] }
+
         abbrev G17 : Row.Cx
-        G17 = record { locals = t14; slots = life0 ∷ life1 ∷ List.[]; }
+        G17 = record { locals = t14; slots = life0 ∷ life1 ∷ List.[] }
+
         abbrev G18 : Row.Cx
-        G18 = record { locals = t15; slots = life0 ∷ life1 ∷ List.[]; }
+        G18 = record { locals = t15; slots = life0 ∷ life1 ∷ List.[] }
+
         abbrev G19 : Row.Cx
-        G19 = record { locals = t16; slots = life0 ∷ life1 ∷ List.[]; }
+        G19 = record { locals = t16; slots = life0 ∷ life1 ∷ List.[] }
+
         abbrev G20 : Row.Cx
-        G20 = record { locals = t5; slots = life0 ∷ life1 ∷ List.[]; }
+        G20 = record { locals = t5; slots = life0 ∷ life1 ∷ List.[] }
+
         abbrev G21 : Row.Cx
-        G21 = record { locals = t6; slots = life0 ∷ life1 ∷ List.[]; }
+        G21 = record { locals = t6; slots = life0 ∷ life1 ∷ List.[] }
+
         abbrev G22 : Row.Cx
-        G22 = record { locals = t7; slots = life0 ∷ life1 ∷ List.[]; }
+        G22 = record { locals = t7; slots = life0 ∷ life1 ∷ List.[] }
+
         abbrev G23 : Row.Cx
-        G23 = record { locals = t1; slots = life0 ∷ life1 ∷ List.[]; }
+        G23 = record { locals = t1; slots = life0 ∷ life1 ∷ List.[] }
+
         abbrev Δ0 : Typed.Outs
         Δ0 = record { next = Option.none; exits = List.[]; returns = Option.some G1 }
+
         abbrev Δ1 : Typed.Outs
         Δ1 = Typed.withNext (Option.some G3) Δ0
-        module _ { M : Type 1 } (𝓤 : URA.URA M) (H : Wp.Heap 𝓤) (A : Atoms.Atoms 𝓤) (W : Kit.Given 𝓤 H A) (𝓣 : Wp.Tables 𝓤 H) (known : Knowns 𝓤 H A W
-            𝓣) (bs : List.List Nat.ℕ) (bd : Lifetimes.AllOutlive 2 (Kinds.osR r) κs) where
+
+        module _ {M : Type 1} (𝓤 : URA.URA M) (H : Wp.Heap 𝓤) (A : Atoms.Atoms 𝓤) (W : Kit.Given 𝓤 H A)
+            (𝓣 : Wp.Tables 𝓤 H) (known : Knowns 𝓤 H A W 𝓣) (bs : List.List Nat.ℕ)
+            (bd : Lifetimes.AllOutlive 2 (Kinds.osR r) κs) where
           abbrev E : Wp.Env 𝓤 H
           E = Frame.EnvOf 𝓤 H ((Kinds.tyR r) ∷ (Enter.tysP ps xs)) bs
+
           d0 : Typed.Typed 𝓤 H A 𝓣 E G9 b2 Δ1 at0
           d0 = Typed.t-return 𝓤 H A W 𝓣 E Δ1 tt
+
           d1 : Typed.Typed 𝓤 H A 𝓣 E G8 b2 Δ1 at1
-          d1 = Typed.g-pre 𝓤 H A W 𝓣 E G8 G9 b2 Δ1 (Typed.pass T8 T9 s6) at0 (Scalar.g-room 𝓤 H A W E G8 6 (Syntax.tyInt Syntax.w64) (Scalar.room-sc 𝓤
-              H A W (Row.sInt Syntax.w64))) d0
+          d1 = Typed.g-pre 𝓤 H A W 𝓣 E G8 G9 b2 Δ1 (Typed.pass T8 T9 s6) at0 (Scalar.g-room 𝓤 H A W E G8 6
+              (Syntax.tyInt Syntax.w64) (Scalar.room-sc 𝓤 H A W (Row.sInt Syntax.w64))) d0
+
           d2 : Typed.Typed 𝓤 H A 𝓣 E G7 b2 Δ1 at2
-          d2 = Typed.g-pre 𝓤 H A W 𝓣 E G7 G8 b2 Δ1 (Typed.pass T7 T8 s5) at1 (Scalar.g-room 𝓤 H A W E G7 5 Syntax.tyBool (Scalar.room-sc 𝓤 H A W
-              Row.sBool)) d1
+          d2 = Typed.g-pre 𝓤 H A W 𝓣 E G7 G8 b2 Δ1 (Typed.pass T7 T8 s5) at1 (Scalar.g-room 𝓤 H A W E G7 5
+              Syntax.tyBool (Scalar.room-sc 𝓤 H A W Row.sBool)) d1
+
           d3 : Typed.Typed 𝓤 H A 𝓣 E G6 b2 Δ1 at3
-          d3 = Typed.g-pre 𝓤 H A W 𝓣 E G6 G7 b2 Δ1 (Typed.pass T6 T7 s4) at2 (Scalar.g-room 𝓤 H A W E G6 4 (Syntax.tyInt Syntax.w64) (Scalar.room-sc 𝓤
-              H A W (Row.sInt Syntax.w64))) d2
+          d3 = Typed.g-pre 𝓤 H A W 𝓣 E G6 G7 b2 Δ1 (Typed.pass T6 T7 s4) at2 (Scalar.g-room 𝓤 H A W E G6 4
+              (Syntax.tyInt Syntax.w64) (Scalar.room-sc 𝓤 H A W (Row.sInt Syntax.w64))) d2
+
           d4 : Typed.Typed 𝓤 H A 𝓣 E G5 b3 Δ1 at4
-          d4 = Typed.s-seq 𝓤 H A W 𝓣 E G5 G6 b1 b2 Δ1 (Typed.pass T5 T6 s3) at3 (Scalar.t-use 𝓤 H A W E 𝓣 G5 (Scalar.oAt 5 Syntax.tyBool (Row.valS
-              Row.sBool)) 0 (Rows.sc-here Row.sBool) Syntax.tyBool (Row.valS Row.sBool) (Row.sBool .of) (Scalar.reads-sc 𝓤 H A W Row.sBool, Path.refl)
-              (Reads.room-gone 𝓤 H A Syntax.tyBool) (Scalar.holds-sc 𝓤 H A W Row.sBool) Path.refl (λ u. Path.refl) λ u. tt) d3
+          d4 = Typed.s-seq 𝓤 H A W 𝓣 E G5 G6 b1 b2 Δ1 (Typed.pass T5 T6 s3) at3 (Scalar.t-use 𝓤 H A W E 𝓣 G5
+              (Scalar.oAt 5 Syntax.tyBool (Row.valS Row.sBool)) 0 (Rows.sc-here Row.sBool) Syntax.tyBool
+              (Row.valS Row.sBool) (Row.sBool .of) (Scalar.reads-sc 𝓤 H A W Row.sBool, Path.refl)
+              (Reads.room-gone 𝓤 H A Syntax.tyBool) (Scalar.holds-sc 𝓤 H A W Row.sBool) Path.refl (λ u. Path.refl) λ u.
+              tt) d3
+
           d5 : Typed.Typed 𝓤 H A 𝓣 E G4 b3 Δ1 at5
-          d5 = Typed.g-pre 𝓤 H A W 𝓣 E G4 G5 b3 Δ1 (Typed.pass T4 T5 s2) at4 (Scalar.g-room 𝓤 H A W E G4 9 Syntax.tyBool (Scalar.room-sc 𝓤 H A W
-              Row.sBool)) d4
+          d5 = Typed.g-pre 𝓤 H A W 𝓣 E G4 G5 b3 Δ1 (Typed.pass T4 T5 s2) at4 (Scalar.g-room 𝓤 H A W E G4 9
+              Syntax.tyBool (Scalar.room-sc 𝓤 H A W Row.sBool)) d4
+
           d6 : Typed.Typed 𝓤 H A 𝓣 E G2 b3 Δ1 at6
-          d6 = Typed.g-pre 𝓤 H A W 𝓣 E G2 G4 b3 Δ1 (Typed.pass T2 T4 s1) at5 (Scalar.g-room 𝓤 H A W E G2 3 Laws.mir (Local.room-whole 𝓤 H A W
-              (Declared.row Places.the-type) Laws.mir Path.refl)) d5
+          d6 = Typed.g-pre 𝓤 H A W 𝓣 E G2 G4 b3 Δ1 (Typed.pass T2 T4 s1) at5 (Scalar.g-room 𝓤 H A W E G2 3 Laws.mir (Local.room-whole
+              𝓤 H A W (Declared.row Places.the-type) Laws.mir Path.refl)) d5
+
           d7 : Typed.Typed 𝓤 H A 𝓣 E G10 b4 Δ1 at7
           d7 = Typed.t-skip 𝓤 H A W 𝓣 E Δ1 tt
+
           d8 : Typed.Typed 𝓤 H A 𝓣 E G2 b4 Δ1 at8
-          d8 = Typed.g-pre 𝓤 H A W 𝓣 E G2 G10 b4 Δ1 (Typed.pass T2 T10 s7) at7 (Scalar.g-room 𝓤 H A W E G2 9 Syntax.tyBool (Scalar.room-sc 𝓤 H A W
-              Row.sBool)) d7
+          d8 = Typed.g-pre 𝓤 H A W 𝓣 E G2 G10 b4 Δ1 (Typed.pass T2 T10 s7) at7 (Scalar.g-room 𝓤 H A W E G2 9
+              Syntax.tyBool (Scalar.room-sc 𝓤 H A W Row.sBool)) d7
+
           d9 : Typed.Typed 𝓤 H A 𝓣 E G2 b5 Δ1 at9
-          d9 = Scalar.t-cond 𝓤 H A W E 𝓣 G2 9 (λ x. x) b3 b4 Δ1 at6 at8 (Scalar.reads-sc 𝓤 H A W Row.sBool) Path.refl d6 d8
+          d9 = Scalar.t-cond 𝓤 H A W E 𝓣 G2 9 (λ x. x) b3 b4 Δ1 at6 at8 (Scalar.reads-sc 𝓤 H A W Row.sBool) Path.refl
+              d6 d8
+
           d10 : Typed.Typed 𝓤 H A 𝓣 E G23 b11 Δ0 at10
           d10 = Typed.t-return 𝓤 H A W 𝓣 E Δ0 tt
+
           d11 : Typed.Typed 𝓤 H A 𝓣 E G22 b11 Δ0 at11
-          d11 = Typed.g-pre 𝓤 H A W 𝓣 E G22 G23 b11 Δ0 (Typed.pass T22 T23 s20) at10 (Scalar.g-room 𝓤 H A W E G22 6 (Syntax.tyInt Syntax.w64)
-              (Scalar.room-sc 𝓤 H A W (Row.sInt Syntax.w64))) d10
+          d11 = Typed.g-pre 𝓤 H A W 𝓣 E G22 G23 b11 Δ0 (Typed.pass T22 T23 s20) at10 (Scalar.g-room 𝓤 H A W E G22 6
+              (Syntax.tyInt Syntax.w64) (Scalar.room-sc 𝓤 H A W (Row.sInt Syntax.w64))) d10
+
           d12 : Typed.Typed 𝓤 H A 𝓣 E G21 b11 Δ0 at12
-          d12 = Typed.g-pre 𝓤 H A W 𝓣 E G21 G22 b11 Δ0 (Typed.pass T21 T22 s19) at11 (Scalar.g-room 𝓤 H A W E G21 5 Syntax.tyBool (Scalar.room-sc 𝓤 H
-              A W Row.sBool)) d11
+          d12 = Typed.g-pre 𝓤 H A W 𝓣 E G21 G22 b11 Δ0 (Typed.pass T21 T22 s19) at11 (Scalar.g-room 𝓤 H A W E G21 5
+              Syntax.tyBool (Scalar.room-sc 𝓤 H A W Row.sBool)) d11
+
           d13 : Typed.Typed 𝓤 H A 𝓣 E G20 b11 Δ0 at13
-          d13 = Typed.g-pre 𝓤 H A W 𝓣 E G20 G21 b11 Δ0 (Typed.pass T20 T21 s18) at12 (Scalar.g-room 𝓤 H A W E G20 4 (Syntax.tyInt Syntax.w64)
-              (Scalar.room-sc 𝓤 H A W (Row.sInt Syntax.w64))) d12
+          d13 = Typed.g-pre 𝓤 H A W 𝓣 E G20 G21 b11 Δ0 (Typed.pass T20 T21 s18) at12 (Scalar.g-room 𝓤 H A W E G20 4
+              (Syntax.tyInt Syntax.w64) (Scalar.room-sc 𝓤 H A W (Row.sInt Syntax.w64))) d12
+
           d14 : Typed.Typed 𝓤 H A 𝓣 E G19 b11 Δ0 at14
-          d14 = Typed.g-pre 𝓤 H A W 𝓣 E G19 G20 b11 Δ0 (Typed.pass T19 T20 s17) at13 (Scalar.g-room 𝓤 H A W E G19 11 (Syntax.tyInt Syntax.w64)
-              (Scalar.room-sc 𝓤 H A W (Row.sInt Syntax.w64))) d13
+          d14 = Typed.g-pre 𝓤 H A W 𝓣 E G19 G20 b11 Δ0 (Typed.pass T19 T20 s17) at13 (Scalar.g-room 𝓤 H A W E G19 11
+              (Syntax.tyInt Syntax.w64) (Scalar.room-sc 𝓤 H A W (Row.sInt Syntax.w64))) d13
+
           d15 : Typed.Typed 𝓤 H A 𝓣 E G18 b11 Δ0 at15
-          d15 = Typed.g-pre 𝓤 H A W 𝓣 E G18 G19 b11 Δ0 (Typed.pass T18 T19 s16) at14 (Scalar.g-room 𝓤 H A W E G18 10 (Syntax.tyInt Syntax.w64)
-              (Scalar.room-sc 𝓤 H A W (Row.sInt Syntax.w64))) d14
+          d15 = Typed.g-pre 𝓤 H A W 𝓣 E G18 G19 b11 Δ0 (Typed.pass T18 T19 s16) at14 (Scalar.g-room 𝓤 H A W E G18 10
+              (Syntax.tyInt Syntax.w64) (Scalar.room-sc 𝓤 H A W (Row.sInt Syntax.w64))) d14
+
           d16 : Typed.Typed 𝓤 H A 𝓣 E G17 b11 Δ0 at16
-          d16 = Typed.g-pre 𝓤 H A W 𝓣 E G17 G18 b11 Δ0 (Typed.pass T17 T18 s15) at15 (Scalar.g-room 𝓤 H A W E G17 8 (Syntax.tyInt Syntax.w64)
-              (Scalar.room-sc 𝓤 H A W (Row.sInt Syntax.w64))) d15
+          d16 = Typed.g-pre 𝓤 H A W 𝓣 E G17 G18 b11 Δ0 (Typed.pass T17 T18 s15) at15 (Scalar.g-room 𝓤 H A W E G17 8
+              (Syntax.tyInt Syntax.w64) (Scalar.room-sc 𝓤 H A W (Row.sInt Syntax.w64))) d15
+
           d17 : Typed.Typed 𝓤 H A 𝓣 E G16 b11 Δ0 at17
-          d17 = Typed.g-pre 𝓤 H A W 𝓣 E G16 G17 b11 Δ0 (Typed.pass T16 T17 s14) at16 (Scalar.g-room 𝓤 H A W E G16 7 (Syntax.tyInt Syntax.w64)
-              (Scalar.room-sc 𝓤 H A W (Row.sInt Syntax.w64))) d16
+          d17 = Typed.g-pre 𝓤 H A W 𝓣 E G16 G17 b11 Δ0 (Typed.pass T16 T17 s14) at16 (Scalar.g-room 𝓤 H A W E G16 7
+              (Syntax.tyInt Syntax.w64) (Scalar.room-sc 𝓤 H A W (Row.sInt Syntax.w64))) d16
+
           d18 : Typed.Typed 𝓤 H A 𝓣 E G15 b12 Δ0 at18
-          d18 = Typed.s-seq 𝓤 H A W 𝓣 E G15 G16 b10 b11 Δ0 (Typed.both s13) at17 (Plain.t-call-plain 𝓤 H A W 𝓣 0 ps·2 r·2 (claims· .4) (claims· .5)
-              "hnsr_circuit::draw::either_found" (known .2) E (λ pos β. β) G15 (Num.vAt 7 λ x. x, (Num.vAt 10 λ x. x, (Num.vAt 8 λ x. x, (Num.vAt 11 λ
-              x. x, tt))),) 0 List.[] (Call.sub-id 𝓤 H A W (G15 .slots)) ((Scalar.reads-sc 𝓤 H A W (Row.sInt Syntax.w64), Path.refl),
-              ((Scalar.reads-sc 𝓤 H A W (Row.sInt Syntax.w64), Path.refl), ((Scalar.reads-sc 𝓤 H A W (Row.sInt Syntax.w64), Path.refl),
-              ((Scalar.reads-sc 𝓤 H A W (Row.sInt Syntax.w64), Path.refl), tt),),),) (Reads.room-gone 𝓤 H A Syntax.tyBool) tt Path.refl) d17
+          d18 = Typed.s-seq 𝓤 H A W 𝓣 E G15 G16 b10 b11 Δ0 (Typed.both s13) at17 (Plain.t-call-plain 𝓤 H A W 𝓣 0 ps·2
+              r·2 (claims· .4) (claims· .5) "hnsr_circuit::draw::either_found" (known .2) E (λ pos β. β) G15 (
+                Num.vAt 7 λ x. x,
+                (Num.vAt 10 λ x. x, (Num.vAt 8 λ x. x, (Num.vAt 11 λ x. x, tt))),
+              ) 0 List.[] (Call.sub-id 𝓤 H A W (G15 .slots)) (
+                (Scalar.reads-sc 𝓤 H A W (Row.sInt Syntax.w64), Path.refl),
+                (
+                  (Scalar.reads-sc 𝓤 H A W (Row.sInt Syntax.w64), Path.refl),
+                  (
+                    (Scalar.reads-sc 𝓤 H A W (Row.sInt Syntax.w64), Path.refl),
+                    ((Scalar.reads-sc 𝓤 H A W (Row.sInt Syntax.w64), Path.refl), tt),
+                  ),
+                ),
+              ) (Reads.room-gone 𝓤 H A Syntax.tyBool) tt Path.refl) d17
+
           d19 : Typed.Typed 𝓤 H A 𝓣 E G14 b13 Δ0 at19
-          d19 = Typed.s-seq 𝓤 H A W 𝓣 E G14 G15 b9 b12 Δ0 (Typed.pass T14 T15 s12) at18 (Scalar.t-use 𝓤 H A W E 𝓣 G14 (Scalar.oFld 2 ((Syntax.field 1)
-              ∷ List.[]) (Syntax.tyInt Syntax.w64) 8 Shared.lenV) 11 (Rows.sc-here (Row.sInt Syntax.w64)) (Syntax.tyInt Syntax.w64) (Row.valS
-              (Row.sInt Syntax.w64)) (Row.sInt Syntax.w64 .of) (Shared.reads-sslice-len 𝓤 H A W RelayCircuit.row ref1 1 8 Path.refl, Path.refl,)
-              (Reads.room-gone 𝓤 H A (Syntax.tyInt Syntax.w64)) (Scalar.holds-sc 𝓤 H A W (Row.sInt Syntax.w64)) Path.refl (λ u. Path.refl) λ u. tt)
-              d18
+          d19 = Typed.s-seq 𝓤 H A W 𝓣 E G14 G15 b9 b12 Δ0 (Typed.pass T14 T15 s12) at18 (Scalar.t-use 𝓤 H A W E 𝓣 G14 (Scalar.oFld
+              2 ((Syntax.field 1) ∷ List.[]) (Syntax.tyInt Syntax.w64) 8 Shared.lenV) 11
+              (Rows.sc-here (Row.sInt Syntax.w64)) (Syntax.tyInt Syntax.w64) (Row.valS (Row.sInt Syntax.w64))
+              (Row.sInt Syntax.w64 .of) (
+                Shared.reads-sslice-len 𝓤 H A W RelayCircuit.row ref1 1 8 Path.refl,
+                Path.refl,
+              ) (Reads.room-gone 𝓤 H A (Syntax.tyInt Syntax.w64)) (Scalar.holds-sc 𝓤 H A W (Row.sInt Syntax.w64))
+              Path.refl (λ u. Path.refl) λ u. tt) d18
+
           d20 : Typed.Typed 𝓤 H A 𝓣 E G13 b14 Δ0 at20
-          d20 = Typed.s-seq 𝓤 H A W 𝓣 E G13 G14 b8 b13 Δ0 (Typed.pass T13 T14 s11) at19 (Scalar.t-use 𝓤 H A W E 𝓣 G13 (Scalar.oFld 1 ((Syntax.field 1)
-              ∷ List.[]) (Syntax.tyInt Syntax.w64) 8 Shared.lenV) 10 (Rows.sc-here (Row.sInt Syntax.w64)) (Syntax.tyInt Syntax.w64) (Row.valS
-              (Row.sInt Syntax.w64)) (Row.sInt Syntax.w64 .of) (Shared.reads-sslice-len 𝓤 H A W RelayPending.row ref0 0 8 Path.refl, Path.refl,)
-              (Reads.room-gone 𝓤 H A (Syntax.tyInt Syntax.w64)) (Scalar.holds-sc 𝓤 H A W (Row.sInt Syntax.w64)) Path.refl (λ u. Path.refl) λ u. tt)
-              d19
+          d20 = Typed.s-seq 𝓤 H A W 𝓣 E G13 G14 b8 b13 Δ0 (Typed.pass T13 T14 s11) at19 (Scalar.t-use 𝓤 H A W E 𝓣 G13 (Scalar.oFld
+              1 ((Syntax.field 1) ∷ List.[]) (Syntax.tyInt Syntax.w64) 8 Shared.lenV) 10
+              (Rows.sc-here (Row.sInt Syntax.w64)) (Syntax.tyInt Syntax.w64) (Row.valS (Row.sInt Syntax.w64))
+              (Row.sInt Syntax.w64 .of) (
+                Shared.reads-sslice-len 𝓤 H A W RelayPending.row ref0 0 8 Path.refl,
+                Path.refl,
+              ) (Reads.room-gone 𝓤 H A (Syntax.tyInt Syntax.w64)) (Scalar.holds-sc 𝓤 H A W (Row.sInt Syntax.w64))
+              Path.refl (λ u. Path.refl) λ u. tt) d19
+
           d21 : Typed.Typed 𝓤 H A 𝓣 E G12 b14 Δ0 at21
-          d21 = Typed.g-pre 𝓤 H A W 𝓣 E G12 G13 b14 Δ0 (Typed.pass T12 T13 s10) at20 (Scalar.g-room 𝓤 H A W E G12 3 Laws.mir (Local.room-whole 𝓤 H A W
-              (Declared.row Places.the-type) Laws.mir Path.refl)) d20
+          d21 = Typed.g-pre 𝓤 H A W 𝓣 E G12 G13 b14 Δ0 (Typed.pass T12 T13 s10) at20 (Scalar.g-room 𝓤 H A W E G12 3
+              Laws.mir (Local.room-whole 𝓤 H A W (Declared.row Places.the-type) Laws.mir Path.refl)) d20
+
           d22 : Typed.Typed 𝓤 H A 𝓣 E G11 b15 Δ0 at22
-          d22 = Typed.s-seq 𝓤 H A W 𝓣 E G11 G12 b7 b14 Δ0 (Typed.both s9) at21 (Plain.t-call-plain 𝓤 H A W 𝓣 1 ps·1 r·1 (claims· .2) (claims· .3)
-              "hnsr_circuit::tables::circuits::find_circuit_id" (known .1) E (λ pos β. β) G11 (record { pos = 2; ty = Syntax.tyRef (Syntax.named 1)
-              Syntax.imm RelayCircuit.to; ref = λ x. x; }, (record { pos = 3; st = List.[]; d = 0; at = λ x. x }, (Num.vAt 6 λ x. x, tt)),) 8 (1 ∷
-              List.[]) (Call.sub-id 𝓤 H A W (G11 .slots)) (ShrSlice.spares-sslice 𝓤 H A W RelayCircuit.row ref1 1, Shared.reads-sslice 𝓤 H A W
-              RelayCircuit.row ref1 1, Path.refl, ((Yields.yields-copy 𝓤 H A W (λ ρ. Unit) (Declared.row Places.the-type) Path.refl (Copies.cStruct
-              Places.the-type Laws.the-laws Laws.the-copy .copy 𝓤 H A W) (Rows.whole (Declared.row Places.the-type)) (λ x. x) (λ x. x) (λ ρ told.
-              Local.mem-whole 𝓤 H A W (Declared.row Places.the-type) ρ) λ ρ told. Local.whole-mem 𝓤 H A W (Declared.row Places.the-type) ρ,
-              Path.refl,), ((Scalar.reads-sc 𝓤 H A W (Row.sInt Syntax.w64), Path.refl), tt),),) (Reads.room-gone 𝓤 H A (Syntax.tyInt Syntax.w64)) (tt,
-              tt) Path.refl) d21
+          d22 = Typed.s-seq 𝓤 H A W 𝓣 E G11 G12 b7 b14 Δ0 (Typed.both s9) at21 (Plain.t-call-plain 𝓤 H A W 𝓣 1 ps·1 r·1
+              (claims· .2) (claims· .3) "hnsr_circuit::tables::circuits::find_circuit_id" (known .1) E (λ pos β. β) G11 (
+                record { pos = 2; ty = ref1; ref = λ x. x },
+                (record { pos = 3; st = List.[]; d = 0; at = λ x. x }, (Num.vAt 6 λ x. x, tt)),
+              ) 8 (1 ∷ List.[]) (Call.sub-id 𝓤 H A W (G11 .slots)) (
+                ShrSlice.spares-sslice 𝓤 H A W RelayCircuit.row ref1 1,
+                Shared.reads-sslice 𝓤 H A W RelayCircuit.row ref1 1,
+                Path.refl,
+                (
+                  (
+                    Yields.yields-copy 𝓤 H A W (λ ρ. Unit) (Declared.row Places.the-type) Path.refl (Copies.cStruct
+                        Places.the-type Laws.the-laws Laws.the-copy .copy 𝓤 H A W)
+                        (Rows.whole (Declared.row Places.the-type)) (λ x. x) (λ x. x) (λ ρ told. Local.mem-whole 𝓤 H A
+                        W (Declared.row Places.the-type) ρ) λ ρ told. Local.whole-mem 𝓤 H A W
+                        (Declared.row Places.the-type) ρ,
+                    Path.refl,
+                  ),
+                  ((Scalar.reads-sc 𝓤 H A W (Row.sInt Syntax.w64), Path.refl), tt),
+                ),
+              ) (Reads.room-gone 𝓤 H A (Syntax.tyInt Syntax.w64)) (tt, tt) Path.refl) d21
+
           d23 : Typed.Typed 𝓤 H A 𝓣 E G3 b16 Δ0 at23
-          d23 = Typed.s-seq 𝓤 H A W 𝓣 E G3 G11 b6 b15 Δ0 (Typed.both s8) at22 (Plain.t-call-plain 𝓤 H A W 𝓣 1 ps·0 r·0 (claims· .0) (claims· .1)
-              "hnsr_circuit::tables::pending::find_pending_id" (known .0) E (λ pos β. β) G3 (record { pos = 1; ty = Syntax.tyRef (Syntax.named 0)
-              Syntax.imm RelayPending.to; ref = λ x. x; }, (record { pos = 3; st = List.[]; d = 0; at = λ x. x }, (Num.vAt 6 λ x. x, tt)),) 7 (0 ∷
-              List.[]) (Call.sub-id 𝓤 H A W (G3 .slots)) (ShrSlice.spares-sslice 𝓤 H A W RelayPending.row ref0 0, Shared.reads-sslice 𝓤 H A W
-              RelayPending.row ref0 0, Path.refl, ((Yields.yields-copy 𝓤 H A W (λ ρ. Unit) (Declared.row Places.the-type) Path.refl (Copies.cStruct
-              Places.the-type Laws.the-laws Laws.the-copy .copy 𝓤 H A W) (Rows.whole (Declared.row Places.the-type)) (λ x. x) (λ x. x) (λ ρ told.
-              Local.mem-whole 𝓤 H A W (Declared.row Places.the-type) ρ) λ ρ told. Local.whole-mem 𝓤 H A W (Declared.row Places.the-type) ρ,
-              Path.refl,), ((Scalar.reads-sc 𝓤 H A W (Row.sInt Syntax.w64), Path.refl), tt),),) (Reads.room-gone 𝓤 H A (Syntax.tyInt Syntax.w64)) (tt,
-              tt) Path.refl) d22
+          d23 = Typed.s-seq 𝓤 H A W 𝓣 E G3 G11 b6 b15 Δ0 (Typed.both s8) at22 (Plain.t-call-plain 𝓤 H A W 𝓣 1 ps·0 r·0
+              (claims· .0) (claims· .1) "hnsr_circuit::tables::pending::find_pending_id" (known .0) E (λ pos β. β) G3 (
+                record { pos = 1; ty = ref0; ref = λ x. x },
+                (record { pos = 3; st = List.[]; d = 0; at = λ x. x }, (Num.vAt 6 λ x. x, tt)),
+              ) 7 (0 ∷ List.[]) (Call.sub-id 𝓤 H A W (G3 .slots)) (
+                ShrSlice.spares-sslice 𝓤 H A W RelayPending.row ref0 0,
+                Shared.reads-sslice 𝓤 H A W RelayPending.row ref0 0,
+                Path.refl,
+                (
+                  (
+                    Yields.yields-copy 𝓤 H A W (λ ρ. Unit) (Declared.row Places.the-type) Path.refl (Copies.cStruct
+                        Places.the-type Laws.the-laws Laws.the-copy .copy 𝓤 H A W)
+                        (Rows.whole (Declared.row Places.the-type)) (λ x. x) (λ x. x) (λ ρ told. Local.mem-whole 𝓤 H A
+                        W (Declared.row Places.the-type) ρ) λ ρ told. Local.whole-mem 𝓤 H A W
+                        (Declared.row Places.the-type) ρ,
+                    Path.refl,
+                  ),
+                  ((Scalar.reads-sc 𝓤 H A W (Row.sInt Syntax.w64), Path.refl), tt),
+                ),
+              ) (Reads.room-gone 𝓤 H A (Syntax.tyInt Syntax.w64)) (tt, tt) Path.refl) d22
+
           d24 : Typed.Typed 𝓤 H A 𝓣 E G2 b17 Δ0 at24
           d24 = Typed.t-seq 𝓤 H A W 𝓣 E G2 G3 b5 b16 Δ0 at9 at23 d9 d23
+
           d25 : Typed.Typed 𝓤 H A 𝓣 E G0 b18 Δ0 at25
-          d25 = Typed.s-seq 𝓤 H A W 𝓣 E G0 G2 b0 b17 Δ0 (Typed.ask s0) at24 (Scalar.t-op2 𝓤 H A W E 𝓣 G0 Syntax.eq (Scalar.oAt 6 (Syntax.tyInt
-              Syntax.w64) (Row.valS (Row.sInt Syntax.w64))) (Scalar.oAt 4 (Syntax.tyInt Syntax.w64) (Row.valS (Row.sInt Syntax.w64))) 9 (Rows.sc-here
-              Row.sBool) Syntax.tyBool (Row.valS Row.sBool) (Row.sBool .of) (Scalar.reads-sc 𝓤 H A W (Row.sInt Syntax.w64), Path.refl)
-              (Scalar.reads-sc 𝓤 H A W (Row.sInt Syntax.w64), Path.refl) (Reads.room-gone 𝓤 H A Syntax.tyBool) (Scalar.holds-sc 𝓤 H A W Row.sBool)
-              Path.refl (λ u. Path.refl) λ u. tt) d24
+          d25 = Typed.s-seq 𝓤 H A W 𝓣 E G0 G2 b0 b17 Δ0 (Typed.ask s0) at24 (Scalar.t-op2 𝓤 H A W E 𝓣 G0 Syntax.eq (Scalar.oAt
+              6 (Syntax.tyInt Syntax.w64) (Row.valS (Row.sInt Syntax.w64))) (Scalar.oAt 4 (Syntax.tyInt Syntax.w64)
+              (Row.valS (Row.sInt Syntax.w64))) 9 (Rows.sc-here Row.sBool) Syntax.tyBool (Row.valS Row.sBool)
+              (Row.sBool .of) (Scalar.reads-sc 𝓤 H A W (Row.sInt Syntax.w64), Path.refl)
+              (Scalar.reads-sc 𝓤 H A W (Row.sInt Syntax.w64), Path.refl) (Reads.room-gone 𝓤 H A Syntax.tyBool)
+              (Scalar.holds-sc 𝓤 H A W Row.sBool) Path.refl (λ u. Path.refl) λ u. tt) d24
+
           pub typed : Typed.Typed 𝓤 H A 𝓣 E (Function.Γin 2 ps r xs m κs qs) b18 (Function.Δret 2 ps r xs m κs qs) Φ
           typed = d25
+
       module _ (κs : Lifetimes.Lfts 2) where
         pub record Args : Type 0 where
-          pub pending : Kinds.Den { n = 2 } κs (ShrSlice.pShrS RelayPending.row 0 tt)
-          pub circuits : Kinds.Den { n = 2 } κs (ShrSlice.pShrS RelayCircuit.row 1 tt)
-          pub places : Kinds.Den { n = 2 } κs (Value.pVal record { ty = Declared.row Places.the-type; one = Path.refl; val = Laws'.val Places.the-type
-              Laws.the-laws; tells = Laws'.tells Places.the-type Laws.the-laws; still = Laws'.still Places.the-type Laws.the-copy Exit.yes; row =
-              Rows.whole (Declared.row Places.the-type); rd = λ x. x; mk = λ x. x; } λ M 𝓤 H A W. record { copies = Laws'.copy Places.the-type
-              Laws.the-copy 𝓤 H A W; lawful = Laws'.lawful Places.the-type Laws.the-laws 𝓤 H A W; makes = Laws'.makes Places.the-type Laws.the-plain 𝓤
-              H A; in-mem = Local.mem-whole 𝓤 H A W (Declared.row Places.the-type); of-mem = Local.whole-mem 𝓤 H A W (Declared.row Places.the-type);
-              })
-          pub first : Kinds.Den { n = 2 } κs (Num.pNum Syntax.w64)
-          pub known : Kinds.Den { n = 2 } κs Bool.pBool
-          pub id : Kinds.Den { n = 2 } κs (Num.pNum Syntax.w64)
+          pub pending : Kinds.Den {n = 2} κs (ShrSlice.pShrS RelayPending.row 0 tt)
+          pub circuits : Kinds.Den {n = 2} κs (ShrSlice.pShrS RelayCircuit.row 1 tt)
+          pub places : Kinds.Den {n = 2} κs (StructRow.param Places.the-type Laws.the-laws Laws.the-copy Laws.the-plain)
+          pub first : Kinds.Den {n = 2} κs (Num.pNum Syntax.w64)
+          pub known : Kinds.Den {n = 2} κs Bool.pBool
+          pub id : Kinds.Den {n = 2} κs (Num.pNum Syntax.w64)
+
         abbrev pub dens : (a : Args) → Kinds.Dens κs ps
-        dens = λ a. (a .pending, (a .circuits, (a .places, (a .first, (a .known, (a .id, tt))))),)
+        dens = λ a. (a .pending, (a .circuits, (a .places, (a .first, (a .known, (a .id, tt))))))
+
         module _ (args· : Args) where
           pub record Ranges : Type 0 where
             pub first : Val.Fits Syntax.w64 (args· .first)
             pub id : Val.Fits Syntax.w64 (args· .id)
+
       abbrev pub m0 : (κs : Lifetimes.Lfts 2) → (args : Args κs) → Typed.Mo T0
       m0 = λ κs args. (tt, Enter.partsP κs 1 ps xs (dens κs args))
+
       abbrev W0 : (κs : Lifetimes.Lfts 2) → (args : Args κs) → Typed.Want O0
-      W0 = λ κs args. (λ u. ⊥, tt, λ u. Enter.Fixs κs 1 ps xs (dens κs args) (u .1) × Post· κs (dens κs args) (Function.resV r κs (u .0))
-          (Clauses.atExit (Kinds.endedOf 2 ps r) κs (dens κs args) (Enter.lastsP κs 1 ps xs (dens κs args) (u .1))),)
+      W0 = λ κs args. (
+        λ u. ⊥,
+        tt,
+        λ u. Enter.Fixs κs 1 ps xs (dens κs args) (u .1) × Post· κs (dens κs args) (Function.resV r κs (u .0)) (Clauses.atExit
+            (Kinds.endedOf 2 ps r) κs (dens κs args) (Enter.lastsP κs 1 ps xs (dens κs args) (u .1))),
+      )
+
       pub record Start : Type 0 where
         pub κs : Lifetimes.Lfts 2
         pub args : Args κs
         pub good : Kinds.GoodsP κs ps (dens κs args)
         pub fits : Ranges κs args
         pub pre : Pre· κs (dens κs args)
+
       abbrev pub m1 : (κs : Lifetimes.Lfts 2) → (args : Args κs) → Typed.Mo T2
       m1 = λ κs args. s0 .next (m0 κs args)
+
       abbrev W1 : (κs : Lifetimes.Lfts 2) → (args : Args κs) → Typed.Want O1
       W1 = λ κs args. Typed.wantNext T3 O0 (at23 (W0 κs args)) (W0 κs args)
+
       module _ (before· : Start) where
         pub record Then1·own : Type 0 where
-          pub taken : Path._≡_ { A = Nat.ℕ } (Row.get 6 (T0 .locals) (m0 (before· .κs) (before· .args))) (Row.get 4 (T0 .locals) (m0 (before· .κs)
-              (before· .args)))
+          pub taken : Path._≡_ {A = Nat.ℕ} (Row.get 6 (T0 .locals) (m0 (before· .κs) (before· .args)))
+              (Row.get 4 (T0 .locals) (m0 (before· .κs) (before· .args)))
+
       pub record Then1 : Type 0 where
         pub before : Start
         pub if1 : Then1·own before
+
       abbrev pub m2 : (before : Start) → Typed.Mo T4
       m2 = λ before. s1 (m1 (before .κs) (before .args))
+
       abbrev pub m3 : (before : Start) → Typed.Mo T5
       m3 = λ before. s2 (m2 before)
+
       abbrev pub m4 : (before : Start) → Typed.Mo T6
       m4 = λ before. s3 (m3 before)
+
       abbrev pub m5 : (before : Start) → Typed.Mo T7
       m5 = λ before. s4 (m4 before)
+
       abbrev pub m6 : (before : Start) → Typed.Mo T8
       m6 = λ before. s5 (m5 before)
+
       abbrev pub m7 : (before : Start) → Typed.Mo T9
       m7 = λ before. s6 (m6 before)
+
       abbrev pub Need-returns : Type 0
-      Need-returns = (c : Then1) → Post· (c .before .κs) (dens (c .before .κs) (c .before .args)) (Function.resV r (c .before .κs) (m7 (c .before)
-          .0)) (Clauses.atExit (Kinds.endedOf 2 ps r) (c .before .κs) (dens (c .before .κs) (c .before .args)) (Enter.lastsP (c .before .κs) 1 ps xs
+      Need-returns = (c : Then1) → Post· (c .before .κs) (dens (c .before .κs) (c .before .args))
+          (Function.resV r (c .before .κs) (m7 (c .before) .0)) (Clauses.atExit (Kinds.endedOf 2 ps r) (c .before .κs)
+          (dens (c .before .κs) (c .before .args)) (Enter.lastsP (c .before .κs) 1 ps xs
           (dens (c .before .κs) (c .before .args)) (m7 (c .before) .1)))
+
       module _ (before· : Start) where
         pub record Else1·own : Type 0 where
-          pub left : Path._≡_ { A = Nat.ℕ } (Row.get 6 (T0 .locals) (m0 (before· .κs) (before· .args))) (Row.get 4 (T0 .locals) (m0 (before· .κs)
-              (before· .args))) → ⊥
+          pub left : Path._≡_ {A = Nat.ℕ} (Row.get 6 (T0 .locals) (m0 (before· .κs) (before· .args)))
+              (Row.get 4 (T0 .locals) (m0 (before· .κs) (before· .args))) → ⊥
+
       pub record Else1 : Type 0 where
         pub before : Start
         pub if1 : Else1·own before
+
       abbrev pub m8 : (before : Start) → Typed.Mo T10
       m8 = λ before. s7 (m1 (before .κs) (before .args))
+
       abbrev pub Need-find-pending-id-requires : Type 0
       Need-find-pending-id-requires = (c : Else1) → s8 .asks (m8 (c .before))
+
       abbrev pub m9 : (before : Else1) → (given : s8 .gives (m8 (before .before))) → Typed.Mo T11
       m9 = λ before given. s8 .next (m8 (before .before)) given
+
       module _ (before· : Else1) where
         abbrev pub After-find-pending-id·own : Type 0
-        After-find-pending-id·own = Called.Called ps·0 r·0 (claims· .1) T3 (record { pos = 1; ty = Syntax.tyRef (Syntax.named 0) Syntax.imm
-            RelayPending.to; ref = λ x. x; }, (record { pos = 3; st = List.[]; d = 0; at = λ x. x }, (Num.vAt 6 λ x. x, tt)),) (m8 (before· .before))
+        After-find-pending-id·own = Called.Called ps·0 r·0 (claims· .1) T3 args8 (m8 (before· .before))
+
       pub record After-find-pending-id : Type 0 where
         pub before : Else1
         pub find-pending-id : After-find-pending-id·own before
+
       abbrev pub After-find-pending-id·gave : (c : After-find-pending-id) → s8 .gives (m8 (c .before .before))
-      After-find-pending-id·gave = λ c. Called.given ps·0 r·0 (claims· .1) T3 (record { pos = 1; ty = Syntax.tyRef (Syntax.named 0) Syntax.imm
-          RelayPending.to; ref = λ x. x; }, (record { pos = 3; st = List.[]; d = 0; at = λ x. x }, (Num.vAt 6 λ x. x, tt)),) (m8 (c .before .before))
+      After-find-pending-id·gave = λ c. Called.given ps·0 r·0 (claims· .1) T3 args8 (m8 (c .before .before))
           (c .find-pending-id)
+
       abbrev pub Need-find-circuit-id-requires : Type 0
-      Need-find-circuit-id-requires = (c : After-find-pending-id) → s9 .asks (m9 (c .before) (After-find-pending-id·gave c))
-      abbrev pub m10 : (before : After-find-pending-id) → (given : s9 .gives (m9 (before .before) (After-find-pending-id·gave before))) → Typed.Mo T12
+      Need-find-circuit-id-requires = (c : After-find-pending-id) → s9 .asks
+          (m9 (c .before) (After-find-pending-id·gave c))
+
+      abbrev pub m10 : (before : After-find-pending-id) → (given : s9 .gives
+          (m9 (before .before) (After-find-pending-id·gave before))) → Typed.Mo T12
       m10 = λ before given. s9 .next (m9 (before .before) (After-find-pending-id·gave before)) given
+
       module _ (before· : After-find-pending-id) where
         abbrev pub After-find-circuit-id·own : Type 0
-        After-find-circuit-id·own = Called.Called ps·1 r·1 (claims· .3) T11 (record { pos = 2; ty = Syntax.tyRef (Syntax.named 1) Syntax.imm
-            RelayCircuit.to; ref = λ x. x; }, (record { pos = 3; st = List.[]; d = 0; at = λ x. x }, (Num.vAt 6 λ x. x, tt)),) (m9 (before· .before)
-            (After-find-pending-id·gave before·))
+        After-find-circuit-id·own = Called.Called ps·1 r·1 (claims· .3) T11 args9
+            (m9 (before· .before) (After-find-pending-id·gave before·))
+
       pub record After-find-circuit-id : Type 0 where
         pub before : After-find-pending-id
         pub find-circuit-id : After-find-circuit-id·own before
-      abbrev pub After-find-circuit-id·gave : (c : After-find-circuit-id) → s9 .gives (m9 (c .before .before) (After-find-pending-id·gave (c
-          .before)))
-      After-find-circuit-id·gave = λ c. Called.given ps·1 r·1 (claims· .3) T11 (record { pos = 2; ty = Syntax.tyRef (Syntax.named 1) Syntax.imm
-          RelayCircuit.to; ref = λ x. x; }, (record { pos = 3; st = List.[]; d = 0; at = λ x. x }, (Num.vAt 6 λ x. x, tt)),) (m9 (c .before .before)
+
+      abbrev pub After-find-circuit-id·gave : (c : After-find-circuit-id) → s9 .gives (m9 (c .before .before)
+          (After-find-pending-id·gave (c .before)))
+      After-find-circuit-id·gave = λ c. Called.given ps·1 r·1 (claims· .3) T11 args9 (m9 (c .before .before)
           (After-find-pending-id·gave (c .before))) (c .find-circuit-id)
-      abbrev pub m11 : (before : After-find-pending-id) → (given : s9 .gives (m9 (before .before) (After-find-pending-id·gave before))) → Typed.Mo T13
+
+      abbrev pub m11 : (before : After-find-pending-id) → (given : s9 .gives
+          (m9 (before .before) (After-find-pending-id·gave before))) → Typed.Mo T13
       m11 = λ before given. s10 (m10 before given)
-      abbrev pub m12 : (before : After-find-pending-id) → (given : s9 .gives (m9 (before .before) (After-find-pending-id·gave before))) → Typed.Mo T14
+
+      abbrev pub m12 : (before : After-find-pending-id) → (given : s9 .gives
+          (m9 (before .before) (After-find-pending-id·gave before))) → Typed.Mo T14
       m12 = λ before given. s11 (m11 before given)
-      abbrev pub m13 : (before : After-find-pending-id) → (given : s9 .gives (m9 (before .before) (After-find-pending-id·gave before))) → Typed.Mo T15
+
+      abbrev pub m13 : (before : After-find-pending-id) → (given : s9 .gives
+          (m9 (before .before) (After-find-pending-id·gave before))) → Typed.Mo T15
       m13 = λ before given. s12 (m12 before given)
+
       abbrev pub Need-either-found-requires : Type 0
-      Need-either-found-requires = (c : After-find-circuit-id) → s13 .asks (m13 (c .before) (After-find-circuit-id·gave c))
-      abbrev pub m14 : (before : After-find-circuit-id) → (given : s13 .gives (m13 (before .before) (After-find-circuit-id·gave before))) → Typed.Mo
-          T16
+      Need-either-found-requires = (c : After-find-circuit-id) → s13 .asks
+          (m13 (c .before) (After-find-circuit-id·gave c))
+
+      abbrev pub m14 : (before : After-find-circuit-id) → (given : s13 .gives
+          (m13 (before .before) (After-find-circuit-id·gave before))) → Typed.Mo T16
       m14 = λ before given. s13 .next (m13 (before .before) (After-find-circuit-id·gave before)) given
+
       module _ (before· : After-find-circuit-id) where
         abbrev pub After-either-found·own : Type 0
-        After-either-found·own = Called.Called ps·2 r·2 (claims· .5) T15 (Num.vAt 7 λ x. x, (Num.vAt 10 λ x. x, (Num.vAt 8 λ x. x, (Num.vAt 11 λ x. x,
-            tt))),) (m13 (before· .before) (After-find-circuit-id·gave before·))
+        After-either-found·own = Called.Called ps·2 r·2 (claims· .5) T15 args13 (m13 (before· .before)
+            (After-find-circuit-id·gave before·))
+
       pub record After-either-found : Type 0 where
         pub before : After-find-circuit-id
         pub either-found : After-either-found·own before
-      abbrev pub After-either-found·gave : (c : After-either-found) → s13 .gives (m13 (c .before .before) (After-find-circuit-id·gave (c .before)))
-      After-either-found·gave = λ c. Called.given ps·2 r·2 (claims· .5) T15 (Num.vAt 7 λ x. x, (Num.vAt 10 λ x. x, (Num.vAt 8 λ x. x, (Num.vAt 11 λ x.
-          x, tt))),) (m13 (c .before .before) (After-find-circuit-id·gave (c .before))) (c .either-found)
-      abbrev pub m15 : (before : After-find-circuit-id) → (given : s13 .gives (m13 (before .before) (After-find-circuit-id·gave before))) → Typed.Mo
-          T17
+
+      abbrev pub After-either-found·gave : (c : After-either-found) → s13 .gives (m13 (c .before .before)
+          (After-find-circuit-id·gave (c .before)))
+      After-either-found·gave = λ c. Called.given ps·2 r·2 (claims· .5) T15 args13 (m13 (c .before .before)
+          (After-find-circuit-id·gave (c .before))) (c .either-found)
+
+      abbrev pub m15 : (before : After-find-circuit-id) → (given : s13 .gives
+          (m13 (before .before) (After-find-circuit-id·gave before))) → Typed.Mo T17
       m15 = λ before given. s14 (m14 before given)
-      abbrev pub m16 : (before : After-find-circuit-id) → (given : s13 .gives (m13 (before .before) (After-find-circuit-id·gave before))) → Typed.Mo
-          T18
+
+      abbrev pub m16 : (before : After-find-circuit-id) → (given : s13 .gives
+          (m13 (before .before) (After-find-circuit-id·gave before))) → Typed.Mo T18
       m16 = λ before given. s15 (m15 before given)
-      abbrev pub m17 : (before : After-find-circuit-id) → (given : s13 .gives (m13 (before .before) (After-find-circuit-id·gave before))) → Typed.Mo
-          T19
+
+      abbrev pub m17 : (before : After-find-circuit-id) → (given : s13 .gives
+          (m13 (before .before) (After-find-circuit-id·gave before))) → Typed.Mo T19
       m17 = λ before given. s16 (m16 before given)
-      abbrev pub m18 : (before : After-find-circuit-id) → (given : s13 .gives (m13 (before .before) (After-find-circuit-id·gave before))) → Typed.Mo
-          T20
+
+      abbrev pub m18 : (before : After-find-circuit-id) → (given : s13 .gives
+          (m13 (before .before) (After-find-circuit-id·gave before))) → Typed.Mo T20
       m18 = λ before given. s17 (m17 before given)
-      abbrev pub m19 : (before : After-find-circuit-id) → (given : s13 .gives (m13 (before .before) (After-find-circuit-id·gave before))) → Typed.Mo
-          T21
+
+      abbrev pub m19 : (before : After-find-circuit-id) → (given : s13 .gives
+          (m13 (before .before) (After-find-circuit-id·gave before))) → Typed.Mo T21
       m19 = λ before given. s18 (m18 before given)
-      abbrev pub m20 : (before : After-find-circuit-id) → (given : s13 .gives (m13 (before .before) (After-find-circuit-id·gave before))) → Typed.Mo
-          T22
+
+      abbrev pub m20 : (before : After-find-circuit-id) → (given : s13 .gives
+          (m13 (before .before) (After-find-circuit-id·gave before))) → Typed.Mo T22
       m20 = λ before given. s19 (m19 before given)
-      abbrev pub m21 : (before : After-find-circuit-id) → (given : s13 .gives (m13 (before .before) (After-find-circuit-id·gave before))) → Typed.Mo
-          T23
+
+      abbrev pub m21 : (before : After-find-circuit-id) → (given : s13 .gives
+          (m13 (before .before) (After-find-circuit-id·gave before))) → Typed.Mo T23
       m21 = λ before given. s20 (m20 before given)
+
       abbrev pub Need-returns-2 : Type 0
-      Need-returns-2 = (c : After-either-found) → Post· (c .before .before .before .before .κs) (dens (c .before .before .before .before .κs) (c
-          .before .before .before .before .args)) (Function.resV r (c .before .before .before .before .κs) (m21 (c .before) (After-either-found·gave
-          c) .0)) (Clauses.atExit (Kinds.endedOf 2 ps r) (c .before .before .before .before .κs) (dens (c .before .before .before .before .κs) (c
-          .before .before .before .before .args)) (Enter.lastsP (c .before .before .before .before .κs) 1 ps xs (dens (c .before .before .before
-          .before .κs) (c .before .before .before .before .args)) (m21 (c .before) (After-either-found·gave c) .1)))
-      module _ (returns : Need-returns) (find-pending-id-requires : Need-find-pending-id-requires) (find-circuit-id-requires :
-          Need-find-circuit-id-requires) (either-found-requires : Need-either-found-requires) (returns-2 : Need-returns-2) where
-        lay6 : (c : After-either-found) → at17 (W0 (c .before .before .before .before .κs) (c .before .before .before .before .args)) (m14 (c .before)
-            (After-either-found·gave c))
-        lay6 = λ c. ((Path.refl, (Path.refl, (tt, (tt, (tt, (tt, tt)))))), returns-2 record { before = c .before; either-found = c .either-found },)
-        lay5 : (c : After-find-circuit-id) → at21 (W0 (c .before .before .before .κs) (c .before .before .before .args)) (m10 (c .before)
-            (After-find-circuit-id·gave c))
-        lay5 = λ c. (either-found-requires record { before = c .before; find-circuit-id = c .find-circuit-id; }, λ g. lay6 record { before = record {
-            before = c .before; find-circuit-id = c .find-circuit-id }; either-found = Called.called ps·2 r·2 (claims· .5) T15 (Num.vAt 7 λ x. x,
-            (Num.vAt 10 λ x. x, (Num.vAt 8 λ x. x, (Num.vAt 11 λ x. x, tt))),) (m13 (c .before) (After-find-circuit-id·gave c)) g; },)
-        lay4 : (c : After-find-pending-id) → at22 (W0 (c .before .before .κs) (c .before .before .args)) (m9 (c .before) (After-find-pending-id·gave
-            c))
-        lay4 = λ c. (find-circuit-id-requires record { before = c .before; find-pending-id = c .find-pending-id; }, λ g. lay5 record { before = record
-            { before = c .before; find-pending-id = c .find-pending-id }; find-circuit-id = Called.called ps·1 r·1 (claims· .3) T11 (record { pos = 2;
-            ty = Syntax.tyRef (Syntax.named 1) Syntax.imm RelayCircuit.to; ref = λ x. x; }, (record { pos = 3; st = List.[]; d = 0; at = λ x. x },
-            (Num.vAt 6 λ x. x, tt)),) (m9 (c .before) (After-find-pending-id·gave c)) g; },)
+      Need-returns-2 = (c : After-either-found) → Post· (c .before .before .before .before .κs) (dens
+          (c .before .before .before .before .κs) (c .before .before .before .before .args)) (Function.resV r
+          (c .before .before .before .before .κs) (m21 (c .before) (After-either-found·gave c) .0)) (Clauses.atExit
+          (Kinds.endedOf 2 ps r) (c .before .before .before .before .κs) (dens (c .before .before .before .before .κs)
+          (c .before .before .before .before .args)) (Enter.lastsP (c .before .before .before .before .κs) 1 ps xs (dens
+          (c .before .before .before .before .κs) (c .before .before .before .before .args))
+          (m21 (c .before) (After-either-found·gave c) .1)))
+
+      module _ (returns : Need-returns) (find-pending-id-requires : Need-find-pending-id-requires)
+          (find-circuit-id-requires : Need-find-circuit-id-requires)
+          (either-found-requires : Need-either-found-requires) (returns-2 : Need-returns-2) where
+        lay6 : (c : After-either-found) → at17 (W0 (c .before .before .before .before .κs)
+            (c .before .before .before .before .args)) (m14 (c .before) (After-either-found·gave c))
+        lay6 = λ c. (
+          (Path.refl, (Path.refl, (tt, (tt, (tt, (tt, tt)))))),
+          returns-2 record { before = c .before; either-found = c .either-found },
+        )
+
+        lay5 : (c : After-find-circuit-id) → at21 (W0 (c .before .before .before .κs) (c .before .before .before .args))
+            (m10 (c .before) (After-find-circuit-id·gave c))
+        lay5 = λ c. (
+          either-found-requires record { before = c .before; find-circuit-id = c .find-circuit-id },
+          λ g. lay6 record {
+            before = record { before = c .before; find-circuit-id = c .find-circuit-id };
+            either-found = Called.called ps·2 r·2 (claims· .5) T15 args13
+                (m13 (c .before) (After-find-circuit-id·gave c)) g;
+          },
+        )
+
+        lay4 : (c : After-find-pending-id) → at22 (W0 (c .before .before .κs) (c .before .before .args))
+            (m9 (c .before) (After-find-pending-id·gave c))
+        lay4 = λ c. (
+          find-circuit-id-requires record { before = c .before; find-pending-id = c .find-pending-id },
+          λ g. lay5 record {
+            before = record { before = c .before; find-pending-id = c .find-pending-id };
+            find-circuit-id = Called.called ps·1 r·1 (claims· .3) T11 args9
+                (m9 (c .before) (After-find-pending-id·gave c)) g;
+          },
+        )
+
         lay3 : (c : Else1) → at23 (W0 (c .before .κs) (c .before .args)) (m8 (c .before))
-        lay3 = λ c. (find-pending-id-requires record { before = c .before; if1 = c .if1 }, λ g. lay4 record { before = record { before = c .before;
-            if1 = c .if1 }; find-pending-id = Called.called ps·0 r·0 (claims· .1) T3 (record { pos = 1; ty = Syntax.tyRef (Syntax.named 0) Syntax.imm
-            RelayPending.to; ref = λ x. x; }, (record { pos = 3; st = List.[]; d = 0; at = λ x. x }, (Num.vAt 6 λ x. x, tt)),) (m8 (c .before)) g; },)
+        lay3 = λ c. (
+          find-pending-id-requires record { before = c .before; if1 = c .if1 },
+          λ g. lay4 record {
+            before = record { before = c .before; if1 = c .if1 };
+            find-pending-id = Called.called ps·0 r·0 (claims· .1) T3 args8 (m8 (c .before)) g;
+          },
+        )
+
         lay2 : (c : Else1) → at8 (W1 (c .before .κs) (c .before .args)) (m1 (c .before .κs) (c .before .args))
         lay2 = λ c. lay3 record { before = c .before; if1 = c .if1 }
+
         lay1 : (c : Then1) → at6 (W1 (c .before .κs) (c .before .args)) (m1 (c .before .κs) (c .before .args))
-        lay1 = λ c. ((Path.refl, (Path.refl, (tt, (tt, (tt, (tt, tt)))))), returns record { before = c .before; if1 = c .if1 },)
+        lay1 = λ c. (
+          (Path.refl, (Path.refl, (tt, (tt, (tt, (tt, tt)))))),
+          returns record { before = c .before; if1 = c .if1 },
+        )
+
         pub laid : (c : Start) → at25 (W0 (c .κs) (c .args)) (m0 (c .κs) (c .args))
-        laid = λ c. (tt, (λ taken. lay1 record { before = c; if1 = record { taken = Tests.eqb-true (Row.get 6 (T0 .locals) (m0 (c .κs) (c .args)))
-            (Row.get 4 (T0 .locals) (m0 (c .κs) (c .args))) taken; }; }, λ left. lay2 record { before = c; if1 = record { left = Tests.eqb-false
-            (Row.get 6 (T0 .locals) (m0 (c .κs) (c .args))) (Row.get 4 (T0 .locals) (m0 (c .κs) (c .args))) left; }; },),)
+        laid = λ c. (
+          tt,
+          (
+            λ taken. lay1 record {
+              before = c;
+              if1 = record {
+                taken = Tests.eqb-true (Row.get 6 (T0 .locals) (m0 (c .κs) (c .args)))
+                    (Row.get 4 (T0 .locals) (m0 (c .κs) (c .args))) taken;
+              };
+            },
+            λ left. lay2 record {
+              before = c;
+              if1 = record {
+                left = Tests.eqb-false (Row.get 6 (T0 .locals) (m0 (c .κs) (c .args)))
+                    (Row.get 4 (T0 .locals) (m0 (c .κs) (c .args))) left;
+              };
+            },
+          ),
+        )
+
         module _ (κs : Lifetimes.Lfts 2) (qs : Lifetimes.Shares 2) where
-          pub asked : (a : Kinds.Dens κs ps) → (good : Kinds.GoodsP κs ps a) → (pre : Pre· κs a) → (bs : List.List Nat.ℕ) → Φ (Any.wantQ 2 ps r xs m
-              κs qs a (Post· κs a)) (Function.init 2 ps r xs m κs qs a)
-          asked = λ a good pre bs. laid record { κs = κs; args = record { pending = a .0; circuits = a .1 .0; places = a .1 .1 .0; first = a .1 .1 .1
-              .0; known = a .1 .1 .1 .1 .0; id = a .1 .1 .1 .1 .1 .0; }; good = good; fits = record { first = record { fits = good .1 .1 .1 .0 .1 };
-              id = record { fits = good .1 .1 .1 .1 .1 .0 .1 }; }; pre = pre; }
-        module _ { M : Type 1 } (𝓤 : URA.URA M) (H : Wp.Heap 𝓤) (A : Atoms.Atoms 𝓤) (W : Kit.Given 𝓤 H A) (𝓣 : Wp.Tables 𝓤 H) (known0 : Plain.Known 𝓤
-            H A W 𝓣 1 ps·0 r·0 (claims· .0) (claims· .1) "hnsr_circuit::tables::pending::find_pending_id") (known1 : Plain.Known 𝓤 H A W 𝓣 1 ps·1 r·1
-            (claims· .2) (claims· .3) "hnsr_circuit::tables::circuits::find_circuit_id") (known2 : Plain.Known 𝓤 H A W 𝓣 0 ps·2 r·2 (claims· .4)
-            (claims· .5) "hnsr_circuit::draw::either_found") where
-          pub spec : Statement.Triple 𝓤 (Wp.WpFn 𝓤 H (𝓣 .C) (𝓣 .Λ) (Function.fnOf 2 ps r xs m hs body)) (Function.plainOf 𝓤 H A 2 ps r Pre· Post·)
-          spec = Plain.t-fn-plain 𝓤 H A W 𝓣 2 ps r xs m hs body (λ κs qs bs. Φ) (λ κs qs bs bd. typed κs qs 𝓤 H A W 𝓣 (known0, known1, known2) bs bd)
-              Pre· Post· asked
+          pub asked : (a : Kinds.Dens κs ps) → (good : Kinds.GoodsP κs ps a) → (pre : Pre· κs a) →
+              (bs : List.List Nat.ℕ) → Φ (Any.wantQ 2 ps r xs m κs qs a (Post· κs a))
+              (Function.init 2 ps r xs m κs qs a)
+          asked = λ a good pre bs. laid record {
+            κs = κs;
+            args = record {
+              pending = a .0;
+              circuits = a .1 .0;
+              places = a .1 .1 .0;
+              first = a .1 .1 .1 .0;
+              known = a .1 .1 .1 .1 .0;
+              id = a .1 .1 .1 .1 .1 .0;
+            };
+            good = good;
+            fits = record {
+              first = record { fits = good .1 .1 .1 .0 .1 };
+              id = record { fits = good .1 .1 .1 .1 .1 .0 .1 };
+            };
+            pre = pre;
+          }
+
+        module _ {M : Type 1} (𝓤 : URA.URA M) (H : Wp.Heap 𝓤) (A : Atoms.Atoms 𝓤) (W : Kit.Given 𝓤 H A)
+            (𝓣 : Wp.Tables 𝓤 H) (known0 : Plain.Known 𝓤 H A W 𝓣 1 ps·0 r·0 (claims· .0) (claims· .1)
+            "hnsr_circuit::tables::pending::find_pending_id") (known1 : Plain.Known 𝓤 H A W 𝓣 1 ps·1 r·1 (claims· .2)
+            (claims· .3) "hnsr_circuit::tables::circuits::find_circuit_id") (known2 : Plain.Known 𝓤 H A W 𝓣 0 ps·2 r·2
+            (claims· .4) (claims· .5) "hnsr_circuit::draw::either_found") where
+          pub spec : Statement.Triple 𝓤 (Wp.WpFn 𝓤 H (𝓣 .C) (𝓣 .Λ) (Function.fnOf 2 ps r xs m hs body))
+              (Function.plainOf 𝓤 H A 2 ps r Pre· Post·)
+          spec = Plain.t-fn-plain 𝓤 H A W 𝓣 2 ps r xs m hs body (λ κs qs bs. Φ) (λ κs qs bs bd. typed κs qs 𝓤 H A W 𝓣
+              (known0, known1, known2) bs bd) Pre· Post· asked

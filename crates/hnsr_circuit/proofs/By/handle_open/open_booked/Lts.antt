@@ -5,6 +5,7 @@ use Rattle.hnsr_body.proofs.incoming_body.IncomingBody.Laws
 use Rattle.hnsr_circuit.proofs.By.InflightAction
 use Rattle.hnsr_circuit.proofs.By.RelayPending
 use Rattle.hnsr_circuit.proofs.By.ReservationUsage
+use Rattle.hnsr_circuit.proofs.StructRow
 use Rattle.hnsr_circuit.proofs.answer.HnsrAnswer
 use Rattle.hnsr_circuit.proofs.answer.HnsrAnswer.Laws as Laws'
 use Rattle.hnsr_circuit.proofs.open.OpenPlan
@@ -34,7 +35,6 @@ use borrow.Kind.Bool
 use borrow.Kind.MutSlice
 use borrow.Kind.Num
 use borrow.Kind.ShrSlice
-use borrow.Kind.Value
 use borrow.Rule.Array.Init
 use borrow.Rule.Array.Rows
 use borrow.Rule.Array.Share
@@ -64,11 +64,8 @@ use borrow.Table.Typed
 use contract.Lifetimes
 use denote.Array as Array'
 use denote.Enum.Declared
-use denote.Enum.Laws as Laws'''''''''
-use denote.Exit
 use denote.Struct.At
 use denote.Struct.Declared as Declared'
-use denote.Struct.Laws as Laws''''''''''
 use denote.Triple.Clauses
 use denote.Triple.Statement
 use ghost.Atoms
@@ -85,2172 +82,3776 @@ use mathlib.Core.List.{_∷_}
 
 abbrev ref0 : Syntax.Ty
 ref0 = Syntax.tyRef Syntax.erased Syntax.mut RelayPending.to
+
 abbrev ref1 : Syntax.Ty
 ref1 = Syntax.tyRef Syntax.erased Syntax.mut InflightAction.to
+
 abbrev ref2 : Syntax.Ty
 ref2 = Syntax.tyRef Syntax.erased Syntax.mut (Syntax.tyInt Syntax.w32)
+
 abbrev ref3 : Syntax.Ty
 ref3 = Syntax.tyRef Syntax.erased Syntax.imm (Syntax.tyArray (Syntax.tyInt Syntax.w8) 62)
+
 abbrev ref4 : Syntax.Ty
 ref4 = Syntax.tyRef Syntax.erased Syntax.imm (Syntax.tyInt Syntax.w8)
+
 abbrev ref5 : Syntax.Ty
 ref5 = Syntax.tyRef (Syntax.named 0) Syntax.mut RelayPending.to
+
 abbrev ref6 : Syntax.Ty
 ref6 = Syntax.tyRef (Syntax.named 1) Syntax.mut InflightAction.to
+
 abbrev ref7 : Syntax.Ty
 ref7 = Syntax.tyRef (Syntax.named 2) Syntax.mut (Syntax.tyInt Syntax.w32)
+
+abbrev slice0 : Syntax.Ty
+slice0 = Syntax.tyStruct (38 ∷ 91 ∷ 93 ∷ List.[]) (Syntax.tcons ref0
+    (Syntax.tcons (Syntax.tyInt Syntax.w64) Syntax.tnil))
+
+abbrev slice1 : Syntax.Ty
+slice1 = Syntax.tyStruct (38 ∷ 91 ∷ 93 ∷ List.[]) (Syntax.tcons ref1
+    (Syntax.tcons (Syntax.tyInt Syntax.w64) Syntax.tnil))
+
+abbrev slice2 : Syntax.Ty
+slice2 = Syntax.tyStruct (38 ∷ 91 ∷ 93 ∷ List.[]) (Syntax.tcons ref2
+    (Syntax.tcons (Syntax.tyInt Syntax.w64) Syntax.tnil))
+
+abbrev slice4 : Syntax.Ty
+slice4 = Syntax.tyStruct (38 ∷ 91 ∷ 93 ∷ List.[]) (Syntax.tcons ref4
+    (Syntax.tcons (Syntax.tyInt Syntax.w64) Syntax.tnil))
+
 abbrev pub ps : List.List (Kinds.PK 3)
-ps = (MutSlice.pMutS RelayPending.row 0 tt) ∷ (MutSlice.pMutS InflightAction.row 1 tt) ∷ (MutSlice.pMutS (Referent.rtF (Referent.fInt Syntax.w32)) 2
-    tt) ∷ (Value.pVal record { ty = Declared'.row OpaqueRelayRuntime.the-type; one = Path.refl; val = Laws''''''''''.val OpaqueRelayRuntime.the-type
-    Laws'''''''.the-laws; tells = Laws''''''''''.tells OpaqueRelayRuntime.the-type Laws'''''''.the-laws; still = Laws''''''''''.still
-    OpaqueRelayRuntime.the-type Laws'''''''.the-copy Exit.yes; row = Rows'.whole (Declared'.row OpaqueRelayRuntime.the-type); rd = λ x. x; mk = λ x.
-    x; } λ M 𝓤 H A W. record { copies = Laws''''''''''.copy OpaqueRelayRuntime.the-type Laws'''''''.the-copy 𝓤 H A W; lawful = Laws''''''''''.lawful
-    OpaqueRelayRuntime.the-type Laws'''''''.the-laws 𝓤 H A W; makes = Laws''''''''''.makes OpaqueRelayRuntime.the-type Laws'''''''.the-plain 𝓤 H A;
-    in-mem = Local.mem-whole 𝓤 H A W (Declared'.row OpaqueRelayRuntime.the-type); of-mem = Local.whole-mem 𝓤 H A W (Declared'.row
-    OpaqueRelayRuntime.the-type); }) ∷ (Value.pVal record { ty = Declared'.row Places.the-type; one = Path.refl; val = Laws''''''''''.val
-    Places.the-type Laws'''.the-laws; tells = Laws''''''''''.tells Places.the-type Laws'''.the-laws; still = Laws''''''''''.still Places.the-type
-    Laws'''.the-copy Exit.yes; row = Rows'.whole (Declared'.row Places.the-type); rd = λ x. x; mk = λ x. x; } λ M 𝓤 H A W. record { copies =
-    Laws''''''''''.copy Places.the-type Laws'''.the-copy 𝓤 H A W; lawful = Laws''''''''''.lawful Places.the-type Laws'''.the-laws 𝓤 H A W; makes =
-    Laws''''''''''.makes Places.the-type Laws'''.the-plain 𝓤 H A; in-mem = Local.mem-whole 𝓤 H A W (Declared'.row Places.the-type); of-mem =
-    Local.whole-mem 𝓤 H A W (Declared'.row Places.the-type); }) ∷ (Value.pVal record { ty = Declared'.row OpenPlan.the-type; one = Path.refl; val =
-    Laws''''''''''.val OpenPlan.the-type Laws''.the-laws; tells = Laws''''''''''.tells OpenPlan.the-type Laws''.the-laws; still = Laws''''''''''.still
-    OpenPlan.the-type Laws''.the-copy Exit.yes; row = Rows'.whole (Declared'.row OpenPlan.the-type); rd = λ x. x; mk = λ x. x; } λ M 𝓤 H A W. record {
-    copies = Laws''''''''''.copy OpenPlan.the-type Laws''.the-copy 𝓤 H A W; lawful = Laws''''''''''.lawful OpenPlan.the-type Laws''.the-laws 𝓤 H A W;
-    makes = Laws''''''''''.makes OpenPlan.the-type Laws''.the-plain 𝓤 H A; in-mem = Local.mem-whole 𝓤 H A W (Declared'.row OpenPlan.the-type); of-mem
-    = Local.whole-mem 𝓤 H A W (Declared'.row OpenPlan.the-type); }) ∷ ReservationUsage.param ∷ (Value.pVal record { ty = Declared'.row
-    ActionScan.the-type; one = Path.refl; val = Laws''''''''''.val ActionScan.the-type Laws''''.the-laws; tells = Laws''''''''''.tells
-    ActionScan.the-type Laws''''.the-laws; still = Laws''''''''''.still ActionScan.the-type Laws''''.the-copy Exit.yes; row = Rows'.whole
-    (Declared'.row ActionScan.the-type); rd = λ x. x; mk = λ x. x; } λ M 𝓤 H A W. record { copies = Laws''''''''''.copy ActionScan.the-type
-    Laws''''.the-copy 𝓤 H A W; lawful = Laws''''''''''.lawful ActionScan.the-type Laws''''.the-laws 𝓤 H A W; makes = Laws''''''''''.makes
-    ActionScan.the-type Laws''''.the-plain 𝓤 H A; in-mem = Local.mem-whole 𝓤 H A W (Declared'.row ActionScan.the-type); of-mem = Local.whole-mem 𝓤 H A
-    W (Declared'.row ActionScan.the-type); }) ∷ List.[]
+ps = (MutSlice.pMutS RelayPending.row 0 tt) ∷ (MutSlice.pMutS InflightAction.row 1 tt) ∷ (MutSlice.pMutS
+    (Referent.rtF (Referent.fInt Syntax.w32)) 2 tt) ∷ (StructRow.param OpaqueRelayRuntime.the-type Laws'''''''.the-laws
+    Laws'''''''.the-copy Laws'''''''.the-plain) ∷ (StructRow.param Places.the-type Laws'''.the-laws Laws'''.the-copy
+    Laws'''.the-plain) ∷ (StructRow.param OpenPlan.the-type Laws''.the-laws Laws''.the-copy Laws''.the-plain) ∷
+    ReservationUsage.param ∷ (StructRow.param ActionScan.the-type Laws''''.the-laws Laws''''.the-copy
+    Laws''''.the-plain) ∷ List.[]
+
 abbrev pub r : Kinds.RK 3
-r = Value.rVal record { ty = Declared'.row Relayed.the-type; one = Path.refl; val = Laws''''''''''.val Relayed.the-type Laws''''''''.the-laws; tells =
-    Laws''''''''''.tells Relayed.the-type Laws''''''''.the-laws; still = Laws''''''''''.still Relayed.the-type Laws''''''''.the-copy Exit.yes; row =
-    Rows'.whole (Declared'.row Relayed.the-type); rd = λ x. x; mk = λ x. x; } λ M 𝓤 H A W. record { copies = Laws''''''''''.copy Relayed.the-type
-    Laws''''''''.the-copy 𝓤 H A W; lawful = Laws''''''''''.lawful Relayed.the-type Laws''''''''.the-laws 𝓤 H A W; makes = Laws''''''''''.makes
-    Relayed.the-type Laws''''''''.the-plain 𝓤 H A; in-mem = Local.mem-whole 𝓤 H A W (Declared'.row Relayed.the-type); of-mem = Local.whole-mem 𝓤 H A W
-    (Declared'.row Relayed.the-type); }
+r = StructRow.result Relayed.the-type Laws''''''''.the-laws Laws''''''''.the-copy Laws''''''''.the-plain
+
 abbrev pub xs : List.List Syntax.Ty
-xs = Laws''''''.mir ∷ Laws'.mir ∷ RelayPending.ty ∷ (Syntax.tyInt Syntax.w64) ∷ Laws'''.mir ∷ Laws'''''''.mir ∷ Laws'''''.mir ∷ Laws.mir ∷
-    (Syntax.tyArray (Syntax.tyInt Syntax.w8) 62) ∷ Syntax.tyBool ∷ ref0 ∷ (Syntax.tyStruct (38 ∷ 91 ∷ 93 ∷ List.[]) (Syntax.tcons ref0 (Syntax.tcons
-    (Syntax.tyInt Syntax.w64) Syntax.tnil))) ∷ (Syntax.tyArray (Syntax.tyInt Syntax.w8) 62) ∷ ref1 ∷ (Syntax.tyStruct (38 ∷ 91 ∷ 93 ∷ List.[])
-    (Syntax.tcons ref1 (Syntax.tcons (Syntax.tyInt Syntax.w64) Syntax.tnil))) ∷ ref2 ∷ (Syntax.tyStruct (38 ∷ 91 ∷ 93 ∷ List.[]) (Syntax.tcons ref2
-    (Syntax.tcons (Syntax.tyInt Syntax.w64) Syntax.tnil))) ∷ ref3 ∷ (Syntax.tyStruct (38 ∷ 91 ∷ 93 ∷ List.[]) (Syntax.tcons ref4 (Syntax.tcons
-    (Syntax.tyInt Syntax.w64) Syntax.tnil))) ∷ List.[]
+xs = Laws''''''.mir ∷ Laws'.mir ∷ RelayPending.ty ∷ (Syntax.tyInt Syntax.w64) ∷ Laws'''.mir ∷ Laws'''''''.mir ∷
+    Laws'''''.mir ∷ Laws.mir ∷ (Syntax.tyArray (Syntax.tyInt Syntax.w8) 62) ∷ Syntax.tyBool ∷ ref0 ∷ slice0 ∷
+    (Syntax.tyArray (Syntax.tyInt Syntax.w8) 62) ∷ ref1 ∷ slice1 ∷ ref2 ∷ slice2 ∷ ref3 ∷ slice4 ∷ List.[]
+
 abbrev pub m : Nat.ℕ
 m = 4
+
 abbrev pub ps·0 : List.List (Kinds.PK 0)
-ps·0 = (Value.pVal record { ty = Declared'.row RelayTicket.the-type; one = Path.refl; val = Laws''''''''''.val RelayTicket.the-type
-    Laws''''''.the-laws; tells = Laws''''''''''.tells RelayTicket.the-type Laws''''''.the-laws; still = Laws''''''''''.still RelayTicket.the-type
-    Laws''''''.the-copy Exit.yes; row = Rows'.whole (Declared'.row RelayTicket.the-type); rd = λ x. x; mk = λ x. x; } λ M 𝓤 H A W. record { copies =
-    Laws''''''''''.copy RelayTicket.the-type Laws''''''.the-copy 𝓤 H A W; lawful = Laws''''''''''.lawful RelayTicket.the-type Laws''''''.the-laws 𝓤 H
-    A W; makes = Laws''''''''''.makes RelayTicket.the-type Laws''''''.the-plain 𝓤 H A; in-mem = Local.mem-whole 𝓤 H A W (Declared'.row
-    RelayTicket.the-type); of-mem = Local.whole-mem 𝓤 H A W (Declared'.row RelayTicket.the-type); }) ∷ ReservationUsage.param ∷ List.[]
+ps·0 = (StructRow.param RelayTicket.the-type Laws''''''.the-laws Laws''''''.the-copy Laws''''''.the-plain) ∷
+    ReservationUsage.param ∷ List.[]
+
 abbrev pub r·0 : Kinds.RK 0
-r·0 = Value.rVal record { ty = Declared.row HnsrAnswer.the-type; one = Path.refl; val = Laws'''''''''.val HnsrAnswer.the-type Laws'.the-laws; tells =
-    Laws'''''''''.tells HnsrAnswer.the-type Laws'.the-laws; still = Laws'''''''''.still HnsrAnswer.the-type Laws'.the-copy Exit.yes; row = Rows'.whole
-    (Declared.row HnsrAnswer.the-type); rd = λ x. x; mk = λ x. x; } λ M 𝓤 H A W. record { copies = Laws'''''''''.copy HnsrAnswer.the-type
-    Laws'.the-copy 𝓤 H A W; lawful = Laws'''''''''.lawful HnsrAnswer.the-type Laws'.the-laws 𝓤 H A W tt; makes = Laws'''''''''.makes
-    HnsrAnswer.the-type Laws'.the-plain 𝓤 H A; in-mem = Local.mem-whole 𝓤 H A W (Declared.row HnsrAnswer.the-type); of-mem = Local.whole-mem 𝓤 H A W
-    (Declared.row HnsrAnswer.the-type); }
+r·0 = StructRow.enum-result HnsrAnswer.the-type Laws'.the-laws Laws'.the-copy Laws'.the-plain tt
+
 abbrev pub ps·1 : List.List (Kinds.PK 0)
-ps·1 = (Value.pVal record { ty = Declared.row HnsrAnswer.the-type; one = Path.refl; val = Laws'''''''''.val HnsrAnswer.the-type Laws'.the-laws; tells
-    = Laws'''''''''.tells HnsrAnswer.the-type Laws'.the-laws; still = Laws'''''''''.still HnsrAnswer.the-type Laws'.the-copy Exit.yes; row =
-    Rows'.whole (Declared.row HnsrAnswer.the-type); rd = λ x. x; mk = λ x. x; } λ M 𝓤 H A W. record { copies = Laws'''''''''.copy HnsrAnswer.the-type
-    Laws'.the-copy 𝓤 H A W; lawful = Laws'''''''''.lawful HnsrAnswer.the-type Laws'.the-laws 𝓤 H A W tt; makes = Laws'''''''''.makes
-    HnsrAnswer.the-type Laws'.the-plain 𝓤 H A; in-mem = Local.mem-whole 𝓤 H A W (Declared.row HnsrAnswer.the-type); of-mem = Local.whole-mem 𝓤 H A W
-    (Declared.row HnsrAnswer.the-type); }) ∷ List.[]
+ps·1 = (StructRow.enum-param HnsrAnswer.the-type Laws'.the-laws Laws'.the-copy Laws'.the-plain tt) ∷ List.[]
+
 abbrev pub r·1 : Kinds.RK 0
 r·1 = Bool.rBool
+
 abbrev pub ps·2 : List.List (Kinds.PK 0)
-ps·2 = (Value.pVal record { ty = Declared'.row OpenPlan.the-type; one = Path.refl; val = Laws''''''''''.val OpenPlan.the-type Laws''.the-laws; tells =
-    Laws''''''''''.tells OpenPlan.the-type Laws''.the-laws; still = Laws''''''''''.still OpenPlan.the-type Laws''.the-copy Exit.yes; row = Rows'.whole
-    (Declared'.row OpenPlan.the-type); rd = λ x. x; mk = λ x. x; } λ M 𝓤 H A W. record { copies = Laws''''''''''.copy OpenPlan.the-type
-    Laws''.the-copy 𝓤 H A W; lawful = Laws''''''''''.lawful OpenPlan.the-type Laws''.the-laws 𝓤 H A W; makes = Laws''''''''''.makes OpenPlan.the-type
-    Laws''.the-plain 𝓤 H A; in-mem = Local.mem-whole 𝓤 H A W (Declared'.row OpenPlan.the-type); of-mem = Local.whole-mem 𝓤 H A W (Declared'.row
-    OpenPlan.the-type); }) ∷ List.[]
+ps·2 = (StructRow.param OpenPlan.the-type Laws''.the-laws Laws''.the-copy Laws''.the-plain) ∷ List.[]
+
 abbrev pub r·2 : Kinds.RK 0
 r·2 = RelayPending.result
+
 abbrev pub ps·3 : List.List (Kinds.PK 1)
-ps·3 = (MutSlice.pMutS RelayPending.row 0 tt) ∷ (Value.pVal record { ty = Declared'.row Places.the-type; one = Path.refl; val = Laws''''''''''.val
-    Places.the-type Laws'''.the-laws; tells = Laws''''''''''.tells Places.the-type Laws'''.the-laws; still = Laws''''''''''.still Places.the-type
-    Laws'''.the-copy Exit.yes; row = Rows'.whole (Declared'.row Places.the-type); rd = λ x. x; mk = λ x. x; } λ M 𝓤 H A W. record { copies =
-    Laws''''''''''.copy Places.the-type Laws'''.the-copy 𝓤 H A W; lawful = Laws''''''''''.lawful Places.the-type Laws'''.the-laws 𝓤 H A W; makes =
-    Laws''''''''''.makes Places.the-type Laws'''.the-plain 𝓤 H A; in-mem = Local.mem-whole 𝓤 H A W (Declared'.row Places.the-type); of-mem =
-    Local.whole-mem 𝓤 H A W (Declared'.row Places.the-type); }) ∷ RelayPending.param ∷ List.[]
+ps·3 = (MutSlice.pMutS RelayPending.row 0 tt) ∷ (StructRow.param Places.the-type Laws'''.the-laws Laws'''.the-copy
+    Laws'''.the-plain) ∷ RelayPending.param ∷ List.[]
+
 abbrev pub r·3 : Kinds.RK 1
 r·3 = Num.rNum Syntax.w64
+
 abbrev pub ps·4 : List.List (Kinds.PK 0)
-ps·4 = (Value.pVal record { ty = Declared'.row Places.the-type; one = Path.refl; val = Laws''''''''''.val Places.the-type Laws'''.the-laws; tells =
-    Laws''''''''''.tells Places.the-type Laws'''.the-laws; still = Laws''''''''''.still Places.the-type Laws'''.the-copy Exit.yes; row = Rows'.whole
-    (Declared'.row Places.the-type); rd = λ x. x; mk = λ x. x; } λ M 𝓤 H A W. record { copies = Laws''''''''''.copy Places.the-type Laws'''.the-copy 𝓤
-    H A W; lawful = Laws''''''''''.lawful Places.the-type Laws'''.the-laws 𝓤 H A W; makes = Laws''''''''''.makes Places.the-type Laws'''.the-plain 𝓤 H
-    A; in-mem = Local.mem-whole 𝓤 H A W (Declared'.row Places.the-type); of-mem = Local.whole-mem 𝓤 H A W (Declared'.row Places.the-type); }) ∷
-    (Num.pNum Syntax.w64) ∷ List.[]
+ps·4 = (StructRow.param Places.the-type Laws'''.the-laws Laws'''.the-copy Laws'''.the-plain) ∷ (Num.pNum Syntax.w64) ∷
+    List.[]
+
 abbrev pub r·4 : Kinds.RK 0
-r·4 = Value.rVal record { ty = Declared'.row Places.the-type; one = Path.refl; val = Laws''''''''''.val Places.the-type Laws'''.the-laws; tells =
-    Laws''''''''''.tells Places.the-type Laws'''.the-laws; still = Laws''''''''''.still Places.the-type Laws'''.the-copy Exit.yes; row = Rows'.whole
-    (Declared'.row Places.the-type); rd = λ x. x; mk = λ x. x; } λ M 𝓤 H A W. record { copies = Laws''''''''''.copy Places.the-type Laws'''.the-copy 𝓤
-    H A W; lawful = Laws''''''''''.lawful Places.the-type Laws'''.the-laws 𝓤 H A W; makes = Laws''''''''''.makes Places.the-type Laws'''.the-plain 𝓤 H
-    A; in-mem = Local.mem-whole 𝓤 H A W (Declared'.row Places.the-type); of-mem = Local.whole-mem 𝓤 H A W (Declared'.row Places.the-type); }
+r·4 = StructRow.result Places.the-type Laws'''.the-laws Laws'''.the-copy Laws'''.the-plain
+
 abbrev pub ps·5 : List.List (Kinds.PK 0)
-ps·5 = Bool.pBool ∷ (Value.pVal record { ty = Declared'.row OpaqueRelayRuntime.the-type; one = Path.refl; val = Laws''''''''''.val
-    OpaqueRelayRuntime.the-type Laws'''''''.the-laws; tells = Laws''''''''''.tells OpaqueRelayRuntime.the-type Laws'''''''.the-laws; still =
-    Laws''''''''''.still OpaqueRelayRuntime.the-type Laws'''''''.the-copy Exit.yes; row = Rows'.whole (Declared'.row OpaqueRelayRuntime.the-type); rd
-    = λ x. x; mk = λ x. x; } λ M 𝓤 H A W. record { copies = Laws''''''''''.copy OpaqueRelayRuntime.the-type Laws'''''''.the-copy 𝓤 H A W; lawful =
-    Laws''''''''''.lawful OpaqueRelayRuntime.the-type Laws'''''''.the-laws 𝓤 H A W; makes = Laws''''''''''.makes OpaqueRelayRuntime.the-type
-    Laws'''''''.the-plain 𝓤 H A; in-mem = Local.mem-whole 𝓤 H A W (Declared'.row OpaqueRelayRuntime.the-type); of-mem = Local.whole-mem 𝓤 H A W
-    (Declared'.row OpaqueRelayRuntime.the-type); }) ∷ List.[]
+ps·5 = Bool.pBool ∷ (StructRow.param OpaqueRelayRuntime.the-type Laws'''''''.the-laws Laws'''''''.the-copy
+    Laws'''''''.the-plain) ∷ List.[]
+
 abbrev pub r·5 : Kinds.RK 0
-r·5 = Value.rVal record { ty = Declared'.row OpaqueRelayRuntime.the-type; one = Path.refl; val = Laws''''''''''.val OpaqueRelayRuntime.the-type
-    Laws'''''''.the-laws; tells = Laws''''''''''.tells OpaqueRelayRuntime.the-type Laws'''''''.the-laws; still = Laws''''''''''.still
-    OpaqueRelayRuntime.the-type Laws'''''''.the-copy Exit.yes; row = Rows'.whole (Declared'.row OpaqueRelayRuntime.the-type); rd = λ x. x; mk = λ x.
-    x; } λ M 𝓤 H A W. record { copies = Laws''''''''''.copy OpaqueRelayRuntime.the-type Laws'''''''.the-copy 𝓤 H A W; lawful = Laws''''''''''.lawful
-    OpaqueRelayRuntime.the-type Laws'''''''.the-laws 𝓤 H A W; makes = Laws''''''''''.makes OpaqueRelayRuntime.the-type Laws'''''''.the-plain 𝓤 H A;
-    in-mem = Local.mem-whole 𝓤 H A W (Declared'.row OpaqueRelayRuntime.the-type); of-mem = Local.whole-mem 𝓤 H A W (Declared'.row
-    OpaqueRelayRuntime.the-type); }
+r·5 = StructRow.result OpaqueRelayRuntime.the-type Laws'''''''.the-laws Laws'''''''.the-copy Laws'''''''.the-plain
+
 abbrev pub ps·6 : List.List (Kinds.PK 0)
-ps·6 = (Value.pVal record { ty = Declared'.row OpenPlan.the-type; one = Path.refl; val = Laws''''''''''.val OpenPlan.the-type Laws''.the-laws; tells =
-    Laws''''''''''.tells OpenPlan.the-type Laws''.the-laws; still = Laws''''''''''.still OpenPlan.the-type Laws''.the-copy Exit.yes; row = Rows'.whole
-    (Declared'.row OpenPlan.the-type); rd = λ x. x; mk = λ x. x; } λ M 𝓤 H A W. record { copies = Laws''''''''''.copy OpenPlan.the-type
-    Laws''.the-copy 𝓤 H A W; lawful = Laws''''''''''.lawful OpenPlan.the-type Laws''.the-laws 𝓤 H A W; makes = Laws''''''''''.makes OpenPlan.the-type
-    Laws''.the-plain 𝓤 H A; in-mem = Local.mem-whole 𝓤 H A W (Declared'.row OpenPlan.the-type); of-mem = Local.whole-mem 𝓤 H A W (Declared'.row
-    OpenPlan.the-type); }) ∷ List.[]
+ps·6 = (StructRow.param OpenPlan.the-type Laws''.the-laws Laws''.the-copy Laws''.the-plain) ∷ List.[]
+
 abbrev pub r·6 : Kinds.RK 0
-r·6 = Value.rVal record { ty = Declared'.row Outgoing.the-type; one = Path.refl; val = Laws''''''''''.val Outgoing.the-type Laws'''''.the-laws; tells
-    = Laws''''''''''.tells Outgoing.the-type Laws'''''.the-laws; still = Laws''''''''''.still Outgoing.the-type Laws'''''.the-copy Exit.yes; row =
-    Rows'.whole (Declared'.row Outgoing.the-type); rd = λ x. x; mk = λ x. x; } λ M 𝓤 H A W. record { copies = Laws''''''''''.copy Outgoing.the-type
-    Laws'''''.the-copy 𝓤 H A W; lawful = Laws''''''''''.lawful Outgoing.the-type Laws'''''.the-laws 𝓤 H A W; makes = Laws''''''''''.makes
-    Outgoing.the-type Laws'''''.the-plain 𝓤 H A; in-mem = Local.mem-whole 𝓤 H A W (Declared'.row Outgoing.the-type); of-mem = Local.whole-mem 𝓤 H A W
-    (Declared'.row Outgoing.the-type); }
+r·6 = StructRow.result Outgoing.the-type Laws'''''.the-laws Laws'''''.the-copy Laws'''''.the-plain
+
 abbrev pub ps·7 : List.List (Kinds.PK 0)
-ps·7 = (Value.pVal record { ty = Declared'.row OpenPlan.the-type; one = Path.refl; val = Laws''''''''''.val OpenPlan.the-type Laws''.the-laws; tells =
-    Laws''''''''''.tells OpenPlan.the-type Laws''.the-laws; still = Laws''''''''''.still OpenPlan.the-type Laws''.the-copy Exit.yes; row = Rows'.whole
-    (Declared'.row OpenPlan.the-type); rd = λ x. x; mk = λ x. x; } λ M 𝓤 H A W. record { copies = Laws''''''''''.copy OpenPlan.the-type
-    Laws''.the-copy 𝓤 H A W; lawful = Laws''''''''''.lawful OpenPlan.the-type Laws''.the-laws 𝓤 H A W; makes = Laws''''''''''.makes OpenPlan.the-type
-    Laws''.the-plain 𝓤 H A; in-mem = Local.mem-whole 𝓤 H A W (Declared'.row OpenPlan.the-type); of-mem = Local.whole-mem 𝓤 H A W (Declared'.row
-    OpenPlan.the-type); }) ∷ List.[]
+ps·7 = (StructRow.param OpenPlan.the-type Laws''.the-laws Laws''.the-copy Laws''.the-plain) ∷ List.[]
+
 abbrev pub r·7 : Kinds.RK 0
-r·7 = Value.rVal record { ty = Declared'.row IncomingBody.the-type; one = Path.refl; val = Laws''''''''''.val IncomingBody.the-type Laws.the-laws;
-    tells = Laws''''''''''.tells IncomingBody.the-type Laws.the-laws; still = Laws''''''''''.still IncomingBody.the-type Laws.the-copy Exit.yes; row =
-    Rows'.whole (Declared'.row IncomingBody.the-type); rd = λ x. x; mk = λ x. x; } λ M 𝓤 H A W. record { copies = Laws''''''''''.copy
-    IncomingBody.the-type Laws.the-copy 𝓤 H A W; lawful = Laws''''''''''.lawful IncomingBody.the-type Laws.the-laws 𝓤 H A W; makes =
-    Laws''''''''''.makes IncomingBody.the-type Laws.the-plain 𝓤 H A; in-mem = Local.mem-whole 𝓤 H A W (Declared'.row IncomingBody.the-type); of-mem =
-    Local.whole-mem 𝓤 H A W (Declared'.row IncomingBody.the-type); }
+r·7 = StructRow.result IncomingBody.the-type Laws.the-laws Laws.the-copy Laws.the-plain
+
 abbrev pub ps·8 : List.List (Kinds.PK 0)
-ps·8 = (Value.pVal record { ty = Declared'.row IncomingBody.the-type; one = Path.refl; val = Laws''''''''''.val IncomingBody.the-type Laws.the-laws;
-    tells = Laws''''''''''.tells IncomingBody.the-type Laws.the-laws; still = Laws''''''''''.still IncomingBody.the-type Laws.the-copy Exit.yes; row =
-    Rows'.whole (Declared'.row IncomingBody.the-type); rd = λ x. x; mk = λ x. x; } λ M 𝓤 H A W. record { copies = Laws''''''''''.copy
-    IncomingBody.the-type Laws.the-copy 𝓤 H A W; lawful = Laws''''''''''.lawful IncomingBody.the-type Laws.the-laws 𝓤 H A W; makes =
-    Laws''''''''''.makes IncomingBody.the-type Laws.the-plain 𝓤 H A; in-mem = Local.mem-whole 𝓤 H A W (Declared'.row IncomingBody.the-type); of-mem =
-    Local.whole-mem 𝓤 H A W (Declared'.row IncomingBody.the-type); }) ∷ List.[]
+ps·8 = (StructRow.param IncomingBody.the-type Laws.the-laws Laws.the-copy Laws.the-plain) ∷ List.[]
+
 abbrev pub r·8 : Kinds.RK 0
 r·8 = Array.rArr (Array.eInt Syntax.w8) (Array.eInt-laws Syntax.w8) 62
+
 abbrev pub ps·9 : List.List (Kinds.PK 3)
-ps·9 = (MutSlice.pMutS InflightAction.row 0 tt) ∷ (MutSlice.pMutS (Referent.rtF (Referent.fInt Syntax.w32)) 1 tt) ∷ (Value.pVal record { ty =
-    Declared.row HnsrAnswer.the-type; one = Path.refl; val = Laws'''''''''.val HnsrAnswer.the-type Laws'.the-laws; tells = Laws'''''''''.tells
-    HnsrAnswer.the-type Laws'.the-laws; still = Laws'''''''''.still HnsrAnswer.the-type Laws'.the-copy Exit.yes; row = Rows'.whole (Declared.row
-    HnsrAnswer.the-type); rd = λ x. x; mk = λ x. x; } λ M 𝓤 H A W. record { copies = Laws'''''''''.copy HnsrAnswer.the-type Laws'.the-copy 𝓤 H A W;
-    lawful = Laws'''''''''.lawful HnsrAnswer.the-type Laws'.the-laws 𝓤 H A W tt; makes = Laws'''''''''.makes HnsrAnswer.the-type Laws'.the-plain 𝓤 H
-    A; in-mem = Local.mem-whole 𝓤 H A W (Declared.row HnsrAnswer.the-type); of-mem = Local.whole-mem 𝓤 H A W (Declared.row HnsrAnswer.the-type); }) ∷
-    (Value.pVal record { ty = Declared'.row OpaqueRelayRuntime.the-type; one = Path.refl; val = Laws''''''''''.val OpaqueRelayRuntime.the-type
-    Laws'''''''.the-laws; tells = Laws''''''''''.tells OpaqueRelayRuntime.the-type Laws'''''''.the-laws; still = Laws''''''''''.still
-    OpaqueRelayRuntime.the-type Laws'''''''.the-copy Exit.yes; row = Rows'.whole (Declared'.row OpaqueRelayRuntime.the-type); rd = λ x. x; mk = λ x.
-    x; } λ M 𝓤 H A W. record { copies = Laws''''''''''.copy OpaqueRelayRuntime.the-type Laws'''''''.the-copy 𝓤 H A W; lawful = Laws''''''''''.lawful
-    OpaqueRelayRuntime.the-type Laws'''''''.the-laws 𝓤 H A W; makes = Laws''''''''''.makes OpaqueRelayRuntime.the-type Laws'''''''.the-plain 𝓤 H A;
-    in-mem = Local.mem-whole 𝓤 H A W (Declared'.row OpaqueRelayRuntime.the-type); of-mem = Local.whole-mem 𝓤 H A W (Declared'.row
-    OpaqueRelayRuntime.the-type); }) ∷ (Value.pVal record { ty = Declared'.row Places.the-type; one = Path.refl; val = Laws''''''''''.val
-    Places.the-type Laws'''.the-laws; tells = Laws''''''''''.tells Places.the-type Laws'''.the-laws; still = Laws''''''''''.still Places.the-type
-    Laws'''.the-copy Exit.yes; row = Rows'.whole (Declared'.row Places.the-type); rd = λ x. x; mk = λ x. x; } λ M 𝓤 H A W. record { copies =
-    Laws''''''''''.copy Places.the-type Laws'''.the-copy 𝓤 H A W; lawful = Laws''''''''''.lawful Places.the-type Laws'''.the-laws 𝓤 H A W; makes =
-    Laws''''''''''.makes Places.the-type Laws'''.the-plain 𝓤 H A; in-mem = Local.mem-whole 𝓤 H A W (Declared'.row Places.the-type); of-mem =
-    Local.whole-mem 𝓤 H A W (Declared'.row Places.the-type); }) ∷ (Value.pVal record { ty = Declared'.row Outgoing.the-type; one = Path.refl; val =
-    Laws''''''''''.val Outgoing.the-type Laws'''''.the-laws; tells = Laws''''''''''.tells Outgoing.the-type Laws'''''.the-laws; still =
-    Laws''''''''''.still Outgoing.the-type Laws'''''.the-copy Exit.yes; row = Rows'.whole (Declared'.row Outgoing.the-type); rd = λ x. x; mk = λ x. x;
-    } λ M 𝓤 H A W. record { copies = Laws''''''''''.copy Outgoing.the-type Laws'''''.the-copy 𝓤 H A W; lawful = Laws''''''''''.lawful
-    Outgoing.the-type Laws'''''.the-laws 𝓤 H A W; makes = Laws''''''''''.makes Outgoing.the-type Laws'''''.the-plain 𝓤 H A; in-mem = Local.mem-whole 𝓤
-    H A W (Declared'.row Outgoing.the-type); of-mem = Local.whole-mem 𝓤 H A W (Declared'.row Outgoing.the-type); }) ∷ (Value.pVal record { ty =
-    Declared'.row ActionScan.the-type; one = Path.refl; val = Laws''''''''''.val ActionScan.the-type Laws''''.the-laws; tells = Laws''''''''''.tells
-    ActionScan.the-type Laws''''.the-laws; still = Laws''''''''''.still ActionScan.the-type Laws''''.the-copy Exit.yes; row = Rows'.whole
-    (Declared'.row ActionScan.the-type); rd = λ x. x; mk = λ x. x; } λ M 𝓤 H A W. record { copies = Laws''''''''''.copy ActionScan.the-type
-    Laws''''.the-copy 𝓤 H A W; lawful = Laws''''''''''.lawful ActionScan.the-type Laws''''.the-laws 𝓤 H A W; makes = Laws''''''''''.makes
-    ActionScan.the-type Laws''''.the-plain 𝓤 H A; in-mem = Local.mem-whole 𝓤 H A W (Declared'.row ActionScan.the-type); of-mem = Local.whole-mem 𝓤 H A
-    W (Declared'.row ActionScan.the-type); }) ∷ (ShrSlice.pShrS (Referent.rtF (Referent.fInt Syntax.w8)) 2 tt) ∷ List.[]
+ps·9 = (MutSlice.pMutS InflightAction.row 0 tt) ∷ (MutSlice.pMutS (Referent.rtF (Referent.fInt Syntax.w32)) 1 tt) ∷ (StructRow.enum-param
+    HnsrAnswer.the-type Laws'.the-laws Laws'.the-copy Laws'.the-plain tt) ∷ (StructRow.param
+    OpaqueRelayRuntime.the-type Laws'''''''.the-laws Laws'''''''.the-copy Laws'''''''.the-plain) ∷ (StructRow.param
+    Places.the-type Laws'''.the-laws Laws'''.the-copy Laws'''.the-plain) ∷ (StructRow.param Outgoing.the-type
+    Laws'''''.the-laws Laws'''''.the-copy Laws'''''.the-plain) ∷ (StructRow.param ActionScan.the-type Laws''''.the-laws
+    Laws''''.the-copy Laws''''.the-plain) ∷ (ShrSlice.pShrS (Referent.rtF (Referent.fInt Syntax.w8)) 2 tt) ∷ List.[]
+
 abbrev pub r·9 : Kinds.RK 3
-r·9 = Value.rVal record { ty = Declared'.row Relayed.the-type; one = Path.refl; val = Laws''''''''''.val Relayed.the-type Laws''''''''.the-laws; tells
-    = Laws''''''''''.tells Relayed.the-type Laws''''''''.the-laws; still = Laws''''''''''.still Relayed.the-type Laws''''''''.the-copy Exit.yes; row =
-    Rows'.whole (Declared'.row Relayed.the-type); rd = λ x. x; mk = λ x. x; } λ M 𝓤 H A W. record { copies = Laws''''''''''.copy Relayed.the-type
-    Laws''''''''.the-copy 𝓤 H A W; lawful = Laws''''''''''.lawful Relayed.the-type Laws''''''''.the-laws 𝓤 H A W; makes = Laws''''''''''.makes
-    Relayed.the-type Laws''''''''.the-plain 𝓤 H A; in-mem = Local.mem-whole 𝓤 H A W (Declared'.row Relayed.the-type); of-mem = Local.whole-mem 𝓤 H A W
-    (Declared'.row Relayed.the-type); }
+r·9 = StructRow.result Relayed.the-type Laws''''''''.the-laws Laws''''''''.the-copy Laws''''''''.the-plain
+
 abbrev pub ps·10 : List.List (Kinds.PK 0)
-ps·10 = (Value.pVal record { ty = Declared'.row OpaqueRelayRuntime.the-type; one = Path.refl; val = Laws''''''''''.val OpaqueRelayRuntime.the-type
-    Laws'''''''.the-laws; tells = Laws''''''''''.tells OpaqueRelayRuntime.the-type Laws'''''''.the-laws; still = Laws''''''''''.still
-    OpaqueRelayRuntime.the-type Laws'''''''.the-copy Exit.yes; row = Rows'.whole (Declared'.row OpaqueRelayRuntime.the-type); rd = λ x. x; mk = λ x.
-    x; } λ M 𝓤 H A W. record { copies = Laws''''''''''.copy OpaqueRelayRuntime.the-type Laws'''''''.the-copy 𝓤 H A W; lawful = Laws''''''''''.lawful
-    OpaqueRelayRuntime.the-type Laws'''''''.the-laws 𝓤 H A W; makes = Laws''''''''''.makes OpaqueRelayRuntime.the-type Laws'''''''.the-plain 𝓤 H A;
-    in-mem = Local.mem-whole 𝓤 H A W (Declared'.row OpaqueRelayRuntime.the-type); of-mem = Local.whole-mem 𝓤 H A W (Declared'.row
-    OpaqueRelayRuntime.the-type); }) ∷ (Value.pVal record { ty = Declared'.row Places.the-type; one = Path.refl; val = Laws''''''''''.val
-    Places.the-type Laws'''.the-laws; tells = Laws''''''''''.tells Places.the-type Laws'''.the-laws; still = Laws''''''''''.still Places.the-type
-    Laws'''.the-copy Exit.yes; row = Rows'.whole (Declared'.row Places.the-type); rd = λ x. x; mk = λ x. x; } λ M 𝓤 H A W. record { copies =
-    Laws''''''''''.copy Places.the-type Laws'''.the-copy 𝓤 H A W; lawful = Laws''''''''''.lawful Places.the-type Laws'''.the-laws 𝓤 H A W; makes =
-    Laws''''''''''.makes Places.the-type Laws'''.the-plain 𝓤 H A; in-mem = Local.mem-whole 𝓤 H A W (Declared'.row Places.the-type); of-mem =
-    Local.whole-mem 𝓤 H A W (Declared'.row Places.the-type); }) ∷ (Value.pVal record { ty = Declared.row HnsrAnswer.the-type; one = Path.refl; val =
-    Laws'''''''''.val HnsrAnswer.the-type Laws'.the-laws; tells = Laws'''''''''.tells HnsrAnswer.the-type Laws'.the-laws; still = Laws'''''''''.still
-    HnsrAnswer.the-type Laws'.the-copy Exit.yes; row = Rows'.whole (Declared.row HnsrAnswer.the-type); rd = λ x. x; mk = λ x. x; } λ M 𝓤 H A W. record
-    { copies = Laws'''''''''.copy HnsrAnswer.the-type Laws'.the-copy 𝓤 H A W; lawful = Laws'''''''''.lawful HnsrAnswer.the-type Laws'.the-laws 𝓤 H A W
-    tt; makes = Laws'''''''''.makes HnsrAnswer.the-type Laws'.the-plain 𝓤 H A; in-mem = Local.mem-whole 𝓤 H A W (Declared.row HnsrAnswer.the-type);
-    of-mem = Local.whole-mem 𝓤 H A W (Declared.row HnsrAnswer.the-type); }) ∷ List.[]
+ps·10 = (StructRow.param OpaqueRelayRuntime.the-type Laws'''''''.the-laws Laws'''''''.the-copy Laws'''''''.the-plain) ∷ (StructRow.param
+    Places.the-type Laws'''.the-laws Laws'''.the-copy Laws'''.the-plain) ∷ (StructRow.enum-param HnsrAnswer.the-type
+    Laws'.the-laws Laws'.the-copy Laws'.the-plain tt) ∷ List.[]
+
 abbrev pub r·10 : Kinds.RK 0
-r·10 = Value.rVal record { ty = Declared'.row Relayed.the-type; one = Path.refl; val = Laws''''''''''.val Relayed.the-type Laws''''''''.the-laws;
-    tells = Laws''''''''''.tells Relayed.the-type Laws''''''''.the-laws; still = Laws''''''''''.still Relayed.the-type Laws''''''''.the-copy Exit.yes;
-    row = Rows'.whole (Declared'.row Relayed.the-type); rd = λ x. x; mk = λ x. x; } λ M 𝓤 H A W. record { copies = Laws''''''''''.copy
-    Relayed.the-type Laws''''''''.the-copy 𝓤 H A W; lawful = Laws''''''''''.lawful Relayed.the-type Laws''''''''.the-laws 𝓤 H A W; makes =
-    Laws''''''''''.makes Relayed.the-type Laws''''''''.the-plain 𝓤 H A; in-mem = Local.mem-whole 𝓤 H A W (Declared'.row Relayed.the-type); of-mem =
-    Local.whole-mem 𝓤 H A W (Declared'.row Relayed.the-type); }
+r·10 = StructRow.result Relayed.the-type Laws''''''''.the-laws Laws''''''''.the-copy Laws''''''''.the-plain
+
 abbrev pub hs : List.List Syntax.Home
-hs = Syntax.valueLocal ∷ Syntax.valueLocal ∷ Syntax.valueLocal ∷ Syntax.valueLocal ∷ Syntax.valueLocal ∷ Syntax.valueLocal ∷ Syntax.valueLocal ∷
-    Syntax.valueLocal ∷ Syntax.valueLocal ∷ Syntax.valueLocal ∷ Syntax.valueLocal ∷ Syntax.valueLocal ∷ Syntax.valueLocal ∷ Syntax.valueLocal ∷
-    Syntax.valueLocal ∷ Syntax.valueLocal ∷ Syntax.valueLocal ∷ Syntax.memorySlot ∷ Syntax.valueLocal ∷ Syntax.valueLocal ∷ Syntax.valueLocal ∷
-    Syntax.valueLocal ∷ Syntax.valueLocal ∷ Syntax.valueLocal ∷ Syntax.valueLocal ∷ Syntax.valueLocal ∷ Syntax.valueLocal ∷ Syntax.valueLocal ∷
-    List.[]
+hs = Syntax.valueLocal ∷ Syntax.valueLocal ∷ Syntax.valueLocal ∷ Syntax.valueLocal ∷ Syntax.valueLocal ∷
+    Syntax.valueLocal ∷ Syntax.valueLocal ∷ Syntax.valueLocal ∷ Syntax.valueLocal ∷ Syntax.valueLocal ∷
+    Syntax.valueLocal ∷ Syntax.valueLocal ∷ Syntax.valueLocal ∷ Syntax.valueLocal ∷ Syntax.valueLocal ∷
+    Syntax.valueLocal ∷ Syntax.valueLocal ∷ Syntax.memorySlot ∷ Syntax.valueLocal ∷ Syntax.valueLocal ∷
+    Syntax.valueLocal ∷ Syntax.valueLocal ∷ Syntax.valueLocal ∷ Syntax.valueLocal ∷ Syntax.valueLocal ∷
+    Syntax.valueLocal ∷ Syntax.valueLocal ∷ Syntax.valueLocal ∷ List.[]
+
 abbrev b0 : Syntax.Body
 b0 = Syntax.assign (Syntax.place 9 List.[]) (Syntax.rvOpd (Syntax.copy (Syntax.place 6 ((Syntax.field 4) ∷ List.[]))))
+
 abbrev b1 : Syntax.Body
-b1 = Syntax.call "hnsr_circuit::ledger::usage_answer" ((Syntax.copy (Syntax.place 9 List.[])) ∷ (Syntax.copy (Syntax.place 7 List.[])) ∷ List.[])
-    (Syntax.place 10 List.[])
+b1 = Syntax.call "hnsr_circuit::ledger::usage_answer" ((Syntax.copy (Syntax.place 9 List.[])) ∷
+    (Syntax.copy (Syntax.place 7 List.[])) ∷ List.[]) (Syntax.place 10 List.[])
+
 abbrev b2 : Syntax.Body
-b2 = Syntax.call "hnsr_circuit::answer::is_taken" ((Syntax.copy (Syntax.place 10 List.[])) ∷ List.[]) (Syntax.place 18 List.[])
+b2 = Syntax.call "hnsr_circuit::answer::is_taken" ((Syntax.copy (Syntax.place 10 List.[])) ∷ List.[])
+    (Syntax.place 18 List.[])
+
 abbrev b3 : Syntax.Body
-b3 = Syntax.call "hnsr_circuit::open::pending_for" ((Syntax.copy (Syntax.place 6 List.[])) ∷ List.[]) (Syntax.place 11 List.[])
+b3 = Syntax.call "hnsr_circuit::open::pending_for" ((Syntax.copy (Syntax.place 6 List.[])) ∷ List.[])
+    (Syntax.place 11 List.[])
+
 abbrev b4 : Syntax.Body
-b4 = Syntax.assign (Syntax.place 19 List.[]) (Syntax.addrOf (Syntax.place 1 ((Syntax.field 0) ∷ (Syntax.deref RelayPending.ty) ∷ List.[])))
+b4 = Syntax.assign (Syntax.place 19 List.[]) (Syntax.addrOf (Syntax.place 1 ((Syntax.field 0) ∷
+    (Syntax.deref RelayPending.ty) ∷ List.[])))
+
 abbrev b5 : Syntax.Body
-b5 = Syntax.assign (Syntax.place 20 List.[]) (Syntax.aggregate ((Syntax.copy (Syntax.place 19 List.[])) ∷ (Syntax.copy (Syntax.place 1 ((Syntax.field
-    1) ∷ List.[]))) ∷ List.[]))
+b5 = Syntax.assign (Syntax.place 20 List.[]) (Syntax.aggregate ((Syntax.copy (Syntax.place 19 List.[])) ∷
+    (Syntax.copy (Syntax.place 1 ((Syntax.field 1) ∷ List.[]))) ∷ List.[]))
+
 abbrev b6 : Syntax.Body
-b6 = Syntax.call "hnsr_circuit::handle_open::put_pending" ((Syntax.copy (Syntax.place 20 List.[])) ∷ (Syntax.copy (Syntax.place 5 List.[])) ∷
-    (Syntax.copy (Syntax.place 11 List.[])) ∷ List.[]) (Syntax.place 12 List.[])
+b6 = Syntax.call "hnsr_circuit::handle_open::put_pending" ((Syntax.copy (Syntax.place 20 List.[])) ∷
+    (Syntax.copy (Syntax.place 5 List.[])) ∷ (Syntax.copy (Syntax.place 11 List.[])) ∷ List.[])
+    (Syntax.place 12 List.[])
+
 abbrev b7 : Syntax.Body
-b7 = Syntax.call "hnsr_circuit::places::with_pending" ((Syntax.copy (Syntax.place 5 List.[])) ∷ (Syntax.copy (Syntax.place 12 List.[])) ∷ List.[])
-    (Syntax.place 13 List.[])
+b7 = Syntax.call "hnsr_circuit::places::with_pending" ((Syntax.copy (Syntax.place 5 List.[])) ∷
+    (Syntax.copy (Syntax.place 12 List.[])) ∷ List.[]) (Syntax.place 13 List.[])
+
 abbrev b8 : Syntax.Body
-b8 = Syntax.call "hnsr_circuit::header::opened" (Syntax.opdTrue ∷ (Syntax.copy (Syntax.place 4 List.[])) ∷ List.[]) (Syntax.place 14 List.[])
+b8 = Syntax.call "hnsr_circuit::header::opened" (Syntax.opdTrue ∷ (Syntax.copy (Syntax.place 4 List.[])) ∷ List.[])
+    (Syntax.place 14 List.[])
+
 abbrev b9 : Syntax.Body
-b9 = Syntax.call "hnsr_circuit::open::incoming_out" ((Syntax.copy (Syntax.place 6 List.[])) ∷ List.[]) (Syntax.place 15 List.[])
+b9 = Syntax.call "hnsr_circuit::open::incoming_out" ((Syntax.copy (Syntax.place 6 List.[])) ∷ List.[])
+    (Syntax.place 15 List.[])
+
 abbrev b10 : Syntax.Body
-b10 = Syntax.call "hnsr_circuit::open::incoming_for" ((Syntax.copy (Syntax.place 6 List.[])) ∷ List.[]) (Syntax.place 16 List.[])
+b10 = Syntax.call "hnsr_circuit::open::incoming_for" ((Syntax.copy (Syntax.place 6 List.[])) ∷ List.[])
+    (Syntax.place 16 List.[])
+
 abbrev b11 : Syntax.Body
-b11 = Syntax.call "hnsr_body::incoming_body::IncomingBody::to_bytes" ((Syntax.copy (Syntax.place 16 List.[])) ∷ List.[]) (Syntax.place 21 List.[])
+b11 = Syntax.call "hnsr_body::incoming_body::IncomingBody::to_bytes"
+    ((Syntax.copy (Syntax.place 16 List.[])) ∷ List.[]) (Syntax.place 21 List.[])
+
 abbrev b12 : Syntax.Body
 b12 = Syntax.assign (Syntax.place 17 List.[]) (Syntax.rvOpd (Syntax.copy (Syntax.place 21 List.[])))
+
 abbrev b13 : Syntax.Body
-b13 = Syntax.assign (Syntax.place 22 List.[]) (Syntax.addrOf (Syntax.place 2 ((Syntax.field 0) ∷ (Syntax.deref InflightAction.ty) ∷ List.[])))
+b13 = Syntax.assign (Syntax.place 22 List.[]) (Syntax.addrOf (Syntax.place 2 ((Syntax.field 0) ∷
+    (Syntax.deref InflightAction.ty) ∷ List.[])))
+
 abbrev b14 : Syntax.Body
-b14 = Syntax.assign (Syntax.place 23 List.[]) (Syntax.aggregate ((Syntax.copy (Syntax.place 22 List.[])) ∷ (Syntax.copy (Syntax.place 2 ((Syntax.field
-    1) ∷ List.[]))) ∷ List.[]))
+b14 = Syntax.assign (Syntax.place 23 List.[]) (Syntax.aggregate ((Syntax.copy (Syntax.place 22 List.[])) ∷
+    (Syntax.copy (Syntax.place 2 ((Syntax.field 1) ∷ List.[]))) ∷ List.[]))
+
 abbrev b15 : Syntax.Body
-b15 = Syntax.assign (Syntax.place 24 List.[]) (Syntax.addrOf (Syntax.place 3 ((Syntax.field 0) ∷ (Syntax.deref (Syntax.tyInt Syntax.w32)) ∷ List.[])))
+b15 = Syntax.assign (Syntax.place 24 List.[]) (Syntax.addrOf (Syntax.place 3 ((Syntax.field 0) ∷
+    (Syntax.deref (Syntax.tyInt Syntax.w32)) ∷ List.[])))
+
 abbrev b16 : Syntax.Body
-b16 = Syntax.assign (Syntax.place 25 List.[]) (Syntax.aggregate ((Syntax.copy (Syntax.place 24 List.[])) ∷ (Syntax.copy (Syntax.place 3 ((Syntax.field
-    1) ∷ List.[]))) ∷ List.[]))
+b16 = Syntax.assign (Syntax.place 25 List.[]) (Syntax.aggregate ((Syntax.copy (Syntax.place 24 List.[])) ∷
+    (Syntax.copy (Syntax.place 3 ((Syntax.field 1) ∷ List.[]))) ∷ List.[]))
+
 abbrev b17 : Syntax.Body
 b17 = Syntax.assign (Syntax.place 26 List.[]) (Syntax.addrOf (Syntax.place 17 List.[]))
+
 abbrev b18 : Syntax.Body
-b18 = Syntax.assign (Syntax.place 27 List.[]) (Syntax.aggregate ((Syntax.copy (Syntax.place 26 List.[])) ∷ (Syntax.int Syntax.w64 62) ∷ List.[]))
+b18 = Syntax.assign (Syntax.place 27 List.[]) (Syntax.aggregate ((Syntax.copy (Syntax.place 26 List.[])) ∷
+    (Syntax.int Syntax.w64 62) ∷ List.[]))
+
 abbrev b19 : Syntax.Body
-b19 = Syntax.call "hnsr_circuit::queue::send" ((Syntax.copy (Syntax.place 23 List.[])) ∷ (Syntax.copy (Syntax.place 25 List.[])) ∷ (Syntax.copy
-    (Syntax.place 10 List.[])) ∷ (Syntax.copy (Syntax.place 14 List.[])) ∷ (Syntax.copy (Syntax.place 13 List.[])) ∷ (Syntax.copy (Syntax.place 15
-    List.[])) ∷ (Syntax.copy (Syntax.place 8 List.[])) ∷ (Syntax.copy (Syntax.place 27 List.[])) ∷ List.[]) (Syntax.place 0 List.[])
+b19 = Syntax.call "hnsr_circuit::queue::send" ((Syntax.copy (Syntax.place 23 List.[])) ∷
+    (Syntax.copy (Syntax.place 25 List.[])) ∷ (Syntax.copy (Syntax.place 10 List.[])) ∷
+    (Syntax.copy (Syntax.place 14 List.[])) ∷ (Syntax.copy (Syntax.place 13 List.[])) ∷
+    (Syntax.copy (Syntax.place 15 List.[])) ∷ (Syntax.copy (Syntax.place 8 List.[])) ∷
+    (Syntax.copy (Syntax.place 27 List.[])) ∷ List.[]) (Syntax.place 0 List.[])
+
 abbrev b20 : Syntax.Body
 b20 = Syntax.return
+
 abbrev b21 : Syntax.Body
 b21 = Syntax.seq b19 b20
+
 abbrev b22 : Syntax.Body
 b22 = Syntax.seq b18 b21
+
 abbrev b23 : Syntax.Body
 b23 = Syntax.seq b17 b22
+
 abbrev b24 : Syntax.Body
 b24 = Syntax.seq b16 b23
+
 abbrev b25 : Syntax.Body
 b25 = Syntax.seq b15 b24
+
 abbrev b26 : Syntax.Body
 b26 = Syntax.seq b14 b25
+
 abbrev b27 : Syntax.Body
 b27 = Syntax.seq b13 b26
+
 abbrev b28 : Syntax.Body
 b28 = Syntax.seq b12 b27
+
 abbrev b29 : Syntax.Body
 b29 = Syntax.seq b11 b28
+
 abbrev b30 : Syntax.Body
 b30 = Syntax.seq b10 b29
+
 abbrev b31 : Syntax.Body
 b31 = Syntax.seq b9 b30
+
 abbrev b32 : Syntax.Body
 b32 = Syntax.seq b8 b31
+
 abbrev b33 : Syntax.Body
 b33 = Syntax.seq b7 b32
+
 abbrev b34 : Syntax.Body
 b34 = Syntax.seq b6 b33
+
 abbrev b35 : Syntax.Body
 b35 = Syntax.seq b5 b34
+
 abbrev b36 : Syntax.Body
 b36 = Syntax.seq b4 b35
+
 abbrev b37 : Syntax.Body
 b37 = Syntax.seq b3 b36
+
 abbrev b38 : Syntax.Body
 b38 = Syntax.skip
+
 abbrev b39 : Syntax.Body
 b39 = Syntax.cond (Syntax.copy (Syntax.place 18 List.[])) b37 b38
+
 abbrev b40 : Syntax.Body
-b40 = Syntax.call "hnsr_circuit::revoking_calls::refused" ((Syntax.copy (Syntax.place 4 List.[])) ∷ (Syntax.copy (Syntax.place 5 List.[])) ∷
-    (Syntax.copy (Syntax.place 10 List.[])) ∷ List.[]) (Syntax.place 0 List.[])
+b40 = Syntax.call "hnsr_circuit::revoking_calls::refused" ((Syntax.copy (Syntax.place 4 List.[])) ∷
+    (Syntax.copy (Syntax.place 5 List.[])) ∷ (Syntax.copy (Syntax.place 10 List.[])) ∷ List.[])
+    (Syntax.place 0 List.[])
+
 abbrev b41 : Syntax.Body
 b41 = Syntax.return
+
 abbrev b42 : Syntax.Body
 b42 = Syntax.seq b40 b41
+
 abbrev b43 : Syntax.Body
 b43 = Syntax.seq b39 b42
+
 abbrev b44 : Syntax.Body
 b44 = Syntax.seq b2 b43
+
 abbrev b45 : Syntax.Body
 b45 = Syntax.seq b1 b44
+
 abbrev b46 : Syntax.Body
 b46 = Syntax.seq b0 b45
+
 abbrev pub body : Syntax.Body
 body = b46
+
 abbrev pub Claims : Type 1
-Claims = Kinds.In 0 ps·0 × Kinds.Out 0 ps·0 r·0 × Kinds.In 0 ps·1 × Kinds.Out 0 ps·1 r·1 × Kinds.In 0 ps·2 × Kinds.Out 0 ps·2 r·2 × Kinds.In 1 ps·3 ×
-    Kinds.Out 1 ps·3 r·3 × Kinds.In 0 ps·4 × Kinds.Out 0 ps·4 r·4 × Kinds.In 0 ps·5 × Kinds.Out 0 ps·5 r·5 × Kinds.In 0 ps·6 × Kinds.Out 0 ps·6 r·6 ×
-    Kinds.In 0 ps·7 × Kinds.Out 0 ps·7 r·7 × Kinds.In 0 ps·8 × Kinds.Out 0 ps·8 r·8 × Kinds.In 3 ps·9 × Kinds.Out 3 ps·9 r·9 × Kinds.In 0 ps·10 ×
-    Kinds.Out 0 ps·10 r·10
+Claims = Kinds.In 0 ps·0 × Kinds.Out 0 ps·0 r·0 × Kinds.In 0 ps·1 × Kinds.Out 0 ps·1 r·1 × Kinds.In 0 ps·2 × Kinds.Out
+    0 ps·2 r·2 × Kinds.In 1 ps·3 × Kinds.Out 1 ps·3 r·3 × Kinds.In 0 ps·4 × Kinds.Out 0 ps·4 r·4 × Kinds.In 0 ps·5 ×
+    Kinds.Out 0 ps·5 r·5 × Kinds.In 0 ps·6 × Kinds.Out 0 ps·6 r·6 × Kinds.In 0 ps·7 × Kinds.Out 0 ps·7 r·7 × Kinds.In 0
+    ps·8 × Kinds.Out 0 ps·8 r·8 × Kinds.In 3 ps·9 × Kinds.Out 3 ps·9 r·9 × Kinds.In 0 ps·10 × Kinds.Out 0 ps·10 r·10
+
 abbrev e0 : Row.Entry
 e0 = (0, Rows'.any-gone Laws''''''''.mir)
+
 abbrev e1 : Row.Entry
 e1 = (1, Mut.mslice RelayPending.row ref5 0)
+
 abbrev e2 : Row.Entry
 e2 = (2, Mut.mslice InflightAction.row ref6 1)
+
 abbrev e3 : Row.Entry
 e3 = (3, Mut.mslice (Referent.rtF (Referent.fInt Syntax.w32)) ref7 2)
+
 abbrev e4 : Row.Entry
 e4 = (4, Rows'.whole (Declared'.row OpaqueRelayRuntime.the-type))
+
 abbrev e5 : Row.Entry
 e5 = (5, Rows'.whole (Declared'.row Places.the-type))
+
 abbrev e6 : Row.Entry
 e6 = (6, Rows'.whole (Declared'.row OpenPlan.the-type))
+
 abbrev e7 : Row.Entry
 e7 = (7, ReservationUsage.held)
+
 abbrev e8 : Row.Entry
 e8 = (8, Rows'.whole (Declared'.row ActionScan.the-type))
+
 abbrev e9 : Row.Entry
 e9 = (9, Rows'.any-gone Laws''''''.mir)
+
 abbrev e10 : Row.Entry
 e10 = (10, Rows'.any-gone Laws'.mir)
+
 abbrev e11 : Row.Entry
 e11 = (11, Rows'.any-gone RelayPending.ty)
+
 abbrev e12 : Row.Entry
 e12 = (12, Rows'.any-gone (Syntax.tyInt Syntax.w64))
+
 abbrev e13 : Row.Entry
 e13 = (13, Rows'.any-gone Laws'''.mir)
+
 abbrev e14 : Row.Entry
 e14 = (14, Rows'.any-gone Laws'''''''.mir)
+
 abbrev e15 : Row.Entry
 e15 = (15, Rows'.any-gone Laws'''''.mir)
+
 abbrev e16 : Row.Entry
 e16 = (16, Rows'.any-gone Laws.mir)
+
 abbrev e17 : Row.Entry
 e17 = (17, Rows'.any-gone (Syntax.tyArray (Syntax.tyInt Syntax.w8) 62))
+
 abbrev e18 : Row.Entry
 e18 = (18, Rows'.any-gone Syntax.tyBool)
+
 abbrev e19 : Row.Entry
 e19 = (19, Rows'.any-gone ref0)
+
 abbrev e20 : Row.Entry
-e20 = (20, Rows'.any-gone (Syntax.tyStruct (38 ∷ 91 ∷ 93 ∷ List.[]) (Syntax.tcons ref0 (Syntax.tcons (Syntax.tyInt Syntax.w64) Syntax.tnil))))
+e20 = (20, Rows'.any-gone slice0)
+
 abbrev e21 : Row.Entry
 e21 = (21, Rows'.any-gone (Syntax.tyArray (Syntax.tyInt Syntax.w8) 62))
+
 abbrev e22 : Row.Entry
 e22 = (22, Rows'.any-gone ref1)
+
 abbrev e23 : Row.Entry
-e23 = (23, Rows'.any-gone (Syntax.tyStruct (38 ∷ 91 ∷ 93 ∷ List.[]) (Syntax.tcons ref1 (Syntax.tcons (Syntax.tyInt Syntax.w64) Syntax.tnil))))
+e23 = (23, Rows'.any-gone slice1)
+
 abbrev e24 : Row.Entry
 e24 = (24, Rows'.any-gone ref2)
+
 abbrev e25 : Row.Entry
-e25 = (25, Rows'.any-gone (Syntax.tyStruct (38 ∷ 91 ∷ 93 ∷ List.[]) (Syntax.tcons ref2 (Syntax.tcons (Syntax.tyInt Syntax.w64) Syntax.tnil))))
+e25 = (25, Rows'.any-gone slice2)
+
 abbrev e26 : Row.Entry
 e26 = (26, Rows'.any-gone ref3)
+
 abbrev e27 : Row.Entry
-e27 = (27, Rows'.any-gone (Syntax.tyStruct (38 ∷ 91 ∷ 93 ∷ List.[]) (Syntax.tcons ref4 (Syntax.tcons (Syntax.tyInt Syntax.w64) Syntax.tnil))))
+e27 = (27, Rows'.any-gone slice4)
+
 abbrev e0·1 : Row.Entry
 e0·1 = (0, Rows'.whole (Declared'.row Relayed.the-type))
+
 abbrev e4·1 : Row.Entry
 e4·1 = (4, Rows'.any-gone Laws'''''''.mir)
+
 abbrev e5·1 : Row.Entry
 e5·1 = (5, Rows'.any-gone Laws'''.mir)
+
 abbrev e6·1 : Row.Entry
 e6·1 = (6, Rows'.any-gone Laws''.mir)
+
 abbrev e7·1 : Row.Entry
 e7·1 = (7, Rows'.any-gone ReservationUsage.ty)
+
 abbrev e8·1 : Row.Entry
 e8·1 = (8, Rows'.any-gone Laws''''.mir)
+
 abbrev e9·1 : Row.Entry
 e9·1 = (9, Rows'.whole (Declared'.row RelayTicket.the-type))
+
 abbrev e10·1 : Row.Entry
 e10·1 = (10, Rows'.whole (Declared.row HnsrAnswer.the-type))
+
 abbrev e18·1 : Row.Entry
 e18·1 = (18, Rows'.sc-here Row.sBool)
+
 abbrev e11·1 : Row.Entry
 e11·1 = (11, RelayPending.held)
+
 abbrev e1·1 : Row.Entry
 e1·1 = (1, Relend.mslice-owed RelayPending.row ref5 0 3 Row.off)
+
 abbrev e19·1 : Row.Entry
 e19·1 = (19, Relend.msptr RelayPending.row ref0 3)
+
 abbrev e20·1 : Row.Entry
 e20·1 = (20, Mut.mslice RelayPending.row ref0 3)
+
 abbrev e12·1 : Row.Entry
 e12·1 = (12, Rows'.sc-here (Row.sInt Syntax.w64))
+
 abbrev e20·2 : Row.Entry
 e20·2 = (20, Mut.msleft RelayPending.row ref0)
+
 abbrev e13·1 : Row.Entry
 e13·1 = (13, Rows'.whole (Declared'.row Places.the-type))
+
 abbrev e14·1 : Row.Entry
 e14·1 = (14, Rows'.whole (Declared'.row OpaqueRelayRuntime.the-type))
+
 abbrev e15·1 : Row.Entry
 e15·1 = (15, Rows'.whole (Declared'.row Outgoing.the-type))
+
 abbrev e16·1 : Row.Entry
 e16·1 = (16, Rows'.whole (Declared'.row IncomingBody.the-type))
+
 abbrev e21·1 : Row.Entry
 e21·1 = (21, Rows.arrF (Referent.rtF (Referent.fInt Syntax.w8)) 62 0)
+
 abbrev e17·1 : Row.Entry
 e17·1 = (17, Rows.arrF (Referent.rtF (Referent.fInt Syntax.w8)) 62 0)
+
 abbrev e2·1 : Row.Entry
 e2·1 = (2, Relend.mslice-owed InflightAction.row ref6 1 4 Row.off)
+
 abbrev e22·1 : Row.Entry
 e22·1 = (22, Relend.msptr InflightAction.row ref1 4)
+
 abbrev e23·1 : Row.Entry
 e23·1 = (23, Mut.mslice InflightAction.row ref1 4)
+
 abbrev e3·1 : Row.Entry
 e3·1 = (3, Relend.mslice-owed (Referent.rtF (Referent.fInt Syntax.w32)) ref7 2 5 Row.off)
+
 abbrev e24·1 : Row.Entry
 e24·1 = (24, Relend.msptr (Referent.rtF (Referent.fInt Syntax.w32)) ref2 5)
+
 abbrev e25·1 : Row.Entry
 e25·1 = (25, Mut.mslice (Referent.rtF (Referent.fInt Syntax.w32)) ref2 5)
+
 abbrev e17·2 : Row.Entry
 e17·2 = (17, Rows.arr-shr (Referent.rtF (Referent.fInt Syntax.w8)) 62 6)
+
 abbrev e26·1 : Row.Entry
 e26·1 = (26, Relend.ssptr (Referent.rtF (Referent.fInt Syntax.w8)) ref3 6)
+
 abbrev e27·1 : Row.Entry
 e27·1 = (27, Rows'.sslice (Referent.rtF (Referent.fInt Syntax.w8)) ref4 6)
+
 abbrev e23·2 : Row.Entry
 e23·2 = (23, Mut.msleft InflightAction.row ref1)
+
 abbrev e25·2 : Row.Entry
 e25·2 = (25, Mut.msleft (Referent.rtF (Referent.fInt Syntax.w32)) ref2)
+
 abbrev pub t0 : List.List Row.Entry
 t0 = e0 ∷ e1 ∷ e2 ∷ e3 ∷ e4 ∷ e5 ∷ e6 ∷ e7 ∷ e8 ∷ e9 ∷ e10 ∷ e11 ∷ e12 ∷ e13 ∷ e14 ∷ e15 ∷ List.[]
+
 abbrev pub t1 : List.List Row.Entry
 t1 = e16 ∷ e17 ∷ e18 ∷ e19 ∷ e20 ∷ e21 ∷ e22 ∷ e23 ∷ e24 ∷ e25 ∷ e26 ∷ e27 ∷ List.[]
+
 abbrev pub t2 : List.List Row.Entry
 t2 = e0·1 ∷ e1 ∷ e2 ∷ e3 ∷ e4·1 ∷ e5·1 ∷ e6·1 ∷ e7·1 ∷ e8·1 ∷ e9 ∷ e10 ∷ e11 ∷ e12 ∷ e13 ∷ e14 ∷ e15 ∷ List.[]
+
 abbrev pub t3 : List.List Row.Entry
 t3 = e0 ∷ e1 ∷ e2 ∷ e3 ∷ e4 ∷ e5 ∷ e6 ∷ e7 ∷ e8 ∷ e9·1 ∷ e10 ∷ e11 ∷ e12 ∷ e13 ∷ e14 ∷ e15 ∷ List.[]
+
 abbrev pub t4 : List.List Row.Entry
 t4 = e0 ∷ e1 ∷ e2 ∷ e3 ∷ e4 ∷ e5 ∷ e6 ∷ e7 ∷ e8 ∷ e9·1 ∷ e10·1 ∷ e11 ∷ e12 ∷ e13 ∷ e14 ∷ e15 ∷ List.[]
+
 abbrev pub t5 : List.List Row.Entry
 t5 = e0 ∷ e1 ∷ e2 ∷ e3 ∷ e4 ∷ e5 ∷ e6 ∷ e7·1 ∷ e8 ∷ e9·1 ∷ e10·1 ∷ e11 ∷ e12 ∷ e13 ∷ e14 ∷ e15 ∷ List.[]
+
 abbrev pub t6 : List.List Row.Entry
 t6 = e0 ∷ e1 ∷ e2 ∷ e3 ∷ e4 ∷ e5 ∷ e6 ∷ e7·1 ∷ e8 ∷ e9 ∷ e10·1 ∷ e11 ∷ e12 ∷ e13 ∷ e14 ∷ e15 ∷ List.[]
+
 abbrev pub t7 : List.List Row.Entry
 t7 = e16 ∷ e17 ∷ e18·1 ∷ e19 ∷ e20 ∷ e21 ∷ e22 ∷ e23 ∷ e24 ∷ e25 ∷ e26 ∷ e27 ∷ List.[]
+
 abbrev pub t8 : List.List Row.Entry
 t8 = e0 ∷ e1 ∷ e2 ∷ e3 ∷ e4 ∷ e5 ∷ e6·1 ∷ e7·1 ∷ e8·1 ∷ e9 ∷ e10·1 ∷ e11 ∷ e12 ∷ e13 ∷ e14 ∷ e15 ∷ List.[]
+
 abbrev pub t9 : List.List Row.Entry
 t9 = e0 ∷ e1 ∷ e2 ∷ e3 ∷ e4 ∷ e5 ∷ e6 ∷ e7·1 ∷ e8 ∷ e9 ∷ e10·1 ∷ e11·1 ∷ e12 ∷ e13 ∷ e14 ∷ e15 ∷ List.[]
+
 abbrev pub t10 : List.List Row.Entry
 t10 = e0 ∷ e1·1 ∷ e2 ∷ e3 ∷ e4 ∷ e5 ∷ e6 ∷ e7·1 ∷ e8 ∷ e9 ∷ e10·1 ∷ e11·1 ∷ e12 ∷ e13 ∷ e14 ∷ e15 ∷ List.[]
+
 abbrev pub t11 : List.List Row.Entry
 t11 = e16 ∷ e17 ∷ e18 ∷ e19·1 ∷ e20 ∷ e21 ∷ e22 ∷ e23 ∷ e24 ∷ e25 ∷ e26 ∷ e27 ∷ List.[]
+
 abbrev pub t12 : List.List Row.Entry
 t12 = e16 ∷ e17 ∷ e18 ∷ e19 ∷ e20·1 ∷ e21 ∷ e22 ∷ e23 ∷ e24 ∷ e25 ∷ e26 ∷ e27 ∷ List.[]
+
 abbrev pub t13 : List.List Row.Entry
 t13 = e0 ∷ e1·1 ∷ e2 ∷ e3 ∷ e4 ∷ e5 ∷ e6 ∷ e7·1 ∷ e8 ∷ e9 ∷ e10·1 ∷ e11·1 ∷ e12·1 ∷ e13 ∷ e14 ∷ e15 ∷ List.[]
+
 abbrev pub t14 : List.List Row.Entry
 t14 = e16 ∷ e17 ∷ e18 ∷ e19 ∷ e20·2 ∷ e21 ∷ e22 ∷ e23 ∷ e24 ∷ e25 ∷ e26 ∷ e27 ∷ List.[]
+
 abbrev pub t15 : List.List Row.Entry
 t15 = e0 ∷ e1·1 ∷ e2 ∷ e3 ∷ e4 ∷ e5 ∷ e6 ∷ e7·1 ∷ e8 ∷ e9 ∷ e10·1 ∷ e11 ∷ e12·1 ∷ e13 ∷ e14 ∷ e15 ∷ List.[]
+
 abbrev pub t16 : List.List Row.Entry
 t16 = e0 ∷ e1 ∷ e2 ∷ e3 ∷ e4 ∷ e5 ∷ e6 ∷ e7·1 ∷ e8 ∷ e9 ∷ e10·1 ∷ e11 ∷ e12·1 ∷ e13 ∷ e14 ∷ e15 ∷ List.[]
+
 abbrev pub t17 : List.List Row.Entry
 t17 = e0 ∷ e1 ∷ e2 ∷ e3 ∷ e4 ∷ e5 ∷ e6 ∷ e7·1 ∷ e8 ∷ e9 ∷ e10·1 ∷ e11 ∷ e12·1 ∷ e13·1 ∷ e14 ∷ e15 ∷ List.[]
+
 abbrev pub t18 : List.List Row.Entry
 t18 = e0 ∷ e1 ∷ e2 ∷ e3 ∷ e4 ∷ e5·1 ∷ e6 ∷ e7·1 ∷ e8 ∷ e9 ∷ e10·1 ∷ e11 ∷ e12·1 ∷ e13·1 ∷ e14 ∷ e15 ∷ List.[]
+
 abbrev pub t19 : List.List Row.Entry
 t19 = e0 ∷ e1 ∷ e2 ∷ e3 ∷ e4 ∷ e5·1 ∷ e6 ∷ e7·1 ∷ e8 ∷ e9 ∷ e10·1 ∷ e11 ∷ e12·1 ∷ e13·1 ∷ e14·1 ∷ e15 ∷ List.[]
+
 abbrev pub t20 : List.List Row.Entry
 t20 = e0 ∷ e1 ∷ e2 ∷ e3 ∷ e4·1 ∷ e5·1 ∷ e6 ∷ e7·1 ∷ e8 ∷ e9 ∷ e10·1 ∷ e11 ∷ e12·1 ∷ e13·1 ∷ e14·1 ∷ e15 ∷ List.[]
+
 abbrev pub t21 : List.List Row.Entry
 t21 = e0 ∷ e1 ∷ e2 ∷ e3 ∷ e4·1 ∷ e5·1 ∷ e6 ∷ e7·1 ∷ e8 ∷ e9 ∷ e10·1 ∷ e11 ∷ e12·1 ∷ e13·1 ∷ e14·1 ∷ e15·1 ∷ List.[]
+
 abbrev pub t22 : List.List Row.Entry
 t22 = e16·1 ∷ e17 ∷ e18 ∷ e19 ∷ e20 ∷ e21 ∷ e22 ∷ e23 ∷ e24 ∷ e25 ∷ e26 ∷ e27 ∷ List.[]
+
 abbrev pub t23 : List.List Row.Entry
 t23 = e0 ∷ e1 ∷ e2 ∷ e3 ∷ e4·1 ∷ e5·1 ∷ e6·1 ∷ e7·1 ∷ e8 ∷ e9 ∷ e10·1 ∷ e11 ∷ e12·1 ∷ e13·1 ∷ e14·1 ∷ e15·1 ∷ List.[]
+
 abbrev pub t24 : List.List Row.Entry
 t24 = e16·1 ∷ e17 ∷ e18 ∷ e19 ∷ e20 ∷ e21·1 ∷ e22 ∷ e23 ∷ e24 ∷ e25 ∷ e26 ∷ e27 ∷ List.[]
+
 abbrev pub t25 : List.List Row.Entry
 t25 = e16 ∷ e17 ∷ e18 ∷ e19 ∷ e20 ∷ e21·1 ∷ e22 ∷ e23 ∷ e24 ∷ e25 ∷ e26 ∷ e27 ∷ List.[]
+
 abbrev pub t26 : List.List Row.Entry
 t26 = e16 ∷ e17·1 ∷ e18 ∷ e19 ∷ e20 ∷ e21·1 ∷ e22 ∷ e23 ∷ e24 ∷ e25 ∷ e26 ∷ e27 ∷ List.[]
+
 abbrev pub t27 : List.List Row.Entry
 t27 = e16 ∷ e17·1 ∷ e18 ∷ e19 ∷ e20 ∷ e21 ∷ e22 ∷ e23 ∷ e24 ∷ e25 ∷ e26 ∷ e27 ∷ List.[]
+
 abbrev pub t28 : List.List Row.Entry
 t28 = e0 ∷ e1 ∷ e2·1 ∷ e3 ∷ e4·1 ∷ e5·1 ∷ e6·1 ∷ e7·1 ∷ e8 ∷ e9 ∷ e10·1 ∷ e11 ∷ e12·1 ∷ e13·1 ∷ e14·1 ∷ e15·1 ∷ List.[]
+
 abbrev pub t29 : List.List Row.Entry
 t29 = e16 ∷ e17·1 ∷ e18 ∷ e19 ∷ e20 ∷ e21 ∷ e22·1 ∷ e23 ∷ e24 ∷ e25 ∷ e26 ∷ e27 ∷ List.[]
+
 abbrev pub t30 : List.List Row.Entry
 t30 = e16 ∷ e17·1 ∷ e18 ∷ e19 ∷ e20 ∷ e21 ∷ e22 ∷ e23·1 ∷ e24 ∷ e25 ∷ e26 ∷ e27 ∷ List.[]
+
 abbrev pub t31 : List.List Row.Entry
-t31 = e0 ∷ e1 ∷ e2·1 ∷ e3·1 ∷ e4·1 ∷ e5·1 ∷ e6·1 ∷ e7·1 ∷ e8 ∷ e9 ∷ e10·1 ∷ e11 ∷ e12·1 ∷ e13·1 ∷ e14·1 ∷ e15·1 ∷ List.[]
+t31 = e0 ∷ e1 ∷ e2·1 ∷ e3·1 ∷ e4·1 ∷ e5·1 ∷ e6·1 ∷ e7·1 ∷ e8 ∷ e9 ∷ e10·1 ∷ e11 ∷ e12·1 ∷ e13·1 ∷ e14·1 ∷ e15·1 ∷
+    List.[]
+
 abbrev pub t32 : List.List Row.Entry
 t32 = e16 ∷ e17·1 ∷ e18 ∷ e19 ∷ e20 ∷ e21 ∷ e22 ∷ e23·1 ∷ e24·1 ∷ e25 ∷ e26 ∷ e27 ∷ List.[]
+
 abbrev pub t33 : List.List Row.Entry
 t33 = e16 ∷ e17·1 ∷ e18 ∷ e19 ∷ e20 ∷ e21 ∷ e22 ∷ e23·1 ∷ e24 ∷ e25·1 ∷ e26 ∷ e27 ∷ List.[]
+
 abbrev pub t34 : List.List Row.Entry
 t34 = e16 ∷ e17·2 ∷ e18 ∷ e19 ∷ e20 ∷ e21 ∷ e22 ∷ e23·1 ∷ e24 ∷ e25·1 ∷ e26·1 ∷ e27 ∷ List.[]
+
 abbrev pub t35 : List.List Row.Entry
 t35 = e16 ∷ e17·2 ∷ e18 ∷ e19 ∷ e20 ∷ e21 ∷ e22 ∷ e23·1 ∷ e24 ∷ e25·1 ∷ e26 ∷ e27·1 ∷ List.[]
+
 abbrev pub t36 : List.List Row.Entry
-t36 = e0·1 ∷ e1 ∷ e2·1 ∷ e3·1 ∷ e4·1 ∷ e5·1 ∷ e6·1 ∷ e7·1 ∷ e8 ∷ e9 ∷ e10·1 ∷ e11 ∷ e12·1 ∷ e13·1 ∷ e14·1 ∷ e15·1 ∷ List.[]
+t36 = e0·1 ∷ e1 ∷ e2·1 ∷ e3·1 ∷ e4·1 ∷ e5·1 ∷ e6·1 ∷ e7·1 ∷ e8 ∷ e9 ∷ e10·1 ∷ e11 ∷ e12·1 ∷ e13·1 ∷ e14·1 ∷ e15·1 ∷
+    List.[]
+
 abbrev pub t37 : List.List Row.Entry
 t37 = e16 ∷ e17·2 ∷ e18 ∷ e19 ∷ e20 ∷ e21 ∷ e22 ∷ e23·2 ∷ e24 ∷ e25·2 ∷ e26 ∷ e27·1 ∷ List.[]
+
 abbrev pub t38 : List.List Row.Entry
 t38 = e16 ∷ e17·2 ∷ e18 ∷ e19 ∷ e20 ∷ e21 ∷ e22 ∷ e23·2 ∷ e24 ∷ e25·2 ∷ e26 ∷ e27 ∷ List.[]
+
 abbrev pub t39 : List.List Row.Entry
-t39 = e0·1 ∷ e1 ∷ e2·1 ∷ e3·1 ∷ e4·1 ∷ e5·1 ∷ e6·1 ∷ e7·1 ∷ e8·1 ∷ e9 ∷ e10·1 ∷ e11 ∷ e12·1 ∷ e13·1 ∷ e14·1 ∷ e15·1 ∷ List.[]
+t39 = e0·1 ∷ e1 ∷ e2·1 ∷ e3·1 ∷ e4·1 ∷ e5·1 ∷ e6·1 ∷ e7·1 ∷ e8·1 ∷ e9 ∷ e10·1 ∷ e11 ∷ e12·1 ∷ e13·1 ∷ e14·1 ∷ e15·1 ∷
+    List.[]
+
 abbrev pub t40 : List.List Row.Entry
-t40 = e0·1 ∷ e1 ∷ e2·1 ∷ e3·1 ∷ e4·1 ∷ e5·1 ∷ e6·1 ∷ e7·1 ∷ e8·1 ∷ e9 ∷ e10 ∷ e11 ∷ e12·1 ∷ e13·1 ∷ e14·1 ∷ e15·1 ∷ List.[]
+t40 = e0·1 ∷ e1 ∷ e2·1 ∷ e3·1 ∷ e4·1 ∷ e5·1 ∷ e6·1 ∷ e7·1 ∷ e8·1 ∷ e9 ∷ e10 ∷ e11 ∷ e12·1 ∷ e13·1 ∷ e14·1 ∷ e15·1 ∷
+    List.[]
+
 abbrev pub t41 : List.List Row.Entry
-t41 = e0·1 ∷ e1 ∷ e2·1 ∷ e3·1 ∷ e4·1 ∷ e5·1 ∷ e6·1 ∷ e7·1 ∷ e8·1 ∷ e9 ∷ e10 ∷ e11 ∷ e12·1 ∷ e13 ∷ e14·1 ∷ e15·1 ∷ List.[]
+t41 = e0·1 ∷ e1 ∷ e2·1 ∷ e3·1 ∷ e4·1 ∷ e5·1 ∷ e6·1 ∷ e7·1 ∷ e8·1 ∷ e9 ∷ e10 ∷ e11 ∷ e12·1 ∷ e13 ∷ e14·1 ∷ e15·1 ∷
+    List.[]
+
 abbrev pub t42 : List.List Row.Entry
 t42 = e0·1 ∷ e1 ∷ e2·1 ∷ e3·1 ∷ e4·1 ∷ e5·1 ∷ e6·1 ∷ e7·1 ∷ e8·1 ∷ e9 ∷ e10 ∷ e11 ∷ e12·1 ∷ e13 ∷ e14 ∷ e15·1 ∷ List.[]
+
 abbrev pub t43 : List.List Row.Entry
 t43 = e0·1 ∷ e1 ∷ e2·1 ∷ e3·1 ∷ e4·1 ∷ e5·1 ∷ e6·1 ∷ e7·1 ∷ e8·1 ∷ e9 ∷ e10 ∷ e11 ∷ e12·1 ∷ e13 ∷ e14 ∷ e15 ∷ List.[]
+
 abbrev pub t44 : List.List Row.Entry
 t44 = e0·1 ∷ e1 ∷ e2 ∷ e3·1 ∷ e4·1 ∷ e5·1 ∷ e6·1 ∷ e7·1 ∷ e8·1 ∷ e9 ∷ e10 ∷ e11 ∷ e12·1 ∷ e13 ∷ e14 ∷ e15 ∷ List.[]
+
 abbrev pub t45 : List.List Row.Entry
 t45 = e16 ∷ e17·2 ∷ e18 ∷ e19 ∷ e20 ∷ e21 ∷ e22 ∷ e23 ∷ e24 ∷ e25·2 ∷ e26 ∷ e27 ∷ List.[]
+
 abbrev pub t46 : List.List Row.Entry
 t46 = e0·1 ∷ e1 ∷ e2 ∷ e3 ∷ e4·1 ∷ e5·1 ∷ e6·1 ∷ e7·1 ∷ e8·1 ∷ e9 ∷ e10 ∷ e11 ∷ e12·1 ∷ e13 ∷ e14 ∷ e15 ∷ List.[]
+
 abbrev pub t47 : List.List Row.Entry
 t47 = e16 ∷ e17·2 ∷ e18 ∷ e19 ∷ e20 ∷ e21 ∷ e22 ∷ e23 ∷ e24 ∷ e25 ∷ e26 ∷ e27 ∷ List.[]
+
 abbrev pub t48 : List.List Row.Entry
 t48 = e0 ∷ e1 ∷ e2 ∷ e3 ∷ e4 ∷ e5 ∷ e6·1 ∷ e7·1 ∷ e8 ∷ e9 ∷ e10·1 ∷ e11 ∷ e12 ∷ e13 ∷ e14 ∷ e15 ∷ List.[]
+
 abbrev pub t49 : List.List Row.Entry
 t49 = e0·1 ∷ e1 ∷ e2 ∷ e3 ∷ e4 ∷ e5 ∷ e6·1 ∷ e7·1 ∷ e8·1 ∷ e9 ∷ e10·1 ∷ e11 ∷ e12 ∷ e13 ∷ e14 ∷ e15 ∷ List.[]
+
 abbrev pub t50 : List.List Row.Entry
 t50 = e0·1 ∷ e1 ∷ e2 ∷ e3 ∷ e4·1 ∷ e5 ∷ e6·1 ∷ e7·1 ∷ e8·1 ∷ e9 ∷ e10·1 ∷ e11 ∷ e12 ∷ e13 ∷ e14 ∷ e15 ∷ List.[]
+
 abbrev pub t51 : List.List Row.Entry
 t51 = e0·1 ∷ e1 ∷ e2 ∷ e3 ∷ e4·1 ∷ e5·1 ∷ e6·1 ∷ e7·1 ∷ e8·1 ∷ e9 ∷ e10·1 ∷ e11 ∷ e12 ∷ e13 ∷ e14 ∷ e15 ∷ List.[]
+
 abbrev pub T0 : Row.Cx
 T0 = record { locals = List._++_ t0 t1; slots = List.[] }
+
 abbrev pub T1 : Row.Cx
 T1 = record { locals = List._++_ t2 t1; slots = List.[] }
+
 abbrev pub T2 : Row.Cx
 T2 = record { locals = List._++_ t0 t1; slots = List.[] }
+
 abbrev pub T3 : Row.Cx
 T3 = record { locals = List._++_ t3 t1; slots = List.[] }
+
 abbrev pub T4 : Row.Cx
 T4 = record { locals = List._++_ t4 t1; slots = List.[] }
+
 abbrev pub T5 : Row.Cx
 T5 = record { locals = List._++_ t5 t1; slots = List.[] }
+
 abbrev pub T6 : Row.Cx
 T6 = record { locals = List._++_ t6 t1; slots = List.[] }
+
 abbrev pub T7 : Row.Cx
 T7 = record { locals = List._++_ t6 t7; slots = List.[] }
+
 abbrev pub T8 : Row.Cx
 T8 = record { locals = List._++_ t8 t1; slots = List.[] }
+
 abbrev pub T9 : Row.Cx
 T9 = record { locals = List._++_ t6 t1; slots = List.[] }
+
 abbrev pub T10 : Row.Cx
 T10 = record { locals = List._++_ t9 t1; slots = List.[] }
+
 abbrev pub T12 : Row.Cx
 T12 = record { locals = List._++_ t10 t11; slots = List.[] }
+
 abbrev pub T13 : Row.Cx
 T13 = record { locals = List._++_ t10 t12; slots = List.[] }
+
 abbrev pub T14 : Row.Cx
 T14 = record { locals = List._++_ t13 t14; slots = List.[] }
+
 abbrev pub T15 : Row.Cx
 T15 = record { locals = List._++_ t15 t14; slots = List.[] }
+
 abbrev pub T17 : Row.Cx
 T17 = record { locals = List._++_ t16 t1; slots = List.[] }
+
 abbrev pub T19 : Row.Cx
 T19 = record { locals = List._++_ t17 t1; slots = List.[] }
+
 abbrev pub T20 : Row.Cx
 T20 = record { locals = List._++_ t18 t1; slots = List.[] }
+
 abbrev pub T21 : Row.Cx
 T21 = record { locals = List._++_ t19 t1; slots = List.[] }
+
 abbrev pub T22 : Row.Cx
 T22 = record { locals = List._++_ t20 t1; slots = List.[] }
+
 abbrev pub T23 : Row.Cx
 T23 = record { locals = List._++_ t21 t1; slots = List.[] }
+
 abbrev pub T24 : Row.Cx
 T24 = record { locals = List._++_ t21 t22; slots = List.[] }
+
 abbrev pub T25 : Row.Cx
 T25 = record { locals = List._++_ t23 t22; slots = List.[] }
+
 abbrev pub T26 : Row.Cx
 T26 = record { locals = List._++_ t23 t24; slots = List.[] }
+
 abbrev pub T27 : Row.Cx
 T27 = record { locals = List._++_ t23 t25; slots = List.[] }
+
 abbrev pub T28 : Row.Cx
 T28 = record { locals = List._++_ t23 t26; slots = List.[] }
+
 abbrev pub T29 : Row.Cx
 T29 = record { locals = List._++_ t23 t27; slots = List.[] }
+
 abbrev pub T31 : Row.Cx
 T31 = record { locals = List._++_ t28 t29; slots = List.[] }
+
 abbrev pub T32 : Row.Cx
 T32 = record { locals = List._++_ t28 t30; slots = List.[] }
+
 abbrev pub T34 : Row.Cx
 T34 = record { locals = List._++_ t31 t32; slots = List.[] }
+
 abbrev pub T35 : Row.Cx
 T35 = record { locals = List._++_ t31 t33; slots = List.[] }
+
 abbrev pub T37 : Row.Cx
 T37 = record { locals = List._++_ t31 t34; slots = List.[] }
+
 abbrev pub T38 : Row.Cx
 T38 = record { locals = List._++_ t31 t35; slots = List.[] }
+
 abbrev pub T39 : Row.Cx
 T39 = record { locals = List._++_ t36 t37; slots = List.[] }
+
 abbrev pub T40 : Row.Cx
 T40 = record { locals = List._++_ t36 t38; slots = List.[] }
+
 abbrev pub T41 : Row.Cx
 T41 = record { locals = List._++_ t39 t38; slots = List.[] }
+
 abbrev pub T42 : Row.Cx
 T42 = record { locals = List._++_ t40 t38; slots = List.[] }
+
 abbrev pub T43 : Row.Cx
 T43 = record { locals = List._++_ t41 t38; slots = List.[] }
+
 abbrev pub T44 : Row.Cx
 T44 = record { locals = List._++_ t42 t38; slots = List.[] }
+
 abbrev pub T45 : Row.Cx
 T45 = record { locals = List._++_ t43 t38; slots = List.[] }
+
 abbrev pub T47 : Row.Cx
 T47 = record { locals = List._++_ t44 t45; slots = List.[] }
+
 abbrev pub T50 : Row.Cx
 T50 = record { locals = List._++_ t46 t47; slots = List.[] }
+
 abbrev pub T51 : Row.Cx
 T51 = record { locals = List._++_ t46 t47; slots = List.[] }
+
 abbrev pub T54 : Row.Cx
 T54 = record { locals = List._++_ t46 t27; slots = List.[] }
+
 abbrev pub T56 : Row.Cx
 T56 = record { locals = List._++_ t46 t1; slots = List.[] }
+
 abbrev pub T57 : Row.Cx
 T57 = record { locals = List._++_ t2 t1; slots = List.[] }
+
 abbrev pub T58 : Row.Cx
 T58 = record { locals = List._++_ t48 t7; slots = List.[] }
+
 abbrev pub T59 : Row.Cx
 T59 = record { locals = List._++_ t8 t7; slots = List.[] }
+
 abbrev pub T60 : Row.Cx
 T60 = record { locals = List._++_ t8 t1; slots = List.[] }
+
 abbrev pub T61 : Row.Cx
 T61 = record { locals = List._++_ t49 t1; slots = List.[] }
+
 abbrev pub T62 : Row.Cx
 T62 = record { locals = List._++_ t50 t1; slots = List.[] }
+
 abbrev pub T63 : Row.Cx
 T63 = record { locals = List._++_ t51 t1; slots = List.[] }
+
 abbrev pub T64 : Row.Cx
 T64 = record { locals = List._++_ t2 t1; slots = List.[] }
+
 abbrev pub O0 : Typed.Outs
 O0 = record { next = Option.none; exits = List.[]; returns = Option.some T1 }
+
 abbrev pub O1 : Typed.Outs
 O1 = Typed.withNext (Option.some T8) O0
+
 module _ (claims· : Claims) where
   abbrev s0 : (bs : List.List Nat.ℕ) → Typed.Gives T0 T2
   s0 = λ bs. Know.k-sl-known (Referent.fInt Syntax.w32) T0 3 2 ref7 Row.off 0 λ x. x
+
   abbrev s1 : (bs : List.List Nat.ℕ) → Typed.Both T2 T3
-  s1 = λ bs. WayStmt.k-way-copy-out T2 (Row.out 6 (T2 .locals)) (λ u. Row.drop 6 (T2 .locals) u) 9 (Rows'.whole (Declared'.row RelayTicket.the-type))
-      (λ u. At.getAt (OpenPlan.the-type .parts) 4 (OpenPlan.struct .as-values (u .1 .1 .1 .1 .1 .1 .0))) (λ T′. record { locals = Row.setRow 6 (6,
-      Rows'.whole (Declared'.row OpenPlan.the-type)) T′; slots = List.[]; }) (λ u T′ m′. Row.set 6 (6, Rows'.whole (Declared'.row OpenPlan.the-type))
-      (u .1 .1 .1 .1 .1 .1 .0) T′ m′) (λ u. Unit) λ u. Unit
+  s1 = λ bs. WayStmt.k-way-copy-out T2 (Row.out 6 (T2 .locals)) (λ u. Row.drop 6 (T2 .locals) u) 9
+      (Rows'.whole (Declared'.row RelayTicket.the-type)) (λ u. At.getAt (OpenPlan.the-type .parts) 4
+      (OpenPlan.struct .as-values (u .1 .1 .1 .1 .1 .1 .0))) (λ T′.
+      record { locals = Row.setRow 6 (6, Rows'.whole (Declared'.row OpenPlan.the-type)) T′; slots = List.[] }) (λ u T′
+      m′. Row.set 6 (6, Rows'.whole (Declared'.row OpenPlan.the-type)) (u .1 .1 .1 .1 .1 .1 .0) T′ m′) (λ u. Unit) λ u.
+      Unit
+
   abbrev s2 : (bs : List.List Nat.ℕ) → Typed.Both T3 T4
-  s2 = λ bs. Call.callB ps·0 r·0 (claims· .0) (claims· .1) T3 (record { pos = 9; st = List.[]; d = 0; at = λ x. x }, (record { pos = 7; st = List.[];
-      d = 0; at = λ x. x }, tt),) 10 List.[] Laws'.mir
+  s2 = λ bs. Call.callB ps·0 r·0 (claims· .0) (claims· .1) T3 (
+    record { pos = 9; st = List.[]; d = 0; at = λ x. x },
+    (record { pos = 7; st = List.[]; d = 0; at = λ x. x }, tt),
+  ) 10 List.[] Laws'.mir
+
   abbrev s3 : (bs : List.List Nat.ℕ) → Typed.Mo T4 → Typed.Mo T5
   s3 = λ bs. Scalar.n-room T4 7 ReservationUsage.ty
+
   abbrev s4 : (bs : List.List Nat.ℕ) → Typed.Mo T5 → Typed.Mo T6
   s4 = λ bs. Scalar.n-room T5 9 Laws''''''.mir
+
   abbrev s5 : (bs : List.List Nat.ℕ) → Typed.Both T6 T7
-  s5 = λ bs. Call.callB ps·1 r·1 (claims· .2) (claims· .3) T6 (record { pos = 10; st = List.[]; d = 0; at = λ x. x }, tt,) 18 List.[] Syntax.tyBool
+  s5 = λ bs. Call.callB ps·1 r·1 (claims· .2) (claims· .3) T6
+      (record { pos = 10; st = List.[]; d = 0; at = λ x. x }, tt) 18 List.[] Syntax.tyBool
+
   abbrev s6 : (bs : List.List Nat.ℕ) → Typed.Mo T7 → Typed.Mo T9
   s6 = λ bs. Scalar.n-room T7 18 Syntax.tyBool
+
   abbrev s7 : (bs : List.List Nat.ℕ) → Typed.Both T9 T10
-  s7 = λ bs. Call.callB ps·2 r·2 (claims· .4) (claims· .5) T9 (record { pos = 6; st = List.[]; d = 0; at = λ x. x }, tt,) 11 List.[] RelayPending.ty
+  s7 = λ bs. Call.callB ps·2 r·2 (claims· .4) (claims· .5) T9
+      (record { pos = 6; st = List.[]; d = 0; at = λ x. x }, tt) 11 List.[] RelayPending.ty
+
   abbrev s9 : (bs : List.List Nat.ℕ) → Typed.Gives T10 T12
   s9 = λ bs. Relend.k-sl-relend RelayPending.row T10 1 19 0 3 ref5 ref0 Row.off λ x. x
+
   abbrev s10 : (bs : List.List Nat.ℕ) → Typed.Asks T12 T13
-  s10 = λ bs. Relend.k-sl-aggregate RelayPending.row (Relend.asMut RelayPending.row) T12 19 20 3 ref0 ref0 (λ x. x) (Scalar.oFld 1 ((Syntax.field 1) ∷
-      List.[]) (Syntax.tyInt Syntax.w64) 8 λ v. Shared.lenV (v .0))
+  s10 = λ bs. Relend.k-sl-aggregate RelayPending.row (Relend.asMut RelayPending.row) T12 19 20 3 ref0 ref0 (λ x. x) (Scalar.oFld
+      1 ((Syntax.field 1) ∷ List.[]) (Syntax.tyInt Syntax.w64) 8 λ v. Shared.lenV (v .0))
+
   abbrev s11 : (bs : List.List Nat.ℕ) → Typed.Both T13 T14
-  s11 = λ bs. Call.callB ps·3 r·3 (claims· .6) (claims· .7) T13 (record { pos = 20; ty = Syntax.tyRef Syntax.erased Syntax.mut RelayPending.to; ref =
-      λ x. x; }, (record { pos = 5; st = List.[]; d = 0; at = λ x. x }, (record { pos = 11; st = List.[]; d = 0; at = λ x. x }, tt),),) 12 (3 ∷
-      List.[]) (Syntax.tyInt Syntax.w64)
+  s11 = λ bs. Call.callB ps·3 r·3 (claims· .6) (claims· .7) T13 (
+    record { pos = 20; ty = ref0; ref = λ x. x },
+    (
+      record { pos = 5; st = List.[]; d = 0; at = λ x. x },
+      (record { pos = 11; st = List.[]; d = 0; at = λ x. x }, tt),
+    ),
+  ) 12 (3 ∷ List.[]) (Syntax.tyInt Syntax.w64)
+
   abbrev s12 : (bs : List.List Nat.ℕ) → Typed.Mo T14 → Typed.Mo T15
   s12 = λ bs. Scalar.n-room T14 11 RelayPending.ty
+
   abbrev s14 : (bs : List.List Nat.ℕ) → Typed.Both T15 T17
   s14 = λ bs. Relend.k-back-sl RelayPending.row T15 20 1 0 3 ref5 ref0 Row.off (λ x. x) λ x. x
+
   abbrev s16 : (bs : List.List Nat.ℕ) → Typed.Both T17 T19
-  s16 = λ bs. Call.callB ps·4 r·4 (claims· .8) (claims· .9) T17 (record { pos = 5; st = List.[]; d = 0; at = λ x. x }, (Num.vAt 12 λ x. x, tt),) 13
-      List.[] Laws'''.mir
+  s16 = λ bs. Call.callB ps·4 r·4 (claims· .8) (claims· .9) T17 (
+    record { pos = 5; st = List.[]; d = 0; at = λ x. x },
+    (Num.vAt 12 λ x. x, tt),
+  ) 13 List.[] Laws'''.mir
+
   abbrev s17 : (bs : List.List Nat.ℕ) → Typed.Mo T19 → Typed.Mo T20
   s17 = λ bs. Scalar.n-room T19 5 Laws'''.mir
+
   abbrev s18 : (bs : List.List Nat.ℕ) → Typed.Both T20 T21
-  s18 = λ bs. Call.callB ps·5 r·5 (claims· .10) (claims· .11) T20 (Bool.bLit Bool'.true, (record { pos = 4; st = List.[]; d = 0; at = λ x. x }, tt),)
-      14 List.[] Laws'''''''.mir
+  s18 = λ bs. Call.callB ps·5 r·5 (claims· .10) (claims· .11) T20 (
+    Bool.bLit Bool'.true,
+    (record { pos = 4; st = List.[]; d = 0; at = λ x. x }, tt),
+  ) 14 List.[] Laws'''''''.mir
+
   abbrev s19 : (bs : List.List Nat.ℕ) → Typed.Mo T21 → Typed.Mo T22
   s19 = λ bs. Scalar.n-room T21 4 Laws'''''''.mir
+
   abbrev s20 : (bs : List.List Nat.ℕ) → Typed.Both T22 T23
-  s20 = λ bs. Call.callB ps·6 r·6 (claims· .12) (claims· .13) T22 (record { pos = 6; st = List.[]; d = 0; at = λ x. x }, tt,) 15 List.[] Laws'''''.mir
+  s20 = λ bs. Call.callB ps·6 r·6 (claims· .12) (claims· .13) T22
+      (record { pos = 6; st = List.[]; d = 0; at = λ x. x }, tt) 15 List.[] Laws'''''.mir
+
   abbrev s21 : (bs : List.List Nat.ℕ) → Typed.Both T23 T24
-  s21 = λ bs. Call.callB ps·7 r·7 (claims· .14) (claims· .15) T23 (record { pos = 6; st = List.[]; d = 0; at = λ x. x }, tt,) 16 List.[] Laws.mir
+  s21 = λ bs. Call.callB ps·7 r·7 (claims· .14) (claims· .15) T23
+      (record { pos = 6; st = List.[]; d = 0; at = λ x. x }, tt) 16 List.[] Laws.mir
+
   abbrev s22 : (bs : List.List Nat.ℕ) → Typed.Mo T24 → Typed.Mo T25
   s22 = λ bs. Scalar.n-room T24 6 Laws''.mir
+
   abbrev s23 : (bs : List.List Nat.ℕ) → Typed.Both T25 T26
-  s23 = λ bs. Call.callB ps·8 r·8 (claims· .16) (claims· .17) T25 (record { pos = 16; st = List.[]; d = 0; at = λ x. x }, tt,) 21 List.[]
+  s23 = λ bs. Call.callB ps·8 r·8 (claims· .16) (claims· .17) T25
+      (record { pos = 16; st = List.[]; d = 0; at = λ x. x }, tt) 21 List.[]
       (Syntax.tyArray (Syntax.tyInt Syntax.w8) 62)
+
   abbrev s24 : (bs : List.List Nat.ℕ) → Typed.Mo T26 → Typed.Mo T27
   s24 = λ bs. Scalar.n-room T26 16 Laws.mir
+
   abbrev s25 : (bs : List.List Nat.ℕ) → Typed.Mo T27 → Typed.Mo T28
-  s25 = λ bs. LocalCopy.n-val-copy T27 21 17 (Array'.Array (Referent.rtF (Referent.fInt Syntax.w8)) 62) (Rows.arrF (Referent.rtF (Referent.fInt
-      Syntax.w8)) 62 0) (Rows.arrF (Referent.rtF (Referent.fInt Syntax.w8)) 62 0) (λ x. x) (λ x. x) λ x. x
+  s25 = λ bs. LocalCopy.n-val-copy T27 21 17 (Array'.Array (Referent.rtF (Referent.fInt Syntax.w8)) 62)
+      (Rows.arrF (Referent.rtF (Referent.fInt Syntax.w8)) 62 0)
+      (Rows.arrF (Referent.rtF (Referent.fInt Syntax.w8)) 62 0) (λ x. x) (λ x. x) λ x. x
+
   abbrev s26 : (bs : List.List Nat.ℕ) → Typed.Mo T28 → Typed.Mo T29
   s26 = λ bs. Scalar.n-room T28 21 (Syntax.tyArray (Syntax.tyInt Syntax.w8) 62)
+
   abbrev s28 : (bs : List.List Nat.ℕ) → Typed.Gives T29 T31
   s28 = λ bs. Relend.k-sl-relend InflightAction.row T29 2 22 1 4 ref6 ref1 Row.off λ x. x
+
   abbrev s29 : (bs : List.List Nat.ℕ) → Typed.Asks T31 T32
-  s29 = λ bs. Relend.k-sl-aggregate InflightAction.row (Relend.asMut InflightAction.row) T31 22 23 4 ref1 ref1 (λ x. x) (Scalar.oFld 2 ((Syntax.field
-      1) ∷ List.[]) (Syntax.tyInt Syntax.w64) 8 λ v. Shared.lenV (v .0))
+  s29 = λ bs. Relend.k-sl-aggregate InflightAction.row (Relend.asMut InflightAction.row) T31 22 23 4 ref1 ref1 (λ x. x) (Scalar.oFld
+      2 ((Syntax.field 1) ∷ List.[]) (Syntax.tyInt Syntax.w64) 8 λ v. Shared.lenV (v .0))
+
   abbrev s31 : (bs : List.List Nat.ℕ) → Typed.Gives T32 T34
   s31 = λ bs. Relend.k-sl-relend (Referent.rtF (Referent.fInt Syntax.w32)) T32 3 24 2 5 ref7 ref2 Row.off λ x. x
+
   abbrev s32 : (bs : List.List Nat.ℕ) → Typed.Asks T34 T35
-  s32 = λ bs. Relend.k-sl-aggregate (Referent.rtF (Referent.fInt Syntax.w32)) (Relend.asMut (Referent.rtF (Referent.fInt Syntax.w32))) T34 24 25 5
-      ref2 ref2 (λ x. x) (Scalar.oFld 3 ((Syntax.field 1) ∷ List.[]) (Syntax.tyInt Syntax.w64) 8 λ v. Shared.lenV (v .0))
+  s32 = λ bs. Relend.k-sl-aggregate (Referent.rtF (Referent.fInt Syntax.w32))
+      (Relend.asMut (Referent.rtF (Referent.fInt Syntax.w32))) T34 24 25 5 ref2 ref2 (λ x. x) (Scalar.oFld 3
+      ((Syntax.field 1) ∷ List.[]) (Syntax.tyInt Syntax.w64) 8 λ v. Shared.lenV (v .0))
+
   abbrev s34 : (bs : List.List Nat.ℕ) → Typed.Gives T35 T37
   s34 = λ bs. Share.k-arr-share (Referent.rtF (Referent.fInt Syntax.w8)) T35 17 26 62 6 ref3 λ x. x
+
   abbrev s35 : (bs : List.List Nat.ℕ) → Typed.Asks T37 T38
-  s35 = λ bs. Relend.k-sl-aggregate (Referent.rtF (Referent.fInt Syntax.w8)) (Relend.asShr (Referent.rtF (Referent.fInt Syntax.w8))) T37 26 27 6 ref3
-      ref4 (λ x. x) (Scalar.oInt Syntax.w64 62)
+  s35 = λ bs. Relend.k-sl-aggregate (Referent.rtF (Referent.fInt Syntax.w8))
+      (Relend.asShr (Referent.rtF (Referent.fInt Syntax.w8))) T37 26 27 6 ref3 ref4 (λ x. x)
+      (Scalar.oInt Syntax.w64 62)
+
   abbrev s36 : (bs : List.List Nat.ℕ) → Typed.Both T38 T39
-  s36 = λ bs. Call.callB ps·9 r·9 (claims· .18) (claims· .19) T38 (record { pos = 23; ty = Syntax.tyRef Syntax.erased Syntax.mut InflightAction.to;
-      ref = λ x. x; }, (record { pos = 25; ty = Syntax.tyRef Syntax.erased Syntax.mut (Syntax.tyInt Syntax.w32); ref = λ x. x; }, (record { pos = 10;
-      st = List.[]; d = 0; at = λ x. x }, (record { pos = 14; st = List.[]; d = 0; at = λ x. x }, (record { pos = 13; st = List.[]; d = 0; at = λ x. x
-      }, (record { pos = 15; st = List.[]; d = 0; at = λ x. x }, (record { pos = 8; st = List.[]; d = 0; at = λ x. x }, (record { pos = 27; ty =
-      Syntax.tyRef Syntax.erased Syntax.imm (Syntax.tyInt Syntax.w8); ref = λ x. x; }, tt,),),),),),),),) 0 (4 ∷ 5 ∷ 6 ∷ List.[]) Laws''''''''.mir
+  s36 = λ bs. Call.callB ps·9 r·9 (claims· .18) (claims· .19) T38 (
+    record { pos = 23; ty = ref1; ref = λ x. x },
+    (
+      record { pos = 25; ty = ref2; ref = λ x. x },
+      (
+        record { pos = 10; st = List.[]; d = 0; at = λ x. x },
+        (
+          record { pos = 14; st = List.[]; d = 0; at = λ x. x },
+          (
+            record { pos = 13; st = List.[]; d = 0; at = λ x. x },
+            (
+              record { pos = 15; st = List.[]; d = 0; at = λ x. x },
+              (
+                record { pos = 8; st = List.[]; d = 0; at = λ x. x },
+                (record { pos = 27; ty = ref4; ref = λ x. x }, tt),
+              ),
+            ),
+          ),
+        ),
+      ),
+    ),
+  ) 0 (4 ∷ 5 ∷ 6 ∷ List.[]) Laws''''''''.mir
+
   abbrev s37 : (bs : List.List Nat.ℕ) → Typed.Mo T39 → Typed.Mo T40
-  s37 = λ bs. Scalar.n-room T39 27 (Syntax.tyStruct (38 ∷ 91 ∷ 93 ∷ List.[]) (Syntax.tcons ref4 (Syntax.tcons (Syntax.tyInt Syntax.w64) Syntax.tnil)))
+  s37 = λ bs. Scalar.n-room T39 27 slice4
+
   abbrev s38 : (bs : List.List Nat.ℕ) → Typed.Mo T40 → Typed.Mo T41
   s38 = λ bs. Scalar.n-room T40 8 Laws''''.mir
+
   abbrev s39 : (bs : List.List Nat.ℕ) → Typed.Mo T41 → Typed.Mo T42
   s39 = λ bs. Scalar.n-room T41 10 Laws'.mir
+
   abbrev s40 : (bs : List.List Nat.ℕ) → Typed.Mo T42 → Typed.Mo T43
   s40 = λ bs. Scalar.n-room T42 13 Laws'''.mir
+
   abbrev s41 : (bs : List.List Nat.ℕ) → Typed.Mo T43 → Typed.Mo T44
   s41 = λ bs. Scalar.n-room T43 14 Laws'''''''.mir
+
   abbrev s42 : (bs : List.List Nat.ℕ) → Typed.Mo T44 → Typed.Mo T45
   s42 = λ bs. Scalar.n-room T44 15 Laws'''''.mir
+
   abbrev s44 : (bs : List.List Nat.ℕ) → Typed.Both T45 T47
   s44 = λ bs. Relend.k-back-sl InflightAction.row T45 23 2 1 4 ref6 ref1 Row.off (λ x. x) λ x. x
+
   abbrev s47 : (bs : List.List Nat.ℕ) → Typed.Both T47 T50
   s47 = λ bs. Relend.k-back-sl (Referent.rtF (Referent.fInt Syntax.w32)) T47 25 3 2 5 ref7 ref2 Row.off (λ x. x) λ x. x
+
   abbrev s48 : (bs : List.List Nat.ℕ) → Typed.Gives T50 T51
   s48 = λ bs. Know.k-sl-known (Referent.fInt Syntax.w32) T50 3 2 ref7 Row.off 0 λ x. x
+
   abbrev s51 : (bs : List.List Nat.ℕ) → Typed.Mo T51 → Typed.Mo T54
   s51 = λ bs. Share.n-back-arr-shr (Referent.rtF (Referent.fInt Syntax.w8)) T51 17 62 6 λ x. x
+
   abbrev s53 : (bs : List.List Nat.ℕ) → Typed.Mo T54 → Typed.Mo T56
   s53 = λ bs. Scalar.n-room T54 17 (Syntax.tyArray (Syntax.tyInt Syntax.w8) 62)
+
   abbrev s54 : (bs : List.List Nat.ℕ) → Typed.Mo T56 → Typed.Mo T57
   s54 = λ bs. Scalar.n-room T56 12 (Syntax.tyInt Syntax.w64)
+
   abbrev s55 : (bs : List.List Nat.ℕ) → Typed.Mo T7 → Typed.Mo T58
   s55 = λ bs. Scalar.n-room T7 6 Laws''.mir
+
   abbrev s56 : (bs : List.List Nat.ℕ) → Typed.Mo T58 → Typed.Mo T59
   s56 = λ bs. Scalar.n-room T58 8 Laws''''.mir
+
   abbrev s57 : (bs : List.List Nat.ℕ) → Typed.Mo T59 → Typed.Mo T60
   s57 = λ bs. Scalar.n-room T59 18 Syntax.tyBool
+
   abbrev s58 : (bs : List.List Nat.ℕ) → Typed.Both T8 T61
-  s58 = λ bs. Call.callB ps·10 r·10 (claims· .20) (claims· .21) T8 (record { pos = 4; st = List.[]; d = 0; at = λ x. x }, (record { pos = 5; st =
-      List.[]; d = 0; at = λ x. x }, (record { pos = 10; st = List.[]; d = 0; at = λ x. x }, tt),),) 0 List.[] Laws''''''''.mir
+  s58 = λ bs. Call.callB ps·10 r·10 (claims· .20) (claims· .21) T8 (
+    record { pos = 4; st = List.[]; d = 0; at = λ x. x },
+    (
+      record { pos = 5; st = List.[]; d = 0; at = λ x. x },
+      (record { pos = 10; st = List.[]; d = 0; at = λ x. x }, tt),
+    ),
+  ) 0 List.[] Laws''''''''.mir
+
   abbrev s59 : (bs : List.List Nat.ℕ) → Typed.Mo T61 → Typed.Mo T62
   s59 = λ bs. Scalar.n-room T61 4 Laws'''''''.mir
+
   abbrev s60 : (bs : List.List Nat.ℕ) → Typed.Mo T62 → Typed.Mo T63
   s60 = λ bs. Scalar.n-room T62 5 Laws'''.mir
+
   abbrev s61 : (bs : List.List Nat.ℕ) → Typed.Mo T63 → Typed.Mo T64
   s61 = λ bs. Scalar.n-room T63 10 Laws'.mir
-  module _ (Pre· : (κs : Lifetimes.Lfts 3) → Kinds.Dens κs ps → Type 0) (Post· : (κs : Lifetimes.Lfts 3) → (a : Kinds.Dens κs ps) → Kinds.Plain 3 ps r
-      κs) where
+
+  module _ (Pre· : (κs : Lifetimes.Lfts 3) → Kinds.Dens κs ps → Type 0) (Post· : (κs : Lifetimes.Lfts 3) →
+      (a : Kinds.Dens κs ps) → Kinds.Plain 3 ps r κs) where
     module _ (M : Type 1) where
       abbrev pub Closed : Type 2
-      Closed = (𝓤 : URA.URA M) (H : Wp.Heap 𝓤) (A : Atoms.Atoms 𝓤) (W : Kit.Given 𝓤 H A) (𝓣 : Wp.Tables 𝓤 H) (known0 : Plain.Known 𝓤 H A W 𝓣 0 ps·0
-          r·0 (claims· .0) (claims· .1) "hnsr_circuit::ledger::usage_answer") (known1 : Plain.Known 𝓤 H A W 𝓣 0 ps·1 r·1 (claims· .2) (claims· .3)
-          "hnsr_circuit::answer::is_taken") (known2 : Plain.Known 𝓤 H A W 𝓣 0 ps·2 r·2 (claims· .4) (claims· .5) "hnsr_circuit::open::pending_for")
-          (known3 : Plain.Known 𝓤 H A W 𝓣 1 ps·3 r·3 (claims· .6) (claims· .7) "hnsr_circuit::handle_open::put_pending") (known4 : Plain.Known 𝓤 H A W
-          𝓣 0 ps·4 r·4 (claims· .8) (claims· .9) "hnsr_circuit::places::with_pending") (known5 : Plain.Known 𝓤 H A W 𝓣 0 ps·5 r·5 (claims· .10)
-          (claims· .11) "hnsr_circuit::header::opened") (known6 : Plain.Known 𝓤 H A W 𝓣 0 ps·6 r·6 (claims· .12) (claims· .13)
-          "hnsr_circuit::open::incoming_out") (known7 : Plain.Known 𝓤 H A W 𝓣 0 ps·7 r·7 (claims· .14) (claims· .15)
-          "hnsr_circuit::open::incoming_for") (known8 : Plain.Known 𝓤 H A W 𝓣 0 ps·8 r·8 (claims· .16) (claims· .17)
-          "hnsr_body::incoming_body::IncomingBody::to_bytes") (known9 : Plain.Known 𝓤 H A W 𝓣 3 ps·9 r·9 (claims· .18) (claims· .19)
-          "hnsr_circuit::queue::send") (known10 : Plain.Known 𝓤 H A W 𝓣 0 ps·10 r·10 (claims· .20) (claims· .21)
-          "hnsr_circuit::revoking_calls::refused") → Statement.Triple 𝓤 (Wp.WpFn 𝓤 H (𝓣 .C) (𝓣 .Λ) (Function.fnOf 3 ps r xs m hs body))
-          (Function.plainOf 𝓤 H A 3 ps r Pre· Post·)
+      Closed = (𝓤 : URA.URA M) (H : Wp.Heap 𝓤) (A : Atoms.Atoms 𝓤) (W : Kit.Given 𝓤 H A) (𝓣 : Wp.Tables 𝓤 H) (known0 :
+          Plain.Known 𝓤 H A W 𝓣 0 ps·0 r·0 (claims· .0) (claims· .1) "hnsr_circuit::ledger::usage_answer") (known1 :
+          Plain.Known 𝓤 H A W 𝓣 0 ps·1 r·1 (claims· .2) (claims· .3) "hnsr_circuit::answer::is_taken") (known2 :
+          Plain.Known 𝓤 H A W 𝓣 0 ps·2 r·2 (claims· .4) (claims· .5) "hnsr_circuit::open::pending_for") (known3 :
+          Plain.Known 𝓤 H A W 𝓣 1 ps·3 r·3 (claims· .6) (claims· .7) "hnsr_circuit::handle_open::put_pending") (known4
+          : Plain.Known 𝓤 H A W 𝓣 0 ps·4 r·4 (claims· .8) (claims· .9) "hnsr_circuit::places::with_pending") (known5 :
+          Plain.Known 𝓤 H A W 𝓣 0 ps·5 r·5 (claims· .10) (claims· .11) "hnsr_circuit::header::opened") (known6 :
+          Plain.Known 𝓤 H A W 𝓣 0 ps·6 r·6 (claims· .12) (claims· .13) "hnsr_circuit::open::incoming_out") (known7 :
+          Plain.Known 𝓤 H A W 𝓣 0 ps·7 r·7 (claims· .14) (claims· .15) "hnsr_circuit::open::incoming_for") (known8 :
+          Plain.Known 𝓤 H A W 𝓣 0 ps·8 r·8 (claims· .16) (claims· .17)
+          "hnsr_body::incoming_body::IncomingBody::to_bytes") (known9 : Plain.Known 𝓤 H A W 𝓣 3 ps·9 r·9 (claims· .18)
+          (claims· .19) "hnsr_circuit::queue::send") (known10 : Plain.Known 𝓤 H A W 𝓣 0 ps·10 r·10 (claims· .20)
+          (claims· .21) "hnsr_circuit::revoking_calls::refused") → Statement.Triple 𝓤 (Wp.WpFn 𝓤 H (𝓣 .C) (𝓣 .Λ)
+          (Function.fnOf 3 ps r xs m hs body)) (Function.plainOf 𝓤 H A 3 ps r Pre· Post·)
+
     module _ where
       abbrev at0 : (bs : List.List Nat.ℕ) → Typed.TF T57 O1
       at0 = λ bs. Typed.atRet O1
+
       abbrev at1 : (bs : List.List Nat.ℕ) → Typed.TF T56 O1
       at1 = λ bs. λ Ψ. Typed.pass T56 T57 (s54 bs) (at0 bs Ψ)
+
       abbrev at2 : (bs : List.List Nat.ℕ) → Typed.TF T54 O1
       at2 = λ bs. λ Ψ. Typed.pass T54 T56 (s53 bs) (at1 bs Ψ)
+
       abbrev at3 : (bs : List.List Nat.ℕ) → Typed.TF T54 O1
       at3 = λ bs. λ Ψ. at2 bs Ψ
+
       abbrev at4 : (bs : List.List Nat.ℕ) → Typed.TF T51 O1
       at4 = λ bs. λ Ψ. Typed.pass T51 T54 (s51 bs) (at3 bs Ψ)
+
       abbrev at5 : (bs : List.List Nat.ℕ) → Typed.TF T51 O1
       at5 = λ bs. λ Ψ. at4 bs Ψ
+
       abbrev at6 : (bs : List.List Nat.ℕ) → Typed.TF T51 O1
       at6 = λ bs. λ Ψ. at5 bs Ψ
+
       abbrev at7 : (bs : List.List Nat.ℕ) → Typed.TF T50 O1
       at7 = λ bs. λ Ψ. Typed.give (s48 bs) (at6 bs Ψ)
+
       abbrev at8 : (bs : List.List Nat.ℕ) → Typed.TF T47 O1
       at8 = λ bs. λ Ψ. Typed.both (s47 bs) (at7 bs Ψ)
+
       abbrev at9 : (bs : List.List Nat.ℕ) → Typed.TF T47 O1
       at9 = λ bs. λ Ψ. at8 bs Ψ
+
       abbrev at10 : (bs : List.List Nat.ℕ) → Typed.TF T47 O1
       at10 = λ bs. λ Ψ. at9 bs Ψ
+
       abbrev at11 : (bs : List.List Nat.ℕ) → Typed.TF T45 O1
       at11 = λ bs. λ Ψ. Typed.both (s44 bs) (at10 bs Ψ)
+
       abbrev at12 : (bs : List.List Nat.ℕ) → Typed.TF T45 O1
       at12 = λ bs. λ Ψ. at11 bs Ψ
+
       abbrev at13 : (bs : List.List Nat.ℕ) → Typed.TF T44 O1
       at13 = λ bs. λ Ψ. Typed.pass T44 T45 (s42 bs) (at12 bs Ψ)
+
       abbrev at14 : (bs : List.List Nat.ℕ) → Typed.TF T43 O1
       at14 = λ bs. λ Ψ. Typed.pass T43 T44 (s41 bs) (at13 bs Ψ)
+
       abbrev at15 : (bs : List.List Nat.ℕ) → Typed.TF T42 O1
       at15 = λ bs. λ Ψ. Typed.pass T42 T43 (s40 bs) (at14 bs Ψ)
+
       abbrev at16 : (bs : List.List Nat.ℕ) → Typed.TF T41 O1
       at16 = λ bs. λ Ψ. Typed.pass T41 T42 (s39 bs) (at15 bs Ψ)
+
       abbrev at17 : (bs : List.List Nat.ℕ) → Typed.TF T40 O1
       at17 = λ bs. λ Ψ. Typed.pass T40 T41 (s38 bs) (at16 bs Ψ)
+
       abbrev at18 : (bs : List.List Nat.ℕ) → Typed.TF T39 O1
       at18 = λ bs. λ Ψ. Typed.pass T39 T40 (s37 bs) (at17 bs Ψ)
+
       abbrev at19 : (bs : List.List Nat.ℕ) → Typed.TF T38 O1
       at19 = λ bs. λ Ψ. Typed.both (s36 bs) (at18 bs Ψ)
+
       abbrev at20 : (bs : List.List Nat.ℕ) → Typed.TF T37 O1
       at20 = λ bs. λ Ψ. Typed.ask (s35 bs) (at19 bs Ψ)
+
       abbrev at21 : (bs : List.List Nat.ℕ) → Typed.TF T35 O1
       at21 = λ bs. λ Ψ. Typed.give (s34 bs) (at20 bs Ψ)
+
       abbrev at22 : (bs : List.List Nat.ℕ) → Typed.TF T35 O1
       at22 = λ bs. λ Ψ. at21 bs Ψ
+
       abbrev at23 : (bs : List.List Nat.ℕ) → Typed.TF T34 O1
       at23 = λ bs. λ Ψ. Typed.ask (s32 bs) (at22 bs Ψ)
+
       abbrev at24 : (bs : List.List Nat.ℕ) → Typed.TF T32 O1
       at24 = λ bs. λ Ψ. Typed.give (s31 bs) (at23 bs Ψ)
+
       abbrev at25 : (bs : List.List Nat.ℕ) → Typed.TF T32 O1
       at25 = λ bs. λ Ψ. at24 bs Ψ
+
       abbrev at26 : (bs : List.List Nat.ℕ) → Typed.TF T31 O1
       at26 = λ bs. λ Ψ. Typed.ask (s29 bs) (at25 bs Ψ)
+
       abbrev at27 : (bs : List.List Nat.ℕ) → Typed.TF T29 O1
       at27 = λ bs. λ Ψ. Typed.give (s28 bs) (at26 bs Ψ)
+
       abbrev at28 : (bs : List.List Nat.ℕ) → Typed.TF T29 O1
       at28 = λ bs. λ Ψ. at27 bs Ψ
+
       abbrev at29 : (bs : List.List Nat.ℕ) → Typed.TF T28 O1
       at29 = λ bs. λ Ψ. Typed.pass T28 T29 (s26 bs) (at28 bs Ψ)
+
       abbrev at30 : (bs : List.List Nat.ℕ) → Typed.TF T27 O1
       at30 = λ bs. λ Ψ. Typed.pass T27 T28 (s25 bs) (at29 bs Ψ)
+
       abbrev at31 : (bs : List.List Nat.ℕ) → Typed.TF T26 O1
       at31 = λ bs. λ Ψ. Typed.pass T26 T27 (s24 bs) (at30 bs Ψ)
+
       abbrev at32 : (bs : List.List Nat.ℕ) → Typed.TF T25 O1
       at32 = λ bs. λ Ψ. Typed.both (s23 bs) (at31 bs Ψ)
+
       abbrev at33 : (bs : List.List Nat.ℕ) → Typed.TF T24 O1
       at33 = λ bs. λ Ψ. Typed.pass T24 T25 (s22 bs) (at32 bs Ψ)
+
       abbrev at34 : (bs : List.List Nat.ℕ) → Typed.TF T23 O1
       at34 = λ bs. λ Ψ. Typed.both (s21 bs) (at33 bs Ψ)
+
       abbrev at35 : (bs : List.List Nat.ℕ) → Typed.TF T22 O1
       at35 = λ bs. λ Ψ. Typed.both (s20 bs) (at34 bs Ψ)
+
       abbrev at36 : (bs : List.List Nat.ℕ) → Typed.TF T21 O1
       at36 = λ bs. λ Ψ. Typed.pass T21 T22 (s19 bs) (at35 bs Ψ)
+
       abbrev at37 : (bs : List.List Nat.ℕ) → Typed.TF T20 O1
       at37 = λ bs. λ Ψ. Typed.both (s18 bs) (at36 bs Ψ)
+
       abbrev at38 : (bs : List.List Nat.ℕ) → Typed.TF T19 O1
       at38 = λ bs. λ Ψ. Typed.pass T19 T20 (s17 bs) (at37 bs Ψ)
+
       abbrev at39 : (bs : List.List Nat.ℕ) → Typed.TF T17 O1
       at39 = λ bs. λ Ψ. Typed.both (s16 bs) (at38 bs Ψ)
+
       abbrev at40 : (bs : List.List Nat.ℕ) → Typed.TF T17 O1
       at40 = λ bs. λ Ψ. at39 bs Ψ
+
       abbrev at41 : (bs : List.List Nat.ℕ) → Typed.TF T15 O1
       at41 = λ bs. λ Ψ. Typed.both (s14 bs) (at40 bs Ψ)
+
       abbrev at42 : (bs : List.List Nat.ℕ) → Typed.TF T15 O1
       at42 = λ bs. λ Ψ. at41 bs Ψ
+
       abbrev at43 : (bs : List.List Nat.ℕ) → Typed.TF T14 O1
       at43 = λ bs. λ Ψ. Typed.pass T14 T15 (s12 bs) (at42 bs Ψ)
+
       abbrev at44 : (bs : List.List Nat.ℕ) → Typed.TF T13 O1
       at44 = λ bs. λ Ψ. Typed.both (s11 bs) (at43 bs Ψ)
+
       abbrev at45 : (bs : List.List Nat.ℕ) → Typed.TF T12 O1
       at45 = λ bs. λ Ψ. Typed.ask (s10 bs) (at44 bs Ψ)
+
       abbrev at46 : (bs : List.List Nat.ℕ) → Typed.TF T10 O1
       at46 = λ bs. λ Ψ. Typed.give (s9 bs) (at45 bs Ψ)
+
       abbrev at47 : (bs : List.List Nat.ℕ) → Typed.TF T10 O1
       at47 = λ bs. λ Ψ. at46 bs Ψ
+
       abbrev at48 : (bs : List.List Nat.ℕ) → Typed.TF T9 O1
       at48 = λ bs. λ Ψ. Typed.both (s7 bs) (at47 bs Ψ)
+
       abbrev at49 : (bs : List.List Nat.ℕ) → Typed.TF T7 O1
       at49 = λ bs. λ Ψ. Typed.pass T7 T9 (s6 bs) (at48 bs Ψ)
+
       abbrev at50 : (bs : List.List Nat.ℕ) → Typed.TF T60 O1
       at50 = λ bs. Typed.atNext O1
+
       abbrev at51 : (bs : List.List Nat.ℕ) → Typed.TF T59 O1
       at51 = λ bs. λ Ψ. Typed.pass T59 T60 (s57 bs) (at50 bs Ψ)
+
       abbrev at52 : (bs : List.List Nat.ℕ) → Typed.TF T58 O1
       at52 = λ bs. λ Ψ. Typed.pass T58 T59 (s56 bs) (at51 bs Ψ)
+
       abbrev at53 : (bs : List.List Nat.ℕ) → Typed.TF T7 O1
       at53 = λ bs. λ Ψ. Typed.pass T7 T58 (s55 bs) (at52 bs Ψ)
+
       abbrev at54 : (bs : List.List Nat.ℕ) → Typed.TF T7 O1
       at54 = λ bs. Scalar.Φcond T7 O1 18 (λ x. x) (at49 bs) (at53 bs)
+
       abbrev at55 : (bs : List.List Nat.ℕ) → Typed.TF T64 O0
       at55 = λ bs. Typed.atRet O0
+
       abbrev at56 : (bs : List.List Nat.ℕ) → Typed.TF T63 O0
       at56 = λ bs. λ Ψ. Typed.pass T63 T64 (s61 bs) (at55 bs Ψ)
+
       abbrev at57 : (bs : List.List Nat.ℕ) → Typed.TF T62 O0
       at57 = λ bs. λ Ψ. Typed.pass T62 T63 (s60 bs) (at56 bs Ψ)
+
       abbrev at58 : (bs : List.List Nat.ℕ) → Typed.TF T61 O0
       at58 = λ bs. λ Ψ. Typed.pass T61 T62 (s59 bs) (at57 bs Ψ)
+
       abbrev at59 : (bs : List.List Nat.ℕ) → Typed.TF T8 O0
       at59 = λ bs. λ Ψ. Typed.both (s58 bs) (at58 bs Ψ)
+
       abbrev at60 : (bs : List.List Nat.ℕ) → Typed.TF T7 O0
       at60 = λ bs. λ Ψ. at54 bs (Typed.wantNext T8 O0 (at59 bs Ψ) Ψ)
+
       abbrev at61 : (bs : List.List Nat.ℕ) → Typed.TF T6 O0
       at61 = λ bs. λ Ψ. Typed.both (s5 bs) (at60 bs Ψ)
+
       abbrev at62 : (bs : List.List Nat.ℕ) → Typed.TF T5 O0
       at62 = λ bs. λ Ψ. Typed.pass T5 T6 (s4 bs) (at61 bs Ψ)
+
       abbrev at63 : (bs : List.List Nat.ℕ) → Typed.TF T4 O0
       at63 = λ bs. λ Ψ. Typed.pass T4 T5 (s3 bs) (at62 bs Ψ)
+
       abbrev at64 : (bs : List.List Nat.ℕ) → Typed.TF T3 O0
       at64 = λ bs. λ Ψ. Typed.both (s2 bs) (at63 bs Ψ)
+
       abbrev at65 : (bs : List.List Nat.ℕ) → Typed.TF T2 O0
       at65 = λ bs. λ Ψ. Typed.both (s1 bs) (at64 bs Ψ)
+
       abbrev at66 : (bs : List.List Nat.ℕ) → Typed.TF T0 O0
       at66 = λ bs. λ Ψ. Typed.give (s0 bs) (at65 bs Ψ)
+
       abbrev pub Φ : (bs : List.List Nat.ℕ) → Typed.TF T0 O0
       Φ = λ bs. at66 bs
-      module _ { M : Type 1 } (𝓤 : URA.URA M) (H : Wp.Heap 𝓤) (A : Atoms.Atoms 𝓤) (W : Kit.Given 𝓤 H A) (𝓣 : Wp.Tables 𝓤 H) where
+
+      module _ {M : Type 1} (𝓤 : URA.URA M) (H : Wp.Heap 𝓤) (A : Atoms.Atoms 𝓤) (W : Kit.Given 𝓤 H A)
+          (𝓣 : Wp.Tables 𝓤 H) where
         abbrev Knowns : Type 1
-        Knowns = Plain.Known 𝓤 H A W 𝓣 0 ps·0 r·0 (claims· .0) (claims· .1) "hnsr_circuit::ledger::usage_answer" × Plain.Known 𝓤 H A W 𝓣 0 ps·1 r·1
-            (claims· .2) (claims· .3) "hnsr_circuit::answer::is_taken" × Plain.Known 𝓤 H A W 𝓣 0 ps·2 r·2 (claims· .4) (claims· .5)
-            "hnsr_circuit::open::pending_for" × Plain.Known 𝓤 H A W 𝓣 1 ps·3 r·3 (claims· .6) (claims· .7) "hnsr_circuit::handle_open::put_pending" ×
-            Plain.Known 𝓤 H A W 𝓣 0 ps·4 r·4 (claims· .8) (claims· .9) "hnsr_circuit::places::with_pending" × Plain.Known 𝓤 H A W 𝓣 0 ps·5 r·5
-            (claims· .10) (claims· .11) "hnsr_circuit::header::opened" × Plain.Known 𝓤 H A W 𝓣 0 ps·6 r·6 (claims· .12) (claims· .13)
-            "hnsr_circuit::open::incoming_out" × Plain.Known 𝓤 H A W 𝓣 0 ps·7 r·7 (claims· .14) (claims· .15) "hnsr_circuit::open::incoming_for" ×
-            Plain.Known 𝓤 H A W 𝓣 0 ps·8 r·8 (claims· .16) (claims· .17) "hnsr_body::incoming_body::IncomingBody::to_bytes" × Plain.Known 𝓤 H A W 𝓣 3
-            ps·9 r·9 (claims· .18) (claims· .19) "hnsr_circuit::queue::send" × Plain.Known 𝓤 H A W 𝓣 0 ps·10 r·10 (claims· .20) (claims· .21)
-            "hnsr_circuit::revoking_calls::refused"
+        Knowns = Plain.Known 𝓤 H A W 𝓣 0 ps·0 r·0 (claims· .0) (claims· .1) "hnsr_circuit::ledger::usage_answer" ×
+            Plain.Known 𝓤 H A W 𝓣 0 ps·1 r·1 (claims· .2) (claims· .3) "hnsr_circuit::answer::is_taken" × Plain.Known 𝓤
+            H A W 𝓣 0 ps·2 r·2 (claims· .4) (claims· .5) "hnsr_circuit::open::pending_for" × Plain.Known 𝓤 H A W 𝓣 1
+            ps·3 r·3 (claims· .6) (claims· .7) "hnsr_circuit::handle_open::put_pending" × Plain.Known 𝓤 H A W 𝓣 0 ps·4
+            r·4 (claims· .8) (claims· .9) "hnsr_circuit::places::with_pending" × Plain.Known 𝓤 H A W 𝓣 0 ps·5 r·5
+            (claims· .10) (claims· .11) "hnsr_circuit::header::opened" × Plain.Known 𝓤 H A W 𝓣 0 ps·6 r·6 (claims· .12)
+            (claims· .13) "hnsr_circuit::open::incoming_out" × Plain.Known 𝓤 H A W 𝓣 0 ps·7 r·7 (claims· .14)
+            (claims· .15) "hnsr_circuit::open::incoming_for" × Plain.Known 𝓤 H A W 𝓣 0 ps·8 r·8 (claims· .16)
+            (claims· .17) "hnsr_body::incoming_body::IncomingBody::to_bytes" × Plain.Known 𝓤 H A W 𝓣 3 ps·9 r·9
+            (claims· .18) (claims· .19) "hnsr_circuit::queue::send" × Plain.Known 𝓤 H A W 𝓣 0 ps·10 r·10 (claims· .20)
+            (claims· .21) "hnsr_circuit::revoking_calls::refused"
+
       module _ (κs : Lifetimes.Lfts 3) (qs : Lifetimes.Shares 3) where
         abbrev life0 : Row.Life
         life0 = Row.lease (κs .0) (qs .0)
+
         abbrev life1 : Row.Life
         life1 = Row.lease (κs .1 .0) (qs .1 .0)
+
         abbrev life2 : Row.Life
         life2 = Row.lease (κs .1 .1 .0) (qs .1 .1 .0)
+
+        abbrev l1 : Row.Entry
+        l1 = (1, Relend.mslice-owed RelayPending.row ref5 0 3 life0)
+
+        abbrev l2 : Row.Entry
+        l2 = (2, Relend.mslice-owed InflightAction.row ref6 1 4 life1)
+
+        abbrev l3 : Row.Entry
+        l3 = (3, Relend.mslice-owed (Referent.rtF (Referent.fInt Syntax.w32)) ref7 2 5 life2)
+
         abbrev g10 : List.List Row.Entry
-        g10 = (0, Rows'.any-gone Laws''''''''.mir,) ∷ (1, Relend.mslice-owed RelayPending.row ref5 0 3 life0,) ∷ (2, Mut.mslice InflightAction.row
-            ref6 1,) ∷ (3, Mut.mslice (Referent.rtF (Referent.fInt Syntax.w32)) ref7 2,) ∷ (4, Rows'.whole (Declared'.row
-            OpaqueRelayRuntime.the-type)) ∷ (5, Rows'.whole (Declared'.row Places.the-type),) ∷ (6, Rows'.whole (Declared'.row OpenPlan.the-type)) ∷
-            (7, Rows'.any-gone ReservationUsage.ty,) ∷ (8, Rows'.whole (Declared'.row ActionScan.the-type)) ∷ (9, Rows'.any-gone Laws''''''.mir,) ∷
-            (10, Rows'.whole (Declared.row HnsrAnswer.the-type)) ∷ (11, RelayPending.held,) ∷ (12, Rows'.any-gone (Syntax.tyInt Syntax.w64)) ∷ (13,
-            Rows'.any-gone Laws'''.mir,) ∷ (14, Rows'.any-gone Laws'''''''.mir,) ∷ (15, Rows'.any-gone Laws'''''.mir,) ∷ List.[]
+        g10 = e0 ∷ l1 ∷ e2 ∷ e3 ∷ e4 ∷ e5 ∷ e6 ∷ e7·1 ∷ e8 ∷ e9 ∷ e10·1 ∷ e11·1 ∷ e12 ∷ e13 ∷ e14 ∷ e15 ∷ List.[]
+
         abbrev g13 : List.List Row.Entry
-        g13 = (0, Rows'.any-gone Laws''''''''.mir,) ∷ (1, Relend.mslice-owed RelayPending.row ref5 0 3 life0,) ∷ (2, Mut.mslice InflightAction.row
-            ref6 1,) ∷ (3, Mut.mslice (Referent.rtF (Referent.fInt Syntax.w32)) ref7 2,) ∷ (4, Rows'.whole (Declared'.row
-            OpaqueRelayRuntime.the-type)) ∷ (5, Rows'.whole (Declared'.row Places.the-type),) ∷ (6, Rows'.whole (Declared'.row OpenPlan.the-type)) ∷
-            (7, Rows'.any-gone ReservationUsage.ty,) ∷ (8, Rows'.whole (Declared'.row ActionScan.the-type)) ∷ (9, Rows'.any-gone Laws''''''.mir,) ∷
-            (10, Rows'.whole (Declared.row HnsrAnswer.the-type)) ∷ (11, RelayPending.held,) ∷ (12, Rows'.sc-here (Row.sInt Syntax.w64)) ∷ (13,
-            Rows'.any-gone Laws'''.mir,) ∷ (14, Rows'.any-gone Laws'''''''.mir,) ∷ (15, Rows'.any-gone Laws'''''.mir,) ∷ List.[]
+        g13 = e0 ∷ l1 ∷ e2 ∷ e3 ∷ e4 ∷ e5 ∷ e6 ∷ e7·1 ∷ e8 ∷ e9 ∷ e10·1 ∷ e11·1 ∷ e12·1 ∷ e13 ∷ e14 ∷ e15 ∷ List.[]
+
         abbrev g15 : List.List Row.Entry
-        g15 = (0, Rows'.any-gone Laws''''''''.mir,) ∷ (1, Relend.mslice-owed RelayPending.row ref5 0 3 life0,) ∷ (2, Mut.mslice InflightAction.row
-            ref6 1,) ∷ (3, Mut.mslice (Referent.rtF (Referent.fInt Syntax.w32)) ref7 2,) ∷ (4, Rows'.whole (Declared'.row
-            OpaqueRelayRuntime.the-type)) ∷ (5, Rows'.whole (Declared'.row Places.the-type),) ∷ (6, Rows'.whole (Declared'.row OpenPlan.the-type)) ∷
-            (7, Rows'.any-gone ReservationUsage.ty,) ∷ (8, Rows'.whole (Declared'.row ActionScan.the-type)) ∷ (9, Rows'.any-gone Laws''''''.mir,) ∷
-            (10, Rows'.whole (Declared.row HnsrAnswer.the-type)) ∷ (11, Rows'.any-gone RelayPending.ty,) ∷ (12, Rows'.sc-here (Row.sInt Syntax.w64)) ∷
-            (13, Rows'.any-gone Laws'''.mir,) ∷ (14, Rows'.any-gone Laws'''''''.mir,) ∷ (15, Rows'.any-gone Laws'''''.mir,) ∷ List.[]
+        g15 = e0 ∷ l1 ∷ e2 ∷ e3 ∷ e4 ∷ e5 ∷ e6 ∷ e7·1 ∷ e8 ∷ e9 ∷ e10·1 ∷ e11 ∷ e12·1 ∷ e13 ∷ e14 ∷ e15 ∷ List.[]
+
         abbrev g28 : List.List Row.Entry
-        g28 = (0, Rows'.any-gone Laws''''''''.mir,) ∷ (1, Mut.mslice RelayPending.row ref5 0,) ∷ (2, Relend.mslice-owed InflightAction.row ref6 1 4
-            life1,) ∷ (3, Mut.mslice (Referent.rtF (Referent.fInt Syntax.w32)) ref7 2,) ∷ (4, Rows'.any-gone Laws'''''''.mir,) ∷ (5, Rows'.any-gone
-            Laws'''.mir,) ∷ (6, Rows'.any-gone Laws''.mir,) ∷ (7, Rows'.any-gone ReservationUsage.ty) ∷ (8, Rows'.whole (Declared'.row
-            ActionScan.the-type),) ∷ (9, Rows'.any-gone Laws''''''.mir,) ∷ (10, Rows'.whole (Declared.row HnsrAnswer.the-type)) ∷ (11, Rows'.any-gone
-            RelayPending.ty,) ∷ (12, Rows'.sc-here (Row.sInt Syntax.w64)) ∷ (13, Rows'.whole (Declared'.row Places.the-type),) ∷ (14, Rows'.whole
-            (Declared'.row OpaqueRelayRuntime.the-type)) ∷ (15, Rows'.whole (Declared'.row Outgoing.the-type),) ∷ List.[]
+        g28 = e0 ∷ e1 ∷ l2 ∷ e3 ∷ e4·1 ∷ e5·1 ∷ e6·1 ∷ e7·1 ∷ e8 ∷ e9 ∷ e10·1 ∷ e11 ∷ e12·1 ∷ e13·1 ∷ e14·1 ∷ e15·1 ∷
+            List.[]
+
         abbrev g31 : List.List Row.Entry
-        g31 = (0, Rows'.any-gone Laws''''''''.mir,) ∷ (1, Mut.mslice RelayPending.row ref5 0,) ∷ (2, Relend.mslice-owed InflightAction.row ref6 1 4
-            life1,) ∷ (3, Relend.mslice-owed (Referent.rtF (Referent.fInt Syntax.w32)) ref7 2 5 life2,) ∷ (4, Rows'.any-gone Laws'''''''.mir,) ∷ (5,
-            Rows'.any-gone Laws'''.mir,) ∷ (6, Rows'.any-gone Laws''.mir,) ∷ (7, Rows'.any-gone ReservationUsage.ty) ∷ (8, Rows'.whole (Declared'.row
-            ActionScan.the-type),) ∷ (9, Rows'.any-gone Laws''''''.mir,) ∷ (10, Rows'.whole (Declared.row HnsrAnswer.the-type)) ∷ (11, Rows'.any-gone
-            RelayPending.ty,) ∷ (12, Rows'.sc-here (Row.sInt Syntax.w64)) ∷ (13, Rows'.whole (Declared'.row Places.the-type),) ∷ (14, Rows'.whole
-            (Declared'.row OpaqueRelayRuntime.the-type)) ∷ (15, Rows'.whole (Declared'.row Outgoing.the-type),) ∷ List.[]
+        g31 = e0 ∷ e1 ∷ l2 ∷ l3 ∷ e4·1 ∷ e5·1 ∷ e6·1 ∷ e7·1 ∷ e8 ∷ e9 ∷ e10·1 ∷ e11 ∷ e12·1 ∷ e13·1 ∷ e14·1 ∷ e15·1 ∷
+            List.[]
+
         abbrev g36 : List.List Row.Entry
-        g36 = (0, Rows'.whole (Declared'.row Relayed.the-type)) ∷ (1, Mut.mslice RelayPending.row ref5 0,) ∷ (2, Relend.mslice-owed InflightAction.row
-            ref6 1 4 life1,) ∷ (3, Relend.mslice-owed (Referent.rtF (Referent.fInt Syntax.w32)) ref7 2 5 life2,) ∷ (4, Rows'.any-gone
-            Laws'''''''.mir,) ∷ (5, Rows'.any-gone Laws'''.mir,) ∷ (6, Rows'.any-gone Laws''.mir,) ∷ (7, Rows'.any-gone ReservationUsage.ty) ∷ (8,
-            Rows'.whole (Declared'.row ActionScan.the-type),) ∷ (9, Rows'.any-gone Laws''''''.mir,) ∷ (10, Rows'.whole (Declared.row
-            HnsrAnswer.the-type)) ∷ (11, Rows'.any-gone RelayPending.ty,) ∷ (12, Rows'.sc-here (Row.sInt Syntax.w64)) ∷ (13, Rows'.whole
-            (Declared'.row Places.the-type),) ∷ (14, Rows'.whole (Declared'.row OpaqueRelayRuntime.the-type)) ∷ (15, Rows'.whole (Declared'.row
-            Outgoing.the-type),) ∷ List.[]
+        g36 = e0·1 ∷ e1 ∷ l2 ∷ l3 ∷ e4·1 ∷ e5·1 ∷ e6·1 ∷ e7·1 ∷ e8 ∷ e9 ∷ e10·1 ∷ e11 ∷ e12·1 ∷ e13·1 ∷ e14·1 ∷ e15·1 ∷
+            List.[]
+
         abbrev g39 : List.List Row.Entry
-        g39 = (0, Rows'.whole (Declared'.row Relayed.the-type)) ∷ (1, Mut.mslice RelayPending.row ref5 0,) ∷ (2, Relend.mslice-owed InflightAction.row
-            ref6 1 4 life1,) ∷ (3, Relend.mslice-owed (Referent.rtF (Referent.fInt Syntax.w32)) ref7 2 5 life2,) ∷ (4, Rows'.any-gone
-            Laws'''''''.mir,) ∷ (5, Rows'.any-gone Laws'''.mir,) ∷ (6, Rows'.any-gone Laws''.mir,) ∷ (7, Rows'.any-gone ReservationUsage.ty) ∷ (8,
-            Rows'.any-gone Laws''''.mir,) ∷ (9, Rows'.any-gone Laws''''''.mir,) ∷ (10, Rows'.whole (Declared.row HnsrAnswer.the-type)) ∷ (11,
-            Rows'.any-gone RelayPending.ty,) ∷ (12, Rows'.sc-here (Row.sInt Syntax.w64)) ∷ (13, Rows'.whole (Declared'.row Places.the-type),) ∷ (14,
-            Rows'.whole (Declared'.row OpaqueRelayRuntime.the-type)) ∷ (15, Rows'.whole (Declared'.row Outgoing.the-type),) ∷ List.[]
+        g39 = e0·1 ∷ e1 ∷ l2 ∷ l3 ∷ e4·1 ∷ e5·1 ∷ e6·1 ∷ e7·1 ∷ e8·1 ∷ e9 ∷ e10·1 ∷ e11 ∷ e12·1 ∷ e13·1 ∷ e14·1 ∷ e15·1
+            ∷ List.[]
+
         abbrev g40 : List.List Row.Entry
-        g40 = (0, Rows'.whole (Declared'.row Relayed.the-type)) ∷ (1, Mut.mslice RelayPending.row ref5 0,) ∷ (2, Relend.mslice-owed InflightAction.row
-            ref6 1 4 life1,) ∷ (3, Relend.mslice-owed (Referent.rtF (Referent.fInt Syntax.w32)) ref7 2 5 life2,) ∷ (4, Rows'.any-gone
-            Laws'''''''.mir,) ∷ (5, Rows'.any-gone Laws'''.mir,) ∷ (6, Rows'.any-gone Laws''.mir,) ∷ (7, Rows'.any-gone ReservationUsage.ty) ∷ (8,
-            Rows'.any-gone Laws''''.mir,) ∷ (9, Rows'.any-gone Laws''''''.mir,) ∷ (10, Rows'.any-gone Laws'.mir,) ∷ (11, Rows'.any-gone
-            RelayPending.ty) ∷ (12, Rows'.sc-here (Row.sInt Syntax.w64),) ∷ (13, Rows'.whole (Declared'.row Places.the-type)) ∷ (14, Rows'.whole
-            (Declared'.row OpaqueRelayRuntime.the-type),) ∷ (15, Rows'.whole (Declared'.row Outgoing.the-type)) ∷ List.[]
+        g40 = e0·1 ∷ e1 ∷ l2 ∷ l3 ∷ e4·1 ∷ e5·1 ∷ e6·1 ∷ e7·1 ∷ e8·1 ∷ e9 ∷ e10 ∷ e11 ∷ e12·1 ∷ e13·1 ∷ e14·1 ∷ e15·1 ∷
+            List.[]
+
         abbrev g41 : List.List Row.Entry
-        g41 = (0, Rows'.whole (Declared'.row Relayed.the-type)) ∷ (1, Mut.mslice RelayPending.row ref5 0,) ∷ (2, Relend.mslice-owed InflightAction.row
-            ref6 1 4 life1,) ∷ (3, Relend.mslice-owed (Referent.rtF (Referent.fInt Syntax.w32)) ref7 2 5 life2,) ∷ (4, Rows'.any-gone
-            Laws'''''''.mir,) ∷ (5, Rows'.any-gone Laws'''.mir,) ∷ (6, Rows'.any-gone Laws''.mir,) ∷ (7, Rows'.any-gone ReservationUsage.ty) ∷ (8,
-            Rows'.any-gone Laws''''.mir,) ∷ (9, Rows'.any-gone Laws''''''.mir,) ∷ (10, Rows'.any-gone Laws'.mir,) ∷ (11, Rows'.any-gone
-            RelayPending.ty) ∷ (12, Rows'.sc-here (Row.sInt Syntax.w64),) ∷ (13, Rows'.any-gone Laws'''.mir,) ∷ (14, Rows'.whole (Declared'.row
-            OpaqueRelayRuntime.the-type)) ∷ (15, Rows'.whole (Declared'.row Outgoing.the-type),) ∷ List.[]
+        g41 = e0·1 ∷ e1 ∷ l2 ∷ l3 ∷ e4·1 ∷ e5·1 ∷ e6·1 ∷ e7·1 ∷ e8·1 ∷ e9 ∷ e10 ∷ e11 ∷ e12·1 ∷ e13 ∷ e14·1 ∷ e15·1 ∷
+            List.[]
+
         abbrev g42 : List.List Row.Entry
-        g42 = (0, Rows'.whole (Declared'.row Relayed.the-type)) ∷ (1, Mut.mslice RelayPending.row ref5 0,) ∷ (2, Relend.mslice-owed InflightAction.row
-            ref6 1 4 life1,) ∷ (3, Relend.mslice-owed (Referent.rtF (Referent.fInt Syntax.w32)) ref7 2 5 life2,) ∷ (4, Rows'.any-gone
-            Laws'''''''.mir,) ∷ (5, Rows'.any-gone Laws'''.mir,) ∷ (6, Rows'.any-gone Laws''.mir,) ∷ (7, Rows'.any-gone ReservationUsage.ty) ∷ (8,
-            Rows'.any-gone Laws''''.mir,) ∷ (9, Rows'.any-gone Laws''''''.mir,) ∷ (10, Rows'.any-gone Laws'.mir,) ∷ (11, Rows'.any-gone
-            RelayPending.ty) ∷ (12, Rows'.sc-here (Row.sInt Syntax.w64),) ∷ (13, Rows'.any-gone Laws'''.mir,) ∷ (14, Rows'.any-gone Laws'''''''.mir,)
-            ∷ (15, Rows'.whole (Declared'.row Outgoing.the-type)) ∷ List.[]
+        g42 = e0·1 ∷ e1 ∷ l2 ∷ l3 ∷ e4·1 ∷ e5·1 ∷ e6·1 ∷ e7·1 ∷ e8·1 ∷ e9 ∷ e10 ∷ e11 ∷ e12·1 ∷ e13 ∷ e14 ∷ e15·1 ∷
+            List.[]
+
         abbrev g43 : List.List Row.Entry
-        g43 = (0, Rows'.whole (Declared'.row Relayed.the-type)) ∷ (1, Mut.mslice RelayPending.row ref5 0,) ∷ (2, Relend.mslice-owed InflightAction.row
-            ref6 1 4 life1,) ∷ (3, Relend.mslice-owed (Referent.rtF (Referent.fInt Syntax.w32)) ref7 2 5 life2,) ∷ (4, Rows'.any-gone
-            Laws'''''''.mir,) ∷ (5, Rows'.any-gone Laws'''.mir,) ∷ (6, Rows'.any-gone Laws''.mir,) ∷ (7, Rows'.any-gone ReservationUsage.ty) ∷ (8,
-            Rows'.any-gone Laws''''.mir,) ∷ (9, Rows'.any-gone Laws''''''.mir,) ∷ (10, Rows'.any-gone Laws'.mir,) ∷ (11, Rows'.any-gone
-            RelayPending.ty) ∷ (12, Rows'.sc-here (Row.sInt Syntax.w64),) ∷ (13, Rows'.any-gone Laws'''.mir,) ∷ (14, Rows'.any-gone Laws'''''''.mir,)
-            ∷ (15, Rows'.any-gone Laws'''''.mir,) ∷ List.[]
+        g43 = e0·1 ∷ e1 ∷ l2 ∷ l3 ∷ e4·1 ∷ e5·1 ∷ e6·1 ∷ e7·1 ∷ e8·1 ∷ e9 ∷ e10 ∷ e11 ∷ e12·1 ∷ e13 ∷ e14 ∷ e15 ∷
+            List.[]
+
         abbrev g44 : List.List Row.Entry
-        g44 = (0, Rows'.whole (Declared'.row Relayed.the-type)) ∷ (1, Mut.mslice RelayPending.row ref5 0,) ∷ (2, Mut.mslice InflightAction.row ref6
-            1,) ∷ (3, Relend.mslice-owed (Referent.rtF (Referent.fInt Syntax.w32)) ref7 2 5 life2,) ∷ (4, Rows'.any-gone Laws'''''''.mir,) ∷ (5,
-            Rows'.any-gone Laws'''.mir,) ∷ (6, Rows'.any-gone Laws''.mir,) ∷ (7, Rows'.any-gone ReservationUsage.ty) ∷ (8, Rows'.any-gone
-            Laws''''.mir,) ∷ (9, Rows'.any-gone Laws''''''.mir,) ∷ (10, Rows'.any-gone Laws'.mir,) ∷ (11, Rows'.any-gone RelayPending.ty) ∷ (12,
-            Rows'.sc-here (Row.sInt Syntax.w64),) ∷ (13, Rows'.any-gone Laws'''.mir,) ∷ (14, Rows'.any-gone Laws'''''''.mir,) ∷ (15, Rows'.any-gone
-            Laws'''''.mir,) ∷ List.[]
+        g44 = e0·1 ∷ e1 ∷ e2 ∷ l3 ∷ e4·1 ∷ e5·1 ∷ e6·1 ∷ e7·1 ∷ e8·1 ∷ e9 ∷ e10 ∷ e11 ∷ e12·1 ∷ e13 ∷ e14 ∷ e15 ∷
+            List.[]
+
         abbrev G0 : Row.Cx
-        G0 = record { locals = List._++_ t0 t1; slots = life0 ∷ life1 ∷ life2 ∷ Row.off ∷ Row.off ∷ Row.off ∷ Row.off ∷ List.[]; }
+        G0 = record {
+          locals = List._++_ t0 t1;
+          slots = life0 ∷ life1 ∷ life2 ∷ Row.off ∷ Row.off ∷ Row.off ∷ Row.off ∷ List.[];
+        }
+
         abbrev G1 : Row.Cx
-        G1 = record { locals = List._++_ t2 t1; slots = life0 ∷ life1 ∷ life2 ∷ Row.off ∷ Row.off ∷ Row.off ∷ Row.off ∷ List.[]; }
+        G1 = record {
+          locals = List._++_ t2 t1;
+          slots = life0 ∷ life1 ∷ life2 ∷ Row.off ∷ Row.off ∷ Row.off ∷ Row.off ∷ List.[];
+        }
+
         abbrev G2 : Row.Cx
-        G2 = record { locals = List._++_ t0 t1; slots = life0 ∷ life1 ∷ life2 ∷ Row.off ∷ Row.off ∷ Row.off ∷ Row.off ∷ List.[]; }
+        G2 = record {
+          locals = List._++_ t0 t1;
+          slots = life0 ∷ life1 ∷ life2 ∷ Row.off ∷ Row.off ∷ Row.off ∷ Row.off ∷ List.[];
+        }
+
         abbrev G3 : Row.Cx
-        G3 = record { locals = List._++_ t3 t1; slots = life0 ∷ life1 ∷ life2 ∷ Row.off ∷ Row.off ∷ Row.off ∷ Row.off ∷ List.[]; }
+        G3 = record {
+          locals = List._++_ t3 t1;
+          slots = life0 ∷ life1 ∷ life2 ∷ Row.off ∷ Row.off ∷ Row.off ∷ Row.off ∷ List.[];
+        }
+
         abbrev G4 : Row.Cx
-        G4 = record { locals = List._++_ t4 t1; slots = life0 ∷ life1 ∷ life2 ∷ Row.off ∷ Row.off ∷ Row.off ∷ Row.off ∷ List.[]; }
+        G4 = record {
+          locals = List._++_ t4 t1;
+          slots = life0 ∷ life1 ∷ life2 ∷ Row.off ∷ Row.off ∷ Row.off ∷ Row.off ∷ List.[];
+        }
+
         abbrev G5 : Row.Cx
-        G5 = record { locals = List._++_ t5 t1; slots = life0 ∷ life1 ∷ life2 ∷ Row.off ∷ Row.off ∷ Row.off ∷ Row.off ∷ List.[]; }
+        G5 = record {
+          locals = List._++_ t5 t1;
+          slots = life0 ∷ life1 ∷ life2 ∷ Row.off ∷ Row.off ∷ Row.off ∷ Row.off ∷ List.[];
+        }
+
         abbrev G6 : Row.Cx
-        G6 = record { locals = List._++_ t6 t1; slots = life0 ∷ life1 ∷ life2 ∷ Row.off ∷ Row.off ∷ Row.off ∷ Row.off ∷ List.[]; }
+        G6 = record {
+          locals = List._++_ t6 t1;
+          slots = life0 ∷ life1 ∷ life2 ∷ Row.off ∷ Row.off ∷ Row.off ∷ Row.off ∷ List.[];
+        }
+
         abbrev G7 : Row.Cx
-        G7 = record { locals = List._++_ t6 t7; slots = life0 ∷ life1 ∷ life2 ∷ Row.off ∷ Row.off ∷ Row.off ∷ Row.off ∷ List.[]; }
+        G7 = record {
+          locals = List._++_ t6 t7;
+          slots = life0 ∷ life1 ∷ life2 ∷ Row.off ∷ Row.off ∷ Row.off ∷ Row.off ∷ List.[];
+        }
+
         abbrev G8 : Row.Cx
-        G8 = record { locals = List._++_ t8 t1; slots = life0 ∷ life1 ∷ life2 ∷ Row.off ∷ Row.off ∷ Row.off ∷ Row.off ∷ List.[]; }
+        G8 = record {
+          locals = List._++_ t8 t1;
+          slots = life0 ∷ life1 ∷ life2 ∷ Row.off ∷ Row.off ∷ Row.off ∷ Row.off ∷ List.[];
+        }
+
         abbrev G9 : Row.Cx
-        G9 = record { locals = List._++_ t6 t1; slots = life0 ∷ life1 ∷ life2 ∷ Row.off ∷ Row.off ∷ Row.off ∷ Row.off ∷ List.[]; }
+        G9 = record {
+          locals = List._++_ t6 t1;
+          slots = life0 ∷ life1 ∷ life2 ∷ Row.off ∷ Row.off ∷ Row.off ∷ Row.off ∷ List.[];
+        }
+
         abbrev G10 : Row.Cx
-        G10 = record { locals = List._++_ t9 t1; slots = life0 ∷ life1 ∷ life2 ∷ Row.off ∷ Row.off ∷ Row.off ∷ Row.off ∷ List.[]; }
+        G10 = record {
+          locals = List._++_ t9 t1;
+          slots = life0 ∷ life1 ∷ life2 ∷ Row.off ∷ Row.off ∷ Row.off ∷ Row.off ∷ List.[];
+        }
+
         abbrev G11 : Row.Cx
-        G11 = record { locals = List._++_ t9 t1; slots = life0 ∷ life1 ∷ life2 ∷ Row.alive ∷ Row.off ∷ Row.off ∷ Row.off ∷ List.[]; }
+        G11 = record {
+          locals = List._++_ t9 t1;
+          slots = life0 ∷ life1 ∷ life2 ∷ Row.alive ∷ Row.off ∷ Row.off ∷ Row.off ∷ List.[];
+        }
+
         abbrev G12 : Row.Cx
-        G12 = record { locals = List._++_ g10 t11; slots = Row.off ∷ life1 ∷ life2 ∷ Row.alive ∷ Row.off ∷ Row.off ∷ Row.off ∷ List.[]; }
+        G12 = record {
+          locals = List._++_ g10 t11;
+          slots = Row.off ∷ life1 ∷ life2 ∷ Row.alive ∷ Row.off ∷ Row.off ∷ Row.off ∷ List.[];
+        }
+
         abbrev G13 : Row.Cx
-        G13 = record { locals = List._++_ g10 t12; slots = Row.off ∷ life1 ∷ life2 ∷ Row.alive ∷ Row.off ∷ Row.off ∷ Row.off ∷ List.[]; }
+        G13 = record {
+          locals = List._++_ g10 t12;
+          slots = Row.off ∷ life1 ∷ life2 ∷ Row.alive ∷ Row.off ∷ Row.off ∷ Row.off ∷ List.[];
+        }
+
         abbrev G14 : Row.Cx
-        G14 = record { locals = List._++_ g13 t14; slots = Row.off ∷ life1 ∷ life2 ∷ Row.alive ∷ Row.off ∷ Row.off ∷ Row.off ∷ List.[]; }
+        G14 = record {
+          locals = List._++_ g13 t14;
+          slots = Row.off ∷ life1 ∷ life2 ∷ Row.alive ∷ Row.off ∷ Row.off ∷ Row.off ∷ List.[];
+        }
+
         abbrev G15 : Row.Cx
-        G15 = record { locals = List._++_ g15 t14; slots = Row.off ∷ life1 ∷ life2 ∷ Row.alive ∷ Row.off ∷ Row.off ∷ Row.off ∷ List.[]; }
+        G15 = record {
+          locals = List._++_ g15 t14;
+          slots = Row.off ∷ life1 ∷ life2 ∷ Row.alive ∷ Row.off ∷ Row.off ∷ Row.off ∷ List.[];
+        }
+
         abbrev G16 : Row.Cx
-        G16 = record { locals = List._++_ g15 t14; slots = Row.off ∷ life1 ∷ life2 ∷ Row.dead ∷ Row.off ∷ Row.off ∷ Row.off ∷ List.[]; }
+        G16 = record {
+          locals = List._++_ g15 t14;
+          slots = Row.off ∷ life1 ∷ life2 ∷ Row.dead ∷ Row.off ∷ Row.off ∷ Row.off ∷ List.[];
+        }
+
         abbrev G17 : Row.Cx
-        G17 = record { locals = List._++_ t16 t1; slots = life0 ∷ life1 ∷ life2 ∷ Row.dead ∷ Row.off ∷ Row.off ∷ Row.off ∷ List.[]; }
+        G17 = record {
+          locals = List._++_ t16 t1;
+          slots = life0 ∷ life1 ∷ life2 ∷ Row.dead ∷ Row.off ∷ Row.off ∷ Row.off ∷ List.[];
+        }
+
         abbrev G18 : Row.Cx
-        G18 = record { locals = List._++_ t16 t1; slots = life0 ∷ life1 ∷ life2 ∷ Row.off ∷ Row.off ∷ Row.off ∷ Row.off ∷ List.[]; }
+        G18 = record {
+          locals = List._++_ t16 t1;
+          slots = life0 ∷ life1 ∷ life2 ∷ Row.off ∷ Row.off ∷ Row.off ∷ Row.off ∷ List.[];
+        }
+
         abbrev G19 : Row.Cx
-        G19 = record { locals = List._++_ t17 t1; slots = life0 ∷ life1 ∷ life2 ∷ Row.off ∷ Row.off ∷ Row.off ∷ Row.off ∷ List.[]; }
+        G19 = record {
+          locals = List._++_ t17 t1;
+          slots = life0 ∷ life1 ∷ life2 ∷ Row.off ∷ Row.off ∷ Row.off ∷ Row.off ∷ List.[];
+        }
+
         abbrev G20 : Row.Cx
-        G20 = record { locals = List._++_ t18 t1; slots = life0 ∷ life1 ∷ life2 ∷ Row.off ∷ Row.off ∷ Row.off ∷ Row.off ∷ List.[]; }
+        G20 = record {
+          locals = List._++_ t18 t1;
+          slots = life0 ∷ life1 ∷ life2 ∷ Row.off ∷ Row.off ∷ Row.off ∷ Row.off ∷ List.[];
+        }
+
         abbrev G21 : Row.Cx
-        G21 = record { locals = List._++_ t19 t1; slots = life0 ∷ life1 ∷ life2 ∷ Row.off ∷ Row.off ∷ Row.off ∷ Row.off ∷ List.[]; }
+        G21 = record {
+          locals = List._++_ t19 t1;
+          slots = life0 ∷ life1 ∷ life2 ∷ Row.off ∷ Row.off ∷ Row.off ∷ Row.off ∷ List.[];
+        }
+
         abbrev G22 : Row.Cx
-        G22 = record { locals = List._++_ t20 t1; slots = life0 ∷ life1 ∷ life2 ∷ Row.off ∷ Row.off ∷ Row.off ∷ Row.off ∷ List.[]; }
+        G22 = record {
+          locals = List._++_ t20 t1;
+          slots = life0 ∷ life1 ∷ life2 ∷ Row.off ∷ Row.off ∷ Row.off ∷ Row.off ∷ List.[];
+        }
+
         abbrev G23 : Row.Cx
-        G23 = record { locals = List._++_ t21 t1; slots = life0 ∷ life1 ∷ life2 ∷ Row.off ∷ Row.off ∷ Row.off ∷ Row.off ∷ List.[]; }
+        G23 = record {
+          locals = List._++_ t21 t1;
+          slots = life0 ∷ life1 ∷ life2 ∷ Row.off ∷ Row.off ∷ Row.off ∷ Row.off ∷ List.[];
+        }
+
         abbrev G24 : Row.Cx
-        G24 = record { locals = List._++_ t21 t22; slots = life0 ∷ life1 ∷ life2 ∷ Row.off ∷ Row.off ∷ Row.off ∷ Row.off ∷ List.[]; }
+        G24 = record {
+          locals = List._++_ t21 t22;
+          slots = life0 ∷ life1 ∷ life2 ∷ Row.off ∷ Row.off ∷ Row.off ∷ Row.off ∷ List.[];
+        }
+
         abbrev G25 : Row.Cx
-        G25 = record { locals = List._++_ t23 t22; slots = life0 ∷ life1 ∷ life2 ∷ Row.off ∷ Row.off ∷ Row.off ∷ Row.off ∷ List.[]; }
+        G25 = record {
+          locals = List._++_ t23 t22;
+          slots = life0 ∷ life1 ∷ life2 ∷ Row.off ∷ Row.off ∷ Row.off ∷ Row.off ∷ List.[];
+        }
+
         abbrev G26 : Row.Cx
-        G26 = record { locals = List._++_ t23 t24; slots = life0 ∷ life1 ∷ life2 ∷ Row.off ∷ Row.off ∷ Row.off ∷ Row.off ∷ List.[]; }
+        G26 = record {
+          locals = List._++_ t23 t24;
+          slots = life0 ∷ life1 ∷ life2 ∷ Row.off ∷ Row.off ∷ Row.off ∷ Row.off ∷ List.[];
+        }
+
         abbrev G27 : Row.Cx
-        G27 = record { locals = List._++_ t23 t25; slots = life0 ∷ life1 ∷ life2 ∷ Row.off ∷ Row.off ∷ Row.off ∷ Row.off ∷ List.[]; }
+        G27 = record {
+          locals = List._++_ t23 t25;
+          slots = life0 ∷ life1 ∷ life2 ∷ Row.off ∷ Row.off ∷ Row.off ∷ Row.off ∷ List.[];
+        }
+
         abbrev G28 : Row.Cx
-        G28 = record { locals = List._++_ t23 t26; slots = life0 ∷ life1 ∷ life2 ∷ Row.off ∷ Row.off ∷ Row.off ∷ Row.off ∷ List.[]; }
+        G28 = record {
+          locals = List._++_ t23 t26;
+          slots = life0 ∷ life1 ∷ life2 ∷ Row.off ∷ Row.off ∷ Row.off ∷ Row.off ∷ List.[];
+        }
+
         abbrev G29 : Row.Cx
-        G29 = record { locals = List._++_ t23 t27; slots = life0 ∷ life1 ∷ life2 ∷ Row.off ∷ Row.off ∷ Row.off ∷ Row.off ∷ List.[]; }
+        G29 = record {
+          locals = List._++_ t23 t27;
+          slots = life0 ∷ life1 ∷ life2 ∷ Row.off ∷ Row.off ∷ Row.off ∷ Row.off ∷ List.[];
+        }
+
         abbrev G30 : Row.Cx
-        G30 = record { locals = List._++_ t23 t27; slots = life0 ∷ life1 ∷ life2 ∷ Row.off ∷ Row.alive ∷ Row.off ∷ Row.off ∷ List.[]; }
+        G30 = record {
+          locals = List._++_ t23 t27;
+          slots = life0 ∷ life1 ∷ life2 ∷ Row.off ∷ Row.alive ∷ Row.off ∷ Row.off ∷ List.[];
+        }
+
         abbrev G31 : Row.Cx
-        G31 = record { locals = List._++_ g28 t29; slots = life0 ∷ Row.off ∷ life2 ∷ Row.off ∷ Row.alive ∷ Row.off ∷ Row.off ∷ List.[]; }
+        G31 = record {
+          locals = List._++_ g28 t29;
+          slots = life0 ∷ Row.off ∷ life2 ∷ Row.off ∷ Row.alive ∷ Row.off ∷ Row.off ∷ List.[];
+        }
+
         abbrev G32 : Row.Cx
-        G32 = record { locals = List._++_ g28 t30; slots = life0 ∷ Row.off ∷ life2 ∷ Row.off ∷ Row.alive ∷ Row.off ∷ Row.off ∷ List.[]; }
+        G32 = record {
+          locals = List._++_ g28 t30;
+          slots = life0 ∷ Row.off ∷ life2 ∷ Row.off ∷ Row.alive ∷ Row.off ∷ Row.off ∷ List.[];
+        }
+
         abbrev G33 : Row.Cx
-        G33 = record { locals = List._++_ g28 t30; slots = life0 ∷ Row.off ∷ life2 ∷ Row.off ∷ Row.alive ∷ Row.alive ∷ Row.off ∷ List.[]; }
+        G33 = record {
+          locals = List._++_ g28 t30;
+          slots = life0 ∷ Row.off ∷ life2 ∷ Row.off ∷ Row.alive ∷ Row.alive ∷ Row.off ∷ List.[];
+        }
+
         abbrev G34 : Row.Cx
-        G34 = record { locals = List._++_ g31 t32; slots = life0 ∷ Row.off ∷ Row.off ∷ Row.off ∷ Row.alive ∷ Row.alive ∷ Row.off ∷ List.[]; }
+        G34 = record {
+          locals = List._++_ g31 t32;
+          slots = life0 ∷ Row.off ∷ Row.off ∷ Row.off ∷ Row.alive ∷ Row.alive ∷ Row.off ∷ List.[];
+        }
+
         abbrev G35 : Row.Cx
-        G35 = record { locals = List._++_ g31 t33; slots = life0 ∷ Row.off ∷ Row.off ∷ Row.off ∷ Row.alive ∷ Row.alive ∷ Row.off ∷ List.[]; }
+        G35 = record {
+          locals = List._++_ g31 t33;
+          slots = life0 ∷ Row.off ∷ Row.off ∷ Row.off ∷ Row.alive ∷ Row.alive ∷ Row.off ∷ List.[];
+        }
+
         abbrev G36 : Row.Cx
-        G36 = record { locals = List._++_ g31 t33; slots = life0 ∷ Row.off ∷ Row.off ∷ Row.off ∷ Row.alive ∷ Row.alive ∷ Row.alive ∷ List.[]; }
+        G36 = record {
+          locals = List._++_ g31 t33;
+          slots = life0 ∷ Row.off ∷ Row.off ∷ Row.off ∷ Row.alive ∷ Row.alive ∷ Row.alive ∷ List.[];
+        }
+
         abbrev G37 : Row.Cx
-        G37 = record { locals = List._++_ g31 t34; slots = life0 ∷ Row.off ∷ Row.off ∷ Row.off ∷ Row.alive ∷ Row.alive ∷ Row.alive ∷ List.[]; }
+        G37 = record {
+          locals = List._++_ g31 t34;
+          slots = life0 ∷ Row.off ∷ Row.off ∷ Row.off ∷ Row.alive ∷ Row.alive ∷ Row.alive ∷ List.[];
+        }
+
         abbrev G38 : Row.Cx
-        G38 = record { locals = List._++_ g31 t35; slots = life0 ∷ Row.off ∷ Row.off ∷ Row.off ∷ Row.alive ∷ Row.alive ∷ Row.alive ∷ List.[]; }
+        G38 = record {
+          locals = List._++_ g31 t35;
+          slots = life0 ∷ Row.off ∷ Row.off ∷ Row.off ∷ Row.alive ∷ Row.alive ∷ Row.alive ∷ List.[];
+        }
+
         abbrev G39 : Row.Cx
-        G39 = record { locals = List._++_ g36 t37; slots = life0 ∷ Row.off ∷ Row.off ∷ Row.off ∷ Row.alive ∷ Row.alive ∷ Row.alive ∷ List.[]; }
+        G39 = record {
+          locals = List._++_ g36 t37;
+          slots = life0 ∷ Row.off ∷ Row.off ∷ Row.off ∷ Row.alive ∷ Row.alive ∷ Row.alive ∷ List.[];
+        }
+
         abbrev G40 : Row.Cx
-        G40 = record { locals = List._++_ g36 t38; slots = life0 ∷ Row.off ∷ Row.off ∷ Row.off ∷ Row.alive ∷ Row.alive ∷ Row.alive ∷ List.[]; }
+        G40 = record {
+          locals = List._++_ g36 t38;
+          slots = life0 ∷ Row.off ∷ Row.off ∷ Row.off ∷ Row.alive ∷ Row.alive ∷ Row.alive ∷ List.[];
+        }
+
         abbrev G41 : Row.Cx
-        G41 = record { locals = List._++_ g39 t38; slots = life0 ∷ Row.off ∷ Row.off ∷ Row.off ∷ Row.alive ∷ Row.alive ∷ Row.alive ∷ List.[]; }
+        G41 = record {
+          locals = List._++_ g39 t38;
+          slots = life0 ∷ Row.off ∷ Row.off ∷ Row.off ∷ Row.alive ∷ Row.alive ∷ Row.alive ∷ List.[];
+        }
+
         abbrev G42 : Row.Cx
-        G42 = record { locals = List._++_ g40 t38; slots = life0 ∷ Row.off ∷ Row.off ∷ Row.off ∷ Row.alive ∷ Row.alive ∷ Row.alive ∷ List.[]; }
+        G42 = record {
+          locals = List._++_ g40 t38;
+          slots = life0 ∷ Row.off ∷ Row.off ∷ Row.off ∷ Row.alive ∷ Row.alive ∷ Row.alive ∷ List.[];
+        }
+
         abbrev G43 : Row.Cx
-        G43 = record { locals = List._++_ g41 t38; slots = life0 ∷ Row.off ∷ Row.off ∷ Row.off ∷ Row.alive ∷ Row.alive ∷ Row.alive ∷ List.[]; }
+        G43 = record {
+          locals = List._++_ g41 t38;
+          slots = life0 ∷ Row.off ∷ Row.off ∷ Row.off ∷ Row.alive ∷ Row.alive ∷ Row.alive ∷ List.[];
+        }
+
         abbrev G44 : Row.Cx
-        G44 = record { locals = List._++_ g42 t38; slots = life0 ∷ Row.off ∷ Row.off ∷ Row.off ∷ Row.alive ∷ Row.alive ∷ Row.alive ∷ List.[]; }
+        G44 = record {
+          locals = List._++_ g42 t38;
+          slots = life0 ∷ Row.off ∷ Row.off ∷ Row.off ∷ Row.alive ∷ Row.alive ∷ Row.alive ∷ List.[];
+        }
+
         abbrev G45 : Row.Cx
-        G45 = record { locals = List._++_ g43 t38; slots = life0 ∷ Row.off ∷ Row.off ∷ Row.off ∷ Row.alive ∷ Row.alive ∷ Row.alive ∷ List.[]; }
+        G45 = record {
+          locals = List._++_ g43 t38;
+          slots = life0 ∷ Row.off ∷ Row.off ∷ Row.off ∷ Row.alive ∷ Row.alive ∷ Row.alive ∷ List.[];
+        }
+
         abbrev G46 : Row.Cx
-        G46 = record { locals = List._++_ g43 t38; slots = life0 ∷ Row.off ∷ Row.off ∷ Row.off ∷ Row.dead ∷ Row.alive ∷ Row.alive ∷ List.[]; }
+        G46 = record {
+          locals = List._++_ g43 t38;
+          slots = life0 ∷ Row.off ∷ Row.off ∷ Row.off ∷ Row.dead ∷ Row.alive ∷ Row.alive ∷ List.[];
+        }
+
         abbrev G47 : Row.Cx
-        G47 = record { locals = List._++_ g44 t45; slots = life0 ∷ life1 ∷ Row.off ∷ Row.off ∷ Row.dead ∷ Row.alive ∷ Row.alive ∷ List.[]; }
+        G47 = record {
+          locals = List._++_ g44 t45;
+          slots = life0 ∷ life1 ∷ Row.off ∷ Row.off ∷ Row.dead ∷ Row.alive ∷ Row.alive ∷ List.[];
+        }
+
         abbrev G48 : Row.Cx
-        G48 = record { locals = List._++_ g44 t45; slots = life0 ∷ life1 ∷ Row.off ∷ Row.off ∷ Row.off ∷ Row.alive ∷ Row.alive ∷ List.[]; }
+        G48 = record {
+          locals = List._++_ g44 t45;
+          slots = life0 ∷ life1 ∷ Row.off ∷ Row.off ∷ Row.off ∷ Row.alive ∷ Row.alive ∷ List.[];
+        }
+
         abbrev G49 : Row.Cx
-        G49 = record { locals = List._++_ g44 t45; slots = life0 ∷ life1 ∷ Row.off ∷ Row.off ∷ Row.off ∷ Row.dead ∷ Row.alive ∷ List.[]; }
+        G49 = record {
+          locals = List._++_ g44 t45;
+          slots = life0 ∷ life1 ∷ Row.off ∷ Row.off ∷ Row.off ∷ Row.dead ∷ Row.alive ∷ List.[];
+        }
+
         abbrev G50 : Row.Cx
-        G50 = record { locals = List._++_ t46 t47; slots = life0 ∷ life1 ∷ life2 ∷ Row.off ∷ Row.off ∷ Row.dead ∷ Row.alive ∷ List.[]; }
+        G50 = record {
+          locals = List._++_ t46 t47;
+          slots = life0 ∷ life1 ∷ life2 ∷ Row.off ∷ Row.off ∷ Row.dead ∷ Row.alive ∷ List.[];
+        }
+
         abbrev G51 : Row.Cx
-        G51 = record { locals = List._++_ t46 t47; slots = life0 ∷ life1 ∷ life2 ∷ Row.off ∷ Row.off ∷ Row.dead ∷ Row.alive ∷ List.[]; }
+        G51 = record {
+          locals = List._++_ t46 t47;
+          slots = life0 ∷ life1 ∷ life2 ∷ Row.off ∷ Row.off ∷ Row.dead ∷ Row.alive ∷ List.[];
+        }
+
         abbrev G52 : Row.Cx
-        G52 = record { locals = List._++_ t46 t47; slots = life0 ∷ life1 ∷ life2 ∷ Row.off ∷ Row.off ∷ Row.off ∷ Row.alive ∷ List.[]; }
+        G52 = record {
+          locals = List._++_ t46 t47;
+          slots = life0 ∷ life1 ∷ life2 ∷ Row.off ∷ Row.off ∷ Row.off ∷ Row.alive ∷ List.[];
+        }
+
         abbrev G53 : Row.Cx
-        G53 = record { locals = List._++_ t46 t47; slots = life0 ∷ life1 ∷ life2 ∷ Row.off ∷ Row.off ∷ Row.off ∷ Row.dead ∷ List.[]; }
+        G53 = record {
+          locals = List._++_ t46 t47;
+          slots = life0 ∷ life1 ∷ life2 ∷ Row.off ∷ Row.off ∷ Row.off ∷ Row.dead ∷ List.[];
+        }
+
         abbrev G54 : Row.Cx
-        G54 = record { locals = List._++_ t46 t27; slots = life0 ∷ life1 ∷ life2 ∷ Row.off ∷ Row.off ∷ Row.off ∷ Row.dead ∷ List.[]; }
+        G54 = record {
+          locals = List._++_ t46 t27;
+          slots = life0 ∷ life1 ∷ life2 ∷ Row.off ∷ Row.off ∷ Row.off ∷ Row.dead ∷ List.[];
+        }
+
         abbrev G55 : Row.Cx
-        G55 = record { locals = List._++_ t46 t27; slots = life0 ∷ life1 ∷ life2 ∷ Row.off ∷ Row.off ∷ Row.off ∷ Row.off ∷ List.[]; }
+        G55 = record {
+          locals = List._++_ t46 t27;
+          slots = life0 ∷ life1 ∷ life2 ∷ Row.off ∷ Row.off ∷ Row.off ∷ Row.off ∷ List.[];
+        }
+
         abbrev G56 : Row.Cx
-        G56 = record { locals = List._++_ t46 t1; slots = life0 ∷ life1 ∷ life2 ∷ Row.off ∷ Row.off ∷ Row.off ∷ Row.off ∷ List.[]; }
+        G56 = record {
+          locals = List._++_ t46 t1;
+          slots = life0 ∷ life1 ∷ life2 ∷ Row.off ∷ Row.off ∷ Row.off ∷ Row.off ∷ List.[];
+        }
+
         abbrev G57 : Row.Cx
-        G57 = record { locals = List._++_ t2 t1; slots = life0 ∷ life1 ∷ life2 ∷ Row.off ∷ Row.off ∷ Row.off ∷ Row.off ∷ List.[]; }
+        G57 = record {
+          locals = List._++_ t2 t1;
+          slots = life0 ∷ life1 ∷ life2 ∷ Row.off ∷ Row.off ∷ Row.off ∷ Row.off ∷ List.[];
+        }
+
         abbrev G58 : Row.Cx
-        G58 = record { locals = List._++_ t48 t7; slots = life0 ∷ life1 ∷ life2 ∷ Row.off ∷ Row.off ∷ Row.off ∷ Row.off ∷ List.[]; }
+        G58 = record {
+          locals = List._++_ t48 t7;
+          slots = life0 ∷ life1 ∷ life2 ∷ Row.off ∷ Row.off ∷ Row.off ∷ Row.off ∷ List.[];
+        }
+
         abbrev G59 : Row.Cx
-        G59 = record { locals = List._++_ t8 t7; slots = life0 ∷ life1 ∷ life2 ∷ Row.off ∷ Row.off ∷ Row.off ∷ Row.off ∷ List.[]; }
+        G59 = record {
+          locals = List._++_ t8 t7;
+          slots = life0 ∷ life1 ∷ life2 ∷ Row.off ∷ Row.off ∷ Row.off ∷ Row.off ∷ List.[];
+        }
+
         abbrev G60 : Row.Cx
-        G60 = record { locals = List._++_ t8 t1; slots = life0 ∷ life1 ∷ life2 ∷ Row.off ∷ Row.off ∷ Row.off ∷ Row.off ∷ List.[]; }
+        G60 = record {
+          locals = List._++_ t8 t1;
+          slots = life0 ∷ life1 ∷ life2 ∷ Row.off ∷ Row.off ∷ Row.off ∷ Row.off ∷ List.[];
+        }
+
         abbrev G61 : Row.Cx
-        G61 = record { locals = List._++_ t49 t1; slots = life0 ∷ life1 ∷ life2 ∷ Row.off ∷ Row.off ∷ Row.off ∷ Row.off ∷ List.[]; }
+        G61 = record {
+          locals = List._++_ t49 t1;
+          slots = life0 ∷ life1 ∷ life2 ∷ Row.off ∷ Row.off ∷ Row.off ∷ Row.off ∷ List.[];
+        }
+
         abbrev G62 : Row.Cx
-        G62 = record { locals = List._++_ t50 t1; slots = life0 ∷ life1 ∷ life2 ∷ Row.off ∷ Row.off ∷ Row.off ∷ Row.off ∷ List.[]; }
+        G62 = record {
+          locals = List._++_ t50 t1;
+          slots = life0 ∷ life1 ∷ life2 ∷ Row.off ∷ Row.off ∷ Row.off ∷ Row.off ∷ List.[];
+        }
+
         abbrev G63 : Row.Cx
-        G63 = record { locals = List._++_ t51 t1; slots = life0 ∷ life1 ∷ life2 ∷ Row.off ∷ Row.off ∷ Row.off ∷ Row.off ∷ List.[]; }
+        G63 = record {
+          locals = List._++_ t51 t1;
+          slots = life0 ∷ life1 ∷ life2 ∷ Row.off ∷ Row.off ∷ Row.off ∷ Row.off ∷ List.[];
+        }
+
         abbrev G64 : Row.Cx
-        G64 = record { locals = List._++_ t2 t1; slots = life0 ∷ life1 ∷ life2 ∷ Row.off ∷ Row.off ∷ Row.off ∷ Row.off ∷ List.[]; }
+        G64 = record {
+          locals = List._++_ t2 t1;
+          slots = life0 ∷ life1 ∷ life2 ∷ Row.off ∷ Row.off ∷ Row.off ∷ Row.off ∷ List.[];
+        }
+
         abbrev Δ0 : Typed.Outs
         Δ0 = record { next = Option.none; exits = List.[]; returns = Option.some G1 }
+
         abbrev Δ1 : Typed.Outs
         Δ1 = Typed.withNext (Option.some G8) Δ0
-        module _ { M : Type 1 } (𝓤 : URA.URA M) (H : Wp.Heap 𝓤) (A : Atoms.Atoms 𝓤) (W : Kit.Given 𝓤 H A) (𝓣 : Wp.Tables 𝓤 H) (known : Knowns 𝓤 H A W
-            𝓣) (bs : List.List Nat.ℕ) (bd : Lifetimes.AllOutlive 3 (Kinds.osR r) κs) where
+
+        module _ {M : Type 1} (𝓤 : URA.URA M) (H : Wp.Heap 𝓤) (A : Atoms.Atoms 𝓤) (W : Kit.Given 𝓤 H A)
+            (𝓣 : Wp.Tables 𝓤 H) (known : Knowns 𝓤 H A W 𝓣) (bs : List.List Nat.ℕ)
+            (bd : Lifetimes.AllOutlive 3 (Kinds.osR r) κs) where
           abbrev E : Wp.Env 𝓤 H
           E = Frame.EnvOf 𝓤 H ((Kinds.tyR r) ∷ (Enter.tysP ps xs)) bs
+
           d0 : Typed.Typed 𝓤 H A 𝓣 E G57 b20 Δ1 (at0 bs)
           d0 = Typed.t-return 𝓤 H A W 𝓣 E Δ1 tt
+
           d1 : Typed.Typed 𝓤 H A 𝓣 E G56 b20 Δ1 (at1 bs)
-          d1 = Typed.g-pre 𝓤 H A W 𝓣 E G56 G57 b20 Δ1 (Typed.pass T56 T57 (s54 bs)) (at0 bs) (Scalar.g-room 𝓤 H A W E G56 12 (Syntax.tyInt Syntax.w64)
-              (Scalar.room-sc 𝓤 H A W (Row.sInt Syntax.w64))) d0
+          d1 = Typed.g-pre 𝓤 H A W 𝓣 E G56 G57 b20 Δ1 (Typed.pass T56 T57 (s54 bs)) (at0 bs) (Scalar.g-room 𝓤 H A W E
+              G56 12 (Syntax.tyInt Syntax.w64) (Scalar.room-sc 𝓤 H A W (Row.sInt Syntax.w64))) d0
+
           d2 : Typed.Typed 𝓤 H A 𝓣 E G55 b20 Δ1 (at2 bs)
-          d2 = Typed.g-pre 𝓤 H A W 𝓣 E G55 G56 b20 Δ1 (Typed.pass T54 T56 (s53 bs)) (at1 bs) (Scalar.g-room 𝓤 H A W E G55 17 (Syntax.tyArray
-              (Syntax.tyInt Syntax.w8) 62) (Init.room-arr 𝓤 H A W (Referent.rtF (Referent.fInt Syntax.w8)) 62 0 62 Path.refl)) d1
+          d2 = Typed.g-pre 𝓤 H A W 𝓣 E G55 G56 b20 Δ1 (Typed.pass T54 T56 (s53 bs)) (at1 bs) (Scalar.g-room 𝓤 H A W E
+              G55 17 (Syntax.tyArray (Syntax.tyInt Syntax.w8) 62) (Init.room-arr 𝓤 H A W
+              (Referent.rtF (Referent.fInt Syntax.w8)) 62 0 62 Path.refl)) d1
+
           d3 : Typed.Typed 𝓤 H A 𝓣 E G54 b20 Δ1 (at3 bs)
-          d3 = Typed.g-pre 𝓤 H A W 𝓣 E G54 G55 b20 Δ1 (λ Ψ. Ψ) (at2 bs) (Lifetime.g-forget 𝓤 H A W E G54 6 Row.dead Path.refl) d2
+          d3 = Typed.g-pre 𝓤 H A W 𝓣 E G54 G55 b20 Δ1 (λ Ψ. Ψ) (at2 bs)
+              (Lifetime.g-forget 𝓤 H A W E G54 6 Row.dead Path.refl) d2
+
           d4 : Typed.Typed 𝓤 H A 𝓣 E G53 b20 Δ1 (at4 bs)
-          d4 = Typed.g-pre 𝓤 H A W 𝓣 E G53 G54 b20 Δ1 (Typed.pass T51 T54 (s51 bs)) (at3 bs) (Share.g-back-arr-shr 𝓤 H A W E (Referent.rtF
-              (Referent.fInt Syntax.w8)) G53 17 62 6 (λ x. x) (Reads.as-is 𝓤 H A (Rows.arr-shr (Referent.rtF (Referent.fInt Syntax.w8)) 62 6))
-              Path.refl) d3
+          d4 = Typed.g-pre 𝓤 H A W 𝓣 E G53 G54 b20 Δ1 (Typed.pass T51 T54 (s51 bs)) (at3 bs) (Share.g-back-arr-shr 𝓤 H
+              A W E (Referent.rtF (Referent.fInt Syntax.w8)) G53 17 62 6 (λ x. x) (Reads.as-is 𝓤 H A (Rows.arr-shr
+              (Referent.rtF (Referent.fInt Syntax.w8)) 62 6)) Path.refl) d3
+
           d5 : Typed.Typed 𝓤 H A 𝓣 E G52 b20 Δ1 (at5 bs)
           d5 = Typed.g-pre 𝓤 H A W 𝓣 E G52 G53 b20 Δ1 (λ Ψ. Ψ) (at4 bs) (Lifetime.g-end 𝓤 H A W E G52 6 Path.refl) d4
+
           d6 : Typed.Typed 𝓤 H A 𝓣 E G51 b20 Δ1 (at6 bs)
-          d6 = Typed.g-pre 𝓤 H A W 𝓣 E G51 G52 b20 Δ1 (λ Ψ. Ψ) (at5 bs) (Lifetime.g-forget 𝓤 H A W E G51 5 Row.dead Path.refl) d5
+          d6 = Typed.g-pre 𝓤 H A W 𝓣 E G51 G52 b20 Δ1 (λ Ψ. Ψ) (at5 bs)
+              (Lifetime.g-forget 𝓤 H A W E G51 5 Row.dead Path.refl) d5
+
           d7 : Typed.Typed 𝓤 H A 𝓣 E G50 b20 Δ1 (at7 bs)
-          d7 = Typed.g-pre 𝓤 H A W 𝓣 E G50 G51 b20 Δ1 (Typed.give (s48 bs)) (at6 bs) (Know.g-sl-known 𝓤 H A W (Referent.fInt Syntax.w32) E G50 3 2
-              ref7 life2 0 (λ x. x) record { fits = Dec.lit< tt } (Reads.as-is 𝓤 H A (Mut.mslice (Referent.rtF (Referent.fInt Syntax.w32)) ref7 2))
-              Path.refl tt) d6
+          d7 = Typed.g-pre 𝓤 H A W 𝓣 E G50 G51 b20 Δ1 (Typed.give (s48 bs)) (at6 bs) (Know.g-sl-known 𝓤 H A W
+              (Referent.fInt Syntax.w32) E G50 3 2 ref7 life2 0 (λ x. x) record { fits = Dec.lit< tt } (Reads.as-is 𝓤 H
+              A (Mut.mslice (Referent.rtF (Referent.fInt Syntax.w32)) ref7 2)) Path.refl tt) d6
+
           d8 : Typed.Typed 𝓤 H A 𝓣 E G49 b20 Δ1 (at8 bs)
-          d8 = Typed.g-pre 𝓤 H A W 𝓣 E G49 G50 b20 Δ1 (Typed.both (s47 bs)) (at7 bs) (Relend.g-back-sl 𝓤 H A W E (Referent.rtF (Referent.fInt
-              Syntax.w32)) G49 25 3 2 5 ref7 ref2 life2 (λ x. x) (λ x. x) (Reads.as-is 𝓤 H A (Mut.msleft (Referent.rtF (Referent.fInt Syntax.w32))
-              ref2)) (Reads.as-is 𝓤 H A (Relend.mslice-owed (Referent.rtF (Referent.fInt Syntax.w32)) ref7 2 5 life2)) Path.refl Path.refl) d7
+          d8 = Typed.g-pre 𝓤 H A W 𝓣 E G49 G50 b20 Δ1 (Typed.both (s47 bs)) (at7 bs) (Relend.g-back-sl 𝓤 H A W E
+              (Referent.rtF (Referent.fInt Syntax.w32)) G49 25 3 2 5 ref7 ref2 life2 (λ x. x) (λ x. x) (Reads.as-is 𝓤 H
+              A (Mut.msleft (Referent.rtF (Referent.fInt Syntax.w32)) ref2)) (Reads.as-is 𝓤 H A (Relend.mslice-owed
+              (Referent.rtF (Referent.fInt Syntax.w32)) ref7 2 5 life2)) Path.refl Path.refl) d7
+
           d9 : Typed.Typed 𝓤 H A 𝓣 E G48 b20 Δ1 (at9 bs)
           d9 = Typed.g-pre 𝓤 H A W 𝓣 E G48 G49 b20 Δ1 (λ Ψ. Ψ) (at8 bs) (Lifetime.g-end 𝓤 H A W E G48 5 Path.refl) d8
+
           d10 : Typed.Typed 𝓤 H A 𝓣 E G47 b20 Δ1 (at10 bs)
-          d10 = Typed.g-pre 𝓤 H A W 𝓣 E G47 G48 b20 Δ1 (λ Ψ. Ψ) (at9 bs) (Lifetime.g-forget 𝓤 H A W E G47 4 Row.dead Path.refl) d9
+          d10 = Typed.g-pre 𝓤 H A W 𝓣 E G47 G48 b20 Δ1 (λ Ψ. Ψ) (at9 bs)
+              (Lifetime.g-forget 𝓤 H A W E G47 4 Row.dead Path.refl) d9
+
           d11 : Typed.Typed 𝓤 H A 𝓣 E G46 b20 Δ1 (at11 bs)
-          d11 = Typed.g-pre 𝓤 H A W 𝓣 E G46 G47 b20 Δ1 (Typed.both (s44 bs)) (at10 bs) (Relend.g-back-sl 𝓤 H A W E InflightAction.row G46 23 2 1 4
-              ref6 ref1 life1 (λ x. x) (λ x. x) (Reads.as-is 𝓤 H A (Mut.msleft InflightAction.row ref1)) (Reads.as-is 𝓤 H A (Relend.mslice-owed
-              InflightAction.row ref6 1 4 life1)) Path.refl Path.refl) d10
+          d11 = Typed.g-pre 𝓤 H A W 𝓣 E G46 G47 b20 Δ1 (Typed.both (s44 bs)) (at10 bs) (Relend.g-back-sl 𝓤 H A W E
+              InflightAction.row G46 23 2 1 4 ref6 ref1 life1 (λ x. x) (λ x. x)
+              (Reads.as-is 𝓤 H A (Mut.msleft InflightAction.row ref1)) (Reads.as-is 𝓤 H A
+              (Relend.mslice-owed InflightAction.row ref6 1 4 life1)) Path.refl Path.refl) d10
+
           d12 : Typed.Typed 𝓤 H A 𝓣 E G45 b20 Δ1 (at12 bs)
-          d12 = Typed.g-pre 𝓤 H A W 𝓣 E G45 G46 b20 Δ1 (λ Ψ. Ψ) (at11 bs) (Lifetime.g-end 𝓤 H A W E G45 4 Path.refl) d11
+          d12 = Typed.g-pre 𝓤 H A W 𝓣 E G45 G46 b20 Δ1 (λ Ψ. Ψ) (at11 bs) (Lifetime.g-end 𝓤 H A W E G45 4 Path.refl)
+              d11
+
           d13 : Typed.Typed 𝓤 H A 𝓣 E G44 b20 Δ1 (at13 bs)
-          d13 = Typed.g-pre 𝓤 H A W 𝓣 E G44 G45 b20 Δ1 (Typed.pass T44 T45 (s42 bs)) (at12 bs) (Scalar.g-room 𝓤 H A W E G44 15 Laws'''''.mir
-              (Local.room-whole 𝓤 H A W (Declared'.row Outgoing.the-type) Laws'''''.mir Path.refl)) d12
+          d13 = Typed.g-pre 𝓤 H A W 𝓣 E G44 G45 b20 Δ1 (Typed.pass T44 T45 (s42 bs)) (at12 bs) (Scalar.g-room 𝓤 H A W E
+              G44 15 Laws'''''.mir (Local.room-whole 𝓤 H A W (Declared'.row Outgoing.the-type) Laws'''''.mir Path.refl))
+              d12
+
           d14 : Typed.Typed 𝓤 H A 𝓣 E G43 b20 Δ1 (at14 bs)
-          d14 = Typed.g-pre 𝓤 H A W 𝓣 E G43 G44 b20 Δ1 (Typed.pass T43 T44 (s41 bs)) (at13 bs) (Scalar.g-room 𝓤 H A W E G43 14 Laws'''''''.mir
-              (Local.room-whole 𝓤 H A W (Declared'.row OpaqueRelayRuntime.the-type) Laws'''''''.mir Path.refl)) d13
+          d14 = Typed.g-pre 𝓤 H A W 𝓣 E G43 G44 b20 Δ1 (Typed.pass T43 T44 (s41 bs)) (at13 bs) (Scalar.g-room 𝓤 H A W E
+              G43 14 Laws'''''''.mir (Local.room-whole 𝓤 H A W (Declared'.row OpaqueRelayRuntime.the-type)
+              Laws'''''''.mir Path.refl)) d13
+
           d15 : Typed.Typed 𝓤 H A 𝓣 E G42 b20 Δ1 (at15 bs)
-          d15 = Typed.g-pre 𝓤 H A W 𝓣 E G42 G43 b20 Δ1 (Typed.pass T42 T43 (s40 bs)) (at14 bs) (Scalar.g-room 𝓤 H A W E G42 13 Laws'''.mir
-              (Local.room-whole 𝓤 H A W (Declared'.row Places.the-type) Laws'''.mir Path.refl)) d14
+          d15 = Typed.g-pre 𝓤 H A W 𝓣 E G42 G43 b20 Δ1 (Typed.pass T42 T43 (s40 bs)) (at14 bs) (Scalar.g-room 𝓤 H A W E
+              G42 13 Laws'''.mir (Local.room-whole 𝓤 H A W (Declared'.row Places.the-type) Laws'''.mir Path.refl)) d14
+
           d16 : Typed.Typed 𝓤 H A 𝓣 E G41 b20 Δ1 (at16 bs)
-          d16 = Typed.g-pre 𝓤 H A W 𝓣 E G41 G42 b20 Δ1 (Typed.pass T41 T42 (s39 bs)) (at15 bs) (Scalar.g-room 𝓤 H A W E G41 10 Laws'.mir
-              (Local.room-whole 𝓤 H A W (Declared.row HnsrAnswer.the-type) Laws'.mir Path.refl)) d15
+          d16 = Typed.g-pre 𝓤 H A W 𝓣 E G41 G42 b20 Δ1 (Typed.pass T41 T42 (s39 bs)) (at15 bs) (Scalar.g-room 𝓤 H A W E
+              G41 10 Laws'.mir (Local.room-whole 𝓤 H A W (Declared.row HnsrAnswer.the-type) Laws'.mir Path.refl)) d15
+
           d17 : Typed.Typed 𝓤 H A 𝓣 E G40 b20 Δ1 (at17 bs)
-          d17 = Typed.g-pre 𝓤 H A W 𝓣 E G40 G41 b20 Δ1 (Typed.pass T40 T41 (s38 bs)) (at16 bs) (Scalar.g-room 𝓤 H A W E G40 8 Laws''''.mir
-              (Local.room-whole 𝓤 H A W (Declared'.row ActionScan.the-type) Laws''''.mir Path.refl)) d16
+          d17 = Typed.g-pre 𝓤 H A W 𝓣 E G40 G41 b20 Δ1 (Typed.pass T40 T41 (s38 bs)) (at16 bs) (Scalar.g-room 𝓤 H A W E
+              G40 8 Laws''''.mir (Local.room-whole 𝓤 H A W (Declared'.row ActionScan.the-type) Laws''''.mir Path.refl))
+              d16
+
           d18 : Typed.Typed 𝓤 H A 𝓣 E G39 b20 Δ1 (at18 bs)
-          d18 = Typed.g-pre 𝓤 H A W 𝓣 E G39 G40 b20 Δ1 (Typed.pass T39 T40 (s37 bs)) (at17 bs) (Scalar.g-room 𝓤 H A W E G39 27 (Syntax.tyStruct (38 ∷
-              91 ∷ 93 ∷ List.[]) (Syntax.tcons ref4 (Syntax.tcons (Syntax.tyInt Syntax.w64) Syntax.tnil))) (Shared.room-sslice 𝓤 H A W (Referent.rtF
-              (Referent.fInt Syntax.w8)) ref4 6)) d17
+          d18 = Typed.g-pre 𝓤 H A W 𝓣 E G39 G40 b20 Δ1 (Typed.pass T39 T40 (s37 bs)) (at17 bs) (Scalar.g-room 𝓤 H A W E
+              G39 27 slice4 (Shared.room-sslice 𝓤 H A W (Referent.rtF (Referent.fInt Syntax.w8)) ref4 6)) d17
+
           d19 : Typed.Typed 𝓤 H A 𝓣 E G38 b21 Δ1 (at19 bs)
-          d19 = Typed.s-seq 𝓤 H A W 𝓣 E G38 G39 b19 b20 Δ1 (Typed.both (s36 bs)) (at18 bs) (Plain.t-call-plain 𝓤 H A W 𝓣 3 ps·9 r·9 (claims· .18)
-              (claims· .19) "hnsr_circuit::queue::send" (known .9) E (λ pos β. β) G38 (record { pos = 23; ty = Syntax.tyRef Syntax.erased Syntax.mut
-              InflightAction.to; ref = λ x. x; }, (record { pos = 25; ty = Syntax.tyRef Syntax.erased Syntax.mut (Syntax.tyInt Syntax.w32); ref = λ x.
-              x; }, (record { pos = 10; st = List.[]; d = 0; at = λ x. x }, (record { pos = 14; st = List.[]; d = 0; at = λ x. x }, (record { pos =
-              13; st = List.[]; d = 0; at = λ x. x }, (record { pos = 15; st = List.[]; d = 0; at = λ x. x }, (record { pos = 8; st = List.[]; d = 0;
-              at = λ x. x }, (record { pos = 27; ty = Syntax.tyRef Syntax.erased Syntax.imm (Syntax.tyInt Syntax.w8); ref = λ x. x; },
-              tt,),),),),),),),) 0 (4 ∷ 5 ∷ 6 ∷ List.[]) (Call.sub-id 𝓤 H A W (G38 .slots)) (Reads.as-is 𝓤 H A (Mut.mslice InflightAction.row ref1 4),
-              Mut.reads-mslice 𝓤 H A W InflightAction.row ref1 4, Path.refl, (Reads.as-is 𝓤 H A (Mut.mslice (Referent.rtF (Referent.fInt Syntax.w32))
-              ref2 5), Mut.reads-mslice 𝓤 H A W (Referent.rtF (Referent.fInt Syntax.w32)) ref2 5, Path.refl, ((Yields.yields-copy 𝓤 H A W (λ ρ. Unit)
-              (Declared.row HnsrAnswer.the-type) Path.refl (Copies.cEnum HnsrAnswer.the-type Laws'.the-laws Laws'.the-copy .copy 𝓤 H A W) (Rows'.whole
-              (Declared.row HnsrAnswer.the-type)) (λ x. x) (λ x. x) (λ ρ told. Local.mem-whole 𝓤 H A W (Declared.row HnsrAnswer.the-type) ρ) λ ρ told.
-              Local.whole-mem 𝓤 H A W (Declared.row HnsrAnswer.the-type) ρ, Path.refl,), ((Yields.yields-copy 𝓤 H A W (λ ρ. Unit) (Declared'.row
-              OpaqueRelayRuntime.the-type) Path.refl (Copies.cStruct OpaqueRelayRuntime.the-type Laws'''''''.the-laws Laws'''''''.the-copy .copy 𝓤 H A
-              W) (Rows'.whole (Declared'.row OpaqueRelayRuntime.the-type)) (λ x. x) (λ x. x) (λ ρ told. Local.mem-whole 𝓤 H A W (Declared'.row
-              OpaqueRelayRuntime.the-type) ρ) λ ρ told. Local.whole-mem 𝓤 H A W (Declared'.row OpaqueRelayRuntime.the-type) ρ, Path.refl,),
-              ((Yields.yields-copy 𝓤 H A W (λ ρ. Unit) (Declared'.row Places.the-type) Path.refl (Copies.cStruct Places.the-type Laws'''.the-laws
-              Laws'''.the-copy .copy 𝓤 H A W) (Rows'.whole (Declared'.row Places.the-type)) (λ x. x) (λ x. x) (λ ρ told. Local.mem-whole 𝓤 H A W
-              (Declared'.row Places.the-type) ρ) λ ρ told. Local.whole-mem 𝓤 H A W (Declared'.row Places.the-type) ρ, Path.refl,),
-              ((Yields.yields-copy 𝓤 H A W (λ ρ. Unit) (Declared'.row Outgoing.the-type) Path.refl (Copies.cStruct Outgoing.the-type
-              Laws'''''.the-laws Laws'''''.the-copy .copy 𝓤 H A W) (Rows'.whole (Declared'.row Outgoing.the-type)) (λ x. x) (λ x. x) (λ ρ told.
-              Local.mem-whole 𝓤 H A W (Declared'.row Outgoing.the-type) ρ) λ ρ told. Local.whole-mem 𝓤 H A W (Declared'.row Outgoing.the-type) ρ,
-              Path.refl,), ((Yields.yields-copy 𝓤 H A W (λ ρ. Unit) (Declared'.row ActionScan.the-type) Path.refl (Copies.cStruct ActionScan.the-type
-              Laws''''.the-laws Laws''''.the-copy .copy 𝓤 H A W) (Rows'.whole (Declared'.row ActionScan.the-type)) (λ x. x) (λ x. x) (λ ρ told.
-              Local.mem-whole 𝓤 H A W (Declared'.row ActionScan.the-type) ρ) λ ρ told. Local.whole-mem 𝓤 H A W (Declared'.row ActionScan.the-type) ρ,
-              Path.refl,), (ShrSlice.spares-sslice 𝓤 H A W (Referent.rtF (Referent.fInt Syntax.w8)) ref4 6, Shared.reads-sslice 𝓤 H A W (Referent.rtF
-              (Referent.fInt Syntax.w8)) ref4 6, Path.refl, tt,),),),),),),),) (Reads.room-gone 𝓤 H A Laws''''''''.mir) (tt, (tt, (tt, tt)))
-              Path.refl) d18
+          d19 = Typed.s-seq 𝓤 H A W 𝓣 E G38 G39 b19 b20 Δ1 (Typed.both (s36 bs)) (at18 bs) (Plain.t-call-plain 𝓤 H A W
+              𝓣 3 ps·9 r·9 (claims· .18) (claims· .19) "hnsr_circuit::queue::send" (known .9) E (λ pos β. β) G38 (
+                record { pos = 23; ty = ref1; ref = λ x. x },
+                (
+                  record { pos = 25; ty = ref2; ref = λ x. x },
+                  (
+                    record { pos = 10; st = List.[]; d = 0; at = λ x. x },
+                    (
+                      record { pos = 14; st = List.[]; d = 0; at = λ x. x },
+                      (
+                        record { pos = 13; st = List.[]; d = 0; at = λ x. x },
+                        (
+                          record { pos = 15; st = List.[]; d = 0; at = λ x. x },
+                          (
+                            record { pos = 8; st = List.[]; d = 0; at = λ x. x },
+                            (record { pos = 27; ty = ref4; ref = λ x. x }, tt),
+                          ),
+                        ),
+                      ),
+                    ),
+                  ),
+                ),
+              ) 0 (4 ∷ 5 ∷ 6 ∷ List.[]) (Call.sub-id 𝓤 H A W (G38 .slots)) (
+                Reads.as-is 𝓤 H A (Mut.mslice InflightAction.row ref1 4),
+                Mut.reads-mslice 𝓤 H A W InflightAction.row ref1 4,
+                Path.refl,
+                (
+                  Reads.as-is 𝓤 H A (Mut.mslice (Referent.rtF (Referent.fInt Syntax.w32)) ref2 5),
+                  Mut.reads-mslice 𝓤 H A W (Referent.rtF (Referent.fInt Syntax.w32)) ref2 5,
+                  Path.refl,
+                  (
+                    (
+                      Yields.yields-copy 𝓤 H A W (λ ρ. Unit) (Declared.row HnsrAnswer.the-type) Path.refl (Copies.cEnum
+                          HnsrAnswer.the-type Laws'.the-laws Laws'.the-copy .copy 𝓤 H A W)
+                          (Rows'.whole (Declared.row HnsrAnswer.the-type)) (λ x. x) (λ x. x) (λ ρ told. Local.mem-whole
+                          𝓤 H A W (Declared.row HnsrAnswer.the-type) ρ) λ ρ told. Local.whole-mem 𝓤 H A W
+                          (Declared.row HnsrAnswer.the-type) ρ,
+                      Path.refl,
+                    ),
+                    (
+                      (
+                        Yields.yields-copy 𝓤 H A W (λ ρ. Unit) (Declared'.row OpaqueRelayRuntime.the-type) Path.refl (Copies.cStruct
+                            OpaqueRelayRuntime.the-type Laws'''''''.the-laws Laws'''''''.the-copy .copy 𝓤 H A W)
+                            (Rows'.whole (Declared'.row OpaqueRelayRuntime.the-type)) (λ x. x) (λ x. x) (λ ρ told.
+                            Local.mem-whole 𝓤 H A W (Declared'.row OpaqueRelayRuntime.the-type) ρ) λ ρ told.
+                            Local.whole-mem 𝓤 H A W (Declared'.row OpaqueRelayRuntime.the-type) ρ,
+                        Path.refl,
+                      ),
+                      (
+                        (
+                          Yields.yields-copy 𝓤 H A W (λ ρ. Unit) (Declared'.row Places.the-type) Path.refl (Copies.cStruct
+                              Places.the-type Laws'''.the-laws Laws'''.the-copy .copy 𝓤 H A W)
+                              (Rows'.whole (Declared'.row Places.the-type)) (λ x. x) (λ x. x) (λ ρ told.
+                              Local.mem-whole 𝓤 H A W (Declared'.row Places.the-type) ρ) λ ρ told. Local.whole-mem 𝓤 H
+                              A W (Declared'.row Places.the-type) ρ,
+                          Path.refl,
+                        ),
+                        (
+                          (
+                            Yields.yields-copy 𝓤 H A W (λ ρ. Unit) (Declared'.row Outgoing.the-type) Path.refl (Copies.cStruct
+                                Outgoing.the-type Laws'''''.the-laws Laws'''''.the-copy .copy 𝓤 H A W)
+                                (Rows'.whole (Declared'.row Outgoing.the-type)) (λ x. x) (λ x. x) (λ ρ told.
+                                Local.mem-whole 𝓤 H A W (Declared'.row Outgoing.the-type) ρ) λ ρ told. Local.whole-mem
+                                𝓤 H A W (Declared'.row Outgoing.the-type) ρ,
+                            Path.refl,
+                          ),
+                          (
+                            (
+                              Yields.yields-copy 𝓤 H A W (λ ρ. Unit) (Declared'.row ActionScan.the-type) Path.refl (Copies.cStruct
+                                  ActionScan.the-type Laws''''.the-laws Laws''''.the-copy .copy 𝓤 H A W)
+                                  (Rows'.whole (Declared'.row ActionScan.the-type)) (λ x. x) (λ x. x) (λ ρ told.
+                                  Local.mem-whole 𝓤 H A W (Declared'.row ActionScan.the-type) ρ) λ ρ told.
+                                  Local.whole-mem 𝓤 H A W (Declared'.row ActionScan.the-type) ρ,
+                              Path.refl,
+                            ),
+                            (
+                              ShrSlice.spares-sslice 𝓤 H A W (Referent.rtF (Referent.fInt Syntax.w8)) ref4 6,
+                              Shared.reads-sslice 𝓤 H A W (Referent.rtF (Referent.fInt Syntax.w8)) ref4 6,
+                              Path.refl,
+                              tt,
+                            ),
+                          ),
+                        ),
+                      ),
+                    ),
+                  ),
+                ),
+              ) (Reads.room-gone 𝓤 H A Laws''''''''.mir) (tt, (tt, (tt, tt))) Path.refl) d18
+
           d20 : Typed.Typed 𝓤 H A 𝓣 E G37 b22 Δ1 (at20 bs)
-          d20 = Typed.s-seq 𝓤 H A W 𝓣 E G37 G38 b18 b21 Δ1 (Typed.ask (s35 bs)) (at19 bs) (Relend.t-sl-aggregate 𝓤 H A W E (Referent.rtF
-              (Referent.fInt Syntax.w8)) 𝓣 (Relend.asShr (Referent.rtF (Referent.fInt Syntax.w8))) G37 26 27 6 ref3 ref4 (λ x. x) (Scalar.oInt
-              Syntax.w64 62) (Reads.as-is 𝓤 H A (Relend.ssptr (Referent.rtF (Referent.fInt Syntax.w8)) ref3 6)) (Reads.room-gone 𝓤 H A
-              (Syntax.tyStruct (38 ∷ 91 ∷ 93 ∷ List.[]) (Syntax.tcons ref4 (Syntax.tcons (Syntax.tyInt Syntax.w64) Syntax.tnil)))) tt Path.refl
-              Path.refl λ b o k. tt) d19
+          d20 = Typed.s-seq 𝓤 H A W 𝓣 E G37 G38 b18 b21 Δ1 (Typed.ask (s35 bs)) (at19 bs) (Relend.t-sl-aggregate 𝓤 H A
+              W E (Referent.rtF (Referent.fInt Syntax.w8)) 𝓣 (Relend.asShr (Referent.rtF (Referent.fInt Syntax.w8)))
+              G37 26 27 6 ref3 ref4 (λ x. x) (Scalar.oInt Syntax.w64 62) (Reads.as-is 𝓤 H A (Relend.ssptr
+              (Referent.rtF (Referent.fInt Syntax.w8)) ref3 6)) (Reads.room-gone 𝓤 H A slice4) tt Path.refl Path.refl
+              λ b o k. tt) d19
+
           d21 : Typed.Typed 𝓤 H A 𝓣 E G36 b23 Δ1 (at21 bs)
-          d21 = Typed.s-seq 𝓤 H A W 𝓣 E G36 G37 b17 b22 Δ1 (Typed.give (s34 bs)) (at20 bs) (Share.t-arr-share 𝓤 H A W E 𝓣 (Referent.rtF (Referent.fInt
-              Syntax.w8)) G36 17 26 62 6 ref3 (λ x. x) (Reads.as-is 𝓤 H A (Rows.arrF (Referent.rtF (Referent.fInt Syntax.w8)) 62 0)) (Reads.room-gone
-              𝓤 H A ref3) Path.refl (λ b o. tt) (Dec.lit< tt, Dec.lit< tt)) d20
+          d21 = Typed.s-seq 𝓤 H A W 𝓣 E G36 G37 b17 b22 Δ1 (Typed.give (s34 bs)) (at20 bs) (Share.t-arr-share 𝓤 H A W E
+              𝓣 (Referent.rtF (Referent.fInt Syntax.w8)) G36 17 26 62 6 ref3 (λ x. x) (Reads.as-is 𝓤 H A
+              (Rows.arrF (Referent.rtF (Referent.fInt Syntax.w8)) 62 0)) (Reads.room-gone 𝓤 H A ref3) Path.refl
+              (λ b o. tt) (Dec.lit< tt, Dec.lit< tt)) d20
+
           d22 : Typed.Typed 𝓤 H A 𝓣 E G35 b23 Δ1 (at22 bs)
-          d22 = Typed.g-pre 𝓤 H A W 𝓣 E G35 G36 b23 Δ1 (λ Ψ. Ψ) (at21 bs) (Lifetime.g-begin 𝓤 H A W E G35 6 (tt, (tt, ((tt, tt), ((tt, tt), (tt, (tt,
-              (tt, (tt, (tt, (tt, (tt, (tt, (tt, (tt, (tt, (tt, (tt, (tt, (tt, (tt, (tt, (tt, (tt, (tt, (tt, (tt, (tt, (tt,
-              tt))))),),),),),),),),),),),),),),),),),),),),),),),)) d21
+          d22 = Typed.g-pre 𝓤 H A W 𝓣 E G35 G36 b23 Δ1 (λ Ψ. Ψ) (at21 bs) (Lifetime.g-begin 𝓤 H A W E G35 6 (
+            tt,
+            (
+              tt,
+              (
+                (tt, tt),
+                (
+                  (tt, tt),
+                  (
+                    tt,
+                    (
+                      tt,
+                      (
+                        tt,
+                        (
+                          tt,
+                          (
+                            tt,
+                            (
+                              tt,
+                              (
+                                tt,
+                                (
+                                  tt,
+                                  (
+                                    tt,
+                                    (
+                                      tt,
+                                      (
+                                        tt,
+                                        (
+                                          tt,
+                                          (tt, (tt, (tt, (tt, (tt, (tt, (tt, (tt, (tt, (tt, (tt, (tt, tt)))))))))))),
+                                        ),
+                                      ),
+                                    ),
+                                  ),
+                                ),
+                              ),
+                            ),
+                          ),
+                        ),
+                      ),
+                    ),
+                  ),
+                ),
+              ),
+            ),
+          )) d21
+
           d23 : Typed.Typed 𝓤 H A 𝓣 E G34 b24 Δ1 (at23 bs)
-          d23 = Typed.s-seq 𝓤 H A W 𝓣 E G34 G35 b16 b23 Δ1 (Typed.ask (s32 bs)) (at22 bs) (Relend.t-sl-aggregate 𝓤 H A W E (Referent.rtF
-              (Referent.fInt Syntax.w32)) 𝓣 (Relend.asMut (Referent.rtF (Referent.fInt Syntax.w32))) G34 24 25 5 ref2 ref2 (λ x. x) (Scalar.oFld 3
-              ((Syntax.field 1) ∷ List.[]) (Syntax.tyInt Syntax.w64) 8 λ v. Shared.lenV (v .0)) (Reads.as-is 𝓤 H A (Relend.msptr (Referent.rtF
-              (Referent.fInt Syntax.w32)) ref2 5)) (Reads.room-gone 𝓤 H A (Syntax.tyStruct (38 ∷ 91 ∷ 93 ∷ List.[]) (Syntax.tcons ref2 (Syntax.tcons
-              (Syntax.tyInt Syntax.w64) Syntax.tnil)))) (Relend.reads-owed-len 𝓤 H A W (Referent.rtF (Referent.fInt Syntax.w32)) ref7 2 5 life2 8
-              Path.refl, Path.refl,) Path.refl Path.refl λ b o k. tt) d22
+          d23 = Typed.s-seq 𝓤 H A W 𝓣 E G34 G35 b16 b23 Δ1 (Typed.ask (s32 bs)) (at22 bs) (Relend.t-sl-aggregate 𝓤 H A
+              W E (Referent.rtF (Referent.fInt Syntax.w32)) 𝓣 (Relend.asMut (Referent.rtF (Referent.fInt Syntax.w32)))
+              G34 24 25 5 ref2 ref2 (λ x. x) (Scalar.oFld 3 ((Syntax.field 1) ∷ List.[]) (Syntax.tyInt Syntax.w64) 8
+              λ v. Shared.lenV (v .0)) (Reads.as-is 𝓤 H A (Relend.msptr (Referent.rtF (Referent.fInt Syntax.w32)) ref2
+              5)) (Reads.room-gone 𝓤 H A slice2) (
+                Relend.reads-owed-len 𝓤 H A W (Referent.rtF (Referent.fInt Syntax.w32)) ref7 2 5 life2 8 Path.refl,
+                Path.refl,
+              ) Path.refl Path.refl λ b o k. tt) d22
+
           d24 : Typed.Typed 𝓤 H A 𝓣 E G33 b25 Δ1 (at24 bs)
-          d24 = Typed.s-seq 𝓤 H A W 𝓣 E G33 G34 b15 b24 Δ1 (Typed.give (s31 bs)) (at23 bs) (Relend.t-sl-relend 𝓤 H A W E (Referent.rtF (Referent.fInt
-              Syntax.w32)) 𝓣 G33 3 24 2 5 ref7 ref2 life2 0 (λ x. x) (Reads.as-is 𝓤 H A (Mut.mslice (Referent.rtF (Referent.fInt Syntax.w32)) ref7 2))
-              (Reads.room-gone 𝓤 H A ref2) Path.refl tt Path.refl Path.refl Path.refl λ b o. tt) d23
+          d24 = Typed.s-seq 𝓤 H A W 𝓣 E G33 G34 b15 b24 Δ1 (Typed.give (s31 bs)) (at23 bs) (Relend.t-sl-relend 𝓤 H A W
+              E (Referent.rtF (Referent.fInt Syntax.w32)) 𝓣 G33 3 24 2 5 ref7 ref2 life2 0 (λ x. x) (Reads.as-is 𝓤 H A (Mut.mslice
+              (Referent.rtF (Referent.fInt Syntax.w32)) ref7 2)) (Reads.room-gone 𝓤 H A ref2) Path.refl tt Path.refl
+              Path.refl Path.refl λ b o. tt) d23
+
           d25 : Typed.Typed 𝓤 H A 𝓣 E G32 b25 Δ1 (at25 bs)
-          d25 = Typed.g-pre 𝓤 H A W 𝓣 E G32 G33 b25 Δ1 (λ Ψ. Ψ) (at24 bs) (Lifetime.g-begin 𝓤 H A W E G32 5 (tt, (tt, ((tt, tt), (tt, (tt, (tt, (tt,
-              (tt, (tt, (tt, (tt, (tt, (tt, (tt, (tt, (tt, (tt, (tt, (tt, (tt, (tt, (tt, (tt, (tt, (tt, (tt, (tt, (tt,
-              tt))))),),),),),),),),),),),),),),),),),),),),),),),)) d24
+          d25 = Typed.g-pre 𝓤 H A W 𝓣 E G32 G33 b25 Δ1 (λ Ψ. Ψ) (at24 bs) (Lifetime.g-begin 𝓤 H A W E G32 5 (
+            tt,
+            (
+              tt,
+              (
+                (tt, tt),
+                (
+                  tt,
+                  (
+                    tt,
+                    (
+                      tt,
+                      (
+                        tt,
+                        (
+                          tt,
+                          (
+                            tt,
+                            (
+                              tt,
+                              (
+                                tt,
+                                (
+                                  tt,
+                                  (
+                                    tt,
+                                    (
+                                      tt,
+                                      (
+                                        tt,
+                                        (
+                                          tt,
+                                          (tt, (tt, (tt, (tt, (tt, (tt, (tt, (tt, (tt, (tt, (tt, (tt, tt)))))))))))),
+                                        ),
+                                      ),
+                                    ),
+                                  ),
+                                ),
+                              ),
+                            ),
+                          ),
+                        ),
+                      ),
+                    ),
+                  ),
+                ),
+              ),
+            ),
+          )) d24
+
           d26 : Typed.Typed 𝓤 H A 𝓣 E G31 b26 Δ1 (at26 bs)
-          d26 = Typed.s-seq 𝓤 H A W 𝓣 E G31 G32 b14 b25 Δ1 (Typed.ask (s29 bs)) (at25 bs) (Relend.t-sl-aggregate 𝓤 H A W E InflightAction.row 𝓣
-              (Relend.asMut InflightAction.row) G31 22 23 4 ref1 ref1 (λ x. x) (Scalar.oFld 2 ((Syntax.field 1) ∷ List.[]) (Syntax.tyInt Syntax.w64) 8
-              λ v. Shared.lenV (v .0)) (Reads.as-is 𝓤 H A (Relend.msptr InflightAction.row ref1 4)) (Reads.room-gone 𝓤 H A (Syntax.tyStruct (38 ∷ 91 ∷
-              93 ∷ List.[]) (Syntax.tcons ref1 (Syntax.tcons (Syntax.tyInt Syntax.w64) Syntax.tnil)))) (Relend.reads-owed-len 𝓤 H A W
-              InflightAction.row ref6 1 4 life1 8 Path.refl, Path.refl,) Path.refl Path.refl λ b o k. tt) d25
+          d26 = Typed.s-seq 𝓤 H A W 𝓣 E G31 G32 b14 b25 Δ1 (Typed.ask (s29 bs)) (at25 bs) (Relend.t-sl-aggregate 𝓤 H A
+              W E InflightAction.row 𝓣 (Relend.asMut InflightAction.row) G31 22 23 4 ref1 ref1 (λ x. x) (Scalar.oFld 2
+              ((Syntax.field 1) ∷ List.[]) (Syntax.tyInt Syntax.w64) 8 λ v. Shared.lenV (v .0)) (Reads.as-is 𝓤 H A
+              (Relend.msptr InflightAction.row ref1 4)) (Reads.room-gone 𝓤 H A slice1) (
+                Relend.reads-owed-len 𝓤 H A W InflightAction.row ref6 1 4 life1 8 Path.refl,
+                Path.refl,
+              ) Path.refl Path.refl λ b o k. tt) d25
+
           d27 : Typed.Typed 𝓤 H A 𝓣 E G30 b27 Δ1 (at27 bs)
-          d27 = Typed.s-seq 𝓤 H A W 𝓣 E G30 G31 b13 b26 Δ1 (Typed.give (s28 bs)) (at26 bs) (Relend.t-sl-relend 𝓤 H A W E InflightAction.row 𝓣 G30 2 22
-              1 4 ref6 ref1 life1 0 (λ x. x) (Reads.as-is 𝓤 H A (Mut.mslice InflightAction.row ref6 1)) (Reads.room-gone 𝓤 H A ref1) Path.refl tt
+          d27 = Typed.s-seq 𝓤 H A W 𝓣 E G30 G31 b13 b26 Δ1 (Typed.give (s28 bs)) (at26 bs) (Relend.t-sl-relend 𝓤 H A W
+              E InflightAction.row 𝓣 G30 2 22 1 4 ref6 ref1 life1 0 (λ x. x)
+              (Reads.as-is 𝓤 H A (Mut.mslice InflightAction.row ref6 1)) (Reads.room-gone 𝓤 H A ref1) Path.refl tt
               Path.refl Path.refl Path.refl λ b o. tt) d26
+
           d28 : Typed.Typed 𝓤 H A 𝓣 E G29 b27 Δ1 (at28 bs)
-          d28 = Typed.g-pre 𝓤 H A W 𝓣 E G29 G30 b27 Δ1 (λ Ψ. Ψ) (at27 bs) (Lifetime.g-begin 𝓤 H A W E G29 4 (tt, (tt, (tt, (tt, (tt, (tt, (tt, (tt,
-              (tt, (tt, (tt, (tt, (tt, (tt, (tt, (tt, (tt, (tt, (tt, (tt, (tt, (tt, (tt, (tt, (tt, (tt, (tt, (tt,
-              tt))))),),),),),),),),),),),),),),),),),),),),),),),)) d27
+          d28 = Typed.g-pre 𝓤 H A W 𝓣 E G29 G30 b27 Δ1 (λ Ψ. Ψ) (at27 bs) (Lifetime.g-begin 𝓤 H A W E G29 4 (
+            tt,
+            (
+              tt,
+              (
+                tt,
+                (
+                  tt,
+                  (
+                    tt,
+                    (
+                      tt,
+                      (
+                        tt,
+                        (
+                          tt,
+                          (
+                            tt,
+                            (
+                              tt,
+                              (
+                                tt,
+                                (
+                                  tt,
+                                  (
+                                    tt,
+                                    (
+                                      tt,
+                                      (
+                                        tt,
+                                        (
+                                          tt,
+                                          (tt, (tt, (tt, (tt, (tt, (tt, (tt, (tt, (tt, (tt, (tt, (tt, tt)))))))))))),
+                                        ),
+                                      ),
+                                    ),
+                                  ),
+                                ),
+                              ),
+                            ),
+                          ),
+                        ),
+                      ),
+                    ),
+                  ),
+                ),
+              ),
+            ),
+          )) d27
+
           d29 : Typed.Typed 𝓤 H A 𝓣 E G28 b27 Δ1 (at29 bs)
-          d29 = Typed.g-pre 𝓤 H A W 𝓣 E G28 G29 b27 Δ1 (Typed.pass T28 T29 (s26 bs)) (at28 bs) (Scalar.g-room 𝓤 H A W E G28 21 (Syntax.tyArray
-              (Syntax.tyInt Syntax.w8) 62) (Init.room-arr 𝓤 H A W (Referent.rtF (Referent.fInt Syntax.w8)) 62 0 62 Path.refl)) d28
+          d29 = Typed.g-pre 𝓤 H A W 𝓣 E G28 G29 b27 Δ1 (Typed.pass T28 T29 (s26 bs)) (at28 bs) (Scalar.g-room 𝓤 H A W E
+              G28 21 (Syntax.tyArray (Syntax.tyInt Syntax.w8) 62) (Init.room-arr 𝓤 H A W
+              (Referent.rtF (Referent.fInt Syntax.w8)) 62 0 62 Path.refl)) d28
+
           d30 : Typed.Typed 𝓤 H A 𝓣 E G27 b28 Δ1 (at30 bs)
-          d30 = Typed.s-seq 𝓤 H A W 𝓣 E G27 G28 b12 b27 Δ1 (Typed.pass T27 T28 (s25 bs)) (at29 bs) (LocalCopy.t-val-copy 𝓤 H A W E 𝓣 (λ ρ. Unit) G27
-              21 17 (Array'.Array (Referent.rtF (Referent.fInt Syntax.w8)) 62) (Syntax.tyArray (Syntax.tyInt Syntax.w8) 62) (Syntax.tyArray
-              (Syntax.tyInt Syntax.w8) 62) (Rows.arrF (Referent.rtF (Referent.fInt Syntax.w8)) 62 0) (Rows.arrF (Referent.rtF (Referent.fInt
-              Syntax.w8)) 62 0) (λ x. x) (λ x. x) (λ x. x) Path.refl (Own.told-none 𝓤 H A (G27 .slots)) (Yields.yields-copy 𝓤 H A W (λ ρ. Unit)
-              (Array'.Array (Referent.rtF (Referent.fInt Syntax.w8)) 62) Path.refl (Copies.cArr (Referent.rtF (Referent.fInt Syntax.w8)) (Copies.cRf
-              (Referent.fInt Syntax.w8)) 62 .copy 𝓤 H A W) (Rows.arrF (Referent.rtF (Referent.fInt Syntax.w8)) 62 0) (λ x. x) (λ x. x) (λ ρ told.
-              Whole.mem-arr 𝓤 H A W (Referent.rtF (Referent.fInt Syntax.w8)) 62 ρ) λ ρ told. Whole.arr-mem 𝓤 H A W (Referent.rtF (Referent.fInt
-              Syntax.w8)) 62 tt ρ) (Reads.room-gone 𝓤 H A (Syntax.tyArray (Syntax.tyInt Syntax.w8) 62)) (Yields.makes-mem 𝓤 H A W (λ ρ. Unit)
-              (Array'.Array (Referent.rtF (Referent.fInt Syntax.w8)) 62) Path.refl (Rows.arrF (Referent.rtF (Referent.fInt Syntax.w8)) 62 0) (λ x. x)
-              λ ρ told. Whole.arr-mem 𝓤 H A W (Referent.rtF (Referent.fInt Syntax.w8)) 62 tt ρ) Path.refl Path.refl) d29
+          d30 = Typed.s-seq 𝓤 H A W 𝓣 E G27 G28 b12 b27 Δ1 (Typed.pass T27 T28 (s25 bs)) (at29 bs) (LocalCopy.t-val-copy
+              𝓤 H A W E 𝓣 (λ ρ. Unit) G27 21 17 (Array'.Array (Referent.rtF (Referent.fInt Syntax.w8)) 62)
+              (Syntax.tyArray (Syntax.tyInt Syntax.w8) 62) (Syntax.tyArray (Syntax.tyInt Syntax.w8) 62)
+              (Rows.arrF (Referent.rtF (Referent.fInt Syntax.w8)) 62 0)
+              (Rows.arrF (Referent.rtF (Referent.fInt Syntax.w8)) 62 0) (λ x. x) (λ x. x) (λ x. x) Path.refl
+              (Own.told-none 𝓤 H A (G27 .slots)) (Yields.yields-copy 𝓤 H A W (λ ρ. Unit)
+              (Array'.Array (Referent.rtF (Referent.fInt Syntax.w8)) 62) Path.refl (Copies.cArr
+              (Referent.rtF (Referent.fInt Syntax.w8)) (Copies.cRf (Referent.fInt Syntax.w8)) 62 .copy 𝓤 H A W)
+              (Rows.arrF (Referent.rtF (Referent.fInt Syntax.w8)) 62 0) (λ x. x) (λ x. x) (λ ρ told. Whole.mem-arr 𝓤 H
+              A W (Referent.rtF (Referent.fInt Syntax.w8)) 62 ρ) λ ρ told. Whole.arr-mem 𝓤 H A W
+              (Referent.rtF (Referent.fInt Syntax.w8)) 62 tt ρ) (Reads.room-gone 𝓤 H A
+              (Syntax.tyArray (Syntax.tyInt Syntax.w8) 62)) (Yields.makes-mem 𝓤 H A W (λ ρ. Unit)
+              (Array'.Array (Referent.rtF (Referent.fInt Syntax.w8)) 62) Path.refl
+              (Rows.arrF (Referent.rtF (Referent.fInt Syntax.w8)) 62 0) (λ x. x) λ ρ told. Whole.arr-mem 𝓤 H A W
+              (Referent.rtF (Referent.fInt Syntax.w8)) 62 tt ρ) Path.refl Path.refl) d29
+
           d31 : Typed.Typed 𝓤 H A 𝓣 E G26 b28 Δ1 (at31 bs)
-          d31 = Typed.g-pre 𝓤 H A W 𝓣 E G26 G27 b28 Δ1 (Typed.pass T26 T27 (s24 bs)) (at30 bs) (Scalar.g-room 𝓤 H A W E G26 16 Laws.mir
-              (Local.room-whole 𝓤 H A W (Declared'.row IncomingBody.the-type) Laws.mir Path.refl)) d30
+          d31 = Typed.g-pre 𝓤 H A W 𝓣 E G26 G27 b28 Δ1 (Typed.pass T26 T27 (s24 bs)) (at30 bs) (Scalar.g-room 𝓤 H A W E
+              G26 16 Laws.mir (Local.room-whole 𝓤 H A W (Declared'.row IncomingBody.the-type) Laws.mir Path.refl)) d30
+
           d32 : Typed.Typed 𝓤 H A 𝓣 E G25 b29 Δ1 (at32 bs)
-          d32 = Typed.s-seq 𝓤 H A W 𝓣 E G25 G26 b11 b28 Δ1 (Typed.both (s23 bs)) (at31 bs) (Plain.t-call-plain 𝓤 H A W 𝓣 0 ps·8 r·8 (claims· .16)
-              (claims· .17) "hnsr_body::incoming_body::IncomingBody::to_bytes" (known .8) E (λ pos β. β) G25 (record { pos = 16; st = List.[]; d = 0;
-              at = λ x. x }, tt) 21 List.[] (Call.sub-id 𝓤 H A W (G25 .slots)) ((Yields.yields-copy 𝓤 H A W (λ ρ. Unit) (Declared'.row
-              IncomingBody.the-type) Path.refl (Copies.cStruct IncomingBody.the-type Laws.the-laws Laws.the-copy .copy 𝓤 H A W) (Rows'.whole
-              (Declared'.row IncomingBody.the-type)) (λ x. x) (λ x. x) (λ ρ told. Local.mem-whole 𝓤 H A W (Declared'.row IncomingBody.the-type) ρ) λ ρ
-              told. Local.whole-mem 𝓤 H A W (Declared'.row IncomingBody.the-type) ρ, Path.refl,), tt,) (Reads.room-gone 𝓤 H A (Syntax.tyArray
-              (Syntax.tyInt Syntax.w8) 62)) tt Path.refl) d31
+          d32 = Typed.s-seq 𝓤 H A W 𝓣 E G25 G26 b11 b28 Δ1 (Typed.both (s23 bs)) (at31 bs) (Plain.t-call-plain 𝓤 H A W
+              𝓣 0 ps·8 r·8 (claims· .16) (claims· .17) "hnsr_body::incoming_body::IncomingBody::to_bytes" (known .8) E
+              (λ pos β. β) G25 (record { pos = 16; st = List.[]; d = 0; at = λ x. x }, tt) 21 List.[]
+              (Call.sub-id 𝓤 H A W (G25 .slots)) (
+                (
+                  Yields.yields-copy 𝓤 H A W (λ ρ. Unit) (Declared'.row IncomingBody.the-type) Path.refl (Copies.cStruct
+                      IncomingBody.the-type Laws.the-laws Laws.the-copy .copy 𝓤 H A W)
+                      (Rows'.whole (Declared'.row IncomingBody.the-type)) (λ x. x) (λ x. x) (λ ρ told. Local.mem-whole
+                      𝓤 H A W (Declared'.row IncomingBody.the-type) ρ) λ ρ told. Local.whole-mem 𝓤 H A W
+                      (Declared'.row IncomingBody.the-type) ρ,
+                  Path.refl,
+                ),
+                tt,
+              ) (Reads.room-gone 𝓤 H A (Syntax.tyArray (Syntax.tyInt Syntax.w8) 62)) tt Path.refl) d31
+
           d33 : Typed.Typed 𝓤 H A 𝓣 E G24 b29 Δ1 (at33 bs)
-          d33 = Typed.g-pre 𝓤 H A W 𝓣 E G24 G25 b29 Δ1 (Typed.pass T24 T25 (s22 bs)) (at32 bs) (Scalar.g-room 𝓤 H A W E G24 6 Laws''.mir
-              (Local.room-whole 𝓤 H A W (Declared'.row OpenPlan.the-type) Laws''.mir Path.refl)) d32
+          d33 = Typed.g-pre 𝓤 H A W 𝓣 E G24 G25 b29 Δ1 (Typed.pass T24 T25 (s22 bs)) (at32 bs) (Scalar.g-room 𝓤 H A W E
+              G24 6 Laws''.mir (Local.room-whole 𝓤 H A W (Declared'.row OpenPlan.the-type) Laws''.mir Path.refl)) d32
+
           d34 : Typed.Typed 𝓤 H A 𝓣 E G23 b30 Δ1 (at34 bs)
-          d34 = Typed.s-seq 𝓤 H A W 𝓣 E G23 G24 b10 b29 Δ1 (Typed.both (s21 bs)) (at33 bs) (Plain.t-call-plain 𝓤 H A W 𝓣 0 ps·7 r·7 (claims· .14)
-              (claims· .15) "hnsr_circuit::open::incoming_for" (known .7) E (λ pos β. β) G23 (record { pos = 6; st = List.[]; d = 0; at = λ x. x },
-              tt) 16 List.[] (Call.sub-id 𝓤 H A W (G23 .slots)) ((Yields.yields-copy 𝓤 H A W (λ ρ. Unit) (Declared'.row OpenPlan.the-type) Path.refl
-              (Copies.cStruct OpenPlan.the-type Laws''.the-laws Laws''.the-copy .copy 𝓤 H A W) (Rows'.whole (Declared'.row OpenPlan.the-type)) (λ x.
-              x) (λ x. x) (λ ρ told. Local.mem-whole 𝓤 H A W (Declared'.row OpenPlan.the-type) ρ) λ ρ told. Local.whole-mem 𝓤 H A W (Declared'.row
-              OpenPlan.the-type) ρ, Path.refl,), tt,) (Reads.room-gone 𝓤 H A Laws.mir) tt Path.refl) d33
+          d34 = Typed.s-seq 𝓤 H A W 𝓣 E G23 G24 b10 b29 Δ1 (Typed.both (s21 bs)) (at33 bs) (Plain.t-call-plain 𝓤 H A W
+              𝓣 0 ps·7 r·7 (claims· .14) (claims· .15) "hnsr_circuit::open::incoming_for" (known .7) E (λ pos β. β) G23
+              (record { pos = 6; st = List.[]; d = 0; at = λ x. x }, tt) 16 List.[] (Call.sub-id 𝓤 H A W (G23 .slots)) (
+                (
+                  Yields.yields-copy 𝓤 H A W (λ ρ. Unit) (Declared'.row OpenPlan.the-type) Path.refl (Copies.cStruct
+                      OpenPlan.the-type Laws''.the-laws Laws''.the-copy .copy 𝓤 H A W)
+                      (Rows'.whole (Declared'.row OpenPlan.the-type)) (λ x. x) (λ x. x) (λ ρ told. Local.mem-whole 𝓤 H
+                      A W (Declared'.row OpenPlan.the-type) ρ) λ ρ told. Local.whole-mem 𝓤 H A W
+                      (Declared'.row OpenPlan.the-type) ρ,
+                  Path.refl,
+                ),
+                tt,
+              ) (Reads.room-gone 𝓤 H A Laws.mir) tt Path.refl) d33
+
           d35 : Typed.Typed 𝓤 H A 𝓣 E G22 b31 Δ1 (at35 bs)
-          d35 = Typed.s-seq 𝓤 H A W 𝓣 E G22 G23 b9 b30 Δ1 (Typed.both (s20 bs)) (at34 bs) (Plain.t-call-plain 𝓤 H A W 𝓣 0 ps·6 r·6 (claims· .12)
-              (claims· .13) "hnsr_circuit::open::incoming_out" (known .6) E (λ pos β. β) G22 (record { pos = 6; st = List.[]; d = 0; at = λ x. x },
-              tt) 15 List.[] (Call.sub-id 𝓤 H A W (G22 .slots)) ((Yields.yields-copy 𝓤 H A W (λ ρ. Unit) (Declared'.row OpenPlan.the-type) Path.refl
-              (Copies.cStruct OpenPlan.the-type Laws''.the-laws Laws''.the-copy .copy 𝓤 H A W) (Rows'.whole (Declared'.row OpenPlan.the-type)) (λ x.
-              x) (λ x. x) (λ ρ told. Local.mem-whole 𝓤 H A W (Declared'.row OpenPlan.the-type) ρ) λ ρ told. Local.whole-mem 𝓤 H A W (Declared'.row
-              OpenPlan.the-type) ρ, Path.refl,), tt,) (Reads.room-gone 𝓤 H A Laws'''''.mir) tt Path.refl) d34
+          d35 = Typed.s-seq 𝓤 H A W 𝓣 E G22 G23 b9 b30 Δ1 (Typed.both (s20 bs)) (at34 bs) (Plain.t-call-plain 𝓤 H A W 𝓣
+              0 ps·6 r·6 (claims· .12) (claims· .13) "hnsr_circuit::open::incoming_out" (known .6) E (λ pos β. β) G22
+              (record { pos = 6; st = List.[]; d = 0; at = λ x. x }, tt) 15 List.[] (Call.sub-id 𝓤 H A W (G22 .slots)) (
+                (
+                  Yields.yields-copy 𝓤 H A W (λ ρ. Unit) (Declared'.row OpenPlan.the-type) Path.refl (Copies.cStruct
+                      OpenPlan.the-type Laws''.the-laws Laws''.the-copy .copy 𝓤 H A W)
+                      (Rows'.whole (Declared'.row OpenPlan.the-type)) (λ x. x) (λ x. x) (λ ρ told. Local.mem-whole 𝓤 H
+                      A W (Declared'.row OpenPlan.the-type) ρ) λ ρ told. Local.whole-mem 𝓤 H A W
+                      (Declared'.row OpenPlan.the-type) ρ,
+                  Path.refl,
+                ),
+                tt,
+              ) (Reads.room-gone 𝓤 H A Laws'''''.mir) tt Path.refl) d34
+
           d36 : Typed.Typed 𝓤 H A 𝓣 E G21 b31 Δ1 (at36 bs)
-          d36 = Typed.g-pre 𝓤 H A W 𝓣 E G21 G22 b31 Δ1 (Typed.pass T21 T22 (s19 bs)) (at35 bs) (Scalar.g-room 𝓤 H A W E G21 4 Laws'''''''.mir
-              (Local.room-whole 𝓤 H A W (Declared'.row OpaqueRelayRuntime.the-type) Laws'''''''.mir Path.refl)) d35
+          d36 = Typed.g-pre 𝓤 H A W 𝓣 E G21 G22 b31 Δ1 (Typed.pass T21 T22 (s19 bs)) (at35 bs) (Scalar.g-room 𝓤 H A W E
+              G21 4 Laws'''''''.mir (Local.room-whole 𝓤 H A W (Declared'.row OpaqueRelayRuntime.the-type)
+              Laws'''''''.mir Path.refl)) d35
+
           d37 : Typed.Typed 𝓤 H A 𝓣 E G20 b32 Δ1 (at37 bs)
-          d37 = Typed.s-seq 𝓤 H A W 𝓣 E G20 G21 b8 b31 Δ1 (Typed.both (s18 bs)) (at36 bs) (Plain.t-call-plain 𝓤 H A W 𝓣 0 ps·5 r·5 (claims· .10)
-              (claims· .11) "hnsr_circuit::header::opened" (known .5) E (λ pos β. β) G20 (Bool.bLit Bool'.true, (record { pos = 4; st = List.[]; d =
-              0; at = λ x. x }, tt)) 14 List.[] (Call.sub-id 𝓤 H A W (G20 .slots)) (tt, ((Yields.yields-copy 𝓤 H A W (λ ρ. Unit) (Declared'.row
-              OpaqueRelayRuntime.the-type) Path.refl (Copies.cStruct OpaqueRelayRuntime.the-type Laws'''''''.the-laws Laws'''''''.the-copy .copy 𝓤 H A
-              W) (Rows'.whole (Declared'.row OpaqueRelayRuntime.the-type)) (λ x. x) (λ x. x) (λ ρ told. Local.mem-whole 𝓤 H A W (Declared'.row
-              OpaqueRelayRuntime.the-type) ρ) λ ρ told. Local.whole-mem 𝓤 H A W (Declared'.row OpaqueRelayRuntime.the-type) ρ, Path.refl,), tt,),)
-              (Reads.room-gone 𝓤 H A Laws'''''''.mir) tt Path.refl) d36
+          d37 = Typed.s-seq 𝓤 H A W 𝓣 E G20 G21 b8 b31 Δ1 (Typed.both (s18 bs)) (at36 bs) (Plain.t-call-plain 𝓤 H A W 𝓣
+              0 ps·5 r·5 (claims· .10) (claims· .11) "hnsr_circuit::header::opened" (known .5) E (λ pos β. β) G20 (
+                Bool.bLit Bool'.true,
+                (record { pos = 4; st = List.[]; d = 0; at = λ x. x }, tt),
+              ) 14 List.[] (Call.sub-id 𝓤 H A W (G20 .slots)) (
+                tt,
+                (
+                  (
+                    Yields.yields-copy 𝓤 H A W (λ ρ. Unit) (Declared'.row OpaqueRelayRuntime.the-type) Path.refl (Copies.cStruct
+                        OpaqueRelayRuntime.the-type Laws'''''''.the-laws Laws'''''''.the-copy .copy 𝓤 H A W)
+                        (Rows'.whole (Declared'.row OpaqueRelayRuntime.the-type)) (λ x. x) (λ x. x) (λ ρ told.
+                        Local.mem-whole 𝓤 H A W (Declared'.row OpaqueRelayRuntime.the-type) ρ) λ ρ told.
+                        Local.whole-mem 𝓤 H A W (Declared'.row OpaqueRelayRuntime.the-type) ρ,
+                    Path.refl,
+                  ),
+                  tt,
+                ),
+              ) (Reads.room-gone 𝓤 H A Laws'''''''.mir) tt Path.refl) d36
+
           d38 : Typed.Typed 𝓤 H A 𝓣 E G19 b32 Δ1 (at38 bs)
-          d38 = Typed.g-pre 𝓤 H A W 𝓣 E G19 G20 b32 Δ1 (Typed.pass T19 T20 (s17 bs)) (at37 bs) (Scalar.g-room 𝓤 H A W E G19 5 Laws'''.mir
-              (Local.room-whole 𝓤 H A W (Declared'.row Places.the-type) Laws'''.mir Path.refl)) d37
+          d38 = Typed.g-pre 𝓤 H A W 𝓣 E G19 G20 b32 Δ1 (Typed.pass T19 T20 (s17 bs)) (at37 bs) (Scalar.g-room 𝓤 H A W E
+              G19 5 Laws'''.mir (Local.room-whole 𝓤 H A W (Declared'.row Places.the-type) Laws'''.mir Path.refl)) d37
+
           d39 : Typed.Typed 𝓤 H A 𝓣 E G18 b33 Δ1 (at39 bs)
-          d39 = Typed.s-seq 𝓤 H A W 𝓣 E G18 G19 b7 b32 Δ1 (Typed.both (s16 bs)) (at38 bs) (Plain.t-call-plain 𝓤 H A W 𝓣 0 ps·4 r·4 (claims· .8)
-              (claims· .9) "hnsr_circuit::places::with_pending" (known .4) E (λ pos β. β) G18 (record { pos = 5; st = List.[]; d = 0; at = λ x. x },
-              (Num.vAt 12 λ x. x, tt)) 13 List.[] (Call.sub-id 𝓤 H A W (G18 .slots)) ((Yields.yields-copy 𝓤 H A W (λ ρ. Unit) (Declared'.row
-              Places.the-type) Path.refl (Copies.cStruct Places.the-type Laws'''.the-laws Laws'''.the-copy .copy 𝓤 H A W) (Rows'.whole (Declared'.row
-              Places.the-type)) (λ x. x) (λ x. x) (λ ρ told. Local.mem-whole 𝓤 H A W (Declared'.row Places.the-type) ρ) λ ρ told. Local.whole-mem 𝓤 H
-              A W (Declared'.row Places.the-type) ρ, Path.refl,), ((Scalar.reads-sc 𝓤 H A W (Row.sInt Syntax.w64), Path.refl), tt),) (Reads.room-gone
-              𝓤 H A Laws'''.mir) tt Path.refl) d38
+          d39 = Typed.s-seq 𝓤 H A W 𝓣 E G18 G19 b7 b32 Δ1 (Typed.both (s16 bs)) (at38 bs) (Plain.t-call-plain 𝓤 H A W 𝓣
+              0 ps·4 r·4 (claims· .8) (claims· .9) "hnsr_circuit::places::with_pending" (known .4) E (λ pos β. β) G18 (
+                record { pos = 5; st = List.[]; d = 0; at = λ x. x },
+                (Num.vAt 12 λ x. x, tt),
+              ) 13 List.[] (Call.sub-id 𝓤 H A W (G18 .slots)) (
+                (
+                  Yields.yields-copy 𝓤 H A W (λ ρ. Unit) (Declared'.row Places.the-type) Path.refl (Copies.cStruct
+                      Places.the-type Laws'''.the-laws Laws'''.the-copy .copy 𝓤 H A W)
+                      (Rows'.whole (Declared'.row Places.the-type)) (λ x. x) (λ x. x) (λ ρ told. Local.mem-whole 𝓤 H A
+                      W (Declared'.row Places.the-type) ρ) λ ρ told. Local.whole-mem 𝓤 H A W
+                      (Declared'.row Places.the-type) ρ,
+                  Path.refl,
+                ),
+                ((Scalar.reads-sc 𝓤 H A W (Row.sInt Syntax.w64), Path.refl), tt),
+              ) (Reads.room-gone 𝓤 H A Laws'''.mir) tt Path.refl) d38
+
           d40 : Typed.Typed 𝓤 H A 𝓣 E G17 b33 Δ1 (at40 bs)
-          d40 = Typed.g-pre 𝓤 H A W 𝓣 E G17 G18 b33 Δ1 (λ Ψ. Ψ) (at39 bs) (Lifetime.g-forget 𝓤 H A W E G17 3 Row.dead Path.refl) d39
+          d40 = Typed.g-pre 𝓤 H A W 𝓣 E G17 G18 b33 Δ1 (λ Ψ. Ψ) (at39 bs)
+              (Lifetime.g-forget 𝓤 H A W E G17 3 Row.dead Path.refl) d39
+
           d41 : Typed.Typed 𝓤 H A 𝓣 E G16 b33 Δ1 (at41 bs)
-          d41 = Typed.g-pre 𝓤 H A W 𝓣 E G16 G17 b33 Δ1 (Typed.both (s14 bs)) (at40 bs) (Relend.g-back-sl 𝓤 H A W E RelayPending.row G16 20 1 0 3 ref5
-              ref0 life0 (λ x. x) (λ x. x) (Reads.as-is 𝓤 H A (Mut.msleft RelayPending.row ref0)) (Reads.as-is 𝓤 H A (Relend.mslice-owed
-              RelayPending.row ref5 0 3 life0)) Path.refl Path.refl) d40
+          d41 = Typed.g-pre 𝓤 H A W 𝓣 E G16 G17 b33 Δ1 (Typed.both (s14 bs)) (at40 bs) (Relend.g-back-sl 𝓤 H A W E
+              RelayPending.row G16 20 1 0 3 ref5 ref0 life0 (λ x. x) (λ x. x)
+              (Reads.as-is 𝓤 H A (Mut.msleft RelayPending.row ref0)) (Reads.as-is 𝓤 H A
+              (Relend.mslice-owed RelayPending.row ref5 0 3 life0)) Path.refl Path.refl) d40
+
           d42 : Typed.Typed 𝓤 H A 𝓣 E G15 b33 Δ1 (at42 bs)
-          d42 = Typed.g-pre 𝓤 H A W 𝓣 E G15 G16 b33 Δ1 (λ Ψ. Ψ) (at41 bs) (Lifetime.g-end 𝓤 H A W E G15 3 Path.refl) d41
+          d42 = Typed.g-pre 𝓤 H A W 𝓣 E G15 G16 b33 Δ1 (λ Ψ. Ψ) (at41 bs) (Lifetime.g-end 𝓤 H A W E G15 3 Path.refl)
+              d41
+
           d43 : Typed.Typed 𝓤 H A 𝓣 E G14 b33 Δ1 (at43 bs)
-          d43 = Typed.g-pre 𝓤 H A W 𝓣 E G14 G15 b33 Δ1 (Typed.pass T14 T15 (s12 bs)) (at42 bs) (Scalar.g-room 𝓤 H A W E G14 11 RelayPending.ty
-              (Local.room-whole 𝓤 H A W RelayPending.row RelayPending.ty Path.refl)) d42
+          d43 = Typed.g-pre 𝓤 H A W 𝓣 E G14 G15 b33 Δ1 (Typed.pass T14 T15 (s12 bs)) (at42 bs) (Scalar.g-room 𝓤 H A W E
+              G14 11 RelayPending.ty (Local.room-whole 𝓤 H A W RelayPending.row RelayPending.ty Path.refl)) d42
+
           d44 : Typed.Typed 𝓤 H A 𝓣 E G13 b34 Δ1 (at44 bs)
-          d44 = Typed.s-seq 𝓤 H A W 𝓣 E G13 G14 b6 b33 Δ1 (Typed.both (s11 bs)) (at43 bs) (Plain.t-call-plain 𝓤 H A W 𝓣 1 ps·3 r·3 (claims· .6)
-              (claims· .7) "hnsr_circuit::handle_open::put_pending" (known .3) E (λ pos β. β) G13 (record { pos = 20; ty = Syntax.tyRef Syntax.erased
-              Syntax.mut RelayPending.to; ref = λ x. x; }, (record { pos = 5; st = List.[]; d = 0; at = λ x. x }, (record { pos = 11; st = List.[]; d
-              = 0; at = λ x. x }, tt),),) 12 (3 ∷ List.[]) (Call.sub-id 𝓤 H A W (G13 .slots)) (Reads.as-is 𝓤 H A (Mut.mslice RelayPending.row ref0 3),
-              Mut.reads-mslice 𝓤 H A W RelayPending.row ref0 3, Path.refl, ((Yields.yields-copy 𝓤 H A W (λ ρ. Unit) (Declared'.row Places.the-type)
-              Path.refl (Copies.cStruct Places.the-type Laws'''.the-laws Laws'''.the-copy .copy 𝓤 H A W) (Rows'.whole (Declared'.row Places.the-type))
-              (λ x. x) (λ x. x) (λ ρ told. Local.mem-whole 𝓤 H A W (Declared'.row Places.the-type) ρ) λ ρ told. Local.whole-mem 𝓤 H A W (Declared'.row
-              Places.the-type) ρ, Path.refl,), ((Yields.yields-copy 𝓤 H A W (λ ρ. Unit) RelayPending.row Path.refl (RelayPending.copies .copy 𝓤 H A W)
-              RelayPending.held (λ x. x) (λ x. x) (λ ρ told. Local.mem-whole 𝓤 H A W RelayPending.row ρ) λ ρ told. Local.whole-mem 𝓤 H A W
-              RelayPending.row ρ, Path.refl,), tt,),),) (Reads.room-gone 𝓤 H A (Syntax.tyInt Syntax.w64)) (tt, tt) Path.refl) d43
+          d44 = Typed.s-seq 𝓤 H A W 𝓣 E G13 G14 b6 b33 Δ1 (Typed.both (s11 bs)) (at43 bs) (Plain.t-call-plain 𝓤 H A W 𝓣
+              1 ps·3 r·3 (claims· .6) (claims· .7) "hnsr_circuit::handle_open::put_pending" (known .3) E (λ pos β. β)
+              G13 (
+                record { pos = 20; ty = ref0; ref = λ x. x },
+                (
+                  record { pos = 5; st = List.[]; d = 0; at = λ x. x },
+                  (record { pos = 11; st = List.[]; d = 0; at = λ x. x }, tt),
+                ),
+              ) 12 (3 ∷ List.[]) (Call.sub-id 𝓤 H A W (G13 .slots)) (
+                Reads.as-is 𝓤 H A (Mut.mslice RelayPending.row ref0 3),
+                Mut.reads-mslice 𝓤 H A W RelayPending.row ref0 3,
+                Path.refl,
+                (
+                  (
+                    Yields.yields-copy 𝓤 H A W (λ ρ. Unit) (Declared'.row Places.the-type) Path.refl (Copies.cStruct
+                        Places.the-type Laws'''.the-laws Laws'''.the-copy .copy 𝓤 H A W)
+                        (Rows'.whole (Declared'.row Places.the-type)) (λ x. x) (λ x. x) (λ ρ told. Local.mem-whole 𝓤 H
+                        A W (Declared'.row Places.the-type) ρ) λ ρ told. Local.whole-mem 𝓤 H A W
+                        (Declared'.row Places.the-type) ρ,
+                    Path.refl,
+                  ),
+                  (
+                    (
+                      Yields.yields-copy 𝓤 H A W (λ ρ. Unit) RelayPending.row Path.refl
+                          (RelayPending.copies .copy 𝓤 H A W) RelayPending.held (λ x. x) (λ x. x)
+                          (λ ρ told. Local.mem-whole 𝓤 H A W RelayPending.row ρ) λ ρ told. Local.whole-mem 𝓤 H A W
+                          RelayPending.row ρ,
+                      Path.refl,
+                    ),
+                    tt,
+                  ),
+                ),
+              ) (Reads.room-gone 𝓤 H A (Syntax.tyInt Syntax.w64)) (tt, tt) Path.refl) d43
+
           d45 : Typed.Typed 𝓤 H A 𝓣 E G12 b35 Δ1 (at45 bs)
-          d45 = Typed.s-seq 𝓤 H A W 𝓣 E G12 G13 b5 b34 Δ1 (Typed.ask (s10 bs)) (at44 bs) (Relend.t-sl-aggregate 𝓤 H A W E RelayPending.row 𝓣
-              (Relend.asMut RelayPending.row) G12 19 20 3 ref0 ref0 (λ x. x) (Scalar.oFld 1 ((Syntax.field 1) ∷ List.[]) (Syntax.tyInt Syntax.w64) 8 λ
-              v. Shared.lenV (v .0)) (Reads.as-is 𝓤 H A (Relend.msptr RelayPending.row ref0 3)) (Reads.room-gone 𝓤 H A (Syntax.tyStruct (38 ∷ 91 ∷ 93
-              ∷ List.[]) (Syntax.tcons ref0 (Syntax.tcons (Syntax.tyInt Syntax.w64) Syntax.tnil)))) (Relend.reads-owed-len 𝓤 H A W RelayPending.row
-              ref5 0 3 life0 8 Path.refl, Path.refl,) Path.refl Path.refl λ b o k. tt) d44
+          d45 = Typed.s-seq 𝓤 H A W 𝓣 E G12 G13 b5 b34 Δ1 (Typed.ask (s10 bs)) (at44 bs) (Relend.t-sl-aggregate 𝓤 H A W
+              E RelayPending.row 𝓣 (Relend.asMut RelayPending.row) G12 19 20 3 ref0 ref0 (λ x. x) (Scalar.oFld 1
+              ((Syntax.field 1) ∷ List.[]) (Syntax.tyInt Syntax.w64) 8 λ v. Shared.lenV (v .0))
+              (Reads.as-is 𝓤 H A (Relend.msptr RelayPending.row ref0 3)) (Reads.room-gone 𝓤 H A slice0) (
+                Relend.reads-owed-len 𝓤 H A W RelayPending.row ref5 0 3 life0 8 Path.refl,
+                Path.refl,
+              ) Path.refl Path.refl λ b o k. tt) d44
+
           d46 : Typed.Typed 𝓤 H A 𝓣 E G11 b36 Δ1 (at46 bs)
-          d46 = Typed.s-seq 𝓤 H A W 𝓣 E G11 G12 b4 b35 Δ1 (Typed.give (s9 bs)) (at45 bs) (Relend.t-sl-relend 𝓤 H A W E RelayPending.row 𝓣 G11 1 19 0 3
-              ref5 ref0 life0 0 (λ x. x) (Reads.as-is 𝓤 H A (Mut.mslice RelayPending.row ref5 0)) (Reads.room-gone 𝓤 H A ref0) Path.refl tt Path.refl
-              Path.refl Path.refl λ b o. tt) d45
+          d46 = Typed.s-seq 𝓤 H A W 𝓣 E G11 G12 b4 b35 Δ1 (Typed.give (s9 bs)) (at45 bs) (Relend.t-sl-relend 𝓤 H A W E
+              RelayPending.row 𝓣 G11 1 19 0 3 ref5 ref0 life0 0 (λ x. x)
+              (Reads.as-is 𝓤 H A (Mut.mslice RelayPending.row ref5 0)) (Reads.room-gone 𝓤 H A ref0) Path.refl tt
+              Path.refl Path.refl Path.refl λ b o. tt) d45
+
           d47 : Typed.Typed 𝓤 H A 𝓣 E G10 b36 Δ1 (at47 bs)
-          d47 = Typed.g-pre 𝓤 H A W 𝓣 E G10 G11 b36 Δ1 (λ Ψ. Ψ) (at46 bs) (Lifetime.g-begin 𝓤 H A W E G10 3 (tt, (tt, (tt, (tt, (tt, (tt, (tt, (tt,
-              (tt, (tt, (tt, (tt, (tt, (tt, (tt, (tt, (tt, (tt, (tt, (tt, (tt, (tt, (tt, (tt, (tt, (tt, (tt, (tt,
-              tt))))),),),),),),),),),),),),),),),),),),),),),),),)) d46
+          d47 = Typed.g-pre 𝓤 H A W 𝓣 E G10 G11 b36 Δ1 (λ Ψ. Ψ) (at46 bs) (Lifetime.g-begin 𝓤 H A W E G10 3 (
+            tt,
+            (
+              tt,
+              (
+                tt,
+                (
+                  tt,
+                  (
+                    tt,
+                    (
+                      tt,
+                      (
+                        tt,
+                        (
+                          tt,
+                          (
+                            tt,
+                            (
+                              tt,
+                              (
+                                tt,
+                                (
+                                  tt,
+                                  (
+                                    tt,
+                                    (
+                                      tt,
+                                      (
+                                        tt,
+                                        (
+                                          tt,
+                                          (tt, (tt, (tt, (tt, (tt, (tt, (tt, (tt, (tt, (tt, (tt, (tt, tt)))))))))))),
+                                        ),
+                                      ),
+                                    ),
+                                  ),
+                                ),
+                              ),
+                            ),
+                          ),
+                        ),
+                      ),
+                    ),
+                  ),
+                ),
+              ),
+            ),
+          )) d46
+
           d48 : Typed.Typed 𝓤 H A 𝓣 E G9 b37 Δ1 (at48 bs)
-          d48 = Typed.s-seq 𝓤 H A W 𝓣 E G9 G10 b3 b36 Δ1 (Typed.both (s7 bs)) (at47 bs) (Plain.t-call-plain 𝓤 H A W 𝓣 0 ps·2 r·2 (claims· .4) (claims·
-              .5) "hnsr_circuit::open::pending_for" (known .2) E (λ pos β. β) G9 (record { pos = 6; st = List.[]; d = 0; at = λ x. x }, tt) 11 List.[]
-              (Call.sub-id 𝓤 H A W (G9 .slots)) ((Yields.yields-copy 𝓤 H A W (λ ρ. Unit) (Declared'.row OpenPlan.the-type) Path.refl (Copies.cStruct
-              OpenPlan.the-type Laws''.the-laws Laws''.the-copy .copy 𝓤 H A W) (Rows'.whole (Declared'.row OpenPlan.the-type)) (λ x. x) (λ x. x) (λ ρ
-              told. Local.mem-whole 𝓤 H A W (Declared'.row OpenPlan.the-type) ρ) λ ρ told. Local.whole-mem 𝓤 H A W (Declared'.row OpenPlan.the-type)
-              ρ, Path.refl,), tt,) (Reads.room-gone 𝓤 H A RelayPending.ty) tt Path.refl) d47
+          d48 = Typed.s-seq 𝓤 H A W 𝓣 E G9 G10 b3 b36 Δ1 (Typed.both (s7 bs)) (at47 bs) (Plain.t-call-plain 𝓤 H A W 𝓣 0
+              ps·2 r·2 (claims· .4) (claims· .5) "hnsr_circuit::open::pending_for" (known .2) E (λ pos β. β) G9
+              (record { pos = 6; st = List.[]; d = 0; at = λ x. x }, tt) 11 List.[] (Call.sub-id 𝓤 H A W (G9 .slots)) (
+                (
+                  Yields.yields-copy 𝓤 H A W (λ ρ. Unit) (Declared'.row OpenPlan.the-type) Path.refl (Copies.cStruct
+                      OpenPlan.the-type Laws''.the-laws Laws''.the-copy .copy 𝓤 H A W)
+                      (Rows'.whole (Declared'.row OpenPlan.the-type)) (λ x. x) (λ x. x) (λ ρ told. Local.mem-whole 𝓤 H
+                      A W (Declared'.row OpenPlan.the-type) ρ) λ ρ told. Local.whole-mem 𝓤 H A W
+                      (Declared'.row OpenPlan.the-type) ρ,
+                  Path.refl,
+                ),
+                tt,
+              ) (Reads.room-gone 𝓤 H A RelayPending.ty) tt Path.refl) d47
+
           d49 : Typed.Typed 𝓤 H A 𝓣 E G7 b37 Δ1 (at49 bs)
-          d49 = Typed.g-pre 𝓤 H A W 𝓣 E G7 G9 b37 Δ1 (Typed.pass T7 T9 (s6 bs)) (at48 bs) (Scalar.g-room 𝓤 H A W E G7 18 Syntax.tyBool (Scalar.room-sc
-              𝓤 H A W Row.sBool)) d48
+          d49 = Typed.g-pre 𝓤 H A W 𝓣 E G7 G9 b37 Δ1 (Typed.pass T7 T9 (s6 bs)) (at48 bs) (Scalar.g-room 𝓤 H A W E G7
+              18 Syntax.tyBool (Scalar.room-sc 𝓤 H A W Row.sBool)) d48
+
           d50 : Typed.Typed 𝓤 H A 𝓣 E G60 b38 Δ1 (at50 bs)
           d50 = Typed.t-skip 𝓤 H A W 𝓣 E Δ1 tt
+
           d51 : Typed.Typed 𝓤 H A 𝓣 E G59 b38 Δ1 (at51 bs)
-          d51 = Typed.g-pre 𝓤 H A W 𝓣 E G59 G60 b38 Δ1 (Typed.pass T59 T60 (s57 bs)) (at50 bs) (Scalar.g-room 𝓤 H A W E G59 18 Syntax.tyBool
-              (Scalar.room-sc 𝓤 H A W Row.sBool)) d50
+          d51 = Typed.g-pre 𝓤 H A W 𝓣 E G59 G60 b38 Δ1 (Typed.pass T59 T60 (s57 bs)) (at50 bs) (Scalar.g-room 𝓤 H A W E
+              G59 18 Syntax.tyBool (Scalar.room-sc 𝓤 H A W Row.sBool)) d50
+
           d52 : Typed.Typed 𝓤 H A 𝓣 E G58 b38 Δ1 (at52 bs)
-          d52 = Typed.g-pre 𝓤 H A W 𝓣 E G58 G59 b38 Δ1 (Typed.pass T58 T59 (s56 bs)) (at51 bs) (Scalar.g-room 𝓤 H A W E G58 8 Laws''''.mir
-              (Local.room-whole 𝓤 H A W (Declared'.row ActionScan.the-type) Laws''''.mir Path.refl)) d51
+          d52 = Typed.g-pre 𝓤 H A W 𝓣 E G58 G59 b38 Δ1 (Typed.pass T58 T59 (s56 bs)) (at51 bs) (Scalar.g-room 𝓤 H A W E
+              G58 8 Laws''''.mir (Local.room-whole 𝓤 H A W (Declared'.row ActionScan.the-type) Laws''''.mir Path.refl))
+              d51
+
           d53 : Typed.Typed 𝓤 H A 𝓣 E G7 b38 Δ1 (at53 bs)
-          d53 = Typed.g-pre 𝓤 H A W 𝓣 E G7 G58 b38 Δ1 (Typed.pass T7 T58 (s55 bs)) (at52 bs) (Scalar.g-room 𝓤 H A W E G7 6 Laws''.mir
-              (Local.room-whole 𝓤 H A W (Declared'.row OpenPlan.the-type) Laws''.mir Path.refl)) d52
+          d53 = Typed.g-pre 𝓤 H A W 𝓣 E G7 G58 b38 Δ1 (Typed.pass T7 T58 (s55 bs)) (at52 bs) (Scalar.g-room 𝓤 H A W E
+              G7 6 Laws''.mir (Local.room-whole 𝓤 H A W (Declared'.row OpenPlan.the-type) Laws''.mir Path.refl)) d52
+
           d54 : Typed.Typed 𝓤 H A 𝓣 E G7 b39 Δ1 (at54 bs)
-          d54 = Scalar.t-cond 𝓤 H A W E 𝓣 G7 18 (λ x. x) b37 b38 Δ1 (at49 bs) (at53 bs) (Scalar.reads-sc 𝓤 H A W Row.sBool) Path.refl d49 d53
+          d54 = Scalar.t-cond 𝓤 H A W E 𝓣 G7 18 (λ x. x) b37 b38 Δ1 (at49 bs) (at53 bs)
+              (Scalar.reads-sc 𝓤 H A W Row.sBool) Path.refl d49 d53
+
           d55 : Typed.Typed 𝓤 H A 𝓣 E G64 b41 Δ0 (at55 bs)
           d55 = Typed.t-return 𝓤 H A W 𝓣 E Δ0 tt
+
           d56 : Typed.Typed 𝓤 H A 𝓣 E G63 b41 Δ0 (at56 bs)
-          d56 = Typed.g-pre 𝓤 H A W 𝓣 E G63 G64 b41 Δ0 (Typed.pass T63 T64 (s61 bs)) (at55 bs) (Scalar.g-room 𝓤 H A W E G63 10 Laws'.mir
-              (Local.room-whole 𝓤 H A W (Declared.row HnsrAnswer.the-type) Laws'.mir Path.refl)) d55
+          d56 = Typed.g-pre 𝓤 H A W 𝓣 E G63 G64 b41 Δ0 (Typed.pass T63 T64 (s61 bs)) (at55 bs) (Scalar.g-room 𝓤 H A W E
+              G63 10 Laws'.mir (Local.room-whole 𝓤 H A W (Declared.row HnsrAnswer.the-type) Laws'.mir Path.refl)) d55
+
           d57 : Typed.Typed 𝓤 H A 𝓣 E G62 b41 Δ0 (at57 bs)
-          d57 = Typed.g-pre 𝓤 H A W 𝓣 E G62 G63 b41 Δ0 (Typed.pass T62 T63 (s60 bs)) (at56 bs) (Scalar.g-room 𝓤 H A W E G62 5 Laws'''.mir
-              (Local.room-whole 𝓤 H A W (Declared'.row Places.the-type) Laws'''.mir Path.refl)) d56
+          d57 = Typed.g-pre 𝓤 H A W 𝓣 E G62 G63 b41 Δ0 (Typed.pass T62 T63 (s60 bs)) (at56 bs) (Scalar.g-room 𝓤 H A W E
+              G62 5 Laws'''.mir (Local.room-whole 𝓤 H A W (Declared'.row Places.the-type) Laws'''.mir Path.refl)) d56
+
           d58 : Typed.Typed 𝓤 H A 𝓣 E G61 b41 Δ0 (at58 bs)
-          d58 = Typed.g-pre 𝓤 H A W 𝓣 E G61 G62 b41 Δ0 (Typed.pass T61 T62 (s59 bs)) (at57 bs) (Scalar.g-room 𝓤 H A W E G61 4 Laws'''''''.mir
-              (Local.room-whole 𝓤 H A W (Declared'.row OpaqueRelayRuntime.the-type) Laws'''''''.mir Path.refl)) d57
+          d58 = Typed.g-pre 𝓤 H A W 𝓣 E G61 G62 b41 Δ0 (Typed.pass T61 T62 (s59 bs)) (at57 bs) (Scalar.g-room 𝓤 H A W E
+              G61 4 Laws'''''''.mir (Local.room-whole 𝓤 H A W (Declared'.row OpaqueRelayRuntime.the-type)
+              Laws'''''''.mir Path.refl)) d57
+
           d59 : Typed.Typed 𝓤 H A 𝓣 E G8 b42 Δ0 (at59 bs)
-          d59 = Typed.s-seq 𝓤 H A W 𝓣 E G8 G61 b40 b41 Δ0 (Typed.both (s58 bs)) (at58 bs) (Plain.t-call-plain 𝓤 H A W 𝓣 0 ps·10 r·10 (claims· .20)
-              (claims· .21) "hnsr_circuit::revoking_calls::refused" (known .10) E (λ pos β. β) G8 (record { pos = 4; st = List.[]; d = 0; at = λ x. x
-              }, (record { pos = 5; st = List.[]; d = 0; at = λ x. x }, (record { pos = 10; st = List.[]; d = 0; at = λ x. x }, tt),),) 0 List.[]
-              (Call.sub-id 𝓤 H A W (G8 .slots)) ((Yields.yields-copy 𝓤 H A W (λ ρ. Unit) (Declared'.row OpaqueRelayRuntime.the-type) Path.refl
-              (Copies.cStruct OpaqueRelayRuntime.the-type Laws'''''''.the-laws Laws'''''''.the-copy .copy 𝓤 H A W) (Rows'.whole (Declared'.row
-              OpaqueRelayRuntime.the-type)) (λ x. x) (λ x. x) (λ ρ told. Local.mem-whole 𝓤 H A W (Declared'.row OpaqueRelayRuntime.the-type) ρ) λ ρ
-              told. Local.whole-mem 𝓤 H A W (Declared'.row OpaqueRelayRuntime.the-type) ρ, Path.refl,), ((Yields.yields-copy 𝓤 H A W (λ ρ. Unit)
-              (Declared'.row Places.the-type) Path.refl (Copies.cStruct Places.the-type Laws'''.the-laws Laws'''.the-copy .copy 𝓤 H A W) (Rows'.whole
-              (Declared'.row Places.the-type)) (λ x. x) (λ x. x) (λ ρ told. Local.mem-whole 𝓤 H A W (Declared'.row Places.the-type) ρ) λ ρ told.
-              Local.whole-mem 𝓤 H A W (Declared'.row Places.the-type) ρ, Path.refl,), ((Yields.yields-copy 𝓤 H A W (λ ρ. Unit) (Declared.row
-              HnsrAnswer.the-type) Path.refl (Copies.cEnum HnsrAnswer.the-type Laws'.the-laws Laws'.the-copy .copy 𝓤 H A W) (Rows'.whole (Declared.row
-              HnsrAnswer.the-type)) (λ x. x) (λ x. x) (λ ρ told. Local.mem-whole 𝓤 H A W (Declared.row HnsrAnswer.the-type) ρ) λ ρ told.
-              Local.whole-mem 𝓤 H A W (Declared.row HnsrAnswer.the-type) ρ, Path.refl,), tt,),),) (Reads.room-gone 𝓤 H A Laws''''''''.mir) tt
-              Path.refl) d58
+          d59 = Typed.s-seq 𝓤 H A W 𝓣 E G8 G61 b40 b41 Δ0 (Typed.both (s58 bs)) (at58 bs) (Plain.t-call-plain 𝓤 H A W 𝓣
+              0 ps·10 r·10 (claims· .20) (claims· .21) "hnsr_circuit::revoking_calls::refused" (known .10) E
+              (λ pos β. β) G8 (
+                record { pos = 4; st = List.[]; d = 0; at = λ x. x },
+                (
+                  record { pos = 5; st = List.[]; d = 0; at = λ x. x },
+                  (record { pos = 10; st = List.[]; d = 0; at = λ x. x }, tt),
+                ),
+              ) 0 List.[] (Call.sub-id 𝓤 H A W (G8 .slots)) (
+                (
+                  Yields.yields-copy 𝓤 H A W (λ ρ. Unit) (Declared'.row OpaqueRelayRuntime.the-type) Path.refl (Copies.cStruct
+                      OpaqueRelayRuntime.the-type Laws'''''''.the-laws Laws'''''''.the-copy .copy 𝓤 H A W)
+                      (Rows'.whole (Declared'.row OpaqueRelayRuntime.the-type)) (λ x. x) (λ x. x) (λ ρ told.
+                      Local.mem-whole 𝓤 H A W (Declared'.row OpaqueRelayRuntime.the-type) ρ) λ ρ told. Local.whole-mem
+                      𝓤 H A W (Declared'.row OpaqueRelayRuntime.the-type) ρ,
+                  Path.refl,
+                ),
+                (
+                  (
+                    Yields.yields-copy 𝓤 H A W (λ ρ. Unit) (Declared'.row Places.the-type) Path.refl (Copies.cStruct
+                        Places.the-type Laws'''.the-laws Laws'''.the-copy .copy 𝓤 H A W)
+                        (Rows'.whole (Declared'.row Places.the-type)) (λ x. x) (λ x. x) (λ ρ told. Local.mem-whole 𝓤 H
+                        A W (Declared'.row Places.the-type) ρ) λ ρ told. Local.whole-mem 𝓤 H A W
+                        (Declared'.row Places.the-type) ρ,
+                    Path.refl,
+                  ),
+                  (
+                    (
+                      Yields.yields-copy 𝓤 H A W (λ ρ. Unit) (Declared.row HnsrAnswer.the-type) Path.refl (Copies.cEnum
+                          HnsrAnswer.the-type Laws'.the-laws Laws'.the-copy .copy 𝓤 H A W)
+                          (Rows'.whole (Declared.row HnsrAnswer.the-type)) (λ x. x) (λ x. x) (λ ρ told. Local.mem-whole
+                          𝓤 H A W (Declared.row HnsrAnswer.the-type) ρ) λ ρ told. Local.whole-mem 𝓤 H A W
+                          (Declared.row HnsrAnswer.the-type) ρ,
+                      Path.refl,
+                    ),
+                    tt,
+                  ),
+                ),
+              ) (Reads.room-gone 𝓤 H A Laws''''''''.mir) tt Path.refl) d58
+
           d60 : Typed.Typed 𝓤 H A 𝓣 E G7 b43 Δ0 (at60 bs)
           d60 = Typed.t-seq 𝓤 H A W 𝓣 E G7 G8 b39 b42 Δ0 (at54 bs) (at59 bs) d54 d59
+
           d61 : Typed.Typed 𝓤 H A 𝓣 E G6 b44 Δ0 (at61 bs)
-          d61 = Typed.s-seq 𝓤 H A W 𝓣 E G6 G7 b2 b43 Δ0 (Typed.both (s5 bs)) (at60 bs) (Plain.t-call-plain 𝓤 H A W 𝓣 0 ps·1 r·1 (claims· .2) (claims·
-              .3) "hnsr_circuit::answer::is_taken" (known .1) E (λ pos β. β) G6 (record { pos = 10; st = List.[]; d = 0; at = λ x. x }, tt) 18 List.[]
-              (Call.sub-id 𝓤 H A W (G6 .slots)) ((Yields.yields-copy 𝓤 H A W (λ ρ. Unit) (Declared.row HnsrAnswer.the-type) Path.refl (Copies.cEnum
-              HnsrAnswer.the-type Laws'.the-laws Laws'.the-copy .copy 𝓤 H A W) (Rows'.whole (Declared.row HnsrAnswer.the-type)) (λ x. x) (λ x. x) (λ ρ
-              told. Local.mem-whole 𝓤 H A W (Declared.row HnsrAnswer.the-type) ρ) λ ρ told. Local.whole-mem 𝓤 H A W (Declared.row HnsrAnswer.the-type)
-              ρ, Path.refl,), tt,) (Reads.room-gone 𝓤 H A Syntax.tyBool) tt Path.refl) d60
+          d61 = Typed.s-seq 𝓤 H A W 𝓣 E G6 G7 b2 b43 Δ0 (Typed.both (s5 bs)) (at60 bs) (Plain.t-call-plain 𝓤 H A W 𝓣 0
+              ps·1 r·1 (claims· .2) (claims· .3) "hnsr_circuit::answer::is_taken" (known .1) E (λ pos β. β) G6
+              (record { pos = 10; st = List.[]; d = 0; at = λ x. x }, tt) 18 List.[] (Call.sub-id 𝓤 H A W (G6 .slots)) (
+                (
+                  Yields.yields-copy 𝓤 H A W (λ ρ. Unit) (Declared.row HnsrAnswer.the-type) Path.refl (Copies.cEnum
+                      HnsrAnswer.the-type Laws'.the-laws Laws'.the-copy .copy 𝓤 H A W)
+                      (Rows'.whole (Declared.row HnsrAnswer.the-type)) (λ x. x) (λ x. x) (λ ρ told. Local.mem-whole 𝓤 H
+                      A W (Declared.row HnsrAnswer.the-type) ρ) λ ρ told. Local.whole-mem 𝓤 H A W
+                      (Declared.row HnsrAnswer.the-type) ρ,
+                  Path.refl,
+                ),
+                tt,
+              ) (Reads.room-gone 𝓤 H A Syntax.tyBool) tt Path.refl) d60
+
           d62 : Typed.Typed 𝓤 H A 𝓣 E G5 b44 Δ0 (at62 bs)
-          d62 = Typed.g-pre 𝓤 H A W 𝓣 E G5 G6 b44 Δ0 (Typed.pass T5 T6 (s4 bs)) (at61 bs) (Scalar.g-room 𝓤 H A W E G5 9 Laws''''''.mir
-              (Local.room-whole 𝓤 H A W (Declared'.row RelayTicket.the-type) Laws''''''.mir Path.refl)) d61
+          d62 = Typed.g-pre 𝓤 H A W 𝓣 E G5 G6 b44 Δ0 (Typed.pass T5 T6 (s4 bs)) (at61 bs) (Scalar.g-room 𝓤 H A W E G5 9
+              Laws''''''.mir (Local.room-whole 𝓤 H A W (Declared'.row RelayTicket.the-type) Laws''''''.mir Path.refl))
+              d61
+
           d63 : Typed.Typed 𝓤 H A 𝓣 E G4 b44 Δ0 (at63 bs)
-          d63 = Typed.g-pre 𝓤 H A W 𝓣 E G4 G5 b44 Δ0 (Typed.pass T4 T5 (s3 bs)) (at62 bs) (Scalar.g-room 𝓤 H A W E G4 7 ReservationUsage.ty
-              (Local.room-whole 𝓤 H A W ReservationUsage.row ReservationUsage.ty Path.refl)) d62
+          d63 = Typed.g-pre 𝓤 H A W 𝓣 E G4 G5 b44 Δ0 (Typed.pass T4 T5 (s3 bs)) (at62 bs) (Scalar.g-room 𝓤 H A W E G4 7
+              ReservationUsage.ty (Local.room-whole 𝓤 H A W ReservationUsage.row ReservationUsage.ty Path.refl)) d62
+
           d64 : Typed.Typed 𝓤 H A 𝓣 E G3 b45 Δ0 (at64 bs)
-          d64 = Typed.s-seq 𝓤 H A W 𝓣 E G3 G4 b1 b44 Δ0 (Typed.both (s2 bs)) (at63 bs) (Plain.t-call-plain 𝓤 H A W 𝓣 0 ps·0 r·0 (claims· .0) (claims·
-              .1) "hnsr_circuit::ledger::usage_answer" (known .0) E (λ pos β. β) G3 (record { pos = 9; st = List.[]; d = 0; at = λ x. x }, (record {
-              pos = 7; st = List.[]; d = 0; at = λ x. x }, tt),) 10 List.[] (Call.sub-id 𝓤 H A W (G3 .slots)) ((Yields.yields-copy 𝓤 H A W (λ ρ. Unit)
-              (Declared'.row RelayTicket.the-type) Path.refl (Copies.cStruct RelayTicket.the-type Laws''''''.the-laws Laws''''''.the-copy .copy 𝓤 H A
-              W) (Rows'.whole (Declared'.row RelayTicket.the-type)) (λ x. x) (λ x. x) (λ ρ told. Local.mem-whole 𝓤 H A W (Declared'.row
-              RelayTicket.the-type) ρ) λ ρ told. Local.whole-mem 𝓤 H A W (Declared'.row RelayTicket.the-type) ρ, Path.refl,), ((Yields.yields-copy 𝓤 H
-              A W (λ ρ. Unit) ReservationUsage.row Path.refl (ReservationUsage.copies .copy 𝓤 H A W) ReservationUsage.held (λ x. x) (λ x. x) (λ ρ
-              told. Local.mem-whole 𝓤 H A W ReservationUsage.row ρ) λ ρ told. Local.whole-mem 𝓤 H A W ReservationUsage.row ρ, Path.refl,), tt,),)
-              (Reads.room-gone 𝓤 H A Laws'.mir) tt Path.refl) d63
+          d64 = Typed.s-seq 𝓤 H A W 𝓣 E G3 G4 b1 b44 Δ0 (Typed.both (s2 bs)) (at63 bs) (Plain.t-call-plain 𝓤 H A W 𝓣 0
+              ps·0 r·0 (claims· .0) (claims· .1) "hnsr_circuit::ledger::usage_answer" (known .0) E (λ pos β. β) G3 (
+                record { pos = 9; st = List.[]; d = 0; at = λ x. x },
+                (record { pos = 7; st = List.[]; d = 0; at = λ x. x }, tt),
+              ) 10 List.[] (Call.sub-id 𝓤 H A W (G3 .slots)) (
+                (
+                  Yields.yields-copy 𝓤 H A W (λ ρ. Unit) (Declared'.row RelayTicket.the-type) Path.refl (Copies.cStruct
+                      RelayTicket.the-type Laws''''''.the-laws Laws''''''.the-copy .copy 𝓤 H A W)
+                      (Rows'.whole (Declared'.row RelayTicket.the-type)) (λ x. x) (λ x. x) (λ ρ told. Local.mem-whole 𝓤
+                      H A W (Declared'.row RelayTicket.the-type) ρ) λ ρ told. Local.whole-mem 𝓤 H A W
+                      (Declared'.row RelayTicket.the-type) ρ,
+                  Path.refl,
+                ),
+                (
+                  (
+                    Yields.yields-copy 𝓤 H A W (λ ρ. Unit) ReservationUsage.row Path.refl
+                        (ReservationUsage.copies .copy 𝓤 H A W) ReservationUsage.held (λ x. x) (λ x. x)
+                        (λ ρ told. Local.mem-whole 𝓤 H A W ReservationUsage.row ρ) λ ρ told. Local.whole-mem 𝓤 H A W
+                        ReservationUsage.row ρ,
+                    Path.refl,
+                  ),
+                  tt,
+                ),
+              ) (Reads.room-gone 𝓤 H A Laws'.mir) tt Path.refl) d63
+
           d65 : Typed.Typed 𝓤 H A 𝓣 E G2 b46 Δ0 (at65 bs)
-          d65 = Typed.s-seq 𝓤 H A W 𝓣 E G2 G3 b0 b45 Δ0 (Typed.both (s1 bs)) (at64 bs) (WayStmt.t-way-copy-out 𝓤 H A W E 𝓣 (Declared'.row
-              RelayTicket.the-type) Path.refl (Copies.cStruct RelayTicket.the-type Laws''''''.the-laws Laws''''''.the-copy .copy 𝓤 H A W) (λ ρ. Unit)
-              G2 (Row.out 6 (G2 .locals)) (λ u. Row.drop 6 (G2 .locals) u) (G2 .slots) 6 (λ t. (Syntax.field 4) ∷ t) Laws''''''.mir Laws''''''.mir 9
-              (Rows'.whole (Declared'.row RelayTicket.the-type)) (λ x. x) (λ u. At.getAt (OpenPlan.the-type .parts) 4 (OpenPlan.struct .as-values (u
-              .1 .1 .1 .1 .1 .1 .0))) (λ u. (Row.hd 0 (Row.tl (Row.tl (Row.tl (Row.tl (Row.tl (Row.tl bs)))))), Nat._+_ 0 384,)) (λ T′. record {
-              locals = Row.setRow 6 (6, Rows'.whole (Declared'.row OpenPlan.the-type)) T′; slots = G2 .slots; }) (λ u T′ m′. Row.set 6 (6, Rows'.whole
-              (Declared'.row OpenPlan.the-type)) (u .1 .1 .1 .1 .1 .1 .0) T′ m′) (λ u. Unit) (λ x. Unit) (Own.told-none 𝓤 H A (G2 .slots))
-              (DerefMove.learns-nothing 𝓤 H A (Declared'.row RelayTicket.the-type)) (λ ρ told u asked. Way'.w-partˢ 𝓤 H A W E (Declared'.row
-              OpenPlan.the-type) (Declared'.row RelayTicket.the-type) Laws''.mir Laws''''''.mir 4 384 (u .1 .1 .1 .1 .1 .1 .0) (At.getAt
-              (OpenPlan.the-type .parts) 4 (OpenPlan.struct .as-values (u .1 .1 .1 .1 .1 .1 .0))) (Row.hd 0 (Row.tl (Row.tl (Row.tl (Row.tl (Row.tl
-              (Row.tl bs)))))), 0) (Way.w-look 𝓤 H A W E (Way.w-local 𝓤 H A W E G2 ρ u (G2 .slots) 6 (Declared'.row OpenPlan.the-type) (Rows'.whole
-              (Declared'.row OpenPlan.the-type)) (λ x. x) (λ x. x) (u .1 .1 .1 .1 .1 .1 .0) (Local.mem-whole 𝓤 H A W (Declared'.row OpenPlan.the-type)
-              ρ (u .1 .1 .1 .1 .1 .1 .0) (Row.hd 0 (Row.tl (Row.tl (Row.tl (Row.tl (Row.tl (Row.tl bs)))))))) (Local.whole-mem 𝓤 H A W (Declared'.row
-              OpenPlan.the-type) ρ (u .1 .1 .1 .1 .1 .1 .0) (Row.hd 0 (Row.tl (Row.tl (Row.tl (Row.tl (Row.tl (Row.tl bs)))))))))) Path.refl λ q.
-              Inner.cut-record 𝓤 H A q (Declared'.row OpenPlan.the-type) RelayTicket.the-type 384 (u .1 .1 .1 .1 .1 .1 .0) (u .1 .1 .1 .1 .1 .1 .0)
-              (At.getAt (OpenPlan.the-type .parts) 4 (OpenPlan.struct .as-values (u .1 .1 .1 .1 .1 .1 .0))) (At.getAt (OpenPlan.the-type .parts) 4
-              (OpenPlan.struct .as-values (u .1 .1 .1 .1 .1 .1 .0))) (Row.hd 0 (Row.tl (Row.tl (Row.tl (Row.tl (Row.tl (Row.tl bs)))))), 0)
-              (Behind.look-at 𝓤 H A W q OpenPlan.the-type Laws''.the-laws 4 384 Path.refl Path.refl (Row.hd 0 (Row.tl (Row.tl (Row.tl (Row.tl (Row.tl
-              (Row.tl bs)))))), 0) (u .1 .1 .1 .1 .1 .1 .0) (OpenPlan.struct .as-values (u .1 .1 .1 .1 .1 .1 .0)) Path.refl)) (Reads.room-gone 𝓤 H A
-              Laws''''''.mir) (Yields.makes-mem 𝓤 H A W (λ ρ. Unit) (Declared'.row RelayTicket.the-type) Path.refl (Rows'.whole (Declared'.row
-              RelayTicket.the-type)) (λ x. x) λ ρ told. Local.whole-mem 𝓤 H A W (Declared'.row RelayTicket.the-type) ρ) Path.refl Path.refl Path.refl)
-              d64
+          d65 = Typed.s-seq 𝓤 H A W 𝓣 E G2 G3 b0 b45 Δ0 (Typed.both (s1 bs)) (at64 bs) (WayStmt.t-way-copy-out 𝓤 H A W
+              E 𝓣 (Declared'.row RelayTicket.the-type) Path.refl (Copies.cStruct RelayTicket.the-type
+              Laws''''''.the-laws Laws''''''.the-copy .copy 𝓤 H A W) (λ ρ. Unit) G2 (Row.out 6 (G2 .locals))
+              (λ u. Row.drop 6 (G2 .locals) u) (G2 .slots) 6 (λ t. (Syntax.field 4) ∷ t) Laws''''''.mir Laws''''''.mir
+              9 (Rows'.whole (Declared'.row RelayTicket.the-type)) (λ x. x) (λ u. At.getAt (OpenPlan.the-type .parts) 4
+              (OpenPlan.struct .as-values (u .1 .1 .1 .1 .1 .1 .0))) (λ u. (
+                Row.hd 0 (Row.tl (Row.tl (Row.tl (Row.tl (Row.tl (Row.tl bs)))))),
+                Nat._+_ 0 384,
+              )) (λ T′. record {
+                locals = Row.setRow 6 (6, Rows'.whole (Declared'.row OpenPlan.the-type)) T′;
+                slots = G2 .slots;
+              }) (λ u T′ m′. Row.set 6 (6, Rows'.whole (Declared'.row OpenPlan.the-type)) (u .1 .1 .1 .1 .1 .1 .0) T′
+              m′) (λ u. Unit) (λ x. Unit) (Own.told-none 𝓤 H A (G2 .slots)) (DerefMove.learns-nothing 𝓤 H A
+              (Declared'.row RelayTicket.the-type)) (λ ρ told u asked. Way'.w-partˢ 𝓤 H A W E
+              (Declared'.row OpenPlan.the-type) (Declared'.row RelayTicket.the-type) Laws''.mir Laws''''''.mir 4 384
+              (u .1 .1 .1 .1 .1 .1 .0) (At.getAt (OpenPlan.the-type .parts) 4
+              (OpenPlan.struct .as-values (u .1 .1 .1 .1 .1 .1 .0))) (
+                Row.hd 0 (Row.tl (Row.tl (Row.tl (Row.tl (Row.tl (Row.tl bs)))))),
+                0,
+              ) (Way.w-look 𝓤 H A W E (Way.w-local 𝓤 H A W E G2 ρ u (G2 .slots) 6 (Declared'.row OpenPlan.the-type)
+              (Rows'.whole (Declared'.row OpenPlan.the-type)) (λ x. x) (λ x. x) (u .1 .1 .1 .1 .1 .1 .0) (Local.mem-whole
+              𝓤 H A W (Declared'.row OpenPlan.the-type) ρ (u .1 .1 .1 .1 .1 .1 .0) (Row.hd 0
+              (Row.tl (Row.tl (Row.tl (Row.tl (Row.tl (Row.tl bs)))))))) (Local.whole-mem 𝓤 H A W
+              (Declared'.row OpenPlan.the-type) ρ (u .1 .1 .1 .1 .1 .1 .0) (Row.hd 0 (Row.tl
+              (Row.tl (Row.tl (Row.tl (Row.tl (Row.tl bs)))))))))) Path.refl λ q. Inner.cut-record 𝓤 H A q
+              (Declared'.row OpenPlan.the-type) RelayTicket.the-type 384 (u .1 .1 .1 .1 .1 .1 .0)
+              (u .1 .1 .1 .1 .1 .1 .0) (At.getAt (OpenPlan.the-type .parts) 4
+              (OpenPlan.struct .as-values (u .1 .1 .1 .1 .1 .1 .0))) (At.getAt (OpenPlan.the-type .parts) 4
+              (OpenPlan.struct .as-values (u .1 .1 .1 .1 .1 .1 .0))) (
+                Row.hd 0 (Row.tl (Row.tl (Row.tl (Row.tl (Row.tl (Row.tl bs)))))),
+                0,
+              ) (Behind.look-at 𝓤 H A W q OpenPlan.the-type Laws''.the-laws 4 384 Path.refl Path.refl (
+                Row.hd 0 (Row.tl (Row.tl (Row.tl (Row.tl (Row.tl (Row.tl bs)))))),
+                0,
+              ) (u .1 .1 .1 .1 .1 .1 .0) (OpenPlan.struct .as-values (u .1 .1 .1 .1 .1 .1 .0)) Path.refl))
+              (Reads.room-gone 𝓤 H A Laws''''''.mir) (Yields.makes-mem 𝓤 H A W (λ ρ. Unit)
+              (Declared'.row RelayTicket.the-type) Path.refl (Rows'.whole (Declared'.row RelayTicket.the-type))
+              (λ x. x) λ ρ told. Local.whole-mem 𝓤 H A W (Declared'.row RelayTicket.the-type) ρ) Path.refl Path.refl
+              Path.refl) d64
+
           d66 : Typed.Typed 𝓤 H A 𝓣 E G0 b46 Δ0 (at66 bs)
-          d66 = Typed.g-pre 𝓤 H A W 𝓣 E G0 G2 b46 Δ0 (Typed.give (s0 bs)) (at65 bs) (Know.g-sl-known 𝓤 H A W (Referent.fInt Syntax.w32) E G0 3 2 ref7
-              life2 0 (λ x. x) record { fits = Dec.lit< tt } (Reads.as-is 𝓤 H A (Mut.mslice (Referent.rtF (Referent.fInt Syntax.w32)) ref7 2))
-              Path.refl tt) d65
-          pub typed : Typed.Typed 𝓤 H A 𝓣 E (Function.Γin 3 ps r xs m κs qs) b46 (Function.Δret 3 ps r xs m κs qs) (Φ bs)
+          d66 = Typed.g-pre 𝓤 H A W 𝓣 E G0 G2 b46 Δ0 (Typed.give (s0 bs)) (at65 bs) (Know.g-sl-known 𝓤 H A W
+              (Referent.fInt Syntax.w32) E G0 3 2 ref7 life2 0 (λ x. x) record { fits = Dec.lit< tt } (Reads.as-is 𝓤 H
+              A (Mut.mslice (Referent.rtF (Referent.fInt Syntax.w32)) ref7 2)) Path.refl tt) d65
+
+          pub typed : Typed.Typed 𝓤 H A 𝓣 E (Function.Γin 3 ps r xs m κs qs) b46 (Function.Δret 3 ps r xs m κs qs)
+              (Φ bs)
           typed = d66
+
       module _ (κs : Lifetimes.Lfts 3) where
         pub record Args : Type 0 where
-          pub pending : Kinds.Den { n = 3 } κs (MutSlice.pMutS RelayPending.row 0 tt)
-          pub inflight : Kinds.Den { n = 3 } κs (MutSlice.pMutS InflightAction.row 1 tt)
-          pub out : Kinds.Den { n = 3 } κs (MutSlice.pMutS (Referent.rtF (Referent.fInt Syntax.w32)) 2 tt)
-          pub runtime : Kinds.Den { n = 3 } κs (Value.pVal record { ty = Declared'.row OpaqueRelayRuntime.the-type; one = Path.refl; val =
-              Laws''''''''''.val OpaqueRelayRuntime.the-type Laws'''''''.the-laws; tells = Laws''''''''''.tells OpaqueRelayRuntime.the-type
-              Laws'''''''.the-laws; still = Laws''''''''''.still OpaqueRelayRuntime.the-type Laws'''''''.the-copy Exit.yes; row = Rows'.whole
-              (Declared'.row OpaqueRelayRuntime.the-type); rd = λ x. x; mk = λ x. x; } λ M 𝓤 H A W. record { copies = Laws''''''''''.copy
-              OpaqueRelayRuntime.the-type Laws'''''''.the-copy 𝓤 H A W; lawful = Laws''''''''''.lawful OpaqueRelayRuntime.the-type
-              Laws'''''''.the-laws 𝓤 H A W; makes = Laws''''''''''.makes OpaqueRelayRuntime.the-type Laws'''''''.the-plain 𝓤 H A; in-mem =
-              Local.mem-whole 𝓤 H A W (Declared'.row OpaqueRelayRuntime.the-type); of-mem = Local.whole-mem 𝓤 H A W (Declared'.row
-              OpaqueRelayRuntime.the-type); })
-          pub places : Kinds.Den { n = 3 } κs (Value.pVal record { ty = Declared'.row Places.the-type; one = Path.refl; val = Laws''''''''''.val
-              Places.the-type Laws'''.the-laws; tells = Laws''''''''''.tells Places.the-type Laws'''.the-laws; still = Laws''''''''''.still
-              Places.the-type Laws'''.the-copy Exit.yes; row = Rows'.whole (Declared'.row Places.the-type); rd = λ x. x; mk = λ x. x; } λ M 𝓤 H A W.
-              record { copies = Laws''''''''''.copy Places.the-type Laws'''.the-copy 𝓤 H A W; lawful = Laws''''''''''.lawful Places.the-type
-              Laws'''.the-laws 𝓤 H A W; makes = Laws''''''''''.makes Places.the-type Laws'''.the-plain 𝓤 H A; in-mem = Local.mem-whole 𝓤 H A W
-              (Declared'.row Places.the-type); of-mem = Local.whole-mem 𝓤 H A W (Declared'.row Places.the-type); })
-          pub plan : Kinds.Den { n = 3 } κs (Value.pVal record { ty = Declared'.row OpenPlan.the-type; one = Path.refl; val = Laws''''''''''.val
-              OpenPlan.the-type Laws''.the-laws; tells = Laws''''''''''.tells OpenPlan.the-type Laws''.the-laws; still = Laws''''''''''.still
-              OpenPlan.the-type Laws''.the-copy Exit.yes; row = Rows'.whole (Declared'.row OpenPlan.the-type); rd = λ x. x; mk = λ x. x; } λ M 𝓤 H A
-              W. record { copies = Laws''''''''''.copy OpenPlan.the-type Laws''.the-copy 𝓤 H A W; lawful = Laws''''''''''.lawful OpenPlan.the-type
-              Laws''.the-laws 𝓤 H A W; makes = Laws''''''''''.makes OpenPlan.the-type Laws''.the-plain 𝓤 H A; in-mem = Local.mem-whole 𝓤 H A W
-              (Declared'.row OpenPlan.the-type); of-mem = Local.whole-mem 𝓤 H A W (Declared'.row OpenPlan.the-type); })
-          pub usage : Kinds.Den { n = 3 } κs ReservationUsage.param
-          pub scan : Kinds.Den { n = 3 } κs (Value.pVal record { ty = Declared'.row ActionScan.the-type; one = Path.refl; val = Laws''''''''''.val
-              ActionScan.the-type Laws''''.the-laws; tells = Laws''''''''''.tells ActionScan.the-type Laws''''.the-laws; still = Laws''''''''''.still
-              ActionScan.the-type Laws''''.the-copy Exit.yes; row = Rows'.whole (Declared'.row ActionScan.the-type); rd = λ x. x; mk = λ x. x; } λ M 𝓤
-              H A W. record { copies = Laws''''''''''.copy ActionScan.the-type Laws''''.the-copy 𝓤 H A W; lawful = Laws''''''''''.lawful
-              ActionScan.the-type Laws''''.the-laws 𝓤 H A W; makes = Laws''''''''''.makes ActionScan.the-type Laws''''.the-plain 𝓤 H A; in-mem =
-              Local.mem-whole 𝓤 H A W (Declared'.row ActionScan.the-type); of-mem = Local.whole-mem 𝓤 H A W (Declared'.row ActionScan.the-type); })
+          pub pending : Kinds.Den {n = 3} κs (MutSlice.pMutS RelayPending.row 0 tt)
+          pub inflight : Kinds.Den {n = 3} κs (MutSlice.pMutS InflightAction.row 1 tt)
+          pub out : Kinds.Den {n = 3} κs (MutSlice.pMutS (Referent.rtF (Referent.fInt Syntax.w32)) 2 tt)
+          pub runtime : Kinds.Den {n = 3} κs (StructRow.param OpaqueRelayRuntime.the-type Laws'''''''.the-laws
+              Laws'''''''.the-copy Laws'''''''.the-plain)
+          pub places : Kinds.Den {n = 3} κs (StructRow.param Places.the-type Laws'''.the-laws Laws'''.the-copy
+              Laws'''.the-plain)
+          pub plan : Kinds.Den {n = 3} κs (StructRow.param OpenPlan.the-type Laws''.the-laws Laws''.the-copy
+              Laws''.the-plain)
+          pub usage : Kinds.Den {n = 3} κs ReservationUsage.param
+          pub scan : Kinds.Den {n = 3} κs (StructRow.param ActionScan.the-type Laws''''.the-laws Laws''''.the-copy
+              Laws''''.the-plain)
+
         abbrev pub dens : (a : Args) → Kinds.Dens κs ps
-        dens = λ a. (a .pending, (a .inflight, (a .out, (a .runtime, (a .places, (a .plan, (a .usage, (a .scan, tt)))))),),)
+        dens = λ a. (
+          a .pending,
+          (a .inflight, (a .out, (a .runtime, (a .places, (a .plan, (a .usage, (a .scan, tt))))))),
+        )
+
       abbrev pub m0 : (κs : Lifetimes.Lfts 3) → (args : Args κs) → (blocks : List.List Nat.ℕ) → Typed.Mo T0
       m0 = λ κs args blocks. (tt, Enter.partsP κs 1 ps xs (dens κs args))
+
       abbrev W0 : (κs : Lifetimes.Lfts 3) → (args : Args κs) → (blocks : List.List Nat.ℕ) → Typed.Want O0
-      W0 = λ κs args blocks. (λ u. ⊥, tt, λ u. Enter.Fixs κs 1 ps xs (dens κs args) (u .1) × Post· κs (dens κs args) (Function.resV r κs (u .0))
-          (Clauses.atExit (Kinds.endedOf 3 ps r) κs (dens κs args) (Enter.lastsP κs 1 ps xs (dens κs args) (u .1))),)
+      W0 = λ κs args blocks. (
+        λ u. ⊥,
+        tt,
+        λ u. Enter.Fixs κs 1 ps xs (dens κs args) (u .1) × Post· κs (dens κs args) (Function.resV r κs (u .0)) (Clauses.atExit
+            (Kinds.endedOf 3 ps r) κs (dens κs args) (Enter.lastsP κs 1 ps xs (dens κs args) (u .1))),
+      )
+
       pub record Start : Type 0 where
         pub κs : Lifetimes.Lfts 3
         pub args : Args κs
         pub blocks : List.List Nat.ℕ
         pub good : Kinds.GoodsP κs ps (dens κs args)
         pub pre : Pre· κs (dens κs args)
-      abbrev pub m1 : (before : Start) → (given : s0 (before .blocks) .gives (m0 (before .κs) (before .args) (before .blocks))) → Typed.Mo T2
+
+      abbrev pub m1 : (before : Start) → (given : s0 (before .blocks) .gives
+          (m0 (before .κs) (before .args) (before .blocks))) → Typed.Mo T2
       m1 = λ before given. s0 (before .blocks) .next (m0 (before .κs) (before .args) (before .blocks)) given
+
       module _ (before· : Start) where
         pub record After-slice-known·own : Type 0 where
           pub given : s0 (before· .blocks) .gives (m0 (before· .κs) (before· .args) (before· .blocks))
+
       pub record After-slice-known : Type 0 where
         pub before : Start
         pub slice-known : After-slice-known·own before
-      abbrev pub m2 : (before : After-slice-known) → (given : s1 (before .before .blocks) .gives (m1 (before .before) (before .slice-known .given))) →
-          Typed.Mo T3
+
+      abbrev pub m2 : (before : After-slice-known) → (given : s1 (before .before .blocks) .gives
+          (m1 (before .before) (before .slice-known .given))) → Typed.Mo T3
       m2 = λ before given. s1 (before .before .blocks) .next (m1 (before .before) (before .slice-known .given)) given
+
       module _ (before· : After-slice-known) where
         pub record After-ticket·own : Type 0 where
           pub given : s1 (before· .before .blocks) .gives (m1 (before· .before) (before· .slice-known .given))
+
       pub record After-ticket : Type 0 where
         pub before : After-slice-known
         pub ticket : After-ticket·own before
+
       abbrev pub Need-usage-answer-requires : Type 0
-      Need-usage-answer-requires = (c : After-ticket) → s2 (c .before .before .blocks) .asks (m2 (c .before) (c .ticket .given))
-      abbrev pub m3 : (before : After-ticket) → (given : s2 (before .before .before .blocks) .gives (m2 (before .before) (before .ticket .given))) →
-          Typed.Mo T4
-      m3 = λ before given. s2 (before .before .before .blocks) .next (m2 (before .before) (before .ticket .given)) given
+      Need-usage-answer-requires = (c : After-ticket) → s2 (c .before .before .blocks) .asks
+          (m2 (c .before) (c .ticket .given))
+
+      abbrev pub m3 : (before : After-ticket) → (given : s2 (before .before .before .blocks) .gives
+          (m2 (before .before) (before .ticket .given))) → Typed.Mo T4
+      m3 = λ before given. s2 (before .before .before .blocks) .next (m2 (before .before) (before .ticket .given))
+          given
+
       module _ (before· : After-ticket) where
         abbrev pub After-usage-answer·own : Type 0
-        After-usage-answer·own = Called.Called ps·0 r·0 (claims· .1) T3 (record { pos = 9; st = List.[]; d = 0; at = λ x. x }, (record { pos = 7; st =
-            List.[]; d = 0; at = λ x. x }, tt),) (m2 (before· .before) (before· .ticket .given))
+        After-usage-answer·own = Called.Called ps·0 r·0 (claims· .1) T3 (
+          record { pos = 9; st = List.[]; d = 0; at = λ x. x },
+          (record { pos = 7; st = List.[]; d = 0; at = λ x. x }, tt),
+        ) (m2 (before· .before) (before· .ticket .given))
+
       pub record After-usage-answer : Type 0 where
         pub before : After-ticket
         pub usage-answer : After-usage-answer·own before
-      abbrev pub After-usage-answer·gave : (c : After-usage-answer) → s2 (c .before .before .before .blocks) .gives (m2 (c .before .before) (c .before
-          .ticket .given))
-      After-usage-answer·gave = λ c. Called.given ps·0 r·0 (claims· .1) T3 (record { pos = 9; st = List.[]; d = 0; at = λ x. x }, (record { pos = 7;
-          st = List.[]; d = 0; at = λ x. x }, tt),) (m2 (c .before .before) (c .before .ticket .given)) (c .usage-answer)
-      abbrev pub m4 : (before : After-ticket) → (given : s2 (before .before .before .blocks) .gives (m2 (before .before) (before .ticket .given))) →
-          Typed.Mo T5
+
+      abbrev pub After-usage-answer·gave : (c : After-usage-answer) → s2 (c .before .before .before .blocks) .gives
+          (m2 (c .before .before) (c .before .ticket .given))
+      After-usage-answer·gave = λ c. Called.given ps·0 r·0 (claims· .1) T3 (
+        record { pos = 9; st = List.[]; d = 0; at = λ x. x },
+        (record { pos = 7; st = List.[]; d = 0; at = λ x. x }, tt),
+      ) (m2 (c .before .before) (c .before .ticket .given)) (c .usage-answer)
+
+      abbrev pub m4 : (before : After-ticket) → (given : s2 (before .before .before .blocks) .gives
+          (m2 (before .before) (before .ticket .given))) → Typed.Mo T5
       m4 = λ before given. s3 (before .before .before .blocks) (m3 before given)
-      abbrev pub m5 : (before : After-ticket) → (given : s2 (before .before .before .blocks) .gives (m2 (before .before) (before .ticket .given))) →
-          Typed.Mo T6
+
+      abbrev pub m5 : (before : After-ticket) → (given : s2 (before .before .before .blocks) .gives
+          (m2 (before .before) (before .ticket .given))) → Typed.Mo T6
       m5 = λ before given. s4 (before .before .before .blocks) (m4 before given)
+
       abbrev pub Need-is-taken-requires : Type 0
-      Need-is-taken-requires = (c : After-usage-answer) → s5 (c .before .before .before .blocks) .asks (m5 (c .before) (After-usage-answer·gave c))
-      abbrev pub m6 : (before : After-usage-answer) → (given : s5 (before .before .before .before .blocks) .gives (m5 (before .before)
-          (After-usage-answer·gave before))) → Typed.Mo T7
-      m6 = λ before given. s5 (before .before .before .before .blocks) .next (m5 (before .before) (After-usage-answer·gave before)) given
+      Need-is-taken-requires = (c : After-usage-answer) → s5 (c .before .before .before .blocks) .asks
+          (m5 (c .before) (After-usage-answer·gave c))
+
+      abbrev pub m6 : (before : After-usage-answer) → (given : s5 (before .before .before .before .blocks) .gives
+          (m5 (before .before) (After-usage-answer·gave before))) → Typed.Mo T7
+      m6 = λ before given. s5 (before .before .before .before .blocks) .next
+          (m5 (before .before) (After-usage-answer·gave before)) given
+
       module _ (before· : After-usage-answer) where
         abbrev pub After-is-taken·own : Type 0
-        After-is-taken·own = Called.Called ps·1 r·1 (claims· .3) T6 (record { pos = 10; st = List.[]; d = 0; at = λ x. x }, tt,) (m5 (before· .before)
-            (After-usage-answer·gave before·))
+        After-is-taken·own = Called.Called ps·1 r·1 (claims· .3) T6
+            (record { pos = 10; st = List.[]; d = 0; at = λ x. x }, tt)
+            (m5 (before· .before) (After-usage-answer·gave before·))
+
       pub record After-is-taken : Type 0 where
         pub before : After-usage-answer
         pub is-taken : After-is-taken·own before
-      abbrev pub After-is-taken·gave : (c : After-is-taken) → s5 (c .before .before .before .before .blocks) .gives (m5 (c .before .before)
-          (After-usage-answer·gave (c .before)))
-      After-is-taken·gave = λ c. Called.given ps·1 r·1 (claims· .3) T6 (record { pos = 10; st = List.[]; d = 0; at = λ x. x }, tt,) (m5 (c .before
-          .before) (After-usage-answer·gave (c .before))) (c .is-taken)
-      abbrev W1 : (before : After-usage-answer) → (given : s5 (before .before .before .before .blocks) .gives (m5 (before .before)
-          (After-usage-answer·gave before))) → Typed.Want O1
-      W1 = λ before given. Typed.wantNext T8 O0 (at59 (before .before .before .before .blocks) (W0 (before .before .before .before .κs) (before
-          .before .before .before .args) (before .before .before .before .blocks))) (W0 (before .before .before .before .κs) (before .before .before
-          .before .args) (before .before .before .before .blocks))
+
+      abbrev pub After-is-taken·gave : (c : After-is-taken) → s5 (c .before .before .before .before .blocks) .gives (m5
+          (c .before .before) (After-usage-answer·gave (c .before)))
+      After-is-taken·gave = λ c. Called.given ps·1 r·1 (claims· .3) T6
+          (record { pos = 10; st = List.[]; d = 0; at = λ x. x }, tt) (m5 (c .before .before)
+          (After-usage-answer·gave (c .before))) (c .is-taken)
+
+      abbrev W1 : (before : After-usage-answer) → (given : s5 (before .before .before .before .blocks) .gives
+          (m5 (before .before) (After-usage-answer·gave before))) → Typed.Want O1
+      W1 = λ before given. Typed.wantNext T8 O0 (at59 (before .before .before .before .blocks) (W0
+          (before .before .before .before .κs) (before .before .before .before .args)
+          (before .before .before .before .blocks))) (W0 (before .before .before .before .κs)
+          (before .before .before .before .args) (before .before .before .before .blocks))
+
       abbrev pub m7 : (before : After-is-taken) → Typed.Mo T9
-      m7 = λ before. s6 (before .before .before .before .before .blocks) (m6 (before .before) (After-is-taken·gave before))
+      m7 = λ before. s6 (before .before .before .before .before .blocks)
+          (m6 (before .before) (After-is-taken·gave before))
+
       module _ (before· : After-is-taken) where
         pub record Then1·own : Type 0 where
-          pub taken : Path._≡_ (Row.get 18 (T7 .locals) (m6 (before· .before) (After-is-taken·gave before·))) Bool'.true
+          pub taken : Path._≡_ (Row.get 18 (T7 .locals) (m6 (before· .before) (After-is-taken·gave before·)))
+              Bool'.true
+
       pub record Then1 : Type 0 where
         pub before : After-is-taken
         pub if1 : Then1·own before
+
       abbrev pub Need-pending-for-requires : Type 0
-      Need-pending-for-requires = (c : Then1) → s7 (c .before .before .before .before .before .blocks) .asks (m7 (c .before))
-      abbrev pub m8 : (before : Then1) → (given : s7 (before .before .before .before .before .before .blocks) .gives (m7 (before .before))) → Typed.Mo
-          T10
-      m8 = λ before given. s7 (before .before .before .before .before .before .blocks) .next (m7 (before .before)) given
+      Need-pending-for-requires = (c : Then1) → s7 (c .before .before .before .before .before .blocks) .asks
+          (m7 (c .before))
+
+      abbrev pub m8 : (before : Then1) → (given : s7 (before .before .before .before .before .before .blocks) .gives
+          (m7 (before .before))) → Typed.Mo T10
+      m8 = λ before given. s7 (before .before .before .before .before .before .blocks) .next (m7 (before .before))
+          given
+
       module _ (before· : Then1) where
         abbrev pub After-pending-for·own : Type 0
-        After-pending-for·own = Called.Called ps·2 r·2 (claims· .5) T9 (record { pos = 6; st = List.[]; d = 0; at = λ x. x }, tt,) (m7 (before·
-            .before))
+        After-pending-for·own = Called.Called ps·2 r·2 (claims· .5) T9
+            (record { pos = 6; st = List.[]; d = 0; at = λ x. x }, tt) (m7 (before· .before))
+
       pub record After-pending-for : Type 0 where
         pub before : Then1
         pub pending-for : After-pending-for·own before
-      abbrev pub After-pending-for·gave : (c : After-pending-for) → s7 (c .before .before .before .before .before .before .blocks) .gives (m7 (c
-          .before .before))
-      After-pending-for·gave = λ c. Called.given ps·2 r·2 (claims· .5) T9 (record { pos = 6; st = List.[]; d = 0; at = λ x. x }, tt,) (m7 (c .before
-          .before)) (c .pending-for)
-      abbrev pub m9 : (before : After-pending-for) → (given : s9 (before .before .before .before .before .before .before .blocks) .gives (m8 (before
-          .before) (After-pending-for·gave before))) → Typed.Mo T12
-      m9 = λ before given. s9 (before .before .before .before .before .before .before .blocks) .next (m8 (before .before) (After-pending-for·gave
-          before)) given
-      abbrev pub m10 : (before : After-pending-for) → (given : s9 (before .before .before .before .before .before .before .blocks) .gives (m8 (before
-          .before) (After-pending-for·gave before))) → Typed.Mo T13
-      m10 = λ before given. s10 (before .before .before .before .before .before .before .blocks) .next (m9 before given)
+
+      abbrev pub After-pending-for·gave : (c : After-pending-for) → s7
+          (c .before .before .before .before .before .before .blocks) .gives (m7 (c .before .before))
+      After-pending-for·gave = λ c. Called.given ps·2 r·2 (claims· .5) T9
+          (record { pos = 6; st = List.[]; d = 0; at = λ x. x }, tt) (m7 (c .before .before)) (c .pending-for)
+
+      abbrev pub m9 : (before : After-pending-for) → (given : s9 (before .before .before .before .before .before
+          .before .blocks) .gives (m8 (before .before) (After-pending-for·gave before))) → Typed.Mo T12
+      m9 = λ before given. s9 (before .before .before .before .before .before .before .blocks) .next
+          (m8 (before .before) (After-pending-for·gave before)) given
+
+      abbrev pub m10 : (before : After-pending-for) → (given : s9 (before .before .before .before .before .before
+          .before .blocks) .gives (m8 (before .before) (After-pending-for·gave before))) → Typed.Mo T13
+      m10 = λ before given. s10 (before .before .before .before .before .before .before .blocks) .next
+          (m9 before given)
+
       module _ (before· : After-pending-for) where
         pub record After-put-pending-arg·own : Type 0 where
-          pub given : s9 (before· .before .before .before .before .before .before .blocks) .gives (m8 (before· .before) (After-pending-for·gave
-              before·))
+          pub given : s9 (before· .before .before .before .before .before .before .blocks) .gives
+              (m8 (before· .before) (After-pending-for·gave before·))
+
       pub record After-put-pending-arg : Type 0 where
         pub before : After-pending-for
         pub put-pending-arg : After-put-pending-arg·own before
+
       abbrev pub Need-put-pending-requires : Type 0
-      Need-put-pending-requires = (c : After-put-pending-arg) → s11 (c .before .before .before .before .before .before .before .blocks) .asks (m10 (c
-          .before) (c .put-pending-arg .given))
-      abbrev pub m11 : (before : After-put-pending-arg) → (given : s11 (before .before .before .before .before .before .before .before .blocks) .gives
-          (m10 (before .before) (before .put-pending-arg .given))) → Typed.Mo T14
-      m11 = λ before given. s11 (before .before .before .before .before .before .before .before .blocks) .next (m10 (before .before) (before
-          .put-pending-arg .given)) given
+      Need-put-pending-requires = (c : After-put-pending-arg) → s11 (c .before .before .before .before .before .before
+          .before .blocks) .asks (m10 (c .before) (c .put-pending-arg .given))
+
+      abbrev pub m11 : (before : After-put-pending-arg) → (given : s11 (before .before .before .before .before .before
+          .before .before .blocks) .gives (m10 (before .before) (before .put-pending-arg .given))) → Typed.Mo T14
+      m11 = λ before given. s11 (before .before .before .before .before .before .before .before .blocks) .next
+          (m10 (before .before) (before .put-pending-arg .given)) given
+
       module _ (before· : After-put-pending-arg) where
         abbrev pub After-put-pending·own : Type 0
-        After-put-pending·own = Called.Called ps·3 r·3 (claims· .7) T13 (record { pos = 20; ty = Syntax.tyRef Syntax.erased Syntax.mut
-            RelayPending.to; ref = λ x. x; }, (record { pos = 5; st = List.[]; d = 0; at = λ x. x }, (record { pos = 11; st = List.[]; d = 0; at = λ
-            x. x }, tt),),) (m10 (before· .before) (before· .put-pending-arg .given))
+        After-put-pending·own = Called.Called ps·3 r·3 (claims· .7) T13 (
+          record { pos = 20; ty = ref0; ref = λ x. x },
+          (
+            record { pos = 5; st = List.[]; d = 0; at = λ x. x },
+            (record { pos = 11; st = List.[]; d = 0; at = λ x. x }, tt),
+          ),
+        ) (m10 (before· .before) (before· .put-pending-arg .given))
+
       pub record After-put-pending : Type 0 where
         pub before : After-put-pending-arg
         pub put-pending : After-put-pending·own before
-      abbrev pub After-put-pending·gave : (c : After-put-pending) → s11 (c .before .before .before .before .before .before .before .before .blocks)
-          .gives (m10 (c .before .before) (c .before .put-pending-arg .given))
-      After-put-pending·gave = λ c. Called.given ps·3 r·3 (claims· .7) T13 (record { pos = 20; ty = Syntax.tyRef Syntax.erased Syntax.mut
-          RelayPending.to; ref = λ x. x; }, (record { pos = 5; st = List.[]; d = 0; at = λ x. x }, (record { pos = 11; st = List.[]; d = 0; at = λ x.
-          x }, tt),),) (m10 (c .before .before) (c .before .put-pending-arg .given)) (c .put-pending)
-      abbrev pub m12 : (before : After-put-pending-arg) → (given : s11 (before .before .before .before .before .before .before .before .blocks) .gives
-          (m10 (before .before) (before .put-pending-arg .given))) → Typed.Mo T15
-      m12 = λ before given. s12 (before .before .before .before .before .before .before .before .blocks) (m11 before given)
-      abbrev pub m13 : (before : After-put-pending) → (given : s14 (before .before .before .before .before .before .before .before .before .blocks)
-          .gives (m12 (before .before) (After-put-pending·gave before))) → Typed.Mo T17
-      m13 = λ before given. s14 (before .before .before .before .before .before .before .before .before .blocks) .next (m12 (before .before)
-          (After-put-pending·gave before)) given
+
+      abbrev pub After-put-pending·gave : (c : After-put-pending) → s11 (c .before .before .before .before .before
+          .before .before .before .blocks) .gives (m10 (c .before .before) (c .before .put-pending-arg .given))
+      After-put-pending·gave = λ c. Called.given ps·3 r·3 (claims· .7) T13 (
+        record { pos = 20; ty = ref0; ref = λ x. x },
+        (
+          record { pos = 5; st = List.[]; d = 0; at = λ x. x },
+          (record { pos = 11; st = List.[]; d = 0; at = λ x. x }, tt),
+        ),
+      ) (m10 (c .before .before) (c .before .put-pending-arg .given)) (c .put-pending)
+
+      abbrev pub m12 : (before : After-put-pending-arg) → (given : s11 (before .before .before .before .before .before
+          .before .before .blocks) .gives (m10 (before .before) (before .put-pending-arg .given))) → Typed.Mo T15
+      m12 = λ before given. s12 (before .before .before .before .before .before .before .before .blocks)
+          (m11 before given)
+
+      abbrev pub m13 : (before : After-put-pending) → (given : s14 (before .before .before .before .before .before
+          .before .before .before .blocks) .gives (m12 (before .before) (After-put-pending·gave before))) → Typed.Mo
+          T17
+      m13 = λ before given. s14 (before .before .before .before .before .before .before .before .before .blocks) .next
+          (m12 (before .before) (After-put-pending·gave before)) given
+
       module _ (before· : After-put-pending) where
         pub record After-pending·own : Type 0 where
-          pub given : s14 (before· .before .before .before .before .before .before .before .before .blocks) .gives (m12 (before· .before)
-              (After-put-pending·gave before·))
+          pub given : s14 (before· .before .before .before .before .before .before .before .before .blocks) .gives
+              (m12 (before· .before) (After-put-pending·gave before·))
+
       pub record After-pending : Type 0 where
         pub before : After-put-pending
         pub pending : After-pending·own before
+
       abbrev pub Need-with-pending-requires : Type 0
-      Need-with-pending-requires = (c : After-pending) → s16 (c .before .before .before .before .before .before .before .before .before .blocks) .asks
-          (m13 (c .before) (c .pending .given))
-      abbrev pub m14 : (before : After-pending) → (given : s16 (before .before .before .before .before .before .before .before .before .before
-          .blocks) .gives (m13 (before .before) (before .pending .given))) → Typed.Mo T19
-      m14 = λ before given. s16 (before .before .before .before .before .before .before .before .before .before .blocks) .next (m13 (before .before)
-          (before .pending .given)) given
+      Need-with-pending-requires = (c : After-pending) → s16 (c .before .before .before .before .before .before .before
+          .before .before .blocks) .asks (m13 (c .before) (c .pending .given))
+
+      abbrev pub m14 : (before : After-pending) → (given : s16 (before .before .before .before .before .before .before
+          .before .before .before .blocks) .gives (m13 (before .before) (before .pending .given))) → Typed.Mo T19
+      m14 = λ before given. s16 (before .before .before .before .before .before .before .before .before .before .blocks)
+          .next (m13 (before .before) (before .pending .given)) given
+
       module _ (before· : After-pending) where
         abbrev pub After-with-pending·own : Type 0
-        After-with-pending·own = Called.Called ps·4 r·4 (claims· .9) T17 (record { pos = 5; st = List.[]; d = 0; at = λ x. x }, (Num.vAt 12 λ x. x,
-            tt),) (m13 (before· .before) (before· .pending .given))
+        After-with-pending·own = Called.Called ps·4 r·4 (claims· .9) T17 (
+          record { pos = 5; st = List.[]; d = 0; at = λ x. x },
+          (Num.vAt 12 λ x. x, tt),
+        ) (m13 (before· .before) (before· .pending .given))
+
       pub record After-with-pending : Type 0 where
         pub before : After-pending
         pub with-pending : After-with-pending·own before
-      abbrev pub After-with-pending·gave : (c : After-with-pending) → s16 (c .before .before .before .before .before .before .before .before .before
-          .before .blocks) .gives (m13 (c .before .before) (c .before .pending .given))
-      After-with-pending·gave = λ c. Called.given ps·4 r·4 (claims· .9) T17 (record { pos = 5; st = List.[]; d = 0; at = λ x. x }, (Num.vAt 12 λ x. x,
-          tt),) (m13 (c .before .before) (c .before .pending .given)) (c .with-pending)
-      abbrev pub m15 : (before : After-pending) → (given : s16 (before .before .before .before .before .before .before .before .before .before
-          .blocks) .gives (m13 (before .before) (before .pending .given))) → Typed.Mo T20
-      m15 = λ before given. s17 (before .before .before .before .before .before .before .before .before .before .blocks) (m14 before given)
+
+      abbrev pub After-with-pending·gave : (c : After-with-pending) → s16 (c .before .before .before .before .before
+          .before .before .before .before .before .blocks) .gives (m13 (c .before .before) (c .before .pending .given))
+      After-with-pending·gave = λ c. Called.given ps·4 r·4 (claims· .9) T17 (
+        record { pos = 5; st = List.[]; d = 0; at = λ x. x },
+        (Num.vAt 12 λ x. x, tt),
+      ) (m13 (c .before .before) (c .before .pending .given)) (c .with-pending)
+
+      abbrev pub m15 : (before : After-pending) → (given : s16 (before .before .before .before .before .before .before
+          .before .before .before .blocks) .gives (m13 (before .before) (before .pending .given))) → Typed.Mo T20
+      m15 = λ before given. s17 (before .before .before .before .before .before .before .before .before .before .blocks)
+          (m14 before given)
+
       abbrev pub Need-opened-requires : Type 0
-      Need-opened-requires = (c : After-with-pending) → s18 (c .before .before .before .before .before .before .before .before .before .before
-          .blocks) .asks (m15 (c .before) (After-with-pending·gave c))
-      abbrev pub m16 : (before : After-with-pending) → (given : s18 (before .before .before .before .before .before .before .before .before .before
-          .before .blocks) .gives (m15 (before .before) (After-with-pending·gave before))) → Typed.Mo T21
-      m16 = λ before given. s18 (before .before .before .before .before .before .before .before .before .before .before .blocks) .next (m15 (before
-          .before) (After-with-pending·gave before)) given
+      Need-opened-requires = (c : After-with-pending) → s18 (c .before .before .before .before .before .before .before
+          .before .before .before .blocks) .asks (m15 (c .before) (After-with-pending·gave c))
+
+      abbrev pub m16 : (before : After-with-pending) → (given : s18 (before .before .before .before .before .before
+          .before .before .before .before .before .blocks) .gives
+          (m15 (before .before) (After-with-pending·gave before))) → Typed.Mo T21
+      m16 = λ before given. s18 (before .before .before .before .before .before .before .before .before .before .before
+          .blocks) .next (m15 (before .before) (After-with-pending·gave before)) given
+
       module _ (before· : After-with-pending) where
         abbrev pub After-opened·own : Type 0
-        After-opened·own = Called.Called ps·5 r·5 (claims· .11) T20 (Bool.bLit Bool'.true, (record { pos = 4; st = List.[]; d = 0; at = λ x. x },
-            tt),) (m15 (before· .before) (After-with-pending·gave before·))
+        After-opened·own = Called.Called ps·5 r·5 (claims· .11) T20 (
+          Bool.bLit Bool'.true,
+          (record { pos = 4; st = List.[]; d = 0; at = λ x. x }, tt),
+        ) (m15 (before· .before) (After-with-pending·gave before·))
+
       pub record After-opened : Type 0 where
         pub before : After-with-pending
         pub opened : After-opened·own before
-      abbrev pub After-opened·gave : (c : After-opened) → s18 (c .before .before .before .before .before .before .before .before .before .before
-          .before .blocks) .gives (m15 (c .before .before) (After-with-pending·gave (c .before)))
-      After-opened·gave = λ c. Called.given ps·5 r·5 (claims· .11) T20 (Bool.bLit Bool'.true, (record { pos = 4; st = List.[]; d = 0; at = λ x. x },
-          tt),) (m15 (c .before .before) (After-with-pending·gave (c .before))) (c .opened)
-      abbrev pub m17 : (before : After-with-pending) → (given : s18 (before .before .before .before .before .before .before .before .before .before
-          .before .blocks) .gives (m15 (before .before) (After-with-pending·gave before))) → Typed.Mo T22
-      m17 = λ before given. s19 (before .before .before .before .before .before .before .before .before .before .before .blocks) (m16 before given)
+
+      abbrev pub After-opened·gave : (c : After-opened) → s18 (c .before .before .before .before .before .before
+          .before .before .before .before .before .blocks) .gives (m15 (c .before .before)
+          (After-with-pending·gave (c .before)))
+      After-opened·gave = λ c. Called.given ps·5 r·5 (claims· .11) T20 (
+        Bool.bLit Bool'.true,
+        (record { pos = 4; st = List.[]; d = 0; at = λ x. x }, tt),
+      ) (m15 (c .before .before) (After-with-pending·gave (c .before))) (c .opened)
+
+      abbrev pub m17 : (before : After-with-pending) → (given : s18 (before .before .before .before .before .before
+          .before .before .before .before .before .blocks) .gives
+          (m15 (before .before) (After-with-pending·gave before))) → Typed.Mo T22
+      m17 = λ before given. s19 (before .before .before .before .before .before .before .before .before .before .before
+          .blocks) (m16 before given)
+
       abbrev pub Need-incoming-out-requires : Type 0
-      Need-incoming-out-requires = (c : After-opened) → s20 (c .before .before .before .before .before .before .before .before .before .before .before
-          .blocks) .asks (m17 (c .before) (After-opened·gave c))
-      abbrev pub m18 : (before : After-opened) → (given : s20 (before .before .before .before .before .before .before .before .before .before .before
-          .before .blocks) .gives (m17 (before .before) (After-opened·gave before))) → Typed.Mo T23
-      m18 = λ before given. s20 (before .before .before .before .before .before .before .before .before .before .before .before .blocks) .next (m17
-          (before .before) (After-opened·gave before)) given
+      Need-incoming-out-requires = (c : After-opened) → s20 (c .before .before .before .before .before .before .before
+          .before .before .before .before .blocks) .asks (m17 (c .before) (After-opened·gave c))
+
+      abbrev pub m18 : (before : After-opened) → (given : s20 (before .before .before .before .before .before .before
+          .before .before .before .before .before .blocks) .gives (m17 (before .before) (After-opened·gave before))) →
+          Typed.Mo T23
+      m18 = λ before given. s20 (before .before .before .before .before .before .before .before .before .before .before
+          .before .blocks) .next (m17 (before .before) (After-opened·gave before)) given
+
       module _ (before· : After-opened) where
         abbrev pub After-incoming-out·own : Type 0
-        After-incoming-out·own = Called.Called ps·6 r·6 (claims· .13) T22 (record { pos = 6; st = List.[]; d = 0; at = λ x. x }, tt,) (m17 (before·
-            .before) (After-opened·gave before·))
+        After-incoming-out·own = Called.Called ps·6 r·6 (claims· .13) T22
+            (record { pos = 6; st = List.[]; d = 0; at = λ x. x }, tt)
+            (m17 (before· .before) (After-opened·gave before·))
+
       pub record After-incoming-out : Type 0 where
         pub before : After-opened
         pub incoming-out : After-incoming-out·own before
-      abbrev pub After-incoming-out·gave : (c : After-incoming-out) → s20 (c .before .before .before .before .before .before .before .before .before
-          .before .before .before .blocks) .gives (m17 (c .before .before) (After-opened·gave (c .before)))
-      After-incoming-out·gave = λ c. Called.given ps·6 r·6 (claims· .13) T22 (record { pos = 6; st = List.[]; d = 0; at = λ x. x }, tt,) (m17 (c
-          .before .before) (After-opened·gave (c .before))) (c .incoming-out)
+
+      abbrev pub After-incoming-out·gave : (c : After-incoming-out) → s20 (c .before .before .before .before .before
+          .before .before .before .before .before .before .before .blocks) .gives
+          (m17 (c .before .before) (After-opened·gave (c .before)))
+      After-incoming-out·gave = λ c. Called.given ps·6 r·6 (claims· .13) T22
+          (record { pos = 6; st = List.[]; d = 0; at = λ x. x }, tt)
+          (m17 (c .before .before) (After-opened·gave (c .before))) (c .incoming-out)
+
       abbrev pub Need-incoming-for-requires : Type 0
-      Need-incoming-for-requires = (c : After-incoming-out) → s21 (c .before .before .before .before .before .before .before .before .before .before
-          .before .before .blocks) .asks (m18 (c .before) (After-incoming-out·gave c))
-      abbrev pub m19 : (before : After-incoming-out) → (given : s21 (before .before .before .before .before .before .before .before .before .before
-          .before .before .before .blocks) .gives (m18 (before .before) (After-incoming-out·gave before))) → Typed.Mo T24
-      m19 = λ before given. s21 (before .before .before .before .before .before .before .before .before .before .before .before .before .blocks) .next
-          (m18 (before .before) (After-incoming-out·gave before)) given
+      Need-incoming-for-requires = (c : After-incoming-out) → s21 (c .before .before .before .before .before .before
+          .before .before .before .before .before .before .blocks) .asks (m18 (c .before) (After-incoming-out·gave c))
+
+      abbrev pub m19 : (before : After-incoming-out) → (given : s21 (before .before .before .before .before .before
+          .before .before .before .before .before .before .before .blocks) .gives
+          (m18 (before .before) (After-incoming-out·gave before))) → Typed.Mo T24
+      m19 = λ before given. s21 (before .before .before .before .before .before .before .before .before .before .before
+          .before .before .blocks) .next (m18 (before .before) (After-incoming-out·gave before)) given
+
       module _ (before· : After-incoming-out) where
         abbrev pub After-incoming-for·own : Type 0
-        After-incoming-for·own = Called.Called ps·7 r·7 (claims· .15) T23 (record { pos = 6; st = List.[]; d = 0; at = λ x. x }, tt,) (m18 (before·
-            .before) (After-incoming-out·gave before·))
+        After-incoming-for·own = Called.Called ps·7 r·7 (claims· .15) T23
+            (record { pos = 6; st = List.[]; d = 0; at = λ x. x }, tt)
+            (m18 (before· .before) (After-incoming-out·gave before·))
+
       pub record After-incoming-for : Type 0 where
         pub before : After-incoming-out
         pub incoming-for : After-incoming-for·own before
-      abbrev pub After-incoming-for·gave : (c : After-incoming-for) → s21 (c .before .before .before .before .before .before .before .before .before
-          .before .before .before .before .blocks) .gives (m18 (c .before .before) (After-incoming-out·gave (c .before)))
-      After-incoming-for·gave = λ c. Called.given ps·7 r·7 (claims· .15) T23 (record { pos = 6; st = List.[]; d = 0; at = λ x. x }, tt,) (m18 (c
-          .before .before) (After-incoming-out·gave (c .before))) (c .incoming-for)
-      abbrev pub m20 : (before : After-incoming-out) → (given : s21 (before .before .before .before .before .before .before .before .before .before
-          .before .before .before .blocks) .gives (m18 (before .before) (After-incoming-out·gave before))) → Typed.Mo T25
-      m20 = λ before given. s22 (before .before .before .before .before .before .before .before .before .before .before .before .before .blocks) (m19
-          before given)
+
+      abbrev pub After-incoming-for·gave : (c : After-incoming-for) → s21 (c .before .before .before .before .before
+          .before .before .before .before .before .before .before .before .blocks) .gives (m18 (c .before .before)
+          (After-incoming-out·gave (c .before)))
+      After-incoming-for·gave = λ c. Called.given ps·7 r·7 (claims· .15) T23
+          (record { pos = 6; st = List.[]; d = 0; at = λ x. x }, tt) (m18 (c .before .before)
+          (After-incoming-out·gave (c .before))) (c .incoming-for)
+
+      abbrev pub m20 : (before : After-incoming-out) → (given : s21 (before .before .before .before .before .before
+          .before .before .before .before .before .before .before .blocks) .gives
+          (m18 (before .before) (After-incoming-out·gave before))) → Typed.Mo T25
+      m20 = λ before given. s22 (before .before .before .before .before .before .before .before .before .before .before
+          .before .before .blocks) (m19 before given)
+
       abbrev pub Need-to-bytes-requires : Type 0
-      Need-to-bytes-requires = (c : After-incoming-for) → s23 (c .before .before .before .before .before .before .before .before .before .before
-          .before .before .before .blocks) .asks (m20 (c .before) (After-incoming-for·gave c))
-      abbrev pub m21 : (before : After-incoming-for) → (given : s23 (before .before .before .before .before .before .before .before .before .before
-          .before .before .before .before .blocks) .gives (m20 (before .before) (After-incoming-for·gave before))) → Typed.Mo T26
-      m21 = λ before given. s23 (before .before .before .before .before .before .before .before .before .before .before .before .before .before
-          .blocks) .next (m20 (before .before) (After-incoming-for·gave before)) given
+      Need-to-bytes-requires = (c : After-incoming-for) → s23 (c .before .before .before .before .before .before
+          .before .before .before .before .before .before .before .blocks) .asks
+          (m20 (c .before) (After-incoming-for·gave c))
+
+      abbrev pub m21 : (before : After-incoming-for) → (given : s23 (before .before .before .before .before .before
+          .before .before .before .before .before .before .before .before .blocks) .gives
+          (m20 (before .before) (After-incoming-for·gave before))) → Typed.Mo T26
+      m21 = λ before given. s23 (before .before .before .before .before .before .before .before .before .before .before
+          .before .before .before .blocks) .next (m20 (before .before) (After-incoming-for·gave before)) given
+
       module _ (before· : After-incoming-for) where
         abbrev pub After-to-bytes·own : Type 0
-        After-to-bytes·own = Called.Called ps·8 r·8 (claims· .17) T25 (record { pos = 16; st = List.[]; d = 0; at = λ x. x }, tt,) (m20 (before·
-            .before) (After-incoming-for·gave before·))
+        After-to-bytes·own = Called.Called ps·8 r·8 (claims· .17) T25
+            (record { pos = 16; st = List.[]; d = 0; at = λ x. x }, tt)
+            (m20 (before· .before) (After-incoming-for·gave before·))
+
       pub record After-to-bytes : Type 0 where
         pub before : After-incoming-for
         pub to-bytes : After-to-bytes·own before
-      abbrev pub After-to-bytes·gave : (c : After-to-bytes) → s23 (c .before .before .before .before .before .before .before .before .before .before
-          .before .before .before .before .blocks) .gives (m20 (c .before .before) (After-incoming-for·gave (c .before)))
-      After-to-bytes·gave = λ c. Called.given ps·8 r·8 (claims· .17) T25 (record { pos = 16; st = List.[]; d = 0; at = λ x. x }, tt,) (m20 (c .before
-          .before) (After-incoming-for·gave (c .before))) (c .to-bytes)
-      abbrev pub m22 : (before : After-incoming-for) → (given : s23 (before .before .before .before .before .before .before .before .before .before
-          .before .before .before .before .blocks) .gives (m20 (before .before) (After-incoming-for·gave before))) → Typed.Mo T27
-      m22 = λ before given. s24 (before .before .before .before .before .before .before .before .before .before .before .before .before .before
-          .blocks) (m21 before given)
-      abbrev pub m23 : (before : After-incoming-for) → (given : s23 (before .before .before .before .before .before .before .before .before .before
-          .before .before .before .before .blocks) .gives (m20 (before .before) (After-incoming-for·gave before))) → Typed.Mo T28
-      m23 = λ before given. s25 (before .before .before .before .before .before .before .before .before .before .before .before .before .before
-          .blocks) (m22 before given)
-      abbrev pub m24 : (before : After-incoming-for) → (given : s23 (before .before .before .before .before .before .before .before .before .before
-          .before .before .before .before .blocks) .gives (m20 (before .before) (After-incoming-for·gave before))) → Typed.Mo T29
-      m24 = λ before given. s26 (before .before .before .before .before .before .before .before .before .before .before .before .before .before
-          .blocks) (m23 before given)
-      abbrev pub m25 : (before : After-to-bytes) → (given : s28 (before .before .before .before .before .before .before .before .before .before
-          .before .before .before .before .before .blocks) .gives (m24 (before .before) (After-to-bytes·gave before))) → Typed.Mo T31
-      m25 = λ before given. s28 (before .before .before .before .before .before .before .before .before .before .before .before .before .before
-          .before .blocks) .next (m24 (before .before) (After-to-bytes·gave before)) given
-      abbrev pub m26 : (before : After-to-bytes) → (given : s28 (before .before .before .before .before .before .before .before .before .before
-          .before .before .before .before .before .blocks) .gives (m24 (before .before) (After-to-bytes·gave before))) → Typed.Mo T32
-      m26 = λ before given. s29 (before .before .before .before .before .before .before .before .before .before .before .before .before .before
-          .before .blocks) .next (m25 before given)
+
+      abbrev pub After-to-bytes·gave : (c : After-to-bytes) → s23 (c .before .before .before .before .before .before
+          .before .before .before .before .before .before .before .before .blocks) .gives (m20 (c .before .before)
+          (After-incoming-for·gave (c .before)))
+      After-to-bytes·gave = λ c. Called.given ps·8 r·8 (claims· .17) T25
+          (record { pos = 16; st = List.[]; d = 0; at = λ x. x }, tt) (m20 (c .before .before)
+          (After-incoming-for·gave (c .before))) (c .to-bytes)
+
+      abbrev pub m22 : (before : After-incoming-for) → (given : s23 (before .before .before .before .before .before
+          .before .before .before .before .before .before .before .before .blocks) .gives
+          (m20 (before .before) (After-incoming-for·gave before))) → Typed.Mo T27
+      m22 = λ before given. s24 (before .before .before .before .before .before .before .before .before .before .before
+          .before .before .before .blocks) (m21 before given)
+
+      abbrev pub m23 : (before : After-incoming-for) → (given : s23 (before .before .before .before .before .before
+          .before .before .before .before .before .before .before .before .blocks) .gives
+          (m20 (before .before) (After-incoming-for·gave before))) → Typed.Mo T28
+      m23 = λ before given. s25 (before .before .before .before .before .before .before .before .before .before .before
+          .before .before .before .blocks) (m22 before given)
+
+      abbrev pub m24 : (before : After-incoming-for) → (given : s23 (before .before .before .before .before .before
+          .before .before .before .before .before .before .before .before .blocks) .gives
+          (m20 (before .before) (After-incoming-for·gave before))) → Typed.Mo T29
+      m24 = λ before given. s26 (before .before .before .before .before .before .before .before .before .before .before
+          .before .before .before .blocks) (m23 before given)
+
+      abbrev pub m25 : (before : After-to-bytes) → (given : s28 (before .before .before .before .before .before .before
+          .before .before .before .before .before .before .before .before .blocks) .gives
+          (m24 (before .before) (After-to-bytes·gave before))) → Typed.Mo T31
+      m25 = λ before given. s28 (before .before .before .before .before .before .before .before .before .before .before
+          .before .before .before .before .blocks) .next (m24 (before .before) (After-to-bytes·gave before)) given
+
+      abbrev pub m26 : (before : After-to-bytes) → (given : s28 (before .before .before .before .before .before .before
+          .before .before .before .before .before .before .before .before .blocks) .gives
+          (m24 (before .before) (After-to-bytes·gave before))) → Typed.Mo T32
+      m26 = λ before given. s29 (before .before .before .before .before .before .before .before .before .before .before
+          .before .before .before .before .blocks) .next (m25 before given)
+
       module _ (before· : After-to-bytes) where
         pub record After-send-arg·own : Type 0 where
-          pub given : s28 (before· .before .before .before .before .before .before .before .before .before .before .before .before .before .before
-              .blocks) .gives (m24 (before· .before) (After-to-bytes·gave before·))
+          pub given : s28 (before· .before .before .before .before .before .before .before .before .before .before
+              .before .before .before .before .blocks) .gives (m24 (before· .before) (After-to-bytes·gave before·))
+
       pub record After-send-arg : Type 0 where
         pub before : After-to-bytes
         pub send-arg : After-send-arg·own before
-      abbrev pub m27 : (before : After-send-arg) → (given : s31 (before .before .before .before .before .before .before .before .before .before
-          .before .before .before .before .before .before .blocks) .gives (m26 (before .before) (before .send-arg .given))) → Typed.Mo T34
-      m27 = λ before given. s31 (before .before .before .before .before .before .before .before .before .before .before .before .before .before
-          .before .before .blocks) .next (m26 (before .before) (before .send-arg .given)) given
-      abbrev pub m28 : (before : After-send-arg) → (given : s31 (before .before .before .before .before .before .before .before .before .before
-          .before .before .before .before .before .before .blocks) .gives (m26 (before .before) (before .send-arg .given))) → Typed.Mo T35
-      m28 = λ before given. s32 (before .before .before .before .before .before .before .before .before .before .before .before .before .before
-          .before .before .blocks) .next (m27 before given)
+
+      abbrev pub m27 : (before : After-send-arg) → (given : s31 (before .before .before .before .before .before .before
+          .before .before .before .before .before .before .before .before .before .blocks) .gives
+          (m26 (before .before) (before .send-arg .given))) → Typed.Mo T34
+      m27 = λ before given. s31 (before .before .before .before .before .before .before .before .before .before .before
+          .before .before .before .before .before .blocks) .next (m26 (before .before) (before .send-arg .given)) given
+
+      abbrev pub m28 : (before : After-send-arg) → (given : s31 (before .before .before .before .before .before .before
+          .before .before .before .before .before .before .before .before .before .blocks) .gives
+          (m26 (before .before) (before .send-arg .given))) → Typed.Mo T35
+      m28 = λ before given. s32 (before .before .before .before .before .before .before .before .before .before .before
+          .before .before .before .before .before .blocks) .next (m27 before given)
+
       module _ (before· : After-send-arg) where
         pub record After-send-arg2·own : Type 0 where
-          pub given : s31 (before· .before .before .before .before .before .before .before .before .before .before .before .before .before .before
-              .before .blocks) .gives (m26 (before· .before) (before· .send-arg .given))
+          pub given : s31 (before· .before .before .before .before .before .before .before .before .before .before
+              .before .before .before .before .before .blocks) .gives
+              (m26 (before· .before) (before· .send-arg .given))
+
       pub record After-send-arg2 : Type 0 where
         pub before : After-send-arg
         pub send-arg2 : After-send-arg2·own before
-      abbrev pub m29 : (before : After-send-arg2) → (given : s34 (before .before .before .before .before .before .before .before .before .before
-          .before .before .before .before .before .before .before .blocks) .gives (m28 (before .before) (before .send-arg2 .given))) → Typed.Mo T37
-      m29 = λ before given. s34 (before .before .before .before .before .before .before .before .before .before .before .before .before .before
-          .before .before .before .blocks) .next (m28 (before .before) (before .send-arg2 .given)) given
+
+      abbrev pub m29 : (before : After-send-arg2) → (given : s34 (before .before .before .before .before .before
+          .before .before .before .before .before .before .before .before .before .before .before .blocks) .gives
+          (m28 (before .before) (before .send-arg2 .given))) → Typed.Mo T37
+      m29 = λ before given. s34 (before .before .before .before .before .before .before .before .before .before .before
+          .before .before .before .before .before .before .blocks) .next
+          (m28 (before .before) (before .send-arg2 .given)) given
+
       module _ (before· : After-send-arg2) where
         pub record After-bytes·own : Type 0 where
-          pub given : s34 (before· .before .before .before .before .before .before .before .before .before .before .before .before .before .before
-              .before .before .blocks) .gives (m28 (before· .before) (before· .send-arg2 .given))
+          pub given : s34 (before· .before .before .before .before .before .before .before .before .before .before
+              .before .before .before .before .before .before .blocks) .gives
+              (m28 (before· .before) (before· .send-arg2 .given))
+
       pub record After-bytes : Type 0 where
         pub before : After-send-arg2
         pub bytes : After-bytes·own before
+
       abbrev pub Need-slice-aggregate-send : Type 0
-      Need-slice-aggregate-send = (c : After-bytes) → Relend.CountIs T37 26 27 (λ x. x) (λ u. 62) (m29 (c .before) (c .bytes .given))
-      abbrev pub m30 : (before : After-send-arg2) → (given : s34 (before .before .before .before .before .before .before .before .before .before
-          .before .before .before .before .before .before .before .blocks) .gives (m28 (before .before) (before .send-arg2 .given))) → Typed.Mo T38
-      m30 = λ before given. s35 (before .before .before .before .before .before .before .before .before .before .before .before .before .before
-          .before .before .before .blocks) .next (m29 before given)
+      Need-slice-aggregate-send = (c : After-bytes) → Relend.CountIs T37 26 27 (λ x. x) (λ u. 62)
+          (m29 (c .before) (c .bytes .given))
+
+      abbrev pub m30 : (before : After-send-arg2) → (given : s34 (before .before .before .before .before .before
+          .before .before .before .before .before .before .before .before .before .before .before .blocks) .gives
+          (m28 (before .before) (before .send-arg2 .given))) → Typed.Mo T38
+      m30 = λ before given. s35 (before .before .before .before .before .before .before .before .before .before .before
+          .before .before .before .before .before .before .blocks) .next (m29 before given)
+
       abbrev pub Need-send-requires : Type 0
-      Need-send-requires = (c : After-bytes) → s36 (c .before .before .before .before .before .before .before .before .before .before .before .before
-          .before .before .before .before .before .blocks) .asks (m30 (c .before) (c .bytes .given))
-      abbrev pub m31 : (before : After-bytes) → (given : s36 (before .before .before .before .before .before .before .before .before .before .before
-          .before .before .before .before .before .before .before .blocks) .gives (m30 (before .before) (before .bytes .given))) → Typed.Mo T39
-      m31 = λ before given. s36 (before .before .before .before .before .before .before .before .before .before .before .before .before .before
-          .before .before .before .before .blocks) .next (m30 (before .before) (before .bytes .given)) given
+      Need-send-requires = (c : After-bytes) → s36 (c .before .before .before .before .before .before .before .before
+          .before .before .before .before .before .before .before .before .before .blocks) .asks
+          (m30 (c .before) (c .bytes .given))
+
+      abbrev pub m31 : (before : After-bytes) → (given : s36 (before .before .before .before .before .before .before
+          .before .before .before .before .before .before .before .before .before .before .before .blocks) .gives
+          (m30 (before .before) (before .bytes .given))) → Typed.Mo T39
+      m31 = λ before given. s36 (before .before .before .before .before .before .before .before .before .before .before
+          .before .before .before .before .before .before .before .blocks) .next
+          (m30 (before .before) (before .bytes .given)) given
+
       module _ (before· : After-bytes) where
         abbrev pub After-send·own : Type 0
-        After-send·own = Called.Called ps·9 r·9 (claims· .19) T38 (record { pos = 23; ty = Syntax.tyRef Syntax.erased Syntax.mut InflightAction.to;
-            ref = λ x. x; }, (record { pos = 25; ty = Syntax.tyRef Syntax.erased Syntax.mut (Syntax.tyInt Syntax.w32); ref = λ x. x; }, (record { pos
-            = 10; st = List.[]; d = 0; at = λ x. x }, (record { pos = 14; st = List.[]; d = 0; at = λ x. x }, (record { pos = 13; st = List.[]; d = 0;
-            at = λ x. x }, (record { pos = 15; st = List.[]; d = 0; at = λ x. x }, (record { pos = 8; st = List.[]; d = 0; at = λ x. x }, (record {
-            pos = 27; ty = Syntax.tyRef Syntax.erased Syntax.imm (Syntax.tyInt Syntax.w8); ref = λ x. x; }, tt,),),),),),),),) (m30 (before· .before)
-            (before· .bytes .given))
+        After-send·own = Called.Called ps·9 r·9 (claims· .19) T38 (
+          record { pos = 23; ty = ref1; ref = λ x. x },
+          (
+            record { pos = 25; ty = ref2; ref = λ x. x },
+            (
+              record { pos = 10; st = List.[]; d = 0; at = λ x. x },
+              (
+                record { pos = 14; st = List.[]; d = 0; at = λ x. x },
+                (
+                  record { pos = 13; st = List.[]; d = 0; at = λ x. x },
+                  (
+                    record { pos = 15; st = List.[]; d = 0; at = λ x. x },
+                    (
+                      record { pos = 8; st = List.[]; d = 0; at = λ x. x },
+                      (record { pos = 27; ty = ref4; ref = λ x. x }, tt),
+                    ),
+                  ),
+                ),
+              ),
+            ),
+          ),
+        ) (m30 (before· .before) (before· .bytes .given))
+
       pub record After-send : Type 0 where
         pub before : After-bytes
         pub send : After-send·own before
-      abbrev pub After-send·gave : (c : After-send) → s36 (c .before .before .before .before .before .before .before .before .before .before .before
-          .before .before .before .before .before .before .before .blocks) .gives (m30 (c .before .before) (c .before .bytes .given))
-      After-send·gave = λ c. Called.given ps·9 r·9 (claims· .19) T38 (record { pos = 23; ty = Syntax.tyRef Syntax.erased Syntax.mut InflightAction.to;
-          ref = λ x. x; }, (record { pos = 25; ty = Syntax.tyRef Syntax.erased Syntax.mut (Syntax.tyInt Syntax.w32); ref = λ x. x; }, (record { pos =
-          10; st = List.[]; d = 0; at = λ x. x }, (record { pos = 14; st = List.[]; d = 0; at = λ x. x }, (record { pos = 13; st = List.[]; d = 0; at
-          = λ x. x }, (record { pos = 15; st = List.[]; d = 0; at = λ x. x }, (record { pos = 8; st = List.[]; d = 0; at = λ x. x }, (record { pos =
-          27; ty = Syntax.tyRef Syntax.erased Syntax.imm (Syntax.tyInt Syntax.w8); ref = λ x. x; }, tt,),),),),),),),) (m30 (c .before .before) (c
-          .before .bytes .given)) (c .send)
-      abbrev pub m32 : (before : After-bytes) → (given : s36 (before .before .before .before .before .before .before .before .before .before .before
-          .before .before .before .before .before .before .before .blocks) .gives (m30 (before .before) (before .bytes .given))) → Typed.Mo T40
-      m32 = λ before given. s37 (before .before .before .before .before .before .before .before .before .before .before .before .before .before
-          .before .before .before .before .blocks) (m31 before given)
-      abbrev pub m33 : (before : After-bytes) → (given : s36 (before .before .before .before .before .before .before .before .before .before .before
-          .before .before .before .before .before .before .before .blocks) .gives (m30 (before .before) (before .bytes .given))) → Typed.Mo T41
-      m33 = λ before given. s38 (before .before .before .before .before .before .before .before .before .before .before .before .before .before
-          .before .before .before .before .blocks) (m32 before given)
-      abbrev pub m34 : (before : After-bytes) → (given : s36 (before .before .before .before .before .before .before .before .before .before .before
-          .before .before .before .before .before .before .before .blocks) .gives (m30 (before .before) (before .bytes .given))) → Typed.Mo T42
-      m34 = λ before given. s39 (before .before .before .before .before .before .before .before .before .before .before .before .before .before
-          .before .before .before .before .blocks) (m33 before given)
-      abbrev pub m35 : (before : After-bytes) → (given : s36 (before .before .before .before .before .before .before .before .before .before .before
-          .before .before .before .before .before .before .before .blocks) .gives (m30 (before .before) (before .bytes .given))) → Typed.Mo T43
-      m35 = λ before given. s40 (before .before .before .before .before .before .before .before .before .before .before .before .before .before
-          .before .before .before .before .blocks) (m34 before given)
-      abbrev pub m36 : (before : After-bytes) → (given : s36 (before .before .before .before .before .before .before .before .before .before .before
-          .before .before .before .before .before .before .before .blocks) .gives (m30 (before .before) (before .bytes .given))) → Typed.Mo T44
-      m36 = λ before given. s41 (before .before .before .before .before .before .before .before .before .before .before .before .before .before
-          .before .before .before .before .blocks) (m35 before given)
-      abbrev pub m37 : (before : After-bytes) → (given : s36 (before .before .before .before .before .before .before .before .before .before .before
-          .before .before .before .before .before .before .before .blocks) .gives (m30 (before .before) (before .bytes .given))) → Typed.Mo T45
-      m37 = λ before given. s42 (before .before .before .before .before .before .before .before .before .before .before .before .before .before
-          .before .before .before .before .blocks) (m36 before given)
-      abbrev pub m38 : (before : After-send) → (given : s44 (before .before .before .before .before .before .before .before .before .before .before
-          .before .before .before .before .before .before .before .before .blocks) .gives (m37 (before .before) (After-send·gave before))) → Typed.Mo
-          T47
-      m38 = λ before given. s44 (before .before .before .before .before .before .before .before .before .before .before .before .before .before
-          .before .before .before .before .before .blocks) .next (m37 (before .before) (After-send·gave before)) given
+
+      abbrev pub After-send·gave : (c : After-send) → s36 (c .before .before .before .before .before .before .before
+          .before .before .before .before .before .before .before .before .before .before .before .blocks) .gives
+          (m30 (c .before .before) (c .before .bytes .given))
+      After-send·gave = λ c. Called.given ps·9 r·9 (claims· .19) T38 (
+        record { pos = 23; ty = ref1; ref = λ x. x },
+        (
+          record { pos = 25; ty = ref2; ref = λ x. x },
+          (
+            record { pos = 10; st = List.[]; d = 0; at = λ x. x },
+            (
+              record { pos = 14; st = List.[]; d = 0; at = λ x. x },
+              (
+                record { pos = 13; st = List.[]; d = 0; at = λ x. x },
+                (
+                  record { pos = 15; st = List.[]; d = 0; at = λ x. x },
+                  (
+                    record { pos = 8; st = List.[]; d = 0; at = λ x. x },
+                    (record { pos = 27; ty = ref4; ref = λ x. x }, tt),
+                  ),
+                ),
+              ),
+            ),
+          ),
+        ),
+      ) (m30 (c .before .before) (c .before .bytes .given)) (c .send)
+
+      abbrev pub m32 : (before : After-bytes) → (given : s36 (before .before .before .before .before .before .before
+          .before .before .before .before .before .before .before .before .before .before .before .blocks) .gives
+          (m30 (before .before) (before .bytes .given))) → Typed.Mo T40
+      m32 = λ before given. s37 (before .before .before .before .before .before .before .before .before .before .before
+          .before .before .before .before .before .before .before .blocks) (m31 before given)
+
+      abbrev pub m33 : (before : After-bytes) → (given : s36 (before .before .before .before .before .before .before
+          .before .before .before .before .before .before .before .before .before .before .before .blocks) .gives
+          (m30 (before .before) (before .bytes .given))) → Typed.Mo T41
+      m33 = λ before given. s38 (before .before .before .before .before .before .before .before .before .before .before
+          .before .before .before .before .before .before .before .blocks) (m32 before given)
+
+      abbrev pub m34 : (before : After-bytes) → (given : s36 (before .before .before .before .before .before .before
+          .before .before .before .before .before .before .before .before .before .before .before .blocks) .gives
+          (m30 (before .before) (before .bytes .given))) → Typed.Mo T42
+      m34 = λ before given. s39 (before .before .before .before .before .before .before .before .before .before .before
+          .before .before .before .before .before .before .before .blocks) (m33 before given)
+
+      abbrev pub m35 : (before : After-bytes) → (given : s36 (before .before .before .before .before .before .before
+          .before .before .before .before .before .before .before .before .before .before .before .blocks) .gives
+          (m30 (before .before) (before .bytes .given))) → Typed.Mo T43
+      m35 = λ before given. s40 (before .before .before .before .before .before .before .before .before .before .before
+          .before .before .before .before .before .before .before .blocks) (m34 before given)
+
+      abbrev pub m36 : (before : After-bytes) → (given : s36 (before .before .before .before .before .before .before
+          .before .before .before .before .before .before .before .before .before .before .before .blocks) .gives
+          (m30 (before .before) (before .bytes .given))) → Typed.Mo T44
+      m36 = λ before given. s41 (before .before .before .before .before .before .before .before .before .before .before
+          .before .before .before .before .before .before .before .blocks) (m35 before given)
+
+      abbrev pub m37 : (before : After-bytes) → (given : s36 (before .before .before .before .before .before .before
+          .before .before .before .before .before .before .before .before .before .before .before .blocks) .gives
+          (m30 (before .before) (before .bytes .given))) → Typed.Mo T45
+      m37 = λ before given. s42 (before .before .before .before .before .before .before .before .before .before .before
+          .before .before .before .before .before .before .before .blocks) (m36 before given)
+
+      abbrev pub m38 : (before : After-send) → (given : s44 (before .before .before .before .before .before .before
+          .before .before .before .before .before .before .before .before .before .before .before .before .blocks)
+          .gives (m37 (before .before) (After-send·gave before))) → Typed.Mo T47
+      m38 = λ before given. s44 (before .before .before .before .before .before .before .before .before .before .before
+          .before .before .before .before .before .before .before .before .blocks) .next
+          (m37 (before .before) (After-send·gave before)) given
+
       module _ (before· : After-send) where
         pub record After-inflight·own : Type 0 where
-          pub given : s44 (before· .before .before .before .before .before .before .before .before .before .before .before .before .before .before
-              .before .before .before .before .blocks) .gives (m37 (before· .before) (After-send·gave before·))
+          pub given : s44 (before· .before .before .before .before .before .before .before .before .before .before
+              .before .before .before .before .before .before .before .before .blocks) .gives
+              (m37 (before· .before) (After-send·gave before·))
+
       pub record After-inflight : Type 0 where
         pub before : After-send
         pub inflight : After-inflight·own before
-      abbrev pub m39 : (before : After-inflight) → (given : s47 (before .before .before .before .before .before .before .before .before .before
-          .before .before .before .before .before .before .before .before .before .before .blocks) .gives (m38 (before .before) (before .inflight
-          .given))) → Typed.Mo T50
-      m39 = λ before given. s47 (before .before .before .before .before .before .before .before .before .before .before .before .before .before
-          .before .before .before .before .before .before .blocks) .next (m38 (before .before) (before .inflight .given)) given
+
+      abbrev pub m39 : (before : After-inflight) → (given : s47 (before .before .before .before .before .before .before
+          .before .before .before .before .before .before .before .before .before .before .before .before .before
+          .blocks) .gives (m38 (before .before) (before .inflight .given))) → Typed.Mo T50
+      m39 = λ before given. s47 (before .before .before .before .before .before .before .before .before .before .before
+          .before .before .before .before .before .before .before .before .before .blocks) .next
+          (m38 (before .before) (before .inflight .given)) given
+
       module _ (before· : After-inflight) where
         pub record After-out·own : Type 0 where
-          pub given : s47 (before· .before .before .before .before .before .before .before .before .before .before .before .before .before .before
-              .before .before .before .before .before .blocks) .gives (m38 (before· .before) (before· .inflight .given))
+          pub given : s47 (before· .before .before .before .before .before .before .before .before .before .before
+              .before .before .before .before .before .before .before .before .before .blocks) .gives
+              (m38 (before· .before) (before· .inflight .given))
+
       pub record After-out : Type 0 where
         pub before : After-inflight
         pub out : After-out·own before
-      abbrev pub m40 : (before : After-out) → (given : s48 (before .before .before .before .before .before .before .before .before .before .before
-          .before .before .before .before .before .before .before .before .before .before .blocks) .gives (m39 (before .before) (before .out .given)))
-          → Typed.Mo T51
-      m40 = λ before given. s48 (before .before .before .before .before .before .before .before .before .before .before .before .before .before
-          .before .before .before .before .before .before .before .blocks) .next (m39 (before .before) (before .out .given)) given
-      abbrev pub m41 : (before : After-out) → (given : s48 (before .before .before .before .before .before .before .before .before .before .before
-          .before .before .before .before .before .before .before .before .before .before .blocks) .gives (m39 (before .before) (before .out .given)))
-          → Typed.Mo T54
-      m41 = λ before given. s51 (before .before .before .before .before .before .before .before .before .before .before .before .before .before
-          .before .before .before .before .before .before .before .blocks) (m40 before given)
-      abbrev pub m42 : (before : After-out) → (given : s48 (before .before .before .before .before .before .before .before .before .before .before
-          .before .before .before .before .before .before .before .before .before .before .blocks) .gives (m39 (before .before) (before .out .given)))
-          → Typed.Mo T56
-      m42 = λ before given. s53 (before .before .before .before .before .before .before .before .before .before .before .before .before .before
-          .before .before .before .before .before .before .before .blocks) (m41 before given)
-      abbrev pub m43 : (before : After-out) → (given : s48 (before .before .before .before .before .before .before .before .before .before .before
-          .before .before .before .before .before .before .before .before .before .before .blocks) .gives (m39 (before .before) (before .out .given)))
-          → Typed.Mo T57
-      m43 = λ before given. s54 (before .before .before .before .before .before .before .before .before .before .before .before .before .before
-          .before .before .before .before .before .before .before .blocks) (m42 before given)
+
+      abbrev pub m40 : (before : After-out) → (given : s48 (before .before .before .before .before .before .before
+          .before .before .before .before .before .before .before .before .before .before .before .before .before
+          .before .blocks) .gives (m39 (before .before) (before .out .given))) → Typed.Mo T51
+      m40 = λ before given. s48 (before .before .before .before .before .before .before .before .before .before .before
+          .before .before .before .before .before .before .before .before .before .before .blocks) .next
+          (m39 (before .before) (before .out .given)) given
+
+      abbrev pub m41 : (before : After-out) → (given : s48 (before .before .before .before .before .before .before
+          .before .before .before .before .before .before .before .before .before .before .before .before .before
+          .before .blocks) .gives (m39 (before .before) (before .out .given))) → Typed.Mo T54
+      m41 = λ before given. s51 (before .before .before .before .before .before .before .before .before .before .before
+          .before .before .before .before .before .before .before .before .before .before .blocks) (m40 before given)
+
+      abbrev pub m42 : (before : After-out) → (given : s48 (before .before .before .before .before .before .before
+          .before .before .before .before .before .before .before .before .before .before .before .before .before
+          .before .blocks) .gives (m39 (before .before) (before .out .given))) → Typed.Mo T56
+      m42 = λ before given. s53 (before .before .before .before .before .before .before .before .before .before .before
+          .before .before .before .before .before .before .before .before .before .before .blocks) (m41 before given)
+
+      abbrev pub m43 : (before : After-out) → (given : s48 (before .before .before .before .before .before .before
+          .before .before .before .before .before .before .before .before .before .before .before .before .before
+          .before .blocks) .gives (m39 (before .before) (before .out .given))) → Typed.Mo T57
+      m43 = λ before given. s54 (before .before .before .before .before .before .before .before .before .before .before
+          .before .before .before .before .before .before .before .before .before .before .blocks) (m42 before given)
+
       module _ (before· : After-out) where
         pub record After-slice-known2·own : Type 0 where
-          pub given : s48 (before· .before .before .before .before .before .before .before .before .before .before .before .before .before .before
-              .before .before .before .before .before .before .blocks) .gives (m39 (before· .before) (before· .out .given))
+          pub given : s48 (before· .before .before .before .before .before .before .before .before .before .before
+              .before .before .before .before .before .before .before .before .before .before .blocks) .gives
+              (m39 (before· .before) (before· .out .given))
+
       pub record After-slice-known2 : Type 0 where
         pub before : After-out
         pub slice-known2 : After-slice-known2·own before
+
       abbrev pub Need-same-length : Type 0
-      Need-same-length = (c : After-slice-known2) → MutSlice.SameLen (Row.get 1 (T57 .locals) (m43 (c .before) (c .slice-known2 .given))) (dens (c
-          .before .before .before .before .before .before .before .before .before .before .before .before .before .before .before .before .before
-          .before .before .before .before .κs) (c .before .before .before .before .before .before .before .before .before .before .before .before
-          .before .before .before .before .before .before .before .before .before .args) .0)
+      Need-same-length = (c : After-slice-known2) → MutSlice.SameLen (Row.get 1 (T57 .locals)
+          (m43 (c .before) (c .slice-known2 .given))) (dens (c .before .before .before .before .before .before .before
+          .before .before .before .before .before .before .before .before .before .before .before .before .before
+          .before .κs) (c .before .before .before .before .before .before .before .before .before .before .before
+          .before .before .before .before .before .before .before .before .before .before .args) .0)
+
       abbrev pub Need-same-length-2 : Type 0
-      Need-same-length-2 = (c : After-slice-known2) → MutSlice.SameLen (Row.get 2 (T57 .locals) (m43 (c .before) (c .slice-known2 .given))) (dens (c
-          .before .before .before .before .before .before .before .before .before .before .before .before .before .before .before .before .before
-          .before .before .before .before .κs) (c .before .before .before .before .before .before .before .before .before .before .before .before
-          .before .before .before .before .before .before .before .before .before .args) .1 .0)
+      Need-same-length-2 = (c : After-slice-known2) → MutSlice.SameLen (Row.get 2 (T57 .locals)
+          (m43 (c .before) (c .slice-known2 .given))) (dens (c .before .before .before .before .before .before .before
+          .before .before .before .before .before .before .before .before .before .before .before .before .before
+          .before .κs) (c .before .before .before .before .before .before .before .before .before .before .before
+          .before .before .before .before .before .before .before .before .before .before .args) .1 .0)
+
       abbrev pub Need-same-length-3 : Type 0
-      Need-same-length-3 = (c : After-slice-known2) → MutSlice.SameLen (Row.get 3 (T57 .locals) (m43 (c .before) (c .slice-known2 .given))) (dens (c
-          .before .before .before .before .before .before .before .before .before .before .before .before .before .before .before .before .before
-          .before .before .before .before .κs) (c .before .before .before .before .before .before .before .before .before .before .before .before
-          .before .before .before .before .before .before .before .before .before .args) .1 .1 .0)
+      Need-same-length-3 = (c : After-slice-known2) → MutSlice.SameLen (Row.get 3 (T57 .locals)
+          (m43 (c .before) (c .slice-known2 .given))) (dens (c .before .before .before .before .before .before .before
+          .before .before .before .before .before .before .before .before .before .before .before .before .before
+          .before .κs) (c .before .before .before .before .before .before .before .before .before .before .before
+          .before .before .before .before .before .before .before .before .before .before .args) .1 .1 .0)
+
       abbrev pub Need-returns : Type 0
-      Need-returns = (c : After-slice-known2) → Post· (c .before .before .before .before .before .before .before .before .before .before .before
-          .before .before .before .before .before .before .before .before .before .before .κs) (dens (c .before .before .before .before .before
-          .before .before .before .before .before .before .before .before .before .before .before .before .before .before .before .before .κs) (c
-          .before .before .before .before .before .before .before .before .before .before .before .before .before .before .before .before .before
-          .before .before .before .before .args)) (Function.resV r (c .before .before .before .before .before .before .before .before .before .before
-          .before .before .before .before .before .before .before .before .before .before .before .κs) (m43 (c .before) (c .slice-known2 .given) .0))
-          (Clauses.atExit (Kinds.endedOf 3 ps r) (c .before .before .before .before .before .before .before .before .before .before .before .before
-          .before .before .before .before .before .before .before .before .before .κs) (dens (c .before .before .before .before .before .before
-          .before .before .before .before .before .before .before .before .before .before .before .before .before .before .before .κs) (c .before
-          .before .before .before .before .before .before .before .before .before .before .before .before .before .before .before .before .before
-          .before .before .before .args)) (Enter.lastsP (c .before .before .before .before .before .before .before .before .before .before .before
-          .before .before .before .before .before .before .before .before .before .before .κs) 1 ps xs (dens (c .before .before .before .before
-          .before .before .before .before .before .before .before .before .before .before .before .before .before .before .before .before .before .κs)
-          (c .before .before .before .before .before .before .before .before .before .before .before .before .before .before .before .before .before
-          .before .before .before .before .args)) (m43 (c .before) (c .slice-known2 .given) .1)))
+      Need-returns = (c : After-slice-known2) → Post· (c .before .before .before .before .before .before .before
+          .before .before .before .before .before .before .before .before .before .before .before .before .before
+          .before .κs) (dens (c .before .before .before .before .before .before .before .before .before .before .before
+          .before .before .before .before .before .before .before .before .before .before .κs) (c .before .before
+          .before .before .before .before .before .before .before .before .before .before .before .before .before
+          .before .before .before .before .before .before .args)) (Function.resV r (c .before .before .before .before
+          .before .before .before .before .before .before .before .before .before .before .before .before .before
+          .before .before .before .before .κs) (m43 (c .before) (c .slice-known2 .given) .0)) (Clauses.atExit
+          (Kinds.endedOf 3 ps r) (c .before .before .before .before .before .before .before .before .before .before
+          .before .before .before .before .before .before .before .before .before .before .before .κs) (dens (c .before
+          .before .before .before .before .before .before .before .before .before .before .before .before .before
+          .before .before .before .before .before .before .before .κs) (c .before .before .before .before .before
+          .before .before .before .before .before .before .before .before .before .before .before .before .before
+          .before .before .before .args)) (Enter.lastsP (c .before .before .before .before .before .before .before
+          .before .before .before .before .before .before .before .before .before .before .before .before .before
+          .before .κs) 1 ps xs (dens (c .before .before .before .before .before .before .before .before .before .before
+          .before .before .before .before .before .before .before .before .before .before .before .κs) (c .before
+          .before .before .before .before .before .before .before .before .before .before .before .before .before
+          .before .before .before .before .before .before .before .args))
+          (m43 (c .before) (c .slice-known2 .given) .1)))
+
       abbrev pub m44 : (before : After-is-taken) → Typed.Mo T58
-      m44 = λ before. s55 (before .before .before .before .before .blocks) (m6 (before .before) (After-is-taken·gave before))
+      m44 = λ before. s55 (before .before .before .before .before .blocks)
+          (m6 (before .before) (After-is-taken·gave before))
+
       abbrev pub m45 : (before : After-is-taken) → Typed.Mo T59
       m45 = λ before. s56 (before .before .before .before .before .blocks) (m44 before)
+
       abbrev pub m46 : (before : After-is-taken) → Typed.Mo T60
       m46 = λ before. s57 (before .before .before .before .before .blocks) (m45 before)
+
       module _ (before· : After-is-taken) where
         pub record Else1·own : Type 0 where
-          pub left : Path._≡_ (Row.get 18 (T7 .locals) (m6 (before· .before) (After-is-taken·gave before·))) Bool'.false
+          pub left : Path._≡_ (Row.get 18 (T7 .locals) (m6 (before· .before) (After-is-taken·gave before·)))
+              Bool'.false
+
       pub record Else1 : Type 0 where
         pub before : After-is-taken
         pub if1 : Else1·own before
+
       abbrev pub Need-refused-requires : Type 0
-      Need-refused-requires = (c : Else1) → s58 (c .before .before .before .before .before .blocks) .asks (m46 (c .before))
-      abbrev pub m47 : (before : Else1) → (given : s58 (before .before .before .before .before .before .blocks) .gives (m46 (before .before))) →
-          Typed.Mo T61
-      m47 = λ before given. s58 (before .before .before .before .before .before .blocks) .next (m46 (before .before)) given
+      Need-refused-requires = (c : Else1) → s58 (c .before .before .before .before .before .blocks) .asks
+          (m46 (c .before))
+
+      abbrev pub m47 : (before : Else1) → (given : s58 (before .before .before .before .before .before .blocks) .gives
+          (m46 (before .before))) → Typed.Mo T61
+      m47 = λ before given. s58 (before .before .before .before .before .before .blocks) .next (m46 (before .before))
+          given
+
       module _ (before· : Else1) where
         abbrev pub After-refused·own : Type 0
-        After-refused·own = Called.Called ps·10 r·10 (claims· .21) T8 (record { pos = 4; st = List.[]; d = 0; at = λ x. x }, (record { pos = 5; st =
-            List.[]; d = 0; at = λ x. x }, (record { pos = 10; st = List.[]; d = 0; at = λ x. x }, tt),),) (m46 (before· .before))
+        After-refused·own = Called.Called ps·10 r·10 (claims· .21) T8 (
+          record { pos = 4; st = List.[]; d = 0; at = λ x. x },
+          (
+            record { pos = 5; st = List.[]; d = 0; at = λ x. x },
+            (record { pos = 10; st = List.[]; d = 0; at = λ x. x }, tt),
+          ),
+        ) (m46 (before· .before))
+
       pub record After-refused : Type 0 where
         pub before : Else1
         pub refused : After-refused·own before
-      abbrev pub After-refused·gave : (c : After-refused) → s58 (c .before .before .before .before .before .before .blocks) .gives (m46 (c .before
-          .before))
-      After-refused·gave = λ c. Called.given ps·10 r·10 (claims· .21) T8 (record { pos = 4; st = List.[]; d = 0; at = λ x. x }, (record { pos = 5; st
-          = List.[]; d = 0; at = λ x. x }, (record { pos = 10; st = List.[]; d = 0; at = λ x. x }, tt),),) (m46 (c .before .before)) (c .refused)
-      abbrev pub m48 : (before : Else1) → (given : s58 (before .before .before .before .before .before .blocks) .gives (m46 (before .before))) →
-          Typed.Mo T62
+
+      abbrev pub After-refused·gave : (c : After-refused) → s58
+          (c .before .before .before .before .before .before .blocks) .gives (m46 (c .before .before))
+      After-refused·gave = λ c. Called.given ps·10 r·10 (claims· .21) T8 (
+        record { pos = 4; st = List.[]; d = 0; at = λ x. x },
+        (
+          record { pos = 5; st = List.[]; d = 0; at = λ x. x },
+          (record { pos = 10; st = List.[]; d = 0; at = λ x. x }, tt),
+        ),
+      ) (m46 (c .before .before)) (c .refused)
+
+      abbrev pub m48 : (before : Else1) → (given : s58 (before .before .before .before .before .before .blocks) .gives
+          (m46 (before .before))) → Typed.Mo T62
       m48 = λ before given. s59 (before .before .before .before .before .before .blocks) (m47 before given)
-      abbrev pub m49 : (before : Else1) → (given : s58 (before .before .before .before .before .before .blocks) .gives (m46 (before .before))) →
-          Typed.Mo T63
+
+      abbrev pub m49 : (before : Else1) → (given : s58 (before .before .before .before .before .before .blocks) .gives
+          (m46 (before .before))) → Typed.Mo T63
       m49 = λ before given. s60 (before .before .before .before .before .before .blocks) (m48 before given)
-      abbrev pub m50 : (before : Else1) → (given : s58 (before .before .before .before .before .before .blocks) .gives (m46 (before .before))) →
-          Typed.Mo T64
+
+      abbrev pub m50 : (before : Else1) → (given : s58 (before .before .before .before .before .before .blocks) .gives
+          (m46 (before .before))) → Typed.Mo T64
       m50 = λ before given. s61 (before .before .before .before .before .before .blocks) (m49 before given)
+
       abbrev pub Need-returns-2 : Type 0
-      Need-returns-2 = (c : After-refused) → Post· (c .before .before .before .before .before .before .κs) (dens (c .before .before .before .before
-          .before .before .κs) (c .before .before .before .before .before .before .args)) (Function.resV r (c .before .before .before .before .before
-          .before .κs) (m50 (c .before) (After-refused·gave c) .0)) (Clauses.atExit (Kinds.endedOf 3 ps r) (c .before .before .before .before .before
-          .before .κs) (dens (c .before .before .before .before .before .before .κs) (c .before .before .before .before .before .before .args))
-          (Enter.lastsP (c .before .before .before .before .before .before .κs) 1 ps xs (dens (c .before .before .before .before .before .before .κs)
+      Need-returns-2 = (c : After-refused) → Post· (c .before .before .before .before .before .before .κs) (dens
+          (c .before .before .before .before .before .before .κs)
+          (c .before .before .before .before .before .before .args)) (Function.resV r
+          (c .before .before .before .before .before .before .κs) (m50 (c .before) (After-refused·gave c) .0)) (Clauses.atExit
+          (Kinds.endedOf 3 ps r) (c .before .before .before .before .before .before .κs) (dens
+          (c .before .before .before .before .before .before .κs)
+          (c .before .before .before .before .before .before .args)) (Enter.lastsP
+          (c .before .before .before .before .before .before .κs) 1 ps xs (dens
+          (c .before .before .before .before .before .before .κs)
           (c .before .before .before .before .before .before .args)) (m50 (c .before) (After-refused·gave c) .1)))
-      module _ (usage-answer-requires : Need-usage-answer-requires) (is-taken-requires : Need-is-taken-requires) (pending-for-requires :
-          Need-pending-for-requires) (put-pending-requires : Need-put-pending-requires) (with-pending-requires : Need-with-pending-requires)
-          (opened-requires : Need-opened-requires) (incoming-out-requires : Need-incoming-out-requires) (incoming-for-requires :
-          Need-incoming-for-requires) (to-bytes-requires : Need-to-bytes-requires) (slice-aggregate-send : Need-slice-aggregate-send) (send-requires :
-          Need-send-requires) (same-length : Need-same-length) (same-length-2 : Need-same-length-2) (same-length-3 : Need-same-length-3) (returns :
-          Need-returns) (refused-requires : Need-refused-requires) (returns-2 : Need-returns-2) where
-        lay12 : (c : After-refused) → at58 (c .before .before .before .before .before .before .blocks) (W0 (c .before .before .before .before .before
-            .before .κs) (c .before .before .before .before .before .before .args) (c .before .before .before .before .before .before .blocks)) (m47
-            (c .before) (After-refused·gave c))
-        lay12 = λ c. ((Path.refl, (Path.refl, (Path.refl, (tt, (tt, (tt, (tt, (tt, tt)))))))), returns-2 record { before = c .before; refused = c
-            .refused },)
-        lay11 : (c : Else1) → at59 (c .before .before .before .before .before .blocks) (W0 (c .before .before .before .before .before .κs) (c .before
-            .before .before .before .before .args) (c .before .before .before .before .before .blocks)) (m46 (c .before))
-        lay11 = λ c. (refused-requires record { before = c .before; if1 = c .if1 }, λ g. lay12 record { before = record { before = c .before; if1 = c
-            .if1 }; refused = Called.called ps·10 r·10 (claims· .21) T8 (record { pos = 4; st = List.[]; d = 0; at = λ x. x }, (record { pos = 5; st =
-            List.[]; d = 0; at = λ x. x }, (record { pos = 10; st = List.[]; d = 0; at = λ x. x }, tt),),) (m46 (c .before)) g; },)
-        lay10 : (c : After-send) → at18 (c .before .before .before .before .before .before .before .before .before .before .before .before .before
-            .before .before .before .before .before .blocks) (W1 (c .before .before .before .before .before .before .before .before .before .before
-            .before .before .before .before .before) (After-is-taken·gave (c .before .before .before .before .before .before .before .before .before
-            .before .before .before .before .before))) (m31 (c .before) (After-send·gave c))
-        lay10 = λ c. (Path.refl, λ g. (Path.refl, λ g'. λ g''. ((MutSlice.fix-len (Row.get 1 (T57 .locals) (m43 record { before = record { before =
-            record { before = c .before; send = c .send }; inflight = record { given = g }; }; out = record { given = g' }; } g'') .ptr) (Row.get 1
-            (T57 .locals) (m43 record { before = record { before = record { before = c .before; send = c .send }; inflight = record { given = g }; };
-            out = record { given = g' }; } g'') .name) (Row.get 1 (T57 .locals) (m43 record { before = record { before = record { before = c .before;
-            send = c .send }; inflight = record { given = g }; }; out = record { given = g' }; } g'') .now) (dens (c .before .before .before .before
-            .before .before .before .before .before .before .before .before .before .before .before .before .before .before .κs) (c .before .before
-            .before .before .before .before .before .before .before .before .before .before .before .before .before .before .before .before .args) .0
-            .now) (same-length record { before = record { before = record { before = record { before = c .before; send = c .send }; inflight = record
-            { given = g }; }; out = record { given = g' }; }; slice-known2 = record { given = g'' }; }), (MutSlice.fix-len (Row.get 2 (T57 .locals)
-            (m43 record { before = record { before = record { before = c .before; send = c .send }; inflight = record { given = g }; }; out = record {
-            given = g' }; } g'') .ptr) (Row.get 2 (T57 .locals) (m43 record { before = record { before = record { before = c .before; send = c .send
-            }; inflight = record { given = g }; }; out = record { given = g' }; } g'') .name) (Row.get 2 (T57 .locals) (m43 record { before = record {
-            before = record { before = c .before; send = c .send }; inflight = record { given = g }; }; out = record { given = g' }; } g'') .now)
-            (dens (c .before .before .before .before .before .before .before .before .before .before .before .before .before .before .before .before
-            .before .before .κs) (c .before .before .before .before .before .before .before .before .before .before .before .before .before .before
-            .before .before .before .before .args) .1 .0 .now) (same-length-2 record { before = record { before = record { before = record { before =
-            c .before; send = c .send }; inflight = record { given = g }; }; out = record { given = g' }; }; slice-known2 = record { given = g'' };
-            }), (MutSlice.fix-len (Row.get 3 (T57 .locals) (m43 record { before = record { before = record { before = c .before; send = c .send };
-            inflight = record { given = g }; }; out = record { given = g' }; } g'') .ptr) (Row.get 3 (T57 .locals) (m43 record { before = record {
-            before = record { before = c .before; send = c .send }; inflight = record { given = g }; }; out = record { given = g' }; } g'') .name)
-            (Row.get 3 (T57 .locals) (m43 record { before = record { before = record { before = c .before; send = c .send }; inflight = record { given
-            = g }; }; out = record { given = g' }; } g'') .now) (dens (c .before .before .before .before .before .before .before .before .before
-            .before .before .before .before .before .before .before .before .before .κs) (c .before .before .before .before .before .before .before
-            .before .before .before .before .before .before .before .before .before .before .before .args) .1 .1 .0 .now) (same-length-3 record {
-            before = record { before = record { before = record { before = c .before; send = c .send }; inflight = record { given = g }; }; out =
-            record { given = g' }; }; slice-known2 = record { given = g'' }; }), (tt, (tt, (tt, (tt, (tt, tt))))),),),), returns record { before =
-            record { before = record { before = record { before = c .before; send = c .send }; inflight = record { given = g }; }; out = record {
-            given = g' }; }; slice-known2 = record { given = g'' }; },),),)
-        lay9 : (c : After-to-bytes) → at31 (c .before .before .before .before .before .before .before .before .before .before .before .before .before
-            .before .blocks) (W1 (c .before .before .before .before .before .before .before .before .before .before .before) (After-is-taken·gave (c
-            .before .before .before .before .before .before .before .before .before .before))) (m21 (c .before) (After-to-bytes·gave c))
-        lay9 = λ c. λ g. (Path.refl, λ g'. (Path.refl, λ g''. (Relend.count-is T37 26 27 (λ x. x) (λ u. 62) (m29 record { before = record { before =
-            record { before = c .before; to-bytes = c .to-bytes }; send-arg = record { given = g }; }; send-arg2 = record { given = g' }; } g'')
-            (slice-aggregate-send record { before = record { before = record { before = record { before = c .before; to-bytes = c .to-bytes };
-            send-arg = record { given = g }; }; send-arg2 = record { given = g' }; }; bytes = record { given = g'' }; }), (send-requires record {
-            before = record { before = record { before = record { before = c .before; to-bytes = c .to-bytes }; send-arg = record { given = g }; };
-            send-arg2 = record { given = g' }; }; bytes = record { given = g'' }; }, λ g'3. lay10 record { before = record { before = record { before
-            = record { before = record { before = c .before; to-bytes = c .to-bytes }; send-arg = record { given = g }; }; send-arg2 = record { given
-            = g' }; }; bytes = record { given = g'' }; }; send = Called.called ps·9 r·9 (claims· .19) T38 (record { pos = 23; ty = Syntax.tyRef
-            Syntax.erased Syntax.mut InflightAction.to; ref = λ x. x; }, (record { pos = 25; ty = Syntax.tyRef Syntax.erased Syntax.mut (Syntax.tyInt
-            Syntax.w32); ref = λ x. x; }, (record { pos = 10; st = List.[]; d = 0; at = λ x. x }, (record { pos = 14; st = List.[]; d = 0; at = λ x. x
-            }, (record { pos = 13; st = List.[]; d = 0; at = λ x. x }, (record { pos = 15; st = List.[]; d = 0; at = λ x. x }, (record { pos = 8; st =
-            List.[]; d = 0; at = λ x. x }, (record { pos = 27; ty = Syntax.tyRef Syntax.erased Syntax.imm (Syntax.tyInt Syntax.w8); ref = λ x. x; },
-            tt,),),),),),),),) (m30 record { before = record { before = record { before = c .before; to-bytes = c .to-bytes }; send-arg = record {
-            given = g }; }; send-arg2 = record { given = g' }; } g'') g'3; },),),),)
-        lay8 : (c : After-incoming-for) → at33 (c .before .before .before .before .before .before .before .before .before .before .before .before
-            .before .blocks) (W1 (c .before .before .before .before .before .before .before .before .before .before) (After-is-taken·gave (c .before
-            .before .before .before .before .before .before .before .before))) (m19 (c .before) (After-incoming-for·gave c))
-        lay8 = λ c. (to-bytes-requires record { before = c .before; incoming-for = c .incoming-for }, λ g. lay9 record { before = record { before = c
-            .before; incoming-for = c .incoming-for }; to-bytes = Called.called ps·8 r·8 (claims· .17) T25 (record { pos = 16; st = List.[]; d = 0; at
-            = λ x. x }, tt,) (m20 (c .before) (After-incoming-for·gave c)) g; },)
-        lay7 : (c : After-incoming-out) → at34 (c .before .before .before .before .before .before .before .before .before .before .before .before
-            .blocks) (W1 (c .before .before .before .before .before .before .before .before .before) (After-is-taken·gave (c .before .before .before
-            .before .before .before .before .before))) (m18 (c .before) (After-incoming-out·gave c))
-        lay7 = λ c. (incoming-for-requires record { before = c .before; incoming-out = c .incoming-out }, λ g. lay8 record { before = record { before
-            = c .before; incoming-out = c .incoming-out }; incoming-for = Called.called ps·7 r·7 (claims· .15) T23 (record { pos = 6; st = List.[]; d
-            = 0; at = λ x. x }, tt,) (m18 (c .before) (After-incoming-out·gave c)) g; },)
-        lay6 : (c : After-opened) → at36 (c .before .before .before .before .before .before .before .before .before .before .before .blocks) (W1 (c
-            .before .before .before .before .before .before .before .before) (After-is-taken·gave (c .before .before .before .before .before .before
-            .before))) (m16 (c .before) (After-opened·gave c))
-        lay6 = λ c. (incoming-out-requires record { before = c .before; opened = c .opened }, λ g. lay7 record { before = record { before = c .before;
-            opened = c .opened }; incoming-out = Called.called ps·6 r·6 (claims· .13) T22 (record { pos = 6; st = List.[]; d = 0; at = λ x. x }, tt,)
-            (m17 (c .before) (After-opened·gave c)) g; },)
-        lay5 : (c : After-with-pending) → at38 (c .before .before .before .before .before .before .before .before .before .before .blocks) (W1 (c
-            .before .before .before .before .before .before .before) (After-is-taken·gave (c .before .before .before .before .before .before))) (m14
-            (c .before) (After-with-pending·gave c))
-        lay5 = λ c. (opened-requires record { before = c .before; with-pending = c .with-pending }, λ g. lay6 record { before = record { before = c
-            .before; with-pending = c .with-pending }; opened = Called.called ps·5 r·5 (claims· .11) T20 (Bool.bLit Bool'.true, (record { pos = 4; st
-            = List.[]; d = 0; at = λ x. x }, tt),) (m15 (c .before) (After-with-pending·gave c)) g; },)
-        lay4 : (c : After-put-pending) → at43 (c .before .before .before .before .before .before .before .before .blocks) (W1 (c .before .before
-            .before .before .before) (After-is-taken·gave (c .before .before .before .before))) (m11 (c .before) (After-put-pending·gave c))
-        lay4 = λ c. (Path.refl, λ g. (with-pending-requires record { before = record { before = c .before; put-pending = c .put-pending }; pending =
-            record { given = g }; }, λ g'. lay5 record { before = record { before = record { before = c .before; put-pending = c .put-pending };
-            pending = record { given = g }; }; with-pending = Called.called ps·4 r·4 (claims· .9) T17 (record { pos = 5; st = List.[]; d = 0; at = λ
-            x. x }, (Num.vAt 12 λ x. x, tt),) (m13 record { before = c .before; put-pending = c .put-pending } g) g'; },),)
-        lay3 : (c : After-pending-for) → at47 (c .before .before .before .before .before .before .blocks) (W1 (c .before .before .before)
-            (After-is-taken·gave (c .before .before))) (m8 (c .before) (After-pending-for·gave c))
-        lay3 = λ c. λ g. (Path.refl, (put-pending-requires record { before = record { before = c .before; pending-for = c .pending-for };
-            put-pending-arg = record { given = g }; }, λ g'. lay4 record { before = record { before = record { before = c .before; pending-for = c
-            .pending-for }; put-pending-arg = record { given = g }; }; put-pending = Called.called ps·3 r·3 (claims· .7) T13 (record { pos = 20; ty =
-            Syntax.tyRef Syntax.erased Syntax.mut RelayPending.to; ref = λ x. x; }, (record { pos = 5; st = List.[]; d = 0; at = λ x. x }, (record {
-            pos = 11; st = List.[]; d = 0; at = λ x. x }, tt),),) (m10 record { before = c .before; pending-for = c .pending-for } g) g'; },),)
-        lay2 : (c : After-is-taken) → at60 (c .before .before .before .before .blocks) (W0 (c .before .before .before .before .κs) (c .before .before
-            .before .before .args) (c .before .before .before .before .blocks)) (m6 (c .before) (After-is-taken·gave c))
-        lay2 = λ c. (λ taken. (pending-for-requires record { before = record { before = c .before; is-taken = c .is-taken }; if1 = record { taken =
-            taken }; }, λ g. lay3 record { before = record { before = record { before = c .before; is-taken = c .is-taken }; if1 = record { taken =
-            taken }; }; pending-for = Called.called ps·2 r·2 (claims· .5) T9 (record { pos = 6; st = List.[]; d = 0; at = λ x. x }, tt,) (m7 record {
-            before = c .before; is-taken = c .is-taken }) g; },), λ left. lay11 record { before = record { before = c .before; is-taken = c .is-taken
-            }; if1 = record { left = left }; },)
-        lay1 : (c : After-usage-answer) → at63 (c .before .before .before .blocks) (W0 (c .before .before .before .κs) (c .before .before .before
-            .args) (c .before .before .before .blocks)) (m3 (c .before) (After-usage-answer·gave c))
-        lay1 = λ c. (is-taken-requires record { before = c .before; usage-answer = c .usage-answer }, λ g. lay2 record { before = record { before = c
-            .before; usage-answer = c .usage-answer }; is-taken = Called.called ps·1 r·1 (claims· .3) T6 (record { pos = 10; st = List.[]; d = 0; at =
-            λ x. x }, tt,) (m5 (c .before) (After-usage-answer·gave c)) g; },)
+
+      module _ (usage-answer-requires : Need-usage-answer-requires) (is-taken-requires : Need-is-taken-requires)
+          (pending-for-requires : Need-pending-for-requires) (put-pending-requires : Need-put-pending-requires)
+          (with-pending-requires : Need-with-pending-requires) (opened-requires : Need-opened-requires)
+          (incoming-out-requires : Need-incoming-out-requires) (incoming-for-requires : Need-incoming-for-requires)
+          (to-bytes-requires : Need-to-bytes-requires) (slice-aggregate-send : Need-slice-aggregate-send)
+          (send-requires : Need-send-requires) (same-length : Need-same-length) (same-length-2 : Need-same-length-2)
+          (same-length-3 : Need-same-length-3) (returns : Need-returns) (refused-requires : Need-refused-requires)
+          (returns-2 : Need-returns-2) where
+        lay12 : (c : After-refused) → at58 (c .before .before .before .before .before .before .blocks) (W0
+            (c .before .before .before .before .before .before .κs)
+            (c .before .before .before .before .before .before .args) (c .before .before .before .before .before
+            .before .blocks)) (m47 (c .before) (After-refused·gave c))
+        lay12 = λ c. (
+          (Path.refl, (Path.refl, (Path.refl, (tt, (tt, (tt, (tt, (tt, tt)))))))),
+          returns-2 record { before = c .before; refused = c .refused },
+        )
+
+        lay11 : (c : Else1) → at59 (c .before .before .before .before .before .blocks) (W0
+            (c .before .before .before .before .before .κs) (c .before .before .before .before .before .args)
+            (c .before .before .before .before .before .blocks)) (m46 (c .before))
+        lay11 = λ c. (
+          refused-requires record { before = c .before; if1 = c .if1 },
+          λ g. lay12 record {
+            before = record { before = c .before; if1 = c .if1 };
+            refused = Called.called ps·10 r·10 (claims· .21) T8 (
+              record { pos = 4; st = List.[]; d = 0; at = λ x. x },
+              (
+                record { pos = 5; st = List.[]; d = 0; at = λ x. x },
+                (record { pos = 10; st = List.[]; d = 0; at = λ x. x }, tt),
+              ),
+            ) (m46 (c .before)) g;
+          },
+        )
+
+        lay10 : (c : After-send) → at18 (c .before .before .before .before .before .before .before .before .before
+            .before .before .before .before .before .before .before .before .before .blocks) (W1 (c .before .before
+            .before .before .before .before .before .before .before .before .before .before .before .before .before) (After-is-taken·gave (c
+            .before .before .before .before .before .before .before .before .before .before .before .before .before
+            .before))) (m31 (c .before) (After-send·gave c))
+        lay10 = λ c. (
+          Path.refl,
+          λ g. (
+            Path.refl,
+            λ g'. λ g''. (
+              (
+                MutSlice.fix-len (Row.get 1 (T57 .locals) (m43
+                    record {
+                      before = record {
+                        before = record { before = c .before; send = c .send };
+                        inflight = record { given = g };
+                      };
+                      out = record { given = g' };
+                    } g'') .ptr) (Row.get 1 (T57 .locals) (m43
+                    record {
+                      before = record {
+                        before = record { before = c .before; send = c .send };
+                        inflight = record { given = g };
+                      };
+                      out = record { given = g' };
+                    } g'') .name) (Row.get 1 (T57 .locals) (m43
+                    record {
+                      before = record {
+                        before = record { before = c .before; send = c .send };
+                        inflight = record { given = g };
+                      };
+                      out = record { given = g' };
+                    } g'') .now) (dens (c .before .before .before .before .before .before .before .before .before
+                    .before .before .before .before .before .before .before .before .before .κs) (c .before .before
+                    .before .before .before .before .before .before .before .before .before .before .before .before
+                    .before .before .before .before .args) .0 .now) (same-length
+                    record {
+                      before = record {
+                        before = record {
+                          before = record { before = c .before; send = c .send };
+                          inflight = record { given = g };
+                        };
+                        out = record { given = g' };
+                      };
+                      slice-known2 = record { given = g'' };
+                    }),
+                (
+                  MutSlice.fix-len (Row.get 2 (T57 .locals) (m43
+                      record {
+                        before = record {
+                          before = record { before = c .before; send = c .send };
+                          inflight = record { given = g };
+                        };
+                        out = record { given = g' };
+                      } g'') .ptr) (Row.get 2 (T57 .locals) (m43
+                      record {
+                        before = record {
+                          before = record { before = c .before; send = c .send };
+                          inflight = record { given = g };
+                        };
+                        out = record { given = g' };
+                      } g'') .name) (Row.get 2 (T57 .locals) (m43
+                      record {
+                        before = record {
+                          before = record { before = c .before; send = c .send };
+                          inflight = record { given = g };
+                        };
+                        out = record { given = g' };
+                      } g'') .now) (dens (c .before .before .before .before .before .before .before .before .before
+                      .before .before .before .before .before .before .before .before .before .κs) (c .before .before
+                      .before .before .before .before .before .before .before .before .before .before .before .before
+                      .before .before .before .before .args) .1 .0 .now) (same-length-2
+                      record {
+                        before = record {
+                          before = record {
+                            before = record { before = c .before; send = c .send };
+                            inflight = record { given = g };
+                          };
+                          out = record { given = g' };
+                        };
+                        slice-known2 = record { given = g'' };
+                      }),
+                  (
+                    MutSlice.fix-len (Row.get 3 (T57 .locals) (m43
+                        record {
+                          before = record {
+                            before = record { before = c .before; send = c .send };
+                            inflight = record { given = g };
+                          };
+                          out = record { given = g' };
+                        } g'') .ptr) (Row.get 3 (T57 .locals) (m43
+                        record {
+                          before = record {
+                            before = record { before = c .before; send = c .send };
+                            inflight = record { given = g };
+                          };
+                          out = record { given = g' };
+                        } g'') .name) (Row.get 3 (T57 .locals) (m43
+                        record {
+                          before = record {
+                            before = record { before = c .before; send = c .send };
+                            inflight = record { given = g };
+                          };
+                          out = record { given = g' };
+                        } g'') .now) (dens (c .before .before .before .before .before .before .before .before .before
+                        .before .before .before .before .before .before .before .before .before .κs) (c .before .before
+                        .before .before .before .before .before .before .before .before .before .before .before .before
+                        .before .before .before .before .args) .1 .1 .0 .now) (same-length-3
+                        record {
+                          before = record {
+                            before = record {
+                              before = record { before = c .before; send = c .send };
+                              inflight = record { given = g };
+                            };
+                            out = record { given = g' };
+                          };
+                          slice-known2 = record { given = g'' };
+                        }),
+                    (tt, (tt, (tt, (tt, (tt, tt))))),
+                  ),
+                ),
+              ),
+              returns record {
+                before = record {
+                  before = record {
+                    before = record { before = c .before; send = c .send };
+                    inflight = record { given = g };
+                  };
+                  out = record { given = g' };
+                };
+                slice-known2 = record { given = g'' };
+              },
+            ),
+          ),
+        )
+
+        lay9 : (c : After-to-bytes) → at31 (c .before .before .before .before .before .before .before .before .before
+            .before .before .before .before .before .blocks) (W1 (c .before .before .before .before .before .before
+            .before .before .before .before .before) (After-is-taken·gave (c .before .before .before .before .before
+            .before .before .before .before .before))) (m21 (c .before) (After-to-bytes·gave c))
+        lay9 = λ c. λ g. (
+          Path.refl,
+          λ g'. (
+            Path.refl,
+            λ g''. (
+              Relend.count-is T37 26 27 (λ x. x) (λ u. 62) (m29
+                  record {
+                    before = record {
+                      before = record { before = c .before; to-bytes = c .to-bytes };
+                      send-arg = record { given = g };
+                    };
+                    send-arg2 = record { given = g' };
+                  } g'') (slice-aggregate-send record {
+                    before = record {
+                      before = record {
+                        before = record { before = c .before; to-bytes = c .to-bytes };
+                        send-arg = record { given = g };
+                      };
+                      send-arg2 = record { given = g' };
+                    };
+                    bytes = record { given = g'' };
+                  }),
+              (
+                send-requires record {
+                  before = record {
+                    before = record {
+                      before = record { before = c .before; to-bytes = c .to-bytes };
+                      send-arg = record { given = g };
+                    };
+                    send-arg2 = record { given = g' };
+                  };
+                  bytes = record { given = g'' };
+                },
+                λ g'3. lay10 record {
+                  before = record {
+                    before = record {
+                      before = record {
+                        before = record { before = c .before; to-bytes = c .to-bytes };
+                        send-arg = record { given = g };
+                      };
+                      send-arg2 = record { given = g' };
+                    };
+                    bytes = record { given = g'' };
+                  };
+                  send = Called.called ps·9 r·9 (claims· .19) T38 (
+                    record { pos = 23; ty = ref1; ref = λ x. x },
+                    (
+                      record { pos = 25; ty = ref2; ref = λ x. x },
+                      (
+                        record { pos = 10; st = List.[]; d = 0; at = λ x. x },
+                        (
+                          record { pos = 14; st = List.[]; d = 0; at = λ x. x },
+                          (
+                            record { pos = 13; st = List.[]; d = 0; at = λ x. x },
+                            (
+                              record { pos = 15; st = List.[]; d = 0; at = λ x. x },
+                              (
+                                record { pos = 8; st = List.[]; d = 0; at = λ x. x },
+                                (record { pos = 27; ty = ref4; ref = λ x. x }, tt),
+                              ),
+                            ),
+                          ),
+                        ),
+                      ),
+                    ),
+                  ) (m30 record {
+                    before = record {
+                      before = record { before = c .before; to-bytes = c .to-bytes };
+                      send-arg = record { given = g };
+                    };
+                    send-arg2 = record { given = g' };
+                  } g'') g'3;
+                },
+              ),
+            ),
+          ),
+        )
+
+        lay8 : (c : After-incoming-for) → at33 (c .before .before .before .before .before .before .before .before
+            .before .before .before .before .before .blocks) (W1 (c .before .before .before .before .before .before
+            .before .before .before .before) (After-is-taken·gave (c .before .before .before .before .before .before
+            .before .before .before))) (m19 (c .before) (After-incoming-for·gave c))
+        lay8 = λ c. (
+          to-bytes-requires record { before = c .before; incoming-for = c .incoming-for },
+          λ g. lay9 record {
+            before = record { before = c .before; incoming-for = c .incoming-for };
+            to-bytes = Called.called ps·8 r·8 (claims· .17) T25
+                (record { pos = 16; st = List.[]; d = 0; at = λ x. x }, tt)
+                (m20 (c .before) (After-incoming-for·gave c)) g;
+          },
+        )
+
+        lay7 : (c : After-incoming-out) → at34 (c .before .before .before .before .before .before .before .before
+            .before .before .before .before .blocks) (W1 (c .before .before .before .before .before .before .before
+            .before .before) (After-is-taken·gave (c .before .before .before .before .before .before .before .before)))
+            (m18 (c .before) (After-incoming-out·gave c))
+        lay7 = λ c. (
+          incoming-for-requires record { before = c .before; incoming-out = c .incoming-out },
+          λ g. lay8 record {
+            before = record { before = c .before; incoming-out = c .incoming-out };
+            incoming-for = Called.called ps·7 r·7 (claims· .15) T23
+                (record { pos = 6; st = List.[]; d = 0; at = λ x. x }, tt)
+                (m18 (c .before) (After-incoming-out·gave c)) g;
+          },
+        )
+
+        lay6 : (c : After-opened) → at36 (c .before .before .before .before .before .before .before .before .before
+            .before .before .blocks) (W1 (c .before .before .before .before .before .before .before .before) (After-is-taken·gave (c
+            .before .before .before .before .before .before .before))) (m16 (c .before) (After-opened·gave c))
+        lay6 = λ c. (
+          incoming-out-requires record { before = c .before; opened = c .opened },
+          λ g. lay7 record {
+            before = record { before = c .before; opened = c .opened };
+            incoming-out = Called.called ps·6 r·6 (claims· .13) T22
+                (record { pos = 6; st = List.[]; d = 0; at = λ x. x }, tt) (m17 (c .before) (After-opened·gave c)) g;
+          },
+        )
+
+        lay5 : (c : After-with-pending) → at38 (c .before .before .before .before .before .before .before .before
+            .before .before .blocks) (W1 (c .before .before .before .before .before .before .before) (After-is-taken·gave
+            (c .before .before .before .before .before .before))) (m14 (c .before) (After-with-pending·gave c))
+        lay5 = λ c. (
+          opened-requires record { before = c .before; with-pending = c .with-pending },
+          λ g. lay6 record {
+            before = record { before = c .before; with-pending = c .with-pending };
+            opened = Called.called ps·5 r·5 (claims· .11) T20 (
+              Bool.bLit Bool'.true,
+              (record { pos = 4; st = List.[]; d = 0; at = λ x. x }, tt),
+            ) (m15 (c .before) (After-with-pending·gave c)) g;
+          },
+        )
+
+        lay4 : (c : After-put-pending) → at43 (c .before .before .before .before .before .before .before .before
+            .blocks) (W1 (c .before .before .before .before .before)
+            (After-is-taken·gave (c .before .before .before .before))) (m11 (c .before) (After-put-pending·gave c))
+        lay4 = λ c. (
+          Path.refl,
+          λ g. (
+            with-pending-requires record {
+              before = record { before = c .before; put-pending = c .put-pending };
+              pending = record { given = g };
+            },
+            λ g'. lay5 record {
+              before = record {
+                before = record { before = c .before; put-pending = c .put-pending };
+                pending = record { given = g };
+              };
+              with-pending = Called.called ps·4 r·4 (claims· .9) T17 (
+                record { pos = 5; st = List.[]; d = 0; at = λ x. x },
+                (Num.vAt 12 λ x. x, tt),
+              ) (m13 record { before = c .before; put-pending = c .put-pending } g) g';
+            },
+          ),
+        )
+
+        lay3 : (c : After-pending-for) → at47 (c .before .before .before .before .before .before .blocks) (W1
+            (c .before .before .before) (After-is-taken·gave (c .before .before)))
+            (m8 (c .before) (After-pending-for·gave c))
+        lay3 = λ c. λ g. (
+          Path.refl,
+          (
+            put-pending-requires record {
+              before = record { before = c .before; pending-for = c .pending-for };
+              put-pending-arg = record { given = g };
+            },
+            λ g'. lay4 record {
+              before = record {
+                before = record { before = c .before; pending-for = c .pending-for };
+                put-pending-arg = record { given = g };
+              };
+              put-pending = Called.called ps·3 r·3 (claims· .7) T13 (
+                record { pos = 20; ty = ref0; ref = λ x. x },
+                (
+                  record { pos = 5; st = List.[]; d = 0; at = λ x. x },
+                  (record { pos = 11; st = List.[]; d = 0; at = λ x. x }, tt),
+                ),
+              ) (m10 record { before = c .before; pending-for = c .pending-for } g) g';
+            },
+          ),
+        )
+
+        lay2 : (c : After-is-taken) → at60 (c .before .before .before .before .blocks) (W0
+            (c .before .before .before .before .κs) (c .before .before .before .before .args)
+            (c .before .before .before .before .blocks)) (m6 (c .before) (After-is-taken·gave c))
+        lay2 = λ c. (
+          λ taken. (
+            pending-for-requires record {
+              before = record { before = c .before; is-taken = c .is-taken };
+              if1 = record { taken = taken };
+            },
+            λ g. lay3 record {
+              before = record {
+                before = record { before = c .before; is-taken = c .is-taken };
+                if1 = record { taken = taken };
+              };
+              pending-for = Called.called ps·2 r·2 (claims· .5) T9
+                  (record { pos = 6; st = List.[]; d = 0; at = λ x. x }, tt)
+                  (m7 record { before = c .before; is-taken = c .is-taken }) g;
+            },
+          ),
+          λ left. lay11 record {
+            before = record { before = c .before; is-taken = c .is-taken };
+            if1 = record { left = left };
+          },
+        )
+
+        lay1 : (c : After-usage-answer) → at63 (c .before .before .before .blocks) (W0 (c .before .before .before .κs)
+            (c .before .before .before .args) (c .before .before .before .blocks))
+            (m3 (c .before) (After-usage-answer·gave c))
+        lay1 = λ c. (
+          is-taken-requires record { before = c .before; usage-answer = c .usage-answer },
+          λ g. lay2 record {
+            before = record { before = c .before; usage-answer = c .usage-answer };
+            is-taken = Called.called ps·1 r·1 (claims· .3) T6
+                (record { pos = 10; st = List.[]; d = 0; at = λ x. x }, tt)
+                (m5 (c .before) (After-usage-answer·gave c)) g;
+          },
+        )
+
         pub laid : (c : Start) → at66 (c .blocks) (W0 (c .κs) (c .args) (c .blocks)) (m0 (c .κs) (c .args) (c .blocks))
-        laid = λ c. λ g. (tt, λ g'. (usage-answer-requires record { before = record { before = c; slice-known = record { given = g } }; ticket =
-            record { given = g' }; }, λ g''. lay1 record { before = record { before = record { before = c; slice-known = record { given = g } };
-            ticket = record { given = g' }; }; usage-answer = Called.called ps·0 r·0 (claims· .1) T3 (record { pos = 9; st = List.[]; d = 0; at = λ x.
-            x }, (record { pos = 7; st = List.[]; d = 0; at = λ x. x }, tt),) (m2 record { before = c; slice-known = record { given = g } } g') g'';
-            },),)
+        laid = λ c. λ g. (
+          tt,
+          λ g'. (
+            usage-answer-requires record {
+              before = record { before = c; slice-known = record { given = g } };
+              ticket = record { given = g' };
+            },
+            λ g''. lay1 record {
+              before = record {
+                before = record { before = c; slice-known = record { given = g } };
+                ticket = record { given = g' };
+              };
+              usage-answer = Called.called ps·0 r·0 (claims· .1) T3 (
+                record { pos = 9; st = List.[]; d = 0; at = λ x. x },
+                (record { pos = 7; st = List.[]; d = 0; at = λ x. x }, tt),
+              ) (m2 record { before = c; slice-known = record { given = g } } g') g'';
+            },
+          ),
+        )
+
         module _ (κs : Lifetimes.Lfts 3) (qs : Lifetimes.Shares 3) where
-          pub asked : (a : Kinds.Dens κs ps) → (good : Kinds.GoodsP κs ps a) → (pre : Pre· κs a) → (bs : List.List Nat.ℕ) → Φ bs (Any.wantQ 3 ps r xs
-              m κs qs a (Post· κs a)) (Function.init 3 ps r xs m κs qs a)
-          asked = λ a good pre bs. laid record { κs = κs; args = record { pending = a .0; inflight = a .1 .0; out = a .1 .1 .0; runtime = a .1 .1 .1
-              .0; places = a .1 .1 .1 .1 .0; plan = a .1 .1 .1 .1 .1 .0; usage = a .1 .1 .1 .1 .1 .1 .0; scan = a .1 .1 .1 .1 .1 .1 .1 .0; }; blocks =
-              bs; good = good; pre = pre; }
-        module _ { M : Type 1 } (𝓤 : URA.URA M) (H : Wp.Heap 𝓤) (A : Atoms.Atoms 𝓤) (W : Kit.Given 𝓤 H A) (𝓣 : Wp.Tables 𝓤 H) (known0 : Plain.Known 𝓤
-            H A W 𝓣 0 ps·0 r·0 (claims· .0) (claims· .1) "hnsr_circuit::ledger::usage_answer") (known1 : Plain.Known 𝓤 H A W 𝓣 0 ps·1 r·1 (claims· .2)
-            (claims· .3) "hnsr_circuit::answer::is_taken") (known2 : Plain.Known 𝓤 H A W 𝓣 0 ps·2 r·2 (claims· .4) (claims· .5)
+          pub asked : (a : Kinds.Dens κs ps) → (good : Kinds.GoodsP κs ps a) → (pre : Pre· κs a) →
+              (bs : List.List Nat.ℕ) → Φ bs (Any.wantQ 3 ps r xs m κs qs a (Post· κs a))
+              (Function.init 3 ps r xs m κs qs a)
+          asked = λ a good pre bs. laid record {
+            κs = κs;
+            args = record {
+              pending = a .0;
+              inflight = a .1 .0;
+              out = a .1 .1 .0;
+              runtime = a .1 .1 .1 .0;
+              places = a .1 .1 .1 .1 .0;
+              plan = a .1 .1 .1 .1 .1 .0;
+              usage = a .1 .1 .1 .1 .1 .1 .0;
+              scan = a .1 .1 .1 .1 .1 .1 .1 .0;
+            };
+            blocks = bs;
+            good = good;
+            pre = pre;
+          }
+
+        module _ {M : Type 1} (𝓤 : URA.URA M) (H : Wp.Heap 𝓤) (A : Atoms.Atoms 𝓤) (W : Kit.Given 𝓤 H A)
+            (𝓣 : Wp.Tables 𝓤 H) (known0 : Plain.Known 𝓤 H A W 𝓣 0 ps·0 r·0 (claims· .0) (claims· .1)
+            "hnsr_circuit::ledger::usage_answer") (known1 : Plain.Known 𝓤 H A W 𝓣 0 ps·1 r·1 (claims· .2) (claims· .3)
+            "hnsr_circuit::answer::is_taken") (known2 : Plain.Known 𝓤 H A W 𝓣 0 ps·2 r·2 (claims· .4) (claims· .5)
             "hnsr_circuit::open::pending_for") (known3 : Plain.Known 𝓤 H A W 𝓣 1 ps·3 r·3 (claims· .6) (claims· .7)
-            "hnsr_circuit::handle_open::put_pending") (known4 : Plain.Known 𝓤 H A W 𝓣 0 ps·4 r·4 (claims· .8) (claims· .9)
-            "hnsr_circuit::places::with_pending") (known5 : Plain.Known 𝓤 H A W 𝓣 0 ps·5 r·5 (claims· .10) (claims· .11)
-            "hnsr_circuit::header::opened") (known6 : Plain.Known 𝓤 H A W 𝓣 0 ps·6 r·6 (claims· .12) (claims· .13) "hnsr_circuit::open::incoming_out")
-            (known7 : Plain.Known 𝓤 H A W 𝓣 0 ps·7 r·7 (claims· .14) (claims· .15) "hnsr_circuit::open::incoming_for") (known8 : Plain.Known 𝓤 H A W 𝓣
-            0 ps·8 r·8 (claims· .16) (claims· .17) "hnsr_body::incoming_body::IncomingBody::to_bytes") (known9 : Plain.Known 𝓤 H A W 𝓣 3 ps·9 r·9
-            (claims· .18) (claims· .19) "hnsr_circuit::queue::send") (known10 : Plain.Known 𝓤 H A W 𝓣 0 ps·10 r·10 (claims· .20) (claims· .21)
-            "hnsr_circuit::revoking_calls::refused") where
-          pub spec : Statement.Triple 𝓤 (Wp.WpFn 𝓤 H (𝓣 .C) (𝓣 .Λ) (Function.fnOf 3 ps r xs m hs body)) (Function.plainOf 𝓤 H A 3 ps r Pre· Post·)
-          spec = Plain.t-fn-plain 𝓤 H A W 𝓣 3 ps r xs m hs body (λ κs qs bs. Φ bs) (λ κs qs bs bd. typed κs qs 𝓤 H A W 𝓣 (known0, known1, known2,
-              known3, known4, known5, known6, known7, known8, known9, known10,) bs bd) Pre· Post· asked
+            "hnsr_circuit::handle_open::put_pending") (known4 : Plain.Known 𝓤 H A W 𝓣 0 ps·4 r·4 (claims· .8)
+            (claims· .9) "hnsr_circuit::places::with_pending") (known5 : Plain.Known 𝓤 H A W 𝓣 0 ps·5 r·5 (claims· .10)
+            (claims· .11) "hnsr_circuit::header::opened") (known6 : Plain.Known 𝓤 H A W 𝓣 0 ps·6 r·6 (claims· .12)
+            (claims· .13) "hnsr_circuit::open::incoming_out") (known7 : Plain.Known 𝓤 H A W 𝓣 0 ps·7 r·7 (claims· .14)
+            (claims· .15) "hnsr_circuit::open::incoming_for") (known8 : Plain.Known 𝓤 H A W 𝓣 0 ps·8 r·8 (claims· .16)
+            (claims· .17) "hnsr_body::incoming_body::IncomingBody::to_bytes") (known9 : Plain.Known 𝓤 H A W 𝓣 3 ps·9
+            r·9 (claims· .18) (claims· .19) "hnsr_circuit::queue::send") (known10 : Plain.Known 𝓤 H A W 𝓣 0 ps·10 r·10
+            (claims· .20) (claims· .21) "hnsr_circuit::revoking_calls::refused") where
+          pub spec : Statement.Triple 𝓤 (Wp.WpFn 𝓤 H (𝓣 .C) (𝓣 .Λ) (Function.fnOf 3 ps r xs m hs body))
+              (Function.plainOf 𝓤 H A 3 ps r Pre· Post·)
+          spec = Plain.t-fn-plain 𝓤 H A W 𝓣 3 ps r xs m hs body (λ κs qs bs. Φ bs) (λ κs qs bs bd. typed κs qs 𝓤 H A W
+              𝓣 (known0, known1, known2, known3, known4, known5, known6, known7, known8, known9, known10) bs bd) Pre·
+              Post· asked

@@ -4,6 +4,7 @@ use Rattle.hnsr_circuit.proofs.By.InflightAction
 use Rattle.hnsr_circuit.proofs.By.RelayCircuit
 use Rattle.hnsr_circuit.proofs.By.RelayPending
 use Rattle.hnsr_circuit.proofs.By.ReservationUsage
+use Rattle.hnsr_circuit.proofs.StructRow
 use Rattle.hnsr_circuit.proofs.answer.HnsrAnswer
 use Rattle.hnsr_circuit.proofs.answer.HnsrAnswer.Laws
 use Rattle.hnsr_circuit.proofs.config.OpaqueRelayConfig
@@ -32,7 +33,6 @@ use borrow.Kind.Bool
 use borrow.Kind.MutSlice
 use borrow.Kind.Num
 use borrow.Kind.ShrSlice
-use borrow.Kind.Value
 use borrow.Rule.DerefMove
 use borrow.Rule.Lifetime
 use borrow.Rule.Local
@@ -57,11 +57,8 @@ use borrow.Table.Rows
 use borrow.Table.Typed
 use contract.Lifetimes
 use denote.Enum.Declared
-use denote.Enum.Laws as Laws''''''''
-use denote.Exit
 use denote.Struct.At
 use denote.Struct.Declared as Declared'
-use denote.Struct.Laws as Laws'''''''''
 use denote.Triple.Clauses
 use denote.Triple.Statement
 use ghost.Atoms
@@ -78,2241 +75,3979 @@ use mathlib.Core.List.{_∷_}
 
 abbrev ref0 : Syntax.Ty
 ref0 = Syntax.tyRef Syntax.erased Syntax.imm RelayPending.to
+
 abbrev ref1 : Syntax.Ty
 ref1 = Syntax.tyRef Syntax.erased Syntax.mut RelayPending.to
+
 abbrev ref2 : Syntax.Ty
 ref2 = Syntax.tyRef Syntax.erased Syntax.mut ReservationUsage.to
+
 abbrev ref3 : Syntax.Ty
 ref3 = Syntax.tyRef Syntax.erased Syntax.mut InflightAction.to
+
 abbrev ref4 : Syntax.Ty
 ref4 = Syntax.tyRef Syntax.erased Syntax.mut (Syntax.tyInt Syntax.w32)
+
 abbrev ref5 : Syntax.Ty
 ref5 = Syntax.tyRef (Syntax.named 0) Syntax.mut RelayPending.to
+
 abbrev ref6 : Syntax.Ty
 ref6 = Syntax.tyRef (Syntax.named 1) Syntax.imm RelayCircuit.to
+
 abbrev ref7 : Syntax.Ty
 ref7 = Syntax.tyRef (Syntax.named 2) Syntax.mut ReservationUsage.to
+
 abbrev ref8 : Syntax.Ty
 ref8 = Syntax.tyRef (Syntax.named 3) Syntax.mut InflightAction.to
+
 abbrev ref9 : Syntax.Ty
 ref9 = Syntax.tyRef (Syntax.named 4) Syntax.mut (Syntax.tyInt Syntax.w32)
+
 abbrev ref10 : Syntax.Ty
 ref10 = Syntax.tyRef (Syntax.named 5) Syntax.imm (Syntax.tyInt Syntax.w8)
+
+abbrev slice0 : Syntax.Ty
+slice0 = Syntax.tyStruct (38 ∷ 91 ∷ 93 ∷ List.[]) (Syntax.tcons ref0
+    (Syntax.tcons (Syntax.tyInt Syntax.w64) Syntax.tnil))
+
+abbrev slice1 : Syntax.Ty
+slice1 = Syntax.tyStruct (38 ∷ 91 ∷ 93 ∷ List.[]) (Syntax.tcons ref1
+    (Syntax.tcons (Syntax.tyInt Syntax.w64) Syntax.tnil))
+
+abbrev slice2 : Syntax.Ty
+slice2 = Syntax.tyStruct (38 ∷ 91 ∷ 93 ∷ List.[]) (Syntax.tcons ref2
+    (Syntax.tcons (Syntax.tyInt Syntax.w64) Syntax.tnil))
+
+abbrev slice3 : Syntax.Ty
+slice3 = Syntax.tyStruct (38 ∷ 91 ∷ 93 ∷ List.[]) (Syntax.tcons ref3
+    (Syntax.tcons (Syntax.tyInt Syntax.w64) Syntax.tnil))
+
+abbrev slice4 : Syntax.Ty
+slice4 = Syntax.tyStruct (38 ∷ 91 ∷ 93 ∷ List.[]) (Syntax.tcons ref4
+    (Syntax.tcons (Syntax.tyInt Syntax.w64) Syntax.tnil))
+
 abbrev pub ps : List.List (Kinds.PK 6)
-ps = (MutSlice.pMutS RelayPending.row 0 tt) ∷ (ShrSlice.pShrS RelayCircuit.row 1 tt) ∷ (MutSlice.pMutS ReservationUsage.row 2 tt) ∷ (MutSlice.pMutS
-    InflightAction.row 3 tt) ∷ (MutSlice.pMutS (Referent.rtF (Referent.fInt Syntax.w32)) 4 tt) ∷ (Value.pVal record { ty = Declared'.row
-    OpaqueRelayRuntime.the-type; one = Path.refl; val = Laws'''''''''.val OpaqueRelayRuntime.the-type Laws''''''.the-laws; tells = Laws'''''''''.tells
-    OpaqueRelayRuntime.the-type Laws''''''.the-laws; still = Laws'''''''''.still OpaqueRelayRuntime.the-type Laws''''''.the-copy Exit.yes; row =
-    Rows.whole (Declared'.row OpaqueRelayRuntime.the-type); rd = λ x. x; mk = λ x. x; } λ M 𝓤 H A W. record { copies = Laws'''''''''.copy
-    OpaqueRelayRuntime.the-type Laws''''''.the-copy 𝓤 H A W; lawful = Laws'''''''''.lawful OpaqueRelayRuntime.the-type Laws''''''.the-laws 𝓤 H A W;
-    makes = Laws'''''''''.makes OpaqueRelayRuntime.the-type Laws''''''.the-plain 𝓤 H A; in-mem = Local.mem-whole 𝓤 H A W (Declared'.row
-    OpaqueRelayRuntime.the-type); of-mem = Local.whole-mem 𝓤 H A W (Declared'.row OpaqueRelayRuntime.the-type); }) ∷ (Value.pVal record { ty =
-    Declared'.row Places.the-type; one = Path.refl; val = Laws'''''''''.val Places.the-type Laws''''.the-laws; tells = Laws'''''''''.tells
-    Places.the-type Laws''''.the-laws; still = Laws'''''''''.still Places.the-type Laws''''.the-copy Exit.yes; row = Rows.whole (Declared'.row
-    Places.the-type); rd = λ x. x; mk = λ x. x; } λ M 𝓤 H A W. record { copies = Laws'''''''''.copy Places.the-type Laws''''.the-copy 𝓤 H A W; lawful
-    = Laws'''''''''.lawful Places.the-type Laws''''.the-laws 𝓤 H A W; makes = Laws'''''''''.makes Places.the-type Laws''''.the-plain 𝓤 H A; in-mem =
-    Local.mem-whole 𝓤 H A W (Declared'.row Places.the-type); of-mem = Local.whole-mem 𝓤 H A W (Declared'.row Places.the-type); }) ∷ (Value.pVal record
-    { ty = Declared'.row OpenGathered.the-type; one = Path.refl; val = Laws'''''''''.val OpenGathered.the-type Laws''.the-laws; tells =
-    Laws'''''''''.tells OpenGathered.the-type Laws''.the-laws; still = Laws'''''''''.still OpenGathered.the-type Laws''.the-copy Exit.yes; row =
-    Rows.whole (Declared'.row OpenGathered.the-type); rd = λ x. x; mk = λ x. x; } λ M 𝓤 H A W. record { copies = Laws'''''''''.copy
-    OpenGathered.the-type Laws''.the-copy 𝓤 H A W; lawful = Laws'''''''''.lawful OpenGathered.the-type Laws''.the-laws 𝓤 H A W; makes =
-    Laws'''''''''.makes OpenGathered.the-type Laws''.the-plain 𝓤 H A; in-mem = Local.mem-whole 𝓤 H A W (Declared'.row OpenGathered.the-type); of-mem =
-    Local.whole-mem 𝓤 H A W (Declared'.row OpenGathered.the-type); }) ∷ (ShrSlice.pShrS (Referent.rtF (Referent.fInt Syntax.w8)) 5 tt) ∷ List.[]
+ps = (MutSlice.pMutS RelayPending.row 0 tt) ∷ (ShrSlice.pShrS RelayCircuit.row 1 tt) ∷
+    (MutSlice.pMutS ReservationUsage.row 2 tt) ∷ (MutSlice.pMutS InflightAction.row 3 tt) ∷ (MutSlice.pMutS
+    (Referent.rtF (Referent.fInt Syntax.w32)) 4 tt) ∷ (StructRow.param OpaqueRelayRuntime.the-type Laws''''''.the-laws
+    Laws''''''.the-copy Laws''''''.the-plain) ∷ (StructRow.param Places.the-type Laws''''.the-laws Laws''''.the-copy
+    Laws''''.the-plain) ∷ (StructRow.param OpenGathered.the-type Laws''.the-laws Laws''.the-copy Laws''.the-plain) ∷ (ShrSlice.pShrS
+    (Referent.rtF (Referent.fInt Syntax.w8)) 5 tt) ∷ List.[]
+
 abbrev pub r : Kinds.RK 6
-r = Value.rVal record { ty = Declared'.row Relayed.the-type; one = Path.refl; val = Laws'''''''''.val Relayed.the-type Laws'''''''.the-laws; tells =
-    Laws'''''''''.tells Relayed.the-type Laws'''''''.the-laws; still = Laws'''''''''.still Relayed.the-type Laws'''''''.the-copy Exit.yes; row =
-    Rows.whole (Declared'.row Relayed.the-type); rd = λ x. x; mk = λ x. x; } λ M 𝓤 H A W. record { copies = Laws'''''''''.copy Relayed.the-type
-    Laws'''''''.the-copy 𝓤 H A W; lawful = Laws'''''''''.lawful Relayed.the-type Laws'''''''.the-laws 𝓤 H A W; makes = Laws'''''''''.makes
-    Relayed.the-type Laws'''''''.the-plain 𝓤 H A; in-mem = Local.mem-whole 𝓤 H A W (Declared'.row Relayed.the-type); of-mem = Local.whole-mem 𝓤 H A W
-    (Declared'.row Relayed.the-type); }
+r = StructRow.result Relayed.the-type Laws'''''''.the-laws Laws'''''''.the-copy Laws'''''''.the-plain
+
 abbrev pub xs : List.List Syntax.Ty
-xs = Laws'.mir ∷ (Syntax.tyInt Syntax.w64) ∷ Syntax.tyBool ∷ Laws'''''.mir ∷ Laws'''.mir ∷ Laws.mir ∷ ref0 ∷ (Syntax.tyStruct (38 ∷ 91 ∷ 93 ∷ List.[])
-    (Syntax.tcons ref0 (Syntax.tcons (Syntax.tyInt Syntax.w64) Syntax.tnil))) ∷ Syntax.tyBool ∷ ref1 ∷ (Syntax.tyStruct (38 ∷ 91 ∷ 93 ∷ List.[])
-    (Syntax.tcons ref1 (Syntax.tcons (Syntax.tyInt Syntax.w64) Syntax.tnil))) ∷ ref2 ∷ (Syntax.tyStruct (38 ∷ 91 ∷ 93 ∷ List.[]) (Syntax.tcons ref2
-    (Syntax.tcons (Syntax.tyInt Syntax.w64) Syntax.tnil))) ∷ ref3 ∷ (Syntax.tyStruct (38 ∷ 91 ∷ 93 ∷ List.[]) (Syntax.tcons ref3 (Syntax.tcons
-    (Syntax.tyInt Syntax.w64) Syntax.tnil))) ∷ ref4 ∷ (Syntax.tyStruct (38 ∷ 91 ∷ 93 ∷ List.[]) (Syntax.tcons ref4 (Syntax.tcons (Syntax.tyInt
-    Syntax.w64) Syntax.tnil))) ∷ List.[]
+xs = Laws'.mir ∷ (Syntax.tyInt Syntax.w64) ∷ Syntax.tyBool ∷ Laws'''''.mir ∷ Laws'''.mir ∷ Laws.mir ∷ ref0 ∷ slice0 ∷
+    Syntax.tyBool ∷ ref1 ∷ slice1 ∷ ref2 ∷ slice2 ∷ ref3 ∷ slice3 ∷ ref4 ∷ slice4 ∷ List.[]
+
 abbrev pub m : Nat.ℕ
 m = 5
+
 abbrev pub ps·0 : List.List (Kinds.PK 1)
 ps·0 = (ShrSlice.pShrS (Referent.rtF (Referent.fInt Syntax.w8)) 0 tt) ∷ List.[]
+
 abbrev pub r·0 : Kinds.RK 1
 r·0 = Num.rNum Syntax.w64
+
 abbrev pub ps·1 : List.List (Kinds.PK 0)
-ps·1 = (Value.pVal record { ty = Declared'.row OpenGathered.the-type; one = Path.refl; val = Laws'''''''''.val OpenGathered.the-type Laws''.the-laws;
-    tells = Laws'''''''''.tells OpenGathered.the-type Laws''.the-laws; still = Laws'''''''''.still OpenGathered.the-type Laws''.the-copy Exit.yes; row
-    = Rows.whole (Declared'.row OpenGathered.the-type); rd = λ x. x; mk = λ x. x; } λ M 𝓤 H A W. record { copies = Laws'''''''''.copy
-    OpenGathered.the-type Laws''.the-copy 𝓤 H A W; lawful = Laws'''''''''.lawful OpenGathered.the-type Laws''.the-laws 𝓤 H A W; makes =
-    Laws'''''''''.makes OpenGathered.the-type Laws''.the-plain 𝓤 H A; in-mem = Local.mem-whole 𝓤 H A W (Declared'.row OpenGathered.the-type); of-mem =
-    Local.whole-mem 𝓤 H A W (Declared'.row OpenGathered.the-type); }) ∷ List.[]
+ps·1 = (StructRow.param OpenGathered.the-type Laws''.the-laws Laws''.the-copy Laws''.the-plain) ∷ List.[]
+
 abbrev pub r·1 : Kinds.RK 0
 r·1 = Bool.rBool
+
 abbrev pub ps·2 : List.List (Kinds.PK 3)
-ps·2 = (ShrSlice.pShrS RelayPending.row 0 tt) ∷ (ShrSlice.pShrS RelayCircuit.row 1 tt) ∷ (Value.pVal record { ty = Declared'.row Places.the-type; one
-    = Path.refl; val = Laws'''''''''.val Places.the-type Laws''''.the-laws; tells = Laws'''''''''.tells Places.the-type Laws''''.the-laws; still =
-    Laws'''''''''.still Places.the-type Laws''''.the-copy Exit.yes; row = Rows.whole (Declared'.row Places.the-type); rd = λ x. x; mk = λ x. x; } λ M
-    𝓤 H A W. record { copies = Laws'''''''''.copy Places.the-type Laws''''.the-copy 𝓤 H A W; lawful = Laws'''''''''.lawful Places.the-type
-    Laws''''.the-laws 𝓤 H A W; makes = Laws'''''''''.makes Places.the-type Laws''''.the-plain 𝓤 H A; in-mem = Local.mem-whole 𝓤 H A W (Declared'.row
-    Places.the-type); of-mem = Local.whole-mem 𝓤 H A W (Declared'.row Places.the-type); }) ∷ (ShrSlice.pShrS (Referent.rtF (Referent.fInt Syntax.w8))
-    2 tt) ∷ (Num.pNum Syntax.w64) ∷ Bool.pBool ∷ List.[]
+ps·2 = (ShrSlice.pShrS RelayPending.row 0 tt) ∷ (ShrSlice.pShrS RelayCircuit.row 1 tt) ∷ (StructRow.param
+    Places.the-type Laws''''.the-laws Laws''''.the-copy Laws''''.the-plain) ∷ (ShrSlice.pShrS
+    (Referent.rtF (Referent.fInt Syntax.w8)) 2 tt) ∷ (Num.pNum Syntax.w64) ∷ Bool.pBool ∷ List.[]
+
 abbrev pub r·2 : Kinds.RK 3
-r·2 = Value.rVal record { ty = Declared'.row Drawing.the-type; one = Path.refl; val = Laws'''''''''.val Drawing.the-type Laws'''''.the-laws; tells =
-    Laws'''''''''.tells Drawing.the-type Laws'''''.the-laws; still = Laws'''''''''.still Drawing.the-type Laws'''''.the-copy Exit.yes; row =
-    Rows.whole (Declared'.row Drawing.the-type); rd = λ x. x; mk = λ x. x; } λ M 𝓤 H A W. record { copies = Laws'''''''''.copy Drawing.the-type
-    Laws'''''.the-copy 𝓤 H A W; lawful = Laws'''''''''.lawful Drawing.the-type Laws'''''.the-laws 𝓤 H A W; makes = Laws'''''''''.makes
-    Drawing.the-type Laws'''''.the-plain 𝓤 H A; in-mem = Local.mem-whole 𝓤 H A W (Declared'.row Drawing.the-type); of-mem = Local.whole-mem 𝓤 H A W
-    (Declared'.row Drawing.the-type); }
+r·2 = StructRow.result Drawing.the-type Laws'''''.the-laws Laws'''''.the-copy Laws'''''.the-plain
+
 abbrev pub ps·3 : List.List (Kinds.PK 0)
-ps·3 = (Value.pVal record { ty = Declared'.row OpaqueRelayConfig.the-type; one = Path.refl; val = Laws'''''''''.val OpaqueRelayConfig.the-type
-    Laws'.the-laws; tells = Laws'''''''''.tells OpaqueRelayConfig.the-type Laws'.the-laws; still = Laws'''''''''.still OpaqueRelayConfig.the-type
-    Laws'.the-copy Exit.yes; row = Rows.whole (Declared'.row OpaqueRelayConfig.the-type); rd = λ x. x; mk = λ x. x; } λ M 𝓤 H A W. record { copies =
-    Laws'''''''''.copy OpaqueRelayConfig.the-type Laws'.the-copy 𝓤 H A W; lawful = Laws'''''''''.lawful OpaqueRelayConfig.the-type Laws'.the-laws 𝓤 H
-    A W; makes = Laws'''''''''.makes OpaqueRelayConfig.the-type Laws'.the-plain 𝓤 H A; in-mem = Local.mem-whole 𝓤 H A W (Declared'.row
-    OpaqueRelayConfig.the-type); of-mem = Local.whole-mem 𝓤 H A W (Declared'.row OpaqueRelayConfig.the-type); }) ∷ (Value.pVal record { ty =
-    Declared'.row OpenGathered.the-type; one = Path.refl; val = Laws'''''''''.val OpenGathered.the-type Laws''.the-laws; tells = Laws'''''''''.tells
-    OpenGathered.the-type Laws''.the-laws; still = Laws'''''''''.still OpenGathered.the-type Laws''.the-copy Exit.yes; row = Rows.whole (Declared'.row
-    OpenGathered.the-type); rd = λ x. x; mk = λ x. x; } λ M 𝓤 H A W. record { copies = Laws'''''''''.copy OpenGathered.the-type Laws''.the-copy 𝓤 H A
-    W; lawful = Laws'''''''''.lawful OpenGathered.the-type Laws''.the-laws 𝓤 H A W; makes = Laws'''''''''.makes OpenGathered.the-type Laws''.the-plain
-    𝓤 H A; in-mem = Local.mem-whole 𝓤 H A W (Declared'.row OpenGathered.the-type); of-mem = Local.whole-mem 𝓤 H A W (Declared'.row
-    OpenGathered.the-type); }) ∷ (Value.pVal record { ty = Declared'.row Drawing.the-type; one = Path.refl; val = Laws'''''''''.val Drawing.the-type
-    Laws'''''.the-laws; tells = Laws'''''''''.tells Drawing.the-type Laws'''''.the-laws; still = Laws'''''''''.still Drawing.the-type
-    Laws'''''.the-copy Exit.yes; row = Rows.whole (Declared'.row Drawing.the-type); rd = λ x. x; mk = λ x. x; } λ M 𝓤 H A W. record { copies =
-    Laws'''''''''.copy Drawing.the-type Laws'''''.the-copy 𝓤 H A W; lawful = Laws'''''''''.lawful Drawing.the-type Laws'''''.the-laws 𝓤 H A W; makes =
-    Laws'''''''''.makes Drawing.the-type Laws'''''.the-plain 𝓤 H A; in-mem = Local.mem-whole 𝓤 H A W (Declared'.row Drawing.the-type); of-mem =
-    Local.whole-mem 𝓤 H A W (Declared'.row Drawing.the-type); }) ∷ List.[]
+ps·3 = (StructRow.param OpaqueRelayConfig.the-type Laws'.the-laws Laws'.the-copy Laws'.the-plain) ∷ (StructRow.param
+    OpenGathered.the-type Laws''.the-laws Laws''.the-copy Laws''.the-plain) ∷ (StructRow.param Drawing.the-type
+    Laws'''''.the-laws Laws'''''.the-copy Laws'''''.the-plain) ∷ List.[]
+
 abbrev pub r·3 : Kinds.RK 0
-r·3 = Value.rVal record { ty = Declared'.row OpenPlan.the-type; one = Path.refl; val = Laws'''''''''.val OpenPlan.the-type Laws'''.the-laws; tells =
-    Laws'''''''''.tells OpenPlan.the-type Laws'''.the-laws; still = Laws'''''''''.still OpenPlan.the-type Laws'''.the-copy Exit.yes; row = Rows.whole
-    (Declared'.row OpenPlan.the-type); rd = λ x. x; mk = λ x. x; } λ M 𝓤 H A W. record { copies = Laws'''''''''.copy OpenPlan.the-type
-    Laws'''.the-copy 𝓤 H A W; lawful = Laws'''''''''.lawful OpenPlan.the-type Laws'''.the-laws 𝓤 H A W; makes = Laws'''''''''.makes OpenPlan.the-type
-    Laws'''.the-plain 𝓤 H A; in-mem = Local.mem-whole 𝓤 H A W (Declared'.row OpenPlan.the-type); of-mem = Local.whole-mem 𝓤 H A W (Declared'.row
-    OpenPlan.the-type); }
+r·3 = StructRow.result OpenPlan.the-type Laws'''.the-laws Laws'''.the-copy Laws'''.the-plain
+
 abbrev pub ps·4 : List.List (Kinds.PK 0)
-ps·4 = (Value.pVal record { ty = Declared'.row OpaqueRelayConfig.the-type; one = Path.refl; val = Laws'''''''''.val OpaqueRelayConfig.the-type
-    Laws'.the-laws; tells = Laws'''''''''.tells OpaqueRelayConfig.the-type Laws'.the-laws; still = Laws'''''''''.still OpaqueRelayConfig.the-type
-    Laws'.the-copy Exit.yes; row = Rows.whole (Declared'.row OpaqueRelayConfig.the-type); rd = λ x. x; mk = λ x. x; } λ M 𝓤 H A W. record { copies =
-    Laws'''''''''.copy OpaqueRelayConfig.the-type Laws'.the-copy 𝓤 H A W; lawful = Laws'''''''''.lawful OpaqueRelayConfig.the-type Laws'.the-laws 𝓤 H
-    A W; makes = Laws'''''''''.makes OpaqueRelayConfig.the-type Laws'.the-plain 𝓤 H A; in-mem = Local.mem-whole 𝓤 H A W (Declared'.row
-    OpaqueRelayConfig.the-type); of-mem = Local.whole-mem 𝓤 H A W (Declared'.row OpaqueRelayConfig.the-type); }) ∷ (Value.pVal record { ty =
-    Declared'.row OpenGathered.the-type; one = Path.refl; val = Laws'''''''''.val OpenGathered.the-type Laws''.the-laws; tells = Laws'''''''''.tells
-    OpenGathered.the-type Laws''.the-laws; still = Laws'''''''''.still OpenGathered.the-type Laws''.the-copy Exit.yes; row = Rows.whole (Declared'.row
-    OpenGathered.the-type); rd = λ x. x; mk = λ x. x; } λ M 𝓤 H A W. record { copies = Laws'''''''''.copy OpenGathered.the-type Laws''.the-copy 𝓤 H A
-    W; lawful = Laws'''''''''.lawful OpenGathered.the-type Laws''.the-laws 𝓤 H A W; makes = Laws'''''''''.makes OpenGathered.the-type Laws''.the-plain
-    𝓤 H A; in-mem = Local.mem-whole 𝓤 H A W (Declared'.row OpenGathered.the-type); of-mem = Local.whole-mem 𝓤 H A W (Declared'.row
-    OpenGathered.the-type); }) ∷ (Value.pVal record { ty = Declared'.row OpenPlan.the-type; one = Path.refl; val = Laws'''''''''.val OpenPlan.the-type
-    Laws'''.the-laws; tells = Laws'''''''''.tells OpenPlan.the-type Laws'''.the-laws; still = Laws'''''''''.still OpenPlan.the-type Laws'''.the-copy
-    Exit.yes; row = Rows.whole (Declared'.row OpenPlan.the-type); rd = λ x. x; mk = λ x. x; } λ M 𝓤 H A W. record { copies = Laws'''''''''.copy
-    OpenPlan.the-type Laws'''.the-copy 𝓤 H A W; lawful = Laws'''''''''.lawful OpenPlan.the-type Laws'''.the-laws 𝓤 H A W; makes = Laws'''''''''.makes
-    OpenPlan.the-type Laws'''.the-plain 𝓤 H A; in-mem = Local.mem-whole 𝓤 H A W (Declared'.row OpenPlan.the-type); of-mem = Local.whole-mem 𝓤 H A W
-    (Declared'.row OpenPlan.the-type); }) ∷ (Value.pVal record { ty = Declared'.row Drawing.the-type; one = Path.refl; val = Laws'''''''''.val
-    Drawing.the-type Laws'''''.the-laws; tells = Laws'''''''''.tells Drawing.the-type Laws'''''.the-laws; still = Laws'''''''''.still Drawing.the-type
-    Laws'''''.the-copy Exit.yes; row = Rows.whole (Declared'.row Drawing.the-type); rd = λ x. x; mk = λ x. x; } λ M 𝓤 H A W. record { copies =
-    Laws'''''''''.copy Drawing.the-type Laws'''''.the-copy 𝓤 H A W; lawful = Laws'''''''''.lawful Drawing.the-type Laws'''''.the-laws 𝓤 H A W; makes =
-    Laws'''''''''.makes Drawing.the-type Laws'''''.the-plain 𝓤 H A; in-mem = Local.mem-whole 𝓤 H A W (Declared'.row Drawing.the-type); of-mem =
-    Local.whole-mem 𝓤 H A W (Declared'.row Drawing.the-type); }) ∷ List.[]
+ps·4 = (StructRow.param OpaqueRelayConfig.the-type Laws'.the-laws Laws'.the-copy Laws'.the-plain) ∷ (StructRow.param
+    OpenGathered.the-type Laws''.the-laws Laws''.the-copy Laws''.the-plain) ∷ (StructRow.param OpenPlan.the-type
+    Laws'''.the-laws Laws'''.the-copy Laws'''.the-plain) ∷ (StructRow.param Drawing.the-type Laws'''''.the-laws
+    Laws'''''.the-copy Laws'''''.the-plain) ∷ List.[]
+
 abbrev pub r·4 : Kinds.RK 0
-r·4 = Value.rVal record { ty = Declared.row HnsrAnswer.the-type; one = Path.refl; val = Laws''''''''.val HnsrAnswer.the-type Laws.the-laws; tells =
-    Laws''''''''.tells HnsrAnswer.the-type Laws.the-laws; still = Laws''''''''.still HnsrAnswer.the-type Laws.the-copy Exit.yes; row = Rows.whole
-    (Declared.row HnsrAnswer.the-type); rd = λ x. x; mk = λ x. x; } λ M 𝓤 H A W. record { copies = Laws''''''''.copy HnsrAnswer.the-type Laws.the-copy
-    𝓤 H A W; lawful = Laws''''''''.lawful HnsrAnswer.the-type Laws.the-laws 𝓤 H A W tt; makes = Laws''''''''.makes HnsrAnswer.the-type Laws.the-plain
-    𝓤 H A; in-mem = Local.mem-whole 𝓤 H A W (Declared.row HnsrAnswer.the-type); of-mem = Local.whole-mem 𝓤 H A W (Declared.row HnsrAnswer.the-type); }
+r·4 = StructRow.enum-result HnsrAnswer.the-type Laws.the-laws Laws.the-copy Laws.the-plain tt
+
 abbrev pub ps·5 : List.List (Kinds.PK 0)
-ps·5 = (Value.pVal record { ty = Declared.row HnsrAnswer.the-type; one = Path.refl; val = Laws''''''''.val HnsrAnswer.the-type Laws.the-laws; tells =
-    Laws''''''''.tells HnsrAnswer.the-type Laws.the-laws; still = Laws''''''''.still HnsrAnswer.the-type Laws.the-copy Exit.yes; row = Rows.whole
-    (Declared.row HnsrAnswer.the-type); rd = λ x. x; mk = λ x. x; } λ M 𝓤 H A W. record { copies = Laws''''''''.copy HnsrAnswer.the-type Laws.the-copy
-    𝓤 H A W; lawful = Laws''''''''.lawful HnsrAnswer.the-type Laws.the-laws 𝓤 H A W tt; makes = Laws''''''''.makes HnsrAnswer.the-type Laws.the-plain
-    𝓤 H A; in-mem = Local.mem-whole 𝓤 H A W (Declared.row HnsrAnswer.the-type); of-mem = Local.whole-mem 𝓤 H A W (Declared.row HnsrAnswer.the-type);
-    }) ∷ List.[]
+ps·5 = (StructRow.enum-param HnsrAnswer.the-type Laws.the-laws Laws.the-copy Laws.the-plain tt) ∷ List.[]
+
 abbrev pub r·5 : Kinds.RK 0
 r·5 = Bool.rBool
+
 abbrev pub ps·6 : List.List (Kinds.PK 4)
-ps·6 = (MutSlice.pMutS RelayPending.row 0 tt) ∷ (MutSlice.pMutS ReservationUsage.row 1 tt) ∷ (MutSlice.pMutS InflightAction.row 2 tt) ∷
-    (MutSlice.pMutS (Referent.rtF (Referent.fInt Syntax.w32)) 3 tt) ∷ (Value.pVal record { ty = Declared'.row OpaqueRelayRuntime.the-type; one =
-    Path.refl; val = Laws'''''''''.val OpaqueRelayRuntime.the-type Laws''''''.the-laws; tells = Laws'''''''''.tells OpaqueRelayRuntime.the-type
-    Laws''''''.the-laws; still = Laws'''''''''.still OpaqueRelayRuntime.the-type Laws''''''.the-copy Exit.yes; row = Rows.whole (Declared'.row
-    OpaqueRelayRuntime.the-type); rd = λ x. x; mk = λ x. x; } λ M 𝓤 H A W. record { copies = Laws'''''''''.copy OpaqueRelayRuntime.the-type
-    Laws''''''.the-copy 𝓤 H A W; lawful = Laws'''''''''.lawful OpaqueRelayRuntime.the-type Laws''''''.the-laws 𝓤 H A W; makes = Laws'''''''''.makes
-    OpaqueRelayRuntime.the-type Laws''''''.the-plain 𝓤 H A; in-mem = Local.mem-whole 𝓤 H A W (Declared'.row OpaqueRelayRuntime.the-type); of-mem =
-    Local.whole-mem 𝓤 H A W (Declared'.row OpaqueRelayRuntime.the-type); }) ∷ (Value.pVal record { ty = Declared'.row Places.the-type; one =
-    Path.refl; val = Laws'''''''''.val Places.the-type Laws''''.the-laws; tells = Laws'''''''''.tells Places.the-type Laws''''.the-laws; still =
-    Laws'''''''''.still Places.the-type Laws''''.the-copy Exit.yes; row = Rows.whole (Declared'.row Places.the-type); rd = λ x. x; mk = λ x. x; } λ M
-    𝓤 H A W. record { copies = Laws'''''''''.copy Places.the-type Laws''''.the-copy 𝓤 H A W; lawful = Laws'''''''''.lawful Places.the-type
-    Laws''''.the-laws 𝓤 H A W; makes = Laws'''''''''.makes Places.the-type Laws''''.the-plain 𝓤 H A; in-mem = Local.mem-whole 𝓤 H A W (Declared'.row
-    Places.the-type); of-mem = Local.whole-mem 𝓤 H A W (Declared'.row Places.the-type); }) ∷ (Value.pVal record { ty = Declared'.row
-    OpenGathered.the-type; one = Path.refl; val = Laws'''''''''.val OpenGathered.the-type Laws''.the-laws; tells = Laws'''''''''.tells
-    OpenGathered.the-type Laws''.the-laws; still = Laws'''''''''.still OpenGathered.the-type Laws''.the-copy Exit.yes; row = Rows.whole (Declared'.row
-    OpenGathered.the-type); rd = λ x. x; mk = λ x. x; } λ M 𝓤 H A W. record { copies = Laws'''''''''.copy OpenGathered.the-type Laws''.the-copy 𝓤 H A
-    W; lawful = Laws'''''''''.lawful OpenGathered.the-type Laws''.the-laws 𝓤 H A W; makes = Laws'''''''''.makes OpenGathered.the-type Laws''.the-plain
-    𝓤 H A; in-mem = Local.mem-whole 𝓤 H A W (Declared'.row OpenGathered.the-type); of-mem = Local.whole-mem 𝓤 H A W (Declared'.row
-    OpenGathered.the-type); }) ∷ (Value.pVal record { ty = Declared'.row Drawing.the-type; one = Path.refl; val = Laws'''''''''.val Drawing.the-type
-    Laws'''''.the-laws; tells = Laws'''''''''.tells Drawing.the-type Laws'''''.the-laws; still = Laws'''''''''.still Drawing.the-type
-    Laws'''''.the-copy Exit.yes; row = Rows.whole (Declared'.row Drawing.the-type); rd = λ x. x; mk = λ x. x; } λ M 𝓤 H A W. record { copies =
-    Laws'''''''''.copy Drawing.the-type Laws'''''.the-copy 𝓤 H A W; lawful = Laws'''''''''.lawful Drawing.the-type Laws'''''.the-laws 𝓤 H A W; makes =
-    Laws'''''''''.makes Drawing.the-type Laws'''''.the-plain 𝓤 H A; in-mem = Local.mem-whole 𝓤 H A W (Declared'.row Drawing.the-type); of-mem =
-    Local.whole-mem 𝓤 H A W (Declared'.row Drawing.the-type); }) ∷ (Value.pVal record { ty = Declared'.row OpenPlan.the-type; one = Path.refl; val =
-    Laws'''''''''.val OpenPlan.the-type Laws'''.the-laws; tells = Laws'''''''''.tells OpenPlan.the-type Laws'''.the-laws; still = Laws'''''''''.still
-    OpenPlan.the-type Laws'''.the-copy Exit.yes; row = Rows.whole (Declared'.row OpenPlan.the-type); rd = λ x. x; mk = λ x. x; } λ M 𝓤 H A W. record {
-    copies = Laws'''''''''.copy OpenPlan.the-type Laws'''.the-copy 𝓤 H A W; lawful = Laws'''''''''.lawful OpenPlan.the-type Laws'''.the-laws 𝓤 H A W;
-    makes = Laws'''''''''.makes OpenPlan.the-type Laws'''.the-plain 𝓤 H A; in-mem = Local.mem-whole 𝓤 H A W (Declared'.row OpenPlan.the-type); of-mem
-    = Local.whole-mem 𝓤 H A W (Declared'.row OpenPlan.the-type); }) ∷ List.[]
+ps·6 = (MutSlice.pMutS RelayPending.row 0 tt) ∷ (MutSlice.pMutS ReservationUsage.row 1 tt) ∷
+    (MutSlice.pMutS InflightAction.row 2 tt) ∷ (MutSlice.pMutS (Referent.rtF (Referent.fInt Syntax.w32)) 3 tt) ∷ (StructRow.param
+    OpaqueRelayRuntime.the-type Laws''''''.the-laws Laws''''''.the-copy Laws''''''.the-plain) ∷ (StructRow.param
+    Places.the-type Laws''''.the-laws Laws''''.the-copy Laws''''.the-plain) ∷ (StructRow.param OpenGathered.the-type
+    Laws''.the-laws Laws''.the-copy Laws''.the-plain) ∷ (StructRow.param Drawing.the-type Laws'''''.the-laws
+    Laws'''''.the-copy Laws'''''.the-plain) ∷ (StructRow.param OpenPlan.the-type Laws'''.the-laws Laws'''.the-copy
+    Laws'''.the-plain) ∷ List.[]
+
 abbrev pub r·6 : Kinds.RK 4
-r·6 = Value.rVal record { ty = Declared'.row Relayed.the-type; one = Path.refl; val = Laws'''''''''.val Relayed.the-type Laws'''''''.the-laws; tells =
-    Laws'''''''''.tells Relayed.the-type Laws'''''''.the-laws; still = Laws'''''''''.still Relayed.the-type Laws'''''''.the-copy Exit.yes; row =
-    Rows.whole (Declared'.row Relayed.the-type); rd = λ x. x; mk = λ x. x; } λ M 𝓤 H A W. record { copies = Laws'''''''''.copy Relayed.the-type
-    Laws'''''''.the-copy 𝓤 H A W; lawful = Laws'''''''''.lawful Relayed.the-type Laws'''''''.the-laws 𝓤 H A W; makes = Laws'''''''''.makes
-    Relayed.the-type Laws'''''''.the-plain 𝓤 H A; in-mem = Local.mem-whole 𝓤 H A W (Declared'.row Relayed.the-type); of-mem = Local.whole-mem 𝓤 H A W
-    (Declared'.row Relayed.the-type); }
+r·6 = StructRow.result Relayed.the-type Laws'''''''.the-laws Laws'''''''.the-copy Laws'''''''.the-plain
+
 abbrev pub ps·7 : List.List (Kinds.PK 0)
-ps·7 = (Value.pVal record { ty = Declared'.row OpaqueRelayRuntime.the-type; one = Path.refl; val = Laws'''''''''.val OpaqueRelayRuntime.the-type
-    Laws''''''.the-laws; tells = Laws'''''''''.tells OpaqueRelayRuntime.the-type Laws''''''.the-laws; still = Laws'''''''''.still
-    OpaqueRelayRuntime.the-type Laws''''''.the-copy Exit.yes; row = Rows.whole (Declared'.row OpaqueRelayRuntime.the-type); rd = λ x. x; mk = λ x. x;
-    } λ M 𝓤 H A W. record { copies = Laws'''''''''.copy OpaqueRelayRuntime.the-type Laws''''''.the-copy 𝓤 H A W; lawful = Laws'''''''''.lawful
-    OpaqueRelayRuntime.the-type Laws''''''.the-laws 𝓤 H A W; makes = Laws'''''''''.makes OpaqueRelayRuntime.the-type Laws''''''.the-plain 𝓤 H A;
-    in-mem = Local.mem-whole 𝓤 H A W (Declared'.row OpaqueRelayRuntime.the-type); of-mem = Local.whole-mem 𝓤 H A W (Declared'.row
-    OpaqueRelayRuntime.the-type); }) ∷ (Value.pVal record { ty = Declared'.row Places.the-type; one = Path.refl; val = Laws'''''''''.val
-    Places.the-type Laws''''.the-laws; tells = Laws'''''''''.tells Places.the-type Laws''''.the-laws; still = Laws'''''''''.still Places.the-type
-    Laws''''.the-copy Exit.yes; row = Rows.whole (Declared'.row Places.the-type); rd = λ x. x; mk = λ x. x; } λ M 𝓤 H A W. record { copies =
-    Laws'''''''''.copy Places.the-type Laws''''.the-copy 𝓤 H A W; lawful = Laws'''''''''.lawful Places.the-type Laws''''.the-laws 𝓤 H A W; makes =
-    Laws'''''''''.makes Places.the-type Laws''''.the-plain 𝓤 H A; in-mem = Local.mem-whole 𝓤 H A W (Declared'.row Places.the-type); of-mem =
-    Local.whole-mem 𝓤 H A W (Declared'.row Places.the-type); }) ∷ (Value.pVal record { ty = Declared.row HnsrAnswer.the-type; one = Path.refl; val =
-    Laws''''''''.val HnsrAnswer.the-type Laws.the-laws; tells = Laws''''''''.tells HnsrAnswer.the-type Laws.the-laws; still = Laws''''''''.still
-    HnsrAnswer.the-type Laws.the-copy Exit.yes; row = Rows.whole (Declared.row HnsrAnswer.the-type); rd = λ x. x; mk = λ x. x; } λ M 𝓤 H A W. record {
-    copies = Laws''''''''.copy HnsrAnswer.the-type Laws.the-copy 𝓤 H A W; lawful = Laws''''''''.lawful HnsrAnswer.the-type Laws.the-laws 𝓤 H A W tt;
-    makes = Laws''''''''.makes HnsrAnswer.the-type Laws.the-plain 𝓤 H A; in-mem = Local.mem-whole 𝓤 H A W (Declared.row HnsrAnswer.the-type); of-mem =
-    Local.whole-mem 𝓤 H A W (Declared.row HnsrAnswer.the-type); }) ∷ List.[]
+ps·7 = (StructRow.param OpaqueRelayRuntime.the-type Laws''''''.the-laws Laws''''''.the-copy Laws''''''.the-plain) ∷ (StructRow.param
+    Places.the-type Laws''''.the-laws Laws''''.the-copy Laws''''.the-plain) ∷ (StructRow.enum-param HnsrAnswer.the-type
+    Laws.the-laws Laws.the-copy Laws.the-plain tt) ∷ List.[]
+
 abbrev pub r·7 : Kinds.RK 0
-r·7 = Value.rVal record { ty = Declared'.row Relayed.the-type; one = Path.refl; val = Laws'''''''''.val Relayed.the-type Laws'''''''.the-laws; tells =
-    Laws'''''''''.tells Relayed.the-type Laws'''''''.the-laws; still = Laws'''''''''.still Relayed.the-type Laws'''''''.the-copy Exit.yes; row =
-    Rows.whole (Declared'.row Relayed.the-type); rd = λ x. x; mk = λ x. x; } λ M 𝓤 H A W. record { copies = Laws'''''''''.copy Relayed.the-type
-    Laws'''''''.the-copy 𝓤 H A W; lawful = Laws'''''''''.lawful Relayed.the-type Laws'''''''.the-laws 𝓤 H A W; makes = Laws'''''''''.makes
-    Relayed.the-type Laws'''''''.the-plain 𝓤 H A; in-mem = Local.mem-whole 𝓤 H A W (Declared'.row Relayed.the-type); of-mem = Local.whole-mem 𝓤 H A W
-    (Declared'.row Relayed.the-type); }
+r·7 = StructRow.result Relayed.the-type Laws'''''''.the-laws Laws'''''''.the-copy Laws'''''''.the-plain
+
 abbrev pub hs : List.List Syntax.Home
-hs = Syntax.valueLocal ∷ Syntax.valueLocal ∷ Syntax.valueLocal ∷ Syntax.valueLocal ∷ Syntax.valueLocal ∷ Syntax.valueLocal ∷ Syntax.valueLocal ∷
-    Syntax.valueLocal ∷ Syntax.valueLocal ∷ Syntax.valueLocal ∷ Syntax.valueLocal ∷ Syntax.valueLocal ∷ Syntax.valueLocal ∷ Syntax.valueLocal ∷
-    Syntax.valueLocal ∷ Syntax.valueLocal ∷ Syntax.valueLocal ∷ Syntax.valueLocal ∷ Syntax.valueLocal ∷ Syntax.valueLocal ∷ Syntax.valueLocal ∷
-    Syntax.valueLocal ∷ Syntax.valueLocal ∷ Syntax.valueLocal ∷ Syntax.valueLocal ∷ Syntax.valueLocal ∷ Syntax.valueLocal ∷ List.[]
+hs = Syntax.valueLocal ∷ Syntax.valueLocal ∷ Syntax.valueLocal ∷ Syntax.valueLocal ∷ Syntax.valueLocal ∷
+    Syntax.valueLocal ∷ Syntax.valueLocal ∷ Syntax.valueLocal ∷ Syntax.valueLocal ∷ Syntax.valueLocal ∷
+    Syntax.valueLocal ∷ Syntax.valueLocal ∷ Syntax.valueLocal ∷ Syntax.valueLocal ∷ Syntax.valueLocal ∷
+    Syntax.valueLocal ∷ Syntax.valueLocal ∷ Syntax.valueLocal ∷ Syntax.valueLocal ∷ Syntax.valueLocal ∷
+    Syntax.valueLocal ∷ Syntax.valueLocal ∷ Syntax.valueLocal ∷ Syntax.valueLocal ∷ Syntax.valueLocal ∷
+    Syntax.valueLocal ∷ Syntax.valueLocal ∷ List.[]
+
 abbrev b0 : Syntax.Body
 b0 = Syntax.assign (Syntax.place 10 List.[]) (Syntax.rvOpd (Syntax.copy (Syntax.place 6 ((Syntax.field 4) ∷ List.[]))))
+
 abbrev b1 : Syntax.Body
-b1 = Syntax.call "hnsr_circuit::draw::first_draw" ((Syntax.copy (Syntax.place 9 List.[])) ∷ List.[]) (Syntax.place 11 List.[])
+b1 = Syntax.call "hnsr_circuit::draw::first_draw" ((Syntax.copy (Syntax.place 9 List.[])) ∷ List.[])
+    (Syntax.place 11 List.[])
+
 abbrev b2 : Syntax.Body
-b2 = Syntax.call "hnsr_circuit::open::known_taken" ((Syntax.copy (Syntax.place 8 List.[])) ∷ List.[]) (Syntax.place 12 List.[])
+b2 = Syntax.call "hnsr_circuit::open::known_taken" ((Syntax.copy (Syntax.place 8 List.[])) ∷ List.[])
+    (Syntax.place 12 List.[])
+
 abbrev b3 : Syntax.Body
-b3 = Syntax.assign (Syntax.place 16 List.[]) (Syntax.addrOf (Syntax.place 1 ((Syntax.field 0) ∷ (Syntax.deref RelayPending.ty) ∷ List.[])))
+b3 = Syntax.assign (Syntax.place 16 List.[]) (Syntax.addrOf (Syntax.place 1 ((Syntax.field 0) ∷
+    (Syntax.deref RelayPending.ty) ∷ List.[])))
+
 abbrev b4 : Syntax.Body
-b4 = Syntax.assign (Syntax.place 17 List.[]) (Syntax.aggregate ((Syntax.copy (Syntax.place 16 List.[])) ∷ (Syntax.copy (Syntax.place 1 ((Syntax.field
-    1) ∷ List.[]))) ∷ List.[]))
+b4 = Syntax.assign (Syntax.place 17 List.[]) (Syntax.aggregate ((Syntax.copy (Syntax.place 16 List.[])) ∷
+    (Syntax.copy (Syntax.place 1 ((Syntax.field 1) ∷ List.[]))) ∷ List.[]))
+
 abbrev b5 : Syntax.Body
-b5 = Syntax.call "hnsr_circuit::handle_open::draw" ((Syntax.copy (Syntax.place 17 List.[])) ∷ (Syntax.copy (Syntax.place 2 List.[])) ∷ (Syntax.copy
-    (Syntax.place 7 List.[])) ∷ (Syntax.copy (Syntax.place 9 List.[])) ∷ (Syntax.copy (Syntax.place 11 List.[])) ∷ (Syntax.copy (Syntax.place 12
-    List.[])) ∷ List.[]) (Syntax.place 13 List.[])
+b5 = Syntax.call "hnsr_circuit::handle_open::draw" ((Syntax.copy (Syntax.place 17 List.[])) ∷
+    (Syntax.copy (Syntax.place 2 List.[])) ∷ (Syntax.copy (Syntax.place 7 List.[])) ∷
+    (Syntax.copy (Syntax.place 9 List.[])) ∷ (Syntax.copy (Syntax.place 11 List.[])) ∷
+    (Syntax.copy (Syntax.place 12 List.[])) ∷ List.[]) (Syntax.place 13 List.[])
+
 abbrev b6 : Syntax.Body
-b6 = Syntax.call "hnsr_circuit::open::open_plan" ((Syntax.copy (Syntax.place 10 List.[])) ∷ (Syntax.copy (Syntax.place 8 List.[])) ∷ (Syntax.copy
-    (Syntax.place 13 List.[])) ∷ List.[]) (Syntax.place 14 List.[])
+b6 = Syntax.call "hnsr_circuit::open::open_plan" ((Syntax.copy (Syntax.place 10 List.[])) ∷
+    (Syntax.copy (Syntax.place 8 List.[])) ∷ (Syntax.copy (Syntax.place 13 List.[])) ∷ List.[])
+    (Syntax.place 14 List.[])
+
 abbrev b7 : Syntax.Body
-b7 = Syntax.call "hnsr_circuit::open::placed_entry" ((Syntax.copy (Syntax.place 10 List.[])) ∷ (Syntax.copy (Syntax.place 8 List.[])) ∷ (Syntax.copy
-    (Syntax.place 14 List.[])) ∷ (Syntax.copy (Syntax.place 13 List.[])) ∷ List.[]) (Syntax.place 15 List.[])
+b7 = Syntax.call "hnsr_circuit::open::placed_entry" ((Syntax.copy (Syntax.place 10 List.[])) ∷
+    (Syntax.copy (Syntax.place 8 List.[])) ∷ (Syntax.copy (Syntax.place 14 List.[])) ∷
+    (Syntax.copy (Syntax.place 13 List.[])) ∷ List.[]) (Syntax.place 15 List.[])
+
 abbrev b8 : Syntax.Body
-b8 = Syntax.call "hnsr_circuit::answer::is_taken" ((Syntax.copy (Syntax.place 15 List.[])) ∷ List.[]) (Syntax.place 18 List.[])
+b8 = Syntax.call "hnsr_circuit::answer::is_taken" ((Syntax.copy (Syntax.place 15 List.[])) ∷ List.[])
+    (Syntax.place 18 List.[])
+
 abbrev b9 : Syntax.Body
-b9 = Syntax.assign (Syntax.place 19 List.[]) (Syntax.addrOf (Syntax.place 1 ((Syntax.field 0) ∷ (Syntax.deref RelayPending.ty) ∷ List.[])))
+b9 = Syntax.assign (Syntax.place 19 List.[]) (Syntax.addrOf (Syntax.place 1 ((Syntax.field 0) ∷
+    (Syntax.deref RelayPending.ty) ∷ List.[])))
+
 abbrev b10 : Syntax.Body
-b10 = Syntax.assign (Syntax.place 20 List.[]) (Syntax.aggregate ((Syntax.copy (Syntax.place 19 List.[])) ∷ (Syntax.copy (Syntax.place 1 ((Syntax.field
-    1) ∷ List.[]))) ∷ List.[]))
+b10 = Syntax.assign (Syntax.place 20 List.[]) (Syntax.aggregate ((Syntax.copy (Syntax.place 19 List.[])) ∷
+    (Syntax.copy (Syntax.place 1 ((Syntax.field 1) ∷ List.[]))) ∷ List.[]))
+
 abbrev b11 : Syntax.Body
-b11 = Syntax.assign (Syntax.place 21 List.[]) (Syntax.addrOf (Syntax.place 3 ((Syntax.field 0) ∷ (Syntax.deref ReservationUsage.ty) ∷ List.[])))
+b11 = Syntax.assign (Syntax.place 21 List.[]) (Syntax.addrOf (Syntax.place 3 ((Syntax.field 0) ∷
+    (Syntax.deref ReservationUsage.ty) ∷ List.[])))
+
 abbrev b12 : Syntax.Body
-b12 = Syntax.assign (Syntax.place 22 List.[]) (Syntax.aggregate ((Syntax.copy (Syntax.place 21 List.[])) ∷ (Syntax.copy (Syntax.place 3 ((Syntax.field
-    1) ∷ List.[]))) ∷ List.[]))
+b12 = Syntax.assign (Syntax.place 22 List.[]) (Syntax.aggregate ((Syntax.copy (Syntax.place 21 List.[])) ∷
+    (Syntax.copy (Syntax.place 3 ((Syntax.field 1) ∷ List.[]))) ∷ List.[]))
+
 abbrev b13 : Syntax.Body
-b13 = Syntax.assign (Syntax.place 23 List.[]) (Syntax.addrOf (Syntax.place 4 ((Syntax.field 0) ∷ (Syntax.deref InflightAction.ty) ∷ List.[])))
+b13 = Syntax.assign (Syntax.place 23 List.[]) (Syntax.addrOf (Syntax.place 4 ((Syntax.field 0) ∷
+    (Syntax.deref InflightAction.ty) ∷ List.[])))
+
 abbrev b14 : Syntax.Body
-b14 = Syntax.assign (Syntax.place 24 List.[]) (Syntax.aggregate ((Syntax.copy (Syntax.place 23 List.[])) ∷ (Syntax.copy (Syntax.place 4 ((Syntax.field
-    1) ∷ List.[]))) ∷ List.[]))
+b14 = Syntax.assign (Syntax.place 24 List.[]) (Syntax.aggregate ((Syntax.copy (Syntax.place 23 List.[])) ∷
+    (Syntax.copy (Syntax.place 4 ((Syntax.field 1) ∷ List.[]))) ∷ List.[]))
+
 abbrev b15 : Syntax.Body
-b15 = Syntax.assign (Syntax.place 25 List.[]) (Syntax.addrOf (Syntax.place 5 ((Syntax.field 0) ∷ (Syntax.deref (Syntax.tyInt Syntax.w32)) ∷ List.[])))
+b15 = Syntax.assign (Syntax.place 25 List.[]) (Syntax.addrOf (Syntax.place 5 ((Syntax.field 0) ∷
+    (Syntax.deref (Syntax.tyInt Syntax.w32)) ∷ List.[])))
+
 abbrev b16 : Syntax.Body
-b16 = Syntax.assign (Syntax.place 26 List.[]) (Syntax.aggregate ((Syntax.copy (Syntax.place 25 List.[])) ∷ (Syntax.copy (Syntax.place 5 ((Syntax.field
-    1) ∷ List.[]))) ∷ List.[]))
+b16 = Syntax.assign (Syntax.place 26 List.[]) (Syntax.aggregate ((Syntax.copy (Syntax.place 25 List.[])) ∷
+    (Syntax.copy (Syntax.place 5 ((Syntax.field 1) ∷ List.[]))) ∷ List.[]))
+
 abbrev b17 : Syntax.Body
-b17 = Syntax.call "hnsr_circuit::handle_open::open_placed" ((Syntax.copy (Syntax.place 20 List.[])) ∷ (Syntax.copy (Syntax.place 22 List.[])) ∷
-    (Syntax.copy (Syntax.place 24 List.[])) ∷ (Syntax.copy (Syntax.place 26 List.[])) ∷ (Syntax.copy (Syntax.place 6 List.[])) ∷ (Syntax.copy
-    (Syntax.place 7 List.[])) ∷ (Syntax.copy (Syntax.place 8 List.[])) ∷ (Syntax.copy (Syntax.place 13 List.[])) ∷ (Syntax.copy (Syntax.place 14
-    List.[])) ∷ List.[]) (Syntax.place 0 List.[])
+b17 = Syntax.call "hnsr_circuit::handle_open::open_placed" ((Syntax.copy (Syntax.place 20 List.[])) ∷
+    (Syntax.copy (Syntax.place 22 List.[])) ∷ (Syntax.copy (Syntax.place 24 List.[])) ∷
+    (Syntax.copy (Syntax.place 26 List.[])) ∷ (Syntax.copy (Syntax.place 6 List.[])) ∷
+    (Syntax.copy (Syntax.place 7 List.[])) ∷ (Syntax.copy (Syntax.place 8 List.[])) ∷
+    (Syntax.copy (Syntax.place 13 List.[])) ∷ (Syntax.copy (Syntax.place 14 List.[])) ∷ List.[])
+    (Syntax.place 0 List.[])
+
 abbrev b18 : Syntax.Body
 b18 = Syntax.return
+
 abbrev b19 : Syntax.Body
 b19 = Syntax.seq b17 b18
+
 abbrev b20 : Syntax.Body
 b20 = Syntax.seq b16 b19
+
 abbrev b21 : Syntax.Body
 b21 = Syntax.seq b15 b20
+
 abbrev b22 : Syntax.Body
 b22 = Syntax.seq b14 b21
+
 abbrev b23 : Syntax.Body
 b23 = Syntax.seq b13 b22
+
 abbrev b24 : Syntax.Body
 b24 = Syntax.seq b12 b23
+
 abbrev b25 : Syntax.Body
 b25 = Syntax.seq b11 b24
+
 abbrev b26 : Syntax.Body
 b26 = Syntax.seq b10 b25
+
 abbrev b27 : Syntax.Body
 b27 = Syntax.seq b9 b26
+
 abbrev b28 : Syntax.Body
 b28 = Syntax.skip
+
 abbrev b29 : Syntax.Body
 b29 = Syntax.cond (Syntax.copy (Syntax.place 18 List.[])) b27 b28
+
 abbrev b30 : Syntax.Body
-b30 = Syntax.call "hnsr_circuit::revoking_calls::refused" ((Syntax.copy (Syntax.place 6 List.[])) ∷ (Syntax.copy (Syntax.place 7 List.[])) ∷
-    (Syntax.copy (Syntax.place 15 List.[])) ∷ List.[]) (Syntax.place 0 List.[])
+b30 = Syntax.call "hnsr_circuit::revoking_calls::refused" ((Syntax.copy (Syntax.place 6 List.[])) ∷
+    (Syntax.copy (Syntax.place 7 List.[])) ∷ (Syntax.copy (Syntax.place 15 List.[])) ∷ List.[])
+    (Syntax.place 0 List.[])
+
 abbrev b31 : Syntax.Body
 b31 = Syntax.return
+
 abbrev b32 : Syntax.Body
 b32 = Syntax.seq b30 b31
+
 abbrev b33 : Syntax.Body
 b33 = Syntax.seq b29 b32
+
 abbrev b34 : Syntax.Body
 b34 = Syntax.seq b8 b33
+
 abbrev b35 : Syntax.Body
 b35 = Syntax.seq b7 b34
+
 abbrev b36 : Syntax.Body
 b36 = Syntax.seq b6 b35
+
 abbrev b37 : Syntax.Body
 b37 = Syntax.seq b5 b36
+
 abbrev b38 : Syntax.Body
 b38 = Syntax.seq b4 b37
+
 abbrev b39 : Syntax.Body
 b39 = Syntax.seq b3 b38
+
 abbrev b40 : Syntax.Body
 b40 = Syntax.seq b2 b39
+
 abbrev b41 : Syntax.Body
 b41 = Syntax.seq b1 b40
+
 abbrev b42 : Syntax.Body
 b42 = Syntax.seq b0 b41
+
 abbrev pub body : Syntax.Body
 body = b42
+
 abbrev pub Claims : Type 1
-Claims = Kinds.In 1 ps·0 × Kinds.Out 1 ps·0 r·0 × Kinds.In 0 ps·1 × Kinds.Out 0 ps·1 r·1 × Kinds.In 3 ps·2 × Kinds.Out 3 ps·2 r·2 × Kinds.In 0 ps·3 ×
-    Kinds.Out 0 ps·3 r·3 × Kinds.In 0 ps·4 × Kinds.Out 0 ps·4 r·4 × Kinds.In 0 ps·5 × Kinds.Out 0 ps·5 r·5 × Kinds.In 4 ps·6 × Kinds.Out 4 ps·6 r·6 ×
-    Kinds.In 0 ps·7 × Kinds.Out 0 ps·7 r·7
+Claims = Kinds.In 1 ps·0 × Kinds.Out 1 ps·0 r·0 × Kinds.In 0 ps·1 × Kinds.Out 0 ps·1 r·1 × Kinds.In 3 ps·2 × Kinds.Out
+    3 ps·2 r·2 × Kinds.In 0 ps·3 × Kinds.Out 0 ps·3 r·3 × Kinds.In 0 ps·4 × Kinds.Out 0 ps·4 r·4 × Kinds.In 0 ps·5 ×
+    Kinds.Out 0 ps·5 r·5 × Kinds.In 4 ps·6 × Kinds.Out 4 ps·6 r·6 × Kinds.In 0 ps·7 × Kinds.Out 0 ps·7 r·7
+
 abbrev e0 : Row.Entry
 e0 = (0, Rows.any-gone Laws'''''''.mir)
+
 abbrev e1 : Row.Entry
 e1 = (1, Mut.mslice RelayPending.row ref5 0)
+
 abbrev e2 : Row.Entry
 e2 = (2, Rows.sslice RelayCircuit.row ref6 1)
+
 abbrev e3 : Row.Entry
 e3 = (3, Mut.mslice ReservationUsage.row ref7 2)
+
 abbrev e4 : Row.Entry
 e4 = (4, Mut.mslice InflightAction.row ref8 3)
+
 abbrev e5 : Row.Entry
 e5 = (5, Mut.mslice (Referent.rtF (Referent.fInt Syntax.w32)) ref9 4)
+
 abbrev e6 : Row.Entry
 e6 = (6, Rows.whole (Declared'.row OpaqueRelayRuntime.the-type))
+
 abbrev e7 : Row.Entry
 e7 = (7, Rows.whole (Declared'.row Places.the-type))
+
 abbrev e8 : Row.Entry
 e8 = (8, Rows.whole (Declared'.row OpenGathered.the-type))
+
 abbrev e9 : Row.Entry
 e9 = (9, Rows.sslice (Referent.rtF (Referent.fInt Syntax.w8)) ref10 5)
+
 abbrev e10 : Row.Entry
 e10 = (10, Rows.any-gone Laws'.mir)
+
 abbrev e11 : Row.Entry
 e11 = (11, Rows.any-gone (Syntax.tyInt Syntax.w64))
+
 abbrev e12 : Row.Entry
 e12 = (12, Rows.any-gone Syntax.tyBool)
+
 abbrev e13 : Row.Entry
 e13 = (13, Rows.any-gone Laws'''''.mir)
+
 abbrev e14 : Row.Entry
 e14 = (14, Rows.any-gone Laws'''.mir)
+
 abbrev e15 : Row.Entry
 e15 = (15, Rows.any-gone Laws.mir)
+
 abbrev e16 : Row.Entry
 e16 = (16, Rows.any-gone ref0)
+
 abbrev e17 : Row.Entry
-e17 = (17, Rows.any-gone (Syntax.tyStruct (38 ∷ 91 ∷ 93 ∷ List.[]) (Syntax.tcons ref0 (Syntax.tcons (Syntax.tyInt Syntax.w64) Syntax.tnil))))
+e17 = (17, Rows.any-gone slice0)
+
 abbrev e18 : Row.Entry
 e18 = (18, Rows.any-gone Syntax.tyBool)
+
 abbrev e19 : Row.Entry
 e19 = (19, Rows.any-gone ref1)
+
 abbrev e20 : Row.Entry
-e20 = (20, Rows.any-gone (Syntax.tyStruct (38 ∷ 91 ∷ 93 ∷ List.[]) (Syntax.tcons ref1 (Syntax.tcons (Syntax.tyInt Syntax.w64) Syntax.tnil))))
+e20 = (20, Rows.any-gone slice1)
+
 abbrev e21 : Row.Entry
 e21 = (21, Rows.any-gone ref2)
+
 abbrev e22 : Row.Entry
-e22 = (22, Rows.any-gone (Syntax.tyStruct (38 ∷ 91 ∷ 93 ∷ List.[]) (Syntax.tcons ref2 (Syntax.tcons (Syntax.tyInt Syntax.w64) Syntax.tnil))))
+e22 = (22, Rows.any-gone slice2)
+
 abbrev e23 : Row.Entry
 e23 = (23, Rows.any-gone ref3)
+
 abbrev e24 : Row.Entry
-e24 = (24, Rows.any-gone (Syntax.tyStruct (38 ∷ 91 ∷ 93 ∷ List.[]) (Syntax.tcons ref3 (Syntax.tcons (Syntax.tyInt Syntax.w64) Syntax.tnil))))
+e24 = (24, Rows.any-gone slice3)
+
 abbrev e25 : Row.Entry
 e25 = (25, Rows.any-gone ref4)
+
 abbrev e26 : Row.Entry
-e26 = (26, Rows.any-gone (Syntax.tyStruct (38 ∷ 91 ∷ 93 ∷ List.[]) (Syntax.tcons ref4 (Syntax.tcons (Syntax.tyInt Syntax.w64) Syntax.tnil))))
+e26 = (26, Rows.any-gone slice4)
+
 abbrev e0·1 : Row.Entry
 e0·1 = (0, Rows.whole (Declared'.row Relayed.the-type))
+
 abbrev e6·1 : Row.Entry
 e6·1 = (6, Rows.any-gone Laws''''''.mir)
+
 abbrev e7·1 : Row.Entry
 e7·1 = (7, Rows.any-gone Laws''''.mir)
+
 abbrev e8·1 : Row.Entry
 e8·1 = (8, Rows.any-gone Laws''.mir)
+
 abbrev e10·1 : Row.Entry
 e10·1 = (10, Rows.whole (Declared'.row OpaqueRelayConfig.the-type))
+
 abbrev e11·1 : Row.Entry
 e11·1 = (11, Rows.sc-here (Row.sInt Syntax.w64))
+
 abbrev e12·1 : Row.Entry
 e12·1 = (12, Rows.sc-here Row.sBool)
+
 abbrev e1·1 : Row.Entry
 e1·1 = (1, Reshare.mslice-owedS RelayPending.row ref5 0 6 Row.off)
+
 abbrev e16·1 : Row.Entry
 e16·1 = (16, Relend.ssptr RelayPending.row ref0 6)
+
 abbrev e17·1 : Row.Entry
 e17·1 = (17, Rows.sslice RelayPending.row ref0 6)
+
 abbrev e13·1 : Row.Entry
 e13·1 = (13, Rows.whole (Declared'.row Drawing.the-type))
+
 abbrev e14·1 : Row.Entry
 e14·1 = (14, Rows.whole (Declared'.row OpenPlan.the-type))
+
 abbrev e15·1 : Row.Entry
 e15·1 = (15, Rows.whole (Declared.row HnsrAnswer.the-type))
+
 abbrev e18·1 : Row.Entry
 e18·1 = (18, Rows.sc-here Row.sBool)
+
 abbrev e1·2 : Row.Entry
 e1·2 = (1, Relend.mslice-owed RelayPending.row ref5 0 7 Row.off)
+
 abbrev e19·1 : Row.Entry
 e19·1 = (19, Relend.msptr RelayPending.row ref1 7)
+
 abbrev e20·1 : Row.Entry
 e20·1 = (20, Mut.mslice RelayPending.row ref1 7)
+
 abbrev e3·1 : Row.Entry
 e3·1 = (3, Relend.mslice-owed ReservationUsage.row ref7 2 8 Row.off)
+
 abbrev e21·1 : Row.Entry
 e21·1 = (21, Relend.msptr ReservationUsage.row ref2 8)
+
 abbrev e22·1 : Row.Entry
 e22·1 = (22, Mut.mslice ReservationUsage.row ref2 8)
+
 abbrev e4·1 : Row.Entry
 e4·1 = (4, Relend.mslice-owed InflightAction.row ref8 3 9 Row.off)
+
 abbrev e23·1 : Row.Entry
 e23·1 = (23, Relend.msptr InflightAction.row ref3 9)
+
 abbrev e24·1 : Row.Entry
 e24·1 = (24, Mut.mslice InflightAction.row ref3 9)
+
 abbrev e5·1 : Row.Entry
 e5·1 = (5, Relend.mslice-owed (Referent.rtF (Referent.fInt Syntax.w32)) ref9 4 10 Row.off)
+
 abbrev e25·1 : Row.Entry
 e25·1 = (25, Relend.msptr (Referent.rtF (Referent.fInt Syntax.w32)) ref4 10)
+
 abbrev e26·1 : Row.Entry
 e26·1 = (26, Mut.mslice (Referent.rtF (Referent.fInt Syntax.w32)) ref4 10)
+
 abbrev e20·2 : Row.Entry
 e20·2 = (20, Mut.msleft RelayPending.row ref1)
+
 abbrev e22·2 : Row.Entry
 e22·2 = (22, Mut.msleft ReservationUsage.row ref2)
+
 abbrev e24·2 : Row.Entry
 e24·2 = (24, Mut.msleft InflightAction.row ref3)
+
 abbrev e26·2 : Row.Entry
 e26·2 = (26, Mut.msleft (Referent.rtF (Referent.fInt Syntax.w32)) ref4)
+
 abbrev pub t0 : List.List Row.Entry
 t0 = e0 ∷ e1 ∷ e2 ∷ e3 ∷ e4 ∷ e5 ∷ e6 ∷ e7 ∷ e8 ∷ e9 ∷ e10 ∷ e11 ∷ e12 ∷ e13 ∷ e14 ∷ e15 ∷ List.[]
+
 abbrev pub t1 : List.List Row.Entry
 t1 = e16 ∷ e17 ∷ e18 ∷ e19 ∷ e20 ∷ e21 ∷ e22 ∷ e23 ∷ e24 ∷ e25 ∷ e26 ∷ List.[]
+
 abbrev pub t2 : List.List Row.Entry
 t2 = e0·1 ∷ e1 ∷ e2 ∷ e3 ∷ e4 ∷ e5 ∷ e6·1 ∷ e7·1 ∷ e8·1 ∷ e9 ∷ e10 ∷ e11 ∷ e12 ∷ e13 ∷ e14 ∷ e15 ∷ List.[]
+
 abbrev pub t3 : List.List Row.Entry
 t3 = e0 ∷ e1 ∷ e2 ∷ e3 ∷ e4 ∷ e5 ∷ e6 ∷ e7 ∷ e8 ∷ e9 ∷ e10·1 ∷ e11 ∷ e12 ∷ e13 ∷ e14 ∷ e15 ∷ List.[]
+
 abbrev pub t4 : List.List Row.Entry
 t4 = e0 ∷ e1 ∷ e2 ∷ e3 ∷ e4 ∷ e5 ∷ e6 ∷ e7 ∷ e8 ∷ e9 ∷ e10·1 ∷ e11·1 ∷ e12 ∷ e13 ∷ e14 ∷ e15 ∷ List.[]
+
 abbrev pub t5 : List.List Row.Entry
 t5 = e0 ∷ e1 ∷ e2 ∷ e3 ∷ e4 ∷ e5 ∷ e6 ∷ e7 ∷ e8 ∷ e9 ∷ e10·1 ∷ e11·1 ∷ e12·1 ∷ e13 ∷ e14 ∷ e15 ∷ List.[]
+
 abbrev pub t6 : List.List Row.Entry
 t6 = e0 ∷ e1·1 ∷ e2 ∷ e3 ∷ e4 ∷ e5 ∷ e6 ∷ e7 ∷ e8 ∷ e9 ∷ e10·1 ∷ e11·1 ∷ e12·1 ∷ e13 ∷ e14 ∷ e15 ∷ List.[]
+
 abbrev pub t7 : List.List Row.Entry
 t7 = e16·1 ∷ e17 ∷ e18 ∷ e19 ∷ e20 ∷ e21 ∷ e22 ∷ e23 ∷ e24 ∷ e25 ∷ e26 ∷ List.[]
+
 abbrev pub t8 : List.List Row.Entry
 t8 = e16 ∷ e17·1 ∷ e18 ∷ e19 ∷ e20 ∷ e21 ∷ e22 ∷ e23 ∷ e24 ∷ e25 ∷ e26 ∷ List.[]
+
 abbrev pub t9 : List.List Row.Entry
 t9 = e0 ∷ e1·1 ∷ e2 ∷ e3 ∷ e4 ∷ e5 ∷ e6 ∷ e7 ∷ e8 ∷ e9 ∷ e10·1 ∷ e11·1 ∷ e12·1 ∷ e13·1 ∷ e14 ∷ e15 ∷ List.[]
+
 abbrev pub t10 : List.List Row.Entry
 t10 = e0 ∷ e1 ∷ e2 ∷ e3 ∷ e4 ∷ e5 ∷ e6 ∷ e7 ∷ e8 ∷ e9 ∷ e10·1 ∷ e11·1 ∷ e12·1 ∷ e13·1 ∷ e14 ∷ e15 ∷ List.[]
+
 abbrev pub t11 : List.List Row.Entry
 t11 = e0 ∷ e1 ∷ e2 ∷ e3 ∷ e4 ∷ e5 ∷ e6 ∷ e7 ∷ e8 ∷ e9 ∷ e10·1 ∷ e11·1 ∷ e12·1 ∷ e13·1 ∷ e14·1 ∷ e15 ∷ List.[]
+
 abbrev pub t12 : List.List Row.Entry
 t12 = e0 ∷ e1 ∷ e2 ∷ e3 ∷ e4 ∷ e5 ∷ e6 ∷ e7 ∷ e8 ∷ e9 ∷ e10·1 ∷ e11·1 ∷ e12·1 ∷ e13·1 ∷ e14·1 ∷ e15·1 ∷ List.[]
+
 abbrev pub t13 : List.List Row.Entry
 t13 = e0 ∷ e1 ∷ e2 ∷ e3 ∷ e4 ∷ e5 ∷ e6 ∷ e7 ∷ e8 ∷ e9 ∷ e10 ∷ e11·1 ∷ e12·1 ∷ e13·1 ∷ e14·1 ∷ e15·1 ∷ List.[]
+
 abbrev pub t14 : List.List Row.Entry
 t14 = e16 ∷ e17 ∷ e18·1 ∷ e19 ∷ e20 ∷ e21 ∷ e22 ∷ e23 ∷ e24 ∷ e25 ∷ e26 ∷ List.[]
+
 abbrev pub t15 : List.List Row.Entry
 t15 = e0 ∷ e1 ∷ e2 ∷ e3 ∷ e4 ∷ e5 ∷ e6 ∷ e7 ∷ e8·1 ∷ e9 ∷ e10 ∷ e11·1 ∷ e12·1 ∷ e13 ∷ e14 ∷ e15·1 ∷ List.[]
+
 abbrev pub t16 : List.List Row.Entry
 t16 = e0 ∷ e1 ∷ e2 ∷ e3 ∷ e4 ∷ e5 ∷ e6 ∷ e7 ∷ e8 ∷ e9 ∷ e10 ∷ e11·1 ∷ e12·1 ∷ e13·1 ∷ e14·1 ∷ e15 ∷ List.[]
+
 abbrev pub t17 : List.List Row.Entry
 t17 = e0 ∷ e1·2 ∷ e2 ∷ e3 ∷ e4 ∷ e5 ∷ e6 ∷ e7 ∷ e8 ∷ e9 ∷ e10 ∷ e11·1 ∷ e12·1 ∷ e13·1 ∷ e14·1 ∷ e15 ∷ List.[]
+
 abbrev pub t18 : List.List Row.Entry
 t18 = e16 ∷ e17 ∷ e18 ∷ e19·1 ∷ e20 ∷ e21 ∷ e22 ∷ e23 ∷ e24 ∷ e25 ∷ e26 ∷ List.[]
+
 abbrev pub t19 : List.List Row.Entry
 t19 = e16 ∷ e17 ∷ e18 ∷ e19 ∷ e20·1 ∷ e21 ∷ e22 ∷ e23 ∷ e24 ∷ e25 ∷ e26 ∷ List.[]
+
 abbrev pub t20 : List.List Row.Entry
 t20 = e0 ∷ e1·2 ∷ e2 ∷ e3·1 ∷ e4 ∷ e5 ∷ e6 ∷ e7 ∷ e8 ∷ e9 ∷ e10 ∷ e11·1 ∷ e12·1 ∷ e13·1 ∷ e14·1 ∷ e15 ∷ List.[]
+
 abbrev pub t21 : List.List Row.Entry
 t21 = e16 ∷ e17 ∷ e18 ∷ e19 ∷ e20·1 ∷ e21·1 ∷ e22 ∷ e23 ∷ e24 ∷ e25 ∷ e26 ∷ List.[]
+
 abbrev pub t22 : List.List Row.Entry
 t22 = e16 ∷ e17 ∷ e18 ∷ e19 ∷ e20·1 ∷ e21 ∷ e22·1 ∷ e23 ∷ e24 ∷ e25 ∷ e26 ∷ List.[]
+
 abbrev pub t23 : List.List Row.Entry
 t23 = e0 ∷ e1·2 ∷ e2 ∷ e3·1 ∷ e4·1 ∷ e5 ∷ e6 ∷ e7 ∷ e8 ∷ e9 ∷ e10 ∷ e11·1 ∷ e12·1 ∷ e13·1 ∷ e14·1 ∷ e15 ∷ List.[]
+
 abbrev pub t24 : List.List Row.Entry
 t24 = e16 ∷ e17 ∷ e18 ∷ e19 ∷ e20·1 ∷ e21 ∷ e22·1 ∷ e23·1 ∷ e24 ∷ e25 ∷ e26 ∷ List.[]
+
 abbrev pub t25 : List.List Row.Entry
 t25 = e16 ∷ e17 ∷ e18 ∷ e19 ∷ e20·1 ∷ e21 ∷ e22·1 ∷ e23 ∷ e24·1 ∷ e25 ∷ e26 ∷ List.[]
+
 abbrev pub t26 : List.List Row.Entry
 t26 = e0 ∷ e1·2 ∷ e2 ∷ e3·1 ∷ e4·1 ∷ e5·1 ∷ e6 ∷ e7 ∷ e8 ∷ e9 ∷ e10 ∷ e11·1 ∷ e12·1 ∷ e13·1 ∷ e14·1 ∷ e15 ∷ List.[]
+
 abbrev pub t27 : List.List Row.Entry
 t27 = e16 ∷ e17 ∷ e18 ∷ e19 ∷ e20·1 ∷ e21 ∷ e22·1 ∷ e23 ∷ e24·1 ∷ e25·1 ∷ e26 ∷ List.[]
+
 abbrev pub t28 : List.List Row.Entry
 t28 = e16 ∷ e17 ∷ e18 ∷ e19 ∷ e20·1 ∷ e21 ∷ e22·1 ∷ e23 ∷ e24·1 ∷ e25 ∷ e26·1 ∷ List.[]
+
 abbrev pub t29 : List.List Row.Entry
 t29 = e0·1 ∷ e1·2 ∷ e2 ∷ e3·1 ∷ e4·1 ∷ e5·1 ∷ e6 ∷ e7 ∷ e8 ∷ e9 ∷ e10 ∷ e11·1 ∷ e12·1 ∷ e13·1 ∷ e14·1 ∷ e15 ∷ List.[]
+
 abbrev pub t30 : List.List Row.Entry
 t30 = e16 ∷ e17 ∷ e18 ∷ e19 ∷ e20·2 ∷ e21 ∷ e22·2 ∷ e23 ∷ e24·2 ∷ e25 ∷ e26·2 ∷ List.[]
+
 abbrev pub t31 : List.List Row.Entry
 t31 = e0·1 ∷ e1·2 ∷ e2 ∷ e3·1 ∷ e4·1 ∷ e5·1 ∷ e6·1 ∷ e7 ∷ e8 ∷ e9 ∷ e10 ∷ e11·1 ∷ e12·1 ∷ e13·1 ∷ e14·1 ∷ e15 ∷ List.[]
+
 abbrev pub t32 : List.List Row.Entry
-t32 = e0·1 ∷ e1·2 ∷ e2 ∷ e3·1 ∷ e4·1 ∷ e5·1 ∷ e6·1 ∷ e7·1 ∷ e8 ∷ e9 ∷ e10 ∷ e11·1 ∷ e12·1 ∷ e13·1 ∷ e14·1 ∷ e15 ∷ List.[]
+t32 = e0·1 ∷ e1·2 ∷ e2 ∷ e3·1 ∷ e4·1 ∷ e5·1 ∷ e6·1 ∷ e7·1 ∷ e8 ∷ e9 ∷ e10 ∷ e11·1 ∷ e12·1 ∷ e13·1 ∷ e14·1 ∷ e15 ∷
+    List.[]
+
 abbrev pub t33 : List.List Row.Entry
-t33 = e0·1 ∷ e1·2 ∷ e2 ∷ e3·1 ∷ e4·1 ∷ e5·1 ∷ e6·1 ∷ e7·1 ∷ e8·1 ∷ e9 ∷ e10 ∷ e11·1 ∷ e12·1 ∷ e13·1 ∷ e14·1 ∷ e15 ∷ List.[]
+t33 = e0·1 ∷ e1·2 ∷ e2 ∷ e3·1 ∷ e4·1 ∷ e5·1 ∷ e6·1 ∷ e7·1 ∷ e8·1 ∷ e9 ∷ e10 ∷ e11·1 ∷ e12·1 ∷ e13·1 ∷ e14·1 ∷ e15 ∷
+    List.[]
+
 abbrev pub t34 : List.List Row.Entry
-t34 = e0·1 ∷ e1·2 ∷ e2 ∷ e3·1 ∷ e4·1 ∷ e5·1 ∷ e6·1 ∷ e7·1 ∷ e8·1 ∷ e9 ∷ e10 ∷ e11·1 ∷ e12·1 ∷ e13 ∷ e14·1 ∷ e15 ∷ List.[]
+t34 = e0·1 ∷ e1·2 ∷ e2 ∷ e3·1 ∷ e4·1 ∷ e5·1 ∷ e6·1 ∷ e7·1 ∷ e8·1 ∷ e9 ∷ e10 ∷ e11·1 ∷ e12·1 ∷ e13 ∷ e14·1 ∷ e15 ∷
+    List.[]
+
 abbrev pub t35 : List.List Row.Entry
 t35 = e0·1 ∷ e1·2 ∷ e2 ∷ e3·1 ∷ e4·1 ∷ e5·1 ∷ e6·1 ∷ e7·1 ∷ e8·1 ∷ e9 ∷ e10 ∷ e11·1 ∷ e12·1 ∷ e13 ∷ e14 ∷ e15 ∷ List.[]
+
 abbrev pub t36 : List.List Row.Entry
 t36 = e0·1 ∷ e1 ∷ e2 ∷ e3·1 ∷ e4·1 ∷ e5·1 ∷ e6·1 ∷ e7·1 ∷ e8·1 ∷ e9 ∷ e10 ∷ e11·1 ∷ e12·1 ∷ e13 ∷ e14 ∷ e15 ∷ List.[]
+
 abbrev pub t37 : List.List Row.Entry
 t37 = e16 ∷ e17 ∷ e18 ∷ e19 ∷ e20 ∷ e21 ∷ e22·2 ∷ e23 ∷ e24·2 ∷ e25 ∷ e26·2 ∷ List.[]
+
 abbrev pub t38 : List.List Row.Entry
 t38 = e0·1 ∷ e1 ∷ e2 ∷ e3 ∷ e4·1 ∷ e5·1 ∷ e6·1 ∷ e7·1 ∷ e8·1 ∷ e9 ∷ e10 ∷ e11·1 ∷ e12·1 ∷ e13 ∷ e14 ∷ e15 ∷ List.[]
+
 abbrev pub t39 : List.List Row.Entry
 t39 = e16 ∷ e17 ∷ e18 ∷ e19 ∷ e20 ∷ e21 ∷ e22 ∷ e23 ∷ e24·2 ∷ e25 ∷ e26·2 ∷ List.[]
+
 abbrev pub t40 : List.List Row.Entry
 t40 = e0·1 ∷ e1 ∷ e2 ∷ e3 ∷ e4 ∷ e5·1 ∷ e6·1 ∷ e7·1 ∷ e8·1 ∷ e9 ∷ e10 ∷ e11·1 ∷ e12·1 ∷ e13 ∷ e14 ∷ e15 ∷ List.[]
+
 abbrev pub t41 : List.List Row.Entry
 t41 = e16 ∷ e17 ∷ e18 ∷ e19 ∷ e20 ∷ e21 ∷ e22 ∷ e23 ∷ e24 ∷ e25 ∷ e26·2 ∷ List.[]
+
 abbrev pub t42 : List.List Row.Entry
 t42 = e0·1 ∷ e1 ∷ e2 ∷ e3 ∷ e4 ∷ e5 ∷ e6·1 ∷ e7·1 ∷ e8·1 ∷ e9 ∷ e10 ∷ e11·1 ∷ e12·1 ∷ e13 ∷ e14 ∷ e15 ∷ List.[]
+
 abbrev pub t43 : List.List Row.Entry
 t43 = e0·1 ∷ e1 ∷ e2 ∷ e3 ∷ e4 ∷ e5 ∷ e6·1 ∷ e7·1 ∷ e8·1 ∷ e9 ∷ e10 ∷ e11 ∷ e12·1 ∷ e13 ∷ e14 ∷ e15 ∷ List.[]
+
 abbrev pub t44 : List.List Row.Entry
 t44 = e0 ∷ e1 ∷ e2 ∷ e3 ∷ e4 ∷ e5 ∷ e6 ∷ e7 ∷ e8·1 ∷ e9 ∷ e10 ∷ e11·1 ∷ e12·1 ∷ e13·1 ∷ e14·1 ∷ e15·1 ∷ List.[]
+
 abbrev pub t45 : List.List Row.Entry
 t45 = e0 ∷ e1 ∷ e2 ∷ e3 ∷ e4 ∷ e5 ∷ e6 ∷ e7 ∷ e8·1 ∷ e9 ∷ e10 ∷ e11·1 ∷ e12·1 ∷ e13 ∷ e14·1 ∷ e15·1 ∷ List.[]
+
 abbrev pub t46 : List.List Row.Entry
 t46 = e0·1 ∷ e1 ∷ e2 ∷ e3 ∷ e4 ∷ e5 ∷ e6 ∷ e7 ∷ e8·1 ∷ e9 ∷ e10 ∷ e11·1 ∷ e12·1 ∷ e13 ∷ e14 ∷ e15·1 ∷ List.[]
+
 abbrev pub t47 : List.List Row.Entry
 t47 = e0·1 ∷ e1 ∷ e2 ∷ e3 ∷ e4 ∷ e5 ∷ e6·1 ∷ e7 ∷ e8·1 ∷ e9 ∷ e10 ∷ e11·1 ∷ e12·1 ∷ e13 ∷ e14 ∷ e15·1 ∷ List.[]
+
 abbrev pub t48 : List.List Row.Entry
 t48 = e0·1 ∷ e1 ∷ e2 ∷ e3 ∷ e4 ∷ e5 ∷ e6·1 ∷ e7·1 ∷ e8·1 ∷ e9 ∷ e10 ∷ e11·1 ∷ e12·1 ∷ e13 ∷ e14 ∷ e15·1 ∷ List.[]
+
 abbrev pub t49 : List.List Row.Entry
 t49 = e0·1 ∷ e1 ∷ e2 ∷ e3 ∷ e4 ∷ e5 ∷ e6·1 ∷ e7·1 ∷ e8·1 ∷ e9 ∷ e10 ∷ e11 ∷ e12·1 ∷ e13 ∷ e14 ∷ e15·1 ∷ List.[]
+
 abbrev pub t50 : List.List Row.Entry
 t50 = e0·1 ∷ e1 ∷ e2 ∷ e3 ∷ e4 ∷ e5 ∷ e6·1 ∷ e7·1 ∷ e8·1 ∷ e9 ∷ e10 ∷ e11 ∷ e12 ∷ e13 ∷ e14 ∷ e15·1 ∷ List.[]
+
 abbrev pub T0 : Row.Cx
 T0 = record { locals = List._++_ t0 t1; slots = List.[] }
+
 abbrev pub T1 : Row.Cx
 T1 = record { locals = List._++_ t2 t1; slots = List.[] }
+
 abbrev pub T2 : Row.Cx
 T2 = record { locals = List._++_ t0 t1; slots = List.[] }
+
 abbrev pub T3 : Row.Cx
 T3 = record { locals = List._++_ t0 t1; slots = List.[] }
+
 abbrev pub T4 : Row.Cx
 T4 = record { locals = List._++_ t3 t1; slots = List.[] }
+
 abbrev pub T5 : Row.Cx
 T5 = record { locals = List._++_ t4 t1; slots = List.[] }
+
 abbrev pub T6 : Row.Cx
 T6 = record { locals = List._++_ t5 t1; slots = List.[] }
+
 abbrev pub T8 : Row.Cx
 T8 = record { locals = List._++_ t6 t7; slots = List.[] }
+
 abbrev pub T9 : Row.Cx
 T9 = record { locals = List._++_ t6 t8; slots = List.[] }
+
 abbrev pub T10 : Row.Cx
 T10 = record { locals = List._++_ t9 t8; slots = List.[] }
+
 abbrev pub T11 : Row.Cx
 T11 = record { locals = List._++_ t9 t1; slots = List.[] }
+
 abbrev pub T13 : Row.Cx
 T13 = record { locals = List._++_ t10 t1; slots = List.[] }
+
 abbrev pub T15 : Row.Cx
 T15 = record { locals = List._++_ t11 t1; slots = List.[] }
+
 abbrev pub T16 : Row.Cx
 T16 = record { locals = List._++_ t12 t1; slots = List.[] }
+
 abbrev pub T17 : Row.Cx
 T17 = record { locals = List._++_ t13 t1; slots = List.[] }
+
 abbrev pub T18 : Row.Cx
 T18 = record { locals = List._++_ t13 t14; slots = List.[] }
+
 abbrev pub T19 : Row.Cx
 T19 = record { locals = List._++_ t15 t1; slots = List.[] }
+
 abbrev pub T20 : Row.Cx
 T20 = record { locals = List._++_ t16 t14; slots = List.[] }
+
 abbrev pub T21 : Row.Cx
 T21 = record { locals = List._++_ t16 t1; slots = List.[] }
+
 abbrev pub T23 : Row.Cx
 T23 = record { locals = List._++_ t17 t18; slots = List.[] }
+
 abbrev pub T24 : Row.Cx
 T24 = record { locals = List._++_ t17 t19; slots = List.[] }
+
 abbrev pub T26 : Row.Cx
 T26 = record { locals = List._++_ t20 t21; slots = List.[] }
+
 abbrev pub T27 : Row.Cx
 T27 = record { locals = List._++_ t20 t22; slots = List.[] }
+
 abbrev pub T29 : Row.Cx
 T29 = record { locals = List._++_ t23 t24; slots = List.[] }
+
 abbrev pub T30 : Row.Cx
 T30 = record { locals = List._++_ t23 t25; slots = List.[] }
+
 abbrev pub T32 : Row.Cx
 T32 = record { locals = List._++_ t26 t27; slots = List.[] }
+
 abbrev pub T33 : Row.Cx
 T33 = record { locals = List._++_ t26 t28; slots = List.[] }
+
 abbrev pub T34 : Row.Cx
 T34 = record { locals = List._++_ t29 t30; slots = List.[] }
+
 abbrev pub T35 : Row.Cx
 T35 = record { locals = List._++_ t31 t30; slots = List.[] }
+
 abbrev pub T36 : Row.Cx
 T36 = record { locals = List._++_ t32 t30; slots = List.[] }
+
 abbrev pub T37 : Row.Cx
 T37 = record { locals = List._++_ t33 t30; slots = List.[] }
+
 abbrev pub T38 : Row.Cx
 T38 = record { locals = List._++_ t34 t30; slots = List.[] }
+
 abbrev pub T39 : Row.Cx
 T39 = record { locals = List._++_ t35 t30; slots = List.[] }
+
 abbrev pub T41 : Row.Cx
 T41 = record { locals = List._++_ t36 t37; slots = List.[] }
+
 abbrev pub T44 : Row.Cx
 T44 = record { locals = List._++_ t38 t39; slots = List.[] }
+
 abbrev pub T47 : Row.Cx
 T47 = record { locals = List._++_ t40 t41; slots = List.[] }
+
 abbrev pub T50 : Row.Cx
 T50 = record { locals = List._++_ t42 t1; slots = List.[] }
+
 abbrev pub T51 : Row.Cx
 T51 = record { locals = List._++_ t42 t1; slots = List.[] }
+
 abbrev pub T53 : Row.Cx
 T53 = record { locals = List._++_ t43 t1; slots = List.[] }
+
 abbrev pub T54 : Row.Cx
 T54 = record { locals = List._++_ t2 t1; slots = List.[] }
+
 abbrev pub T55 : Row.Cx
 T55 = record { locals = List._++_ t44 t14; slots = List.[] }
+
 abbrev pub T56 : Row.Cx
 T56 = record { locals = List._++_ t45 t14; slots = List.[] }
+
 abbrev pub T57 : Row.Cx
 T57 = record { locals = List._++_ t15 t14; slots = List.[] }
+
 abbrev pub T58 : Row.Cx
 T58 = record { locals = List._++_ t15 t1; slots = List.[] }
+
 abbrev pub T59 : Row.Cx
 T59 = record { locals = List._++_ t46 t1; slots = List.[] }
+
 abbrev pub T60 : Row.Cx
 T60 = record { locals = List._++_ t47 t1; slots = List.[] }
+
 abbrev pub T61 : Row.Cx
 T61 = record { locals = List._++_ t48 t1; slots = List.[] }
+
 abbrev pub T62 : Row.Cx
 T62 = record { locals = List._++_ t49 t1; slots = List.[] }
+
 abbrev pub T63 : Row.Cx
 T63 = record { locals = List._++_ t50 t1; slots = List.[] }
+
 abbrev pub T64 : Row.Cx
 T64 = record { locals = List._++_ t2 t1; slots = List.[] }
+
 abbrev pub O0 : Typed.Outs
 O0 = record { next = Option.none; exits = List.[]; returns = Option.some T1 }
+
 abbrev pub O1 : Typed.Outs
 O1 = Typed.withNext (Option.some T19) O0
+
 module _ (claims· : Claims) where
   abbrev s0 : (bs : List.List Nat.ℕ) → Typed.Gives T0 T2
   s0 = λ bs. Know.k-sl-known (Referent.fInt Syntax.w32) T0 5 4 ref9 Row.off 0 λ x. x
+
   abbrev s1 : (bs : List.List Nat.ℕ) → Typed.Gives T2 T3
   s1 = λ bs. Know.k-shs-known (Referent.fInt Syntax.w8) T2 9 5 ref10 Row.off 0 λ x. x
+
   abbrev s2 : (bs : List.List Nat.ℕ) → Typed.Both T3 T4
-  s2 = λ bs. WayStmt.k-way-copy-out T3 (Row.out 6 (T3 .locals)) (λ u. Row.drop 6 (T3 .locals) u) 10 (Rows.whole (Declared'.row
-      OpaqueRelayConfig.the-type)) (λ u. At.getAt (OpaqueRelayRuntime.the-type .parts) 4 (OpaqueRelayRuntime.struct .as-values (u .1 .1 .1 .1 .1 .1
-      .0))) (λ T′. record { locals = Row.setRow 6 (6, Rows.whole (Declared'.row OpaqueRelayRuntime.the-type)) T′; slots = List.[]; }) (λ u T′ m′.
-      Row.set 6 (6, Rows.whole (Declared'.row OpaqueRelayRuntime.the-type)) (u .1 .1 .1 .1 .1 .1 .0) T′ m′) (λ u. Unit) λ u. Unit
+  s2 = λ bs. WayStmt.k-way-copy-out T3 (Row.out 6 (T3 .locals)) (λ u. Row.drop 6 (T3 .locals) u) 10
+      (Rows.whole (Declared'.row OpaqueRelayConfig.the-type)) (λ u. At.getAt (OpaqueRelayRuntime.the-type .parts) 4 (OpaqueRelayRuntime.struct
+      .as-values (u .1 .1 .1 .1 .1 .1 .0))) (λ T′. record {
+        locals = Row.setRow 6 (6, Rows.whole (Declared'.row OpaqueRelayRuntime.the-type)) T′;
+        slots = List.[];
+      }) (λ u T′ m′. Row.set 6 (6, Rows.whole (Declared'.row OpaqueRelayRuntime.the-type)) (u .1 .1 .1 .1 .1 .1 .0) T′
+      m′) (λ u. Unit) λ u. Unit
+
   abbrev s3 : (bs : List.List Nat.ℕ) → Typed.Both T4 T5
-  s3 = λ bs. Call.callB ps·0 r·0 (claims· .0) (claims· .1) T4 (record { pos = 9; ty = Syntax.tyRef (Syntax.named 5) Syntax.imm (Syntax.tyInt
-      Syntax.w8); ref = λ x. x; }, tt,) 11 (5 ∷ List.[]) (Syntax.tyInt Syntax.w64)
+  s3 = λ bs. Call.callB ps·0 r·0 (claims· .0) (claims· .1) T4 (record { pos = 9; ty = ref10; ref = λ x. x }, tt) 11
+      (5 ∷ List.[]) (Syntax.tyInt Syntax.w64)
+
   abbrev s4 : (bs : List.List Nat.ℕ) → Typed.Both T5 T6
-  s4 = λ bs. Call.callB ps·1 r·1 (claims· .2) (claims· .3) T5 (record { pos = 8; st = List.[]; d = 0; at = λ x. x }, tt,) 12 List.[] Syntax.tyBool
+  s4 = λ bs. Call.callB ps·1 r·1 (claims· .2) (claims· .3) T5
+      (record { pos = 8; st = List.[]; d = 0; at = λ x. x }, tt) 12 List.[] Syntax.tyBool
+
   abbrev s6 : (bs : List.List Nat.ℕ) → Typed.Gives T6 T8
   s6 = λ bs. Reshare.k-sl-reshare RelayPending.row T6 1 16 0 6 ref5 ref0 Row.off λ x. x
+
   abbrev s7 : (bs : List.List Nat.ℕ) → Typed.Asks T8 T9
-  s7 = λ bs. Relend.k-sl-aggregate RelayPending.row (Relend.asShr RelayPending.row) T8 16 17 6 ref0 ref0 (λ x. x) (Scalar.oFld 1 ((Syntax.field 1) ∷
-      List.[]) (Syntax.tyInt Syntax.w64) 8 λ v. Shared.lenV (v .0))
+  s7 = λ bs. Relend.k-sl-aggregate RelayPending.row (Relend.asShr RelayPending.row) T8 16 17 6 ref0 ref0 (λ x. x) (Scalar.oFld
+      1 ((Syntax.field 1) ∷ List.[]) (Syntax.tyInt Syntax.w64) 8 λ v. Shared.lenV (v .0))
+
   abbrev s8 : (bs : List.List Nat.ℕ) → Typed.Both T9 T10
-  s8 = λ bs. Call.callB ps·2 r·2 (claims· .4) (claims· .5) T9 (record { pos = 17; ty = Syntax.tyRef Syntax.erased Syntax.imm RelayPending.to; ref = λ
-      x. x; }, (record { pos = 2; ty = Syntax.tyRef (Syntax.named 1) Syntax.imm RelayCircuit.to; ref = λ x. x; }, (record { pos = 7; st = List.[]; d =
-      0; at = λ x. x }, (record { pos = 9; ty = Syntax.tyRef (Syntax.named 5) Syntax.imm (Syntax.tyInt Syntax.w8); ref = λ x. x; }, (Num.vAt 11 λ x.
-      x, (Bool.bAt 12 λ x. x, tt)),),),),) 13 (6 ∷ 1 ∷ 5 ∷ List.[]) Laws'''''.mir
+  s8 = λ bs. Call.callB ps·2 r·2 (claims· .4) (claims· .5) T9 (
+    record { pos = 17; ty = ref0; ref = λ x. x },
+    (
+      record { pos = 2; ty = ref6; ref = λ x. x },
+      (
+        record { pos = 7; st = List.[]; d = 0; at = λ x. x },
+        (record { pos = 9; ty = ref10; ref = λ x. x }, (Num.vAt 11 λ x. x, (Bool.bAt 12 λ x. x, tt))),
+      ),
+    ),
+  ) 13 (6 ∷ 1 ∷ 5 ∷ List.[]) Laws'''''.mir
+
   abbrev s9 : (bs : List.List Nat.ℕ) → Typed.Mo T10 → Typed.Mo T11
-  s9 = λ bs. Scalar.n-room T10 17 (Syntax.tyStruct (38 ∷ 91 ∷ 93 ∷ List.[]) (Syntax.tcons ref0 (Syntax.tcons (Syntax.tyInt Syntax.w64) Syntax.tnil)))
+  s9 = λ bs. Scalar.n-room T10 17 slice0
+
   abbrev s11 : (bs : List.List Nat.ℕ) → Typed.Mo T11 → Typed.Mo T13
   s11 = λ bs. Reshare.n-back-sl-shr RelayPending.row T11 1 0 6 ref5 Row.off λ x. x
+
   abbrev s13 : (bs : List.List Nat.ℕ) → Typed.Both T13 T15
-  s13 = λ bs. Call.callB ps·3 r·3 (claims· .6) (claims· .7) T13 (record { pos = 10; st = List.[]; d = 0; at = λ x. x }, (record { pos = 8; st =
-      List.[]; d = 0; at = λ x. x }, (record { pos = 13; st = List.[]; d = 0; at = λ x. x }, tt),),) 14 List.[] Laws'''.mir
+  s13 = λ bs. Call.callB ps·3 r·3 (claims· .6) (claims· .7) T13 (
+    record { pos = 10; st = List.[]; d = 0; at = λ x. x },
+    (
+      record { pos = 8; st = List.[]; d = 0; at = λ x. x },
+      (record { pos = 13; st = List.[]; d = 0; at = λ x. x }, tt),
+    ),
+  ) 14 List.[] Laws'''.mir
+
   abbrev s14 : (bs : List.List Nat.ℕ) → Typed.Both T15 T16
-  s14 = λ bs. Call.callB ps·4 r·4 (claims· .8) (claims· .9) T15 (record { pos = 10; st = List.[]; d = 0; at = λ x. x }, (record { pos = 8; st =
-      List.[]; d = 0; at = λ x. x }, (record { pos = 14; st = List.[]; d = 0; at = λ x. x }, (record { pos = 13; st = List.[]; d = 0; at = λ x. x },
-      tt),),),) 15 List.[] Laws.mir
+  s14 = λ bs. Call.callB ps·4 r·4 (claims· .8) (claims· .9) T15 (
+    record { pos = 10; st = List.[]; d = 0; at = λ x. x },
+    (
+      record { pos = 8; st = List.[]; d = 0; at = λ x. x },
+      (
+        record { pos = 14; st = List.[]; d = 0; at = λ x. x },
+        (record { pos = 13; st = List.[]; d = 0; at = λ x. x }, tt),
+      ),
+    ),
+  ) 15 List.[] Laws.mir
+
   abbrev s15 : (bs : List.List Nat.ℕ) → Typed.Mo T16 → Typed.Mo T17
   s15 = λ bs. Scalar.n-room T16 10 Laws'.mir
+
   abbrev s16 : (bs : List.List Nat.ℕ) → Typed.Both T17 T18
-  s16 = λ bs. Call.callB ps·5 r·5 (claims· .10) (claims· .11) T17 (record { pos = 15; st = List.[]; d = 0; at = λ x. x }, tt,) 18 List.[]
-      Syntax.tyBool
+  s16 = λ bs. Call.callB ps·5 r·5 (claims· .10) (claims· .11) T17
+      (record { pos = 15; st = List.[]; d = 0; at = λ x. x }, tt) 18 List.[] Syntax.tyBool
+
   abbrev s17 : (bs : List.List Nat.ℕ) → Typed.Mo T18 → Typed.Mo T20
   s17 = λ bs. Scalar.n-room T18 15 Laws.mir
+
   abbrev s18 : (bs : List.List Nat.ℕ) → Typed.Mo T20 → Typed.Mo T21
   s18 = λ bs. Scalar.n-room T20 18 Syntax.tyBool
+
   abbrev s20 : (bs : List.List Nat.ℕ) → Typed.Gives T21 T23
   s20 = λ bs. Relend.k-sl-relend RelayPending.row T21 1 19 0 7 ref5 ref1 Row.off λ x. x
+
   abbrev s21 : (bs : List.List Nat.ℕ) → Typed.Asks T23 T24
-  s21 = λ bs. Relend.k-sl-aggregate RelayPending.row (Relend.asMut RelayPending.row) T23 19 20 7 ref1 ref1 (λ x. x) (Scalar.oFld 1 ((Syntax.field 1) ∷
-      List.[]) (Syntax.tyInt Syntax.w64) 8 λ v. Shared.lenV (v .0))
+  s21 = λ bs. Relend.k-sl-aggregate RelayPending.row (Relend.asMut RelayPending.row) T23 19 20 7 ref1 ref1 (λ x. x) (Scalar.oFld
+      1 ((Syntax.field 1) ∷ List.[]) (Syntax.tyInt Syntax.w64) 8 λ v. Shared.lenV (v .0))
+
   abbrev s23 : (bs : List.List Nat.ℕ) → Typed.Gives T24 T26
   s23 = λ bs. Relend.k-sl-relend ReservationUsage.row T24 3 21 2 8 ref7 ref2 Row.off λ x. x
+
   abbrev s24 : (bs : List.List Nat.ℕ) → Typed.Asks T26 T27
-  s24 = λ bs. Relend.k-sl-aggregate ReservationUsage.row (Relend.asMut ReservationUsage.row) T26 21 22 8 ref2 ref2 (λ x. x) (Scalar.oFld 3
-      ((Syntax.field 1) ∷ List.[]) (Syntax.tyInt Syntax.w64) 8 λ v. Shared.lenV (v .0))
+  s24 = λ bs. Relend.k-sl-aggregate ReservationUsage.row (Relend.asMut ReservationUsage.row) T26 21 22 8 ref2 ref2
+      (λ x. x) (Scalar.oFld 3 ((Syntax.field 1) ∷ List.[]) (Syntax.tyInt Syntax.w64) 8 λ v. Shared.lenV (v .0))
+
   abbrev s26 : (bs : List.List Nat.ℕ) → Typed.Gives T27 T29
   s26 = λ bs. Relend.k-sl-relend InflightAction.row T27 4 23 3 9 ref8 ref3 Row.off λ x. x
+
   abbrev s27 : (bs : List.List Nat.ℕ) → Typed.Asks T29 T30
-  s27 = λ bs. Relend.k-sl-aggregate InflightAction.row (Relend.asMut InflightAction.row) T29 23 24 9 ref3 ref3 (λ x. x) (Scalar.oFld 4 ((Syntax.field
-      1) ∷ List.[]) (Syntax.tyInt Syntax.w64) 8 λ v. Shared.lenV (v .0))
+  s27 = λ bs. Relend.k-sl-aggregate InflightAction.row (Relend.asMut InflightAction.row) T29 23 24 9 ref3 ref3 (λ x. x) (Scalar.oFld
+      4 ((Syntax.field 1) ∷ List.[]) (Syntax.tyInt Syntax.w64) 8 λ v. Shared.lenV (v .0))
+
   abbrev s29 : (bs : List.List Nat.ℕ) → Typed.Gives T30 T32
   s29 = λ bs. Relend.k-sl-relend (Referent.rtF (Referent.fInt Syntax.w32)) T30 5 25 4 10 ref9 ref4 Row.off λ x. x
+
   abbrev s30 : (bs : List.List Nat.ℕ) → Typed.Asks T32 T33
-  s30 = λ bs. Relend.k-sl-aggregate (Referent.rtF (Referent.fInt Syntax.w32)) (Relend.asMut (Referent.rtF (Referent.fInt Syntax.w32))) T32 25 26 10
-      ref4 ref4 (λ x. x) (Scalar.oFld 5 ((Syntax.field 1) ∷ List.[]) (Syntax.tyInt Syntax.w64) 8 λ v. Shared.lenV (v .0))
+  s30 = λ bs. Relend.k-sl-aggregate (Referent.rtF (Referent.fInt Syntax.w32))
+      (Relend.asMut (Referent.rtF (Referent.fInt Syntax.w32))) T32 25 26 10 ref4 ref4 (λ x. x) (Scalar.oFld 5
+      ((Syntax.field 1) ∷ List.[]) (Syntax.tyInt Syntax.w64) 8 λ v. Shared.lenV (v .0))
+
   abbrev s31 : (bs : List.List Nat.ℕ) → Typed.Both T33 T34
-  s31 = λ bs. Call.callB ps·6 r·6 (claims· .12) (claims· .13) T33 (record { pos = 20; ty = Syntax.tyRef Syntax.erased Syntax.mut RelayPending.to; ref
-      = λ x. x; }, (record { pos = 22; ty = Syntax.tyRef Syntax.erased Syntax.mut ReservationUsage.to; ref = λ x. x; }, (record { pos = 24; ty =
-      Syntax.tyRef Syntax.erased Syntax.mut InflightAction.to; ref = λ x. x; }, (record { pos = 26; ty = Syntax.tyRef Syntax.erased Syntax.mut
-      (Syntax.tyInt Syntax.w32); ref = λ x. x; }, (record { pos = 6; st = List.[]; d = 0; at = λ x. x }, (record { pos = 7; st = List.[]; d = 0; at =
-      λ x. x }, (record { pos = 8; st = List.[]; d = 0; at = λ x. x }, (record { pos = 13; st = List.[]; d = 0; at = λ x. x }, (record { pos = 14; st
-      = List.[]; d = 0; at = λ x. x }, tt),),),),),),),),) 0 (7 ∷ 8 ∷ 9 ∷ 10 ∷ List.[]) Laws'''''''.mir
+  s31 = λ bs. Call.callB ps·6 r·6 (claims· .12) (claims· .13) T33 (
+    record { pos = 20; ty = ref1; ref = λ x. x },
+    (
+      record { pos = 22; ty = ref2; ref = λ x. x },
+      (
+        record { pos = 24; ty = ref3; ref = λ x. x },
+        (
+          record { pos = 26; ty = ref4; ref = λ x. x },
+          (
+            record { pos = 6; st = List.[]; d = 0; at = λ x. x },
+            (
+              record { pos = 7; st = List.[]; d = 0; at = λ x. x },
+              (
+                record { pos = 8; st = List.[]; d = 0; at = λ x. x },
+                (
+                  record { pos = 13; st = List.[]; d = 0; at = λ x. x },
+                  (record { pos = 14; st = List.[]; d = 0; at = λ x. x }, tt),
+                ),
+              ),
+            ),
+          ),
+        ),
+      ),
+    ),
+  ) 0 (7 ∷ 8 ∷ 9 ∷ 10 ∷ List.[]) Laws'''''''.mir
+
   abbrev s32 : (bs : List.List Nat.ℕ) → Typed.Mo T34 → Typed.Mo T35
   s32 = λ bs. Scalar.n-room T34 6 Laws''''''.mir
+
   abbrev s33 : (bs : List.List Nat.ℕ) → Typed.Mo T35 → Typed.Mo T36
   s33 = λ bs. Scalar.n-room T35 7 Laws''''.mir
+
   abbrev s34 : (bs : List.List Nat.ℕ) → Typed.Mo T36 → Typed.Mo T37
   s34 = λ bs. Scalar.n-room T36 8 Laws''.mir
+
   abbrev s35 : (bs : List.List Nat.ℕ) → Typed.Mo T37 → Typed.Mo T38
   s35 = λ bs. Scalar.n-room T37 13 Laws'''''.mir
+
   abbrev s36 : (bs : List.List Nat.ℕ) → Typed.Mo T38 → Typed.Mo T39
   s36 = λ bs. Scalar.n-room T38 14 Laws'''.mir
+
   abbrev s38 : (bs : List.List Nat.ℕ) → Typed.Both T39 T41
   s38 = λ bs. Relend.k-back-sl RelayPending.row T39 20 1 0 7 ref5 ref1 Row.off (λ x. x) λ x. x
+
   abbrev s41 : (bs : List.List Nat.ℕ) → Typed.Both T41 T44
   s41 = λ bs. Relend.k-back-sl ReservationUsage.row T41 22 3 2 8 ref7 ref2 Row.off (λ x. x) λ x. x
+
   abbrev s44 : (bs : List.List Nat.ℕ) → Typed.Both T44 T47
   s44 = λ bs. Relend.k-back-sl InflightAction.row T44 24 4 3 9 ref8 ref3 Row.off (λ x. x) λ x. x
+
   abbrev s47 : (bs : List.List Nat.ℕ) → Typed.Both T47 T50
-  s47 = λ bs. Relend.k-back-sl (Referent.rtF (Referent.fInt Syntax.w32)) T47 26 5 4 10 ref9 ref4 Row.off (λ x. x) λ x. x
+  s47 = λ bs. Relend.k-back-sl (Referent.rtF (Referent.fInt Syntax.w32)) T47 26 5 4 10 ref9 ref4 Row.off (λ x. x) λ x.
+      x
+
   abbrev s48 : (bs : List.List Nat.ℕ) → Typed.Gives T50 T51
   s48 = λ bs. Know.k-sl-known (Referent.fInt Syntax.w32) T50 5 4 ref9 Row.off 0 λ x. x
+
   abbrev s50 : (bs : List.List Nat.ℕ) → Typed.Mo T51 → Typed.Mo T53
   s50 = λ bs. Scalar.n-room T51 11 (Syntax.tyInt Syntax.w64)
+
   abbrev s51 : (bs : List.List Nat.ℕ) → Typed.Mo T53 → Typed.Mo T54
   s51 = λ bs. Scalar.n-room T53 12 Syntax.tyBool
+
   abbrev s52 : (bs : List.List Nat.ℕ) → Typed.Mo T18 → Typed.Mo T55
   s52 = λ bs. Scalar.n-room T18 8 Laws''.mir
+
   abbrev s53 : (bs : List.List Nat.ℕ) → Typed.Mo T55 → Typed.Mo T56
   s53 = λ bs. Scalar.n-room T55 13 Laws'''''.mir
+
   abbrev s54 : (bs : List.List Nat.ℕ) → Typed.Mo T56 → Typed.Mo T57
   s54 = λ bs. Scalar.n-room T56 14 Laws'''.mir
+
   abbrev s55 : (bs : List.List Nat.ℕ) → Typed.Mo T57 → Typed.Mo T58
   s55 = λ bs. Scalar.n-room T57 18 Syntax.tyBool
+
   abbrev s56 : (bs : List.List Nat.ℕ) → Typed.Both T19 T59
-  s56 = λ bs. Call.callB ps·7 r·7 (claims· .14) (claims· .15) T19 (record { pos = 6; st = List.[]; d = 0; at = λ x. x }, (record { pos = 7; st =
-      List.[]; d = 0; at = λ x. x }, (record { pos = 15; st = List.[]; d = 0; at = λ x. x }, tt),),) 0 List.[] Laws'''''''.mir
+  s56 = λ bs. Call.callB ps·7 r·7 (claims· .14) (claims· .15) T19 (
+    record { pos = 6; st = List.[]; d = 0; at = λ x. x },
+    (
+      record { pos = 7; st = List.[]; d = 0; at = λ x. x },
+      (record { pos = 15; st = List.[]; d = 0; at = λ x. x }, tt),
+    ),
+  ) 0 List.[] Laws'''''''.mir
+
   abbrev s57 : (bs : List.List Nat.ℕ) → Typed.Mo T59 → Typed.Mo T60
   s57 = λ bs. Scalar.n-room T59 6 Laws''''''.mir
+
   abbrev s58 : (bs : List.List Nat.ℕ) → Typed.Mo T60 → Typed.Mo T61
   s58 = λ bs. Scalar.n-room T60 7 Laws''''.mir
+
   abbrev s59 : (bs : List.List Nat.ℕ) → Typed.Mo T61 → Typed.Mo T62
   s59 = λ bs. Scalar.n-room T61 11 (Syntax.tyInt Syntax.w64)
+
   abbrev s60 : (bs : List.List Nat.ℕ) → Typed.Mo T62 → Typed.Mo T63
   s60 = λ bs. Scalar.n-room T62 12 Syntax.tyBool
+
   abbrev s61 : (bs : List.List Nat.ℕ) → Typed.Mo T63 → Typed.Mo T64
   s61 = λ bs. Scalar.n-room T63 15 Laws.mir
-  module _ (Pre· : (κs : Lifetimes.Lfts 6) → Kinds.Dens κs ps → Type 0) (Post· : (κs : Lifetimes.Lfts 6) → (a : Kinds.Dens κs ps) → Kinds.Plain 6 ps r
-      κs) where
+
+  module _ (Pre· : (κs : Lifetimes.Lfts 6) → Kinds.Dens κs ps → Type 0) (Post· : (κs : Lifetimes.Lfts 6) →
+      (a : Kinds.Dens κs ps) → Kinds.Plain 6 ps r κs) where
     module _ (M : Type 1) where
       abbrev pub Closed : Type 2
-      Closed = (𝓤 : URA.URA M) (H : Wp.Heap 𝓤) (A : Atoms.Atoms 𝓤) (W : Kit.Given 𝓤 H A) (𝓣 : Wp.Tables 𝓤 H) (known0 : Plain.Known 𝓤 H A W 𝓣 1 ps·0
-          r·0 (claims· .0) (claims· .1) "hnsr_circuit::draw::first_draw") (known1 : Plain.Known 𝓤 H A W 𝓣 0 ps·1 r·1 (claims· .2) (claims· .3)
-          "hnsr_circuit::open::known_taken") (known2 : Plain.Known 𝓤 H A W 𝓣 3 ps·2 r·2 (claims· .4) (claims· .5) "hnsr_circuit::handle_open::draw")
-          (known3 : Plain.Known 𝓤 H A W 𝓣 0 ps·3 r·3 (claims· .6) (claims· .7) "hnsr_circuit::open::open_plan") (known4 : Plain.Known 𝓤 H A W 𝓣 0 ps·4
-          r·4 (claims· .8) (claims· .9) "hnsr_circuit::open::placed_entry") (known5 : Plain.Known 𝓤 H A W 𝓣 0 ps·5 r·5 (claims· .10) (claims· .11)
-          "hnsr_circuit::answer::is_taken") (known6 : Plain.Known 𝓤 H A W 𝓣 4 ps·6 r·6 (claims· .12) (claims· .13)
-          "hnsr_circuit::handle_open::open_placed") (known7 : Plain.Known 𝓤 H A W 𝓣 0 ps·7 r·7 (claims· .14) (claims· .15)
-          "hnsr_circuit::revoking_calls::refused") → Statement.Triple 𝓤 (Wp.WpFn 𝓤 H (𝓣 .C) (𝓣 .Λ) (Function.fnOf 6 ps r xs m hs body))
+      Closed = (𝓤 : URA.URA M) (H : Wp.Heap 𝓤) (A : Atoms.Atoms 𝓤) (W : Kit.Given 𝓤 H A) (𝓣 : Wp.Tables 𝓤 H) (known0 :
+          Plain.Known 𝓤 H A W 𝓣 1 ps·0 r·0 (claims· .0) (claims· .1) "hnsr_circuit::draw::first_draw") (known1 :
+          Plain.Known 𝓤 H A W 𝓣 0 ps·1 r·1 (claims· .2) (claims· .3) "hnsr_circuit::open::known_taken") (known2 :
+          Plain.Known 𝓤 H A W 𝓣 3 ps·2 r·2 (claims· .4) (claims· .5) "hnsr_circuit::handle_open::draw") (known3 :
+          Plain.Known 𝓤 H A W 𝓣 0 ps·3 r·3 (claims· .6) (claims· .7) "hnsr_circuit::open::open_plan") (known4 :
+          Plain.Known 𝓤 H A W 𝓣 0 ps·4 r·4 (claims· .8) (claims· .9) "hnsr_circuit::open::placed_entry") (known5 :
+          Plain.Known 𝓤 H A W 𝓣 0 ps·5 r·5 (claims· .10) (claims· .11) "hnsr_circuit::answer::is_taken") (known6 :
+          Plain.Known 𝓤 H A W 𝓣 4 ps·6 r·6 (claims· .12) (claims· .13) "hnsr_circuit::handle_open::open_placed") (known7
+          : Plain.Known 𝓤 H A W 𝓣 0 ps·7 r·7 (claims· .14) (claims· .15) "hnsr_circuit::revoking_calls::refused") →
+          Statement.Triple 𝓤 (Wp.WpFn 𝓤 H (𝓣 .C) (𝓣 .Λ) (Function.fnOf 6 ps r xs m hs body))
           (Function.plainOf 𝓤 H A 6 ps r Pre· Post·)
+
     module _ where
       abbrev at0 : (bs : List.List Nat.ℕ) → Typed.TF T54 O1
       at0 = λ bs. Typed.atRet O1
+
       abbrev at1 : (bs : List.List Nat.ℕ) → Typed.TF T53 O1
       at1 = λ bs. λ Ψ. Typed.pass T53 T54 (s51 bs) (at0 bs Ψ)
+
       abbrev at2 : (bs : List.List Nat.ℕ) → Typed.TF T51 O1
       at2 = λ bs. λ Ψ. Typed.pass T51 T53 (s50 bs) (at1 bs Ψ)
+
       abbrev at3 : (bs : List.List Nat.ℕ) → Typed.TF T51 O1
       at3 = λ bs. λ Ψ. at2 bs Ψ
+
       abbrev at4 : (bs : List.List Nat.ℕ) → Typed.TF T50 O1
       at4 = λ bs. λ Ψ. Typed.give (s48 bs) (at3 bs Ψ)
+
       abbrev at5 : (bs : List.List Nat.ℕ) → Typed.TF T47 O1
       at5 = λ bs. λ Ψ. Typed.both (s47 bs) (at4 bs Ψ)
+
       abbrev at6 : (bs : List.List Nat.ℕ) → Typed.TF T47 O1
       at6 = λ bs. λ Ψ. at5 bs Ψ
+
       abbrev at7 : (bs : List.List Nat.ℕ) → Typed.TF T47 O1
       at7 = λ bs. λ Ψ. at6 bs Ψ
+
       abbrev at8 : (bs : List.List Nat.ℕ) → Typed.TF T44 O1
       at8 = λ bs. λ Ψ. Typed.both (s44 bs) (at7 bs Ψ)
+
       abbrev at9 : (bs : List.List Nat.ℕ) → Typed.TF T44 O1
       at9 = λ bs. λ Ψ. at8 bs Ψ
+
       abbrev at10 : (bs : List.List Nat.ℕ) → Typed.TF T44 O1
       at10 = λ bs. λ Ψ. at9 bs Ψ
+
       abbrev at11 : (bs : List.List Nat.ℕ) → Typed.TF T41 O1
       at11 = λ bs. λ Ψ. Typed.both (s41 bs) (at10 bs Ψ)
+
       abbrev at12 : (bs : List.List Nat.ℕ) → Typed.TF T41 O1
       at12 = λ bs. λ Ψ. at11 bs Ψ
+
       abbrev at13 : (bs : List.List Nat.ℕ) → Typed.TF T41 O1
       at13 = λ bs. λ Ψ. at12 bs Ψ
+
       abbrev at14 : (bs : List.List Nat.ℕ) → Typed.TF T39 O1
       at14 = λ bs. λ Ψ. Typed.both (s38 bs) (at13 bs Ψ)
+
       abbrev at15 : (bs : List.List Nat.ℕ) → Typed.TF T39 O1
       at15 = λ bs. λ Ψ. at14 bs Ψ
+
       abbrev at16 : (bs : List.List Nat.ℕ) → Typed.TF T38 O1
       at16 = λ bs. λ Ψ. Typed.pass T38 T39 (s36 bs) (at15 bs Ψ)
+
       abbrev at17 : (bs : List.List Nat.ℕ) → Typed.TF T37 O1
       at17 = λ bs. λ Ψ. Typed.pass T37 T38 (s35 bs) (at16 bs Ψ)
+
       abbrev at18 : (bs : List.List Nat.ℕ) → Typed.TF T36 O1
       at18 = λ bs. λ Ψ. Typed.pass T36 T37 (s34 bs) (at17 bs Ψ)
+
       abbrev at19 : (bs : List.List Nat.ℕ) → Typed.TF T35 O1
       at19 = λ bs. λ Ψ. Typed.pass T35 T36 (s33 bs) (at18 bs Ψ)
+
       abbrev at20 : (bs : List.List Nat.ℕ) → Typed.TF T34 O1
       at20 = λ bs. λ Ψ. Typed.pass T34 T35 (s32 bs) (at19 bs Ψ)
+
       abbrev at21 : (bs : List.List Nat.ℕ) → Typed.TF T33 O1
       at21 = λ bs. λ Ψ. Typed.both (s31 bs) (at20 bs Ψ)
+
       abbrev at22 : (bs : List.List Nat.ℕ) → Typed.TF T32 O1
       at22 = λ bs. λ Ψ. Typed.ask (s30 bs) (at21 bs Ψ)
+
       abbrev at23 : (bs : List.List Nat.ℕ) → Typed.TF T30 O1
       at23 = λ bs. λ Ψ. Typed.give (s29 bs) (at22 bs Ψ)
+
       abbrev at24 : (bs : List.List Nat.ℕ) → Typed.TF T30 O1
       at24 = λ bs. λ Ψ. at23 bs Ψ
+
       abbrev at25 : (bs : List.List Nat.ℕ) → Typed.TF T29 O1
       at25 = λ bs. λ Ψ. Typed.ask (s27 bs) (at24 bs Ψ)
+
       abbrev at26 : (bs : List.List Nat.ℕ) → Typed.TF T27 O1
       at26 = λ bs. λ Ψ. Typed.give (s26 bs) (at25 bs Ψ)
+
       abbrev at27 : (bs : List.List Nat.ℕ) → Typed.TF T27 O1
       at27 = λ bs. λ Ψ. at26 bs Ψ
+
       abbrev at28 : (bs : List.List Nat.ℕ) → Typed.TF T26 O1
       at28 = λ bs. λ Ψ. Typed.ask (s24 bs) (at27 bs Ψ)
+
       abbrev at29 : (bs : List.List Nat.ℕ) → Typed.TF T24 O1
       at29 = λ bs. λ Ψ. Typed.give (s23 bs) (at28 bs Ψ)
+
       abbrev at30 : (bs : List.List Nat.ℕ) → Typed.TF T24 O1
       at30 = λ bs. λ Ψ. at29 bs Ψ
+
       abbrev at31 : (bs : List.List Nat.ℕ) → Typed.TF T23 O1
       at31 = λ bs. λ Ψ. Typed.ask (s21 bs) (at30 bs Ψ)
+
       abbrev at32 : (bs : List.List Nat.ℕ) → Typed.TF T21 O1
       at32 = λ bs. λ Ψ. Typed.give (s20 bs) (at31 bs Ψ)
+
       abbrev at33 : (bs : List.List Nat.ℕ) → Typed.TF T21 O1
       at33 = λ bs. λ Ψ. at32 bs Ψ
+
       abbrev at34 : (bs : List.List Nat.ℕ) → Typed.TF T20 O1
       at34 = λ bs. λ Ψ. Typed.pass T20 T21 (s18 bs) (at33 bs Ψ)
+
       abbrev at35 : (bs : List.List Nat.ℕ) → Typed.TF T18 O1
       at35 = λ bs. λ Ψ. Typed.pass T18 T20 (s17 bs) (at34 bs Ψ)
+
       abbrev at36 : (bs : List.List Nat.ℕ) → Typed.TF T58 O1
       at36 = λ bs. Typed.atNext O1
+
       abbrev at37 : (bs : List.List Nat.ℕ) → Typed.TF T57 O1
       at37 = λ bs. λ Ψ. Typed.pass T57 T58 (s55 bs) (at36 bs Ψ)
+
       abbrev at38 : (bs : List.List Nat.ℕ) → Typed.TF T56 O1
       at38 = λ bs. λ Ψ. Typed.pass T56 T57 (s54 bs) (at37 bs Ψ)
+
       abbrev at39 : (bs : List.List Nat.ℕ) → Typed.TF T55 O1
       at39 = λ bs. λ Ψ. Typed.pass T55 T56 (s53 bs) (at38 bs Ψ)
+
       abbrev at40 : (bs : List.List Nat.ℕ) → Typed.TF T18 O1
       at40 = λ bs. λ Ψ. Typed.pass T18 T55 (s52 bs) (at39 bs Ψ)
+
       abbrev at41 : (bs : List.List Nat.ℕ) → Typed.TF T18 O1
       at41 = λ bs. Scalar.Φcond T18 O1 18 (λ x. x) (at35 bs) (at40 bs)
+
       abbrev at42 : (bs : List.List Nat.ℕ) → Typed.TF T64 O0
       at42 = λ bs. Typed.atRet O0
+
       abbrev at43 : (bs : List.List Nat.ℕ) → Typed.TF T63 O0
       at43 = λ bs. λ Ψ. Typed.pass T63 T64 (s61 bs) (at42 bs Ψ)
+
       abbrev at44 : (bs : List.List Nat.ℕ) → Typed.TF T62 O0
       at44 = λ bs. λ Ψ. Typed.pass T62 T63 (s60 bs) (at43 bs Ψ)
+
       abbrev at45 : (bs : List.List Nat.ℕ) → Typed.TF T61 O0
       at45 = λ bs. λ Ψ. Typed.pass T61 T62 (s59 bs) (at44 bs Ψ)
+
       abbrev at46 : (bs : List.List Nat.ℕ) → Typed.TF T60 O0
       at46 = λ bs. λ Ψ. Typed.pass T60 T61 (s58 bs) (at45 bs Ψ)
+
       abbrev at47 : (bs : List.List Nat.ℕ) → Typed.TF T59 O0
       at47 = λ bs. λ Ψ. Typed.pass T59 T60 (s57 bs) (at46 bs Ψ)
+
       abbrev at48 : (bs : List.List Nat.ℕ) → Typed.TF T19 O0
       at48 = λ bs. λ Ψ. Typed.both (s56 bs) (at47 bs Ψ)
+
       abbrev at49 : (bs : List.List Nat.ℕ) → Typed.TF T18 O0
       at49 = λ bs. λ Ψ. at41 bs (Typed.wantNext T19 O0 (at48 bs Ψ) Ψ)
+
       abbrev at50 : (bs : List.List Nat.ℕ) → Typed.TF T17 O0
       at50 = λ bs. λ Ψ. Typed.both (s16 bs) (at49 bs Ψ)
+
       abbrev at51 : (bs : List.List Nat.ℕ) → Typed.TF T16 O0
       at51 = λ bs. λ Ψ. Typed.pass T16 T17 (s15 bs) (at50 bs Ψ)
+
       abbrev at52 : (bs : List.List Nat.ℕ) → Typed.TF T15 O0
       at52 = λ bs. λ Ψ. Typed.both (s14 bs) (at51 bs Ψ)
+
       abbrev at53 : (bs : List.List Nat.ℕ) → Typed.TF T13 O0
       at53 = λ bs. λ Ψ. Typed.both (s13 bs) (at52 bs Ψ)
+
       abbrev at54 : (bs : List.List Nat.ℕ) → Typed.TF T13 O0
       at54 = λ bs. λ Ψ. at53 bs Ψ
+
       abbrev at55 : (bs : List.List Nat.ℕ) → Typed.TF T11 O0
       at55 = λ bs. λ Ψ. Typed.pass T11 T13 (s11 bs) (at54 bs Ψ)
+
       abbrev at56 : (bs : List.List Nat.ℕ) → Typed.TF T11 O0
       at56 = λ bs. λ Ψ. at55 bs Ψ
+
       abbrev at57 : (bs : List.List Nat.ℕ) → Typed.TF T10 O0
       at57 = λ bs. λ Ψ. Typed.pass T10 T11 (s9 bs) (at56 bs Ψ)
+
       abbrev at58 : (bs : List.List Nat.ℕ) → Typed.TF T9 O0
       at58 = λ bs. λ Ψ. Typed.both (s8 bs) (at57 bs Ψ)
+
       abbrev at59 : (bs : List.List Nat.ℕ) → Typed.TF T8 O0
       at59 = λ bs. λ Ψ. Typed.ask (s7 bs) (at58 bs Ψ)
+
       abbrev at60 : (bs : List.List Nat.ℕ) → Typed.TF T6 O0
       at60 = λ bs. λ Ψ. Typed.give (s6 bs) (at59 bs Ψ)
+
       abbrev at61 : (bs : List.List Nat.ℕ) → Typed.TF T6 O0
       at61 = λ bs. λ Ψ. at60 bs Ψ
+
       abbrev at62 : (bs : List.List Nat.ℕ) → Typed.TF T5 O0
       at62 = λ bs. λ Ψ. Typed.both (s4 bs) (at61 bs Ψ)
+
       abbrev at63 : (bs : List.List Nat.ℕ) → Typed.TF T4 O0
       at63 = λ bs. λ Ψ. Typed.both (s3 bs) (at62 bs Ψ)
+
       abbrev at64 : (bs : List.List Nat.ℕ) → Typed.TF T3 O0
       at64 = λ bs. λ Ψ. Typed.both (s2 bs) (at63 bs Ψ)
+
       abbrev at65 : (bs : List.List Nat.ℕ) → Typed.TF T2 O0
       at65 = λ bs. λ Ψ. Typed.give (s1 bs) (at64 bs Ψ)
+
       abbrev at66 : (bs : List.List Nat.ℕ) → Typed.TF T0 O0
       at66 = λ bs. λ Ψ. Typed.give (s0 bs) (at65 bs Ψ)
+
       abbrev pub Φ : (bs : List.List Nat.ℕ) → Typed.TF T0 O0
       Φ = λ bs. at66 bs
-      module _ { M : Type 1 } (𝓤 : URA.URA M) (H : Wp.Heap 𝓤) (A : Atoms.Atoms 𝓤) (W : Kit.Given 𝓤 H A) (𝓣 : Wp.Tables 𝓤 H) where
+
+      module _ {M : Type 1} (𝓤 : URA.URA M) (H : Wp.Heap 𝓤) (A : Atoms.Atoms 𝓤) (W : Kit.Given 𝓤 H A)
+          (𝓣 : Wp.Tables 𝓤 H) where
         abbrev Knowns : Type 1
-        Knowns = Plain.Known 𝓤 H A W 𝓣 1 ps·0 r·0 (claims· .0) (claims· .1) "hnsr_circuit::draw::first_draw" × Plain.Known 𝓤 H A W 𝓣 0 ps·1 r·1
-            (claims· .2) (claims· .3) "hnsr_circuit::open::known_taken" × Plain.Known 𝓤 H A W 𝓣 3 ps·2 r·2 (claims· .4) (claims· .5)
-            "hnsr_circuit::handle_open::draw" × Plain.Known 𝓤 H A W 𝓣 0 ps·3 r·3 (claims· .6) (claims· .7) "hnsr_circuit::open::open_plan" ×
-            Plain.Known 𝓤 H A W 𝓣 0 ps·4 r·4 (claims· .8) (claims· .9) "hnsr_circuit::open::placed_entry" × Plain.Known 𝓤 H A W 𝓣 0 ps·5 r·5 (claims·
-            .10) (claims· .11) "hnsr_circuit::answer::is_taken" × Plain.Known 𝓤 H A W 𝓣 4 ps·6 r·6 (claims· .12) (claims· .13)
-            "hnsr_circuit::handle_open::open_placed" × Plain.Known 𝓤 H A W 𝓣 0 ps·7 r·7 (claims· .14) (claims· .15)
-            "hnsr_circuit::revoking_calls::refused"
+        Knowns = Plain.Known 𝓤 H A W 𝓣 1 ps·0 r·0 (claims· .0) (claims· .1) "hnsr_circuit::draw::first_draw" ×
+            Plain.Known 𝓤 H A W 𝓣 0 ps·1 r·1 (claims· .2) (claims· .3) "hnsr_circuit::open::known_taken" × Plain.Known
+            𝓤 H A W 𝓣 3 ps·2 r·2 (claims· .4) (claims· .5) "hnsr_circuit::handle_open::draw" × Plain.Known 𝓤 H A W 𝓣 0
+            ps·3 r·3 (claims· .6) (claims· .7) "hnsr_circuit::open::open_plan" × Plain.Known 𝓤 H A W 𝓣 0 ps·4 r·4
+            (claims· .8) (claims· .9) "hnsr_circuit::open::placed_entry" × Plain.Known 𝓤 H A W 𝓣 0 ps·5 r·5
+            (claims· .10) (claims· .11) "hnsr_circuit::answer::is_taken" × Plain.Known 𝓤 H A W 𝓣 4 ps·6 r·6
+            (claims· .12) (claims· .13) "hnsr_circuit::handle_open::open_placed" × Plain.Known 𝓤 H A W 𝓣 0 ps·7 r·7
+            (claims· .14) (claims· .15) "hnsr_circuit::revoking_calls::refused"
+
       module _ (κs : Lifetimes.Lfts 6) (qs : Lifetimes.Shares 6) where
         abbrev life0 : Row.Life
         life0 = Row.lease (κs .0) (qs .0)
+
         abbrev life1 : Row.Life
         life1 = Row.lease (κs .1 .1 .0) (qs .1 .1 .0)
+
         abbrev life2 : Row.Life
         life2 = Row.lease (κs .1 .1 .1 .0) (qs .1 .1 .1 .0)
+
         abbrev life3 : Row.Life
         life3 = Row.lease (κs .1 .1 .1 .1 .0) (qs .1 .1 .1 .1 .0)
+
         abbrev life4 : Row.Life
         life4 = Row.lease (κs .1 .0) (qs .1 .0)
+
         abbrev life5 : Row.Life
         life5 = Row.lease (κs .1 .1 .1 .1 .1 .0) (qs .1 .1 .1 .1 .1 .0)
+
+        abbrev l1 : Row.Entry
+        l1 = (1, Reshare.mslice-owedS RelayPending.row ref5 0 6 life0)
+
+        abbrev l1·1 : Row.Entry
+        l1·1 = (1, Relend.mslice-owed RelayPending.row ref5 0 7 life0)
+
+        abbrev l3 : Row.Entry
+        l3 = (3, Relend.mslice-owed ReservationUsage.row ref7 2 8 life1)
+
+        abbrev l4 : Row.Entry
+        l4 = (4, Relend.mslice-owed InflightAction.row ref8 3 9 life2)
+
+        abbrev l5 : Row.Entry
+        l5 = (5, Relend.mslice-owed (Referent.rtF (Referent.fInt Syntax.w32)) ref9 4 10 life3)
+
         abbrev g6 : List.List Row.Entry
-        g6 = (0, Rows.any-gone Laws'''''''.mir,) ∷ (1, Reshare.mslice-owedS RelayPending.row ref5 0 6 life0,) ∷ (2, Rows.sslice RelayCircuit.row ref6
-            1,) ∷ (3, Mut.mslice ReservationUsage.row ref7 2,) ∷ (4, Mut.mslice InflightAction.row ref8 3,) ∷ (5, Mut.mslice (Referent.rtF
-            (Referent.fInt Syntax.w32)) ref9 4,) ∷ (6, Rows.whole (Declared'.row OpaqueRelayRuntime.the-type)) ∷ (7, Rows.whole (Declared'.row
-            Places.the-type),) ∷ (8, Rows.whole (Declared'.row OpenGathered.the-type)) ∷ (9, Rows.sslice (Referent.rtF (Referent.fInt Syntax.w8))
-            ref10 5,) ∷ (10, Rows.whole (Declared'.row OpaqueRelayConfig.the-type)) ∷ (11, Rows.sc-here (Row.sInt Syntax.w64),) ∷ (12, Rows.sc-here
-            Row.sBool) ∷ (13, Rows.any-gone Laws'''''.mir,) ∷ (14, Rows.any-gone Laws'''.mir,) ∷ (15, Rows.any-gone Laws.mir,) ∷ List.[]
+        g6 = e0 ∷ l1 ∷ e2 ∷ e3 ∷ e4 ∷ e5 ∷ e6 ∷ e7 ∷ e8 ∷ e9 ∷ e10·1 ∷ e11·1 ∷ e12·1 ∷ e13 ∷ e14 ∷ e15 ∷ List.[]
+
         abbrev g9 : List.List Row.Entry
-        g9 = (0, Rows.any-gone Laws'''''''.mir,) ∷ (1, Reshare.mslice-owedS RelayPending.row ref5 0 6 life0,) ∷ (2, Rows.sslice RelayCircuit.row ref6
-            1,) ∷ (3, Mut.mslice ReservationUsage.row ref7 2,) ∷ (4, Mut.mslice InflightAction.row ref8 3,) ∷ (5, Mut.mslice (Referent.rtF
-            (Referent.fInt Syntax.w32)) ref9 4,) ∷ (6, Rows.whole (Declared'.row OpaqueRelayRuntime.the-type)) ∷ (7, Rows.whole (Declared'.row
-            Places.the-type),) ∷ (8, Rows.whole (Declared'.row OpenGathered.the-type)) ∷ (9, Rows.sslice (Referent.rtF (Referent.fInt Syntax.w8))
-            ref10 5,) ∷ (10, Rows.whole (Declared'.row OpaqueRelayConfig.the-type)) ∷ (11, Rows.sc-here (Row.sInt Syntax.w64),) ∷ (12, Rows.sc-here
-            Row.sBool) ∷ (13, Rows.whole (Declared'.row Drawing.the-type),) ∷ (14, Rows.any-gone Laws'''.mir,) ∷ (15, Rows.any-gone Laws.mir,) ∷
-            List.[]
+        g9 = e0 ∷ l1 ∷ e2 ∷ e3 ∷ e4 ∷ e5 ∷ e6 ∷ e7 ∷ e8 ∷ e9 ∷ e10·1 ∷ e11·1 ∷ e12·1 ∷ e13·1 ∷ e14 ∷ e15 ∷ List.[]
+
         abbrev g17 : List.List Row.Entry
-        g17 = (0, Rows.any-gone Laws'''''''.mir,) ∷ (1, Relend.mslice-owed RelayPending.row ref5 0 7 life0,) ∷ (2, Rows.sslice RelayCircuit.row ref6
-            1,) ∷ (3, Mut.mslice ReservationUsage.row ref7 2,) ∷ (4, Mut.mslice InflightAction.row ref8 3,) ∷ (5, Mut.mslice (Referent.rtF
-            (Referent.fInt Syntax.w32)) ref9 4,) ∷ (6, Rows.whole (Declared'.row OpaqueRelayRuntime.the-type)) ∷ (7, Rows.whole (Declared'.row
-            Places.the-type),) ∷ (8, Rows.whole (Declared'.row OpenGathered.the-type)) ∷ (9, Rows.sslice (Referent.rtF (Referent.fInt Syntax.w8))
-            ref10 5,) ∷ (10, Rows.any-gone Laws'.mir,) ∷ (11, Rows.sc-here (Row.sInt Syntax.w64)) ∷ (12, Rows.sc-here Row.sBool,) ∷ (13, Rows.whole
-            (Declared'.row Drawing.the-type)) ∷ (14, Rows.whole (Declared'.row OpenPlan.the-type),) ∷ (15, Rows.any-gone Laws.mir,) ∷ List.[]
+        g17 = e0 ∷ l1·1 ∷ e2 ∷ e3 ∷ e4 ∷ e5 ∷ e6 ∷ e7 ∷ e8 ∷ e9 ∷ e10 ∷ e11·1 ∷ e12·1 ∷ e13·1 ∷ e14·1 ∷ e15 ∷ List.[]
+
         abbrev g20 : List.List Row.Entry
-        g20 = (0, Rows.any-gone Laws'''''''.mir,) ∷ (1, Relend.mslice-owed RelayPending.row ref5 0 7 life0,) ∷ (2, Rows.sslice RelayCircuit.row ref6
-            1,) ∷ (3, Relend.mslice-owed ReservationUsage.row ref7 2 8 life1,) ∷ (4, Mut.mslice InflightAction.row ref8 3,) ∷ (5, Mut.mslice
-            (Referent.rtF (Referent.fInt Syntax.w32)) ref9 4,) ∷ (6, Rows.whole (Declared'.row OpaqueRelayRuntime.the-type)) ∷ (7, Rows.whole
-            (Declared'.row Places.the-type),) ∷ (8, Rows.whole (Declared'.row OpenGathered.the-type)) ∷ (9, Rows.sslice (Referent.rtF (Referent.fInt
-            Syntax.w8)) ref10 5,) ∷ (10, Rows.any-gone Laws'.mir,) ∷ (11, Rows.sc-here (Row.sInt Syntax.w64)) ∷ (12, Rows.sc-here Row.sBool,) ∷ (13,
-            Rows.whole (Declared'.row Drawing.the-type)) ∷ (14, Rows.whole (Declared'.row OpenPlan.the-type),) ∷ (15, Rows.any-gone Laws.mir,) ∷
-            List.[]
+        g20 = e0 ∷ l1·1 ∷ e2 ∷ l3 ∷ e4 ∷ e5 ∷ e6 ∷ e7 ∷ e8 ∷ e9 ∷ e10 ∷ e11·1 ∷ e12·1 ∷ e13·1 ∷ e14·1 ∷ e15 ∷ List.[]
+
         abbrev g23 : List.List Row.Entry
-        g23 = (0, Rows.any-gone Laws'''''''.mir,) ∷ (1, Relend.mslice-owed RelayPending.row ref5 0 7 life0,) ∷ (2, Rows.sslice RelayCircuit.row ref6
-            1,) ∷ (3, Relend.mslice-owed ReservationUsage.row ref7 2 8 life1,) ∷ (4, Relend.mslice-owed InflightAction.row ref8 3 9 life2,) ∷ (5,
-            Mut.mslice (Referent.rtF (Referent.fInt Syntax.w32)) ref9 4,) ∷ (6, Rows.whole (Declared'.row OpaqueRelayRuntime.the-type)) ∷ (7,
-            Rows.whole (Declared'.row Places.the-type),) ∷ (8, Rows.whole (Declared'.row OpenGathered.the-type)) ∷ (9, Rows.sslice (Referent.rtF
-            (Referent.fInt Syntax.w8)) ref10 5,) ∷ (10, Rows.any-gone Laws'.mir,) ∷ (11, Rows.sc-here (Row.sInt Syntax.w64)) ∷ (12, Rows.sc-here
-            Row.sBool,) ∷ (13, Rows.whole (Declared'.row Drawing.the-type)) ∷ (14, Rows.whole (Declared'.row OpenPlan.the-type),) ∷ (15, Rows.any-gone
-            Laws.mir,) ∷ List.[]
+        g23 = e0 ∷ l1·1 ∷ e2 ∷ l3 ∷ l4 ∷ e5 ∷ e6 ∷ e7 ∷ e8 ∷ e9 ∷ e10 ∷ e11·1 ∷ e12·1 ∷ e13·1 ∷ e14·1 ∷ e15 ∷ List.[]
+
         abbrev g26 : List.List Row.Entry
-        g26 = (0, Rows.any-gone Laws'''''''.mir,) ∷ (1, Relend.mslice-owed RelayPending.row ref5 0 7 life0,) ∷ (2, Rows.sslice RelayCircuit.row ref6
-            1,) ∷ (3, Relend.mslice-owed ReservationUsage.row ref7 2 8 life1,) ∷ (4, Relend.mslice-owed InflightAction.row ref8 3 9 life2,) ∷ (5,
-            Relend.mslice-owed (Referent.rtF (Referent.fInt Syntax.w32)) ref9 4 10 life3,) ∷ (6, Rows.whole (Declared'.row
-            OpaqueRelayRuntime.the-type)) ∷ (7, Rows.whole (Declared'.row Places.the-type),) ∷ (8, Rows.whole (Declared'.row OpenGathered.the-type)) ∷
-            (9, Rows.sslice (Referent.rtF (Referent.fInt Syntax.w8)) ref10 5,) ∷ (10, Rows.any-gone Laws'.mir,) ∷ (11, Rows.sc-here (Row.sInt
-            Syntax.w64)) ∷ (12, Rows.sc-here Row.sBool,) ∷ (13, Rows.whole (Declared'.row Drawing.the-type)) ∷ (14, Rows.whole (Declared'.row
-            OpenPlan.the-type),) ∷ (15, Rows.any-gone Laws.mir,) ∷ List.[]
+        g26 = e0 ∷ l1·1 ∷ e2 ∷ l3 ∷ l4 ∷ l5 ∷ e6 ∷ e7 ∷ e8 ∷ e9 ∷ e10 ∷ e11·1 ∷ e12·1 ∷ e13·1 ∷ e14·1 ∷ e15 ∷ List.[]
+
         abbrev g29 : List.List Row.Entry
-        g29 = (0, Rows.whole (Declared'.row Relayed.the-type)) ∷ (1, Relend.mslice-owed RelayPending.row ref5 0 7 life0,) ∷ (2, Rows.sslice
-            RelayCircuit.row ref6 1,) ∷ (3, Relend.mslice-owed ReservationUsage.row ref7 2 8 life1,) ∷ (4, Relend.mslice-owed InflightAction.row ref8
-            3 9 life2,) ∷ (5, Relend.mslice-owed (Referent.rtF (Referent.fInt Syntax.w32)) ref9 4 10 life3,) ∷ (6, Rows.whole (Declared'.row
-            OpaqueRelayRuntime.the-type)) ∷ (7, Rows.whole (Declared'.row Places.the-type),) ∷ (8, Rows.whole (Declared'.row OpenGathered.the-type)) ∷
-            (9, Rows.sslice (Referent.rtF (Referent.fInt Syntax.w8)) ref10 5,) ∷ (10, Rows.any-gone Laws'.mir,) ∷ (11, Rows.sc-here (Row.sInt
-            Syntax.w64)) ∷ (12, Rows.sc-here Row.sBool,) ∷ (13, Rows.whole (Declared'.row Drawing.the-type)) ∷ (14, Rows.whole (Declared'.row
-            OpenPlan.the-type),) ∷ (15, Rows.any-gone Laws.mir,) ∷ List.[]
+        g29 = e0·1 ∷ l1·1 ∷ e2 ∷ l3 ∷ l4 ∷ l5 ∷ e6 ∷ e7 ∷ e8 ∷ e9 ∷ e10 ∷ e11·1 ∷ e12·1 ∷ e13·1 ∷ e14·1 ∷ e15 ∷ List.[]
+
         abbrev g31 : List.List Row.Entry
-        g31 = (0, Rows.whole (Declared'.row Relayed.the-type)) ∷ (1, Relend.mslice-owed RelayPending.row ref5 0 7 life0,) ∷ (2, Rows.sslice
-            RelayCircuit.row ref6 1,) ∷ (3, Relend.mslice-owed ReservationUsage.row ref7 2 8 life1,) ∷ (4, Relend.mslice-owed InflightAction.row ref8
-            3 9 life2,) ∷ (5, Relend.mslice-owed (Referent.rtF (Referent.fInt Syntax.w32)) ref9 4 10 life3,) ∷ (6, Rows.any-gone Laws''''''.mir,) ∷
-            (7, Rows.whole (Declared'.row Places.the-type)) ∷ (8, Rows.whole (Declared'.row OpenGathered.the-type),) ∷ (9, Rows.sslice (Referent.rtF
-            (Referent.fInt Syntax.w8)) ref10 5,) ∷ (10, Rows.any-gone Laws'.mir,) ∷ (11, Rows.sc-here (Row.sInt Syntax.w64)) ∷ (12, Rows.sc-here
-            Row.sBool,) ∷ (13, Rows.whole (Declared'.row Drawing.the-type)) ∷ (14, Rows.whole (Declared'.row OpenPlan.the-type),) ∷ (15, Rows.any-gone
-            Laws.mir,) ∷ List.[]
-        abbrev g32 : List.List Row.Entry
-        g32 = (0, Rows.whole (Declared'.row Relayed.the-type)) ∷ (1, Relend.mslice-owed RelayPending.row ref5 0 7 life0,) ∷ (2, Rows.sslice
-            RelayCircuit.row ref6 1,) ∷ (3, Relend.mslice-owed ReservationUsage.row ref7 2 8 life1,) ∷ (4, Relend.mslice-owed InflightAction.row ref8
-            3 9 life2,) ∷ (5, Relend.mslice-owed (Referent.rtF (Referent.fInt Syntax.w32)) ref9 4 10 life3,) ∷ (6, Rows.any-gone Laws''''''.mir,) ∷
-            (7, Rows.any-gone Laws''''.mir,) ∷ (8, Rows.whole (Declared'.row OpenGathered.the-type)) ∷ (9, Rows.sslice (Referent.rtF (Referent.fInt
-            Syntax.w8)) ref10 5,) ∷ (10, Rows.any-gone Laws'.mir,) ∷ (11, Rows.sc-here (Row.sInt Syntax.w64)) ∷ (12, Rows.sc-here Row.sBool,) ∷ (13,
-            Rows.whole (Declared'.row Drawing.the-type)) ∷ (14, Rows.whole (Declared'.row OpenPlan.the-type),) ∷ (15, Rows.any-gone Laws.mir,) ∷
+        g31 = e0·1 ∷ l1·1 ∷ e2 ∷ l3 ∷ l4 ∷ l5 ∷ e6·1 ∷ e7 ∷ e8 ∷ e9 ∷ e10 ∷ e11·1 ∷ e12·1 ∷ e13·1 ∷ e14·1 ∷ e15 ∷
             List.[]
+
+        abbrev g32 : List.List Row.Entry
+        g32 = e0·1 ∷ l1·1 ∷ e2 ∷ l3 ∷ l4 ∷ l5 ∷ e6·1 ∷ e7·1 ∷ e8 ∷ e9 ∷ e10 ∷ e11·1 ∷ e12·1 ∷ e13·1 ∷ e14·1 ∷ e15 ∷
+            List.[]
+
         abbrev g33 : List.List Row.Entry
-        g33 = (0, Rows.whole (Declared'.row Relayed.the-type)) ∷ (1, Relend.mslice-owed RelayPending.row ref5 0 7 life0,) ∷ (2, Rows.sslice
-            RelayCircuit.row ref6 1,) ∷ (3, Relend.mslice-owed ReservationUsage.row ref7 2 8 life1,) ∷ (4, Relend.mslice-owed InflightAction.row ref8
-            3 9 life2,) ∷ (5, Relend.mslice-owed (Referent.rtF (Referent.fInt Syntax.w32)) ref9 4 10 life3,) ∷ (6, Rows.any-gone Laws''''''.mir,) ∷
-            (7, Rows.any-gone Laws''''.mir,) ∷ (8, Rows.any-gone Laws''.mir,) ∷ (9, Rows.sslice (Referent.rtF (Referent.fInt Syntax.w8)) ref10 5,) ∷
-            (10, Rows.any-gone Laws'.mir,) ∷ (11, Rows.sc-here (Row.sInt Syntax.w64)) ∷ (12, Rows.sc-here Row.sBool,) ∷ (13, Rows.whole (Declared'.row
-            Drawing.the-type)) ∷ (14, Rows.whole (Declared'.row OpenPlan.the-type),) ∷ (15, Rows.any-gone Laws.mir,) ∷ List.[]
+        g33 = e0·1 ∷ l1·1 ∷ e2 ∷ l3 ∷ l4 ∷ l5 ∷ e6·1 ∷ e7·1 ∷ e8·1 ∷ e9 ∷ e10 ∷ e11·1 ∷ e12·1 ∷ e13·1 ∷ e14·1 ∷ e15 ∷
+            List.[]
+
         abbrev g34 : List.List Row.Entry
-        g34 = (0, Rows.whole (Declared'.row Relayed.the-type)) ∷ (1, Relend.mslice-owed RelayPending.row ref5 0 7 life0,) ∷ (2, Rows.sslice
-            RelayCircuit.row ref6 1,) ∷ (3, Relend.mslice-owed ReservationUsage.row ref7 2 8 life1,) ∷ (4, Relend.mslice-owed InflightAction.row ref8
-            3 9 life2,) ∷ (5, Relend.mslice-owed (Referent.rtF (Referent.fInt Syntax.w32)) ref9 4 10 life3,) ∷ (6, Rows.any-gone Laws''''''.mir,) ∷
-            (7, Rows.any-gone Laws''''.mir,) ∷ (8, Rows.any-gone Laws''.mir,) ∷ (9, Rows.sslice (Referent.rtF (Referent.fInt Syntax.w8)) ref10 5,) ∷
-            (10, Rows.any-gone Laws'.mir,) ∷ (11, Rows.sc-here (Row.sInt Syntax.w64)) ∷ (12, Rows.sc-here Row.sBool,) ∷ (13, Rows.any-gone
-            Laws'''''.mir,) ∷ (14, Rows.whole (Declared'.row OpenPlan.the-type)) ∷ (15, Rows.any-gone Laws.mir,) ∷ List.[]
+        g34 = e0·1 ∷ l1·1 ∷ e2 ∷ l3 ∷ l4 ∷ l5 ∷ e6·1 ∷ e7·1 ∷ e8·1 ∷ e9 ∷ e10 ∷ e11·1 ∷ e12·1 ∷ e13 ∷ e14·1 ∷ e15 ∷
+            List.[]
+
         abbrev g35 : List.List Row.Entry
-        g35 = (0, Rows.whole (Declared'.row Relayed.the-type)) ∷ (1, Relend.mslice-owed RelayPending.row ref5 0 7 life0,) ∷ (2, Rows.sslice
-            RelayCircuit.row ref6 1,) ∷ (3, Relend.mslice-owed ReservationUsage.row ref7 2 8 life1,) ∷ (4, Relend.mslice-owed InflightAction.row ref8
-            3 9 life2,) ∷ (5, Relend.mslice-owed (Referent.rtF (Referent.fInt Syntax.w32)) ref9 4 10 life3,) ∷ (6, Rows.any-gone Laws''''''.mir,) ∷
-            (7, Rows.any-gone Laws''''.mir,) ∷ (8, Rows.any-gone Laws''.mir,) ∷ (9, Rows.sslice (Referent.rtF (Referent.fInt Syntax.w8)) ref10 5,) ∷
-            (10, Rows.any-gone Laws'.mir,) ∷ (11, Rows.sc-here (Row.sInt Syntax.w64)) ∷ (12, Rows.sc-here Row.sBool,) ∷ (13, Rows.any-gone
-            Laws'''''.mir,) ∷ (14, Rows.any-gone Laws'''.mir,) ∷ (15, Rows.any-gone Laws.mir,) ∷ List.[]
+        g35 = e0·1 ∷ l1·1 ∷ e2 ∷ l3 ∷ l4 ∷ l5 ∷ e6·1 ∷ e7·1 ∷ e8·1 ∷ e9 ∷ e10 ∷ e11·1 ∷ e12·1 ∷ e13 ∷ e14 ∷ e15 ∷
+            List.[]
+
         abbrev g36 : List.List Row.Entry
-        g36 = (0, Rows.whole (Declared'.row Relayed.the-type)) ∷ (1, Mut.mslice RelayPending.row ref5 0,) ∷ (2, Rows.sslice RelayCircuit.row ref6 1,)
-            ∷ (3, Relend.mslice-owed ReservationUsage.row ref7 2 8 life1,) ∷ (4, Relend.mslice-owed InflightAction.row ref8 3 9 life2,) ∷ (5,
-            Relend.mslice-owed (Referent.rtF (Referent.fInt Syntax.w32)) ref9 4 10 life3,) ∷ (6, Rows.any-gone Laws''''''.mir,) ∷ (7, Rows.any-gone
-            Laws''''.mir,) ∷ (8, Rows.any-gone Laws''.mir,) ∷ (9, Rows.sslice (Referent.rtF (Referent.fInt Syntax.w8)) ref10 5,) ∷ (10, Rows.any-gone
-            Laws'.mir,) ∷ (11, Rows.sc-here (Row.sInt Syntax.w64)) ∷ (12, Rows.sc-here Row.sBool,) ∷ (13, Rows.any-gone Laws'''''.mir,) ∷ (14,
-            Rows.any-gone Laws'''.mir,) ∷ (15, Rows.any-gone Laws.mir,) ∷ List.[]
+        g36 = e0·1 ∷ e1 ∷ e2 ∷ l3 ∷ l4 ∷ l5 ∷ e6·1 ∷ e7·1 ∷ e8·1 ∷ e9 ∷ e10 ∷ e11·1 ∷ e12·1 ∷ e13 ∷ e14 ∷ e15 ∷ List.[]
+
         abbrev g38 : List.List Row.Entry
-        g38 = (0, Rows.whole (Declared'.row Relayed.the-type)) ∷ (1, Mut.mslice RelayPending.row ref5 0,) ∷ (2, Rows.sslice RelayCircuit.row ref6 1,)
-            ∷ (3, Mut.mslice ReservationUsage.row ref7 2,) ∷ (4, Relend.mslice-owed InflightAction.row ref8 3 9 life2,) ∷ (5, Relend.mslice-owed
-            (Referent.rtF (Referent.fInt Syntax.w32)) ref9 4 10 life3,) ∷ (6, Rows.any-gone Laws''''''.mir,) ∷ (7, Rows.any-gone Laws''''.mir,) ∷ (8,
-            Rows.any-gone Laws''.mir,) ∷ (9, Rows.sslice (Referent.rtF (Referent.fInt Syntax.w8)) ref10 5,) ∷ (10, Rows.any-gone Laws'.mir,) ∷ (11,
-            Rows.sc-here (Row.sInt Syntax.w64)) ∷ (12, Rows.sc-here Row.sBool,) ∷ (13, Rows.any-gone Laws'''''.mir,) ∷ (14, Rows.any-gone
-            Laws'''.mir,) ∷ (15, Rows.any-gone Laws.mir,) ∷ List.[]
+        g38 = e0·1 ∷ e1 ∷ e2 ∷ e3 ∷ l4 ∷ l5 ∷ e6·1 ∷ e7·1 ∷ e8·1 ∷ e9 ∷ e10 ∷ e11·1 ∷ e12·1 ∷ e13 ∷ e14 ∷ e15 ∷ List.[]
+
         abbrev g40 : List.List Row.Entry
-        g40 = (0, Rows.whole (Declared'.row Relayed.the-type)) ∷ (1, Mut.mslice RelayPending.row ref5 0,) ∷ (2, Rows.sslice RelayCircuit.row ref6 1,)
-            ∷ (3, Mut.mslice ReservationUsage.row ref7 2,) ∷ (4, Mut.mslice InflightAction.row ref8 3,) ∷ (5, Relend.mslice-owed (Referent.rtF
-            (Referent.fInt Syntax.w32)) ref9 4 10 life3,) ∷ (6, Rows.any-gone Laws''''''.mir,) ∷ (7, Rows.any-gone Laws''''.mir,) ∷ (8, Rows.any-gone
-            Laws''.mir,) ∷ (9, Rows.sslice (Referent.rtF (Referent.fInt Syntax.w8)) ref10 5,) ∷ (10, Rows.any-gone Laws'.mir,) ∷ (11, Rows.sc-here
-            (Row.sInt Syntax.w64)) ∷ (12, Rows.sc-here Row.sBool,) ∷ (13, Rows.any-gone Laws'''''.mir,) ∷ (14, Rows.any-gone Laws'''.mir,) ∷ (15,
-            Rows.any-gone Laws.mir,) ∷ List.[]
+        g40 = e0·1 ∷ e1 ∷ e2 ∷ e3 ∷ e4 ∷ l5 ∷ e6·1 ∷ e7·1 ∷ e8·1 ∷ e9 ∷ e10 ∷ e11·1 ∷ e12·1 ∷ e13 ∷ e14 ∷ e15 ∷ List.[]
+
         abbrev G0 : Row.Cx
-        G0 = record { locals = List._++_ t0 t1; slots = life0 ∷ life4 ∷ life1 ∷ life2 ∷ life3 ∷ life5 ∷ Row.off ∷ Row.off ∷ Row.off ∷ Row.off ∷
-            Row.off ∷ List.[]; }
+        G0 = record {
+          locals = List._++_ t0 t1;
+          slots = life0 ∷ life4 ∷ life1 ∷ life2 ∷ life3 ∷ life5 ∷ Row.off ∷ Row.off ∷ Row.off ∷ Row.off ∷ Row.off ∷
+              List.[];
+        }
+
         abbrev G1 : Row.Cx
-        G1 = record { locals = List._++_ t2 t1; slots = life0 ∷ life4 ∷ life1 ∷ life2 ∷ life3 ∷ life5 ∷ Row.off ∷ Row.off ∷ Row.off ∷ Row.off ∷
-            Row.off ∷ List.[]; }
+        G1 = record {
+          locals = List._++_ t2 t1;
+          slots = life0 ∷ life4 ∷ life1 ∷ life2 ∷ life3 ∷ life5 ∷ Row.off ∷ Row.off ∷ Row.off ∷ Row.off ∷ Row.off ∷
+              List.[];
+        }
+
         abbrev G2 : Row.Cx
-        G2 = record { locals = List._++_ t0 t1; slots = life0 ∷ life4 ∷ life1 ∷ life2 ∷ life3 ∷ life5 ∷ Row.off ∷ Row.off ∷ Row.off ∷ Row.off ∷
-            Row.off ∷ List.[]; }
+        G2 = record {
+          locals = List._++_ t0 t1;
+          slots = life0 ∷ life4 ∷ life1 ∷ life2 ∷ life3 ∷ life5 ∷ Row.off ∷ Row.off ∷ Row.off ∷ Row.off ∷ Row.off ∷
+              List.[];
+        }
+
         abbrev G3 : Row.Cx
-        G3 = record { locals = List._++_ t0 t1; slots = life0 ∷ life4 ∷ life1 ∷ life2 ∷ life3 ∷ life5 ∷ Row.off ∷ Row.off ∷ Row.off ∷ Row.off ∷
-            Row.off ∷ List.[]; }
+        G3 = record {
+          locals = List._++_ t0 t1;
+          slots = life0 ∷ life4 ∷ life1 ∷ life2 ∷ life3 ∷ life5 ∷ Row.off ∷ Row.off ∷ Row.off ∷ Row.off ∷ Row.off ∷
+              List.[];
+        }
+
         abbrev G4 : Row.Cx
-        G4 = record { locals = List._++_ t3 t1; slots = life0 ∷ life4 ∷ life1 ∷ life2 ∷ life3 ∷ life5 ∷ Row.off ∷ Row.off ∷ Row.off ∷ Row.off ∷
-            Row.off ∷ List.[]; }
+        G4 = record {
+          locals = List._++_ t3 t1;
+          slots = life0 ∷ life4 ∷ life1 ∷ life2 ∷ life3 ∷ life5 ∷ Row.off ∷ Row.off ∷ Row.off ∷ Row.off ∷ Row.off ∷
+              List.[];
+        }
+
         abbrev G5 : Row.Cx
-        G5 = record { locals = List._++_ t4 t1; slots = life0 ∷ life4 ∷ life1 ∷ life2 ∷ life3 ∷ life5 ∷ Row.off ∷ Row.off ∷ Row.off ∷ Row.off ∷
-            Row.off ∷ List.[]; }
+        G5 = record {
+          locals = List._++_ t4 t1;
+          slots = life0 ∷ life4 ∷ life1 ∷ life2 ∷ life3 ∷ life5 ∷ Row.off ∷ Row.off ∷ Row.off ∷ Row.off ∷ Row.off ∷
+              List.[];
+        }
+
         abbrev G6 : Row.Cx
-        G6 = record { locals = List._++_ t5 t1; slots = life0 ∷ life4 ∷ life1 ∷ life2 ∷ life3 ∷ life5 ∷ Row.off ∷ Row.off ∷ Row.off ∷ Row.off ∷
-            Row.off ∷ List.[]; }
+        G6 = record {
+          locals = List._++_ t5 t1;
+          slots = life0 ∷ life4 ∷ life1 ∷ life2 ∷ life3 ∷ life5 ∷ Row.off ∷ Row.off ∷ Row.off ∷ Row.off ∷ Row.off ∷
+              List.[];
+        }
+
         abbrev G7 : Row.Cx
-        G7 = record { locals = List._++_ t5 t1; slots = life0 ∷ life4 ∷ life1 ∷ life2 ∷ life3 ∷ life5 ∷ Row.alive ∷ Row.off ∷ Row.off ∷ Row.off ∷
-            Row.off ∷ List.[]; }
+        G7 = record {
+          locals = List._++_ t5 t1;
+          slots = life0 ∷ life4 ∷ life1 ∷ life2 ∷ life3 ∷ life5 ∷ Row.alive ∷ Row.off ∷ Row.off ∷ Row.off ∷ Row.off ∷
+              List.[];
+        }
+
         abbrev G8 : Row.Cx
-        G8 = record { locals = List._++_ g6 t7; slots = Row.off ∷ life4 ∷ life1 ∷ life2 ∷ life3 ∷ life5 ∷ Row.alive ∷ Row.off ∷ Row.off ∷ Row.off ∷
-            Row.off ∷ List.[]; }
+        G8 = record {
+          locals = List._++_ g6 t7;
+          slots = Row.off ∷ life4 ∷ life1 ∷ life2 ∷ life3 ∷ life5 ∷ Row.alive ∷ Row.off ∷ Row.off ∷ Row.off ∷ Row.off ∷
+              List.[];
+        }
+
         abbrev G9 : Row.Cx
-        G9 = record { locals = List._++_ g6 t8; slots = Row.off ∷ life4 ∷ life1 ∷ life2 ∷ life3 ∷ life5 ∷ Row.alive ∷ Row.off ∷ Row.off ∷ Row.off ∷
-            Row.off ∷ List.[]; }
+        G9 = record {
+          locals = List._++_ g6 t8;
+          slots = Row.off ∷ life4 ∷ life1 ∷ life2 ∷ life3 ∷ life5 ∷ Row.alive ∷ Row.off ∷ Row.off ∷ Row.off ∷ Row.off ∷
+              List.[];
+        }
+
         abbrev G10 : Row.Cx
-        G10 = record { locals = List._++_ g9 t8; slots = Row.off ∷ life4 ∷ life1 ∷ life2 ∷ life3 ∷ life5 ∷ Row.alive ∷ Row.off ∷ Row.off ∷ Row.off ∷
-            Row.off ∷ List.[]; }
+        G10 = record {
+          locals = List._++_ g9 t8;
+          slots = Row.off ∷ life4 ∷ life1 ∷ life2 ∷ life3 ∷ life5 ∷ Row.alive ∷ Row.off ∷ Row.off ∷ Row.off ∷ Row.off ∷
+              List.[];
+        }
+
         abbrev G11 : Row.Cx
-        G11 = record { locals = List._++_ g9 t1; slots = Row.off ∷ life4 ∷ life1 ∷ life2 ∷ life3 ∷ life5 ∷ Row.alive ∷ Row.off ∷ Row.off ∷ Row.off ∷
-            Row.off ∷ List.[]; }
+        G11 = record {
+          locals = List._++_ g9 t1;
+          slots = Row.off ∷ life4 ∷ life1 ∷ life2 ∷ life3 ∷ life5 ∷ Row.alive ∷ Row.off ∷ Row.off ∷ Row.off ∷ Row.off ∷
+              List.[];
+        }
+
         abbrev G12 : Row.Cx
-        G12 = record { locals = List._++_ g9 t1; slots = Row.off ∷ life4 ∷ life1 ∷ life2 ∷ life3 ∷ life5 ∷ Row.dead ∷ Row.off ∷ Row.off ∷ Row.off ∷
-            Row.off ∷ List.[]; }
+        G12 = record {
+          locals = List._++_ g9 t1;
+          slots = Row.off ∷ life4 ∷ life1 ∷ life2 ∷ life3 ∷ life5 ∷ Row.dead ∷ Row.off ∷ Row.off ∷ Row.off ∷ Row.off ∷
+              List.[];
+        }
+
         abbrev G13 : Row.Cx
-        G13 = record { locals = List._++_ t10 t1; slots = life0 ∷ life4 ∷ life1 ∷ life2 ∷ life3 ∷ life5 ∷ Row.dead ∷ Row.off ∷ Row.off ∷ Row.off ∷
-            Row.off ∷ List.[]; }
+        G13 = record {
+          locals = List._++_ t10 t1;
+          slots = life0 ∷ life4 ∷ life1 ∷ life2 ∷ life3 ∷ life5 ∷ Row.dead ∷ Row.off ∷ Row.off ∷ Row.off ∷ Row.off ∷
+              List.[];
+        }
+
         abbrev G14 : Row.Cx
-        G14 = record { locals = List._++_ t10 t1; slots = life0 ∷ life4 ∷ life1 ∷ life2 ∷ life3 ∷ life5 ∷ Row.off ∷ Row.off ∷ Row.off ∷ Row.off ∷
-            Row.off ∷ List.[]; }
+        G14 = record {
+          locals = List._++_ t10 t1;
+          slots = life0 ∷ life4 ∷ life1 ∷ life2 ∷ life3 ∷ life5 ∷ Row.off ∷ Row.off ∷ Row.off ∷ Row.off ∷ Row.off ∷
+              List.[];
+        }
+
         abbrev G15 : Row.Cx
-        G15 = record { locals = List._++_ t11 t1; slots = life0 ∷ life4 ∷ life1 ∷ life2 ∷ life3 ∷ life5 ∷ Row.off ∷ Row.off ∷ Row.off ∷ Row.off ∷
-            Row.off ∷ List.[]; }
+        G15 = record {
+          locals = List._++_ t11 t1;
+          slots = life0 ∷ life4 ∷ life1 ∷ life2 ∷ life3 ∷ life5 ∷ Row.off ∷ Row.off ∷ Row.off ∷ Row.off ∷ Row.off ∷
+              List.[];
+        }
+
         abbrev G16 : Row.Cx
-        G16 = record { locals = List._++_ t12 t1; slots = life0 ∷ life4 ∷ life1 ∷ life2 ∷ life3 ∷ life5 ∷ Row.off ∷ Row.off ∷ Row.off ∷ Row.off ∷
-            Row.off ∷ List.[]; }
+        G16 = record {
+          locals = List._++_ t12 t1;
+          slots = life0 ∷ life4 ∷ life1 ∷ life2 ∷ life3 ∷ life5 ∷ Row.off ∷ Row.off ∷ Row.off ∷ Row.off ∷ Row.off ∷
+              List.[];
+        }
+
         abbrev G17 : Row.Cx
-        G17 = record { locals = List._++_ t13 t1; slots = life0 ∷ life4 ∷ life1 ∷ life2 ∷ life3 ∷ life5 ∷ Row.off ∷ Row.off ∷ Row.off ∷ Row.off ∷
-            Row.off ∷ List.[]; }
+        G17 = record {
+          locals = List._++_ t13 t1;
+          slots = life0 ∷ life4 ∷ life1 ∷ life2 ∷ life3 ∷ life5 ∷ Row.off ∷ Row.off ∷ Row.off ∷ Row.off ∷ Row.off ∷
+              List.[];
+        }
+
         abbrev G18 : Row.Cx
-        G18 = record { locals = List._++_ t13 t14; slots = life0 ∷ life4 ∷ life1 ∷ life2 ∷ life3 ∷ life5 ∷ Row.off ∷ Row.off ∷ Row.off ∷ Row.off ∷
-            Row.off ∷ List.[]; }
+        G18 = record {
+          locals = List._++_ t13 t14;
+          slots = life0 ∷ life4 ∷ life1 ∷ life2 ∷ life3 ∷ life5 ∷ Row.off ∷ Row.off ∷ Row.off ∷ Row.off ∷ Row.off ∷
+              List.[];
+        }
+
         abbrev G19 : Row.Cx
-        G19 = record { locals = List._++_ t15 t1; slots = life0 ∷ life4 ∷ life1 ∷ life2 ∷ life3 ∷ life5 ∷ Row.off ∷ Row.off ∷ Row.off ∷ Row.off ∷
-            Row.off ∷ List.[]; }
+        G19 = record {
+          locals = List._++_ t15 t1;
+          slots = life0 ∷ life4 ∷ life1 ∷ life2 ∷ life3 ∷ life5 ∷ Row.off ∷ Row.off ∷ Row.off ∷ Row.off ∷ Row.off ∷
+              List.[];
+        }
+
         abbrev G20 : Row.Cx
-        G20 = record { locals = List._++_ t16 t14; slots = life0 ∷ life4 ∷ life1 ∷ life2 ∷ life3 ∷ life5 ∷ Row.off ∷ Row.off ∷ Row.off ∷ Row.off ∷
-            Row.off ∷ List.[]; }
+        G20 = record {
+          locals = List._++_ t16 t14;
+          slots = life0 ∷ life4 ∷ life1 ∷ life2 ∷ life3 ∷ life5 ∷ Row.off ∷ Row.off ∷ Row.off ∷ Row.off ∷ Row.off ∷
+              List.[];
+        }
+
         abbrev G21 : Row.Cx
-        G21 = record { locals = List._++_ t16 t1; slots = life0 ∷ life4 ∷ life1 ∷ life2 ∷ life3 ∷ life5 ∷ Row.off ∷ Row.off ∷ Row.off ∷ Row.off ∷
-            Row.off ∷ List.[]; }
+        G21 = record {
+          locals = List._++_ t16 t1;
+          slots = life0 ∷ life4 ∷ life1 ∷ life2 ∷ life3 ∷ life5 ∷ Row.off ∷ Row.off ∷ Row.off ∷ Row.off ∷ Row.off ∷
+              List.[];
+        }
+
         abbrev G22 : Row.Cx
-        G22 = record { locals = List._++_ t16 t1; slots = life0 ∷ life4 ∷ life1 ∷ life2 ∷ life3 ∷ life5 ∷ Row.off ∷ Row.alive ∷ Row.off ∷ Row.off ∷
-            Row.off ∷ List.[]; }
+        G22 = record {
+          locals = List._++_ t16 t1;
+          slots = life0 ∷ life4 ∷ life1 ∷ life2 ∷ life3 ∷ life5 ∷ Row.off ∷ Row.alive ∷ Row.off ∷ Row.off ∷ Row.off ∷
+              List.[];
+        }
+
         abbrev G23 : Row.Cx
-        G23 = record { locals = List._++_ g17 t18; slots = Row.off ∷ life4 ∷ life1 ∷ life2 ∷ life3 ∷ life5 ∷ Row.off ∷ Row.alive ∷ Row.off ∷ Row.off ∷
-            Row.off ∷ List.[]; }
+        G23 = record {
+          locals = List._++_ g17 t18;
+          slots = Row.off ∷ life4 ∷ life1 ∷ life2 ∷ life3 ∷ life5 ∷ Row.off ∷ Row.alive ∷ Row.off ∷ Row.off ∷ Row.off ∷
+              List.[];
+        }
+
         abbrev G24 : Row.Cx
-        G24 = record { locals = List._++_ g17 t19; slots = Row.off ∷ life4 ∷ life1 ∷ life2 ∷ life3 ∷ life5 ∷ Row.off ∷ Row.alive ∷ Row.off ∷ Row.off ∷
-            Row.off ∷ List.[]; }
+        G24 = record {
+          locals = List._++_ g17 t19;
+          slots = Row.off ∷ life4 ∷ life1 ∷ life2 ∷ life3 ∷ life5 ∷ Row.off ∷ Row.alive ∷ Row.off ∷ Row.off ∷ Row.off ∷
+              List.[];
+        }
+
         abbrev G25 : Row.Cx
-        G25 = record { locals = List._++_ g17 t19; slots = Row.off ∷ life4 ∷ life1 ∷ life2 ∷ life3 ∷ life5 ∷ Row.off ∷ Row.alive ∷ Row.alive ∷ Row.off
-            ∷ Row.off ∷ List.[]; }
+        G25 = record {
+          locals = List._++_ g17 t19;
+          slots = Row.off ∷ life4 ∷ life1 ∷ life2 ∷ life3 ∷ life5 ∷ Row.off ∷ Row.alive ∷ Row.alive ∷ Row.off ∷ Row.off
+              ∷ List.[];
+        }
+
         abbrev G26 : Row.Cx
-        G26 = record { locals = List._++_ g20 t21; slots = Row.off ∷ life4 ∷ Row.off ∷ life2 ∷ life3 ∷ life5 ∷ Row.off ∷ Row.alive ∷ Row.alive ∷
-            Row.off ∷ Row.off ∷ List.[]; }
+        G26 = record {
+          locals = List._++_ g20 t21;
+          slots = Row.off ∷ life4 ∷ Row.off ∷ life2 ∷ life3 ∷ life5 ∷ Row.off ∷ Row.alive ∷ Row.alive ∷ Row.off ∷
+              Row.off ∷ List.[];
+        }
+
         abbrev G27 : Row.Cx
-        G27 = record { locals = List._++_ g20 t22; slots = Row.off ∷ life4 ∷ Row.off ∷ life2 ∷ life3 ∷ life5 ∷ Row.off ∷ Row.alive ∷ Row.alive ∷
-            Row.off ∷ Row.off ∷ List.[]; }
+        G27 = record {
+          locals = List._++_ g20 t22;
+          slots = Row.off ∷ life4 ∷ Row.off ∷ life2 ∷ life3 ∷ life5 ∷ Row.off ∷ Row.alive ∷ Row.alive ∷ Row.off ∷
+              Row.off ∷ List.[];
+        }
+
         abbrev G28 : Row.Cx
-        G28 = record { locals = List._++_ g20 t22; slots = Row.off ∷ life4 ∷ Row.off ∷ life2 ∷ life3 ∷ life5 ∷ Row.off ∷ Row.alive ∷ Row.alive ∷
-            Row.alive ∷ Row.off ∷ List.[]; }
+        G28 = record {
+          locals = List._++_ g20 t22;
+          slots = Row.off ∷ life4 ∷ Row.off ∷ life2 ∷ life3 ∷ life5 ∷ Row.off ∷ Row.alive ∷ Row.alive ∷ Row.alive ∷
+              Row.off ∷ List.[];
+        }
+
         abbrev G29 : Row.Cx
-        G29 = record { locals = List._++_ g23 t24; slots = Row.off ∷ life4 ∷ Row.off ∷ Row.off ∷ life3 ∷ life5 ∷ Row.off ∷ Row.alive ∷ Row.alive ∷
-            Row.alive ∷ Row.off ∷ List.[]; }
+        G29 = record {
+          locals = List._++_ g23 t24;
+          slots = Row.off ∷ life4 ∷ Row.off ∷ Row.off ∷ life3 ∷ life5 ∷ Row.off ∷ Row.alive ∷ Row.alive ∷ Row.alive ∷
+              Row.off ∷ List.[];
+        }
+
         abbrev G30 : Row.Cx
-        G30 = record { locals = List._++_ g23 t25; slots = Row.off ∷ life4 ∷ Row.off ∷ Row.off ∷ life3 ∷ life5 ∷ Row.off ∷ Row.alive ∷ Row.alive ∷
-            Row.alive ∷ Row.off ∷ List.[]; }
+        G30 = record {
+          locals = List._++_ g23 t25;
+          slots = Row.off ∷ life4 ∷ Row.off ∷ Row.off ∷ life3 ∷ life5 ∷ Row.off ∷ Row.alive ∷ Row.alive ∷ Row.alive ∷
+              Row.off ∷ List.[];
+        }
+
         abbrev G31 : Row.Cx
-        G31 = record { locals = List._++_ g23 t25; slots = Row.off ∷ life4 ∷ Row.off ∷ Row.off ∷ life3 ∷ life5 ∷ Row.off ∷ Row.alive ∷ Row.alive ∷
-            Row.alive ∷ Row.alive ∷ List.[]; }
+        G31 = record {
+          locals = List._++_ g23 t25;
+          slots = Row.off ∷ life4 ∷ Row.off ∷ Row.off ∷ life3 ∷ life5 ∷ Row.off ∷ Row.alive ∷ Row.alive ∷ Row.alive ∷
+              Row.alive ∷ List.[];
+        }
+
         abbrev G32 : Row.Cx
-        G32 = record { locals = List._++_ g26 t27; slots = Row.off ∷ life4 ∷ Row.off ∷ Row.off ∷ Row.off ∷ life5 ∷ Row.off ∷ Row.alive ∷ Row.alive ∷
-            Row.alive ∷ Row.alive ∷ List.[]; }
+        G32 = record {
+          locals = List._++_ g26 t27;
+          slots = Row.off ∷ life4 ∷ Row.off ∷ Row.off ∷ Row.off ∷ life5 ∷ Row.off ∷ Row.alive ∷ Row.alive ∷ Row.alive ∷
+              Row.alive ∷ List.[];
+        }
+
         abbrev G33 : Row.Cx
-        G33 = record { locals = List._++_ g26 t28; slots = Row.off ∷ life4 ∷ Row.off ∷ Row.off ∷ Row.off ∷ life5 ∷ Row.off ∷ Row.alive ∷ Row.alive ∷
-            Row.alive ∷ Row.alive ∷ List.[]; }
+        G33 = record {
+          locals = List._++_ g26 t28;
+          slots = Row.off ∷ life4 ∷ Row.off ∷ Row.off ∷ Row.off ∷ life5 ∷ Row.off ∷ Row.alive ∷ Row.alive ∷ Row.alive ∷
+              Row.alive ∷ List.[];
+        }
+
         abbrev G34 : Row.Cx
-        G34 = record { locals = List._++_ g29 t30; slots = Row.off ∷ life4 ∷ Row.off ∷ Row.off ∷ Row.off ∷ life5 ∷ Row.off ∷ Row.alive ∷ Row.alive ∷
-            Row.alive ∷ Row.alive ∷ List.[]; }
+        G34 = record {
+          locals = List._++_ g29 t30;
+          slots = Row.off ∷ life4 ∷ Row.off ∷ Row.off ∷ Row.off ∷ life5 ∷ Row.off ∷ Row.alive ∷ Row.alive ∷ Row.alive ∷
+              Row.alive ∷ List.[];
+        }
+
         abbrev G35 : Row.Cx
-        G35 = record { locals = List._++_ g31 t30; slots = Row.off ∷ life4 ∷ Row.off ∷ Row.off ∷ Row.off ∷ life5 ∷ Row.off ∷ Row.alive ∷ Row.alive ∷
-            Row.alive ∷ Row.alive ∷ List.[]; }
+        G35 = record {
+          locals = List._++_ g31 t30;
+          slots = Row.off ∷ life4 ∷ Row.off ∷ Row.off ∷ Row.off ∷ life5 ∷ Row.off ∷ Row.alive ∷ Row.alive ∷ Row.alive ∷
+              Row.alive ∷ List.[];
+        }
+
         abbrev G36 : Row.Cx
-        G36 = record { locals = List._++_ g32 t30; slots = Row.off ∷ life4 ∷ Row.off ∷ Row.off ∷ Row.off ∷ life5 ∷ Row.off ∷ Row.alive ∷ Row.alive ∷
-            Row.alive ∷ Row.alive ∷ List.[]; }
+        G36 = record {
+          locals = List._++_ g32 t30;
+          slots = Row.off ∷ life4 ∷ Row.off ∷ Row.off ∷ Row.off ∷ life5 ∷ Row.off ∷ Row.alive ∷ Row.alive ∷ Row.alive ∷
+              Row.alive ∷ List.[];
+        }
+
         abbrev G37 : Row.Cx
-        G37 = record { locals = List._++_ g33 t30; slots = Row.off ∷ life4 ∷ Row.off ∷ Row.off ∷ Row.off ∷ life5 ∷ Row.off ∷ Row.alive ∷ Row.alive ∷
-            Row.alive ∷ Row.alive ∷ List.[]; }
+        G37 = record {
+          locals = List._++_ g33 t30;
+          slots = Row.off ∷ life4 ∷ Row.off ∷ Row.off ∷ Row.off ∷ life5 ∷ Row.off ∷ Row.alive ∷ Row.alive ∷ Row.alive ∷
+              Row.alive ∷ List.[];
+        }
+
         abbrev G38 : Row.Cx
-        G38 = record { locals = List._++_ g34 t30; slots = Row.off ∷ life4 ∷ Row.off ∷ Row.off ∷ Row.off ∷ life5 ∷ Row.off ∷ Row.alive ∷ Row.alive ∷
-            Row.alive ∷ Row.alive ∷ List.[]; }
+        G38 = record {
+          locals = List._++_ g34 t30;
+          slots = Row.off ∷ life4 ∷ Row.off ∷ Row.off ∷ Row.off ∷ life5 ∷ Row.off ∷ Row.alive ∷ Row.alive ∷ Row.alive ∷
+              Row.alive ∷ List.[];
+        }
+
         abbrev G39 : Row.Cx
-        G39 = record { locals = List._++_ g35 t30; slots = Row.off ∷ life4 ∷ Row.off ∷ Row.off ∷ Row.off ∷ life5 ∷ Row.off ∷ Row.alive ∷ Row.alive ∷
-            Row.alive ∷ Row.alive ∷ List.[]; }
+        G39 = record {
+          locals = List._++_ g35 t30;
+          slots = Row.off ∷ life4 ∷ Row.off ∷ Row.off ∷ Row.off ∷ life5 ∷ Row.off ∷ Row.alive ∷ Row.alive ∷ Row.alive ∷
+              Row.alive ∷ List.[];
+        }
+
         abbrev G40 : Row.Cx
-        G40 = record { locals = List._++_ g35 t30; slots = Row.off ∷ life4 ∷ Row.off ∷ Row.off ∷ Row.off ∷ life5 ∷ Row.off ∷ Row.dead ∷ Row.alive ∷
-            Row.alive ∷ Row.alive ∷ List.[]; }
+        G40 = record {
+          locals = List._++_ g35 t30;
+          slots = Row.off ∷ life4 ∷ Row.off ∷ Row.off ∷ Row.off ∷ life5 ∷ Row.off ∷ Row.dead ∷ Row.alive ∷ Row.alive ∷
+              Row.alive ∷ List.[];
+        }
+
         abbrev G41 : Row.Cx
-        G41 = record { locals = List._++_ g36 t37; slots = life0 ∷ life4 ∷ Row.off ∷ Row.off ∷ Row.off ∷ life5 ∷ Row.off ∷ Row.dead ∷ Row.alive ∷
-            Row.alive ∷ Row.alive ∷ List.[]; }
+        G41 = record {
+          locals = List._++_ g36 t37;
+          slots = life0 ∷ life4 ∷ Row.off ∷ Row.off ∷ Row.off ∷ life5 ∷ Row.off ∷ Row.dead ∷ Row.alive ∷ Row.alive ∷
+              Row.alive ∷ List.[];
+        }
+
         abbrev G42 : Row.Cx
-        G42 = record { locals = List._++_ g36 t37; slots = life0 ∷ life4 ∷ Row.off ∷ Row.off ∷ Row.off ∷ life5 ∷ Row.off ∷ Row.off ∷ Row.alive ∷
-            Row.alive ∷ Row.alive ∷ List.[]; }
+        G42 = record {
+          locals = List._++_ g36 t37;
+          slots = life0 ∷ life4 ∷ Row.off ∷ Row.off ∷ Row.off ∷ life5 ∷ Row.off ∷ Row.off ∷ Row.alive ∷ Row.alive ∷
+              Row.alive ∷ List.[];
+        }
+
         abbrev G43 : Row.Cx
-        G43 = record { locals = List._++_ g36 t37; slots = life0 ∷ life4 ∷ Row.off ∷ Row.off ∷ Row.off ∷ life5 ∷ Row.off ∷ Row.off ∷ Row.dead ∷
-            Row.alive ∷ Row.alive ∷ List.[]; }
+        G43 = record {
+          locals = List._++_ g36 t37;
+          slots = life0 ∷ life4 ∷ Row.off ∷ Row.off ∷ Row.off ∷ life5 ∷ Row.off ∷ Row.off ∷ Row.dead ∷ Row.alive ∷
+              Row.alive ∷ List.[];
+        }
+
         abbrev G44 : Row.Cx
-        G44 = record { locals = List._++_ g38 t39; slots = life0 ∷ life4 ∷ life1 ∷ Row.off ∷ Row.off ∷ life5 ∷ Row.off ∷ Row.off ∷ Row.dead ∷
-            Row.alive ∷ Row.alive ∷ List.[]; }
+        G44 = record {
+          locals = List._++_ g38 t39;
+          slots = life0 ∷ life4 ∷ life1 ∷ Row.off ∷ Row.off ∷ life5 ∷ Row.off ∷ Row.off ∷ Row.dead ∷ Row.alive ∷
+              Row.alive ∷ List.[];
+        }
+
         abbrev G45 : Row.Cx
-        G45 = record { locals = List._++_ g38 t39; slots = life0 ∷ life4 ∷ life1 ∷ Row.off ∷ Row.off ∷ life5 ∷ Row.off ∷ Row.off ∷ Row.off ∷ Row.alive
-            ∷ Row.alive ∷ List.[]; }
+        G45 = record {
+          locals = List._++_ g38 t39;
+          slots = life0 ∷ life4 ∷ life1 ∷ Row.off ∷ Row.off ∷ life5 ∷ Row.off ∷ Row.off ∷ Row.off ∷ Row.alive ∷
+              Row.alive ∷ List.[];
+        }
+
         abbrev G46 : Row.Cx
-        G46 = record { locals = List._++_ g38 t39; slots = life0 ∷ life4 ∷ life1 ∷ Row.off ∷ Row.off ∷ life5 ∷ Row.off ∷ Row.off ∷ Row.off ∷ Row.dead
-            ∷ Row.alive ∷ List.[]; }
+        G46 = record {
+          locals = List._++_ g38 t39;
+          slots = life0 ∷ life4 ∷ life1 ∷ Row.off ∷ Row.off ∷ life5 ∷ Row.off ∷ Row.off ∷ Row.off ∷ Row.dead ∷
+              Row.alive ∷ List.[];
+        }
+
         abbrev G47 : Row.Cx
-        G47 = record { locals = List._++_ g40 t41; slots = life0 ∷ life4 ∷ life1 ∷ life2 ∷ Row.off ∷ life5 ∷ Row.off ∷ Row.off ∷ Row.off ∷ Row.dead ∷
-            Row.alive ∷ List.[]; }
+        G47 = record {
+          locals = List._++_ g40 t41;
+          slots = life0 ∷ life4 ∷ life1 ∷ life2 ∷ Row.off ∷ life5 ∷ Row.off ∷ Row.off ∷ Row.off ∷ Row.dead ∷ Row.alive
+              ∷ List.[];
+        }
+
         abbrev G48 : Row.Cx
-        G48 = record { locals = List._++_ g40 t41; slots = life0 ∷ life4 ∷ life1 ∷ life2 ∷ Row.off ∷ life5 ∷ Row.off ∷ Row.off ∷ Row.off ∷ Row.off ∷
-            Row.alive ∷ List.[]; }
+        G48 = record {
+          locals = List._++_ g40 t41;
+          slots = life0 ∷ life4 ∷ life1 ∷ life2 ∷ Row.off ∷ life5 ∷ Row.off ∷ Row.off ∷ Row.off ∷ Row.off ∷ Row.alive ∷
+              List.[];
+        }
+
         abbrev G49 : Row.Cx
-        G49 = record { locals = List._++_ g40 t41; slots = life0 ∷ life4 ∷ life1 ∷ life2 ∷ Row.off ∷ life5 ∷ Row.off ∷ Row.off ∷ Row.off ∷ Row.off ∷
-            Row.dead ∷ List.[]; }
+        G49 = record {
+          locals = List._++_ g40 t41;
+          slots = life0 ∷ life4 ∷ life1 ∷ life2 ∷ Row.off ∷ life5 ∷ Row.off ∷ Row.off ∷ Row.off ∷ Row.off ∷ Row.dead ∷
+              List.[];
+        }
+
         abbrev G50 : Row.Cx
-        G50 = record { locals = List._++_ t42 t1; slots = life0 ∷ life4 ∷ life1 ∷ life2 ∷ life3 ∷ life5 ∷ Row.off ∷ Row.off ∷ Row.off ∷ Row.off ∷
-            Row.dead ∷ List.[]; }
+        G50 = record {
+          locals = List._++_ t42 t1;
+          slots = life0 ∷ life4 ∷ life1 ∷ life2 ∷ life3 ∷ life5 ∷ Row.off ∷ Row.off ∷ Row.off ∷ Row.off ∷ Row.dead ∷
+              List.[];
+        }
+
         abbrev G51 : Row.Cx
-        G51 = record { locals = List._++_ t42 t1; slots = life0 ∷ life4 ∷ life1 ∷ life2 ∷ life3 ∷ life5 ∷ Row.off ∷ Row.off ∷ Row.off ∷ Row.off ∷
-            Row.dead ∷ List.[]; }
+        G51 = record {
+          locals = List._++_ t42 t1;
+          slots = life0 ∷ life4 ∷ life1 ∷ life2 ∷ life3 ∷ life5 ∷ Row.off ∷ Row.off ∷ Row.off ∷ Row.off ∷ Row.dead ∷
+              List.[];
+        }
+
         abbrev G52 : Row.Cx
-        G52 = record { locals = List._++_ t42 t1; slots = life0 ∷ life4 ∷ life1 ∷ life2 ∷ life3 ∷ life5 ∷ Row.off ∷ Row.off ∷ Row.off ∷ Row.off ∷
-            Row.off ∷ List.[]; }
+        G52 = record {
+          locals = List._++_ t42 t1;
+          slots = life0 ∷ life4 ∷ life1 ∷ life2 ∷ life3 ∷ life5 ∷ Row.off ∷ Row.off ∷ Row.off ∷ Row.off ∷ Row.off ∷
+              List.[];
+        }
+
         abbrev G53 : Row.Cx
-        G53 = record { locals = List._++_ t43 t1; slots = life0 ∷ life4 ∷ life1 ∷ life2 ∷ life3 ∷ life5 ∷ Row.off ∷ Row.off ∷ Row.off ∷ Row.off ∷
-            Row.off ∷ List.[]; }
+        G53 = record {
+          locals = List._++_ t43 t1;
+          slots = life0 ∷ life4 ∷ life1 ∷ life2 ∷ life3 ∷ life5 ∷ Row.off ∷ Row.off ∷ Row.off ∷ Row.off ∷ Row.off ∷
+              List.[];
+        }
+
         abbrev G54 : Row.Cx
-        G54 = record { locals = List._++_ t2 t1; slots = life0 ∷ life4 ∷ life1 ∷ life2 ∷ life3 ∷ life5 ∷ Row.off ∷ Row.off ∷ Row.off ∷ Row.off ∷
-            Row.off ∷ List.[]; }
+        G54 = record {
+          locals = List._++_ t2 t1;
+          slots = life0 ∷ life4 ∷ life1 ∷ life2 ∷ life3 ∷ life5 ∷ Row.off ∷ Row.off ∷ Row.off ∷ Row.off ∷ Row.off ∷
+              List.[];
+        }
+
         abbrev G55 : Row.Cx
-        G55 = record { locals = List._++_ t44 t14; slots = life0 ∷ life4 ∷ life1 ∷ life2 ∷ life3 ∷ life5 ∷ Row.off ∷ Row.off ∷ Row.off ∷ Row.off ∷
-            Row.off ∷ List.[]; }
+        G55 = record {
+          locals = List._++_ t44 t14;
+          slots = life0 ∷ life4 ∷ life1 ∷ life2 ∷ life3 ∷ life5 ∷ Row.off ∷ Row.off ∷ Row.off ∷ Row.off ∷ Row.off ∷
+              List.[];
+        }
+
         abbrev G56 : Row.Cx
-        G56 = record { locals = List._++_ t45 t14; slots = life0 ∷ life4 ∷ life1 ∷ life2 ∷ life3 ∷ life5 ∷ Row.off ∷ Row.off ∷ Row.off ∷ Row.off ∷
-            Row.off ∷ List.[]; }
+        G56 = record {
+          locals = List._++_ t45 t14;
+          slots = life0 ∷ life4 ∷ life1 ∷ life2 ∷ life3 ∷ life5 ∷ Row.off ∷ Row.off ∷ Row.off ∷ Row.off ∷ Row.off ∷
+              List.[];
+        }
+
         abbrev G57 : Row.Cx
-        G57 = record { locals = List._++_ t15 t14; slots = life0 ∷ life4 ∷ life1 ∷ life2 ∷ life3 ∷ life5 ∷ Row.off ∷ Row.off ∷ Row.off ∷ Row.off ∷
-            Row.off ∷ List.[]; }
+        G57 = record {
+          locals = List._++_ t15 t14;
+          slots = life0 ∷ life4 ∷ life1 ∷ life2 ∷ life3 ∷ life5 ∷ Row.off ∷ Row.off ∷ Row.off ∷ Row.off ∷ Row.off ∷
+              List.[];
+        }
+
         abbrev G58 : Row.Cx
-        G58 = record { locals = List._++_ t15 t1; slots = life0 ∷ life4 ∷ life1 ∷ life2 ∷ life3 ∷ life5 ∷ Row.off ∷ Row.off ∷ Row.off ∷ Row.off ∷
-            Row.off ∷ List.[]; }
+        G58 = record {
+          locals = List._++_ t15 t1;
+          slots = life0 ∷ life4 ∷ life1 ∷ life2 ∷ life3 ∷ life5 ∷ Row.off ∷ Row.off ∷ Row.off ∷ Row.off ∷ Row.off ∷
+              List.[];
+        }
+
         abbrev G59 : Row.Cx
-        G59 = record { locals = List._++_ t46 t1; slots = life0 ∷ life4 ∷ life1 ∷ life2 ∷ life3 ∷ life5 ∷ Row.off ∷ Row.off ∷ Row.off ∷ Row.off ∷
-            Row.off ∷ List.[]; }
+        G59 = record {
+          locals = List._++_ t46 t1;
+          slots = life0 ∷ life4 ∷ life1 ∷ life2 ∷ life3 ∷ life5 ∷ Row.off ∷ Row.off ∷ Row.off ∷ Row.off ∷ Row.off ∷
+              List.[];
+        }
+
         abbrev G60 : Row.Cx
-        G60 = record { locals = List._++_ t47 t1; slots = life0 ∷ life4 ∷ life1 ∷ life2 ∷ life3 ∷ life5 ∷ Row.off ∷ Row.off ∷ Row.off ∷ Row.off ∷
-            Row.off ∷ List.[]; }
+        G60 = record {
+          locals = List._++_ t47 t1;
+          slots = life0 ∷ life4 ∷ life1 ∷ life2 ∷ life3 ∷ life5 ∷ Row.off ∷ Row.off ∷ Row.off ∷ Row.off ∷ Row.off ∷
+              List.[];
+        }
+
         abbrev G61 : Row.Cx
-        G61 = record { locals = List._++_ t48 t1; slots = life0 ∷ life4 ∷ life1 ∷ life2 ∷ life3 ∷ life5 ∷ Row.off ∷ Row.off ∷ Row.off ∷ Row.off ∷
-            Row.off ∷ List.[]; }
+        G61 = record {
+          locals = List._++_ t48 t1;
+          slots = life0 ∷ life4 ∷ life1 ∷ life2 ∷ life3 ∷ life5 ∷ Row.off ∷ Row.off ∷ Row.off ∷ Row.off ∷ Row.off ∷
+              List.[];
+        }
+
         abbrev G62 : Row.Cx
-        G62 = record { locals = List._++_ t49 t1; slots = life0 ∷ life4 ∷ life1 ∷ life2 ∷ life3 ∷ life5 ∷ Row.off ∷ Row.off ∷ Row.off ∷ Row.off ∷
-            Row.off ∷ List.[]; }
+        G62 = record {
+          locals = List._++_ t49 t1;
+          slots = life0 ∷ life4 ∷ life1 ∷ life2 ∷ life3 ∷ life5 ∷ Row.off ∷ Row.off ∷ Row.off ∷ Row.off ∷ Row.off ∷
+              List.[];
+        }
+
         abbrev G63 : Row.Cx
-        G63 = record { locals = List._++_ t50 t1; slots = life0 ∷ life4 ∷ life1 ∷ life2 ∷ life3 ∷ life5 ∷ Row.off ∷ Row.off ∷ Row.off ∷ Row.off ∷
-            Row.off ∷ List.[]; }
+        G63 = record {
+          locals = List._++_ t50 t1;
+          slots = life0 ∷ life4 ∷ life1 ∷ life2 ∷ life3 ∷ life5 ∷ Row.off ∷ Row.off ∷ Row.off ∷ Row.off ∷ Row.off ∷
+              List.[];
+        }
+
         abbrev G64 : Row.Cx
-        G64 = record { locals = List._++_ t2 t1; slots = life0 ∷ life4 ∷ life1 ∷ life2 ∷ life3 ∷ life5 ∷ Row.off ∷ Row.off ∷ Row.off ∷ Row.off ∷
-            Row.off ∷ List.[]; }
+        G64 = record {
+          locals = List._++_ t2 t1;
+          slots = life0 ∷ life4 ∷ life1 ∷ life2 ∷ life3 ∷ life5 ∷ Row.off ∷ Row.off ∷ Row.off ∷ Row.off ∷ Row.off ∷
+              List.[];
+        }
+
         abbrev Δ0 : Typed.Outs
         Δ0 = record { next = Option.none; exits = List.[]; returns = Option.some G1 }
+
         abbrev Δ1 : Typed.Outs
         Δ1 = Typed.withNext (Option.some G19) Δ0
-        module _ { M : Type 1 } (𝓤 : URA.URA M) (H : Wp.Heap 𝓤) (A : Atoms.Atoms 𝓤) (W : Kit.Given 𝓤 H A) (𝓣 : Wp.Tables 𝓤 H) (known : Knowns 𝓤 H A W
-            𝓣) (bs : List.List Nat.ℕ) (bd : Lifetimes.AllOutlive 6 (Kinds.osR r) κs) where
+
+        module _ {M : Type 1} (𝓤 : URA.URA M) (H : Wp.Heap 𝓤) (A : Atoms.Atoms 𝓤) (W : Kit.Given 𝓤 H A)
+            (𝓣 : Wp.Tables 𝓤 H) (known : Knowns 𝓤 H A W 𝓣) (bs : List.List Nat.ℕ)
+            (bd : Lifetimes.AllOutlive 6 (Kinds.osR r) κs) where
           abbrev E : Wp.Env 𝓤 H
           E = Frame.EnvOf 𝓤 H ((Kinds.tyR r) ∷ (Enter.tysP ps xs)) bs
+
           d0 : Typed.Typed 𝓤 H A 𝓣 E G54 b18 Δ1 (at0 bs)
           d0 = Typed.t-return 𝓤 H A W 𝓣 E Δ1 tt
+
           d1 : Typed.Typed 𝓤 H A 𝓣 E G53 b18 Δ1 (at1 bs)
-          d1 = Typed.g-pre 𝓤 H A W 𝓣 E G53 G54 b18 Δ1 (Typed.pass T53 T54 (s51 bs)) (at0 bs) (Scalar.g-room 𝓤 H A W E G53 12 Syntax.tyBool
-              (Scalar.room-sc 𝓤 H A W Row.sBool)) d0
+          d1 = Typed.g-pre 𝓤 H A W 𝓣 E G53 G54 b18 Δ1 (Typed.pass T53 T54 (s51 bs)) (at0 bs) (Scalar.g-room 𝓤 H A W E
+              G53 12 Syntax.tyBool (Scalar.room-sc 𝓤 H A W Row.sBool)) d0
+
           d2 : Typed.Typed 𝓤 H A 𝓣 E G52 b18 Δ1 (at2 bs)
-          d2 = Typed.g-pre 𝓤 H A W 𝓣 E G52 G53 b18 Δ1 (Typed.pass T51 T53 (s50 bs)) (at1 bs) (Scalar.g-room 𝓤 H A W E G52 11 (Syntax.tyInt Syntax.w64)
-              (Scalar.room-sc 𝓤 H A W (Row.sInt Syntax.w64))) d1
+          d2 = Typed.g-pre 𝓤 H A W 𝓣 E G52 G53 b18 Δ1 (Typed.pass T51 T53 (s50 bs)) (at1 bs) (Scalar.g-room 𝓤 H A W E
+              G52 11 (Syntax.tyInt Syntax.w64) (Scalar.room-sc 𝓤 H A W (Row.sInt Syntax.w64))) d1
+
           d3 : Typed.Typed 𝓤 H A 𝓣 E G51 b18 Δ1 (at3 bs)
-          d3 = Typed.g-pre 𝓤 H A W 𝓣 E G51 G52 b18 Δ1 (λ Ψ. Ψ) (at2 bs) (Lifetime.g-forget 𝓤 H A W E G51 10 Row.dead Path.refl) d2
+          d3 = Typed.g-pre 𝓤 H A W 𝓣 E G51 G52 b18 Δ1 (λ Ψ. Ψ) (at2 bs)
+              (Lifetime.g-forget 𝓤 H A W E G51 10 Row.dead Path.refl) d2
+
           d4 : Typed.Typed 𝓤 H A 𝓣 E G50 b18 Δ1 (at4 bs)
-          d4 = Typed.g-pre 𝓤 H A W 𝓣 E G50 G51 b18 Δ1 (Typed.give (s48 bs)) (at3 bs) (Know.g-sl-known 𝓤 H A W (Referent.fInt Syntax.w32) E G50 5 4
-              ref9 life3 0 (λ x. x) record { fits = Dec.lit< tt } (Reads.as-is 𝓤 H A (Mut.mslice (Referent.rtF (Referent.fInt Syntax.w32)) ref9 4))
-              Path.refl tt) d3
+          d4 = Typed.g-pre 𝓤 H A W 𝓣 E G50 G51 b18 Δ1 (Typed.give (s48 bs)) (at3 bs) (Know.g-sl-known 𝓤 H A W
+              (Referent.fInt Syntax.w32) E G50 5 4 ref9 life3 0 (λ x. x) record { fits = Dec.lit< tt } (Reads.as-is 𝓤 H
+              A (Mut.mslice (Referent.rtF (Referent.fInt Syntax.w32)) ref9 4)) Path.refl tt) d3
+
           d5 : Typed.Typed 𝓤 H A 𝓣 E G49 b18 Δ1 (at5 bs)
-          d5 = Typed.g-pre 𝓤 H A W 𝓣 E G49 G50 b18 Δ1 (Typed.both (s47 bs)) (at4 bs) (Relend.g-back-sl 𝓤 H A W E (Referent.rtF (Referent.fInt
-              Syntax.w32)) G49 26 5 4 10 ref9 ref4 life3 (λ x. x) (λ x. x) (Reads.as-is 𝓤 H A (Mut.msleft (Referent.rtF (Referent.fInt Syntax.w32))
-              ref4)) (Reads.as-is 𝓤 H A (Relend.mslice-owed (Referent.rtF (Referent.fInt Syntax.w32)) ref9 4 10 life3)) Path.refl Path.refl) d4
+          d5 = Typed.g-pre 𝓤 H A W 𝓣 E G49 G50 b18 Δ1 (Typed.both (s47 bs)) (at4 bs) (Relend.g-back-sl 𝓤 H A W E
+              (Referent.rtF (Referent.fInt Syntax.w32)) G49 26 5 4 10 ref9 ref4 life3 (λ x. x) (λ x. x) (Reads.as-is 𝓤
+              H A (Mut.msleft (Referent.rtF (Referent.fInt Syntax.w32)) ref4)) (Reads.as-is 𝓤 H A (Relend.mslice-owed
+              (Referent.rtF (Referent.fInt Syntax.w32)) ref9 4 10 life3)) Path.refl Path.refl) d4
+
           d6 : Typed.Typed 𝓤 H A 𝓣 E G48 b18 Δ1 (at6 bs)
           d6 = Typed.g-pre 𝓤 H A W 𝓣 E G48 G49 b18 Δ1 (λ Ψ. Ψ) (at5 bs) (Lifetime.g-end 𝓤 H A W E G48 10 Path.refl) d5
+
           d7 : Typed.Typed 𝓤 H A 𝓣 E G47 b18 Δ1 (at7 bs)
-          d7 = Typed.g-pre 𝓤 H A W 𝓣 E G47 G48 b18 Δ1 (λ Ψ. Ψ) (at6 bs) (Lifetime.g-forget 𝓤 H A W E G47 9 Row.dead Path.refl) d6
+          d7 = Typed.g-pre 𝓤 H A W 𝓣 E G47 G48 b18 Δ1 (λ Ψ. Ψ) (at6 bs)
+              (Lifetime.g-forget 𝓤 H A W E G47 9 Row.dead Path.refl) d6
+
           d8 : Typed.Typed 𝓤 H A 𝓣 E G46 b18 Δ1 (at8 bs)
-          d8 = Typed.g-pre 𝓤 H A W 𝓣 E G46 G47 b18 Δ1 (Typed.both (s44 bs)) (at7 bs) (Relend.g-back-sl 𝓤 H A W E InflightAction.row G46 24 4 3 9 ref8
-              ref3 life2 (λ x. x) (λ x. x) (Reads.as-is 𝓤 H A (Mut.msleft InflightAction.row ref3)) (Reads.as-is 𝓤 H A (Relend.mslice-owed
-              InflightAction.row ref8 3 9 life2)) Path.refl Path.refl) d7
+          d8 = Typed.g-pre 𝓤 H A W 𝓣 E G46 G47 b18 Δ1 (Typed.both (s44 bs)) (at7 bs) (Relend.g-back-sl 𝓤 H A W E
+              InflightAction.row G46 24 4 3 9 ref8 ref3 life2 (λ x. x) (λ x. x)
+              (Reads.as-is 𝓤 H A (Mut.msleft InflightAction.row ref3)) (Reads.as-is 𝓤 H A
+              (Relend.mslice-owed InflightAction.row ref8 3 9 life2)) Path.refl Path.refl) d7
+
           d9 : Typed.Typed 𝓤 H A 𝓣 E G45 b18 Δ1 (at9 bs)
           d9 = Typed.g-pre 𝓤 H A W 𝓣 E G45 G46 b18 Δ1 (λ Ψ. Ψ) (at8 bs) (Lifetime.g-end 𝓤 H A W E G45 9 Path.refl) d8
+
           d10 : Typed.Typed 𝓤 H A 𝓣 E G44 b18 Δ1 (at10 bs)
-          d10 = Typed.g-pre 𝓤 H A W 𝓣 E G44 G45 b18 Δ1 (λ Ψ. Ψ) (at9 bs) (Lifetime.g-forget 𝓤 H A W E G44 8 Row.dead Path.refl) d9
+          d10 = Typed.g-pre 𝓤 H A W 𝓣 E G44 G45 b18 Δ1 (λ Ψ. Ψ) (at9 bs)
+              (Lifetime.g-forget 𝓤 H A W E G44 8 Row.dead Path.refl) d9
+
           d11 : Typed.Typed 𝓤 H A 𝓣 E G43 b18 Δ1 (at11 bs)
-          d11 = Typed.g-pre 𝓤 H A W 𝓣 E G43 G44 b18 Δ1 (Typed.both (s41 bs)) (at10 bs) (Relend.g-back-sl 𝓤 H A W E ReservationUsage.row G43 22 3 2 8
-              ref7 ref2 life1 (λ x. x) (λ x. x) (Reads.as-is 𝓤 H A (Mut.msleft ReservationUsage.row ref2)) (Reads.as-is 𝓤 H A (Relend.mslice-owed
-              ReservationUsage.row ref7 2 8 life1)) Path.refl Path.refl) d10
+          d11 = Typed.g-pre 𝓤 H A W 𝓣 E G43 G44 b18 Δ1 (Typed.both (s41 bs)) (at10 bs) (Relend.g-back-sl 𝓤 H A W E
+              ReservationUsage.row G43 22 3 2 8 ref7 ref2 life1 (λ x. x) (λ x. x)
+              (Reads.as-is 𝓤 H A (Mut.msleft ReservationUsage.row ref2)) (Reads.as-is 𝓤 H A
+              (Relend.mslice-owed ReservationUsage.row ref7 2 8 life1)) Path.refl Path.refl) d10
+
           d12 : Typed.Typed 𝓤 H A 𝓣 E G42 b18 Δ1 (at12 bs)
-          d12 = Typed.g-pre 𝓤 H A W 𝓣 E G42 G43 b18 Δ1 (λ Ψ. Ψ) (at11 bs) (Lifetime.g-end 𝓤 H A W E G42 8 Path.refl) d11
+          d12 = Typed.g-pre 𝓤 H A W 𝓣 E G42 G43 b18 Δ1 (λ Ψ. Ψ) (at11 bs) (Lifetime.g-end 𝓤 H A W E G42 8 Path.refl)
+              d11
+
           d13 : Typed.Typed 𝓤 H A 𝓣 E G41 b18 Δ1 (at13 bs)
-          d13 = Typed.g-pre 𝓤 H A W 𝓣 E G41 G42 b18 Δ1 (λ Ψ. Ψ) (at12 bs) (Lifetime.g-forget 𝓤 H A W E G41 7 Row.dead Path.refl) d12
+          d13 = Typed.g-pre 𝓤 H A W 𝓣 E G41 G42 b18 Δ1 (λ Ψ. Ψ) (at12 bs)
+              (Lifetime.g-forget 𝓤 H A W E G41 7 Row.dead Path.refl) d12
+
           d14 : Typed.Typed 𝓤 H A 𝓣 E G40 b18 Δ1 (at14 bs)
-          d14 = Typed.g-pre 𝓤 H A W 𝓣 E G40 G41 b18 Δ1 (Typed.both (s38 bs)) (at13 bs) (Relend.g-back-sl 𝓤 H A W E RelayPending.row G40 20 1 0 7 ref5
-              ref1 life0 (λ x. x) (λ x. x) (Reads.as-is 𝓤 H A (Mut.msleft RelayPending.row ref1)) (Reads.as-is 𝓤 H A (Relend.mslice-owed
-              RelayPending.row ref5 0 7 life0)) Path.refl Path.refl) d13
+          d14 = Typed.g-pre 𝓤 H A W 𝓣 E G40 G41 b18 Δ1 (Typed.both (s38 bs)) (at13 bs) (Relend.g-back-sl 𝓤 H A W E
+              RelayPending.row G40 20 1 0 7 ref5 ref1 life0 (λ x. x) (λ x. x)
+              (Reads.as-is 𝓤 H A (Mut.msleft RelayPending.row ref1)) (Reads.as-is 𝓤 H A
+              (Relend.mslice-owed RelayPending.row ref5 0 7 life0)) Path.refl Path.refl) d13
+
           d15 : Typed.Typed 𝓤 H A 𝓣 E G39 b18 Δ1 (at15 bs)
-          d15 = Typed.g-pre 𝓤 H A W 𝓣 E G39 G40 b18 Δ1 (λ Ψ. Ψ) (at14 bs) (Lifetime.g-end 𝓤 H A W E G39 7 Path.refl) d14
+          d15 = Typed.g-pre 𝓤 H A W 𝓣 E G39 G40 b18 Δ1 (λ Ψ. Ψ) (at14 bs) (Lifetime.g-end 𝓤 H A W E G39 7 Path.refl)
+              d14
+
           d16 : Typed.Typed 𝓤 H A 𝓣 E G38 b18 Δ1 (at16 bs)
-          d16 = Typed.g-pre 𝓤 H A W 𝓣 E G38 G39 b18 Δ1 (Typed.pass T38 T39 (s36 bs)) (at15 bs) (Scalar.g-room 𝓤 H A W E G38 14 Laws'''.mir
-              (Local.room-whole 𝓤 H A W (Declared'.row OpenPlan.the-type) Laws'''.mir Path.refl)) d15
+          d16 = Typed.g-pre 𝓤 H A W 𝓣 E G38 G39 b18 Δ1 (Typed.pass T38 T39 (s36 bs)) (at15 bs) (Scalar.g-room 𝓤 H A W E
+              G38 14 Laws'''.mir (Local.room-whole 𝓤 H A W (Declared'.row OpenPlan.the-type) Laws'''.mir Path.refl))
+              d15
+
           d17 : Typed.Typed 𝓤 H A 𝓣 E G37 b18 Δ1 (at17 bs)
-          d17 = Typed.g-pre 𝓤 H A W 𝓣 E G37 G38 b18 Δ1 (Typed.pass T37 T38 (s35 bs)) (at16 bs) (Scalar.g-room 𝓤 H A W E G37 13 Laws'''''.mir
-              (Local.room-whole 𝓤 H A W (Declared'.row Drawing.the-type) Laws'''''.mir Path.refl)) d16
+          d17 = Typed.g-pre 𝓤 H A W 𝓣 E G37 G38 b18 Δ1 (Typed.pass T37 T38 (s35 bs)) (at16 bs) (Scalar.g-room 𝓤 H A W E
+              G37 13 Laws'''''.mir (Local.room-whole 𝓤 H A W (Declared'.row Drawing.the-type) Laws'''''.mir Path.refl))
+              d16
+
           d18 : Typed.Typed 𝓤 H A 𝓣 E G36 b18 Δ1 (at18 bs)
-          d18 = Typed.g-pre 𝓤 H A W 𝓣 E G36 G37 b18 Δ1 (Typed.pass T36 T37 (s34 bs)) (at17 bs) (Scalar.g-room 𝓤 H A W E G36 8 Laws''.mir
-              (Local.room-whole 𝓤 H A W (Declared'.row OpenGathered.the-type) Laws''.mir Path.refl)) d17
+          d18 = Typed.g-pre 𝓤 H A W 𝓣 E G36 G37 b18 Δ1 (Typed.pass T36 T37 (s34 bs)) (at17 bs) (Scalar.g-room 𝓤 H A W E
+              G36 8 Laws''.mir (Local.room-whole 𝓤 H A W (Declared'.row OpenGathered.the-type) Laws''.mir Path.refl))
+              d17
+
           d19 : Typed.Typed 𝓤 H A 𝓣 E G35 b18 Δ1 (at19 bs)
-          d19 = Typed.g-pre 𝓤 H A W 𝓣 E G35 G36 b18 Δ1 (Typed.pass T35 T36 (s33 bs)) (at18 bs) (Scalar.g-room 𝓤 H A W E G35 7 Laws''''.mir
-              (Local.room-whole 𝓤 H A W (Declared'.row Places.the-type) Laws''''.mir Path.refl)) d18
+          d19 = Typed.g-pre 𝓤 H A W 𝓣 E G35 G36 b18 Δ1 (Typed.pass T35 T36 (s33 bs)) (at18 bs) (Scalar.g-room 𝓤 H A W E
+              G35 7 Laws''''.mir (Local.room-whole 𝓤 H A W (Declared'.row Places.the-type) Laws''''.mir Path.refl)) d18
+
           d20 : Typed.Typed 𝓤 H A 𝓣 E G34 b18 Δ1 (at20 bs)
-          d20 = Typed.g-pre 𝓤 H A W 𝓣 E G34 G35 b18 Δ1 (Typed.pass T34 T35 (s32 bs)) (at19 bs) (Scalar.g-room 𝓤 H A W E G34 6 Laws''''''.mir
-              (Local.room-whole 𝓤 H A W (Declared'.row OpaqueRelayRuntime.the-type) Laws''''''.mir Path.refl)) d19
+          d20 = Typed.g-pre 𝓤 H A W 𝓣 E G34 G35 b18 Δ1 (Typed.pass T34 T35 (s32 bs)) (at19 bs) (Scalar.g-room 𝓤 H A W E
+              G34 6 Laws''''''.mir (Local.room-whole 𝓤 H A W (Declared'.row OpaqueRelayRuntime.the-type) Laws''''''.mir
+              Path.refl)) d19
+
           d21 : Typed.Typed 𝓤 H A 𝓣 E G33 b19 Δ1 (at21 bs)
-          d21 = Typed.s-seq 𝓤 H A W 𝓣 E G33 G34 b17 b18 Δ1 (Typed.both (s31 bs)) (at20 bs) (Plain.t-call-plain 𝓤 H A W 𝓣 4 ps·6 r·6 (claims· .12)
-              (claims· .13) "hnsr_circuit::handle_open::open_placed" (known .6) E (λ pos β. β) G33 (record { pos = 20; ty = Syntax.tyRef Syntax.erased
-              Syntax.mut RelayPending.to; ref = λ x. x; }, (record { pos = 22; ty = Syntax.tyRef Syntax.erased Syntax.mut ReservationUsage.to; ref = λ
-              x. x; }, (record { pos = 24; ty = Syntax.tyRef Syntax.erased Syntax.mut InflightAction.to; ref = λ x. x; }, (record { pos = 26; ty =
-              Syntax.tyRef Syntax.erased Syntax.mut (Syntax.tyInt Syntax.w32); ref = λ x. x; }, (record { pos = 6; st = List.[]; d = 0; at = λ x. x },
-              (record { pos = 7; st = List.[]; d = 0; at = λ x. x }, (record { pos = 8; st = List.[]; d = 0; at = λ x. x }, (record { pos = 13; st =
-              List.[]; d = 0; at = λ x. x }, (record { pos = 14; st = List.[]; d = 0; at = λ x. x }, tt),),),),),),),),) 0 (7 ∷ 8 ∷ 9 ∷ 10 ∷ List.[])
-              (Call.sub-id 𝓤 H A W (G33 .slots)) (Reads.as-is 𝓤 H A (Mut.mslice RelayPending.row ref1 7), Mut.reads-mslice 𝓤 H A W RelayPending.row
-              ref1 7, Path.refl, (Reads.as-is 𝓤 H A (Mut.mslice ReservationUsage.row ref2 8), Mut.reads-mslice 𝓤 H A W ReservationUsage.row ref2 8,
-              Path.refl, (Reads.as-is 𝓤 H A (Mut.mslice InflightAction.row ref3 9), Mut.reads-mslice 𝓤 H A W InflightAction.row ref3 9, Path.refl,
-              (Reads.as-is 𝓤 H A (Mut.mslice (Referent.rtF (Referent.fInt Syntax.w32)) ref4 10), Mut.reads-mslice 𝓤 H A W (Referent.rtF (Referent.fInt
-              Syntax.w32)) ref4 10, Path.refl, ((Yields.yields-copy 𝓤 H A W (λ ρ. Unit) (Declared'.row OpaqueRelayRuntime.the-type) Path.refl
-              (Copies.cStruct OpaqueRelayRuntime.the-type Laws''''''.the-laws Laws''''''.the-copy .copy 𝓤 H A W) (Rows.whole (Declared'.row
-              OpaqueRelayRuntime.the-type)) (λ x. x) (λ x. x) (λ ρ told. Local.mem-whole 𝓤 H A W (Declared'.row OpaqueRelayRuntime.the-type) ρ) λ ρ
-              told. Local.whole-mem 𝓤 H A W (Declared'.row OpaqueRelayRuntime.the-type) ρ, Path.refl,), ((Yields.yields-copy 𝓤 H A W (λ ρ. Unit)
-              (Declared'.row Places.the-type) Path.refl (Copies.cStruct Places.the-type Laws''''.the-laws Laws''''.the-copy .copy 𝓤 H A W) (Rows.whole
-              (Declared'.row Places.the-type)) (λ x. x) (λ x. x) (λ ρ told. Local.mem-whole 𝓤 H A W (Declared'.row Places.the-type) ρ) λ ρ told.
-              Local.whole-mem 𝓤 H A W (Declared'.row Places.the-type) ρ, Path.refl,), ((Yields.yields-copy 𝓤 H A W (λ ρ. Unit) (Declared'.row
-              OpenGathered.the-type) Path.refl (Copies.cStruct OpenGathered.the-type Laws''.the-laws Laws''.the-copy .copy 𝓤 H A W) (Rows.whole
-              (Declared'.row OpenGathered.the-type)) (λ x. x) (λ x. x) (λ ρ told. Local.mem-whole 𝓤 H A W (Declared'.row OpenGathered.the-type) ρ) λ ρ
-              told. Local.whole-mem 𝓤 H A W (Declared'.row OpenGathered.the-type) ρ, Path.refl,), ((Yields.yields-copy 𝓤 H A W (λ ρ. Unit)
-              (Declared'.row Drawing.the-type) Path.refl (Copies.cStruct Drawing.the-type Laws'''''.the-laws Laws'''''.the-copy .copy 𝓤 H A W)
-              (Rows.whole (Declared'.row Drawing.the-type)) (λ x. x) (λ x. x) (λ ρ told. Local.mem-whole 𝓤 H A W (Declared'.row Drawing.the-type) ρ) λ
-              ρ told. Local.whole-mem 𝓤 H A W (Declared'.row Drawing.the-type) ρ, Path.refl,), ((Yields.yields-copy 𝓤 H A W (λ ρ. Unit) (Declared'.row
-              OpenPlan.the-type) Path.refl (Copies.cStruct OpenPlan.the-type Laws'''.the-laws Laws'''.the-copy .copy 𝓤 H A W) (Rows.whole
-              (Declared'.row OpenPlan.the-type)) (λ x. x) (λ x. x) (λ ρ told. Local.mem-whole 𝓤 H A W (Declared'.row OpenPlan.the-type) ρ) λ ρ told.
-              Local.whole-mem 𝓤 H A W (Declared'.row OpenPlan.the-type) ρ, Path.refl,), tt,),),),),),),),),) (Reads.room-gone 𝓤 H A Laws'''''''.mir)
-              (tt, (tt, (tt, (tt, tt)))) Path.refl) d20
+          d21 = Typed.s-seq 𝓤 H A W 𝓣 E G33 G34 b17 b18 Δ1 (Typed.both (s31 bs)) (at20 bs) (Plain.t-call-plain 𝓤 H A W
+              𝓣 4 ps·6 r·6 (claims· .12) (claims· .13) "hnsr_circuit::handle_open::open_placed" (known .6) E
+              (λ pos β. β) G33 (
+                record { pos = 20; ty = ref1; ref = λ x. x },
+                (
+                  record { pos = 22; ty = ref2; ref = λ x. x },
+                  (
+                    record { pos = 24; ty = ref3; ref = λ x. x },
+                    (
+                      record { pos = 26; ty = ref4; ref = λ x. x },
+                      (
+                        record { pos = 6; st = List.[]; d = 0; at = λ x. x },
+                        (
+                          record { pos = 7; st = List.[]; d = 0; at = λ x. x },
+                          (
+                            record { pos = 8; st = List.[]; d = 0; at = λ x. x },
+                            (
+                              record { pos = 13; st = List.[]; d = 0; at = λ x. x },
+                              (record { pos = 14; st = List.[]; d = 0; at = λ x. x }, tt),
+                            ),
+                          ),
+                        ),
+                      ),
+                    ),
+                  ),
+                ),
+              ) 0 (7 ∷ 8 ∷ 9 ∷ 10 ∷ List.[]) (Call.sub-id 𝓤 H A W (G33 .slots)) (
+                Reads.as-is 𝓤 H A (Mut.mslice RelayPending.row ref1 7),
+                Mut.reads-mslice 𝓤 H A W RelayPending.row ref1 7,
+                Path.refl,
+                (
+                  Reads.as-is 𝓤 H A (Mut.mslice ReservationUsage.row ref2 8),
+                  Mut.reads-mslice 𝓤 H A W ReservationUsage.row ref2 8,
+                  Path.refl,
+                  (
+                    Reads.as-is 𝓤 H A (Mut.mslice InflightAction.row ref3 9),
+                    Mut.reads-mslice 𝓤 H A W InflightAction.row ref3 9,
+                    Path.refl,
+                    (
+                      Reads.as-is 𝓤 H A (Mut.mslice (Referent.rtF (Referent.fInt Syntax.w32)) ref4 10),
+                      Mut.reads-mslice 𝓤 H A W (Referent.rtF (Referent.fInt Syntax.w32)) ref4 10,
+                      Path.refl,
+                      (
+                        (
+                          Yields.yields-copy 𝓤 H A W (λ ρ. Unit) (Declared'.row OpaqueRelayRuntime.the-type) Path.refl (Copies.cStruct
+                              OpaqueRelayRuntime.the-type Laws''''''.the-laws Laws''''''.the-copy .copy 𝓤 H A W)
+                              (Rows.whole (Declared'.row OpaqueRelayRuntime.the-type)) (λ x. x) (λ x. x) (λ ρ told.
+                              Local.mem-whole 𝓤 H A W (Declared'.row OpaqueRelayRuntime.the-type) ρ) λ ρ told.
+                              Local.whole-mem 𝓤 H A W (Declared'.row OpaqueRelayRuntime.the-type) ρ,
+                          Path.refl,
+                        ),
+                        (
+                          (
+                            Yields.yields-copy 𝓤 H A W (λ ρ. Unit) (Declared'.row Places.the-type) Path.refl (Copies.cStruct
+                                Places.the-type Laws''''.the-laws Laws''''.the-copy .copy 𝓤 H A W)
+                                (Rows.whole (Declared'.row Places.the-type)) (λ x. x) (λ x. x) (λ ρ told.
+                                Local.mem-whole 𝓤 H A W (Declared'.row Places.the-type) ρ) λ ρ told. Local.whole-mem 𝓤
+                                H A W (Declared'.row Places.the-type) ρ,
+                            Path.refl,
+                          ),
+                          (
+                            (
+                              Yields.yields-copy 𝓤 H A W (λ ρ. Unit) (Declared'.row OpenGathered.the-type) Path.refl (Copies.cStruct
+                                  OpenGathered.the-type Laws''.the-laws Laws''.the-copy .copy 𝓤 H A W)
+                                  (Rows.whole (Declared'.row OpenGathered.the-type)) (λ x. x) (λ x. x) (λ ρ told.
+                                  Local.mem-whole 𝓤 H A W (Declared'.row OpenGathered.the-type) ρ) λ ρ told.
+                                  Local.whole-mem 𝓤 H A W (Declared'.row OpenGathered.the-type) ρ,
+                              Path.refl,
+                            ),
+                            (
+                              (
+                                Yields.yields-copy 𝓤 H A W (λ ρ. Unit) (Declared'.row Drawing.the-type) Path.refl (Copies.cStruct
+                                    Drawing.the-type Laws'''''.the-laws Laws'''''.the-copy .copy 𝓤 H A W)
+                                    (Rows.whole (Declared'.row Drawing.the-type)) (λ x. x) (λ x. x) (λ ρ told.
+                                    Local.mem-whole 𝓤 H A W (Declared'.row Drawing.the-type) ρ) λ ρ told.
+                                    Local.whole-mem 𝓤 H A W (Declared'.row Drawing.the-type) ρ,
+                                Path.refl,
+                              ),
+                              (
+                                (
+                                  Yields.yields-copy 𝓤 H A W (λ ρ. Unit) (Declared'.row OpenPlan.the-type) Path.refl (Copies.cStruct
+                                      OpenPlan.the-type Laws'''.the-laws Laws'''.the-copy .copy 𝓤 H A W)
+                                      (Rows.whole (Declared'.row OpenPlan.the-type)) (λ x. x) (λ x. x) (λ ρ told.
+                                      Local.mem-whole 𝓤 H A W (Declared'.row OpenPlan.the-type) ρ) λ ρ told.
+                                      Local.whole-mem 𝓤 H A W (Declared'.row OpenPlan.the-type) ρ,
+                                  Path.refl,
+                                ),
+                                tt,
+                              ),
+                            ),
+                          ),
+                        ),
+                      ),
+                    ),
+                  ),
+                ),
+              ) (Reads.room-gone 𝓤 H A Laws'''''''.mir) (tt, (tt, (tt, (tt, tt)))) Path.refl) d20
+
           d22 : Typed.Typed 𝓤 H A 𝓣 E G32 b20 Δ1 (at22 bs)
-          d22 = Typed.s-seq 𝓤 H A W 𝓣 E G32 G33 b16 b19 Δ1 (Typed.ask (s30 bs)) (at21 bs) (Relend.t-sl-aggregate 𝓤 H A W E (Referent.rtF
-              (Referent.fInt Syntax.w32)) 𝓣 (Relend.asMut (Referent.rtF (Referent.fInt Syntax.w32))) G32 25 26 10 ref4 ref4 (λ x. x) (Scalar.oFld 5
-              ((Syntax.field 1) ∷ List.[]) (Syntax.tyInt Syntax.w64) 8 λ v. Shared.lenV (v .0)) (Reads.as-is 𝓤 H A (Relend.msptr (Referent.rtF
-              (Referent.fInt Syntax.w32)) ref4 10)) (Reads.room-gone 𝓤 H A (Syntax.tyStruct (38 ∷ 91 ∷ 93 ∷ List.[]) (Syntax.tcons ref4 (Syntax.tcons
-              (Syntax.tyInt Syntax.w64) Syntax.tnil)))) (Relend.reads-owed-len 𝓤 H A W (Referent.rtF (Referent.fInt Syntax.w32)) ref9 4 10 life3 8
-              Path.refl, Path.refl,) Path.refl Path.refl λ b o k. tt) d21
+          d22 = Typed.s-seq 𝓤 H A W 𝓣 E G32 G33 b16 b19 Δ1 (Typed.ask (s30 bs)) (at21 bs) (Relend.t-sl-aggregate 𝓤 H A
+              W E (Referent.rtF (Referent.fInt Syntax.w32)) 𝓣 (Relend.asMut (Referent.rtF (Referent.fInt Syntax.w32)))
+              G32 25 26 10 ref4 ref4 (λ x. x) (Scalar.oFld 5 ((Syntax.field 1) ∷ List.[]) (Syntax.tyInt Syntax.w64) 8
+              λ v. Shared.lenV (v .0)) (Reads.as-is 𝓤 H A (Relend.msptr (Referent.rtF (Referent.fInt Syntax.w32)) ref4
+              10)) (Reads.room-gone 𝓤 H A slice4) (
+                Relend.reads-owed-len 𝓤 H A W (Referent.rtF (Referent.fInt Syntax.w32)) ref9 4 10 life3 8 Path.refl,
+                Path.refl,
+              ) Path.refl Path.refl λ b o k. tt) d21
+
           d23 : Typed.Typed 𝓤 H A 𝓣 E G31 b21 Δ1 (at23 bs)
-          d23 = Typed.s-seq 𝓤 H A W 𝓣 E G31 G32 b15 b20 Δ1 (Typed.give (s29 bs)) (at22 bs) (Relend.t-sl-relend 𝓤 H A W E (Referent.rtF (Referent.fInt
-              Syntax.w32)) 𝓣 G31 5 25 4 10 ref9 ref4 life3 0 (λ x. x) (Reads.as-is 𝓤 H A (Mut.mslice (Referent.rtF (Referent.fInt Syntax.w32)) ref9
-              4)) (Reads.room-gone 𝓤 H A ref4) Path.refl tt Path.refl Path.refl Path.refl λ b o. tt) d22
+          d23 = Typed.s-seq 𝓤 H A W 𝓣 E G31 G32 b15 b20 Δ1 (Typed.give (s29 bs)) (at22 bs) (Relend.t-sl-relend 𝓤 H A W
+              E (Referent.rtF (Referent.fInt Syntax.w32)) 𝓣 G31 5 25 4 10 ref9 ref4 life3 0 (λ x. x) (Reads.as-is 𝓤 H A (Mut.mslice
+              (Referent.rtF (Referent.fInt Syntax.w32)) ref9 4)) (Reads.room-gone 𝓤 H A ref4) Path.refl tt Path.refl
+              Path.refl Path.refl λ b o. tt) d22
+
           d24 : Typed.Typed 𝓤 H A 𝓣 E G30 b21 Δ1 (at24 bs)
-          d24 = Typed.g-pre 𝓤 H A W 𝓣 E G30 G31 b21 Δ1 (λ Ψ. Ψ) (at23 bs) (Lifetime.g-begin 𝓤 H A W E G30 10 (tt, ((tt, tt), (tt, ((tt, tt), ((tt,
-              tt), (tt, (tt, (tt, (tt, (tt, (tt, (tt, (tt, (tt, (tt, (tt, (tt, (tt, (tt, (tt, (tt, (tt, (tt, (tt, (tt, (tt, (tt,
-              tt))))),),),),),),),),),),),),),),),),),),),),),),)) d23
+          d24 = Typed.g-pre 𝓤 H A W 𝓣 E G30 G31 b21 Δ1 (λ Ψ. Ψ) (at23 bs) (Lifetime.g-begin 𝓤 H A W E G30 10 (
+            tt,
+            (
+              (tt, tt),
+              (
+                tt,
+                (
+                  (tt, tt),
+                  (
+                    (tt, tt),
+                    (
+                      tt,
+                      (
+                        tt,
+                        (
+                          tt,
+                          (
+                            tt,
+                            (
+                              tt,
+                              (
+                                tt,
+                                (
+                                  tt,
+                                  (
+                                    tt,
+                                    (
+                                      tt,
+                                      (tt, (tt, (tt, (tt, (tt, (tt, (tt, (tt, (tt, (tt, (tt, (tt, (tt, tt))))))))))))),
+                                    ),
+                                  ),
+                                ),
+                              ),
+                            ),
+                          ),
+                        ),
+                      ),
+                    ),
+                  ),
+                ),
+              ),
+            ),
+          )) d23
+
           d25 : Typed.Typed 𝓤 H A 𝓣 E G29 b22 Δ1 (at25 bs)
-          d25 = Typed.s-seq 𝓤 H A W 𝓣 E G29 G30 b14 b21 Δ1 (Typed.ask (s27 bs)) (at24 bs) (Relend.t-sl-aggregate 𝓤 H A W E InflightAction.row 𝓣
-              (Relend.asMut InflightAction.row) G29 23 24 9 ref3 ref3 (λ x. x) (Scalar.oFld 4 ((Syntax.field 1) ∷ List.[]) (Syntax.tyInt Syntax.w64) 8
-              λ v. Shared.lenV (v .0)) (Reads.as-is 𝓤 H A (Relend.msptr InflightAction.row ref3 9)) (Reads.room-gone 𝓤 H A (Syntax.tyStruct (38 ∷ 91 ∷
-              93 ∷ List.[]) (Syntax.tcons ref3 (Syntax.tcons (Syntax.tyInt Syntax.w64) Syntax.tnil)))) (Relend.reads-owed-len 𝓤 H A W
-              InflightAction.row ref8 3 9 life2 8 Path.refl, Path.refl,) Path.refl Path.refl λ b o k. tt) d24
+          d25 = Typed.s-seq 𝓤 H A W 𝓣 E G29 G30 b14 b21 Δ1 (Typed.ask (s27 bs)) (at24 bs) (Relend.t-sl-aggregate 𝓤 H A
+              W E InflightAction.row 𝓣 (Relend.asMut InflightAction.row) G29 23 24 9 ref3 ref3 (λ x. x) (Scalar.oFld 4
+              ((Syntax.field 1) ∷ List.[]) (Syntax.tyInt Syntax.w64) 8 λ v. Shared.lenV (v .0)) (Reads.as-is 𝓤 H A
+              (Relend.msptr InflightAction.row ref3 9)) (Reads.room-gone 𝓤 H A slice3) (
+                Relend.reads-owed-len 𝓤 H A W InflightAction.row ref8 3 9 life2 8 Path.refl,
+                Path.refl,
+              ) Path.refl Path.refl λ b o k. tt) d24
+
           d26 : Typed.Typed 𝓤 H A 𝓣 E G28 b23 Δ1 (at26 bs)
-          d26 = Typed.s-seq 𝓤 H A W 𝓣 E G28 G29 b13 b22 Δ1 (Typed.give (s26 bs)) (at25 bs) (Relend.t-sl-relend 𝓤 H A W E InflightAction.row 𝓣 G28 4 23
-              3 9 ref8 ref3 life2 0 (λ x. x) (Reads.as-is 𝓤 H A (Mut.mslice InflightAction.row ref8 3)) (Reads.room-gone 𝓤 H A ref3) Path.refl tt
+          d26 = Typed.s-seq 𝓤 H A W 𝓣 E G28 G29 b13 b22 Δ1 (Typed.give (s26 bs)) (at25 bs) (Relend.t-sl-relend 𝓤 H A W
+              E InflightAction.row 𝓣 G28 4 23 3 9 ref8 ref3 life2 0 (λ x. x)
+              (Reads.as-is 𝓤 H A (Mut.mslice InflightAction.row ref8 3)) (Reads.room-gone 𝓤 H A ref3) Path.refl tt
               Path.refl Path.refl Path.refl λ b o. tt) d25
+
           d27 : Typed.Typed 𝓤 H A 𝓣 E G27 b23 Δ1 (at27 bs)
-          d27 = Typed.g-pre 𝓤 H A W 𝓣 E G27 G28 b23 Δ1 (λ Ψ. Ψ) (at26 bs) (Lifetime.g-begin 𝓤 H A W E G27 9 (tt, ((tt, tt), (tt, ((tt, tt), (tt, (tt,
-              (tt, (tt, (tt, (tt, (tt, (tt, (tt, (tt, (tt, (tt, (tt, (tt, (tt, (tt, (tt, (tt, (tt, (tt, (tt, (tt, (tt,
-              tt))))),),),),),),),),),),),),),),),),),),),),),),)) d26
+          d27 = Typed.g-pre 𝓤 H A W 𝓣 E G27 G28 b23 Δ1 (λ Ψ. Ψ) (at26 bs) (Lifetime.g-begin 𝓤 H A W E G27 9 (
+            tt,
+            (
+              (tt, tt),
+              (
+                tt,
+                (
+                  (tt, tt),
+                  (
+                    tt,
+                    (
+                      tt,
+                      (
+                        tt,
+                        (
+                          tt,
+                          (
+                            tt,
+                            (
+                              tt,
+                              (
+                                tt,
+                                (
+                                  tt,
+                                  (
+                                    tt,
+                                    (
+                                      tt,
+                                      (tt, (tt, (tt, (tt, (tt, (tt, (tt, (tt, (tt, (tt, (tt, (tt, (tt, tt))))))))))))),
+                                    ),
+                                  ),
+                                ),
+                              ),
+                            ),
+                          ),
+                        ),
+                      ),
+                    ),
+                  ),
+                ),
+              ),
+            ),
+          )) d26
+
           d28 : Typed.Typed 𝓤 H A 𝓣 E G26 b24 Δ1 (at28 bs)
-          d28 = Typed.s-seq 𝓤 H A W 𝓣 E G26 G27 b12 b23 Δ1 (Typed.ask (s24 bs)) (at27 bs) (Relend.t-sl-aggregate 𝓤 H A W E ReservationUsage.row 𝓣
-              (Relend.asMut ReservationUsage.row) G26 21 22 8 ref2 ref2 (λ x. x) (Scalar.oFld 3 ((Syntax.field 1) ∷ List.[]) (Syntax.tyInt Syntax.w64)
-              8 λ v. Shared.lenV (v .0)) (Reads.as-is 𝓤 H A (Relend.msptr ReservationUsage.row ref2 8)) (Reads.room-gone 𝓤 H A (Syntax.tyStruct (38 ∷
-              91 ∷ 93 ∷ List.[]) (Syntax.tcons ref2 (Syntax.tcons (Syntax.tyInt Syntax.w64) Syntax.tnil)))) (Relend.reads-owed-len 𝓤 H A W
-              ReservationUsage.row ref7 2 8 life1 8 Path.refl, Path.refl,) Path.refl Path.refl λ b o k. tt) d27
+          d28 = Typed.s-seq 𝓤 H A W 𝓣 E G26 G27 b12 b23 Δ1 (Typed.ask (s24 bs)) (at27 bs) (Relend.t-sl-aggregate 𝓤 H A
+              W E ReservationUsage.row 𝓣 (Relend.asMut ReservationUsage.row) G26 21 22 8 ref2 ref2 (λ x. x) (Scalar.oFld
+              3 ((Syntax.field 1) ∷ List.[]) (Syntax.tyInt Syntax.w64) 8 λ v. Shared.lenV (v .0)) (Reads.as-is 𝓤 H A
+              (Relend.msptr ReservationUsage.row ref2 8)) (Reads.room-gone 𝓤 H A slice2) (
+                Relend.reads-owed-len 𝓤 H A W ReservationUsage.row ref7 2 8 life1 8 Path.refl,
+                Path.refl,
+              ) Path.refl Path.refl λ b o k. tt) d27
+
           d29 : Typed.Typed 𝓤 H A 𝓣 E G25 b25 Δ1 (at29 bs)
-          d29 = Typed.s-seq 𝓤 H A W 𝓣 E G25 G26 b11 b24 Δ1 (Typed.give (s23 bs)) (at28 bs) (Relend.t-sl-relend 𝓤 H A W E ReservationUsage.row 𝓣 G25 3
-              21 2 8 ref7 ref2 life1 0 (λ x. x) (Reads.as-is 𝓤 H A (Mut.mslice ReservationUsage.row ref7 2)) (Reads.room-gone 𝓤 H A ref2) Path.refl tt
-              Path.refl Path.refl Path.refl λ b o. tt) d28
+          d29 = Typed.s-seq 𝓤 H A W 𝓣 E G25 G26 b11 b24 Δ1 (Typed.give (s23 bs)) (at28 bs) (Relend.t-sl-relend 𝓤 H A W
+              E ReservationUsage.row 𝓣 G25 3 21 2 8 ref7 ref2 life1 0 (λ x. x) (Reads.as-is 𝓤 H A
+              (Mut.mslice ReservationUsage.row ref7 2)) (Reads.room-gone 𝓤 H A ref2) Path.refl tt Path.refl Path.refl
+              Path.refl λ b o. tt) d28
+
           d30 : Typed.Typed 𝓤 H A 𝓣 E G24 b25 Δ1 (at30 bs)
-          d30 = Typed.g-pre 𝓤 H A W 𝓣 E G24 G25 b25 Δ1 (λ Ψ. Ψ) (at29 bs) (Lifetime.g-begin 𝓤 H A W E G24 8 (tt, ((tt, tt), (tt, (tt, (tt, (tt, (tt,
-              (tt, (tt, (tt, (tt, (tt, (tt, (tt, (tt, (tt, (tt, (tt, (tt, (tt, (tt, (tt, (tt, (tt, (tt, (tt, (tt,
-              tt))))),),),),),),),),),),),),),),),),),),),),),),)) d29
+          d30 = Typed.g-pre 𝓤 H A W 𝓣 E G24 G25 b25 Δ1 (λ Ψ. Ψ) (at29 bs) (Lifetime.g-begin 𝓤 H A W E G24 8 (
+            tt,
+            (
+              (tt, tt),
+              (
+                tt,
+                (
+                  tt,
+                  (
+                    tt,
+                    (
+                      tt,
+                      (
+                        tt,
+                        (
+                          tt,
+                          (
+                            tt,
+                            (
+                              tt,
+                              (
+                                tt,
+                                (
+                                  tt,
+                                  (
+                                    tt,
+                                    (
+                                      tt,
+                                      (tt, (tt, (tt, (tt, (tt, (tt, (tt, (tt, (tt, (tt, (tt, (tt, (tt, tt))))))))))))),
+                                    ),
+                                  ),
+                                ),
+                              ),
+                            ),
+                          ),
+                        ),
+                      ),
+                    ),
+                  ),
+                ),
+              ),
+            ),
+          )) d29
+
           d31 : Typed.Typed 𝓤 H A 𝓣 E G23 b26 Δ1 (at31 bs)
-          d31 = Typed.s-seq 𝓤 H A W 𝓣 E G23 G24 b10 b25 Δ1 (Typed.ask (s21 bs)) (at30 bs) (Relend.t-sl-aggregate 𝓤 H A W E RelayPending.row 𝓣
-              (Relend.asMut RelayPending.row) G23 19 20 7 ref1 ref1 (λ x. x) (Scalar.oFld 1 ((Syntax.field 1) ∷ List.[]) (Syntax.tyInt Syntax.w64) 8 λ
-              v. Shared.lenV (v .0)) (Reads.as-is 𝓤 H A (Relend.msptr RelayPending.row ref1 7)) (Reads.room-gone 𝓤 H A (Syntax.tyStruct (38 ∷ 91 ∷ 93
-              ∷ List.[]) (Syntax.tcons ref1 (Syntax.tcons (Syntax.tyInt Syntax.w64) Syntax.tnil)))) (Relend.reads-owed-len 𝓤 H A W RelayPending.row
-              ref5 0 7 life0 8 Path.refl, Path.refl,) Path.refl Path.refl λ b o k. tt) d30
+          d31 = Typed.s-seq 𝓤 H A W 𝓣 E G23 G24 b10 b25 Δ1 (Typed.ask (s21 bs)) (at30 bs) (Relend.t-sl-aggregate 𝓤 H A
+              W E RelayPending.row 𝓣 (Relend.asMut RelayPending.row) G23 19 20 7 ref1 ref1 (λ x. x) (Scalar.oFld 1
+              ((Syntax.field 1) ∷ List.[]) (Syntax.tyInt Syntax.w64) 8 λ v. Shared.lenV (v .0))
+              (Reads.as-is 𝓤 H A (Relend.msptr RelayPending.row ref1 7)) (Reads.room-gone 𝓤 H A slice1) (
+                Relend.reads-owed-len 𝓤 H A W RelayPending.row ref5 0 7 life0 8 Path.refl,
+                Path.refl,
+              ) Path.refl Path.refl λ b o k. tt) d30
+
           d32 : Typed.Typed 𝓤 H A 𝓣 E G22 b27 Δ1 (at32 bs)
-          d32 = Typed.s-seq 𝓤 H A W 𝓣 E G22 G23 b9 b26 Δ1 (Typed.give (s20 bs)) (at31 bs) (Relend.t-sl-relend 𝓤 H A W E RelayPending.row 𝓣 G22 1 19 0
-              7 ref5 ref1 life0 0 (λ x. x) (Reads.as-is 𝓤 H A (Mut.mslice RelayPending.row ref5 0)) (Reads.room-gone 𝓤 H A ref1) Path.refl tt
+          d32 = Typed.s-seq 𝓤 H A W 𝓣 E G22 G23 b9 b26 Δ1 (Typed.give (s20 bs)) (at31 bs) (Relend.t-sl-relend 𝓤 H A W E
+              RelayPending.row 𝓣 G22 1 19 0 7 ref5 ref1 life0 0 (λ x. x)
+              (Reads.as-is 𝓤 H A (Mut.mslice RelayPending.row ref5 0)) (Reads.room-gone 𝓤 H A ref1) Path.refl tt
               Path.refl Path.refl Path.refl λ b o. tt) d31
+
           d33 : Typed.Typed 𝓤 H A 𝓣 E G21 b27 Δ1 (at33 bs)
-          d33 = Typed.g-pre 𝓤 H A W 𝓣 E G21 G22 b27 Δ1 (λ Ψ. Ψ) (at32 bs) (Lifetime.g-begin 𝓤 H A W E G21 7 (tt, (tt, (tt, (tt, (tt, (tt, (tt, (tt,
-              (tt, (tt, (tt, (tt, (tt, (tt, (tt, (tt, (tt, (tt, (tt, (tt, (tt, (tt, (tt, (tt, (tt, (tt, (tt,
-              tt))))),),),),),),),),),),),),),),),),),),),),),),)) d32
+          d33 = Typed.g-pre 𝓤 H A W 𝓣 E G21 G22 b27 Δ1 (λ Ψ. Ψ) (at32 bs) (Lifetime.g-begin 𝓤 H A W E G21 7 (
+            tt,
+            (
+              tt,
+              (
+                tt,
+                (
+                  tt,
+                  (
+                    tt,
+                    (
+                      tt,
+                      (
+                        tt,
+                        (
+                          tt,
+                          (
+                            tt,
+                            (
+                              tt,
+                              (
+                                tt,
+                                (
+                                  tt,
+                                  (
+                                    tt,
+                                    (
+                                      tt,
+                                      (tt, (tt, (tt, (tt, (tt, (tt, (tt, (tt, (tt, (tt, (tt, (tt, (tt, tt))))))))))))),
+                                    ),
+                                  ),
+                                ),
+                              ),
+                            ),
+                          ),
+                        ),
+                      ),
+                    ),
+                  ),
+                ),
+              ),
+            ),
+          )) d32
+
           d34 : Typed.Typed 𝓤 H A 𝓣 E G20 b27 Δ1 (at34 bs)
-          d34 = Typed.g-pre 𝓤 H A W 𝓣 E G20 G21 b27 Δ1 (Typed.pass T20 T21 (s18 bs)) (at33 bs) (Scalar.g-room 𝓤 H A W E G20 18 Syntax.tyBool
-              (Scalar.room-sc 𝓤 H A W Row.sBool)) d33
+          d34 = Typed.g-pre 𝓤 H A W 𝓣 E G20 G21 b27 Δ1 (Typed.pass T20 T21 (s18 bs)) (at33 bs) (Scalar.g-room 𝓤 H A W E
+              G20 18 Syntax.tyBool (Scalar.room-sc 𝓤 H A W Row.sBool)) d33
+
           d35 : Typed.Typed 𝓤 H A 𝓣 E G18 b27 Δ1 (at35 bs)
-          d35 = Typed.g-pre 𝓤 H A W 𝓣 E G18 G20 b27 Δ1 (Typed.pass T18 T20 (s17 bs)) (at34 bs) (Scalar.g-room 𝓤 H A W E G18 15 Laws.mir
-              (Local.room-whole 𝓤 H A W (Declared.row HnsrAnswer.the-type) Laws.mir Path.refl)) d34
+          d35 = Typed.g-pre 𝓤 H A W 𝓣 E G18 G20 b27 Δ1 (Typed.pass T18 T20 (s17 bs)) (at34 bs) (Scalar.g-room 𝓤 H A W E
+              G18 15 Laws.mir (Local.room-whole 𝓤 H A W (Declared.row HnsrAnswer.the-type) Laws.mir Path.refl)) d34
+
           d36 : Typed.Typed 𝓤 H A 𝓣 E G58 b28 Δ1 (at36 bs)
           d36 = Typed.t-skip 𝓤 H A W 𝓣 E Δ1 tt
+
           d37 : Typed.Typed 𝓤 H A 𝓣 E G57 b28 Δ1 (at37 bs)
-          d37 = Typed.g-pre 𝓤 H A W 𝓣 E G57 G58 b28 Δ1 (Typed.pass T57 T58 (s55 bs)) (at36 bs) (Scalar.g-room 𝓤 H A W E G57 18 Syntax.tyBool
-              (Scalar.room-sc 𝓤 H A W Row.sBool)) d36
+          d37 = Typed.g-pre 𝓤 H A W 𝓣 E G57 G58 b28 Δ1 (Typed.pass T57 T58 (s55 bs)) (at36 bs) (Scalar.g-room 𝓤 H A W E
+              G57 18 Syntax.tyBool (Scalar.room-sc 𝓤 H A W Row.sBool)) d36
+
           d38 : Typed.Typed 𝓤 H A 𝓣 E G56 b28 Δ1 (at38 bs)
-          d38 = Typed.g-pre 𝓤 H A W 𝓣 E G56 G57 b28 Δ1 (Typed.pass T56 T57 (s54 bs)) (at37 bs) (Scalar.g-room 𝓤 H A W E G56 14 Laws'''.mir
-              (Local.room-whole 𝓤 H A W (Declared'.row OpenPlan.the-type) Laws'''.mir Path.refl)) d37
+          d38 = Typed.g-pre 𝓤 H A W 𝓣 E G56 G57 b28 Δ1 (Typed.pass T56 T57 (s54 bs)) (at37 bs) (Scalar.g-room 𝓤 H A W E
+              G56 14 Laws'''.mir (Local.room-whole 𝓤 H A W (Declared'.row OpenPlan.the-type) Laws'''.mir Path.refl))
+              d37
+
           d39 : Typed.Typed 𝓤 H A 𝓣 E G55 b28 Δ1 (at39 bs)
-          d39 = Typed.g-pre 𝓤 H A W 𝓣 E G55 G56 b28 Δ1 (Typed.pass T55 T56 (s53 bs)) (at38 bs) (Scalar.g-room 𝓤 H A W E G55 13 Laws'''''.mir
-              (Local.room-whole 𝓤 H A W (Declared'.row Drawing.the-type) Laws'''''.mir Path.refl)) d38
+          d39 = Typed.g-pre 𝓤 H A W 𝓣 E G55 G56 b28 Δ1 (Typed.pass T55 T56 (s53 bs)) (at38 bs) (Scalar.g-room 𝓤 H A W E
+              G55 13 Laws'''''.mir (Local.room-whole 𝓤 H A W (Declared'.row Drawing.the-type) Laws'''''.mir Path.refl))
+              d38
+
           d40 : Typed.Typed 𝓤 H A 𝓣 E G18 b28 Δ1 (at40 bs)
-          d40 = Typed.g-pre 𝓤 H A W 𝓣 E G18 G55 b28 Δ1 (Typed.pass T18 T55 (s52 bs)) (at39 bs) (Scalar.g-room 𝓤 H A W E G18 8 Laws''.mir
-              (Local.room-whole 𝓤 H A W (Declared'.row OpenGathered.the-type) Laws''.mir Path.refl)) d39
+          d40 = Typed.g-pre 𝓤 H A W 𝓣 E G18 G55 b28 Δ1 (Typed.pass T18 T55 (s52 bs)) (at39 bs) (Scalar.g-room 𝓤 H A W E
+              G18 8 Laws''.mir (Local.room-whole 𝓤 H A W (Declared'.row OpenGathered.the-type) Laws''.mir Path.refl))
+              d39
+
           d41 : Typed.Typed 𝓤 H A 𝓣 E G18 b29 Δ1 (at41 bs)
-          d41 = Scalar.t-cond 𝓤 H A W E 𝓣 G18 18 (λ x. x) b27 b28 Δ1 (at35 bs) (at40 bs) (Scalar.reads-sc 𝓤 H A W Row.sBool) Path.refl d35 d40
+          d41 = Scalar.t-cond 𝓤 H A W E 𝓣 G18 18 (λ x. x) b27 b28 Δ1 (at35 bs) (at40 bs)
+              (Scalar.reads-sc 𝓤 H A W Row.sBool) Path.refl d35 d40
+
           d42 : Typed.Typed 𝓤 H A 𝓣 E G64 b31 Δ0 (at42 bs)
           d42 = Typed.t-return 𝓤 H A W 𝓣 E Δ0 tt
+
           d43 : Typed.Typed 𝓤 H A 𝓣 E G63 b31 Δ0 (at43 bs)
-          d43 = Typed.g-pre 𝓤 H A W 𝓣 E G63 G64 b31 Δ0 (Typed.pass T63 T64 (s61 bs)) (at42 bs) (Scalar.g-room 𝓤 H A W E G63 15 Laws.mir
-              (Local.room-whole 𝓤 H A W (Declared.row HnsrAnswer.the-type) Laws.mir Path.refl)) d42
+          d43 = Typed.g-pre 𝓤 H A W 𝓣 E G63 G64 b31 Δ0 (Typed.pass T63 T64 (s61 bs)) (at42 bs) (Scalar.g-room 𝓤 H A W E
+              G63 15 Laws.mir (Local.room-whole 𝓤 H A W (Declared.row HnsrAnswer.the-type) Laws.mir Path.refl)) d42
+
           d44 : Typed.Typed 𝓤 H A 𝓣 E G62 b31 Δ0 (at44 bs)
-          d44 = Typed.g-pre 𝓤 H A W 𝓣 E G62 G63 b31 Δ0 (Typed.pass T62 T63 (s60 bs)) (at43 bs) (Scalar.g-room 𝓤 H A W E G62 12 Syntax.tyBool
-              (Scalar.room-sc 𝓤 H A W Row.sBool)) d43
+          d44 = Typed.g-pre 𝓤 H A W 𝓣 E G62 G63 b31 Δ0 (Typed.pass T62 T63 (s60 bs)) (at43 bs) (Scalar.g-room 𝓤 H A W E
+              G62 12 Syntax.tyBool (Scalar.room-sc 𝓤 H A W Row.sBool)) d43
+
           d45 : Typed.Typed 𝓤 H A 𝓣 E G61 b31 Δ0 (at45 bs)
-          d45 = Typed.g-pre 𝓤 H A W 𝓣 E G61 G62 b31 Δ0 (Typed.pass T61 T62 (s59 bs)) (at44 bs) (Scalar.g-room 𝓤 H A W E G61 11 (Syntax.tyInt
-              Syntax.w64) (Scalar.room-sc 𝓤 H A W (Row.sInt Syntax.w64))) d44
+          d45 = Typed.g-pre 𝓤 H A W 𝓣 E G61 G62 b31 Δ0 (Typed.pass T61 T62 (s59 bs)) (at44 bs) (Scalar.g-room 𝓤 H A W E
+              G61 11 (Syntax.tyInt Syntax.w64) (Scalar.room-sc 𝓤 H A W (Row.sInt Syntax.w64))) d44
+
           d46 : Typed.Typed 𝓤 H A 𝓣 E G60 b31 Δ0 (at46 bs)
-          d46 = Typed.g-pre 𝓤 H A W 𝓣 E G60 G61 b31 Δ0 (Typed.pass T60 T61 (s58 bs)) (at45 bs) (Scalar.g-room 𝓤 H A W E G60 7 Laws''''.mir
-              (Local.room-whole 𝓤 H A W (Declared'.row Places.the-type) Laws''''.mir Path.refl)) d45
+          d46 = Typed.g-pre 𝓤 H A W 𝓣 E G60 G61 b31 Δ0 (Typed.pass T60 T61 (s58 bs)) (at45 bs) (Scalar.g-room 𝓤 H A W E
+              G60 7 Laws''''.mir (Local.room-whole 𝓤 H A W (Declared'.row Places.the-type) Laws''''.mir Path.refl)) d45
+
           d47 : Typed.Typed 𝓤 H A 𝓣 E G59 b31 Δ0 (at47 bs)
-          d47 = Typed.g-pre 𝓤 H A W 𝓣 E G59 G60 b31 Δ0 (Typed.pass T59 T60 (s57 bs)) (at46 bs) (Scalar.g-room 𝓤 H A W E G59 6 Laws''''''.mir
-              (Local.room-whole 𝓤 H A W (Declared'.row OpaqueRelayRuntime.the-type) Laws''''''.mir Path.refl)) d46
+          d47 = Typed.g-pre 𝓤 H A W 𝓣 E G59 G60 b31 Δ0 (Typed.pass T59 T60 (s57 bs)) (at46 bs) (Scalar.g-room 𝓤 H A W E
+              G59 6 Laws''''''.mir (Local.room-whole 𝓤 H A W (Declared'.row OpaqueRelayRuntime.the-type) Laws''''''.mir
+              Path.refl)) d46
+
           d48 : Typed.Typed 𝓤 H A 𝓣 E G19 b32 Δ0 (at48 bs)
-          d48 = Typed.s-seq 𝓤 H A W 𝓣 E G19 G59 b30 b31 Δ0 (Typed.both (s56 bs)) (at47 bs) (Plain.t-call-plain 𝓤 H A W 𝓣 0 ps·7 r·7 (claims· .14)
-              (claims· .15) "hnsr_circuit::revoking_calls::refused" (known .7) E (λ pos β. β) G19 (record { pos = 6; st = List.[]; d = 0; at = λ x. x
-              }, (record { pos = 7; st = List.[]; d = 0; at = λ x. x }, (record { pos = 15; st = List.[]; d = 0; at = λ x. x }, tt),),) 0 List.[]
-              (Call.sub-id 𝓤 H A W (G19 .slots)) ((Yields.yields-copy 𝓤 H A W (λ ρ. Unit) (Declared'.row OpaqueRelayRuntime.the-type) Path.refl
-              (Copies.cStruct OpaqueRelayRuntime.the-type Laws''''''.the-laws Laws''''''.the-copy .copy 𝓤 H A W) (Rows.whole (Declared'.row
-              OpaqueRelayRuntime.the-type)) (λ x. x) (λ x. x) (λ ρ told. Local.mem-whole 𝓤 H A W (Declared'.row OpaqueRelayRuntime.the-type) ρ) λ ρ
-              told. Local.whole-mem 𝓤 H A W (Declared'.row OpaqueRelayRuntime.the-type) ρ, Path.refl,), ((Yields.yields-copy 𝓤 H A W (λ ρ. Unit)
-              (Declared'.row Places.the-type) Path.refl (Copies.cStruct Places.the-type Laws''''.the-laws Laws''''.the-copy .copy 𝓤 H A W) (Rows.whole
-              (Declared'.row Places.the-type)) (λ x. x) (λ x. x) (λ ρ told. Local.mem-whole 𝓤 H A W (Declared'.row Places.the-type) ρ) λ ρ told.
-              Local.whole-mem 𝓤 H A W (Declared'.row Places.the-type) ρ, Path.refl,), ((Yields.yields-copy 𝓤 H A W (λ ρ. Unit) (Declared.row
-              HnsrAnswer.the-type) Path.refl (Copies.cEnum HnsrAnswer.the-type Laws.the-laws Laws.the-copy .copy 𝓤 H A W) (Rows.whole (Declared.row
-              HnsrAnswer.the-type)) (λ x. x) (λ x. x) (λ ρ told. Local.mem-whole 𝓤 H A W (Declared.row HnsrAnswer.the-type) ρ) λ ρ told.
-              Local.whole-mem 𝓤 H A W (Declared.row HnsrAnswer.the-type) ρ, Path.refl,), tt,),),) (Reads.room-gone 𝓤 H A Laws'''''''.mir) tt
-              Path.refl) d47
+          d48 = Typed.s-seq 𝓤 H A W 𝓣 E G19 G59 b30 b31 Δ0 (Typed.both (s56 bs)) (at47 bs) (Plain.t-call-plain 𝓤 H A W
+              𝓣 0 ps·7 r·7 (claims· .14) (claims· .15) "hnsr_circuit::revoking_calls::refused" (known .7) E
+              (λ pos β. β) G19 (
+                record { pos = 6; st = List.[]; d = 0; at = λ x. x },
+                (
+                  record { pos = 7; st = List.[]; d = 0; at = λ x. x },
+                  (record { pos = 15; st = List.[]; d = 0; at = λ x. x }, tt),
+                ),
+              ) 0 List.[] (Call.sub-id 𝓤 H A W (G19 .slots)) (
+                (
+                  Yields.yields-copy 𝓤 H A W (λ ρ. Unit) (Declared'.row OpaqueRelayRuntime.the-type) Path.refl (Copies.cStruct
+                      OpaqueRelayRuntime.the-type Laws''''''.the-laws Laws''''''.the-copy .copy 𝓤 H A W)
+                      (Rows.whole (Declared'.row OpaqueRelayRuntime.the-type)) (λ x. x) (λ x. x) (λ ρ told.
+                      Local.mem-whole 𝓤 H A W (Declared'.row OpaqueRelayRuntime.the-type) ρ) λ ρ told. Local.whole-mem
+                      𝓤 H A W (Declared'.row OpaqueRelayRuntime.the-type) ρ,
+                  Path.refl,
+                ),
+                (
+                  (
+                    Yields.yields-copy 𝓤 H A W (λ ρ. Unit) (Declared'.row Places.the-type) Path.refl (Copies.cStruct
+                        Places.the-type Laws''''.the-laws Laws''''.the-copy .copy 𝓤 H A W)
+                        (Rows.whole (Declared'.row Places.the-type)) (λ x. x) (λ x. x) (λ ρ told. Local.mem-whole 𝓤 H A
+                        W (Declared'.row Places.the-type) ρ) λ ρ told. Local.whole-mem 𝓤 H A W
+                        (Declared'.row Places.the-type) ρ,
+                    Path.refl,
+                  ),
+                  (
+                    (
+                      Yields.yields-copy 𝓤 H A W (λ ρ. Unit) (Declared.row HnsrAnswer.the-type) Path.refl (Copies.cEnum
+                          HnsrAnswer.the-type Laws.the-laws Laws.the-copy .copy 𝓤 H A W)
+                          (Rows.whole (Declared.row HnsrAnswer.the-type)) (λ x. x) (λ x. x) (λ ρ told. Local.mem-whole
+                          𝓤 H A W (Declared.row HnsrAnswer.the-type) ρ) λ ρ told. Local.whole-mem 𝓤 H A W
+                          (Declared.row HnsrAnswer.the-type) ρ,
+                      Path.refl,
+                    ),
+                    tt,
+                  ),
+                ),
+              ) (Reads.room-gone 𝓤 H A Laws'''''''.mir) tt Path.refl) d47
+
           d49 : Typed.Typed 𝓤 H A 𝓣 E G18 b33 Δ0 (at49 bs)
           d49 = Typed.t-seq 𝓤 H A W 𝓣 E G18 G19 b29 b32 Δ0 (at41 bs) (at48 bs) d41 d48
+
           d50 : Typed.Typed 𝓤 H A 𝓣 E G17 b34 Δ0 (at50 bs)
-          d50 = Typed.s-seq 𝓤 H A W 𝓣 E G17 G18 b8 b33 Δ0 (Typed.both (s16 bs)) (at49 bs) (Plain.t-call-plain 𝓤 H A W 𝓣 0 ps·5 r·5 (claims· .10)
-              (claims· .11) "hnsr_circuit::answer::is_taken" (known .5) E (λ pos β. β) G17 (record { pos = 15; st = List.[]; d = 0; at = λ x. x }, tt)
-              18 List.[] (Call.sub-id 𝓤 H A W (G17 .slots)) ((Yields.yields-copy 𝓤 H A W (λ ρ. Unit) (Declared.row HnsrAnswer.the-type) Path.refl
-              (Copies.cEnum HnsrAnswer.the-type Laws.the-laws Laws.the-copy .copy 𝓤 H A W) (Rows.whole (Declared.row HnsrAnswer.the-type)) (λ x. x) (λ
-              x. x) (λ ρ told. Local.mem-whole 𝓤 H A W (Declared.row HnsrAnswer.the-type) ρ) λ ρ told. Local.whole-mem 𝓤 H A W (Declared.row
-              HnsrAnswer.the-type) ρ, Path.refl,), tt,) (Reads.room-gone 𝓤 H A Syntax.tyBool) tt Path.refl) d49
+          d50 = Typed.s-seq 𝓤 H A W 𝓣 E G17 G18 b8 b33 Δ0 (Typed.both (s16 bs)) (at49 bs) (Plain.t-call-plain 𝓤 H A W 𝓣
+              0 ps·5 r·5 (claims· .10) (claims· .11) "hnsr_circuit::answer::is_taken" (known .5) E (λ pos β. β) G17
+              (record { pos = 15; st = List.[]; d = 0; at = λ x. x }, tt) 18 List.[] (Call.sub-id 𝓤 H A W (G17 .slots)) (
+                (
+                  Yields.yields-copy 𝓤 H A W (λ ρ. Unit) (Declared.row HnsrAnswer.the-type) Path.refl (Copies.cEnum
+                      HnsrAnswer.the-type Laws.the-laws Laws.the-copy .copy 𝓤 H A W)
+                      (Rows.whole (Declared.row HnsrAnswer.the-type)) (λ x. x) (λ x. x) (λ ρ told. Local.mem-whole 𝓤 H
+                      A W (Declared.row HnsrAnswer.the-type) ρ) λ ρ told. Local.whole-mem 𝓤 H A W
+                      (Declared.row HnsrAnswer.the-type) ρ,
+                  Path.refl,
+                ),
+                tt,
+              ) (Reads.room-gone 𝓤 H A Syntax.tyBool) tt Path.refl) d49
+
           d51 : Typed.Typed 𝓤 H A 𝓣 E G16 b34 Δ0 (at51 bs)
-          d51 = Typed.g-pre 𝓤 H A W 𝓣 E G16 G17 b34 Δ0 (Typed.pass T16 T17 (s15 bs)) (at50 bs) (Scalar.g-room 𝓤 H A W E G16 10 Laws'.mir
-              (Local.room-whole 𝓤 H A W (Declared'.row OpaqueRelayConfig.the-type) Laws'.mir Path.refl)) d50
+          d51 = Typed.g-pre 𝓤 H A W 𝓣 E G16 G17 b34 Δ0 (Typed.pass T16 T17 (s15 bs)) (at50 bs) (Scalar.g-room 𝓤 H A W E
+              G16 10 Laws'.mir (Local.room-whole 𝓤 H A W (Declared'.row OpaqueRelayConfig.the-type) Laws'.mir
+              Path.refl)) d50
+
           d52 : Typed.Typed 𝓤 H A 𝓣 E G15 b35 Δ0 (at52 bs)
-          d52 = Typed.s-seq 𝓤 H A W 𝓣 E G15 G16 b7 b34 Δ0 (Typed.both (s14 bs)) (at51 bs) (Plain.t-call-plain 𝓤 H A W 𝓣 0 ps·4 r·4 (claims· .8)
-              (claims· .9) "hnsr_circuit::open::placed_entry" (known .4) E (λ pos β. β) G15 (record { pos = 10; st = List.[]; d = 0; at = λ x. x },
-              (record { pos = 8; st = List.[]; d = 0; at = λ x. x }, (record { pos = 14; st = List.[]; d = 0; at = λ x. x }, (record { pos = 13; st =
-              List.[]; d = 0; at = λ x. x }, tt),),),) 15 List.[] (Call.sub-id 𝓤 H A W (G15 .slots)) ((Yields.yields-copy 𝓤 H A W (λ ρ. Unit)
-              (Declared'.row OpaqueRelayConfig.the-type) Path.refl (Copies.cStruct OpaqueRelayConfig.the-type Laws'.the-laws Laws'.the-copy .copy 𝓤 H
-              A W) (Rows.whole (Declared'.row OpaqueRelayConfig.the-type)) (λ x. x) (λ x. x) (λ ρ told. Local.mem-whole 𝓤 H A W (Declared'.row
-              OpaqueRelayConfig.the-type) ρ) λ ρ told. Local.whole-mem 𝓤 H A W (Declared'.row OpaqueRelayConfig.the-type) ρ, Path.refl,),
-              ((Yields.yields-copy 𝓤 H A W (λ ρ. Unit) (Declared'.row OpenGathered.the-type) Path.refl (Copies.cStruct OpenGathered.the-type
-              Laws''.the-laws Laws''.the-copy .copy 𝓤 H A W) (Rows.whole (Declared'.row OpenGathered.the-type)) (λ x. x) (λ x. x) (λ ρ told.
-              Local.mem-whole 𝓤 H A W (Declared'.row OpenGathered.the-type) ρ) λ ρ told. Local.whole-mem 𝓤 H A W (Declared'.row OpenGathered.the-type)
-              ρ, Path.refl,), ((Yields.yields-copy 𝓤 H A W (λ ρ. Unit) (Declared'.row OpenPlan.the-type) Path.refl (Copies.cStruct OpenPlan.the-type
-              Laws'''.the-laws Laws'''.the-copy .copy 𝓤 H A W) (Rows.whole (Declared'.row OpenPlan.the-type)) (λ x. x) (λ x. x) (λ ρ told.
-              Local.mem-whole 𝓤 H A W (Declared'.row OpenPlan.the-type) ρ) λ ρ told. Local.whole-mem 𝓤 H A W (Declared'.row OpenPlan.the-type) ρ,
-              Path.refl,), ((Yields.yields-copy 𝓤 H A W (λ ρ. Unit) (Declared'.row Drawing.the-type) Path.refl (Copies.cStruct Drawing.the-type
-              Laws'''''.the-laws Laws'''''.the-copy .copy 𝓤 H A W) (Rows.whole (Declared'.row Drawing.the-type)) (λ x. x) (λ x. x) (λ ρ told.
-              Local.mem-whole 𝓤 H A W (Declared'.row Drawing.the-type) ρ) λ ρ told. Local.whole-mem 𝓤 H A W (Declared'.row Drawing.the-type) ρ,
-              Path.refl,), tt,),),),) (Reads.room-gone 𝓤 H A Laws.mir) tt Path.refl) d51
+          d52 = Typed.s-seq 𝓤 H A W 𝓣 E G15 G16 b7 b34 Δ0 (Typed.both (s14 bs)) (at51 bs) (Plain.t-call-plain 𝓤 H A W 𝓣
+              0 ps·4 r·4 (claims· .8) (claims· .9) "hnsr_circuit::open::placed_entry" (known .4) E (λ pos β. β) G15 (
+                record { pos = 10; st = List.[]; d = 0; at = λ x. x },
+                (
+                  record { pos = 8; st = List.[]; d = 0; at = λ x. x },
+                  (
+                    record { pos = 14; st = List.[]; d = 0; at = λ x. x },
+                    (record { pos = 13; st = List.[]; d = 0; at = λ x. x }, tt),
+                  ),
+                ),
+              ) 15 List.[] (Call.sub-id 𝓤 H A W (G15 .slots)) (
+                (
+                  Yields.yields-copy 𝓤 H A W (λ ρ. Unit) (Declared'.row OpaqueRelayConfig.the-type) Path.refl (Copies.cStruct
+                      OpaqueRelayConfig.the-type Laws'.the-laws Laws'.the-copy .copy 𝓤 H A W)
+                      (Rows.whole (Declared'.row OpaqueRelayConfig.the-type)) (λ x. x) (λ x. x) (λ ρ told.
+                      Local.mem-whole 𝓤 H A W (Declared'.row OpaqueRelayConfig.the-type) ρ) λ ρ told. Local.whole-mem 𝓤
+                      H A W (Declared'.row OpaqueRelayConfig.the-type) ρ,
+                  Path.refl,
+                ),
+                (
+                  (
+                    Yields.yields-copy 𝓤 H A W (λ ρ. Unit) (Declared'.row OpenGathered.the-type) Path.refl (Copies.cStruct
+                        OpenGathered.the-type Laws''.the-laws Laws''.the-copy .copy 𝓤 H A W)
+                        (Rows.whole (Declared'.row OpenGathered.the-type)) (λ x. x) (λ x. x) (λ ρ told. Local.mem-whole
+                        𝓤 H A W (Declared'.row OpenGathered.the-type) ρ) λ ρ told. Local.whole-mem 𝓤 H A W
+                        (Declared'.row OpenGathered.the-type) ρ,
+                    Path.refl,
+                  ),
+                  (
+                    (
+                      Yields.yields-copy 𝓤 H A W (λ ρ. Unit) (Declared'.row OpenPlan.the-type) Path.refl (Copies.cStruct
+                          OpenPlan.the-type Laws'''.the-laws Laws'''.the-copy .copy 𝓤 H A W)
+                          (Rows.whole (Declared'.row OpenPlan.the-type)) (λ x. x) (λ x. x) (λ ρ told. Local.mem-whole 𝓤
+                          H A W (Declared'.row OpenPlan.the-type) ρ) λ ρ told. Local.whole-mem 𝓤 H A W
+                          (Declared'.row OpenPlan.the-type) ρ,
+                      Path.refl,
+                    ),
+                    (
+                      (
+                        Yields.yields-copy 𝓤 H A W (λ ρ. Unit) (Declared'.row Drawing.the-type) Path.refl (Copies.cStruct
+                            Drawing.the-type Laws'''''.the-laws Laws'''''.the-copy .copy 𝓤 H A W)
+                            (Rows.whole (Declared'.row Drawing.the-type)) (λ x. x) (λ x. x) (λ ρ told. Local.mem-whole
+                            𝓤 H A W (Declared'.row Drawing.the-type) ρ) λ ρ told. Local.whole-mem 𝓤 H A W
+                            (Declared'.row Drawing.the-type) ρ,
+                        Path.refl,
+                      ),
+                      tt,
+                    ),
+                  ),
+                ),
+              ) (Reads.room-gone 𝓤 H A Laws.mir) tt Path.refl) d51
+
           d53 : Typed.Typed 𝓤 H A 𝓣 E G14 b36 Δ0 (at53 bs)
-          d53 = Typed.s-seq 𝓤 H A W 𝓣 E G14 G15 b6 b35 Δ0 (Typed.both (s13 bs)) (at52 bs) (Plain.t-call-plain 𝓤 H A W 𝓣 0 ps·3 r·3 (claims· .6)
-              (claims· .7) "hnsr_circuit::open::open_plan" (known .3) E (λ pos β. β) G14 (record { pos = 10; st = List.[]; d = 0; at = λ x. x },
-              (record { pos = 8; st = List.[]; d = 0; at = λ x. x }, (record { pos = 13; st = List.[]; d = 0; at = λ x. x }, tt),),) 14 List.[]
-              (Call.sub-id 𝓤 H A W (G14 .slots)) ((Yields.yields-copy 𝓤 H A W (λ ρ. Unit) (Declared'.row OpaqueRelayConfig.the-type) Path.refl
-              (Copies.cStruct OpaqueRelayConfig.the-type Laws'.the-laws Laws'.the-copy .copy 𝓤 H A W) (Rows.whole (Declared'.row
-              OpaqueRelayConfig.the-type)) (λ x. x) (λ x. x) (λ ρ told. Local.mem-whole 𝓤 H A W (Declared'.row OpaqueRelayConfig.the-type) ρ) λ ρ
-              told. Local.whole-mem 𝓤 H A W (Declared'.row OpaqueRelayConfig.the-type) ρ, Path.refl,), ((Yields.yields-copy 𝓤 H A W (λ ρ. Unit)
-              (Declared'.row OpenGathered.the-type) Path.refl (Copies.cStruct OpenGathered.the-type Laws''.the-laws Laws''.the-copy .copy 𝓤 H A W)
-              (Rows.whole (Declared'.row OpenGathered.the-type)) (λ x. x) (λ x. x) (λ ρ told. Local.mem-whole 𝓤 H A W (Declared'.row
-              OpenGathered.the-type) ρ) λ ρ told. Local.whole-mem 𝓤 H A W (Declared'.row OpenGathered.the-type) ρ, Path.refl,), ((Yields.yields-copy 𝓤
-              H A W (λ ρ. Unit) (Declared'.row Drawing.the-type) Path.refl (Copies.cStruct Drawing.the-type Laws'''''.the-laws Laws'''''.the-copy
-              .copy 𝓤 H A W) (Rows.whole (Declared'.row Drawing.the-type)) (λ x. x) (λ x. x) (λ ρ told. Local.mem-whole 𝓤 H A W (Declared'.row
-              Drawing.the-type) ρ) λ ρ told. Local.whole-mem 𝓤 H A W (Declared'.row Drawing.the-type) ρ, Path.refl,), tt,),),) (Reads.room-gone 𝓤 H A
-              Laws'''.mir) tt Path.refl) d52
+          d53 = Typed.s-seq 𝓤 H A W 𝓣 E G14 G15 b6 b35 Δ0 (Typed.both (s13 bs)) (at52 bs) (Plain.t-call-plain 𝓤 H A W 𝓣
+              0 ps·3 r·3 (claims· .6) (claims· .7) "hnsr_circuit::open::open_plan" (known .3) E (λ pos β. β) G14 (
+                record { pos = 10; st = List.[]; d = 0; at = λ x. x },
+                (
+                  record { pos = 8; st = List.[]; d = 0; at = λ x. x },
+                  (record { pos = 13; st = List.[]; d = 0; at = λ x. x }, tt),
+                ),
+              ) 14 List.[] (Call.sub-id 𝓤 H A W (G14 .slots)) (
+                (
+                  Yields.yields-copy 𝓤 H A W (λ ρ. Unit) (Declared'.row OpaqueRelayConfig.the-type) Path.refl (Copies.cStruct
+                      OpaqueRelayConfig.the-type Laws'.the-laws Laws'.the-copy .copy 𝓤 H A W)
+                      (Rows.whole (Declared'.row OpaqueRelayConfig.the-type)) (λ x. x) (λ x. x) (λ ρ told.
+                      Local.mem-whole 𝓤 H A W (Declared'.row OpaqueRelayConfig.the-type) ρ) λ ρ told. Local.whole-mem 𝓤
+                      H A W (Declared'.row OpaqueRelayConfig.the-type) ρ,
+                  Path.refl,
+                ),
+                (
+                  (
+                    Yields.yields-copy 𝓤 H A W (λ ρ. Unit) (Declared'.row OpenGathered.the-type) Path.refl (Copies.cStruct
+                        OpenGathered.the-type Laws''.the-laws Laws''.the-copy .copy 𝓤 H A W)
+                        (Rows.whole (Declared'.row OpenGathered.the-type)) (λ x. x) (λ x. x) (λ ρ told. Local.mem-whole
+                        𝓤 H A W (Declared'.row OpenGathered.the-type) ρ) λ ρ told. Local.whole-mem 𝓤 H A W
+                        (Declared'.row OpenGathered.the-type) ρ,
+                    Path.refl,
+                  ),
+                  (
+                    (
+                      Yields.yields-copy 𝓤 H A W (λ ρ. Unit) (Declared'.row Drawing.the-type) Path.refl (Copies.cStruct
+                          Drawing.the-type Laws'''''.the-laws Laws'''''.the-copy .copy 𝓤 H A W)
+                          (Rows.whole (Declared'.row Drawing.the-type)) (λ x. x) (λ x. x) (λ ρ told. Local.mem-whole 𝓤
+                          H A W (Declared'.row Drawing.the-type) ρ) λ ρ told. Local.whole-mem 𝓤 H A W
+                          (Declared'.row Drawing.the-type) ρ,
+                      Path.refl,
+                    ),
+                    tt,
+                  ),
+                ),
+              ) (Reads.room-gone 𝓤 H A Laws'''.mir) tt Path.refl) d52
+
           d54 : Typed.Typed 𝓤 H A 𝓣 E G13 b36 Δ0 (at54 bs)
-          d54 = Typed.g-pre 𝓤 H A W 𝓣 E G13 G14 b36 Δ0 (λ Ψ. Ψ) (at53 bs) (Lifetime.g-forget 𝓤 H A W E G13 6 Row.dead Path.refl) d53
+          d54 = Typed.g-pre 𝓤 H A W 𝓣 E G13 G14 b36 Δ0 (λ Ψ. Ψ) (at53 bs)
+              (Lifetime.g-forget 𝓤 H A W E G13 6 Row.dead Path.refl) d53
+
           d55 : Typed.Typed 𝓤 H A 𝓣 E G12 b36 Δ0 (at55 bs)
-          d55 = Typed.g-pre 𝓤 H A W 𝓣 E G12 G13 b36 Δ0 (Typed.pass T11 T13 (s11 bs)) (at54 bs) (Reshare.g-back-sl-shr 𝓤 H A W E RelayPending.row G12 1
-              0 6 ref5 life0 (λ x. x) (Reads.as-is 𝓤 H A (Reshare.mslice-owedS RelayPending.row ref5 0 6 life0)) Path.refl Path.refl) d54
+          d55 = Typed.g-pre 𝓤 H A W 𝓣 E G12 G13 b36 Δ0 (Typed.pass T11 T13 (s11 bs)) (at54 bs) (Reshare.g-back-sl-shr 𝓤
+              H A W E RelayPending.row G12 1 0 6 ref5 life0 (λ x. x) (Reads.as-is 𝓤 H A
+              (Reshare.mslice-owedS RelayPending.row ref5 0 6 life0)) Path.refl Path.refl) d54
+
           d56 : Typed.Typed 𝓤 H A 𝓣 E G11 b36 Δ0 (at56 bs)
-          d56 = Typed.g-pre 𝓤 H A W 𝓣 E G11 G12 b36 Δ0 (λ Ψ. Ψ) (at55 bs) (Lifetime.g-end 𝓤 H A W E G11 6 Path.refl) d55
+          d56 = Typed.g-pre 𝓤 H A W 𝓣 E G11 G12 b36 Δ0 (λ Ψ. Ψ) (at55 bs) (Lifetime.g-end 𝓤 H A W E G11 6 Path.refl)
+              d55
+
           d57 : Typed.Typed 𝓤 H A 𝓣 E G10 b36 Δ0 (at57 bs)
-          d57 = Typed.g-pre 𝓤 H A W 𝓣 E G10 G11 b36 Δ0 (Typed.pass T10 T11 (s9 bs)) (at56 bs) (Scalar.g-room 𝓤 H A W E G10 17 (Syntax.tyStruct (38 ∷
-              91 ∷ 93 ∷ List.[]) (Syntax.tcons ref0 (Syntax.tcons (Syntax.tyInt Syntax.w64) Syntax.tnil))) (Shared.room-sslice 𝓤 H A W
-              RelayPending.row ref0 6)) d56
+          d57 = Typed.g-pre 𝓤 H A W 𝓣 E G10 G11 b36 Δ0 (Typed.pass T10 T11 (s9 bs)) (at56 bs) (Scalar.g-room 𝓤 H A W E
+              G10 17 slice0 (Shared.room-sslice 𝓤 H A W RelayPending.row ref0 6)) d56
+
           d58 : Typed.Typed 𝓤 H A 𝓣 E G9 b37 Δ0 (at58 bs)
-          d58 = Typed.s-seq 𝓤 H A W 𝓣 E G9 G10 b5 b36 Δ0 (Typed.both (s8 bs)) (at57 bs) (Plain.t-call-plain 𝓤 H A W 𝓣 3 ps·2 r·2 (claims· .4) (claims·
-              .5) "hnsr_circuit::handle_open::draw" (known .2) E (λ pos β. β) G9 (record { pos = 17; ty = Syntax.tyRef Syntax.erased Syntax.imm
-              RelayPending.to; ref = λ x. x; }, (record { pos = 2; ty = Syntax.tyRef (Syntax.named 1) Syntax.imm RelayCircuit.to; ref = λ x. x; },
-              (record { pos = 7; st = List.[]; d = 0; at = λ x. x }, (record { pos = 9; ty = Syntax.tyRef (Syntax.named 5) Syntax.imm (Syntax.tyInt
-              Syntax.w8); ref = λ x. x; }, (Num.vAt 11 λ x. x, (Bool.bAt 12 λ x. x, tt)),),),),) 13 (6 ∷ 1 ∷ 5 ∷ List.[]) (Call.sub-id 𝓤 H A W (G9
-              .slots)) (ShrSlice.spares-sslice 𝓤 H A W RelayPending.row ref0 6, Shared.reads-sslice 𝓤 H A W RelayPending.row ref0 6, Path.refl,
-              (ShrSlice.spares-sslice 𝓤 H A W RelayCircuit.row ref6 1, Shared.reads-sslice 𝓤 H A W RelayCircuit.row ref6 1, Path.refl,
-              ((Yields.yields-copy 𝓤 H A W (λ ρ. Unit) (Declared'.row Places.the-type) Path.refl (Copies.cStruct Places.the-type Laws''''.the-laws
-              Laws''''.the-copy .copy 𝓤 H A W) (Rows.whole (Declared'.row Places.the-type)) (λ x. x) (λ x. x) (λ ρ told. Local.mem-whole 𝓤 H A W
-              (Declared'.row Places.the-type) ρ) λ ρ told. Local.whole-mem 𝓤 H A W (Declared'.row Places.the-type) ρ, Path.refl,),
-              (ShrSlice.spares-sslice 𝓤 H A W (Referent.rtF (Referent.fInt Syntax.w8)) ref10 5, Shared.reads-sslice 𝓤 H A W (Referent.rtF
-              (Referent.fInt Syntax.w8)) ref10 5, Path.refl, ((Scalar.reads-sc 𝓤 H A W (Row.sInt Syntax.w64), Path.refl), ((Scalar.reads-sc 𝓤 H A W
-              Row.sBool, Path.refl), tt),),),),),) (Reads.room-gone 𝓤 H A Laws'''''.mir) (tt, (tt, (tt, tt))) Path.refl) d57
+          d58 = Typed.s-seq 𝓤 H A W 𝓣 E G9 G10 b5 b36 Δ0 (Typed.both (s8 bs)) (at57 bs) (Plain.t-call-plain 𝓤 H A W 𝓣 3
+              ps·2 r·2 (claims· .4) (claims· .5) "hnsr_circuit::handle_open::draw" (known .2) E (λ pos β. β) G9 (
+                record { pos = 17; ty = ref0; ref = λ x. x },
+                (
+                  record { pos = 2; ty = ref6; ref = λ x. x },
+                  (
+                    record { pos = 7; st = List.[]; d = 0; at = λ x. x },
+                    (record { pos = 9; ty = ref10; ref = λ x. x }, (Num.vAt 11 λ x. x, (Bool.bAt 12 λ x. x, tt))),
+                  ),
+                ),
+              ) 13 (6 ∷ 1 ∷ 5 ∷ List.[]) (Call.sub-id 𝓤 H A W (G9 .slots)) (
+                ShrSlice.spares-sslice 𝓤 H A W RelayPending.row ref0 6,
+                Shared.reads-sslice 𝓤 H A W RelayPending.row ref0 6,
+                Path.refl,
+                (
+                  ShrSlice.spares-sslice 𝓤 H A W RelayCircuit.row ref6 1,
+                  Shared.reads-sslice 𝓤 H A W RelayCircuit.row ref6 1,
+                  Path.refl,
+                  (
+                    (
+                      Yields.yields-copy 𝓤 H A W (λ ρ. Unit) (Declared'.row Places.the-type) Path.refl (Copies.cStruct
+                          Places.the-type Laws''''.the-laws Laws''''.the-copy .copy 𝓤 H A W)
+                          (Rows.whole (Declared'.row Places.the-type)) (λ x. x) (λ x. x) (λ ρ told. Local.mem-whole 𝓤 H
+                          A W (Declared'.row Places.the-type) ρ) λ ρ told. Local.whole-mem 𝓤 H A W
+                          (Declared'.row Places.the-type) ρ,
+                      Path.refl,
+                    ),
+                    (
+                      ShrSlice.spares-sslice 𝓤 H A W (Referent.rtF (Referent.fInt Syntax.w8)) ref10 5,
+                      Shared.reads-sslice 𝓤 H A W (Referent.rtF (Referent.fInt Syntax.w8)) ref10 5,
+                      Path.refl,
+                      (
+                        (Scalar.reads-sc 𝓤 H A W (Row.sInt Syntax.w64), Path.refl),
+                        ((Scalar.reads-sc 𝓤 H A W Row.sBool, Path.refl), tt),
+                      ),
+                    ),
+                  ),
+                ),
+              ) (Reads.room-gone 𝓤 H A Laws'''''.mir) (tt, (tt, (tt, tt))) Path.refl) d57
+
           d59 : Typed.Typed 𝓤 H A 𝓣 E G8 b38 Δ0 (at59 bs)
-          d59 = Typed.s-seq 𝓤 H A W 𝓣 E G8 G9 b4 b37 Δ0 (Typed.ask (s7 bs)) (at58 bs) (Relend.t-sl-aggregate 𝓤 H A W E RelayPending.row 𝓣
-              (Relend.asShr RelayPending.row) G8 16 17 6 ref0 ref0 (λ x. x) (Scalar.oFld 1 ((Syntax.field 1) ∷ List.[]) (Syntax.tyInt Syntax.w64) 8 λ
-              v. Shared.lenV (v .0)) (Reads.as-is 𝓤 H A (Relend.ssptr RelayPending.row ref0 6)) (Reads.room-gone 𝓤 H A (Syntax.tyStruct (38 ∷ 91 ∷ 93
-              ∷ List.[]) (Syntax.tcons ref0 (Syntax.tcons (Syntax.tyInt Syntax.w64) Syntax.tnil)))) (Reshare.reads-owedS-len 𝓤 H A W RelayPending.row
-              ref5 0 6 life0 8 Path.refl, Path.refl,) Path.refl Path.refl λ b o k. tt) d58
+          d59 = Typed.s-seq 𝓤 H A W 𝓣 E G8 G9 b4 b37 Δ0 (Typed.ask (s7 bs)) (at58 bs) (Relend.t-sl-aggregate 𝓤 H A W E
+              RelayPending.row 𝓣 (Relend.asShr RelayPending.row) G8 16 17 6 ref0 ref0 (λ x. x) (Scalar.oFld 1
+              ((Syntax.field 1) ∷ List.[]) (Syntax.tyInt Syntax.w64) 8 λ v. Shared.lenV (v .0))
+              (Reads.as-is 𝓤 H A (Relend.ssptr RelayPending.row ref0 6)) (Reads.room-gone 𝓤 H A slice0) (
+                Reshare.reads-owedS-len 𝓤 H A W RelayPending.row ref5 0 6 life0 8 Path.refl,
+                Path.refl,
+              ) Path.refl Path.refl λ b o k. tt) d58
+
           d60 : Typed.Typed 𝓤 H A 𝓣 E G7 b39 Δ0 (at60 bs)
-          d60 = Typed.s-seq 𝓤 H A W 𝓣 E G7 G8 b3 b38 Δ0 (Typed.give (s6 bs)) (at59 bs) (Reshare.t-sl-reshare 𝓤 H A W E RelayPending.row 𝓣 G7 1 16 0 6
-              ref5 ref0 life0 0 (λ x. x) (Reads.as-is 𝓤 H A (Mut.mslice RelayPending.row ref5 0)) (Reads.room-gone 𝓤 H A ref0) Path.refl tt Path.refl
-              Path.refl Path.refl λ b o. tt) d59
+          d60 = Typed.s-seq 𝓤 H A W 𝓣 E G7 G8 b3 b38 Δ0 (Typed.give (s6 bs)) (at59 bs) (Reshare.t-sl-reshare 𝓤 H A W E
+              RelayPending.row 𝓣 G7 1 16 0 6 ref5 ref0 life0 0 (λ x. x)
+              (Reads.as-is 𝓤 H A (Mut.mslice RelayPending.row ref5 0)) (Reads.room-gone 𝓤 H A ref0) Path.refl tt
+              Path.refl Path.refl Path.refl λ b o. tt) d59
+
           d61 : Typed.Typed 𝓤 H A 𝓣 E G6 b39 Δ0 (at61 bs)
-          d61 = Typed.g-pre 𝓤 H A W 𝓣 E G6 G7 b39 Δ0 (λ Ψ. Ψ) (at60 bs) (Lifetime.g-begin 𝓤 H A W E G6 6 (tt, (tt, (tt, (tt, (tt, (tt, (tt, (tt, (tt,
-              (tt, (tt, (tt, (tt, (tt, (tt, (tt, (tt, (tt, (tt, (tt, (tt, (tt, (tt, (tt, (tt, (tt, (tt,
-              tt))))),),),),),),),),),),),),),),),),),),),),),),)) d60
+          d61 = Typed.g-pre 𝓤 H A W 𝓣 E G6 G7 b39 Δ0 (λ Ψ. Ψ) (at60 bs) (Lifetime.g-begin 𝓤 H A W E G6 6 (
+            tt,
+            (
+              tt,
+              (
+                tt,
+                (
+                  tt,
+                  (
+                    tt,
+                    (
+                      tt,
+                      (
+                        tt,
+                        (
+                          tt,
+                          (
+                            tt,
+                            (
+                              tt,
+                              (
+                                tt,
+                                (
+                                  tt,
+                                  (
+                                    tt,
+                                    (
+                                      tt,
+                                      (tt, (tt, (tt, (tt, (tt, (tt, (tt, (tt, (tt, (tt, (tt, (tt, (tt, tt))))))))))))),
+                                    ),
+                                  ),
+                                ),
+                              ),
+                            ),
+                          ),
+                        ),
+                      ),
+                    ),
+                  ),
+                ),
+              ),
+            ),
+          )) d60
+
           d62 : Typed.Typed 𝓤 H A 𝓣 E G5 b40 Δ0 (at62 bs)
-          d62 = Typed.s-seq 𝓤 H A W 𝓣 E G5 G6 b2 b39 Δ0 (Typed.both (s4 bs)) (at61 bs) (Plain.t-call-plain 𝓤 H A W 𝓣 0 ps·1 r·1 (claims· .2) (claims·
-              .3) "hnsr_circuit::open::known_taken" (known .1) E (λ pos β. β) G5 (record { pos = 8; st = List.[]; d = 0; at = λ x. x }, tt) 12 List.[]
-              (Call.sub-id 𝓤 H A W (G5 .slots)) ((Yields.yields-copy 𝓤 H A W (λ ρ. Unit) (Declared'.row OpenGathered.the-type) Path.refl
-              (Copies.cStruct OpenGathered.the-type Laws''.the-laws Laws''.the-copy .copy 𝓤 H A W) (Rows.whole (Declared'.row OpenGathered.the-type))
-              (λ x. x) (λ x. x) (λ ρ told. Local.mem-whole 𝓤 H A W (Declared'.row OpenGathered.the-type) ρ) λ ρ told. Local.whole-mem 𝓤 H A W
-              (Declared'.row OpenGathered.the-type) ρ, Path.refl,), tt,) (Reads.room-gone 𝓤 H A Syntax.tyBool) tt Path.refl) d61
+          d62 = Typed.s-seq 𝓤 H A W 𝓣 E G5 G6 b2 b39 Δ0 (Typed.both (s4 bs)) (at61 bs) (Plain.t-call-plain 𝓤 H A W 𝓣 0
+              ps·1 r·1 (claims· .2) (claims· .3) "hnsr_circuit::open::known_taken" (known .1) E (λ pos β. β) G5
+              (record { pos = 8; st = List.[]; d = 0; at = λ x. x }, tt) 12 List.[] (Call.sub-id 𝓤 H A W (G5 .slots)) (
+                (
+                  Yields.yields-copy 𝓤 H A W (λ ρ. Unit) (Declared'.row OpenGathered.the-type) Path.refl (Copies.cStruct
+                      OpenGathered.the-type Laws''.the-laws Laws''.the-copy .copy 𝓤 H A W)
+                      (Rows.whole (Declared'.row OpenGathered.the-type)) (λ x. x) (λ x. x) (λ ρ told. Local.mem-whole 𝓤
+                      H A W (Declared'.row OpenGathered.the-type) ρ) λ ρ told. Local.whole-mem 𝓤 H A W
+                      (Declared'.row OpenGathered.the-type) ρ,
+                  Path.refl,
+                ),
+                tt,
+              ) (Reads.room-gone 𝓤 H A Syntax.tyBool) tt Path.refl) d61
+
           d63 : Typed.Typed 𝓤 H A 𝓣 E G4 b41 Δ0 (at63 bs)
-          d63 = Typed.s-seq 𝓤 H A W 𝓣 E G4 G5 b1 b40 Δ0 (Typed.both (s3 bs)) (at62 bs) (Plain.t-call-plain 𝓤 H A W 𝓣 1 ps·0 r·0 (claims· .0) (claims·
-              .1) "hnsr_circuit::draw::first_draw" (known .0) E (λ pos β. β) G4 (record { pos = 9; ty = Syntax.tyRef (Syntax.named 5) Syntax.imm
-              (Syntax.tyInt Syntax.w8); ref = λ x. x; }, tt,) 11 (5 ∷ List.[]) (Call.sub-id 𝓤 H A W (G4 .slots)) (ShrSlice.spares-sslice 𝓤 H A W
-              (Referent.rtF (Referent.fInt Syntax.w8)) ref10 5, Shared.reads-sslice 𝓤 H A W (Referent.rtF (Referent.fInt Syntax.w8)) ref10 5,
-              Path.refl, tt,) (Reads.room-gone 𝓤 H A (Syntax.tyInt Syntax.w64)) (tt, tt) Path.refl) d62
+          d63 = Typed.s-seq 𝓤 H A W 𝓣 E G4 G5 b1 b40 Δ0 (Typed.both (s3 bs)) (at62 bs) (Plain.t-call-plain 𝓤 H A W 𝓣 1
+              ps·0 r·0 (claims· .0) (claims· .1) "hnsr_circuit::draw::first_draw" (known .0) E (λ pos β. β) G4
+              (record { pos = 9; ty = ref10; ref = λ x. x }, tt) 11 (5 ∷ List.[]) (Call.sub-id 𝓤 H A W (G4 .slots)) (
+                ShrSlice.spares-sslice 𝓤 H A W (Referent.rtF (Referent.fInt Syntax.w8)) ref10 5,
+                Shared.reads-sslice 𝓤 H A W (Referent.rtF (Referent.fInt Syntax.w8)) ref10 5,
+                Path.refl,
+                tt,
+              ) (Reads.room-gone 𝓤 H A (Syntax.tyInt Syntax.w64)) (tt, tt) Path.refl) d62
+
           d64 : Typed.Typed 𝓤 H A 𝓣 E G3 b42 Δ0 (at64 bs)
-          d64 = Typed.s-seq 𝓤 H A W 𝓣 E G3 G4 b0 b41 Δ0 (Typed.both (s2 bs)) (at63 bs) (WayStmt.t-way-copy-out 𝓤 H A W E 𝓣 (Declared'.row
-              OpaqueRelayConfig.the-type) Path.refl (Copies.cStruct OpaqueRelayConfig.the-type Laws'.the-laws Laws'.the-copy .copy 𝓤 H A W) (λ ρ.
-              Unit) G3 (Row.out 6 (G3 .locals)) (λ u. Row.drop 6 (G3 .locals) u) (G3 .slots) 6 (λ t. (Syntax.field 4) ∷ t) Laws'.mir Laws'.mir 10
-              (Rows.whole (Declared'.row OpaqueRelayConfig.the-type)) (λ x. x) (λ u. At.getAt (OpaqueRelayRuntime.the-type .parts) 4
-              (OpaqueRelayRuntime.struct .as-values (u .1 .1 .1 .1 .1 .1 .0))) (λ u. (Row.hd 0 (Row.tl (Row.tl (Row.tl (Row.tl (Row.tl (Row.tl
-              bs)))))), Nat._+_ 0 40,)) (λ T′. record { locals = Row.setRow 6 (6, Rows.whole (Declared'.row OpaqueRelayRuntime.the-type)) T′; slots =
-              G3 .slots; }) (λ u T′ m′. Row.set 6 (6, Rows.whole (Declared'.row OpaqueRelayRuntime.the-type)) (u .1 .1 .1 .1 .1 .1 .0) T′ m′) (λ u.
-              Unit) (λ x. Unit) (Own.told-none 𝓤 H A (G3 .slots)) (DerefMove.learns-nothing 𝓤 H A (Declared'.row OpaqueRelayConfig.the-type)) (λ ρ
-              told u asked. Way'.w-partˢ 𝓤 H A W E (Declared'.row OpaqueRelayRuntime.the-type) (Declared'.row OpaqueRelayConfig.the-type)
-              Laws''''''.mir Laws'.mir 4 40 (u .1 .1 .1 .1 .1 .1 .0) (At.getAt (OpaqueRelayRuntime.the-type .parts) 4 (OpaqueRelayRuntime.struct
-              .as-values (u .1 .1 .1 .1 .1 .1 .0))) (Row.hd 0 (Row.tl (Row.tl (Row.tl (Row.tl (Row.tl (Row.tl bs)))))), 0) (Way.w-look 𝓤 H A W E
-              (Way.w-local 𝓤 H A W E G3 ρ u (G3 .slots) 6 (Declared'.row OpaqueRelayRuntime.the-type) (Rows.whole (Declared'.row
-              OpaqueRelayRuntime.the-type)) (λ x. x) (λ x. x) (u .1 .1 .1 .1 .1 .1 .0) (Local.mem-whole 𝓤 H A W (Declared'.row
-              OpaqueRelayRuntime.the-type) ρ (u .1 .1 .1 .1 .1 .1 .0) (Row.hd 0 (Row.tl (Row.tl (Row.tl (Row.tl (Row.tl (Row.tl bs))))))))
-              (Local.whole-mem 𝓤 H A W (Declared'.row OpaqueRelayRuntime.the-type) ρ (u .1 .1 .1 .1 .1 .1 .0) (Row.hd 0 (Row.tl (Row.tl (Row.tl
-              (Row.tl (Row.tl (Row.tl bs)))))))))) Path.refl λ q. Inner.cut-record 𝓤 H A q (Declared'.row OpaqueRelayRuntime.the-type)
-              OpaqueRelayConfig.the-type 40 (u .1 .1 .1 .1 .1 .1 .0) (u .1 .1 .1 .1 .1 .1 .0) (At.getAt (OpaqueRelayRuntime.the-type .parts) 4
-              (OpaqueRelayRuntime.struct .as-values (u .1 .1 .1 .1 .1 .1 .0))) (At.getAt (OpaqueRelayRuntime.the-type .parts) 4
-              (OpaqueRelayRuntime.struct .as-values (u .1 .1 .1 .1 .1 .1 .0))) (Row.hd 0 (Row.tl (Row.tl (Row.tl (Row.tl (Row.tl (Row.tl bs)))))), 0)
-              (Behind.look-at 𝓤 H A W q OpaqueRelayRuntime.the-type Laws''''''.the-laws 4 40 Path.refl Path.refl (Row.hd 0 (Row.tl (Row.tl (Row.tl
-              (Row.tl (Row.tl (Row.tl bs)))))), 0) (u .1 .1 .1 .1 .1 .1 .0) (OpaqueRelayRuntime.struct .as-values (u .1 .1 .1 .1 .1 .1 .0))
-              Path.refl)) (Reads.room-gone 𝓤 H A Laws'.mir) (Yields.makes-mem 𝓤 H A W (λ ρ. Unit) (Declared'.row OpaqueRelayConfig.the-type) Path.refl
-              (Rows.whole (Declared'.row OpaqueRelayConfig.the-type)) (λ x. x) λ ρ told. Local.whole-mem 𝓤 H A W (Declared'.row
-              OpaqueRelayConfig.the-type) ρ) Path.refl Path.refl Path.refl) d63
+          d64 = Typed.s-seq 𝓤 H A W 𝓣 E G3 G4 b0 b41 Δ0 (Typed.both (s2 bs)) (at63 bs) (WayStmt.t-way-copy-out 𝓤 H A W
+              E 𝓣 (Declared'.row OpaqueRelayConfig.the-type) Path.refl (Copies.cStruct OpaqueRelayConfig.the-type
+              Laws'.the-laws Laws'.the-copy .copy 𝓤 H A W) (λ ρ. Unit) G3 (Row.out 6 (G3 .locals))
+              (λ u. Row.drop 6 (G3 .locals) u) (G3 .slots) 6 (λ t. (Syntax.field 4) ∷ t) Laws'.mir Laws'.mir 10
+              (Rows.whole (Declared'.row OpaqueRelayConfig.the-type)) (λ x. x) (λ u. At.getAt
+              (OpaqueRelayRuntime.the-type .parts) 4 (OpaqueRelayRuntime.struct .as-values (u .1 .1 .1 .1 .1 .1 .0))) (λ
+              u. (Row.hd 0 (Row.tl (Row.tl (Row.tl (Row.tl (Row.tl (Row.tl bs)))))), Nat._+_ 0 40)) (λ T′.
+              record {
+                locals = Row.setRow 6 (6, Rows.whole (Declared'.row OpaqueRelayRuntime.the-type)) T′;
+                slots = G3 .slots;
+              }) (λ u T′ m′. Row.set 6 (6, Rows.whole (Declared'.row OpaqueRelayRuntime.the-type))
+              (u .1 .1 .1 .1 .1 .1 .0) T′ m′) (λ u. Unit) (λ x. Unit) (Own.told-none 𝓤 H A (G3 .slots)) (DerefMove.learns-nothing
+              𝓤 H A (Declared'.row OpaqueRelayConfig.the-type)) (λ ρ told u asked. Way'.w-partˢ 𝓤 H A W E
+              (Declared'.row OpaqueRelayRuntime.the-type) (Declared'.row OpaqueRelayConfig.the-type) Laws''''''.mir
+              Laws'.mir 4 40 (u .1 .1 .1 .1 .1 .1 .0) (At.getAt (OpaqueRelayRuntime.the-type .parts) 4 (OpaqueRelayRuntime.struct
+              .as-values (u .1 .1 .1 .1 .1 .1 .0))) (
+                Row.hd 0 (Row.tl (Row.tl (Row.tl (Row.tl (Row.tl (Row.tl bs)))))),
+                0,
+              ) (Way.w-look 𝓤 H A W E (Way.w-local 𝓤 H A W E G3 ρ u (G3 .slots) 6
+              (Declared'.row OpaqueRelayRuntime.the-type) (Rows.whole (Declared'.row OpaqueRelayRuntime.the-type))
+              (λ x. x) (λ x. x) (u .1 .1 .1 .1 .1 .1 .0) (Local.mem-whole 𝓤 H A W
+              (Declared'.row OpaqueRelayRuntime.the-type) ρ (u .1 .1 .1 .1 .1 .1 .0) (Row.hd 0
+              (Row.tl (Row.tl (Row.tl (Row.tl (Row.tl (Row.tl bs)))))))) (Local.whole-mem 𝓤 H A W
+              (Declared'.row OpaqueRelayRuntime.the-type) ρ (u .1 .1 .1 .1 .1 .1 .0) (Row.hd 0 (Row.tl
+              (Row.tl (Row.tl (Row.tl (Row.tl (Row.tl bs)))))))))) Path.refl λ q. Inner.cut-record 𝓤 H A q
+              (Declared'.row OpaqueRelayRuntime.the-type) OpaqueRelayConfig.the-type 40 (u .1 .1 .1 .1 .1 .1 .0)
+              (u .1 .1 .1 .1 .1 .1 .0) (At.getAt (OpaqueRelayRuntime.the-type .parts) 4 (OpaqueRelayRuntime.struct
+              .as-values (u .1 .1 .1 .1 .1 .1 .0))) (At.getAt (OpaqueRelayRuntime.the-type .parts) 4 (OpaqueRelayRuntime.struct
+              .as-values (u .1 .1 .1 .1 .1 .1 .0))) (
+                Row.hd 0 (Row.tl (Row.tl (Row.tl (Row.tl (Row.tl (Row.tl bs)))))),
+                0,
+              ) (Behind.look-at 𝓤 H A W q OpaqueRelayRuntime.the-type Laws''''''.the-laws 4 40 Path.refl Path.refl (
+                Row.hd 0 (Row.tl (Row.tl (Row.tl (Row.tl (Row.tl (Row.tl bs)))))),
+                0,
+              ) (u .1 .1 .1 .1 .1 .1 .0) (OpaqueRelayRuntime.struct .as-values (u .1 .1 .1 .1 .1 .1 .0)) Path.refl))
+              (Reads.room-gone 𝓤 H A Laws'.mir) (Yields.makes-mem 𝓤 H A W (λ ρ. Unit)
+              (Declared'.row OpaqueRelayConfig.the-type) Path.refl
+              (Rows.whole (Declared'.row OpaqueRelayConfig.the-type)) (λ x. x) λ ρ told. Local.whole-mem 𝓤 H A W
+              (Declared'.row OpaqueRelayConfig.the-type) ρ) Path.refl Path.refl Path.refl) d63
+
           d65 : Typed.Typed 𝓤 H A 𝓣 E G2 b42 Δ0 (at65 bs)
-          d65 = Typed.g-pre 𝓤 H A W 𝓣 E G2 G3 b42 Δ0 (Typed.give (s1 bs)) (at64 bs) (Know.g-shs-known 𝓤 H A W (Referent.fInt Syntax.w8) E G2 9 5 ref10
-              life5 0 (λ x. x) record { fits = Dec.lit< tt } (Reads.as-is 𝓤 H A (Rows.sslice (Referent.rtF (Referent.fInt Syntax.w8)) ref10 5))
-              Path.refl tt) d64
+          d65 = Typed.g-pre 𝓤 H A W 𝓣 E G2 G3 b42 Δ0 (Typed.give (s1 bs)) (at64 bs) (Know.g-shs-known 𝓤 H A W
+              (Referent.fInt Syntax.w8) E G2 9 5 ref10 life5 0 (λ x. x) record { fits = Dec.lit< tt } (Reads.as-is 𝓤 H
+              A (Rows.sslice (Referent.rtF (Referent.fInt Syntax.w8)) ref10 5)) Path.refl tt) d64
+
           d66 : Typed.Typed 𝓤 H A 𝓣 E G0 b42 Δ0 (at66 bs)
-          d66 = Typed.g-pre 𝓤 H A W 𝓣 E G0 G2 b42 Δ0 (Typed.give (s0 bs)) (at65 bs) (Know.g-sl-known 𝓤 H A W (Referent.fInt Syntax.w32) E G0 5 4 ref9
-              life3 0 (λ x. x) record { fits = Dec.lit< tt } (Reads.as-is 𝓤 H A (Mut.mslice (Referent.rtF (Referent.fInt Syntax.w32)) ref9 4))
-              Path.refl tt) d65
-          pub typed : Typed.Typed 𝓤 H A 𝓣 E (Function.Γin 6 ps r xs m κs qs) b42 (Function.Δret 6 ps r xs m κs qs) (Φ bs)
+          d66 = Typed.g-pre 𝓤 H A W 𝓣 E G0 G2 b42 Δ0 (Typed.give (s0 bs)) (at65 bs) (Know.g-sl-known 𝓤 H A W
+              (Referent.fInt Syntax.w32) E G0 5 4 ref9 life3 0 (λ x. x) record { fits = Dec.lit< tt } (Reads.as-is 𝓤 H
+              A (Mut.mslice (Referent.rtF (Referent.fInt Syntax.w32)) ref9 4)) Path.refl tt) d65
+
+          pub typed : Typed.Typed 𝓤 H A 𝓣 E (Function.Γin 6 ps r xs m κs qs) b42 (Function.Δret 6 ps r xs m κs qs)
+              (Φ bs)
           typed = d66
+
       module _ (κs : Lifetimes.Lfts 6) where
         pub record Args : Type 0 where
-          pub pending : Kinds.Den { n = 6 } κs (MutSlice.pMutS RelayPending.row 0 tt)
-          pub circuits : Kinds.Den { n = 6 } κs (ShrSlice.pShrS RelayCircuit.row 1 tt)
-          pub ledger : Kinds.Den { n = 6 } κs (MutSlice.pMutS ReservationUsage.row 2 tt)
-          pub inflight : Kinds.Den { n = 6 } κs (MutSlice.pMutS InflightAction.row 3 tt)
-          pub out : Kinds.Den { n = 6 } κs (MutSlice.pMutS (Referent.rtF (Referent.fInt Syntax.w32)) 4 tt)
-          pub runtime : Kinds.Den { n = 6 } κs (Value.pVal record { ty = Declared'.row OpaqueRelayRuntime.the-type; one = Path.refl; val =
-              Laws'''''''''.val OpaqueRelayRuntime.the-type Laws''''''.the-laws; tells = Laws'''''''''.tells OpaqueRelayRuntime.the-type
-              Laws''''''.the-laws; still = Laws'''''''''.still OpaqueRelayRuntime.the-type Laws''''''.the-copy Exit.yes; row = Rows.whole
-              (Declared'.row OpaqueRelayRuntime.the-type); rd = λ x. x; mk = λ x. x; } λ M 𝓤 H A W. record { copies = Laws'''''''''.copy
-              OpaqueRelayRuntime.the-type Laws''''''.the-copy 𝓤 H A W; lawful = Laws'''''''''.lawful OpaqueRelayRuntime.the-type Laws''''''.the-laws 𝓤
-              H A W; makes = Laws'''''''''.makes OpaqueRelayRuntime.the-type Laws''''''.the-plain 𝓤 H A; in-mem = Local.mem-whole 𝓤 H A W
-              (Declared'.row OpaqueRelayRuntime.the-type); of-mem = Local.whole-mem 𝓤 H A W (Declared'.row OpaqueRelayRuntime.the-type); })
-          pub places : Kinds.Den { n = 6 } κs (Value.pVal record { ty = Declared'.row Places.the-type; one = Path.refl; val = Laws'''''''''.val
-              Places.the-type Laws''''.the-laws; tells = Laws'''''''''.tells Places.the-type Laws''''.the-laws; still = Laws'''''''''.still
-              Places.the-type Laws''''.the-copy Exit.yes; row = Rows.whole (Declared'.row Places.the-type); rd = λ x. x; mk = λ x. x; } λ M 𝓤 H A W.
-              record { copies = Laws'''''''''.copy Places.the-type Laws''''.the-copy 𝓤 H A W; lawful = Laws'''''''''.lawful Places.the-type
-              Laws''''.the-laws 𝓤 H A W; makes = Laws'''''''''.makes Places.the-type Laws''''.the-plain 𝓤 H A; in-mem = Local.mem-whole 𝓤 H A W
-              (Declared'.row Places.the-type); of-mem = Local.whole-mem 𝓤 H A W (Declared'.row Places.the-type); })
-          pub gathered : Kinds.Den { n = 6 } κs (Value.pVal record { ty = Declared'.row OpenGathered.the-type; one = Path.refl; val =
-              Laws'''''''''.val OpenGathered.the-type Laws''.the-laws; tells = Laws'''''''''.tells OpenGathered.the-type Laws''.the-laws; still =
-              Laws'''''''''.still OpenGathered.the-type Laws''.the-copy Exit.yes; row = Rows.whole (Declared'.row OpenGathered.the-type); rd = λ x. x;
-              mk = λ x. x; } λ M 𝓤 H A W. record { copies = Laws'''''''''.copy OpenGathered.the-type Laws''.the-copy 𝓤 H A W; lawful =
-              Laws'''''''''.lawful OpenGathered.the-type Laws''.the-laws 𝓤 H A W; makes = Laws'''''''''.makes OpenGathered.the-type Laws''.the-plain 𝓤
-              H A; in-mem = Local.mem-whole 𝓤 H A W (Declared'.row OpenGathered.the-type); of-mem = Local.whole-mem 𝓤 H A W (Declared'.row
-              OpenGathered.the-type); })
-          pub random : Kinds.Den { n = 6 } κs (ShrSlice.pShrS (Referent.rtF (Referent.fInt Syntax.w8)) 5 tt)
+          pub pending : Kinds.Den {n = 6} κs (MutSlice.pMutS RelayPending.row 0 tt)
+          pub circuits : Kinds.Den {n = 6} κs (ShrSlice.pShrS RelayCircuit.row 1 tt)
+          pub ledger : Kinds.Den {n = 6} κs (MutSlice.pMutS ReservationUsage.row 2 tt)
+          pub inflight : Kinds.Den {n = 6} κs (MutSlice.pMutS InflightAction.row 3 tt)
+          pub out : Kinds.Den {n = 6} κs (MutSlice.pMutS (Referent.rtF (Referent.fInt Syntax.w32)) 4 tt)
+          pub runtime : Kinds.Den {n = 6} κs (StructRow.param OpaqueRelayRuntime.the-type Laws''''''.the-laws
+              Laws''''''.the-copy Laws''''''.the-plain)
+          pub places : Kinds.Den {n = 6} κs (StructRow.param Places.the-type Laws''''.the-laws Laws''''.the-copy
+              Laws''''.the-plain)
+          pub gathered : Kinds.Den {n = 6} κs (StructRow.param OpenGathered.the-type Laws''.the-laws Laws''.the-copy
+              Laws''.the-plain)
+          pub random : Kinds.Den {n = 6} κs (ShrSlice.pShrS (Referent.rtF (Referent.fInt Syntax.w8)) 5 tt)
+
         abbrev pub dens : (a : Args) → Kinds.Dens κs ps
-        dens = λ a. (a .pending, (a .circuits, (a .ledger, (a .inflight, (a .out, (a .runtime, (a .places, (a .gathered, (a .random, tt))))),),),),)
+        dens = λ a. (
+          a .pending,
+          (
+            a .circuits,
+            (a .ledger, (a .inflight, (a .out, (a .runtime, (a .places, (a .gathered, (a .random, tt))))))),
+          ),
+        )
+
       abbrev pub m0 : (κs : Lifetimes.Lfts 6) → (args : Args κs) → (blocks : List.List Nat.ℕ) → Typed.Mo T0
       m0 = λ κs args blocks. (tt, Enter.partsP κs 1 ps xs (dens κs args))
+
       abbrev W0 : (κs : Lifetimes.Lfts 6) → (args : Args κs) → (blocks : List.List Nat.ℕ) → Typed.Want O0
-      W0 = λ κs args blocks. (λ u. ⊥, tt, λ u. Enter.Fixs κs 1 ps xs (dens κs args) (u .1) × Post· κs (dens κs args) (Function.resV r κs (u .0))
-          (Clauses.atExit (Kinds.endedOf 6 ps r) κs (dens κs args) (Enter.lastsP κs 1 ps xs (dens κs args) (u .1))),)
+      W0 = λ κs args blocks. (
+        λ u. ⊥,
+        tt,
+        λ u. Enter.Fixs κs 1 ps xs (dens κs args) (u .1) × Post· κs (dens κs args) (Function.resV r κs (u .0)) (Clauses.atExit
+            (Kinds.endedOf 6 ps r) κs (dens κs args) (Enter.lastsP κs 1 ps xs (dens κs args) (u .1))),
+      )
+
       pub record Start : Type 0 where
         pub κs : Lifetimes.Lfts 6
         pub args : Args κs
         pub blocks : List.List Nat.ℕ
         pub good : Kinds.GoodsP κs ps (dens κs args)
         pub pre : Pre· κs (dens κs args)
-      abbrev pub m1 : (before : Start) → (given : s0 (before .blocks) .gives (m0 (before .κs) (before .args) (before .blocks))) → Typed.Mo T2
+
+      abbrev pub m1 : (before : Start) → (given : s0 (before .blocks) .gives
+          (m0 (before .κs) (before .args) (before .blocks))) → Typed.Mo T2
       m1 = λ before given. s0 (before .blocks) .next (m0 (before .κs) (before .args) (before .blocks)) given
+
       module _ (before· : Start) where
         pub record After-slice-known·own : Type 0 where
           pub given : s0 (before· .blocks) .gives (m0 (before· .κs) (before· .args) (before· .blocks))
+
       pub record After-slice-known : Type 0 where
         pub before : Start
         pub slice-known : After-slice-known·own before
-      abbrev pub m2 : (before : After-slice-known) → (given : s1 (before .before .blocks) .gives (m1 (before .before) (before .slice-known .given))) →
-          Typed.Mo T3
+
+      abbrev pub m2 : (before : After-slice-known) → (given : s1 (before .before .blocks) .gives
+          (m1 (before .before) (before .slice-known .given))) → Typed.Mo T3
       m2 = λ before given. s1 (before .before .blocks) .next (m1 (before .before) (before .slice-known .given)) given
+
       module _ (before· : After-slice-known) where
         pub record After-shared-slice-known·own : Type 0 where
           pub given : s1 (before· .before .blocks) .gives (m1 (before· .before) (before· .slice-known .given))
+
       pub record After-shared-slice-known : Type 0 where
         pub before : After-slice-known
         pub shared-slice-known : After-shared-slice-known·own before
-      abbrev pub m3 : (before : After-shared-slice-known) → (given : s2 (before .before .before .blocks) .gives (m2 (before .before) (before
-          .shared-slice-known .given))) → Typed.Mo T4
-      m3 = λ before given. s2 (before .before .before .blocks) .next (m2 (before .before) (before .shared-slice-known .given)) given
+
+      abbrev pub m3 : (before : After-shared-slice-known) → (given : s2 (before .before .before .blocks) .gives
+          (m2 (before .before) (before .shared-slice-known .given))) → Typed.Mo T4
+      m3 = λ before given. s2 (before .before .before .blocks) .next
+          (m2 (before .before) (before .shared-slice-known .given)) given
+
       module _ (before· : After-shared-slice-known) where
         pub record After-config·own : Type 0 where
-          pub given : s2 (before· .before .before .blocks) .gives (m2 (before· .before) (before· .shared-slice-known .given))
+          pub given : s2 (before· .before .before .blocks) .gives
+              (m2 (before· .before) (before· .shared-slice-known .given))
+
       pub record After-config : Type 0 where
         pub before : After-shared-slice-known
         pub config : After-config·own before
+
       abbrev pub Need-first-draw-requires : Type 0
-      Need-first-draw-requires = (c : After-config) → s3 (c .before .before .before .blocks) .asks (m3 (c .before) (c .config .given))
-      abbrev pub m4 : (before : After-config) → (given : s3 (before .before .before .before .blocks) .gives (m3 (before .before) (before .config
-          .given))) → Typed.Mo T5
-      m4 = λ before given. s3 (before .before .before .before .blocks) .next (m3 (before .before) (before .config .given)) given
+      Need-first-draw-requires = (c : After-config) → s3 (c .before .before .before .blocks) .asks
+          (m3 (c .before) (c .config .given))
+
+      abbrev pub m4 : (before : After-config) → (given : s3 (before .before .before .before .blocks) .gives
+          (m3 (before .before) (before .config .given))) → Typed.Mo T5
+      m4 = λ before given. s3 (before .before .before .before .blocks) .next
+          (m3 (before .before) (before .config .given)) given
+
       module _ (before· : After-config) where
         abbrev pub After-first-draw·own : Type 0
-        After-first-draw·own = Called.Called ps·0 r·0 (claims· .1) T4 (record { pos = 9; ty = Syntax.tyRef (Syntax.named 5) Syntax.imm (Syntax.tyInt
-            Syntax.w8); ref = λ x. x; }, tt,) (m3 (before· .before) (before· .config .given))
+        After-first-draw·own = Called.Called ps·0 r·0 (claims· .1) T4
+            (record { pos = 9; ty = ref10; ref = λ x. x }, tt) (m3 (before· .before) (before· .config .given))
+
       pub record After-first-draw : Type 0 where
         pub before : After-config
         pub first-draw : After-first-draw·own before
-      abbrev pub After-first-draw·gave : (c : After-first-draw) → s3 (c .before .before .before .before .blocks) .gives (m3 (c .before .before) (c
-          .before .config .given))
-      After-first-draw·gave = λ c. Called.given ps·0 r·0 (claims· .1) T4 (record { pos = 9; ty = Syntax.tyRef (Syntax.named 5) Syntax.imm
-          (Syntax.tyInt Syntax.w8); ref = λ x. x; }, tt,) (m3 (c .before .before) (c .before .config .given)) (c .first-draw)
+
+      abbrev pub After-first-draw·gave : (c : After-first-draw) → s3 (c .before .before .before .before .blocks) .gives
+          (m3 (c .before .before) (c .before .config .given))
+      After-first-draw·gave = λ c. Called.given ps·0 r·0 (claims· .1) T4
+          (record { pos = 9; ty = ref10; ref = λ x. x }, tt) (m3 (c .before .before) (c .before .config .given))
+          (c .first-draw)
+
       abbrev pub Need-known-taken-requires : Type 0
-      Need-known-taken-requires = (c : After-first-draw) → s4 (c .before .before .before .before .blocks) .asks (m4 (c .before) (After-first-draw·gave
-          c))
-      abbrev pub m5 : (before : After-first-draw) → (given : s4 (before .before .before .before .before .blocks) .gives (m4 (before .before)
-          (After-first-draw·gave before))) → Typed.Mo T6
-      m5 = λ before given. s4 (before .before .before .before .before .blocks) .next (m4 (before .before) (After-first-draw·gave before)) given
+      Need-known-taken-requires = (c : After-first-draw) → s4 (c .before .before .before .before .blocks) .asks
+          (m4 (c .before) (After-first-draw·gave c))
+
+      abbrev pub m5 : (before : After-first-draw) → (given : s4 (before .before .before .before .before .blocks) .gives
+          (m4 (before .before) (After-first-draw·gave before))) → Typed.Mo T6
+      m5 = λ before given. s4 (before .before .before .before .before .blocks) .next
+          (m4 (before .before) (After-first-draw·gave before)) given
+
       module _ (before· : After-first-draw) where
         abbrev pub After-known-taken·own : Type 0
-        After-known-taken·own = Called.Called ps·1 r·1 (claims· .3) T5 (record { pos = 8; st = List.[]; d = 0; at = λ x. x }, tt,) (m4 (before·
-            .before) (After-first-draw·gave before·))
+        After-known-taken·own = Called.Called ps·1 r·1 (claims· .3) T5
+            (record { pos = 8; st = List.[]; d = 0; at = λ x. x }, tt)
+            (m4 (before· .before) (After-first-draw·gave before·))
+
       pub record After-known-taken : Type 0 where
         pub before : After-first-draw
         pub known-taken : After-known-taken·own before
-      abbrev pub After-known-taken·gave : (c : After-known-taken) → s4 (c .before .before .before .before .before .blocks) .gives (m4 (c .before
-          .before) (After-first-draw·gave (c .before)))
-      After-known-taken·gave = λ c. Called.given ps·1 r·1 (claims· .3) T5 (record { pos = 8; st = List.[]; d = 0; at = λ x. x }, tt,) (m4 (c .before
-          .before) (After-first-draw·gave (c .before))) (c .known-taken)
-      abbrev pub m6 : (before : After-known-taken) → (given : s6 (before .before .before .before .before .before .blocks) .gives (m5 (before .before)
-          (After-known-taken·gave before))) → Typed.Mo T8
-      m6 = λ before given. s6 (before .before .before .before .before .before .blocks) .next (m5 (before .before) (After-known-taken·gave before))
-          given
-      abbrev pub m7 : (before : After-known-taken) → (given : s6 (before .before .before .before .before .before .blocks) .gives (m5 (before .before)
-          (After-known-taken·gave before))) → Typed.Mo T9
+
+      abbrev pub After-known-taken·gave : (c : After-known-taken) → s4
+          (c .before .before .before .before .before .blocks) .gives (m4 (c .before .before)
+          (After-first-draw·gave (c .before)))
+      After-known-taken·gave = λ c. Called.given ps·1 r·1 (claims· .3) T5
+          (record { pos = 8; st = List.[]; d = 0; at = λ x. x }, tt) (m4 (c .before .before)
+          (After-first-draw·gave (c .before))) (c .known-taken)
+
+      abbrev pub m6 : (before : After-known-taken) → (given : s6
+          (before .before .before .before .before .before .blocks) .gives
+          (m5 (before .before) (After-known-taken·gave before))) → Typed.Mo T8
+      m6 = λ before given. s6 (before .before .before .before .before .before .blocks) .next
+          (m5 (before .before) (After-known-taken·gave before)) given
+
+      abbrev pub m7 : (before : After-known-taken) → (given : s6
+          (before .before .before .before .before .before .blocks) .gives
+          (m5 (before .before) (After-known-taken·gave before))) → Typed.Mo T9
       m7 = λ before given. s7 (before .before .before .before .before .before .blocks) .next (m6 before given)
+
       module _ (before· : After-known-taken) where
         pub record After-draw-arg·own : Type 0 where
-          pub given : s6 (before· .before .before .before .before .before .blocks) .gives (m5 (before· .before) (After-known-taken·gave before·))
+          pub given : s6 (before· .before .before .before .before .before .blocks) .gives
+              (m5 (before· .before) (After-known-taken·gave before·))
+
       pub record After-draw-arg : Type 0 where
         pub before : After-known-taken
         pub draw-arg : After-draw-arg·own before
+
       abbrev pub Need-draw-requires : Type 0
-      Need-draw-requires = (c : After-draw-arg) → s8 (c .before .before .before .before .before .before .blocks) .asks (m7 (c .before) (c .draw-arg
-          .given))
-      abbrev pub m8 : (before : After-draw-arg) → (given : s8 (before .before .before .before .before .before .before .blocks) .gives (m7 (before
-          .before) (before .draw-arg .given))) → Typed.Mo T10
-      m8 = λ before given. s8 (before .before .before .before .before .before .before .blocks) .next (m7 (before .before) (before .draw-arg .given))
-          given
+      Need-draw-requires = (c : After-draw-arg) → s8 (c .before .before .before .before .before .before .blocks) .asks
+          (m7 (c .before) (c .draw-arg .given))
+
+      abbrev pub m8 : (before : After-draw-arg) → (given : s8 (before .before .before .before .before .before .before
+          .blocks) .gives (m7 (before .before) (before .draw-arg .given))) → Typed.Mo T10
+      m8 = λ before given. s8 (before .before .before .before .before .before .before .blocks) .next
+          (m7 (before .before) (before .draw-arg .given)) given
+
       module _ (before· : After-draw-arg) where
         abbrev pub After-draw·own : Type 0
-        After-draw·own = Called.Called ps·2 r·2 (claims· .5) T9 (record { pos = 17; ty = Syntax.tyRef Syntax.erased Syntax.imm RelayPending.to; ref =
-            λ x. x; }, (record { pos = 2; ty = Syntax.tyRef (Syntax.named 1) Syntax.imm RelayCircuit.to; ref = λ x. x; }, (record { pos = 7; st =
-            List.[]; d = 0; at = λ x. x }, (record { pos = 9; ty = Syntax.tyRef (Syntax.named 5) Syntax.imm (Syntax.tyInt Syntax.w8); ref = λ x. x; },
-            (Num.vAt 11 λ x. x, (Bool.bAt 12 λ x. x, tt)),),),),) (m7 (before· .before) (before· .draw-arg .given))
+        After-draw·own = Called.Called ps·2 r·2 (claims· .5) T9 (
+          record { pos = 17; ty = ref0; ref = λ x. x },
+          (
+            record { pos = 2; ty = ref6; ref = λ x. x },
+            (
+              record { pos = 7; st = List.[]; d = 0; at = λ x. x },
+              (record { pos = 9; ty = ref10; ref = λ x. x }, (Num.vAt 11 λ x. x, (Bool.bAt 12 λ x. x, tt))),
+            ),
+          ),
+        ) (m7 (before· .before) (before· .draw-arg .given))
+
       pub record After-draw : Type 0 where
         pub before : After-draw-arg
         pub draw : After-draw·own before
-      abbrev pub After-draw·gave : (c : After-draw) → s8 (c .before .before .before .before .before .before .before .blocks) .gives (m7 (c .before
-          .before) (c .before .draw-arg .given))
-      After-draw·gave = λ c. Called.given ps·2 r·2 (claims· .5) T9 (record { pos = 17; ty = Syntax.tyRef Syntax.erased Syntax.imm RelayPending.to; ref
-          = λ x. x; }, (record { pos = 2; ty = Syntax.tyRef (Syntax.named 1) Syntax.imm RelayCircuit.to; ref = λ x. x; }, (record { pos = 7; st =
-          List.[]; d = 0; at = λ x. x }, (record { pos = 9; ty = Syntax.tyRef (Syntax.named 5) Syntax.imm (Syntax.tyInt Syntax.w8); ref = λ x. x; },
-          (Num.vAt 11 λ x. x, (Bool.bAt 12 λ x. x, tt)),),),),) (m7 (c .before .before) (c .before .draw-arg .given)) (c .draw)
-      abbrev pub m9 : (before : After-draw-arg) → (given : s8 (before .before .before .before .before .before .before .blocks) .gives (m7 (before
-          .before) (before .draw-arg .given))) → Typed.Mo T11
+
+      abbrev pub After-draw·gave : (c : After-draw) → s8 (c .before .before .before .before .before .before .before
+          .blocks) .gives (m7 (c .before .before) (c .before .draw-arg .given))
+      After-draw·gave = λ c. Called.given ps·2 r·2 (claims· .5) T9 (
+        record { pos = 17; ty = ref0; ref = λ x. x },
+        (
+          record { pos = 2; ty = ref6; ref = λ x. x },
+          (
+            record { pos = 7; st = List.[]; d = 0; at = λ x. x },
+            (record { pos = 9; ty = ref10; ref = λ x. x }, (Num.vAt 11 λ x. x, (Bool.bAt 12 λ x. x, tt))),
+          ),
+        ),
+      ) (m7 (c .before .before) (c .before .draw-arg .given)) (c .draw)
+
+      abbrev pub m9 : (before : After-draw-arg) → (given : s8 (before .before .before .before .before .before .before
+          .blocks) .gives (m7 (before .before) (before .draw-arg .given))) → Typed.Mo T11
       m9 = λ before given. s9 (before .before .before .before .before .before .before .blocks) (m8 before given)
-      abbrev pub m10 : (before : After-draw-arg) → (given : s8 (before .before .before .before .before .before .before .blocks) .gives (m7 (before
-          .before) (before .draw-arg .given))) → Typed.Mo T13
+
+      abbrev pub m10 : (before : After-draw-arg) → (given : s8 (before .before .before .before .before .before .before
+          .blocks) .gives (m7 (before .before) (before .draw-arg .given))) → Typed.Mo T13
       m10 = λ before given. s11 (before .before .before .before .before .before .before .blocks) (m9 before given)
+
       abbrev pub Need-open-plan-requires : Type 0
-      Need-open-plan-requires = (c : After-draw) → s13 (c .before .before .before .before .before .before .before .blocks) .asks (m10 (c .before)
-          (After-draw·gave c))
-      abbrev pub m11 : (before : After-draw) → (given : s13 (before .before .before .before .before .before .before .before .blocks) .gives (m10
-          (before .before) (After-draw·gave before))) → Typed.Mo T15
-      m11 = λ before given. s13 (before .before .before .before .before .before .before .before .blocks) .next (m10 (before .before) (After-draw·gave
-          before)) given
+      Need-open-plan-requires = (c : After-draw) → s13 (c .before .before .before .before .before .before .before
+          .blocks) .asks (m10 (c .before) (After-draw·gave c))
+
+      abbrev pub m11 : (before : After-draw) → (given : s13 (before .before .before .before .before .before .before
+          .before .blocks) .gives (m10 (before .before) (After-draw·gave before))) → Typed.Mo T15
+      m11 = λ before given. s13 (before .before .before .before .before .before .before .before .blocks) .next
+          (m10 (before .before) (After-draw·gave before)) given
+
       module _ (before· : After-draw) where
         abbrev pub After-open-plan·own : Type 0
-        After-open-plan·own = Called.Called ps·3 r·3 (claims· .7) T13 (record { pos = 10; st = List.[]; d = 0; at = λ x. x }, (record { pos = 8; st =
-            List.[]; d = 0; at = λ x. x }, (record { pos = 13; st = List.[]; d = 0; at = λ x. x }, tt),),) (m10 (before· .before) (After-draw·gave
-            before·))
+        After-open-plan·own = Called.Called ps·3 r·3 (claims· .7) T13 (
+          record { pos = 10; st = List.[]; d = 0; at = λ x. x },
+          (
+            record { pos = 8; st = List.[]; d = 0; at = λ x. x },
+            (record { pos = 13; st = List.[]; d = 0; at = λ x. x }, tt),
+          ),
+        ) (m10 (before· .before) (After-draw·gave before·))
+
       pub record After-open-plan : Type 0 where
         pub before : After-draw
         pub open-plan : After-open-plan·own before
-      abbrev pub After-open-plan·gave : (c : After-open-plan) → s13 (c .before .before .before .before .before .before .before .before .blocks) .gives
-          (m10 (c .before .before) (After-draw·gave (c .before)))
-      After-open-plan·gave = λ c. Called.given ps·3 r·3 (claims· .7) T13 (record { pos = 10; st = List.[]; d = 0; at = λ x. x }, (record { pos = 8; st
-          = List.[]; d = 0; at = λ x. x }, (record { pos = 13; st = List.[]; d = 0; at = λ x. x }, tt),),) (m10 (c .before .before) (After-draw·gave
-          (c .before))) (c .open-plan)
+
+      abbrev pub After-open-plan·gave : (c : After-open-plan) → s13 (c .before .before .before .before .before .before
+          .before .before .blocks) .gives (m10 (c .before .before) (After-draw·gave (c .before)))
+      After-open-plan·gave = λ c. Called.given ps·3 r·3 (claims· .7) T13 (
+        record { pos = 10; st = List.[]; d = 0; at = λ x. x },
+        (
+          record { pos = 8; st = List.[]; d = 0; at = λ x. x },
+          (record { pos = 13; st = List.[]; d = 0; at = λ x. x }, tt),
+        ),
+      ) (m10 (c .before .before) (After-draw·gave (c .before))) (c .open-plan)
+
       abbrev pub Need-placed-entry-requires : Type 0
-      Need-placed-entry-requires = (c : After-open-plan) → s14 (c .before .before .before .before .before .before .before .before .blocks) .asks (m11
-          (c .before) (After-open-plan·gave c))
-      abbrev pub m12 : (before : After-open-plan) → (given : s14 (before .before .before .before .before .before .before .before .before .blocks)
-          .gives (m11 (before .before) (After-open-plan·gave before))) → Typed.Mo T16
-      m12 = λ before given. s14 (before .before .before .before .before .before .before .before .before .blocks) .next (m11 (before .before)
-          (After-open-plan·gave before)) given
+      Need-placed-entry-requires = (c : After-open-plan) → s14 (c .before .before .before .before .before .before
+          .before .before .blocks) .asks (m11 (c .before) (After-open-plan·gave c))
+
+      abbrev pub m12 : (before : After-open-plan) → (given : s14 (before .before .before .before .before .before
+          .before .before .before .blocks) .gives (m11 (before .before) (After-open-plan·gave before))) → Typed.Mo T16
+      m12 = λ before given. s14 (before .before .before .before .before .before .before .before .before .blocks) .next
+          (m11 (before .before) (After-open-plan·gave before)) given
+
       module _ (before· : After-open-plan) where
         abbrev pub After-placed-entry·own : Type 0
-        After-placed-entry·own = Called.Called ps·4 r·4 (claims· .9) T15 (record { pos = 10; st = List.[]; d = 0; at = λ x. x }, (record { pos = 8; st
-            = List.[]; d = 0; at = λ x. x }, (record { pos = 14; st = List.[]; d = 0; at = λ x. x }, (record { pos = 13; st = List.[]; d = 0; at = λ
-            x. x }, tt),),),) (m11 (before· .before) (After-open-plan·gave before·))
+        After-placed-entry·own = Called.Called ps·4 r·4 (claims· .9) T15 (
+          record { pos = 10; st = List.[]; d = 0; at = λ x. x },
+          (
+            record { pos = 8; st = List.[]; d = 0; at = λ x. x },
+            (
+              record { pos = 14; st = List.[]; d = 0; at = λ x. x },
+              (record { pos = 13; st = List.[]; d = 0; at = λ x. x }, tt),
+            ),
+          ),
+        ) (m11 (before· .before) (After-open-plan·gave before·))
+
       pub record After-placed-entry : Type 0 where
         pub before : After-open-plan
         pub placed-entry : After-placed-entry·own before
-      abbrev pub After-placed-entry·gave : (c : After-placed-entry) → s14 (c .before .before .before .before .before .before .before .before .before
-          .blocks) .gives (m11 (c .before .before) (After-open-plan·gave (c .before)))
-      After-placed-entry·gave = λ c. Called.given ps·4 r·4 (claims· .9) T15 (record { pos = 10; st = List.[]; d = 0; at = λ x. x }, (record { pos = 8;
-          st = List.[]; d = 0; at = λ x. x }, (record { pos = 14; st = List.[]; d = 0; at = λ x. x }, (record { pos = 13; st = List.[]; d = 0; at = λ
-          x. x }, tt),),),) (m11 (c .before .before) (After-open-plan·gave (c .before))) (c .placed-entry)
-      abbrev pub m13 : (before : After-open-plan) → (given : s14 (before .before .before .before .before .before .before .before .before .blocks)
-          .gives (m11 (before .before) (After-open-plan·gave before))) → Typed.Mo T17
-      m13 = λ before given. s15 (before .before .before .before .before .before .before .before .before .blocks) (m12 before given)
+
+      abbrev pub After-placed-entry·gave : (c : After-placed-entry) → s14 (c .before .before .before .before .before
+          .before .before .before .before .blocks) .gives (m11 (c .before .before) (After-open-plan·gave (c .before)))
+      After-placed-entry·gave = λ c. Called.given ps·4 r·4 (claims· .9) T15 (
+        record { pos = 10; st = List.[]; d = 0; at = λ x. x },
+        (
+          record { pos = 8; st = List.[]; d = 0; at = λ x. x },
+          (
+            record { pos = 14; st = List.[]; d = 0; at = λ x. x },
+            (record { pos = 13; st = List.[]; d = 0; at = λ x. x }, tt),
+          ),
+        ),
+      ) (m11 (c .before .before) (After-open-plan·gave (c .before))) (c .placed-entry)
+
+      abbrev pub m13 : (before : After-open-plan) → (given : s14 (before .before .before .before .before .before
+          .before .before .before .blocks) .gives (m11 (before .before) (After-open-plan·gave before))) → Typed.Mo T17
+      m13 = λ before given. s15 (before .before .before .before .before .before .before .before .before .blocks)
+          (m12 before given)
+
       abbrev pub Need-is-taken-requires : Type 0
-      Need-is-taken-requires = (c : After-placed-entry) → s16 (c .before .before .before .before .before .before .before .before .before .blocks)
-          .asks (m13 (c .before) (After-placed-entry·gave c))
-      abbrev pub m14 : (before : After-placed-entry) → (given : s16 (before .before .before .before .before .before .before .before .before .before
-          .blocks) .gives (m13 (before .before) (After-placed-entry·gave before))) → Typed.Mo T18
-      m14 = λ before given. s16 (before .before .before .before .before .before .before .before .before .before .blocks) .next (m13 (before .before)
-          (After-placed-entry·gave before)) given
+      Need-is-taken-requires = (c : After-placed-entry) → s16 (c .before .before .before .before .before .before
+          .before .before .before .blocks) .asks (m13 (c .before) (After-placed-entry·gave c))
+
+      abbrev pub m14 : (before : After-placed-entry) → (given : s16 (before .before .before .before .before .before
+          .before .before .before .before .blocks) .gives (m13 (before .before) (After-placed-entry·gave before))) →
+          Typed.Mo T18
+      m14 = λ before given. s16 (before .before .before .before .before .before .before .before .before .before .blocks)
+          .next (m13 (before .before) (After-placed-entry·gave before)) given
+
       module _ (before· : After-placed-entry) where
         abbrev pub After-is-taken·own : Type 0
-        After-is-taken·own = Called.Called ps·5 r·5 (claims· .11) T17 (record { pos = 15; st = List.[]; d = 0; at = λ x. x }, tt,) (m13 (before·
-            .before) (After-placed-entry·gave before·))
+        After-is-taken·own = Called.Called ps·5 r·5 (claims· .11) T17
+            (record { pos = 15; st = List.[]; d = 0; at = λ x. x }, tt)
+            (m13 (before· .before) (After-placed-entry·gave before·))
+
       pub record After-is-taken : Type 0 where
         pub before : After-placed-entry
         pub is-taken : After-is-taken·own before
-      abbrev pub After-is-taken·gave : (c : After-is-taken) → s16 (c .before .before .before .before .before .before .before .before .before .before
-          .blocks) .gives (m13 (c .before .before) (After-placed-entry·gave (c .before)))
-      After-is-taken·gave = λ c. Called.given ps·5 r·5 (claims· .11) T17 (record { pos = 15; st = List.[]; d = 0; at = λ x. x }, tt,) (m13 (c .before
-          .before) (After-placed-entry·gave (c .before))) (c .is-taken)
-      abbrev W1 : (before : After-placed-entry) → (given : s16 (before .before .before .before .before .before .before .before .before .before
-          .blocks) .gives (m13 (before .before) (After-placed-entry·gave before))) → Typed.Want O1
-      W1 = λ before given. Typed.wantNext T19 O0 (at48 (before .before .before .before .before .before .before .before .before .before .blocks) (W0
-          (before .before .before .before .before .before .before .before .before .before .κs) (before .before .before .before .before .before .before
-          .before .before .before .args) (before .before .before .before .before .before .before .before .before .before .blocks))) (W0 (before
-          .before .before .before .before .before .before .before .before .before .κs) (before .before .before .before .before .before .before .before
-          .before .before .args) (before .before .before .before .before .before .before .before .before .before .blocks))
+
+      abbrev pub After-is-taken·gave : (c : After-is-taken) → s16 (c .before .before .before .before .before .before
+          .before .before .before .before .blocks) .gives (m13 (c .before .before)
+          (After-placed-entry·gave (c .before)))
+      After-is-taken·gave = λ c. Called.given ps·5 r·5 (claims· .11) T17
+          (record { pos = 15; st = List.[]; d = 0; at = λ x. x }, tt) (m13 (c .before .before)
+          (After-placed-entry·gave (c .before))) (c .is-taken)
+
+      abbrev W1 : (before : After-placed-entry) → (given : s16 (before .before .before .before .before .before .before
+          .before .before .before .blocks) .gives (m13 (before .before) (After-placed-entry·gave before))) → Typed.Want
+          O1
+      W1 = λ before given. Typed.wantNext T19 O0 (at48 (before .before .before .before .before .before .before .before
+          .before .before .blocks) (W0 (before .before .before .before .before .before .before .before .before .before
+          .κs) (before .before .before .before .before .before .before .before .before .before .args) (before .before
+          .before .before .before .before .before .before .before .before .blocks))) (W0 (before .before .before
+          .before .before .before .before .before .before .before .κs) (before .before .before .before .before .before
+          .before .before .before .before .args) (before .before .before .before .before .before .before .before
+          .before .before .blocks))
+
       abbrev pub m15 : (before : After-is-taken) → Typed.Mo T20
-      m15 = λ before. s17 (before .before .before .before .before .before .before .before .before .before .before .blocks) (m14 (before .before)
-          (After-is-taken·gave before))
+      m15 = λ before. s17 (before .before .before .before .before .before .before .before .before .before .before
+          .blocks) (m14 (before .before) (After-is-taken·gave before))
+
       abbrev pub m16 : (before : After-is-taken) → Typed.Mo T21
-      m16 = λ before. s18 (before .before .before .before .before .before .before .before .before .before .before .blocks) (m15 before)
+      m16 = λ before. s18 (before .before .before .before .before .before .before .before .before .before .before
+          .blocks) (m15 before)
+
       module _ (before· : After-is-taken) where
         pub record Then1·own : Type 0 where
-          pub taken : Path._≡_ (Row.get 18 (T18 .locals) (m14 (before· .before) (After-is-taken·gave before·))) Bool'.true
+          pub taken : Path._≡_ (Row.get 18 (T18 .locals) (m14 (before· .before) (After-is-taken·gave before·)))
+              Bool'.true
+
       pub record Then1 : Type 0 where
         pub before : After-is-taken
         pub if1 : Then1·own before
-      abbrev pub m17 : (before : Then1) → (given : s20 (before .before .before .before .before .before .before .before .before .before .before .before
-          .blocks) .gives (m16 (before .before))) → Typed.Mo T23
-      m17 = λ before given. s20 (before .before .before .before .before .before .before .before .before .before .before .before .blocks) .next (m16
-          (before .before)) given
-      abbrev pub m18 : (before : Then1) → (given : s20 (before .before .before .before .before .before .before .before .before .before .before .before
-          .blocks) .gives (m16 (before .before))) → Typed.Mo T24
-      m18 = λ before given. s21 (before .before .before .before .before .before .before .before .before .before .before .before .blocks) .next (m17
-          before given)
+
+      abbrev pub m17 : (before : Then1) → (given : s20 (before .before .before .before .before .before .before .before
+          .before .before .before .before .blocks) .gives (m16 (before .before))) → Typed.Mo T23
+      m17 = λ before given. s20 (before .before .before .before .before .before .before .before .before .before .before
+          .before .blocks) .next (m16 (before .before)) given
+
+      abbrev pub m18 : (before : Then1) → (given : s20 (before .before .before .before .before .before .before .before
+          .before .before .before .before .blocks) .gives (m16 (before .before))) → Typed.Mo T24
+      m18 = λ before given. s21 (before .before .before .before .before .before .before .before .before .before .before
+          .before .blocks) .next (m17 before given)
+
       module _ (before· : Then1) where
         pub record After-open-placed-arg·own : Type 0 where
-          pub given : s20 (before· .before .before .before .before .before .before .before .before .before .before .before .blocks) .gives (m16
-              (before· .before))
+          pub given : s20 (before· .before .before .before .before .before .before .before .before .before .before
+              .before .blocks) .gives (m16 (before· .before))
+
       pub record After-open-placed-arg : Type 0 where
         pub before : Then1
         pub open-placed-arg : After-open-placed-arg·own before
-      abbrev pub m19 : (before : After-open-placed-arg) → (given : s23 (before .before .before .before .before .before .before .before .before .before
-          .before .before .before .blocks) .gives (m18 (before .before) (before .open-placed-arg .given))) → Typed.Mo T26
-      m19 = λ before given. s23 (before .before .before .before .before .before .before .before .before .before .before .before .before .blocks) .next
-          (m18 (before .before) (before .open-placed-arg .given)) given
-      abbrev pub m20 : (before : After-open-placed-arg) → (given : s23 (before .before .before .before .before .before .before .before .before .before
-          .before .before .before .blocks) .gives (m18 (before .before) (before .open-placed-arg .given))) → Typed.Mo T27
-      m20 = λ before given. s24 (before .before .before .before .before .before .before .before .before .before .before .before .before .blocks) .next
-          (m19 before given)
+
+      abbrev pub m19 : (before : After-open-placed-arg) → (given : s23 (before .before .before .before .before .before
+          .before .before .before .before .before .before .before .blocks) .gives
+          (m18 (before .before) (before .open-placed-arg .given))) → Typed.Mo T26
+      m19 = λ before given. s23 (before .before .before .before .before .before .before .before .before .before .before
+          .before .before .blocks) .next (m18 (before .before) (before .open-placed-arg .given)) given
+
+      abbrev pub m20 : (before : After-open-placed-arg) → (given : s23 (before .before .before .before .before .before
+          .before .before .before .before .before .before .before .blocks) .gives
+          (m18 (before .before) (before .open-placed-arg .given))) → Typed.Mo T27
+      m20 = λ before given. s24 (before .before .before .before .before .before .before .before .before .before .before
+          .before .before .blocks) .next (m19 before given)
+
       module _ (before· : After-open-placed-arg) where
         pub record After-open-placed-arg2·own : Type 0 where
-          pub given : s23 (before· .before .before .before .before .before .before .before .before .before .before .before .before .blocks) .gives
-              (m18 (before· .before) (before· .open-placed-arg .given))
+          pub given : s23 (before· .before .before .before .before .before .before .before .before .before .before
+              .before .before .blocks) .gives (m18 (before· .before) (before· .open-placed-arg .given))
+
       pub record After-open-placed-arg2 : Type 0 where
         pub before : After-open-placed-arg
         pub open-placed-arg2 : After-open-placed-arg2·own before
-      abbrev pub m21 : (before : After-open-placed-arg2) → (given : s26 (before .before .before .before .before .before .before .before .before
-          .before .before .before .before .before .blocks) .gives (m20 (before .before) (before .open-placed-arg2 .given))) → Typed.Mo T29
-      m21 = λ before given. s26 (before .before .before .before .before .before .before .before .before .before .before .before .before .before
-          .blocks) .next (m20 (before .before) (before .open-placed-arg2 .given)) given
-      abbrev pub m22 : (before : After-open-placed-arg2) → (given : s26 (before .before .before .before .before .before .before .before .before
-          .before .before .before .before .before .blocks) .gives (m20 (before .before) (before .open-placed-arg2 .given))) → Typed.Mo T30
-      m22 = λ before given. s27 (before .before .before .before .before .before .before .before .before .before .before .before .before .before
-          .blocks) .next (m21 before given)
+
+      abbrev pub m21 : (before : After-open-placed-arg2) → (given : s26 (before .before .before .before .before .before
+          .before .before .before .before .before .before .before .before .blocks) .gives
+          (m20 (before .before) (before .open-placed-arg2 .given))) → Typed.Mo T29
+      m21 = λ before given. s26 (before .before .before .before .before .before .before .before .before .before .before
+          .before .before .before .blocks) .next (m20 (before .before) (before .open-placed-arg2 .given)) given
+
+      abbrev pub m22 : (before : After-open-placed-arg2) → (given : s26 (before .before .before .before .before .before
+          .before .before .before .before .before .before .before .before .blocks) .gives
+          (m20 (before .before) (before .open-placed-arg2 .given))) → Typed.Mo T30
+      m22 = λ before given. s27 (before .before .before .before .before .before .before .before .before .before .before
+          .before .before .before .blocks) .next (m21 before given)
+
       module _ (before· : After-open-placed-arg2) where
         pub record After-open-placed-arg3·own : Type 0 where
-          pub given : s26 (before· .before .before .before .before .before .before .before .before .before .before .before .before .before .blocks)
-              .gives (m20 (before· .before) (before· .open-placed-arg2 .given))
+          pub given : s26 (before· .before .before .before .before .before .before .before .before .before .before
+              .before .before .before .blocks) .gives (m20 (before· .before) (before· .open-placed-arg2 .given))
+
       pub record After-open-placed-arg3 : Type 0 where
         pub before : After-open-placed-arg2
         pub open-placed-arg3 : After-open-placed-arg3·own before
-      abbrev pub m23 : (before : After-open-placed-arg3) → (given : s29 (before .before .before .before .before .before .before .before .before
-          .before .before .before .before .before .before .blocks) .gives (m22 (before .before) (before .open-placed-arg3 .given))) → Typed.Mo T32
-      m23 = λ before given. s29 (before .before .before .before .before .before .before .before .before .before .before .before .before .before
-          .before .blocks) .next (m22 (before .before) (before .open-placed-arg3 .given)) given
-      abbrev pub m24 : (before : After-open-placed-arg3) → (given : s29 (before .before .before .before .before .before .before .before .before
-          .before .before .before .before .before .before .blocks) .gives (m22 (before .before) (before .open-placed-arg3 .given))) → Typed.Mo T33
-      m24 = λ before given. s30 (before .before .before .before .before .before .before .before .before .before .before .before .before .before
-          .before .blocks) .next (m23 before given)
+
+      abbrev pub m23 : (before : After-open-placed-arg3) → (given : s29 (before .before .before .before .before .before
+          .before .before .before .before .before .before .before .before .before .blocks) .gives
+          (m22 (before .before) (before .open-placed-arg3 .given))) → Typed.Mo T32
+      m23 = λ before given. s29 (before .before .before .before .before .before .before .before .before .before .before
+          .before .before .before .before .blocks) .next (m22 (before .before) (before .open-placed-arg3 .given)) given
+
+      abbrev pub m24 : (before : After-open-placed-arg3) → (given : s29 (before .before .before .before .before .before
+          .before .before .before .before .before .before .before .before .before .blocks) .gives
+          (m22 (before .before) (before .open-placed-arg3 .given))) → Typed.Mo T33
+      m24 = λ before given. s30 (before .before .before .before .before .before .before .before .before .before .before
+          .before .before .before .before .blocks) .next (m23 before given)
+
       module _ (before· : After-open-placed-arg3) where
         pub record After-open-placed-arg4·own : Type 0 where
-          pub given : s29 (before· .before .before .before .before .before .before .before .before .before .before .before .before .before .before
-              .blocks) .gives (m22 (before· .before) (before· .open-placed-arg3 .given))
+          pub given : s29 (before· .before .before .before .before .before .before .before .before .before .before
+              .before .before .before .before .blocks) .gives
+              (m22 (before· .before) (before· .open-placed-arg3 .given))
+
       pub record After-open-placed-arg4 : Type 0 where
         pub before : After-open-placed-arg3
         pub open-placed-arg4 : After-open-placed-arg4·own before
+
       abbrev pub Need-open-placed-requires : Type 0
-      Need-open-placed-requires = (c : After-open-placed-arg4) → s31 (c .before .before .before .before .before .before .before .before .before
-          .before .before .before .before .before .before .blocks) .asks (m24 (c .before) (c .open-placed-arg4 .given))
-      abbrev pub m25 : (before : After-open-placed-arg4) → (given : s31 (before .before .before .before .before .before .before .before .before
-          .before .before .before .before .before .before .before .blocks) .gives (m24 (before .before) (before .open-placed-arg4 .given))) → Typed.Mo
-          T34
-      m25 = λ before given. s31 (before .before .before .before .before .before .before .before .before .before .before .before .before .before
-          .before .before .blocks) .next (m24 (before .before) (before .open-placed-arg4 .given)) given
+      Need-open-placed-requires = (c : After-open-placed-arg4) → s31 (c .before .before .before .before .before .before
+          .before .before .before .before .before .before .before .before .before .blocks) .asks
+          (m24 (c .before) (c .open-placed-arg4 .given))
+
+      abbrev pub m25 : (before : After-open-placed-arg4) → (given : s31 (before .before .before .before .before .before
+          .before .before .before .before .before .before .before .before .before .before .blocks) .gives
+          (m24 (before .before) (before .open-placed-arg4 .given))) → Typed.Mo T34
+      m25 = λ before given. s31 (before .before .before .before .before .before .before .before .before .before .before
+          .before .before .before .before .before .blocks) .next
+          (m24 (before .before) (before .open-placed-arg4 .given)) given
+
       module _ (before· : After-open-placed-arg4) where
         abbrev pub After-open-placed·own : Type 0
-        After-open-placed·own = Called.Called ps·6 r·6 (claims· .13) T33 (record { pos = 20; ty = Syntax.tyRef Syntax.erased Syntax.mut
-            RelayPending.to; ref = λ x. x; }, (record { pos = 22; ty = Syntax.tyRef Syntax.erased Syntax.mut ReservationUsage.to; ref = λ x. x; },
-            (record { pos = 24; ty = Syntax.tyRef Syntax.erased Syntax.mut InflightAction.to; ref = λ x. x; }, (record { pos = 26; ty = Syntax.tyRef
-            Syntax.erased Syntax.mut (Syntax.tyInt Syntax.w32); ref = λ x. x; }, (record { pos = 6; st = List.[]; d = 0; at = λ x. x }, (record { pos
-            = 7; st = List.[]; d = 0; at = λ x. x }, (record { pos = 8; st = List.[]; d = 0; at = λ x. x }, (record { pos = 13; st = List.[]; d = 0;
-            at = λ x. x }, (record { pos = 14; st = List.[]; d = 0; at = λ x. x }, tt),),),),),),),),) (m24 (before· .before) (before·
-            .open-placed-arg4 .given))
+        After-open-placed·own = Called.Called ps·6 r·6 (claims· .13) T33 (
+          record { pos = 20; ty = ref1; ref = λ x. x },
+          (
+            record { pos = 22; ty = ref2; ref = λ x. x },
+            (
+              record { pos = 24; ty = ref3; ref = λ x. x },
+              (
+                record { pos = 26; ty = ref4; ref = λ x. x },
+                (
+                  record { pos = 6; st = List.[]; d = 0; at = λ x. x },
+                  (
+                    record { pos = 7; st = List.[]; d = 0; at = λ x. x },
+                    (
+                      record { pos = 8; st = List.[]; d = 0; at = λ x. x },
+                      (
+                        record { pos = 13; st = List.[]; d = 0; at = λ x. x },
+                        (record { pos = 14; st = List.[]; d = 0; at = λ x. x }, tt),
+                      ),
+                    ),
+                  ),
+                ),
+              ),
+            ),
+          ),
+        ) (m24 (before· .before) (before· .open-placed-arg4 .given))
+
       pub record After-open-placed : Type 0 where
         pub before : After-open-placed-arg4
         pub open-placed : After-open-placed·own before
-      abbrev pub After-open-placed·gave : (c : After-open-placed) → s31 (c .before .before .before .before .before .before .before .before .before
-          .before .before .before .before .before .before .before .blocks) .gives (m24 (c .before .before) (c .before .open-placed-arg4 .given))
-      After-open-placed·gave = λ c. Called.given ps·6 r·6 (claims· .13) T33 (record { pos = 20; ty = Syntax.tyRef Syntax.erased Syntax.mut
-          RelayPending.to; ref = λ x. x; }, (record { pos = 22; ty = Syntax.tyRef Syntax.erased Syntax.mut ReservationUsage.to; ref = λ x. x; },
-          (record { pos = 24; ty = Syntax.tyRef Syntax.erased Syntax.mut InflightAction.to; ref = λ x. x; }, (record { pos = 26; ty = Syntax.tyRef
-          Syntax.erased Syntax.mut (Syntax.tyInt Syntax.w32); ref = λ x. x; }, (record { pos = 6; st = List.[]; d = 0; at = λ x. x }, (record { pos =
-          7; st = List.[]; d = 0; at = λ x. x }, (record { pos = 8; st = List.[]; d = 0; at = λ x. x }, (record { pos = 13; st = List.[]; d = 0; at =
-          λ x. x }, (record { pos = 14; st = List.[]; d = 0; at = λ x. x }, tt),),),),),),),),) (m24 (c .before .before) (c .before .open-placed-arg4
-          .given)) (c .open-placed)
-      abbrev pub m26 : (before : After-open-placed-arg4) → (given : s31 (before .before .before .before .before .before .before .before .before
-          .before .before .before .before .before .before .before .blocks) .gives (m24 (before .before) (before .open-placed-arg4 .given))) → Typed.Mo
-          T35
-      m26 = λ before given. s32 (before .before .before .before .before .before .before .before .before .before .before .before .before .before
-          .before .before .blocks) (m25 before given)
-      abbrev pub m27 : (before : After-open-placed-arg4) → (given : s31 (before .before .before .before .before .before .before .before .before
-          .before .before .before .before .before .before .before .blocks) .gives (m24 (before .before) (before .open-placed-arg4 .given))) → Typed.Mo
-          T36
-      m27 = λ before given. s33 (before .before .before .before .before .before .before .before .before .before .before .before .before .before
-          .before .before .blocks) (m26 before given)
-      abbrev pub m28 : (before : After-open-placed-arg4) → (given : s31 (before .before .before .before .before .before .before .before .before
-          .before .before .before .before .before .before .before .blocks) .gives (m24 (before .before) (before .open-placed-arg4 .given))) → Typed.Mo
-          T37
-      m28 = λ before given. s34 (before .before .before .before .before .before .before .before .before .before .before .before .before .before
-          .before .before .blocks) (m27 before given)
-      abbrev pub m29 : (before : After-open-placed-arg4) → (given : s31 (before .before .before .before .before .before .before .before .before
-          .before .before .before .before .before .before .before .blocks) .gives (m24 (before .before) (before .open-placed-arg4 .given))) → Typed.Mo
-          T38
-      m29 = λ before given. s35 (before .before .before .before .before .before .before .before .before .before .before .before .before .before
-          .before .before .blocks) (m28 before given)
-      abbrev pub m30 : (before : After-open-placed-arg4) → (given : s31 (before .before .before .before .before .before .before .before .before
-          .before .before .before .before .before .before .before .blocks) .gives (m24 (before .before) (before .open-placed-arg4 .given))) → Typed.Mo
-          T39
-      m30 = λ before given. s36 (before .before .before .before .before .before .before .before .before .before .before .before .before .before
-          .before .before .blocks) (m29 before given)
-      abbrev pub m31 : (before : After-open-placed) → (given : s38 (before .before .before .before .before .before .before .before .before .before
-          .before .before .before .before .before .before .before .blocks) .gives (m30 (before .before) (After-open-placed·gave before))) → Typed.Mo
-          T41
-      m31 = λ before given. s38 (before .before .before .before .before .before .before .before .before .before .before .before .before .before
-          .before .before .before .blocks) .next (m30 (before .before) (After-open-placed·gave before)) given
+
+      abbrev pub After-open-placed·gave : (c : After-open-placed) → s31 (c .before .before .before .before .before
+          .before .before .before .before .before .before .before .before .before .before .before .blocks) .gives (m24
+          (c .before .before) (c .before .open-placed-arg4 .given))
+      After-open-placed·gave = λ c. Called.given ps·6 r·6 (claims· .13) T33 (
+        record { pos = 20; ty = ref1; ref = λ x. x },
+        (
+          record { pos = 22; ty = ref2; ref = λ x. x },
+          (
+            record { pos = 24; ty = ref3; ref = λ x. x },
+            (
+              record { pos = 26; ty = ref4; ref = λ x. x },
+              (
+                record { pos = 6; st = List.[]; d = 0; at = λ x. x },
+                (
+                  record { pos = 7; st = List.[]; d = 0; at = λ x. x },
+                  (
+                    record { pos = 8; st = List.[]; d = 0; at = λ x. x },
+                    (
+                      record { pos = 13; st = List.[]; d = 0; at = λ x. x },
+                      (record { pos = 14; st = List.[]; d = 0; at = λ x. x }, tt),
+                    ),
+                  ),
+                ),
+              ),
+            ),
+          ),
+        ),
+      ) (m24 (c .before .before) (c .before .open-placed-arg4 .given)) (c .open-placed)
+
+      abbrev pub m26 : (before : After-open-placed-arg4) → (given : s31 (before .before .before .before .before .before
+          .before .before .before .before .before .before .before .before .before .before .blocks) .gives
+          (m24 (before .before) (before .open-placed-arg4 .given))) → Typed.Mo T35
+      m26 = λ before given. s32 (before .before .before .before .before .before .before .before .before .before .before
+          .before .before .before .before .before .blocks) (m25 before given)
+
+      abbrev pub m27 : (before : After-open-placed-arg4) → (given : s31 (before .before .before .before .before .before
+          .before .before .before .before .before .before .before .before .before .before .blocks) .gives
+          (m24 (before .before) (before .open-placed-arg4 .given))) → Typed.Mo T36
+      m27 = λ before given. s33 (before .before .before .before .before .before .before .before .before .before .before
+          .before .before .before .before .before .blocks) (m26 before given)
+
+      abbrev pub m28 : (before : After-open-placed-arg4) → (given : s31 (before .before .before .before .before .before
+          .before .before .before .before .before .before .before .before .before .before .blocks) .gives
+          (m24 (before .before) (before .open-placed-arg4 .given))) → Typed.Mo T37
+      m28 = λ before given. s34 (before .before .before .before .before .before .before .before .before .before .before
+          .before .before .before .before .before .blocks) (m27 before given)
+
+      abbrev pub m29 : (before : After-open-placed-arg4) → (given : s31 (before .before .before .before .before .before
+          .before .before .before .before .before .before .before .before .before .before .blocks) .gives
+          (m24 (before .before) (before .open-placed-arg4 .given))) → Typed.Mo T38
+      m29 = λ before given. s35 (before .before .before .before .before .before .before .before .before .before .before
+          .before .before .before .before .before .blocks) (m28 before given)
+
+      abbrev pub m30 : (before : After-open-placed-arg4) → (given : s31 (before .before .before .before .before .before
+          .before .before .before .before .before .before .before .before .before .before .blocks) .gives
+          (m24 (before .before) (before .open-placed-arg4 .given))) → Typed.Mo T39
+      m30 = λ before given. s36 (before .before .before .before .before .before .before .before .before .before .before
+          .before .before .before .before .before .blocks) (m29 before given)
+
+      abbrev pub m31 : (before : After-open-placed) → (given : s38 (before .before .before .before .before .before
+          .before .before .before .before .before .before .before .before .before .before .before .blocks) .gives
+          (m30 (before .before) (After-open-placed·gave before))) → Typed.Mo T41
+      m31 = λ before given. s38 (before .before .before .before .before .before .before .before .before .before .before
+          .before .before .before .before .before .before .blocks) .next
+          (m30 (before .before) (After-open-placed·gave before)) given
+
       module _ (before· : After-open-placed) where
         pub record After-pending·own : Type 0 where
-          pub given : s38 (before· .before .before .before .before .before .before .before .before .before .before .before .before .before .before
-              .before .before .blocks) .gives (m30 (before· .before) (After-open-placed·gave before·))
+          pub given : s38 (before· .before .before .before .before .before .before .before .before .before .before
+              .before .before .before .before .before .before .blocks) .gives
+              (m30 (before· .before) (After-open-placed·gave before·))
+
       pub record After-pending : Type 0 where
         pub before : After-open-placed
         pub pending : After-pending·own before
-      abbrev pub m32 : (before : After-pending) → (given : s41 (before .before .before .before .before .before .before .before .before .before .before
-          .before .before .before .before .before .before .before .blocks) .gives (m31 (before .before) (before .pending .given))) → Typed.Mo T44
-      m32 = λ before given. s41 (before .before .before .before .before .before .before .before .before .before .before .before .before .before
-          .before .before .before .before .blocks) .next (m31 (before .before) (before .pending .given)) given
+
+      abbrev pub m32 : (before : After-pending) → (given : s41 (before .before .before .before .before .before .before
+          .before .before .before .before .before .before .before .before .before .before .before .blocks) .gives
+          (m31 (before .before) (before .pending .given))) → Typed.Mo T44
+      m32 = λ before given. s41 (before .before .before .before .before .before .before .before .before .before .before
+          .before .before .before .before .before .before .before .blocks) .next
+          (m31 (before .before) (before .pending .given)) given
+
       module _ (before· : After-pending) where
         pub record After-ledger·own : Type 0 where
-          pub given : s41 (before· .before .before .before .before .before .before .before .before .before .before .before .before .before .before
-              .before .before .before .blocks) .gives (m31 (before· .before) (before· .pending .given))
+          pub given : s41 (before· .before .before .before .before .before .before .before .before .before .before
+              .before .before .before .before .before .before .before .blocks) .gives
+              (m31 (before· .before) (before· .pending .given))
+
       pub record After-ledger : Type 0 where
         pub before : After-pending
         pub ledger : After-ledger·own before
-      abbrev pub m33 : (before : After-ledger) → (given : s44 (before .before .before .before .before .before .before .before .before .before .before
-          .before .before .before .before .before .before .before .before .blocks) .gives (m32 (before .before) (before .ledger .given))) → Typed.Mo
-          T47
-      m33 = λ before given. s44 (before .before .before .before .before .before .before .before .before .before .before .before .before .before
-          .before .before .before .before .before .blocks) .next (m32 (before .before) (before .ledger .given)) given
+
+      abbrev pub m33 : (before : After-ledger) → (given : s44 (before .before .before .before .before .before .before
+          .before .before .before .before .before .before .before .before .before .before .before .before .blocks)
+          .gives (m32 (before .before) (before .ledger .given))) → Typed.Mo T47
+      m33 = λ before given. s44 (before .before .before .before .before .before .before .before .before .before .before
+          .before .before .before .before .before .before .before .before .blocks) .next
+          (m32 (before .before) (before .ledger .given)) given
+
       module _ (before· : After-ledger) where
         pub record After-inflight·own : Type 0 where
-          pub given : s44 (before· .before .before .before .before .before .before .before .before .before .before .before .before .before .before
-              .before .before .before .before .blocks) .gives (m32 (before· .before) (before· .ledger .given))
+          pub given : s44 (before· .before .before .before .before .before .before .before .before .before .before
+              .before .before .before .before .before .before .before .before .blocks) .gives
+              (m32 (before· .before) (before· .ledger .given))
+
       pub record After-inflight : Type 0 where
         pub before : After-ledger
         pub inflight : After-inflight·own before
-      abbrev pub m34 : (before : After-inflight) → (given : s47 (before .before .before .before .before .before .before .before .before .before
-          .before .before .before .before .before .before .before .before .before .before .blocks) .gives (m33 (before .before) (before .inflight
-          .given))) → Typed.Mo T50
-      m34 = λ before given. s47 (before .before .before .before .before .before .before .before .before .before .before .before .before .before
-          .before .before .before .before .before .before .blocks) .next (m33 (before .before) (before .inflight .given)) given
+
+      abbrev pub m34 : (before : After-inflight) → (given : s47 (before .before .before .before .before .before .before
+          .before .before .before .before .before .before .before .before .before .before .before .before .before
+          .blocks) .gives (m33 (before .before) (before .inflight .given))) → Typed.Mo T50
+      m34 = λ before given. s47 (before .before .before .before .before .before .before .before .before .before .before
+          .before .before .before .before .before .before .before .before .before .blocks) .next
+          (m33 (before .before) (before .inflight .given)) given
+
       module _ (before· : After-inflight) where
         pub record After-out·own : Type 0 where
-          pub given : s47 (before· .before .before .before .before .before .before .before .before .before .before .before .before .before .before
-              .before .before .before .before .before .blocks) .gives (m33 (before· .before) (before· .inflight .given))
+          pub given : s47 (before· .before .before .before .before .before .before .before .before .before .before
+              .before .before .before .before .before .before .before .before .before .blocks) .gives
+              (m33 (before· .before) (before· .inflight .given))
+
       pub record After-out : Type 0 where
         pub before : After-inflight
         pub out : After-out·own before
-      abbrev pub m35 : (before : After-out) → (given : s48 (before .before .before .before .before .before .before .before .before .before .before
-          .before .before .before .before .before .before .before .before .before .before .blocks) .gives (m34 (before .before) (before .out .given)))
-          → Typed.Mo T51
-      m35 = λ before given. s48 (before .before .before .before .before .before .before .before .before .before .before .before .before .before
-          .before .before .before .before .before .before .before .blocks) .next (m34 (before .before) (before .out .given)) given
-      abbrev pub m36 : (before : After-out) → (given : s48 (before .before .before .before .before .before .before .before .before .before .before
-          .before .before .before .before .before .before .before .before .before .before .blocks) .gives (m34 (before .before) (before .out .given)))
-          → Typed.Mo T53
-      m36 = λ before given. s50 (before .before .before .before .before .before .before .before .before .before .before .before .before .before
-          .before .before .before .before .before .before .before .blocks) (m35 before given)
-      abbrev pub m37 : (before : After-out) → (given : s48 (before .before .before .before .before .before .before .before .before .before .before
-          .before .before .before .before .before .before .before .before .before .before .blocks) .gives (m34 (before .before) (before .out .given)))
-          → Typed.Mo T54
-      m37 = λ before given. s51 (before .before .before .before .before .before .before .before .before .before .before .before .before .before
-          .before .before .before .before .before .before .before .blocks) (m36 before given)
+
+      abbrev pub m35 : (before : After-out) → (given : s48 (before .before .before .before .before .before .before
+          .before .before .before .before .before .before .before .before .before .before .before .before .before
+          .before .blocks) .gives (m34 (before .before) (before .out .given))) → Typed.Mo T51
+      m35 = λ before given. s48 (before .before .before .before .before .before .before .before .before .before .before
+          .before .before .before .before .before .before .before .before .before .before .blocks) .next
+          (m34 (before .before) (before .out .given)) given
+
+      abbrev pub m36 : (before : After-out) → (given : s48 (before .before .before .before .before .before .before
+          .before .before .before .before .before .before .before .before .before .before .before .before .before
+          .before .blocks) .gives (m34 (before .before) (before .out .given))) → Typed.Mo T53
+      m36 = λ before given. s50 (before .before .before .before .before .before .before .before .before .before .before
+          .before .before .before .before .before .before .before .before .before .before .blocks) (m35 before given)
+
+      abbrev pub m37 : (before : After-out) → (given : s48 (before .before .before .before .before .before .before
+          .before .before .before .before .before .before .before .before .before .before .before .before .before
+          .before .blocks) .gives (m34 (before .before) (before .out .given))) → Typed.Mo T54
+      m37 = λ before given. s51 (before .before .before .before .before .before .before .before .before .before .before
+          .before .before .before .before .before .before .before .before .before .before .blocks) (m36 before given)
+
       module _ (before· : After-out) where
         pub record After-slice-known2·own : Type 0 where
-          pub given : s48 (before· .before .before .before .before .before .before .before .before .before .before .before .before .before .before
-              .before .before .before .before .before .before .blocks) .gives (m34 (before· .before) (before· .out .given))
+          pub given : s48 (before· .before .before .before .before .before .before .before .before .before .before
+              .before .before .before .before .before .before .before .before .before .before .blocks) .gives
+              (m34 (before· .before) (before· .out .given))
+
       pub record After-slice-known2 : Type 0 where
         pub before : After-out
         pub slice-known2 : After-slice-known2·own before
+
       abbrev pub Need-same-length : Type 0
-      Need-same-length = (c : After-slice-known2) → MutSlice.SameLen (Row.get 1 (T54 .locals) (m37 (c .before) (c .slice-known2 .given))) (dens (c
-          .before .before .before .before .before .before .before .before .before .before .before .before .before .before .before .before .before
-          .before .before .before .before .κs) (c .before .before .before .before .before .before .before .before .before .before .before .before
-          .before .before .before .before .before .before .before .before .before .args) .0)
+      Need-same-length = (c : After-slice-known2) → MutSlice.SameLen (Row.get 1 (T54 .locals)
+          (m37 (c .before) (c .slice-known2 .given))) (dens (c .before .before .before .before .before .before .before
+          .before .before .before .before .before .before .before .before .before .before .before .before .before
+          .before .κs) (c .before .before .before .before .before .before .before .before .before .before .before
+          .before .before .before .before .before .before .before .before .before .before .args) .0)
+
       abbrev pub Need-same-length-2 : Type 0
-      Need-same-length-2 = (c : After-slice-known2) → MutSlice.SameLen (Row.get 3 (T54 .locals) (m37 (c .before) (c .slice-known2 .given))) (dens (c
-          .before .before .before .before .before .before .before .before .before .before .before .before .before .before .before .before .before
-          .before .before .before .before .κs) (c .before .before .before .before .before .before .before .before .before .before .before .before
-          .before .before .before .before .before .before .before .before .before .args) .1 .1 .0)
+      Need-same-length-2 = (c : After-slice-known2) → MutSlice.SameLen (Row.get 3 (T54 .locals)
+          (m37 (c .before) (c .slice-known2 .given))) (dens (c .before .before .before .before .before .before .before
+          .before .before .before .before .before .before .before .before .before .before .before .before .before
+          .before .κs) (c .before .before .before .before .before .before .before .before .before .before .before
+          .before .before .before .before .before .before .before .before .before .before .args) .1 .1 .0)
+
       abbrev pub Need-same-length-3 : Type 0
-      Need-same-length-3 = (c : After-slice-known2) → MutSlice.SameLen (Row.get 4 (T54 .locals) (m37 (c .before) (c .slice-known2 .given))) (dens (c
-          .before .before .before .before .before .before .before .before .before .before .before .before .before .before .before .before .before
-          .before .before .before .before .κs) (c .before .before .before .before .before .before .before .before .before .before .before .before
-          .before .before .before .before .before .before .before .before .before .args) .1 .1 .1 .0)
+      Need-same-length-3 = (c : After-slice-known2) → MutSlice.SameLen (Row.get 4 (T54 .locals)
+          (m37 (c .before) (c .slice-known2 .given))) (dens (c .before .before .before .before .before .before .before
+          .before .before .before .before .before .before .before .before .before .before .before .before .before
+          .before .κs) (c .before .before .before .before .before .before .before .before .before .before .before
+          .before .before .before .before .before .before .before .before .before .before .args) .1 .1 .1 .0)
+
       abbrev pub Need-same-length-4 : Type 0
-      Need-same-length-4 = (c : After-slice-known2) → MutSlice.SameLen (Row.get 5 (T54 .locals) (m37 (c .before) (c .slice-known2 .given))) (dens (c
-          .before .before .before .before .before .before .before .before .before .before .before .before .before .before .before .before .before
-          .before .before .before .before .κs) (c .before .before .before .before .before .before .before .before .before .before .before .before
-          .before .before .before .before .before .before .before .before .before .args) .1 .1 .1 .1 .0)
+      Need-same-length-4 = (c : After-slice-known2) → MutSlice.SameLen (Row.get 5 (T54 .locals)
+          (m37 (c .before) (c .slice-known2 .given))) (dens (c .before .before .before .before .before .before .before
+          .before .before .before .before .before .before .before .before .before .before .before .before .before
+          .before .κs) (c .before .before .before .before .before .before .before .before .before .before .before
+          .before .before .before .before .before .before .before .before .before .before .args) .1 .1 .1 .1 .0)
+
       abbrev pub Need-returns : Type 0
-      Need-returns = (c : After-slice-known2) → Post· (c .before .before .before .before .before .before .before .before .before .before .before
-          .before .before .before .before .before .before .before .before .before .before .κs) (dens (c .before .before .before .before .before
-          .before .before .before .before .before .before .before .before .before .before .before .before .before .before .before .before .κs) (c
-          .before .before .before .before .before .before .before .before .before .before .before .before .before .before .before .before .before
-          .before .before .before .before .args)) (Function.resV r (c .before .before .before .before .before .before .before .before .before .before
-          .before .before .before .before .before .before .before .before .before .before .before .κs) (m37 (c .before) (c .slice-known2 .given) .0))
-          (Clauses.atExit (Kinds.endedOf 6 ps r) (c .before .before .before .before .before .before .before .before .before .before .before .before
-          .before .before .before .before .before .before .before .before .before .κs) (dens (c .before .before .before .before .before .before
-          .before .before .before .before .before .before .before .before .before .before .before .before .before .before .before .κs) (c .before
-          .before .before .before .before .before .before .before .before .before .before .before .before .before .before .before .before .before
-          .before .before .before .args)) (Enter.lastsP (c .before .before .before .before .before .before .before .before .before .before .before
-          .before .before .before .before .before .before .before .before .before .before .κs) 1 ps xs (dens (c .before .before .before .before
-          .before .before .before .before .before .before .before .before .before .before .before .before .before .before .before .before .before .κs)
-          (c .before .before .before .before .before .before .before .before .before .before .before .before .before .before .before .before .before
-          .before .before .before .before .args)) (m37 (c .before) (c .slice-known2 .given) .1)))
+      Need-returns = (c : After-slice-known2) → Post· (c .before .before .before .before .before .before .before
+          .before .before .before .before .before .before .before .before .before .before .before .before .before
+          .before .κs) (dens (c .before .before .before .before .before .before .before .before .before .before .before
+          .before .before .before .before .before .before .before .before .before .before .κs) (c .before .before
+          .before .before .before .before .before .before .before .before .before .before .before .before .before
+          .before .before .before .before .before .before .args)) (Function.resV r (c .before .before .before .before
+          .before .before .before .before .before .before .before .before .before .before .before .before .before
+          .before .before .before .before .κs) (m37 (c .before) (c .slice-known2 .given) .0)) (Clauses.atExit
+          (Kinds.endedOf 6 ps r) (c .before .before .before .before .before .before .before .before .before .before
+          .before .before .before .before .before .before .before .before .before .before .before .κs) (dens (c .before
+          .before .before .before .before .before .before .before .before .before .before .before .before .before
+          .before .before .before .before .before .before .before .κs) (c .before .before .before .before .before
+          .before .before .before .before .before .before .before .before .before .before .before .before .before
+          .before .before .before .args)) (Enter.lastsP (c .before .before .before .before .before .before .before
+          .before .before .before .before .before .before .before .before .before .before .before .before .before
+          .before .κs) 1 ps xs (dens (c .before .before .before .before .before .before .before .before .before .before
+          .before .before .before .before .before .before .before .before .before .before .before .κs) (c .before
+          .before .before .before .before .before .before .before .before .before .before .before .before .before
+          .before .before .before .before .before .before .before .args))
+          (m37 (c .before) (c .slice-known2 .given) .1)))
+
       abbrev pub m38 : (before : After-is-taken) → Typed.Mo T55
-      m38 = λ before. s52 (before .before .before .before .before .before .before .before .before .before .before .blocks) (m14 (before .before)
-          (After-is-taken·gave before))
+      m38 = λ before. s52 (before .before .before .before .before .before .before .before .before .before .before
+          .blocks) (m14 (before .before) (After-is-taken·gave before))
+
       abbrev pub m39 : (before : After-is-taken) → Typed.Mo T56
-      m39 = λ before. s53 (before .before .before .before .before .before .before .before .before .before .before .blocks) (m38 before)
+      m39 = λ before. s53 (before .before .before .before .before .before .before .before .before .before .before
+          .blocks) (m38 before)
+
       abbrev pub m40 : (before : After-is-taken) → Typed.Mo T57
-      m40 = λ before. s54 (before .before .before .before .before .before .before .before .before .before .before .blocks) (m39 before)
+      m40 = λ before. s54 (before .before .before .before .before .before .before .before .before .before .before
+          .blocks) (m39 before)
+
       abbrev pub m41 : (before : After-is-taken) → Typed.Mo T58
-      m41 = λ before. s55 (before .before .before .before .before .before .before .before .before .before .before .blocks) (m40 before)
+      m41 = λ before. s55 (before .before .before .before .before .before .before .before .before .before .before
+          .blocks) (m40 before)
+
       module _ (before· : After-is-taken) where
         pub record Else1·own : Type 0 where
-          pub left : Path._≡_ (Row.get 18 (T18 .locals) (m14 (before· .before) (After-is-taken·gave before·))) Bool'.false
+          pub left : Path._≡_ (Row.get 18 (T18 .locals) (m14 (before· .before) (After-is-taken·gave before·)))
+              Bool'.false
+
       pub record Else1 : Type 0 where
         pub before : After-is-taken
         pub if1 : Else1·own before
+
       abbrev pub Need-refused-requires : Type 0
-      Need-refused-requires = (c : Else1) → s56 (c .before .before .before .before .before .before .before .before .before .before .before .blocks)
-          .asks (m41 (c .before))
-      abbrev pub m42 : (before : Else1) → (given : s56 (before .before .before .before .before .before .before .before .before .before .before .before
-          .blocks) .gives (m41 (before .before))) → Typed.Mo T59
-      m42 = λ before given. s56 (before .before .before .before .before .before .before .before .before .before .before .before .blocks) .next (m41
-          (before .before)) given
+      Need-refused-requires = (c : Else1) → s56 (c .before .before .before .before .before .before .before .before
+          .before .before .before .blocks) .asks (m41 (c .before))
+
+      abbrev pub m42 : (before : Else1) → (given : s56 (before .before .before .before .before .before .before .before
+          .before .before .before .before .blocks) .gives (m41 (before .before))) → Typed.Mo T59
+      m42 = λ before given. s56 (before .before .before .before .before .before .before .before .before .before .before
+          .before .blocks) .next (m41 (before .before)) given
+
       module _ (before· : Else1) where
         abbrev pub After-refused·own : Type 0
-        After-refused·own = Called.Called ps·7 r·7 (claims· .15) T19 (record { pos = 6; st = List.[]; d = 0; at = λ x. x }, (record { pos = 7; st =
-            List.[]; d = 0; at = λ x. x }, (record { pos = 15; st = List.[]; d = 0; at = λ x. x }, tt),),) (m41 (before· .before))
+        After-refused·own = Called.Called ps·7 r·7 (claims· .15) T19 (
+          record { pos = 6; st = List.[]; d = 0; at = λ x. x },
+          (
+            record { pos = 7; st = List.[]; d = 0; at = λ x. x },
+            (record { pos = 15; st = List.[]; d = 0; at = λ x. x }, tt),
+          ),
+        ) (m41 (before· .before))
+
       pub record After-refused : Type 0 where
         pub before : Else1
         pub refused : After-refused·own before
-      abbrev pub After-refused·gave : (c : After-refused) → s56 (c .before .before .before .before .before .before .before .before .before .before
-          .before .before .blocks) .gives (m41 (c .before .before))
-      After-refused·gave = λ c. Called.given ps·7 r·7 (claims· .15) T19 (record { pos = 6; st = List.[]; d = 0; at = λ x. x }, (record { pos = 7; st =
-          List.[]; d = 0; at = λ x. x }, (record { pos = 15; st = List.[]; d = 0; at = λ x. x }, tt),),) (m41 (c .before .before)) (c .refused)
-      abbrev pub m43 : (before : Else1) → (given : s56 (before .before .before .before .before .before .before .before .before .before .before .before
-          .blocks) .gives (m41 (before .before))) → Typed.Mo T60
-      m43 = λ before given. s57 (before .before .before .before .before .before .before .before .before .before .before .before .blocks) (m42 before
-          given)
-      abbrev pub m44 : (before : Else1) → (given : s56 (before .before .before .before .before .before .before .before .before .before .before .before
-          .blocks) .gives (m41 (before .before))) → Typed.Mo T61
-      m44 = λ before given. s58 (before .before .before .before .before .before .before .before .before .before .before .before .blocks) (m43 before
-          given)
-      abbrev pub m45 : (before : Else1) → (given : s56 (before .before .before .before .before .before .before .before .before .before .before .before
-          .blocks) .gives (m41 (before .before))) → Typed.Mo T62
-      m45 = λ before given. s59 (before .before .before .before .before .before .before .before .before .before .before .before .blocks) (m44 before
-          given)
-      abbrev pub m46 : (before : Else1) → (given : s56 (before .before .before .before .before .before .before .before .before .before .before .before
-          .blocks) .gives (m41 (before .before))) → Typed.Mo T63
-      m46 = λ before given. s60 (before .before .before .before .before .before .before .before .before .before .before .before .blocks) (m45 before
-          given)
-      abbrev pub m47 : (before : Else1) → (given : s56 (before .before .before .before .before .before .before .before .before .before .before .before
-          .blocks) .gives (m41 (before .before))) → Typed.Mo T64
-      m47 = λ before given. s61 (before .before .before .before .before .before .before .before .before .before .before .before .blocks) (m46 before
-          given)
+
+      abbrev pub After-refused·gave : (c : After-refused) → s56 (c .before .before .before .before .before .before
+          .before .before .before .before .before .before .blocks) .gives (m41 (c .before .before))
+      After-refused·gave = λ c. Called.given ps·7 r·7 (claims· .15) T19 (
+        record { pos = 6; st = List.[]; d = 0; at = λ x. x },
+        (
+          record { pos = 7; st = List.[]; d = 0; at = λ x. x },
+          (record { pos = 15; st = List.[]; d = 0; at = λ x. x }, tt),
+        ),
+      ) (m41 (c .before .before)) (c .refused)
+
+      abbrev pub m43 : (before : Else1) → (given : s56 (before .before .before .before .before .before .before .before
+          .before .before .before .before .blocks) .gives (m41 (before .before))) → Typed.Mo T60
+      m43 = λ before given. s57 (before .before .before .before .before .before .before .before .before .before .before
+          .before .blocks) (m42 before given)
+
+      abbrev pub m44 : (before : Else1) → (given : s56 (before .before .before .before .before .before .before .before
+          .before .before .before .before .blocks) .gives (m41 (before .before))) → Typed.Mo T61
+      m44 = λ before given. s58 (before .before .before .before .before .before .before .before .before .before .before
+          .before .blocks) (m43 before given)
+
+      abbrev pub m45 : (before : Else1) → (given : s56 (before .before .before .before .before .before .before .before
+          .before .before .before .before .blocks) .gives (m41 (before .before))) → Typed.Mo T62
+      m45 = λ before given. s59 (before .before .before .before .before .before .before .before .before .before .before
+          .before .blocks) (m44 before given)
+
+      abbrev pub m46 : (before : Else1) → (given : s56 (before .before .before .before .before .before .before .before
+          .before .before .before .before .blocks) .gives (m41 (before .before))) → Typed.Mo T63
+      m46 = λ before given. s60 (before .before .before .before .before .before .before .before .before .before .before
+          .before .blocks) (m45 before given)
+
+      abbrev pub m47 : (before : Else1) → (given : s56 (before .before .before .before .before .before .before .before
+          .before .before .before .before .blocks) .gives (m41 (before .before))) → Typed.Mo T64
+      m47 = λ before given. s61 (before .before .before .before .before .before .before .before .before .before .before
+          .before .blocks) (m46 before given)
+
       abbrev pub Need-same-length-5 : Type 0
-      Need-same-length-5 = (c : After-refused) → MutSlice.SameLen (Row.get 1 (T64 .locals) (m47 (c .before) (After-refused·gave c))) (dens (c .before
-          .before .before .before .before .before .before .before .before .before .before .before .κs) (c .before .before .before .before .before
-          .before .before .before .before .before .before .before .args) .0)
+      Need-same-length-5 = (c : After-refused) → MutSlice.SameLen (Row.get 1 (T64 .locals)
+          (m47 (c .before) (After-refused·gave c))) (dens (c .before .before .before .before .before .before .before
+          .before .before .before .before .before .κs) (c .before .before .before .before .before .before .before
+          .before .before .before .before .before .args) .0)
+
       abbrev pub Need-returns-2 : Type 0
-      Need-returns-2 = (c : After-refused) → Post· (c .before .before .before .before .before .before .before .before .before .before .before .before
-          .κs) (dens (c .before .before .before .before .before .before .before .before .before .before .before .before .κs) (c .before .before
-          .before .before .before .before .before .before .before .before .before .before .args)) (Function.resV r (c .before .before .before .before
-          .before .before .before .before .before .before .before .before .κs) (m47 (c .before) (After-refused·gave c) .0)) (Clauses.atExit
-          (Kinds.endedOf 6 ps r) (c .before .before .before .before .before .before .before .before .before .before .before .before .κs) (dens (c
-          .before .before .before .before .before .before .before .before .before .before .before .before .κs) (c .before .before .before .before
-          .before .before .before .before .before .before .before .before .args)) (Enter.lastsP (c .before .before .before .before .before .before
-          .before .before .before .before .before .before .κs) 1 ps xs (dens (c .before .before .before .before .before .before .before .before
-          .before .before .before .before .κs) (c .before .before .before .before .before .before .before .before .before .before .before .before
-          .args)) (m47 (c .before) (After-refused·gave c) .1)))
-      module _ (first-draw-requires : Need-first-draw-requires) (known-taken-requires : Need-known-taken-requires) (draw-requires :
-          Need-draw-requires) (open-plan-requires : Need-open-plan-requires) (placed-entry-requires : Need-placed-entry-requires) (is-taken-requires :
-          Need-is-taken-requires) (open-placed-requires : Need-open-placed-requires) (same-length : Need-same-length) (same-length-2 :
-          Need-same-length-2) (same-length-3 : Need-same-length-3) (same-length-4 : Need-same-length-4) (returns : Need-returns) (refused-requires :
-          Need-refused-requires) (same-length-5 : Need-same-length-5) (returns-2 : Need-returns-2) where
-        lay9 : (c : After-refused) → at47 (c .before .before .before .before .before .before .before .before .before .before .before .before .blocks)
-            (W0 (c .before .before .before .before .before .before .before .before .before .before .before .before .κs) (c .before .before .before
-            .before .before .before .before .before .before .before .before .before .args) (c .before .before .before .before .before .before .before
-            .before .before .before .before .before .blocks)) (m42 (c .before) (After-refused·gave c))
-        lay9 = λ c. ((MutSlice.fix-len (Row.get 1 (T64 .locals) (m47 (c .before) (After-refused·gave c)) .ptr) (Row.get 1 (T64 .locals) (m47 (c
-            .before) (After-refused·gave c)) .name) (Row.get 1 (T64 .locals) (m47 (c .before) (After-refused·gave c)) .now) (dens (c .before .before
-            .before .before .before .before .before .before .before .before .before .before .κs) (c .before .before .before .before .before .before
-            .before .before .before .before .before .before .args) .0 .now) (same-length-5 record { before = c .before; refused = c .refused }),
-            (Path.refl, (Path.refl, (Path.refl, (Path.refl, (tt, (tt, (tt, (Path.refl, tt))))))),),), returns-2 record { before = c .before; refused =
-            c .refused },)
-        lay8 : (c : Else1) → at48 (c .before .before .before .before .before .before .before .before .before .before .before .blocks) (W0 (c .before
-            .before .before .before .before .before .before .before .before .before .before .κs) (c .before .before .before .before .before .before
-            .before .before .before .before .before .args) (c .before .before .before .before .before .before .before .before .before .before .before
-            .blocks)) (m41 (c .before))
-        lay8 = λ c. (refused-requires record { before = c .before; if1 = c .if1 }, λ g. lay9 record { before = record { before = c .before; if1 = c
-            .if1 }; refused = Called.called ps·7 r·7 (claims· .15) T19 (record { pos = 6; st = List.[]; d = 0; at = λ x. x }, (record { pos = 7; st =
-            List.[]; d = 0; at = λ x. x }, (record { pos = 15; st = List.[]; d = 0; at = λ x. x }, tt),),) (m41 (c .before)) g; },)
-        lay7 : (c : After-open-placed) → at20 (c .before .before .before .before .before .before .before .before .before .before .before .before
-            .before .before .before .before .blocks) (W1 (c .before .before .before .before .before .before .before) (After-is-taken·gave (c .before
-            .before .before .before .before .before))) (m25 (c .before) (After-open-placed·gave c))
-        lay7 = λ c. (Path.refl, λ g. (Path.refl, λ g'. (Path.refl, λ g''. (Path.refl, λ g'3. λ g'4. ((MutSlice.fix-len (Row.get 1 (T54 .locals) (m37
-            record { before = record { before = record { before = record { before = record { before = c .before; open-placed = c .open-placed };
-            pending = record { given = g }; }; ledger = record { given = g' }; }; inflight = record { given = g'' }; }; out = record { given = g'3 };
-            } g'4) .ptr) (Row.get 1 (T54 .locals) (m37 record { before = record { before = record { before = record { before = record { before = c
-            .before; open-placed = c .open-placed }; pending = record { given = g }; }; ledger = record { given = g' }; }; inflight = record { given =
-            g'' }; }; out = record { given = g'3 }; } g'4) .name) (Row.get 1 (T54 .locals) (m37 record { before = record { before = record { before =
-            record { before = record { before = c .before; open-placed = c .open-placed }; pending = record { given = g }; }; ledger = record { given
-            = g' }; }; inflight = record { given = g'' }; }; out = record { given = g'3 }; } g'4) .now) (dens (c .before .before .before .before
-            .before .before .before .before .before .before .before .before .before .before .before .before .κs) (c .before .before .before .before
-            .before .before .before .before .before .before .before .before .before .before .before .before .args) .0 .now) (same-length record {
-            before = record { before = record { before = record { before = record { before = record { before = c .before; open-placed = c
-            .open-placed; }; pending = record { given = g }; }; ledger = record { given = g' }; }; inflight = record { given = g'' }; }; out = record
-            { given = g'3 }; }; slice-known2 = record { given = g'4 }; }), (Path.refl, (MutSlice.fix-len (Row.get 3 (T54 .locals) (m37 record { before
-            = record { before = record { before = record { before = record { before = c .before; open-placed = c .open-placed; }; pending = record {
-            given = g }; }; ledger = record { given = g' }; }; inflight = record { given = g'' }; }; out = record { given = g'3 }; } g'4) .ptr)
-            (Row.get 3 (T54 .locals) (m37 record { before = record { before = record { before = record { before = record { before = c .before;
-            open-placed = c .open-placed; }; pending = record { given = g }; }; ledger = record { given = g' }; }; inflight = record { given = g'' };
-            }; out = record { given = g'3 }; } g'4) .name) (Row.get 3 (T54 .locals) (m37 record { before = record { before = record { before = record
-            { before = record { before = c .before; open-placed = c .open-placed; }; pending = record { given = g }; }; ledger = record { given = g'
-            }; }; inflight = record { given = g'' }; }; out = record { given = g'3 }; } g'4) .now) (dens (c .before .before .before .before .before
-            .before .before .before .before .before .before .before .before .before .before .before .κs) (c .before .before .before .before .before
-            .before .before .before .before .before .before .before .before .before .before .before .args) .1 .1 .0 .now) (same-length-2 record {
-            before = record { before = record { before = record { before = record { before = record { before = c .before; open-placed = c
-            .open-placed; }; pending = record { given = g }; }; ledger = record { given = g' }; }; inflight = record { given = g'' }; }; out = record
-            { given = g'3 }; }; slice-known2 = record { given = g'4 }; }), (MutSlice.fix-len (Row.get 4 (T54 .locals) (m37 record { before = record {
-            before = record { before = record { before = record { before = c .before; open-placed = c .open-placed; }; pending = record { given = g };
-            }; ledger = record { given = g' }; }; inflight = record { given = g'' }; }; out = record { given = g'3 }; } g'4) .ptr) (Row.get 4 (T54
-            .locals) (m37 record { before = record { before = record { before = record { before = record { before = c .before; open-placed = c
-            .open-placed; }; pending = record { given = g }; }; ledger = record { given = g' }; }; inflight = record { given = g'' }; }; out = record
-            { given = g'3 }; } g'4) .name) (Row.get 4 (T54 .locals) (m37 record { before = record { before = record { before = record { before =
-            record { before = c .before; open-placed = c .open-placed; }; pending = record { given = g }; }; ledger = record { given = g' }; };
-            inflight = record { given = g'' }; }; out = record { given = g'3 }; } g'4) .now) (dens (c .before .before .before .before .before .before
-            .before .before .before .before .before .before .before .before .before .before .κs) (c .before .before .before .before .before .before
-            .before .before .before .before .before .before .before .before .before .before .args) .1 .1 .1 .0 .now) (same-length-3 record { before =
-            record { before = record { before = record { before = record { before = record { before = c .before; open-placed = c .open-placed; };
-            pending = record { given = g }; }; ledger = record { given = g' }; }; inflight = record { given = g'' }; }; out = record { given = g'3 };
-            }; slice-known2 = record { given = g'4 }; }), (MutSlice.fix-len (Row.get 5 (T54 .locals) (m37 record { before = record { before = record {
-            before = record { before = record { before = c .before; open-placed = c .open-placed; }; pending = record { given = g }; }; ledger =
-            record { given = g' }; }; inflight = record { given = g'' }; }; out = record { given = g'3 }; } g'4) .ptr) (Row.get 5 (T54 .locals) (m37
-            record { before = record { before = record { before = record { before = record { before = c .before; open-placed = c .open-placed; };
-            pending = record { given = g }; }; ledger = record { given = g' }; }; inflight = record { given = g'' }; }; out = record { given = g'3 };
-            } g'4) .name) (Row.get 5 (T54 .locals) (m37 record { before = record { before = record { before = record { before = record { before = c
-            .before; open-placed = c .open-placed; }; pending = record { given = g }; }; ledger = record { given = g' }; }; inflight = record { given
-            = g'' }; }; out = record { given = g'3 }; } g'4) .now) (dens (c .before .before .before .before .before .before .before .before .before
-            .before .before .before .before .before .before .before .κs) (c .before .before .before .before .before .before .before .before .before
-            .before .before .before .before .before .before .before .args) .1 .1 .1 .1 .0 .now) (same-length-4 record { before = record { before =
-            record { before = record { before = record { before = record { before = c .before; open-placed = c .open-placed; }; pending = record {
-            given = g }; }; ledger = record { given = g' }; }; inflight = record { given = g'' }; }; out = record { given = g'3 }; }; slice-known2 =
-            record { given = g'4 }; }), (tt, (tt, (tt, (Path.refl, tt)))),),),),),), returns record { before = record { before = record { before =
-            record { before = record { before = record { before = c .before; open-placed = c .open-placed }; pending = record { given = g }; }; ledger
-            = record { given = g' }; }; inflight = record { given = g'' }; }; out = record { given = g'3 }; }; slice-known2 = record { given = g'4 };
-            },),),),),)
-        lay6 : (c : After-is-taken) → at49 (c .before .before .before .before .before .before .before .before .before .before .blocks) (W0 (c .before
-            .before .before .before .before .before .before .before .before .before .κs) (c .before .before .before .before .before .before .before
-            .before .before .before .args) (c .before .before .before .before .before .before .before .before .before .before .blocks)) (m14 (c
-            .before) (After-is-taken·gave c))
-        lay6 = λ c. (λ taken. λ g. (Path.refl, λ g'. (Path.refl, λ g''. (Path.refl, λ g'3. (Path.refl, (open-placed-requires record { before = record
-            { before = record { before = record { before = record { before = record { before = c .before; is-taken = c .is-taken }; if1 = record {
-            taken = taken }; }; open-placed-arg = record { given = g }; }; open-placed-arg2 = record { given = g' }; }; open-placed-arg3 = record {
-            given = g'' }; }; open-placed-arg4 = record { given = g'3 }; }, λ g'4. lay7 record { before = record { before = record { before = record {
-            before = record { before = record { before = record { before = c .before; is-taken = c .is-taken }; if1 = record { taken = taken }; };
-            open-placed-arg = record { given = g }; }; open-placed-arg2 = record { given = g' }; }; open-placed-arg3 = record { given = g'' }; };
-            open-placed-arg4 = record { given = g'3 }; }; open-placed = Called.called ps·6 r·6 (claims· .13) T33 (record { pos = 20; ty = Syntax.tyRef
-            Syntax.erased Syntax.mut RelayPending.to; ref = λ x. x; }, (record { pos = 22; ty = Syntax.tyRef Syntax.erased Syntax.mut
-            ReservationUsage.to; ref = λ x. x; }, (record { pos = 24; ty = Syntax.tyRef Syntax.erased Syntax.mut InflightAction.to; ref = λ x. x; },
-            (record { pos = 26; ty = Syntax.tyRef Syntax.erased Syntax.mut (Syntax.tyInt Syntax.w32); ref = λ x. x; }, (record { pos = 6; st =
-            List.[]; d = 0; at = λ x. x }, (record { pos = 7; st = List.[]; d = 0; at = λ x. x }, (record { pos = 8; st = List.[]; d = 0; at = λ x. x
-            }, (record { pos = 13; st = List.[]; d = 0; at = λ x. x }, (record { pos = 14; st = List.[]; d = 0; at = λ x. x }, tt),),),),),),),),)
-            (m24 record { before = record { before = record { before = record { before = record { before = c .before; is-taken = c .is-taken }; if1 =
-            record { taken = taken }; }; open-placed-arg = record { given = g }; }; open-placed-arg2 = record { given = g' }; }; open-placed-arg3 =
-            record { given = g'' }; } g'3) g'4; },),),),),), λ left. lay8 record { before = record { before = c .before; is-taken = c .is-taken }; if1
-            = record { left = left }; },)
-        lay5 : (c : After-placed-entry) → at51 (c .before .before .before .before .before .before .before .before .before .blocks) (W0 (c .before
-            .before .before .before .before .before .before .before .before .κs) (c .before .before .before .before .before .before .before .before
-            .before .args) (c .before .before .before .before .before .before .before .before .before .blocks)) (m12 (c .before)
-            (After-placed-entry·gave c))
-        lay5 = λ c. (is-taken-requires record { before = c .before; placed-entry = c .placed-entry }, λ g. lay6 record { before = record { before = c
-            .before; placed-entry = c .placed-entry }; is-taken = Called.called ps·5 r·5 (claims· .11) T17 (record { pos = 15; st = List.[]; d = 0; at
-            = λ x. x }, tt,) (m13 (c .before) (After-placed-entry·gave c)) g; },)
-        lay4 : (c : After-open-plan) → at52 (c .before .before .before .before .before .before .before .before .blocks) (W0 (c .before .before .before
-            .before .before .before .before .before .κs) (c .before .before .before .before .before .before .before .before .args) (c .before .before
-            .before .before .before .before .before .before .blocks)) (m11 (c .before) (After-open-plan·gave c))
-        lay4 = λ c. (placed-entry-requires record { before = c .before; open-plan = c .open-plan }, λ g. lay5 record { before = record { before = c
-            .before; open-plan = c .open-plan }; placed-entry = Called.called ps·4 r·4 (claims· .9) T15 (record { pos = 10; st = List.[]; d = 0; at =
-            λ x. x }, (record { pos = 8; st = List.[]; d = 0; at = λ x. x }, (record { pos = 14; st = List.[]; d = 0; at = λ x. x }, (record { pos =
-            13; st = List.[]; d = 0; at = λ x. x }, tt),),),) (m11 (c .before) (After-open-plan·gave c)) g; },)
-        lay3 : (c : After-draw) → at57 (c .before .before .before .before .before .before .before .blocks) (W0 (c .before .before .before .before
-            .before .before .before .κs) (c .before .before .before .before .before .before .before .args) (c .before .before .before .before .before
-            .before .before .blocks)) (m8 (c .before) (After-draw·gave c))
-        lay3 = λ c. (open-plan-requires record { before = c .before; draw = c .draw }, λ g. lay4 record { before = record { before = c .before; draw =
-            c .draw }; open-plan = Called.called ps·3 r·3 (claims· .7) T13 (record { pos = 10; st = List.[]; d = 0; at = λ x. x }, (record { pos = 8;
-            st = List.[]; d = 0; at = λ x. x }, (record { pos = 13; st = List.[]; d = 0; at = λ x. x }, tt),),) (m10 (c .before) (After-draw·gave c))
-            g; },)
-        lay2 : (c : After-known-taken) → at61 (c .before .before .before .before .before .blocks) (W0 (c .before .before .before .before .before .κs)
-            (c .before .before .before .before .before .args) (c .before .before .before .before .before .blocks)) (m5 (c .before)
-            (After-known-taken·gave c))
-        lay2 = λ c. λ g. (Path.refl, (draw-requires record { before = record { before = c .before; known-taken = c .known-taken }; draw-arg = record {
-            given = g }; }, λ g'. lay3 record { before = record { before = record { before = c .before; known-taken = c .known-taken }; draw-arg =
-            record { given = g }; }; draw = Called.called ps·2 r·2 (claims· .5) T9 (record { pos = 17; ty = Syntax.tyRef Syntax.erased Syntax.imm
-            RelayPending.to; ref = λ x. x; }, (record { pos = 2; ty = Syntax.tyRef (Syntax.named 1) Syntax.imm RelayCircuit.to; ref = λ x. x; },
-            (record { pos = 7; st = List.[]; d = 0; at = λ x. x }, (record { pos = 9; ty = Syntax.tyRef (Syntax.named 5) Syntax.imm (Syntax.tyInt
-            Syntax.w8); ref = λ x. x; }, (Num.vAt 11 λ x. x, (Bool.bAt 12 λ x. x, tt)),),),),) (m7 record { before = c .before; known-taken = c
-            .known-taken } g) g'; },),)
-        lay1 : (c : After-first-draw) → at62 (c .before .before .before .before .blocks) (W0 (c .before .before .before .before .κs) (c .before
-            .before .before .before .args) (c .before .before .before .before .blocks)) (m4 (c .before) (After-first-draw·gave c))
-        lay1 = λ c. (known-taken-requires record { before = c .before; first-draw = c .first-draw }, λ g. lay2 record { before = record { before = c
-            .before; first-draw = c .first-draw }; known-taken = Called.called ps·1 r·1 (claims· .3) T5 (record { pos = 8; st = List.[]; d = 0; at = λ
-            x. x }, tt,) (m4 (c .before) (After-first-draw·gave c)) g; },)
+      Need-returns-2 = (c : After-refused) → Post· (c .before .before .before .before .before .before .before .before
+          .before .before .before .before .κs) (dens (c .before .before .before .before .before .before .before .before
+          .before .before .before .before .κs) (c .before .before .before .before .before .before .before .before
+          .before .before .before .before .args)) (Function.resV r (c .before .before .before .before .before .before
+          .before .before .before .before .before .before .κs) (m47 (c .before) (After-refused·gave c) .0)) (Clauses.atExit
+          (Kinds.endedOf 6 ps r) (c .before .before .before .before .before .before .before .before .before .before
+          .before .before .κs) (dens (c .before .before .before .before .before .before .before .before .before .before
+          .before .before .κs) (c .before .before .before .before .before .before .before .before .before .before
+          .before .before .args)) (Enter.lastsP (c .before .before .before .before .before .before .before .before
+          .before .before .before .before .κs) 1 ps xs (dens (c .before .before .before .before .before .before .before
+          .before .before .before .before .before .κs) (c .before .before .before .before .before .before .before
+          .before .before .before .before .before .args)) (m47 (c .before) (After-refused·gave c) .1)))
+
+      module _ (first-draw-requires : Need-first-draw-requires) (known-taken-requires : Need-known-taken-requires)
+          (draw-requires : Need-draw-requires) (open-plan-requires : Need-open-plan-requires)
+          (placed-entry-requires : Need-placed-entry-requires) (is-taken-requires : Need-is-taken-requires)
+          (open-placed-requires : Need-open-placed-requires) (same-length : Need-same-length)
+          (same-length-2 : Need-same-length-2) (same-length-3 : Need-same-length-3)
+          (same-length-4 : Need-same-length-4) (returns : Need-returns) (refused-requires : Need-refused-requires)
+          (same-length-5 : Need-same-length-5) (returns-2 : Need-returns-2) where
+        lay9 : (c : After-refused) → at47 (c .before .before .before .before .before .before .before .before .before
+            .before .before .before .blocks) (W0 (c .before .before .before .before .before .before .before .before
+            .before .before .before .before .κs) (c .before .before .before .before .before .before .before .before
+            .before .before .before .before .args) (c .before .before .before .before .before .before .before .before
+            .before .before .before .before .blocks)) (m42 (c .before) (After-refused·gave c))
+        lay9 = λ c. (
+          (
+            MutSlice.fix-len (Row.get 1 (T64 .locals) (m47 (c .before) (After-refused·gave c)) .ptr) (Row.get 1
+                (T64 .locals) (m47 (c .before) (After-refused·gave c)) .name) (Row.get 1 (T64 .locals)
+                (m47 (c .before) (After-refused·gave c)) .now) (dens (c .before .before .before .before .before .before
+                .before .before .before .before .before .before .κs) (c .before .before .before .before .before .before
+                .before .before .before .before .before .before .args) .0 .now) (same-length-5
+                record { before = c .before; refused = c .refused }),
+            (Path.refl, (Path.refl, (Path.refl, (Path.refl, (tt, (tt, (tt, (Path.refl, tt)))))))),
+          ),
+          returns-2 record { before = c .before; refused = c .refused },
+        )
+
+        lay8 : (c : Else1) → at48 (c .before .before .before .before .before .before .before .before .before .before
+            .before .blocks) (W0 (c .before .before .before .before .before .before .before .before .before .before
+            .before .κs) (c .before .before .before .before .before .before .before .before .before .before .before
+            .args) (c .before .before .before .before .before .before .before .before .before .before .before .blocks))
+            (m41 (c .before))
+        lay8 = λ c. (
+          refused-requires record { before = c .before; if1 = c .if1 },
+          λ g. lay9 record {
+            before = record { before = c .before; if1 = c .if1 };
+            refused = Called.called ps·7 r·7 (claims· .15) T19 (
+              record { pos = 6; st = List.[]; d = 0; at = λ x. x },
+              (
+                record { pos = 7; st = List.[]; d = 0; at = λ x. x },
+                (record { pos = 15; st = List.[]; d = 0; at = λ x. x }, tt),
+              ),
+            ) (m41 (c .before)) g;
+          },
+        )
+
+        lay7 : (c : After-open-placed) → at20 (c .before .before .before .before .before .before .before .before
+            .before .before .before .before .before .before .before .before .blocks) (W1
+            (c .before .before .before .before .before .before .before) (After-is-taken·gave
+            (c .before .before .before .before .before .before))) (m25 (c .before) (After-open-placed·gave c))
+        lay7 = λ c. (
+          Path.refl,
+          λ g. (
+            Path.refl,
+            λ g'. (
+              Path.refl,
+              λ g''. (
+                Path.refl,
+                λ g'3. λ g'4. (
+                  (
+                    MutSlice.fix-len (Row.get 1 (T54 .locals) (m37
+                        record {
+                          before = record {
+                            before = record {
+                              before = record {
+                                before = record { before = c .before; open-placed = c .open-placed };
+                                pending = record { given = g };
+                              };
+                              ledger = record { given = g' };
+                            };
+                            inflight = record { given = g'' };
+                          };
+                          out = record { given = g'3 };
+                        } g'4) .ptr) (Row.get 1 (T54 .locals) (m37
+                        record {
+                          before = record {
+                            before = record {
+                              before = record {
+                                before = record { before = c .before; open-placed = c .open-placed };
+                                pending = record { given = g };
+                              };
+                              ledger = record { given = g' };
+                            };
+                            inflight = record { given = g'' };
+                          };
+                          out = record { given = g'3 };
+                        } g'4) .name) (Row.get 1 (T54 .locals) (m37
+                        record {
+                          before = record {
+                            before = record {
+                              before = record {
+                                before = record { before = c .before; open-placed = c .open-placed };
+                                pending = record { given = g };
+                              };
+                              ledger = record { given = g' };
+                            };
+                            inflight = record { given = g'' };
+                          };
+                          out = record { given = g'3 };
+                        } g'4) .now) (dens (c .before .before .before .before .before .before .before .before .before
+                        .before .before .before .before .before .before .before .κs) (c .before .before .before .before
+                        .before .before .before .before .before .before .before .before .before .before .before .before
+                        .args) .0 .now) (same-length record {
+                          before = record {
+                            before = record {
+                              before = record {
+                                before = record {
+                                  before = record { before = c .before; open-placed = c .open-placed };
+                                  pending = record { given = g };
+                                };
+                                ledger = record { given = g' };
+                              };
+                              inflight = record { given = g'' };
+                            };
+                            out = record { given = g'3 };
+                          };
+                          slice-known2 = record { given = g'4 };
+                        }),
+                    (
+                      Path.refl,
+                      (
+                        MutSlice.fix-len (Row.get 3 (T54 .locals) (m37
+                            record {
+                              before = record {
+                                before = record {
+                                  before = record {
+                                    before = record { before = c .before; open-placed = c .open-placed };
+                                    pending = record { given = g };
+                                  };
+                                  ledger = record { given = g' };
+                                };
+                                inflight = record { given = g'' };
+                              };
+                              out = record { given = g'3 };
+                            } g'4) .ptr) (Row.get 3 (T54 .locals) (m37
+                            record {
+                              before = record {
+                                before = record {
+                                  before = record {
+                                    before = record { before = c .before; open-placed = c .open-placed };
+                                    pending = record { given = g };
+                                  };
+                                  ledger = record { given = g' };
+                                };
+                                inflight = record { given = g'' };
+                              };
+                              out = record { given = g'3 };
+                            } g'4) .name) (Row.get 3 (T54 .locals) (m37
+                            record {
+                              before = record {
+                                before = record {
+                                  before = record {
+                                    before = record { before = c .before; open-placed = c .open-placed };
+                                    pending = record { given = g };
+                                  };
+                                  ledger = record { given = g' };
+                                };
+                                inflight = record { given = g'' };
+                              };
+                              out = record { given = g'3 };
+                            } g'4) .now) (dens (c .before .before .before .before .before .before .before .before
+                            .before .before .before .before .before .before .before .before .κs) (c .before .before
+                            .before .before .before .before .before .before .before .before .before .before .before
+                            .before .before .before .args) .1 .1 .0 .now) (same-length-2
+                            record {
+                              before = record {
+                                before = record {
+                                  before = record {
+                                    before = record {
+                                      before = record { before = c .before; open-placed = c .open-placed };
+                                      pending = record { given = g };
+                                    };
+                                    ledger = record { given = g' };
+                                  };
+                                  inflight = record { given = g'' };
+                                };
+                                out = record { given = g'3 };
+                              };
+                              slice-known2 = record { given = g'4 };
+                            }),
+                        (
+                          MutSlice.fix-len (Row.get 4 (T54 .locals) (m37
+                              record {
+                                before = record {
+                                  before = record {
+                                    before = record {
+                                      before = record { before = c .before; open-placed = c .open-placed };
+                                      pending = record { given = g };
+                                    };
+                                    ledger = record { given = g' };
+                                  };
+                                  inflight = record { given = g'' };
+                                };
+                                out = record { given = g'3 };
+                              } g'4) .ptr) (Row.get 4 (T54 .locals) (m37
+                              record {
+                                before = record {
+                                  before = record {
+                                    before = record {
+                                      before = record { before = c .before; open-placed = c .open-placed };
+                                      pending = record { given = g };
+                                    };
+                                    ledger = record { given = g' };
+                                  };
+                                  inflight = record { given = g'' };
+                                };
+                                out = record { given = g'3 };
+                              } g'4) .name) (Row.get 4 (T54 .locals) (m37
+                              record {
+                                before = record {
+                                  before = record {
+                                    before = record {
+                                      before = record { before = c .before; open-placed = c .open-placed };
+                                      pending = record { given = g };
+                                    };
+                                    ledger = record { given = g' };
+                                  };
+                                  inflight = record { given = g'' };
+                                };
+                                out = record { given = g'3 };
+                              } g'4) .now) (dens (c .before .before .before .before .before .before .before .before
+                              .before .before .before .before .before .before .before .before .κs) (c .before .before
+                              .before .before .before .before .before .before .before .before .before .before .before
+                              .before .before .before .args) .1 .1 .1 .0 .now) (same-length-3
+                              record {
+                                before = record {
+                                  before = record {
+                                    before = record {
+                                      before = record {
+                                        before = record { before = c .before; open-placed = c .open-placed };
+                                        pending = record { given = g };
+                                      };
+                                      ledger = record { given = g' };
+                                    };
+                                    inflight = record { given = g'' };
+                                  };
+                                  out = record { given = g'3 };
+                                };
+                                slice-known2 = record { given = g'4 };
+                              }),
+                          (
+                            MutSlice.fix-len (Row.get 5 (T54 .locals) (m37
+                                record {
+                                  before = record {
+                                    before = record {
+                                      before = record {
+                                        before = record { before = c .before; open-placed = c .open-placed };
+                                        pending = record { given = g };
+                                      };
+                                      ledger = record { given = g' };
+                                    };
+                                    inflight = record { given = g'' };
+                                  };
+                                  out = record { given = g'3 };
+                                } g'4) .ptr) (Row.get 5 (T54 .locals) (m37
+                                record {
+                                  before = record {
+                                    before = record {
+                                      before = record {
+                                        before = record { before = c .before; open-placed = c .open-placed };
+                                        pending = record { given = g };
+                                      };
+                                      ledger = record { given = g' };
+                                    };
+                                    inflight = record { given = g'' };
+                                  };
+                                  out = record { given = g'3 };
+                                } g'4) .name) (Row.get 5 (T54 .locals) (m37
+                                record {
+                                  before = record {
+                                    before = record {
+                                      before = record {
+                                        before = record { before = c .before; open-placed = c .open-placed };
+                                        pending = record { given = g };
+                                      };
+                                      ledger = record { given = g' };
+                                    };
+                                    inflight = record { given = g'' };
+                                  };
+                                  out = record { given = g'3 };
+                                } g'4) .now) (dens (c .before .before .before .before .before .before .before .before
+                                .before .before .before .before .before .before .before .before .κs) (c .before .before
+                                .before .before .before .before .before .before .before .before .before .before .before
+                                .before .before .before .args) .1 .1 .1 .1 .0 .now) (same-length-4
+                                record {
+                                  before = record {
+                                    before = record {
+                                      before = record {
+                                        before = record {
+                                          before = record { before = c .before; open-placed = c .open-placed };
+                                          pending = record { given = g };
+                                        };
+                                        ledger = record { given = g' };
+                                      };
+                                      inflight = record { given = g'' };
+                                    };
+                                    out = record { given = g'3 };
+                                  };
+                                  slice-known2 = record { given = g'4 };
+                                }),
+                            (tt, (tt, (tt, (Path.refl, tt)))),
+                          ),
+                        ),
+                      ),
+                    ),
+                  ),
+                  returns record {
+                    before = record {
+                      before = record {
+                        before = record {
+                          before = record {
+                            before = record { before = c .before; open-placed = c .open-placed };
+                            pending = record { given = g };
+                          };
+                          ledger = record { given = g' };
+                        };
+                        inflight = record { given = g'' };
+                      };
+                      out = record { given = g'3 };
+                    };
+                    slice-known2 = record { given = g'4 };
+                  },
+                ),
+              ),
+            ),
+          ),
+        )
+
+        lay6 : (c : After-is-taken) → at49 (c .before .before .before .before .before .before .before .before .before
+            .before .blocks) (W0 (c .before .before .before .before .before .before .before .before .before .before .κs) (c
+            .before .before .before .before .before .before .before .before .before .before .args) (c .before .before
+            .before .before .before .before .before .before .before .before .blocks))
+            (m14 (c .before) (After-is-taken·gave c))
+        lay6 = λ c. (
+          λ taken. λ g. (
+            Path.refl,
+            λ g'. (
+              Path.refl,
+              λ g''. (
+                Path.refl,
+                λ g'3. (
+                  Path.refl,
+                  (
+                    open-placed-requires record {
+                      before = record {
+                        before = record {
+                          before = record {
+                            before = record {
+                              before = record { before = c .before; is-taken = c .is-taken };
+                              if1 = record { taken = taken };
+                            };
+                            open-placed-arg = record { given = g };
+                          };
+                          open-placed-arg2 = record { given = g' };
+                        };
+                        open-placed-arg3 = record { given = g'' };
+                      };
+                      open-placed-arg4 = record { given = g'3 };
+                    },
+                    λ g'4. lay7 record {
+                      before = record {
+                        before = record {
+                          before = record {
+                            before = record {
+                              before = record {
+                                before = record { before = c .before; is-taken = c .is-taken };
+                                if1 = record { taken = taken };
+                              };
+                              open-placed-arg = record { given = g };
+                            };
+                            open-placed-arg2 = record { given = g' };
+                          };
+                          open-placed-arg3 = record { given = g'' };
+                        };
+                        open-placed-arg4 = record { given = g'3 };
+                      };
+                      open-placed = Called.called ps·6 r·6 (claims· .13) T33 (
+                        record { pos = 20; ty = ref1; ref = λ x. x },
+                        (
+                          record { pos = 22; ty = ref2; ref = λ x. x },
+                          (
+                            record { pos = 24; ty = ref3; ref = λ x. x },
+                            (
+                              record { pos = 26; ty = ref4; ref = λ x. x },
+                              (
+                                record { pos = 6; st = List.[]; d = 0; at = λ x. x },
+                                (
+                                  record { pos = 7; st = List.[]; d = 0; at = λ x. x },
+                                  (
+                                    record { pos = 8; st = List.[]; d = 0; at = λ x. x },
+                                    (
+                                      record { pos = 13; st = List.[]; d = 0; at = λ x. x },
+                                      (record { pos = 14; st = List.[]; d = 0; at = λ x. x }, tt),
+                                    ),
+                                  ),
+                                ),
+                              ),
+                            ),
+                          ),
+                        ),
+                      ) (m24 record {
+                        before = record {
+                          before = record {
+                            before = record {
+                              before = record { before = c .before; is-taken = c .is-taken };
+                              if1 = record { taken = taken };
+                            };
+                            open-placed-arg = record { given = g };
+                          };
+                          open-placed-arg2 = record { given = g' };
+                        };
+                        open-placed-arg3 = record { given = g'' };
+                      } g'3) g'4;
+                    },
+                  ),
+                ),
+              ),
+            ),
+          ),
+          λ left. lay8 record {
+            before = record { before = c .before; is-taken = c .is-taken };
+            if1 = record { left = left };
+          },
+        )
+
+        lay5 : (c : After-placed-entry) → at51 (c .before .before .before .before .before .before .before .before
+            .before .blocks) (W0 (c .before .before .before .before .before .before .before .before .before .κs) (c
+            .before .before .before .before .before .before .before .before .before .args) (c .before .before .before
+            .before .before .before .before .before .before .blocks)) (m12 (c .before) (After-placed-entry·gave c))
+        lay5 = λ c. (
+          is-taken-requires record { before = c .before; placed-entry = c .placed-entry },
+          λ g. lay6 record {
+            before = record { before = c .before; placed-entry = c .placed-entry };
+            is-taken = Called.called ps·5 r·5 (claims· .11) T17
+                (record { pos = 15; st = List.[]; d = 0; at = λ x. x }, tt)
+                (m13 (c .before) (After-placed-entry·gave c)) g;
+          },
+        )
+
+        lay4 : (c : After-open-plan) → at52 (c .before .before .before .before .before .before .before .before .blocks) (W0 (c
+            .before .before .before .before .before .before .before .before .κs) (c .before .before .before .before
+            .before .before .before .before .args) (c .before .before .before .before .before .before .before .before
+            .blocks)) (m11 (c .before) (After-open-plan·gave c))
+        lay4 = λ c. (
+          placed-entry-requires record { before = c .before; open-plan = c .open-plan },
+          λ g. lay5 record {
+            before = record { before = c .before; open-plan = c .open-plan };
+            placed-entry = Called.called ps·4 r·4 (claims· .9) T15 (
+              record { pos = 10; st = List.[]; d = 0; at = λ x. x },
+              (
+                record { pos = 8; st = List.[]; d = 0; at = λ x. x },
+                (
+                  record { pos = 14; st = List.[]; d = 0; at = λ x. x },
+                  (record { pos = 13; st = List.[]; d = 0; at = λ x. x }, tt),
+                ),
+              ),
+            ) (m11 (c .before) (After-open-plan·gave c)) g;
+          },
+        )
+
+        lay3 : (c : After-draw) → at57 (c .before .before .before .before .before .before .before .blocks) (W0 (c
+            .before .before .before .before .before .before .before .κs) (c .before .before .before .before .before
+            .before .before .args) (c .before .before .before .before .before .before .before .blocks))
+            (m8 (c .before) (After-draw·gave c))
+        lay3 = λ c. (
+          open-plan-requires record { before = c .before; draw = c .draw },
+          λ g. lay4 record {
+            before = record { before = c .before; draw = c .draw };
+            open-plan = Called.called ps·3 r·3 (claims· .7) T13 (
+              record { pos = 10; st = List.[]; d = 0; at = λ x. x },
+              (
+                record { pos = 8; st = List.[]; d = 0; at = λ x. x },
+                (record { pos = 13; st = List.[]; d = 0; at = λ x. x }, tt),
+              ),
+            ) (m10 (c .before) (After-draw·gave c)) g;
+          },
+        )
+
+        lay2 : (c : After-known-taken) → at61 (c .before .before .before .before .before .blocks) (W0
+            (c .before .before .before .before .before .κs) (c .before .before .before .before .before .args)
+            (c .before .before .before .before .before .blocks)) (m5 (c .before) (After-known-taken·gave c))
+        lay2 = λ c. λ g. (
+          Path.refl,
+          (
+            draw-requires record {
+              before = record { before = c .before; known-taken = c .known-taken };
+              draw-arg = record { given = g };
+            },
+            λ g'. lay3 record {
+              before = record {
+                before = record { before = c .before; known-taken = c .known-taken };
+                draw-arg = record { given = g };
+              };
+              draw = Called.called ps·2 r·2 (claims· .5) T9 (
+                record { pos = 17; ty = ref0; ref = λ x. x },
+                (
+                  record { pos = 2; ty = ref6; ref = λ x. x },
+                  (
+                    record { pos = 7; st = List.[]; d = 0; at = λ x. x },
+                    (record { pos = 9; ty = ref10; ref = λ x. x }, (Num.vAt 11 λ x. x, (Bool.bAt 12 λ x. x, tt))),
+                  ),
+                ),
+              ) (m7 record { before = c .before; known-taken = c .known-taken } g) g';
+            },
+          ),
+        )
+
+        lay1 : (c : After-first-draw) → at62 (c .before .before .before .before .blocks) (W0
+            (c .before .before .before .before .κs) (c .before .before .before .before .args)
+            (c .before .before .before .before .blocks)) (m4 (c .before) (After-first-draw·gave c))
+        lay1 = λ c. (
+          known-taken-requires record { before = c .before; first-draw = c .first-draw },
+          λ g. lay2 record {
+            before = record { before = c .before; first-draw = c .first-draw };
+            known-taken = Called.called ps·1 r·1 (claims· .3) T5
+                (record { pos = 8; st = List.[]; d = 0; at = λ x. x }, tt) (m4 (c .before) (After-first-draw·gave c)) g;
+          },
+        )
+
         pub laid : (c : Start) → at66 (c .blocks) (W0 (c .κs) (c .args) (c .blocks)) (m0 (c .κs) (c .args) (c .blocks))
-        laid = λ c. λ g. λ g'. (tt, λ g''. (first-draw-requires record { before = record { before = record { before = c; slice-known = record { given
-            = g } }; shared-slice-known = record { given = g' }; }; config = record { given = g'' }; }, λ g'3. lay1 record { before = record { before
-            = record { before = record { before = c; slice-known = record { given = g } }; shared-slice-known = record { given = g' }; }; config =
-            record { given = g'' }; }; first-draw = Called.called ps·0 r·0 (claims· .1) T4 (record { pos = 9; ty = Syntax.tyRef (Syntax.named 5)
-            Syntax.imm (Syntax.tyInt Syntax.w8); ref = λ x. x; }, tt,) (m3 record { before = record { before = c; slice-known = record { given = g }
-            }; shared-slice-known = record { given = g' }; } g'') g'3; },),)
+        laid = λ c. λ g. λ g'. (
+          tt,
+          λ g''. (
+            first-draw-requires record {
+              before = record {
+                before = record { before = c; slice-known = record { given = g } };
+                shared-slice-known = record { given = g' };
+              };
+              config = record { given = g'' };
+            },
+            λ g'3. lay1 record {
+              before = record {
+                before = record {
+                  before = record { before = c; slice-known = record { given = g } };
+                  shared-slice-known = record { given = g' };
+                };
+                config = record { given = g'' };
+              };
+              first-draw = Called.called ps·0 r·0 (claims· .1) T4 (record { pos = 9; ty = ref10; ref = λ x. x }, tt) (m3
+                  record {
+                    before = record { before = c; slice-known = record { given = g } };
+                    shared-slice-known = record { given = g' };
+                  } g'') g'3;
+            },
+          ),
+        )
+
         module _ (κs : Lifetimes.Lfts 6) (qs : Lifetimes.Shares 6) where
-          pub asked : (a : Kinds.Dens κs ps) → (good : Kinds.GoodsP κs ps a) → (pre : Pre· κs a) → (bs : List.List Nat.ℕ) → Φ bs (Any.wantQ 6 ps r xs
-              m κs qs a (Post· κs a)) (Function.init 6 ps r xs m κs qs a)
-          asked = λ a good pre bs. laid record { κs = κs; args = record { pending = a .0; circuits = a .1 .0; ledger = a .1 .1 .0; inflight = a .1 .1
-              .1 .0; out = a .1 .1 .1 .1 .0; runtime = a .1 .1 .1 .1 .1 .0; places = a .1 .1 .1 .1 .1 .1 .0; gathered = a .1 .1 .1 .1 .1 .1 .1 .0;
-              random = a .1 .1 .1 .1 .1 .1 .1 .1 .0; }; blocks = bs; good = good; pre = pre; }
-        module _ { M : Type 1 } (𝓤 : URA.URA M) (H : Wp.Heap 𝓤) (A : Atoms.Atoms 𝓤) (W : Kit.Given 𝓤 H A) (𝓣 : Wp.Tables 𝓤 H) (known0 : Plain.Known 𝓤
-            H A W 𝓣 1 ps·0 r·0 (claims· .0) (claims· .1) "hnsr_circuit::draw::first_draw") (known1 : Plain.Known 𝓤 H A W 𝓣 0 ps·1 r·1 (claims· .2)
-            (claims· .3) "hnsr_circuit::open::known_taken") (known2 : Plain.Known 𝓤 H A W 𝓣 3 ps·2 r·2 (claims· .4) (claims· .5)
-            "hnsr_circuit::handle_open::draw") (known3 : Plain.Known 𝓤 H A W 𝓣 0 ps·3 r·3 (claims· .6) (claims· .7) "hnsr_circuit::open::open_plan")
-            (known4 : Plain.Known 𝓤 H A W 𝓣 0 ps·4 r·4 (claims· .8) (claims· .9) "hnsr_circuit::open::placed_entry") (known5 : Plain.Known 𝓤 H A W 𝓣 0
-            ps·5 r·5 (claims· .10) (claims· .11) "hnsr_circuit::answer::is_taken") (known6 : Plain.Known 𝓤 H A W 𝓣 4 ps·6 r·6 (claims· .12) (claims·
-            .13) "hnsr_circuit::handle_open::open_placed") (known7 : Plain.Known 𝓤 H A W 𝓣 0 ps·7 r·7 (claims· .14) (claims· .15)
-            "hnsr_circuit::revoking_calls::refused") where
-          pub spec : Statement.Triple 𝓤 (Wp.WpFn 𝓤 H (𝓣 .C) (𝓣 .Λ) (Function.fnOf 6 ps r xs m hs body)) (Function.plainOf 𝓤 H A 6 ps r Pre· Post·)
-          spec = Plain.t-fn-plain 𝓤 H A W 𝓣 6 ps r xs m hs body (λ κs qs bs. Φ bs) (λ κs qs bs bd. typed κs qs 𝓤 H A W 𝓣 (known0, known1, known2,
-              known3, known4, known5, known6, known7,) bs bd) Pre· Post· asked
+          pub asked : (a : Kinds.Dens κs ps) → (good : Kinds.GoodsP κs ps a) → (pre : Pre· κs a) →
+              (bs : List.List Nat.ℕ) → Φ bs (Any.wantQ 6 ps r xs m κs qs a (Post· κs a))
+              (Function.init 6 ps r xs m κs qs a)
+          asked = λ a good pre bs. laid record {
+            κs = κs;
+            args = record {
+              pending = a .0;
+              circuits = a .1 .0;
+              ledger = a .1 .1 .0;
+              inflight = a .1 .1 .1 .0;
+              out = a .1 .1 .1 .1 .0;
+              runtime = a .1 .1 .1 .1 .1 .0;
+              places = a .1 .1 .1 .1 .1 .1 .0;
+              gathered = a .1 .1 .1 .1 .1 .1 .1 .0;
+              random = a .1 .1 .1 .1 .1 .1 .1 .1 .0;
+            };
+            blocks = bs;
+            good = good;
+            pre = pre;
+          }
+
+        module _ {M : Type 1} (𝓤 : URA.URA M) (H : Wp.Heap 𝓤) (A : Atoms.Atoms 𝓤) (W : Kit.Given 𝓤 H A)
+            (𝓣 : Wp.Tables 𝓤 H) (known0 : Plain.Known 𝓤 H A W 𝓣 1 ps·0 r·0 (claims· .0) (claims· .1)
+            "hnsr_circuit::draw::first_draw") (known1 : Plain.Known 𝓤 H A W 𝓣 0 ps·1 r·1 (claims· .2) (claims· .3)
+            "hnsr_circuit::open::known_taken") (known2 : Plain.Known 𝓤 H A W 𝓣 3 ps·2 r·2 (claims· .4) (claims· .5)
+            "hnsr_circuit::handle_open::draw") (known3 : Plain.Known 𝓤 H A W 𝓣 0 ps·3 r·3 (claims· .6) (claims· .7)
+            "hnsr_circuit::open::open_plan") (known4 : Plain.Known 𝓤 H A W 𝓣 0 ps·4 r·4 (claims· .8) (claims· .9)
+            "hnsr_circuit::open::placed_entry") (known5 : Plain.Known 𝓤 H A W 𝓣 0 ps·5 r·5 (claims· .10) (claims· .11)
+            "hnsr_circuit::answer::is_taken") (known6 : Plain.Known 𝓤 H A W 𝓣 4 ps·6 r·6 (claims· .12) (claims· .13)
+            "hnsr_circuit::handle_open::open_placed") (known7 : Plain.Known 𝓤 H A W 𝓣 0 ps·7 r·7 (claims· .14)
+            (claims· .15) "hnsr_circuit::revoking_calls::refused") where
+          pub spec : Statement.Triple 𝓤 (Wp.WpFn 𝓤 H (𝓣 .C) (𝓣 .Λ) (Function.fnOf 6 ps r xs m hs body))
+              (Function.plainOf 𝓤 H A 6 ps r Pre· Post·)
+          spec = Plain.t-fn-plain 𝓤 H A W 𝓣 6 ps r xs m hs body (λ κs qs bs. Φ bs) (λ κs qs bs bd. typed κs qs 𝓤 H A W
+              𝓣 (known0, known1, known2, known3, known4, known5, known6, known7) bs bd) Pre· Post· asked

@@ -5,6 +5,7 @@ use Rattle.hnsr_body.proofs.values.ReservationId.Laws
 use Rattle.hnsr_circuit.proofs.By.InflightAction
 use Rattle.hnsr_circuit.proofs.By.RelayPending
 use Rattle.hnsr_circuit.proofs.By.ReservationUsage
+use Rattle.hnsr_circuit.proofs.StructRow
 use Rattle.hnsr_circuit.proofs.answer.HnsrAnswer
 use Rattle.hnsr_circuit.proofs.answer.HnsrAnswer.Laws as Laws'
 use Rattle.hnsr_circuit.proofs.config.OpaqueRelayConfig
@@ -44,7 +45,6 @@ use borrow.Kind.MutSlice
 use borrow.Kind.Num
 use borrow.Kind.ShrSlice
 use borrow.Kind.Unit
-use borrow.Kind.Value
 use borrow.Rule.DerefMove
 use borrow.Rule.Lifetime
 use borrow.Rule.Local
@@ -70,11 +70,8 @@ use borrow.Table.Rows
 use borrow.Table.Typed
 use contract.Lifetimes
 use denote.Enum.Declared
-use denote.Enum.Laws as Laws''''''''''''''
-use denote.Exit
 use denote.Struct.At
 use denote.Struct.Declared as Declared'
-use denote.Struct.Laws as Laws'''''''''''''''
 use denote.Triple.Clauses
 use denote.Triple.Statement
 use ghost.Atoms
@@ -91,3094 +88,5588 @@ use mathlib.Core.List.{_∷_}
 
 abbrev ref0 : Syntax.Ty
 ref0 = Syntax.tyRef Syntax.erased Syntax.imm InflightAction.to
+
 abbrev ref1 : Syntax.Ty
 ref1 = Syntax.tyRef Syntax.erased Syntax.imm ReservationUsage.to
+
 abbrev ref2 : Syntax.Ty
 ref2 = Syntax.tyRef Syntax.erased Syntax.mut ReservationUsage.to
+
 abbrev ref3 : Syntax.Ty
 ref3 = Syntax.tyRef Syntax.erased Syntax.mut RelayPending.to
+
 abbrev ref4 : Syntax.Ty
 ref4 = Syntax.tyRef Syntax.erased Syntax.mut InflightAction.to
+
 abbrev ref5 : Syntax.Ty
 ref5 = Syntax.tyRef Syntax.erased Syntax.mut (Syntax.tyInt Syntax.w32)
+
 abbrev ref6 : Syntax.Ty
 ref6 = Syntax.tyRef (Syntax.named 0) Syntax.mut RelayPending.to
+
 abbrev ref7 : Syntax.Ty
 ref7 = Syntax.tyRef (Syntax.named 1) Syntax.mut ReservationUsage.to
+
 abbrev ref8 : Syntax.Ty
 ref8 = Syntax.tyRef (Syntax.named 2) Syntax.mut InflightAction.to
+
 abbrev ref9 : Syntax.Ty
 ref9 = Syntax.tyRef (Syntax.named 3) Syntax.mut (Syntax.tyInt Syntax.w32)
+
+abbrev slice0 : Syntax.Ty
+slice0 = Syntax.tyStruct (38 ∷ 91 ∷ 93 ∷ List.[]) (Syntax.tcons ref0
+    (Syntax.tcons (Syntax.tyInt Syntax.w64) Syntax.tnil))
+
+abbrev slice1 : Syntax.Ty
+slice1 = Syntax.tyStruct (38 ∷ 91 ∷ 93 ∷ List.[]) (Syntax.tcons ref1
+    (Syntax.tcons (Syntax.tyInt Syntax.w64) Syntax.tnil))
+
+abbrev slice2 : Syntax.Ty
+slice2 = Syntax.tyStruct (38 ∷ 91 ∷ 93 ∷ List.[]) (Syntax.tcons ref2
+    (Syntax.tcons (Syntax.tyInt Syntax.w64) Syntax.tnil))
+
+abbrev slice3 : Syntax.Ty
+slice3 = Syntax.tyStruct (38 ∷ 91 ∷ 93 ∷ List.[]) (Syntax.tcons ref3
+    (Syntax.tcons (Syntax.tyInt Syntax.w64) Syntax.tnil))
+
+abbrev slice4 : Syntax.Ty
+slice4 = Syntax.tyStruct (38 ∷ 91 ∷ 93 ∷ List.[]) (Syntax.tcons ref4
+    (Syntax.tcons (Syntax.tyInt Syntax.w64) Syntax.tnil))
+
+abbrev slice5 : Syntax.Ty
+slice5 = Syntax.tyStruct (38 ∷ 91 ∷ 93 ∷ List.[]) (Syntax.tcons ref5
+    (Syntax.tcons (Syntax.tyInt Syntax.w64) Syntax.tnil))
+
 abbrev pub ps : List.List (Kinds.PK 4)
-ps = (MutSlice.pMutS RelayPending.row 0 tt) ∷ (MutSlice.pMutS ReservationUsage.row 1 tt) ∷ (MutSlice.pMutS InflightAction.row 2 tt) ∷ (MutSlice.pMutS
-    (Referent.rtF (Referent.fInt Syntax.w32)) 3 tt) ∷ (Value.pVal record { ty = Declared'.row OpaqueRelayRuntime.the-type; one = Path.refl; val =
-    Laws'''''''''''''''.val OpaqueRelayRuntime.the-type Laws''''''''''''.the-laws; tells = Laws'''''''''''''''.tells OpaqueRelayRuntime.the-type
-    Laws''''''''''''.the-laws; still = Laws'''''''''''''''.still OpaqueRelayRuntime.the-type Laws''''''''''''.the-copy Exit.yes; row = Rows.whole
-    (Declared'.row OpaqueRelayRuntime.the-type); rd = λ x. x; mk = λ x. x; } λ M 𝓤 H A W. record { copies = Laws'''''''''''''''.copy
-    OpaqueRelayRuntime.the-type Laws''''''''''''.the-copy 𝓤 H A W; lawful = Laws'''''''''''''''.lawful OpaqueRelayRuntime.the-type
-    Laws''''''''''''.the-laws 𝓤 H A W; makes = Laws'''''''''''''''.makes OpaqueRelayRuntime.the-type Laws''''''''''''.the-plain 𝓤 H A; in-mem =
-    Local.mem-whole 𝓤 H A W (Declared'.row OpaqueRelayRuntime.the-type); of-mem = Local.whole-mem 𝓤 H A W (Declared'.row OpaqueRelayRuntime.the-type);
-    }) ∷ (Value.pVal record { ty = Declared'.row Places.the-type; one = Path.refl; val = Laws'''''''''''''''.val Places.the-type Laws'''''.the-laws;
-    tells = Laws'''''''''''''''.tells Places.the-type Laws'''''.the-laws; still = Laws'''''''''''''''.still Places.the-type Laws'''''.the-copy
-    Exit.yes; row = Rows.whole (Declared'.row Places.the-type); rd = λ x. x; mk = λ x. x; } λ M 𝓤 H A W. record { copies = Laws'''''''''''''''.copy
-    Places.the-type Laws'''''.the-copy 𝓤 H A W; lawful = Laws'''''''''''''''.lawful Places.the-type Laws'''''.the-laws 𝓤 H A W; makes =
-    Laws'''''''''''''''.makes Places.the-type Laws'''''.the-plain 𝓤 H A; in-mem = Local.mem-whole 𝓤 H A W (Declared'.row Places.the-type); of-mem =
-    Local.whole-mem 𝓤 H A W (Declared'.row Places.the-type); }) ∷ (Value.pVal record { ty = Declared'.row OpenGathered.the-type; one = Path.refl; val
-    = Laws'''''''''''''''.val OpenGathered.the-type Laws'''.the-laws; tells = Laws'''''''''''''''.tells OpenGathered.the-type Laws'''.the-laws; still
-    = Laws'''''''''''''''.still OpenGathered.the-type Laws'''.the-copy Exit.yes; row = Rows.whole (Declared'.row OpenGathered.the-type); rd = λ x. x;
-    mk = λ x. x; } λ M 𝓤 H A W. record { copies = Laws'''''''''''''''.copy OpenGathered.the-type Laws'''.the-copy 𝓤 H A W; lawful =
-    Laws'''''''''''''''.lawful OpenGathered.the-type Laws'''.the-laws 𝓤 H A W; makes = Laws'''''''''''''''.makes OpenGathered.the-type
-    Laws'''.the-plain 𝓤 H A; in-mem = Local.mem-whole 𝓤 H A W (Declared'.row OpenGathered.the-type); of-mem = Local.whole-mem 𝓤 H A W (Declared'.row
-    OpenGathered.the-type); }) ∷ (Value.pVal record { ty = Declared'.row Drawing.the-type; one = Path.refl; val = Laws'''''''''''''''.val
-    Drawing.the-type Laws''''''''.the-laws; tells = Laws'''''''''''''''.tells Drawing.the-type Laws''''''''.the-laws; still =
-    Laws'''''''''''''''.still Drawing.the-type Laws''''''''.the-copy Exit.yes; row = Rows.whole (Declared'.row Drawing.the-type); rd = λ x. x; mk = λ
-    x. x; } λ M 𝓤 H A W. record { copies = Laws'''''''''''''''.copy Drawing.the-type Laws''''''''.the-copy 𝓤 H A W; lawful =
-    Laws'''''''''''''''.lawful Drawing.the-type Laws''''''''.the-laws 𝓤 H A W; makes = Laws'''''''''''''''.makes Drawing.the-type
-    Laws''''''''.the-plain 𝓤 H A; in-mem = Local.mem-whole 𝓤 H A W (Declared'.row Drawing.the-type); of-mem = Local.whole-mem 𝓤 H A W (Declared'.row
-    Drawing.the-type); }) ∷ (Value.pVal record { ty = Declared'.row OpenPlan.the-type; one = Path.refl; val = Laws'''''''''''''''.val
-    OpenPlan.the-type Laws''''.the-laws; tells = Laws'''''''''''''''.tells OpenPlan.the-type Laws''''.the-laws; still = Laws'''''''''''''''.still
-    OpenPlan.the-type Laws''''.the-copy Exit.yes; row = Rows.whole (Declared'.row OpenPlan.the-type); rd = λ x. x; mk = λ x. x; } λ M 𝓤 H A W. record
-    { copies = Laws'''''''''''''''.copy OpenPlan.the-type Laws''''.the-copy 𝓤 H A W; lawful = Laws'''''''''''''''.lawful OpenPlan.the-type
-    Laws''''.the-laws 𝓤 H A W; makes = Laws'''''''''''''''.makes OpenPlan.the-type Laws''''.the-plain 𝓤 H A; in-mem = Local.mem-whole 𝓤 H A W
-    (Declared'.row OpenPlan.the-type); of-mem = Local.whole-mem 𝓤 H A W (Declared'.row OpenPlan.the-type); }) ∷ List.[]
+ps = (MutSlice.pMutS RelayPending.row 0 tt) ∷ (MutSlice.pMutS ReservationUsage.row 1 tt) ∷
+    (MutSlice.pMutS InflightAction.row 2 tt) ∷ (MutSlice.pMutS (Referent.rtF (Referent.fInt Syntax.w32)) 3 tt) ∷ (StructRow.param
+    OpaqueRelayRuntime.the-type Laws''''''''''''.the-laws Laws''''''''''''.the-copy Laws''''''''''''.the-plain) ∷ (StructRow.param
+    Places.the-type Laws'''''.the-laws Laws'''''.the-copy Laws'''''.the-plain) ∷ (StructRow.param OpenGathered.the-type
+    Laws'''.the-laws Laws'''.the-copy Laws'''.the-plain) ∷ (StructRow.param Drawing.the-type Laws''''''''.the-laws
+    Laws''''''''.the-copy Laws''''''''.the-plain) ∷ (StructRow.param OpenPlan.the-type Laws''''.the-laws
+    Laws''''.the-copy Laws''''.the-plain) ∷ List.[]
+
 abbrev pub r : Kinds.RK 4
-r = Value.rVal record { ty = Declared'.row Relayed.the-type; one = Path.refl; val = Laws'''''''''''''''.val Relayed.the-type
-    Laws'''''''''''''.the-laws; tells = Laws'''''''''''''''.tells Relayed.the-type Laws'''''''''''''.the-laws; still = Laws'''''''''''''''.still
-    Relayed.the-type Laws'''''''''''''.the-copy Exit.yes; row = Rows.whole (Declared'.row Relayed.the-type); rd = λ x. x; mk = λ x. x; } λ M 𝓤 H A W.
-    record { copies = Laws'''''''''''''''.copy Relayed.the-type Laws'''''''''''''.the-copy 𝓤 H A W; lawful = Laws'''''''''''''''.lawful
-    Relayed.the-type Laws'''''''''''''.the-laws 𝓤 H A W; makes = Laws'''''''''''''''.makes Relayed.the-type Laws'''''''''''''.the-plain 𝓤 H A; in-mem
-    = Local.mem-whole 𝓤 H A W (Declared'.row Relayed.the-type); of-mem = Local.whole-mem 𝓤 H A W (Declared'.row Relayed.the-type); }
+r = StructRow.result Relayed.the-type Laws'''''''''''''.the-laws Laws'''''''''''''.the-copy Laws'''''''''''''.the-plain
+
 abbrev pub xs : List.List Syntax.Ty
-xs = (Syntax.tyInt Syntax.w64) ∷ Laws''.mir ∷ Laws'''''''''''.mir ∷ Laws.mir ∷ Laws''''''''''.mir ∷ Laws''''''.mir ∷ Laws'''''''.mir ∷
-    Laws'''''''''.mir ∷ Laws'.mir ∷ ReservationUsage.ty ∷ (Syntax.tyInt Syntax.w64) ∷ (Syntax.tyInt Syntax.w64) ∷ Laws'''''.mir ∷ ref0 ∷
-    (Syntax.tyStruct (38 ∷ 91 ∷ 93 ∷ List.[]) (Syntax.tcons ref0 (Syntax.tcons (Syntax.tyInt Syntax.w64) Syntax.tnil))) ∷ ref1 ∷ (Syntax.tyStruct (38
-    ∷ 91 ∷ 93 ∷ List.[]) (Syntax.tcons ref1 (Syntax.tcons (Syntax.tyInt Syntax.w64) Syntax.tnil))) ∷ Syntax.tyBool ∷ Syntax.tyUnit ∷ ref2 ∷
-    (Syntax.tyStruct (38 ∷ 91 ∷ 93 ∷ List.[]) (Syntax.tcons ref2 (Syntax.tcons (Syntax.tyInt Syntax.w64) Syntax.tnil))) ∷ ref3 ∷ (Syntax.tyStruct (38
-    ∷ 91 ∷ 93 ∷ List.[]) (Syntax.tcons ref3 (Syntax.tcons (Syntax.tyInt Syntax.w64) Syntax.tnil))) ∷ ref4 ∷ (Syntax.tyStruct (38 ∷ 91 ∷ 93 ∷ List.[])
-    (Syntax.tcons ref4 (Syntax.tcons (Syntax.tyInt Syntax.w64) Syntax.tnil))) ∷ ref5 ∷ (Syntax.tyStruct (38 ∷ 91 ∷ 93 ∷ List.[]) (Syntax.tcons ref5
-    (Syntax.tcons (Syntax.tyInt Syntax.w64) Syntax.tnil))) ∷ List.[]
+xs = (Syntax.tyInt Syntax.w64) ∷ Laws''.mir ∷ Laws'''''''''''.mir ∷ Laws.mir ∷ Laws''''''''''.mir ∷ Laws''''''.mir ∷
+    Laws'''''''.mir ∷ Laws'''''''''.mir ∷ Laws'.mir ∷ ReservationUsage.ty ∷ (Syntax.tyInt Syntax.w64) ∷
+    (Syntax.tyInt Syntax.w64) ∷ Laws'''''.mir ∷ ref0 ∷ slice0 ∷ ref1 ∷ slice1 ∷ Syntax.tyBool ∷ Syntax.tyUnit ∷ ref2 ∷
+    slice2 ∷ ref3 ∷ slice3 ∷ ref4 ∷ slice4 ∷ ref5 ∷ slice5 ∷ List.[]
+
 abbrev pub m : Nat.ℕ
 m = 6
+
 abbrev pub ps·0 : List.List (Kinds.PK 0)
-ps·0 = (Value.pVal record { ty = Declared'.row OpenPlan.the-type; one = Path.refl; val = Laws'''''''''''''''.val OpenPlan.the-type Laws''''.the-laws;
-    tells = Laws'''''''''''''''.tells OpenPlan.the-type Laws''''.the-laws; still = Laws'''''''''''''''.still OpenPlan.the-type Laws''''.the-copy
-    Exit.yes; row = Rows.whole (Declared'.row OpenPlan.the-type); rd = λ x. x; mk = λ x. x; } λ M 𝓤 H A W. record { copies = Laws'''''''''''''''.copy
-    OpenPlan.the-type Laws''''.the-copy 𝓤 H A W; lawful = Laws'''''''''''''''.lawful OpenPlan.the-type Laws''''.the-laws 𝓤 H A W; makes =
-    Laws'''''''''''''''.makes OpenPlan.the-type Laws''''.the-plain 𝓤 H A; in-mem = Local.mem-whole 𝓤 H A W (Declared'.row OpenPlan.the-type); of-mem =
-    Local.whole-mem 𝓤 H A W (Declared'.row OpenPlan.the-type); }) ∷ List.[]
+ps·0 = (StructRow.param OpenPlan.the-type Laws''''.the-laws Laws''''.the-copy Laws''''.the-plain) ∷ List.[]
+
 abbrev pub r·0 : Kinds.RK 0
-r·0 = Value.rVal record { ty = Declared'.row Outgoing.the-type; one = Path.refl; val = Laws'''''''''''''''.val Outgoing.the-type
-    Laws''''''''''.the-laws; tells = Laws'''''''''''''''.tells Outgoing.the-type Laws''''''''''.the-laws; still = Laws'''''''''''''''.still
-    Outgoing.the-type Laws''''''''''.the-copy Exit.yes; row = Rows.whole (Declared'.row Outgoing.the-type); rd = λ x. x; mk = λ x. x; } λ M 𝓤 H A W.
-    record { copies = Laws'''''''''''''''.copy Outgoing.the-type Laws''''''''''.the-copy 𝓤 H A W; lawful = Laws'''''''''''''''.lawful
-    Outgoing.the-type Laws''''''''''.the-laws 𝓤 H A W; makes = Laws'''''''''''''''.makes Outgoing.the-type Laws''''''''''.the-plain 𝓤 H A; in-mem =
-    Local.mem-whole 𝓤 H A W (Declared'.row Outgoing.the-type); of-mem = Local.whole-mem 𝓤 H A W (Declared'.row Outgoing.the-type); }
+r·0 = StructRow.result Outgoing.the-type Laws''''''''''.the-laws Laws''''''''''.the-copy Laws''''''''''.the-plain
+
 abbrev pub ps·1 : List.List (Kinds.PK 0)
-ps·1 = (Value.pVal record { ty = Declared'.row OpaqueRelayRuntime.the-type; one = Path.refl; val = Laws'''''''''''''''.val OpaqueRelayRuntime.the-type
-    Laws''''''''''''.the-laws; tells = Laws'''''''''''''''.tells OpaqueRelayRuntime.the-type Laws''''''''''''.the-laws; still =
-    Laws'''''''''''''''.still OpaqueRelayRuntime.the-type Laws''''''''''''.the-copy Exit.yes; row = Rows.whole (Declared'.row
-    OpaqueRelayRuntime.the-type); rd = λ x. x; mk = λ x. x; } λ M 𝓤 H A W. record { copies = Laws'''''''''''''''.copy OpaqueRelayRuntime.the-type
-    Laws''''''''''''.the-copy 𝓤 H A W; lawful = Laws'''''''''''''''.lawful OpaqueRelayRuntime.the-type Laws''''''''''''.the-laws 𝓤 H A W; makes =
-    Laws'''''''''''''''.makes OpaqueRelayRuntime.the-type Laws''''''''''''.the-plain 𝓤 H A; in-mem = Local.mem-whole 𝓤 H A W (Declared'.row
-    OpaqueRelayRuntime.the-type); of-mem = Local.whole-mem 𝓤 H A W (Declared'.row OpaqueRelayRuntime.the-type); }) ∷ (Value.pVal record { ty =
-    Declared'.row Outgoing.the-type; one = Path.refl; val = Laws'''''''''''''''.val Outgoing.the-type Laws''''''''''.the-laws; tells =
-    Laws'''''''''''''''.tells Outgoing.the-type Laws''''''''''.the-laws; still = Laws'''''''''''''''.still Outgoing.the-type Laws''''''''''.the-copy
-    Exit.yes; row = Rows.whole (Declared'.row Outgoing.the-type); rd = λ x. x; mk = λ x. x; } λ M 𝓤 H A W. record { copies = Laws'''''''''''''''.copy
-    Outgoing.the-type Laws''''''''''.the-copy 𝓤 H A W; lawful = Laws'''''''''''''''.lawful Outgoing.the-type Laws''''''''''.the-laws 𝓤 H A W; makes =
-    Laws'''''''''''''''.makes Outgoing.the-type Laws''''''''''.the-plain 𝓤 H A; in-mem = Local.mem-whole 𝓤 H A W (Declared'.row Outgoing.the-type);
-    of-mem = Local.whole-mem 𝓤 H A W (Declared'.row Outgoing.the-type); }) ∷ List.[]
+ps·1 = (StructRow.param OpaqueRelayRuntime.the-type Laws''''''''''''.the-laws Laws''''''''''''.the-copy
+    Laws''''''''''''.the-plain) ∷ (StructRow.param Outgoing.the-type Laws''''''''''.the-laws Laws''''''''''.the-copy
+    Laws''''''''''.the-plain) ∷ List.[]
+
 abbrev pub r·1 : Kinds.RK 0
-r·1 = Value.rVal record { ty = Declared'.row ActionQuestion.the-type; one = Path.refl; val = Laws'''''''''''''''.val ActionQuestion.the-type
-    Laws''''''.the-laws; tells = Laws'''''''''''''''.tells ActionQuestion.the-type Laws''''''.the-laws; still = Laws'''''''''''''''.still
-    ActionQuestion.the-type Laws''''''.the-copy Exit.yes; row = Rows.whole (Declared'.row ActionQuestion.the-type); rd = λ x. x; mk = λ x. x; } λ M 𝓤
-    H A W. record { copies = Laws'''''''''''''''.copy ActionQuestion.the-type Laws''''''.the-copy 𝓤 H A W; lawful = Laws'''''''''''''''.lawful
-    ActionQuestion.the-type Laws''''''.the-laws 𝓤 H A W; makes = Laws'''''''''''''''.makes ActionQuestion.the-type Laws''''''.the-plain 𝓤 H A; in-mem
-    = Local.mem-whole 𝓤 H A W (Declared'.row ActionQuestion.the-type); of-mem = Local.whole-mem 𝓤 H A W (Declared'.row ActionQuestion.the-type); }
+r·1 = StructRow.result ActionQuestion.the-type Laws''''''.the-laws Laws''''''.the-copy Laws''''''.the-plain
+
 abbrev pub ps·2 : List.List (Kinds.PK 1)
-ps·2 = (ShrSlice.pShrS InflightAction.row 0 tt) ∷ (Value.pVal record { ty = Declared'.row Places.the-type; one = Path.refl; val =
-    Laws'''''''''''''''.val Places.the-type Laws'''''.the-laws; tells = Laws'''''''''''''''.tells Places.the-type Laws'''''.the-laws; still =
-    Laws'''''''''''''''.still Places.the-type Laws'''''.the-copy Exit.yes; row = Rows.whole (Declared'.row Places.the-type); rd = λ x. x; mk = λ x. x;
-    } λ M 𝓤 H A W. record { copies = Laws'''''''''''''''.copy Places.the-type Laws'''''.the-copy 𝓤 H A W; lawful = Laws'''''''''''''''.lawful
-    Places.the-type Laws'''''.the-laws 𝓤 H A W; makes = Laws'''''''''''''''.makes Places.the-type Laws'''''.the-plain 𝓤 H A; in-mem = Local.mem-whole
-    𝓤 H A W (Declared'.row Places.the-type); of-mem = Local.whole-mem 𝓤 H A W (Declared'.row Places.the-type); }) ∷ (Value.pVal record { ty =
-    Declared'.row ActionQuestion.the-type; one = Path.refl; val = Laws'''''''''''''''.val ActionQuestion.the-type Laws''''''.the-laws; tells =
-    Laws'''''''''''''''.tells ActionQuestion.the-type Laws''''''.the-laws; still = Laws'''''''''''''''.still ActionQuestion.the-type
-    Laws''''''.the-copy Exit.yes; row = Rows.whole (Declared'.row ActionQuestion.the-type); rd = λ x. x; mk = λ x. x; } λ M 𝓤 H A W. record { copies =
-    Laws'''''''''''''''.copy ActionQuestion.the-type Laws''''''.the-copy 𝓤 H A W; lawful = Laws'''''''''''''''.lawful ActionQuestion.the-type
-    Laws''''''.the-laws 𝓤 H A W; makes = Laws'''''''''''''''.makes ActionQuestion.the-type Laws''''''.the-plain 𝓤 H A; in-mem = Local.mem-whole 𝓤 H A
-    W (Declared'.row ActionQuestion.the-type); of-mem = Local.whole-mem 𝓤 H A W (Declared'.row ActionQuestion.the-type); }) ∷ List.[]
+ps·2 = (ShrSlice.pShrS InflightAction.row 0 tt) ∷ (StructRow.param Places.the-type Laws'''''.the-laws
+    Laws'''''.the-copy Laws'''''.the-plain) ∷ (StructRow.param ActionQuestion.the-type Laws''''''.the-laws
+    Laws''''''.the-copy Laws''''''.the-plain) ∷ List.[]
+
 abbrev pub r·2 : Kinds.RK 1
-r·2 = Value.rVal record { ty = Declared'.row ActionScan.the-type; one = Path.refl; val = Laws'''''''''''''''.val ActionScan.the-type
-    Laws'''''''.the-laws; tells = Laws'''''''''''''''.tells ActionScan.the-type Laws'''''''.the-laws; still = Laws'''''''''''''''.still
-    ActionScan.the-type Laws'''''''.the-copy Exit.yes; row = Rows.whole (Declared'.row ActionScan.the-type); rd = λ x. x; mk = λ x. x; } λ M 𝓤 H A W.
-    record { copies = Laws'''''''''''''''.copy ActionScan.the-type Laws'''''''.the-copy 𝓤 H A W; lawful = Laws'''''''''''''''.lawful
-    ActionScan.the-type Laws'''''''.the-laws 𝓤 H A W; makes = Laws'''''''''''''''.makes ActionScan.the-type Laws'''''''.the-plain 𝓤 H A; in-mem =
-    Local.mem-whole 𝓤 H A W (Declared'.row ActionScan.the-type); of-mem = Local.whole-mem 𝓤 H A W (Declared'.row ActionScan.the-type); }
+r·2 = StructRow.result ActionScan.the-type Laws'''''''.the-laws Laws'''''''.the-copy Laws'''''''.the-plain
+
 abbrev pub ps·3 : List.List (Kinds.PK 1)
-ps·3 = (ShrSlice.pShrS ReservationUsage.row 0 tt) ∷ (Value.pVal record { ty = Declared'.row Places.the-type; one = Path.refl; val =
-    Laws'''''''''''''''.val Places.the-type Laws'''''.the-laws; tells = Laws'''''''''''''''.tells Places.the-type Laws'''''.the-laws; still =
-    Laws'''''''''''''''.still Places.the-type Laws'''''.the-copy Exit.yes; row = Rows.whole (Declared'.row Places.the-type); rd = λ x. x; mk = λ x. x;
-    } λ M 𝓤 H A W. record { copies = Laws'''''''''''''''.copy Places.the-type Laws'''''.the-copy 𝓤 H A W; lawful = Laws'''''''''''''''.lawful
-    Places.the-type Laws'''''.the-laws 𝓤 H A W; makes = Laws'''''''''''''''.makes Places.the-type Laws'''''.the-plain 𝓤 H A; in-mem = Local.mem-whole
-    𝓤 H A W (Declared'.row Places.the-type); of-mem = Local.whole-mem 𝓤 H A W (Declared'.row Places.the-type); }) ∷ (Value.pVal record { ty =
-    Declared'.row ReservationId.the-type; one = Path.refl; val = Laws'''''''''''''''.val ReservationId.the-type Laws.the-laws; tells =
-    Laws'''''''''''''''.tells ReservationId.the-type Laws.the-laws; still = Laws'''''''''''''''.still ReservationId.the-type Laws.the-copy Exit.yes;
-    row = Rows.whole (Declared'.row ReservationId.the-type); rd = λ x. x; mk = λ x. x; } λ M 𝓤 H A W. record { copies = Laws'''''''''''''''.copy
-    ReservationId.the-type Laws.the-copy 𝓤 H A W; lawful = Laws'''''''''''''''.lawful ReservationId.the-type Laws.the-laws 𝓤 H A W; makes =
-    Laws'''''''''''''''.makes ReservationId.the-type Laws.the-plain 𝓤 H A; in-mem = Local.mem-whole 𝓤 H A W (Declared'.row ReservationId.the-type);
-    of-mem = Local.whole-mem 𝓤 H A W (Declared'.row ReservationId.the-type); }) ∷ List.[]
+ps·3 = (ShrSlice.pShrS ReservationUsage.row 0 tt) ∷ (StructRow.param Places.the-type Laws'''''.the-laws
+    Laws'''''.the-copy Laws'''''.the-plain) ∷ (StructRow.param ReservationId.the-type Laws.the-laws Laws.the-copy
+    Laws.the-plain) ∷ List.[]
+
 abbrev pub r·3 : Kinds.RK 1
-r·3 = Value.rVal record { ty = Declared'.row LedgerRoom.the-type; one = Path.refl; val = Laws'''''''''''''''.val LedgerRoom.the-type
-    Laws'''''''''.the-laws; tells = Laws'''''''''''''''.tells LedgerRoom.the-type Laws'''''''''.the-laws; still = Laws'''''''''''''''.still
-    LedgerRoom.the-type Laws'''''''''.the-copy Exit.yes; row = Rows.whole (Declared'.row LedgerRoom.the-type); rd = λ x. x; mk = λ x. x; } λ M 𝓤 H A
-    W. record { copies = Laws'''''''''''''''.copy LedgerRoom.the-type Laws'''''''''.the-copy 𝓤 H A W; lawful = Laws'''''''''''''''.lawful
-    LedgerRoom.the-type Laws'''''''''.the-laws 𝓤 H A W; makes = Laws'''''''''''''''.makes LedgerRoom.the-type Laws'''''''''.the-plain 𝓤 H A; in-mem =
-    Local.mem-whole 𝓤 H A W (Declared'.row LedgerRoom.the-type); of-mem = Local.whole-mem 𝓤 H A W (Declared'.row LedgerRoom.the-type); }
+r·3 = StructRow.result LedgerRoom.the-type Laws'''''''''.the-laws Laws'''''''''.the-copy Laws'''''''''.the-plain
+
 abbrev pub ps·4 : List.List (Kinds.PK 0)
-ps·4 = (Value.pVal record { ty = Declared'.row OpaqueRelayConfig.the-type; one = Path.refl; val = Laws'''''''''''''''.val OpaqueRelayConfig.the-type
-    Laws''.the-laws; tells = Laws'''''''''''''''.tells OpaqueRelayConfig.the-type Laws''.the-laws; still = Laws'''''''''''''''.still
-    OpaqueRelayConfig.the-type Laws''.the-copy Exit.yes; row = Rows.whole (Declared'.row OpaqueRelayConfig.the-type); rd = λ x. x; mk = λ x. x; } λ M
-    𝓤 H A W. record { copies = Laws'''''''''''''''.copy OpaqueRelayConfig.the-type Laws''.the-copy 𝓤 H A W; lawful = Laws'''''''''''''''.lawful
-    OpaqueRelayConfig.the-type Laws''.the-laws 𝓤 H A W; makes = Laws'''''''''''''''.makes OpaqueRelayConfig.the-type Laws''.the-plain 𝓤 H A; in-mem =
-    Local.mem-whole 𝓤 H A W (Declared'.row OpaqueRelayConfig.the-type); of-mem = Local.whole-mem 𝓤 H A W (Declared'.row OpaqueRelayConfig.the-type);
-    }) ∷ (Value.pVal record { ty = Declared'.row OpenGathered.the-type; one = Path.refl; val = Laws'''''''''''''''.val OpenGathered.the-type
-    Laws'''.the-laws; tells = Laws'''''''''''''''.tells OpenGathered.the-type Laws'''.the-laws; still = Laws'''''''''''''''.still
-    OpenGathered.the-type Laws'''.the-copy Exit.yes; row = Rows.whole (Declared'.row OpenGathered.the-type); rd = λ x. x; mk = λ x. x; } λ M 𝓤 H A W.
-    record { copies = Laws'''''''''''''''.copy OpenGathered.the-type Laws'''.the-copy 𝓤 H A W; lawful = Laws'''''''''''''''.lawful
-    OpenGathered.the-type Laws'''.the-laws 𝓤 H A W; makes = Laws'''''''''''''''.makes OpenGathered.the-type Laws'''.the-plain 𝓤 H A; in-mem =
-    Local.mem-whole 𝓤 H A W (Declared'.row OpenGathered.the-type); of-mem = Local.whole-mem 𝓤 H A W (Declared'.row OpenGathered.the-type); }) ∷
-    (Value.pVal record { ty = Declared'.row OpenPlan.the-type; one = Path.refl; val = Laws'''''''''''''''.val OpenPlan.the-type Laws''''.the-laws;
-    tells = Laws'''''''''''''''.tells OpenPlan.the-type Laws''''.the-laws; still = Laws'''''''''''''''.still OpenPlan.the-type Laws''''.the-copy
-    Exit.yes; row = Rows.whole (Declared'.row OpenPlan.the-type); rd = λ x. x; mk = λ x. x; } λ M 𝓤 H A W. record { copies = Laws'''''''''''''''.copy
-    OpenPlan.the-type Laws''''.the-copy 𝓤 H A W; lawful = Laws'''''''''''''''.lawful OpenPlan.the-type Laws''''.the-laws 𝓤 H A W; makes =
-    Laws'''''''''''''''.makes OpenPlan.the-type Laws''''.the-plain 𝓤 H A; in-mem = Local.mem-whole 𝓤 H A W (Declared'.row OpenPlan.the-type); of-mem =
-    Local.whole-mem 𝓤 H A W (Declared'.row OpenPlan.the-type); }) ∷ (Value.pVal record { ty = Declared'.row Drawing.the-type; one = Path.refl; val =
-    Laws'''''''''''''''.val Drawing.the-type Laws''''''''.the-laws; tells = Laws'''''''''''''''.tells Drawing.the-type Laws''''''''.the-laws; still =
-    Laws'''''''''''''''.still Drawing.the-type Laws''''''''.the-copy Exit.yes; row = Rows.whole (Declared'.row Drawing.the-type); rd = λ x. x; mk = λ
-    x. x; } λ M 𝓤 H A W. record { copies = Laws'''''''''''''''.copy Drawing.the-type Laws''''''''.the-copy 𝓤 H A W; lawful =
-    Laws'''''''''''''''.lawful Drawing.the-type Laws''''''''.the-laws 𝓤 H A W; makes = Laws'''''''''''''''.makes Drawing.the-type
-    Laws''''''''.the-plain 𝓤 H A; in-mem = Local.mem-whole 𝓤 H A W (Declared'.row Drawing.the-type); of-mem = Local.whole-mem 𝓤 H A W (Declared'.row
-    Drawing.the-type); }) ∷ (Value.pVal record { ty = Declared'.row ActionScan.the-type; one = Path.refl; val = Laws'''''''''''''''.val
-    ActionScan.the-type Laws'''''''.the-laws; tells = Laws'''''''''''''''.tells ActionScan.the-type Laws'''''''.the-laws; still =
-    Laws'''''''''''''''.still ActionScan.the-type Laws'''''''.the-copy Exit.yes; row = Rows.whole (Declared'.row ActionScan.the-type); rd = λ x. x; mk
-    = λ x. x; } λ M 𝓤 H A W. record { copies = Laws'''''''''''''''.copy ActionScan.the-type Laws'''''''.the-copy 𝓤 H A W; lawful =
-    Laws'''''''''''''''.lawful ActionScan.the-type Laws'''''''.the-laws 𝓤 H A W; makes = Laws'''''''''''''''.makes ActionScan.the-type
-    Laws'''''''.the-plain 𝓤 H A; in-mem = Local.mem-whole 𝓤 H A W (Declared'.row ActionScan.the-type); of-mem = Local.whole-mem 𝓤 H A W (Declared'.row
-    ActionScan.the-type); }) ∷ (Value.pVal record { ty = Declared'.row LedgerRoom.the-type; one = Path.refl; val = Laws'''''''''''''''.val
-    LedgerRoom.the-type Laws'''''''''.the-laws; tells = Laws'''''''''''''''.tells LedgerRoom.the-type Laws'''''''''.the-laws; still =
-    Laws'''''''''''''''.still LedgerRoom.the-type Laws'''''''''.the-copy Exit.yes; row = Rows.whole (Declared'.row LedgerRoom.the-type); rd = λ x. x;
-    mk = λ x. x; } λ M 𝓤 H A W. record { copies = Laws'''''''''''''''.copy LedgerRoom.the-type Laws'''''''''.the-copy 𝓤 H A W; lawful =
-    Laws'''''''''''''''.lawful LedgerRoom.the-type Laws'''''''''.the-laws 𝓤 H A W; makes = Laws'''''''''''''''.makes LedgerRoom.the-type
-    Laws'''''''''.the-plain 𝓤 H A; in-mem = Local.mem-whole 𝓤 H A W (Declared'.row LedgerRoom.the-type); of-mem = Local.whole-mem 𝓤 H A W
-    (Declared'.row LedgerRoom.the-type); }) ∷ List.[]
+ps·4 = (StructRow.param OpaqueRelayConfig.the-type Laws''.the-laws Laws''.the-copy Laws''.the-plain) ∷ (StructRow.param
+    OpenGathered.the-type Laws'''.the-laws Laws'''.the-copy Laws'''.the-plain) ∷ (StructRow.param OpenPlan.the-type
+    Laws''''.the-laws Laws''''.the-copy Laws''''.the-plain) ∷ (StructRow.param Drawing.the-type Laws''''''''.the-laws
+    Laws''''''''.the-copy Laws''''''''.the-plain) ∷ (StructRow.param ActionScan.the-type Laws'''''''.the-laws
+    Laws'''''''.the-copy Laws'''''''.the-plain) ∷ (StructRow.param LedgerRoom.the-type Laws'''''''''.the-laws
+    Laws'''''''''.the-copy Laws'''''''''.the-plain) ∷ List.[]
+
 abbrev pub r·4 : Kinds.RK 0
-r·4 = Value.rVal record { ty = Declared.row HnsrAnswer.the-type; one = Path.refl; val = Laws''''''''''''''.val HnsrAnswer.the-type Laws'.the-laws;
-    tells = Laws''''''''''''''.tells HnsrAnswer.the-type Laws'.the-laws; still = Laws''''''''''''''.still HnsrAnswer.the-type Laws'.the-copy Exit.yes;
-    row = Rows.whole (Declared.row HnsrAnswer.the-type); rd = λ x. x; mk = λ x. x; } λ M 𝓤 H A W. record { copies = Laws''''''''''''''.copy
-    HnsrAnswer.the-type Laws'.the-copy 𝓤 H A W; lawful = Laws''''''''''''''.lawful HnsrAnswer.the-type Laws'.the-laws 𝓤 H A W tt; makes =
-    Laws''''''''''''''.makes HnsrAnswer.the-type Laws'.the-plain 𝓤 H A; in-mem = Local.mem-whole 𝓤 H A W (Declared.row HnsrAnswer.the-type); of-mem =
-    Local.whole-mem 𝓤 H A W (Declared.row HnsrAnswer.the-type); }
+r·4 = StructRow.enum-result HnsrAnswer.the-type Laws'.the-laws Laws'.the-copy Laws'.the-plain tt
+
 abbrev pub ps·5 : List.List (Kinds.PK 0)
-ps·5 = (Value.pVal record { ty = Declared.row HnsrAnswer.the-type; one = Path.refl; val = Laws''''''''''''''.val HnsrAnswer.the-type Laws'.the-laws;
-    tells = Laws''''''''''''''.tells HnsrAnswer.the-type Laws'.the-laws; still = Laws''''''''''''''.still HnsrAnswer.the-type Laws'.the-copy Exit.yes;
-    row = Rows.whole (Declared.row HnsrAnswer.the-type); rd = λ x. x; mk = λ x. x; } λ M 𝓤 H A W. record { copies = Laws''''''''''''''.copy
-    HnsrAnswer.the-type Laws'.the-copy 𝓤 H A W; lawful = Laws''''''''''''''.lawful HnsrAnswer.the-type Laws'.the-laws 𝓤 H A W tt; makes =
-    Laws''''''''''''''.makes HnsrAnswer.the-type Laws'.the-plain 𝓤 H A; in-mem = Local.mem-whole 𝓤 H A W (Declared.row HnsrAnswer.the-type); of-mem =
-    Local.whole-mem 𝓤 H A W (Declared.row HnsrAnswer.the-type); }) ∷ List.[]
+ps·5 = (StructRow.enum-param HnsrAnswer.the-type Laws'.the-laws Laws'.the-copy Laws'.the-plain tt) ∷ List.[]
+
 abbrev pub r·5 : Kinds.RK 0
 r·5 = Bool.rBool
+
 abbrev pub ps·6 : List.List (Kinds.PK 0)
-ps·6 = (Value.pVal record { ty = Declared'.row LedgerRoom.the-type; one = Path.refl; val = Laws'''''''''''''''.val LedgerRoom.the-type
-    Laws'''''''''.the-laws; tells = Laws'''''''''''''''.tells LedgerRoom.the-type Laws'''''''''.the-laws; still = Laws'''''''''''''''.still
-    LedgerRoom.the-type Laws'''''''''.the-copy Exit.yes; row = Rows.whole (Declared'.row LedgerRoom.the-type); rd = λ x. x; mk = λ x. x; } λ M 𝓤 H A
-    W. record { copies = Laws'''''''''''''''.copy LedgerRoom.the-type Laws'''''''''.the-copy 𝓤 H A W; lawful = Laws'''''''''''''''.lawful
-    LedgerRoom.the-type Laws'''''''''.the-laws 𝓤 H A W; makes = Laws'''''''''''''''.makes LedgerRoom.the-type Laws'''''''''.the-plain 𝓤 H A; in-mem =
-    Local.mem-whole 𝓤 H A W (Declared'.row LedgerRoom.the-type); of-mem = Local.whole-mem 𝓤 H A W (Declared'.row LedgerRoom.the-type); }) ∷
-    (Value.pVal record { ty = Declared'.row RelayTicket.the-type; one = Path.refl; val = Laws'''''''''''''''.val RelayTicket.the-type
-    Laws'''''''''''.the-laws; tells = Laws'''''''''''''''.tells RelayTicket.the-type Laws'''''''''''.the-laws; still = Laws'''''''''''''''.still
-    RelayTicket.the-type Laws'''''''''''.the-copy Exit.yes; row = Rows.whole (Declared'.row RelayTicket.the-type); rd = λ x. x; mk = λ x. x; } λ M 𝓤 H
-    A W. record { copies = Laws'''''''''''''''.copy RelayTicket.the-type Laws'''''''''''.the-copy 𝓤 H A W; lawful = Laws'''''''''''''''.lawful
-    RelayTicket.the-type Laws'''''''''''.the-laws 𝓤 H A W; makes = Laws'''''''''''''''.makes RelayTicket.the-type Laws'''''''''''.the-plain 𝓤 H A;
-    in-mem = Local.mem-whole 𝓤 H A W (Declared'.row RelayTicket.the-type); of-mem = Local.whole-mem 𝓤 H A W (Declared'.row RelayTicket.the-type); }) ∷
-    List.[]
+ps·6 = (StructRow.param LedgerRoom.the-type Laws'''''''''.the-laws Laws'''''''''.the-copy Laws'''''''''.the-plain) ∷ (StructRow.param
+    RelayTicket.the-type Laws'''''''''''.the-laws Laws'''''''''''.the-copy Laws'''''''''''.the-plain) ∷ List.[]
+
 abbrev pub r·6 : Kinds.RK 0
 r·6 = ReservationUsage.result
+
 abbrev pub ps·7 : List.List (Kinds.PK 0)
-ps·7 = (Value.pVal record { ty = Declared'.row LedgerRoom.the-type; one = Path.refl; val = Laws'''''''''''''''.val LedgerRoom.the-type
-    Laws'''''''''.the-laws; tells = Laws'''''''''''''''.tells LedgerRoom.the-type Laws'''''''''.the-laws; still = Laws'''''''''''''''.still
-    LedgerRoom.the-type Laws'''''''''.the-copy Exit.yes; row = Rows.whole (Declared'.row LedgerRoom.the-type); rd = λ x. x; mk = λ x. x; } λ M 𝓤 H A
-    W. record { copies = Laws'''''''''''''''.copy LedgerRoom.the-type Laws'''''''''.the-copy 𝓤 H A W; lawful = Laws'''''''''''''''.lawful
-    LedgerRoom.the-type Laws'''''''''.the-laws 𝓤 H A W; makes = Laws'''''''''''''''.makes LedgerRoom.the-type Laws'''''''''.the-plain 𝓤 H A; in-mem =
-    Local.mem-whole 𝓤 H A W (Declared'.row LedgerRoom.the-type); of-mem = Local.whole-mem 𝓤 H A W (Declared'.row LedgerRoom.the-type); }) ∷ List.[]
+ps·7 = (StructRow.param LedgerRoom.the-type Laws'''''''''.the-laws Laws'''''''''.the-copy Laws'''''''''.the-plain) ∷
+    List.[]
+
 abbrev pub r·7 : Kinds.RK 0
 r·7 = Num.rNum Syntax.w64
+
 abbrev pub ps·8 : List.List (Kinds.PK 1)
-ps·8 = (MutSlice.pMutS ReservationUsage.row 0 tt) ∷ Bool.pBool ∷ (Num.pNum Syntax.w64) ∷ ReservationUsage.param ∷ List.[]
+ps·8 = (MutSlice.pMutS ReservationUsage.row 0 tt) ∷ Bool.pBool ∷ (Num.pNum Syntax.w64) ∷ ReservationUsage.param ∷
+    List.[]
+
 abbrev pub r·8 : Kinds.RK 1
 r·8 = Unit.rUnit
+
 abbrev pub ps·9 : List.List (Kinds.PK 0)
 ps·9 = (Num.pNum Syntax.w64) ∷ Bool.pBool ∷ (Num.pNum Syntax.w64) ∷ (Num.pNum Syntax.w64) ∷ List.[]
+
 abbrev pub r·9 : Kinds.RK 0
 r·9 = Num.rNum Syntax.w64
+
 abbrev pub ps·10 : List.List (Kinds.PK 0)
-ps·10 = (Value.pVal record { ty = Declared'.row Places.the-type; one = Path.refl; val = Laws'''''''''''''''.val Places.the-type Laws'''''.the-laws;
-    tells = Laws'''''''''''''''.tells Places.the-type Laws'''''.the-laws; still = Laws'''''''''''''''.still Places.the-type Laws'''''.the-copy
-    Exit.yes; row = Rows.whole (Declared'.row Places.the-type); rd = λ x. x; mk = λ x. x; } λ M 𝓤 H A W. record { copies = Laws'''''''''''''''.copy
-    Places.the-type Laws'''''.the-copy 𝓤 H A W; lawful = Laws'''''''''''''''.lawful Places.the-type Laws'''''.the-laws 𝓤 H A W; makes =
-    Laws'''''''''''''''.makes Places.the-type Laws'''''.the-plain 𝓤 H A; in-mem = Local.mem-whole 𝓤 H A W (Declared'.row Places.the-type); of-mem =
-    Local.whole-mem 𝓤 H A W (Declared'.row Places.the-type); }) ∷ (Num.pNum Syntax.w64) ∷ List.[]
+ps·10 = (StructRow.param Places.the-type Laws'''''.the-laws Laws'''''.the-copy Laws'''''.the-plain) ∷
+    (Num.pNum Syntax.w64) ∷ List.[]
+
 abbrev pub r·10 : Kinds.RK 0
-r·10 = Value.rVal record { ty = Declared'.row Places.the-type; one = Path.refl; val = Laws'''''''''''''''.val Places.the-type Laws'''''.the-laws;
-    tells = Laws'''''''''''''''.tells Places.the-type Laws'''''.the-laws; still = Laws'''''''''''''''.still Places.the-type Laws'''''.the-copy
-    Exit.yes; row = Rows.whole (Declared'.row Places.the-type); rd = λ x. x; mk = λ x. x; } λ M 𝓤 H A W. record { copies = Laws'''''''''''''''.copy
-    Places.the-type Laws'''''.the-copy 𝓤 H A W; lawful = Laws'''''''''''''''.lawful Places.the-type Laws'''''.the-laws 𝓤 H A W; makes =
-    Laws'''''''''''''''.makes Places.the-type Laws'''''.the-plain 𝓤 H A; in-mem = Local.mem-whole 𝓤 H A W (Declared'.row Places.the-type); of-mem =
-    Local.whole-mem 𝓤 H A W (Declared'.row Places.the-type); }
+r·10 = StructRow.result Places.the-type Laws'''''.the-laws Laws'''''.the-copy Laws'''''.the-plain
+
 abbrev pub ps·11 : List.List (Kinds.PK 3)
-ps·11 = (MutSlice.pMutS RelayPending.row 0 tt) ∷ (MutSlice.pMutS InflightAction.row 1 tt) ∷ (MutSlice.pMutS (Referent.rtF (Referent.fInt Syntax.w32))
-    2 tt) ∷ (Value.pVal record { ty = Declared'.row OpaqueRelayRuntime.the-type; one = Path.refl; val = Laws'''''''''''''''.val
-    OpaqueRelayRuntime.the-type Laws''''''''''''.the-laws; tells = Laws'''''''''''''''.tells OpaqueRelayRuntime.the-type Laws''''''''''''.the-laws;
-    still = Laws'''''''''''''''.still OpaqueRelayRuntime.the-type Laws''''''''''''.the-copy Exit.yes; row = Rows.whole (Declared'.row
-    OpaqueRelayRuntime.the-type); rd = λ x. x; mk = λ x. x; } λ M 𝓤 H A W. record { copies = Laws'''''''''''''''.copy OpaqueRelayRuntime.the-type
-    Laws''''''''''''.the-copy 𝓤 H A W; lawful = Laws'''''''''''''''.lawful OpaqueRelayRuntime.the-type Laws''''''''''''.the-laws 𝓤 H A W; makes =
-    Laws'''''''''''''''.makes OpaqueRelayRuntime.the-type Laws''''''''''''.the-plain 𝓤 H A; in-mem = Local.mem-whole 𝓤 H A W (Declared'.row
-    OpaqueRelayRuntime.the-type); of-mem = Local.whole-mem 𝓤 H A W (Declared'.row OpaqueRelayRuntime.the-type); }) ∷ (Value.pVal record { ty =
-    Declared'.row Places.the-type; one = Path.refl; val = Laws'''''''''''''''.val Places.the-type Laws'''''.the-laws; tells =
-    Laws'''''''''''''''.tells Places.the-type Laws'''''.the-laws; still = Laws'''''''''''''''.still Places.the-type Laws'''''.the-copy Exit.yes; row =
-    Rows.whole (Declared'.row Places.the-type); rd = λ x. x; mk = λ x. x; } λ M 𝓤 H A W. record { copies = Laws'''''''''''''''.copy Places.the-type
-    Laws'''''.the-copy 𝓤 H A W; lawful = Laws'''''''''''''''.lawful Places.the-type Laws'''''.the-laws 𝓤 H A W; makes = Laws'''''''''''''''.makes
-    Places.the-type Laws'''''.the-plain 𝓤 H A; in-mem = Local.mem-whole 𝓤 H A W (Declared'.row Places.the-type); of-mem = Local.whole-mem 𝓤 H A W
-    (Declared'.row Places.the-type); }) ∷ (Value.pVal record { ty = Declared'.row OpenPlan.the-type; one = Path.refl; val = Laws'''''''''''''''.val
-    OpenPlan.the-type Laws''''.the-laws; tells = Laws'''''''''''''''.tells OpenPlan.the-type Laws''''.the-laws; still = Laws'''''''''''''''.still
-    OpenPlan.the-type Laws''''.the-copy Exit.yes; row = Rows.whole (Declared'.row OpenPlan.the-type); rd = λ x. x; mk = λ x. x; } λ M 𝓤 H A W. record
-    { copies = Laws'''''''''''''''.copy OpenPlan.the-type Laws''''.the-copy 𝓤 H A W; lawful = Laws'''''''''''''''.lawful OpenPlan.the-type
-    Laws''''.the-laws 𝓤 H A W; makes = Laws'''''''''''''''.makes OpenPlan.the-type Laws''''.the-plain 𝓤 H A; in-mem = Local.mem-whole 𝓤 H A W
-    (Declared'.row OpenPlan.the-type); of-mem = Local.whole-mem 𝓤 H A W (Declared'.row OpenPlan.the-type); }) ∷ ReservationUsage.param ∷ (Value.pVal
-    record { ty = Declared'.row ActionScan.the-type; one = Path.refl; val = Laws'''''''''''''''.val ActionScan.the-type Laws'''''''.the-laws; tells =
-    Laws'''''''''''''''.tells ActionScan.the-type Laws'''''''.the-laws; still = Laws'''''''''''''''.still ActionScan.the-type Laws'''''''.the-copy
-    Exit.yes; row = Rows.whole (Declared'.row ActionScan.the-type); rd = λ x. x; mk = λ x. x; } λ M 𝓤 H A W. record { copies =
-    Laws'''''''''''''''.copy ActionScan.the-type Laws'''''''.the-copy 𝓤 H A W; lawful = Laws'''''''''''''''.lawful ActionScan.the-type
-    Laws'''''''.the-laws 𝓤 H A W; makes = Laws'''''''''''''''.makes ActionScan.the-type Laws'''''''.the-plain 𝓤 H A; in-mem = Local.mem-whole 𝓤 H A W
-    (Declared'.row ActionScan.the-type); of-mem = Local.whole-mem 𝓤 H A W (Declared'.row ActionScan.the-type); }) ∷ List.[]
+ps·11 = (MutSlice.pMutS RelayPending.row 0 tt) ∷ (MutSlice.pMutS InflightAction.row 1 tt) ∷ (MutSlice.pMutS
+    (Referent.rtF (Referent.fInt Syntax.w32)) 2 tt) ∷ (StructRow.param OpaqueRelayRuntime.the-type
+    Laws''''''''''''.the-laws Laws''''''''''''.the-copy Laws''''''''''''.the-plain) ∷ (StructRow.param Places.the-type
+    Laws'''''.the-laws Laws'''''.the-copy Laws'''''.the-plain) ∷ (StructRow.param OpenPlan.the-type Laws''''.the-laws
+    Laws''''.the-copy Laws''''.the-plain) ∷ ReservationUsage.param ∷ (StructRow.param ActionScan.the-type
+    Laws'''''''.the-laws Laws'''''''.the-copy Laws'''''''.the-plain) ∷ List.[]
+
 abbrev pub r·11 : Kinds.RK 3
-r·11 = Value.rVal record { ty = Declared'.row Relayed.the-type; one = Path.refl; val = Laws'''''''''''''''.val Relayed.the-type
-    Laws'''''''''''''.the-laws; tells = Laws'''''''''''''''.tells Relayed.the-type Laws'''''''''''''.the-laws; still = Laws'''''''''''''''.still
-    Relayed.the-type Laws'''''''''''''.the-copy Exit.yes; row = Rows.whole (Declared'.row Relayed.the-type); rd = λ x. x; mk = λ x. x; } λ M 𝓤 H A W.
-    record { copies = Laws'''''''''''''''.copy Relayed.the-type Laws'''''''''''''.the-copy 𝓤 H A W; lawful = Laws'''''''''''''''.lawful
-    Relayed.the-type Laws'''''''''''''.the-laws 𝓤 H A W; makes = Laws'''''''''''''''.makes Relayed.the-type Laws'''''''''''''.the-plain 𝓤 H A; in-mem
-    = Local.mem-whole 𝓤 H A W (Declared'.row Relayed.the-type); of-mem = Local.whole-mem 𝓤 H A W (Declared'.row Relayed.the-type); }
+r·11 = StructRow.result Relayed.the-type Laws'''''''''''''.the-laws Laws'''''''''''''.the-copy
+    Laws'''''''''''''.the-plain
+
 abbrev pub ps·12 : List.List (Kinds.PK 0)
-ps·12 = (Value.pVal record { ty = Declared'.row OpaqueRelayRuntime.the-type; one = Path.refl; val = Laws'''''''''''''''.val
-    OpaqueRelayRuntime.the-type Laws''''''''''''.the-laws; tells = Laws'''''''''''''''.tells OpaqueRelayRuntime.the-type Laws''''''''''''.the-laws;
-    still = Laws'''''''''''''''.still OpaqueRelayRuntime.the-type Laws''''''''''''.the-copy Exit.yes; row = Rows.whole (Declared'.row
-    OpaqueRelayRuntime.the-type); rd = λ x. x; mk = λ x. x; } λ M 𝓤 H A W. record { copies = Laws'''''''''''''''.copy OpaqueRelayRuntime.the-type
-    Laws''''''''''''.the-copy 𝓤 H A W; lawful = Laws'''''''''''''''.lawful OpaqueRelayRuntime.the-type Laws''''''''''''.the-laws 𝓤 H A W; makes =
-    Laws'''''''''''''''.makes OpaqueRelayRuntime.the-type Laws''''''''''''.the-plain 𝓤 H A; in-mem = Local.mem-whole 𝓤 H A W (Declared'.row
-    OpaqueRelayRuntime.the-type); of-mem = Local.whole-mem 𝓤 H A W (Declared'.row OpaqueRelayRuntime.the-type); }) ∷ (Value.pVal record { ty =
-    Declared'.row Places.the-type; one = Path.refl; val = Laws'''''''''''''''.val Places.the-type Laws'''''.the-laws; tells =
-    Laws'''''''''''''''.tells Places.the-type Laws'''''.the-laws; still = Laws'''''''''''''''.still Places.the-type Laws'''''.the-copy Exit.yes; row =
-    Rows.whole (Declared'.row Places.the-type); rd = λ x. x; mk = λ x. x; } λ M 𝓤 H A W. record { copies = Laws'''''''''''''''.copy Places.the-type
-    Laws'''''.the-copy 𝓤 H A W; lawful = Laws'''''''''''''''.lawful Places.the-type Laws'''''.the-laws 𝓤 H A W; makes = Laws'''''''''''''''.makes
-    Places.the-type Laws'''''.the-plain 𝓤 H A; in-mem = Local.mem-whole 𝓤 H A W (Declared'.row Places.the-type); of-mem = Local.whole-mem 𝓤 H A W
-    (Declared'.row Places.the-type); }) ∷ (Value.pVal record { ty = Declared.row HnsrAnswer.the-type; one = Path.refl; val = Laws''''''''''''''.val
-    HnsrAnswer.the-type Laws'.the-laws; tells = Laws''''''''''''''.tells HnsrAnswer.the-type Laws'.the-laws; still = Laws''''''''''''''.still
-    HnsrAnswer.the-type Laws'.the-copy Exit.yes; row = Rows.whole (Declared.row HnsrAnswer.the-type); rd = λ x. x; mk = λ x. x; } λ M 𝓤 H A W. record
-    { copies = Laws''''''''''''''.copy HnsrAnswer.the-type Laws'.the-copy 𝓤 H A W; lawful = Laws''''''''''''''.lawful HnsrAnswer.the-type
-    Laws'.the-laws 𝓤 H A W tt; makes = Laws''''''''''''''.makes HnsrAnswer.the-type Laws'.the-plain 𝓤 H A; in-mem = Local.mem-whole 𝓤 H A W
-    (Declared.row HnsrAnswer.the-type); of-mem = Local.whole-mem 𝓤 H A W (Declared.row HnsrAnswer.the-type); }) ∷ List.[]
+ps·12 = (StructRow.param OpaqueRelayRuntime.the-type Laws''''''''''''.the-laws Laws''''''''''''.the-copy
+    Laws''''''''''''.the-plain) ∷ (StructRow.param Places.the-type Laws'''''.the-laws Laws'''''.the-copy
+    Laws'''''.the-plain) ∷ (StructRow.enum-param HnsrAnswer.the-type Laws'.the-laws Laws'.the-copy Laws'.the-plain tt)
+    ∷ List.[]
+
 abbrev pub r·12 : Kinds.RK 0
-r·12 = Value.rVal record { ty = Declared'.row Relayed.the-type; one = Path.refl; val = Laws'''''''''''''''.val Relayed.the-type
-    Laws'''''''''''''.the-laws; tells = Laws'''''''''''''''.tells Relayed.the-type Laws'''''''''''''.the-laws; still = Laws'''''''''''''''.still
-    Relayed.the-type Laws'''''''''''''.the-copy Exit.yes; row = Rows.whole (Declared'.row Relayed.the-type); rd = λ x. x; mk = λ x. x; } λ M 𝓤 H A W.
-    record { copies = Laws'''''''''''''''.copy Relayed.the-type Laws'''''''''''''.the-copy 𝓤 H A W; lawful = Laws'''''''''''''''.lawful
-    Relayed.the-type Laws'''''''''''''.the-laws 𝓤 H A W; makes = Laws'''''''''''''''.makes Relayed.the-type Laws'''''''''''''.the-plain 𝓤 H A; in-mem
-    = Local.mem-whole 𝓤 H A W (Declared'.row Relayed.the-type); of-mem = Local.whole-mem 𝓤 H A W (Declared'.row Relayed.the-type); }
+r·12 = StructRow.result Relayed.the-type Laws'''''''''''''.the-laws Laws'''''''''''''.the-copy
+    Laws'''''''''''''.the-plain
+
 abbrev pub hs : List.List Syntax.Home
-hs = Syntax.valueLocal ∷ Syntax.valueLocal ∷ Syntax.valueLocal ∷ Syntax.valueLocal ∷ Syntax.valueLocal ∷ Syntax.valueLocal ∷ Syntax.valueLocal ∷
-    Syntax.valueLocal ∷ Syntax.valueLocal ∷ Syntax.valueLocal ∷ Syntax.valueLocal ∷ Syntax.valueLocal ∷ Syntax.valueLocal ∷ Syntax.valueLocal ∷
-    Syntax.valueLocal ∷ Syntax.valueLocal ∷ Syntax.valueLocal ∷ Syntax.valueLocal ∷ Syntax.valueLocal ∷ Syntax.valueLocal ∷ Syntax.valueLocal ∷
-    Syntax.valueLocal ∷ Syntax.valueLocal ∷ Syntax.valueLocal ∷ Syntax.valueLocal ∷ Syntax.valueLocal ∷ Syntax.valueLocal ∷ Syntax.valueLocal ∷
-    Syntax.valueLocal ∷ Syntax.valueLocal ∷ Syntax.valueLocal ∷ Syntax.valueLocal ∷ Syntax.valueLocal ∷ Syntax.valueLocal ∷ Syntax.valueLocal ∷
+hs = Syntax.valueLocal ∷ Syntax.valueLocal ∷ Syntax.valueLocal ∷ Syntax.valueLocal ∷ Syntax.valueLocal ∷
+    Syntax.valueLocal ∷ Syntax.valueLocal ∷ Syntax.valueLocal ∷ Syntax.valueLocal ∷ Syntax.valueLocal ∷
+    Syntax.valueLocal ∷ Syntax.valueLocal ∷ Syntax.valueLocal ∷ Syntax.valueLocal ∷ Syntax.valueLocal ∷
+    Syntax.valueLocal ∷ Syntax.valueLocal ∷ Syntax.valueLocal ∷ Syntax.valueLocal ∷ Syntax.valueLocal ∷
+    Syntax.valueLocal ∷ Syntax.valueLocal ∷ Syntax.valueLocal ∷ Syntax.valueLocal ∷ Syntax.valueLocal ∷
+    Syntax.valueLocal ∷ Syntax.valueLocal ∷ Syntax.valueLocal ∷ Syntax.valueLocal ∷ Syntax.valueLocal ∷
+    Syntax.valueLocal ∷ Syntax.valueLocal ∷ Syntax.valueLocal ∷ Syntax.valueLocal ∷ Syntax.valueLocal ∷
     Syntax.valueLocal ∷ Syntax.valueLocal ∷ List.[]
+
 abbrev b0 : Syntax.Body
 b0 = Syntax.assign (Syntax.place 10 List.[]) (Syntax.rvOpd (Syntax.copy (Syntax.place 2 ((Syntax.field 1) ∷ List.[]))))
+
 abbrev b1 : Syntax.Body
 b1 = Syntax.assign (Syntax.place 11 List.[]) (Syntax.rvOpd (Syntax.copy (Syntax.place 5 ((Syntax.field 4) ∷ List.[]))))
+
 abbrev b2 : Syntax.Body
 b2 = Syntax.assign (Syntax.place 12 List.[]) (Syntax.rvOpd (Syntax.copy (Syntax.place 9 ((Syntax.field 4) ∷ List.[]))))
+
 abbrev b3 : Syntax.Body
 b3 = Syntax.assign (Syntax.place 13 List.[]) (Syntax.rvOpd (Syntax.copy (Syntax.place 12 ((Syntax.field 0) ∷ List.[]))))
+
 abbrev b4 : Syntax.Body
-b4 = Syntax.call "hnsr_circuit::open::incoming_out" ((Syntax.copy (Syntax.place 9 List.[])) ∷ List.[]) (Syntax.place 14 List.[])
+b4 = Syntax.call "hnsr_circuit::open::incoming_out" ((Syntax.copy (Syntax.place 9 List.[])) ∷ List.[])
+    (Syntax.place 14 List.[])
+
 abbrev b5 : Syntax.Body
-b5 = Syntax.call "hnsr_circuit::queue::asking" ((Syntax.copy (Syntax.place 5 List.[])) ∷ (Syntax.copy (Syntax.place 14 List.[])) ∷ List.[])
-    (Syntax.place 15 List.[])
+b5 = Syntax.call "hnsr_circuit::queue::asking" ((Syntax.copy (Syntax.place 5 List.[])) ∷
+    (Syntax.copy (Syntax.place 14 List.[])) ∷ List.[]) (Syntax.place 15 List.[])
+
 abbrev b6 : Syntax.Body
-b6 = Syntax.assign (Syntax.place 23 List.[]) (Syntax.addrOf (Syntax.place 3 ((Syntax.field 0) ∷ (Syntax.deref InflightAction.ty) ∷ List.[])))
+b6 = Syntax.assign (Syntax.place 23 List.[]) (Syntax.addrOf (Syntax.place 3 ((Syntax.field 0) ∷
+    (Syntax.deref InflightAction.ty) ∷ List.[])))
+
 abbrev b7 : Syntax.Body
-b7 = Syntax.assign (Syntax.place 24 List.[]) (Syntax.aggregate ((Syntax.copy (Syntax.place 23 List.[])) ∷ (Syntax.copy (Syntax.place 3 ((Syntax.field
-    1) ∷ List.[]))) ∷ List.[]))
+b7 = Syntax.assign (Syntax.place 24 List.[]) (Syntax.aggregate ((Syntax.copy (Syntax.place 23 List.[])) ∷
+    (Syntax.copy (Syntax.place 3 ((Syntax.field 1) ∷ List.[]))) ∷ List.[]))
+
 abbrev b8 : Syntax.Body
-b8 = Syntax.call "hnsr_circuit::tables::inflight::scan_actions" ((Syntax.copy (Syntax.place 24 List.[])) ∷ (Syntax.copy (Syntax.place 6 List.[])) ∷
-    (Syntax.copy (Syntax.place 15 List.[])) ∷ List.[]) (Syntax.place 16 List.[])
+b8 = Syntax.call "hnsr_circuit::tables::inflight::scan_actions" ((Syntax.copy (Syntax.place 24 List.[])) ∷
+    (Syntax.copy (Syntax.place 6 List.[])) ∷ (Syntax.copy (Syntax.place 15 List.[])) ∷ List.[])
+    (Syntax.place 16 List.[])
+
 abbrev b9 : Syntax.Body
-b9 = Syntax.assign (Syntax.place 25 List.[]) (Syntax.addrOf (Syntax.place 2 ((Syntax.field 0) ∷ (Syntax.deref ReservationUsage.ty) ∷ List.[])))
+b9 = Syntax.assign (Syntax.place 25 List.[]) (Syntax.addrOf (Syntax.place 2 ((Syntax.field 0) ∷
+    (Syntax.deref ReservationUsage.ty) ∷ List.[])))
+
 abbrev b10 : Syntax.Body
-b10 = Syntax.assign (Syntax.place 26 List.[]) (Syntax.aggregate ((Syntax.copy (Syntax.place 25 List.[])) ∷ (Syntax.copy (Syntax.place 2 ((Syntax.field
-    1) ∷ List.[]))) ∷ List.[]))
+b10 = Syntax.assign (Syntax.place 26 List.[]) (Syntax.aggregate ((Syntax.copy (Syntax.place 25 List.[])) ∷
+    (Syntax.copy (Syntax.place 2 ((Syntax.field 1) ∷ List.[]))) ∷ List.[]))
+
 abbrev b11 : Syntax.Body
-b11 = Syntax.call "hnsr_circuit::tables::ledger::scan_ledger" ((Syntax.copy (Syntax.place 26 List.[])) ∷ (Syntax.copy (Syntax.place 6 List.[])) ∷
-    (Syntax.copy (Syntax.place 13 List.[])) ∷ List.[]) (Syntax.place 17 List.[])
+b11 = Syntax.call "hnsr_circuit::tables::ledger::scan_ledger" ((Syntax.copy (Syntax.place 26 List.[])) ∷
+    (Syntax.copy (Syntax.place 6 List.[])) ∷ (Syntax.copy (Syntax.place 13 List.[])) ∷ List.[])
+    (Syntax.place 17 List.[])
+
 abbrev b12 : Syntax.Body
-b12 = Syntax.call "hnsr_circuit::open::placed_rows" ((Syntax.copy (Syntax.place 11 List.[])) ∷ (Syntax.copy (Syntax.place 7 List.[])) ∷ (Syntax.copy
-    (Syntax.place 9 List.[])) ∷ (Syntax.copy (Syntax.place 8 List.[])) ∷ (Syntax.copy (Syntax.place 16 List.[])) ∷ (Syntax.copy (Syntax.place 17
-    List.[])) ∷ List.[]) (Syntax.place 18 List.[])
+b12 = Syntax.call "hnsr_circuit::open::placed_rows" ((Syntax.copy (Syntax.place 11 List.[])) ∷
+    (Syntax.copy (Syntax.place 7 List.[])) ∷ (Syntax.copy (Syntax.place 9 List.[])) ∷
+    (Syntax.copy (Syntax.place 8 List.[])) ∷ (Syntax.copy (Syntax.place 16 List.[])) ∷
+    (Syntax.copy (Syntax.place 17 List.[])) ∷ List.[]) (Syntax.place 18 List.[])
+
 abbrev b13 : Syntax.Body
-b13 = Syntax.call "hnsr_circuit::answer::is_taken" ((Syntax.copy (Syntax.place 18 List.[])) ∷ List.[]) (Syntax.place 27 List.[])
+b13 = Syntax.call "hnsr_circuit::answer::is_taken" ((Syntax.copy (Syntax.place 18 List.[])) ∷ List.[])
+    (Syntax.place 27 List.[])
+
 abbrev b14 : Syntax.Body
-b14 = Syntax.call "hnsr_circuit::open::booked_usage" ((Syntax.copy (Syntax.place 17 List.[])) ∷ (Syntax.copy (Syntax.place 12 List.[])) ∷ List.[])
-    (Syntax.place 19 List.[])
+b14 = Syntax.call "hnsr_circuit::open::booked_usage" ((Syntax.copy (Syntax.place 17 List.[])) ∷
+    (Syntax.copy (Syntax.place 12 List.[])) ∷ List.[]) (Syntax.place 19 List.[])
+
 abbrev b15 : Syntax.Body
-b15 = Syntax.call "hnsr_circuit::open::booked_place" ((Syntax.copy (Syntax.place 17 List.[])) ∷ List.[]) (Syntax.place 20 List.[])
+b15 = Syntax.call "hnsr_circuit::open::booked_place" ((Syntax.copy (Syntax.place 17 List.[])) ∷ List.[])
+    (Syntax.place 20 List.[])
+
 abbrev b16 : Syntax.Body
-b16 = Syntax.assign (Syntax.place 29 List.[]) (Syntax.addrOf (Syntax.place 2 ((Syntax.field 0) ∷ (Syntax.deref ReservationUsage.ty) ∷ List.[])))
+b16 = Syntax.assign (Syntax.place 29 List.[]) (Syntax.addrOf (Syntax.place 2 ((Syntax.field 0) ∷
+    (Syntax.deref ReservationUsage.ty) ∷ List.[])))
+
 abbrev b17 : Syntax.Body
-b17 = Syntax.assign (Syntax.place 30 List.[]) (Syntax.aggregate ((Syntax.copy (Syntax.place 29 List.[])) ∷ (Syntax.copy (Syntax.place 2 ((Syntax.field
-    1) ∷ List.[]))) ∷ List.[]))
+b17 = Syntax.assign (Syntax.place 30 List.[]) (Syntax.aggregate ((Syntax.copy (Syntax.place 29 List.[])) ∷
+    (Syntax.copy (Syntax.place 2 ((Syntax.field 1) ∷ List.[]))) ∷ List.[]))
+
 abbrev b18 : Syntax.Body
-b18 = Syntax.call "hnsr_circuit::tables::ledger::set_usage" ((Syntax.copy (Syntax.place 30 List.[])) ∷ Syntax.opdTrue ∷ (Syntax.copy (Syntax.place 20
-    List.[])) ∷ (Syntax.copy (Syntax.place 19 List.[])) ∷ List.[]) (Syntax.place 28 List.[])
+b18 = Syntax.call "hnsr_circuit::tables::ledger::set_usage" ((Syntax.copy (Syntax.place 30 List.[])) ∷ Syntax.opdTrue ∷
+    (Syntax.copy (Syntax.place 20 List.[])) ∷ (Syntax.copy (Syntax.place 19 List.[])) ∷ List.[])
+    (Syntax.place 28 List.[])
+
 abbrev b19 : Syntax.Body
-b19 = Syntax.call "hnsr_circuit::places::raised" ((Syntax.copy (Syntax.place 6 ((Syntax.field 2) ∷ List.[]))) ∷ Syntax.opdTrue ∷ (Syntax.copy
-    (Syntax.place 20 List.[])) ∷ (Syntax.copy (Syntax.place 10 List.[])) ∷ List.[]) (Syntax.place 21 List.[])
+b19 = Syntax.call "hnsr_circuit::places::raised" ((Syntax.copy (Syntax.place 6 ((Syntax.field 2) ∷ List.[]))) ∷
+    Syntax.opdTrue ∷ (Syntax.copy (Syntax.place 20 List.[])) ∷ (Syntax.copy (Syntax.place 10 List.[])) ∷ List.[])
+    (Syntax.place 21 List.[])
+
 abbrev b20 : Syntax.Body
-b20 = Syntax.call "hnsr_circuit::places::with_ledger" ((Syntax.copy (Syntax.place 6 List.[])) ∷ (Syntax.copy (Syntax.place 21 List.[])) ∷ List.[])
-    (Syntax.place 22 List.[])
+b20 = Syntax.call "hnsr_circuit::places::with_ledger" ((Syntax.copy (Syntax.place 6 List.[])) ∷
+    (Syntax.copy (Syntax.place 21 List.[])) ∷ List.[]) (Syntax.place 22 List.[])
+
 abbrev b21 : Syntax.Body
-b21 = Syntax.assign (Syntax.place 31 List.[]) (Syntax.addrOf (Syntax.place 1 ((Syntax.field 0) ∷ (Syntax.deref RelayPending.ty) ∷ List.[])))
+b21 = Syntax.assign (Syntax.place 31 List.[]) (Syntax.addrOf (Syntax.place 1 ((Syntax.field 0) ∷
+    (Syntax.deref RelayPending.ty) ∷ List.[])))
+
 abbrev b22 : Syntax.Body
-b22 = Syntax.assign (Syntax.place 32 List.[]) (Syntax.aggregate ((Syntax.copy (Syntax.place 31 List.[])) ∷ (Syntax.copy (Syntax.place 1 ((Syntax.field
-    1) ∷ List.[]))) ∷ List.[]))
+b22 = Syntax.assign (Syntax.place 32 List.[]) (Syntax.aggregate ((Syntax.copy (Syntax.place 31 List.[])) ∷
+    (Syntax.copy (Syntax.place 1 ((Syntax.field 1) ∷ List.[]))) ∷ List.[]))
+
 abbrev b23 : Syntax.Body
-b23 = Syntax.assign (Syntax.place 33 List.[]) (Syntax.addrOf (Syntax.place 3 ((Syntax.field 0) ∷ (Syntax.deref InflightAction.ty) ∷ List.[])))
+b23 = Syntax.assign (Syntax.place 33 List.[]) (Syntax.addrOf (Syntax.place 3 ((Syntax.field 0) ∷
+    (Syntax.deref InflightAction.ty) ∷ List.[])))
+
 abbrev b24 : Syntax.Body
-b24 = Syntax.assign (Syntax.place 34 List.[]) (Syntax.aggregate ((Syntax.copy (Syntax.place 33 List.[])) ∷ (Syntax.copy (Syntax.place 3 ((Syntax.field
-    1) ∷ List.[]))) ∷ List.[]))
+b24 = Syntax.assign (Syntax.place 34 List.[]) (Syntax.aggregate ((Syntax.copy (Syntax.place 33 List.[])) ∷
+    (Syntax.copy (Syntax.place 3 ((Syntax.field 1) ∷ List.[]))) ∷ List.[]))
+
 abbrev b25 : Syntax.Body
-b25 = Syntax.assign (Syntax.place 35 List.[]) (Syntax.addrOf (Syntax.place 4 ((Syntax.field 0) ∷ (Syntax.deref (Syntax.tyInt Syntax.w32)) ∷ List.[])))
+b25 = Syntax.assign (Syntax.place 35 List.[]) (Syntax.addrOf (Syntax.place 4 ((Syntax.field 0) ∷
+    (Syntax.deref (Syntax.tyInt Syntax.w32)) ∷ List.[])))
+
 abbrev b26 : Syntax.Body
-b26 = Syntax.assign (Syntax.place 36 List.[]) (Syntax.aggregate ((Syntax.copy (Syntax.place 35 List.[])) ∷ (Syntax.copy (Syntax.place 4 ((Syntax.field
-    1) ∷ List.[]))) ∷ List.[]))
+b26 = Syntax.assign (Syntax.place 36 List.[]) (Syntax.aggregate ((Syntax.copy (Syntax.place 35 List.[])) ∷
+    (Syntax.copy (Syntax.place 4 ((Syntax.field 1) ∷ List.[]))) ∷ List.[]))
+
 abbrev b27 : Syntax.Body
-b27 = Syntax.call "hnsr_circuit::handle_open::open_booked" ((Syntax.copy (Syntax.place 32 List.[])) ∷ (Syntax.copy (Syntax.place 34 List.[])) ∷
-    (Syntax.copy (Syntax.place 36 List.[])) ∷ (Syntax.copy (Syntax.place 5 List.[])) ∷ (Syntax.copy (Syntax.place 22 List.[])) ∷ (Syntax.copy
-    (Syntax.place 9 List.[])) ∷ (Syntax.copy (Syntax.place 19 List.[])) ∷ (Syntax.copy (Syntax.place 16 List.[])) ∷ List.[]) (Syntax.place 0 List.[])
+b27 = Syntax.call "hnsr_circuit::handle_open::open_booked" ((Syntax.copy (Syntax.place 32 List.[])) ∷
+    (Syntax.copy (Syntax.place 34 List.[])) ∷ (Syntax.copy (Syntax.place 36 List.[])) ∷
+    (Syntax.copy (Syntax.place 5 List.[])) ∷ (Syntax.copy (Syntax.place 22 List.[])) ∷
+    (Syntax.copy (Syntax.place 9 List.[])) ∷ (Syntax.copy (Syntax.place 19 List.[])) ∷
+    (Syntax.copy (Syntax.place 16 List.[])) ∷ List.[]) (Syntax.place 0 List.[])
+
 abbrev b28 : Syntax.Body
 b28 = Syntax.return
+
 abbrev b29 : Syntax.Body
 b29 = Syntax.seq b27 b28
+
 abbrev b30 : Syntax.Body
 b30 = Syntax.seq b26 b29
+
 abbrev b31 : Syntax.Body
 b31 = Syntax.seq b25 b30
+
 abbrev b32 : Syntax.Body
 b32 = Syntax.seq b24 b31
+
 abbrev b33 : Syntax.Body
 b33 = Syntax.seq b23 b32
+
 abbrev b34 : Syntax.Body
 b34 = Syntax.seq b22 b33
+
 abbrev b35 : Syntax.Body
 b35 = Syntax.seq b21 b34
+
 abbrev b36 : Syntax.Body
 b36 = Syntax.seq b20 b35
+
 abbrev b37 : Syntax.Body
 b37 = Syntax.seq b19 b36
+
 abbrev b38 : Syntax.Body
 b38 = Syntax.seq b18 b37
+
 abbrev b39 : Syntax.Body
 b39 = Syntax.seq b17 b38
+
 abbrev b40 : Syntax.Body
 b40 = Syntax.seq b16 b39
+
 abbrev b41 : Syntax.Body
 b41 = Syntax.seq b15 b40
+
 abbrev b42 : Syntax.Body
 b42 = Syntax.seq b14 b41
+
 abbrev b43 : Syntax.Body
 b43 = Syntax.skip
+
 abbrev b44 : Syntax.Body
 b44 = Syntax.cond (Syntax.copy (Syntax.place 27 List.[])) b42 b43
+
 abbrev b45 : Syntax.Body
-b45 = Syntax.call "hnsr_circuit::revoking_calls::refused" ((Syntax.copy (Syntax.place 5 List.[])) ∷ (Syntax.copy (Syntax.place 6 List.[])) ∷
-    (Syntax.copy (Syntax.place 18 List.[])) ∷ List.[]) (Syntax.place 0 List.[])
+b45 = Syntax.call "hnsr_circuit::revoking_calls::refused" ((Syntax.copy (Syntax.place 5 List.[])) ∷
+    (Syntax.copy (Syntax.place 6 List.[])) ∷ (Syntax.copy (Syntax.place 18 List.[])) ∷ List.[])
+    (Syntax.place 0 List.[])
+
 abbrev b46 : Syntax.Body
 b46 = Syntax.return
+
 abbrev b47 : Syntax.Body
 b47 = Syntax.seq b45 b46
+
 abbrev b48 : Syntax.Body
 b48 = Syntax.seq b44 b47
+
 abbrev b49 : Syntax.Body
 b49 = Syntax.seq b13 b48
+
 abbrev b50 : Syntax.Body
 b50 = Syntax.seq b12 b49
+
 abbrev b51 : Syntax.Body
 b51 = Syntax.seq b11 b50
+
 abbrev b52 : Syntax.Body
 b52 = Syntax.seq b10 b51
+
 abbrev b53 : Syntax.Body
 b53 = Syntax.seq b9 b52
+
 abbrev b54 : Syntax.Body
 b54 = Syntax.seq b8 b53
+
 abbrev b55 : Syntax.Body
 b55 = Syntax.seq b7 b54
+
 abbrev b56 : Syntax.Body
 b56 = Syntax.seq b6 b55
+
 abbrev b57 : Syntax.Body
 b57 = Syntax.seq b5 b56
+
 abbrev b58 : Syntax.Body
 b58 = Syntax.seq b4 b57
+
 abbrev b59 : Syntax.Body
 b59 = Syntax.seq b3 b58
+
 abbrev b60 : Syntax.Body
 b60 = Syntax.seq b2 b59
+
 abbrev b61 : Syntax.Body
 b61 = Syntax.seq b1 b60
+
 abbrev b62 : Syntax.Body
 b62 = Syntax.seq b0 b61
+
 abbrev pub body : Syntax.Body
 body = b62
+
 abbrev pub Claims : Type 1
-Claims = Kinds.In 0 ps·0 × Kinds.Out 0 ps·0 r·0 × Kinds.In 0 ps·1 × Kinds.Out 0 ps·1 r·1 × Kinds.In 1 ps·2 × Kinds.Out 1 ps·2 r·2 × Kinds.In 1 ps·3 ×
-    Kinds.Out 1 ps·3 r·3 × Kinds.In 0 ps·4 × Kinds.Out 0 ps·4 r·4 × Kinds.In 0 ps·5 × Kinds.Out 0 ps·5 r·5 × Kinds.In 0 ps·6 × Kinds.Out 0 ps·6 r·6 ×
-    Kinds.In 0 ps·7 × Kinds.Out 0 ps·7 r·7 × Kinds.In 1 ps·8 × Kinds.Out 1 ps·8 r·8 × Kinds.In 0 ps·9 × Kinds.Out 0 ps·9 r·9 × Kinds.In 0 ps·10 ×
-    Kinds.Out 0 ps·10 r·10 × Kinds.In 3 ps·11 × Kinds.Out 3 ps·11 r·11 × Kinds.In 0 ps·12 × Kinds.Out 0 ps·12 r·12
+Claims = Kinds.In 0 ps·0 × Kinds.Out 0 ps·0 r·0 × Kinds.In 0 ps·1 × Kinds.Out 0 ps·1 r·1 × Kinds.In 1 ps·2 × Kinds.Out
+    1 ps·2 r·2 × Kinds.In 1 ps·3 × Kinds.Out 1 ps·3 r·3 × Kinds.In 0 ps·4 × Kinds.Out 0 ps·4 r·4 × Kinds.In 0 ps·5 ×
+    Kinds.Out 0 ps·5 r·5 × Kinds.In 0 ps·6 × Kinds.Out 0 ps·6 r·6 × Kinds.In 0 ps·7 × Kinds.Out 0 ps·7 r·7 × Kinds.In 1
+    ps·8 × Kinds.Out 1 ps·8 r·8 × Kinds.In 0 ps·9 × Kinds.Out 0 ps·9 r·9 × Kinds.In 0 ps·10 × Kinds.Out 0 ps·10 r·10 ×
+    Kinds.In 3 ps·11 × Kinds.Out 3 ps·11 r·11 × Kinds.In 0 ps·12 × Kinds.Out 0 ps·12 r·12
+
 abbrev e0 : Row.Entry
 e0 = (0, Rows.any-gone Laws'''''''''''''.mir)
+
 abbrev e1 : Row.Entry
 e1 = (1, Mut.mslice RelayPending.row ref6 0)
+
 abbrev e2 : Row.Entry
 e2 = (2, Mut.mslice ReservationUsage.row ref7 1)
+
 abbrev e3 : Row.Entry
 e3 = (3, Mut.mslice InflightAction.row ref8 2)
+
 abbrev e4 : Row.Entry
 e4 = (4, Mut.mslice (Referent.rtF (Referent.fInt Syntax.w32)) ref9 3)
+
 abbrev e5 : Row.Entry
 e5 = (5, Rows.whole (Declared'.row OpaqueRelayRuntime.the-type))
+
 abbrev e6 : Row.Entry
 e6 = (6, Rows.whole (Declared'.row Places.the-type))
+
 abbrev e7 : Row.Entry
 e7 = (7, Rows.whole (Declared'.row OpenGathered.the-type))
+
 abbrev e8 : Row.Entry
 e8 = (8, Rows.whole (Declared'.row Drawing.the-type))
+
 abbrev e9 : Row.Entry
 e9 = (9, Rows.whole (Declared'.row OpenPlan.the-type))
+
 abbrev e10 : Row.Entry
 e10 = (10, Rows.any-gone (Syntax.tyInt Syntax.w64))
+
 abbrev e11 : Row.Entry
 e11 = (11, Rows.any-gone Laws''.mir)
+
 abbrev e12 : Row.Entry
 e12 = (12, Rows.any-gone Laws'''''''''''.mir)
+
 abbrev e13 : Row.Entry
 e13 = (13, Rows.any-gone Laws.mir)
+
 abbrev e14 : Row.Entry
 e14 = (14, Rows.any-gone Laws''''''''''.mir)
+
 abbrev e15 : Row.Entry
 e15 = (15, Rows.any-gone Laws''''''.mir)
+
 abbrev e16 : Row.Entry
 e16 = (16, Rows.any-gone Laws'''''''.mir)
+
 abbrev e17 : Row.Entry
 e17 = (17, Rows.any-gone Laws'''''''''.mir)
+
 abbrev e18 : Row.Entry
 e18 = (18, Rows.any-gone Laws'.mir)
+
 abbrev e19 : Row.Entry
 e19 = (19, Rows.any-gone ReservationUsage.ty)
+
 abbrev e20 : Row.Entry
 e20 = (20, Rows.any-gone (Syntax.tyInt Syntax.w64))
+
 abbrev e21 : Row.Entry
 e21 = (21, Rows.any-gone (Syntax.tyInt Syntax.w64))
+
 abbrev e22 : Row.Entry
 e22 = (22, Rows.any-gone Laws'''''.mir)
+
 abbrev e23 : Row.Entry
 e23 = (23, Rows.any-gone ref0)
+
 abbrev e24 : Row.Entry
-e24 = (24, Rows.any-gone (Syntax.tyStruct (38 ∷ 91 ∷ 93 ∷ List.[]) (Syntax.tcons ref0 (Syntax.tcons (Syntax.tyInt Syntax.w64) Syntax.tnil))))
+e24 = (24, Rows.any-gone slice0)
+
 abbrev e25 : Row.Entry
 e25 = (25, Rows.any-gone ref1)
+
 abbrev e26 : Row.Entry
-e26 = (26, Rows.any-gone (Syntax.tyStruct (38 ∷ 91 ∷ 93 ∷ List.[]) (Syntax.tcons ref1 (Syntax.tcons (Syntax.tyInt Syntax.w64) Syntax.tnil))))
+e26 = (26, Rows.any-gone slice1)
+
 abbrev e27 : Row.Entry
 e27 = (27, Rows.any-gone Syntax.tyBool)
+
 abbrev e28 : Row.Entry
 e28 = (28, Rows.any-gone Syntax.tyUnit)
+
 abbrev e29 : Row.Entry
 e29 = (29, Rows.any-gone ref2)
+
 abbrev e30 : Row.Entry
-e30 = (30, Rows.any-gone (Syntax.tyStruct (38 ∷ 91 ∷ 93 ∷ List.[]) (Syntax.tcons ref2 (Syntax.tcons (Syntax.tyInt Syntax.w64) Syntax.tnil))))
+e30 = (30, Rows.any-gone slice2)
+
 abbrev e31 : Row.Entry
 e31 = (31, Rows.any-gone ref3)
+
 abbrev e32 : Row.Entry
-e32 = (32, Rows.any-gone (Syntax.tyStruct (38 ∷ 91 ∷ 93 ∷ List.[]) (Syntax.tcons ref3 (Syntax.tcons (Syntax.tyInt Syntax.w64) Syntax.tnil))))
+e32 = (32, Rows.any-gone slice3)
+
 abbrev e33 : Row.Entry
 e33 = (33, Rows.any-gone ref4)
+
 abbrev e34 : Row.Entry
-e34 = (34, Rows.any-gone (Syntax.tyStruct (38 ∷ 91 ∷ 93 ∷ List.[]) (Syntax.tcons ref4 (Syntax.tcons (Syntax.tyInt Syntax.w64) Syntax.tnil))))
+e34 = (34, Rows.any-gone slice4)
+
 abbrev e35 : Row.Entry
 e35 = (35, Rows.any-gone ref5)
+
 abbrev e36 : Row.Entry
-e36 = (36, Rows.any-gone (Syntax.tyStruct (38 ∷ 91 ∷ 93 ∷ List.[]) (Syntax.tcons ref5 (Syntax.tcons (Syntax.tyInt Syntax.w64) Syntax.tnil))))
+e36 = (36, Rows.any-gone slice5)
+
 abbrev e0·1 : Row.Entry
 e0·1 = (0, Rows.whole (Declared'.row Relayed.the-type))
+
 abbrev e5·1 : Row.Entry
 e5·1 = (5, Rows.any-gone Laws''''''''''''.mir)
+
 abbrev e6·1 : Row.Entry
 e6·1 = (6, Rows.any-gone Laws'''''.mir)
+
 abbrev e7·1 : Row.Entry
 e7·1 = (7, Rows.any-gone Laws'''.mir)
+
 abbrev e8·1 : Row.Entry
 e8·1 = (8, Rows.any-gone Laws''''''''.mir)
+
 abbrev e9·1 : Row.Entry
 e9·1 = (9, Rows.any-gone Laws''''.mir)
+
 abbrev e10·1 : Row.Entry
 e10·1 = (10, Rows.sc-here (Row.sInt Syntax.w64))
+
 abbrev e11·1 : Row.Entry
 e11·1 = (11, Rows.whole (Declared'.row OpaqueRelayConfig.the-type))
+
 abbrev e12·1 : Row.Entry
 e12·1 = (12, Rows.whole (Declared'.row RelayTicket.the-type))
+
 abbrev e13·1 : Row.Entry
 e13·1 = (13, Rows.whole (Declared'.row ReservationId.the-type))
+
 abbrev e14·1 : Row.Entry
 e14·1 = (14, Rows.whole (Declared'.row Outgoing.the-type))
+
 abbrev e15·1 : Row.Entry
 e15·1 = (15, Rows.whole (Declared'.row ActionQuestion.the-type))
+
 abbrev e3·1 : Row.Entry
 e3·1 = (3, Reshare.mslice-owedS InflightAction.row ref8 2 4 Row.off)
+
 abbrev e23·1 : Row.Entry
 e23·1 = (23, Relend.ssptr InflightAction.row ref0 4)
+
 abbrev e24·1 : Row.Entry
 e24·1 = (24, Rows.sslice InflightAction.row ref0 4)
+
 abbrev e16·1 : Row.Entry
 e16·1 = (16, Rows.whole (Declared'.row ActionScan.the-type))
+
 abbrev e2·1 : Row.Entry
 e2·1 = (2, Reshare.mslice-owedS ReservationUsage.row ref7 1 5 Row.off)
+
 abbrev e25·1 : Row.Entry
 e25·1 = (25, Relend.ssptr ReservationUsage.row ref1 5)
+
 abbrev e26·1 : Row.Entry
 e26·1 = (26, Rows.sslice ReservationUsage.row ref1 5)
+
 abbrev e17·1 : Row.Entry
 e17·1 = (17, Rows.whole (Declared'.row LedgerRoom.the-type))
+
 abbrev e18·1 : Row.Entry
 e18·1 = (18, Rows.whole (Declared.row HnsrAnswer.the-type))
+
 abbrev e27·1 : Row.Entry
 e27·1 = (27, Rows.sc-here Row.sBool)
+
 abbrev e19·1 : Row.Entry
 e19·1 = (19, ReservationUsage.held)
+
 abbrev e20·1 : Row.Entry
 e20·1 = (20, Rows.sc-here (Row.sInt Syntax.w64))
+
 abbrev e2·2 : Row.Entry
 e2·2 = (2, Relend.mslice-owed ReservationUsage.row ref7 1 6 Row.off)
+
 abbrev e29·1 : Row.Entry
 e29·1 = (29, Relend.msptr ReservationUsage.row ref2 6)
+
 abbrev e30·1 : Row.Entry
 e30·1 = (30, Mut.mslice ReservationUsage.row ref2 6)
+
 abbrev e28·1 : Row.Entry
 e28·1 = (28, Rows.sc-here Row.sUnit)
+
 abbrev e30·2 : Row.Entry
 e30·2 = (30, Mut.msleft ReservationUsage.row ref2)
+
 abbrev e21·1 : Row.Entry
 e21·1 = (21, Rows.sc-here (Row.sInt Syntax.w64))
+
 abbrev e22·1 : Row.Entry
 e22·1 = (22, Rows.whole (Declared'.row Places.the-type))
+
 abbrev e1·1 : Row.Entry
 e1·1 = (1, Relend.mslice-owed RelayPending.row ref6 0 7 Row.off)
+
 abbrev e31·1 : Row.Entry
 e31·1 = (31, Relend.msptr RelayPending.row ref3 7)
+
 abbrev e32·1 : Row.Entry
 e32·1 = (32, Mut.mslice RelayPending.row ref3 7)
+
 abbrev e3·2 : Row.Entry
 e3·2 = (3, Relend.mslice-owed InflightAction.row ref8 2 8 Row.off)
+
 abbrev e33·1 : Row.Entry
 e33·1 = (33, Relend.msptr InflightAction.row ref4 8)
+
 abbrev e34·1 : Row.Entry
 e34·1 = (34, Mut.mslice InflightAction.row ref4 8)
+
 abbrev e4·1 : Row.Entry
 e4·1 = (4, Relend.mslice-owed (Referent.rtF (Referent.fInt Syntax.w32)) ref9 3 9 Row.off)
+
 abbrev e35·1 : Row.Entry
 e35·1 = (35, Relend.msptr (Referent.rtF (Referent.fInt Syntax.w32)) ref5 9)
+
 abbrev e36·1 : Row.Entry
 e36·1 = (36, Mut.mslice (Referent.rtF (Referent.fInt Syntax.w32)) ref5 9)
+
 abbrev e32·2 : Row.Entry
 e32·2 = (32, Mut.msleft RelayPending.row ref3)
+
 abbrev e34·2 : Row.Entry
 e34·2 = (34, Mut.msleft InflightAction.row ref4)
+
 abbrev e36·2 : Row.Entry
 e36·2 = (36, Mut.msleft (Referent.rtF (Referent.fInt Syntax.w32)) ref5)
+
 abbrev pub t0 : List.List Row.Entry
 t0 = e0 ∷ e1 ∷ e2 ∷ e3 ∷ e4 ∷ e5 ∷ e6 ∷ e7 ∷ e8 ∷ e9 ∷ e10 ∷ e11 ∷ e12 ∷ e13 ∷ e14 ∷ e15 ∷ List.[]
+
 abbrev pub t1 : List.List Row.Entry
 t1 = e16 ∷ e17 ∷ e18 ∷ e19 ∷ e20 ∷ e21 ∷ e22 ∷ e23 ∷ e24 ∷ e25 ∷ e26 ∷ e27 ∷ e28 ∷ e29 ∷ e30 ∷ e31 ∷ List.[]
+
 abbrev pub t2 : List.List Row.Entry
 t2 = e32 ∷ e33 ∷ e34 ∷ e35 ∷ e36 ∷ List.[]
+
 abbrev pub t3 : List.List Row.Entry
 t3 = e0·1 ∷ e1 ∷ e2 ∷ e3 ∷ e4 ∷ e5·1 ∷ e6·1 ∷ e7·1 ∷ e8·1 ∷ e9·1 ∷ e10 ∷ e11 ∷ e12 ∷ e13 ∷ e14 ∷ e15 ∷ List.[]
+
 abbrev pub t4 : List.List Row.Entry
 t4 = e0 ∷ e1 ∷ e2 ∷ e3 ∷ e4 ∷ e5 ∷ e6 ∷ e7 ∷ e8 ∷ e9 ∷ e10·1 ∷ e11 ∷ e12 ∷ e13 ∷ e14 ∷ e15 ∷ List.[]
+
 abbrev pub t5 : List.List Row.Entry
 t5 = e0 ∷ e1 ∷ e2 ∷ e3 ∷ e4 ∷ e5 ∷ e6 ∷ e7 ∷ e8 ∷ e9 ∷ e10·1 ∷ e11·1 ∷ e12 ∷ e13 ∷ e14 ∷ e15 ∷ List.[]
+
 abbrev pub t6 : List.List Row.Entry
 t6 = e0 ∷ e1 ∷ e2 ∷ e3 ∷ e4 ∷ e5 ∷ e6 ∷ e7 ∷ e8 ∷ e9 ∷ e10·1 ∷ e11·1 ∷ e12·1 ∷ e13 ∷ e14 ∷ e15 ∷ List.[]
+
 abbrev pub t7 : List.List Row.Entry
 t7 = e0 ∷ e1 ∷ e2 ∷ e3 ∷ e4 ∷ e5 ∷ e6 ∷ e7 ∷ e8 ∷ e9 ∷ e10·1 ∷ e11·1 ∷ e12·1 ∷ e13·1 ∷ e14 ∷ e15 ∷ List.[]
+
 abbrev pub t8 : List.List Row.Entry
 t8 = e0 ∷ e1 ∷ e2 ∷ e3 ∷ e4 ∷ e5 ∷ e6 ∷ e7 ∷ e8 ∷ e9 ∷ e10·1 ∷ e11·1 ∷ e12·1 ∷ e13·1 ∷ e14·1 ∷ e15 ∷ List.[]
+
 abbrev pub t9 : List.List Row.Entry
 t9 = e0 ∷ e1 ∷ e2 ∷ e3 ∷ e4 ∷ e5 ∷ e6 ∷ e7 ∷ e8 ∷ e9 ∷ e10·1 ∷ e11·1 ∷ e12·1 ∷ e13·1 ∷ e14·1 ∷ e15·1 ∷ List.[]
+
 abbrev pub t10 : List.List Row.Entry
 t10 = e0 ∷ e1 ∷ e2 ∷ e3 ∷ e4 ∷ e5 ∷ e6 ∷ e7 ∷ e8 ∷ e9 ∷ e10·1 ∷ e11·1 ∷ e12·1 ∷ e13·1 ∷ e14 ∷ e15·1 ∷ List.[]
+
 abbrev pub t11 : List.List Row.Entry
 t11 = e0 ∷ e1 ∷ e2 ∷ e3·1 ∷ e4 ∷ e5 ∷ e6 ∷ e7 ∷ e8 ∷ e9 ∷ e10·1 ∷ e11·1 ∷ e12·1 ∷ e13·1 ∷ e14 ∷ e15·1 ∷ List.[]
+
 abbrev pub t12 : List.List Row.Entry
 t12 = e16 ∷ e17 ∷ e18 ∷ e19 ∷ e20 ∷ e21 ∷ e22 ∷ e23·1 ∷ e24 ∷ e25 ∷ e26 ∷ e27 ∷ e28 ∷ e29 ∷ e30 ∷ e31 ∷ List.[]
+
 abbrev pub t13 : List.List Row.Entry
 t13 = e16 ∷ e17 ∷ e18 ∷ e19 ∷ e20 ∷ e21 ∷ e22 ∷ e23 ∷ e24·1 ∷ e25 ∷ e26 ∷ e27 ∷ e28 ∷ e29 ∷ e30 ∷ e31 ∷ List.[]
+
 abbrev pub t14 : List.List Row.Entry
 t14 = e16·1 ∷ e17 ∷ e18 ∷ e19 ∷ e20 ∷ e21 ∷ e22 ∷ e23 ∷ e24·1 ∷ e25 ∷ e26 ∷ e27 ∷ e28 ∷ e29 ∷ e30 ∷ e31 ∷ List.[]
+
 abbrev pub t15 : List.List Row.Entry
 t15 = e16·1 ∷ e17 ∷ e18 ∷ e19 ∷ e20 ∷ e21 ∷ e22 ∷ e23 ∷ e24 ∷ e25 ∷ e26 ∷ e27 ∷ e28 ∷ e29 ∷ e30 ∷ e31 ∷ List.[]
+
 abbrev pub t16 : List.List Row.Entry
 t16 = e0 ∷ e1 ∷ e2 ∷ e3·1 ∷ e4 ∷ e5 ∷ e6 ∷ e7 ∷ e8 ∷ e9 ∷ e10·1 ∷ e11·1 ∷ e12·1 ∷ e13·1 ∷ e14 ∷ e15 ∷ List.[]
+
 abbrev pub t17 : List.List Row.Entry
 t17 = e0 ∷ e1 ∷ e2·1 ∷ e3 ∷ e4 ∷ e5 ∷ e6 ∷ e7 ∷ e8 ∷ e9 ∷ e10·1 ∷ e11·1 ∷ e12·1 ∷ e13·1 ∷ e14 ∷ e15 ∷ List.[]
+
 abbrev pub t18 : List.List Row.Entry
 t18 = e16·1 ∷ e17 ∷ e18 ∷ e19 ∷ e20 ∷ e21 ∷ e22 ∷ e23 ∷ e24 ∷ e25·1 ∷ e26 ∷ e27 ∷ e28 ∷ e29 ∷ e30 ∷ e31 ∷ List.[]
+
 abbrev pub t19 : List.List Row.Entry
 t19 = e16·1 ∷ e17 ∷ e18 ∷ e19 ∷ e20 ∷ e21 ∷ e22 ∷ e23 ∷ e24 ∷ e25 ∷ e26·1 ∷ e27 ∷ e28 ∷ e29 ∷ e30 ∷ e31 ∷ List.[]
+
 abbrev pub t20 : List.List Row.Entry
 t20 = e16·1 ∷ e17·1 ∷ e18 ∷ e19 ∷ e20 ∷ e21 ∷ e22 ∷ e23 ∷ e24 ∷ e25 ∷ e26·1 ∷ e27 ∷ e28 ∷ e29 ∷ e30 ∷ e31 ∷ List.[]
+
 abbrev pub t21 : List.List Row.Entry
 t21 = e16·1 ∷ e17·1 ∷ e18 ∷ e19 ∷ e20 ∷ e21 ∷ e22 ∷ e23 ∷ e24 ∷ e25 ∷ e26 ∷ e27 ∷ e28 ∷ e29 ∷ e30 ∷ e31 ∷ List.[]
+
 abbrev pub t22 : List.List Row.Entry
 t22 = e0 ∷ e1 ∷ e2·1 ∷ e3 ∷ e4 ∷ e5 ∷ e6 ∷ e7 ∷ e8 ∷ e9 ∷ e10·1 ∷ e11·1 ∷ e12·1 ∷ e13 ∷ e14 ∷ e15 ∷ List.[]
+
 abbrev pub t23 : List.List Row.Entry
 t23 = e16·1 ∷ e17·1 ∷ e18·1 ∷ e19 ∷ e20 ∷ e21 ∷ e22 ∷ e23 ∷ e24 ∷ e25 ∷ e26 ∷ e27 ∷ e28 ∷ e29 ∷ e30 ∷ e31 ∷ List.[]
+
 abbrev pub t24 : List.List Row.Entry
 t24 = e0 ∷ e1 ∷ e2 ∷ e3 ∷ e4 ∷ e5 ∷ e6 ∷ e7·1 ∷ e8 ∷ e9 ∷ e10·1 ∷ e11·1 ∷ e12·1 ∷ e13 ∷ e14 ∷ e15 ∷ List.[]
+
 abbrev pub t25 : List.List Row.Entry
 t25 = e0 ∷ e1 ∷ e2 ∷ e3 ∷ e4 ∷ e5 ∷ e6 ∷ e7·1 ∷ e8·1 ∷ e9 ∷ e10·1 ∷ e11·1 ∷ e12·1 ∷ e13 ∷ e14 ∷ e15 ∷ List.[]
+
 abbrev pub t26 : List.List Row.Entry
 t26 = e0 ∷ e1 ∷ e2 ∷ e3 ∷ e4 ∷ e5 ∷ e6 ∷ e7·1 ∷ e8·1 ∷ e9 ∷ e10·1 ∷ e11 ∷ e12·1 ∷ e13 ∷ e14 ∷ e15 ∷ List.[]
+
 abbrev pub t27 : List.List Row.Entry
 t27 = e16·1 ∷ e17·1 ∷ e18·1 ∷ e19 ∷ e20 ∷ e21 ∷ e22 ∷ e23 ∷ e24 ∷ e25 ∷ e26 ∷ e27·1 ∷ e28 ∷ e29 ∷ e30 ∷ e31 ∷ List.[]
+
 abbrev pub t28 : List.List Row.Entry
 t28 = e0 ∷ e1 ∷ e2 ∷ e3 ∷ e4 ∷ e5 ∷ e6 ∷ e7·1 ∷ e8·1 ∷ e9·1 ∷ e10·1 ∷ e11 ∷ e12 ∷ e13 ∷ e14 ∷ e15 ∷ List.[]
+
 abbrev pub t29 : List.List Row.Entry
 t29 = e16 ∷ e17 ∷ e18·1 ∷ e19 ∷ e20 ∷ e21 ∷ e22 ∷ e23 ∷ e24 ∷ e25 ∷ e26 ∷ e27 ∷ e28 ∷ e29 ∷ e30 ∷ e31 ∷ List.[]
+
 abbrev pub t30 : List.List Row.Entry
 t30 = e16·1 ∷ e17·1 ∷ e18 ∷ e19 ∷ e20 ∷ e21 ∷ e22 ∷ e23 ∷ e24 ∷ e25 ∷ e26 ∷ e27·1 ∷ e28 ∷ e29 ∷ e30 ∷ e31 ∷ List.[]
+
 abbrev pub t31 : List.List Row.Entry
 t31 = e16·1 ∷ e17·1 ∷ e18 ∷ e19·1 ∷ e20 ∷ e21 ∷ e22 ∷ e23 ∷ e24 ∷ e25 ∷ e26 ∷ e27 ∷ e28 ∷ e29 ∷ e30 ∷ e31 ∷ List.[]
+
 abbrev pub t32 : List.List Row.Entry
 t32 = e0 ∷ e1 ∷ e2 ∷ e3 ∷ e4 ∷ e5 ∷ e6 ∷ e7·1 ∷ e8·1 ∷ e9 ∷ e10·1 ∷ e11 ∷ e12 ∷ e13 ∷ e14 ∷ e15 ∷ List.[]
+
 abbrev pub t33 : List.List Row.Entry
 t33 = e16·1 ∷ e17·1 ∷ e18 ∷ e19·1 ∷ e20·1 ∷ e21 ∷ e22 ∷ e23 ∷ e24 ∷ e25 ∷ e26 ∷ e27 ∷ e28 ∷ e29 ∷ e30 ∷ e31 ∷ List.[]
+
 abbrev pub t34 : List.List Row.Entry
 t34 = e16·1 ∷ e17 ∷ e18 ∷ e19·1 ∷ e20·1 ∷ e21 ∷ e22 ∷ e23 ∷ e24 ∷ e25 ∷ e26 ∷ e27 ∷ e28 ∷ e29 ∷ e30 ∷ e31 ∷ List.[]
+
 abbrev pub t35 : List.List Row.Entry
 t35 = e0 ∷ e1 ∷ e2·2 ∷ e3 ∷ e4 ∷ e5 ∷ e6 ∷ e7·1 ∷ e8·1 ∷ e9 ∷ e10·1 ∷ e11 ∷ e12 ∷ e13 ∷ e14 ∷ e15 ∷ List.[]
+
 abbrev pub t36 : List.List Row.Entry
 t36 = e16·1 ∷ e17 ∷ e18 ∷ e19·1 ∷ e20·1 ∷ e21 ∷ e22 ∷ e23 ∷ e24 ∷ e25 ∷ e26 ∷ e27 ∷ e28 ∷ e29·1 ∷ e30 ∷ e31 ∷ List.[]
+
 abbrev pub t37 : List.List Row.Entry
 t37 = e16·1 ∷ e17 ∷ e18 ∷ e19·1 ∷ e20·1 ∷ e21 ∷ e22 ∷ e23 ∷ e24 ∷ e25 ∷ e26 ∷ e27 ∷ e28 ∷ e29 ∷ e30·1 ∷ e31 ∷ List.[]
+
 abbrev pub t38 : List.List Row.Entry
 t38 = e16·1 ∷ e17 ∷ e18 ∷ e19·1 ∷ e20·1 ∷ e21 ∷ e22 ∷ e23 ∷ e24 ∷ e25 ∷ e26 ∷ e27 ∷ e28·1 ∷ e29 ∷ e30·2 ∷ e31 ∷ List.[]
+
 abbrev pub t39 : List.List Row.Entry
 t39 = e16·1 ∷ e17 ∷ e18 ∷ e19·1 ∷ e20·1 ∷ e21 ∷ e22 ∷ e23 ∷ e24 ∷ e25 ∷ e26 ∷ e27 ∷ e28 ∷ e29 ∷ e30·2 ∷ e31 ∷ List.[]
+
 abbrev pub t40 : List.List Row.Entry
 t40 = e16·1 ∷ e17 ∷ e18 ∷ e19·1 ∷ e20·1 ∷ e21·1 ∷ e22 ∷ e23 ∷ e24 ∷ e25 ∷ e26 ∷ e27 ∷ e28 ∷ e29 ∷ e30 ∷ e31 ∷ List.[]
+
 abbrev pub t41 : List.List Row.Entry
 t41 = e16·1 ∷ e17 ∷ e18 ∷ e19·1 ∷ e20·1 ∷ e21·1 ∷ e22·1 ∷ e23 ∷ e24 ∷ e25 ∷ e26 ∷ e27 ∷ e28 ∷ e29 ∷ e30 ∷ e31 ∷ List.[]
+
 abbrev pub t42 : List.List Row.Entry
 t42 = e0 ∷ e1 ∷ e2 ∷ e3 ∷ e4 ∷ e5 ∷ e6·1 ∷ e7·1 ∷ e8·1 ∷ e9 ∷ e10·1 ∷ e11 ∷ e12 ∷ e13 ∷ e14 ∷ e15 ∷ List.[]
+
 abbrev pub t43 : List.List Row.Entry
 t43 = e0 ∷ e1·1 ∷ e2 ∷ e3 ∷ e4 ∷ e5 ∷ e6·1 ∷ e7·1 ∷ e8·1 ∷ e9 ∷ e10·1 ∷ e11 ∷ e12 ∷ e13 ∷ e14 ∷ e15 ∷ List.[]
+
 abbrev pub t44 : List.List Row.Entry
-t44 = e16·1 ∷ e17 ∷ e18 ∷ e19·1 ∷ e20·1 ∷ e21·1 ∷ e22·1 ∷ e23 ∷ e24 ∷ e25 ∷ e26 ∷ e27 ∷ e28 ∷ e29 ∷ e30 ∷ e31·1 ∷ List.[]
+t44 = e16·1 ∷ e17 ∷ e18 ∷ e19·1 ∷ e20·1 ∷ e21·1 ∷ e22·1 ∷ e23 ∷ e24 ∷ e25 ∷ e26 ∷ e27 ∷ e28 ∷ e29 ∷ e30 ∷ e31·1 ∷
+    List.[]
+
 abbrev pub t45 : List.List Row.Entry
 t45 = e32·1 ∷ e33 ∷ e34 ∷ e35 ∷ e36 ∷ List.[]
+
 abbrev pub t46 : List.List Row.Entry
 t46 = e0 ∷ e1·1 ∷ e2 ∷ e3·2 ∷ e4 ∷ e5 ∷ e6·1 ∷ e7·1 ∷ e8·1 ∷ e9 ∷ e10·1 ∷ e11 ∷ e12 ∷ e13 ∷ e14 ∷ e15 ∷ List.[]
+
 abbrev pub t47 : List.List Row.Entry
 t47 = e32·1 ∷ e33·1 ∷ e34 ∷ e35 ∷ e36 ∷ List.[]
+
 abbrev pub t48 : List.List Row.Entry
 t48 = e32·1 ∷ e33 ∷ e34·1 ∷ e35 ∷ e36 ∷ List.[]
+
 abbrev pub t49 : List.List Row.Entry
 t49 = e0 ∷ e1·1 ∷ e2 ∷ e3·2 ∷ e4·1 ∷ e5 ∷ e6·1 ∷ e7·1 ∷ e8·1 ∷ e9 ∷ e10·1 ∷ e11 ∷ e12 ∷ e13 ∷ e14 ∷ e15 ∷ List.[]
+
 abbrev pub t50 : List.List Row.Entry
 t50 = e32·1 ∷ e33 ∷ e34·1 ∷ e35·1 ∷ e36 ∷ List.[]
+
 abbrev pub t51 : List.List Row.Entry
 t51 = e32·1 ∷ e33 ∷ e34·1 ∷ e35 ∷ e36·1 ∷ List.[]
+
 abbrev pub t52 : List.List Row.Entry
 t52 = e0·1 ∷ e1·1 ∷ e2 ∷ e3·2 ∷ e4·1 ∷ e5 ∷ e6·1 ∷ e7·1 ∷ e8·1 ∷ e9 ∷ e10·1 ∷ e11 ∷ e12 ∷ e13 ∷ e14 ∷ e15 ∷ List.[]
+
 abbrev pub t53 : List.List Row.Entry
 t53 = e32·2 ∷ e33 ∷ e34·2 ∷ e35 ∷ e36·2 ∷ List.[]
+
 abbrev pub t54 : List.List Row.Entry
 t54 = e0·1 ∷ e1·1 ∷ e2 ∷ e3·2 ∷ e4·1 ∷ e5·1 ∷ e6·1 ∷ e7·1 ∷ e8·1 ∷ e9 ∷ e10·1 ∷ e11 ∷ e12 ∷ e13 ∷ e14 ∷ e15 ∷ List.[]
+
 abbrev pub t55 : List.List Row.Entry
 t55 = e0·1 ∷ e1·1 ∷ e2 ∷ e3·2 ∷ e4·1 ∷ e5·1 ∷ e6·1 ∷ e7·1 ∷ e8·1 ∷ e9·1 ∷ e10·1 ∷ e11 ∷ e12 ∷ e13 ∷ e14 ∷ e15 ∷ List.[]
+
 abbrev pub t56 : List.List Row.Entry
 t56 = e16 ∷ e17 ∷ e18 ∷ e19·1 ∷ e20·1 ∷ e21·1 ∷ e22·1 ∷ e23 ∷ e24 ∷ e25 ∷ e26 ∷ e27 ∷ e28 ∷ e29 ∷ e30 ∷ e31 ∷ List.[]
+
 abbrev pub t57 : List.List Row.Entry
 t57 = e16 ∷ e17 ∷ e18 ∷ e19 ∷ e20·1 ∷ e21·1 ∷ e22·1 ∷ e23 ∷ e24 ∷ e25 ∷ e26 ∷ e27 ∷ e28 ∷ e29 ∷ e30 ∷ e31 ∷ List.[]
+
 abbrev pub t58 : List.List Row.Entry
 t58 = e16 ∷ e17 ∷ e18 ∷ e19 ∷ e20·1 ∷ e21·1 ∷ e22 ∷ e23 ∷ e24 ∷ e25 ∷ e26 ∷ e27 ∷ e28 ∷ e29 ∷ e30 ∷ e31 ∷ List.[]
+
 abbrev pub t59 : List.List Row.Entry
 t59 = e0·1 ∷ e1 ∷ e2 ∷ e3·2 ∷ e4·1 ∷ e5·1 ∷ e6·1 ∷ e7·1 ∷ e8·1 ∷ e9·1 ∷ e10·1 ∷ e11 ∷ e12 ∷ e13 ∷ e14 ∷ e15 ∷ List.[]
+
 abbrev pub t60 : List.List Row.Entry
 t60 = e32 ∷ e33 ∷ e34·2 ∷ e35 ∷ e36·2 ∷ List.[]
+
 abbrev pub t61 : List.List Row.Entry
 t61 = e0·1 ∷ e1 ∷ e2 ∷ e3 ∷ e4·1 ∷ e5·1 ∷ e6·1 ∷ e7·1 ∷ e8·1 ∷ e9·1 ∷ e10·1 ∷ e11 ∷ e12 ∷ e13 ∷ e14 ∷ e15 ∷ List.[]
+
 abbrev pub t62 : List.List Row.Entry
 t62 = e32 ∷ e33 ∷ e34 ∷ e35 ∷ e36·2 ∷ List.[]
+
 abbrev pub t63 : List.List Row.Entry
 t63 = e0·1 ∷ e1 ∷ e2 ∷ e3 ∷ e4 ∷ e5·1 ∷ e6·1 ∷ e7·1 ∷ e8·1 ∷ e9·1 ∷ e10·1 ∷ e11 ∷ e12 ∷ e13 ∷ e14 ∷ e15 ∷ List.[]
+
 abbrev pub t64 : List.List Row.Entry
 t64 = e16 ∷ e17 ∷ e18 ∷ e19 ∷ e20 ∷ e21·1 ∷ e22 ∷ e23 ∷ e24 ∷ e25 ∷ e26 ∷ e27 ∷ e28 ∷ e29 ∷ e30 ∷ e31 ∷ List.[]
+
 abbrev pub t65 : List.List Row.Entry
 t65 = e0 ∷ e1 ∷ e2 ∷ e3 ∷ e4 ∷ e5 ∷ e6 ∷ e7·1 ∷ e8·1 ∷ e9·1 ∷ e10·1 ∷ e11 ∷ e12·1 ∷ e13 ∷ e14 ∷ e15 ∷ List.[]
+
 abbrev pub t66 : List.List Row.Entry
 t66 = e16 ∷ e17·1 ∷ e18·1 ∷ e19 ∷ e20 ∷ e21 ∷ e22 ∷ e23 ∷ e24 ∷ e25 ∷ e26 ∷ e27·1 ∷ e28 ∷ e29 ∷ e30 ∷ e31 ∷ List.[]
+
 abbrev pub t67 : List.List Row.Entry
 t67 = e16 ∷ e17 ∷ e18·1 ∷ e19 ∷ e20 ∷ e21 ∷ e22 ∷ e23 ∷ e24 ∷ e25 ∷ e26 ∷ e27·1 ∷ e28 ∷ e29 ∷ e30 ∷ e31 ∷ List.[]
+
 abbrev pub t68 : List.List Row.Entry
 t68 = e0·1 ∷ e1 ∷ e2 ∷ e3 ∷ e4 ∷ e5 ∷ e6 ∷ e7·1 ∷ e8·1 ∷ e9·1 ∷ e10·1 ∷ e11 ∷ e12 ∷ e13 ∷ e14 ∷ e15 ∷ List.[]
+
 abbrev pub t69 : List.List Row.Entry
 t69 = e0·1 ∷ e1 ∷ e2 ∷ e3 ∷ e4 ∷ e5·1 ∷ e6 ∷ e7·1 ∷ e8·1 ∷ e9·1 ∷ e10·1 ∷ e11 ∷ e12 ∷ e13 ∷ e14 ∷ e15 ∷ List.[]
+
 abbrev pub T0 : Row.Cx
 T0 = record { locals = List._++_ t0 (List._++_ t1 t2); slots = List.[] }
+
 abbrev pub T1 : Row.Cx
 T1 = record { locals = List._++_ t3 (List._++_ t1 t2); slots = List.[] }
+
 abbrev pub T2 : Row.Cx
 T2 = record { locals = List._++_ t0 (List._++_ t1 t2); slots = List.[] }
+
 abbrev pub T3 : Row.Cx
 T3 = record { locals = List._++_ t4 (List._++_ t1 t2); slots = List.[] }
+
 abbrev pub T4 : Row.Cx
 T4 = record { locals = List._++_ t5 (List._++_ t1 t2); slots = List.[] }
+
 abbrev pub T5 : Row.Cx
 T5 = record { locals = List._++_ t6 (List._++_ t1 t2); slots = List.[] }
+
 abbrev pub T6 : Row.Cx
 T6 = record { locals = List._++_ t7 (List._++_ t1 t2); slots = List.[] }
+
 abbrev pub T7 : Row.Cx
 T7 = record { locals = List._++_ t8 (List._++_ t1 t2); slots = List.[] }
+
 abbrev pub T8 : Row.Cx
 T8 = record { locals = List._++_ t9 (List._++_ t1 t2); slots = List.[] }
+
 abbrev pub T9 : Row.Cx
 T9 = record { locals = List._++_ t10 (List._++_ t1 t2); slots = List.[] }
+
 abbrev pub T11 : Row.Cx
 T11 = record { locals = List._++_ t11 (List._++_ t12 t2); slots = List.[] }
+
 abbrev pub T12 : Row.Cx
 T12 = record { locals = List._++_ t11 (List._++_ t13 t2); slots = List.[] }
+
 abbrev pub T13 : Row.Cx
 T13 = record { locals = List._++_ t11 (List._++_ t14 t2); slots = List.[] }
+
 abbrev pub T14 : Row.Cx
 T14 = record { locals = List._++_ t11 (List._++_ t15 t2); slots = List.[] }
+
 abbrev pub T15 : Row.Cx
 T15 = record { locals = List._++_ t16 (List._++_ t15 t2); slots = List.[] }
+
 abbrev pub T17 : Row.Cx
 T17 = record { locals = List._++_ t7 (List._++_ t15 t2); slots = List.[] }
+
 abbrev pub T20 : Row.Cx
 T20 = record { locals = List._++_ t17 (List._++_ t18 t2); slots = List.[] }
+
 abbrev pub T21 : Row.Cx
 T21 = record { locals = List._++_ t17 (List._++_ t19 t2); slots = List.[] }
+
 abbrev pub T22 : Row.Cx
 T22 = record { locals = List._++_ t17 (List._++_ t20 t2); slots = List.[] }
+
 abbrev pub T23 : Row.Cx
 T23 = record { locals = List._++_ t17 (List._++_ t21 t2); slots = List.[] }
+
 abbrev pub T24 : Row.Cx
 T24 = record { locals = List._++_ t22 (List._++_ t21 t2); slots = List.[] }
+
 abbrev pub T26 : Row.Cx
 T26 = record { locals = List._++_ t6 (List._++_ t21 t2); slots = List.[] }
+
 abbrev pub T28 : Row.Cx
 T28 = record { locals = List._++_ t6 (List._++_ t23 t2); slots = List.[] }
+
 abbrev pub T29 : Row.Cx
 T29 = record { locals = List._++_ t24 (List._++_ t23 t2); slots = List.[] }
+
 abbrev pub T30 : Row.Cx
 T30 = record { locals = List._++_ t25 (List._++_ t23 t2); slots = List.[] }
+
 abbrev pub T31 : Row.Cx
 T31 = record { locals = List._++_ t26 (List._++_ t23 t2); slots = List.[] }
+
 abbrev pub T32 : Row.Cx
 T32 = record { locals = List._++_ t26 (List._++_ t27 t2); slots = List.[] }
+
 abbrev pub T33 : Row.Cx
 T33 = record { locals = List._++_ t28 (List._++_ t29 t2); slots = List.[] }
+
 abbrev pub T34 : Row.Cx
 T34 = record { locals = List._++_ t26 (List._++_ t30 t2); slots = List.[] }
+
 abbrev pub T35 : Row.Cx
 T35 = record { locals = List._++_ t26 (List._++_ t21 t2); slots = List.[] }
+
 abbrev pub T36 : Row.Cx
 T36 = record { locals = List._++_ t26 (List._++_ t31 t2); slots = List.[] }
+
 abbrev pub T37 : Row.Cx
 T37 = record { locals = List._++_ t32 (List._++_ t31 t2); slots = List.[] }
+
 abbrev pub T38 : Row.Cx
 T38 = record { locals = List._++_ t32 (List._++_ t33 t2); slots = List.[] }
+
 abbrev pub T39 : Row.Cx
 T39 = record { locals = List._++_ t32 (List._++_ t34 t2); slots = List.[] }
+
 abbrev pub T41 : Row.Cx
 T41 = record { locals = List._++_ t35 (List._++_ t36 t2); slots = List.[] }
+
 abbrev pub T42 : Row.Cx
 T42 = record { locals = List._++_ t35 (List._++_ t37 t2); slots = List.[] }
+
 abbrev pub T43 : Row.Cx
 T43 = record { locals = List._++_ t35 (List._++_ t38 t2); slots = List.[] }
+
 abbrev pub T44 : Row.Cx
 T44 = record { locals = List._++_ t35 (List._++_ t39 t2); slots = List.[] }
+
 abbrev pub T46 : Row.Cx
 T46 = record { locals = List._++_ t32 (List._++_ t34 t2); slots = List.[] }
+
 abbrev pub T48 : Row.Cx
 T48 = record { locals = List._++_ t32 (List._++_ t40 t2); slots = List.[] }
+
 abbrev pub T49 : Row.Cx
 T49 = record { locals = List._++_ t32 (List._++_ t41 t2); slots = List.[] }
+
 abbrev pub T50 : Row.Cx
 T50 = record { locals = List._++_ t42 (List._++_ t41 t2); slots = List.[] }
+
 abbrev pub T52 : Row.Cx
 T52 = record { locals = List._++_ t43 (List._++_ t44 t2); slots = List.[] }
+
 abbrev pub T53 : Row.Cx
 T53 = record { locals = List._++_ t43 (List._++_ t41 t45); slots = List.[] }
+
 abbrev pub T55 : Row.Cx
 T55 = record { locals = List._++_ t46 (List._++_ t41 t47); slots = List.[] }
+
 abbrev pub T56 : Row.Cx
 T56 = record { locals = List._++_ t46 (List._++_ t41 t48); slots = List.[] }
+
 abbrev pub T58 : Row.Cx
 T58 = record { locals = List._++_ t49 (List._++_ t41 t50); slots = List.[] }
+
 abbrev pub T59 : Row.Cx
 T59 = record { locals = List._++_ t49 (List._++_ t41 t51); slots = List.[] }
+
 abbrev pub T60 : Row.Cx
 T60 = record { locals = List._++_ t52 (List._++_ t41 t53); slots = List.[] }
+
 abbrev pub T61 : Row.Cx
 T61 = record { locals = List._++_ t54 (List._++_ t41 t53); slots = List.[] }
+
 abbrev pub T62 : Row.Cx
 T62 = record { locals = List._++_ t55 (List._++_ t41 t53); slots = List.[] }
+
 abbrev pub T63 : Row.Cx
 T63 = record { locals = List._++_ t55 (List._++_ t56 t53); slots = List.[] }
+
 abbrev pub T64 : Row.Cx
 T64 = record { locals = List._++_ t55 (List._++_ t57 t53); slots = List.[] }
+
 abbrev pub T65 : Row.Cx
 T65 = record { locals = List._++_ t55 (List._++_ t58 t53); slots = List.[] }
+
 abbrev pub T67 : Row.Cx
 T67 = record { locals = List._++_ t59 (List._++_ t58 t60); slots = List.[] }
+
 abbrev pub T70 : Row.Cx
 T70 = record { locals = List._++_ t61 (List._++_ t58 t62); slots = List.[] }
+
 abbrev pub T73 : Row.Cx
 T73 = record { locals = List._++_ t63 (List._++_ t58 t2); slots = List.[] }
+
 abbrev pub T74 : Row.Cx
 T74 = record { locals = List._++_ t63 (List._++_ t58 t2); slots = List.[] }
+
 abbrev pub T76 : Row.Cx
 T76 = record { locals = List._++_ t3 (List._++_ t58 t2); slots = List.[] }
+
 abbrev pub T77 : Row.Cx
 T77 = record { locals = List._++_ t3 (List._++_ t64 t2); slots = List.[] }
+
 abbrev pub T78 : Row.Cx
 T78 = record { locals = List._++_ t3 (List._++_ t1 t2); slots = List.[] }
+
 abbrev pub T79 : Row.Cx
 T79 = record { locals = List._++_ t65 (List._++_ t27 t2); slots = List.[] }
+
 abbrev pub T80 : Row.Cx
 T80 = record { locals = List._++_ t28 (List._++_ t27 t2); slots = List.[] }
+
 abbrev pub T81 : Row.Cx
 T81 = record { locals = List._++_ t28 (List._++_ t66 t2); slots = List.[] }
+
 abbrev pub T82 : Row.Cx
 T82 = record { locals = List._++_ t28 (List._++_ t67 t2); slots = List.[] }
+
 abbrev pub T83 : Row.Cx
 T83 = record { locals = List._++_ t28 (List._++_ t29 t2); slots = List.[] }
+
 abbrev pub T84 : Row.Cx
 T84 = record { locals = List._++_ t68 (List._++_ t29 t2); slots = List.[] }
+
 abbrev pub T85 : Row.Cx
 T85 = record { locals = List._++_ t69 (List._++_ t29 t2); slots = List.[] }
+
 abbrev pub T86 : Row.Cx
 T86 = record { locals = List._++_ t63 (List._++_ t29 t2); slots = List.[] }
+
 abbrev pub T87 : Row.Cx
 T87 = record { locals = List._++_ t3 (List._++_ t29 t2); slots = List.[] }
+
 abbrev pub T88 : Row.Cx
 T88 = record { locals = List._++_ t3 (List._++_ t1 t2); slots = List.[] }
+
 abbrev pub O0 : Typed.Outs
 O0 = record { next = Option.none; exits = List.[]; returns = Option.some T1 }
+
 abbrev pub O1 : Typed.Outs
 O1 = Typed.withNext (Option.some T33) O0
+
 module _ (claims· : Claims) where
   abbrev s0 : (bs : List.List Nat.ℕ) → Typed.Gives T0 T2
   s0 = λ bs. Know.k-sl-known (Referent.fInt Syntax.w32) T0 4 3 ref9 Row.off 0 λ x. x
+
   abbrev s1 : (bs : List.List Nat.ℕ) → Typed.Mo T2 → Typed.Mo T3
-  s1 = λ bs. Scalar.n-use T2 (Scalar.oFld 2 ((Syntax.field 1) ∷ List.[]) (Syntax.tyInt Syntax.w64) 8 Shared.lenV) 10 (Rows.sc-here (Row.sInt
-      Syntax.w64)) (Row.sInt Syntax.w64 .of)
+  s1 = λ bs. Scalar.n-use T2 (Scalar.oFld 2 ((Syntax.field 1) ∷ List.[]) (Syntax.tyInt Syntax.w64) 8 Shared.lenV) 10
+      (Rows.sc-here (Row.sInt Syntax.w64)) (Row.sInt Syntax.w64 .of)
+
   abbrev s2 : (bs : List.List Nat.ℕ) → Typed.Both T3 T4
-  s2 = λ bs. WayStmt.k-way-copy-out T3 (Row.out 5 (T3 .locals)) (λ u. Row.drop 5 (T3 .locals) u) 11 (Rows.whole (Declared'.row
-      OpaqueRelayConfig.the-type)) (λ u. At.getAt (OpaqueRelayRuntime.the-type .parts) 4 (OpaqueRelayRuntime.struct .as-values (u .1 .1 .1 .1 .1 .0)))
-      (λ T′. record { locals = Row.setRow 5 (5, Rows.whole (Declared'.row OpaqueRelayRuntime.the-type)) T′; slots = List.[]; }) (λ u T′ m′. Row.set 5
-      (5, Rows.whole (Declared'.row OpaqueRelayRuntime.the-type)) (u .1 .1 .1 .1 .1 .0) T′ m′) (λ u. Unit) λ u. Unit
+  s2 = λ bs. WayStmt.k-way-copy-out T3 (Row.out 5 (T3 .locals)) (λ u. Row.drop 5 (T3 .locals) u) 11
+      (Rows.whole (Declared'.row OpaqueRelayConfig.the-type)) (λ u. At.getAt (OpaqueRelayRuntime.the-type .parts) 4 (OpaqueRelayRuntime.struct
+      .as-values (u .1 .1 .1 .1 .1 .0))) (λ T′. record {
+        locals = Row.setRow 5 (5, Rows.whole (Declared'.row OpaqueRelayRuntime.the-type)) T′;
+        slots = List.[];
+      }) (λ u T′ m′. Row.set 5 (5, Rows.whole (Declared'.row OpaqueRelayRuntime.the-type)) (u .1 .1 .1 .1 .1 .0) T′ m′)
+      (λ u. Unit) λ u. Unit
+
   abbrev s3 : (bs : List.List Nat.ℕ) → Typed.Both T4 T5
-  s3 = λ bs. WayStmt.k-way-copy-out T4 (Row.out 9 (T4 .locals)) (λ u. Row.drop 9 (T4 .locals) u) 12 (Rows.whole (Declared'.row RelayTicket.the-type))
-      (λ u. At.getAt (OpenPlan.the-type .parts) 4 (OpenPlan.struct .as-values (u .1 .1 .1 .1 .1 .1 .1 .1 .1 .0))) (λ T′. record { locals = Row.setRow
-      9 (9, Rows.whole (Declared'.row OpenPlan.the-type)) T′; slots = List.[]; }) (λ u T′ m′. Row.set 9 (9, Rows.whole (Declared'.row
-      OpenPlan.the-type)) (u .1 .1 .1 .1 .1 .1 .1 .1 .1 .0) T′ m′) (λ u. Unit) λ u. Unit
+  s3 = λ bs. WayStmt.k-way-copy-out T4 (Row.out 9 (T4 .locals)) (λ u. Row.drop 9 (T4 .locals) u) 12
+      (Rows.whole (Declared'.row RelayTicket.the-type)) (λ u. At.getAt (OpenPlan.the-type .parts) 4 (OpenPlan.struct
+      .as-values (u .1 .1 .1 .1 .1 .1 .1 .1 .1 .0))) (λ T′.
+      record { locals = Row.setRow 9 (9, Rows.whole (Declared'.row OpenPlan.the-type)) T′; slots = List.[] }) (λ u T′
+      m′. Row.set 9 (9, Rows.whole (Declared'.row OpenPlan.the-type)) (u .1 .1 .1 .1 .1 .1 .1 .1 .1 .0) T′ m′)
+      (λ u. Unit) λ u. Unit
+
   abbrev s4 : (bs : List.List Nat.ℕ) → Typed.Both T5 T6
-  s4 = λ bs. WayStmt.k-way-copy-out T5 (Row.out 12 (T5 .locals)) (λ u. Row.drop 12 (T5 .locals) u) 13 (Rows.whole (Declared'.row
-      ReservationId.the-type)) (λ u. At.getAt (RelayTicket.the-type .parts) 0 (RelayTicket.struct .as-values (u .1 .1 .1 .1 .1 .1 .1 .1 .1 .1 .1 .1
-      .0))) (λ T′. record { locals = Row.setRow 12 (12, Rows.whole (Declared'.row RelayTicket.the-type)) T′; slots = List.[]; }) (λ u T′ m′. Row.set
-      12 (12, Rows.whole (Declared'.row RelayTicket.the-type)) (u .1 .1 .1 .1 .1 .1 .1 .1 .1 .1 .1 .1 .0) T′ m′) (λ u. Unit) λ u. Unit
+  s4 = λ bs. WayStmt.k-way-copy-out T5 (Row.out 12 (T5 .locals)) (λ u. Row.drop 12 (T5 .locals) u) 13
+      (Rows.whole (Declared'.row ReservationId.the-type)) (λ u. At.getAt (RelayTicket.the-type .parts) 0 (RelayTicket.struct
+      .as-values (u .1 .1 .1 .1 .1 .1 .1 .1 .1 .1 .1 .1 .0))) (λ T′.
+      record { locals = Row.setRow 12 (12, Rows.whole (Declared'.row RelayTicket.the-type)) T′; slots = List.[] }) (λ u
+      T′ m′. Row.set 12 (12, Rows.whole (Declared'.row RelayTicket.the-type))
+      (u .1 .1 .1 .1 .1 .1 .1 .1 .1 .1 .1 .1 .0) T′ m′) (λ u. Unit) λ u. Unit
+
   abbrev s5 : (bs : List.List Nat.ℕ) → Typed.Both T6 T7
-  s5 = λ bs. Call.callB ps·0 r·0 (claims· .0) (claims· .1) T6 (record { pos = 9; st = List.[]; d = 0; at = λ x. x }, tt,) 14 List.[]
-      Laws''''''''''.mir
+  s5 = λ bs. Call.callB ps·0 r·0 (claims· .0) (claims· .1) T6
+      (record { pos = 9; st = List.[]; d = 0; at = λ x. x }, tt) 14 List.[] Laws''''''''''.mir
+
   abbrev s6 : (bs : List.List Nat.ℕ) → Typed.Both T7 T8
-  s6 = λ bs. Call.callB ps·1 r·1 (claims· .2) (claims· .3) T7 (record { pos = 5; st = List.[]; d = 0; at = λ x. x }, (record { pos = 14; st = List.[];
-      d = 0; at = λ x. x }, tt),) 15 List.[] Laws''''''.mir
+  s6 = λ bs. Call.callB ps·1 r·1 (claims· .2) (claims· .3) T7 (
+    record { pos = 5; st = List.[]; d = 0; at = λ x. x },
+    (record { pos = 14; st = List.[]; d = 0; at = λ x. x }, tt),
+  ) 15 List.[] Laws''''''.mir
+
   abbrev s7 : (bs : List.List Nat.ℕ) → Typed.Mo T8 → Typed.Mo T9
   s7 = λ bs. Scalar.n-room T8 14 Laws''''''''''.mir
+
   abbrev s9 : (bs : List.List Nat.ℕ) → Typed.Gives T9 T11
   s9 = λ bs. Reshare.k-sl-reshare InflightAction.row T9 3 23 2 4 ref8 ref0 Row.off λ x. x
+
   abbrev s10 : (bs : List.List Nat.ℕ) → Typed.Asks T11 T12
-  s10 = λ bs. Relend.k-sl-aggregate InflightAction.row (Relend.asShr InflightAction.row) T11 23 24 4 ref0 ref0 (λ x. x) (Scalar.oFld 3 ((Syntax.field
-      1) ∷ List.[]) (Syntax.tyInt Syntax.w64) 8 λ v. Shared.lenV (v .0))
+  s10 = λ bs. Relend.k-sl-aggregate InflightAction.row (Relend.asShr InflightAction.row) T11 23 24 4 ref0 ref0 (λ x. x) (Scalar.oFld
+      3 ((Syntax.field 1) ∷ List.[]) (Syntax.tyInt Syntax.w64) 8 λ v. Shared.lenV (v .0))
+
   abbrev s11 : (bs : List.List Nat.ℕ) → Typed.Both T12 T13
-  s11 = λ bs. Call.callB ps·2 r·2 (claims· .4) (claims· .5) T12 (record { pos = 24; ty = Syntax.tyRef Syntax.erased Syntax.imm InflightAction.to; ref
-      = λ x. x; }, (record { pos = 6; st = List.[]; d = 0; at = λ x. x }, (record { pos = 15; st = List.[]; d = 0; at = λ x. x }, tt),),) 16 (4 ∷
-      List.[]) Laws'''''''.mir
+  s11 = λ bs. Call.callB ps·2 r·2 (claims· .4) (claims· .5) T12 (
+    record { pos = 24; ty = ref0; ref = λ x. x },
+    (
+      record { pos = 6; st = List.[]; d = 0; at = λ x. x },
+      (record { pos = 15; st = List.[]; d = 0; at = λ x. x }, tt),
+    ),
+  ) 16 (4 ∷ List.[]) Laws'''''''.mir
+
   abbrev s12 : (bs : List.List Nat.ℕ) → Typed.Mo T13 → Typed.Mo T14
-  s12 = λ bs. Scalar.n-room T13 24 (Syntax.tyStruct (38 ∷ 91 ∷ 93 ∷ List.[]) (Syntax.tcons ref0 (Syntax.tcons (Syntax.tyInt Syntax.w64) Syntax.tnil)))
+  s12 = λ bs. Scalar.n-room T13 24 slice0
+
   abbrev s13 : (bs : List.List Nat.ℕ) → Typed.Mo T14 → Typed.Mo T15
   s13 = λ bs. Scalar.n-room T14 15 Laws''''''.mir
+
   abbrev s15 : (bs : List.List Nat.ℕ) → Typed.Mo T15 → Typed.Mo T17
   s15 = λ bs. Reshare.n-back-sl-shr InflightAction.row T15 3 2 4 ref8 Row.off λ x. x
+
   abbrev s18 : (bs : List.List Nat.ℕ) → Typed.Gives T17 T20
   s18 = λ bs. Reshare.k-sl-reshare ReservationUsage.row T17 2 25 1 5 ref7 ref1 Row.off λ x. x
+
   abbrev s19 : (bs : List.List Nat.ℕ) → Typed.Asks T20 T21
-  s19 = λ bs. Relend.k-sl-aggregate ReservationUsage.row (Relend.asShr ReservationUsage.row) T20 25 26 5 ref1 ref1 (λ x. x) (Scalar.oFld 2
-      ((Syntax.field 1) ∷ List.[]) (Syntax.tyInt Syntax.w64) 8 λ v. Shared.lenV (v .0))
+  s19 = λ bs. Relend.k-sl-aggregate ReservationUsage.row (Relend.asShr ReservationUsage.row) T20 25 26 5 ref1 ref1
+      (λ x. x) (Scalar.oFld 2 ((Syntax.field 1) ∷ List.[]) (Syntax.tyInt Syntax.w64) 8 λ v. Shared.lenV (v .0))
+
   abbrev s20 : (bs : List.List Nat.ℕ) → Typed.Both T21 T22
-  s20 = λ bs. Call.callB ps·3 r·3 (claims· .6) (claims· .7) T21 (record { pos = 26; ty = Syntax.tyRef Syntax.erased Syntax.imm ReservationUsage.to;
-      ref = λ x. x; }, (record { pos = 6; st = List.[]; d = 0; at = λ x. x }, (record { pos = 13; st = List.[]; d = 0; at = λ x. x }, tt),),) 17 (5 ∷
-      List.[]) Laws'''''''''.mir
+  s20 = λ bs. Call.callB ps·3 r·3 (claims· .6) (claims· .7) T21 (
+    record { pos = 26; ty = ref1; ref = λ x. x },
+    (
+      record { pos = 6; st = List.[]; d = 0; at = λ x. x },
+      (record { pos = 13; st = List.[]; d = 0; at = λ x. x }, tt),
+    ),
+  ) 17 (5 ∷ List.[]) Laws'''''''''.mir
+
   abbrev s21 : (bs : List.List Nat.ℕ) → Typed.Mo T22 → Typed.Mo T23
-  s21 = λ bs. Scalar.n-room T22 26 (Syntax.tyStruct (38 ∷ 91 ∷ 93 ∷ List.[]) (Syntax.tcons ref1 (Syntax.tcons (Syntax.tyInt Syntax.w64) Syntax.tnil)))
+  s21 = λ bs. Scalar.n-room T22 26 slice1
+
   abbrev s22 : (bs : List.List Nat.ℕ) → Typed.Mo T23 → Typed.Mo T24
   s22 = λ bs. Scalar.n-room T23 13 Laws.mir
+
   abbrev s24 : (bs : List.List Nat.ℕ) → Typed.Mo T24 → Typed.Mo T26
   s24 = λ bs. Reshare.n-back-sl-shr ReservationUsage.row T24 2 1 5 ref7 Row.off λ x. x
+
   abbrev s26 : (bs : List.List Nat.ℕ) → Typed.Both T26 T28
-  s26 = λ bs. Call.callB ps·4 r·4 (claims· .8) (claims· .9) T26 (record { pos = 11; st = List.[]; d = 0; at = λ x. x }, (record { pos = 7; st =
-      List.[]; d = 0; at = λ x. x }, (record { pos = 9; st = List.[]; d = 0; at = λ x. x }, (record { pos = 8; st = List.[]; d = 0; at = λ x. x },
-      (record { pos = 16; st = List.[]; d = 0; at = λ x. x }, (record { pos = 17; st = List.[]; d = 0; at = λ x. x }, tt),),),),),) 18 List.[]
-      Laws'.mir
+  s26 = λ bs. Call.callB ps·4 r·4 (claims· .8) (claims· .9) T26 (
+    record { pos = 11; st = List.[]; d = 0; at = λ x. x },
+    (
+      record { pos = 7; st = List.[]; d = 0; at = λ x. x },
+      (
+        record { pos = 9; st = List.[]; d = 0; at = λ x. x },
+        (
+          record { pos = 8; st = List.[]; d = 0; at = λ x. x },
+          (
+            record { pos = 16; st = List.[]; d = 0; at = λ x. x },
+            (record { pos = 17; st = List.[]; d = 0; at = λ x. x }, tt),
+          ),
+        ),
+      ),
+    ),
+  ) 18 List.[] Laws'.mir
+
   abbrev s27 : (bs : List.List Nat.ℕ) → Typed.Mo T28 → Typed.Mo T29
   s27 = λ bs. Scalar.n-room T28 7 Laws'''.mir
+
   abbrev s28 : (bs : List.List Nat.ℕ) → Typed.Mo T29 → Typed.Mo T30
   s28 = λ bs. Scalar.n-room T29 8 Laws''''''''.mir
+
   abbrev s29 : (bs : List.List Nat.ℕ) → Typed.Mo T30 → Typed.Mo T31
   s29 = λ bs. Scalar.n-room T30 11 Laws''.mir
+
   abbrev s30 : (bs : List.List Nat.ℕ) → Typed.Both T31 T32
-  s30 = λ bs. Call.callB ps·5 r·5 (claims· .10) (claims· .11) T31 (record { pos = 18; st = List.[]; d = 0; at = λ x. x }, tt,) 27 List.[]
-      Syntax.tyBool
+  s30 = λ bs. Call.callB ps·5 r·5 (claims· .10) (claims· .11) T31
+      (record { pos = 18; st = List.[]; d = 0; at = λ x. x }, tt) 27 List.[] Syntax.tyBool
+
   abbrev s31 : (bs : List.List Nat.ℕ) → Typed.Mo T32 → Typed.Mo T34
   s31 = λ bs. Scalar.n-room T32 18 Laws'.mir
+
   abbrev s32 : (bs : List.List Nat.ℕ) → Typed.Mo T34 → Typed.Mo T35
   s32 = λ bs. Scalar.n-room T34 27 Syntax.tyBool
+
   abbrev s33 : (bs : List.List Nat.ℕ) → Typed.Both T35 T36
-  s33 = λ bs. Call.callB ps·6 r·6 (claims· .12) (claims· .13) T35 (record { pos = 17; st = List.[]; d = 0; at = λ x. x }, (record { pos = 12; st =
-      List.[]; d = 0; at = λ x. x }, tt),) 19 List.[] ReservationUsage.ty
+  s33 = λ bs. Call.callB ps·6 r·6 (claims· .12) (claims· .13) T35 (
+    record { pos = 17; st = List.[]; d = 0; at = λ x. x },
+    (record { pos = 12; st = List.[]; d = 0; at = λ x. x }, tt),
+  ) 19 List.[] ReservationUsage.ty
+
   abbrev s34 : (bs : List.List Nat.ℕ) → Typed.Mo T36 → Typed.Mo T37
   s34 = λ bs. Scalar.n-room T36 12 Laws'''''''''''.mir
+
   abbrev s35 : (bs : List.List Nat.ℕ) → Typed.Both T37 T38
-  s35 = λ bs. Call.callB ps·7 r·7 (claims· .14) (claims· .15) T37 (record { pos = 17; st = List.[]; d = 0; at = λ x. x }, tt,) 20 List.[]
-      (Syntax.tyInt Syntax.w64)
+  s35 = λ bs. Call.callB ps·7 r·7 (claims· .14) (claims· .15) T37
+      (record { pos = 17; st = List.[]; d = 0; at = λ x. x }, tt) 20 List.[] (Syntax.tyInt Syntax.w64)
+
   abbrev s36 : (bs : List.List Nat.ℕ) → Typed.Mo T38 → Typed.Mo T39
   s36 = λ bs. Scalar.n-room T38 17 Laws'''''''''.mir
+
   abbrev s38 : (bs : List.List Nat.ℕ) → Typed.Gives T39 T41
   s38 = λ bs. Relend.k-sl-relend ReservationUsage.row T39 2 29 1 6 ref7 ref2 Row.off λ x. x
+
   abbrev s39 : (bs : List.List Nat.ℕ) → Typed.Asks T41 T42
-  s39 = λ bs. Relend.k-sl-aggregate ReservationUsage.row (Relend.asMut ReservationUsage.row) T41 29 30 6 ref2 ref2 (λ x. x) (Scalar.oFld 2
-      ((Syntax.field 1) ∷ List.[]) (Syntax.tyInt Syntax.w64) 8 λ v. Shared.lenV (v .0))
+  s39 = λ bs. Relend.k-sl-aggregate ReservationUsage.row (Relend.asMut ReservationUsage.row) T41 29 30 6 ref2 ref2
+      (λ x. x) (Scalar.oFld 2 ((Syntax.field 1) ∷ List.[]) (Syntax.tyInt Syntax.w64) 8 λ v. Shared.lenV (v .0))
+
   abbrev s40 : (bs : List.List Nat.ℕ) → Typed.Both T42 T43
-  s40 = λ bs. Call.callB ps·8 r·8 (claims· .16) (claims· .17) T42 (record { pos = 30; ty = Syntax.tyRef Syntax.erased Syntax.mut ReservationUsage.to;
-      ref = λ x. x; }, (Bool.bLit Bool'.true, (Num.vAt 20 λ x. x, (record { pos = 19; st = List.[]; d = 0; at = λ x. x }, tt)),),) 28 (6 ∷ List.[])
-      Syntax.tyUnit
+  s40 = λ bs. Call.callB ps·8 r·8 (claims· .16) (claims· .17) T42 (
+    record { pos = 30; ty = ref2; ref = λ x. x },
+    (Bool.bLit Bool'.true, (Num.vAt 20 λ x. x, (record { pos = 19; st = List.[]; d = 0; at = λ x. x }, tt))),
+  ) 28 (6 ∷ List.[]) Syntax.tyUnit
+
   abbrev s41 : (bs : List.List Nat.ℕ) → Typed.Mo T43 → Typed.Mo T44
   s41 = λ bs. Scalar.n-room T43 28 Syntax.tyUnit
+
   abbrev s43 : (bs : List.List Nat.ℕ) → Typed.Both T44 T46
   s43 = λ bs. Relend.k-back-sl ReservationUsage.row T44 30 2 1 6 ref7 ref2 Row.off (λ x. x) λ x. x
+
   abbrev s45 : (bs : List.List Nat.ℕ) → Typed.Both T46 T48
-  s45 = λ bs. Call.callB ps·9 r·9 (claims· .18) (claims· .19) T46 (Num.vFld 6 ((Syntax.field 2) ∷ List.[]) 16 λ x. Places.struct .as-values x .1 .1
-      .0, (Bool.bLit Bool'.true, (Num.vAt 20 λ x. x, (Num.vAt 10 λ x. x, tt))),) 21 List.[] (Syntax.tyInt Syntax.w64)
+  s45 = λ bs. Call.callB ps·9 r·9 (claims· .18) (claims· .19) T46 (
+    Num.vFld 6 ((Syntax.field 2) ∷ List.[]) 16 λ x. Places.struct .as-values x .1 .1 .0,
+    (Bool.bLit Bool'.true, (Num.vAt 20 λ x. x, (Num.vAt 10 λ x. x, tt))),
+  ) 21 List.[] (Syntax.tyInt Syntax.w64)
+
   abbrev s46 : (bs : List.List Nat.ℕ) → Typed.Both T48 T49
-  s46 = λ bs. Call.callB ps·10 r·10 (claims· .20) (claims· .21) T48 (record { pos = 6; st = List.[]; d = 0; at = λ x. x }, (Num.vAt 21 λ x. x, tt),)
-      22 List.[] Laws'''''.mir
+  s46 = λ bs. Call.callB ps·10 r·10 (claims· .20) (claims· .21) T48 (
+    record { pos = 6; st = List.[]; d = 0; at = λ x. x },
+    (Num.vAt 21 λ x. x, tt),
+  ) 22 List.[] Laws'''''.mir
+
   abbrev s47 : (bs : List.List Nat.ℕ) → Typed.Mo T49 → Typed.Mo T50
   s47 = λ bs. Scalar.n-room T49 6 Laws'''''.mir
+
   abbrev s49 : (bs : List.List Nat.ℕ) → Typed.Gives T50 T52
   s49 = λ bs. Relend.k-sl-relend RelayPending.row T50 1 31 0 7 ref6 ref3 Row.off λ x. x
+
   abbrev s50 : (bs : List.List Nat.ℕ) → Typed.Asks T52 T53
-  s50 = λ bs. Relend.k-sl-aggregate RelayPending.row (Relend.asMut RelayPending.row) T52 31 32 7 ref3 ref3 (λ x. x) (Scalar.oFld 1 ((Syntax.field 1) ∷
-      List.[]) (Syntax.tyInt Syntax.w64) 8 λ v. Shared.lenV (v .0))
+  s50 = λ bs. Relend.k-sl-aggregate RelayPending.row (Relend.asMut RelayPending.row) T52 31 32 7 ref3 ref3 (λ x. x) (Scalar.oFld
+      1 ((Syntax.field 1) ∷ List.[]) (Syntax.tyInt Syntax.w64) 8 λ v. Shared.lenV (v .0))
+
   abbrev s52 : (bs : List.List Nat.ℕ) → Typed.Gives T53 T55
   s52 = λ bs. Relend.k-sl-relend InflightAction.row T53 3 33 2 8 ref8 ref4 Row.off λ x. x
+
   abbrev s53 : (bs : List.List Nat.ℕ) → Typed.Asks T55 T56
-  s53 = λ bs. Relend.k-sl-aggregate InflightAction.row (Relend.asMut InflightAction.row) T55 33 34 8 ref4 ref4 (λ x. x) (Scalar.oFld 3 ((Syntax.field
-      1) ∷ List.[]) (Syntax.tyInt Syntax.w64) 8 λ v. Shared.lenV (v .0))
+  s53 = λ bs. Relend.k-sl-aggregate InflightAction.row (Relend.asMut InflightAction.row) T55 33 34 8 ref4 ref4 (λ x. x) (Scalar.oFld
+      3 ((Syntax.field 1) ∷ List.[]) (Syntax.tyInt Syntax.w64) 8 λ v. Shared.lenV (v .0))
+
   abbrev s55 : (bs : List.List Nat.ℕ) → Typed.Gives T56 T58
   s55 = λ bs. Relend.k-sl-relend (Referent.rtF (Referent.fInt Syntax.w32)) T56 4 35 3 9 ref9 ref5 Row.off λ x. x
+
   abbrev s56 : (bs : List.List Nat.ℕ) → Typed.Asks T58 T59
-  s56 = λ bs. Relend.k-sl-aggregate (Referent.rtF (Referent.fInt Syntax.w32)) (Relend.asMut (Referent.rtF (Referent.fInt Syntax.w32))) T58 35 36 9
-      ref5 ref5 (λ x. x) (Scalar.oFld 4 ((Syntax.field 1) ∷ List.[]) (Syntax.tyInt Syntax.w64) 8 λ v. Shared.lenV (v .0))
+  s56 = λ bs. Relend.k-sl-aggregate (Referent.rtF (Referent.fInt Syntax.w32))
+      (Relend.asMut (Referent.rtF (Referent.fInt Syntax.w32))) T58 35 36 9 ref5 ref5 (λ x. x) (Scalar.oFld 4
+      ((Syntax.field 1) ∷ List.[]) (Syntax.tyInt Syntax.w64) 8 λ v. Shared.lenV (v .0))
+
   abbrev s57 : (bs : List.List Nat.ℕ) → Typed.Both T59 T60
-  s57 = λ bs. Call.callB ps·11 r·11 (claims· .22) (claims· .23) T59 (record { pos = 32; ty = Syntax.tyRef Syntax.erased Syntax.mut RelayPending.to;
-      ref = λ x. x; }, (record { pos = 34; ty = Syntax.tyRef Syntax.erased Syntax.mut InflightAction.to; ref = λ x. x; }, (record { pos = 36; ty =
-      Syntax.tyRef Syntax.erased Syntax.mut (Syntax.tyInt Syntax.w32); ref = λ x. x; }, (record { pos = 5; st = List.[]; d = 0; at = λ x. x }, (record
-      { pos = 22; st = List.[]; d = 0; at = λ x. x }, (record { pos = 9; st = List.[]; d = 0; at = λ x. x }, (record { pos = 19; st = List.[]; d = 0;
-      at = λ x. x }, (record { pos = 16; st = List.[]; d = 0; at = λ x. x }, tt),),),),),),),) 0 (7 ∷ 8 ∷ 9 ∷ List.[]) Laws'''''''''''''.mir
+  s57 = λ bs. Call.callB ps·11 r·11 (claims· .22) (claims· .23) T59 (
+    record { pos = 32; ty = ref3; ref = λ x. x },
+    (
+      record { pos = 34; ty = ref4; ref = λ x. x },
+      (
+        record { pos = 36; ty = ref5; ref = λ x. x },
+        (
+          record { pos = 5; st = List.[]; d = 0; at = λ x. x },
+          (
+            record { pos = 22; st = List.[]; d = 0; at = λ x. x },
+            (
+              record { pos = 9; st = List.[]; d = 0; at = λ x. x },
+              (
+                record { pos = 19; st = List.[]; d = 0; at = λ x. x },
+                (record { pos = 16; st = List.[]; d = 0; at = λ x. x }, tt),
+              ),
+            ),
+          ),
+        ),
+      ),
+    ),
+  ) 0 (7 ∷ 8 ∷ 9 ∷ List.[]) Laws'''''''''''''.mir
+
   abbrev s58 : (bs : List.List Nat.ℕ) → Typed.Mo T60 → Typed.Mo T61
   s58 = λ bs. Scalar.n-room T60 5 Laws''''''''''''.mir
+
   abbrev s59 : (bs : List.List Nat.ℕ) → Typed.Mo T61 → Typed.Mo T62
   s59 = λ bs. Scalar.n-room T61 9 Laws''''.mir
+
   abbrev s60 : (bs : List.List Nat.ℕ) → Typed.Mo T62 → Typed.Mo T63
   s60 = λ bs. Scalar.n-room T62 16 Laws'''''''.mir
+
   abbrev s61 : (bs : List.List Nat.ℕ) → Typed.Mo T63 → Typed.Mo T64
   s61 = λ bs. Scalar.n-room T63 19 ReservationUsage.ty
+
   abbrev s62 : (bs : List.List Nat.ℕ) → Typed.Mo T64 → Typed.Mo T65
   s62 = λ bs. Scalar.n-room T64 22 Laws'''''.mir
+
   abbrev s64 : (bs : List.List Nat.ℕ) → Typed.Both T65 T67
   s64 = λ bs. Relend.k-back-sl RelayPending.row T65 32 1 0 7 ref6 ref3 Row.off (λ x. x) λ x. x
+
   abbrev s67 : (bs : List.List Nat.ℕ) → Typed.Both T67 T70
   s67 = λ bs. Relend.k-back-sl InflightAction.row T67 34 3 2 8 ref8 ref4 Row.off (λ x. x) λ x. x
+
   abbrev s70 : (bs : List.List Nat.ℕ) → Typed.Both T70 T73
   s70 = λ bs. Relend.k-back-sl (Referent.rtF (Referent.fInt Syntax.w32)) T70 36 4 3 9 ref9 ref5 Row.off (λ x. x) λ x. x
+
   abbrev s71 : (bs : List.List Nat.ℕ) → Typed.Gives T73 T74
   s71 = λ bs. Know.k-sl-known (Referent.fInt Syntax.w32) T73 4 3 ref9 Row.off 0 λ x. x
+
   abbrev s73 : (bs : List.List Nat.ℕ) → Typed.Mo T74 → Typed.Mo T76
   s73 = λ bs. Scalar.n-room T74 10 (Syntax.tyInt Syntax.w64)
+
   abbrev s74 : (bs : List.List Nat.ℕ) → Typed.Mo T76 → Typed.Mo T77
   s74 = λ bs. Scalar.n-room T76 20 (Syntax.tyInt Syntax.w64)
+
   abbrev s75 : (bs : List.List Nat.ℕ) → Typed.Mo T77 → Typed.Mo T78
   s75 = λ bs. Scalar.n-room T77 21 (Syntax.tyInt Syntax.w64)
+
   abbrev s76 : (bs : List.List Nat.ℕ) → Typed.Mo T32 → Typed.Mo T79
   s76 = λ bs. Scalar.n-room T32 9 Laws''''.mir
+
   abbrev s77 : (bs : List.List Nat.ℕ) → Typed.Mo T79 → Typed.Mo T80
   s77 = λ bs. Scalar.n-room T79 12 Laws'''''''''''.mir
+
   abbrev s78 : (bs : List.List Nat.ℕ) → Typed.Mo T80 → Typed.Mo T81
   s78 = λ bs. Scalar.n-room T80 16 Laws'''''''.mir
+
   abbrev s79 : (bs : List.List Nat.ℕ) → Typed.Mo T81 → Typed.Mo T82
   s79 = λ bs. Scalar.n-room T81 17 Laws'''''''''.mir
+
   abbrev s80 : (bs : List.List Nat.ℕ) → Typed.Mo T82 → Typed.Mo T83
   s80 = λ bs. Scalar.n-room T82 27 Syntax.tyBool
+
   abbrev s81 : (bs : List.List Nat.ℕ) → Typed.Both T33 T84
-  s81 = λ bs. Call.callB ps·12 r·12 (claims· .24) (claims· .25) T33 (record { pos = 5; st = List.[]; d = 0; at = λ x. x }, (record { pos = 6; st =
-      List.[]; d = 0; at = λ x. x }, (record { pos = 18; st = List.[]; d = 0; at = λ x. x }, tt),),) 0 List.[] Laws'''''''''''''.mir
+  s81 = λ bs. Call.callB ps·12 r·12 (claims· .24) (claims· .25) T33 (
+    record { pos = 5; st = List.[]; d = 0; at = λ x. x },
+    (
+      record { pos = 6; st = List.[]; d = 0; at = λ x. x },
+      (record { pos = 18; st = List.[]; d = 0; at = λ x. x }, tt),
+    ),
+  ) 0 List.[] Laws'''''''''''''.mir
+
   abbrev s82 : (bs : List.List Nat.ℕ) → Typed.Mo T84 → Typed.Mo T85
   s82 = λ bs. Scalar.n-room T84 5 Laws''''''''''''.mir
+
   abbrev s83 : (bs : List.List Nat.ℕ) → Typed.Mo T85 → Typed.Mo T86
   s83 = λ bs. Scalar.n-room T85 6 Laws'''''.mir
+
   abbrev s84 : (bs : List.List Nat.ℕ) → Typed.Mo T86 → Typed.Mo T87
   s84 = λ bs. Scalar.n-room T86 10 (Syntax.tyInt Syntax.w64)
+
   abbrev s85 : (bs : List.List Nat.ℕ) → Typed.Mo T87 → Typed.Mo T88
   s85 = λ bs. Scalar.n-room T87 18 Laws'.mir
-  module _ (Pre· : (κs : Lifetimes.Lfts 4) → Kinds.Dens κs ps → Type 0) (Post· : (κs : Lifetimes.Lfts 4) → (a : Kinds.Dens κs ps) → Kinds.Plain 4 ps r
-      κs) where
+
+  module _ (Pre· : (κs : Lifetimes.Lfts 4) → Kinds.Dens κs ps → Type 0) (Post· : (κs : Lifetimes.Lfts 4) →
+      (a : Kinds.Dens κs ps) → Kinds.Plain 4 ps r κs) where
     module _ (M : Type 1) where
       abbrev pub Closed : Type 2
-      Closed = (𝓤 : URA.URA M) (H : Wp.Heap 𝓤) (A : Atoms.Atoms 𝓤) (W : Kit.Given 𝓤 H A) (𝓣 : Wp.Tables 𝓤 H) (known0 : Plain.Known 𝓤 H A W 𝓣 0 ps·0
-          r·0 (claims· .0) (claims· .1) "hnsr_circuit::open::incoming_out") (known1 : Plain.Known 𝓤 H A W 𝓣 0 ps·1 r·1 (claims· .2) (claims· .3)
-          "hnsr_circuit::queue::asking") (known2 : Plain.Known 𝓤 H A W 𝓣 1 ps·2 r·2 (claims· .4) (claims· .5)
-          "hnsr_circuit::tables::inflight::scan_actions") (known3 : Plain.Known 𝓤 H A W 𝓣 1 ps·3 r·3 (claims· .6) (claims· .7)
-          "hnsr_circuit::tables::ledger::scan_ledger") (known4 : Plain.Known 𝓤 H A W 𝓣 0 ps·4 r·4 (claims· .8) (claims· .9)
-          "hnsr_circuit::open::placed_rows") (known5 : Plain.Known 𝓤 H A W 𝓣 0 ps·5 r·5 (claims· .10) (claims· .11) "hnsr_circuit::answer::is_taken")
-          (known6 : Plain.Known 𝓤 H A W 𝓣 0 ps·6 r·6 (claims· .12) (claims· .13) "hnsr_circuit::open::booked_usage") (known7 : Plain.Known 𝓤 H A W 𝓣 0
-          ps·7 r·7 (claims· .14) (claims· .15) "hnsr_circuit::open::booked_place") (known8 : Plain.Known 𝓤 H A W 𝓣 1 ps·8 r·8 (claims· .16) (claims·
-          .17) "hnsr_circuit::tables::ledger::set_usage") (known9 : Plain.Known 𝓤 H A W 𝓣 0 ps·9 r·9 (claims· .18) (claims· .19)
-          "hnsr_circuit::places::raised") (known10 : Plain.Known 𝓤 H A W 𝓣 0 ps·10 r·10 (claims· .20) (claims· .21)
-          "hnsr_circuit::places::with_ledger") (known11 : Plain.Known 𝓤 H A W 𝓣 3 ps·11 r·11 (claims· .22) (claims· .23)
-          "hnsr_circuit::handle_open::open_booked") (known12 : Plain.Known 𝓤 H A W 𝓣 0 ps·12 r·12 (claims· .24) (claims· .25)
-          "hnsr_circuit::revoking_calls::refused") → Statement.Triple 𝓤 (Wp.WpFn 𝓤 H (𝓣 .C) (𝓣 .Λ) (Function.fnOf 4 ps r xs m hs body))
+      Closed = (𝓤 : URA.URA M) (H : Wp.Heap 𝓤) (A : Atoms.Atoms 𝓤) (W : Kit.Given 𝓤 H A) (𝓣 : Wp.Tables 𝓤 H) (known0 :
+          Plain.Known 𝓤 H A W 𝓣 0 ps·0 r·0 (claims· .0) (claims· .1) "hnsr_circuit::open::incoming_out") (known1 :
+          Plain.Known 𝓤 H A W 𝓣 0 ps·1 r·1 (claims· .2) (claims· .3) "hnsr_circuit::queue::asking") (known2 :
+          Plain.Known 𝓤 H A W 𝓣 1 ps·2 r·2 (claims· .4) (claims· .5) "hnsr_circuit::tables::inflight::scan_actions") (known3
+          : Plain.Known 𝓤 H A W 𝓣 1 ps·3 r·3 (claims· .6) (claims· .7) "hnsr_circuit::tables::ledger::scan_ledger") (known4
+          : Plain.Known 𝓤 H A W 𝓣 0 ps·4 r·4 (claims· .8) (claims· .9) "hnsr_circuit::open::placed_rows") (known5 :
+          Plain.Known 𝓤 H A W 𝓣 0 ps·5 r·5 (claims· .10) (claims· .11) "hnsr_circuit::answer::is_taken") (known6 :
+          Plain.Known 𝓤 H A W 𝓣 0 ps·6 r·6 (claims· .12) (claims· .13) "hnsr_circuit::open::booked_usage") (known7 :
+          Plain.Known 𝓤 H A W 𝓣 0 ps·7 r·7 (claims· .14) (claims· .15) "hnsr_circuit::open::booked_place") (known8 :
+          Plain.Known 𝓤 H A W 𝓣 1 ps·8 r·8 (claims· .16) (claims· .17) "hnsr_circuit::tables::ledger::set_usage") (known9
+          : Plain.Known 𝓤 H A W 𝓣 0 ps·9 r·9 (claims· .18) (claims· .19) "hnsr_circuit::places::raised") (known10 :
+          Plain.Known 𝓤 H A W 𝓣 0 ps·10 r·10 (claims· .20) (claims· .21) "hnsr_circuit::places::with_ledger") (known11
+          : Plain.Known 𝓤 H A W 𝓣 3 ps·11 r·11 (claims· .22) (claims· .23) "hnsr_circuit::handle_open::open_booked") (known12
+          : Plain.Known 𝓤 H A W 𝓣 0 ps·12 r·12 (claims· .24) (claims· .25) "hnsr_circuit::revoking_calls::refused") →
+          Statement.Triple 𝓤 (Wp.WpFn 𝓤 H (𝓣 .C) (𝓣 .Λ) (Function.fnOf 4 ps r xs m hs body))
           (Function.plainOf 𝓤 H A 4 ps r Pre· Post·)
+
     module _ where
       abbrev at0 : (bs : List.List Nat.ℕ) → Typed.TF T78 O1
       at0 = λ bs. Typed.atRet O1
+
       abbrev at1 : (bs : List.List Nat.ℕ) → Typed.TF T77 O1
       at1 = λ bs. λ Ψ. Typed.pass T77 T78 (s75 bs) (at0 bs Ψ)
+
       abbrev at2 : (bs : List.List Nat.ℕ) → Typed.TF T76 O1
       at2 = λ bs. λ Ψ. Typed.pass T76 T77 (s74 bs) (at1 bs Ψ)
+
       abbrev at3 : (bs : List.List Nat.ℕ) → Typed.TF T74 O1
       at3 = λ bs. λ Ψ. Typed.pass T74 T76 (s73 bs) (at2 bs Ψ)
+
       abbrev at4 : (bs : List.List Nat.ℕ) → Typed.TF T74 O1
       at4 = λ bs. λ Ψ. at3 bs Ψ
+
       abbrev at5 : (bs : List.List Nat.ℕ) → Typed.TF T73 O1
       at5 = λ bs. λ Ψ. Typed.give (s71 bs) (at4 bs Ψ)
+
       abbrev at6 : (bs : List.List Nat.ℕ) → Typed.TF T70 O1
       at6 = λ bs. λ Ψ. Typed.both (s70 bs) (at5 bs Ψ)
+
       abbrev at7 : (bs : List.List Nat.ℕ) → Typed.TF T70 O1
       at7 = λ bs. λ Ψ. at6 bs Ψ
+
       abbrev at8 : (bs : List.List Nat.ℕ) → Typed.TF T70 O1
       at8 = λ bs. λ Ψ. at7 bs Ψ
+
       abbrev at9 : (bs : List.List Nat.ℕ) → Typed.TF T67 O1
       at9 = λ bs. λ Ψ. Typed.both (s67 bs) (at8 bs Ψ)
+
       abbrev at10 : (bs : List.List Nat.ℕ) → Typed.TF T67 O1
       at10 = λ bs. λ Ψ. at9 bs Ψ
+
       abbrev at11 : (bs : List.List Nat.ℕ) → Typed.TF T67 O1
       at11 = λ bs. λ Ψ. at10 bs Ψ
+
       abbrev at12 : (bs : List.List Nat.ℕ) → Typed.TF T65 O1
       at12 = λ bs. λ Ψ. Typed.both (s64 bs) (at11 bs Ψ)
+
       abbrev at13 : (bs : List.List Nat.ℕ) → Typed.TF T65 O1
       at13 = λ bs. λ Ψ. at12 bs Ψ
+
       abbrev at14 : (bs : List.List Nat.ℕ) → Typed.TF T64 O1
       at14 = λ bs. λ Ψ. Typed.pass T64 T65 (s62 bs) (at13 bs Ψ)
+
       abbrev at15 : (bs : List.List Nat.ℕ) → Typed.TF T63 O1
       at15 = λ bs. λ Ψ. Typed.pass T63 T64 (s61 bs) (at14 bs Ψ)
+
       abbrev at16 : (bs : List.List Nat.ℕ) → Typed.TF T62 O1
       at16 = λ bs. λ Ψ. Typed.pass T62 T63 (s60 bs) (at15 bs Ψ)
+
       abbrev at17 : (bs : List.List Nat.ℕ) → Typed.TF T61 O1
       at17 = λ bs. λ Ψ. Typed.pass T61 T62 (s59 bs) (at16 bs Ψ)
+
       abbrev at18 : (bs : List.List Nat.ℕ) → Typed.TF T60 O1
       at18 = λ bs. λ Ψ. Typed.pass T60 T61 (s58 bs) (at17 bs Ψ)
+
       abbrev at19 : (bs : List.List Nat.ℕ) → Typed.TF T59 O1
       at19 = λ bs. λ Ψ. Typed.both (s57 bs) (at18 bs Ψ)
+
       abbrev at20 : (bs : List.List Nat.ℕ) → Typed.TF T58 O1
       at20 = λ bs. λ Ψ. Typed.ask (s56 bs) (at19 bs Ψ)
+
       abbrev at21 : (bs : List.List Nat.ℕ) → Typed.TF T56 O1
       at21 = λ bs. λ Ψ. Typed.give (s55 bs) (at20 bs Ψ)
+
       abbrev at22 : (bs : List.List Nat.ℕ) → Typed.TF T56 O1
       at22 = λ bs. λ Ψ. at21 bs Ψ
+
       abbrev at23 : (bs : List.List Nat.ℕ) → Typed.TF T55 O1
       at23 = λ bs. λ Ψ. Typed.ask (s53 bs) (at22 bs Ψ)
+
       abbrev at24 : (bs : List.List Nat.ℕ) → Typed.TF T53 O1
       at24 = λ bs. λ Ψ. Typed.give (s52 bs) (at23 bs Ψ)
+
       abbrev at25 : (bs : List.List Nat.ℕ) → Typed.TF T53 O1
       at25 = λ bs. λ Ψ. at24 bs Ψ
+
       abbrev at26 : (bs : List.List Nat.ℕ) → Typed.TF T52 O1
       at26 = λ bs. λ Ψ. Typed.ask (s50 bs) (at25 bs Ψ)
+
       abbrev at27 : (bs : List.List Nat.ℕ) → Typed.TF T50 O1
       at27 = λ bs. λ Ψ. Typed.give (s49 bs) (at26 bs Ψ)
+
       abbrev at28 : (bs : List.List Nat.ℕ) → Typed.TF T50 O1
       at28 = λ bs. λ Ψ. at27 bs Ψ
+
       abbrev at29 : (bs : List.List Nat.ℕ) → Typed.TF T49 O1
       at29 = λ bs. λ Ψ. Typed.pass T49 T50 (s47 bs) (at28 bs Ψ)
+
       abbrev at30 : (bs : List.List Nat.ℕ) → Typed.TF T48 O1
       at30 = λ bs. λ Ψ. Typed.both (s46 bs) (at29 bs Ψ)
+
       abbrev at31 : (bs : List.List Nat.ℕ) → Typed.TF T46 O1
       at31 = λ bs. λ Ψ. Typed.both (s45 bs) (at30 bs Ψ)
+
       abbrev at32 : (bs : List.List Nat.ℕ) → Typed.TF T46 O1
       at32 = λ bs. λ Ψ. at31 bs Ψ
+
       abbrev at33 : (bs : List.List Nat.ℕ) → Typed.TF T44 O1
       at33 = λ bs. λ Ψ. Typed.both (s43 bs) (at32 bs Ψ)
+
       abbrev at34 : (bs : List.List Nat.ℕ) → Typed.TF T44 O1
       at34 = λ bs. λ Ψ. at33 bs Ψ
+
       abbrev at35 : (bs : List.List Nat.ℕ) → Typed.TF T43 O1
       at35 = λ bs. λ Ψ. Typed.pass T43 T44 (s41 bs) (at34 bs Ψ)
+
       abbrev at36 : (bs : List.List Nat.ℕ) → Typed.TF T42 O1
       at36 = λ bs. λ Ψ. Typed.both (s40 bs) (at35 bs Ψ)
+
       abbrev at37 : (bs : List.List Nat.ℕ) → Typed.TF T41 O1
       at37 = λ bs. λ Ψ. Typed.ask (s39 bs) (at36 bs Ψ)
+
       abbrev at38 : (bs : List.List Nat.ℕ) → Typed.TF T39 O1
       at38 = λ bs. λ Ψ. Typed.give (s38 bs) (at37 bs Ψ)
+
       abbrev at39 : (bs : List.List Nat.ℕ) → Typed.TF T39 O1
       at39 = λ bs. λ Ψ. at38 bs Ψ
+
       abbrev at40 : (bs : List.List Nat.ℕ) → Typed.TF T38 O1
       at40 = λ bs. λ Ψ. Typed.pass T38 T39 (s36 bs) (at39 bs Ψ)
+
       abbrev at41 : (bs : List.List Nat.ℕ) → Typed.TF T37 O1
       at41 = λ bs. λ Ψ. Typed.both (s35 bs) (at40 bs Ψ)
+
       abbrev at42 : (bs : List.List Nat.ℕ) → Typed.TF T36 O1
       at42 = λ bs. λ Ψ. Typed.pass T36 T37 (s34 bs) (at41 bs Ψ)
+
       abbrev at43 : (bs : List.List Nat.ℕ) → Typed.TF T35 O1
       at43 = λ bs. λ Ψ. Typed.both (s33 bs) (at42 bs Ψ)
+
       abbrev at44 : (bs : List.List Nat.ℕ) → Typed.TF T34 O1
       at44 = λ bs. λ Ψ. Typed.pass T34 T35 (s32 bs) (at43 bs Ψ)
+
       abbrev at45 : (bs : List.List Nat.ℕ) → Typed.TF T32 O1
       at45 = λ bs. λ Ψ. Typed.pass T32 T34 (s31 bs) (at44 bs Ψ)
+
       abbrev at46 : (bs : List.List Nat.ℕ) → Typed.TF T83 O1
       at46 = λ bs. Typed.atNext O1
+
       abbrev at47 : (bs : List.List Nat.ℕ) → Typed.TF T82 O1
       at47 = λ bs. λ Ψ. Typed.pass T82 T83 (s80 bs) (at46 bs Ψ)
+
       abbrev at48 : (bs : List.List Nat.ℕ) → Typed.TF T81 O1
       at48 = λ bs. λ Ψ. Typed.pass T81 T82 (s79 bs) (at47 bs Ψ)
+
       abbrev at49 : (bs : List.List Nat.ℕ) → Typed.TF T80 O1
       at49 = λ bs. λ Ψ. Typed.pass T80 T81 (s78 bs) (at48 bs Ψ)
+
       abbrev at50 : (bs : List.List Nat.ℕ) → Typed.TF T79 O1
       at50 = λ bs. λ Ψ. Typed.pass T79 T80 (s77 bs) (at49 bs Ψ)
+
       abbrev at51 : (bs : List.List Nat.ℕ) → Typed.TF T32 O1
       at51 = λ bs. λ Ψ. Typed.pass T32 T79 (s76 bs) (at50 bs Ψ)
+
       abbrev at52 : (bs : List.List Nat.ℕ) → Typed.TF T32 O1
       at52 = λ bs. Scalar.Φcond T32 O1 27 (λ x. x) (at45 bs) (at51 bs)
+
       abbrev at53 : (bs : List.List Nat.ℕ) → Typed.TF T88 O0
       at53 = λ bs. Typed.atRet O0
+
       abbrev at54 : (bs : List.List Nat.ℕ) → Typed.TF T87 O0
       at54 = λ bs. λ Ψ. Typed.pass T87 T88 (s85 bs) (at53 bs Ψ)
+
       abbrev at55 : (bs : List.List Nat.ℕ) → Typed.TF T86 O0
       at55 = λ bs. λ Ψ. Typed.pass T86 T87 (s84 bs) (at54 bs Ψ)
+
       abbrev at56 : (bs : List.List Nat.ℕ) → Typed.TF T85 O0
       at56 = λ bs. λ Ψ. Typed.pass T85 T86 (s83 bs) (at55 bs Ψ)
+
       abbrev at57 : (bs : List.List Nat.ℕ) → Typed.TF T84 O0
       at57 = λ bs. λ Ψ. Typed.pass T84 T85 (s82 bs) (at56 bs Ψ)
+
       abbrev at58 : (bs : List.List Nat.ℕ) → Typed.TF T33 O0
       at58 = λ bs. λ Ψ. Typed.both (s81 bs) (at57 bs Ψ)
+
       abbrev at59 : (bs : List.List Nat.ℕ) → Typed.TF T32 O0
       at59 = λ bs. λ Ψ. at52 bs (Typed.wantNext T33 O0 (at58 bs Ψ) Ψ)
+
       abbrev at60 : (bs : List.List Nat.ℕ) → Typed.TF T31 O0
       at60 = λ bs. λ Ψ. Typed.both (s30 bs) (at59 bs Ψ)
+
       abbrev at61 : (bs : List.List Nat.ℕ) → Typed.TF T30 O0
       at61 = λ bs. λ Ψ. Typed.pass T30 T31 (s29 bs) (at60 bs Ψ)
+
       abbrev at62 : (bs : List.List Nat.ℕ) → Typed.TF T29 O0
       at62 = λ bs. λ Ψ. Typed.pass T29 T30 (s28 bs) (at61 bs Ψ)
+
       abbrev at63 : (bs : List.List Nat.ℕ) → Typed.TF T28 O0
       at63 = λ bs. λ Ψ. Typed.pass T28 T29 (s27 bs) (at62 bs Ψ)
+
       abbrev at64 : (bs : List.List Nat.ℕ) → Typed.TF T26 O0
       at64 = λ bs. λ Ψ. Typed.both (s26 bs) (at63 bs Ψ)
+
       abbrev at65 : (bs : List.List Nat.ℕ) → Typed.TF T26 O0
       at65 = λ bs. λ Ψ. at64 bs Ψ
+
       abbrev at66 : (bs : List.List Nat.ℕ) → Typed.TF T24 O0
       at66 = λ bs. λ Ψ. Typed.pass T24 T26 (s24 bs) (at65 bs Ψ)
+
       abbrev at67 : (bs : List.List Nat.ℕ) → Typed.TF T24 O0
       at67 = λ bs. λ Ψ. at66 bs Ψ
+
       abbrev at68 : (bs : List.List Nat.ℕ) → Typed.TF T23 O0
       at68 = λ bs. λ Ψ. Typed.pass T23 T24 (s22 bs) (at67 bs Ψ)
+
       abbrev at69 : (bs : List.List Nat.ℕ) → Typed.TF T22 O0
       at69 = λ bs. λ Ψ. Typed.pass T22 T23 (s21 bs) (at68 bs Ψ)
+
       abbrev at70 : (bs : List.List Nat.ℕ) → Typed.TF T21 O0
       at70 = λ bs. λ Ψ. Typed.both (s20 bs) (at69 bs Ψ)
+
       abbrev at71 : (bs : List.List Nat.ℕ) → Typed.TF T20 O0
       at71 = λ bs. λ Ψ. Typed.ask (s19 bs) (at70 bs Ψ)
+
       abbrev at72 : (bs : List.List Nat.ℕ) → Typed.TF T17 O0
       at72 = λ bs. λ Ψ. Typed.give (s18 bs) (at71 bs Ψ)
+
       abbrev at73 : (bs : List.List Nat.ℕ) → Typed.TF T17 O0
       at73 = λ bs. λ Ψ. at72 bs Ψ
+
       abbrev at74 : (bs : List.List Nat.ℕ) → Typed.TF T17 O0
       at74 = λ bs. λ Ψ. at73 bs Ψ
+
       abbrev at75 : (bs : List.List Nat.ℕ) → Typed.TF T15 O0
       at75 = λ bs. λ Ψ. Typed.pass T15 T17 (s15 bs) (at74 bs Ψ)
+
       abbrev at76 : (bs : List.List Nat.ℕ) → Typed.TF T15 O0
       at76 = λ bs. λ Ψ. at75 bs Ψ
+
       abbrev at77 : (bs : List.List Nat.ℕ) → Typed.TF T14 O0
       at77 = λ bs. λ Ψ. Typed.pass T14 T15 (s13 bs) (at76 bs Ψ)
+
       abbrev at78 : (bs : List.List Nat.ℕ) → Typed.TF T13 O0
       at78 = λ bs. λ Ψ. Typed.pass T13 T14 (s12 bs) (at77 bs Ψ)
+
       abbrev at79 : (bs : List.List Nat.ℕ) → Typed.TF T12 O0
       at79 = λ bs. λ Ψ. Typed.both (s11 bs) (at78 bs Ψ)
+
       abbrev at80 : (bs : List.List Nat.ℕ) → Typed.TF T11 O0
       at80 = λ bs. λ Ψ. Typed.ask (s10 bs) (at79 bs Ψ)
+
       abbrev at81 : (bs : List.List Nat.ℕ) → Typed.TF T9 O0
       at81 = λ bs. λ Ψ. Typed.give (s9 bs) (at80 bs Ψ)
+
       abbrev at82 : (bs : List.List Nat.ℕ) → Typed.TF T9 O0
       at82 = λ bs. λ Ψ. at81 bs Ψ
+
       abbrev at83 : (bs : List.List Nat.ℕ) → Typed.TF T8 O0
       at83 = λ bs. λ Ψ. Typed.pass T8 T9 (s7 bs) (at82 bs Ψ)
+
       abbrev at84 : (bs : List.List Nat.ℕ) → Typed.TF T7 O0
       at84 = λ bs. λ Ψ. Typed.both (s6 bs) (at83 bs Ψ)
+
       abbrev at85 : (bs : List.List Nat.ℕ) → Typed.TF T6 O0
       at85 = λ bs. λ Ψ. Typed.both (s5 bs) (at84 bs Ψ)
+
       abbrev at86 : (bs : List.List Nat.ℕ) → Typed.TF T5 O0
       at86 = λ bs. λ Ψ. Typed.both (s4 bs) (at85 bs Ψ)
+
       abbrev at87 : (bs : List.List Nat.ℕ) → Typed.TF T4 O0
       at87 = λ bs. λ Ψ. Typed.both (s3 bs) (at86 bs Ψ)
+
       abbrev at88 : (bs : List.List Nat.ℕ) → Typed.TF T3 O0
       at88 = λ bs. λ Ψ. Typed.both (s2 bs) (at87 bs Ψ)
+
       abbrev at89 : (bs : List.List Nat.ℕ) → Typed.TF T2 O0
       at89 = λ bs. λ Ψ. Typed.pass T2 T3 (s1 bs) (at88 bs Ψ)
+
       abbrev at90 : (bs : List.List Nat.ℕ) → Typed.TF T0 O0
       at90 = λ bs. λ Ψ. Typed.give (s0 bs) (at89 bs Ψ)
+
       abbrev pub Φ : (bs : List.List Nat.ℕ) → Typed.TF T0 O0
       Φ = λ bs. at90 bs
-      module _ { M : Type 1 } (𝓤 : URA.URA M) (H : Wp.Heap 𝓤) (A : Atoms.Atoms 𝓤) (W : Kit.Given 𝓤 H A) (𝓣 : Wp.Tables 𝓤 H) where
+
+      module _ {M : Type 1} (𝓤 : URA.URA M) (H : Wp.Heap 𝓤) (A : Atoms.Atoms 𝓤) (W : Kit.Given 𝓤 H A)
+          (𝓣 : Wp.Tables 𝓤 H) where
         abbrev Knowns : Type 1
-        Knowns = Plain.Known 𝓤 H A W 𝓣 0 ps·0 r·0 (claims· .0) (claims· .1) "hnsr_circuit::open::incoming_out" × Plain.Known 𝓤 H A W 𝓣 0 ps·1 r·1
-            (claims· .2) (claims· .3) "hnsr_circuit::queue::asking" × Plain.Known 𝓤 H A W 𝓣 1 ps·2 r·2 (claims· .4) (claims· .5)
-            "hnsr_circuit::tables::inflight::scan_actions" × Plain.Known 𝓤 H A W 𝓣 1 ps·3 r·3 (claims· .6) (claims· .7)
-            "hnsr_circuit::tables::ledger::scan_ledger" × Plain.Known 𝓤 H A W 𝓣 0 ps·4 r·4 (claims· .8) (claims· .9) "hnsr_circuit::open::placed_rows"
-            × Plain.Known 𝓤 H A W 𝓣 0 ps·5 r·5 (claims· .10) (claims· .11) "hnsr_circuit::answer::is_taken" × Plain.Known 𝓤 H A W 𝓣 0 ps·6 r·6
-            (claims· .12) (claims· .13) "hnsr_circuit::open::booked_usage" × Plain.Known 𝓤 H A W 𝓣 0 ps·7 r·7 (claims· .14) (claims· .15)
-            "hnsr_circuit::open::booked_place" × Plain.Known 𝓤 H A W 𝓣 1 ps·8 r·8 (claims· .16) (claims· .17)
-            "hnsr_circuit::tables::ledger::set_usage" × Plain.Known 𝓤 H A W 𝓣 0 ps·9 r·9 (claims· .18) (claims· .19) "hnsr_circuit::places::raised" ×
-            Plain.Known 𝓤 H A W 𝓣 0 ps·10 r·10 (claims· .20) (claims· .21) "hnsr_circuit::places::with_ledger" × Plain.Known 𝓤 H A W 𝓣 3 ps·11 r·11
-            (claims· .22) (claims· .23) "hnsr_circuit::handle_open::open_booked" × Plain.Known 𝓤 H A W 𝓣 0 ps·12 r·12 (claims· .24) (claims· .25)
-            "hnsr_circuit::revoking_calls::refused"
+        Knowns = Plain.Known 𝓤 H A W 𝓣 0 ps·0 r·0 (claims· .0) (claims· .1) "hnsr_circuit::open::incoming_out" ×
+            Plain.Known 𝓤 H A W 𝓣 0 ps·1 r·1 (claims· .2) (claims· .3) "hnsr_circuit::queue::asking" × Plain.Known 𝓤 H
+            A W 𝓣 1 ps·2 r·2 (claims· .4) (claims· .5) "hnsr_circuit::tables::inflight::scan_actions" × Plain.Known 𝓤 H
+            A W 𝓣 1 ps·3 r·3 (claims· .6) (claims· .7) "hnsr_circuit::tables::ledger::scan_ledger" × Plain.Known 𝓤 H A
+            W 𝓣 0 ps·4 r·4 (claims· .8) (claims· .9) "hnsr_circuit::open::placed_rows" × Plain.Known 𝓤 H A W 𝓣 0 ps·5
+            r·5 (claims· .10) (claims· .11) "hnsr_circuit::answer::is_taken" × Plain.Known 𝓤 H A W 𝓣 0 ps·6 r·6
+            (claims· .12) (claims· .13) "hnsr_circuit::open::booked_usage" × Plain.Known 𝓤 H A W 𝓣 0 ps·7 r·7
+            (claims· .14) (claims· .15) "hnsr_circuit::open::booked_place" × Plain.Known 𝓤 H A W 𝓣 1 ps·8 r·8
+            (claims· .16) (claims· .17) "hnsr_circuit::tables::ledger::set_usage" × Plain.Known 𝓤 H A W 𝓣 0 ps·9 r·9
+            (claims· .18) (claims· .19) "hnsr_circuit::places::raised" × Plain.Known 𝓤 H A W 𝓣 0 ps·10 r·10
+            (claims· .20) (claims· .21) "hnsr_circuit::places::with_ledger" × Plain.Known 𝓤 H A W 𝓣 3 ps·11 r·11
+            (claims· .22) (claims· .23) "hnsr_circuit::handle_open::open_booked" × Plain.Known 𝓤 H A W 𝓣 0 ps·12 r·12
+            (claims· .24) (claims· .25) "hnsr_circuit::revoking_calls::refused"
+
       module _ (κs : Lifetimes.Lfts 4) (qs : Lifetimes.Shares 4) where
         abbrev life0 : Row.Life
         life0 = Row.lease (κs .1 .1 .0) (qs .1 .1 .0)
+
         abbrev life1 : Row.Life
         life1 = Row.lease (κs .1 .0) (qs .1 .0)
+
         abbrev life2 : Row.Life
         life2 = Row.lease (κs .0) (qs .0)
+
         abbrev life3 : Row.Life
         life3 = Row.lease (κs .1 .1 .1 .0) (qs .1 .1 .1 .0)
+
+        abbrev l3 : Row.Entry
+        l3 = (3, Reshare.mslice-owedS InflightAction.row ref8 2 4 life0)
+
+        abbrev l2 : Row.Entry
+        l2 = (2, Reshare.mslice-owedS ReservationUsage.row ref7 1 5 life1)
+
+        abbrev l1 : Row.Entry
+        l1 = (1, Relend.mslice-owed RelayPending.row ref6 0 7 life2)
+
+        abbrev l3·1 : Row.Entry
+        l3·1 = (3, Relend.mslice-owed InflightAction.row ref8 2 8 life0)
+
+        abbrev l4 : Row.Entry
+        l4 = (4, Relend.mslice-owed (Referent.rtF (Referent.fInt Syntax.w32)) ref9 3 9 life3)
+
         abbrev g11 : List.List Row.Entry
-        g11 = (0, Rows.any-gone Laws'''''''''''''.mir,) ∷ (1, Mut.mslice RelayPending.row ref6 0,) ∷ (2, Mut.mslice ReservationUsage.row ref7 1,) ∷
-            (3, Reshare.mslice-owedS InflightAction.row ref8 2 4 life0,) ∷ (4, Mut.mslice (Referent.rtF (Referent.fInt Syntax.w32)) ref9 3,) ∷ (5,
-            Rows.whole (Declared'.row OpaqueRelayRuntime.the-type)) ∷ (6, Rows.whole (Declared'.row Places.the-type),) ∷ (7, Rows.whole (Declared'.row
-            OpenGathered.the-type)) ∷ (8, Rows.whole (Declared'.row Drawing.the-type),) ∷ (9, Rows.whole (Declared'.row OpenPlan.the-type)) ∷ (10,
-            Rows.sc-here (Row.sInt Syntax.w64),) ∷ (11, Rows.whole (Declared'.row OpaqueRelayConfig.the-type)) ∷ (12, Rows.whole (Declared'.row
-            RelayTicket.the-type),) ∷ (13, Rows.whole (Declared'.row ReservationId.the-type)) ∷ (14, Rows.any-gone Laws''''''''''.mir,) ∷ (15,
-            Rows.whole (Declared'.row ActionQuestion.the-type)) ∷ List.[]
+        g11 = e0 ∷ e1 ∷ e2 ∷ l3 ∷ e4 ∷ e5 ∷ e6 ∷ e7 ∷ e8 ∷ e9 ∷ e10·1 ∷ e11·1 ∷ e12·1 ∷ e13·1 ∷ e14 ∷ e15·1 ∷ List.[]
+
         abbrev g16 : List.List Row.Entry
-        g16 = (0, Rows.any-gone Laws'''''''''''''.mir,) ∷ (1, Mut.mslice RelayPending.row ref6 0,) ∷ (2, Mut.mslice ReservationUsage.row ref7 1,) ∷
-            (3, Reshare.mslice-owedS InflightAction.row ref8 2 4 life0,) ∷ (4, Mut.mslice (Referent.rtF (Referent.fInt Syntax.w32)) ref9 3,) ∷ (5,
-            Rows.whole (Declared'.row OpaqueRelayRuntime.the-type)) ∷ (6, Rows.whole (Declared'.row Places.the-type),) ∷ (7, Rows.whole (Declared'.row
-            OpenGathered.the-type)) ∷ (8, Rows.whole (Declared'.row Drawing.the-type),) ∷ (9, Rows.whole (Declared'.row OpenPlan.the-type)) ∷ (10,
-            Rows.sc-here (Row.sInt Syntax.w64),) ∷ (11, Rows.whole (Declared'.row OpaqueRelayConfig.the-type)) ∷ (12, Rows.whole (Declared'.row
-            RelayTicket.the-type),) ∷ (13, Rows.whole (Declared'.row ReservationId.the-type)) ∷ (14, Rows.any-gone Laws''''''''''.mir,) ∷ (15,
-            Rows.any-gone Laws''''''.mir,) ∷ List.[]
+        g16 = e0 ∷ e1 ∷ e2 ∷ l3 ∷ e4 ∷ e5 ∷ e6 ∷ e7 ∷ e8 ∷ e9 ∷ e10·1 ∷ e11·1 ∷ e12·1 ∷ e13·1 ∷ e14 ∷ e15 ∷ List.[]
+
         abbrev g17 : List.List Row.Entry
-        g17 = (0, Rows.any-gone Laws'''''''''''''.mir,) ∷ (1, Mut.mslice RelayPending.row ref6 0,) ∷ (2, Reshare.mslice-owedS ReservationUsage.row
-            ref7 1 5 life1,) ∷ (3, Mut.mslice InflightAction.row ref8 2,) ∷ (4, Mut.mslice (Referent.rtF (Referent.fInt Syntax.w32)) ref9 3,) ∷ (5,
-            Rows.whole (Declared'.row OpaqueRelayRuntime.the-type)) ∷ (6, Rows.whole (Declared'.row Places.the-type),) ∷ (7, Rows.whole (Declared'.row
-            OpenGathered.the-type)) ∷ (8, Rows.whole (Declared'.row Drawing.the-type),) ∷ (9, Rows.whole (Declared'.row OpenPlan.the-type)) ∷ (10,
-            Rows.sc-here (Row.sInt Syntax.w64),) ∷ (11, Rows.whole (Declared'.row OpaqueRelayConfig.the-type)) ∷ (12, Rows.whole (Declared'.row
-            RelayTicket.the-type),) ∷ (13, Rows.whole (Declared'.row ReservationId.the-type)) ∷ (14, Rows.any-gone Laws''''''''''.mir,) ∷ (15,
-            Rows.any-gone Laws''''''.mir,) ∷ List.[]
+        g17 = e0 ∷ e1 ∷ l2 ∷ e3 ∷ e4 ∷ e5 ∷ e6 ∷ e7 ∷ e8 ∷ e9 ∷ e10·1 ∷ e11·1 ∷ e12·1 ∷ e13·1 ∷ e14 ∷ e15 ∷ List.[]
+
         abbrev g22 : List.List Row.Entry
-        g22 = (0, Rows.any-gone Laws'''''''''''''.mir,) ∷ (1, Mut.mslice RelayPending.row ref6 0,) ∷ (2, Reshare.mslice-owedS ReservationUsage.row
-            ref7 1 5 life1,) ∷ (3, Mut.mslice InflightAction.row ref8 2,) ∷ (4, Mut.mslice (Referent.rtF (Referent.fInt Syntax.w32)) ref9 3,) ∷ (5,
-            Rows.whole (Declared'.row OpaqueRelayRuntime.the-type)) ∷ (6, Rows.whole (Declared'.row Places.the-type),) ∷ (7, Rows.whole (Declared'.row
-            OpenGathered.the-type)) ∷ (8, Rows.whole (Declared'.row Drawing.the-type),) ∷ (9, Rows.whole (Declared'.row OpenPlan.the-type)) ∷ (10,
-            Rows.sc-here (Row.sInt Syntax.w64),) ∷ (11, Rows.whole (Declared'.row OpaqueRelayConfig.the-type)) ∷ (12, Rows.whole (Declared'.row
-            RelayTicket.the-type),) ∷ (13, Rows.any-gone Laws.mir,) ∷ (14, Rows.any-gone Laws''''''''''.mir,) ∷ (15, Rows.any-gone Laws''''''.mir,) ∷
-            List.[]
+        g22 = e0 ∷ e1 ∷ l2 ∷ e3 ∷ e4 ∷ e5 ∷ e6 ∷ e7 ∷ e8 ∷ e9 ∷ e10·1 ∷ e11·1 ∷ e12·1 ∷ e13 ∷ e14 ∷ e15 ∷ List.[]
+
         abbrev g35 : List.List Row.Entry
-        g35 = (0, Rows.any-gone Laws'''''''''''''.mir,) ∷ (1, Mut.mslice RelayPending.row ref6 0,) ∷ (2, Relend.mslice-owed ReservationUsage.row ref7
-            1 6 life1,) ∷ (3, Mut.mslice InflightAction.row ref8 2,) ∷ (4, Mut.mslice (Referent.rtF (Referent.fInt Syntax.w32)) ref9 3,) ∷ (5,
-            Rows.whole (Declared'.row OpaqueRelayRuntime.the-type)) ∷ (6, Rows.whole (Declared'.row Places.the-type),) ∷ (7, Rows.any-gone
-            Laws'''.mir,) ∷ (8, Rows.any-gone Laws''''''''.mir,) ∷ (9, Rows.whole (Declared'.row OpenPlan.the-type)) ∷ (10, Rows.sc-here (Row.sInt
-            Syntax.w64),) ∷ (11, Rows.any-gone Laws''.mir,) ∷ (12, Rows.any-gone Laws'''''''''''.mir,) ∷ (13, Rows.any-gone Laws.mir,) ∷ (14,
-            Rows.any-gone Laws''''''''''.mir,) ∷ (15, Rows.any-gone Laws''''''.mir,) ∷ List.[]
+        g35 = e0 ∷ e1 ∷ (2, Relend.mslice-owed ReservationUsage.row ref7 1 6 life1) ∷ e3 ∷ e4 ∷ e5 ∷ e6 ∷ e7·1 ∷ e8·1 ∷
+            e9 ∷ e10·1 ∷ e11 ∷ e12 ∷ e13 ∷ e14 ∷ e15 ∷ List.[]
+
         abbrev g43 : List.List Row.Entry
-        g43 = (0, Rows.any-gone Laws'''''''''''''.mir,) ∷ (1, Relend.mslice-owed RelayPending.row ref6 0 7 life2,) ∷ (2, Mut.mslice
-            ReservationUsage.row ref7 1,) ∷ (3, Mut.mslice InflightAction.row ref8 2,) ∷ (4, Mut.mslice (Referent.rtF (Referent.fInt Syntax.w32)) ref9
-            3,) ∷ (5, Rows.whole (Declared'.row OpaqueRelayRuntime.the-type)) ∷ (6, Rows.any-gone Laws'''''.mir,) ∷ (7, Rows.any-gone Laws'''.mir,) ∷
-            (8, Rows.any-gone Laws''''''''.mir,) ∷ (9, Rows.whole (Declared'.row OpenPlan.the-type)) ∷ (10, Rows.sc-here (Row.sInt Syntax.w64),) ∷
-            (11, Rows.any-gone Laws''.mir,) ∷ (12, Rows.any-gone Laws'''''''''''.mir,) ∷ (13, Rows.any-gone Laws.mir,) ∷ (14, Rows.any-gone
-            Laws''''''''''.mir,) ∷ (15, Rows.any-gone Laws''''''.mir,) ∷ List.[]
+        g43 = e0 ∷ l1 ∷ e2 ∷ e3 ∷ e4 ∷ e5 ∷ e6·1 ∷ e7·1 ∷ e8·1 ∷ e9 ∷ e10·1 ∷ e11 ∷ e12 ∷ e13 ∷ e14 ∷ e15 ∷ List.[]
+
         abbrev g46 : List.List Row.Entry
-        g46 = (0, Rows.any-gone Laws'''''''''''''.mir,) ∷ (1, Relend.mslice-owed RelayPending.row ref6 0 7 life2,) ∷ (2, Mut.mslice
-            ReservationUsage.row ref7 1,) ∷ (3, Relend.mslice-owed InflightAction.row ref8 2 8 life0,) ∷ (4, Mut.mslice (Referent.rtF (Referent.fInt
-            Syntax.w32)) ref9 3,) ∷ (5, Rows.whole (Declared'.row OpaqueRelayRuntime.the-type)) ∷ (6, Rows.any-gone Laws'''''.mir,) ∷ (7,
-            Rows.any-gone Laws'''.mir,) ∷ (8, Rows.any-gone Laws''''''''.mir,) ∷ (9, Rows.whole (Declared'.row OpenPlan.the-type)) ∷ (10, Rows.sc-here
-            (Row.sInt Syntax.w64),) ∷ (11, Rows.any-gone Laws''.mir,) ∷ (12, Rows.any-gone Laws'''''''''''.mir,) ∷ (13, Rows.any-gone Laws.mir,) ∷
-            (14, Rows.any-gone Laws''''''''''.mir,) ∷ (15, Rows.any-gone Laws''''''.mir,) ∷ List.[]
+        g46 = e0 ∷ l1 ∷ e2 ∷ l3·1 ∷ e4 ∷ e5 ∷ e6·1 ∷ e7·1 ∷ e8·1 ∷ e9 ∷ e10·1 ∷ e11 ∷ e12 ∷ e13 ∷ e14 ∷ e15 ∷ List.[]
+
         abbrev g49 : List.List Row.Entry
-        g49 = (0, Rows.any-gone Laws'''''''''''''.mir,) ∷ (1, Relend.mslice-owed RelayPending.row ref6 0 7 life2,) ∷ (2, Mut.mslice
-            ReservationUsage.row ref7 1,) ∷ (3, Relend.mslice-owed InflightAction.row ref8 2 8 life0,) ∷ (4, Relend.mslice-owed (Referent.rtF
-            (Referent.fInt Syntax.w32)) ref9 3 9 life3,) ∷ (5, Rows.whole (Declared'.row OpaqueRelayRuntime.the-type)) ∷ (6, Rows.any-gone
-            Laws'''''.mir,) ∷ (7, Rows.any-gone Laws'''.mir,) ∷ (8, Rows.any-gone Laws''''''''.mir,) ∷ (9, Rows.whole (Declared'.row
-            OpenPlan.the-type)) ∷ (10, Rows.sc-here (Row.sInt Syntax.w64),) ∷ (11, Rows.any-gone Laws''.mir,) ∷ (12, Rows.any-gone
-            Laws'''''''''''.mir,) ∷ (13, Rows.any-gone Laws.mir,) ∷ (14, Rows.any-gone Laws''''''''''.mir,) ∷ (15, Rows.any-gone Laws''''''.mir,) ∷
-            List.[]
+        g49 = e0 ∷ l1 ∷ e2 ∷ l3·1 ∷ l4 ∷ e5 ∷ e6·1 ∷ e7·1 ∷ e8·1 ∷ e9 ∷ e10·1 ∷ e11 ∷ e12 ∷ e13 ∷ e14 ∷ e15 ∷ List.[]
+
         abbrev g52 : List.List Row.Entry
-        g52 = (0, Rows.whole (Declared'.row Relayed.the-type)) ∷ (1, Relend.mslice-owed RelayPending.row ref6 0 7 life2,) ∷ (2, Mut.mslice
-            ReservationUsage.row ref7 1,) ∷ (3, Relend.mslice-owed InflightAction.row ref8 2 8 life0,) ∷ (4, Relend.mslice-owed (Referent.rtF
-            (Referent.fInt Syntax.w32)) ref9 3 9 life3,) ∷ (5, Rows.whole (Declared'.row OpaqueRelayRuntime.the-type)) ∷ (6, Rows.any-gone
-            Laws'''''.mir,) ∷ (7, Rows.any-gone Laws'''.mir,) ∷ (8, Rows.any-gone Laws''''''''.mir,) ∷ (9, Rows.whole (Declared'.row
-            OpenPlan.the-type)) ∷ (10, Rows.sc-here (Row.sInt Syntax.w64),) ∷ (11, Rows.any-gone Laws''.mir,) ∷ (12, Rows.any-gone
-            Laws'''''''''''.mir,) ∷ (13, Rows.any-gone Laws.mir,) ∷ (14, Rows.any-gone Laws''''''''''.mir,) ∷ (15, Rows.any-gone Laws''''''.mir,) ∷
-            List.[]
+        g52 = e0·1 ∷ l1 ∷ e2 ∷ l3·1 ∷ l4 ∷ e5 ∷ e6·1 ∷ e7·1 ∷ e8·1 ∷ e9 ∷ e10·1 ∷ e11 ∷ e12 ∷ e13 ∷ e14 ∷ e15 ∷ List.[]
+
         abbrev g54 : List.List Row.Entry
-        g54 = (0, Rows.whole (Declared'.row Relayed.the-type)) ∷ (1, Relend.mslice-owed RelayPending.row ref6 0 7 life2,) ∷ (2, Mut.mslice
-            ReservationUsage.row ref7 1,) ∷ (3, Relend.mslice-owed InflightAction.row ref8 2 8 life0,) ∷ (4, Relend.mslice-owed (Referent.rtF
-            (Referent.fInt Syntax.w32)) ref9 3 9 life3,) ∷ (5, Rows.any-gone Laws''''''''''''.mir,) ∷ (6, Rows.any-gone Laws'''''.mir,) ∷ (7,
-            Rows.any-gone Laws'''.mir,) ∷ (8, Rows.any-gone Laws''''''''.mir,) ∷ (9, Rows.whole (Declared'.row OpenPlan.the-type)) ∷ (10, Rows.sc-here
-            (Row.sInt Syntax.w64),) ∷ (11, Rows.any-gone Laws''.mir,) ∷ (12, Rows.any-gone Laws'''''''''''.mir,) ∷ (13, Rows.any-gone Laws.mir,) ∷
-            (14, Rows.any-gone Laws''''''''''.mir,) ∷ (15, Rows.any-gone Laws''''''.mir,) ∷ List.[]
+        g54 = e0·1 ∷ l1 ∷ e2 ∷ l3·1 ∷ l4 ∷ e5·1 ∷ e6·1 ∷ e7·1 ∷ e8·1 ∷ e9 ∷ e10·1 ∷ e11 ∷ e12 ∷ e13 ∷ e14 ∷ e15 ∷
+            List.[]
+
         abbrev g55 : List.List Row.Entry
-        g55 = (0, Rows.whole (Declared'.row Relayed.the-type)) ∷ (1, Relend.mslice-owed RelayPending.row ref6 0 7 life2,) ∷ (2, Mut.mslice
-            ReservationUsage.row ref7 1,) ∷ (3, Relend.mslice-owed InflightAction.row ref8 2 8 life0,) ∷ (4, Relend.mslice-owed (Referent.rtF
-            (Referent.fInt Syntax.w32)) ref9 3 9 life3,) ∷ (5, Rows.any-gone Laws''''''''''''.mir,) ∷ (6, Rows.any-gone Laws'''''.mir,) ∷ (7,
-            Rows.any-gone Laws'''.mir,) ∷ (8, Rows.any-gone Laws''''''''.mir,) ∷ (9, Rows.any-gone Laws''''.mir,) ∷ (10, Rows.sc-here (Row.sInt
-            Syntax.w64)) ∷ (11, Rows.any-gone Laws''.mir,) ∷ (12, Rows.any-gone Laws'''''''''''.mir,) ∷ (13, Rows.any-gone Laws.mir,) ∷ (14,
-            Rows.any-gone Laws''''''''''.mir,) ∷ (15, Rows.any-gone Laws''''''.mir,) ∷ List.[]
+        g55 = e0·1 ∷ l1 ∷ e2 ∷ l3·1 ∷ l4 ∷ e5·1 ∷ e6·1 ∷ e7·1 ∷ e8·1 ∷ e9·1 ∷ e10·1 ∷ e11 ∷ e12 ∷ e13 ∷ e14 ∷ e15 ∷
+            List.[]
+
         abbrev g59 : List.List Row.Entry
-        g59 = (0, Rows.whole (Declared'.row Relayed.the-type)) ∷ (1, Mut.mslice RelayPending.row ref6 0,) ∷ (2, Mut.mslice ReservationUsage.row ref7
-            1,) ∷ (3, Relend.mslice-owed InflightAction.row ref8 2 8 life0,) ∷ (4, Relend.mslice-owed (Referent.rtF (Referent.fInt Syntax.w32)) ref9 3
-            9 life3,) ∷ (5, Rows.any-gone Laws''''''''''''.mir,) ∷ (6, Rows.any-gone Laws'''''.mir,) ∷ (7, Rows.any-gone Laws'''.mir,) ∷ (8,
-            Rows.any-gone Laws''''''''.mir,) ∷ (9, Rows.any-gone Laws''''.mir,) ∷ (10, Rows.sc-here (Row.sInt Syntax.w64)) ∷ (11, Rows.any-gone
-            Laws''.mir,) ∷ (12, Rows.any-gone Laws'''''''''''.mir,) ∷ (13, Rows.any-gone Laws.mir,) ∷ (14, Rows.any-gone Laws''''''''''.mir,) ∷ (15,
-            Rows.any-gone Laws''''''.mir,) ∷ List.[]
+        g59 = e0·1 ∷ e1 ∷ e2 ∷ l3·1 ∷ l4 ∷ e5·1 ∷ e6·1 ∷ e7·1 ∷ e8·1 ∷ e9·1 ∷ e10·1 ∷ e11 ∷ e12 ∷ e13 ∷ e14 ∷ e15 ∷
+            List.[]
+
         abbrev g61 : List.List Row.Entry
-        g61 = (0, Rows.whole (Declared'.row Relayed.the-type)) ∷ (1, Mut.mslice RelayPending.row ref6 0,) ∷ (2, Mut.mslice ReservationUsage.row ref7
-            1,) ∷ (3, Mut.mslice InflightAction.row ref8 2,) ∷ (4, Relend.mslice-owed (Referent.rtF (Referent.fInt Syntax.w32)) ref9 3 9 life3,) ∷ (5,
-            Rows.any-gone Laws''''''''''''.mir,) ∷ (6, Rows.any-gone Laws'''''.mir,) ∷ (7, Rows.any-gone Laws'''.mir,) ∷ (8, Rows.any-gone
-            Laws''''''''.mir,) ∷ (9, Rows.any-gone Laws''''.mir,) ∷ (10, Rows.sc-here (Row.sInt Syntax.w64)) ∷ (11, Rows.any-gone Laws''.mir,) ∷ (12,
-            Rows.any-gone Laws'''''''''''.mir,) ∷ (13, Rows.any-gone Laws.mir,) ∷ (14, Rows.any-gone Laws''''''''''.mir,) ∷ (15, Rows.any-gone
-            Laws''''''.mir,) ∷ List.[]
+        g61 = e0·1 ∷ e1 ∷ e2 ∷ e3 ∷ l4 ∷ e5·1 ∷ e6·1 ∷ e7·1 ∷ e8·1 ∷ e9·1 ∷ e10·1 ∷ e11 ∷ e12 ∷ e13 ∷ e14 ∷ e15 ∷
+            List.[]
+
         abbrev G0 : Row.Cx
-        G0 = record { locals = List._++_ t0 (List._++_ t1 t2); slots = life2 ∷ life1 ∷ life0 ∷ life3 ∷ Row.off ∷ Row.off ∷ Row.off ∷ Row.off ∷ Row.off
-            ∷ Row.off ∷ List.[]; }
+        G0 = record {
+          locals = List._++_ t0 (List._++_ t1 t2);
+          slots = life2 ∷ life1 ∷ life0 ∷ life3 ∷ Row.off ∷ Row.off ∷ Row.off ∷ Row.off ∷ Row.off ∷ Row.off ∷ List.[];
+        }
+
         abbrev G1 : Row.Cx
-        G1 = record { locals = List._++_ t3 (List._++_ t1 t2); slots = life2 ∷ life1 ∷ life0 ∷ life3 ∷ Row.off ∷ Row.off ∷ Row.off ∷ Row.off ∷ Row.off
-            ∷ Row.off ∷ List.[]; }
+        G1 = record {
+          locals = List._++_ t3 (List._++_ t1 t2);
+          slots = life2 ∷ life1 ∷ life0 ∷ life3 ∷ Row.off ∷ Row.off ∷ Row.off ∷ Row.off ∷ Row.off ∷ Row.off ∷ List.[];
+        }
+
         abbrev G2 : Row.Cx
-        G2 = record { locals = List._++_ t0 (List._++_ t1 t2); slots = life2 ∷ life1 ∷ life0 ∷ life3 ∷ Row.off ∷ Row.off ∷ Row.off ∷ Row.off ∷ Row.off
-            ∷ Row.off ∷ List.[]; }
+        G2 = record {
+          locals = List._++_ t0 (List._++_ t1 t2);
+          slots = life2 ∷ life1 ∷ life0 ∷ life3 ∷ Row.off ∷ Row.off ∷ Row.off ∷ Row.off ∷ Row.off ∷ Row.off ∷ List.[];
+        }
+
         abbrev G3 : Row.Cx
-        G3 = record { locals = List._++_ t4 (List._++_ t1 t2); slots = life2 ∷ life1 ∷ life0 ∷ life3 ∷ Row.off ∷ Row.off ∷ Row.off ∷ Row.off ∷ Row.off
-            ∷ Row.off ∷ List.[]; }
+        G3 = record {
+          locals = List._++_ t4 (List._++_ t1 t2);
+          slots = life2 ∷ life1 ∷ life0 ∷ life3 ∷ Row.off ∷ Row.off ∷ Row.off ∷ Row.off ∷ Row.off ∷ Row.off ∷ List.[];
+        }
+
         abbrev G4 : Row.Cx
-        G4 = record { locals = List._++_ t5 (List._++_ t1 t2); slots = life2 ∷ life1 ∷ life0 ∷ life3 ∷ Row.off ∷ Row.off ∷ Row.off ∷ Row.off ∷ Row.off
-            ∷ Row.off ∷ List.[]; }
+        G4 = record {
+          locals = List._++_ t5 (List._++_ t1 t2);
+          slots = life2 ∷ life1 ∷ life0 ∷ life3 ∷ Row.off ∷ Row.off ∷ Row.off ∷ Row.off ∷ Row.off ∷ Row.off ∷ List.[];
+        }
+
         abbrev G5 : Row.Cx
-        G5 = record { locals = List._++_ t6 (List._++_ t1 t2); slots = life2 ∷ life1 ∷ life0 ∷ life3 ∷ Row.off ∷ Row.off ∷ Row.off ∷ Row.off ∷ Row.off
-            ∷ Row.off ∷ List.[]; }
+        G5 = record {
+          locals = List._++_ t6 (List._++_ t1 t2);
+          slots = life2 ∷ life1 ∷ life0 ∷ life3 ∷ Row.off ∷ Row.off ∷ Row.off ∷ Row.off ∷ Row.off ∷ Row.off ∷ List.[];
+        }
+
         abbrev G6 : Row.Cx
-        G6 = record { locals = List._++_ t7 (List._++_ t1 t2); slots = life2 ∷ life1 ∷ life0 ∷ life3 ∷ Row.off ∷ Row.off ∷ Row.off ∷ Row.off ∷ Row.off
-            ∷ Row.off ∷ List.[]; }
+        G6 = record {
+          locals = List._++_ t7 (List._++_ t1 t2);
+          slots = life2 ∷ life1 ∷ life0 ∷ life3 ∷ Row.off ∷ Row.off ∷ Row.off ∷ Row.off ∷ Row.off ∷ Row.off ∷ List.[];
+        }
+
         abbrev G7 : Row.Cx
-        G7 = record { locals = List._++_ t8 (List._++_ t1 t2); slots = life2 ∷ life1 ∷ life0 ∷ life3 ∷ Row.off ∷ Row.off ∷ Row.off ∷ Row.off ∷ Row.off
-            ∷ Row.off ∷ List.[]; }
+        G7 = record {
+          locals = List._++_ t8 (List._++_ t1 t2);
+          slots = life2 ∷ life1 ∷ life0 ∷ life3 ∷ Row.off ∷ Row.off ∷ Row.off ∷ Row.off ∷ Row.off ∷ Row.off ∷ List.[];
+        }
+
         abbrev G8 : Row.Cx
-        G8 = record { locals = List._++_ t9 (List._++_ t1 t2); slots = life2 ∷ life1 ∷ life0 ∷ life3 ∷ Row.off ∷ Row.off ∷ Row.off ∷ Row.off ∷ Row.off
-            ∷ Row.off ∷ List.[]; }
+        G8 = record {
+          locals = List._++_ t9 (List._++_ t1 t2);
+          slots = life2 ∷ life1 ∷ life0 ∷ life3 ∷ Row.off ∷ Row.off ∷ Row.off ∷ Row.off ∷ Row.off ∷ Row.off ∷ List.[];
+        }
+
         abbrev G9 : Row.Cx
-        G9 = record { locals = List._++_ t10 (List._++_ t1 t2); slots = life2 ∷ life1 ∷ life0 ∷ life3 ∷ Row.off ∷ Row.off ∷ Row.off ∷ Row.off ∷
-            Row.off ∷ Row.off ∷ List.[]; }
+        G9 = record {
+          locals = List._++_ t10 (List._++_ t1 t2);
+          slots = life2 ∷ life1 ∷ life0 ∷ life3 ∷ Row.off ∷ Row.off ∷ Row.off ∷ Row.off ∷ Row.off ∷ Row.off ∷ List.[];
+        }
+
         abbrev G10 : Row.Cx
-        G10 = record { locals = List._++_ t10 (List._++_ t1 t2); slots = life2 ∷ life1 ∷ life0 ∷ life3 ∷ Row.alive ∷ Row.off ∷ Row.off ∷ Row.off ∷
-            Row.off ∷ Row.off ∷ List.[]; }
+        G10 = record {
+          locals = List._++_ t10 (List._++_ t1 t2);
+          slots = life2 ∷ life1 ∷ life0 ∷ life3 ∷ Row.alive ∷ Row.off ∷ Row.off ∷ Row.off ∷ Row.off ∷ Row.off ∷ List.[];
+        }
+
         abbrev G11 : Row.Cx
-        G11 = record { locals = List._++_ g11 (List._++_ t12 t2); slots = life2 ∷ life1 ∷ Row.off ∷ life3 ∷ Row.alive ∷ Row.off ∷ Row.off ∷ Row.off ∷
-            Row.off ∷ Row.off ∷ List.[]; }
+        G11 = record {
+          locals = List._++_ g11 (List._++_ t12 t2);
+          slots = life2 ∷ life1 ∷ Row.off ∷ life3 ∷ Row.alive ∷ Row.off ∷ Row.off ∷ Row.off ∷ Row.off ∷ Row.off ∷
+              List.[];
+        }
+
         abbrev G12 : Row.Cx
-        G12 = record { locals = List._++_ g11 (List._++_ t13 t2); slots = life2 ∷ life1 ∷ Row.off ∷ life3 ∷ Row.alive ∷ Row.off ∷ Row.off ∷ Row.off ∷
-            Row.off ∷ Row.off ∷ List.[]; }
+        G12 = record {
+          locals = List._++_ g11 (List._++_ t13 t2);
+          slots = life2 ∷ life1 ∷ Row.off ∷ life3 ∷ Row.alive ∷ Row.off ∷ Row.off ∷ Row.off ∷ Row.off ∷ Row.off ∷
+              List.[];
+        }
+
         abbrev G13 : Row.Cx
-        G13 = record { locals = List._++_ g11 (List._++_ t14 t2); slots = life2 ∷ life1 ∷ Row.off ∷ life3 ∷ Row.alive ∷ Row.off ∷ Row.off ∷ Row.off ∷
-            Row.off ∷ Row.off ∷ List.[]; }
+        G13 = record {
+          locals = List._++_ g11 (List._++_ t14 t2);
+          slots = life2 ∷ life1 ∷ Row.off ∷ life3 ∷ Row.alive ∷ Row.off ∷ Row.off ∷ Row.off ∷ Row.off ∷ Row.off ∷
+              List.[];
+        }
+
         abbrev G14 : Row.Cx
-        G14 = record { locals = List._++_ g11 (List._++_ t15 t2); slots = life2 ∷ life1 ∷ Row.off ∷ life3 ∷ Row.alive ∷ Row.off ∷ Row.off ∷ Row.off ∷
-            Row.off ∷ Row.off ∷ List.[]; }
+        G14 = record {
+          locals = List._++_ g11 (List._++_ t15 t2);
+          slots = life2 ∷ life1 ∷ Row.off ∷ life3 ∷ Row.alive ∷ Row.off ∷ Row.off ∷ Row.off ∷ Row.off ∷ Row.off ∷
+              List.[];
+        }
+
         abbrev G15 : Row.Cx
-        G15 = record { locals = List._++_ g16 (List._++_ t15 t2); slots = life2 ∷ life1 ∷ Row.off ∷ life3 ∷ Row.alive ∷ Row.off ∷ Row.off ∷ Row.off ∷
-            Row.off ∷ Row.off ∷ List.[]; }
+        G15 = record {
+          locals = List._++_ g16 (List._++_ t15 t2);
+          slots = life2 ∷ life1 ∷ Row.off ∷ life3 ∷ Row.alive ∷ Row.off ∷ Row.off ∷ Row.off ∷ Row.off ∷ Row.off ∷
+              List.[];
+        }
+
         abbrev G16 : Row.Cx
-        G16 = record { locals = List._++_ g16 (List._++_ t15 t2); slots = life2 ∷ life1 ∷ Row.off ∷ life3 ∷ Row.dead ∷ Row.off ∷ Row.off ∷ Row.off ∷
-            Row.off ∷ Row.off ∷ List.[]; }
+        G16 = record {
+          locals = List._++_ g16 (List._++_ t15 t2);
+          slots = life2 ∷ life1 ∷ Row.off ∷ life3 ∷ Row.dead ∷ Row.off ∷ Row.off ∷ Row.off ∷ Row.off ∷ Row.off ∷
+              List.[];
+        }
+
         abbrev G17 : Row.Cx
-        G17 = record { locals = List._++_ t7 (List._++_ t15 t2); slots = life2 ∷ life1 ∷ life0 ∷ life3 ∷ Row.dead ∷ Row.off ∷ Row.off ∷ Row.off ∷
-            Row.off ∷ Row.off ∷ List.[]; }
+        G17 = record {
+          locals = List._++_ t7 (List._++_ t15 t2);
+          slots = life2 ∷ life1 ∷ life0 ∷ life3 ∷ Row.dead ∷ Row.off ∷ Row.off ∷ Row.off ∷ Row.off ∷ Row.off ∷ List.[];
+        }
+
         abbrev G18 : Row.Cx
-        G18 = record { locals = List._++_ t7 (List._++_ t15 t2); slots = life2 ∷ life1 ∷ life0 ∷ life3 ∷ Row.off ∷ Row.off ∷ Row.off ∷ Row.off ∷
-            Row.off ∷ Row.off ∷ List.[]; }
+        G18 = record {
+          locals = List._++_ t7 (List._++_ t15 t2);
+          slots = life2 ∷ life1 ∷ life0 ∷ life3 ∷ Row.off ∷ Row.off ∷ Row.off ∷ Row.off ∷ Row.off ∷ Row.off ∷ List.[];
+        }
+
         abbrev G19 : Row.Cx
-        G19 = record { locals = List._++_ t7 (List._++_ t15 t2); slots = life2 ∷ life1 ∷ life0 ∷ life3 ∷ Row.off ∷ Row.alive ∷ Row.off ∷ Row.off ∷
-            Row.off ∷ Row.off ∷ List.[]; }
+        G19 = record {
+          locals = List._++_ t7 (List._++_ t15 t2);
+          slots = life2 ∷ life1 ∷ life0 ∷ life3 ∷ Row.off ∷ Row.alive ∷ Row.off ∷ Row.off ∷ Row.off ∷ Row.off ∷ List.[];
+        }
+
         abbrev G20 : Row.Cx
-        G20 = record { locals = List._++_ g17 (List._++_ t18 t2); slots = life2 ∷ Row.off ∷ life0 ∷ life3 ∷ Row.off ∷ Row.alive ∷ Row.off ∷ Row.off ∷
-            Row.off ∷ Row.off ∷ List.[]; }
+        G20 = record {
+          locals = List._++_ g17 (List._++_ t18 t2);
+          slots = life2 ∷ Row.off ∷ life0 ∷ life3 ∷ Row.off ∷ Row.alive ∷ Row.off ∷ Row.off ∷ Row.off ∷ Row.off ∷
+              List.[];
+        }
+
         abbrev G21 : Row.Cx
-        G21 = record { locals = List._++_ g17 (List._++_ t19 t2); slots = life2 ∷ Row.off ∷ life0 ∷ life3 ∷ Row.off ∷ Row.alive ∷ Row.off ∷ Row.off ∷
-            Row.off ∷ Row.off ∷ List.[]; }
+        G21 = record {
+          locals = List._++_ g17 (List._++_ t19 t2);
+          slots = life2 ∷ Row.off ∷ life0 ∷ life3 ∷ Row.off ∷ Row.alive ∷ Row.off ∷ Row.off ∷ Row.off ∷ Row.off ∷
+              List.[];
+        }
+
         abbrev G22 : Row.Cx
-        G22 = record { locals = List._++_ g17 (List._++_ t20 t2); slots = life2 ∷ Row.off ∷ life0 ∷ life3 ∷ Row.off ∷ Row.alive ∷ Row.off ∷ Row.off ∷
-            Row.off ∷ Row.off ∷ List.[]; }
+        G22 = record {
+          locals = List._++_ g17 (List._++_ t20 t2);
+          slots = life2 ∷ Row.off ∷ life0 ∷ life3 ∷ Row.off ∷ Row.alive ∷ Row.off ∷ Row.off ∷ Row.off ∷ Row.off ∷
+              List.[];
+        }
+
         abbrev G23 : Row.Cx
-        G23 = record { locals = List._++_ g17 (List._++_ t21 t2); slots = life2 ∷ Row.off ∷ life0 ∷ life3 ∷ Row.off ∷ Row.alive ∷ Row.off ∷ Row.off ∷
-            Row.off ∷ Row.off ∷ List.[]; }
+        G23 = record {
+          locals = List._++_ g17 (List._++_ t21 t2);
+          slots = life2 ∷ Row.off ∷ life0 ∷ life3 ∷ Row.off ∷ Row.alive ∷ Row.off ∷ Row.off ∷ Row.off ∷ Row.off ∷
+              List.[];
+        }
+
         abbrev G24 : Row.Cx
-        G24 = record { locals = List._++_ g22 (List._++_ t21 t2); slots = life2 ∷ Row.off ∷ life0 ∷ life3 ∷ Row.off ∷ Row.alive ∷ Row.off ∷ Row.off ∷
-            Row.off ∷ Row.off ∷ List.[]; }
+        G24 = record {
+          locals = List._++_ g22 (List._++_ t21 t2);
+          slots = life2 ∷ Row.off ∷ life0 ∷ life3 ∷ Row.off ∷ Row.alive ∷ Row.off ∷ Row.off ∷ Row.off ∷ Row.off ∷
+              List.[];
+        }
+
         abbrev G25 : Row.Cx
-        G25 = record { locals = List._++_ g22 (List._++_ t21 t2); slots = life2 ∷ Row.off ∷ life0 ∷ life3 ∷ Row.off ∷ Row.dead ∷ Row.off ∷ Row.off ∷
-            Row.off ∷ Row.off ∷ List.[]; }
+        G25 = record {
+          locals = List._++_ g22 (List._++_ t21 t2);
+          slots = life2 ∷ Row.off ∷ life0 ∷ life3 ∷ Row.off ∷ Row.dead ∷ Row.off ∷ Row.off ∷ Row.off ∷ Row.off ∷
+              List.[];
+        }
+
         abbrev G26 : Row.Cx
-        G26 = record { locals = List._++_ t6 (List._++_ t21 t2); slots = life2 ∷ life1 ∷ life0 ∷ life3 ∷ Row.off ∷ Row.dead ∷ Row.off ∷ Row.off ∷
-            Row.off ∷ Row.off ∷ List.[]; }
+        G26 = record {
+          locals = List._++_ t6 (List._++_ t21 t2);
+          slots = life2 ∷ life1 ∷ life0 ∷ life3 ∷ Row.off ∷ Row.dead ∷ Row.off ∷ Row.off ∷ Row.off ∷ Row.off ∷ List.[];
+        }
+
         abbrev G27 : Row.Cx
-        G27 = record { locals = List._++_ t6 (List._++_ t21 t2); slots = life2 ∷ life1 ∷ life0 ∷ life3 ∷ Row.off ∷ Row.off ∷ Row.off ∷ Row.off ∷
-            Row.off ∷ Row.off ∷ List.[]; }
+        G27 = record {
+          locals = List._++_ t6 (List._++_ t21 t2);
+          slots = life2 ∷ life1 ∷ life0 ∷ life3 ∷ Row.off ∷ Row.off ∷ Row.off ∷ Row.off ∷ Row.off ∷ Row.off ∷ List.[];
+        }
+
         abbrev G28 : Row.Cx
-        G28 = record { locals = List._++_ t6 (List._++_ t23 t2); slots = life2 ∷ life1 ∷ life0 ∷ life3 ∷ Row.off ∷ Row.off ∷ Row.off ∷ Row.off ∷
-            Row.off ∷ Row.off ∷ List.[]; }
+        G28 = record {
+          locals = List._++_ t6 (List._++_ t23 t2);
+          slots = life2 ∷ life1 ∷ life0 ∷ life3 ∷ Row.off ∷ Row.off ∷ Row.off ∷ Row.off ∷ Row.off ∷ Row.off ∷ List.[];
+        }
+
         abbrev G29 : Row.Cx
-        G29 = record { locals = List._++_ t24 (List._++_ t23 t2); slots = life2 ∷ life1 ∷ life0 ∷ life3 ∷ Row.off ∷ Row.off ∷ Row.off ∷ Row.off ∷
-            Row.off ∷ Row.off ∷ List.[]; }
+        G29 = record {
+          locals = List._++_ t24 (List._++_ t23 t2);
+          slots = life2 ∷ life1 ∷ life0 ∷ life3 ∷ Row.off ∷ Row.off ∷ Row.off ∷ Row.off ∷ Row.off ∷ Row.off ∷ List.[];
+        }
+
         abbrev G30 : Row.Cx
-        G30 = record { locals = List._++_ t25 (List._++_ t23 t2); slots = life2 ∷ life1 ∷ life0 ∷ life3 ∷ Row.off ∷ Row.off ∷ Row.off ∷ Row.off ∷
-            Row.off ∷ Row.off ∷ List.[]; }
+        G30 = record {
+          locals = List._++_ t25 (List._++_ t23 t2);
+          slots = life2 ∷ life1 ∷ life0 ∷ life3 ∷ Row.off ∷ Row.off ∷ Row.off ∷ Row.off ∷ Row.off ∷ Row.off ∷ List.[];
+        }
+
         abbrev G31 : Row.Cx
-        G31 = record { locals = List._++_ t26 (List._++_ t23 t2); slots = life2 ∷ life1 ∷ life0 ∷ life3 ∷ Row.off ∷ Row.off ∷ Row.off ∷ Row.off ∷
-            Row.off ∷ Row.off ∷ List.[]; }
+        G31 = record {
+          locals = List._++_ t26 (List._++_ t23 t2);
+          slots = life2 ∷ life1 ∷ life0 ∷ life3 ∷ Row.off ∷ Row.off ∷ Row.off ∷ Row.off ∷ Row.off ∷ Row.off ∷ List.[];
+        }
+
         abbrev G32 : Row.Cx
-        G32 = record { locals = List._++_ t26 (List._++_ t27 t2); slots = life2 ∷ life1 ∷ life0 ∷ life3 ∷ Row.off ∷ Row.off ∷ Row.off ∷ Row.off ∷
-            Row.off ∷ Row.off ∷ List.[]; }
+        G32 = record {
+          locals = List._++_ t26 (List._++_ t27 t2);
+          slots = life2 ∷ life1 ∷ life0 ∷ life3 ∷ Row.off ∷ Row.off ∷ Row.off ∷ Row.off ∷ Row.off ∷ Row.off ∷ List.[];
+        }
+
         abbrev G33 : Row.Cx
-        G33 = record { locals = List._++_ t28 (List._++_ t29 t2); slots = life2 ∷ life1 ∷ life0 ∷ life3 ∷ Row.off ∷ Row.off ∷ Row.off ∷ Row.off ∷
-            Row.off ∷ Row.off ∷ List.[]; }
+        G33 = record {
+          locals = List._++_ t28 (List._++_ t29 t2);
+          slots = life2 ∷ life1 ∷ life0 ∷ life3 ∷ Row.off ∷ Row.off ∷ Row.off ∷ Row.off ∷ Row.off ∷ Row.off ∷ List.[];
+        }
+
         abbrev G34 : Row.Cx
-        G34 = record { locals = List._++_ t26 (List._++_ t30 t2); slots = life2 ∷ life1 ∷ life0 ∷ life3 ∷ Row.off ∷ Row.off ∷ Row.off ∷ Row.off ∷
-            Row.off ∷ Row.off ∷ List.[]; }
+        G34 = record {
+          locals = List._++_ t26 (List._++_ t30 t2);
+          slots = life2 ∷ life1 ∷ life0 ∷ life3 ∷ Row.off ∷ Row.off ∷ Row.off ∷ Row.off ∷ Row.off ∷ Row.off ∷ List.[];
+        }
+
         abbrev G35 : Row.Cx
-        G35 = record { locals = List._++_ t26 (List._++_ t21 t2); slots = life2 ∷ life1 ∷ life0 ∷ life3 ∷ Row.off ∷ Row.off ∷ Row.off ∷ Row.off ∷
-            Row.off ∷ Row.off ∷ List.[]; }
+        G35 = record {
+          locals = List._++_ t26 (List._++_ t21 t2);
+          slots = life2 ∷ life1 ∷ life0 ∷ life3 ∷ Row.off ∷ Row.off ∷ Row.off ∷ Row.off ∷ Row.off ∷ Row.off ∷ List.[];
+        }
+
         abbrev G36 : Row.Cx
-        G36 = record { locals = List._++_ t26 (List._++_ t31 t2); slots = life2 ∷ life1 ∷ life0 ∷ life3 ∷ Row.off ∷ Row.off ∷ Row.off ∷ Row.off ∷
-            Row.off ∷ Row.off ∷ List.[]; }
+        G36 = record {
+          locals = List._++_ t26 (List._++_ t31 t2);
+          slots = life2 ∷ life1 ∷ life0 ∷ life3 ∷ Row.off ∷ Row.off ∷ Row.off ∷ Row.off ∷ Row.off ∷ Row.off ∷ List.[];
+        }
+
         abbrev G37 : Row.Cx
-        G37 = record { locals = List._++_ t32 (List._++_ t31 t2); slots = life2 ∷ life1 ∷ life0 ∷ life3 ∷ Row.off ∷ Row.off ∷ Row.off ∷ Row.off ∷
-            Row.off ∷ Row.off ∷ List.[]; }
+        G37 = record {
+          locals = List._++_ t32 (List._++_ t31 t2);
+          slots = life2 ∷ life1 ∷ life0 ∷ life3 ∷ Row.off ∷ Row.off ∷ Row.off ∷ Row.off ∷ Row.off ∷ Row.off ∷ List.[];
+        }
+
         abbrev G38 : Row.Cx
-        G38 = record { locals = List._++_ t32 (List._++_ t33 t2); slots = life2 ∷ life1 ∷ life0 ∷ life3 ∷ Row.off ∷ Row.off ∷ Row.off ∷ Row.off ∷
-            Row.off ∷ Row.off ∷ List.[]; }
+        G38 = record {
+          locals = List._++_ t32 (List._++_ t33 t2);
+          slots = life2 ∷ life1 ∷ life0 ∷ life3 ∷ Row.off ∷ Row.off ∷ Row.off ∷ Row.off ∷ Row.off ∷ Row.off ∷ List.[];
+        }
+
         abbrev G39 : Row.Cx
-        G39 = record { locals = List._++_ t32 (List._++_ t34 t2); slots = life2 ∷ life1 ∷ life0 ∷ life3 ∷ Row.off ∷ Row.off ∷ Row.off ∷ Row.off ∷
-            Row.off ∷ Row.off ∷ List.[]; }
+        G39 = record {
+          locals = List._++_ t32 (List._++_ t34 t2);
+          slots = life2 ∷ life1 ∷ life0 ∷ life3 ∷ Row.off ∷ Row.off ∷ Row.off ∷ Row.off ∷ Row.off ∷ Row.off ∷ List.[];
+        }
+
         abbrev G40 : Row.Cx
-        G40 = record { locals = List._++_ t32 (List._++_ t34 t2); slots = life2 ∷ life1 ∷ life0 ∷ life3 ∷ Row.off ∷ Row.off ∷ Row.alive ∷ Row.off ∷
-            Row.off ∷ Row.off ∷ List.[]; }
+        G40 = record {
+          locals = List._++_ t32 (List._++_ t34 t2);
+          slots = life2 ∷ life1 ∷ life0 ∷ life3 ∷ Row.off ∷ Row.off ∷ Row.alive ∷ Row.off ∷ Row.off ∷ Row.off ∷ List.[];
+        }
+
         abbrev G41 : Row.Cx
-        G41 = record { locals = List._++_ g35 (List._++_ t36 t2); slots = life2 ∷ Row.off ∷ life0 ∷ life3 ∷ Row.off ∷ Row.off ∷ Row.alive ∷ Row.off ∷
-            Row.off ∷ Row.off ∷ List.[]; }
+        G41 = record {
+          locals = List._++_ g35 (List._++_ t36 t2);
+          slots = life2 ∷ Row.off ∷ life0 ∷ life3 ∷ Row.off ∷ Row.off ∷ Row.alive ∷ Row.off ∷ Row.off ∷ Row.off ∷
+              List.[];
+        }
+
         abbrev G42 : Row.Cx
-        G42 = record { locals = List._++_ g35 (List._++_ t37 t2); slots = life2 ∷ Row.off ∷ life0 ∷ life3 ∷ Row.off ∷ Row.off ∷ Row.alive ∷ Row.off ∷
-            Row.off ∷ Row.off ∷ List.[]; }
+        G42 = record {
+          locals = List._++_ g35 (List._++_ t37 t2);
+          slots = life2 ∷ Row.off ∷ life0 ∷ life3 ∷ Row.off ∷ Row.off ∷ Row.alive ∷ Row.off ∷ Row.off ∷ Row.off ∷
+              List.[];
+        }
+
         abbrev G43 : Row.Cx
-        G43 = record { locals = List._++_ g35 (List._++_ t38 t2); slots = life2 ∷ Row.off ∷ life0 ∷ life3 ∷ Row.off ∷ Row.off ∷ Row.alive ∷ Row.off ∷
-            Row.off ∷ Row.off ∷ List.[]; }
+        G43 = record {
+          locals = List._++_ g35 (List._++_ t38 t2);
+          slots = life2 ∷ Row.off ∷ life0 ∷ life3 ∷ Row.off ∷ Row.off ∷ Row.alive ∷ Row.off ∷ Row.off ∷ Row.off ∷
+              List.[];
+        }
+
         abbrev G44 : Row.Cx
-        G44 = record { locals = List._++_ g35 (List._++_ t39 t2); slots = life2 ∷ Row.off ∷ life0 ∷ life3 ∷ Row.off ∷ Row.off ∷ Row.alive ∷ Row.off ∷
-            Row.off ∷ Row.off ∷ List.[]; }
+        G44 = record {
+          locals = List._++_ g35 (List._++_ t39 t2);
+          slots = life2 ∷ Row.off ∷ life0 ∷ life3 ∷ Row.off ∷ Row.off ∷ Row.alive ∷ Row.off ∷ Row.off ∷ Row.off ∷
+              List.[];
+        }
+
         abbrev G45 : Row.Cx
-        G45 = record { locals = List._++_ g35 (List._++_ t39 t2); slots = life2 ∷ Row.off ∷ life0 ∷ life3 ∷ Row.off ∷ Row.off ∷ Row.dead ∷ Row.off ∷
-            Row.off ∷ Row.off ∷ List.[]; }
+        G45 = record {
+          locals = List._++_ g35 (List._++_ t39 t2);
+          slots = life2 ∷ Row.off ∷ life0 ∷ life3 ∷ Row.off ∷ Row.off ∷ Row.dead ∷ Row.off ∷ Row.off ∷ Row.off ∷
+              List.[];
+        }
+
         abbrev G46 : Row.Cx
-        G46 = record { locals = List._++_ t32 (List._++_ t34 t2); slots = life2 ∷ life1 ∷ life0 ∷ life3 ∷ Row.off ∷ Row.off ∷ Row.dead ∷ Row.off ∷
-            Row.off ∷ Row.off ∷ List.[]; }
+        G46 = record {
+          locals = List._++_ t32 (List._++_ t34 t2);
+          slots = life2 ∷ life1 ∷ life0 ∷ life3 ∷ Row.off ∷ Row.off ∷ Row.dead ∷ Row.off ∷ Row.off ∷ Row.off ∷ List.[];
+        }
+
         abbrev G47 : Row.Cx
-        G47 = record { locals = List._++_ t32 (List._++_ t34 t2); slots = life2 ∷ life1 ∷ life0 ∷ life3 ∷ Row.off ∷ Row.off ∷ Row.off ∷ Row.off ∷
-            Row.off ∷ Row.off ∷ List.[]; }
+        G47 = record {
+          locals = List._++_ t32 (List._++_ t34 t2);
+          slots = life2 ∷ life1 ∷ life0 ∷ life3 ∷ Row.off ∷ Row.off ∷ Row.off ∷ Row.off ∷ Row.off ∷ Row.off ∷ List.[];
+        }
+
         abbrev G48 : Row.Cx
-        G48 = record { locals = List._++_ t32 (List._++_ t40 t2); slots = life2 ∷ life1 ∷ life0 ∷ life3 ∷ Row.off ∷ Row.off ∷ Row.off ∷ Row.off ∷
-            Row.off ∷ Row.off ∷ List.[]; }
+        G48 = record {
+          locals = List._++_ t32 (List._++_ t40 t2);
+          slots = life2 ∷ life1 ∷ life0 ∷ life3 ∷ Row.off ∷ Row.off ∷ Row.off ∷ Row.off ∷ Row.off ∷ Row.off ∷ List.[];
+        }
+
         abbrev G49 : Row.Cx
-        G49 = record { locals = List._++_ t32 (List._++_ t41 t2); slots = life2 ∷ life1 ∷ life0 ∷ life3 ∷ Row.off ∷ Row.off ∷ Row.off ∷ Row.off ∷
-            Row.off ∷ Row.off ∷ List.[]; }
+        G49 = record {
+          locals = List._++_ t32 (List._++_ t41 t2);
+          slots = life2 ∷ life1 ∷ life0 ∷ life3 ∷ Row.off ∷ Row.off ∷ Row.off ∷ Row.off ∷ Row.off ∷ Row.off ∷ List.[];
+        }
+
         abbrev G50 : Row.Cx
-        G50 = record { locals = List._++_ t42 (List._++_ t41 t2); slots = life2 ∷ life1 ∷ life0 ∷ life3 ∷ Row.off ∷ Row.off ∷ Row.off ∷ Row.off ∷
-            Row.off ∷ Row.off ∷ List.[]; }
+        G50 = record {
+          locals = List._++_ t42 (List._++_ t41 t2);
+          slots = life2 ∷ life1 ∷ life0 ∷ life3 ∷ Row.off ∷ Row.off ∷ Row.off ∷ Row.off ∷ Row.off ∷ Row.off ∷ List.[];
+        }
+
         abbrev G51 : Row.Cx
-        G51 = record { locals = List._++_ t42 (List._++_ t41 t2); slots = life2 ∷ life1 ∷ life0 ∷ life3 ∷ Row.off ∷ Row.off ∷ Row.off ∷ Row.alive ∷
-            Row.off ∷ Row.off ∷ List.[]; }
+        G51 = record {
+          locals = List._++_ t42 (List._++_ t41 t2);
+          slots = life2 ∷ life1 ∷ life0 ∷ life3 ∷ Row.off ∷ Row.off ∷ Row.off ∷ Row.alive ∷ Row.off ∷ Row.off ∷ List.[];
+        }
+
         abbrev G52 : Row.Cx
-        G52 = record { locals = List._++_ g43 (List._++_ t44 t2); slots = Row.off ∷ life1 ∷ life0 ∷ life3 ∷ Row.off ∷ Row.off ∷ Row.off ∷ Row.alive ∷
-            Row.off ∷ Row.off ∷ List.[]; }
+        G52 = record {
+          locals = List._++_ g43 (List._++_ t44 t2);
+          slots = Row.off ∷ life1 ∷ life0 ∷ life3 ∷ Row.off ∷ Row.off ∷ Row.off ∷ Row.alive ∷ Row.off ∷ Row.off ∷
+              List.[];
+        }
+
         abbrev G53 : Row.Cx
-        G53 = record { locals = List._++_ g43 (List._++_ t41 t45); slots = Row.off ∷ life1 ∷ life0 ∷ life3 ∷ Row.off ∷ Row.off ∷ Row.off ∷ Row.alive ∷
-            Row.off ∷ Row.off ∷ List.[]; }
+        G53 = record {
+          locals = List._++_ g43 (List._++_ t41 t45);
+          slots = Row.off ∷ life1 ∷ life0 ∷ life3 ∷ Row.off ∷ Row.off ∷ Row.off ∷ Row.alive ∷ Row.off ∷ Row.off ∷
+              List.[];
+        }
+
         abbrev G54 : Row.Cx
-        G54 = record { locals = List._++_ g43 (List._++_ t41 t45); slots = Row.off ∷ life1 ∷ life0 ∷ life3 ∷ Row.off ∷ Row.off ∷ Row.off ∷ Row.alive ∷
-            Row.alive ∷ Row.off ∷ List.[]; }
+        G54 = record {
+          locals = List._++_ g43 (List._++_ t41 t45);
+          slots = Row.off ∷ life1 ∷ life0 ∷ life3 ∷ Row.off ∷ Row.off ∷ Row.off ∷ Row.alive ∷ Row.alive ∷ Row.off ∷
+              List.[];
+        }
+
         abbrev G55 : Row.Cx
-        G55 = record { locals = List._++_ g46 (List._++_ t41 t47); slots = Row.off ∷ life1 ∷ Row.off ∷ life3 ∷ Row.off ∷ Row.off ∷ Row.off ∷ Row.alive
-            ∷ Row.alive ∷ Row.off ∷ List.[]; }
+        G55 = record {
+          locals = List._++_ g46 (List._++_ t41 t47);
+          slots = Row.off ∷ life1 ∷ Row.off ∷ life3 ∷ Row.off ∷ Row.off ∷ Row.off ∷ Row.alive ∷ Row.alive ∷ Row.off ∷
+              List.[];
+        }
+
         abbrev G56 : Row.Cx
-        G56 = record { locals = List._++_ g46 (List._++_ t41 t48); slots = Row.off ∷ life1 ∷ Row.off ∷ life3 ∷ Row.off ∷ Row.off ∷ Row.off ∷ Row.alive
-            ∷ Row.alive ∷ Row.off ∷ List.[]; }
+        G56 = record {
+          locals = List._++_ g46 (List._++_ t41 t48);
+          slots = Row.off ∷ life1 ∷ Row.off ∷ life3 ∷ Row.off ∷ Row.off ∷ Row.off ∷ Row.alive ∷ Row.alive ∷ Row.off ∷
+              List.[];
+        }
+
         abbrev G57 : Row.Cx
-        G57 = record { locals = List._++_ g46 (List._++_ t41 t48); slots = Row.off ∷ life1 ∷ Row.off ∷ life3 ∷ Row.off ∷ Row.off ∷ Row.off ∷ Row.alive
-            ∷ Row.alive ∷ Row.alive ∷ List.[]; }
+        G57 = record {
+          locals = List._++_ g46 (List._++_ t41 t48);
+          slots = Row.off ∷ life1 ∷ Row.off ∷ life3 ∷ Row.off ∷ Row.off ∷ Row.off ∷ Row.alive ∷ Row.alive ∷ Row.alive ∷
+              List.[];
+        }
+
         abbrev G58 : Row.Cx
-        G58 = record { locals = List._++_ g49 (List._++_ t41 t50); slots = Row.off ∷ life1 ∷ Row.off ∷ Row.off ∷ Row.off ∷ Row.off ∷ Row.off ∷
-            Row.alive ∷ Row.alive ∷ Row.alive ∷ List.[]; }
+        G58 = record {
+          locals = List._++_ g49 (List._++_ t41 t50);
+          slots = Row.off ∷ life1 ∷ Row.off ∷ Row.off ∷ Row.off ∷ Row.off ∷ Row.off ∷ Row.alive ∷ Row.alive ∷ Row.alive
+              ∷ List.[];
+        }
+
         abbrev G59 : Row.Cx
-        G59 = record { locals = List._++_ g49 (List._++_ t41 t51); slots = Row.off ∷ life1 ∷ Row.off ∷ Row.off ∷ Row.off ∷ Row.off ∷ Row.off ∷
-            Row.alive ∷ Row.alive ∷ Row.alive ∷ List.[]; }
+        G59 = record {
+          locals = List._++_ g49 (List._++_ t41 t51);
+          slots = Row.off ∷ life1 ∷ Row.off ∷ Row.off ∷ Row.off ∷ Row.off ∷ Row.off ∷ Row.alive ∷ Row.alive ∷ Row.alive
+              ∷ List.[];
+        }
+
         abbrev G60 : Row.Cx
-        G60 = record { locals = List._++_ g52 (List._++_ t41 t53); slots = Row.off ∷ life1 ∷ Row.off ∷ Row.off ∷ Row.off ∷ Row.off ∷ Row.off ∷
-            Row.alive ∷ Row.alive ∷ Row.alive ∷ List.[]; }
+        G60 = record {
+          locals = List._++_ g52 (List._++_ t41 t53);
+          slots = Row.off ∷ life1 ∷ Row.off ∷ Row.off ∷ Row.off ∷ Row.off ∷ Row.off ∷ Row.alive ∷ Row.alive ∷ Row.alive
+              ∷ List.[];
+        }
+
         abbrev G61 : Row.Cx
-        G61 = record { locals = List._++_ g54 (List._++_ t41 t53); slots = Row.off ∷ life1 ∷ Row.off ∷ Row.off ∷ Row.off ∷ Row.off ∷ Row.off ∷
-            Row.alive ∷ Row.alive ∷ Row.alive ∷ List.[]; }
+        G61 = record {
+          locals = List._++_ g54 (List._++_ t41 t53);
+          slots = Row.off ∷ life1 ∷ Row.off ∷ Row.off ∷ Row.off ∷ Row.off ∷ Row.off ∷ Row.alive ∷ Row.alive ∷ Row.alive
+              ∷ List.[];
+        }
+
         abbrev G62 : Row.Cx
-        G62 = record { locals = List._++_ g55 (List._++_ t41 t53); slots = Row.off ∷ life1 ∷ Row.off ∷ Row.off ∷ Row.off ∷ Row.off ∷ Row.off ∷
-            Row.alive ∷ Row.alive ∷ Row.alive ∷ List.[]; }
+        G62 = record {
+          locals = List._++_ g55 (List._++_ t41 t53);
+          slots = Row.off ∷ life1 ∷ Row.off ∷ Row.off ∷ Row.off ∷ Row.off ∷ Row.off ∷ Row.alive ∷ Row.alive ∷ Row.alive
+              ∷ List.[];
+        }
+
         abbrev G63 : Row.Cx
-        G63 = record { locals = List._++_ g55 (List._++_ t56 t53); slots = Row.off ∷ life1 ∷ Row.off ∷ Row.off ∷ Row.off ∷ Row.off ∷ Row.off ∷
-            Row.alive ∷ Row.alive ∷ Row.alive ∷ List.[]; }
+        G63 = record {
+          locals = List._++_ g55 (List._++_ t56 t53);
+          slots = Row.off ∷ life1 ∷ Row.off ∷ Row.off ∷ Row.off ∷ Row.off ∷ Row.off ∷ Row.alive ∷ Row.alive ∷ Row.alive
+              ∷ List.[];
+        }
+
         abbrev G64 : Row.Cx
-        G64 = record { locals = List._++_ g55 (List._++_ t57 t53); slots = Row.off ∷ life1 ∷ Row.off ∷ Row.off ∷ Row.off ∷ Row.off ∷ Row.off ∷
-            Row.alive ∷ Row.alive ∷ Row.alive ∷ List.[]; }
+        G64 = record {
+          locals = List._++_ g55 (List._++_ t57 t53);
+          slots = Row.off ∷ life1 ∷ Row.off ∷ Row.off ∷ Row.off ∷ Row.off ∷ Row.off ∷ Row.alive ∷ Row.alive ∷ Row.alive
+              ∷ List.[];
+        }
+
         abbrev G65 : Row.Cx
-        G65 = record { locals = List._++_ g55 (List._++_ t58 t53); slots = Row.off ∷ life1 ∷ Row.off ∷ Row.off ∷ Row.off ∷ Row.off ∷ Row.off ∷
-            Row.alive ∷ Row.alive ∷ Row.alive ∷ List.[]; }
+        G65 = record {
+          locals = List._++_ g55 (List._++_ t58 t53);
+          slots = Row.off ∷ life1 ∷ Row.off ∷ Row.off ∷ Row.off ∷ Row.off ∷ Row.off ∷ Row.alive ∷ Row.alive ∷ Row.alive
+              ∷ List.[];
+        }
+
         abbrev G66 : Row.Cx
-        G66 = record { locals = List._++_ g55 (List._++_ t58 t53); slots = Row.off ∷ life1 ∷ Row.off ∷ Row.off ∷ Row.off ∷ Row.off ∷ Row.off ∷
-            Row.dead ∷ Row.alive ∷ Row.alive ∷ List.[]; }
+        G66 = record {
+          locals = List._++_ g55 (List._++_ t58 t53);
+          slots = Row.off ∷ life1 ∷ Row.off ∷ Row.off ∷ Row.off ∷ Row.off ∷ Row.off ∷ Row.dead ∷ Row.alive ∷ Row.alive
+              ∷ List.[];
+        }
+
         abbrev G67 : Row.Cx
-        G67 = record { locals = List._++_ g59 (List._++_ t58 t60); slots = life2 ∷ life1 ∷ Row.off ∷ Row.off ∷ Row.off ∷ Row.off ∷ Row.off ∷ Row.dead
-            ∷ Row.alive ∷ Row.alive ∷ List.[]; }
+        G67 = record {
+          locals = List._++_ g59 (List._++_ t58 t60);
+          slots = life2 ∷ life1 ∷ Row.off ∷ Row.off ∷ Row.off ∷ Row.off ∷ Row.off ∷ Row.dead ∷ Row.alive ∷ Row.alive ∷
+              List.[];
+        }
+
         abbrev G68 : Row.Cx
-        G68 = record { locals = List._++_ g59 (List._++_ t58 t60); slots = life2 ∷ life1 ∷ Row.off ∷ Row.off ∷ Row.off ∷ Row.off ∷ Row.off ∷ Row.off ∷
-            Row.alive ∷ Row.alive ∷ List.[]; }
+        G68 = record {
+          locals = List._++_ g59 (List._++_ t58 t60);
+          slots = life2 ∷ life1 ∷ Row.off ∷ Row.off ∷ Row.off ∷ Row.off ∷ Row.off ∷ Row.off ∷ Row.alive ∷ Row.alive ∷
+              List.[];
+        }
+
         abbrev G69 : Row.Cx
-        G69 = record { locals = List._++_ g59 (List._++_ t58 t60); slots = life2 ∷ life1 ∷ Row.off ∷ Row.off ∷ Row.off ∷ Row.off ∷ Row.off ∷ Row.off ∷
-            Row.dead ∷ Row.alive ∷ List.[]; }
+        G69 = record {
+          locals = List._++_ g59 (List._++_ t58 t60);
+          slots = life2 ∷ life1 ∷ Row.off ∷ Row.off ∷ Row.off ∷ Row.off ∷ Row.off ∷ Row.off ∷ Row.dead ∷ Row.alive ∷
+              List.[];
+        }
+
         abbrev G70 : Row.Cx
-        G70 = record { locals = List._++_ g61 (List._++_ t58 t62); slots = life2 ∷ life1 ∷ life0 ∷ Row.off ∷ Row.off ∷ Row.off ∷ Row.off ∷ Row.off ∷
-            Row.dead ∷ Row.alive ∷ List.[]; }
+        G70 = record {
+          locals = List._++_ g61 (List._++_ t58 t62);
+          slots = life2 ∷ life1 ∷ life0 ∷ Row.off ∷ Row.off ∷ Row.off ∷ Row.off ∷ Row.off ∷ Row.dead ∷ Row.alive ∷
+              List.[];
+        }
+
         abbrev G71 : Row.Cx
-        G71 = record { locals = List._++_ g61 (List._++_ t58 t62); slots = life2 ∷ life1 ∷ life0 ∷ Row.off ∷ Row.off ∷ Row.off ∷ Row.off ∷ Row.off ∷
-            Row.off ∷ Row.alive ∷ List.[]; }
+        G71 = record {
+          locals = List._++_ g61 (List._++_ t58 t62);
+          slots = life2 ∷ life1 ∷ life0 ∷ Row.off ∷ Row.off ∷ Row.off ∷ Row.off ∷ Row.off ∷ Row.off ∷ Row.alive ∷
+              List.[];
+        }
+
         abbrev G72 : Row.Cx
-        G72 = record { locals = List._++_ g61 (List._++_ t58 t62); slots = life2 ∷ life1 ∷ life0 ∷ Row.off ∷ Row.off ∷ Row.off ∷ Row.off ∷ Row.off ∷
-            Row.off ∷ Row.dead ∷ List.[]; }
+        G72 = record {
+          locals = List._++_ g61 (List._++_ t58 t62);
+          slots = life2 ∷ life1 ∷ life0 ∷ Row.off ∷ Row.off ∷ Row.off ∷ Row.off ∷ Row.off ∷ Row.off ∷ Row.dead ∷
+              List.[];
+        }
+
         abbrev G73 : Row.Cx
-        G73 = record { locals = List._++_ t63 (List._++_ t58 t2); slots = life2 ∷ life1 ∷ life0 ∷ life3 ∷ Row.off ∷ Row.off ∷ Row.off ∷ Row.off ∷
-            Row.off ∷ Row.dead ∷ List.[]; }
+        G73 = record {
+          locals = List._++_ t63 (List._++_ t58 t2);
+          slots = life2 ∷ life1 ∷ life0 ∷ life3 ∷ Row.off ∷ Row.off ∷ Row.off ∷ Row.off ∷ Row.off ∷ Row.dead ∷ List.[];
+        }
+
         abbrev G74 : Row.Cx
-        G74 = record { locals = List._++_ t63 (List._++_ t58 t2); slots = life2 ∷ life1 ∷ life0 ∷ life3 ∷ Row.off ∷ Row.off ∷ Row.off ∷ Row.off ∷
-            Row.off ∷ Row.dead ∷ List.[]; }
+        G74 = record {
+          locals = List._++_ t63 (List._++_ t58 t2);
+          slots = life2 ∷ life1 ∷ life0 ∷ life3 ∷ Row.off ∷ Row.off ∷ Row.off ∷ Row.off ∷ Row.off ∷ Row.dead ∷ List.[];
+        }
+
         abbrev G75 : Row.Cx
-        G75 = record { locals = List._++_ t63 (List._++_ t58 t2); slots = life2 ∷ life1 ∷ life0 ∷ life3 ∷ Row.off ∷ Row.off ∷ Row.off ∷ Row.off ∷
-            Row.off ∷ Row.off ∷ List.[]; }
+        G75 = record {
+          locals = List._++_ t63 (List._++_ t58 t2);
+          slots = life2 ∷ life1 ∷ life0 ∷ life3 ∷ Row.off ∷ Row.off ∷ Row.off ∷ Row.off ∷ Row.off ∷ Row.off ∷ List.[];
+        }
+
         abbrev G76 : Row.Cx
-        G76 = record { locals = List._++_ t3 (List._++_ t58 t2); slots = life2 ∷ life1 ∷ life0 ∷ life3 ∷ Row.off ∷ Row.off ∷ Row.off ∷ Row.off ∷
-            Row.off ∷ Row.off ∷ List.[]; }
+        G76 = record {
+          locals = List._++_ t3 (List._++_ t58 t2);
+          slots = life2 ∷ life1 ∷ life0 ∷ life3 ∷ Row.off ∷ Row.off ∷ Row.off ∷ Row.off ∷ Row.off ∷ Row.off ∷ List.[];
+        }
+
         abbrev G77 : Row.Cx
-        G77 = record { locals = List._++_ t3 (List._++_ t64 t2); slots = life2 ∷ life1 ∷ life0 ∷ life3 ∷ Row.off ∷ Row.off ∷ Row.off ∷ Row.off ∷
-            Row.off ∷ Row.off ∷ List.[]; }
+        G77 = record {
+          locals = List._++_ t3 (List._++_ t64 t2);
+          slots = life2 ∷ life1 ∷ life0 ∷ life3 ∷ Row.off ∷ Row.off ∷ Row.off ∷ Row.off ∷ Row.off ∷ Row.off ∷ List.[];
+        }
+
         abbrev G78 : Row.Cx
-        G78 = record { locals = List._++_ t3 (List._++_ t1 t2); slots = life2 ∷ life1 ∷ life0 ∷ life3 ∷ Row.off ∷ Row.off ∷ Row.off ∷ Row.off ∷
-            Row.off ∷ Row.off ∷ List.[]; }
+        G78 = record {
+          locals = List._++_ t3 (List._++_ t1 t2);
+          slots = life2 ∷ life1 ∷ life0 ∷ life3 ∷ Row.off ∷ Row.off ∷ Row.off ∷ Row.off ∷ Row.off ∷ Row.off ∷ List.[];
+        }
+
         abbrev G79 : Row.Cx
-        G79 = record { locals = List._++_ t65 (List._++_ t27 t2); slots = life2 ∷ life1 ∷ life0 ∷ life3 ∷ Row.off ∷ Row.off ∷ Row.off ∷ Row.off ∷
-            Row.off ∷ Row.off ∷ List.[]; }
+        G79 = record {
+          locals = List._++_ t65 (List._++_ t27 t2);
+          slots = life2 ∷ life1 ∷ life0 ∷ life3 ∷ Row.off ∷ Row.off ∷ Row.off ∷ Row.off ∷ Row.off ∷ Row.off ∷ List.[];
+        }
+
         abbrev G80 : Row.Cx
-        G80 = record { locals = List._++_ t28 (List._++_ t27 t2); slots = life2 ∷ life1 ∷ life0 ∷ life3 ∷ Row.off ∷ Row.off ∷ Row.off ∷ Row.off ∷
-            Row.off ∷ Row.off ∷ List.[]; }
+        G80 = record {
+          locals = List._++_ t28 (List._++_ t27 t2);
+          slots = life2 ∷ life1 ∷ life0 ∷ life3 ∷ Row.off ∷ Row.off ∷ Row.off ∷ Row.off ∷ Row.off ∷ Row.off ∷ List.[];
+        }
+
         abbrev G81 : Row.Cx
-        G81 = record { locals = List._++_ t28 (List._++_ t66 t2); slots = life2 ∷ life1 ∷ life0 ∷ life3 ∷ Row.off ∷ Row.off ∷ Row.off ∷ Row.off ∷
-            Row.off ∷ Row.off ∷ List.[]; }
+        G81 = record {
+          locals = List._++_ t28 (List._++_ t66 t2);
+          slots = life2 ∷ life1 ∷ life0 ∷ life3 ∷ Row.off ∷ Row.off ∷ Row.off ∷ Row.off ∷ Row.off ∷ Row.off ∷ List.[];
+        }
+
         abbrev G82 : Row.Cx
-        G82 = record { locals = List._++_ t28 (List._++_ t67 t2); slots = life2 ∷ life1 ∷ life0 ∷ life3 ∷ Row.off ∷ Row.off ∷ Row.off ∷ Row.off ∷
-            Row.off ∷ Row.off ∷ List.[]; }
+        G82 = record {
+          locals = List._++_ t28 (List._++_ t67 t2);
+          slots = life2 ∷ life1 ∷ life0 ∷ life3 ∷ Row.off ∷ Row.off ∷ Row.off ∷ Row.off ∷ Row.off ∷ Row.off ∷ List.[];
+        }
+
         abbrev G83 : Row.Cx
-        G83 = record { locals = List._++_ t28 (List._++_ t29 t2); slots = life2 ∷ life1 ∷ life0 ∷ life3 ∷ Row.off ∷ Row.off ∷ Row.off ∷ Row.off ∷
-            Row.off ∷ Row.off ∷ List.[]; }
+        G83 = record {
+          locals = List._++_ t28 (List._++_ t29 t2);
+          slots = life2 ∷ life1 ∷ life0 ∷ life3 ∷ Row.off ∷ Row.off ∷ Row.off ∷ Row.off ∷ Row.off ∷ Row.off ∷ List.[];
+        }
+
         abbrev G84 : Row.Cx
-        G84 = record { locals = List._++_ t68 (List._++_ t29 t2); slots = life2 ∷ life1 ∷ life0 ∷ life3 ∷ Row.off ∷ Row.off ∷ Row.off ∷ Row.off ∷
-            Row.off ∷ Row.off ∷ List.[]; }
+        G84 = record {
+          locals = List._++_ t68 (List._++_ t29 t2);
+          slots = life2 ∷ life1 ∷ life0 ∷ life3 ∷ Row.off ∷ Row.off ∷ Row.off ∷ Row.off ∷ Row.off ∷ Row.off ∷ List.[];
+        }
+
         abbrev G85 : Row.Cx
-        G85 = record { locals = List._++_ t69 (List._++_ t29 t2); slots = life2 ∷ life1 ∷ life0 ∷ life3 ∷ Row.off ∷ Row.off ∷ Row.off ∷ Row.off ∷
-            Row.off ∷ Row.off ∷ List.[]; }
+        G85 = record {
+          locals = List._++_ t69 (List._++_ t29 t2);
+          slots = life2 ∷ life1 ∷ life0 ∷ life3 ∷ Row.off ∷ Row.off ∷ Row.off ∷ Row.off ∷ Row.off ∷ Row.off ∷ List.[];
+        }
+
         abbrev G86 : Row.Cx
-        G86 = record { locals = List._++_ t63 (List._++_ t29 t2); slots = life2 ∷ life1 ∷ life0 ∷ life3 ∷ Row.off ∷ Row.off ∷ Row.off ∷ Row.off ∷
-            Row.off ∷ Row.off ∷ List.[]; }
+        G86 = record {
+          locals = List._++_ t63 (List._++_ t29 t2);
+          slots = life2 ∷ life1 ∷ life0 ∷ life3 ∷ Row.off ∷ Row.off ∷ Row.off ∷ Row.off ∷ Row.off ∷ Row.off ∷ List.[];
+        }
+
         abbrev G87 : Row.Cx
-        G87 = record { locals = List._++_ t3 (List._++_ t29 t2); slots = life2 ∷ life1 ∷ life0 ∷ life3 ∷ Row.off ∷ Row.off ∷ Row.off ∷ Row.off ∷
-            Row.off ∷ Row.off ∷ List.[]; }
+        G87 = record {
+          locals = List._++_ t3 (List._++_ t29 t2);
+          slots = life2 ∷ life1 ∷ life0 ∷ life3 ∷ Row.off ∷ Row.off ∷ Row.off ∷ Row.off ∷ Row.off ∷ Row.off ∷ List.[];
+        }
+
         abbrev G88 : Row.Cx
-        G88 = record { locals = List._++_ t3 (List._++_ t1 t2); slots = life2 ∷ life1 ∷ life0 ∷ life3 ∷ Row.off ∷ Row.off ∷ Row.off ∷ Row.off ∷
-            Row.off ∷ Row.off ∷ List.[]; }
+        G88 = record {
+          locals = List._++_ t3 (List._++_ t1 t2);
+          slots = life2 ∷ life1 ∷ life0 ∷ life3 ∷ Row.off ∷ Row.off ∷ Row.off ∷ Row.off ∷ Row.off ∷ Row.off ∷ List.[];
+        }
+
         abbrev Δ0 : Typed.Outs
         Δ0 = record { next = Option.none; exits = List.[]; returns = Option.some G1 }
+
         abbrev Δ1 : Typed.Outs
         Δ1 = Typed.withNext (Option.some G33) Δ0
-        module _ { M : Type 1 } (𝓤 : URA.URA M) (H : Wp.Heap 𝓤) (A : Atoms.Atoms 𝓤) (W : Kit.Given 𝓤 H A) (𝓣 : Wp.Tables 𝓤 H) (known : Knowns 𝓤 H A W
-            𝓣) (bs : List.List Nat.ℕ) (bd : Lifetimes.AllOutlive 4 (Kinds.osR r) κs) where
+
+        module _ {M : Type 1} (𝓤 : URA.URA M) (H : Wp.Heap 𝓤) (A : Atoms.Atoms 𝓤) (W : Kit.Given 𝓤 H A)
+            (𝓣 : Wp.Tables 𝓤 H) (known : Knowns 𝓤 H A W 𝓣) (bs : List.List Nat.ℕ)
+            (bd : Lifetimes.AllOutlive 4 (Kinds.osR r) κs) where
           abbrev E : Wp.Env 𝓤 H
           E = Frame.EnvOf 𝓤 H ((Kinds.tyR r) ∷ (Enter.tysP ps xs)) bs
+
           d0 : Typed.Typed 𝓤 H A 𝓣 E G78 b28 Δ1 (at0 bs)
           d0 = Typed.t-return 𝓤 H A W 𝓣 E Δ1 tt
+
           d1 : Typed.Typed 𝓤 H A 𝓣 E G77 b28 Δ1 (at1 bs)
-          d1 = Typed.g-pre 𝓤 H A W 𝓣 E G77 G78 b28 Δ1 (Typed.pass T77 T78 (s75 bs)) (at0 bs) (Scalar.g-room 𝓤 H A W E G77 21 (Syntax.tyInt Syntax.w64)
-              (Scalar.room-sc 𝓤 H A W (Row.sInt Syntax.w64))) d0
+          d1 = Typed.g-pre 𝓤 H A W 𝓣 E G77 G78 b28 Δ1 (Typed.pass T77 T78 (s75 bs)) (at0 bs) (Scalar.g-room 𝓤 H A W E
+              G77 21 (Syntax.tyInt Syntax.w64) (Scalar.room-sc 𝓤 H A W (Row.sInt Syntax.w64))) d0
+
           d2 : Typed.Typed 𝓤 H A 𝓣 E G76 b28 Δ1 (at2 bs)
-          d2 = Typed.g-pre 𝓤 H A W 𝓣 E G76 G77 b28 Δ1 (Typed.pass T76 T77 (s74 bs)) (at1 bs) (Scalar.g-room 𝓤 H A W E G76 20 (Syntax.tyInt Syntax.w64)
-              (Scalar.room-sc 𝓤 H A W (Row.sInt Syntax.w64))) d1
+          d2 = Typed.g-pre 𝓤 H A W 𝓣 E G76 G77 b28 Δ1 (Typed.pass T76 T77 (s74 bs)) (at1 bs) (Scalar.g-room 𝓤 H A W E
+              G76 20 (Syntax.tyInt Syntax.w64) (Scalar.room-sc 𝓤 H A W (Row.sInt Syntax.w64))) d1
+
           d3 : Typed.Typed 𝓤 H A 𝓣 E G75 b28 Δ1 (at3 bs)
-          d3 = Typed.g-pre 𝓤 H A W 𝓣 E G75 G76 b28 Δ1 (Typed.pass T74 T76 (s73 bs)) (at2 bs) (Scalar.g-room 𝓤 H A W E G75 10 (Syntax.tyInt Syntax.w64)
-              (Scalar.room-sc 𝓤 H A W (Row.sInt Syntax.w64))) d2
+          d3 = Typed.g-pre 𝓤 H A W 𝓣 E G75 G76 b28 Δ1 (Typed.pass T74 T76 (s73 bs)) (at2 bs) (Scalar.g-room 𝓤 H A W E
+              G75 10 (Syntax.tyInt Syntax.w64) (Scalar.room-sc 𝓤 H A W (Row.sInt Syntax.w64))) d2
+
           d4 : Typed.Typed 𝓤 H A 𝓣 E G74 b28 Δ1 (at4 bs)
-          d4 = Typed.g-pre 𝓤 H A W 𝓣 E G74 G75 b28 Δ1 (λ Ψ. Ψ) (at3 bs) (Lifetime.g-forget 𝓤 H A W E G74 9 Row.dead Path.refl) d3
+          d4 = Typed.g-pre 𝓤 H A W 𝓣 E G74 G75 b28 Δ1 (λ Ψ. Ψ) (at3 bs)
+              (Lifetime.g-forget 𝓤 H A W E G74 9 Row.dead Path.refl) d3
+
           d5 : Typed.Typed 𝓤 H A 𝓣 E G73 b28 Δ1 (at5 bs)
-          d5 = Typed.g-pre 𝓤 H A W 𝓣 E G73 G74 b28 Δ1 (Typed.give (s71 bs)) (at4 bs) (Know.g-sl-known 𝓤 H A W (Referent.fInt Syntax.w32) E G73 4 3
-              ref9 life3 0 (λ x. x) record { fits = Dec.lit< tt } (Reads'.as-is 𝓤 H A (Mut.mslice (Referent.rtF (Referent.fInt Syntax.w32)) ref9 3))
-              Path.refl tt) d4
+          d5 = Typed.g-pre 𝓤 H A W 𝓣 E G73 G74 b28 Δ1 (Typed.give (s71 bs)) (at4 bs) (Know.g-sl-known 𝓤 H A W
+              (Referent.fInt Syntax.w32) E G73 4 3 ref9 life3 0 (λ x. x) record { fits = Dec.lit< tt } (Reads'.as-is 𝓤
+              H A (Mut.mslice (Referent.rtF (Referent.fInt Syntax.w32)) ref9 3)) Path.refl tt) d4
+
           d6 : Typed.Typed 𝓤 H A 𝓣 E G72 b28 Δ1 (at6 bs)
-          d6 = Typed.g-pre 𝓤 H A W 𝓣 E G72 G73 b28 Δ1 (Typed.both (s70 bs)) (at5 bs) (Relend.g-back-sl 𝓤 H A W E (Referent.rtF (Referent.fInt
-              Syntax.w32)) G72 36 4 3 9 ref9 ref5 life3 (λ x. x) (λ x. x) (Reads'.as-is 𝓤 H A (Mut.msleft (Referent.rtF (Referent.fInt Syntax.w32))
-              ref5)) (Reads'.as-is 𝓤 H A (Relend.mslice-owed (Referent.rtF (Referent.fInt Syntax.w32)) ref9 3 9 life3)) Path.refl Path.refl) d5
+          d6 = Typed.g-pre 𝓤 H A W 𝓣 E G72 G73 b28 Δ1 (Typed.both (s70 bs)) (at5 bs) (Relend.g-back-sl 𝓤 H A W E
+              (Referent.rtF (Referent.fInt Syntax.w32)) G72 36 4 3 9 ref9 ref5 life3 (λ x. x) (λ x. x) (Reads'.as-is 𝓤
+              H A (Mut.msleft (Referent.rtF (Referent.fInt Syntax.w32)) ref5)) (Reads'.as-is 𝓤 H A (Relend.mslice-owed
+              (Referent.rtF (Referent.fInt Syntax.w32)) ref9 3 9 life3)) Path.refl Path.refl) d5
+
           d7 : Typed.Typed 𝓤 H A 𝓣 E G71 b28 Δ1 (at7 bs)
           d7 = Typed.g-pre 𝓤 H A W 𝓣 E G71 G72 b28 Δ1 (λ Ψ. Ψ) (at6 bs) (Lifetime.g-end 𝓤 H A W E G71 9 Path.refl) d6
+
           d8 : Typed.Typed 𝓤 H A 𝓣 E G70 b28 Δ1 (at8 bs)
-          d8 = Typed.g-pre 𝓤 H A W 𝓣 E G70 G71 b28 Δ1 (λ Ψ. Ψ) (at7 bs) (Lifetime.g-forget 𝓤 H A W E G70 8 Row.dead Path.refl) d7
+          d8 = Typed.g-pre 𝓤 H A W 𝓣 E G70 G71 b28 Δ1 (λ Ψ. Ψ) (at7 bs)
+              (Lifetime.g-forget 𝓤 H A W E G70 8 Row.dead Path.refl) d7
+
           d9 : Typed.Typed 𝓤 H A 𝓣 E G69 b28 Δ1 (at9 bs)
-          d9 = Typed.g-pre 𝓤 H A W 𝓣 E G69 G70 b28 Δ1 (Typed.both (s67 bs)) (at8 bs) (Relend.g-back-sl 𝓤 H A W E InflightAction.row G69 34 3 2 8 ref8
-              ref4 life0 (λ x. x) (λ x. x) (Reads'.as-is 𝓤 H A (Mut.msleft InflightAction.row ref4)) (Reads'.as-is 𝓤 H A (Relend.mslice-owed
-              InflightAction.row ref8 2 8 life0)) Path.refl Path.refl) d8
+          d9 = Typed.g-pre 𝓤 H A W 𝓣 E G69 G70 b28 Δ1 (Typed.both (s67 bs)) (at8 bs) (Relend.g-back-sl 𝓤 H A W E
+              InflightAction.row G69 34 3 2 8 ref8 ref4 life0 (λ x. x) (λ x. x)
+              (Reads'.as-is 𝓤 H A (Mut.msleft InflightAction.row ref4)) (Reads'.as-is 𝓤 H A
+              (Relend.mslice-owed InflightAction.row ref8 2 8 life0)) Path.refl Path.refl) d8
+
           d10 : Typed.Typed 𝓤 H A 𝓣 E G68 b28 Δ1 (at10 bs)
           d10 = Typed.g-pre 𝓤 H A W 𝓣 E G68 G69 b28 Δ1 (λ Ψ. Ψ) (at9 bs) (Lifetime.g-end 𝓤 H A W E G68 8 Path.refl) d9
+
           d11 : Typed.Typed 𝓤 H A 𝓣 E G67 b28 Δ1 (at11 bs)
-          d11 = Typed.g-pre 𝓤 H A W 𝓣 E G67 G68 b28 Δ1 (λ Ψ. Ψ) (at10 bs) (Lifetime.g-forget 𝓤 H A W E G67 7 Row.dead Path.refl) d10
+          d11 = Typed.g-pre 𝓤 H A W 𝓣 E G67 G68 b28 Δ1 (λ Ψ. Ψ) (at10 bs)
+              (Lifetime.g-forget 𝓤 H A W E G67 7 Row.dead Path.refl) d10
+
           d12 : Typed.Typed 𝓤 H A 𝓣 E G66 b28 Δ1 (at12 bs)
-          d12 = Typed.g-pre 𝓤 H A W 𝓣 E G66 G67 b28 Δ1 (Typed.both (s64 bs)) (at11 bs) (Relend.g-back-sl 𝓤 H A W E RelayPending.row G66 32 1 0 7 ref6
-              ref3 life2 (λ x. x) (λ x. x) (Reads'.as-is 𝓤 H A (Mut.msleft RelayPending.row ref3)) (Reads'.as-is 𝓤 H A (Relend.mslice-owed
-              RelayPending.row ref6 0 7 life2)) Path.refl Path.refl) d11
+          d12 = Typed.g-pre 𝓤 H A W 𝓣 E G66 G67 b28 Δ1 (Typed.both (s64 bs)) (at11 bs) (Relend.g-back-sl 𝓤 H A W E
+              RelayPending.row G66 32 1 0 7 ref6 ref3 life2 (λ x. x) (λ x. x)
+              (Reads'.as-is 𝓤 H A (Mut.msleft RelayPending.row ref3)) (Reads'.as-is 𝓤 H A
+              (Relend.mslice-owed RelayPending.row ref6 0 7 life2)) Path.refl Path.refl) d11
+
           d13 : Typed.Typed 𝓤 H A 𝓣 E G65 b28 Δ1 (at13 bs)
-          d13 = Typed.g-pre 𝓤 H A W 𝓣 E G65 G66 b28 Δ1 (λ Ψ. Ψ) (at12 bs) (Lifetime.g-end 𝓤 H A W E G65 7 Path.refl) d12
+          d13 = Typed.g-pre 𝓤 H A W 𝓣 E G65 G66 b28 Δ1 (λ Ψ. Ψ) (at12 bs) (Lifetime.g-end 𝓤 H A W E G65 7 Path.refl)
+              d12
+
           d14 : Typed.Typed 𝓤 H A 𝓣 E G64 b28 Δ1 (at14 bs)
-          d14 = Typed.g-pre 𝓤 H A W 𝓣 E G64 G65 b28 Δ1 (Typed.pass T64 T65 (s62 bs)) (at13 bs) (Scalar.g-room 𝓤 H A W E G64 22 Laws'''''.mir
-              (Local.room-whole 𝓤 H A W (Declared'.row Places.the-type) Laws'''''.mir Path.refl)) d13
+          d14 = Typed.g-pre 𝓤 H A W 𝓣 E G64 G65 b28 Δ1 (Typed.pass T64 T65 (s62 bs)) (at13 bs) (Scalar.g-room 𝓤 H A W E
+              G64 22 Laws'''''.mir (Local.room-whole 𝓤 H A W (Declared'.row Places.the-type) Laws'''''.mir Path.refl))
+              d13
+
           d15 : Typed.Typed 𝓤 H A 𝓣 E G63 b28 Δ1 (at15 bs)
-          d15 = Typed.g-pre 𝓤 H A W 𝓣 E G63 G64 b28 Δ1 (Typed.pass T63 T64 (s61 bs)) (at14 bs) (Scalar.g-room 𝓤 H A W E G63 19 ReservationUsage.ty
-              (Local.room-whole 𝓤 H A W ReservationUsage.row ReservationUsage.ty Path.refl)) d14
+          d15 = Typed.g-pre 𝓤 H A W 𝓣 E G63 G64 b28 Δ1 (Typed.pass T63 T64 (s61 bs)) (at14 bs) (Scalar.g-room 𝓤 H A W E
+              G63 19 ReservationUsage.ty (Local.room-whole 𝓤 H A W ReservationUsage.row ReservationUsage.ty Path.refl))
+              d14
+
           d16 : Typed.Typed 𝓤 H A 𝓣 E G62 b28 Δ1 (at16 bs)
-          d16 = Typed.g-pre 𝓤 H A W 𝓣 E G62 G63 b28 Δ1 (Typed.pass T62 T63 (s60 bs)) (at15 bs) (Scalar.g-room 𝓤 H A W E G62 16 Laws'''''''.mir
-              (Local.room-whole 𝓤 H A W (Declared'.row ActionScan.the-type) Laws'''''''.mir Path.refl)) d15
+          d16 = Typed.g-pre 𝓤 H A W 𝓣 E G62 G63 b28 Δ1 (Typed.pass T62 T63 (s60 bs)) (at15 bs) (Scalar.g-room 𝓤 H A W E
+              G62 16 Laws'''''''.mir (Local.room-whole 𝓤 H A W (Declared'.row ActionScan.the-type) Laws'''''''.mir
+              Path.refl)) d15
+
           d17 : Typed.Typed 𝓤 H A 𝓣 E G61 b28 Δ1 (at17 bs)
-          d17 = Typed.g-pre 𝓤 H A W 𝓣 E G61 G62 b28 Δ1 (Typed.pass T61 T62 (s59 bs)) (at16 bs) (Scalar.g-room 𝓤 H A W E G61 9 Laws''''.mir
-              (Local.room-whole 𝓤 H A W (Declared'.row OpenPlan.the-type) Laws''''.mir Path.refl)) d16
+          d17 = Typed.g-pre 𝓤 H A W 𝓣 E G61 G62 b28 Δ1 (Typed.pass T61 T62 (s59 bs)) (at16 bs) (Scalar.g-room 𝓤 H A W E
+              G61 9 Laws''''.mir (Local.room-whole 𝓤 H A W (Declared'.row OpenPlan.the-type) Laws''''.mir Path.refl))
+              d16
+
           d18 : Typed.Typed 𝓤 H A 𝓣 E G60 b28 Δ1 (at18 bs)
-          d18 = Typed.g-pre 𝓤 H A W 𝓣 E G60 G61 b28 Δ1 (Typed.pass T60 T61 (s58 bs)) (at17 bs) (Scalar.g-room 𝓤 H A W E G60 5 Laws''''''''''''.mir
-              (Local.room-whole 𝓤 H A W (Declared'.row OpaqueRelayRuntime.the-type) Laws''''''''''''.mir Path.refl)) d17
+          d18 = Typed.g-pre 𝓤 H A W 𝓣 E G60 G61 b28 Δ1 (Typed.pass T60 T61 (s58 bs)) (at17 bs) (Scalar.g-room 𝓤 H A W E
+              G60 5 Laws''''''''''''.mir (Local.room-whole 𝓤 H A W (Declared'.row OpaqueRelayRuntime.the-type)
+              Laws''''''''''''.mir Path.refl)) d17
+
           d19 : Typed.Typed 𝓤 H A 𝓣 E G59 b29 Δ1 (at19 bs)
-          d19 = Typed.s-seq 𝓤 H A W 𝓣 E G59 G60 b27 b28 Δ1 (Typed.both (s57 bs)) (at18 bs) (Plain.t-call-plain 𝓤 H A W 𝓣 3 ps·11 r·11 (claims· .22)
-              (claims· .23) "hnsr_circuit::handle_open::open_booked" (known .11) E (λ pos β. β) G59 (record { pos = 32; ty = Syntax.tyRef
-              Syntax.erased Syntax.mut RelayPending.to; ref = λ x. x; }, (record { pos = 34; ty = Syntax.tyRef Syntax.erased Syntax.mut
-              InflightAction.to; ref = λ x. x; }, (record { pos = 36; ty = Syntax.tyRef Syntax.erased Syntax.mut (Syntax.tyInt Syntax.w32); ref = λ x.
-              x; }, (record { pos = 5; st = List.[]; d = 0; at = λ x. x }, (record { pos = 22; st = List.[]; d = 0; at = λ x. x }, (record { pos = 9;
-              st = List.[]; d = 0; at = λ x. x }, (record { pos = 19; st = List.[]; d = 0; at = λ x. x }, (record { pos = 16; st = List.[]; d = 0; at
-              = λ x. x }, tt),),),),),),),) 0 (7 ∷ 8 ∷ 9 ∷ List.[]) (Call.sub-id 𝓤 H A W (G59 .slots)) (Reads'.as-is 𝓤 H A (Mut.mslice
-              RelayPending.row ref3 7), Mut.reads-mslice 𝓤 H A W RelayPending.row ref3 7, Path.refl, (Reads'.as-is 𝓤 H A (Mut.mslice
-              InflightAction.row ref4 8), Mut.reads-mslice 𝓤 H A W InflightAction.row ref4 8, Path.refl, (Reads'.as-is 𝓤 H A (Mut.mslice (Referent.rtF
-              (Referent.fInt Syntax.w32)) ref5 9), Mut.reads-mslice 𝓤 H A W (Referent.rtF (Referent.fInt Syntax.w32)) ref5 9, Path.refl,
-              ((Yields.yields-copy 𝓤 H A W (λ ρ. Unit) (Declared'.row OpaqueRelayRuntime.the-type) Path.refl (Copies.cStruct
-              OpaqueRelayRuntime.the-type Laws''''''''''''.the-laws Laws''''''''''''.the-copy .copy 𝓤 H A W) (Rows.whole (Declared'.row
-              OpaqueRelayRuntime.the-type)) (λ x. x) (λ x. x) (λ ρ told. Local.mem-whole 𝓤 H A W (Declared'.row OpaqueRelayRuntime.the-type) ρ) λ ρ
-              told. Local.whole-mem 𝓤 H A W (Declared'.row OpaqueRelayRuntime.the-type) ρ, Path.refl,), ((Yields.yields-copy 𝓤 H A W (λ ρ. Unit)
-              (Declared'.row Places.the-type) Path.refl (Copies.cStruct Places.the-type Laws'''''.the-laws Laws'''''.the-copy .copy 𝓤 H A W)
-              (Rows.whole (Declared'.row Places.the-type)) (λ x. x) (λ x. x) (λ ρ told. Local.mem-whole 𝓤 H A W (Declared'.row Places.the-type) ρ) λ ρ
-              told. Local.whole-mem 𝓤 H A W (Declared'.row Places.the-type) ρ, Path.refl,), ((Yields.yields-copy 𝓤 H A W (λ ρ. Unit) (Declared'.row
-              OpenPlan.the-type) Path.refl (Copies.cStruct OpenPlan.the-type Laws''''.the-laws Laws''''.the-copy .copy 𝓤 H A W) (Rows.whole
-              (Declared'.row OpenPlan.the-type)) (λ x. x) (λ x. x) (λ ρ told. Local.mem-whole 𝓤 H A W (Declared'.row OpenPlan.the-type) ρ) λ ρ told.
-              Local.whole-mem 𝓤 H A W (Declared'.row OpenPlan.the-type) ρ, Path.refl,), ((Yields.yields-copy 𝓤 H A W (λ ρ. Unit) ReservationUsage.row
-              Path.refl (ReservationUsage.copies .copy 𝓤 H A W) ReservationUsage.held (λ x. x) (λ x. x) (λ ρ told. Local.mem-whole 𝓤 H A W
-              ReservationUsage.row ρ) λ ρ told. Local.whole-mem 𝓤 H A W ReservationUsage.row ρ, Path.refl,), ((Yields.yields-copy 𝓤 H A W (λ ρ. Unit)
-              (Declared'.row ActionScan.the-type) Path.refl (Copies.cStruct ActionScan.the-type Laws'''''''.the-laws Laws'''''''.the-copy .copy 𝓤 H A
-              W) (Rows.whole (Declared'.row ActionScan.the-type)) (λ x. x) (λ x. x) (λ ρ told. Local.mem-whole 𝓤 H A W (Declared'.row
-              ActionScan.the-type) ρ) λ ρ told. Local.whole-mem 𝓤 H A W (Declared'.row ActionScan.the-type) ρ, Path.refl,), tt,),),),),),),),)
-              (Reads'.room-gone 𝓤 H A Laws'''''''''''''.mir) (tt, (tt, (tt, tt))) Path.refl) d18
+          d19 = Typed.s-seq 𝓤 H A W 𝓣 E G59 G60 b27 b28 Δ1 (Typed.both (s57 bs)) (at18 bs) (Plain.t-call-plain 𝓤 H A W
+              𝓣 3 ps·11 r·11 (claims· .22) (claims· .23) "hnsr_circuit::handle_open::open_booked" (known .11) E
+              (λ pos β. β) G59 (
+                record { pos = 32; ty = ref3; ref = λ x. x },
+                (
+                  record { pos = 34; ty = ref4; ref = λ x. x },
+                  (
+                    record { pos = 36; ty = ref5; ref = λ x. x },
+                    (
+                      record { pos = 5; st = List.[]; d = 0; at = λ x. x },
+                      (
+                        record { pos = 22; st = List.[]; d = 0; at = λ x. x },
+                        (
+                          record { pos = 9; st = List.[]; d = 0; at = λ x. x },
+                          (
+                            record { pos = 19; st = List.[]; d = 0; at = λ x. x },
+                            (record { pos = 16; st = List.[]; d = 0; at = λ x. x }, tt),
+                          ),
+                        ),
+                      ),
+                    ),
+                  ),
+                ),
+              ) 0 (7 ∷ 8 ∷ 9 ∷ List.[]) (Call.sub-id 𝓤 H A W (G59 .slots)) (
+                Reads'.as-is 𝓤 H A (Mut.mslice RelayPending.row ref3 7),
+                Mut.reads-mslice 𝓤 H A W RelayPending.row ref3 7,
+                Path.refl,
+                (
+                  Reads'.as-is 𝓤 H A (Mut.mslice InflightAction.row ref4 8),
+                  Mut.reads-mslice 𝓤 H A W InflightAction.row ref4 8,
+                  Path.refl,
+                  (
+                    Reads'.as-is 𝓤 H A (Mut.mslice (Referent.rtF (Referent.fInt Syntax.w32)) ref5 9),
+                    Mut.reads-mslice 𝓤 H A W (Referent.rtF (Referent.fInt Syntax.w32)) ref5 9,
+                    Path.refl,
+                    (
+                      (
+                        Yields.yields-copy 𝓤 H A W (λ ρ. Unit) (Declared'.row OpaqueRelayRuntime.the-type) Path.refl (Copies.cStruct
+                            OpaqueRelayRuntime.the-type Laws''''''''''''.the-laws Laws''''''''''''.the-copy .copy 𝓤 H A
+                            W) (Rows.whole (Declared'.row OpaqueRelayRuntime.the-type)) (λ x. x) (λ x. x) (λ ρ told.
+                            Local.mem-whole 𝓤 H A W (Declared'.row OpaqueRelayRuntime.the-type) ρ) λ ρ told.
+                            Local.whole-mem 𝓤 H A W (Declared'.row OpaqueRelayRuntime.the-type) ρ,
+                        Path.refl,
+                      ),
+                      (
+                        (
+                          Yields.yields-copy 𝓤 H A W (λ ρ. Unit) (Declared'.row Places.the-type) Path.refl (Copies.cStruct
+                              Places.the-type Laws'''''.the-laws Laws'''''.the-copy .copy 𝓤 H A W)
+                              (Rows.whole (Declared'.row Places.the-type)) (λ x. x) (λ x. x) (λ ρ told. Local.mem-whole
+                              𝓤 H A W (Declared'.row Places.the-type) ρ) λ ρ told. Local.whole-mem 𝓤 H A W
+                              (Declared'.row Places.the-type) ρ,
+                          Path.refl,
+                        ),
+                        (
+                          (
+                            Yields.yields-copy 𝓤 H A W (λ ρ. Unit) (Declared'.row OpenPlan.the-type) Path.refl (Copies.cStruct
+                                OpenPlan.the-type Laws''''.the-laws Laws''''.the-copy .copy 𝓤 H A W)
+                                (Rows.whole (Declared'.row OpenPlan.the-type)) (λ x. x) (λ x. x) (λ ρ told.
+                                Local.mem-whole 𝓤 H A W (Declared'.row OpenPlan.the-type) ρ) λ ρ told. Local.whole-mem
+                                𝓤 H A W (Declared'.row OpenPlan.the-type) ρ,
+                            Path.refl,
+                          ),
+                          (
+                            (
+                              Yields.yields-copy 𝓤 H A W (λ ρ. Unit) ReservationUsage.row Path.refl
+                                  (ReservationUsage.copies .copy 𝓤 H A W) ReservationUsage.held (λ x. x) (λ x. x)
+                                  (λ ρ told. Local.mem-whole 𝓤 H A W ReservationUsage.row ρ) λ ρ told. Local.whole-mem
+                                  𝓤 H A W ReservationUsage.row ρ,
+                              Path.refl,
+                            ),
+                            (
+                              (
+                                Yields.yields-copy 𝓤 H A W (λ ρ. Unit) (Declared'.row ActionScan.the-type) Path.refl (Copies.cStruct
+                                    ActionScan.the-type Laws'''''''.the-laws Laws'''''''.the-copy .copy 𝓤 H A W)
+                                    (Rows.whole (Declared'.row ActionScan.the-type)) (λ x. x) (λ x. x) (λ ρ told.
+                                    Local.mem-whole 𝓤 H A W (Declared'.row ActionScan.the-type) ρ) λ ρ told.
+                                    Local.whole-mem 𝓤 H A W (Declared'.row ActionScan.the-type) ρ,
+                                Path.refl,
+                              ),
+                              tt,
+                            ),
+                          ),
+                        ),
+                      ),
+                    ),
+                  ),
+                ),
+              ) (Reads'.room-gone 𝓤 H A Laws'''''''''''''.mir) (tt, (tt, (tt, tt))) Path.refl) d18
+
           d20 : Typed.Typed 𝓤 H A 𝓣 E G58 b30 Δ1 (at20 bs)
-          d20 = Typed.s-seq 𝓤 H A W 𝓣 E G58 G59 b26 b29 Δ1 (Typed.ask (s56 bs)) (at19 bs) (Relend.t-sl-aggregate 𝓤 H A W E (Referent.rtF
-              (Referent.fInt Syntax.w32)) 𝓣 (Relend.asMut (Referent.rtF (Referent.fInt Syntax.w32))) G58 35 36 9 ref5 ref5 (λ x. x) (Scalar.oFld 4
-              ((Syntax.field 1) ∷ List.[]) (Syntax.tyInt Syntax.w64) 8 λ v. Shared.lenV (v .0)) (Reads'.as-is 𝓤 H A (Relend.msptr (Referent.rtF
-              (Referent.fInt Syntax.w32)) ref5 9)) (Reads'.room-gone 𝓤 H A (Syntax.tyStruct (38 ∷ 91 ∷ 93 ∷ List.[]) (Syntax.tcons ref5 (Syntax.tcons
-              (Syntax.tyInt Syntax.w64) Syntax.tnil)))) (Relend.reads-owed-len 𝓤 H A W (Referent.rtF (Referent.fInt Syntax.w32)) ref9 3 9 life3 8
-              Path.refl, Path.refl,) Path.refl Path.refl λ b o k. tt) d19
+          d20 = Typed.s-seq 𝓤 H A W 𝓣 E G58 G59 b26 b29 Δ1 (Typed.ask (s56 bs)) (at19 bs) (Relend.t-sl-aggregate 𝓤 H A
+              W E (Referent.rtF (Referent.fInt Syntax.w32)) 𝓣 (Relend.asMut (Referent.rtF (Referent.fInt Syntax.w32)))
+              G58 35 36 9 ref5 ref5 (λ x. x) (Scalar.oFld 4 ((Syntax.field 1) ∷ List.[]) (Syntax.tyInt Syntax.w64) 8
+              λ v. Shared.lenV (v .0)) (Reads'.as-is 𝓤 H A (Relend.msptr (Referent.rtF (Referent.fInt Syntax.w32)) ref5
+              9)) (Reads'.room-gone 𝓤 H A slice5) (
+                Relend.reads-owed-len 𝓤 H A W (Referent.rtF (Referent.fInt Syntax.w32)) ref9 3 9 life3 8 Path.refl,
+                Path.refl,
+              ) Path.refl Path.refl λ b o k. tt) d19
+
           d21 : Typed.Typed 𝓤 H A 𝓣 E G57 b31 Δ1 (at21 bs)
-          d21 = Typed.s-seq 𝓤 H A W 𝓣 E G57 G58 b25 b30 Δ1 (Typed.give (s55 bs)) (at20 bs) (Relend.t-sl-relend 𝓤 H A W E (Referent.rtF (Referent.fInt
-              Syntax.w32)) 𝓣 G57 4 35 3 9 ref9 ref5 life3 0 (λ x. x) (Reads'.as-is 𝓤 H A (Mut.mslice (Referent.rtF (Referent.fInt Syntax.w32)) ref9
-              3)) (Reads'.room-gone 𝓤 H A ref5) Path.refl tt Path.refl Path.refl Path.refl λ b o. tt) d20
+          d21 = Typed.s-seq 𝓤 H A W 𝓣 E G57 G58 b25 b30 Δ1 (Typed.give (s55 bs)) (at20 bs) (Relend.t-sl-relend 𝓤 H A W
+              E (Referent.rtF (Referent.fInt Syntax.w32)) 𝓣 G57 4 35 3 9 ref9 ref5 life3 0 (λ x. x) (Reads'.as-is 𝓤 H A (Mut.mslice
+              (Referent.rtF (Referent.fInt Syntax.w32)) ref9 3)) (Reads'.room-gone 𝓤 H A ref5) Path.refl tt Path.refl
+              Path.refl Path.refl λ b o. tt) d20
+
           d22 : Typed.Typed 𝓤 H A 𝓣 E G56 b31 Δ1 (at22 bs)
-          d22 = Typed.g-pre 𝓤 H A W 𝓣 E G56 G57 b31 Δ1 (λ Ψ. Ψ) (at21 bs) (Lifetime.g-begin 𝓤 H A W E G56 9 (tt, ((tt, tt), (tt, ((tt, tt), (tt, (tt,
-              (tt, (tt, (tt, (tt, (tt, (tt, (tt, (tt, (tt, (tt, (tt, (tt, (tt, (tt, (tt, (tt, (tt, (tt, (tt, (tt, (tt, (tt, (tt, (tt, (tt, (tt, (tt,
-              (tt, (tt, (tt, (tt, tt),),),),),),),),),),),),),),),),),),),),),),),),),),),),),),),),),),),),)) d21
+          d22 = Typed.g-pre 𝓤 H A W 𝓣 E G56 G57 b31 Δ1 (λ Ψ. Ψ) (at21 bs) (Lifetime.g-begin 𝓤 H A W E G56 9 (
+            tt,
+            (
+              (tt, tt),
+              (
+                tt,
+                (
+                  (tt, tt),
+                  (
+                    tt,
+                    (
+                      tt,
+                      (
+                        tt,
+                        (
+                          tt,
+                          (
+                            tt,
+                            (
+                              tt,
+                              (
+                                tt,
+                                (
+                                  tt,
+                                  (
+                                    tt,
+                                    (
+                                      tt,
+                                      (
+                                        tt,
+                                        (
+                                          tt,
+                                          (
+                                            tt,
+                                            (
+                                              tt,
+                                              (
+                                                tt,
+                                                (
+                                                  tt,
+                                                  (
+                                                    tt,
+                                                    (
+                                                      tt,
+                                                      (
+                                                        tt,
+                                                        (
+                                                          tt,
+                                                          (
+                                                            tt,
+                                                            (
+                                                              tt,
+                                                              (
+                                                                tt,
+                                                                (
+                                                                  tt,
+                                                                  (
+                                                                    tt,
+                                                                    (tt, (tt, (tt, (tt, (tt, (tt, (tt, (tt, tt)))))))),
+                                                                  ),
+                                                                ),
+                                                              ),
+                                                            ),
+                                                          ),
+                                                        ),
+                                                      ),
+                                                    ),
+                                                  ),
+                                                ),
+                                              ),
+                                            ),
+                                          ),
+                                        ),
+                                      ),
+                                    ),
+                                  ),
+                                ),
+                              ),
+                            ),
+                          ),
+                        ),
+                      ),
+                    ),
+                  ),
+                ),
+              ),
+            ),
+          )) d21
+
           d23 : Typed.Typed 𝓤 H A 𝓣 E G55 b32 Δ1 (at23 bs)
-          d23 = Typed.s-seq 𝓤 H A W 𝓣 E G55 G56 b24 b31 Δ1 (Typed.ask (s53 bs)) (at22 bs) (Relend.t-sl-aggregate 𝓤 H A W E InflightAction.row 𝓣
-              (Relend.asMut InflightAction.row) G55 33 34 8 ref4 ref4 (λ x. x) (Scalar.oFld 3 ((Syntax.field 1) ∷ List.[]) (Syntax.tyInt Syntax.w64) 8
-              λ v. Shared.lenV (v .0)) (Reads'.as-is 𝓤 H A (Relend.msptr InflightAction.row ref4 8)) (Reads'.room-gone 𝓤 H A (Syntax.tyStruct (38 ∷ 91
-              ∷ 93 ∷ List.[]) (Syntax.tcons ref4 (Syntax.tcons (Syntax.tyInt Syntax.w64) Syntax.tnil)))) (Relend.reads-owed-len 𝓤 H A W
-              InflightAction.row ref8 2 8 life0 8 Path.refl, Path.refl,) Path.refl Path.refl λ b o k. tt) d22
+          d23 = Typed.s-seq 𝓤 H A W 𝓣 E G55 G56 b24 b31 Δ1 (Typed.ask (s53 bs)) (at22 bs) (Relend.t-sl-aggregate 𝓤 H A
+              W E InflightAction.row 𝓣 (Relend.asMut InflightAction.row) G55 33 34 8 ref4 ref4 (λ x. x) (Scalar.oFld 3
+              ((Syntax.field 1) ∷ List.[]) (Syntax.tyInt Syntax.w64) 8 λ v. Shared.lenV (v .0)) (Reads'.as-is 𝓤 H A
+              (Relend.msptr InflightAction.row ref4 8)) (Reads'.room-gone 𝓤 H A slice4) (
+                Relend.reads-owed-len 𝓤 H A W InflightAction.row ref8 2 8 life0 8 Path.refl,
+                Path.refl,
+              ) Path.refl Path.refl λ b o k. tt) d22
+
           d24 : Typed.Typed 𝓤 H A 𝓣 E G54 b33 Δ1 (at24 bs)
-          d24 = Typed.s-seq 𝓤 H A W 𝓣 E G54 G55 b23 b32 Δ1 (Typed.give (s52 bs)) (at23 bs) (Relend.t-sl-relend 𝓤 H A W E InflightAction.row 𝓣 G54 3 33
-              2 8 ref8 ref4 life0 0 (λ x. x) (Reads'.as-is 𝓤 H A (Mut.mslice InflightAction.row ref8 2)) (Reads'.room-gone 𝓤 H A ref4) Path.refl tt
+          d24 = Typed.s-seq 𝓤 H A W 𝓣 E G54 G55 b23 b32 Δ1 (Typed.give (s52 bs)) (at23 bs) (Relend.t-sl-relend 𝓤 H A W
+              E InflightAction.row 𝓣 G54 3 33 2 8 ref8 ref4 life0 0 (λ x. x)
+              (Reads'.as-is 𝓤 H A (Mut.mslice InflightAction.row ref8 2)) (Reads'.room-gone 𝓤 H A ref4) Path.refl tt
               Path.refl Path.refl Path.refl λ b o. tt) d23
+
           d25 : Typed.Typed 𝓤 H A 𝓣 E G53 b33 Δ1 (at25 bs)
-          d25 = Typed.g-pre 𝓤 H A W 𝓣 E G53 G54 b33 Δ1 (λ Ψ. Ψ) (at24 bs) (Lifetime.g-begin 𝓤 H A W E G53 8 (tt, ((tt, tt), (tt, (tt, (tt, (tt, (tt,
-              (tt, (tt, (tt, (tt, (tt, (tt, (tt, (tt, (tt, (tt, (tt, (tt, (tt, (tt, (tt, (tt, (tt, (tt, (tt, (tt, (tt, (tt, (tt, (tt, (tt, (tt, (tt,
-              (tt, (tt, (tt, tt),),),),),),),),),),),),),),),),),),),),),),),),),),),),),),),),),),),),)) d24
+          d25 = Typed.g-pre 𝓤 H A W 𝓣 E G53 G54 b33 Δ1 (λ Ψ. Ψ) (at24 bs) (Lifetime.g-begin 𝓤 H A W E G53 8 (
+            tt,
+            (
+              (tt, tt),
+              (
+                tt,
+                (
+                  tt,
+                  (
+                    tt,
+                    (
+                      tt,
+                      (
+                        tt,
+                        (
+                          tt,
+                          (
+                            tt,
+                            (
+                              tt,
+                              (
+                                tt,
+                                (
+                                  tt,
+                                  (
+                                    tt,
+                                    (
+                                      tt,
+                                      (
+                                        tt,
+                                        (
+                                          tt,
+                                          (
+                                            tt,
+                                            (
+                                              tt,
+                                              (
+                                                tt,
+                                                (
+                                                  tt,
+                                                  (
+                                                    tt,
+                                                    (
+                                                      tt,
+                                                      (
+                                                        tt,
+                                                        (
+                                                          tt,
+                                                          (
+                                                            tt,
+                                                            (
+                                                              tt,
+                                                              (
+                                                                tt,
+                                                                (
+                                                                  tt,
+                                                                  (
+                                                                    tt,
+                                                                    (tt, (tt, (tt, (tt, (tt, (tt, (tt, (tt, tt)))))))),
+                                                                  ),
+                                                                ),
+                                                              ),
+                                                            ),
+                                                          ),
+                                                        ),
+                                                      ),
+                                                    ),
+                                                  ),
+                                                ),
+                                              ),
+                                            ),
+                                          ),
+                                        ),
+                                      ),
+                                    ),
+                                  ),
+                                ),
+                              ),
+                            ),
+                          ),
+                        ),
+                      ),
+                    ),
+                  ),
+                ),
+              ),
+            ),
+          )) d24
+
           d26 : Typed.Typed 𝓤 H A 𝓣 E G52 b34 Δ1 (at26 bs)
-          d26 = Typed.s-seq 𝓤 H A W 𝓣 E G52 G53 b22 b33 Δ1 (Typed.ask (s50 bs)) (at25 bs) (Relend.t-sl-aggregate 𝓤 H A W E RelayPending.row 𝓣
-              (Relend.asMut RelayPending.row) G52 31 32 7 ref3 ref3 (λ x. x) (Scalar.oFld 1 ((Syntax.field 1) ∷ List.[]) (Syntax.tyInt Syntax.w64) 8 λ
-              v. Shared.lenV (v .0)) (Reads'.as-is 𝓤 H A (Relend.msptr RelayPending.row ref3 7)) (Reads'.room-gone 𝓤 H A (Syntax.tyStruct (38 ∷ 91 ∷
-              93 ∷ List.[]) (Syntax.tcons ref3 (Syntax.tcons (Syntax.tyInt Syntax.w64) Syntax.tnil)))) (Relend.reads-owed-len 𝓤 H A W RelayPending.row
-              ref6 0 7 life2 8 Path.refl, Path.refl,) Path.refl Path.refl λ b o k. tt) d25
+          d26 = Typed.s-seq 𝓤 H A W 𝓣 E G52 G53 b22 b33 Δ1 (Typed.ask (s50 bs)) (at25 bs) (Relend.t-sl-aggregate 𝓤 H A
+              W E RelayPending.row 𝓣 (Relend.asMut RelayPending.row) G52 31 32 7 ref3 ref3 (λ x. x) (Scalar.oFld 1
+              ((Syntax.field 1) ∷ List.[]) (Syntax.tyInt Syntax.w64) 8 λ v. Shared.lenV (v .0))
+              (Reads'.as-is 𝓤 H A (Relend.msptr RelayPending.row ref3 7)) (Reads'.room-gone 𝓤 H A slice3) (
+                Relend.reads-owed-len 𝓤 H A W RelayPending.row ref6 0 7 life2 8 Path.refl,
+                Path.refl,
+              ) Path.refl Path.refl λ b o k. tt) d25
+
           d27 : Typed.Typed 𝓤 H A 𝓣 E G51 b35 Δ1 (at27 bs)
-          d27 = Typed.s-seq 𝓤 H A W 𝓣 E G51 G52 b21 b34 Δ1 (Typed.give (s49 bs)) (at26 bs) (Relend.t-sl-relend 𝓤 H A W E RelayPending.row 𝓣 G51 1 31 0
-              7 ref6 ref3 life2 0 (λ x. x) (Reads'.as-is 𝓤 H A (Mut.mslice RelayPending.row ref6 0)) (Reads'.room-gone 𝓤 H A ref3) Path.refl tt
+          d27 = Typed.s-seq 𝓤 H A W 𝓣 E G51 G52 b21 b34 Δ1 (Typed.give (s49 bs)) (at26 bs) (Relend.t-sl-relend 𝓤 H A W
+              E RelayPending.row 𝓣 G51 1 31 0 7 ref6 ref3 life2 0 (λ x. x)
+              (Reads'.as-is 𝓤 H A (Mut.mslice RelayPending.row ref6 0)) (Reads'.room-gone 𝓤 H A ref3) Path.refl tt
               Path.refl Path.refl Path.refl λ b o. tt) d26
+
           d28 : Typed.Typed 𝓤 H A 𝓣 E G50 b35 Δ1 (at28 bs)
-          d28 = Typed.g-pre 𝓤 H A W 𝓣 E G50 G51 b35 Δ1 (λ Ψ. Ψ) (at27 bs) (Lifetime.g-begin 𝓤 H A W E G50 7 (tt, (tt, (tt, (tt, (tt, (tt, (tt, (tt,
-              (tt, (tt, (tt, (tt, (tt, (tt, (tt, (tt, (tt, (tt, (tt, (tt, (tt, (tt, (tt, (tt, (tt, (tt, (tt, (tt, (tt, (tt, (tt, (tt, (tt, (tt, (tt,
-              (tt, (tt, tt),),),),),),),),),),),),),),),),),),),),),),),),),),),),),),),),),),),),)) d27
+          d28 = Typed.g-pre 𝓤 H A W 𝓣 E G50 G51 b35 Δ1 (λ Ψ. Ψ) (at27 bs) (Lifetime.g-begin 𝓤 H A W E G50 7 (
+            tt,
+            (
+              tt,
+              (
+                tt,
+                (
+                  tt,
+                  (
+                    tt,
+                    (
+                      tt,
+                      (
+                        tt,
+                        (
+                          tt,
+                          (
+                            tt,
+                            (
+                              tt,
+                              (
+                                tt,
+                                (
+                                  tt,
+                                  (
+                                    tt,
+                                    (
+                                      tt,
+                                      (
+                                        tt,
+                                        (
+                                          tt,
+                                          (
+                                            tt,
+                                            (
+                                              tt,
+                                              (
+                                                tt,
+                                                (
+                                                  tt,
+                                                  (
+                                                    tt,
+                                                    (
+                                                      tt,
+                                                      (
+                                                        tt,
+                                                        (
+                                                          tt,
+                                                          (
+                                                            tt,
+                                                            (
+                                                              tt,
+                                                              (
+                                                                tt,
+                                                                (
+                                                                  tt,
+                                                                  (
+                                                                    tt,
+                                                                    (tt, (tt, (tt, (tt, (tt, (tt, (tt, (tt, tt)))))))),
+                                                                  ),
+                                                                ),
+                                                              ),
+                                                            ),
+                                                          ),
+                                                        ),
+                                                      ),
+                                                    ),
+                                                  ),
+                                                ),
+                                              ),
+                                            ),
+                                          ),
+                                        ),
+                                      ),
+                                    ),
+                                  ),
+                                ),
+                              ),
+                            ),
+                          ),
+                        ),
+                      ),
+                    ),
+                  ),
+                ),
+              ),
+            ),
+          )) d27
+
           d29 : Typed.Typed 𝓤 H A 𝓣 E G49 b35 Δ1 (at29 bs)
-          d29 = Typed.g-pre 𝓤 H A W 𝓣 E G49 G50 b35 Δ1 (Typed.pass T49 T50 (s47 bs)) (at28 bs) (Scalar.g-room 𝓤 H A W E G49 6 Laws'''''.mir
-              (Local.room-whole 𝓤 H A W (Declared'.row Places.the-type) Laws'''''.mir Path.refl)) d28
+          d29 = Typed.g-pre 𝓤 H A W 𝓣 E G49 G50 b35 Δ1 (Typed.pass T49 T50 (s47 bs)) (at28 bs) (Scalar.g-room 𝓤 H A W E
+              G49 6 Laws'''''.mir (Local.room-whole 𝓤 H A W (Declared'.row Places.the-type) Laws'''''.mir Path.refl))
+              d28
+
           d30 : Typed.Typed 𝓤 H A 𝓣 E G48 b36 Δ1 (at30 bs)
-          d30 = Typed.s-seq 𝓤 H A W 𝓣 E G48 G49 b20 b35 Δ1 (Typed.both (s46 bs)) (at29 bs) (Plain.t-call-plain 𝓤 H A W 𝓣 0 ps·10 r·10 (claims· .20)
-              (claims· .21) "hnsr_circuit::places::with_ledger" (known .10) E (λ pos β. β) G48 (record { pos = 6; st = List.[]; d = 0; at = λ x. x },
-              (Num.vAt 21 λ x. x, tt)) 22 List.[] (Call.sub-id 𝓤 H A W (G48 .slots)) ((Yields.yields-copy 𝓤 H A W (λ ρ. Unit) (Declared'.row
-              Places.the-type) Path.refl (Copies.cStruct Places.the-type Laws'''''.the-laws Laws'''''.the-copy .copy 𝓤 H A W) (Rows.whole
-              (Declared'.row Places.the-type)) (λ x. x) (λ x. x) (λ ρ told. Local.mem-whole 𝓤 H A W (Declared'.row Places.the-type) ρ) λ ρ told.
-              Local.whole-mem 𝓤 H A W (Declared'.row Places.the-type) ρ, Path.refl,), ((Scalar.reads-sc 𝓤 H A W (Row.sInt Syntax.w64), Path.refl),
-              tt),) (Reads'.room-gone 𝓤 H A Laws'''''.mir) tt Path.refl) d29
+          d30 = Typed.s-seq 𝓤 H A W 𝓣 E G48 G49 b20 b35 Δ1 (Typed.both (s46 bs)) (at29 bs) (Plain.t-call-plain 𝓤 H A W
+              𝓣 0 ps·10 r·10 (claims· .20) (claims· .21) "hnsr_circuit::places::with_ledger" (known .10) E (λ pos β. β)
+              G48 (record { pos = 6; st = List.[]; d = 0; at = λ x. x }, (Num.vAt 21 λ x. x, tt)) 22 List.[]
+              (Call.sub-id 𝓤 H A W (G48 .slots)) (
+                (
+                  Yields.yields-copy 𝓤 H A W (λ ρ. Unit) (Declared'.row Places.the-type) Path.refl (Copies.cStruct
+                      Places.the-type Laws'''''.the-laws Laws'''''.the-copy .copy 𝓤 H A W)
+                      (Rows.whole (Declared'.row Places.the-type)) (λ x. x) (λ x. x) (λ ρ told. Local.mem-whole 𝓤 H A W
+                      (Declared'.row Places.the-type) ρ) λ ρ told. Local.whole-mem 𝓤 H A W
+                      (Declared'.row Places.the-type) ρ,
+                  Path.refl,
+                ),
+                ((Scalar.reads-sc 𝓤 H A W (Row.sInt Syntax.w64), Path.refl), tt),
+              ) (Reads'.room-gone 𝓤 H A Laws'''''.mir) tt Path.refl) d29
+
           d31 : Typed.Typed 𝓤 H A 𝓣 E G47 b37 Δ1 (at31 bs)
-          d31 = Typed.s-seq 𝓤 H A W 𝓣 E G47 G48 b19 b36 Δ1 (Typed.both (s45 bs)) (at30 bs) (Plain.t-call-plain 𝓤 H A W 𝓣 0 ps·9 r·9 (claims· .18)
-              (claims· .19) "hnsr_circuit::places::raised" (known .9) E (λ pos β. β) G47 (Num.vFld 6 ((Syntax.field 2) ∷ List.[]) 16 λ x.
-              Places.struct .as-values x .1 .1 .0, (Bool.bLit Bool'.true, (Num.vAt 20 λ x. x, (Num.vAt 10 λ x. x, tt))),) 21 List.[] (Call.sub-id 𝓤 H
-              A W (G47 .slots)) ((Reads.reads-field 𝓤 H A W Places.the-type Laws'''''.the-laws 2 (Syntax.tyInt Syntax.w64) 16 Path.refl, Path.refl,),
-              (tt, ((Scalar.reads-sc 𝓤 H A W (Row.sInt Syntax.w64), Path.refl), ((Scalar.reads-sc 𝓤 H A W (Row.sInt Syntax.w64), Path.refl), tt),),),)
-              (Reads'.room-gone 𝓤 H A (Syntax.tyInt Syntax.w64)) tt Path.refl) d30
+          d31 = Typed.s-seq 𝓤 H A W 𝓣 E G47 G48 b19 b36 Δ1 (Typed.both (s45 bs)) (at30 bs) (Plain.t-call-plain 𝓤 H A W
+              𝓣 0 ps·9 r·9 (claims· .18) (claims· .19) "hnsr_circuit::places::raised" (known .9) E (λ pos β. β) G47 (
+                Num.vFld 6 ((Syntax.field 2) ∷ List.[]) 16 λ x. Places.struct .as-values x .1 .1 .0,
+                (Bool.bLit Bool'.true, (Num.vAt 20 λ x. x, (Num.vAt 10 λ x. x, tt))),
+              ) 21 List.[] (Call.sub-id 𝓤 H A W (G47 .slots)) (
+                (
+                  Reads.reads-field 𝓤 H A W Places.the-type Laws'''''.the-laws 2 (Syntax.tyInt Syntax.w64) 16 Path.refl,
+                  Path.refl,
+                ),
+                (
+                  tt,
+                  (
+                    (Scalar.reads-sc 𝓤 H A W (Row.sInt Syntax.w64), Path.refl),
+                    ((Scalar.reads-sc 𝓤 H A W (Row.sInt Syntax.w64), Path.refl), tt),
+                  ),
+                ),
+              ) (Reads'.room-gone 𝓤 H A (Syntax.tyInt Syntax.w64)) tt Path.refl) d30
+
           d32 : Typed.Typed 𝓤 H A 𝓣 E G46 b37 Δ1 (at32 bs)
-          d32 = Typed.g-pre 𝓤 H A W 𝓣 E G46 G47 b37 Δ1 (λ Ψ. Ψ) (at31 bs) (Lifetime.g-forget 𝓤 H A W E G46 6 Row.dead Path.refl) d31
+          d32 = Typed.g-pre 𝓤 H A W 𝓣 E G46 G47 b37 Δ1 (λ Ψ. Ψ) (at31 bs)
+              (Lifetime.g-forget 𝓤 H A W E G46 6 Row.dead Path.refl) d31
+
           d33 : Typed.Typed 𝓤 H A 𝓣 E G45 b37 Δ1 (at33 bs)
-          d33 = Typed.g-pre 𝓤 H A W 𝓣 E G45 G46 b37 Δ1 (Typed.both (s43 bs)) (at32 bs) (Relend.g-back-sl 𝓤 H A W E ReservationUsage.row G45 30 2 1 6
-              ref7 ref2 life1 (λ x. x) (λ x. x) (Reads'.as-is 𝓤 H A (Mut.msleft ReservationUsage.row ref2)) (Reads'.as-is 𝓤 H A (Relend.mslice-owed
-              ReservationUsage.row ref7 1 6 life1)) Path.refl Path.refl) d32
+          d33 = Typed.g-pre 𝓤 H A W 𝓣 E G45 G46 b37 Δ1 (Typed.both (s43 bs)) (at32 bs) (Relend.g-back-sl 𝓤 H A W E
+              ReservationUsage.row G45 30 2 1 6 ref7 ref2 life1 (λ x. x) (λ x. x)
+              (Reads'.as-is 𝓤 H A (Mut.msleft ReservationUsage.row ref2)) (Reads'.as-is 𝓤 H A
+              (Relend.mslice-owed ReservationUsage.row ref7 1 6 life1)) Path.refl Path.refl) d32
+
           d34 : Typed.Typed 𝓤 H A 𝓣 E G44 b37 Δ1 (at34 bs)
-          d34 = Typed.g-pre 𝓤 H A W 𝓣 E G44 G45 b37 Δ1 (λ Ψ. Ψ) (at33 bs) (Lifetime.g-end 𝓤 H A W E G44 6 Path.refl) d33
+          d34 = Typed.g-pre 𝓤 H A W 𝓣 E G44 G45 b37 Δ1 (λ Ψ. Ψ) (at33 bs) (Lifetime.g-end 𝓤 H A W E G44 6 Path.refl)
+              d33
+
           d35 : Typed.Typed 𝓤 H A 𝓣 E G43 b37 Δ1 (at35 bs)
-          d35 = Typed.g-pre 𝓤 H A W 𝓣 E G43 G44 b37 Δ1 (Typed.pass T43 T44 (s41 bs)) (at34 bs) (Scalar.g-room 𝓤 H A W E G43 28 Syntax.tyUnit
-              (Scalar.room-sc 𝓤 H A W Row.sUnit)) d34
+          d35 = Typed.g-pre 𝓤 H A W 𝓣 E G43 G44 b37 Δ1 (Typed.pass T43 T44 (s41 bs)) (at34 bs) (Scalar.g-room 𝓤 H A W E
+              G43 28 Syntax.tyUnit (Scalar.room-sc 𝓤 H A W Row.sUnit)) d34
+
           d36 : Typed.Typed 𝓤 H A 𝓣 E G42 b38 Δ1 (at36 bs)
-          d36 = Typed.s-seq 𝓤 H A W 𝓣 E G42 G43 b18 b37 Δ1 (Typed.both (s40 bs)) (at35 bs) (Plain.t-call-plain 𝓤 H A W 𝓣 1 ps·8 r·8 (claims· .16)
-              (claims· .17) "hnsr_circuit::tables::ledger::set_usage" (known .8) E (λ pos β. β) G42 (record { pos = 30; ty = Syntax.tyRef
-              Syntax.erased Syntax.mut ReservationUsage.to; ref = λ x. x; }, (Bool.bLit Bool'.true, (Num.vAt 20 λ x. x, (record { pos = 19; st =
-              List.[]; d = 0; at = λ x. x }, tt),),),) 28 (6 ∷ List.[]) (Call.sub-id 𝓤 H A W (G42 .slots)) (Reads'.as-is 𝓤 H A (Mut.mslice
-              ReservationUsage.row ref2 6), Mut.reads-mslice 𝓤 H A W ReservationUsage.row ref2 6, Path.refl, (tt, ((Scalar.reads-sc 𝓤 H A W (Row.sInt
-              Syntax.w64), Path.refl), ((Yields.yields-copy 𝓤 H A W (λ ρ. Unit) ReservationUsage.row Path.refl (ReservationUsage.copies .copy 𝓤 H A W)
-              ReservationUsage.held (λ x. x) (λ x. x) (λ ρ told. Local.mem-whole 𝓤 H A W ReservationUsage.row ρ) λ ρ told. Local.whole-mem 𝓤 H A W
-              ReservationUsage.row ρ, Path.refl,), tt,),),),) (Reads'.room-gone 𝓤 H A Syntax.tyUnit) (tt, tt) Path.refl) d35
+          d36 = Typed.s-seq 𝓤 H A W 𝓣 E G42 G43 b18 b37 Δ1 (Typed.both (s40 bs)) (at35 bs) (Plain.t-call-plain 𝓤 H A W
+              𝓣 1 ps·8 r·8 (claims· .16) (claims· .17) "hnsr_circuit::tables::ledger::set_usage" (known .8) E
+              (λ pos β. β) G42 (
+                record { pos = 30; ty = ref2; ref = λ x. x },
+                (
+                  Bool.bLit Bool'.true,
+                  (Num.vAt 20 λ x. x, (record { pos = 19; st = List.[]; d = 0; at = λ x. x }, tt)),
+                ),
+              ) 28 (6 ∷ List.[]) (Call.sub-id 𝓤 H A W (G42 .slots)) (
+                Reads'.as-is 𝓤 H A (Mut.mslice ReservationUsage.row ref2 6),
+                Mut.reads-mslice 𝓤 H A W ReservationUsage.row ref2 6,
+                Path.refl,
+                (
+                  tt,
+                  (
+                    (Scalar.reads-sc 𝓤 H A W (Row.sInt Syntax.w64), Path.refl),
+                    (
+                      (
+                        Yields.yields-copy 𝓤 H A W (λ ρ. Unit) ReservationUsage.row Path.refl
+                            (ReservationUsage.copies .copy 𝓤 H A W) ReservationUsage.held (λ x. x) (λ x. x)
+                            (λ ρ told. Local.mem-whole 𝓤 H A W ReservationUsage.row ρ) λ ρ told. Local.whole-mem 𝓤 H A
+                            W ReservationUsage.row ρ,
+                        Path.refl,
+                      ),
+                      tt,
+                    ),
+                  ),
+                ),
+              ) (Reads'.room-gone 𝓤 H A Syntax.tyUnit) (tt, tt) Path.refl) d35
+
           d37 : Typed.Typed 𝓤 H A 𝓣 E G41 b39 Δ1 (at37 bs)
-          d37 = Typed.s-seq 𝓤 H A W 𝓣 E G41 G42 b17 b38 Δ1 (Typed.ask (s39 bs)) (at36 bs) (Relend.t-sl-aggregate 𝓤 H A W E ReservationUsage.row 𝓣
-              (Relend.asMut ReservationUsage.row) G41 29 30 6 ref2 ref2 (λ x. x) (Scalar.oFld 2 ((Syntax.field 1) ∷ List.[]) (Syntax.tyInt Syntax.w64)
-              8 λ v. Shared.lenV (v .0)) (Reads'.as-is 𝓤 H A (Relend.msptr ReservationUsage.row ref2 6)) (Reads'.room-gone 𝓤 H A (Syntax.tyStruct (38
-              ∷ 91 ∷ 93 ∷ List.[]) (Syntax.tcons ref2 (Syntax.tcons (Syntax.tyInt Syntax.w64) Syntax.tnil)))) (Relend.reads-owed-len 𝓤 H A W
-              ReservationUsage.row ref7 1 6 life1 8 Path.refl, Path.refl,) Path.refl Path.refl λ b o k. tt) d36
+          d37 = Typed.s-seq 𝓤 H A W 𝓣 E G41 G42 b17 b38 Δ1 (Typed.ask (s39 bs)) (at36 bs) (Relend.t-sl-aggregate 𝓤 H A
+              W E ReservationUsage.row 𝓣 (Relend.asMut ReservationUsage.row) G41 29 30 6 ref2 ref2 (λ x. x) (Scalar.oFld
+              2 ((Syntax.field 1) ∷ List.[]) (Syntax.tyInt Syntax.w64) 8 λ v. Shared.lenV (v .0)) (Reads'.as-is 𝓤 H A
+              (Relend.msptr ReservationUsage.row ref2 6)) (Reads'.room-gone 𝓤 H A slice2) (
+                Relend.reads-owed-len 𝓤 H A W ReservationUsage.row ref7 1 6 life1 8 Path.refl,
+                Path.refl,
+              ) Path.refl Path.refl λ b o k. tt) d36
+
           d38 : Typed.Typed 𝓤 H A 𝓣 E G40 b40 Δ1 (at38 bs)
-          d38 = Typed.s-seq 𝓤 H A W 𝓣 E G40 G41 b16 b39 Δ1 (Typed.give (s38 bs)) (at37 bs) (Relend.t-sl-relend 𝓤 H A W E ReservationUsage.row 𝓣 G40 2
-              29 1 6 ref7 ref2 life1 0 (λ x. x) (Reads'.as-is 𝓤 H A (Mut.mslice ReservationUsage.row ref7 1)) (Reads'.room-gone 𝓤 H A ref2) Path.refl
-              tt Path.refl Path.refl Path.refl λ b o. tt) d37
+          d38 = Typed.s-seq 𝓤 H A W 𝓣 E G40 G41 b16 b39 Δ1 (Typed.give (s38 bs)) (at37 bs) (Relend.t-sl-relend 𝓤 H A W
+              E ReservationUsage.row 𝓣 G40 2 29 1 6 ref7 ref2 life1 0 (λ x. x) (Reads'.as-is 𝓤 H A
+              (Mut.mslice ReservationUsage.row ref7 1)) (Reads'.room-gone 𝓤 H A ref2) Path.refl tt Path.refl Path.refl
+              Path.refl λ b o. tt) d37
+
           d39 : Typed.Typed 𝓤 H A 𝓣 E G39 b40 Δ1 (at39 bs)
-          d39 = Typed.g-pre 𝓤 H A W 𝓣 E G39 G40 b40 Δ1 (λ Ψ. Ψ) (at38 bs) (Lifetime.g-begin 𝓤 H A W E G39 6 (tt, (tt, (tt, (tt, (tt, (tt, (tt, (tt,
-              (tt, (tt, (tt, (tt, (tt, (tt, (tt, (tt, (tt, (tt, (tt, (tt, (tt, (tt, (tt, (tt, (tt, (tt, (tt, (tt, (tt, (tt, (tt, (tt, (tt, (tt, (tt,
-              (tt, (tt, tt),),),),),),),),),),),),),),),),),),),),),),),),),),),),),),),),),),),),)) d38
+          d39 = Typed.g-pre 𝓤 H A W 𝓣 E G39 G40 b40 Δ1 (λ Ψ. Ψ) (at38 bs) (Lifetime.g-begin 𝓤 H A W E G39 6 (
+            tt,
+            (
+              tt,
+              (
+                tt,
+                (
+                  tt,
+                  (
+                    tt,
+                    (
+                      tt,
+                      (
+                        tt,
+                        (
+                          tt,
+                          (
+                            tt,
+                            (
+                              tt,
+                              (
+                                tt,
+                                (
+                                  tt,
+                                  (
+                                    tt,
+                                    (
+                                      tt,
+                                      (
+                                        tt,
+                                        (
+                                          tt,
+                                          (
+                                            tt,
+                                            (
+                                              tt,
+                                              (
+                                                tt,
+                                                (
+                                                  tt,
+                                                  (
+                                                    tt,
+                                                    (
+                                                      tt,
+                                                      (
+                                                        tt,
+                                                        (
+                                                          tt,
+                                                          (
+                                                            tt,
+                                                            (
+                                                              tt,
+                                                              (
+                                                                tt,
+                                                                (
+                                                                  tt,
+                                                                  (
+                                                                    tt,
+                                                                    (tt, (tt, (tt, (tt, (tt, (tt, (tt, (tt, tt)))))))),
+                                                                  ),
+                                                                ),
+                                                              ),
+                                                            ),
+                                                          ),
+                                                        ),
+                                                      ),
+                                                    ),
+                                                  ),
+                                                ),
+                                              ),
+                                            ),
+                                          ),
+                                        ),
+                                      ),
+                                    ),
+                                  ),
+                                ),
+                              ),
+                            ),
+                          ),
+                        ),
+                      ),
+                    ),
+                  ),
+                ),
+              ),
+            ),
+          )) d38
+
           d40 : Typed.Typed 𝓤 H A 𝓣 E G38 b40 Δ1 (at40 bs)
-          d40 = Typed.g-pre 𝓤 H A W 𝓣 E G38 G39 b40 Δ1 (Typed.pass T38 T39 (s36 bs)) (at39 bs) (Scalar.g-room 𝓤 H A W E G38 17 Laws'''''''''.mir
-              (Local.room-whole 𝓤 H A W (Declared'.row LedgerRoom.the-type) Laws'''''''''.mir Path.refl)) d39
+          d40 = Typed.g-pre 𝓤 H A W 𝓣 E G38 G39 b40 Δ1 (Typed.pass T38 T39 (s36 bs)) (at39 bs) (Scalar.g-room 𝓤 H A W E
+              G38 17 Laws'''''''''.mir (Local.room-whole 𝓤 H A W (Declared'.row LedgerRoom.the-type) Laws'''''''''.mir
+              Path.refl)) d39
+
           d41 : Typed.Typed 𝓤 H A 𝓣 E G37 b41 Δ1 (at41 bs)
-          d41 = Typed.s-seq 𝓤 H A W 𝓣 E G37 G38 b15 b40 Δ1 (Typed.both (s35 bs)) (at40 bs) (Plain.t-call-plain 𝓤 H A W 𝓣 0 ps·7 r·7 (claims· .14)
-              (claims· .15) "hnsr_circuit::open::booked_place" (known .7) E (λ pos β. β) G37 (record { pos = 17; st = List.[]; d = 0; at = λ x. x },
-              tt) 20 List.[] (Call.sub-id 𝓤 H A W (G37 .slots)) ((Yields.yields-copy 𝓤 H A W (λ ρ. Unit) (Declared'.row LedgerRoom.the-type) Path.refl
-              (Copies.cStruct LedgerRoom.the-type Laws'''''''''.the-laws Laws'''''''''.the-copy .copy 𝓤 H A W) (Rows.whole (Declared'.row
-              LedgerRoom.the-type)) (λ x. x) (λ x. x) (λ ρ told. Local.mem-whole 𝓤 H A W (Declared'.row LedgerRoom.the-type) ρ) λ ρ told.
-              Local.whole-mem 𝓤 H A W (Declared'.row LedgerRoom.the-type) ρ, Path.refl,), tt,) (Reads'.room-gone 𝓤 H A (Syntax.tyInt Syntax.w64)) tt
-              Path.refl) d40
+          d41 = Typed.s-seq 𝓤 H A W 𝓣 E G37 G38 b15 b40 Δ1 (Typed.both (s35 bs)) (at40 bs) (Plain.t-call-plain 𝓤 H A W
+              𝓣 0 ps·7 r·7 (claims· .14) (claims· .15) "hnsr_circuit::open::booked_place" (known .7) E (λ pos β. β) G37
+              (record { pos = 17; st = List.[]; d = 0; at = λ x. x }, tt) 20 List.[] (Call.sub-id 𝓤 H A W (G37 .slots)) (
+                (
+                  Yields.yields-copy 𝓤 H A W (λ ρ. Unit) (Declared'.row LedgerRoom.the-type) Path.refl (Copies.cStruct
+                      LedgerRoom.the-type Laws'''''''''.the-laws Laws'''''''''.the-copy .copy 𝓤 H A W)
+                      (Rows.whole (Declared'.row LedgerRoom.the-type)) (λ x. x) (λ x. x) (λ ρ told. Local.mem-whole 𝓤 H
+                      A W (Declared'.row LedgerRoom.the-type) ρ) λ ρ told. Local.whole-mem 𝓤 H A W
+                      (Declared'.row LedgerRoom.the-type) ρ,
+                  Path.refl,
+                ),
+                tt,
+              ) (Reads'.room-gone 𝓤 H A (Syntax.tyInt Syntax.w64)) tt Path.refl) d40
+
           d42 : Typed.Typed 𝓤 H A 𝓣 E G36 b41 Δ1 (at42 bs)
-          d42 = Typed.g-pre 𝓤 H A W 𝓣 E G36 G37 b41 Δ1 (Typed.pass T36 T37 (s34 bs)) (at41 bs) (Scalar.g-room 𝓤 H A W E G36 12 Laws'''''''''''.mir
-              (Local.room-whole 𝓤 H A W (Declared'.row RelayTicket.the-type) Laws'''''''''''.mir Path.refl)) d41
+          d42 = Typed.g-pre 𝓤 H A W 𝓣 E G36 G37 b41 Δ1 (Typed.pass T36 T37 (s34 bs)) (at41 bs) (Scalar.g-room 𝓤 H A W E
+              G36 12 Laws'''''''''''.mir (Local.room-whole 𝓤 H A W (Declared'.row RelayTicket.the-type)
+              Laws'''''''''''.mir Path.refl)) d41
+
           d43 : Typed.Typed 𝓤 H A 𝓣 E G35 b42 Δ1 (at43 bs)
-          d43 = Typed.s-seq 𝓤 H A W 𝓣 E G35 G36 b14 b41 Δ1 (Typed.both (s33 bs)) (at42 bs) (Plain.t-call-plain 𝓤 H A W 𝓣 0 ps·6 r·6 (claims· .12)
-              (claims· .13) "hnsr_circuit::open::booked_usage" (known .6) E (λ pos β. β) G35 (record { pos = 17; st = List.[]; d = 0; at = λ x. x },
-              (record { pos = 12; st = List.[]; d = 0; at = λ x. x }, tt),) 19 List.[] (Call.sub-id 𝓤 H A W (G35 .slots)) ((Yields.yields-copy 𝓤 H A W
-              (λ ρ. Unit) (Declared'.row LedgerRoom.the-type) Path.refl (Copies.cStruct LedgerRoom.the-type Laws'''''''''.the-laws
-              Laws'''''''''.the-copy .copy 𝓤 H A W) (Rows.whole (Declared'.row LedgerRoom.the-type)) (λ x. x) (λ x. x) (λ ρ told. Local.mem-whole 𝓤 H
-              A W (Declared'.row LedgerRoom.the-type) ρ) λ ρ told. Local.whole-mem 𝓤 H A W (Declared'.row LedgerRoom.the-type) ρ, Path.refl,),
-              ((Yields.yields-copy 𝓤 H A W (λ ρ. Unit) (Declared'.row RelayTicket.the-type) Path.refl (Copies.cStruct RelayTicket.the-type
-              Laws'''''''''''.the-laws Laws'''''''''''.the-copy .copy 𝓤 H A W) (Rows.whole (Declared'.row RelayTicket.the-type)) (λ x. x) (λ x. x) (λ
-              ρ told. Local.mem-whole 𝓤 H A W (Declared'.row RelayTicket.the-type) ρ) λ ρ told. Local.whole-mem 𝓤 H A W (Declared'.row
-              RelayTicket.the-type) ρ, Path.refl,), tt,),) (Reads'.room-gone 𝓤 H A ReservationUsage.ty) tt Path.refl) d42
+          d43 = Typed.s-seq 𝓤 H A W 𝓣 E G35 G36 b14 b41 Δ1 (Typed.both (s33 bs)) (at42 bs) (Plain.t-call-plain 𝓤 H A W
+              𝓣 0 ps·6 r·6 (claims· .12) (claims· .13) "hnsr_circuit::open::booked_usage" (known .6) E (λ pos β. β) G35 (
+                record { pos = 17; st = List.[]; d = 0; at = λ x. x },
+                (record { pos = 12; st = List.[]; d = 0; at = λ x. x }, tt),
+              ) 19 List.[] (Call.sub-id 𝓤 H A W (G35 .slots)) (
+                (
+                  Yields.yields-copy 𝓤 H A W (λ ρ. Unit) (Declared'.row LedgerRoom.the-type) Path.refl (Copies.cStruct
+                      LedgerRoom.the-type Laws'''''''''.the-laws Laws'''''''''.the-copy .copy 𝓤 H A W)
+                      (Rows.whole (Declared'.row LedgerRoom.the-type)) (λ x. x) (λ x. x) (λ ρ told. Local.mem-whole 𝓤 H
+                      A W (Declared'.row LedgerRoom.the-type) ρ) λ ρ told. Local.whole-mem 𝓤 H A W
+                      (Declared'.row LedgerRoom.the-type) ρ,
+                  Path.refl,
+                ),
+                (
+                  (
+                    Yields.yields-copy 𝓤 H A W (λ ρ. Unit) (Declared'.row RelayTicket.the-type) Path.refl (Copies.cStruct
+                        RelayTicket.the-type Laws'''''''''''.the-laws Laws'''''''''''.the-copy .copy 𝓤 H A W)
+                        (Rows.whole (Declared'.row RelayTicket.the-type)) (λ x. x) (λ x. x) (λ ρ told. Local.mem-whole
+                        𝓤 H A W (Declared'.row RelayTicket.the-type) ρ) λ ρ told. Local.whole-mem 𝓤 H A W
+                        (Declared'.row RelayTicket.the-type) ρ,
+                    Path.refl,
+                  ),
+                  tt,
+                ),
+              ) (Reads'.room-gone 𝓤 H A ReservationUsage.ty) tt Path.refl) d42
+
           d44 : Typed.Typed 𝓤 H A 𝓣 E G34 b42 Δ1 (at44 bs)
-          d44 = Typed.g-pre 𝓤 H A W 𝓣 E G34 G35 b42 Δ1 (Typed.pass T34 T35 (s32 bs)) (at43 bs) (Scalar.g-room 𝓤 H A W E G34 27 Syntax.tyBool
-              (Scalar.room-sc 𝓤 H A W Row.sBool)) d43
+          d44 = Typed.g-pre 𝓤 H A W 𝓣 E G34 G35 b42 Δ1 (Typed.pass T34 T35 (s32 bs)) (at43 bs) (Scalar.g-room 𝓤 H A W E
+              G34 27 Syntax.tyBool (Scalar.room-sc 𝓤 H A W Row.sBool)) d43
+
           d45 : Typed.Typed 𝓤 H A 𝓣 E G32 b42 Δ1 (at45 bs)
-          d45 = Typed.g-pre 𝓤 H A W 𝓣 E G32 G34 b42 Δ1 (Typed.pass T32 T34 (s31 bs)) (at44 bs) (Scalar.g-room 𝓤 H A W E G32 18 Laws'.mir
-              (Local.room-whole 𝓤 H A W (Declared.row HnsrAnswer.the-type) Laws'.mir Path.refl)) d44
+          d45 = Typed.g-pre 𝓤 H A W 𝓣 E G32 G34 b42 Δ1 (Typed.pass T32 T34 (s31 bs)) (at44 bs) (Scalar.g-room 𝓤 H A W E
+              G32 18 Laws'.mir (Local.room-whole 𝓤 H A W (Declared.row HnsrAnswer.the-type) Laws'.mir Path.refl)) d44
+
           d46 : Typed.Typed 𝓤 H A 𝓣 E G83 b43 Δ1 (at46 bs)
           d46 = Typed.t-skip 𝓤 H A W 𝓣 E Δ1 tt
+
           d47 : Typed.Typed 𝓤 H A 𝓣 E G82 b43 Δ1 (at47 bs)
-          d47 = Typed.g-pre 𝓤 H A W 𝓣 E G82 G83 b43 Δ1 (Typed.pass T82 T83 (s80 bs)) (at46 bs) (Scalar.g-room 𝓤 H A W E G82 27 Syntax.tyBool
-              (Scalar.room-sc 𝓤 H A W Row.sBool)) d46
+          d47 = Typed.g-pre 𝓤 H A W 𝓣 E G82 G83 b43 Δ1 (Typed.pass T82 T83 (s80 bs)) (at46 bs) (Scalar.g-room 𝓤 H A W E
+              G82 27 Syntax.tyBool (Scalar.room-sc 𝓤 H A W Row.sBool)) d46
+
           d48 : Typed.Typed 𝓤 H A 𝓣 E G81 b43 Δ1 (at48 bs)
-          d48 = Typed.g-pre 𝓤 H A W 𝓣 E G81 G82 b43 Δ1 (Typed.pass T81 T82 (s79 bs)) (at47 bs) (Scalar.g-room 𝓤 H A W E G81 17 Laws'''''''''.mir
-              (Local.room-whole 𝓤 H A W (Declared'.row LedgerRoom.the-type) Laws'''''''''.mir Path.refl)) d47
+          d48 = Typed.g-pre 𝓤 H A W 𝓣 E G81 G82 b43 Δ1 (Typed.pass T81 T82 (s79 bs)) (at47 bs) (Scalar.g-room 𝓤 H A W E
+              G81 17 Laws'''''''''.mir (Local.room-whole 𝓤 H A W (Declared'.row LedgerRoom.the-type) Laws'''''''''.mir
+              Path.refl)) d47
+
           d49 : Typed.Typed 𝓤 H A 𝓣 E G80 b43 Δ1 (at49 bs)
-          d49 = Typed.g-pre 𝓤 H A W 𝓣 E G80 G81 b43 Δ1 (Typed.pass T80 T81 (s78 bs)) (at48 bs) (Scalar.g-room 𝓤 H A W E G80 16 Laws'''''''.mir
-              (Local.room-whole 𝓤 H A W (Declared'.row ActionScan.the-type) Laws'''''''.mir Path.refl)) d48
+          d49 = Typed.g-pre 𝓤 H A W 𝓣 E G80 G81 b43 Δ1 (Typed.pass T80 T81 (s78 bs)) (at48 bs) (Scalar.g-room 𝓤 H A W E
+              G80 16 Laws'''''''.mir (Local.room-whole 𝓤 H A W (Declared'.row ActionScan.the-type) Laws'''''''.mir
+              Path.refl)) d48
+
           d50 : Typed.Typed 𝓤 H A 𝓣 E G79 b43 Δ1 (at50 bs)
-          d50 = Typed.g-pre 𝓤 H A W 𝓣 E G79 G80 b43 Δ1 (Typed.pass T79 T80 (s77 bs)) (at49 bs) (Scalar.g-room 𝓤 H A W E G79 12 Laws'''''''''''.mir
-              (Local.room-whole 𝓤 H A W (Declared'.row RelayTicket.the-type) Laws'''''''''''.mir Path.refl)) d49
+          d50 = Typed.g-pre 𝓤 H A W 𝓣 E G79 G80 b43 Δ1 (Typed.pass T79 T80 (s77 bs)) (at49 bs) (Scalar.g-room 𝓤 H A W E
+              G79 12 Laws'''''''''''.mir (Local.room-whole 𝓤 H A W (Declared'.row RelayTicket.the-type)
+              Laws'''''''''''.mir Path.refl)) d49
+
           d51 : Typed.Typed 𝓤 H A 𝓣 E G32 b43 Δ1 (at51 bs)
-          d51 = Typed.g-pre 𝓤 H A W 𝓣 E G32 G79 b43 Δ1 (Typed.pass T32 T79 (s76 bs)) (at50 bs) (Scalar.g-room 𝓤 H A W E G32 9 Laws''''.mir
-              (Local.room-whole 𝓤 H A W (Declared'.row OpenPlan.the-type) Laws''''.mir Path.refl)) d50
+          d51 = Typed.g-pre 𝓤 H A W 𝓣 E G32 G79 b43 Δ1 (Typed.pass T32 T79 (s76 bs)) (at50 bs) (Scalar.g-room 𝓤 H A W E
+              G32 9 Laws''''.mir (Local.room-whole 𝓤 H A W (Declared'.row OpenPlan.the-type) Laws''''.mir Path.refl))
+              d50
+
           d52 : Typed.Typed 𝓤 H A 𝓣 E G32 b44 Δ1 (at52 bs)
-          d52 = Scalar.t-cond 𝓤 H A W E 𝓣 G32 27 (λ x. x) b42 b43 Δ1 (at45 bs) (at51 bs) (Scalar.reads-sc 𝓤 H A W Row.sBool) Path.refl d45 d51
+          d52 = Scalar.t-cond 𝓤 H A W E 𝓣 G32 27 (λ x. x) b42 b43 Δ1 (at45 bs) (at51 bs)
+              (Scalar.reads-sc 𝓤 H A W Row.sBool) Path.refl d45 d51
+
           d53 : Typed.Typed 𝓤 H A 𝓣 E G88 b46 Δ0 (at53 bs)
           d53 = Typed.t-return 𝓤 H A W 𝓣 E Δ0 tt
+
           d54 : Typed.Typed 𝓤 H A 𝓣 E G87 b46 Δ0 (at54 bs)
-          d54 = Typed.g-pre 𝓤 H A W 𝓣 E G87 G88 b46 Δ0 (Typed.pass T87 T88 (s85 bs)) (at53 bs) (Scalar.g-room 𝓤 H A W E G87 18 Laws'.mir
-              (Local.room-whole 𝓤 H A W (Declared.row HnsrAnswer.the-type) Laws'.mir Path.refl)) d53
+          d54 = Typed.g-pre 𝓤 H A W 𝓣 E G87 G88 b46 Δ0 (Typed.pass T87 T88 (s85 bs)) (at53 bs) (Scalar.g-room 𝓤 H A W E
+              G87 18 Laws'.mir (Local.room-whole 𝓤 H A W (Declared.row HnsrAnswer.the-type) Laws'.mir Path.refl)) d53
+
           d55 : Typed.Typed 𝓤 H A 𝓣 E G86 b46 Δ0 (at55 bs)
-          d55 = Typed.g-pre 𝓤 H A W 𝓣 E G86 G87 b46 Δ0 (Typed.pass T86 T87 (s84 bs)) (at54 bs) (Scalar.g-room 𝓤 H A W E G86 10 (Syntax.tyInt
-              Syntax.w64) (Scalar.room-sc 𝓤 H A W (Row.sInt Syntax.w64))) d54
+          d55 = Typed.g-pre 𝓤 H A W 𝓣 E G86 G87 b46 Δ0 (Typed.pass T86 T87 (s84 bs)) (at54 bs) (Scalar.g-room 𝓤 H A W E
+              G86 10 (Syntax.tyInt Syntax.w64) (Scalar.room-sc 𝓤 H A W (Row.sInt Syntax.w64))) d54
+
           d56 : Typed.Typed 𝓤 H A 𝓣 E G85 b46 Δ0 (at56 bs)
-          d56 = Typed.g-pre 𝓤 H A W 𝓣 E G85 G86 b46 Δ0 (Typed.pass T85 T86 (s83 bs)) (at55 bs) (Scalar.g-room 𝓤 H A W E G85 6 Laws'''''.mir
-              (Local.room-whole 𝓤 H A W (Declared'.row Places.the-type) Laws'''''.mir Path.refl)) d55
+          d56 = Typed.g-pre 𝓤 H A W 𝓣 E G85 G86 b46 Δ0 (Typed.pass T85 T86 (s83 bs)) (at55 bs) (Scalar.g-room 𝓤 H A W E
+              G85 6 Laws'''''.mir (Local.room-whole 𝓤 H A W (Declared'.row Places.the-type) Laws'''''.mir Path.refl))
+              d55
+
           d57 : Typed.Typed 𝓤 H A 𝓣 E G84 b46 Δ0 (at57 bs)
-          d57 = Typed.g-pre 𝓤 H A W 𝓣 E G84 G85 b46 Δ0 (Typed.pass T84 T85 (s82 bs)) (at56 bs) (Scalar.g-room 𝓤 H A W E G84 5 Laws''''''''''''.mir
-              (Local.room-whole 𝓤 H A W (Declared'.row OpaqueRelayRuntime.the-type) Laws''''''''''''.mir Path.refl)) d56
+          d57 = Typed.g-pre 𝓤 H A W 𝓣 E G84 G85 b46 Δ0 (Typed.pass T84 T85 (s82 bs)) (at56 bs) (Scalar.g-room 𝓤 H A W E
+              G84 5 Laws''''''''''''.mir (Local.room-whole 𝓤 H A W (Declared'.row OpaqueRelayRuntime.the-type)
+              Laws''''''''''''.mir Path.refl)) d56
+
           d58 : Typed.Typed 𝓤 H A 𝓣 E G33 b47 Δ0 (at58 bs)
-          d58 = Typed.s-seq 𝓤 H A W 𝓣 E G33 G84 b45 b46 Δ0 (Typed.both (s81 bs)) (at57 bs) (Plain.t-call-plain 𝓤 H A W 𝓣 0 ps·12 r·12 (claims· .24)
-              (claims· .25) "hnsr_circuit::revoking_calls::refused" (known .12) E (λ pos β. β) G33 (record { pos = 5; st = List.[]; d = 0; at = λ x. x
-              }, (record { pos = 6; st = List.[]; d = 0; at = λ x. x }, (record { pos = 18; st = List.[]; d = 0; at = λ x. x }, tt),),) 0 List.[]
-              (Call.sub-id 𝓤 H A W (G33 .slots)) ((Yields.yields-copy 𝓤 H A W (λ ρ. Unit) (Declared'.row OpaqueRelayRuntime.the-type) Path.refl
-              (Copies.cStruct OpaqueRelayRuntime.the-type Laws''''''''''''.the-laws Laws''''''''''''.the-copy .copy 𝓤 H A W) (Rows.whole
-              (Declared'.row OpaqueRelayRuntime.the-type)) (λ x. x) (λ x. x) (λ ρ told. Local.mem-whole 𝓤 H A W (Declared'.row
-              OpaqueRelayRuntime.the-type) ρ) λ ρ told. Local.whole-mem 𝓤 H A W (Declared'.row OpaqueRelayRuntime.the-type) ρ, Path.refl,),
-              ((Yields.yields-copy 𝓤 H A W (λ ρ. Unit) (Declared'.row Places.the-type) Path.refl (Copies.cStruct Places.the-type Laws'''''.the-laws
-              Laws'''''.the-copy .copy 𝓤 H A W) (Rows.whole (Declared'.row Places.the-type)) (λ x. x) (λ x. x) (λ ρ told. Local.mem-whole 𝓤 H A W
-              (Declared'.row Places.the-type) ρ) λ ρ told. Local.whole-mem 𝓤 H A W (Declared'.row Places.the-type) ρ, Path.refl,),
-              ((Yields.yields-copy 𝓤 H A W (λ ρ. Unit) (Declared.row HnsrAnswer.the-type) Path.refl (Copies.cEnum HnsrAnswer.the-type Laws'.the-laws
-              Laws'.the-copy .copy 𝓤 H A W) (Rows.whole (Declared.row HnsrAnswer.the-type)) (λ x. x) (λ x. x) (λ ρ told. Local.mem-whole 𝓤 H A W
-              (Declared.row HnsrAnswer.the-type) ρ) λ ρ told. Local.whole-mem 𝓤 H A W (Declared.row HnsrAnswer.the-type) ρ, Path.refl,), tt,),),)
-              (Reads'.room-gone 𝓤 H A Laws'''''''''''''.mir) tt Path.refl) d57
+          d58 = Typed.s-seq 𝓤 H A W 𝓣 E G33 G84 b45 b46 Δ0 (Typed.both (s81 bs)) (at57 bs) (Plain.t-call-plain 𝓤 H A W
+              𝓣 0 ps·12 r·12 (claims· .24) (claims· .25) "hnsr_circuit::revoking_calls::refused" (known .12) E
+              (λ pos β. β) G33 (
+                record { pos = 5; st = List.[]; d = 0; at = λ x. x },
+                (
+                  record { pos = 6; st = List.[]; d = 0; at = λ x. x },
+                  (record { pos = 18; st = List.[]; d = 0; at = λ x. x }, tt),
+                ),
+              ) 0 List.[] (Call.sub-id 𝓤 H A W (G33 .slots)) (
+                (
+                  Yields.yields-copy 𝓤 H A W (λ ρ. Unit) (Declared'.row OpaqueRelayRuntime.the-type) Path.refl (Copies.cStruct
+                      OpaqueRelayRuntime.the-type Laws''''''''''''.the-laws Laws''''''''''''.the-copy .copy 𝓤 H A W)
+                      (Rows.whole (Declared'.row OpaqueRelayRuntime.the-type)) (λ x. x) (λ x. x) (λ ρ told.
+                      Local.mem-whole 𝓤 H A W (Declared'.row OpaqueRelayRuntime.the-type) ρ) λ ρ told. Local.whole-mem
+                      𝓤 H A W (Declared'.row OpaqueRelayRuntime.the-type) ρ,
+                  Path.refl,
+                ),
+                (
+                  (
+                    Yields.yields-copy 𝓤 H A W (λ ρ. Unit) (Declared'.row Places.the-type) Path.refl (Copies.cStruct
+                        Places.the-type Laws'''''.the-laws Laws'''''.the-copy .copy 𝓤 H A W)
+                        (Rows.whole (Declared'.row Places.the-type)) (λ x. x) (λ x. x) (λ ρ told. Local.mem-whole 𝓤 H A
+                        W (Declared'.row Places.the-type) ρ) λ ρ told. Local.whole-mem 𝓤 H A W
+                        (Declared'.row Places.the-type) ρ,
+                    Path.refl,
+                  ),
+                  (
+                    (
+                      Yields.yields-copy 𝓤 H A W (λ ρ. Unit) (Declared.row HnsrAnswer.the-type) Path.refl (Copies.cEnum
+                          HnsrAnswer.the-type Laws'.the-laws Laws'.the-copy .copy 𝓤 H A W)
+                          (Rows.whole (Declared.row HnsrAnswer.the-type)) (λ x. x) (λ x. x) (λ ρ told. Local.mem-whole
+                          𝓤 H A W (Declared.row HnsrAnswer.the-type) ρ) λ ρ told. Local.whole-mem 𝓤 H A W
+                          (Declared.row HnsrAnswer.the-type) ρ,
+                      Path.refl,
+                    ),
+                    tt,
+                  ),
+                ),
+              ) (Reads'.room-gone 𝓤 H A Laws'''''''''''''.mir) tt Path.refl) d57
+
           d59 : Typed.Typed 𝓤 H A 𝓣 E G32 b48 Δ0 (at59 bs)
           d59 = Typed.t-seq 𝓤 H A W 𝓣 E G32 G33 b44 b47 Δ0 (at52 bs) (at58 bs) d52 d58
+
           d60 : Typed.Typed 𝓤 H A 𝓣 E G31 b49 Δ0 (at60 bs)
-          d60 = Typed.s-seq 𝓤 H A W 𝓣 E G31 G32 b13 b48 Δ0 (Typed.both (s30 bs)) (at59 bs) (Plain.t-call-plain 𝓤 H A W 𝓣 0 ps·5 r·5 (claims· .10)
-              (claims· .11) "hnsr_circuit::answer::is_taken" (known .5) E (λ pos β. β) G31 (record { pos = 18; st = List.[]; d = 0; at = λ x. x }, tt)
-              27 List.[] (Call.sub-id 𝓤 H A W (G31 .slots)) ((Yields.yields-copy 𝓤 H A W (λ ρ. Unit) (Declared.row HnsrAnswer.the-type) Path.refl
-              (Copies.cEnum HnsrAnswer.the-type Laws'.the-laws Laws'.the-copy .copy 𝓤 H A W) (Rows.whole (Declared.row HnsrAnswer.the-type)) (λ x. x)
-              (λ x. x) (λ ρ told. Local.mem-whole 𝓤 H A W (Declared.row HnsrAnswer.the-type) ρ) λ ρ told. Local.whole-mem 𝓤 H A W (Declared.row
-              HnsrAnswer.the-type) ρ, Path.refl,), tt,) (Reads'.room-gone 𝓤 H A Syntax.tyBool) tt Path.refl) d59
+          d60 = Typed.s-seq 𝓤 H A W 𝓣 E G31 G32 b13 b48 Δ0 (Typed.both (s30 bs)) (at59 bs) (Plain.t-call-plain 𝓤 H A W
+              𝓣 0 ps·5 r·5 (claims· .10) (claims· .11) "hnsr_circuit::answer::is_taken" (known .5) E (λ pos β. β) G31
+              (record { pos = 18; st = List.[]; d = 0; at = λ x. x }, tt) 27 List.[] (Call.sub-id 𝓤 H A W (G31 .slots)) (
+                (
+                  Yields.yields-copy 𝓤 H A W (λ ρ. Unit) (Declared.row HnsrAnswer.the-type) Path.refl (Copies.cEnum
+                      HnsrAnswer.the-type Laws'.the-laws Laws'.the-copy .copy 𝓤 H A W)
+                      (Rows.whole (Declared.row HnsrAnswer.the-type)) (λ x. x) (λ x. x) (λ ρ told. Local.mem-whole 𝓤 H
+                      A W (Declared.row HnsrAnswer.the-type) ρ) λ ρ told. Local.whole-mem 𝓤 H A W
+                      (Declared.row HnsrAnswer.the-type) ρ,
+                  Path.refl,
+                ),
+                tt,
+              ) (Reads'.room-gone 𝓤 H A Syntax.tyBool) tt Path.refl) d59
+
           d61 : Typed.Typed 𝓤 H A 𝓣 E G30 b49 Δ0 (at61 bs)
-          d61 = Typed.g-pre 𝓤 H A W 𝓣 E G30 G31 b49 Δ0 (Typed.pass T30 T31 (s29 bs)) (at60 bs) (Scalar.g-room 𝓤 H A W E G30 11 Laws''.mir
-              (Local.room-whole 𝓤 H A W (Declared'.row OpaqueRelayConfig.the-type) Laws''.mir Path.refl)) d60
+          d61 = Typed.g-pre 𝓤 H A W 𝓣 E G30 G31 b49 Δ0 (Typed.pass T30 T31 (s29 bs)) (at60 bs) (Scalar.g-room 𝓤 H A W E
+              G30 11 Laws''.mir (Local.room-whole 𝓤 H A W (Declared'.row OpaqueRelayConfig.the-type) Laws''.mir
+              Path.refl)) d60
+
           d62 : Typed.Typed 𝓤 H A 𝓣 E G29 b49 Δ0 (at62 bs)
-          d62 = Typed.g-pre 𝓤 H A W 𝓣 E G29 G30 b49 Δ0 (Typed.pass T29 T30 (s28 bs)) (at61 bs) (Scalar.g-room 𝓤 H A W E G29 8 Laws''''''''.mir
-              (Local.room-whole 𝓤 H A W (Declared'.row Drawing.the-type) Laws''''''''.mir Path.refl)) d61
+          d62 = Typed.g-pre 𝓤 H A W 𝓣 E G29 G30 b49 Δ0 (Typed.pass T29 T30 (s28 bs)) (at61 bs) (Scalar.g-room 𝓤 H A W E
+              G29 8 Laws''''''''.mir (Local.room-whole 𝓤 H A W (Declared'.row Drawing.the-type) Laws''''''''.mir
+              Path.refl)) d61
+
           d63 : Typed.Typed 𝓤 H A 𝓣 E G28 b49 Δ0 (at63 bs)
-          d63 = Typed.g-pre 𝓤 H A W 𝓣 E G28 G29 b49 Δ0 (Typed.pass T28 T29 (s27 bs)) (at62 bs) (Scalar.g-room 𝓤 H A W E G28 7 Laws'''.mir
-              (Local.room-whole 𝓤 H A W (Declared'.row OpenGathered.the-type) Laws'''.mir Path.refl)) d62
+          d63 = Typed.g-pre 𝓤 H A W 𝓣 E G28 G29 b49 Δ0 (Typed.pass T28 T29 (s27 bs)) (at62 bs) (Scalar.g-room 𝓤 H A W E
+              G28 7 Laws'''.mir (Local.room-whole 𝓤 H A W (Declared'.row OpenGathered.the-type) Laws'''.mir Path.refl))
+              d62
+
           d64 : Typed.Typed 𝓤 H A 𝓣 E G27 b50 Δ0 (at64 bs)
-          d64 = Typed.s-seq 𝓤 H A W 𝓣 E G27 G28 b12 b49 Δ0 (Typed.both (s26 bs)) (at63 bs) (Plain.t-call-plain 𝓤 H A W 𝓣 0 ps·4 r·4 (claims· .8)
-              (claims· .9) "hnsr_circuit::open::placed_rows" (known .4) E (λ pos β. β) G27 (record { pos = 11; st = List.[]; d = 0; at = λ x. x },
-              (record { pos = 7; st = List.[]; d = 0; at = λ x. x }, (record { pos = 9; st = List.[]; d = 0; at = λ x. x }, (record { pos = 8; st =
-              List.[]; d = 0; at = λ x. x }, (record { pos = 16; st = List.[]; d = 0; at = λ x. x }, (record { pos = 17; st = List.[]; d = 0; at = λ
-              x. x }, tt),),),),),) 18 List.[] (Call.sub-id 𝓤 H A W (G27 .slots)) ((Yields.yields-copy 𝓤 H A W (λ ρ. Unit) (Declared'.row
-              OpaqueRelayConfig.the-type) Path.refl (Copies.cStruct OpaqueRelayConfig.the-type Laws''.the-laws Laws''.the-copy .copy 𝓤 H A W)
-              (Rows.whole (Declared'.row OpaqueRelayConfig.the-type)) (λ x. x) (λ x. x) (λ ρ told. Local.mem-whole 𝓤 H A W (Declared'.row
-              OpaqueRelayConfig.the-type) ρ) λ ρ told. Local.whole-mem 𝓤 H A W (Declared'.row OpaqueRelayConfig.the-type) ρ, Path.refl,),
-              ((Yields.yields-copy 𝓤 H A W (λ ρ. Unit) (Declared'.row OpenGathered.the-type) Path.refl (Copies.cStruct OpenGathered.the-type
-              Laws'''.the-laws Laws'''.the-copy .copy 𝓤 H A W) (Rows.whole (Declared'.row OpenGathered.the-type)) (λ x. x) (λ x. x) (λ ρ told.
-              Local.mem-whole 𝓤 H A W (Declared'.row OpenGathered.the-type) ρ) λ ρ told. Local.whole-mem 𝓤 H A W (Declared'.row OpenGathered.the-type)
-              ρ, Path.refl,), ((Yields.yields-copy 𝓤 H A W (λ ρ. Unit) (Declared'.row OpenPlan.the-type) Path.refl (Copies.cStruct OpenPlan.the-type
-              Laws''''.the-laws Laws''''.the-copy .copy 𝓤 H A W) (Rows.whole (Declared'.row OpenPlan.the-type)) (λ x. x) (λ x. x) (λ ρ told.
-              Local.mem-whole 𝓤 H A W (Declared'.row OpenPlan.the-type) ρ) λ ρ told. Local.whole-mem 𝓤 H A W (Declared'.row OpenPlan.the-type) ρ,
-              Path.refl,), ((Yields.yields-copy 𝓤 H A W (λ ρ. Unit) (Declared'.row Drawing.the-type) Path.refl (Copies.cStruct Drawing.the-type
-              Laws''''''''.the-laws Laws''''''''.the-copy .copy 𝓤 H A W) (Rows.whole (Declared'.row Drawing.the-type)) (λ x. x) (λ x. x) (λ ρ told.
-              Local.mem-whole 𝓤 H A W (Declared'.row Drawing.the-type) ρ) λ ρ told. Local.whole-mem 𝓤 H A W (Declared'.row Drawing.the-type) ρ,
-              Path.refl,), ((Yields.yields-copy 𝓤 H A W (λ ρ. Unit) (Declared'.row ActionScan.the-type) Path.refl (Copies.cStruct ActionScan.the-type
-              Laws'''''''.the-laws Laws'''''''.the-copy .copy 𝓤 H A W) (Rows.whole (Declared'.row ActionScan.the-type)) (λ x. x) (λ x. x) (λ ρ told.
-              Local.mem-whole 𝓤 H A W (Declared'.row ActionScan.the-type) ρ) λ ρ told. Local.whole-mem 𝓤 H A W (Declared'.row ActionScan.the-type) ρ,
-              Path.refl,), ((Yields.yields-copy 𝓤 H A W (λ ρ. Unit) (Declared'.row LedgerRoom.the-type) Path.refl (Copies.cStruct LedgerRoom.the-type
-              Laws'''''''''.the-laws Laws'''''''''.the-copy .copy 𝓤 H A W) (Rows.whole (Declared'.row LedgerRoom.the-type)) (λ x. x) (λ x. x) (λ ρ
-              told. Local.mem-whole 𝓤 H A W (Declared'.row LedgerRoom.the-type) ρ) λ ρ told. Local.whole-mem 𝓤 H A W (Declared'.row
-              LedgerRoom.the-type) ρ, Path.refl,), tt,),),),),),) (Reads'.room-gone 𝓤 H A Laws'.mir) tt Path.refl) d63
+          d64 = Typed.s-seq 𝓤 H A W 𝓣 E G27 G28 b12 b49 Δ0 (Typed.both (s26 bs)) (at63 bs) (Plain.t-call-plain 𝓤 H A W
+              𝓣 0 ps·4 r·4 (claims· .8) (claims· .9) "hnsr_circuit::open::placed_rows" (known .4) E (λ pos β. β) G27 (
+                record { pos = 11; st = List.[]; d = 0; at = λ x. x },
+                (
+                  record { pos = 7; st = List.[]; d = 0; at = λ x. x },
+                  (
+                    record { pos = 9; st = List.[]; d = 0; at = λ x. x },
+                    (
+                      record { pos = 8; st = List.[]; d = 0; at = λ x. x },
+                      (
+                        record { pos = 16; st = List.[]; d = 0; at = λ x. x },
+                        (record { pos = 17; st = List.[]; d = 0; at = λ x. x }, tt),
+                      ),
+                    ),
+                  ),
+                ),
+              ) 18 List.[] (Call.sub-id 𝓤 H A W (G27 .slots)) (
+                (
+                  Yields.yields-copy 𝓤 H A W (λ ρ. Unit) (Declared'.row OpaqueRelayConfig.the-type) Path.refl (Copies.cStruct
+                      OpaqueRelayConfig.the-type Laws''.the-laws Laws''.the-copy .copy 𝓤 H A W)
+                      (Rows.whole (Declared'.row OpaqueRelayConfig.the-type)) (λ x. x) (λ x. x) (λ ρ told.
+                      Local.mem-whole 𝓤 H A W (Declared'.row OpaqueRelayConfig.the-type) ρ) λ ρ told. Local.whole-mem 𝓤
+                      H A W (Declared'.row OpaqueRelayConfig.the-type) ρ,
+                  Path.refl,
+                ),
+                (
+                  (
+                    Yields.yields-copy 𝓤 H A W (λ ρ. Unit) (Declared'.row OpenGathered.the-type) Path.refl (Copies.cStruct
+                        OpenGathered.the-type Laws'''.the-laws Laws'''.the-copy .copy 𝓤 H A W)
+                        (Rows.whole (Declared'.row OpenGathered.the-type)) (λ x. x) (λ x. x) (λ ρ told. Local.mem-whole
+                        𝓤 H A W (Declared'.row OpenGathered.the-type) ρ) λ ρ told. Local.whole-mem 𝓤 H A W
+                        (Declared'.row OpenGathered.the-type) ρ,
+                    Path.refl,
+                  ),
+                  (
+                    (
+                      Yields.yields-copy 𝓤 H A W (λ ρ. Unit) (Declared'.row OpenPlan.the-type) Path.refl (Copies.cStruct
+                          OpenPlan.the-type Laws''''.the-laws Laws''''.the-copy .copy 𝓤 H A W)
+                          (Rows.whole (Declared'.row OpenPlan.the-type)) (λ x. x) (λ x. x) (λ ρ told. Local.mem-whole 𝓤
+                          H A W (Declared'.row OpenPlan.the-type) ρ) λ ρ told. Local.whole-mem 𝓤 H A W
+                          (Declared'.row OpenPlan.the-type) ρ,
+                      Path.refl,
+                    ),
+                    (
+                      (
+                        Yields.yields-copy 𝓤 H A W (λ ρ. Unit) (Declared'.row Drawing.the-type) Path.refl (Copies.cStruct
+                            Drawing.the-type Laws''''''''.the-laws Laws''''''''.the-copy .copy 𝓤 H A W)
+                            (Rows.whole (Declared'.row Drawing.the-type)) (λ x. x) (λ x. x) (λ ρ told. Local.mem-whole
+                            𝓤 H A W (Declared'.row Drawing.the-type) ρ) λ ρ told. Local.whole-mem 𝓤 H A W
+                            (Declared'.row Drawing.the-type) ρ,
+                        Path.refl,
+                      ),
+                      (
+                        (
+                          Yields.yields-copy 𝓤 H A W (λ ρ. Unit) (Declared'.row ActionScan.the-type) Path.refl (Copies.cStruct
+                              ActionScan.the-type Laws'''''''.the-laws Laws'''''''.the-copy .copy 𝓤 H A W)
+                              (Rows.whole (Declared'.row ActionScan.the-type)) (λ x. x) (λ x. x) (λ ρ told.
+                              Local.mem-whole 𝓤 H A W (Declared'.row ActionScan.the-type) ρ) λ ρ told. Local.whole-mem
+                              𝓤 H A W (Declared'.row ActionScan.the-type) ρ,
+                          Path.refl,
+                        ),
+                        (
+                          (
+                            Yields.yields-copy 𝓤 H A W (λ ρ. Unit) (Declared'.row LedgerRoom.the-type) Path.refl (Copies.cStruct
+                                LedgerRoom.the-type Laws'''''''''.the-laws Laws'''''''''.the-copy .copy 𝓤 H A W)
+                                (Rows.whole (Declared'.row LedgerRoom.the-type)) (λ x. x) (λ x. x) (λ ρ told.
+                                Local.mem-whole 𝓤 H A W (Declared'.row LedgerRoom.the-type) ρ) λ ρ told.
+                                Local.whole-mem 𝓤 H A W (Declared'.row LedgerRoom.the-type) ρ,
+                            Path.refl,
+                          ),
+                          tt,
+                        ),
+                      ),
+                    ),
+                  ),
+                ),
+              ) (Reads'.room-gone 𝓤 H A Laws'.mir) tt Path.refl) d63
+
           d65 : Typed.Typed 𝓤 H A 𝓣 E G26 b50 Δ0 (at65 bs)
-          d65 = Typed.g-pre 𝓤 H A W 𝓣 E G26 G27 b50 Δ0 (λ Ψ. Ψ) (at64 bs) (Lifetime.g-forget 𝓤 H A W E G26 5 Row.dead Path.refl) d64
+          d65 = Typed.g-pre 𝓤 H A W 𝓣 E G26 G27 b50 Δ0 (λ Ψ. Ψ) (at64 bs)
+              (Lifetime.g-forget 𝓤 H A W E G26 5 Row.dead Path.refl) d64
+
           d66 : Typed.Typed 𝓤 H A 𝓣 E G25 b50 Δ0 (at66 bs)
-          d66 = Typed.g-pre 𝓤 H A W 𝓣 E G25 G26 b50 Δ0 (Typed.pass T24 T26 (s24 bs)) (at65 bs) (Reshare.g-back-sl-shr 𝓤 H A W E ReservationUsage.row
-              G25 2 1 5 ref7 life1 (λ x. x) (Reads'.as-is 𝓤 H A (Reshare.mslice-owedS ReservationUsage.row ref7 1 5 life1)) Path.refl Path.refl) d65
+          d66 = Typed.g-pre 𝓤 H A W 𝓣 E G25 G26 b50 Δ0 (Typed.pass T24 T26 (s24 bs)) (at65 bs) (Reshare.g-back-sl-shr 𝓤
+              H A W E ReservationUsage.row G25 2 1 5 ref7 life1 (λ x. x) (Reads'.as-is 𝓤 H A
+              (Reshare.mslice-owedS ReservationUsage.row ref7 1 5 life1)) Path.refl Path.refl) d65
+
           d67 : Typed.Typed 𝓤 H A 𝓣 E G24 b50 Δ0 (at67 bs)
-          d67 = Typed.g-pre 𝓤 H A W 𝓣 E G24 G25 b50 Δ0 (λ Ψ. Ψ) (at66 bs) (Lifetime.g-end 𝓤 H A W E G24 5 Path.refl) d66
+          d67 = Typed.g-pre 𝓤 H A W 𝓣 E G24 G25 b50 Δ0 (λ Ψ. Ψ) (at66 bs) (Lifetime.g-end 𝓤 H A W E G24 5 Path.refl)
+              d66
+
           d68 : Typed.Typed 𝓤 H A 𝓣 E G23 b50 Δ0 (at68 bs)
-          d68 = Typed.g-pre 𝓤 H A W 𝓣 E G23 G24 b50 Δ0 (Typed.pass T23 T24 (s22 bs)) (at67 bs) (Scalar.g-room 𝓤 H A W E G23 13 Laws.mir
-              (Local.room-whole 𝓤 H A W (Declared'.row ReservationId.the-type) Laws.mir Path.refl)) d67
+          d68 = Typed.g-pre 𝓤 H A W 𝓣 E G23 G24 b50 Δ0 (Typed.pass T23 T24 (s22 bs)) (at67 bs) (Scalar.g-room 𝓤 H A W E
+              G23 13 Laws.mir (Local.room-whole 𝓤 H A W (Declared'.row ReservationId.the-type) Laws.mir Path.refl)) d67
+
           d69 : Typed.Typed 𝓤 H A 𝓣 E G22 b50 Δ0 (at69 bs)
-          d69 = Typed.g-pre 𝓤 H A W 𝓣 E G22 G23 b50 Δ0 (Typed.pass T22 T23 (s21 bs)) (at68 bs) (Scalar.g-room 𝓤 H A W E G22 26 (Syntax.tyStruct (38 ∷
-              91 ∷ 93 ∷ List.[]) (Syntax.tcons ref1 (Syntax.tcons (Syntax.tyInt Syntax.w64) Syntax.tnil))) (Shared.room-sslice 𝓤 H A W
-              ReservationUsage.row ref1 5)) d68
+          d69 = Typed.g-pre 𝓤 H A W 𝓣 E G22 G23 b50 Δ0 (Typed.pass T22 T23 (s21 bs)) (at68 bs) (Scalar.g-room 𝓤 H A W E
+              G22 26 slice1 (Shared.room-sslice 𝓤 H A W ReservationUsage.row ref1 5)) d68
+
           d70 : Typed.Typed 𝓤 H A 𝓣 E G21 b51 Δ0 (at70 bs)
-          d70 = Typed.s-seq 𝓤 H A W 𝓣 E G21 G22 b11 b50 Δ0 (Typed.both (s20 bs)) (at69 bs) (Plain.t-call-plain 𝓤 H A W 𝓣 1 ps·3 r·3 (claims· .6)
-              (claims· .7) "hnsr_circuit::tables::ledger::scan_ledger" (known .3) E (λ pos β. β) G21 (record { pos = 26; ty = Syntax.tyRef
-              Syntax.erased Syntax.imm ReservationUsage.to; ref = λ x. x; }, (record { pos = 6; st = List.[]; d = 0; at = λ x. x }, (record { pos =
-              13; st = List.[]; d = 0; at = λ x. x }, tt),),) 17 (5 ∷ List.[]) (Call.sub-id 𝓤 H A W (G21 .slots)) (ShrSlice.spares-sslice 𝓤 H A W
-              ReservationUsage.row ref1 5, Shared.reads-sslice 𝓤 H A W ReservationUsage.row ref1 5, Path.refl, ((Yields.yields-copy 𝓤 H A W (λ ρ.
-              Unit) (Declared'.row Places.the-type) Path.refl (Copies.cStruct Places.the-type Laws'''''.the-laws Laws'''''.the-copy .copy 𝓤 H A W)
-              (Rows.whole (Declared'.row Places.the-type)) (λ x. x) (λ x. x) (λ ρ told. Local.mem-whole 𝓤 H A W (Declared'.row Places.the-type) ρ) λ ρ
-              told. Local.whole-mem 𝓤 H A W (Declared'.row Places.the-type) ρ, Path.refl,), ((Yields.yields-copy 𝓤 H A W (λ ρ. Unit) (Declared'.row
-              ReservationId.the-type) Path.refl (Copies.cStruct ReservationId.the-type Laws.the-laws Laws.the-copy .copy 𝓤 H A W) (Rows.whole
-              (Declared'.row ReservationId.the-type)) (λ x. x) (λ x. x) (λ ρ told. Local.mem-whole 𝓤 H A W (Declared'.row ReservationId.the-type) ρ) λ
-              ρ told. Local.whole-mem 𝓤 H A W (Declared'.row ReservationId.the-type) ρ, Path.refl,), tt,),),) (Reads'.room-gone 𝓤 H A
-              Laws'''''''''.mir) (tt, tt) Path.refl) d69
+          d70 = Typed.s-seq 𝓤 H A W 𝓣 E G21 G22 b11 b50 Δ0 (Typed.both (s20 bs)) (at69 bs) (Plain.t-call-plain 𝓤 H A W
+              𝓣 1 ps·3 r·3 (claims· .6) (claims· .7) "hnsr_circuit::tables::ledger::scan_ledger" (known .3) E
+              (λ pos β. β) G21 (
+                record { pos = 26; ty = ref1; ref = λ x. x },
+                (
+                  record { pos = 6; st = List.[]; d = 0; at = λ x. x },
+                  (record { pos = 13; st = List.[]; d = 0; at = λ x. x }, tt),
+                ),
+              ) 17 (5 ∷ List.[]) (Call.sub-id 𝓤 H A W (G21 .slots)) (
+                ShrSlice.spares-sslice 𝓤 H A W ReservationUsage.row ref1 5,
+                Shared.reads-sslice 𝓤 H A W ReservationUsage.row ref1 5,
+                Path.refl,
+                (
+                  (
+                    Yields.yields-copy 𝓤 H A W (λ ρ. Unit) (Declared'.row Places.the-type) Path.refl (Copies.cStruct
+                        Places.the-type Laws'''''.the-laws Laws'''''.the-copy .copy 𝓤 H A W)
+                        (Rows.whole (Declared'.row Places.the-type)) (λ x. x) (λ x. x) (λ ρ told. Local.mem-whole 𝓤 H A
+                        W (Declared'.row Places.the-type) ρ) λ ρ told. Local.whole-mem 𝓤 H A W
+                        (Declared'.row Places.the-type) ρ,
+                    Path.refl,
+                  ),
+                  (
+                    (
+                      Yields.yields-copy 𝓤 H A W (λ ρ. Unit) (Declared'.row ReservationId.the-type) Path.refl (Copies.cStruct
+                          ReservationId.the-type Laws.the-laws Laws.the-copy .copy 𝓤 H A W)
+                          (Rows.whole (Declared'.row ReservationId.the-type)) (λ x. x) (λ x. x) (λ ρ told.
+                          Local.mem-whole 𝓤 H A W (Declared'.row ReservationId.the-type) ρ) λ ρ told. Local.whole-mem 𝓤
+                          H A W (Declared'.row ReservationId.the-type) ρ,
+                      Path.refl,
+                    ),
+                    tt,
+                  ),
+                ),
+              ) (Reads'.room-gone 𝓤 H A Laws'''''''''.mir) (tt, tt) Path.refl) d69
+
           d71 : Typed.Typed 𝓤 H A 𝓣 E G20 b52 Δ0 (at71 bs)
-          d71 = Typed.s-seq 𝓤 H A W 𝓣 E G20 G21 b10 b51 Δ0 (Typed.ask (s19 bs)) (at70 bs) (Relend.t-sl-aggregate 𝓤 H A W E ReservationUsage.row 𝓣
-              (Relend.asShr ReservationUsage.row) G20 25 26 5 ref1 ref1 (λ x. x) (Scalar.oFld 2 ((Syntax.field 1) ∷ List.[]) (Syntax.tyInt Syntax.w64)
-              8 λ v. Shared.lenV (v .0)) (Reads'.as-is 𝓤 H A (Relend.ssptr ReservationUsage.row ref1 5)) (Reads'.room-gone 𝓤 H A (Syntax.tyStruct (38
-              ∷ 91 ∷ 93 ∷ List.[]) (Syntax.tcons ref1 (Syntax.tcons (Syntax.tyInt Syntax.w64) Syntax.tnil)))) (Reshare.reads-owedS-len 𝓤 H A W
-              ReservationUsage.row ref7 1 5 life1 8 Path.refl, Path.refl,) Path.refl Path.refl λ b o k. tt) d70
+          d71 = Typed.s-seq 𝓤 H A W 𝓣 E G20 G21 b10 b51 Δ0 (Typed.ask (s19 bs)) (at70 bs) (Relend.t-sl-aggregate 𝓤 H A
+              W E ReservationUsage.row 𝓣 (Relend.asShr ReservationUsage.row) G20 25 26 5 ref1 ref1 (λ x. x) (Scalar.oFld
+              2 ((Syntax.field 1) ∷ List.[]) (Syntax.tyInt Syntax.w64) 8 λ v. Shared.lenV (v .0)) (Reads'.as-is 𝓤 H A
+              (Relend.ssptr ReservationUsage.row ref1 5)) (Reads'.room-gone 𝓤 H A slice1) (
+                Reshare.reads-owedS-len 𝓤 H A W ReservationUsage.row ref7 1 5 life1 8 Path.refl,
+                Path.refl,
+              ) Path.refl Path.refl λ b o k. tt) d70
+
           d72 : Typed.Typed 𝓤 H A 𝓣 E G19 b53 Δ0 (at72 bs)
-          d72 = Typed.s-seq 𝓤 H A W 𝓣 E G19 G20 b9 b52 Δ0 (Typed.give (s18 bs)) (at71 bs) (Reshare.t-sl-reshare 𝓤 H A W E ReservationUsage.row 𝓣 G19 2
-              25 1 5 ref7 ref1 life1 0 (λ x. x) (Reads'.as-is 𝓤 H A (Mut.mslice ReservationUsage.row ref7 1)) (Reads'.room-gone 𝓤 H A ref1) Path.refl
-              tt Path.refl Path.refl Path.refl λ b o. tt) d71
+          d72 = Typed.s-seq 𝓤 H A W 𝓣 E G19 G20 b9 b52 Δ0 (Typed.give (s18 bs)) (at71 bs) (Reshare.t-sl-reshare 𝓤 H A W
+              E ReservationUsage.row 𝓣 G19 2 25 1 5 ref7 ref1 life1 0 (λ x. x) (Reads'.as-is 𝓤 H A
+              (Mut.mslice ReservationUsage.row ref7 1)) (Reads'.room-gone 𝓤 H A ref1) Path.refl tt Path.refl Path.refl
+              Path.refl λ b o. tt) d71
+
           d73 : Typed.Typed 𝓤 H A 𝓣 E G18 b53 Δ0 (at73 bs)
-          d73 = Typed.g-pre 𝓤 H A W 𝓣 E G18 G19 b53 Δ0 (λ Ψ. Ψ) (at72 bs) (Lifetime.g-begin 𝓤 H A W E G18 5 (tt, (tt, (tt, (tt, (tt, (tt, (tt, (tt,
-              (tt, (tt, (tt, (tt, (tt, (tt, (tt, (tt, (tt, (tt, (tt, (tt, (tt, (tt, (tt, (tt, (tt, (tt, (tt, (tt, (tt, (tt, (tt, (tt, (tt, (tt, (tt,
-              (tt, (tt, tt),),),),),),),),),),),),),),),),),),),),),),),),),),),),),),),),),),),),)) d72
+          d73 = Typed.g-pre 𝓤 H A W 𝓣 E G18 G19 b53 Δ0 (λ Ψ. Ψ) (at72 bs) (Lifetime.g-begin 𝓤 H A W E G18 5 (
+            tt,
+            (
+              tt,
+              (
+                tt,
+                (
+                  tt,
+                  (
+                    tt,
+                    (
+                      tt,
+                      (
+                        tt,
+                        (
+                          tt,
+                          (
+                            tt,
+                            (
+                              tt,
+                              (
+                                tt,
+                                (
+                                  tt,
+                                  (
+                                    tt,
+                                    (
+                                      tt,
+                                      (
+                                        tt,
+                                        (
+                                          tt,
+                                          (
+                                            tt,
+                                            (
+                                              tt,
+                                              (
+                                                tt,
+                                                (
+                                                  tt,
+                                                  (
+                                                    tt,
+                                                    (
+                                                      tt,
+                                                      (
+                                                        tt,
+                                                        (
+                                                          tt,
+                                                          (
+                                                            tt,
+                                                            (
+                                                              tt,
+                                                              (
+                                                                tt,
+                                                                (
+                                                                  tt,
+                                                                  (
+                                                                    tt,
+                                                                    (tt, (tt, (tt, (tt, (tt, (tt, (tt, (tt, tt)))))))),
+                                                                  ),
+                                                                ),
+                                                              ),
+                                                            ),
+                                                          ),
+                                                        ),
+                                                      ),
+                                                    ),
+                                                  ),
+                                                ),
+                                              ),
+                                            ),
+                                          ),
+                                        ),
+                                      ),
+                                    ),
+                                  ),
+                                ),
+                              ),
+                            ),
+                          ),
+                        ),
+                      ),
+                    ),
+                  ),
+                ),
+              ),
+            ),
+          )) d72
+
           d74 : Typed.Typed 𝓤 H A 𝓣 E G17 b53 Δ0 (at74 bs)
-          d74 = Typed.g-pre 𝓤 H A W 𝓣 E G17 G18 b53 Δ0 (λ Ψ. Ψ) (at73 bs) (Lifetime.g-forget 𝓤 H A W E G17 4 Row.dead Path.refl) d73
+          d74 = Typed.g-pre 𝓤 H A W 𝓣 E G17 G18 b53 Δ0 (λ Ψ. Ψ) (at73 bs)
+              (Lifetime.g-forget 𝓤 H A W E G17 4 Row.dead Path.refl) d73
+
           d75 : Typed.Typed 𝓤 H A 𝓣 E G16 b53 Δ0 (at75 bs)
-          d75 = Typed.g-pre 𝓤 H A W 𝓣 E G16 G17 b53 Δ0 (Typed.pass T15 T17 (s15 bs)) (at74 bs) (Reshare.g-back-sl-shr 𝓤 H A W E InflightAction.row G16
-              3 2 4 ref8 life0 (λ x. x) (Reads'.as-is 𝓤 H A (Reshare.mslice-owedS InflightAction.row ref8 2 4 life0)) Path.refl Path.refl) d74
+          d75 = Typed.g-pre 𝓤 H A W 𝓣 E G16 G17 b53 Δ0 (Typed.pass T15 T17 (s15 bs)) (at74 bs) (Reshare.g-back-sl-shr 𝓤
+              H A W E InflightAction.row G16 3 2 4 ref8 life0 (λ x. x) (Reads'.as-is 𝓤 H A
+              (Reshare.mslice-owedS InflightAction.row ref8 2 4 life0)) Path.refl Path.refl) d74
+
           d76 : Typed.Typed 𝓤 H A 𝓣 E G15 b53 Δ0 (at76 bs)
-          d76 = Typed.g-pre 𝓤 H A W 𝓣 E G15 G16 b53 Δ0 (λ Ψ. Ψ) (at75 bs) (Lifetime.g-end 𝓤 H A W E G15 4 Path.refl) d75
+          d76 = Typed.g-pre 𝓤 H A W 𝓣 E G15 G16 b53 Δ0 (λ Ψ. Ψ) (at75 bs) (Lifetime.g-end 𝓤 H A W E G15 4 Path.refl)
+              d75
+
           d77 : Typed.Typed 𝓤 H A 𝓣 E G14 b53 Δ0 (at77 bs)
-          d77 = Typed.g-pre 𝓤 H A W 𝓣 E G14 G15 b53 Δ0 (Typed.pass T14 T15 (s13 bs)) (at76 bs) (Scalar.g-room 𝓤 H A W E G14 15 Laws''''''.mir
-              (Local.room-whole 𝓤 H A W (Declared'.row ActionQuestion.the-type) Laws''''''.mir Path.refl)) d76
+          d77 = Typed.g-pre 𝓤 H A W 𝓣 E G14 G15 b53 Δ0 (Typed.pass T14 T15 (s13 bs)) (at76 bs) (Scalar.g-room 𝓤 H A W E
+              G14 15 Laws''''''.mir (Local.room-whole 𝓤 H A W (Declared'.row ActionQuestion.the-type) Laws''''''.mir
+              Path.refl)) d76
+
           d78 : Typed.Typed 𝓤 H A 𝓣 E G13 b53 Δ0 (at78 bs)
-          d78 = Typed.g-pre 𝓤 H A W 𝓣 E G13 G14 b53 Δ0 (Typed.pass T13 T14 (s12 bs)) (at77 bs) (Scalar.g-room 𝓤 H A W E G13 24 (Syntax.tyStruct (38 ∷
-              91 ∷ 93 ∷ List.[]) (Syntax.tcons ref0 (Syntax.tcons (Syntax.tyInt Syntax.w64) Syntax.tnil))) (Shared.room-sslice 𝓤 H A W
-              InflightAction.row ref0 4)) d77
+          d78 = Typed.g-pre 𝓤 H A W 𝓣 E G13 G14 b53 Δ0 (Typed.pass T13 T14 (s12 bs)) (at77 bs) (Scalar.g-room 𝓤 H A W E
+              G13 24 slice0 (Shared.room-sslice 𝓤 H A W InflightAction.row ref0 4)) d77
+
           d79 : Typed.Typed 𝓤 H A 𝓣 E G12 b54 Δ0 (at79 bs)
-          d79 = Typed.s-seq 𝓤 H A W 𝓣 E G12 G13 b8 b53 Δ0 (Typed.both (s11 bs)) (at78 bs) (Plain.t-call-plain 𝓤 H A W 𝓣 1 ps·2 r·2 (claims· .4)
-              (claims· .5) "hnsr_circuit::tables::inflight::scan_actions" (known .2) E (λ pos β. β) G12 (record { pos = 24; ty = Syntax.tyRef
-              Syntax.erased Syntax.imm InflightAction.to; ref = λ x. x; }, (record { pos = 6; st = List.[]; d = 0; at = λ x. x }, (record { pos = 15;
-              st = List.[]; d = 0; at = λ x. x }, tt),),) 16 (4 ∷ List.[]) (Call.sub-id 𝓤 H A W (G12 .slots)) (ShrSlice.spares-sslice 𝓤 H A W
-              InflightAction.row ref0 4, Shared.reads-sslice 𝓤 H A W InflightAction.row ref0 4, Path.refl, ((Yields.yields-copy 𝓤 H A W (λ ρ. Unit)
-              (Declared'.row Places.the-type) Path.refl (Copies.cStruct Places.the-type Laws'''''.the-laws Laws'''''.the-copy .copy 𝓤 H A W)
-              (Rows.whole (Declared'.row Places.the-type)) (λ x. x) (λ x. x) (λ ρ told. Local.mem-whole 𝓤 H A W (Declared'.row Places.the-type) ρ) λ ρ
-              told. Local.whole-mem 𝓤 H A W (Declared'.row Places.the-type) ρ, Path.refl,), ((Yields.yields-copy 𝓤 H A W (λ ρ. Unit) (Declared'.row
-              ActionQuestion.the-type) Path.refl (Copies.cStruct ActionQuestion.the-type Laws''''''.the-laws Laws''''''.the-copy .copy 𝓤 H A W)
-              (Rows.whole (Declared'.row ActionQuestion.the-type)) (λ x. x) (λ x. x) (λ ρ told. Local.mem-whole 𝓤 H A W (Declared'.row
-              ActionQuestion.the-type) ρ) λ ρ told. Local.whole-mem 𝓤 H A W (Declared'.row ActionQuestion.the-type) ρ, Path.refl,), tt,),),)
-              (Reads'.room-gone 𝓤 H A Laws'''''''.mir) (tt, tt) Path.refl) d78
+          d79 = Typed.s-seq 𝓤 H A W 𝓣 E G12 G13 b8 b53 Δ0 (Typed.both (s11 bs)) (at78 bs) (Plain.t-call-plain 𝓤 H A W 𝓣
+              1 ps·2 r·2 (claims· .4) (claims· .5) "hnsr_circuit::tables::inflight::scan_actions" (known .2) E
+              (λ pos β. β) G12 (
+                record { pos = 24; ty = ref0; ref = λ x. x },
+                (
+                  record { pos = 6; st = List.[]; d = 0; at = λ x. x },
+                  (record { pos = 15; st = List.[]; d = 0; at = λ x. x }, tt),
+                ),
+              ) 16 (4 ∷ List.[]) (Call.sub-id 𝓤 H A W (G12 .slots)) (
+                ShrSlice.spares-sslice 𝓤 H A W InflightAction.row ref0 4,
+                Shared.reads-sslice 𝓤 H A W InflightAction.row ref0 4,
+                Path.refl,
+                (
+                  (
+                    Yields.yields-copy 𝓤 H A W (λ ρ. Unit) (Declared'.row Places.the-type) Path.refl (Copies.cStruct
+                        Places.the-type Laws'''''.the-laws Laws'''''.the-copy .copy 𝓤 H A W)
+                        (Rows.whole (Declared'.row Places.the-type)) (λ x. x) (λ x. x) (λ ρ told. Local.mem-whole 𝓤 H A
+                        W (Declared'.row Places.the-type) ρ) λ ρ told. Local.whole-mem 𝓤 H A W
+                        (Declared'.row Places.the-type) ρ,
+                    Path.refl,
+                  ),
+                  (
+                    (
+                      Yields.yields-copy 𝓤 H A W (λ ρ. Unit) (Declared'.row ActionQuestion.the-type) Path.refl (Copies.cStruct
+                          ActionQuestion.the-type Laws''''''.the-laws Laws''''''.the-copy .copy 𝓤 H A W)
+                          (Rows.whole (Declared'.row ActionQuestion.the-type)) (λ x. x) (λ x. x) (λ ρ told.
+                          Local.mem-whole 𝓤 H A W (Declared'.row ActionQuestion.the-type) ρ) λ ρ told. Local.whole-mem
+                          𝓤 H A W (Declared'.row ActionQuestion.the-type) ρ,
+                      Path.refl,
+                    ),
+                    tt,
+                  ),
+                ),
+              ) (Reads'.room-gone 𝓤 H A Laws'''''''.mir) (tt, tt) Path.refl) d78
+
           d80 : Typed.Typed 𝓤 H A 𝓣 E G11 b55 Δ0 (at80 bs)
-          d80 = Typed.s-seq 𝓤 H A W 𝓣 E G11 G12 b7 b54 Δ0 (Typed.ask (s10 bs)) (at79 bs) (Relend.t-sl-aggregate 𝓤 H A W E InflightAction.row 𝓣
-              (Relend.asShr InflightAction.row) G11 23 24 4 ref0 ref0 (λ x. x) (Scalar.oFld 3 ((Syntax.field 1) ∷ List.[]) (Syntax.tyInt Syntax.w64) 8
-              λ v. Shared.lenV (v .0)) (Reads'.as-is 𝓤 H A (Relend.ssptr InflightAction.row ref0 4)) (Reads'.room-gone 𝓤 H A (Syntax.tyStruct (38 ∷ 91
-              ∷ 93 ∷ List.[]) (Syntax.tcons ref0 (Syntax.tcons (Syntax.tyInt Syntax.w64) Syntax.tnil)))) (Reshare.reads-owedS-len 𝓤 H A W
-              InflightAction.row ref8 2 4 life0 8 Path.refl, Path.refl,) Path.refl Path.refl λ b o k. tt) d79
+          d80 = Typed.s-seq 𝓤 H A W 𝓣 E G11 G12 b7 b54 Δ0 (Typed.ask (s10 bs)) (at79 bs) (Relend.t-sl-aggregate 𝓤 H A W
+              E InflightAction.row 𝓣 (Relend.asShr InflightAction.row) G11 23 24 4 ref0 ref0 (λ x. x) (Scalar.oFld 3
+              ((Syntax.field 1) ∷ List.[]) (Syntax.tyInt Syntax.w64) 8 λ v. Shared.lenV (v .0)) (Reads'.as-is 𝓤 H A
+              (Relend.ssptr InflightAction.row ref0 4)) (Reads'.room-gone 𝓤 H A slice0) (
+                Reshare.reads-owedS-len 𝓤 H A W InflightAction.row ref8 2 4 life0 8 Path.refl,
+                Path.refl,
+              ) Path.refl Path.refl λ b o k. tt) d79
+
           d81 : Typed.Typed 𝓤 H A 𝓣 E G10 b56 Δ0 (at81 bs)
-          d81 = Typed.s-seq 𝓤 H A W 𝓣 E G10 G11 b6 b55 Δ0 (Typed.give (s9 bs)) (at80 bs) (Reshare.t-sl-reshare 𝓤 H A W E InflightAction.row 𝓣 G10 3 23
-              2 4 ref8 ref0 life0 0 (λ x. x) (Reads'.as-is 𝓤 H A (Mut.mslice InflightAction.row ref8 2)) (Reads'.room-gone 𝓤 H A ref0) Path.refl tt
+          d81 = Typed.s-seq 𝓤 H A W 𝓣 E G10 G11 b6 b55 Δ0 (Typed.give (s9 bs)) (at80 bs) (Reshare.t-sl-reshare 𝓤 H A W
+              E InflightAction.row 𝓣 G10 3 23 2 4 ref8 ref0 life0 0 (λ x. x)
+              (Reads'.as-is 𝓤 H A (Mut.mslice InflightAction.row ref8 2)) (Reads'.room-gone 𝓤 H A ref0) Path.refl tt
               Path.refl Path.refl Path.refl λ b o. tt) d80
+
           d82 : Typed.Typed 𝓤 H A 𝓣 E G9 b56 Δ0 (at82 bs)
-          d82 = Typed.g-pre 𝓤 H A W 𝓣 E G9 G10 b56 Δ0 (λ Ψ. Ψ) (at81 bs) (Lifetime.g-begin 𝓤 H A W E G9 4 (tt, (tt, (tt, (tt, (tt, (tt, (tt, (tt, (tt,
-              (tt, (tt, (tt, (tt, (tt, (tt, (tt, (tt, (tt, (tt, (tt, (tt, (tt, (tt, (tt, (tt, (tt, (tt, (tt, (tt, (tt, (tt, (tt, (tt, (tt, (tt, (tt,
-              (tt, tt),),),),),),),),),),),),),),),),),),),),),),),),),),),),),),),),),),),),)) d81
+          d82 = Typed.g-pre 𝓤 H A W 𝓣 E G9 G10 b56 Δ0 (λ Ψ. Ψ) (at81 bs) (Lifetime.g-begin 𝓤 H A W E G9 4 (
+            tt,
+            (
+              tt,
+              (
+                tt,
+                (
+                  tt,
+                  (
+                    tt,
+                    (
+                      tt,
+                      (
+                        tt,
+                        (
+                          tt,
+                          (
+                            tt,
+                            (
+                              tt,
+                              (
+                                tt,
+                                (
+                                  tt,
+                                  (
+                                    tt,
+                                    (
+                                      tt,
+                                      (
+                                        tt,
+                                        (
+                                          tt,
+                                          (
+                                            tt,
+                                            (
+                                              tt,
+                                              (
+                                                tt,
+                                                (
+                                                  tt,
+                                                  (
+                                                    tt,
+                                                    (
+                                                      tt,
+                                                      (
+                                                        tt,
+                                                        (
+                                                          tt,
+                                                          (
+                                                            tt,
+                                                            (
+                                                              tt,
+                                                              (
+                                                                tt,
+                                                                (
+                                                                  tt,
+                                                                  (
+                                                                    tt,
+                                                                    (tt, (tt, (tt, (tt, (tt, (tt, (tt, (tt, tt)))))))),
+                                                                  ),
+                                                                ),
+                                                              ),
+                                                            ),
+                                                          ),
+                                                        ),
+                                                      ),
+                                                    ),
+                                                  ),
+                                                ),
+                                              ),
+                                            ),
+                                          ),
+                                        ),
+                                      ),
+                                    ),
+                                  ),
+                                ),
+                              ),
+                            ),
+                          ),
+                        ),
+                      ),
+                    ),
+                  ),
+                ),
+              ),
+            ),
+          )) d81
+
           d83 : Typed.Typed 𝓤 H A 𝓣 E G8 b56 Δ0 (at83 bs)
-          d83 = Typed.g-pre 𝓤 H A W 𝓣 E G8 G9 b56 Δ0 (Typed.pass T8 T9 (s7 bs)) (at82 bs) (Scalar.g-room 𝓤 H A W E G8 14 Laws''''''''''.mir
-              (Local.room-whole 𝓤 H A W (Declared'.row Outgoing.the-type) Laws''''''''''.mir Path.refl)) d82
+          d83 = Typed.g-pre 𝓤 H A W 𝓣 E G8 G9 b56 Δ0 (Typed.pass T8 T9 (s7 bs)) (at82 bs) (Scalar.g-room 𝓤 H A W E G8
+              14 Laws''''''''''.mir (Local.room-whole 𝓤 H A W (Declared'.row Outgoing.the-type) Laws''''''''''.mir
+              Path.refl)) d82
+
           d84 : Typed.Typed 𝓤 H A 𝓣 E G7 b57 Δ0 (at84 bs)
-          d84 = Typed.s-seq 𝓤 H A W 𝓣 E G7 G8 b5 b56 Δ0 (Typed.both (s6 bs)) (at83 bs) (Plain.t-call-plain 𝓤 H A W 𝓣 0 ps·1 r·1 (claims· .2) (claims·
-              .3) "hnsr_circuit::queue::asking" (known .1) E (λ pos β. β) G7 (record { pos = 5; st = List.[]; d = 0; at = λ x. x }, (record { pos =
-              14; st = List.[]; d = 0; at = λ x. x }, tt),) 15 List.[] (Call.sub-id 𝓤 H A W (G7 .slots)) ((Yields.yields-copy 𝓤 H A W (λ ρ. Unit)
-              (Declared'.row OpaqueRelayRuntime.the-type) Path.refl (Copies.cStruct OpaqueRelayRuntime.the-type Laws''''''''''''.the-laws
-              Laws''''''''''''.the-copy .copy 𝓤 H A W) (Rows.whole (Declared'.row OpaqueRelayRuntime.the-type)) (λ x. x) (λ x. x) (λ ρ told.
-              Local.mem-whole 𝓤 H A W (Declared'.row OpaqueRelayRuntime.the-type) ρ) λ ρ told. Local.whole-mem 𝓤 H A W (Declared'.row
-              OpaqueRelayRuntime.the-type) ρ, Path.refl,), ((Yields.yields-copy 𝓤 H A W (λ ρ. Unit) (Declared'.row Outgoing.the-type) Path.refl
-              (Copies.cStruct Outgoing.the-type Laws''''''''''.the-laws Laws''''''''''.the-copy .copy 𝓤 H A W) (Rows.whole (Declared'.row
-              Outgoing.the-type)) (λ x. x) (λ x. x) (λ ρ told. Local.mem-whole 𝓤 H A W (Declared'.row Outgoing.the-type) ρ) λ ρ told. Local.whole-mem
-              𝓤 H A W (Declared'.row Outgoing.the-type) ρ, Path.refl,), tt,),) (Reads'.room-gone 𝓤 H A Laws''''''.mir) tt Path.refl) d83
+          d84 = Typed.s-seq 𝓤 H A W 𝓣 E G7 G8 b5 b56 Δ0 (Typed.both (s6 bs)) (at83 bs) (Plain.t-call-plain 𝓤 H A W 𝓣 0
+              ps·1 r·1 (claims· .2) (claims· .3) "hnsr_circuit::queue::asking" (known .1) E (λ pos β. β) G7 (
+                record { pos = 5; st = List.[]; d = 0; at = λ x. x },
+                (record { pos = 14; st = List.[]; d = 0; at = λ x. x }, tt),
+              ) 15 List.[] (Call.sub-id 𝓤 H A W (G7 .slots)) (
+                (
+                  Yields.yields-copy 𝓤 H A W (λ ρ. Unit) (Declared'.row OpaqueRelayRuntime.the-type) Path.refl (Copies.cStruct
+                      OpaqueRelayRuntime.the-type Laws''''''''''''.the-laws Laws''''''''''''.the-copy .copy 𝓤 H A W)
+                      (Rows.whole (Declared'.row OpaqueRelayRuntime.the-type)) (λ x. x) (λ x. x) (λ ρ told.
+                      Local.mem-whole 𝓤 H A W (Declared'.row OpaqueRelayRuntime.the-type) ρ) λ ρ told. Local.whole-mem
+                      𝓤 H A W (Declared'.row OpaqueRelayRuntime.the-type) ρ,
+                  Path.refl,
+                ),
+                (
+                  (
+                    Yields.yields-copy 𝓤 H A W (λ ρ. Unit) (Declared'.row Outgoing.the-type) Path.refl (Copies.cStruct
+                        Outgoing.the-type Laws''''''''''.the-laws Laws''''''''''.the-copy .copy 𝓤 H A W)
+                        (Rows.whole (Declared'.row Outgoing.the-type)) (λ x. x) (λ x. x) (λ ρ told. Local.mem-whole 𝓤 H
+                        A W (Declared'.row Outgoing.the-type) ρ) λ ρ told. Local.whole-mem 𝓤 H A W
+                        (Declared'.row Outgoing.the-type) ρ,
+                    Path.refl,
+                  ),
+                  tt,
+                ),
+              ) (Reads'.room-gone 𝓤 H A Laws''''''.mir) tt Path.refl) d83
+
           d85 : Typed.Typed 𝓤 H A 𝓣 E G6 b58 Δ0 (at85 bs)
-          d85 = Typed.s-seq 𝓤 H A W 𝓣 E G6 G7 b4 b57 Δ0 (Typed.both (s5 bs)) (at84 bs) (Plain.t-call-plain 𝓤 H A W 𝓣 0 ps·0 r·0 (claims· .0) (claims·
-              .1) "hnsr_circuit::open::incoming_out" (known .0) E (λ pos β. β) G6 (record { pos = 9; st = List.[]; d = 0; at = λ x. x }, tt) 14
-              List.[] (Call.sub-id 𝓤 H A W (G6 .slots)) ((Yields.yields-copy 𝓤 H A W (λ ρ. Unit) (Declared'.row OpenPlan.the-type) Path.refl
-              (Copies.cStruct OpenPlan.the-type Laws''''.the-laws Laws''''.the-copy .copy 𝓤 H A W) (Rows.whole (Declared'.row OpenPlan.the-type)) (λ
-              x. x) (λ x. x) (λ ρ told. Local.mem-whole 𝓤 H A W (Declared'.row OpenPlan.the-type) ρ) λ ρ told. Local.whole-mem 𝓤 H A W (Declared'.row
-              OpenPlan.the-type) ρ, Path.refl,), tt,) (Reads'.room-gone 𝓤 H A Laws''''''''''.mir) tt Path.refl) d84
+          d85 = Typed.s-seq 𝓤 H A W 𝓣 E G6 G7 b4 b57 Δ0 (Typed.both (s5 bs)) (at84 bs) (Plain.t-call-plain 𝓤 H A W 𝓣 0
+              ps·0 r·0 (claims· .0) (claims· .1) "hnsr_circuit::open::incoming_out" (known .0) E (λ pos β. β) G6
+              (record { pos = 9; st = List.[]; d = 0; at = λ x. x }, tt) 14 List.[] (Call.sub-id 𝓤 H A W (G6 .slots)) (
+                (
+                  Yields.yields-copy 𝓤 H A W (λ ρ. Unit) (Declared'.row OpenPlan.the-type) Path.refl (Copies.cStruct
+                      OpenPlan.the-type Laws''''.the-laws Laws''''.the-copy .copy 𝓤 H A W)
+                      (Rows.whole (Declared'.row OpenPlan.the-type)) (λ x. x) (λ x. x) (λ ρ told. Local.mem-whole 𝓤 H A
+                      W (Declared'.row OpenPlan.the-type) ρ) λ ρ told. Local.whole-mem 𝓤 H A W
+                      (Declared'.row OpenPlan.the-type) ρ,
+                  Path.refl,
+                ),
+                tt,
+              ) (Reads'.room-gone 𝓤 H A Laws''''''''''.mir) tt Path.refl) d84
+
           d86 : Typed.Typed 𝓤 H A 𝓣 E G5 b59 Δ0 (at86 bs)
-          d86 = Typed.s-seq 𝓤 H A W 𝓣 E G5 G6 b3 b58 Δ0 (Typed.both (s4 bs)) (at85 bs) (WayStmt.t-way-copy-out 𝓤 H A W E 𝓣 (Declared'.row
-              ReservationId.the-type) Path.refl (Copies.cStruct ReservationId.the-type Laws.the-laws Laws.the-copy .copy 𝓤 H A W) (λ ρ. Unit) G5
-              (Row.out 12 (G5 .locals)) (λ u. Row.drop 12 (G5 .locals) u) (G5 .slots) 12 (λ t. (Syntax.field 0) ∷ t) Laws.mir Laws.mir 13 (Rows.whole
-              (Declared'.row ReservationId.the-type)) (λ x. x) (λ u. At.getAt (RelayTicket.the-type .parts) 0 (RelayTicket.struct .as-values (u .1 .1
-              .1 .1 .1 .1 .1 .1 .1 .1 .1 .1 .0))) (λ u. (Row.hd 0 (Row.tl (Row.tl (Row.tl (Row.tl (Row.tl (Row.tl (Row.tl (Row.tl (Row.tl (Row.tl
-              (Row.tl (Row.tl bs)))))))))))), Nat._+_ 0 0,)) (λ T′. record { locals = Row.setRow 12 (12, Rows.whole (Declared'.row
-              RelayTicket.the-type)) T′; slots = G5 .slots; }) (λ u T′ m′. Row.set 12 (12, Rows.whole (Declared'.row RelayTicket.the-type)) (u .1 .1
-              .1 .1 .1 .1 .1 .1 .1 .1 .1 .1 .0) T′ m′) (λ u. Unit) (λ x. Unit) (Own.told-none 𝓤 H A (G5 .slots)) (DerefMove.learns-nothing 𝓤 H A
-              (Declared'.row ReservationId.the-type)) (λ ρ told u asked. Way'.w-partˢ 𝓤 H A W E (Declared'.row RelayTicket.the-type) (Declared'.row
-              ReservationId.the-type) Laws'''''''''''.mir Laws.mir 0 0 (u .1 .1 .1 .1 .1 .1 .1 .1 .1 .1 .1 .1 .0) (At.getAt (RelayTicket.the-type
-              .parts) 0 (RelayTicket.struct .as-values (u .1 .1 .1 .1 .1 .1 .1 .1 .1 .1 .1 .1 .0))) (Row.hd 0 (Row.tl (Row.tl (Row.tl (Row.tl (Row.tl
-              (Row.tl (Row.tl (Row.tl (Row.tl (Row.tl (Row.tl (Row.tl bs)))))))))))), 0,) (Way.w-look 𝓤 H A W E (Way.w-local 𝓤 H A W E G5 ρ u (G5
-              .slots) 12 (Declared'.row RelayTicket.the-type) (Rows.whole (Declared'.row RelayTicket.the-type)) (λ x. x) (λ x. x) (u .1 .1 .1 .1 .1 .1
-              .1 .1 .1 .1 .1 .1 .0) (Local.mem-whole 𝓤 H A W (Declared'.row RelayTicket.the-type) ρ (u .1 .1 .1 .1 .1 .1 .1 .1 .1 .1 .1 .1 .0) (Row.hd
-              0 (Row.tl (Row.tl (Row.tl (Row.tl (Row.tl (Row.tl (Row.tl (Row.tl (Row.tl (Row.tl (Row.tl (Row.tl bs)))))))))))))) (Local.whole-mem 𝓤 H
-              A W (Declared'.row RelayTicket.the-type) ρ (u .1 .1 .1 .1 .1 .1 .1 .1 .1 .1 .1 .1 .0) (Row.hd 0 (Row.tl (Row.tl (Row.tl (Row.tl (Row.tl
-              (Row.tl (Row.tl (Row.tl (Row.tl (Row.tl (Row.tl (Row.tl bs)))))))))))))))) Path.refl λ q. Inner.cut-record 𝓤 H A q (Declared'.row
-              RelayTicket.the-type) ReservationId.the-type 0 (u .1 .1 .1 .1 .1 .1 .1 .1 .1 .1 .1 .1 .0) (u .1 .1 .1 .1 .1 .1 .1 .1 .1 .1 .1 .1 .0)
-              (At.getAt (RelayTicket.the-type .parts) 0 (RelayTicket.struct .as-values (u .1 .1 .1 .1 .1 .1 .1 .1 .1 .1 .1 .1 .0))) (At.getAt
-              (RelayTicket.the-type .parts) 0 (RelayTicket.struct .as-values (u .1 .1 .1 .1 .1 .1 .1 .1 .1 .1 .1 .1 .0))) (Row.hd 0 (Row.tl (Row.tl
-              (Row.tl (Row.tl (Row.tl (Row.tl (Row.tl (Row.tl (Row.tl (Row.tl (Row.tl (Row.tl bs)))))))))))), 0,) (Behind.look-at 𝓤 H A W q
-              RelayTicket.the-type Laws'''''''''''.the-laws 0 0 Path.refl Path.refl (Row.hd 0 (Row.tl (Row.tl (Row.tl (Row.tl (Row.tl (Row.tl (Row.tl
-              (Row.tl (Row.tl (Row.tl (Row.tl (Row.tl bs)))))))))))), 0,) (u .1 .1 .1 .1 .1 .1 .1 .1 .1 .1 .1 .1 .0) (RelayTicket.struct .as-values (u
-              .1 .1 .1 .1 .1 .1 .1 .1 .1 .1 .1 .1 .0)) Path.refl)) (Reads'.room-gone 𝓤 H A Laws.mir) (Yields.makes-mem 𝓤 H A W (λ ρ. Unit)
-              (Declared'.row ReservationId.the-type) Path.refl (Rows.whole (Declared'.row ReservationId.the-type)) (λ x. x) λ ρ told. Local.whole-mem
-              𝓤 H A W (Declared'.row ReservationId.the-type) ρ) Path.refl Path.refl Path.refl) d85
+          d86 = Typed.s-seq 𝓤 H A W 𝓣 E G5 G6 b3 b58 Δ0 (Typed.both (s4 bs)) (at85 bs) (WayStmt.t-way-copy-out 𝓤 H A W
+              E 𝓣 (Declared'.row ReservationId.the-type) Path.refl (Copies.cStruct ReservationId.the-type Laws.the-laws
+              Laws.the-copy .copy 𝓤 H A W) (λ ρ. Unit) G5 (Row.out 12 (G5 .locals)) (λ u. Row.drop 12 (G5 .locals) u)
+              (G5 .slots) 12 (λ t. (Syntax.field 0) ∷ t) Laws.mir Laws.mir 13
+              (Rows.whole (Declared'.row ReservationId.the-type)) (λ x. x) (λ u. At.getAt (RelayTicket.the-type .parts)
+              0 (RelayTicket.struct .as-values (u .1 .1 .1 .1 .1 .1 .1 .1 .1 .1 .1 .1 .0))) (λ u. (
+                Row.hd 0 (Row.tl (Row.tl (Row.tl (Row.tl (Row.tl (Row.tl (Row.tl
+                    (Row.tl (Row.tl (Row.tl (Row.tl (Row.tl bs)))))))))))),
+                Nat._+_ 0 0,
+              )) (λ T′. record {
+                locals = Row.setRow 12 (12, Rows.whole (Declared'.row RelayTicket.the-type)) T′;
+                slots = G5 .slots;
+              }) (λ u T′ m′. Row.set 12 (12, Rows.whole (Declared'.row RelayTicket.the-type))
+              (u .1 .1 .1 .1 .1 .1 .1 .1 .1 .1 .1 .1 .0) T′ m′) (λ u. Unit) (λ x. Unit)
+              (Own.told-none 𝓤 H A (G5 .slots)) (DerefMove.learns-nothing 𝓤 H A (Declared'.row ReservationId.the-type)) (λ
+              ρ told u asked. Way'.w-partˢ 𝓤 H A W E (Declared'.row RelayTicket.the-type)
+              (Declared'.row ReservationId.the-type) Laws'''''''''''.mir Laws.mir 0 0
+              (u .1 .1 .1 .1 .1 .1 .1 .1 .1 .1 .1 .1 .0) (At.getAt (RelayTicket.the-type .parts) 0 (RelayTicket.struct
+              .as-values (u .1 .1 .1 .1 .1 .1 .1 .1 .1 .1 .1 .1 .0))) (
+                Row.hd 0 (Row.tl (Row.tl (Row.tl (Row.tl (Row.tl (Row.tl (Row.tl
+                    (Row.tl (Row.tl (Row.tl (Row.tl (Row.tl bs)))))))))))),
+                0,
+              ) (Way.w-look 𝓤 H A W E (Way.w-local 𝓤 H A W E G5 ρ u (G5 .slots) 12 (Declared'.row RelayTicket.the-type)
+              (Rows.whole (Declared'.row RelayTicket.the-type)) (λ x. x) (λ x. x)
+              (u .1 .1 .1 .1 .1 .1 .1 .1 .1 .1 .1 .1 .0) (Local.mem-whole 𝓤 H A W (Declared'.row RelayTicket.the-type)
+              ρ (u .1 .1 .1 .1 .1 .1 .1 .1 .1 .1 .1 .1 .0) (Row.hd 0 (Row.tl (Row.tl (Row.tl (Row.tl (Row.tl (Row.tl (Row.tl
+              (Row.tl (Row.tl (Row.tl (Row.tl (Row.tl bs)))))))))))))) (Local.whole-mem 𝓤 H A W
+              (Declared'.row RelayTicket.the-type) ρ (u .1 .1 .1 .1 .1 .1 .1 .1 .1 .1 .1 .1 .0) (Row.hd 0 (Row.tl (Row.tl (Row.tl (Row.tl (Row.tl (Row.tl (Row.tl
+              (Row.tl (Row.tl (Row.tl (Row.tl (Row.tl bs)))))))))))))))) Path.refl λ q. Inner.cut-record 𝓤 H A q
+              (Declared'.row RelayTicket.the-type) ReservationId.the-type 0 (u .1 .1 .1 .1 .1 .1 .1 .1 .1 .1 .1 .1 .0)
+              (u .1 .1 .1 .1 .1 .1 .1 .1 .1 .1 .1 .1 .0) (At.getAt (RelayTicket.the-type .parts) 0 (RelayTicket.struct
+              .as-values (u .1 .1 .1 .1 .1 .1 .1 .1 .1 .1 .1 .1 .0))) (At.getAt (RelayTicket.the-type .parts) 0 (RelayTicket.struct
+              .as-values (u .1 .1 .1 .1 .1 .1 .1 .1 .1 .1 .1 .1 .0))) (
+                Row.hd 0 (Row.tl (Row.tl (Row.tl (Row.tl (Row.tl (Row.tl (Row.tl
+                    (Row.tl (Row.tl (Row.tl (Row.tl (Row.tl bs)))))))))))),
+                0,
+              ) (Behind.look-at 𝓤 H A W q RelayTicket.the-type Laws'''''''''''.the-laws 0 0 Path.refl Path.refl (
+                Row.hd 0 (Row.tl (Row.tl (Row.tl (Row.tl (Row.tl (Row.tl (Row.tl
+                    (Row.tl (Row.tl (Row.tl (Row.tl (Row.tl bs)))))))))))),
+                0,
+              ) (u .1 .1 .1 .1 .1 .1 .1 .1 .1 .1 .1 .1 .0) (RelayTicket.struct .as-values
+              (u .1 .1 .1 .1 .1 .1 .1 .1 .1 .1 .1 .1 .0)) Path.refl)) (Reads'.room-gone 𝓤 H A Laws.mir) (Yields.makes-mem
+              𝓤 H A W (λ ρ. Unit) (Declared'.row ReservationId.the-type) Path.refl
+              (Rows.whole (Declared'.row ReservationId.the-type)) (λ x. x) λ ρ told. Local.whole-mem 𝓤 H A W
+              (Declared'.row ReservationId.the-type) ρ) Path.refl Path.refl Path.refl) d85
+
           d87 : Typed.Typed 𝓤 H A 𝓣 E G4 b60 Δ0 (at87 bs)
-          d87 = Typed.s-seq 𝓤 H A W 𝓣 E G4 G5 b2 b59 Δ0 (Typed.both (s3 bs)) (at86 bs) (WayStmt.t-way-copy-out 𝓤 H A W E 𝓣 (Declared'.row
-              RelayTicket.the-type) Path.refl (Copies.cStruct RelayTicket.the-type Laws'''''''''''.the-laws Laws'''''''''''.the-copy .copy 𝓤 H A W) (λ
-              ρ. Unit) G4 (Row.out 9 (G4 .locals)) (λ u. Row.drop 9 (G4 .locals) u) (G4 .slots) 9 (λ t. (Syntax.field 4) ∷ t) Laws'''''''''''.mir
-              Laws'''''''''''.mir 12 (Rows.whole (Declared'.row RelayTicket.the-type)) (λ x. x) (λ u. At.getAt (OpenPlan.the-type .parts) 4
-              (OpenPlan.struct .as-values (u .1 .1 .1 .1 .1 .1 .1 .1 .1 .0))) (λ u. (Row.hd 0 (Row.tl (Row.tl (Row.tl (Row.tl (Row.tl (Row.tl (Row.tl
-              (Row.tl (Row.tl bs))))))))), Nat._+_ 0 384,)) (λ T′. record { locals = Row.setRow 9 (9, Rows.whole (Declared'.row OpenPlan.the-type))
-              T′; slots = G4 .slots; }) (λ u T′ m′. Row.set 9 (9, Rows.whole (Declared'.row OpenPlan.the-type)) (u .1 .1 .1 .1 .1 .1 .1 .1 .1 .0) T′
-              m′) (λ u. Unit) (λ x. Unit) (Own.told-none 𝓤 H A (G4 .slots)) (DerefMove.learns-nothing 𝓤 H A (Declared'.row RelayTicket.the-type)) (λ ρ
-              told u asked. Way'.w-partˢ 𝓤 H A W E (Declared'.row OpenPlan.the-type) (Declared'.row RelayTicket.the-type) Laws''''.mir
-              Laws'''''''''''.mir 4 384 (u .1 .1 .1 .1 .1 .1 .1 .1 .1 .0) (At.getAt (OpenPlan.the-type .parts) 4 (OpenPlan.struct .as-values (u .1 .1
-              .1 .1 .1 .1 .1 .1 .1 .0))) (Row.hd 0 (Row.tl (Row.tl (Row.tl (Row.tl (Row.tl (Row.tl (Row.tl (Row.tl (Row.tl bs))))))))), 0,)
-              (Way.w-look 𝓤 H A W E (Way.w-local 𝓤 H A W E G4 ρ u (G4 .slots) 9 (Declared'.row OpenPlan.the-type) (Rows.whole (Declared'.row
-              OpenPlan.the-type)) (λ x. x) (λ x. x) (u .1 .1 .1 .1 .1 .1 .1 .1 .1 .0) (Local.mem-whole 𝓤 H A W (Declared'.row OpenPlan.the-type) ρ (u
-              .1 .1 .1 .1 .1 .1 .1 .1 .1 .0) (Row.hd 0 (Row.tl (Row.tl (Row.tl (Row.tl (Row.tl (Row.tl (Row.tl (Row.tl (Row.tl bs)))))))))))
-              (Local.whole-mem 𝓤 H A W (Declared'.row OpenPlan.the-type) ρ (u .1 .1 .1 .1 .1 .1 .1 .1 .1 .0) (Row.hd 0 (Row.tl (Row.tl (Row.tl (Row.tl
-              (Row.tl (Row.tl (Row.tl (Row.tl (Row.tl bs))))))))))))) Path.refl λ q. Inner.cut-record 𝓤 H A q (Declared'.row OpenPlan.the-type)
-              RelayTicket.the-type 384 (u .1 .1 .1 .1 .1 .1 .1 .1 .1 .0) (u .1 .1 .1 .1 .1 .1 .1 .1 .1 .0) (At.getAt (OpenPlan.the-type .parts) 4
-              (OpenPlan.struct .as-values (u .1 .1 .1 .1 .1 .1 .1 .1 .1 .0))) (At.getAt (OpenPlan.the-type .parts) 4 (OpenPlan.struct .as-values (u .1
-              .1 .1 .1 .1 .1 .1 .1 .1 .0))) (Row.hd 0 (Row.tl (Row.tl (Row.tl (Row.tl (Row.tl (Row.tl (Row.tl (Row.tl (Row.tl bs))))))))), 0,)
-              (Behind.look-at 𝓤 H A W q OpenPlan.the-type Laws''''.the-laws 4 384 Path.refl Path.refl (Row.hd 0 (Row.tl (Row.tl (Row.tl (Row.tl
-              (Row.tl (Row.tl (Row.tl (Row.tl (Row.tl bs))))))))), 0,) (u .1 .1 .1 .1 .1 .1 .1 .1 .1 .0) (OpenPlan.struct .as-values (u .1 .1 .1 .1 .1
-              .1 .1 .1 .1 .0)) Path.refl)) (Reads'.room-gone 𝓤 H A Laws'''''''''''.mir) (Yields.makes-mem 𝓤 H A W (λ ρ. Unit) (Declared'.row
-              RelayTicket.the-type) Path.refl (Rows.whole (Declared'.row RelayTicket.the-type)) (λ x. x) λ ρ told. Local.whole-mem 𝓤 H A W
-              (Declared'.row RelayTicket.the-type) ρ) Path.refl Path.refl Path.refl) d86
+          d87 = Typed.s-seq 𝓤 H A W 𝓣 E G4 G5 b2 b59 Δ0 (Typed.both (s3 bs)) (at86 bs) (WayStmt.t-way-copy-out 𝓤 H A W
+              E 𝓣 (Declared'.row RelayTicket.the-type) Path.refl (Copies.cStruct RelayTicket.the-type
+              Laws'''''''''''.the-laws Laws'''''''''''.the-copy .copy 𝓤 H A W) (λ ρ. Unit) G4 (Row.out 9 (G4 .locals))
+              (λ u. Row.drop 9 (G4 .locals) u) (G4 .slots) 9 (λ t. (Syntax.field 4) ∷ t) Laws'''''''''''.mir
+              Laws'''''''''''.mir 12 (Rows.whole (Declared'.row RelayTicket.the-type)) (λ x. x) (λ u. At.getAt
+              (OpenPlan.the-type .parts) 4 (OpenPlan.struct .as-values (u .1 .1 .1 .1 .1 .1 .1 .1 .1 .0))) (λ u. (
+                Row.hd 0 (Row.tl (Row.tl (Row.tl (Row.tl (Row.tl (Row.tl (Row.tl (Row.tl (Row.tl bs))))))))),
+                Nat._+_ 0 384,
+              )) (λ T′. record {
+                locals = Row.setRow 9 (9, Rows.whole (Declared'.row OpenPlan.the-type)) T′;
+                slots = G4 .slots;
+              }) (λ u T′ m′. Row.set 9 (9, Rows.whole (Declared'.row OpenPlan.the-type))
+              (u .1 .1 .1 .1 .1 .1 .1 .1 .1 .0) T′ m′) (λ u. Unit) (λ x. Unit) (Own.told-none 𝓤 H A (G4 .slots)) (DerefMove.learns-nothing
+              𝓤 H A (Declared'.row RelayTicket.the-type)) (λ ρ told u asked. Way'.w-partˢ 𝓤 H A W E
+              (Declared'.row OpenPlan.the-type) (Declared'.row RelayTicket.the-type) Laws''''.mir Laws'''''''''''.mir 4
+              384 (u .1 .1 .1 .1 .1 .1 .1 .1 .1 .0) (At.getAt (OpenPlan.the-type .parts) 4 (OpenPlan.struct .as-values
+              (u .1 .1 .1 .1 .1 .1 .1 .1 .1 .0))) (
+                Row.hd 0 (Row.tl (Row.tl (Row.tl (Row.tl (Row.tl (Row.tl (Row.tl (Row.tl (Row.tl bs))))))))),
+                0,
+              ) (Way.w-look 𝓤 H A W E (Way.w-local 𝓤 H A W E G4 ρ u (G4 .slots) 9 (Declared'.row OpenPlan.the-type)
+              (Rows.whole (Declared'.row OpenPlan.the-type)) (λ x. x) (λ x. x) (u .1 .1 .1 .1 .1 .1 .1 .1 .1 .0) (Local.mem-whole
+              𝓤 H A W (Declared'.row OpenPlan.the-type) ρ (u .1 .1 .1 .1 .1 .1 .1 .1 .1 .0) (Row.hd 0 (Row.tl (Row.tl (Row.tl (Row.tl
+              (Row.tl (Row.tl (Row.tl (Row.tl (Row.tl bs))))))))))) (Local.whole-mem 𝓤 H A W
+              (Declared'.row OpenPlan.the-type) ρ (u .1 .1 .1 .1 .1 .1 .1 .1 .1 .0) (Row.hd 0 (Row.tl (Row.tl (Row.tl (Row.tl
+              (Row.tl (Row.tl (Row.tl (Row.tl (Row.tl bs))))))))))))) Path.refl λ q. Inner.cut-record 𝓤 H A q
+              (Declared'.row OpenPlan.the-type) RelayTicket.the-type 384 (u .1 .1 .1 .1 .1 .1 .1 .1 .1 .0)
+              (u .1 .1 .1 .1 .1 .1 .1 .1 .1 .0) (At.getAt (OpenPlan.the-type .parts) 4 (OpenPlan.struct .as-values
+              (u .1 .1 .1 .1 .1 .1 .1 .1 .1 .0))) (At.getAt (OpenPlan.the-type .parts) 4 (OpenPlan.struct .as-values
+              (u .1 .1 .1 .1 .1 .1 .1 .1 .1 .0))) (
+                Row.hd 0 (Row.tl (Row.tl (Row.tl (Row.tl (Row.tl (Row.tl (Row.tl (Row.tl (Row.tl bs))))))))),
+                0,
+              ) (Behind.look-at 𝓤 H A W q OpenPlan.the-type Laws''''.the-laws 4 384 Path.refl Path.refl (
+                Row.hd 0 (Row.tl (Row.tl (Row.tl (Row.tl (Row.tl (Row.tl (Row.tl (Row.tl (Row.tl bs))))))))),
+                0,
+              ) (u .1 .1 .1 .1 .1 .1 .1 .1 .1 .0) (OpenPlan.struct .as-values (u .1 .1 .1 .1 .1 .1 .1 .1 .1 .0))
+              Path.refl)) (Reads'.room-gone 𝓤 H A Laws'''''''''''.mir) (Yields.makes-mem 𝓤 H A W (λ ρ. Unit)
+              (Declared'.row RelayTicket.the-type) Path.refl (Rows.whole (Declared'.row RelayTicket.the-type)) (λ x. x)
+              λ ρ told. Local.whole-mem 𝓤 H A W (Declared'.row RelayTicket.the-type) ρ) Path.refl Path.refl Path.refl)
+              d86
+
           d88 : Typed.Typed 𝓤 H A 𝓣 E G3 b61 Δ0 (at88 bs)
-          d88 = Typed.s-seq 𝓤 H A W 𝓣 E G3 G4 b1 b60 Δ0 (Typed.both (s2 bs)) (at87 bs) (WayStmt.t-way-copy-out 𝓤 H A W E 𝓣 (Declared'.row
-              OpaqueRelayConfig.the-type) Path.refl (Copies.cStruct OpaqueRelayConfig.the-type Laws''.the-laws Laws''.the-copy .copy 𝓤 H A W) (λ ρ.
-              Unit) G3 (Row.out 5 (G3 .locals)) (λ u. Row.drop 5 (G3 .locals) u) (G3 .slots) 5 (λ t. (Syntax.field 4) ∷ t) Laws''.mir Laws''.mir 11
-              (Rows.whole (Declared'.row OpaqueRelayConfig.the-type)) (λ x. x) (λ u. At.getAt (OpaqueRelayRuntime.the-type .parts) 4
-              (OpaqueRelayRuntime.struct .as-values (u .1 .1 .1 .1 .1 .0))) (λ u. (Row.hd 0 (Row.tl (Row.tl (Row.tl (Row.tl (Row.tl bs))))), Nat._+_ 0
-              40)) (λ T′. record { locals = Row.setRow 5 (5, Rows.whole (Declared'.row OpaqueRelayRuntime.the-type)) T′; slots = G3 .slots; }) (λ u T′
-              m′. Row.set 5 (5, Rows.whole (Declared'.row OpaqueRelayRuntime.the-type)) (u .1 .1 .1 .1 .1 .0) T′ m′) (λ u. Unit) (λ x. Unit)
-              (Own.told-none 𝓤 H A (G3 .slots)) (DerefMove.learns-nothing 𝓤 H A (Declared'.row OpaqueRelayConfig.the-type)) (λ ρ told u asked.
-              Way'.w-partˢ 𝓤 H A W E (Declared'.row OpaqueRelayRuntime.the-type) (Declared'.row OpaqueRelayConfig.the-type) Laws''''''''''''.mir
-              Laws''.mir 4 40 (u .1 .1 .1 .1 .1 .0) (At.getAt (OpaqueRelayRuntime.the-type .parts) 4 (OpaqueRelayRuntime.struct .as-values (u .1 .1 .1
-              .1 .1 .0))) (Row.hd 0 (Row.tl (Row.tl (Row.tl (Row.tl (Row.tl bs))))), 0) (Way.w-look 𝓤 H A W E (Way.w-local 𝓤 H A W E G3 ρ u (G3
-              .slots) 5 (Declared'.row OpaqueRelayRuntime.the-type) (Rows.whole (Declared'.row OpaqueRelayRuntime.the-type)) (λ x. x) (λ x. x) (u .1
-              .1 .1 .1 .1 .0) (Local.mem-whole 𝓤 H A W (Declared'.row OpaqueRelayRuntime.the-type) ρ (u .1 .1 .1 .1 .1 .0) (Row.hd 0 (Row.tl (Row.tl
-              (Row.tl (Row.tl (Row.tl bs))))))) (Local.whole-mem 𝓤 H A W (Declared'.row OpaqueRelayRuntime.the-type) ρ (u .1 .1 .1 .1 .1 .0) (Row.hd 0
-              (Row.tl (Row.tl (Row.tl (Row.tl (Row.tl bs))))))))) Path.refl λ q. Inner.cut-record 𝓤 H A q (Declared'.row OpaqueRelayRuntime.the-type)
-              OpaqueRelayConfig.the-type 40 (u .1 .1 .1 .1 .1 .0) (u .1 .1 .1 .1 .1 .0) (At.getAt (OpaqueRelayRuntime.the-type .parts) 4
-              (OpaqueRelayRuntime.struct .as-values (u .1 .1 .1 .1 .1 .0))) (At.getAt (OpaqueRelayRuntime.the-type .parts) 4
-              (OpaqueRelayRuntime.struct .as-values (u .1 .1 .1 .1 .1 .0))) (Row.hd 0 (Row.tl (Row.tl (Row.tl (Row.tl (Row.tl bs))))), 0)
-              (Behind.look-at 𝓤 H A W q OpaqueRelayRuntime.the-type Laws''''''''''''.the-laws 4 40 Path.refl Path.refl (Row.hd 0 (Row.tl (Row.tl
-              (Row.tl (Row.tl (Row.tl bs))))), 0) (u .1 .1 .1 .1 .1 .0) (OpaqueRelayRuntime.struct .as-values (u .1 .1 .1 .1 .1 .0)) Path.refl))
-              (Reads'.room-gone 𝓤 H A Laws''.mir) (Yields.makes-mem 𝓤 H A W (λ ρ. Unit) (Declared'.row OpaqueRelayConfig.the-type) Path.refl
-              (Rows.whole (Declared'.row OpaqueRelayConfig.the-type)) (λ x. x) λ ρ told. Local.whole-mem 𝓤 H A W (Declared'.row
-              OpaqueRelayConfig.the-type) ρ) Path.refl Path.refl Path.refl) d87
+          d88 = Typed.s-seq 𝓤 H A W 𝓣 E G3 G4 b1 b60 Δ0 (Typed.both (s2 bs)) (at87 bs) (WayStmt.t-way-copy-out 𝓤 H A W
+              E 𝓣 (Declared'.row OpaqueRelayConfig.the-type) Path.refl (Copies.cStruct OpaqueRelayConfig.the-type
+              Laws''.the-laws Laws''.the-copy .copy 𝓤 H A W) (λ ρ. Unit) G3 (Row.out 5 (G3 .locals))
+              (λ u. Row.drop 5 (G3 .locals) u) (G3 .slots) 5 (λ t. (Syntax.field 4) ∷ t) Laws''.mir Laws''.mir 11
+              (Rows.whole (Declared'.row OpaqueRelayConfig.the-type)) (λ x. x) (λ u. At.getAt
+              (OpaqueRelayRuntime.the-type .parts) 4 (OpaqueRelayRuntime.struct .as-values (u .1 .1 .1 .1 .1 .0))) (λ
+              u. (Row.hd 0 (Row.tl (Row.tl (Row.tl (Row.tl (Row.tl bs))))), Nat._+_ 0 40)) (λ T′.
+              record {
+                locals = Row.setRow 5 (5, Rows.whole (Declared'.row OpaqueRelayRuntime.the-type)) T′;
+                slots = G3 .slots;
+              }) (λ u T′ m′. Row.set 5 (5, Rows.whole (Declared'.row OpaqueRelayRuntime.the-type))
+              (u .1 .1 .1 .1 .1 .0) T′ m′) (λ u. Unit) (λ x. Unit) (Own.told-none 𝓤 H A (G3 .slots)) (DerefMove.learns-nothing
+              𝓤 H A (Declared'.row OpaqueRelayConfig.the-type)) (λ ρ told u asked. Way'.w-partˢ 𝓤 H A W E
+              (Declared'.row OpaqueRelayRuntime.the-type) (Declared'.row OpaqueRelayConfig.the-type)
+              Laws''''''''''''.mir Laws''.mir 4 40 (u .1 .1 .1 .1 .1 .0) (At.getAt (OpaqueRelayRuntime.the-type .parts)
+              4 (OpaqueRelayRuntime.struct .as-values (u .1 .1 .1 .1 .1 .0))) (
+                Row.hd 0 (Row.tl (Row.tl (Row.tl (Row.tl (Row.tl bs))))),
+                0,
+              ) (Way.w-look 𝓤 H A W E (Way.w-local 𝓤 H A W E G3 ρ u (G3 .slots) 5
+              (Declared'.row OpaqueRelayRuntime.the-type) (Rows.whole (Declared'.row OpaqueRelayRuntime.the-type))
+              (λ x. x) (λ x. x) (u .1 .1 .1 .1 .1 .0) (Local.mem-whole 𝓤 H A W
+              (Declared'.row OpaqueRelayRuntime.the-type) ρ (u .1 .1 .1 .1 .1 .0)
+              (Row.hd 0 (Row.tl (Row.tl (Row.tl (Row.tl (Row.tl bs))))))) (Local.whole-mem 𝓤 H A W
+              (Declared'.row OpaqueRelayRuntime.the-type) ρ (u .1 .1 .1 .1 .1 .0) (Row.hd 0
+              (Row.tl (Row.tl (Row.tl (Row.tl (Row.tl bs))))))))) Path.refl λ q. Inner.cut-record 𝓤 H A q
+              (Declared'.row OpaqueRelayRuntime.the-type) OpaqueRelayConfig.the-type 40 (u .1 .1 .1 .1 .1 .0)
+              (u .1 .1 .1 .1 .1 .0) (At.getAt (OpaqueRelayRuntime.the-type .parts) 4 (OpaqueRelayRuntime.struct
+              .as-values (u .1 .1 .1 .1 .1 .0))) (At.getAt (OpaqueRelayRuntime.the-type .parts) 4 (OpaqueRelayRuntime.struct
+              .as-values (u .1 .1 .1 .1 .1 .0))) (Row.hd 0 (Row.tl (Row.tl (Row.tl (Row.tl (Row.tl bs))))), 0) (Behind.look-at
+              𝓤 H A W q OpaqueRelayRuntime.the-type Laws''''''''''''.the-laws 4 40 Path.refl Path.refl (
+                Row.hd 0 (Row.tl (Row.tl (Row.tl (Row.tl (Row.tl bs))))),
+                0,
+              ) (u .1 .1 .1 .1 .1 .0) (OpaqueRelayRuntime.struct .as-values (u .1 .1 .1 .1 .1 .0)) Path.refl))
+              (Reads'.room-gone 𝓤 H A Laws''.mir) (Yields.makes-mem 𝓤 H A W (λ ρ. Unit)
+              (Declared'.row OpaqueRelayConfig.the-type) Path.refl
+              (Rows.whole (Declared'.row OpaqueRelayConfig.the-type)) (λ x. x) λ ρ told. Local.whole-mem 𝓤 H A W
+              (Declared'.row OpaqueRelayConfig.the-type) ρ) Path.refl Path.refl Path.refl) d87
+
           d89 : Typed.Typed 𝓤 H A 𝓣 E G2 b62 Δ0 (at89 bs)
-          d89 = Typed.s-seq 𝓤 H A W 𝓣 E G2 G3 b0 b61 Δ0 (Typed.pass T2 T3 (s1 bs)) (at88 bs) (Scalar.t-use 𝓤 H A W E 𝓣 G2 (Scalar.oFld 2
-              ((Syntax.field 1) ∷ List.[]) (Syntax.tyInt Syntax.w64) 8 Shared.lenV) 10 (Rows.sc-here (Row.sInt Syntax.w64)) (Syntax.tyInt Syntax.w64)
-              (Row.valS (Row.sInt Syntax.w64)) (Row.sInt Syntax.w64 .of) (Mut.reads-mslice-len 𝓤 H A W ReservationUsage.row ref7 1 8 Path.refl,
-              Path.refl,) (Reads'.room-gone 𝓤 H A (Syntax.tyInt Syntax.w64)) (Scalar.holds-sc 𝓤 H A W (Row.sInt Syntax.w64)) Path.refl (λ u.
-              Path.refl) λ u. tt) d88
+          d89 = Typed.s-seq 𝓤 H A W 𝓣 E G2 G3 b0 b61 Δ0 (Typed.pass T2 T3 (s1 bs)) (at88 bs) (Scalar.t-use 𝓤 H A W E 𝓣
+              G2 (Scalar.oFld 2 ((Syntax.field 1) ∷ List.[]) (Syntax.tyInt Syntax.w64) 8 Shared.lenV) 10
+              (Rows.sc-here (Row.sInt Syntax.w64)) (Syntax.tyInt Syntax.w64) (Row.valS (Row.sInt Syntax.w64))
+              (Row.sInt Syntax.w64 .of) (
+                Mut.reads-mslice-len 𝓤 H A W ReservationUsage.row ref7 1 8 Path.refl,
+                Path.refl,
+              ) (Reads'.room-gone 𝓤 H A (Syntax.tyInt Syntax.w64)) (Scalar.holds-sc 𝓤 H A W (Row.sInt Syntax.w64))
+              Path.refl (λ u. Path.refl) λ u. tt) d88
+
           d90 : Typed.Typed 𝓤 H A 𝓣 E G0 b62 Δ0 (at90 bs)
-          d90 = Typed.g-pre 𝓤 H A W 𝓣 E G0 G2 b62 Δ0 (Typed.give (s0 bs)) (at89 bs) (Know.g-sl-known 𝓤 H A W (Referent.fInt Syntax.w32) E G0 4 3 ref9
-              life3 0 (λ x. x) record { fits = Dec.lit< tt } (Reads'.as-is 𝓤 H A (Mut.mslice (Referent.rtF (Referent.fInt Syntax.w32)) ref9 3))
-              Path.refl tt) d89
-          pub typed : Typed.Typed 𝓤 H A 𝓣 E (Function.Γin 4 ps r xs m κs qs) b62 (Function.Δret 4 ps r xs m κs qs) (Φ bs)
+          d90 = Typed.g-pre 𝓤 H A W 𝓣 E G0 G2 b62 Δ0 (Typed.give (s0 bs)) (at89 bs) (Know.g-sl-known 𝓤 H A W
+              (Referent.fInt Syntax.w32) E G0 4 3 ref9 life3 0 (λ x. x) record { fits = Dec.lit< tt } (Reads'.as-is 𝓤 H
+              A (Mut.mslice (Referent.rtF (Referent.fInt Syntax.w32)) ref9 3)) Path.refl tt) d89
+
+          pub typed : Typed.Typed 𝓤 H A 𝓣 E (Function.Γin 4 ps r xs m κs qs) b62 (Function.Δret 4 ps r xs m κs qs)
+              (Φ bs)
           typed = d90
+
       module _ (κs : Lifetimes.Lfts 4) where
         pub record Args : Type 0 where
-          pub pending : Kinds.Den { n = 4 } κs (MutSlice.pMutS RelayPending.row 0 tt)
-          pub ledger : Kinds.Den { n = 4 } κs (MutSlice.pMutS ReservationUsage.row 1 tt)
-          pub inflight : Kinds.Den { n = 4 } κs (MutSlice.pMutS InflightAction.row 2 tt)
-          pub out : Kinds.Den { n = 4 } κs (MutSlice.pMutS (Referent.rtF (Referent.fInt Syntax.w32)) 3 tt)
-          pub runtime : Kinds.Den { n = 4 } κs (Value.pVal record { ty = Declared'.row OpaqueRelayRuntime.the-type; one = Path.refl; val =
-              Laws'''''''''''''''.val OpaqueRelayRuntime.the-type Laws''''''''''''.the-laws; tells = Laws'''''''''''''''.tells
-              OpaqueRelayRuntime.the-type Laws''''''''''''.the-laws; still = Laws'''''''''''''''.still OpaqueRelayRuntime.the-type
-              Laws''''''''''''.the-copy Exit.yes; row = Rows.whole (Declared'.row OpaqueRelayRuntime.the-type); rd = λ x. x; mk = λ x. x; } λ M 𝓤 H A
-              W. record { copies = Laws'''''''''''''''.copy OpaqueRelayRuntime.the-type Laws''''''''''''.the-copy 𝓤 H A W; lawful =
-              Laws'''''''''''''''.lawful OpaqueRelayRuntime.the-type Laws''''''''''''.the-laws 𝓤 H A W; makes = Laws'''''''''''''''.makes
-              OpaqueRelayRuntime.the-type Laws''''''''''''.the-plain 𝓤 H A; in-mem = Local.mem-whole 𝓤 H A W (Declared'.row
-              OpaqueRelayRuntime.the-type); of-mem = Local.whole-mem 𝓤 H A W (Declared'.row OpaqueRelayRuntime.the-type); })
-          pub places : Kinds.Den { n = 4 } κs (Value.pVal record { ty = Declared'.row Places.the-type; one = Path.refl; val = Laws'''''''''''''''.val
-              Places.the-type Laws'''''.the-laws; tells = Laws'''''''''''''''.tells Places.the-type Laws'''''.the-laws; still =
-              Laws'''''''''''''''.still Places.the-type Laws'''''.the-copy Exit.yes; row = Rows.whole (Declared'.row Places.the-type); rd = λ x. x; mk
-              = λ x. x; } λ M 𝓤 H A W. record { copies = Laws'''''''''''''''.copy Places.the-type Laws'''''.the-copy 𝓤 H A W; lawful =
-              Laws'''''''''''''''.lawful Places.the-type Laws'''''.the-laws 𝓤 H A W; makes = Laws'''''''''''''''.makes Places.the-type
-              Laws'''''.the-plain 𝓤 H A; in-mem = Local.mem-whole 𝓤 H A W (Declared'.row Places.the-type); of-mem = Local.whole-mem 𝓤 H A W
-              (Declared'.row Places.the-type); })
-          pub gathered : Kinds.Den { n = 4 } κs (Value.pVal record { ty = Declared'.row OpenGathered.the-type; one = Path.refl; val =
-              Laws'''''''''''''''.val OpenGathered.the-type Laws'''.the-laws; tells = Laws'''''''''''''''.tells OpenGathered.the-type
-              Laws'''.the-laws; still = Laws'''''''''''''''.still OpenGathered.the-type Laws'''.the-copy Exit.yes; row = Rows.whole (Declared'.row
-              OpenGathered.the-type); rd = λ x. x; mk = λ x. x; } λ M 𝓤 H A W. record { copies = Laws'''''''''''''''.copy OpenGathered.the-type
-              Laws'''.the-copy 𝓤 H A W; lawful = Laws'''''''''''''''.lawful OpenGathered.the-type Laws'''.the-laws 𝓤 H A W; makes =
-              Laws'''''''''''''''.makes OpenGathered.the-type Laws'''.the-plain 𝓤 H A; in-mem = Local.mem-whole 𝓤 H A W (Declared'.row
-              OpenGathered.the-type); of-mem = Local.whole-mem 𝓤 H A W (Declared'.row OpenGathered.the-type); })
-          pub drawing : Kinds.Den { n = 4 } κs (Value.pVal record { ty = Declared'.row Drawing.the-type; one = Path.refl; val =
-              Laws'''''''''''''''.val Drawing.the-type Laws''''''''.the-laws; tells = Laws'''''''''''''''.tells Drawing.the-type
-              Laws''''''''.the-laws; still = Laws'''''''''''''''.still Drawing.the-type Laws''''''''.the-copy Exit.yes; row = Rows.whole
-              (Declared'.row Drawing.the-type); rd = λ x. x; mk = λ x. x; } λ M 𝓤 H A W. record { copies = Laws'''''''''''''''.copy Drawing.the-type
-              Laws''''''''.the-copy 𝓤 H A W; lawful = Laws'''''''''''''''.lawful Drawing.the-type Laws''''''''.the-laws 𝓤 H A W; makes =
-              Laws'''''''''''''''.makes Drawing.the-type Laws''''''''.the-plain 𝓤 H A; in-mem = Local.mem-whole 𝓤 H A W (Declared'.row
-              Drawing.the-type); of-mem = Local.whole-mem 𝓤 H A W (Declared'.row Drawing.the-type); })
-          pub plan : Kinds.Den { n = 4 } κs (Value.pVal record { ty = Declared'.row OpenPlan.the-type; one = Path.refl; val = Laws'''''''''''''''.val
-              OpenPlan.the-type Laws''''.the-laws; tells = Laws'''''''''''''''.tells OpenPlan.the-type Laws''''.the-laws; still =
-              Laws'''''''''''''''.still OpenPlan.the-type Laws''''.the-copy Exit.yes; row = Rows.whole (Declared'.row OpenPlan.the-type); rd = λ x. x;
-              mk = λ x. x; } λ M 𝓤 H A W. record { copies = Laws'''''''''''''''.copy OpenPlan.the-type Laws''''.the-copy 𝓤 H A W; lawful =
-              Laws'''''''''''''''.lawful OpenPlan.the-type Laws''''.the-laws 𝓤 H A W; makes = Laws'''''''''''''''.makes OpenPlan.the-type
-              Laws''''.the-plain 𝓤 H A; in-mem = Local.mem-whole 𝓤 H A W (Declared'.row OpenPlan.the-type); of-mem = Local.whole-mem 𝓤 H A W
-              (Declared'.row OpenPlan.the-type); })
+          pub pending : Kinds.Den {n = 4} κs (MutSlice.pMutS RelayPending.row 0 tt)
+          pub ledger : Kinds.Den {n = 4} κs (MutSlice.pMutS ReservationUsage.row 1 tt)
+          pub inflight : Kinds.Den {n = 4} κs (MutSlice.pMutS InflightAction.row 2 tt)
+          pub out : Kinds.Den {n = 4} κs (MutSlice.pMutS (Referent.rtF (Referent.fInt Syntax.w32)) 3 tt)
+          pub runtime : Kinds.Den {n = 4} κs (StructRow.param OpaqueRelayRuntime.the-type Laws''''''''''''.the-laws
+              Laws''''''''''''.the-copy Laws''''''''''''.the-plain)
+          pub places : Kinds.Den {n = 4} κs (StructRow.param Places.the-type Laws'''''.the-laws Laws'''''.the-copy
+              Laws'''''.the-plain)
+          pub gathered : Kinds.Den {n = 4} κs (StructRow.param OpenGathered.the-type Laws'''.the-laws Laws'''.the-copy
+              Laws'''.the-plain)
+          pub drawing : Kinds.Den {n = 4} κs (StructRow.param Drawing.the-type Laws''''''''.the-laws
+              Laws''''''''.the-copy Laws''''''''.the-plain)
+          pub plan : Kinds.Den {n = 4} κs (StructRow.param OpenPlan.the-type Laws''''.the-laws Laws''''.the-copy
+              Laws''''.the-plain)
+
         abbrev pub dens : (a : Args) → Kinds.Dens κs ps
-        dens = λ a. (a .pending, (a .ledger, (a .inflight, (a .out, (a .runtime, (a .places, (a .gathered, (a .drawing, (a .plan, tt)))))),),),)
+        dens = λ a. (
+          a .pending,
+          (a .ledger, (a .inflight, (a .out, (a .runtime, (a .places, (a .gathered, (a .drawing, (a .plan, tt)))))))),
+        )
+
       abbrev pub m0 : (κs : Lifetimes.Lfts 4) → (args : Args κs) → (blocks : List.List Nat.ℕ) → Typed.Mo T0
       m0 = λ κs args blocks. (tt, Enter.partsP κs 1 ps xs (dens κs args))
+
       abbrev W0 : (κs : Lifetimes.Lfts 4) → (args : Args κs) → (blocks : List.List Nat.ℕ) → Typed.Want O0
-      W0 = λ κs args blocks. (λ u. ⊥, tt, λ u. Enter.Fixs κs 1 ps xs (dens κs args) (u .1) × Post· κs (dens κs args) (Function.resV r κs (u .0))
-          (Clauses.atExit (Kinds.endedOf 4 ps r) κs (dens κs args) (Enter.lastsP κs 1 ps xs (dens κs args) (u .1))),)
+      W0 = λ κs args blocks. (
+        λ u. ⊥,
+        tt,
+        λ u. Enter.Fixs κs 1 ps xs (dens κs args) (u .1) × Post· κs (dens κs args) (Function.resV r κs (u .0)) (Clauses.atExit
+            (Kinds.endedOf 4 ps r) κs (dens κs args) (Enter.lastsP κs 1 ps xs (dens κs args) (u .1))),
+      )
+
       pub record Start : Type 0 where
         pub κs : Lifetimes.Lfts 4
         pub args : Args κs
         pub blocks : List.List Nat.ℕ
         pub good : Kinds.GoodsP κs ps (dens κs args)
         pub pre : Pre· κs (dens κs args)
-      abbrev pub m1 : (before : Start) → (given : s0 (before .blocks) .gives (m0 (before .κs) (before .args) (before .blocks))) → Typed.Mo T2
+
+      abbrev pub m1 : (before : Start) → (given : s0 (before .blocks) .gives
+          (m0 (before .κs) (before .args) (before .blocks))) → Typed.Mo T2
       m1 = λ before given. s0 (before .blocks) .next (m0 (before .κs) (before .args) (before .blocks)) given
-      abbrev pub m2 : (before : Start) → (given : s0 (before .blocks) .gives (m0 (before .κs) (before .args) (before .blocks))) → Typed.Mo T3
+
+      abbrev pub m2 : (before : Start) → (given : s0 (before .blocks) .gives
+          (m0 (before .κs) (before .args) (before .blocks))) → Typed.Mo T3
       m2 = λ before given. s1 (before .blocks) (m1 before given)
+
       module _ (before· : Start) where
         pub record After-slice-known·own : Type 0 where
           pub given : s0 (before· .blocks) .gives (m0 (before· .κs) (before· .args) (before· .blocks))
+
       pub record After-slice-known : Type 0 where
         pub before : Start
         pub slice-known : After-slice-known·own before
-      abbrev pub m3 : (before : After-slice-known) → (given : s2 (before .before .blocks) .gives (m2 (before .before) (before .slice-known .given))) →
-          Typed.Mo T4
+
+      abbrev pub m3 : (before : After-slice-known) → (given : s2 (before .before .blocks) .gives
+          (m2 (before .before) (before .slice-known .given))) → Typed.Mo T4
       m3 = λ before given. s2 (before .before .blocks) .next (m2 (before .before) (before .slice-known .given)) given
+
       module _ (before· : After-slice-known) where
         pub record After-config·own : Type 0 where
           pub given : s2 (before· .before .blocks) .gives (m2 (before· .before) (before· .slice-known .given))
+
       pub record After-config : Type 0 where
         pub before : After-slice-known
         pub config : After-config·own before
-      abbrev pub m4 : (before : After-config) → (given : s3 (before .before .before .blocks) .gives (m3 (before .before) (before .config .given))) →
-          Typed.Mo T5
-      m4 = λ before given. s3 (before .before .before .blocks) .next (m3 (before .before) (before .config .given)) given
+
+      abbrev pub m4 : (before : After-config) → (given : s3 (before .before .before .blocks) .gives
+          (m3 (before .before) (before .config .given))) → Typed.Mo T5
+      m4 = λ before given. s3 (before .before .before .blocks) .next (m3 (before .before) (before .config .given))
+          given
+
       module _ (before· : After-config) where
         pub record After-ticket·own : Type 0 where
           pub given : s3 (before· .before .before .blocks) .gives (m3 (before· .before) (before· .config .given))
+
       pub record After-ticket : Type 0 where
         pub before : After-config
         pub ticket : After-ticket·own before
-      abbrev pub m5 : (before : After-ticket) → (given : s4 (before .before .before .before .blocks) .gives (m4 (before .before) (before .ticket
-          .given))) → Typed.Mo T6
-      m5 = λ before given. s4 (before .before .before .before .blocks) .next (m4 (before .before) (before .ticket .given)) given
+
+      abbrev pub m5 : (before : After-ticket) → (given : s4 (before .before .before .before .blocks) .gives
+          (m4 (before .before) (before .ticket .given))) → Typed.Mo T6
+      m5 = λ before given. s4 (before .before .before .before .blocks) .next
+          (m4 (before .before) (before .ticket .given)) given
+
       module _ (before· : After-ticket) where
         pub record After-id·own : Type 0 where
-          pub given : s4 (before· .before .before .before .blocks) .gives (m4 (before· .before) (before· .ticket .given))
+          pub given : s4 (before· .before .before .before .blocks) .gives
+              (m4 (before· .before) (before· .ticket .given))
+
       pub record After-id : Type 0 where
         pub before : After-ticket
         pub id : After-id·own before
+
       abbrev pub Need-incoming-out-requires : Type 0
-      Need-incoming-out-requires = (c : After-id) → s5 (c .before .before .before .before .blocks) .asks (m5 (c .before) (c .id .given))
-      abbrev pub m6 : (before : After-id) → (given : s5 (before .before .before .before .before .blocks) .gives (m5 (before .before) (before .id
-          .given))) → Typed.Mo T7
-      m6 = λ before given. s5 (before .before .before .before .before .blocks) .next (m5 (before .before) (before .id .given)) given
+      Need-incoming-out-requires = (c : After-id) → s5 (c .before .before .before .before .blocks) .asks
+          (m5 (c .before) (c .id .given))
+
+      abbrev pub m6 : (before : After-id) → (given : s5 (before .before .before .before .before .blocks) .gives
+          (m5 (before .before) (before .id .given))) → Typed.Mo T7
+      m6 = λ before given. s5 (before .before .before .before .before .blocks) .next
+          (m5 (before .before) (before .id .given)) given
+
       module _ (before· : After-id) where
         abbrev pub After-incoming-out·own : Type 0
-        After-incoming-out·own = Called.Called ps·0 r·0 (claims· .1) T6 (record { pos = 9; st = List.[]; d = 0; at = λ x. x }, tt,) (m5 (before·
-            .before) (before· .id .given))
+        After-incoming-out·own = Called.Called ps·0 r·0 (claims· .1) T6
+            (record { pos = 9; st = List.[]; d = 0; at = λ x. x }, tt) (m5 (before· .before) (before· .id .given))
+
       pub record After-incoming-out : Type 0 where
         pub before : After-id
         pub incoming-out : After-incoming-out·own before
-      abbrev pub After-incoming-out·gave : (c : After-incoming-out) → s5 (c .before .before .before .before .before .blocks) .gives (m5 (c .before
-          .before) (c .before .id .given))
-      After-incoming-out·gave = λ c. Called.given ps·0 r·0 (claims· .1) T6 (record { pos = 9; st = List.[]; d = 0; at = λ x. x }, tt,) (m5 (c .before
-          .before) (c .before .id .given)) (c .incoming-out)
+
+      abbrev pub After-incoming-out·gave : (c : After-incoming-out) → s5
+          (c .before .before .before .before .before .blocks) .gives (m5 (c .before .before) (c .before .id .given))
+      After-incoming-out·gave = λ c. Called.given ps·0 r·0 (claims· .1) T6
+          (record { pos = 9; st = List.[]; d = 0; at = λ x. x }, tt) (m5 (c .before .before) (c .before .id .given))
+          (c .incoming-out)
+
       abbrev pub Need-asking-requires : Type 0
-      Need-asking-requires = (c : After-incoming-out) → s6 (c .before .before .before .before .before .blocks) .asks (m6 (c .before)
-          (After-incoming-out·gave c))
-      abbrev pub m7 : (before : After-incoming-out) → (given : s6 (before .before .before .before .before .before .blocks) .gives (m6 (before .before)
-          (After-incoming-out·gave before))) → Typed.Mo T8
-      m7 = λ before given. s6 (before .before .before .before .before .before .blocks) .next (m6 (before .before) (After-incoming-out·gave before))
-          given
+      Need-asking-requires = (c : After-incoming-out) → s6 (c .before .before .before .before .before .blocks) .asks
+          (m6 (c .before) (After-incoming-out·gave c))
+
+      abbrev pub m7 : (before : After-incoming-out) → (given : s6
+          (before .before .before .before .before .before .blocks) .gives
+          (m6 (before .before) (After-incoming-out·gave before))) → Typed.Mo T8
+      m7 = λ before given. s6 (before .before .before .before .before .before .blocks) .next
+          (m6 (before .before) (After-incoming-out·gave before)) given
+
       module _ (before· : After-incoming-out) where
         abbrev pub After-asking·own : Type 0
-        After-asking·own = Called.Called ps·1 r·1 (claims· .3) T7 (record { pos = 5; st = List.[]; d = 0; at = λ x. x }, (record { pos = 14; st =
-            List.[]; d = 0; at = λ x. x }, tt),) (m6 (before· .before) (After-incoming-out·gave before·))
+        After-asking·own = Called.Called ps·1 r·1 (claims· .3) T7 (
+          record { pos = 5; st = List.[]; d = 0; at = λ x. x },
+          (record { pos = 14; st = List.[]; d = 0; at = λ x. x }, tt),
+        ) (m6 (before· .before) (After-incoming-out·gave before·))
+
       pub record After-asking : Type 0 where
         pub before : After-incoming-out
         pub asking : After-asking·own before
-      abbrev pub After-asking·gave : (c : After-asking) → s6 (c .before .before .before .before .before .before .blocks) .gives (m6 (c .before
-          .before) (After-incoming-out·gave (c .before)))
-      After-asking·gave = λ c. Called.given ps·1 r·1 (claims· .3) T7 (record { pos = 5; st = List.[]; d = 0; at = λ x. x }, (record { pos = 14; st =
-          List.[]; d = 0; at = λ x. x }, tt),) (m6 (c .before .before) (After-incoming-out·gave (c .before))) (c .asking)
-      abbrev pub m8 : (before : After-incoming-out) → (given : s6 (before .before .before .before .before .before .blocks) .gives (m6 (before .before)
-          (After-incoming-out·gave before))) → Typed.Mo T9
+
+      abbrev pub After-asking·gave : (c : After-asking) → s6
+          (c .before .before .before .before .before .before .blocks) .gives (m6 (c .before .before)
+          (After-incoming-out·gave (c .before)))
+      After-asking·gave = λ c. Called.given ps·1 r·1 (claims· .3) T7 (
+        record { pos = 5; st = List.[]; d = 0; at = λ x. x },
+        (record { pos = 14; st = List.[]; d = 0; at = λ x. x }, tt),
+      ) (m6 (c .before .before) (After-incoming-out·gave (c .before))) (c .asking)
+
+      abbrev pub m8 : (before : After-incoming-out) → (given : s6
+          (before .before .before .before .before .before .blocks) .gives
+          (m6 (before .before) (After-incoming-out·gave before))) → Typed.Mo T9
       m8 = λ before given. s7 (before .before .before .before .before .before .blocks) (m7 before given)
-      abbrev pub m9 : (before : After-asking) → (given : s9 (before .before .before .before .before .before .before .blocks) .gives (m8 (before
-          .before) (After-asking·gave before))) → Typed.Mo T11
-      m9 = λ before given. s9 (before .before .before .before .before .before .before .blocks) .next (m8 (before .before) (After-asking·gave before))
-          given
-      abbrev pub m10 : (before : After-asking) → (given : s9 (before .before .before .before .before .before .before .blocks) .gives (m8 (before
-          .before) (After-asking·gave before))) → Typed.Mo T12
-      m10 = λ before given. s10 (before .before .before .before .before .before .before .blocks) .next (m9 before given)
+
+      abbrev pub m9 : (before : After-asking) → (given : s9 (before .before .before .before .before .before .before
+          .blocks) .gives (m8 (before .before) (After-asking·gave before))) → Typed.Mo T11
+      m9 = λ before given. s9 (before .before .before .before .before .before .before .blocks) .next
+          (m8 (before .before) (After-asking·gave before)) given
+
+      abbrev pub m10 : (before : After-asking) → (given : s9 (before .before .before .before .before .before .before
+          .blocks) .gives (m8 (before .before) (After-asking·gave before))) → Typed.Mo T12
+      m10 = λ before given. s10 (before .before .before .before .before .before .before .blocks) .next
+          (m9 before given)
+
       module _ (before· : After-asking) where
         pub record After-scan-actions-arg·own : Type 0 where
-          pub given : s9 (before· .before .before .before .before .before .before .blocks) .gives (m8 (before· .before) (After-asking·gave before·))
+          pub given : s9 (before· .before .before .before .before .before .before .blocks) .gives
+              (m8 (before· .before) (After-asking·gave before·))
+
       pub record After-scan-actions-arg : Type 0 where
         pub before : After-asking
         pub scan-actions-arg : After-scan-actions-arg·own before
+
       abbrev pub Need-scan-actions-requires : Type 0
-      Need-scan-actions-requires = (c : After-scan-actions-arg) → s11 (c .before .before .before .before .before .before .before .blocks) .asks (m10
-          (c .before) (c .scan-actions-arg .given))
-      abbrev pub m11 : (before : After-scan-actions-arg) → (given : s11 (before .before .before .before .before .before .before .before .blocks)
-          .gives (m10 (before .before) (before .scan-actions-arg .given))) → Typed.Mo T13
-      m11 = λ before given. s11 (before .before .before .before .before .before .before .before .blocks) .next (m10 (before .before) (before
-          .scan-actions-arg .given)) given
+      Need-scan-actions-requires = (c : After-scan-actions-arg) → s11 (c .before .before .before .before .before
+          .before .before .blocks) .asks (m10 (c .before) (c .scan-actions-arg .given))
+
+      abbrev pub m11 : (before : After-scan-actions-arg) → (given : s11 (before .before .before .before .before .before
+          .before .before .blocks) .gives (m10 (before .before) (before .scan-actions-arg .given))) → Typed.Mo T13
+      m11 = λ before given. s11 (before .before .before .before .before .before .before .before .blocks) .next
+          (m10 (before .before) (before .scan-actions-arg .given)) given
+
       module _ (before· : After-scan-actions-arg) where
         abbrev pub After-scan-actions·own : Type 0
-        After-scan-actions·own = Called.Called ps·2 r·2 (claims· .5) T12 (record { pos = 24; ty = Syntax.tyRef Syntax.erased Syntax.imm
-            InflightAction.to; ref = λ x. x; }, (record { pos = 6; st = List.[]; d = 0; at = λ x. x }, (record { pos = 15; st = List.[]; d = 0; at = λ
-            x. x }, tt),),) (m10 (before· .before) (before· .scan-actions-arg .given))
+        After-scan-actions·own = Called.Called ps·2 r·2 (claims· .5) T12 (
+          record { pos = 24; ty = ref0; ref = λ x. x },
+          (
+            record { pos = 6; st = List.[]; d = 0; at = λ x. x },
+            (record { pos = 15; st = List.[]; d = 0; at = λ x. x }, tt),
+          ),
+        ) (m10 (before· .before) (before· .scan-actions-arg .given))
+
       pub record After-scan-actions : Type 0 where
         pub before : After-scan-actions-arg
         pub scan-actions : After-scan-actions·own before
-      abbrev pub After-scan-actions·gave : (c : After-scan-actions) → s11 (c .before .before .before .before .before .before .before .before .blocks)
-          .gives (m10 (c .before .before) (c .before .scan-actions-arg .given))
-      After-scan-actions·gave = λ c. Called.given ps·2 r·2 (claims· .5) T12 (record { pos = 24; ty = Syntax.tyRef Syntax.erased Syntax.imm
-          InflightAction.to; ref = λ x. x; }, (record { pos = 6; st = List.[]; d = 0; at = λ x. x }, (record { pos = 15; st = List.[]; d = 0; at = λ
-          x. x }, tt),),) (m10 (c .before .before) (c .before .scan-actions-arg .given)) (c .scan-actions)
-      abbrev pub m12 : (before : After-scan-actions-arg) → (given : s11 (before .before .before .before .before .before .before .before .blocks)
-          .gives (m10 (before .before) (before .scan-actions-arg .given))) → Typed.Mo T14
-      m12 = λ before given. s12 (before .before .before .before .before .before .before .before .blocks) (m11 before given)
-      abbrev pub m13 : (before : After-scan-actions-arg) → (given : s11 (before .before .before .before .before .before .before .before .blocks)
-          .gives (m10 (before .before) (before .scan-actions-arg .given))) → Typed.Mo T15
-      m13 = λ before given. s13 (before .before .before .before .before .before .before .before .blocks) (m12 before given)
-      abbrev pub m14 : (before : After-scan-actions-arg) → (given : s11 (before .before .before .before .before .before .before .before .blocks)
-          .gives (m10 (before .before) (before .scan-actions-arg .given))) → Typed.Mo T17
-      m14 = λ before given. s15 (before .before .before .before .before .before .before .before .blocks) (m13 before given)
-      abbrev pub m15 : (before : After-scan-actions) → (given : s18 (before .before .before .before .before .before .before .before .before .blocks)
-          .gives (m14 (before .before) (After-scan-actions·gave before))) → Typed.Mo T20
-      m15 = λ before given. s18 (before .before .before .before .before .before .before .before .before .blocks) .next (m14 (before .before)
-          (After-scan-actions·gave before)) given
-      abbrev pub m16 : (before : After-scan-actions) → (given : s18 (before .before .before .before .before .before .before .before .before .blocks)
-          .gives (m14 (before .before) (After-scan-actions·gave before))) → Typed.Mo T21
-      m16 = λ before given. s19 (before .before .before .before .before .before .before .before .before .blocks) .next (m15 before given)
+
+      abbrev pub After-scan-actions·gave : (c : After-scan-actions) → s11 (c .before .before .before .before .before
+          .before .before .before .blocks) .gives (m10 (c .before .before) (c .before .scan-actions-arg .given))
+      After-scan-actions·gave = λ c. Called.given ps·2 r·2 (claims· .5) T12 (
+        record { pos = 24; ty = ref0; ref = λ x. x },
+        (
+          record { pos = 6; st = List.[]; d = 0; at = λ x. x },
+          (record { pos = 15; st = List.[]; d = 0; at = λ x. x }, tt),
+        ),
+      ) (m10 (c .before .before) (c .before .scan-actions-arg .given)) (c .scan-actions)
+
+      abbrev pub m12 : (before : After-scan-actions-arg) → (given : s11 (before .before .before .before .before .before
+          .before .before .blocks) .gives (m10 (before .before) (before .scan-actions-arg .given))) → Typed.Mo T14
+      m12 = λ before given. s12 (before .before .before .before .before .before .before .before .blocks)
+          (m11 before given)
+
+      abbrev pub m13 : (before : After-scan-actions-arg) → (given : s11 (before .before .before .before .before .before
+          .before .before .blocks) .gives (m10 (before .before) (before .scan-actions-arg .given))) → Typed.Mo T15
+      m13 = λ before given. s13 (before .before .before .before .before .before .before .before .blocks)
+          (m12 before given)
+
+      abbrev pub m14 : (before : After-scan-actions-arg) → (given : s11 (before .before .before .before .before .before
+          .before .before .blocks) .gives (m10 (before .before) (before .scan-actions-arg .given))) → Typed.Mo T17
+      m14 = λ before given. s15 (before .before .before .before .before .before .before .before .blocks)
+          (m13 before given)
+
+      abbrev pub m15 : (before : After-scan-actions) → (given : s18 (before .before .before .before .before .before
+          .before .before .before .blocks) .gives (m14 (before .before) (After-scan-actions·gave before))) → Typed.Mo
+          T20
+      m15 = λ before given. s18 (before .before .before .before .before .before .before .before .before .blocks) .next
+          (m14 (before .before) (After-scan-actions·gave before)) given
+
+      abbrev pub m16 : (before : After-scan-actions) → (given : s18 (before .before .before .before .before .before
+          .before .before .before .blocks) .gives (m14 (before .before) (After-scan-actions·gave before))) → Typed.Mo
+          T21
+      m16 = λ before given. s19 (before .before .before .before .before .before .before .before .before .blocks) .next
+          (m15 before given)
+
       module _ (before· : After-scan-actions) where
         pub record After-scan-ledger-arg·own : Type 0 where
-          pub given : s18 (before· .before .before .before .before .before .before .before .before .blocks) .gives (m14 (before· .before)
-              (After-scan-actions·gave before·))
+          pub given : s18 (before· .before .before .before .before .before .before .before .before .blocks) .gives
+              (m14 (before· .before) (After-scan-actions·gave before·))
+
       pub record After-scan-ledger-arg : Type 0 where
         pub before : After-scan-actions
         pub scan-ledger-arg : After-scan-ledger-arg·own before
+
       abbrev pub Need-scan-ledger-requires : Type 0
-      Need-scan-ledger-requires = (c : After-scan-ledger-arg) → s20 (c .before .before .before .before .before .before .before .before .before
-          .blocks) .asks (m16 (c .before) (c .scan-ledger-arg .given))
-      abbrev pub m17 : (before : After-scan-ledger-arg) → (given : s20 (before .before .before .before .before .before .before .before .before .before
-          .blocks) .gives (m16 (before .before) (before .scan-ledger-arg .given))) → Typed.Mo T22
-      m17 = λ before given. s20 (before .before .before .before .before .before .before .before .before .before .blocks) .next (m16 (before .before)
-          (before .scan-ledger-arg .given)) given
+      Need-scan-ledger-requires = (c : After-scan-ledger-arg) → s20 (c .before .before .before .before .before .before
+          .before .before .before .blocks) .asks (m16 (c .before) (c .scan-ledger-arg .given))
+
+      abbrev pub m17 : (before : After-scan-ledger-arg) → (given : s20 (before .before .before .before .before .before
+          .before .before .before .before .blocks) .gives (m16 (before .before) (before .scan-ledger-arg .given))) →
+          Typed.Mo T22
+      m17 = λ before given. s20 (before .before .before .before .before .before .before .before .before .before .blocks)
+          .next (m16 (before .before) (before .scan-ledger-arg .given)) given
+
       module _ (before· : After-scan-ledger-arg) where
         abbrev pub After-scan-ledger·own : Type 0
-        After-scan-ledger·own = Called.Called ps·3 r·3 (claims· .7) T21 (record { pos = 26; ty = Syntax.tyRef Syntax.erased Syntax.imm
-            ReservationUsage.to; ref = λ x. x; }, (record { pos = 6; st = List.[]; d = 0; at = λ x. x }, (record { pos = 13; st = List.[]; d = 0; at =
-            λ x. x }, tt),),) (m16 (before· .before) (before· .scan-ledger-arg .given))
+        After-scan-ledger·own = Called.Called ps·3 r·3 (claims· .7) T21 (
+          record { pos = 26; ty = ref1; ref = λ x. x },
+          (
+            record { pos = 6; st = List.[]; d = 0; at = λ x. x },
+            (record { pos = 13; st = List.[]; d = 0; at = λ x. x }, tt),
+          ),
+        ) (m16 (before· .before) (before· .scan-ledger-arg .given))
+
       pub record After-scan-ledger : Type 0 where
         pub before : After-scan-ledger-arg
         pub scan-ledger : After-scan-ledger·own before
-      abbrev pub After-scan-ledger·gave : (c : After-scan-ledger) → s20 (c .before .before .before .before .before .before .before .before .before
-          .before .blocks) .gives (m16 (c .before .before) (c .before .scan-ledger-arg .given))
-      After-scan-ledger·gave = λ c. Called.given ps·3 r·3 (claims· .7) T21 (record { pos = 26; ty = Syntax.tyRef Syntax.erased Syntax.imm
-          ReservationUsage.to; ref = λ x. x; }, (record { pos = 6; st = List.[]; d = 0; at = λ x. x }, (record { pos = 13; st = List.[]; d = 0; at = λ
-          x. x }, tt),),) (m16 (c .before .before) (c .before .scan-ledger-arg .given)) (c .scan-ledger)
-      abbrev pub m18 : (before : After-scan-ledger-arg) → (given : s20 (before .before .before .before .before .before .before .before .before .before
-          .blocks) .gives (m16 (before .before) (before .scan-ledger-arg .given))) → Typed.Mo T23
-      m18 = λ before given. s21 (before .before .before .before .before .before .before .before .before .before .blocks) (m17 before given)
-      abbrev pub m19 : (before : After-scan-ledger-arg) → (given : s20 (before .before .before .before .before .before .before .before .before .before
-          .blocks) .gives (m16 (before .before) (before .scan-ledger-arg .given))) → Typed.Mo T24
-      m19 = λ before given. s22 (before .before .before .before .before .before .before .before .before .before .blocks) (m18 before given)
-      abbrev pub m20 : (before : After-scan-ledger-arg) → (given : s20 (before .before .before .before .before .before .before .before .before .before
-          .blocks) .gives (m16 (before .before) (before .scan-ledger-arg .given))) → Typed.Mo T26
-      m20 = λ before given. s24 (before .before .before .before .before .before .before .before .before .before .blocks) (m19 before given)
+
+      abbrev pub After-scan-ledger·gave : (c : After-scan-ledger) → s20 (c .before .before .before .before .before
+          .before .before .before .before .before .blocks) .gives (m16 (c .before .before)
+          (c .before .scan-ledger-arg .given))
+      After-scan-ledger·gave = λ c. Called.given ps·3 r·3 (claims· .7) T21 (
+        record { pos = 26; ty = ref1; ref = λ x. x },
+        (
+          record { pos = 6; st = List.[]; d = 0; at = λ x. x },
+          (record { pos = 13; st = List.[]; d = 0; at = λ x. x }, tt),
+        ),
+      ) (m16 (c .before .before) (c .before .scan-ledger-arg .given)) (c .scan-ledger)
+
+      abbrev pub m18 : (before : After-scan-ledger-arg) → (given : s20 (before .before .before .before .before .before
+          .before .before .before .before .blocks) .gives (m16 (before .before) (before .scan-ledger-arg .given))) →
+          Typed.Mo T23
+      m18 = λ before given. s21 (before .before .before .before .before .before .before .before .before .before .blocks)
+          (m17 before given)
+
+      abbrev pub m19 : (before : After-scan-ledger-arg) → (given : s20 (before .before .before .before .before .before
+          .before .before .before .before .blocks) .gives (m16 (before .before) (before .scan-ledger-arg .given))) →
+          Typed.Mo T24
+      m19 = λ before given. s22 (before .before .before .before .before .before .before .before .before .before .blocks)
+          (m18 before given)
+
+      abbrev pub m20 : (before : After-scan-ledger-arg) → (given : s20 (before .before .before .before .before .before
+          .before .before .before .before .blocks) .gives (m16 (before .before) (before .scan-ledger-arg .given))) →
+          Typed.Mo T26
+      m20 = λ before given. s24 (before .before .before .before .before .before .before .before .before .before .blocks)
+          (m19 before given)
+
       abbrev pub Need-placed-rows-requires : Type 0
-      Need-placed-rows-requires = (c : After-scan-ledger) → s26 (c .before .before .before .before .before .before .before .before .before .before
-          .blocks) .asks (m20 (c .before) (After-scan-ledger·gave c))
-      abbrev pub m21 : (before : After-scan-ledger) → (given : s26 (before .before .before .before .before .before .before .before .before .before
-          .before .blocks) .gives (m20 (before .before) (After-scan-ledger·gave before))) → Typed.Mo T28
-      m21 = λ before given. s26 (before .before .before .before .before .before .before .before .before .before .before .blocks) .next (m20 (before
-          .before) (After-scan-ledger·gave before)) given
+      Need-placed-rows-requires = (c : After-scan-ledger) → s26 (c .before .before .before .before .before .before
+          .before .before .before .before .blocks) .asks (m20 (c .before) (After-scan-ledger·gave c))
+
+      abbrev pub m21 : (before : After-scan-ledger) → (given : s26 (before .before .before .before .before .before
+          .before .before .before .before .before .blocks) .gives
+          (m20 (before .before) (After-scan-ledger·gave before))) → Typed.Mo T28
+      m21 = λ before given. s26 (before .before .before .before .before .before .before .before .before .before .before
+          .blocks) .next (m20 (before .before) (After-scan-ledger·gave before)) given
+
       module _ (before· : After-scan-ledger) where
         abbrev pub After-placed-rows·own : Type 0
-        After-placed-rows·own = Called.Called ps·4 r·4 (claims· .9) T26 (record { pos = 11; st = List.[]; d = 0; at = λ x. x }, (record { pos = 7; st
-            = List.[]; d = 0; at = λ x. x }, (record { pos = 9; st = List.[]; d = 0; at = λ x. x }, (record { pos = 8; st = List.[]; d = 0; at = λ x.
-            x }, (record { pos = 16; st = List.[]; d = 0; at = λ x. x }, (record { pos = 17; st = List.[]; d = 0; at = λ x. x }, tt),),),),),) (m20
-            (before· .before) (After-scan-ledger·gave before·))
+        After-placed-rows·own = Called.Called ps·4 r·4 (claims· .9) T26 (
+          record { pos = 11; st = List.[]; d = 0; at = λ x. x },
+          (
+            record { pos = 7; st = List.[]; d = 0; at = λ x. x },
+            (
+              record { pos = 9; st = List.[]; d = 0; at = λ x. x },
+              (
+                record { pos = 8; st = List.[]; d = 0; at = λ x. x },
+                (
+                  record { pos = 16; st = List.[]; d = 0; at = λ x. x },
+                  (record { pos = 17; st = List.[]; d = 0; at = λ x. x }, tt),
+                ),
+              ),
+            ),
+          ),
+        ) (m20 (before· .before) (After-scan-ledger·gave before·))
+
       pub record After-placed-rows : Type 0 where
         pub before : After-scan-ledger
         pub placed-rows : After-placed-rows·own before
-      abbrev pub After-placed-rows·gave : (c : After-placed-rows) → s26 (c .before .before .before .before .before .before .before .before .before
-          .before .before .blocks) .gives (m20 (c .before .before) (After-scan-ledger·gave (c .before)))
-      After-placed-rows·gave = λ c. Called.given ps·4 r·4 (claims· .9) T26 (record { pos = 11; st = List.[]; d = 0; at = λ x. x }, (record { pos = 7;
-          st = List.[]; d = 0; at = λ x. x }, (record { pos = 9; st = List.[]; d = 0; at = λ x. x }, (record { pos = 8; st = List.[]; d = 0; at = λ x.
-          x }, (record { pos = 16; st = List.[]; d = 0; at = λ x. x }, (record { pos = 17; st = List.[]; d = 0; at = λ x. x }, tt),),),),),) (m20 (c
-          .before .before) (After-scan-ledger·gave (c .before))) (c .placed-rows)
-      abbrev pub m22 : (before : After-scan-ledger) → (given : s26 (before .before .before .before .before .before .before .before .before .before
-          .before .blocks) .gives (m20 (before .before) (After-scan-ledger·gave before))) → Typed.Mo T29
-      m22 = λ before given. s27 (before .before .before .before .before .before .before .before .before .before .before .blocks) (m21 before given)
-      abbrev pub m23 : (before : After-scan-ledger) → (given : s26 (before .before .before .before .before .before .before .before .before .before
-          .before .blocks) .gives (m20 (before .before) (After-scan-ledger·gave before))) → Typed.Mo T30
-      m23 = λ before given. s28 (before .before .before .before .before .before .before .before .before .before .before .blocks) (m22 before given)
-      abbrev pub m24 : (before : After-scan-ledger) → (given : s26 (before .before .before .before .before .before .before .before .before .before
-          .before .blocks) .gives (m20 (before .before) (After-scan-ledger·gave before))) → Typed.Mo T31
-      m24 = λ before given. s29 (before .before .before .before .before .before .before .before .before .before .before .blocks) (m23 before given)
+
+      abbrev pub After-placed-rows·gave : (c : After-placed-rows) → s26 (c .before .before .before .before .before
+          .before .before .before .before .before .before .blocks) .gives (m20 (c .before .before)
+          (After-scan-ledger·gave (c .before)))
+      After-placed-rows·gave = λ c. Called.given ps·4 r·4 (claims· .9) T26 (
+        record { pos = 11; st = List.[]; d = 0; at = λ x. x },
+        (
+          record { pos = 7; st = List.[]; d = 0; at = λ x. x },
+          (
+            record { pos = 9; st = List.[]; d = 0; at = λ x. x },
+            (
+              record { pos = 8; st = List.[]; d = 0; at = λ x. x },
+              (
+                record { pos = 16; st = List.[]; d = 0; at = λ x. x },
+                (record { pos = 17; st = List.[]; d = 0; at = λ x. x }, tt),
+              ),
+            ),
+          ),
+        ),
+      ) (m20 (c .before .before) (After-scan-ledger·gave (c .before))) (c .placed-rows)
+
+      abbrev pub m22 : (before : After-scan-ledger) → (given : s26 (before .before .before .before .before .before
+          .before .before .before .before .before .blocks) .gives
+          (m20 (before .before) (After-scan-ledger·gave before))) → Typed.Mo T29
+      m22 = λ before given. s27 (before .before .before .before .before .before .before .before .before .before .before
+          .blocks) (m21 before given)
+
+      abbrev pub m23 : (before : After-scan-ledger) → (given : s26 (before .before .before .before .before .before
+          .before .before .before .before .before .blocks) .gives
+          (m20 (before .before) (After-scan-ledger·gave before))) → Typed.Mo T30
+      m23 = λ before given. s28 (before .before .before .before .before .before .before .before .before .before .before
+          .blocks) (m22 before given)
+
+      abbrev pub m24 : (before : After-scan-ledger) → (given : s26 (before .before .before .before .before .before
+          .before .before .before .before .before .blocks) .gives
+          (m20 (before .before) (After-scan-ledger·gave before))) → Typed.Mo T31
+      m24 = λ before given. s29 (before .before .before .before .before .before .before .before .before .before .before
+          .blocks) (m23 before given)
+
       abbrev pub Need-is-taken-requires : Type 0
-      Need-is-taken-requires = (c : After-placed-rows) → s30 (c .before .before .before .before .before .before .before .before .before .before
-          .before .blocks) .asks (m24 (c .before) (After-placed-rows·gave c))
-      abbrev pub m25 : (before : After-placed-rows) → (given : s30 (before .before .before .before .before .before .before .before .before .before
-          .before .before .blocks) .gives (m24 (before .before) (After-placed-rows·gave before))) → Typed.Mo T32
-      m25 = λ before given. s30 (before .before .before .before .before .before .before .before .before .before .before .before .blocks) .next (m24
-          (before .before) (After-placed-rows·gave before)) given
+      Need-is-taken-requires = (c : After-placed-rows) → s30 (c .before .before .before .before .before .before .before
+          .before .before .before .before .blocks) .asks (m24 (c .before) (After-placed-rows·gave c))
+
+      abbrev pub m25 : (before : After-placed-rows) → (given : s30 (before .before .before .before .before .before
+          .before .before .before .before .before .before .blocks) .gives
+          (m24 (before .before) (After-placed-rows·gave before))) → Typed.Mo T32
+      m25 = λ before given. s30 (before .before .before .before .before .before .before .before .before .before .before
+          .before .blocks) .next (m24 (before .before) (After-placed-rows·gave before)) given
+
       module _ (before· : After-placed-rows) where
         abbrev pub After-is-taken·own : Type 0
-        After-is-taken·own = Called.Called ps·5 r·5 (claims· .11) T31 (record { pos = 18; st = List.[]; d = 0; at = λ x. x }, tt,) (m24 (before·
-            .before) (After-placed-rows·gave before·))
+        After-is-taken·own = Called.Called ps·5 r·5 (claims· .11) T31
+            (record { pos = 18; st = List.[]; d = 0; at = λ x. x }, tt)
+            (m24 (before· .before) (After-placed-rows·gave before·))
+
       pub record After-is-taken : Type 0 where
         pub before : After-placed-rows
         pub is-taken : After-is-taken·own before
-      abbrev pub After-is-taken·gave : (c : After-is-taken) → s30 (c .before .before .before .before .before .before .before .before .before .before
-          .before .before .blocks) .gives (m24 (c .before .before) (After-placed-rows·gave (c .before)))
-      After-is-taken·gave = λ c. Called.given ps·5 r·5 (claims· .11) T31 (record { pos = 18; st = List.[]; d = 0; at = λ x. x }, tt,) (m24 (c .before
-          .before) (After-placed-rows·gave (c .before))) (c .is-taken)
-      abbrev W1 : (before : After-placed-rows) → (given : s30 (before .before .before .before .before .before .before .before .before .before .before
-          .before .blocks) .gives (m24 (before .before) (After-placed-rows·gave before))) → Typed.Want O1
-      W1 = λ before given. Typed.wantNext T33 O0 (at58 (before .before .before .before .before .before .before .before .before .before .before .before
-          .blocks) (W0 (before .before .before .before .before .before .before .before .before .before .before .before .κs) (before .before .before
-          .before .before .before .before .before .before .before .before .before .args) (before .before .before .before .before .before .before
-          .before .before .before .before .before .blocks))) (W0 (before .before .before .before .before .before .before .before .before .before
-          .before .before .κs) (before .before .before .before .before .before .before .before .before .before .before .before .args) (before .before
-          .before .before .before .before .before .before .before .before .before .before .blocks))
+
+      abbrev pub After-is-taken·gave : (c : After-is-taken) → s30 (c .before .before .before .before .before .before
+          .before .before .before .before .before .before .blocks) .gives (m24 (c .before .before)
+          (After-placed-rows·gave (c .before)))
+      After-is-taken·gave = λ c. Called.given ps·5 r·5 (claims· .11) T31
+          (record { pos = 18; st = List.[]; d = 0; at = λ x. x }, tt) (m24 (c .before .before)
+          (After-placed-rows·gave (c .before))) (c .is-taken)
+
+      abbrev W1 : (before : After-placed-rows) → (given : s30 (before .before .before .before .before .before .before
+          .before .before .before .before .before .blocks) .gives
+          (m24 (before .before) (After-placed-rows·gave before))) → Typed.Want O1
+      W1 = λ before given. Typed.wantNext T33 O0 (at58 (before .before .before .before .before .before .before .before
+          .before .before .before .before .blocks) (W0 (before .before .before .before .before .before .before .before
+          .before .before .before .before .κs) (before .before .before .before .before .before .before .before .before
+          .before .before .before .args) (before .before .before .before .before .before .before .before .before
+          .before .before .before .blocks))) (W0 (before .before .before .before .before .before .before .before
+          .before .before .before .before .κs) (before .before .before .before .before .before .before .before .before
+          .before .before .before .args) (before .before .before .before .before .before .before .before .before
+          .before .before .before .blocks))
+
       abbrev pub m26 : (before : After-is-taken) → Typed.Mo T34
-      m26 = λ before. s31 (before .before .before .before .before .before .before .before .before .before .before .before .before .blocks) (m25
-          (before .before) (After-is-taken·gave before))
+      m26 = λ before. s31 (before .before .before .before .before .before .before .before .before .before .before
+          .before .before .blocks) (m25 (before .before) (After-is-taken·gave before))
+
       abbrev pub m27 : (before : After-is-taken) → Typed.Mo T35
-      m27 = λ before. s32 (before .before .before .before .before .before .before .before .before .before .before .before .before .blocks) (m26
-          before)
+      m27 = λ before. s32 (before .before .before .before .before .before .before .before .before .before .before
+          .before .before .blocks) (m26 before)
+
       module _ (before· : After-is-taken) where
         pub record Then1·own : Type 0 where
-          pub taken : Path._≡_ (Row.get 27 (T32 .locals) (m25 (before· .before) (After-is-taken·gave before·))) Bool'.true
+          pub taken : Path._≡_ (Row.get 27 (T32 .locals) (m25 (before· .before) (After-is-taken·gave before·)))
+              Bool'.true
+
       pub record Then1 : Type 0 where
         pub before : After-is-taken
         pub if1 : Then1·own before
+
       abbrev pub Need-booked-usage-requires : Type 0
-      Need-booked-usage-requires = (c : Then1) → s33 (c .before .before .before .before .before .before .before .before .before .before .before
-          .before .before .blocks) .asks (m27 (c .before))
-      abbrev pub m28 : (before : Then1) → (given : s33 (before .before .before .before .before .before .before .before .before .before .before .before
-          .before .before .blocks) .gives (m27 (before .before))) → Typed.Mo T36
-      m28 = λ before given. s33 (before .before .before .before .before .before .before .before .before .before .before .before .before .before
-          .blocks) .next (m27 (before .before)) given
+      Need-booked-usage-requires = (c : Then1) → s33 (c .before .before .before .before .before .before .before .before
+          .before .before .before .before .before .blocks) .asks (m27 (c .before))
+
+      abbrev pub m28 : (before : Then1) → (given : s33 (before .before .before .before .before .before .before .before
+          .before .before .before .before .before .before .blocks) .gives (m27 (before .before))) → Typed.Mo T36
+      m28 = λ before given. s33 (before .before .before .before .before .before .before .before .before .before .before
+          .before .before .before .blocks) .next (m27 (before .before)) given
+
       module _ (before· : Then1) where
         abbrev pub After-booked-usage·own : Type 0
-        After-booked-usage·own = Called.Called ps·6 r·6 (claims· .13) T35 (record { pos = 17; st = List.[]; d = 0; at = λ x. x }, (record { pos = 12;
-            st = List.[]; d = 0; at = λ x. x }, tt),) (m27 (before· .before))
+        After-booked-usage·own = Called.Called ps·6 r·6 (claims· .13) T35 (
+          record { pos = 17; st = List.[]; d = 0; at = λ x. x },
+          (record { pos = 12; st = List.[]; d = 0; at = λ x. x }, tt),
+        ) (m27 (before· .before))
+
       pub record After-booked-usage : Type 0 where
         pub before : Then1
         pub booked-usage : After-booked-usage·own before
-      abbrev pub After-booked-usage·gave : (c : After-booked-usage) → s33 (c .before .before .before .before .before .before .before .before .before
-          .before .before .before .before .before .blocks) .gives (m27 (c .before .before))
-      After-booked-usage·gave = λ c. Called.given ps·6 r·6 (claims· .13) T35 (record { pos = 17; st = List.[]; d = 0; at = λ x. x }, (record { pos =
-          12; st = List.[]; d = 0; at = λ x. x }, tt),) (m27 (c .before .before)) (c .booked-usage)
-      abbrev pub m29 : (before : Then1) → (given : s33 (before .before .before .before .before .before .before .before .before .before .before .before
-          .before .before .blocks) .gives (m27 (before .before))) → Typed.Mo T37
-      m29 = λ before given. s34 (before .before .before .before .before .before .before .before .before .before .before .before .before .before
-          .blocks) (m28 before given)
+
+      abbrev pub After-booked-usage·gave : (c : After-booked-usage) → s33 (c .before .before .before .before .before
+          .before .before .before .before .before .before .before .before .before .blocks) .gives
+          (m27 (c .before .before))
+      After-booked-usage·gave = λ c. Called.given ps·6 r·6 (claims· .13) T35 (
+        record { pos = 17; st = List.[]; d = 0; at = λ x. x },
+        (record { pos = 12; st = List.[]; d = 0; at = λ x. x }, tt),
+      ) (m27 (c .before .before)) (c .booked-usage)
+
+      abbrev pub m29 : (before : Then1) → (given : s33 (before .before .before .before .before .before .before .before
+          .before .before .before .before .before .before .blocks) .gives (m27 (before .before))) → Typed.Mo T37
+      m29 = λ before given. s34 (before .before .before .before .before .before .before .before .before .before .before
+          .before .before .before .blocks) (m28 before given)
+
       abbrev pub Need-booked-place-requires : Type 0
-      Need-booked-place-requires = (c : After-booked-usage) → s35 (c .before .before .before .before .before .before .before .before .before .before
-          .before .before .before .before .blocks) .asks (m29 (c .before) (After-booked-usage·gave c))
-      abbrev pub m30 : (before : After-booked-usage) → (given : s35 (before .before .before .before .before .before .before .before .before .before
-          .before .before .before .before .before .blocks) .gives (m29 (before .before) (After-booked-usage·gave before))) → Typed.Mo T38
-      m30 = λ before given. s35 (before .before .before .before .before .before .before .before .before .before .before .before .before .before
-          .before .blocks) .next (m29 (before .before) (After-booked-usage·gave before)) given
+      Need-booked-place-requires = (c : After-booked-usage) → s35 (c .before .before .before .before .before .before
+          .before .before .before .before .before .before .before .before .blocks) .asks
+          (m29 (c .before) (After-booked-usage·gave c))
+
+      abbrev pub m30 : (before : After-booked-usage) → (given : s35 (before .before .before .before .before .before
+          .before .before .before .before .before .before .before .before .before .blocks) .gives
+          (m29 (before .before) (After-booked-usage·gave before))) → Typed.Mo T38
+      m30 = λ before given. s35 (before .before .before .before .before .before .before .before .before .before .before
+          .before .before .before .before .blocks) .next (m29 (before .before) (After-booked-usage·gave before)) given
+
       module _ (before· : After-booked-usage) where
         abbrev pub After-booked-place·own : Type 0
-        After-booked-place·own = Called.Called ps·7 r·7 (claims· .15) T37 (record { pos = 17; st = List.[]; d = 0; at = λ x. x }, tt,) (m29 (before·
-            .before) (After-booked-usage·gave before·))
+        After-booked-place·own = Called.Called ps·7 r·7 (claims· .15) T37
+            (record { pos = 17; st = List.[]; d = 0; at = λ x. x }, tt)
+            (m29 (before· .before) (After-booked-usage·gave before·))
+
       pub record After-booked-place : Type 0 where
         pub before : After-booked-usage
         pub booked-place : After-booked-place·own before
-      abbrev pub After-booked-place·gave : (c : After-booked-place) → s35 (c .before .before .before .before .before .before .before .before .before
-          .before .before .before .before .before .before .blocks) .gives (m29 (c .before .before) (After-booked-usage·gave (c .before)))
-      After-booked-place·gave = λ c. Called.given ps·7 r·7 (claims· .15) T37 (record { pos = 17; st = List.[]; d = 0; at = λ x. x }, tt,) (m29 (c
-          .before .before) (After-booked-usage·gave (c .before))) (c .booked-place)
-      abbrev pub m31 : (before : After-booked-usage) → (given : s35 (before .before .before .before .before .before .before .before .before .before
-          .before .before .before .before .before .blocks) .gives (m29 (before .before) (After-booked-usage·gave before))) → Typed.Mo T39
-      m31 = λ before given. s36 (before .before .before .before .before .before .before .before .before .before .before .before .before .before
-          .before .blocks) (m30 before given)
-      abbrev pub m32 : (before : After-booked-place) → (given : s38 (before .before .before .before .before .before .before .before .before .before
-          .before .before .before .before .before .before .blocks) .gives (m31 (before .before) (After-booked-place·gave before))) → Typed.Mo T41
-      m32 = λ before given. s38 (before .before .before .before .before .before .before .before .before .before .before .before .before .before
-          .before .before .blocks) .next (m31 (before .before) (After-booked-place·gave before)) given
-      abbrev pub m33 : (before : After-booked-place) → (given : s38 (before .before .before .before .before .before .before .before .before .before
-          .before .before .before .before .before .before .blocks) .gives (m31 (before .before) (After-booked-place·gave before))) → Typed.Mo T42
-      m33 = λ before given. s39 (before .before .before .before .before .before .before .before .before .before .before .before .before .before
-          .before .before .blocks) .next (m32 before given)
+
+      abbrev pub After-booked-place·gave : (c : After-booked-place) → s35 (c .before .before .before .before .before
+          .before .before .before .before .before .before .before .before .before .before .blocks) .gives (m29
+          (c .before .before) (After-booked-usage·gave (c .before)))
+      After-booked-place·gave = λ c. Called.given ps·7 r·7 (claims· .15) T37
+          (record { pos = 17; st = List.[]; d = 0; at = λ x. x }, tt) (m29 (c .before .before)
+          (After-booked-usage·gave (c .before))) (c .booked-place)
+
+      abbrev pub m31 : (before : After-booked-usage) → (given : s35 (before .before .before .before .before .before
+          .before .before .before .before .before .before .before .before .before .blocks) .gives
+          (m29 (before .before) (After-booked-usage·gave before))) → Typed.Mo T39
+      m31 = λ before given. s36 (before .before .before .before .before .before .before .before .before .before .before
+          .before .before .before .before .blocks) (m30 before given)
+
+      abbrev pub m32 : (before : After-booked-place) → (given : s38 (before .before .before .before .before .before
+          .before .before .before .before .before .before .before .before .before .before .blocks) .gives
+          (m31 (before .before) (After-booked-place·gave before))) → Typed.Mo T41
+      m32 = λ before given. s38 (before .before .before .before .before .before .before .before .before .before .before
+          .before .before .before .before .before .blocks) .next
+          (m31 (before .before) (After-booked-place·gave before)) given
+
+      abbrev pub m33 : (before : After-booked-place) → (given : s38 (before .before .before .before .before .before
+          .before .before .before .before .before .before .before .before .before .before .blocks) .gives
+          (m31 (before .before) (After-booked-place·gave before))) → Typed.Mo T42
+      m33 = λ before given. s39 (before .before .before .before .before .before .before .before .before .before .before
+          .before .before .before .before .before .blocks) .next (m32 before given)
+
       module _ (before· : After-booked-place) where
         pub record After-set-usage-arg·own : Type 0 where
-          pub given : s38 (before· .before .before .before .before .before .before .before .before .before .before .before .before .before .before
-              .before .blocks) .gives (m31 (before· .before) (After-booked-place·gave before·))
+          pub given : s38 (before· .before .before .before .before .before .before .before .before .before .before
+              .before .before .before .before .before .blocks) .gives
+              (m31 (before· .before) (After-booked-place·gave before·))
+
       pub record After-set-usage-arg : Type 0 where
         pub before : After-booked-place
         pub set-usage-arg : After-set-usage-arg·own before
+
       abbrev pub Need-set-usage-requires : Type 0
-      Need-set-usage-requires = (c : After-set-usage-arg) → s40 (c .before .before .before .before .before .before .before .before .before .before
-          .before .before .before .before .before .before .blocks) .asks (m33 (c .before) (c .set-usage-arg .given))
-      abbrev pub m34 : (before : After-set-usage-arg) → (given : s40 (before .before .before .before .before .before .before .before .before .before
-          .before .before .before .before .before .before .before .blocks) .gives (m33 (before .before) (before .set-usage-arg .given))) → Typed.Mo
-          T43
-      m34 = λ before given. s40 (before .before .before .before .before .before .before .before .before .before .before .before .before .before
-          .before .before .before .blocks) .next (m33 (before .before) (before .set-usage-arg .given)) given
+      Need-set-usage-requires = (c : After-set-usage-arg) → s40 (c .before .before .before .before .before .before
+          .before .before .before .before .before .before .before .before .before .before .blocks) .asks
+          (m33 (c .before) (c .set-usage-arg .given))
+
+      abbrev pub m34 : (before : After-set-usage-arg) → (given : s40 (before .before .before .before .before .before
+          .before .before .before .before .before .before .before .before .before .before .before .blocks) .gives
+          (m33 (before .before) (before .set-usage-arg .given))) → Typed.Mo T43
+      m34 = λ before given. s40 (before .before .before .before .before .before .before .before .before .before .before
+          .before .before .before .before .before .before .blocks) .next
+          (m33 (before .before) (before .set-usage-arg .given)) given
+
       module _ (before· : After-set-usage-arg) where
         abbrev pub After-set-usage·own : Type 0
-        After-set-usage·own = Called.Called ps·8 r·8 (claims· .17) T42 (record { pos = 30; ty = Syntax.tyRef Syntax.erased Syntax.mut
-            ReservationUsage.to; ref = λ x. x; }, (Bool.bLit Bool'.true, (Num.vAt 20 λ x. x, (record { pos = 19; st = List.[]; d = 0; at = λ x. x },
-            tt)),),) (m33 (before· .before) (before· .set-usage-arg .given))
+        After-set-usage·own = Called.Called ps·8 r·8 (claims· .17) T42 (
+          record { pos = 30; ty = ref2; ref = λ x. x },
+          (Bool.bLit Bool'.true, (Num.vAt 20 λ x. x, (record { pos = 19; st = List.[]; d = 0; at = λ x. x }, tt))),
+        ) (m33 (before· .before) (before· .set-usage-arg .given))
+
       pub record After-set-usage : Type 0 where
         pub before : After-set-usage-arg
         pub set-usage : After-set-usage·own before
-      abbrev pub After-set-usage·gave : (c : After-set-usage) → s40 (c .before .before .before .before .before .before .before .before .before .before
-          .before .before .before .before .before .before .before .blocks) .gives (m33 (c .before .before) (c .before .set-usage-arg .given))
-      After-set-usage·gave = λ c. Called.given ps·8 r·8 (claims· .17) T42 (record { pos = 30; ty = Syntax.tyRef Syntax.erased Syntax.mut
-          ReservationUsage.to; ref = λ x. x; }, (Bool.bLit Bool'.true, (Num.vAt 20 λ x. x, (record { pos = 19; st = List.[]; d = 0; at = λ x. x },
-          tt)),),) (m33 (c .before .before) (c .before .set-usage-arg .given)) (c .set-usage)
-      abbrev pub m35 : (before : After-set-usage-arg) → (given : s40 (before .before .before .before .before .before .before .before .before .before
-          .before .before .before .before .before .before .before .blocks) .gives (m33 (before .before) (before .set-usage-arg .given))) → Typed.Mo
-          T44
-      m35 = λ before given. s41 (before .before .before .before .before .before .before .before .before .before .before .before .before .before
-          .before .before .before .blocks) (m34 before given)
-      abbrev pub m36 : (before : After-set-usage) → (given : s43 (before .before .before .before .before .before .before .before .before .before
-          .before .before .before .before .before .before .before .before .blocks) .gives (m35 (before .before) (After-set-usage·gave before))) →
-          Typed.Mo T46
-      m36 = λ before given. s43 (before .before .before .before .before .before .before .before .before .before .before .before .before .before
-          .before .before .before .before .blocks) .next (m35 (before .before) (After-set-usage·gave before)) given
+
+      abbrev pub After-set-usage·gave : (c : After-set-usage) → s40 (c .before .before .before .before .before .before
+          .before .before .before .before .before .before .before .before .before .before .before .blocks) .gives
+          (m33 (c .before .before) (c .before .set-usage-arg .given))
+      After-set-usage·gave = λ c. Called.given ps·8 r·8 (claims· .17) T42 (
+        record { pos = 30; ty = ref2; ref = λ x. x },
+        (Bool.bLit Bool'.true, (Num.vAt 20 λ x. x, (record { pos = 19; st = List.[]; d = 0; at = λ x. x }, tt))),
+      ) (m33 (c .before .before) (c .before .set-usage-arg .given)) (c .set-usage)
+
+      abbrev pub m35 : (before : After-set-usage-arg) → (given : s40 (before .before .before .before .before .before
+          .before .before .before .before .before .before .before .before .before .before .before .blocks) .gives
+          (m33 (before .before) (before .set-usage-arg .given))) → Typed.Mo T44
+      m35 = λ before given. s41 (before .before .before .before .before .before .before .before .before .before .before
+          .before .before .before .before .before .before .blocks) (m34 before given)
+
+      abbrev pub m36 : (before : After-set-usage) → (given : s43 (before .before .before .before .before .before
+          .before .before .before .before .before .before .before .before .before .before .before .before .blocks)
+          .gives (m35 (before .before) (After-set-usage·gave before))) → Typed.Mo T46
+      m36 = λ before given. s43 (before .before .before .before .before .before .before .before .before .before .before
+          .before .before .before .before .before .before .before .blocks) .next
+          (m35 (before .before) (After-set-usage·gave before)) given
+
       module _ (before· : After-set-usage) where
         pub record After-ledger·own : Type 0 where
-          pub given : s43 (before· .before .before .before .before .before .before .before .before .before .before .before .before .before .before
-              .before .before .before .blocks) .gives (m35 (before· .before) (After-set-usage·gave before·))
+          pub given : s43 (before· .before .before .before .before .before .before .before .before .before .before
+              .before .before .before .before .before .before .before .blocks) .gives
+              (m35 (before· .before) (After-set-usage·gave before·))
+
       pub record After-ledger : Type 0 where
         pub before : After-set-usage
         pub ledger : After-ledger·own before
+
       abbrev pub Need-raised-requires : Type 0
-      Need-raised-requires = (c : After-ledger) → s45 (c .before .before .before .before .before .before .before .before .before .before .before
-          .before .before .before .before .before .before .before .blocks) .asks (m36 (c .before) (c .ledger .given))
-      abbrev pub m37 : (before : After-ledger) → (given : s45 (before .before .before .before .before .before .before .before .before .before .before
-          .before .before .before .before .before .before .before .before .blocks) .gives (m36 (before .before) (before .ledger .given))) → Typed.Mo
-          T48
-      m37 = λ before given. s45 (before .before .before .before .before .before .before .before .before .before .before .before .before .before
-          .before .before .before .before .before .blocks) .next (m36 (before .before) (before .ledger .given)) given
+      Need-raised-requires = (c : After-ledger) → s45 (c .before .before .before .before .before .before .before
+          .before .before .before .before .before .before .before .before .before .before .before .blocks) .asks
+          (m36 (c .before) (c .ledger .given))
+
+      abbrev pub m37 : (before : After-ledger) → (given : s45 (before .before .before .before .before .before .before
+          .before .before .before .before .before .before .before .before .before .before .before .before .blocks)
+          .gives (m36 (before .before) (before .ledger .given))) → Typed.Mo T48
+      m37 = λ before given. s45 (before .before .before .before .before .before .before .before .before .before .before
+          .before .before .before .before .before .before .before .before .blocks) .next
+          (m36 (before .before) (before .ledger .given)) given
+
       module _ (before· : After-ledger) where
         abbrev pub After-raised·own : Type 0
-        After-raised·own = Called.Called ps·9 r·9 (claims· .19) T46 (Num.vFld 6 ((Syntax.field 2) ∷ List.[]) 16 λ x. Places.struct .as-values x .1 .1
-            .0, (Bool.bLit Bool'.true, (Num.vAt 20 λ x. x, (Num.vAt 10 λ x. x, tt))),) (m36 (before· .before) (before· .ledger .given))
+        After-raised·own = Called.Called ps·9 r·9 (claims· .19) T46 (
+          Num.vFld 6 ((Syntax.field 2) ∷ List.[]) 16 λ x. Places.struct .as-values x .1 .1 .0,
+          (Bool.bLit Bool'.true, (Num.vAt 20 λ x. x, (Num.vAt 10 λ x. x, tt))),
+        ) (m36 (before· .before) (before· .ledger .given))
+
       pub record After-raised : Type 0 where
         pub before : After-ledger
         pub raised : After-raised·own before
-      abbrev pub After-raised·gave : (c : After-raised) → s45 (c .before .before .before .before .before .before .before .before .before .before
-          .before .before .before .before .before .before .before .before .before .blocks) .gives (m36 (c .before .before) (c .before .ledger .given))
-      After-raised·gave = λ c. Called.given ps·9 r·9 (claims· .19) T46 (Num.vFld 6 ((Syntax.field 2) ∷ List.[]) 16 λ x. Places.struct .as-values x .1
-          .1 .0, (Bool.bLit Bool'.true, (Num.vAt 20 λ x. x, (Num.vAt 10 λ x. x, tt))),) (m36 (c .before .before) (c .before .ledger .given)) (c
-          .raised)
+
+      abbrev pub After-raised·gave : (c : After-raised) → s45 (c .before .before .before .before .before .before
+          .before .before .before .before .before .before .before .before .before .before .before .before .before
+          .blocks) .gives (m36 (c .before .before) (c .before .ledger .given))
+      After-raised·gave = λ c. Called.given ps·9 r·9 (claims· .19) T46 (
+        Num.vFld 6 ((Syntax.field 2) ∷ List.[]) 16 λ x. Places.struct .as-values x .1 .1 .0,
+        (Bool.bLit Bool'.true, (Num.vAt 20 λ x. x, (Num.vAt 10 λ x. x, tt))),
+      ) (m36 (c .before .before) (c .before .ledger .given)) (c .raised)
+
       abbrev pub Need-with-ledger-requires : Type 0
-      Need-with-ledger-requires = (c : After-raised) → s46 (c .before .before .before .before .before .before .before .before .before .before .before
-          .before .before .before .before .before .before .before .before .blocks) .asks (m37 (c .before) (After-raised·gave c))
-      abbrev pub m38 : (before : After-raised) → (given : s46 (before .before .before .before .before .before .before .before .before .before .before
-          .before .before .before .before .before .before .before .before .before .blocks) .gives (m37 (before .before) (After-raised·gave before))) →
-          Typed.Mo T49
-      m38 = λ before given. s46 (before .before .before .before .before .before .before .before .before .before .before .before .before .before
-          .before .before .before .before .before .before .blocks) .next (m37 (before .before) (After-raised·gave before)) given
+      Need-with-ledger-requires = (c : After-raised) → s46 (c .before .before .before .before .before .before .before
+          .before .before .before .before .before .before .before .before .before .before .before .before .blocks)
+          .asks (m37 (c .before) (After-raised·gave c))
+
+      abbrev pub m38 : (before : After-raised) → (given : s46 (before .before .before .before .before .before .before
+          .before .before .before .before .before .before .before .before .before .before .before .before .before
+          .blocks) .gives (m37 (before .before) (After-raised·gave before))) → Typed.Mo T49
+      m38 = λ before given. s46 (before .before .before .before .before .before .before .before .before .before .before
+          .before .before .before .before .before .before .before .before .before .blocks) .next
+          (m37 (before .before) (After-raised·gave before)) given
+
       module _ (before· : After-raised) where
         abbrev pub After-with-ledger·own : Type 0
-        After-with-ledger·own = Called.Called ps·10 r·10 (claims· .21) T48 (record { pos = 6; st = List.[]; d = 0; at = λ x. x }, (Num.vAt 21 λ x. x,
-            tt),) (m37 (before· .before) (After-raised·gave before·))
+        After-with-ledger·own = Called.Called ps·10 r·10 (claims· .21) T48 (
+          record { pos = 6; st = List.[]; d = 0; at = λ x. x },
+          (Num.vAt 21 λ x. x, tt),
+        ) (m37 (before· .before) (After-raised·gave before·))
+
       pub record After-with-ledger : Type 0 where
         pub before : After-raised
         pub with-ledger : After-with-ledger·own before
-      abbrev pub After-with-ledger·gave : (c : After-with-ledger) → s46 (c .before .before .before .before .before .before .before .before .before
-          .before .before .before .before .before .before .before .before .before .before .before .blocks) .gives (m37 (c .before .before)
-          (After-raised·gave (c .before)))
-      After-with-ledger·gave = λ c. Called.given ps·10 r·10 (claims· .21) T48 (record { pos = 6; st = List.[]; d = 0; at = λ x. x }, (Num.vAt 21 λ x.
-          x, tt),) (m37 (c .before .before) (After-raised·gave (c .before))) (c .with-ledger)
-      abbrev pub m39 : (before : After-raised) → (given : s46 (before .before .before .before .before .before .before .before .before .before .before
-          .before .before .before .before .before .before .before .before .before .blocks) .gives (m37 (before .before) (After-raised·gave before))) →
-          Typed.Mo T50
-      m39 = λ before given. s47 (before .before .before .before .before .before .before .before .before .before .before .before .before .before
-          .before .before .before .before .before .before .blocks) (m38 before given)
-      abbrev pub m40 : (before : After-with-ledger) → (given : s49 (before .before .before .before .before .before .before .before .before .before
-          .before .before .before .before .before .before .before .before .before .before .before .blocks) .gives (m39 (before .before)
-          (After-with-ledger·gave before))) → Typed.Mo T52
-      m40 = λ before given. s49 (before .before .before .before .before .before .before .before .before .before .before .before .before .before
-          .before .before .before .before .before .before .before .blocks) .next (m39 (before .before) (After-with-ledger·gave before)) given
-      abbrev pub m41 : (before : After-with-ledger) → (given : s49 (before .before .before .before .before .before .before .before .before .before
-          .before .before .before .before .before .before .before .before .before .before .before .blocks) .gives (m39 (before .before)
-          (After-with-ledger·gave before))) → Typed.Mo T53
-      m41 = λ before given. s50 (before .before .before .before .before .before .before .before .before .before .before .before .before .before
-          .before .before .before .before .before .before .before .blocks) .next (m40 before given)
+
+      abbrev pub After-with-ledger·gave : (c : After-with-ledger) → s46 (c .before .before .before .before .before
+          .before .before .before .before .before .before .before .before .before .before .before .before .before
+          .before .before .blocks) .gives (m37 (c .before .before) (After-raised·gave (c .before)))
+      After-with-ledger·gave = λ c. Called.given ps·10 r·10 (claims· .21) T48 (
+        record { pos = 6; st = List.[]; d = 0; at = λ x. x },
+        (Num.vAt 21 λ x. x, tt),
+      ) (m37 (c .before .before) (After-raised·gave (c .before))) (c .with-ledger)
+
+      abbrev pub m39 : (before : After-raised) → (given : s46 (before .before .before .before .before .before .before
+          .before .before .before .before .before .before .before .before .before .before .before .before .before
+          .blocks) .gives (m37 (before .before) (After-raised·gave before))) → Typed.Mo T50
+      m39 = λ before given. s47 (before .before .before .before .before .before .before .before .before .before .before
+          .before .before .before .before .before .before .before .before .before .blocks) (m38 before given)
+
+      abbrev pub m40 : (before : After-with-ledger) → (given : s49 (before .before .before .before .before .before
+          .before .before .before .before .before .before .before .before .before .before .before .before .before
+          .before .before .blocks) .gives (m39 (before .before) (After-with-ledger·gave before))) → Typed.Mo T52
+      m40 = λ before given. s49 (before .before .before .before .before .before .before .before .before .before .before
+          .before .before .before .before .before .before .before .before .before .before .blocks) .next
+          (m39 (before .before) (After-with-ledger·gave before)) given
+
+      abbrev pub m41 : (before : After-with-ledger) → (given : s49 (before .before .before .before .before .before
+          .before .before .before .before .before .before .before .before .before .before .before .before .before
+          .before .before .blocks) .gives (m39 (before .before) (After-with-ledger·gave before))) → Typed.Mo T53
+      m41 = λ before given. s50 (before .before .before .before .before .before .before .before .before .before .before
+          .before .before .before .before .before .before .before .before .before .before .blocks) .next
+          (m40 before given)
+
       module _ (before· : After-with-ledger) where
         pub record After-open-booked-arg·own : Type 0 where
-          pub given : s49 (before· .before .before .before .before .before .before .before .before .before .before .before .before .before .before
-              .before .before .before .before .before .before .blocks) .gives (m39 (before· .before) (After-with-ledger·gave before·))
+          pub given : s49 (before· .before .before .before .before .before .before .before .before .before .before
+              .before .before .before .before .before .before .before .before .before .before .blocks) .gives
+              (m39 (before· .before) (After-with-ledger·gave before·))
+
       pub record After-open-booked-arg : Type 0 where
         pub before : After-with-ledger
         pub open-booked-arg : After-open-booked-arg·own before
-      abbrev pub m42 : (before : After-open-booked-arg) → (given : s52 (before .before .before .before .before .before .before .before .before .before
-          .before .before .before .before .before .before .before .before .before .before .before .before .blocks) .gives (m41 (before .before)
-          (before .open-booked-arg .given))) → Typed.Mo T55
-      m42 = λ before given. s52 (before .before .before .before .before .before .before .before .before .before .before .before .before .before
-          .before .before .before .before .before .before .before .before .blocks) .next (m41 (before .before) (before .open-booked-arg .given)) given
-      abbrev pub m43 : (before : After-open-booked-arg) → (given : s52 (before .before .before .before .before .before .before .before .before .before
-          .before .before .before .before .before .before .before .before .before .before .before .before .blocks) .gives (m41 (before .before)
-          (before .open-booked-arg .given))) → Typed.Mo T56
-      m43 = λ before given. s53 (before .before .before .before .before .before .before .before .before .before .before .before .before .before
-          .before .before .before .before .before .before .before .before .blocks) .next (m42 before given)
+
+      abbrev pub m42 : (before : After-open-booked-arg) → (given : s52 (before .before .before .before .before .before
+          .before .before .before .before .before .before .before .before .before .before .before .before .before
+          .before .before .before .blocks) .gives (m41 (before .before) (before .open-booked-arg .given))) → Typed.Mo
+          T55
+      m42 = λ before given. s52 (before .before .before .before .before .before .before .before .before .before .before
+          .before .before .before .before .before .before .before .before .before .before .before .blocks) .next
+          (m41 (before .before) (before .open-booked-arg .given)) given
+
+      abbrev pub m43 : (before : After-open-booked-arg) → (given : s52 (before .before .before .before .before .before
+          .before .before .before .before .before .before .before .before .before .before .before .before .before
+          .before .before .before .blocks) .gives (m41 (before .before) (before .open-booked-arg .given))) → Typed.Mo
+          T56
+      m43 = λ before given. s53 (before .before .before .before .before .before .before .before .before .before .before
+          .before .before .before .before .before .before .before .before .before .before .before .blocks) .next
+          (m42 before given)
+
       module _ (before· : After-open-booked-arg) where
         pub record After-open-booked-arg2·own : Type 0 where
-          pub given : s52 (before· .before .before .before .before .before .before .before .before .before .before .before .before .before .before
-              .before .before .before .before .before .before .before .blocks) .gives (m41 (before· .before) (before· .open-booked-arg .given))
+          pub given : s52 (before· .before .before .before .before .before .before .before .before .before .before
+              .before .before .before .before .before .before .before .before .before .before .before .blocks) .gives
+              (m41 (before· .before) (before· .open-booked-arg .given))
+
       pub record After-open-booked-arg2 : Type 0 where
         pub before : After-open-booked-arg
         pub open-booked-arg2 : After-open-booked-arg2·own before
-      abbrev pub m44 : (before : After-open-booked-arg2) → (given : s55 (before .before .before .before .before .before .before .before .before
-          .before .before .before .before .before .before .before .before .before .before .before .before .before .before .blocks) .gives (m43 (before
-          .before) (before .open-booked-arg2 .given))) → Typed.Mo T58
-      m44 = λ before given. s55 (before .before .before .before .before .before .before .before .before .before .before .before .before .before
-          .before .before .before .before .before .before .before .before .before .blocks) .next (m43 (before .before) (before .open-booked-arg2
-          .given)) given
-      abbrev pub m45 : (before : After-open-booked-arg2) → (given : s55 (before .before .before .before .before .before .before .before .before
-          .before .before .before .before .before .before .before .before .before .before .before .before .before .before .blocks) .gives (m43 (before
-          .before) (before .open-booked-arg2 .given))) → Typed.Mo T59
-      m45 = λ before given. s56 (before .before .before .before .before .before .before .before .before .before .before .before .before .before
-          .before .before .before .before .before .before .before .before .before .blocks) .next (m44 before given)
+
+      abbrev pub m44 : (before : After-open-booked-arg2) → (given : s55 (before .before .before .before .before .before
+          .before .before .before .before .before .before .before .before .before .before .before .before .before
+          .before .before .before .before .blocks) .gives (m43 (before .before) (before .open-booked-arg2 .given))) →
+          Typed.Mo T58
+      m44 = λ before given. s55 (before .before .before .before .before .before .before .before .before .before .before
+          .before .before .before .before .before .before .before .before .before .before .before .before .blocks)
+          .next (m43 (before .before) (before .open-booked-arg2 .given)) given
+
+      abbrev pub m45 : (before : After-open-booked-arg2) → (given : s55 (before .before .before .before .before .before
+          .before .before .before .before .before .before .before .before .before .before .before .before .before
+          .before .before .before .before .blocks) .gives (m43 (before .before) (before .open-booked-arg2 .given))) →
+          Typed.Mo T59
+      m45 = λ before given. s56 (before .before .before .before .before .before .before .before .before .before .before
+          .before .before .before .before .before .before .before .before .before .before .before .before .blocks)
+          .next (m44 before given)
+
       module _ (before· : After-open-booked-arg2) where
         pub record After-open-booked-arg3·own : Type 0 where
-          pub given : s55 (before· .before .before .before .before .before .before .before .before .before .before .before .before .before .before
-              .before .before .before .before .before .before .before .before .blocks) .gives (m43 (before· .before) (before· .open-booked-arg2
-              .given))
+          pub given : s55 (before· .before .before .before .before .before .before .before .before .before .before
+              .before .before .before .before .before .before .before .before .before .before .before .before .blocks)
+              .gives (m43 (before· .before) (before· .open-booked-arg2 .given))
+
       pub record After-open-booked-arg3 : Type 0 where
         pub before : After-open-booked-arg2
         pub open-booked-arg3 : After-open-booked-arg3·own before
+
       abbrev pub Need-open-booked-requires : Type 0
-      Need-open-booked-requires = (c : After-open-booked-arg3) → s57 (c .before .before .before .before .before .before .before .before .before
-          .before .before .before .before .before .before .before .before .before .before .before .before .before .before .blocks) .asks (m45 (c
-          .before) (c .open-booked-arg3 .given))
-      abbrev pub m46 : (before : After-open-booked-arg3) → (given : s57 (before .before .before .before .before .before .before .before .before
-          .before .before .before .before .before .before .before .before .before .before .before .before .before .before .before .blocks) .gives (m45
-          (before .before) (before .open-booked-arg3 .given))) → Typed.Mo T60
-      m46 = λ before given. s57 (before .before .before .before .before .before .before .before .before .before .before .before .before .before
-          .before .before .before .before .before .before .before .before .before .before .blocks) .next (m45 (before .before) (before
-          .open-booked-arg3 .given)) given
+      Need-open-booked-requires = (c : After-open-booked-arg3) → s57 (c .before .before .before .before .before .before
+          .before .before .before .before .before .before .before .before .before .before .before .before .before
+          .before .before .before .before .blocks) .asks (m45 (c .before) (c .open-booked-arg3 .given))
+
+      abbrev pub m46 : (before : After-open-booked-arg3) → (given : s57 (before .before .before .before .before .before
+          .before .before .before .before .before .before .before .before .before .before .before .before .before
+          .before .before .before .before .before .blocks) .gives
+          (m45 (before .before) (before .open-booked-arg3 .given))) → Typed.Mo T60
+      m46 = λ before given. s57 (before .before .before .before .before .before .before .before .before .before .before
+          .before .before .before .before .before .before .before .before .before .before .before .before .before
+          .blocks) .next (m45 (before .before) (before .open-booked-arg3 .given)) given
+
       module _ (before· : After-open-booked-arg3) where
         abbrev pub After-open-booked·own : Type 0
-        After-open-booked·own = Called.Called ps·11 r·11 (claims· .23) T59 (record { pos = 32; ty = Syntax.tyRef Syntax.erased Syntax.mut
-            RelayPending.to; ref = λ x. x; }, (record { pos = 34; ty = Syntax.tyRef Syntax.erased Syntax.mut InflightAction.to; ref = λ x. x; },
-            (record { pos = 36; ty = Syntax.tyRef Syntax.erased Syntax.mut (Syntax.tyInt Syntax.w32); ref = λ x. x; }, (record { pos = 5; st =
-            List.[]; d = 0; at = λ x. x }, (record { pos = 22; st = List.[]; d = 0; at = λ x. x }, (record { pos = 9; st = List.[]; d = 0; at = λ x. x
-            }, (record { pos = 19; st = List.[]; d = 0; at = λ x. x }, (record { pos = 16; st = List.[]; d = 0; at = λ x. x }, tt),),),),),),),) (m45
-            (before· .before) (before· .open-booked-arg3 .given))
+        After-open-booked·own = Called.Called ps·11 r·11 (claims· .23) T59 (
+          record { pos = 32; ty = ref3; ref = λ x. x },
+          (
+            record { pos = 34; ty = ref4; ref = λ x. x },
+            (
+              record { pos = 36; ty = ref5; ref = λ x. x },
+              (
+                record { pos = 5; st = List.[]; d = 0; at = λ x. x },
+                (
+                  record { pos = 22; st = List.[]; d = 0; at = λ x. x },
+                  (
+                    record { pos = 9; st = List.[]; d = 0; at = λ x. x },
+                    (
+                      record { pos = 19; st = List.[]; d = 0; at = λ x. x },
+                      (record { pos = 16; st = List.[]; d = 0; at = λ x. x }, tt),
+                    ),
+                  ),
+                ),
+              ),
+            ),
+          ),
+        ) (m45 (before· .before) (before· .open-booked-arg3 .given))
+
       pub record After-open-booked : Type 0 where
         pub before : After-open-booked-arg3
         pub open-booked : After-open-booked·own before
-      abbrev pub After-open-booked·gave : (c : After-open-booked) → s57 (c .before .before .before .before .before .before .before .before .before
-          .before .before .before .before .before .before .before .before .before .before .before .before .before .before .before .blocks) .gives (m45
-          (c .before .before) (c .before .open-booked-arg3 .given))
-      After-open-booked·gave = λ c. Called.given ps·11 r·11 (claims· .23) T59 (record { pos = 32; ty = Syntax.tyRef Syntax.erased Syntax.mut
-          RelayPending.to; ref = λ x. x; }, (record { pos = 34; ty = Syntax.tyRef Syntax.erased Syntax.mut InflightAction.to; ref = λ x. x; }, (record
-          { pos = 36; ty = Syntax.tyRef Syntax.erased Syntax.mut (Syntax.tyInt Syntax.w32); ref = λ x. x; }, (record { pos = 5; st = List.[]; d = 0;
-          at = λ x. x }, (record { pos = 22; st = List.[]; d = 0; at = λ x. x }, (record { pos = 9; st = List.[]; d = 0; at = λ x. x }, (record { pos
-          = 19; st = List.[]; d = 0; at = λ x. x }, (record { pos = 16; st = List.[]; d = 0; at = λ x. x }, tt),),),),),),),) (m45 (c .before .before)
-          (c .before .open-booked-arg3 .given)) (c .open-booked)
-      abbrev pub m47 : (before : After-open-booked-arg3) → (given : s57 (before .before .before .before .before .before .before .before .before
-          .before .before .before .before .before .before .before .before .before .before .before .before .before .before .before .blocks) .gives (m45
-          (before .before) (before .open-booked-arg3 .given))) → Typed.Mo T61
-      m47 = λ before given. s58 (before .before .before .before .before .before .before .before .before .before .before .before .before .before
-          .before .before .before .before .before .before .before .before .before .before .blocks) (m46 before given)
-      abbrev pub m48 : (before : After-open-booked-arg3) → (given : s57 (before .before .before .before .before .before .before .before .before
-          .before .before .before .before .before .before .before .before .before .before .before .before .before .before .before .blocks) .gives (m45
-          (before .before) (before .open-booked-arg3 .given))) → Typed.Mo T62
-      m48 = λ before given. s59 (before .before .before .before .before .before .before .before .before .before .before .before .before .before
-          .before .before .before .before .before .before .before .before .before .before .blocks) (m47 before given)
-      abbrev pub m49 : (before : After-open-booked-arg3) → (given : s57 (before .before .before .before .before .before .before .before .before
-          .before .before .before .before .before .before .before .before .before .before .before .before .before .before .before .blocks) .gives (m45
-          (before .before) (before .open-booked-arg3 .given))) → Typed.Mo T63
-      m49 = λ before given. s60 (before .before .before .before .before .before .before .before .before .before .before .before .before .before
-          .before .before .before .before .before .before .before .before .before .before .blocks) (m48 before given)
-      abbrev pub m50 : (before : After-open-booked-arg3) → (given : s57 (before .before .before .before .before .before .before .before .before
-          .before .before .before .before .before .before .before .before .before .before .before .before .before .before .before .blocks) .gives (m45
-          (before .before) (before .open-booked-arg3 .given))) → Typed.Mo T64
-      m50 = λ before given. s61 (before .before .before .before .before .before .before .before .before .before .before .before .before .before
-          .before .before .before .before .before .before .before .before .before .before .blocks) (m49 before given)
-      abbrev pub m51 : (before : After-open-booked-arg3) → (given : s57 (before .before .before .before .before .before .before .before .before
-          .before .before .before .before .before .before .before .before .before .before .before .before .before .before .before .blocks) .gives (m45
-          (before .before) (before .open-booked-arg3 .given))) → Typed.Mo T65
-      m51 = λ before given. s62 (before .before .before .before .before .before .before .before .before .before .before .before .before .before
-          .before .before .before .before .before .before .before .before .before .before .blocks) (m50 before given)
-      abbrev pub m52 : (before : After-open-booked) → (given : s64 (before .before .before .before .before .before .before .before .before .before
-          .before .before .before .before .before .before .before .before .before .before .before .before .before .before .before .blocks) .gives (m51
-          (before .before) (After-open-booked·gave before))) → Typed.Mo T67
-      m52 = λ before given. s64 (before .before .before .before .before .before .before .before .before .before .before .before .before .before
-          .before .before .before .before .before .before .before .before .before .before .before .blocks) .next (m51 (before .before)
-          (After-open-booked·gave before)) given
+
+      abbrev pub After-open-booked·gave : (c : After-open-booked) → s57 (c .before .before .before .before .before
+          .before .before .before .before .before .before .before .before .before .before .before .before .before
+          .before .before .before .before .before .before .blocks) .gives (m45 (c .before .before)
+          (c .before .open-booked-arg3 .given))
+      After-open-booked·gave = λ c. Called.given ps·11 r·11 (claims· .23) T59 (
+        record { pos = 32; ty = ref3; ref = λ x. x },
+        (
+          record { pos = 34; ty = ref4; ref = λ x. x },
+          (
+            record { pos = 36; ty = ref5; ref = λ x. x },
+            (
+              record { pos = 5; st = List.[]; d = 0; at = λ x. x },
+              (
+                record { pos = 22; st = List.[]; d = 0; at = λ x. x },
+                (
+                  record { pos = 9; st = List.[]; d = 0; at = λ x. x },
+                  (
+                    record { pos = 19; st = List.[]; d = 0; at = λ x. x },
+                    (record { pos = 16; st = List.[]; d = 0; at = λ x. x }, tt),
+                  ),
+                ),
+              ),
+            ),
+          ),
+        ),
+      ) (m45 (c .before .before) (c .before .open-booked-arg3 .given)) (c .open-booked)
+
+      abbrev pub m47 : (before : After-open-booked-arg3) → (given : s57 (before .before .before .before .before .before
+          .before .before .before .before .before .before .before .before .before .before .before .before .before
+          .before .before .before .before .before .blocks) .gives
+          (m45 (before .before) (before .open-booked-arg3 .given))) → Typed.Mo T61
+      m47 = λ before given. s58 (before .before .before .before .before .before .before .before .before .before .before
+          .before .before .before .before .before .before .before .before .before .before .before .before .before
+          .blocks) (m46 before given)
+
+      abbrev pub m48 : (before : After-open-booked-arg3) → (given : s57 (before .before .before .before .before .before
+          .before .before .before .before .before .before .before .before .before .before .before .before .before
+          .before .before .before .before .before .blocks) .gives
+          (m45 (before .before) (before .open-booked-arg3 .given))) → Typed.Mo T62
+      m48 = λ before given. s59 (before .before .before .before .before .before .before .before .before .before .before
+          .before .before .before .before .before .before .before .before .before .before .before .before .before
+          .blocks) (m47 before given)
+
+      abbrev pub m49 : (before : After-open-booked-arg3) → (given : s57 (before .before .before .before .before .before
+          .before .before .before .before .before .before .before .before .before .before .before .before .before
+          .before .before .before .before .before .blocks) .gives
+          (m45 (before .before) (before .open-booked-arg3 .given))) → Typed.Mo T63
+      m49 = λ before given. s60 (before .before .before .before .before .before .before .before .before .before .before
+          .before .before .before .before .before .before .before .before .before .before .before .before .before
+          .blocks) (m48 before given)
+
+      abbrev pub m50 : (before : After-open-booked-arg3) → (given : s57 (before .before .before .before .before .before
+          .before .before .before .before .before .before .before .before .before .before .before .before .before
+          .before .before .before .before .before .blocks) .gives
+          (m45 (before .before) (before .open-booked-arg3 .given))) → Typed.Mo T64
+      m50 = λ before given. s61 (before .before .before .before .before .before .before .before .before .before .before
+          .before .before .before .before .before .before .before .before .before .before .before .before .before
+          .blocks) (m49 before given)
+
+      abbrev pub m51 : (before : After-open-booked-arg3) → (given : s57 (before .before .before .before .before .before
+          .before .before .before .before .before .before .before .before .before .before .before .before .before
+          .before .before .before .before .before .blocks) .gives
+          (m45 (before .before) (before .open-booked-arg3 .given))) → Typed.Mo T65
+      m51 = λ before given. s62 (before .before .before .before .before .before .before .before .before .before .before
+          .before .before .before .before .before .before .before .before .before .before .before .before .before
+          .blocks) (m50 before given)
+
+      abbrev pub m52 : (before : After-open-booked) → (given : s64 (before .before .before .before .before .before
+          .before .before .before .before .before .before .before .before .before .before .before .before .before
+          .before .before .before .before .before .before .blocks) .gives
+          (m51 (before .before) (After-open-booked·gave before))) → Typed.Mo T67
+      m52 = λ before given. s64 (before .before .before .before .before .before .before .before .before .before .before
+          .before .before .before .before .before .before .before .before .before .before .before .before .before
+          .before .blocks) .next (m51 (before .before) (After-open-booked·gave before)) given
+
       module _ (before· : After-open-booked) where
         pub record After-pending·own : Type 0 where
-          pub given : s64 (before· .before .before .before .before .before .before .before .before .before .before .before .before .before .before
-              .before .before .before .before .before .before .before .before .before .before .blocks) .gives (m51 (before· .before)
-              (After-open-booked·gave before·))
+          pub given : s64 (before· .before .before .before .before .before .before .before .before .before .before
+              .before .before .before .before .before .before .before .before .before .before .before .before .before
+              .before .blocks) .gives (m51 (before· .before) (After-open-booked·gave before·))
+
       pub record After-pending : Type 0 where
         pub before : After-open-booked
         pub pending : After-pending·own before
-      abbrev pub m53 : (before : After-pending) → (given : s67 (before .before .before .before .before .before .before .before .before .before .before
-          .before .before .before .before .before .before .before .before .before .before .before .before .before .before .before .blocks) .gives (m52
-          (before .before) (before .pending .given))) → Typed.Mo T70
-      m53 = λ before given. s67 (before .before .before .before .before .before .before .before .before .before .before .before .before .before
-          .before .before .before .before .before .before .before .before .before .before .before .before .blocks) .next (m52 (before .before) (before
-          .pending .given)) given
+
+      abbrev pub m53 : (before : After-pending) → (given : s67 (before .before .before .before .before .before .before
+          .before .before .before .before .before .before .before .before .before .before .before .before .before
+          .before .before .before .before .before .before .blocks) .gives
+          (m52 (before .before) (before .pending .given))) → Typed.Mo T70
+      m53 = λ before given. s67 (before .before .before .before .before .before .before .before .before .before .before
+          .before .before .before .before .before .before .before .before .before .before .before .before .before
+          .before .before .blocks) .next (m52 (before .before) (before .pending .given)) given
+
       module _ (before· : After-pending) where
         pub record After-inflight·own : Type 0 where
-          pub given : s67 (before· .before .before .before .before .before .before .before .before .before .before .before .before .before .before
-              .before .before .before .before .before .before .before .before .before .before .before .blocks) .gives (m52 (before· .before) (before·
-              .pending .given))
+          pub given : s67 (before· .before .before .before .before .before .before .before .before .before .before
+              .before .before .before .before .before .before .before .before .before .before .before .before .before
+              .before .before .blocks) .gives (m52 (before· .before) (before· .pending .given))
+
       pub record After-inflight : Type 0 where
         pub before : After-pending
         pub inflight : After-inflight·own before
-      abbrev pub m54 : (before : After-inflight) → (given : s70 (before .before .before .before .before .before .before .before .before .before
-          .before .before .before .before .before .before .before .before .before .before .before .before .before .before .before .before .before
-          .blocks) .gives (m53 (before .before) (before .inflight .given))) → Typed.Mo T73
-      m54 = λ before given. s70 (before .before .before .before .before .before .before .before .before .before .before .before .before .before
-          .before .before .before .before .before .before .before .before .before .before .before .before .before .blocks) .next (m53 (before .before)
-          (before .inflight .given)) given
+
+      abbrev pub m54 : (before : After-inflight) → (given : s70 (before .before .before .before .before .before .before
+          .before .before .before .before .before .before .before .before .before .before .before .before .before
+          .before .before .before .before .before .before .before .blocks) .gives
+          (m53 (before .before) (before .inflight .given))) → Typed.Mo T73
+      m54 = λ before given. s70 (before .before .before .before .before .before .before .before .before .before .before
+          .before .before .before .before .before .before .before .before .before .before .before .before .before
+          .before .before .before .blocks) .next (m53 (before .before) (before .inflight .given)) given
+
       module _ (before· : After-inflight) where
         pub record After-out·own : Type 0 where
-          pub given : s70 (before· .before .before .before .before .before .before .before .before .before .before .before .before .before .before
-              .before .before .before .before .before .before .before .before .before .before .before .before .blocks) .gives (m53 (before· .before)
-              (before· .inflight .given))
+          pub given : s70 (before· .before .before .before .before .before .before .before .before .before .before
+              .before .before .before .before .before .before .before .before .before .before .before .before .before
+              .before .before .before .blocks) .gives (m53 (before· .before) (before· .inflight .given))
+
       pub record After-out : Type 0 where
         pub before : After-inflight
         pub out : After-out·own before
-      abbrev pub m55 : (before : After-out) → (given : s71 (before .before .before .before .before .before .before .before .before .before .before
-          .before .before .before .before .before .before .before .before .before .before .before .before .before .before .before .before .before
-          .blocks) .gives (m54 (before .before) (before .out .given))) → Typed.Mo T74
-      m55 = λ before given. s71 (before .before .before .before .before .before .before .before .before .before .before .before .before .before
-          .before .before .before .before .before .before .before .before .before .before .before .before .before .before .blocks) .next (m54 (before
-          .before) (before .out .given)) given
-      abbrev pub m56 : (before : After-out) → (given : s71 (before .before .before .before .before .before .before .before .before .before .before
-          .before .before .before .before .before .before .before .before .before .before .before .before .before .before .before .before .before
-          .blocks) .gives (m54 (before .before) (before .out .given))) → Typed.Mo T76
-      m56 = λ before given. s73 (before .before .before .before .before .before .before .before .before .before .before .before .before .before
-          .before .before .before .before .before .before .before .before .before .before .before .before .before .before .blocks) (m55 before given)
-      abbrev pub m57 : (before : After-out) → (given : s71 (before .before .before .before .before .before .before .before .before .before .before
-          .before .before .before .before .before .before .before .before .before .before .before .before .before .before .before .before .before
-          .blocks) .gives (m54 (before .before) (before .out .given))) → Typed.Mo T77
-      m57 = λ before given. s74 (before .before .before .before .before .before .before .before .before .before .before .before .before .before
-          .before .before .before .before .before .before .before .before .before .before .before .before .before .before .blocks) (m56 before given)
-      abbrev pub m58 : (before : After-out) → (given : s71 (before .before .before .before .before .before .before .before .before .before .before
-          .before .before .before .before .before .before .before .before .before .before .before .before .before .before .before .before .before
-          .blocks) .gives (m54 (before .before) (before .out .given))) → Typed.Mo T78
-      m58 = λ before given. s75 (before .before .before .before .before .before .before .before .before .before .before .before .before .before
-          .before .before .before .before .before .before .before .before .before .before .before .before .before .before .blocks) (m57 before given)
+
+      abbrev pub m55 : (before : After-out) → (given : s71 (before .before .before .before .before .before .before
+          .before .before .before .before .before .before .before .before .before .before .before .before .before
+          .before .before .before .before .before .before .before .before .blocks) .gives
+          (m54 (before .before) (before .out .given))) → Typed.Mo T74
+      m55 = λ before given. s71 (before .before .before .before .before .before .before .before .before .before .before
+          .before .before .before .before .before .before .before .before .before .before .before .before .before
+          .before .before .before .before .blocks) .next (m54 (before .before) (before .out .given)) given
+
+      abbrev pub m56 : (before : After-out) → (given : s71 (before .before .before .before .before .before .before
+          .before .before .before .before .before .before .before .before .before .before .before .before .before
+          .before .before .before .before .before .before .before .before .blocks) .gives
+          (m54 (before .before) (before .out .given))) → Typed.Mo T76
+      m56 = λ before given. s73 (before .before .before .before .before .before .before .before .before .before .before
+          .before .before .before .before .before .before .before .before .before .before .before .before .before
+          .before .before .before .before .blocks) (m55 before given)
+
+      abbrev pub m57 : (before : After-out) → (given : s71 (before .before .before .before .before .before .before
+          .before .before .before .before .before .before .before .before .before .before .before .before .before
+          .before .before .before .before .before .before .before .before .blocks) .gives
+          (m54 (before .before) (before .out .given))) → Typed.Mo T77
+      m57 = λ before given. s74 (before .before .before .before .before .before .before .before .before .before .before
+          .before .before .before .before .before .before .before .before .before .before .before .before .before
+          .before .before .before .before .blocks) (m56 before given)
+
+      abbrev pub m58 : (before : After-out) → (given : s71 (before .before .before .before .before .before .before
+          .before .before .before .before .before .before .before .before .before .before .before .before .before
+          .before .before .before .before .before .before .before .before .blocks) .gives
+          (m54 (before .before) (before .out .given))) → Typed.Mo T78
+      m58 = λ before given. s75 (before .before .before .before .before .before .before .before .before .before .before
+          .before .before .before .before .before .before .before .before .before .before .before .before .before
+          .before .before .before .before .blocks) (m57 before given)
+
       module _ (before· : After-out) where
         pub record After-slice-known2·own : Type 0 where
-          pub given : s71 (before· .before .before .before .before .before .before .before .before .before .before .before .before .before .before
-              .before .before .before .before .before .before .before .before .before .before .before .before .before .blocks) .gives (m54 (before·
-              .before) (before· .out .given))
+          pub given : s71 (before· .before .before .before .before .before .before .before .before .before .before
+              .before .before .before .before .before .before .before .before .before .before .before .before .before
+              .before .before .before .before .blocks) .gives (m54 (before· .before) (before· .out .given))
+
       pub record After-slice-known2 : Type 0 where
         pub before : After-out
         pub slice-known2 : After-slice-known2·own before
+
       abbrev pub Need-same-length : Type 0
-      Need-same-length = (c : After-slice-known2) → MutSlice.SameLen (Row.get 1 (T78 .locals) (m58 (c .before) (c .slice-known2 .given))) (dens (c
-          .before .before .before .before .before .before .before .before .before .before .before .before .before .before .before .before .before
-          .before .before .before .before .before .before .before .before .before .before .before .κs) (c .before .before .before .before .before
-          .before .before .before .before .before .before .before .before .before .before .before .before .before .before .before .before .before
-          .before .before .before .before .before .before .args) .0)
+      Need-same-length = (c : After-slice-known2) → MutSlice.SameLen (Row.get 1 (T78 .locals)
+          (m58 (c .before) (c .slice-known2 .given))) (dens (c .before .before .before .before .before .before .before
+          .before .before .before .before .before .before .before .before .before .before .before .before .before
+          .before .before .before .before .before .before .before .before .κs) (c .before .before .before .before
+          .before .before .before .before .before .before .before .before .before .before .before .before .before
+          .before .before .before .before .before .before .before .before .before .before .before .args) .0)
+
       abbrev pub Need-same-length-2 : Type 0
-      Need-same-length-2 = (c : After-slice-known2) → MutSlice.SameLen (Row.get 2 (T78 .locals) (m58 (c .before) (c .slice-known2 .given))) (dens (c
-          .before .before .before .before .before .before .before .before .before .before .before .before .before .before .before .before .before
-          .before .before .before .before .before .before .before .before .before .before .before .κs) (c .before .before .before .before .before
-          .before .before .before .before .before .before .before .before .before .before .before .before .before .before .before .before .before
-          .before .before .before .before .before .before .args) .1 .0)
+      Need-same-length-2 = (c : After-slice-known2) → MutSlice.SameLen (Row.get 2 (T78 .locals)
+          (m58 (c .before) (c .slice-known2 .given))) (dens (c .before .before .before .before .before .before .before
+          .before .before .before .before .before .before .before .before .before .before .before .before .before
+          .before .before .before .before .before .before .before .before .κs) (c .before .before .before .before
+          .before .before .before .before .before .before .before .before .before .before .before .before .before
+          .before .before .before .before .before .before .before .before .before .before .before .args) .1 .0)
+
       abbrev pub Need-same-length-3 : Type 0
-      Need-same-length-3 = (c : After-slice-known2) → MutSlice.SameLen (Row.get 3 (T78 .locals) (m58 (c .before) (c .slice-known2 .given))) (dens (c
-          .before .before .before .before .before .before .before .before .before .before .before .before .before .before .before .before .before
-          .before .before .before .before .before .before .before .before .before .before .before .κs) (c .before .before .before .before .before
-          .before .before .before .before .before .before .before .before .before .before .before .before .before .before .before .before .before
-          .before .before .before .before .before .before .args) .1 .1 .0)
+      Need-same-length-3 = (c : After-slice-known2) → MutSlice.SameLen (Row.get 3 (T78 .locals)
+          (m58 (c .before) (c .slice-known2 .given))) (dens (c .before .before .before .before .before .before .before
+          .before .before .before .before .before .before .before .before .before .before .before .before .before
+          .before .before .before .before .before .before .before .before .κs) (c .before .before .before .before
+          .before .before .before .before .before .before .before .before .before .before .before .before .before
+          .before .before .before .before .before .before .before .before .before .before .before .args) .1 .1 .0)
+
       abbrev pub Need-same-length-4 : Type 0
-      Need-same-length-4 = (c : After-slice-known2) → MutSlice.SameLen (Row.get 4 (T78 .locals) (m58 (c .before) (c .slice-known2 .given))) (dens (c
-          .before .before .before .before .before .before .before .before .before .before .before .before .before .before .before .before .before
-          .before .before .before .before .before .before .before .before .before .before .before .κs) (c .before .before .before .before .before
-          .before .before .before .before .before .before .before .before .before .before .before .before .before .before .before .before .before
-          .before .before .before .before .before .before .args) .1 .1 .1 .0)
+      Need-same-length-4 = (c : After-slice-known2) → MutSlice.SameLen (Row.get 4 (T78 .locals)
+          (m58 (c .before) (c .slice-known2 .given))) (dens (c .before .before .before .before .before .before .before
+          .before .before .before .before .before .before .before .before .before .before .before .before .before
+          .before .before .before .before .before .before .before .before .κs) (c .before .before .before .before
+          .before .before .before .before .before .before .before .before .before .before .before .before .before
+          .before .before .before .before .before .before .before .before .before .before .before .args) .1 .1 .1 .0)
+
       abbrev pub Need-returns : Type 0
-      Need-returns = (c : After-slice-known2) → Post· (c .before .before .before .before .before .before .before .before .before .before .before
-          .before .before .before .before .before .before .before .before .before .before .before .before .before .before .before .before .before .κs)
-          (dens (c .before .before .before .before .before .before .before .before .before .before .before .before .before .before .before .before
-          .before .before .before .before .before .before .before .before .before .before .before .before .κs) (c .before .before .before .before
-          .before .before .before .before .before .before .before .before .before .before .before .before .before .before .before .before .before
-          .before .before .before .before .before .before .before .args)) (Function.resV r (c .before .before .before .before .before .before .before
-          .before .before .before .before .before .before .before .before .before .before .before .before .before .before .before .before .before
-          .before .before .before .before .κs) (m58 (c .before) (c .slice-known2 .given) .0)) (Clauses.atExit (Kinds.endedOf 4 ps r) (c .before
-          .before .before .before .before .before .before .before .before .before .before .before .before .before .before .before .before .before
-          .before .before .before .before .before .before .before .before .before .before .κs) (dens (c .before .before .before .before .before
-          .before .before .before .before .before .before .before .before .before .before .before .before .before .before .before .before .before
-          .before .before .before .before .before .before .κs) (c .before .before .before .before .before .before .before .before .before .before
-          .before .before .before .before .before .before .before .before .before .before .before .before .before .before .before .before .before
-          .before .args)) (Enter.lastsP (c .before .before .before .before .before .before .before .before .before .before .before .before .before
-          .before .before .before .before .before .before .before .before .before .before .before .before .before .before .before .κs) 1 ps xs (dens
-          (c .before .before .before .before .before .before .before .before .before .before .before .before .before .before .before .before .before
-          .before .before .before .before .before .before .before .before .before .before .before .κs) (c .before .before .before .before .before
-          .before .before .before .before .before .before .before .before .before .before .before .before .before .before .before .before .before
-          .before .before .before .before .before .before .args)) (m58 (c .before) (c .slice-known2 .given) .1)))
+      Need-returns = (c : After-slice-known2) → Post· (c .before .before .before .before .before .before .before
+          .before .before .before .before .before .before .before .before .before .before .before .before .before
+          .before .before .before .before .before .before .before .before .κs) (dens (c .before .before .before .before
+          .before .before .before .before .before .before .before .before .before .before .before .before .before
+          .before .before .before .before .before .before .before .before .before .before .before .κs) (c .before
+          .before .before .before .before .before .before .before .before .before .before .before .before .before
+          .before .before .before .before .before .before .before .before .before .before .before .before .before
+          .before .args)) (Function.resV r (c .before .before .before .before .before .before .before .before .before
+          .before .before .before .before .before .before .before .before .before .before .before .before .before
+          .before .before .before .before .before .before .κs) (m58 (c .before) (c .slice-known2 .given) .0)) (Clauses.atExit
+          (Kinds.endedOf 4 ps r) (c .before .before .before .before .before .before .before .before .before .before
+          .before .before .before .before .before .before .before .before .before .before .before .before .before
+          .before .before .before .before .before .κs) (dens (c .before .before .before .before .before .before .before
+          .before .before .before .before .before .before .before .before .before .before .before .before .before
+          .before .before .before .before .before .before .before .before .κs) (c .before .before .before .before
+          .before .before .before .before .before .before .before .before .before .before .before .before .before
+          .before .before .before .before .before .before .before .before .before .before .before .args)) (Enter.lastsP (c
+          .before .before .before .before .before .before .before .before .before .before .before .before .before
+          .before .before .before .before .before .before .before .before .before .before .before .before .before
+          .before .before .κs) 1 ps xs (dens (c .before .before .before .before .before .before .before .before .before
+          .before .before .before .before .before .before .before .before .before .before .before .before .before
+          .before .before .before .before .before .before .κs) (c .before .before .before .before .before .before
+          .before .before .before .before .before .before .before .before .before .before .before .before .before
+          .before .before .before .before .before .before .before .before .before .args))
+          (m58 (c .before) (c .slice-known2 .given) .1)))
+
       abbrev pub m59 : (before : After-is-taken) → Typed.Mo T79
-      m59 = λ before. s76 (before .before .before .before .before .before .before .before .before .before .before .before .before .blocks) (m25
-          (before .before) (After-is-taken·gave before))
+      m59 = λ before. s76 (before .before .before .before .before .before .before .before .before .before .before
+          .before .before .blocks) (m25 (before .before) (After-is-taken·gave before))
+
       abbrev pub m60 : (before : After-is-taken) → Typed.Mo T80
-      m60 = λ before. s77 (before .before .before .before .before .before .before .before .before .before .before .before .before .blocks) (m59
-          before)
+      m60 = λ before. s77 (before .before .before .before .before .before .before .before .before .before .before
+          .before .before .blocks) (m59 before)
+
       abbrev pub m61 : (before : After-is-taken) → Typed.Mo T81
-      m61 = λ before. s78 (before .before .before .before .before .before .before .before .before .before .before .before .before .blocks) (m60
-          before)
+      m61 = λ before. s78 (before .before .before .before .before .before .before .before .before .before .before
+          .before .before .blocks) (m60 before)
+
       abbrev pub m62 : (before : After-is-taken) → Typed.Mo T82
-      m62 = λ before. s79 (before .before .before .before .before .before .before .before .before .before .before .before .before .blocks) (m61
-          before)
+      m62 = λ before. s79 (before .before .before .before .before .before .before .before .before .before .before
+          .before .before .blocks) (m61 before)
+
       abbrev pub m63 : (before : After-is-taken) → Typed.Mo T83
-      m63 = λ before. s80 (before .before .before .before .before .before .before .before .before .before .before .before .before .blocks) (m62
-          before)
+      m63 = λ before. s80 (before .before .before .before .before .before .before .before .before .before .before
+          .before .before .blocks) (m62 before)
+
       module _ (before· : After-is-taken) where
         pub record Else1·own : Type 0 where
-          pub left : Path._≡_ (Row.get 27 (T32 .locals) (m25 (before· .before) (After-is-taken·gave before·))) Bool'.false
+          pub left : Path._≡_ (Row.get 27 (T32 .locals) (m25 (before· .before) (After-is-taken·gave before·)))
+              Bool'.false
+
       pub record Else1 : Type 0 where
         pub before : After-is-taken
         pub if1 : Else1·own before
+
       abbrev pub Need-refused-requires : Type 0
-      Need-refused-requires = (c : Else1) → s81 (c .before .before .before .before .before .before .before .before .before .before .before .before
-          .before .blocks) .asks (m63 (c .before))
-      abbrev pub m64 : (before : Else1) → (given : s81 (before .before .before .before .before .before .before .before .before .before .before .before
-          .before .before .blocks) .gives (m63 (before .before))) → Typed.Mo T84
-      m64 = λ before given. s81 (before .before .before .before .before .before .before .before .before .before .before .before .before .before
-          .blocks) .next (m63 (before .before)) given
+      Need-refused-requires = (c : Else1) → s81 (c .before .before .before .before .before .before .before .before
+          .before .before .before .before .before .blocks) .asks (m63 (c .before))
+
+      abbrev pub m64 : (before : Else1) → (given : s81 (before .before .before .before .before .before .before .before
+          .before .before .before .before .before .before .blocks) .gives (m63 (before .before))) → Typed.Mo T84
+      m64 = λ before given. s81 (before .before .before .before .before .before .before .before .before .before .before
+          .before .before .before .blocks) .next (m63 (before .before)) given
+
       module _ (before· : Else1) where
         abbrev pub After-refused·own : Type 0
-        After-refused·own = Called.Called ps·12 r·12 (claims· .25) T33 (record { pos = 5; st = List.[]; d = 0; at = λ x. x }, (record { pos = 6; st =
-            List.[]; d = 0; at = λ x. x }, (record { pos = 18; st = List.[]; d = 0; at = λ x. x }, tt),),) (m63 (before· .before))
+        After-refused·own = Called.Called ps·12 r·12 (claims· .25) T33 (
+          record { pos = 5; st = List.[]; d = 0; at = λ x. x },
+          (
+            record { pos = 6; st = List.[]; d = 0; at = λ x. x },
+            (record { pos = 18; st = List.[]; d = 0; at = λ x. x }, tt),
+          ),
+        ) (m63 (before· .before))
+
       pub record After-refused : Type 0 where
         pub before : Else1
         pub refused : After-refused·own before
-      abbrev pub After-refused·gave : (c : After-refused) → s81 (c .before .before .before .before .before .before .before .before .before .before
-          .before .before .before .before .blocks) .gives (m63 (c .before .before))
-      After-refused·gave = λ c. Called.given ps·12 r·12 (claims· .25) T33 (record { pos = 5; st = List.[]; d = 0; at = λ x. x }, (record { pos = 6; st
-          = List.[]; d = 0; at = λ x. x }, (record { pos = 18; st = List.[]; d = 0; at = λ x. x }, tt),),) (m63 (c .before .before)) (c .refused)
-      abbrev pub m65 : (before : Else1) → (given : s81 (before .before .before .before .before .before .before .before .before .before .before .before
-          .before .before .blocks) .gives (m63 (before .before))) → Typed.Mo T85
-      m65 = λ before given. s82 (before .before .before .before .before .before .before .before .before .before .before .before .before .before
-          .blocks) (m64 before given)
-      abbrev pub m66 : (before : Else1) → (given : s81 (before .before .before .before .before .before .before .before .before .before .before .before
-          .before .before .blocks) .gives (m63 (before .before))) → Typed.Mo T86
-      m66 = λ before given. s83 (before .before .before .before .before .before .before .before .before .before .before .before .before .before
-          .blocks) (m65 before given)
-      abbrev pub m67 : (before : Else1) → (given : s81 (before .before .before .before .before .before .before .before .before .before .before .before
-          .before .before .blocks) .gives (m63 (before .before))) → Typed.Mo T87
-      m67 = λ before given. s84 (before .before .before .before .before .before .before .before .before .before .before .before .before .before
-          .blocks) (m66 before given)
-      abbrev pub m68 : (before : Else1) → (given : s81 (before .before .before .before .before .before .before .before .before .before .before .before
-          .before .before .blocks) .gives (m63 (before .before))) → Typed.Mo T88
-      m68 = λ before given. s85 (before .before .before .before .before .before .before .before .before .before .before .before .before .before
-          .blocks) (m67 before given)
+
+      abbrev pub After-refused·gave : (c : After-refused) → s81 (c .before .before .before .before .before .before
+          .before .before .before .before .before .before .before .before .blocks) .gives (m63 (c .before .before))
+      After-refused·gave = λ c. Called.given ps·12 r·12 (claims· .25) T33 (
+        record { pos = 5; st = List.[]; d = 0; at = λ x. x },
+        (
+          record { pos = 6; st = List.[]; d = 0; at = λ x. x },
+          (record { pos = 18; st = List.[]; d = 0; at = λ x. x }, tt),
+        ),
+      ) (m63 (c .before .before)) (c .refused)
+
+      abbrev pub m65 : (before : Else1) → (given : s81 (before .before .before .before .before .before .before .before
+          .before .before .before .before .before .before .blocks) .gives (m63 (before .before))) → Typed.Mo T85
+      m65 = λ before given. s82 (before .before .before .before .before .before .before .before .before .before .before
+          .before .before .before .blocks) (m64 before given)
+
+      abbrev pub m66 : (before : Else1) → (given : s81 (before .before .before .before .before .before .before .before
+          .before .before .before .before .before .before .blocks) .gives (m63 (before .before))) → Typed.Mo T86
+      m66 = λ before given. s83 (before .before .before .before .before .before .before .before .before .before .before
+          .before .before .before .blocks) (m65 before given)
+
+      abbrev pub m67 : (before : Else1) → (given : s81 (before .before .before .before .before .before .before .before
+          .before .before .before .before .before .before .blocks) .gives (m63 (before .before))) → Typed.Mo T87
+      m67 = λ before given. s84 (before .before .before .before .before .before .before .before .before .before .before
+          .before .before .before .blocks) (m66 before given)
+
+      abbrev pub m68 : (before : Else1) → (given : s81 (before .before .before .before .before .before .before .before
+          .before .before .before .before .before .before .blocks) .gives (m63 (before .before))) → Typed.Mo T88
+      m68 = λ before given. s85 (before .before .before .before .before .before .before .before .before .before .before
+          .before .before .before .blocks) (m67 before given)
+
       abbrev pub Need-same-length-5 : Type 0
-      Need-same-length-5 = (c : After-refused) → MutSlice.SameLen (Row.get 2 (T88 .locals) (m68 (c .before) (After-refused·gave c))) (dens (c .before
-          .before .before .before .before .before .before .before .before .before .before .before .before .before .κs) (c .before .before .before
-          .before .before .before .before .before .before .before .before .before .before .before .args) .1 .0)
+      Need-same-length-5 = (c : After-refused) → MutSlice.SameLen (Row.get 2 (T88 .locals)
+          (m68 (c .before) (After-refused·gave c))) (dens (c .before .before .before .before .before .before .before
+          .before .before .before .before .before .before .before .κs) (c .before .before .before .before .before
+          .before .before .before .before .before .before .before .before .before .args) .1 .0)
+
       abbrev pub Need-same-length-6 : Type 0
-      Need-same-length-6 = (c : After-refused) → MutSlice.SameLen (Row.get 3 (T88 .locals) (m68 (c .before) (After-refused·gave c))) (dens (c .before
-          .before .before .before .before .before .before .before .before .before .before .before .before .before .κs) (c .before .before .before
-          .before .before .before .before .before .before .before .before .before .before .before .args) .1 .1 .0)
+      Need-same-length-6 = (c : After-refused) → MutSlice.SameLen (Row.get 3 (T88 .locals)
+          (m68 (c .before) (After-refused·gave c))) (dens (c .before .before .before .before .before .before .before
+          .before .before .before .before .before .before .before .κs) (c .before .before .before .before .before
+          .before .before .before .before .before .before .before .before .before .args) .1 .1 .0)
+
       abbrev pub Need-returns-2 : Type 0
-      Need-returns-2 = (c : After-refused) → Post· (c .before .before .before .before .before .before .before .before .before .before .before .before
-          .before .before .κs) (dens (c .before .before .before .before .before .before .before .before .before .before .before .before .before
-          .before .κs) (c .before .before .before .before .before .before .before .before .before .before .before .before .before .before .args))
-          (Function.resV r (c .before .before .before .before .before .before .before .before .before .before .before .before .before .before .κs)
-          (m68 (c .before) (After-refused·gave c) .0)) (Clauses.atExit (Kinds.endedOf 4 ps r) (c .before .before .before .before .before .before
-          .before .before .before .before .before .before .before .before .κs) (dens (c .before .before .before .before .before .before .before
-          .before .before .before .before .before .before .before .κs) (c .before .before .before .before .before .before .before .before .before
-          .before .before .before .before .before .args)) (Enter.lastsP (c .before .before .before .before .before .before .before .before .before
-          .before .before .before .before .before .κs) 1 ps xs (dens (c .before .before .before .before .before .before .before .before .before
-          .before .before .before .before .before .κs) (c .before .before .before .before .before .before .before .before .before .before .before
-          .before .before .before .args)) (m68 (c .before) (After-refused·gave c) .1)))
-      module _ (incoming-out-requires : Need-incoming-out-requires) (asking-requires : Need-asking-requires) (scan-actions-requires :
-          Need-scan-actions-requires) (scan-ledger-requires : Need-scan-ledger-requires) (placed-rows-requires : Need-placed-rows-requires)
-          (is-taken-requires : Need-is-taken-requires) (booked-usage-requires : Need-booked-usage-requires) (booked-place-requires :
-          Need-booked-place-requires) (set-usage-requires : Need-set-usage-requires) (raised-requires : Need-raised-requires) (with-ledger-requires :
-          Need-with-ledger-requires) (open-booked-requires : Need-open-booked-requires) (same-length : Need-same-length) (same-length-2 :
-          Need-same-length-2) (same-length-3 : Need-same-length-3) (same-length-4 : Need-same-length-4) (returns : Need-returns) (refused-requires :
-          Need-refused-requires) (same-length-5 : Need-same-length-5) (same-length-6 : Need-same-length-6) (returns-2 : Need-returns-2) where
-        lay14 : (c : After-refused) → at57 (c .before .before .before .before .before .before .before .before .before .before .before .before .before
-            .before .blocks) (W0 (c .before .before .before .before .before .before .before .before .before .before .before .before .before .before
-            .κs) (c .before .before .before .before .before .before .before .before .before .before .before .before .before .before .args) (c .before
-            .before .before .before .before .before .before .before .before .before .before .before .before .before .blocks)) (m64 (c .before)
-            (After-refused·gave c))
-        lay14 = λ c. ((Path.refl, (MutSlice.fix-len (Row.get 2 (T88 .locals) (m68 (c .before) (After-refused·gave c)) .ptr) (Row.get 2 (T88 .locals)
-            (m68 (c .before) (After-refused·gave c)) .name) (Row.get 2 (T88 .locals) (m68 (c .before) (After-refused·gave c)) .now) (dens (c .before
-            .before .before .before .before .before .before .before .before .before .before .before .before .before .κs) (c .before .before .before
-            .before .before .before .before .before .before .before .before .before .before .before .args) .1 .0 .now) (same-length-5 record { before
-            = c .before; refused = c .refused }), (MutSlice.fix-len (Row.get 3 (T88 .locals) (m68 (c .before) (After-refused·gave c)) .ptr) (Row.get 3
-            (T88 .locals) (m68 (c .before) (After-refused·gave c)) .name) (Row.get 3 (T88 .locals) (m68 (c .before) (After-refused·gave c)) .now)
-            (dens (c .before .before .before .before .before .before .before .before .before .before .before .before .before .before .κs) (c .before
-            .before .before .before .before .before .before .before .before .before .before .before .before .before .args) .1 .1 .0 .now)
-            (same-length-6 record { before = c .before; refused = c .refused }), (Path.refl, (tt, (tt, (tt, (tt, (tt, tt)))))),),),), returns-2 record
-            { before = c .before; refused = c .refused },)
-        lay13 : (c : Else1) → at58 (c .before .before .before .before .before .before .before .before .before .before .before .before .before .blocks)
-            (W0 (c .before .before .before .before .before .before .before .before .before .before .before .before .before .κs) (c .before .before
-            .before .before .before .before .before .before .before .before .before .before .before .args) (c .before .before .before .before .before
-            .before .before .before .before .before .before .before .before .blocks)) (m63 (c .before))
-        lay13 = λ c. (refused-requires record { before = c .before; if1 = c .if1 }, λ g. lay14 record { before = record { before = c .before; if1 = c
-            .if1 }; refused = Called.called ps·12 r·12 (claims· .25) T33 (record { pos = 5; st = List.[]; d = 0; at = λ x. x }, (record { pos = 6; st
-            = List.[]; d = 0; at = λ x. x }, (record { pos = 18; st = List.[]; d = 0; at = λ x. x }, tt),),) (m63 (c .before)) g; },)
-        lay12 : (c : After-open-booked) → at18 (c .before .before .before .before .before .before .before .before .before .before .before .before
-            .before .before .before .before .before .before .before .before .before .before .before .before .blocks) (W1 (c .before .before .before
-            .before .before .before .before .before .before .before .before .before .before) (After-is-taken·gave (c .before .before .before .before
-            .before .before .before .before .before .before .before .before))) (m46 (c .before) (After-open-booked·gave c))
-        lay12 = λ c. (Path.refl, λ g. (Path.refl, λ g'. (Path.refl, λ g''. λ g'3. ((MutSlice.fix-len (Row.get 1 (T78 .locals) (m58 record { before =
-            record { before = record { before = record { before = c .before; open-booked = c .open-booked }; pending = record { given = g }; };
-            inflight = record { given = g' }; }; out = record { given = g'' }; } g'3) .ptr) (Row.get 1 (T78 .locals) (m58 record { before = record {
-            before = record { before = record { before = c .before; open-booked = c .open-booked }; pending = record { given = g }; }; inflight =
-            record { given = g' }; }; out = record { given = g'' }; } g'3) .name) (Row.get 1 (T78 .locals) (m58 record { before = record { before =
-            record { before = record { before = c .before; open-booked = c .open-booked }; pending = record { given = g }; }; inflight = record {
-            given = g' }; }; out = record { given = g'' }; } g'3) .now) (dens (c .before .before .before .before .before .before .before .before
-            .before .before .before .before .before .before .before .before .before .before .before .before .before .before .before .before .κs) (c
-            .before .before .before .before .before .before .before .before .before .before .before .before .before .before .before .before .before
-            .before .before .before .before .before .before .before .args) .0 .now) (same-length record { before = record { before = record { before =
-            record { before = record { before = c .before; open-booked = c .open-booked; }; pending = record { given = g }; }; inflight = record {
-            given = g' }; }; out = record { given = g'' }; }; slice-known2 = record { given = g'3 }; }), (MutSlice.fix-len (Row.get 2 (T78 .locals)
-            (m58 record { before = record { before = record { before = record { before = c .before; open-booked = c .open-booked }; pending = record {
-            given = g }; }; inflight = record { given = g' }; }; out = record { given = g'' }; } g'3) .ptr) (Row.get 2 (T78 .locals) (m58 record {
-            before = record { before = record { before = record { before = c .before; open-booked = c .open-booked }; pending = record { given = g };
-            }; inflight = record { given = g' }; }; out = record { given = g'' }; } g'3) .name) (Row.get 2 (T78 .locals) (m58 record { before = record
-            { before = record { before = record { before = c .before; open-booked = c .open-booked }; pending = record { given = g }; }; inflight =
-            record { given = g' }; }; out = record { given = g'' }; } g'3) .now) (dens (c .before .before .before .before .before .before .before
-            .before .before .before .before .before .before .before .before .before .before .before .before .before .before .before .before .before
-            .κs) (c .before .before .before .before .before .before .before .before .before .before .before .before .before .before .before .before
-            .before .before .before .before .before .before .before .before .args) .1 .0 .now) (same-length-2 record { before = record { before =
-            record { before = record { before = record { before = c .before; open-booked = c .open-booked; }; pending = record { given = g }; };
-            inflight = record { given = g' }; }; out = record { given = g'' }; }; slice-known2 = record { given = g'3 }; }), (MutSlice.fix-len
-            (Row.get 3 (T78 .locals) (m58 record { before = record { before = record { before = record { before = c .before; open-booked = c
-            .open-booked }; pending = record { given = g }; }; inflight = record { given = g' }; }; out = record { given = g'' }; } g'3) .ptr)
-            (Row.get 3 (T78 .locals) (m58 record { before = record { before = record { before = record { before = c .before; open-booked = c
-            .open-booked }; pending = record { given = g }; }; inflight = record { given = g' }; }; out = record { given = g'' }; } g'3) .name)
-            (Row.get 3 (T78 .locals) (m58 record { before = record { before = record { before = record { before = c .before; open-booked = c
-            .open-booked }; pending = record { given = g }; }; inflight = record { given = g' }; }; out = record { given = g'' }; } g'3) .now) (dens
-            (c .before .before .before .before .before .before .before .before .before .before .before .before .before .before .before .before .before
-            .before .before .before .before .before .before .before .κs) (c .before .before .before .before .before .before .before .before .before
-            .before .before .before .before .before .before .before .before .before .before .before .before .before .before .before .args) .1 .1 .0
-            .now) (same-length-3 record { before = record { before = record { before = record { before = record { before = c .before; open-booked = c
-            .open-booked; }; pending = record { given = g }; }; inflight = record { given = g' }; }; out = record { given = g'' }; }; slice-known2 =
-            record { given = g'3 }; }), (MutSlice.fix-len (Row.get 4 (T78 .locals) (m58 record { before = record { before = record { before = record {
-            before = c .before; open-booked = c .open-booked; }; pending = record { given = g }; }; inflight = record { given = g' }; }; out = record
-            { given = g'' }; } g'3) .ptr) (Row.get 4 (T78 .locals) (m58 record { before = record { before = record { before = record { before = c
-            .before; open-booked = c .open-booked; }; pending = record { given = g }; }; inflight = record { given = g' }; }; out = record { given =
-            g'' }; } g'3) .name) (Row.get 4 (T78 .locals) (m58 record { before = record { before = record { before = record { before = c .before;
-            open-booked = c .open-booked; }; pending = record { given = g }; }; inflight = record { given = g' }; }; out = record { given = g'' }; }
-            g'3) .now) (dens (c .before .before .before .before .before .before .before .before .before .before .before .before .before .before
-            .before .before .before .before .before .before .before .before .before .before .κs) (c .before .before .before .before .before .before
-            .before .before .before .before .before .before .before .before .before .before .before .before .before .before .before .before .before
-            .before .args) .1 .1 .1 .0 .now) (same-length-4 record { before = record { before = record { before = record { before = record { before =
-            c .before; open-booked = c .open-booked; }; pending = record { given = g }; }; inflight = record { given = g' }; }; out = record { given =
-            g'' }; }; slice-known2 = record { given = g'3 }; }), (tt, (tt, (tt, (tt, (tt, tt))))),),),),), returns record { before = record { before =
-            record { before = record { before = record { before = c .before; open-booked = c .open-booked }; pending = record { given = g }; };
-            inflight = record { given = g' }; }; out = record { given = g'' }; }; slice-known2 = record { given = g'3 }; },),),),)
-        lay11 : (c : After-with-ledger) → at29 (c .before .before .before .before .before .before .before .before .before .before .before .before
-            .before .before .before .before .before .before .before .before .blocks) (W1 (c .before .before .before .before .before .before .before
-            .before .before) (After-is-taken·gave (c .before .before .before .before .before .before .before .before))) (m38 (c .before)
-            (After-with-ledger·gave c))
-        lay11 = λ c. λ g. (Path.refl, λ g'. (Path.refl, λ g''. (Path.refl, (open-booked-requires record { before = record { before = record { before =
-            record { before = c .before; with-ledger = c .with-ledger }; open-booked-arg = record { given = g }; }; open-booked-arg2 = record { given
-            = g' }; }; open-booked-arg3 = record { given = g'' }; }, λ g'3. lay12 record { before = record { before = record { before = record {
-            before = record { before = c .before; with-ledger = c .with-ledger }; open-booked-arg = record { given = g }; }; open-booked-arg2 = record
-            { given = g' }; }; open-booked-arg3 = record { given = g'' }; }; open-booked = Called.called ps·11 r·11 (claims· .23) T59 (record { pos =
-            32; ty = Syntax.tyRef Syntax.erased Syntax.mut RelayPending.to; ref = λ x. x; }, (record { pos = 34; ty = Syntax.tyRef Syntax.erased
-            Syntax.mut InflightAction.to; ref = λ x. x; }, (record { pos = 36; ty = Syntax.tyRef Syntax.erased Syntax.mut (Syntax.tyInt Syntax.w32);
-            ref = λ x. x; }, (record { pos = 5; st = List.[]; d = 0; at = λ x. x }, (record { pos = 22; st = List.[]; d = 0; at = λ x. x }, (record {
-            pos = 9; st = List.[]; d = 0; at = λ x. x }, (record { pos = 19; st = List.[]; d = 0; at = λ x. x }, (record { pos = 16; st = List.[]; d =
-            0; at = λ x. x }, tt),),),),),),),) (m45 record { before = record { before = record { before = c .before; with-ledger = c .with-ledger };
-            open-booked-arg = record { given = g }; }; open-booked-arg2 = record { given = g' }; } g'') g'3; },),),),)
-        lay10 : (c : After-raised) → at30 (c .before .before .before .before .before .before .before .before .before .before .before .before .before
-            .before .before .before .before .before .before .blocks) (W1 (c .before .before .before .before .before .before .before .before)
-            (After-is-taken·gave (c .before .before .before .before .before .before .before))) (m37 (c .before) (After-raised·gave c))
-        lay10 = λ c. (with-ledger-requires record { before = c .before; raised = c .raised }, λ g. lay11 record { before = record { before = c
-            .before; raised = c .raised }; with-ledger = Called.called ps·10 r·10 (claims· .21) T48 (record { pos = 6; st = List.[]; d = 0; at = λ x.
-            x }, (Num.vAt 21 λ x. x, tt),) (m37 (c .before) (After-raised·gave c)) g; },)
-        lay9 : (c : After-set-usage) → at35 (c .before .before .before .before .before .before .before .before .before .before .before .before .before
-            .before .before .before .before .blocks) (W1 (c .before .before .before .before .before .before) (After-is-taken·gave (c .before .before
-            .before .before .before))) (m34 (c .before) (After-set-usage·gave c))
-        lay9 = λ c. (Path.refl, λ g. (raised-requires record { before = record { before = c .before; set-usage = c .set-usage }; ledger = record {
-            given = g }; }, λ g'. lay10 record { before = record { before = record { before = c .before; set-usage = c .set-usage }; ledger = record {
-            given = g }; }; raised = Called.called ps·9 r·9 (claims· .19) T46 (Num.vFld 6 ((Syntax.field 2) ∷ List.[]) 16 λ x. Places.struct
-            .as-values x .1 .1 .0, (Bool.bLit Bool'.true, (Num.vAt 20 λ x. x, (Num.vAt 10 λ x. x, tt))),) (m36 record { before = c .before; set-usage
-            = c .set-usage } g) g'; },),)
-        lay8 : (c : After-booked-place) → at40 (c .before .before .before .before .before .before .before .before .before .before .before .before
-            .before .before .before .blocks) (W1 (c .before .before .before .before) (After-is-taken·gave (c .before .before .before))) (m30 (c
-            .before) (After-booked-place·gave c))
-        lay8 = λ c. λ g. (Path.refl, (set-usage-requires record { before = record { before = c .before; booked-place = c .booked-place };
-            set-usage-arg = record { given = g }; }, λ g'. lay9 record { before = record { before = record { before = c .before; booked-place = c
-            .booked-place }; set-usage-arg = record { given = g }; }; set-usage = Called.called ps·8 r·8 (claims· .17) T42 (record { pos = 30; ty =
-            Syntax.tyRef Syntax.erased Syntax.mut ReservationUsage.to; ref = λ x. x; }, (Bool.bLit Bool'.true, (Num.vAt 20 λ x. x, (record { pos = 19;
-            st = List.[]; d = 0; at = λ x. x }, tt),),),) (m33 record { before = c .before; booked-place = c .booked-place } g) g'; },),)
-        lay7 : (c : After-booked-usage) → at42 (c .before .before .before .before .before .before .before .before .before .before .before .before
-            .before .before .blocks) (W1 (c .before .before .before) (After-is-taken·gave (c .before .before))) (m28 (c .before)
-            (After-booked-usage·gave c))
-        lay7 = λ c. (booked-place-requires record { before = c .before; booked-usage = c .booked-usage }, λ g. lay8 record { before = record { before
-            = c .before; booked-usage = c .booked-usage }; booked-place = Called.called ps·7 r·7 (claims· .15) T37 (record { pos = 17; st = List.[]; d
-            = 0; at = λ x. x }, tt,) (m29 (c .before) (After-booked-usage·gave c)) g; },)
-        lay6 : (c : After-is-taken) → at59 (c .before .before .before .before .before .before .before .before .before .before .before .before .blocks)
-            (W0 (c .before .before .before .before .before .before .before .before .before .before .before .before .κs) (c .before .before .before
-            .before .before .before .before .before .before .before .before .before .args) (c .before .before .before .before .before .before .before
-            .before .before .before .before .before .blocks)) (m25 (c .before) (After-is-taken·gave c))
-        lay6 = λ c. (λ taken. (booked-usage-requires record { before = record { before = c .before; is-taken = c .is-taken }; if1 = record { taken =
-            taken }; }, λ g. lay7 record { before = record { before = record { before = c .before; is-taken = c .is-taken }; if1 = record { taken =
-            taken }; }; booked-usage = Called.called ps·6 r·6 (claims· .13) T35 (record { pos = 17; st = List.[]; d = 0; at = λ x. x }, (record { pos
-            = 12; st = List.[]; d = 0; at = λ x. x }, tt),) (m27 record { before = c .before; is-taken = c .is-taken }) g; },), λ left. lay13 record {
-            before = record { before = c .before; is-taken = c .is-taken }; if1 = record { left = left }; },)
-        lay5 : (c : After-placed-rows) → at63 (c .before .before .before .before .before .before .before .before .before .before .before .blocks) (W0
-            (c .before .before .before .before .before .before .before .before .before .before .before .κs) (c .before .before .before .before .before
-            .before .before .before .before .before .before .args) (c .before .before .before .before .before .before .before .before .before .before
+      Need-returns-2 = (c : After-refused) → Post· (c .before .before .before .before .before .before .before .before
+          .before .before .before .before .before .before .κs) (dens (c .before .before .before .before .before .before
+          .before .before .before .before .before .before .before .before .κs) (c .before .before .before .before
+          .before .before .before .before .before .before .before .before .before .before .args)) (Function.resV r (c
+          .before .before .before .before .before .before .before .before .before .before .before .before .before
+          .before .κs) (m68 (c .before) (After-refused·gave c) .0)) (Clauses.atExit (Kinds.endedOf 4 ps r) (c .before
+          .before .before .before .before .before .before .before .before .before .before .before .before .before .κs) (dens (c
+          .before .before .before .before .before .before .before .before .before .before .before .before .before
+          .before .κs) (c .before .before .before .before .before .before .before .before .before .before .before
+          .before .before .before .args)) (Enter.lastsP (c .before .before .before .before .before .before .before
+          .before .before .before .before .before .before .before .κs) 1 ps xs (dens (c .before .before .before .before
+          .before .before .before .before .before .before .before .before .before .before .κs) (c .before .before
+          .before .before .before .before .before .before .before .before .before .before .before .before .args))
+          (m68 (c .before) (After-refused·gave c) .1)))
+
+      module _ (incoming-out-requires : Need-incoming-out-requires) (asking-requires : Need-asking-requires)
+          (scan-actions-requires : Need-scan-actions-requires) (scan-ledger-requires : Need-scan-ledger-requires)
+          (placed-rows-requires : Need-placed-rows-requires) (is-taken-requires : Need-is-taken-requires)
+          (booked-usage-requires : Need-booked-usage-requires) (booked-place-requires : Need-booked-place-requires)
+          (set-usage-requires : Need-set-usage-requires) (raised-requires : Need-raised-requires)
+          (with-ledger-requires : Need-with-ledger-requires) (open-booked-requires : Need-open-booked-requires)
+          (same-length : Need-same-length) (same-length-2 : Need-same-length-2) (same-length-3 : Need-same-length-3)
+          (same-length-4 : Need-same-length-4) (returns : Need-returns) (refused-requires : Need-refused-requires)
+          (same-length-5 : Need-same-length-5) (same-length-6 : Need-same-length-6) (returns-2 : Need-returns-2) where
+        lay14 : (c : After-refused) → at57 (c .before .before .before .before .before .before .before .before .before
+            .before .before .before .before .before .blocks) (W0 (c .before .before .before .before .before .before
+            .before .before .before .before .before .before .before .before .κs) (c .before .before .before .before
+            .before .before .before .before .before .before .before .before .before .before .args) (c .before .before
+            .before .before .before .before .before .before .before .before .before .before .before .before .blocks))
+            (m64 (c .before) (After-refused·gave c))
+        lay14 = λ c. (
+          (
+            Path.refl,
+            (
+              MutSlice.fix-len (Row.get 2 (T88 .locals) (m68 (c .before) (After-refused·gave c)) .ptr) (Row.get 2
+                  (T88 .locals) (m68 (c .before) (After-refused·gave c)) .name) (Row.get 2 (T88 .locals)
+                  (m68 (c .before) (After-refused·gave c)) .now) (dens (c .before .before .before .before .before
+                  .before .before .before .before .before .before .before .before .before .κs) (c .before .before
+                  .before .before .before .before .before .before .before .before .before .before .before .before .args)
+                  .1 .0 .now) (same-length-5 record { before = c .before; refused = c .refused }),
+              (
+                MutSlice.fix-len (Row.get 3 (T88 .locals) (m68 (c .before) (After-refused·gave c)) .ptr) (Row.get 3
+                    (T88 .locals) (m68 (c .before) (After-refused·gave c)) .name) (Row.get 3 (T88 .locals)
+                    (m68 (c .before) (After-refused·gave c)) .now) (dens (c .before .before .before .before .before
+                    .before .before .before .before .before .before .before .before .before .κs) (c .before .before
+                    .before .before .before .before .before .before .before .before .before .before .before .before
+                    .args) .1 .1 .0 .now) (same-length-6 record { before = c .before; refused = c .refused }),
+                (Path.refl, (tt, (tt, (tt, (tt, (tt, tt)))))),
+              ),
+            ),
+          ),
+          returns-2 record { before = c .before; refused = c .refused },
+        )
+
+        lay13 : (c : Else1) → at58 (c .before .before .before .before .before .before .before .before .before .before
+            .before .before .before .blocks) (W0 (c .before .before .before .before .before .before .before .before
+            .before .before .before .before .before .κs) (c .before .before .before .before .before .before .before
+            .before .before .before .before .before .before .args) (c .before .before .before .before .before .before
+            .before .before .before .before .before .before .before .blocks)) (m63 (c .before))
+        lay13 = λ c. (
+          refused-requires record { before = c .before; if1 = c .if1 },
+          λ g. lay14 record {
+            before = record { before = c .before; if1 = c .if1 };
+            refused = Called.called ps·12 r·12 (claims· .25) T33 (
+              record { pos = 5; st = List.[]; d = 0; at = λ x. x },
+              (
+                record { pos = 6; st = List.[]; d = 0; at = λ x. x },
+                (record { pos = 18; st = List.[]; d = 0; at = λ x. x }, tt),
+              ),
+            ) (m63 (c .before)) g;
+          },
+        )
+
+        lay12 : (c : After-open-booked) → at18 (c .before .before .before .before .before .before .before .before
+            .before .before .before .before .before .before .before .before .before .before .before .before .before
+            .before .before .before .blocks) (W1 (c .before .before .before .before .before .before .before .before
+            .before .before .before .before .before) (After-is-taken·gave (c .before .before .before .before .before
+            .before .before .before .before .before .before .before))) (m46 (c .before) (After-open-booked·gave c))
+        lay12 = λ c. (
+          Path.refl,
+          λ g. (
+            Path.refl,
+            λ g'. (
+              Path.refl,
+              λ g''. λ g'3. (
+                (
+                  MutSlice.fix-len (Row.get 1 (T78 .locals) (m58
+                      record {
+                        before = record {
+                          before = record {
+                            before = record { before = c .before; open-booked = c .open-booked };
+                            pending = record { given = g };
+                          };
+                          inflight = record { given = g' };
+                        };
+                        out = record { given = g'' };
+                      } g'3) .ptr) (Row.get 1 (T78 .locals) (m58
+                      record {
+                        before = record {
+                          before = record {
+                            before = record { before = c .before; open-booked = c .open-booked };
+                            pending = record { given = g };
+                          };
+                          inflight = record { given = g' };
+                        };
+                        out = record { given = g'' };
+                      } g'3) .name) (Row.get 1 (T78 .locals) (m58
+                      record {
+                        before = record {
+                          before = record {
+                            before = record { before = c .before; open-booked = c .open-booked };
+                            pending = record { given = g };
+                          };
+                          inflight = record { given = g' };
+                        };
+                        out = record { given = g'' };
+                      } g'3) .now) (dens (c .before .before .before .before .before .before .before .before .before
+                      .before .before .before .before .before .before .before .before .before .before .before .before
+                      .before .before .before .κs) (c .before .before .before .before .before .before .before .before
+                      .before .before .before .before .before .before .before .before .before .before .before .before
+                      .before .before .before .before .args) .0 .now) (same-length
+                      record {
+                        before = record {
+                          before = record {
+                            before = record {
+                              before = record { before = c .before; open-booked = c .open-booked };
+                              pending = record { given = g };
+                            };
+                            inflight = record { given = g' };
+                          };
+                          out = record { given = g'' };
+                        };
+                        slice-known2 = record { given = g'3 };
+                      }),
+                  (
+                    MutSlice.fix-len (Row.get 2 (T78 .locals) (m58
+                        record {
+                          before = record {
+                            before = record {
+                              before = record { before = c .before; open-booked = c .open-booked };
+                              pending = record { given = g };
+                            };
+                            inflight = record { given = g' };
+                          };
+                          out = record { given = g'' };
+                        } g'3) .ptr) (Row.get 2 (T78 .locals) (m58
+                        record {
+                          before = record {
+                            before = record {
+                              before = record { before = c .before; open-booked = c .open-booked };
+                              pending = record { given = g };
+                            };
+                            inflight = record { given = g' };
+                          };
+                          out = record { given = g'' };
+                        } g'3) .name) (Row.get 2 (T78 .locals) (m58
+                        record {
+                          before = record {
+                            before = record {
+                              before = record { before = c .before; open-booked = c .open-booked };
+                              pending = record { given = g };
+                            };
+                            inflight = record { given = g' };
+                          };
+                          out = record { given = g'' };
+                        } g'3) .now) (dens (c .before .before .before .before .before .before .before .before .before
+                        .before .before .before .before .before .before .before .before .before .before .before .before
+                        .before .before .before .κs) (c .before .before .before .before .before .before .before .before
+                        .before .before .before .before .before .before .before .before .before .before .before .before
+                        .before .before .before .before .args) .1 .0 .now) (same-length-2
+                        record {
+                          before = record {
+                            before = record {
+                              before = record {
+                                before = record { before = c .before; open-booked = c .open-booked };
+                                pending = record { given = g };
+                              };
+                              inflight = record { given = g' };
+                            };
+                            out = record { given = g'' };
+                          };
+                          slice-known2 = record { given = g'3 };
+                        }),
+                    (
+                      MutSlice.fix-len (Row.get 3 (T78 .locals) (m58
+                          record {
+                            before = record {
+                              before = record {
+                                before = record { before = c .before; open-booked = c .open-booked };
+                                pending = record { given = g };
+                              };
+                              inflight = record { given = g' };
+                            };
+                            out = record { given = g'' };
+                          } g'3) .ptr) (Row.get 3 (T78 .locals) (m58
+                          record {
+                            before = record {
+                              before = record {
+                                before = record { before = c .before; open-booked = c .open-booked };
+                                pending = record { given = g };
+                              };
+                              inflight = record { given = g' };
+                            };
+                            out = record { given = g'' };
+                          } g'3) .name) (Row.get 3 (T78 .locals) (m58
+                          record {
+                            before = record {
+                              before = record {
+                                before = record { before = c .before; open-booked = c .open-booked };
+                                pending = record { given = g };
+                              };
+                              inflight = record { given = g' };
+                            };
+                            out = record { given = g'' };
+                          } g'3) .now) (dens (c .before .before .before .before .before .before .before .before .before
+                          .before .before .before .before .before .before .before .before .before .before .before
+                          .before .before .before .before .κs) (c .before .before .before .before .before .before
+                          .before .before .before .before .before .before .before .before .before .before .before
+                          .before .before .before .before .before .before .before .args) .1 .1 .0 .now) (same-length-3
+                          record {
+                            before = record {
+                              before = record {
+                                before = record {
+                                  before = record { before = c .before; open-booked = c .open-booked };
+                                  pending = record { given = g };
+                                };
+                                inflight = record { given = g' };
+                              };
+                              out = record { given = g'' };
+                            };
+                            slice-known2 = record { given = g'3 };
+                          }),
+                      (
+                        MutSlice.fix-len (Row.get 4 (T78 .locals) (m58
+                            record {
+                              before = record {
+                                before = record {
+                                  before = record { before = c .before; open-booked = c .open-booked };
+                                  pending = record { given = g };
+                                };
+                                inflight = record { given = g' };
+                              };
+                              out = record { given = g'' };
+                            } g'3) .ptr) (Row.get 4 (T78 .locals) (m58
+                            record {
+                              before = record {
+                                before = record {
+                                  before = record { before = c .before; open-booked = c .open-booked };
+                                  pending = record { given = g };
+                                };
+                                inflight = record { given = g' };
+                              };
+                              out = record { given = g'' };
+                            } g'3) .name) (Row.get 4 (T78 .locals) (m58
+                            record {
+                              before = record {
+                                before = record {
+                                  before = record { before = c .before; open-booked = c .open-booked };
+                                  pending = record { given = g };
+                                };
+                                inflight = record { given = g' };
+                              };
+                              out = record { given = g'' };
+                            } g'3) .now) (dens (c .before .before .before .before .before .before .before .before
+                            .before .before .before .before .before .before .before .before .before .before .before
+                            .before .before .before .before .before .κs) (c .before .before .before .before .before
+                            .before .before .before .before .before .before .before .before .before .before .before
+                            .before .before .before .before .before .before .before .before .args) .1 .1 .1 .0 .now) (same-length-4
+                            record {
+                              before = record {
+                                before = record {
+                                  before = record {
+                                    before = record { before = c .before; open-booked = c .open-booked };
+                                    pending = record { given = g };
+                                  };
+                                  inflight = record { given = g' };
+                                };
+                                out = record { given = g'' };
+                              };
+                              slice-known2 = record { given = g'3 };
+                            }),
+                        (tt, (tt, (tt, (tt, (tt, tt))))),
+                      ),
+                    ),
+                  ),
+                ),
+                returns record {
+                  before = record {
+                    before = record {
+                      before = record {
+                        before = record { before = c .before; open-booked = c .open-booked };
+                        pending = record { given = g };
+                      };
+                      inflight = record { given = g' };
+                    };
+                    out = record { given = g'' };
+                  };
+                  slice-known2 = record { given = g'3 };
+                },
+              ),
+            ),
+          ),
+        )
+
+        lay11 : (c : After-with-ledger) → at29 (c .before .before .before .before .before .before .before .before
+            .before .before .before .before .before .before .before .before .before .before .before .before .blocks) (W1 (c
+            .before .before .before .before .before .before .before .before .before) (After-is-taken·gave (c .before
+            .before .before .before .before .before .before .before))) (m38 (c .before) (After-with-ledger·gave c))
+        lay11 = λ c. λ g. (
+          Path.refl,
+          λ g'. (
+            Path.refl,
+            λ g''. (
+              Path.refl,
+              (
+                open-booked-requires record {
+                  before = record {
+                    before = record {
+                      before = record { before = c .before; with-ledger = c .with-ledger };
+                      open-booked-arg = record { given = g };
+                    };
+                    open-booked-arg2 = record { given = g' };
+                  };
+                  open-booked-arg3 = record { given = g'' };
+                },
+                λ g'3. lay12 record {
+                  before = record {
+                    before = record {
+                      before = record {
+                        before = record { before = c .before; with-ledger = c .with-ledger };
+                        open-booked-arg = record { given = g };
+                      };
+                      open-booked-arg2 = record { given = g' };
+                    };
+                    open-booked-arg3 = record { given = g'' };
+                  };
+                  open-booked = Called.called ps·11 r·11 (claims· .23) T59 (
+                    record { pos = 32; ty = ref3; ref = λ x. x },
+                    (
+                      record { pos = 34; ty = ref4; ref = λ x. x },
+                      (
+                        record { pos = 36; ty = ref5; ref = λ x. x },
+                        (
+                          record { pos = 5; st = List.[]; d = 0; at = λ x. x },
+                          (
+                            record { pos = 22; st = List.[]; d = 0; at = λ x. x },
+                            (
+                              record { pos = 9; st = List.[]; d = 0; at = λ x. x },
+                              (
+                                record { pos = 19; st = List.[]; d = 0; at = λ x. x },
+                                (record { pos = 16; st = List.[]; d = 0; at = λ x. x }, tt),
+                              ),
+                            ),
+                          ),
+                        ),
+                      ),
+                    ),
+                  ) (m45 record {
+                    before = record {
+                      before = record { before = c .before; with-ledger = c .with-ledger };
+                      open-booked-arg = record { given = g };
+                    };
+                    open-booked-arg2 = record { given = g' };
+                  } g'') g'3;
+                },
+              ),
+            ),
+          ),
+        )
+
+        lay10 : (c : After-raised) → at30 (c .before .before .before .before .before .before .before .before .before
+            .before .before .before .before .before .before .before .before .before .before .blocks) (W1 (c .before
+            .before .before .before .before .before .before .before) (After-is-taken·gave (c .before .before .before
+            .before .before .before .before))) (m37 (c .before) (After-raised·gave c))
+        lay10 = λ c. (
+          with-ledger-requires record { before = c .before; raised = c .raised },
+          λ g. lay11 record {
+            before = record { before = c .before; raised = c .raised };
+            with-ledger = Called.called ps·10 r·10 (claims· .21) T48 (
+              record { pos = 6; st = List.[]; d = 0; at = λ x. x },
+              (Num.vAt 21 λ x. x, tt),
+            ) (m37 (c .before) (After-raised·gave c)) g;
+          },
+        )
+
+        lay9 : (c : After-set-usage) → at35 (c .before .before .before .before .before .before .before .before .before
+            .before .before .before .before .before .before .before .before .blocks) (W1
+            (c .before .before .before .before .before .before) (After-is-taken·gave
+            (c .before .before .before .before .before))) (m34 (c .before) (After-set-usage·gave c))
+        lay9 = λ c. (
+          Path.refl,
+          λ g. (
+            raised-requires record {
+              before = record { before = c .before; set-usage = c .set-usage };
+              ledger = record { given = g };
+            },
+            λ g'. lay10 record {
+              before = record {
+                before = record { before = c .before; set-usage = c .set-usage };
+                ledger = record { given = g };
+              };
+              raised = Called.called ps·9 r·9 (claims· .19) T46 (
+                Num.vFld 6 ((Syntax.field 2) ∷ List.[]) 16 λ x. Places.struct .as-values x .1 .1 .0,
+                (Bool.bLit Bool'.true, (Num.vAt 20 λ x. x, (Num.vAt 10 λ x. x, tt))),
+              ) (m36 record { before = c .before; set-usage = c .set-usage } g) g';
+            },
+          ),
+        )
+
+        lay8 : (c : After-booked-place) → at40 (c .before .before .before .before .before .before .before .before
+            .before .before .before .before .before .before .before .blocks) (W1 (c .before .before .before .before)
+            (After-is-taken·gave (c .before .before .before))) (m30 (c .before) (After-booked-place·gave c))
+        lay8 = λ c. λ g. (
+          Path.refl,
+          (
+            set-usage-requires record {
+              before = record { before = c .before; booked-place = c .booked-place };
+              set-usage-arg = record { given = g };
+            },
+            λ g'. lay9 record {
+              before = record {
+                before = record { before = c .before; booked-place = c .booked-place };
+                set-usage-arg = record { given = g };
+              };
+              set-usage = Called.called ps·8 r·8 (claims· .17) T42 (
+                record { pos = 30; ty = ref2; ref = λ x. x },
+                (
+                  Bool.bLit Bool'.true,
+                  (Num.vAt 20 λ x. x, (record { pos = 19; st = List.[]; d = 0; at = λ x. x }, tt)),
+                ),
+              ) (m33 record { before = c .before; booked-place = c .booked-place } g) g';
+            },
+          ),
+        )
+
+        lay7 : (c : After-booked-usage) → at42 (c .before .before .before .before .before .before .before .before
+            .before .before .before .before .before .before .blocks) (W1 (c .before .before .before)
+            (After-is-taken·gave (c .before .before))) (m28 (c .before) (After-booked-usage·gave c))
+        lay7 = λ c. (
+          booked-place-requires record { before = c .before; booked-usage = c .booked-usage },
+          λ g. lay8 record {
+            before = record { before = c .before; booked-usage = c .booked-usage };
+            booked-place = Called.called ps·7 r·7 (claims· .15) T37
+                (record { pos = 17; st = List.[]; d = 0; at = λ x. x }, tt)
+                (m29 (c .before) (After-booked-usage·gave c)) g;
+          },
+        )
+
+        lay6 : (c : After-is-taken) → at59 (c .before .before .before .before .before .before .before .before .before
+            .before .before .before .blocks) (W0 (c .before .before .before .before .before .before .before .before
+            .before .before .before .before .κs) (c .before .before .before .before .before .before .before .before
+            .before .before .before .before .args) (c .before .before .before .before .before .before .before .before
+            .before .before .before .before .blocks)) (m25 (c .before) (After-is-taken·gave c))
+        lay6 = λ c. (
+          λ taken. (
+            booked-usage-requires record {
+              before = record { before = c .before; is-taken = c .is-taken };
+              if1 = record { taken = taken };
+            },
+            λ g. lay7 record {
+              before = record {
+                before = record { before = c .before; is-taken = c .is-taken };
+                if1 = record { taken = taken };
+              };
+              booked-usage = Called.called ps·6 r·6 (claims· .13) T35 (
+                record { pos = 17; st = List.[]; d = 0; at = λ x. x },
+                (record { pos = 12; st = List.[]; d = 0; at = λ x. x }, tt),
+              ) (m27 record { before = c .before; is-taken = c .is-taken }) g;
+            },
+          ),
+          λ left. lay13 record {
+            before = record { before = c .before; is-taken = c .is-taken };
+            if1 = record { left = left };
+          },
+        )
+
+        lay5 : (c : After-placed-rows) → at63 (c .before .before .before .before .before .before .before .before
+            .before .before .before .blocks) (W0 (c .before .before .before .before .before .before .before .before
+            .before .before .before .κs) (c .before .before .before .before .before .before .before .before .before
+            .before .before .args) (c .before .before .before .before .before .before .before .before .before .before
             .before .blocks)) (m21 (c .before) (After-placed-rows·gave c))
-        lay5 = λ c. (is-taken-requires record { before = c .before; placed-rows = c .placed-rows }, λ g. lay6 record { before = record { before = c
-            .before; placed-rows = c .placed-rows }; is-taken = Called.called ps·5 r·5 (claims· .11) T31 (record { pos = 18; st = List.[]; d = 0; at =
-            λ x. x }, tt,) (m24 (c .before) (After-placed-rows·gave c)) g; },)
-        lay4 : (c : After-scan-ledger) → at69 (c .before .before .before .before .before .before .before .before .before .before .blocks) (W0 (c
-            .before .before .before .before .before .before .before .before .before .before .κs) (c .before .before .before .before .before .before
-            .before .before .before .before .args) (c .before .before .before .before .before .before .before .before .before .before .blocks)) (m17
-            (c .before) (After-scan-ledger·gave c))
-        lay4 = λ c. (placed-rows-requires record { before = c .before; scan-ledger = c .scan-ledger }, λ g. lay5 record { before = record { before = c
-            .before; scan-ledger = c .scan-ledger }; placed-rows = Called.called ps·4 r·4 (claims· .9) T26 (record { pos = 11; st = List.[]; d = 0; at
-            = λ x. x }, (record { pos = 7; st = List.[]; d = 0; at = λ x. x }, (record { pos = 9; st = List.[]; d = 0; at = λ x. x }, (record { pos =
-            8; st = List.[]; d = 0; at = λ x. x }, (record { pos = 16; st = List.[]; d = 0; at = λ x. x }, (record { pos = 17; st = List.[]; d = 0; at
-            = λ x. x }, tt),),),),),) (m20 (c .before) (After-scan-ledger·gave c)) g; },)
-        lay3 : (c : After-scan-actions) → at78 (c .before .before .before .before .before .before .before .before .blocks) (W0 (c .before .before
-            .before .before .before .before .before .before .κs) (c .before .before .before .before .before .before .before .before .args) (c .before
-            .before .before .before .before .before .before .before .blocks)) (m11 (c .before) (After-scan-actions·gave c))
-        lay3 = λ c. λ g. (Path.refl, (scan-ledger-requires record { before = record { before = c .before; scan-actions = c .scan-actions };
-            scan-ledger-arg = record { given = g }; }, λ g'. lay4 record { before = record { before = record { before = c .before; scan-actions = c
-            .scan-actions }; scan-ledger-arg = record { given = g }; }; scan-ledger = Called.called ps·3 r·3 (claims· .7) T21 (record { pos = 26; ty =
-            Syntax.tyRef Syntax.erased Syntax.imm ReservationUsage.to; ref = λ x. x; }, (record { pos = 6; st = List.[]; d = 0; at = λ x. x }, (record
-            { pos = 13; st = List.[]; d = 0; at = λ x. x }, tt),),) (m16 record { before = c .before; scan-actions = c .scan-actions } g) g'; },),)
-        lay2 : (c : After-asking) → at83 (c .before .before .before .before .before .before .blocks) (W0 (c .before .before .before .before .before
-            .before .κs) (c .before .before .before .before .before .before .args) (c .before .before .before .before .before .before .blocks)) (m7 (c
-            .before) (After-asking·gave c))
-        lay2 = λ c. λ g. (Path.refl, (scan-actions-requires record { before = record { before = c .before; asking = c .asking }; scan-actions-arg =
-            record { given = g }; }, λ g'. lay3 record { before = record { before = record { before = c .before; asking = c .asking };
-            scan-actions-arg = record { given = g }; }; scan-actions = Called.called ps·2 r·2 (claims· .5) T12 (record { pos = 24; ty = Syntax.tyRef
-            Syntax.erased Syntax.imm InflightAction.to; ref = λ x. x; }, (record { pos = 6; st = List.[]; d = 0; at = λ x. x }, (record { pos = 15; st
-            = List.[]; d = 0; at = λ x. x }, tt),),) (m10 record { before = c .before; asking = c .asking } g) g'; },),)
-        lay1 : (c : After-incoming-out) → at84 (c .before .before .before .before .before .blocks) (W0 (c .before .before .before .before .before .κs)
-            (c .before .before .before .before .before .args) (c .before .before .before .before .before .blocks)) (m6 (c .before)
-            (After-incoming-out·gave c))
-        lay1 = λ c. (asking-requires record { before = c .before; incoming-out = c .incoming-out }, λ g. lay2 record { before = record { before = c
-            .before; incoming-out = c .incoming-out }; asking = Called.called ps·1 r·1 (claims· .3) T7 (record { pos = 5; st = List.[]; d = 0; at = λ
-            x. x }, (record { pos = 14; st = List.[]; d = 0; at = λ x. x }, tt),) (m6 (c .before) (After-incoming-out·gave c)) g; },)
+        lay5 = λ c. (
+          is-taken-requires record { before = c .before; placed-rows = c .placed-rows },
+          λ g. lay6 record {
+            before = record { before = c .before; placed-rows = c .placed-rows };
+            is-taken = Called.called ps·5 r·5 (claims· .11) T31
+                (record { pos = 18; st = List.[]; d = 0; at = λ x. x }, tt)
+                (m24 (c .before) (After-placed-rows·gave c)) g;
+          },
+        )
+
+        lay4 : (c : After-scan-ledger) → at69 (c .before .before .before .before .before .before .before .before
+            .before .before .blocks) (W0 (c .before .before .before .before .before .before .before .before .before
+            .before .κs) (c .before .before .before .before .before .before .before .before .before .before .args) (c
+            .before .before .before .before .before .before .before .before .before .before .blocks))
+            (m17 (c .before) (After-scan-ledger·gave c))
+        lay4 = λ c. (
+          placed-rows-requires record { before = c .before; scan-ledger = c .scan-ledger },
+          λ g. lay5 record {
+            before = record { before = c .before; scan-ledger = c .scan-ledger };
+            placed-rows = Called.called ps·4 r·4 (claims· .9) T26 (
+              record { pos = 11; st = List.[]; d = 0; at = λ x. x },
+              (
+                record { pos = 7; st = List.[]; d = 0; at = λ x. x },
+                (
+                  record { pos = 9; st = List.[]; d = 0; at = λ x. x },
+                  (
+                    record { pos = 8; st = List.[]; d = 0; at = λ x. x },
+                    (
+                      record { pos = 16; st = List.[]; d = 0; at = λ x. x },
+                      (record { pos = 17; st = List.[]; d = 0; at = λ x. x }, tt),
+                    ),
+                  ),
+                ),
+              ),
+            ) (m20 (c .before) (After-scan-ledger·gave c)) g;
+          },
+        )
+
+        lay3 : (c : After-scan-actions) → at78 (c .before .before .before .before .before .before .before .before
+            .blocks) (W0 (c .before .before .before .before .before .before .before .before .κs) (c .before .before
+            .before .before .before .before .before .before .args) (c .before .before .before .before .before .before
+            .before .before .blocks)) (m11 (c .before) (After-scan-actions·gave c))
+        lay3 = λ c. λ g. (
+          Path.refl,
+          (
+            scan-ledger-requires record {
+              before = record { before = c .before; scan-actions = c .scan-actions };
+              scan-ledger-arg = record { given = g };
+            },
+            λ g'. lay4 record {
+              before = record {
+                before = record { before = c .before; scan-actions = c .scan-actions };
+                scan-ledger-arg = record { given = g };
+              };
+              scan-ledger = Called.called ps·3 r·3 (claims· .7) T21 (
+                record { pos = 26; ty = ref1; ref = λ x. x },
+                (
+                  record { pos = 6; st = List.[]; d = 0; at = λ x. x },
+                  (record { pos = 13; st = List.[]; d = 0; at = λ x. x }, tt),
+                ),
+              ) (m16 record { before = c .before; scan-actions = c .scan-actions } g) g';
+            },
+          ),
+        )
+
+        lay2 : (c : After-asking) → at83 (c .before .before .before .before .before .before .blocks) (W0
+            (c .before .before .before .before .before .before .κs)
+            (c .before .before .before .before .before .before .args) (c .before .before .before .before .before
+            .before .blocks)) (m7 (c .before) (After-asking·gave c))
+        lay2 = λ c. λ g. (
+          Path.refl,
+          (
+            scan-actions-requires record {
+              before = record { before = c .before; asking = c .asking };
+              scan-actions-arg = record { given = g };
+            },
+            λ g'. lay3 record {
+              before = record {
+                before = record { before = c .before; asking = c .asking };
+                scan-actions-arg = record { given = g };
+              };
+              scan-actions = Called.called ps·2 r·2 (claims· .5) T12 (
+                record { pos = 24; ty = ref0; ref = λ x. x },
+                (
+                  record { pos = 6; st = List.[]; d = 0; at = λ x. x },
+                  (record { pos = 15; st = List.[]; d = 0; at = λ x. x }, tt),
+                ),
+              ) (m10 record { before = c .before; asking = c .asking } g) g';
+            },
+          ),
+        )
+
+        lay1 : (c : After-incoming-out) → at84 (c .before .before .before .before .before .blocks) (W0
+            (c .before .before .before .before .before .κs) (c .before .before .before .before .before .args)
+            (c .before .before .before .before .before .blocks)) (m6 (c .before) (After-incoming-out·gave c))
+        lay1 = λ c. (
+          asking-requires record { before = c .before; incoming-out = c .incoming-out },
+          λ g. lay2 record {
+            before = record { before = c .before; incoming-out = c .incoming-out };
+            asking = Called.called ps·1 r·1 (claims· .3) T7 (
+              record { pos = 5; st = List.[]; d = 0; at = λ x. x },
+              (record { pos = 14; st = List.[]; d = 0; at = λ x. x }, tt),
+            ) (m6 (c .before) (After-incoming-out·gave c)) g;
+          },
+        )
+
         pub laid : (c : Start) → at90 (c .blocks) (W0 (c .κs) (c .args) (c .blocks)) (m0 (c .κs) (c .args) (c .blocks))
-        laid = λ c. λ g. (tt, λ g'. (tt, λ g''. (tt, λ g'3. (incoming-out-requires record { before = record { before = record { before = record {
-            before = c; slice-known = record { given = g } }; config = record { given = g' }; }; ticket = record { given = g'' }; }; id = record {
-            given = g'3 }; }, λ g'4. lay1 record { before = record { before = record { before = record { before = record { before = c; slice-known =
-            record { given = g } }; config = record { given = g' }; }; ticket = record { given = g'' }; }; id = record { given = g'3 }; };
-            incoming-out = Called.called ps·0 r·0 (claims· .1) T6 (record { pos = 9; st = List.[]; d = 0; at = λ x. x }, tt,) (m5 record { before =
-            record { before = record { before = c; slice-known = record { given = g } }; config = record { given = g' }; }; ticket = record { given =
-            g'' }; } g'3) g'4; },),),),)
+        laid = λ c. λ g. (
+          tt,
+          λ g'. (
+            tt,
+            λ g''. (
+              tt,
+              λ g'3. (
+                incoming-out-requires record {
+                  before = record {
+                    before = record {
+                      before = record { before = c; slice-known = record { given = g } };
+                      config = record { given = g' };
+                    };
+                    ticket = record { given = g'' };
+                  };
+                  id = record { given = g'3 };
+                },
+                λ g'4. lay1 record {
+                  before = record {
+                    before = record {
+                      before = record {
+                        before = record { before = c; slice-known = record { given = g } };
+                        config = record { given = g' };
+                      };
+                      ticket = record { given = g'' };
+                    };
+                    id = record { given = g'3 };
+                  };
+                  incoming-out = Called.called ps·0 r·0 (claims· .1) T6
+                      (record { pos = 9; st = List.[]; d = 0; at = λ x. x }, tt) (m5
+                      record {
+                        before = record {
+                          before = record { before = c; slice-known = record { given = g } };
+                          config = record { given = g' };
+                        };
+                        ticket = record { given = g'' };
+                      } g'3) g'4;
+                },
+              ),
+            ),
+          ),
+        )
+
         module _ (κs : Lifetimes.Lfts 4) (qs : Lifetimes.Shares 4) where
-          pub asked : (a : Kinds.Dens κs ps) → (good : Kinds.GoodsP κs ps a) → (pre : Pre· κs a) → (bs : List.List Nat.ℕ) → Φ bs (Any.wantQ 4 ps r xs
-              m κs qs a (Post· κs a)) (Function.init 4 ps r xs m κs qs a)
-          asked = λ a good pre bs. laid record { κs = κs; args = record { pending = a .0; ledger = a .1 .0; inflight = a .1 .1 .0; out = a .1 .1 .1
-              .0; runtime = a .1 .1 .1 .1 .0; places = a .1 .1 .1 .1 .1 .0; gathered = a .1 .1 .1 .1 .1 .1 .0; drawing = a .1 .1 .1 .1 .1 .1 .1 .0;
-              plan = a .1 .1 .1 .1 .1 .1 .1 .1 .0; }; blocks = bs; good = good; pre = pre; }
-        module _ { M : Type 1 } (𝓤 : URA.URA M) (H : Wp.Heap 𝓤) (A : Atoms.Atoms 𝓤) (W : Kit.Given 𝓤 H A) (𝓣 : Wp.Tables 𝓤 H) (known0 : Plain.Known 𝓤
-            H A W 𝓣 0 ps·0 r·0 (claims· .0) (claims· .1) "hnsr_circuit::open::incoming_out") (known1 : Plain.Known 𝓤 H A W 𝓣 0 ps·1 r·1 (claims· .2)
-            (claims· .3) "hnsr_circuit::queue::asking") (known2 : Plain.Known 𝓤 H A W 𝓣 1 ps·2 r·2 (claims· .4) (claims· .5)
-            "hnsr_circuit::tables::inflight::scan_actions") (known3 : Plain.Known 𝓤 H A W 𝓣 1 ps·3 r·3 (claims· .6) (claims· .7)
-            "hnsr_circuit::tables::ledger::scan_ledger") (known4 : Plain.Known 𝓤 H A W 𝓣 0 ps·4 r·4 (claims· .8) (claims· .9)
-            "hnsr_circuit::open::placed_rows") (known5 : Plain.Known 𝓤 H A W 𝓣 0 ps·5 r·5 (claims· .10) (claims· .11)
-            "hnsr_circuit::answer::is_taken") (known6 : Plain.Known 𝓤 H A W 𝓣 0 ps·6 r·6 (claims· .12) (claims· .13)
-            "hnsr_circuit::open::booked_usage") (known7 : Plain.Known 𝓤 H A W 𝓣 0 ps·7 r·7 (claims· .14) (claims· .15)
-            "hnsr_circuit::open::booked_place") (known8 : Plain.Known 𝓤 H A W 𝓣 1 ps·8 r·8 (claims· .16) (claims· .17)
-            "hnsr_circuit::tables::ledger::set_usage") (known9 : Plain.Known 𝓤 H A W 𝓣 0 ps·9 r·9 (claims· .18) (claims· .19)
-            "hnsr_circuit::places::raised") (known10 : Plain.Known 𝓤 H A W 𝓣 0 ps·10 r·10 (claims· .20) (claims· .21)
-            "hnsr_circuit::places::with_ledger") (known11 : Plain.Known 𝓤 H A W 𝓣 3 ps·11 r·11 (claims· .22) (claims· .23)
-            "hnsr_circuit::handle_open::open_booked") (known12 : Plain.Known 𝓤 H A W 𝓣 0 ps·12 r·12 (claims· .24) (claims· .25)
-            "hnsr_circuit::revoking_calls::refused") where
-          pub spec : Statement.Triple 𝓤 (Wp.WpFn 𝓤 H (𝓣 .C) (𝓣 .Λ) (Function.fnOf 4 ps r xs m hs body)) (Function.plainOf 𝓤 H A 4 ps r Pre· Post·)
-          spec = Plain.t-fn-plain 𝓤 H A W 𝓣 4 ps r xs m hs body (λ κs qs bs. Φ bs) (λ κs qs bs bd. typed κs qs 𝓤 H A W 𝓣 (known0, known1, known2,
-              known3, known4, known5, known6, known7, known8, known9, known10, known11, known12,) bs bd) Pre· Post· asked
+          pub asked : (a : Kinds.Dens κs ps) → (good : Kinds.GoodsP κs ps a) → (pre : Pre· κs a) →
+              (bs : List.List Nat.ℕ) → Φ bs (Any.wantQ 4 ps r xs m κs qs a (Post· κs a))
+              (Function.init 4 ps r xs m κs qs a)
+          asked = λ a good pre bs. laid record {
+            κs = κs;
+            args = record {
+              pending = a .0;
+              ledger = a .1 .0;
+              inflight = a .1 .1 .0;
+              out = a .1 .1 .1 .0;
+              runtime = a .1 .1 .1 .1 .0;
+              places = a .1 .1 .1 .1 .1 .0;
+              gathered = a .1 .1 .1 .1 .1 .1 .0;
+              drawing = a .1 .1 .1 .1 .1 .1 .1 .0;
+              plan = a .1 .1 .1 .1 .1 .1 .1 .1 .0;
+            };
+            blocks = bs;
+            good = good;
+            pre = pre;
+          }
+
+        module _ {M : Type 1} (𝓤 : URA.URA M) (H : Wp.Heap 𝓤) (A : Atoms.Atoms 𝓤) (W : Kit.Given 𝓤 H A)
+            (𝓣 : Wp.Tables 𝓤 H) (known0 : Plain.Known 𝓤 H A W 𝓣 0 ps·0 r·0 (claims· .0) (claims· .1)
+            "hnsr_circuit::open::incoming_out") (known1 : Plain.Known 𝓤 H A W 𝓣 0 ps·1 r·1 (claims· .2) (claims· .3)
+            "hnsr_circuit::queue::asking") (known2 : Plain.Known 𝓤 H A W 𝓣 1 ps·2 r·2 (claims· .4) (claims· .5)
+            "hnsr_circuit::tables::inflight::scan_actions") (known3 : Plain.Known 𝓤 H A W 𝓣 1 ps·3 r·3 (claims· .6)
+            (claims· .7) "hnsr_circuit::tables::ledger::scan_ledger") (known4 : Plain.Known 𝓤 H A W 𝓣 0 ps·4 r·4
+            (claims· .8) (claims· .9) "hnsr_circuit::open::placed_rows") (known5 : Plain.Known 𝓤 H A W 𝓣 0 ps·5 r·5
+            (claims· .10) (claims· .11) "hnsr_circuit::answer::is_taken") (known6 : Plain.Known 𝓤 H A W 𝓣 0 ps·6 r·6
+            (claims· .12) (claims· .13) "hnsr_circuit::open::booked_usage") (known7 : Plain.Known 𝓤 H A W 𝓣 0 ps·7 r·7
+            (claims· .14) (claims· .15) "hnsr_circuit::open::booked_place") (known8 : Plain.Known 𝓤 H A W 𝓣 1 ps·8 r·8
+            (claims· .16) (claims· .17) "hnsr_circuit::tables::ledger::set_usage") (known9 : Plain.Known 𝓤 H A W 𝓣 0
+            ps·9 r·9 (claims· .18) (claims· .19) "hnsr_circuit::places::raised") (known10 : Plain.Known 𝓤 H A W 𝓣 0
+            ps·10 r·10 (claims· .20) (claims· .21) "hnsr_circuit::places::with_ledger") (known11 : Plain.Known 𝓤 H A W
+            𝓣 3 ps·11 r·11 (claims· .22) (claims· .23) "hnsr_circuit::handle_open::open_booked") (known12 : Plain.Known
+            𝓤 H A W 𝓣 0 ps·12 r·12 (claims· .24) (claims· .25) "hnsr_circuit::revoking_calls::refused") where
+          pub spec : Statement.Triple 𝓤 (Wp.WpFn 𝓤 H (𝓣 .C) (𝓣 .Λ) (Function.fnOf 4 ps r xs m hs body))
+              (Function.plainOf 𝓤 H A 4 ps r Pre· Post·)
+          spec = Plain.t-fn-plain 𝓤 H A W 𝓣 4 ps r xs m hs body (λ κs qs bs. Φ bs) (λ κs qs bs bd. typed κs qs 𝓤 H A W
+              𝓣 (
+                known0,
+                known1,
+                known2,
+                known3,
+                known4,
+                known5,
+                known6,
+                known7,
+                known8,
+                known9,
+                known10,
+                known11,
+                known12,
+              ) bs bd) Pre· Post· asked

@@ -4,10 +4,12 @@ use Rattle.hnsr_circuit.proofs.By.InflightAction
 use Rattle.hnsr_circuit.proofs.By.RelayCircuit
 use Rattle.hnsr_circuit.proofs.By.RelayPending
 use Rattle.hnsr_circuit.proofs.By.ReservationUsage
+use Rattle.hnsr_circuit.proofs.StructRow
 use Rattle.hnsr_circuit.proofs.places.Places
 use Rattle.hnsr_circuit.proofs.places.Places.Laws
 use borrow.Author.Called
 use borrow.Fn.Any
+use borrow.Fn.Args as Args'
 use borrow.Fn.Call
 use borrow.Fn.Enter
 use borrow.Fn.Frame
@@ -16,7 +18,6 @@ use borrow.Fn.Kinds
 use borrow.Fn.Plain
 use borrow.Kind.Num
 use borrow.Kind.ShrSlice
-use borrow.Kind.Value
 use borrow.Rule.Local
 use borrow.Rule.Scalar
 use borrow.Rule.Slice.Shared
@@ -27,9 +28,7 @@ use borrow.Table.Row
 use borrow.Table.Rows
 use borrow.Table.Typed
 use contract.Lifetimes
-use denote.Exit
 use denote.Struct.Declared
-use denote.Struct.Laws as Laws'
 use denote.Triple.Clauses
 use denote.Triple.Statement
 use ghost.Atoms
@@ -44,513 +43,773 @@ use mathlib.Core.List.{_∷_}
 
 abbrev ref0 : Syntax.Ty
 ref0 = Syntax.tyRef (Syntax.named 0) Syntax.imm RelayPending.to
+
 abbrev ref1 : Syntax.Ty
 ref1 = Syntax.tyRef (Syntax.named 1) Syntax.imm RelayCircuit.to
+
 abbrev ref2 : Syntax.Ty
 ref2 = Syntax.tyRef (Syntax.named 2) Syntax.imm ReservationUsage.to
+
 abbrev ref3 : Syntax.Ty
 ref3 = Syntax.tyRef (Syntax.named 3) Syntax.imm InflightAction.to
+
 abbrev pub ps : List.List (Kinds.PK 4)
-ps = (ShrSlice.pShrS RelayPending.row 0 tt) ∷ (ShrSlice.pShrS RelayCircuit.row 1 tt) ∷ (ShrSlice.pShrS ReservationUsage.row 2 tt) ∷ (ShrSlice.pShrS
-    InflightAction.row 3 tt) ∷ (Value.pVal record { ty = Declared.row Places.the-type; one = Path.refl; val = Laws'.val Places.the-type Laws.the-laws;
-    tells = Laws'.tells Places.the-type Laws.the-laws; still = Laws'.still Places.the-type Laws.the-copy Exit.yes; row = Rows.whole (Declared.row
-    Places.the-type); rd = λ x. x; mk = λ x. x; } λ M 𝓤 H A W. record { copies = Laws'.copy Places.the-type Laws.the-copy 𝓤 H A W; lawful =
-    Laws'.lawful Places.the-type Laws.the-laws 𝓤 H A W; makes = Laws'.makes Places.the-type Laws.the-plain 𝓤 H A; in-mem = Local.mem-whole 𝓤 H A W
-    (Declared.row Places.the-type); of-mem = Local.whole-mem 𝓤 H A W (Declared.row Places.the-type); }) ∷ List.[]
+ps = (ShrSlice.pShrS RelayPending.row 0 tt) ∷ (ShrSlice.pShrS RelayCircuit.row 1 tt) ∷
+    (ShrSlice.pShrS ReservationUsage.row 2 tt) ∷ (ShrSlice.pShrS InflightAction.row 3 tt) ∷ (StructRow.param
+    Places.the-type Laws.the-laws Laws.the-copy Laws.the-plain) ∷ List.[]
+
 abbrev pub r : Kinds.RK 4
-r = Value.rVal record { ty = Declared.row Places.the-type; one = Path.refl; val = Laws'.val Places.the-type Laws.the-laws; tells = Laws'.tells
-    Places.the-type Laws.the-laws; still = Laws'.still Places.the-type Laws.the-copy Exit.yes; row = Rows.whole (Declared.row Places.the-type); rd = λ
-    x. x; mk = λ x. x; } λ M 𝓤 H A W. record { copies = Laws'.copy Places.the-type Laws.the-copy 𝓤 H A W; lawful = Laws'.lawful Places.the-type
-    Laws.the-laws 𝓤 H A W; makes = Laws'.makes Places.the-type Laws.the-plain 𝓤 H A; in-mem = Local.mem-whole 𝓤 H A W (Declared.row Places.the-type);
-    of-mem = Local.whole-mem 𝓤 H A W (Declared.row Places.the-type); }
+r = StructRow.result Places.the-type Laws.the-laws Laws.the-copy Laws.the-plain
+
 abbrev pub xs : List.List Syntax.Ty
-xs = (Syntax.tyInt Syntax.w64) ∷ (Syntax.tyInt Syntax.w64) ∷ (Syntax.tyInt Syntax.w64) ∷ (Syntax.tyInt Syntax.w64) ∷ List.[]
+xs = (Syntax.tyInt Syntax.w64) ∷ (Syntax.tyInt Syntax.w64) ∷ (Syntax.tyInt Syntax.w64) ∷ (Syntax.tyInt Syntax.w64) ∷
+    List.[]
+
 abbrev pub m : Nat.ℕ
 m = 0
+
 abbrev pub ps·0 : List.List (Kinds.PK 1)
-ps·0 = (ShrSlice.pShrS RelayPending.row 0 tt) ∷ (Value.pVal record { ty = Declared.row Places.the-type; one = Path.refl; val = Laws'.val
-    Places.the-type Laws.the-laws; tells = Laws'.tells Places.the-type Laws.the-laws; still = Laws'.still Places.the-type Laws.the-copy Exit.yes; row
-    = Rows.whole (Declared.row Places.the-type); rd = λ x. x; mk = λ x. x; } λ M 𝓤 H A W. record { copies = Laws'.copy Places.the-type Laws.the-copy 𝓤
-    H A W; lawful = Laws'.lawful Places.the-type Laws.the-laws 𝓤 H A W; makes = Laws'.makes Places.the-type Laws.the-plain 𝓤 H A; in-mem =
-    Local.mem-whole 𝓤 H A W (Declared.row Places.the-type); of-mem = Local.whole-mem 𝓤 H A W (Declared.row Places.the-type); }) ∷ List.[]
+ps·0 = (ShrSlice.pShrS RelayPending.row 0 tt) ∷ (StructRow.param Places.the-type Laws.the-laws Laws.the-copy
+    Laws.the-plain) ∷ List.[]
+
 abbrev pub r·0 : Kinds.RK 1
 r·0 = Num.rNum Syntax.w64
+
 abbrev pub ps·1 : List.List (Kinds.PK 1)
-ps·1 = (ShrSlice.pShrS RelayCircuit.row 0 tt) ∷ (Value.pVal record { ty = Declared.row Places.the-type; one = Path.refl; val = Laws'.val
-    Places.the-type Laws.the-laws; tells = Laws'.tells Places.the-type Laws.the-laws; still = Laws'.still Places.the-type Laws.the-copy Exit.yes; row
-    = Rows.whole (Declared.row Places.the-type); rd = λ x. x; mk = λ x. x; } λ M 𝓤 H A W. record { copies = Laws'.copy Places.the-type Laws.the-copy 𝓤
-    H A W; lawful = Laws'.lawful Places.the-type Laws.the-laws 𝓤 H A W; makes = Laws'.makes Places.the-type Laws.the-plain 𝓤 H A; in-mem =
-    Local.mem-whole 𝓤 H A W (Declared.row Places.the-type); of-mem = Local.whole-mem 𝓤 H A W (Declared.row Places.the-type); }) ∷ List.[]
+ps·1 = (ShrSlice.pShrS RelayCircuit.row 0 tt) ∷ (StructRow.param Places.the-type Laws.the-laws Laws.the-copy
+    Laws.the-plain) ∷ List.[]
+
 abbrev pub r·1 : Kinds.RK 1
 r·1 = Num.rNum Syntax.w64
+
 abbrev pub ps·2 : List.List (Kinds.PK 1)
-ps·2 = (ShrSlice.pShrS ReservationUsage.row 0 tt) ∷ (Value.pVal record { ty = Declared.row Places.the-type; one = Path.refl; val = Laws'.val
-    Places.the-type Laws.the-laws; tells = Laws'.tells Places.the-type Laws.the-laws; still = Laws'.still Places.the-type Laws.the-copy Exit.yes; row
-    = Rows.whole (Declared.row Places.the-type); rd = λ x. x; mk = λ x. x; } λ M 𝓤 H A W. record { copies = Laws'.copy Places.the-type Laws.the-copy 𝓤
-    H A W; lawful = Laws'.lawful Places.the-type Laws.the-laws 𝓤 H A W; makes = Laws'.makes Places.the-type Laws.the-plain 𝓤 H A; in-mem =
-    Local.mem-whole 𝓤 H A W (Declared.row Places.the-type); of-mem = Local.whole-mem 𝓤 H A W (Declared.row Places.the-type); }) ∷ List.[]
+ps·2 = (ShrSlice.pShrS ReservationUsage.row 0 tt) ∷ (StructRow.param Places.the-type Laws.the-laws Laws.the-copy
+    Laws.the-plain) ∷ List.[]
+
 abbrev pub r·2 : Kinds.RK 1
 r·2 = Num.rNum Syntax.w64
+
 abbrev pub ps·3 : List.List (Kinds.PK 1)
-ps·3 = (ShrSlice.pShrS InflightAction.row 0 tt) ∷ (Value.pVal record { ty = Declared.row Places.the-type; one = Path.refl; val = Laws'.val
-    Places.the-type Laws.the-laws; tells = Laws'.tells Places.the-type Laws.the-laws; still = Laws'.still Places.the-type Laws.the-copy Exit.yes; row
-    = Rows.whole (Declared.row Places.the-type); rd = λ x. x; mk = λ x. x; } λ M 𝓤 H A W. record { copies = Laws'.copy Places.the-type Laws.the-copy 𝓤
-    H A W; lawful = Laws'.lawful Places.the-type Laws.the-laws 𝓤 H A W; makes = Laws'.makes Places.the-type Laws.the-plain 𝓤 H A; in-mem =
-    Local.mem-whole 𝓤 H A W (Declared.row Places.the-type); of-mem = Local.whole-mem 𝓤 H A W (Declared.row Places.the-type); }) ∷ List.[]
+ps·3 = (ShrSlice.pShrS InflightAction.row 0 tt) ∷ (StructRow.param Places.the-type Laws.the-laws Laws.the-copy
+    Laws.the-plain) ∷ List.[]
+
 abbrev pub r·3 : Kinds.RK 1
 r·3 = Num.rNum Syntax.w64
+
 abbrev pub ps·4 : List.List (Kinds.PK 0)
 ps·4 = (Num.pNum Syntax.w64) ∷ (Num.pNum Syntax.w64) ∷ (Num.pNum Syntax.w64) ∷ (Num.pNum Syntax.w64) ∷ List.[]
+
 abbrev pub r·4 : Kinds.RK 0
-r·4 = Value.rVal record { ty = Declared.row Places.the-type; one = Path.refl; val = Laws'.val Places.the-type Laws.the-laws; tells = Laws'.tells
-    Places.the-type Laws.the-laws; still = Laws'.still Places.the-type Laws.the-copy Exit.yes; row = Rows.whole (Declared.row Places.the-type); rd = λ
-    x. x; mk = λ x. x; } λ M 𝓤 H A W. record { copies = Laws'.copy Places.the-type Laws.the-copy 𝓤 H A W; lawful = Laws'.lawful Places.the-type
-    Laws.the-laws 𝓤 H A W; makes = Laws'.makes Places.the-type Laws.the-plain 𝓤 H A; in-mem = Local.mem-whole 𝓤 H A W (Declared.row Places.the-type);
-    of-mem = Local.whole-mem 𝓤 H A W (Declared.row Places.the-type); }
+r·4 = StructRow.result Places.the-type Laws.the-laws Laws.the-copy Laws.the-plain
+
 abbrev pub hs : List.List Syntax.Home
-hs = Syntax.valueLocal ∷ Syntax.valueLocal ∷ Syntax.valueLocal ∷ Syntax.valueLocal ∷ Syntax.valueLocal ∷ Syntax.valueLocal ∷ Syntax.valueLocal ∷
-    Syntax.valueLocal ∷ Syntax.valueLocal ∷ Syntax.valueLocal ∷ List.[]
+hs = Syntax.valueLocal ∷ Syntax.valueLocal ∷ Syntax.valueLocal ∷ Syntax.valueLocal ∷ Syntax.valueLocal ∷
+    Syntax.valueLocal ∷ Syntax.valueLocal ∷ Syntax.valueLocal ∷ Syntax.valueLocal ∷ Syntax.valueLocal ∷ List.[]
+
 abbrev b0 : Syntax.Body
-b0 = Syntax.call "hnsr_circuit::tables::pending::trim_pending" ((Syntax.copy (Syntax.place 1 List.[])) ∷ (Syntax.copy (Syntax.place 5 List.[])) ∷
-    List.[]) (Syntax.place 6 List.[])
+b0 = Syntax.call "hnsr_circuit::tables::pending::trim_pending" ((Syntax.copy (Syntax.place 1 List.[])) ∷
+    (Syntax.copy (Syntax.place 5 List.[])) ∷ List.[]) (Syntax.place 6 List.[])
+
 abbrev b1 : Syntax.Body
-b1 = Syntax.call "hnsr_circuit::tables::circuits::trim_circuits" ((Syntax.copy (Syntax.place 2 List.[])) ∷ (Syntax.copy (Syntax.place 5 List.[])) ∷
-    List.[]) (Syntax.place 7 List.[])
+b1 = Syntax.call "hnsr_circuit::tables::circuits::trim_circuits" ((Syntax.copy (Syntax.place 2 List.[])) ∷
+    (Syntax.copy (Syntax.place 5 List.[])) ∷ List.[]) (Syntax.place 7 List.[])
+
 abbrev b2 : Syntax.Body
-b2 = Syntax.call "hnsr_circuit::tables::ledger::trim_ledger" ((Syntax.copy (Syntax.place 3 List.[])) ∷ (Syntax.copy (Syntax.place 5 List.[])) ∷
-    List.[]) (Syntax.place 8 List.[])
+b2 = Syntax.call "hnsr_circuit::tables::ledger::trim_ledger" ((Syntax.copy (Syntax.place 3 List.[])) ∷
+    (Syntax.copy (Syntax.place 5 List.[])) ∷ List.[]) (Syntax.place 8 List.[])
+
 abbrev b3 : Syntax.Body
-b3 = Syntax.call "hnsr_circuit::tables::inflight::trim_actions" ((Syntax.copy (Syntax.place 4 List.[])) ∷ (Syntax.copy (Syntax.place 5 List.[])) ∷
-    List.[]) (Syntax.place 9 List.[])
+b3 = Syntax.call "hnsr_circuit::tables::inflight::trim_actions" ((Syntax.copy (Syntax.place 4 List.[])) ∷
+    (Syntax.copy (Syntax.place 5 List.[])) ∷ List.[]) (Syntax.place 9 List.[])
+
 abbrev b4 : Syntax.Body
-b4 = Syntax.call "hnsr_circuit::places::places_of" ((Syntax.copy (Syntax.place 6 List.[])) ∷ (Syntax.copy (Syntax.place 7 List.[])) ∷ (Syntax.copy
-    (Syntax.place 8 List.[])) ∷ (Syntax.copy (Syntax.place 9 List.[])) ∷ List.[]) (Syntax.place 0 List.[])
+b4 = Syntax.call "hnsr_circuit::places::places_of" ((Syntax.copy (Syntax.place 6 List.[])) ∷
+    (Syntax.copy (Syntax.place 7 List.[])) ∷ (Syntax.copy (Syntax.place 8 List.[])) ∷
+    (Syntax.copy (Syntax.place 9 List.[])) ∷ List.[]) (Syntax.place 0 List.[])
+
 abbrev b5 : Syntax.Body
 b5 = Syntax.return
+
 abbrev b6 : Syntax.Body
 b6 = Syntax.seq b4 b5
+
 abbrev b7 : Syntax.Body
 b7 = Syntax.seq b3 b6
+
 abbrev b8 : Syntax.Body
 b8 = Syntax.seq b2 b7
+
 abbrev b9 : Syntax.Body
 b9 = Syntax.seq b1 b8
+
 abbrev b10 : Syntax.Body
 b10 = Syntax.seq b0 b9
+
 abbrev pub body : Syntax.Body
 body = b10
+
 abbrev pub Claims : Type 1
-Claims = Kinds.In 1 ps·0 × Kinds.Out 1 ps·0 r·0 × Kinds.In 1 ps·1 × Kinds.Out 1 ps·1 r·1 × Kinds.In 1 ps·2 × Kinds.Out 1 ps·2 r·2 × Kinds.In 1 ps·3 ×
-    Kinds.Out 1 ps·3 r·3 × Kinds.In 0 ps·4 × Kinds.Out 0 ps·4 r·4
+Claims = Kinds.In 1 ps·0 × Kinds.Out 1 ps·0 r·0 × Kinds.In 1 ps·1 × Kinds.Out 1 ps·1 r·1 × Kinds.In 1 ps·2 × Kinds.Out
+    1 ps·2 r·2 × Kinds.In 1 ps·3 × Kinds.Out 1 ps·3 r·3 × Kinds.In 0 ps·4 × Kinds.Out 0 ps·4 r·4
+
 abbrev e0 : Row.Entry
 e0 = (0, Rows.any-gone Laws.mir)
+
 abbrev e1 : Row.Entry
 e1 = (1, Rows.sslice RelayPending.row ref0 0)
+
 abbrev e2 : Row.Entry
 e2 = (2, Rows.sslice RelayCircuit.row ref1 1)
+
 abbrev e3 : Row.Entry
 e3 = (3, Rows.sslice ReservationUsage.row ref2 2)
+
 abbrev e4 : Row.Entry
 e4 = (4, Rows.sslice InflightAction.row ref3 3)
+
 abbrev e5 : Row.Entry
 e5 = (5, Rows.whole (Declared.row Places.the-type))
+
 abbrev e6 : Row.Entry
 e6 = (6, Rows.any-gone (Syntax.tyInt Syntax.w64))
+
 abbrev e7 : Row.Entry
 e7 = (7, Rows.any-gone (Syntax.tyInt Syntax.w64))
+
 abbrev e8 : Row.Entry
 e8 = (8, Rows.any-gone (Syntax.tyInt Syntax.w64))
+
 abbrev e9 : Row.Entry
 e9 = (9, Rows.any-gone (Syntax.tyInt Syntax.w64))
+
 abbrev e0·1 : Row.Entry
 e0·1 = (0, Rows.whole (Declared.row Places.the-type))
+
 abbrev e5·1 : Row.Entry
 e5·1 = (5, Rows.any-gone Laws.mir)
+
 abbrev e6·1 : Row.Entry
 e6·1 = (6, Rows.sc-here (Row.sInt Syntax.w64))
+
 abbrev e7·1 : Row.Entry
 e7·1 = (7, Rows.sc-here (Row.sInt Syntax.w64))
+
 abbrev e8·1 : Row.Entry
 e8·1 = (8, Rows.sc-here (Row.sInt Syntax.w64))
+
 abbrev e9·1 : Row.Entry
 e9·1 = (9, Rows.sc-here (Row.sInt Syntax.w64))
+
 abbrev pub t0 : List.List Row.Entry
 t0 = e0 ∷ e1 ∷ e2 ∷ e3 ∷ e4 ∷ e5 ∷ e6 ∷ e7 ∷ e8 ∷ e9 ∷ List.[]
+
 abbrev pub t1 : List.List Row.Entry
 t1 = e0·1 ∷ e1 ∷ e2 ∷ e3 ∷ e4 ∷ e5·1 ∷ e6 ∷ e7 ∷ e8 ∷ e9 ∷ List.[]
+
 abbrev pub t2 : List.List Row.Entry
 t2 = e0 ∷ e1 ∷ e2 ∷ e3 ∷ e4 ∷ e5 ∷ e6·1 ∷ e7 ∷ e8 ∷ e9 ∷ List.[]
+
 abbrev pub t3 : List.List Row.Entry
 t3 = e0 ∷ e1 ∷ e2 ∷ e3 ∷ e4 ∷ e5 ∷ e6·1 ∷ e7·1 ∷ e8 ∷ e9 ∷ List.[]
+
 abbrev pub t4 : List.List Row.Entry
 t4 = e0 ∷ e1 ∷ e2 ∷ e3 ∷ e4 ∷ e5 ∷ e6·1 ∷ e7·1 ∷ e8·1 ∷ e9 ∷ List.[]
+
 abbrev pub t5 : List.List Row.Entry
 t5 = e0 ∷ e1 ∷ e2 ∷ e3 ∷ e4 ∷ e5 ∷ e6·1 ∷ e7·1 ∷ e8·1 ∷ e9·1 ∷ List.[]
+
 abbrev pub t6 : List.List Row.Entry
 t6 = e0 ∷ e1 ∷ e2 ∷ e3 ∷ e4 ∷ e5·1 ∷ e6·1 ∷ e7·1 ∷ e8·1 ∷ e9·1 ∷ List.[]
+
 abbrev pub t7 : List.List Row.Entry
 t7 = e0·1 ∷ e1 ∷ e2 ∷ e3 ∷ e4 ∷ e5·1 ∷ e6·1 ∷ e7·1 ∷ e8·1 ∷ e9·1 ∷ List.[]
+
 abbrev pub t8 : List.List Row.Entry
 t8 = e0·1 ∷ e1 ∷ e2 ∷ e3 ∷ e4 ∷ e5·1 ∷ e6 ∷ e7·1 ∷ e8·1 ∷ e9·1 ∷ List.[]
+
 abbrev pub t9 : List.List Row.Entry
 t9 = e0·1 ∷ e1 ∷ e2 ∷ e3 ∷ e4 ∷ e5·1 ∷ e6 ∷ e7 ∷ e8·1 ∷ e9·1 ∷ List.[]
+
 abbrev pub t10 : List.List Row.Entry
 t10 = e0·1 ∷ e1 ∷ e2 ∷ e3 ∷ e4 ∷ e5·1 ∷ e6 ∷ e7 ∷ e8 ∷ e9·1 ∷ List.[]
+
 abbrev pub T0 : Row.Cx
 T0 = record { locals = t0; slots = List.[] }
+
 abbrev pub T1 : Row.Cx
 T1 = record { locals = t1; slots = List.[] }
+
 abbrev pub T2 : Row.Cx
 T2 = record { locals = t2; slots = List.[] }
+
 abbrev pub T3 : Row.Cx
 T3 = record { locals = t3; slots = List.[] }
+
 abbrev pub T4 : Row.Cx
 T4 = record { locals = t4; slots = List.[] }
+
 abbrev pub T5 : Row.Cx
 T5 = record { locals = t5; slots = List.[] }
+
 abbrev pub T6 : Row.Cx
 T6 = record { locals = t6; slots = List.[] }
+
 abbrev pub T7 : Row.Cx
 T7 = record { locals = t7; slots = List.[] }
+
 abbrev pub T8 : Row.Cx
 T8 = record { locals = t8; slots = List.[] }
+
 abbrev pub T9 : Row.Cx
 T9 = record { locals = t9; slots = List.[] }
+
 abbrev pub T10 : Row.Cx
 T10 = record { locals = t10; slots = List.[] }
+
 abbrev pub T11 : Row.Cx
 T11 = record { locals = t1; slots = List.[] }
+
 abbrev pub O0 : Typed.Outs
 O0 = record { next = Option.none; exits = List.[]; returns = Option.some T1 }
+
 module _ (claims· : Claims) where
+  abbrev args0 : Args'.ArgsT ps·0 (T0 .locals)
+  args0 = (record { pos = 1; ty = ref0; ref = λ x. x }, (record { pos = 5; st = List.[]; d = 0; at = λ x. x }, tt))
+
   abbrev s0 : Typed.Both T0 T2
-  s0 = Call.callB ps·0 r·0 (claims· .0) (claims· .1) T0 (record { pos = 1; ty = Syntax.tyRef (Syntax.named 0) Syntax.imm RelayPending.to; ref = λ x.
-      x; }, (record { pos = 5; st = List.[]; d = 0; at = λ x. x }, tt),) 6 (0 ∷ List.[]) (Syntax.tyInt Syntax.w64)
+  s0 = Call.callB ps·0 r·0 (claims· .0) (claims· .1) T0 args0 6 (0 ∷ List.[]) (Syntax.tyInt Syntax.w64)
+
+  abbrev args1 : Args'.ArgsT ps·1 (T2 .locals)
+  args1 = (record { pos = 2; ty = ref1; ref = λ x. x }, (record { pos = 5; st = List.[]; d = 0; at = λ x. x }, tt))
+
   abbrev s1 : Typed.Both T2 T3
-  s1 = Call.callB ps·1 r·1 (claims· .2) (claims· .3) T2 (record { pos = 2; ty = Syntax.tyRef (Syntax.named 1) Syntax.imm RelayCircuit.to; ref = λ x.
-      x; }, (record { pos = 5; st = List.[]; d = 0; at = λ x. x }, tt),) 7 (1 ∷ List.[]) (Syntax.tyInt Syntax.w64)
+  s1 = Call.callB ps·1 r·1 (claims· .2) (claims· .3) T2 args1 7 (1 ∷ List.[]) (Syntax.tyInt Syntax.w64)
+
+  abbrev args2 : Args'.ArgsT ps·2 (T3 .locals)
+  args2 = (record { pos = 3; ty = ref2; ref = λ x. x }, (record { pos = 5; st = List.[]; d = 0; at = λ x. x }, tt))
+
   abbrev s2 : Typed.Both T3 T4
-  s2 = Call.callB ps·2 r·2 (claims· .4) (claims· .5) T3 (record { pos = 3; ty = Syntax.tyRef (Syntax.named 2) Syntax.imm ReservationUsage.to; ref = λ
-      x. x; }, (record { pos = 5; st = List.[]; d = 0; at = λ x. x }, tt),) 8 (2 ∷ List.[]) (Syntax.tyInt Syntax.w64)
+  s2 = Call.callB ps·2 r·2 (claims· .4) (claims· .5) T3 args2 8 (2 ∷ List.[]) (Syntax.tyInt Syntax.w64)
+
+  abbrev args3 : Args'.ArgsT ps·3 (T4 .locals)
+  args3 = (record { pos = 4; ty = ref3; ref = λ x. x }, (record { pos = 5; st = List.[]; d = 0; at = λ x. x }, tt))
+
   abbrev s3 : Typed.Both T4 T5
-  s3 = Call.callB ps·3 r·3 (claims· .6) (claims· .7) T4 (record { pos = 4; ty = Syntax.tyRef (Syntax.named 3) Syntax.imm InflightAction.to; ref = λ x.
-      x; }, (record { pos = 5; st = List.[]; d = 0; at = λ x. x }, tt),) 9 (3 ∷ List.[]) (Syntax.tyInt Syntax.w64)
+  s3 = Call.callB ps·3 r·3 (claims· .6) (claims· .7) T4 args3 9 (3 ∷ List.[]) (Syntax.tyInt Syntax.w64)
+
   abbrev s4 : Typed.Mo T5 → Typed.Mo T6
   s4 = Scalar.n-room T5 5 Laws.mir
+
+  abbrev args5 : Args'.ArgsT ps·4 (T6 .locals)
+  args5 = (Num.vAt 6 λ x. x, (Num.vAt 7 λ x. x, (Num.vAt 8 λ x. x, (Num.vAt 9 λ x. x, tt))))
+
   abbrev s5 : Typed.Both T6 T7
-  s5 = Call.callB ps·4 r·4 (claims· .8) (claims· .9) T6 (Num.vAt 6 λ x. x, (Num.vAt 7 λ x. x, (Num.vAt 8 λ x. x, (Num.vAt 9 λ x. x, tt))),) 0 List.[]
-      Laws.mir
+  s5 = Call.callB ps·4 r·4 (claims· .8) (claims· .9) T6 args5 0 List.[] Laws.mir
+
   abbrev s6 : Typed.Mo T7 → Typed.Mo T8
   s6 = Scalar.n-room T7 6 (Syntax.tyInt Syntax.w64)
+
   abbrev s7 : Typed.Mo T8 → Typed.Mo T9
   s7 = Scalar.n-room T8 7 (Syntax.tyInt Syntax.w64)
+
   abbrev s8 : Typed.Mo T9 → Typed.Mo T10
   s8 = Scalar.n-room T9 8 (Syntax.tyInt Syntax.w64)
+
   abbrev s9 : Typed.Mo T10 → Typed.Mo T11
   s9 = Scalar.n-room T10 9 (Syntax.tyInt Syntax.w64)
-  module _ (Pre· : (κs : Lifetimes.Lfts 4) → Kinds.Dens κs ps → Type 0) (Post· : (κs : Lifetimes.Lfts 4) → (a : Kinds.Dens κs ps) → Kinds.Plain 4 ps r
-      κs) where
+
+  module _ (Pre· : (κs : Lifetimes.Lfts 4) → Kinds.Dens κs ps → Type 0) (Post· : (κs : Lifetimes.Lfts 4) →
+      (a : Kinds.Dens κs ps) → Kinds.Plain 4 ps r κs) where
     module _ (M : Type 1) where
       abbrev pub Closed : Type 2
-      Closed = (𝓤 : URA.URA M) (H : Wp.Heap 𝓤) (A : Atoms.Atoms 𝓤) (W : Kit.Given 𝓤 H A) (𝓣 : Wp.Tables 𝓤 H) (known0 : Plain.Known 𝓤 H A W 𝓣 1 ps·0
-          r·0 (claims· .0) (claims· .1) "hnsr_circuit::tables::pending::trim_pending") (known1 : Plain.Known 𝓤 H A W 𝓣 1 ps·1 r·1 (claims· .2)
-          (claims· .3) "hnsr_circuit::tables::circuits::trim_circuits") (known2 : Plain.Known 𝓤 H A W 𝓣 1 ps·2 r·2 (claims· .4) (claims· .5)
-          "hnsr_circuit::tables::ledger::trim_ledger") (known3 : Plain.Known 𝓤 H A W 𝓣 1 ps·3 r·3 (claims· .6) (claims· .7)
-          "hnsr_circuit::tables::inflight::trim_actions") (known4 : Plain.Known 𝓤 H A W 𝓣 0 ps·4 r·4 (claims· .8) (claims· .9)
-          "hnsr_circuit::places::places_of") → Statement.Triple 𝓤 (Wp.WpFn 𝓤 H (𝓣 .C) (𝓣 .Λ) (Function.fnOf 4 ps r xs m hs body)) (Function.plainOf 𝓤
-          H A 4 ps r Pre· Post·)
+      Closed = (𝓤 : URA.URA M) (H : Wp.Heap 𝓤) (A : Atoms.Atoms 𝓤) (W : Kit.Given 𝓤 H A) (𝓣 : Wp.Tables 𝓤 H) (known0 :
+          Plain.Known 𝓤 H A W 𝓣 1 ps·0 r·0 (claims· .0) (claims· .1) "hnsr_circuit::tables::pending::trim_pending") (known1
+          : Plain.Known 𝓤 H A W 𝓣 1 ps·1 r·1 (claims· .2) (claims· .3) "hnsr_circuit::tables::circuits::trim_circuits") (known2
+          : Plain.Known 𝓤 H A W 𝓣 1 ps·2 r·2 (claims· .4) (claims· .5) "hnsr_circuit::tables::ledger::trim_ledger") (known3
+          : Plain.Known 𝓤 H A W 𝓣 1 ps·3 r·3 (claims· .6) (claims· .7) "hnsr_circuit::tables::inflight::trim_actions") (known4
+          : Plain.Known 𝓤 H A W 𝓣 0 ps·4 r·4 (claims· .8) (claims· .9) "hnsr_circuit::places::places_of") →
+          Statement.Triple 𝓤 (Wp.WpFn 𝓤 H (𝓣 .C) (𝓣 .Λ) (Function.fnOf 4 ps r xs m hs body))
+          (Function.plainOf 𝓤 H A 4 ps r Pre· Post·)
+
     module _ where
       abbrev at0 : Typed.TF T11 O0
       at0 = Typed.atRet O0
+
       abbrev at1 : Typed.TF T10 O0
       at1 = λ Ψ. Typed.pass T10 T11 s9 (at0 Ψ)
+
       abbrev at2 : Typed.TF T9 O0
       at2 = λ Ψ. Typed.pass T9 T10 s8 (at1 Ψ)
+
       abbrev at3 : Typed.TF T8 O0
       at3 = λ Ψ. Typed.pass T8 T9 s7 (at2 Ψ)
+
       abbrev at4 : Typed.TF T7 O0
       at4 = λ Ψ. Typed.pass T7 T8 s6 (at3 Ψ)
+
       abbrev at5 : Typed.TF T6 O0
       at5 = λ Ψ. Typed.both s5 (at4 Ψ)
+
       abbrev at6 : Typed.TF T5 O0
       at6 = λ Ψ. Typed.pass T5 T6 s4 (at5 Ψ)
+
       abbrev at7 : Typed.TF T4 O0
       at7 = λ Ψ. Typed.both s3 (at6 Ψ)
+
       abbrev at8 : Typed.TF T3 O0
       at8 = λ Ψ. Typed.both s2 (at7 Ψ)
+
       abbrev at9 : Typed.TF T2 O0
       at9 = λ Ψ. Typed.both s1 (at8 Ψ)
+
       abbrev at10 : Typed.TF T0 O0
       at10 = λ Ψ. Typed.both s0 (at9 Ψ)
+
       abbrev pub Φ : Typed.TF T0 O0
       Φ = at10
-      module _ { M : Type 1 } (𝓤 : URA.URA M) (H : Wp.Heap 𝓤) (A : Atoms.Atoms 𝓤) (W : Kit.Given 𝓤 H A) (𝓣 : Wp.Tables 𝓤 H) where
+
+      module _ {M : Type 1} (𝓤 : URA.URA M) (H : Wp.Heap 𝓤) (A : Atoms.Atoms 𝓤) (W : Kit.Given 𝓤 H A)
+          (𝓣 : Wp.Tables 𝓤 H) where
         abbrev Knowns : Type 1
-        Knowns = Plain.Known 𝓤 H A W 𝓣 1 ps·0 r·0 (claims· .0) (claims· .1) "hnsr_circuit::tables::pending::trim_pending" × Plain.Known 𝓤 H A W 𝓣 1
-            ps·1 r·1 (claims· .2) (claims· .3) "hnsr_circuit::tables::circuits::trim_circuits" × Plain.Known 𝓤 H A W 𝓣 1 ps·2 r·2 (claims· .4)
-            (claims· .5) "hnsr_circuit::tables::ledger::trim_ledger" × Plain.Known 𝓤 H A W 𝓣 1 ps·3 r·3 (claims· .6) (claims· .7)
-            "hnsr_circuit::tables::inflight::trim_actions" × Plain.Known 𝓤 H A W 𝓣 0 ps·4 r·4 (claims· .8) (claims· .9)
-            "hnsr_circuit::places::places_of"
+        Knowns = Plain.Known 𝓤 H A W 𝓣 1 ps·0 r·0 (claims· .0) (claims· .1)
+            "hnsr_circuit::tables::pending::trim_pending" × Plain.Known 𝓤 H A W 𝓣 1 ps·1 r·1 (claims· .2) (claims· .3)
+            "hnsr_circuit::tables::circuits::trim_circuits" × Plain.Known 𝓤 H A W 𝓣 1 ps·2 r·2 (claims· .4)
+            (claims· .5) "hnsr_circuit::tables::ledger::trim_ledger" × Plain.Known 𝓤 H A W 𝓣 1 ps·3 r·3 (claims· .6)
+            (claims· .7) "hnsr_circuit::tables::inflight::trim_actions" × Plain.Known 𝓤 H A W 𝓣 0 ps·4 r·4 (claims· .8)
+            (claims· .9) "hnsr_circuit::places::places_of"
+
       module _ (κs : Lifetimes.Lfts 4) (qs : Lifetimes.Shares 4) where
         abbrev life0 : Row.Life
         life0 = Row.lease (κs .0) (qs .0)
+
         abbrev life1 : Row.Life
         life1 = Row.lease (κs .1 .0) (qs .1 .0)
+
         abbrev life2 : Row.Life
         life2 = Row.lease (κs .1 .1 .0) (qs .1 .1 .0)
+
         abbrev life3 : Row.Life
         life3 = Row.lease (κs .1 .1 .1 .0) (qs .1 .1 .1 .0)
+
         abbrev G0 : Row.Cx
-        G0 = record { locals = t0; slots = life0 ∷ life1 ∷ life2 ∷ life3 ∷ List.[]; }
+        G0 = record { locals = t0; slots = life0 ∷ life1 ∷ life2 ∷ life3 ∷ List.[] }
+
         abbrev G1 : Row.Cx
-        G1 = record { locals = t1; slots = life0 ∷ life1 ∷ life2 ∷ life3 ∷ List.[]; }
+        G1 = record { locals = t1; slots = life0 ∷ life1 ∷ life2 ∷ life3 ∷ List.[] }
+
         abbrev G2 : Row.Cx
-        G2 = record { locals = t2; slots = life0 ∷ life1 ∷ life2 ∷ life3 ∷ List.[]; }
+        G2 = record { locals = t2; slots = life0 ∷ life1 ∷ life2 ∷ life3 ∷ List.[] }
+
         abbrev G3 : Row.Cx
-        G3 = record { locals = t3; slots = life0 ∷ life1 ∷ life2 ∷ life3 ∷ List.[]; }
+        G3 = record { locals = t3; slots = life0 ∷ life1 ∷ life2 ∷ life3 ∷ List.[] }
+
         abbrev G4 : Row.Cx
-        G4 = record { locals = t4; slots = life0 ∷ life1 ∷ life2 ∷ life3 ∷ List.[]; }
+        G4 = record { locals = t4; slots = life0 ∷ life1 ∷ life2 ∷ life3 ∷ List.[] }
+
         abbrev G5 : Row.Cx
-        G5 = record { locals = t5; slots = life0 ∷ life1 ∷ life2 ∷ life3 ∷ List.[]; }
+        G5 = record { locals = t5; slots = life0 ∷ life1 ∷ life2 ∷ life3 ∷ List.[] }
+
         abbrev G6 : Row.Cx
-        G6 = record { locals = t6; slots = life0 ∷ life1 ∷ life2 ∷ life3 ∷ List.[]; }
+        G6 = record { locals = t6; slots = life0 ∷ life1 ∷ life2 ∷ life3 ∷ List.[] }
+
         abbrev G7 : Row.Cx
-        G7 = record { locals = t7; slots = life0 ∷ life1 ∷ life2 ∷ life3 ∷ List.[]; }
+        G7 = record { locals = t7; slots = life0 ∷ life1 ∷ life2 ∷ life3 ∷ List.[] }
+
         abbrev G8 : Row.Cx
-        G8 = record { locals = t8; slots = life0 ∷ life1 ∷ life2 ∷ life3 ∷ List.[]; }
+        G8 = record { locals = t8; slots = life0 ∷ life1 ∷ life2 ∷ life3 ∷ List.[] }
+
         abbrev G9 : Row.Cx
-        G9 = record { locals = t9; slots = life0 ∷ life1 ∷ life2 ∷ life3 ∷ List.[]; }
+        G9 = record { locals = t9; slots = life0 ∷ life1 ∷ life2 ∷ life3 ∷ List.[] }
+
         abbrev G10 : Row.Cx
-        G10 = record { locals = t10; slots = life0 ∷ life1 ∷ life2 ∷ life3 ∷ List.[]; }
+        G10 = record { locals = t10; slots = life0 ∷ life1 ∷ life2 ∷ life3 ∷ List.[] }
+
         abbrev G11 : Row.Cx
-        G11 = record { locals = t1; slots = life0 ∷ life1 ∷ life2 ∷ life3 ∷ List.[]; }
+        G11 = record { locals = t1; slots = life0 ∷ life1 ∷ life2 ∷ life3 ∷ List.[] }
+
         abbrev Δ0 : Typed.Outs
         Δ0 = record { next = Option.none; exits = List.[]; returns = Option.some G1 }
-        module _ { M : Type 1 } (𝓤 : URA.URA M) (H : Wp.Heap 𝓤) (A : Atoms.Atoms 𝓤) (W : Kit.Given 𝓤 H A) (𝓣 : Wp.Tables 𝓤 H) (known : Knowns 𝓤 H A W
-            𝓣) (bs : List.List Nat.ℕ) (bd : Lifetimes.AllOutlive 4 (Kinds.osR r) κs) where
+
+        module _ {M : Type 1} (𝓤 : URA.URA M) (H : Wp.Heap 𝓤) (A : Atoms.Atoms 𝓤) (W : Kit.Given 𝓤 H A)
+            (𝓣 : Wp.Tables 𝓤 H) (known : Knowns 𝓤 H A W 𝓣) (bs : List.List Nat.ℕ)
+            (bd : Lifetimes.AllOutlive 4 (Kinds.osR r) κs) where
           abbrev E : Wp.Env 𝓤 H
           E = Frame.EnvOf 𝓤 H ((Kinds.tyR r) ∷ (Enter.tysP ps xs)) bs
+
           d0 : Typed.Typed 𝓤 H A 𝓣 E G11 b5 Δ0 at0
           d0 = Typed.t-return 𝓤 H A W 𝓣 E Δ0 tt
+
           d1 : Typed.Typed 𝓤 H A 𝓣 E G10 b5 Δ0 at1
-          d1 = Typed.g-pre 𝓤 H A W 𝓣 E G10 G11 b5 Δ0 (Typed.pass T10 T11 s9) at0 (Scalar.g-room 𝓤 H A W E G10 9 (Syntax.tyInt Syntax.w64)
-              (Scalar.room-sc 𝓤 H A W (Row.sInt Syntax.w64))) d0
+          d1 = Typed.g-pre 𝓤 H A W 𝓣 E G10 G11 b5 Δ0 (Typed.pass T10 T11 s9) at0 (Scalar.g-room 𝓤 H A W E G10 9
+              (Syntax.tyInt Syntax.w64) (Scalar.room-sc 𝓤 H A W (Row.sInt Syntax.w64))) d0
+
           d2 : Typed.Typed 𝓤 H A 𝓣 E G9 b5 Δ0 at2
-          d2 = Typed.g-pre 𝓤 H A W 𝓣 E G9 G10 b5 Δ0 (Typed.pass T9 T10 s8) at1 (Scalar.g-room 𝓤 H A W E G9 8 (Syntax.tyInt Syntax.w64) (Scalar.room-sc
-              𝓤 H A W (Row.sInt Syntax.w64))) d1
+          d2 = Typed.g-pre 𝓤 H A W 𝓣 E G9 G10 b5 Δ0 (Typed.pass T9 T10 s8) at1 (Scalar.g-room 𝓤 H A W E G9 8
+              (Syntax.tyInt Syntax.w64) (Scalar.room-sc 𝓤 H A W (Row.sInt Syntax.w64))) d1
+
           d3 : Typed.Typed 𝓤 H A 𝓣 E G8 b5 Δ0 at3
-          d3 = Typed.g-pre 𝓤 H A W 𝓣 E G8 G9 b5 Δ0 (Typed.pass T8 T9 s7) at2 (Scalar.g-room 𝓤 H A W E G8 7 (Syntax.tyInt Syntax.w64) (Scalar.room-sc 𝓤
-              H A W (Row.sInt Syntax.w64))) d2
+          d3 = Typed.g-pre 𝓤 H A W 𝓣 E G8 G9 b5 Δ0 (Typed.pass T8 T9 s7) at2 (Scalar.g-room 𝓤 H A W E G8 7
+              (Syntax.tyInt Syntax.w64) (Scalar.room-sc 𝓤 H A W (Row.sInt Syntax.w64))) d2
+
           d4 : Typed.Typed 𝓤 H A 𝓣 E G7 b5 Δ0 at4
-          d4 = Typed.g-pre 𝓤 H A W 𝓣 E G7 G8 b5 Δ0 (Typed.pass T7 T8 s6) at3 (Scalar.g-room 𝓤 H A W E G7 6 (Syntax.tyInt Syntax.w64) (Scalar.room-sc 𝓤
-              H A W (Row.sInt Syntax.w64))) d3
+          d4 = Typed.g-pre 𝓤 H A W 𝓣 E G7 G8 b5 Δ0 (Typed.pass T7 T8 s6) at3 (Scalar.g-room 𝓤 H A W E G7 6
+              (Syntax.tyInt Syntax.w64) (Scalar.room-sc 𝓤 H A W (Row.sInt Syntax.w64))) d3
+
           d5 : Typed.Typed 𝓤 H A 𝓣 E G6 b6 Δ0 at5
-          d5 = Typed.s-seq 𝓤 H A W 𝓣 E G6 G7 b4 b5 Δ0 (Typed.both s5) at4 (Plain.t-call-plain 𝓤 H A W 𝓣 0 ps·4 r·4 (claims· .8) (claims· .9)
-              "hnsr_circuit::places::places_of" (known .4) E (λ pos β. β) G6 (Num.vAt 6 λ x. x, (Num.vAt 7 λ x. x, (Num.vAt 8 λ x. x, (Num.vAt 9 λ x.
-              x, tt))),) 0 List.[] (Call.sub-id 𝓤 H A W (G6 .slots)) ((Scalar.reads-sc 𝓤 H A W (Row.sInt Syntax.w64), Path.refl), ((Scalar.reads-sc 𝓤
-              H A W (Row.sInt Syntax.w64), Path.refl), ((Scalar.reads-sc 𝓤 H A W (Row.sInt Syntax.w64), Path.refl), ((Scalar.reads-sc 𝓤 H A W
-              (Row.sInt Syntax.w64), Path.refl), tt),),),) (Reads.room-gone 𝓤 H A Laws.mir) tt Path.refl) d4
+          d5 = Typed.s-seq 𝓤 H A W 𝓣 E G6 G7 b4 b5 Δ0 (Typed.both s5) at4 (Plain.t-call-plain 𝓤 H A W 𝓣 0 ps·4 r·4
+              (claims· .8) (claims· .9) "hnsr_circuit::places::places_of" (known .4) E (λ pos β. β) G6 (
+                Num.vAt 6 λ x. x,
+                (Num.vAt 7 λ x. x, (Num.vAt 8 λ x. x, (Num.vAt 9 λ x. x, tt))),
+              ) 0 List.[] (Call.sub-id 𝓤 H A W (G6 .slots)) (
+                (Scalar.reads-sc 𝓤 H A W (Row.sInt Syntax.w64), Path.refl),
+                (
+                  (Scalar.reads-sc 𝓤 H A W (Row.sInt Syntax.w64), Path.refl),
+                  (
+                    (Scalar.reads-sc 𝓤 H A W (Row.sInt Syntax.w64), Path.refl),
+                    ((Scalar.reads-sc 𝓤 H A W (Row.sInt Syntax.w64), Path.refl), tt),
+                  ),
+                ),
+              ) (Reads.room-gone 𝓤 H A Laws.mir) tt Path.refl) d4
+
           d6 : Typed.Typed 𝓤 H A 𝓣 E G5 b6 Δ0 at6
-          d6 = Typed.g-pre 𝓤 H A W 𝓣 E G5 G6 b6 Δ0 (Typed.pass T5 T6 s4) at5 (Scalar.g-room 𝓤 H A W E G5 5 Laws.mir (Local.room-whole 𝓤 H A W
-              (Declared.row Places.the-type) Laws.mir Path.refl)) d5
+          d6 = Typed.g-pre 𝓤 H A W 𝓣 E G5 G6 b6 Δ0 (Typed.pass T5 T6 s4) at5 (Scalar.g-room 𝓤 H A W E G5 5 Laws.mir (Local.room-whole
+              𝓤 H A W (Declared.row Places.the-type) Laws.mir Path.refl)) d5
+
           d7 : Typed.Typed 𝓤 H A 𝓣 E G4 b7 Δ0 at7
-          d7 = Typed.s-seq 𝓤 H A W 𝓣 E G4 G5 b3 b6 Δ0 (Typed.both s3) at6 (Plain.t-call-plain 𝓤 H A W 𝓣 1 ps·3 r·3 (claims· .6) (claims· .7)
-              "hnsr_circuit::tables::inflight::trim_actions" (known .3) E (λ pos β. β) G4 (record { pos = 4; ty = Syntax.tyRef (Syntax.named 3)
-              Syntax.imm InflightAction.to; ref = λ x. x; }, (record { pos = 5; st = List.[]; d = 0; at = λ x. x }, tt),) 9 (3 ∷ List.[]) (Call.sub-id
-              𝓤 H A W (G4 .slots)) (ShrSlice.spares-sslice 𝓤 H A W InflightAction.row ref3 3, Shared.reads-sslice 𝓤 H A W InflightAction.row ref3 3,
-              Path.refl, ((Yields.yields-copy 𝓤 H A W (λ ρ. Unit) (Declared.row Places.the-type) Path.refl (Copies.cStruct Places.the-type
-              Laws.the-laws Laws.the-copy .copy 𝓤 H A W) (Rows.whole (Declared.row Places.the-type)) (λ x. x) (λ x. x) (λ ρ told. Local.mem-whole 𝓤 H
-              A W (Declared.row Places.the-type) ρ) λ ρ told. Local.whole-mem 𝓤 H A W (Declared.row Places.the-type) ρ, Path.refl,), tt,),)
-              (Reads.room-gone 𝓤 H A (Syntax.tyInt Syntax.w64)) (tt, tt) Path.refl) d6
+          d7 = Typed.s-seq 𝓤 H A W 𝓣 E G4 G5 b3 b6 Δ0 (Typed.both s3) at6 (Plain.t-call-plain 𝓤 H A W 𝓣 1 ps·3 r·3
+              (claims· .6) (claims· .7) "hnsr_circuit::tables::inflight::trim_actions" (known .3) E (λ pos β. β) G4 (
+                record { pos = 4; ty = ref3; ref = λ x. x },
+                (record { pos = 5; st = List.[]; d = 0; at = λ x. x }, tt),
+              ) 9 (3 ∷ List.[]) (Call.sub-id 𝓤 H A W (G4 .slots)) (
+                ShrSlice.spares-sslice 𝓤 H A W InflightAction.row ref3 3,
+                Shared.reads-sslice 𝓤 H A W InflightAction.row ref3 3,
+                Path.refl,
+                (
+                  (
+                    Yields.yields-copy 𝓤 H A W (λ ρ. Unit) (Declared.row Places.the-type) Path.refl (Copies.cStruct
+                        Places.the-type Laws.the-laws Laws.the-copy .copy 𝓤 H A W)
+                        (Rows.whole (Declared.row Places.the-type)) (λ x. x) (λ x. x) (λ ρ told. Local.mem-whole 𝓤 H A
+                        W (Declared.row Places.the-type) ρ) λ ρ told. Local.whole-mem 𝓤 H A W
+                        (Declared.row Places.the-type) ρ,
+                    Path.refl,
+                  ),
+                  tt,
+                ),
+              ) (Reads.room-gone 𝓤 H A (Syntax.tyInt Syntax.w64)) (tt, tt) Path.refl) d6
+
           d8 : Typed.Typed 𝓤 H A 𝓣 E G3 b8 Δ0 at8
-          d8 = Typed.s-seq 𝓤 H A W 𝓣 E G3 G4 b2 b7 Δ0 (Typed.both s2) at7 (Plain.t-call-plain 𝓤 H A W 𝓣 1 ps·2 r·2 (claims· .4) (claims· .5)
-              "hnsr_circuit::tables::ledger::trim_ledger" (known .2) E (λ pos β. β) G3 (record { pos = 3; ty = Syntax.tyRef (Syntax.named 2)
-              Syntax.imm ReservationUsage.to; ref = λ x. x; }, (record { pos = 5; st = List.[]; d = 0; at = λ x. x }, tt),) 8 (2 ∷ List.[])
-              (Call.sub-id 𝓤 H A W (G3 .slots)) (ShrSlice.spares-sslice 𝓤 H A W ReservationUsage.row ref2 2, Shared.reads-sslice 𝓤 H A W
-              ReservationUsage.row ref2 2, Path.refl, ((Yields.yields-copy 𝓤 H A W (λ ρ. Unit) (Declared.row Places.the-type) Path.refl
-              (Copies.cStruct Places.the-type Laws.the-laws Laws.the-copy .copy 𝓤 H A W) (Rows.whole (Declared.row Places.the-type)) (λ x. x) (λ x. x)
-              (λ ρ told. Local.mem-whole 𝓤 H A W (Declared.row Places.the-type) ρ) λ ρ told. Local.whole-mem 𝓤 H A W (Declared.row Places.the-type) ρ,
-              Path.refl,), tt,),) (Reads.room-gone 𝓤 H A (Syntax.tyInt Syntax.w64)) (tt, tt) Path.refl) d7
+          d8 = Typed.s-seq 𝓤 H A W 𝓣 E G3 G4 b2 b7 Δ0 (Typed.both s2) at7 (Plain.t-call-plain 𝓤 H A W 𝓣 1 ps·2 r·2
+              (claims· .4) (claims· .5) "hnsr_circuit::tables::ledger::trim_ledger" (known .2) E (λ pos β. β) G3 (
+                record { pos = 3; ty = ref2; ref = λ x. x },
+                (record { pos = 5; st = List.[]; d = 0; at = λ x. x }, tt),
+              ) 8 (2 ∷ List.[]) (Call.sub-id 𝓤 H A W (G3 .slots)) (
+                ShrSlice.spares-sslice 𝓤 H A W ReservationUsage.row ref2 2,
+                Shared.reads-sslice 𝓤 H A W ReservationUsage.row ref2 2,
+                Path.refl,
+                (
+                  (
+                    Yields.yields-copy 𝓤 H A W (λ ρ. Unit) (Declared.row Places.the-type) Path.refl (Copies.cStruct
+                        Places.the-type Laws.the-laws Laws.the-copy .copy 𝓤 H A W)
+                        (Rows.whole (Declared.row Places.the-type)) (λ x. x) (λ x. x) (λ ρ told. Local.mem-whole 𝓤 H A
+                        W (Declared.row Places.the-type) ρ) λ ρ told. Local.whole-mem 𝓤 H A W
+                        (Declared.row Places.the-type) ρ,
+                    Path.refl,
+                  ),
+                  tt,
+                ),
+              ) (Reads.room-gone 𝓤 H A (Syntax.tyInt Syntax.w64)) (tt, tt) Path.refl) d7
+
           d9 : Typed.Typed 𝓤 H A 𝓣 E G2 b9 Δ0 at9
-          d9 = Typed.s-seq 𝓤 H A W 𝓣 E G2 G3 b1 b8 Δ0 (Typed.both s1) at8 (Plain.t-call-plain 𝓤 H A W 𝓣 1 ps·1 r·1 (claims· .2) (claims· .3)
-              "hnsr_circuit::tables::circuits::trim_circuits" (known .1) E (λ pos β. β) G2 (record { pos = 2; ty = Syntax.tyRef (Syntax.named 1)
-              Syntax.imm RelayCircuit.to; ref = λ x. x; }, (record { pos = 5; st = List.[]; d = 0; at = λ x. x }, tt),) 7 (1 ∷ List.[]) (Call.sub-id 𝓤
-              H A W (G2 .slots)) (ShrSlice.spares-sslice 𝓤 H A W RelayCircuit.row ref1 1, Shared.reads-sslice 𝓤 H A W RelayCircuit.row ref1 1,
-              Path.refl, ((Yields.yields-copy 𝓤 H A W (λ ρ. Unit) (Declared.row Places.the-type) Path.refl (Copies.cStruct Places.the-type
-              Laws.the-laws Laws.the-copy .copy 𝓤 H A W) (Rows.whole (Declared.row Places.the-type)) (λ x. x) (λ x. x) (λ ρ told. Local.mem-whole 𝓤 H
-              A W (Declared.row Places.the-type) ρ) λ ρ told. Local.whole-mem 𝓤 H A W (Declared.row Places.the-type) ρ, Path.refl,), tt,),)
-              (Reads.room-gone 𝓤 H A (Syntax.tyInt Syntax.w64)) (tt, tt) Path.refl) d8
+          d9 = Typed.s-seq 𝓤 H A W 𝓣 E G2 G3 b1 b8 Δ0 (Typed.both s1) at8 (Plain.t-call-plain 𝓤 H A W 𝓣 1 ps·1 r·1
+              (claims· .2) (claims· .3) "hnsr_circuit::tables::circuits::trim_circuits" (known .1) E (λ pos β. β) G2 (
+                record { pos = 2; ty = ref1; ref = λ x. x },
+                (record { pos = 5; st = List.[]; d = 0; at = λ x. x }, tt),
+              ) 7 (1 ∷ List.[]) (Call.sub-id 𝓤 H A W (G2 .slots)) (
+                ShrSlice.spares-sslice 𝓤 H A W RelayCircuit.row ref1 1,
+                Shared.reads-sslice 𝓤 H A W RelayCircuit.row ref1 1,
+                Path.refl,
+                (
+                  (
+                    Yields.yields-copy 𝓤 H A W (λ ρ. Unit) (Declared.row Places.the-type) Path.refl (Copies.cStruct
+                        Places.the-type Laws.the-laws Laws.the-copy .copy 𝓤 H A W)
+                        (Rows.whole (Declared.row Places.the-type)) (λ x. x) (λ x. x) (λ ρ told. Local.mem-whole 𝓤 H A
+                        W (Declared.row Places.the-type) ρ) λ ρ told. Local.whole-mem 𝓤 H A W
+                        (Declared.row Places.the-type) ρ,
+                    Path.refl,
+                  ),
+                  tt,
+                ),
+              ) (Reads.room-gone 𝓤 H A (Syntax.tyInt Syntax.w64)) (tt, tt) Path.refl) d8
+
           d10 : Typed.Typed 𝓤 H A 𝓣 E G0 b10 Δ0 at10
-          d10 = Typed.s-seq 𝓤 H A W 𝓣 E G0 G2 b0 b9 Δ0 (Typed.both s0) at9 (Plain.t-call-plain 𝓤 H A W 𝓣 1 ps·0 r·0 (claims· .0) (claims· .1)
-              "hnsr_circuit::tables::pending::trim_pending" (known .0) E (λ pos β. β) G0 (record { pos = 1; ty = Syntax.tyRef (Syntax.named 0)
-              Syntax.imm RelayPending.to; ref = λ x. x; }, (record { pos = 5; st = List.[]; d = 0; at = λ x. x }, tt),) 6 (0 ∷ List.[]) (Call.sub-id 𝓤
-              H A W (G0 .slots)) (ShrSlice.spares-sslice 𝓤 H A W RelayPending.row ref0 0, Shared.reads-sslice 𝓤 H A W RelayPending.row ref0 0,
-              Path.refl, ((Yields.yields-copy 𝓤 H A W (λ ρ. Unit) (Declared.row Places.the-type) Path.refl (Copies.cStruct Places.the-type
-              Laws.the-laws Laws.the-copy .copy 𝓤 H A W) (Rows.whole (Declared.row Places.the-type)) (λ x. x) (λ x. x) (λ ρ told. Local.mem-whole 𝓤 H
-              A W (Declared.row Places.the-type) ρ) λ ρ told. Local.whole-mem 𝓤 H A W (Declared.row Places.the-type) ρ, Path.refl,), tt,),)
-              (Reads.room-gone 𝓤 H A (Syntax.tyInt Syntax.w64)) (tt, tt) Path.refl) d9
+          d10 = Typed.s-seq 𝓤 H A W 𝓣 E G0 G2 b0 b9 Δ0 (Typed.both s0) at9 (Plain.t-call-plain 𝓤 H A W 𝓣 1 ps·0 r·0
+              (claims· .0) (claims· .1) "hnsr_circuit::tables::pending::trim_pending" (known .0) E (λ pos β. β) G0 (
+                record { pos = 1; ty = ref0; ref = λ x. x },
+                (record { pos = 5; st = List.[]; d = 0; at = λ x. x }, tt),
+              ) 6 (0 ∷ List.[]) (Call.sub-id 𝓤 H A W (G0 .slots)) (
+                ShrSlice.spares-sslice 𝓤 H A W RelayPending.row ref0 0,
+                Shared.reads-sslice 𝓤 H A W RelayPending.row ref0 0,
+                Path.refl,
+                (
+                  (
+                    Yields.yields-copy 𝓤 H A W (λ ρ. Unit) (Declared.row Places.the-type) Path.refl (Copies.cStruct
+                        Places.the-type Laws.the-laws Laws.the-copy .copy 𝓤 H A W)
+                        (Rows.whole (Declared.row Places.the-type)) (λ x. x) (λ x. x) (λ ρ told. Local.mem-whole 𝓤 H A
+                        W (Declared.row Places.the-type) ρ) λ ρ told. Local.whole-mem 𝓤 H A W
+                        (Declared.row Places.the-type) ρ,
+                    Path.refl,
+                  ),
+                  tt,
+                ),
+              ) (Reads.room-gone 𝓤 H A (Syntax.tyInt Syntax.w64)) (tt, tt) Path.refl) d9
+
           pub typed : Typed.Typed 𝓤 H A 𝓣 E (Function.Γin 4 ps r xs m κs qs) b10 (Function.Δret 4 ps r xs m κs qs) Φ
           typed = d10
+
       module _ (κs : Lifetimes.Lfts 4) where
         pub record Args : Type 0 where
-          pub pending : Kinds.Den { n = 4 } κs (ShrSlice.pShrS RelayPending.row 0 tt)
-          pub circuits : Kinds.Den { n = 4 } κs (ShrSlice.pShrS RelayCircuit.row 1 tt)
-          pub ledger : Kinds.Den { n = 4 } κs (ShrSlice.pShrS ReservationUsage.row 2 tt)
-          pub inflight : Kinds.Den { n = 4 } κs (ShrSlice.pShrS InflightAction.row 3 tt)
-          pub places : Kinds.Den { n = 4 } κs (Value.pVal record { ty = Declared.row Places.the-type; one = Path.refl; val = Laws'.val Places.the-type
-              Laws.the-laws; tells = Laws'.tells Places.the-type Laws.the-laws; still = Laws'.still Places.the-type Laws.the-copy Exit.yes; row =
-              Rows.whole (Declared.row Places.the-type); rd = λ x. x; mk = λ x. x; } λ M 𝓤 H A W. record { copies = Laws'.copy Places.the-type
-              Laws.the-copy 𝓤 H A W; lawful = Laws'.lawful Places.the-type Laws.the-laws 𝓤 H A W; makes = Laws'.makes Places.the-type Laws.the-plain 𝓤
-              H A; in-mem = Local.mem-whole 𝓤 H A W (Declared.row Places.the-type); of-mem = Local.whole-mem 𝓤 H A W (Declared.row Places.the-type);
-              })
+          pub pending : Kinds.Den {n = 4} κs (ShrSlice.pShrS RelayPending.row 0 tt)
+          pub circuits : Kinds.Den {n = 4} κs (ShrSlice.pShrS RelayCircuit.row 1 tt)
+          pub ledger : Kinds.Den {n = 4} κs (ShrSlice.pShrS ReservationUsage.row 2 tt)
+          pub inflight : Kinds.Den {n = 4} κs (ShrSlice.pShrS InflightAction.row 3 tt)
+          pub places : Kinds.Den {n = 4} κs (StructRow.param Places.the-type Laws.the-laws Laws.the-copy Laws.the-plain)
+
         abbrev pub dens : (a : Args) → Kinds.Dens κs ps
         dens = λ a. (a .pending, (a .circuits, (a .ledger, (a .inflight, (a .places, tt)))))
+
       abbrev pub m0 : (κs : Lifetimes.Lfts 4) → (args : Args κs) → Typed.Mo T0
       m0 = λ κs args. (tt, Enter.partsP κs 1 ps xs (dens κs args))
+
       abbrev W0 : (κs : Lifetimes.Lfts 4) → (args : Args κs) → Typed.Want O0
-      W0 = λ κs args. (λ u. ⊥, tt, λ u. Enter.Fixs κs 1 ps xs (dens κs args) (u .1) × Post· κs (dens κs args) (Function.resV r κs (u .0))
-          (Clauses.atExit (Kinds.endedOf 4 ps r) κs (dens κs args) (Enter.lastsP κs 1 ps xs (dens κs args) (u .1))),)
+      W0 = λ κs args. (
+        λ u. ⊥,
+        tt,
+        λ u. Enter.Fixs κs 1 ps xs (dens κs args) (u .1) × Post· κs (dens κs args) (Function.resV r κs (u .0)) (Clauses.atExit
+            (Kinds.endedOf 4 ps r) κs (dens κs args) (Enter.lastsP κs 1 ps xs (dens κs args) (u .1))),
+      )
+
       pub record Start : Type 0 where
         pub κs : Lifetimes.Lfts 4
         pub args : Args κs
         pub good : Kinds.GoodsP κs ps (dens κs args)
         pub pre : Pre· κs (dens κs args)
+
       abbrev pub Need-trim-pending-requires : Type 0
       Need-trim-pending-requires = (c : Start) → s0 .asks (m0 (c .κs) (c .args))
+
       abbrev pub m1 : (before : Start) → (given : s0 .gives (m0 (before .κs) (before .args))) → Typed.Mo T2
       m1 = λ before given. s0 .next (m0 (before .κs) (before .args)) given
+
       module _ (before· : Start) where
         abbrev pub After-trim-pending·own : Type 0
-        After-trim-pending·own = Called.Called ps·0 r·0 (claims· .1) T0 (record { pos = 1; ty = Syntax.tyRef (Syntax.named 0) Syntax.imm
-            RelayPending.to; ref = λ x. x; }, (record { pos = 5; st = List.[]; d = 0; at = λ x. x }, tt),) (m0 (before· .κs) (before· .args))
+        After-trim-pending·own = Called.Called ps·0 r·0 (claims· .1) T0 args0 (m0 (before· .κs) (before· .args))
+
       pub record After-trim-pending : Type 0 where
         pub before : Start
         pub trim-pending : After-trim-pending·own before
+
       abbrev pub After-trim-pending·gave : (c : After-trim-pending) → s0 .gives (m0 (c .before .κs) (c .before .args))
-      After-trim-pending·gave = λ c. Called.given ps·0 r·0 (claims· .1) T0 (record { pos = 1; ty = Syntax.tyRef (Syntax.named 0) Syntax.imm
-          RelayPending.to; ref = λ x. x; }, (record { pos = 5; st = List.[]; d = 0; at = λ x. x }, tt),) (m0 (c .before .κs) (c .before .args)) (c
-          .trim-pending)
+      After-trim-pending·gave = λ c. Called.given ps·0 r·0 (claims· .1) T0 args0 (m0 (c .before .κs) (c .before .args))
+          (c .trim-pending)
+
       abbrev pub Need-trim-circuits-requires : Type 0
       Need-trim-circuits-requires = (c : After-trim-pending) → s1 .asks (m1 (c .before) (After-trim-pending·gave c))
-      abbrev pub m2 : (before : After-trim-pending) → (given : s1 .gives (m1 (before .before) (After-trim-pending·gave before))) → Typed.Mo T3
+
+      abbrev pub m2 : (before : After-trim-pending) → (given : s1 .gives
+          (m1 (before .before) (After-trim-pending·gave before))) → Typed.Mo T3
       m2 = λ before given. s1 .next (m1 (before .before) (After-trim-pending·gave before)) given
+
       module _ (before· : After-trim-pending) where
         abbrev pub After-trim-circuits·own : Type 0
-        After-trim-circuits·own = Called.Called ps·1 r·1 (claims· .3) T2 (record { pos = 2; ty = Syntax.tyRef (Syntax.named 1) Syntax.imm
-            RelayCircuit.to; ref = λ x. x; }, (record { pos = 5; st = List.[]; d = 0; at = λ x. x }, tt),) (m1 (before· .before)
-            (After-trim-pending·gave before·))
+        After-trim-circuits·own = Called.Called ps·1 r·1 (claims· .3) T2 args1
+            (m1 (before· .before) (After-trim-pending·gave before·))
+
       pub record After-trim-circuits : Type 0 where
         pub before : After-trim-pending
         pub trim-circuits : After-trim-circuits·own before
-      abbrev pub After-trim-circuits·gave : (c : After-trim-circuits) → s1 .gives (m1 (c .before .before) (After-trim-pending·gave (c .before)))
-      After-trim-circuits·gave = λ c. Called.given ps·1 r·1 (claims· .3) T2 (record { pos = 2; ty = Syntax.tyRef (Syntax.named 1) Syntax.imm
-          RelayCircuit.to; ref = λ x. x; }, (record { pos = 5; st = List.[]; d = 0; at = λ x. x }, tt),) (m1 (c .before .before)
+
+      abbrev pub After-trim-circuits·gave : (c : After-trim-circuits) → s1 .gives (m1 (c .before .before)
+          (After-trim-pending·gave (c .before)))
+      After-trim-circuits·gave = λ c. Called.given ps·1 r·1 (claims· .3) T2 args1 (m1 (c .before .before)
           (After-trim-pending·gave (c .before))) (c .trim-circuits)
+
       abbrev pub Need-trim-ledger-requires : Type 0
       Need-trim-ledger-requires = (c : After-trim-circuits) → s2 .asks (m2 (c .before) (After-trim-circuits·gave c))
-      abbrev pub m3 : (before : After-trim-circuits) → (given : s2 .gives (m2 (before .before) (After-trim-circuits·gave before))) → Typed.Mo T4
+
+      abbrev pub m3 : (before : After-trim-circuits) → (given : s2 .gives
+          (m2 (before .before) (After-trim-circuits·gave before))) → Typed.Mo T4
       m3 = λ before given. s2 .next (m2 (before .before) (After-trim-circuits·gave before)) given
+
       module _ (before· : After-trim-circuits) where
         abbrev pub After-trim-ledger·own : Type 0
-        After-trim-ledger·own = Called.Called ps·2 r·2 (claims· .5) T3 (record { pos = 3; ty = Syntax.tyRef (Syntax.named 2) Syntax.imm
-            ReservationUsage.to; ref = λ x. x; }, (record { pos = 5; st = List.[]; d = 0; at = λ x. x }, tt),) (m2 (before· .before)
-            (After-trim-circuits·gave before·))
+        After-trim-ledger·own = Called.Called ps·2 r·2 (claims· .5) T3 args2
+            (m2 (before· .before) (After-trim-circuits·gave before·))
+
       pub record After-trim-ledger : Type 0 where
         pub before : After-trim-circuits
         pub trim-ledger : After-trim-ledger·own before
-      abbrev pub After-trim-ledger·gave : (c : After-trim-ledger) → s2 .gives (m2 (c .before .before) (After-trim-circuits·gave (c .before)))
-      After-trim-ledger·gave = λ c. Called.given ps·2 r·2 (claims· .5) T3 (record { pos = 3; ty = Syntax.tyRef (Syntax.named 2) Syntax.imm
-          ReservationUsage.to; ref = λ x. x; }, (record { pos = 5; st = List.[]; d = 0; at = λ x. x }, tt),) (m2 (c .before .before)
+
+      abbrev pub After-trim-ledger·gave : (c : After-trim-ledger) → s2 .gives (m2 (c .before .before)
+          (After-trim-circuits·gave (c .before)))
+      After-trim-ledger·gave = λ c. Called.given ps·2 r·2 (claims· .5) T3 args2 (m2 (c .before .before)
           (After-trim-circuits·gave (c .before))) (c .trim-ledger)
+
       abbrev pub Need-trim-actions-requires : Type 0
       Need-trim-actions-requires = (c : After-trim-ledger) → s3 .asks (m3 (c .before) (After-trim-ledger·gave c))
-      abbrev pub m4 : (before : After-trim-ledger) → (given : s3 .gives (m3 (before .before) (After-trim-ledger·gave before))) → Typed.Mo T5
+
+      abbrev pub m4 : (before : After-trim-ledger) → (given : s3 .gives
+          (m3 (before .before) (After-trim-ledger·gave before))) → Typed.Mo T5
       m4 = λ before given. s3 .next (m3 (before .before) (After-trim-ledger·gave before)) given
+
       module _ (before· : After-trim-ledger) where
         abbrev pub After-trim-actions·own : Type 0
-        After-trim-actions·own = Called.Called ps·3 r·3 (claims· .7) T4 (record { pos = 4; ty = Syntax.tyRef (Syntax.named 3) Syntax.imm
-            InflightAction.to; ref = λ x. x; }, (record { pos = 5; st = List.[]; d = 0; at = λ x. x }, tt),) (m3 (before· .before)
-            (After-trim-ledger·gave before·))
+        After-trim-actions·own = Called.Called ps·3 r·3 (claims· .7) T4 args3
+            (m3 (before· .before) (After-trim-ledger·gave before·))
+
       pub record After-trim-actions : Type 0 where
         pub before : After-trim-ledger
         pub trim-actions : After-trim-actions·own before
-      abbrev pub After-trim-actions·gave : (c : After-trim-actions) → s3 .gives (m3 (c .before .before) (After-trim-ledger·gave (c .before)))
-      After-trim-actions·gave = λ c. Called.given ps·3 r·3 (claims· .7) T4 (record { pos = 4; ty = Syntax.tyRef (Syntax.named 3) Syntax.imm
-          InflightAction.to; ref = λ x. x; }, (record { pos = 5; st = List.[]; d = 0; at = λ x. x }, tt),) (m3 (c .before .before)
+
+      abbrev pub After-trim-actions·gave : (c : After-trim-actions) → s3 .gives (m3 (c .before .before)
+          (After-trim-ledger·gave (c .before)))
+      After-trim-actions·gave = λ c. Called.given ps·3 r·3 (claims· .7) T4 args3 (m3 (c .before .before)
           (After-trim-ledger·gave (c .before))) (c .trim-actions)
-      abbrev pub m5 : (before : After-trim-ledger) → (given : s3 .gives (m3 (before .before) (After-trim-ledger·gave before))) → Typed.Mo T6
+
+      abbrev pub m5 : (before : After-trim-ledger) → (given : s3 .gives
+          (m3 (before .before) (After-trim-ledger·gave before))) → Typed.Mo T6
       m5 = λ before given. s4 (m4 before given)
+
       abbrev pub Need-places-of-requires : Type 0
       Need-places-of-requires = (c : After-trim-actions) → s5 .asks (m5 (c .before) (After-trim-actions·gave c))
-      abbrev pub m6 : (before : After-trim-actions) → (given : s5 .gives (m5 (before .before) (After-trim-actions·gave before))) → Typed.Mo T7
+
+      abbrev pub m6 : (before : After-trim-actions) → (given : s5 .gives
+          (m5 (before .before) (After-trim-actions·gave before))) → Typed.Mo T7
       m6 = λ before given. s5 .next (m5 (before .before) (After-trim-actions·gave before)) given
+
       module _ (before· : After-trim-actions) where
         abbrev pub After-places-of·own : Type 0
-        After-places-of·own = Called.Called ps·4 r·4 (claims· .9) T6 (Num.vAt 6 λ x. x, (Num.vAt 7 λ x. x, (Num.vAt 8 λ x. x, (Num.vAt 9 λ x. x,
-            tt))),) (m5 (before· .before) (After-trim-actions·gave before·))
+        After-places-of·own = Called.Called ps·4 r·4 (claims· .9) T6 args5
+            (m5 (before· .before) (After-trim-actions·gave before·))
+
       pub record After-places-of : Type 0 where
         pub before : After-trim-actions
         pub places-of : After-places-of·own before
-      abbrev pub After-places-of·gave : (c : After-places-of) → s5 .gives (m5 (c .before .before) (After-trim-actions·gave (c .before)))
-      After-places-of·gave = λ c. Called.given ps·4 r·4 (claims· .9) T6 (Num.vAt 6 λ x. x, (Num.vAt 7 λ x. x, (Num.vAt 8 λ x. x, (Num.vAt 9 λ x. x,
-          tt))),) (m5 (c .before .before) (After-trim-actions·gave (c .before))) (c .places-of)
-      abbrev pub m7 : (before : After-trim-actions) → (given : s5 .gives (m5 (before .before) (After-trim-actions·gave before))) → Typed.Mo T8
+
+      abbrev pub After-places-of·gave : (c : After-places-of) → s5 .gives (m5 (c .before .before)
+          (After-trim-actions·gave (c .before)))
+      After-places-of·gave = λ c. Called.given ps·4 r·4 (claims· .9) T6 args5 (m5 (c .before .before)
+          (After-trim-actions·gave (c .before))) (c .places-of)
+
+      abbrev pub m7 : (before : After-trim-actions) → (given : s5 .gives
+          (m5 (before .before) (After-trim-actions·gave before))) → Typed.Mo T8
       m7 = λ before given. s6 (m6 before given)
-      abbrev pub m8 : (before : After-trim-actions) → (given : s5 .gives (m5 (before .before) (After-trim-actions·gave before))) → Typed.Mo T9
+
+      abbrev pub m8 : (before : After-trim-actions) → (given : s5 .gives
+          (m5 (before .before) (After-trim-actions·gave before))) → Typed.Mo T9
       m8 = λ before given. s7 (m7 before given)
-      abbrev pub m9 : (before : After-trim-actions) → (given : s5 .gives (m5 (before .before) (After-trim-actions·gave before))) → Typed.Mo T10
+
+      abbrev pub m9 : (before : After-trim-actions) → (given : s5 .gives
+          (m5 (before .before) (After-trim-actions·gave before))) → Typed.Mo T10
       m9 = λ before given. s8 (m8 before given)
-      abbrev pub m10 : (before : After-trim-actions) → (given : s5 .gives (m5 (before .before) (After-trim-actions·gave before))) → Typed.Mo T11
+
+      abbrev pub m10 : (before : After-trim-actions) → (given : s5 .gives
+          (m5 (before .before) (After-trim-actions·gave before))) → Typed.Mo T11
       m10 = λ before given. s9 (m9 before given)
+
       abbrev pub Need-returns : Type 0
-      Need-returns = (c : After-places-of) → Post· (c .before .before .before .before .before .κs) (dens (c .before .before .before .before .before
-          .κs) (c .before .before .before .before .before .args)) (Function.resV r (c .before .before .before .before .before .κs) (m10 (c .before)
-          (After-places-of·gave c) .0)) (Clauses.atExit (Kinds.endedOf 4 ps r) (c .before .before .before .before .before .κs) (dens (c .before
-          .before .before .before .before .κs) (c .before .before .before .before .before .args)) (Enter.lastsP (c .before .before .before .before
-          .before .κs) 1 ps xs (dens (c .before .before .before .before .before .κs) (c .before .before .before .before .before .args)) (m10 (c
-          .before) (After-places-of·gave c) .1)))
-      module _ (trim-pending-requires : Need-trim-pending-requires) (trim-circuits-requires : Need-trim-circuits-requires) (trim-ledger-requires :
-          Need-trim-ledger-requires) (trim-actions-requires : Need-trim-actions-requires) (places-of-requires : Need-places-of-requires) (returns :
-          Need-returns) where
-        lay5 : (c : After-places-of) → at4 (W0 (c .before .before .before .before .before .κs) (c .before .before .before .before .before .args)) (m6
-            (c .before) (After-places-of·gave c))
-        lay5 = λ c. ((Path.refl, (Path.refl, (Path.refl, (Path.refl, (tt, tt))))), returns record { before = c .before; places-of = c .places-of },)
-        lay4 : (c : After-trim-actions) → at6 (W0 (c .before .before .before .before .κs) (c .before .before .before .before .args)) (m4 (c .before)
-            (After-trim-actions·gave c))
-        lay4 = λ c. (places-of-requires record { before = c .before; trim-actions = c .trim-actions }, λ g. lay5 record { before = record { before = c
-            .before; trim-actions = c .trim-actions }; places-of = Called.called ps·4 r·4 (claims· .9) T6 (Num.vAt 6 λ x. x, (Num.vAt 7 λ x. x,
-            (Num.vAt 8 λ x. x, (Num.vAt 9 λ x. x, tt))),) (m5 (c .before) (After-trim-actions·gave c)) g; },)
-        lay3 : (c : After-trim-ledger) → at7 (W0 (c .before .before .before .κs) (c .before .before .before .args)) (m3 (c .before)
-            (After-trim-ledger·gave c))
-        lay3 = λ c. (trim-actions-requires record { before = c .before; trim-ledger = c .trim-ledger }, λ g. lay4 record { before = record { before =
-            c .before; trim-ledger = c .trim-ledger }; trim-actions = Called.called ps·3 r·3 (claims· .7) T4 (record { pos = 4; ty = Syntax.tyRef
-            (Syntax.named 3) Syntax.imm InflightAction.to; ref = λ x. x; }, (record { pos = 5; st = List.[]; d = 0; at = λ x. x }, tt),) (m3 (c
-            .before) (After-trim-ledger·gave c)) g; },)
-        lay2 : (c : After-trim-circuits) → at8 (W0 (c .before .before .κs) (c .before .before .args)) (m2 (c .before) (After-trim-circuits·gave c))
-        lay2 = λ c. (trim-ledger-requires record { before = c .before; trim-circuits = c .trim-circuits }, λ g. lay3 record { before = record { before
-            = c .before; trim-circuits = c .trim-circuits }; trim-ledger = Called.called ps·2 r·2 (claims· .5) T3 (record { pos = 3; ty = Syntax.tyRef
-            (Syntax.named 2) Syntax.imm ReservationUsage.to; ref = λ x. x; }, (record { pos = 5; st = List.[]; d = 0; at = λ x. x }, tt),) (m2 (c
-            .before) (After-trim-circuits·gave c)) g; },)
-        lay1 : (c : After-trim-pending) → at9 (W0 (c .before .κs) (c .before .args)) (m1 (c .before) (After-trim-pending·gave c))
-        lay1 = λ c. (trim-circuits-requires record { before = c .before; trim-pending = c .trim-pending }, λ g. lay2 record { before = record { before
-            = c .before; trim-pending = c .trim-pending }; trim-circuits = Called.called ps·1 r·1 (claims· .3) T2 (record { pos = 2; ty = Syntax.tyRef
-            (Syntax.named 1) Syntax.imm RelayCircuit.to; ref = λ x. x; }, (record { pos = 5; st = List.[]; d = 0; at = λ x. x }, tt),) (m1 (c .before)
-            (After-trim-pending·gave c)) g; },)
+      Need-returns = (c : After-places-of) → Post· (c .before .before .before .before .before .κs) (dens
+          (c .before .before .before .before .before .κs) (c .before .before .before .before .before .args)) (Function.resV
+          r (c .before .before .before .before .before .κs) (m10 (c .before) (After-places-of·gave c) .0)) (Clauses.atExit
+          (Kinds.endedOf 4 ps r) (c .before .before .before .before .before .κs) (dens
+          (c .before .before .before .before .before .κs) (c .before .before .before .before .before .args)) (Enter.lastsP
+          (c .before .before .before .before .before .κs) 1 ps xs (dens (c .before .before .before .before .before .κs)
+          (c .before .before .before .before .before .args)) (m10 (c .before) (After-places-of·gave c) .1)))
+
+      module _ (trim-pending-requires : Need-trim-pending-requires)
+          (trim-circuits-requires : Need-trim-circuits-requires) (trim-ledger-requires : Need-trim-ledger-requires)
+          (trim-actions-requires : Need-trim-actions-requires) (places-of-requires : Need-places-of-requires)
+          (returns : Need-returns) where
+        lay5 : (c : After-places-of) → at4 (W0 (c .before .before .before .before .before .κs)
+            (c .before .before .before .before .before .args)) (m6 (c .before) (After-places-of·gave c))
+        lay5 = λ c. (
+          (Path.refl, (Path.refl, (Path.refl, (Path.refl, (tt, tt))))),
+          returns record { before = c .before; places-of = c .places-of },
+        )
+
+        lay4 : (c : After-trim-actions) → at6 (W0 (c .before .before .before .before .κs)
+            (c .before .before .before .before .args)) (m4 (c .before) (After-trim-actions·gave c))
+        lay4 = λ c. (
+          places-of-requires record { before = c .before; trim-actions = c .trim-actions },
+          λ g. lay5 record {
+            before = record { before = c .before; trim-actions = c .trim-actions };
+            places-of = Called.called ps·4 r·4 (claims· .9) T6 args5 (m5 (c .before) (After-trim-actions·gave c)) g;
+          },
+        )
+
+        lay3 : (c : After-trim-ledger) → at7 (W0 (c .before .before .before .κs) (c .before .before .before .args))
+            (m3 (c .before) (After-trim-ledger·gave c))
+        lay3 = λ c. (
+          trim-actions-requires record { before = c .before; trim-ledger = c .trim-ledger },
+          λ g. lay4 record {
+            before = record { before = c .before; trim-ledger = c .trim-ledger };
+            trim-actions = Called.called ps·3 r·3 (claims· .7) T4 args3 (m3 (c .before) (After-trim-ledger·gave c)) g;
+          },
+        )
+
+        lay2 : (c : After-trim-circuits) → at8 (W0 (c .before .before .κs) (c .before .before .args))
+            (m2 (c .before) (After-trim-circuits·gave c))
+        lay2 = λ c. (
+          trim-ledger-requires record { before = c .before; trim-circuits = c .trim-circuits },
+          λ g. lay3 record {
+            before = record { before = c .before; trim-circuits = c .trim-circuits };
+            trim-ledger = Called.called ps·2 r·2 (claims· .5) T3 args2 (m2 (c .before) (After-trim-circuits·gave c)) g;
+          },
+        )
+
+        lay1 : (c : After-trim-pending) → at9 (W0 (c .before .κs) (c .before .args))
+            (m1 (c .before) (After-trim-pending·gave c))
+        lay1 = λ c. (
+          trim-circuits-requires record { before = c .before; trim-pending = c .trim-pending },
+          λ g. lay2 record {
+            before = record { before = c .before; trim-pending = c .trim-pending };
+            trim-circuits = Called.called ps·1 r·1 (claims· .3) T2 args1 (m1 (c .before) (After-trim-pending·gave c)) g;
+          },
+        )
+
         pub laid : (c : Start) → at10 (W0 (c .κs) (c .args)) (m0 (c .κs) (c .args))
-        laid = λ c. (trim-pending-requires c, λ g. lay1 record { before = c; trim-pending = Called.called ps·0 r·0 (claims· .1) T0 (record { pos = 1;
-            ty = Syntax.tyRef (Syntax.named 0) Syntax.imm RelayPending.to; ref = λ x. x; }, (record { pos = 5; st = List.[]; d = 0; at = λ x. x },
-            tt),) (m0 (c .κs) (c .args)) g; },)
+        laid = λ c. (
+          trim-pending-requires c,
+          λ g. lay1 record {
+            before = c;
+            trim-pending = Called.called ps·0 r·0 (claims· .1) T0 args0 (m0 (c .κs) (c .args)) g;
+          },
+        )
+
         module _ (κs : Lifetimes.Lfts 4) (qs : Lifetimes.Shares 4) where
-          pub asked : (a : Kinds.Dens κs ps) → (good : Kinds.GoodsP κs ps a) → (pre : Pre· κs a) → (bs : List.List Nat.ℕ) → Φ (Any.wantQ 4 ps r xs m
-              κs qs a (Post· κs a)) (Function.init 4 ps r xs m κs qs a)
-          asked = λ a good pre bs. laid record { κs = κs; args = record { pending = a .0; circuits = a .1 .0; ledger = a .1 .1 .0; inflight = a .1 .1
-              .1 .0; places = a .1 .1 .1 .1 .0; }; good = good; pre = pre; }
-        module _ { M : Type 1 } (𝓤 : URA.URA M) (H : Wp.Heap 𝓤) (A : Atoms.Atoms 𝓤) (W : Kit.Given 𝓤 H A) (𝓣 : Wp.Tables 𝓤 H) (known0 : Plain.Known 𝓤
-            H A W 𝓣 1 ps·0 r·0 (claims· .0) (claims· .1) "hnsr_circuit::tables::pending::trim_pending") (known1 : Plain.Known 𝓤 H A W 𝓣 1 ps·1 r·1
-            (claims· .2) (claims· .3) "hnsr_circuit::tables::circuits::trim_circuits") (known2 : Plain.Known 𝓤 H A W 𝓣 1 ps·2 r·2 (claims· .4)
-            (claims· .5) "hnsr_circuit::tables::ledger::trim_ledger") (known3 : Plain.Known 𝓤 H A W 𝓣 1 ps·3 r·3 (claims· .6) (claims· .7)
-            "hnsr_circuit::tables::inflight::trim_actions") (known4 : Plain.Known 𝓤 H A W 𝓣 0 ps·4 r·4 (claims· .8) (claims· .9)
-            "hnsr_circuit::places::places_of") where
-          pub spec : Statement.Triple 𝓤 (Wp.WpFn 𝓤 H (𝓣 .C) (𝓣 .Λ) (Function.fnOf 4 ps r xs m hs body)) (Function.plainOf 𝓤 H A 4 ps r Pre· Post·)
-          spec = Plain.t-fn-plain 𝓤 H A W 𝓣 4 ps r xs m hs body (λ κs qs bs. Φ) (λ κs qs bs bd. typed κs qs 𝓤 H A W 𝓣 (known0, known1, known2, known3,
-              known4) bs bd) Pre· Post· asked
+          pub asked : (a : Kinds.Dens κs ps) → (good : Kinds.GoodsP κs ps a) → (pre : Pre· κs a) →
+              (bs : List.List Nat.ℕ) → Φ (Any.wantQ 4 ps r xs m κs qs a (Post· κs a))
+              (Function.init 4 ps r xs m κs qs a)
+          asked = λ a good pre bs. laid record {
+            κs = κs;
+            args = record {
+              pending = a .0;
+              circuits = a .1 .0;
+              ledger = a .1 .1 .0;
+              inflight = a .1 .1 .1 .0;
+              places = a .1 .1 .1 .1 .0;
+            };
+            good = good;
+            pre = pre;
+          }
+
+        module _ {M : Type 1} (𝓤 : URA.URA M) (H : Wp.Heap 𝓤) (A : Atoms.Atoms 𝓤) (W : Kit.Given 𝓤 H A)
+            (𝓣 : Wp.Tables 𝓤 H) (known0 : Plain.Known 𝓤 H A W 𝓣 1 ps·0 r·0 (claims· .0) (claims· .1)
+            "hnsr_circuit::tables::pending::trim_pending") (known1 : Plain.Known 𝓤 H A W 𝓣 1 ps·1 r·1 (claims· .2)
+            (claims· .3) "hnsr_circuit::tables::circuits::trim_circuits") (known2 : Plain.Known 𝓤 H A W 𝓣 1 ps·2 r·2
+            (claims· .4) (claims· .5) "hnsr_circuit::tables::ledger::trim_ledger") (known3 : Plain.Known 𝓤 H A W 𝓣 1
+            ps·3 r·3 (claims· .6) (claims· .7) "hnsr_circuit::tables::inflight::trim_actions") (known4 : Plain.Known 𝓤
+            H A W 𝓣 0 ps·4 r·4 (claims· .8) (claims· .9) "hnsr_circuit::places::places_of") where
+          pub spec : Statement.Triple 𝓤 (Wp.WpFn 𝓤 H (𝓣 .C) (𝓣 .Λ) (Function.fnOf 4 ps r xs m hs body))
+              (Function.plainOf 𝓤 H A 4 ps r Pre· Post·)
+          spec = Plain.t-fn-plain 𝓤 H A W 𝓣 4 ps r xs m hs body (λ κs qs bs. Φ) (λ κs qs bs bd. typed κs qs 𝓤 H A W 𝓣
+              (known0, known1, known2, known3, known4) bs bd) Pre· Post· asked

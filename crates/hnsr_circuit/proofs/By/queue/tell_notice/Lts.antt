@@ -5,6 +5,7 @@ use Rattle.hnsr_body.proofs.messages.Notice.Laws
 use Rattle.hnsr_body.proofs.messages.NoticeWritten
 use Rattle.hnsr_body.proofs.messages.NoticeWritten.Laws as Laws'
 use Rattle.hnsr_circuit.proofs.By.InflightAction
+use Rattle.hnsr_circuit.proofs.StructRow
 use Rattle.hnsr_circuit.proofs.places.Places
 use Rattle.hnsr_circuit.proofs.places.Places.Laws as Laws''
 use Rattle.hnsr_circuit.proofs.records.ActionQuestion
@@ -28,7 +29,6 @@ use borrow.Fn.Plain
 use borrow.Kind.Bool
 use borrow.Kind.MutSlice
 use borrow.Kind.ShrSlice
-use borrow.Kind.Value
 use borrow.Rule.Array.Init
 use borrow.Rule.Array.Rows
 use borrow.Rule.Array.Share
@@ -60,11 +60,8 @@ use borrow.Table.Typed
 use contract.Lifetimes
 use denote.Array
 use denote.Enum.Declared
-use denote.Enum.Laws as Laws''''''''
-use denote.Exit
 use denote.Struct.At
 use denote.Struct.Declared as Declared'
-use denote.Struct.Laws as Laws'''''''''
 use denote.Triple.Clauses
 use denote.Triple.Statement
 use ghost.Atoms
@@ -80,1565 +77,2629 @@ use mathlib.Core.List.{_∷_}
 
 abbrev ref0 : Syntax.Ty
 ref0 = Syntax.tyRef Syntax.erased Syntax.imm InflightAction.to
+
 abbrev ref1 : Syntax.Ty
 ref1 = Syntax.tyRef Syntax.erased Syntax.mut InflightAction.to
+
 abbrev ref2 : Syntax.Ty
 ref2 = Syntax.tyRef Syntax.erased Syntax.mut (Syntax.tyInt Syntax.w32)
+
 abbrev ref3 : Syntax.Ty
 ref3 = Syntax.tyRef Syntax.erased Syntax.imm (Syntax.tyArray (Syntax.tyInt Syntax.w8) 30)
+
 abbrev ref4 : Syntax.Ty
 ref4 = Syntax.tyRef Syntax.erased Syntax.imm (Syntax.tyInt Syntax.w8)
+
 abbrev ref5 : Syntax.Ty
 ref5 = Syntax.tyRef (Syntax.named 0) Syntax.mut InflightAction.to
+
 abbrev ref6 : Syntax.Ty
 ref6 = Syntax.tyRef (Syntax.named 1) Syntax.mut (Syntax.tyInt Syntax.w32)
+
+abbrev slice0 : Syntax.Ty
+slice0 = Syntax.tyStruct (38 ∷ 91 ∷ 93 ∷ List.[]) (Syntax.tcons ref0
+    (Syntax.tcons (Syntax.tyInt Syntax.w64) Syntax.tnil))
+
+abbrev slice1 : Syntax.Ty
+slice1 = Syntax.tyStruct (38 ∷ 91 ∷ 93 ∷ List.[]) (Syntax.tcons ref1
+    (Syntax.tcons (Syntax.tyInt Syntax.w64) Syntax.tnil))
+
+abbrev slice2 : Syntax.Ty
+slice2 = Syntax.tyStruct (38 ∷ 91 ∷ 93 ∷ List.[]) (Syntax.tcons ref2
+    (Syntax.tcons (Syntax.tyInt Syntax.w64) Syntax.tnil))
+
+abbrev slice4 : Syntax.Ty
+slice4 = Syntax.tyStruct (38 ∷ 91 ∷ 93 ∷ List.[]) (Syntax.tcons ref4
+    (Syntax.tcons (Syntax.tyInt Syntax.w64) Syntax.tnil))
+
 abbrev pub ps : List.List (Kinds.PK 2)
-ps = (MutSlice.pMutS InflightAction.row 0 tt) ∷ (MutSlice.pMutS (Referent.rtF (Referent.fInt Syntax.w32)) 1 tt) ∷ Bool.pBool ∷ (Value.pVal record { ty
-    = Declared'.row Sending.the-type; one = Path.refl; val = Laws'''''''''.val Sending.the-type Laws'''''''.the-laws; tells = Laws'''''''''.tells
-    Sending.the-type Laws'''''''.the-laws; still = Laws'''''''''.still Sending.the-type Laws'''''''.the-copy Exit.yes; row = Rows'.whole
-    (Declared'.row Sending.the-type); rd = λ x. x; mk = λ x. x; } λ M 𝓤 H A W. record { copies = Laws'''''''''.copy Sending.the-type
-    Laws'''''''.the-copy 𝓤 H A W; lawful = Laws'''''''''.lawful Sending.the-type Laws'''''''.the-laws 𝓤 H A W; makes = Laws'''''''''.makes
-    Sending.the-type Laws'''''''.the-plain 𝓤 H A; in-mem = Local.mem-whole 𝓤 H A W (Declared'.row Sending.the-type); of-mem = Local.whole-mem 𝓤 H A W
-    (Declared'.row Sending.the-type); }) ∷ (Value.pVal record { ty = Declared'.row Outgoing.the-type; one = Path.refl; val = Laws'''''''''.val
-    Outgoing.the-type Laws'''''.the-laws; tells = Laws'''''''''.tells Outgoing.the-type Laws'''''.the-laws; still = Laws'''''''''.still
-    Outgoing.the-type Laws'''''.the-copy Exit.yes; row = Rows'.whole (Declared'.row Outgoing.the-type); rd = λ x. x; mk = λ x. x; } λ M 𝓤 H A W.
-    record { copies = Laws'''''''''.copy Outgoing.the-type Laws'''''.the-copy 𝓤 H A W; lawful = Laws'''''''''.lawful Outgoing.the-type
-    Laws'''''.the-laws 𝓤 H A W; makes = Laws'''''''''.makes Outgoing.the-type Laws'''''.the-plain 𝓤 H A; in-mem = Local.mem-whole 𝓤 H A W
-    (Declared'.row Outgoing.the-type); of-mem = Local.whole-mem 𝓤 H A W (Declared'.row Outgoing.the-type); }) ∷ (Value.pVal record { ty = Declared.row
-    Notice.the-type; one = Path.refl; val = Laws''''''''.val Notice.the-type Laws.the-laws; tells = Laws''''''''.tells Notice.the-type Laws.the-laws;
-    still = Laws''''''''.still Notice.the-type Laws.the-copy Exit.yes; row = Rows'.whole (Declared.row Notice.the-type); rd = λ x. x; mk = λ x. x; } λ
-    M 𝓤 H A W. record { copies = Laws''''''''.copy Notice.the-type Laws.the-copy 𝓤 H A W; lawful = Laws''''''''.lawful Notice.the-type Laws.the-laws 𝓤
-    H A W tt; makes = Laws''''''''.makes Notice.the-type Laws.the-plain 𝓤 H A; in-mem = Local.mem-whole 𝓤 H A W (Declared.row Notice.the-type); of-mem
-    = Local.whole-mem 𝓤 H A W (Declared.row Notice.the-type); }) ∷ List.[]
+ps = (MutSlice.pMutS InflightAction.row 0 tt) ∷ (MutSlice.pMutS (Referent.rtF (Referent.fInt Syntax.w32)) 1 tt) ∷
+    Bool.pBool ∷ (StructRow.param Sending.the-type Laws'''''''.the-laws Laws'''''''.the-copy Laws'''''''.the-plain) ∷ (StructRow.param
+    Outgoing.the-type Laws'''''.the-laws Laws'''''.the-copy Laws'''''.the-plain) ∷ (StructRow.enum-param
+    Notice.the-type Laws.the-laws Laws.the-copy Laws.the-plain tt) ∷ List.[]
+
 abbrev pub r : Kinds.RK 2
-r = Value.rVal record { ty = Declared'.row Sending.the-type; one = Path.refl; val = Laws'''''''''.val Sending.the-type Laws'''''''.the-laws; tells =
-    Laws'''''''''.tells Sending.the-type Laws'''''''.the-laws; still = Laws'''''''''.still Sending.the-type Laws'''''''.the-copy Exit.yes; row =
-    Rows'.whole (Declared'.row Sending.the-type); rd = λ x. x; mk = λ x. x; } λ M 𝓤 H A W. record { copies = Laws'''''''''.copy Sending.the-type
-    Laws'''''''.the-copy 𝓤 H A W; lawful = Laws'''''''''.lawful Sending.the-type Laws'''''''.the-laws 𝓤 H A W; makes = Laws'''''''''.makes
-    Sending.the-type Laws'''''''.the-plain 𝓤 H A; in-mem = Local.mem-whole 𝓤 H A W (Declared'.row Sending.the-type); of-mem = Local.whole-mem 𝓤 H A W
-    (Declared'.row Sending.the-type); }
+r = StructRow.result Sending.the-type Laws'''''''.the-laws Laws'''''''.the-copy Laws'''''''.the-plain
+
 abbrev pub xs : List.List Syntax.Ty
-xs = Laws''''''.mir ∷ Laws''.mir ∷ Laws'''.mir ∷ Laws''''.mir ∷ Laws'.mir ∷ (Syntax.tyArray (Syntax.tyInt Syntax.w8) 30) ∷ (Syntax.tyInt Syntax.w64) ∷
-    ref0 ∷ (Syntax.tyStruct (38 ∷ 91 ∷ 93 ∷ List.[]) (Syntax.tcons ref0 (Syntax.tcons (Syntax.tyInt Syntax.w64) Syntax.tnil))) ∷ ref1 ∷
-    (Syntax.tyStruct (38 ∷ 91 ∷ 93 ∷ List.[]) (Syntax.tcons ref1 (Syntax.tcons (Syntax.tyInt Syntax.w64) Syntax.tnil))) ∷ ref2 ∷ (Syntax.tyStruct (38
-    ∷ 91 ∷ 93 ∷ List.[]) (Syntax.tcons ref2 (Syntax.tcons (Syntax.tyInt Syntax.w64) Syntax.tnil))) ∷ ref3 ∷ (Syntax.tyStruct (38 ∷ 91 ∷ 93 ∷ List.[])
-    (Syntax.tcons ref4 (Syntax.tcons (Syntax.tyInt Syntax.w64) Syntax.tnil))) ∷ List.[]
+xs = Laws''''''.mir ∷ Laws''.mir ∷ Laws'''.mir ∷ Laws''''.mir ∷ Laws'.mir ∷
+    (Syntax.tyArray (Syntax.tyInt Syntax.w8) 30) ∷ (Syntax.tyInt Syntax.w64) ∷ ref0 ∷ slice0 ∷ ref1 ∷ slice1 ∷ ref2 ∷
+    slice2 ∷ ref3 ∷ slice4 ∷ List.[]
+
 abbrev pub m : Nat.ℕ
 m = 4
+
 abbrev pub ps·0 : List.List (Kinds.PK 0)
-ps·0 = (Value.pVal record { ty = Declared'.row OpaqueRelayRuntime.the-type; one = Path.refl; val = Laws'''''''''.val OpaqueRelayRuntime.the-type
-    Laws''''''.the-laws; tells = Laws'''''''''.tells OpaqueRelayRuntime.the-type Laws''''''.the-laws; still = Laws'''''''''.still
-    OpaqueRelayRuntime.the-type Laws''''''.the-copy Exit.yes; row = Rows'.whole (Declared'.row OpaqueRelayRuntime.the-type); rd = λ x. x; mk = λ x. x;
-    } λ M 𝓤 H A W. record { copies = Laws'''''''''.copy OpaqueRelayRuntime.the-type Laws''''''.the-copy 𝓤 H A W; lawful = Laws'''''''''.lawful
-    OpaqueRelayRuntime.the-type Laws''''''.the-laws 𝓤 H A W; makes = Laws'''''''''.makes OpaqueRelayRuntime.the-type Laws''''''.the-plain 𝓤 H A;
-    in-mem = Local.mem-whole 𝓤 H A W (Declared'.row OpaqueRelayRuntime.the-type); of-mem = Local.whole-mem 𝓤 H A W (Declared'.row
-    OpaqueRelayRuntime.the-type); }) ∷ (Value.pVal record { ty = Declared'.row Outgoing.the-type; one = Path.refl; val = Laws'''''''''.val
-    Outgoing.the-type Laws'''''.the-laws; tells = Laws'''''''''.tells Outgoing.the-type Laws'''''.the-laws; still = Laws'''''''''.still
-    Outgoing.the-type Laws'''''.the-copy Exit.yes; row = Rows'.whole (Declared'.row Outgoing.the-type); rd = λ x. x; mk = λ x. x; } λ M 𝓤 H A W.
-    record { copies = Laws'''''''''.copy Outgoing.the-type Laws'''''.the-copy 𝓤 H A W; lawful = Laws'''''''''.lawful Outgoing.the-type
-    Laws'''''.the-laws 𝓤 H A W; makes = Laws'''''''''.makes Outgoing.the-type Laws'''''.the-plain 𝓤 H A; in-mem = Local.mem-whole 𝓤 H A W
-    (Declared'.row Outgoing.the-type); of-mem = Local.whole-mem 𝓤 H A W (Declared'.row Outgoing.the-type); }) ∷ List.[]
+ps·0 = (StructRow.param OpaqueRelayRuntime.the-type Laws''''''.the-laws Laws''''''.the-copy Laws''''''.the-plain) ∷ (StructRow.param
+    Outgoing.the-type Laws'''''.the-laws Laws'''''.the-copy Laws'''''.the-plain) ∷ List.[]
+
 abbrev pub r·0 : Kinds.RK 0
-r·0 = Value.rVal record { ty = Declared'.row ActionQuestion.the-type; one = Path.refl; val = Laws'''''''''.val ActionQuestion.the-type
-    Laws'''.the-laws; tells = Laws'''''''''.tells ActionQuestion.the-type Laws'''.the-laws; still = Laws'''''''''.still ActionQuestion.the-type
-    Laws'''.the-copy Exit.yes; row = Rows'.whole (Declared'.row ActionQuestion.the-type); rd = λ x. x; mk = λ x. x; } λ M 𝓤 H A W. record { copies =
-    Laws'''''''''.copy ActionQuestion.the-type Laws'''.the-copy 𝓤 H A W; lawful = Laws'''''''''.lawful ActionQuestion.the-type Laws'''.the-laws 𝓤 H A
-    W; makes = Laws'''''''''.makes ActionQuestion.the-type Laws'''.the-plain 𝓤 H A; in-mem = Local.mem-whole 𝓤 H A W (Declared'.row
-    ActionQuestion.the-type); of-mem = Local.whole-mem 𝓤 H A W (Declared'.row ActionQuestion.the-type); }
+r·0 = StructRow.result ActionQuestion.the-type Laws'''.the-laws Laws'''.the-copy Laws'''.the-plain
+
 abbrev pub ps·1 : List.List (Kinds.PK 1)
-ps·1 = (ShrSlice.pShrS InflightAction.row 0 tt) ∷ (Value.pVal record { ty = Declared'.row Places.the-type; one = Path.refl; val = Laws'''''''''.val
-    Places.the-type Laws''.the-laws; tells = Laws'''''''''.tells Places.the-type Laws''.the-laws; still = Laws'''''''''.still Places.the-type
-    Laws''.the-copy Exit.yes; row = Rows'.whole (Declared'.row Places.the-type); rd = λ x. x; mk = λ x. x; } λ M 𝓤 H A W. record { copies =
-    Laws'''''''''.copy Places.the-type Laws''.the-copy 𝓤 H A W; lawful = Laws'''''''''.lawful Places.the-type Laws''.the-laws 𝓤 H A W; makes =
-    Laws'''''''''.makes Places.the-type Laws''.the-plain 𝓤 H A; in-mem = Local.mem-whole 𝓤 H A W (Declared'.row Places.the-type); of-mem =
-    Local.whole-mem 𝓤 H A W (Declared'.row Places.the-type); }) ∷ (Value.pVal record { ty = Declared'.row ActionQuestion.the-type; one = Path.refl;
-    val = Laws'''''''''.val ActionQuestion.the-type Laws'''.the-laws; tells = Laws'''''''''.tells ActionQuestion.the-type Laws'''.the-laws; still =
-    Laws'''''''''.still ActionQuestion.the-type Laws'''.the-copy Exit.yes; row = Rows'.whole (Declared'.row ActionQuestion.the-type); rd = λ x. x; mk
-    = λ x. x; } λ M 𝓤 H A W. record { copies = Laws'''''''''.copy ActionQuestion.the-type Laws'''.the-copy 𝓤 H A W; lawful = Laws'''''''''.lawful
-    ActionQuestion.the-type Laws'''.the-laws 𝓤 H A W; makes = Laws'''''''''.makes ActionQuestion.the-type Laws'''.the-plain 𝓤 H A; in-mem =
-    Local.mem-whole 𝓤 H A W (Declared'.row ActionQuestion.the-type); of-mem = Local.whole-mem 𝓤 H A W (Declared'.row ActionQuestion.the-type); }) ∷
+ps·1 = (ShrSlice.pShrS InflightAction.row 0 tt) ∷ (StructRow.param Places.the-type Laws''.the-laws Laws''.the-copy
+    Laws''.the-plain) ∷ (StructRow.param ActionQuestion.the-type Laws'''.the-laws Laws'''.the-copy Laws'''.the-plain) ∷
     List.[]
+
 abbrev pub r·1 : Kinds.RK 1
-r·1 = Value.rVal record { ty = Declared'.row ActionScan.the-type; one = Path.refl; val = Laws'''''''''.val ActionScan.the-type Laws''''.the-laws;
-    tells = Laws'''''''''.tells ActionScan.the-type Laws''''.the-laws; still = Laws'''''''''.still ActionScan.the-type Laws''''.the-copy Exit.yes; row
-    = Rows'.whole (Declared'.row ActionScan.the-type); rd = λ x. x; mk = λ x. x; } λ M 𝓤 H A W. record { copies = Laws'''''''''.copy
-    ActionScan.the-type Laws''''.the-copy 𝓤 H A W; lawful = Laws'''''''''.lawful ActionScan.the-type Laws''''.the-laws 𝓤 H A W; makes =
-    Laws'''''''''.makes ActionScan.the-type Laws''''.the-plain 𝓤 H A; in-mem = Local.mem-whole 𝓤 H A W (Declared'.row ActionScan.the-type); of-mem =
-    Local.whole-mem 𝓤 H A W (Declared'.row ActionScan.the-type); }
+r·1 = StructRow.result ActionScan.the-type Laws''''.the-laws Laws''''.the-copy Laws''''.the-plain
+
 abbrev pub ps·2 : List.List (Kinds.PK 0)
-ps·2 = (Value.pVal record { ty = Declared.row Notice.the-type; one = Path.refl; val = Laws''''''''.val Notice.the-type Laws.the-laws; tells =
-    Laws''''''''.tells Notice.the-type Laws.the-laws; still = Laws''''''''.still Notice.the-type Laws.the-copy Exit.yes; row = Rows'.whole
-    (Declared.row Notice.the-type); rd = λ x. x; mk = λ x. x; } λ M 𝓤 H A W. record { copies = Laws''''''''.copy Notice.the-type Laws.the-copy 𝓤 H A
-    W; lawful = Laws''''''''.lawful Notice.the-type Laws.the-laws 𝓤 H A W tt; makes = Laws''''''''.makes Notice.the-type Laws.the-plain 𝓤 H A; in-mem
-    = Local.mem-whole 𝓤 H A W (Declared.row Notice.the-type); of-mem = Local.whole-mem 𝓤 H A W (Declared.row Notice.the-type); }) ∷ List.[]
+ps·2 = (StructRow.enum-param Notice.the-type Laws.the-laws Laws.the-copy Laws.the-plain tt) ∷ List.[]
+
 abbrev pub r·2 : Kinds.RK 0
-r·2 = Value.rVal record { ty = Declared'.row NoticeWritten.the-type; one = Path.refl; val = Laws'''''''''.val NoticeWritten.the-type Laws'.the-laws;
-    tells = Laws'''''''''.tells NoticeWritten.the-type Laws'.the-laws; still = Laws'''''''''.still NoticeWritten.the-type Laws'.the-copy Exit.yes; row
-    = Rows'.whole (Declared'.row NoticeWritten.the-type); rd = λ x. x; mk = λ x. x; } λ M 𝓤 H A W. record { copies = Laws'''''''''.copy
-    NoticeWritten.the-type Laws'.the-copy 𝓤 H A W; lawful = Laws'''''''''.lawful NoticeWritten.the-type Laws'.the-laws 𝓤 H A W; makes =
-    Laws'''''''''.makes NoticeWritten.the-type Laws'.the-plain 𝓤 H A; in-mem = Local.mem-whole 𝓤 H A W (Declared'.row NoticeWritten.the-type); of-mem
-    = Local.whole-mem 𝓤 H A W (Declared'.row NoticeWritten.the-type); }
+r·2 = StructRow.result NoticeWritten.the-type Laws'.the-laws Laws'.the-copy Laws'.the-plain
+
 abbrev pub ps·3 : List.List (Kinds.PK 3)
-ps·3 = (MutSlice.pMutS InflightAction.row 0 tt) ∷ (MutSlice.pMutS (Referent.rtF (Referent.fInt Syntax.w32)) 1 tt) ∷ Bool.pBool ∷ (Value.pVal record {
-    ty = Declared'.row Sending.the-type; one = Path.refl; val = Laws'''''''''.val Sending.the-type Laws'''''''.the-laws; tells = Laws'''''''''.tells
-    Sending.the-type Laws'''''''.the-laws; still = Laws'''''''''.still Sending.the-type Laws'''''''.the-copy Exit.yes; row = Rows'.whole
-    (Declared'.row Sending.the-type); rd = λ x. x; mk = λ x. x; } λ M 𝓤 H A W. record { copies = Laws'''''''''.copy Sending.the-type
-    Laws'''''''.the-copy 𝓤 H A W; lawful = Laws'''''''''.lawful Sending.the-type Laws'''''''.the-laws 𝓤 H A W; makes = Laws'''''''''.makes
-    Sending.the-type Laws'''''''.the-plain 𝓤 H A; in-mem = Local.mem-whole 𝓤 H A W (Declared'.row Sending.the-type); of-mem = Local.whole-mem 𝓤 H A W
-    (Declared'.row Sending.the-type); }) ∷ (Value.pVal record { ty = Declared'.row Outgoing.the-type; one = Path.refl; val = Laws'''''''''.val
-    Outgoing.the-type Laws'''''.the-laws; tells = Laws'''''''''.tells Outgoing.the-type Laws'''''.the-laws; still = Laws'''''''''.still
-    Outgoing.the-type Laws'''''.the-copy Exit.yes; row = Rows'.whole (Declared'.row Outgoing.the-type); rd = λ x. x; mk = λ x. x; } λ M 𝓤 H A W.
-    record { copies = Laws'''''''''.copy Outgoing.the-type Laws'''''.the-copy 𝓤 H A W; lawful = Laws'''''''''.lawful Outgoing.the-type
-    Laws'''''.the-laws 𝓤 H A W; makes = Laws'''''''''.makes Outgoing.the-type Laws'''''.the-plain 𝓤 H A; in-mem = Local.mem-whole 𝓤 H A W
-    (Declared'.row Outgoing.the-type); of-mem = Local.whole-mem 𝓤 H A W (Declared'.row Outgoing.the-type); }) ∷ (Value.pVal record { ty =
-    Declared'.row ActionScan.the-type; one = Path.refl; val = Laws'''''''''.val ActionScan.the-type Laws''''.the-laws; tells = Laws'''''''''.tells
-    ActionScan.the-type Laws''''.the-laws; still = Laws'''''''''.still ActionScan.the-type Laws''''.the-copy Exit.yes; row = Rows'.whole
-    (Declared'.row ActionScan.the-type); rd = λ x. x; mk = λ x. x; } λ M 𝓤 H A W. record { copies = Laws'''''''''.copy ActionScan.the-type
-    Laws''''.the-copy 𝓤 H A W; lawful = Laws'''''''''.lawful ActionScan.the-type Laws''''.the-laws 𝓤 H A W; makes = Laws'''''''''.makes
-    ActionScan.the-type Laws''''.the-plain 𝓤 H A; in-mem = Local.mem-whole 𝓤 H A W (Declared'.row ActionScan.the-type); of-mem = Local.whole-mem 𝓤 H A
-    W (Declared'.row ActionScan.the-type); }) ∷ (ShrSlice.pShrS (Referent.rtF (Referent.fInt Syntax.w8)) 2 tt) ∷ List.[]
+ps·3 = (MutSlice.pMutS InflightAction.row 0 tt) ∷ (MutSlice.pMutS (Referent.rtF (Referent.fInt Syntax.w32)) 1 tt) ∷
+    Bool.pBool ∷ (StructRow.param Sending.the-type Laws'''''''.the-laws Laws'''''''.the-copy Laws'''''''.the-plain) ∷ (StructRow.param
+    Outgoing.the-type Laws'''''.the-laws Laws'''''.the-copy Laws'''''.the-plain) ∷ (StructRow.param ActionScan.the-type
+    Laws''''.the-laws Laws''''.the-copy Laws''''.the-plain) ∷ (ShrSlice.pShrS (Referent.rtF (Referent.fInt Syntax.w8))
+    2 tt) ∷ List.[]
+
 abbrev pub r·3 : Kinds.RK 3
-r·3 = Value.rVal record { ty = Declared'.row Sending.the-type; one = Path.refl; val = Laws'''''''''.val Sending.the-type Laws'''''''.the-laws; tells =
-    Laws'''''''''.tells Sending.the-type Laws'''''''.the-laws; still = Laws'''''''''.still Sending.the-type Laws'''''''.the-copy Exit.yes; row =
-    Rows'.whole (Declared'.row Sending.the-type); rd = λ x. x; mk = λ x. x; } λ M 𝓤 H A W. record { copies = Laws'''''''''.copy Sending.the-type
-    Laws'''''''.the-copy 𝓤 H A W; lawful = Laws'''''''''.lawful Sending.the-type Laws'''''''.the-laws 𝓤 H A W; makes = Laws'''''''''.makes
-    Sending.the-type Laws'''''''.the-plain 𝓤 H A; in-mem = Local.mem-whole 𝓤 H A W (Declared'.row Sending.the-type); of-mem = Local.whole-mem 𝓤 H A W
-    (Declared'.row Sending.the-type); }
+r·3 = StructRow.result Sending.the-type Laws'''''''.the-laws Laws'''''''.the-copy Laws'''''''.the-plain
+
 abbrev pub hs : List.List Syntax.Home
-hs = Syntax.valueLocal ∷ Syntax.valueLocal ∷ Syntax.valueLocal ∷ Syntax.valueLocal ∷ Syntax.valueLocal ∷ Syntax.valueLocal ∷ Syntax.valueLocal ∷
-    Syntax.valueLocal ∷ Syntax.valueLocal ∷ Syntax.valueLocal ∷ Syntax.valueLocal ∷ Syntax.valueLocal ∷ Syntax.memorySlot ∷ Syntax.valueLocal ∷
-    Syntax.valueLocal ∷ Syntax.valueLocal ∷ Syntax.valueLocal ∷ Syntax.valueLocal ∷ Syntax.valueLocal ∷ Syntax.valueLocal ∷ Syntax.valueLocal ∷
-    Syntax.valueLocal ∷ List.[]
+hs = Syntax.valueLocal ∷ Syntax.valueLocal ∷ Syntax.valueLocal ∷ Syntax.valueLocal ∷ Syntax.valueLocal ∷
+    Syntax.valueLocal ∷ Syntax.valueLocal ∷ Syntax.valueLocal ∷ Syntax.valueLocal ∷ Syntax.valueLocal ∷
+    Syntax.valueLocal ∷ Syntax.valueLocal ∷ Syntax.memorySlot ∷ Syntax.valueLocal ∷ Syntax.valueLocal ∷
+    Syntax.valueLocal ∷ Syntax.valueLocal ∷ Syntax.valueLocal ∷ Syntax.valueLocal ∷ Syntax.valueLocal ∷
+    Syntax.valueLocal ∷ Syntax.valueLocal ∷ List.[]
+
 abbrev b0 : Syntax.Body
 b0 = Syntax.assign (Syntax.place 7 List.[]) (Syntax.rvOpd (Syntax.copy (Syntax.place 4 ((Syntax.field 0) ∷ List.[]))))
+
 abbrev b1 : Syntax.Body
 b1 = Syntax.assign (Syntax.place 8 List.[]) (Syntax.rvOpd (Syntax.copy (Syntax.place 4 ((Syntax.field 2) ∷ List.[]))))
+
 abbrev b2 : Syntax.Body
-b2 = Syntax.call "hnsr_circuit::queue::asking" ((Syntax.copy (Syntax.place 7 List.[])) ∷ (Syntax.copy (Syntax.place 5 List.[])) ∷ List.[])
-    (Syntax.place 9 List.[])
+b2 = Syntax.call "hnsr_circuit::queue::asking" ((Syntax.copy (Syntax.place 7 List.[])) ∷
+    (Syntax.copy (Syntax.place 5 List.[])) ∷ List.[]) (Syntax.place 9 List.[])
+
 abbrev b3 : Syntax.Body
-b3 = Syntax.assign (Syntax.place 14 List.[]) (Syntax.addrOf (Syntax.place 1 ((Syntax.field 0) ∷ (Syntax.deref InflightAction.ty) ∷ List.[])))
+b3 = Syntax.assign (Syntax.place 14 List.[]) (Syntax.addrOf (Syntax.place 1 ((Syntax.field 0) ∷
+    (Syntax.deref InflightAction.ty) ∷ List.[])))
+
 abbrev b4 : Syntax.Body
-b4 = Syntax.assign (Syntax.place 15 List.[]) (Syntax.aggregate ((Syntax.copy (Syntax.place 14 List.[])) ∷ (Syntax.copy (Syntax.place 1 ((Syntax.field
-    1) ∷ List.[]))) ∷ List.[]))
+b4 = Syntax.assign (Syntax.place 15 List.[]) (Syntax.aggregate ((Syntax.copy (Syntax.place 14 List.[])) ∷
+    (Syntax.copy (Syntax.place 1 ((Syntax.field 1) ∷ List.[]))) ∷ List.[]))
+
 abbrev b5 : Syntax.Body
-b5 = Syntax.call "hnsr_circuit::tables::inflight::scan_actions" ((Syntax.copy (Syntax.place 15 List.[])) ∷ (Syntax.copy (Syntax.place 8 List.[])) ∷
-    (Syntax.copy (Syntax.place 9 List.[])) ∷ List.[]) (Syntax.place 10 List.[])
+b5 = Syntax.call "hnsr_circuit::tables::inflight::scan_actions" ((Syntax.copy (Syntax.place 15 List.[])) ∷
+    (Syntax.copy (Syntax.place 8 List.[])) ∷ (Syntax.copy (Syntax.place 9 List.[])) ∷ List.[])
+    (Syntax.place 10 List.[])
+
 abbrev b6 : Syntax.Body
-b6 = Syntax.call "hnsr_body::messages::Notice::encode" ((Syntax.copy (Syntax.place 6 List.[])) ∷ List.[]) (Syntax.place 11 List.[])
+b6 = Syntax.call "hnsr_body::messages::Notice::encode" ((Syntax.copy (Syntax.place 6 List.[])) ∷ List.[])
+    (Syntax.place 11 List.[])
+
 abbrev b7 : Syntax.Body
 b7 = Syntax.assign (Syntax.place 12 List.[]) (Syntax.rvOpd (Syntax.copy (Syntax.place 11 ((Syntax.field 1) ∷ List.[]))))
+
 abbrev b8 : Syntax.Body
 b8 = Syntax.assign (Syntax.place 13 List.[]) (Syntax.rvOpd (Syntax.copy (Syntax.place 11 ((Syntax.field 0) ∷ List.[]))))
+
 abbrev b9 : Syntax.Body
-b9 = Syntax.assign (Syntax.place 16 List.[]) (Syntax.addrOf (Syntax.place 1 ((Syntax.field 0) ∷ (Syntax.deref InflightAction.ty) ∷ List.[])))
+b9 = Syntax.assign (Syntax.place 16 List.[]) (Syntax.addrOf (Syntax.place 1 ((Syntax.field 0) ∷
+    (Syntax.deref InflightAction.ty) ∷ List.[])))
+
 abbrev b10 : Syntax.Body
-b10 = Syntax.assign (Syntax.place 17 List.[]) (Syntax.aggregate ((Syntax.copy (Syntax.place 16 List.[])) ∷ (Syntax.copy (Syntax.place 1 ((Syntax.field
-    1) ∷ List.[]))) ∷ List.[]))
+b10 = Syntax.assign (Syntax.place 17 List.[]) (Syntax.aggregate ((Syntax.copy (Syntax.place 16 List.[])) ∷
+    (Syntax.copy (Syntax.place 1 ((Syntax.field 1) ∷ List.[]))) ∷ List.[]))
+
 abbrev b11 : Syntax.Body
-b11 = Syntax.assign (Syntax.place 18 List.[]) (Syntax.addrOf (Syntax.place 2 ((Syntax.field 0) ∷ (Syntax.deref (Syntax.tyInt Syntax.w32)) ∷ List.[])))
+b11 = Syntax.assign (Syntax.place 18 List.[]) (Syntax.addrOf (Syntax.place 2 ((Syntax.field 0) ∷
+    (Syntax.deref (Syntax.tyInt Syntax.w32)) ∷ List.[])))
+
 abbrev b12 : Syntax.Body
-b12 = Syntax.assign (Syntax.place 19 List.[]) (Syntax.aggregate ((Syntax.copy (Syntax.place 18 List.[])) ∷ (Syntax.copy (Syntax.place 2 ((Syntax.field
-    1) ∷ List.[]))) ∷ List.[]))
+b12 = Syntax.assign (Syntax.place 19 List.[]) (Syntax.aggregate ((Syntax.copy (Syntax.place 18 List.[])) ∷
+    (Syntax.copy (Syntax.place 2 ((Syntax.field 1) ∷ List.[]))) ∷ List.[]))
+
 abbrev b13 : Syntax.Body
 b13 = Syntax.assign (Syntax.place 20 List.[]) (Syntax.addrOf (Syntax.place 12 List.[]))
+
 abbrev b14 : Syntax.Body
-b14 = Syntax.assign (Syntax.place 21 List.[]) (Syntax.aggregate ((Syntax.copy (Syntax.place 20 List.[])) ∷ (Syntax.copy (Syntax.place 13 List.[])) ∷
-    List.[]))
+b14 = Syntax.assign (Syntax.place 21 List.[]) (Syntax.aggregate ((Syntax.copy (Syntax.place 20 List.[])) ∷
+    (Syntax.copy (Syntax.place 13 List.[])) ∷ List.[]))
+
 abbrev b15 : Syntax.Body
-b15 = Syntax.call "hnsr_circuit::queue::tell_scanned" ((Syntax.copy (Syntax.place 17 List.[])) ∷ (Syntax.copy (Syntax.place 19 List.[])) ∷
-    (Syntax.copy (Syntax.place 3 List.[])) ∷ (Syntax.copy (Syntax.place 4 List.[])) ∷ (Syntax.copy (Syntax.place 5 List.[])) ∷ (Syntax.copy
-    (Syntax.place 10 List.[])) ∷ (Syntax.copy (Syntax.place 21 List.[])) ∷ List.[]) (Syntax.place 0 List.[])
+b15 = Syntax.call "hnsr_circuit::queue::tell_scanned" ((Syntax.copy (Syntax.place 17 List.[])) ∷
+    (Syntax.copy (Syntax.place 19 List.[])) ∷ (Syntax.copy (Syntax.place 3 List.[])) ∷
+    (Syntax.copy (Syntax.place 4 List.[])) ∷ (Syntax.copy (Syntax.place 5 List.[])) ∷
+    (Syntax.copy (Syntax.place 10 List.[])) ∷ (Syntax.copy (Syntax.place 21 List.[])) ∷ List.[])
+    (Syntax.place 0 List.[])
+
 abbrev b16 : Syntax.Body
 b16 = Syntax.return
+
 abbrev b17 : Syntax.Body
 b17 = Syntax.seq b15 b16
+
 abbrev b18 : Syntax.Body
 b18 = Syntax.seq b14 b17
+
 abbrev b19 : Syntax.Body
 b19 = Syntax.seq b13 b18
+
 abbrev b20 : Syntax.Body
 b20 = Syntax.seq b12 b19
+
 abbrev b21 : Syntax.Body
 b21 = Syntax.seq b11 b20
+
 abbrev b22 : Syntax.Body
 b22 = Syntax.seq b10 b21
+
 abbrev b23 : Syntax.Body
 b23 = Syntax.seq b9 b22
+
 abbrev b24 : Syntax.Body
 b24 = Syntax.seq b8 b23
+
 abbrev b25 : Syntax.Body
 b25 = Syntax.seq b7 b24
+
 abbrev b26 : Syntax.Body
 b26 = Syntax.seq b6 b25
+
 abbrev b27 : Syntax.Body
 b27 = Syntax.seq b5 b26
+
 abbrev b28 : Syntax.Body
 b28 = Syntax.seq b4 b27
+
 abbrev b29 : Syntax.Body
 b29 = Syntax.seq b3 b28
+
 abbrev b30 : Syntax.Body
 b30 = Syntax.seq b2 b29
+
 abbrev b31 : Syntax.Body
 b31 = Syntax.seq b1 b30
+
 abbrev b32 : Syntax.Body
 b32 = Syntax.seq b0 b31
+
 abbrev pub body : Syntax.Body
 body = b32
+
 abbrev pub Claims : Type 1
-Claims = Kinds.In 0 ps·0 × Kinds.Out 0 ps·0 r·0 × Kinds.In 1 ps·1 × Kinds.Out 1 ps·1 r·1 × Kinds.In 0 ps·2 × Kinds.Out 0 ps·2 r·2 × Kinds.In 3 ps·3 ×
-    Kinds.Out 3 ps·3 r·3
+Claims = Kinds.In 0 ps·0 × Kinds.Out 0 ps·0 r·0 × Kinds.In 1 ps·1 × Kinds.Out 1 ps·1 r·1 × Kinds.In 0 ps·2 × Kinds.Out
+    0 ps·2 r·2 × Kinds.In 3 ps·3 × Kinds.Out 3 ps·3 r·3
+
 abbrev e0 : Row.Entry
 e0 = (0, Rows'.any-gone Laws'''''''.mir)
+
 abbrev e1 : Row.Entry
 e1 = (1, Mut.mslice InflightAction.row ref5 0)
+
 abbrev e2 : Row.Entry
 e2 = (2, Mut.mslice (Referent.rtF (Referent.fInt Syntax.w32)) ref6 1)
+
 abbrev e3 : Row.Entry
 e3 = (3, Rows'.sc-here Row.sBool)
+
 abbrev e4 : Row.Entry
 e4 = (4, Rows'.whole (Declared'.row Sending.the-type))
+
 abbrev e5 : Row.Entry
 e5 = (5, Rows'.whole (Declared'.row Outgoing.the-type))
+
 abbrev e6 : Row.Entry
 e6 = (6, Rows'.whole (Declared.row Notice.the-type))
+
 abbrev e7 : Row.Entry
 e7 = (7, Rows'.any-gone Laws''''''.mir)
+
 abbrev e8 : Row.Entry
 e8 = (8, Rows'.any-gone Laws''.mir)
+
 abbrev e9 : Row.Entry
 e9 = (9, Rows'.any-gone Laws'''.mir)
+
 abbrev e10 : Row.Entry
 e10 = (10, Rows'.any-gone Laws''''.mir)
+
 abbrev e11 : Row.Entry
 e11 = (11, Rows'.any-gone Laws'.mir)
+
 abbrev e12 : Row.Entry
 e12 = (12, Rows'.any-gone (Syntax.tyArray (Syntax.tyInt Syntax.w8) 30))
+
 abbrev e13 : Row.Entry
 e13 = (13, Rows'.any-gone (Syntax.tyInt Syntax.w64))
+
 abbrev e14 : Row.Entry
 e14 = (14, Rows'.any-gone ref0)
+
 abbrev e15 : Row.Entry
-e15 = (15, Rows'.any-gone (Syntax.tyStruct (38 ∷ 91 ∷ 93 ∷ List.[]) (Syntax.tcons ref0 (Syntax.tcons (Syntax.tyInt Syntax.w64) Syntax.tnil))))
+e15 = (15, Rows'.any-gone slice0)
+
 abbrev e16 : Row.Entry
 e16 = (16, Rows'.any-gone ref1)
+
 abbrev e17 : Row.Entry
-e17 = (17, Rows'.any-gone (Syntax.tyStruct (38 ∷ 91 ∷ 93 ∷ List.[]) (Syntax.tcons ref1 (Syntax.tcons (Syntax.tyInt Syntax.w64) Syntax.tnil))))
+e17 = (17, Rows'.any-gone slice1)
+
 abbrev e18 : Row.Entry
 e18 = (18, Rows'.any-gone ref2)
+
 abbrev e19 : Row.Entry
-e19 = (19, Rows'.any-gone (Syntax.tyStruct (38 ∷ 91 ∷ 93 ∷ List.[]) (Syntax.tcons ref2 (Syntax.tcons (Syntax.tyInt Syntax.w64) Syntax.tnil))))
+e19 = (19, Rows'.any-gone slice2)
+
 abbrev e20 : Row.Entry
 e20 = (20, Rows'.any-gone ref3)
+
 abbrev e21 : Row.Entry
-e21 = (21, Rows'.any-gone (Syntax.tyStruct (38 ∷ 91 ∷ 93 ∷ List.[]) (Syntax.tcons ref4 (Syntax.tcons (Syntax.tyInt Syntax.w64) Syntax.tnil))))
+e21 = (21, Rows'.any-gone slice4)
+
 abbrev e0·1 : Row.Entry
 e0·1 = (0, Rows'.whole (Declared'.row Sending.the-type))
+
 abbrev e3·1 : Row.Entry
 e3·1 = (3, Rows'.any-gone Syntax.tyBool)
+
 abbrev e4·1 : Row.Entry
 e4·1 = (4, Rows'.any-gone Laws'''''''.mir)
+
 abbrev e5·1 : Row.Entry
 e5·1 = (5, Rows'.any-gone Laws'''''.mir)
+
 abbrev e6·1 : Row.Entry
 e6·1 = (6, Rows'.any-gone Laws.mir)
+
 abbrev e7·1 : Row.Entry
 e7·1 = (7, Rows'.whole (Declared'.row OpaqueRelayRuntime.the-type))
+
 abbrev e8·1 : Row.Entry
 e8·1 = (8, Rows'.whole (Declared'.row Places.the-type))
+
 abbrev e9·1 : Row.Entry
 e9·1 = (9, Rows'.whole (Declared'.row ActionQuestion.the-type))
+
 abbrev e1·1 : Row.Entry
 e1·1 = (1, Reshare.mslice-owedS InflightAction.row ref5 0 2 Row.off)
+
 abbrev e14·1 : Row.Entry
 e14·1 = (14, Relend.ssptr InflightAction.row ref0 2)
+
 abbrev e15·1 : Row.Entry
 e15·1 = (15, Rows'.sslice InflightAction.row ref0 2)
+
 abbrev e10·1 : Row.Entry
 e10·1 = (10, Rows'.whole (Declared'.row ActionScan.the-type))
+
 abbrev e11·1 : Row.Entry
 e11·1 = (11, Rows'.whole (Declared'.row NoticeWritten.the-type))
+
 abbrev e12·1 : Row.Entry
 e12·1 = (12, Rows.arrF (Referent.rtF (Referent.fInt Syntax.w8)) 30 0)
+
 abbrev e13·1 : Row.Entry
 e13·1 = (13, Rows'.sc-here (Row.sInt Syntax.w64))
+
 abbrev e1·2 : Row.Entry
 e1·2 = (1, Relend.mslice-owed InflightAction.row ref5 0 3 Row.off)
+
 abbrev e16·1 : Row.Entry
 e16·1 = (16, Relend.msptr InflightAction.row ref1 3)
+
 abbrev e17·1 : Row.Entry
 e17·1 = (17, Mut.mslice InflightAction.row ref1 3)
+
 abbrev e2·1 : Row.Entry
 e2·1 = (2, Relend.mslice-owed (Referent.rtF (Referent.fInt Syntax.w32)) ref6 1 4 Row.off)
+
 abbrev e18·1 : Row.Entry
 e18·1 = (18, Relend.msptr (Referent.rtF (Referent.fInt Syntax.w32)) ref2 4)
+
 abbrev e19·1 : Row.Entry
 e19·1 = (19, Mut.mslice (Referent.rtF (Referent.fInt Syntax.w32)) ref2 4)
+
 abbrev e12·2 : Row.Entry
 e12·2 = (12, Rows.arr-shrP (Referent.rtF (Referent.fInt Syntax.w8)) 30 5)
+
 abbrev e20·1 : Row.Entry
 e20·1 = (20, Relend.ssptr (Referent.rtF (Referent.fInt Syntax.w8)) ref3 5)
+
 abbrev e21·1 : Row.Entry
 e21·1 = (21, Rows'.sslice (Referent.rtF (Referent.fInt Syntax.w8)) ref4 5)
+
 abbrev e17·2 : Row.Entry
 e17·2 = (17, Mut.msleft InflightAction.row ref1)
+
 abbrev e19·2 : Row.Entry
 e19·2 = (19, Mut.msleft (Referent.rtF (Referent.fInt Syntax.w32)) ref2)
+
 abbrev pub t0 : List.List Row.Entry
 t0 = e0 ∷ e1 ∷ e2 ∷ e3 ∷ e4 ∷ e5 ∷ e6 ∷ e7 ∷ e8 ∷ e9 ∷ e10 ∷ e11 ∷ e12 ∷ e13 ∷ e14 ∷ e15 ∷ List.[]
+
 abbrev pub t1 : List.List Row.Entry
 t1 = e16 ∷ e17 ∷ e18 ∷ e19 ∷ e20 ∷ e21 ∷ List.[]
+
 abbrev pub t2 : List.List Row.Entry
 t2 = e0·1 ∷ e1 ∷ e2 ∷ e3·1 ∷ e4·1 ∷ e5·1 ∷ e6·1 ∷ e7 ∷ e8 ∷ e9 ∷ e10 ∷ e11 ∷ e12 ∷ e13 ∷ e14 ∷ e15 ∷ List.[]
+
 abbrev pub t3 : List.List Row.Entry
 t3 = e0 ∷ e1 ∷ e2 ∷ e3 ∷ e4 ∷ e5 ∷ e6 ∷ e7·1 ∷ e8 ∷ e9 ∷ e10 ∷ e11 ∷ e12 ∷ e13 ∷ e14 ∷ e15 ∷ List.[]
+
 abbrev pub t4 : List.List Row.Entry
 t4 = e0 ∷ e1 ∷ e2 ∷ e3 ∷ e4 ∷ e5 ∷ e6 ∷ e7·1 ∷ e8·1 ∷ e9 ∷ e10 ∷ e11 ∷ e12 ∷ e13 ∷ e14 ∷ e15 ∷ List.[]
+
 abbrev pub t5 : List.List Row.Entry
 t5 = e0 ∷ e1 ∷ e2 ∷ e3 ∷ e4 ∷ e5 ∷ e6 ∷ e7·1 ∷ e8·1 ∷ e9·1 ∷ e10 ∷ e11 ∷ e12 ∷ e13 ∷ e14 ∷ e15 ∷ List.[]
+
 abbrev pub t6 : List.List Row.Entry
 t6 = e0 ∷ e1 ∷ e2 ∷ e3 ∷ e4 ∷ e5 ∷ e6 ∷ e7 ∷ e8·1 ∷ e9·1 ∷ e10 ∷ e11 ∷ e12 ∷ e13 ∷ e14 ∷ e15 ∷ List.[]
+
 abbrev pub t7 : List.List Row.Entry
 t7 = e0 ∷ e1·1 ∷ e2 ∷ e3 ∷ e4 ∷ e5 ∷ e6 ∷ e7 ∷ e8·1 ∷ e9·1 ∷ e10 ∷ e11 ∷ e12 ∷ e13 ∷ e14·1 ∷ e15 ∷ List.[]
+
 abbrev pub t8 : List.List Row.Entry
 t8 = e0 ∷ e1·1 ∷ e2 ∷ e3 ∷ e4 ∷ e5 ∷ e6 ∷ e7 ∷ e8·1 ∷ e9·1 ∷ e10 ∷ e11 ∷ e12 ∷ e13 ∷ e14 ∷ e15·1 ∷ List.[]
+
 abbrev pub t9 : List.List Row.Entry
 t9 = e0 ∷ e1·1 ∷ e2 ∷ e3 ∷ e4 ∷ e5 ∷ e6 ∷ e7 ∷ e8·1 ∷ e9·1 ∷ e10·1 ∷ e11 ∷ e12 ∷ e13 ∷ e14 ∷ e15·1 ∷ List.[]
+
 abbrev pub t10 : List.List Row.Entry
 t10 = e0 ∷ e1·1 ∷ e2 ∷ e3 ∷ e4 ∷ e5 ∷ e6 ∷ e7 ∷ e8·1 ∷ e9·1 ∷ e10·1 ∷ e11 ∷ e12 ∷ e13 ∷ e14 ∷ e15 ∷ List.[]
+
 abbrev pub t11 : List.List Row.Entry
 t11 = e0 ∷ e1·1 ∷ e2 ∷ e3 ∷ e4 ∷ e5 ∷ e6 ∷ e7 ∷ e8 ∷ e9·1 ∷ e10·1 ∷ e11 ∷ e12 ∷ e13 ∷ e14 ∷ e15 ∷ List.[]
+
 abbrev pub t12 : List.List Row.Entry
 t12 = e0 ∷ e1·1 ∷ e2 ∷ e3 ∷ e4 ∷ e5 ∷ e6 ∷ e7 ∷ e8 ∷ e9 ∷ e10·1 ∷ e11 ∷ e12 ∷ e13 ∷ e14 ∷ e15 ∷ List.[]
+
 abbrev pub t13 : List.List Row.Entry
 t13 = e0 ∷ e1 ∷ e2 ∷ e3 ∷ e4 ∷ e5 ∷ e6 ∷ e7 ∷ e8 ∷ e9 ∷ e10·1 ∷ e11 ∷ e12 ∷ e13 ∷ e14 ∷ e15 ∷ List.[]
+
 abbrev pub t14 : List.List Row.Entry
 t14 = e0 ∷ e1 ∷ e2 ∷ e3 ∷ e4 ∷ e5 ∷ e6 ∷ e7 ∷ e8 ∷ e9 ∷ e10·1 ∷ e11·1 ∷ e12 ∷ e13 ∷ e14 ∷ e15 ∷ List.[]
+
 abbrev pub t15 : List.List Row.Entry
 t15 = e0 ∷ e1 ∷ e2 ∷ e3 ∷ e4 ∷ e5 ∷ e6·1 ∷ e7 ∷ e8 ∷ e9 ∷ e10·1 ∷ e11·1 ∷ e12 ∷ e13 ∷ e14 ∷ e15 ∷ List.[]
+
 abbrev pub t16 : List.List Row.Entry
 t16 = e0 ∷ e1 ∷ e2 ∷ e3 ∷ e4 ∷ e5 ∷ e6·1 ∷ e7 ∷ e8 ∷ e9 ∷ e10·1 ∷ e11·1 ∷ e12·1 ∷ e13 ∷ e14 ∷ e15 ∷ List.[]
+
 abbrev pub t17 : List.List Row.Entry
 t17 = e0 ∷ e1 ∷ e2 ∷ e3 ∷ e4 ∷ e5 ∷ e6·1 ∷ e7 ∷ e8 ∷ e9 ∷ e10·1 ∷ e11·1 ∷ e12·1 ∷ e13·1 ∷ e14 ∷ e15 ∷ List.[]
+
 abbrev pub t18 : List.List Row.Entry
 t18 = e0 ∷ e1 ∷ e2 ∷ e3 ∷ e4 ∷ e5 ∷ e6·1 ∷ e7 ∷ e8 ∷ e9 ∷ e10·1 ∷ e11 ∷ e12·1 ∷ e13·1 ∷ e14 ∷ e15 ∷ List.[]
+
 abbrev pub t19 : List.List Row.Entry
 t19 = e0 ∷ e1·2 ∷ e2 ∷ e3 ∷ e4 ∷ e5 ∷ e6·1 ∷ e7 ∷ e8 ∷ e9 ∷ e10·1 ∷ e11 ∷ e12·1 ∷ e13·1 ∷ e14 ∷ e15 ∷ List.[]
+
 abbrev pub t20 : List.List Row.Entry
 t20 = e16·1 ∷ e17 ∷ e18 ∷ e19 ∷ e20 ∷ e21 ∷ List.[]
+
 abbrev pub t21 : List.List Row.Entry
 t21 = e16 ∷ e17·1 ∷ e18 ∷ e19 ∷ e20 ∷ e21 ∷ List.[]
+
 abbrev pub t22 : List.List Row.Entry
 t22 = e0 ∷ e1·2 ∷ e2·1 ∷ e3 ∷ e4 ∷ e5 ∷ e6·1 ∷ e7 ∷ e8 ∷ e9 ∷ e10·1 ∷ e11 ∷ e12·1 ∷ e13·1 ∷ e14 ∷ e15 ∷ List.[]
+
 abbrev pub t23 : List.List Row.Entry
 t23 = e16 ∷ e17·1 ∷ e18·1 ∷ e19 ∷ e20 ∷ e21 ∷ List.[]
+
 abbrev pub t24 : List.List Row.Entry
 t24 = e16 ∷ e17·1 ∷ e18 ∷ e19·1 ∷ e20 ∷ e21 ∷ List.[]
+
 abbrev pub t25 : List.List Row.Entry
 t25 = e0 ∷ e1·2 ∷ e2·1 ∷ e3 ∷ e4 ∷ e5 ∷ e6·1 ∷ e7 ∷ e8 ∷ e9 ∷ e10·1 ∷ e11 ∷ e12·2 ∷ e13·1 ∷ e14 ∷ e15 ∷ List.[]
+
 abbrev pub t26 : List.List Row.Entry
 t26 = e16 ∷ e17·1 ∷ e18 ∷ e19·1 ∷ e20·1 ∷ e21 ∷ List.[]
+
 abbrev pub t27 : List.List Row.Entry
 t27 = e16 ∷ e17·1 ∷ e18 ∷ e19·1 ∷ e20 ∷ e21·1 ∷ List.[]
+
 abbrev pub t28 : List.List Row.Entry
 t28 = e0·1 ∷ e1·2 ∷ e2·1 ∷ e3 ∷ e4 ∷ e5 ∷ e6·1 ∷ e7 ∷ e8 ∷ e9 ∷ e10·1 ∷ e11 ∷ e12·2 ∷ e13·1 ∷ e14 ∷ e15 ∷ List.[]
+
 abbrev pub t29 : List.List Row.Entry
 t29 = e16 ∷ e17·2 ∷ e18 ∷ e19·2 ∷ e20 ∷ e21·1 ∷ List.[]
+
 abbrev pub t30 : List.List Row.Entry
 t30 = e16 ∷ e17·2 ∷ e18 ∷ e19·2 ∷ e20 ∷ e21 ∷ List.[]
+
 abbrev pub t31 : List.List Row.Entry
 t31 = e0·1 ∷ e1·2 ∷ e2·1 ∷ e3 ∷ e4·1 ∷ e5 ∷ e6·1 ∷ e7 ∷ e8 ∷ e9 ∷ e10·1 ∷ e11 ∷ e12·2 ∷ e13·1 ∷ e14 ∷ e15 ∷ List.[]
+
 abbrev pub t32 : List.List Row.Entry
 t32 = e0·1 ∷ e1·2 ∷ e2·1 ∷ e3 ∷ e4·1 ∷ e5·1 ∷ e6·1 ∷ e7 ∷ e8 ∷ e9 ∷ e10·1 ∷ e11 ∷ e12·2 ∷ e13·1 ∷ e14 ∷ e15 ∷ List.[]
+
 abbrev pub t33 : List.List Row.Entry
 t33 = e0·1 ∷ e1·2 ∷ e2·1 ∷ e3 ∷ e4·1 ∷ e5·1 ∷ e6·1 ∷ e7 ∷ e8 ∷ e9 ∷ e10 ∷ e11 ∷ e12·2 ∷ e13·1 ∷ e14 ∷ e15 ∷ List.[]
+
 abbrev pub t34 : List.List Row.Entry
 t34 = e0·1 ∷ e1·2 ∷ e2·1 ∷ e3 ∷ e4·1 ∷ e5·1 ∷ e6·1 ∷ e7 ∷ e8 ∷ e9 ∷ e10 ∷ e11 ∷ e12·2 ∷ e13 ∷ e14 ∷ e15 ∷ List.[]
+
 abbrev pub t35 : List.List Row.Entry
 t35 = e0·1 ∷ e1 ∷ e2·1 ∷ e3 ∷ e4·1 ∷ e5·1 ∷ e6·1 ∷ e7 ∷ e8 ∷ e9 ∷ e10 ∷ e11 ∷ e12·2 ∷ e13 ∷ e14 ∷ e15 ∷ List.[]
+
 abbrev pub t36 : List.List Row.Entry
 t36 = e16 ∷ e17 ∷ e18 ∷ e19·2 ∷ e20 ∷ e21 ∷ List.[]
+
 abbrev pub t37 : List.List Row.Entry
 t37 = e0·1 ∷ e1 ∷ e2 ∷ e3 ∷ e4·1 ∷ e5·1 ∷ e6·1 ∷ e7 ∷ e8 ∷ e9 ∷ e10 ∷ e11 ∷ e12·2 ∷ e13 ∷ e14 ∷ e15 ∷ List.[]
+
 abbrev pub t38 : List.List Row.Entry
 t38 = e0·1 ∷ e1 ∷ e2 ∷ e3 ∷ e4·1 ∷ e5·1 ∷ e6·1 ∷ e7 ∷ e8 ∷ e9 ∷ e10 ∷ e11 ∷ e12·1 ∷ e13 ∷ e14 ∷ e15 ∷ List.[]
+
 abbrev pub t39 : List.List Row.Entry
 t39 = e0·1 ∷ e1 ∷ e2 ∷ e3 ∷ e4·1 ∷ e5·1 ∷ e6·1 ∷ e7 ∷ e8 ∷ e9 ∷ e10 ∷ e11 ∷ e12 ∷ e13 ∷ e14 ∷ e15 ∷ List.[]
+
 abbrev pub T0 : Row.Cx
 T0 = record { locals = List._++_ t0 t1; slots = List.[] }
+
 abbrev pub T1 : Row.Cx
 T1 = record { locals = List._++_ t2 t1; slots = List.[] }
+
 abbrev pub T2 : Row.Cx
 T2 = record { locals = List._++_ t0 t1; slots = List.[] }
+
 abbrev pub T3 : Row.Cx
 T3 = record { locals = List._++_ t3 t1; slots = List.[] }
+
 abbrev pub T4 : Row.Cx
 T4 = record { locals = List._++_ t4 t1; slots = List.[] }
+
 abbrev pub T5 : Row.Cx
 T5 = record { locals = List._++_ t5 t1; slots = List.[] }
+
 abbrev pub T6 : Row.Cx
 T6 = record { locals = List._++_ t6 t1; slots = List.[] }
+
 abbrev pub T8 : Row.Cx
 T8 = record { locals = List._++_ t7 t1; slots = List.[] }
+
 abbrev pub T9 : Row.Cx
 T9 = record { locals = List._++_ t8 t1; slots = List.[] }
+
 abbrev pub T10 : Row.Cx
 T10 = record { locals = List._++_ t9 t1; slots = List.[] }
+
 abbrev pub T11 : Row.Cx
 T11 = record { locals = List._++_ t10 t1; slots = List.[] }
+
 abbrev pub T12 : Row.Cx
 T12 = record { locals = List._++_ t11 t1; slots = List.[] }
+
 abbrev pub T13 : Row.Cx
 T13 = record { locals = List._++_ t12 t1; slots = List.[] }
+
 abbrev pub T15 : Row.Cx
 T15 = record { locals = List._++_ t13 t1; slots = List.[] }
+
 abbrev pub T17 : Row.Cx
 T17 = record { locals = List._++_ t14 t1; slots = List.[] }
+
 abbrev pub T18 : Row.Cx
 T18 = record { locals = List._++_ t15 t1; slots = List.[] }
+
 abbrev pub T19 : Row.Cx
 T19 = record { locals = List._++_ t16 t1; slots = List.[] }
+
 abbrev pub T20 : Row.Cx
 T20 = record { locals = List._++_ t17 t1; slots = List.[] }
+
 abbrev pub T21 : Row.Cx
 T21 = record { locals = List._++_ t18 t1; slots = List.[] }
+
 abbrev pub T23 : Row.Cx
 T23 = record { locals = List._++_ t19 t20; slots = List.[] }
+
 abbrev pub T24 : Row.Cx
 T24 = record { locals = List._++_ t19 t21; slots = List.[] }
+
 abbrev pub T26 : Row.Cx
 T26 = record { locals = List._++_ t22 t23; slots = List.[] }
+
 abbrev pub T27 : Row.Cx
 T27 = record { locals = List._++_ t22 t24; slots = List.[] }
+
 abbrev pub T29 : Row.Cx
 T29 = record { locals = List._++_ t25 t26; slots = List.[] }
+
 abbrev pub T30 : Row.Cx
 T30 = record { locals = List._++_ t25 t27; slots = List.[] }
+
 abbrev pub T31 : Row.Cx
 T31 = record { locals = List._++_ t28 t29; slots = List.[] }
+
 abbrev pub T32 : Row.Cx
 T32 = record { locals = List._++_ t28 t30; slots = List.[] }
+
 abbrev pub T33 : Row.Cx
 T33 = record { locals = List._++_ t31 t30; slots = List.[] }
+
 abbrev pub T34 : Row.Cx
 T34 = record { locals = List._++_ t32 t30; slots = List.[] }
+
 abbrev pub T35 : Row.Cx
 T35 = record { locals = List._++_ t33 t30; slots = List.[] }
+
 abbrev pub T36 : Row.Cx
 T36 = record { locals = List._++_ t34 t30; slots = List.[] }
+
 abbrev pub T38 : Row.Cx
 T38 = record { locals = List._++_ t35 t36; slots = List.[] }
+
 abbrev pub T41 : Row.Cx
 T41 = record { locals = List._++_ t37 t1; slots = List.[] }
+
 abbrev pub T42 : Row.Cx
 T42 = record { locals = List._++_ t37 t1; slots = List.[] }
+
 abbrev pub T45 : Row.Cx
 T45 = record { locals = List._++_ t38 t1; slots = List.[] }
+
 abbrev pub T47 : Row.Cx
 T47 = record { locals = List._++_ t39 t1; slots = List.[] }
+
 abbrev pub T48 : Row.Cx
 T48 = record { locals = List._++_ t2 t1; slots = List.[] }
+
 abbrev pub O0 : Typed.Outs
 O0 = record { next = Option.none; exits = List.[]; returns = Option.some T1 }
+
 module _ (claims· : Claims) where
   abbrev s0 : (bs : List.List Nat.ℕ) → Typed.Gives T0 T2
   s0 = λ bs. Know.k-sl-known (Referent.fInt Syntax.w32) T0 2 1 ref6 Row.off 0 λ x. x
+
   abbrev s1 : (bs : List.List Nat.ℕ) → Typed.Both T2 T3
-  s1 = λ bs. WayStmt.k-way-copy-out T2 (Row.out 4 (T2 .locals)) (λ u. Row.drop 4 (T2 .locals) u) 7 (Rows'.whole (Declared'.row
-      OpaqueRelayRuntime.the-type)) (λ u. At.getAt (Sending.the-type .parts) 0 (Sending.struct .as-values (u .1 .1 .1 .1 .0))) (λ T′. record { locals
-      = Row.setRow 4 (4, Rows'.whole (Declared'.row Sending.the-type)) T′; slots = List.[]; }) (λ u T′ m′. Row.set 4 (4, Rows'.whole (Declared'.row
-      Sending.the-type)) (u .1 .1 .1 .1 .0) T′ m′) (λ u. Unit) λ u. Unit
+  s1 = λ bs. WayStmt.k-way-copy-out T2 (Row.out 4 (T2 .locals)) (λ u. Row.drop 4 (T2 .locals) u) 7
+      (Rows'.whole (Declared'.row OpaqueRelayRuntime.the-type)) (λ u. At.getAt (Sending.the-type .parts) 0
+      (Sending.struct .as-values (u .1 .1 .1 .1 .0))) (λ T′.
+      record { locals = Row.setRow 4 (4, Rows'.whole (Declared'.row Sending.the-type)) T′; slots = List.[] }) (λ u T′
+      m′. Row.set 4 (4, Rows'.whole (Declared'.row Sending.the-type)) (u .1 .1 .1 .1 .0) T′ m′) (λ u. Unit) λ u. Unit
+
   abbrev s2 : (bs : List.List Nat.ℕ) → Typed.Both T3 T4
-  s2 = λ bs. WayStmt.k-way-copy-out T3 (Row.out 4 (T3 .locals)) (λ u. Row.drop 4 (T3 .locals) u) 8 (Rows'.whole (Declared'.row Places.the-type)) (λ u.
-      At.getAt (Sending.the-type .parts) 2 (Sending.struct .as-values (u .1 .1 .1 .1 .0))) (λ T′. record { locals = Row.setRow 4 (4, Rows'.whole
-      (Declared'.row Sending.the-type)) T′; slots = List.[]; }) (λ u T′ m′. Row.set 4 (4, Rows'.whole (Declared'.row Sending.the-type)) (u .1 .1 .1 .1
-      .0) T′ m′) (λ u. Unit) λ u. Unit
+  s2 = λ bs. WayStmt.k-way-copy-out T3 (Row.out 4 (T3 .locals)) (λ u. Row.drop 4 (T3 .locals) u) 8
+      (Rows'.whole (Declared'.row Places.the-type)) (λ u. At.getAt (Sending.the-type .parts) 2
+      (Sending.struct .as-values (u .1 .1 .1 .1 .0))) (λ T′.
+      record { locals = Row.setRow 4 (4, Rows'.whole (Declared'.row Sending.the-type)) T′; slots = List.[] }) (λ u T′
+      m′. Row.set 4 (4, Rows'.whole (Declared'.row Sending.the-type)) (u .1 .1 .1 .1 .0) T′ m′) (λ u. Unit) λ u. Unit
+
   abbrev s3 : (bs : List.List Nat.ℕ) → Typed.Both T4 T5
-  s3 = λ bs. Call.callB ps·0 r·0 (claims· .0) (claims· .1) T4 (record { pos = 7; st = List.[]; d = 0; at = λ x. x }, (record { pos = 5; st = List.[];
-      d = 0; at = λ x. x }, tt),) 9 List.[] Laws'''.mir
+  s3 = λ bs. Call.callB ps·0 r·0 (claims· .0) (claims· .1) T4 (
+    record { pos = 7; st = List.[]; d = 0; at = λ x. x },
+    (record { pos = 5; st = List.[]; d = 0; at = λ x. x }, tt),
+  ) 9 List.[] Laws'''.mir
+
   abbrev s4 : (bs : List.List Nat.ℕ) → Typed.Mo T5 → Typed.Mo T6
   s4 = λ bs. Scalar.n-room T5 7 Laws''''''.mir
+
   abbrev s6 : (bs : List.List Nat.ℕ) → Typed.Gives T6 T8
   s6 = λ bs. Reshare.k-sl-reshare InflightAction.row T6 1 14 0 2 ref5 ref0 Row.off λ x. x
+
   abbrev s7 : (bs : List.List Nat.ℕ) → Typed.Asks T8 T9
-  s7 = λ bs. Relend.k-sl-aggregate InflightAction.row (Relend.asShr InflightAction.row) T8 14 15 2 ref0 ref0 (λ x. x) (Scalar.oFld 1 ((Syntax.field 1)
-      ∷ List.[]) (Syntax.tyInt Syntax.w64) 8 λ v. Shared.lenV (v .0))
+  s7 = λ bs. Relend.k-sl-aggregate InflightAction.row (Relend.asShr InflightAction.row) T8 14 15 2 ref0 ref0 (λ x. x) (Scalar.oFld
+      1 ((Syntax.field 1) ∷ List.[]) (Syntax.tyInt Syntax.w64) 8 λ v. Shared.lenV (v .0))
+
   abbrev s8 : (bs : List.List Nat.ℕ) → Typed.Both T9 T10
-  s8 = λ bs. Call.callB ps·1 r·1 (claims· .2) (claims· .3) T9 (record { pos = 15; ty = Syntax.tyRef Syntax.erased Syntax.imm InflightAction.to; ref =
-      λ x. x; }, (record { pos = 8; st = List.[]; d = 0; at = λ x. x }, (record { pos = 9; st = List.[]; d = 0; at = λ x. x }, tt),),) 10 (2 ∷
-      List.[]) Laws''''.mir
+  s8 = λ bs. Call.callB ps·1 r·1 (claims· .2) (claims· .3) T9 (
+    record { pos = 15; ty = ref0; ref = λ x. x },
+    (record { pos = 8; st = List.[]; d = 0; at = λ x. x }, (record { pos = 9; st = List.[]; d = 0; at = λ x. x }, tt)),
+  ) 10 (2 ∷ List.[]) Laws''''.mir
+
   abbrev s9 : (bs : List.List Nat.ℕ) → Typed.Mo T10 → Typed.Mo T11
-  s9 = λ bs. Scalar.n-room T10 15 (Syntax.tyStruct (38 ∷ 91 ∷ 93 ∷ List.[]) (Syntax.tcons ref0 (Syntax.tcons (Syntax.tyInt Syntax.w64) Syntax.tnil)))
+  s9 = λ bs. Scalar.n-room T10 15 slice0
+
   abbrev s10 : (bs : List.List Nat.ℕ) → Typed.Mo T11 → Typed.Mo T12
   s10 = λ bs. Scalar.n-room T11 8 Laws''.mir
+
   abbrev s11 : (bs : List.List Nat.ℕ) → Typed.Mo T12 → Typed.Mo T13
   s11 = λ bs. Scalar.n-room T12 9 Laws'''.mir
+
   abbrev s13 : (bs : List.List Nat.ℕ) → Typed.Mo T13 → Typed.Mo T15
   s13 = λ bs. Reshare.n-back-sl-shr InflightAction.row T13 1 0 2 ref5 Row.off λ x. x
+
   abbrev s15 : (bs : List.List Nat.ℕ) → Typed.Both T15 T17
-  s15 = λ bs. Call.callB ps·2 r·2 (claims· .4) (claims· .5) T15 (record { pos = 6; st = List.[]; d = 0; at = λ x. x }, tt,) 11 List.[] Laws'.mir
+  s15 = λ bs. Call.callB ps·2 r·2 (claims· .4) (claims· .5) T15
+      (record { pos = 6; st = List.[]; d = 0; at = λ x. x }, tt) 11 List.[] Laws'.mir
+
   abbrev s16 : (bs : List.List Nat.ℕ) → Typed.Mo T17 → Typed.Mo T18
   s16 = λ bs. Scalar.n-room T17 6 Laws.mir
+
   abbrev s17 : (bs : List.List Nat.ℕ) → Typed.Both T18 T19
-  s17 = λ bs. WayStmt.k-way-copy-out T18 (Row.out 11 (T18 .locals)) (λ u. Row.drop 11 (T18 .locals) u) 12 (Rows.arrF (Referent.rtF (Referent.fInt
-      Syntax.w8)) 30 0) (λ u. At.getAt (NoticeWritten.the-type .parts) 1 (NoticeWritten.struct .as-values (u .1 .1 .1 .1 .1 .1 .1 .1 .1 .1 .1 .0))) (λ
-      T′. record { locals = Row.setRow 11 (11, Rows'.whole (Declared'.row NoticeWritten.the-type)) T′; slots = List.[]; }) (λ u T′ m′. Row.set 11 (11,
-      Rows'.whole (Declared'.row NoticeWritten.the-type)) (u .1 .1 .1 .1 .1 .1 .1 .1 .1 .1 .1 .0) T′ m′) (λ u. Unit) λ u. Unit
+  s17 = λ bs. WayStmt.k-way-copy-out T18 (Row.out 11 (T18 .locals)) (λ u. Row.drop 11 (T18 .locals) u) 12
+      (Rows.arrF (Referent.rtF (Referent.fInt Syntax.w8)) 30 0) (λ u. At.getAt (NoticeWritten.the-type .parts) 1 (NoticeWritten.struct
+      .as-values (u .1 .1 .1 .1 .1 .1 .1 .1 .1 .1 .1 .0))) (λ T′.
+      record { locals = Row.setRow 11 (11, Rows'.whole (Declared'.row NoticeWritten.the-type)) T′; slots = List.[] }) (λ
+      u T′ m′. Row.set 11 (11, Rows'.whole (Declared'.row NoticeWritten.the-type))
+      (u .1 .1 .1 .1 .1 .1 .1 .1 .1 .1 .1 .0) T′ m′) (λ u. Unit) λ u. Unit
+
   abbrev s18 : (bs : List.List Nat.ℕ) → Typed.Mo T19 → Typed.Mo T20
-  s18 = λ bs. Scalar.n-use T19 (Scalar.oFld 11 ((Syntax.field 0) ∷ List.[]) (Syntax.tyInt Syntax.w64) 0 (Reads.fieldV NoticeWritten.the-type
-      Laws'.the-laws 0)) 13 (Rows'.sc-here (Row.sInt Syntax.w64)) (Row.sInt Syntax.w64 .of)
+  s18 = λ bs. Scalar.n-use T19 (Scalar.oFld 11 ((Syntax.field 0) ∷ List.[]) (Syntax.tyInt Syntax.w64) 0
+      (Reads.fieldV NoticeWritten.the-type Laws'.the-laws 0)) 13 (Rows'.sc-here (Row.sInt Syntax.w64))
+      (Row.sInt Syntax.w64 .of)
+
   abbrev s19 : (bs : List.List Nat.ℕ) → Typed.Mo T20 → Typed.Mo T21
   s19 = λ bs. Scalar.n-room T20 11 Laws'.mir
+
   abbrev s21 : (bs : List.List Nat.ℕ) → Typed.Gives T21 T23
   s21 = λ bs. Relend.k-sl-relend InflightAction.row T21 1 16 0 3 ref5 ref1 Row.off λ x. x
+
   abbrev s22 : (bs : List.List Nat.ℕ) → Typed.Asks T23 T24
-  s22 = λ bs. Relend.k-sl-aggregate InflightAction.row (Relend.asMut InflightAction.row) T23 16 17 3 ref1 ref1 (λ x. x) (Scalar.oFld 1 ((Syntax.field
-      1) ∷ List.[]) (Syntax.tyInt Syntax.w64) 8 λ v. Shared.lenV (v .0))
+  s22 = λ bs. Relend.k-sl-aggregate InflightAction.row (Relend.asMut InflightAction.row) T23 16 17 3 ref1 ref1 (λ x. x) (Scalar.oFld
+      1 ((Syntax.field 1) ∷ List.[]) (Syntax.tyInt Syntax.w64) 8 λ v. Shared.lenV (v .0))
+
   abbrev s24 : (bs : List.List Nat.ℕ) → Typed.Gives T24 T26
   s24 = λ bs. Relend.k-sl-relend (Referent.rtF (Referent.fInt Syntax.w32)) T24 2 18 1 4 ref6 ref2 Row.off λ x. x
+
   abbrev s25 : (bs : List.List Nat.ℕ) → Typed.Asks T26 T27
-  s25 = λ bs. Relend.k-sl-aggregate (Referent.rtF (Referent.fInt Syntax.w32)) (Relend.asMut (Referent.rtF (Referent.fInt Syntax.w32))) T26 18 19 4
-      ref2 ref2 (λ x. x) (Scalar.oFld 2 ((Syntax.field 1) ∷ List.[]) (Syntax.tyInt Syntax.w64) 8 λ v. Shared.lenV (v .0))
+  s25 = λ bs. Relend.k-sl-aggregate (Referent.rtF (Referent.fInt Syntax.w32))
+      (Relend.asMut (Referent.rtF (Referent.fInt Syntax.w32))) T26 18 19 4 ref2 ref2 (λ x. x) (Scalar.oFld 2
+      ((Syntax.field 1) ∷ List.[]) (Syntax.tyInt Syntax.w64) 8 λ v. Shared.lenV (v .0))
+
   abbrev s27 : (bs : List.List Nat.ℕ) → Typed.Both T27 T29
-  s27 = λ bs. Share.k-arr-shareᵖ (Referent.rtF (Referent.fInt Syntax.w8)) T27 12 20 30 5 ref3 (λ x. x) λ u. u .1 .1 .1 .1 .1 .1 .1 .1 .1 .1 .1 .1 .1
-      .0
+  s27 = λ bs. Share.k-arr-shareᵖ (Referent.rtF (Referent.fInt Syntax.w8)) T27 12 20 30 5 ref3 (λ x. x) λ u. u .1 .1 .1
+      .1 .1 .1 .1 .1 .1 .1 .1 .1 .1 .0
+
   abbrev s28 : (bs : List.List Nat.ℕ) → Typed.Asks T29 T30
-  s28 = λ bs. Relend.k-sl-aggregate (Referent.rtF (Referent.fInt Syntax.w8)) (Relend.asShr (Referent.rtF (Referent.fInt Syntax.w8))) T29 20 21 5 ref3
-      ref4 (λ x. x) (Scalar.oAt 13 (Syntax.tyInt Syntax.w64) (Row.valS (Row.sInt Syntax.w64)))
+  s28 = λ bs. Relend.k-sl-aggregate (Referent.rtF (Referent.fInt Syntax.w8))
+      (Relend.asShr (Referent.rtF (Referent.fInt Syntax.w8))) T29 20 21 5 ref3 ref4 (λ x. x) (Scalar.oAt 13
+      (Syntax.tyInt Syntax.w64) (Row.valS (Row.sInt Syntax.w64)))
+
   abbrev s29 : (bs : List.List Nat.ℕ) → Typed.Both T30 T31
-  s29 = λ bs. Call.callB ps·3 r·3 (claims· .6) (claims· .7) T30 (record { pos = 17; ty = Syntax.tyRef Syntax.erased Syntax.mut InflightAction.to; ref
-      = λ x. x; }, (record { pos = 19; ty = Syntax.tyRef Syntax.erased Syntax.mut (Syntax.tyInt Syntax.w32); ref = λ x. x; }, (Bool.bAt 3 λ x. x,
-      (record { pos = 4; st = List.[]; d = 0; at = λ x. x }, (record { pos = 5; st = List.[]; d = 0; at = λ x. x }, (record { pos = 10; st = List.[];
-      d = 0; at = λ x. x }, (record { pos = 21; ty = Syntax.tyRef Syntax.erased Syntax.imm (Syntax.tyInt Syntax.w8); ref = λ x. x; }, tt,),),),),),),)
-      0 (3 ∷ 4 ∷ 5 ∷ List.[]) Laws'''''''.mir
+  s29 = λ bs. Call.callB ps·3 r·3 (claims· .6) (claims· .7) T30 (
+    record { pos = 17; ty = ref1; ref = λ x. x },
+    (
+      record { pos = 19; ty = ref2; ref = λ x. x },
+      (
+        Bool.bAt 3 λ x. x,
+        (
+          record { pos = 4; st = List.[]; d = 0; at = λ x. x },
+          (
+            record { pos = 5; st = List.[]; d = 0; at = λ x. x },
+            (
+              record { pos = 10; st = List.[]; d = 0; at = λ x. x },
+              (record { pos = 21; ty = ref4; ref = λ x. x }, tt),
+            ),
+          ),
+        ),
+      ),
+    ),
+  ) 0 (3 ∷ 4 ∷ 5 ∷ List.[]) Laws'''''''.mir
+
   abbrev s30 : (bs : List.List Nat.ℕ) → Typed.Mo T31 → Typed.Mo T32
-  s30 = λ bs. Scalar.n-room T31 21 (Syntax.tyStruct (38 ∷ 91 ∷ 93 ∷ List.[]) (Syntax.tcons ref4 (Syntax.tcons (Syntax.tyInt Syntax.w64) Syntax.tnil)))
+  s30 = λ bs. Scalar.n-room T31 21 slice4
+
   abbrev s31 : (bs : List.List Nat.ℕ) → Typed.Mo T32 → Typed.Mo T33
   s31 = λ bs. Scalar.n-room T32 4 Laws'''''''.mir
+
   abbrev s32 : (bs : List.List Nat.ℕ) → Typed.Mo T33 → Typed.Mo T34
   s32 = λ bs. Scalar.n-room T33 5 Laws'''''.mir
+
   abbrev s33 : (bs : List.List Nat.ℕ) → Typed.Mo T34 → Typed.Mo T35
   s33 = λ bs. Scalar.n-room T34 10 Laws''''.mir
+
   abbrev s34 : (bs : List.List Nat.ℕ) → Typed.Mo T35 → Typed.Mo T36
   s34 = λ bs. Scalar.n-room T35 13 (Syntax.tyInt Syntax.w64)
+
   abbrev s36 : (bs : List.List Nat.ℕ) → Typed.Both T36 T38
   s36 = λ bs. Relend.k-back-sl InflightAction.row T36 17 1 0 3 ref5 ref1 Row.off (λ x. x) λ x. x
+
   abbrev s39 : (bs : List.List Nat.ℕ) → Typed.Both T38 T41
   s39 = λ bs. Relend.k-back-sl (Referent.rtF (Referent.fInt Syntax.w32)) T38 19 2 1 4 ref6 ref2 Row.off (λ x. x) λ x. x
+
   abbrev s40 : (bs : List.List Nat.ℕ) → Typed.Gives T41 T42
   s40 = λ bs. Know.k-sl-known (Referent.fInt Syntax.w32) T41 2 1 ref6 Row.off 0 λ x. x
+
   abbrev s43 : (bs : List.List Nat.ℕ) → Typed.Mo T42 → Typed.Mo T45
   s43 = λ bs. Share.n-back-arr-shr (Referent.rtF (Referent.fInt Syntax.w8)) T42 12 30 5 λ x. x
+
   abbrev s45 : (bs : List.List Nat.ℕ) → Typed.Mo T45 → Typed.Mo T47
   s45 = λ bs. Scalar.n-room T45 12 (Syntax.tyArray (Syntax.tyInt Syntax.w8) 30)
+
   abbrev s46 : (bs : List.List Nat.ℕ) → Typed.Mo T47 → Typed.Mo T48
   s46 = λ bs. Scalar.n-room T47 3 Syntax.tyBool
-  module _ (Pre· : (κs : Lifetimes.Lfts 2) → Kinds.Dens κs ps → Type 0) (Post· : (κs : Lifetimes.Lfts 2) → (a : Kinds.Dens κs ps) → Kinds.Plain 2 ps r
-      κs) where
+
+  module _ (Pre· : (κs : Lifetimes.Lfts 2) → Kinds.Dens κs ps → Type 0) (Post· : (κs : Lifetimes.Lfts 2) →
+      (a : Kinds.Dens κs ps) → Kinds.Plain 2 ps r κs) where
     module _ (M : Type 1) where
       abbrev pub Closed : Type 2
-      Closed = (𝓤 : URA.URA M) (H : Wp.Heap 𝓤) (A : Atoms.Atoms 𝓤) (W : Kit.Given 𝓤 H A) (𝓣 : Wp.Tables 𝓤 H) (known0 : Plain.Known 𝓤 H A W 𝓣 0 ps·0
-          r·0 (claims· .0) (claims· .1) "hnsr_circuit::queue::asking") (known1 : Plain.Known 𝓤 H A W 𝓣 1 ps·1 r·1 (claims· .2) (claims· .3)
-          "hnsr_circuit::tables::inflight::scan_actions") (known2 : Plain.Known 𝓤 H A W 𝓣 0 ps·2 r·2 (claims· .4) (claims· .5)
-          "hnsr_body::messages::Notice::encode") (known3 : Plain.Known 𝓤 H A W 𝓣 3 ps·3 r·3 (claims· .6) (claims· .7)
-          "hnsr_circuit::queue::tell_scanned") → Statement.Triple 𝓤 (Wp.WpFn 𝓤 H (𝓣 .C) (𝓣 .Λ) (Function.fnOf 2 ps r xs m hs body)) (Function.plainOf
-          𝓤 H A 2 ps r Pre· Post·)
+      Closed = (𝓤 : URA.URA M) (H : Wp.Heap 𝓤) (A : Atoms.Atoms 𝓤) (W : Kit.Given 𝓤 H A) (𝓣 : Wp.Tables 𝓤 H) (known0 :
+          Plain.Known 𝓤 H A W 𝓣 0 ps·0 r·0 (claims· .0) (claims· .1) "hnsr_circuit::queue::asking") (known1 :
+          Plain.Known 𝓤 H A W 𝓣 1 ps·1 r·1 (claims· .2) (claims· .3) "hnsr_circuit::tables::inflight::scan_actions") (known2
+          : Plain.Known 𝓤 H A W 𝓣 0 ps·2 r·2 (claims· .4) (claims· .5) "hnsr_body::messages::Notice::encode") (known3 :
+          Plain.Known 𝓤 H A W 𝓣 3 ps·3 r·3 (claims· .6) (claims· .7) "hnsr_circuit::queue::tell_scanned") →
+          Statement.Triple 𝓤 (Wp.WpFn 𝓤 H (𝓣 .C) (𝓣 .Λ) (Function.fnOf 2 ps r xs m hs body))
+          (Function.plainOf 𝓤 H A 2 ps r Pre· Post·)
+
     module _ where
       abbrev at0 : (bs : List.List Nat.ℕ) → Typed.TF T48 O0
       at0 = λ bs. Typed.atRet O0
+
       abbrev at1 : (bs : List.List Nat.ℕ) → Typed.TF T47 O0
       at1 = λ bs. λ Ψ. Typed.pass T47 T48 (s46 bs) (at0 bs Ψ)
+
       abbrev at2 : (bs : List.List Nat.ℕ) → Typed.TF T45 O0
       at2 = λ bs. λ Ψ. Typed.pass T45 T47 (s45 bs) (at1 bs Ψ)
+
       abbrev at3 : (bs : List.List Nat.ℕ) → Typed.TF T45 O0
       at3 = λ bs. λ Ψ. at2 bs Ψ
+
       abbrev at4 : (bs : List.List Nat.ℕ) → Typed.TF T42 O0
       at4 = λ bs. λ Ψ. Typed.pass T42 T45 (s43 bs) (at3 bs Ψ)
+
       abbrev at5 : (bs : List.List Nat.ℕ) → Typed.TF T42 O0
       at5 = λ bs. λ Ψ. at4 bs Ψ
+
       abbrev at6 : (bs : List.List Nat.ℕ) → Typed.TF T42 O0
       at6 = λ bs. λ Ψ. at5 bs Ψ
+
       abbrev at7 : (bs : List.List Nat.ℕ) → Typed.TF T41 O0
       at7 = λ bs. λ Ψ. Typed.give (s40 bs) (at6 bs Ψ)
+
       abbrev at8 : (bs : List.List Nat.ℕ) → Typed.TF T38 O0
       at8 = λ bs. λ Ψ. Typed.both (s39 bs) (at7 bs Ψ)
+
       abbrev at9 : (bs : List.List Nat.ℕ) → Typed.TF T38 O0
       at9 = λ bs. λ Ψ. at8 bs Ψ
+
       abbrev at10 : (bs : List.List Nat.ℕ) → Typed.TF T38 O0
       at10 = λ bs. λ Ψ. at9 bs Ψ
+
       abbrev at11 : (bs : List.List Nat.ℕ) → Typed.TF T36 O0
       at11 = λ bs. λ Ψ. Typed.both (s36 bs) (at10 bs Ψ)
+
       abbrev at12 : (bs : List.List Nat.ℕ) → Typed.TF T36 O0
       at12 = λ bs. λ Ψ. at11 bs Ψ
+
       abbrev at13 : (bs : List.List Nat.ℕ) → Typed.TF T35 O0
       at13 = λ bs. λ Ψ. Typed.pass T35 T36 (s34 bs) (at12 bs Ψ)
+
       abbrev at14 : (bs : List.List Nat.ℕ) → Typed.TF T34 O0
       at14 = λ bs. λ Ψ. Typed.pass T34 T35 (s33 bs) (at13 bs Ψ)
+
       abbrev at15 : (bs : List.List Nat.ℕ) → Typed.TF T33 O0
       at15 = λ bs. λ Ψ. Typed.pass T33 T34 (s32 bs) (at14 bs Ψ)
+
       abbrev at16 : (bs : List.List Nat.ℕ) → Typed.TF T32 O0
       at16 = λ bs. λ Ψ. Typed.pass T32 T33 (s31 bs) (at15 bs Ψ)
+
       abbrev at17 : (bs : List.List Nat.ℕ) → Typed.TF T31 O0
       at17 = λ bs. λ Ψ. Typed.pass T31 T32 (s30 bs) (at16 bs Ψ)
+
       abbrev at18 : (bs : List.List Nat.ℕ) → Typed.TF T30 O0
       at18 = λ bs. λ Ψ. Typed.both (s29 bs) (at17 bs Ψ)
+
       abbrev at19 : (bs : List.List Nat.ℕ) → Typed.TF T29 O0
       at19 = λ bs. λ Ψ. Typed.ask (s28 bs) (at18 bs Ψ)
+
       abbrev at20 : (bs : List.List Nat.ℕ) → Typed.TF T27 O0
       at20 = λ bs. λ Ψ. Typed.both (s27 bs) (at19 bs Ψ)
+
       abbrev at21 : (bs : List.List Nat.ℕ) → Typed.TF T27 O0
       at21 = λ bs. λ Ψ. at20 bs Ψ
+
       abbrev at22 : (bs : List.List Nat.ℕ) → Typed.TF T26 O0
       at22 = λ bs. λ Ψ. Typed.ask (s25 bs) (at21 bs Ψ)
+
       abbrev at23 : (bs : List.List Nat.ℕ) → Typed.TF T24 O0
       at23 = λ bs. λ Ψ. Typed.give (s24 bs) (at22 bs Ψ)
+
       abbrev at24 : (bs : List.List Nat.ℕ) → Typed.TF T24 O0
       at24 = λ bs. λ Ψ. at23 bs Ψ
+
       abbrev at25 : (bs : List.List Nat.ℕ) → Typed.TF T23 O0
       at25 = λ bs. λ Ψ. Typed.ask (s22 bs) (at24 bs Ψ)
+
       abbrev at26 : (bs : List.List Nat.ℕ) → Typed.TF T21 O0
       at26 = λ bs. λ Ψ. Typed.give (s21 bs) (at25 bs Ψ)
+
       abbrev at27 : (bs : List.List Nat.ℕ) → Typed.TF T21 O0
       at27 = λ bs. λ Ψ. at26 bs Ψ
+
       abbrev at28 : (bs : List.List Nat.ℕ) → Typed.TF T20 O0
       at28 = λ bs. λ Ψ. Typed.pass T20 T21 (s19 bs) (at27 bs Ψ)
+
       abbrev at29 : (bs : List.List Nat.ℕ) → Typed.TF T19 O0
       at29 = λ bs. λ Ψ. Typed.pass T19 T20 (s18 bs) (at28 bs Ψ)
+
       abbrev at30 : (bs : List.List Nat.ℕ) → Typed.TF T18 O0
       at30 = λ bs. λ Ψ. Typed.both (s17 bs) (at29 bs Ψ)
+
       abbrev at31 : (bs : List.List Nat.ℕ) → Typed.TF T17 O0
       at31 = λ bs. λ Ψ. Typed.pass T17 T18 (s16 bs) (at30 bs Ψ)
+
       abbrev at32 : (bs : List.List Nat.ℕ) → Typed.TF T15 O0
       at32 = λ bs. λ Ψ. Typed.both (s15 bs) (at31 bs Ψ)
+
       abbrev at33 : (bs : List.List Nat.ℕ) → Typed.TF T15 O0
       at33 = λ bs. λ Ψ. at32 bs Ψ
+
       abbrev at34 : (bs : List.List Nat.ℕ) → Typed.TF T13 O0
       at34 = λ bs. λ Ψ. Typed.pass T13 T15 (s13 bs) (at33 bs Ψ)
+
       abbrev at35 : (bs : List.List Nat.ℕ) → Typed.TF T13 O0
       at35 = λ bs. λ Ψ. at34 bs Ψ
+
       abbrev at36 : (bs : List.List Nat.ℕ) → Typed.TF T12 O0
       at36 = λ bs. λ Ψ. Typed.pass T12 T13 (s11 bs) (at35 bs Ψ)
+
       abbrev at37 : (bs : List.List Nat.ℕ) → Typed.TF T11 O0
       at37 = λ bs. λ Ψ. Typed.pass T11 T12 (s10 bs) (at36 bs Ψ)
+
       abbrev at38 : (bs : List.List Nat.ℕ) → Typed.TF T10 O0
       at38 = λ bs. λ Ψ. Typed.pass T10 T11 (s9 bs) (at37 bs Ψ)
+
       abbrev at39 : (bs : List.List Nat.ℕ) → Typed.TF T9 O0
       at39 = λ bs. λ Ψ. Typed.both (s8 bs) (at38 bs Ψ)
+
       abbrev at40 : (bs : List.List Nat.ℕ) → Typed.TF T8 O0
       at40 = λ bs. λ Ψ. Typed.ask (s7 bs) (at39 bs Ψ)
+
       abbrev at41 : (bs : List.List Nat.ℕ) → Typed.TF T6 O0
       at41 = λ bs. λ Ψ. Typed.give (s6 bs) (at40 bs Ψ)
+
       abbrev at42 : (bs : List.List Nat.ℕ) → Typed.TF T6 O0
       at42 = λ bs. λ Ψ. at41 bs Ψ
+
       abbrev at43 : (bs : List.List Nat.ℕ) → Typed.TF T5 O0
       at43 = λ bs. λ Ψ. Typed.pass T5 T6 (s4 bs) (at42 bs Ψ)
+
       abbrev at44 : (bs : List.List Nat.ℕ) → Typed.TF T4 O0
       at44 = λ bs. λ Ψ. Typed.both (s3 bs) (at43 bs Ψ)
+
       abbrev at45 : (bs : List.List Nat.ℕ) → Typed.TF T3 O0
       at45 = λ bs. λ Ψ. Typed.both (s2 bs) (at44 bs Ψ)
+
       abbrev at46 : (bs : List.List Nat.ℕ) → Typed.TF T2 O0
       at46 = λ bs. λ Ψ. Typed.both (s1 bs) (at45 bs Ψ)
+
       abbrev at47 : (bs : List.List Nat.ℕ) → Typed.TF T0 O0
       at47 = λ bs. λ Ψ. Typed.give (s0 bs) (at46 bs Ψ)
+
       abbrev pub Φ : (bs : List.List Nat.ℕ) → Typed.TF T0 O0
       Φ = λ bs. at47 bs
-      module _ { M : Type 1 } (𝓤 : URA.URA M) (H : Wp.Heap 𝓤) (A : Atoms.Atoms 𝓤) (W : Kit.Given 𝓤 H A) (𝓣 : Wp.Tables 𝓤 H) where
+
+      module _ {M : Type 1} (𝓤 : URA.URA M) (H : Wp.Heap 𝓤) (A : Atoms.Atoms 𝓤) (W : Kit.Given 𝓤 H A)
+          (𝓣 : Wp.Tables 𝓤 H) where
         abbrev Knowns : Type 1
-        Knowns = Plain.Known 𝓤 H A W 𝓣 0 ps·0 r·0 (claims· .0) (claims· .1) "hnsr_circuit::queue::asking" × Plain.Known 𝓤 H A W 𝓣 1 ps·1 r·1 (claims·
-            .2) (claims· .3) "hnsr_circuit::tables::inflight::scan_actions" × Plain.Known 𝓤 H A W 𝓣 0 ps·2 r·2 (claims· .4) (claims· .5)
-            "hnsr_body::messages::Notice::encode" × Plain.Known 𝓤 H A W 𝓣 3 ps·3 r·3 (claims· .6) (claims· .7) "hnsr_circuit::queue::tell_scanned"
+        Knowns = Plain.Known 𝓤 H A W 𝓣 0 ps·0 r·0 (claims· .0) (claims· .1) "hnsr_circuit::queue::asking" × Plain.Known
+            𝓤 H A W 𝓣 1 ps·1 r·1 (claims· .2) (claims· .3) "hnsr_circuit::tables::inflight::scan_actions" × Plain.Known
+            𝓤 H A W 𝓣 0 ps·2 r·2 (claims· .4) (claims· .5) "hnsr_body::messages::Notice::encode" × Plain.Known 𝓤 H A W
+            𝓣 3 ps·3 r·3 (claims· .6) (claims· .7) "hnsr_circuit::queue::tell_scanned"
+
       module _ (κs : Lifetimes.Lfts 2) (qs : Lifetimes.Shares 2) where
         abbrev life0 : Row.Life
         life0 = Row.lease (κs .0) (qs .0)
+
         abbrev life1 : Row.Life
         life1 = Row.lease (κs .1 .0) (qs .1 .0)
+
+        abbrev l1 : Row.Entry
+        l1 = (1, Reshare.mslice-owedS InflightAction.row ref5 0 2 life0)
+
+        abbrev l1·1 : Row.Entry
+        l1·1 = (1, Relend.mslice-owed InflightAction.row ref5 0 3 life0)
+
+        abbrev l2 : Row.Entry
+        l2 = (2, Relend.mslice-owed (Referent.rtF (Referent.fInt Syntax.w32)) ref6 1 4 life1)
+
         abbrev g7 : List.List Row.Entry
-        g7 = (0, Rows'.any-gone Laws'''''''.mir,) ∷ (1, Reshare.mslice-owedS InflightAction.row ref5 0 2 life0,) ∷ (2, Mut.mslice (Referent.rtF
-            (Referent.fInt Syntax.w32)) ref6 1,) ∷ (3, Rows'.sc-here Row.sBool) ∷ (4, Rows'.whole (Declared'.row Sending.the-type),) ∷ (5, Rows'.whole
-            (Declared'.row Outgoing.the-type)) ∷ (6, Rows'.whole (Declared.row Notice.the-type),) ∷ (7, Rows'.any-gone Laws''''''.mir,) ∷ (8,
-            Rows'.whole (Declared'.row Places.the-type)) ∷ (9, Rows'.whole (Declared'.row ActionQuestion.the-type),) ∷ (10, Rows'.any-gone
-            Laws''''.mir,) ∷ (11, Rows'.any-gone Laws'.mir,) ∷ (12, Rows'.any-gone (Syntax.tyArray (Syntax.tyInt Syntax.w8) 30)) ∷ (13, Rows'.any-gone
-            (Syntax.tyInt Syntax.w64),) ∷ (14, Relend.ssptr InflightAction.row ref0 2,) ∷ (15, Rows'.any-gone (Syntax.tyStruct (38 ∷ 91 ∷ 93 ∷
-            List.[]) (Syntax.tcons ref0 (Syntax.tcons (Syntax.tyInt Syntax.w64) Syntax.tnil))),) ∷ List.[]
+        g7 = e0 ∷ l1 ∷ e2 ∷ e3 ∷ e4 ∷ e5 ∷ e6 ∷ e7 ∷ e8·1 ∷ e9·1 ∷ e10 ∷ e11 ∷ e12 ∷ e13 ∷ e14·1 ∷ e15 ∷ List.[]
+
         abbrev g8 : List.List Row.Entry
-        g8 = (0, Rows'.any-gone Laws'''''''.mir,) ∷ (1, Reshare.mslice-owedS InflightAction.row ref5 0 2 life0,) ∷ (2, Mut.mslice (Referent.rtF
-            (Referent.fInt Syntax.w32)) ref6 1,) ∷ (3, Rows'.sc-here Row.sBool) ∷ (4, Rows'.whole (Declared'.row Sending.the-type),) ∷ (5, Rows'.whole
-            (Declared'.row Outgoing.the-type)) ∷ (6, Rows'.whole (Declared.row Notice.the-type),) ∷ (7, Rows'.any-gone Laws''''''.mir,) ∷ (8,
-            Rows'.whole (Declared'.row Places.the-type)) ∷ (9, Rows'.whole (Declared'.row ActionQuestion.the-type),) ∷ (10, Rows'.any-gone
-            Laws''''.mir,) ∷ (11, Rows'.any-gone Laws'.mir,) ∷ (12, Rows'.any-gone (Syntax.tyArray (Syntax.tyInt Syntax.w8) 30)) ∷ (13, Rows'.any-gone
-            (Syntax.tyInt Syntax.w64),) ∷ (14, Rows'.any-gone ref0,) ∷ (15, Rows'.sslice InflightAction.row ref0 2,) ∷ List.[]
+        g8 = e0 ∷ l1 ∷ e2 ∷ e3 ∷ e4 ∷ e5 ∷ e6 ∷ e7 ∷ e8·1 ∷ e9·1 ∷ e10 ∷ e11 ∷ e12 ∷ e13 ∷ e14 ∷ e15·1 ∷ List.[]
+
         abbrev g9 : List.List Row.Entry
-        g9 = (0, Rows'.any-gone Laws'''''''.mir,) ∷ (1, Reshare.mslice-owedS InflightAction.row ref5 0 2 life0,) ∷ (2, Mut.mslice (Referent.rtF
-            (Referent.fInt Syntax.w32)) ref6 1,) ∷ (3, Rows'.sc-here Row.sBool) ∷ (4, Rows'.whole (Declared'.row Sending.the-type),) ∷ (5, Rows'.whole
-            (Declared'.row Outgoing.the-type)) ∷ (6, Rows'.whole (Declared.row Notice.the-type),) ∷ (7, Rows'.any-gone Laws''''''.mir,) ∷ (8,
-            Rows'.whole (Declared'.row Places.the-type)) ∷ (9, Rows'.whole (Declared'.row ActionQuestion.the-type),) ∷ (10, Rows'.whole (Declared'.row
-            ActionScan.the-type)) ∷ (11, Rows'.any-gone Laws'.mir,) ∷ (12, Rows'.any-gone (Syntax.tyArray (Syntax.tyInt Syntax.w8) 30)) ∷ (13,
-            Rows'.any-gone (Syntax.tyInt Syntax.w64),) ∷ (14, Rows'.any-gone ref0,) ∷ (15, Rows'.sslice InflightAction.row ref0 2,) ∷ List.[]
+        g9 = e0 ∷ l1 ∷ e2 ∷ e3 ∷ e4 ∷ e5 ∷ e6 ∷ e7 ∷ e8·1 ∷ e9·1 ∷ e10·1 ∷ e11 ∷ e12 ∷ e13 ∷ e14 ∷ e15·1 ∷ List.[]
+
         abbrev g10 : List.List Row.Entry
-        g10 = (0, Rows'.any-gone Laws'''''''.mir,) ∷ (1, Reshare.mslice-owedS InflightAction.row ref5 0 2 life0,) ∷ (2, Mut.mslice (Referent.rtF
-            (Referent.fInt Syntax.w32)) ref6 1,) ∷ (3, Rows'.sc-here Row.sBool) ∷ (4, Rows'.whole (Declared'.row Sending.the-type),) ∷ (5, Rows'.whole
-            (Declared'.row Outgoing.the-type)) ∷ (6, Rows'.whole (Declared.row Notice.the-type),) ∷ (7, Rows'.any-gone Laws''''''.mir,) ∷ (8,
-            Rows'.whole (Declared'.row Places.the-type)) ∷ (9, Rows'.whole (Declared'.row ActionQuestion.the-type),) ∷ (10, Rows'.whole (Declared'.row
-            ActionScan.the-type)) ∷ (11, Rows'.any-gone Laws'.mir,) ∷ (12, Rows'.any-gone (Syntax.tyArray (Syntax.tyInt Syntax.w8) 30)) ∷ (13,
-            Rows'.any-gone (Syntax.tyInt Syntax.w64),) ∷ (14, Rows'.any-gone ref0,) ∷ (15, Rows'.any-gone (Syntax.tyStruct (38 ∷ 91 ∷ 93 ∷ List.[])
-            (Syntax.tcons ref0 (Syntax.tcons (Syntax.tyInt Syntax.w64) Syntax.tnil))),) ∷ List.[]
+        g10 = e0 ∷ l1 ∷ e2 ∷ e3 ∷ e4 ∷ e5 ∷ e6 ∷ e7 ∷ e8·1 ∷ e9·1 ∷ e10·1 ∷ e11 ∷ e12 ∷ e13 ∷ e14 ∷ e15 ∷ List.[]
+
         abbrev g11 : List.List Row.Entry
-        g11 = (0, Rows'.any-gone Laws'''''''.mir,) ∷ (1, Reshare.mslice-owedS InflightAction.row ref5 0 2 life0,) ∷ (2, Mut.mslice (Referent.rtF
-            (Referent.fInt Syntax.w32)) ref6 1,) ∷ (3, Rows'.sc-here Row.sBool) ∷ (4, Rows'.whole (Declared'.row Sending.the-type),) ∷ (5, Rows'.whole
-            (Declared'.row Outgoing.the-type)) ∷ (6, Rows'.whole (Declared.row Notice.the-type),) ∷ (7, Rows'.any-gone Laws''''''.mir,) ∷ (8,
-            Rows'.any-gone Laws''.mir,) ∷ (9, Rows'.whole (Declared'.row ActionQuestion.the-type)) ∷ (10, Rows'.whole (Declared'.row
-            ActionScan.the-type),) ∷ (11, Rows'.any-gone Laws'.mir,) ∷ (12, Rows'.any-gone (Syntax.tyArray (Syntax.tyInt Syntax.w8) 30)) ∷ (13,
-            Rows'.any-gone (Syntax.tyInt Syntax.w64),) ∷ (14, Rows'.any-gone ref0,) ∷ (15, Rows'.any-gone (Syntax.tyStruct (38 ∷ 91 ∷ 93 ∷ List.[])
-            (Syntax.tcons ref0 (Syntax.tcons (Syntax.tyInt Syntax.w64) Syntax.tnil))),) ∷ List.[]
+        g11 = e0 ∷ l1 ∷ e2 ∷ e3 ∷ e4 ∷ e5 ∷ e6 ∷ e7 ∷ e8 ∷ e9·1 ∷ e10·1 ∷ e11 ∷ e12 ∷ e13 ∷ e14 ∷ e15 ∷ List.[]
+
         abbrev g12 : List.List Row.Entry
-        g12 = (0, Rows'.any-gone Laws'''''''.mir,) ∷ (1, Reshare.mslice-owedS InflightAction.row ref5 0 2 life0,) ∷ (2, Mut.mslice (Referent.rtF
-            (Referent.fInt Syntax.w32)) ref6 1,) ∷ (3, Rows'.sc-here Row.sBool) ∷ (4, Rows'.whole (Declared'.row Sending.the-type),) ∷ (5, Rows'.whole
-            (Declared'.row Outgoing.the-type)) ∷ (6, Rows'.whole (Declared.row Notice.the-type),) ∷ (7, Rows'.any-gone Laws''''''.mir,) ∷ (8,
-            Rows'.any-gone Laws''.mir,) ∷ (9, Rows'.any-gone Laws'''.mir,) ∷ (10, Rows'.whole (Declared'.row ActionScan.the-type)) ∷ (11,
-            Rows'.any-gone Laws'.mir,) ∷ (12, Rows'.any-gone (Syntax.tyArray (Syntax.tyInt Syntax.w8) 30)) ∷ (13, Rows'.any-gone (Syntax.tyInt
-            Syntax.w64),) ∷ (14, Rows'.any-gone ref0,) ∷ (15, Rows'.any-gone (Syntax.tyStruct (38 ∷ 91 ∷ 93 ∷ List.[]) (Syntax.tcons ref0
-            (Syntax.tcons (Syntax.tyInt Syntax.w64) Syntax.tnil))),) ∷ List.[]
+        g12 = e0 ∷ l1 ∷ e2 ∷ e3 ∷ e4 ∷ e5 ∷ e6 ∷ e7 ∷ e8 ∷ e9 ∷ e10·1 ∷ e11 ∷ e12 ∷ e13 ∷ e14 ∷ e15 ∷ List.[]
+
         abbrev g19 : List.List Row.Entry
-        g19 = (0, Rows'.any-gone Laws'''''''.mir,) ∷ (1, Relend.mslice-owed InflightAction.row ref5 0 3 life0,) ∷ (2, Mut.mslice (Referent.rtF
-            (Referent.fInt Syntax.w32)) ref6 1,) ∷ (3, Rows'.sc-here Row.sBool) ∷ (4, Rows'.whole (Declared'.row Sending.the-type),) ∷ (5, Rows'.whole
-            (Declared'.row Outgoing.the-type)) ∷ (6, Rows'.any-gone Laws.mir,) ∷ (7, Rows'.any-gone Laws''''''.mir,) ∷ (8, Rows'.any-gone Laws''.mir,)
-            ∷ (9, Rows'.any-gone Laws'''.mir,) ∷ (10, Rows'.whole (Declared'.row ActionScan.the-type)) ∷ (11, Rows'.any-gone Laws'.mir,) ∷ (12,
-            Rows.arrF (Referent.rtF (Referent.fInt Syntax.w8)) 30 0) ∷ (13, Rows'.sc-here (Row.sInt Syntax.w64),) ∷ (14, Rows'.any-gone ref0,) ∷ (15,
-            Rows'.any-gone (Syntax.tyStruct (38 ∷ 91 ∷ 93 ∷ List.[]) (Syntax.tcons ref0 (Syntax.tcons (Syntax.tyInt Syntax.w64) Syntax.tnil))),) ∷
-            List.[]
+        g19 = e0 ∷ l1·1 ∷ e2 ∷ e3 ∷ e4 ∷ e5 ∷ e6·1 ∷ e7 ∷ e8 ∷ e9 ∷ e10·1 ∷ e11 ∷ e12·1 ∷ e13·1 ∷ e14 ∷ e15 ∷ List.[]
+
         abbrev g22 : List.List Row.Entry
-        g22 = (0, Rows'.any-gone Laws'''''''.mir,) ∷ (1, Relend.mslice-owed InflightAction.row ref5 0 3 life0,) ∷ (2, Relend.mslice-owed (Referent.rtF
-            (Referent.fInt Syntax.w32)) ref6 1 4 life1,) ∷ (3, Rows'.sc-here Row.sBool) ∷ (4, Rows'.whole (Declared'.row Sending.the-type),) ∷ (5,
-            Rows'.whole (Declared'.row Outgoing.the-type)) ∷ (6, Rows'.any-gone Laws.mir,) ∷ (7, Rows'.any-gone Laws''''''.mir,) ∷ (8, Rows'.any-gone
-            Laws''.mir,) ∷ (9, Rows'.any-gone Laws'''.mir,) ∷ (10, Rows'.whole (Declared'.row ActionScan.the-type)) ∷ (11, Rows'.any-gone Laws'.mir,)
-            ∷ (12, Rows.arrF (Referent.rtF (Referent.fInt Syntax.w8)) 30 0) ∷ (13, Rows'.sc-here (Row.sInt Syntax.w64),) ∷ (14, Rows'.any-gone ref0,)
-            ∷ (15, Rows'.any-gone (Syntax.tyStruct (38 ∷ 91 ∷ 93 ∷ List.[]) (Syntax.tcons ref0 (Syntax.tcons (Syntax.tyInt Syntax.w64)
-            Syntax.tnil))),) ∷ List.[]
+        g22 = e0 ∷ l1·1 ∷ l2 ∷ e3 ∷ e4 ∷ e5 ∷ e6·1 ∷ e7 ∷ e8 ∷ e9 ∷ e10·1 ∷ e11 ∷ e12·1 ∷ e13·1 ∷ e14 ∷ e15 ∷ List.[]
+
         abbrev g25 : List.List Row.Entry
-        g25 = (0, Rows'.any-gone Laws'''''''.mir,) ∷ (1, Relend.mslice-owed InflightAction.row ref5 0 3 life0,) ∷ (2, Relend.mslice-owed (Referent.rtF
-            (Referent.fInt Syntax.w32)) ref6 1 4 life1,) ∷ (3, Rows'.sc-here Row.sBool) ∷ (4, Rows'.whole (Declared'.row Sending.the-type),) ∷ (5,
-            Rows'.whole (Declared'.row Outgoing.the-type)) ∷ (6, Rows'.any-gone Laws.mir,) ∷ (7, Rows'.any-gone Laws''''''.mir,) ∷ (8, Rows'.any-gone
-            Laws''.mir,) ∷ (9, Rows'.any-gone Laws'''.mir,) ∷ (10, Rows'.whole (Declared'.row ActionScan.the-type)) ∷ (11, Rows'.any-gone Laws'.mir,)
-            ∷ (12, Rows.arr-shrP (Referent.rtF (Referent.fInt Syntax.w8)) 30 5) ∷ (13, Rows'.sc-here (Row.sInt Syntax.w64),) ∷ (14, Rows'.any-gone
-            ref0,) ∷ (15, Rows'.any-gone (Syntax.tyStruct (38 ∷ 91 ∷ 93 ∷ List.[]) (Syntax.tcons ref0 (Syntax.tcons (Syntax.tyInt Syntax.w64)
-            Syntax.tnil))),) ∷ List.[]
+        g25 = e0 ∷ l1·1 ∷ l2 ∷ e3 ∷ e4 ∷ e5 ∷ e6·1 ∷ e7 ∷ e8 ∷ e9 ∷ e10·1 ∷ e11 ∷ e12·2 ∷ e13·1 ∷ e14 ∷ e15 ∷ List.[]
+
         abbrev g28 : List.List Row.Entry
-        g28 = (0, Rows'.whole (Declared'.row Sending.the-type)) ∷ (1, Relend.mslice-owed InflightAction.row ref5 0 3 life0,) ∷ (2, Relend.mslice-owed
-            (Referent.rtF (Referent.fInt Syntax.w32)) ref6 1 4 life1,) ∷ (3, Rows'.sc-here Row.sBool) ∷ (4, Rows'.whole (Declared'.row
-            Sending.the-type),) ∷ (5, Rows'.whole (Declared'.row Outgoing.the-type)) ∷ (6, Rows'.any-gone Laws.mir,) ∷ (7, Rows'.any-gone
-            Laws''''''.mir,) ∷ (8, Rows'.any-gone Laws''.mir,) ∷ (9, Rows'.any-gone Laws'''.mir,) ∷ (10, Rows'.whole (Declared'.row
-            ActionScan.the-type)) ∷ (11, Rows'.any-gone Laws'.mir,) ∷ (12, Rows.arr-shrP (Referent.rtF (Referent.fInt Syntax.w8)) 30 5) ∷ (13,
-            Rows'.sc-here (Row.sInt Syntax.w64),) ∷ (14, Rows'.any-gone ref0,) ∷ (15, Rows'.any-gone (Syntax.tyStruct (38 ∷ 91 ∷ 93 ∷ List.[])
-            (Syntax.tcons ref0 (Syntax.tcons (Syntax.tyInt Syntax.w64) Syntax.tnil))),) ∷ List.[]
+        g28 = e0·1 ∷ l1·1 ∷ l2 ∷ e3 ∷ e4 ∷ e5 ∷ e6·1 ∷ e7 ∷ e8 ∷ e9 ∷ e10·1 ∷ e11 ∷ e12·2 ∷ e13·1 ∷ e14 ∷ e15 ∷ List.[]
+
         abbrev g31 : List.List Row.Entry
-        g31 = (0, Rows'.whole (Declared'.row Sending.the-type)) ∷ (1, Relend.mslice-owed InflightAction.row ref5 0 3 life0,) ∷ (2, Relend.mslice-owed
-            (Referent.rtF (Referent.fInt Syntax.w32)) ref6 1 4 life1,) ∷ (3, Rows'.sc-here Row.sBool) ∷ (4, Rows'.any-gone Laws'''''''.mir,) ∷ (5,
-            Rows'.whole (Declared'.row Outgoing.the-type)) ∷ (6, Rows'.any-gone Laws.mir,) ∷ (7, Rows'.any-gone Laws''''''.mir,) ∷ (8, Rows'.any-gone
-            Laws''.mir,) ∷ (9, Rows'.any-gone Laws'''.mir,) ∷ (10, Rows'.whole (Declared'.row ActionScan.the-type)) ∷ (11, Rows'.any-gone Laws'.mir,)
-            ∷ (12, Rows.arr-shrP (Referent.rtF (Referent.fInt Syntax.w8)) 30 5) ∷ (13, Rows'.sc-here (Row.sInt Syntax.w64),) ∷ (14, Rows'.any-gone
-            ref0,) ∷ (15, Rows'.any-gone (Syntax.tyStruct (38 ∷ 91 ∷ 93 ∷ List.[]) (Syntax.tcons ref0 (Syntax.tcons (Syntax.tyInt Syntax.w64)
-            Syntax.tnil))),) ∷ List.[]
+        g31 = e0·1 ∷ l1·1 ∷ l2 ∷ e3 ∷ e4·1 ∷ e5 ∷ e6·1 ∷ e7 ∷ e8 ∷ e9 ∷ e10·1 ∷ e11 ∷ e12·2 ∷ e13·1 ∷ e14 ∷ e15 ∷
+            List.[]
+
         abbrev g32 : List.List Row.Entry
-        g32 = (0, Rows'.whole (Declared'.row Sending.the-type)) ∷ (1, Relend.mslice-owed InflightAction.row ref5 0 3 life0,) ∷ (2, Relend.mslice-owed
-            (Referent.rtF (Referent.fInt Syntax.w32)) ref6 1 4 life1,) ∷ (3, Rows'.sc-here Row.sBool) ∷ (4, Rows'.any-gone Laws'''''''.mir,) ∷ (5,
-            Rows'.any-gone Laws'''''.mir,) ∷ (6, Rows'.any-gone Laws.mir,) ∷ (7, Rows'.any-gone Laws''''''.mir,) ∷ (8, Rows'.any-gone Laws''.mir,) ∷
-            (9, Rows'.any-gone Laws'''.mir,) ∷ (10, Rows'.whole (Declared'.row ActionScan.the-type)) ∷ (11, Rows'.any-gone Laws'.mir,) ∷ (12,
-            Rows.arr-shrP (Referent.rtF (Referent.fInt Syntax.w8)) 30 5) ∷ (13, Rows'.sc-here (Row.sInt Syntax.w64),) ∷ (14, Rows'.any-gone ref0,) ∷
-            (15, Rows'.any-gone (Syntax.tyStruct (38 ∷ 91 ∷ 93 ∷ List.[]) (Syntax.tcons ref0 (Syntax.tcons (Syntax.tyInt Syntax.w64) Syntax.tnil))),)
-            ∷ List.[]
+        g32 = e0·1 ∷ l1·1 ∷ l2 ∷ e3 ∷ e4·1 ∷ e5·1 ∷ e6·1 ∷ e7 ∷ e8 ∷ e9 ∷ e10·1 ∷ e11 ∷ e12·2 ∷ e13·1 ∷ e14 ∷ e15 ∷
+            List.[]
+
         abbrev g33 : List.List Row.Entry
-        g33 = (0, Rows'.whole (Declared'.row Sending.the-type)) ∷ (1, Relend.mslice-owed InflightAction.row ref5 0 3 life0,) ∷ (2, Relend.mslice-owed
-            (Referent.rtF (Referent.fInt Syntax.w32)) ref6 1 4 life1,) ∷ (3, Rows'.sc-here Row.sBool) ∷ (4, Rows'.any-gone Laws'''''''.mir,) ∷ (5,
-            Rows'.any-gone Laws'''''.mir,) ∷ (6, Rows'.any-gone Laws.mir,) ∷ (7, Rows'.any-gone Laws''''''.mir,) ∷ (8, Rows'.any-gone Laws''.mir,) ∷
-            (9, Rows'.any-gone Laws'''.mir,) ∷ (10, Rows'.any-gone Laws''''.mir,) ∷ (11, Rows'.any-gone Laws'.mir,) ∷ (12, Rows.arr-shrP (Referent.rtF
-            (Referent.fInt Syntax.w8)) 30 5) ∷ (13, Rows'.sc-here (Row.sInt Syntax.w64),) ∷ (14, Rows'.any-gone ref0,) ∷ (15, Rows'.any-gone
-            (Syntax.tyStruct (38 ∷ 91 ∷ 93 ∷ List.[]) (Syntax.tcons ref0 (Syntax.tcons (Syntax.tyInt Syntax.w64) Syntax.tnil))),) ∷ List.[]
+        g33 = e0·1 ∷ l1·1 ∷ l2 ∷ e3 ∷ e4·1 ∷ e5·1 ∷ e6·1 ∷ e7 ∷ e8 ∷ e9 ∷ e10 ∷ e11 ∷ e12·2 ∷ e13·1 ∷ e14 ∷ e15 ∷
+            List.[]
+
         abbrev g34 : List.List Row.Entry
-        g34 = (0, Rows'.whole (Declared'.row Sending.the-type)) ∷ (1, Relend.mslice-owed InflightAction.row ref5 0 3 life0,) ∷ (2, Relend.mslice-owed
-            (Referent.rtF (Referent.fInt Syntax.w32)) ref6 1 4 life1,) ∷ (3, Rows'.sc-here Row.sBool) ∷ (4, Rows'.any-gone Laws'''''''.mir,) ∷ (5,
-            Rows'.any-gone Laws'''''.mir,) ∷ (6, Rows'.any-gone Laws.mir,) ∷ (7, Rows'.any-gone Laws''''''.mir,) ∷ (8, Rows'.any-gone Laws''.mir,) ∷
-            (9, Rows'.any-gone Laws'''.mir,) ∷ (10, Rows'.any-gone Laws''''.mir,) ∷ (11, Rows'.any-gone Laws'.mir,) ∷ (12, Rows.arr-shrP (Referent.rtF
-            (Referent.fInt Syntax.w8)) 30 5) ∷ (13, Rows'.any-gone (Syntax.tyInt Syntax.w64),) ∷ (14, Rows'.any-gone ref0,) ∷ (15, Rows'.any-gone
-            (Syntax.tyStruct (38 ∷ 91 ∷ 93 ∷ List.[]) (Syntax.tcons ref0 (Syntax.tcons (Syntax.tyInt Syntax.w64) Syntax.tnil))),) ∷ List.[]
+        g34 = e0·1 ∷ l1·1 ∷ l2 ∷ e3 ∷ e4·1 ∷ e5·1 ∷ e6·1 ∷ e7 ∷ e8 ∷ e9 ∷ e10 ∷ e11 ∷ e12·2 ∷ e13 ∷ e14 ∷ e15 ∷ List.[]
+
         abbrev g35 : List.List Row.Entry
-        g35 = (0, Rows'.whole (Declared'.row Sending.the-type)) ∷ (1, Mut.mslice InflightAction.row ref5 0,) ∷ (2, Relend.mslice-owed (Referent.rtF
-            (Referent.fInt Syntax.w32)) ref6 1 4 life1,) ∷ (3, Rows'.sc-here Row.sBool) ∷ (4, Rows'.any-gone Laws'''''''.mir,) ∷ (5, Rows'.any-gone
-            Laws'''''.mir,) ∷ (6, Rows'.any-gone Laws.mir,) ∷ (7, Rows'.any-gone Laws''''''.mir,) ∷ (8, Rows'.any-gone Laws''.mir,) ∷ (9,
-            Rows'.any-gone Laws'''.mir,) ∷ (10, Rows'.any-gone Laws''''.mir,) ∷ (11, Rows'.any-gone Laws'.mir,) ∷ (12, Rows.arr-shrP (Referent.rtF
-            (Referent.fInt Syntax.w8)) 30 5) ∷ (13, Rows'.any-gone (Syntax.tyInt Syntax.w64),) ∷ (14, Rows'.any-gone ref0,) ∷ (15, Rows'.any-gone
-            (Syntax.tyStruct (38 ∷ 91 ∷ 93 ∷ List.[]) (Syntax.tcons ref0 (Syntax.tcons (Syntax.tyInt Syntax.w64) Syntax.tnil))),) ∷ List.[]
+        g35 = e0·1 ∷ e1 ∷ l2 ∷ e3 ∷ e4·1 ∷ e5·1 ∷ e6·1 ∷ e7 ∷ e8 ∷ e9 ∷ e10 ∷ e11 ∷ e12·2 ∷ e13 ∷ e14 ∷ e15 ∷ List.[]
+
         abbrev G0 : Row.Cx
-        G0 = record { locals = List._++_ t0 t1; slots = life0 ∷ life1 ∷ Row.off ∷ Row.off ∷ Row.off ∷ Row.off ∷ List.[]; }
+        G0 = record {
+          locals = List._++_ t0 t1;
+          slots = life0 ∷ life1 ∷ Row.off ∷ Row.off ∷ Row.off ∷ Row.off ∷ List.[];
+        }
+
         abbrev G1 : Row.Cx
-        G1 = record { locals = List._++_ t2 t1; slots = life0 ∷ life1 ∷ Row.off ∷ Row.off ∷ Row.off ∷ Row.off ∷ List.[]; }
+        G1 = record {
+          locals = List._++_ t2 t1;
+          slots = life0 ∷ life1 ∷ Row.off ∷ Row.off ∷ Row.off ∷ Row.off ∷ List.[];
+        }
+
         abbrev G2 : Row.Cx
-        G2 = record { locals = List._++_ t0 t1; slots = life0 ∷ life1 ∷ Row.off ∷ Row.off ∷ Row.off ∷ Row.off ∷ List.[]; }
+        G2 = record {
+          locals = List._++_ t0 t1;
+          slots = life0 ∷ life1 ∷ Row.off ∷ Row.off ∷ Row.off ∷ Row.off ∷ List.[];
+        }
+
         abbrev G3 : Row.Cx
-        G3 = record { locals = List._++_ t3 t1; slots = life0 ∷ life1 ∷ Row.off ∷ Row.off ∷ Row.off ∷ Row.off ∷ List.[]; }
+        G3 = record {
+          locals = List._++_ t3 t1;
+          slots = life0 ∷ life1 ∷ Row.off ∷ Row.off ∷ Row.off ∷ Row.off ∷ List.[];
+        }
+
         abbrev G4 : Row.Cx
-        G4 = record { locals = List._++_ t4 t1; slots = life0 ∷ life1 ∷ Row.off ∷ Row.off ∷ Row.off ∷ Row.off ∷ List.[]; }
+        G4 = record {
+          locals = List._++_ t4 t1;
+          slots = life0 ∷ life1 ∷ Row.off ∷ Row.off ∷ Row.off ∷ Row.off ∷ List.[];
+        }
+
         abbrev G5 : Row.Cx
-        G5 = record { locals = List._++_ t5 t1; slots = life0 ∷ life1 ∷ Row.off ∷ Row.off ∷ Row.off ∷ Row.off ∷ List.[]; }
+        G5 = record {
+          locals = List._++_ t5 t1;
+          slots = life0 ∷ life1 ∷ Row.off ∷ Row.off ∷ Row.off ∷ Row.off ∷ List.[];
+        }
+
         abbrev G6 : Row.Cx
-        G6 = record { locals = List._++_ t6 t1; slots = life0 ∷ life1 ∷ Row.off ∷ Row.off ∷ Row.off ∷ Row.off ∷ List.[]; }
+        G6 = record {
+          locals = List._++_ t6 t1;
+          slots = life0 ∷ life1 ∷ Row.off ∷ Row.off ∷ Row.off ∷ Row.off ∷ List.[];
+        }
+
         abbrev G7 : Row.Cx
-        G7 = record { locals = List._++_ t6 t1; slots = life0 ∷ life1 ∷ Row.alive ∷ Row.off ∷ Row.off ∷ Row.off ∷ List.[]; }
+        G7 = record {
+          locals = List._++_ t6 t1;
+          slots = life0 ∷ life1 ∷ Row.alive ∷ Row.off ∷ Row.off ∷ Row.off ∷ List.[];
+        }
+
         abbrev G8 : Row.Cx
-        G8 = record { locals = List._++_ g7 t1; slots = Row.off ∷ life1 ∷ Row.alive ∷ Row.off ∷ Row.off ∷ Row.off ∷ List.[]; }
+        G8 = record {
+          locals = List._++_ g7 t1;
+          slots = Row.off ∷ life1 ∷ Row.alive ∷ Row.off ∷ Row.off ∷ Row.off ∷ List.[];
+        }
+
         abbrev G9 : Row.Cx
-        G9 = record { locals = List._++_ g8 t1; slots = Row.off ∷ life1 ∷ Row.alive ∷ Row.off ∷ Row.off ∷ Row.off ∷ List.[]; }
+        G9 = record {
+          locals = List._++_ g8 t1;
+          slots = Row.off ∷ life1 ∷ Row.alive ∷ Row.off ∷ Row.off ∷ Row.off ∷ List.[];
+        }
+
         abbrev G10 : Row.Cx
-        G10 = record { locals = List._++_ g9 t1; slots = Row.off ∷ life1 ∷ Row.alive ∷ Row.off ∷ Row.off ∷ Row.off ∷ List.[]; }
+        G10 = record {
+          locals = List._++_ g9 t1;
+          slots = Row.off ∷ life1 ∷ Row.alive ∷ Row.off ∷ Row.off ∷ Row.off ∷ List.[];
+        }
+
         abbrev G11 : Row.Cx
-        G11 = record { locals = List._++_ g10 t1; slots = Row.off ∷ life1 ∷ Row.alive ∷ Row.off ∷ Row.off ∷ Row.off ∷ List.[]; }
+        G11 = record {
+          locals = List._++_ g10 t1;
+          slots = Row.off ∷ life1 ∷ Row.alive ∷ Row.off ∷ Row.off ∷ Row.off ∷ List.[];
+        }
+
         abbrev G12 : Row.Cx
-        G12 = record { locals = List._++_ g11 t1; slots = Row.off ∷ life1 ∷ Row.alive ∷ Row.off ∷ Row.off ∷ Row.off ∷ List.[]; }
+        G12 = record {
+          locals = List._++_ g11 t1;
+          slots = Row.off ∷ life1 ∷ Row.alive ∷ Row.off ∷ Row.off ∷ Row.off ∷ List.[];
+        }
+
         abbrev G13 : Row.Cx
-        G13 = record { locals = List._++_ g12 t1; slots = Row.off ∷ life1 ∷ Row.alive ∷ Row.off ∷ Row.off ∷ Row.off ∷ List.[]; }
+        G13 = record {
+          locals = List._++_ g12 t1;
+          slots = Row.off ∷ life1 ∷ Row.alive ∷ Row.off ∷ Row.off ∷ Row.off ∷ List.[];
+        }
+
         abbrev G14 : Row.Cx
-        G14 = record { locals = List._++_ g12 t1; slots = Row.off ∷ life1 ∷ Row.dead ∷ Row.off ∷ Row.off ∷ Row.off ∷ List.[]; }
+        G14 = record {
+          locals = List._++_ g12 t1;
+          slots = Row.off ∷ life1 ∷ Row.dead ∷ Row.off ∷ Row.off ∷ Row.off ∷ List.[];
+        }
+
         abbrev G15 : Row.Cx
-        G15 = record { locals = List._++_ t13 t1; slots = life0 ∷ life1 ∷ Row.dead ∷ Row.off ∷ Row.off ∷ Row.off ∷ List.[]; }
+        G15 = record {
+          locals = List._++_ t13 t1;
+          slots = life0 ∷ life1 ∷ Row.dead ∷ Row.off ∷ Row.off ∷ Row.off ∷ List.[];
+        }
+
         abbrev G16 : Row.Cx
-        G16 = record { locals = List._++_ t13 t1; slots = life0 ∷ life1 ∷ Row.off ∷ Row.off ∷ Row.off ∷ Row.off ∷ List.[]; }
+        G16 = record {
+          locals = List._++_ t13 t1;
+          slots = life0 ∷ life1 ∷ Row.off ∷ Row.off ∷ Row.off ∷ Row.off ∷ List.[];
+        }
+
         abbrev G17 : Row.Cx
-        G17 = record { locals = List._++_ t14 t1; slots = life0 ∷ life1 ∷ Row.off ∷ Row.off ∷ Row.off ∷ Row.off ∷ List.[]; }
+        G17 = record {
+          locals = List._++_ t14 t1;
+          slots = life0 ∷ life1 ∷ Row.off ∷ Row.off ∷ Row.off ∷ Row.off ∷ List.[];
+        }
+
         abbrev G18 : Row.Cx
-        G18 = record { locals = List._++_ t15 t1; slots = life0 ∷ life1 ∷ Row.off ∷ Row.off ∷ Row.off ∷ Row.off ∷ List.[]; }
+        G18 = record {
+          locals = List._++_ t15 t1;
+          slots = life0 ∷ life1 ∷ Row.off ∷ Row.off ∷ Row.off ∷ Row.off ∷ List.[];
+        }
+
         abbrev G19 : Row.Cx
-        G19 = record { locals = List._++_ t16 t1; slots = life0 ∷ life1 ∷ Row.off ∷ Row.off ∷ Row.off ∷ Row.off ∷ List.[]; }
+        G19 = record {
+          locals = List._++_ t16 t1;
+          slots = life0 ∷ life1 ∷ Row.off ∷ Row.off ∷ Row.off ∷ Row.off ∷ List.[];
+        }
+
         abbrev G20 : Row.Cx
-        G20 = record { locals = List._++_ t17 t1; slots = life0 ∷ life1 ∷ Row.off ∷ Row.off ∷ Row.off ∷ Row.off ∷ List.[]; }
+        G20 = record {
+          locals = List._++_ t17 t1;
+          slots = life0 ∷ life1 ∷ Row.off ∷ Row.off ∷ Row.off ∷ Row.off ∷ List.[];
+        }
+
         abbrev G21 : Row.Cx
-        G21 = record { locals = List._++_ t18 t1; slots = life0 ∷ life1 ∷ Row.off ∷ Row.off ∷ Row.off ∷ Row.off ∷ List.[]; }
+        G21 = record {
+          locals = List._++_ t18 t1;
+          slots = life0 ∷ life1 ∷ Row.off ∷ Row.off ∷ Row.off ∷ Row.off ∷ List.[];
+        }
+
         abbrev G22 : Row.Cx
-        G22 = record { locals = List._++_ t18 t1; slots = life0 ∷ life1 ∷ Row.off ∷ Row.alive ∷ Row.off ∷ Row.off ∷ List.[]; }
+        G22 = record {
+          locals = List._++_ t18 t1;
+          slots = life0 ∷ life1 ∷ Row.off ∷ Row.alive ∷ Row.off ∷ Row.off ∷ List.[];
+        }
+
         abbrev G23 : Row.Cx
-        G23 = record { locals = List._++_ g19 t20; slots = Row.off ∷ life1 ∷ Row.off ∷ Row.alive ∷ Row.off ∷ Row.off ∷ List.[]; }
+        G23 = record {
+          locals = List._++_ g19 t20;
+          slots = Row.off ∷ life1 ∷ Row.off ∷ Row.alive ∷ Row.off ∷ Row.off ∷ List.[];
+        }
+
         abbrev G24 : Row.Cx
-        G24 = record { locals = List._++_ g19 t21; slots = Row.off ∷ life1 ∷ Row.off ∷ Row.alive ∷ Row.off ∷ Row.off ∷ List.[]; }
+        G24 = record {
+          locals = List._++_ g19 t21;
+          slots = Row.off ∷ life1 ∷ Row.off ∷ Row.alive ∷ Row.off ∷ Row.off ∷ List.[];
+        }
+
         abbrev G25 : Row.Cx
-        G25 = record { locals = List._++_ g19 t21; slots = Row.off ∷ life1 ∷ Row.off ∷ Row.alive ∷ Row.alive ∷ Row.off ∷ List.[]; }
+        G25 = record {
+          locals = List._++_ g19 t21;
+          slots = Row.off ∷ life1 ∷ Row.off ∷ Row.alive ∷ Row.alive ∷ Row.off ∷ List.[];
+        }
+
         abbrev G26 : Row.Cx
-        G26 = record { locals = List._++_ g22 t23; slots = Row.off ∷ Row.off ∷ Row.off ∷ Row.alive ∷ Row.alive ∷ Row.off ∷ List.[]; }
+        G26 = record {
+          locals = List._++_ g22 t23;
+          slots = Row.off ∷ Row.off ∷ Row.off ∷ Row.alive ∷ Row.alive ∷ Row.off ∷ List.[];
+        }
+
         abbrev G27 : Row.Cx
-        G27 = record { locals = List._++_ g22 t24; slots = Row.off ∷ Row.off ∷ Row.off ∷ Row.alive ∷ Row.alive ∷ Row.off ∷ List.[]; }
+        G27 = record {
+          locals = List._++_ g22 t24;
+          slots = Row.off ∷ Row.off ∷ Row.off ∷ Row.alive ∷ Row.alive ∷ Row.off ∷ List.[];
+        }
+
         abbrev G28 : Row.Cx
-        G28 = record { locals = List._++_ g22 t24; slots = Row.off ∷ Row.off ∷ Row.off ∷ Row.alive ∷ Row.alive ∷ Row.alive ∷ List.[]; }
+        G28 = record {
+          locals = List._++_ g22 t24;
+          slots = Row.off ∷ Row.off ∷ Row.off ∷ Row.alive ∷ Row.alive ∷ Row.alive ∷ List.[];
+        }
+
         abbrev G29 : Row.Cx
-        G29 = record { locals = List._++_ g25 t26; slots = Row.off ∷ Row.off ∷ Row.off ∷ Row.alive ∷ Row.alive ∷ Row.alive ∷ List.[]; }
+        G29 = record {
+          locals = List._++_ g25 t26;
+          slots = Row.off ∷ Row.off ∷ Row.off ∷ Row.alive ∷ Row.alive ∷ Row.alive ∷ List.[];
+        }
+
         abbrev G30 : Row.Cx
-        G30 = record { locals = List._++_ g25 t27; slots = Row.off ∷ Row.off ∷ Row.off ∷ Row.alive ∷ Row.alive ∷ Row.alive ∷ List.[]; }
+        G30 = record {
+          locals = List._++_ g25 t27;
+          slots = Row.off ∷ Row.off ∷ Row.off ∷ Row.alive ∷ Row.alive ∷ Row.alive ∷ List.[];
+        }
+
         abbrev G31 : Row.Cx
-        G31 = record { locals = List._++_ g28 t29; slots = Row.off ∷ Row.off ∷ Row.off ∷ Row.alive ∷ Row.alive ∷ Row.alive ∷ List.[]; }
+        G31 = record {
+          locals = List._++_ g28 t29;
+          slots = Row.off ∷ Row.off ∷ Row.off ∷ Row.alive ∷ Row.alive ∷ Row.alive ∷ List.[];
+        }
+
         abbrev G32 : Row.Cx
-        G32 = record { locals = List._++_ g28 t30; slots = Row.off ∷ Row.off ∷ Row.off ∷ Row.alive ∷ Row.alive ∷ Row.alive ∷ List.[]; }
+        G32 = record {
+          locals = List._++_ g28 t30;
+          slots = Row.off ∷ Row.off ∷ Row.off ∷ Row.alive ∷ Row.alive ∷ Row.alive ∷ List.[];
+        }
+
         abbrev G33 : Row.Cx
-        G33 = record { locals = List._++_ g31 t30; slots = Row.off ∷ Row.off ∷ Row.off ∷ Row.alive ∷ Row.alive ∷ Row.alive ∷ List.[]; }
+        G33 = record {
+          locals = List._++_ g31 t30;
+          slots = Row.off ∷ Row.off ∷ Row.off ∷ Row.alive ∷ Row.alive ∷ Row.alive ∷ List.[];
+        }
+
         abbrev G34 : Row.Cx
-        G34 = record { locals = List._++_ g32 t30; slots = Row.off ∷ Row.off ∷ Row.off ∷ Row.alive ∷ Row.alive ∷ Row.alive ∷ List.[]; }
+        G34 = record {
+          locals = List._++_ g32 t30;
+          slots = Row.off ∷ Row.off ∷ Row.off ∷ Row.alive ∷ Row.alive ∷ Row.alive ∷ List.[];
+        }
+
         abbrev G35 : Row.Cx
-        G35 = record { locals = List._++_ g33 t30; slots = Row.off ∷ Row.off ∷ Row.off ∷ Row.alive ∷ Row.alive ∷ Row.alive ∷ List.[]; }
+        G35 = record {
+          locals = List._++_ g33 t30;
+          slots = Row.off ∷ Row.off ∷ Row.off ∷ Row.alive ∷ Row.alive ∷ Row.alive ∷ List.[];
+        }
+
         abbrev G36 : Row.Cx
-        G36 = record { locals = List._++_ g34 t30; slots = Row.off ∷ Row.off ∷ Row.off ∷ Row.alive ∷ Row.alive ∷ Row.alive ∷ List.[]; }
+        G36 = record {
+          locals = List._++_ g34 t30;
+          slots = Row.off ∷ Row.off ∷ Row.off ∷ Row.alive ∷ Row.alive ∷ Row.alive ∷ List.[];
+        }
+
         abbrev G37 : Row.Cx
-        G37 = record { locals = List._++_ g34 t30; slots = Row.off ∷ Row.off ∷ Row.off ∷ Row.dead ∷ Row.alive ∷ Row.alive ∷ List.[]; }
+        G37 = record {
+          locals = List._++_ g34 t30;
+          slots = Row.off ∷ Row.off ∷ Row.off ∷ Row.dead ∷ Row.alive ∷ Row.alive ∷ List.[];
+        }
+
         abbrev G38 : Row.Cx
-        G38 = record { locals = List._++_ g35 t36; slots = life0 ∷ Row.off ∷ Row.off ∷ Row.dead ∷ Row.alive ∷ Row.alive ∷ List.[]; }
+        G38 = record {
+          locals = List._++_ g35 t36;
+          slots = life0 ∷ Row.off ∷ Row.off ∷ Row.dead ∷ Row.alive ∷ Row.alive ∷ List.[];
+        }
+
         abbrev G39 : Row.Cx
-        G39 = record { locals = List._++_ g35 t36; slots = life0 ∷ Row.off ∷ Row.off ∷ Row.off ∷ Row.alive ∷ Row.alive ∷ List.[]; }
+        G39 = record {
+          locals = List._++_ g35 t36;
+          slots = life0 ∷ Row.off ∷ Row.off ∷ Row.off ∷ Row.alive ∷ Row.alive ∷ List.[];
+        }
+
         abbrev G40 : Row.Cx
-        G40 = record { locals = List._++_ g35 t36; slots = life0 ∷ Row.off ∷ Row.off ∷ Row.off ∷ Row.dead ∷ Row.alive ∷ List.[]; }
+        G40 = record {
+          locals = List._++_ g35 t36;
+          slots = life0 ∷ Row.off ∷ Row.off ∷ Row.off ∷ Row.dead ∷ Row.alive ∷ List.[];
+        }
+
         abbrev G41 : Row.Cx
-        G41 = record { locals = List._++_ t37 t1; slots = life0 ∷ life1 ∷ Row.off ∷ Row.off ∷ Row.dead ∷ Row.alive ∷ List.[]; }
+        G41 = record {
+          locals = List._++_ t37 t1;
+          slots = life0 ∷ life1 ∷ Row.off ∷ Row.off ∷ Row.dead ∷ Row.alive ∷ List.[];
+        }
+
         abbrev G42 : Row.Cx
-        G42 = record { locals = List._++_ t37 t1; slots = life0 ∷ life1 ∷ Row.off ∷ Row.off ∷ Row.dead ∷ Row.alive ∷ List.[]; }
+        G42 = record {
+          locals = List._++_ t37 t1;
+          slots = life0 ∷ life1 ∷ Row.off ∷ Row.off ∷ Row.dead ∷ Row.alive ∷ List.[];
+        }
+
         abbrev G43 : Row.Cx
-        G43 = record { locals = List._++_ t37 t1; slots = life0 ∷ life1 ∷ Row.off ∷ Row.off ∷ Row.off ∷ Row.alive ∷ List.[]; }
+        G43 = record {
+          locals = List._++_ t37 t1;
+          slots = life0 ∷ life1 ∷ Row.off ∷ Row.off ∷ Row.off ∷ Row.alive ∷ List.[];
+        }
+
         abbrev G44 : Row.Cx
-        G44 = record { locals = List._++_ t37 t1; slots = life0 ∷ life1 ∷ Row.off ∷ Row.off ∷ Row.off ∷ Row.dead ∷ List.[]; }
+        G44 = record {
+          locals = List._++_ t37 t1;
+          slots = life0 ∷ life1 ∷ Row.off ∷ Row.off ∷ Row.off ∷ Row.dead ∷ List.[];
+        }
+
         abbrev G45 : Row.Cx
-        G45 = record { locals = List._++_ t38 t1; slots = life0 ∷ life1 ∷ Row.off ∷ Row.off ∷ Row.off ∷ Row.dead ∷ List.[]; }
+        G45 = record {
+          locals = List._++_ t38 t1;
+          slots = life0 ∷ life1 ∷ Row.off ∷ Row.off ∷ Row.off ∷ Row.dead ∷ List.[];
+        }
+
         abbrev G46 : Row.Cx
-        G46 = record { locals = List._++_ t38 t1; slots = life0 ∷ life1 ∷ Row.off ∷ Row.off ∷ Row.off ∷ Row.off ∷ List.[]; }
+        G46 = record {
+          locals = List._++_ t38 t1;
+          slots = life0 ∷ life1 ∷ Row.off ∷ Row.off ∷ Row.off ∷ Row.off ∷ List.[];
+        }
+
         abbrev G47 : Row.Cx
-        G47 = record { locals = List._++_ t39 t1; slots = life0 ∷ life1 ∷ Row.off ∷ Row.off ∷ Row.off ∷ Row.off ∷ List.[]; }
+        G47 = record {
+          locals = List._++_ t39 t1;
+          slots = life0 ∷ life1 ∷ Row.off ∷ Row.off ∷ Row.off ∷ Row.off ∷ List.[];
+        }
+
         abbrev G48 : Row.Cx
-        G48 = record { locals = List._++_ t2 t1; slots = life0 ∷ life1 ∷ Row.off ∷ Row.off ∷ Row.off ∷ Row.off ∷ List.[]; }
+        G48 = record {
+          locals = List._++_ t2 t1;
+          slots = life0 ∷ life1 ∷ Row.off ∷ Row.off ∷ Row.off ∷ Row.off ∷ List.[];
+        }
+
         abbrev Δ0 : Typed.Outs
         Δ0 = record { next = Option.none; exits = List.[]; returns = Option.some G1 }
-        module _ { M : Type 1 } (𝓤 : URA.URA M) (H : Wp.Heap 𝓤) (A : Atoms.Atoms 𝓤) (W : Kit.Given 𝓤 H A) (𝓣 : Wp.Tables 𝓤 H) (known : Knowns 𝓤 H A W
-            𝓣) (bs : List.List Nat.ℕ) (bd : Lifetimes.AllOutlive 2 (Kinds.osR r) κs) where
+
+        module _ {M : Type 1} (𝓤 : URA.URA M) (H : Wp.Heap 𝓤) (A : Atoms.Atoms 𝓤) (W : Kit.Given 𝓤 H A)
+            (𝓣 : Wp.Tables 𝓤 H) (known : Knowns 𝓤 H A W 𝓣) (bs : List.List Nat.ℕ)
+            (bd : Lifetimes.AllOutlive 2 (Kinds.osR r) κs) where
           abbrev E : Wp.Env 𝓤 H
           E = Frame.EnvOf 𝓤 H ((Kinds.tyR r) ∷ (Enter.tysP ps xs)) bs
+
           d0 : Typed.Typed 𝓤 H A 𝓣 E G48 b16 Δ0 (at0 bs)
           d0 = Typed.t-return 𝓤 H A W 𝓣 E Δ0 tt
+
           d1 : Typed.Typed 𝓤 H A 𝓣 E G47 b16 Δ0 (at1 bs)
-          d1 = Typed.g-pre 𝓤 H A W 𝓣 E G47 G48 b16 Δ0 (Typed.pass T47 T48 (s46 bs)) (at0 bs) (Scalar.g-room 𝓤 H A W E G47 3 Syntax.tyBool
-              (Scalar.room-sc 𝓤 H A W Row.sBool)) d0
+          d1 = Typed.g-pre 𝓤 H A W 𝓣 E G47 G48 b16 Δ0 (Typed.pass T47 T48 (s46 bs)) (at0 bs) (Scalar.g-room 𝓤 H A W E
+              G47 3 Syntax.tyBool (Scalar.room-sc 𝓤 H A W Row.sBool)) d0
+
           d2 : Typed.Typed 𝓤 H A 𝓣 E G46 b16 Δ0 (at2 bs)
-          d2 = Typed.g-pre 𝓤 H A W 𝓣 E G46 G47 b16 Δ0 (Typed.pass T45 T47 (s45 bs)) (at1 bs) (Scalar.g-room 𝓤 H A W E G46 12 (Syntax.tyArray
-              (Syntax.tyInt Syntax.w8) 30) (Init.room-arr 𝓤 H A W (Referent.rtF (Referent.fInt Syntax.w8)) 30 0 30 Path.refl)) d1
+          d2 = Typed.g-pre 𝓤 H A W 𝓣 E G46 G47 b16 Δ0 (Typed.pass T45 T47 (s45 bs)) (at1 bs) (Scalar.g-room 𝓤 H A W E
+              G46 12 (Syntax.tyArray (Syntax.tyInt Syntax.w8) 30) (Init.room-arr 𝓤 H A W
+              (Referent.rtF (Referent.fInt Syntax.w8)) 30 0 30 Path.refl)) d1
+
           d3 : Typed.Typed 𝓤 H A 𝓣 E G45 b16 Δ0 (at3 bs)
-          d3 = Typed.g-pre 𝓤 H A W 𝓣 E G45 G46 b16 Δ0 (λ Ψ. Ψ) (at2 bs) (Lifetime.g-forget 𝓤 H A W E G45 5 Row.dead Path.refl) d2
+          d3 = Typed.g-pre 𝓤 H A W 𝓣 E G45 G46 b16 Δ0 (λ Ψ. Ψ) (at2 bs)
+              (Lifetime.g-forget 𝓤 H A W E G45 5 Row.dead Path.refl) d2
+
           d4 : Typed.Typed 𝓤 H A 𝓣 E G44 b16 Δ0 (at4 bs)
-          d4 = Typed.g-pre 𝓤 H A W 𝓣 E G44 G45 b16 Δ0 (Typed.pass T42 T45 (s43 bs)) (at3 bs) (Share.g-back-arr-shrᵖ 𝓤 H A W E (Referent.rtF
-              (Referent.fInt Syntax.w8)) G44 12 30 5 (λ x. x) (Reads'.as-is 𝓤 H A (Rows.arr-shrP (Referent.rtF (Referent.fInt Syntax.w8)) 30 5))
-              Path.refl) d3
+          d4 = Typed.g-pre 𝓤 H A W 𝓣 E G44 G45 b16 Δ0 (Typed.pass T42 T45 (s43 bs)) (at3 bs) (Share.g-back-arr-shrᵖ 𝓤 H
+              A W E (Referent.rtF (Referent.fInt Syntax.w8)) G44 12 30 5 (λ x. x) (Reads'.as-is 𝓤 H A (Rows.arr-shrP
+              (Referent.rtF (Referent.fInt Syntax.w8)) 30 5)) Path.refl) d3
+
           d5 : Typed.Typed 𝓤 H A 𝓣 E G43 b16 Δ0 (at5 bs)
           d5 = Typed.g-pre 𝓤 H A W 𝓣 E G43 G44 b16 Δ0 (λ Ψ. Ψ) (at4 bs) (Lifetime.g-end 𝓤 H A W E G43 5 Path.refl) d4
+
           d6 : Typed.Typed 𝓤 H A 𝓣 E G42 b16 Δ0 (at6 bs)
-          d6 = Typed.g-pre 𝓤 H A W 𝓣 E G42 G43 b16 Δ0 (λ Ψ. Ψ) (at5 bs) (Lifetime.g-forget 𝓤 H A W E G42 4 Row.dead Path.refl) d5
+          d6 = Typed.g-pre 𝓤 H A W 𝓣 E G42 G43 b16 Δ0 (λ Ψ. Ψ) (at5 bs)
+              (Lifetime.g-forget 𝓤 H A W E G42 4 Row.dead Path.refl) d5
+
           d7 : Typed.Typed 𝓤 H A 𝓣 E G41 b16 Δ0 (at7 bs)
-          d7 = Typed.g-pre 𝓤 H A W 𝓣 E G41 G42 b16 Δ0 (Typed.give (s40 bs)) (at6 bs) (Know.g-sl-known 𝓤 H A W (Referent.fInt Syntax.w32) E G41 2 1
-              ref6 life1 0 (λ x. x) record { fits = Dec.lit< tt } (Reads'.as-is 𝓤 H A (Mut.mslice (Referent.rtF (Referent.fInt Syntax.w32)) ref6 1))
-              Path.refl tt) d6
+          d7 = Typed.g-pre 𝓤 H A W 𝓣 E G41 G42 b16 Δ0 (Typed.give (s40 bs)) (at6 bs) (Know.g-sl-known 𝓤 H A W
+              (Referent.fInt Syntax.w32) E G41 2 1 ref6 life1 0 (λ x. x) record { fits = Dec.lit< tt } (Reads'.as-is 𝓤
+              H A (Mut.mslice (Referent.rtF (Referent.fInt Syntax.w32)) ref6 1)) Path.refl tt) d6
+
           d8 : Typed.Typed 𝓤 H A 𝓣 E G40 b16 Δ0 (at8 bs)
-          d8 = Typed.g-pre 𝓤 H A W 𝓣 E G40 G41 b16 Δ0 (Typed.both (s39 bs)) (at7 bs) (Relend.g-back-sl 𝓤 H A W E (Referent.rtF (Referent.fInt
-              Syntax.w32)) G40 19 2 1 4 ref6 ref2 life1 (λ x. x) (λ x. x) (Reads'.as-is 𝓤 H A (Mut.msleft (Referent.rtF (Referent.fInt Syntax.w32))
-              ref2)) (Reads'.as-is 𝓤 H A (Relend.mslice-owed (Referent.rtF (Referent.fInt Syntax.w32)) ref6 1 4 life1)) Path.refl Path.refl) d7
+          d8 = Typed.g-pre 𝓤 H A W 𝓣 E G40 G41 b16 Δ0 (Typed.both (s39 bs)) (at7 bs) (Relend.g-back-sl 𝓤 H A W E
+              (Referent.rtF (Referent.fInt Syntax.w32)) G40 19 2 1 4 ref6 ref2 life1 (λ x. x) (λ x. x) (Reads'.as-is 𝓤
+              H A (Mut.msleft (Referent.rtF (Referent.fInt Syntax.w32)) ref2)) (Reads'.as-is 𝓤 H A (Relend.mslice-owed
+              (Referent.rtF (Referent.fInt Syntax.w32)) ref6 1 4 life1)) Path.refl Path.refl) d7
+
           d9 : Typed.Typed 𝓤 H A 𝓣 E G39 b16 Δ0 (at9 bs)
           d9 = Typed.g-pre 𝓤 H A W 𝓣 E G39 G40 b16 Δ0 (λ Ψ. Ψ) (at8 bs) (Lifetime.g-end 𝓤 H A W E G39 4 Path.refl) d8
+
           d10 : Typed.Typed 𝓤 H A 𝓣 E G38 b16 Δ0 (at10 bs)
-          d10 = Typed.g-pre 𝓤 H A W 𝓣 E G38 G39 b16 Δ0 (λ Ψ. Ψ) (at9 bs) (Lifetime.g-forget 𝓤 H A W E G38 3 Row.dead Path.refl) d9
+          d10 = Typed.g-pre 𝓤 H A W 𝓣 E G38 G39 b16 Δ0 (λ Ψ. Ψ) (at9 bs)
+              (Lifetime.g-forget 𝓤 H A W E G38 3 Row.dead Path.refl) d9
+
           d11 : Typed.Typed 𝓤 H A 𝓣 E G37 b16 Δ0 (at11 bs)
-          d11 = Typed.g-pre 𝓤 H A W 𝓣 E G37 G38 b16 Δ0 (Typed.both (s36 bs)) (at10 bs) (Relend.g-back-sl 𝓤 H A W E InflightAction.row G37 17 1 0 3
-              ref5 ref1 life0 (λ x. x) (λ x. x) (Reads'.as-is 𝓤 H A (Mut.msleft InflightAction.row ref1)) (Reads'.as-is 𝓤 H A (Relend.mslice-owed
-              InflightAction.row ref5 0 3 life0)) Path.refl Path.refl) d10
+          d11 = Typed.g-pre 𝓤 H A W 𝓣 E G37 G38 b16 Δ0 (Typed.both (s36 bs)) (at10 bs) (Relend.g-back-sl 𝓤 H A W E
+              InflightAction.row G37 17 1 0 3 ref5 ref1 life0 (λ x. x) (λ x. x)
+              (Reads'.as-is 𝓤 H A (Mut.msleft InflightAction.row ref1)) (Reads'.as-is 𝓤 H A
+              (Relend.mslice-owed InflightAction.row ref5 0 3 life0)) Path.refl Path.refl) d10
+
           d12 : Typed.Typed 𝓤 H A 𝓣 E G36 b16 Δ0 (at12 bs)
-          d12 = Typed.g-pre 𝓤 H A W 𝓣 E G36 G37 b16 Δ0 (λ Ψ. Ψ) (at11 bs) (Lifetime.g-end 𝓤 H A W E G36 3 Path.refl) d11
+          d12 = Typed.g-pre 𝓤 H A W 𝓣 E G36 G37 b16 Δ0 (λ Ψ. Ψ) (at11 bs) (Lifetime.g-end 𝓤 H A W E G36 3 Path.refl)
+              d11
+
           d13 : Typed.Typed 𝓤 H A 𝓣 E G35 b16 Δ0 (at13 bs)
-          d13 = Typed.g-pre 𝓤 H A W 𝓣 E G35 G36 b16 Δ0 (Typed.pass T35 T36 (s34 bs)) (at12 bs) (Scalar.g-room 𝓤 H A W E G35 13 (Syntax.tyInt
-              Syntax.w64) (Scalar.room-sc 𝓤 H A W (Row.sInt Syntax.w64))) d12
+          d13 = Typed.g-pre 𝓤 H A W 𝓣 E G35 G36 b16 Δ0 (Typed.pass T35 T36 (s34 bs)) (at12 bs) (Scalar.g-room 𝓤 H A W E
+              G35 13 (Syntax.tyInt Syntax.w64) (Scalar.room-sc 𝓤 H A W (Row.sInt Syntax.w64))) d12
+
           d14 : Typed.Typed 𝓤 H A 𝓣 E G34 b16 Δ0 (at14 bs)
-          d14 = Typed.g-pre 𝓤 H A W 𝓣 E G34 G35 b16 Δ0 (Typed.pass T34 T35 (s33 bs)) (at13 bs) (Scalar.g-room 𝓤 H A W E G34 10 Laws''''.mir
-              (Local.room-whole 𝓤 H A W (Declared'.row ActionScan.the-type) Laws''''.mir Path.refl)) d13
+          d14 = Typed.g-pre 𝓤 H A W 𝓣 E G34 G35 b16 Δ0 (Typed.pass T34 T35 (s33 bs)) (at13 bs) (Scalar.g-room 𝓤 H A W E
+              G34 10 Laws''''.mir (Local.room-whole 𝓤 H A W (Declared'.row ActionScan.the-type) Laws''''.mir Path.refl))
+              d13
+
           d15 : Typed.Typed 𝓤 H A 𝓣 E G33 b16 Δ0 (at15 bs)
-          d15 = Typed.g-pre 𝓤 H A W 𝓣 E G33 G34 b16 Δ0 (Typed.pass T33 T34 (s32 bs)) (at14 bs) (Scalar.g-room 𝓤 H A W E G33 5 Laws'''''.mir
-              (Local.room-whole 𝓤 H A W (Declared'.row Outgoing.the-type) Laws'''''.mir Path.refl)) d14
+          d15 = Typed.g-pre 𝓤 H A W 𝓣 E G33 G34 b16 Δ0 (Typed.pass T33 T34 (s32 bs)) (at14 bs) (Scalar.g-room 𝓤 H A W E
+              G33 5 Laws'''''.mir (Local.room-whole 𝓤 H A W (Declared'.row Outgoing.the-type) Laws'''''.mir Path.refl))
+              d14
+
           d16 : Typed.Typed 𝓤 H A 𝓣 E G32 b16 Δ0 (at16 bs)
-          d16 = Typed.g-pre 𝓤 H A W 𝓣 E G32 G33 b16 Δ0 (Typed.pass T32 T33 (s31 bs)) (at15 bs) (Scalar.g-room 𝓤 H A W E G32 4 Laws'''''''.mir
-              (Local.room-whole 𝓤 H A W (Declared'.row Sending.the-type) Laws'''''''.mir Path.refl)) d15
+          d16 = Typed.g-pre 𝓤 H A W 𝓣 E G32 G33 b16 Δ0 (Typed.pass T32 T33 (s31 bs)) (at15 bs) (Scalar.g-room 𝓤 H A W E
+              G32 4 Laws'''''''.mir (Local.room-whole 𝓤 H A W (Declared'.row Sending.the-type) Laws'''''''.mir
+              Path.refl)) d15
+
           d17 : Typed.Typed 𝓤 H A 𝓣 E G31 b16 Δ0 (at17 bs)
-          d17 = Typed.g-pre 𝓤 H A W 𝓣 E G31 G32 b16 Δ0 (Typed.pass T31 T32 (s30 bs)) (at16 bs) (Scalar.g-room 𝓤 H A W E G31 21 (Syntax.tyStruct (38 ∷
-              91 ∷ 93 ∷ List.[]) (Syntax.tcons ref4 (Syntax.tcons (Syntax.tyInt Syntax.w64) Syntax.tnil))) (Shared.room-sslice 𝓤 H A W (Referent.rtF
-              (Referent.fInt Syntax.w8)) ref4 5)) d16
+          d17 = Typed.g-pre 𝓤 H A W 𝓣 E G31 G32 b16 Δ0 (Typed.pass T31 T32 (s30 bs)) (at16 bs) (Scalar.g-room 𝓤 H A W E
+              G31 21 slice4 (Shared.room-sslice 𝓤 H A W (Referent.rtF (Referent.fInt Syntax.w8)) ref4 5)) d16
+
           d18 : Typed.Typed 𝓤 H A 𝓣 E G30 b17 Δ0 (at18 bs)
-          d18 = Typed.s-seq 𝓤 H A W 𝓣 E G30 G31 b15 b16 Δ0 (Typed.both (s29 bs)) (at17 bs) (Plain.t-call-plain 𝓤 H A W 𝓣 3 ps·3 r·3 (claims· .6)
-              (claims· .7) "hnsr_circuit::queue::tell_scanned" (known .3) E (λ pos β. β) G30 (record { pos = 17; ty = Syntax.tyRef Syntax.erased
-              Syntax.mut InflightAction.to; ref = λ x. x; }, (record { pos = 19; ty = Syntax.tyRef Syntax.erased Syntax.mut (Syntax.tyInt Syntax.w32);
-              ref = λ x. x; }, (Bool.bAt 3 λ x. x, (record { pos = 4; st = List.[]; d = 0; at = λ x. x }, (record { pos = 5; st = List.[]; d = 0; at =
-              λ x. x }, (record { pos = 10; st = List.[]; d = 0; at = λ x. x }, (record { pos = 21; ty = Syntax.tyRef Syntax.erased Syntax.imm
-              (Syntax.tyInt Syntax.w8); ref = λ x. x; }, tt,),),),),),),) 0 (3 ∷ 4 ∷ 5 ∷ List.[]) (Call.sub-id 𝓤 H A W (G30 .slots)) (Reads'.as-is 𝓤 H
-              A (Mut.mslice InflightAction.row ref1 3), Mut.reads-mslice 𝓤 H A W InflightAction.row ref1 3, Path.refl, (Reads'.as-is 𝓤 H A (Mut.mslice
-              (Referent.rtF (Referent.fInt Syntax.w32)) ref2 4), Mut.reads-mslice 𝓤 H A W (Referent.rtF (Referent.fInt Syntax.w32)) ref2 4, Path.refl,
-              ((Scalar.reads-sc 𝓤 H A W Row.sBool, Path.refl), ((Yields.yields-copy 𝓤 H A W (λ ρ. Unit) (Declared'.row Sending.the-type) Path.refl
-              (Copies.cStruct Sending.the-type Laws'''''''.the-laws Laws'''''''.the-copy .copy 𝓤 H A W) (Rows'.whole (Declared'.row Sending.the-type))
-              (λ x. x) (λ x. x) (λ ρ told. Local.mem-whole 𝓤 H A W (Declared'.row Sending.the-type) ρ) λ ρ told. Local.whole-mem 𝓤 H A W
-              (Declared'.row Sending.the-type) ρ, Path.refl,), ((Yields.yields-copy 𝓤 H A W (λ ρ. Unit) (Declared'.row Outgoing.the-type) Path.refl
-              (Copies.cStruct Outgoing.the-type Laws'''''.the-laws Laws'''''.the-copy .copy 𝓤 H A W) (Rows'.whole (Declared'.row Outgoing.the-type))
-              (λ x. x) (λ x. x) (λ ρ told. Local.mem-whole 𝓤 H A W (Declared'.row Outgoing.the-type) ρ) λ ρ told. Local.whole-mem 𝓤 H A W
-              (Declared'.row Outgoing.the-type) ρ, Path.refl,), ((Yields.yields-copy 𝓤 H A W (λ ρ. Unit) (Declared'.row ActionScan.the-type) Path.refl
-              (Copies.cStruct ActionScan.the-type Laws''''.the-laws Laws''''.the-copy .copy 𝓤 H A W) (Rows'.whole (Declared'.row ActionScan.the-type))
-              (λ x. x) (λ x. x) (λ ρ told. Local.mem-whole 𝓤 H A W (Declared'.row ActionScan.the-type) ρ) λ ρ told. Local.whole-mem 𝓤 H A W
-              (Declared'.row ActionScan.the-type) ρ, Path.refl,), (ShrSlice.spares-sslice 𝓤 H A W (Referent.rtF (Referent.fInt Syntax.w8)) ref4 5,
-              Shared.reads-sslice 𝓤 H A W (Referent.rtF (Referent.fInt Syntax.w8)) ref4 5, Path.refl, tt,),),),),),),) (Reads'.room-gone 𝓤 H A
-              Laws'''''''.mir) (tt, (tt, (tt, tt))) Path.refl) d17
+          d18 = Typed.s-seq 𝓤 H A W 𝓣 E G30 G31 b15 b16 Δ0 (Typed.both (s29 bs)) (at17 bs) (Plain.t-call-plain 𝓤 H A W
+              𝓣 3 ps·3 r·3 (claims· .6) (claims· .7) "hnsr_circuit::queue::tell_scanned" (known .3) E (λ pos β. β) G30 (
+                record { pos = 17; ty = ref1; ref = λ x. x },
+                (
+                  record { pos = 19; ty = ref2; ref = λ x. x },
+                  (
+                    Bool.bAt 3 λ x. x,
+                    (
+                      record { pos = 4; st = List.[]; d = 0; at = λ x. x },
+                      (
+                        record { pos = 5; st = List.[]; d = 0; at = λ x. x },
+                        (
+                          record { pos = 10; st = List.[]; d = 0; at = λ x. x },
+                          (record { pos = 21; ty = ref4; ref = λ x. x }, tt),
+                        ),
+                      ),
+                    ),
+                  ),
+                ),
+              ) 0 (3 ∷ 4 ∷ 5 ∷ List.[]) (Call.sub-id 𝓤 H A W (G30 .slots)) (
+                Reads'.as-is 𝓤 H A (Mut.mslice InflightAction.row ref1 3),
+                Mut.reads-mslice 𝓤 H A W InflightAction.row ref1 3,
+                Path.refl,
+                (
+                  Reads'.as-is 𝓤 H A (Mut.mslice (Referent.rtF (Referent.fInt Syntax.w32)) ref2 4),
+                  Mut.reads-mslice 𝓤 H A W (Referent.rtF (Referent.fInt Syntax.w32)) ref2 4,
+                  Path.refl,
+                  (
+                    (Scalar.reads-sc 𝓤 H A W Row.sBool, Path.refl),
+                    (
+                      (
+                        Yields.yields-copy 𝓤 H A W (λ ρ. Unit) (Declared'.row Sending.the-type) Path.refl (Copies.cStruct
+                            Sending.the-type Laws'''''''.the-laws Laws'''''''.the-copy .copy 𝓤 H A W)
+                            (Rows'.whole (Declared'.row Sending.the-type)) (λ x. x) (λ x. x) (λ ρ told. Local.mem-whole
+                            𝓤 H A W (Declared'.row Sending.the-type) ρ) λ ρ told. Local.whole-mem 𝓤 H A W
+                            (Declared'.row Sending.the-type) ρ,
+                        Path.refl,
+                      ),
+                      (
+                        (
+                          Yields.yields-copy 𝓤 H A W (λ ρ. Unit) (Declared'.row Outgoing.the-type) Path.refl (Copies.cStruct
+                              Outgoing.the-type Laws'''''.the-laws Laws'''''.the-copy .copy 𝓤 H A W)
+                              (Rows'.whole (Declared'.row Outgoing.the-type)) (λ x. x) (λ x. x) (λ ρ told.
+                              Local.mem-whole 𝓤 H A W (Declared'.row Outgoing.the-type) ρ) λ ρ told. Local.whole-mem 𝓤
+                              H A W (Declared'.row Outgoing.the-type) ρ,
+                          Path.refl,
+                        ),
+                        (
+                          (
+                            Yields.yields-copy 𝓤 H A W (λ ρ. Unit) (Declared'.row ActionScan.the-type) Path.refl (Copies.cStruct
+                                ActionScan.the-type Laws''''.the-laws Laws''''.the-copy .copy 𝓤 H A W)
+                                (Rows'.whole (Declared'.row ActionScan.the-type)) (λ x. x) (λ x. x) (λ ρ told.
+                                Local.mem-whole 𝓤 H A W (Declared'.row ActionScan.the-type) ρ) λ ρ told.
+                                Local.whole-mem 𝓤 H A W (Declared'.row ActionScan.the-type) ρ,
+                            Path.refl,
+                          ),
+                          (
+                            ShrSlice.spares-sslice 𝓤 H A W (Referent.rtF (Referent.fInt Syntax.w8)) ref4 5,
+                            Shared.reads-sslice 𝓤 H A W (Referent.rtF (Referent.fInt Syntax.w8)) ref4 5,
+                            Path.refl,
+                            tt,
+                          ),
+                        ),
+                      ),
+                    ),
+                  ),
+                ),
+              ) (Reads'.room-gone 𝓤 H A Laws'''''''.mir) (tt, (tt, (tt, tt))) Path.refl) d17
+
           d19 : Typed.Typed 𝓤 H A 𝓣 E G29 b18 Δ0 (at19 bs)
-          d19 = Typed.s-seq 𝓤 H A W 𝓣 E G29 G30 b14 b17 Δ0 (Typed.ask (s28 bs)) (at18 bs) (Relend.t-sl-aggregate 𝓤 H A W E (Referent.rtF
-              (Referent.fInt Syntax.w8)) 𝓣 (Relend.asShr (Referent.rtF (Referent.fInt Syntax.w8))) G29 20 21 5 ref3 ref4 (λ x. x) (Scalar.oAt 13
-              (Syntax.tyInt Syntax.w64) (Row.valS (Row.sInt Syntax.w64))) (Reads'.as-is 𝓤 H A (Relend.ssptr (Referent.rtF (Referent.fInt Syntax.w8))
-              ref3 5)) (Reads'.room-gone 𝓤 H A (Syntax.tyStruct (38 ∷ 91 ∷ 93 ∷ List.[]) (Syntax.tcons ref4 (Syntax.tcons (Syntax.tyInt Syntax.w64)
-              Syntax.tnil)))) (Scalar.reads-sc 𝓤 H A W (Row.sInt Syntax.w64), Path.refl) Path.refl Path.refl λ b o k. tt) d18
+          d19 = Typed.s-seq 𝓤 H A W 𝓣 E G29 G30 b14 b17 Δ0 (Typed.ask (s28 bs)) (at18 bs) (Relend.t-sl-aggregate 𝓤 H A
+              W E (Referent.rtF (Referent.fInt Syntax.w8)) 𝓣 (Relend.asShr (Referent.rtF (Referent.fInt Syntax.w8)))
+              G29 20 21 5 ref3 ref4 (λ x. x) (Scalar.oAt 13 (Syntax.tyInt Syntax.w64) (Row.valS (Row.sInt Syntax.w64))) (Reads'.as-is
+              𝓤 H A (Relend.ssptr (Referent.rtF (Referent.fInt Syntax.w8)) ref3 5)) (Reads'.room-gone 𝓤 H A slice4)
+              (Scalar.reads-sc 𝓤 H A W (Row.sInt Syntax.w64), Path.refl) Path.refl Path.refl λ b o k. tt) d18
+
           d20 : Typed.Typed 𝓤 H A 𝓣 E G28 b19 Δ0 (at20 bs)
-          d20 = Typed.s-seq 𝓤 H A W 𝓣 E G28 G29 b13 b18 Δ0 (Typed.both (s27 bs)) (at19 bs) (Share.t-arr-shareᵖ 𝓤 H A W E 𝓣 (Referent.rtF
-              (Referent.fInt Syntax.w8)) G28 12 20 30 5 ref3 (λ x. x) (λ u. u .1 .1 .1 .1 .1 .1 .1 .1 .1 .1 .1 .1 .1 .0) (Reads'.as-is 𝓤 H A
-              (Rows.arrF (Referent.rtF (Referent.fInt Syntax.w8)) 30 0)) (Reads'.room-gone 𝓤 H A ref3) Path.refl (λ b o. tt) (Dec.lit< tt, Dec.lit<
-              tt)) d19
+          d20 = Typed.s-seq 𝓤 H A W 𝓣 E G28 G29 b13 b18 Δ0 (Typed.both (s27 bs)) (at19 bs) (Share.t-arr-shareᵖ 𝓤 H A W
+              E 𝓣 (Referent.rtF (Referent.fInt Syntax.w8)) G28 12 20 30 5 ref3 (λ x. x)
+              (λ u. u .1 .1 .1 .1 .1 .1 .1 .1 .1 .1 .1 .1 .1 .0) (Reads'.as-is 𝓤 H A
+              (Rows.arrF (Referent.rtF (Referent.fInt Syntax.w8)) 30 0)) (Reads'.room-gone 𝓤 H A ref3) Path.refl
+              (λ b o. tt) (Dec.lit< tt, Dec.lit< tt)) d19
+
           d21 : Typed.Typed 𝓤 H A 𝓣 E G27 b19 Δ0 (at21 bs)
-          d21 = Typed.g-pre 𝓤 H A W 𝓣 E G27 G28 b19 Δ0 (λ Ψ. Ψ) (at20 bs) (Lifetime.g-begin 𝓤 H A W E G27 5 (tt, ((tt, tt), ((tt, tt), (tt, (tt, (tt,
-              (tt, (tt, (tt, (tt, (tt, (tt, (tt, (tt, (tt, (tt, (tt, (tt, (tt, (tt, (tt, (tt, tt))))))),),),),),),),),),),),),),),),)) d20
+          d21 = Typed.g-pre 𝓤 H A W 𝓣 E G27 G28 b19 Δ0 (λ Ψ. Ψ) (at20 bs) (Lifetime.g-begin 𝓤 H A W E G27 5 (
+            tt,
+            (
+              (tt, tt),
+              (
+                (tt, tt),
+                (
+                  tt,
+                  (
+                    tt,
+                    (
+                      tt,
+                      (
+                        tt,
+                        (tt, (tt, (tt, (tt, (tt, (tt, (tt, (tt, (tt, (tt, (tt, (tt, (tt, (tt, (tt, tt))))))))))))))),
+                      ),
+                    ),
+                  ),
+                ),
+              ),
+            ),
+          )) d20
+
           d22 : Typed.Typed 𝓤 H A 𝓣 E G26 b20 Δ0 (at22 bs)
-          d22 = Typed.s-seq 𝓤 H A W 𝓣 E G26 G27 b12 b19 Δ0 (Typed.ask (s25 bs)) (at21 bs) (Relend.t-sl-aggregate 𝓤 H A W E (Referent.rtF
-              (Referent.fInt Syntax.w32)) 𝓣 (Relend.asMut (Referent.rtF (Referent.fInt Syntax.w32))) G26 18 19 4 ref2 ref2 (λ x. x) (Scalar.oFld 2
-              ((Syntax.field 1) ∷ List.[]) (Syntax.tyInt Syntax.w64) 8 λ v. Shared.lenV (v .0)) (Reads'.as-is 𝓤 H A (Relend.msptr (Referent.rtF
-              (Referent.fInt Syntax.w32)) ref2 4)) (Reads'.room-gone 𝓤 H A (Syntax.tyStruct (38 ∷ 91 ∷ 93 ∷ List.[]) (Syntax.tcons ref2 (Syntax.tcons
-              (Syntax.tyInt Syntax.w64) Syntax.tnil)))) (Relend.reads-owed-len 𝓤 H A W (Referent.rtF (Referent.fInt Syntax.w32)) ref6 1 4 life1 8
-              Path.refl, Path.refl,) Path.refl Path.refl λ b o k. tt) d21
+          d22 = Typed.s-seq 𝓤 H A W 𝓣 E G26 G27 b12 b19 Δ0 (Typed.ask (s25 bs)) (at21 bs) (Relend.t-sl-aggregate 𝓤 H A
+              W E (Referent.rtF (Referent.fInt Syntax.w32)) 𝓣 (Relend.asMut (Referent.rtF (Referent.fInt Syntax.w32)))
+              G26 18 19 4 ref2 ref2 (λ x. x) (Scalar.oFld 2 ((Syntax.field 1) ∷ List.[]) (Syntax.tyInt Syntax.w64) 8
+              λ v. Shared.lenV (v .0)) (Reads'.as-is 𝓤 H A (Relend.msptr (Referent.rtF (Referent.fInt Syntax.w32)) ref2
+              4)) (Reads'.room-gone 𝓤 H A slice2) (
+                Relend.reads-owed-len 𝓤 H A W (Referent.rtF (Referent.fInt Syntax.w32)) ref6 1 4 life1 8 Path.refl,
+                Path.refl,
+              ) Path.refl Path.refl λ b o k. tt) d21
+
           d23 : Typed.Typed 𝓤 H A 𝓣 E G25 b21 Δ0 (at23 bs)
-          d23 = Typed.s-seq 𝓤 H A W 𝓣 E G25 G26 b11 b20 Δ0 (Typed.give (s24 bs)) (at22 bs) (Relend.t-sl-relend 𝓤 H A W E (Referent.rtF (Referent.fInt
-              Syntax.w32)) 𝓣 G25 2 18 1 4 ref6 ref2 life1 0 (λ x. x) (Reads'.as-is 𝓤 H A (Mut.mslice (Referent.rtF (Referent.fInt Syntax.w32)) ref6
-              1)) (Reads'.room-gone 𝓤 H A ref2) Path.refl tt Path.refl Path.refl Path.refl λ b o. tt) d22
+          d23 = Typed.s-seq 𝓤 H A W 𝓣 E G25 G26 b11 b20 Δ0 (Typed.give (s24 bs)) (at22 bs) (Relend.t-sl-relend 𝓤 H A W
+              E (Referent.rtF (Referent.fInt Syntax.w32)) 𝓣 G25 2 18 1 4 ref6 ref2 life1 0 (λ x. x) (Reads'.as-is 𝓤 H A (Mut.mslice
+              (Referent.rtF (Referent.fInt Syntax.w32)) ref6 1)) (Reads'.room-gone 𝓤 H A ref2) Path.refl tt Path.refl
+              Path.refl Path.refl λ b o. tt) d22
+
           d24 : Typed.Typed 𝓤 H A 𝓣 E G24 b21 Δ0 (at24 bs)
-          d24 = Typed.g-pre 𝓤 H A W 𝓣 E G24 G25 b21 Δ0 (λ Ψ. Ψ) (at23 bs) (Lifetime.g-begin 𝓤 H A W E G24 4 (tt, ((tt, tt), (tt, (tt, (tt, (tt, (tt,
-              (tt, (tt, (tt, (tt, (tt, (tt, (tt, (tt, (tt, (tt, (tt, (tt, (tt, (tt, (tt, tt))))))),),),),),),),),),),),),),),),)) d23
+          d24 = Typed.g-pre 𝓤 H A W 𝓣 E G24 G25 b21 Δ0 (λ Ψ. Ψ) (at23 bs) (Lifetime.g-begin 𝓤 H A W E G24 4 (
+            tt,
+            (
+              (tt, tt),
+              (
+                tt,
+                (
+                  tt,
+                  (
+                    tt,
+                    (
+                      tt,
+                      (
+                        tt,
+                        (tt, (tt, (tt, (tt, (tt, (tt, (tt, (tt, (tt, (tt, (tt, (tt, (tt, (tt, (tt, tt))))))))))))))),
+                      ),
+                    ),
+                  ),
+                ),
+              ),
+            ),
+          )) d23
+
           d25 : Typed.Typed 𝓤 H A 𝓣 E G23 b22 Δ0 (at25 bs)
-          d25 = Typed.s-seq 𝓤 H A W 𝓣 E G23 G24 b10 b21 Δ0 (Typed.ask (s22 bs)) (at24 bs) (Relend.t-sl-aggregate 𝓤 H A W E InflightAction.row 𝓣
-              (Relend.asMut InflightAction.row) G23 16 17 3 ref1 ref1 (λ x. x) (Scalar.oFld 1 ((Syntax.field 1) ∷ List.[]) (Syntax.tyInt Syntax.w64) 8
-              λ v. Shared.lenV (v .0)) (Reads'.as-is 𝓤 H A (Relend.msptr InflightAction.row ref1 3)) (Reads'.room-gone 𝓤 H A (Syntax.tyStruct (38 ∷ 91
-              ∷ 93 ∷ List.[]) (Syntax.tcons ref1 (Syntax.tcons (Syntax.tyInt Syntax.w64) Syntax.tnil)))) (Relend.reads-owed-len 𝓤 H A W
-              InflightAction.row ref5 0 3 life0 8 Path.refl, Path.refl,) Path.refl Path.refl λ b o k. tt) d24
+          d25 = Typed.s-seq 𝓤 H A W 𝓣 E G23 G24 b10 b21 Δ0 (Typed.ask (s22 bs)) (at24 bs) (Relend.t-sl-aggregate 𝓤 H A
+              W E InflightAction.row 𝓣 (Relend.asMut InflightAction.row) G23 16 17 3 ref1 ref1 (λ x. x) (Scalar.oFld 1
+              ((Syntax.field 1) ∷ List.[]) (Syntax.tyInt Syntax.w64) 8 λ v. Shared.lenV (v .0)) (Reads'.as-is 𝓤 H A
+              (Relend.msptr InflightAction.row ref1 3)) (Reads'.room-gone 𝓤 H A slice1) (
+                Relend.reads-owed-len 𝓤 H A W InflightAction.row ref5 0 3 life0 8 Path.refl,
+                Path.refl,
+              ) Path.refl Path.refl λ b o k. tt) d24
+
           d26 : Typed.Typed 𝓤 H A 𝓣 E G22 b23 Δ0 (at26 bs)
-          d26 = Typed.s-seq 𝓤 H A W 𝓣 E G22 G23 b9 b22 Δ0 (Typed.give (s21 bs)) (at25 bs) (Relend.t-sl-relend 𝓤 H A W E InflightAction.row 𝓣 G22 1 16
-              0 3 ref5 ref1 life0 0 (λ x. x) (Reads'.as-is 𝓤 H A (Mut.mslice InflightAction.row ref5 0)) (Reads'.room-gone 𝓤 H A ref1) Path.refl tt
+          d26 = Typed.s-seq 𝓤 H A W 𝓣 E G22 G23 b9 b22 Δ0 (Typed.give (s21 bs)) (at25 bs) (Relend.t-sl-relend 𝓤 H A W E
+              InflightAction.row 𝓣 G22 1 16 0 3 ref5 ref1 life0 0 (λ x. x)
+              (Reads'.as-is 𝓤 H A (Mut.mslice InflightAction.row ref5 0)) (Reads'.room-gone 𝓤 H A ref1) Path.refl tt
               Path.refl Path.refl Path.refl λ b o. tt) d25
+
           d27 : Typed.Typed 𝓤 H A 𝓣 E G21 b23 Δ0 (at27 bs)
-          d27 = Typed.g-pre 𝓤 H A W 𝓣 E G21 G22 b23 Δ0 (λ Ψ. Ψ) (at26 bs) (Lifetime.g-begin 𝓤 H A W E G21 3 (tt, (tt, (tt, (tt, (tt, (tt, (tt, (tt,
-              (tt, (tt, (tt, (tt, (tt, (tt, (tt, (tt, (tt, (tt, (tt, (tt, (tt, (tt, tt))))))),),),),),),),),),),),),),),),)) d26
+          d27 = Typed.g-pre 𝓤 H A W 𝓣 E G21 G22 b23 Δ0 (λ Ψ. Ψ) (at26 bs) (Lifetime.g-begin 𝓤 H A W E G21 3 (
+            tt,
+            (
+              tt,
+              (
+                tt,
+                (
+                  tt,
+                  (
+                    tt,
+                    (
+                      tt,
+                      (
+                        tt,
+                        (tt, (tt, (tt, (tt, (tt, (tt, (tt, (tt, (tt, (tt, (tt, (tt, (tt, (tt, (tt, tt))))))))))))))),
+                      ),
+                    ),
+                  ),
+                ),
+              ),
+            ),
+          )) d26
+
           d28 : Typed.Typed 𝓤 H A 𝓣 E G20 b23 Δ0 (at28 bs)
-          d28 = Typed.g-pre 𝓤 H A W 𝓣 E G20 G21 b23 Δ0 (Typed.pass T20 T21 (s19 bs)) (at27 bs) (Scalar.g-room 𝓤 H A W E G20 11 Laws'.mir
-              (Local.room-whole 𝓤 H A W (Declared'.row NoticeWritten.the-type) Laws'.mir Path.refl)) d27
+          d28 = Typed.g-pre 𝓤 H A W 𝓣 E G20 G21 b23 Δ0 (Typed.pass T20 T21 (s19 bs)) (at27 bs) (Scalar.g-room 𝓤 H A W E
+              G20 11 Laws'.mir (Local.room-whole 𝓤 H A W (Declared'.row NoticeWritten.the-type) Laws'.mir Path.refl))
+              d27
+
           d29 : Typed.Typed 𝓤 H A 𝓣 E G19 b24 Δ0 (at29 bs)
-          d29 = Typed.s-seq 𝓤 H A W 𝓣 E G19 G20 b8 b23 Δ0 (Typed.pass T19 T20 (s18 bs)) (at28 bs) (Scalar.t-use 𝓤 H A W E 𝓣 G19 (Scalar.oFld 11
-              ((Syntax.field 0) ∷ List.[]) (Syntax.tyInt Syntax.w64) 0 (Reads.fieldV NoticeWritten.the-type Laws'.the-laws 0)) 13 (Rows'.sc-here
-              (Row.sInt Syntax.w64)) (Syntax.tyInt Syntax.w64) (Row.valS (Row.sInt Syntax.w64)) (Row.sInt Syntax.w64 .of) (Reads.reads-field 𝓤 H A W
-              NoticeWritten.the-type Laws'.the-laws 0 (Syntax.tyInt Syntax.w64) 0 Path.refl, Path.refl,) (Reads'.room-gone 𝓤 H A (Syntax.tyInt
-              Syntax.w64)) (Scalar.holds-sc 𝓤 H A W (Row.sInt Syntax.w64)) Path.refl (λ u. Path.refl) λ u. tt) d28
+          d29 = Typed.s-seq 𝓤 H A W 𝓣 E G19 G20 b8 b23 Δ0 (Typed.pass T19 T20 (s18 bs)) (at28 bs) (Scalar.t-use 𝓤 H A W
+              E 𝓣 G19 (Scalar.oFld 11 ((Syntax.field 0) ∷ List.[]) (Syntax.tyInt Syntax.w64) 0
+              (Reads.fieldV NoticeWritten.the-type Laws'.the-laws 0)) 13 (Rows'.sc-here (Row.sInt Syntax.w64))
+              (Syntax.tyInt Syntax.w64) (Row.valS (Row.sInt Syntax.w64)) (Row.sInt Syntax.w64 .of) (
+                Reads.reads-field 𝓤 H A W NoticeWritten.the-type Laws'.the-laws 0 (Syntax.tyInt Syntax.w64) 0 Path.refl,
+                Path.refl,
+              ) (Reads'.room-gone 𝓤 H A (Syntax.tyInt Syntax.w64)) (Scalar.holds-sc 𝓤 H A W (Row.sInt Syntax.w64))
+              Path.refl (λ u. Path.refl) λ u. tt) d28
+
           d30 : Typed.Typed 𝓤 H A 𝓣 E G18 b25 Δ0 (at30 bs)
-          d30 = Typed.s-seq 𝓤 H A W 𝓣 E G18 G19 b7 b24 Δ0 (Typed.both (s17 bs)) (at29 bs) (WayStmt.t-way-copy-out 𝓤 H A W E 𝓣 (Array.Array
-              (Referent.rtF (Referent.fInt Syntax.w8)) 30) Path.refl (Copies.cArr (Referent.rtF (Referent.fInt Syntax.w8)) (Copies.cRf (Referent.fInt
-              Syntax.w8)) 30 .copy 𝓤 H A W) (λ ρ. Unit) G18 (Row.out 11 (G18 .locals)) (λ u. Row.drop 11 (G18 .locals) u) (G18 .slots) 11 (λ t.
-              (Syntax.field 1) ∷ t) (Syntax.tyArray (Syntax.tyInt Syntax.w8) 30) (Syntax.tyArray (Syntax.tyInt Syntax.w8) 30) 12 (Rows.arrF
-              (Referent.rtF (Referent.fInt Syntax.w8)) 30 0) (λ x. x) (λ u. At.getAt (NoticeWritten.the-type .parts) 1 (NoticeWritten.struct
-              .as-values (u .1 .1 .1 .1 .1 .1 .1 .1 .1 .1 .1 .0))) (λ u. (Row.hd 0 (Row.tl (Row.tl (Row.tl (Row.tl (Row.tl (Row.tl (Row.tl (Row.tl
-              (Row.tl (Row.tl (Row.tl bs))))))))))), Nat._+_ 0 8,)) (λ T′. record { locals = Row.setRow 11 (11, Rows'.whole (Declared'.row
-              NoticeWritten.the-type)) T′; slots = G18 .slots; }) (λ u T′ m′. Row.set 11 (11, Rows'.whole (Declared'.row NoticeWritten.the-type)) (u
-              .1 .1 .1 .1 .1 .1 .1 .1 .1 .1 .1 .0) T′ m′) (λ u. Unit) (λ x. Unit) (Own.told-none 𝓤 H A (G18 .slots)) (DerefMove.learns-nothing 𝓤 H A
-              (Array.Array (Referent.rtF (Referent.fInt Syntax.w8)) 30)) (λ ρ told u asked. Way'.w-partˢ 𝓤 H A W E (Declared'.row
-              NoticeWritten.the-type) (Array.Array (Referent.rtF (Referent.fInt Syntax.w8)) 30) Laws'.mir (Syntax.tyArray (Syntax.tyInt Syntax.w8) 30)
-              1 8 (u .1 .1 .1 .1 .1 .1 .1 .1 .1 .1 .1 .0) (At.getAt (NoticeWritten.the-type .parts) 1 (NoticeWritten.struct .as-values (u .1 .1 .1 .1
-              .1 .1 .1 .1 .1 .1 .1 .0))) (Row.hd 0 (Row.tl (Row.tl (Row.tl (Row.tl (Row.tl (Row.tl (Row.tl (Row.tl (Row.tl (Row.tl (Row.tl
-              bs))))))))))), 0,) (Way.w-look 𝓤 H A W E (Way.w-local 𝓤 H A W E G18 ρ u (G18 .slots) 11 (Declared'.row NoticeWritten.the-type)
-              (Rows'.whole (Declared'.row NoticeWritten.the-type)) (λ x. x) (λ x. x) (u .1 .1 .1 .1 .1 .1 .1 .1 .1 .1 .1 .0) (Local.mem-whole 𝓤 H A W
-              (Declared'.row NoticeWritten.the-type) ρ (u .1 .1 .1 .1 .1 .1 .1 .1 .1 .1 .1 .0) (Row.hd 0 (Row.tl (Row.tl (Row.tl (Row.tl (Row.tl
-              (Row.tl (Row.tl (Row.tl (Row.tl (Row.tl (Row.tl bs))))))))))))) (Local.whole-mem 𝓤 H A W (Declared'.row NoticeWritten.the-type) ρ (u .1
-              .1 .1 .1 .1 .1 .1 .1 .1 .1 .1 .0) (Row.hd 0 (Row.tl (Row.tl (Row.tl (Row.tl (Row.tl (Row.tl (Row.tl (Row.tl (Row.tl (Row.tl (Row.tl
-              bs))))))))))))))) Path.refl λ q. Items.cut-array 𝓤 H A q (Declared'.row NoticeWritten.the-type) (Referent.rtF (Referent.fInt Syntax.w8))
-              30 8 (u .1 .1 .1 .1 .1 .1 .1 .1 .1 .1 .1 .0) (u .1 .1 .1 .1 .1 .1 .1 .1 .1 .1 .1 .0) (At.getAt (NoticeWritten.the-type .parts) 1
-              (NoticeWritten.struct .as-values (u .1 .1 .1 .1 .1 .1 .1 .1 .1 .1 .1 .0))) (At.getAt (NoticeWritten.the-type .parts) 1
-              (NoticeWritten.struct .as-values (u .1 .1 .1 .1 .1 .1 .1 .1 .1 .1 .1 .0))) (Row.hd 0 (Row.tl (Row.tl (Row.tl (Row.tl (Row.tl (Row.tl
-              (Row.tl (Row.tl (Row.tl (Row.tl (Row.tl bs))))))))))), 0,) (Behind.look-at 𝓤 H A W q NoticeWritten.the-type Laws'.the-laws 1 8 Path.refl
-              Path.refl (Row.hd 0 (Row.tl (Row.tl (Row.tl (Row.tl (Row.tl (Row.tl (Row.tl (Row.tl (Row.tl (Row.tl (Row.tl bs))))))))))), 0,) (u .1 .1
-              .1 .1 .1 .1 .1 .1 .1 .1 .1 .0) (NoticeWritten.struct .as-values (u .1 .1 .1 .1 .1 .1 .1 .1 .1 .1 .1 .0)) Path.refl)) (Reads'.room-gone 𝓤
-              H A (Syntax.tyArray (Syntax.tyInt Syntax.w8) 30)) (Yields.makes-mem 𝓤 H A W (λ ρ. Unit) (Array.Array (Referent.rtF (Referent.fInt
-              Syntax.w8)) 30) Path.refl (Rows.arrF (Referent.rtF (Referent.fInt Syntax.w8)) 30 0) (λ x. x) λ ρ told. Whole.arr-mem 𝓤 H A W
+          d30 = Typed.s-seq 𝓤 H A W 𝓣 E G18 G19 b7 b24 Δ0 (Typed.both (s17 bs)) (at29 bs) (WayStmt.t-way-copy-out 𝓤 H A
+              W E 𝓣 (Array.Array (Referent.rtF (Referent.fInt Syntax.w8)) 30) Path.refl (Copies.cArr
+              (Referent.rtF (Referent.fInt Syntax.w8)) (Copies.cRf (Referent.fInt Syntax.w8)) 30 .copy 𝓤 H A W)
+              (λ ρ. Unit) G18 (Row.out 11 (G18 .locals)) (λ u. Row.drop 11 (G18 .locals) u) (G18 .slots) 11
+              (λ t. (Syntax.field 1) ∷ t) (Syntax.tyArray (Syntax.tyInt Syntax.w8) 30)
+              (Syntax.tyArray (Syntax.tyInt Syntax.w8) 30) 12 (Rows.arrF (Referent.rtF (Referent.fInt Syntax.w8)) 30 0)
+              (λ x. x) (λ u. At.getAt (NoticeWritten.the-type .parts) 1 (NoticeWritten.struct .as-values
+              (u .1 .1 .1 .1 .1 .1 .1 .1 .1 .1 .1 .0))) (λ u. (
+                Row.hd 0 (Row.tl (Row.tl (Row.tl (Row.tl (Row.tl (Row.tl
+                    (Row.tl (Row.tl (Row.tl (Row.tl (Row.tl bs))))))))))),
+                Nat._+_ 0 8,
+              )) (λ T′. record {
+                locals = Row.setRow 11 (11, Rows'.whole (Declared'.row NoticeWritten.the-type)) T′;
+                slots = G18 .slots;
+              }) (λ u T′ m′. Row.set 11 (11, Rows'.whole (Declared'.row NoticeWritten.the-type))
+              (u .1 .1 .1 .1 .1 .1 .1 .1 .1 .1 .1 .0) T′ m′) (λ u. Unit) (λ x. Unit) (Own.told-none 𝓤 H A (G18 .slots)) (DerefMove.learns-nothing
+              𝓤 H A (Array.Array (Referent.rtF (Referent.fInt Syntax.w8)) 30)) (λ ρ told u asked. Way'.w-partˢ 𝓤 H A W
+              E (Declared'.row NoticeWritten.the-type) (Array.Array (Referent.rtF (Referent.fInt Syntax.w8)) 30)
+              Laws'.mir (Syntax.tyArray (Syntax.tyInt Syntax.w8) 30) 1 8 (u .1 .1 .1 .1 .1 .1 .1 .1 .1 .1 .1 .0) (At.getAt
+              (NoticeWritten.the-type .parts) 1 (NoticeWritten.struct .as-values
+              (u .1 .1 .1 .1 .1 .1 .1 .1 .1 .1 .1 .0))) (
+                Row.hd 0 (Row.tl (Row.tl (Row.tl (Row.tl (Row.tl (Row.tl
+                    (Row.tl (Row.tl (Row.tl (Row.tl (Row.tl bs))))))))))),
+                0,
+              ) (Way.w-look 𝓤 H A W E (Way.w-local 𝓤 H A W E G18 ρ u (G18 .slots) 11
+              (Declared'.row NoticeWritten.the-type) (Rows'.whole (Declared'.row NoticeWritten.the-type)) (λ x. x)
+              (λ x. x) (u .1 .1 .1 .1 .1 .1 .1 .1 .1 .1 .1 .0) (Local.mem-whole 𝓤 H A W
+              (Declared'.row NoticeWritten.the-type) ρ (u .1 .1 .1 .1 .1 .1 .1 .1 .1 .1 .1 .0) (Row.hd 0 (Row.tl (Row.tl (Row.tl (Row.tl (Row.tl (Row.tl
+              (Row.tl (Row.tl (Row.tl (Row.tl (Row.tl bs))))))))))))) (Local.whole-mem 𝓤 H A W
+              (Declared'.row NoticeWritten.the-type) ρ (u .1 .1 .1 .1 .1 .1 .1 .1 .1 .1 .1 .0) (Row.hd 0 (Row.tl (Row.tl (Row.tl (Row.tl (Row.tl (Row.tl
+              (Row.tl (Row.tl (Row.tl (Row.tl (Row.tl bs))))))))))))))) Path.refl λ q. Items.cut-array 𝓤 H A q
+              (Declared'.row NoticeWritten.the-type) (Referent.rtF (Referent.fInt Syntax.w8)) 30 8
+              (u .1 .1 .1 .1 .1 .1 .1 .1 .1 .1 .1 .0) (u .1 .1 .1 .1 .1 .1 .1 .1 .1 .1 .1 .0) (At.getAt
+              (NoticeWritten.the-type .parts) 1 (NoticeWritten.struct .as-values
+              (u .1 .1 .1 .1 .1 .1 .1 .1 .1 .1 .1 .0))) (At.getAt (NoticeWritten.the-type .parts) 1 (NoticeWritten.struct
+              .as-values (u .1 .1 .1 .1 .1 .1 .1 .1 .1 .1 .1 .0))) (
+                Row.hd 0 (Row.tl (Row.tl (Row.tl (Row.tl (Row.tl (Row.tl
+                    (Row.tl (Row.tl (Row.tl (Row.tl (Row.tl bs))))))))))),
+                0,
+              ) (Behind.look-at 𝓤 H A W q NoticeWritten.the-type Laws'.the-laws 1 8 Path.refl Path.refl (
+                Row.hd 0 (Row.tl (Row.tl (Row.tl (Row.tl (Row.tl (Row.tl
+                    (Row.tl (Row.tl (Row.tl (Row.tl (Row.tl bs))))))))))),
+                0,
+              ) (u .1 .1 .1 .1 .1 .1 .1 .1 .1 .1 .1 .0) (NoticeWritten.struct .as-values
+              (u .1 .1 .1 .1 .1 .1 .1 .1 .1 .1 .1 .0)) Path.refl)) (Reads'.room-gone 𝓤 H A
+              (Syntax.tyArray (Syntax.tyInt Syntax.w8) 30)) (Yields.makes-mem 𝓤 H A W (λ ρ. Unit)
+              (Array.Array (Referent.rtF (Referent.fInt Syntax.w8)) 30) Path.refl
+              (Rows.arrF (Referent.rtF (Referent.fInt Syntax.w8)) 30 0) (λ x. x) λ ρ told. Whole.arr-mem 𝓤 H A W
               (Referent.rtF (Referent.fInt Syntax.w8)) 30 tt ρ) Path.refl Path.refl Path.refl) d29
+
           d31 : Typed.Typed 𝓤 H A 𝓣 E G17 b25 Δ0 (at31 bs)
-          d31 = Typed.g-pre 𝓤 H A W 𝓣 E G17 G18 b25 Δ0 (Typed.pass T17 T18 (s16 bs)) (at30 bs) (Scalar.g-room 𝓤 H A W E G17 6 Laws.mir
-              (Local.room-whole 𝓤 H A W (Declared.row Notice.the-type) Laws.mir Path.refl)) d30
+          d31 = Typed.g-pre 𝓤 H A W 𝓣 E G17 G18 b25 Δ0 (Typed.pass T17 T18 (s16 bs)) (at30 bs) (Scalar.g-room 𝓤 H A W E
+              G17 6 Laws.mir (Local.room-whole 𝓤 H A W (Declared.row Notice.the-type) Laws.mir Path.refl)) d30
+
           d32 : Typed.Typed 𝓤 H A 𝓣 E G16 b26 Δ0 (at32 bs)
-          d32 = Typed.s-seq 𝓤 H A W 𝓣 E G16 G17 b6 b25 Δ0 (Typed.both (s15 bs)) (at31 bs) (Plain.t-call-plain 𝓤 H A W 𝓣 0 ps·2 r·2 (claims· .4)
-              (claims· .5) "hnsr_body::messages::Notice::encode" (known .2) E (λ pos β. β) G16 (record { pos = 6; st = List.[]; d = 0; at = λ x. x },
-              tt) 11 List.[] (Call.sub-id 𝓤 H A W (G16 .slots)) ((Yields.yields-copy 𝓤 H A W (λ ρ. Unit) (Declared.row Notice.the-type) Path.refl
-              (Copies.cEnum Notice.the-type Laws.the-laws Laws.the-copy .copy 𝓤 H A W) (Rows'.whole (Declared.row Notice.the-type)) (λ x. x) (λ x. x)
-              (λ ρ told. Local.mem-whole 𝓤 H A W (Declared.row Notice.the-type) ρ) λ ρ told. Local.whole-mem 𝓤 H A W (Declared.row Notice.the-type) ρ,
-              Path.refl,), tt,) (Reads'.room-gone 𝓤 H A Laws'.mir) tt Path.refl) d31
+          d32 = Typed.s-seq 𝓤 H A W 𝓣 E G16 G17 b6 b25 Δ0 (Typed.both (s15 bs)) (at31 bs) (Plain.t-call-plain 𝓤 H A W 𝓣
+              0 ps·2 r·2 (claims· .4) (claims· .5) "hnsr_body::messages::Notice::encode" (known .2) E (λ pos β. β) G16
+              (record { pos = 6; st = List.[]; d = 0; at = λ x. x }, tt) 11 List.[] (Call.sub-id 𝓤 H A W (G16 .slots)) (
+                (
+                  Yields.yields-copy 𝓤 H A W (λ ρ. Unit) (Declared.row Notice.the-type) Path.refl (Copies.cEnum
+                      Notice.the-type Laws.the-laws Laws.the-copy .copy 𝓤 H A W)
+                      (Rows'.whole (Declared.row Notice.the-type)) (λ x. x) (λ x. x) (λ ρ told. Local.mem-whole 𝓤 H A W
+                      (Declared.row Notice.the-type) ρ) λ ρ told. Local.whole-mem 𝓤 H A W
+                      (Declared.row Notice.the-type) ρ,
+                  Path.refl,
+                ),
+                tt,
+              ) (Reads'.room-gone 𝓤 H A Laws'.mir) tt Path.refl) d31
+
           d33 : Typed.Typed 𝓤 H A 𝓣 E G15 b26 Δ0 (at33 bs)
-          d33 = Typed.g-pre 𝓤 H A W 𝓣 E G15 G16 b26 Δ0 (λ Ψ. Ψ) (at32 bs) (Lifetime.g-forget 𝓤 H A W E G15 2 Row.dead Path.refl) d32
+          d33 = Typed.g-pre 𝓤 H A W 𝓣 E G15 G16 b26 Δ0 (λ Ψ. Ψ) (at32 bs)
+              (Lifetime.g-forget 𝓤 H A W E G15 2 Row.dead Path.refl) d32
+
           d34 : Typed.Typed 𝓤 H A 𝓣 E G14 b26 Δ0 (at34 bs)
-          d34 = Typed.g-pre 𝓤 H A W 𝓣 E G14 G15 b26 Δ0 (Typed.pass T13 T15 (s13 bs)) (at33 bs) (Reshare.g-back-sl-shr 𝓤 H A W E InflightAction.row G14
-              1 0 2 ref5 life0 (λ x. x) (Reads'.as-is 𝓤 H A (Reshare.mslice-owedS InflightAction.row ref5 0 2 life0)) Path.refl Path.refl) d33
+          d34 = Typed.g-pre 𝓤 H A W 𝓣 E G14 G15 b26 Δ0 (Typed.pass T13 T15 (s13 bs)) (at33 bs) (Reshare.g-back-sl-shr 𝓤
+              H A W E InflightAction.row G14 1 0 2 ref5 life0 (λ x. x) (Reads'.as-is 𝓤 H A
+              (Reshare.mslice-owedS InflightAction.row ref5 0 2 life0)) Path.refl Path.refl) d33
+
           d35 : Typed.Typed 𝓤 H A 𝓣 E G13 b26 Δ0 (at35 bs)
-          d35 = Typed.g-pre 𝓤 H A W 𝓣 E G13 G14 b26 Δ0 (λ Ψ. Ψ) (at34 bs) (Lifetime.g-end 𝓤 H A W E G13 2 Path.refl) d34
+          d35 = Typed.g-pre 𝓤 H A W 𝓣 E G13 G14 b26 Δ0 (λ Ψ. Ψ) (at34 bs) (Lifetime.g-end 𝓤 H A W E G13 2 Path.refl)
+              d34
+
           d36 : Typed.Typed 𝓤 H A 𝓣 E G12 b26 Δ0 (at36 bs)
-          d36 = Typed.g-pre 𝓤 H A W 𝓣 E G12 G13 b26 Δ0 (Typed.pass T12 T13 (s11 bs)) (at35 bs) (Scalar.g-room 𝓤 H A W E G12 9 Laws'''.mir
-              (Local.room-whole 𝓤 H A W (Declared'.row ActionQuestion.the-type) Laws'''.mir Path.refl)) d35
+          d36 = Typed.g-pre 𝓤 H A W 𝓣 E G12 G13 b26 Δ0 (Typed.pass T12 T13 (s11 bs)) (at35 bs) (Scalar.g-room 𝓤 H A W E
+              G12 9 Laws'''.mir (Local.room-whole 𝓤 H A W (Declared'.row ActionQuestion.the-type) Laws'''.mir
+              Path.refl)) d35
+
           d37 : Typed.Typed 𝓤 H A 𝓣 E G11 b26 Δ0 (at37 bs)
-          d37 = Typed.g-pre 𝓤 H A W 𝓣 E G11 G12 b26 Δ0 (Typed.pass T11 T12 (s10 bs)) (at36 bs) (Scalar.g-room 𝓤 H A W E G11 8 Laws''.mir
-              (Local.room-whole 𝓤 H A W (Declared'.row Places.the-type) Laws''.mir Path.refl)) d36
+          d37 = Typed.g-pre 𝓤 H A W 𝓣 E G11 G12 b26 Δ0 (Typed.pass T11 T12 (s10 bs)) (at36 bs) (Scalar.g-room 𝓤 H A W E
+              G11 8 Laws''.mir (Local.room-whole 𝓤 H A W (Declared'.row Places.the-type) Laws''.mir Path.refl)) d36
+
           d38 : Typed.Typed 𝓤 H A 𝓣 E G10 b26 Δ0 (at38 bs)
-          d38 = Typed.g-pre 𝓤 H A W 𝓣 E G10 G11 b26 Δ0 (Typed.pass T10 T11 (s9 bs)) (at37 bs) (Scalar.g-room 𝓤 H A W E G10 15 (Syntax.tyStruct (38 ∷
-              91 ∷ 93 ∷ List.[]) (Syntax.tcons ref0 (Syntax.tcons (Syntax.tyInt Syntax.w64) Syntax.tnil))) (Shared.room-sslice 𝓤 H A W
-              InflightAction.row ref0 2)) d37
+          d38 = Typed.g-pre 𝓤 H A W 𝓣 E G10 G11 b26 Δ0 (Typed.pass T10 T11 (s9 bs)) (at37 bs) (Scalar.g-room 𝓤 H A W E
+              G10 15 slice0 (Shared.room-sslice 𝓤 H A W InflightAction.row ref0 2)) d37
+
           d39 : Typed.Typed 𝓤 H A 𝓣 E G9 b27 Δ0 (at39 bs)
-          d39 = Typed.s-seq 𝓤 H A W 𝓣 E G9 G10 b5 b26 Δ0 (Typed.both (s8 bs)) (at38 bs) (Plain.t-call-plain 𝓤 H A W 𝓣 1 ps·1 r·1 (claims· .2) (claims·
-              .3) "hnsr_circuit::tables::inflight::scan_actions" (known .1) E (λ pos β. β) G9 (record { pos = 15; ty = Syntax.tyRef Syntax.erased
-              Syntax.imm InflightAction.to; ref = λ x. x; }, (record { pos = 8; st = List.[]; d = 0; at = λ x. x }, (record { pos = 9; st = List.[]; d
-              = 0; at = λ x. x }, tt),),) 10 (2 ∷ List.[]) (Call.sub-id 𝓤 H A W (G9 .slots)) (ShrSlice.spares-sslice 𝓤 H A W InflightAction.row ref0
-              2, Shared.reads-sslice 𝓤 H A W InflightAction.row ref0 2, Path.refl, ((Yields.yields-copy 𝓤 H A W (λ ρ. Unit) (Declared'.row
-              Places.the-type) Path.refl (Copies.cStruct Places.the-type Laws''.the-laws Laws''.the-copy .copy 𝓤 H A W) (Rows'.whole (Declared'.row
-              Places.the-type)) (λ x. x) (λ x. x) (λ ρ told. Local.mem-whole 𝓤 H A W (Declared'.row Places.the-type) ρ) λ ρ told. Local.whole-mem 𝓤 H
-              A W (Declared'.row Places.the-type) ρ, Path.refl,), ((Yields.yields-copy 𝓤 H A W (λ ρ. Unit) (Declared'.row ActionQuestion.the-type)
-              Path.refl (Copies.cStruct ActionQuestion.the-type Laws'''.the-laws Laws'''.the-copy .copy 𝓤 H A W) (Rows'.whole (Declared'.row
-              ActionQuestion.the-type)) (λ x. x) (λ x. x) (λ ρ told. Local.mem-whole 𝓤 H A W (Declared'.row ActionQuestion.the-type) ρ) λ ρ told.
-              Local.whole-mem 𝓤 H A W (Declared'.row ActionQuestion.the-type) ρ, Path.refl,), tt,),),) (Reads'.room-gone 𝓤 H A Laws''''.mir) (tt, tt)
-              Path.refl) d38
+          d39 = Typed.s-seq 𝓤 H A W 𝓣 E G9 G10 b5 b26 Δ0 (Typed.both (s8 bs)) (at38 bs) (Plain.t-call-plain 𝓤 H A W 𝓣 1
+              ps·1 r·1 (claims· .2) (claims· .3) "hnsr_circuit::tables::inflight::scan_actions" (known .1) E
+              (λ pos β. β) G9 (
+                record { pos = 15; ty = ref0; ref = λ x. x },
+                (
+                  record { pos = 8; st = List.[]; d = 0; at = λ x. x },
+                  (record { pos = 9; st = List.[]; d = 0; at = λ x. x }, tt),
+                ),
+              ) 10 (2 ∷ List.[]) (Call.sub-id 𝓤 H A W (G9 .slots)) (
+                ShrSlice.spares-sslice 𝓤 H A W InflightAction.row ref0 2,
+                Shared.reads-sslice 𝓤 H A W InflightAction.row ref0 2,
+                Path.refl,
+                (
+                  (
+                    Yields.yields-copy 𝓤 H A W (λ ρ. Unit) (Declared'.row Places.the-type) Path.refl (Copies.cStruct
+                        Places.the-type Laws''.the-laws Laws''.the-copy .copy 𝓤 H A W)
+                        (Rows'.whole (Declared'.row Places.the-type)) (λ x. x) (λ x. x) (λ ρ told. Local.mem-whole 𝓤 H
+                        A W (Declared'.row Places.the-type) ρ) λ ρ told. Local.whole-mem 𝓤 H A W
+                        (Declared'.row Places.the-type) ρ,
+                    Path.refl,
+                  ),
+                  (
+                    (
+                      Yields.yields-copy 𝓤 H A W (λ ρ. Unit) (Declared'.row ActionQuestion.the-type) Path.refl (Copies.cStruct
+                          ActionQuestion.the-type Laws'''.the-laws Laws'''.the-copy .copy 𝓤 H A W)
+                          (Rows'.whole (Declared'.row ActionQuestion.the-type)) (λ x. x) (λ x. x) (λ ρ told.
+                          Local.mem-whole 𝓤 H A W (Declared'.row ActionQuestion.the-type) ρ) λ ρ told. Local.whole-mem
+                          𝓤 H A W (Declared'.row ActionQuestion.the-type) ρ,
+                      Path.refl,
+                    ),
+                    tt,
+                  ),
+                ),
+              ) (Reads'.room-gone 𝓤 H A Laws''''.mir) (tt, tt) Path.refl) d38
+
           d40 : Typed.Typed 𝓤 H A 𝓣 E G8 b28 Δ0 (at40 bs)
-          d40 = Typed.s-seq 𝓤 H A W 𝓣 E G8 G9 b4 b27 Δ0 (Typed.ask (s7 bs)) (at39 bs) (Relend.t-sl-aggregate 𝓤 H A W E InflightAction.row 𝓣
-              (Relend.asShr InflightAction.row) G8 14 15 2 ref0 ref0 (λ x. x) (Scalar.oFld 1 ((Syntax.field 1) ∷ List.[]) (Syntax.tyInt Syntax.w64) 8
-              λ v. Shared.lenV (v .0)) (Reads'.as-is 𝓤 H A (Relend.ssptr InflightAction.row ref0 2)) (Reads'.room-gone 𝓤 H A (Syntax.tyStruct (38 ∷ 91
-              ∷ 93 ∷ List.[]) (Syntax.tcons ref0 (Syntax.tcons (Syntax.tyInt Syntax.w64) Syntax.tnil)))) (Reshare.reads-owedS-len 𝓤 H A W
-              InflightAction.row ref5 0 2 life0 8 Path.refl, Path.refl,) Path.refl Path.refl λ b o k. tt) d39
+          d40 = Typed.s-seq 𝓤 H A W 𝓣 E G8 G9 b4 b27 Δ0 (Typed.ask (s7 bs)) (at39 bs) (Relend.t-sl-aggregate 𝓤 H A W E
+              InflightAction.row 𝓣 (Relend.asShr InflightAction.row) G8 14 15 2 ref0 ref0 (λ x. x) (Scalar.oFld 1
+              ((Syntax.field 1) ∷ List.[]) (Syntax.tyInt Syntax.w64) 8 λ v. Shared.lenV (v .0)) (Reads'.as-is 𝓤 H A
+              (Relend.ssptr InflightAction.row ref0 2)) (Reads'.room-gone 𝓤 H A slice0) (
+                Reshare.reads-owedS-len 𝓤 H A W InflightAction.row ref5 0 2 life0 8 Path.refl,
+                Path.refl,
+              ) Path.refl Path.refl λ b o k. tt) d39
+
           d41 : Typed.Typed 𝓤 H A 𝓣 E G7 b29 Δ0 (at41 bs)
-          d41 = Typed.s-seq 𝓤 H A W 𝓣 E G7 G8 b3 b28 Δ0 (Typed.give (s6 bs)) (at40 bs) (Reshare.t-sl-reshare 𝓤 H A W E InflightAction.row 𝓣 G7 1 14 0
-              2 ref5 ref0 life0 0 (λ x. x) (Reads'.as-is 𝓤 H A (Mut.mslice InflightAction.row ref5 0)) (Reads'.room-gone 𝓤 H A ref0) Path.refl tt
+          d41 = Typed.s-seq 𝓤 H A W 𝓣 E G7 G8 b3 b28 Δ0 (Typed.give (s6 bs)) (at40 bs) (Reshare.t-sl-reshare 𝓤 H A W E
+              InflightAction.row 𝓣 G7 1 14 0 2 ref5 ref0 life0 0 (λ x. x)
+              (Reads'.as-is 𝓤 H A (Mut.mslice InflightAction.row ref5 0)) (Reads'.room-gone 𝓤 H A ref0) Path.refl tt
               Path.refl Path.refl Path.refl λ b o. tt) d40
+
           d42 : Typed.Typed 𝓤 H A 𝓣 E G6 b29 Δ0 (at42 bs)
-          d42 = Typed.g-pre 𝓤 H A W 𝓣 E G6 G7 b29 Δ0 (λ Ψ. Ψ) (at41 bs) (Lifetime.g-begin 𝓤 H A W E G6 2 (tt, (tt, (tt, (tt, (tt, (tt, (tt, (tt, (tt,
-              (tt, (tt, (tt, (tt, (tt, (tt, (tt, (tt, (tt, (tt, (tt, (tt, (tt, tt))))))),),),),),),),),),),),),),),),)) d41
+          d42 = Typed.g-pre 𝓤 H A W 𝓣 E G6 G7 b29 Δ0 (λ Ψ. Ψ) (at41 bs) (Lifetime.g-begin 𝓤 H A W E G6 2 (
+            tt,
+            (
+              tt,
+              (
+                tt,
+                (
+                  tt,
+                  (
+                    tt,
+                    (
+                      tt,
+                      (
+                        tt,
+                        (tt, (tt, (tt, (tt, (tt, (tt, (tt, (tt, (tt, (tt, (tt, (tt, (tt, (tt, (tt, tt))))))))))))))),
+                      ),
+                    ),
+                  ),
+                ),
+              ),
+            ),
+          )) d41
+
           d43 : Typed.Typed 𝓤 H A 𝓣 E G5 b29 Δ0 (at43 bs)
-          d43 = Typed.g-pre 𝓤 H A W 𝓣 E G5 G6 b29 Δ0 (Typed.pass T5 T6 (s4 bs)) (at42 bs) (Scalar.g-room 𝓤 H A W E G5 7 Laws''''''.mir
-              (Local.room-whole 𝓤 H A W (Declared'.row OpaqueRelayRuntime.the-type) Laws''''''.mir Path.refl)) d42
+          d43 = Typed.g-pre 𝓤 H A W 𝓣 E G5 G6 b29 Δ0 (Typed.pass T5 T6 (s4 bs)) (at42 bs) (Scalar.g-room 𝓤 H A W E G5 7
+              Laws''''''.mir (Local.room-whole 𝓤 H A W (Declared'.row OpaqueRelayRuntime.the-type) Laws''''''.mir
+              Path.refl)) d42
+
           d44 : Typed.Typed 𝓤 H A 𝓣 E G4 b30 Δ0 (at44 bs)
-          d44 = Typed.s-seq 𝓤 H A W 𝓣 E G4 G5 b2 b29 Δ0 (Typed.both (s3 bs)) (at43 bs) (Plain.t-call-plain 𝓤 H A W 𝓣 0 ps·0 r·0 (claims· .0) (claims·
-              .1) "hnsr_circuit::queue::asking" (known .0) E (λ pos β. β) G4 (record { pos = 7; st = List.[]; d = 0; at = λ x. x }, (record { pos = 5;
-              st = List.[]; d = 0; at = λ x. x }, tt),) 9 List.[] (Call.sub-id 𝓤 H A W (G4 .slots)) ((Yields.yields-copy 𝓤 H A W (λ ρ. Unit)
-              (Declared'.row OpaqueRelayRuntime.the-type) Path.refl (Copies.cStruct OpaqueRelayRuntime.the-type Laws''''''.the-laws
-              Laws''''''.the-copy .copy 𝓤 H A W) (Rows'.whole (Declared'.row OpaqueRelayRuntime.the-type)) (λ x. x) (λ x. x) (λ ρ told.
-              Local.mem-whole 𝓤 H A W (Declared'.row OpaqueRelayRuntime.the-type) ρ) λ ρ told. Local.whole-mem 𝓤 H A W (Declared'.row
-              OpaqueRelayRuntime.the-type) ρ, Path.refl,), ((Yields.yields-copy 𝓤 H A W (λ ρ. Unit) (Declared'.row Outgoing.the-type) Path.refl
-              (Copies.cStruct Outgoing.the-type Laws'''''.the-laws Laws'''''.the-copy .copy 𝓤 H A W) (Rows'.whole (Declared'.row Outgoing.the-type))
-              (λ x. x) (λ x. x) (λ ρ told. Local.mem-whole 𝓤 H A W (Declared'.row Outgoing.the-type) ρ) λ ρ told. Local.whole-mem 𝓤 H A W
-              (Declared'.row Outgoing.the-type) ρ, Path.refl,), tt,),) (Reads'.room-gone 𝓤 H A Laws'''.mir) tt Path.refl) d43
+          d44 = Typed.s-seq 𝓤 H A W 𝓣 E G4 G5 b2 b29 Δ0 (Typed.both (s3 bs)) (at43 bs) (Plain.t-call-plain 𝓤 H A W 𝓣 0
+              ps·0 r·0 (claims· .0) (claims· .1) "hnsr_circuit::queue::asking" (known .0) E (λ pos β. β) G4 (
+                record { pos = 7; st = List.[]; d = 0; at = λ x. x },
+                (record { pos = 5; st = List.[]; d = 0; at = λ x. x }, tt),
+              ) 9 List.[] (Call.sub-id 𝓤 H A W (G4 .slots)) (
+                (
+                  Yields.yields-copy 𝓤 H A W (λ ρ. Unit) (Declared'.row OpaqueRelayRuntime.the-type) Path.refl (Copies.cStruct
+                      OpaqueRelayRuntime.the-type Laws''''''.the-laws Laws''''''.the-copy .copy 𝓤 H A W)
+                      (Rows'.whole (Declared'.row OpaqueRelayRuntime.the-type)) (λ x. x) (λ x. x) (λ ρ told.
+                      Local.mem-whole 𝓤 H A W (Declared'.row OpaqueRelayRuntime.the-type) ρ) λ ρ told. Local.whole-mem
+                      𝓤 H A W (Declared'.row OpaqueRelayRuntime.the-type) ρ,
+                  Path.refl,
+                ),
+                (
+                  (
+                    Yields.yields-copy 𝓤 H A W (λ ρ. Unit) (Declared'.row Outgoing.the-type) Path.refl (Copies.cStruct
+                        Outgoing.the-type Laws'''''.the-laws Laws'''''.the-copy .copy 𝓤 H A W)
+                        (Rows'.whole (Declared'.row Outgoing.the-type)) (λ x. x) (λ x. x) (λ ρ told. Local.mem-whole 𝓤
+                        H A W (Declared'.row Outgoing.the-type) ρ) λ ρ told. Local.whole-mem 𝓤 H A W
+                        (Declared'.row Outgoing.the-type) ρ,
+                    Path.refl,
+                  ),
+                  tt,
+                ),
+              ) (Reads'.room-gone 𝓤 H A Laws'''.mir) tt Path.refl) d43
+
           d45 : Typed.Typed 𝓤 H A 𝓣 E G3 b31 Δ0 (at45 bs)
-          d45 = Typed.s-seq 𝓤 H A W 𝓣 E G3 G4 b1 b30 Δ0 (Typed.both (s2 bs)) (at44 bs) (WayStmt.t-way-copy-out 𝓤 H A W E 𝓣 (Declared'.row
-              Places.the-type) Path.refl (Copies.cStruct Places.the-type Laws''.the-laws Laws''.the-copy .copy 𝓤 H A W) (λ ρ. Unit) G3 (Row.out 4 (G3
-              .locals)) (λ u. Row.drop 4 (G3 .locals) u) (G3 .slots) 4 (λ t. (Syntax.field 2) ∷ t) Laws''.mir Laws''.mir 8 (Rows'.whole (Declared'.row
-              Places.the-type)) (λ x. x) (λ u. At.getAt (Sending.the-type .parts) 2 (Sending.struct .as-values (u .1 .1 .1 .1 .0))) (λ u. (Row.hd 0
-              (Row.tl (Row.tl (Row.tl (Row.tl bs)))), Nat._+_ 0 168)) (λ T′. record { locals = Row.setRow 4 (4, Rows'.whole (Declared'.row
-              Sending.the-type)) T′; slots = G3 .slots; }) (λ u T′ m′. Row.set 4 (4, Rows'.whole (Declared'.row Sending.the-type)) (u .1 .1 .1 .1 .0)
-              T′ m′) (λ u. Unit) (λ x. Unit) (Own.told-none 𝓤 H A (G3 .slots)) (DerefMove.learns-nothing 𝓤 H A (Declared'.row Places.the-type)) (λ ρ
-              told u asked. Way'.w-partˢ 𝓤 H A W E (Declared'.row Sending.the-type) (Declared'.row Places.the-type) Laws'''''''.mir Laws''.mir 2 168
-              (u .1 .1 .1 .1 .0) (At.getAt (Sending.the-type .parts) 2 (Sending.struct .as-values (u .1 .1 .1 .1 .0))) (Row.hd 0 (Row.tl (Row.tl
-              (Row.tl (Row.tl bs)))), 0) (Way.w-look 𝓤 H A W E (Way.w-local 𝓤 H A W E G3 ρ u (G3 .slots) 4 (Declared'.row Sending.the-type)
-              (Rows'.whole (Declared'.row Sending.the-type)) (λ x. x) (λ x. x) (u .1 .1 .1 .1 .0) (Local.mem-whole 𝓤 H A W (Declared'.row
-              Sending.the-type) ρ (u .1 .1 .1 .1 .0) (Row.hd 0 (Row.tl (Row.tl (Row.tl (Row.tl bs)))))) (Local.whole-mem 𝓤 H A W (Declared'.row
-              Sending.the-type) ρ (u .1 .1 .1 .1 .0) (Row.hd 0 (Row.tl (Row.tl (Row.tl (Row.tl bs)))))))) Path.refl λ q. Inner.cut-record 𝓤 H A q
-              (Declared'.row Sending.the-type) Places.the-type 168 (u .1 .1 .1 .1 .0) (u .1 .1 .1 .1 .0) (At.getAt (Sending.the-type .parts) 2
-              (Sending.struct .as-values (u .1 .1 .1 .1 .0))) (At.getAt (Sending.the-type .parts) 2 (Sending.struct .as-values (u .1 .1 .1 .1 .0)))
-              (Row.hd 0 (Row.tl (Row.tl (Row.tl (Row.tl bs)))), 0) (Behind.look-at 𝓤 H A W q Sending.the-type Laws'''''''.the-laws 2 168 Path.refl
-              Path.refl (Row.hd 0 (Row.tl (Row.tl (Row.tl (Row.tl bs)))), 0) (u .1 .1 .1 .1 .0) (Sending.struct .as-values (u .1 .1 .1 .1 .0))
-              Path.refl)) (Reads'.room-gone 𝓤 H A Laws''.mir) (Yields.makes-mem 𝓤 H A W (λ ρ. Unit) (Declared'.row Places.the-type) Path.refl
-              (Rows'.whole (Declared'.row Places.the-type)) (λ x. x) λ ρ told. Local.whole-mem 𝓤 H A W (Declared'.row Places.the-type) ρ) Path.refl
-              Path.refl Path.refl) d44
+          d45 = Typed.s-seq 𝓤 H A W 𝓣 E G3 G4 b1 b30 Δ0 (Typed.both (s2 bs)) (at44 bs) (WayStmt.t-way-copy-out 𝓤 H A W
+              E 𝓣 (Declared'.row Places.the-type) Path.refl (Copies.cStruct Places.the-type Laws''.the-laws
+              Laws''.the-copy .copy 𝓤 H A W) (λ ρ. Unit) G3 (Row.out 4 (G3 .locals)) (λ u. Row.drop 4 (G3 .locals) u)
+              (G3 .slots) 4 (λ t. (Syntax.field 2) ∷ t) Laws''.mir Laws''.mir 8
+              (Rows'.whole (Declared'.row Places.the-type)) (λ x. x) (λ u. At.getAt (Sending.the-type .parts) 2
+              (Sending.struct .as-values (u .1 .1 .1 .1 .0))) (λ u. (
+                Row.hd 0 (Row.tl (Row.tl (Row.tl (Row.tl bs)))),
+                Nat._+_ 0 168,
+              )) (λ T′. record {
+                locals = Row.setRow 4 (4, Rows'.whole (Declared'.row Sending.the-type)) T′;
+                slots = G3 .slots;
+              }) (λ u T′ m′. Row.set 4 (4, Rows'.whole (Declared'.row Sending.the-type)) (u .1 .1 .1 .1 .0) T′ m′)
+              (λ u. Unit) (λ x. Unit) (Own.told-none 𝓤 H A (G3 .slots)) (DerefMove.learns-nothing 𝓤 H A
+              (Declared'.row Places.the-type)) (λ ρ told u asked. Way'.w-partˢ 𝓤 H A W E
+              (Declared'.row Sending.the-type) (Declared'.row Places.the-type) Laws'''''''.mir Laws''.mir 2 168
+              (u .1 .1 .1 .1 .0) (At.getAt (Sending.the-type .parts) 2 (Sending.struct .as-values (u .1 .1 .1 .1 .0)))
+              (Row.hd 0 (Row.tl (Row.tl (Row.tl (Row.tl bs)))), 0) (Way.w-look 𝓤 H A W E (Way.w-local 𝓤 H A W E G3 ρ u
+              (G3 .slots) 4 (Declared'.row Sending.the-type) (Rows'.whole (Declared'.row Sending.the-type)) (λ x. x)
+              (λ x. x) (u .1 .1 .1 .1 .0) (Local.mem-whole 𝓤 H A W (Declared'.row Sending.the-type) ρ
+              (u .1 .1 .1 .1 .0) (Row.hd 0 (Row.tl (Row.tl (Row.tl (Row.tl bs)))))) (Local.whole-mem 𝓤 H A W
+              (Declared'.row Sending.the-type) ρ (u .1 .1 .1 .1 .0) (Row.hd 0 (Row.tl (Row.tl (Row.tl (Row.tl bs))))))))
+              Path.refl λ q. Inner.cut-record 𝓤 H A q (Declared'.row Sending.the-type) Places.the-type 168
+              (u .1 .1 .1 .1 .0) (u .1 .1 .1 .1 .0) (At.getAt (Sending.the-type .parts) 2
+              (Sending.struct .as-values (u .1 .1 .1 .1 .0))) (At.getAt (Sending.the-type .parts) 2
+              (Sending.struct .as-values (u .1 .1 .1 .1 .0))) (Row.hd 0 (Row.tl (Row.tl (Row.tl (Row.tl bs)))), 0) (Behind.look-at
+              𝓤 H A W q Sending.the-type Laws'''''''.the-laws 2 168 Path.refl Path.refl
+              (Row.hd 0 (Row.tl (Row.tl (Row.tl (Row.tl bs)))), 0) (u .1 .1 .1 .1 .0)
+              (Sending.struct .as-values (u .1 .1 .1 .1 .0)) Path.refl)) (Reads'.room-gone 𝓤 H A Laws''.mir) (Yields.makes-mem
+              𝓤 H A W (λ ρ. Unit) (Declared'.row Places.the-type) Path.refl
+              (Rows'.whole (Declared'.row Places.the-type)) (λ x. x) λ ρ told. Local.whole-mem 𝓤 H A W
+              (Declared'.row Places.the-type) ρ) Path.refl Path.refl Path.refl) d44
+
           d46 : Typed.Typed 𝓤 H A 𝓣 E G2 b32 Δ0 (at46 bs)
-          d46 = Typed.s-seq 𝓤 H A W 𝓣 E G2 G3 b0 b31 Δ0 (Typed.both (s1 bs)) (at45 bs) (WayStmt.t-way-copy-out 𝓤 H A W E 𝓣 (Declared'.row
-              OpaqueRelayRuntime.the-type) Path.refl (Copies.cStruct OpaqueRelayRuntime.the-type Laws''''''.the-laws Laws''''''.the-copy .copy 𝓤 H A
-              W) (λ ρ. Unit) G2 (Row.out 4 (G2 .locals)) (λ u. Row.drop 4 (G2 .locals) u) (G2 .slots) 4 (λ t. (Syntax.field 0) ∷ t) Laws''''''.mir
-              Laws''''''.mir 7 (Rows'.whole (Declared'.row OpaqueRelayRuntime.the-type)) (λ x. x) (λ u. At.getAt (Sending.the-type .parts) 0
-              (Sending.struct .as-values (u .1 .1 .1 .1 .0))) (λ u. (Row.hd 0 (Row.tl (Row.tl (Row.tl (Row.tl bs)))), Nat._+_ 0 0)) (λ T′. record {
-              locals = Row.setRow 4 (4, Rows'.whole (Declared'.row Sending.the-type)) T′; slots = G2 .slots; }) (λ u T′ m′. Row.set 4 (4, Rows'.whole
-              (Declared'.row Sending.the-type)) (u .1 .1 .1 .1 .0) T′ m′) (λ u. Unit) (λ x. Unit) (Own.told-none 𝓤 H A (G2 .slots))
-              (DerefMove.learns-nothing 𝓤 H A (Declared'.row OpaqueRelayRuntime.the-type)) (λ ρ told u asked. Way'.w-partˢ 𝓤 H A W E (Declared'.row
-              Sending.the-type) (Declared'.row OpaqueRelayRuntime.the-type) Laws'''''''.mir Laws''''''.mir 0 0 (u .1 .1 .1 .1 .0) (At.getAt
-              (Sending.the-type .parts) 0 (Sending.struct .as-values (u .1 .1 .1 .1 .0))) (Row.hd 0 (Row.tl (Row.tl (Row.tl (Row.tl bs)))), 0)
-              (Way.w-look 𝓤 H A W E (Way.w-local 𝓤 H A W E G2 ρ u (G2 .slots) 4 (Declared'.row Sending.the-type) (Rows'.whole (Declared'.row
-              Sending.the-type)) (λ x. x) (λ x. x) (u .1 .1 .1 .1 .0) (Local.mem-whole 𝓤 H A W (Declared'.row Sending.the-type) ρ (u .1 .1 .1 .1 .0)
-              (Row.hd 0 (Row.tl (Row.tl (Row.tl (Row.tl bs)))))) (Local.whole-mem 𝓤 H A W (Declared'.row Sending.the-type) ρ (u .1 .1 .1 .1 .0)
-              (Row.hd 0 (Row.tl (Row.tl (Row.tl (Row.tl bs)))))))) Path.refl λ q. Inner.cut-record 𝓤 H A q (Declared'.row Sending.the-type)
-              OpaqueRelayRuntime.the-type 0 (u .1 .1 .1 .1 .0) (u .1 .1 .1 .1 .0) (At.getAt (Sending.the-type .parts) 0 (Sending.struct .as-values (u
-              .1 .1 .1 .1 .0))) (At.getAt (Sending.the-type .parts) 0 (Sending.struct .as-values (u .1 .1 .1 .1 .0))) (Row.hd 0 (Row.tl (Row.tl
-              (Row.tl (Row.tl bs)))), 0) (Behind.look-at 𝓤 H A W q Sending.the-type Laws'''''''.the-laws 0 0 Path.refl Path.refl (Row.hd 0 (Row.tl
-              (Row.tl (Row.tl (Row.tl bs)))), 0,) (u .1 .1 .1 .1 .0) (Sending.struct .as-values (u .1 .1 .1 .1 .0)) Path.refl)) (Reads'.room-gone 𝓤 H
-              A Laws''''''.mir) (Yields.makes-mem 𝓤 H A W (λ ρ. Unit) (Declared'.row OpaqueRelayRuntime.the-type) Path.refl (Rows'.whole
-              (Declared'.row OpaqueRelayRuntime.the-type)) (λ x. x) λ ρ told. Local.whole-mem 𝓤 H A W (Declared'.row OpaqueRelayRuntime.the-type) ρ)
-              Path.refl Path.refl Path.refl) d45
+          d46 = Typed.s-seq 𝓤 H A W 𝓣 E G2 G3 b0 b31 Δ0 (Typed.both (s1 bs)) (at45 bs) (WayStmt.t-way-copy-out 𝓤 H A W
+              E 𝓣 (Declared'.row OpaqueRelayRuntime.the-type) Path.refl (Copies.cStruct OpaqueRelayRuntime.the-type
+              Laws''''''.the-laws Laws''''''.the-copy .copy 𝓤 H A W) (λ ρ. Unit) G2 (Row.out 4 (G2 .locals))
+              (λ u. Row.drop 4 (G2 .locals) u) (G2 .slots) 4 (λ t. (Syntax.field 0) ∷ t) Laws''''''.mir Laws''''''.mir
+              7 (Rows'.whole (Declared'.row OpaqueRelayRuntime.the-type)) (λ x. x) (λ u. At.getAt
+              (Sending.the-type .parts) 0 (Sending.struct .as-values (u .1 .1 .1 .1 .0))) (λ u. (
+                Row.hd 0 (Row.tl (Row.tl (Row.tl (Row.tl bs)))),
+                Nat._+_ 0 0,
+              )) (λ T′. record {
+                locals = Row.setRow 4 (4, Rows'.whole (Declared'.row Sending.the-type)) T′;
+                slots = G2 .slots;
+              }) (λ u T′ m′. Row.set 4 (4, Rows'.whole (Declared'.row Sending.the-type)) (u .1 .1 .1 .1 .0) T′ m′)
+              (λ u. Unit) (λ x. Unit) (Own.told-none 𝓤 H A (G2 .slots)) (DerefMove.learns-nothing 𝓤 H A
+              (Declared'.row OpaqueRelayRuntime.the-type)) (λ ρ told u asked. Way'.w-partˢ 𝓤 H A W E
+              (Declared'.row Sending.the-type) (Declared'.row OpaqueRelayRuntime.the-type) Laws'''''''.mir
+              Laws''''''.mir 0 0 (u .1 .1 .1 .1 .0) (At.getAt (Sending.the-type .parts) 0
+              (Sending.struct .as-values (u .1 .1 .1 .1 .0))) (Row.hd 0 (Row.tl (Row.tl (Row.tl (Row.tl bs)))), 0) (Way.w-look
+              𝓤 H A W E (Way.w-local 𝓤 H A W E G2 ρ u (G2 .slots) 4 (Declared'.row Sending.the-type)
+              (Rows'.whole (Declared'.row Sending.the-type)) (λ x. x) (λ x. x) (u .1 .1 .1 .1 .0) (Local.mem-whole 𝓤 H
+              A W (Declared'.row Sending.the-type) ρ (u .1 .1 .1 .1 .0)
+              (Row.hd 0 (Row.tl (Row.tl (Row.tl (Row.tl bs)))))) (Local.whole-mem 𝓤 H A W
+              (Declared'.row Sending.the-type) ρ (u .1 .1 .1 .1 .0) (Row.hd 0 (Row.tl (Row.tl (Row.tl (Row.tl bs))))))))
+              Path.refl λ q. Inner.cut-record 𝓤 H A q (Declared'.row Sending.the-type) OpaqueRelayRuntime.the-type 0
+              (u .1 .1 .1 .1 .0) (u .1 .1 .1 .1 .0) (At.getAt (Sending.the-type .parts) 0
+              (Sending.struct .as-values (u .1 .1 .1 .1 .0))) (At.getAt (Sending.the-type .parts) 0
+              (Sending.struct .as-values (u .1 .1 .1 .1 .0))) (Row.hd 0 (Row.tl (Row.tl (Row.tl (Row.tl bs)))), 0) (Behind.look-at
+              𝓤 H A W q Sending.the-type Laws'''''''.the-laws 0 0 Path.refl Path.refl
+              (Row.hd 0 (Row.tl (Row.tl (Row.tl (Row.tl bs)))), 0) (u .1 .1 .1 .1 .0)
+              (Sending.struct .as-values (u .1 .1 .1 .1 .0)) Path.refl)) (Reads'.room-gone 𝓤 H A Laws''''''.mir) (Yields.makes-mem
+              𝓤 H A W (λ ρ. Unit) (Declared'.row OpaqueRelayRuntime.the-type) Path.refl
+              (Rows'.whole (Declared'.row OpaqueRelayRuntime.the-type)) (λ x. x) λ ρ told. Local.whole-mem 𝓤 H A W
+              (Declared'.row OpaqueRelayRuntime.the-type) ρ) Path.refl Path.refl Path.refl) d45
+
           d47 : Typed.Typed 𝓤 H A 𝓣 E G0 b32 Δ0 (at47 bs)
-          d47 = Typed.g-pre 𝓤 H A W 𝓣 E G0 G2 b32 Δ0 (Typed.give (s0 bs)) (at46 bs) (Know.g-sl-known 𝓤 H A W (Referent.fInt Syntax.w32) E G0 2 1 ref6
-              life1 0 (λ x. x) record { fits = Dec.lit< tt } (Reads'.as-is 𝓤 H A (Mut.mslice (Referent.rtF (Referent.fInt Syntax.w32)) ref6 1))
-              Path.refl tt) d46
-          pub typed : Typed.Typed 𝓤 H A 𝓣 E (Function.Γin 2 ps r xs m κs qs) b32 (Function.Δret 2 ps r xs m κs qs) (Φ bs)
+          d47 = Typed.g-pre 𝓤 H A W 𝓣 E G0 G2 b32 Δ0 (Typed.give (s0 bs)) (at46 bs) (Know.g-sl-known 𝓤 H A W
+              (Referent.fInt Syntax.w32) E G0 2 1 ref6 life1 0 (λ x. x) record { fits = Dec.lit< tt } (Reads'.as-is 𝓤 H
+              A (Mut.mslice (Referent.rtF (Referent.fInt Syntax.w32)) ref6 1)) Path.refl tt) d46
+
+          pub typed : Typed.Typed 𝓤 H A 𝓣 E (Function.Γin 2 ps r xs m κs qs) b32 (Function.Δret 2 ps r xs m κs qs)
+              (Φ bs)
           typed = d47
+
       module _ (κs : Lifetimes.Lfts 2) where
         pub record Args : Type 0 where
-          pub inflight : Kinds.Den { n = 2 } κs (MutSlice.pMutS InflightAction.row 0 tt)
-          pub out : Kinds.Den { n = 2 } κs (MutSlice.pMutS (Referent.rtF (Referent.fInt Syntax.w32)) 1 tt)
-          pub go : Kinds.Den { n = 2 } κs Bool.pBool
-          pub sending : Kinds.Den { n = 2 } κs (Value.pVal record { ty = Declared'.row Sending.the-type; one = Path.refl; val = Laws'''''''''.val
-              Sending.the-type Laws'''''''.the-laws; tells = Laws'''''''''.tells Sending.the-type Laws'''''''.the-laws; still = Laws'''''''''.still
-              Sending.the-type Laws'''''''.the-copy Exit.yes; row = Rows'.whole (Declared'.row Sending.the-type); rd = λ x. x; mk = λ x. x; } λ M 𝓤 H
-              A W. record { copies = Laws'''''''''.copy Sending.the-type Laws'''''''.the-copy 𝓤 H A W; lawful = Laws'''''''''.lawful Sending.the-type
-              Laws'''''''.the-laws 𝓤 H A W; makes = Laws'''''''''.makes Sending.the-type Laws'''''''.the-plain 𝓤 H A; in-mem = Local.mem-whole 𝓤 H A W
-              (Declared'.row Sending.the-type); of-mem = Local.whole-mem 𝓤 H A W (Declared'.row Sending.the-type); })
-          pub message : Kinds.Den { n = 2 } κs (Value.pVal record { ty = Declared'.row Outgoing.the-type; one = Path.refl; val = Laws'''''''''.val
-              Outgoing.the-type Laws'''''.the-laws; tells = Laws'''''''''.tells Outgoing.the-type Laws'''''.the-laws; still = Laws'''''''''.still
-              Outgoing.the-type Laws'''''.the-copy Exit.yes; row = Rows'.whole (Declared'.row Outgoing.the-type); rd = λ x. x; mk = λ x. x; } λ M 𝓤 H
-              A W. record { copies = Laws'''''''''.copy Outgoing.the-type Laws'''''.the-copy 𝓤 H A W; lawful = Laws'''''''''.lawful Outgoing.the-type
-              Laws'''''.the-laws 𝓤 H A W; makes = Laws'''''''''.makes Outgoing.the-type Laws'''''.the-plain 𝓤 H A; in-mem = Local.mem-whole 𝓤 H A W
-              (Declared'.row Outgoing.the-type); of-mem = Local.whole-mem 𝓤 H A W (Declared'.row Outgoing.the-type); })
-          pub notice : Kinds.Den { n = 2 } κs (Value.pVal record { ty = Declared.row Notice.the-type; one = Path.refl; val = Laws''''''''.val
-              Notice.the-type Laws.the-laws; tells = Laws''''''''.tells Notice.the-type Laws.the-laws; still = Laws''''''''.still Notice.the-type
-              Laws.the-copy Exit.yes; row = Rows'.whole (Declared.row Notice.the-type); rd = λ x. x; mk = λ x. x; } λ M 𝓤 H A W. record { copies =
-              Laws''''''''.copy Notice.the-type Laws.the-copy 𝓤 H A W; lawful = Laws''''''''.lawful Notice.the-type Laws.the-laws 𝓤 H A W tt; makes =
-              Laws''''''''.makes Notice.the-type Laws.the-plain 𝓤 H A; in-mem = Local.mem-whole 𝓤 H A W (Declared.row Notice.the-type); of-mem =
-              Local.whole-mem 𝓤 H A W (Declared.row Notice.the-type); })
+          pub inflight : Kinds.Den {n = 2} κs (MutSlice.pMutS InflightAction.row 0 tt)
+          pub out : Kinds.Den {n = 2} κs (MutSlice.pMutS (Referent.rtF (Referent.fInt Syntax.w32)) 1 tt)
+          pub go : Kinds.Den {n = 2} κs Bool.pBool
+          pub sending : Kinds.Den {n = 2} κs (StructRow.param Sending.the-type Laws'''''''.the-laws
+              Laws'''''''.the-copy Laws'''''''.the-plain)
+          pub message : Kinds.Den {n = 2} κs (StructRow.param Outgoing.the-type Laws'''''.the-laws Laws'''''.the-copy
+              Laws'''''.the-plain)
+          pub notice : Kinds.Den {n = 2} κs (StructRow.enum-param Notice.the-type Laws.the-laws Laws.the-copy
+              Laws.the-plain tt)
+
         abbrev pub dens : (a : Args) → Kinds.Dens κs ps
-        dens = λ a. (a .inflight, (a .out, (a .go, (a .sending, (a .message, (a .notice, tt))))),)
+        dens = λ a. (a .inflight, (a .out, (a .go, (a .sending, (a .message, (a .notice, tt))))))
+
       abbrev pub m0 : (κs : Lifetimes.Lfts 2) → (args : Args κs) → (blocks : List.List Nat.ℕ) → Typed.Mo T0
       m0 = λ κs args blocks. (tt, Enter.partsP κs 1 ps xs (dens κs args))
+
       abbrev W0 : (κs : Lifetimes.Lfts 2) → (args : Args κs) → (blocks : List.List Nat.ℕ) → Typed.Want O0
-      W0 = λ κs args blocks. (λ u. ⊥, tt, λ u. Enter.Fixs κs 1 ps xs (dens κs args) (u .1) × Post· κs (dens κs args) (Function.resV r κs (u .0))
-          (Clauses.atExit (Kinds.endedOf 2 ps r) κs (dens κs args) (Enter.lastsP κs 1 ps xs (dens κs args) (u .1))),)
+      W0 = λ κs args blocks. (
+        λ u. ⊥,
+        tt,
+        λ u. Enter.Fixs κs 1 ps xs (dens κs args) (u .1) × Post· κs (dens κs args) (Function.resV r κs (u .0)) (Clauses.atExit
+            (Kinds.endedOf 2 ps r) κs (dens κs args) (Enter.lastsP κs 1 ps xs (dens κs args) (u .1))),
+      )
+
       pub record Start : Type 0 where
         pub κs : Lifetimes.Lfts 2
         pub args : Args κs
         pub blocks : List.List Nat.ℕ
         pub good : Kinds.GoodsP κs ps (dens κs args)
         pub pre : Pre· κs (dens κs args)
-      abbrev pub m1 : (before : Start) → (given : s0 (before .blocks) .gives (m0 (before .κs) (before .args) (before .blocks))) → Typed.Mo T2
+
+      abbrev pub m1 : (before : Start) → (given : s0 (before .blocks) .gives
+          (m0 (before .κs) (before .args) (before .blocks))) → Typed.Mo T2
       m1 = λ before given. s0 (before .blocks) .next (m0 (before .κs) (before .args) (before .blocks)) given
+
       module _ (before· : Start) where
         pub record After-slice-known·own : Type 0 where
           pub given : s0 (before· .blocks) .gives (m0 (before· .κs) (before· .args) (before· .blocks))
+
       pub record After-slice-known : Type 0 where
         pub before : Start
         pub slice-known : After-slice-known·own before
-      abbrev pub m2 : (before : After-slice-known) → (given : s1 (before .before .blocks) .gives (m1 (before .before) (before .slice-known .given))) →
-          Typed.Mo T3
+
+      abbrev pub m2 : (before : After-slice-known) → (given : s1 (before .before .blocks) .gives
+          (m1 (before .before) (before .slice-known .given))) → Typed.Mo T3
       m2 = λ before given. s1 (before .before .blocks) .next (m1 (before .before) (before .slice-known .given)) given
+
       module _ (before· : After-slice-known) where
         pub record After-runtime·own : Type 0 where
           pub given : s1 (before· .before .blocks) .gives (m1 (before· .before) (before· .slice-known .given))
+
       pub record After-runtime : Type 0 where
         pub before : After-slice-known
         pub runtime : After-runtime·own before
-      abbrev pub m3 : (before : After-runtime) → (given : s2 (before .before .before .blocks) .gives (m2 (before .before) (before .runtime .given))) →
-          Typed.Mo T4
-      m3 = λ before given. s2 (before .before .before .blocks) .next (m2 (before .before) (before .runtime .given)) given
+
+      abbrev pub m3 : (before : After-runtime) → (given : s2 (before .before .before .blocks) .gives
+          (m2 (before .before) (before .runtime .given))) → Typed.Mo T4
+      m3 = λ before given. s2 (before .before .before .blocks) .next (m2 (before .before) (before .runtime .given))
+          given
+
       module _ (before· : After-runtime) where
         pub record After-places·own : Type 0 where
           pub given : s2 (before· .before .before .blocks) .gives (m2 (before· .before) (before· .runtime .given))
+
       pub record After-places : Type 0 where
         pub before : After-runtime
         pub places : After-places·own before
+
       abbrev pub Need-asking-requires : Type 0
-      Need-asking-requires = (c : After-places) → s3 (c .before .before .before .blocks) .asks (m3 (c .before) (c .places .given))
-      abbrev pub m4 : (before : After-places) → (given : s3 (before .before .before .before .blocks) .gives (m3 (before .before) (before .places
-          .given))) → Typed.Mo T5
-      m4 = λ before given. s3 (before .before .before .before .blocks) .next (m3 (before .before) (before .places .given)) given
+      Need-asking-requires = (c : After-places) → s3 (c .before .before .before .blocks) .asks
+          (m3 (c .before) (c .places .given))
+
+      abbrev pub m4 : (before : After-places) → (given : s3 (before .before .before .before .blocks) .gives
+          (m3 (before .before) (before .places .given))) → Typed.Mo T5
+      m4 = λ before given. s3 (before .before .before .before .blocks) .next
+          (m3 (before .before) (before .places .given)) given
+
       module _ (before· : After-places) where
         abbrev pub After-asking·own : Type 0
-        After-asking·own = Called.Called ps·0 r·0 (claims· .1) T4 (record { pos = 7; st = List.[]; d = 0; at = λ x. x }, (record { pos = 5; st =
-            List.[]; d = 0; at = λ x. x }, tt),) (m3 (before· .before) (before· .places .given))
+        After-asking·own = Called.Called ps·0 r·0 (claims· .1) T4 (
+          record { pos = 7; st = List.[]; d = 0; at = λ x. x },
+          (record { pos = 5; st = List.[]; d = 0; at = λ x. x }, tt),
+        ) (m3 (before· .before) (before· .places .given))
+
       pub record After-asking : Type 0 where
         pub before : After-places
         pub asking : After-asking·own before
-      abbrev pub After-asking·gave : (c : After-asking) → s3 (c .before .before .before .before .blocks) .gives (m3 (c .before .before) (c .before
-          .places .given))
-      After-asking·gave = λ c. Called.given ps·0 r·0 (claims· .1) T4 (record { pos = 7; st = List.[]; d = 0; at = λ x. x }, (record { pos = 5; st =
-          List.[]; d = 0; at = λ x. x }, tt),) (m3 (c .before .before) (c .before .places .given)) (c .asking)
-      abbrev pub m5 : (before : After-places) → (given : s3 (before .before .before .before .blocks) .gives (m3 (before .before) (before .places
-          .given))) → Typed.Mo T6
+
+      abbrev pub After-asking·gave : (c : After-asking) → s3 (c .before .before .before .before .blocks) .gives
+          (m3 (c .before .before) (c .before .places .given))
+      After-asking·gave = λ c. Called.given ps·0 r·0 (claims· .1) T4 (
+        record { pos = 7; st = List.[]; d = 0; at = λ x. x },
+        (record { pos = 5; st = List.[]; d = 0; at = λ x. x }, tt),
+      ) (m3 (c .before .before) (c .before .places .given)) (c .asking)
+
+      abbrev pub m5 : (before : After-places) → (given : s3 (before .before .before .before .blocks) .gives
+          (m3 (before .before) (before .places .given))) → Typed.Mo T6
       m5 = λ before given. s4 (before .before .before .before .blocks) (m4 before given)
-      abbrev pub m6 : (before : After-asking) → (given : s6 (before .before .before .before .before .blocks) .gives (m5 (before .before)
-          (After-asking·gave before))) → Typed.Mo T8
-      m6 = λ before given. s6 (before .before .before .before .before .blocks) .next (m5 (before .before) (After-asking·gave before)) given
-      abbrev pub m7 : (before : After-asking) → (given : s6 (before .before .before .before .before .blocks) .gives (m5 (before .before)
-          (After-asking·gave before))) → Typed.Mo T9
+
+      abbrev pub m6 : (before : After-asking) → (given : s6 (before .before .before .before .before .blocks) .gives
+          (m5 (before .before) (After-asking·gave before))) → Typed.Mo T8
+      m6 = λ before given. s6 (before .before .before .before .before .blocks) .next
+          (m5 (before .before) (After-asking·gave before)) given
+
+      abbrev pub m7 : (before : After-asking) → (given : s6 (before .before .before .before .before .blocks) .gives
+          (m5 (before .before) (After-asking·gave before))) → Typed.Mo T9
       m7 = λ before given. s7 (before .before .before .before .before .blocks) .next (m6 before given)
+
       module _ (before· : After-asking) where
         pub record After-scan-actions-arg·own : Type 0 where
-          pub given : s6 (before· .before .before .before .before .blocks) .gives (m5 (before· .before) (After-asking·gave before·))
+          pub given : s6 (before· .before .before .before .before .blocks) .gives
+              (m5 (before· .before) (After-asking·gave before·))
+
       pub record After-scan-actions-arg : Type 0 where
         pub before : After-asking
         pub scan-actions-arg : After-scan-actions-arg·own before
+
       abbrev pub Need-scan-actions-requires : Type 0
-      Need-scan-actions-requires = (c : After-scan-actions-arg) → s8 (c .before .before .before .before .before .blocks) .asks (m7 (c .before) (c
-          .scan-actions-arg .given))
-      abbrev pub m8 : (before : After-scan-actions-arg) → (given : s8 (before .before .before .before .before .before .blocks) .gives (m7 (before
-          .before) (before .scan-actions-arg .given))) → Typed.Mo T10
-      m8 = λ before given. s8 (before .before .before .before .before .before .blocks) .next (m7 (before .before) (before .scan-actions-arg .given))
-          given
+      Need-scan-actions-requires = (c : After-scan-actions-arg) → s8
+          (c .before .before .before .before .before .blocks) .asks (m7 (c .before) (c .scan-actions-arg .given))
+
+      abbrev pub m8 : (before : After-scan-actions-arg) → (given : s8
+          (before .before .before .before .before .before .blocks) .gives
+          (m7 (before .before) (before .scan-actions-arg .given))) → Typed.Mo T10
+      m8 = λ before given. s8 (before .before .before .before .before .before .blocks) .next
+          (m7 (before .before) (before .scan-actions-arg .given)) given
+
       module _ (before· : After-scan-actions-arg) where
         abbrev pub After-scan-actions·own : Type 0
-        After-scan-actions·own = Called.Called ps·1 r·1 (claims· .3) T9 (record { pos = 15; ty = Syntax.tyRef Syntax.erased Syntax.imm
-            InflightAction.to; ref = λ x. x; }, (record { pos = 8; st = List.[]; d = 0; at = λ x. x }, (record { pos = 9; st = List.[]; d = 0; at = λ
-            x. x }, tt),),) (m7 (before· .before) (before· .scan-actions-arg .given))
+        After-scan-actions·own = Called.Called ps·1 r·1 (claims· .3) T9 (
+          record { pos = 15; ty = ref0; ref = λ x. x },
+          (
+            record { pos = 8; st = List.[]; d = 0; at = λ x. x },
+            (record { pos = 9; st = List.[]; d = 0; at = λ x. x }, tt),
+          ),
+        ) (m7 (before· .before) (before· .scan-actions-arg .given))
+
       pub record After-scan-actions : Type 0 where
         pub before : After-scan-actions-arg
         pub scan-actions : After-scan-actions·own before
-      abbrev pub After-scan-actions·gave : (c : After-scan-actions) → s8 (c .before .before .before .before .before .before .blocks) .gives (m7 (c
-          .before .before) (c .before .scan-actions-arg .given))
-      After-scan-actions·gave = λ c. Called.given ps·1 r·1 (claims· .3) T9 (record { pos = 15; ty = Syntax.tyRef Syntax.erased Syntax.imm
-          InflightAction.to; ref = λ x. x; }, (record { pos = 8; st = List.[]; d = 0; at = λ x. x }, (record { pos = 9; st = List.[]; d = 0; at = λ x.
-          x }, tt),),) (m7 (c .before .before) (c .before .scan-actions-arg .given)) (c .scan-actions)
-      abbrev pub m9 : (before : After-scan-actions-arg) → (given : s8 (before .before .before .before .before .before .blocks) .gives (m7 (before
-          .before) (before .scan-actions-arg .given))) → Typed.Mo T11
+
+      abbrev pub After-scan-actions·gave : (c : After-scan-actions) → s8
+          (c .before .before .before .before .before .before .blocks) .gives (m7 (c .before .before)
+          (c .before .scan-actions-arg .given))
+      After-scan-actions·gave = λ c. Called.given ps·1 r·1 (claims· .3) T9 (
+        record { pos = 15; ty = ref0; ref = λ x. x },
+        (
+          record { pos = 8; st = List.[]; d = 0; at = λ x. x },
+          (record { pos = 9; st = List.[]; d = 0; at = λ x. x }, tt),
+        ),
+      ) (m7 (c .before .before) (c .before .scan-actions-arg .given)) (c .scan-actions)
+
+      abbrev pub m9 : (before : After-scan-actions-arg) → (given : s8
+          (before .before .before .before .before .before .blocks) .gives
+          (m7 (before .before) (before .scan-actions-arg .given))) → Typed.Mo T11
       m9 = λ before given. s9 (before .before .before .before .before .before .blocks) (m8 before given)
-      abbrev pub m10 : (before : After-scan-actions-arg) → (given : s8 (before .before .before .before .before .before .blocks) .gives (m7 (before
-          .before) (before .scan-actions-arg .given))) → Typed.Mo T12
+
+      abbrev pub m10 : (before : After-scan-actions-arg) → (given : s8
+          (before .before .before .before .before .before .blocks) .gives
+          (m7 (before .before) (before .scan-actions-arg .given))) → Typed.Mo T12
       m10 = λ before given. s10 (before .before .before .before .before .before .blocks) (m9 before given)
-      abbrev pub m11 : (before : After-scan-actions-arg) → (given : s8 (before .before .before .before .before .before .blocks) .gives (m7 (before
-          .before) (before .scan-actions-arg .given))) → Typed.Mo T13
+
+      abbrev pub m11 : (before : After-scan-actions-arg) → (given : s8
+          (before .before .before .before .before .before .blocks) .gives
+          (m7 (before .before) (before .scan-actions-arg .given))) → Typed.Mo T13
       m11 = λ before given. s11 (before .before .before .before .before .before .blocks) (m10 before given)
-      abbrev pub m12 : (before : After-scan-actions-arg) → (given : s8 (before .before .before .before .before .before .blocks) .gives (m7 (before
-          .before) (before .scan-actions-arg .given))) → Typed.Mo T15
+
+      abbrev pub m12 : (before : After-scan-actions-arg) → (given : s8
+          (before .before .before .before .before .before .blocks) .gives
+          (m7 (before .before) (before .scan-actions-arg .given))) → Typed.Mo T15
       m12 = λ before given. s13 (before .before .before .before .before .before .blocks) (m11 before given)
+
       abbrev pub Need-encode-requires : Type 0
-      Need-encode-requires = (c : After-scan-actions) → s15 (c .before .before .before .before .before .before .blocks) .asks (m12 (c .before)
-          (After-scan-actions·gave c))
-      abbrev pub m13 : (before : After-scan-actions) → (given : s15 (before .before .before .before .before .before .before .blocks) .gives (m12
-          (before .before) (After-scan-actions·gave before))) → Typed.Mo T17
-      m13 = λ before given. s15 (before .before .before .before .before .before .before .blocks) .next (m12 (before .before) (After-scan-actions·gave
-          before)) given
+      Need-encode-requires = (c : After-scan-actions) → s15 (c .before .before .before .before .before .before .blocks)
+          .asks (m12 (c .before) (After-scan-actions·gave c))
+
+      abbrev pub m13 : (before : After-scan-actions) → (given : s15 (before .before .before .before .before .before
+          .before .blocks) .gives (m12 (before .before) (After-scan-actions·gave before))) → Typed.Mo T17
+      m13 = λ before given. s15 (before .before .before .before .before .before .before .blocks) .next
+          (m12 (before .before) (After-scan-actions·gave before)) given
+
       module _ (before· : After-scan-actions) where
         abbrev pub After-encode·own : Type 0
-        After-encode·own = Called.Called ps·2 r·2 (claims· .5) T15 (record { pos = 6; st = List.[]; d = 0; at = λ x. x }, tt,) (m12 (before· .before)
-            (After-scan-actions·gave before·))
+        After-encode·own = Called.Called ps·2 r·2 (claims· .5) T15
+            (record { pos = 6; st = List.[]; d = 0; at = λ x. x }, tt)
+            (m12 (before· .before) (After-scan-actions·gave before·))
+
       pub record After-encode : Type 0 where
         pub before : After-scan-actions
         pub encode : After-encode·own before
-      abbrev pub After-encode·gave : (c : After-encode) → s15 (c .before .before .before .before .before .before .before .blocks) .gives (m12 (c
-          .before .before) (After-scan-actions·gave (c .before)))
-      After-encode·gave = λ c. Called.given ps·2 r·2 (claims· .5) T15 (record { pos = 6; st = List.[]; d = 0; at = λ x. x }, tt,) (m12 (c .before
-          .before) (After-scan-actions·gave (c .before))) (c .encode)
-      abbrev pub m14 : (before : After-scan-actions) → (given : s15 (before .before .before .before .before .before .before .blocks) .gives (m12
-          (before .before) (After-scan-actions·gave before))) → Typed.Mo T18
+
+      abbrev pub After-encode·gave : (c : After-encode) → s15 (c .before .before .before .before .before .before
+          .before .blocks) .gives (m12 (c .before .before) (After-scan-actions·gave (c .before)))
+      After-encode·gave = λ c. Called.given ps·2 r·2 (claims· .5) T15
+          (record { pos = 6; st = List.[]; d = 0; at = λ x. x }, tt) (m12 (c .before .before)
+          (After-scan-actions·gave (c .before))) (c .encode)
+
+      abbrev pub m14 : (before : After-scan-actions) → (given : s15 (before .before .before .before .before .before
+          .before .blocks) .gives (m12 (before .before) (After-scan-actions·gave before))) → Typed.Mo T18
       m14 = λ before given. s16 (before .before .before .before .before .before .before .blocks) (m13 before given)
-      abbrev pub m15 : (before : After-encode) → (given : s17 (before .before .before .before .before .before .before .before .blocks) .gives (m14
-          (before .before) (After-encode·gave before))) → Typed.Mo T19
-      m15 = λ before given. s17 (before .before .before .before .before .before .before .before .blocks) .next (m14 (before .before)
-          (After-encode·gave before)) given
-      abbrev pub m16 : (before : After-encode) → (given : s17 (before .before .before .before .before .before .before .before .blocks) .gives (m14
-          (before .before) (After-encode·gave before))) → Typed.Mo T20
-      m16 = λ before given. s18 (before .before .before .before .before .before .before .before .blocks) (m15 before given)
-      abbrev pub m17 : (before : After-encode) → (given : s17 (before .before .before .before .before .before .before .before .blocks) .gives (m14
-          (before .before) (After-encode·gave before))) → Typed.Mo T21
-      m17 = λ before given. s19 (before .before .before .before .before .before .before .before .blocks) (m16 before given)
+
+      abbrev pub m15 : (before : After-encode) → (given : s17 (before .before .before .before .before .before .before
+          .before .blocks) .gives (m14 (before .before) (After-encode·gave before))) → Typed.Mo T19
+      m15 = λ before given. s17 (before .before .before .before .before .before .before .before .blocks) .next
+          (m14 (before .before) (After-encode·gave before)) given
+
+      abbrev pub m16 : (before : After-encode) → (given : s17 (before .before .before .before .before .before .before
+          .before .blocks) .gives (m14 (before .before) (After-encode·gave before))) → Typed.Mo T20
+      m16 = λ before given. s18 (before .before .before .before .before .before .before .before .blocks)
+          (m15 before given)
+
+      abbrev pub m17 : (before : After-encode) → (given : s17 (before .before .before .before .before .before .before
+          .before .blocks) .gives (m14 (before .before) (After-encode·gave before))) → Typed.Mo T21
+      m17 = λ before given. s19 (before .before .before .before .before .before .before .before .blocks)
+          (m16 before given)
+
       module _ (before· : After-encode) where
         pub record After-bytes·own : Type 0 where
-          pub given : s17 (before· .before .before .before .before .before .before .before .blocks) .gives (m14 (before· .before) (After-encode·gave
-              before·))
+          pub given : s17 (before· .before .before .before .before .before .before .before .blocks) .gives
+              (m14 (before· .before) (After-encode·gave before·))
+
       pub record After-bytes : Type 0 where
         pub before : After-encode
         pub bytes : After-bytes·own before
-      abbrev pub m18 : (before : After-bytes) → (given : s21 (before .before .before .before .before .before .before .before .before .blocks) .gives
-          (m17 (before .before) (before .bytes .given))) → Typed.Mo T23
-      m18 = λ before given. s21 (before .before .before .before .before .before .before .before .before .blocks) .next (m17 (before .before) (before
-          .bytes .given)) given
-      abbrev pub m19 : (before : After-bytes) → (given : s21 (before .before .before .before .before .before .before .before .before .blocks) .gives
-          (m17 (before .before) (before .bytes .given))) → Typed.Mo T24
-      m19 = λ before given. s22 (before .before .before .before .before .before .before .before .before .blocks) .next (m18 before given)
+
+      abbrev pub m18 : (before : After-bytes) → (given : s21 (before .before .before .before .before .before .before
+          .before .before .blocks) .gives (m17 (before .before) (before .bytes .given))) → Typed.Mo T23
+      m18 = λ before given. s21 (before .before .before .before .before .before .before .before .before .blocks) .next
+          (m17 (before .before) (before .bytes .given)) given
+
+      abbrev pub m19 : (before : After-bytes) → (given : s21 (before .before .before .before .before .before .before
+          .before .before .blocks) .gives (m17 (before .before) (before .bytes .given))) → Typed.Mo T24
+      m19 = λ before given. s22 (before .before .before .before .before .before .before .before .before .blocks) .next
+          (m18 before given)
+
       module _ (before· : After-bytes) where
         pub record After-tell-scanned-arg·own : Type 0 where
-          pub given : s21 (before· .before .before .before .before .before .before .before .before .blocks) .gives (m17 (before· .before) (before·
-              .bytes .given))
+          pub given : s21 (before· .before .before .before .before .before .before .before .before .blocks) .gives
+              (m17 (before· .before) (before· .bytes .given))
+
       pub record After-tell-scanned-arg : Type 0 where
         pub before : After-bytes
         pub tell-scanned-arg : After-tell-scanned-arg·own before
-      abbrev pub m20 : (before : After-tell-scanned-arg) → (given : s24 (before .before .before .before .before .before .before .before .before
-          .before .blocks) .gives (m19 (before .before) (before .tell-scanned-arg .given))) → Typed.Mo T26
-      m20 = λ before given. s24 (before .before .before .before .before .before .before .before .before .before .blocks) .next (m19 (before .before)
-          (before .tell-scanned-arg .given)) given
-      abbrev pub m21 : (before : After-tell-scanned-arg) → (given : s24 (before .before .before .before .before .before .before .before .before
-          .before .blocks) .gives (m19 (before .before) (before .tell-scanned-arg .given))) → Typed.Mo T27
-      m21 = λ before given. s25 (before .before .before .before .before .before .before .before .before .before .blocks) .next (m20 before given)
+
+      abbrev pub m20 : (before : After-tell-scanned-arg) → (given : s24 (before .before .before .before .before .before
+          .before .before .before .before .blocks) .gives (m19 (before .before) (before .tell-scanned-arg .given))) →
+          Typed.Mo T26
+      m20 = λ before given. s24 (before .before .before .before .before .before .before .before .before .before .blocks)
+          .next (m19 (before .before) (before .tell-scanned-arg .given)) given
+
+      abbrev pub m21 : (before : After-tell-scanned-arg) → (given : s24 (before .before .before .before .before .before
+          .before .before .before .before .blocks) .gives (m19 (before .before) (before .tell-scanned-arg .given))) →
+          Typed.Mo T27
+      m21 = λ before given. s25 (before .before .before .before .before .before .before .before .before .before .blocks)
+          .next (m20 before given)
+
       module _ (before· : After-tell-scanned-arg) where
         pub record After-tell-scanned-arg2·own : Type 0 where
-          pub given : s24 (before· .before .before .before .before .before .before .before .before .before .blocks) .gives (m19 (before· .before)
-              (before· .tell-scanned-arg .given))
+          pub given : s24 (before· .before .before .before .before .before .before .before .before .before .blocks)
+              .gives (m19 (before· .before) (before· .tell-scanned-arg .given))
+
       pub record After-tell-scanned-arg2 : Type 0 where
         pub before : After-tell-scanned-arg
         pub tell-scanned-arg2 : After-tell-scanned-arg2·own before
+
       abbrev pub Need-array-share-prefix-bytes : Type 0
-      Need-array-share-prefix-bytes = (c : After-tell-scanned-arg2) → s27 (c .before .before .before .before .before .before .before .before .before
-          .before .blocks) .asks (m21 (c .before) (c .tell-scanned-arg2 .given))
-      abbrev pub m22 : (before : After-tell-scanned-arg2) → (given : s27 (before .before .before .before .before .before .before .before .before
-          .before .before .blocks) .gives (m21 (before .before) (before .tell-scanned-arg2 .given))) → Typed.Mo T29
-      m22 = λ before given. s27 (before .before .before .before .before .before .before .before .before .before .before .blocks) .next (m21 (before
-          .before) (before .tell-scanned-arg2 .given)) given
+      Need-array-share-prefix-bytes = (c : After-tell-scanned-arg2) → s27 (c .before .before .before .before .before
+          .before .before .before .before .before .blocks) .asks (m21 (c .before) (c .tell-scanned-arg2 .given))
+
+      abbrev pub m22 : (before : After-tell-scanned-arg2) → (given : s27 (before .before .before .before .before
+          .before .before .before .before .before .before .blocks) .gives
+          (m21 (before .before) (before .tell-scanned-arg2 .given))) → Typed.Mo T29
+      m22 = λ before given. s27 (before .before .before .before .before .before .before .before .before .before .before
+          .blocks) .next (m21 (before .before) (before .tell-scanned-arg2 .given)) given
+
       module _ (before· : After-tell-scanned-arg2) where
         pub record After-bytes2·own : Type 0 where
-          pub given : s27 (before· .before .before .before .before .before .before .before .before .before .before .blocks) .gives (m21 (before·
-              .before) (before· .tell-scanned-arg2 .given))
+          pub given : s27 (before· .before .before .before .before .before .before .before .before .before .before
+              .blocks) .gives (m21 (before· .before) (before· .tell-scanned-arg2 .given))
+
       pub record After-bytes2 : Type 0 where
         pub before : After-tell-scanned-arg2
         pub bytes2 : After-bytes2·own before
+
       abbrev pub Need-slice-aggregate-tell-scanned : Type 0
-      Need-slice-aggregate-tell-scanned = (c : After-bytes2) → Relend.CountIs T29 20 21 (λ x. x) (λ u. u .1 .1 .1 .1 .1 .1 .1 .1 .1 .1 .1 .1 .1 .0)
-          (m22 (c .before) (c .bytes2 .given))
-      abbrev pub m23 : (before : After-tell-scanned-arg2) → (given : s27 (before .before .before .before .before .before .before .before .before
-          .before .before .blocks) .gives (m21 (before .before) (before .tell-scanned-arg2 .given))) → Typed.Mo T30
-      m23 = λ before given. s28 (before .before .before .before .before .before .before .before .before .before .before .blocks) .next (m22 before
-          given)
+      Need-slice-aggregate-tell-scanned = (c : After-bytes2) → Relend.CountIs T29 20 21 (λ x. x)
+          (λ u. u .1 .1 .1 .1 .1 .1 .1 .1 .1 .1 .1 .1 .1 .0) (m22 (c .before) (c .bytes2 .given))
+
+      abbrev pub m23 : (before : After-tell-scanned-arg2) → (given : s27 (before .before .before .before .before
+          .before .before .before .before .before .before .blocks) .gives
+          (m21 (before .before) (before .tell-scanned-arg2 .given))) → Typed.Mo T30
+      m23 = λ before given. s28 (before .before .before .before .before .before .before .before .before .before .before
+          .blocks) .next (m22 before given)
+
       abbrev pub Need-tell-scanned-requires : Type 0
-      Need-tell-scanned-requires = (c : After-bytes2) → s29 (c .before .before .before .before .before .before .before .before .before .before .before
-          .blocks) .asks (m23 (c .before) (c .bytes2 .given))
-      abbrev pub m24 : (before : After-bytes2) → (given : s29 (before .before .before .before .before .before .before .before .before .before .before
-          .before .blocks) .gives (m23 (before .before) (before .bytes2 .given))) → Typed.Mo T31
-      m24 = λ before given. s29 (before .before .before .before .before .before .before .before .before .before .before .before .blocks) .next (m23
-          (before .before) (before .bytes2 .given)) given
+      Need-tell-scanned-requires = (c : After-bytes2) → s29 (c .before .before .before .before .before .before .before
+          .before .before .before .before .blocks) .asks (m23 (c .before) (c .bytes2 .given))
+
+      abbrev pub m24 : (before : After-bytes2) → (given : s29 (before .before .before .before .before .before .before
+          .before .before .before .before .before .blocks) .gives (m23 (before .before) (before .bytes2 .given))) →
+          Typed.Mo T31
+      m24 = λ before given. s29 (before .before .before .before .before .before .before .before .before .before .before
+          .before .blocks) .next (m23 (before .before) (before .bytes2 .given)) given
+
       module _ (before· : After-bytes2) where
         abbrev pub After-tell-scanned·own : Type 0
-        After-tell-scanned·own = Called.Called ps·3 r·3 (claims· .7) T30 (record { pos = 17; ty = Syntax.tyRef Syntax.erased Syntax.mut
-            InflightAction.to; ref = λ x. x; }, (record { pos = 19; ty = Syntax.tyRef Syntax.erased Syntax.mut (Syntax.tyInt Syntax.w32); ref = λ x.
-            x; }, (Bool.bAt 3 λ x. x, (record { pos = 4; st = List.[]; d = 0; at = λ x. x }, (record { pos = 5; st = List.[]; d = 0; at = λ x. x },
-            (record { pos = 10; st = List.[]; d = 0; at = λ x. x }, (record { pos = 21; ty = Syntax.tyRef Syntax.erased Syntax.imm (Syntax.tyInt
-            Syntax.w8); ref = λ x. x; }, tt,),),),),),),) (m23 (before· .before) (before· .bytes2 .given))
+        After-tell-scanned·own = Called.Called ps·3 r·3 (claims· .7) T30 (
+          record { pos = 17; ty = ref1; ref = λ x. x },
+          (
+            record { pos = 19; ty = ref2; ref = λ x. x },
+            (
+              Bool.bAt 3 λ x. x,
+              (
+                record { pos = 4; st = List.[]; d = 0; at = λ x. x },
+                (
+                  record { pos = 5; st = List.[]; d = 0; at = λ x. x },
+                  (
+                    record { pos = 10; st = List.[]; d = 0; at = λ x. x },
+                    (record { pos = 21; ty = ref4; ref = λ x. x }, tt),
+                  ),
+                ),
+              ),
+            ),
+          ),
+        ) (m23 (before· .before) (before· .bytes2 .given))
+
       pub record After-tell-scanned : Type 0 where
         pub before : After-bytes2
         pub tell-scanned : After-tell-scanned·own before
-      abbrev pub After-tell-scanned·gave : (c : After-tell-scanned) → s29 (c .before .before .before .before .before .before .before .before .before
-          .before .before .before .blocks) .gives (m23 (c .before .before) (c .before .bytes2 .given))
-      After-tell-scanned·gave = λ c. Called.given ps·3 r·3 (claims· .7) T30 (record { pos = 17; ty = Syntax.tyRef Syntax.erased Syntax.mut
-          InflightAction.to; ref = λ x. x; }, (record { pos = 19; ty = Syntax.tyRef Syntax.erased Syntax.mut (Syntax.tyInt Syntax.w32); ref = λ x. x;
-          }, (Bool.bAt 3 λ x. x, (record { pos = 4; st = List.[]; d = 0; at = λ x. x }, (record { pos = 5; st = List.[]; d = 0; at = λ x. x }, (record
-          { pos = 10; st = List.[]; d = 0; at = λ x. x }, (record { pos = 21; ty = Syntax.tyRef Syntax.erased Syntax.imm (Syntax.tyInt Syntax.w8); ref
-          = λ x. x; }, tt,),),),),),),) (m23 (c .before .before) (c .before .bytes2 .given)) (c .tell-scanned)
-      abbrev pub m25 : (before : After-bytes2) → (given : s29 (before .before .before .before .before .before .before .before .before .before .before
-          .before .blocks) .gives (m23 (before .before) (before .bytes2 .given))) → Typed.Mo T32
-      m25 = λ before given. s30 (before .before .before .before .before .before .before .before .before .before .before .before .blocks) (m24 before
-          given)
-      abbrev pub m26 : (before : After-bytes2) → (given : s29 (before .before .before .before .before .before .before .before .before .before .before
-          .before .blocks) .gives (m23 (before .before) (before .bytes2 .given))) → Typed.Mo T33
-      m26 = λ before given. s31 (before .before .before .before .before .before .before .before .before .before .before .before .blocks) (m25 before
-          given)
-      abbrev pub m27 : (before : After-bytes2) → (given : s29 (before .before .before .before .before .before .before .before .before .before .before
-          .before .blocks) .gives (m23 (before .before) (before .bytes2 .given))) → Typed.Mo T34
-      m27 = λ before given. s32 (before .before .before .before .before .before .before .before .before .before .before .before .blocks) (m26 before
-          given)
-      abbrev pub m28 : (before : After-bytes2) → (given : s29 (before .before .before .before .before .before .before .before .before .before .before
-          .before .blocks) .gives (m23 (before .before) (before .bytes2 .given))) → Typed.Mo T35
-      m28 = λ before given. s33 (before .before .before .before .before .before .before .before .before .before .before .before .blocks) (m27 before
-          given)
-      abbrev pub m29 : (before : After-bytes2) → (given : s29 (before .before .before .before .before .before .before .before .before .before .before
-          .before .blocks) .gives (m23 (before .before) (before .bytes2 .given))) → Typed.Mo T36
-      m29 = λ before given. s34 (before .before .before .before .before .before .before .before .before .before .before .before .blocks) (m28 before
-          given)
-      abbrev pub m30 : (before : After-tell-scanned) → (given : s36 (before .before .before .before .before .before .before .before .before .before
-          .before .before .before .blocks) .gives (m29 (before .before) (After-tell-scanned·gave before))) → Typed.Mo T38
-      m30 = λ before given. s36 (before .before .before .before .before .before .before .before .before .before .before .before .before .blocks) .next
-          (m29 (before .before) (After-tell-scanned·gave before)) given
+
+      abbrev pub After-tell-scanned·gave : (c : After-tell-scanned) → s29 (c .before .before .before .before .before
+          .before .before .before .before .before .before .before .blocks) .gives
+          (m23 (c .before .before) (c .before .bytes2 .given))
+      After-tell-scanned·gave = λ c. Called.given ps·3 r·3 (claims· .7) T30 (
+        record { pos = 17; ty = ref1; ref = λ x. x },
+        (
+          record { pos = 19; ty = ref2; ref = λ x. x },
+          (
+            Bool.bAt 3 λ x. x,
+            (
+              record { pos = 4; st = List.[]; d = 0; at = λ x. x },
+              (
+                record { pos = 5; st = List.[]; d = 0; at = λ x. x },
+                (
+                  record { pos = 10; st = List.[]; d = 0; at = λ x. x },
+                  (record { pos = 21; ty = ref4; ref = λ x. x }, tt),
+                ),
+              ),
+            ),
+          ),
+        ),
+      ) (m23 (c .before .before) (c .before .bytes2 .given)) (c .tell-scanned)
+
+      abbrev pub m25 : (before : After-bytes2) → (given : s29 (before .before .before .before .before .before .before
+          .before .before .before .before .before .blocks) .gives (m23 (before .before) (before .bytes2 .given))) →
+          Typed.Mo T32
+      m25 = λ before given. s30 (before .before .before .before .before .before .before .before .before .before .before
+          .before .blocks) (m24 before given)
+
+      abbrev pub m26 : (before : After-bytes2) → (given : s29 (before .before .before .before .before .before .before
+          .before .before .before .before .before .blocks) .gives (m23 (before .before) (before .bytes2 .given))) →
+          Typed.Mo T33
+      m26 = λ before given. s31 (before .before .before .before .before .before .before .before .before .before .before
+          .before .blocks) (m25 before given)
+
+      abbrev pub m27 : (before : After-bytes2) → (given : s29 (before .before .before .before .before .before .before
+          .before .before .before .before .before .blocks) .gives (m23 (before .before) (before .bytes2 .given))) →
+          Typed.Mo T34
+      m27 = λ before given. s32 (before .before .before .before .before .before .before .before .before .before .before
+          .before .blocks) (m26 before given)
+
+      abbrev pub m28 : (before : After-bytes2) → (given : s29 (before .before .before .before .before .before .before
+          .before .before .before .before .before .blocks) .gives (m23 (before .before) (before .bytes2 .given))) →
+          Typed.Mo T35
+      m28 = λ before given. s33 (before .before .before .before .before .before .before .before .before .before .before
+          .before .blocks) (m27 before given)
+
+      abbrev pub m29 : (before : After-bytes2) → (given : s29 (before .before .before .before .before .before .before
+          .before .before .before .before .before .blocks) .gives (m23 (before .before) (before .bytes2 .given))) →
+          Typed.Mo T36
+      m29 = λ before given. s34 (before .before .before .before .before .before .before .before .before .before .before
+          .before .blocks) (m28 before given)
+
+      abbrev pub m30 : (before : After-tell-scanned) → (given : s36 (before .before .before .before .before .before
+          .before .before .before .before .before .before .before .blocks) .gives
+          (m29 (before .before) (After-tell-scanned·gave before))) → Typed.Mo T38
+      m30 = λ before given. s36 (before .before .before .before .before .before .before .before .before .before .before
+          .before .before .blocks) .next (m29 (before .before) (After-tell-scanned·gave before)) given
+
       module _ (before· : After-tell-scanned) where
         pub record After-inflight·own : Type 0 where
-          pub given : s36 (before· .before .before .before .before .before .before .before .before .before .before .before .before .blocks) .gives
-              (m29 (before· .before) (After-tell-scanned·gave before·))
+          pub given : s36 (before· .before .before .before .before .before .before .before .before .before .before
+              .before .before .blocks) .gives (m29 (before· .before) (After-tell-scanned·gave before·))
+
       pub record After-inflight : Type 0 where
         pub before : After-tell-scanned
         pub inflight : After-inflight·own before
-      abbrev pub m31 : (before : After-inflight) → (given : s39 (before .before .before .before .before .before .before .before .before .before
-          .before .before .before .before .blocks) .gives (m30 (before .before) (before .inflight .given))) → Typed.Mo T41
-      m31 = λ before given. s39 (before .before .before .before .before .before .before .before .before .before .before .before .before .before
-          .blocks) .next (m30 (before .before) (before .inflight .given)) given
+
+      abbrev pub m31 : (before : After-inflight) → (given : s39 (before .before .before .before .before .before .before
+          .before .before .before .before .before .before .before .blocks) .gives
+          (m30 (before .before) (before .inflight .given))) → Typed.Mo T41
+      m31 = λ before given. s39 (before .before .before .before .before .before .before .before .before .before .before
+          .before .before .before .blocks) .next (m30 (before .before) (before .inflight .given)) given
+
       module _ (before· : After-inflight) where
         pub record After-out·own : Type 0 where
-          pub given : s39 (before· .before .before .before .before .before .before .before .before .before .before .before .before .before .blocks)
-              .gives (m30 (before· .before) (before· .inflight .given))
+          pub given : s39 (before· .before .before .before .before .before .before .before .before .before .before
+              .before .before .before .blocks) .gives (m30 (before· .before) (before· .inflight .given))
+
       pub record After-out : Type 0 where
         pub before : After-inflight
         pub out : After-out·own before
-      abbrev pub m32 : (before : After-out) → (given : s40 (before .before .before .before .before .before .before .before .before .before .before
-          .before .before .before .before .blocks) .gives (m31 (before .before) (before .out .given))) → Typed.Mo T42
-      m32 = λ before given. s40 (before .before .before .before .before .before .before .before .before .before .before .before .before .before
-          .before .blocks) .next (m31 (before .before) (before .out .given)) given
-      abbrev pub m33 : (before : After-out) → (given : s40 (before .before .before .before .before .before .before .before .before .before .before
-          .before .before .before .before .blocks) .gives (m31 (before .before) (before .out .given))) → Typed.Mo T45
-      m33 = λ before given. s43 (before .before .before .before .before .before .before .before .before .before .before .before .before .before
-          .before .blocks) (m32 before given)
-      abbrev pub m34 : (before : After-out) → (given : s40 (before .before .before .before .before .before .before .before .before .before .before
-          .before .before .before .before .blocks) .gives (m31 (before .before) (before .out .given))) → Typed.Mo T47
-      m34 = λ before given. s45 (before .before .before .before .before .before .before .before .before .before .before .before .before .before
-          .before .blocks) (m33 before given)
-      abbrev pub m35 : (before : After-out) → (given : s40 (before .before .before .before .before .before .before .before .before .before .before
-          .before .before .before .before .blocks) .gives (m31 (before .before) (before .out .given))) → Typed.Mo T48
-      m35 = λ before given. s46 (before .before .before .before .before .before .before .before .before .before .before .before .before .before
-          .before .blocks) (m34 before given)
+
+      abbrev pub m32 : (before : After-out) → (given : s40 (before .before .before .before .before .before .before
+          .before .before .before .before .before .before .before .before .blocks) .gives
+          (m31 (before .before) (before .out .given))) → Typed.Mo T42
+      m32 = λ before given. s40 (before .before .before .before .before .before .before .before .before .before .before
+          .before .before .before .before .blocks) .next (m31 (before .before) (before .out .given)) given
+
+      abbrev pub m33 : (before : After-out) → (given : s40 (before .before .before .before .before .before .before
+          .before .before .before .before .before .before .before .before .blocks) .gives
+          (m31 (before .before) (before .out .given))) → Typed.Mo T45
+      m33 = λ before given. s43 (before .before .before .before .before .before .before .before .before .before .before
+          .before .before .before .before .blocks) (m32 before given)
+
+      abbrev pub m34 : (before : After-out) → (given : s40 (before .before .before .before .before .before .before
+          .before .before .before .before .before .before .before .before .blocks) .gives
+          (m31 (before .before) (before .out .given))) → Typed.Mo T47
+      m34 = λ before given. s45 (before .before .before .before .before .before .before .before .before .before .before
+          .before .before .before .before .blocks) (m33 before given)
+
+      abbrev pub m35 : (before : After-out) → (given : s40 (before .before .before .before .before .before .before
+          .before .before .before .before .before .before .before .before .blocks) .gives
+          (m31 (before .before) (before .out .given))) → Typed.Mo T48
+      m35 = λ before given. s46 (before .before .before .before .before .before .before .before .before .before .before
+          .before .before .before .before .blocks) (m34 before given)
+
       module _ (before· : After-out) where
         pub record After-slice-known2·own : Type 0 where
-          pub given : s40 (before· .before .before .before .before .before .before .before .before .before .before .before .before .before .before
-              .blocks) .gives (m31 (before· .before) (before· .out .given))
+          pub given : s40 (before· .before .before .before .before .before .before .before .before .before .before
+              .before .before .before .before .blocks) .gives (m31 (before· .before) (before· .out .given))
+
       pub record After-slice-known2 : Type 0 where
         pub before : After-out
         pub slice-known2 : After-slice-known2·own before
+
       abbrev pub Need-same-length : Type 0
-      Need-same-length = (c : After-slice-known2) → MutSlice.SameLen (Row.get 1 (T48 .locals) (m35 (c .before) (c .slice-known2 .given))) (dens (c
-          .before .before .before .before .before .before .before .before .before .before .before .before .before .before .before .κs) (c .before
-          .before .before .before .before .before .before .before .before .before .before .before .before .before .before .args) .0)
+      Need-same-length = (c : After-slice-known2) → MutSlice.SameLen (Row.get 1 (T48 .locals)
+          (m35 (c .before) (c .slice-known2 .given))) (dens (c .before .before .before .before .before .before .before
+          .before .before .before .before .before .before .before .before .κs) (c .before .before .before .before
+          .before .before .before .before .before .before .before .before .before .before .before .args) .0)
+
       abbrev pub Need-same-length-2 : Type 0
-      Need-same-length-2 = (c : After-slice-known2) → MutSlice.SameLen (Row.get 2 (T48 .locals) (m35 (c .before) (c .slice-known2 .given))) (dens (c
-          .before .before .before .before .before .before .before .before .before .before .before .before .before .before .before .κs) (c .before
-          .before .before .before .before .before .before .before .before .before .before .before .before .before .before .args) .1 .0)
+      Need-same-length-2 = (c : After-slice-known2) → MutSlice.SameLen (Row.get 2 (T48 .locals)
+          (m35 (c .before) (c .slice-known2 .given))) (dens (c .before .before .before .before .before .before .before
+          .before .before .before .before .before .before .before .before .κs) (c .before .before .before .before
+          .before .before .before .before .before .before .before .before .before .before .before .args) .1 .0)
+
       abbrev pub Need-returns : Type 0
-      Need-returns = (c : After-slice-known2) → Post· (c .before .before .before .before .before .before .before .before .before .before .before
-          .before .before .before .before .κs) (dens (c .before .before .before .before .before .before .before .before .before .before .before
-          .before .before .before .before .κs) (c .before .before .before .before .before .before .before .before .before .before .before .before
-          .before .before .before .args)) (Function.resV r (c .before .before .before .before .before .before .before .before .before .before .before
-          .before .before .before .before .κs) (m35 (c .before) (c .slice-known2 .given) .0)) (Clauses.atExit (Kinds.endedOf 2 ps r) (c .before
-          .before .before .before .before .before .before .before .before .before .before .before .before .before .before .κs) (dens (c .before
-          .before .before .before .before .before .before .before .before .before .before .before .before .before .before .κs) (c .before .before
-          .before .before .before .before .before .before .before .before .before .before .before .before .before .args)) (Enter.lastsP (c .before
-          .before .before .before .before .before .before .before .before .before .before .before .before .before .before .κs) 1 ps xs (dens (c
-          .before .before .before .before .before .before .before .before .before .before .before .before .before .before .before .κs) (c .before
-          .before .before .before .before .before .before .before .before .before .before .before .before .before .before .args)) (m35 (c .before) (c
-          .slice-known2 .given) .1)))
-      module _ (asking-requires : Need-asking-requires) (scan-actions-requires : Need-scan-actions-requires) (encode-requires : Need-encode-requires)
-          (array-share-prefix-bytes : Need-array-share-prefix-bytes) (slice-aggregate-tell-scanned : Need-slice-aggregate-tell-scanned)
-          (tell-scanned-requires : Need-tell-scanned-requires) (same-length : Need-same-length) (same-length-2 : Need-same-length-2) (returns :
-          Need-returns) where
-        lay4 : (c : After-tell-scanned) → at17 (c .before .before .before .before .before .before .before .before .before .before .before .before
-            .blocks) (W0 (c .before .before .before .before .before .before .before .before .before .before .before .before .κs) (c .before .before
-            .before .before .before .before .before .before .before .before .before .before .args) (c .before .before .before .before .before .before
-            .before .before .before .before .before .before .blocks)) (m24 (c .before) (After-tell-scanned·gave c))
-        lay4 = λ c. (Path.refl, λ g. (Path.refl, λ g'. λ g''. ((MutSlice.fix-len (Row.get 1 (T48 .locals) (m35 record { before = record { before =
-            record { before = c .before; tell-scanned = c .tell-scanned }; inflight = record { given = g }; }; out = record { given = g' }; } g'')
-            .ptr) (Row.get 1 (T48 .locals) (m35 record { before = record { before = record { before = c .before; tell-scanned = c .tell-scanned };
-            inflight = record { given = g }; }; out = record { given = g' }; } g'') .name) (Row.get 1 (T48 .locals) (m35 record { before = record {
-            before = record { before = c .before; tell-scanned = c .tell-scanned }; inflight = record { given = g }; }; out = record { given = g' }; }
-            g'') .now) (dens (c .before .before .before .before .before .before .before .before .before .before .before .before .κs) (c .before
-            .before .before .before .before .before .before .before .before .before .before .before .args) .0 .now) (same-length record { before =
-            record { before = record { before = record { before = c .before; tell-scanned = c .tell-scanned }; inflight = record { given = g }; }; out
-            = record { given = g' }; }; slice-known2 = record { given = g'' }; }), (MutSlice.fix-len (Row.get 2 (T48 .locals) (m35 record { before =
-            record { before = record { before = c .before; tell-scanned = c .tell-scanned }; inflight = record { given = g }; }; out = record { given
-            = g' }; } g'') .ptr) (Row.get 2 (T48 .locals) (m35 record { before = record { before = record { before = c .before; tell-scanned = c
-            .tell-scanned }; inflight = record { given = g }; }; out = record { given = g' }; } g'') .name) (Row.get 2 (T48 .locals) (m35 record {
-            before = record { before = record { before = c .before; tell-scanned = c .tell-scanned }; inflight = record { given = g }; }; out = record
-            { given = g' }; } g'') .now) (dens (c .before .before .before .before .before .before .before .before .before .before .before .before .κs)
-            (c .before .before .before .before .before .before .before .before .before .before .before .before .args) .1 .0 .now) (same-length-2
-            record { before = record { before = record { before = record { before = c .before; tell-scanned = c .tell-scanned; }; inflight = record {
-            given = g }; }; out = record { given = g' }; }; slice-known2 = record { given = g'' }; }), (tt, (tt, (tt, (tt, tt)))),),), returns record
-            { before = record { before = record { before = record { before = c .before; tell-scanned = c .tell-scanned }; inflight = record { given =
-            g }; }; out = record { given = g' }; }; slice-known2 = record { given = g'' }; },),),)
-        lay3 : (c : After-encode) → at31 (c .before .before .before .before .before .before .before .blocks) (W0 (c .before .before .before .before
-            .before .before .before .κs) (c .before .before .before .before .before .before .before .args) (c .before .before .before .before .before
-            .before .before .blocks)) (m13 (c .before) (After-encode·gave c))
-        lay3 = λ c. (tt, λ g. λ g'. (Path.refl, λ g''. (Path.refl, (array-share-prefix-bytes record { before = record { before = record { before =
-            record { before = c .before; encode = c .encode }; bytes = record { given = g }; }; tell-scanned-arg = record { given = g' }; };
-            tell-scanned-arg2 = record { given = g'' }; }, λ g'3. (Relend.count-is T29 20 21 (λ x. x) (λ u. u .1 .1 .1 .1 .1 .1 .1 .1 .1 .1 .1 .1 .1
-            .0) (m22 record { before = record { before = record { before = record { before = c .before; encode = c .encode }; bytes = record { given =
-            g }; }; tell-scanned-arg = record { given = g' }; }; tell-scanned-arg2 = record { given = g'' }; } g'3) (slice-aggregate-tell-scanned
-            record { before = record { before = record { before = record { before = record { before = c .before; encode = c .encode }; bytes = record
-            { given = g }; }; tell-scanned-arg = record { given = g' }; }; tell-scanned-arg2 = record { given = g'' }; }; bytes2 = record { given =
-            g'3 }; }), (tell-scanned-requires record { before = record { before = record { before = record { before = record { before = c .before;
-            encode = c .encode }; bytes = record { given = g }; }; tell-scanned-arg = record { given = g' }; }; tell-scanned-arg2 = record { given =
-            g'' }; }; bytes2 = record { given = g'3 }; }, λ g'4. lay4 record { before = record { before = record { before = record { before = record {
-            before = record { before = c .before; encode = c .encode }; bytes = record { given = g }; }; tell-scanned-arg = record { given = g' }; };
-            tell-scanned-arg2 = record { given = g'' }; }; bytes2 = record { given = g'3 }; }; tell-scanned = Called.called ps·3 r·3 (claims· .7) T30
-            (record { pos = 17; ty = Syntax.tyRef Syntax.erased Syntax.mut InflightAction.to; ref = λ x. x; }, (record { pos = 19; ty = Syntax.tyRef
-            Syntax.erased Syntax.mut (Syntax.tyInt Syntax.w32); ref = λ x. x; }, (Bool.bAt 3 λ x. x, (record { pos = 4; st = List.[]; d = 0; at = λ x.
-            x }, (record { pos = 5; st = List.[]; d = 0; at = λ x. x }, (record { pos = 10; st = List.[]; d = 0; at = λ x. x }, (record { pos = 21; ty
-            = Syntax.tyRef Syntax.erased Syntax.imm (Syntax.tyInt Syntax.w8); ref = λ x. x; }, tt,),),),),),),) (m23 record { before = record { before
-            = record { before = record { before = c .before; encode = c .encode }; bytes = record { given = g }; }; tell-scanned-arg = record { given
-            = g' }; }; tell-scanned-arg2 = record { given = g'' }; } g'3) g'4; },),),),),),)
-        lay2 : (c : After-scan-actions) → at38 (c .before .before .before .before .before .before .blocks) (W0 (c .before .before .before .before
-            .before .before .κs) (c .before .before .before .before .before .before .args) (c .before .before .before .before .before .before
-            .blocks)) (m8 (c .before) (After-scan-actions·gave c))
-        lay2 = λ c. (encode-requires record { before = c .before; scan-actions = c .scan-actions }, λ g. lay3 record { before = record { before = c
-            .before; scan-actions = c .scan-actions }; encode = Called.called ps·2 r·2 (claims· .5) T15 (record { pos = 6; st = List.[]; d = 0; at = λ
-            x. x }, tt,) (m12 (c .before) (After-scan-actions·gave c)) g; },)
-        lay1 : (c : After-asking) → at43 (c .before .before .before .before .blocks) (W0 (c .before .before .before .before .κs) (c .before .before
-            .before .before .args) (c .before .before .before .before .blocks)) (m4 (c .before) (After-asking·gave c))
-        lay1 = λ c. λ g. (Path.refl, (scan-actions-requires record { before = record { before = c .before; asking = c .asking }; scan-actions-arg =
-            record { given = g }; }, λ g'. lay2 record { before = record { before = record { before = c .before; asking = c .asking };
-            scan-actions-arg = record { given = g }; }; scan-actions = Called.called ps·1 r·1 (claims· .3) T9 (record { pos = 15; ty = Syntax.tyRef
-            Syntax.erased Syntax.imm InflightAction.to; ref = λ x. x; }, (record { pos = 8; st = List.[]; d = 0; at = λ x. x }, (record { pos = 9; st
-            = List.[]; d = 0; at = λ x. x }, tt),),) (m7 record { before = c .before; asking = c .asking } g) g'; },),)
+      Need-returns = (c : After-slice-known2) → Post· (c .before .before .before .before .before .before .before
+          .before .before .before .before .before .before .before .before .κs) (dens (c .before .before .before .before
+          .before .before .before .before .before .before .before .before .before .before .before .κs) (c .before
+          .before .before .before .before .before .before .before .before .before .before .before .before .before
+          .before .args)) (Function.resV r (c .before .before .before .before .before .before .before .before .before
+          .before .before .before .before .before .before .κs) (m35 (c .before) (c .slice-known2 .given) .0)) (Clauses.atExit
+          (Kinds.endedOf 2 ps r) (c .before .before .before .before .before .before .before .before .before .before
+          .before .before .before .before .before .κs) (dens (c .before .before .before .before .before .before .before
+          .before .before .before .before .before .before .before .before .κs) (c .before .before .before .before
+          .before .before .before .before .before .before .before .before .before .before .before .args)) (Enter.lastsP (c
+          .before .before .before .before .before .before .before .before .before .before .before .before .before
+          .before .before .κs) 1 ps xs (dens (c .before .before .before .before .before .before .before .before .before
+          .before .before .before .before .before .before .κs) (c .before .before .before .before .before .before
+          .before .before .before .before .before .before .before .before .before .args))
+          (m35 (c .before) (c .slice-known2 .given) .1)))
+
+      module _ (asking-requires : Need-asking-requires) (scan-actions-requires : Need-scan-actions-requires)
+          (encode-requires : Need-encode-requires) (array-share-prefix-bytes : Need-array-share-prefix-bytes) (slice-aggregate-tell-scanned
+          : Need-slice-aggregate-tell-scanned) (tell-scanned-requires : Need-tell-scanned-requires)
+          (same-length : Need-same-length) (same-length-2 : Need-same-length-2) (returns : Need-returns) where
+        lay4 : (c : After-tell-scanned) → at17 (c .before .before .before .before .before .before .before .before
+            .before .before .before .before .blocks) (W0 (c .before .before .before .before .before .before .before
+            .before .before .before .before .before .κs) (c .before .before .before .before .before .before .before
+            .before .before .before .before .before .args) (c .before .before .before .before .before .before .before
+            .before .before .before .before .before .blocks)) (m24 (c .before) (After-tell-scanned·gave c))
+        lay4 = λ c. (
+          Path.refl,
+          λ g. (
+            Path.refl,
+            λ g'. λ g''. (
+              (
+                MutSlice.fix-len (Row.get 1 (T48 .locals) (m35
+                    record {
+                      before = record {
+                        before = record { before = c .before; tell-scanned = c .tell-scanned };
+                        inflight = record { given = g };
+                      };
+                      out = record { given = g' };
+                    } g'') .ptr) (Row.get 1 (T48 .locals) (m35
+                    record {
+                      before = record {
+                        before = record { before = c .before; tell-scanned = c .tell-scanned };
+                        inflight = record { given = g };
+                      };
+                      out = record { given = g' };
+                    } g'') .name) (Row.get 1 (T48 .locals) (m35
+                    record {
+                      before = record {
+                        before = record { before = c .before; tell-scanned = c .tell-scanned };
+                        inflight = record { given = g };
+                      };
+                      out = record { given = g' };
+                    } g'') .now) (dens (c .before .before .before .before .before .before .before .before .before
+                    .before .before .before .κs) (c .before .before .before .before .before .before .before .before
+                    .before .before .before .before .args) .0 .now) (same-length
+                    record {
+                      before = record {
+                        before = record {
+                          before = record { before = c .before; tell-scanned = c .tell-scanned };
+                          inflight = record { given = g };
+                        };
+                        out = record { given = g' };
+                      };
+                      slice-known2 = record { given = g'' };
+                    }),
+                (
+                  MutSlice.fix-len (Row.get 2 (T48 .locals) (m35
+                      record {
+                        before = record {
+                          before = record { before = c .before; tell-scanned = c .tell-scanned };
+                          inflight = record { given = g };
+                        };
+                        out = record { given = g' };
+                      } g'') .ptr) (Row.get 2 (T48 .locals) (m35
+                      record {
+                        before = record {
+                          before = record { before = c .before; tell-scanned = c .tell-scanned };
+                          inflight = record { given = g };
+                        };
+                        out = record { given = g' };
+                      } g'') .name) (Row.get 2 (T48 .locals) (m35
+                      record {
+                        before = record {
+                          before = record { before = c .before; tell-scanned = c .tell-scanned };
+                          inflight = record { given = g };
+                        };
+                        out = record { given = g' };
+                      } g'') .now) (dens (c .before .before .before .before .before .before .before .before .before
+                      .before .before .before .κs) (c .before .before .before .before .before .before .before .before
+                      .before .before .before .before .args) .1 .0 .now) (same-length-2
+                      record {
+                        before = record {
+                          before = record {
+                            before = record { before = c .before; tell-scanned = c .tell-scanned };
+                            inflight = record { given = g };
+                          };
+                          out = record { given = g' };
+                        };
+                        slice-known2 = record { given = g'' };
+                      }),
+                  (tt, (tt, (tt, (tt, tt)))),
+                ),
+              ),
+              returns record {
+                before = record {
+                  before = record {
+                    before = record { before = c .before; tell-scanned = c .tell-scanned };
+                    inflight = record { given = g };
+                  };
+                  out = record { given = g' };
+                };
+                slice-known2 = record { given = g'' };
+              },
+            ),
+          ),
+        )
+
+        lay3 : (c : After-encode) → at31 (c .before .before .before .before .before .before .before .blocks) (W0 (c
+            .before .before .before .before .before .before .before .κs) (c .before .before .before .before .before
+            .before .before .args) (c .before .before .before .before .before .before .before .blocks))
+            (m13 (c .before) (After-encode·gave c))
+        lay3 = λ c. (
+          tt,
+          λ g. λ g'. (
+            Path.refl,
+            λ g''. (
+              Path.refl,
+              (
+                array-share-prefix-bytes record {
+                  before = record {
+                    before = record {
+                      before = record { before = c .before; encode = c .encode };
+                      bytes = record { given = g };
+                    };
+                    tell-scanned-arg = record { given = g' };
+                  };
+                  tell-scanned-arg2 = record { given = g'' };
+                },
+                λ g'3. (
+                  Relend.count-is T29 20 21 (λ x. x) (λ u. u .1 .1 .1 .1 .1 .1 .1 .1 .1 .1 .1 .1 .1 .0) (m22
+                      record {
+                        before = record {
+                          before = record {
+                            before = record { before = c .before; encode = c .encode };
+                            bytes = record { given = g };
+                          };
+                          tell-scanned-arg = record { given = g' };
+                        };
+                        tell-scanned-arg2 = record { given = g'' };
+                      } g'3) (slice-aggregate-tell-scanned
+                      record {
+                        before = record {
+                          before = record {
+                            before = record {
+                              before = record { before = c .before; encode = c .encode };
+                              bytes = record { given = g };
+                            };
+                            tell-scanned-arg = record { given = g' };
+                          };
+                          tell-scanned-arg2 = record { given = g'' };
+                        };
+                        bytes2 = record { given = g'3 };
+                      }),
+                  (
+                    tell-scanned-requires record {
+                      before = record {
+                        before = record {
+                          before = record {
+                            before = record { before = c .before; encode = c .encode };
+                            bytes = record { given = g };
+                          };
+                          tell-scanned-arg = record { given = g' };
+                        };
+                        tell-scanned-arg2 = record { given = g'' };
+                      };
+                      bytes2 = record { given = g'3 };
+                    },
+                    λ g'4. lay4 record {
+                      before = record {
+                        before = record {
+                          before = record {
+                            before = record {
+                              before = record { before = c .before; encode = c .encode };
+                              bytes = record { given = g };
+                            };
+                            tell-scanned-arg = record { given = g' };
+                          };
+                          tell-scanned-arg2 = record { given = g'' };
+                        };
+                        bytes2 = record { given = g'3 };
+                      };
+                      tell-scanned = Called.called ps·3 r·3 (claims· .7) T30 (
+                        record { pos = 17; ty = ref1; ref = λ x. x },
+                        (
+                          record { pos = 19; ty = ref2; ref = λ x. x },
+                          (
+                            Bool.bAt 3 λ x. x,
+                            (
+                              record { pos = 4; st = List.[]; d = 0; at = λ x. x },
+                              (
+                                record { pos = 5; st = List.[]; d = 0; at = λ x. x },
+                                (
+                                  record { pos = 10; st = List.[]; d = 0; at = λ x. x },
+                                  (record { pos = 21; ty = ref4; ref = λ x. x }, tt),
+                                ),
+                              ),
+                            ),
+                          ),
+                        ),
+                      ) (m23 record {
+                        before = record {
+                          before = record {
+                            before = record { before = c .before; encode = c .encode };
+                            bytes = record { given = g };
+                          };
+                          tell-scanned-arg = record { given = g' };
+                        };
+                        tell-scanned-arg2 = record { given = g'' };
+                      } g'3) g'4;
+                    },
+                  ),
+                ),
+              ),
+            ),
+          ),
+        )
+
+        lay2 : (c : After-scan-actions) → at38 (c .before .before .before .before .before .before .blocks) (W0
+            (c .before .before .before .before .before .before .κs)
+            (c .before .before .before .before .before .before .args) (c .before .before .before .before .before
+            .before .blocks)) (m8 (c .before) (After-scan-actions·gave c))
+        lay2 = λ c. (
+          encode-requires record { before = c .before; scan-actions = c .scan-actions },
+          λ g. lay3 record {
+            before = record { before = c .before; scan-actions = c .scan-actions };
+            encode = Called.called ps·2 r·2 (claims· .5) T15 (record { pos = 6; st = List.[]; d = 0; at = λ x. x }, tt)
+                (m12 (c .before) (After-scan-actions·gave c)) g;
+          },
+        )
+
+        lay1 : (c : After-asking) → at43 (c .before .before .before .before .blocks) (W0
+            (c .before .before .before .before .κs) (c .before .before .before .before .args)
+            (c .before .before .before .before .blocks)) (m4 (c .before) (After-asking·gave c))
+        lay1 = λ c. λ g. (
+          Path.refl,
+          (
+            scan-actions-requires record {
+              before = record { before = c .before; asking = c .asking };
+              scan-actions-arg = record { given = g };
+            },
+            λ g'. lay2 record {
+              before = record {
+                before = record { before = c .before; asking = c .asking };
+                scan-actions-arg = record { given = g };
+              };
+              scan-actions = Called.called ps·1 r·1 (claims· .3) T9 (
+                record { pos = 15; ty = ref0; ref = λ x. x },
+                (
+                  record { pos = 8; st = List.[]; d = 0; at = λ x. x },
+                  (record { pos = 9; st = List.[]; d = 0; at = λ x. x }, tt),
+                ),
+              ) (m7 record { before = c .before; asking = c .asking } g) g';
+            },
+          ),
+        )
+
         pub laid : (c : Start) → at47 (c .blocks) (W0 (c .κs) (c .args) (c .blocks)) (m0 (c .κs) (c .args) (c .blocks))
-        laid = λ c. λ g. (tt, λ g'. (tt, λ g''. (asking-requires record { before = record { before = record { before = c; slice-known = record { given
-            = g } }; runtime = record { given = g' }; }; places = record { given = g'' }; }, λ g'3. lay1 record { before = record { before = record {
-            before = record { before = c; slice-known = record { given = g } }; runtime = record { given = g' }; }; places = record { given = g'' };
-            }; asking = Called.called ps·0 r·0 (claims· .1) T4 (record { pos = 7; st = List.[]; d = 0; at = λ x. x }, (record { pos = 5; st = List.[];
-            d = 0; at = λ x. x }, tt),) (m3 record { before = record { before = c; slice-known = record { given = g } }; runtime = record { given = g'
-            }; } g'') g'3; },),),)
+        laid = λ c. λ g. (
+          tt,
+          λ g'. (
+            tt,
+            λ g''. (
+              asking-requires record {
+                before = record {
+                  before = record { before = c; slice-known = record { given = g } };
+                  runtime = record { given = g' };
+                };
+                places = record { given = g'' };
+              },
+              λ g'3. lay1 record {
+                before = record {
+                  before = record {
+                    before = record { before = c; slice-known = record { given = g } };
+                    runtime = record { given = g' };
+                  };
+                  places = record { given = g'' };
+                };
+                asking = Called.called ps·0 r·0 (claims· .1) T4 (
+                  record { pos = 7; st = List.[]; d = 0; at = λ x. x },
+                  (record { pos = 5; st = List.[]; d = 0; at = λ x. x }, tt),
+                ) (m3 record {
+                  before = record { before = c; slice-known = record { given = g } };
+                  runtime = record { given = g' };
+                } g'') g'3;
+              },
+            ),
+          ),
+        )
+
         module _ (κs : Lifetimes.Lfts 2) (qs : Lifetimes.Shares 2) where
-          pub asked : (a : Kinds.Dens κs ps) → (good : Kinds.GoodsP κs ps a) → (pre : Pre· κs a) → (bs : List.List Nat.ℕ) → Φ bs (Any.wantQ 2 ps r xs
-              m κs qs a (Post· κs a)) (Function.init 2 ps r xs m κs qs a)
-          asked = λ a good pre bs. laid record { κs = κs; args = record { inflight = a .0; out = a .1 .0; go = a .1 .1 .0; sending = a .1 .1 .1 .0;
-              message = a .1 .1 .1 .1 .0; notice = a .1 .1 .1 .1 .1 .0; }; blocks = bs; good = good; pre = pre; }
-        module _ { M : Type 1 } (𝓤 : URA.URA M) (H : Wp.Heap 𝓤) (A : Atoms.Atoms 𝓤) (W : Kit.Given 𝓤 H A) (𝓣 : Wp.Tables 𝓤 H) (known0 : Plain.Known 𝓤
-            H A W 𝓣 0 ps·0 r·0 (claims· .0) (claims· .1) "hnsr_circuit::queue::asking") (known1 : Plain.Known 𝓤 H A W 𝓣 1 ps·1 r·1 (claims· .2)
-            (claims· .3) "hnsr_circuit::tables::inflight::scan_actions") (known2 : Plain.Known 𝓤 H A W 𝓣 0 ps·2 r·2 (claims· .4) (claims· .5)
-            "hnsr_body::messages::Notice::encode") (known3 : Plain.Known 𝓤 H A W 𝓣 3 ps·3 r·3 (claims· .6) (claims· .7)
-            "hnsr_circuit::queue::tell_scanned") where
-          pub spec : Statement.Triple 𝓤 (Wp.WpFn 𝓤 H (𝓣 .C) (𝓣 .Λ) (Function.fnOf 2 ps r xs m hs body)) (Function.plainOf 𝓤 H A 2 ps r Pre· Post·)
-          spec = Plain.t-fn-plain 𝓤 H A W 𝓣 2 ps r xs m hs body (λ κs qs bs. Φ bs) (λ κs qs bs bd. typed κs qs 𝓤 H A W 𝓣 (known0, known1, known2,
-              known3) bs bd) Pre· Post· asked
+          pub asked : (a : Kinds.Dens κs ps) → (good : Kinds.GoodsP κs ps a) → (pre : Pre· κs a) →
+              (bs : List.List Nat.ℕ) → Φ bs (Any.wantQ 2 ps r xs m κs qs a (Post· κs a))
+              (Function.init 2 ps r xs m κs qs a)
+          asked = λ a good pre bs. laid record {
+            κs = κs;
+            args = record {
+              inflight = a .0;
+              out = a .1 .0;
+              go = a .1 .1 .0;
+              sending = a .1 .1 .1 .0;
+              message = a .1 .1 .1 .1 .0;
+              notice = a .1 .1 .1 .1 .1 .0;
+            };
+            blocks = bs;
+            good = good;
+            pre = pre;
+          }
+
+        module _ {M : Type 1} (𝓤 : URA.URA M) (H : Wp.Heap 𝓤) (A : Atoms.Atoms 𝓤) (W : Kit.Given 𝓤 H A)
+            (𝓣 : Wp.Tables 𝓤 H) (known0 : Plain.Known 𝓤 H A W 𝓣 0 ps·0 r·0 (claims· .0) (claims· .1)
+            "hnsr_circuit::queue::asking") (known1 : Plain.Known 𝓤 H A W 𝓣 1 ps·1 r·1 (claims· .2) (claims· .3)
+            "hnsr_circuit::tables::inflight::scan_actions") (known2 : Plain.Known 𝓤 H A W 𝓣 0 ps·2 r·2 (claims· .4)
+            (claims· .5) "hnsr_body::messages::Notice::encode") (known3 : Plain.Known 𝓤 H A W 𝓣 3 ps·3 r·3 (claims· .6)
+            (claims· .7) "hnsr_circuit::queue::tell_scanned") where
+          pub spec : Statement.Triple 𝓤 (Wp.WpFn 𝓤 H (𝓣 .C) (𝓣 .Λ) (Function.fnOf 2 ps r xs m hs body))
+              (Function.plainOf 𝓤 H A 2 ps r Pre· Post·)
+          spec = Plain.t-fn-plain 𝓤 H A W 𝓣 2 ps r xs m hs body (λ κs qs bs. Φ bs) (λ κs qs bs bd. typed κs qs 𝓤 H A W
+              𝓣 (known0, known1, known2, known3) bs bd) Pre· Post· asked

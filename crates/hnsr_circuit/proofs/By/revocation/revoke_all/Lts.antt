@@ -3,6 +3,7 @@ use Prim.Native.Nat
 use Rattle.hnsr_circuit.proofs.By.InflightAction
 use Rattle.hnsr_circuit.proofs.By.RelayCircuit
 use Rattle.hnsr_circuit.proofs.By.RelayPending
+use Rattle.hnsr_circuit.proofs.StructRow
 use Rattle.hnsr_circuit.proofs.places.Places
 use Rattle.hnsr_circuit.proofs.places.Places.Laws
 use Rattle.hnsr_circuit.proofs.records.Walked
@@ -26,7 +27,6 @@ use borrow.Fn.Function
 use borrow.Fn.Kinds
 use borrow.Fn.Plain
 use borrow.Kind.MutSlice
-use borrow.Kind.Value
 use borrow.Rule.DerefMove
 use borrow.Rule.Lifetime
 use borrow.Rule.Local
@@ -49,10 +49,8 @@ use borrow.Table.Row
 use borrow.Table.Rows
 use borrow.Table.Typed
 use contract.Lifetimes
-use denote.Exit
 use denote.Struct.At
 use denote.Struct.Declared
-use denote.Struct.Laws as Laws'''''''
 use denote.Triple.Clauses
 use denote.Triple.Statement
 use ghost.Atoms
@@ -68,1831 +66,3166 @@ use mathlib.Core.List.{_∷_}
 
 abbrev ref0 : Syntax.Ty
 ref0 = Syntax.tyRef Syntax.erased Syntax.mut RelayPending.to
+
 abbrev ref1 : Syntax.Ty
 ref1 = Syntax.tyRef Syntax.erased Syntax.mut InflightAction.to
+
 abbrev ref2 : Syntax.Ty
 ref2 = Syntax.tyRef Syntax.erased Syntax.mut (Syntax.tyInt Syntax.w32)
+
 abbrev ref3 : Syntax.Ty
 ref3 = Syntax.tyRef Syntax.erased Syntax.mut RelayCircuit.to
+
 abbrev ref4 : Syntax.Ty
 ref4 = Syntax.tyRef (Syntax.named 0) Syntax.mut RelayPending.to
+
 abbrev ref5 : Syntax.Ty
 ref5 = Syntax.tyRef (Syntax.named 1) Syntax.mut RelayCircuit.to
+
 abbrev ref6 : Syntax.Ty
 ref6 = Syntax.tyRef (Syntax.named 2) Syntax.mut InflightAction.to
+
 abbrev ref7 : Syntax.Ty
 ref7 = Syntax.tyRef (Syntax.named 3) Syntax.mut (Syntax.tyInt Syntax.w32)
+
+abbrev slice0 : Syntax.Ty
+slice0 = Syntax.tyStruct (38 ∷ 91 ∷ 93 ∷ List.[]) (Syntax.tcons ref0
+    (Syntax.tcons (Syntax.tyInt Syntax.w64) Syntax.tnil))
+
+abbrev slice1 : Syntax.Ty
+slice1 = Syntax.tyStruct (38 ∷ 91 ∷ 93 ∷ List.[]) (Syntax.tcons ref1
+    (Syntax.tcons (Syntax.tyInt Syntax.w64) Syntax.tnil))
+
+abbrev slice2 : Syntax.Ty
+slice2 = Syntax.tyStruct (38 ∷ 91 ∷ 93 ∷ List.[]) (Syntax.tcons ref2
+    (Syntax.tcons (Syntax.tyInt Syntax.w64) Syntax.tnil))
+
+abbrev slice3 : Syntax.Ty
+slice3 = Syntax.tyStruct (38 ∷ 91 ∷ 93 ∷ List.[]) (Syntax.tcons ref3
+    (Syntax.tcons (Syntax.tyInt Syntax.w64) Syntax.tnil))
+
 abbrev pub ps : List.List (Kinds.PK 4)
-ps = (MutSlice.pMutS RelayPending.row 0 tt) ∷ (MutSlice.pMutS RelayCircuit.row 1 tt) ∷ (MutSlice.pMutS InflightAction.row 2 tt) ∷ (MutSlice.pMutS
-    (Referent.rtF (Referent.fInt Syntax.w32)) 3 tt) ∷ (Value.pVal record { ty = Declared.row OpaqueRelayRuntime.the-type; one = Path.refl; val =
-    Laws'''''''.val OpaqueRelayRuntime.the-type Laws''''.the-laws; tells = Laws'''''''.tells OpaqueRelayRuntime.the-type Laws''''.the-laws; still =
-    Laws'''''''.still OpaqueRelayRuntime.the-type Laws''''.the-copy Exit.yes; row = Rows.whole (Declared.row OpaqueRelayRuntime.the-type); rd = λ x.
-    x; mk = λ x. x; } λ M 𝓤 H A W. record { copies = Laws'''''''.copy OpaqueRelayRuntime.the-type Laws''''.the-copy 𝓤 H A W; lawful =
-    Laws'''''''.lawful OpaqueRelayRuntime.the-type Laws''''.the-laws 𝓤 H A W; makes = Laws'''''''.makes OpaqueRelayRuntime.the-type Laws''''.the-plain
-    𝓤 H A; in-mem = Local.mem-whole 𝓤 H A W (Declared.row OpaqueRelayRuntime.the-type); of-mem = Local.whole-mem 𝓤 H A W (Declared.row
-    OpaqueRelayRuntime.the-type); }) ∷ (Value.pVal record { ty = Declared.row Places.the-type; one = Path.refl; val = Laws'''''''.val Places.the-type
-    Laws.the-laws; tells = Laws'''''''.tells Places.the-type Laws.the-laws; still = Laws'''''''.still Places.the-type Laws.the-copy Exit.yes; row =
-    Rows.whole (Declared.row Places.the-type); rd = λ x. x; mk = λ x. x; } λ M 𝓤 H A W. record { copies = Laws'''''''.copy Places.the-type
-    Laws.the-copy 𝓤 H A W; lawful = Laws'''''''.lawful Places.the-type Laws.the-laws 𝓤 H A W; makes = Laws'''''''.makes Places.the-type Laws.the-plain
-    𝓤 H A; in-mem = Local.mem-whole 𝓤 H A W (Declared.row Places.the-type); of-mem = Local.whole-mem 𝓤 H A W (Declared.row Places.the-type); }) ∷
-    (Value.pVal record { ty = Declared.row Revoking.the-type; one = Path.refl; val = Laws'''''''.val Revoking.the-type Laws'''.the-laws; tells =
-    Laws'''''''.tells Revoking.the-type Laws'''.the-laws; still = Laws'''''''.still Revoking.the-type Laws'''.the-copy Exit.yes; row = Rows.whole
-    (Declared.row Revoking.the-type); rd = λ x. x; mk = λ x. x; } λ M 𝓤 H A W. record { copies = Laws'''''''.copy Revoking.the-type Laws'''.the-copy 𝓤
-    H A W; lawful = Laws'''''''.lawful Revoking.the-type Laws'''.the-laws 𝓤 H A W; makes = Laws'''''''.makes Revoking.the-type Laws'''.the-plain 𝓤 H
-    A; in-mem = Local.mem-whole 𝓤 H A W (Declared.row Revoking.the-type); of-mem = Local.whole-mem 𝓤 H A W (Declared.row Revoking.the-type); }) ∷
-    (Value.pVal record { ty = Declared.row Firsts.the-type; one = Path.refl; val = Laws'''''''.val Firsts.the-type Laws''.the-laws; tells =
-    Laws'''''''.tells Firsts.the-type Laws''.the-laws; still = Laws'''''''.still Firsts.the-type Laws''.the-copy Exit.yes; row = Rows.whole
-    (Declared.row Firsts.the-type); rd = λ x. x; mk = λ x. x; } λ M 𝓤 H A W. record { copies = Laws'''''''.copy Firsts.the-type Laws''.the-copy 𝓤 H A
-    W; lawful = Laws'''''''.lawful Firsts.the-type Laws''.the-laws 𝓤 H A W; makes = Laws'''''''.makes Firsts.the-type Laws''.the-plain 𝓤 H A; in-mem =
-    Local.mem-whole 𝓤 H A W (Declared.row Firsts.the-type); of-mem = Local.whole-mem 𝓤 H A W (Declared.row Firsts.the-type); }) ∷ List.[]
+ps = (MutSlice.pMutS RelayPending.row 0 tt) ∷ (MutSlice.pMutS RelayCircuit.row 1 tt) ∷
+    (MutSlice.pMutS InflightAction.row 2 tt) ∷ (MutSlice.pMutS (Referent.rtF (Referent.fInt Syntax.w32)) 3 tt) ∷ (StructRow.param
+    OpaqueRelayRuntime.the-type Laws''''.the-laws Laws''''.the-copy Laws''''.the-plain) ∷ (StructRow.param
+    Places.the-type Laws.the-laws Laws.the-copy Laws.the-plain) ∷ (StructRow.param Revoking.the-type Laws'''.the-laws
+    Laws'''.the-copy Laws'''.the-plain) ∷ (StructRow.param Firsts.the-type Laws''.the-laws Laws''.the-copy
+    Laws''.the-plain) ∷ List.[]
+
 abbrev pub r : Kinds.RK 4
-r = Value.rVal record { ty = Declared.row Relayed.the-type; one = Path.refl; val = Laws'''''''.val Relayed.the-type Laws'''''.the-laws; tells =
-    Laws'''''''.tells Relayed.the-type Laws'''''.the-laws; still = Laws'''''''.still Relayed.the-type Laws'''''.the-copy Exit.yes; row = Rows.whole
-    (Declared.row Relayed.the-type); rd = λ x. x; mk = λ x. x; } λ M 𝓤 H A W. record { copies = Laws'''''''.copy Relayed.the-type Laws'''''.the-copy 𝓤
-    H A W; lawful = Laws'''''''.lawful Relayed.the-type Laws'''''.the-laws 𝓤 H A W; makes = Laws'''''''.makes Relayed.the-type Laws'''''.the-plain 𝓤 H
-    A; in-mem = Local.mem-whole 𝓤 H A W (Declared.row Relayed.the-type); of-mem = Local.whole-mem 𝓤 H A W (Declared.row Relayed.the-type); }
+r = StructRow.result Relayed.the-type Laws'''''.the-laws Laws'''''.the-copy Laws'''''.the-plain
+
 abbrev pub xs : List.List Syntax.Ty
-xs = Laws''''''.mir ∷ Laws'.mir ∷ Laws'.mir ∷ Laws''''''.mir ∷ Laws''''''.mir ∷ ref0 ∷ (Syntax.tyStruct (38 ∷ 91 ∷ 93 ∷ List.[]) (Syntax.tcons ref0
-    (Syntax.tcons (Syntax.tyInt Syntax.w64) Syntax.tnil))) ∷ ref1 ∷ (Syntax.tyStruct (38 ∷ 91 ∷ 93 ∷ List.[]) (Syntax.tcons ref1 (Syntax.tcons
-    (Syntax.tyInt Syntax.w64) Syntax.tnil))) ∷ ref2 ∷ (Syntax.tyStruct (38 ∷ 91 ∷ 93 ∷ List.[]) (Syntax.tcons ref2 (Syntax.tcons (Syntax.tyInt
-    Syntax.w64) Syntax.tnil))) ∷ ref3 ∷ (Syntax.tyStruct (38 ∷ 91 ∷ 93 ∷ List.[]) (Syntax.tcons ref3 (Syntax.tcons (Syntax.tyInt Syntax.w64)
-    Syntax.tnil))) ∷ ref1 ∷ (Syntax.tyStruct (38 ∷ 91 ∷ 93 ∷ List.[]) (Syntax.tcons ref1 (Syntax.tcons (Syntax.tyInt Syntax.w64) Syntax.tnil))) ∷ ref2
-    ∷ (Syntax.tyStruct (38 ∷ 91 ∷ 93 ∷ List.[]) (Syntax.tcons ref2 (Syntax.tcons (Syntax.tyInt Syntax.w64) Syntax.tnil))) ∷ List.[]
+xs = Laws''''''.mir ∷ Laws'.mir ∷ Laws'.mir ∷ Laws''''''.mir ∷ Laws''''''.mir ∷ ref0 ∷ slice0 ∷ ref1 ∷ slice1 ∷ ref2 ∷
+    slice2 ∷ ref3 ∷ slice3 ∷ ref1 ∷ slice1 ∷ ref2 ∷ slice2 ∷ List.[]
+
 abbrev pub m : Nat.ℕ
 m = 6
+
 abbrev pub ps·0 : List.List (Kinds.PK 0)
-ps·0 = (Value.pVal record { ty = Declared.row OpaqueRelayRuntime.the-type; one = Path.refl; val = Laws'''''''.val OpaqueRelayRuntime.the-type
-    Laws''''.the-laws; tells = Laws'''''''.tells OpaqueRelayRuntime.the-type Laws''''.the-laws; still = Laws'''''''.still OpaqueRelayRuntime.the-type
-    Laws''''.the-copy Exit.yes; row = Rows.whole (Declared.row OpaqueRelayRuntime.the-type); rd = λ x. x; mk = λ x. x; } λ M 𝓤 H A W. record { copies
-    = Laws'''''''.copy OpaqueRelayRuntime.the-type Laws''''.the-copy 𝓤 H A W; lawful = Laws'''''''.lawful OpaqueRelayRuntime.the-type
-    Laws''''.the-laws 𝓤 H A W; makes = Laws'''''''.makes OpaqueRelayRuntime.the-type Laws''''.the-plain 𝓤 H A; in-mem = Local.mem-whole 𝓤 H A W
-    (Declared.row OpaqueRelayRuntime.the-type); of-mem = Local.whole-mem 𝓤 H A W (Declared.row OpaqueRelayRuntime.the-type); }) ∷ (Value.pVal record {
-    ty = Declared.row Places.the-type; one = Path.refl; val = Laws'''''''.val Places.the-type Laws.the-laws; tells = Laws'''''''.tells Places.the-type
-    Laws.the-laws; still = Laws'''''''.still Places.the-type Laws.the-copy Exit.yes; row = Rows.whole (Declared.row Places.the-type); rd = λ x. x; mk
-    = λ x. x; } λ M 𝓤 H A W. record { copies = Laws'''''''.copy Places.the-type Laws.the-copy 𝓤 H A W; lawful = Laws'''''''.lawful Places.the-type
-    Laws.the-laws 𝓤 H A W; makes = Laws'''''''.makes Places.the-type Laws.the-plain 𝓤 H A; in-mem = Local.mem-whole 𝓤 H A W (Declared.row
-    Places.the-type); of-mem = Local.whole-mem 𝓤 H A W (Declared.row Places.the-type); }) ∷ List.[]
+ps·0 = (StructRow.param OpaqueRelayRuntime.the-type Laws''''.the-laws Laws''''.the-copy Laws''''.the-plain) ∷ (StructRow.param
+    Places.the-type Laws.the-laws Laws.the-copy Laws.the-plain) ∷ List.[]
+
 abbrev pub r·0 : Kinds.RK 0
-r·0 = Value.rVal record { ty = Declared.row Sending.the-type; one = Path.refl; val = Laws'''''''.val Sending.the-type Laws''''''.the-laws; tells =
-    Laws'''''''.tells Sending.the-type Laws''''''.the-laws; still = Laws'''''''.still Sending.the-type Laws''''''.the-copy Exit.yes; row = Rows.whole
-    (Declared.row Sending.the-type); rd = λ x. x; mk = λ x. x; } λ M 𝓤 H A W. record { copies = Laws'''''''.copy Sending.the-type Laws''''''.the-copy
-    𝓤 H A W; lawful = Laws'''''''.lawful Sending.the-type Laws''''''.the-laws 𝓤 H A W; makes = Laws'''''''.makes Sending.the-type Laws''''''.the-plain
-    𝓤 H A; in-mem = Local.mem-whole 𝓤 H A W (Declared.row Sending.the-type); of-mem = Local.whole-mem 𝓤 H A W (Declared.row Sending.the-type); }
+r·0 = StructRow.result Sending.the-type Laws''''''.the-laws Laws''''''.the-copy Laws''''''.the-plain
+
 abbrev pub ps·1 : List.List (Kinds.PK 3)
-ps·1 = (MutSlice.pMutS RelayPending.row 0 tt) ∷ (MutSlice.pMutS InflightAction.row 1 tt) ∷ (MutSlice.pMutS (Referent.rtF (Referent.fInt Syntax.w32)) 2
-    tt) ∷ (Value.pVal record { ty = Declared.row Sending.the-type; one = Path.refl; val = Laws'''''''.val Sending.the-type Laws''''''.the-laws; tells
-    = Laws'''''''.tells Sending.the-type Laws''''''.the-laws; still = Laws'''''''.still Sending.the-type Laws''''''.the-copy Exit.yes; row =
-    Rows.whole (Declared.row Sending.the-type); rd = λ x. x; mk = λ x. x; } λ M 𝓤 H A W. record { copies = Laws'''''''.copy Sending.the-type
-    Laws''''''.the-copy 𝓤 H A W; lawful = Laws'''''''.lawful Sending.the-type Laws''''''.the-laws 𝓤 H A W; makes = Laws'''''''.makes Sending.the-type
-    Laws''''''.the-plain 𝓤 H A; in-mem = Local.mem-whole 𝓤 H A W (Declared.row Sending.the-type); of-mem = Local.whole-mem 𝓤 H A W (Declared.row
-    Sending.the-type); }) ∷ (Value.pVal record { ty = Declared.row Revoking.the-type; one = Path.refl; val = Laws'''''''.val Revoking.the-type
-    Laws'''.the-laws; tells = Laws'''''''.tells Revoking.the-type Laws'''.the-laws; still = Laws'''''''.still Revoking.the-type Laws'''.the-copy
-    Exit.yes; row = Rows.whole (Declared.row Revoking.the-type); rd = λ x. x; mk = λ x. x; } λ M 𝓤 H A W. record { copies = Laws'''''''.copy
-    Revoking.the-type Laws'''.the-copy 𝓤 H A W; lawful = Laws'''''''.lawful Revoking.the-type Laws'''.the-laws 𝓤 H A W; makes = Laws'''''''.makes
-    Revoking.the-type Laws'''.the-plain 𝓤 H A; in-mem = Local.mem-whole 𝓤 H A W (Declared.row Revoking.the-type); of-mem = Local.whole-mem 𝓤 H A W
-    (Declared.row Revoking.the-type); }) ∷ (Value.pVal record { ty = Declared.row Walked.the-type; one = Path.refl; val = Laws'''''''.val
-    Walked.the-type Laws'.the-laws; tells = Laws'''''''.tells Walked.the-type Laws'.the-laws; still = Laws'''''''.still Walked.the-type Laws'.the-copy
-    Exit.yes; row = Rows.whole (Declared.row Walked.the-type); rd = λ x. x; mk = λ x. x; } λ M 𝓤 H A W. record { copies = Laws'''''''.copy
-    Walked.the-type Laws'.the-copy 𝓤 H A W; lawful = Laws'''''''.lawful Walked.the-type Laws'.the-laws 𝓤 H A W; makes = Laws'''''''.makes
-    Walked.the-type Laws'.the-plain 𝓤 H A; in-mem = Local.mem-whole 𝓤 H A W (Declared.row Walked.the-type); of-mem = Local.whole-mem 𝓤 H A W
-    (Declared.row Walked.the-type); }) ∷ List.[]
+ps·1 = (MutSlice.pMutS RelayPending.row 0 tt) ∷ (MutSlice.pMutS InflightAction.row 1 tt) ∷ (MutSlice.pMutS
+    (Referent.rtF (Referent.fInt Syntax.w32)) 2 tt) ∷ (StructRow.param Sending.the-type Laws''''''.the-laws
+    Laws''''''.the-copy Laws''''''.the-plain) ∷ (StructRow.param Revoking.the-type Laws'''.the-laws Laws'''.the-copy
+    Laws'''.the-plain) ∷ (StructRow.param Walked.the-type Laws'.the-laws Laws'.the-copy Laws'.the-plain) ∷ List.[]
+
 abbrev pub r·1 : Kinds.RK 3
-r·1 = Value.rVal record { ty = Declared.row Sending.the-type; one = Path.refl; val = Laws'''''''.val Sending.the-type Laws''''''.the-laws; tells =
-    Laws'''''''.tells Sending.the-type Laws''''''.the-laws; still = Laws'''''''.still Sending.the-type Laws''''''.the-copy Exit.yes; row = Rows.whole
-    (Declared.row Sending.the-type); rd = λ x. x; mk = λ x. x; } λ M 𝓤 H A W. record { copies = Laws'''''''.copy Sending.the-type Laws''''''.the-copy
-    𝓤 H A W; lawful = Laws'''''''.lawful Sending.the-type Laws''''''.the-laws 𝓤 H A W; makes = Laws'''''''.makes Sending.the-type Laws''''''.the-plain
-    𝓤 H A; in-mem = Local.mem-whole 𝓤 H A W (Declared.row Sending.the-type); of-mem = Local.whole-mem 𝓤 H A W (Declared.row Sending.the-type); }
+r·1 = StructRow.result Sending.the-type Laws''''''.the-laws Laws''''''.the-copy Laws''''''.the-plain
+
 abbrev pub ps·2 : List.List (Kinds.PK 3)
-ps·2 = (MutSlice.pMutS RelayCircuit.row 0 tt) ∷ (MutSlice.pMutS InflightAction.row 1 tt) ∷ (MutSlice.pMutS (Referent.rtF (Referent.fInt Syntax.w32)) 2
-    tt) ∷ (Value.pVal record { ty = Declared.row Sending.the-type; one = Path.refl; val = Laws'''''''.val Sending.the-type Laws''''''.the-laws; tells
-    = Laws'''''''.tells Sending.the-type Laws''''''.the-laws; still = Laws'''''''.still Sending.the-type Laws''''''.the-copy Exit.yes; row =
-    Rows.whole (Declared.row Sending.the-type); rd = λ x. x; mk = λ x. x; } λ M 𝓤 H A W. record { copies = Laws'''''''.copy Sending.the-type
-    Laws''''''.the-copy 𝓤 H A W; lawful = Laws'''''''.lawful Sending.the-type Laws''''''.the-laws 𝓤 H A W; makes = Laws'''''''.makes Sending.the-type
-    Laws''''''.the-plain 𝓤 H A; in-mem = Local.mem-whole 𝓤 H A W (Declared.row Sending.the-type); of-mem = Local.whole-mem 𝓤 H A W (Declared.row
-    Sending.the-type); }) ∷ (Value.pVal record { ty = Declared.row Revoking.the-type; one = Path.refl; val = Laws'''''''.val Revoking.the-type
-    Laws'''.the-laws; tells = Laws'''''''.tells Revoking.the-type Laws'''.the-laws; still = Laws'''''''.still Revoking.the-type Laws'''.the-copy
-    Exit.yes; row = Rows.whole (Declared.row Revoking.the-type); rd = λ x. x; mk = λ x. x; } λ M 𝓤 H A W. record { copies = Laws'''''''.copy
-    Revoking.the-type Laws'''.the-copy 𝓤 H A W; lawful = Laws'''''''.lawful Revoking.the-type Laws'''.the-laws 𝓤 H A W; makes = Laws'''''''.makes
-    Revoking.the-type Laws'''.the-plain 𝓤 H A; in-mem = Local.mem-whole 𝓤 H A W (Declared.row Revoking.the-type); of-mem = Local.whole-mem 𝓤 H A W
-    (Declared.row Revoking.the-type); }) ∷ (Value.pVal record { ty = Declared.row Walked.the-type; one = Path.refl; val = Laws'''''''.val
-    Walked.the-type Laws'.the-laws; tells = Laws'''''''.tells Walked.the-type Laws'.the-laws; still = Laws'''''''.still Walked.the-type Laws'.the-copy
-    Exit.yes; row = Rows.whole (Declared.row Walked.the-type); rd = λ x. x; mk = λ x. x; } λ M 𝓤 H A W. record { copies = Laws'''''''.copy
-    Walked.the-type Laws'.the-copy 𝓤 H A W; lawful = Laws'''''''.lawful Walked.the-type Laws'.the-laws 𝓤 H A W; makes = Laws'''''''.makes
-    Walked.the-type Laws'.the-plain 𝓤 H A; in-mem = Local.mem-whole 𝓤 H A W (Declared.row Walked.the-type); of-mem = Local.whole-mem 𝓤 H A W
-    (Declared.row Walked.the-type); }) ∷ List.[]
+ps·2 = (MutSlice.pMutS RelayCircuit.row 0 tt) ∷ (MutSlice.pMutS InflightAction.row 1 tt) ∷ (MutSlice.pMutS
+    (Referent.rtF (Referent.fInt Syntax.w32)) 2 tt) ∷ (StructRow.param Sending.the-type Laws''''''.the-laws
+    Laws''''''.the-copy Laws''''''.the-plain) ∷ (StructRow.param Revoking.the-type Laws'''.the-laws Laws'''.the-copy
+    Laws'''.the-plain) ∷ (StructRow.param Walked.the-type Laws'.the-laws Laws'.the-copy Laws'.the-plain) ∷ List.[]
+
 abbrev pub r·2 : Kinds.RK 3
-r·2 = Value.rVal record { ty = Declared.row Sending.the-type; one = Path.refl; val = Laws'''''''.val Sending.the-type Laws''''''.the-laws; tells =
-    Laws'''''''.tells Sending.the-type Laws''''''.the-laws; still = Laws'''''''.still Sending.the-type Laws''''''.the-copy Exit.yes; row = Rows.whole
-    (Declared.row Sending.the-type); rd = λ x. x; mk = λ x. x; } λ M 𝓤 H A W. record { copies = Laws'''''''.copy Sending.the-type Laws''''''.the-copy
-    𝓤 H A W; lawful = Laws'''''''.lawful Sending.the-type Laws''''''.the-laws 𝓤 H A W; makes = Laws'''''''.makes Sending.the-type Laws''''''.the-plain
-    𝓤 H A; in-mem = Local.mem-whole 𝓤 H A W (Declared.row Sending.the-type); of-mem = Local.whole-mem 𝓤 H A W (Declared.row Sending.the-type); }
+r·2 = StructRow.result Sending.the-type Laws''''''.the-laws Laws''''''.the-copy Laws''''''.the-plain
+
 abbrev pub ps·3 : List.List (Kinds.PK 0)
-ps·3 = (Value.pVal record { ty = Declared.row Sending.the-type; one = Path.refl; val = Laws'''''''.val Sending.the-type Laws''''''.the-laws; tells =
-    Laws'''''''.tells Sending.the-type Laws''''''.the-laws; still = Laws'''''''.still Sending.the-type Laws''''''.the-copy Exit.yes; row = Rows.whole
-    (Declared.row Sending.the-type); rd = λ x. x; mk = λ x. x; } λ M 𝓤 H A W. record { copies = Laws'''''''.copy Sending.the-type Laws''''''.the-copy
-    𝓤 H A W; lawful = Laws'''''''.lawful Sending.the-type Laws''''''.the-laws 𝓤 H A W; makes = Laws'''''''.makes Sending.the-type Laws''''''.the-plain
-    𝓤 H A; in-mem = Local.mem-whole 𝓤 H A W (Declared.row Sending.the-type); of-mem = Local.whole-mem 𝓤 H A W (Declared.row Sending.the-type); }) ∷
-    List.[]
+ps·3 = (StructRow.param Sending.the-type Laws''''''.the-laws Laws''''''.the-copy Laws''''''.the-plain) ∷ List.[]
+
 abbrev pub r·3 : Kinds.RK 0
-r·3 = Value.rVal record { ty = Declared.row Relayed.the-type; one = Path.refl; val = Laws'''''''.val Relayed.the-type Laws'''''.the-laws; tells =
-    Laws'''''''.tells Relayed.the-type Laws'''''.the-laws; still = Laws'''''''.still Relayed.the-type Laws'''''.the-copy Exit.yes; row = Rows.whole
-    (Declared.row Relayed.the-type); rd = λ x. x; mk = λ x. x; } λ M 𝓤 H A W. record { copies = Laws'''''''.copy Relayed.the-type Laws'''''.the-copy 𝓤
-    H A W; lawful = Laws'''''''.lawful Relayed.the-type Laws'''''.the-laws 𝓤 H A W; makes = Laws'''''''.makes Relayed.the-type Laws'''''.the-plain 𝓤 H
-    A; in-mem = Local.mem-whole 𝓤 H A W (Declared.row Relayed.the-type); of-mem = Local.whole-mem 𝓤 H A W (Declared.row Relayed.the-type); }
+r·3 = StructRow.result Relayed.the-type Laws'''''.the-laws Laws'''''.the-copy Laws'''''.the-plain
+
 abbrev pub hs : List.List Syntax.Home
-hs = Syntax.valueLocal ∷ Syntax.valueLocal ∷ Syntax.valueLocal ∷ Syntax.valueLocal ∷ Syntax.valueLocal ∷ Syntax.valueLocal ∷ Syntax.valueLocal ∷
-    Syntax.valueLocal ∷ Syntax.valueLocal ∷ Syntax.valueLocal ∷ Syntax.valueLocal ∷ Syntax.valueLocal ∷ Syntax.valueLocal ∷ Syntax.valueLocal ∷
-    Syntax.valueLocal ∷ Syntax.valueLocal ∷ Syntax.valueLocal ∷ Syntax.valueLocal ∷ Syntax.valueLocal ∷ Syntax.valueLocal ∷ Syntax.valueLocal ∷
-    Syntax.valueLocal ∷ Syntax.valueLocal ∷ Syntax.valueLocal ∷ Syntax.valueLocal ∷ Syntax.valueLocal ∷ List.[]
+hs = Syntax.valueLocal ∷ Syntax.valueLocal ∷ Syntax.valueLocal ∷ Syntax.valueLocal ∷ Syntax.valueLocal ∷
+    Syntax.valueLocal ∷ Syntax.valueLocal ∷ Syntax.valueLocal ∷ Syntax.valueLocal ∷ Syntax.valueLocal ∷
+    Syntax.valueLocal ∷ Syntax.valueLocal ∷ Syntax.valueLocal ∷ Syntax.valueLocal ∷ Syntax.valueLocal ∷
+    Syntax.valueLocal ∷ Syntax.valueLocal ∷ Syntax.valueLocal ∷ Syntax.valueLocal ∷ Syntax.valueLocal ∷
+    Syntax.valueLocal ∷ Syntax.valueLocal ∷ Syntax.valueLocal ∷ Syntax.valueLocal ∷ Syntax.valueLocal ∷
+    Syntax.valueLocal ∷ List.[]
+
 abbrev b0 : Syntax.Body
-b0 = Syntax.call "hnsr_circuit::revocation::started" ((Syntax.copy (Syntax.place 5 List.[])) ∷ (Syntax.copy (Syntax.place 6 List.[])) ∷ List.[])
-    (Syntax.place 9 List.[])
+b0 = Syntax.call "hnsr_circuit::revocation::started" ((Syntax.copy (Syntax.place 5 List.[])) ∷
+    (Syntax.copy (Syntax.place 6 List.[])) ∷ List.[]) (Syntax.place 9 List.[])
+
 abbrev b1 : Syntax.Body
 b1 = Syntax.assign (Syntax.place 10 List.[]) (Syntax.rvOpd (Syntax.copy (Syntax.place 8 ((Syntax.field 0) ∷ List.[]))))
+
 abbrev b2 : Syntax.Body
 b2 = Syntax.assign (Syntax.place 11 List.[]) (Syntax.rvOpd (Syntax.copy (Syntax.place 8 ((Syntax.field 1) ∷ List.[]))))
+
 abbrev b3 : Syntax.Body
-b3 = Syntax.assign (Syntax.place 14 List.[]) (Syntax.addrOf (Syntax.place 1 ((Syntax.field 0) ∷ (Syntax.deref RelayPending.ty) ∷ List.[])))
+b3 = Syntax.assign (Syntax.place 14 List.[]) (Syntax.addrOf (Syntax.place 1 ((Syntax.field 0) ∷
+    (Syntax.deref RelayPending.ty) ∷ List.[])))
+
 abbrev b4 : Syntax.Body
-b4 = Syntax.assign (Syntax.place 15 List.[]) (Syntax.aggregate ((Syntax.copy (Syntax.place 14 List.[])) ∷ (Syntax.copy (Syntax.place 1 ((Syntax.field
-    1) ∷ List.[]))) ∷ List.[]))
+b4 = Syntax.assign (Syntax.place 15 List.[]) (Syntax.aggregate ((Syntax.copy (Syntax.place 14 List.[])) ∷
+    (Syntax.copy (Syntax.place 1 ((Syntax.field 1) ∷ List.[]))) ∷ List.[]))
+
 abbrev b5 : Syntax.Body
-b5 = Syntax.assign (Syntax.place 16 List.[]) (Syntax.addrOf (Syntax.place 3 ((Syntax.field 0) ∷ (Syntax.deref InflightAction.ty) ∷ List.[])))
+b5 = Syntax.assign (Syntax.place 16 List.[]) (Syntax.addrOf (Syntax.place 3 ((Syntax.field 0) ∷
+    (Syntax.deref InflightAction.ty) ∷ List.[])))
+
 abbrev b6 : Syntax.Body
-b6 = Syntax.assign (Syntax.place 17 List.[]) (Syntax.aggregate ((Syntax.copy (Syntax.place 16 List.[])) ∷ (Syntax.copy (Syntax.place 3 ((Syntax.field
-    1) ∷ List.[]))) ∷ List.[]))
+b6 = Syntax.assign (Syntax.place 17 List.[]) (Syntax.aggregate ((Syntax.copy (Syntax.place 16 List.[])) ∷
+    (Syntax.copy (Syntax.place 3 ((Syntax.field 1) ∷ List.[]))) ∷ List.[]))
+
 abbrev b7 : Syntax.Body
-b7 = Syntax.assign (Syntax.place 18 List.[]) (Syntax.addrOf (Syntax.place 4 ((Syntax.field 0) ∷ (Syntax.deref (Syntax.tyInt Syntax.w32)) ∷ List.[])))
+b7 = Syntax.assign (Syntax.place 18 List.[]) (Syntax.addrOf (Syntax.place 4 ((Syntax.field 0) ∷
+    (Syntax.deref (Syntax.tyInt Syntax.w32)) ∷ List.[])))
+
 abbrev b8 : Syntax.Body
-b8 = Syntax.assign (Syntax.place 19 List.[]) (Syntax.aggregate ((Syntax.copy (Syntax.place 18 List.[])) ∷ (Syntax.copy (Syntax.place 4 ((Syntax.field
-    1) ∷ List.[]))) ∷ List.[]))
+b8 = Syntax.assign (Syntax.place 19 List.[]) (Syntax.aggregate ((Syntax.copy (Syntax.place 18 List.[])) ∷
+    (Syntax.copy (Syntax.place 4 ((Syntax.field 1) ∷ List.[]))) ∷ List.[]))
+
 abbrev b9 : Syntax.Body
-b9 = Syntax.call "hnsr_circuit::revocation::walk_pending" ((Syntax.copy (Syntax.place 15 List.[])) ∷ (Syntax.copy (Syntax.place 17 List.[])) ∷
-    (Syntax.copy (Syntax.place 19 List.[])) ∷ (Syntax.copy (Syntax.place 9 List.[])) ∷ (Syntax.copy (Syntax.place 7 List.[])) ∷ (Syntax.copy
-    (Syntax.place 10 List.[])) ∷ List.[]) (Syntax.place 12 List.[])
+b9 = Syntax.call "hnsr_circuit::revocation::walk_pending" ((Syntax.copy (Syntax.place 15 List.[])) ∷
+    (Syntax.copy (Syntax.place 17 List.[])) ∷ (Syntax.copy (Syntax.place 19 List.[])) ∷
+    (Syntax.copy (Syntax.place 9 List.[])) ∷ (Syntax.copy (Syntax.place 7 List.[])) ∷
+    (Syntax.copy (Syntax.place 10 List.[])) ∷ List.[]) (Syntax.place 12 List.[])
+
 abbrev b10 : Syntax.Body
-b10 = Syntax.assign (Syntax.place 20 List.[]) (Syntax.addrOf (Syntax.place 2 ((Syntax.field 0) ∷ (Syntax.deref RelayCircuit.ty) ∷ List.[])))
+b10 = Syntax.assign (Syntax.place 20 List.[]) (Syntax.addrOf (Syntax.place 2 ((Syntax.field 0) ∷
+    (Syntax.deref RelayCircuit.ty) ∷ List.[])))
+
 abbrev b11 : Syntax.Body
-b11 = Syntax.assign (Syntax.place 21 List.[]) (Syntax.aggregate ((Syntax.copy (Syntax.place 20 List.[])) ∷ (Syntax.copy (Syntax.place 2 ((Syntax.field
-    1) ∷ List.[]))) ∷ List.[]))
+b11 = Syntax.assign (Syntax.place 21 List.[]) (Syntax.aggregate ((Syntax.copy (Syntax.place 20 List.[])) ∷
+    (Syntax.copy (Syntax.place 2 ((Syntax.field 1) ∷ List.[]))) ∷ List.[]))
+
 abbrev b12 : Syntax.Body
-b12 = Syntax.assign (Syntax.place 22 List.[]) (Syntax.addrOf (Syntax.place 3 ((Syntax.field 0) ∷ (Syntax.deref InflightAction.ty) ∷ List.[])))
+b12 = Syntax.assign (Syntax.place 22 List.[]) (Syntax.addrOf (Syntax.place 3 ((Syntax.field 0) ∷
+    (Syntax.deref InflightAction.ty) ∷ List.[])))
+
 abbrev b13 : Syntax.Body
-b13 = Syntax.assign (Syntax.place 23 List.[]) (Syntax.aggregate ((Syntax.copy (Syntax.place 22 List.[])) ∷ (Syntax.copy (Syntax.place 3 ((Syntax.field
-    1) ∷ List.[]))) ∷ List.[]))
+b13 = Syntax.assign (Syntax.place 23 List.[]) (Syntax.aggregate ((Syntax.copy (Syntax.place 22 List.[])) ∷
+    (Syntax.copy (Syntax.place 3 ((Syntax.field 1) ∷ List.[]))) ∷ List.[]))
+
 abbrev b14 : Syntax.Body
-b14 = Syntax.assign (Syntax.place 24 List.[]) (Syntax.addrOf (Syntax.place 4 ((Syntax.field 0) ∷ (Syntax.deref (Syntax.tyInt Syntax.w32)) ∷ List.[])))
+b14 = Syntax.assign (Syntax.place 24 List.[]) (Syntax.addrOf (Syntax.place 4 ((Syntax.field 0) ∷
+    (Syntax.deref (Syntax.tyInt Syntax.w32)) ∷ List.[])))
+
 abbrev b15 : Syntax.Body
-b15 = Syntax.assign (Syntax.place 25 List.[]) (Syntax.aggregate ((Syntax.copy (Syntax.place 24 List.[])) ∷ (Syntax.copy (Syntax.place 4 ((Syntax.field
-    1) ∷ List.[]))) ∷ List.[]))
+b15 = Syntax.assign (Syntax.place 25 List.[]) (Syntax.aggregate ((Syntax.copy (Syntax.place 24 List.[])) ∷
+    (Syntax.copy (Syntax.place 4 ((Syntax.field 1) ∷ List.[]))) ∷ List.[]))
+
 abbrev b16 : Syntax.Body
-b16 = Syntax.call "hnsr_circuit::revocation::walk_circuits" ((Syntax.copy (Syntax.place 21 List.[])) ∷ (Syntax.copy (Syntax.place 23 List.[])) ∷
-    (Syntax.copy (Syntax.place 25 List.[])) ∷ (Syntax.copy (Syntax.place 12 List.[])) ∷ (Syntax.copy (Syntax.place 7 List.[])) ∷ (Syntax.copy
-    (Syntax.place 11 List.[])) ∷ List.[]) (Syntax.place 13 List.[])
+b16 = Syntax.call "hnsr_circuit::revocation::walk_circuits" ((Syntax.copy (Syntax.place 21 List.[])) ∷
+    (Syntax.copy (Syntax.place 23 List.[])) ∷ (Syntax.copy (Syntax.place 25 List.[])) ∷
+    (Syntax.copy (Syntax.place 12 List.[])) ∷ (Syntax.copy (Syntax.place 7 List.[])) ∷
+    (Syntax.copy (Syntax.place 11 List.[])) ∷ List.[]) (Syntax.place 13 List.[])
+
 abbrev b17 : Syntax.Body
-b17 = Syntax.call "hnsr_circuit::revocation::finished" ((Syntax.copy (Syntax.place 13 List.[])) ∷ List.[]) (Syntax.place 0 List.[])
+b17 = Syntax.call "hnsr_circuit::revocation::finished" ((Syntax.copy (Syntax.place 13 List.[])) ∷ List.[])
+    (Syntax.place 0 List.[])
+
 abbrev b18 : Syntax.Body
 b18 = Syntax.return
+
 abbrev b19 : Syntax.Body
 b19 = Syntax.seq b17 b18
+
 abbrev b20 : Syntax.Body
 b20 = Syntax.seq b16 b19
+
 abbrev b21 : Syntax.Body
 b21 = Syntax.seq b15 b20
+
 abbrev b22 : Syntax.Body
 b22 = Syntax.seq b14 b21
+
 abbrev b23 : Syntax.Body
 b23 = Syntax.seq b13 b22
+
 abbrev b24 : Syntax.Body
 b24 = Syntax.seq b12 b23
+
 abbrev b25 : Syntax.Body
 b25 = Syntax.seq b11 b24
+
 abbrev b26 : Syntax.Body
 b26 = Syntax.seq b10 b25
+
 abbrev b27 : Syntax.Body
 b27 = Syntax.seq b9 b26
+
 abbrev b28 : Syntax.Body
 b28 = Syntax.seq b8 b27
+
 abbrev b29 : Syntax.Body
 b29 = Syntax.seq b7 b28
+
 abbrev b30 : Syntax.Body
 b30 = Syntax.seq b6 b29
+
 abbrev b31 : Syntax.Body
 b31 = Syntax.seq b5 b30
+
 abbrev b32 : Syntax.Body
 b32 = Syntax.seq b4 b31
+
 abbrev b33 : Syntax.Body
 b33 = Syntax.seq b3 b32
+
 abbrev b34 : Syntax.Body
 b34 = Syntax.seq b2 b33
+
 abbrev b35 : Syntax.Body
 b35 = Syntax.seq b1 b34
+
 abbrev b36 : Syntax.Body
 b36 = Syntax.seq b0 b35
+
 abbrev pub body : Syntax.Body
 body = b36
+
 abbrev pub Claims : Type 1
-Claims = Kinds.In 0 ps·0 × Kinds.Out 0 ps·0 r·0 × Kinds.In 3 ps·1 × Kinds.Out 3 ps·1 r·1 × Kinds.In 3 ps·2 × Kinds.Out 3 ps·2 r·2 × Kinds.In 0 ps·3 ×
-    Kinds.Out 0 ps·3 r·3
+Claims = Kinds.In 0 ps·0 × Kinds.Out 0 ps·0 r·0 × Kinds.In 3 ps·1 × Kinds.Out 3 ps·1 r·1 × Kinds.In 3 ps·2 × Kinds.Out
+    3 ps·2 r·2 × Kinds.In 0 ps·3 × Kinds.Out 0 ps·3 r·3
+
 abbrev e0 : Row.Entry
 e0 = (0, Rows.any-gone Laws'''''.mir)
+
 abbrev e1 : Row.Entry
 e1 = (1, Mut.mslice RelayPending.row ref4 0)
+
 abbrev e2 : Row.Entry
 e2 = (2, Mut.mslice RelayCircuit.row ref5 1)
+
 abbrev e3 : Row.Entry
 e3 = (3, Mut.mslice InflightAction.row ref6 2)
+
 abbrev e4 : Row.Entry
 e4 = (4, Mut.mslice (Referent.rtF (Referent.fInt Syntax.w32)) ref7 3)
+
 abbrev e5 : Row.Entry
 e5 = (5, Rows.whole (Declared.row OpaqueRelayRuntime.the-type))
+
 abbrev e6 : Row.Entry
 e6 = (6, Rows.whole (Declared.row Places.the-type))
+
 abbrev e7 : Row.Entry
 e7 = (7, Rows.whole (Declared.row Revoking.the-type))
+
 abbrev e8 : Row.Entry
 e8 = (8, Rows.whole (Declared.row Firsts.the-type))
+
 abbrev e9 : Row.Entry
 e9 = (9, Rows.any-gone Laws''''''.mir)
+
 abbrev e10 : Row.Entry
 e10 = (10, Rows.any-gone Laws'.mir)
+
 abbrev e11 : Row.Entry
 e11 = (11, Rows.any-gone Laws'.mir)
+
 abbrev e12 : Row.Entry
 e12 = (12, Rows.any-gone Laws''''''.mir)
+
 abbrev e13 : Row.Entry
 e13 = (13, Rows.any-gone Laws''''''.mir)
+
 abbrev e14 : Row.Entry
 e14 = (14, Rows.any-gone ref0)
+
 abbrev e15 : Row.Entry
-e15 = (15, Rows.any-gone (Syntax.tyStruct (38 ∷ 91 ∷ 93 ∷ List.[]) (Syntax.tcons ref0 (Syntax.tcons (Syntax.tyInt Syntax.w64) Syntax.tnil))))
+e15 = (15, Rows.any-gone slice0)
+
 abbrev e16 : Row.Entry
 e16 = (16, Rows.any-gone ref1)
+
 abbrev e17 : Row.Entry
-e17 = (17, Rows.any-gone (Syntax.tyStruct (38 ∷ 91 ∷ 93 ∷ List.[]) (Syntax.tcons ref1 (Syntax.tcons (Syntax.tyInt Syntax.w64) Syntax.tnil))))
+e17 = (17, Rows.any-gone slice1)
+
 abbrev e18 : Row.Entry
 e18 = (18, Rows.any-gone ref2)
+
 abbrev e19 : Row.Entry
-e19 = (19, Rows.any-gone (Syntax.tyStruct (38 ∷ 91 ∷ 93 ∷ List.[]) (Syntax.tcons ref2 (Syntax.tcons (Syntax.tyInt Syntax.w64) Syntax.tnil))))
+e19 = (19, Rows.any-gone slice2)
+
 abbrev e20 : Row.Entry
 e20 = (20, Rows.any-gone ref3)
+
 abbrev e21 : Row.Entry
-e21 = (21, Rows.any-gone (Syntax.tyStruct (38 ∷ 91 ∷ 93 ∷ List.[]) (Syntax.tcons ref3 (Syntax.tcons (Syntax.tyInt Syntax.w64) Syntax.tnil))))
+e21 = (21, Rows.any-gone slice3)
+
 abbrev e22 : Row.Entry
 e22 = (22, Rows.any-gone ref1)
+
 abbrev e23 : Row.Entry
-e23 = (23, Rows.any-gone (Syntax.tyStruct (38 ∷ 91 ∷ 93 ∷ List.[]) (Syntax.tcons ref1 (Syntax.tcons (Syntax.tyInt Syntax.w64) Syntax.tnil))))
+e23 = (23, Rows.any-gone slice1)
+
 abbrev e24 : Row.Entry
 e24 = (24, Rows.any-gone ref2)
+
 abbrev e25 : Row.Entry
-e25 = (25, Rows.any-gone (Syntax.tyStruct (38 ∷ 91 ∷ 93 ∷ List.[]) (Syntax.tcons ref2 (Syntax.tcons (Syntax.tyInt Syntax.w64) Syntax.tnil))))
+e25 = (25, Rows.any-gone slice2)
+
 abbrev e0·1 : Row.Entry
 e0·1 = (0, Rows.whole (Declared.row Relayed.the-type))
+
 abbrev e5·1 : Row.Entry
 e5·1 = (5, Rows.any-gone Laws''''.mir)
+
 abbrev e6·1 : Row.Entry
 e6·1 = (6, Rows.any-gone Laws.mir)
+
 abbrev e7·1 : Row.Entry
 e7·1 = (7, Rows.any-gone Laws'''.mir)
+
 abbrev e8·1 : Row.Entry
 e8·1 = (8, Rows.any-gone Laws''.mir)
+
 abbrev e9·1 : Row.Entry
 e9·1 = (9, Rows.whole (Declared.row Sending.the-type))
+
 abbrev e10·1 : Row.Entry
 e10·1 = (10, Rows.whole (Declared.row Walked.the-type))
+
 abbrev e11·1 : Row.Entry
 e11·1 = (11, Rows.whole (Declared.row Walked.the-type))
+
 abbrev e1·1 : Row.Entry
 e1·1 = (1, Relend.mslice-owed RelayPending.row ref4 0 4 Row.off)
+
 abbrev e14·1 : Row.Entry
 e14·1 = (14, Relend.msptr RelayPending.row ref0 4)
+
 abbrev e15·1 : Row.Entry
 e15·1 = (15, Mut.mslice RelayPending.row ref0 4)
+
 abbrev e3·1 : Row.Entry
 e3·1 = (3, Relend.mslice-owed InflightAction.row ref6 2 5 Row.off)
+
 abbrev e16·1 : Row.Entry
 e16·1 = (16, Relend.msptr InflightAction.row ref1 5)
+
 abbrev e17·1 : Row.Entry
 e17·1 = (17, Mut.mslice InflightAction.row ref1 5)
+
 abbrev e4·1 : Row.Entry
 e4·1 = (4, Relend.mslice-owed (Referent.rtF (Referent.fInt Syntax.w32)) ref7 3 6 Row.off)
+
 abbrev e18·1 : Row.Entry
 e18·1 = (18, Relend.msptr (Referent.rtF (Referent.fInt Syntax.w32)) ref2 6)
+
 abbrev e19·1 : Row.Entry
 e19·1 = (19, Mut.mslice (Referent.rtF (Referent.fInt Syntax.w32)) ref2 6)
+
 abbrev e12·1 : Row.Entry
 e12·1 = (12, Rows.whole (Declared.row Sending.the-type))
+
 abbrev e15·2 : Row.Entry
 e15·2 = (15, Mut.msleft RelayPending.row ref0)
+
 abbrev e17·2 : Row.Entry
 e17·2 = (17, Mut.msleft InflightAction.row ref1)
+
 abbrev e19·2 : Row.Entry
 e19·2 = (19, Mut.msleft (Referent.rtF (Referent.fInt Syntax.w32)) ref2)
+
 abbrev e2·1 : Row.Entry
 e2·1 = (2, Relend.mslice-owed RelayCircuit.row ref5 1 7 Row.off)
+
 abbrev e20·1 : Row.Entry
 e20·1 = (20, Relend.msptr RelayCircuit.row ref3 7)
+
 abbrev e21·1 : Row.Entry
 e21·1 = (21, Mut.mslice RelayCircuit.row ref3 7)
+
 abbrev e3·2 : Row.Entry
 e3·2 = (3, Relend.mslice-owed InflightAction.row ref6 2 8 Row.off)
+
 abbrev e22·1 : Row.Entry
 e22·1 = (22, Relend.msptr InflightAction.row ref1 8)
+
 abbrev e23·1 : Row.Entry
 e23·1 = (23, Mut.mslice InflightAction.row ref1 8)
+
 abbrev e4·2 : Row.Entry
 e4·2 = (4, Relend.mslice-owed (Referent.rtF (Referent.fInt Syntax.w32)) ref7 3 9 Row.off)
+
 abbrev e24·1 : Row.Entry
 e24·1 = (24, Relend.msptr (Referent.rtF (Referent.fInt Syntax.w32)) ref2 9)
+
 abbrev e25·1 : Row.Entry
 e25·1 = (25, Mut.mslice (Referent.rtF (Referent.fInt Syntax.w32)) ref2 9)
+
 abbrev e13·1 : Row.Entry
 e13·1 = (13, Rows.whole (Declared.row Sending.the-type))
+
 abbrev e21·2 : Row.Entry
 e21·2 = (21, Mut.msleft RelayCircuit.row ref3)
+
 abbrev e23·2 : Row.Entry
 e23·2 = (23, Mut.msleft InflightAction.row ref1)
+
 abbrev e25·2 : Row.Entry
 e25·2 = (25, Mut.msleft (Referent.rtF (Referent.fInt Syntax.w32)) ref2)
+
 abbrev pub t0 : List.List Row.Entry
 t0 = e0 ∷ e1 ∷ e2 ∷ e3 ∷ e4 ∷ e5 ∷ e6 ∷ e7 ∷ e8 ∷ e9 ∷ e10 ∷ e11 ∷ e12 ∷ e13 ∷ e14 ∷ e15 ∷ List.[]
+
 abbrev pub t1 : List.List Row.Entry
 t1 = e16 ∷ e17 ∷ e18 ∷ e19 ∷ e20 ∷ e21 ∷ e22 ∷ e23 ∷ e24 ∷ e25 ∷ List.[]
+
 abbrev pub t2 : List.List Row.Entry
 t2 = e0·1 ∷ e1 ∷ e2 ∷ e3 ∷ e4 ∷ e5·1 ∷ e6·1 ∷ e7·1 ∷ e8·1 ∷ e9 ∷ e10 ∷ e11 ∷ e12 ∷ e13 ∷ e14 ∷ e15 ∷ List.[]
+
 abbrev pub t3 : List.List Row.Entry
 t3 = e0 ∷ e1 ∷ e2 ∷ e3 ∷ e4 ∷ e5 ∷ e6 ∷ e7 ∷ e8 ∷ e9·1 ∷ e10 ∷ e11 ∷ e12 ∷ e13 ∷ e14 ∷ e15 ∷ List.[]
+
 abbrev pub t4 : List.List Row.Entry
 t4 = e0 ∷ e1 ∷ e2 ∷ e3 ∷ e4 ∷ e5·1 ∷ e6 ∷ e7 ∷ e8 ∷ e9·1 ∷ e10 ∷ e11 ∷ e12 ∷ e13 ∷ e14 ∷ e15 ∷ List.[]
+
 abbrev pub t5 : List.List Row.Entry
 t5 = e0 ∷ e1 ∷ e2 ∷ e3 ∷ e4 ∷ e5·1 ∷ e6·1 ∷ e7 ∷ e8 ∷ e9·1 ∷ e10 ∷ e11 ∷ e12 ∷ e13 ∷ e14 ∷ e15 ∷ List.[]
+
 abbrev pub t6 : List.List Row.Entry
 t6 = e0 ∷ e1 ∷ e2 ∷ e3 ∷ e4 ∷ e5·1 ∷ e6·1 ∷ e7 ∷ e8 ∷ e9·1 ∷ e10·1 ∷ e11 ∷ e12 ∷ e13 ∷ e14 ∷ e15 ∷ List.[]
+
 abbrev pub t7 : List.List Row.Entry
 t7 = e0 ∷ e1 ∷ e2 ∷ e3 ∷ e4 ∷ e5·1 ∷ e6·1 ∷ e7 ∷ e8 ∷ e9·1 ∷ e10·1 ∷ e11·1 ∷ e12 ∷ e13 ∷ e14 ∷ e15 ∷ List.[]
+
 abbrev pub t8 : List.List Row.Entry
 t8 = e0 ∷ e1 ∷ e2 ∷ e3 ∷ e4 ∷ e5·1 ∷ e6·1 ∷ e7 ∷ e8·1 ∷ e9·1 ∷ e10·1 ∷ e11·1 ∷ e12 ∷ e13 ∷ e14 ∷ e15 ∷ List.[]
+
 abbrev pub t9 : List.List Row.Entry
 t9 = e0 ∷ e1·1 ∷ e2 ∷ e3 ∷ e4 ∷ e5·1 ∷ e6·1 ∷ e7 ∷ e8·1 ∷ e9·1 ∷ e10·1 ∷ e11·1 ∷ e12 ∷ e13 ∷ e14·1 ∷ e15 ∷ List.[]
+
 abbrev pub t10 : List.List Row.Entry
 t10 = e0 ∷ e1·1 ∷ e2 ∷ e3 ∷ e4 ∷ e5·1 ∷ e6·1 ∷ e7 ∷ e8·1 ∷ e9·1 ∷ e10·1 ∷ e11·1 ∷ e12 ∷ e13 ∷ e14 ∷ e15·1 ∷ List.[]
+
 abbrev pub t11 : List.List Row.Entry
 t11 = e0 ∷ e1·1 ∷ e2 ∷ e3·1 ∷ e4 ∷ e5·1 ∷ e6·1 ∷ e7 ∷ e8·1 ∷ e9·1 ∷ e10·1 ∷ e11·1 ∷ e12 ∷ e13 ∷ e14 ∷ e15·1 ∷ List.[]
+
 abbrev pub t12 : List.List Row.Entry
 t12 = e16·1 ∷ e17 ∷ e18 ∷ e19 ∷ e20 ∷ e21 ∷ e22 ∷ e23 ∷ e24 ∷ e25 ∷ List.[]
+
 abbrev pub t13 : List.List Row.Entry
 t13 = e16 ∷ e17·1 ∷ e18 ∷ e19 ∷ e20 ∷ e21 ∷ e22 ∷ e23 ∷ e24 ∷ e25 ∷ List.[]
+
 abbrev pub t14 : List.List Row.Entry
 t14 = e0 ∷ e1·1 ∷ e2 ∷ e3·1 ∷ e4·1 ∷ e5·1 ∷ e6·1 ∷ e7 ∷ e8·1 ∷ e9·1 ∷ e10·1 ∷ e11·1 ∷ e12 ∷ e13 ∷ e14 ∷ e15·1 ∷ List.[]
+
 abbrev pub t15 : List.List Row.Entry
 t15 = e16 ∷ e17·1 ∷ e18·1 ∷ e19 ∷ e20 ∷ e21 ∷ e22 ∷ e23 ∷ e24 ∷ e25 ∷ List.[]
+
 abbrev pub t16 : List.List Row.Entry
 t16 = e16 ∷ e17·1 ∷ e18 ∷ e19·1 ∷ e20 ∷ e21 ∷ e22 ∷ e23 ∷ e24 ∷ e25 ∷ List.[]
+
 abbrev pub t17 : List.List Row.Entry
-t17 = e0 ∷ e1·1 ∷ e2 ∷ e3·1 ∷ e4·1 ∷ e5·1 ∷ e6·1 ∷ e7 ∷ e8·1 ∷ e9·1 ∷ e10·1 ∷ e11·1 ∷ e12·1 ∷ e13 ∷ e14 ∷ e15·2 ∷ List.[]
+t17 = e0 ∷ e1·1 ∷ e2 ∷ e3·1 ∷ e4·1 ∷ e5·1 ∷ e6·1 ∷ e7 ∷ e8·1 ∷ e9·1 ∷ e10·1 ∷ e11·1 ∷ e12·1 ∷ e13 ∷ e14 ∷ e15·2 ∷
+    List.[]
+
 abbrev pub t18 : List.List Row.Entry
 t18 = e16 ∷ e17·2 ∷ e18 ∷ e19·2 ∷ e20 ∷ e21 ∷ e22 ∷ e23 ∷ e24 ∷ e25 ∷ List.[]
+
 abbrev pub t19 : List.List Row.Entry
 t19 = e0 ∷ e1·1 ∷ e2 ∷ e3·1 ∷ e4·1 ∷ e5·1 ∷ e6·1 ∷ e7 ∷ e8·1 ∷ e9 ∷ e10·1 ∷ e11·1 ∷ e12·1 ∷ e13 ∷ e14 ∷ e15·2 ∷ List.[]
+
 abbrev pub t20 : List.List Row.Entry
 t20 = e0 ∷ e1·1 ∷ e2 ∷ e3·1 ∷ e4·1 ∷ e5·1 ∷ e6·1 ∷ e7 ∷ e8·1 ∷ e9 ∷ e10 ∷ e11·1 ∷ e12·1 ∷ e13 ∷ e14 ∷ e15·2 ∷ List.[]
+
 abbrev pub t21 : List.List Row.Entry
 t21 = e0 ∷ e1 ∷ e2 ∷ e3·1 ∷ e4·1 ∷ e5·1 ∷ e6·1 ∷ e7 ∷ e8·1 ∷ e9 ∷ e10 ∷ e11·1 ∷ e12·1 ∷ e13 ∷ e14 ∷ e15 ∷ List.[]
+
 abbrev pub t22 : List.List Row.Entry
 t22 = e0 ∷ e1 ∷ e2 ∷ e3 ∷ e4·1 ∷ e5·1 ∷ e6·1 ∷ e7 ∷ e8·1 ∷ e9 ∷ e10 ∷ e11·1 ∷ e12·1 ∷ e13 ∷ e14 ∷ e15 ∷ List.[]
+
 abbrev pub t23 : List.List Row.Entry
 t23 = e16 ∷ e17 ∷ e18 ∷ e19·2 ∷ e20 ∷ e21 ∷ e22 ∷ e23 ∷ e24 ∷ e25 ∷ List.[]
+
 abbrev pub t24 : List.List Row.Entry
 t24 = e0 ∷ e1 ∷ e2 ∷ e3 ∷ e4 ∷ e5·1 ∷ e6·1 ∷ e7 ∷ e8·1 ∷ e9 ∷ e10 ∷ e11·1 ∷ e12·1 ∷ e13 ∷ e14 ∷ e15 ∷ List.[]
+
 abbrev pub t25 : List.List Row.Entry
 t25 = e0 ∷ e1 ∷ e2·1 ∷ e3 ∷ e4 ∷ e5·1 ∷ e6·1 ∷ e7 ∷ e8·1 ∷ e9 ∷ e10 ∷ e11·1 ∷ e12·1 ∷ e13 ∷ e14 ∷ e15 ∷ List.[]
+
 abbrev pub t26 : List.List Row.Entry
 t26 = e16 ∷ e17 ∷ e18 ∷ e19 ∷ e20·1 ∷ e21 ∷ e22 ∷ e23 ∷ e24 ∷ e25 ∷ List.[]
+
 abbrev pub t27 : List.List Row.Entry
 t27 = e16 ∷ e17 ∷ e18 ∷ e19 ∷ e20 ∷ e21·1 ∷ e22 ∷ e23 ∷ e24 ∷ e25 ∷ List.[]
+
 abbrev pub t28 : List.List Row.Entry
 t28 = e0 ∷ e1 ∷ e2·1 ∷ e3·2 ∷ e4 ∷ e5·1 ∷ e6·1 ∷ e7 ∷ e8·1 ∷ e9 ∷ e10 ∷ e11·1 ∷ e12·1 ∷ e13 ∷ e14 ∷ e15 ∷ List.[]
+
 abbrev pub t29 : List.List Row.Entry
 t29 = e16 ∷ e17 ∷ e18 ∷ e19 ∷ e20 ∷ e21·1 ∷ e22·1 ∷ e23 ∷ e24 ∷ e25 ∷ List.[]
+
 abbrev pub t30 : List.List Row.Entry
 t30 = e16 ∷ e17 ∷ e18 ∷ e19 ∷ e20 ∷ e21·1 ∷ e22 ∷ e23·1 ∷ e24 ∷ e25 ∷ List.[]
+
 abbrev pub t31 : List.List Row.Entry
 t31 = e0 ∷ e1 ∷ e2·1 ∷ e3·2 ∷ e4·2 ∷ e5·1 ∷ e6·1 ∷ e7 ∷ e8·1 ∷ e9 ∷ e10 ∷ e11·1 ∷ e12·1 ∷ e13 ∷ e14 ∷ e15 ∷ List.[]
+
 abbrev pub t32 : List.List Row.Entry
 t32 = e16 ∷ e17 ∷ e18 ∷ e19 ∷ e20 ∷ e21·1 ∷ e22 ∷ e23·1 ∷ e24·1 ∷ e25 ∷ List.[]
+
 abbrev pub t33 : List.List Row.Entry
 t33 = e16 ∷ e17 ∷ e18 ∷ e19 ∷ e20 ∷ e21·1 ∷ e22 ∷ e23·1 ∷ e24 ∷ e25·1 ∷ List.[]
+
 abbrev pub t34 : List.List Row.Entry
 t34 = e0 ∷ e1 ∷ e2·1 ∷ e3·2 ∷ e4·2 ∷ e5·1 ∷ e6·1 ∷ e7 ∷ e8·1 ∷ e9 ∷ e10 ∷ e11·1 ∷ e12·1 ∷ e13·1 ∷ e14 ∷ e15 ∷ List.[]
+
 abbrev pub t35 : List.List Row.Entry
 t35 = e16 ∷ e17 ∷ e18 ∷ e19 ∷ e20 ∷ e21·2 ∷ e22 ∷ e23·2 ∷ e24 ∷ e25·2 ∷ List.[]
+
 abbrev pub t36 : List.List Row.Entry
 t36 = e0 ∷ e1 ∷ e2·1 ∷ e3·2 ∷ e4·2 ∷ e5·1 ∷ e6·1 ∷ e7·1 ∷ e8·1 ∷ e9 ∷ e10 ∷ e11·1 ∷ e12·1 ∷ e13·1 ∷ e14 ∷ e15 ∷ List.[]
+
 abbrev pub t37 : List.List Row.Entry
 t37 = e0 ∷ e1 ∷ e2·1 ∷ e3·2 ∷ e4·2 ∷ e5·1 ∷ e6·1 ∷ e7·1 ∷ e8·1 ∷ e9 ∷ e10 ∷ e11 ∷ e12·1 ∷ e13·1 ∷ e14 ∷ e15 ∷ List.[]
+
 abbrev pub t38 : List.List Row.Entry
 t38 = e0 ∷ e1 ∷ e2·1 ∷ e3·2 ∷ e4·2 ∷ e5·1 ∷ e6·1 ∷ e7·1 ∷ e8·1 ∷ e9 ∷ e10 ∷ e11 ∷ e12 ∷ e13·1 ∷ e14 ∷ e15 ∷ List.[]
+
 abbrev pub t39 : List.List Row.Entry
 t39 = e0 ∷ e1 ∷ e2 ∷ e3·2 ∷ e4·2 ∷ e5·1 ∷ e6·1 ∷ e7·1 ∷ e8·1 ∷ e9 ∷ e10 ∷ e11 ∷ e12 ∷ e13·1 ∷ e14 ∷ e15 ∷ List.[]
+
 abbrev pub t40 : List.List Row.Entry
 t40 = e16 ∷ e17 ∷ e18 ∷ e19 ∷ e20 ∷ e21 ∷ e22 ∷ e23·2 ∷ e24 ∷ e25·2 ∷ List.[]
+
 abbrev pub t41 : List.List Row.Entry
 t41 = e0 ∷ e1 ∷ e2 ∷ e3 ∷ e4·2 ∷ e5·1 ∷ e6·1 ∷ e7·1 ∷ e8·1 ∷ e9 ∷ e10 ∷ e11 ∷ e12 ∷ e13·1 ∷ e14 ∷ e15 ∷ List.[]
+
 abbrev pub t42 : List.List Row.Entry
 t42 = e16 ∷ e17 ∷ e18 ∷ e19 ∷ e20 ∷ e21 ∷ e22 ∷ e23 ∷ e24 ∷ e25·2 ∷ List.[]
+
 abbrev pub t43 : List.List Row.Entry
 t43 = e0 ∷ e1 ∷ e2 ∷ e3 ∷ e4 ∷ e5·1 ∷ e6·1 ∷ e7·1 ∷ e8·1 ∷ e9 ∷ e10 ∷ e11 ∷ e12 ∷ e13·1 ∷ e14 ∷ e15 ∷ List.[]
+
 abbrev pub t44 : List.List Row.Entry
 t44 = e0·1 ∷ e1 ∷ e2 ∷ e3 ∷ e4 ∷ e5·1 ∷ e6·1 ∷ e7·1 ∷ e8·1 ∷ e9 ∷ e10 ∷ e11 ∷ e12 ∷ e13·1 ∷ e14 ∷ e15 ∷ List.[]
+
 abbrev pub T0 : Row.Cx
 T0 = record { locals = List._++_ t0 t1; slots = List.[] }
+
 abbrev pub T1 : Row.Cx
 T1 = record { locals = List._++_ t2 t1; slots = List.[] }
+
 abbrev pub T2 : Row.Cx
 T2 = record { locals = List._++_ t0 t1; slots = List.[] }
+
 abbrev pub T3 : Row.Cx
 T3 = record { locals = List._++_ t3 t1; slots = List.[] }
+
 abbrev pub T4 : Row.Cx
 T4 = record { locals = List._++_ t4 t1; slots = List.[] }
+
 abbrev pub T5 : Row.Cx
 T5 = record { locals = List._++_ t5 t1; slots = List.[] }
+
 abbrev pub T6 : Row.Cx
 T6 = record { locals = List._++_ t6 t1; slots = List.[] }
+
 abbrev pub T7 : Row.Cx
 T7 = record { locals = List._++_ t7 t1; slots = List.[] }
+
 abbrev pub T8 : Row.Cx
 T8 = record { locals = List._++_ t8 t1; slots = List.[] }
+
 abbrev pub T10 : Row.Cx
 T10 = record { locals = List._++_ t9 t1; slots = List.[] }
+
 abbrev pub T11 : Row.Cx
 T11 = record { locals = List._++_ t10 t1; slots = List.[] }
+
 abbrev pub T13 : Row.Cx
 T13 = record { locals = List._++_ t11 t12; slots = List.[] }
+
 abbrev pub T14 : Row.Cx
 T14 = record { locals = List._++_ t11 t13; slots = List.[] }
+
 abbrev pub T16 : Row.Cx
 T16 = record { locals = List._++_ t14 t15; slots = List.[] }
+
 abbrev pub T17 : Row.Cx
 T17 = record { locals = List._++_ t14 t16; slots = List.[] }
+
 abbrev pub T18 : Row.Cx
 T18 = record { locals = List._++_ t17 t18; slots = List.[] }
+
 abbrev pub T19 : Row.Cx
 T19 = record { locals = List._++_ t19 t18; slots = List.[] }
+
 abbrev pub T20 : Row.Cx
 T20 = record { locals = List._++_ t20 t18; slots = List.[] }
+
 abbrev pub T22 : Row.Cx
 T22 = record { locals = List._++_ t21 t18; slots = List.[] }
+
 abbrev pub T25 : Row.Cx
 T25 = record { locals = List._++_ t22 t23; slots = List.[] }
+
 abbrev pub T28 : Row.Cx
 T28 = record { locals = List._++_ t24 t1; slots = List.[] }
+
 abbrev pub T29 : Row.Cx
 T29 = record { locals = List._++_ t24 t1; slots = List.[] }
+
 abbrev pub T32 : Row.Cx
 T32 = record { locals = List._++_ t25 t26; slots = List.[] }
+
 abbrev pub T33 : Row.Cx
 T33 = record { locals = List._++_ t25 t27; slots = List.[] }
+
 abbrev pub T35 : Row.Cx
 T35 = record { locals = List._++_ t28 t29; slots = List.[] }
+
 abbrev pub T36 : Row.Cx
 T36 = record { locals = List._++_ t28 t30; slots = List.[] }
+
 abbrev pub T38 : Row.Cx
 T38 = record { locals = List._++_ t31 t32; slots = List.[] }
+
 abbrev pub T39 : Row.Cx
 T39 = record { locals = List._++_ t31 t33; slots = List.[] }
+
 abbrev pub T40 : Row.Cx
 T40 = record { locals = List._++_ t34 t35; slots = List.[] }
+
 abbrev pub T41 : Row.Cx
 T41 = record { locals = List._++_ t36 t35; slots = List.[] }
+
 abbrev pub T42 : Row.Cx
 T42 = record { locals = List._++_ t37 t35; slots = List.[] }
+
 abbrev pub T43 : Row.Cx
 T43 = record { locals = List._++_ t38 t35; slots = List.[] }
+
 abbrev pub T45 : Row.Cx
 T45 = record { locals = List._++_ t39 t40; slots = List.[] }
+
 abbrev pub T48 : Row.Cx
 T48 = record { locals = List._++_ t41 t42; slots = List.[] }
+
 abbrev pub T51 : Row.Cx
 T51 = record { locals = List._++_ t43 t1; slots = List.[] }
+
 abbrev pub T52 : Row.Cx
 T52 = record { locals = List._++_ t43 t1; slots = List.[] }
+
 abbrev pub T54 : Row.Cx
 T54 = record { locals = List._++_ t44 t1; slots = List.[] }
+
 abbrev pub T55 : Row.Cx
 T55 = record { locals = List._++_ t2 t1; slots = List.[] }
+
 abbrev pub O0 : Typed.Outs
 O0 = record { next = Option.none; exits = List.[]; returns = Option.some T1 }
+
 module _ (claims· : Claims) where
   abbrev s0 : (bs : List.List Nat.ℕ) → Typed.Gives T0 T2
   s0 = λ bs. Know.k-sl-known (Referent.fInt Syntax.w32) T0 4 3 ref7 Row.off 0 λ x. x
+
   abbrev s1 : (bs : List.List Nat.ℕ) → Typed.Both T2 T3
-  s1 = λ bs. Call.callB ps·0 r·0 (claims· .0) (claims· .1) T2 (record { pos = 5; st = List.[]; d = 0; at = λ x. x }, (record { pos = 6; st = List.[];
-      d = 0; at = λ x. x }, tt),) 9 List.[] Laws''''''.mir
+  s1 = λ bs. Call.callB ps·0 r·0 (claims· .0) (claims· .1) T2 (
+    record { pos = 5; st = List.[]; d = 0; at = λ x. x },
+    (record { pos = 6; st = List.[]; d = 0; at = λ x. x }, tt),
+  ) 9 List.[] Laws''''''.mir
+
   abbrev s2 : (bs : List.List Nat.ℕ) → Typed.Mo T3 → Typed.Mo T4
   s2 = λ bs. Scalar.n-room T3 5 Laws''''.mir
+
   abbrev s3 : (bs : List.List Nat.ℕ) → Typed.Mo T4 → Typed.Mo T5
   s3 = λ bs. Scalar.n-room T4 6 Laws.mir
+
   abbrev s4 : (bs : List.List Nat.ℕ) → Typed.Both T5 T6
-  s4 = λ bs. WayStmt.k-way-copy-out T5 (Row.out 8 (T5 .locals)) (λ u. Row.drop 8 (T5 .locals) u) 10 (Rows.whole (Declared.row Walked.the-type)) (λ u.
-      At.getAt (Firsts.the-type .parts) 0 (Firsts.struct .as-values (u .1 .1 .1 .1 .1 .1 .1 .1 .0))) (λ T′. record { locals = Row.setRow 8 (8,
-      Rows.whole (Declared.row Firsts.the-type)) T′; slots = List.[]; }) (λ u T′ m′. Row.set 8 (8, Rows.whole (Declared.row Firsts.the-type)) (u .1 .1
-      .1 .1 .1 .1 .1 .1 .0) T′ m′) (λ u. Unit) λ u. Unit
+  s4 = λ bs. WayStmt.k-way-copy-out T5 (Row.out 8 (T5 .locals)) (λ u. Row.drop 8 (T5 .locals) u) 10
+      (Rows.whole (Declared.row Walked.the-type)) (λ u. At.getAt (Firsts.the-type .parts) 0
+      (Firsts.struct .as-values (u .1 .1 .1 .1 .1 .1 .1 .1 .0))) (λ T′.
+      record { locals = Row.setRow 8 (8, Rows.whole (Declared.row Firsts.the-type)) T′; slots = List.[] }) (λ u T′ m′.
+      Row.set 8 (8, Rows.whole (Declared.row Firsts.the-type)) (u .1 .1 .1 .1 .1 .1 .1 .1 .0) T′ m′) (λ u. Unit) λ u.
+      Unit
+
   abbrev s5 : (bs : List.List Nat.ℕ) → Typed.Both T6 T7
-  s5 = λ bs. WayStmt.k-way-copy-out T6 (Row.out 8 (T6 .locals)) (λ u. Row.drop 8 (T6 .locals) u) 11 (Rows.whole (Declared.row Walked.the-type)) (λ u.
-      At.getAt (Firsts.the-type .parts) 1 (Firsts.struct .as-values (u .1 .1 .1 .1 .1 .1 .1 .1 .0))) (λ T′. record { locals = Row.setRow 8 (8,
-      Rows.whole (Declared.row Firsts.the-type)) T′; slots = List.[]; }) (λ u T′ m′. Row.set 8 (8, Rows.whole (Declared.row Firsts.the-type)) (u .1 .1
-      .1 .1 .1 .1 .1 .1 .0) T′ m′) (λ u. Unit) λ u. Unit
+  s5 = λ bs. WayStmt.k-way-copy-out T6 (Row.out 8 (T6 .locals)) (λ u. Row.drop 8 (T6 .locals) u) 11
+      (Rows.whole (Declared.row Walked.the-type)) (λ u. At.getAt (Firsts.the-type .parts) 1
+      (Firsts.struct .as-values (u .1 .1 .1 .1 .1 .1 .1 .1 .0))) (λ T′.
+      record { locals = Row.setRow 8 (8, Rows.whole (Declared.row Firsts.the-type)) T′; slots = List.[] }) (λ u T′ m′.
+      Row.set 8 (8, Rows.whole (Declared.row Firsts.the-type)) (u .1 .1 .1 .1 .1 .1 .1 .1 .0) T′ m′) (λ u. Unit) λ u.
+      Unit
+
   abbrev s6 : (bs : List.List Nat.ℕ) → Typed.Mo T7 → Typed.Mo T8
   s6 = λ bs. Scalar.n-room T7 8 Laws''.mir
+
   abbrev s8 : (bs : List.List Nat.ℕ) → Typed.Gives T8 T10
   s8 = λ bs. Relend.k-sl-relend RelayPending.row T8 1 14 0 4 ref4 ref0 Row.off λ x. x
+
   abbrev s9 : (bs : List.List Nat.ℕ) → Typed.Asks T10 T11
-  s9 = λ bs. Relend.k-sl-aggregate RelayPending.row (Relend.asMut RelayPending.row) T10 14 15 4 ref0 ref0 (λ x. x) (Scalar.oFld 1 ((Syntax.field 1) ∷
-      List.[]) (Syntax.tyInt Syntax.w64) 8 λ v. Shared.lenV (v .0))
+  s9 = λ bs. Relend.k-sl-aggregate RelayPending.row (Relend.asMut RelayPending.row) T10 14 15 4 ref0 ref0 (λ x. x) (Scalar.oFld
+      1 ((Syntax.field 1) ∷ List.[]) (Syntax.tyInt Syntax.w64) 8 λ v. Shared.lenV (v .0))
+
   abbrev s11 : (bs : List.List Nat.ℕ) → Typed.Gives T11 T13
   s11 = λ bs. Relend.k-sl-relend InflightAction.row T11 3 16 2 5 ref6 ref1 Row.off λ x. x
+
   abbrev s12 : (bs : List.List Nat.ℕ) → Typed.Asks T13 T14
-  s12 = λ bs. Relend.k-sl-aggregate InflightAction.row (Relend.asMut InflightAction.row) T13 16 17 5 ref1 ref1 (λ x. x) (Scalar.oFld 3 ((Syntax.field
-      1) ∷ List.[]) (Syntax.tyInt Syntax.w64) 8 λ v. Shared.lenV (v .0))
+  s12 = λ bs. Relend.k-sl-aggregate InflightAction.row (Relend.asMut InflightAction.row) T13 16 17 5 ref1 ref1 (λ x. x) (Scalar.oFld
+      3 ((Syntax.field 1) ∷ List.[]) (Syntax.tyInt Syntax.w64) 8 λ v. Shared.lenV (v .0))
+
   abbrev s14 : (bs : List.List Nat.ℕ) → Typed.Gives T14 T16
   s14 = λ bs. Relend.k-sl-relend (Referent.rtF (Referent.fInt Syntax.w32)) T14 4 18 3 6 ref7 ref2 Row.off λ x. x
+
   abbrev s15 : (bs : List.List Nat.ℕ) → Typed.Asks T16 T17
-  s15 = λ bs. Relend.k-sl-aggregate (Referent.rtF (Referent.fInt Syntax.w32)) (Relend.asMut (Referent.rtF (Referent.fInt Syntax.w32))) T16 18 19 6
-      ref2 ref2 (λ x. x) (Scalar.oFld 4 ((Syntax.field 1) ∷ List.[]) (Syntax.tyInt Syntax.w64) 8 λ v. Shared.lenV (v .0))
+  s15 = λ bs. Relend.k-sl-aggregate (Referent.rtF (Referent.fInt Syntax.w32))
+      (Relend.asMut (Referent.rtF (Referent.fInt Syntax.w32))) T16 18 19 6 ref2 ref2 (λ x. x) (Scalar.oFld 4
+      ((Syntax.field 1) ∷ List.[]) (Syntax.tyInt Syntax.w64) 8 λ v. Shared.lenV (v .0))
+
   abbrev s16 : (bs : List.List Nat.ℕ) → Typed.Both T17 T18
-  s16 = λ bs. Call.callB ps·1 r·1 (claims· .2) (claims· .3) T17 (record { pos = 15; ty = Syntax.tyRef Syntax.erased Syntax.mut RelayPending.to; ref =
-      λ x. x; }, (record { pos = 17; ty = Syntax.tyRef Syntax.erased Syntax.mut InflightAction.to; ref = λ x. x; }, (record { pos = 19; ty =
-      Syntax.tyRef Syntax.erased Syntax.mut (Syntax.tyInt Syntax.w32); ref = λ x. x; }, (record { pos = 9; st = List.[]; d = 0; at = λ x. x }, (record
-      { pos = 7; st = List.[]; d = 0; at = λ x. x }, (record { pos = 10; st = List.[]; d = 0; at = λ x. x }, tt),),),),),) 12 (4 ∷ 5 ∷ 6 ∷ List.[])
-      Laws''''''.mir
+  s16 = λ bs. Call.callB ps·1 r·1 (claims· .2) (claims· .3) T17 (
+    record { pos = 15; ty = ref0; ref = λ x. x },
+    (
+      record { pos = 17; ty = ref1; ref = λ x. x },
+      (
+        record { pos = 19; ty = ref2; ref = λ x. x },
+        (
+          record { pos = 9; st = List.[]; d = 0; at = λ x. x },
+          (
+            record { pos = 7; st = List.[]; d = 0; at = λ x. x },
+            (record { pos = 10; st = List.[]; d = 0; at = λ x. x }, tt),
+          ),
+        ),
+      ),
+    ),
+  ) 12 (4 ∷ 5 ∷ 6 ∷ List.[]) Laws''''''.mir
+
   abbrev s17 : (bs : List.List Nat.ℕ) → Typed.Mo T18 → Typed.Mo T19
   s17 = λ bs. Scalar.n-room T18 9 Laws''''''.mir
+
   abbrev s18 : (bs : List.List Nat.ℕ) → Typed.Mo T19 → Typed.Mo T20
   s18 = λ bs. Scalar.n-room T19 10 Laws'.mir
+
   abbrev s20 : (bs : List.List Nat.ℕ) → Typed.Both T20 T22
   s20 = λ bs. Relend.k-back-sl RelayPending.row T20 15 1 0 4 ref4 ref0 Row.off (λ x. x) λ x. x
+
   abbrev s23 : (bs : List.List Nat.ℕ) → Typed.Both T22 T25
   s23 = λ bs. Relend.k-back-sl InflightAction.row T22 17 3 2 5 ref6 ref1 Row.off (λ x. x) λ x. x
+
   abbrev s26 : (bs : List.List Nat.ℕ) → Typed.Both T25 T28
   s26 = λ bs. Relend.k-back-sl (Referent.rtF (Referent.fInt Syntax.w32)) T25 19 4 3 6 ref7 ref2 Row.off (λ x. x) λ x. x
+
   abbrev s27 : (bs : List.List Nat.ℕ) → Typed.Gives T28 T29
   s27 = λ bs. Know.k-sl-known (Referent.fInt Syntax.w32) T28 4 3 ref7 Row.off 0 λ x. x
+
   abbrev s30 : (bs : List.List Nat.ℕ) → Typed.Gives T29 T32
   s30 = λ bs. Relend.k-sl-relend RelayCircuit.row T29 2 20 1 7 ref5 ref3 Row.off λ x. x
+
   abbrev s31 : (bs : List.List Nat.ℕ) → Typed.Asks T32 T33
-  s31 = λ bs. Relend.k-sl-aggregate RelayCircuit.row (Relend.asMut RelayCircuit.row) T32 20 21 7 ref3 ref3 (λ x. x) (Scalar.oFld 2 ((Syntax.field 1) ∷
-      List.[]) (Syntax.tyInt Syntax.w64) 8 λ v. Shared.lenV (v .0))
+  s31 = λ bs. Relend.k-sl-aggregate RelayCircuit.row (Relend.asMut RelayCircuit.row) T32 20 21 7 ref3 ref3 (λ x. x) (Scalar.oFld
+      2 ((Syntax.field 1) ∷ List.[]) (Syntax.tyInt Syntax.w64) 8 λ v. Shared.lenV (v .0))
+
   abbrev s33 : (bs : List.List Nat.ℕ) → Typed.Gives T33 T35
   s33 = λ bs. Relend.k-sl-relend InflightAction.row T33 3 22 2 8 ref6 ref1 Row.off λ x. x
+
   abbrev s34 : (bs : List.List Nat.ℕ) → Typed.Asks T35 T36
-  s34 = λ bs. Relend.k-sl-aggregate InflightAction.row (Relend.asMut InflightAction.row) T35 22 23 8 ref1 ref1 (λ x. x) (Scalar.oFld 3 ((Syntax.field
-      1) ∷ List.[]) (Syntax.tyInt Syntax.w64) 8 λ v. Shared.lenV (v .0))
+  s34 = λ bs. Relend.k-sl-aggregate InflightAction.row (Relend.asMut InflightAction.row) T35 22 23 8 ref1 ref1 (λ x. x) (Scalar.oFld
+      3 ((Syntax.field 1) ∷ List.[]) (Syntax.tyInt Syntax.w64) 8 λ v. Shared.lenV (v .0))
+
   abbrev s36 : (bs : List.List Nat.ℕ) → Typed.Gives T36 T38
   s36 = λ bs. Relend.k-sl-relend (Referent.rtF (Referent.fInt Syntax.w32)) T36 4 24 3 9 ref7 ref2 Row.off λ x. x
+
   abbrev s37 : (bs : List.List Nat.ℕ) → Typed.Asks T38 T39
-  s37 = λ bs. Relend.k-sl-aggregate (Referent.rtF (Referent.fInt Syntax.w32)) (Relend.asMut (Referent.rtF (Referent.fInt Syntax.w32))) T38 24 25 9
-      ref2 ref2 (λ x. x) (Scalar.oFld 4 ((Syntax.field 1) ∷ List.[]) (Syntax.tyInt Syntax.w64) 8 λ v. Shared.lenV (v .0))
+  s37 = λ bs. Relend.k-sl-aggregate (Referent.rtF (Referent.fInt Syntax.w32))
+      (Relend.asMut (Referent.rtF (Referent.fInt Syntax.w32))) T38 24 25 9 ref2 ref2 (λ x. x) (Scalar.oFld 4
+      ((Syntax.field 1) ∷ List.[]) (Syntax.tyInt Syntax.w64) 8 λ v. Shared.lenV (v .0))
+
   abbrev s38 : (bs : List.List Nat.ℕ) → Typed.Both T39 T40
-  s38 = λ bs. Call.callB ps·2 r·2 (claims· .4) (claims· .5) T39 (record { pos = 21; ty = Syntax.tyRef Syntax.erased Syntax.mut RelayCircuit.to; ref =
-      λ x. x; }, (record { pos = 23; ty = Syntax.tyRef Syntax.erased Syntax.mut InflightAction.to; ref = λ x. x; }, (record { pos = 25; ty =
-      Syntax.tyRef Syntax.erased Syntax.mut (Syntax.tyInt Syntax.w32); ref = λ x. x; }, (record { pos = 12; st = List.[]; d = 0; at = λ x. x },
-      (record { pos = 7; st = List.[]; d = 0; at = λ x. x }, (record { pos = 11; st = List.[]; d = 0; at = λ x. x }, tt),),),),),) 13 (7 ∷ 8 ∷ 9 ∷
-      List.[]) Laws''''''.mir
+  s38 = λ bs. Call.callB ps·2 r·2 (claims· .4) (claims· .5) T39 (
+    record { pos = 21; ty = ref3; ref = λ x. x },
+    (
+      record { pos = 23; ty = ref1; ref = λ x. x },
+      (
+        record { pos = 25; ty = ref2; ref = λ x. x },
+        (
+          record { pos = 12; st = List.[]; d = 0; at = λ x. x },
+          (
+            record { pos = 7; st = List.[]; d = 0; at = λ x. x },
+            (record { pos = 11; st = List.[]; d = 0; at = λ x. x }, tt),
+          ),
+        ),
+      ),
+    ),
+  ) 13 (7 ∷ 8 ∷ 9 ∷ List.[]) Laws''''''.mir
+
   abbrev s39 : (bs : List.List Nat.ℕ) → Typed.Mo T40 → Typed.Mo T41
   s39 = λ bs. Scalar.n-room T40 7 Laws'''.mir
+
   abbrev s40 : (bs : List.List Nat.ℕ) → Typed.Mo T41 → Typed.Mo T42
   s40 = λ bs. Scalar.n-room T41 11 Laws'.mir
+
   abbrev s41 : (bs : List.List Nat.ℕ) → Typed.Mo T42 → Typed.Mo T43
   s41 = λ bs. Scalar.n-room T42 12 Laws''''''.mir
+
   abbrev s43 : (bs : List.List Nat.ℕ) → Typed.Both T43 T45
   s43 = λ bs. Relend.k-back-sl RelayCircuit.row T43 21 2 1 7 ref5 ref3 Row.off (λ x. x) λ x. x
+
   abbrev s46 : (bs : List.List Nat.ℕ) → Typed.Both T45 T48
   s46 = λ bs. Relend.k-back-sl InflightAction.row T45 23 3 2 8 ref6 ref1 Row.off (λ x. x) λ x. x
+
   abbrev s49 : (bs : List.List Nat.ℕ) → Typed.Both T48 T51
   s49 = λ bs. Relend.k-back-sl (Referent.rtF (Referent.fInt Syntax.w32)) T48 25 4 3 9 ref7 ref2 Row.off (λ x. x) λ x. x
+
   abbrev s50 : (bs : List.List Nat.ℕ) → Typed.Gives T51 T52
   s50 = λ bs. Know.k-sl-known (Referent.fInt Syntax.w32) T51 4 3 ref7 Row.off 0 λ x. x
+
   abbrev s52 : (bs : List.List Nat.ℕ) → Typed.Both T52 T54
-  s52 = λ bs. Call.callB ps·3 r·3 (claims· .6) (claims· .7) T52 (record { pos = 13; st = List.[]; d = 0; at = λ x. x }, tt,) 0 List.[] Laws'''''.mir
+  s52 = λ bs. Call.callB ps·3 r·3 (claims· .6) (claims· .7) T52
+      (record { pos = 13; st = List.[]; d = 0; at = λ x. x }, tt) 0 List.[] Laws'''''.mir
+
   abbrev s53 : (bs : List.List Nat.ℕ) → Typed.Mo T54 → Typed.Mo T55
   s53 = λ bs. Scalar.n-room T54 13 Laws''''''.mir
-  module _ (Pre· : (κs : Lifetimes.Lfts 4) → Kinds.Dens κs ps → Type 0) (Post· : (κs : Lifetimes.Lfts 4) → (a : Kinds.Dens κs ps) → Kinds.Plain 4 ps r
-      κs) where
+
+  module _ (Pre· : (κs : Lifetimes.Lfts 4) → Kinds.Dens κs ps → Type 0) (Post· : (κs : Lifetimes.Lfts 4) →
+      (a : Kinds.Dens κs ps) → Kinds.Plain 4 ps r κs) where
     module _ (M : Type 1) where
       abbrev pub Closed : Type 2
-      Closed = (𝓤 : URA.URA M) (H : Wp.Heap 𝓤) (A : Atoms.Atoms 𝓤) (W : Kit.Given 𝓤 H A) (𝓣 : Wp.Tables 𝓤 H) (known0 : Plain.Known 𝓤 H A W 𝓣 0 ps·0
-          r·0 (claims· .0) (claims· .1) "hnsr_circuit::revocation::started") (known1 : Plain.Known 𝓤 H A W 𝓣 3 ps·1 r·1 (claims· .2) (claims· .3)
-          "hnsr_circuit::revocation::walk_pending") (known2 : Plain.Known 𝓤 H A W 𝓣 3 ps·2 r·2 (claims· .4) (claims· .5)
-          "hnsr_circuit::revocation::walk_circuits") (known3 : Plain.Known 𝓤 H A W 𝓣 0 ps·3 r·3 (claims· .6) (claims· .7)
-          "hnsr_circuit::revocation::finished") → Statement.Triple 𝓤 (Wp.WpFn 𝓤 H (𝓣 .C) (𝓣 .Λ) (Function.fnOf 4 ps r xs m hs body)) (Function.plainOf
-          𝓤 H A 4 ps r Pre· Post·)
+      Closed = (𝓤 : URA.URA M) (H : Wp.Heap 𝓤) (A : Atoms.Atoms 𝓤) (W : Kit.Given 𝓤 H A) (𝓣 : Wp.Tables 𝓤 H) (known0 :
+          Plain.Known 𝓤 H A W 𝓣 0 ps·0 r·0 (claims· .0) (claims· .1) "hnsr_circuit::revocation::started") (known1 :
+          Plain.Known 𝓤 H A W 𝓣 3 ps·1 r·1 (claims· .2) (claims· .3) "hnsr_circuit::revocation::walk_pending") (known2
+          : Plain.Known 𝓤 H A W 𝓣 3 ps·2 r·2 (claims· .4) (claims· .5) "hnsr_circuit::revocation::walk_circuits") (known3
+          : Plain.Known 𝓤 H A W 𝓣 0 ps·3 r·3 (claims· .6) (claims· .7) "hnsr_circuit::revocation::finished") →
+          Statement.Triple 𝓤 (Wp.WpFn 𝓤 H (𝓣 .C) (𝓣 .Λ) (Function.fnOf 4 ps r xs m hs body))
+          (Function.plainOf 𝓤 H A 4 ps r Pre· Post·)
+
     module _ where
       abbrev at0 : (bs : List.List Nat.ℕ) → Typed.TF T55 O0
       at0 = λ bs. Typed.atRet O0
+
       abbrev at1 : (bs : List.List Nat.ℕ) → Typed.TF T54 O0
       at1 = λ bs. λ Ψ. Typed.pass T54 T55 (s53 bs) (at0 bs Ψ)
+
       abbrev at2 : (bs : List.List Nat.ℕ) → Typed.TF T52 O0
       at2 = λ bs. λ Ψ. Typed.both (s52 bs) (at1 bs Ψ)
+
       abbrev at3 : (bs : List.List Nat.ℕ) → Typed.TF T52 O0
       at3 = λ bs. λ Ψ. at2 bs Ψ
+
       abbrev at4 : (bs : List.List Nat.ℕ) → Typed.TF T51 O0
       at4 = λ bs. λ Ψ. Typed.give (s50 bs) (at3 bs Ψ)
+
       abbrev at5 : (bs : List.List Nat.ℕ) → Typed.TF T48 O0
       at5 = λ bs. λ Ψ. Typed.both (s49 bs) (at4 bs Ψ)
+
       abbrev at6 : (bs : List.List Nat.ℕ) → Typed.TF T48 O0
       at6 = λ bs. λ Ψ. at5 bs Ψ
+
       abbrev at7 : (bs : List.List Nat.ℕ) → Typed.TF T48 O0
       at7 = λ bs. λ Ψ. at6 bs Ψ
+
       abbrev at8 : (bs : List.List Nat.ℕ) → Typed.TF T45 O0
       at8 = λ bs. λ Ψ. Typed.both (s46 bs) (at7 bs Ψ)
+
       abbrev at9 : (bs : List.List Nat.ℕ) → Typed.TF T45 O0
       at9 = λ bs. λ Ψ. at8 bs Ψ
+
       abbrev at10 : (bs : List.List Nat.ℕ) → Typed.TF T45 O0
       at10 = λ bs. λ Ψ. at9 bs Ψ
+
       abbrev at11 : (bs : List.List Nat.ℕ) → Typed.TF T43 O0
       at11 = λ bs. λ Ψ. Typed.both (s43 bs) (at10 bs Ψ)
+
       abbrev at12 : (bs : List.List Nat.ℕ) → Typed.TF T43 O0
       at12 = λ bs. λ Ψ. at11 bs Ψ
+
       abbrev at13 : (bs : List.List Nat.ℕ) → Typed.TF T42 O0
       at13 = λ bs. λ Ψ. Typed.pass T42 T43 (s41 bs) (at12 bs Ψ)
+
       abbrev at14 : (bs : List.List Nat.ℕ) → Typed.TF T41 O0
       at14 = λ bs. λ Ψ. Typed.pass T41 T42 (s40 bs) (at13 bs Ψ)
+
       abbrev at15 : (bs : List.List Nat.ℕ) → Typed.TF T40 O0
       at15 = λ bs. λ Ψ. Typed.pass T40 T41 (s39 bs) (at14 bs Ψ)
+
       abbrev at16 : (bs : List.List Nat.ℕ) → Typed.TF T39 O0
       at16 = λ bs. λ Ψ. Typed.both (s38 bs) (at15 bs Ψ)
+
       abbrev at17 : (bs : List.List Nat.ℕ) → Typed.TF T38 O0
       at17 = λ bs. λ Ψ. Typed.ask (s37 bs) (at16 bs Ψ)
+
       abbrev at18 : (bs : List.List Nat.ℕ) → Typed.TF T36 O0
       at18 = λ bs. λ Ψ. Typed.give (s36 bs) (at17 bs Ψ)
+
       abbrev at19 : (bs : List.List Nat.ℕ) → Typed.TF T36 O0
       at19 = λ bs. λ Ψ. at18 bs Ψ
+
       abbrev at20 : (bs : List.List Nat.ℕ) → Typed.TF T35 O0
       at20 = λ bs. λ Ψ. Typed.ask (s34 bs) (at19 bs Ψ)
+
       abbrev at21 : (bs : List.List Nat.ℕ) → Typed.TF T33 O0
       at21 = λ bs. λ Ψ. Typed.give (s33 bs) (at20 bs Ψ)
+
       abbrev at22 : (bs : List.List Nat.ℕ) → Typed.TF T33 O0
       at22 = λ bs. λ Ψ. at21 bs Ψ
+
       abbrev at23 : (bs : List.List Nat.ℕ) → Typed.TF T32 O0
       at23 = λ bs. λ Ψ. Typed.ask (s31 bs) (at22 bs Ψ)
+
       abbrev at24 : (bs : List.List Nat.ℕ) → Typed.TF T29 O0
       at24 = λ bs. λ Ψ. Typed.give (s30 bs) (at23 bs Ψ)
+
       abbrev at25 : (bs : List.List Nat.ℕ) → Typed.TF T29 O0
       at25 = λ bs. λ Ψ. at24 bs Ψ
+
       abbrev at26 : (bs : List.List Nat.ℕ) → Typed.TF T29 O0
       at26 = λ bs. λ Ψ. at25 bs Ψ
+
       abbrev at27 : (bs : List.List Nat.ℕ) → Typed.TF T28 O0
       at27 = λ bs. λ Ψ. Typed.give (s27 bs) (at26 bs Ψ)
+
       abbrev at28 : (bs : List.List Nat.ℕ) → Typed.TF T25 O0
       at28 = λ bs. λ Ψ. Typed.both (s26 bs) (at27 bs Ψ)
+
       abbrev at29 : (bs : List.List Nat.ℕ) → Typed.TF T25 O0
       at29 = λ bs. λ Ψ. at28 bs Ψ
+
       abbrev at30 : (bs : List.List Nat.ℕ) → Typed.TF T25 O0
       at30 = λ bs. λ Ψ. at29 bs Ψ
+
       abbrev at31 : (bs : List.List Nat.ℕ) → Typed.TF T22 O0
       at31 = λ bs. λ Ψ. Typed.both (s23 bs) (at30 bs Ψ)
+
       abbrev at32 : (bs : List.List Nat.ℕ) → Typed.TF T22 O0
       at32 = λ bs. λ Ψ. at31 bs Ψ
+
       abbrev at33 : (bs : List.List Nat.ℕ) → Typed.TF T22 O0
       at33 = λ bs. λ Ψ. at32 bs Ψ
+
       abbrev at34 : (bs : List.List Nat.ℕ) → Typed.TF T20 O0
       at34 = λ bs. λ Ψ. Typed.both (s20 bs) (at33 bs Ψ)
+
       abbrev at35 : (bs : List.List Nat.ℕ) → Typed.TF T20 O0
       at35 = λ bs. λ Ψ. at34 bs Ψ
+
       abbrev at36 : (bs : List.List Nat.ℕ) → Typed.TF T19 O0
       at36 = λ bs. λ Ψ. Typed.pass T19 T20 (s18 bs) (at35 bs Ψ)
+
       abbrev at37 : (bs : List.List Nat.ℕ) → Typed.TF T18 O0
       at37 = λ bs. λ Ψ. Typed.pass T18 T19 (s17 bs) (at36 bs Ψ)
+
       abbrev at38 : (bs : List.List Nat.ℕ) → Typed.TF T17 O0
       at38 = λ bs. λ Ψ. Typed.both (s16 bs) (at37 bs Ψ)
+
       abbrev at39 : (bs : List.List Nat.ℕ) → Typed.TF T16 O0
       at39 = λ bs. λ Ψ. Typed.ask (s15 bs) (at38 bs Ψ)
+
       abbrev at40 : (bs : List.List Nat.ℕ) → Typed.TF T14 O0
       at40 = λ bs. λ Ψ. Typed.give (s14 bs) (at39 bs Ψ)
+
       abbrev at41 : (bs : List.List Nat.ℕ) → Typed.TF T14 O0
       at41 = λ bs. λ Ψ. at40 bs Ψ
+
       abbrev at42 : (bs : List.List Nat.ℕ) → Typed.TF T13 O0
       at42 = λ bs. λ Ψ. Typed.ask (s12 bs) (at41 bs Ψ)
+
       abbrev at43 : (bs : List.List Nat.ℕ) → Typed.TF T11 O0
       at43 = λ bs. λ Ψ. Typed.give (s11 bs) (at42 bs Ψ)
+
       abbrev at44 : (bs : List.List Nat.ℕ) → Typed.TF T11 O0
       at44 = λ bs. λ Ψ. at43 bs Ψ
+
       abbrev at45 : (bs : List.List Nat.ℕ) → Typed.TF T10 O0
       at45 = λ bs. λ Ψ. Typed.ask (s9 bs) (at44 bs Ψ)
+
       abbrev at46 : (bs : List.List Nat.ℕ) → Typed.TF T8 O0
       at46 = λ bs. λ Ψ. Typed.give (s8 bs) (at45 bs Ψ)
+
       abbrev at47 : (bs : List.List Nat.ℕ) → Typed.TF T8 O0
       at47 = λ bs. λ Ψ. at46 bs Ψ
+
       abbrev at48 : (bs : List.List Nat.ℕ) → Typed.TF T7 O0
       at48 = λ bs. λ Ψ. Typed.pass T7 T8 (s6 bs) (at47 bs Ψ)
+
       abbrev at49 : (bs : List.List Nat.ℕ) → Typed.TF T6 O0
       at49 = λ bs. λ Ψ. Typed.both (s5 bs) (at48 bs Ψ)
+
       abbrev at50 : (bs : List.List Nat.ℕ) → Typed.TF T5 O0
       at50 = λ bs. λ Ψ. Typed.both (s4 bs) (at49 bs Ψ)
+
       abbrev at51 : (bs : List.List Nat.ℕ) → Typed.TF T4 O0
       at51 = λ bs. λ Ψ. Typed.pass T4 T5 (s3 bs) (at50 bs Ψ)
+
       abbrev at52 : (bs : List.List Nat.ℕ) → Typed.TF T3 O0
       at52 = λ bs. λ Ψ. Typed.pass T3 T4 (s2 bs) (at51 bs Ψ)
+
       abbrev at53 : (bs : List.List Nat.ℕ) → Typed.TF T2 O0
       at53 = λ bs. λ Ψ. Typed.both (s1 bs) (at52 bs Ψ)
+
       abbrev at54 : (bs : List.List Nat.ℕ) → Typed.TF T0 O0
       at54 = λ bs. λ Ψ. Typed.give (s0 bs) (at53 bs Ψ)
+
       abbrev pub Φ : (bs : List.List Nat.ℕ) → Typed.TF T0 O0
       Φ = λ bs. at54 bs
-      module _ { M : Type 1 } (𝓤 : URA.URA M) (H : Wp.Heap 𝓤) (A : Atoms.Atoms 𝓤) (W : Kit.Given 𝓤 H A) (𝓣 : Wp.Tables 𝓤 H) where
+
+      module _ {M : Type 1} (𝓤 : URA.URA M) (H : Wp.Heap 𝓤) (A : Atoms.Atoms 𝓤) (W : Kit.Given 𝓤 H A)
+          (𝓣 : Wp.Tables 𝓤 H) where
         abbrev Knowns : Type 1
-        Knowns = Plain.Known 𝓤 H A W 𝓣 0 ps·0 r·0 (claims· .0) (claims· .1) "hnsr_circuit::revocation::started" × Plain.Known 𝓤 H A W 𝓣 3 ps·1 r·1
-            (claims· .2) (claims· .3) "hnsr_circuit::revocation::walk_pending" × Plain.Known 𝓤 H A W 𝓣 3 ps·2 r·2 (claims· .4) (claims· .5)
-            "hnsr_circuit::revocation::walk_circuits" × Plain.Known 𝓤 H A W 𝓣 0 ps·3 r·3 (claims· .6) (claims· .7)
-            "hnsr_circuit::revocation::finished"
+        Knowns = Plain.Known 𝓤 H A W 𝓣 0 ps·0 r·0 (claims· .0) (claims· .1) "hnsr_circuit::revocation::started" ×
+            Plain.Known 𝓤 H A W 𝓣 3 ps·1 r·1 (claims· .2) (claims· .3) "hnsr_circuit::revocation::walk_pending" ×
+            Plain.Known 𝓤 H A W 𝓣 3 ps·2 r·2 (claims· .4) (claims· .5) "hnsr_circuit::revocation::walk_circuits" ×
+            Plain.Known 𝓤 H A W 𝓣 0 ps·3 r·3 (claims· .6) (claims· .7) "hnsr_circuit::revocation::finished"
+
       module _ (κs : Lifetimes.Lfts 4) (qs : Lifetimes.Shares 4) where
         abbrev life0 : Row.Life
         life0 = Row.lease (κs .0) (qs .0)
+
         abbrev life1 : Row.Life
         life1 = Row.lease (κs .1 .1 .0) (qs .1 .1 .0)
+
         abbrev life2 : Row.Life
         life2 = Row.lease (κs .1 .1 .1 .0) (qs .1 .1 .1 .0)
+
         abbrev life3 : Row.Life
         life3 = Row.lease (κs .1 .0) (qs .1 .0)
+
+        abbrev l1 : Row.Entry
+        l1 = (1, Relend.mslice-owed RelayPending.row ref4 0 4 life0)
+
+        abbrev l3 : Row.Entry
+        l3 = (3, Relend.mslice-owed InflightAction.row ref6 2 5 life1)
+
+        abbrev l4 : Row.Entry
+        l4 = (4, Relend.mslice-owed (Referent.rtF (Referent.fInt Syntax.w32)) ref7 3 6 life2)
+
+        abbrev l2 : Row.Entry
+        l2 = (2, Relend.mslice-owed RelayCircuit.row ref5 1 7 life3)
+
+        abbrev l3·1 : Row.Entry
+        l3·1 = (3, Relend.mslice-owed InflightAction.row ref6 2 8 life1)
+
+        abbrev l4·1 : Row.Entry
+        l4·1 = (4, Relend.mslice-owed (Referent.rtF (Referent.fInt Syntax.w32)) ref7 3 9 life2)
+
         abbrev g9 : List.List Row.Entry
-        g9 = (0, Rows.any-gone Laws'''''.mir,) ∷ (1, Relend.mslice-owed RelayPending.row ref4 0 4 life0,) ∷ (2, Mut.mslice RelayCircuit.row ref5 1,) ∷
-            (3, Mut.mslice InflightAction.row ref6 2,) ∷ (4, Mut.mslice (Referent.rtF (Referent.fInt Syntax.w32)) ref7 3,) ∷ (5, Rows.any-gone
-            Laws''''.mir,) ∷ (6, Rows.any-gone Laws.mir,) ∷ (7, Rows.whole (Declared.row Revoking.the-type)) ∷ (8, Rows.any-gone Laws''.mir,) ∷ (9,
-            Rows.whole (Declared.row Sending.the-type)) ∷ (10, Rows.whole (Declared.row Walked.the-type),) ∷ (11, Rows.whole (Declared.row
-            Walked.the-type)) ∷ (12, Rows.any-gone Laws''''''.mir,) ∷ (13, Rows.any-gone Laws''''''.mir,) ∷ (14, Relend.msptr RelayPending.row ref0
-            4,) ∷ (15, Rows.any-gone (Syntax.tyStruct (38 ∷ 91 ∷ 93 ∷ List.[]) (Syntax.tcons ref0 (Syntax.tcons (Syntax.tyInt Syntax.w64)
-            Syntax.tnil))),) ∷ List.[]
+        g9 = e0 ∷ l1 ∷ e2 ∷ e3 ∷ e4 ∷ e5·1 ∷ e6·1 ∷ e7 ∷ e8·1 ∷ e9·1 ∷ e10·1 ∷ e11·1 ∷ e12 ∷ e13 ∷ e14·1 ∷ e15 ∷
+            List.[]
+
         abbrev g10 : List.List Row.Entry
-        g10 = (0, Rows.any-gone Laws'''''.mir,) ∷ (1, Relend.mslice-owed RelayPending.row ref4 0 4 life0,) ∷ (2, Mut.mslice RelayCircuit.row ref5 1,)
-            ∷ (3, Mut.mslice InflightAction.row ref6 2,) ∷ (4, Mut.mslice (Referent.rtF (Referent.fInt Syntax.w32)) ref7 3,) ∷ (5, Rows.any-gone
-            Laws''''.mir,) ∷ (6, Rows.any-gone Laws.mir,) ∷ (7, Rows.whole (Declared.row Revoking.the-type)) ∷ (8, Rows.any-gone Laws''.mir,) ∷ (9,
-            Rows.whole (Declared.row Sending.the-type)) ∷ (10, Rows.whole (Declared.row Walked.the-type),) ∷ (11, Rows.whole (Declared.row
-            Walked.the-type)) ∷ (12, Rows.any-gone Laws''''''.mir,) ∷ (13, Rows.any-gone Laws''''''.mir,) ∷ (14, Rows.any-gone ref0,) ∷ (15,
-            Mut.mslice RelayPending.row ref0 4,) ∷ List.[]
+        g10 = e0 ∷ l1 ∷ e2 ∷ e3 ∷ e4 ∷ e5·1 ∷ e6·1 ∷ e7 ∷ e8·1 ∷ e9·1 ∷ e10·1 ∷ e11·1 ∷ e12 ∷ e13 ∷ e14 ∷ e15·1 ∷
+            List.[]
+
         abbrev g11 : List.List Row.Entry
-        g11 = (0, Rows.any-gone Laws'''''.mir,) ∷ (1, Relend.mslice-owed RelayPending.row ref4 0 4 life0,) ∷ (2, Mut.mslice RelayCircuit.row ref5 1,)
-            ∷ (3, Relend.mslice-owed InflightAction.row ref6 2 5 life1,) ∷ (4, Mut.mslice (Referent.rtF (Referent.fInt Syntax.w32)) ref7 3,) ∷ (5,
-            Rows.any-gone Laws''''.mir,) ∷ (6, Rows.any-gone Laws.mir,) ∷ (7, Rows.whole (Declared.row Revoking.the-type)) ∷ (8, Rows.any-gone
-            Laws''.mir,) ∷ (9, Rows.whole (Declared.row Sending.the-type)) ∷ (10, Rows.whole (Declared.row Walked.the-type),) ∷ (11, Rows.whole
-            (Declared.row Walked.the-type)) ∷ (12, Rows.any-gone Laws''''''.mir,) ∷ (13, Rows.any-gone Laws''''''.mir,) ∷ (14, Rows.any-gone ref0,) ∷
-            (15, Mut.mslice RelayPending.row ref0 4,) ∷ List.[]
+        g11 = e0 ∷ l1 ∷ e2 ∷ l3 ∷ e4 ∷ e5·1 ∷ e6·1 ∷ e7 ∷ e8·1 ∷ e9·1 ∷ e10·1 ∷ e11·1 ∷ e12 ∷ e13 ∷ e14 ∷ e15·1 ∷
+            List.[]
+
         abbrev g14 : List.List Row.Entry
-        g14 = (0, Rows.any-gone Laws'''''.mir,) ∷ (1, Relend.mslice-owed RelayPending.row ref4 0 4 life0,) ∷ (2, Mut.mslice RelayCircuit.row ref5 1,)
-            ∷ (3, Relend.mslice-owed InflightAction.row ref6 2 5 life1,) ∷ (4, Relend.mslice-owed (Referent.rtF (Referent.fInt Syntax.w32)) ref7 3 6
-            life2,) ∷ (5, Rows.any-gone Laws''''.mir,) ∷ (6, Rows.any-gone Laws.mir,) ∷ (7, Rows.whole (Declared.row Revoking.the-type)) ∷ (8,
-            Rows.any-gone Laws''.mir,) ∷ (9, Rows.whole (Declared.row Sending.the-type)) ∷ (10, Rows.whole (Declared.row Walked.the-type),) ∷ (11,
-            Rows.whole (Declared.row Walked.the-type)) ∷ (12, Rows.any-gone Laws''''''.mir,) ∷ (13, Rows.any-gone Laws''''''.mir,) ∷ (14,
-            Rows.any-gone ref0,) ∷ (15, Mut.mslice RelayPending.row ref0 4,) ∷ List.[]
+        g14 = e0 ∷ l1 ∷ e2 ∷ l3 ∷ l4 ∷ e5·1 ∷ e6·1 ∷ e7 ∷ e8·1 ∷ e9·1 ∷ e10·1 ∷ e11·1 ∷ e12 ∷ e13 ∷ e14 ∷ e15·1 ∷
+            List.[]
+
         abbrev g17 : List.List Row.Entry
-        g17 = (0, Rows.any-gone Laws'''''.mir,) ∷ (1, Relend.mslice-owed RelayPending.row ref4 0 4 life0,) ∷ (2, Mut.mslice RelayCircuit.row ref5 1,)
-            ∷ (3, Relend.mslice-owed InflightAction.row ref6 2 5 life1,) ∷ (4, Relend.mslice-owed (Referent.rtF (Referent.fInt Syntax.w32)) ref7 3 6
-            life2,) ∷ (5, Rows.any-gone Laws''''.mir,) ∷ (6, Rows.any-gone Laws.mir,) ∷ (7, Rows.whole (Declared.row Revoking.the-type)) ∷ (8,
-            Rows.any-gone Laws''.mir,) ∷ (9, Rows.whole (Declared.row Sending.the-type)) ∷ (10, Rows.whole (Declared.row Walked.the-type),) ∷ (11,
-            Rows.whole (Declared.row Walked.the-type)) ∷ (12, Rows.whole (Declared.row Sending.the-type),) ∷ (13, Rows.any-gone Laws''''''.mir,) ∷
-            (14, Rows.any-gone ref0,) ∷ (15, Mut.msleft RelayPending.row ref0,) ∷ List.[]
+        g17 = e0 ∷ l1 ∷ e2 ∷ l3 ∷ l4 ∷ e5·1 ∷ e6·1 ∷ e7 ∷ e8·1 ∷ e9·1 ∷ e10·1 ∷ e11·1 ∷ e12·1 ∷ e13 ∷ e14 ∷ e15·2 ∷
+            List.[]
+
         abbrev g19 : List.List Row.Entry
-        g19 = (0, Rows.any-gone Laws'''''.mir,) ∷ (1, Relend.mslice-owed RelayPending.row ref4 0 4 life0,) ∷ (2, Mut.mslice RelayCircuit.row ref5 1,)
-            ∷ (3, Relend.mslice-owed InflightAction.row ref6 2 5 life1,) ∷ (4, Relend.mslice-owed (Referent.rtF (Referent.fInt Syntax.w32)) ref7 3 6
-            life2,) ∷ (5, Rows.any-gone Laws''''.mir,) ∷ (6, Rows.any-gone Laws.mir,) ∷ (7, Rows.whole (Declared.row Revoking.the-type)) ∷ (8,
-            Rows.any-gone Laws''.mir,) ∷ (9, Rows.any-gone Laws''''''.mir,) ∷ (10, Rows.whole (Declared.row Walked.the-type)) ∷ (11, Rows.whole
-            (Declared.row Walked.the-type),) ∷ (12, Rows.whole (Declared.row Sending.the-type)) ∷ (13, Rows.any-gone Laws''''''.mir,) ∷ (14,
-            Rows.any-gone ref0,) ∷ (15, Mut.msleft RelayPending.row ref0,) ∷ List.[]
+        g19 = e0 ∷ l1 ∷ e2 ∷ l3 ∷ l4 ∷ e5·1 ∷ e6·1 ∷ e7 ∷ e8·1 ∷ e9 ∷ e10·1 ∷ e11·1 ∷ e12·1 ∷ e13 ∷ e14 ∷ e15·2 ∷
+            List.[]
+
         abbrev g20 : List.List Row.Entry
-        g20 = (0, Rows.any-gone Laws'''''.mir,) ∷ (1, Relend.mslice-owed RelayPending.row ref4 0 4 life0,) ∷ (2, Mut.mslice RelayCircuit.row ref5 1,)
-            ∷ (3, Relend.mslice-owed InflightAction.row ref6 2 5 life1,) ∷ (4, Relend.mslice-owed (Referent.rtF (Referent.fInt Syntax.w32)) ref7 3 6
-            life2,) ∷ (5, Rows.any-gone Laws''''.mir,) ∷ (6, Rows.any-gone Laws.mir,) ∷ (7, Rows.whole (Declared.row Revoking.the-type)) ∷ (8,
-            Rows.any-gone Laws''.mir,) ∷ (9, Rows.any-gone Laws''''''.mir,) ∷ (10, Rows.any-gone Laws'.mir,) ∷ (11, Rows.whole (Declared.row
-            Walked.the-type)) ∷ (12, Rows.whole (Declared.row Sending.the-type),) ∷ (13, Rows.any-gone Laws''''''.mir,) ∷ (14, Rows.any-gone ref0,) ∷
-            (15, Mut.msleft RelayPending.row ref0,) ∷ List.[]
+        g20 = e0 ∷ l1 ∷ e2 ∷ l3 ∷ l4 ∷ e5·1 ∷ e6·1 ∷ e7 ∷ e8·1 ∷ e9 ∷ e10 ∷ e11·1 ∷ e12·1 ∷ e13 ∷ e14 ∷ e15·2 ∷ List.[]
+
         abbrev g21 : List.List Row.Entry
-        g21 = (0, Rows.any-gone Laws'''''.mir,) ∷ (1, Mut.mslice RelayPending.row ref4 0,) ∷ (2, Mut.mslice RelayCircuit.row ref5 1,) ∷ (3,
-            Relend.mslice-owed InflightAction.row ref6 2 5 life1,) ∷ (4, Relend.mslice-owed (Referent.rtF (Referent.fInt Syntax.w32)) ref7 3 6 life2,)
-            ∷ (5, Rows.any-gone Laws''''.mir,) ∷ (6, Rows.any-gone Laws.mir,) ∷ (7, Rows.whole (Declared.row Revoking.the-type)) ∷ (8, Rows.any-gone
-            Laws''.mir,) ∷ (9, Rows.any-gone Laws''''''.mir,) ∷ (10, Rows.any-gone Laws'.mir,) ∷ (11, Rows.whole (Declared.row Walked.the-type)) ∷
-            (12, Rows.whole (Declared.row Sending.the-type),) ∷ (13, Rows.any-gone Laws''''''.mir,) ∷ (14, Rows.any-gone ref0,) ∷ (15, Rows.any-gone
-            (Syntax.tyStruct (38 ∷ 91 ∷ 93 ∷ List.[]) (Syntax.tcons ref0 (Syntax.tcons (Syntax.tyInt Syntax.w64) Syntax.tnil))),) ∷ List.[]
+        g21 = e0 ∷ e1 ∷ e2 ∷ l3 ∷ l4 ∷ e5·1 ∷ e6·1 ∷ e7 ∷ e8·1 ∷ e9 ∷ e10 ∷ e11·1 ∷ e12·1 ∷ e13 ∷ e14 ∷ e15 ∷ List.[]
+
         abbrev g22 : List.List Row.Entry
-        g22 = (0, Rows.any-gone Laws'''''.mir,) ∷ (1, Mut.mslice RelayPending.row ref4 0,) ∷ (2, Mut.mslice RelayCircuit.row ref5 1,) ∷ (3, Mut.mslice
-            InflightAction.row ref6 2,) ∷ (4, Relend.mslice-owed (Referent.rtF (Referent.fInt Syntax.w32)) ref7 3 6 life2,) ∷ (5, Rows.any-gone
-            Laws''''.mir,) ∷ (6, Rows.any-gone Laws.mir,) ∷ (7, Rows.whole (Declared.row Revoking.the-type)) ∷ (8, Rows.any-gone Laws''.mir,) ∷ (9,
-            Rows.any-gone Laws''''''.mir,) ∷ (10, Rows.any-gone Laws'.mir,) ∷ (11, Rows.whole (Declared.row Walked.the-type)) ∷ (12, Rows.whole
-            (Declared.row Sending.the-type),) ∷ (13, Rows.any-gone Laws''''''.mir,) ∷ (14, Rows.any-gone ref0,) ∷ (15, Rows.any-gone (Syntax.tyStruct
-            (38 ∷ 91 ∷ 93 ∷ List.[]) (Syntax.tcons ref0 (Syntax.tcons (Syntax.tyInt Syntax.w64) Syntax.tnil))),) ∷ List.[]
+        g22 = e0 ∷ e1 ∷ e2 ∷ e3 ∷ l4 ∷ e5·1 ∷ e6·1 ∷ e7 ∷ e8·1 ∷ e9 ∷ e10 ∷ e11·1 ∷ e12·1 ∷ e13 ∷ e14 ∷ e15 ∷ List.[]
+
         abbrev g25 : List.List Row.Entry
-        g25 = (0, Rows.any-gone Laws'''''.mir,) ∷ (1, Mut.mslice RelayPending.row ref4 0,) ∷ (2, Relend.mslice-owed RelayCircuit.row ref5 1 7 life3,)
-            ∷ (3, Mut.mslice InflightAction.row ref6 2,) ∷ (4, Mut.mslice (Referent.rtF (Referent.fInt Syntax.w32)) ref7 3,) ∷ (5, Rows.any-gone
-            Laws''''.mir,) ∷ (6, Rows.any-gone Laws.mir,) ∷ (7, Rows.whole (Declared.row Revoking.the-type)) ∷ (8, Rows.any-gone Laws''.mir,) ∷ (9,
-            Rows.any-gone Laws''''''.mir,) ∷ (10, Rows.any-gone Laws'.mir,) ∷ (11, Rows.whole (Declared.row Walked.the-type)) ∷ (12, Rows.whole
-            (Declared.row Sending.the-type),) ∷ (13, Rows.any-gone Laws''''''.mir,) ∷ (14, Rows.any-gone ref0,) ∷ (15, Rows.any-gone (Syntax.tyStruct
-            (38 ∷ 91 ∷ 93 ∷ List.[]) (Syntax.tcons ref0 (Syntax.tcons (Syntax.tyInt Syntax.w64) Syntax.tnil))),) ∷ List.[]
+        g25 = e0 ∷ e1 ∷ l2 ∷ e3 ∷ e4 ∷ e5·1 ∷ e6·1 ∷ e7 ∷ e8·1 ∷ e9 ∷ e10 ∷ e11·1 ∷ e12·1 ∷ e13 ∷ e14 ∷ e15 ∷ List.[]
+
         abbrev g28 : List.List Row.Entry
-        g28 = (0, Rows.any-gone Laws'''''.mir,) ∷ (1, Mut.mslice RelayPending.row ref4 0,) ∷ (2, Relend.mslice-owed RelayCircuit.row ref5 1 7 life3,)
-            ∷ (3, Relend.mslice-owed InflightAction.row ref6 2 8 life1,) ∷ (4, Mut.mslice (Referent.rtF (Referent.fInt Syntax.w32)) ref7 3,) ∷ (5,
-            Rows.any-gone Laws''''.mir,) ∷ (6, Rows.any-gone Laws.mir,) ∷ (7, Rows.whole (Declared.row Revoking.the-type)) ∷ (8, Rows.any-gone
-            Laws''.mir,) ∷ (9, Rows.any-gone Laws''''''.mir,) ∷ (10, Rows.any-gone Laws'.mir,) ∷ (11, Rows.whole (Declared.row Walked.the-type)) ∷
-            (12, Rows.whole (Declared.row Sending.the-type),) ∷ (13, Rows.any-gone Laws''''''.mir,) ∷ (14, Rows.any-gone ref0,) ∷ (15, Rows.any-gone
-            (Syntax.tyStruct (38 ∷ 91 ∷ 93 ∷ List.[]) (Syntax.tcons ref0 (Syntax.tcons (Syntax.tyInt Syntax.w64) Syntax.tnil))),) ∷ List.[]
+        g28 = e0 ∷ e1 ∷ l2 ∷ l3·1 ∷ e4 ∷ e5·1 ∷ e6·1 ∷ e7 ∷ e8·1 ∷ e9 ∷ e10 ∷ e11·1 ∷ e12·1 ∷ e13 ∷ e14 ∷ e15 ∷ List.[]
+
         abbrev g31 : List.List Row.Entry
-        g31 = (0, Rows.any-gone Laws'''''.mir,) ∷ (1, Mut.mslice RelayPending.row ref4 0,) ∷ (2, Relend.mslice-owed RelayCircuit.row ref5 1 7 life3,)
-            ∷ (3, Relend.mslice-owed InflightAction.row ref6 2 8 life1,) ∷ (4, Relend.mslice-owed (Referent.rtF (Referent.fInt Syntax.w32)) ref7 3 9
-            life2,) ∷ (5, Rows.any-gone Laws''''.mir,) ∷ (6, Rows.any-gone Laws.mir,) ∷ (7, Rows.whole (Declared.row Revoking.the-type)) ∷ (8,
-            Rows.any-gone Laws''.mir,) ∷ (9, Rows.any-gone Laws''''''.mir,) ∷ (10, Rows.any-gone Laws'.mir,) ∷ (11, Rows.whole (Declared.row
-            Walked.the-type)) ∷ (12, Rows.whole (Declared.row Sending.the-type),) ∷ (13, Rows.any-gone Laws''''''.mir,) ∷ (14, Rows.any-gone ref0,) ∷
-            (15, Rows.any-gone (Syntax.tyStruct (38 ∷ 91 ∷ 93 ∷ List.[]) (Syntax.tcons ref0 (Syntax.tcons (Syntax.tyInt Syntax.w64) Syntax.tnil))),) ∷
+        g31 = e0 ∷ e1 ∷ l2 ∷ l3·1 ∷ l4·1 ∷ e5·1 ∷ e6·1 ∷ e7 ∷ e8·1 ∷ e9 ∷ e10 ∷ e11·1 ∷ e12·1 ∷ e13 ∷ e14 ∷ e15 ∷
             List.[]
+
         abbrev g34 : List.List Row.Entry
-        g34 = (0, Rows.any-gone Laws'''''.mir,) ∷ (1, Mut.mslice RelayPending.row ref4 0,) ∷ (2, Relend.mslice-owed RelayCircuit.row ref5 1 7 life3,)
-            ∷ (3, Relend.mslice-owed InflightAction.row ref6 2 8 life1,) ∷ (4, Relend.mslice-owed (Referent.rtF (Referent.fInt Syntax.w32)) ref7 3 9
-            life2,) ∷ (5, Rows.any-gone Laws''''.mir,) ∷ (6, Rows.any-gone Laws.mir,) ∷ (7, Rows.whole (Declared.row Revoking.the-type)) ∷ (8,
-            Rows.any-gone Laws''.mir,) ∷ (9, Rows.any-gone Laws''''''.mir,) ∷ (10, Rows.any-gone Laws'.mir,) ∷ (11, Rows.whole (Declared.row
-            Walked.the-type)) ∷ (12, Rows.whole (Declared.row Sending.the-type),) ∷ (13, Rows.whole (Declared.row Sending.the-type)) ∷ (14,
-            Rows.any-gone ref0,) ∷ (15, Rows.any-gone (Syntax.tyStruct (38 ∷ 91 ∷ 93 ∷ List.[]) (Syntax.tcons ref0 (Syntax.tcons (Syntax.tyInt
-            Syntax.w64) Syntax.tnil))),) ∷ List.[]
-        abbrev g36 : List.List Row.Entry
-        g36 = (0, Rows.any-gone Laws'''''.mir,) ∷ (1, Mut.mslice RelayPending.row ref4 0,) ∷ (2, Relend.mslice-owed RelayCircuit.row ref5 1 7 life3,)
-            ∷ (3, Relend.mslice-owed InflightAction.row ref6 2 8 life1,) ∷ (4, Relend.mslice-owed (Referent.rtF (Referent.fInt Syntax.w32)) ref7 3 9
-            life2,) ∷ (5, Rows.any-gone Laws''''.mir,) ∷ (6, Rows.any-gone Laws.mir,) ∷ (7, Rows.any-gone Laws'''.mir,) ∷ (8, Rows.any-gone
-            Laws''.mir,) ∷ (9, Rows.any-gone Laws''''''.mir,) ∷ (10, Rows.any-gone Laws'.mir,) ∷ (11, Rows.whole (Declared.row Walked.the-type)) ∷
-            (12, Rows.whole (Declared.row Sending.the-type),) ∷ (13, Rows.whole (Declared.row Sending.the-type)) ∷ (14, Rows.any-gone ref0,) ∷ (15,
-            Rows.any-gone (Syntax.tyStruct (38 ∷ 91 ∷ 93 ∷ List.[]) (Syntax.tcons ref0 (Syntax.tcons (Syntax.tyInt Syntax.w64) Syntax.tnil))),) ∷
+        g34 = e0 ∷ e1 ∷ l2 ∷ l3·1 ∷ l4·1 ∷ e5·1 ∷ e6·1 ∷ e7 ∷ e8·1 ∷ e9 ∷ e10 ∷ e11·1 ∷ e12·1 ∷ e13·1 ∷ e14 ∷ e15 ∷
             List.[]
+
+        abbrev g36 : List.List Row.Entry
+        g36 = e0 ∷ e1 ∷ l2 ∷ l3·1 ∷ l4·1 ∷ e5·1 ∷ e6·1 ∷ e7·1 ∷ e8·1 ∷ e9 ∷ e10 ∷ e11·1 ∷ e12·1 ∷ e13·1 ∷ e14 ∷ e15 ∷
+            List.[]
+
         abbrev g37 : List.List Row.Entry
-        g37 = (0, Rows.any-gone Laws'''''.mir,) ∷ (1, Mut.mslice RelayPending.row ref4 0,) ∷ (2, Relend.mslice-owed RelayCircuit.row ref5 1 7 life3,)
-            ∷ (3, Relend.mslice-owed InflightAction.row ref6 2 8 life1,) ∷ (4, Relend.mslice-owed (Referent.rtF (Referent.fInt Syntax.w32)) ref7 3 9
-            life2,) ∷ (5, Rows.any-gone Laws''''.mir,) ∷ (6, Rows.any-gone Laws.mir,) ∷ (7, Rows.any-gone Laws'''.mir,) ∷ (8, Rows.any-gone
-            Laws''.mir,) ∷ (9, Rows.any-gone Laws''''''.mir,) ∷ (10, Rows.any-gone Laws'.mir,) ∷ (11, Rows.any-gone Laws'.mir,) ∷ (12, Rows.whole
-            (Declared.row Sending.the-type)) ∷ (13, Rows.whole (Declared.row Sending.the-type),) ∷ (14, Rows.any-gone ref0,) ∷ (15, Rows.any-gone
-            (Syntax.tyStruct (38 ∷ 91 ∷ 93 ∷ List.[]) (Syntax.tcons ref0 (Syntax.tcons (Syntax.tyInt Syntax.w64) Syntax.tnil))),) ∷ List.[]
+        g37 = e0 ∷ e1 ∷ l2 ∷ l3·1 ∷ l4·1 ∷ e5·1 ∷ e6·1 ∷ e7·1 ∷ e8·1 ∷ e9 ∷ e10 ∷ e11 ∷ e12·1 ∷ e13·1 ∷ e14 ∷ e15 ∷
+            List.[]
+
         abbrev g38 : List.List Row.Entry
-        g38 = (0, Rows.any-gone Laws'''''.mir,) ∷ (1, Mut.mslice RelayPending.row ref4 0,) ∷ (2, Relend.mslice-owed RelayCircuit.row ref5 1 7 life3,)
-            ∷ (3, Relend.mslice-owed InflightAction.row ref6 2 8 life1,) ∷ (4, Relend.mslice-owed (Referent.rtF (Referent.fInt Syntax.w32)) ref7 3 9
-            life2,) ∷ (5, Rows.any-gone Laws''''.mir,) ∷ (6, Rows.any-gone Laws.mir,) ∷ (7, Rows.any-gone Laws'''.mir,) ∷ (8, Rows.any-gone
-            Laws''.mir,) ∷ (9, Rows.any-gone Laws''''''.mir,) ∷ (10, Rows.any-gone Laws'.mir,) ∷ (11, Rows.any-gone Laws'.mir,) ∷ (12, Rows.any-gone
-            Laws''''''.mir,) ∷ (13, Rows.whole (Declared.row Sending.the-type)) ∷ (14, Rows.any-gone ref0,) ∷ (15, Rows.any-gone (Syntax.tyStruct (38
-            ∷ 91 ∷ 93 ∷ List.[]) (Syntax.tcons ref0 (Syntax.tcons (Syntax.tyInt Syntax.w64) Syntax.tnil))),) ∷ List.[]
+        g38 = e0 ∷ e1 ∷ l2 ∷ l3·1 ∷ l4·1 ∷ e5·1 ∷ e6·1 ∷ e7·1 ∷ e8·1 ∷ e9 ∷ e10 ∷ e11 ∷ e12 ∷ e13·1 ∷ e14 ∷ e15 ∷
+            List.[]
+
         abbrev g39 : List.List Row.Entry
-        g39 = (0, Rows.any-gone Laws'''''.mir,) ∷ (1, Mut.mslice RelayPending.row ref4 0,) ∷ (2, Mut.mslice RelayCircuit.row ref5 1,) ∷ (3,
-            Relend.mslice-owed InflightAction.row ref6 2 8 life1,) ∷ (4, Relend.mslice-owed (Referent.rtF (Referent.fInt Syntax.w32)) ref7 3 9 life2,)
-            ∷ (5, Rows.any-gone Laws''''.mir,) ∷ (6, Rows.any-gone Laws.mir,) ∷ (7, Rows.any-gone Laws'''.mir,) ∷ (8, Rows.any-gone Laws''.mir,) ∷ (9,
-            Rows.any-gone Laws''''''.mir,) ∷ (10, Rows.any-gone Laws'.mir,) ∷ (11, Rows.any-gone Laws'.mir,) ∷ (12, Rows.any-gone Laws''''''.mir,) ∷
-            (13, Rows.whole (Declared.row Sending.the-type)) ∷ (14, Rows.any-gone ref0,) ∷ (15, Rows.any-gone (Syntax.tyStruct (38 ∷ 91 ∷ 93 ∷
-            List.[]) (Syntax.tcons ref0 (Syntax.tcons (Syntax.tyInt Syntax.w64) Syntax.tnil))),) ∷ List.[]
+        g39 = e0 ∷ e1 ∷ e2 ∷ l3·1 ∷ l4·1 ∷ e5·1 ∷ e6·1 ∷ e7·1 ∷ e8·1 ∷ e9 ∷ e10 ∷ e11 ∷ e12 ∷ e13·1 ∷ e14 ∷ e15 ∷
+            List.[]
+
         abbrev g41 : List.List Row.Entry
-        g41 = (0, Rows.any-gone Laws'''''.mir,) ∷ (1, Mut.mslice RelayPending.row ref4 0,) ∷ (2, Mut.mslice RelayCircuit.row ref5 1,) ∷ (3, Mut.mslice
-            InflightAction.row ref6 2,) ∷ (4, Relend.mslice-owed (Referent.rtF (Referent.fInt Syntax.w32)) ref7 3 9 life2,) ∷ (5, Rows.any-gone
-            Laws''''.mir,) ∷ (6, Rows.any-gone Laws.mir,) ∷ (7, Rows.any-gone Laws'''.mir,) ∷ (8, Rows.any-gone Laws''.mir,) ∷ (9, Rows.any-gone
-            Laws''''''.mir,) ∷ (10, Rows.any-gone Laws'.mir,) ∷ (11, Rows.any-gone Laws'.mir,) ∷ (12, Rows.any-gone Laws''''''.mir,) ∷ (13, Rows.whole
-            (Declared.row Sending.the-type)) ∷ (14, Rows.any-gone ref0,) ∷ (15, Rows.any-gone (Syntax.tyStruct (38 ∷ 91 ∷ 93 ∷ List.[]) (Syntax.tcons
-            ref0 (Syntax.tcons (Syntax.tyInt Syntax.w64) Syntax.tnil))),) ∷ List.[]
+        g41 = e0 ∷ e1 ∷ e2 ∷ e3 ∷ l4·1 ∷ e5·1 ∷ e6·1 ∷ e7·1 ∷ e8·1 ∷ e9 ∷ e10 ∷ e11 ∷ e12 ∷ e13·1 ∷ e14 ∷ e15 ∷ List.[]
+
         abbrev G0 : Row.Cx
-        G0 = record { locals = List._++_ t0 t1; slots = life0 ∷ life3 ∷ life1 ∷ life2 ∷ Row.off ∷ Row.off ∷ Row.off ∷ Row.off ∷ Row.off ∷ Row.off ∷
-            List.[]; }
+        G0 = record {
+          locals = List._++_ t0 t1;
+          slots = life0 ∷ life3 ∷ life1 ∷ life2 ∷ Row.off ∷ Row.off ∷ Row.off ∷ Row.off ∷ Row.off ∷ Row.off ∷ List.[];
+        }
+
         abbrev G1 : Row.Cx
-        G1 = record { locals = List._++_ t2 t1; slots = life0 ∷ life3 ∷ life1 ∷ life2 ∷ Row.off ∷ Row.off ∷ Row.off ∷ Row.off ∷ Row.off ∷ Row.off ∷
-            List.[]; }
+        G1 = record {
+          locals = List._++_ t2 t1;
+          slots = life0 ∷ life3 ∷ life1 ∷ life2 ∷ Row.off ∷ Row.off ∷ Row.off ∷ Row.off ∷ Row.off ∷ Row.off ∷ List.[];
+        }
+
         abbrev G2 : Row.Cx
-        G2 = record { locals = List._++_ t0 t1; slots = life0 ∷ life3 ∷ life1 ∷ life2 ∷ Row.off ∷ Row.off ∷ Row.off ∷ Row.off ∷ Row.off ∷ Row.off ∷
-            List.[]; }
+        G2 = record {
+          locals = List._++_ t0 t1;
+          slots = life0 ∷ life3 ∷ life1 ∷ life2 ∷ Row.off ∷ Row.off ∷ Row.off ∷ Row.off ∷ Row.off ∷ Row.off ∷ List.[];
+        }
+
         abbrev G3 : Row.Cx
-        G3 = record { locals = List._++_ t3 t1; slots = life0 ∷ life3 ∷ life1 ∷ life2 ∷ Row.off ∷ Row.off ∷ Row.off ∷ Row.off ∷ Row.off ∷ Row.off ∷
-            List.[]; }
+        G3 = record {
+          locals = List._++_ t3 t1;
+          slots = life0 ∷ life3 ∷ life1 ∷ life2 ∷ Row.off ∷ Row.off ∷ Row.off ∷ Row.off ∷ Row.off ∷ Row.off ∷ List.[];
+        }
+
         abbrev G4 : Row.Cx
-        G4 = record { locals = List._++_ t4 t1; slots = life0 ∷ life3 ∷ life1 ∷ life2 ∷ Row.off ∷ Row.off ∷ Row.off ∷ Row.off ∷ Row.off ∷ Row.off ∷
-            List.[]; }
+        G4 = record {
+          locals = List._++_ t4 t1;
+          slots = life0 ∷ life3 ∷ life1 ∷ life2 ∷ Row.off ∷ Row.off ∷ Row.off ∷ Row.off ∷ Row.off ∷ Row.off ∷ List.[];
+        }
+
         abbrev G5 : Row.Cx
-        G5 = record { locals = List._++_ t5 t1; slots = life0 ∷ life3 ∷ life1 ∷ life2 ∷ Row.off ∷ Row.off ∷ Row.off ∷ Row.off ∷ Row.off ∷ Row.off ∷
-            List.[]; }
+        G5 = record {
+          locals = List._++_ t5 t1;
+          slots = life0 ∷ life3 ∷ life1 ∷ life2 ∷ Row.off ∷ Row.off ∷ Row.off ∷ Row.off ∷ Row.off ∷ Row.off ∷ List.[];
+        }
+
         abbrev G6 : Row.Cx
-        G6 = record { locals = List._++_ t6 t1; slots = life0 ∷ life3 ∷ life1 ∷ life2 ∷ Row.off ∷ Row.off ∷ Row.off ∷ Row.off ∷ Row.off ∷ Row.off ∷
-            List.[]; }
+        G6 = record {
+          locals = List._++_ t6 t1;
+          slots = life0 ∷ life3 ∷ life1 ∷ life2 ∷ Row.off ∷ Row.off ∷ Row.off ∷ Row.off ∷ Row.off ∷ Row.off ∷ List.[];
+        }
+
         abbrev G7 : Row.Cx
-        G7 = record { locals = List._++_ t7 t1; slots = life0 ∷ life3 ∷ life1 ∷ life2 ∷ Row.off ∷ Row.off ∷ Row.off ∷ Row.off ∷ Row.off ∷ Row.off ∷
-            List.[]; }
+        G7 = record {
+          locals = List._++_ t7 t1;
+          slots = life0 ∷ life3 ∷ life1 ∷ life2 ∷ Row.off ∷ Row.off ∷ Row.off ∷ Row.off ∷ Row.off ∷ Row.off ∷ List.[];
+        }
+
         abbrev G8 : Row.Cx
-        G8 = record { locals = List._++_ t8 t1; slots = life0 ∷ life3 ∷ life1 ∷ life2 ∷ Row.off ∷ Row.off ∷ Row.off ∷ Row.off ∷ Row.off ∷ Row.off ∷
-            List.[]; }
+        G8 = record {
+          locals = List._++_ t8 t1;
+          slots = life0 ∷ life3 ∷ life1 ∷ life2 ∷ Row.off ∷ Row.off ∷ Row.off ∷ Row.off ∷ Row.off ∷ Row.off ∷ List.[];
+        }
+
         abbrev G9 : Row.Cx
-        G9 = record { locals = List._++_ t8 t1; slots = life0 ∷ life3 ∷ life1 ∷ life2 ∷ Row.alive ∷ Row.off ∷ Row.off ∷ Row.off ∷ Row.off ∷ Row.off ∷
-            List.[]; }
+        G9 = record {
+          locals = List._++_ t8 t1;
+          slots = life0 ∷ life3 ∷ life1 ∷ life2 ∷ Row.alive ∷ Row.off ∷ Row.off ∷ Row.off ∷ Row.off ∷ Row.off ∷ List.[];
+        }
+
         abbrev G10 : Row.Cx
-        G10 = record { locals = List._++_ g9 t1; slots = Row.off ∷ life3 ∷ life1 ∷ life2 ∷ Row.alive ∷ Row.off ∷ Row.off ∷ Row.off ∷ Row.off ∷ Row.off
-            ∷ List.[]; }
+        G10 = record {
+          locals = List._++_ g9 t1;
+          slots = Row.off ∷ life3 ∷ life1 ∷ life2 ∷ Row.alive ∷ Row.off ∷ Row.off ∷ Row.off ∷ Row.off ∷ Row.off ∷
+              List.[];
+        }
+
         abbrev G11 : Row.Cx
-        G11 = record { locals = List._++_ g10 t1; slots = Row.off ∷ life3 ∷ life1 ∷ life2 ∷ Row.alive ∷ Row.off ∷ Row.off ∷ Row.off ∷ Row.off ∷
-            Row.off ∷ List.[]; }
+        G11 = record {
+          locals = List._++_ g10 t1;
+          slots = Row.off ∷ life3 ∷ life1 ∷ life2 ∷ Row.alive ∷ Row.off ∷ Row.off ∷ Row.off ∷ Row.off ∷ Row.off ∷
+              List.[];
+        }
+
         abbrev G12 : Row.Cx
-        G12 = record { locals = List._++_ g10 t1; slots = Row.off ∷ life3 ∷ life1 ∷ life2 ∷ Row.alive ∷ Row.alive ∷ Row.off ∷ Row.off ∷ Row.off ∷
-            Row.off ∷ List.[]; }
+        G12 = record {
+          locals = List._++_ g10 t1;
+          slots = Row.off ∷ life3 ∷ life1 ∷ life2 ∷ Row.alive ∷ Row.alive ∷ Row.off ∷ Row.off ∷ Row.off ∷ Row.off ∷
+              List.[];
+        }
+
         abbrev G13 : Row.Cx
-        G13 = record { locals = List._++_ g11 t12; slots = Row.off ∷ life3 ∷ Row.off ∷ life2 ∷ Row.alive ∷ Row.alive ∷ Row.off ∷ Row.off ∷ Row.off ∷
-            Row.off ∷ List.[]; }
+        G13 = record {
+          locals = List._++_ g11 t12;
+          slots = Row.off ∷ life3 ∷ Row.off ∷ life2 ∷ Row.alive ∷ Row.alive ∷ Row.off ∷ Row.off ∷ Row.off ∷ Row.off ∷
+              List.[];
+        }
+
         abbrev G14 : Row.Cx
-        G14 = record { locals = List._++_ g11 t13; slots = Row.off ∷ life3 ∷ Row.off ∷ life2 ∷ Row.alive ∷ Row.alive ∷ Row.off ∷ Row.off ∷ Row.off ∷
-            Row.off ∷ List.[]; }
+        G14 = record {
+          locals = List._++_ g11 t13;
+          slots = Row.off ∷ life3 ∷ Row.off ∷ life2 ∷ Row.alive ∷ Row.alive ∷ Row.off ∷ Row.off ∷ Row.off ∷ Row.off ∷
+              List.[];
+        }
+
         abbrev G15 : Row.Cx
-        G15 = record { locals = List._++_ g11 t13; slots = Row.off ∷ life3 ∷ Row.off ∷ life2 ∷ Row.alive ∷ Row.alive ∷ Row.alive ∷ Row.off ∷ Row.off ∷
-            Row.off ∷ List.[]; }
+        G15 = record {
+          locals = List._++_ g11 t13;
+          slots = Row.off ∷ life3 ∷ Row.off ∷ life2 ∷ Row.alive ∷ Row.alive ∷ Row.alive ∷ Row.off ∷ Row.off ∷ Row.off ∷
+              List.[];
+        }
+
         abbrev G16 : Row.Cx
-        G16 = record { locals = List._++_ g14 t15; slots = Row.off ∷ life3 ∷ Row.off ∷ Row.off ∷ Row.alive ∷ Row.alive ∷ Row.alive ∷ Row.off ∷ Row.off
-            ∷ Row.off ∷ List.[]; }
+        G16 = record {
+          locals = List._++_ g14 t15;
+          slots = Row.off ∷ life3 ∷ Row.off ∷ Row.off ∷ Row.alive ∷ Row.alive ∷ Row.alive ∷ Row.off ∷ Row.off ∷ Row.off
+              ∷ List.[];
+        }
+
         abbrev G17 : Row.Cx
-        G17 = record { locals = List._++_ g14 t16; slots = Row.off ∷ life3 ∷ Row.off ∷ Row.off ∷ Row.alive ∷ Row.alive ∷ Row.alive ∷ Row.off ∷ Row.off
-            ∷ Row.off ∷ List.[]; }
+        G17 = record {
+          locals = List._++_ g14 t16;
+          slots = Row.off ∷ life3 ∷ Row.off ∷ Row.off ∷ Row.alive ∷ Row.alive ∷ Row.alive ∷ Row.off ∷ Row.off ∷ Row.off
+              ∷ List.[];
+        }
+
         abbrev G18 : Row.Cx
-        G18 = record { locals = List._++_ g17 t18; slots = Row.off ∷ life3 ∷ Row.off ∷ Row.off ∷ Row.alive ∷ Row.alive ∷ Row.alive ∷ Row.off ∷ Row.off
-            ∷ Row.off ∷ List.[]; }
+        G18 = record {
+          locals = List._++_ g17 t18;
+          slots = Row.off ∷ life3 ∷ Row.off ∷ Row.off ∷ Row.alive ∷ Row.alive ∷ Row.alive ∷ Row.off ∷ Row.off ∷ Row.off
+              ∷ List.[];
+        }
+
         abbrev G19 : Row.Cx
-        G19 = record { locals = List._++_ g19 t18; slots = Row.off ∷ life3 ∷ Row.off ∷ Row.off ∷ Row.alive ∷ Row.alive ∷ Row.alive ∷ Row.off ∷ Row.off
-            ∷ Row.off ∷ List.[]; }
+        G19 = record {
+          locals = List._++_ g19 t18;
+          slots = Row.off ∷ life3 ∷ Row.off ∷ Row.off ∷ Row.alive ∷ Row.alive ∷ Row.alive ∷ Row.off ∷ Row.off ∷ Row.off
+              ∷ List.[];
+        }
+
         abbrev G20 : Row.Cx
-        G20 = record { locals = List._++_ g20 t18; slots = Row.off ∷ life3 ∷ Row.off ∷ Row.off ∷ Row.alive ∷ Row.alive ∷ Row.alive ∷ Row.off ∷ Row.off
-            ∷ Row.off ∷ List.[]; }
+        G20 = record {
+          locals = List._++_ g20 t18;
+          slots = Row.off ∷ life3 ∷ Row.off ∷ Row.off ∷ Row.alive ∷ Row.alive ∷ Row.alive ∷ Row.off ∷ Row.off ∷ Row.off
+              ∷ List.[];
+        }
+
         abbrev G21 : Row.Cx
-        G21 = record { locals = List._++_ g20 t18; slots = Row.off ∷ life3 ∷ Row.off ∷ Row.off ∷ Row.dead ∷ Row.alive ∷ Row.alive ∷ Row.off ∷ Row.off
-            ∷ Row.off ∷ List.[]; }
+        G21 = record {
+          locals = List._++_ g20 t18;
+          slots = Row.off ∷ life3 ∷ Row.off ∷ Row.off ∷ Row.dead ∷ Row.alive ∷ Row.alive ∷ Row.off ∷ Row.off ∷ Row.off
+              ∷ List.[];
+        }
+
         abbrev G22 : Row.Cx
-        G22 = record { locals = List._++_ g21 t18; slots = life0 ∷ life3 ∷ Row.off ∷ Row.off ∷ Row.dead ∷ Row.alive ∷ Row.alive ∷ Row.off ∷ Row.off ∷
-            Row.off ∷ List.[]; }
+        G22 = record {
+          locals = List._++_ g21 t18;
+          slots = life0 ∷ life3 ∷ Row.off ∷ Row.off ∷ Row.dead ∷ Row.alive ∷ Row.alive ∷ Row.off ∷ Row.off ∷ Row.off ∷
+              List.[];
+        }
+
         abbrev G23 : Row.Cx
-        G23 = record { locals = List._++_ g21 t18; slots = life0 ∷ life3 ∷ Row.off ∷ Row.off ∷ Row.off ∷ Row.alive ∷ Row.alive ∷ Row.off ∷ Row.off ∷
-            Row.off ∷ List.[]; }
+        G23 = record {
+          locals = List._++_ g21 t18;
+          slots = life0 ∷ life3 ∷ Row.off ∷ Row.off ∷ Row.off ∷ Row.alive ∷ Row.alive ∷ Row.off ∷ Row.off ∷ Row.off ∷
+              List.[];
+        }
+
         abbrev G24 : Row.Cx
-        G24 = record { locals = List._++_ g21 t18; slots = life0 ∷ life3 ∷ Row.off ∷ Row.off ∷ Row.off ∷ Row.dead ∷ Row.alive ∷ Row.off ∷ Row.off ∷
-            Row.off ∷ List.[]; }
+        G24 = record {
+          locals = List._++_ g21 t18;
+          slots = life0 ∷ life3 ∷ Row.off ∷ Row.off ∷ Row.off ∷ Row.dead ∷ Row.alive ∷ Row.off ∷ Row.off ∷ Row.off ∷
+              List.[];
+        }
+
         abbrev G25 : Row.Cx
-        G25 = record { locals = List._++_ g22 t23; slots = life0 ∷ life3 ∷ life1 ∷ Row.off ∷ Row.off ∷ Row.dead ∷ Row.alive ∷ Row.off ∷ Row.off ∷
-            Row.off ∷ List.[]; }
+        G25 = record {
+          locals = List._++_ g22 t23;
+          slots = life0 ∷ life3 ∷ life1 ∷ Row.off ∷ Row.off ∷ Row.dead ∷ Row.alive ∷ Row.off ∷ Row.off ∷ Row.off ∷
+              List.[];
+        }
+
         abbrev G26 : Row.Cx
-        G26 = record { locals = List._++_ g22 t23; slots = life0 ∷ life3 ∷ life1 ∷ Row.off ∷ Row.off ∷ Row.off ∷ Row.alive ∷ Row.off ∷ Row.off ∷
-            Row.off ∷ List.[]; }
+        G26 = record {
+          locals = List._++_ g22 t23;
+          slots = life0 ∷ life3 ∷ life1 ∷ Row.off ∷ Row.off ∷ Row.off ∷ Row.alive ∷ Row.off ∷ Row.off ∷ Row.off ∷
+              List.[];
+        }
+
         abbrev G27 : Row.Cx
-        G27 = record { locals = List._++_ g22 t23; slots = life0 ∷ life3 ∷ life1 ∷ Row.off ∷ Row.off ∷ Row.off ∷ Row.dead ∷ Row.off ∷ Row.off ∷
-            Row.off ∷ List.[]; }
+        G27 = record {
+          locals = List._++_ g22 t23;
+          slots = life0 ∷ life3 ∷ life1 ∷ Row.off ∷ Row.off ∷ Row.off ∷ Row.dead ∷ Row.off ∷ Row.off ∷ Row.off ∷
+              List.[];
+        }
+
         abbrev G28 : Row.Cx
-        G28 = record { locals = List._++_ t24 t1; slots = life0 ∷ life3 ∷ life1 ∷ life2 ∷ Row.off ∷ Row.off ∷ Row.dead ∷ Row.off ∷ Row.off ∷ Row.off ∷
-            List.[]; }
+        G28 = record {
+          locals = List._++_ t24 t1;
+          slots = life0 ∷ life3 ∷ life1 ∷ life2 ∷ Row.off ∷ Row.off ∷ Row.dead ∷ Row.off ∷ Row.off ∷ Row.off ∷ List.[];
+        }
+
         abbrev G29 : Row.Cx
-        G29 = record { locals = List._++_ t24 t1; slots = life0 ∷ life3 ∷ life1 ∷ life2 ∷ Row.off ∷ Row.off ∷ Row.dead ∷ Row.off ∷ Row.off ∷ Row.off ∷
-            List.[]; }
+        G29 = record {
+          locals = List._++_ t24 t1;
+          slots = life0 ∷ life3 ∷ life1 ∷ life2 ∷ Row.off ∷ Row.off ∷ Row.dead ∷ Row.off ∷ Row.off ∷ Row.off ∷ List.[];
+        }
+
         abbrev G30 : Row.Cx
-        G30 = record { locals = List._++_ t24 t1; slots = life0 ∷ life3 ∷ life1 ∷ life2 ∷ Row.off ∷ Row.off ∷ Row.off ∷ Row.off ∷ Row.off ∷ Row.off ∷
-            List.[]; }
+        G30 = record {
+          locals = List._++_ t24 t1;
+          slots = life0 ∷ life3 ∷ life1 ∷ life2 ∷ Row.off ∷ Row.off ∷ Row.off ∷ Row.off ∷ Row.off ∷ Row.off ∷ List.[];
+        }
+
         abbrev G31 : Row.Cx
-        G31 = record { locals = List._++_ t24 t1; slots = life0 ∷ life3 ∷ life1 ∷ life2 ∷ Row.off ∷ Row.off ∷ Row.off ∷ Row.alive ∷ Row.off ∷ Row.off
-            ∷ List.[]; }
+        G31 = record {
+          locals = List._++_ t24 t1;
+          slots = life0 ∷ life3 ∷ life1 ∷ life2 ∷ Row.off ∷ Row.off ∷ Row.off ∷ Row.alive ∷ Row.off ∷ Row.off ∷ List.[];
+        }
+
         abbrev G32 : Row.Cx
-        G32 = record { locals = List._++_ g25 t26; slots = life0 ∷ Row.off ∷ life1 ∷ life2 ∷ Row.off ∷ Row.off ∷ Row.off ∷ Row.alive ∷ Row.off ∷
-            Row.off ∷ List.[]; }
+        G32 = record {
+          locals = List._++_ g25 t26;
+          slots = life0 ∷ Row.off ∷ life1 ∷ life2 ∷ Row.off ∷ Row.off ∷ Row.off ∷ Row.alive ∷ Row.off ∷ Row.off ∷
+              List.[];
+        }
+
         abbrev G33 : Row.Cx
-        G33 = record { locals = List._++_ g25 t27; slots = life0 ∷ Row.off ∷ life1 ∷ life2 ∷ Row.off ∷ Row.off ∷ Row.off ∷ Row.alive ∷ Row.off ∷
-            Row.off ∷ List.[]; }
+        G33 = record {
+          locals = List._++_ g25 t27;
+          slots = life0 ∷ Row.off ∷ life1 ∷ life2 ∷ Row.off ∷ Row.off ∷ Row.off ∷ Row.alive ∷ Row.off ∷ Row.off ∷
+              List.[];
+        }
+
         abbrev G34 : Row.Cx
-        G34 = record { locals = List._++_ g25 t27; slots = life0 ∷ Row.off ∷ life1 ∷ life2 ∷ Row.off ∷ Row.off ∷ Row.off ∷ Row.alive ∷ Row.alive ∷
-            Row.off ∷ List.[]; }
+        G34 = record {
+          locals = List._++_ g25 t27;
+          slots = life0 ∷ Row.off ∷ life1 ∷ life2 ∷ Row.off ∷ Row.off ∷ Row.off ∷ Row.alive ∷ Row.alive ∷ Row.off ∷
+              List.[];
+        }
+
         abbrev G35 : Row.Cx
-        G35 = record { locals = List._++_ g28 t29; slots = life0 ∷ Row.off ∷ Row.off ∷ life2 ∷ Row.off ∷ Row.off ∷ Row.off ∷ Row.alive ∷ Row.alive ∷
-            Row.off ∷ List.[]; }
+        G35 = record {
+          locals = List._++_ g28 t29;
+          slots = life0 ∷ Row.off ∷ Row.off ∷ life2 ∷ Row.off ∷ Row.off ∷ Row.off ∷ Row.alive ∷ Row.alive ∷ Row.off ∷
+              List.[];
+        }
+
         abbrev G36 : Row.Cx
-        G36 = record { locals = List._++_ g28 t30; slots = life0 ∷ Row.off ∷ Row.off ∷ life2 ∷ Row.off ∷ Row.off ∷ Row.off ∷ Row.alive ∷ Row.alive ∷
-            Row.off ∷ List.[]; }
+        G36 = record {
+          locals = List._++_ g28 t30;
+          slots = life0 ∷ Row.off ∷ Row.off ∷ life2 ∷ Row.off ∷ Row.off ∷ Row.off ∷ Row.alive ∷ Row.alive ∷ Row.off ∷
+              List.[];
+        }
+
         abbrev G37 : Row.Cx
-        G37 = record { locals = List._++_ g28 t30; slots = life0 ∷ Row.off ∷ Row.off ∷ life2 ∷ Row.off ∷ Row.off ∷ Row.off ∷ Row.alive ∷ Row.alive ∷
-            Row.alive ∷ List.[]; }
+        G37 = record {
+          locals = List._++_ g28 t30;
+          slots = life0 ∷ Row.off ∷ Row.off ∷ life2 ∷ Row.off ∷ Row.off ∷ Row.off ∷ Row.alive ∷ Row.alive ∷ Row.alive ∷
+              List.[];
+        }
+
         abbrev G38 : Row.Cx
-        G38 = record { locals = List._++_ g31 t32; slots = life0 ∷ Row.off ∷ Row.off ∷ Row.off ∷ Row.off ∷ Row.off ∷ Row.off ∷ Row.alive ∷ Row.alive ∷
-            Row.alive ∷ List.[]; }
+        G38 = record {
+          locals = List._++_ g31 t32;
+          slots = life0 ∷ Row.off ∷ Row.off ∷ Row.off ∷ Row.off ∷ Row.off ∷ Row.off ∷ Row.alive ∷ Row.alive ∷ Row.alive
+              ∷ List.[];
+        }
+
         abbrev G39 : Row.Cx
-        G39 = record { locals = List._++_ g31 t33; slots = life0 ∷ Row.off ∷ Row.off ∷ Row.off ∷ Row.off ∷ Row.off ∷ Row.off ∷ Row.alive ∷ Row.alive ∷
-            Row.alive ∷ List.[]; }
+        G39 = record {
+          locals = List._++_ g31 t33;
+          slots = life0 ∷ Row.off ∷ Row.off ∷ Row.off ∷ Row.off ∷ Row.off ∷ Row.off ∷ Row.alive ∷ Row.alive ∷ Row.alive
+              ∷ List.[];
+        }
+
         abbrev G40 : Row.Cx
-        G40 = record { locals = List._++_ g34 t35; slots = life0 ∷ Row.off ∷ Row.off ∷ Row.off ∷ Row.off ∷ Row.off ∷ Row.off ∷ Row.alive ∷ Row.alive ∷
-            Row.alive ∷ List.[]; }
+        G40 = record {
+          locals = List._++_ g34 t35;
+          slots = life0 ∷ Row.off ∷ Row.off ∷ Row.off ∷ Row.off ∷ Row.off ∷ Row.off ∷ Row.alive ∷ Row.alive ∷ Row.alive
+              ∷ List.[];
+        }
+
         abbrev G41 : Row.Cx
-        G41 = record { locals = List._++_ g36 t35; slots = life0 ∷ Row.off ∷ Row.off ∷ Row.off ∷ Row.off ∷ Row.off ∷ Row.off ∷ Row.alive ∷ Row.alive ∷
-            Row.alive ∷ List.[]; }
+        G41 = record {
+          locals = List._++_ g36 t35;
+          slots = life0 ∷ Row.off ∷ Row.off ∷ Row.off ∷ Row.off ∷ Row.off ∷ Row.off ∷ Row.alive ∷ Row.alive ∷ Row.alive
+              ∷ List.[];
+        }
+
         abbrev G42 : Row.Cx
-        G42 = record { locals = List._++_ g37 t35; slots = life0 ∷ Row.off ∷ Row.off ∷ Row.off ∷ Row.off ∷ Row.off ∷ Row.off ∷ Row.alive ∷ Row.alive ∷
-            Row.alive ∷ List.[]; }
+        G42 = record {
+          locals = List._++_ g37 t35;
+          slots = life0 ∷ Row.off ∷ Row.off ∷ Row.off ∷ Row.off ∷ Row.off ∷ Row.off ∷ Row.alive ∷ Row.alive ∷ Row.alive
+              ∷ List.[];
+        }
+
         abbrev G43 : Row.Cx
-        G43 = record { locals = List._++_ g38 t35; slots = life0 ∷ Row.off ∷ Row.off ∷ Row.off ∷ Row.off ∷ Row.off ∷ Row.off ∷ Row.alive ∷ Row.alive ∷
-            Row.alive ∷ List.[]; }
+        G43 = record {
+          locals = List._++_ g38 t35;
+          slots = life0 ∷ Row.off ∷ Row.off ∷ Row.off ∷ Row.off ∷ Row.off ∷ Row.off ∷ Row.alive ∷ Row.alive ∷ Row.alive
+              ∷ List.[];
+        }
+
         abbrev G44 : Row.Cx
-        G44 = record { locals = List._++_ g38 t35; slots = life0 ∷ Row.off ∷ Row.off ∷ Row.off ∷ Row.off ∷ Row.off ∷ Row.off ∷ Row.dead ∷ Row.alive ∷
-            Row.alive ∷ List.[]; }
+        G44 = record {
+          locals = List._++_ g38 t35;
+          slots = life0 ∷ Row.off ∷ Row.off ∷ Row.off ∷ Row.off ∷ Row.off ∷ Row.off ∷ Row.dead ∷ Row.alive ∷ Row.alive
+              ∷ List.[];
+        }
+
         abbrev G45 : Row.Cx
-        G45 = record { locals = List._++_ g39 t40; slots = life0 ∷ life3 ∷ Row.off ∷ Row.off ∷ Row.off ∷ Row.off ∷ Row.off ∷ Row.dead ∷ Row.alive ∷
-            Row.alive ∷ List.[]; }
+        G45 = record {
+          locals = List._++_ g39 t40;
+          slots = life0 ∷ life3 ∷ Row.off ∷ Row.off ∷ Row.off ∷ Row.off ∷ Row.off ∷ Row.dead ∷ Row.alive ∷ Row.alive ∷
+              List.[];
+        }
+
         abbrev G46 : Row.Cx
-        G46 = record { locals = List._++_ g39 t40; slots = life0 ∷ life3 ∷ Row.off ∷ Row.off ∷ Row.off ∷ Row.off ∷ Row.off ∷ Row.off ∷ Row.alive ∷
-            Row.alive ∷ List.[]; }
+        G46 = record {
+          locals = List._++_ g39 t40;
+          slots = life0 ∷ life3 ∷ Row.off ∷ Row.off ∷ Row.off ∷ Row.off ∷ Row.off ∷ Row.off ∷ Row.alive ∷ Row.alive ∷
+              List.[];
+        }
+
         abbrev G47 : Row.Cx
-        G47 = record { locals = List._++_ g39 t40; slots = life0 ∷ life3 ∷ Row.off ∷ Row.off ∷ Row.off ∷ Row.off ∷ Row.off ∷ Row.off ∷ Row.dead ∷
-            Row.alive ∷ List.[]; }
+        G47 = record {
+          locals = List._++_ g39 t40;
+          slots = life0 ∷ life3 ∷ Row.off ∷ Row.off ∷ Row.off ∷ Row.off ∷ Row.off ∷ Row.off ∷ Row.dead ∷ Row.alive ∷
+              List.[];
+        }
+
         abbrev G48 : Row.Cx
-        G48 = record { locals = List._++_ g41 t42; slots = life0 ∷ life3 ∷ life1 ∷ Row.off ∷ Row.off ∷ Row.off ∷ Row.off ∷ Row.off ∷ Row.dead ∷
-            Row.alive ∷ List.[]; }
+        G48 = record {
+          locals = List._++_ g41 t42;
+          slots = life0 ∷ life3 ∷ life1 ∷ Row.off ∷ Row.off ∷ Row.off ∷ Row.off ∷ Row.off ∷ Row.dead ∷ Row.alive ∷
+              List.[];
+        }
+
         abbrev G49 : Row.Cx
-        G49 = record { locals = List._++_ g41 t42; slots = life0 ∷ life3 ∷ life1 ∷ Row.off ∷ Row.off ∷ Row.off ∷ Row.off ∷ Row.off ∷ Row.off ∷
-            Row.alive ∷ List.[]; }
+        G49 = record {
+          locals = List._++_ g41 t42;
+          slots = life0 ∷ life3 ∷ life1 ∷ Row.off ∷ Row.off ∷ Row.off ∷ Row.off ∷ Row.off ∷ Row.off ∷ Row.alive ∷
+              List.[];
+        }
+
         abbrev G50 : Row.Cx
-        G50 = record { locals = List._++_ g41 t42; slots = life0 ∷ life3 ∷ life1 ∷ Row.off ∷ Row.off ∷ Row.off ∷ Row.off ∷ Row.off ∷ Row.off ∷
-            Row.dead ∷ List.[]; }
+        G50 = record {
+          locals = List._++_ g41 t42;
+          slots = life0 ∷ life3 ∷ life1 ∷ Row.off ∷ Row.off ∷ Row.off ∷ Row.off ∷ Row.off ∷ Row.off ∷ Row.dead ∷
+              List.[];
+        }
+
         abbrev G51 : Row.Cx
-        G51 = record { locals = List._++_ t43 t1; slots = life0 ∷ life3 ∷ life1 ∷ life2 ∷ Row.off ∷ Row.off ∷ Row.off ∷ Row.off ∷ Row.off ∷ Row.dead ∷
-            List.[]; }
+        G51 = record {
+          locals = List._++_ t43 t1;
+          slots = life0 ∷ life3 ∷ life1 ∷ life2 ∷ Row.off ∷ Row.off ∷ Row.off ∷ Row.off ∷ Row.off ∷ Row.dead ∷ List.[];
+        }
+
         abbrev G52 : Row.Cx
-        G52 = record { locals = List._++_ t43 t1; slots = life0 ∷ life3 ∷ life1 ∷ life2 ∷ Row.off ∷ Row.off ∷ Row.off ∷ Row.off ∷ Row.off ∷ Row.dead ∷
-            List.[]; }
+        G52 = record {
+          locals = List._++_ t43 t1;
+          slots = life0 ∷ life3 ∷ life1 ∷ life2 ∷ Row.off ∷ Row.off ∷ Row.off ∷ Row.off ∷ Row.off ∷ Row.dead ∷ List.[];
+        }
+
         abbrev G53 : Row.Cx
-        G53 = record { locals = List._++_ t43 t1; slots = life0 ∷ life3 ∷ life1 ∷ life2 ∷ Row.off ∷ Row.off ∷ Row.off ∷ Row.off ∷ Row.off ∷ Row.off ∷
-            List.[]; }
+        G53 = record {
+          locals = List._++_ t43 t1;
+          slots = life0 ∷ life3 ∷ life1 ∷ life2 ∷ Row.off ∷ Row.off ∷ Row.off ∷ Row.off ∷ Row.off ∷ Row.off ∷ List.[];
+        }
+
         abbrev G54 : Row.Cx
-        G54 = record { locals = List._++_ t44 t1; slots = life0 ∷ life3 ∷ life1 ∷ life2 ∷ Row.off ∷ Row.off ∷ Row.off ∷ Row.off ∷ Row.off ∷ Row.off ∷
-            List.[]; }
+        G54 = record {
+          locals = List._++_ t44 t1;
+          slots = life0 ∷ life3 ∷ life1 ∷ life2 ∷ Row.off ∷ Row.off ∷ Row.off ∷ Row.off ∷ Row.off ∷ Row.off ∷ List.[];
+        }
+
         abbrev G55 : Row.Cx
-        G55 = record { locals = List._++_ t2 t1; slots = life0 ∷ life3 ∷ life1 ∷ life2 ∷ Row.off ∷ Row.off ∷ Row.off ∷ Row.off ∷ Row.off ∷ Row.off ∷
-            List.[]; }
+        G55 = record {
+          locals = List._++_ t2 t1;
+          slots = life0 ∷ life3 ∷ life1 ∷ life2 ∷ Row.off ∷ Row.off ∷ Row.off ∷ Row.off ∷ Row.off ∷ Row.off ∷ List.[];
+        }
+
         abbrev Δ0 : Typed.Outs
         Δ0 = record { next = Option.none; exits = List.[]; returns = Option.some G1 }
-        module _ { M : Type 1 } (𝓤 : URA.URA M) (H : Wp.Heap 𝓤) (A : Atoms.Atoms 𝓤) (W : Kit.Given 𝓤 H A) (𝓣 : Wp.Tables 𝓤 H) (known : Knowns 𝓤 H A W
-            𝓣) (bs : List.List Nat.ℕ) (bd : Lifetimes.AllOutlive 4 (Kinds.osR r) κs) where
+
+        module _ {M : Type 1} (𝓤 : URA.URA M) (H : Wp.Heap 𝓤) (A : Atoms.Atoms 𝓤) (W : Kit.Given 𝓤 H A)
+            (𝓣 : Wp.Tables 𝓤 H) (known : Knowns 𝓤 H A W 𝓣) (bs : List.List Nat.ℕ)
+            (bd : Lifetimes.AllOutlive 4 (Kinds.osR r) κs) where
           abbrev E : Wp.Env 𝓤 H
           E = Frame.EnvOf 𝓤 H ((Kinds.tyR r) ∷ (Enter.tysP ps xs)) bs
+
           d0 : Typed.Typed 𝓤 H A 𝓣 E G55 b18 Δ0 (at0 bs)
           d0 = Typed.t-return 𝓤 H A W 𝓣 E Δ0 tt
+
           d1 : Typed.Typed 𝓤 H A 𝓣 E G54 b18 Δ0 (at1 bs)
-          d1 = Typed.g-pre 𝓤 H A W 𝓣 E G54 G55 b18 Δ0 (Typed.pass T54 T55 (s53 bs)) (at0 bs) (Scalar.g-room 𝓤 H A W E G54 13 Laws''''''.mir
-              (Local.room-whole 𝓤 H A W (Declared.row Sending.the-type) Laws''''''.mir Path.refl)) d0
+          d1 = Typed.g-pre 𝓤 H A W 𝓣 E G54 G55 b18 Δ0 (Typed.pass T54 T55 (s53 bs)) (at0 bs) (Scalar.g-room 𝓤 H A W E
+              G54 13 Laws''''''.mir (Local.room-whole 𝓤 H A W (Declared.row Sending.the-type) Laws''''''.mir Path.refl))
+              d0
+
           d2 : Typed.Typed 𝓤 H A 𝓣 E G53 b19 Δ0 (at2 bs)
-          d2 = Typed.s-seq 𝓤 H A W 𝓣 E G53 G54 b17 b18 Δ0 (Typed.both (s52 bs)) (at1 bs) (Plain.t-call-plain 𝓤 H A W 𝓣 0 ps·3 r·3 (claims· .6)
-              (claims· .7) "hnsr_circuit::revocation::finished" (known .3) E (λ pos β. β) G53 (record { pos = 13; st = List.[]; d = 0; at = λ x. x },
-              tt) 0 List.[] (Call.sub-id 𝓤 H A W (G53 .slots)) ((Yields.yields-copy 𝓤 H A W (λ ρ. Unit) (Declared.row Sending.the-type) Path.refl
-              (Copies.cStruct Sending.the-type Laws''''''.the-laws Laws''''''.the-copy .copy 𝓤 H A W) (Rows.whole (Declared.row Sending.the-type)) (λ
-              x. x) (λ x. x) (λ ρ told. Local.mem-whole 𝓤 H A W (Declared.row Sending.the-type) ρ) λ ρ told. Local.whole-mem 𝓤 H A W (Declared.row
-              Sending.the-type) ρ, Path.refl,), tt,) (Reads.room-gone 𝓤 H A Laws'''''.mir) tt Path.refl) d1
+          d2 = Typed.s-seq 𝓤 H A W 𝓣 E G53 G54 b17 b18 Δ0 (Typed.both (s52 bs)) (at1 bs) (Plain.t-call-plain 𝓤 H A W 𝓣
+              0 ps·3 r·3 (claims· .6) (claims· .7) "hnsr_circuit::revocation::finished" (known .3) E (λ pos β. β) G53
+              (record { pos = 13; st = List.[]; d = 0; at = λ x. x }, tt) 0 List.[] (Call.sub-id 𝓤 H A W (G53 .slots)) (
+                (
+                  Yields.yields-copy 𝓤 H A W (λ ρ. Unit) (Declared.row Sending.the-type) Path.refl (Copies.cStruct
+                      Sending.the-type Laws''''''.the-laws Laws''''''.the-copy .copy 𝓤 H A W)
+                      (Rows.whole (Declared.row Sending.the-type)) (λ x. x) (λ x. x) (λ ρ told. Local.mem-whole 𝓤 H A W
+                      (Declared.row Sending.the-type) ρ) λ ρ told. Local.whole-mem 𝓤 H A W
+                      (Declared.row Sending.the-type) ρ,
+                  Path.refl,
+                ),
+                tt,
+              ) (Reads.room-gone 𝓤 H A Laws'''''.mir) tt Path.refl) d1
+
           d3 : Typed.Typed 𝓤 H A 𝓣 E G52 b19 Δ0 (at3 bs)
-          d3 = Typed.g-pre 𝓤 H A W 𝓣 E G52 G53 b19 Δ0 (λ Ψ. Ψ) (at2 bs) (Lifetime.g-forget 𝓤 H A W E G52 9 Row.dead Path.refl) d2
+          d3 = Typed.g-pre 𝓤 H A W 𝓣 E G52 G53 b19 Δ0 (λ Ψ. Ψ) (at2 bs)
+              (Lifetime.g-forget 𝓤 H A W E G52 9 Row.dead Path.refl) d2
+
           d4 : Typed.Typed 𝓤 H A 𝓣 E G51 b19 Δ0 (at4 bs)
-          d4 = Typed.g-pre 𝓤 H A W 𝓣 E G51 G52 b19 Δ0 (Typed.give (s50 bs)) (at3 bs) (Know.g-sl-known 𝓤 H A W (Referent.fInt Syntax.w32) E G51 4 3
-              ref7 life2 0 (λ x. x) record { fits = Dec.lit< tt } (Reads.as-is 𝓤 H A (Mut.mslice (Referent.rtF (Referent.fInt Syntax.w32)) ref7 3))
-              Path.refl tt) d3
+          d4 = Typed.g-pre 𝓤 H A W 𝓣 E G51 G52 b19 Δ0 (Typed.give (s50 bs)) (at3 bs) (Know.g-sl-known 𝓤 H A W
+              (Referent.fInt Syntax.w32) E G51 4 3 ref7 life2 0 (λ x. x) record { fits = Dec.lit< tt } (Reads.as-is 𝓤 H
+              A (Mut.mslice (Referent.rtF (Referent.fInt Syntax.w32)) ref7 3)) Path.refl tt) d3
+
           d5 : Typed.Typed 𝓤 H A 𝓣 E G50 b19 Δ0 (at5 bs)
-          d5 = Typed.g-pre 𝓤 H A W 𝓣 E G50 G51 b19 Δ0 (Typed.both (s49 bs)) (at4 bs) (Relend.g-back-sl 𝓤 H A W E (Referent.rtF (Referent.fInt
-              Syntax.w32)) G50 25 4 3 9 ref7 ref2 life2 (λ x. x) (λ x. x) (Reads.as-is 𝓤 H A (Mut.msleft (Referent.rtF (Referent.fInt Syntax.w32))
-              ref2)) (Reads.as-is 𝓤 H A (Relend.mslice-owed (Referent.rtF (Referent.fInt Syntax.w32)) ref7 3 9 life2)) Path.refl Path.refl) d4
+          d5 = Typed.g-pre 𝓤 H A W 𝓣 E G50 G51 b19 Δ0 (Typed.both (s49 bs)) (at4 bs) (Relend.g-back-sl 𝓤 H A W E
+              (Referent.rtF (Referent.fInt Syntax.w32)) G50 25 4 3 9 ref7 ref2 life2 (λ x. x) (λ x. x) (Reads.as-is 𝓤 H
+              A (Mut.msleft (Referent.rtF (Referent.fInt Syntax.w32)) ref2)) (Reads.as-is 𝓤 H A (Relend.mslice-owed
+              (Referent.rtF (Referent.fInt Syntax.w32)) ref7 3 9 life2)) Path.refl Path.refl) d4
+
           d6 : Typed.Typed 𝓤 H A 𝓣 E G49 b19 Δ0 (at6 bs)
           d6 = Typed.g-pre 𝓤 H A W 𝓣 E G49 G50 b19 Δ0 (λ Ψ. Ψ) (at5 bs) (Lifetime.g-end 𝓤 H A W E G49 9 Path.refl) d5
+
           d7 : Typed.Typed 𝓤 H A 𝓣 E G48 b19 Δ0 (at7 bs)
-          d7 = Typed.g-pre 𝓤 H A W 𝓣 E G48 G49 b19 Δ0 (λ Ψ. Ψ) (at6 bs) (Lifetime.g-forget 𝓤 H A W E G48 8 Row.dead Path.refl) d6
+          d7 = Typed.g-pre 𝓤 H A W 𝓣 E G48 G49 b19 Δ0 (λ Ψ. Ψ) (at6 bs)
+              (Lifetime.g-forget 𝓤 H A W E G48 8 Row.dead Path.refl) d6
+
           d8 : Typed.Typed 𝓤 H A 𝓣 E G47 b19 Δ0 (at8 bs)
-          d8 = Typed.g-pre 𝓤 H A W 𝓣 E G47 G48 b19 Δ0 (Typed.both (s46 bs)) (at7 bs) (Relend.g-back-sl 𝓤 H A W E InflightAction.row G47 23 3 2 8 ref6
-              ref1 life1 (λ x. x) (λ x. x) (Reads.as-is 𝓤 H A (Mut.msleft InflightAction.row ref1)) (Reads.as-is 𝓤 H A (Relend.mslice-owed
-              InflightAction.row ref6 2 8 life1)) Path.refl Path.refl) d7
+          d8 = Typed.g-pre 𝓤 H A W 𝓣 E G47 G48 b19 Δ0 (Typed.both (s46 bs)) (at7 bs) (Relend.g-back-sl 𝓤 H A W E
+              InflightAction.row G47 23 3 2 8 ref6 ref1 life1 (λ x. x) (λ x. x)
+              (Reads.as-is 𝓤 H A (Mut.msleft InflightAction.row ref1)) (Reads.as-is 𝓤 H A
+              (Relend.mslice-owed InflightAction.row ref6 2 8 life1)) Path.refl Path.refl) d7
+
           d9 : Typed.Typed 𝓤 H A 𝓣 E G46 b19 Δ0 (at9 bs)
           d9 = Typed.g-pre 𝓤 H A W 𝓣 E G46 G47 b19 Δ0 (λ Ψ. Ψ) (at8 bs) (Lifetime.g-end 𝓤 H A W E G46 8 Path.refl) d8
+
           d10 : Typed.Typed 𝓤 H A 𝓣 E G45 b19 Δ0 (at10 bs)
-          d10 = Typed.g-pre 𝓤 H A W 𝓣 E G45 G46 b19 Δ0 (λ Ψ. Ψ) (at9 bs) (Lifetime.g-forget 𝓤 H A W E G45 7 Row.dead Path.refl) d9
+          d10 = Typed.g-pre 𝓤 H A W 𝓣 E G45 G46 b19 Δ0 (λ Ψ. Ψ) (at9 bs)
+              (Lifetime.g-forget 𝓤 H A W E G45 7 Row.dead Path.refl) d9
+
           d11 : Typed.Typed 𝓤 H A 𝓣 E G44 b19 Δ0 (at11 bs)
-          d11 = Typed.g-pre 𝓤 H A W 𝓣 E G44 G45 b19 Δ0 (Typed.both (s43 bs)) (at10 bs) (Relend.g-back-sl 𝓤 H A W E RelayCircuit.row G44 21 2 1 7 ref5
-              ref3 life3 (λ x. x) (λ x. x) (Reads.as-is 𝓤 H A (Mut.msleft RelayCircuit.row ref3)) (Reads.as-is 𝓤 H A (Relend.mslice-owed
-              RelayCircuit.row ref5 1 7 life3)) Path.refl Path.refl) d10
+          d11 = Typed.g-pre 𝓤 H A W 𝓣 E G44 G45 b19 Δ0 (Typed.both (s43 bs)) (at10 bs) (Relend.g-back-sl 𝓤 H A W E
+              RelayCircuit.row G44 21 2 1 7 ref5 ref3 life3 (λ x. x) (λ x. x)
+              (Reads.as-is 𝓤 H A (Mut.msleft RelayCircuit.row ref3)) (Reads.as-is 𝓤 H A
+              (Relend.mslice-owed RelayCircuit.row ref5 1 7 life3)) Path.refl Path.refl) d10
+
           d12 : Typed.Typed 𝓤 H A 𝓣 E G43 b19 Δ0 (at12 bs)
-          d12 = Typed.g-pre 𝓤 H A W 𝓣 E G43 G44 b19 Δ0 (λ Ψ. Ψ) (at11 bs) (Lifetime.g-end 𝓤 H A W E G43 7 Path.refl) d11
+          d12 = Typed.g-pre 𝓤 H A W 𝓣 E G43 G44 b19 Δ0 (λ Ψ. Ψ) (at11 bs) (Lifetime.g-end 𝓤 H A W E G43 7 Path.refl)
+              d11
+
           d13 : Typed.Typed 𝓤 H A 𝓣 E G42 b19 Δ0 (at13 bs)
-          d13 = Typed.g-pre 𝓤 H A W 𝓣 E G42 G43 b19 Δ0 (Typed.pass T42 T43 (s41 bs)) (at12 bs) (Scalar.g-room 𝓤 H A W E G42 12 Laws''''''.mir
-              (Local.room-whole 𝓤 H A W (Declared.row Sending.the-type) Laws''''''.mir Path.refl)) d12
+          d13 = Typed.g-pre 𝓤 H A W 𝓣 E G42 G43 b19 Δ0 (Typed.pass T42 T43 (s41 bs)) (at12 bs) (Scalar.g-room 𝓤 H A W E
+              G42 12 Laws''''''.mir (Local.room-whole 𝓤 H A W (Declared.row Sending.the-type) Laws''''''.mir Path.refl))
+              d12
+
           d14 : Typed.Typed 𝓤 H A 𝓣 E G41 b19 Δ0 (at14 bs)
-          d14 = Typed.g-pre 𝓤 H A W 𝓣 E G41 G42 b19 Δ0 (Typed.pass T41 T42 (s40 bs)) (at13 bs) (Scalar.g-room 𝓤 H A W E G41 11 Laws'.mir
-              (Local.room-whole 𝓤 H A W (Declared.row Walked.the-type) Laws'.mir Path.refl)) d13
+          d14 = Typed.g-pre 𝓤 H A W 𝓣 E G41 G42 b19 Δ0 (Typed.pass T41 T42 (s40 bs)) (at13 bs) (Scalar.g-room 𝓤 H A W E
+              G41 11 Laws'.mir (Local.room-whole 𝓤 H A W (Declared.row Walked.the-type) Laws'.mir Path.refl)) d13
+
           d15 : Typed.Typed 𝓤 H A 𝓣 E G40 b19 Δ0 (at15 bs)
-          d15 = Typed.g-pre 𝓤 H A W 𝓣 E G40 G41 b19 Δ0 (Typed.pass T40 T41 (s39 bs)) (at14 bs) (Scalar.g-room 𝓤 H A W E G40 7 Laws'''.mir
-              (Local.room-whole 𝓤 H A W (Declared.row Revoking.the-type) Laws'''.mir Path.refl)) d14
+          d15 = Typed.g-pre 𝓤 H A W 𝓣 E G40 G41 b19 Δ0 (Typed.pass T40 T41 (s39 bs)) (at14 bs) (Scalar.g-room 𝓤 H A W E
+              G40 7 Laws'''.mir (Local.room-whole 𝓤 H A W (Declared.row Revoking.the-type) Laws'''.mir Path.refl)) d14
+
           d16 : Typed.Typed 𝓤 H A 𝓣 E G39 b20 Δ0 (at16 bs)
-          d16 = Typed.s-seq 𝓤 H A W 𝓣 E G39 G40 b16 b19 Δ0 (Typed.both (s38 bs)) (at15 bs) (Plain.t-call-plain 𝓤 H A W 𝓣 3 ps·2 r·2 (claims· .4)
-              (claims· .5) "hnsr_circuit::revocation::walk_circuits" (known .2) E (λ pos β. β) G39 (record { pos = 21; ty = Syntax.tyRef Syntax.erased
-              Syntax.mut RelayCircuit.to; ref = λ x. x; }, (record { pos = 23; ty = Syntax.tyRef Syntax.erased Syntax.mut InflightAction.to; ref = λ
-              x. x; }, (record { pos = 25; ty = Syntax.tyRef Syntax.erased Syntax.mut (Syntax.tyInt Syntax.w32); ref = λ x. x; }, (record { pos = 12;
-              st = List.[]; d = 0; at = λ x. x }, (record { pos = 7; st = List.[]; d = 0; at = λ x. x }, (record { pos = 11; st = List.[]; d = 0; at =
-              λ x. x }, tt),),),),),) 13 (7 ∷ 8 ∷ 9 ∷ List.[]) (Call.sub-id 𝓤 H A W (G39 .slots)) (Reads.as-is 𝓤 H A (Mut.mslice RelayCircuit.row ref3
-              7), Mut.reads-mslice 𝓤 H A W RelayCircuit.row ref3 7, Path.refl, (Reads.as-is 𝓤 H A (Mut.mslice InflightAction.row ref1 8),
-              Mut.reads-mslice 𝓤 H A W InflightAction.row ref1 8, Path.refl, (Reads.as-is 𝓤 H A (Mut.mslice (Referent.rtF (Referent.fInt Syntax.w32))
-              ref2 9), Mut.reads-mslice 𝓤 H A W (Referent.rtF (Referent.fInt Syntax.w32)) ref2 9, Path.refl, ((Yields.yields-copy 𝓤 H A W (λ ρ. Unit)
-              (Declared.row Sending.the-type) Path.refl (Copies.cStruct Sending.the-type Laws''''''.the-laws Laws''''''.the-copy .copy 𝓤 H A W)
-              (Rows.whole (Declared.row Sending.the-type)) (λ x. x) (λ x. x) (λ ρ told. Local.mem-whole 𝓤 H A W (Declared.row Sending.the-type) ρ) λ ρ
-              told. Local.whole-mem 𝓤 H A W (Declared.row Sending.the-type) ρ, Path.refl,), ((Yields.yields-copy 𝓤 H A W (λ ρ. Unit) (Declared.row
-              Revoking.the-type) Path.refl (Copies.cStruct Revoking.the-type Laws'''.the-laws Laws'''.the-copy .copy 𝓤 H A W) (Rows.whole
-              (Declared.row Revoking.the-type)) (λ x. x) (λ x. x) (λ ρ told. Local.mem-whole 𝓤 H A W (Declared.row Revoking.the-type) ρ) λ ρ told.
-              Local.whole-mem 𝓤 H A W (Declared.row Revoking.the-type) ρ, Path.refl,), ((Yields.yields-copy 𝓤 H A W (λ ρ. Unit) (Declared.row
-              Walked.the-type) Path.refl (Copies.cStruct Walked.the-type Laws'.the-laws Laws'.the-copy .copy 𝓤 H A W) (Rows.whole (Declared.row
-              Walked.the-type)) (λ x. x) (λ x. x) (λ ρ told. Local.mem-whole 𝓤 H A W (Declared.row Walked.the-type) ρ) λ ρ told. Local.whole-mem 𝓤 H A
-              W (Declared.row Walked.the-type) ρ, Path.refl,), tt,),),),),),) (Reads.room-gone 𝓤 H A Laws''''''.mir) (tt, (tt, (tt, tt))) Path.refl)
-              d15
+          d16 = Typed.s-seq 𝓤 H A W 𝓣 E G39 G40 b16 b19 Δ0 (Typed.both (s38 bs)) (at15 bs) (Plain.t-call-plain 𝓤 H A W
+              𝓣 3 ps·2 r·2 (claims· .4) (claims· .5) "hnsr_circuit::revocation::walk_circuits" (known .2) E
+              (λ pos β. β) G39 (
+                record { pos = 21; ty = ref3; ref = λ x. x },
+                (
+                  record { pos = 23; ty = ref1; ref = λ x. x },
+                  (
+                    record { pos = 25; ty = ref2; ref = λ x. x },
+                    (
+                      record { pos = 12; st = List.[]; d = 0; at = λ x. x },
+                      (
+                        record { pos = 7; st = List.[]; d = 0; at = λ x. x },
+                        (record { pos = 11; st = List.[]; d = 0; at = λ x. x }, tt),
+                      ),
+                    ),
+                  ),
+                ),
+              ) 13 (7 ∷ 8 ∷ 9 ∷ List.[]) (Call.sub-id 𝓤 H A W (G39 .slots)) (
+                Reads.as-is 𝓤 H A (Mut.mslice RelayCircuit.row ref3 7),
+                Mut.reads-mslice 𝓤 H A W RelayCircuit.row ref3 7,
+                Path.refl,
+                (
+                  Reads.as-is 𝓤 H A (Mut.mslice InflightAction.row ref1 8),
+                  Mut.reads-mslice 𝓤 H A W InflightAction.row ref1 8,
+                  Path.refl,
+                  (
+                    Reads.as-is 𝓤 H A (Mut.mslice (Referent.rtF (Referent.fInt Syntax.w32)) ref2 9),
+                    Mut.reads-mslice 𝓤 H A W (Referent.rtF (Referent.fInt Syntax.w32)) ref2 9,
+                    Path.refl,
+                    (
+                      (
+                        Yields.yields-copy 𝓤 H A W (λ ρ. Unit) (Declared.row Sending.the-type) Path.refl (Copies.cStruct
+                            Sending.the-type Laws''''''.the-laws Laws''''''.the-copy .copy 𝓤 H A W)
+                            (Rows.whole (Declared.row Sending.the-type)) (λ x. x) (λ x. x) (λ ρ told. Local.mem-whole 𝓤
+                            H A W (Declared.row Sending.the-type) ρ) λ ρ told. Local.whole-mem 𝓤 H A W
+                            (Declared.row Sending.the-type) ρ,
+                        Path.refl,
+                      ),
+                      (
+                        (
+                          Yields.yields-copy 𝓤 H A W (λ ρ. Unit) (Declared.row Revoking.the-type) Path.refl (Copies.cStruct
+                              Revoking.the-type Laws'''.the-laws Laws'''.the-copy .copy 𝓤 H A W)
+                              (Rows.whole (Declared.row Revoking.the-type)) (λ x. x) (λ x. x) (λ ρ told.
+                              Local.mem-whole 𝓤 H A W (Declared.row Revoking.the-type) ρ) λ ρ told. Local.whole-mem 𝓤 H
+                              A W (Declared.row Revoking.the-type) ρ,
+                          Path.refl,
+                        ),
+                        (
+                          (
+                            Yields.yields-copy 𝓤 H A W (λ ρ. Unit) (Declared.row Walked.the-type) Path.refl (Copies.cStruct
+                                Walked.the-type Laws'.the-laws Laws'.the-copy .copy 𝓤 H A W)
+                                (Rows.whole (Declared.row Walked.the-type)) (λ x. x) (λ x. x) (λ ρ told.
+                                Local.mem-whole 𝓤 H A W (Declared.row Walked.the-type) ρ) λ ρ told. Local.whole-mem 𝓤 H
+                                A W (Declared.row Walked.the-type) ρ,
+                            Path.refl,
+                          ),
+                          tt,
+                        ),
+                      ),
+                    ),
+                  ),
+                ),
+              ) (Reads.room-gone 𝓤 H A Laws''''''.mir) (tt, (tt, (tt, tt))) Path.refl) d15
+
           d17 : Typed.Typed 𝓤 H A 𝓣 E G38 b21 Δ0 (at17 bs)
-          d17 = Typed.s-seq 𝓤 H A W 𝓣 E G38 G39 b15 b20 Δ0 (Typed.ask (s37 bs)) (at16 bs) (Relend.t-sl-aggregate 𝓤 H A W E (Referent.rtF
-              (Referent.fInt Syntax.w32)) 𝓣 (Relend.asMut (Referent.rtF (Referent.fInt Syntax.w32))) G38 24 25 9 ref2 ref2 (λ x. x) (Scalar.oFld 4
-              ((Syntax.field 1) ∷ List.[]) (Syntax.tyInt Syntax.w64) 8 λ v. Shared.lenV (v .0)) (Reads.as-is 𝓤 H A (Relend.msptr (Referent.rtF
-              (Referent.fInt Syntax.w32)) ref2 9)) (Reads.room-gone 𝓤 H A (Syntax.tyStruct (38 ∷ 91 ∷ 93 ∷ List.[]) (Syntax.tcons ref2 (Syntax.tcons
-              (Syntax.tyInt Syntax.w64) Syntax.tnil)))) (Relend.reads-owed-len 𝓤 H A W (Referent.rtF (Referent.fInt Syntax.w32)) ref7 3 9 life2 8
-              Path.refl, Path.refl,) Path.refl Path.refl λ b o k. tt) d16
+          d17 = Typed.s-seq 𝓤 H A W 𝓣 E G38 G39 b15 b20 Δ0 (Typed.ask (s37 bs)) (at16 bs) (Relend.t-sl-aggregate 𝓤 H A
+              W E (Referent.rtF (Referent.fInt Syntax.w32)) 𝓣 (Relend.asMut (Referent.rtF (Referent.fInt Syntax.w32)))
+              G38 24 25 9 ref2 ref2 (λ x. x) (Scalar.oFld 4 ((Syntax.field 1) ∷ List.[]) (Syntax.tyInt Syntax.w64) 8
+              λ v. Shared.lenV (v .0)) (Reads.as-is 𝓤 H A (Relend.msptr (Referent.rtF (Referent.fInt Syntax.w32)) ref2
+              9)) (Reads.room-gone 𝓤 H A slice2) (
+                Relend.reads-owed-len 𝓤 H A W (Referent.rtF (Referent.fInt Syntax.w32)) ref7 3 9 life2 8 Path.refl,
+                Path.refl,
+              ) Path.refl Path.refl λ b o k. tt) d16
+
           d18 : Typed.Typed 𝓤 H A 𝓣 E G37 b22 Δ0 (at18 bs)
-          d18 = Typed.s-seq 𝓤 H A W 𝓣 E G37 G38 b14 b21 Δ0 (Typed.give (s36 bs)) (at17 bs) (Relend.t-sl-relend 𝓤 H A W E (Referent.rtF (Referent.fInt
-              Syntax.w32)) 𝓣 G37 4 24 3 9 ref7 ref2 life2 0 (λ x. x) (Reads.as-is 𝓤 H A (Mut.mslice (Referent.rtF (Referent.fInt Syntax.w32)) ref7 3))
-              (Reads.room-gone 𝓤 H A ref2) Path.refl tt Path.refl Path.refl Path.refl λ b o. tt) d17
+          d18 = Typed.s-seq 𝓤 H A W 𝓣 E G37 G38 b14 b21 Δ0 (Typed.give (s36 bs)) (at17 bs) (Relend.t-sl-relend 𝓤 H A W
+              E (Referent.rtF (Referent.fInt Syntax.w32)) 𝓣 G37 4 24 3 9 ref7 ref2 life2 0 (λ x. x) (Reads.as-is 𝓤 H A (Mut.mslice
+              (Referent.rtF (Referent.fInt Syntax.w32)) ref7 3)) (Reads.room-gone 𝓤 H A ref2) Path.refl tt Path.refl
+              Path.refl Path.refl λ b o. tt) d17
+
           d19 : Typed.Typed 𝓤 H A 𝓣 E G36 b22 Δ0 (at19 bs)
-          d19 = Typed.g-pre 𝓤 H A W 𝓣 E G36 G37 b22 Δ0 (λ Ψ. Ψ) (at18 bs) (Lifetime.g-begin 𝓤 H A W E G36 9 (tt, (tt, ((tt, tt), ((tt, tt), (tt, (tt,
-              (tt, (tt, (tt, (tt, (tt, (tt, (tt, (tt, (tt, (tt, (tt, (tt, (tt, (tt, (tt, (tt, (tt, (tt, (tt, (tt,
-              tt)))))),),),),),),),),),),),),),),),),),),),),)) d18
+          d19 = Typed.g-pre 𝓤 H A W 𝓣 E G36 G37 b22 Δ0 (λ Ψ. Ψ) (at18 bs) (Lifetime.g-begin 𝓤 H A W E G36 9 (
+            tt,
+            (
+              tt,
+              (
+                (tt, tt),
+                (
+                  (tt, tt),
+                  (
+                    tt,
+                    (
+                      tt,
+                      (
+                        tt,
+                        (
+                          tt,
+                          (
+                            tt,
+                            (
+                              tt,
+                              (
+                                tt,
+                                (
+                                  tt,
+                                  (
+                                    tt,
+                                    (tt, (tt, (tt, (tt, (tt, (tt, (tt, (tt, (tt, (tt, (tt, (tt, (tt, tt))))))))))))),
+                                  ),
+                                ),
+                              ),
+                            ),
+                          ),
+                        ),
+                      ),
+                    ),
+                  ),
+                ),
+              ),
+            ),
+          )) d18
+
           d20 : Typed.Typed 𝓤 H A 𝓣 E G35 b23 Δ0 (at20 bs)
-          d20 = Typed.s-seq 𝓤 H A W 𝓣 E G35 G36 b13 b22 Δ0 (Typed.ask (s34 bs)) (at19 bs) (Relend.t-sl-aggregate 𝓤 H A W E InflightAction.row 𝓣
-              (Relend.asMut InflightAction.row) G35 22 23 8 ref1 ref1 (λ x. x) (Scalar.oFld 3 ((Syntax.field 1) ∷ List.[]) (Syntax.tyInt Syntax.w64) 8
-              λ v. Shared.lenV (v .0)) (Reads.as-is 𝓤 H A (Relend.msptr InflightAction.row ref1 8)) (Reads.room-gone 𝓤 H A (Syntax.tyStruct (38 ∷ 91 ∷
-              93 ∷ List.[]) (Syntax.tcons ref1 (Syntax.tcons (Syntax.tyInt Syntax.w64) Syntax.tnil)))) (Relend.reads-owed-len 𝓤 H A W
-              InflightAction.row ref6 2 8 life1 8 Path.refl, Path.refl,) Path.refl Path.refl λ b o k. tt) d19
+          d20 = Typed.s-seq 𝓤 H A W 𝓣 E G35 G36 b13 b22 Δ0 (Typed.ask (s34 bs)) (at19 bs) (Relend.t-sl-aggregate 𝓤 H A
+              W E InflightAction.row 𝓣 (Relend.asMut InflightAction.row) G35 22 23 8 ref1 ref1 (λ x. x) (Scalar.oFld 3
+              ((Syntax.field 1) ∷ List.[]) (Syntax.tyInt Syntax.w64) 8 λ v. Shared.lenV (v .0)) (Reads.as-is 𝓤 H A
+              (Relend.msptr InflightAction.row ref1 8)) (Reads.room-gone 𝓤 H A slice1) (
+                Relend.reads-owed-len 𝓤 H A W InflightAction.row ref6 2 8 life1 8 Path.refl,
+                Path.refl,
+              ) Path.refl Path.refl λ b o k. tt) d19
+
           d21 : Typed.Typed 𝓤 H A 𝓣 E G34 b24 Δ0 (at21 bs)
-          d21 = Typed.s-seq 𝓤 H A W 𝓣 E G34 G35 b12 b23 Δ0 (Typed.give (s33 bs)) (at20 bs) (Relend.t-sl-relend 𝓤 H A W E InflightAction.row 𝓣 G34 3 22
-              2 8 ref6 ref1 life1 0 (λ x. x) (Reads.as-is 𝓤 H A (Mut.mslice InflightAction.row ref6 2)) (Reads.room-gone 𝓤 H A ref1) Path.refl tt
+          d21 = Typed.s-seq 𝓤 H A W 𝓣 E G34 G35 b12 b23 Δ0 (Typed.give (s33 bs)) (at20 bs) (Relend.t-sl-relend 𝓤 H A W
+              E InflightAction.row 𝓣 G34 3 22 2 8 ref6 ref1 life1 0 (λ x. x)
+              (Reads.as-is 𝓤 H A (Mut.mslice InflightAction.row ref6 2)) (Reads.room-gone 𝓤 H A ref1) Path.refl tt
               Path.refl Path.refl Path.refl λ b o. tt) d20
+
           d22 : Typed.Typed 𝓤 H A 𝓣 E G33 b24 Δ0 (at22 bs)
-          d22 = Typed.g-pre 𝓤 H A W 𝓣 E G33 G34 b24 Δ0 (λ Ψ. Ψ) (at21 bs) (Lifetime.g-begin 𝓤 H A W E G33 8 (tt, (tt, ((tt, tt), (tt, (tt, (tt, (tt,
-              (tt, (tt, (tt, (tt, (tt, (tt, (tt, (tt, (tt, (tt, (tt, (tt, (tt, (tt, (tt, (tt, (tt, (tt, (tt,
-              tt)))))),),),),),),),),),),),),),),),),),),),),)) d21
+          d22 = Typed.g-pre 𝓤 H A W 𝓣 E G33 G34 b24 Δ0 (λ Ψ. Ψ) (at21 bs) (Lifetime.g-begin 𝓤 H A W E G33 8 (
+            tt,
+            (
+              tt,
+              (
+                (tt, tt),
+                (
+                  tt,
+                  (
+                    tt,
+                    (
+                      tt,
+                      (
+                        tt,
+                        (
+                          tt,
+                          (
+                            tt,
+                            (
+                              tt,
+                              (
+                                tt,
+                                (
+                                  tt,
+                                  (
+                                    tt,
+                                    (tt, (tt, (tt, (tt, (tt, (tt, (tt, (tt, (tt, (tt, (tt, (tt, (tt, tt))))))))))))),
+                                  ),
+                                ),
+                              ),
+                            ),
+                          ),
+                        ),
+                      ),
+                    ),
+                  ),
+                ),
+              ),
+            ),
+          )) d21
+
           d23 : Typed.Typed 𝓤 H A 𝓣 E G32 b25 Δ0 (at23 bs)
-          d23 = Typed.s-seq 𝓤 H A W 𝓣 E G32 G33 b11 b24 Δ0 (Typed.ask (s31 bs)) (at22 bs) (Relend.t-sl-aggregate 𝓤 H A W E RelayCircuit.row 𝓣
-              (Relend.asMut RelayCircuit.row) G32 20 21 7 ref3 ref3 (λ x. x) (Scalar.oFld 2 ((Syntax.field 1) ∷ List.[]) (Syntax.tyInt Syntax.w64) 8 λ
-              v. Shared.lenV (v .0)) (Reads.as-is 𝓤 H A (Relend.msptr RelayCircuit.row ref3 7)) (Reads.room-gone 𝓤 H A (Syntax.tyStruct (38 ∷ 91 ∷ 93
-              ∷ List.[]) (Syntax.tcons ref3 (Syntax.tcons (Syntax.tyInt Syntax.w64) Syntax.tnil)))) (Relend.reads-owed-len 𝓤 H A W RelayCircuit.row
-              ref5 1 7 life3 8 Path.refl, Path.refl,) Path.refl Path.refl λ b o k. tt) d22
+          d23 = Typed.s-seq 𝓤 H A W 𝓣 E G32 G33 b11 b24 Δ0 (Typed.ask (s31 bs)) (at22 bs) (Relend.t-sl-aggregate 𝓤 H A
+              W E RelayCircuit.row 𝓣 (Relend.asMut RelayCircuit.row) G32 20 21 7 ref3 ref3 (λ x. x) (Scalar.oFld 2
+              ((Syntax.field 1) ∷ List.[]) (Syntax.tyInt Syntax.w64) 8 λ v. Shared.lenV (v .0))
+              (Reads.as-is 𝓤 H A (Relend.msptr RelayCircuit.row ref3 7)) (Reads.room-gone 𝓤 H A slice3) (
+                Relend.reads-owed-len 𝓤 H A W RelayCircuit.row ref5 1 7 life3 8 Path.refl,
+                Path.refl,
+              ) Path.refl Path.refl λ b o k. tt) d22
+
           d24 : Typed.Typed 𝓤 H A 𝓣 E G31 b26 Δ0 (at24 bs)
-          d24 = Typed.s-seq 𝓤 H A W 𝓣 E G31 G32 b10 b25 Δ0 (Typed.give (s30 bs)) (at23 bs) (Relend.t-sl-relend 𝓤 H A W E RelayCircuit.row 𝓣 G31 2 20 1
-              7 ref5 ref3 life3 0 (λ x. x) (Reads.as-is 𝓤 H A (Mut.mslice RelayCircuit.row ref5 1)) (Reads.room-gone 𝓤 H A ref3) Path.refl tt
+          d24 = Typed.s-seq 𝓤 H A W 𝓣 E G31 G32 b10 b25 Δ0 (Typed.give (s30 bs)) (at23 bs) (Relend.t-sl-relend 𝓤 H A W
+              E RelayCircuit.row 𝓣 G31 2 20 1 7 ref5 ref3 life3 0 (λ x. x)
+              (Reads.as-is 𝓤 H A (Mut.mslice RelayCircuit.row ref5 1)) (Reads.room-gone 𝓤 H A ref3) Path.refl tt
               Path.refl Path.refl Path.refl λ b o. tt) d23
+
           d25 : Typed.Typed 𝓤 H A 𝓣 E G30 b26 Δ0 (at25 bs)
-          d25 = Typed.g-pre 𝓤 H A W 𝓣 E G30 G31 b26 Δ0 (λ Ψ. Ψ) (at24 bs) (Lifetime.g-begin 𝓤 H A W E G30 7 (tt, (tt, (tt, (tt, (tt, (tt, (tt, (tt,
-              (tt, (tt, (tt, (tt, (tt, (tt, (tt, (tt, (tt, (tt, (tt, (tt, (tt, (tt, (tt, (tt, (tt, (tt,
-              tt)))))),),),),),),),),),),),),),),),),),),),),)) d24
+          d25 = Typed.g-pre 𝓤 H A W 𝓣 E G30 G31 b26 Δ0 (λ Ψ. Ψ) (at24 bs) (Lifetime.g-begin 𝓤 H A W E G30 7 (
+            tt,
+            (
+              tt,
+              (
+                tt,
+                (
+                  tt,
+                  (
+                    tt,
+                    (
+                      tt,
+                      (
+                        tt,
+                        (
+                          tt,
+                          (
+                            tt,
+                            (
+                              tt,
+                              (
+                                tt,
+                                (
+                                  tt,
+                                  (
+                                    tt,
+                                    (tt, (tt, (tt, (tt, (tt, (tt, (tt, (tt, (tt, (tt, (tt, (tt, (tt, tt))))))))))))),
+                                  ),
+                                ),
+                              ),
+                            ),
+                          ),
+                        ),
+                      ),
+                    ),
+                  ),
+                ),
+              ),
+            ),
+          )) d24
+
           d26 : Typed.Typed 𝓤 H A 𝓣 E G29 b26 Δ0 (at26 bs)
-          d26 = Typed.g-pre 𝓤 H A W 𝓣 E G29 G30 b26 Δ0 (λ Ψ. Ψ) (at25 bs) (Lifetime.g-forget 𝓤 H A W E G29 6 Row.dead Path.refl) d25
+          d26 = Typed.g-pre 𝓤 H A W 𝓣 E G29 G30 b26 Δ0 (λ Ψ. Ψ) (at25 bs)
+              (Lifetime.g-forget 𝓤 H A W E G29 6 Row.dead Path.refl) d25
+
           d27 : Typed.Typed 𝓤 H A 𝓣 E G28 b26 Δ0 (at27 bs)
-          d27 = Typed.g-pre 𝓤 H A W 𝓣 E G28 G29 b26 Δ0 (Typed.give (s27 bs)) (at26 bs) (Know.g-sl-known 𝓤 H A W (Referent.fInt Syntax.w32) E G28 4 3
-              ref7 life2 0 (λ x. x) record { fits = Dec.lit< tt } (Reads.as-is 𝓤 H A (Mut.mslice (Referent.rtF (Referent.fInt Syntax.w32)) ref7 3))
-              Path.refl tt) d26
+          d27 = Typed.g-pre 𝓤 H A W 𝓣 E G28 G29 b26 Δ0 (Typed.give (s27 bs)) (at26 bs) (Know.g-sl-known 𝓤 H A W
+              (Referent.fInt Syntax.w32) E G28 4 3 ref7 life2 0 (λ x. x) record { fits = Dec.lit< tt } (Reads.as-is 𝓤 H
+              A (Mut.mslice (Referent.rtF (Referent.fInt Syntax.w32)) ref7 3)) Path.refl tt) d26
+
           d28 : Typed.Typed 𝓤 H A 𝓣 E G27 b26 Δ0 (at28 bs)
-          d28 = Typed.g-pre 𝓤 H A W 𝓣 E G27 G28 b26 Δ0 (Typed.both (s26 bs)) (at27 bs) (Relend.g-back-sl 𝓤 H A W E (Referent.rtF (Referent.fInt
-              Syntax.w32)) G27 19 4 3 6 ref7 ref2 life2 (λ x. x) (λ x. x) (Reads.as-is 𝓤 H A (Mut.msleft (Referent.rtF (Referent.fInt Syntax.w32))
-              ref2)) (Reads.as-is 𝓤 H A (Relend.mslice-owed (Referent.rtF (Referent.fInt Syntax.w32)) ref7 3 6 life2)) Path.refl Path.refl) d27
+          d28 = Typed.g-pre 𝓤 H A W 𝓣 E G27 G28 b26 Δ0 (Typed.both (s26 bs)) (at27 bs) (Relend.g-back-sl 𝓤 H A W E
+              (Referent.rtF (Referent.fInt Syntax.w32)) G27 19 4 3 6 ref7 ref2 life2 (λ x. x) (λ x. x) (Reads.as-is 𝓤 H
+              A (Mut.msleft (Referent.rtF (Referent.fInt Syntax.w32)) ref2)) (Reads.as-is 𝓤 H A (Relend.mslice-owed
+              (Referent.rtF (Referent.fInt Syntax.w32)) ref7 3 6 life2)) Path.refl Path.refl) d27
+
           d29 : Typed.Typed 𝓤 H A 𝓣 E G26 b26 Δ0 (at29 bs)
-          d29 = Typed.g-pre 𝓤 H A W 𝓣 E G26 G27 b26 Δ0 (λ Ψ. Ψ) (at28 bs) (Lifetime.g-end 𝓤 H A W E G26 6 Path.refl) d28
+          d29 = Typed.g-pre 𝓤 H A W 𝓣 E G26 G27 b26 Δ0 (λ Ψ. Ψ) (at28 bs) (Lifetime.g-end 𝓤 H A W E G26 6 Path.refl)
+              d28
+
           d30 : Typed.Typed 𝓤 H A 𝓣 E G25 b26 Δ0 (at30 bs)
-          d30 = Typed.g-pre 𝓤 H A W 𝓣 E G25 G26 b26 Δ0 (λ Ψ. Ψ) (at29 bs) (Lifetime.g-forget 𝓤 H A W E G25 5 Row.dead Path.refl) d29
+          d30 = Typed.g-pre 𝓤 H A W 𝓣 E G25 G26 b26 Δ0 (λ Ψ. Ψ) (at29 bs)
+              (Lifetime.g-forget 𝓤 H A W E G25 5 Row.dead Path.refl) d29
+
           d31 : Typed.Typed 𝓤 H A 𝓣 E G24 b26 Δ0 (at31 bs)
-          d31 = Typed.g-pre 𝓤 H A W 𝓣 E G24 G25 b26 Δ0 (Typed.both (s23 bs)) (at30 bs) (Relend.g-back-sl 𝓤 H A W E InflightAction.row G24 17 3 2 5
-              ref6 ref1 life1 (λ x. x) (λ x. x) (Reads.as-is 𝓤 H A (Mut.msleft InflightAction.row ref1)) (Reads.as-is 𝓤 H A (Relend.mslice-owed
-              InflightAction.row ref6 2 5 life1)) Path.refl Path.refl) d30
+          d31 = Typed.g-pre 𝓤 H A W 𝓣 E G24 G25 b26 Δ0 (Typed.both (s23 bs)) (at30 bs) (Relend.g-back-sl 𝓤 H A W E
+              InflightAction.row G24 17 3 2 5 ref6 ref1 life1 (λ x. x) (λ x. x)
+              (Reads.as-is 𝓤 H A (Mut.msleft InflightAction.row ref1)) (Reads.as-is 𝓤 H A
+              (Relend.mslice-owed InflightAction.row ref6 2 5 life1)) Path.refl Path.refl) d30
+
           d32 : Typed.Typed 𝓤 H A 𝓣 E G23 b26 Δ0 (at32 bs)
-          d32 = Typed.g-pre 𝓤 H A W 𝓣 E G23 G24 b26 Δ0 (λ Ψ. Ψ) (at31 bs) (Lifetime.g-end 𝓤 H A W E G23 5 Path.refl) d31
+          d32 = Typed.g-pre 𝓤 H A W 𝓣 E G23 G24 b26 Δ0 (λ Ψ. Ψ) (at31 bs) (Lifetime.g-end 𝓤 H A W E G23 5 Path.refl)
+              d31
+
           d33 : Typed.Typed 𝓤 H A 𝓣 E G22 b26 Δ0 (at33 bs)
-          d33 = Typed.g-pre 𝓤 H A W 𝓣 E G22 G23 b26 Δ0 (λ Ψ. Ψ) (at32 bs) (Lifetime.g-forget 𝓤 H A W E G22 4 Row.dead Path.refl) d32
+          d33 = Typed.g-pre 𝓤 H A W 𝓣 E G22 G23 b26 Δ0 (λ Ψ. Ψ) (at32 bs)
+              (Lifetime.g-forget 𝓤 H A W E G22 4 Row.dead Path.refl) d32
+
           d34 : Typed.Typed 𝓤 H A 𝓣 E G21 b26 Δ0 (at34 bs)
-          d34 = Typed.g-pre 𝓤 H A W 𝓣 E G21 G22 b26 Δ0 (Typed.both (s20 bs)) (at33 bs) (Relend.g-back-sl 𝓤 H A W E RelayPending.row G21 15 1 0 4 ref4
-              ref0 life0 (λ x. x) (λ x. x) (Reads.as-is 𝓤 H A (Mut.msleft RelayPending.row ref0)) (Reads.as-is 𝓤 H A (Relend.mslice-owed
-              RelayPending.row ref4 0 4 life0)) Path.refl Path.refl) d33
+          d34 = Typed.g-pre 𝓤 H A W 𝓣 E G21 G22 b26 Δ0 (Typed.both (s20 bs)) (at33 bs) (Relend.g-back-sl 𝓤 H A W E
+              RelayPending.row G21 15 1 0 4 ref4 ref0 life0 (λ x. x) (λ x. x)
+              (Reads.as-is 𝓤 H A (Mut.msleft RelayPending.row ref0)) (Reads.as-is 𝓤 H A
+              (Relend.mslice-owed RelayPending.row ref4 0 4 life0)) Path.refl Path.refl) d33
+
           d35 : Typed.Typed 𝓤 H A 𝓣 E G20 b26 Δ0 (at35 bs)
-          d35 = Typed.g-pre 𝓤 H A W 𝓣 E G20 G21 b26 Δ0 (λ Ψ. Ψ) (at34 bs) (Lifetime.g-end 𝓤 H A W E G20 4 Path.refl) d34
+          d35 = Typed.g-pre 𝓤 H A W 𝓣 E G20 G21 b26 Δ0 (λ Ψ. Ψ) (at34 bs) (Lifetime.g-end 𝓤 H A W E G20 4 Path.refl)
+              d34
+
           d36 : Typed.Typed 𝓤 H A 𝓣 E G19 b26 Δ0 (at36 bs)
-          d36 = Typed.g-pre 𝓤 H A W 𝓣 E G19 G20 b26 Δ0 (Typed.pass T19 T20 (s18 bs)) (at35 bs) (Scalar.g-room 𝓤 H A W E G19 10 Laws'.mir
-              (Local.room-whole 𝓤 H A W (Declared.row Walked.the-type) Laws'.mir Path.refl)) d35
+          d36 = Typed.g-pre 𝓤 H A W 𝓣 E G19 G20 b26 Δ0 (Typed.pass T19 T20 (s18 bs)) (at35 bs) (Scalar.g-room 𝓤 H A W E
+              G19 10 Laws'.mir (Local.room-whole 𝓤 H A W (Declared.row Walked.the-type) Laws'.mir Path.refl)) d35
+
           d37 : Typed.Typed 𝓤 H A 𝓣 E G18 b26 Δ0 (at37 bs)
-          d37 = Typed.g-pre 𝓤 H A W 𝓣 E G18 G19 b26 Δ0 (Typed.pass T18 T19 (s17 bs)) (at36 bs) (Scalar.g-room 𝓤 H A W E G18 9 Laws''''''.mir
-              (Local.room-whole 𝓤 H A W (Declared.row Sending.the-type) Laws''''''.mir Path.refl)) d36
+          d37 = Typed.g-pre 𝓤 H A W 𝓣 E G18 G19 b26 Δ0 (Typed.pass T18 T19 (s17 bs)) (at36 bs) (Scalar.g-room 𝓤 H A W E
+              G18 9 Laws''''''.mir (Local.room-whole 𝓤 H A W (Declared.row Sending.the-type) Laws''''''.mir Path.refl))
+              d36
+
           d38 : Typed.Typed 𝓤 H A 𝓣 E G17 b27 Δ0 (at38 bs)
-          d38 = Typed.s-seq 𝓤 H A W 𝓣 E G17 G18 b9 b26 Δ0 (Typed.both (s16 bs)) (at37 bs) (Plain.t-call-plain 𝓤 H A W 𝓣 3 ps·1 r·1 (claims· .2)
-              (claims· .3) "hnsr_circuit::revocation::walk_pending" (known .1) E (λ pos β. β) G17 (record { pos = 15; ty = Syntax.tyRef Syntax.erased
-              Syntax.mut RelayPending.to; ref = λ x. x; }, (record { pos = 17; ty = Syntax.tyRef Syntax.erased Syntax.mut InflightAction.to; ref = λ
-              x. x; }, (record { pos = 19; ty = Syntax.tyRef Syntax.erased Syntax.mut (Syntax.tyInt Syntax.w32); ref = λ x. x; }, (record { pos = 9;
-              st = List.[]; d = 0; at = λ x. x }, (record { pos = 7; st = List.[]; d = 0; at = λ x. x }, (record { pos = 10; st = List.[]; d = 0; at =
-              λ x. x }, tt),),),),),) 12 (4 ∷ 5 ∷ 6 ∷ List.[]) (Call.sub-id 𝓤 H A W (G17 .slots)) (Reads.as-is 𝓤 H A (Mut.mslice RelayPending.row ref0
-              4), Mut.reads-mslice 𝓤 H A W RelayPending.row ref0 4, Path.refl, (Reads.as-is 𝓤 H A (Mut.mslice InflightAction.row ref1 5),
-              Mut.reads-mslice 𝓤 H A W InflightAction.row ref1 5, Path.refl, (Reads.as-is 𝓤 H A (Mut.mslice (Referent.rtF (Referent.fInt Syntax.w32))
-              ref2 6), Mut.reads-mslice 𝓤 H A W (Referent.rtF (Referent.fInt Syntax.w32)) ref2 6, Path.refl, ((Yields.yields-copy 𝓤 H A W (λ ρ. Unit)
-              (Declared.row Sending.the-type) Path.refl (Copies.cStruct Sending.the-type Laws''''''.the-laws Laws''''''.the-copy .copy 𝓤 H A W)
-              (Rows.whole (Declared.row Sending.the-type)) (λ x. x) (λ x. x) (λ ρ told. Local.mem-whole 𝓤 H A W (Declared.row Sending.the-type) ρ) λ ρ
-              told. Local.whole-mem 𝓤 H A W (Declared.row Sending.the-type) ρ, Path.refl,), ((Yields.yields-copy 𝓤 H A W (λ ρ. Unit) (Declared.row
-              Revoking.the-type) Path.refl (Copies.cStruct Revoking.the-type Laws'''.the-laws Laws'''.the-copy .copy 𝓤 H A W) (Rows.whole
-              (Declared.row Revoking.the-type)) (λ x. x) (λ x. x) (λ ρ told. Local.mem-whole 𝓤 H A W (Declared.row Revoking.the-type) ρ) λ ρ told.
-              Local.whole-mem 𝓤 H A W (Declared.row Revoking.the-type) ρ, Path.refl,), ((Yields.yields-copy 𝓤 H A W (λ ρ. Unit) (Declared.row
-              Walked.the-type) Path.refl (Copies.cStruct Walked.the-type Laws'.the-laws Laws'.the-copy .copy 𝓤 H A W) (Rows.whole (Declared.row
-              Walked.the-type)) (λ x. x) (λ x. x) (λ ρ told. Local.mem-whole 𝓤 H A W (Declared.row Walked.the-type) ρ) λ ρ told. Local.whole-mem 𝓤 H A
-              W (Declared.row Walked.the-type) ρ, Path.refl,), tt,),),),),),) (Reads.room-gone 𝓤 H A Laws''''''.mir) (tt, (tt, (tt, tt))) Path.refl)
-              d37
+          d38 = Typed.s-seq 𝓤 H A W 𝓣 E G17 G18 b9 b26 Δ0 (Typed.both (s16 bs)) (at37 bs) (Plain.t-call-plain 𝓤 H A W 𝓣
+              3 ps·1 r·1 (claims· .2) (claims· .3) "hnsr_circuit::revocation::walk_pending" (known .1) E (λ pos β. β)
+              G17 (
+                record { pos = 15; ty = ref0; ref = λ x. x },
+                (
+                  record { pos = 17; ty = ref1; ref = λ x. x },
+                  (
+                    record { pos = 19; ty = ref2; ref = λ x. x },
+                    (
+                      record { pos = 9; st = List.[]; d = 0; at = λ x. x },
+                      (
+                        record { pos = 7; st = List.[]; d = 0; at = λ x. x },
+                        (record { pos = 10; st = List.[]; d = 0; at = λ x. x }, tt),
+                      ),
+                    ),
+                  ),
+                ),
+              ) 12 (4 ∷ 5 ∷ 6 ∷ List.[]) (Call.sub-id 𝓤 H A W (G17 .slots)) (
+                Reads.as-is 𝓤 H A (Mut.mslice RelayPending.row ref0 4),
+                Mut.reads-mslice 𝓤 H A W RelayPending.row ref0 4,
+                Path.refl,
+                (
+                  Reads.as-is 𝓤 H A (Mut.mslice InflightAction.row ref1 5),
+                  Mut.reads-mslice 𝓤 H A W InflightAction.row ref1 5,
+                  Path.refl,
+                  (
+                    Reads.as-is 𝓤 H A (Mut.mslice (Referent.rtF (Referent.fInt Syntax.w32)) ref2 6),
+                    Mut.reads-mslice 𝓤 H A W (Referent.rtF (Referent.fInt Syntax.w32)) ref2 6,
+                    Path.refl,
+                    (
+                      (
+                        Yields.yields-copy 𝓤 H A W (λ ρ. Unit) (Declared.row Sending.the-type) Path.refl (Copies.cStruct
+                            Sending.the-type Laws''''''.the-laws Laws''''''.the-copy .copy 𝓤 H A W)
+                            (Rows.whole (Declared.row Sending.the-type)) (λ x. x) (λ x. x) (λ ρ told. Local.mem-whole 𝓤
+                            H A W (Declared.row Sending.the-type) ρ) λ ρ told. Local.whole-mem 𝓤 H A W
+                            (Declared.row Sending.the-type) ρ,
+                        Path.refl,
+                      ),
+                      (
+                        (
+                          Yields.yields-copy 𝓤 H A W (λ ρ. Unit) (Declared.row Revoking.the-type) Path.refl (Copies.cStruct
+                              Revoking.the-type Laws'''.the-laws Laws'''.the-copy .copy 𝓤 H A W)
+                              (Rows.whole (Declared.row Revoking.the-type)) (λ x. x) (λ x. x) (λ ρ told.
+                              Local.mem-whole 𝓤 H A W (Declared.row Revoking.the-type) ρ) λ ρ told. Local.whole-mem 𝓤 H
+                              A W (Declared.row Revoking.the-type) ρ,
+                          Path.refl,
+                        ),
+                        (
+                          (
+                            Yields.yields-copy 𝓤 H A W (λ ρ. Unit) (Declared.row Walked.the-type) Path.refl (Copies.cStruct
+                                Walked.the-type Laws'.the-laws Laws'.the-copy .copy 𝓤 H A W)
+                                (Rows.whole (Declared.row Walked.the-type)) (λ x. x) (λ x. x) (λ ρ told.
+                                Local.mem-whole 𝓤 H A W (Declared.row Walked.the-type) ρ) λ ρ told. Local.whole-mem 𝓤 H
+                                A W (Declared.row Walked.the-type) ρ,
+                            Path.refl,
+                          ),
+                          tt,
+                        ),
+                      ),
+                    ),
+                  ),
+                ),
+              ) (Reads.room-gone 𝓤 H A Laws''''''.mir) (tt, (tt, (tt, tt))) Path.refl) d37
+
           d39 : Typed.Typed 𝓤 H A 𝓣 E G16 b28 Δ0 (at39 bs)
-          d39 = Typed.s-seq 𝓤 H A W 𝓣 E G16 G17 b8 b27 Δ0 (Typed.ask (s15 bs)) (at38 bs) (Relend.t-sl-aggregate 𝓤 H A W E (Referent.rtF (Referent.fInt
-              Syntax.w32)) 𝓣 (Relend.asMut (Referent.rtF (Referent.fInt Syntax.w32))) G16 18 19 6 ref2 ref2 (λ x. x) (Scalar.oFld 4 ((Syntax.field 1)
-              ∷ List.[]) (Syntax.tyInt Syntax.w64) 8 λ v. Shared.lenV (v .0)) (Reads.as-is 𝓤 H A (Relend.msptr (Referent.rtF (Referent.fInt
-              Syntax.w32)) ref2 6)) (Reads.room-gone 𝓤 H A (Syntax.tyStruct (38 ∷ 91 ∷ 93 ∷ List.[]) (Syntax.tcons ref2 (Syntax.tcons (Syntax.tyInt
-              Syntax.w64) Syntax.tnil)))) (Relend.reads-owed-len 𝓤 H A W (Referent.rtF (Referent.fInt Syntax.w32)) ref7 3 6 life2 8 Path.refl,
-              Path.refl,) Path.refl Path.refl λ b o k. tt) d38
+          d39 = Typed.s-seq 𝓤 H A W 𝓣 E G16 G17 b8 b27 Δ0 (Typed.ask (s15 bs)) (at38 bs) (Relend.t-sl-aggregate 𝓤 H A W
+              E (Referent.rtF (Referent.fInt Syntax.w32)) 𝓣 (Relend.asMut (Referent.rtF (Referent.fInt Syntax.w32)))
+              G16 18 19 6 ref2 ref2 (λ x. x) (Scalar.oFld 4 ((Syntax.field 1) ∷ List.[]) (Syntax.tyInt Syntax.w64) 8
+              λ v. Shared.lenV (v .0)) (Reads.as-is 𝓤 H A (Relend.msptr (Referent.rtF (Referent.fInt Syntax.w32)) ref2
+              6)) (Reads.room-gone 𝓤 H A slice2) (
+                Relend.reads-owed-len 𝓤 H A W (Referent.rtF (Referent.fInt Syntax.w32)) ref7 3 6 life2 8 Path.refl,
+                Path.refl,
+              ) Path.refl Path.refl λ b o k. tt) d38
+
           d40 : Typed.Typed 𝓤 H A 𝓣 E G15 b29 Δ0 (at40 bs)
-          d40 = Typed.s-seq 𝓤 H A W 𝓣 E G15 G16 b7 b28 Δ0 (Typed.give (s14 bs)) (at39 bs) (Relend.t-sl-relend 𝓤 H A W E (Referent.rtF (Referent.fInt
-              Syntax.w32)) 𝓣 G15 4 18 3 6 ref7 ref2 life2 0 (λ x. x) (Reads.as-is 𝓤 H A (Mut.mslice (Referent.rtF (Referent.fInt Syntax.w32)) ref7 3))
-              (Reads.room-gone 𝓤 H A ref2) Path.refl tt Path.refl Path.refl Path.refl λ b o. tt) d39
+          d40 = Typed.s-seq 𝓤 H A W 𝓣 E G15 G16 b7 b28 Δ0 (Typed.give (s14 bs)) (at39 bs) (Relend.t-sl-relend 𝓤 H A W E
+              (Referent.rtF (Referent.fInt Syntax.w32)) 𝓣 G15 4 18 3 6 ref7 ref2 life2 0 (λ x. x) (Reads.as-is 𝓤 H A (Mut.mslice
+              (Referent.rtF (Referent.fInt Syntax.w32)) ref7 3)) (Reads.room-gone 𝓤 H A ref2) Path.refl tt Path.refl
+              Path.refl Path.refl λ b o. tt) d39
+
           d41 : Typed.Typed 𝓤 H A 𝓣 E G14 b29 Δ0 (at41 bs)
-          d41 = Typed.g-pre 𝓤 H A W 𝓣 E G14 G15 b29 Δ0 (λ Ψ. Ψ) (at40 bs) (Lifetime.g-begin 𝓤 H A W E G14 6 (tt, ((tt, tt), (tt, ((tt, tt), (tt, (tt,
-              (tt, (tt, (tt, (tt, (tt, (tt, (tt, (tt, (tt, (tt, (tt, (tt, (tt, (tt, (tt, (tt, (tt, (tt, (tt, (tt,
-              tt)))))),),),),),),),),),),),),),),),),),),),),)) d40
+          d41 = Typed.g-pre 𝓤 H A W 𝓣 E G14 G15 b29 Δ0 (λ Ψ. Ψ) (at40 bs) (Lifetime.g-begin 𝓤 H A W E G14 6 (
+            tt,
+            (
+              (tt, tt),
+              (
+                tt,
+                (
+                  (tt, tt),
+                  (
+                    tt,
+                    (
+                      tt,
+                      (
+                        tt,
+                        (
+                          tt,
+                          (
+                            tt,
+                            (
+                              tt,
+                              (
+                                tt,
+                                (
+                                  tt,
+                                  (
+                                    tt,
+                                    (tt, (tt, (tt, (tt, (tt, (tt, (tt, (tt, (tt, (tt, (tt, (tt, (tt, tt))))))))))))),
+                                  ),
+                                ),
+                              ),
+                            ),
+                          ),
+                        ),
+                      ),
+                    ),
+                  ),
+                ),
+              ),
+            ),
+          )) d40
+
           d42 : Typed.Typed 𝓤 H A 𝓣 E G13 b30 Δ0 (at42 bs)
-          d42 = Typed.s-seq 𝓤 H A W 𝓣 E G13 G14 b6 b29 Δ0 (Typed.ask (s12 bs)) (at41 bs) (Relend.t-sl-aggregate 𝓤 H A W E InflightAction.row 𝓣
-              (Relend.asMut InflightAction.row) G13 16 17 5 ref1 ref1 (λ x. x) (Scalar.oFld 3 ((Syntax.field 1) ∷ List.[]) (Syntax.tyInt Syntax.w64) 8
-              λ v. Shared.lenV (v .0)) (Reads.as-is 𝓤 H A (Relend.msptr InflightAction.row ref1 5)) (Reads.room-gone 𝓤 H A (Syntax.tyStruct (38 ∷ 91 ∷
-              93 ∷ List.[]) (Syntax.tcons ref1 (Syntax.tcons (Syntax.tyInt Syntax.w64) Syntax.tnil)))) (Relend.reads-owed-len 𝓤 H A W
-              InflightAction.row ref6 2 5 life1 8 Path.refl, Path.refl,) Path.refl Path.refl λ b o k. tt) d41
+          d42 = Typed.s-seq 𝓤 H A W 𝓣 E G13 G14 b6 b29 Δ0 (Typed.ask (s12 bs)) (at41 bs) (Relend.t-sl-aggregate 𝓤 H A W
+              E InflightAction.row 𝓣 (Relend.asMut InflightAction.row) G13 16 17 5 ref1 ref1 (λ x. x) (Scalar.oFld 3
+              ((Syntax.field 1) ∷ List.[]) (Syntax.tyInt Syntax.w64) 8 λ v. Shared.lenV (v .0)) (Reads.as-is 𝓤 H A
+              (Relend.msptr InflightAction.row ref1 5)) (Reads.room-gone 𝓤 H A slice1) (
+                Relend.reads-owed-len 𝓤 H A W InflightAction.row ref6 2 5 life1 8 Path.refl,
+                Path.refl,
+              ) Path.refl Path.refl λ b o k. tt) d41
+
           d43 : Typed.Typed 𝓤 H A 𝓣 E G12 b31 Δ0 (at43 bs)
-          d43 = Typed.s-seq 𝓤 H A W 𝓣 E G12 G13 b5 b30 Δ0 (Typed.give (s11 bs)) (at42 bs) (Relend.t-sl-relend 𝓤 H A W E InflightAction.row 𝓣 G12 3 16
-              2 5 ref6 ref1 life1 0 (λ x. x) (Reads.as-is 𝓤 H A (Mut.mslice InflightAction.row ref6 2)) (Reads.room-gone 𝓤 H A ref1) Path.refl tt
+          d43 = Typed.s-seq 𝓤 H A W 𝓣 E G12 G13 b5 b30 Δ0 (Typed.give (s11 bs)) (at42 bs) (Relend.t-sl-relend 𝓤 H A W E
+              InflightAction.row 𝓣 G12 3 16 2 5 ref6 ref1 life1 0 (λ x. x)
+              (Reads.as-is 𝓤 H A (Mut.mslice InflightAction.row ref6 2)) (Reads.room-gone 𝓤 H A ref1) Path.refl tt
               Path.refl Path.refl Path.refl λ b o. tt) d42
+
           d44 : Typed.Typed 𝓤 H A 𝓣 E G11 b31 Δ0 (at44 bs)
-          d44 = Typed.g-pre 𝓤 H A W 𝓣 E G11 G12 b31 Δ0 (λ Ψ. Ψ) (at43 bs) (Lifetime.g-begin 𝓤 H A W E G11 5 (tt, ((tt, tt), (tt, (tt, (tt, (tt, (tt,
-              (tt, (tt, (tt, (tt, (tt, (tt, (tt, (tt, (tt, (tt, (tt, (tt, (tt, (tt, (tt, (tt, (tt, (tt, (tt,
-              tt)))))),),),),),),),),),),),),),),),),),),),),)) d43
+          d44 = Typed.g-pre 𝓤 H A W 𝓣 E G11 G12 b31 Δ0 (λ Ψ. Ψ) (at43 bs) (Lifetime.g-begin 𝓤 H A W E G11 5 (
+            tt,
+            (
+              (tt, tt),
+              (
+                tt,
+                (
+                  tt,
+                  (
+                    tt,
+                    (
+                      tt,
+                      (
+                        tt,
+                        (
+                          tt,
+                          (
+                            tt,
+                            (
+                              tt,
+                              (
+                                tt,
+                                (
+                                  tt,
+                                  (
+                                    tt,
+                                    (tt, (tt, (tt, (tt, (tt, (tt, (tt, (tt, (tt, (tt, (tt, (tt, (tt, tt))))))))))))),
+                                  ),
+                                ),
+                              ),
+                            ),
+                          ),
+                        ),
+                      ),
+                    ),
+                  ),
+                ),
+              ),
+            ),
+          )) d43
+
           d45 : Typed.Typed 𝓤 H A 𝓣 E G10 b32 Δ0 (at45 bs)
-          d45 = Typed.s-seq 𝓤 H A W 𝓣 E G10 G11 b4 b31 Δ0 (Typed.ask (s9 bs)) (at44 bs) (Relend.t-sl-aggregate 𝓤 H A W E RelayPending.row 𝓣
-              (Relend.asMut RelayPending.row) G10 14 15 4 ref0 ref0 (λ x. x) (Scalar.oFld 1 ((Syntax.field 1) ∷ List.[]) (Syntax.tyInt Syntax.w64) 8 λ
-              v. Shared.lenV (v .0)) (Reads.as-is 𝓤 H A (Relend.msptr RelayPending.row ref0 4)) (Reads.room-gone 𝓤 H A (Syntax.tyStruct (38 ∷ 91 ∷ 93
-              ∷ List.[]) (Syntax.tcons ref0 (Syntax.tcons (Syntax.tyInt Syntax.w64) Syntax.tnil)))) (Relend.reads-owed-len 𝓤 H A W RelayPending.row
-              ref4 0 4 life0 8 Path.refl, Path.refl,) Path.refl Path.refl λ b o k. tt) d44
+          d45 = Typed.s-seq 𝓤 H A W 𝓣 E G10 G11 b4 b31 Δ0 (Typed.ask (s9 bs)) (at44 bs) (Relend.t-sl-aggregate 𝓤 H A W
+              E RelayPending.row 𝓣 (Relend.asMut RelayPending.row) G10 14 15 4 ref0 ref0 (λ x. x) (Scalar.oFld 1
+              ((Syntax.field 1) ∷ List.[]) (Syntax.tyInt Syntax.w64) 8 λ v. Shared.lenV (v .0))
+              (Reads.as-is 𝓤 H A (Relend.msptr RelayPending.row ref0 4)) (Reads.room-gone 𝓤 H A slice0) (
+                Relend.reads-owed-len 𝓤 H A W RelayPending.row ref4 0 4 life0 8 Path.refl,
+                Path.refl,
+              ) Path.refl Path.refl λ b o k. tt) d44
+
           d46 : Typed.Typed 𝓤 H A 𝓣 E G9 b33 Δ0 (at46 bs)
-          d46 = Typed.s-seq 𝓤 H A W 𝓣 E G9 G10 b3 b32 Δ0 (Typed.give (s8 bs)) (at45 bs) (Relend.t-sl-relend 𝓤 H A W E RelayPending.row 𝓣 G9 1 14 0 4
-              ref4 ref0 life0 0 (λ x. x) (Reads.as-is 𝓤 H A (Mut.mslice RelayPending.row ref4 0)) (Reads.room-gone 𝓤 H A ref0) Path.refl tt Path.refl
-              Path.refl Path.refl λ b o. tt) d45
+          d46 = Typed.s-seq 𝓤 H A W 𝓣 E G9 G10 b3 b32 Δ0 (Typed.give (s8 bs)) (at45 bs) (Relend.t-sl-relend 𝓤 H A W E
+              RelayPending.row 𝓣 G9 1 14 0 4 ref4 ref0 life0 0 (λ x. x)
+              (Reads.as-is 𝓤 H A (Mut.mslice RelayPending.row ref4 0)) (Reads.room-gone 𝓤 H A ref0) Path.refl tt
+              Path.refl Path.refl Path.refl λ b o. tt) d45
+
           d47 : Typed.Typed 𝓤 H A 𝓣 E G8 b33 Δ0 (at47 bs)
-          d47 = Typed.g-pre 𝓤 H A W 𝓣 E G8 G9 b33 Δ0 (λ Ψ. Ψ) (at46 bs) (Lifetime.g-begin 𝓤 H A W E G8 4 (tt, (tt, (tt, (tt, (tt, (tt, (tt, (tt, (tt,
-              (tt, (tt, (tt, (tt, (tt, (tt, (tt, (tt, (tt, (tt, (tt, (tt, (tt, (tt, (tt, (tt, (tt, tt)))))),),),),),),),),),),),),),),),),),),),),))
-              d46
+          d47 = Typed.g-pre 𝓤 H A W 𝓣 E G8 G9 b33 Δ0 (λ Ψ. Ψ) (at46 bs) (Lifetime.g-begin 𝓤 H A W E G8 4 (
+            tt,
+            (
+              tt,
+              (
+                tt,
+                (
+                  tt,
+                  (
+                    tt,
+                    (
+                      tt,
+                      (
+                        tt,
+                        (
+                          tt,
+                          (
+                            tt,
+                            (
+                              tt,
+                              (
+                                tt,
+                                (
+                                  tt,
+                                  (
+                                    tt,
+                                    (tt, (tt, (tt, (tt, (tt, (tt, (tt, (tt, (tt, (tt, (tt, (tt, (tt, tt))))))))))))),
+                                  ),
+                                ),
+                              ),
+                            ),
+                          ),
+                        ),
+                      ),
+                    ),
+                  ),
+                ),
+              ),
+            ),
+          )) d46
+
           d48 : Typed.Typed 𝓤 H A 𝓣 E G7 b33 Δ0 (at48 bs)
-          d48 = Typed.g-pre 𝓤 H A W 𝓣 E G7 G8 b33 Δ0 (Typed.pass T7 T8 (s6 bs)) (at47 bs) (Scalar.g-room 𝓤 H A W E G7 8 Laws''.mir (Local.room-whole 𝓤
-              H A W (Declared.row Firsts.the-type) Laws''.mir Path.refl)) d47
+          d48 = Typed.g-pre 𝓤 H A W 𝓣 E G7 G8 b33 Δ0 (Typed.pass T7 T8 (s6 bs)) (at47 bs) (Scalar.g-room 𝓤 H A W E G7 8
+              Laws''.mir (Local.room-whole 𝓤 H A W (Declared.row Firsts.the-type) Laws''.mir Path.refl)) d47
+
           d49 : Typed.Typed 𝓤 H A 𝓣 E G6 b34 Δ0 (at49 bs)
-          d49 = Typed.s-seq 𝓤 H A W 𝓣 E G6 G7 b2 b33 Δ0 (Typed.both (s5 bs)) (at48 bs) (WayStmt.t-way-copy-out 𝓤 H A W E 𝓣 (Declared.row
-              Walked.the-type) Path.refl (Copies.cStruct Walked.the-type Laws'.the-laws Laws'.the-copy .copy 𝓤 H A W) (λ ρ. Unit) G6 (Row.out 8 (G6
-              .locals)) (λ u. Row.drop 8 (G6 .locals) u) (G6 .slots) 8 (λ t. (Syntax.field 1) ∷ t) Laws'.mir Laws'.mir 11 (Rows.whole (Declared.row
-              Walked.the-type)) (λ x. x) (λ u. At.getAt (Firsts.the-type .parts) 1 (Firsts.struct .as-values (u .1 .1 .1 .1 .1 .1 .1 .1 .0))) (λ u.
-              (Row.hd 0 (Row.tl (Row.tl (Row.tl (Row.tl (Row.tl (Row.tl (Row.tl (Row.tl bs)))))))), Nat._+_ 0 24,)) (λ T′. record { locals =
-              Row.setRow 8 (8, Rows.whole (Declared.row Firsts.the-type)) T′; slots = G6 .slots; }) (λ u T′ m′. Row.set 8 (8, Rows.whole (Declared.row
-              Firsts.the-type)) (u .1 .1 .1 .1 .1 .1 .1 .1 .0) T′ m′) (λ u. Unit) (λ x. Unit) (Own.told-none 𝓤 H A (G6 .slots))
-              (DerefMove.learns-nothing 𝓤 H A (Declared.row Walked.the-type)) (λ ρ told u asked. Way'.w-partˢ 𝓤 H A W E (Declared.row Firsts.the-type)
-              (Declared.row Walked.the-type) Laws''.mir Laws'.mir 1 24 (u .1 .1 .1 .1 .1 .1 .1 .1 .0) (At.getAt (Firsts.the-type .parts) 1
-              (Firsts.struct .as-values (u .1 .1 .1 .1 .1 .1 .1 .1 .0))) (Row.hd 0 (Row.tl (Row.tl (Row.tl (Row.tl (Row.tl (Row.tl (Row.tl (Row.tl
-              bs)))))))), 0,) (Way.w-look 𝓤 H A W E (Way.w-local 𝓤 H A W E G6 ρ u (G6 .slots) 8 (Declared.row Firsts.the-type) (Rows.whole
-              (Declared.row Firsts.the-type)) (λ x. x) (λ x. x) (u .1 .1 .1 .1 .1 .1 .1 .1 .0) (Local.mem-whole 𝓤 H A W (Declared.row Firsts.the-type)
-              ρ (u .1 .1 .1 .1 .1 .1 .1 .1 .0) (Row.hd 0 (Row.tl (Row.tl (Row.tl (Row.tl (Row.tl (Row.tl (Row.tl (Row.tl bs)))))))))) (Local.whole-mem
-              𝓤 H A W (Declared.row Firsts.the-type) ρ (u .1 .1 .1 .1 .1 .1 .1 .1 .0) (Row.hd 0 (Row.tl (Row.tl (Row.tl (Row.tl (Row.tl (Row.tl
-              (Row.tl (Row.tl bs)))))))))))) Path.refl λ q. Inner.cut-record 𝓤 H A q (Declared.row Firsts.the-type) Walked.the-type 24 (u .1 .1 .1 .1
-              .1 .1 .1 .1 .0) (u .1 .1 .1 .1 .1 .1 .1 .1 .0) (At.getAt (Firsts.the-type .parts) 1 (Firsts.struct .as-values (u .1 .1 .1 .1 .1 .1 .1 .1
-              .0))) (At.getAt (Firsts.the-type .parts) 1 (Firsts.struct .as-values (u .1 .1 .1 .1 .1 .1 .1 .1 .0))) (Row.hd 0 (Row.tl (Row.tl (Row.tl
-              (Row.tl (Row.tl (Row.tl (Row.tl (Row.tl bs)))))))), 0,) (Behind.look-at 𝓤 H A W q Firsts.the-type Laws''.the-laws 1 24 Path.refl
-              Path.refl (Row.hd 0 (Row.tl (Row.tl (Row.tl (Row.tl (Row.tl (Row.tl (Row.tl (Row.tl bs)))))))), 0,) (u .1 .1 .1 .1 .1 .1 .1 .1 .0)
-              (Firsts.struct .as-values (u .1 .1 .1 .1 .1 .1 .1 .1 .0)) Path.refl)) (Reads.room-gone 𝓤 H A Laws'.mir) (Yields.makes-mem 𝓤 H A W (λ ρ.
-              Unit) (Declared.row Walked.the-type) Path.refl (Rows.whole (Declared.row Walked.the-type)) (λ x. x) λ ρ told. Local.whole-mem 𝓤 H A W
+          d49 = Typed.s-seq 𝓤 H A W 𝓣 E G6 G7 b2 b33 Δ0 (Typed.both (s5 bs)) (at48 bs) (WayStmt.t-way-copy-out 𝓤 H A W
+              E 𝓣 (Declared.row Walked.the-type) Path.refl (Copies.cStruct Walked.the-type Laws'.the-laws
+              Laws'.the-copy .copy 𝓤 H A W) (λ ρ. Unit) G6 (Row.out 8 (G6 .locals)) (λ u. Row.drop 8 (G6 .locals) u)
+              (G6 .slots) 8 (λ t. (Syntax.field 1) ∷ t) Laws'.mir Laws'.mir 11
+              (Rows.whole (Declared.row Walked.the-type)) (λ x. x) (λ u. At.getAt (Firsts.the-type .parts) 1
+              (Firsts.struct .as-values (u .1 .1 .1 .1 .1 .1 .1 .1 .0))) (λ u. (
+                Row.hd 0 (Row.tl (Row.tl (Row.tl (Row.tl (Row.tl (Row.tl (Row.tl (Row.tl bs)))))))),
+                Nat._+_ 0 24,
+              )) (λ T′. record {
+                locals = Row.setRow 8 (8, Rows.whole (Declared.row Firsts.the-type)) T′;
+                slots = G6 .slots;
+              }) (λ u T′ m′. Row.set 8 (8, Rows.whole (Declared.row Firsts.the-type)) (u .1 .1 .1 .1 .1 .1 .1 .1 .0) T′
+              m′) (λ u. Unit) (λ x. Unit) (Own.told-none 𝓤 H A (G6 .slots)) (DerefMove.learns-nothing 𝓤 H A
+              (Declared.row Walked.the-type)) (λ ρ told u asked. Way'.w-partˢ 𝓤 H A W E (Declared.row Firsts.the-type)
+              (Declared.row Walked.the-type) Laws''.mir Laws'.mir 1 24 (u .1 .1 .1 .1 .1 .1 .1 .1 .0) (At.getAt
+              (Firsts.the-type .parts) 1 (Firsts.struct .as-values (u .1 .1 .1 .1 .1 .1 .1 .1 .0))) (
+                Row.hd 0 (Row.tl (Row.tl (Row.tl (Row.tl (Row.tl (Row.tl (Row.tl (Row.tl bs)))))))),
+                0,
+              ) (Way.w-look 𝓤 H A W E (Way.w-local 𝓤 H A W E G6 ρ u (G6 .slots) 8 (Declared.row Firsts.the-type)
+              (Rows.whole (Declared.row Firsts.the-type)) (λ x. x) (λ x. x) (u .1 .1 .1 .1 .1 .1 .1 .1 .0) (Local.mem-whole
+              𝓤 H A W (Declared.row Firsts.the-type) ρ (u .1 .1 .1 .1 .1 .1 .1 .1 .0) (Row.hd 0 (Row.tl (Row.tl (Row.tl
+              (Row.tl (Row.tl (Row.tl (Row.tl (Row.tl bs)))))))))) (Local.whole-mem 𝓤 H A W
+              (Declared.row Firsts.the-type) ρ (u .1 .1 .1 .1 .1 .1 .1 .1 .0) (Row.hd 0 (Row.tl (Row.tl (Row.tl
+              (Row.tl (Row.tl (Row.tl (Row.tl (Row.tl bs)))))))))))) Path.refl λ q. Inner.cut-record 𝓤 H A q
+              (Declared.row Firsts.the-type) Walked.the-type 24 (u .1 .1 .1 .1 .1 .1 .1 .1 .0)
+              (u .1 .1 .1 .1 .1 .1 .1 .1 .0) (At.getAt (Firsts.the-type .parts) 1
+              (Firsts.struct .as-values (u .1 .1 .1 .1 .1 .1 .1 .1 .0))) (At.getAt (Firsts.the-type .parts) 1
+              (Firsts.struct .as-values (u .1 .1 .1 .1 .1 .1 .1 .1 .0))) (
+                Row.hd 0 (Row.tl (Row.tl (Row.tl (Row.tl (Row.tl (Row.tl (Row.tl (Row.tl bs)))))))),
+                0,
+              ) (Behind.look-at 𝓤 H A W q Firsts.the-type Laws''.the-laws 1 24 Path.refl Path.refl (
+                Row.hd 0 (Row.tl (Row.tl (Row.tl (Row.tl (Row.tl (Row.tl (Row.tl (Row.tl bs)))))))),
+                0,
+              ) (u .1 .1 .1 .1 .1 .1 .1 .1 .0) (Firsts.struct .as-values (u .1 .1 .1 .1 .1 .1 .1 .1 .0)) Path.refl))
+              (Reads.room-gone 𝓤 H A Laws'.mir) (Yields.makes-mem 𝓤 H A W (λ ρ. Unit) (Declared.row Walked.the-type)
+              Path.refl (Rows.whole (Declared.row Walked.the-type)) (λ x. x) λ ρ told. Local.whole-mem 𝓤 H A W
               (Declared.row Walked.the-type) ρ) Path.refl Path.refl Path.refl) d48
+
           d50 : Typed.Typed 𝓤 H A 𝓣 E G5 b35 Δ0 (at50 bs)
-          d50 = Typed.s-seq 𝓤 H A W 𝓣 E G5 G6 b1 b34 Δ0 (Typed.both (s4 bs)) (at49 bs) (WayStmt.t-way-copy-out 𝓤 H A W E 𝓣 (Declared.row
-              Walked.the-type) Path.refl (Copies.cStruct Walked.the-type Laws'.the-laws Laws'.the-copy .copy 𝓤 H A W) (λ ρ. Unit) G5 (Row.out 8 (G5
-              .locals)) (λ u. Row.drop 8 (G5 .locals) u) (G5 .slots) 8 (λ t. (Syntax.field 0) ∷ t) Laws'.mir Laws'.mir 10 (Rows.whole (Declared.row
-              Walked.the-type)) (λ x. x) (λ u. At.getAt (Firsts.the-type .parts) 0 (Firsts.struct .as-values (u .1 .1 .1 .1 .1 .1 .1 .1 .0))) (λ u.
-              (Row.hd 0 (Row.tl (Row.tl (Row.tl (Row.tl (Row.tl (Row.tl (Row.tl (Row.tl bs)))))))), Nat._+_ 0 0,)) (λ T′. record { locals = Row.setRow
-              8 (8, Rows.whole (Declared.row Firsts.the-type)) T′; slots = G5 .slots; }) (λ u T′ m′. Row.set 8 (8, Rows.whole (Declared.row
-              Firsts.the-type)) (u .1 .1 .1 .1 .1 .1 .1 .1 .0) T′ m′) (λ u. Unit) (λ x. Unit) (Own.told-none 𝓤 H A (G5 .slots))
-              (DerefMove.learns-nothing 𝓤 H A (Declared.row Walked.the-type)) (λ ρ told u asked. Way'.w-partˢ 𝓤 H A W E (Declared.row Firsts.the-type)
-              (Declared.row Walked.the-type) Laws''.mir Laws'.mir 0 0 (u .1 .1 .1 .1 .1 .1 .1 .1 .0) (At.getAt (Firsts.the-type .parts) 0
-              (Firsts.struct .as-values (u .1 .1 .1 .1 .1 .1 .1 .1 .0))) (Row.hd 0 (Row.tl (Row.tl (Row.tl (Row.tl (Row.tl (Row.tl (Row.tl (Row.tl
-              bs)))))))), 0,) (Way.w-look 𝓤 H A W E (Way.w-local 𝓤 H A W E G5 ρ u (G5 .slots) 8 (Declared.row Firsts.the-type) (Rows.whole
-              (Declared.row Firsts.the-type)) (λ x. x) (λ x. x) (u .1 .1 .1 .1 .1 .1 .1 .1 .0) (Local.mem-whole 𝓤 H A W (Declared.row Firsts.the-type)
-              ρ (u .1 .1 .1 .1 .1 .1 .1 .1 .0) (Row.hd 0 (Row.tl (Row.tl (Row.tl (Row.tl (Row.tl (Row.tl (Row.tl (Row.tl bs)))))))))) (Local.whole-mem
-              𝓤 H A W (Declared.row Firsts.the-type) ρ (u .1 .1 .1 .1 .1 .1 .1 .1 .0) (Row.hd 0 (Row.tl (Row.tl (Row.tl (Row.tl (Row.tl (Row.tl
-              (Row.tl (Row.tl bs)))))))))))) Path.refl λ q. Inner.cut-record 𝓤 H A q (Declared.row Firsts.the-type) Walked.the-type 0 (u .1 .1 .1 .1
-              .1 .1 .1 .1 .0) (u .1 .1 .1 .1 .1 .1 .1 .1 .0) (At.getAt (Firsts.the-type .parts) 0 (Firsts.struct .as-values (u .1 .1 .1 .1 .1 .1 .1 .1
-              .0))) (At.getAt (Firsts.the-type .parts) 0 (Firsts.struct .as-values (u .1 .1 .1 .1 .1 .1 .1 .1 .0))) (Row.hd 0 (Row.tl (Row.tl (Row.tl
-              (Row.tl (Row.tl (Row.tl (Row.tl (Row.tl bs)))))))), 0,) (Behind.look-at 𝓤 H A W q Firsts.the-type Laws''.the-laws 0 0 Path.refl
-              Path.refl (Row.hd 0 (Row.tl (Row.tl (Row.tl (Row.tl (Row.tl (Row.tl (Row.tl (Row.tl bs)))))))), 0,) (u .1 .1 .1 .1 .1 .1 .1 .1 .0)
-              (Firsts.struct .as-values (u .1 .1 .1 .1 .1 .1 .1 .1 .0)) Path.refl)) (Reads.room-gone 𝓤 H A Laws'.mir) (Yields.makes-mem 𝓤 H A W (λ ρ.
-              Unit) (Declared.row Walked.the-type) Path.refl (Rows.whole (Declared.row Walked.the-type)) (λ x. x) λ ρ told. Local.whole-mem 𝓤 H A W
+          d50 = Typed.s-seq 𝓤 H A W 𝓣 E G5 G6 b1 b34 Δ0 (Typed.both (s4 bs)) (at49 bs) (WayStmt.t-way-copy-out 𝓤 H A W
+              E 𝓣 (Declared.row Walked.the-type) Path.refl (Copies.cStruct Walked.the-type Laws'.the-laws
+              Laws'.the-copy .copy 𝓤 H A W) (λ ρ. Unit) G5 (Row.out 8 (G5 .locals)) (λ u. Row.drop 8 (G5 .locals) u)
+              (G5 .slots) 8 (λ t. (Syntax.field 0) ∷ t) Laws'.mir Laws'.mir 10
+              (Rows.whole (Declared.row Walked.the-type)) (λ x. x) (λ u. At.getAt (Firsts.the-type .parts) 0
+              (Firsts.struct .as-values (u .1 .1 .1 .1 .1 .1 .1 .1 .0))) (λ u. (
+                Row.hd 0 (Row.tl (Row.tl (Row.tl (Row.tl (Row.tl (Row.tl (Row.tl (Row.tl bs)))))))),
+                Nat._+_ 0 0,
+              )) (λ T′. record {
+                locals = Row.setRow 8 (8, Rows.whole (Declared.row Firsts.the-type)) T′;
+                slots = G5 .slots;
+              }) (λ u T′ m′. Row.set 8 (8, Rows.whole (Declared.row Firsts.the-type)) (u .1 .1 .1 .1 .1 .1 .1 .1 .0) T′
+              m′) (λ u. Unit) (λ x. Unit) (Own.told-none 𝓤 H A (G5 .slots)) (DerefMove.learns-nothing 𝓤 H A
+              (Declared.row Walked.the-type)) (λ ρ told u asked. Way'.w-partˢ 𝓤 H A W E (Declared.row Firsts.the-type)
+              (Declared.row Walked.the-type) Laws''.mir Laws'.mir 0 0 (u .1 .1 .1 .1 .1 .1 .1 .1 .0) (At.getAt
+              (Firsts.the-type .parts) 0 (Firsts.struct .as-values (u .1 .1 .1 .1 .1 .1 .1 .1 .0))) (
+                Row.hd 0 (Row.tl (Row.tl (Row.tl (Row.tl (Row.tl (Row.tl (Row.tl (Row.tl bs)))))))),
+                0,
+              ) (Way.w-look 𝓤 H A W E (Way.w-local 𝓤 H A W E G5 ρ u (G5 .slots) 8 (Declared.row Firsts.the-type)
+              (Rows.whole (Declared.row Firsts.the-type)) (λ x. x) (λ x. x) (u .1 .1 .1 .1 .1 .1 .1 .1 .0) (Local.mem-whole
+              𝓤 H A W (Declared.row Firsts.the-type) ρ (u .1 .1 .1 .1 .1 .1 .1 .1 .0) (Row.hd 0 (Row.tl (Row.tl (Row.tl
+              (Row.tl (Row.tl (Row.tl (Row.tl (Row.tl bs)))))))))) (Local.whole-mem 𝓤 H A W
+              (Declared.row Firsts.the-type) ρ (u .1 .1 .1 .1 .1 .1 .1 .1 .0) (Row.hd 0 (Row.tl (Row.tl (Row.tl
+              (Row.tl (Row.tl (Row.tl (Row.tl (Row.tl bs)))))))))))) Path.refl λ q. Inner.cut-record 𝓤 H A q
+              (Declared.row Firsts.the-type) Walked.the-type 0 (u .1 .1 .1 .1 .1 .1 .1 .1 .0)
+              (u .1 .1 .1 .1 .1 .1 .1 .1 .0) (At.getAt (Firsts.the-type .parts) 0
+              (Firsts.struct .as-values (u .1 .1 .1 .1 .1 .1 .1 .1 .0))) (At.getAt (Firsts.the-type .parts) 0
+              (Firsts.struct .as-values (u .1 .1 .1 .1 .1 .1 .1 .1 .0))) (
+                Row.hd 0 (Row.tl (Row.tl (Row.tl (Row.tl (Row.tl (Row.tl (Row.tl (Row.tl bs)))))))),
+                0,
+              ) (Behind.look-at 𝓤 H A W q Firsts.the-type Laws''.the-laws 0 0 Path.refl Path.refl (
+                Row.hd 0 (Row.tl (Row.tl (Row.tl (Row.tl (Row.tl (Row.tl (Row.tl (Row.tl bs)))))))),
+                0,
+              ) (u .1 .1 .1 .1 .1 .1 .1 .1 .0) (Firsts.struct .as-values (u .1 .1 .1 .1 .1 .1 .1 .1 .0)) Path.refl))
+              (Reads.room-gone 𝓤 H A Laws'.mir) (Yields.makes-mem 𝓤 H A W (λ ρ. Unit) (Declared.row Walked.the-type)
+              Path.refl (Rows.whole (Declared.row Walked.the-type)) (λ x. x) λ ρ told. Local.whole-mem 𝓤 H A W
               (Declared.row Walked.the-type) ρ) Path.refl Path.refl Path.refl) d49
+
           d51 : Typed.Typed 𝓤 H A 𝓣 E G4 b35 Δ0 (at51 bs)
-          d51 = Typed.g-pre 𝓤 H A W 𝓣 E G4 G5 b35 Δ0 (Typed.pass T4 T5 (s3 bs)) (at50 bs) (Scalar.g-room 𝓤 H A W E G4 6 Laws.mir (Local.room-whole 𝓤 H
-              A W (Declared.row Places.the-type) Laws.mir Path.refl)) d50
+          d51 = Typed.g-pre 𝓤 H A W 𝓣 E G4 G5 b35 Δ0 (Typed.pass T4 T5 (s3 bs)) (at50 bs) (Scalar.g-room 𝓤 H A W E G4 6
+              Laws.mir (Local.room-whole 𝓤 H A W (Declared.row Places.the-type) Laws.mir Path.refl)) d50
+
           d52 : Typed.Typed 𝓤 H A 𝓣 E G3 b35 Δ0 (at52 bs)
-          d52 = Typed.g-pre 𝓤 H A W 𝓣 E G3 G4 b35 Δ0 (Typed.pass T3 T4 (s2 bs)) (at51 bs) (Scalar.g-room 𝓤 H A W E G3 5 Laws''''.mir (Local.room-whole
-              𝓤 H A W (Declared.row OpaqueRelayRuntime.the-type) Laws''''.mir Path.refl)) d51
+          d52 = Typed.g-pre 𝓤 H A W 𝓣 E G3 G4 b35 Δ0 (Typed.pass T3 T4 (s2 bs)) (at51 bs) (Scalar.g-room 𝓤 H A W E G3 5
+              Laws''''.mir (Local.room-whole 𝓤 H A W (Declared.row OpaqueRelayRuntime.the-type) Laws''''.mir Path.refl))
+              d51
+
           d53 : Typed.Typed 𝓤 H A 𝓣 E G2 b36 Δ0 (at53 bs)
-          d53 = Typed.s-seq 𝓤 H A W 𝓣 E G2 G3 b0 b35 Δ0 (Typed.both (s1 bs)) (at52 bs) (Plain.t-call-plain 𝓤 H A W 𝓣 0 ps·0 r·0 (claims· .0) (claims·
-              .1) "hnsr_circuit::revocation::started" (known .0) E (λ pos β. β) G2 (record { pos = 5; st = List.[]; d = 0; at = λ x. x }, (record {
-              pos = 6; st = List.[]; d = 0; at = λ x. x }, tt),) 9 List.[] (Call.sub-id 𝓤 H A W (G2 .slots)) ((Yields.yields-copy 𝓤 H A W (λ ρ. Unit)
-              (Declared.row OpaqueRelayRuntime.the-type) Path.refl (Copies.cStruct OpaqueRelayRuntime.the-type Laws''''.the-laws Laws''''.the-copy
-              .copy 𝓤 H A W) (Rows.whole (Declared.row OpaqueRelayRuntime.the-type)) (λ x. x) (λ x. x) (λ ρ told. Local.mem-whole 𝓤 H A W
-              (Declared.row OpaqueRelayRuntime.the-type) ρ) λ ρ told. Local.whole-mem 𝓤 H A W (Declared.row OpaqueRelayRuntime.the-type) ρ,
-              Path.refl,), ((Yields.yields-copy 𝓤 H A W (λ ρ. Unit) (Declared.row Places.the-type) Path.refl (Copies.cStruct Places.the-type
-              Laws.the-laws Laws.the-copy .copy 𝓤 H A W) (Rows.whole (Declared.row Places.the-type)) (λ x. x) (λ x. x) (λ ρ told. Local.mem-whole 𝓤 H
-              A W (Declared.row Places.the-type) ρ) λ ρ told. Local.whole-mem 𝓤 H A W (Declared.row Places.the-type) ρ, Path.refl,), tt,),)
-              (Reads.room-gone 𝓤 H A Laws''''''.mir) tt Path.refl) d52
+          d53 = Typed.s-seq 𝓤 H A W 𝓣 E G2 G3 b0 b35 Δ0 (Typed.both (s1 bs)) (at52 bs) (Plain.t-call-plain 𝓤 H A W 𝓣 0
+              ps·0 r·0 (claims· .0) (claims· .1) "hnsr_circuit::revocation::started" (known .0) E (λ pos β. β) G2 (
+                record { pos = 5; st = List.[]; d = 0; at = λ x. x },
+                (record { pos = 6; st = List.[]; d = 0; at = λ x. x }, tt),
+              ) 9 List.[] (Call.sub-id 𝓤 H A W (G2 .slots)) (
+                (
+                  Yields.yields-copy 𝓤 H A W (λ ρ. Unit) (Declared.row OpaqueRelayRuntime.the-type) Path.refl (Copies.cStruct
+                      OpaqueRelayRuntime.the-type Laws''''.the-laws Laws''''.the-copy .copy 𝓤 H A W)
+                      (Rows.whole (Declared.row OpaqueRelayRuntime.the-type)) (λ x. x) (λ x. x) (λ ρ told.
+                      Local.mem-whole 𝓤 H A W (Declared.row OpaqueRelayRuntime.the-type) ρ) λ ρ told. Local.whole-mem 𝓤
+                      H A W (Declared.row OpaqueRelayRuntime.the-type) ρ,
+                  Path.refl,
+                ),
+                (
+                  (
+                    Yields.yields-copy 𝓤 H A W (λ ρ. Unit) (Declared.row Places.the-type) Path.refl (Copies.cStruct
+                        Places.the-type Laws.the-laws Laws.the-copy .copy 𝓤 H A W)
+                        (Rows.whole (Declared.row Places.the-type)) (λ x. x) (λ x. x) (λ ρ told. Local.mem-whole 𝓤 H A
+                        W (Declared.row Places.the-type) ρ) λ ρ told. Local.whole-mem 𝓤 H A W
+                        (Declared.row Places.the-type) ρ,
+                    Path.refl,
+                  ),
+                  tt,
+                ),
+              ) (Reads.room-gone 𝓤 H A Laws''''''.mir) tt Path.refl) d52
+
           d54 : Typed.Typed 𝓤 H A 𝓣 E G0 b36 Δ0 (at54 bs)
-          d54 = Typed.g-pre 𝓤 H A W 𝓣 E G0 G2 b36 Δ0 (Typed.give (s0 bs)) (at53 bs) (Know.g-sl-known 𝓤 H A W (Referent.fInt Syntax.w32) E G0 4 3 ref7
-              life2 0 (λ x. x) record { fits = Dec.lit< tt } (Reads.as-is 𝓤 H A (Mut.mslice (Referent.rtF (Referent.fInt Syntax.w32)) ref7 3))
-              Path.refl tt) d53
-          pub typed : Typed.Typed 𝓤 H A 𝓣 E (Function.Γin 4 ps r xs m κs qs) b36 (Function.Δret 4 ps r xs m κs qs) (Φ bs)
+          d54 = Typed.g-pre 𝓤 H A W 𝓣 E G0 G2 b36 Δ0 (Typed.give (s0 bs)) (at53 bs) (Know.g-sl-known 𝓤 H A W
+              (Referent.fInt Syntax.w32) E G0 4 3 ref7 life2 0 (λ x. x) record { fits = Dec.lit< tt } (Reads.as-is 𝓤 H
+              A (Mut.mslice (Referent.rtF (Referent.fInt Syntax.w32)) ref7 3)) Path.refl tt) d53
+
+          pub typed : Typed.Typed 𝓤 H A 𝓣 E (Function.Γin 4 ps r xs m κs qs) b36 (Function.Δret 4 ps r xs m κs qs)
+              (Φ bs)
           typed = d54
+
       module _ (κs : Lifetimes.Lfts 4) where
         pub record Args : Type 0 where
-          pub pending : Kinds.Den { n = 4 } κs (MutSlice.pMutS RelayPending.row 0 tt)
-          pub circuits : Kinds.Den { n = 4 } κs (MutSlice.pMutS RelayCircuit.row 1 tt)
-          pub inflight : Kinds.Den { n = 4 } κs (MutSlice.pMutS InflightAction.row 2 tt)
-          pub out : Kinds.Den { n = 4 } κs (MutSlice.pMutS (Referent.rtF (Referent.fInt Syntax.w32)) 3 tt)
-          pub runtime : Kinds.Den { n = 4 } κs (Value.pVal record { ty = Declared.row OpaqueRelayRuntime.the-type; one = Path.refl; val =
-              Laws'''''''.val OpaqueRelayRuntime.the-type Laws''''.the-laws; tells = Laws'''''''.tells OpaqueRelayRuntime.the-type Laws''''.the-laws;
-              still = Laws'''''''.still OpaqueRelayRuntime.the-type Laws''''.the-copy Exit.yes; row = Rows.whole (Declared.row
-              OpaqueRelayRuntime.the-type); rd = λ x. x; mk = λ x. x; } λ M 𝓤 H A W. record { copies = Laws'''''''.copy OpaqueRelayRuntime.the-type
-              Laws''''.the-copy 𝓤 H A W; lawful = Laws'''''''.lawful OpaqueRelayRuntime.the-type Laws''''.the-laws 𝓤 H A W; makes = Laws'''''''.makes
-              OpaqueRelayRuntime.the-type Laws''''.the-plain 𝓤 H A; in-mem = Local.mem-whole 𝓤 H A W (Declared.row OpaqueRelayRuntime.the-type);
-              of-mem = Local.whole-mem 𝓤 H A W (Declared.row OpaqueRelayRuntime.the-type); })
-          pub places : Kinds.Den { n = 4 } κs (Value.pVal record { ty = Declared.row Places.the-type; one = Path.refl; val = Laws'''''''.val
-              Places.the-type Laws.the-laws; tells = Laws'''''''.tells Places.the-type Laws.the-laws; still = Laws'''''''.still Places.the-type
-              Laws.the-copy Exit.yes; row = Rows.whole (Declared.row Places.the-type); rd = λ x. x; mk = λ x. x; } λ M 𝓤 H A W. record { copies =
-              Laws'''''''.copy Places.the-type Laws.the-copy 𝓤 H A W; lawful = Laws'''''''.lawful Places.the-type Laws.the-laws 𝓤 H A W; makes =
-              Laws'''''''.makes Places.the-type Laws.the-plain 𝓤 H A; in-mem = Local.mem-whole 𝓤 H A W (Declared.row Places.the-type); of-mem =
-              Local.whole-mem 𝓤 H A W (Declared.row Places.the-type); })
-          pub revoking : Kinds.Den { n = 4 } κs (Value.pVal record { ty = Declared.row Revoking.the-type; one = Path.refl; val = Laws'''''''.val
-              Revoking.the-type Laws'''.the-laws; tells = Laws'''''''.tells Revoking.the-type Laws'''.the-laws; still = Laws'''''''.still
-              Revoking.the-type Laws'''.the-copy Exit.yes; row = Rows.whole (Declared.row Revoking.the-type); rd = λ x. x; mk = λ x. x; } λ M 𝓤 H A W.
-              record { copies = Laws'''''''.copy Revoking.the-type Laws'''.the-copy 𝓤 H A W; lawful = Laws'''''''.lawful Revoking.the-type
-              Laws'''.the-laws 𝓤 H A W; makes = Laws'''''''.makes Revoking.the-type Laws'''.the-plain 𝓤 H A; in-mem = Local.mem-whole 𝓤 H A W
-              (Declared.row Revoking.the-type); of-mem = Local.whole-mem 𝓤 H A W (Declared.row Revoking.the-type); })
-          pub first : Kinds.Den { n = 4 } κs (Value.pVal record { ty = Declared.row Firsts.the-type; one = Path.refl; val = Laws'''''''.val
-              Firsts.the-type Laws''.the-laws; tells = Laws'''''''.tells Firsts.the-type Laws''.the-laws; still = Laws'''''''.still Firsts.the-type
-              Laws''.the-copy Exit.yes; row = Rows.whole (Declared.row Firsts.the-type); rd = λ x. x; mk = λ x. x; } λ M 𝓤 H A W. record { copies =
-              Laws'''''''.copy Firsts.the-type Laws''.the-copy 𝓤 H A W; lawful = Laws'''''''.lawful Firsts.the-type Laws''.the-laws 𝓤 H A W; makes =
-              Laws'''''''.makes Firsts.the-type Laws''.the-plain 𝓤 H A; in-mem = Local.mem-whole 𝓤 H A W (Declared.row Firsts.the-type); of-mem =
-              Local.whole-mem 𝓤 H A W (Declared.row Firsts.the-type); })
+          pub pending : Kinds.Den {n = 4} κs (MutSlice.pMutS RelayPending.row 0 tt)
+          pub circuits : Kinds.Den {n = 4} κs (MutSlice.pMutS RelayCircuit.row 1 tt)
+          pub inflight : Kinds.Den {n = 4} κs (MutSlice.pMutS InflightAction.row 2 tt)
+          pub out : Kinds.Den {n = 4} κs (MutSlice.pMutS (Referent.rtF (Referent.fInt Syntax.w32)) 3 tt)
+          pub runtime : Kinds.Den {n = 4} κs (StructRow.param OpaqueRelayRuntime.the-type Laws''''.the-laws
+              Laws''''.the-copy Laws''''.the-plain)
+          pub places : Kinds.Den {n = 4} κs (StructRow.param Places.the-type Laws.the-laws Laws.the-copy Laws.the-plain)
+          pub revoking : Kinds.Den {n = 4} κs (StructRow.param Revoking.the-type Laws'''.the-laws Laws'''.the-copy
+              Laws'''.the-plain)
+          pub first : Kinds.Den {n = 4} κs (StructRow.param Firsts.the-type Laws''.the-laws Laws''.the-copy
+              Laws''.the-plain)
+
         abbrev pub dens : (a : Args) → Kinds.Dens κs ps
-        dens = λ a. (a .pending, (a .circuits, (a .inflight, (a .out, (a .runtime, (a .places, (a .revoking, (a .first, tt)))))),),)
+        dens = λ a. (
+          a .pending,
+          (a .circuits, (a .inflight, (a .out, (a .runtime, (a .places, (a .revoking, (a .first, tt))))))),
+        )
+
       abbrev pub m0 : (κs : Lifetimes.Lfts 4) → (args : Args κs) → (blocks : List.List Nat.ℕ) → Typed.Mo T0
       m0 = λ κs args blocks. (tt, Enter.partsP κs 1 ps xs (dens κs args))
+
       abbrev W0 : (κs : Lifetimes.Lfts 4) → (args : Args κs) → (blocks : List.List Nat.ℕ) → Typed.Want O0
-      W0 = λ κs args blocks. (λ u. ⊥, tt, λ u. Enter.Fixs κs 1 ps xs (dens κs args) (u .1) × Post· κs (dens κs args) (Function.resV r κs (u .0))
-          (Clauses.atExit (Kinds.endedOf 4 ps r) κs (dens κs args) (Enter.lastsP κs 1 ps xs (dens κs args) (u .1))),)
+      W0 = λ κs args blocks. (
+        λ u. ⊥,
+        tt,
+        λ u. Enter.Fixs κs 1 ps xs (dens κs args) (u .1) × Post· κs (dens κs args) (Function.resV r κs (u .0)) (Clauses.atExit
+            (Kinds.endedOf 4 ps r) κs (dens κs args) (Enter.lastsP κs 1 ps xs (dens κs args) (u .1))),
+      )
+
       pub record Start : Type 0 where
         pub κs : Lifetimes.Lfts 4
         pub args : Args κs
         pub blocks : List.List Nat.ℕ
         pub good : Kinds.GoodsP κs ps (dens κs args)
         pub pre : Pre· κs (dens κs args)
-      abbrev pub m1 : (before : Start) → (given : s0 (before .blocks) .gives (m0 (before .κs) (before .args) (before .blocks))) → Typed.Mo T2
+
+      abbrev pub m1 : (before : Start) → (given : s0 (before .blocks) .gives
+          (m0 (before .κs) (before .args) (before .blocks))) → Typed.Mo T2
       m1 = λ before given. s0 (before .blocks) .next (m0 (before .κs) (before .args) (before .blocks)) given
+
       module _ (before· : Start) where
         pub record After-slice-known·own : Type 0 where
           pub given : s0 (before· .blocks) .gives (m0 (before· .κs) (before· .args) (before· .blocks))
+
       pub record After-slice-known : Type 0 where
         pub before : Start
         pub slice-known : After-slice-known·own before
+
       abbrev pub Need-started-requires : Type 0
-      Need-started-requires = (c : After-slice-known) → s1 (c .before .blocks) .asks (m1 (c .before) (c .slice-known .given))
-      abbrev pub m2 : (before : After-slice-known) → (given : s1 (before .before .blocks) .gives (m1 (before .before) (before .slice-known .given))) →
-          Typed.Mo T3
+      Need-started-requires = (c : After-slice-known) → s1 (c .before .blocks) .asks
+          (m1 (c .before) (c .slice-known .given))
+
+      abbrev pub m2 : (before : After-slice-known) → (given : s1 (before .before .blocks) .gives
+          (m1 (before .before) (before .slice-known .given))) → Typed.Mo T3
       m2 = λ before given. s1 (before .before .blocks) .next (m1 (before .before) (before .slice-known .given)) given
+
       module _ (before· : After-slice-known) where
         abbrev pub After-started·own : Type 0
-        After-started·own = Called.Called ps·0 r·0 (claims· .1) T2 (record { pos = 5; st = List.[]; d = 0; at = λ x. x }, (record { pos = 6; st =
-            List.[]; d = 0; at = λ x. x }, tt),) (m1 (before· .before) (before· .slice-known .given))
+        After-started·own = Called.Called ps·0 r·0 (claims· .1) T2 (
+          record { pos = 5; st = List.[]; d = 0; at = λ x. x },
+          (record { pos = 6; st = List.[]; d = 0; at = λ x. x }, tt),
+        ) (m1 (before· .before) (before· .slice-known .given))
+
       pub record After-started : Type 0 where
         pub before : After-slice-known
         pub started : After-started·own before
-      abbrev pub After-started·gave : (c : After-started) → s1 (c .before .before .blocks) .gives (m1 (c .before .before) (c .before .slice-known
-          .given))
-      After-started·gave = λ c. Called.given ps·0 r·0 (claims· .1) T2 (record { pos = 5; st = List.[]; d = 0; at = λ x. x }, (record { pos = 6; st =
-          List.[]; d = 0; at = λ x. x }, tt),) (m1 (c .before .before) (c .before .slice-known .given)) (c .started)
-      abbrev pub m3 : (before : After-slice-known) → (given : s1 (before .before .blocks) .gives (m1 (before .before) (before .slice-known .given))) →
-          Typed.Mo T4
+
+      abbrev pub After-started·gave : (c : After-started) → s1 (c .before .before .blocks) .gives
+          (m1 (c .before .before) (c .before .slice-known .given))
+      After-started·gave = λ c. Called.given ps·0 r·0 (claims· .1) T2 (
+        record { pos = 5; st = List.[]; d = 0; at = λ x. x },
+        (record { pos = 6; st = List.[]; d = 0; at = λ x. x }, tt),
+      ) (m1 (c .before .before) (c .before .slice-known .given)) (c .started)
+
+      abbrev pub m3 : (before : After-slice-known) → (given : s1 (before .before .blocks) .gives
+          (m1 (before .before) (before .slice-known .given))) → Typed.Mo T4
       m3 = λ before given. s2 (before .before .blocks) (m2 before given)
-      abbrev pub m4 : (before : After-slice-known) → (given : s1 (before .before .blocks) .gives (m1 (before .before) (before .slice-known .given))) →
-          Typed.Mo T5
+
+      abbrev pub m4 : (before : After-slice-known) → (given : s1 (before .before .blocks) .gives
+          (m1 (before .before) (before .slice-known .given))) → Typed.Mo T5
       m4 = λ before given. s3 (before .before .blocks) (m3 before given)
-      abbrev pub m5 : (before : After-started) → (given : s4 (before .before .before .blocks) .gives (m4 (before .before) (After-started·gave
-          before))) → Typed.Mo T6
-      m5 = λ before given. s4 (before .before .before .blocks) .next (m4 (before .before) (After-started·gave before)) given
+
+      abbrev pub m5 : (before : After-started) → (given : s4 (before .before .before .blocks) .gives
+          (m4 (before .before) (After-started·gave before))) → Typed.Mo T6
+      m5 = λ before given. s4 (before .before .before .blocks) .next (m4 (before .before) (After-started·gave before))
+          given
+
       module _ (before· : After-started) where
         pub record After-waiting·own : Type 0 where
           pub given : s4 (before· .before .before .blocks) .gives (m4 (before· .before) (After-started·gave before·))
+
       pub record After-waiting : Type 0 where
         pub before : After-started
         pub waiting : After-waiting·own before
-      abbrev pub m6 : (before : After-waiting) → (given : s5 (before .before .before .before .blocks) .gives (m5 (before .before) (before .waiting
-          .given))) → Typed.Mo T7
-      m6 = λ before given. s5 (before .before .before .before .blocks) .next (m5 (before .before) (before .waiting .given)) given
-      abbrev pub m7 : (before : After-waiting) → (given : s5 (before .before .before .before .blocks) .gives (m5 (before .before) (before .waiting
-          .given))) → Typed.Mo T8
+
+      abbrev pub m6 : (before : After-waiting) → (given : s5 (before .before .before .before .blocks) .gives
+          (m5 (before .before) (before .waiting .given))) → Typed.Mo T7
+      m6 = λ before given. s5 (before .before .before .before .blocks) .next
+          (m5 (before .before) (before .waiting .given)) given
+
+      abbrev pub m7 : (before : After-waiting) → (given : s5 (before .before .before .before .blocks) .gives
+          (m5 (before .before) (before .waiting .given))) → Typed.Mo T8
       m7 = λ before given. s6 (before .before .before .before .blocks) (m6 before given)
+
       module _ (before· : After-waiting) where
         pub record After-active·own : Type 0 where
-          pub given : s5 (before· .before .before .before .blocks) .gives (m5 (before· .before) (before· .waiting .given))
+          pub given : s5 (before· .before .before .before .blocks) .gives
+              (m5 (before· .before) (before· .waiting .given))
+
       pub record After-active : Type 0 where
         pub before : After-waiting
         pub active : After-active·own before
-      abbrev pub m8 : (before : After-active) → (given : s8 (before .before .before .before .before .blocks) .gives (m7 (before .before) (before
-          .active .given))) → Typed.Mo T10
-      m8 = λ before given. s8 (before .before .before .before .before .blocks) .next (m7 (before .before) (before .active .given)) given
-      abbrev pub m9 : (before : After-active) → (given : s8 (before .before .before .before .before .blocks) .gives (m7 (before .before) (before
-          .active .given))) → Typed.Mo T11
+
+      abbrev pub m8 : (before : After-active) → (given : s8 (before .before .before .before .before .blocks) .gives
+          (m7 (before .before) (before .active .given))) → Typed.Mo T10
+      m8 = λ before given. s8 (before .before .before .before .before .blocks) .next
+          (m7 (before .before) (before .active .given)) given
+
+      abbrev pub m9 : (before : After-active) → (given : s8 (before .before .before .before .before .blocks) .gives
+          (m7 (before .before) (before .active .given))) → Typed.Mo T11
       m9 = λ before given. s9 (before .before .before .before .before .blocks) .next (m8 before given)
+
       module _ (before· : After-active) where
         pub record After-walk-pending-arg·own : Type 0 where
-          pub given : s8 (before· .before .before .before .before .blocks) .gives (m7 (before· .before) (before· .active .given))
+          pub given : s8 (before· .before .before .before .before .blocks) .gives
+              (m7 (before· .before) (before· .active .given))
+
       pub record After-walk-pending-arg : Type 0 where
         pub before : After-active
         pub walk-pending-arg : After-walk-pending-arg·own before
-      abbrev pub m10 : (before : After-walk-pending-arg) → (given : s11 (before .before .before .before .before .before .blocks) .gives (m9 (before
-          .before) (before .walk-pending-arg .given))) → Typed.Mo T13
-      m10 = λ before given. s11 (before .before .before .before .before .before .blocks) .next (m9 (before .before) (before .walk-pending-arg .given))
-          given
-      abbrev pub m11 : (before : After-walk-pending-arg) → (given : s11 (before .before .before .before .before .before .blocks) .gives (m9 (before
-          .before) (before .walk-pending-arg .given))) → Typed.Mo T14
+
+      abbrev pub m10 : (before : After-walk-pending-arg) → (given : s11
+          (before .before .before .before .before .before .blocks) .gives
+          (m9 (before .before) (before .walk-pending-arg .given))) → Typed.Mo T13
+      m10 = λ before given. s11 (before .before .before .before .before .before .blocks) .next
+          (m9 (before .before) (before .walk-pending-arg .given)) given
+
+      abbrev pub m11 : (before : After-walk-pending-arg) → (given : s11
+          (before .before .before .before .before .before .blocks) .gives
+          (m9 (before .before) (before .walk-pending-arg .given))) → Typed.Mo T14
       m11 = λ before given. s12 (before .before .before .before .before .before .blocks) .next (m10 before given)
+
       module _ (before· : After-walk-pending-arg) where
         pub record After-walk-pending-arg2·own : Type 0 where
-          pub given : s11 (before· .before .before .before .before .before .blocks) .gives (m9 (before· .before) (before· .walk-pending-arg .given))
+          pub given : s11 (before· .before .before .before .before .before .blocks) .gives
+              (m9 (before· .before) (before· .walk-pending-arg .given))
+
       pub record After-walk-pending-arg2 : Type 0 where
         pub before : After-walk-pending-arg
         pub walk-pending-arg2 : After-walk-pending-arg2·own before
-      abbrev pub m12 : (before : After-walk-pending-arg2) → (given : s14 (before .before .before .before .before .before .before .blocks) .gives (m11
-          (before .before) (before .walk-pending-arg2 .given))) → Typed.Mo T16
-      m12 = λ before given. s14 (before .before .before .before .before .before .before .blocks) .next (m11 (before .before) (before
-          .walk-pending-arg2 .given)) given
-      abbrev pub m13 : (before : After-walk-pending-arg2) → (given : s14 (before .before .before .before .before .before .before .blocks) .gives (m11
-          (before .before) (before .walk-pending-arg2 .given))) → Typed.Mo T17
-      m13 = λ before given. s15 (before .before .before .before .before .before .before .blocks) .next (m12 before given)
+
+      abbrev pub m12 : (before : After-walk-pending-arg2) → (given : s14 (before .before .before .before .before
+          .before .before .blocks) .gives (m11 (before .before) (before .walk-pending-arg2 .given))) → Typed.Mo T16
+      m12 = λ before given. s14 (before .before .before .before .before .before .before .blocks) .next
+          (m11 (before .before) (before .walk-pending-arg2 .given)) given
+
+      abbrev pub m13 : (before : After-walk-pending-arg2) → (given : s14 (before .before .before .before .before
+          .before .before .blocks) .gives (m11 (before .before) (before .walk-pending-arg2 .given))) → Typed.Mo T17
+      m13 = λ before given. s15 (before .before .before .before .before .before .before .blocks) .next
+          (m12 before given)
+
       module _ (before· : After-walk-pending-arg2) where
         pub record After-walk-pending-arg3·own : Type 0 where
-          pub given : s14 (before· .before .before .before .before .before .before .blocks) .gives (m11 (before· .before) (before· .walk-pending-arg2
-              .given))
+          pub given : s14 (before· .before .before .before .before .before .before .blocks) .gives
+              (m11 (before· .before) (before· .walk-pending-arg2 .given))
+
       pub record After-walk-pending-arg3 : Type 0 where
         pub before : After-walk-pending-arg2
         pub walk-pending-arg3 : After-walk-pending-arg3·own before
+
       abbrev pub Need-walk-pending-requires : Type 0
-      Need-walk-pending-requires = (c : After-walk-pending-arg3) → s16 (c .before .before .before .before .before .before .before .blocks) .asks (m13
-          (c .before) (c .walk-pending-arg3 .given))
-      abbrev pub m14 : (before : After-walk-pending-arg3) → (given : s16 (before .before .before .before .before .before .before .before .blocks)
-          .gives (m13 (before .before) (before .walk-pending-arg3 .given))) → Typed.Mo T18
-      m14 = λ before given. s16 (before .before .before .before .before .before .before .before .blocks) .next (m13 (before .before) (before
-          .walk-pending-arg3 .given)) given
+      Need-walk-pending-requires = (c : After-walk-pending-arg3) → s16 (c .before .before .before .before .before
+          .before .before .blocks) .asks (m13 (c .before) (c .walk-pending-arg3 .given))
+
+      abbrev pub m14 : (before : After-walk-pending-arg3) → (given : s16 (before .before .before .before .before
+          .before .before .before .blocks) .gives (m13 (before .before) (before .walk-pending-arg3 .given))) → Typed.Mo
+          T18
+      m14 = λ before given. s16 (before .before .before .before .before .before .before .before .blocks) .next
+          (m13 (before .before) (before .walk-pending-arg3 .given)) given
+
       module _ (before· : After-walk-pending-arg3) where
         abbrev pub After-walk-pending·own : Type 0
-        After-walk-pending·own = Called.Called ps·1 r·1 (claims· .3) T17 (record { pos = 15; ty = Syntax.tyRef Syntax.erased Syntax.mut
-            RelayPending.to; ref = λ x. x; }, (record { pos = 17; ty = Syntax.tyRef Syntax.erased Syntax.mut InflightAction.to; ref = λ x. x; },
-            (record { pos = 19; ty = Syntax.tyRef Syntax.erased Syntax.mut (Syntax.tyInt Syntax.w32); ref = λ x. x; }, (record { pos = 9; st =
-            List.[]; d = 0; at = λ x. x }, (record { pos = 7; st = List.[]; d = 0; at = λ x. x }, (record { pos = 10; st = List.[]; d = 0; at = λ x. x
-            }, tt),),),),),) (m13 (before· .before) (before· .walk-pending-arg3 .given))
+        After-walk-pending·own = Called.Called ps·1 r·1 (claims· .3) T17 (
+          record { pos = 15; ty = ref0; ref = λ x. x },
+          (
+            record { pos = 17; ty = ref1; ref = λ x. x },
+            (
+              record { pos = 19; ty = ref2; ref = λ x. x },
+              (
+                record { pos = 9; st = List.[]; d = 0; at = λ x. x },
+                (
+                  record { pos = 7; st = List.[]; d = 0; at = λ x. x },
+                  (record { pos = 10; st = List.[]; d = 0; at = λ x. x }, tt),
+                ),
+              ),
+            ),
+          ),
+        ) (m13 (before· .before) (before· .walk-pending-arg3 .given))
+
       pub record After-walk-pending : Type 0 where
         pub before : After-walk-pending-arg3
         pub walk-pending : After-walk-pending·own before
-      abbrev pub After-walk-pending·gave : (c : After-walk-pending) → s16 (c .before .before .before .before .before .before .before .before .blocks)
-          .gives (m13 (c .before .before) (c .before .walk-pending-arg3 .given))
-      After-walk-pending·gave = λ c. Called.given ps·1 r·1 (claims· .3) T17 (record { pos = 15; ty = Syntax.tyRef Syntax.erased Syntax.mut
-          RelayPending.to; ref = λ x. x; }, (record { pos = 17; ty = Syntax.tyRef Syntax.erased Syntax.mut InflightAction.to; ref = λ x. x; }, (record
-          { pos = 19; ty = Syntax.tyRef Syntax.erased Syntax.mut (Syntax.tyInt Syntax.w32); ref = λ x. x; }, (record { pos = 9; st = List.[]; d = 0;
-          at = λ x. x }, (record { pos = 7; st = List.[]; d = 0; at = λ x. x }, (record { pos = 10; st = List.[]; d = 0; at = λ x. x }, tt),),),),),)
-          (m13 (c .before .before) (c .before .walk-pending-arg3 .given)) (c .walk-pending)
-      abbrev pub m15 : (before : After-walk-pending-arg3) → (given : s16 (before .before .before .before .before .before .before .before .blocks)
-          .gives (m13 (before .before) (before .walk-pending-arg3 .given))) → Typed.Mo T19
-      m15 = λ before given. s17 (before .before .before .before .before .before .before .before .blocks) (m14 before given)
-      abbrev pub m16 : (before : After-walk-pending-arg3) → (given : s16 (before .before .before .before .before .before .before .before .blocks)
-          .gives (m13 (before .before) (before .walk-pending-arg3 .given))) → Typed.Mo T20
-      m16 = λ before given. s18 (before .before .before .before .before .before .before .before .blocks) (m15 before given)
-      abbrev pub m17 : (before : After-walk-pending) → (given : s20 (before .before .before .before .before .before .before .before .before .blocks)
-          .gives (m16 (before .before) (After-walk-pending·gave before))) → Typed.Mo T22
-      m17 = λ before given. s20 (before .before .before .before .before .before .before .before .before .blocks) .next (m16 (before .before)
-          (After-walk-pending·gave before)) given
+
+      abbrev pub After-walk-pending·gave : (c : After-walk-pending) → s16 (c .before .before .before .before .before
+          .before .before .before .blocks) .gives (m13 (c .before .before) (c .before .walk-pending-arg3 .given))
+      After-walk-pending·gave = λ c. Called.given ps·1 r·1 (claims· .3) T17 (
+        record { pos = 15; ty = ref0; ref = λ x. x },
+        (
+          record { pos = 17; ty = ref1; ref = λ x. x },
+          (
+            record { pos = 19; ty = ref2; ref = λ x. x },
+            (
+              record { pos = 9; st = List.[]; d = 0; at = λ x. x },
+              (
+                record { pos = 7; st = List.[]; d = 0; at = λ x. x },
+                (record { pos = 10; st = List.[]; d = 0; at = λ x. x }, tt),
+              ),
+            ),
+          ),
+        ),
+      ) (m13 (c .before .before) (c .before .walk-pending-arg3 .given)) (c .walk-pending)
+
+      abbrev pub m15 : (before : After-walk-pending-arg3) → (given : s16 (before .before .before .before .before
+          .before .before .before .blocks) .gives (m13 (before .before) (before .walk-pending-arg3 .given))) → Typed.Mo
+          T19
+      m15 = λ before given. s17 (before .before .before .before .before .before .before .before .blocks)
+          (m14 before given)
+
+      abbrev pub m16 : (before : After-walk-pending-arg3) → (given : s16 (before .before .before .before .before
+          .before .before .before .blocks) .gives (m13 (before .before) (before .walk-pending-arg3 .given))) → Typed.Mo
+          T20
+      m16 = λ before given. s18 (before .before .before .before .before .before .before .before .blocks)
+          (m15 before given)
+
+      abbrev pub m17 : (before : After-walk-pending) → (given : s20 (before .before .before .before .before .before
+          .before .before .before .blocks) .gives (m16 (before .before) (After-walk-pending·gave before))) → Typed.Mo
+          T22
+      m17 = λ before given. s20 (before .before .before .before .before .before .before .before .before .blocks) .next
+          (m16 (before .before) (After-walk-pending·gave before)) given
+
       module _ (before· : After-walk-pending) where
         pub record After-pending·own : Type 0 where
-          pub given : s20 (before· .before .before .before .before .before .before .before .before .blocks) .gives (m16 (before· .before)
-              (After-walk-pending·gave before·))
+          pub given : s20 (before· .before .before .before .before .before .before .before .before .blocks) .gives
+              (m16 (before· .before) (After-walk-pending·gave before·))
+
       pub record After-pending : Type 0 where
         pub before : After-walk-pending
         pub pending : After-pending·own before
-      abbrev pub m18 : (before : After-pending) → (given : s23 (before .before .before .before .before .before .before .before .before .before
-          .blocks) .gives (m17 (before .before) (before .pending .given))) → Typed.Mo T25
-      m18 = λ before given. s23 (before .before .before .before .before .before .before .before .before .before .blocks) .next (m17 (before .before)
-          (before .pending .given)) given
+
+      abbrev pub m18 : (before : After-pending) → (given : s23 (before .before .before .before .before .before .before
+          .before .before .before .blocks) .gives (m17 (before .before) (before .pending .given))) → Typed.Mo T25
+      m18 = λ before given. s23 (before .before .before .before .before .before .before .before .before .before .blocks)
+          .next (m17 (before .before) (before .pending .given)) given
+
       module _ (before· : After-pending) where
         pub record After-inflight·own : Type 0 where
-          pub given : s23 (before· .before .before .before .before .before .before .before .before .before .blocks) .gives (m17 (before· .before)
-              (before· .pending .given))
+          pub given : s23 (before· .before .before .before .before .before .before .before .before .before .blocks)
+              .gives (m17 (before· .before) (before· .pending .given))
+
       pub record After-inflight : Type 0 where
         pub before : After-pending
         pub inflight : After-inflight·own before
-      abbrev pub m19 : (before : After-inflight) → (given : s26 (before .before .before .before .before .before .before .before .before .before
-          .before .blocks) .gives (m18 (before .before) (before .inflight .given))) → Typed.Mo T28
-      m19 = λ before given. s26 (before .before .before .before .before .before .before .before .before .before .before .blocks) .next (m18 (before
-          .before) (before .inflight .given)) given
+
+      abbrev pub m19 : (before : After-inflight) → (given : s26 (before .before .before .before .before .before .before
+          .before .before .before .before .blocks) .gives (m18 (before .before) (before .inflight .given))) → Typed.Mo
+          T28
+      m19 = λ before given. s26 (before .before .before .before .before .before .before .before .before .before .before
+          .blocks) .next (m18 (before .before) (before .inflight .given)) given
+
       module _ (before· : After-inflight) where
         pub record After-out·own : Type 0 where
-          pub given : s26 (before· .before .before .before .before .before .before .before .before .before .before .blocks) .gives (m18 (before·
-              .before) (before· .inflight .given))
+          pub given : s26 (before· .before .before .before .before .before .before .before .before .before .before
+              .blocks) .gives (m18 (before· .before) (before· .inflight .given))
+
       pub record After-out : Type 0 where
         pub before : After-inflight
         pub out : After-out·own before
-      abbrev pub m20 : (before : After-out) → (given : s27 (before .before .before .before .before .before .before .before .before .before .before
-          .before .blocks) .gives (m19 (before .before) (before .out .given))) → Typed.Mo T29
-      m20 = λ before given. s27 (before .before .before .before .before .before .before .before .before .before .before .before .blocks) .next (m19
-          (before .before) (before .out .given)) given
+
+      abbrev pub m20 : (before : After-out) → (given : s27 (before .before .before .before .before .before .before
+          .before .before .before .before .before .blocks) .gives (m19 (before .before) (before .out .given))) →
+          Typed.Mo T29
+      m20 = λ before given. s27 (before .before .before .before .before .before .before .before .before .before .before
+          .before .blocks) .next (m19 (before .before) (before .out .given)) given
+
       module _ (before· : After-out) where
         pub record After-slice-known2·own : Type 0 where
-          pub given : s27 (before· .before .before .before .before .before .before .before .before .before .before .before .blocks) .gives (m19
-              (before· .before) (before· .out .given))
+          pub given : s27 (before· .before .before .before .before .before .before .before .before .before .before
+              .before .blocks) .gives (m19 (before· .before) (before· .out .given))
+
       pub record After-slice-known2 : Type 0 where
         pub before : After-out
         pub slice-known2 : After-slice-known2·own before
-      abbrev pub m21 : (before : After-slice-known2) → (given : s30 (before .before .before .before .before .before .before .before .before .before
-          .before .before .before .blocks) .gives (m20 (before .before) (before .slice-known2 .given))) → Typed.Mo T32
-      m21 = λ before given. s30 (before .before .before .before .before .before .before .before .before .before .before .before .before .blocks) .next
-          (m20 (before .before) (before .slice-known2 .given)) given
-      abbrev pub m22 : (before : After-slice-known2) → (given : s30 (before .before .before .before .before .before .before .before .before .before
-          .before .before .before .blocks) .gives (m20 (before .before) (before .slice-known2 .given))) → Typed.Mo T33
-      m22 = λ before given. s31 (before .before .before .before .before .before .before .before .before .before .before .before .before .blocks) .next
-          (m21 before given)
+
+      abbrev pub m21 : (before : After-slice-known2) → (given : s30 (before .before .before .before .before .before
+          .before .before .before .before .before .before .before .blocks) .gives
+          (m20 (before .before) (before .slice-known2 .given))) → Typed.Mo T32
+      m21 = λ before given. s30 (before .before .before .before .before .before .before .before .before .before .before
+          .before .before .blocks) .next (m20 (before .before) (before .slice-known2 .given)) given
+
+      abbrev pub m22 : (before : After-slice-known2) → (given : s30 (before .before .before .before .before .before
+          .before .before .before .before .before .before .before .blocks) .gives
+          (m20 (before .before) (before .slice-known2 .given))) → Typed.Mo T33
+      m22 = λ before given. s31 (before .before .before .before .before .before .before .before .before .before .before
+          .before .before .blocks) .next (m21 before given)
+
       module _ (before· : After-slice-known2) where
         pub record After-walk-circuits-arg·own : Type 0 where
-          pub given : s30 (before· .before .before .before .before .before .before .before .before .before .before .before .before .blocks) .gives
-              (m20 (before· .before) (before· .slice-known2 .given))
+          pub given : s30 (before· .before .before .before .before .before .before .before .before .before .before
+              .before .before .blocks) .gives (m20 (before· .before) (before· .slice-known2 .given))
+
       pub record After-walk-circuits-arg : Type 0 where
         pub before : After-slice-known2
         pub walk-circuits-arg : After-walk-circuits-arg·own before
-      abbrev pub m23 : (before : After-walk-circuits-arg) → (given : s33 (before .before .before .before .before .before .before .before .before
-          .before .before .before .before .before .blocks) .gives (m22 (before .before) (before .walk-circuits-arg .given))) → Typed.Mo T35
-      m23 = λ before given. s33 (before .before .before .before .before .before .before .before .before .before .before .before .before .before
-          .blocks) .next (m22 (before .before) (before .walk-circuits-arg .given)) given
-      abbrev pub m24 : (before : After-walk-circuits-arg) → (given : s33 (before .before .before .before .before .before .before .before .before
-          .before .before .before .before .before .blocks) .gives (m22 (before .before) (before .walk-circuits-arg .given))) → Typed.Mo T36
-      m24 = λ before given. s34 (before .before .before .before .before .before .before .before .before .before .before .before .before .before
-          .blocks) .next (m23 before given)
+
+      abbrev pub m23 : (before : After-walk-circuits-arg) → (given : s33 (before .before .before .before .before
+          .before .before .before .before .before .before .before .before .before .blocks) .gives
+          (m22 (before .before) (before .walk-circuits-arg .given))) → Typed.Mo T35
+      m23 = λ before given. s33 (before .before .before .before .before .before .before .before .before .before .before
+          .before .before .before .blocks) .next (m22 (before .before) (before .walk-circuits-arg .given)) given
+
+      abbrev pub m24 : (before : After-walk-circuits-arg) → (given : s33 (before .before .before .before .before
+          .before .before .before .before .before .before .before .before .before .blocks) .gives
+          (m22 (before .before) (before .walk-circuits-arg .given))) → Typed.Mo T36
+      m24 = λ before given. s34 (before .before .before .before .before .before .before .before .before .before .before
+          .before .before .before .blocks) .next (m23 before given)
+
       module _ (before· : After-walk-circuits-arg) where
         pub record After-walk-circuits-arg2·own : Type 0 where
-          pub given : s33 (before· .before .before .before .before .before .before .before .before .before .before .before .before .before .blocks)
-              .gives (m22 (before· .before) (before· .walk-circuits-arg .given))
+          pub given : s33 (before· .before .before .before .before .before .before .before .before .before .before
+              .before .before .before .blocks) .gives (m22 (before· .before) (before· .walk-circuits-arg .given))
+
       pub record After-walk-circuits-arg2 : Type 0 where
         pub before : After-walk-circuits-arg
         pub walk-circuits-arg2 : After-walk-circuits-arg2·own before
-      abbrev pub m25 : (before : After-walk-circuits-arg2) → (given : s36 (before .before .before .before .before .before .before .before .before
-          .before .before .before .before .before .before .blocks) .gives (m24 (before .before) (before .walk-circuits-arg2 .given))) → Typed.Mo T38
-      m25 = λ before given. s36 (before .before .before .before .before .before .before .before .before .before .before .before .before .before
-          .before .blocks) .next (m24 (before .before) (before .walk-circuits-arg2 .given)) given
-      abbrev pub m26 : (before : After-walk-circuits-arg2) → (given : s36 (before .before .before .before .before .before .before .before .before
-          .before .before .before .before .before .before .blocks) .gives (m24 (before .before) (before .walk-circuits-arg2 .given))) → Typed.Mo T39
-      m26 = λ before given. s37 (before .before .before .before .before .before .before .before .before .before .before .before .before .before
-          .before .blocks) .next (m25 before given)
+
+      abbrev pub m25 : (before : After-walk-circuits-arg2) → (given : s36 (before .before .before .before .before
+          .before .before .before .before .before .before .before .before .before .before .blocks) .gives
+          (m24 (before .before) (before .walk-circuits-arg2 .given))) → Typed.Mo T38
+      m25 = λ before given. s36 (before .before .before .before .before .before .before .before .before .before .before
+          .before .before .before .before .blocks) .next (m24 (before .before) (before .walk-circuits-arg2 .given))
+          given
+
+      abbrev pub m26 : (before : After-walk-circuits-arg2) → (given : s36 (before .before .before .before .before
+          .before .before .before .before .before .before .before .before .before .before .blocks) .gives
+          (m24 (before .before) (before .walk-circuits-arg2 .given))) → Typed.Mo T39
+      m26 = λ before given. s37 (before .before .before .before .before .before .before .before .before .before .before
+          .before .before .before .before .blocks) .next (m25 before given)
+
       module _ (before· : After-walk-circuits-arg2) where
         pub record After-walk-circuits-arg3·own : Type 0 where
-          pub given : s36 (before· .before .before .before .before .before .before .before .before .before .before .before .before .before .before
-              .blocks) .gives (m24 (before· .before) (before· .walk-circuits-arg2 .given))
+          pub given : s36 (before· .before .before .before .before .before .before .before .before .before .before
+              .before .before .before .before .blocks) .gives (m24 (before· .before)
+              (before· .walk-circuits-arg2 .given))
+
       pub record After-walk-circuits-arg3 : Type 0 where
         pub before : After-walk-circuits-arg2
         pub walk-circuits-arg3 : After-walk-circuits-arg3·own before
+
       abbrev pub Need-walk-circuits-requires : Type 0
-      Need-walk-circuits-requires = (c : After-walk-circuits-arg3) → s38 (c .before .before .before .before .before .before .before .before .before
-          .before .before .before .before .before .before .blocks) .asks (m26 (c .before) (c .walk-circuits-arg3 .given))
-      abbrev pub m27 : (before : After-walk-circuits-arg3) → (given : s38 (before .before .before .before .before .before .before .before .before
-          .before .before .before .before .before .before .before .blocks) .gives (m26 (before .before) (before .walk-circuits-arg3 .given))) →
-          Typed.Mo T40
-      m27 = λ before given. s38 (before .before .before .before .before .before .before .before .before .before .before .before .before .before
-          .before .before .blocks) .next (m26 (before .before) (before .walk-circuits-arg3 .given)) given
+      Need-walk-circuits-requires = (c : After-walk-circuits-arg3) → s38 (c .before .before .before .before .before
+          .before .before .before .before .before .before .before .before .before .before .blocks) .asks
+          (m26 (c .before) (c .walk-circuits-arg3 .given))
+
+      abbrev pub m27 : (before : After-walk-circuits-arg3) → (given : s38 (before .before .before .before .before
+          .before .before .before .before .before .before .before .before .before .before .before .blocks) .gives
+          (m26 (before .before) (before .walk-circuits-arg3 .given))) → Typed.Mo T40
+      m27 = λ before given. s38 (before .before .before .before .before .before .before .before .before .before .before
+          .before .before .before .before .before .blocks) .next
+          (m26 (before .before) (before .walk-circuits-arg3 .given)) given
+
       module _ (before· : After-walk-circuits-arg3) where
         abbrev pub After-walk-circuits·own : Type 0
-        After-walk-circuits·own = Called.Called ps·2 r·2 (claims· .5) T39 (record { pos = 21; ty = Syntax.tyRef Syntax.erased Syntax.mut
-            RelayCircuit.to; ref = λ x. x; }, (record { pos = 23; ty = Syntax.tyRef Syntax.erased Syntax.mut InflightAction.to; ref = λ x. x; },
-            (record { pos = 25; ty = Syntax.tyRef Syntax.erased Syntax.mut (Syntax.tyInt Syntax.w32); ref = λ x. x; }, (record { pos = 12; st =
-            List.[]; d = 0; at = λ x. x }, (record { pos = 7; st = List.[]; d = 0; at = λ x. x }, (record { pos = 11; st = List.[]; d = 0; at = λ x. x
-            }, tt),),),),),) (m26 (before· .before) (before· .walk-circuits-arg3 .given))
+        After-walk-circuits·own = Called.Called ps·2 r·2 (claims· .5) T39 (
+          record { pos = 21; ty = ref3; ref = λ x. x },
+          (
+            record { pos = 23; ty = ref1; ref = λ x. x },
+            (
+              record { pos = 25; ty = ref2; ref = λ x. x },
+              (
+                record { pos = 12; st = List.[]; d = 0; at = λ x. x },
+                (
+                  record { pos = 7; st = List.[]; d = 0; at = λ x. x },
+                  (record { pos = 11; st = List.[]; d = 0; at = λ x. x }, tt),
+                ),
+              ),
+            ),
+          ),
+        ) (m26 (before· .before) (before· .walk-circuits-arg3 .given))
+
       pub record After-walk-circuits : Type 0 where
         pub before : After-walk-circuits-arg3
         pub walk-circuits : After-walk-circuits·own before
-      abbrev pub After-walk-circuits·gave : (c : After-walk-circuits) → s38 (c .before .before .before .before .before .before .before .before .before
-          .before .before .before .before .before .before .before .blocks) .gives (m26 (c .before .before) (c .before .walk-circuits-arg3 .given))
-      After-walk-circuits·gave = λ c. Called.given ps·2 r·2 (claims· .5) T39 (record { pos = 21; ty = Syntax.tyRef Syntax.erased Syntax.mut
-          RelayCircuit.to; ref = λ x. x; }, (record { pos = 23; ty = Syntax.tyRef Syntax.erased Syntax.mut InflightAction.to; ref = λ x. x; }, (record
-          { pos = 25; ty = Syntax.tyRef Syntax.erased Syntax.mut (Syntax.tyInt Syntax.w32); ref = λ x. x; }, (record { pos = 12; st = List.[]; d = 0;
-          at = λ x. x }, (record { pos = 7; st = List.[]; d = 0; at = λ x. x }, (record { pos = 11; st = List.[]; d = 0; at = λ x. x }, tt),),),),),)
-          (m26 (c .before .before) (c .before .walk-circuits-arg3 .given)) (c .walk-circuits)
-      abbrev pub m28 : (before : After-walk-circuits-arg3) → (given : s38 (before .before .before .before .before .before .before .before .before
-          .before .before .before .before .before .before .before .blocks) .gives (m26 (before .before) (before .walk-circuits-arg3 .given))) →
-          Typed.Mo T41
-      m28 = λ before given. s39 (before .before .before .before .before .before .before .before .before .before .before .before .before .before
-          .before .before .blocks) (m27 before given)
-      abbrev pub m29 : (before : After-walk-circuits-arg3) → (given : s38 (before .before .before .before .before .before .before .before .before
-          .before .before .before .before .before .before .before .blocks) .gives (m26 (before .before) (before .walk-circuits-arg3 .given))) →
-          Typed.Mo T42
-      m29 = λ before given. s40 (before .before .before .before .before .before .before .before .before .before .before .before .before .before
-          .before .before .blocks) (m28 before given)
-      abbrev pub m30 : (before : After-walk-circuits-arg3) → (given : s38 (before .before .before .before .before .before .before .before .before
-          .before .before .before .before .before .before .before .blocks) .gives (m26 (before .before) (before .walk-circuits-arg3 .given))) →
-          Typed.Mo T43
-      m30 = λ before given. s41 (before .before .before .before .before .before .before .before .before .before .before .before .before .before
-          .before .before .blocks) (m29 before given)
-      abbrev pub m31 : (before : After-walk-circuits) → (given : s43 (before .before .before .before .before .before .before .before .before .before
-          .before .before .before .before .before .before .before .blocks) .gives (m30 (before .before) (After-walk-circuits·gave before))) → Typed.Mo
-          T45
-      m31 = λ before given. s43 (before .before .before .before .before .before .before .before .before .before .before .before .before .before
-          .before .before .before .blocks) .next (m30 (before .before) (After-walk-circuits·gave before)) given
+
+      abbrev pub After-walk-circuits·gave : (c : After-walk-circuits) → s38 (c .before .before .before .before .before
+          .before .before .before .before .before .before .before .before .before .before .before .blocks) .gives (m26
+          (c .before .before) (c .before .walk-circuits-arg3 .given))
+      After-walk-circuits·gave = λ c. Called.given ps·2 r·2 (claims· .5) T39 (
+        record { pos = 21; ty = ref3; ref = λ x. x },
+        (
+          record { pos = 23; ty = ref1; ref = λ x. x },
+          (
+            record { pos = 25; ty = ref2; ref = λ x. x },
+            (
+              record { pos = 12; st = List.[]; d = 0; at = λ x. x },
+              (
+                record { pos = 7; st = List.[]; d = 0; at = λ x. x },
+                (record { pos = 11; st = List.[]; d = 0; at = λ x. x }, tt),
+              ),
+            ),
+          ),
+        ),
+      ) (m26 (c .before .before) (c .before .walk-circuits-arg3 .given)) (c .walk-circuits)
+
+      abbrev pub m28 : (before : After-walk-circuits-arg3) → (given : s38 (before .before .before .before .before
+          .before .before .before .before .before .before .before .before .before .before .before .blocks) .gives
+          (m26 (before .before) (before .walk-circuits-arg3 .given))) → Typed.Mo T41
+      m28 = λ before given. s39 (before .before .before .before .before .before .before .before .before .before .before
+          .before .before .before .before .before .blocks) (m27 before given)
+
+      abbrev pub m29 : (before : After-walk-circuits-arg3) → (given : s38 (before .before .before .before .before
+          .before .before .before .before .before .before .before .before .before .before .before .blocks) .gives
+          (m26 (before .before) (before .walk-circuits-arg3 .given))) → Typed.Mo T42
+      m29 = λ before given. s40 (before .before .before .before .before .before .before .before .before .before .before
+          .before .before .before .before .before .blocks) (m28 before given)
+
+      abbrev pub m30 : (before : After-walk-circuits-arg3) → (given : s38 (before .before .before .before .before
+          .before .before .before .before .before .before .before .before .before .before .before .blocks) .gives
+          (m26 (before .before) (before .walk-circuits-arg3 .given))) → Typed.Mo T43
+      m30 = λ before given. s41 (before .before .before .before .before .before .before .before .before .before .before
+          .before .before .before .before .before .blocks) (m29 before given)
+
+      abbrev pub m31 : (before : After-walk-circuits) → (given : s43 (before .before .before .before .before .before
+          .before .before .before .before .before .before .before .before .before .before .before .blocks) .gives
+          (m30 (before .before) (After-walk-circuits·gave before))) → Typed.Mo T45
+      m31 = λ before given. s43 (before .before .before .before .before .before .before .before .before .before .before
+          .before .before .before .before .before .before .blocks) .next
+          (m30 (before .before) (After-walk-circuits·gave before)) given
+
       module _ (before· : After-walk-circuits) where
         pub record After-circuits·own : Type 0 where
-          pub given : s43 (before· .before .before .before .before .before .before .before .before .before .before .before .before .before .before
-              .before .before .blocks) .gives (m30 (before· .before) (After-walk-circuits·gave before·))
+          pub given : s43 (before· .before .before .before .before .before .before .before .before .before .before
+              .before .before .before .before .before .before .blocks) .gives
+              (m30 (before· .before) (After-walk-circuits·gave before·))
+
       pub record After-circuits : Type 0 where
         pub before : After-walk-circuits
         pub circuits : After-circuits·own before
-      abbrev pub m32 : (before : After-circuits) → (given : s46 (before .before .before .before .before .before .before .before .before .before
-          .before .before .before .before .before .before .before .before .blocks) .gives (m31 (before .before) (before .circuits .given))) → Typed.Mo
-          T48
-      m32 = λ before given. s46 (before .before .before .before .before .before .before .before .before .before .before .before .before .before
-          .before .before .before .before .blocks) .next (m31 (before .before) (before .circuits .given)) given
+
+      abbrev pub m32 : (before : After-circuits) → (given : s46 (before .before .before .before .before .before .before
+          .before .before .before .before .before .before .before .before .before .before .before .blocks) .gives
+          (m31 (before .before) (before .circuits .given))) → Typed.Mo T48
+      m32 = λ before given. s46 (before .before .before .before .before .before .before .before .before .before .before
+          .before .before .before .before .before .before .before .blocks) .next
+          (m31 (before .before) (before .circuits .given)) given
+
       module _ (before· : After-circuits) where
         pub record After-inflight2·own : Type 0 where
-          pub given : s46 (before· .before .before .before .before .before .before .before .before .before .before .before .before .before .before
-              .before .before .before .blocks) .gives (m31 (before· .before) (before· .circuits .given))
+          pub given : s46 (before· .before .before .before .before .before .before .before .before .before .before
+              .before .before .before .before .before .before .before .blocks) .gives
+              (m31 (before· .before) (before· .circuits .given))
+
       pub record After-inflight2 : Type 0 where
         pub before : After-circuits
         pub inflight2 : After-inflight2·own before
-      abbrev pub m33 : (before : After-inflight2) → (given : s49 (before .before .before .before .before .before .before .before .before .before
-          .before .before .before .before .before .before .before .before .before .blocks) .gives (m32 (before .before) (before .inflight2 .given))) →
-          Typed.Mo T51
-      m33 = λ before given. s49 (before .before .before .before .before .before .before .before .before .before .before .before .before .before
-          .before .before .before .before .before .blocks) .next (m32 (before .before) (before .inflight2 .given)) given
+
+      abbrev pub m33 : (before : After-inflight2) → (given : s49 (before .before .before .before .before .before
+          .before .before .before .before .before .before .before .before .before .before .before .before .before
+          .blocks) .gives (m32 (before .before) (before .inflight2 .given))) → Typed.Mo T51
+      m33 = λ before given. s49 (before .before .before .before .before .before .before .before .before .before .before
+          .before .before .before .before .before .before .before .before .blocks) .next
+          (m32 (before .before) (before .inflight2 .given)) given
+
       module _ (before· : After-inflight2) where
         pub record After-out2·own : Type 0 where
-          pub given : s49 (before· .before .before .before .before .before .before .before .before .before .before .before .before .before .before
-              .before .before .before .before .blocks) .gives (m32 (before· .before) (before· .inflight2 .given))
+          pub given : s49 (before· .before .before .before .before .before .before .before .before .before .before
+              .before .before .before .before .before .before .before .before .blocks) .gives
+              (m32 (before· .before) (before· .inflight2 .given))
+
       pub record After-out2 : Type 0 where
         pub before : After-inflight2
         pub out2 : After-out2·own before
-      abbrev pub m34 : (before : After-out2) → (given : s50 (before .before .before .before .before .before .before .before .before .before .before
-          .before .before .before .before .before .before .before .before .before .blocks) .gives (m33 (before .before) (before .out2 .given))) →
-          Typed.Mo T52
-      m34 = λ before given. s50 (before .before .before .before .before .before .before .before .before .before .before .before .before .before
-          .before .before .before .before .before .before .blocks) .next (m33 (before .before) (before .out2 .given)) given
+
+      abbrev pub m34 : (before : After-out2) → (given : s50 (before .before .before .before .before .before .before
+          .before .before .before .before .before .before .before .before .before .before .before .before .before
+          .blocks) .gives (m33 (before .before) (before .out2 .given))) → Typed.Mo T52
+      m34 = λ before given. s50 (before .before .before .before .before .before .before .before .before .before .before
+          .before .before .before .before .before .before .before .before .before .blocks) .next
+          (m33 (before .before) (before .out2 .given)) given
+
       module _ (before· : After-out2) where
         pub record After-slice-known3·own : Type 0 where
-          pub given : s50 (before· .before .before .before .before .before .before .before .before .before .before .before .before .before .before
-              .before .before .before .before .before .blocks) .gives (m33 (before· .before) (before· .out2 .given))
+          pub given : s50 (before· .before .before .before .before .before .before .before .before .before .before
+              .before .before .before .before .before .before .before .before .before .blocks) .gives
+              (m33 (before· .before) (before· .out2 .given))
+
       pub record After-slice-known3 : Type 0 where
         pub before : After-out2
         pub slice-known3 : After-slice-known3·own before
+
       abbrev pub Need-finished-requires : Type 0
-      Need-finished-requires = (c : After-slice-known3) → s52 (c .before .before .before .before .before .before .before .before .before .before
-          .before .before .before .before .before .before .before .before .before .before .blocks) .asks (m34 (c .before) (c .slice-known3 .given))
-      abbrev pub m35 : (before : After-slice-known3) → (given : s52 (before .before .before .before .before .before .before .before .before .before
-          .before .before .before .before .before .before .before .before .before .before .before .blocks) .gives (m34 (before .before) (before
-          .slice-known3 .given))) → Typed.Mo T54
-      m35 = λ before given. s52 (before .before .before .before .before .before .before .before .before .before .before .before .before .before
-          .before .before .before .before .before .before .before .blocks) .next (m34 (before .before) (before .slice-known3 .given)) given
+      Need-finished-requires = (c : After-slice-known3) → s52 (c .before .before .before .before .before .before
+          .before .before .before .before .before .before .before .before .before .before .before .before .before
+          .before .blocks) .asks (m34 (c .before) (c .slice-known3 .given))
+
+      abbrev pub m35 : (before : After-slice-known3) → (given : s52 (before .before .before .before .before .before
+          .before .before .before .before .before .before .before .before .before .before .before .before .before
+          .before .before .blocks) .gives (m34 (before .before) (before .slice-known3 .given))) → Typed.Mo T54
+      m35 = λ before given. s52 (before .before .before .before .before .before .before .before .before .before .before
+          .before .before .before .before .before .before .before .before .before .before .blocks) .next
+          (m34 (before .before) (before .slice-known3 .given)) given
+
       module _ (before· : After-slice-known3) where
         abbrev pub After-finished·own : Type 0
-        After-finished·own = Called.Called ps·3 r·3 (claims· .7) T52 (record { pos = 13; st = List.[]; d = 0; at = λ x. x }, tt,) (m34 (before·
-            .before) (before· .slice-known3 .given))
+        After-finished·own = Called.Called ps·3 r·3 (claims· .7) T52
+            (record { pos = 13; st = List.[]; d = 0; at = λ x. x }, tt)
+            (m34 (before· .before) (before· .slice-known3 .given))
+
       pub record After-finished : Type 0 where
         pub before : After-slice-known3
         pub finished : After-finished·own before
-      abbrev pub After-finished·gave : (c : After-finished) → s52 (c .before .before .before .before .before .before .before .before .before .before
-          .before .before .before .before .before .before .before .before .before .before .before .blocks) .gives (m34 (c .before .before) (c .before
-          .slice-known3 .given))
-      After-finished·gave = λ c. Called.given ps·3 r·3 (claims· .7) T52 (record { pos = 13; st = List.[]; d = 0; at = λ x. x }, tt,) (m34 (c .before
-          .before) (c .before .slice-known3 .given)) (c .finished)
-      abbrev pub m36 : (before : After-slice-known3) → (given : s52 (before .before .before .before .before .before .before .before .before .before
-          .before .before .before .before .before .before .before .before .before .before .before .blocks) .gives (m34 (before .before) (before
-          .slice-known3 .given))) → Typed.Mo T55
-      m36 = λ before given. s53 (before .before .before .before .before .before .before .before .before .before .before .before .before .before
-          .before .before .before .before .before .before .before .blocks) (m35 before given)
+
+      abbrev pub After-finished·gave : (c : After-finished) → s52 (c .before .before .before .before .before .before
+          .before .before .before .before .before .before .before .before .before .before .before .before .before
+          .before .before .blocks) .gives (m34 (c .before .before) (c .before .slice-known3 .given))
+      After-finished·gave = λ c. Called.given ps·3 r·3 (claims· .7) T52
+          (record { pos = 13; st = List.[]; d = 0; at = λ x. x }, tt)
+          (m34 (c .before .before) (c .before .slice-known3 .given)) (c .finished)
+
+      abbrev pub m36 : (before : After-slice-known3) → (given : s52 (before .before .before .before .before .before
+          .before .before .before .before .before .before .before .before .before .before .before .before .before
+          .before .before .blocks) .gives (m34 (before .before) (before .slice-known3 .given))) → Typed.Mo T55
+      m36 = λ before given. s53 (before .before .before .before .before .before .before .before .before .before .before
+          .before .before .before .before .before .before .before .before .before .before .blocks) (m35 before given)
+
       abbrev pub Need-same-length : Type 0
-      Need-same-length = (c : After-finished) → MutSlice.SameLen (Row.get 1 (T55 .locals) (m36 (c .before) (After-finished·gave c))) (dens (c .before
-          .before .before .before .before .before .before .before .before .before .before .before .before .before .before .before .before .before
-          .before .before .before .κs) (c .before .before .before .before .before .before .before .before .before .before .before .before .before
-          .before .before .before .before .before .before .before .before .args) .0)
+      Need-same-length = (c : After-finished) → MutSlice.SameLen (Row.get 1 (T55 .locals)
+          (m36 (c .before) (After-finished·gave c))) (dens (c .before .before .before .before .before .before .before
+          .before .before .before .before .before .before .before .before .before .before .before .before .before
+          .before .κs) (c .before .before .before .before .before .before .before .before .before .before .before
+          .before .before .before .before .before .before .before .before .before .before .args) .0)
+
       abbrev pub Need-same-length-2 : Type 0
-      Need-same-length-2 = (c : After-finished) → MutSlice.SameLen (Row.get 2 (T55 .locals) (m36 (c .before) (After-finished·gave c))) (dens (c
-          .before .before .before .before .before .before .before .before .before .before .before .before .before .before .before .before .before
-          .before .before .before .before .κs) (c .before .before .before .before .before .before .before .before .before .before .before .before
-          .before .before .before .before .before .before .before .before .before .args) .1 .0)
+      Need-same-length-2 = (c : After-finished) → MutSlice.SameLen (Row.get 2 (T55 .locals)
+          (m36 (c .before) (After-finished·gave c))) (dens (c .before .before .before .before .before .before .before
+          .before .before .before .before .before .before .before .before .before .before .before .before .before
+          .before .κs) (c .before .before .before .before .before .before .before .before .before .before .before
+          .before .before .before .before .before .before .before .before .before .before .args) .1 .0)
+
       abbrev pub Need-same-length-3 : Type 0
-      Need-same-length-3 = (c : After-finished) → MutSlice.SameLen (Row.get 3 (T55 .locals) (m36 (c .before) (After-finished·gave c))) (dens (c
-          .before .before .before .before .before .before .before .before .before .before .before .before .before .before .before .before .before
-          .before .before .before .before .κs) (c .before .before .before .before .before .before .before .before .before .before .before .before
-          .before .before .before .before .before .before .before .before .before .args) .1 .1 .0)
+      Need-same-length-3 = (c : After-finished) → MutSlice.SameLen (Row.get 3 (T55 .locals)
+          (m36 (c .before) (After-finished·gave c))) (dens (c .before .before .before .before .before .before .before
+          .before .before .before .before .before .before .before .before .before .before .before .before .before
+          .before .κs) (c .before .before .before .before .before .before .before .before .before .before .before
+          .before .before .before .before .before .before .before .before .before .before .args) .1 .1 .0)
+
       abbrev pub Need-same-length-4 : Type 0
-      Need-same-length-4 = (c : After-finished) → MutSlice.SameLen (Row.get 4 (T55 .locals) (m36 (c .before) (After-finished·gave c))) (dens (c
-          .before .before .before .before .before .before .before .before .before .before .before .before .before .before .before .before .before
-          .before .before .before .before .κs) (c .before .before .before .before .before .before .before .before .before .before .before .before
-          .before .before .before .before .before .before .before .before .before .args) .1 .1 .1 .0)
+      Need-same-length-4 = (c : After-finished) → MutSlice.SameLen (Row.get 4 (T55 .locals)
+          (m36 (c .before) (After-finished·gave c))) (dens (c .before .before .before .before .before .before .before
+          .before .before .before .before .before .before .before .before .before .before .before .before .before
+          .before .κs) (c .before .before .before .before .before .before .before .before .before .before .before
+          .before .before .before .before .before .before .before .before .before .before .args) .1 .1 .1 .0)
+
       abbrev pub Need-returns : Type 0
-      Need-returns = (c : After-finished) → Post· (c .before .before .before .before .before .before .before .before .before .before .before .before
-          .before .before .before .before .before .before .before .before .before .κs) (dens (c .before .before .before .before .before .before
-          .before .before .before .before .before .before .before .before .before .before .before .before .before .before .before .κs) (c .before
-          .before .before .before .before .before .before .before .before .before .before .before .before .before .before .before .before .before
-          .before .before .before .args)) (Function.resV r (c .before .before .before .before .before .before .before .before .before .before .before
-          .before .before .before .before .before .before .before .before .before .before .κs) (m36 (c .before) (After-finished·gave c) .0))
-          (Clauses.atExit (Kinds.endedOf 4 ps r) (c .before .before .before .before .before .before .before .before .before .before .before .before
-          .before .before .before .before .before .before .before .before .before .κs) (dens (c .before .before .before .before .before .before
-          .before .before .before .before .before .before .before .before .before .before .before .before .before .before .before .κs) (c .before
-          .before .before .before .before .before .before .before .before .before .before .before .before .before .before .before .before .before
-          .before .before .before .args)) (Enter.lastsP (c .before .before .before .before .before .before .before .before .before .before .before
-          .before .before .before .before .before .before .before .before .before .before .κs) 1 ps xs (dens (c .before .before .before .before
-          .before .before .before .before .before .before .before .before .before .before .before .before .before .before .before .before .before .κs)
-          (c .before .before .before .before .before .before .before .before .before .before .before .before .before .before .before .before .before
+      Need-returns = (c : After-finished) → Post· (c .before .before .before .before .before .before .before .before
+          .before .before .before .before .before .before .before .before .before .before .before .before .before .κs) (dens (c
+          .before .before .before .before .before .before .before .before .before .before .before .before .before
+          .before .before .before .before .before .before .before .before .κs) (c .before .before .before .before
+          .before .before .before .before .before .before .before .before .before .before .before .before .before
+          .before .before .before .before .args)) (Function.resV r (c .before .before .before .before .before .before
+          .before .before .before .before .before .before .before .before .before .before .before .before .before
+          .before .before .κs) (m36 (c .before) (After-finished·gave c) .0)) (Clauses.atExit (Kinds.endedOf 4 ps r) (c
+          .before .before .before .before .before .before .before .before .before .before .before .before .before
+          .before .before .before .before .before .before .before .before .κs) (dens (c .before .before .before .before
+          .before .before .before .before .before .before .before .before .before .before .before .before .before
+          .before .before .before .before .κs) (c .before .before .before .before .before .before .before .before
+          .before .before .before .before .before .before .before .before .before .before .before .before .before
+          .args)) (Enter.lastsP (c .before .before .before .before .before .before .before .before .before .before
+          .before .before .before .before .before .before .before .before .before .before .before .κs) 1 ps xs (dens (c
+          .before .before .before .before .before .before .before .before .before .before .before .before .before
+          .before .before .before .before .before .before .before .before .κs) (c .before .before .before .before
+          .before .before .before .before .before .before .before .before .before .before .before .before .before
           .before .before .before .before .args)) (m36 (c .before) (After-finished·gave c) .1)))
-      module _ (started-requires : Need-started-requires) (walk-pending-requires : Need-walk-pending-requires) (walk-circuits-requires :
-          Need-walk-circuits-requires) (finished-requires : Need-finished-requires) (same-length : Need-same-length) (same-length-2 :
-          Need-same-length-2) (same-length-3 : Need-same-length-3) (same-length-4 : Need-same-length-4) (returns : Need-returns) where
-        lay4 : (c : After-finished) → at1 (c .before .before .before .before .before .before .before .before .before .before .before .before .before
-            .before .before .before .before .before .before .before .before .blocks) (W0 (c .before .before .before .before .before .before .before
-            .before .before .before .before .before .before .before .before .before .before .before .before .before .before .κs) (c .before .before
-            .before .before .before .before .before .before .before .before .before .before .before .before .before .before .before .before .before
-            .before .before .args) (c .before .before .before .before .before .before .before .before .before .before .before .before .before .before
-            .before .before .before .before .before .before .before .blocks)) (m35 (c .before) (After-finished·gave c))
-        lay4 = λ c. ((MutSlice.fix-len (Row.get 1 (T55 .locals) (m36 (c .before) (After-finished·gave c)) .ptr) (Row.get 1 (T55 .locals) (m36 (c
-            .before) (After-finished·gave c)) .name) (Row.get 1 (T55 .locals) (m36 (c .before) (After-finished·gave c)) .now) (dens (c .before .before
-            .before .before .before .before .before .before .before .before .before .before .before .before .before .before .before .before .before
-            .before .before .κs) (c .before .before .before .before .before .before .before .before .before .before .before .before .before .before
-            .before .before .before .before .before .before .before .args) .0 .now) (same-length record { before = c .before; finished = c .finished
-            }), (MutSlice.fix-len (Row.get 2 (T55 .locals) (m36 (c .before) (After-finished·gave c)) .ptr) (Row.get 2 (T55 .locals) (m36 (c .before)
-            (After-finished·gave c)) .name) (Row.get 2 (T55 .locals) (m36 (c .before) (After-finished·gave c)) .now) (dens (c .before .before .before
-            .before .before .before .before .before .before .before .before .before .before .before .before .before .before .before .before .before
-            .before .κs) (c .before .before .before .before .before .before .before .before .before .before .before .before .before .before .before
-            .before .before .before .before .before .before .args) .1 .0 .now) (same-length-2 record { before = c .before; finished = c .finished }),
-            (MutSlice.fix-len (Row.get 3 (T55 .locals) (m36 (c .before) (After-finished·gave c)) .ptr) (Row.get 3 (T55 .locals) (m36 (c .before)
-            (After-finished·gave c)) .name) (Row.get 3 (T55 .locals) (m36 (c .before) (After-finished·gave c)) .now) (dens (c .before .before .before
-            .before .before .before .before .before .before .before .before .before .before .before .before .before .before .before .before .before
-            .before .κs) (c .before .before .before .before .before .before .before .before .before .before .before .before .before .before .before
-            .before .before .before .before .before .before .args) .1 .1 .0 .now) (same-length-3 record { before = c .before; finished = c .finished
-            }), (MutSlice.fix-len (Row.get 4 (T55 .locals) (m36 (c .before) (After-finished·gave c)) .ptr) (Row.get 4 (T55 .locals) (m36 (c .before)
-            (After-finished·gave c)) .name) (Row.get 4 (T55 .locals) (m36 (c .before) (After-finished·gave c)) .now) (dens (c .before .before .before
-            .before .before .before .before .before .before .before .before .before .before .before .before .before .before .before .before .before
-            .before .κs) (c .before .before .before .before .before .before .before .before .before .before .before .before .before .before .before
-            .before .before .before .before .before .before .args) .1 .1 .1 .0 .now) (same-length-4 record { before = c .before; finished = c
-            .finished }), (tt, (tt, (tt, (tt, tt)))),),),),), returns record { before = c .before; finished = c .finished },)
-        lay3 : (c : After-walk-circuits) → at15 (c .before .before .before .before .before .before .before .before .before .before .before .before
-            .before .before .before .before .blocks) (W0 (c .before .before .before .before .before .before .before .before .before .before .before
-            .before .before .before .before .before .κs) (c .before .before .before .before .before .before .before .before .before .before .before
-            .before .before .before .before .before .args) (c .before .before .before .before .before .before .before .before .before .before .before
-            .before .before .before .before .before .blocks)) (m27 (c .before) (After-walk-circuits·gave c))
-        lay3 = λ c. (Path.refl, λ g. (Path.refl, λ g'. (Path.refl, λ g''. λ g'3. (finished-requires record { before = record { before = record {
-            before = record { before = record { before = c .before; walk-circuits = c .walk-circuits }; circuits = record { given = g }; }; inflight2
-            = record { given = g' }; }; out2 = record { given = g'' }; }; slice-known3 = record { given = g'3 }; }, λ g'4. lay4 record { before =
-            record { before = record { before = record { before = record { before = record { before = c .before; walk-circuits = c .walk-circuits; };
-            circuits = record { given = g }; }; inflight2 = record { given = g' }; }; out2 = record { given = g'' }; }; slice-known3 = record { given
-            = g'3 }; }; finished = Called.called ps·3 r·3 (claims· .7) T52 (record { pos = 13; st = List.[]; d = 0; at = λ x. x }, tt,) (m34 record {
-            before = record { before = record { before = record { before = c .before; walk-circuits = c .walk-circuits }; circuits = record { given =
-            g }; }; inflight2 = record { given = g' }; }; out2 = record { given = g'' }; } g'3) g'4; },),),),)
-        lay2 : (c : After-walk-pending) → at37 (c .before .before .before .before .before .before .before .before .blocks) (W0 (c .before .before
-            .before .before .before .before .before .before .κs) (c .before .before .before .before .before .before .before .before .args) (c .before
-            .before .before .before .before .before .before .before .blocks)) (m14 (c .before) (After-walk-pending·gave c))
-        lay2 = λ c. (Path.refl, λ g. (Path.refl, λ g'. (Path.refl, λ g''. λ g'3. λ g'4. (Path.refl, λ g'5. (Path.refl, λ g'6. (Path.refl,
-            (walk-circuits-requires record { before = record { before = record { before = record { before = record { before = record { before = record
-            { before = record { before = c .before; walk-pending = c .walk-pending; }; pending = record { given = g }; }; inflight = record { given =
-            g' }; }; out = record { given = g'' }; }; slice-known2 = record { given = g'3 }; }; walk-circuits-arg = record { given = g'4 }; };
-            walk-circuits-arg2 = record { given = g'5 }; }; walk-circuits-arg3 = record { given = g'6 }; }, λ g'7. lay3 record { before = record {
-            before = record { before = record { before = record { before = record { before = record { before = record { before = record { before = c
-            .before; walk-pending = c .walk-pending; }; pending = record { given = g }; }; inflight = record { given = g' }; }; out = record { given =
-            g'' }; }; slice-known2 = record { given = g'3 }; }; walk-circuits-arg = record { given = g'4 }; }; walk-circuits-arg2 = record { given =
-            g'5 }; }; walk-circuits-arg3 = record { given = g'6 }; }; walk-circuits = Called.called ps·2 r·2 (claims· .5) T39 (record { pos = 21; ty =
-            Syntax.tyRef Syntax.erased Syntax.mut RelayCircuit.to; ref = λ x. x; }, (record { pos = 23; ty = Syntax.tyRef Syntax.erased Syntax.mut
-            InflightAction.to; ref = λ x. x; }, (record { pos = 25; ty = Syntax.tyRef Syntax.erased Syntax.mut (Syntax.tyInt Syntax.w32); ref = λ x.
-            x; }, (record { pos = 12; st = List.[]; d = 0; at = λ x. x }, (record { pos = 7; st = List.[]; d = 0; at = λ x. x }, (record { pos = 11;
-            st = List.[]; d = 0; at = λ x. x }, tt),),),),),) (m26 record { before = record { before = record { before = record { before = record {
-            before = record { before = record { before = c .before; walk-pending = c .walk-pending; }; pending = record { given = g }; }; inflight =
-            record { given = g' }; }; out = record { given = g'' }; }; slice-known2 = record { given = g'3 }; }; walk-circuits-arg = record { given =
-            g'4 }; }; walk-circuits-arg2 = record { given = g'5 }; } g'6) g'7; },),),),),),),)
-        lay1 : (c : After-started) → at52 (c .before .before .blocks) (W0 (c .before .before .κs) (c .before .before .args) (c .before .before
-            .blocks)) (m2 (c .before) (After-started·gave c))
-        lay1 = λ c. (tt, λ g. (tt, λ g'. λ g''. (Path.refl, λ g'3. (Path.refl, λ g'4. (Path.refl, (walk-pending-requires record { before = record {
-            before = record { before = record { before = record { before = record { before = c .before; started = c .started }; waiting = record {
-            given = g }; }; active = record { given = g' }; }; walk-pending-arg = record { given = g'' }; }; walk-pending-arg2 = record { given = g'3
-            }; }; walk-pending-arg3 = record { given = g'4 }; }, λ g'5. lay2 record { before = record { before = record { before = record { before =
-            record { before = record { before = record { before = c .before; started = c .started }; waiting = record { given = g }; }; active =
-            record { given = g' }; }; walk-pending-arg = record { given = g'' }; }; walk-pending-arg2 = record { given = g'3 }; }; walk-pending-arg3 =
-            record { given = g'4 }; }; walk-pending = Called.called ps·1 r·1 (claims· .3) T17 (record { pos = 15; ty = Syntax.tyRef Syntax.erased
-            Syntax.mut RelayPending.to; ref = λ x. x; }, (record { pos = 17; ty = Syntax.tyRef Syntax.erased Syntax.mut InflightAction.to; ref = λ x.
-            x; }, (record { pos = 19; ty = Syntax.tyRef Syntax.erased Syntax.mut (Syntax.tyInt Syntax.w32); ref = λ x. x; }, (record { pos = 9; st =
-            List.[]; d = 0; at = λ x. x }, (record { pos = 7; st = List.[]; d = 0; at = λ x. x }, (record { pos = 10; st = List.[]; d = 0; at = λ x. x
-            }, tt),),),),),) (m13 record { before = record { before = record { before = record { before = record { before = c .before; started = c
-            .started }; waiting = record { given = g }; }; active = record { given = g' }; }; walk-pending-arg = record { given = g'' }; };
-            walk-pending-arg2 = record { given = g'3 }; } g'4) g'5; },),),),),),)
+
+      module _ (started-requires : Need-started-requires) (walk-pending-requires : Need-walk-pending-requires)
+          (walk-circuits-requires : Need-walk-circuits-requires) (finished-requires : Need-finished-requires)
+          (same-length : Need-same-length) (same-length-2 : Need-same-length-2) (same-length-3 : Need-same-length-3)
+          (same-length-4 : Need-same-length-4) (returns : Need-returns) where
+        lay4 : (c : After-finished) → at1 (c .before .before .before .before .before .before .before .before .before
+            .before .before .before .before .before .before .before .before .before .before .before .before .blocks) (W0 (c
+            .before .before .before .before .before .before .before .before .before .before .before .before .before
+            .before .before .before .before .before .before .before .before .κs) (c .before .before .before .before
+            .before .before .before .before .before .before .before .before .before .before .before .before .before
+            .before .before .before .before .args) (c .before .before .before .before .before .before .before .before
+            .before .before .before .before .before .before .before .before .before .before .before .before .before
+            .blocks)) (m35 (c .before) (After-finished·gave c))
+        lay4 = λ c. (
+          (
+            MutSlice.fix-len (Row.get 1 (T55 .locals) (m36 (c .before) (After-finished·gave c)) .ptr) (Row.get 1
+                (T55 .locals) (m36 (c .before) (After-finished·gave c)) .name) (Row.get 1 (T55 .locals)
+                (m36 (c .before) (After-finished·gave c)) .now) (dens (c .before .before .before .before .before
+                .before .before .before .before .before .before .before .before .before .before .before .before .before
+                .before .before .before .κs) (c .before .before .before .before .before .before .before .before .before
+                .before .before .before .before .before .before .before .before .before .before .before .before .args)
+                .0 .now) (same-length record { before = c .before; finished = c .finished }),
+            (
+              MutSlice.fix-len (Row.get 2 (T55 .locals) (m36 (c .before) (After-finished·gave c)) .ptr) (Row.get 2
+                  (T55 .locals) (m36 (c .before) (After-finished·gave c)) .name) (Row.get 2 (T55 .locals)
+                  (m36 (c .before) (After-finished·gave c)) .now) (dens (c .before .before .before .before .before
+                  .before .before .before .before .before .before .before .before .before .before .before .before
+                  .before .before .before .before .κs) (c .before .before .before .before .before .before .before
+                  .before .before .before .before .before .before .before .before .before .before .before .before
+                  .before .before .args) .1 .0 .now) (same-length-2
+                  record { before = c .before; finished = c .finished }),
+              (
+                MutSlice.fix-len (Row.get 3 (T55 .locals) (m36 (c .before) (After-finished·gave c)) .ptr) (Row.get 3
+                    (T55 .locals) (m36 (c .before) (After-finished·gave c)) .name) (Row.get 3 (T55 .locals)
+                    (m36 (c .before) (After-finished·gave c)) .now) (dens (c .before .before .before .before .before
+                    .before .before .before .before .before .before .before .before .before .before .before .before
+                    .before .before .before .before .κs) (c .before .before .before .before .before .before .before
+                    .before .before .before .before .before .before .before .before .before .before .before .before
+                    .before .before .args) .1 .1 .0 .now) (same-length-3
+                    record { before = c .before; finished = c .finished }),
+                (
+                  MutSlice.fix-len (Row.get 4 (T55 .locals) (m36 (c .before) (After-finished·gave c)) .ptr) (Row.get 4
+                      (T55 .locals) (m36 (c .before) (After-finished·gave c)) .name) (Row.get 4 (T55 .locals)
+                      (m36 (c .before) (After-finished·gave c)) .now) (dens (c .before .before .before .before .before
+                      .before .before .before .before .before .before .before .before .before .before .before .before
+                      .before .before .before .before .κs) (c .before .before .before .before .before .before .before
+                      .before .before .before .before .before .before .before .before .before .before .before .before
+                      .before .before .args) .1 .1 .1 .0 .now) (same-length-4
+                      record { before = c .before; finished = c .finished }),
+                  (tt, (tt, (tt, (tt, tt)))),
+                ),
+              ),
+            ),
+          ),
+          returns record { before = c .before; finished = c .finished },
+        )
+
+        lay3 : (c : After-walk-circuits) → at15 (c .before .before .before .before .before .before .before .before
+            .before .before .before .before .before .before .before .before .blocks) (W0 (c .before .before .before
+            .before .before .before .before .before .before .before .before .before .before .before .before .before .κs) (c
+            .before .before .before .before .before .before .before .before .before .before .before .before .before
+            .before .before .before .args) (c .before .before .before .before .before .before .before .before .before
+            .before .before .before .before .before .before .before .blocks))
+            (m27 (c .before) (After-walk-circuits·gave c))
+        lay3 = λ c. (
+          Path.refl,
+          λ g. (
+            Path.refl,
+            λ g'. (
+              Path.refl,
+              λ g''. λ g'3. (
+                finished-requires record {
+                  before = record {
+                    before = record {
+                      before = record {
+                        before = record { before = c .before; walk-circuits = c .walk-circuits };
+                        circuits = record { given = g };
+                      };
+                      inflight2 = record { given = g' };
+                    };
+                    out2 = record { given = g'' };
+                  };
+                  slice-known3 = record { given = g'3 };
+                },
+                λ g'4. lay4 record {
+                  before = record {
+                    before = record {
+                      before = record {
+                        before = record {
+                          before = record { before = c .before; walk-circuits = c .walk-circuits };
+                          circuits = record { given = g };
+                        };
+                        inflight2 = record { given = g' };
+                      };
+                      out2 = record { given = g'' };
+                    };
+                    slice-known3 = record { given = g'3 };
+                  };
+                  finished = Called.called ps·3 r·3 (claims· .7) T52
+                      (record { pos = 13; st = List.[]; d = 0; at = λ x. x }, tt) (m34
+                      record {
+                        before = record {
+                          before = record {
+                            before = record { before = c .before; walk-circuits = c .walk-circuits };
+                            circuits = record { given = g };
+                          };
+                          inflight2 = record { given = g' };
+                        };
+                        out2 = record { given = g'' };
+                      } g'3) g'4;
+                },
+              ),
+            ),
+          ),
+        )
+
+        lay2 : (c : After-walk-pending) → at37 (c .before .before .before .before .before .before .before .before
+            .blocks) (W0 (c .before .before .before .before .before .before .before .before .κs) (c .before .before
+            .before .before .before .before .before .before .args) (c .before .before .before .before .before .before
+            .before .before .blocks)) (m14 (c .before) (After-walk-pending·gave c))
+        lay2 = λ c. (
+          Path.refl,
+          λ g. (
+            Path.refl,
+            λ g'. (
+              Path.refl,
+              λ g''. λ g'3. λ g'4. (
+                Path.refl,
+                λ g'5. (
+                  Path.refl,
+                  λ g'6. (
+                    Path.refl,
+                    (
+                      walk-circuits-requires record {
+                        before = record {
+                          before = record {
+                            before = record {
+                              before = record {
+                                before = record {
+                                  before = record {
+                                    before = record { before = c .before; walk-pending = c .walk-pending };
+                                    pending = record { given = g };
+                                  };
+                                  inflight = record { given = g' };
+                                };
+                                out = record { given = g'' };
+                              };
+                              slice-known2 = record { given = g'3 };
+                            };
+                            walk-circuits-arg = record { given = g'4 };
+                          };
+                          walk-circuits-arg2 = record { given = g'5 };
+                        };
+                        walk-circuits-arg3 = record { given = g'6 };
+                      },
+                      λ g'7. lay3 record {
+                        before = record {
+                          before = record {
+                            before = record {
+                              before = record {
+                                before = record {
+                                  before = record {
+                                    before = record {
+                                      before = record { before = c .before; walk-pending = c .walk-pending };
+                                      pending = record { given = g };
+                                    };
+                                    inflight = record { given = g' };
+                                  };
+                                  out = record { given = g'' };
+                                };
+                                slice-known2 = record { given = g'3 };
+                              };
+                              walk-circuits-arg = record { given = g'4 };
+                            };
+                            walk-circuits-arg2 = record { given = g'5 };
+                          };
+                          walk-circuits-arg3 = record { given = g'6 };
+                        };
+                        walk-circuits = Called.called ps·2 r·2 (claims· .5) T39 (
+                          record { pos = 21; ty = ref3; ref = λ x. x },
+                          (
+                            record { pos = 23; ty = ref1; ref = λ x. x },
+                            (
+                              record { pos = 25; ty = ref2; ref = λ x. x },
+                              (
+                                record { pos = 12; st = List.[]; d = 0; at = λ x. x },
+                                (
+                                  record { pos = 7; st = List.[]; d = 0; at = λ x. x },
+                                  (record { pos = 11; st = List.[]; d = 0; at = λ x. x }, tt),
+                                ),
+                              ),
+                            ),
+                          ),
+                        ) (m26 record {
+                          before = record {
+                            before = record {
+                              before = record {
+                                before = record {
+                                  before = record {
+                                    before = record { before = c .before; walk-pending = c .walk-pending };
+                                    pending = record { given = g };
+                                  };
+                                  inflight = record { given = g' };
+                                };
+                                out = record { given = g'' };
+                              };
+                              slice-known2 = record { given = g'3 };
+                            };
+                            walk-circuits-arg = record { given = g'4 };
+                          };
+                          walk-circuits-arg2 = record { given = g'5 };
+                        } g'6) g'7;
+                      },
+                    ),
+                  ),
+                ),
+              ),
+            ),
+          ),
+        )
+
+        lay1 : (c : After-started) → at52 (c .before .before .blocks) (W0 (c .before .before .κs)
+            (c .before .before .args) (c .before .before .blocks)) (m2 (c .before) (After-started·gave c))
+        lay1 = λ c. (
+          tt,
+          λ g. (
+            tt,
+            λ g'. λ g''. (
+              Path.refl,
+              λ g'3. (
+                Path.refl,
+                λ g'4. (
+                  Path.refl,
+                  (
+                    walk-pending-requires record {
+                      before = record {
+                        before = record {
+                          before = record {
+                            before = record {
+                              before = record { before = c .before; started = c .started };
+                              waiting = record { given = g };
+                            };
+                            active = record { given = g' };
+                          };
+                          walk-pending-arg = record { given = g'' };
+                        };
+                        walk-pending-arg2 = record { given = g'3 };
+                      };
+                      walk-pending-arg3 = record { given = g'4 };
+                    },
+                    λ g'5. lay2 record {
+                      before = record {
+                        before = record {
+                          before = record {
+                            before = record {
+                              before = record {
+                                before = record { before = c .before; started = c .started };
+                                waiting = record { given = g };
+                              };
+                              active = record { given = g' };
+                            };
+                            walk-pending-arg = record { given = g'' };
+                          };
+                          walk-pending-arg2 = record { given = g'3 };
+                        };
+                        walk-pending-arg3 = record { given = g'4 };
+                      };
+                      walk-pending = Called.called ps·1 r·1 (claims· .3) T17 (
+                        record { pos = 15; ty = ref0; ref = λ x. x },
+                        (
+                          record { pos = 17; ty = ref1; ref = λ x. x },
+                          (
+                            record { pos = 19; ty = ref2; ref = λ x. x },
+                            (
+                              record { pos = 9; st = List.[]; d = 0; at = λ x. x },
+                              (
+                                record { pos = 7; st = List.[]; d = 0; at = λ x. x },
+                                (record { pos = 10; st = List.[]; d = 0; at = λ x. x }, tt),
+                              ),
+                            ),
+                          ),
+                        ),
+                      ) (m13 record {
+                        before = record {
+                          before = record {
+                            before = record {
+                              before = record { before = c .before; started = c .started };
+                              waiting = record { given = g };
+                            };
+                            active = record { given = g' };
+                          };
+                          walk-pending-arg = record { given = g'' };
+                        };
+                        walk-pending-arg2 = record { given = g'3 };
+                      } g'4) g'5;
+                    },
+                  ),
+                ),
+              ),
+            ),
+          ),
+        )
+
         pub laid : (c : Start) → at54 (c .blocks) (W0 (c .κs) (c .args) (c .blocks)) (m0 (c .κs) (c .args) (c .blocks))
-        laid = λ c. λ g. (started-requires record { before = c; slice-known = record { given = g } }, λ g'. lay1 record { before = record { before =
-            c; slice-known = record { given = g } }; started = Called.called ps·0 r·0 (claims· .1) T2 (record { pos = 5; st = List.[]; d = 0; at = λ
-            x. x }, (record { pos = 6; st = List.[]; d = 0; at = λ x. x }, tt),) (m1 c g) g'; },)
+        laid = λ c. λ g. (
+          started-requires record { before = c; slice-known = record { given = g } },
+          λ g'. lay1 record {
+            before = record { before = c; slice-known = record { given = g } };
+            started = Called.called ps·0 r·0 (claims· .1) T2 (
+              record { pos = 5; st = List.[]; d = 0; at = λ x. x },
+              (record { pos = 6; st = List.[]; d = 0; at = λ x. x }, tt),
+            ) (m1 c g) g';
+          },
+        )
+
         module _ (κs : Lifetimes.Lfts 4) (qs : Lifetimes.Shares 4) where
-          pub asked : (a : Kinds.Dens κs ps) → (good : Kinds.GoodsP κs ps a) → (pre : Pre· κs a) → (bs : List.List Nat.ℕ) → Φ bs (Any.wantQ 4 ps r xs
-              m κs qs a (Post· κs a)) (Function.init 4 ps r xs m κs qs a)
-          asked = λ a good pre bs. laid record { κs = κs; args = record { pending = a .0; circuits = a .1 .0; inflight = a .1 .1 .0; out = a .1 .1 .1
-              .0; runtime = a .1 .1 .1 .1 .0; places = a .1 .1 .1 .1 .1 .0; revoking = a .1 .1 .1 .1 .1 .1 .0; first = a .1 .1 .1 .1 .1 .1 .1 .0; };
-              blocks = bs; good = good; pre = pre; }
-        module _ { M : Type 1 } (𝓤 : URA.URA M) (H : Wp.Heap 𝓤) (A : Atoms.Atoms 𝓤) (W : Kit.Given 𝓤 H A) (𝓣 : Wp.Tables 𝓤 H) (known0 : Plain.Known 𝓤
-            H A W 𝓣 0 ps·0 r·0 (claims· .0) (claims· .1) "hnsr_circuit::revocation::started") (known1 : Plain.Known 𝓤 H A W 𝓣 3 ps·1 r·1 (claims· .2)
-            (claims· .3) "hnsr_circuit::revocation::walk_pending") (known2 : Plain.Known 𝓤 H A W 𝓣 3 ps·2 r·2 (claims· .4) (claims· .5)
-            "hnsr_circuit::revocation::walk_circuits") (known3 : Plain.Known 𝓤 H A W 𝓣 0 ps·3 r·3 (claims· .6) (claims· .7)
-            "hnsr_circuit::revocation::finished") where
-          pub spec : Statement.Triple 𝓤 (Wp.WpFn 𝓤 H (𝓣 .C) (𝓣 .Λ) (Function.fnOf 4 ps r xs m hs body)) (Function.plainOf 𝓤 H A 4 ps r Pre· Post·)
-          spec = Plain.t-fn-plain 𝓤 H A W 𝓣 4 ps r xs m hs body (λ κs qs bs. Φ bs) (λ κs qs bs bd. typed κs qs 𝓤 H A W 𝓣 (known0, known1, known2,
-              known3) bs bd) Pre· Post· asked
+          pub asked : (a : Kinds.Dens κs ps) → (good : Kinds.GoodsP κs ps a) → (pre : Pre· κs a) →
+              (bs : List.List Nat.ℕ) → Φ bs (Any.wantQ 4 ps r xs m κs qs a (Post· κs a))
+              (Function.init 4 ps r xs m κs qs a)
+          asked = λ a good pre bs. laid record {
+            κs = κs;
+            args = record {
+              pending = a .0;
+              circuits = a .1 .0;
+              inflight = a .1 .1 .0;
+              out = a .1 .1 .1 .0;
+              runtime = a .1 .1 .1 .1 .0;
+              places = a .1 .1 .1 .1 .1 .0;
+              revoking = a .1 .1 .1 .1 .1 .1 .0;
+              first = a .1 .1 .1 .1 .1 .1 .1 .0;
+            };
+            blocks = bs;
+            good = good;
+            pre = pre;
+          }
+
+        module _ {M : Type 1} (𝓤 : URA.URA M) (H : Wp.Heap 𝓤) (A : Atoms.Atoms 𝓤) (W : Kit.Given 𝓤 H A)
+            (𝓣 : Wp.Tables 𝓤 H) (known0 : Plain.Known 𝓤 H A W 𝓣 0 ps·0 r·0 (claims· .0) (claims· .1)
+            "hnsr_circuit::revocation::started") (known1 : Plain.Known 𝓤 H A W 𝓣 3 ps·1 r·1 (claims· .2) (claims· .3)
+            "hnsr_circuit::revocation::walk_pending") (known2 : Plain.Known 𝓤 H A W 𝓣 3 ps·2 r·2 (claims· .4)
+            (claims· .5) "hnsr_circuit::revocation::walk_circuits") (known3 : Plain.Known 𝓤 H A W 𝓣 0 ps·3 r·3
+            (claims· .6) (claims· .7) "hnsr_circuit::revocation::finished") where
+          pub spec : Statement.Triple 𝓤 (Wp.WpFn 𝓤 H (𝓣 .C) (𝓣 .Λ) (Function.fnOf 4 ps r xs m hs body))
+              (Function.plainOf 𝓤 H A 4 ps r Pre· Post·)
+          spec = Plain.t-fn-plain 𝓤 H A W 𝓣 4 ps r xs m hs body (λ κs qs bs. Φ bs) (λ κs qs bs bd. typed κs qs 𝓤 H A W
+              𝓣 (known0, known1, known2, known3) bs bd) Pre· Post· asked

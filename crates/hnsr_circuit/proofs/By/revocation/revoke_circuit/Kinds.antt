@@ -3,39 +3,21 @@ use Rattle.hnsr_body.proofs.messages.Notice
 use Rattle.hnsr_body.proofs.messages.Notice.Laws
 use Rattle.hnsr_circuit.proofs.By.InflightAction
 use Rattle.hnsr_circuit.proofs.By.RelayCircuit
+use Rattle.hnsr_circuit.proofs.StructRow
 use Rattle.hnsr_circuit.proofs.runtime.Sending
 use Rattle.hnsr_circuit.proofs.runtime.Sending.Laws as Laws'
 use borrow.Fn.Kinds
 use borrow.Kind.MutSlice
-use borrow.Kind.Value
-use borrow.Rule.Local
 use borrow.Table.Referent
-use borrow.Table.Rows
-use denote.Enum.Declared
-use denote.Enum.Laws as Laws''
-use denote.Exit
-use denote.Struct.Declared as Declared'
-use denote.Struct.Laws as Laws'''
 use mathlib.Core.List
-use mathlib.Core.Path
 use mir.Syntax
 use mathlib.Core.List.{_∷_}
 
 abbrev pub ps : List.List (Kinds.PK 3)
-ps = (MutSlice.pMutS RelayCircuit.row 0 tt) ∷ (MutSlice.pMutS InflightAction.row 1 tt) ∷ (MutSlice.pMutS (Referent.rtF (Referent.fInt Syntax.w32)) 2
-    tt) ∷ (Value.pVal record { ty = Declared'.row Sending.the-type; one = Path.refl; val = Laws'''.val Sending.the-type Laws'.the-laws; tells =
-    Laws'''.tells Sending.the-type Laws'.the-laws; still = Laws'''.still Sending.the-type Laws'.the-copy Exit.yes; row = Rows.whole (Declared'.row
-    Sending.the-type); rd = λ x. x; mk = λ x. x; } λ M 𝓤 H A W. record { copies = Laws'''.copy Sending.the-type Laws'.the-copy 𝓤 H A W; lawful =
-    Laws'''.lawful Sending.the-type Laws'.the-laws 𝓤 H A W; makes = Laws'''.makes Sending.the-type Laws'.the-plain 𝓤 H A; in-mem = Local.mem-whole 𝓤 H
-    A W (Declared'.row Sending.the-type); of-mem = Local.whole-mem 𝓤 H A W (Declared'.row Sending.the-type); }) ∷ (Value.pVal record { ty =
-    Declared.row Notice.the-type; one = Path.refl; val = Laws''.val Notice.the-type Laws.the-laws; tells = Laws''.tells Notice.the-type Laws.the-laws;
-    still = Laws''.still Notice.the-type Laws.the-copy Exit.yes; row = Rows.whole (Declared.row Notice.the-type); rd = λ x. x; mk = λ x. x; } λ M 𝓤 H
-    A W. record { copies = Laws''.copy Notice.the-type Laws.the-copy 𝓤 H A W; lawful = Laws''.lawful Notice.the-type Laws.the-laws 𝓤 H A W tt; makes =
-    Laws''.makes Notice.the-type Laws.the-plain 𝓤 H A; in-mem = Local.mem-whole 𝓤 H A W (Declared.row Notice.the-type); of-mem = Local.whole-mem 𝓤 H A
-    W (Declared.row Notice.the-type); }) ∷ (Kinds.pNum Syntax.w64) ∷ List.[]
+ps = (MutSlice.pMutS RelayCircuit.row 0 tt) ∷ (MutSlice.pMutS InflightAction.row 1 tt) ∷ (MutSlice.pMutS
+    (Referent.rtF (Referent.fInt Syntax.w32)) 2 tt) ∷ (StructRow.param Sending.the-type Laws'.the-laws Laws'.the-copy
+    Laws'.the-plain) ∷ (StructRow.enum-param Notice.the-type Laws.the-laws Laws.the-copy Laws.the-plain tt) ∷
+    (Kinds.pNum Syntax.w64) ∷ List.[]
+
 abbrev pub r : Kinds.RK 3
-r = Value.rVal record { ty = Declared'.row Sending.the-type; one = Path.refl; val = Laws'''.val Sending.the-type Laws'.the-laws; tells = Laws'''.tells
-    Sending.the-type Laws'.the-laws; still = Laws'''.still Sending.the-type Laws'.the-copy Exit.yes; row = Rows.whole (Declared'.row
-    Sending.the-type); rd = λ x. x; mk = λ x. x; } λ M 𝓤 H A W. record { copies = Laws'''.copy Sending.the-type Laws'.the-copy 𝓤 H A W; lawful =
-    Laws'''.lawful Sending.the-type Laws'.the-laws 𝓤 H A W; makes = Laws'''.makes Sending.the-type Laws'.the-plain 𝓤 H A; in-mem = Local.mem-whole 𝓤 H
-    A W (Declared'.row Sending.the-type); of-mem = Local.whole-mem 𝓤 H A W (Declared'.row Sending.the-type); }
+r = StructRow.result Sending.the-type Laws'.the-laws Laws'.the-copy Laws'.the-plain

@@ -4,6 +4,7 @@ use Rattle.hnsr_body.proofs.messages.Notice
 use Rattle.hnsr_body.proofs.messages.Notice.Laws
 use Rattle.hnsr_circuit.proofs.By.InflightAction
 use Rattle.hnsr_circuit.proofs.By.RelayCircuit
+use Rattle.hnsr_circuit.proofs.StructRow
 use Rattle.hnsr_circuit.proofs.places.Places
 use Rattle.hnsr_circuit.proofs.places.Places.Laws as Laws'
 use Rattle.hnsr_circuit.proofs.records.Outgoing
@@ -25,7 +26,6 @@ use borrow.Kind.MutSlice
 use borrow.Kind.Num
 use borrow.Kind.ShrSlice
 use borrow.Kind.Unit
-use borrow.Kind.Value
 use borrow.Rule.DerefMove
 use borrow.Rule.Lifetime
 use borrow.Rule.Local
@@ -51,11 +51,8 @@ use borrow.Table.Rows
 use borrow.Table.Typed
 use contract.Lifetimes
 use denote.Enum.Declared
-use denote.Enum.Laws as Laws'''''
-use denote.Exit
 use denote.Struct.At
 use denote.Struct.Declared as Declared'
-use denote.Struct.Laws as Laws''''''
 use denote.Triple.Clauses
 use denote.Triple.Statement
 use ghost.Atoms
@@ -73,1550 +70,2627 @@ use mathlib.Core.List.{_∷_}
 
 abbrev ref0 : Syntax.Ty
 ref0 = Syntax.tyRef Syntax.erased Syntax.imm RelayCircuit.to
+
 abbrev ref1 : Syntax.Ty
 ref1 = Syntax.tyRef Syntax.erased Syntax.mut RelayCircuit.to
+
 abbrev ref2 : Syntax.Ty
 ref2 = Syntax.tyRef Syntax.erased Syntax.mut InflightAction.to
+
 abbrev ref3 : Syntax.Ty
 ref3 = Syntax.tyRef Syntax.erased Syntax.mut (Syntax.tyInt Syntax.w32)
+
 abbrev ref4 : Syntax.Ty
 ref4 = Syntax.tyRef (Syntax.named 0) Syntax.mut RelayCircuit.to
+
 abbrev ref5 : Syntax.Ty
 ref5 = Syntax.tyRef (Syntax.named 1) Syntax.mut InflightAction.to
+
 abbrev ref6 : Syntax.Ty
 ref6 = Syntax.tyRef (Syntax.named 2) Syntax.mut (Syntax.tyInt Syntax.w32)
+
+abbrev slice0 : Syntax.Ty
+slice0 = Syntax.tyStruct (38 ∷ 91 ∷ 93 ∷ List.[]) (Syntax.tcons ref0
+    (Syntax.tcons (Syntax.tyInt Syntax.w64) Syntax.tnil))
+
+abbrev slice1 : Syntax.Ty
+slice1 = Syntax.tyStruct (38 ∷ 91 ∷ 93 ∷ List.[]) (Syntax.tcons ref1
+    (Syntax.tcons (Syntax.tyInt Syntax.w64) Syntax.tnil))
+
+abbrev slice2 : Syntax.Ty
+slice2 = Syntax.tyStruct (38 ∷ 91 ∷ 93 ∷ List.[]) (Syntax.tcons ref2
+    (Syntax.tcons (Syntax.tyInt Syntax.w64) Syntax.tnil))
+
+abbrev slice3 : Syntax.Ty
+slice3 = Syntax.tyStruct (38 ∷ 91 ∷ 93 ∷ List.[]) (Syntax.tcons ref3
+    (Syntax.tcons (Syntax.tyInt Syntax.w64) Syntax.tnil))
+
 abbrev pub ps : List.List (Kinds.PK 3)
-ps = (MutSlice.pMutS RelayCircuit.row 0 tt) ∷ (MutSlice.pMutS InflightAction.row 1 tt) ∷ (MutSlice.pMutS (Referent.rtF (Referent.fInt Syntax.w32)) 2
-    tt) ∷ (Value.pVal record { ty = Declared'.row Sending.the-type; one = Path.refl; val = Laws''''''.val Sending.the-type Laws''''.the-laws; tells =
-    Laws''''''.tells Sending.the-type Laws''''.the-laws; still = Laws''''''.still Sending.the-type Laws''''.the-copy Exit.yes; row = Rows.whole
-    (Declared'.row Sending.the-type); rd = λ x. x; mk = λ x. x; } λ M 𝓤 H A W. record { copies = Laws''''''.copy Sending.the-type Laws''''.the-copy 𝓤
-    H A W; lawful = Laws''''''.lawful Sending.the-type Laws''''.the-laws 𝓤 H A W; makes = Laws''''''.makes Sending.the-type Laws''''.the-plain 𝓤 H A;
-    in-mem = Local.mem-whole 𝓤 H A W (Declared'.row Sending.the-type); of-mem = Local.whole-mem 𝓤 H A W (Declared'.row Sending.the-type); }) ∷
-    (Value.pVal record { ty = Declared.row Notice.the-type; one = Path.refl; val = Laws'''''.val Notice.the-type Laws.the-laws; tells =
-    Laws'''''.tells Notice.the-type Laws.the-laws; still = Laws'''''.still Notice.the-type Laws.the-copy Exit.yes; row = Rows.whole (Declared.row
-    Notice.the-type); rd = λ x. x; mk = λ x. x; } λ M 𝓤 H A W. record { copies = Laws'''''.copy Notice.the-type Laws.the-copy 𝓤 H A W; lawful =
-    Laws'''''.lawful Notice.the-type Laws.the-laws 𝓤 H A W tt; makes = Laws'''''.makes Notice.the-type Laws.the-plain 𝓤 H A; in-mem = Local.mem-whole
-    𝓤 H A W (Declared.row Notice.the-type); of-mem = Local.whole-mem 𝓤 H A W (Declared.row Notice.the-type); }) ∷ (Num.pNum Syntax.w64) ∷ List.[]
+ps = (MutSlice.pMutS RelayCircuit.row 0 tt) ∷ (MutSlice.pMutS InflightAction.row 1 tt) ∷ (MutSlice.pMutS
+    (Referent.rtF (Referent.fInt Syntax.w32)) 2 tt) ∷ (StructRow.param Sending.the-type Laws''''.the-laws
+    Laws''''.the-copy Laws''''.the-plain) ∷ (StructRow.enum-param Notice.the-type Laws.the-laws Laws.the-copy
+    Laws.the-plain tt) ∷ (Num.pNum Syntax.w64) ∷ List.[]
+
 abbrev pub r : Kinds.RK 3
-r = Value.rVal record { ty = Declared'.row Sending.the-type; one = Path.refl; val = Laws''''''.val Sending.the-type Laws''''.the-laws; tells =
-    Laws''''''.tells Sending.the-type Laws''''.the-laws; still = Laws''''''.still Sending.the-type Laws''''.the-copy Exit.yes; row = Rows.whole
-    (Declared'.row Sending.the-type); rd = λ x. x; mk = λ x. x; } λ M 𝓤 H A W. record { copies = Laws''''''.copy Sending.the-type Laws''''.the-copy 𝓤
-    H A W; lawful = Laws''''''.lawful Sending.the-type Laws''''.the-laws 𝓤 H A W; makes = Laws''''''.makes Sending.the-type Laws''''.the-plain 𝓤 H A;
-    in-mem = Local.mem-whole 𝓤 H A W (Declared'.row Sending.the-type); of-mem = Local.whole-mem 𝓤 H A W (Declared'.row Sending.the-type); }
+r = StructRow.result Sending.the-type Laws''''.the-laws Laws''''.the-copy Laws''''.the-plain
+
 abbrev pub xs : List.List Syntax.Ty
-xs = Laws'.mir ∷ RelayCircuit.ty ∷ RelayCircuit.ty ∷ Laws'''.mir ∷ Laws''''.mir ∷ Laws''.mir ∷ Laws''.mir ∷ Laws''''.mir ∷ ref0 ∷ (Syntax.tyStruct (38
-    ∷ 91 ∷ 93 ∷ List.[]) (Syntax.tcons ref0 (Syntax.tcons (Syntax.tyInt Syntax.w64) Syntax.tnil))) ∷ Syntax.tyUnit ∷ ref1 ∷ (Syntax.tyStruct (38 ∷ 91
-    ∷ 93 ∷ List.[]) (Syntax.tcons ref1 (Syntax.tcons (Syntax.tyInt Syntax.w64) Syntax.tnil))) ∷ ref2 ∷ (Syntax.tyStruct (38 ∷ 91 ∷ 93 ∷ List.[])
-    (Syntax.tcons ref2 (Syntax.tcons (Syntax.tyInt Syntax.w64) Syntax.tnil))) ∷ ref3 ∷ (Syntax.tyStruct (38 ∷ 91 ∷ 93 ∷ List.[]) (Syntax.tcons ref3
-    (Syntax.tcons (Syntax.tyInt Syntax.w64) Syntax.tnil))) ∷ ref2 ∷ (Syntax.tyStruct (38 ∷ 91 ∷ 93 ∷ List.[]) (Syntax.tcons ref2 (Syntax.tcons
-    (Syntax.tyInt Syntax.w64) Syntax.tnil))) ∷ ref3 ∷ (Syntax.tyStruct (38 ∷ 91 ∷ 93 ∷ List.[]) (Syntax.tcons ref3 (Syntax.tcons (Syntax.tyInt
-    Syntax.w64) Syntax.tnil))) ∷ List.[]
+xs = Laws'.mir ∷ RelayCircuit.ty ∷ RelayCircuit.ty ∷ Laws'''.mir ∷ Laws''''.mir ∷ Laws''.mir ∷ Laws''.mir ∷
+    Laws''''.mir ∷ ref0 ∷ slice0 ∷ Syntax.tyUnit ∷ ref1 ∷ slice1 ∷ ref2 ∷ slice2 ∷ ref3 ∷ slice3 ∷ ref2 ∷ slice2 ∷ ref3
+    ∷ slice3 ∷ List.[]
+
 abbrev pub m : Nat.ℕ
 m = 6
+
 abbrev pub ps·0 : List.List (Kinds.PK 1)
-ps·0 = (ShrSlice.pShrS RelayCircuit.row 0 tt) ∷ (Value.pVal record { ty = Declared'.row Places.the-type; one = Path.refl; val = Laws''''''.val
-    Places.the-type Laws'.the-laws; tells = Laws''''''.tells Places.the-type Laws'.the-laws; still = Laws''''''.still Places.the-type Laws'.the-copy
-    Exit.yes; row = Rows.whole (Declared'.row Places.the-type); rd = λ x. x; mk = λ x. x; } λ M 𝓤 H A W. record { copies = Laws''''''.copy
-    Places.the-type Laws'.the-copy 𝓤 H A W; lawful = Laws''''''.lawful Places.the-type Laws'.the-laws 𝓤 H A W; makes = Laws''''''.makes
-    Places.the-type Laws'.the-plain 𝓤 H A; in-mem = Local.mem-whole 𝓤 H A W (Declared'.row Places.the-type); of-mem = Local.whole-mem 𝓤 H A W
-    (Declared'.row Places.the-type); }) ∷ (Num.pNum Syntax.w64) ∷ List.[]
+ps·0 = (ShrSlice.pShrS RelayCircuit.row 0 tt) ∷ (StructRow.param Places.the-type Laws'.the-laws Laws'.the-copy
+    Laws'.the-plain) ∷ (Num.pNum Syntax.w64) ∷ List.[]
+
 abbrev pub r·0 : Kinds.RK 1
 r·0 = RelayCircuit.result
+
 abbrev pub ps·1 : List.List (Kinds.PK 0)
 ps·1 = RelayCircuit.param ∷ List.[]
+
 abbrev pub r·1 : Kinds.RK 0
 r·1 = RelayCircuit.result
+
 abbrev pub ps·2 : List.List (Kinds.PK 0)
-ps·2 = RelayCircuit.param ∷ (Value.pVal record { ty = Declared'.row Sending.the-type; one = Path.refl; val = Laws''''''.val Sending.the-type
-    Laws''''.the-laws; tells = Laws''''''.tells Sending.the-type Laws''''.the-laws; still = Laws''''''.still Sending.the-type Laws''''.the-copy
-    Exit.yes; row = Rows.whole (Declared'.row Sending.the-type); rd = λ x. x; mk = λ x. x; } λ M 𝓤 H A W. record { copies = Laws''''''.copy
-    Sending.the-type Laws''''.the-copy 𝓤 H A W; lawful = Laws''''''.lawful Sending.the-type Laws''''.the-laws 𝓤 H A W; makes = Laws''''''.makes
-    Sending.the-type Laws''''.the-plain 𝓤 H A; in-mem = Local.mem-whole 𝓤 H A W (Declared'.row Sending.the-type); of-mem = Local.whole-mem 𝓤 H A W
-    (Declared'.row Sending.the-type); }) ∷ List.[]
+ps·2 = RelayCircuit.param ∷ (StructRow.param Sending.the-type Laws''''.the-laws Laws''''.the-copy Laws''''.the-plain) ∷
+    List.[]
+
 abbrev pub r·2 : Kinds.RK 0
-r·2 = Value.rVal record { ty = Declared'.row EndPlan.the-type; one = Path.refl; val = Laws''''''.val EndPlan.the-type Laws'''.the-laws; tells =
-    Laws''''''.tells EndPlan.the-type Laws'''.the-laws; still = Laws''''''.still EndPlan.the-type Laws'''.the-copy Exit.yes; row = Rows.whole
-    (Declared'.row EndPlan.the-type); rd = λ x. x; mk = λ x. x; } λ M 𝓤 H A W. record { copies = Laws''''''.copy EndPlan.the-type Laws'''.the-copy 𝓤 H
-    A W; lawful = Laws''''''.lawful EndPlan.the-type Laws'''.the-laws 𝓤 H A W; makes = Laws''''''.makes EndPlan.the-type Laws'''.the-plain 𝓤 H A;
-    in-mem = Local.mem-whole 𝓤 H A W (Declared'.row EndPlan.the-type); of-mem = Local.whole-mem 𝓤 H A W (Declared'.row EndPlan.the-type); }
+r·2 = StructRow.result EndPlan.the-type Laws'''.the-laws Laws'''.the-copy Laws'''.the-plain
+
 abbrev pub ps·3 : List.List (Kinds.PK 1)
 ps·3 = (MutSlice.pMutS RelayCircuit.row 0 tt) ∷ Bool.pBool ∷ (Num.pNum Syntax.w64) ∷ RelayCircuit.param ∷ List.[]
+
 abbrev pub r·3 : Kinds.RK 1
 r·3 = Unit.rUnit
+
 abbrev pub ps·4 : List.List (Kinds.PK 2)
-ps·4 = (MutSlice.pMutS InflightAction.row 0 tt) ∷ (MutSlice.pMutS (Referent.rtF (Referent.fInt Syntax.w32)) 1 tt) ∷ (Value.pVal record { ty =
-    Declared'.row Sending.the-type; one = Path.refl; val = Laws''''''.val Sending.the-type Laws''''.the-laws; tells = Laws''''''.tells
-    Sending.the-type Laws''''.the-laws; still = Laws''''''.still Sending.the-type Laws''''.the-copy Exit.yes; row = Rows.whole (Declared'.row
-    Sending.the-type); rd = λ x. x; mk = λ x. x; } λ M 𝓤 H A W. record { copies = Laws''''''.copy Sending.the-type Laws''''.the-copy 𝓤 H A W; lawful =
-    Laws''''''.lawful Sending.the-type Laws''''.the-laws 𝓤 H A W; makes = Laws''''''.makes Sending.the-type Laws''''.the-plain 𝓤 H A; in-mem =
-    Local.mem-whole 𝓤 H A W (Declared'.row Sending.the-type); of-mem = Local.whole-mem 𝓤 H A W (Declared'.row Sending.the-type); }) ∷ (Num.pNum
-    Syntax.w64) ∷ (Value.pVal record { ty = Declared'.row Outgoing.the-type; one = Path.refl; val = Laws''''''.val Outgoing.the-type Laws''.the-laws;
-    tells = Laws''''''.tells Outgoing.the-type Laws''.the-laws; still = Laws''''''.still Outgoing.the-type Laws''.the-copy Exit.yes; row = Rows.whole
-    (Declared'.row Outgoing.the-type); rd = λ x. x; mk = λ x. x; } λ M 𝓤 H A W. record { copies = Laws''''''.copy Outgoing.the-type Laws''.the-copy 𝓤
-    H A W; lawful = Laws''''''.lawful Outgoing.the-type Laws''.the-laws 𝓤 H A W; makes = Laws''''''.makes Outgoing.the-type Laws''.the-plain 𝓤 H A;
-    in-mem = Local.mem-whole 𝓤 H A W (Declared'.row Outgoing.the-type); of-mem = Local.whole-mem 𝓤 H A W (Declared'.row Outgoing.the-type); }) ∷
-    (Value.pVal record { ty = Declared.row Notice.the-type; one = Path.refl; val = Laws'''''.val Notice.the-type Laws.the-laws; tells =
-    Laws'''''.tells Notice.the-type Laws.the-laws; still = Laws'''''.still Notice.the-type Laws.the-copy Exit.yes; row = Rows.whole (Declared.row
-    Notice.the-type); rd = λ x. x; mk = λ x. x; } λ M 𝓤 H A W. record { copies = Laws'''''.copy Notice.the-type Laws.the-copy 𝓤 H A W; lawful =
-    Laws'''''.lawful Notice.the-type Laws.the-laws 𝓤 H A W tt; makes = Laws'''''.makes Notice.the-type Laws.the-plain 𝓤 H A; in-mem = Local.mem-whole
-    𝓤 H A W (Declared.row Notice.the-type); of-mem = Local.whole-mem 𝓤 H A W (Declared.row Notice.the-type); }) ∷ List.[]
+ps·4 = (MutSlice.pMutS InflightAction.row 0 tt) ∷ (MutSlice.pMutS (Referent.rtF (Referent.fInt Syntax.w32)) 1 tt) ∷ (StructRow.param
+    Sending.the-type Laws''''.the-laws Laws''''.the-copy Laws''''.the-plain) ∷ (Num.pNum Syntax.w64) ∷ (StructRow.param
+    Outgoing.the-type Laws''.the-laws Laws''.the-copy Laws''.the-plain) ∷ (StructRow.enum-param Notice.the-type
+    Laws.the-laws Laws.the-copy Laws.the-plain tt) ∷ List.[]
+
 abbrev pub r·4 : Kinds.RK 2
-r·4 = Value.rVal record { ty = Declared'.row Sending.the-type; one = Path.refl; val = Laws''''''.val Sending.the-type Laws''''.the-laws; tells =
-    Laws''''''.tells Sending.the-type Laws''''.the-laws; still = Laws''''''.still Sending.the-type Laws''''.the-copy Exit.yes; row = Rows.whole
-    (Declared'.row Sending.the-type); rd = λ x. x; mk = λ x. x; } λ M 𝓤 H A W. record { copies = Laws''''''.copy Sending.the-type Laws''''.the-copy 𝓤
-    H A W; lawful = Laws''''''.lawful Sending.the-type Laws''''.the-laws 𝓤 H A W; makes = Laws''''''.makes Sending.the-type Laws''''.the-plain 𝓤 H A;
-    in-mem = Local.mem-whole 𝓤 H A W (Declared'.row Sending.the-type); of-mem = Local.whole-mem 𝓤 H A W (Declared'.row Sending.the-type); }
+r·4 = StructRow.result Sending.the-type Laws''''.the-laws Laws''''.the-copy Laws''''.the-plain
+
 abbrev pub ps·5 : List.List (Kinds.PK 2)
-ps·5 = (MutSlice.pMutS InflightAction.row 0 tt) ∷ (MutSlice.pMutS (Referent.rtF (Referent.fInt Syntax.w32)) 1 tt) ∷ Bool.pBool ∷ (Value.pVal record {
-    ty = Declared'.row Sending.the-type; one = Path.refl; val = Laws''''''.val Sending.the-type Laws''''.the-laws; tells = Laws''''''.tells
-    Sending.the-type Laws''''.the-laws; still = Laws''''''.still Sending.the-type Laws''''.the-copy Exit.yes; row = Rows.whole (Declared'.row
-    Sending.the-type); rd = λ x. x; mk = λ x. x; } λ M 𝓤 H A W. record { copies = Laws''''''.copy Sending.the-type Laws''''.the-copy 𝓤 H A W; lawful =
-    Laws''''''.lawful Sending.the-type Laws''''.the-laws 𝓤 H A W; makes = Laws''''''.makes Sending.the-type Laws''''.the-plain 𝓤 H A; in-mem =
-    Local.mem-whole 𝓤 H A W (Declared'.row Sending.the-type); of-mem = Local.whole-mem 𝓤 H A W (Declared'.row Sending.the-type); }) ∷ (Value.pVal
-    record { ty = Declared'.row Outgoing.the-type; one = Path.refl; val = Laws''''''.val Outgoing.the-type Laws''.the-laws; tells = Laws''''''.tells
-    Outgoing.the-type Laws''.the-laws; still = Laws''''''.still Outgoing.the-type Laws''.the-copy Exit.yes; row = Rows.whole (Declared'.row
-    Outgoing.the-type); rd = λ x. x; mk = λ x. x; } λ M 𝓤 H A W. record { copies = Laws''''''.copy Outgoing.the-type Laws''.the-copy 𝓤 H A W; lawful =
-    Laws''''''.lawful Outgoing.the-type Laws''.the-laws 𝓤 H A W; makes = Laws''''''.makes Outgoing.the-type Laws''.the-plain 𝓤 H A; in-mem =
-    Local.mem-whole 𝓤 H A W (Declared'.row Outgoing.the-type); of-mem = Local.whole-mem 𝓤 H A W (Declared'.row Outgoing.the-type); }) ∷ (Value.pVal
-    record { ty = Declared.row Notice.the-type; one = Path.refl; val = Laws'''''.val Notice.the-type Laws.the-laws; tells = Laws'''''.tells
-    Notice.the-type Laws.the-laws; still = Laws'''''.still Notice.the-type Laws.the-copy Exit.yes; row = Rows.whole (Declared.row Notice.the-type); rd
-    = λ x. x; mk = λ x. x; } λ M 𝓤 H A W. record { copies = Laws'''''.copy Notice.the-type Laws.the-copy 𝓤 H A W; lawful = Laws'''''.lawful
-    Notice.the-type Laws.the-laws 𝓤 H A W tt; makes = Laws'''''.makes Notice.the-type Laws.the-plain 𝓤 H A; in-mem = Local.mem-whole 𝓤 H A W
-    (Declared.row Notice.the-type); of-mem = Local.whole-mem 𝓤 H A W (Declared.row Notice.the-type); }) ∷ List.[]
+ps·5 = (MutSlice.pMutS InflightAction.row 0 tt) ∷ (MutSlice.pMutS (Referent.rtF (Referent.fInt Syntax.w32)) 1 tt) ∷
+    Bool.pBool ∷ (StructRow.param Sending.the-type Laws''''.the-laws Laws''''.the-copy Laws''''.the-plain) ∷ (StructRow.param
+    Outgoing.the-type Laws''.the-laws Laws''.the-copy Laws''.the-plain) ∷ (StructRow.enum-param Notice.the-type
+    Laws.the-laws Laws.the-copy Laws.the-plain tt) ∷ List.[]
+
 abbrev pub r·5 : Kinds.RK 2
-r·5 = Value.rVal record { ty = Declared'.row Sending.the-type; one = Path.refl; val = Laws''''''.val Sending.the-type Laws''''.the-laws; tells =
-    Laws''''''.tells Sending.the-type Laws''''.the-laws; still = Laws''''''.still Sending.the-type Laws''''.the-copy Exit.yes; row = Rows.whole
-    (Declared'.row Sending.the-type); rd = λ x. x; mk = λ x. x; } λ M 𝓤 H A W. record { copies = Laws''''''.copy Sending.the-type Laws''''.the-copy 𝓤
-    H A W; lawful = Laws''''''.lawful Sending.the-type Laws''''.the-laws 𝓤 H A W; makes = Laws''''''.makes Sending.the-type Laws''''.the-plain 𝓤 H A;
-    in-mem = Local.mem-whole 𝓤 H A W (Declared'.row Sending.the-type); of-mem = Local.whole-mem 𝓤 H A W (Declared'.row Sending.the-type); }
+r·5 = StructRow.result Sending.the-type Laws''''.the-laws Laws''''.the-copy Laws''''.the-plain
+
 abbrev pub hs : List.List Syntax.Home
-hs = Syntax.valueLocal ∷ Syntax.valueLocal ∷ Syntax.valueLocal ∷ Syntax.valueLocal ∷ Syntax.valueLocal ∷ Syntax.valueLocal ∷ Syntax.valueLocal ∷
-    Syntax.valueLocal ∷ Syntax.valueLocal ∷ Syntax.valueLocal ∷ Syntax.valueLocal ∷ Syntax.valueLocal ∷ Syntax.valueLocal ∷ Syntax.valueLocal ∷
-    Syntax.valueLocal ∷ Syntax.valueLocal ∷ Syntax.valueLocal ∷ Syntax.valueLocal ∷ Syntax.valueLocal ∷ Syntax.valueLocal ∷ Syntax.valueLocal ∷
-    Syntax.valueLocal ∷ Syntax.valueLocal ∷ Syntax.valueLocal ∷ Syntax.valueLocal ∷ Syntax.valueLocal ∷ Syntax.valueLocal ∷ Syntax.valueLocal ∷
-    List.[]
+hs = Syntax.valueLocal ∷ Syntax.valueLocal ∷ Syntax.valueLocal ∷ Syntax.valueLocal ∷ Syntax.valueLocal ∷
+    Syntax.valueLocal ∷ Syntax.valueLocal ∷ Syntax.valueLocal ∷ Syntax.valueLocal ∷ Syntax.valueLocal ∷
+    Syntax.valueLocal ∷ Syntax.valueLocal ∷ Syntax.valueLocal ∷ Syntax.valueLocal ∷ Syntax.valueLocal ∷
+    Syntax.valueLocal ∷ Syntax.valueLocal ∷ Syntax.valueLocal ∷ Syntax.valueLocal ∷ Syntax.valueLocal ∷
+    Syntax.valueLocal ∷ Syntax.valueLocal ∷ Syntax.valueLocal ∷ Syntax.valueLocal ∷ Syntax.valueLocal ∷
+    Syntax.valueLocal ∷ Syntax.valueLocal ∷ Syntax.valueLocal ∷ List.[]
+
 abbrev b0 : Syntax.Body
 b0 = Syntax.assign (Syntax.place 7 List.[]) (Syntax.rvOpd (Syntax.copy (Syntax.place 4 ((Syntax.field 2) ∷ List.[]))))
+
 abbrev b1 : Syntax.Body
-b1 = Syntax.assign (Syntax.place 15 List.[]) (Syntax.addrOf (Syntax.place 1 ((Syntax.field 0) ∷ (Syntax.deref RelayCircuit.ty) ∷ List.[])))
+b1 = Syntax.assign (Syntax.place 15 List.[]) (Syntax.addrOf (Syntax.place 1 ((Syntax.field 0) ∷
+    (Syntax.deref RelayCircuit.ty) ∷ List.[])))
+
 abbrev b2 : Syntax.Body
-b2 = Syntax.assign (Syntax.place 16 List.[]) (Syntax.aggregate ((Syntax.copy (Syntax.place 15 List.[])) ∷ (Syntax.copy (Syntax.place 1 ((Syntax.field
-    1) ∷ List.[]))) ∷ List.[]))
+b2 = Syntax.assign (Syntax.place 16 List.[]) (Syntax.aggregate ((Syntax.copy (Syntax.place 15 List.[])) ∷
+    (Syntax.copy (Syntax.place 1 ((Syntax.field 1) ∷ List.[]))) ∷ List.[]))
+
 abbrev b3 : Syntax.Body
-b3 = Syntax.call "hnsr_circuit::tables::circuits::circuit_at" ((Syntax.copy (Syntax.place 16 List.[])) ∷ (Syntax.copy (Syntax.place 7 List.[])) ∷
-    (Syntax.copy (Syntax.place 6 List.[])) ∷ List.[]) (Syntax.place 8 List.[])
+b3 = Syntax.call "hnsr_circuit::tables::circuits::circuit_at" ((Syntax.copy (Syntax.place 16 List.[])) ∷
+    (Syntax.copy (Syntax.place 7 List.[])) ∷ (Syntax.copy (Syntax.place 6 List.[])) ∷ List.[]) (Syntax.place 8 List.[])
+
 abbrev b4 : Syntax.Body
-b4 = Syntax.call "hnsr_circuit::circuits::circuit_unmarked" ((Syntax.copy (Syntax.place 8 List.[])) ∷ List.[]) (Syntax.place 9 List.[])
+b4 = Syntax.call "hnsr_circuit::circuits::circuit_unmarked" ((Syntax.copy (Syntax.place 8 List.[])) ∷ List.[])
+    (Syntax.place 9 List.[])
+
 abbrev b5 : Syntax.Body
-b5 = Syntax.call "hnsr_circuit::revocation::plan_circuit" ((Syntax.copy (Syntax.place 8 List.[])) ∷ (Syntax.copy (Syntax.place 4 List.[])) ∷ List.[])
-    (Syntax.place 10 List.[])
+b5 = Syntax.call "hnsr_circuit::revocation::plan_circuit" ((Syntax.copy (Syntax.place 8 List.[])) ∷
+    (Syntax.copy (Syntax.place 4 List.[])) ∷ List.[]) (Syntax.place 10 List.[])
+
 abbrev b6 : Syntax.Body
 b6 = Syntax.assign (Syntax.place 11 List.[]) (Syntax.rvOpd (Syntax.copy (Syntax.place 10 ((Syntax.field 1) ∷ List.[]))))
+
 abbrev b7 : Syntax.Body
 b7 = Syntax.assign (Syntax.place 12 List.[]) (Syntax.rvOpd (Syntax.copy (Syntax.place 10 ((Syntax.field 2) ∷ List.[]))))
+
 abbrev b8 : Syntax.Body
 b8 = Syntax.assign (Syntax.place 13 List.[]) (Syntax.rvOpd (Syntax.copy (Syntax.place 10 ((Syntax.field 4) ∷ List.[]))))
+
 abbrev b9 : Syntax.Body
-b9 = Syntax.assign (Syntax.place 18 List.[]) (Syntax.addrOf (Syntax.place 1 ((Syntax.field 0) ∷ (Syntax.deref RelayCircuit.ty) ∷ List.[])))
+b9 = Syntax.assign (Syntax.place 18 List.[]) (Syntax.addrOf (Syntax.place 1 ((Syntax.field 0) ∷
+    (Syntax.deref RelayCircuit.ty) ∷ List.[])))
+
 abbrev b10 : Syntax.Body
-b10 = Syntax.assign (Syntax.place 19 List.[]) (Syntax.aggregate ((Syntax.copy (Syntax.place 18 List.[])) ∷ (Syntax.copy (Syntax.place 1 ((Syntax.field
-    1) ∷ List.[]))) ∷ List.[]))
+b10 = Syntax.assign (Syntax.place 19 List.[]) (Syntax.aggregate ((Syntax.copy (Syntax.place 18 List.[])) ∷
+    (Syntax.copy (Syntax.place 1 ((Syntax.field 1) ∷ List.[]))) ∷ List.[]))
+
 abbrev b11 : Syntax.Body
-b11 = Syntax.call "hnsr_circuit::tables::circuits::set_circuit" ((Syntax.copy (Syntax.place 19 List.[])) ∷ Syntax.opdTrue ∷ (Syntax.copy (Syntax.place
-    6 List.[])) ∷ (Syntax.copy (Syntax.place 9 List.[])) ∷ List.[]) (Syntax.place 17 List.[])
+b11 = Syntax.call "hnsr_circuit::tables::circuits::set_circuit" ((Syntax.copy (Syntax.place 19 List.[])) ∷
+    Syntax.opdTrue ∷ (Syntax.copy (Syntax.place 6 List.[])) ∷ (Syntax.copy (Syntax.place 9 List.[])) ∷ List.[])
+    (Syntax.place 17 List.[])
+
 abbrev b12 : Syntax.Body
-b12 = Syntax.assign (Syntax.place 20 List.[]) (Syntax.addrOf (Syntax.place 2 ((Syntax.field 0) ∷ (Syntax.deref InflightAction.ty) ∷ List.[])))
+b12 = Syntax.assign (Syntax.place 20 List.[]) (Syntax.addrOf (Syntax.place 2 ((Syntax.field 0) ∷
+    (Syntax.deref InflightAction.ty) ∷ List.[])))
+
 abbrev b13 : Syntax.Body
-b13 = Syntax.assign (Syntax.place 21 List.[]) (Syntax.aggregate ((Syntax.copy (Syntax.place 20 List.[])) ∷ (Syntax.copy (Syntax.place 2 ((Syntax.field
-    1) ∷ List.[]))) ∷ List.[]))
+b13 = Syntax.assign (Syntax.place 21 List.[]) (Syntax.aggregate ((Syntax.copy (Syntax.place 20 List.[])) ∷
+    (Syntax.copy (Syntax.place 2 ((Syntax.field 1) ∷ List.[]))) ∷ List.[]))
+
 abbrev b14 : Syntax.Body
-b14 = Syntax.assign (Syntax.place 22 List.[]) (Syntax.addrOf (Syntax.place 3 ((Syntax.field 0) ∷ (Syntax.deref (Syntax.tyInt Syntax.w32)) ∷ List.[])))
+b14 = Syntax.assign (Syntax.place 22 List.[]) (Syntax.addrOf (Syntax.place 3 ((Syntax.field 0) ∷
+    (Syntax.deref (Syntax.tyInt Syntax.w32)) ∷ List.[])))
+
 abbrev b15 : Syntax.Body
-b15 = Syntax.assign (Syntax.place 23 List.[]) (Syntax.aggregate ((Syntax.copy (Syntax.place 22 List.[])) ∷ (Syntax.copy (Syntax.place 3 ((Syntax.field
-    1) ∷ List.[]))) ∷ List.[]))
+b15 = Syntax.assign (Syntax.place 23 List.[]) (Syntax.aggregate ((Syntax.copy (Syntax.place 22 List.[])) ∷
+    (Syntax.copy (Syntax.place 3 ((Syntax.field 1) ∷ List.[]))) ∷ List.[]))
+
 abbrev b16 : Syntax.Body
-b16 = Syntax.call "hnsr_circuit::queue::drop_and_tell" ((Syntax.copy (Syntax.place 21 List.[])) ∷ (Syntax.copy (Syntax.place 23 List.[])) ∷
-    (Syntax.copy (Syntax.place 11 List.[])) ∷ (Syntax.copy (Syntax.place 10 ((Syntax.field 0) ∷ List.[]))) ∷ (Syntax.copy (Syntax.place 12 List.[])) ∷
+b16 = Syntax.call "hnsr_circuit::queue::drop_and_tell" ((Syntax.copy (Syntax.place 21 List.[])) ∷
+    (Syntax.copy (Syntax.place 23 List.[])) ∷ (Syntax.copy (Syntax.place 11 List.[])) ∷ (Syntax.copy
+    (Syntax.place 10 ((Syntax.field 0) ∷ List.[]))) ∷ (Syntax.copy (Syntax.place 12 List.[])) ∷
     (Syntax.copy (Syntax.place 5 List.[])) ∷ List.[]) (Syntax.place 14 List.[])
+
 abbrev b17 : Syntax.Body
-b17 = Syntax.assign (Syntax.place 24 List.[]) (Syntax.addrOf (Syntax.place 2 ((Syntax.field 0) ∷ (Syntax.deref InflightAction.ty) ∷ List.[])))
+b17 = Syntax.assign (Syntax.place 24 List.[]) (Syntax.addrOf (Syntax.place 2 ((Syntax.field 0) ∷
+    (Syntax.deref InflightAction.ty) ∷ List.[])))
+
 abbrev b18 : Syntax.Body
-b18 = Syntax.assign (Syntax.place 25 List.[]) (Syntax.aggregate ((Syntax.copy (Syntax.place 24 List.[])) ∷ (Syntax.copy (Syntax.place 2 ((Syntax.field
-    1) ∷ List.[]))) ∷ List.[]))
+b18 = Syntax.assign (Syntax.place 25 List.[]) (Syntax.aggregate ((Syntax.copy (Syntax.place 24 List.[])) ∷
+    (Syntax.copy (Syntax.place 2 ((Syntax.field 1) ∷ List.[]))) ∷ List.[]))
+
 abbrev b19 : Syntax.Body
-b19 = Syntax.assign (Syntax.place 26 List.[]) (Syntax.addrOf (Syntax.place 3 ((Syntax.field 0) ∷ (Syntax.deref (Syntax.tyInt Syntax.w32)) ∷ List.[])))
+b19 = Syntax.assign (Syntax.place 26 List.[]) (Syntax.addrOf (Syntax.place 3 ((Syntax.field 0) ∷
+    (Syntax.deref (Syntax.tyInt Syntax.w32)) ∷ List.[])))
+
 abbrev b20 : Syntax.Body
-b20 = Syntax.assign (Syntax.place 27 List.[]) (Syntax.aggregate ((Syntax.copy (Syntax.place 26 List.[])) ∷ (Syntax.copy (Syntax.place 3 ((Syntax.field
-    1) ∷ List.[]))) ∷ List.[]))
+b20 = Syntax.assign (Syntax.place 27 List.[]) (Syntax.aggregate ((Syntax.copy (Syntax.place 26 List.[])) ∷
+    (Syntax.copy (Syntax.place 3 ((Syntax.field 1) ∷ List.[]))) ∷ List.[]))
+
 abbrev b21 : Syntax.Body
-b21 = Syntax.call "hnsr_circuit::queue::tell_notice" ((Syntax.copy (Syntax.place 25 List.[])) ∷ (Syntax.copy (Syntax.place 27 List.[])) ∷ (Syntax.copy
-    (Syntax.place 10 ((Syntax.field 3) ∷ List.[]))) ∷ (Syntax.copy (Syntax.place 14 List.[])) ∷ (Syntax.copy (Syntax.place 13 List.[])) ∷ (Syntax.copy
-    (Syntax.place 5 List.[])) ∷ List.[]) (Syntax.place 0 List.[])
+b21 = Syntax.call "hnsr_circuit::queue::tell_notice" ((Syntax.copy (Syntax.place 25 List.[])) ∷
+    (Syntax.copy (Syntax.place 27 List.[])) ∷ (Syntax.copy (Syntax.place 10 ((Syntax.field 3) ∷ List.[]))) ∷
+    (Syntax.copy (Syntax.place 14 List.[])) ∷ (Syntax.copy (Syntax.place 13 List.[])) ∷
+    (Syntax.copy (Syntax.place 5 List.[])) ∷ List.[]) (Syntax.place 0 List.[])
+
 abbrev b22 : Syntax.Body
 b22 = Syntax.return
+
 abbrev b23 : Syntax.Body
 b23 = Syntax.seq b21 b22
+
 abbrev b24 : Syntax.Body
 b24 = Syntax.seq b20 b23
+
 abbrev b25 : Syntax.Body
 b25 = Syntax.seq b19 b24
+
 abbrev b26 : Syntax.Body
 b26 = Syntax.seq b18 b25
+
 abbrev b27 : Syntax.Body
 b27 = Syntax.seq b17 b26
+
 abbrev b28 : Syntax.Body
 b28 = Syntax.seq b16 b27
+
 abbrev b29 : Syntax.Body
 b29 = Syntax.seq b15 b28
+
 abbrev b30 : Syntax.Body
 b30 = Syntax.seq b14 b29
+
 abbrev b31 : Syntax.Body
 b31 = Syntax.seq b13 b30
+
 abbrev b32 : Syntax.Body
 b32 = Syntax.seq b12 b31
+
 abbrev b33 : Syntax.Body
 b33 = Syntax.seq b11 b32
+
 abbrev b34 : Syntax.Body
 b34 = Syntax.seq b10 b33
+
 abbrev b35 : Syntax.Body
 b35 = Syntax.seq b9 b34
+
 abbrev b36 : Syntax.Body
 b36 = Syntax.seq b8 b35
+
 abbrev b37 : Syntax.Body
 b37 = Syntax.seq b7 b36
+
 abbrev b38 : Syntax.Body
 b38 = Syntax.seq b6 b37
+
 abbrev b39 : Syntax.Body
 b39 = Syntax.seq b5 b38
+
 abbrev b40 : Syntax.Body
 b40 = Syntax.seq b4 b39
+
 abbrev b41 : Syntax.Body
 b41 = Syntax.seq b3 b40
+
 abbrev b42 : Syntax.Body
 b42 = Syntax.seq b2 b41
+
 abbrev b43 : Syntax.Body
 b43 = Syntax.seq b1 b42
+
 abbrev b44 : Syntax.Body
 b44 = Syntax.seq b0 b43
+
 abbrev pub body : Syntax.Body
 body = b44
+
 abbrev pub Claims : Type 1
-Claims = Kinds.In 1 ps·0 × Kinds.Out 1 ps·0 r·0 × Kinds.In 0 ps·1 × Kinds.Out 0 ps·1 r·1 × Kinds.In 0 ps·2 × Kinds.Out 0 ps·2 r·2 × Kinds.In 1 ps·3 ×
-    Kinds.Out 1 ps·3 r·3 × Kinds.In 2 ps·4 × Kinds.Out 2 ps·4 r·4 × Kinds.In 2 ps·5 × Kinds.Out 2 ps·5 r·5
+Claims = Kinds.In 1 ps·0 × Kinds.Out 1 ps·0 r·0 × Kinds.In 0 ps·1 × Kinds.Out 0 ps·1 r·1 × Kinds.In 0 ps·2 × Kinds.Out
+    0 ps·2 r·2 × Kinds.In 1 ps·3 × Kinds.Out 1 ps·3 r·3 × Kinds.In 2 ps·4 × Kinds.Out 2 ps·4 r·4 × Kinds.In 2 ps·5 ×
+    Kinds.Out 2 ps·5 r·5
+
 abbrev e0 : Row.Entry
 e0 = (0, Rows.any-gone Laws''''.mir)
+
 abbrev e1 : Row.Entry
 e1 = (1, Mut.mslice RelayCircuit.row ref4 0)
+
 abbrev e2 : Row.Entry
 e2 = (2, Mut.mslice InflightAction.row ref5 1)
+
 abbrev e3 : Row.Entry
 e3 = (3, Mut.mslice (Referent.rtF (Referent.fInt Syntax.w32)) ref6 2)
+
 abbrev e4 : Row.Entry
 e4 = (4, Rows.whole (Declared'.row Sending.the-type))
+
 abbrev e5 : Row.Entry
 e5 = (5, Rows.whole (Declared.row Notice.the-type))
+
 abbrev e6 : Row.Entry
 e6 = (6, Rows.sc-here (Row.sInt Syntax.w64))
+
 abbrev e7 : Row.Entry
 e7 = (7, Rows.any-gone Laws'.mir)
+
 abbrev e8 : Row.Entry
 e8 = (8, Rows.any-gone RelayCircuit.ty)
+
 abbrev e9 : Row.Entry
 e9 = (9, Rows.any-gone RelayCircuit.ty)
+
 abbrev e10 : Row.Entry
 e10 = (10, Rows.any-gone Laws'''.mir)
+
 abbrev e11 : Row.Entry
 e11 = (11, Rows.any-gone Laws''''.mir)
+
 abbrev e12 : Row.Entry
 e12 = (12, Rows.any-gone Laws''.mir)
+
 abbrev e13 : Row.Entry
 e13 = (13, Rows.any-gone Laws''.mir)
+
 abbrev e14 : Row.Entry
 e14 = (14, Rows.any-gone Laws''''.mir)
+
 abbrev e15 : Row.Entry
 e15 = (15, Rows.any-gone ref0)
+
 abbrev e16 : Row.Entry
-e16 = (16, Rows.any-gone (Syntax.tyStruct (38 ∷ 91 ∷ 93 ∷ List.[]) (Syntax.tcons ref0 (Syntax.tcons (Syntax.tyInt Syntax.w64) Syntax.tnil))))
+e16 = (16, Rows.any-gone slice0)
+
 abbrev e17 : Row.Entry
 e17 = (17, Rows.any-gone Syntax.tyUnit)
+
 abbrev e18 : Row.Entry
 e18 = (18, Rows.any-gone ref1)
+
 abbrev e19 : Row.Entry
-e19 = (19, Rows.any-gone (Syntax.tyStruct (38 ∷ 91 ∷ 93 ∷ List.[]) (Syntax.tcons ref1 (Syntax.tcons (Syntax.tyInt Syntax.w64) Syntax.tnil))))
+e19 = (19, Rows.any-gone slice1)
+
 abbrev e20 : Row.Entry
 e20 = (20, Rows.any-gone ref2)
+
 abbrev e21 : Row.Entry
-e21 = (21, Rows.any-gone (Syntax.tyStruct (38 ∷ 91 ∷ 93 ∷ List.[]) (Syntax.tcons ref2 (Syntax.tcons (Syntax.tyInt Syntax.w64) Syntax.tnil))))
+e21 = (21, Rows.any-gone slice2)
+
 abbrev e22 : Row.Entry
 e22 = (22, Rows.any-gone ref3)
+
 abbrev e23 : Row.Entry
-e23 = (23, Rows.any-gone (Syntax.tyStruct (38 ∷ 91 ∷ 93 ∷ List.[]) (Syntax.tcons ref3 (Syntax.tcons (Syntax.tyInt Syntax.w64) Syntax.tnil))))
+e23 = (23, Rows.any-gone slice3)
+
 abbrev e24 : Row.Entry
 e24 = (24, Rows.any-gone ref2)
+
 abbrev e25 : Row.Entry
-e25 = (25, Rows.any-gone (Syntax.tyStruct (38 ∷ 91 ∷ 93 ∷ List.[]) (Syntax.tcons ref2 (Syntax.tcons (Syntax.tyInt Syntax.w64) Syntax.tnil))))
+e25 = (25, Rows.any-gone slice2)
+
 abbrev e26 : Row.Entry
 e26 = (26, Rows.any-gone ref3)
+
 abbrev e27 : Row.Entry
-e27 = (27, Rows.any-gone (Syntax.tyStruct (38 ∷ 91 ∷ 93 ∷ List.[]) (Syntax.tcons ref3 (Syntax.tcons (Syntax.tyInt Syntax.w64) Syntax.tnil))))
+e27 = (27, Rows.any-gone slice3)
+
 abbrev e0·1 : Row.Entry
 e0·1 = (0, Rows.whole (Declared'.row Sending.the-type))
+
 abbrev e4·1 : Row.Entry
 e4·1 = (4, Rows.any-gone Laws''''.mir)
+
 abbrev e5·1 : Row.Entry
 e5·1 = (5, Rows.any-gone Laws.mir)
+
 abbrev e6·1 : Row.Entry
 e6·1 = (6, Rows.any-gone (Syntax.tyInt Syntax.w64))
+
 abbrev e7·1 : Row.Entry
 e7·1 = (7, Rows.whole (Declared'.row Places.the-type))
+
 abbrev e1·1 : Row.Entry
 e1·1 = (1, Reshare.mslice-owedS RelayCircuit.row ref4 0 3 Row.off)
+
 abbrev e15·1 : Row.Entry
 e15·1 = (15, Relend.ssptr RelayCircuit.row ref0 3)
+
 abbrev e16·1 : Row.Entry
 e16·1 = (16, Rows.sslice RelayCircuit.row ref0 3)
+
 abbrev e8·1 : Row.Entry
 e8·1 = (8, RelayCircuit.held)
+
 abbrev e9·1 : Row.Entry
 e9·1 = (9, RelayCircuit.held)
+
 abbrev e10·1 : Row.Entry
 e10·1 = (10, Rows.whole (Declared'.row EndPlan.the-type))
+
 abbrev e11·1 : Row.Entry
 e11·1 = (11, Rows.whole (Declared'.row Sending.the-type))
+
 abbrev e12·1 : Row.Entry
 e12·1 = (12, Rows.whole (Declared'.row Outgoing.the-type))
+
 abbrev e13·1 : Row.Entry
 e13·1 = (13, Rows.whole (Declared'.row Outgoing.the-type))
+
 abbrev e1·2 : Row.Entry
 e1·2 = (1, Relend.mslice-owed RelayCircuit.row ref4 0 4 Row.off)
+
 abbrev e18·1 : Row.Entry
 e18·1 = (18, Relend.msptr RelayCircuit.row ref1 4)
+
 abbrev e19·1 : Row.Entry
 e19·1 = (19, Mut.mslice RelayCircuit.row ref1 4)
+
 abbrev e17·1 : Row.Entry
 e17·1 = (17, Rows.sc-here Row.sUnit)
+
 abbrev e19·2 : Row.Entry
 e19·2 = (19, Mut.msleft RelayCircuit.row ref1)
+
 abbrev e2·1 : Row.Entry
 e2·1 = (2, Relend.mslice-owed InflightAction.row ref5 1 5 Row.off)
+
 abbrev e20·1 : Row.Entry
 e20·1 = (20, Relend.msptr InflightAction.row ref2 5)
+
 abbrev e21·1 : Row.Entry
 e21·1 = (21, Mut.mslice InflightAction.row ref2 5)
+
 abbrev e3·1 : Row.Entry
 e3·1 = (3, Relend.mslice-owed (Referent.rtF (Referent.fInt Syntax.w32)) ref6 2 6 Row.off)
+
 abbrev e22·1 : Row.Entry
 e22·1 = (22, Relend.msptr (Referent.rtF (Referent.fInt Syntax.w32)) ref3 6)
+
 abbrev e23·1 : Row.Entry
 e23·1 = (23, Mut.mslice (Referent.rtF (Referent.fInt Syntax.w32)) ref3 6)
+
 abbrev e14·1 : Row.Entry
 e14·1 = (14, Rows.whole (Declared'.row Sending.the-type))
+
 abbrev e21·2 : Row.Entry
 e21·2 = (21, Mut.msleft InflightAction.row ref2)
+
 abbrev e23·2 : Row.Entry
 e23·2 = (23, Mut.msleft (Referent.rtF (Referent.fInt Syntax.w32)) ref3)
+
 abbrev e2·2 : Row.Entry
 e2·2 = (2, Relend.mslice-owed InflightAction.row ref5 1 7 Row.off)
+
 abbrev e24·1 : Row.Entry
 e24·1 = (24, Relend.msptr InflightAction.row ref2 7)
+
 abbrev e25·1 : Row.Entry
 e25·1 = (25, Mut.mslice InflightAction.row ref2 7)
+
 abbrev e3·2 : Row.Entry
 e3·2 = (3, Relend.mslice-owed (Referent.rtF (Referent.fInt Syntax.w32)) ref6 2 8 Row.off)
+
 abbrev e26·1 : Row.Entry
 e26·1 = (26, Relend.msptr (Referent.rtF (Referent.fInt Syntax.w32)) ref3 8)
+
 abbrev e27·1 : Row.Entry
 e27·1 = (27, Mut.mslice (Referent.rtF (Referent.fInt Syntax.w32)) ref3 8)
+
 abbrev e25·2 : Row.Entry
 e25·2 = (25, Mut.msleft InflightAction.row ref2)
+
 abbrev e27·2 : Row.Entry
 e27·2 = (27, Mut.msleft (Referent.rtF (Referent.fInt Syntax.w32)) ref3)
+
 abbrev pub t0 : List.List Row.Entry
 t0 = e0 ∷ e1 ∷ e2 ∷ e3 ∷ e4 ∷ e5 ∷ e6 ∷ e7 ∷ e8 ∷ e9 ∷ e10 ∷ e11 ∷ e12 ∷ e13 ∷ e14 ∷ e15 ∷ List.[]
+
 abbrev pub t1 : List.List Row.Entry
 t1 = e16 ∷ e17 ∷ e18 ∷ e19 ∷ e20 ∷ e21 ∷ e22 ∷ e23 ∷ e24 ∷ e25 ∷ e26 ∷ e27 ∷ List.[]
+
 abbrev pub t2 : List.List Row.Entry
 t2 = e0·1 ∷ e1 ∷ e2 ∷ e3 ∷ e4·1 ∷ e5·1 ∷ e6·1 ∷ e7 ∷ e8 ∷ e9 ∷ e10 ∷ e11 ∷ e12 ∷ e13 ∷ e14 ∷ e15 ∷ List.[]
+
 abbrev pub t3 : List.List Row.Entry
 t3 = e0 ∷ e1 ∷ e2 ∷ e3 ∷ e4 ∷ e5 ∷ e6 ∷ e7·1 ∷ e8 ∷ e9 ∷ e10 ∷ e11 ∷ e12 ∷ e13 ∷ e14 ∷ e15 ∷ List.[]
+
 abbrev pub t4 : List.List Row.Entry
 t4 = e0 ∷ e1·1 ∷ e2 ∷ e3 ∷ e4 ∷ e5 ∷ e6 ∷ e7·1 ∷ e8 ∷ e9 ∷ e10 ∷ e11 ∷ e12 ∷ e13 ∷ e14 ∷ e15·1 ∷ List.[]
+
 abbrev pub t5 : List.List Row.Entry
 t5 = e0 ∷ e1·1 ∷ e2 ∷ e3 ∷ e4 ∷ e5 ∷ e6 ∷ e7·1 ∷ e8 ∷ e9 ∷ e10 ∷ e11 ∷ e12 ∷ e13 ∷ e14 ∷ e15 ∷ List.[]
+
 abbrev pub t6 : List.List Row.Entry
 t6 = e16·1 ∷ e17 ∷ e18 ∷ e19 ∷ e20 ∷ e21 ∷ e22 ∷ e23 ∷ e24 ∷ e25 ∷ e26 ∷ e27 ∷ List.[]
+
 abbrev pub t7 : List.List Row.Entry
 t7 = e0 ∷ e1·1 ∷ e2 ∷ e3 ∷ e4 ∷ e5 ∷ e6 ∷ e7·1 ∷ e8·1 ∷ e9 ∷ e10 ∷ e11 ∷ e12 ∷ e13 ∷ e14 ∷ e15 ∷ List.[]
+
 abbrev pub t8 : List.List Row.Entry
 t8 = e0 ∷ e1·1 ∷ e2 ∷ e3 ∷ e4 ∷ e5 ∷ e6 ∷ e7 ∷ e8·1 ∷ e9 ∷ e10 ∷ e11 ∷ e12 ∷ e13 ∷ e14 ∷ e15 ∷ List.[]
+
 abbrev pub t9 : List.List Row.Entry
 t9 = e0 ∷ e1 ∷ e2 ∷ e3 ∷ e4 ∷ e5 ∷ e6 ∷ e7 ∷ e8·1 ∷ e9 ∷ e10 ∷ e11 ∷ e12 ∷ e13 ∷ e14 ∷ e15 ∷ List.[]
+
 abbrev pub t10 : List.List Row.Entry
 t10 = e0 ∷ e1 ∷ e2 ∷ e3 ∷ e4 ∷ e5 ∷ e6 ∷ e7 ∷ e8·1 ∷ e9·1 ∷ e10 ∷ e11 ∷ e12 ∷ e13 ∷ e14 ∷ e15 ∷ List.[]
+
 abbrev pub t11 : List.List Row.Entry
 t11 = e0 ∷ e1 ∷ e2 ∷ e3 ∷ e4 ∷ e5 ∷ e6 ∷ e7 ∷ e8·1 ∷ e9·1 ∷ e10·1 ∷ e11 ∷ e12 ∷ e13 ∷ e14 ∷ e15 ∷ List.[]
+
 abbrev pub t12 : List.List Row.Entry
 t12 = e0 ∷ e1 ∷ e2 ∷ e3 ∷ e4·1 ∷ e5 ∷ e6 ∷ e7 ∷ e8·1 ∷ e9·1 ∷ e10·1 ∷ e11 ∷ e12 ∷ e13 ∷ e14 ∷ e15 ∷ List.[]
+
 abbrev pub t13 : List.List Row.Entry
 t13 = e0 ∷ e1 ∷ e2 ∷ e3 ∷ e4·1 ∷ e5 ∷ e6 ∷ e7 ∷ e8 ∷ e9·1 ∷ e10·1 ∷ e11 ∷ e12 ∷ e13 ∷ e14 ∷ e15 ∷ List.[]
+
 abbrev pub t14 : List.List Row.Entry
 t14 = e0 ∷ e1 ∷ e2 ∷ e3 ∷ e4·1 ∷ e5 ∷ e6 ∷ e7 ∷ e8 ∷ e9·1 ∷ e10·1 ∷ e11·1 ∷ e12 ∷ e13 ∷ e14 ∷ e15 ∷ List.[]
+
 abbrev pub t15 : List.List Row.Entry
 t15 = e0 ∷ e1 ∷ e2 ∷ e3 ∷ e4·1 ∷ e5 ∷ e6 ∷ e7 ∷ e8 ∷ e9·1 ∷ e10·1 ∷ e11·1 ∷ e12·1 ∷ e13 ∷ e14 ∷ e15 ∷ List.[]
+
 abbrev pub t16 : List.List Row.Entry
 t16 = e0 ∷ e1 ∷ e2 ∷ e3 ∷ e4·1 ∷ e5 ∷ e6 ∷ e7 ∷ e8 ∷ e9·1 ∷ e10·1 ∷ e11·1 ∷ e12·1 ∷ e13·1 ∷ e14 ∷ e15 ∷ List.[]
+
 abbrev pub t17 : List.List Row.Entry
 t17 = e0 ∷ e1·2 ∷ e2 ∷ e3 ∷ e4·1 ∷ e5 ∷ e6 ∷ e7 ∷ e8 ∷ e9·1 ∷ e10·1 ∷ e11·1 ∷ e12·1 ∷ e13·1 ∷ e14 ∷ e15 ∷ List.[]
+
 abbrev pub t18 : List.List Row.Entry
 t18 = e16 ∷ e17 ∷ e18·1 ∷ e19 ∷ e20 ∷ e21 ∷ e22 ∷ e23 ∷ e24 ∷ e25 ∷ e26 ∷ e27 ∷ List.[]
+
 abbrev pub t19 : List.List Row.Entry
 t19 = e16 ∷ e17 ∷ e18 ∷ e19·1 ∷ e20 ∷ e21 ∷ e22 ∷ e23 ∷ e24 ∷ e25 ∷ e26 ∷ e27 ∷ List.[]
+
 abbrev pub t20 : List.List Row.Entry
 t20 = e16 ∷ e17·1 ∷ e18 ∷ e19·2 ∷ e20 ∷ e21 ∷ e22 ∷ e23 ∷ e24 ∷ e25 ∷ e26 ∷ e27 ∷ List.[]
+
 abbrev pub t21 : List.List Row.Entry
 t21 = e0 ∷ e1·2 ∷ e2 ∷ e3 ∷ e4·1 ∷ e5 ∷ e6 ∷ e7 ∷ e8 ∷ e9 ∷ e10·1 ∷ e11·1 ∷ e12·1 ∷ e13·1 ∷ e14 ∷ e15 ∷ List.[]
+
 abbrev pub t22 : List.List Row.Entry
 t22 = e16 ∷ e17 ∷ e18 ∷ e19·2 ∷ e20 ∷ e21 ∷ e22 ∷ e23 ∷ e24 ∷ e25 ∷ e26 ∷ e27 ∷ List.[]
+
 abbrev pub t23 : List.List Row.Entry
 t23 = e0 ∷ e1 ∷ e2 ∷ e3 ∷ e4·1 ∷ e5 ∷ e6 ∷ e7 ∷ e8 ∷ e9 ∷ e10·1 ∷ e11·1 ∷ e12·1 ∷ e13·1 ∷ e14 ∷ e15 ∷ List.[]
+
 abbrev pub t24 : List.List Row.Entry
 t24 = e0 ∷ e1 ∷ e2·1 ∷ e3 ∷ e4·1 ∷ e5 ∷ e6 ∷ e7 ∷ e8 ∷ e9 ∷ e10·1 ∷ e11·1 ∷ e12·1 ∷ e13·1 ∷ e14 ∷ e15 ∷ List.[]
+
 abbrev pub t25 : List.List Row.Entry
 t25 = e16 ∷ e17 ∷ e18 ∷ e19 ∷ e20·1 ∷ e21 ∷ e22 ∷ e23 ∷ e24 ∷ e25 ∷ e26 ∷ e27 ∷ List.[]
+
 abbrev pub t26 : List.List Row.Entry
 t26 = e16 ∷ e17 ∷ e18 ∷ e19 ∷ e20 ∷ e21·1 ∷ e22 ∷ e23 ∷ e24 ∷ e25 ∷ e26 ∷ e27 ∷ List.[]
+
 abbrev pub t27 : List.List Row.Entry
 t27 = e0 ∷ e1 ∷ e2·1 ∷ e3·1 ∷ e4·1 ∷ e5 ∷ e6 ∷ e7 ∷ e8 ∷ e9 ∷ e10·1 ∷ e11·1 ∷ e12·1 ∷ e13·1 ∷ e14 ∷ e15 ∷ List.[]
+
 abbrev pub t28 : List.List Row.Entry
 t28 = e16 ∷ e17 ∷ e18 ∷ e19 ∷ e20 ∷ e21·1 ∷ e22·1 ∷ e23 ∷ e24 ∷ e25 ∷ e26 ∷ e27 ∷ List.[]
+
 abbrev pub t29 : List.List Row.Entry
 t29 = e16 ∷ e17 ∷ e18 ∷ e19 ∷ e20 ∷ e21·1 ∷ e22 ∷ e23·1 ∷ e24 ∷ e25 ∷ e26 ∷ e27 ∷ List.[]
+
 abbrev pub t30 : List.List Row.Entry
 t30 = e0 ∷ e1 ∷ e2·1 ∷ e3·1 ∷ e4·1 ∷ e5 ∷ e6 ∷ e7 ∷ e8 ∷ e9 ∷ e10·1 ∷ e11·1 ∷ e12·1 ∷ e13·1 ∷ e14·1 ∷ e15 ∷ List.[]
+
 abbrev pub t31 : List.List Row.Entry
 t31 = e16 ∷ e17 ∷ e18 ∷ e19 ∷ e20 ∷ e21·2 ∷ e22 ∷ e23·2 ∷ e24 ∷ e25 ∷ e26 ∷ e27 ∷ List.[]
+
 abbrev pub t32 : List.List Row.Entry
 t32 = e0 ∷ e1 ∷ e2·1 ∷ e3·1 ∷ e4·1 ∷ e5 ∷ e6 ∷ e7 ∷ e8 ∷ e9 ∷ e10·1 ∷ e11 ∷ e12·1 ∷ e13·1 ∷ e14·1 ∷ e15 ∷ List.[]
+
 abbrev pub t33 : List.List Row.Entry
 t33 = e0 ∷ e1 ∷ e2·1 ∷ e3·1 ∷ e4·1 ∷ e5 ∷ e6 ∷ e7 ∷ e8 ∷ e9 ∷ e10·1 ∷ e11 ∷ e12 ∷ e13·1 ∷ e14·1 ∷ e15 ∷ List.[]
+
 abbrev pub t34 : List.List Row.Entry
 t34 = e0 ∷ e1 ∷ e2 ∷ e3·1 ∷ e4·1 ∷ e5 ∷ e6 ∷ e7 ∷ e8 ∷ e9 ∷ e10·1 ∷ e11 ∷ e12 ∷ e13·1 ∷ e14·1 ∷ e15 ∷ List.[]
+
 abbrev pub t35 : List.List Row.Entry
 t35 = e16 ∷ e17 ∷ e18 ∷ e19 ∷ e20 ∷ e21 ∷ e22 ∷ e23·2 ∷ e24 ∷ e25 ∷ e26 ∷ e27 ∷ List.[]
+
 abbrev pub t36 : List.List Row.Entry
 t36 = e0 ∷ e1 ∷ e2 ∷ e3 ∷ e4·1 ∷ e5 ∷ e6 ∷ e7 ∷ e8 ∷ e9 ∷ e10·1 ∷ e11 ∷ e12 ∷ e13·1 ∷ e14·1 ∷ e15 ∷ List.[]
+
 abbrev pub t37 : List.List Row.Entry
 t37 = e0 ∷ e1 ∷ e2·2 ∷ e3 ∷ e4·1 ∷ e5 ∷ e6 ∷ e7 ∷ e8 ∷ e9 ∷ e10·1 ∷ e11 ∷ e12 ∷ e13·1 ∷ e14·1 ∷ e15 ∷ List.[]
+
 abbrev pub t38 : List.List Row.Entry
 t38 = e16 ∷ e17 ∷ e18 ∷ e19 ∷ e20 ∷ e21 ∷ e22 ∷ e23 ∷ e24·1 ∷ e25 ∷ e26 ∷ e27 ∷ List.[]
+
 abbrev pub t39 : List.List Row.Entry
 t39 = e16 ∷ e17 ∷ e18 ∷ e19 ∷ e20 ∷ e21 ∷ e22 ∷ e23 ∷ e24 ∷ e25·1 ∷ e26 ∷ e27 ∷ List.[]
+
 abbrev pub t40 : List.List Row.Entry
 t40 = e0 ∷ e1 ∷ e2·2 ∷ e3·2 ∷ e4·1 ∷ e5 ∷ e6 ∷ e7 ∷ e8 ∷ e9 ∷ e10·1 ∷ e11 ∷ e12 ∷ e13·1 ∷ e14·1 ∷ e15 ∷ List.[]
+
 abbrev pub t41 : List.List Row.Entry
 t41 = e16 ∷ e17 ∷ e18 ∷ e19 ∷ e20 ∷ e21 ∷ e22 ∷ e23 ∷ e24 ∷ e25·1 ∷ e26·1 ∷ e27 ∷ List.[]
+
 abbrev pub t42 : List.List Row.Entry
 t42 = e16 ∷ e17 ∷ e18 ∷ e19 ∷ e20 ∷ e21 ∷ e22 ∷ e23 ∷ e24 ∷ e25·1 ∷ e26 ∷ e27·1 ∷ List.[]
+
 abbrev pub t43 : List.List Row.Entry
 t43 = e0·1 ∷ e1 ∷ e2·2 ∷ e3·2 ∷ e4·1 ∷ e5 ∷ e6 ∷ e7 ∷ e8 ∷ e9 ∷ e10·1 ∷ e11 ∷ e12 ∷ e13·1 ∷ e14·1 ∷ e15 ∷ List.[]
+
 abbrev pub t44 : List.List Row.Entry
 t44 = e16 ∷ e17 ∷ e18 ∷ e19 ∷ e20 ∷ e21 ∷ e22 ∷ e23 ∷ e24 ∷ e25·2 ∷ e26 ∷ e27·2 ∷ List.[]
+
 abbrev pub t45 : List.List Row.Entry
 t45 = e0·1 ∷ e1 ∷ e2·2 ∷ e3·2 ∷ e4·1 ∷ e5·1 ∷ e6 ∷ e7 ∷ e8 ∷ e9 ∷ e10·1 ∷ e11 ∷ e12 ∷ e13·1 ∷ e14·1 ∷ e15 ∷ List.[]
+
 abbrev pub t46 : List.List Row.Entry
 t46 = e0·1 ∷ e1 ∷ e2·2 ∷ e3·2 ∷ e4·1 ∷ e5·1 ∷ e6 ∷ e7 ∷ e8 ∷ e9 ∷ e10 ∷ e11 ∷ e12 ∷ e13·1 ∷ e14·1 ∷ e15 ∷ List.[]
+
 abbrev pub t47 : List.List Row.Entry
 t47 = e0·1 ∷ e1 ∷ e2·2 ∷ e3·2 ∷ e4·1 ∷ e5·1 ∷ e6 ∷ e7 ∷ e8 ∷ e9 ∷ e10 ∷ e11 ∷ e12 ∷ e13 ∷ e14·1 ∷ e15 ∷ List.[]
+
 abbrev pub t48 : List.List Row.Entry
 t48 = e0·1 ∷ e1 ∷ e2·2 ∷ e3·2 ∷ e4·1 ∷ e5·1 ∷ e6 ∷ e7 ∷ e8 ∷ e9 ∷ e10 ∷ e11 ∷ e12 ∷ e13 ∷ e14 ∷ e15 ∷ List.[]
+
 abbrev pub t49 : List.List Row.Entry
 t49 = e0·1 ∷ e1 ∷ e2 ∷ e3·2 ∷ e4·1 ∷ e5·1 ∷ e6 ∷ e7 ∷ e8 ∷ e9 ∷ e10 ∷ e11 ∷ e12 ∷ e13 ∷ e14 ∷ e15 ∷ List.[]
+
 abbrev pub t50 : List.List Row.Entry
 t50 = e16 ∷ e17 ∷ e18 ∷ e19 ∷ e20 ∷ e21 ∷ e22 ∷ e23 ∷ e24 ∷ e25 ∷ e26 ∷ e27·2 ∷ List.[]
+
 abbrev pub t51 : List.List Row.Entry
 t51 = e0·1 ∷ e1 ∷ e2 ∷ e3 ∷ e4·1 ∷ e5·1 ∷ e6 ∷ e7 ∷ e8 ∷ e9 ∷ e10 ∷ e11 ∷ e12 ∷ e13 ∷ e14 ∷ e15 ∷ List.[]
+
 abbrev pub T0 : Row.Cx
 T0 = record { locals = List._++_ t0 t1; slots = List.[] }
+
 abbrev pub T1 : Row.Cx
 T1 = record { locals = List._++_ t2 t1; slots = List.[] }
+
 abbrev pub T2 : Row.Cx
 T2 = record { locals = List._++_ t0 t1; slots = List.[] }
+
 abbrev pub T3 : Row.Cx
 T3 = record { locals = List._++_ t3 t1; slots = List.[] }
+
 abbrev pub T5 : Row.Cx
 T5 = record { locals = List._++_ t4 t1; slots = List.[] }
+
 abbrev pub T6 : Row.Cx
 T6 = record { locals = List._++_ t5 t6; slots = List.[] }
+
 abbrev pub T7 : Row.Cx
 T7 = record { locals = List._++_ t7 t6; slots = List.[] }
+
 abbrev pub T8 : Row.Cx
 T8 = record { locals = List._++_ t7 t1; slots = List.[] }
+
 abbrev pub T9 : Row.Cx
 T9 = record { locals = List._++_ t8 t1; slots = List.[] }
+
 abbrev pub T11 : Row.Cx
 T11 = record { locals = List._++_ t9 t1; slots = List.[] }
+
 abbrev pub T13 : Row.Cx
 T13 = record { locals = List._++_ t10 t1; slots = List.[] }
+
 abbrev pub T14 : Row.Cx
 T14 = record { locals = List._++_ t11 t1; slots = List.[] }
+
 abbrev pub T15 : Row.Cx
 T15 = record { locals = List._++_ t12 t1; slots = List.[] }
+
 abbrev pub T16 : Row.Cx
 T16 = record { locals = List._++_ t13 t1; slots = List.[] }
+
 abbrev pub T17 : Row.Cx
 T17 = record { locals = List._++_ t14 t1; slots = List.[] }
+
 abbrev pub T18 : Row.Cx
 T18 = record { locals = List._++_ t15 t1; slots = List.[] }
+
 abbrev pub T19 : Row.Cx
 T19 = record { locals = List._++_ t16 t1; slots = List.[] }
+
 abbrev pub T21 : Row.Cx
 T21 = record { locals = List._++_ t17 t18; slots = List.[] }
+
 abbrev pub T22 : Row.Cx
 T22 = record { locals = List._++_ t17 t19; slots = List.[] }
+
 abbrev pub T23 : Row.Cx
 T23 = record { locals = List._++_ t17 t20; slots = List.[] }
+
 abbrev pub T24 : Row.Cx
 T24 = record { locals = List._++_ t21 t20; slots = List.[] }
+
 abbrev pub T25 : Row.Cx
 T25 = record { locals = List._++_ t21 t22; slots = List.[] }
+
 abbrev pub T27 : Row.Cx
 T27 = record { locals = List._++_ t23 t1; slots = List.[] }
+
 abbrev pub T30 : Row.Cx
 T30 = record { locals = List._++_ t24 t25; slots = List.[] }
+
 abbrev pub T31 : Row.Cx
 T31 = record { locals = List._++_ t24 t26; slots = List.[] }
+
 abbrev pub T33 : Row.Cx
 T33 = record { locals = List._++_ t27 t28; slots = List.[] }
+
 abbrev pub T34 : Row.Cx
 T34 = record { locals = List._++_ t27 t29; slots = List.[] }
+
 abbrev pub T35 : Row.Cx
 T35 = record { locals = List._++_ t30 t31; slots = List.[] }
+
 abbrev pub T36 : Row.Cx
 T36 = record { locals = List._++_ t32 t31; slots = List.[] }
+
 abbrev pub T37 : Row.Cx
 T37 = record { locals = List._++_ t33 t31; slots = List.[] }
+
 abbrev pub T39 : Row.Cx
 T39 = record { locals = List._++_ t34 t35; slots = List.[] }
+
 abbrev pub T42 : Row.Cx
 T42 = record { locals = List._++_ t36 t1; slots = List.[] }
+
 abbrev pub T43 : Row.Cx
 T43 = record { locals = List._++_ t36 t1; slots = List.[] }
+
 abbrev pub T46 : Row.Cx
 T46 = record { locals = List._++_ t37 t38; slots = List.[] }
+
 abbrev pub T47 : Row.Cx
 T47 = record { locals = List._++_ t37 t39; slots = List.[] }
+
 abbrev pub T49 : Row.Cx
 T49 = record { locals = List._++_ t40 t41; slots = List.[] }
+
 abbrev pub T50 : Row.Cx
 T50 = record { locals = List._++_ t40 t42; slots = List.[] }
+
 abbrev pub T51 : Row.Cx
 T51 = record { locals = List._++_ t43 t44; slots = List.[] }
+
 abbrev pub T52 : Row.Cx
 T52 = record { locals = List._++_ t45 t44; slots = List.[] }
+
 abbrev pub T53 : Row.Cx
 T53 = record { locals = List._++_ t46 t44; slots = List.[] }
+
 abbrev pub T54 : Row.Cx
 T54 = record { locals = List._++_ t47 t44; slots = List.[] }
+
 abbrev pub T55 : Row.Cx
 T55 = record { locals = List._++_ t48 t44; slots = List.[] }
+
 abbrev pub T57 : Row.Cx
 T57 = record { locals = List._++_ t49 t50; slots = List.[] }
+
 abbrev pub T60 : Row.Cx
 T60 = record { locals = List._++_ t51 t1; slots = List.[] }
+
 abbrev pub T61 : Row.Cx
 T61 = record { locals = List._++_ t51 t1; slots = List.[] }
+
 abbrev pub T63 : Row.Cx
 T63 = record { locals = List._++_ t2 t1; slots = List.[] }
+
 abbrev pub O0 : Typed.Outs
 O0 = record { next = Option.none; exits = List.[]; returns = Option.some T1 }
+
 module _ (claims· : Claims) where
   abbrev s0 : (bs : List.List Nat.ℕ) → Typed.Gives T0 T2
   s0 = λ bs. Know.k-sl-known (Referent.fInt Syntax.w32) T0 3 2 ref6 Row.off 0 λ x. x
+
   abbrev s1 : (bs : List.List Nat.ℕ) → Typed.Both T2 T3
-  s1 = λ bs. WayStmt.k-way-copy-out T2 (Row.out 4 (T2 .locals)) (λ u. Row.drop 4 (T2 .locals) u) 7 (Rows.whole (Declared'.row Places.the-type)) (λ u.
-      At.getAt (Sending.the-type .parts) 2 (Sending.struct .as-values (u .1 .1 .1 .1 .0))) (λ T′. record { locals = Row.setRow 4 (4, Rows.whole
-      (Declared'.row Sending.the-type)) T′; slots = List.[]; }) (λ u T′ m′. Row.set 4 (4, Rows.whole (Declared'.row Sending.the-type)) (u .1 .1 .1 .1
-      .0) T′ m′) (λ u. Unit) λ u. Unit
+  s1 = λ bs. WayStmt.k-way-copy-out T2 (Row.out 4 (T2 .locals)) (λ u. Row.drop 4 (T2 .locals) u) 7
+      (Rows.whole (Declared'.row Places.the-type)) (λ u. At.getAt (Sending.the-type .parts) 2
+      (Sending.struct .as-values (u .1 .1 .1 .1 .0))) (λ T′.
+      record { locals = Row.setRow 4 (4, Rows.whole (Declared'.row Sending.the-type)) T′; slots = List.[] }) (λ u T′
+      m′. Row.set 4 (4, Rows.whole (Declared'.row Sending.the-type)) (u .1 .1 .1 .1 .0) T′ m′) (λ u. Unit) λ u. Unit
+
   abbrev s3 : (bs : List.List Nat.ℕ) → Typed.Gives T3 T5
   s3 = λ bs. Reshare.k-sl-reshare RelayCircuit.row T3 1 15 0 3 ref4 ref0 Row.off λ x. x
+
   abbrev s4 : (bs : List.List Nat.ℕ) → Typed.Asks T5 T6
-  s4 = λ bs. Relend.k-sl-aggregate RelayCircuit.row (Relend.asShr RelayCircuit.row) T5 15 16 3 ref0 ref0 (λ x. x) (Scalar.oFld 1 ((Syntax.field 1) ∷
-      List.[]) (Syntax.tyInt Syntax.w64) 8 λ v. Shared.lenV (v .0))
+  s4 = λ bs. Relend.k-sl-aggregate RelayCircuit.row (Relend.asShr RelayCircuit.row) T5 15 16 3 ref0 ref0 (λ x. x) (Scalar.oFld
+      1 ((Syntax.field 1) ∷ List.[]) (Syntax.tyInt Syntax.w64) 8 λ v. Shared.lenV (v .0))
+
   abbrev s5 : (bs : List.List Nat.ℕ) → Typed.Both T6 T7
-  s5 = λ bs. Call.callB ps·0 r·0 (claims· .0) (claims· .1) T6 (record { pos = 16; ty = Syntax.tyRef Syntax.erased Syntax.imm RelayCircuit.to; ref = λ
-      x. x; }, (record { pos = 7; st = List.[]; d = 0; at = λ x. x }, (Num.vAt 6 λ x. x, tt)),) 8 (3 ∷ List.[]) RelayCircuit.ty
+  s5 = λ bs. Call.callB ps·0 r·0 (claims· .0) (claims· .1) T6 (
+    record { pos = 16; ty = ref0; ref = λ x. x },
+    (record { pos = 7; st = List.[]; d = 0; at = λ x. x }, (Num.vAt 6 λ x. x, tt)),
+  ) 8 (3 ∷ List.[]) RelayCircuit.ty
+
   abbrev s6 : (bs : List.List Nat.ℕ) → Typed.Mo T7 → Typed.Mo T8
-  s6 = λ bs. Scalar.n-room T7 16 (Syntax.tyStruct (38 ∷ 91 ∷ 93 ∷ List.[]) (Syntax.tcons ref0 (Syntax.tcons (Syntax.tyInt Syntax.w64) Syntax.tnil)))
+  s6 = λ bs. Scalar.n-room T7 16 slice0
+
   abbrev s7 : (bs : List.List Nat.ℕ) → Typed.Mo T8 → Typed.Mo T9
   s7 = λ bs. Scalar.n-room T8 7 Laws'.mir
+
   abbrev s9 : (bs : List.List Nat.ℕ) → Typed.Mo T9 → Typed.Mo T11
   s9 = λ bs. Reshare.n-back-sl-shr RelayCircuit.row T9 1 0 3 ref4 Row.off λ x. x
+
   abbrev s11 : (bs : List.List Nat.ℕ) → Typed.Both T11 T13
-  s11 = λ bs. Call.callB ps·1 r·1 (claims· .2) (claims· .3) T11 (record { pos = 8; st = List.[]; d = 0; at = λ x. x }, tt,) 9 List.[] RelayCircuit.ty
+  s11 = λ bs. Call.callB ps·1 r·1 (claims· .2) (claims· .3) T11
+      (record { pos = 8; st = List.[]; d = 0; at = λ x. x }, tt) 9 List.[] RelayCircuit.ty
+
   abbrev s12 : (bs : List.List Nat.ℕ) → Typed.Both T13 T14
-  s12 = λ bs. Call.callB ps·2 r·2 (claims· .4) (claims· .5) T13 (record { pos = 8; st = List.[]; d = 0; at = λ x. x }, (record { pos = 4; st =
-      List.[]; d = 0; at = λ x. x }, tt),) 10 List.[] Laws'''.mir
+  s12 = λ bs. Call.callB ps·2 r·2 (claims· .4) (claims· .5) T13 (
+    record { pos = 8; st = List.[]; d = 0; at = λ x. x },
+    (record { pos = 4; st = List.[]; d = 0; at = λ x. x }, tt),
+  ) 10 List.[] Laws'''.mir
+
   abbrev s13 : (bs : List.List Nat.ℕ) → Typed.Mo T14 → Typed.Mo T15
   s13 = λ bs. Scalar.n-room T14 4 Laws''''.mir
+
   abbrev s14 : (bs : List.List Nat.ℕ) → Typed.Mo T15 → Typed.Mo T16
   s14 = λ bs. Scalar.n-room T15 8 RelayCircuit.ty
+
   abbrev s15 : (bs : List.List Nat.ℕ) → Typed.Both T16 T17
-  s15 = λ bs. WayStmt.k-way-copy-out T16 (Row.out 10 (T16 .locals)) (λ u. Row.drop 10 (T16 .locals) u) 11 (Rows.whole (Declared'.row
-      Sending.the-type)) (λ u. At.getAt (EndPlan.the-type .parts) 1 (EndPlan.struct .as-values (u .1 .1 .1 .1 .1 .1 .1 .1 .1 .1 .0))) (λ T′. record {
-      locals = Row.setRow 10 (10, Rows.whole (Declared'.row EndPlan.the-type)) T′; slots = List.[]; }) (λ u T′ m′. Row.set 10 (10, Rows.whole
-      (Declared'.row EndPlan.the-type)) (u .1 .1 .1 .1 .1 .1 .1 .1 .1 .1 .0) T′ m′) (λ u. Unit) λ u. Unit
+  s15 = λ bs. WayStmt.k-way-copy-out T16 (Row.out 10 (T16 .locals)) (λ u. Row.drop 10 (T16 .locals) u) 11
+      (Rows.whole (Declared'.row Sending.the-type)) (λ u. At.getAt (EndPlan.the-type .parts) 1 (EndPlan.struct
+      .as-values (u .1 .1 .1 .1 .1 .1 .1 .1 .1 .1 .0))) (λ T′.
+      record { locals = Row.setRow 10 (10, Rows.whole (Declared'.row EndPlan.the-type)) T′; slots = List.[] }) (λ u T′
+      m′. Row.set 10 (10, Rows.whole (Declared'.row EndPlan.the-type)) (u .1 .1 .1 .1 .1 .1 .1 .1 .1 .1 .0) T′ m′)
+      (λ u. Unit) λ u. Unit
+
   abbrev s16 : (bs : List.List Nat.ℕ) → Typed.Both T17 T18
-  s16 = λ bs. WayStmt.k-way-copy-out T17 (Row.out 10 (T17 .locals)) (λ u. Row.drop 10 (T17 .locals) u) 12 (Rows.whole (Declared'.row
-      Outgoing.the-type)) (λ u. At.getAt (EndPlan.the-type .parts) 2 (EndPlan.struct .as-values (u .1 .1 .1 .1 .1 .1 .1 .1 .1 .1 .0))) (λ T′. record {
-      locals = Row.setRow 10 (10, Rows.whole (Declared'.row EndPlan.the-type)) T′; slots = List.[]; }) (λ u T′ m′. Row.set 10 (10, Rows.whole
-      (Declared'.row EndPlan.the-type)) (u .1 .1 .1 .1 .1 .1 .1 .1 .1 .1 .0) T′ m′) (λ u. Unit) λ u. Unit
+  s16 = λ bs. WayStmt.k-way-copy-out T17 (Row.out 10 (T17 .locals)) (λ u. Row.drop 10 (T17 .locals) u) 12
+      (Rows.whole (Declared'.row Outgoing.the-type)) (λ u. At.getAt (EndPlan.the-type .parts) 2 (EndPlan.struct
+      .as-values (u .1 .1 .1 .1 .1 .1 .1 .1 .1 .1 .0))) (λ T′.
+      record { locals = Row.setRow 10 (10, Rows.whole (Declared'.row EndPlan.the-type)) T′; slots = List.[] }) (λ u T′
+      m′. Row.set 10 (10, Rows.whole (Declared'.row EndPlan.the-type)) (u .1 .1 .1 .1 .1 .1 .1 .1 .1 .1 .0) T′ m′)
+      (λ u. Unit) λ u. Unit
+
   abbrev s17 : (bs : List.List Nat.ℕ) → Typed.Both T18 T19
-  s17 = λ bs. WayStmt.k-way-copy-out T18 (Row.out 10 (T18 .locals)) (λ u. Row.drop 10 (T18 .locals) u) 13 (Rows.whole (Declared'.row
-      Outgoing.the-type)) (λ u. At.getAt (EndPlan.the-type .parts) 4 (EndPlan.struct .as-values (u .1 .1 .1 .1 .1 .1 .1 .1 .1 .1 .0))) (λ T′. record {
-      locals = Row.setRow 10 (10, Rows.whole (Declared'.row EndPlan.the-type)) T′; slots = List.[]; }) (λ u T′ m′. Row.set 10 (10, Rows.whole
-      (Declared'.row EndPlan.the-type)) (u .1 .1 .1 .1 .1 .1 .1 .1 .1 .1 .0) T′ m′) (λ u. Unit) λ u. Unit
+  s17 = λ bs. WayStmt.k-way-copy-out T18 (Row.out 10 (T18 .locals)) (λ u. Row.drop 10 (T18 .locals) u) 13
+      (Rows.whole (Declared'.row Outgoing.the-type)) (λ u. At.getAt (EndPlan.the-type .parts) 4 (EndPlan.struct
+      .as-values (u .1 .1 .1 .1 .1 .1 .1 .1 .1 .1 .0))) (λ T′.
+      record { locals = Row.setRow 10 (10, Rows.whole (Declared'.row EndPlan.the-type)) T′; slots = List.[] }) (λ u T′
+      m′. Row.set 10 (10, Rows.whole (Declared'.row EndPlan.the-type)) (u .1 .1 .1 .1 .1 .1 .1 .1 .1 .1 .0) T′ m′)
+      (λ u. Unit) λ u. Unit
+
   abbrev s19 : (bs : List.List Nat.ℕ) → Typed.Gives T19 T21
   s19 = λ bs. Relend.k-sl-relend RelayCircuit.row T19 1 18 0 4 ref4 ref1 Row.off λ x. x
+
   abbrev s20 : (bs : List.List Nat.ℕ) → Typed.Asks T21 T22
-  s20 = λ bs. Relend.k-sl-aggregate RelayCircuit.row (Relend.asMut RelayCircuit.row) T21 18 19 4 ref1 ref1 (λ x. x) (Scalar.oFld 1 ((Syntax.field 1) ∷
-      List.[]) (Syntax.tyInt Syntax.w64) 8 λ v. Shared.lenV (v .0))
+  s20 = λ bs. Relend.k-sl-aggregate RelayCircuit.row (Relend.asMut RelayCircuit.row) T21 18 19 4 ref1 ref1 (λ x. x) (Scalar.oFld
+      1 ((Syntax.field 1) ∷ List.[]) (Syntax.tyInt Syntax.w64) 8 λ v. Shared.lenV (v .0))
+
   abbrev s21 : (bs : List.List Nat.ℕ) → Typed.Both T22 T23
-  s21 = λ bs. Call.callB ps·3 r·3 (claims· .6) (claims· .7) T22 (record { pos = 19; ty = Syntax.tyRef Syntax.erased Syntax.mut RelayCircuit.to; ref =
-      λ x. x; }, (Bool.bLit Bool'.true, (Num.vAt 6 λ x. x, (record { pos = 9; st = List.[]; d = 0; at = λ x. x }, tt)),),) 17 (4 ∷ List.[])
-      Syntax.tyUnit
+  s21 = λ bs. Call.callB ps·3 r·3 (claims· .6) (claims· .7) T22 (
+    record { pos = 19; ty = ref1; ref = λ x. x },
+    (Bool.bLit Bool'.true, (Num.vAt 6 λ x. x, (record { pos = 9; st = List.[]; d = 0; at = λ x. x }, tt))),
+  ) 17 (4 ∷ List.[]) Syntax.tyUnit
+
   abbrev s22 : (bs : List.List Nat.ℕ) → Typed.Mo T23 → Typed.Mo T24
   s22 = λ bs. Scalar.n-room T23 9 RelayCircuit.ty
+
   abbrev s23 : (bs : List.List Nat.ℕ) → Typed.Mo T24 → Typed.Mo T25
   s23 = λ bs. Scalar.n-room T24 17 Syntax.tyUnit
+
   abbrev s25 : (bs : List.List Nat.ℕ) → Typed.Both T25 T27
   s25 = λ bs. Relend.k-back-sl RelayCircuit.row T25 19 1 0 4 ref4 ref1 Row.off (λ x. x) λ x. x
+
   abbrev s28 : (bs : List.List Nat.ℕ) → Typed.Gives T27 T30
   s28 = λ bs. Relend.k-sl-relend InflightAction.row T27 2 20 1 5 ref5 ref2 Row.off λ x. x
+
   abbrev s29 : (bs : List.List Nat.ℕ) → Typed.Asks T30 T31
-  s29 = λ bs. Relend.k-sl-aggregate InflightAction.row (Relend.asMut InflightAction.row) T30 20 21 5 ref2 ref2 (λ x. x) (Scalar.oFld 2 ((Syntax.field
-      1) ∷ List.[]) (Syntax.tyInt Syntax.w64) 8 λ v. Shared.lenV (v .0))
+  s29 = λ bs. Relend.k-sl-aggregate InflightAction.row (Relend.asMut InflightAction.row) T30 20 21 5 ref2 ref2 (λ x. x) (Scalar.oFld
+      2 ((Syntax.field 1) ∷ List.[]) (Syntax.tyInt Syntax.w64) 8 λ v. Shared.lenV (v .0))
+
   abbrev s31 : (bs : List.List Nat.ℕ) → Typed.Gives T31 T33
   s31 = λ bs. Relend.k-sl-relend (Referent.rtF (Referent.fInt Syntax.w32)) T31 3 22 2 6 ref6 ref3 Row.off λ x. x
+
   abbrev s32 : (bs : List.List Nat.ℕ) → Typed.Asks T33 T34
-  s32 = λ bs. Relend.k-sl-aggregate (Referent.rtF (Referent.fInt Syntax.w32)) (Relend.asMut (Referent.rtF (Referent.fInt Syntax.w32))) T33 22 23 6
-      ref3 ref3 (λ x. x) (Scalar.oFld 3 ((Syntax.field 1) ∷ List.[]) (Syntax.tyInt Syntax.w64) 8 λ v. Shared.lenV (v .0))
+  s32 = λ bs. Relend.k-sl-aggregate (Referent.rtF (Referent.fInt Syntax.w32))
+      (Relend.asMut (Referent.rtF (Referent.fInt Syntax.w32))) T33 22 23 6 ref3 ref3 (λ x. x) (Scalar.oFld 3
+      ((Syntax.field 1) ∷ List.[]) (Syntax.tyInt Syntax.w64) 8 λ v. Shared.lenV (v .0))
+
   abbrev s33 : (bs : List.List Nat.ℕ) → Typed.Both T34 T35
-  s33 = λ bs. Call.callB ps·4 r·4 (claims· .8) (claims· .9) T34 (record { pos = 21; ty = Syntax.tyRef Syntax.erased Syntax.mut InflightAction.to; ref
-      = λ x. x; }, (record { pos = 23; ty = Syntax.tyRef Syntax.erased Syntax.mut (Syntax.tyInt Syntax.w32); ref = λ x. x; }, (record { pos = 11; st =
-      List.[]; d = 0; at = λ x. x }, (Num.vFld 10 ((Syntax.field 0) ∷ List.[]) 0 λ x. EndPlan.struct .as-values x .0, (record { pos = 12; st =
-      List.[]; d = 0; at = λ x. x }, (record { pos = 5; st = List.[]; d = 0; at = λ x. x }, tt),),),),),) 14 (5 ∷ 6 ∷ List.[]) Laws''''.mir
+  s33 = λ bs. Call.callB ps·4 r·4 (claims· .8) (claims· .9) T34 (
+    record { pos = 21; ty = ref2; ref = λ x. x },
+    (
+      record { pos = 23; ty = ref3; ref = λ x. x },
+      (
+        record { pos = 11; st = List.[]; d = 0; at = λ x. x },
+        (
+          Num.vFld 10 ((Syntax.field 0) ∷ List.[]) 0 λ x. EndPlan.struct .as-values x .0,
+          (
+            record { pos = 12; st = List.[]; d = 0; at = λ x. x },
+            (record { pos = 5; st = List.[]; d = 0; at = λ x. x }, tt),
+          ),
+        ),
+      ),
+    ),
+  ) 14 (5 ∷ 6 ∷ List.[]) Laws''''.mir
+
   abbrev s34 : (bs : List.List Nat.ℕ) → Typed.Mo T35 → Typed.Mo T36
   s34 = λ bs. Scalar.n-room T35 11 Laws''''.mir
+
   abbrev s35 : (bs : List.List Nat.ℕ) → Typed.Mo T36 → Typed.Mo T37
   s35 = λ bs. Scalar.n-room T36 12 Laws''.mir
+
   abbrev s37 : (bs : List.List Nat.ℕ) → Typed.Both T37 T39
   s37 = λ bs. Relend.k-back-sl InflightAction.row T37 21 2 1 5 ref5 ref2 Row.off (λ x. x) λ x. x
+
   abbrev s40 : (bs : List.List Nat.ℕ) → Typed.Both T39 T42
   s40 = λ bs. Relend.k-back-sl (Referent.rtF (Referent.fInt Syntax.w32)) T39 23 3 2 6 ref6 ref3 Row.off (λ x. x) λ x. x
+
   abbrev s41 : (bs : List.List Nat.ℕ) → Typed.Gives T42 T43
   s41 = λ bs. Know.k-sl-known (Referent.fInt Syntax.w32) T42 3 2 ref6 Row.off 0 λ x. x
+
   abbrev s44 : (bs : List.List Nat.ℕ) → Typed.Gives T43 T46
   s44 = λ bs. Relend.k-sl-relend InflightAction.row T43 2 24 1 7 ref5 ref2 Row.off λ x. x
+
   abbrev s45 : (bs : List.List Nat.ℕ) → Typed.Asks T46 T47
-  s45 = λ bs. Relend.k-sl-aggregate InflightAction.row (Relend.asMut InflightAction.row) T46 24 25 7 ref2 ref2 (λ x. x) (Scalar.oFld 2 ((Syntax.field
-      1) ∷ List.[]) (Syntax.tyInt Syntax.w64) 8 λ v. Shared.lenV (v .0))
+  s45 = λ bs. Relend.k-sl-aggregate InflightAction.row (Relend.asMut InflightAction.row) T46 24 25 7 ref2 ref2 (λ x. x) (Scalar.oFld
+      2 ((Syntax.field 1) ∷ List.[]) (Syntax.tyInt Syntax.w64) 8 λ v. Shared.lenV (v .0))
+
   abbrev s47 : (bs : List.List Nat.ℕ) → Typed.Gives T47 T49
   s47 = λ bs. Relend.k-sl-relend (Referent.rtF (Referent.fInt Syntax.w32)) T47 3 26 2 8 ref6 ref3 Row.off λ x. x
+
   abbrev s48 : (bs : List.List Nat.ℕ) → Typed.Asks T49 T50
-  s48 = λ bs. Relend.k-sl-aggregate (Referent.rtF (Referent.fInt Syntax.w32)) (Relend.asMut (Referent.rtF (Referent.fInt Syntax.w32))) T49 26 27 8
-      ref3 ref3 (λ x. x) (Scalar.oFld 3 ((Syntax.field 1) ∷ List.[]) (Syntax.tyInt Syntax.w64) 8 λ v. Shared.lenV (v .0))
+  s48 = λ bs. Relend.k-sl-aggregate (Referent.rtF (Referent.fInt Syntax.w32))
+      (Relend.asMut (Referent.rtF (Referent.fInt Syntax.w32))) T49 26 27 8 ref3 ref3 (λ x. x) (Scalar.oFld 3
+      ((Syntax.field 1) ∷ List.[]) (Syntax.tyInt Syntax.w64) 8 λ v. Shared.lenV (v .0))
+
   abbrev s49 : (bs : List.List Nat.ℕ) → Typed.Both T50 T51
-  s49 = λ bs. Call.callB ps·5 r·5 (claims· .10) (claims· .11) T50 (record { pos = 25; ty = Syntax.tyRef Syntax.erased Syntax.mut InflightAction.to;
-      ref = λ x. x; }, (record { pos = 27; ty = Syntax.tyRef Syntax.erased Syntax.mut (Syntax.tyInt Syntax.w32); ref = λ x. x; }, (Bool.bFld 10
-      ((Syntax.field 3) ∷ List.[]) 384 λ x. EndPlan.struct .as-values x .1 .1 .1 .0, (record { pos = 14; st = List.[]; d = 0; at = λ x. x }, (record {
-      pos = 13; st = List.[]; d = 0; at = λ x. x }, (record { pos = 5; st = List.[]; d = 0; at = λ x. x }, tt),),),),),) 0 (7 ∷ 8 ∷ List.[])
-      Laws''''.mir
+  s49 = λ bs. Call.callB ps·5 r·5 (claims· .10) (claims· .11) T50 (
+    record { pos = 25; ty = ref2; ref = λ x. x },
+    (
+      record { pos = 27; ty = ref3; ref = λ x. x },
+      (
+        Bool.bFld 10 ((Syntax.field 3) ∷ List.[]) 384 λ x. EndPlan.struct .as-values x .1 .1 .1 .0,
+        (
+          record { pos = 14; st = List.[]; d = 0; at = λ x. x },
+          (
+            record { pos = 13; st = List.[]; d = 0; at = λ x. x },
+            (record { pos = 5; st = List.[]; d = 0; at = λ x. x }, tt),
+          ),
+        ),
+      ),
+    ),
+  ) 0 (7 ∷ 8 ∷ List.[]) Laws''''.mir
+
   abbrev s50 : (bs : List.List Nat.ℕ) → Typed.Mo T51 → Typed.Mo T52
   s50 = λ bs. Scalar.n-room T51 5 Laws.mir
+
   abbrev s51 : (bs : List.List Nat.ℕ) → Typed.Mo T52 → Typed.Mo T53
   s51 = λ bs. Scalar.n-room T52 10 Laws'''.mir
+
   abbrev s52 : (bs : List.List Nat.ℕ) → Typed.Mo T53 → Typed.Mo T54
   s52 = λ bs. Scalar.n-room T53 13 Laws''.mir
+
   abbrev s53 : (bs : List.List Nat.ℕ) → Typed.Mo T54 → Typed.Mo T55
   s53 = λ bs. Scalar.n-room T54 14 Laws''''.mir
+
   abbrev s55 : (bs : List.List Nat.ℕ) → Typed.Both T55 T57
   s55 = λ bs. Relend.k-back-sl InflightAction.row T55 25 2 1 7 ref5 ref2 Row.off (λ x. x) λ x. x
+
   abbrev s58 : (bs : List.List Nat.ℕ) → Typed.Both T57 T60
   s58 = λ bs. Relend.k-back-sl (Referent.rtF (Referent.fInt Syntax.w32)) T57 27 3 2 8 ref6 ref3 Row.off (λ x. x) λ x. x
+
   abbrev s59 : (bs : List.List Nat.ℕ) → Typed.Gives T60 T61
   s59 = λ bs. Know.k-sl-known (Referent.fInt Syntax.w32) T60 3 2 ref6 Row.off 0 λ x. x
+
   abbrev s61 : (bs : List.List Nat.ℕ) → Typed.Mo T61 → Typed.Mo T63
   s61 = λ bs. Scalar.n-room T61 6 (Syntax.tyInt Syntax.w64)
-  module _ (Pre· : (κs : Lifetimes.Lfts 3) → Kinds.Dens κs ps → Type 0) (Post· : (κs : Lifetimes.Lfts 3) → (a : Kinds.Dens κs ps) → Kinds.Plain 3 ps r
-      κs) where
+
+  module _ (Pre· : (κs : Lifetimes.Lfts 3) → Kinds.Dens κs ps → Type 0) (Post· : (κs : Lifetimes.Lfts 3) →
+      (a : Kinds.Dens κs ps) → Kinds.Plain 3 ps r κs) where
     module _ (M : Type 1) where
       abbrev pub Closed : Type 2
-      Closed = (𝓤 : URA.URA M) (H : Wp.Heap 𝓤) (A : Atoms.Atoms 𝓤) (W : Kit.Given 𝓤 H A) (𝓣 : Wp.Tables 𝓤 H) (known0 : Plain.Known 𝓤 H A W 𝓣 1 ps·0
-          r·0 (claims· .0) (claims· .1) "hnsr_circuit::tables::circuits::circuit_at") (known1 : Plain.Known 𝓤 H A W 𝓣 0 ps·1 r·1 (claims· .2) (claims·
-          .3) "hnsr_circuit::circuits::circuit_unmarked") (known2 : Plain.Known 𝓤 H A W 𝓣 0 ps·2 r·2 (claims· .4) (claims· .5)
-          "hnsr_circuit::revocation::plan_circuit") (known3 : Plain.Known 𝓤 H A W 𝓣 1 ps·3 r·3 (claims· .6) (claims· .7)
-          "hnsr_circuit::tables::circuits::set_circuit") (known4 : Plain.Known 𝓤 H A W 𝓣 2 ps·4 r·4 (claims· .8) (claims· .9)
-          "hnsr_circuit::queue::drop_and_tell") (known5 : Plain.Known 𝓤 H A W 𝓣 2 ps·5 r·5 (claims· .10) (claims· .11)
-          "hnsr_circuit::queue::tell_notice") → Statement.Triple 𝓤 (Wp.WpFn 𝓤 H (𝓣 .C) (𝓣 .Λ) (Function.fnOf 3 ps r xs m hs body)) (Function.plainOf 𝓤
-          H A 3 ps r Pre· Post·)
+      Closed = (𝓤 : URA.URA M) (H : Wp.Heap 𝓤) (A : Atoms.Atoms 𝓤) (W : Kit.Given 𝓤 H A) (𝓣 : Wp.Tables 𝓤 H) (known0 :
+          Plain.Known 𝓤 H A W 𝓣 1 ps·0 r·0 (claims· .0) (claims· .1) "hnsr_circuit::tables::circuits::circuit_at") (known1
+          : Plain.Known 𝓤 H A W 𝓣 0 ps·1 r·1 (claims· .2) (claims· .3) "hnsr_circuit::circuits::circuit_unmarked") (known2
+          : Plain.Known 𝓤 H A W 𝓣 0 ps·2 r·2 (claims· .4) (claims· .5) "hnsr_circuit::revocation::plan_circuit") (known3
+          : Plain.Known 𝓤 H A W 𝓣 1 ps·3 r·3 (claims· .6) (claims· .7) "hnsr_circuit::tables::circuits::set_circuit") (known4
+          : Plain.Known 𝓤 H A W 𝓣 2 ps·4 r·4 (claims· .8) (claims· .9) "hnsr_circuit::queue::drop_and_tell") (known5 :
+          Plain.Known 𝓤 H A W 𝓣 2 ps·5 r·5 (claims· .10) (claims· .11) "hnsr_circuit::queue::tell_notice") →
+          Statement.Triple 𝓤 (Wp.WpFn 𝓤 H (𝓣 .C) (𝓣 .Λ) (Function.fnOf 3 ps r xs m hs body))
+          (Function.plainOf 𝓤 H A 3 ps r Pre· Post·)
+
     module _ where
       abbrev at0 : (bs : List.List Nat.ℕ) → Typed.TF T63 O0
       at0 = λ bs. Typed.atRet O0
+
       abbrev at1 : (bs : List.List Nat.ℕ) → Typed.TF T61 O0
       at1 = λ bs. λ Ψ. Typed.pass T61 T63 (s61 bs) (at0 bs Ψ)
+
       abbrev at2 : (bs : List.List Nat.ℕ) → Typed.TF T61 O0
       at2 = λ bs. λ Ψ. at1 bs Ψ
+
       abbrev at3 : (bs : List.List Nat.ℕ) → Typed.TF T60 O0
       at3 = λ bs. λ Ψ. Typed.give (s59 bs) (at2 bs Ψ)
+
       abbrev at4 : (bs : List.List Nat.ℕ) → Typed.TF T57 O0
       at4 = λ bs. λ Ψ. Typed.both (s58 bs) (at3 bs Ψ)
+
       abbrev at5 : (bs : List.List Nat.ℕ) → Typed.TF T57 O0
       at5 = λ bs. λ Ψ. at4 bs Ψ
+
       abbrev at6 : (bs : List.List Nat.ℕ) → Typed.TF T57 O0
       at6 = λ bs. λ Ψ. at5 bs Ψ
+
       abbrev at7 : (bs : List.List Nat.ℕ) → Typed.TF T55 O0
       at7 = λ bs. λ Ψ. Typed.both (s55 bs) (at6 bs Ψ)
+
       abbrev at8 : (bs : List.List Nat.ℕ) → Typed.TF T55 O0
       at8 = λ bs. λ Ψ. at7 bs Ψ
+
       abbrev at9 : (bs : List.List Nat.ℕ) → Typed.TF T54 O0
       at9 = λ bs. λ Ψ. Typed.pass T54 T55 (s53 bs) (at8 bs Ψ)
+
       abbrev at10 : (bs : List.List Nat.ℕ) → Typed.TF T53 O0
       at10 = λ bs. λ Ψ. Typed.pass T53 T54 (s52 bs) (at9 bs Ψ)
+
       abbrev at11 : (bs : List.List Nat.ℕ) → Typed.TF T52 O0
       at11 = λ bs. λ Ψ. Typed.pass T52 T53 (s51 bs) (at10 bs Ψ)
+
       abbrev at12 : (bs : List.List Nat.ℕ) → Typed.TF T51 O0
       at12 = λ bs. λ Ψ. Typed.pass T51 T52 (s50 bs) (at11 bs Ψ)
+
       abbrev at13 : (bs : List.List Nat.ℕ) → Typed.TF T50 O0
       at13 = λ bs. λ Ψ. Typed.both (s49 bs) (at12 bs Ψ)
+
       abbrev at14 : (bs : List.List Nat.ℕ) → Typed.TF T49 O0
       at14 = λ bs. λ Ψ. Typed.ask (s48 bs) (at13 bs Ψ)
+
       abbrev at15 : (bs : List.List Nat.ℕ) → Typed.TF T47 O0
       at15 = λ bs. λ Ψ. Typed.give (s47 bs) (at14 bs Ψ)
+
       abbrev at16 : (bs : List.List Nat.ℕ) → Typed.TF T47 O0
       at16 = λ bs. λ Ψ. at15 bs Ψ
+
       abbrev at17 : (bs : List.List Nat.ℕ) → Typed.TF T46 O0
       at17 = λ bs. λ Ψ. Typed.ask (s45 bs) (at16 bs Ψ)
+
       abbrev at18 : (bs : List.List Nat.ℕ) → Typed.TF T43 O0
       at18 = λ bs. λ Ψ. Typed.give (s44 bs) (at17 bs Ψ)
+
       abbrev at19 : (bs : List.List Nat.ℕ) → Typed.TF T43 O0
       at19 = λ bs. λ Ψ. at18 bs Ψ
+
       abbrev at20 : (bs : List.List Nat.ℕ) → Typed.TF T43 O0
       at20 = λ bs. λ Ψ. at19 bs Ψ
+
       abbrev at21 : (bs : List.List Nat.ℕ) → Typed.TF T42 O0
       at21 = λ bs. λ Ψ. Typed.give (s41 bs) (at20 bs Ψ)
+
       abbrev at22 : (bs : List.List Nat.ℕ) → Typed.TF T39 O0
       at22 = λ bs. λ Ψ. Typed.both (s40 bs) (at21 bs Ψ)
+
       abbrev at23 : (bs : List.List Nat.ℕ) → Typed.TF T39 O0
       at23 = λ bs. λ Ψ. at22 bs Ψ
+
       abbrev at24 : (bs : List.List Nat.ℕ) → Typed.TF T39 O0
       at24 = λ bs. λ Ψ. at23 bs Ψ
+
       abbrev at25 : (bs : List.List Nat.ℕ) → Typed.TF T37 O0
       at25 = λ bs. λ Ψ. Typed.both (s37 bs) (at24 bs Ψ)
+
       abbrev at26 : (bs : List.List Nat.ℕ) → Typed.TF T37 O0
       at26 = λ bs. λ Ψ. at25 bs Ψ
+
       abbrev at27 : (bs : List.List Nat.ℕ) → Typed.TF T36 O0
       at27 = λ bs. λ Ψ. Typed.pass T36 T37 (s35 bs) (at26 bs Ψ)
+
       abbrev at28 : (bs : List.List Nat.ℕ) → Typed.TF T35 O0
       at28 = λ bs. λ Ψ. Typed.pass T35 T36 (s34 bs) (at27 bs Ψ)
+
       abbrev at29 : (bs : List.List Nat.ℕ) → Typed.TF T34 O0
       at29 = λ bs. λ Ψ. Typed.both (s33 bs) (at28 bs Ψ)
+
       abbrev at30 : (bs : List.List Nat.ℕ) → Typed.TF T33 O0
       at30 = λ bs. λ Ψ. Typed.ask (s32 bs) (at29 bs Ψ)
+
       abbrev at31 : (bs : List.List Nat.ℕ) → Typed.TF T31 O0
       at31 = λ bs. λ Ψ. Typed.give (s31 bs) (at30 bs Ψ)
+
       abbrev at32 : (bs : List.List Nat.ℕ) → Typed.TF T31 O0
       at32 = λ bs. λ Ψ. at31 bs Ψ
+
       abbrev at33 : (bs : List.List Nat.ℕ) → Typed.TF T30 O0
       at33 = λ bs. λ Ψ. Typed.ask (s29 bs) (at32 bs Ψ)
+
       abbrev at34 : (bs : List.List Nat.ℕ) → Typed.TF T27 O0
       at34 = λ bs. λ Ψ. Typed.give (s28 bs) (at33 bs Ψ)
+
       abbrev at35 : (bs : List.List Nat.ℕ) → Typed.TF T27 O0
       at35 = λ bs. λ Ψ. at34 bs Ψ
+
       abbrev at36 : (bs : List.List Nat.ℕ) → Typed.TF T27 O0
       at36 = λ bs. λ Ψ. at35 bs Ψ
+
       abbrev at37 : (bs : List.List Nat.ℕ) → Typed.TF T25 O0
       at37 = λ bs. λ Ψ. Typed.both (s25 bs) (at36 bs Ψ)
+
       abbrev at38 : (bs : List.List Nat.ℕ) → Typed.TF T25 O0
       at38 = λ bs. λ Ψ. at37 bs Ψ
+
       abbrev at39 : (bs : List.List Nat.ℕ) → Typed.TF T24 O0
       at39 = λ bs. λ Ψ. Typed.pass T24 T25 (s23 bs) (at38 bs Ψ)
+
       abbrev at40 : (bs : List.List Nat.ℕ) → Typed.TF T23 O0
       at40 = λ bs. λ Ψ. Typed.pass T23 T24 (s22 bs) (at39 bs Ψ)
+
       abbrev at41 : (bs : List.List Nat.ℕ) → Typed.TF T22 O0
       at41 = λ bs. λ Ψ. Typed.both (s21 bs) (at40 bs Ψ)
+
       abbrev at42 : (bs : List.List Nat.ℕ) → Typed.TF T21 O0
       at42 = λ bs. λ Ψ. Typed.ask (s20 bs) (at41 bs Ψ)
+
       abbrev at43 : (bs : List.List Nat.ℕ) → Typed.TF T19 O0
       at43 = λ bs. λ Ψ. Typed.give (s19 bs) (at42 bs Ψ)
+
       abbrev at44 : (bs : List.List Nat.ℕ) → Typed.TF T19 O0
       at44 = λ bs. λ Ψ. at43 bs Ψ
+
       abbrev at45 : (bs : List.List Nat.ℕ) → Typed.TF T18 O0
       at45 = λ bs. λ Ψ. Typed.both (s17 bs) (at44 bs Ψ)
+
       abbrev at46 : (bs : List.List Nat.ℕ) → Typed.TF T17 O0
       at46 = λ bs. λ Ψ. Typed.both (s16 bs) (at45 bs Ψ)
+
       abbrev at47 : (bs : List.List Nat.ℕ) → Typed.TF T16 O0
       at47 = λ bs. λ Ψ. Typed.both (s15 bs) (at46 bs Ψ)
+
       abbrev at48 : (bs : List.List Nat.ℕ) → Typed.TF T15 O0
       at48 = λ bs. λ Ψ. Typed.pass T15 T16 (s14 bs) (at47 bs Ψ)
+
       abbrev at49 : (bs : List.List Nat.ℕ) → Typed.TF T14 O0
       at49 = λ bs. λ Ψ. Typed.pass T14 T15 (s13 bs) (at48 bs Ψ)
+
       abbrev at50 : (bs : List.List Nat.ℕ) → Typed.TF T13 O0
       at50 = λ bs. λ Ψ. Typed.both (s12 bs) (at49 bs Ψ)
+
       abbrev at51 : (bs : List.List Nat.ℕ) → Typed.TF T11 O0
       at51 = λ bs. λ Ψ. Typed.both (s11 bs) (at50 bs Ψ)
+
       abbrev at52 : (bs : List.List Nat.ℕ) → Typed.TF T11 O0
       at52 = λ bs. λ Ψ. at51 bs Ψ
+
       abbrev at53 : (bs : List.List Nat.ℕ) → Typed.TF T9 O0
       at53 = λ bs. λ Ψ. Typed.pass T9 T11 (s9 bs) (at52 bs Ψ)
+
       abbrev at54 : (bs : List.List Nat.ℕ) → Typed.TF T9 O0
       at54 = λ bs. λ Ψ. at53 bs Ψ
+
       abbrev at55 : (bs : List.List Nat.ℕ) → Typed.TF T8 O0
       at55 = λ bs. λ Ψ. Typed.pass T8 T9 (s7 bs) (at54 bs Ψ)
+
       abbrev at56 : (bs : List.List Nat.ℕ) → Typed.TF T7 O0
       at56 = λ bs. λ Ψ. Typed.pass T7 T8 (s6 bs) (at55 bs Ψ)
+
       abbrev at57 : (bs : List.List Nat.ℕ) → Typed.TF T6 O0
       at57 = λ bs. λ Ψ. Typed.both (s5 bs) (at56 bs Ψ)
+
       abbrev at58 : (bs : List.List Nat.ℕ) → Typed.TF T5 O0
       at58 = λ bs. λ Ψ. Typed.ask (s4 bs) (at57 bs Ψ)
+
       abbrev at59 : (bs : List.List Nat.ℕ) → Typed.TF T3 O0
       at59 = λ bs. λ Ψ. Typed.give (s3 bs) (at58 bs Ψ)
+
       abbrev at60 : (bs : List.List Nat.ℕ) → Typed.TF T3 O0
       at60 = λ bs. λ Ψ. at59 bs Ψ
+
       abbrev at61 : (bs : List.List Nat.ℕ) → Typed.TF T2 O0
       at61 = λ bs. λ Ψ. Typed.both (s1 bs) (at60 bs Ψ)
+
       abbrev at62 : (bs : List.List Nat.ℕ) → Typed.TF T0 O0
       at62 = λ bs. λ Ψ. Typed.give (s0 bs) (at61 bs Ψ)
+
       abbrev pub Φ : (bs : List.List Nat.ℕ) → Typed.TF T0 O0
       Φ = λ bs. at62 bs
-      module _ { M : Type 1 } (𝓤 : URA.URA M) (H : Wp.Heap 𝓤) (A : Atoms.Atoms 𝓤) (W : Kit.Given 𝓤 H A) (𝓣 : Wp.Tables 𝓤 H) where
+
+      module _ {M : Type 1} (𝓤 : URA.URA M) (H : Wp.Heap 𝓤) (A : Atoms.Atoms 𝓤) (W : Kit.Given 𝓤 H A)
+          (𝓣 : Wp.Tables 𝓤 H) where
         abbrev Knowns : Type 1
-        Knowns = Plain.Known 𝓤 H A W 𝓣 1 ps·0 r·0 (claims· .0) (claims· .1) "hnsr_circuit::tables::circuits::circuit_at" × Plain.Known 𝓤 H A W 𝓣 0
-            ps·1 r·1 (claims· .2) (claims· .3) "hnsr_circuit::circuits::circuit_unmarked" × Plain.Known 𝓤 H A W 𝓣 0 ps·2 r·2 (claims· .4) (claims· .5)
+        Knowns = Plain.Known 𝓤 H A W 𝓣 1 ps·0 r·0 (claims· .0) (claims· .1)
+            "hnsr_circuit::tables::circuits::circuit_at" × Plain.Known 𝓤 H A W 𝓣 0 ps·1 r·1 (claims· .2) (claims· .3)
+            "hnsr_circuit::circuits::circuit_unmarked" × Plain.Known 𝓤 H A W 𝓣 0 ps·2 r·2 (claims· .4) (claims· .5)
             "hnsr_circuit::revocation::plan_circuit" × Plain.Known 𝓤 H A W 𝓣 1 ps·3 r·3 (claims· .6) (claims· .7)
             "hnsr_circuit::tables::circuits::set_circuit" × Plain.Known 𝓤 H A W 𝓣 2 ps·4 r·4 (claims· .8) (claims· .9)
-            "hnsr_circuit::queue::drop_and_tell" × Plain.Known 𝓤 H A W 𝓣 2 ps·5 r·5 (claims· .10) (claims· .11) "hnsr_circuit::queue::tell_notice"
+            "hnsr_circuit::queue::drop_and_tell" × Plain.Known 𝓤 H A W 𝓣 2 ps·5 r·5 (claims· .10) (claims· .11)
+            "hnsr_circuit::queue::tell_notice"
+
       module _ (κs : Lifetimes.Lfts 3) (qs : Lifetimes.Shares 3) where
         abbrev life0 : Row.Life
         life0 = Row.lease (κs .0) (qs .0)
+
         abbrev life1 : Row.Life
         life1 = Row.lease (κs .1 .0) (qs .1 .0)
+
         abbrev life2 : Row.Life
         life2 = Row.lease (κs .1 .1 .0) (qs .1 .1 .0)
+
+        abbrev l1 : Row.Entry
+        l1 = (1, Reshare.mslice-owedS RelayCircuit.row ref4 0 3 life0)
+
+        abbrev l1·1 : Row.Entry
+        l1·1 = (1, Relend.mslice-owed RelayCircuit.row ref4 0 4 life0)
+
+        abbrev l2 : Row.Entry
+        l2 = (2, Relend.mslice-owed InflightAction.row ref5 1 5 life1)
+
+        abbrev l3 : Row.Entry
+        l3 = (3, Relend.mslice-owed (Referent.rtF (Referent.fInt Syntax.w32)) ref6 2 6 life2)
+
+        abbrev l2·1 : Row.Entry
+        l2·1 = (2, Relend.mslice-owed InflightAction.row ref5 1 7 life1)
+
+        abbrev l3·1 : Row.Entry
+        l3·1 = (3, Relend.mslice-owed (Referent.rtF (Referent.fInt Syntax.w32)) ref6 2 8 life2)
+
         abbrev g4 : List.List Row.Entry
-        g4 = (0, Rows.any-gone Laws''''.mir,) ∷ (1, Reshare.mslice-owedS RelayCircuit.row ref4 0 3 life0,) ∷ (2, Mut.mslice InflightAction.row ref5
-            1,) ∷ (3, Mut.mslice (Referent.rtF (Referent.fInt Syntax.w32)) ref6 2,) ∷ (4, Rows.whole (Declared'.row Sending.the-type)) ∷ (5,
-            Rows.whole (Declared.row Notice.the-type),) ∷ (6, Rows.sc-here (Row.sInt Syntax.w64)) ∷ (7, Rows.whole (Declared'.row Places.the-type),) ∷
-            (8, Rows.any-gone RelayCircuit.ty) ∷ (9, Rows.any-gone RelayCircuit.ty,) ∷ (10, Rows.any-gone Laws'''.mir,) ∷ (11, Rows.any-gone
-            Laws''''.mir,) ∷ (12, Rows.any-gone Laws''.mir,) ∷ (13, Rows.any-gone Laws''.mir,) ∷ (14, Rows.any-gone Laws''''.mir,) ∷ (15, Relend.ssptr
-            RelayCircuit.row ref0 3,) ∷ List.[]
+        g4 = e0 ∷ l1 ∷ e2 ∷ e3 ∷ e4 ∷ e5 ∷ e6 ∷ e7·1 ∷ e8 ∷ e9 ∷ e10 ∷ e11 ∷ e12 ∷ e13 ∷ e14 ∷ e15·1 ∷ List.[]
+
         abbrev g5 : List.List Row.Entry
-        g5 = (0, Rows.any-gone Laws''''.mir,) ∷ (1, Reshare.mslice-owedS RelayCircuit.row ref4 0 3 life0,) ∷ (2, Mut.mslice InflightAction.row ref5
-            1,) ∷ (3, Mut.mslice (Referent.rtF (Referent.fInt Syntax.w32)) ref6 2,) ∷ (4, Rows.whole (Declared'.row Sending.the-type)) ∷ (5,
-            Rows.whole (Declared.row Notice.the-type),) ∷ (6, Rows.sc-here (Row.sInt Syntax.w64)) ∷ (7, Rows.whole (Declared'.row Places.the-type),) ∷
-            (8, Rows.any-gone RelayCircuit.ty) ∷ (9, Rows.any-gone RelayCircuit.ty,) ∷ (10, Rows.any-gone Laws'''.mir,) ∷ (11, Rows.any-gone
-            Laws''''.mir,) ∷ (12, Rows.any-gone Laws''.mir,) ∷ (13, Rows.any-gone Laws''.mir,) ∷ (14, Rows.any-gone Laws''''.mir,) ∷ (15,
-            Rows.any-gone ref0,) ∷ List.[]
+        g5 = e0 ∷ l1 ∷ e2 ∷ e3 ∷ e4 ∷ e5 ∷ e6 ∷ e7·1 ∷ e8 ∷ e9 ∷ e10 ∷ e11 ∷ e12 ∷ e13 ∷ e14 ∷ e15 ∷ List.[]
+
         abbrev g7 : List.List Row.Entry
-        g7 = (0, Rows.any-gone Laws''''.mir,) ∷ (1, Reshare.mslice-owedS RelayCircuit.row ref4 0 3 life0,) ∷ (2, Mut.mslice InflightAction.row ref5
-            1,) ∷ (3, Mut.mslice (Referent.rtF (Referent.fInt Syntax.w32)) ref6 2,) ∷ (4, Rows.whole (Declared'.row Sending.the-type)) ∷ (5,
-            Rows.whole (Declared.row Notice.the-type),) ∷ (6, Rows.sc-here (Row.sInt Syntax.w64)) ∷ (7, Rows.whole (Declared'.row Places.the-type),) ∷
-            (8, RelayCircuit.held) ∷ (9, Rows.any-gone RelayCircuit.ty,) ∷ (10, Rows.any-gone Laws'''.mir,) ∷ (11, Rows.any-gone Laws''''.mir,) ∷ (12,
-            Rows.any-gone Laws''.mir,) ∷ (13, Rows.any-gone Laws''.mir,) ∷ (14, Rows.any-gone Laws''''.mir,) ∷ (15, Rows.any-gone ref0,) ∷ List.[]
+        g7 = e0 ∷ l1 ∷ e2 ∷ e3 ∷ e4 ∷ e5 ∷ e6 ∷ e7·1 ∷ e8·1 ∷ e9 ∷ e10 ∷ e11 ∷ e12 ∷ e13 ∷ e14 ∷ e15 ∷ List.[]
+
         abbrev g8 : List.List Row.Entry
-        g8 = (0, Rows.any-gone Laws''''.mir,) ∷ (1, Reshare.mslice-owedS RelayCircuit.row ref4 0 3 life0,) ∷ (2, Mut.mslice InflightAction.row ref5
-            1,) ∷ (3, Mut.mslice (Referent.rtF (Referent.fInt Syntax.w32)) ref6 2,) ∷ (4, Rows.whole (Declared'.row Sending.the-type)) ∷ (5,
-            Rows.whole (Declared.row Notice.the-type),) ∷ (6, Rows.sc-here (Row.sInt Syntax.w64)) ∷ (7, Rows.any-gone Laws'.mir,) ∷ (8,
-            RelayCircuit.held) ∷ (9, Rows.any-gone RelayCircuit.ty,) ∷ (10, Rows.any-gone Laws'''.mir,) ∷ (11, Rows.any-gone Laws''''.mir,) ∷ (12,
-            Rows.any-gone Laws''.mir,) ∷ (13, Rows.any-gone Laws''.mir,) ∷ (14, Rows.any-gone Laws''''.mir,) ∷ (15, Rows.any-gone ref0,) ∷ List.[]
+        g8 = e0 ∷ l1 ∷ e2 ∷ e3 ∷ e4 ∷ e5 ∷ e6 ∷ e7 ∷ e8·1 ∷ e9 ∷ e10 ∷ e11 ∷ e12 ∷ e13 ∷ e14 ∷ e15 ∷ List.[]
+
         abbrev g17 : List.List Row.Entry
-        g17 = (0, Rows.any-gone Laws''''.mir,) ∷ (1, Relend.mslice-owed RelayCircuit.row ref4 0 4 life0,) ∷ (2, Mut.mslice InflightAction.row ref5 1,)
-            ∷ (3, Mut.mslice (Referent.rtF (Referent.fInt Syntax.w32)) ref6 2,) ∷ (4, Rows.any-gone Laws''''.mir,) ∷ (5, Rows.whole (Declared.row
-            Notice.the-type)) ∷ (6, Rows.sc-here (Row.sInt Syntax.w64),) ∷ (7, Rows.any-gone Laws'.mir,) ∷ (8, Rows.any-gone RelayCircuit.ty) ∷ (9,
-            RelayCircuit.held,) ∷ (10, Rows.whole (Declared'.row EndPlan.the-type)) ∷ (11, Rows.whole (Declared'.row Sending.the-type),) ∷ (12,
-            Rows.whole (Declared'.row Outgoing.the-type)) ∷ (13, Rows.whole (Declared'.row Outgoing.the-type),) ∷ (14, Rows.any-gone Laws''''.mir,) ∷
-            (15, Rows.any-gone ref0,) ∷ List.[]
+        g17 = e0 ∷ l1·1 ∷ e2 ∷ e3 ∷ e4·1 ∷ e5 ∷ e6 ∷ e7 ∷ e8 ∷ e9·1 ∷ e10·1 ∷ e11·1 ∷ e12·1 ∷ e13·1 ∷ e14 ∷ e15 ∷
+            List.[]
+
         abbrev g21 : List.List Row.Entry
-        g21 = (0, Rows.any-gone Laws''''.mir,) ∷ (1, Relend.mslice-owed RelayCircuit.row ref4 0 4 life0,) ∷ (2, Mut.mslice InflightAction.row ref5 1,)
-            ∷ (3, Mut.mslice (Referent.rtF (Referent.fInt Syntax.w32)) ref6 2,) ∷ (4, Rows.any-gone Laws''''.mir,) ∷ (5, Rows.whole (Declared.row
-            Notice.the-type)) ∷ (6, Rows.sc-here (Row.sInt Syntax.w64),) ∷ (7, Rows.any-gone Laws'.mir,) ∷ (8, Rows.any-gone RelayCircuit.ty) ∷ (9,
-            Rows.any-gone RelayCircuit.ty,) ∷ (10, Rows.whole (Declared'.row EndPlan.the-type)) ∷ (11, Rows.whole (Declared'.row Sending.the-type),) ∷
-            (12, Rows.whole (Declared'.row Outgoing.the-type)) ∷ (13, Rows.whole (Declared'.row Outgoing.the-type),) ∷ (14, Rows.any-gone
-            Laws''''.mir,) ∷ (15, Rows.any-gone ref0,) ∷ List.[]
+        g21 = e0 ∷ l1·1 ∷ e2 ∷ e3 ∷ e4·1 ∷ e5 ∷ e6 ∷ e7 ∷ e8 ∷ e9 ∷ e10·1 ∷ e11·1 ∷ e12·1 ∷ e13·1 ∷ e14 ∷ e15 ∷ List.[]
+
         abbrev g24 : List.List Row.Entry
-        g24 = (0, Rows.any-gone Laws''''.mir,) ∷ (1, Mut.mslice RelayCircuit.row ref4 0,) ∷ (2, Relend.mslice-owed InflightAction.row ref5 1 5 life1,)
-            ∷ (3, Mut.mslice (Referent.rtF (Referent.fInt Syntax.w32)) ref6 2,) ∷ (4, Rows.any-gone Laws''''.mir,) ∷ (5, Rows.whole (Declared.row
-            Notice.the-type)) ∷ (6, Rows.sc-here (Row.sInt Syntax.w64),) ∷ (7, Rows.any-gone Laws'.mir,) ∷ (8, Rows.any-gone RelayCircuit.ty) ∷ (9,
-            Rows.any-gone RelayCircuit.ty,) ∷ (10, Rows.whole (Declared'.row EndPlan.the-type)) ∷ (11, Rows.whole (Declared'.row Sending.the-type),) ∷
-            (12, Rows.whole (Declared'.row Outgoing.the-type)) ∷ (13, Rows.whole (Declared'.row Outgoing.the-type),) ∷ (14, Rows.any-gone
-            Laws''''.mir,) ∷ (15, Rows.any-gone ref0,) ∷ List.[]
+        g24 = e0 ∷ e1 ∷ l2 ∷ e3 ∷ e4·1 ∷ e5 ∷ e6 ∷ e7 ∷ e8 ∷ e9 ∷ e10·1 ∷ e11·1 ∷ e12·1 ∷ e13·1 ∷ e14 ∷ e15 ∷ List.[]
+
         abbrev g27 : List.List Row.Entry
-        g27 = (0, Rows.any-gone Laws''''.mir,) ∷ (1, Mut.mslice RelayCircuit.row ref4 0,) ∷ (2, Relend.mslice-owed InflightAction.row ref5 1 5 life1,)
-            ∷ (3, Relend.mslice-owed (Referent.rtF (Referent.fInt Syntax.w32)) ref6 2 6 life2,) ∷ (4, Rows.any-gone Laws''''.mir,) ∷ (5, Rows.whole
-            (Declared.row Notice.the-type)) ∷ (6, Rows.sc-here (Row.sInt Syntax.w64),) ∷ (7, Rows.any-gone Laws'.mir,) ∷ (8, Rows.any-gone
-            RelayCircuit.ty) ∷ (9, Rows.any-gone RelayCircuit.ty,) ∷ (10, Rows.whole (Declared'.row EndPlan.the-type)) ∷ (11, Rows.whole
-            (Declared'.row Sending.the-type),) ∷ (12, Rows.whole (Declared'.row Outgoing.the-type)) ∷ (13, Rows.whole (Declared'.row
-            Outgoing.the-type),) ∷ (14, Rows.any-gone Laws''''.mir,) ∷ (15, Rows.any-gone ref0,) ∷ List.[]
+        g27 = e0 ∷ e1 ∷ l2 ∷ l3 ∷ e4·1 ∷ e5 ∷ e6 ∷ e7 ∷ e8 ∷ e9 ∷ e10·1 ∷ e11·1 ∷ e12·1 ∷ e13·1 ∷ e14 ∷ e15 ∷ List.[]
+
         abbrev g30 : List.List Row.Entry
-        g30 = (0, Rows.any-gone Laws''''.mir,) ∷ (1, Mut.mslice RelayCircuit.row ref4 0,) ∷ (2, Relend.mslice-owed InflightAction.row ref5 1 5 life1,)
-            ∷ (3, Relend.mslice-owed (Referent.rtF (Referent.fInt Syntax.w32)) ref6 2 6 life2,) ∷ (4, Rows.any-gone Laws''''.mir,) ∷ (5, Rows.whole
-            (Declared.row Notice.the-type)) ∷ (6, Rows.sc-here (Row.sInt Syntax.w64),) ∷ (7, Rows.any-gone Laws'.mir,) ∷ (8, Rows.any-gone
-            RelayCircuit.ty) ∷ (9, Rows.any-gone RelayCircuit.ty,) ∷ (10, Rows.whole (Declared'.row EndPlan.the-type)) ∷ (11, Rows.whole
-            (Declared'.row Sending.the-type),) ∷ (12, Rows.whole (Declared'.row Outgoing.the-type)) ∷ (13, Rows.whole (Declared'.row
-            Outgoing.the-type),) ∷ (14, Rows.whole (Declared'.row Sending.the-type)) ∷ (15, Rows.any-gone ref0,) ∷ List.[]
+        g30 = e0 ∷ e1 ∷ l2 ∷ l3 ∷ e4·1 ∷ e5 ∷ e6 ∷ e7 ∷ e8 ∷ e9 ∷ e10·1 ∷ e11·1 ∷ e12·1 ∷ e13·1 ∷ e14·1 ∷ e15 ∷ List.[]
+
         abbrev g32 : List.List Row.Entry
-        g32 = (0, Rows.any-gone Laws''''.mir,) ∷ (1, Mut.mslice RelayCircuit.row ref4 0,) ∷ (2, Relend.mslice-owed InflightAction.row ref5 1 5 life1,)
-            ∷ (3, Relend.mslice-owed (Referent.rtF (Referent.fInt Syntax.w32)) ref6 2 6 life2,) ∷ (4, Rows.any-gone Laws''''.mir,) ∷ (5, Rows.whole
-            (Declared.row Notice.the-type)) ∷ (6, Rows.sc-here (Row.sInt Syntax.w64),) ∷ (7, Rows.any-gone Laws'.mir,) ∷ (8, Rows.any-gone
-            RelayCircuit.ty) ∷ (9, Rows.any-gone RelayCircuit.ty,) ∷ (10, Rows.whole (Declared'.row EndPlan.the-type)) ∷ (11, Rows.any-gone
-            Laws''''.mir,) ∷ (12, Rows.whole (Declared'.row Outgoing.the-type)) ∷ (13, Rows.whole (Declared'.row Outgoing.the-type),) ∷ (14,
-            Rows.whole (Declared'.row Sending.the-type)) ∷ (15, Rows.any-gone ref0,) ∷ List.[]
+        g32 = e0 ∷ e1 ∷ l2 ∷ l3 ∷ e4·1 ∷ e5 ∷ e6 ∷ e7 ∷ e8 ∷ e9 ∷ e10·1 ∷ e11 ∷ e12·1 ∷ e13·1 ∷ e14·1 ∷ e15 ∷ List.[]
+
         abbrev g33 : List.List Row.Entry
-        g33 = (0, Rows.any-gone Laws''''.mir,) ∷ (1, Mut.mslice RelayCircuit.row ref4 0,) ∷ (2, Relend.mslice-owed InflightAction.row ref5 1 5 life1,)
-            ∷ (3, Relend.mslice-owed (Referent.rtF (Referent.fInt Syntax.w32)) ref6 2 6 life2,) ∷ (4, Rows.any-gone Laws''''.mir,) ∷ (5, Rows.whole
-            (Declared.row Notice.the-type)) ∷ (6, Rows.sc-here (Row.sInt Syntax.w64),) ∷ (7, Rows.any-gone Laws'.mir,) ∷ (8, Rows.any-gone
-            RelayCircuit.ty) ∷ (9, Rows.any-gone RelayCircuit.ty,) ∷ (10, Rows.whole (Declared'.row EndPlan.the-type)) ∷ (11, Rows.any-gone
-            Laws''''.mir,) ∷ (12, Rows.any-gone Laws''.mir,) ∷ (13, Rows.whole (Declared'.row Outgoing.the-type)) ∷ (14, Rows.whole (Declared'.row
-            Sending.the-type),) ∷ (15, Rows.any-gone ref0,) ∷ List.[]
+        g33 = e0 ∷ e1 ∷ l2 ∷ l3 ∷ e4·1 ∷ e5 ∷ e6 ∷ e7 ∷ e8 ∷ e9 ∷ e10·1 ∷ e11 ∷ e12 ∷ e13·1 ∷ e14·1 ∷ e15 ∷ List.[]
+
         abbrev g34 : List.List Row.Entry
-        g34 = (0, Rows.any-gone Laws''''.mir,) ∷ (1, Mut.mslice RelayCircuit.row ref4 0,) ∷ (2, Mut.mslice InflightAction.row ref5 1,) ∷ (3,
-            Relend.mslice-owed (Referent.rtF (Referent.fInt Syntax.w32)) ref6 2 6 life2,) ∷ (4, Rows.any-gone Laws''''.mir,) ∷ (5, Rows.whole
-            (Declared.row Notice.the-type)) ∷ (6, Rows.sc-here (Row.sInt Syntax.w64),) ∷ (7, Rows.any-gone Laws'.mir,) ∷ (8, Rows.any-gone
-            RelayCircuit.ty) ∷ (9, Rows.any-gone RelayCircuit.ty,) ∷ (10, Rows.whole (Declared'.row EndPlan.the-type)) ∷ (11, Rows.any-gone
-            Laws''''.mir,) ∷ (12, Rows.any-gone Laws''.mir,) ∷ (13, Rows.whole (Declared'.row Outgoing.the-type)) ∷ (14, Rows.whole (Declared'.row
-            Sending.the-type),) ∷ (15, Rows.any-gone ref0,) ∷ List.[]
+        g34 = e0 ∷ e1 ∷ e2 ∷ l3 ∷ e4·1 ∷ e5 ∷ e6 ∷ e7 ∷ e8 ∷ e9 ∷ e10·1 ∷ e11 ∷ e12 ∷ e13·1 ∷ e14·1 ∷ e15 ∷ List.[]
+
         abbrev g37 : List.List Row.Entry
-        g37 = (0, Rows.any-gone Laws''''.mir,) ∷ (1, Mut.mslice RelayCircuit.row ref4 0,) ∷ (2, Relend.mslice-owed InflightAction.row ref5 1 7 life1,)
-            ∷ (3, Mut.mslice (Referent.rtF (Referent.fInt Syntax.w32)) ref6 2,) ∷ (4, Rows.any-gone Laws''''.mir,) ∷ (5, Rows.whole (Declared.row
-            Notice.the-type)) ∷ (6, Rows.sc-here (Row.sInt Syntax.w64),) ∷ (7, Rows.any-gone Laws'.mir,) ∷ (8, Rows.any-gone RelayCircuit.ty) ∷ (9,
-            Rows.any-gone RelayCircuit.ty,) ∷ (10, Rows.whole (Declared'.row EndPlan.the-type)) ∷ (11, Rows.any-gone Laws''''.mir,) ∷ (12,
-            Rows.any-gone Laws''.mir,) ∷ (13, Rows.whole (Declared'.row Outgoing.the-type)) ∷ (14, Rows.whole (Declared'.row Sending.the-type),) ∷
-            (15, Rows.any-gone ref0,) ∷ List.[]
+        g37 = e0 ∷ e1 ∷ l2·1 ∷ e3 ∷ e4·1 ∷ e5 ∷ e6 ∷ e7 ∷ e8 ∷ e9 ∷ e10·1 ∷ e11 ∷ e12 ∷ e13·1 ∷ e14·1 ∷ e15 ∷ List.[]
+
         abbrev g40 : List.List Row.Entry
-        g40 = (0, Rows.any-gone Laws''''.mir,) ∷ (1, Mut.mslice RelayCircuit.row ref4 0,) ∷ (2, Relend.mslice-owed InflightAction.row ref5 1 7 life1,)
-            ∷ (3, Relend.mslice-owed (Referent.rtF (Referent.fInt Syntax.w32)) ref6 2 8 life2,) ∷ (4, Rows.any-gone Laws''''.mir,) ∷ (5, Rows.whole
-            (Declared.row Notice.the-type)) ∷ (6, Rows.sc-here (Row.sInt Syntax.w64),) ∷ (7, Rows.any-gone Laws'.mir,) ∷ (8, Rows.any-gone
-            RelayCircuit.ty) ∷ (9, Rows.any-gone RelayCircuit.ty,) ∷ (10, Rows.whole (Declared'.row EndPlan.the-type)) ∷ (11, Rows.any-gone
-            Laws''''.mir,) ∷ (12, Rows.any-gone Laws''.mir,) ∷ (13, Rows.whole (Declared'.row Outgoing.the-type)) ∷ (14, Rows.whole (Declared'.row
-            Sending.the-type),) ∷ (15, Rows.any-gone ref0,) ∷ List.[]
+        g40 = e0 ∷ e1 ∷ l2·1 ∷ l3·1 ∷ e4·1 ∷ e5 ∷ e6 ∷ e7 ∷ e8 ∷ e9 ∷ e10·1 ∷ e11 ∷ e12 ∷ e13·1 ∷ e14·1 ∷ e15 ∷ List.[]
+
         abbrev g43 : List.List Row.Entry
-        g43 = (0, Rows.whole (Declared'.row Sending.the-type)) ∷ (1, Mut.mslice RelayCircuit.row ref4 0,) ∷ (2, Relend.mslice-owed InflightAction.row
-            ref5 1 7 life1,) ∷ (3, Relend.mslice-owed (Referent.rtF (Referent.fInt Syntax.w32)) ref6 2 8 life2,) ∷ (4, Rows.any-gone Laws''''.mir,) ∷
-            (5, Rows.whole (Declared.row Notice.the-type)) ∷ (6, Rows.sc-here (Row.sInt Syntax.w64),) ∷ (7, Rows.any-gone Laws'.mir,) ∷ (8,
-            Rows.any-gone RelayCircuit.ty) ∷ (9, Rows.any-gone RelayCircuit.ty,) ∷ (10, Rows.whole (Declared'.row EndPlan.the-type)) ∷ (11,
-            Rows.any-gone Laws''''.mir,) ∷ (12, Rows.any-gone Laws''.mir,) ∷ (13, Rows.whole (Declared'.row Outgoing.the-type)) ∷ (14, Rows.whole
-            (Declared'.row Sending.the-type),) ∷ (15, Rows.any-gone ref0,) ∷ List.[]
+        g43 = e0·1 ∷ e1 ∷ l2·1 ∷ l3·1 ∷ e4·1 ∷ e5 ∷ e6 ∷ e7 ∷ e8 ∷ e9 ∷ e10·1 ∷ e11 ∷ e12 ∷ e13·1 ∷ e14·1 ∷ e15 ∷
+            List.[]
+
         abbrev g45 : List.List Row.Entry
-        g45 = (0, Rows.whole (Declared'.row Sending.the-type)) ∷ (1, Mut.mslice RelayCircuit.row ref4 0,) ∷ (2, Relend.mslice-owed InflightAction.row
-            ref5 1 7 life1,) ∷ (3, Relend.mslice-owed (Referent.rtF (Referent.fInt Syntax.w32)) ref6 2 8 life2,) ∷ (4, Rows.any-gone Laws''''.mir,) ∷
-            (5, Rows.any-gone Laws.mir,) ∷ (6, Rows.sc-here (Row.sInt Syntax.w64)) ∷ (7, Rows.any-gone Laws'.mir,) ∷ (8, Rows.any-gone
-            RelayCircuit.ty) ∷ (9, Rows.any-gone RelayCircuit.ty,) ∷ (10, Rows.whole (Declared'.row EndPlan.the-type)) ∷ (11, Rows.any-gone
-            Laws''''.mir,) ∷ (12, Rows.any-gone Laws''.mir,) ∷ (13, Rows.whole (Declared'.row Outgoing.the-type)) ∷ (14, Rows.whole (Declared'.row
-            Sending.the-type),) ∷ (15, Rows.any-gone ref0,) ∷ List.[]
+        g45 = e0·1 ∷ e1 ∷ l2·1 ∷ l3·1 ∷ e4·1 ∷ e5·1 ∷ e6 ∷ e7 ∷ e8 ∷ e9 ∷ e10·1 ∷ e11 ∷ e12 ∷ e13·1 ∷ e14·1 ∷ e15 ∷
+            List.[]
+
         abbrev g46 : List.List Row.Entry
-        g46 = (0, Rows.whole (Declared'.row Sending.the-type)) ∷ (1, Mut.mslice RelayCircuit.row ref4 0,) ∷ (2, Relend.mslice-owed InflightAction.row
-            ref5 1 7 life1,) ∷ (3, Relend.mslice-owed (Referent.rtF (Referent.fInt Syntax.w32)) ref6 2 8 life2,) ∷ (4, Rows.any-gone Laws''''.mir,) ∷
-            (5, Rows.any-gone Laws.mir,) ∷ (6, Rows.sc-here (Row.sInt Syntax.w64)) ∷ (7, Rows.any-gone Laws'.mir,) ∷ (8, Rows.any-gone
-            RelayCircuit.ty) ∷ (9, Rows.any-gone RelayCircuit.ty,) ∷ (10, Rows.any-gone Laws'''.mir,) ∷ (11, Rows.any-gone Laws''''.mir,) ∷ (12,
-            Rows.any-gone Laws''.mir,) ∷ (13, Rows.whole (Declared'.row Outgoing.the-type)) ∷ (14, Rows.whole (Declared'.row Sending.the-type),) ∷
-            (15, Rows.any-gone ref0,) ∷ List.[]
+        g46 = e0·1 ∷ e1 ∷ l2·1 ∷ l3·1 ∷ e4·1 ∷ e5·1 ∷ e6 ∷ e7 ∷ e8 ∷ e9 ∷ e10 ∷ e11 ∷ e12 ∷ e13·1 ∷ e14·1 ∷ e15 ∷
+            List.[]
+
         abbrev g47 : List.List Row.Entry
-        g47 = (0, Rows.whole (Declared'.row Sending.the-type)) ∷ (1, Mut.mslice RelayCircuit.row ref4 0,) ∷ (2, Relend.mslice-owed InflightAction.row
-            ref5 1 7 life1,) ∷ (3, Relend.mslice-owed (Referent.rtF (Referent.fInt Syntax.w32)) ref6 2 8 life2,) ∷ (4, Rows.any-gone Laws''''.mir,) ∷
-            (5, Rows.any-gone Laws.mir,) ∷ (6, Rows.sc-here (Row.sInt Syntax.w64)) ∷ (7, Rows.any-gone Laws'.mir,) ∷ (8, Rows.any-gone
-            RelayCircuit.ty) ∷ (9, Rows.any-gone RelayCircuit.ty,) ∷ (10, Rows.any-gone Laws'''.mir,) ∷ (11, Rows.any-gone Laws''''.mir,) ∷ (12,
-            Rows.any-gone Laws''.mir,) ∷ (13, Rows.any-gone Laws''.mir,) ∷ (14, Rows.whole (Declared'.row Sending.the-type)) ∷ (15, Rows.any-gone
-            ref0,) ∷ List.[]
+        g47 = e0·1 ∷ e1 ∷ l2·1 ∷ l3·1 ∷ e4·1 ∷ e5·1 ∷ e6 ∷ e7 ∷ e8 ∷ e9 ∷ e10 ∷ e11 ∷ e12 ∷ e13 ∷ e14·1 ∷ e15 ∷ List.[]
+
         abbrev g48 : List.List Row.Entry
-        g48 = (0, Rows.whole (Declared'.row Sending.the-type)) ∷ (1, Mut.mslice RelayCircuit.row ref4 0,) ∷ (2, Relend.mslice-owed InflightAction.row
-            ref5 1 7 life1,) ∷ (3, Relend.mslice-owed (Referent.rtF (Referent.fInt Syntax.w32)) ref6 2 8 life2,) ∷ (4, Rows.any-gone Laws''''.mir,) ∷
-            (5, Rows.any-gone Laws.mir,) ∷ (6, Rows.sc-here (Row.sInt Syntax.w64)) ∷ (7, Rows.any-gone Laws'.mir,) ∷ (8, Rows.any-gone
-            RelayCircuit.ty) ∷ (9, Rows.any-gone RelayCircuit.ty,) ∷ (10, Rows.any-gone Laws'''.mir,) ∷ (11, Rows.any-gone Laws''''.mir,) ∷ (12,
-            Rows.any-gone Laws''.mir,) ∷ (13, Rows.any-gone Laws''.mir,) ∷ (14, Rows.any-gone Laws''''.mir,) ∷ (15, Rows.any-gone ref0,) ∷ List.[]
+        g48 = e0·1 ∷ e1 ∷ l2·1 ∷ l3·1 ∷ e4·1 ∷ e5·1 ∷ e6 ∷ e7 ∷ e8 ∷ e9 ∷ e10 ∷ e11 ∷ e12 ∷ e13 ∷ e14 ∷ e15 ∷ List.[]
+
         abbrev g49 : List.List Row.Entry
-        g49 = (0, Rows.whole (Declared'.row Sending.the-type)) ∷ (1, Mut.mslice RelayCircuit.row ref4 0,) ∷ (2, Mut.mslice InflightAction.row ref5 1,)
-            ∷ (3, Relend.mslice-owed (Referent.rtF (Referent.fInt Syntax.w32)) ref6 2 8 life2,) ∷ (4, Rows.any-gone Laws''''.mir,) ∷ (5, Rows.any-gone
-            Laws.mir,) ∷ (6, Rows.sc-here (Row.sInt Syntax.w64)) ∷ (7, Rows.any-gone Laws'.mir,) ∷ (8, Rows.any-gone RelayCircuit.ty) ∷ (9,
-            Rows.any-gone RelayCircuit.ty,) ∷ (10, Rows.any-gone Laws'''.mir,) ∷ (11, Rows.any-gone Laws''''.mir,) ∷ (12, Rows.any-gone Laws''.mir,) ∷
-            (13, Rows.any-gone Laws''.mir,) ∷ (14, Rows.any-gone Laws''''.mir,) ∷ (15, Rows.any-gone ref0,) ∷ List.[]
+        g49 = e0·1 ∷ e1 ∷ e2 ∷ l3·1 ∷ e4·1 ∷ e5·1 ∷ e6 ∷ e7 ∷ e8 ∷ e9 ∷ e10 ∷ e11 ∷ e12 ∷ e13 ∷ e14 ∷ e15 ∷ List.[]
+
         abbrev G0 : Row.Cx
-        G0 = record { locals = List._++_ t0 t1; slots = life0 ∷ life1 ∷ life2 ∷ Row.off ∷ Row.off ∷ Row.off ∷ Row.off ∷ Row.off ∷ Row.off ∷ List.[]; }
+        G0 = record {
+          locals = List._++_ t0 t1;
+          slots = life0 ∷ life1 ∷ life2 ∷ Row.off ∷ Row.off ∷ Row.off ∷ Row.off ∷ Row.off ∷ Row.off ∷ List.[];
+        }
+
         abbrev G1 : Row.Cx
-        G1 = record { locals = List._++_ t2 t1; slots = life0 ∷ life1 ∷ life2 ∷ Row.off ∷ Row.off ∷ Row.off ∷ Row.off ∷ Row.off ∷ Row.off ∷ List.[]; }
+        G1 = record {
+          locals = List._++_ t2 t1;
+          slots = life0 ∷ life1 ∷ life2 ∷ Row.off ∷ Row.off ∷ Row.off ∷ Row.off ∷ Row.off ∷ Row.off ∷ List.[];
+        }
+
         abbrev G2 : Row.Cx
-        G2 = record { locals = List._++_ t0 t1; slots = life0 ∷ life1 ∷ life2 ∷ Row.off ∷ Row.off ∷ Row.off ∷ Row.off ∷ Row.off ∷ Row.off ∷ List.[]; }
+        G2 = record {
+          locals = List._++_ t0 t1;
+          slots = life0 ∷ life1 ∷ life2 ∷ Row.off ∷ Row.off ∷ Row.off ∷ Row.off ∷ Row.off ∷ Row.off ∷ List.[];
+        }
+
         abbrev G3 : Row.Cx
-        G3 = record { locals = List._++_ t3 t1; slots = life0 ∷ life1 ∷ life2 ∷ Row.off ∷ Row.off ∷ Row.off ∷ Row.off ∷ Row.off ∷ Row.off ∷ List.[]; }
+        G3 = record {
+          locals = List._++_ t3 t1;
+          slots = life0 ∷ life1 ∷ life2 ∷ Row.off ∷ Row.off ∷ Row.off ∷ Row.off ∷ Row.off ∷ Row.off ∷ List.[];
+        }
+
         abbrev G4 : Row.Cx
-        G4 = record { locals = List._++_ t3 t1; slots = life0 ∷ life1 ∷ life2 ∷ Row.alive ∷ Row.off ∷ Row.off ∷ Row.off ∷ Row.off ∷ Row.off ∷ List.[];
-            }
+        G4 = record {
+          locals = List._++_ t3 t1;
+          slots = life0 ∷ life1 ∷ life2 ∷ Row.alive ∷ Row.off ∷ Row.off ∷ Row.off ∷ Row.off ∷ Row.off ∷ List.[];
+        }
+
         abbrev G5 : Row.Cx
-        G5 = record { locals = List._++_ g4 t1; slots = Row.off ∷ life1 ∷ life2 ∷ Row.alive ∷ Row.off ∷ Row.off ∷ Row.off ∷ Row.off ∷ Row.off ∷
-            List.[]; }
+        G5 = record {
+          locals = List._++_ g4 t1;
+          slots = Row.off ∷ life1 ∷ life2 ∷ Row.alive ∷ Row.off ∷ Row.off ∷ Row.off ∷ Row.off ∷ Row.off ∷ List.[];
+        }
+
         abbrev G6 : Row.Cx
-        G6 = record { locals = List._++_ g5 t6; slots = Row.off ∷ life1 ∷ life2 ∷ Row.alive ∷ Row.off ∷ Row.off ∷ Row.off ∷ Row.off ∷ Row.off ∷
-            List.[]; }
+        G6 = record {
+          locals = List._++_ g5 t6;
+          slots = Row.off ∷ life1 ∷ life2 ∷ Row.alive ∷ Row.off ∷ Row.off ∷ Row.off ∷ Row.off ∷ Row.off ∷ List.[];
+        }
+
         abbrev G7 : Row.Cx
-        G7 = record { locals = List._++_ g7 t6; slots = Row.off ∷ life1 ∷ life2 ∷ Row.alive ∷ Row.off ∷ Row.off ∷ Row.off ∷ Row.off ∷ Row.off ∷
-            List.[]; }
+        G7 = record {
+          locals = List._++_ g7 t6;
+          slots = Row.off ∷ life1 ∷ life2 ∷ Row.alive ∷ Row.off ∷ Row.off ∷ Row.off ∷ Row.off ∷ Row.off ∷ List.[];
+        }
+
         abbrev G8 : Row.Cx
-        G8 = record { locals = List._++_ g7 t1; slots = Row.off ∷ life1 ∷ life2 ∷ Row.alive ∷ Row.off ∷ Row.off ∷ Row.off ∷ Row.off ∷ Row.off ∷
-            List.[]; }
+        G8 = record {
+          locals = List._++_ g7 t1;
+          slots = Row.off ∷ life1 ∷ life2 ∷ Row.alive ∷ Row.off ∷ Row.off ∷ Row.off ∷ Row.off ∷ Row.off ∷ List.[];
+        }
+
         abbrev G9 : Row.Cx
-        G9 = record { locals = List._++_ g8 t1; slots = Row.off ∷ life1 ∷ life2 ∷ Row.alive ∷ Row.off ∷ Row.off ∷ Row.off ∷ Row.off ∷ Row.off ∷
-            List.[]; }
+        G9 = record {
+          locals = List._++_ g8 t1;
+          slots = Row.off ∷ life1 ∷ life2 ∷ Row.alive ∷ Row.off ∷ Row.off ∷ Row.off ∷ Row.off ∷ Row.off ∷ List.[];
+        }
+
         abbrev G10 : Row.Cx
-        G10 = record { locals = List._++_ g8 t1; slots = Row.off ∷ life1 ∷ life2 ∷ Row.dead ∷ Row.off ∷ Row.off ∷ Row.off ∷ Row.off ∷ Row.off ∷
-            List.[]; }
+        G10 = record {
+          locals = List._++_ g8 t1;
+          slots = Row.off ∷ life1 ∷ life2 ∷ Row.dead ∷ Row.off ∷ Row.off ∷ Row.off ∷ Row.off ∷ Row.off ∷ List.[];
+        }
+
         abbrev G11 : Row.Cx
-        G11 = record { locals = List._++_ t9 t1; slots = life0 ∷ life1 ∷ life2 ∷ Row.dead ∷ Row.off ∷ Row.off ∷ Row.off ∷ Row.off ∷ Row.off ∷ List.[];
-            }
+        G11 = record {
+          locals = List._++_ t9 t1;
+          slots = life0 ∷ life1 ∷ life2 ∷ Row.dead ∷ Row.off ∷ Row.off ∷ Row.off ∷ Row.off ∷ Row.off ∷ List.[];
+        }
+
         abbrev G12 : Row.Cx
-        G12 = record { locals = List._++_ t9 t1; slots = life0 ∷ life1 ∷ life2 ∷ Row.off ∷ Row.off ∷ Row.off ∷ Row.off ∷ Row.off ∷ Row.off ∷ List.[];
-            }
+        G12 = record {
+          locals = List._++_ t9 t1;
+          slots = life0 ∷ life1 ∷ life2 ∷ Row.off ∷ Row.off ∷ Row.off ∷ Row.off ∷ Row.off ∷ Row.off ∷ List.[];
+        }
+
         abbrev G13 : Row.Cx
-        G13 = record { locals = List._++_ t10 t1; slots = life0 ∷ life1 ∷ life2 ∷ Row.off ∷ Row.off ∷ Row.off ∷ Row.off ∷ Row.off ∷ Row.off ∷ List.[];
-            }
+        G13 = record {
+          locals = List._++_ t10 t1;
+          slots = life0 ∷ life1 ∷ life2 ∷ Row.off ∷ Row.off ∷ Row.off ∷ Row.off ∷ Row.off ∷ Row.off ∷ List.[];
+        }
+
         abbrev G14 : Row.Cx
-        G14 = record { locals = List._++_ t11 t1; slots = life0 ∷ life1 ∷ life2 ∷ Row.off ∷ Row.off ∷ Row.off ∷ Row.off ∷ Row.off ∷ Row.off ∷ List.[];
-            }
+        G14 = record {
+          locals = List._++_ t11 t1;
+          slots = life0 ∷ life1 ∷ life2 ∷ Row.off ∷ Row.off ∷ Row.off ∷ Row.off ∷ Row.off ∷ Row.off ∷ List.[];
+        }
+
         abbrev G15 : Row.Cx
-        G15 = record { locals = List._++_ t12 t1; slots = life0 ∷ life1 ∷ life2 ∷ Row.off ∷ Row.off ∷ Row.off ∷ Row.off ∷ Row.off ∷ Row.off ∷ List.[];
-            }
+        G15 = record {
+          locals = List._++_ t12 t1;
+          slots = life0 ∷ life1 ∷ life2 ∷ Row.off ∷ Row.off ∷ Row.off ∷ Row.off ∷ Row.off ∷ Row.off ∷ List.[];
+        }
+
         abbrev G16 : Row.Cx
-        G16 = record { locals = List._++_ t13 t1; slots = life0 ∷ life1 ∷ life2 ∷ Row.off ∷ Row.off ∷ Row.off ∷ Row.off ∷ Row.off ∷ Row.off ∷ List.[];
-            }
+        G16 = record {
+          locals = List._++_ t13 t1;
+          slots = life0 ∷ life1 ∷ life2 ∷ Row.off ∷ Row.off ∷ Row.off ∷ Row.off ∷ Row.off ∷ Row.off ∷ List.[];
+        }
+
         abbrev G17 : Row.Cx
-        G17 = record { locals = List._++_ t14 t1; slots = life0 ∷ life1 ∷ life2 ∷ Row.off ∷ Row.off ∷ Row.off ∷ Row.off ∷ Row.off ∷ Row.off ∷ List.[];
-            }
+        G17 = record {
+          locals = List._++_ t14 t1;
+          slots = life0 ∷ life1 ∷ life2 ∷ Row.off ∷ Row.off ∷ Row.off ∷ Row.off ∷ Row.off ∷ Row.off ∷ List.[];
+        }
+
         abbrev G18 : Row.Cx
-        G18 = record { locals = List._++_ t15 t1; slots = life0 ∷ life1 ∷ life2 ∷ Row.off ∷ Row.off ∷ Row.off ∷ Row.off ∷ Row.off ∷ Row.off ∷ List.[];
-            }
+        G18 = record {
+          locals = List._++_ t15 t1;
+          slots = life0 ∷ life1 ∷ life2 ∷ Row.off ∷ Row.off ∷ Row.off ∷ Row.off ∷ Row.off ∷ Row.off ∷ List.[];
+        }
+
         abbrev G19 : Row.Cx
-        G19 = record { locals = List._++_ t16 t1; slots = life0 ∷ life1 ∷ life2 ∷ Row.off ∷ Row.off ∷ Row.off ∷ Row.off ∷ Row.off ∷ Row.off ∷ List.[];
-            }
+        G19 = record {
+          locals = List._++_ t16 t1;
+          slots = life0 ∷ life1 ∷ life2 ∷ Row.off ∷ Row.off ∷ Row.off ∷ Row.off ∷ Row.off ∷ Row.off ∷ List.[];
+        }
+
         abbrev G20 : Row.Cx
-        G20 = record { locals = List._++_ t16 t1; slots = life0 ∷ life1 ∷ life2 ∷ Row.off ∷ Row.alive ∷ Row.off ∷ Row.off ∷ Row.off ∷ Row.off ∷
-            List.[]; }
+        G20 = record {
+          locals = List._++_ t16 t1;
+          slots = life0 ∷ life1 ∷ life2 ∷ Row.off ∷ Row.alive ∷ Row.off ∷ Row.off ∷ Row.off ∷ Row.off ∷ List.[];
+        }
+
         abbrev G21 : Row.Cx
-        G21 = record { locals = List._++_ g17 t18; slots = Row.off ∷ life1 ∷ life2 ∷ Row.off ∷ Row.alive ∷ Row.off ∷ Row.off ∷ Row.off ∷ Row.off ∷
-            List.[]; }
+        G21 = record {
+          locals = List._++_ g17 t18;
+          slots = Row.off ∷ life1 ∷ life2 ∷ Row.off ∷ Row.alive ∷ Row.off ∷ Row.off ∷ Row.off ∷ Row.off ∷ List.[];
+        }
+
         abbrev G22 : Row.Cx
-        G22 = record { locals = List._++_ g17 t19; slots = Row.off ∷ life1 ∷ life2 ∷ Row.off ∷ Row.alive ∷ Row.off ∷ Row.off ∷ Row.off ∷ Row.off ∷
-            List.[]; }
+        G22 = record {
+          locals = List._++_ g17 t19;
+          slots = Row.off ∷ life1 ∷ life2 ∷ Row.off ∷ Row.alive ∷ Row.off ∷ Row.off ∷ Row.off ∷ Row.off ∷ List.[];
+        }
+
         abbrev G23 : Row.Cx
-        G23 = record { locals = List._++_ g17 t20; slots = Row.off ∷ life1 ∷ life2 ∷ Row.off ∷ Row.alive ∷ Row.off ∷ Row.off ∷ Row.off ∷ Row.off ∷
-            List.[]; }
+        G23 = record {
+          locals = List._++_ g17 t20;
+          slots = Row.off ∷ life1 ∷ life2 ∷ Row.off ∷ Row.alive ∷ Row.off ∷ Row.off ∷ Row.off ∷ Row.off ∷ List.[];
+        }
+
         abbrev G24 : Row.Cx
-        G24 = record { locals = List._++_ g21 t20; slots = Row.off ∷ life1 ∷ life2 ∷ Row.off ∷ Row.alive ∷ Row.off ∷ Row.off ∷ Row.off ∷ Row.off ∷
-            List.[]; }
+        G24 = record {
+          locals = List._++_ g21 t20;
+          slots = Row.off ∷ life1 ∷ life2 ∷ Row.off ∷ Row.alive ∷ Row.off ∷ Row.off ∷ Row.off ∷ Row.off ∷ List.[];
+        }
+
         abbrev G25 : Row.Cx
-        G25 = record { locals = List._++_ g21 t22; slots = Row.off ∷ life1 ∷ life2 ∷ Row.off ∷ Row.alive ∷ Row.off ∷ Row.off ∷ Row.off ∷ Row.off ∷
-            List.[]; }
+        G25 = record {
+          locals = List._++_ g21 t22;
+          slots = Row.off ∷ life1 ∷ life2 ∷ Row.off ∷ Row.alive ∷ Row.off ∷ Row.off ∷ Row.off ∷ Row.off ∷ List.[];
+        }
+
         abbrev G26 : Row.Cx
-        G26 = record { locals = List._++_ g21 t22; slots = Row.off ∷ life1 ∷ life2 ∷ Row.off ∷ Row.dead ∷ Row.off ∷ Row.off ∷ Row.off ∷ Row.off ∷
-            List.[]; }
+        G26 = record {
+          locals = List._++_ g21 t22;
+          slots = Row.off ∷ life1 ∷ life2 ∷ Row.off ∷ Row.dead ∷ Row.off ∷ Row.off ∷ Row.off ∷ Row.off ∷ List.[];
+        }
+
         abbrev G27 : Row.Cx
-        G27 = record { locals = List._++_ t23 t1; slots = life0 ∷ life1 ∷ life2 ∷ Row.off ∷ Row.dead ∷ Row.off ∷ Row.off ∷ Row.off ∷ Row.off ∷
-            List.[]; }
+        G27 = record {
+          locals = List._++_ t23 t1;
+          slots = life0 ∷ life1 ∷ life2 ∷ Row.off ∷ Row.dead ∷ Row.off ∷ Row.off ∷ Row.off ∷ Row.off ∷ List.[];
+        }
+
         abbrev G28 : Row.Cx
-        G28 = record { locals = List._++_ t23 t1; slots = life0 ∷ life1 ∷ life2 ∷ Row.off ∷ Row.off ∷ Row.off ∷ Row.off ∷ Row.off ∷ Row.off ∷ List.[];
-            }
+        G28 = record {
+          locals = List._++_ t23 t1;
+          slots = life0 ∷ life1 ∷ life2 ∷ Row.off ∷ Row.off ∷ Row.off ∷ Row.off ∷ Row.off ∷ Row.off ∷ List.[];
+        }
+
         abbrev G29 : Row.Cx
-        G29 = record { locals = List._++_ t23 t1; slots = life0 ∷ life1 ∷ life2 ∷ Row.off ∷ Row.off ∷ Row.alive ∷ Row.off ∷ Row.off ∷ Row.off ∷
-            List.[]; }
+        G29 = record {
+          locals = List._++_ t23 t1;
+          slots = life0 ∷ life1 ∷ life2 ∷ Row.off ∷ Row.off ∷ Row.alive ∷ Row.off ∷ Row.off ∷ Row.off ∷ List.[];
+        }
+
         abbrev G30 : Row.Cx
-        G30 = record { locals = List._++_ g24 t25; slots = life0 ∷ Row.off ∷ life2 ∷ Row.off ∷ Row.off ∷ Row.alive ∷ Row.off ∷ Row.off ∷ Row.off ∷
-            List.[]; }
+        G30 = record {
+          locals = List._++_ g24 t25;
+          slots = life0 ∷ Row.off ∷ life2 ∷ Row.off ∷ Row.off ∷ Row.alive ∷ Row.off ∷ Row.off ∷ Row.off ∷ List.[];
+        }
+
         abbrev G31 : Row.Cx
-        G31 = record { locals = List._++_ g24 t26; slots = life0 ∷ Row.off ∷ life2 ∷ Row.off ∷ Row.off ∷ Row.alive ∷ Row.off ∷ Row.off ∷ Row.off ∷
-            List.[]; }
+        G31 = record {
+          locals = List._++_ g24 t26;
+          slots = life0 ∷ Row.off ∷ life2 ∷ Row.off ∷ Row.off ∷ Row.alive ∷ Row.off ∷ Row.off ∷ Row.off ∷ List.[];
+        }
+
         abbrev G32 : Row.Cx
-        G32 = record { locals = List._++_ g24 t26; slots = life0 ∷ Row.off ∷ life2 ∷ Row.off ∷ Row.off ∷ Row.alive ∷ Row.alive ∷ Row.off ∷ Row.off ∷
-            List.[]; }
+        G32 = record {
+          locals = List._++_ g24 t26;
+          slots = life0 ∷ Row.off ∷ life2 ∷ Row.off ∷ Row.off ∷ Row.alive ∷ Row.alive ∷ Row.off ∷ Row.off ∷ List.[];
+        }
+
         abbrev G33 : Row.Cx
-        G33 = record { locals = List._++_ g27 t28; slots = life0 ∷ Row.off ∷ Row.off ∷ Row.off ∷ Row.off ∷ Row.alive ∷ Row.alive ∷ Row.off ∷ Row.off ∷
-            List.[]; }
+        G33 = record {
+          locals = List._++_ g27 t28;
+          slots = life0 ∷ Row.off ∷ Row.off ∷ Row.off ∷ Row.off ∷ Row.alive ∷ Row.alive ∷ Row.off ∷ Row.off ∷ List.[];
+        }
+
         abbrev G34 : Row.Cx
-        G34 = record { locals = List._++_ g27 t29; slots = life0 ∷ Row.off ∷ Row.off ∷ Row.off ∷ Row.off ∷ Row.alive ∷ Row.alive ∷ Row.off ∷ Row.off ∷
-            List.[]; }
+        G34 = record {
+          locals = List._++_ g27 t29;
+          slots = life0 ∷ Row.off ∷ Row.off ∷ Row.off ∷ Row.off ∷ Row.alive ∷ Row.alive ∷ Row.off ∷ Row.off ∷ List.[];
+        }
+
         abbrev G35 : Row.Cx
-        G35 = record { locals = List._++_ g30 t31; slots = life0 ∷ Row.off ∷ Row.off ∷ Row.off ∷ Row.off ∷ Row.alive ∷ Row.alive ∷ Row.off ∷ Row.off ∷
-            List.[]; }
+        G35 = record {
+          locals = List._++_ g30 t31;
+          slots = life0 ∷ Row.off ∷ Row.off ∷ Row.off ∷ Row.off ∷ Row.alive ∷ Row.alive ∷ Row.off ∷ Row.off ∷ List.[];
+        }
+
         abbrev G36 : Row.Cx
-        G36 = record { locals = List._++_ g32 t31; slots = life0 ∷ Row.off ∷ Row.off ∷ Row.off ∷ Row.off ∷ Row.alive ∷ Row.alive ∷ Row.off ∷ Row.off ∷
-            List.[]; }
+        G36 = record {
+          locals = List._++_ g32 t31;
+          slots = life0 ∷ Row.off ∷ Row.off ∷ Row.off ∷ Row.off ∷ Row.alive ∷ Row.alive ∷ Row.off ∷ Row.off ∷ List.[];
+        }
+
         abbrev G37 : Row.Cx
-        G37 = record { locals = List._++_ g33 t31; slots = life0 ∷ Row.off ∷ Row.off ∷ Row.off ∷ Row.off ∷ Row.alive ∷ Row.alive ∷ Row.off ∷ Row.off ∷
-            List.[]; }
+        G37 = record {
+          locals = List._++_ g33 t31;
+          slots = life0 ∷ Row.off ∷ Row.off ∷ Row.off ∷ Row.off ∷ Row.alive ∷ Row.alive ∷ Row.off ∷ Row.off ∷ List.[];
+        }
+
         abbrev G38 : Row.Cx
-        G38 = record { locals = List._++_ g33 t31; slots = life0 ∷ Row.off ∷ Row.off ∷ Row.off ∷ Row.off ∷ Row.dead ∷ Row.alive ∷ Row.off ∷ Row.off ∷
-            List.[]; }
+        G38 = record {
+          locals = List._++_ g33 t31;
+          slots = life0 ∷ Row.off ∷ Row.off ∷ Row.off ∷ Row.off ∷ Row.dead ∷ Row.alive ∷ Row.off ∷ Row.off ∷ List.[];
+        }
+
         abbrev G39 : Row.Cx
-        G39 = record { locals = List._++_ g34 t35; slots = life0 ∷ life1 ∷ Row.off ∷ Row.off ∷ Row.off ∷ Row.dead ∷ Row.alive ∷ Row.off ∷ Row.off ∷
-            List.[]; }
+        G39 = record {
+          locals = List._++_ g34 t35;
+          slots = life0 ∷ life1 ∷ Row.off ∷ Row.off ∷ Row.off ∷ Row.dead ∷ Row.alive ∷ Row.off ∷ Row.off ∷ List.[];
+        }
+
         abbrev G40 : Row.Cx
-        G40 = record { locals = List._++_ g34 t35; slots = life0 ∷ life1 ∷ Row.off ∷ Row.off ∷ Row.off ∷ Row.off ∷ Row.alive ∷ Row.off ∷ Row.off ∷
-            List.[]; }
+        G40 = record {
+          locals = List._++_ g34 t35;
+          slots = life0 ∷ life1 ∷ Row.off ∷ Row.off ∷ Row.off ∷ Row.off ∷ Row.alive ∷ Row.off ∷ Row.off ∷ List.[];
+        }
+
         abbrev G41 : Row.Cx
-        G41 = record { locals = List._++_ g34 t35; slots = life0 ∷ life1 ∷ Row.off ∷ Row.off ∷ Row.off ∷ Row.off ∷ Row.dead ∷ Row.off ∷ Row.off ∷
-            List.[]; }
+        G41 = record {
+          locals = List._++_ g34 t35;
+          slots = life0 ∷ life1 ∷ Row.off ∷ Row.off ∷ Row.off ∷ Row.off ∷ Row.dead ∷ Row.off ∷ Row.off ∷ List.[];
+        }
+
         abbrev G42 : Row.Cx
-        G42 = record { locals = List._++_ t36 t1; slots = life0 ∷ life1 ∷ life2 ∷ Row.off ∷ Row.off ∷ Row.off ∷ Row.dead ∷ Row.off ∷ Row.off ∷
-            List.[]; }
+        G42 = record {
+          locals = List._++_ t36 t1;
+          slots = life0 ∷ life1 ∷ life2 ∷ Row.off ∷ Row.off ∷ Row.off ∷ Row.dead ∷ Row.off ∷ Row.off ∷ List.[];
+        }
+
         abbrev G43 : Row.Cx
-        G43 = record { locals = List._++_ t36 t1; slots = life0 ∷ life1 ∷ life2 ∷ Row.off ∷ Row.off ∷ Row.off ∷ Row.dead ∷ Row.off ∷ Row.off ∷
-            List.[]; }
+        G43 = record {
+          locals = List._++_ t36 t1;
+          slots = life0 ∷ life1 ∷ life2 ∷ Row.off ∷ Row.off ∷ Row.off ∷ Row.dead ∷ Row.off ∷ Row.off ∷ List.[];
+        }
+
         abbrev G44 : Row.Cx
-        G44 = record { locals = List._++_ t36 t1; slots = life0 ∷ life1 ∷ life2 ∷ Row.off ∷ Row.off ∷ Row.off ∷ Row.off ∷ Row.off ∷ Row.off ∷ List.[];
-            }
+        G44 = record {
+          locals = List._++_ t36 t1;
+          slots = life0 ∷ life1 ∷ life2 ∷ Row.off ∷ Row.off ∷ Row.off ∷ Row.off ∷ Row.off ∷ Row.off ∷ List.[];
+        }
+
         abbrev G45 : Row.Cx
-        G45 = record { locals = List._++_ t36 t1; slots = life0 ∷ life1 ∷ life2 ∷ Row.off ∷ Row.off ∷ Row.off ∷ Row.off ∷ Row.alive ∷ Row.off ∷
-            List.[]; }
+        G45 = record {
+          locals = List._++_ t36 t1;
+          slots = life0 ∷ life1 ∷ life2 ∷ Row.off ∷ Row.off ∷ Row.off ∷ Row.off ∷ Row.alive ∷ Row.off ∷ List.[];
+        }
+
         abbrev G46 : Row.Cx
-        G46 = record { locals = List._++_ g37 t38; slots = life0 ∷ Row.off ∷ life2 ∷ Row.off ∷ Row.off ∷ Row.off ∷ Row.off ∷ Row.alive ∷ Row.off ∷
-            List.[]; }
+        G46 = record {
+          locals = List._++_ g37 t38;
+          slots = life0 ∷ Row.off ∷ life2 ∷ Row.off ∷ Row.off ∷ Row.off ∷ Row.off ∷ Row.alive ∷ Row.off ∷ List.[];
+        }
+
         abbrev G47 : Row.Cx
-        G47 = record { locals = List._++_ g37 t39; slots = life0 ∷ Row.off ∷ life2 ∷ Row.off ∷ Row.off ∷ Row.off ∷ Row.off ∷ Row.alive ∷ Row.off ∷
-            List.[]; }
+        G47 = record {
+          locals = List._++_ g37 t39;
+          slots = life0 ∷ Row.off ∷ life2 ∷ Row.off ∷ Row.off ∷ Row.off ∷ Row.off ∷ Row.alive ∷ Row.off ∷ List.[];
+        }
+
         abbrev G48 : Row.Cx
-        G48 = record { locals = List._++_ g37 t39; slots = life0 ∷ Row.off ∷ life2 ∷ Row.off ∷ Row.off ∷ Row.off ∷ Row.off ∷ Row.alive ∷ Row.alive ∷
-            List.[]; }
+        G48 = record {
+          locals = List._++_ g37 t39;
+          slots = life0 ∷ Row.off ∷ life2 ∷ Row.off ∷ Row.off ∷ Row.off ∷ Row.off ∷ Row.alive ∷ Row.alive ∷ List.[];
+        }
+
         abbrev G49 : Row.Cx
-        G49 = record { locals = List._++_ g40 t41; slots = life0 ∷ Row.off ∷ Row.off ∷ Row.off ∷ Row.off ∷ Row.off ∷ Row.off ∷ Row.alive ∷ Row.alive ∷
-            List.[]; }
+        G49 = record {
+          locals = List._++_ g40 t41;
+          slots = life0 ∷ Row.off ∷ Row.off ∷ Row.off ∷ Row.off ∷ Row.off ∷ Row.off ∷ Row.alive ∷ Row.alive ∷ List.[];
+        }
+
         abbrev G50 : Row.Cx
-        G50 = record { locals = List._++_ g40 t42; slots = life0 ∷ Row.off ∷ Row.off ∷ Row.off ∷ Row.off ∷ Row.off ∷ Row.off ∷ Row.alive ∷ Row.alive ∷
-            List.[]; }
+        G50 = record {
+          locals = List._++_ g40 t42;
+          slots = life0 ∷ Row.off ∷ Row.off ∷ Row.off ∷ Row.off ∷ Row.off ∷ Row.off ∷ Row.alive ∷ Row.alive ∷ List.[];
+        }
+
         abbrev G51 : Row.Cx
-        G51 = record { locals = List._++_ g43 t44; slots = life0 ∷ Row.off ∷ Row.off ∷ Row.off ∷ Row.off ∷ Row.off ∷ Row.off ∷ Row.alive ∷ Row.alive ∷
-            List.[]; }
+        G51 = record {
+          locals = List._++_ g43 t44;
+          slots = life0 ∷ Row.off ∷ Row.off ∷ Row.off ∷ Row.off ∷ Row.off ∷ Row.off ∷ Row.alive ∷ Row.alive ∷ List.[];
+        }
+
         abbrev G52 : Row.Cx
-        G52 = record { locals = List._++_ g45 t44; slots = life0 ∷ Row.off ∷ Row.off ∷ Row.off ∷ Row.off ∷ Row.off ∷ Row.off ∷ Row.alive ∷ Row.alive ∷
-            List.[]; }
+        G52 = record {
+          locals = List._++_ g45 t44;
+          slots = life0 ∷ Row.off ∷ Row.off ∷ Row.off ∷ Row.off ∷ Row.off ∷ Row.off ∷ Row.alive ∷ Row.alive ∷ List.[];
+        }
+
         abbrev G53 : Row.Cx
-        G53 = record { locals = List._++_ g46 t44; slots = life0 ∷ Row.off ∷ Row.off ∷ Row.off ∷ Row.off ∷ Row.off ∷ Row.off ∷ Row.alive ∷ Row.alive ∷
-            List.[]; }
+        G53 = record {
+          locals = List._++_ g46 t44;
+          slots = life0 ∷ Row.off ∷ Row.off ∷ Row.off ∷ Row.off ∷ Row.off ∷ Row.off ∷ Row.alive ∷ Row.alive ∷ List.[];
+        }
+
         abbrev G54 : Row.Cx
-        G54 = record { locals = List._++_ g47 t44; slots = life0 ∷ Row.off ∷ Row.off ∷ Row.off ∷ Row.off ∷ Row.off ∷ Row.off ∷ Row.alive ∷ Row.alive ∷
-            List.[]; }
+        G54 = record {
+          locals = List._++_ g47 t44;
+          slots = life0 ∷ Row.off ∷ Row.off ∷ Row.off ∷ Row.off ∷ Row.off ∷ Row.off ∷ Row.alive ∷ Row.alive ∷ List.[];
+        }
+
         abbrev G55 : Row.Cx
-        G55 = record { locals = List._++_ g48 t44; slots = life0 ∷ Row.off ∷ Row.off ∷ Row.off ∷ Row.off ∷ Row.off ∷ Row.off ∷ Row.alive ∷ Row.alive ∷
-            List.[]; }
+        G55 = record {
+          locals = List._++_ g48 t44;
+          slots = life0 ∷ Row.off ∷ Row.off ∷ Row.off ∷ Row.off ∷ Row.off ∷ Row.off ∷ Row.alive ∷ Row.alive ∷ List.[];
+        }
+
         abbrev G56 : Row.Cx
-        G56 = record { locals = List._++_ g48 t44; slots = life0 ∷ Row.off ∷ Row.off ∷ Row.off ∷ Row.off ∷ Row.off ∷ Row.off ∷ Row.dead ∷ Row.alive ∷
-            List.[]; }
+        G56 = record {
+          locals = List._++_ g48 t44;
+          slots = life0 ∷ Row.off ∷ Row.off ∷ Row.off ∷ Row.off ∷ Row.off ∷ Row.off ∷ Row.dead ∷ Row.alive ∷ List.[];
+        }
+
         abbrev G57 : Row.Cx
-        G57 = record { locals = List._++_ g49 t50; slots = life0 ∷ life1 ∷ Row.off ∷ Row.off ∷ Row.off ∷ Row.off ∷ Row.off ∷ Row.dead ∷ Row.alive ∷
-            List.[]; }
+        G57 = record {
+          locals = List._++_ g49 t50;
+          slots = life0 ∷ life1 ∷ Row.off ∷ Row.off ∷ Row.off ∷ Row.off ∷ Row.off ∷ Row.dead ∷ Row.alive ∷ List.[];
+        }
+
         abbrev G58 : Row.Cx
-        G58 = record { locals = List._++_ g49 t50; slots = life0 ∷ life1 ∷ Row.off ∷ Row.off ∷ Row.off ∷ Row.off ∷ Row.off ∷ Row.off ∷ Row.alive ∷
-            List.[]; }
+        G58 = record {
+          locals = List._++_ g49 t50;
+          slots = life0 ∷ life1 ∷ Row.off ∷ Row.off ∷ Row.off ∷ Row.off ∷ Row.off ∷ Row.off ∷ Row.alive ∷ List.[];
+        }
+
         abbrev G59 : Row.Cx
-        G59 = record { locals = List._++_ g49 t50; slots = life0 ∷ life1 ∷ Row.off ∷ Row.off ∷ Row.off ∷ Row.off ∷ Row.off ∷ Row.off ∷ Row.dead ∷
-            List.[]; }
+        G59 = record {
+          locals = List._++_ g49 t50;
+          slots = life0 ∷ life1 ∷ Row.off ∷ Row.off ∷ Row.off ∷ Row.off ∷ Row.off ∷ Row.off ∷ Row.dead ∷ List.[];
+        }
+
         abbrev G60 : Row.Cx
-        G60 = record { locals = List._++_ t51 t1; slots = life0 ∷ life1 ∷ life2 ∷ Row.off ∷ Row.off ∷ Row.off ∷ Row.off ∷ Row.off ∷ Row.dead ∷
-            List.[]; }
+        G60 = record {
+          locals = List._++_ t51 t1;
+          slots = life0 ∷ life1 ∷ life2 ∷ Row.off ∷ Row.off ∷ Row.off ∷ Row.off ∷ Row.off ∷ Row.dead ∷ List.[];
+        }
+
         abbrev G61 : Row.Cx
-        G61 = record { locals = List._++_ t51 t1; slots = life0 ∷ life1 ∷ life2 ∷ Row.off ∷ Row.off ∷ Row.off ∷ Row.off ∷ Row.off ∷ Row.dead ∷
-            List.[]; }
+        G61 = record {
+          locals = List._++_ t51 t1;
+          slots = life0 ∷ life1 ∷ life2 ∷ Row.off ∷ Row.off ∷ Row.off ∷ Row.off ∷ Row.off ∷ Row.dead ∷ List.[];
+        }
+
         abbrev G62 : Row.Cx
-        G62 = record { locals = List._++_ t51 t1; slots = life0 ∷ life1 ∷ life2 ∷ Row.off ∷ Row.off ∷ Row.off ∷ Row.off ∷ Row.off ∷ Row.off ∷ List.[];
-            }
+        G62 = record {
+          locals = List._++_ t51 t1;
+          slots = life0 ∷ life1 ∷ life2 ∷ Row.off ∷ Row.off ∷ Row.off ∷ Row.off ∷ Row.off ∷ Row.off ∷ List.[];
+        }
+
         abbrev G63 : Row.Cx
-        G63 = record { locals = List._++_ t2 t1; slots = life0 ∷ life1 ∷ life2 ∷ Row.off ∷ Row.off ∷ Row.off ∷ Row.off ∷ Row.off ∷ Row.off ∷ List.[];
-            }
+        G63 = record {
+          locals = List._++_ t2 t1;
+          slots = life0 ∷ life1 ∷ life2 ∷ Row.off ∷ Row.off ∷ Row.off ∷ Row.off ∷ Row.off ∷ Row.off ∷ List.[];
+        }
+
         abbrev Δ0 : Typed.Outs
         Δ0 = record { next = Option.none; exits = List.[]; returns = Option.some G1 }
-        module _ { M : Type 1 } (𝓤 : URA.URA M) (H : Wp.Heap 𝓤) (A : Atoms.Atoms 𝓤) (W : Kit.Given 𝓤 H A) (𝓣 : Wp.Tables 𝓤 H) (known : Knowns 𝓤 H A W
-            𝓣) (bs : List.List Nat.ℕ) (bd : Lifetimes.AllOutlive 3 (Kinds.osR r) κs) where
+
+        module _ {M : Type 1} (𝓤 : URA.URA M) (H : Wp.Heap 𝓤) (A : Atoms.Atoms 𝓤) (W : Kit.Given 𝓤 H A)
+            (𝓣 : Wp.Tables 𝓤 H) (known : Knowns 𝓤 H A W 𝓣) (bs : List.List Nat.ℕ)
+            (bd : Lifetimes.AllOutlive 3 (Kinds.osR r) κs) where
           abbrev E : Wp.Env 𝓤 H
           E = Frame.EnvOf 𝓤 H ((Kinds.tyR r) ∷ (Enter.tysP ps xs)) bs
+
           d0 : Typed.Typed 𝓤 H A 𝓣 E G63 b22 Δ0 (at0 bs)
           d0 = Typed.t-return 𝓤 H A W 𝓣 E Δ0 tt
+
           d1 : Typed.Typed 𝓤 H A 𝓣 E G62 b22 Δ0 (at1 bs)
-          d1 = Typed.g-pre 𝓤 H A W 𝓣 E G62 G63 b22 Δ0 (Typed.pass T61 T63 (s61 bs)) (at0 bs) (Scalar.g-room 𝓤 H A W E G62 6 (Syntax.tyInt Syntax.w64)
-              (Scalar.room-sc 𝓤 H A W (Row.sInt Syntax.w64))) d0
+          d1 = Typed.g-pre 𝓤 H A W 𝓣 E G62 G63 b22 Δ0 (Typed.pass T61 T63 (s61 bs)) (at0 bs) (Scalar.g-room 𝓤 H A W E
+              G62 6 (Syntax.tyInt Syntax.w64) (Scalar.room-sc 𝓤 H A W (Row.sInt Syntax.w64))) d0
+
           d2 : Typed.Typed 𝓤 H A 𝓣 E G61 b22 Δ0 (at2 bs)
-          d2 = Typed.g-pre 𝓤 H A W 𝓣 E G61 G62 b22 Δ0 (λ Ψ. Ψ) (at1 bs) (Lifetime.g-forget 𝓤 H A W E G61 8 Row.dead Path.refl) d1
+          d2 = Typed.g-pre 𝓤 H A W 𝓣 E G61 G62 b22 Δ0 (λ Ψ. Ψ) (at1 bs)
+              (Lifetime.g-forget 𝓤 H A W E G61 8 Row.dead Path.refl) d1
+
           d3 : Typed.Typed 𝓤 H A 𝓣 E G60 b22 Δ0 (at3 bs)
-          d3 = Typed.g-pre 𝓤 H A W 𝓣 E G60 G61 b22 Δ0 (Typed.give (s59 bs)) (at2 bs) (Know.g-sl-known 𝓤 H A W (Referent.fInt Syntax.w32) E G60 3 2
-              ref6 life2 0 (λ x. x) record { fits = Dec.lit< tt } (Reads'.as-is 𝓤 H A (Mut.mslice (Referent.rtF (Referent.fInt Syntax.w32)) ref6 2))
-              Path.refl tt) d2
+          d3 = Typed.g-pre 𝓤 H A W 𝓣 E G60 G61 b22 Δ0 (Typed.give (s59 bs)) (at2 bs) (Know.g-sl-known 𝓤 H A W
+              (Referent.fInt Syntax.w32) E G60 3 2 ref6 life2 0 (λ x. x) record { fits = Dec.lit< tt } (Reads'.as-is 𝓤
+              H A (Mut.mslice (Referent.rtF (Referent.fInt Syntax.w32)) ref6 2)) Path.refl tt) d2
+
           d4 : Typed.Typed 𝓤 H A 𝓣 E G59 b22 Δ0 (at4 bs)
-          d4 = Typed.g-pre 𝓤 H A W 𝓣 E G59 G60 b22 Δ0 (Typed.both (s58 bs)) (at3 bs) (Relend.g-back-sl 𝓤 H A W E (Referent.rtF (Referent.fInt
-              Syntax.w32)) G59 27 3 2 8 ref6 ref3 life2 (λ x. x) (λ x. x) (Reads'.as-is 𝓤 H A (Mut.msleft (Referent.rtF (Referent.fInt Syntax.w32))
-              ref3)) (Reads'.as-is 𝓤 H A (Relend.mslice-owed (Referent.rtF (Referent.fInt Syntax.w32)) ref6 2 8 life2)) Path.refl Path.refl) d3
+          d4 = Typed.g-pre 𝓤 H A W 𝓣 E G59 G60 b22 Δ0 (Typed.both (s58 bs)) (at3 bs) (Relend.g-back-sl 𝓤 H A W E
+              (Referent.rtF (Referent.fInt Syntax.w32)) G59 27 3 2 8 ref6 ref3 life2 (λ x. x) (λ x. x) (Reads'.as-is 𝓤
+              H A (Mut.msleft (Referent.rtF (Referent.fInt Syntax.w32)) ref3)) (Reads'.as-is 𝓤 H A (Relend.mslice-owed
+              (Referent.rtF (Referent.fInt Syntax.w32)) ref6 2 8 life2)) Path.refl Path.refl) d3
+
           d5 : Typed.Typed 𝓤 H A 𝓣 E G58 b22 Δ0 (at5 bs)
           d5 = Typed.g-pre 𝓤 H A W 𝓣 E G58 G59 b22 Δ0 (λ Ψ. Ψ) (at4 bs) (Lifetime.g-end 𝓤 H A W E G58 8 Path.refl) d4
+
           d6 : Typed.Typed 𝓤 H A 𝓣 E G57 b22 Δ0 (at6 bs)
-          d6 = Typed.g-pre 𝓤 H A W 𝓣 E G57 G58 b22 Δ0 (λ Ψ. Ψ) (at5 bs) (Lifetime.g-forget 𝓤 H A W E G57 7 Row.dead Path.refl) d5
+          d6 = Typed.g-pre 𝓤 H A W 𝓣 E G57 G58 b22 Δ0 (λ Ψ. Ψ) (at5 bs)
+              (Lifetime.g-forget 𝓤 H A W E G57 7 Row.dead Path.refl) d5
+
           d7 : Typed.Typed 𝓤 H A 𝓣 E G56 b22 Δ0 (at7 bs)
-          d7 = Typed.g-pre 𝓤 H A W 𝓣 E G56 G57 b22 Δ0 (Typed.both (s55 bs)) (at6 bs) (Relend.g-back-sl 𝓤 H A W E InflightAction.row G56 25 2 1 7 ref5
-              ref2 life1 (λ x. x) (λ x. x) (Reads'.as-is 𝓤 H A (Mut.msleft InflightAction.row ref2)) (Reads'.as-is 𝓤 H A (Relend.mslice-owed
-              InflightAction.row ref5 1 7 life1)) Path.refl Path.refl) d6
+          d7 = Typed.g-pre 𝓤 H A W 𝓣 E G56 G57 b22 Δ0 (Typed.both (s55 bs)) (at6 bs) (Relend.g-back-sl 𝓤 H A W E
+              InflightAction.row G56 25 2 1 7 ref5 ref2 life1 (λ x. x) (λ x. x)
+              (Reads'.as-is 𝓤 H A (Mut.msleft InflightAction.row ref2)) (Reads'.as-is 𝓤 H A
+              (Relend.mslice-owed InflightAction.row ref5 1 7 life1)) Path.refl Path.refl) d6
+
           d8 : Typed.Typed 𝓤 H A 𝓣 E G55 b22 Δ0 (at8 bs)
           d8 = Typed.g-pre 𝓤 H A W 𝓣 E G55 G56 b22 Δ0 (λ Ψ. Ψ) (at7 bs) (Lifetime.g-end 𝓤 H A W E G55 7 Path.refl) d7
+
           d9 : Typed.Typed 𝓤 H A 𝓣 E G54 b22 Δ0 (at9 bs)
-          d9 = Typed.g-pre 𝓤 H A W 𝓣 E G54 G55 b22 Δ0 (Typed.pass T54 T55 (s53 bs)) (at8 bs) (Scalar.g-room 𝓤 H A W E G54 14 Laws''''.mir
-              (Local.room-whole 𝓤 H A W (Declared'.row Sending.the-type) Laws''''.mir Path.refl)) d8
+          d9 = Typed.g-pre 𝓤 H A W 𝓣 E G54 G55 b22 Δ0 (Typed.pass T54 T55 (s53 bs)) (at8 bs) (Scalar.g-room 𝓤 H A W E
+              G54 14 Laws''''.mir (Local.room-whole 𝓤 H A W (Declared'.row Sending.the-type) Laws''''.mir Path.refl))
+              d8
+
           d10 : Typed.Typed 𝓤 H A 𝓣 E G53 b22 Δ0 (at10 bs)
-          d10 = Typed.g-pre 𝓤 H A W 𝓣 E G53 G54 b22 Δ0 (Typed.pass T53 T54 (s52 bs)) (at9 bs) (Scalar.g-room 𝓤 H A W E G53 13 Laws''.mir
-              (Local.room-whole 𝓤 H A W (Declared'.row Outgoing.the-type) Laws''.mir Path.refl)) d9
+          d10 = Typed.g-pre 𝓤 H A W 𝓣 E G53 G54 b22 Δ0 (Typed.pass T53 T54 (s52 bs)) (at9 bs) (Scalar.g-room 𝓤 H A W E
+              G53 13 Laws''.mir (Local.room-whole 𝓤 H A W (Declared'.row Outgoing.the-type) Laws''.mir Path.refl)) d9
+
           d11 : Typed.Typed 𝓤 H A 𝓣 E G52 b22 Δ0 (at11 bs)
-          d11 = Typed.g-pre 𝓤 H A W 𝓣 E G52 G53 b22 Δ0 (Typed.pass T52 T53 (s51 bs)) (at10 bs) (Scalar.g-room 𝓤 H A W E G52 10 Laws'''.mir
-              (Local.room-whole 𝓤 H A W (Declared'.row EndPlan.the-type) Laws'''.mir Path.refl)) d10
+          d11 = Typed.g-pre 𝓤 H A W 𝓣 E G52 G53 b22 Δ0 (Typed.pass T52 T53 (s51 bs)) (at10 bs) (Scalar.g-room 𝓤 H A W E
+              G52 10 Laws'''.mir (Local.room-whole 𝓤 H A W (Declared'.row EndPlan.the-type) Laws'''.mir Path.refl)) d10
+
           d12 : Typed.Typed 𝓤 H A 𝓣 E G51 b22 Δ0 (at12 bs)
-          d12 = Typed.g-pre 𝓤 H A W 𝓣 E G51 G52 b22 Δ0 (Typed.pass T51 T52 (s50 bs)) (at11 bs) (Scalar.g-room 𝓤 H A W E G51 5 Laws.mir
-              (Local.room-whole 𝓤 H A W (Declared.row Notice.the-type) Laws.mir Path.refl)) d11
+          d12 = Typed.g-pre 𝓤 H A W 𝓣 E G51 G52 b22 Δ0 (Typed.pass T51 T52 (s50 bs)) (at11 bs) (Scalar.g-room 𝓤 H A W E
+              G51 5 Laws.mir (Local.room-whole 𝓤 H A W (Declared.row Notice.the-type) Laws.mir Path.refl)) d11
+
           d13 : Typed.Typed 𝓤 H A 𝓣 E G50 b23 Δ0 (at13 bs)
-          d13 = Typed.s-seq 𝓤 H A W 𝓣 E G50 G51 b21 b22 Δ0 (Typed.both (s49 bs)) (at12 bs) (Plain.t-call-plain 𝓤 H A W 𝓣 2 ps·5 r·5 (claims· .10)
-              (claims· .11) "hnsr_circuit::queue::tell_notice" (known .5) E (λ pos β. β) G50 (record { pos = 25; ty = Syntax.tyRef Syntax.erased
-              Syntax.mut InflightAction.to; ref = λ x. x; }, (record { pos = 27; ty = Syntax.tyRef Syntax.erased Syntax.mut (Syntax.tyInt Syntax.w32);
-              ref = λ x. x; }, (Bool.bFld 10 ((Syntax.field 3) ∷ List.[]) 384 λ x. EndPlan.struct .as-values x .1 .1 .1 .0, (record { pos = 14; st =
-              List.[]; d = 0; at = λ x. x }, (record { pos = 13; st = List.[]; d = 0; at = λ x. x }, (record { pos = 5; st = List.[]; d = 0; at = λ x.
-              x }, tt),),),),),) 0 (7 ∷ 8 ∷ List.[]) (Call.sub-id 𝓤 H A W (G50 .slots)) (Reads'.as-is 𝓤 H A (Mut.mslice InflightAction.row ref2 7),
-              Mut.reads-mslice 𝓤 H A W InflightAction.row ref2 7, Path.refl, (Reads'.as-is 𝓤 H A (Mut.mslice (Referent.rtF (Referent.fInt Syntax.w32))
-              ref3 8), Mut.reads-mslice 𝓤 H A W (Referent.rtF (Referent.fInt Syntax.w32)) ref3 8, Path.refl, ((Reads.reads-field 𝓤 H A W
-              EndPlan.the-type Laws'''.the-laws 3 Syntax.tyBool 384 Path.refl, Path.refl,), ((Yields.yields-copy 𝓤 H A W (λ ρ. Unit) (Declared'.row
-              Sending.the-type) Path.refl (Copies.cStruct Sending.the-type Laws''''.the-laws Laws''''.the-copy .copy 𝓤 H A W) (Rows.whole
-              (Declared'.row Sending.the-type)) (λ x. x) (λ x. x) (λ ρ told. Local.mem-whole 𝓤 H A W (Declared'.row Sending.the-type) ρ) λ ρ told.
-              Local.whole-mem 𝓤 H A W (Declared'.row Sending.the-type) ρ, Path.refl,), ((Yields.yields-copy 𝓤 H A W (λ ρ. Unit) (Declared'.row
-              Outgoing.the-type) Path.refl (Copies.cStruct Outgoing.the-type Laws''.the-laws Laws''.the-copy .copy 𝓤 H A W) (Rows.whole (Declared'.row
-              Outgoing.the-type)) (λ x. x) (λ x. x) (λ ρ told. Local.mem-whole 𝓤 H A W (Declared'.row Outgoing.the-type) ρ) λ ρ told. Local.whole-mem
-              𝓤 H A W (Declared'.row Outgoing.the-type) ρ, Path.refl,), ((Yields.yields-copy 𝓤 H A W (λ ρ. Unit) (Declared.row Notice.the-type)
-              Path.refl (Copies.cEnum Notice.the-type Laws.the-laws Laws.the-copy .copy 𝓤 H A W) (Rows.whole (Declared.row Notice.the-type)) (λ x. x)
-              (λ x. x) (λ ρ told. Local.mem-whole 𝓤 H A W (Declared.row Notice.the-type) ρ) λ ρ told. Local.whole-mem 𝓤 H A W (Declared.row
-              Notice.the-type) ρ, Path.refl,), tt,),),),),),) (Reads'.room-gone 𝓤 H A Laws''''.mir) (tt, (tt, tt)) Path.refl) d12
+          d13 = Typed.s-seq 𝓤 H A W 𝓣 E G50 G51 b21 b22 Δ0 (Typed.both (s49 bs)) (at12 bs) (Plain.t-call-plain 𝓤 H A W
+              𝓣 2 ps·5 r·5 (claims· .10) (claims· .11) "hnsr_circuit::queue::tell_notice" (known .5) E (λ pos β. β) G50 (
+                record { pos = 25; ty = ref2; ref = λ x. x },
+                (
+                  record { pos = 27; ty = ref3; ref = λ x. x },
+                  (
+                    Bool.bFld 10 ((Syntax.field 3) ∷ List.[]) 384 λ x. EndPlan.struct .as-values x .1 .1 .1 .0,
+                    (
+                      record { pos = 14; st = List.[]; d = 0; at = λ x. x },
+                      (
+                        record { pos = 13; st = List.[]; d = 0; at = λ x. x },
+                        (record { pos = 5; st = List.[]; d = 0; at = λ x. x }, tt),
+                      ),
+                    ),
+                  ),
+                ),
+              ) 0 (7 ∷ 8 ∷ List.[]) (Call.sub-id 𝓤 H A W (G50 .slots)) (
+                Reads'.as-is 𝓤 H A (Mut.mslice InflightAction.row ref2 7),
+                Mut.reads-mslice 𝓤 H A W InflightAction.row ref2 7,
+                Path.refl,
+                (
+                  Reads'.as-is 𝓤 H A (Mut.mslice (Referent.rtF (Referent.fInt Syntax.w32)) ref3 8),
+                  Mut.reads-mslice 𝓤 H A W (Referent.rtF (Referent.fInt Syntax.w32)) ref3 8,
+                  Path.refl,
+                  (
+                    (
+                      Reads.reads-field 𝓤 H A W EndPlan.the-type Laws'''.the-laws 3 Syntax.tyBool 384 Path.refl,
+                      Path.refl,
+                    ),
+                    (
+                      (
+                        Yields.yields-copy 𝓤 H A W (λ ρ. Unit) (Declared'.row Sending.the-type) Path.refl (Copies.cStruct
+                            Sending.the-type Laws''''.the-laws Laws''''.the-copy .copy 𝓤 H A W)
+                            (Rows.whole (Declared'.row Sending.the-type)) (λ x. x) (λ x. x) (λ ρ told. Local.mem-whole
+                            𝓤 H A W (Declared'.row Sending.the-type) ρ) λ ρ told. Local.whole-mem 𝓤 H A W
+                            (Declared'.row Sending.the-type) ρ,
+                        Path.refl,
+                      ),
+                      (
+                        (
+                          Yields.yields-copy 𝓤 H A W (λ ρ. Unit) (Declared'.row Outgoing.the-type) Path.refl (Copies.cStruct
+                              Outgoing.the-type Laws''.the-laws Laws''.the-copy .copy 𝓤 H A W)
+                              (Rows.whole (Declared'.row Outgoing.the-type)) (λ x. x) (λ x. x) (λ ρ told.
+                              Local.mem-whole 𝓤 H A W (Declared'.row Outgoing.the-type) ρ) λ ρ told. Local.whole-mem 𝓤
+                              H A W (Declared'.row Outgoing.the-type) ρ,
+                          Path.refl,
+                        ),
+                        (
+                          (
+                            Yields.yields-copy 𝓤 H A W (λ ρ. Unit) (Declared.row Notice.the-type) Path.refl (Copies.cEnum
+                                Notice.the-type Laws.the-laws Laws.the-copy .copy 𝓤 H A W)
+                                (Rows.whole (Declared.row Notice.the-type)) (λ x. x) (λ x. x) (λ ρ told.
+                                Local.mem-whole 𝓤 H A W (Declared.row Notice.the-type) ρ) λ ρ told. Local.whole-mem 𝓤 H
+                                A W (Declared.row Notice.the-type) ρ,
+                            Path.refl,
+                          ),
+                          tt,
+                        ),
+                      ),
+                    ),
+                  ),
+                ),
+              ) (Reads'.room-gone 𝓤 H A Laws''''.mir) (tt, (tt, tt)) Path.refl) d12
+
           d14 : Typed.Typed 𝓤 H A 𝓣 E G49 b24 Δ0 (at14 bs)
-          d14 = Typed.s-seq 𝓤 H A W 𝓣 E G49 G50 b20 b23 Δ0 (Typed.ask (s48 bs)) (at13 bs) (Relend.t-sl-aggregate 𝓤 H A W E (Referent.rtF
-              (Referent.fInt Syntax.w32)) 𝓣 (Relend.asMut (Referent.rtF (Referent.fInt Syntax.w32))) G49 26 27 8 ref3 ref3 (λ x. x) (Scalar.oFld 3
-              ((Syntax.field 1) ∷ List.[]) (Syntax.tyInt Syntax.w64) 8 λ v. Shared.lenV (v .0)) (Reads'.as-is 𝓤 H A (Relend.msptr (Referent.rtF
-              (Referent.fInt Syntax.w32)) ref3 8)) (Reads'.room-gone 𝓤 H A (Syntax.tyStruct (38 ∷ 91 ∷ 93 ∷ List.[]) (Syntax.tcons ref3 (Syntax.tcons
-              (Syntax.tyInt Syntax.w64) Syntax.tnil)))) (Relend.reads-owed-len 𝓤 H A W (Referent.rtF (Referent.fInt Syntax.w32)) ref6 2 8 life2 8
-              Path.refl, Path.refl,) Path.refl Path.refl λ b o k. tt) d13
+          d14 = Typed.s-seq 𝓤 H A W 𝓣 E G49 G50 b20 b23 Δ0 (Typed.ask (s48 bs)) (at13 bs) (Relend.t-sl-aggregate 𝓤 H A
+              W E (Referent.rtF (Referent.fInt Syntax.w32)) 𝓣 (Relend.asMut (Referent.rtF (Referent.fInt Syntax.w32)))
+              G49 26 27 8 ref3 ref3 (λ x. x) (Scalar.oFld 3 ((Syntax.field 1) ∷ List.[]) (Syntax.tyInt Syntax.w64) 8
+              λ v. Shared.lenV (v .0)) (Reads'.as-is 𝓤 H A (Relend.msptr (Referent.rtF (Referent.fInt Syntax.w32)) ref3
+              8)) (Reads'.room-gone 𝓤 H A slice3) (
+                Relend.reads-owed-len 𝓤 H A W (Referent.rtF (Referent.fInt Syntax.w32)) ref6 2 8 life2 8 Path.refl,
+                Path.refl,
+              ) Path.refl Path.refl λ b o k. tt) d13
+
           d15 : Typed.Typed 𝓤 H A 𝓣 E G48 b25 Δ0 (at15 bs)
-          d15 = Typed.s-seq 𝓤 H A W 𝓣 E G48 G49 b19 b24 Δ0 (Typed.give (s47 bs)) (at14 bs) (Relend.t-sl-relend 𝓤 H A W E (Referent.rtF (Referent.fInt
-              Syntax.w32)) 𝓣 G48 3 26 2 8 ref6 ref3 life2 0 (λ x. x) (Reads'.as-is 𝓤 H A (Mut.mslice (Referent.rtF (Referent.fInt Syntax.w32)) ref6
-              2)) (Reads'.room-gone 𝓤 H A ref3) Path.refl tt Path.refl Path.refl Path.refl λ b o. tt) d14
+          d15 = Typed.s-seq 𝓤 H A W 𝓣 E G48 G49 b19 b24 Δ0 (Typed.give (s47 bs)) (at14 bs) (Relend.t-sl-relend 𝓤 H A W
+              E (Referent.rtF (Referent.fInt Syntax.w32)) 𝓣 G48 3 26 2 8 ref6 ref3 life2 0 (λ x. x) (Reads'.as-is 𝓤 H A (Mut.mslice
+              (Referent.rtF (Referent.fInt Syntax.w32)) ref6 2)) (Reads'.room-gone 𝓤 H A ref3) Path.refl tt Path.refl
+              Path.refl Path.refl λ b o. tt) d14
+
           d16 : Typed.Typed 𝓤 H A 𝓣 E G47 b25 Δ0 (at16 bs)
-          d16 = Typed.g-pre 𝓤 H A W 𝓣 E G47 G48 b25 Δ0 (λ Ψ. Ψ) (at15 bs) (Lifetime.g-begin 𝓤 H A W E G47 8 (tt, (tt, ((tt, tt), (tt, (tt, (tt, (tt,
-              (tt, (tt, (tt, (tt, (tt, (tt, (tt, (tt, (tt, (tt, (tt, (tt, (tt, (tt, (tt, (tt, (tt, (tt, (tt, (tt, (tt,
-              tt))))),),),),),),),),),),),),),),),),),),),),),),),)) d15
+          d16 = Typed.g-pre 𝓤 H A W 𝓣 E G47 G48 b25 Δ0 (λ Ψ. Ψ) (at15 bs) (Lifetime.g-begin 𝓤 H A W E G47 8 (
+            tt,
+            (
+              tt,
+              (
+                (tt, tt),
+                (
+                  tt,
+                  (
+                    tt,
+                    (
+                      tt,
+                      (
+                        tt,
+                        (
+                          tt,
+                          (
+                            tt,
+                            (
+                              tt,
+                              (
+                                tt,
+                                (
+                                  tt,
+                                  (
+                                    tt,
+                                    (
+                                      tt,
+                                      (
+                                        tt,
+                                        (
+                                          tt,
+                                          (tt, (tt, (tt, (tt, (tt, (tt, (tt, (tt, (tt, (tt, (tt, (tt, tt)))))))))))),
+                                        ),
+                                      ),
+                                    ),
+                                  ),
+                                ),
+                              ),
+                            ),
+                          ),
+                        ),
+                      ),
+                    ),
+                  ),
+                ),
+              ),
+            ),
+          )) d15
+
           d17 : Typed.Typed 𝓤 H A 𝓣 E G46 b26 Δ0 (at17 bs)
-          d17 = Typed.s-seq 𝓤 H A W 𝓣 E G46 G47 b18 b25 Δ0 (Typed.ask (s45 bs)) (at16 bs) (Relend.t-sl-aggregate 𝓤 H A W E InflightAction.row 𝓣
-              (Relend.asMut InflightAction.row) G46 24 25 7 ref2 ref2 (λ x. x) (Scalar.oFld 2 ((Syntax.field 1) ∷ List.[]) (Syntax.tyInt Syntax.w64) 8
-              λ v. Shared.lenV (v .0)) (Reads'.as-is 𝓤 H A (Relend.msptr InflightAction.row ref2 7)) (Reads'.room-gone 𝓤 H A (Syntax.tyStruct (38 ∷ 91
-              ∷ 93 ∷ List.[]) (Syntax.tcons ref2 (Syntax.tcons (Syntax.tyInt Syntax.w64) Syntax.tnil)))) (Relend.reads-owed-len 𝓤 H A W
-              InflightAction.row ref5 1 7 life1 8 Path.refl, Path.refl,) Path.refl Path.refl λ b o k. tt) d16
+          d17 = Typed.s-seq 𝓤 H A W 𝓣 E G46 G47 b18 b25 Δ0 (Typed.ask (s45 bs)) (at16 bs) (Relend.t-sl-aggregate 𝓤 H A
+              W E InflightAction.row 𝓣 (Relend.asMut InflightAction.row) G46 24 25 7 ref2 ref2 (λ x. x) (Scalar.oFld 2
+              ((Syntax.field 1) ∷ List.[]) (Syntax.tyInt Syntax.w64) 8 λ v. Shared.lenV (v .0)) (Reads'.as-is 𝓤 H A
+              (Relend.msptr InflightAction.row ref2 7)) (Reads'.room-gone 𝓤 H A slice2) (
+                Relend.reads-owed-len 𝓤 H A W InflightAction.row ref5 1 7 life1 8 Path.refl,
+                Path.refl,
+              ) Path.refl Path.refl λ b o k. tt) d16
+
           d18 : Typed.Typed 𝓤 H A 𝓣 E G45 b27 Δ0 (at18 bs)
-          d18 = Typed.s-seq 𝓤 H A W 𝓣 E G45 G46 b17 b26 Δ0 (Typed.give (s44 bs)) (at17 bs) (Relend.t-sl-relend 𝓤 H A W E InflightAction.row 𝓣 G45 2 24
-              1 7 ref5 ref2 life1 0 (λ x. x) (Reads'.as-is 𝓤 H A (Mut.mslice InflightAction.row ref5 1)) (Reads'.room-gone 𝓤 H A ref2) Path.refl tt
+          d18 = Typed.s-seq 𝓤 H A W 𝓣 E G45 G46 b17 b26 Δ0 (Typed.give (s44 bs)) (at17 bs) (Relend.t-sl-relend 𝓤 H A W
+              E InflightAction.row 𝓣 G45 2 24 1 7 ref5 ref2 life1 0 (λ x. x)
+              (Reads'.as-is 𝓤 H A (Mut.mslice InflightAction.row ref5 1)) (Reads'.room-gone 𝓤 H A ref2) Path.refl tt
               Path.refl Path.refl Path.refl λ b o. tt) d17
+
           d19 : Typed.Typed 𝓤 H A 𝓣 E G44 b27 Δ0 (at19 bs)
-          d19 = Typed.g-pre 𝓤 H A W 𝓣 E G44 G45 b27 Δ0 (λ Ψ. Ψ) (at18 bs) (Lifetime.g-begin 𝓤 H A W E G44 7 (tt, (tt, (tt, (tt, (tt, (tt, (tt, (tt,
-              (tt, (tt, (tt, (tt, (tt, (tt, (tt, (tt, (tt, (tt, (tt, (tt, (tt, (tt, (tt, (tt, (tt, (tt, (tt, (tt,
-              tt))))),),),),),),),),),),),),),),),),),),),),),),),)) d18
+          d19 = Typed.g-pre 𝓤 H A W 𝓣 E G44 G45 b27 Δ0 (λ Ψ. Ψ) (at18 bs) (Lifetime.g-begin 𝓤 H A W E G44 7 (
+            tt,
+            (
+              tt,
+              (
+                tt,
+                (
+                  tt,
+                  (
+                    tt,
+                    (
+                      tt,
+                      (
+                        tt,
+                        (
+                          tt,
+                          (
+                            tt,
+                            (
+                              tt,
+                              (
+                                tt,
+                                (
+                                  tt,
+                                  (
+                                    tt,
+                                    (
+                                      tt,
+                                      (
+                                        tt,
+                                        (
+                                          tt,
+                                          (tt, (tt, (tt, (tt, (tt, (tt, (tt, (tt, (tt, (tt, (tt, (tt, tt)))))))))))),
+                                        ),
+                                      ),
+                                    ),
+                                  ),
+                                ),
+                              ),
+                            ),
+                          ),
+                        ),
+                      ),
+                    ),
+                  ),
+                ),
+              ),
+            ),
+          )) d18
+
           d20 : Typed.Typed 𝓤 H A 𝓣 E G43 b27 Δ0 (at20 bs)
-          d20 = Typed.g-pre 𝓤 H A W 𝓣 E G43 G44 b27 Δ0 (λ Ψ. Ψ) (at19 bs) (Lifetime.g-forget 𝓤 H A W E G43 6 Row.dead Path.refl) d19
+          d20 = Typed.g-pre 𝓤 H A W 𝓣 E G43 G44 b27 Δ0 (λ Ψ. Ψ) (at19 bs)
+              (Lifetime.g-forget 𝓤 H A W E G43 6 Row.dead Path.refl) d19
+
           d21 : Typed.Typed 𝓤 H A 𝓣 E G42 b27 Δ0 (at21 bs)
-          d21 = Typed.g-pre 𝓤 H A W 𝓣 E G42 G43 b27 Δ0 (Typed.give (s41 bs)) (at20 bs) (Know.g-sl-known 𝓤 H A W (Referent.fInt Syntax.w32) E G42 3 2
-              ref6 life2 0 (λ x. x) record { fits = Dec.lit< tt } (Reads'.as-is 𝓤 H A (Mut.mslice (Referent.rtF (Referent.fInt Syntax.w32)) ref6 2))
-              Path.refl tt) d20
+          d21 = Typed.g-pre 𝓤 H A W 𝓣 E G42 G43 b27 Δ0 (Typed.give (s41 bs)) (at20 bs) (Know.g-sl-known 𝓤 H A W
+              (Referent.fInt Syntax.w32) E G42 3 2 ref6 life2 0 (λ x. x) record { fits = Dec.lit< tt } (Reads'.as-is 𝓤
+              H A (Mut.mslice (Referent.rtF (Referent.fInt Syntax.w32)) ref6 2)) Path.refl tt) d20
+
           d22 : Typed.Typed 𝓤 H A 𝓣 E G41 b27 Δ0 (at22 bs)
-          d22 = Typed.g-pre 𝓤 H A W 𝓣 E G41 G42 b27 Δ0 (Typed.both (s40 bs)) (at21 bs) (Relend.g-back-sl 𝓤 H A W E (Referent.rtF (Referent.fInt
-              Syntax.w32)) G41 23 3 2 6 ref6 ref3 life2 (λ x. x) (λ x. x) (Reads'.as-is 𝓤 H A (Mut.msleft (Referent.rtF (Referent.fInt Syntax.w32))
-              ref3)) (Reads'.as-is 𝓤 H A (Relend.mslice-owed (Referent.rtF (Referent.fInt Syntax.w32)) ref6 2 6 life2)) Path.refl Path.refl) d21
+          d22 = Typed.g-pre 𝓤 H A W 𝓣 E G41 G42 b27 Δ0 (Typed.both (s40 bs)) (at21 bs) (Relend.g-back-sl 𝓤 H A W E
+              (Referent.rtF (Referent.fInt Syntax.w32)) G41 23 3 2 6 ref6 ref3 life2 (λ x. x) (λ x. x) (Reads'.as-is 𝓤
+              H A (Mut.msleft (Referent.rtF (Referent.fInt Syntax.w32)) ref3)) (Reads'.as-is 𝓤 H A (Relend.mslice-owed
+              (Referent.rtF (Referent.fInt Syntax.w32)) ref6 2 6 life2)) Path.refl Path.refl) d21
+
           d23 : Typed.Typed 𝓤 H A 𝓣 E G40 b27 Δ0 (at23 bs)
-          d23 = Typed.g-pre 𝓤 H A W 𝓣 E G40 G41 b27 Δ0 (λ Ψ. Ψ) (at22 bs) (Lifetime.g-end 𝓤 H A W E G40 6 Path.refl) d22
+          d23 = Typed.g-pre 𝓤 H A W 𝓣 E G40 G41 b27 Δ0 (λ Ψ. Ψ) (at22 bs) (Lifetime.g-end 𝓤 H A W E G40 6 Path.refl)
+              d22
+
           d24 : Typed.Typed 𝓤 H A 𝓣 E G39 b27 Δ0 (at24 bs)
-          d24 = Typed.g-pre 𝓤 H A W 𝓣 E G39 G40 b27 Δ0 (λ Ψ. Ψ) (at23 bs) (Lifetime.g-forget 𝓤 H A W E G39 5 Row.dead Path.refl) d23
+          d24 = Typed.g-pre 𝓤 H A W 𝓣 E G39 G40 b27 Δ0 (λ Ψ. Ψ) (at23 bs)
+              (Lifetime.g-forget 𝓤 H A W E G39 5 Row.dead Path.refl) d23
+
           d25 : Typed.Typed 𝓤 H A 𝓣 E G38 b27 Δ0 (at25 bs)
-          d25 = Typed.g-pre 𝓤 H A W 𝓣 E G38 G39 b27 Δ0 (Typed.both (s37 bs)) (at24 bs) (Relend.g-back-sl 𝓤 H A W E InflightAction.row G38 21 2 1 5
-              ref5 ref2 life1 (λ x. x) (λ x. x) (Reads'.as-is 𝓤 H A (Mut.msleft InflightAction.row ref2)) (Reads'.as-is 𝓤 H A (Relend.mslice-owed
-              InflightAction.row ref5 1 5 life1)) Path.refl Path.refl) d24
+          d25 = Typed.g-pre 𝓤 H A W 𝓣 E G38 G39 b27 Δ0 (Typed.both (s37 bs)) (at24 bs) (Relend.g-back-sl 𝓤 H A W E
+              InflightAction.row G38 21 2 1 5 ref5 ref2 life1 (λ x. x) (λ x. x)
+              (Reads'.as-is 𝓤 H A (Mut.msleft InflightAction.row ref2)) (Reads'.as-is 𝓤 H A
+              (Relend.mslice-owed InflightAction.row ref5 1 5 life1)) Path.refl Path.refl) d24
+
           d26 : Typed.Typed 𝓤 H A 𝓣 E G37 b27 Δ0 (at26 bs)
-          d26 = Typed.g-pre 𝓤 H A W 𝓣 E G37 G38 b27 Δ0 (λ Ψ. Ψ) (at25 bs) (Lifetime.g-end 𝓤 H A W E G37 5 Path.refl) d25
+          d26 = Typed.g-pre 𝓤 H A W 𝓣 E G37 G38 b27 Δ0 (λ Ψ. Ψ) (at25 bs) (Lifetime.g-end 𝓤 H A W E G37 5 Path.refl)
+              d25
+
           d27 : Typed.Typed 𝓤 H A 𝓣 E G36 b27 Δ0 (at27 bs)
-          d27 = Typed.g-pre 𝓤 H A W 𝓣 E G36 G37 b27 Δ0 (Typed.pass T36 T37 (s35 bs)) (at26 bs) (Scalar.g-room 𝓤 H A W E G36 12 Laws''.mir
-              (Local.room-whole 𝓤 H A W (Declared'.row Outgoing.the-type) Laws''.mir Path.refl)) d26
+          d27 = Typed.g-pre 𝓤 H A W 𝓣 E G36 G37 b27 Δ0 (Typed.pass T36 T37 (s35 bs)) (at26 bs) (Scalar.g-room 𝓤 H A W E
+              G36 12 Laws''.mir (Local.room-whole 𝓤 H A W (Declared'.row Outgoing.the-type) Laws''.mir Path.refl)) d26
+
           d28 : Typed.Typed 𝓤 H A 𝓣 E G35 b27 Δ0 (at28 bs)
-          d28 = Typed.g-pre 𝓤 H A W 𝓣 E G35 G36 b27 Δ0 (Typed.pass T35 T36 (s34 bs)) (at27 bs) (Scalar.g-room 𝓤 H A W E G35 11 Laws''''.mir
-              (Local.room-whole 𝓤 H A W (Declared'.row Sending.the-type) Laws''''.mir Path.refl)) d27
+          d28 = Typed.g-pre 𝓤 H A W 𝓣 E G35 G36 b27 Δ0 (Typed.pass T35 T36 (s34 bs)) (at27 bs) (Scalar.g-room 𝓤 H A W E
+              G35 11 Laws''''.mir (Local.room-whole 𝓤 H A W (Declared'.row Sending.the-type) Laws''''.mir Path.refl))
+              d27
+
           d29 : Typed.Typed 𝓤 H A 𝓣 E G34 b28 Δ0 (at29 bs)
-          d29 = Typed.s-seq 𝓤 H A W 𝓣 E G34 G35 b16 b27 Δ0 (Typed.both (s33 bs)) (at28 bs) (Plain.t-call-plain 𝓤 H A W 𝓣 2 ps·4 r·4 (claims· .8)
-              (claims· .9) "hnsr_circuit::queue::drop_and_tell" (known .4) E (λ pos β. β) G34 (record { pos = 21; ty = Syntax.tyRef Syntax.erased
-              Syntax.mut InflightAction.to; ref = λ x. x; }, (record { pos = 23; ty = Syntax.tyRef Syntax.erased Syntax.mut (Syntax.tyInt Syntax.w32);
-              ref = λ x. x; }, (record { pos = 11; st = List.[]; d = 0; at = λ x. x }, (Num.vFld 10 ((Syntax.field 0) ∷ List.[]) 0 λ x. EndPlan.struct
-              .as-values x .0, (record { pos = 12; st = List.[]; d = 0; at = λ x. x }, (record { pos = 5; st = List.[]; d = 0; at = λ x. x },
-              tt),),),),),) 14 (5 ∷ 6 ∷ List.[]) (Call.sub-id 𝓤 H A W (G34 .slots)) (Reads'.as-is 𝓤 H A (Mut.mslice InflightAction.row ref2 5),
-              Mut.reads-mslice 𝓤 H A W InflightAction.row ref2 5, Path.refl, (Reads'.as-is 𝓤 H A (Mut.mslice (Referent.rtF (Referent.fInt Syntax.w32))
-              ref3 6), Mut.reads-mslice 𝓤 H A W (Referent.rtF (Referent.fInt Syntax.w32)) ref3 6, Path.refl, ((Yields.yields-copy 𝓤 H A W (λ ρ. Unit)
-              (Declared'.row Sending.the-type) Path.refl (Copies.cStruct Sending.the-type Laws''''.the-laws Laws''''.the-copy .copy 𝓤 H A W)
-              (Rows.whole (Declared'.row Sending.the-type)) (λ x. x) (λ x. x) (λ ρ told. Local.mem-whole 𝓤 H A W (Declared'.row Sending.the-type) ρ) λ
-              ρ told. Local.whole-mem 𝓤 H A W (Declared'.row Sending.the-type) ρ, Path.refl,), ((Reads.reads-field 𝓤 H A W EndPlan.the-type
-              Laws'''.the-laws 0 (Syntax.tyInt Syntax.w64) 0 Path.refl, Path.refl,), ((Yields.yields-copy 𝓤 H A W (λ ρ. Unit) (Declared'.row
-              Outgoing.the-type) Path.refl (Copies.cStruct Outgoing.the-type Laws''.the-laws Laws''.the-copy .copy 𝓤 H A W) (Rows.whole (Declared'.row
-              Outgoing.the-type)) (λ x. x) (λ x. x) (λ ρ told. Local.mem-whole 𝓤 H A W (Declared'.row Outgoing.the-type) ρ) λ ρ told. Local.whole-mem
-              𝓤 H A W (Declared'.row Outgoing.the-type) ρ, Path.refl,), ((Yields.yields-copy 𝓤 H A W (λ ρ. Unit) (Declared.row Notice.the-type)
-              Path.refl (Copies.cEnum Notice.the-type Laws.the-laws Laws.the-copy .copy 𝓤 H A W) (Rows.whole (Declared.row Notice.the-type)) (λ x. x)
-              (λ x. x) (λ ρ told. Local.mem-whole 𝓤 H A W (Declared.row Notice.the-type) ρ) λ ρ told. Local.whole-mem 𝓤 H A W (Declared.row
-              Notice.the-type) ρ, Path.refl,), tt,),),),),),) (Reads'.room-gone 𝓤 H A Laws''''.mir) (tt, (tt, tt)) Path.refl) d28
+          d29 = Typed.s-seq 𝓤 H A W 𝓣 E G34 G35 b16 b27 Δ0 (Typed.both (s33 bs)) (at28 bs) (Plain.t-call-plain 𝓤 H A W
+              𝓣 2 ps·4 r·4 (claims· .8) (claims· .9) "hnsr_circuit::queue::drop_and_tell" (known .4) E (λ pos β. β) G34 (
+                record { pos = 21; ty = ref2; ref = λ x. x },
+                (
+                  record { pos = 23; ty = ref3; ref = λ x. x },
+                  (
+                    record { pos = 11; st = List.[]; d = 0; at = λ x. x },
+                    (
+                      Num.vFld 10 ((Syntax.field 0) ∷ List.[]) 0 λ x. EndPlan.struct .as-values x .0,
+                      (
+                        record { pos = 12; st = List.[]; d = 0; at = λ x. x },
+                        (record { pos = 5; st = List.[]; d = 0; at = λ x. x }, tt),
+                      ),
+                    ),
+                  ),
+                ),
+              ) 14 (5 ∷ 6 ∷ List.[]) (Call.sub-id 𝓤 H A W (G34 .slots)) (
+                Reads'.as-is 𝓤 H A (Mut.mslice InflightAction.row ref2 5),
+                Mut.reads-mslice 𝓤 H A W InflightAction.row ref2 5,
+                Path.refl,
+                (
+                  Reads'.as-is 𝓤 H A (Mut.mslice (Referent.rtF (Referent.fInt Syntax.w32)) ref3 6),
+                  Mut.reads-mslice 𝓤 H A W (Referent.rtF (Referent.fInt Syntax.w32)) ref3 6,
+                  Path.refl,
+                  (
+                    (
+                      Yields.yields-copy 𝓤 H A W (λ ρ. Unit) (Declared'.row Sending.the-type) Path.refl (Copies.cStruct
+                          Sending.the-type Laws''''.the-laws Laws''''.the-copy .copy 𝓤 H A W)
+                          (Rows.whole (Declared'.row Sending.the-type)) (λ x. x) (λ x. x) (λ ρ told. Local.mem-whole 𝓤
+                          H A W (Declared'.row Sending.the-type) ρ) λ ρ told. Local.whole-mem 𝓤 H A W
+                          (Declared'.row Sending.the-type) ρ,
+                      Path.refl,
+                    ),
+                    (
+                      (
+                        Reads.reads-field 𝓤 H A W EndPlan.the-type Laws'''.the-laws 0 (Syntax.tyInt Syntax.w64) 0
+                            Path.refl,
+                        Path.refl,
+                      ),
+                      (
+                        (
+                          Yields.yields-copy 𝓤 H A W (λ ρ. Unit) (Declared'.row Outgoing.the-type) Path.refl (Copies.cStruct
+                              Outgoing.the-type Laws''.the-laws Laws''.the-copy .copy 𝓤 H A W)
+                              (Rows.whole (Declared'.row Outgoing.the-type)) (λ x. x) (λ x. x) (λ ρ told.
+                              Local.mem-whole 𝓤 H A W (Declared'.row Outgoing.the-type) ρ) λ ρ told. Local.whole-mem 𝓤
+                              H A W (Declared'.row Outgoing.the-type) ρ,
+                          Path.refl,
+                        ),
+                        (
+                          (
+                            Yields.yields-copy 𝓤 H A W (λ ρ. Unit) (Declared.row Notice.the-type) Path.refl (Copies.cEnum
+                                Notice.the-type Laws.the-laws Laws.the-copy .copy 𝓤 H A W)
+                                (Rows.whole (Declared.row Notice.the-type)) (λ x. x) (λ x. x) (λ ρ told.
+                                Local.mem-whole 𝓤 H A W (Declared.row Notice.the-type) ρ) λ ρ told. Local.whole-mem 𝓤 H
+                                A W (Declared.row Notice.the-type) ρ,
+                            Path.refl,
+                          ),
+                          tt,
+                        ),
+                      ),
+                    ),
+                  ),
+                ),
+              ) (Reads'.room-gone 𝓤 H A Laws''''.mir) (tt, (tt, tt)) Path.refl) d28
+
           d30 : Typed.Typed 𝓤 H A 𝓣 E G33 b29 Δ0 (at30 bs)
-          d30 = Typed.s-seq 𝓤 H A W 𝓣 E G33 G34 b15 b28 Δ0 (Typed.ask (s32 bs)) (at29 bs) (Relend.t-sl-aggregate 𝓤 H A W E (Referent.rtF
-              (Referent.fInt Syntax.w32)) 𝓣 (Relend.asMut (Referent.rtF (Referent.fInt Syntax.w32))) G33 22 23 6 ref3 ref3 (λ x. x) (Scalar.oFld 3
-              ((Syntax.field 1) ∷ List.[]) (Syntax.tyInt Syntax.w64) 8 λ v. Shared.lenV (v .0)) (Reads'.as-is 𝓤 H A (Relend.msptr (Referent.rtF
-              (Referent.fInt Syntax.w32)) ref3 6)) (Reads'.room-gone 𝓤 H A (Syntax.tyStruct (38 ∷ 91 ∷ 93 ∷ List.[]) (Syntax.tcons ref3 (Syntax.tcons
-              (Syntax.tyInt Syntax.w64) Syntax.tnil)))) (Relend.reads-owed-len 𝓤 H A W (Referent.rtF (Referent.fInt Syntax.w32)) ref6 2 6 life2 8
-              Path.refl, Path.refl,) Path.refl Path.refl λ b o k. tt) d29
+          d30 = Typed.s-seq 𝓤 H A W 𝓣 E G33 G34 b15 b28 Δ0 (Typed.ask (s32 bs)) (at29 bs) (Relend.t-sl-aggregate 𝓤 H A
+              W E (Referent.rtF (Referent.fInt Syntax.w32)) 𝓣 (Relend.asMut (Referent.rtF (Referent.fInt Syntax.w32)))
+              G33 22 23 6 ref3 ref3 (λ x. x) (Scalar.oFld 3 ((Syntax.field 1) ∷ List.[]) (Syntax.tyInt Syntax.w64) 8
+              λ v. Shared.lenV (v .0)) (Reads'.as-is 𝓤 H A (Relend.msptr (Referent.rtF (Referent.fInt Syntax.w32)) ref3
+              6)) (Reads'.room-gone 𝓤 H A slice3) (
+                Relend.reads-owed-len 𝓤 H A W (Referent.rtF (Referent.fInt Syntax.w32)) ref6 2 6 life2 8 Path.refl,
+                Path.refl,
+              ) Path.refl Path.refl λ b o k. tt) d29
+
           d31 : Typed.Typed 𝓤 H A 𝓣 E G32 b30 Δ0 (at31 bs)
-          d31 = Typed.s-seq 𝓤 H A W 𝓣 E G32 G33 b14 b29 Δ0 (Typed.give (s31 bs)) (at30 bs) (Relend.t-sl-relend 𝓤 H A W E (Referent.rtF (Referent.fInt
-              Syntax.w32)) 𝓣 G32 3 22 2 6 ref6 ref3 life2 0 (λ x. x) (Reads'.as-is 𝓤 H A (Mut.mslice (Referent.rtF (Referent.fInt Syntax.w32)) ref6
-              2)) (Reads'.room-gone 𝓤 H A ref3) Path.refl tt Path.refl Path.refl Path.refl λ b o. tt) d30
+          d31 = Typed.s-seq 𝓤 H A W 𝓣 E G32 G33 b14 b29 Δ0 (Typed.give (s31 bs)) (at30 bs) (Relend.t-sl-relend 𝓤 H A W
+              E (Referent.rtF (Referent.fInt Syntax.w32)) 𝓣 G32 3 22 2 6 ref6 ref3 life2 0 (λ x. x) (Reads'.as-is 𝓤 H A (Mut.mslice
+              (Referent.rtF (Referent.fInt Syntax.w32)) ref6 2)) (Reads'.room-gone 𝓤 H A ref3) Path.refl tt Path.refl
+              Path.refl Path.refl λ b o. tt) d30
+
           d32 : Typed.Typed 𝓤 H A 𝓣 E G31 b30 Δ0 (at32 bs)
-          d32 = Typed.g-pre 𝓤 H A W 𝓣 E G31 G32 b30 Δ0 (λ Ψ. Ψ) (at31 bs) (Lifetime.g-begin 𝓤 H A W E G31 6 (tt, (tt, ((tt, tt), (tt, (tt, (tt, (tt,
-              (tt, (tt, (tt, (tt, (tt, (tt, (tt, (tt, (tt, (tt, (tt, (tt, (tt, (tt, (tt, (tt, (tt, (tt, (tt, (tt, (tt,
-              tt))))),),),),),),),),),),),),),),),),),),),),),),),)) d31
+          d32 = Typed.g-pre 𝓤 H A W 𝓣 E G31 G32 b30 Δ0 (λ Ψ. Ψ) (at31 bs) (Lifetime.g-begin 𝓤 H A W E G31 6 (
+            tt,
+            (
+              tt,
+              (
+                (tt, tt),
+                (
+                  tt,
+                  (
+                    tt,
+                    (
+                      tt,
+                      (
+                        tt,
+                        (
+                          tt,
+                          (
+                            tt,
+                            (
+                              tt,
+                              (
+                                tt,
+                                (
+                                  tt,
+                                  (
+                                    tt,
+                                    (
+                                      tt,
+                                      (
+                                        tt,
+                                        (
+                                          tt,
+                                          (tt, (tt, (tt, (tt, (tt, (tt, (tt, (tt, (tt, (tt, (tt, (tt, tt)))))))))))),
+                                        ),
+                                      ),
+                                    ),
+                                  ),
+                                ),
+                              ),
+                            ),
+                          ),
+                        ),
+                      ),
+                    ),
+                  ),
+                ),
+              ),
+            ),
+          )) d31
+
           d33 : Typed.Typed 𝓤 H A 𝓣 E G30 b31 Δ0 (at33 bs)
-          d33 = Typed.s-seq 𝓤 H A W 𝓣 E G30 G31 b13 b30 Δ0 (Typed.ask (s29 bs)) (at32 bs) (Relend.t-sl-aggregate 𝓤 H A W E InflightAction.row 𝓣
-              (Relend.asMut InflightAction.row) G30 20 21 5 ref2 ref2 (λ x. x) (Scalar.oFld 2 ((Syntax.field 1) ∷ List.[]) (Syntax.tyInt Syntax.w64) 8
-              λ v. Shared.lenV (v .0)) (Reads'.as-is 𝓤 H A (Relend.msptr InflightAction.row ref2 5)) (Reads'.room-gone 𝓤 H A (Syntax.tyStruct (38 ∷ 91
-              ∷ 93 ∷ List.[]) (Syntax.tcons ref2 (Syntax.tcons (Syntax.tyInt Syntax.w64) Syntax.tnil)))) (Relend.reads-owed-len 𝓤 H A W
-              InflightAction.row ref5 1 5 life1 8 Path.refl, Path.refl,) Path.refl Path.refl λ b o k. tt) d32
+          d33 = Typed.s-seq 𝓤 H A W 𝓣 E G30 G31 b13 b30 Δ0 (Typed.ask (s29 bs)) (at32 bs) (Relend.t-sl-aggregate 𝓤 H A
+              W E InflightAction.row 𝓣 (Relend.asMut InflightAction.row) G30 20 21 5 ref2 ref2 (λ x. x) (Scalar.oFld 2
+              ((Syntax.field 1) ∷ List.[]) (Syntax.tyInt Syntax.w64) 8 λ v. Shared.lenV (v .0)) (Reads'.as-is 𝓤 H A
+              (Relend.msptr InflightAction.row ref2 5)) (Reads'.room-gone 𝓤 H A slice2) (
+                Relend.reads-owed-len 𝓤 H A W InflightAction.row ref5 1 5 life1 8 Path.refl,
+                Path.refl,
+              ) Path.refl Path.refl λ b o k. tt) d32
+
           d34 : Typed.Typed 𝓤 H A 𝓣 E G29 b32 Δ0 (at34 bs)
-          d34 = Typed.s-seq 𝓤 H A W 𝓣 E G29 G30 b12 b31 Δ0 (Typed.give (s28 bs)) (at33 bs) (Relend.t-sl-relend 𝓤 H A W E InflightAction.row 𝓣 G29 2 20
-              1 5 ref5 ref2 life1 0 (λ x. x) (Reads'.as-is 𝓤 H A (Mut.mslice InflightAction.row ref5 1)) (Reads'.room-gone 𝓤 H A ref2) Path.refl tt
+          d34 = Typed.s-seq 𝓤 H A W 𝓣 E G29 G30 b12 b31 Δ0 (Typed.give (s28 bs)) (at33 bs) (Relend.t-sl-relend 𝓤 H A W
+              E InflightAction.row 𝓣 G29 2 20 1 5 ref5 ref2 life1 0 (λ x. x)
+              (Reads'.as-is 𝓤 H A (Mut.mslice InflightAction.row ref5 1)) (Reads'.room-gone 𝓤 H A ref2) Path.refl tt
               Path.refl Path.refl Path.refl λ b o. tt) d33
+
           d35 : Typed.Typed 𝓤 H A 𝓣 E G28 b32 Δ0 (at35 bs)
-          d35 = Typed.g-pre 𝓤 H A W 𝓣 E G28 G29 b32 Δ0 (λ Ψ. Ψ) (at34 bs) (Lifetime.g-begin 𝓤 H A W E G28 5 (tt, (tt, (tt, (tt, (tt, (tt, (tt, (tt,
-              (tt, (tt, (tt, (tt, (tt, (tt, (tt, (tt, (tt, (tt, (tt, (tt, (tt, (tt, (tt, (tt, (tt, (tt, (tt, (tt,
-              tt))))),),),),),),),),),),),),),),),),),),),),),),),)) d34
+          d35 = Typed.g-pre 𝓤 H A W 𝓣 E G28 G29 b32 Δ0 (λ Ψ. Ψ) (at34 bs) (Lifetime.g-begin 𝓤 H A W E G28 5 (
+            tt,
+            (
+              tt,
+              (
+                tt,
+                (
+                  tt,
+                  (
+                    tt,
+                    (
+                      tt,
+                      (
+                        tt,
+                        (
+                          tt,
+                          (
+                            tt,
+                            (
+                              tt,
+                              (
+                                tt,
+                                (
+                                  tt,
+                                  (
+                                    tt,
+                                    (
+                                      tt,
+                                      (
+                                        tt,
+                                        (
+                                          tt,
+                                          (tt, (tt, (tt, (tt, (tt, (tt, (tt, (tt, (tt, (tt, (tt, (tt, tt)))))))))))),
+                                        ),
+                                      ),
+                                    ),
+                                  ),
+                                ),
+                              ),
+                            ),
+                          ),
+                        ),
+                      ),
+                    ),
+                  ),
+                ),
+              ),
+            ),
+          )) d34
+
           d36 : Typed.Typed 𝓤 H A 𝓣 E G27 b32 Δ0 (at36 bs)
-          d36 = Typed.g-pre 𝓤 H A W 𝓣 E G27 G28 b32 Δ0 (λ Ψ. Ψ) (at35 bs) (Lifetime.g-forget 𝓤 H A W E G27 4 Row.dead Path.refl) d35
+          d36 = Typed.g-pre 𝓤 H A W 𝓣 E G27 G28 b32 Δ0 (λ Ψ. Ψ) (at35 bs)
+              (Lifetime.g-forget 𝓤 H A W E G27 4 Row.dead Path.refl) d35
+
           d37 : Typed.Typed 𝓤 H A 𝓣 E G26 b32 Δ0 (at37 bs)
-          d37 = Typed.g-pre 𝓤 H A W 𝓣 E G26 G27 b32 Δ0 (Typed.both (s25 bs)) (at36 bs) (Relend.g-back-sl 𝓤 H A W E RelayCircuit.row G26 19 1 0 4 ref4
-              ref1 life0 (λ x. x) (λ x. x) (Reads'.as-is 𝓤 H A (Mut.msleft RelayCircuit.row ref1)) (Reads'.as-is 𝓤 H A (Relend.mslice-owed
-              RelayCircuit.row ref4 0 4 life0)) Path.refl Path.refl) d36
+          d37 = Typed.g-pre 𝓤 H A W 𝓣 E G26 G27 b32 Δ0 (Typed.both (s25 bs)) (at36 bs) (Relend.g-back-sl 𝓤 H A W E
+              RelayCircuit.row G26 19 1 0 4 ref4 ref1 life0 (λ x. x) (λ x. x)
+              (Reads'.as-is 𝓤 H A (Mut.msleft RelayCircuit.row ref1)) (Reads'.as-is 𝓤 H A
+              (Relend.mslice-owed RelayCircuit.row ref4 0 4 life0)) Path.refl Path.refl) d36
+
           d38 : Typed.Typed 𝓤 H A 𝓣 E G25 b32 Δ0 (at38 bs)
-          d38 = Typed.g-pre 𝓤 H A W 𝓣 E G25 G26 b32 Δ0 (λ Ψ. Ψ) (at37 bs) (Lifetime.g-end 𝓤 H A W E G25 4 Path.refl) d37
+          d38 = Typed.g-pre 𝓤 H A W 𝓣 E G25 G26 b32 Δ0 (λ Ψ. Ψ) (at37 bs) (Lifetime.g-end 𝓤 H A W E G25 4 Path.refl)
+              d37
+
           d39 : Typed.Typed 𝓤 H A 𝓣 E G24 b32 Δ0 (at39 bs)
-          d39 = Typed.g-pre 𝓤 H A W 𝓣 E G24 G25 b32 Δ0 (Typed.pass T24 T25 (s23 bs)) (at38 bs) (Scalar.g-room 𝓤 H A W E G24 17 Syntax.tyUnit
-              (Scalar.room-sc 𝓤 H A W Row.sUnit)) d38
+          d39 = Typed.g-pre 𝓤 H A W 𝓣 E G24 G25 b32 Δ0 (Typed.pass T24 T25 (s23 bs)) (at38 bs) (Scalar.g-room 𝓤 H A W E
+              G24 17 Syntax.tyUnit (Scalar.room-sc 𝓤 H A W Row.sUnit)) d38
+
           d40 : Typed.Typed 𝓤 H A 𝓣 E G23 b32 Δ0 (at40 bs)
-          d40 = Typed.g-pre 𝓤 H A W 𝓣 E G23 G24 b32 Δ0 (Typed.pass T23 T24 (s22 bs)) (at39 bs) (Scalar.g-room 𝓤 H A W E G23 9 RelayCircuit.ty
-              (Local.room-whole 𝓤 H A W RelayCircuit.row RelayCircuit.ty Path.refl)) d39
+          d40 = Typed.g-pre 𝓤 H A W 𝓣 E G23 G24 b32 Δ0 (Typed.pass T23 T24 (s22 bs)) (at39 bs) (Scalar.g-room 𝓤 H A W E
+              G23 9 RelayCircuit.ty (Local.room-whole 𝓤 H A W RelayCircuit.row RelayCircuit.ty Path.refl)) d39
+
           d41 : Typed.Typed 𝓤 H A 𝓣 E G22 b33 Δ0 (at41 bs)
-          d41 = Typed.s-seq 𝓤 H A W 𝓣 E G22 G23 b11 b32 Δ0 (Typed.both (s21 bs)) (at40 bs) (Plain.t-call-plain 𝓤 H A W 𝓣 1 ps·3 r·3 (claims· .6)
-              (claims· .7) "hnsr_circuit::tables::circuits::set_circuit" (known .3) E (λ pos β. β) G22 (record { pos = 19; ty = Syntax.tyRef
-              Syntax.erased Syntax.mut RelayCircuit.to; ref = λ x. x; }, (Bool.bLit Bool'.true, (Num.vAt 6 λ x. x, (record { pos = 9; st = List.[]; d
-              = 0; at = λ x. x }, tt)),),) 17 (4 ∷ List.[]) (Call.sub-id 𝓤 H A W (G22 .slots)) (Reads'.as-is 𝓤 H A (Mut.mslice RelayCircuit.row ref1
-              4), Mut.reads-mslice 𝓤 H A W RelayCircuit.row ref1 4, Path.refl, (tt, ((Scalar.reads-sc 𝓤 H A W (Row.sInt Syntax.w64), Path.refl),
-              ((Yields.yields-copy 𝓤 H A W (λ ρ. Unit) RelayCircuit.row Path.refl (RelayCircuit.copies .copy 𝓤 H A W) RelayCircuit.held (λ x. x) (λ x.
-              x) (λ ρ told. Local.mem-whole 𝓤 H A W RelayCircuit.row ρ) λ ρ told. Local.whole-mem 𝓤 H A W RelayCircuit.row ρ, Path.refl,), tt,),),),)
-              (Reads'.room-gone 𝓤 H A Syntax.tyUnit) (tt, tt) Path.refl) d40
+          d41 = Typed.s-seq 𝓤 H A W 𝓣 E G22 G23 b11 b32 Δ0 (Typed.both (s21 bs)) (at40 bs) (Plain.t-call-plain 𝓤 H A W
+              𝓣 1 ps·3 r·3 (claims· .6) (claims· .7) "hnsr_circuit::tables::circuits::set_circuit" (known .3) E
+              (λ pos β. β) G22 (
+                record { pos = 19; ty = ref1; ref = λ x. x },
+                (Bool.bLit Bool'.true, (Num.vAt 6 λ x. x, (record { pos = 9; st = List.[]; d = 0; at = λ x. x }, tt))),
+              ) 17 (4 ∷ List.[]) (Call.sub-id 𝓤 H A W (G22 .slots)) (
+                Reads'.as-is 𝓤 H A (Mut.mslice RelayCircuit.row ref1 4),
+                Mut.reads-mslice 𝓤 H A W RelayCircuit.row ref1 4,
+                Path.refl,
+                (
+                  tt,
+                  (
+                    (Scalar.reads-sc 𝓤 H A W (Row.sInt Syntax.w64), Path.refl),
+                    (
+                      (
+                        Yields.yields-copy 𝓤 H A W (λ ρ. Unit) RelayCircuit.row Path.refl
+                            (RelayCircuit.copies .copy 𝓤 H A W) RelayCircuit.held (λ x. x) (λ x. x)
+                            (λ ρ told. Local.mem-whole 𝓤 H A W RelayCircuit.row ρ) λ ρ told. Local.whole-mem 𝓤 H A W
+                            RelayCircuit.row ρ,
+                        Path.refl,
+                      ),
+                      tt,
+                    ),
+                  ),
+                ),
+              ) (Reads'.room-gone 𝓤 H A Syntax.tyUnit) (tt, tt) Path.refl) d40
+
           d42 : Typed.Typed 𝓤 H A 𝓣 E G21 b34 Δ0 (at42 bs)
-          d42 = Typed.s-seq 𝓤 H A W 𝓣 E G21 G22 b10 b33 Δ0 (Typed.ask (s20 bs)) (at41 bs) (Relend.t-sl-aggregate 𝓤 H A W E RelayCircuit.row 𝓣
-              (Relend.asMut RelayCircuit.row) G21 18 19 4 ref1 ref1 (λ x. x) (Scalar.oFld 1 ((Syntax.field 1) ∷ List.[]) (Syntax.tyInt Syntax.w64) 8 λ
-              v. Shared.lenV (v .0)) (Reads'.as-is 𝓤 H A (Relend.msptr RelayCircuit.row ref1 4)) (Reads'.room-gone 𝓤 H A (Syntax.tyStruct (38 ∷ 91 ∷
-              93 ∷ List.[]) (Syntax.tcons ref1 (Syntax.tcons (Syntax.tyInt Syntax.w64) Syntax.tnil)))) (Relend.reads-owed-len 𝓤 H A W RelayCircuit.row
-              ref4 0 4 life0 8 Path.refl, Path.refl,) Path.refl Path.refl λ b o k. tt) d41
+          d42 = Typed.s-seq 𝓤 H A W 𝓣 E G21 G22 b10 b33 Δ0 (Typed.ask (s20 bs)) (at41 bs) (Relend.t-sl-aggregate 𝓤 H A
+              W E RelayCircuit.row 𝓣 (Relend.asMut RelayCircuit.row) G21 18 19 4 ref1 ref1 (λ x. x) (Scalar.oFld 1
+              ((Syntax.field 1) ∷ List.[]) (Syntax.tyInt Syntax.w64) 8 λ v. Shared.lenV (v .0))
+              (Reads'.as-is 𝓤 H A (Relend.msptr RelayCircuit.row ref1 4)) (Reads'.room-gone 𝓤 H A slice1) (
+                Relend.reads-owed-len 𝓤 H A W RelayCircuit.row ref4 0 4 life0 8 Path.refl,
+                Path.refl,
+              ) Path.refl Path.refl λ b o k. tt) d41
+
           d43 : Typed.Typed 𝓤 H A 𝓣 E G20 b35 Δ0 (at43 bs)
-          d43 = Typed.s-seq 𝓤 H A W 𝓣 E G20 G21 b9 b34 Δ0 (Typed.give (s19 bs)) (at42 bs) (Relend.t-sl-relend 𝓤 H A W E RelayCircuit.row 𝓣 G20 1 18 0
-              4 ref4 ref1 life0 0 (λ x. x) (Reads'.as-is 𝓤 H A (Mut.mslice RelayCircuit.row ref4 0)) (Reads'.room-gone 𝓤 H A ref1) Path.refl tt
+          d43 = Typed.s-seq 𝓤 H A W 𝓣 E G20 G21 b9 b34 Δ0 (Typed.give (s19 bs)) (at42 bs) (Relend.t-sl-relend 𝓤 H A W E
+              RelayCircuit.row 𝓣 G20 1 18 0 4 ref4 ref1 life0 0 (λ x. x)
+              (Reads'.as-is 𝓤 H A (Mut.mslice RelayCircuit.row ref4 0)) (Reads'.room-gone 𝓤 H A ref1) Path.refl tt
               Path.refl Path.refl Path.refl λ b o. tt) d42
+
           d44 : Typed.Typed 𝓤 H A 𝓣 E G19 b35 Δ0 (at44 bs)
-          d44 = Typed.g-pre 𝓤 H A W 𝓣 E G19 G20 b35 Δ0 (λ Ψ. Ψ) (at43 bs) (Lifetime.g-begin 𝓤 H A W E G19 4 (tt, (tt, (tt, (tt, (tt, (tt, (tt, (tt,
-              (tt, (tt, (tt, (tt, (tt, (tt, (tt, (tt, (tt, (tt, (tt, (tt, (tt, (tt, (tt, (tt, (tt, (tt, (tt, (tt,
-              tt))))),),),),),),),),),),),),),),),),),),),),),),),)) d43
+          d44 = Typed.g-pre 𝓤 H A W 𝓣 E G19 G20 b35 Δ0 (λ Ψ. Ψ) (at43 bs) (Lifetime.g-begin 𝓤 H A W E G19 4 (
+            tt,
+            (
+              tt,
+              (
+                tt,
+                (
+                  tt,
+                  (
+                    tt,
+                    (
+                      tt,
+                      (
+                        tt,
+                        (
+                          tt,
+                          (
+                            tt,
+                            (
+                              tt,
+                              (
+                                tt,
+                                (
+                                  tt,
+                                  (
+                                    tt,
+                                    (
+                                      tt,
+                                      (
+                                        tt,
+                                        (
+                                          tt,
+                                          (tt, (tt, (tt, (tt, (tt, (tt, (tt, (tt, (tt, (tt, (tt, (tt, tt)))))))))))),
+                                        ),
+                                      ),
+                                    ),
+                                  ),
+                                ),
+                              ),
+                            ),
+                          ),
+                        ),
+                      ),
+                    ),
+                  ),
+                ),
+              ),
+            ),
+          )) d43
+
           d45 : Typed.Typed 𝓤 H A 𝓣 E G18 b36 Δ0 (at45 bs)
-          d45 = Typed.s-seq 𝓤 H A W 𝓣 E G18 G19 b8 b35 Δ0 (Typed.both (s17 bs)) (at44 bs) (WayStmt.t-way-copy-out 𝓤 H A W E 𝓣 (Declared'.row
-              Outgoing.the-type) Path.refl (Copies.cStruct Outgoing.the-type Laws''.the-laws Laws''.the-copy .copy 𝓤 H A W) (λ ρ. Unit) G18 (Row.out
-              10 (G18 .locals)) (λ u. Row.drop 10 (G18 .locals) u) (G18 .slots) 10 (λ t. (Syntax.field 4) ∷ t) Laws''.mir Laws''.mir 13 (Rows.whole
-              (Declared'.row Outgoing.the-type)) (λ x. x) (λ u. At.getAt (EndPlan.the-type .parts) 4 (EndPlan.struct .as-values (u .1 .1 .1 .1 .1 .1
-              .1 .1 .1 .1 .0))) (λ u. (Row.hd 0 (Row.tl (Row.tl (Row.tl (Row.tl (Row.tl (Row.tl (Row.tl (Row.tl (Row.tl (Row.tl bs)))))))))), Nat._+_
-              0 392,)) (λ T′. record { locals = Row.setRow 10 (10, Rows.whole (Declared'.row EndPlan.the-type)) T′; slots = G18 .slots; }) (λ u T′ m′.
-              Row.set 10 (10, Rows.whole (Declared'.row EndPlan.the-type)) (u .1 .1 .1 .1 .1 .1 .1 .1 .1 .1 .0) T′ m′) (λ u. Unit) (λ x. Unit)
-              (Own.told-none 𝓤 H A (G18 .slots)) (DerefMove.learns-nothing 𝓤 H A (Declared'.row Outgoing.the-type)) (λ ρ told u asked. Way'.w-partˢ 𝓤
-              H A W E (Declared'.row EndPlan.the-type) (Declared'.row Outgoing.the-type) Laws'''.mir Laws''.mir 4 392 (u .1 .1 .1 .1 .1 .1 .1 .1 .1 .1
-              .0) (At.getAt (EndPlan.the-type .parts) 4 (EndPlan.struct .as-values (u .1 .1 .1 .1 .1 .1 .1 .1 .1 .1 .0))) (Row.hd 0 (Row.tl (Row.tl
-              (Row.tl (Row.tl (Row.tl (Row.tl (Row.tl (Row.tl (Row.tl (Row.tl bs)))))))))), 0,) (Way.w-look 𝓤 H A W E (Way.w-local 𝓤 H A W E G18 ρ u
-              (G18 .slots) 10 (Declared'.row EndPlan.the-type) (Rows.whole (Declared'.row EndPlan.the-type)) (λ x. x) (λ x. x) (u .1 .1 .1 .1 .1 .1 .1
-              .1 .1 .1 .0) (Local.mem-whole 𝓤 H A W (Declared'.row EndPlan.the-type) ρ (u .1 .1 .1 .1 .1 .1 .1 .1 .1 .1 .0) (Row.hd 0 (Row.tl (Row.tl
-              (Row.tl (Row.tl (Row.tl (Row.tl (Row.tl (Row.tl (Row.tl (Row.tl bs)))))))))))) (Local.whole-mem 𝓤 H A W (Declared'.row EndPlan.the-type)
-              ρ (u .1 .1 .1 .1 .1 .1 .1 .1 .1 .1 .0) (Row.hd 0 (Row.tl (Row.tl (Row.tl (Row.tl (Row.tl (Row.tl (Row.tl (Row.tl (Row.tl (Row.tl
-              bs)))))))))))))) Path.refl λ q. Inner.cut-record 𝓤 H A q (Declared'.row EndPlan.the-type) Outgoing.the-type 392 (u .1 .1 .1 .1 .1 .1 .1
-              .1 .1 .1 .0) (u .1 .1 .1 .1 .1 .1 .1 .1 .1 .1 .0) (At.getAt (EndPlan.the-type .parts) 4 (EndPlan.struct .as-values (u .1 .1 .1 .1 .1 .1
-              .1 .1 .1 .1 .0))) (At.getAt (EndPlan.the-type .parts) 4 (EndPlan.struct .as-values (u .1 .1 .1 .1 .1 .1 .1 .1 .1 .1 .0))) (Row.hd 0
-              (Row.tl (Row.tl (Row.tl (Row.tl (Row.tl (Row.tl (Row.tl (Row.tl (Row.tl (Row.tl bs)))))))))), 0,) (Behind.look-at 𝓤 H A W q
-              EndPlan.the-type Laws'''.the-laws 4 392 Path.refl Path.refl (Row.hd 0 (Row.tl (Row.tl (Row.tl (Row.tl (Row.tl (Row.tl (Row.tl (Row.tl
-              (Row.tl (Row.tl bs)))))))))), 0,) (u .1 .1 .1 .1 .1 .1 .1 .1 .1 .1 .0) (EndPlan.struct .as-values (u .1 .1 .1 .1 .1 .1 .1 .1 .1 .1 .0))
-              Path.refl)) (Reads'.room-gone 𝓤 H A Laws''.mir) (Yields.makes-mem 𝓤 H A W (λ ρ. Unit) (Declared'.row Outgoing.the-type) Path.refl
-              (Rows.whole (Declared'.row Outgoing.the-type)) (λ x. x) λ ρ told. Local.whole-mem 𝓤 H A W (Declared'.row Outgoing.the-type) ρ) Path.refl
-              Path.refl Path.refl) d44
+          d45 = Typed.s-seq 𝓤 H A W 𝓣 E G18 G19 b8 b35 Δ0 (Typed.both (s17 bs)) (at44 bs) (WayStmt.t-way-copy-out 𝓤 H A
+              W E 𝓣 (Declared'.row Outgoing.the-type) Path.refl (Copies.cStruct Outgoing.the-type Laws''.the-laws
+              Laws''.the-copy .copy 𝓤 H A W) (λ ρ. Unit) G18 (Row.out 10 (G18 .locals))
+              (λ u. Row.drop 10 (G18 .locals) u) (G18 .slots) 10 (λ t. (Syntax.field 4) ∷ t) Laws''.mir Laws''.mir 13
+              (Rows.whole (Declared'.row Outgoing.the-type)) (λ x. x) (λ u. At.getAt (EndPlan.the-type .parts) 4 (EndPlan.struct
+              .as-values (u .1 .1 .1 .1 .1 .1 .1 .1 .1 .1 .0))) (λ u. (
+                Row.hd 0 (Row.tl (Row.tl (Row.tl (Row.tl (Row.tl (Row.tl (Row.tl (Row.tl (Row.tl (Row.tl bs)))))))))),
+                Nat._+_ 0 392,
+              )) (λ T′. record {
+                locals = Row.setRow 10 (10, Rows.whole (Declared'.row EndPlan.the-type)) T′;
+                slots = G18 .slots;
+              }) (λ u T′ m′. Row.set 10 (10, Rows.whole (Declared'.row EndPlan.the-type))
+              (u .1 .1 .1 .1 .1 .1 .1 .1 .1 .1 .0) T′ m′) (λ u. Unit) (λ x. Unit) (Own.told-none 𝓤 H A (G18 .slots)) (DerefMove.learns-nothing
+              𝓤 H A (Declared'.row Outgoing.the-type)) (λ ρ told u asked. Way'.w-partˢ 𝓤 H A W E
+              (Declared'.row EndPlan.the-type) (Declared'.row Outgoing.the-type) Laws'''.mir Laws''.mir 4 392
+              (u .1 .1 .1 .1 .1 .1 .1 .1 .1 .1 .0) (At.getAt (EndPlan.the-type .parts) 4 (EndPlan.struct .as-values
+              (u .1 .1 .1 .1 .1 .1 .1 .1 .1 .1 .0))) (
+                Row.hd 0 (Row.tl (Row.tl (Row.tl (Row.tl (Row.tl (Row.tl (Row.tl (Row.tl (Row.tl (Row.tl bs)))))))))),
+                0,
+              ) (Way.w-look 𝓤 H A W E (Way.w-local 𝓤 H A W E G18 ρ u (G18 .slots) 10 (Declared'.row EndPlan.the-type)
+              (Rows.whole (Declared'.row EndPlan.the-type)) (λ x. x) (λ x. x) (u .1 .1 .1 .1 .1 .1 .1 .1 .1 .1 .0) (Local.mem-whole
+              𝓤 H A W (Declared'.row EndPlan.the-type) ρ (u .1 .1 .1 .1 .1 .1 .1 .1 .1 .1 .0) (Row.hd 0 (Row.tl (Row.tl (Row.tl (Row.tl (Row.tl
+              (Row.tl (Row.tl (Row.tl (Row.tl (Row.tl bs)))))))))))) (Local.whole-mem 𝓤 H A W
+              (Declared'.row EndPlan.the-type) ρ (u .1 .1 .1 .1 .1 .1 .1 .1 .1 .1 .0) (Row.hd 0 (Row.tl (Row.tl (Row.tl (Row.tl (Row.tl
+              (Row.tl (Row.tl (Row.tl (Row.tl (Row.tl bs)))))))))))))) Path.refl λ q. Inner.cut-record 𝓤 H A q
+              (Declared'.row EndPlan.the-type) Outgoing.the-type 392 (u .1 .1 .1 .1 .1 .1 .1 .1 .1 .1 .0)
+              (u .1 .1 .1 .1 .1 .1 .1 .1 .1 .1 .0) (At.getAt (EndPlan.the-type .parts) 4 (EndPlan.struct .as-values
+              (u .1 .1 .1 .1 .1 .1 .1 .1 .1 .1 .0))) (At.getAt (EndPlan.the-type .parts) 4 (EndPlan.struct .as-values
+              (u .1 .1 .1 .1 .1 .1 .1 .1 .1 .1 .0))) (
+                Row.hd 0 (Row.tl (Row.tl (Row.tl (Row.tl (Row.tl (Row.tl (Row.tl (Row.tl (Row.tl (Row.tl bs)))))))))),
+                0,
+              ) (Behind.look-at 𝓤 H A W q EndPlan.the-type Laws'''.the-laws 4 392 Path.refl Path.refl (
+                Row.hd 0 (Row.tl (Row.tl (Row.tl (Row.tl (Row.tl (Row.tl (Row.tl (Row.tl (Row.tl (Row.tl bs)))))))))),
+                0,
+              ) (u .1 .1 .1 .1 .1 .1 .1 .1 .1 .1 .0) (EndPlan.struct .as-values (u .1 .1 .1 .1 .1 .1 .1 .1 .1 .1 .0))
+              Path.refl)) (Reads'.room-gone 𝓤 H A Laws''.mir) (Yields.makes-mem 𝓤 H A W (λ ρ. Unit)
+              (Declared'.row Outgoing.the-type) Path.refl (Rows.whole (Declared'.row Outgoing.the-type)) (λ x. x) λ ρ
+              told. Local.whole-mem 𝓤 H A W (Declared'.row Outgoing.the-type) ρ) Path.refl Path.refl Path.refl) d44
+
           d46 : Typed.Typed 𝓤 H A 𝓣 E G17 b37 Δ0 (at46 bs)
-          d46 = Typed.s-seq 𝓤 H A W 𝓣 E G17 G18 b7 b36 Δ0 (Typed.both (s16 bs)) (at45 bs) (WayStmt.t-way-copy-out 𝓤 H A W E 𝓣 (Declared'.row
-              Outgoing.the-type) Path.refl (Copies.cStruct Outgoing.the-type Laws''.the-laws Laws''.the-copy .copy 𝓤 H A W) (λ ρ. Unit) G17 (Row.out
-              10 (G17 .locals)) (λ u. Row.drop 10 (G17 .locals) u) (G17 .slots) 10 (λ t. (Syntax.field 2) ∷ t) Laws''.mir Laws''.mir 12 (Rows.whole
-              (Declared'.row Outgoing.the-type)) (λ x. x) (λ u. At.getAt (EndPlan.the-type .parts) 2 (EndPlan.struct .as-values (u .1 .1 .1 .1 .1 .1
-              .1 .1 .1 .1 .0))) (λ u. (Row.hd 0 (Row.tl (Row.tl (Row.tl (Row.tl (Row.tl (Row.tl (Row.tl (Row.tl (Row.tl (Row.tl bs)))))))))), Nat._+_
-              0 208,)) (λ T′. record { locals = Row.setRow 10 (10, Rows.whole (Declared'.row EndPlan.the-type)) T′; slots = G17 .slots; }) (λ u T′ m′.
-              Row.set 10 (10, Rows.whole (Declared'.row EndPlan.the-type)) (u .1 .1 .1 .1 .1 .1 .1 .1 .1 .1 .0) T′ m′) (λ u. Unit) (λ x. Unit)
-              (Own.told-none 𝓤 H A (G17 .slots)) (DerefMove.learns-nothing 𝓤 H A (Declared'.row Outgoing.the-type)) (λ ρ told u asked. Way'.w-partˢ 𝓤
-              H A W E (Declared'.row EndPlan.the-type) (Declared'.row Outgoing.the-type) Laws'''.mir Laws''.mir 2 208 (u .1 .1 .1 .1 .1 .1 .1 .1 .1 .1
-              .0) (At.getAt (EndPlan.the-type .parts) 2 (EndPlan.struct .as-values (u .1 .1 .1 .1 .1 .1 .1 .1 .1 .1 .0))) (Row.hd 0 (Row.tl (Row.tl
-              (Row.tl (Row.tl (Row.tl (Row.tl (Row.tl (Row.tl (Row.tl (Row.tl bs)))))))))), 0,) (Way.w-look 𝓤 H A W E (Way.w-local 𝓤 H A W E G17 ρ u
-              (G17 .slots) 10 (Declared'.row EndPlan.the-type) (Rows.whole (Declared'.row EndPlan.the-type)) (λ x. x) (λ x. x) (u .1 .1 .1 .1 .1 .1 .1
-              .1 .1 .1 .0) (Local.mem-whole 𝓤 H A W (Declared'.row EndPlan.the-type) ρ (u .1 .1 .1 .1 .1 .1 .1 .1 .1 .1 .0) (Row.hd 0 (Row.tl (Row.tl
-              (Row.tl (Row.tl (Row.tl (Row.tl (Row.tl (Row.tl (Row.tl (Row.tl bs)))))))))))) (Local.whole-mem 𝓤 H A W (Declared'.row EndPlan.the-type)
-              ρ (u .1 .1 .1 .1 .1 .1 .1 .1 .1 .1 .0) (Row.hd 0 (Row.tl (Row.tl (Row.tl (Row.tl (Row.tl (Row.tl (Row.tl (Row.tl (Row.tl (Row.tl
-              bs)))))))))))))) Path.refl λ q. Inner.cut-record 𝓤 H A q (Declared'.row EndPlan.the-type) Outgoing.the-type 208 (u .1 .1 .1 .1 .1 .1 .1
-              .1 .1 .1 .0) (u .1 .1 .1 .1 .1 .1 .1 .1 .1 .1 .0) (At.getAt (EndPlan.the-type .parts) 2 (EndPlan.struct .as-values (u .1 .1 .1 .1 .1 .1
-              .1 .1 .1 .1 .0))) (At.getAt (EndPlan.the-type .parts) 2 (EndPlan.struct .as-values (u .1 .1 .1 .1 .1 .1 .1 .1 .1 .1 .0))) (Row.hd 0
-              (Row.tl (Row.tl (Row.tl (Row.tl (Row.tl (Row.tl (Row.tl (Row.tl (Row.tl (Row.tl bs)))))))))), 0,) (Behind.look-at 𝓤 H A W q
-              EndPlan.the-type Laws'''.the-laws 2 208 Path.refl Path.refl (Row.hd 0 (Row.tl (Row.tl (Row.tl (Row.tl (Row.tl (Row.tl (Row.tl (Row.tl
-              (Row.tl (Row.tl bs)))))))))), 0,) (u .1 .1 .1 .1 .1 .1 .1 .1 .1 .1 .0) (EndPlan.struct .as-values (u .1 .1 .1 .1 .1 .1 .1 .1 .1 .1 .0))
-              Path.refl)) (Reads'.room-gone 𝓤 H A Laws''.mir) (Yields.makes-mem 𝓤 H A W (λ ρ. Unit) (Declared'.row Outgoing.the-type) Path.refl
-              (Rows.whole (Declared'.row Outgoing.the-type)) (λ x. x) λ ρ told. Local.whole-mem 𝓤 H A W (Declared'.row Outgoing.the-type) ρ) Path.refl
-              Path.refl Path.refl) d45
+          d46 = Typed.s-seq 𝓤 H A W 𝓣 E G17 G18 b7 b36 Δ0 (Typed.both (s16 bs)) (at45 bs) (WayStmt.t-way-copy-out 𝓤 H A
+              W E 𝓣 (Declared'.row Outgoing.the-type) Path.refl (Copies.cStruct Outgoing.the-type Laws''.the-laws
+              Laws''.the-copy .copy 𝓤 H A W) (λ ρ. Unit) G17 (Row.out 10 (G17 .locals))
+              (λ u. Row.drop 10 (G17 .locals) u) (G17 .slots) 10 (λ t. (Syntax.field 2) ∷ t) Laws''.mir Laws''.mir 12
+              (Rows.whole (Declared'.row Outgoing.the-type)) (λ x. x) (λ u. At.getAt (EndPlan.the-type .parts) 2 (EndPlan.struct
+              .as-values (u .1 .1 .1 .1 .1 .1 .1 .1 .1 .1 .0))) (λ u. (
+                Row.hd 0 (Row.tl (Row.tl (Row.tl (Row.tl (Row.tl (Row.tl (Row.tl (Row.tl (Row.tl (Row.tl bs)))))))))),
+                Nat._+_ 0 208,
+              )) (λ T′. record {
+                locals = Row.setRow 10 (10, Rows.whole (Declared'.row EndPlan.the-type)) T′;
+                slots = G17 .slots;
+              }) (λ u T′ m′. Row.set 10 (10, Rows.whole (Declared'.row EndPlan.the-type))
+              (u .1 .1 .1 .1 .1 .1 .1 .1 .1 .1 .0) T′ m′) (λ u. Unit) (λ x. Unit) (Own.told-none 𝓤 H A (G17 .slots)) (DerefMove.learns-nothing
+              𝓤 H A (Declared'.row Outgoing.the-type)) (λ ρ told u asked. Way'.w-partˢ 𝓤 H A W E
+              (Declared'.row EndPlan.the-type) (Declared'.row Outgoing.the-type) Laws'''.mir Laws''.mir 2 208
+              (u .1 .1 .1 .1 .1 .1 .1 .1 .1 .1 .0) (At.getAt (EndPlan.the-type .parts) 2 (EndPlan.struct .as-values
+              (u .1 .1 .1 .1 .1 .1 .1 .1 .1 .1 .0))) (
+                Row.hd 0 (Row.tl (Row.tl (Row.tl (Row.tl (Row.tl (Row.tl (Row.tl (Row.tl (Row.tl (Row.tl bs)))))))))),
+                0,
+              ) (Way.w-look 𝓤 H A W E (Way.w-local 𝓤 H A W E G17 ρ u (G17 .slots) 10 (Declared'.row EndPlan.the-type)
+              (Rows.whole (Declared'.row EndPlan.the-type)) (λ x. x) (λ x. x) (u .1 .1 .1 .1 .1 .1 .1 .1 .1 .1 .0) (Local.mem-whole
+              𝓤 H A W (Declared'.row EndPlan.the-type) ρ (u .1 .1 .1 .1 .1 .1 .1 .1 .1 .1 .0) (Row.hd 0 (Row.tl (Row.tl (Row.tl (Row.tl (Row.tl
+              (Row.tl (Row.tl (Row.tl (Row.tl (Row.tl bs)))))))))))) (Local.whole-mem 𝓤 H A W
+              (Declared'.row EndPlan.the-type) ρ (u .1 .1 .1 .1 .1 .1 .1 .1 .1 .1 .0) (Row.hd 0 (Row.tl (Row.tl (Row.tl (Row.tl (Row.tl
+              (Row.tl (Row.tl (Row.tl (Row.tl (Row.tl bs)))))))))))))) Path.refl λ q. Inner.cut-record 𝓤 H A q
+              (Declared'.row EndPlan.the-type) Outgoing.the-type 208 (u .1 .1 .1 .1 .1 .1 .1 .1 .1 .1 .0)
+              (u .1 .1 .1 .1 .1 .1 .1 .1 .1 .1 .0) (At.getAt (EndPlan.the-type .parts) 2 (EndPlan.struct .as-values
+              (u .1 .1 .1 .1 .1 .1 .1 .1 .1 .1 .0))) (At.getAt (EndPlan.the-type .parts) 2 (EndPlan.struct .as-values
+              (u .1 .1 .1 .1 .1 .1 .1 .1 .1 .1 .0))) (
+                Row.hd 0 (Row.tl (Row.tl (Row.tl (Row.tl (Row.tl (Row.tl (Row.tl (Row.tl (Row.tl (Row.tl bs)))))))))),
+                0,
+              ) (Behind.look-at 𝓤 H A W q EndPlan.the-type Laws'''.the-laws 2 208 Path.refl Path.refl (
+                Row.hd 0 (Row.tl (Row.tl (Row.tl (Row.tl (Row.tl (Row.tl (Row.tl (Row.tl (Row.tl (Row.tl bs)))))))))),
+                0,
+              ) (u .1 .1 .1 .1 .1 .1 .1 .1 .1 .1 .0) (EndPlan.struct .as-values (u .1 .1 .1 .1 .1 .1 .1 .1 .1 .1 .0))
+              Path.refl)) (Reads'.room-gone 𝓤 H A Laws''.mir) (Yields.makes-mem 𝓤 H A W (λ ρ. Unit)
+              (Declared'.row Outgoing.the-type) Path.refl (Rows.whole (Declared'.row Outgoing.the-type)) (λ x. x) λ ρ
+              told. Local.whole-mem 𝓤 H A W (Declared'.row Outgoing.the-type) ρ) Path.refl Path.refl Path.refl) d45
+
           d47 : Typed.Typed 𝓤 H A 𝓣 E G16 b38 Δ0 (at47 bs)
-          d47 = Typed.s-seq 𝓤 H A W 𝓣 E G16 G17 b6 b37 Δ0 (Typed.both (s15 bs)) (at46 bs) (WayStmt.t-way-copy-out 𝓤 H A W E 𝓣 (Declared'.row
-              Sending.the-type) Path.refl (Copies.cStruct Sending.the-type Laws''''.the-laws Laws''''.the-copy .copy 𝓤 H A W) (λ ρ. Unit) G16 (Row.out
-              10 (G16 .locals)) (λ u. Row.drop 10 (G16 .locals) u) (G16 .slots) 10 (λ t. (Syntax.field 1) ∷ t) Laws''''.mir Laws''''.mir 11
-              (Rows.whole (Declared'.row Sending.the-type)) (λ x. x) (λ u. At.getAt (EndPlan.the-type .parts) 1 (EndPlan.struct .as-values (u .1 .1 .1
-              .1 .1 .1 .1 .1 .1 .1 .0))) (λ u. (Row.hd 0 (Row.tl (Row.tl (Row.tl (Row.tl (Row.tl (Row.tl (Row.tl (Row.tl (Row.tl (Row.tl bs)))))))))),
-              Nat._+_ 0 8,)) (λ T′. record { locals = Row.setRow 10 (10, Rows.whole (Declared'.row EndPlan.the-type)) T′; slots = G16 .slots; }) (λ u
-              T′ m′. Row.set 10 (10, Rows.whole (Declared'.row EndPlan.the-type)) (u .1 .1 .1 .1 .1 .1 .1 .1 .1 .1 .0) T′ m′) (λ u. Unit) (λ x. Unit)
-              (Own.told-none 𝓤 H A (G16 .slots)) (DerefMove.learns-nothing 𝓤 H A (Declared'.row Sending.the-type)) (λ ρ told u asked. Way'.w-partˢ 𝓤 H
-              A W E (Declared'.row EndPlan.the-type) (Declared'.row Sending.the-type) Laws'''.mir Laws''''.mir 1 8 (u .1 .1 .1 .1 .1 .1 .1 .1 .1 .1
-              .0) (At.getAt (EndPlan.the-type .parts) 1 (EndPlan.struct .as-values (u .1 .1 .1 .1 .1 .1 .1 .1 .1 .1 .0))) (Row.hd 0 (Row.tl (Row.tl
-              (Row.tl (Row.tl (Row.tl (Row.tl (Row.tl (Row.tl (Row.tl (Row.tl bs)))))))))), 0,) (Way.w-look 𝓤 H A W E (Way.w-local 𝓤 H A W E G16 ρ u
-              (G16 .slots) 10 (Declared'.row EndPlan.the-type) (Rows.whole (Declared'.row EndPlan.the-type)) (λ x. x) (λ x. x) (u .1 .1 .1 .1 .1 .1 .1
-              .1 .1 .1 .0) (Local.mem-whole 𝓤 H A W (Declared'.row EndPlan.the-type) ρ (u .1 .1 .1 .1 .1 .1 .1 .1 .1 .1 .0) (Row.hd 0 (Row.tl (Row.tl
-              (Row.tl (Row.tl (Row.tl (Row.tl (Row.tl (Row.tl (Row.tl (Row.tl bs)))))))))))) (Local.whole-mem 𝓤 H A W (Declared'.row EndPlan.the-type)
-              ρ (u .1 .1 .1 .1 .1 .1 .1 .1 .1 .1 .0) (Row.hd 0 (Row.tl (Row.tl (Row.tl (Row.tl (Row.tl (Row.tl (Row.tl (Row.tl (Row.tl (Row.tl
-              bs)))))))))))))) Path.refl λ q. Inner.cut-record 𝓤 H A q (Declared'.row EndPlan.the-type) Sending.the-type 8 (u .1 .1 .1 .1 .1 .1 .1 .1
-              .1 .1 .0) (u .1 .1 .1 .1 .1 .1 .1 .1 .1 .1 .0) (At.getAt (EndPlan.the-type .parts) 1 (EndPlan.struct .as-values (u .1 .1 .1 .1 .1 .1 .1
-              .1 .1 .1 .0))) (At.getAt (EndPlan.the-type .parts) 1 (EndPlan.struct .as-values (u .1 .1 .1 .1 .1 .1 .1 .1 .1 .1 .0))) (Row.hd 0 (Row.tl
-              (Row.tl (Row.tl (Row.tl (Row.tl (Row.tl (Row.tl (Row.tl (Row.tl (Row.tl bs)))))))))), 0,) (Behind.look-at 𝓤 H A W q EndPlan.the-type
-              Laws'''.the-laws 1 8 Path.refl Path.refl (Row.hd 0 (Row.tl (Row.tl (Row.tl (Row.tl (Row.tl (Row.tl (Row.tl (Row.tl (Row.tl (Row.tl
-              bs)))))))))), 0,) (u .1 .1 .1 .1 .1 .1 .1 .1 .1 .1 .0) (EndPlan.struct .as-values (u .1 .1 .1 .1 .1 .1 .1 .1 .1 .1 .0)) Path.refl))
-              (Reads'.room-gone 𝓤 H A Laws''''.mir) (Yields.makes-mem 𝓤 H A W (λ ρ. Unit) (Declared'.row Sending.the-type) Path.refl (Rows.whole
-              (Declared'.row Sending.the-type)) (λ x. x) λ ρ told. Local.whole-mem 𝓤 H A W (Declared'.row Sending.the-type) ρ) Path.refl Path.refl
-              Path.refl) d46
+          d47 = Typed.s-seq 𝓤 H A W 𝓣 E G16 G17 b6 b37 Δ0 (Typed.both (s15 bs)) (at46 bs) (WayStmt.t-way-copy-out 𝓤 H A
+              W E 𝓣 (Declared'.row Sending.the-type) Path.refl (Copies.cStruct Sending.the-type Laws''''.the-laws
+              Laws''''.the-copy .copy 𝓤 H A W) (λ ρ. Unit) G16 (Row.out 10 (G16 .locals))
+              (λ u. Row.drop 10 (G16 .locals) u) (G16 .slots) 10 (λ t. (Syntax.field 1) ∷ t) Laws''''.mir Laws''''.mir
+              11 (Rows.whole (Declared'.row Sending.the-type)) (λ x. x) (λ u. At.getAt (EndPlan.the-type .parts) 1 (EndPlan.struct
+              .as-values (u .1 .1 .1 .1 .1 .1 .1 .1 .1 .1 .0))) (λ u. (
+                Row.hd 0 (Row.tl (Row.tl (Row.tl (Row.tl (Row.tl (Row.tl (Row.tl (Row.tl (Row.tl (Row.tl bs)))))))))),
+                Nat._+_ 0 8,
+              )) (λ T′. record {
+                locals = Row.setRow 10 (10, Rows.whole (Declared'.row EndPlan.the-type)) T′;
+                slots = G16 .slots;
+              }) (λ u T′ m′. Row.set 10 (10, Rows.whole (Declared'.row EndPlan.the-type))
+              (u .1 .1 .1 .1 .1 .1 .1 .1 .1 .1 .0) T′ m′) (λ u. Unit) (λ x. Unit) (Own.told-none 𝓤 H A (G16 .slots)) (DerefMove.learns-nothing
+              𝓤 H A (Declared'.row Sending.the-type)) (λ ρ told u asked. Way'.w-partˢ 𝓤 H A W E
+              (Declared'.row EndPlan.the-type) (Declared'.row Sending.the-type) Laws'''.mir Laws''''.mir 1 8
+              (u .1 .1 .1 .1 .1 .1 .1 .1 .1 .1 .0) (At.getAt (EndPlan.the-type .parts) 1 (EndPlan.struct .as-values
+              (u .1 .1 .1 .1 .1 .1 .1 .1 .1 .1 .0))) (
+                Row.hd 0 (Row.tl (Row.tl (Row.tl (Row.tl (Row.tl (Row.tl (Row.tl (Row.tl (Row.tl (Row.tl bs)))))))))),
+                0,
+              ) (Way.w-look 𝓤 H A W E (Way.w-local 𝓤 H A W E G16 ρ u (G16 .slots) 10 (Declared'.row EndPlan.the-type)
+              (Rows.whole (Declared'.row EndPlan.the-type)) (λ x. x) (λ x. x) (u .1 .1 .1 .1 .1 .1 .1 .1 .1 .1 .0) (Local.mem-whole
+              𝓤 H A W (Declared'.row EndPlan.the-type) ρ (u .1 .1 .1 .1 .1 .1 .1 .1 .1 .1 .0) (Row.hd 0 (Row.tl (Row.tl (Row.tl (Row.tl (Row.tl
+              (Row.tl (Row.tl (Row.tl (Row.tl (Row.tl bs)))))))))))) (Local.whole-mem 𝓤 H A W
+              (Declared'.row EndPlan.the-type) ρ (u .1 .1 .1 .1 .1 .1 .1 .1 .1 .1 .0) (Row.hd 0 (Row.tl (Row.tl (Row.tl (Row.tl (Row.tl
+              (Row.tl (Row.tl (Row.tl (Row.tl (Row.tl bs)))))))))))))) Path.refl λ q. Inner.cut-record 𝓤 H A q
+              (Declared'.row EndPlan.the-type) Sending.the-type 8 (u .1 .1 .1 .1 .1 .1 .1 .1 .1 .1 .0)
+              (u .1 .1 .1 .1 .1 .1 .1 .1 .1 .1 .0) (At.getAt (EndPlan.the-type .parts) 1 (EndPlan.struct .as-values
+              (u .1 .1 .1 .1 .1 .1 .1 .1 .1 .1 .0))) (At.getAt (EndPlan.the-type .parts) 1 (EndPlan.struct .as-values
+              (u .1 .1 .1 .1 .1 .1 .1 .1 .1 .1 .0))) (
+                Row.hd 0 (Row.tl (Row.tl (Row.tl (Row.tl (Row.tl (Row.tl (Row.tl (Row.tl (Row.tl (Row.tl bs)))))))))),
+                0,
+              ) (Behind.look-at 𝓤 H A W q EndPlan.the-type Laws'''.the-laws 1 8 Path.refl Path.refl (
+                Row.hd 0 (Row.tl (Row.tl (Row.tl (Row.tl (Row.tl (Row.tl (Row.tl (Row.tl (Row.tl (Row.tl bs)))))))))),
+                0,
+              ) (u .1 .1 .1 .1 .1 .1 .1 .1 .1 .1 .0) (EndPlan.struct .as-values (u .1 .1 .1 .1 .1 .1 .1 .1 .1 .1 .0))
+              Path.refl)) (Reads'.room-gone 𝓤 H A Laws''''.mir) (Yields.makes-mem 𝓤 H A W (λ ρ. Unit)
+              (Declared'.row Sending.the-type) Path.refl (Rows.whole (Declared'.row Sending.the-type)) (λ x. x) λ ρ
+              told. Local.whole-mem 𝓤 H A W (Declared'.row Sending.the-type) ρ) Path.refl Path.refl Path.refl) d46
+
           d48 : Typed.Typed 𝓤 H A 𝓣 E G15 b38 Δ0 (at48 bs)
-          d48 = Typed.g-pre 𝓤 H A W 𝓣 E G15 G16 b38 Δ0 (Typed.pass T15 T16 (s14 bs)) (at47 bs) (Scalar.g-room 𝓤 H A W E G15 8 RelayCircuit.ty
-              (Local.room-whole 𝓤 H A W RelayCircuit.row RelayCircuit.ty Path.refl)) d47
+          d48 = Typed.g-pre 𝓤 H A W 𝓣 E G15 G16 b38 Δ0 (Typed.pass T15 T16 (s14 bs)) (at47 bs) (Scalar.g-room 𝓤 H A W E
+              G15 8 RelayCircuit.ty (Local.room-whole 𝓤 H A W RelayCircuit.row RelayCircuit.ty Path.refl)) d47
+
           d49 : Typed.Typed 𝓤 H A 𝓣 E G14 b38 Δ0 (at49 bs)
-          d49 = Typed.g-pre 𝓤 H A W 𝓣 E G14 G15 b38 Δ0 (Typed.pass T14 T15 (s13 bs)) (at48 bs) (Scalar.g-room 𝓤 H A W E G14 4 Laws''''.mir
-              (Local.room-whole 𝓤 H A W (Declared'.row Sending.the-type) Laws''''.mir Path.refl)) d48
+          d49 = Typed.g-pre 𝓤 H A W 𝓣 E G14 G15 b38 Δ0 (Typed.pass T14 T15 (s13 bs)) (at48 bs) (Scalar.g-room 𝓤 H A W E
+              G14 4 Laws''''.mir (Local.room-whole 𝓤 H A W (Declared'.row Sending.the-type) Laws''''.mir Path.refl))
+              d48
+
           d50 : Typed.Typed 𝓤 H A 𝓣 E G13 b39 Δ0 (at50 bs)
-          d50 = Typed.s-seq 𝓤 H A W 𝓣 E G13 G14 b5 b38 Δ0 (Typed.both (s12 bs)) (at49 bs) (Plain.t-call-plain 𝓤 H A W 𝓣 0 ps·2 r·2 (claims· .4)
-              (claims· .5) "hnsr_circuit::revocation::plan_circuit" (known .2) E (λ pos β. β) G13 (record { pos = 8; st = List.[]; d = 0; at = λ x. x
-              }, (record { pos = 4; st = List.[]; d = 0; at = λ x. x }, tt),) 10 List.[] (Call.sub-id 𝓤 H A W (G13 .slots)) ((Yields.yields-copy 𝓤 H A
-              W (λ ρ. Unit) RelayCircuit.row Path.refl (RelayCircuit.copies .copy 𝓤 H A W) RelayCircuit.held (λ x. x) (λ x. x) (λ ρ told.
-              Local.mem-whole 𝓤 H A W RelayCircuit.row ρ) λ ρ told. Local.whole-mem 𝓤 H A W RelayCircuit.row ρ, Path.refl,), ((Yields.yields-copy 𝓤 H
-              A W (λ ρ. Unit) (Declared'.row Sending.the-type) Path.refl (Copies.cStruct Sending.the-type Laws''''.the-laws Laws''''.the-copy .copy 𝓤
-              H A W) (Rows.whole (Declared'.row Sending.the-type)) (λ x. x) (λ x. x) (λ ρ told. Local.mem-whole 𝓤 H A W (Declared'.row
-              Sending.the-type) ρ) λ ρ told. Local.whole-mem 𝓤 H A W (Declared'.row Sending.the-type) ρ, Path.refl,), tt,),) (Reads'.room-gone 𝓤 H A
-              Laws'''.mir) tt Path.refl) d49
+          d50 = Typed.s-seq 𝓤 H A W 𝓣 E G13 G14 b5 b38 Δ0 (Typed.both (s12 bs)) (at49 bs) (Plain.t-call-plain 𝓤 H A W 𝓣
+              0 ps·2 r·2 (claims· .4) (claims· .5) "hnsr_circuit::revocation::plan_circuit" (known .2) E (λ pos β. β)
+              G13 (
+                record { pos = 8; st = List.[]; d = 0; at = λ x. x },
+                (record { pos = 4; st = List.[]; d = 0; at = λ x. x }, tt),
+              ) 10 List.[] (Call.sub-id 𝓤 H A W (G13 .slots)) (
+                (
+                  Yields.yields-copy 𝓤 H A W (λ ρ. Unit) RelayCircuit.row Path.refl (RelayCircuit.copies .copy 𝓤 H A W)
+                      RelayCircuit.held (λ x. x) (λ x. x) (λ ρ told. Local.mem-whole 𝓤 H A W RelayCircuit.row ρ) λ ρ
+                      told. Local.whole-mem 𝓤 H A W RelayCircuit.row ρ,
+                  Path.refl,
+                ),
+                (
+                  (
+                    Yields.yields-copy 𝓤 H A W (λ ρ. Unit) (Declared'.row Sending.the-type) Path.refl (Copies.cStruct
+                        Sending.the-type Laws''''.the-laws Laws''''.the-copy .copy 𝓤 H A W)
+                        (Rows.whole (Declared'.row Sending.the-type)) (λ x. x) (λ x. x) (λ ρ told. Local.mem-whole 𝓤 H
+                        A W (Declared'.row Sending.the-type) ρ) λ ρ told. Local.whole-mem 𝓤 H A W
+                        (Declared'.row Sending.the-type) ρ,
+                    Path.refl,
+                  ),
+                  tt,
+                ),
+              ) (Reads'.room-gone 𝓤 H A Laws'''.mir) tt Path.refl) d49
+
           d51 : Typed.Typed 𝓤 H A 𝓣 E G12 b40 Δ0 (at51 bs)
-          d51 = Typed.s-seq 𝓤 H A W 𝓣 E G12 G13 b4 b39 Δ0 (Typed.both (s11 bs)) (at50 bs) (Plain.t-call-plain 𝓤 H A W 𝓣 0 ps·1 r·1 (claims· .2)
-              (claims· .3) "hnsr_circuit::circuits::circuit_unmarked" (known .1) E (λ pos β. β) G12 (record { pos = 8; st = List.[]; d = 0; at = λ x.
-              x }, tt) 9 List.[] (Call.sub-id 𝓤 H A W (G12 .slots)) ((Yields.yields-copy 𝓤 H A W (λ ρ. Unit) RelayCircuit.row Path.refl
-              (RelayCircuit.copies .copy 𝓤 H A W) RelayCircuit.held (λ x. x) (λ x. x) (λ ρ told. Local.mem-whole 𝓤 H A W RelayCircuit.row ρ) λ ρ told.
-              Local.whole-mem 𝓤 H A W RelayCircuit.row ρ, Path.refl,), tt,) (Reads'.room-gone 𝓤 H A RelayCircuit.ty) tt Path.refl) d50
+          d51 = Typed.s-seq 𝓤 H A W 𝓣 E G12 G13 b4 b39 Δ0 (Typed.both (s11 bs)) (at50 bs) (Plain.t-call-plain 𝓤 H A W 𝓣
+              0 ps·1 r·1 (claims· .2) (claims· .3) "hnsr_circuit::circuits::circuit_unmarked" (known .1) E (λ pos β. β)
+              G12 (record { pos = 8; st = List.[]; d = 0; at = λ x. x }, tt) 9 List.[]
+              (Call.sub-id 𝓤 H A W (G12 .slots)) (
+                (
+                  Yields.yields-copy 𝓤 H A W (λ ρ. Unit) RelayCircuit.row Path.refl (RelayCircuit.copies .copy 𝓤 H A W)
+                      RelayCircuit.held (λ x. x) (λ x. x) (λ ρ told. Local.mem-whole 𝓤 H A W RelayCircuit.row ρ) λ ρ
+                      told. Local.whole-mem 𝓤 H A W RelayCircuit.row ρ,
+                  Path.refl,
+                ),
+                tt,
+              ) (Reads'.room-gone 𝓤 H A RelayCircuit.ty) tt Path.refl) d50
+
           d52 : Typed.Typed 𝓤 H A 𝓣 E G11 b40 Δ0 (at52 bs)
-          d52 = Typed.g-pre 𝓤 H A W 𝓣 E G11 G12 b40 Δ0 (λ Ψ. Ψ) (at51 bs) (Lifetime.g-forget 𝓤 H A W E G11 3 Row.dead Path.refl) d51
+          d52 = Typed.g-pre 𝓤 H A W 𝓣 E G11 G12 b40 Δ0 (λ Ψ. Ψ) (at51 bs)
+              (Lifetime.g-forget 𝓤 H A W E G11 3 Row.dead Path.refl) d51
+
           d53 : Typed.Typed 𝓤 H A 𝓣 E G10 b40 Δ0 (at53 bs)
-          d53 = Typed.g-pre 𝓤 H A W 𝓣 E G10 G11 b40 Δ0 (Typed.pass T9 T11 (s9 bs)) (at52 bs) (Reshare.g-back-sl-shr 𝓤 H A W E RelayCircuit.row G10 1 0
-              3 ref4 life0 (λ x. x) (Reads'.as-is 𝓤 H A (Reshare.mslice-owedS RelayCircuit.row ref4 0 3 life0)) Path.refl Path.refl) d52
+          d53 = Typed.g-pre 𝓤 H A W 𝓣 E G10 G11 b40 Δ0 (Typed.pass T9 T11 (s9 bs)) (at52 bs) (Reshare.g-back-sl-shr 𝓤 H
+              A W E RelayCircuit.row G10 1 0 3 ref4 life0 (λ x. x) (Reads'.as-is 𝓤 H A
+              (Reshare.mslice-owedS RelayCircuit.row ref4 0 3 life0)) Path.refl Path.refl) d52
+
           d54 : Typed.Typed 𝓤 H A 𝓣 E G9 b40 Δ0 (at54 bs)
           d54 = Typed.g-pre 𝓤 H A W 𝓣 E G9 G10 b40 Δ0 (λ Ψ. Ψ) (at53 bs) (Lifetime.g-end 𝓤 H A W E G9 3 Path.refl) d53
+
           d55 : Typed.Typed 𝓤 H A 𝓣 E G8 b40 Δ0 (at55 bs)
-          d55 = Typed.g-pre 𝓤 H A W 𝓣 E G8 G9 b40 Δ0 (Typed.pass T8 T9 (s7 bs)) (at54 bs) (Scalar.g-room 𝓤 H A W E G8 7 Laws'.mir (Local.room-whole 𝓤
-              H A W (Declared'.row Places.the-type) Laws'.mir Path.refl)) d54
+          d55 = Typed.g-pre 𝓤 H A W 𝓣 E G8 G9 b40 Δ0 (Typed.pass T8 T9 (s7 bs)) (at54 bs) (Scalar.g-room 𝓤 H A W E G8 7
+              Laws'.mir (Local.room-whole 𝓤 H A W (Declared'.row Places.the-type) Laws'.mir Path.refl)) d54
+
           d56 : Typed.Typed 𝓤 H A 𝓣 E G7 b40 Δ0 (at56 bs)
-          d56 = Typed.g-pre 𝓤 H A W 𝓣 E G7 G8 b40 Δ0 (Typed.pass T7 T8 (s6 bs)) (at55 bs) (Scalar.g-room 𝓤 H A W E G7 16 (Syntax.tyStruct (38 ∷ 91 ∷
-              93 ∷ List.[]) (Syntax.tcons ref0 (Syntax.tcons (Syntax.tyInt Syntax.w64) Syntax.tnil))) (Shared.room-sslice 𝓤 H A W RelayCircuit.row
-              ref0 3)) d55
+          d56 = Typed.g-pre 𝓤 H A W 𝓣 E G7 G8 b40 Δ0 (Typed.pass T7 T8 (s6 bs)) (at55 bs) (Scalar.g-room 𝓤 H A W E G7
+              16 slice0 (Shared.room-sslice 𝓤 H A W RelayCircuit.row ref0 3)) d55
+
           d57 : Typed.Typed 𝓤 H A 𝓣 E G6 b41 Δ0 (at57 bs)
-          d57 = Typed.s-seq 𝓤 H A W 𝓣 E G6 G7 b3 b40 Δ0 (Typed.both (s5 bs)) (at56 bs) (Plain.t-call-plain 𝓤 H A W 𝓣 1 ps·0 r·0 (claims· .0) (claims·
-              .1) "hnsr_circuit::tables::circuits::circuit_at" (known .0) E (λ pos β. β) G6 (record { pos = 16; ty = Syntax.tyRef Syntax.erased
-              Syntax.imm RelayCircuit.to; ref = λ x. x; }, (record { pos = 7; st = List.[]; d = 0; at = λ x. x }, (Num.vAt 6 λ x. x, tt)),) 8 (3 ∷
-              List.[]) (Call.sub-id 𝓤 H A W (G6 .slots)) (ShrSlice.spares-sslice 𝓤 H A W RelayCircuit.row ref0 3, Shared.reads-sslice 𝓤 H A W
-              RelayCircuit.row ref0 3, Path.refl, ((Yields.yields-copy 𝓤 H A W (λ ρ. Unit) (Declared'.row Places.the-type) Path.refl (Copies.cStruct
-              Places.the-type Laws'.the-laws Laws'.the-copy .copy 𝓤 H A W) (Rows.whole (Declared'.row Places.the-type)) (λ x. x) (λ x. x) (λ ρ told.
-              Local.mem-whole 𝓤 H A W (Declared'.row Places.the-type) ρ) λ ρ told. Local.whole-mem 𝓤 H A W (Declared'.row Places.the-type) ρ,
-              Path.refl,), ((Scalar.reads-sc 𝓤 H A W (Row.sInt Syntax.w64), Path.refl), tt),),) (Reads'.room-gone 𝓤 H A RelayCircuit.ty) (tt, tt)
-              Path.refl) d56
+          d57 = Typed.s-seq 𝓤 H A W 𝓣 E G6 G7 b3 b40 Δ0 (Typed.both (s5 bs)) (at56 bs) (Plain.t-call-plain 𝓤 H A W 𝓣 1
+              ps·0 r·0 (claims· .0) (claims· .1) "hnsr_circuit::tables::circuits::circuit_at" (known .0) E (λ pos β. β)
+              G6 (
+                record { pos = 16; ty = ref0; ref = λ x. x },
+                (record { pos = 7; st = List.[]; d = 0; at = λ x. x }, (Num.vAt 6 λ x. x, tt)),
+              ) 8 (3 ∷ List.[]) (Call.sub-id 𝓤 H A W (G6 .slots)) (
+                ShrSlice.spares-sslice 𝓤 H A W RelayCircuit.row ref0 3,
+                Shared.reads-sslice 𝓤 H A W RelayCircuit.row ref0 3,
+                Path.refl,
+                (
+                  (
+                    Yields.yields-copy 𝓤 H A W (λ ρ. Unit) (Declared'.row Places.the-type) Path.refl (Copies.cStruct
+                        Places.the-type Laws'.the-laws Laws'.the-copy .copy 𝓤 H A W)
+                        (Rows.whole (Declared'.row Places.the-type)) (λ x. x) (λ x. x) (λ ρ told. Local.mem-whole 𝓤 H A
+                        W (Declared'.row Places.the-type) ρ) λ ρ told. Local.whole-mem 𝓤 H A W
+                        (Declared'.row Places.the-type) ρ,
+                    Path.refl,
+                  ),
+                  ((Scalar.reads-sc 𝓤 H A W (Row.sInt Syntax.w64), Path.refl), tt),
+                ),
+              ) (Reads'.room-gone 𝓤 H A RelayCircuit.ty) (tt, tt) Path.refl) d56
+
           d58 : Typed.Typed 𝓤 H A 𝓣 E G5 b42 Δ0 (at58 bs)
-          d58 = Typed.s-seq 𝓤 H A W 𝓣 E G5 G6 b2 b41 Δ0 (Typed.ask (s4 bs)) (at57 bs) (Relend.t-sl-aggregate 𝓤 H A W E RelayCircuit.row 𝓣
-              (Relend.asShr RelayCircuit.row) G5 15 16 3 ref0 ref0 (λ x. x) (Scalar.oFld 1 ((Syntax.field 1) ∷ List.[]) (Syntax.tyInt Syntax.w64) 8 λ
-              v. Shared.lenV (v .0)) (Reads'.as-is 𝓤 H A (Relend.ssptr RelayCircuit.row ref0 3)) (Reads'.room-gone 𝓤 H A (Syntax.tyStruct (38 ∷ 91 ∷
-              93 ∷ List.[]) (Syntax.tcons ref0 (Syntax.tcons (Syntax.tyInt Syntax.w64) Syntax.tnil)))) (Reshare.reads-owedS-len 𝓤 H A W
-              RelayCircuit.row ref4 0 3 life0 8 Path.refl, Path.refl,) Path.refl Path.refl λ b o k. tt) d57
+          d58 = Typed.s-seq 𝓤 H A W 𝓣 E G5 G6 b2 b41 Δ0 (Typed.ask (s4 bs)) (at57 bs) (Relend.t-sl-aggregate 𝓤 H A W E
+              RelayCircuit.row 𝓣 (Relend.asShr RelayCircuit.row) G5 15 16 3 ref0 ref0 (λ x. x) (Scalar.oFld 1
+              ((Syntax.field 1) ∷ List.[]) (Syntax.tyInt Syntax.w64) 8 λ v. Shared.lenV (v .0))
+              (Reads'.as-is 𝓤 H A (Relend.ssptr RelayCircuit.row ref0 3)) (Reads'.room-gone 𝓤 H A slice0) (
+                Reshare.reads-owedS-len 𝓤 H A W RelayCircuit.row ref4 0 3 life0 8 Path.refl,
+                Path.refl,
+              ) Path.refl Path.refl λ b o k. tt) d57
+
           d59 : Typed.Typed 𝓤 H A 𝓣 E G4 b43 Δ0 (at59 bs)
-          d59 = Typed.s-seq 𝓤 H A W 𝓣 E G4 G5 b1 b42 Δ0 (Typed.give (s3 bs)) (at58 bs) (Reshare.t-sl-reshare 𝓤 H A W E RelayCircuit.row 𝓣 G4 1 15 0 3
-              ref4 ref0 life0 0 (λ x. x) (Reads'.as-is 𝓤 H A (Mut.mslice RelayCircuit.row ref4 0)) (Reads'.room-gone 𝓤 H A ref0) Path.refl tt
+          d59 = Typed.s-seq 𝓤 H A W 𝓣 E G4 G5 b1 b42 Δ0 (Typed.give (s3 bs)) (at58 bs) (Reshare.t-sl-reshare 𝓤 H A W E
+              RelayCircuit.row 𝓣 G4 1 15 0 3 ref4 ref0 life0 0 (λ x. x)
+              (Reads'.as-is 𝓤 H A (Mut.mslice RelayCircuit.row ref4 0)) (Reads'.room-gone 𝓤 H A ref0) Path.refl tt
               Path.refl Path.refl Path.refl λ b o. tt) d58
+
           d60 : Typed.Typed 𝓤 H A 𝓣 E G3 b43 Δ0 (at60 bs)
-          d60 = Typed.g-pre 𝓤 H A W 𝓣 E G3 G4 b43 Δ0 (λ Ψ. Ψ) (at59 bs) (Lifetime.g-begin 𝓤 H A W E G3 3 (tt, (tt, (tt, (tt, (tt, (tt, (tt, (tt, (tt,
-              (tt, (tt, (tt, (tt, (tt, (tt, (tt, (tt, (tt, (tt, (tt, (tt, (tt, (tt, (tt, (tt, (tt, (tt, (tt,
-              tt))))),),),),),),),),),),),),),),),),),),),),),),),)) d59
+          d60 = Typed.g-pre 𝓤 H A W 𝓣 E G3 G4 b43 Δ0 (λ Ψ. Ψ) (at59 bs) (Lifetime.g-begin 𝓤 H A W E G3 3 (
+            tt,
+            (
+              tt,
+              (
+                tt,
+                (
+                  tt,
+                  (
+                    tt,
+                    (
+                      tt,
+                      (
+                        tt,
+                        (
+                          tt,
+                          (
+                            tt,
+                            (
+                              tt,
+                              (
+                                tt,
+                                (
+                                  tt,
+                                  (
+                                    tt,
+                                    (
+                                      tt,
+                                      (
+                                        tt,
+                                        (
+                                          tt,
+                                          (tt, (tt, (tt, (tt, (tt, (tt, (tt, (tt, (tt, (tt, (tt, (tt, tt)))))))))))),
+                                        ),
+                                      ),
+                                    ),
+                                  ),
+                                ),
+                              ),
+                            ),
+                          ),
+                        ),
+                      ),
+                    ),
+                  ),
+                ),
+              ),
+            ),
+          )) d59
+
           d61 : Typed.Typed 𝓤 H A 𝓣 E G2 b44 Δ0 (at61 bs)
-          d61 = Typed.s-seq 𝓤 H A W 𝓣 E G2 G3 b0 b43 Δ0 (Typed.both (s1 bs)) (at60 bs) (WayStmt.t-way-copy-out 𝓤 H A W E 𝓣 (Declared'.row
-              Places.the-type) Path.refl (Copies.cStruct Places.the-type Laws'.the-laws Laws'.the-copy .copy 𝓤 H A W) (λ ρ. Unit) G2 (Row.out 4 (G2
-              .locals)) (λ u. Row.drop 4 (G2 .locals) u) (G2 .slots) 4 (λ t. (Syntax.field 2) ∷ t) Laws'.mir Laws'.mir 7 (Rows.whole (Declared'.row
-              Places.the-type)) (λ x. x) (λ u. At.getAt (Sending.the-type .parts) 2 (Sending.struct .as-values (u .1 .1 .1 .1 .0))) (λ u. (Row.hd 0
-              (Row.tl (Row.tl (Row.tl (Row.tl bs)))), Nat._+_ 0 168)) (λ T′. record { locals = Row.setRow 4 (4, Rows.whole (Declared'.row
-              Sending.the-type)) T′; slots = G2 .slots; }) (λ u T′ m′. Row.set 4 (4, Rows.whole (Declared'.row Sending.the-type)) (u .1 .1 .1 .1 .0)
-              T′ m′) (λ u. Unit) (λ x. Unit) (Own.told-none 𝓤 H A (G2 .slots)) (DerefMove.learns-nothing 𝓤 H A (Declared'.row Places.the-type)) (λ ρ
-              told u asked. Way'.w-partˢ 𝓤 H A W E (Declared'.row Sending.the-type) (Declared'.row Places.the-type) Laws''''.mir Laws'.mir 2 168 (u .1
-              .1 .1 .1 .0) (At.getAt (Sending.the-type .parts) 2 (Sending.struct .as-values (u .1 .1 .1 .1 .0))) (Row.hd 0 (Row.tl (Row.tl (Row.tl
-              (Row.tl bs)))), 0) (Way.w-look 𝓤 H A W E (Way.w-local 𝓤 H A W E G2 ρ u (G2 .slots) 4 (Declared'.row Sending.the-type) (Rows.whole
-              (Declared'.row Sending.the-type)) (λ x. x) (λ x. x) (u .1 .1 .1 .1 .0) (Local.mem-whole 𝓤 H A W (Declared'.row Sending.the-type) ρ (u .1
-              .1 .1 .1 .0) (Row.hd 0 (Row.tl (Row.tl (Row.tl (Row.tl bs)))))) (Local.whole-mem 𝓤 H A W (Declared'.row Sending.the-type) ρ (u .1 .1 .1
-              .1 .0) (Row.hd 0 (Row.tl (Row.tl (Row.tl (Row.tl bs)))))))) Path.refl λ q. Inner.cut-record 𝓤 H A q (Declared'.row Sending.the-type)
-              Places.the-type 168 (u .1 .1 .1 .1 .0) (u .1 .1 .1 .1 .0) (At.getAt (Sending.the-type .parts) 2 (Sending.struct .as-values (u .1 .1 .1
-              .1 .0))) (At.getAt (Sending.the-type .parts) 2 (Sending.struct .as-values (u .1 .1 .1 .1 .0))) (Row.hd 0 (Row.tl (Row.tl (Row.tl (Row.tl
-              bs)))), 0) (Behind.look-at 𝓤 H A W q Sending.the-type Laws''''.the-laws 2 168 Path.refl Path.refl (Row.hd 0 (Row.tl (Row.tl (Row.tl
-              (Row.tl bs)))), 0) (u .1 .1 .1 .1 .0) (Sending.struct .as-values (u .1 .1 .1 .1 .0)) Path.refl)) (Reads'.room-gone 𝓤 H A Laws'.mir)
-              (Yields.makes-mem 𝓤 H A W (λ ρ. Unit) (Declared'.row Places.the-type) Path.refl (Rows.whole (Declared'.row Places.the-type)) (λ x. x) λ
-              ρ told. Local.whole-mem 𝓤 H A W (Declared'.row Places.the-type) ρ) Path.refl Path.refl Path.refl) d60
+          d61 = Typed.s-seq 𝓤 H A W 𝓣 E G2 G3 b0 b43 Δ0 (Typed.both (s1 bs)) (at60 bs) (WayStmt.t-way-copy-out 𝓤 H A W
+              E 𝓣 (Declared'.row Places.the-type) Path.refl (Copies.cStruct Places.the-type Laws'.the-laws
+              Laws'.the-copy .copy 𝓤 H A W) (λ ρ. Unit) G2 (Row.out 4 (G2 .locals)) (λ u. Row.drop 4 (G2 .locals) u)
+              (G2 .slots) 4 (λ t. (Syntax.field 2) ∷ t) Laws'.mir Laws'.mir 7
+              (Rows.whole (Declared'.row Places.the-type)) (λ x. x) (λ u. At.getAt (Sending.the-type .parts) 2
+              (Sending.struct .as-values (u .1 .1 .1 .1 .0))) (λ u. (
+                Row.hd 0 (Row.tl (Row.tl (Row.tl (Row.tl bs)))),
+                Nat._+_ 0 168,
+              )) (λ T′. record {
+                locals = Row.setRow 4 (4, Rows.whole (Declared'.row Sending.the-type)) T′;
+                slots = G2 .slots;
+              }) (λ u T′ m′. Row.set 4 (4, Rows.whole (Declared'.row Sending.the-type)) (u .1 .1 .1 .1 .0) T′ m′)
+              (λ u. Unit) (λ x. Unit) (Own.told-none 𝓤 H A (G2 .slots)) (DerefMove.learns-nothing 𝓤 H A
+              (Declared'.row Places.the-type)) (λ ρ told u asked. Way'.w-partˢ 𝓤 H A W E
+              (Declared'.row Sending.the-type) (Declared'.row Places.the-type) Laws''''.mir Laws'.mir 2 168
+              (u .1 .1 .1 .1 .0) (At.getAt (Sending.the-type .parts) 2 (Sending.struct .as-values (u .1 .1 .1 .1 .0)))
+              (Row.hd 0 (Row.tl (Row.tl (Row.tl (Row.tl bs)))), 0) (Way.w-look 𝓤 H A W E (Way.w-local 𝓤 H A W E G2 ρ u
+              (G2 .slots) 4 (Declared'.row Sending.the-type) (Rows.whole (Declared'.row Sending.the-type)) (λ x. x)
+              (λ x. x) (u .1 .1 .1 .1 .0) (Local.mem-whole 𝓤 H A W (Declared'.row Sending.the-type) ρ
+              (u .1 .1 .1 .1 .0) (Row.hd 0 (Row.tl (Row.tl (Row.tl (Row.tl bs)))))) (Local.whole-mem 𝓤 H A W
+              (Declared'.row Sending.the-type) ρ (u .1 .1 .1 .1 .0) (Row.hd 0 (Row.tl (Row.tl (Row.tl (Row.tl bs))))))))
+              Path.refl λ q. Inner.cut-record 𝓤 H A q (Declared'.row Sending.the-type) Places.the-type 168
+              (u .1 .1 .1 .1 .0) (u .1 .1 .1 .1 .0) (At.getAt (Sending.the-type .parts) 2
+              (Sending.struct .as-values (u .1 .1 .1 .1 .0))) (At.getAt (Sending.the-type .parts) 2
+              (Sending.struct .as-values (u .1 .1 .1 .1 .0))) (Row.hd 0 (Row.tl (Row.tl (Row.tl (Row.tl bs)))), 0) (Behind.look-at
+              𝓤 H A W q Sending.the-type Laws''''.the-laws 2 168 Path.refl Path.refl
+              (Row.hd 0 (Row.tl (Row.tl (Row.tl (Row.tl bs)))), 0) (u .1 .1 .1 .1 .0)
+              (Sending.struct .as-values (u .1 .1 .1 .1 .0)) Path.refl)) (Reads'.room-gone 𝓤 H A Laws'.mir) (Yields.makes-mem
+              𝓤 H A W (λ ρ. Unit) (Declared'.row Places.the-type) Path.refl
+              (Rows.whole (Declared'.row Places.the-type)) (λ x. x) λ ρ told. Local.whole-mem 𝓤 H A W
+              (Declared'.row Places.the-type) ρ) Path.refl Path.refl Path.refl) d60
+
           d62 : Typed.Typed 𝓤 H A 𝓣 E G0 b44 Δ0 (at62 bs)
-          d62 = Typed.g-pre 𝓤 H A W 𝓣 E G0 G2 b44 Δ0 (Typed.give (s0 bs)) (at61 bs) (Know.g-sl-known 𝓤 H A W (Referent.fInt Syntax.w32) E G0 3 2 ref6
-              life2 0 (λ x. x) record { fits = Dec.lit< tt } (Reads'.as-is 𝓤 H A (Mut.mslice (Referent.rtF (Referent.fInt Syntax.w32)) ref6 2))
-              Path.refl tt) d61
-          pub typed : Typed.Typed 𝓤 H A 𝓣 E (Function.Γin 3 ps r xs m κs qs) b44 (Function.Δret 3 ps r xs m κs qs) (Φ bs)
+          d62 = Typed.g-pre 𝓤 H A W 𝓣 E G0 G2 b44 Δ0 (Typed.give (s0 bs)) (at61 bs) (Know.g-sl-known 𝓤 H A W
+              (Referent.fInt Syntax.w32) E G0 3 2 ref6 life2 0 (λ x. x) record { fits = Dec.lit< tt } (Reads'.as-is 𝓤 H
+              A (Mut.mslice (Referent.rtF (Referent.fInt Syntax.w32)) ref6 2)) Path.refl tt) d61
+
+          pub typed : Typed.Typed 𝓤 H A 𝓣 E (Function.Γin 3 ps r xs m κs qs) b44 (Function.Δret 3 ps r xs m κs qs)
+              (Φ bs)
           typed = d62
+
       module _ (κs : Lifetimes.Lfts 3) where
         pub record Args : Type 0 where
-          pub circuits : Kinds.Den { n = 3 } κs (MutSlice.pMutS RelayCircuit.row 0 tt)
-          pub inflight : Kinds.Den { n = 3 } κs (MutSlice.pMutS InflightAction.row 1 tt)
-          pub out : Kinds.Den { n = 3 } κs (MutSlice.pMutS (Referent.rtF (Referent.fInt Syntax.w32)) 2 tt)
-          pub sending : Kinds.Den { n = 3 } κs (Value.pVal record { ty = Declared'.row Sending.the-type; one = Path.refl; val = Laws''''''.val
-              Sending.the-type Laws''''.the-laws; tells = Laws''''''.tells Sending.the-type Laws''''.the-laws; still = Laws''''''.still
-              Sending.the-type Laws''''.the-copy Exit.yes; row = Rows.whole (Declared'.row Sending.the-type); rd = λ x. x; mk = λ x. x; } λ M 𝓤 H A W.
-              record { copies = Laws''''''.copy Sending.the-type Laws''''.the-copy 𝓤 H A W; lawful = Laws''''''.lawful Sending.the-type
-              Laws''''.the-laws 𝓤 H A W; makes = Laws''''''.makes Sending.the-type Laws''''.the-plain 𝓤 H A; in-mem = Local.mem-whole 𝓤 H A W
-              (Declared'.row Sending.the-type); of-mem = Local.whole-mem 𝓤 H A W (Declared'.row Sending.the-type); })
-          pub notice : Kinds.Den { n = 3 } κs (Value.pVal record { ty = Declared.row Notice.the-type; one = Path.refl; val = Laws'''''.val
-              Notice.the-type Laws.the-laws; tells = Laws'''''.tells Notice.the-type Laws.the-laws; still = Laws'''''.still Notice.the-type
-              Laws.the-copy Exit.yes; row = Rows.whole (Declared.row Notice.the-type); rd = λ x. x; mk = λ x. x; } λ M 𝓤 H A W. record { copies =
-              Laws'''''.copy Notice.the-type Laws.the-copy 𝓤 H A W; lawful = Laws'''''.lawful Notice.the-type Laws.the-laws 𝓤 H A W tt; makes =
-              Laws'''''.makes Notice.the-type Laws.the-plain 𝓤 H A; in-mem = Local.mem-whole 𝓤 H A W (Declared.row Notice.the-type); of-mem =
-              Local.whole-mem 𝓤 H A W (Declared.row Notice.the-type); })
-          pub place : Kinds.Den { n = 3 } κs (Num.pNum Syntax.w64)
+          pub circuits : Kinds.Den {n = 3} κs (MutSlice.pMutS RelayCircuit.row 0 tt)
+          pub inflight : Kinds.Den {n = 3} κs (MutSlice.pMutS InflightAction.row 1 tt)
+          pub out : Kinds.Den {n = 3} κs (MutSlice.pMutS (Referent.rtF (Referent.fInt Syntax.w32)) 2 tt)
+          pub sending : Kinds.Den {n = 3} κs (StructRow.param Sending.the-type Laws''''.the-laws Laws''''.the-copy
+              Laws''''.the-plain)
+          pub notice : Kinds.Den {n = 3} κs (StructRow.enum-param Notice.the-type Laws.the-laws Laws.the-copy
+              Laws.the-plain tt)
+          pub place : Kinds.Den {n = 3} κs (Num.pNum Syntax.w64)
+
         abbrev pub dens : (a : Args) → Kinds.Dens κs ps
-        dens = λ a. (a .circuits, (a .inflight, (a .out, (a .sending, (a .notice, (a .place, tt))))),)
+        dens = λ a. (a .circuits, (a .inflight, (a .out, (a .sending, (a .notice, (a .place, tt))))))
+
         module _ (args· : Args) where
           pub record Ranges : Type 0 where
             pub place : Val.Fits Syntax.w64 (args· .place)
+
       abbrev pub m0 : (κs : Lifetimes.Lfts 3) → (args : Args κs) → (blocks : List.List Nat.ℕ) → Typed.Mo T0
       m0 = λ κs args blocks. (tt, Enter.partsP κs 1 ps xs (dens κs args))
+
       abbrev W0 : (κs : Lifetimes.Lfts 3) → (args : Args κs) → (blocks : List.List Nat.ℕ) → Typed.Want O0
-      W0 = λ κs args blocks. (λ u. ⊥, tt, λ u. Enter.Fixs κs 1 ps xs (dens κs args) (u .1) × Post· κs (dens κs args) (Function.resV r κs (u .0))
-          (Clauses.atExit (Kinds.endedOf 3 ps r) κs (dens κs args) (Enter.lastsP κs 1 ps xs (dens κs args) (u .1))),)
+      W0 = λ κs args blocks. (
+        λ u. ⊥,
+        tt,
+        λ u. Enter.Fixs κs 1 ps xs (dens κs args) (u .1) × Post· κs (dens κs args) (Function.resV r κs (u .0)) (Clauses.atExit
+            (Kinds.endedOf 3 ps r) κs (dens κs args) (Enter.lastsP κs 1 ps xs (dens κs args) (u .1))),
+      )
+
       pub record Start : Type 0 where
         pub κs : Lifetimes.Lfts 3
         pub args : Args κs
@@ -1624,557 +2698,1101 @@ module _ (claims· : Claims) where
         pub good : Kinds.GoodsP κs ps (dens κs args)
         pub fits : Ranges κs args
         pub pre : Pre· κs (dens κs args)
-      abbrev pub m1 : (before : Start) → (given : s0 (before .blocks) .gives (m0 (before .κs) (before .args) (before .blocks))) → Typed.Mo T2
+
+      abbrev pub m1 : (before : Start) → (given : s0 (before .blocks) .gives
+          (m0 (before .κs) (before .args) (before .blocks))) → Typed.Mo T2
       m1 = λ before given. s0 (before .blocks) .next (m0 (before .κs) (before .args) (before .blocks)) given
+
       module _ (before· : Start) where
         pub record After-slice-known·own : Type 0 where
           pub given : s0 (before· .blocks) .gives (m0 (before· .κs) (before· .args) (before· .blocks))
+
       pub record After-slice-known : Type 0 where
         pub before : Start
         pub slice-known : After-slice-known·own before
-      abbrev pub m2 : (before : After-slice-known) → (given : s1 (before .before .blocks) .gives (m1 (before .before) (before .slice-known .given))) →
-          Typed.Mo T3
+
+      abbrev pub m2 : (before : After-slice-known) → (given : s1 (before .before .blocks) .gives
+          (m1 (before .before) (before .slice-known .given))) → Typed.Mo T3
       m2 = λ before given. s1 (before .before .blocks) .next (m1 (before .before) (before .slice-known .given)) given
+
       module _ (before· : After-slice-known) where
         pub record After-places·own : Type 0 where
           pub given : s1 (before· .before .blocks) .gives (m1 (before· .before) (before· .slice-known .given))
+
       pub record After-places : Type 0 where
         pub before : After-slice-known
         pub places : After-places·own before
-      abbrev pub m3 : (before : After-places) → (given : s3 (before .before .before .blocks) .gives (m2 (before .before) (before .places .given))) →
-          Typed.Mo T5
-      m3 = λ before given. s3 (before .before .before .blocks) .next (m2 (before .before) (before .places .given)) given
-      abbrev pub m4 : (before : After-places) → (given : s3 (before .before .before .blocks) .gives (m2 (before .before) (before .places .given))) →
-          Typed.Mo T6
+
+      abbrev pub m3 : (before : After-places) → (given : s3 (before .before .before .blocks) .gives
+          (m2 (before .before) (before .places .given))) → Typed.Mo T5
+      m3 = λ before given. s3 (before .before .before .blocks) .next (m2 (before .before) (before .places .given))
+          given
+
+      abbrev pub m4 : (before : After-places) → (given : s3 (before .before .before .blocks) .gives
+          (m2 (before .before) (before .places .given))) → Typed.Mo T6
       m4 = λ before given. s4 (before .before .before .blocks) .next (m3 before given)
+
       module _ (before· : After-places) where
         pub record After-circuit-at-arg·own : Type 0 where
           pub given : s3 (before· .before .before .blocks) .gives (m2 (before· .before) (before· .places .given))
+
       pub record After-circuit-at-arg : Type 0 where
         pub before : After-places
         pub circuit-at-arg : After-circuit-at-arg·own before
+
       abbrev pub Need-circuit-at-requires : Type 0
-      Need-circuit-at-requires = (c : After-circuit-at-arg) → s5 (c .before .before .before .blocks) .asks (m4 (c .before) (c .circuit-at-arg .given))
-      abbrev pub m5 : (before : After-circuit-at-arg) → (given : s5 (before .before .before .before .blocks) .gives (m4 (before .before) (before
-          .circuit-at-arg .given))) → Typed.Mo T7
-      m5 = λ before given. s5 (before .before .before .before .blocks) .next (m4 (before .before) (before .circuit-at-arg .given)) given
+      Need-circuit-at-requires = (c : After-circuit-at-arg) → s5 (c .before .before .before .blocks) .asks
+          (m4 (c .before) (c .circuit-at-arg .given))
+
+      abbrev pub m5 : (before : After-circuit-at-arg) → (given : s5 (before .before .before .before .blocks) .gives
+          (m4 (before .before) (before .circuit-at-arg .given))) → Typed.Mo T7
+      m5 = λ before given. s5 (before .before .before .before .blocks) .next
+          (m4 (before .before) (before .circuit-at-arg .given)) given
+
       module _ (before· : After-circuit-at-arg) where
         abbrev pub After-circuit-at·own : Type 0
-        After-circuit-at·own = Called.Called ps·0 r·0 (claims· .1) T6 (record { pos = 16; ty = Syntax.tyRef Syntax.erased Syntax.imm RelayCircuit.to;
-            ref = λ x. x; }, (record { pos = 7; st = List.[]; d = 0; at = λ x. x }, (Num.vAt 6 λ x. x, tt)),) (m4 (before· .before) (before·
-            .circuit-at-arg .given))
+        After-circuit-at·own = Called.Called ps·0 r·0 (claims· .1) T6 (
+          record { pos = 16; ty = ref0; ref = λ x. x },
+          (record { pos = 7; st = List.[]; d = 0; at = λ x. x }, (Num.vAt 6 λ x. x, tt)),
+        ) (m4 (before· .before) (before· .circuit-at-arg .given))
+
       pub record After-circuit-at : Type 0 where
         pub before : After-circuit-at-arg
         pub circuit-at : After-circuit-at·own before
-      abbrev pub After-circuit-at·gave : (c : After-circuit-at) → s5 (c .before .before .before .before .blocks) .gives (m4 (c .before .before) (c
-          .before .circuit-at-arg .given))
-      After-circuit-at·gave = λ c. Called.given ps·0 r·0 (claims· .1) T6 (record { pos = 16; ty = Syntax.tyRef Syntax.erased Syntax.imm
-          RelayCircuit.to; ref = λ x. x; }, (record { pos = 7; st = List.[]; d = 0; at = λ x. x }, (Num.vAt 6 λ x. x, tt)),) (m4 (c .before .before)
-          (c .before .circuit-at-arg .given)) (c .circuit-at)
-      abbrev pub m6 : (before : After-circuit-at-arg) → (given : s5 (before .before .before .before .blocks) .gives (m4 (before .before) (before
-          .circuit-at-arg .given))) → Typed.Mo T8
+
+      abbrev pub After-circuit-at·gave : (c : After-circuit-at) → s5 (c .before .before .before .before .blocks) .gives
+          (m4 (c .before .before) (c .before .circuit-at-arg .given))
+      After-circuit-at·gave = λ c. Called.given ps·0 r·0 (claims· .1) T6 (
+        record { pos = 16; ty = ref0; ref = λ x. x },
+        (record { pos = 7; st = List.[]; d = 0; at = λ x. x }, (Num.vAt 6 λ x. x, tt)),
+      ) (m4 (c .before .before) (c .before .circuit-at-arg .given)) (c .circuit-at)
+
+      abbrev pub m6 : (before : After-circuit-at-arg) → (given : s5 (before .before .before .before .blocks) .gives
+          (m4 (before .before) (before .circuit-at-arg .given))) → Typed.Mo T8
       m6 = λ before given. s6 (before .before .before .before .blocks) (m5 before given)
-      abbrev pub m7 : (before : After-circuit-at-arg) → (given : s5 (before .before .before .before .blocks) .gives (m4 (before .before) (before
-          .circuit-at-arg .given))) → Typed.Mo T9
+
+      abbrev pub m7 : (before : After-circuit-at-arg) → (given : s5 (before .before .before .before .blocks) .gives
+          (m4 (before .before) (before .circuit-at-arg .given))) → Typed.Mo T9
       m7 = λ before given. s7 (before .before .before .before .blocks) (m6 before given)
-      abbrev pub m8 : (before : After-circuit-at-arg) → (given : s5 (before .before .before .before .blocks) .gives (m4 (before .before) (before
-          .circuit-at-arg .given))) → Typed.Mo T11
+
+      abbrev pub m8 : (before : After-circuit-at-arg) → (given : s5 (before .before .before .before .blocks) .gives
+          (m4 (before .before) (before .circuit-at-arg .given))) → Typed.Mo T11
       m8 = λ before given. s9 (before .before .before .before .blocks) (m7 before given)
+
       abbrev pub Need-circuit-unmarked-requires : Type 0
-      Need-circuit-unmarked-requires = (c : After-circuit-at) → s11 (c .before .before .before .before .blocks) .asks (m8 (c .before)
-          (After-circuit-at·gave c))
-      abbrev pub m9 : (before : After-circuit-at) → (given : s11 (before .before .before .before .before .blocks) .gives (m8 (before .before)
-          (After-circuit-at·gave before))) → Typed.Mo T13
-      m9 = λ before given. s11 (before .before .before .before .before .blocks) .next (m8 (before .before) (After-circuit-at·gave before)) given
+      Need-circuit-unmarked-requires = (c : After-circuit-at) → s11 (c .before .before .before .before .blocks) .asks
+          (m8 (c .before) (After-circuit-at·gave c))
+
+      abbrev pub m9 : (before : After-circuit-at) → (given : s11 (before .before .before .before .before .blocks)
+          .gives (m8 (before .before) (After-circuit-at·gave before))) → Typed.Mo T13
+      m9 = λ before given. s11 (before .before .before .before .before .blocks) .next
+          (m8 (before .before) (After-circuit-at·gave before)) given
+
       module _ (before· : After-circuit-at) where
         abbrev pub After-circuit-unmarked·own : Type 0
-        After-circuit-unmarked·own = Called.Called ps·1 r·1 (claims· .3) T11 (record { pos = 8; st = List.[]; d = 0; at = λ x. x }, tt,) (m8 (before·
-            .before) (After-circuit-at·gave before·))
+        After-circuit-unmarked·own = Called.Called ps·1 r·1 (claims· .3) T11
+            (record { pos = 8; st = List.[]; d = 0; at = λ x. x }, tt)
+            (m8 (before· .before) (After-circuit-at·gave before·))
+
       pub record After-circuit-unmarked : Type 0 where
         pub before : After-circuit-at
         pub circuit-unmarked : After-circuit-unmarked·own before
-      abbrev pub After-circuit-unmarked·gave : (c : After-circuit-unmarked) → s11 (c .before .before .before .before .before .blocks) .gives (m8 (c
-          .before .before) (After-circuit-at·gave (c .before)))
-      After-circuit-unmarked·gave = λ c. Called.given ps·1 r·1 (claims· .3) T11 (record { pos = 8; st = List.[]; d = 0; at = λ x. x }, tt,) (m8 (c
-          .before .before) (After-circuit-at·gave (c .before))) (c .circuit-unmarked)
+
+      abbrev pub After-circuit-unmarked·gave : (c : After-circuit-unmarked) → s11
+          (c .before .before .before .before .before .blocks) .gives (m8 (c .before .before)
+          (After-circuit-at·gave (c .before)))
+      After-circuit-unmarked·gave = λ c. Called.given ps·1 r·1 (claims· .3) T11
+          (record { pos = 8; st = List.[]; d = 0; at = λ x. x }, tt) (m8 (c .before .before)
+          (After-circuit-at·gave (c .before))) (c .circuit-unmarked)
+
       abbrev pub Need-plan-circuit-requires : Type 0
-      Need-plan-circuit-requires = (c : After-circuit-unmarked) → s12 (c .before .before .before .before .before .blocks) .asks (m9 (c .before)
-          (After-circuit-unmarked·gave c))
-      abbrev pub m10 : (before : After-circuit-unmarked) → (given : s12 (before .before .before .before .before .before .blocks) .gives (m9 (before
-          .before) (After-circuit-unmarked·gave before))) → Typed.Mo T14
-      m10 = λ before given. s12 (before .before .before .before .before .before .blocks) .next (m9 (before .before) (After-circuit-unmarked·gave
-          before)) given
+      Need-plan-circuit-requires = (c : After-circuit-unmarked) → s12
+          (c .before .before .before .before .before .blocks) .asks (m9 (c .before) (After-circuit-unmarked·gave c))
+
+      abbrev pub m10 : (before : After-circuit-unmarked) → (given : s12
+          (before .before .before .before .before .before .blocks) .gives
+          (m9 (before .before) (After-circuit-unmarked·gave before))) → Typed.Mo T14
+      m10 = λ before given. s12 (before .before .before .before .before .before .blocks) .next
+          (m9 (before .before) (After-circuit-unmarked·gave before)) given
+
       module _ (before· : After-circuit-unmarked) where
         abbrev pub After-plan-circuit·own : Type 0
-        After-plan-circuit·own = Called.Called ps·2 r·2 (claims· .5) T13 (record { pos = 8; st = List.[]; d = 0; at = λ x. x }, (record { pos = 4; st
-            = List.[]; d = 0; at = λ x. x }, tt),) (m9 (before· .before) (After-circuit-unmarked·gave before·))
+        After-plan-circuit·own = Called.Called ps·2 r·2 (claims· .5) T13 (
+          record { pos = 8; st = List.[]; d = 0; at = λ x. x },
+          (record { pos = 4; st = List.[]; d = 0; at = λ x. x }, tt),
+        ) (m9 (before· .before) (After-circuit-unmarked·gave before·))
+
       pub record After-plan-circuit : Type 0 where
         pub before : After-circuit-unmarked
         pub plan-circuit : After-plan-circuit·own before
-      abbrev pub After-plan-circuit·gave : (c : After-plan-circuit) → s12 (c .before .before .before .before .before .before .blocks) .gives (m9 (c
-          .before .before) (After-circuit-unmarked·gave (c .before)))
-      After-plan-circuit·gave = λ c. Called.given ps·2 r·2 (claims· .5) T13 (record { pos = 8; st = List.[]; d = 0; at = λ x. x }, (record { pos = 4;
-          st = List.[]; d = 0; at = λ x. x }, tt),) (m9 (c .before .before) (After-circuit-unmarked·gave (c .before))) (c .plan-circuit)
-      abbrev pub m11 : (before : After-circuit-unmarked) → (given : s12 (before .before .before .before .before .before .blocks) .gives (m9 (before
-          .before) (After-circuit-unmarked·gave before))) → Typed.Mo T15
+
+      abbrev pub After-plan-circuit·gave : (c : After-plan-circuit) → s12
+          (c .before .before .before .before .before .before .blocks) .gives (m9 (c .before .before)
+          (After-circuit-unmarked·gave (c .before)))
+      After-plan-circuit·gave = λ c. Called.given ps·2 r·2 (claims· .5) T13 (
+        record { pos = 8; st = List.[]; d = 0; at = λ x. x },
+        (record { pos = 4; st = List.[]; d = 0; at = λ x. x }, tt),
+      ) (m9 (c .before .before) (After-circuit-unmarked·gave (c .before))) (c .plan-circuit)
+
+      abbrev pub m11 : (before : After-circuit-unmarked) → (given : s12
+          (before .before .before .before .before .before .blocks) .gives
+          (m9 (before .before) (After-circuit-unmarked·gave before))) → Typed.Mo T15
       m11 = λ before given. s13 (before .before .before .before .before .before .blocks) (m10 before given)
-      abbrev pub m12 : (before : After-circuit-unmarked) → (given : s12 (before .before .before .before .before .before .blocks) .gives (m9 (before
-          .before) (After-circuit-unmarked·gave before))) → Typed.Mo T16
+
+      abbrev pub m12 : (before : After-circuit-unmarked) → (given : s12
+          (before .before .before .before .before .before .blocks) .gives
+          (m9 (before .before) (After-circuit-unmarked·gave before))) → Typed.Mo T16
       m12 = λ before given. s14 (before .before .before .before .before .before .blocks) (m11 before given)
-      abbrev pub m13 : (before : After-plan-circuit) → (given : s15 (before .before .before .before .before .before .before .blocks) .gives (m12
-          (before .before) (After-plan-circuit·gave before))) → Typed.Mo T17
-      m13 = λ before given. s15 (before .before .before .before .before .before .before .blocks) .next (m12 (before .before) (After-plan-circuit·gave
-          before)) given
+
+      abbrev pub m13 : (before : After-plan-circuit) → (given : s15 (before .before .before .before .before .before
+          .before .blocks) .gives (m12 (before .before) (After-plan-circuit·gave before))) → Typed.Mo T17
+      m13 = λ before given. s15 (before .before .before .before .before .before .before .blocks) .next
+          (m12 (before .before) (After-plan-circuit·gave before)) given
+
       module _ (before· : After-plan-circuit) where
         pub record After-after·own : Type 0 where
-          pub given : s15 (before· .before .before .before .before .before .before .blocks) .gives (m12 (before· .before) (After-plan-circuit·gave
-              before·))
+          pub given : s15 (before· .before .before .before .before .before .before .blocks) .gives
+              (m12 (before· .before) (After-plan-circuit·gave before·))
+
       pub record After-after : Type 0 where
         pub before : After-plan-circuit
         pub after : After-after·own before
-      abbrev pub m14 : (before : After-after) → (given : s16 (before .before .before .before .before .before .before .before .blocks) .gives (m13
-          (before .before) (before .after .given))) → Typed.Mo T18
-      m14 = λ before given. s16 (before .before .before .before .before .before .before .before .blocks) .next (m13 (before .before) (before .after
-          .given)) given
+
+      abbrev pub m14 : (before : After-after) → (given : s16 (before .before .before .before .before .before .before
+          .before .blocks) .gives (m13 (before .before) (before .after .given))) → Typed.Mo T18
+      m14 = λ before given. s16 (before .before .before .before .before .before .before .before .blocks) .next
+          (m13 (before .before) (before .after .given)) given
+
       module _ (before· : After-after) where
         pub record After-first·own : Type 0 where
-          pub given : s16 (before· .before .before .before .before .before .before .before .blocks) .gives (m13 (before· .before) (before· .after
-              .given))
+          pub given : s16 (before· .before .before .before .before .before .before .before .blocks) .gives
+              (m13 (before· .before) (before· .after .given))
+
       pub record After-first : Type 0 where
         pub before : After-after
         pub first : After-first·own before
-      abbrev pub m15 : (before : After-first) → (given : s17 (before .before .before .before .before .before .before .before .before .blocks) .gives
-          (m14 (before .before) (before .first .given))) → Typed.Mo T19
-      m15 = λ before given. s17 (before .before .before .before .before .before .before .before .before .blocks) .next (m14 (before .before) (before
-          .first .given)) given
+
+      abbrev pub m15 : (before : After-first) → (given : s17 (before .before .before .before .before .before .before
+          .before .before .blocks) .gives (m14 (before .before) (before .first .given))) → Typed.Mo T19
+      m15 = λ before given. s17 (before .before .before .before .before .before .before .before .before .blocks) .next
+          (m14 (before .before) (before .first .given)) given
+
       module _ (before· : After-first) where
         pub record After-second·own : Type 0 where
-          pub given : s17 (before· .before .before .before .before .before .before .before .before .blocks) .gives (m14 (before· .before) (before·
-              .first .given))
+          pub given : s17 (before· .before .before .before .before .before .before .before .before .blocks) .gives
+              (m14 (before· .before) (before· .first .given))
+
       pub record After-second : Type 0 where
         pub before : After-first
         pub second : After-second·own before
-      abbrev pub m16 : (before : After-second) → (given : s19 (before .before .before .before .before .before .before .before .before .before .blocks)
-          .gives (m15 (before .before) (before .second .given))) → Typed.Mo T21
-      m16 = λ before given. s19 (before .before .before .before .before .before .before .before .before .before .blocks) .next (m15 (before .before)
-          (before .second .given)) given
-      abbrev pub m17 : (before : After-second) → (given : s19 (before .before .before .before .before .before .before .before .before .before .blocks)
-          .gives (m15 (before .before) (before .second .given))) → Typed.Mo T22
-      m17 = λ before given. s20 (before .before .before .before .before .before .before .before .before .before .blocks) .next (m16 before given)
+
+      abbrev pub m16 : (before : After-second) → (given : s19 (before .before .before .before .before .before .before
+          .before .before .before .blocks) .gives (m15 (before .before) (before .second .given))) → Typed.Mo T21
+      m16 = λ before given. s19 (before .before .before .before .before .before .before .before .before .before .blocks)
+          .next (m15 (before .before) (before .second .given)) given
+
+      abbrev pub m17 : (before : After-second) → (given : s19 (before .before .before .before .before .before .before
+          .before .before .before .blocks) .gives (m15 (before .before) (before .second .given))) → Typed.Mo T22
+      m17 = λ before given. s20 (before .before .before .before .before .before .before .before .before .before .blocks)
+          .next (m16 before given)
+
       module _ (before· : After-second) where
         pub record After-set-circuit-arg·own : Type 0 where
-          pub given : s19 (before· .before .before .before .before .before .before .before .before .before .blocks) .gives (m15 (before· .before)
-              (before· .second .given))
+          pub given : s19 (before· .before .before .before .before .before .before .before .before .before .blocks)
+              .gives (m15 (before· .before) (before· .second .given))
+
       pub record After-set-circuit-arg : Type 0 where
         pub before : After-second
         pub set-circuit-arg : After-set-circuit-arg·own before
+
       abbrev pub Need-set-circuit-requires : Type 0
-      Need-set-circuit-requires = (c : After-set-circuit-arg) → s21 (c .before .before .before .before .before .before .before .before .before .before
-          .blocks) .asks (m17 (c .before) (c .set-circuit-arg .given))
-      abbrev pub m18 : (before : After-set-circuit-arg) → (given : s21 (before .before .before .before .before .before .before .before .before .before
-          .before .blocks) .gives (m17 (before .before) (before .set-circuit-arg .given))) → Typed.Mo T23
-      m18 = λ before given. s21 (before .before .before .before .before .before .before .before .before .before .before .blocks) .next (m17 (before
-          .before) (before .set-circuit-arg .given)) given
+      Need-set-circuit-requires = (c : After-set-circuit-arg) → s21 (c .before .before .before .before .before .before
+          .before .before .before .before .blocks) .asks (m17 (c .before) (c .set-circuit-arg .given))
+
+      abbrev pub m18 : (before : After-set-circuit-arg) → (given : s21 (before .before .before .before .before .before
+          .before .before .before .before .before .blocks) .gives
+          (m17 (before .before) (before .set-circuit-arg .given))) → Typed.Mo T23
+      m18 = λ before given. s21 (before .before .before .before .before .before .before .before .before .before .before
+          .blocks) .next (m17 (before .before) (before .set-circuit-arg .given)) given
+
       module _ (before· : After-set-circuit-arg) where
         abbrev pub After-set-circuit·own : Type 0
-        After-set-circuit·own = Called.Called ps·3 r·3 (claims· .7) T22 (record { pos = 19; ty = Syntax.tyRef Syntax.erased Syntax.mut
-            RelayCircuit.to; ref = λ x. x; }, (Bool.bLit Bool'.true, (Num.vAt 6 λ x. x, (record { pos = 9; st = List.[]; d = 0; at = λ x. x },
-            tt)),),) (m17 (before· .before) (before· .set-circuit-arg .given))
+        After-set-circuit·own = Called.Called ps·3 r·3 (claims· .7) T22 (
+          record { pos = 19; ty = ref1; ref = λ x. x },
+          (Bool.bLit Bool'.true, (Num.vAt 6 λ x. x, (record { pos = 9; st = List.[]; d = 0; at = λ x. x }, tt))),
+        ) (m17 (before· .before) (before· .set-circuit-arg .given))
+
       pub record After-set-circuit : Type 0 where
         pub before : After-set-circuit-arg
         pub set-circuit : After-set-circuit·own before
-      abbrev pub After-set-circuit·gave : (c : After-set-circuit) → s21 (c .before .before .before .before .before .before .before .before .before
-          .before .before .blocks) .gives (m17 (c .before .before) (c .before .set-circuit-arg .given))
-      After-set-circuit·gave = λ c. Called.given ps·3 r·3 (claims· .7) T22 (record { pos = 19; ty = Syntax.tyRef Syntax.erased Syntax.mut
-          RelayCircuit.to; ref = λ x. x; }, (Bool.bLit Bool'.true, (Num.vAt 6 λ x. x, (record { pos = 9; st = List.[]; d = 0; at = λ x. x }, tt)),),)
-          (m17 (c .before .before) (c .before .set-circuit-arg .given)) (c .set-circuit)
-      abbrev pub m19 : (before : After-set-circuit-arg) → (given : s21 (before .before .before .before .before .before .before .before .before .before
-          .before .blocks) .gives (m17 (before .before) (before .set-circuit-arg .given))) → Typed.Mo T24
-      m19 = λ before given. s22 (before .before .before .before .before .before .before .before .before .before .before .blocks) (m18 before given)
-      abbrev pub m20 : (before : After-set-circuit-arg) → (given : s21 (before .before .before .before .before .before .before .before .before .before
-          .before .blocks) .gives (m17 (before .before) (before .set-circuit-arg .given))) → Typed.Mo T25
-      m20 = λ before given. s23 (before .before .before .before .before .before .before .before .before .before .before .blocks) (m19 before given)
-      abbrev pub m21 : (before : After-set-circuit) → (given : s25 (before .before .before .before .before .before .before .before .before .before
-          .before .before .blocks) .gives (m20 (before .before) (After-set-circuit·gave before))) → Typed.Mo T27
-      m21 = λ before given. s25 (before .before .before .before .before .before .before .before .before .before .before .before .blocks) .next (m20
-          (before .before) (After-set-circuit·gave before)) given
+
+      abbrev pub After-set-circuit·gave : (c : After-set-circuit) → s21 (c .before .before .before .before .before
+          .before .before .before .before .before .before .blocks) .gives (m17 (c .before .before)
+          (c .before .set-circuit-arg .given))
+      After-set-circuit·gave = λ c. Called.given ps·3 r·3 (claims· .7) T22 (
+        record { pos = 19; ty = ref1; ref = λ x. x },
+        (Bool.bLit Bool'.true, (Num.vAt 6 λ x. x, (record { pos = 9; st = List.[]; d = 0; at = λ x. x }, tt))),
+      ) (m17 (c .before .before) (c .before .set-circuit-arg .given)) (c .set-circuit)
+
+      abbrev pub m19 : (before : After-set-circuit-arg) → (given : s21 (before .before .before .before .before .before
+          .before .before .before .before .before .blocks) .gives
+          (m17 (before .before) (before .set-circuit-arg .given))) → Typed.Mo T24
+      m19 = λ before given. s22 (before .before .before .before .before .before .before .before .before .before .before
+          .blocks) (m18 before given)
+
+      abbrev pub m20 : (before : After-set-circuit-arg) → (given : s21 (before .before .before .before .before .before
+          .before .before .before .before .before .blocks) .gives
+          (m17 (before .before) (before .set-circuit-arg .given))) → Typed.Mo T25
+      m20 = λ before given. s23 (before .before .before .before .before .before .before .before .before .before .before
+          .blocks) (m19 before given)
+
+      abbrev pub m21 : (before : After-set-circuit) → (given : s25 (before .before .before .before .before .before
+          .before .before .before .before .before .before .blocks) .gives
+          (m20 (before .before) (After-set-circuit·gave before))) → Typed.Mo T27
+      m21 = λ before given. s25 (before .before .before .before .before .before .before .before .before .before .before
+          .before .blocks) .next (m20 (before .before) (After-set-circuit·gave before)) given
+
       module _ (before· : After-set-circuit) where
         pub record After-circuits·own : Type 0 where
-          pub given : s25 (before· .before .before .before .before .before .before .before .before .before .before .before .blocks) .gives (m20
-              (before· .before) (After-set-circuit·gave before·))
+          pub given : s25 (before· .before .before .before .before .before .before .before .before .before .before
+              .before .blocks) .gives (m20 (before· .before) (After-set-circuit·gave before·))
+
       pub record After-circuits : Type 0 where
         pub before : After-set-circuit
         pub circuits : After-circuits·own before
-      abbrev pub m22 : (before : After-circuits) → (given : s28 (before .before .before .before .before .before .before .before .before .before
-          .before .before .before .blocks) .gives (m21 (before .before) (before .circuits .given))) → Typed.Mo T30
-      m22 = λ before given. s28 (before .before .before .before .before .before .before .before .before .before .before .before .before .blocks) .next
-          (m21 (before .before) (before .circuits .given)) given
-      abbrev pub m23 : (before : After-circuits) → (given : s28 (before .before .before .before .before .before .before .before .before .before
-          .before .before .before .blocks) .gives (m21 (before .before) (before .circuits .given))) → Typed.Mo T31
-      m23 = λ before given. s29 (before .before .before .before .before .before .before .before .before .before .before .before .before .blocks) .next
-          (m22 before given)
+
+      abbrev pub m22 : (before : After-circuits) → (given : s28 (before .before .before .before .before .before .before
+          .before .before .before .before .before .before .blocks) .gives
+          (m21 (before .before) (before .circuits .given))) → Typed.Mo T30
+      m22 = λ before given. s28 (before .before .before .before .before .before .before .before .before .before .before
+          .before .before .blocks) .next (m21 (before .before) (before .circuits .given)) given
+
+      abbrev pub m23 : (before : After-circuits) → (given : s28 (before .before .before .before .before .before .before
+          .before .before .before .before .before .before .blocks) .gives
+          (m21 (before .before) (before .circuits .given))) → Typed.Mo T31
+      m23 = λ before given. s29 (before .before .before .before .before .before .before .before .before .before .before
+          .before .before .blocks) .next (m22 before given)
+
       module _ (before· : After-circuits) where
         pub record After-drop-and-tell-arg·own : Type 0 where
-          pub given : s28 (before· .before .before .before .before .before .before .before .before .before .before .before .before .blocks) .gives
-              (m21 (before· .before) (before· .circuits .given))
+          pub given : s28 (before· .before .before .before .before .before .before .before .before .before .before
+              .before .before .blocks) .gives (m21 (before· .before) (before· .circuits .given))
+
       pub record After-drop-and-tell-arg : Type 0 where
         pub before : After-circuits
         pub drop-and-tell-arg : After-drop-and-tell-arg·own before
-      abbrev pub m24 : (before : After-drop-and-tell-arg) → (given : s31 (before .before .before .before .before .before .before .before .before
-          .before .before .before .before .before .blocks) .gives (m23 (before .before) (before .drop-and-tell-arg .given))) → Typed.Mo T33
-      m24 = λ before given. s31 (before .before .before .before .before .before .before .before .before .before .before .before .before .before
-          .blocks) .next (m23 (before .before) (before .drop-and-tell-arg .given)) given
-      abbrev pub m25 : (before : After-drop-and-tell-arg) → (given : s31 (before .before .before .before .before .before .before .before .before
-          .before .before .before .before .before .blocks) .gives (m23 (before .before) (before .drop-and-tell-arg .given))) → Typed.Mo T34
-      m25 = λ before given. s32 (before .before .before .before .before .before .before .before .before .before .before .before .before .before
-          .blocks) .next (m24 before given)
+
+      abbrev pub m24 : (before : After-drop-and-tell-arg) → (given : s31 (before .before .before .before .before
+          .before .before .before .before .before .before .before .before .before .blocks) .gives
+          (m23 (before .before) (before .drop-and-tell-arg .given))) → Typed.Mo T33
+      m24 = λ before given. s31 (before .before .before .before .before .before .before .before .before .before .before
+          .before .before .before .blocks) .next (m23 (before .before) (before .drop-and-tell-arg .given)) given
+
+      abbrev pub m25 : (before : After-drop-and-tell-arg) → (given : s31 (before .before .before .before .before
+          .before .before .before .before .before .before .before .before .before .blocks) .gives
+          (m23 (before .before) (before .drop-and-tell-arg .given))) → Typed.Mo T34
+      m25 = λ before given. s32 (before .before .before .before .before .before .before .before .before .before .before
+          .before .before .before .blocks) .next (m24 before given)
+
       module _ (before· : After-drop-and-tell-arg) where
         pub record After-drop-and-tell-arg2·own : Type 0 where
-          pub given : s31 (before· .before .before .before .before .before .before .before .before .before .before .before .before .before .blocks)
-              .gives (m23 (before· .before) (before· .drop-and-tell-arg .given))
+          pub given : s31 (before· .before .before .before .before .before .before .before .before .before .before
+              .before .before .before .blocks) .gives (m23 (before· .before) (before· .drop-and-tell-arg .given))
+
       pub record After-drop-and-tell-arg2 : Type 0 where
         pub before : After-drop-and-tell-arg
         pub drop-and-tell-arg2 : After-drop-and-tell-arg2·own before
+
       abbrev pub Need-drop-and-tell-requires : Type 0
-      Need-drop-and-tell-requires = (c : After-drop-and-tell-arg2) → s33 (c .before .before .before .before .before .before .before .before .before
-          .before .before .before .before .before .blocks) .asks (m25 (c .before) (c .drop-and-tell-arg2 .given))
-      abbrev pub m26 : (before : After-drop-and-tell-arg2) → (given : s33 (before .before .before .before .before .before .before .before .before
-          .before .before .before .before .before .before .blocks) .gives (m25 (before .before) (before .drop-and-tell-arg2 .given))) → Typed.Mo T35
-      m26 = λ before given. s33 (before .before .before .before .before .before .before .before .before .before .before .before .before .before
-          .before .blocks) .next (m25 (before .before) (before .drop-and-tell-arg2 .given)) given
+      Need-drop-and-tell-requires = (c : After-drop-and-tell-arg2) → s33 (c .before .before .before .before .before
+          .before .before .before .before .before .before .before .before .before .blocks) .asks
+          (m25 (c .before) (c .drop-and-tell-arg2 .given))
+
+      abbrev pub m26 : (before : After-drop-and-tell-arg2) → (given : s33 (before .before .before .before .before
+          .before .before .before .before .before .before .before .before .before .before .blocks) .gives
+          (m25 (before .before) (before .drop-and-tell-arg2 .given))) → Typed.Mo T35
+      m26 = λ before given. s33 (before .before .before .before .before .before .before .before .before .before .before
+          .before .before .before .before .blocks) .next (m25 (before .before) (before .drop-and-tell-arg2 .given))
+          given
+
       module _ (before· : After-drop-and-tell-arg2) where
         abbrev pub After-drop-and-tell·own : Type 0
-        After-drop-and-tell·own = Called.Called ps·4 r·4 (claims· .9) T34 (record { pos = 21; ty = Syntax.tyRef Syntax.erased Syntax.mut
-            InflightAction.to; ref = λ x. x; }, (record { pos = 23; ty = Syntax.tyRef Syntax.erased Syntax.mut (Syntax.tyInt Syntax.w32); ref = λ x.
-            x; }, (record { pos = 11; st = List.[]; d = 0; at = λ x. x }, (Num.vFld 10 ((Syntax.field 0) ∷ List.[]) 0 λ x. EndPlan.struct .as-values x
-            .0, (record { pos = 12; st = List.[]; d = 0; at = λ x. x }, (record { pos = 5; st = List.[]; d = 0; at = λ x. x }, tt),),),),),) (m25
-            (before· .before) (before· .drop-and-tell-arg2 .given))
+        After-drop-and-tell·own = Called.Called ps·4 r·4 (claims· .9) T34 (
+          record { pos = 21; ty = ref2; ref = λ x. x },
+          (
+            record { pos = 23; ty = ref3; ref = λ x. x },
+            (
+              record { pos = 11; st = List.[]; d = 0; at = λ x. x },
+              (
+                Num.vFld 10 ((Syntax.field 0) ∷ List.[]) 0 λ x. EndPlan.struct .as-values x .0,
+                (
+                  record { pos = 12; st = List.[]; d = 0; at = λ x. x },
+                  (record { pos = 5; st = List.[]; d = 0; at = λ x. x }, tt),
+                ),
+              ),
+            ),
+          ),
+        ) (m25 (before· .before) (before· .drop-and-tell-arg2 .given))
+
       pub record After-drop-and-tell : Type 0 where
         pub before : After-drop-and-tell-arg2
         pub drop-and-tell : After-drop-and-tell·own before
-      abbrev pub After-drop-and-tell·gave : (c : After-drop-and-tell) → s33 (c .before .before .before .before .before .before .before .before .before
-          .before .before .before .before .before .before .blocks) .gives (m25 (c .before .before) (c .before .drop-and-tell-arg2 .given))
-      After-drop-and-tell·gave = λ c. Called.given ps·4 r·4 (claims· .9) T34 (record { pos = 21; ty = Syntax.tyRef Syntax.erased Syntax.mut
-          InflightAction.to; ref = λ x. x; }, (record { pos = 23; ty = Syntax.tyRef Syntax.erased Syntax.mut (Syntax.tyInt Syntax.w32); ref = λ x. x;
-          }, (record { pos = 11; st = List.[]; d = 0; at = λ x. x }, (Num.vFld 10 ((Syntax.field 0) ∷ List.[]) 0 λ x. EndPlan.struct .as-values x .0,
-          (record { pos = 12; st = List.[]; d = 0; at = λ x. x }, (record { pos = 5; st = List.[]; d = 0; at = λ x. x }, tt),),),),),) (m25 (c .before
-          .before) (c .before .drop-and-tell-arg2 .given)) (c .drop-and-tell)
-      abbrev pub m27 : (before : After-drop-and-tell-arg2) → (given : s33 (before .before .before .before .before .before .before .before .before
-          .before .before .before .before .before .before .blocks) .gives (m25 (before .before) (before .drop-and-tell-arg2 .given))) → Typed.Mo T36
-      m27 = λ before given. s34 (before .before .before .before .before .before .before .before .before .before .before .before .before .before
-          .before .blocks) (m26 before given)
-      abbrev pub m28 : (before : After-drop-and-tell-arg2) → (given : s33 (before .before .before .before .before .before .before .before .before
-          .before .before .before .before .before .before .blocks) .gives (m25 (before .before) (before .drop-and-tell-arg2 .given))) → Typed.Mo T37
-      m28 = λ before given. s35 (before .before .before .before .before .before .before .before .before .before .before .before .before .before
-          .before .blocks) (m27 before given)
-      abbrev pub m29 : (before : After-drop-and-tell) → (given : s37 (before .before .before .before .before .before .before .before .before .before
-          .before .before .before .before .before .before .blocks) .gives (m28 (before .before) (After-drop-and-tell·gave before))) → Typed.Mo T39
-      m29 = λ before given. s37 (before .before .before .before .before .before .before .before .before .before .before .before .before .before
-          .before .before .blocks) .next (m28 (before .before) (After-drop-and-tell·gave before)) given
+
+      abbrev pub After-drop-and-tell·gave : (c : After-drop-and-tell) → s33 (c .before .before .before .before .before
+          .before .before .before .before .before .before .before .before .before .before .blocks) .gives (m25
+          (c .before .before) (c .before .drop-and-tell-arg2 .given))
+      After-drop-and-tell·gave = λ c. Called.given ps·4 r·4 (claims· .9) T34 (
+        record { pos = 21; ty = ref2; ref = λ x. x },
+        (
+          record { pos = 23; ty = ref3; ref = λ x. x },
+          (
+            record { pos = 11; st = List.[]; d = 0; at = λ x. x },
+            (
+              Num.vFld 10 ((Syntax.field 0) ∷ List.[]) 0 λ x. EndPlan.struct .as-values x .0,
+              (
+                record { pos = 12; st = List.[]; d = 0; at = λ x. x },
+                (record { pos = 5; st = List.[]; d = 0; at = λ x. x }, tt),
+              ),
+            ),
+          ),
+        ),
+      ) (m25 (c .before .before) (c .before .drop-and-tell-arg2 .given)) (c .drop-and-tell)
+
+      abbrev pub m27 : (before : After-drop-and-tell-arg2) → (given : s33 (before .before .before .before .before
+          .before .before .before .before .before .before .before .before .before .before .blocks) .gives
+          (m25 (before .before) (before .drop-and-tell-arg2 .given))) → Typed.Mo T36
+      m27 = λ before given. s34 (before .before .before .before .before .before .before .before .before .before .before
+          .before .before .before .before .blocks) (m26 before given)
+
+      abbrev pub m28 : (before : After-drop-and-tell-arg2) → (given : s33 (before .before .before .before .before
+          .before .before .before .before .before .before .before .before .before .before .blocks) .gives
+          (m25 (before .before) (before .drop-and-tell-arg2 .given))) → Typed.Mo T37
+      m28 = λ before given. s35 (before .before .before .before .before .before .before .before .before .before .before
+          .before .before .before .before .blocks) (m27 before given)
+
+      abbrev pub m29 : (before : After-drop-and-tell) → (given : s37 (before .before .before .before .before .before
+          .before .before .before .before .before .before .before .before .before .before .blocks) .gives
+          (m28 (before .before) (After-drop-and-tell·gave before))) → Typed.Mo T39
+      m29 = λ before given. s37 (before .before .before .before .before .before .before .before .before .before .before
+          .before .before .before .before .before .blocks) .next
+          (m28 (before .before) (After-drop-and-tell·gave before)) given
+
       module _ (before· : After-drop-and-tell) where
         pub record After-inflight·own : Type 0 where
-          pub given : s37 (before· .before .before .before .before .before .before .before .before .before .before .before .before .before .before
-              .before .blocks) .gives (m28 (before· .before) (After-drop-and-tell·gave before·))
+          pub given : s37 (before· .before .before .before .before .before .before .before .before .before .before
+              .before .before .before .before .before .blocks) .gives
+              (m28 (before· .before) (After-drop-and-tell·gave before·))
+
       pub record After-inflight : Type 0 where
         pub before : After-drop-and-tell
         pub inflight : After-inflight·own before
-      abbrev pub m30 : (before : After-inflight) → (given : s40 (before .before .before .before .before .before .before .before .before .before
-          .before .before .before .before .before .before .before .blocks) .gives (m29 (before .before) (before .inflight .given))) → Typed.Mo T42
-      m30 = λ before given. s40 (before .before .before .before .before .before .before .before .before .before .before .before .before .before
-          .before .before .before .blocks) .next (m29 (before .before) (before .inflight .given)) given
+
+      abbrev pub m30 : (before : After-inflight) → (given : s40 (before .before .before .before .before .before .before
+          .before .before .before .before .before .before .before .before .before .before .blocks) .gives
+          (m29 (before .before) (before .inflight .given))) → Typed.Mo T42
+      m30 = λ before given. s40 (before .before .before .before .before .before .before .before .before .before .before
+          .before .before .before .before .before .before .blocks) .next
+          (m29 (before .before) (before .inflight .given)) given
+
       module _ (before· : After-inflight) where
         pub record After-out·own : Type 0 where
-          pub given : s40 (before· .before .before .before .before .before .before .before .before .before .before .before .before .before .before
-              .before .before .blocks) .gives (m29 (before· .before) (before· .inflight .given))
+          pub given : s40 (before· .before .before .before .before .before .before .before .before .before .before
+              .before .before .before .before .before .before .blocks) .gives
+              (m29 (before· .before) (before· .inflight .given))
+
       pub record After-out : Type 0 where
         pub before : After-inflight
         pub out : After-out·own before
-      abbrev pub m31 : (before : After-out) → (given : s41 (before .before .before .before .before .before .before .before .before .before .before
-          .before .before .before .before .before .before .before .blocks) .gives (m30 (before .before) (before .out .given))) → Typed.Mo T43
-      m31 = λ before given. s41 (before .before .before .before .before .before .before .before .before .before .before .before .before .before
-          .before .before .before .before .blocks) .next (m30 (before .before) (before .out .given)) given
+
+      abbrev pub m31 : (before : After-out) → (given : s41 (before .before .before .before .before .before .before
+          .before .before .before .before .before .before .before .before .before .before .before .blocks) .gives
+          (m30 (before .before) (before .out .given))) → Typed.Mo T43
+      m31 = λ before given. s41 (before .before .before .before .before .before .before .before .before .before .before
+          .before .before .before .before .before .before .before .blocks) .next
+          (m30 (before .before) (before .out .given)) given
+
       module _ (before· : After-out) where
         pub record After-slice-known2·own : Type 0 where
-          pub given : s41 (before· .before .before .before .before .before .before .before .before .before .before .before .before .before .before
-              .before .before .before .blocks) .gives (m30 (before· .before) (before· .out .given))
+          pub given : s41 (before· .before .before .before .before .before .before .before .before .before .before
+              .before .before .before .before .before .before .before .blocks) .gives
+              (m30 (before· .before) (before· .out .given))
+
       pub record After-slice-known2 : Type 0 where
         pub before : After-out
         pub slice-known2 : After-slice-known2·own before
-      abbrev pub m32 : (before : After-slice-known2) → (given : s44 (before .before .before .before .before .before .before .before .before .before
-          .before .before .before .before .before .before .before .before .before .blocks) .gives (m31 (before .before) (before .slice-known2
-          .given))) → Typed.Mo T46
-      m32 = λ before given. s44 (before .before .before .before .before .before .before .before .before .before .before .before .before .before
-          .before .before .before .before .before .blocks) .next (m31 (before .before) (before .slice-known2 .given)) given
-      abbrev pub m33 : (before : After-slice-known2) → (given : s44 (before .before .before .before .before .before .before .before .before .before
-          .before .before .before .before .before .before .before .before .before .blocks) .gives (m31 (before .before) (before .slice-known2
-          .given))) → Typed.Mo T47
-      m33 = λ before given. s45 (before .before .before .before .before .before .before .before .before .before .before .before .before .before
-          .before .before .before .before .before .blocks) .next (m32 before given)
+
+      abbrev pub m32 : (before : After-slice-known2) → (given : s44 (before .before .before .before .before .before
+          .before .before .before .before .before .before .before .before .before .before .before .before .before
+          .blocks) .gives (m31 (before .before) (before .slice-known2 .given))) → Typed.Mo T46
+      m32 = λ before given. s44 (before .before .before .before .before .before .before .before .before .before .before
+          .before .before .before .before .before .before .before .before .blocks) .next
+          (m31 (before .before) (before .slice-known2 .given)) given
+
+      abbrev pub m33 : (before : After-slice-known2) → (given : s44 (before .before .before .before .before .before
+          .before .before .before .before .before .before .before .before .before .before .before .before .before
+          .blocks) .gives (m31 (before .before) (before .slice-known2 .given))) → Typed.Mo T47
+      m33 = λ before given. s45 (before .before .before .before .before .before .before .before .before .before .before
+          .before .before .before .before .before .before .before .before .blocks) .next (m32 before given)
+
       module _ (before· : After-slice-known2) where
         pub record After-tell-notice-arg·own : Type 0 where
-          pub given : s44 (before· .before .before .before .before .before .before .before .before .before .before .before .before .before .before
-              .before .before .before .before .blocks) .gives (m31 (before· .before) (before· .slice-known2 .given))
+          pub given : s44 (before· .before .before .before .before .before .before .before .before .before .before
+              .before .before .before .before .before .before .before .before .blocks) .gives
+              (m31 (before· .before) (before· .slice-known2 .given))
+
       pub record After-tell-notice-arg : Type 0 where
         pub before : After-slice-known2
         pub tell-notice-arg : After-tell-notice-arg·own before
-      abbrev pub m34 : (before : After-tell-notice-arg) → (given : s47 (before .before .before .before .before .before .before .before .before .before
-          .before .before .before .before .before .before .before .before .before .before .blocks) .gives (m33 (before .before) (before
-          .tell-notice-arg .given))) → Typed.Mo T49
-      m34 = λ before given. s47 (before .before .before .before .before .before .before .before .before .before .before .before .before .before
-          .before .before .before .before .before .before .blocks) .next (m33 (before .before) (before .tell-notice-arg .given)) given
-      abbrev pub m35 : (before : After-tell-notice-arg) → (given : s47 (before .before .before .before .before .before .before .before .before .before
-          .before .before .before .before .before .before .before .before .before .before .blocks) .gives (m33 (before .before) (before
-          .tell-notice-arg .given))) → Typed.Mo T50
-      m35 = λ before given. s48 (before .before .before .before .before .before .before .before .before .before .before .before .before .before
-          .before .before .before .before .before .before .blocks) .next (m34 before given)
+
+      abbrev pub m34 : (before : After-tell-notice-arg) → (given : s47 (before .before .before .before .before .before
+          .before .before .before .before .before .before .before .before .before .before .before .before .before
+          .before .blocks) .gives (m33 (before .before) (before .tell-notice-arg .given))) → Typed.Mo T49
+      m34 = λ before given. s47 (before .before .before .before .before .before .before .before .before .before .before
+          .before .before .before .before .before .before .before .before .before .blocks) .next
+          (m33 (before .before) (before .tell-notice-arg .given)) given
+
+      abbrev pub m35 : (before : After-tell-notice-arg) → (given : s47 (before .before .before .before .before .before
+          .before .before .before .before .before .before .before .before .before .before .before .before .before
+          .before .blocks) .gives (m33 (before .before) (before .tell-notice-arg .given))) → Typed.Mo T50
+      m35 = λ before given. s48 (before .before .before .before .before .before .before .before .before .before .before
+          .before .before .before .before .before .before .before .before .before .blocks) .next (m34 before given)
+
       module _ (before· : After-tell-notice-arg) where
         pub record After-tell-notice-arg2·own : Type 0 where
-          pub given : s47 (before· .before .before .before .before .before .before .before .before .before .before .before .before .before .before
-              .before .before .before .before .before .blocks) .gives (m33 (before· .before) (before· .tell-notice-arg .given))
+          pub given : s47 (before· .before .before .before .before .before .before .before .before .before .before
+              .before .before .before .before .before .before .before .before .before .blocks) .gives
+              (m33 (before· .before) (before· .tell-notice-arg .given))
+
       pub record After-tell-notice-arg2 : Type 0 where
         pub before : After-tell-notice-arg
         pub tell-notice-arg2 : After-tell-notice-arg2·own before
+
       abbrev pub Need-tell-notice-requires : Type 0
-      Need-tell-notice-requires = (c : After-tell-notice-arg2) → s49 (c .before .before .before .before .before .before .before .before .before
-          .before .before .before .before .before .before .before .before .before .before .before .blocks) .asks (m35 (c .before) (c .tell-notice-arg2
-          .given))
-      abbrev pub m36 : (before : After-tell-notice-arg2) → (given : s49 (before .before .before .before .before .before .before .before .before
-          .before .before .before .before .before .before .before .before .before .before .before .before .blocks) .gives (m35 (before .before)
-          (before .tell-notice-arg2 .given))) → Typed.Mo T51
-      m36 = λ before given. s49 (before .before .before .before .before .before .before .before .before .before .before .before .before .before
-          .before .before .before .before .before .before .before .blocks) .next (m35 (before .before) (before .tell-notice-arg2 .given)) given
+      Need-tell-notice-requires = (c : After-tell-notice-arg2) → s49 (c .before .before .before .before .before .before
+          .before .before .before .before .before .before .before .before .before .before .before .before .before
+          .before .blocks) .asks (m35 (c .before) (c .tell-notice-arg2 .given))
+
+      abbrev pub m36 : (before : After-tell-notice-arg2) → (given : s49 (before .before .before .before .before .before
+          .before .before .before .before .before .before .before .before .before .before .before .before .before
+          .before .before .blocks) .gives (m35 (before .before) (before .tell-notice-arg2 .given))) → Typed.Mo T51
+      m36 = λ before given. s49 (before .before .before .before .before .before .before .before .before .before .before
+          .before .before .before .before .before .before .before .before .before .before .blocks) .next
+          (m35 (before .before) (before .tell-notice-arg2 .given)) given
+
       module _ (before· : After-tell-notice-arg2) where
         abbrev pub After-tell-notice·own : Type 0
-        After-tell-notice·own = Called.Called ps·5 r·5 (claims· .11) T50 (record { pos = 25; ty = Syntax.tyRef Syntax.erased Syntax.mut
-            InflightAction.to; ref = λ x. x; }, (record { pos = 27; ty = Syntax.tyRef Syntax.erased Syntax.mut (Syntax.tyInt Syntax.w32); ref = λ x.
-            x; }, (Bool.bFld 10 ((Syntax.field 3) ∷ List.[]) 384 λ x. EndPlan.struct .as-values x .1 .1 .1 .0, (record { pos = 14; st = List.[]; d =
-            0; at = λ x. x }, (record { pos = 13; st = List.[]; d = 0; at = λ x. x }, (record { pos = 5; st = List.[]; d = 0; at = λ x. x },
-            tt),),),),),) (m35 (before· .before) (before· .tell-notice-arg2 .given))
+        After-tell-notice·own = Called.Called ps·5 r·5 (claims· .11) T50 (
+          record { pos = 25; ty = ref2; ref = λ x. x },
+          (
+            record { pos = 27; ty = ref3; ref = λ x. x },
+            (
+              Bool.bFld 10 ((Syntax.field 3) ∷ List.[]) 384 λ x. EndPlan.struct .as-values x .1 .1 .1 .0,
+              (
+                record { pos = 14; st = List.[]; d = 0; at = λ x. x },
+                (
+                  record { pos = 13; st = List.[]; d = 0; at = λ x. x },
+                  (record { pos = 5; st = List.[]; d = 0; at = λ x. x }, tt),
+                ),
+              ),
+            ),
+          ),
+        ) (m35 (before· .before) (before· .tell-notice-arg2 .given))
+
       pub record After-tell-notice : Type 0 where
         pub before : After-tell-notice-arg2
         pub tell-notice : After-tell-notice·own before
-      abbrev pub After-tell-notice·gave : (c : After-tell-notice) → s49 (c .before .before .before .before .before .before .before .before .before
-          .before .before .before .before .before .before .before .before .before .before .before .before .blocks) .gives (m35 (c .before .before) (c
-          .before .tell-notice-arg2 .given))
-      After-tell-notice·gave = λ c. Called.given ps·5 r·5 (claims· .11) T50 (record { pos = 25; ty = Syntax.tyRef Syntax.erased Syntax.mut
-          InflightAction.to; ref = λ x. x; }, (record { pos = 27; ty = Syntax.tyRef Syntax.erased Syntax.mut (Syntax.tyInt Syntax.w32); ref = λ x. x;
-          }, (Bool.bFld 10 ((Syntax.field 3) ∷ List.[]) 384 λ x. EndPlan.struct .as-values x .1 .1 .1 .0, (record { pos = 14; st = List.[]; d = 0; at
-          = λ x. x }, (record { pos = 13; st = List.[]; d = 0; at = λ x. x }, (record { pos = 5; st = List.[]; d = 0; at = λ x. x }, tt),),),),),)
-          (m35 (c .before .before) (c .before .tell-notice-arg2 .given)) (c .tell-notice)
-      abbrev pub m37 : (before : After-tell-notice-arg2) → (given : s49 (before .before .before .before .before .before .before .before .before
-          .before .before .before .before .before .before .before .before .before .before .before .before .blocks) .gives (m35 (before .before)
-          (before .tell-notice-arg2 .given))) → Typed.Mo T52
-      m37 = λ before given. s50 (before .before .before .before .before .before .before .before .before .before .before .before .before .before
-          .before .before .before .before .before .before .before .blocks) (m36 before given)
-      abbrev pub m38 : (before : After-tell-notice-arg2) → (given : s49 (before .before .before .before .before .before .before .before .before
-          .before .before .before .before .before .before .before .before .before .before .before .before .blocks) .gives (m35 (before .before)
-          (before .tell-notice-arg2 .given))) → Typed.Mo T53
-      m38 = λ before given. s51 (before .before .before .before .before .before .before .before .before .before .before .before .before .before
-          .before .before .before .before .before .before .before .blocks) (m37 before given)
-      abbrev pub m39 : (before : After-tell-notice-arg2) → (given : s49 (before .before .before .before .before .before .before .before .before
-          .before .before .before .before .before .before .before .before .before .before .before .before .blocks) .gives (m35 (before .before)
-          (before .tell-notice-arg2 .given))) → Typed.Mo T54
-      m39 = λ before given. s52 (before .before .before .before .before .before .before .before .before .before .before .before .before .before
-          .before .before .before .before .before .before .before .blocks) (m38 before given)
-      abbrev pub m40 : (before : After-tell-notice-arg2) → (given : s49 (before .before .before .before .before .before .before .before .before
-          .before .before .before .before .before .before .before .before .before .before .before .before .blocks) .gives (m35 (before .before)
-          (before .tell-notice-arg2 .given))) → Typed.Mo T55
-      m40 = λ before given. s53 (before .before .before .before .before .before .before .before .before .before .before .before .before .before
-          .before .before .before .before .before .before .before .blocks) (m39 before given)
-      abbrev pub m41 : (before : After-tell-notice) → (given : s55 (before .before .before .before .before .before .before .before .before .before
-          .before .before .before .before .before .before .before .before .before .before .before .before .blocks) .gives (m40 (before .before)
-          (After-tell-notice·gave before))) → Typed.Mo T57
-      m41 = λ before given. s55 (before .before .before .before .before .before .before .before .before .before .before .before .before .before
-          .before .before .before .before .before .before .before .before .blocks) .next (m40 (before .before) (After-tell-notice·gave before)) given
+
+      abbrev pub After-tell-notice·gave : (c : After-tell-notice) → s49 (c .before .before .before .before .before
+          .before .before .before .before .before .before .before .before .before .before .before .before .before
+          .before .before .before .blocks) .gives (m35 (c .before .before) (c .before .tell-notice-arg2 .given))
+      After-tell-notice·gave = λ c. Called.given ps·5 r·5 (claims· .11) T50 (
+        record { pos = 25; ty = ref2; ref = λ x. x },
+        (
+          record { pos = 27; ty = ref3; ref = λ x. x },
+          (
+            Bool.bFld 10 ((Syntax.field 3) ∷ List.[]) 384 λ x. EndPlan.struct .as-values x .1 .1 .1 .0,
+            (
+              record { pos = 14; st = List.[]; d = 0; at = λ x. x },
+              (
+                record { pos = 13; st = List.[]; d = 0; at = λ x. x },
+                (record { pos = 5; st = List.[]; d = 0; at = λ x. x }, tt),
+              ),
+            ),
+          ),
+        ),
+      ) (m35 (c .before .before) (c .before .tell-notice-arg2 .given)) (c .tell-notice)
+
+      abbrev pub m37 : (before : After-tell-notice-arg2) → (given : s49 (before .before .before .before .before .before
+          .before .before .before .before .before .before .before .before .before .before .before .before .before
+          .before .before .blocks) .gives (m35 (before .before) (before .tell-notice-arg2 .given))) → Typed.Mo T52
+      m37 = λ before given. s50 (before .before .before .before .before .before .before .before .before .before .before
+          .before .before .before .before .before .before .before .before .before .before .blocks) (m36 before given)
+
+      abbrev pub m38 : (before : After-tell-notice-arg2) → (given : s49 (before .before .before .before .before .before
+          .before .before .before .before .before .before .before .before .before .before .before .before .before
+          .before .before .blocks) .gives (m35 (before .before) (before .tell-notice-arg2 .given))) → Typed.Mo T53
+      m38 = λ before given. s51 (before .before .before .before .before .before .before .before .before .before .before
+          .before .before .before .before .before .before .before .before .before .before .blocks) (m37 before given)
+
+      abbrev pub m39 : (before : After-tell-notice-arg2) → (given : s49 (before .before .before .before .before .before
+          .before .before .before .before .before .before .before .before .before .before .before .before .before
+          .before .before .blocks) .gives (m35 (before .before) (before .tell-notice-arg2 .given))) → Typed.Mo T54
+      m39 = λ before given. s52 (before .before .before .before .before .before .before .before .before .before .before
+          .before .before .before .before .before .before .before .before .before .before .blocks) (m38 before given)
+
+      abbrev pub m40 : (before : After-tell-notice-arg2) → (given : s49 (before .before .before .before .before .before
+          .before .before .before .before .before .before .before .before .before .before .before .before .before
+          .before .before .blocks) .gives (m35 (before .before) (before .tell-notice-arg2 .given))) → Typed.Mo T55
+      m40 = λ before given. s53 (before .before .before .before .before .before .before .before .before .before .before
+          .before .before .before .before .before .before .before .before .before .before .blocks) (m39 before given)
+
+      abbrev pub m41 : (before : After-tell-notice) → (given : s55 (before .before .before .before .before .before
+          .before .before .before .before .before .before .before .before .before .before .before .before .before
+          .before .before .before .blocks) .gives (m40 (before .before) (After-tell-notice·gave before))) → Typed.Mo
+          T57
+      m41 = λ before given. s55 (before .before .before .before .before .before .before .before .before .before .before
+          .before .before .before .before .before .before .before .before .before .before .before .blocks) .next
+          (m40 (before .before) (After-tell-notice·gave before)) given
+
       module _ (before· : After-tell-notice) where
         pub record After-inflight2·own : Type 0 where
-          pub given : s55 (before· .before .before .before .before .before .before .before .before .before .before .before .before .before .before
-              .before .before .before .before .before .before .before .blocks) .gives (m40 (before· .before) (After-tell-notice·gave before·))
+          pub given : s55 (before· .before .before .before .before .before .before .before .before .before .before
+              .before .before .before .before .before .before .before .before .before .before .before .blocks) .gives
+              (m40 (before· .before) (After-tell-notice·gave before·))
+
       pub record After-inflight2 : Type 0 where
         pub before : After-tell-notice
         pub inflight2 : After-inflight2·own before
-      abbrev pub m42 : (before : After-inflight2) → (given : s58 (before .before .before .before .before .before .before .before .before .before
-          .before .before .before .before .before .before .before .before .before .before .before .before .before .blocks) .gives (m41 (before
-          .before) (before .inflight2 .given))) → Typed.Mo T60
-      m42 = λ before given. s58 (before .before .before .before .before .before .before .before .before .before .before .before .before .before
-          .before .before .before .before .before .before .before .before .before .blocks) .next (m41 (before .before) (before .inflight2 .given))
-          given
+
+      abbrev pub m42 : (before : After-inflight2) → (given : s58 (before .before .before .before .before .before
+          .before .before .before .before .before .before .before .before .before .before .before .before .before
+          .before .before .before .before .blocks) .gives (m41 (before .before) (before .inflight2 .given))) → Typed.Mo
+          T60
+      m42 = λ before given. s58 (before .before .before .before .before .before .before .before .before .before .before
+          .before .before .before .before .before .before .before .before .before .before .before .before .blocks)
+          .next (m41 (before .before) (before .inflight2 .given)) given
+
       module _ (before· : After-inflight2) where
         pub record After-out2·own : Type 0 where
-          pub given : s58 (before· .before .before .before .before .before .before .before .before .before .before .before .before .before .before
-              .before .before .before .before .before .before .before .before .blocks) .gives (m41 (before· .before) (before· .inflight2 .given))
+          pub given : s58 (before· .before .before .before .before .before .before .before .before .before .before
+              .before .before .before .before .before .before .before .before .before .before .before .before .blocks)
+              .gives (m41 (before· .before) (before· .inflight2 .given))
+
       pub record After-out2 : Type 0 where
         pub before : After-inflight2
         pub out2 : After-out2·own before
-      abbrev pub m43 : (before : After-out2) → (given : s59 (before .before .before .before .before .before .before .before .before .before .before
-          .before .before .before .before .before .before .before .before .before .before .before .before .before .blocks) .gives (m42 (before
-          .before) (before .out2 .given))) → Typed.Mo T61
-      m43 = λ before given. s59 (before .before .before .before .before .before .before .before .before .before .before .before .before .before
-          .before .before .before .before .before .before .before .before .before .before .blocks) .next (m42 (before .before) (before .out2 .given))
-          given
-      abbrev pub m44 : (before : After-out2) → (given : s59 (before .before .before .before .before .before .before .before .before .before .before
-          .before .before .before .before .before .before .before .before .before .before .before .before .before .blocks) .gives (m42 (before
-          .before) (before .out2 .given))) → Typed.Mo T63
-      m44 = λ before given. s61 (before .before .before .before .before .before .before .before .before .before .before .before .before .before
-          .before .before .before .before .before .before .before .before .before .before .blocks) (m43 before given)
+
+      abbrev pub m43 : (before : After-out2) → (given : s59 (before .before .before .before .before .before .before
+          .before .before .before .before .before .before .before .before .before .before .before .before .before
+          .before .before .before .before .blocks) .gives (m42 (before .before) (before .out2 .given))) → Typed.Mo T61
+      m43 = λ before given. s59 (before .before .before .before .before .before .before .before .before .before .before
+          .before .before .before .before .before .before .before .before .before .before .before .before .before
+          .blocks) .next (m42 (before .before) (before .out2 .given)) given
+
+      abbrev pub m44 : (before : After-out2) → (given : s59 (before .before .before .before .before .before .before
+          .before .before .before .before .before .before .before .before .before .before .before .before .before
+          .before .before .before .before .blocks) .gives (m42 (before .before) (before .out2 .given))) → Typed.Mo T63
+      m44 = λ before given. s61 (before .before .before .before .before .before .before .before .before .before .before
+          .before .before .before .before .before .before .before .before .before .before .before .before .before
+          .blocks) (m43 before given)
+
       module _ (before· : After-out2) where
         pub record After-slice-known3·own : Type 0 where
-          pub given : s59 (before· .before .before .before .before .before .before .before .before .before .before .before .before .before .before
-              .before .before .before .before .before .before .before .before .before .blocks) .gives (m42 (before· .before) (before· .out2 .given))
+          pub given : s59 (before· .before .before .before .before .before .before .before .before .before .before
+              .before .before .before .before .before .before .before .before .before .before .before .before .before
+              .blocks) .gives (m42 (before· .before) (before· .out2 .given))
+
       pub record After-slice-known3 : Type 0 where
         pub before : After-out2
         pub slice-known3 : After-slice-known3·own before
+
       abbrev pub Need-same-length : Type 0
-      Need-same-length = (c : After-slice-known3) → MutSlice.SameLen (Row.get 1 (T63 .locals) (m44 (c .before) (c .slice-known3 .given))) (dens (c
-          .before .before .before .before .before .before .before .before .before .before .before .before .before .before .before .before .before
-          .before .before .before .before .before .before .before .κs) (c .before .before .before .before .before .before .before .before .before
-          .before .before .before .before .before .before .before .before .before .before .before .before .before .before .before .args) .0)
+      Need-same-length = (c : After-slice-known3) → MutSlice.SameLen (Row.get 1 (T63 .locals)
+          (m44 (c .before) (c .slice-known3 .given))) (dens (c .before .before .before .before .before .before .before
+          .before .before .before .before .before .before .before .before .before .before .before .before .before
+          .before .before .before .before .κs) (c .before .before .before .before .before .before .before .before
+          .before .before .before .before .before .before .before .before .before .before .before .before .before
+          .before .before .before .args) .0)
+
       abbrev pub Need-same-length-2 : Type 0
-      Need-same-length-2 = (c : After-slice-known3) → MutSlice.SameLen (Row.get 2 (T63 .locals) (m44 (c .before) (c .slice-known3 .given))) (dens (c
-          .before .before .before .before .before .before .before .before .before .before .before .before .before .before .before .before .before
-          .before .before .before .before .before .before .before .κs) (c .before .before .before .before .before .before .before .before .before
-          .before .before .before .before .before .before .before .before .before .before .before .before .before .before .before .args) .1 .0)
+      Need-same-length-2 = (c : After-slice-known3) → MutSlice.SameLen (Row.get 2 (T63 .locals)
+          (m44 (c .before) (c .slice-known3 .given))) (dens (c .before .before .before .before .before .before .before
+          .before .before .before .before .before .before .before .before .before .before .before .before .before
+          .before .before .before .before .κs) (c .before .before .before .before .before .before .before .before
+          .before .before .before .before .before .before .before .before .before .before .before .before .before
+          .before .before .before .args) .1 .0)
+
       abbrev pub Need-same-length-3 : Type 0
-      Need-same-length-3 = (c : After-slice-known3) → MutSlice.SameLen (Row.get 3 (T63 .locals) (m44 (c .before) (c .slice-known3 .given))) (dens (c
-          .before .before .before .before .before .before .before .before .before .before .before .before .before .before .before .before .before
-          .before .before .before .before .before .before .before .κs) (c .before .before .before .before .before .before .before .before .before
-          .before .before .before .before .before .before .before .before .before .before .before .before .before .before .before .args) .1 .1 .0)
+      Need-same-length-3 = (c : After-slice-known3) → MutSlice.SameLen (Row.get 3 (T63 .locals)
+          (m44 (c .before) (c .slice-known3 .given))) (dens (c .before .before .before .before .before .before .before
+          .before .before .before .before .before .before .before .before .before .before .before .before .before
+          .before .before .before .before .κs) (c .before .before .before .before .before .before .before .before
+          .before .before .before .before .before .before .before .before .before .before .before .before .before
+          .before .before .before .args) .1 .1 .0)
+
       abbrev pub Need-returns : Type 0
-      Need-returns = (c : After-slice-known3) → Post· (c .before .before .before .before .before .before .before .before .before .before .before
-          .before .before .before .before .before .before .before .before .before .before .before .before .before .κs) (dens (c .before .before
-          .before .before .before .before .before .before .before .before .before .before .before .before .before .before .before .before .before
-          .before .before .before .before .before .κs) (c .before .before .before .before .before .before .before .before .before .before .before
-          .before .before .before .before .before .before .before .before .before .before .before .before .before .args)) (Function.resV r (c .before
-          .before .before .before .before .before .before .before .before .before .before .before .before .before .before .before .before .before
-          .before .before .before .before .before .before .κs) (m44 (c .before) (c .slice-known3 .given) .0)) (Clauses.atExit (Kinds.endedOf 3 ps r)
-          (c .before .before .before .before .before .before .before .before .before .before .before .before .before .before .before .before .before
-          .before .before .before .before .before .before .before .κs) (dens (c .before .before .before .before .before .before .before .before
-          .before .before .before .before .before .before .before .before .before .before .before .before .before .before .before .before .κs) (c
-          .before .before .before .before .before .before .before .before .before .before .before .before .before .before .before .before .before
-          .before .before .before .before .before .before .before .args)) (Enter.lastsP (c .before .before .before .before .before .before .before
-          .before .before .before .before .before .before .before .before .before .before .before .before .before .before .before .before .before .κs)
-          1 ps xs (dens (c .before .before .before .before .before .before .before .before .before .before .before .before .before .before .before
-          .before .before .before .before .before .before .before .before .before .κs) (c .before .before .before .before .before .before .before
-          .before .before .before .before .before .before .before .before .before .before .before .before .before .before .before .before .before
-          .args)) (m44 (c .before) (c .slice-known3 .given) .1)))
-      module _ (circuit-at-requires : Need-circuit-at-requires) (circuit-unmarked-requires : Need-circuit-unmarked-requires) (plan-circuit-requires :
-          Need-plan-circuit-requires) (set-circuit-requires : Need-set-circuit-requires) (drop-and-tell-requires : Need-drop-and-tell-requires)
-          (tell-notice-requires : Need-tell-notice-requires) (same-length : Need-same-length) (same-length-2 : Need-same-length-2) (same-length-3 :
-          Need-same-length-3) (returns : Need-returns) where
-        lay6 : (c : After-tell-notice) → at12 (c .before .before .before .before .before .before .before .before .before .before .before .before
-            .before .before .before .before .before .before .before .before .before .blocks) (W0 (c .before .before .before .before .before .before
-            .before .before .before .before .before .before .before .before .before .before .before .before .before .before .before .κs) (c .before
-            .before .before .before .before .before .before .before .before .before .before .before .before .before .before .before .before .before
-            .before .before .before .args) (c .before .before .before .before .before .before .before .before .before .before .before .before .before
-            .before .before .before .before .before .before .before .before .blocks)) (m36 (c .before) (After-tell-notice·gave c))
-        lay6 = λ c. (Path.refl, λ g. (Path.refl, λ g'. λ g''. ((MutSlice.fix-len (Row.get 1 (T63 .locals) (m44 record { before = record { before =
-            record { before = c .before; tell-notice = c .tell-notice }; inflight2 = record { given = g }; }; out2 = record { given = g' }; } g'')
-            .ptr) (Row.get 1 (T63 .locals) (m44 record { before = record { before = record { before = c .before; tell-notice = c .tell-notice };
-            inflight2 = record { given = g }; }; out2 = record { given = g' }; } g'') .name) (Row.get 1 (T63 .locals) (m44 record { before = record {
-            before = record { before = c .before; tell-notice = c .tell-notice }; inflight2 = record { given = g }; }; out2 = record { given = g' }; }
-            g'') .now) (dens (c .before .before .before .before .before .before .before .before .before .before .before .before .before .before
-            .before .before .before .before .before .before .before .κs) (c .before .before .before .before .before .before .before .before .before
-            .before .before .before .before .before .before .before .before .before .before .before .before .args) .0 .now) (same-length record {
-            before = record { before = record { before = record { before = c .before; tell-notice = c .tell-notice }; inflight2 = record { given = g
-            }; }; out2 = record { given = g' }; }; slice-known3 = record { given = g'' }; }), (MutSlice.fix-len (Row.get 2 (T63 .locals) (m44 record {
-            before = record { before = record { before = c .before; tell-notice = c .tell-notice }; inflight2 = record { given = g }; }; out2 = record
-            { given = g' }; } g'') .ptr) (Row.get 2 (T63 .locals) (m44 record { before = record { before = record { before = c .before; tell-notice =
-            c .tell-notice }; inflight2 = record { given = g }; }; out2 = record { given = g' }; } g'') .name) (Row.get 2 (T63 .locals) (m44 record {
-            before = record { before = record { before = c .before; tell-notice = c .tell-notice }; inflight2 = record { given = g }; }; out2 = record
-            { given = g' }; } g'') .now) (dens (c .before .before .before .before .before .before .before .before .before .before .before .before
-            .before .before .before .before .before .before .before .before .before .κs) (c .before .before .before .before .before .before .before
-            .before .before .before .before .before .before .before .before .before .before .before .before .before .before .args) .1 .0 .now)
-            (same-length-2 record { before = record { before = record { before = record { before = c .before; tell-notice = c .tell-notice };
-            inflight2 = record { given = g }; }; out2 = record { given = g' }; }; slice-known3 = record { given = g'' }; }), (MutSlice.fix-len
-            (Row.get 3 (T63 .locals) (m44 record { before = record { before = record { before = c .before; tell-notice = c .tell-notice }; inflight2 =
-            record { given = g }; }; out2 = record { given = g' }; } g'') .ptr) (Row.get 3 (T63 .locals) (m44 record { before = record { before =
-            record { before = c .before; tell-notice = c .tell-notice }; inflight2 = record { given = g }; }; out2 = record { given = g' }; } g'')
-            .name) (Row.get 3 (T63 .locals) (m44 record { before = record { before = record { before = c .before; tell-notice = c .tell-notice };
-            inflight2 = record { given = g }; }; out2 = record { given = g' }; } g'') .now) (dens (c .before .before .before .before .before .before
-            .before .before .before .before .before .before .before .before .before .before .before .before .before .before .before .κs) (c .before
-            .before .before .before .before .before .before .before .before .before .before .before .before .before .before .before .before .before
-            .before .before .before .args) .1 .1 .0 .now) (same-length-3 record { before = record { before = record { before = record { before = c
-            .before; tell-notice = c .tell-notice; }; inflight2 = record { given = g }; }; out2 = record { given = g' }; }; slice-known3 = record {
-            given = g'' }; }), (tt, (tt, (tt, tt))),),),), returns record { before = record { before = record { before = record { before = c .before;
-            tell-notice = c .tell-notice }; inflight2 = record { given = g }; }; out2 = record { given = g' }; }; slice-known3 = record { given = g''
-            }; },),),)
-        lay5 : (c : After-drop-and-tell) → at28 (c .before .before .before .before .before .before .before .before .before .before .before .before
-            .before .before .before .blocks) (W0 (c .before .before .before .before .before .before .before .before .before .before .before .before
-            .before .before .before .κs) (c .before .before .before .before .before .before .before .before .before .before .before .before .before
-            .before .before .args) (c .before .before .before .before .before .before .before .before .before .before .before .before .before .before
-            .before .blocks)) (m26 (c .before) (After-drop-and-tell·gave c))
-        lay5 = λ c. (Path.refl, λ g. (Path.refl, λ g'. λ g''. λ g'3. (Path.refl, λ g'4. (Path.refl, (tell-notice-requires record { before = record {
-            before = record { before = record { before = record { before = record { before = c .before; drop-and-tell = c .drop-and-tell; }; inflight
-            = record { given = g }; }; out = record { given = g' }; }; slice-known2 = record { given = g'' }; }; tell-notice-arg = record { given =
-            g'3 }; }; tell-notice-arg2 = record { given = g'4 }; }, λ g'5. lay6 record { before = record { before = record { before = record { before
-            = record { before = record { before = record { before = c .before; drop-and-tell = c .drop-and-tell; }; inflight = record { given = g };
-            }; out = record { given = g' }; }; slice-known2 = record { given = g'' }; }; tell-notice-arg = record { given = g'3 }; }; tell-notice-arg2
-            = record { given = g'4 }; }; tell-notice = Called.called ps·5 r·5 (claims· .11) T50 (record { pos = 25; ty = Syntax.tyRef Syntax.erased
-            Syntax.mut InflightAction.to; ref = λ x. x; }, (record { pos = 27; ty = Syntax.tyRef Syntax.erased Syntax.mut (Syntax.tyInt Syntax.w32);
-            ref = λ x. x; }, (Bool.bFld 10 ((Syntax.field 3) ∷ List.[]) 384 λ x. EndPlan.struct .as-values x .1 .1 .1 .0, (record { pos = 14; st =
-            List.[]; d = 0; at = λ x. x }, (record { pos = 13; st = List.[]; d = 0; at = λ x. x }, (record { pos = 5; st = List.[]; d = 0; at = λ x. x
-            }, tt),),),),),) (m35 record { before = record { before = record { before = record { before = record { before = c .before; drop-and-tell =
-            c .drop-and-tell; }; inflight = record { given = g }; }; out = record { given = g' }; }; slice-known2 = record { given = g'' }; };
-            tell-notice-arg = record { given = g'3 }; } g'4) g'5; },),),),),)
-        lay4 : (c : After-set-circuit) → at40 (c .before .before .before .before .before .before .before .before .before .before .before .blocks) (W0
-            (c .before .before .before .before .before .before .before .before .before .before .before .κs) (c .before .before .before .before .before
-            .before .before .before .before .before .before .args) (c .before .before .before .before .before .before .before .before .before .before
+      Need-returns = (c : After-slice-known3) → Post· (c .before .before .before .before .before .before .before
+          .before .before .before .before .before .before .before .before .before .before .before .before .before
+          .before .before .before .before .κs) (dens (c .before .before .before .before .before .before .before .before
+          .before .before .before .before .before .before .before .before .before .before .before .before .before
+          .before .before .before .κs) (c .before .before .before .before .before .before .before .before .before
+          .before .before .before .before .before .before .before .before .before .before .before .before .before
+          .before .before .args)) (Function.resV r (c .before .before .before .before .before .before .before .before
+          .before .before .before .before .before .before .before .before .before .before .before .before .before
+          .before .before .before .κs) (m44 (c .before) (c .slice-known3 .given) .0)) (Clauses.atExit
+          (Kinds.endedOf 3 ps r) (c .before .before .before .before .before .before .before .before .before .before
+          .before .before .before .before .before .before .before .before .before .before .before .before .before
+          .before .κs) (dens (c .before .before .before .before .before .before .before .before .before .before .before
+          .before .before .before .before .before .before .before .before .before .before .before .before .before .κs) (c
+          .before .before .before .before .before .before .before .before .before .before .before .before .before
+          .before .before .before .before .before .before .before .before .before .before .before .args)) (Enter.lastsP (c
+          .before .before .before .before .before .before .before .before .before .before .before .before .before
+          .before .before .before .before .before .before .before .before .before .before .before .κs) 1 ps xs (dens (c
+          .before .before .before .before .before .before .before .before .before .before .before .before .before
+          .before .before .before .before .before .before .before .before .before .before .before .κs) (c .before
+          .before .before .before .before .before .before .before .before .before .before .before .before .before
+          .before .before .before .before .before .before .before .before .before .before .args))
+          (m44 (c .before) (c .slice-known3 .given) .1)))
+
+      module _ (circuit-at-requires : Need-circuit-at-requires) (circuit-unmarked-requires :
+          Need-circuit-unmarked-requires) (plan-circuit-requires : Need-plan-circuit-requires)
+          (set-circuit-requires : Need-set-circuit-requires) (drop-and-tell-requires : Need-drop-and-tell-requires)
+          (tell-notice-requires : Need-tell-notice-requires) (same-length : Need-same-length)
+          (same-length-2 : Need-same-length-2) (same-length-3 : Need-same-length-3) (returns : Need-returns) where
+        lay6 : (c : After-tell-notice) → at12 (c .before .before .before .before .before .before .before .before
+            .before .before .before .before .before .before .before .before .before .before .before .before .before
+            .blocks) (W0 (c .before .before .before .before .before .before .before .before .before .before .before
+            .before .before .before .before .before .before .before .before .before .before .κs) (c .before .before
+            .before .before .before .before .before .before .before .before .before .before .before .before .before
+            .before .before .before .before .before .before .args) (c .before .before .before .before .before .before
+            .before .before .before .before .before .before .before .before .before .before .before .before .before
+            .before .before .blocks)) (m36 (c .before) (After-tell-notice·gave c))
+        lay6 = λ c. (
+          Path.refl,
+          λ g. (
+            Path.refl,
+            λ g'. λ g''. (
+              (
+                MutSlice.fix-len (Row.get 1 (T63 .locals) (m44
+                    record {
+                      before = record {
+                        before = record { before = c .before; tell-notice = c .tell-notice };
+                        inflight2 = record { given = g };
+                      };
+                      out2 = record { given = g' };
+                    } g'') .ptr) (Row.get 1 (T63 .locals) (m44
+                    record {
+                      before = record {
+                        before = record { before = c .before; tell-notice = c .tell-notice };
+                        inflight2 = record { given = g };
+                      };
+                      out2 = record { given = g' };
+                    } g'') .name) (Row.get 1 (T63 .locals) (m44
+                    record {
+                      before = record {
+                        before = record { before = c .before; tell-notice = c .tell-notice };
+                        inflight2 = record { given = g };
+                      };
+                      out2 = record { given = g' };
+                    } g'') .now) (dens (c .before .before .before .before .before .before .before .before .before
+                    .before .before .before .before .before .before .before .before .before .before .before .before .κs) (c
+                    .before .before .before .before .before .before .before .before .before .before .before .before
+                    .before .before .before .before .before .before .before .before .before .args) .0 .now) (same-length
+                    record {
+                      before = record {
+                        before = record {
+                          before = record { before = c .before; tell-notice = c .tell-notice };
+                          inflight2 = record { given = g };
+                        };
+                        out2 = record { given = g' };
+                      };
+                      slice-known3 = record { given = g'' };
+                    }),
+                (
+                  MutSlice.fix-len (Row.get 2 (T63 .locals) (m44
+                      record {
+                        before = record {
+                          before = record { before = c .before; tell-notice = c .tell-notice };
+                          inflight2 = record { given = g };
+                        };
+                        out2 = record { given = g' };
+                      } g'') .ptr) (Row.get 2 (T63 .locals) (m44
+                      record {
+                        before = record {
+                          before = record { before = c .before; tell-notice = c .tell-notice };
+                          inflight2 = record { given = g };
+                        };
+                        out2 = record { given = g' };
+                      } g'') .name) (Row.get 2 (T63 .locals) (m44
+                      record {
+                        before = record {
+                          before = record { before = c .before; tell-notice = c .tell-notice };
+                          inflight2 = record { given = g };
+                        };
+                        out2 = record { given = g' };
+                      } g'') .now) (dens (c .before .before .before .before .before .before .before .before .before
+                      .before .before .before .before .before .before .before .before .before .before .before .before
+                      .κs) (c .before .before .before .before .before .before .before .before .before .before .before
+                      .before .before .before .before .before .before .before .before .before .before .args) .1 .0 .now) (same-length-2
+                      record {
+                        before = record {
+                          before = record {
+                            before = record { before = c .before; tell-notice = c .tell-notice };
+                            inflight2 = record { given = g };
+                          };
+                          out2 = record { given = g' };
+                        };
+                        slice-known3 = record { given = g'' };
+                      }),
+                  (
+                    MutSlice.fix-len (Row.get 3 (T63 .locals) (m44
+                        record {
+                          before = record {
+                            before = record { before = c .before; tell-notice = c .tell-notice };
+                            inflight2 = record { given = g };
+                          };
+                          out2 = record { given = g' };
+                        } g'') .ptr) (Row.get 3 (T63 .locals) (m44
+                        record {
+                          before = record {
+                            before = record { before = c .before; tell-notice = c .tell-notice };
+                            inflight2 = record { given = g };
+                          };
+                          out2 = record { given = g' };
+                        } g'') .name) (Row.get 3 (T63 .locals) (m44
+                        record {
+                          before = record {
+                            before = record { before = c .before; tell-notice = c .tell-notice };
+                            inflight2 = record { given = g };
+                          };
+                          out2 = record { given = g' };
+                        } g'') .now) (dens (c .before .before .before .before .before .before .before .before .before
+                        .before .before .before .before .before .before .before .before .before .before .before .before
+                        .κs) (c .before .before .before .before .before .before .before .before .before .before .before
+                        .before .before .before .before .before .before .before .before .before .before .args) .1 .1 .0
+                        .now) (same-length-3 record {
+                          before = record {
+                            before = record {
+                              before = record { before = c .before; tell-notice = c .tell-notice };
+                              inflight2 = record { given = g };
+                            };
+                            out2 = record { given = g' };
+                          };
+                          slice-known3 = record { given = g'' };
+                        }),
+                    (tt, (tt, (tt, tt))),
+                  ),
+                ),
+              ),
+              returns record {
+                before = record {
+                  before = record {
+                    before = record { before = c .before; tell-notice = c .tell-notice };
+                    inflight2 = record { given = g };
+                  };
+                  out2 = record { given = g' };
+                };
+                slice-known3 = record { given = g'' };
+              },
+            ),
+          ),
+        )
+
+        lay5 : (c : After-drop-and-tell) → at28 (c .before .before .before .before .before .before .before .before
+            .before .before .before .before .before .before .before .blocks) (W0 (c .before .before .before .before
+            .before .before .before .before .before .before .before .before .before .before .before .κs) (c .before
+            .before .before .before .before .before .before .before .before .before .before .before .before .before
+            .before .args) (c .before .before .before .before .before .before .before .before .before .before .before
+            .before .before .before .before .blocks)) (m26 (c .before) (After-drop-and-tell·gave c))
+        lay5 = λ c. (
+          Path.refl,
+          λ g. (
+            Path.refl,
+            λ g'. λ g''. λ g'3. (
+              Path.refl,
+              λ g'4. (
+                Path.refl,
+                (
+                  tell-notice-requires record {
+                    before = record {
+                      before = record {
+                        before = record {
+                          before = record {
+                            before = record { before = c .before; drop-and-tell = c .drop-and-tell };
+                            inflight = record { given = g };
+                          };
+                          out = record { given = g' };
+                        };
+                        slice-known2 = record { given = g'' };
+                      };
+                      tell-notice-arg = record { given = g'3 };
+                    };
+                    tell-notice-arg2 = record { given = g'4 };
+                  },
+                  λ g'5. lay6 record {
+                    before = record {
+                      before = record {
+                        before = record {
+                          before = record {
+                            before = record {
+                              before = record { before = c .before; drop-and-tell = c .drop-and-tell };
+                              inflight = record { given = g };
+                            };
+                            out = record { given = g' };
+                          };
+                          slice-known2 = record { given = g'' };
+                        };
+                        tell-notice-arg = record { given = g'3 };
+                      };
+                      tell-notice-arg2 = record { given = g'4 };
+                    };
+                    tell-notice = Called.called ps·5 r·5 (claims· .11) T50 (
+                      record { pos = 25; ty = ref2; ref = λ x. x },
+                      (
+                        record { pos = 27; ty = ref3; ref = λ x. x },
+                        (
+                          Bool.bFld 10 ((Syntax.field 3) ∷ List.[]) 384 λ x. EndPlan.struct .as-values x .1 .1 .1 .0,
+                          (
+                            record { pos = 14; st = List.[]; d = 0; at = λ x. x },
+                            (
+                              record { pos = 13; st = List.[]; d = 0; at = λ x. x },
+                              (record { pos = 5; st = List.[]; d = 0; at = λ x. x }, tt),
+                            ),
+                          ),
+                        ),
+                      ),
+                    ) (m35 record {
+                      before = record {
+                        before = record {
+                          before = record {
+                            before = record { before = c .before; drop-and-tell = c .drop-and-tell };
+                            inflight = record { given = g };
+                          };
+                          out = record { given = g' };
+                        };
+                        slice-known2 = record { given = g'' };
+                      };
+                      tell-notice-arg = record { given = g'3 };
+                    } g'4) g'5;
+                  },
+                ),
+              ),
+            ),
+          ),
+        )
+
+        lay4 : (c : After-set-circuit) → at40 (c .before .before .before .before .before .before .before .before
+            .before .before .before .blocks) (W0 (c .before .before .before .before .before .before .before .before
+            .before .before .before .κs) (c .before .before .before .before .before .before .before .before .before
+            .before .before .args) (c .before .before .before .before .before .before .before .before .before .before
             .before .blocks)) (m18 (c .before) (After-set-circuit·gave c))
-        lay4 = λ c. (Path.refl, λ g. λ g'. (Path.refl, λ g''. (Path.refl, (drop-and-tell-requires record { before = record { before = record { before
-            = record { before = c .before; set-circuit = c .set-circuit }; circuits = record { given = g }; }; drop-and-tell-arg = record { given = g'
-            }; }; drop-and-tell-arg2 = record { given = g'' }; }, λ g'3. lay5 record { before = record { before = record { before = record { before =
-            record { before = c .before; set-circuit = c .set-circuit }; circuits = record { given = g }; }; drop-and-tell-arg = record { given = g'
-            }; }; drop-and-tell-arg2 = record { given = g'' }; }; drop-and-tell = Called.called ps·4 r·4 (claims· .9) T34 (record { pos = 21; ty =
-            Syntax.tyRef Syntax.erased Syntax.mut InflightAction.to; ref = λ x. x; }, (record { pos = 23; ty = Syntax.tyRef Syntax.erased Syntax.mut
-            (Syntax.tyInt Syntax.w32); ref = λ x. x; }, (record { pos = 11; st = List.[]; d = 0; at = λ x. x }, (Num.vFld 10 ((Syntax.field 0) ∷
-            List.[]) 0 λ x. EndPlan.struct .as-values x .0, (record { pos = 12; st = List.[]; d = 0; at = λ x. x }, (record { pos = 5; st = List.[]; d
-            = 0; at = λ x. x }, tt),),),),),) (m25 record { before = record { before = record { before = c .before; set-circuit = c .set-circuit };
-            circuits = record { given = g }; }; drop-and-tell-arg = record { given = g' }; } g'') g'3; },),),),)
-        lay3 : (c : After-plan-circuit) → at49 (c .before .before .before .before .before .before .blocks) (W0 (c .before .before .before .before
-            .before .before .κs) (c .before .before .before .before .before .before .args) (c .before .before .before .before .before .before
-            .blocks)) (m10 (c .before) (After-plan-circuit·gave c))
-        lay3 = λ c. (tt, λ g. (tt, λ g'. (tt, λ g''. λ g'3. (Path.refl, (set-circuit-requires record { before = record { before = record { before =
-            record { before = record { before = c .before; plan-circuit = c .plan-circuit }; after = record { given = g }; }; first = record { given =
-            g' }; }; second = record { given = g'' }; }; set-circuit-arg = record { given = g'3 }; }, λ g'4. lay4 record { before = record { before =
-            record { before = record { before = record { before = record { before = c .before; plan-circuit = c .plan-circuit; }; after = record {
-            given = g }; }; first = record { given = g' }; }; second = record { given = g'' }; }; set-circuit-arg = record { given = g'3 }; };
-            set-circuit = Called.called ps·3 r·3 (claims· .7) T22 (record { pos = 19; ty = Syntax.tyRef Syntax.erased Syntax.mut RelayCircuit.to; ref
-            = λ x. x; }, (Bool.bLit Bool'.true, (Num.vAt 6 λ x. x, (record { pos = 9; st = List.[]; d = 0; at = λ x. x }, tt),),),) (m17 record {
-            before = record { before = record { before = record { before = c .before; plan-circuit = c .plan-circuit }; after = record { given = g };
-            }; first = record { given = g' }; }; second = record { given = g'' }; } g'3) g'4; },),),),),)
-        lay2 : (c : After-circuit-unmarked) → at50 (c .before .before .before .before .before .blocks) (W0 (c .before .before .before .before .before
-            .κs) (c .before .before .before .before .before .args) (c .before .before .before .before .before .blocks)) (m9 (c .before)
-            (After-circuit-unmarked·gave c))
-        lay2 = λ c. (plan-circuit-requires record { before = c .before; circuit-unmarked = c .circuit-unmarked; }, λ g. lay3 record { before = record
-            { before = c .before; circuit-unmarked = c .circuit-unmarked }; plan-circuit = Called.called ps·2 r·2 (claims· .5) T13 (record { pos = 8;
-            st = List.[]; d = 0; at = λ x. x }, (record { pos = 4; st = List.[]; d = 0; at = λ x. x }, tt),) (m9 (c .before)
-            (After-circuit-unmarked·gave c)) g; },)
-        lay1 : (c : After-circuit-at) → at56 (c .before .before .before .before .blocks) (W0 (c .before .before .before .before .κs) (c .before
-            .before .before .before .args) (c .before .before .before .before .blocks)) (m5 (c .before) (After-circuit-at·gave c))
-        lay1 = λ c. (circuit-unmarked-requires record { before = c .before; circuit-at = c .circuit-at }, λ g. lay2 record { before = record { before
-            = c .before; circuit-at = c .circuit-at }; circuit-unmarked = Called.called ps·1 r·1 (claims· .3) T11 (record { pos = 8; st = List.[]; d =
-            0; at = λ x. x }, tt,) (m8 (c .before) (After-circuit-at·gave c)) g; },)
+        lay4 = λ c. (
+          Path.refl,
+          λ g. λ g'. (
+            Path.refl,
+            λ g''. (
+              Path.refl,
+              (
+                drop-and-tell-requires record {
+                  before = record {
+                    before = record {
+                      before = record { before = c .before; set-circuit = c .set-circuit };
+                      circuits = record { given = g };
+                    };
+                    drop-and-tell-arg = record { given = g' };
+                  };
+                  drop-and-tell-arg2 = record { given = g'' };
+                },
+                λ g'3. lay5 record {
+                  before = record {
+                    before = record {
+                      before = record {
+                        before = record { before = c .before; set-circuit = c .set-circuit };
+                        circuits = record { given = g };
+                      };
+                      drop-and-tell-arg = record { given = g' };
+                    };
+                    drop-and-tell-arg2 = record { given = g'' };
+                  };
+                  drop-and-tell = Called.called ps·4 r·4 (claims· .9) T34 (
+                    record { pos = 21; ty = ref2; ref = λ x. x },
+                    (
+                      record { pos = 23; ty = ref3; ref = λ x. x },
+                      (
+                        record { pos = 11; st = List.[]; d = 0; at = λ x. x },
+                        (
+                          Num.vFld 10 ((Syntax.field 0) ∷ List.[]) 0 λ x. EndPlan.struct .as-values x .0,
+                          (
+                            record { pos = 12; st = List.[]; d = 0; at = λ x. x },
+                            (record { pos = 5; st = List.[]; d = 0; at = λ x. x }, tt),
+                          ),
+                        ),
+                      ),
+                    ),
+                  ) (m25 record {
+                    before = record {
+                      before = record { before = c .before; set-circuit = c .set-circuit };
+                      circuits = record { given = g };
+                    };
+                    drop-and-tell-arg = record { given = g' };
+                  } g'') g'3;
+                },
+              ),
+            ),
+          ),
+        )
+
+        lay3 : (c : After-plan-circuit) → at49 (c .before .before .before .before .before .before .blocks) (W0
+            (c .before .before .before .before .before .before .κs)
+            (c .before .before .before .before .before .before .args) (c .before .before .before .before .before
+            .before .blocks)) (m10 (c .before) (After-plan-circuit·gave c))
+        lay3 = λ c. (
+          tt,
+          λ g. (
+            tt,
+            λ g'. (
+              tt,
+              λ g''. λ g'3. (
+                Path.refl,
+                (
+                  set-circuit-requires record {
+                    before = record {
+                      before = record {
+                        before = record {
+                          before = record { before = c .before; plan-circuit = c .plan-circuit };
+                          after = record { given = g };
+                        };
+                        first = record { given = g' };
+                      };
+                      second = record { given = g'' };
+                    };
+                    set-circuit-arg = record { given = g'3 };
+                  },
+                  λ g'4. lay4 record {
+                    before = record {
+                      before = record {
+                        before = record {
+                          before = record {
+                            before = record { before = c .before; plan-circuit = c .plan-circuit };
+                            after = record { given = g };
+                          };
+                          first = record { given = g' };
+                        };
+                        second = record { given = g'' };
+                      };
+                      set-circuit-arg = record { given = g'3 };
+                    };
+                    set-circuit = Called.called ps·3 r·3 (claims· .7) T22 (
+                      record { pos = 19; ty = ref1; ref = λ x. x },
+                      (
+                        Bool.bLit Bool'.true,
+                        (Num.vAt 6 λ x. x, (record { pos = 9; st = List.[]; d = 0; at = λ x. x }, tt)),
+                      ),
+                    ) (m17 record {
+                      before = record {
+                        before = record {
+                          before = record { before = c .before; plan-circuit = c .plan-circuit };
+                          after = record { given = g };
+                        };
+                        first = record { given = g' };
+                      };
+                      second = record { given = g'' };
+                    } g'3) g'4;
+                  },
+                ),
+              ),
+            ),
+          ),
+        )
+
+        lay2 : (c : After-circuit-unmarked) → at50 (c .before .before .before .before .before .blocks) (W0
+            (c .before .before .before .before .before .κs) (c .before .before .before .before .before .args)
+            (c .before .before .before .before .before .blocks)) (m9 (c .before) (After-circuit-unmarked·gave c))
+        lay2 = λ c. (
+          plan-circuit-requires record { before = c .before; circuit-unmarked = c .circuit-unmarked },
+          λ g. lay3 record {
+            before = record { before = c .before; circuit-unmarked = c .circuit-unmarked };
+            plan-circuit = Called.called ps·2 r·2 (claims· .5) T13 (
+              record { pos = 8; st = List.[]; d = 0; at = λ x. x },
+              (record { pos = 4; st = List.[]; d = 0; at = λ x. x }, tt),
+            ) (m9 (c .before) (After-circuit-unmarked·gave c)) g;
+          },
+        )
+
+        lay1 : (c : After-circuit-at) → at56 (c .before .before .before .before .blocks) (W0
+            (c .before .before .before .before .κs) (c .before .before .before .before .args)
+            (c .before .before .before .before .blocks)) (m5 (c .before) (After-circuit-at·gave c))
+        lay1 = λ c. (
+          circuit-unmarked-requires record { before = c .before; circuit-at = c .circuit-at },
+          λ g. lay2 record {
+            before = record { before = c .before; circuit-at = c .circuit-at };
+            circuit-unmarked = Called.called ps·1 r·1 (claims· .3) T11
+                (record { pos = 8; st = List.[]; d = 0; at = λ x. x }, tt) (m8 (c .before) (After-circuit-at·gave c)) g;
+          },
+        )
+
         pub laid : (c : Start) → at62 (c .blocks) (W0 (c .κs) (c .args) (c .blocks)) (m0 (c .κs) (c .args) (c .blocks))
-        laid = λ c. λ g. (tt, λ g'. λ g''. (Path.refl, (circuit-at-requires record { before = record { before = record { before = c; slice-known =
-            record { given = g } }; places = record { given = g' }; }; circuit-at-arg = record { given = g'' }; }, λ g'3. lay1 record { before =
-            record { before = record { before = record { before = c; slice-known = record { given = g } }; places = record { given = g' }; };
-            circuit-at-arg = record { given = g'' }; }; circuit-at = Called.called ps·0 r·0 (claims· .1) T6 (record { pos = 16; ty = Syntax.tyRef
-            Syntax.erased Syntax.imm RelayCircuit.to; ref = λ x. x; }, (record { pos = 7; st = List.[]; d = 0; at = λ x. x }, (Num.vAt 6 λ x. x,
-            tt)),) (m4 record { before = record { before = c; slice-known = record { given = g } }; places = record { given = g' }; } g'') g'3;
-            },),),)
+        laid = λ c. λ g. (
+          tt,
+          λ g'. λ g''. (
+            Path.refl,
+            (
+              circuit-at-requires record {
+                before = record {
+                  before = record { before = c; slice-known = record { given = g } };
+                  places = record { given = g' };
+                };
+                circuit-at-arg = record { given = g'' };
+              },
+              λ g'3. lay1 record {
+                before = record {
+                  before = record {
+                    before = record { before = c; slice-known = record { given = g } };
+                    places = record { given = g' };
+                  };
+                  circuit-at-arg = record { given = g'' };
+                };
+                circuit-at = Called.called ps·0 r·0 (claims· .1) T6 (
+                  record { pos = 16; ty = ref0; ref = λ x. x },
+                  (record { pos = 7; st = List.[]; d = 0; at = λ x. x }, (Num.vAt 6 λ x. x, tt)),
+                ) (m4 record {
+                  before = record { before = c; slice-known = record { given = g } };
+                  places = record { given = g' };
+                } g'') g'3;
+              },
+            ),
+          ),
+        )
+
         module _ (κs : Lifetimes.Lfts 3) (qs : Lifetimes.Shares 3) where
-          pub asked : (a : Kinds.Dens κs ps) → (good : Kinds.GoodsP κs ps a) → (pre : Pre· κs a) → (bs : List.List Nat.ℕ) → Φ bs (Any.wantQ 3 ps r xs
-              m κs qs a (Post· κs a)) (Function.init 3 ps r xs m κs qs a)
-          asked = λ a good pre bs. laid record { κs = κs; args = record { circuits = a .0; inflight = a .1 .0; out = a .1 .1 .0; sending = a .1 .1 .1
-              .0; notice = a .1 .1 .1 .1 .0; place = a .1 .1 .1 .1 .1 .0; }; blocks = bs; good = good; fits = record { place = record { fits = good .1
-              .1 .1 .1 .1 .0 .1 } }; pre = pre; }
-        module _ { M : Type 1 } (𝓤 : URA.URA M) (H : Wp.Heap 𝓤) (A : Atoms.Atoms 𝓤) (W : Kit.Given 𝓤 H A) (𝓣 : Wp.Tables 𝓤 H) (known0 : Plain.Known 𝓤
-            H A W 𝓣 1 ps·0 r·0 (claims· .0) (claims· .1) "hnsr_circuit::tables::circuits::circuit_at") (known1 : Plain.Known 𝓤 H A W 𝓣 0 ps·1 r·1
-            (claims· .2) (claims· .3) "hnsr_circuit::circuits::circuit_unmarked") (known2 : Plain.Known 𝓤 H A W 𝓣 0 ps·2 r·2 (claims· .4) (claims· .5)
-            "hnsr_circuit::revocation::plan_circuit") (known3 : Plain.Known 𝓤 H A W 𝓣 1 ps·3 r·3 (claims· .6) (claims· .7)
-            "hnsr_circuit::tables::circuits::set_circuit") (known4 : Plain.Known 𝓤 H A W 𝓣 2 ps·4 r·4 (claims· .8) (claims· .9)
-            "hnsr_circuit::queue::drop_and_tell") (known5 : Plain.Known 𝓤 H A W 𝓣 2 ps·5 r·5 (claims· .10) (claims· .11)
-            "hnsr_circuit::queue::tell_notice") where
-          pub spec : Statement.Triple 𝓤 (Wp.WpFn 𝓤 H (𝓣 .C) (𝓣 .Λ) (Function.fnOf 3 ps r xs m hs body)) (Function.plainOf 𝓤 H A 3 ps r Pre· Post·)
-          spec = Plain.t-fn-plain 𝓤 H A W 𝓣 3 ps r xs m hs body (λ κs qs bs. Φ bs) (λ κs qs bs bd. typed κs qs 𝓤 H A W 𝓣 (known0, known1, known2,
-              known3, known4, known5,) bs bd) Pre· Post· asked
+          pub asked : (a : Kinds.Dens κs ps) → (good : Kinds.GoodsP κs ps a) → (pre : Pre· κs a) →
+              (bs : List.List Nat.ℕ) → Φ bs (Any.wantQ 3 ps r xs m κs qs a (Post· κs a))
+              (Function.init 3 ps r xs m κs qs a)
+          asked = λ a good pre bs. laid record {
+            κs = κs;
+            args = record {
+              circuits = a .0;
+              inflight = a .1 .0;
+              out = a .1 .1 .0;
+              sending = a .1 .1 .1 .0;
+              notice = a .1 .1 .1 .1 .0;
+              place = a .1 .1 .1 .1 .1 .0;
+            };
+            blocks = bs;
+            good = good;
+            fits = record { place = record { fits = good .1 .1 .1 .1 .1 .0 .1 } };
+            pre = pre;
+          }
+
+        module _ {M : Type 1} (𝓤 : URA.URA M) (H : Wp.Heap 𝓤) (A : Atoms.Atoms 𝓤) (W : Kit.Given 𝓤 H A)
+            (𝓣 : Wp.Tables 𝓤 H) (known0 : Plain.Known 𝓤 H A W 𝓣 1 ps·0 r·0 (claims· .0) (claims· .1)
+            "hnsr_circuit::tables::circuits::circuit_at") (known1 : Plain.Known 𝓤 H A W 𝓣 0 ps·1 r·1 (claims· .2)
+            (claims· .3) "hnsr_circuit::circuits::circuit_unmarked") (known2 : Plain.Known 𝓤 H A W 𝓣 0 ps·2 r·2
+            (claims· .4) (claims· .5) "hnsr_circuit::revocation::plan_circuit") (known3 : Plain.Known 𝓤 H A W 𝓣 1 ps·3
+            r·3 (claims· .6) (claims· .7) "hnsr_circuit::tables::circuits::set_circuit") (known4 : Plain.Known 𝓤 H A W
+            𝓣 2 ps·4 r·4 (claims· .8) (claims· .9) "hnsr_circuit::queue::drop_and_tell") (known5 : Plain.Known 𝓤 H A W
+            𝓣 2 ps·5 r·5 (claims· .10) (claims· .11) "hnsr_circuit::queue::tell_notice") where
+          pub spec : Statement.Triple 𝓤 (Wp.WpFn 𝓤 H (𝓣 .C) (𝓣 .Λ) (Function.fnOf 3 ps r xs m hs body))
+              (Function.plainOf 𝓤 H A 3 ps r Pre· Post·)
+          spec = Plain.t-fn-plain 𝓤 H A W 𝓣 3 ps r xs m hs body (λ κs qs bs. Φ bs) (λ κs qs bs bd. typed κs qs 𝓤 H A W
+              𝓣 (known0, known1, known2, known3, known4, known5) bs bd) Pre· Post· asked

@@ -4,6 +4,7 @@ use Rattle.hnsr_body.proofs.messages.Notice
 use Rattle.hnsr_body.proofs.messages.Notice.Laws
 use Rattle.hnsr_circuit.proofs.By.InflightAction
 use Rattle.hnsr_circuit.proofs.By.RelayCircuit
+use Rattle.hnsr_circuit.proofs.StructRow
 use Rattle.hnsr_circuit.proofs.places.Places
 use Rattle.hnsr_circuit.proofs.places.Places.Laws as Laws'
 use Rattle.hnsr_circuit.proofs.runtime.OpaqueRelayRuntime
@@ -15,6 +16,7 @@ use Rattle.hnsr_circuit.proofs.runtime.Sending.Laws as Laws''''
 use borrow.Author.Called
 use borrow.Author.Tests
 use borrow.Fn.Any
+use borrow.Fn.Args as Args'
 use borrow.Fn.Call
 use borrow.Fn.Enter
 use borrow.Fn.Frame
@@ -24,7 +26,6 @@ use borrow.Fn.Plain
 use borrow.Kind.MutSlice
 use borrow.Kind.Num
 use borrow.Kind.ShrSlice
-use borrow.Kind.Value
 use borrow.Rule.Lifetime
 use borrow.Rule.Local
 use borrow.Rule.Scalar
@@ -42,10 +43,7 @@ use borrow.Table.Rows
 use borrow.Table.Typed
 use contract.Lifetimes
 use denote.Enum.Declared
-use denote.Enum.Laws as Laws'''''
-use denote.Exit
 use denote.Struct.Declared as Declared'
-use denote.Struct.Laws as Laws''''''
 use denote.Triple.Clauses
 use denote.Triple.Statement
 use ghost.Atoms
@@ -62,1477 +60,2382 @@ use mathlib.Core.List.{_∷_}
 
 abbrev ref0 : Syntax.Ty
 ref0 = Syntax.tyRef Syntax.erased Syntax.imm RelayCircuit.to
+
 abbrev ref1 : Syntax.Ty
 ref1 = Syntax.tyRef Syntax.erased Syntax.mut RelayCircuit.to
+
 abbrev ref2 : Syntax.Ty
 ref2 = Syntax.tyRef Syntax.erased Syntax.mut InflightAction.to
+
 abbrev ref3 : Syntax.Ty
 ref3 = Syntax.tyRef Syntax.erased Syntax.mut (Syntax.tyInt Syntax.w32)
+
 abbrev ref4 : Syntax.Ty
 ref4 = Syntax.tyRef (Syntax.named 0) Syntax.mut RelayCircuit.to
+
 abbrev ref5 : Syntax.Ty
 ref5 = Syntax.tyRef (Syntax.named 1) Syntax.mut InflightAction.to
+
 abbrev ref6 : Syntax.Ty
 ref6 = Syntax.tyRef (Syntax.named 2) Syntax.mut (Syntax.tyInt Syntax.w32)
+
+abbrev slice0 : Syntax.Ty
+slice0 = Syntax.tyStruct (38 ∷ 91 ∷ 93 ∷ List.[]) (Syntax.tcons ref0
+    (Syntax.tcons (Syntax.tyInt Syntax.w64) Syntax.tnil))
+
+abbrev slice1 : Syntax.Ty
+slice1 = Syntax.tyStruct (38 ∷ 91 ∷ 93 ∷ List.[]) (Syntax.tcons ref1
+    (Syntax.tcons (Syntax.tyInt Syntax.w64) Syntax.tnil))
+
+abbrev slice2 : Syntax.Ty
+slice2 = Syntax.tyStruct (38 ∷ 91 ∷ 93 ∷ List.[]) (Syntax.tcons ref2
+    (Syntax.tcons (Syntax.tyInt Syntax.w64) Syntax.tnil))
+
+abbrev slice3 : Syntax.Ty
+slice3 = Syntax.tyStruct (38 ∷ 91 ∷ 93 ∷ List.[]) (Syntax.tcons ref3
+    (Syntax.tcons (Syntax.tyInt Syntax.w64) Syntax.tnil))
+
 abbrev pub ps : List.List (Kinds.PK 3)
-ps = (MutSlice.pMutS RelayCircuit.row 0 tt) ∷ (MutSlice.pMutS InflightAction.row 1 tt) ∷ (MutSlice.pMutS (Referent.rtF (Referent.fInt Syntax.w32)) 2
-    tt) ∷ (Value.pVal record { ty = Declared'.row OpaqueRelayRuntime.the-type; one = Path.refl; val = Laws''''''.val OpaqueRelayRuntime.the-type
-    Laws''.the-laws; tells = Laws''''''.tells OpaqueRelayRuntime.the-type Laws''.the-laws; still = Laws''''''.still OpaqueRelayRuntime.the-type
-    Laws''.the-copy Exit.yes; row = Rows.whole (Declared'.row OpaqueRelayRuntime.the-type); rd = λ x. x; mk = λ x. x; } λ M 𝓤 H A W. record { copies =
-    Laws''''''.copy OpaqueRelayRuntime.the-type Laws''.the-copy 𝓤 H A W; lawful = Laws''''''.lawful OpaqueRelayRuntime.the-type Laws''.the-laws 𝓤 H A
-    W; makes = Laws''''''.makes OpaqueRelayRuntime.the-type Laws''.the-plain 𝓤 H A; in-mem = Local.mem-whole 𝓤 H A W (Declared'.row
-    OpaqueRelayRuntime.the-type); of-mem = Local.whole-mem 𝓤 H A W (Declared'.row OpaqueRelayRuntime.the-type); }) ∷ (Value.pVal record { ty =
-    Declared'.row Places.the-type; one = Path.refl; val = Laws''''''.val Places.the-type Laws'.the-laws; tells = Laws''''''.tells Places.the-type
-    Laws'.the-laws; still = Laws''''''.still Places.the-type Laws'.the-copy Exit.yes; row = Rows.whole (Declared'.row Places.the-type); rd = λ x. x;
-    mk = λ x. x; } λ M 𝓤 H A W. record { copies = Laws''''''.copy Places.the-type Laws'.the-copy 𝓤 H A W; lawful = Laws''''''.lawful Places.the-type
-    Laws'.the-laws 𝓤 H A W; makes = Laws''''''.makes Places.the-type Laws'.the-plain 𝓤 H A; in-mem = Local.mem-whole 𝓤 H A W (Declared'.row
-    Places.the-type); of-mem = Local.whole-mem 𝓤 H A W (Declared'.row Places.the-type); }) ∷ (Value.pVal record { ty = Declared.row Notice.the-type;
-    one = Path.refl; val = Laws'''''.val Notice.the-type Laws.the-laws; tells = Laws'''''.tells Notice.the-type Laws.the-laws; still = Laws'''''.still
-    Notice.the-type Laws.the-copy Exit.yes; row = Rows.whole (Declared.row Notice.the-type); rd = λ x. x; mk = λ x. x; } λ M 𝓤 H A W. record { copies
-    = Laws'''''.copy Notice.the-type Laws.the-copy 𝓤 H A W; lawful = Laws'''''.lawful Notice.the-type Laws.the-laws 𝓤 H A W tt; makes =
-    Laws'''''.makes Notice.the-type Laws.the-plain 𝓤 H A; in-mem = Local.mem-whole 𝓤 H A W (Declared.row Notice.the-type); of-mem = Local.whole-mem 𝓤
-    H A W (Declared.row Notice.the-type); }) ∷ (Num.pNum Syntax.w64) ∷ List.[]
+ps = (MutSlice.pMutS RelayCircuit.row 0 tt) ∷ (MutSlice.pMutS InflightAction.row 1 tt) ∷ (MutSlice.pMutS
+    (Referent.rtF (Referent.fInt Syntax.w32)) 2 tt) ∷ (StructRow.param OpaqueRelayRuntime.the-type Laws''.the-laws
+    Laws''.the-copy Laws''.the-plain) ∷ (StructRow.param Places.the-type Laws'.the-laws Laws'.the-copy Laws'.the-plain)
+    ∷ (StructRow.enum-param Notice.the-type Laws.the-laws Laws.the-copy Laws.the-plain tt) ∷ (Num.pNum Syntax.w64) ∷
+    List.[]
+
 abbrev pub r : Kinds.RK 3
-r = Value.rVal record { ty = Declared'.row Relayed.the-type; one = Path.refl; val = Laws''''''.val Relayed.the-type Laws'''.the-laws; tells =
-    Laws''''''.tells Relayed.the-type Laws'''.the-laws; still = Laws''''''.still Relayed.the-type Laws'''.the-copy Exit.yes; row = Rows.whole
-    (Declared'.row Relayed.the-type); rd = λ x. x; mk = λ x. x; } λ M 𝓤 H A W. record { copies = Laws''''''.copy Relayed.the-type Laws'''.the-copy 𝓤 H
-    A W; lawful = Laws''''''.lawful Relayed.the-type Laws'''.the-laws 𝓤 H A W; makes = Laws''''''.makes Relayed.the-type Laws'''.the-plain 𝓤 H A;
-    in-mem = Local.mem-whole 𝓤 H A W (Declared'.row Relayed.the-type); of-mem = Local.whole-mem 𝓤 H A W (Declared'.row Relayed.the-type); }
+r = StructRow.result Relayed.the-type Laws'''.the-laws Laws'''.the-copy Laws'''.the-plain
+
 abbrev pub xs : List.List Syntax.Ty
-xs = Laws''''.mir ∷ (Syntax.tyInt Syntax.w64) ∷ Laws''''.mir ∷ ref0 ∷ (Syntax.tyStruct (38 ∷ 91 ∷ 93 ∷ List.[]) (Syntax.tcons ref0 (Syntax.tcons
-    (Syntax.tyInt Syntax.w64) Syntax.tnil))) ∷ (Syntax.tyInt Syntax.w64) ∷ Syntax.tyBool ∷ ref1 ∷ (Syntax.tyStruct (38 ∷ 91 ∷ 93 ∷ List.[])
-    (Syntax.tcons ref1 (Syntax.tcons (Syntax.tyInt Syntax.w64) Syntax.tnil))) ∷ ref2 ∷ (Syntax.tyStruct (38 ∷ 91 ∷ 93 ∷ List.[]) (Syntax.tcons ref2
-    (Syntax.tcons (Syntax.tyInt Syntax.w64) Syntax.tnil))) ∷ ref3 ∷ (Syntax.tyStruct (38 ∷ 91 ∷ 93 ∷ List.[]) (Syntax.tcons ref3 (Syntax.tcons
-    (Syntax.tyInt Syntax.w64) Syntax.tnil))) ∷ List.[]
+xs = Laws''''.mir ∷ (Syntax.tyInt Syntax.w64) ∷ Laws''''.mir ∷ ref0 ∷ slice0 ∷ (Syntax.tyInt Syntax.w64) ∷
+    Syntax.tyBool ∷ ref1 ∷ slice1 ∷ ref2 ∷ slice2 ∷ ref3 ∷ slice3 ∷ List.[]
+
 abbrev pub m : Nat.ℕ
 m = 4
+
 abbrev pub ps·0 : List.List (Kinds.PK 0)
-ps·0 = (Value.pVal record { ty = Declared'.row OpaqueRelayRuntime.the-type; one = Path.refl; val = Laws''''''.val OpaqueRelayRuntime.the-type
-    Laws''.the-laws; tells = Laws''''''.tells OpaqueRelayRuntime.the-type Laws''.the-laws; still = Laws''''''.still OpaqueRelayRuntime.the-type
-    Laws''.the-copy Exit.yes; row = Rows.whole (Declared'.row OpaqueRelayRuntime.the-type); rd = λ x. x; mk = λ x. x; } λ M 𝓤 H A W. record { copies =
-    Laws''''''.copy OpaqueRelayRuntime.the-type Laws''.the-copy 𝓤 H A W; lawful = Laws''''''.lawful OpaqueRelayRuntime.the-type Laws''.the-laws 𝓤 H A
-    W; makes = Laws''''''.makes OpaqueRelayRuntime.the-type Laws''.the-plain 𝓤 H A; in-mem = Local.mem-whole 𝓤 H A W (Declared'.row
-    OpaqueRelayRuntime.the-type); of-mem = Local.whole-mem 𝓤 H A W (Declared'.row OpaqueRelayRuntime.the-type); }) ∷ (Value.pVal record { ty =
-    Declared'.row Places.the-type; one = Path.refl; val = Laws''''''.val Places.the-type Laws'.the-laws; tells = Laws''''''.tells Places.the-type
-    Laws'.the-laws; still = Laws''''''.still Places.the-type Laws'.the-copy Exit.yes; row = Rows.whole (Declared'.row Places.the-type); rd = λ x. x;
-    mk = λ x. x; } λ M 𝓤 H A W. record { copies = Laws''''''.copy Places.the-type Laws'.the-copy 𝓤 H A W; lawful = Laws''''''.lawful Places.the-type
-    Laws'.the-laws 𝓤 H A W; makes = Laws''''''.makes Places.the-type Laws'.the-plain 𝓤 H A; in-mem = Local.mem-whole 𝓤 H A W (Declared'.row
-    Places.the-type); of-mem = Local.whole-mem 𝓤 H A W (Declared'.row Places.the-type); }) ∷ List.[]
+ps·0 = (StructRow.param OpaqueRelayRuntime.the-type Laws''.the-laws Laws''.the-copy Laws''.the-plain) ∷ (StructRow.param
+    Places.the-type Laws'.the-laws Laws'.the-copy Laws'.the-plain) ∷ List.[]
+
 abbrev pub r·0 : Kinds.RK 0
-r·0 = Value.rVal record { ty = Declared'.row Sending.the-type; one = Path.refl; val = Laws''''''.val Sending.the-type Laws''''.the-laws; tells =
-    Laws''''''.tells Sending.the-type Laws''''.the-laws; still = Laws''''''.still Sending.the-type Laws''''.the-copy Exit.yes; row = Rows.whole
-    (Declared'.row Sending.the-type); rd = λ x. x; mk = λ x. x; } λ M 𝓤 H A W. record { copies = Laws''''''.copy Sending.the-type Laws''''.the-copy 𝓤
-    H A W; lawful = Laws''''''.lawful Sending.the-type Laws''''.the-laws 𝓤 H A W; makes = Laws''''''.makes Sending.the-type Laws''''.the-plain 𝓤 H A;
-    in-mem = Local.mem-whole 𝓤 H A W (Declared'.row Sending.the-type); of-mem = Local.whole-mem 𝓤 H A W (Declared'.row Sending.the-type); }
+r·0 = StructRow.result Sending.the-type Laws''''.the-laws Laws''''.the-copy Laws''''.the-plain
+
 abbrev pub ps·1 : List.List (Kinds.PK 1)
-ps·1 = (ShrSlice.pShrS RelayCircuit.row 0 tt) ∷ (Value.pVal record { ty = Declared'.row Places.the-type; one = Path.refl; val = Laws''''''.val
-    Places.the-type Laws'.the-laws; tells = Laws''''''.tells Places.the-type Laws'.the-laws; still = Laws''''''.still Places.the-type Laws'.the-copy
-    Exit.yes; row = Rows.whole (Declared'.row Places.the-type); rd = λ x. x; mk = λ x. x; } λ M 𝓤 H A W. record { copies = Laws''''''.copy
-    Places.the-type Laws'.the-copy 𝓤 H A W; lawful = Laws''''''.lawful Places.the-type Laws'.the-laws 𝓤 H A W; makes = Laws''''''.makes
-    Places.the-type Laws'.the-plain 𝓤 H A; in-mem = Local.mem-whole 𝓤 H A W (Declared'.row Places.the-type); of-mem = Local.whole-mem 𝓤 H A W
-    (Declared'.row Places.the-type); }) ∷ (Num.pNum Syntax.w64) ∷ List.[]
+ps·1 = (ShrSlice.pShrS RelayCircuit.row 0 tt) ∷ (StructRow.param Places.the-type Laws'.the-laws Laws'.the-copy
+    Laws'.the-plain) ∷ (Num.pNum Syntax.w64) ∷ List.[]
+
 abbrev pub r·1 : Kinds.RK 1
 r·1 = Num.rNum Syntax.w64
+
 abbrev pub ps·2 : List.List (Kinds.PK 3)
-ps·2 = (MutSlice.pMutS RelayCircuit.row 0 tt) ∷ (MutSlice.pMutS InflightAction.row 1 tt) ∷ (MutSlice.pMutS (Referent.rtF (Referent.fInt Syntax.w32)) 2
-    tt) ∷ (Value.pVal record { ty = Declared'.row Sending.the-type; one = Path.refl; val = Laws''''''.val Sending.the-type Laws''''.the-laws; tells =
-    Laws''''''.tells Sending.the-type Laws''''.the-laws; still = Laws''''''.still Sending.the-type Laws''''.the-copy Exit.yes; row = Rows.whole
-    (Declared'.row Sending.the-type); rd = λ x. x; mk = λ x. x; } λ M 𝓤 H A W. record { copies = Laws''''''.copy Sending.the-type Laws''''.the-copy 𝓤
-    H A W; lawful = Laws''''''.lawful Sending.the-type Laws''''.the-laws 𝓤 H A W; makes = Laws''''''.makes Sending.the-type Laws''''.the-plain 𝓤 H A;
-    in-mem = Local.mem-whole 𝓤 H A W (Declared'.row Sending.the-type); of-mem = Local.whole-mem 𝓤 H A W (Declared'.row Sending.the-type); }) ∷
-    (Value.pVal record { ty = Declared.row Notice.the-type; one = Path.refl; val = Laws'''''.val Notice.the-type Laws.the-laws; tells =
-    Laws'''''.tells Notice.the-type Laws.the-laws; still = Laws'''''.still Notice.the-type Laws.the-copy Exit.yes; row = Rows.whole (Declared.row
-    Notice.the-type); rd = λ x. x; mk = λ x. x; } λ M 𝓤 H A W. record { copies = Laws'''''.copy Notice.the-type Laws.the-copy 𝓤 H A W; lawful =
-    Laws'''''.lawful Notice.the-type Laws.the-laws 𝓤 H A W tt; makes = Laws'''''.makes Notice.the-type Laws.the-plain 𝓤 H A; in-mem = Local.mem-whole
-    𝓤 H A W (Declared.row Notice.the-type); of-mem = Local.whole-mem 𝓤 H A W (Declared.row Notice.the-type); }) ∷ (Num.pNum Syntax.w64) ∷ List.[]
+ps·2 = (MutSlice.pMutS RelayCircuit.row 0 tt) ∷ (MutSlice.pMutS InflightAction.row 1 tt) ∷ (MutSlice.pMutS
+    (Referent.rtF (Referent.fInt Syntax.w32)) 2 tt) ∷ (StructRow.param Sending.the-type Laws''''.the-laws
+    Laws''''.the-copy Laws''''.the-plain) ∷ (StructRow.enum-param Notice.the-type Laws.the-laws Laws.the-copy
+    Laws.the-plain tt) ∷ (Num.pNum Syntax.w64) ∷ List.[]
+
 abbrev pub r·2 : Kinds.RK 3
-r·2 = Value.rVal record { ty = Declared'.row Sending.the-type; one = Path.refl; val = Laws''''''.val Sending.the-type Laws''''.the-laws; tells =
-    Laws''''''.tells Sending.the-type Laws''''.the-laws; still = Laws''''''.still Sending.the-type Laws''''.the-copy Exit.yes; row = Rows.whole
-    (Declared'.row Sending.the-type); rd = λ x. x; mk = λ x. x; } λ M 𝓤 H A W. record { copies = Laws''''''.copy Sending.the-type Laws''''.the-copy 𝓤
-    H A W; lawful = Laws''''''.lawful Sending.the-type Laws''''.the-laws 𝓤 H A W; makes = Laws''''''.makes Sending.the-type Laws''''.the-plain 𝓤 H A;
-    in-mem = Local.mem-whole 𝓤 H A W (Declared'.row Sending.the-type); of-mem = Local.whole-mem 𝓤 H A W (Declared'.row Sending.the-type); }
+r·2 = StructRow.result Sending.the-type Laws''''.the-laws Laws''''.the-copy Laws''''.the-plain
+
 abbrev pub ps·3 : List.List (Kinds.PK 0)
-ps·3 = (Value.pVal record { ty = Declared'.row Sending.the-type; one = Path.refl; val = Laws''''''.val Sending.the-type Laws''''.the-laws; tells =
-    Laws''''''.tells Sending.the-type Laws''''.the-laws; still = Laws''''''.still Sending.the-type Laws''''.the-copy Exit.yes; row = Rows.whole
-    (Declared'.row Sending.the-type); rd = λ x. x; mk = λ x. x; } λ M 𝓤 H A W. record { copies = Laws''''''.copy Sending.the-type Laws''''.the-copy 𝓤
-    H A W; lawful = Laws''''''.lawful Sending.the-type Laws''''.the-laws 𝓤 H A W; makes = Laws''''''.makes Sending.the-type Laws''''.the-plain 𝓤 H A;
-    in-mem = Local.mem-whole 𝓤 H A W (Declared'.row Sending.the-type); of-mem = Local.whole-mem 𝓤 H A W (Declared'.row Sending.the-type); }) ∷ List.[]
+ps·3 = (StructRow.param Sending.the-type Laws''''.the-laws Laws''''.the-copy Laws''''.the-plain) ∷ List.[]
+
 abbrev pub r·3 : Kinds.RK 0
-r·3 = Value.rVal record { ty = Declared'.row Relayed.the-type; one = Path.refl; val = Laws''''''.val Relayed.the-type Laws'''.the-laws; tells =
-    Laws''''''.tells Relayed.the-type Laws'''.the-laws; still = Laws''''''.still Relayed.the-type Laws'''.the-copy Exit.yes; row = Rows.whole
-    (Declared'.row Relayed.the-type); rd = λ x. x; mk = λ x. x; } λ M 𝓤 H A W. record { copies = Laws''''''.copy Relayed.the-type Laws'''.the-copy 𝓤 H
-    A W; lawful = Laws''''''.lawful Relayed.the-type Laws'''.the-laws 𝓤 H A W; makes = Laws''''''.makes Relayed.the-type Laws'''.the-plain 𝓤 H A;
-    in-mem = Local.mem-whole 𝓤 H A W (Declared'.row Relayed.the-type); of-mem = Local.whole-mem 𝓤 H A W (Declared'.row Relayed.the-type); }
+r·3 = StructRow.result Relayed.the-type Laws'''.the-laws Laws'''.the-copy Laws'''.the-plain
+
 abbrev pub hs : List.List Syntax.Home
-hs = Syntax.valueLocal ∷ Syntax.valueLocal ∷ Syntax.valueLocal ∷ Syntax.valueLocal ∷ Syntax.valueLocal ∷ Syntax.valueLocal ∷ Syntax.valueLocal ∷
-    Syntax.valueLocal ∷ Syntax.valueLocal ∷ Syntax.valueLocal ∷ Syntax.valueLocal ∷ Syntax.valueLocal ∷ Syntax.valueLocal ∷ Syntax.valueLocal ∷
-    Syntax.valueLocal ∷ Syntax.valueLocal ∷ Syntax.valueLocal ∷ Syntax.valueLocal ∷ Syntax.valueLocal ∷ Syntax.valueLocal ∷ Syntax.valueLocal ∷
-    List.[]
+hs = Syntax.valueLocal ∷ Syntax.valueLocal ∷ Syntax.valueLocal ∷ Syntax.valueLocal ∷ Syntax.valueLocal ∷
+    Syntax.valueLocal ∷ Syntax.valueLocal ∷ Syntax.valueLocal ∷ Syntax.valueLocal ∷ Syntax.valueLocal ∷
+    Syntax.valueLocal ∷ Syntax.valueLocal ∷ Syntax.valueLocal ∷ Syntax.valueLocal ∷ Syntax.valueLocal ∷
+    Syntax.valueLocal ∷ Syntax.valueLocal ∷ Syntax.valueLocal ∷ Syntax.valueLocal ∷ Syntax.valueLocal ∷
+    Syntax.valueLocal ∷ List.[]
+
 abbrev b0 : Syntax.Body
-b0 = Syntax.call "hnsr_circuit::revocation::started" ((Syntax.copy (Syntax.place 4 List.[])) ∷ (Syntax.copy (Syntax.place 5 List.[])) ∷ List.[])
-    (Syntax.place 8 List.[])
+b0 = Syntax.call "hnsr_circuit::revocation::started" ((Syntax.copy (Syntax.place 4 List.[])) ∷
+    (Syntax.copy (Syntax.place 5 List.[])) ∷ List.[]) (Syntax.place 8 List.[])
+
 abbrev b1 : Syntax.Body
-b1 = Syntax.assign (Syntax.place 11 List.[]) (Syntax.addrOf (Syntax.place 1 ((Syntax.field 0) ∷ (Syntax.deref RelayCircuit.ty) ∷ List.[])))
+b1 = Syntax.assign (Syntax.place 11 List.[]) (Syntax.addrOf (Syntax.place 1 ((Syntax.field 0) ∷
+    (Syntax.deref RelayCircuit.ty) ∷ List.[])))
+
 abbrev b2 : Syntax.Body
-b2 = Syntax.assign (Syntax.place 12 List.[]) (Syntax.aggregate ((Syntax.copy (Syntax.place 11 List.[])) ∷ (Syntax.copy (Syntax.place 1 ((Syntax.field
-    1) ∷ List.[]))) ∷ List.[]))
+b2 = Syntax.assign (Syntax.place 12 List.[]) (Syntax.aggregate ((Syntax.copy (Syntax.place 11 List.[])) ∷
+    (Syntax.copy (Syntax.place 1 ((Syntax.field 1) ∷ List.[]))) ∷ List.[]))
+
 abbrev b3 : Syntax.Body
-b3 = Syntax.call "hnsr_circuit::tables::circuits::find_circuit_id" ((Syntax.copy (Syntax.place 12 List.[])) ∷ (Syntax.copy (Syntax.place 5 List.[])) ∷
-    (Syntax.copy (Syntax.place 7 List.[])) ∷ List.[]) (Syntax.place 9 List.[])
+b3 = Syntax.call "hnsr_circuit::tables::circuits::find_circuit_id" ((Syntax.copy (Syntax.place 12 List.[])) ∷
+    (Syntax.copy (Syntax.place 5 List.[])) ∷ (Syntax.copy (Syntax.place 7 List.[])) ∷ List.[]) (Syntax.place 9 List.[])
+
 abbrev b4 : Syntax.Body
 b4 = Syntax.assign (Syntax.place 13 List.[]) (Syntax.rvOpd (Syntax.copy (Syntax.place 1 ((Syntax.field 1) ∷ List.[]))))
+
 abbrev b5 : Syntax.Body
-b5 = Syntax.assign (Syntax.place 14 List.[]) (Syntax.op2 (Syntax.lt Syntax.unsigned) (Syntax.copy (Syntax.place 9 List.[])) (Syntax.copy (Syntax.place
-    13 List.[])))
+b5 = Syntax.assign (Syntax.place 14 List.[]) (Syntax.op2 (Syntax.lt Syntax.unsigned)
+    (Syntax.copy (Syntax.place 9 List.[])) (Syntax.copy (Syntax.place 13 List.[])))
+
 abbrev b6 : Syntax.Body
-b6 = Syntax.assign (Syntax.place 15 List.[]) (Syntax.addrOf (Syntax.place 1 ((Syntax.field 0) ∷ (Syntax.deref RelayCircuit.ty) ∷ List.[])))
+b6 = Syntax.assign (Syntax.place 15 List.[]) (Syntax.addrOf (Syntax.place 1 ((Syntax.field 0) ∷
+    (Syntax.deref RelayCircuit.ty) ∷ List.[])))
+
 abbrev b7 : Syntax.Body
-b7 = Syntax.assign (Syntax.place 16 List.[]) (Syntax.aggregate ((Syntax.copy (Syntax.place 15 List.[])) ∷ (Syntax.copy (Syntax.place 1 ((Syntax.field
-    1) ∷ List.[]))) ∷ List.[]))
+b7 = Syntax.assign (Syntax.place 16 List.[]) (Syntax.aggregate ((Syntax.copy (Syntax.place 15 List.[])) ∷
+    (Syntax.copy (Syntax.place 1 ((Syntax.field 1) ∷ List.[]))) ∷ List.[]))
+
 abbrev b8 : Syntax.Body
-b8 = Syntax.assign (Syntax.place 17 List.[]) (Syntax.addrOf (Syntax.place 2 ((Syntax.field 0) ∷ (Syntax.deref InflightAction.ty) ∷ List.[])))
+b8 = Syntax.assign (Syntax.place 17 List.[]) (Syntax.addrOf (Syntax.place 2 ((Syntax.field 0) ∷
+    (Syntax.deref InflightAction.ty) ∷ List.[])))
+
 abbrev b9 : Syntax.Body
-b9 = Syntax.assign (Syntax.place 18 List.[]) (Syntax.aggregate ((Syntax.copy (Syntax.place 17 List.[])) ∷ (Syntax.copy (Syntax.place 2 ((Syntax.field
-    1) ∷ List.[]))) ∷ List.[]))
+b9 = Syntax.assign (Syntax.place 18 List.[]) (Syntax.aggregate ((Syntax.copy (Syntax.place 17 List.[])) ∷
+    (Syntax.copy (Syntax.place 2 ((Syntax.field 1) ∷ List.[]))) ∷ List.[]))
+
 abbrev b10 : Syntax.Body
-b10 = Syntax.assign (Syntax.place 19 List.[]) (Syntax.addrOf (Syntax.place 3 ((Syntax.field 0) ∷ (Syntax.deref (Syntax.tyInt Syntax.w32)) ∷ List.[])))
+b10 = Syntax.assign (Syntax.place 19 List.[]) (Syntax.addrOf (Syntax.place 3 ((Syntax.field 0) ∷
+    (Syntax.deref (Syntax.tyInt Syntax.w32)) ∷ List.[])))
+
 abbrev b11 : Syntax.Body
-b11 = Syntax.assign (Syntax.place 20 List.[]) (Syntax.aggregate ((Syntax.copy (Syntax.place 19 List.[])) ∷ (Syntax.copy (Syntax.place 3 ((Syntax.field
-    1) ∷ List.[]))) ∷ List.[]))
+b11 = Syntax.assign (Syntax.place 20 List.[]) (Syntax.aggregate ((Syntax.copy (Syntax.place 19 List.[])) ∷
+    (Syntax.copy (Syntax.place 3 ((Syntax.field 1) ∷ List.[]))) ∷ List.[]))
+
 abbrev b12 : Syntax.Body
-b12 = Syntax.call "hnsr_circuit::revocation::revoke_circuit" ((Syntax.copy (Syntax.place 16 List.[])) ∷ (Syntax.copy (Syntax.place 18 List.[])) ∷
-    (Syntax.copy (Syntax.place 20 List.[])) ∷ (Syntax.copy (Syntax.place 8 List.[])) ∷ (Syntax.copy (Syntax.place 6 List.[])) ∷ (Syntax.copy
-    (Syntax.place 9 List.[])) ∷ List.[]) (Syntax.place 10 List.[])
+b12 = Syntax.call "hnsr_circuit::revocation::revoke_circuit" ((Syntax.copy (Syntax.place 16 List.[])) ∷
+    (Syntax.copy (Syntax.place 18 List.[])) ∷ (Syntax.copy (Syntax.place 20 List.[])) ∷
+    (Syntax.copy (Syntax.place 8 List.[])) ∷ (Syntax.copy (Syntax.place 6 List.[])) ∷
+    (Syntax.copy (Syntax.place 9 List.[])) ∷ List.[]) (Syntax.place 10 List.[])
+
 abbrev b13 : Syntax.Body
-b13 = Syntax.call "hnsr_circuit::revocation::finished" ((Syntax.copy (Syntax.place 10 List.[])) ∷ List.[]) (Syntax.place 0 List.[])
+b13 = Syntax.call "hnsr_circuit::revocation::finished" ((Syntax.copy (Syntax.place 10 List.[])) ∷ List.[])
+    (Syntax.place 0 List.[])
+
 abbrev b14 : Syntax.Body
 b14 = Syntax.return
+
 abbrev b15 : Syntax.Body
 b15 = Syntax.seq b13 b14
+
 abbrev b16 : Syntax.Body
 b16 = Syntax.seq b12 b15
+
 abbrev b17 : Syntax.Body
 b17 = Syntax.seq b11 b16
+
 abbrev b18 : Syntax.Body
 b18 = Syntax.seq b10 b17
+
 abbrev b19 : Syntax.Body
 b19 = Syntax.seq b9 b18
+
 abbrev b20 : Syntax.Body
 b20 = Syntax.seq b8 b19
+
 abbrev b21 : Syntax.Body
 b21 = Syntax.seq b7 b20
+
 abbrev b22 : Syntax.Body
 b22 = Syntax.seq b6 b21
+
 abbrev b23 : Syntax.Body
 b23 = Syntax.skip
+
 abbrev b24 : Syntax.Body
 b24 = Syntax.cond (Syntax.copy (Syntax.place 14 List.[])) b22 b23
+
 abbrev b25 : Syntax.Body
-b25 = Syntax.call "hnsr_circuit::revocation::finished" ((Syntax.copy (Syntax.place 8 List.[])) ∷ List.[]) (Syntax.place 0 List.[])
+b25 = Syntax.call "hnsr_circuit::revocation::finished" ((Syntax.copy (Syntax.place 8 List.[])) ∷ List.[])
+    (Syntax.place 0 List.[])
+
 abbrev b26 : Syntax.Body
 b26 = Syntax.return
+
 abbrev b27 : Syntax.Body
 b27 = Syntax.seq b25 b26
+
 abbrev b28 : Syntax.Body
 b28 = Syntax.seq b24 b27
+
 abbrev b29 : Syntax.Body
 b29 = Syntax.seq b5 b28
+
 abbrev b30 : Syntax.Body
 b30 = Syntax.seq b4 b29
+
 abbrev b31 : Syntax.Body
 b31 = Syntax.seq b3 b30
+
 abbrev b32 : Syntax.Body
 b32 = Syntax.seq b2 b31
+
 abbrev b33 : Syntax.Body
 b33 = Syntax.seq b1 b32
+
 abbrev b34 : Syntax.Body
 b34 = Syntax.seq b0 b33
+
 abbrev pub body : Syntax.Body
 body = b34
+
 abbrev pub Claims : Type 1
-Claims = Kinds.In 0 ps·0 × Kinds.Out 0 ps·0 r·0 × Kinds.In 1 ps·1 × Kinds.Out 1 ps·1 r·1 × Kinds.In 3 ps·2 × Kinds.Out 3 ps·2 r·2 × Kinds.In 0 ps·3 ×
-    Kinds.Out 0 ps·3 r·3
+Claims = Kinds.In 0 ps·0 × Kinds.Out 0 ps·0 r·0 × Kinds.In 1 ps·1 × Kinds.Out 1 ps·1 r·1 × Kinds.In 3 ps·2 × Kinds.Out
+    3 ps·2 r·2 × Kinds.In 0 ps·3 × Kinds.Out 0 ps·3 r·3
+
 abbrev e0 : Row.Entry
 e0 = (0, Rows.any-gone Laws'''.mir)
+
 abbrev e1 : Row.Entry
 e1 = (1, Mut.mslice RelayCircuit.row ref4 0)
+
 abbrev e2 : Row.Entry
 e2 = (2, Mut.mslice InflightAction.row ref5 1)
+
 abbrev e3 : Row.Entry
 e3 = (3, Mut.mslice (Referent.rtF (Referent.fInt Syntax.w32)) ref6 2)
+
 abbrev e4 : Row.Entry
 e4 = (4, Rows.whole (Declared'.row OpaqueRelayRuntime.the-type))
+
 abbrev e5 : Row.Entry
 e5 = (5, Rows.whole (Declared'.row Places.the-type))
+
 abbrev e6 : Row.Entry
 e6 = (6, Rows.whole (Declared.row Notice.the-type))
+
 abbrev e7 : Row.Entry
 e7 = (7, Rows.sc-here (Row.sInt Syntax.w64))
+
 abbrev e8 : Row.Entry
 e8 = (8, Rows.any-gone Laws''''.mir)
+
 abbrev e9 : Row.Entry
 e9 = (9, Rows.any-gone (Syntax.tyInt Syntax.w64))
+
 abbrev e10 : Row.Entry
 e10 = (10, Rows.any-gone Laws''''.mir)
+
 abbrev e11 : Row.Entry
 e11 = (11, Rows.any-gone ref0)
+
 abbrev e12 : Row.Entry
-e12 = (12, Rows.any-gone (Syntax.tyStruct (38 ∷ 91 ∷ 93 ∷ List.[]) (Syntax.tcons ref0 (Syntax.tcons (Syntax.tyInt Syntax.w64) Syntax.tnil))))
+e12 = (12, Rows.any-gone slice0)
+
 abbrev e13 : Row.Entry
 e13 = (13, Rows.any-gone (Syntax.tyInt Syntax.w64))
+
 abbrev e14 : Row.Entry
 e14 = (14, Rows.any-gone Syntax.tyBool)
+
 abbrev e15 : Row.Entry
 e15 = (15, Rows.any-gone ref1)
+
 abbrev e16 : Row.Entry
-e16 = (16, Rows.any-gone (Syntax.tyStruct (38 ∷ 91 ∷ 93 ∷ List.[]) (Syntax.tcons ref1 (Syntax.tcons (Syntax.tyInt Syntax.w64) Syntax.tnil))))
+e16 = (16, Rows.any-gone slice1)
+
 abbrev e17 : Row.Entry
 e17 = (17, Rows.any-gone ref2)
+
 abbrev e18 : Row.Entry
-e18 = (18, Rows.any-gone (Syntax.tyStruct (38 ∷ 91 ∷ 93 ∷ List.[]) (Syntax.tcons ref2 (Syntax.tcons (Syntax.tyInt Syntax.w64) Syntax.tnil))))
+e18 = (18, Rows.any-gone slice2)
+
 abbrev e19 : Row.Entry
 e19 = (19, Rows.any-gone ref3)
+
 abbrev e20 : Row.Entry
-e20 = (20, Rows.any-gone (Syntax.tyStruct (38 ∷ 91 ∷ 93 ∷ List.[]) (Syntax.tcons ref3 (Syntax.tcons (Syntax.tyInt Syntax.w64) Syntax.tnil))))
+e20 = (20, Rows.any-gone slice3)
+
 abbrev e0·1 : Row.Entry
 e0·1 = (0, Rows.whole (Declared'.row Relayed.the-type))
+
 abbrev e4·1 : Row.Entry
 e4·1 = (4, Rows.any-gone Laws''.mir)
+
 abbrev e5·1 : Row.Entry
 e5·1 = (5, Rows.any-gone Laws'.mir)
+
 abbrev e6·1 : Row.Entry
 e6·1 = (6, Rows.any-gone Laws.mir)
+
 abbrev e7·1 : Row.Entry
 e7·1 = (7, Rows.any-gone (Syntax.tyInt Syntax.w64))
+
 abbrev e8·1 : Row.Entry
 e8·1 = (8, Rows.whole (Declared'.row Sending.the-type))
+
 abbrev e1·1 : Row.Entry
 e1·1 = (1, Reshare.mslice-owedS RelayCircuit.row ref4 0 3 Row.off)
+
 abbrev e11·1 : Row.Entry
 e11·1 = (11, Relend.ssptr RelayCircuit.row ref0 3)
+
 abbrev e12·1 : Row.Entry
 e12·1 = (12, Rows.sslice RelayCircuit.row ref0 3)
+
 abbrev e9·1 : Row.Entry
 e9·1 = (9, Rows.sc-here (Row.sInt Syntax.w64))
+
 abbrev e13·1 : Row.Entry
 e13·1 = (13, Rows.sc-here (Row.sInt Syntax.w64))
+
 abbrev e14·1 : Row.Entry
 e14·1 = (14, Rows.sc-here Row.sBool)
+
 abbrev e1·2 : Row.Entry
 e1·2 = (1, Relend.mslice-owed RelayCircuit.row ref4 0 4 Row.off)
+
 abbrev e15·1 : Row.Entry
 e15·1 = (15, Relend.msptr RelayCircuit.row ref1 4)
+
 abbrev e16·1 : Row.Entry
 e16·1 = (16, Mut.mslice RelayCircuit.row ref1 4)
+
 abbrev e2·1 : Row.Entry
 e2·1 = (2, Relend.mslice-owed InflightAction.row ref5 1 5 Row.off)
+
 abbrev e17·1 : Row.Entry
 e17·1 = (17, Relend.msptr InflightAction.row ref2 5)
+
 abbrev e18·1 : Row.Entry
 e18·1 = (18, Mut.mslice InflightAction.row ref2 5)
+
 abbrev e3·1 : Row.Entry
 e3·1 = (3, Relend.mslice-owed (Referent.rtF (Referent.fInt Syntax.w32)) ref6 2 6 Row.off)
+
 abbrev e19·1 : Row.Entry
 e19·1 = (19, Relend.msptr (Referent.rtF (Referent.fInt Syntax.w32)) ref3 6)
+
 abbrev e20·1 : Row.Entry
 e20·1 = (20, Mut.mslice (Referent.rtF (Referent.fInt Syntax.w32)) ref3 6)
+
 abbrev e10·1 : Row.Entry
 e10·1 = (10, Rows.whole (Declared'.row Sending.the-type))
+
 abbrev e16·2 : Row.Entry
 e16·2 = (16, Mut.msleft RelayCircuit.row ref1)
+
 abbrev e18·2 : Row.Entry
 e18·2 = (18, Mut.msleft InflightAction.row ref2)
+
 abbrev e20·2 : Row.Entry
 e20·2 = (20, Mut.msleft (Referent.rtF (Referent.fInt Syntax.w32)) ref3)
+
 abbrev pub t0 : List.List Row.Entry
 t0 = e0 ∷ e1 ∷ e2 ∷ e3 ∷ e4 ∷ e5 ∷ e6 ∷ e7 ∷ e8 ∷ e9 ∷ e10 ∷ e11 ∷ e12 ∷ e13 ∷ e14 ∷ e15 ∷ List.[]
+
 abbrev pub t1 : List.List Row.Entry
 t1 = e16 ∷ e17 ∷ e18 ∷ e19 ∷ e20 ∷ List.[]
+
 abbrev pub t2 : List.List Row.Entry
 t2 = e0·1 ∷ e1 ∷ e2 ∷ e3 ∷ e4·1 ∷ e5·1 ∷ e6·1 ∷ e7·1 ∷ e8 ∷ e9 ∷ e10 ∷ e11 ∷ e12 ∷ e13 ∷ e14 ∷ e15 ∷ List.[]
+
 abbrev pub t3 : List.List Row.Entry
 t3 = e0 ∷ e1 ∷ e2 ∷ e3 ∷ e4 ∷ e5 ∷ e6 ∷ e7 ∷ e8·1 ∷ e9 ∷ e10 ∷ e11 ∷ e12 ∷ e13 ∷ e14 ∷ e15 ∷ List.[]
+
 abbrev pub t4 : List.List Row.Entry
 t4 = e0 ∷ e1 ∷ e2 ∷ e3 ∷ e4·1 ∷ e5 ∷ e6 ∷ e7 ∷ e8·1 ∷ e9 ∷ e10 ∷ e11 ∷ e12 ∷ e13 ∷ e14 ∷ e15 ∷ List.[]
+
 abbrev pub t5 : List.List Row.Entry
 t5 = e0 ∷ e1·1 ∷ e2 ∷ e3 ∷ e4·1 ∷ e5 ∷ e6 ∷ e7 ∷ e8·1 ∷ e9 ∷ e10 ∷ e11·1 ∷ e12 ∷ e13 ∷ e14 ∷ e15 ∷ List.[]
+
 abbrev pub t6 : List.List Row.Entry
 t6 = e0 ∷ e1·1 ∷ e2 ∷ e3 ∷ e4·1 ∷ e5 ∷ e6 ∷ e7 ∷ e8·1 ∷ e9 ∷ e10 ∷ e11 ∷ e12·1 ∷ e13 ∷ e14 ∷ e15 ∷ List.[]
+
 abbrev pub t7 : List.List Row.Entry
 t7 = e0 ∷ e1·1 ∷ e2 ∷ e3 ∷ e4·1 ∷ e5 ∷ e6 ∷ e7 ∷ e8·1 ∷ e9·1 ∷ e10 ∷ e11 ∷ e12·1 ∷ e13 ∷ e14 ∷ e15 ∷ List.[]
+
 abbrev pub t8 : List.List Row.Entry
 t8 = e0 ∷ e1·1 ∷ e2 ∷ e3 ∷ e4·1 ∷ e5 ∷ e6 ∷ e7 ∷ e8·1 ∷ e9·1 ∷ e10 ∷ e11 ∷ e12 ∷ e13 ∷ e14 ∷ e15 ∷ List.[]
+
 abbrev pub t9 : List.List Row.Entry
 t9 = e0 ∷ e1·1 ∷ e2 ∷ e3 ∷ e4·1 ∷ e5·1 ∷ e6 ∷ e7 ∷ e8·1 ∷ e9·1 ∷ e10 ∷ e11 ∷ e12 ∷ e13 ∷ e14 ∷ e15 ∷ List.[]
+
 abbrev pub t10 : List.List Row.Entry
 t10 = e0 ∷ e1 ∷ e2 ∷ e3 ∷ e4·1 ∷ e5·1 ∷ e6 ∷ e7 ∷ e8·1 ∷ e9·1 ∷ e10 ∷ e11 ∷ e12 ∷ e13 ∷ e14 ∷ e15 ∷ List.[]
+
 abbrev pub t11 : List.List Row.Entry
 t11 = e0 ∷ e1 ∷ e2 ∷ e3 ∷ e4·1 ∷ e5·1 ∷ e6 ∷ e7 ∷ e8·1 ∷ e9·1 ∷ e10 ∷ e11 ∷ e12 ∷ e13·1 ∷ e14 ∷ e15 ∷ List.[]
+
 abbrev pub t12 : List.List Row.Entry
 t12 = e0 ∷ e1 ∷ e2 ∷ e3 ∷ e4·1 ∷ e5·1 ∷ e6 ∷ e7 ∷ e8·1 ∷ e9·1 ∷ e10 ∷ e11 ∷ e12 ∷ e13·1 ∷ e14·1 ∷ e15 ∷ List.[]
+
 abbrev pub t13 : List.List Row.Entry
 t13 = e0 ∷ e1 ∷ e2 ∷ e3 ∷ e4·1 ∷ e5·1 ∷ e6·1 ∷ e7 ∷ e8·1 ∷ e9·1 ∷ e10 ∷ e11 ∷ e12 ∷ e13 ∷ e14 ∷ e15 ∷ List.[]
+
 abbrev pub t14 : List.List Row.Entry
 t14 = e0 ∷ e1 ∷ e2 ∷ e3 ∷ e4·1 ∷ e5·1 ∷ e6 ∷ e7 ∷ e8·1 ∷ e9·1 ∷ e10 ∷ e11 ∷ e12 ∷ e13 ∷ e14·1 ∷ e15 ∷ List.[]
+
 abbrev pub t15 : List.List Row.Entry
 t15 = e0 ∷ e1·2 ∷ e2 ∷ e3 ∷ e4·1 ∷ e5·1 ∷ e6 ∷ e7 ∷ e8·1 ∷ e9·1 ∷ e10 ∷ e11 ∷ e12 ∷ e13 ∷ e14 ∷ e15·1 ∷ List.[]
+
 abbrev pub t16 : List.List Row.Entry
 t16 = e0 ∷ e1·2 ∷ e2 ∷ e3 ∷ e4·1 ∷ e5·1 ∷ e6 ∷ e7 ∷ e8·1 ∷ e9·1 ∷ e10 ∷ e11 ∷ e12 ∷ e13 ∷ e14 ∷ e15 ∷ List.[]
+
 abbrev pub t17 : List.List Row.Entry
 t17 = e16·1 ∷ e17 ∷ e18 ∷ e19 ∷ e20 ∷ List.[]
+
 abbrev pub t18 : List.List Row.Entry
 t18 = e0 ∷ e1·2 ∷ e2·1 ∷ e3 ∷ e4·1 ∷ e5·1 ∷ e6 ∷ e7 ∷ e8·1 ∷ e9·1 ∷ e10 ∷ e11 ∷ e12 ∷ e13 ∷ e14 ∷ e15 ∷ List.[]
+
 abbrev pub t19 : List.List Row.Entry
 t19 = e16·1 ∷ e17·1 ∷ e18 ∷ e19 ∷ e20 ∷ List.[]
+
 abbrev pub t20 : List.List Row.Entry
 t20 = e16·1 ∷ e17 ∷ e18·1 ∷ e19 ∷ e20 ∷ List.[]
+
 abbrev pub t21 : List.List Row.Entry
 t21 = e0 ∷ e1·2 ∷ e2·1 ∷ e3·1 ∷ e4·1 ∷ e5·1 ∷ e6 ∷ e7 ∷ e8·1 ∷ e9·1 ∷ e10 ∷ e11 ∷ e12 ∷ e13 ∷ e14 ∷ e15 ∷ List.[]
+
 abbrev pub t22 : List.List Row.Entry
 t22 = e16·1 ∷ e17 ∷ e18·1 ∷ e19·1 ∷ e20 ∷ List.[]
+
 abbrev pub t23 : List.List Row.Entry
 t23 = e16·1 ∷ e17 ∷ e18·1 ∷ e19 ∷ e20·1 ∷ List.[]
+
 abbrev pub t24 : List.List Row.Entry
 t24 = e0 ∷ e1·2 ∷ e2·1 ∷ e3·1 ∷ e4·1 ∷ e5·1 ∷ e6 ∷ e7 ∷ e8·1 ∷ e9·1 ∷ e10·1 ∷ e11 ∷ e12 ∷ e13 ∷ e14 ∷ e15 ∷ List.[]
+
 abbrev pub t25 : List.List Row.Entry
 t25 = e16·2 ∷ e17 ∷ e18·2 ∷ e19 ∷ e20·2 ∷ List.[]
+
 abbrev pub t26 : List.List Row.Entry
 t26 = e0 ∷ e1·2 ∷ e2·1 ∷ e3·1 ∷ e4·1 ∷ e5·1 ∷ e6·1 ∷ e7 ∷ e8·1 ∷ e9·1 ∷ e10·1 ∷ e11 ∷ e12 ∷ e13 ∷ e14 ∷ e15 ∷ List.[]
+
 abbrev pub t27 : List.List Row.Entry
 t27 = e0 ∷ e1·2 ∷ e2·1 ∷ e3·1 ∷ e4·1 ∷ e5·1 ∷ e6·1 ∷ e7 ∷ e8 ∷ e9·1 ∷ e10·1 ∷ e11 ∷ e12 ∷ e13 ∷ e14 ∷ e15 ∷ List.[]
+
 abbrev pub t28 : List.List Row.Entry
 t28 = e0 ∷ e1 ∷ e2·1 ∷ e3·1 ∷ e4·1 ∷ e5·1 ∷ e6·1 ∷ e7 ∷ e8 ∷ e9·1 ∷ e10·1 ∷ e11 ∷ e12 ∷ e13 ∷ e14 ∷ e15 ∷ List.[]
+
 abbrev pub t29 : List.List Row.Entry
 t29 = e16 ∷ e17 ∷ e18·2 ∷ e19 ∷ e20·2 ∷ List.[]
+
 abbrev pub t30 : List.List Row.Entry
 t30 = e0 ∷ e1 ∷ e2 ∷ e3·1 ∷ e4·1 ∷ e5·1 ∷ e6·1 ∷ e7 ∷ e8 ∷ e9·1 ∷ e10·1 ∷ e11 ∷ e12 ∷ e13 ∷ e14 ∷ e15 ∷ List.[]
+
 abbrev pub t31 : List.List Row.Entry
 t31 = e16 ∷ e17 ∷ e18 ∷ e19 ∷ e20·2 ∷ List.[]
+
 abbrev pub t32 : List.List Row.Entry
 t32 = e0 ∷ e1 ∷ e2 ∷ e3 ∷ e4·1 ∷ e5·1 ∷ e6·1 ∷ e7 ∷ e8 ∷ e9·1 ∷ e10·1 ∷ e11 ∷ e12 ∷ e13 ∷ e14 ∷ e15 ∷ List.[]
+
 abbrev pub t33 : List.List Row.Entry
 t33 = e0·1 ∷ e1 ∷ e2 ∷ e3 ∷ e4·1 ∷ e5·1 ∷ e6·1 ∷ e7 ∷ e8 ∷ e9·1 ∷ e10·1 ∷ e11 ∷ e12 ∷ e13 ∷ e14 ∷ e15 ∷ List.[]
+
 abbrev pub t34 : List.List Row.Entry
 t34 = e0·1 ∷ e1 ∷ e2 ∷ e3 ∷ e4·1 ∷ e5·1 ∷ e6·1 ∷ e7 ∷ e8 ∷ e9·1 ∷ e10 ∷ e11 ∷ e12 ∷ e13 ∷ e14 ∷ e15 ∷ List.[]
+
 abbrev pub t35 : List.List Row.Entry
 t35 = e0·1 ∷ e1 ∷ e2 ∷ e3 ∷ e4·1 ∷ e5·1 ∷ e6·1 ∷ e7·1 ∷ e8 ∷ e9·1 ∷ e10 ∷ e11 ∷ e12 ∷ e13 ∷ e14 ∷ e15 ∷ List.[]
+
 abbrev pub t36 : List.List Row.Entry
 t36 = e0 ∷ e1 ∷ e2 ∷ e3 ∷ e4·1 ∷ e5·1 ∷ e6·1 ∷ e7 ∷ e8·1 ∷ e9·1 ∷ e10 ∷ e11 ∷ e12 ∷ e13 ∷ e14·1 ∷ e15 ∷ List.[]
+
 abbrev pub t37 : List.List Row.Entry
 t37 = e0·1 ∷ e1 ∷ e2 ∷ e3 ∷ e4·1 ∷ e5·1 ∷ e6·1 ∷ e7 ∷ e8·1 ∷ e9·1 ∷ e10 ∷ e11 ∷ e12 ∷ e13 ∷ e14 ∷ e15 ∷ List.[]
+
 abbrev pub t38 : List.List Row.Entry
 t38 = e0·1 ∷ e1 ∷ e2 ∷ e3 ∷ e4·1 ∷ e5·1 ∷ e6·1 ∷ e7 ∷ e8 ∷ e9 ∷ e10 ∷ e11 ∷ e12 ∷ e13 ∷ e14 ∷ e15 ∷ List.[]
+
 abbrev pub T0 : Row.Cx
 T0 = record { locals = List._++_ t0 t1; slots = List.[] }
+
 abbrev pub T1 : Row.Cx
 T1 = record { locals = List._++_ t2 t1; slots = List.[] }
+
 abbrev pub T2 : Row.Cx
 T2 = record { locals = List._++_ t0 t1; slots = List.[] }
+
 abbrev pub T3 : Row.Cx
 T3 = record { locals = List._++_ t3 t1; slots = List.[] }
+
 abbrev pub T4 : Row.Cx
 T4 = record { locals = List._++_ t4 t1; slots = List.[] }
+
 abbrev pub T6 : Row.Cx
 T6 = record { locals = List._++_ t5 t1; slots = List.[] }
+
 abbrev pub T7 : Row.Cx
 T7 = record { locals = List._++_ t6 t1; slots = List.[] }
+
 abbrev pub T8 : Row.Cx
 T8 = record { locals = List._++_ t7 t1; slots = List.[] }
+
 abbrev pub T9 : Row.Cx
 T9 = record { locals = List._++_ t8 t1; slots = List.[] }
+
 abbrev pub T10 : Row.Cx
 T10 = record { locals = List._++_ t9 t1; slots = List.[] }
+
 abbrev pub T12 : Row.Cx
 T12 = record { locals = List._++_ t10 t1; slots = List.[] }
+
 abbrev pub T14 : Row.Cx
 T14 = record { locals = List._++_ t11 t1; slots = List.[] }
+
 abbrev pub T15 : Row.Cx
 T15 = record { locals = List._++_ t12 t1; slots = List.[] }
+
 abbrev pub T16 : Row.Cx
 T16 = record { locals = List._++_ t13 t1; slots = List.[] }
+
 abbrev pub T17 : Row.Cx
 T17 = record { locals = List._++_ t14 t1; slots = List.[] }
+
 abbrev pub T18 : Row.Cx
 T18 = record { locals = List._++_ t10 t1; slots = List.[] }
+
 abbrev pub T20 : Row.Cx
 T20 = record { locals = List._++_ t15 t1; slots = List.[] }
+
 abbrev pub T21 : Row.Cx
 T21 = record { locals = List._++_ t16 t17; slots = List.[] }
+
 abbrev pub T23 : Row.Cx
 T23 = record { locals = List._++_ t18 t19; slots = List.[] }
+
 abbrev pub T24 : Row.Cx
 T24 = record { locals = List._++_ t18 t20; slots = List.[] }
+
 abbrev pub T26 : Row.Cx
 T26 = record { locals = List._++_ t21 t22; slots = List.[] }
+
 abbrev pub T27 : Row.Cx
 T27 = record { locals = List._++_ t21 t23; slots = List.[] }
+
 abbrev pub T28 : Row.Cx
 T28 = record { locals = List._++_ t24 t25; slots = List.[] }
+
 abbrev pub T29 : Row.Cx
 T29 = record { locals = List._++_ t26 t25; slots = List.[] }
+
 abbrev pub T30 : Row.Cx
 T30 = record { locals = List._++_ t27 t25; slots = List.[] }
+
 abbrev pub T32 : Row.Cx
 T32 = record { locals = List._++_ t28 t29; slots = List.[] }
+
 abbrev pub T35 : Row.Cx
 T35 = record { locals = List._++_ t30 t31; slots = List.[] }
+
 abbrev pub T38 : Row.Cx
 T38 = record { locals = List._++_ t32 t1; slots = List.[] }
+
 abbrev pub T39 : Row.Cx
 T39 = record { locals = List._++_ t32 t1; slots = List.[] }
+
 abbrev pub T41 : Row.Cx
 T41 = record { locals = List._++_ t33 t1; slots = List.[] }
+
 abbrev pub T42 : Row.Cx
 T42 = record { locals = List._++_ t34 t1; slots = List.[] }
+
 abbrev pub T43 : Row.Cx
 T43 = record { locals = List._++_ t35 t1; slots = List.[] }
+
 abbrev pub T44 : Row.Cx
 T44 = record { locals = List._++_ t2 t1; slots = List.[] }
+
 abbrev pub T45 : Row.Cx
 T45 = record { locals = List._++_ t36 t1; slots = List.[] }
+
 abbrev pub T46 : Row.Cx
 T46 = record { locals = List._++_ t13 t1; slots = List.[] }
+
 abbrev pub T47 : Row.Cx
 T47 = record { locals = List._++_ t37 t1; slots = List.[] }
+
 abbrev pub T48 : Row.Cx
 T48 = record { locals = List._++_ t34 t1; slots = List.[] }
+
 abbrev pub T49 : Row.Cx
 T49 = record { locals = List._++_ t38 t1; slots = List.[] }
+
 abbrev pub T50 : Row.Cx
 T50 = record { locals = List._++_ t2 t1; slots = List.[] }
+
 abbrev pub O0 : Typed.Outs
 O0 = record { next = Option.none; exits = List.[]; returns = Option.some T1 }
+
 abbrev pub O1 : Typed.Outs
 O1 = Typed.withNext (Option.some T16) O0
+
 module _ (claims· : Claims) where
   abbrev s0 : Typed.Gives T0 T2
   s0 = Know.k-sl-known (Referent.fInt Syntax.w32) T0 3 2 ref6 Row.off 0 λ x. x
+
+  abbrev args1 : Args'.ArgsT ps·0 (T2 .locals)
+  args1 = (
+    record { pos = 4; st = List.[]; d = 0; at = λ x. x },
+    (record { pos = 5; st = List.[]; d = 0; at = λ x. x }, tt),
+  )
+
   abbrev s1 : Typed.Both T2 T3
-  s1 = Call.callB ps·0 r·0 (claims· .0) (claims· .1) T2 (record { pos = 4; st = List.[]; d = 0; at = λ x. x }, (record { pos = 5; st = List.[]; d = 0;
-      at = λ x. x }, tt),) 8 List.[] Laws''''.mir
+  s1 = Call.callB ps·0 r·0 (claims· .0) (claims· .1) T2 args1 8 List.[] Laws''''.mir
+
   abbrev s2 : Typed.Mo T3 → Typed.Mo T4
   s2 = Scalar.n-room T3 4 Laws''.mir
+
   abbrev s4 : Typed.Gives T4 T6
   s4 = Reshare.k-sl-reshare RelayCircuit.row T4 1 11 0 3 ref4 ref0 Row.off λ x. x
+
   abbrev s5 : Typed.Asks T6 T7
-  s5 = Relend.k-sl-aggregate RelayCircuit.row (Relend.asShr RelayCircuit.row) T6 11 12 3 ref0 ref0 (λ x. x) (Scalar.oFld 1 ((Syntax.field 1) ∷
-      List.[]) (Syntax.tyInt Syntax.w64) 8 λ v. Shared.lenV (v .0))
+  s5 = Relend.k-sl-aggregate RelayCircuit.row (Relend.asShr RelayCircuit.row) T6 11 12 3 ref0 ref0 (λ x. x) (Scalar.oFld
+      1 ((Syntax.field 1) ∷ List.[]) (Syntax.tyInt Syntax.w64) 8 λ v. Shared.lenV (v .0))
+
+  abbrev args6 : Args'.ArgsT ps·1 (T7 .locals)
+  args6 = (
+    record { pos = 12; ty = ref0; ref = λ x. x },
+    (record { pos = 5; st = List.[]; d = 0; at = λ x. x }, (Num.vAt 7 λ x. x, tt)),
+  )
+
   abbrev s6 : Typed.Both T7 T8
-  s6 = Call.callB ps·1 r·1 (claims· .2) (claims· .3) T7 (record { pos = 12; ty = Syntax.tyRef Syntax.erased Syntax.imm RelayCircuit.to; ref = λ x. x;
-      }, (record { pos = 5; st = List.[]; d = 0; at = λ x. x }, (Num.vAt 7 λ x. x, tt)),) 9 (3 ∷ List.[]) (Syntax.tyInt Syntax.w64)
+  s6 = Call.callB ps·1 r·1 (claims· .2) (claims· .3) T7 args6 9 (3 ∷ List.[]) (Syntax.tyInt Syntax.w64)
+
   abbrev s7 : Typed.Mo T8 → Typed.Mo T9
-  s7 = Scalar.n-room T8 12 (Syntax.tyStruct (38 ∷ 91 ∷ 93 ∷ List.[]) (Syntax.tcons ref0 (Syntax.tcons (Syntax.tyInt Syntax.w64) Syntax.tnil)))
+  s7 = Scalar.n-room T8 12 slice0
+
   abbrev s8 : Typed.Mo T9 → Typed.Mo T10
   s8 = Scalar.n-room T9 5 Laws'.mir
+
   abbrev s10 : Typed.Mo T10 → Typed.Mo T12
   s10 = Reshare.n-back-sl-shr RelayCircuit.row T10 1 0 3 ref4 Row.off λ x. x
+
   abbrev s12 : Typed.Mo T12 → Typed.Mo T14
-  s12 = Scalar.n-use T12 (Scalar.oFld 1 ((Syntax.field 1) ∷ List.[]) (Syntax.tyInt Syntax.w64) 8 Shared.lenV) 13 (Rows.sc-here (Row.sInt Syntax.w64))
-      (Row.sInt Syntax.w64 .of)
+  s12 = Scalar.n-use T12 (Scalar.oFld 1 ((Syntax.field 1) ∷ List.[]) (Syntax.tyInt Syntax.w64) 8 Shared.lenV) 13
+      (Rows.sc-here (Row.sInt Syntax.w64)) (Row.sInt Syntax.w64 .of)
+
   abbrev s13 : Typed.Asks T14 T15
-  s13 = Scalar.k-op2 T14 (Syntax.lt Syntax.unsigned) (Scalar.oAt 9 (Syntax.tyInt Syntax.w64) (Row.valS (Row.sInt Syntax.w64))) (Scalar.oAt 13
-      (Syntax.tyInt Syntax.w64) (Row.valS (Row.sInt Syntax.w64))) 14 (Rows.sc-here Row.sBool) (Row.sBool .of)
+  s13 = Scalar.k-op2 T14 (Syntax.lt Syntax.unsigned) (Scalar.oAt 9 (Syntax.tyInt Syntax.w64)
+      (Row.valS (Row.sInt Syntax.w64))) (Scalar.oAt 13 (Syntax.tyInt Syntax.w64) (Row.valS (Row.sInt Syntax.w64))) 14
+      (Rows.sc-here Row.sBool) (Row.sBool .of)
+
   abbrev s14 : Typed.Mo T15 → Typed.Mo T17
   s14 = Scalar.n-room T15 13 (Syntax.tyInt Syntax.w64)
+
   abbrev s15 : Typed.Mo T17 → Typed.Mo T18
   s15 = Scalar.n-room T17 14 Syntax.tyBool
+
   abbrev s17 : Typed.Gives T18 T20
   s17 = Relend.k-sl-relend RelayCircuit.row T18 1 15 0 4 ref4 ref1 Row.off λ x. x
+
   abbrev s18 : Typed.Asks T20 T21
-  s18 = Relend.k-sl-aggregate RelayCircuit.row (Relend.asMut RelayCircuit.row) T20 15 16 4 ref1 ref1 (λ x. x) (Scalar.oFld 1 ((Syntax.field 1) ∷
-      List.[]) (Syntax.tyInt Syntax.w64) 8 λ v. Shared.lenV (v .0))
+  s18 = Relend.k-sl-aggregate RelayCircuit.row (Relend.asMut RelayCircuit.row) T20 15 16 4 ref1 ref1 (λ x. x) (Scalar.oFld
+      1 ((Syntax.field 1) ∷ List.[]) (Syntax.tyInt Syntax.w64) 8 λ v. Shared.lenV (v .0))
+
   abbrev s20 : Typed.Gives T21 T23
   s20 = Relend.k-sl-relend InflightAction.row T21 2 17 1 5 ref5 ref2 Row.off λ x. x
+
   abbrev s21 : Typed.Asks T23 T24
-  s21 = Relend.k-sl-aggregate InflightAction.row (Relend.asMut InflightAction.row) T23 17 18 5 ref2 ref2 (λ x. x) (Scalar.oFld 2 ((Syntax.field 1) ∷
-      List.[]) (Syntax.tyInt Syntax.w64) 8 λ v. Shared.lenV (v .0))
+  s21 = Relend.k-sl-aggregate InflightAction.row (Relend.asMut InflightAction.row) T23 17 18 5 ref2 ref2 (λ x. x) (Scalar.oFld
+      2 ((Syntax.field 1) ∷ List.[]) (Syntax.tyInt Syntax.w64) 8 λ v. Shared.lenV (v .0))
+
   abbrev s23 : Typed.Gives T24 T26
   s23 = Relend.k-sl-relend (Referent.rtF (Referent.fInt Syntax.w32)) T24 3 19 2 6 ref6 ref3 Row.off λ x. x
+
   abbrev s24 : Typed.Asks T26 T27
-  s24 = Relend.k-sl-aggregate (Referent.rtF (Referent.fInt Syntax.w32)) (Relend.asMut (Referent.rtF (Referent.fInt Syntax.w32))) T26 19 20 6 ref3 ref3
-      (λ x. x) (Scalar.oFld 3 ((Syntax.field 1) ∷ List.[]) (Syntax.tyInt Syntax.w64) 8 λ v. Shared.lenV (v .0))
+  s24 = Relend.k-sl-aggregate (Referent.rtF (Referent.fInt Syntax.w32))
+      (Relend.asMut (Referent.rtF (Referent.fInt Syntax.w32))) T26 19 20 6 ref3 ref3 (λ x. x) (Scalar.oFld 3
+      ((Syntax.field 1) ∷ List.[]) (Syntax.tyInt Syntax.w64) 8 λ v. Shared.lenV (v .0))
+
+  abbrev args25 : Args'.ArgsT ps·2 (T27 .locals)
+  args25 = (
+    record { pos = 16; ty = ref1; ref = λ x. x },
+    (
+      record { pos = 18; ty = ref2; ref = λ x. x },
+      (
+        record { pos = 20; ty = ref3; ref = λ x. x },
+        (
+          record { pos = 8; st = List.[]; d = 0; at = λ x. x },
+          (record { pos = 6; st = List.[]; d = 0; at = λ x. x }, (Num.vAt 9 λ x. x, tt)),
+        ),
+      ),
+    ),
+  )
+
   abbrev s25 : Typed.Both T27 T28
-  s25 = Call.callB ps·2 r·2 (claims· .4) (claims· .5) T27 (record { pos = 16; ty = Syntax.tyRef Syntax.erased Syntax.mut RelayCircuit.to; ref = λ x.
-      x; }, (record { pos = 18; ty = Syntax.tyRef Syntax.erased Syntax.mut InflightAction.to; ref = λ x. x; }, (record { pos = 20; ty = Syntax.tyRef
-      Syntax.erased Syntax.mut (Syntax.tyInt Syntax.w32); ref = λ x. x; }, (record { pos = 8; st = List.[]; d = 0; at = λ x. x }, (record { pos = 6;
-      st = List.[]; d = 0; at = λ x. x }, (Num.vAt 9 λ x. x, tt)),),),),) 10 (4 ∷ 5 ∷ 6 ∷ List.[]) Laws''''.mir
+  s25 = Call.callB ps·2 r·2 (claims· .4) (claims· .5) T27 args25 10 (4 ∷ 5 ∷ 6 ∷ List.[]) Laws''''.mir
+
   abbrev s26 : Typed.Mo T28 → Typed.Mo T29
   s26 = Scalar.n-room T28 6 Laws.mir
+
   abbrev s27 : Typed.Mo T29 → Typed.Mo T30
   s27 = Scalar.n-room T29 8 Laws''''.mir
+
   abbrev s29 : Typed.Both T30 T32
   s29 = Relend.k-back-sl RelayCircuit.row T30 16 1 0 4 ref4 ref1 Row.off (λ x. x) λ x. x
+
   abbrev s32 : Typed.Both T32 T35
   s32 = Relend.k-back-sl InflightAction.row T32 18 2 1 5 ref5 ref2 Row.off (λ x. x) λ x. x
+
   abbrev s35 : Typed.Both T35 T38
   s35 = Relend.k-back-sl (Referent.rtF (Referent.fInt Syntax.w32)) T35 20 3 2 6 ref6 ref3 Row.off (λ x. x) λ x. x
+
   abbrev s36 : Typed.Gives T38 T39
   s36 = Know.k-sl-known (Referent.fInt Syntax.w32) T38 3 2 ref6 Row.off 0 λ x. x
+
+  abbrev args38 : Args'.ArgsT ps·3 (T39 .locals)
+  args38 = (record { pos = 10; st = List.[]; d = 0; at = λ x. x }, tt)
+
   abbrev s38 : Typed.Both T39 T41
-  s38 = Call.callB ps·3 r·3 (claims· .6) (claims· .7) T39 (record { pos = 10; st = List.[]; d = 0; at = λ x. x }, tt,) 0 List.[] Laws'''.mir
+  s38 = Call.callB ps·3 r·3 (claims· .6) (claims· .7) T39 args38 0 List.[] Laws'''.mir
+
   abbrev s39 : Typed.Mo T41 → Typed.Mo T42
   s39 = Scalar.n-room T41 10 Laws''''.mir
+
   abbrev s40 : Typed.Mo T42 → Typed.Mo T43
   s40 = Scalar.n-room T42 7 (Syntax.tyInt Syntax.w64)
+
   abbrev s41 : Typed.Mo T43 → Typed.Mo T44
   s41 = Scalar.n-room T43 9 (Syntax.tyInt Syntax.w64)
+
   abbrev s42 : Typed.Mo T17 → Typed.Mo T45
   s42 = Scalar.n-room T17 6 Laws.mir
+
   abbrev s43 : Typed.Mo T45 → Typed.Mo T46
   s43 = Scalar.n-room T45 14 Syntax.tyBool
+
+  abbrev args44 : Args'.ArgsT ps·3 (T16 .locals)
+  args44 = (record { pos = 8; st = List.[]; d = 0; at = λ x. x }, tt)
+
   abbrev s44 : Typed.Both T16 T47
-  s44 = Call.callB ps·3 r·3 (claims· .6) (claims· .7) T16 (record { pos = 8; st = List.[]; d = 0; at = λ x. x }, tt,) 0 List.[] Laws'''.mir
+  s44 = Call.callB ps·3 r·3 (claims· .6) (claims· .7) T16 args44 0 List.[] Laws'''.mir
+
   abbrev s45 : Typed.Mo T47 → Typed.Mo T48
   s45 = Scalar.n-room T47 8 Laws''''.mir
+
   abbrev s46 : Typed.Mo T48 → Typed.Mo T49
   s46 = Scalar.n-room T48 9 (Syntax.tyInt Syntax.w64)
+
   abbrev s47 : Typed.Mo T49 → Typed.Mo T50
   s47 = Scalar.n-room T49 7 (Syntax.tyInt Syntax.w64)
-  module _ (Pre· : (κs : Lifetimes.Lfts 3) → Kinds.Dens κs ps → Type 0) (Post· : (κs : Lifetimes.Lfts 3) → (a : Kinds.Dens κs ps) → Kinds.Plain 3 ps r
-      κs) where
+
+  module _ (Pre· : (κs : Lifetimes.Lfts 3) → Kinds.Dens κs ps → Type 0) (Post· : (κs : Lifetimes.Lfts 3) →
+      (a : Kinds.Dens κs ps) → Kinds.Plain 3 ps r κs) where
     module _ (M : Type 1) where
       abbrev pub Closed : Type 2
-      Closed = (𝓤 : URA.URA M) (H : Wp.Heap 𝓤) (A : Atoms.Atoms 𝓤) (W : Kit.Given 𝓤 H A) (𝓣 : Wp.Tables 𝓤 H) (known0 : Plain.Known 𝓤 H A W 𝓣 0 ps·0
-          r·0 (claims· .0) (claims· .1) "hnsr_circuit::revocation::started") (known1 : Plain.Known 𝓤 H A W 𝓣 1 ps·1 r·1 (claims· .2) (claims· .3)
-          "hnsr_circuit::tables::circuits::find_circuit_id") (known2 : Plain.Known 𝓤 H A W 𝓣 3 ps·2 r·2 (claims· .4) (claims· .5)
-          "hnsr_circuit::revocation::revoke_circuit") (known3 : Plain.Known 𝓤 H A W 𝓣 0 ps·3 r·3 (claims· .6) (claims· .7)
-          "hnsr_circuit::revocation::finished") → Statement.Triple 𝓤 (Wp.WpFn 𝓤 H (𝓣 .C) (𝓣 .Λ) (Function.fnOf 3 ps r xs m hs body)) (Function.plainOf
-          𝓤 H A 3 ps r Pre· Post·)
+      Closed = (𝓤 : URA.URA M) (H : Wp.Heap 𝓤) (A : Atoms.Atoms 𝓤) (W : Kit.Given 𝓤 H A) (𝓣 : Wp.Tables 𝓤 H) (known0 :
+          Plain.Known 𝓤 H A W 𝓣 0 ps·0 r·0 (claims· .0) (claims· .1) "hnsr_circuit::revocation::started") (known1 :
+          Plain.Known 𝓤 H A W 𝓣 1 ps·1 r·1 (claims· .2) (claims· .3) "hnsr_circuit::tables::circuits::find_circuit_id") (known2
+          : Plain.Known 𝓤 H A W 𝓣 3 ps·2 r·2 (claims· .4) (claims· .5) "hnsr_circuit::revocation::revoke_circuit") (known3
+          : Plain.Known 𝓤 H A W 𝓣 0 ps·3 r·3 (claims· .6) (claims· .7) "hnsr_circuit::revocation::finished") →
+          Statement.Triple 𝓤 (Wp.WpFn 𝓤 H (𝓣 .C) (𝓣 .Λ) (Function.fnOf 3 ps r xs m hs body))
+          (Function.plainOf 𝓤 H A 3 ps r Pre· Post·)
+
     module _ where
       abbrev at0 : Typed.TF T44 O1
       at0 = Typed.atRet O1
+
       abbrev at1 : Typed.TF T43 O1
       at1 = λ Ψ. Typed.pass T43 T44 s41 (at0 Ψ)
+
       abbrev at2 : Typed.TF T42 O1
       at2 = λ Ψ. Typed.pass T42 T43 s40 (at1 Ψ)
+
       abbrev at3 : Typed.TF T41 O1
       at3 = λ Ψ. Typed.pass T41 T42 s39 (at2 Ψ)
+
       abbrev at4 : Typed.TF T39 O1
       at4 = λ Ψ. Typed.both s38 (at3 Ψ)
+
       abbrev at5 : Typed.TF T39 O1
       at5 = λ Ψ. at4 Ψ
+
       abbrev at6 : Typed.TF T38 O1
       at6 = λ Ψ. Typed.give s36 (at5 Ψ)
+
       abbrev at7 : Typed.TF T35 O1
       at7 = λ Ψ. Typed.both s35 (at6 Ψ)
+
       abbrev at8 : Typed.TF T35 O1
       at8 = λ Ψ. at7 Ψ
+
       abbrev at9 : Typed.TF T35 O1
       at9 = λ Ψ. at8 Ψ
+
       abbrev at10 : Typed.TF T32 O1
       at10 = λ Ψ. Typed.both s32 (at9 Ψ)
+
       abbrev at11 : Typed.TF T32 O1
       at11 = λ Ψ. at10 Ψ
+
       abbrev at12 : Typed.TF T32 O1
       at12 = λ Ψ. at11 Ψ
+
       abbrev at13 : Typed.TF T30 O1
       at13 = λ Ψ. Typed.both s29 (at12 Ψ)
+
       abbrev at14 : Typed.TF T30 O1
       at14 = λ Ψ. at13 Ψ
+
       abbrev at15 : Typed.TF T29 O1
       at15 = λ Ψ. Typed.pass T29 T30 s27 (at14 Ψ)
+
       abbrev at16 : Typed.TF T28 O1
       at16 = λ Ψ. Typed.pass T28 T29 s26 (at15 Ψ)
+
       abbrev at17 : Typed.TF T27 O1
       at17 = λ Ψ. Typed.both s25 (at16 Ψ)
+
       abbrev at18 : Typed.TF T26 O1
       at18 = λ Ψ. Typed.ask s24 (at17 Ψ)
+
       abbrev at19 : Typed.TF T24 O1
       at19 = λ Ψ. Typed.give s23 (at18 Ψ)
+
       abbrev at20 : Typed.TF T24 O1
       at20 = λ Ψ. at19 Ψ
+
       abbrev at21 : Typed.TF T23 O1
       at21 = λ Ψ. Typed.ask s21 (at20 Ψ)
+
       abbrev at22 : Typed.TF T21 O1
       at22 = λ Ψ. Typed.give s20 (at21 Ψ)
+
       abbrev at23 : Typed.TF T21 O1
       at23 = λ Ψ. at22 Ψ
+
       abbrev at24 : Typed.TF T20 O1
       at24 = λ Ψ. Typed.ask s18 (at23 Ψ)
+
       abbrev at25 : Typed.TF T18 O1
       at25 = λ Ψ. Typed.give s17 (at24 Ψ)
+
       abbrev at26 : Typed.TF T18 O1
       at26 = λ Ψ. at25 Ψ
+
       abbrev at27 : Typed.TF T17 O1
       at27 = λ Ψ. Typed.pass T17 T18 s15 (at26 Ψ)
+
       abbrev at28 : Typed.TF T46 O1
       at28 = Typed.atNext O1
+
       abbrev at29 : Typed.TF T45 O1
       at29 = λ Ψ. Typed.pass T45 T46 s43 (at28 Ψ)
+
       abbrev at30 : Typed.TF T17 O1
       at30 = λ Ψ. Typed.pass T17 T45 s42 (at29 Ψ)
+
       abbrev at31 : Typed.TF T17 O1
       at31 = Scalar.Φcond T17 O1 14 (λ x. x) at27 at30
+
       abbrev at32 : Typed.TF T15 O1
       at32 = λ Ψ. Typed.pass T15 T17 s14 (at31 Ψ)
+
       abbrev at33 : Typed.TF T50 O0
       at33 = Typed.atRet O0
+
       abbrev at34 : Typed.TF T49 O0
       at34 = λ Ψ. Typed.pass T49 T50 s47 (at33 Ψ)
+
       abbrev at35 : Typed.TF T48 O0
       at35 = λ Ψ. Typed.pass T48 T49 s46 (at34 Ψ)
+
       abbrev at36 : Typed.TF T47 O0
       at36 = λ Ψ. Typed.pass T47 T48 s45 (at35 Ψ)
+
       abbrev at37 : Typed.TF T16 O0
       at37 = λ Ψ. Typed.both s44 (at36 Ψ)
+
       abbrev at38 : Typed.TF T15 O0
       at38 = λ Ψ. at32 (Typed.wantNext T16 O0 (at37 Ψ) Ψ)
+
       abbrev at39 : Typed.TF T14 O0
       at39 = λ Ψ. Typed.ask s13 (at38 Ψ)
+
       abbrev at40 : Typed.TF T12 O0
       at40 = λ Ψ. Typed.pass T12 T14 s12 (at39 Ψ)
+
       abbrev at41 : Typed.TF T12 O0
       at41 = λ Ψ. at40 Ψ
+
       abbrev at42 : Typed.TF T10 O0
       at42 = λ Ψ. Typed.pass T10 T12 s10 (at41 Ψ)
+
       abbrev at43 : Typed.TF T10 O0
       at43 = λ Ψ. at42 Ψ
+
       abbrev at44 : Typed.TF T9 O0
       at44 = λ Ψ. Typed.pass T9 T10 s8 (at43 Ψ)
+
       abbrev at45 : Typed.TF T8 O0
       at45 = λ Ψ. Typed.pass T8 T9 s7 (at44 Ψ)
+
       abbrev at46 : Typed.TF T7 O0
       at46 = λ Ψ. Typed.both s6 (at45 Ψ)
+
       abbrev at47 : Typed.TF T6 O0
       at47 = λ Ψ. Typed.ask s5 (at46 Ψ)
+
       abbrev at48 : Typed.TF T4 O0
       at48 = λ Ψ. Typed.give s4 (at47 Ψ)
+
       abbrev at49 : Typed.TF T4 O0
       at49 = λ Ψ. at48 Ψ
+
       abbrev at50 : Typed.TF T3 O0
       at50 = λ Ψ. Typed.pass T3 T4 s2 (at49 Ψ)
+
       abbrev at51 : Typed.TF T2 O0
       at51 = λ Ψ. Typed.both s1 (at50 Ψ)
+
       abbrev at52 : Typed.TF T0 O0
       at52 = λ Ψ. Typed.give s0 (at51 Ψ)
+
       abbrev pub Φ : Typed.TF T0 O0
       Φ = at52
-      module _ { M : Type 1 } (𝓤 : URA.URA M) (H : Wp.Heap 𝓤) (A : Atoms.Atoms 𝓤) (W : Kit.Given 𝓤 H A) (𝓣 : Wp.Tables 𝓤 H) where
+
+      module _ {M : Type 1} (𝓤 : URA.URA M) (H : Wp.Heap 𝓤) (A : Atoms.Atoms 𝓤) (W : Kit.Given 𝓤 H A)
+          (𝓣 : Wp.Tables 𝓤 H) where
         abbrev Knowns : Type 1
-        Knowns = Plain.Known 𝓤 H A W 𝓣 0 ps·0 r·0 (claims· .0) (claims· .1) "hnsr_circuit::revocation::started" × Plain.Known 𝓤 H A W 𝓣 1 ps·1 r·1
-            (claims· .2) (claims· .3) "hnsr_circuit::tables::circuits::find_circuit_id" × Plain.Known 𝓤 H A W 𝓣 3 ps·2 r·2 (claims· .4) (claims· .5)
-            "hnsr_circuit::revocation::revoke_circuit" × Plain.Known 𝓤 H A W 𝓣 0 ps·3 r·3 (claims· .6) (claims· .7)
-            "hnsr_circuit::revocation::finished"
+        Knowns = Plain.Known 𝓤 H A W 𝓣 0 ps·0 r·0 (claims· .0) (claims· .1) "hnsr_circuit::revocation::started" ×
+            Plain.Known 𝓤 H A W 𝓣 1 ps·1 r·1 (claims· .2) (claims· .3)
+            "hnsr_circuit::tables::circuits::find_circuit_id" × Plain.Known 𝓤 H A W 𝓣 3 ps·2 r·2 (claims· .4)
+            (claims· .5) "hnsr_circuit::revocation::revoke_circuit" × Plain.Known 𝓤 H A W 𝓣 0 ps·3 r·3 (claims· .6)
+            (claims· .7) "hnsr_circuit::revocation::finished"
+
       module _ (κs : Lifetimes.Lfts 3) (qs : Lifetimes.Shares 3) where
         abbrev life0 : Row.Life
         life0 = Row.lease (κs .0) (qs .0)
+
         abbrev life1 : Row.Life
         life1 = Row.lease (κs .1 .0) (qs .1 .0)
+
         abbrev life2 : Row.Life
         life2 = Row.lease (κs .1 .1 .0) (qs .1 .1 .0)
+
+        abbrev l1 : Row.Entry
+        l1 = (1, Reshare.mslice-owedS RelayCircuit.row ref4 0 3 life0)
+
+        abbrev l1·1 : Row.Entry
+        l1·1 = (1, Relend.mslice-owed RelayCircuit.row ref4 0 4 life0)
+
+        abbrev l2 : Row.Entry
+        l2 = (2, Relend.mslice-owed InflightAction.row ref5 1 5 life1)
+
+        abbrev l3 : Row.Entry
+        l3 = (3, Relend.mslice-owed (Referent.rtF (Referent.fInt Syntax.w32)) ref6 2 6 life2)
+
         abbrev g5 : List.List Row.Entry
-        g5 = (0, Rows.any-gone Laws'''.mir,) ∷ (1, Reshare.mslice-owedS RelayCircuit.row ref4 0 3 life0,) ∷ (2, Mut.mslice InflightAction.row ref5 1,)
-            ∷ (3, Mut.mslice (Referent.rtF (Referent.fInt Syntax.w32)) ref6 2,) ∷ (4, Rows.any-gone Laws''.mir,) ∷ (5, Rows.whole (Declared'.row
-            Places.the-type)) ∷ (6, Rows.whole (Declared.row Notice.the-type),) ∷ (7, Rows.sc-here (Row.sInt Syntax.w64)) ∷ (8, Rows.whole
-            (Declared'.row Sending.the-type),) ∷ (9, Rows.any-gone (Syntax.tyInt Syntax.w64)) ∷ (10, Rows.any-gone Laws''''.mir,) ∷ (11, Relend.ssptr
-            RelayCircuit.row ref0 3,) ∷ (12, Rows.any-gone (Syntax.tyStruct (38 ∷ 91 ∷ 93 ∷ List.[]) (Syntax.tcons ref0 (Syntax.tcons (Syntax.tyInt
-            Syntax.w64) Syntax.tnil))),) ∷ (13, Rows.any-gone (Syntax.tyInt Syntax.w64)) ∷ (14, Rows.any-gone Syntax.tyBool,) ∷ (15, Rows.any-gone
-            ref1,) ∷ List.[]
+        g5 = e0 ∷ l1 ∷ e2 ∷ e3 ∷ e4·1 ∷ e5 ∷ e6 ∷ e7 ∷ e8·1 ∷ e9 ∷ e10 ∷ e11·1 ∷ e12 ∷ e13 ∷ e14 ∷ e15 ∷ List.[]
+
         abbrev g6 : List.List Row.Entry
-        g6 = (0, Rows.any-gone Laws'''.mir,) ∷ (1, Reshare.mslice-owedS RelayCircuit.row ref4 0 3 life0,) ∷ (2, Mut.mslice InflightAction.row ref5 1,)
-            ∷ (3, Mut.mslice (Referent.rtF (Referent.fInt Syntax.w32)) ref6 2,) ∷ (4, Rows.any-gone Laws''.mir,) ∷ (5, Rows.whole (Declared'.row
-            Places.the-type)) ∷ (6, Rows.whole (Declared.row Notice.the-type),) ∷ (7, Rows.sc-here (Row.sInt Syntax.w64)) ∷ (8, Rows.whole
-            (Declared'.row Sending.the-type),) ∷ (9, Rows.any-gone (Syntax.tyInt Syntax.w64)) ∷ (10, Rows.any-gone Laws''''.mir,) ∷ (11, Rows.any-gone
-            ref0,) ∷ (12, Rows.sslice RelayCircuit.row ref0 3,) ∷ (13, Rows.any-gone (Syntax.tyInt Syntax.w64)) ∷ (14, Rows.any-gone Syntax.tyBool,) ∷
-            (15, Rows.any-gone ref1,) ∷ List.[]
+        g6 = e0 ∷ l1 ∷ e2 ∷ e3 ∷ e4·1 ∷ e5 ∷ e6 ∷ e7 ∷ e8·1 ∷ e9 ∷ e10 ∷ e11 ∷ e12·1 ∷ e13 ∷ e14 ∷ e15 ∷ List.[]
+
         abbrev g7 : List.List Row.Entry
-        g7 = (0, Rows.any-gone Laws'''.mir,) ∷ (1, Reshare.mslice-owedS RelayCircuit.row ref4 0 3 life0,) ∷ (2, Mut.mslice InflightAction.row ref5 1,)
-            ∷ (3, Mut.mslice (Referent.rtF (Referent.fInt Syntax.w32)) ref6 2,) ∷ (4, Rows.any-gone Laws''.mir,) ∷ (5, Rows.whole (Declared'.row
-            Places.the-type)) ∷ (6, Rows.whole (Declared.row Notice.the-type),) ∷ (7, Rows.sc-here (Row.sInt Syntax.w64)) ∷ (8, Rows.whole
-            (Declared'.row Sending.the-type),) ∷ (9, Rows.sc-here (Row.sInt Syntax.w64)) ∷ (10, Rows.any-gone Laws''''.mir,) ∷ (11, Rows.any-gone
-            ref0,) ∷ (12, Rows.sslice RelayCircuit.row ref0 3,) ∷ (13, Rows.any-gone (Syntax.tyInt Syntax.w64)) ∷ (14, Rows.any-gone Syntax.tyBool,) ∷
-            (15, Rows.any-gone ref1,) ∷ List.[]
+        g7 = e0 ∷ l1 ∷ e2 ∷ e3 ∷ e4·1 ∷ e5 ∷ e6 ∷ e7 ∷ e8·1 ∷ e9·1 ∷ e10 ∷ e11 ∷ e12·1 ∷ e13 ∷ e14 ∷ e15 ∷ List.[]
+
         abbrev g8 : List.List Row.Entry
-        g8 = (0, Rows.any-gone Laws'''.mir,) ∷ (1, Reshare.mslice-owedS RelayCircuit.row ref4 0 3 life0,) ∷ (2, Mut.mslice InflightAction.row ref5 1,)
-            ∷ (3, Mut.mslice (Referent.rtF (Referent.fInt Syntax.w32)) ref6 2,) ∷ (4, Rows.any-gone Laws''.mir,) ∷ (5, Rows.whole (Declared'.row
-            Places.the-type)) ∷ (6, Rows.whole (Declared.row Notice.the-type),) ∷ (7, Rows.sc-here (Row.sInt Syntax.w64)) ∷ (8, Rows.whole
-            (Declared'.row Sending.the-type),) ∷ (9, Rows.sc-here (Row.sInt Syntax.w64)) ∷ (10, Rows.any-gone Laws''''.mir,) ∷ (11, Rows.any-gone
-            ref0,) ∷ (12, Rows.any-gone (Syntax.tyStruct (38 ∷ 91 ∷ 93 ∷ List.[]) (Syntax.tcons ref0 (Syntax.tcons (Syntax.tyInt Syntax.w64)
-            Syntax.tnil))),) ∷ (13, Rows.any-gone (Syntax.tyInt Syntax.w64)) ∷ (14, Rows.any-gone Syntax.tyBool,) ∷ (15, Rows.any-gone ref1,) ∷
-            List.[]
+        g8 = e0 ∷ l1 ∷ e2 ∷ e3 ∷ e4·1 ∷ e5 ∷ e6 ∷ e7 ∷ e8·1 ∷ e9·1 ∷ e10 ∷ e11 ∷ e12 ∷ e13 ∷ e14 ∷ e15 ∷ List.[]
+
         abbrev g9 : List.List Row.Entry
-        g9 = (0, Rows.any-gone Laws'''.mir,) ∷ (1, Reshare.mslice-owedS RelayCircuit.row ref4 0 3 life0,) ∷ (2, Mut.mslice InflightAction.row ref5 1,)
-            ∷ (3, Mut.mslice (Referent.rtF (Referent.fInt Syntax.w32)) ref6 2,) ∷ (4, Rows.any-gone Laws''.mir,) ∷ (5, Rows.any-gone Laws'.mir,) ∷ (6,
-            Rows.whole (Declared.row Notice.the-type)) ∷ (7, Rows.sc-here (Row.sInt Syntax.w64),) ∷ (8, Rows.whole (Declared'.row Sending.the-type)) ∷
-            (9, Rows.sc-here (Row.sInt Syntax.w64),) ∷ (10, Rows.any-gone Laws''''.mir,) ∷ (11, Rows.any-gone ref0,) ∷ (12, Rows.any-gone
-            (Syntax.tyStruct (38 ∷ 91 ∷ 93 ∷ List.[]) (Syntax.tcons ref0 (Syntax.tcons (Syntax.tyInt Syntax.w64) Syntax.tnil))),) ∷ (13, Rows.any-gone
-            (Syntax.tyInt Syntax.w64)) ∷ (14, Rows.any-gone Syntax.tyBool,) ∷ (15, Rows.any-gone ref1,) ∷ List.[]
+        g9 = e0 ∷ l1 ∷ e2 ∷ e3 ∷ e4·1 ∷ e5·1 ∷ e6 ∷ e7 ∷ e8·1 ∷ e9·1 ∷ e10 ∷ e11 ∷ e12 ∷ e13 ∷ e14 ∷ e15 ∷ List.[]
+
         abbrev g15 : List.List Row.Entry
-        g15 = (0, Rows.any-gone Laws'''.mir,) ∷ (1, Relend.mslice-owed RelayCircuit.row ref4 0 4 life0,) ∷ (2, Mut.mslice InflightAction.row ref5 1,)
-            ∷ (3, Mut.mslice (Referent.rtF (Referent.fInt Syntax.w32)) ref6 2,) ∷ (4, Rows.any-gone Laws''.mir,) ∷ (5, Rows.any-gone Laws'.mir,) ∷ (6,
-            Rows.whole (Declared.row Notice.the-type)) ∷ (7, Rows.sc-here (Row.sInt Syntax.w64),) ∷ (8, Rows.whole (Declared'.row Sending.the-type)) ∷
-            (9, Rows.sc-here (Row.sInt Syntax.w64),) ∷ (10, Rows.any-gone Laws''''.mir,) ∷ (11, Rows.any-gone ref0,) ∷ (12, Rows.any-gone
-            (Syntax.tyStruct (38 ∷ 91 ∷ 93 ∷ List.[]) (Syntax.tcons ref0 (Syntax.tcons (Syntax.tyInt Syntax.w64) Syntax.tnil))),) ∷ (13, Rows.any-gone
-            (Syntax.tyInt Syntax.w64)) ∷ (14, Rows.any-gone Syntax.tyBool,) ∷ (15, Relend.msptr RelayCircuit.row ref1 4,) ∷ List.[]
+        g15 = e0 ∷ l1·1 ∷ e2 ∷ e3 ∷ e4·1 ∷ e5·1 ∷ e6 ∷ e7 ∷ e8·1 ∷ e9·1 ∷ e10 ∷ e11 ∷ e12 ∷ e13 ∷ e14 ∷ e15·1 ∷ List.[]
+
         abbrev g16 : List.List Row.Entry
-        g16 = (0, Rows.any-gone Laws'''.mir,) ∷ (1, Relend.mslice-owed RelayCircuit.row ref4 0 4 life0,) ∷ (2, Mut.mslice InflightAction.row ref5 1,)
-            ∷ (3, Mut.mslice (Referent.rtF (Referent.fInt Syntax.w32)) ref6 2,) ∷ (4, Rows.any-gone Laws''.mir,) ∷ (5, Rows.any-gone Laws'.mir,) ∷ (6,
-            Rows.whole (Declared.row Notice.the-type)) ∷ (7, Rows.sc-here (Row.sInt Syntax.w64),) ∷ (8, Rows.whole (Declared'.row Sending.the-type)) ∷
-            (9, Rows.sc-here (Row.sInt Syntax.w64),) ∷ (10, Rows.any-gone Laws''''.mir,) ∷ (11, Rows.any-gone ref0,) ∷ (12, Rows.any-gone
-            (Syntax.tyStruct (38 ∷ 91 ∷ 93 ∷ List.[]) (Syntax.tcons ref0 (Syntax.tcons (Syntax.tyInt Syntax.w64) Syntax.tnil))),) ∷ (13, Rows.any-gone
-            (Syntax.tyInt Syntax.w64)) ∷ (14, Rows.any-gone Syntax.tyBool,) ∷ (15, Rows.any-gone ref1,) ∷ List.[]
+        g16 = e0 ∷ l1·1 ∷ e2 ∷ e3 ∷ e4·1 ∷ e5·1 ∷ e6 ∷ e7 ∷ e8·1 ∷ e9·1 ∷ e10 ∷ e11 ∷ e12 ∷ e13 ∷ e14 ∷ e15 ∷ List.[]
+
         abbrev g18 : List.List Row.Entry
-        g18 = (0, Rows.any-gone Laws'''.mir,) ∷ (1, Relend.mslice-owed RelayCircuit.row ref4 0 4 life0,) ∷ (2, Relend.mslice-owed InflightAction.row
-            ref5 1 5 life1,) ∷ (3, Mut.mslice (Referent.rtF (Referent.fInt Syntax.w32)) ref6 2,) ∷ (4, Rows.any-gone Laws''.mir,) ∷ (5, Rows.any-gone
-            Laws'.mir,) ∷ (6, Rows.whole (Declared.row Notice.the-type)) ∷ (7, Rows.sc-here (Row.sInt Syntax.w64),) ∷ (8, Rows.whole (Declared'.row
-            Sending.the-type)) ∷ (9, Rows.sc-here (Row.sInt Syntax.w64),) ∷ (10, Rows.any-gone Laws''''.mir,) ∷ (11, Rows.any-gone ref0,) ∷ (12,
-            Rows.any-gone (Syntax.tyStruct (38 ∷ 91 ∷ 93 ∷ List.[]) (Syntax.tcons ref0 (Syntax.tcons (Syntax.tyInt Syntax.w64) Syntax.tnil))),) ∷ (13,
-            Rows.any-gone (Syntax.tyInt Syntax.w64)) ∷ (14, Rows.any-gone Syntax.tyBool,) ∷ (15, Rows.any-gone ref1,) ∷ List.[]
+        g18 = e0 ∷ l1·1 ∷ l2 ∷ e3 ∷ e4·1 ∷ e5·1 ∷ e6 ∷ e7 ∷ e8·1 ∷ e9·1 ∷ e10 ∷ e11 ∷ e12 ∷ e13 ∷ e14 ∷ e15 ∷ List.[]
+
         abbrev g21 : List.List Row.Entry
-        g21 = (0, Rows.any-gone Laws'''.mir,) ∷ (1, Relend.mslice-owed RelayCircuit.row ref4 0 4 life0,) ∷ (2, Relend.mslice-owed InflightAction.row
-            ref5 1 5 life1,) ∷ (3, Relend.mslice-owed (Referent.rtF (Referent.fInt Syntax.w32)) ref6 2 6 life2,) ∷ (4, Rows.any-gone Laws''.mir,) ∷
-            (5, Rows.any-gone Laws'.mir,) ∷ (6, Rows.whole (Declared.row Notice.the-type)) ∷ (7, Rows.sc-here (Row.sInt Syntax.w64),) ∷ (8, Rows.whole
-            (Declared'.row Sending.the-type)) ∷ (9, Rows.sc-here (Row.sInt Syntax.w64),) ∷ (10, Rows.any-gone Laws''''.mir,) ∷ (11, Rows.any-gone
-            ref0,) ∷ (12, Rows.any-gone (Syntax.tyStruct (38 ∷ 91 ∷ 93 ∷ List.[]) (Syntax.tcons ref0 (Syntax.tcons (Syntax.tyInt Syntax.w64)
-            Syntax.tnil))),) ∷ (13, Rows.any-gone (Syntax.tyInt Syntax.w64)) ∷ (14, Rows.any-gone Syntax.tyBool,) ∷ (15, Rows.any-gone ref1,) ∷
-            List.[]
+        g21 = e0 ∷ l1·1 ∷ l2 ∷ l3 ∷ e4·1 ∷ e5·1 ∷ e6 ∷ e7 ∷ e8·1 ∷ e9·1 ∷ e10 ∷ e11 ∷ e12 ∷ e13 ∷ e14 ∷ e15 ∷ List.[]
+
         abbrev g24 : List.List Row.Entry
-        g24 = (0, Rows.any-gone Laws'''.mir,) ∷ (1, Relend.mslice-owed RelayCircuit.row ref4 0 4 life0,) ∷ (2, Relend.mslice-owed InflightAction.row
-            ref5 1 5 life1,) ∷ (3, Relend.mslice-owed (Referent.rtF (Referent.fInt Syntax.w32)) ref6 2 6 life2,) ∷ (4, Rows.any-gone Laws''.mir,) ∷
-            (5, Rows.any-gone Laws'.mir,) ∷ (6, Rows.whole (Declared.row Notice.the-type)) ∷ (7, Rows.sc-here (Row.sInt Syntax.w64),) ∷ (8, Rows.whole
-            (Declared'.row Sending.the-type)) ∷ (9, Rows.sc-here (Row.sInt Syntax.w64),) ∷ (10, Rows.whole (Declared'.row Sending.the-type)) ∷ (11,
-            Rows.any-gone ref0,) ∷ (12, Rows.any-gone (Syntax.tyStruct (38 ∷ 91 ∷ 93 ∷ List.[]) (Syntax.tcons ref0 (Syntax.tcons (Syntax.tyInt
-            Syntax.w64) Syntax.tnil))),) ∷ (13, Rows.any-gone (Syntax.tyInt Syntax.w64)) ∷ (14, Rows.any-gone Syntax.tyBool,) ∷ (15, Rows.any-gone
-            ref1,) ∷ List.[]
+        g24 = e0 ∷ l1·1 ∷ l2 ∷ l3 ∷ e4·1 ∷ e5·1 ∷ e6 ∷ e7 ∷ e8·1 ∷ e9·1 ∷ e10·1 ∷ e11 ∷ e12 ∷ e13 ∷ e14 ∷ e15 ∷ List.[]
+
         abbrev g26 : List.List Row.Entry
-        g26 = (0, Rows.any-gone Laws'''.mir,) ∷ (1, Relend.mslice-owed RelayCircuit.row ref4 0 4 life0,) ∷ (2, Relend.mslice-owed InflightAction.row
-            ref5 1 5 life1,) ∷ (3, Relend.mslice-owed (Referent.rtF (Referent.fInt Syntax.w32)) ref6 2 6 life2,) ∷ (4, Rows.any-gone Laws''.mir,) ∷
-            (5, Rows.any-gone Laws'.mir,) ∷ (6, Rows.any-gone Laws.mir,) ∷ (7, Rows.sc-here (Row.sInt Syntax.w64)) ∷ (8, Rows.whole (Declared'.row
-            Sending.the-type),) ∷ (9, Rows.sc-here (Row.sInt Syntax.w64)) ∷ (10, Rows.whole (Declared'.row Sending.the-type),) ∷ (11, Rows.any-gone
-            ref0,) ∷ (12, Rows.any-gone (Syntax.tyStruct (38 ∷ 91 ∷ 93 ∷ List.[]) (Syntax.tcons ref0 (Syntax.tcons (Syntax.tyInt Syntax.w64)
-            Syntax.tnil))),) ∷ (13, Rows.any-gone (Syntax.tyInt Syntax.w64)) ∷ (14, Rows.any-gone Syntax.tyBool,) ∷ (15, Rows.any-gone ref1,) ∷
+        g26 = e0 ∷ l1·1 ∷ l2 ∷ l3 ∷ e4·1 ∷ e5·1 ∷ e6·1 ∷ e7 ∷ e8·1 ∷ e9·1 ∷ e10·1 ∷ e11 ∷ e12 ∷ e13 ∷ e14 ∷ e15 ∷
             List.[]
+
         abbrev g27 : List.List Row.Entry
-        g27 = (0, Rows.any-gone Laws'''.mir,) ∷ (1, Relend.mslice-owed RelayCircuit.row ref4 0 4 life0,) ∷ (2, Relend.mslice-owed InflightAction.row
-            ref5 1 5 life1,) ∷ (3, Relend.mslice-owed (Referent.rtF (Referent.fInt Syntax.w32)) ref6 2 6 life2,) ∷ (4, Rows.any-gone Laws''.mir,) ∷
-            (5, Rows.any-gone Laws'.mir,) ∷ (6, Rows.any-gone Laws.mir,) ∷ (7, Rows.sc-here (Row.sInt Syntax.w64)) ∷ (8, Rows.any-gone Laws''''.mir,)
-            ∷ (9, Rows.sc-here (Row.sInt Syntax.w64)) ∷ (10, Rows.whole (Declared'.row Sending.the-type),) ∷ (11, Rows.any-gone ref0,) ∷ (12,
-            Rows.any-gone (Syntax.tyStruct (38 ∷ 91 ∷ 93 ∷ List.[]) (Syntax.tcons ref0 (Syntax.tcons (Syntax.tyInt Syntax.w64) Syntax.tnil))),) ∷ (13,
-            Rows.any-gone (Syntax.tyInt Syntax.w64)) ∷ (14, Rows.any-gone Syntax.tyBool,) ∷ (15, Rows.any-gone ref1,) ∷ List.[]
+        g27 = e0 ∷ l1·1 ∷ l2 ∷ l3 ∷ e4·1 ∷ e5·1 ∷ e6·1 ∷ e7 ∷ e8 ∷ e9·1 ∷ e10·1 ∷ e11 ∷ e12 ∷ e13 ∷ e14 ∷ e15 ∷ List.[]
+
         abbrev g28 : List.List Row.Entry
-        g28 = (0, Rows.any-gone Laws'''.mir,) ∷ (1, Mut.mslice RelayCircuit.row ref4 0,) ∷ (2, Relend.mslice-owed InflightAction.row ref5 1 5 life1,)
-            ∷ (3, Relend.mslice-owed (Referent.rtF (Referent.fInt Syntax.w32)) ref6 2 6 life2,) ∷ (4, Rows.any-gone Laws''.mir,) ∷ (5, Rows.any-gone
-            Laws'.mir,) ∷ (6, Rows.any-gone Laws.mir,) ∷ (7, Rows.sc-here (Row.sInt Syntax.w64)) ∷ (8, Rows.any-gone Laws''''.mir,) ∷ (9, Rows.sc-here
-            (Row.sInt Syntax.w64)) ∷ (10, Rows.whole (Declared'.row Sending.the-type),) ∷ (11, Rows.any-gone ref0,) ∷ (12, Rows.any-gone
-            (Syntax.tyStruct (38 ∷ 91 ∷ 93 ∷ List.[]) (Syntax.tcons ref0 (Syntax.tcons (Syntax.tyInt Syntax.w64) Syntax.tnil))),) ∷ (13, Rows.any-gone
-            (Syntax.tyInt Syntax.w64)) ∷ (14, Rows.any-gone Syntax.tyBool,) ∷ (15, Rows.any-gone ref1,) ∷ List.[]
+        g28 = e0 ∷ e1 ∷ l2 ∷ l3 ∷ e4·1 ∷ e5·1 ∷ e6·1 ∷ e7 ∷ e8 ∷ e9·1 ∷ e10·1 ∷ e11 ∷ e12 ∷ e13 ∷ e14 ∷ e15 ∷ List.[]
+
         abbrev g30 : List.List Row.Entry
-        g30 = (0, Rows.any-gone Laws'''.mir,) ∷ (1, Mut.mslice RelayCircuit.row ref4 0,) ∷ (2, Mut.mslice InflightAction.row ref5 1,) ∷ (3,
-            Relend.mslice-owed (Referent.rtF (Referent.fInt Syntax.w32)) ref6 2 6 life2,) ∷ (4, Rows.any-gone Laws''.mir,) ∷ (5, Rows.any-gone
-            Laws'.mir,) ∷ (6, Rows.any-gone Laws.mir,) ∷ (7, Rows.sc-here (Row.sInt Syntax.w64)) ∷ (8, Rows.any-gone Laws''''.mir,) ∷ (9, Rows.sc-here
-            (Row.sInt Syntax.w64)) ∷ (10, Rows.whole (Declared'.row Sending.the-type),) ∷ (11, Rows.any-gone ref0,) ∷ (12, Rows.any-gone
-            (Syntax.tyStruct (38 ∷ 91 ∷ 93 ∷ List.[]) (Syntax.tcons ref0 (Syntax.tcons (Syntax.tyInt Syntax.w64) Syntax.tnil))),) ∷ (13, Rows.any-gone
-            (Syntax.tyInt Syntax.w64)) ∷ (14, Rows.any-gone Syntax.tyBool,) ∷ (15, Rows.any-gone ref1,) ∷ List.[]
+        g30 = e0 ∷ e1 ∷ e2 ∷ l3 ∷ e4·1 ∷ e5·1 ∷ e6·1 ∷ e7 ∷ e8 ∷ e9·1 ∷ e10·1 ∷ e11 ∷ e12 ∷ e13 ∷ e14 ∷ e15 ∷ List.[]
+
         abbrev G0 : Row.Cx
-        G0 = record { locals = List._++_ t0 t1; slots = life0 ∷ life1 ∷ life2 ∷ Row.off ∷ Row.off ∷ Row.off ∷ Row.off ∷ List.[]; }
+        G0 = record {
+          locals = List._++_ t0 t1;
+          slots = life0 ∷ life1 ∷ life2 ∷ Row.off ∷ Row.off ∷ Row.off ∷ Row.off ∷ List.[];
+        }
+
         abbrev G1 : Row.Cx
-        G1 = record { locals = List._++_ t2 t1; slots = life0 ∷ life1 ∷ life2 ∷ Row.off ∷ Row.off ∷ Row.off ∷ Row.off ∷ List.[]; }
+        G1 = record {
+          locals = List._++_ t2 t1;
+          slots = life0 ∷ life1 ∷ life2 ∷ Row.off ∷ Row.off ∷ Row.off ∷ Row.off ∷ List.[];
+        }
+
         abbrev G2 : Row.Cx
-        G2 = record { locals = List._++_ t0 t1; slots = life0 ∷ life1 ∷ life2 ∷ Row.off ∷ Row.off ∷ Row.off ∷ Row.off ∷ List.[]; }
+        G2 = record {
+          locals = List._++_ t0 t1;
+          slots = life0 ∷ life1 ∷ life2 ∷ Row.off ∷ Row.off ∷ Row.off ∷ Row.off ∷ List.[];
+        }
+
         abbrev G3 : Row.Cx
-        G3 = record { locals = List._++_ t3 t1; slots = life0 ∷ life1 ∷ life2 ∷ Row.off ∷ Row.off ∷ Row.off ∷ Row.off ∷ List.[]; }
+        G3 = record {
+          locals = List._++_ t3 t1;
+          slots = life0 ∷ life1 ∷ life2 ∷ Row.off ∷ Row.off ∷ Row.off ∷ Row.off ∷ List.[];
+        }
+
         abbrev G4 : Row.Cx
-        G4 = record { locals = List._++_ t4 t1; slots = life0 ∷ life1 ∷ life2 ∷ Row.off ∷ Row.off ∷ Row.off ∷ Row.off ∷ List.[]; }
+        G4 = record {
+          locals = List._++_ t4 t1;
+          slots = life0 ∷ life1 ∷ life2 ∷ Row.off ∷ Row.off ∷ Row.off ∷ Row.off ∷ List.[];
+        }
+
         abbrev G5 : Row.Cx
-        G5 = record { locals = List._++_ t4 t1; slots = life0 ∷ life1 ∷ life2 ∷ Row.alive ∷ Row.off ∷ Row.off ∷ Row.off ∷ List.[]; }
+        G5 = record {
+          locals = List._++_ t4 t1;
+          slots = life0 ∷ life1 ∷ life2 ∷ Row.alive ∷ Row.off ∷ Row.off ∷ Row.off ∷ List.[];
+        }
+
         abbrev G6 : Row.Cx
-        G6 = record { locals = List._++_ g5 t1; slots = Row.off ∷ life1 ∷ life2 ∷ Row.alive ∷ Row.off ∷ Row.off ∷ Row.off ∷ List.[]; }
+        G6 = record {
+          locals = List._++_ g5 t1;
+          slots = Row.off ∷ life1 ∷ life2 ∷ Row.alive ∷ Row.off ∷ Row.off ∷ Row.off ∷ List.[];
+        }
+
         abbrev G7 : Row.Cx
-        G7 = record { locals = List._++_ g6 t1; slots = Row.off ∷ life1 ∷ life2 ∷ Row.alive ∷ Row.off ∷ Row.off ∷ Row.off ∷ List.[]; }
+        G7 = record {
+          locals = List._++_ g6 t1;
+          slots = Row.off ∷ life1 ∷ life2 ∷ Row.alive ∷ Row.off ∷ Row.off ∷ Row.off ∷ List.[];
+        }
+
         abbrev G8 : Row.Cx
-        G8 = record { locals = List._++_ g7 t1; slots = Row.off ∷ life1 ∷ life2 ∷ Row.alive ∷ Row.off ∷ Row.off ∷ Row.off ∷ List.[]; }
+        G8 = record {
+          locals = List._++_ g7 t1;
+          slots = Row.off ∷ life1 ∷ life2 ∷ Row.alive ∷ Row.off ∷ Row.off ∷ Row.off ∷ List.[];
+        }
+
         abbrev G9 : Row.Cx
-        G9 = record { locals = List._++_ g8 t1; slots = Row.off ∷ life1 ∷ life2 ∷ Row.alive ∷ Row.off ∷ Row.off ∷ Row.off ∷ List.[]; }
+        G9 = record {
+          locals = List._++_ g8 t1;
+          slots = Row.off ∷ life1 ∷ life2 ∷ Row.alive ∷ Row.off ∷ Row.off ∷ Row.off ∷ List.[];
+        }
+
         abbrev G10 : Row.Cx
-        G10 = record { locals = List._++_ g9 t1; slots = Row.off ∷ life1 ∷ life2 ∷ Row.alive ∷ Row.off ∷ Row.off ∷ Row.off ∷ List.[]; }
+        G10 = record {
+          locals = List._++_ g9 t1;
+          slots = Row.off ∷ life1 ∷ life2 ∷ Row.alive ∷ Row.off ∷ Row.off ∷ Row.off ∷ List.[];
+        }
+
         abbrev G11 : Row.Cx
-        G11 = record { locals = List._++_ g9 t1; slots = Row.off ∷ life1 ∷ life2 ∷ Row.dead ∷ Row.off ∷ Row.off ∷ Row.off ∷ List.[]; }
+        G11 = record {
+          locals = List._++_ g9 t1;
+          slots = Row.off ∷ life1 ∷ life2 ∷ Row.dead ∷ Row.off ∷ Row.off ∷ Row.off ∷ List.[];
+        }
+
         abbrev G12 : Row.Cx
-        G12 = record { locals = List._++_ t10 t1; slots = life0 ∷ life1 ∷ life2 ∷ Row.dead ∷ Row.off ∷ Row.off ∷ Row.off ∷ List.[]; }
+        G12 = record {
+          locals = List._++_ t10 t1;
+          slots = life0 ∷ life1 ∷ life2 ∷ Row.dead ∷ Row.off ∷ Row.off ∷ Row.off ∷ List.[];
+        }
+
         abbrev G13 : Row.Cx
-        G13 = record { locals = List._++_ t10 t1; slots = life0 ∷ life1 ∷ life2 ∷ Row.off ∷ Row.off ∷ Row.off ∷ Row.off ∷ List.[]; }
+        G13 = record {
+          locals = List._++_ t10 t1;
+          slots = life0 ∷ life1 ∷ life2 ∷ Row.off ∷ Row.off ∷ Row.off ∷ Row.off ∷ List.[];
+        }
+
         abbrev G14 : Row.Cx
-        G14 = record { locals = List._++_ t11 t1; slots = life0 ∷ life1 ∷ life2 ∷ Row.off ∷ Row.off ∷ Row.off ∷ Row.off ∷ List.[]; }
+        G14 = record {
+          locals = List._++_ t11 t1;
+          slots = life0 ∷ life1 ∷ life2 ∷ Row.off ∷ Row.off ∷ Row.off ∷ Row.off ∷ List.[];
+        }
+
         abbrev G15 : Row.Cx
-        G15 = record { locals = List._++_ t12 t1; slots = life0 ∷ life1 ∷ life2 ∷ Row.off ∷ Row.off ∷ Row.off ∷ Row.off ∷ List.[]; }
+        G15 = record {
+          locals = List._++_ t12 t1;
+          slots = life0 ∷ life1 ∷ life2 ∷ Row.off ∷ Row.off ∷ Row.off ∷ Row.off ∷ List.[];
+        }
+
         abbrev G16 : Row.Cx
-        G16 = record { locals = List._++_ t13 t1; slots = life0 ∷ life1 ∷ life2 ∷ Row.off ∷ Row.off ∷ Row.off ∷ Row.off ∷ List.[]; }
+        G16 = record {
+          locals = List._++_ t13 t1;
+          slots = life0 ∷ life1 ∷ life2 ∷ Row.off ∷ Row.off ∷ Row.off ∷ Row.off ∷ List.[];
+        }
+
         abbrev G17 : Row.Cx
-        G17 = record { locals = List._++_ t14 t1; slots = life0 ∷ life1 ∷ life2 ∷ Row.off ∷ Row.off ∷ Row.off ∷ Row.off ∷ List.[]; }
+        G17 = record {
+          locals = List._++_ t14 t1;
+          slots = life0 ∷ life1 ∷ life2 ∷ Row.off ∷ Row.off ∷ Row.off ∷ Row.off ∷ List.[];
+        }
+
         abbrev G18 : Row.Cx
-        G18 = record { locals = List._++_ t10 t1; slots = life0 ∷ life1 ∷ life2 ∷ Row.off ∷ Row.off ∷ Row.off ∷ Row.off ∷ List.[]; }
+        G18 = record {
+          locals = List._++_ t10 t1;
+          slots = life0 ∷ life1 ∷ life2 ∷ Row.off ∷ Row.off ∷ Row.off ∷ Row.off ∷ List.[];
+        }
+
         abbrev G19 : Row.Cx
-        G19 = record { locals = List._++_ t10 t1; slots = life0 ∷ life1 ∷ life2 ∷ Row.off ∷ Row.alive ∷ Row.off ∷ Row.off ∷ List.[]; }
+        G19 = record {
+          locals = List._++_ t10 t1;
+          slots = life0 ∷ life1 ∷ life2 ∷ Row.off ∷ Row.alive ∷ Row.off ∷ Row.off ∷ List.[];
+        }
+
         abbrev G20 : Row.Cx
-        G20 = record { locals = List._++_ g15 t1; slots = Row.off ∷ life1 ∷ life2 ∷ Row.off ∷ Row.alive ∷ Row.off ∷ Row.off ∷ List.[]; }
+        G20 = record {
+          locals = List._++_ g15 t1;
+          slots = Row.off ∷ life1 ∷ life2 ∷ Row.off ∷ Row.alive ∷ Row.off ∷ Row.off ∷ List.[];
+        }
+
         abbrev G21 : Row.Cx
-        G21 = record { locals = List._++_ g16 t17; slots = Row.off ∷ life1 ∷ life2 ∷ Row.off ∷ Row.alive ∷ Row.off ∷ Row.off ∷ List.[]; }
+        G21 = record {
+          locals = List._++_ g16 t17;
+          slots = Row.off ∷ life1 ∷ life2 ∷ Row.off ∷ Row.alive ∷ Row.off ∷ Row.off ∷ List.[];
+        }
+
         abbrev G22 : Row.Cx
-        G22 = record { locals = List._++_ g16 t17; slots = Row.off ∷ life1 ∷ life2 ∷ Row.off ∷ Row.alive ∷ Row.alive ∷ Row.off ∷ List.[]; }
+        G22 = record {
+          locals = List._++_ g16 t17;
+          slots = Row.off ∷ life1 ∷ life2 ∷ Row.off ∷ Row.alive ∷ Row.alive ∷ Row.off ∷ List.[];
+        }
+
         abbrev G23 : Row.Cx
-        G23 = record { locals = List._++_ g18 t19; slots = Row.off ∷ Row.off ∷ life2 ∷ Row.off ∷ Row.alive ∷ Row.alive ∷ Row.off ∷ List.[]; }
+        G23 = record {
+          locals = List._++_ g18 t19;
+          slots = Row.off ∷ Row.off ∷ life2 ∷ Row.off ∷ Row.alive ∷ Row.alive ∷ Row.off ∷ List.[];
+        }
+
         abbrev G24 : Row.Cx
-        G24 = record { locals = List._++_ g18 t20; slots = Row.off ∷ Row.off ∷ life2 ∷ Row.off ∷ Row.alive ∷ Row.alive ∷ Row.off ∷ List.[]; }
+        G24 = record {
+          locals = List._++_ g18 t20;
+          slots = Row.off ∷ Row.off ∷ life2 ∷ Row.off ∷ Row.alive ∷ Row.alive ∷ Row.off ∷ List.[];
+        }
+
         abbrev G25 : Row.Cx
-        G25 = record { locals = List._++_ g18 t20; slots = Row.off ∷ Row.off ∷ life2 ∷ Row.off ∷ Row.alive ∷ Row.alive ∷ Row.alive ∷ List.[]; }
+        G25 = record {
+          locals = List._++_ g18 t20;
+          slots = Row.off ∷ Row.off ∷ life2 ∷ Row.off ∷ Row.alive ∷ Row.alive ∷ Row.alive ∷ List.[];
+        }
+
         abbrev G26 : Row.Cx
-        G26 = record { locals = List._++_ g21 t22; slots = Row.off ∷ Row.off ∷ Row.off ∷ Row.off ∷ Row.alive ∷ Row.alive ∷ Row.alive ∷ List.[]; }
+        G26 = record {
+          locals = List._++_ g21 t22;
+          slots = Row.off ∷ Row.off ∷ Row.off ∷ Row.off ∷ Row.alive ∷ Row.alive ∷ Row.alive ∷ List.[];
+        }
+
         abbrev G27 : Row.Cx
-        G27 = record { locals = List._++_ g21 t23; slots = Row.off ∷ Row.off ∷ Row.off ∷ Row.off ∷ Row.alive ∷ Row.alive ∷ Row.alive ∷ List.[]; }
+        G27 = record {
+          locals = List._++_ g21 t23;
+          slots = Row.off ∷ Row.off ∷ Row.off ∷ Row.off ∷ Row.alive ∷ Row.alive ∷ Row.alive ∷ List.[];
+        }
+
         abbrev G28 : Row.Cx
-        G28 = record { locals = List._++_ g24 t25; slots = Row.off ∷ Row.off ∷ Row.off ∷ Row.off ∷ Row.alive ∷ Row.alive ∷ Row.alive ∷ List.[]; }
+        G28 = record {
+          locals = List._++_ g24 t25;
+          slots = Row.off ∷ Row.off ∷ Row.off ∷ Row.off ∷ Row.alive ∷ Row.alive ∷ Row.alive ∷ List.[];
+        }
+
         abbrev G29 : Row.Cx
-        G29 = record { locals = List._++_ g26 t25; slots = Row.off ∷ Row.off ∷ Row.off ∷ Row.off ∷ Row.alive ∷ Row.alive ∷ Row.alive ∷ List.[]; }
+        G29 = record {
+          locals = List._++_ g26 t25;
+          slots = Row.off ∷ Row.off ∷ Row.off ∷ Row.off ∷ Row.alive ∷ Row.alive ∷ Row.alive ∷ List.[];
+        }
+
         abbrev G30 : Row.Cx
-        G30 = record { locals = List._++_ g27 t25; slots = Row.off ∷ Row.off ∷ Row.off ∷ Row.off ∷ Row.alive ∷ Row.alive ∷ Row.alive ∷ List.[]; }
+        G30 = record {
+          locals = List._++_ g27 t25;
+          slots = Row.off ∷ Row.off ∷ Row.off ∷ Row.off ∷ Row.alive ∷ Row.alive ∷ Row.alive ∷ List.[];
+        }
+
         abbrev G31 : Row.Cx
-        G31 = record { locals = List._++_ g27 t25; slots = Row.off ∷ Row.off ∷ Row.off ∷ Row.off ∷ Row.dead ∷ Row.alive ∷ Row.alive ∷ List.[]; }
+        G31 = record {
+          locals = List._++_ g27 t25;
+          slots = Row.off ∷ Row.off ∷ Row.off ∷ Row.off ∷ Row.dead ∷ Row.alive ∷ Row.alive ∷ List.[];
+        }
+
         abbrev G32 : Row.Cx
-        G32 = record { locals = List._++_ g28 t29; slots = life0 ∷ Row.off ∷ Row.off ∷ Row.off ∷ Row.dead ∷ Row.alive ∷ Row.alive ∷ List.[]; }
+        G32 = record {
+          locals = List._++_ g28 t29;
+          slots = life0 ∷ Row.off ∷ Row.off ∷ Row.off ∷ Row.dead ∷ Row.alive ∷ Row.alive ∷ List.[];
+        }
+
         abbrev G33 : Row.Cx
-        G33 = record { locals = List._++_ g28 t29; slots = life0 ∷ Row.off ∷ Row.off ∷ Row.off ∷ Row.off ∷ Row.alive ∷ Row.alive ∷ List.[]; }
+        G33 = record {
+          locals = List._++_ g28 t29;
+          slots = life0 ∷ Row.off ∷ Row.off ∷ Row.off ∷ Row.off ∷ Row.alive ∷ Row.alive ∷ List.[];
+        }
+
         abbrev G34 : Row.Cx
-        G34 = record { locals = List._++_ g28 t29; slots = life0 ∷ Row.off ∷ Row.off ∷ Row.off ∷ Row.off ∷ Row.dead ∷ Row.alive ∷ List.[]; }
+        G34 = record {
+          locals = List._++_ g28 t29;
+          slots = life0 ∷ Row.off ∷ Row.off ∷ Row.off ∷ Row.off ∷ Row.dead ∷ Row.alive ∷ List.[];
+        }
+
         abbrev G35 : Row.Cx
-        G35 = record { locals = List._++_ g30 t31; slots = life0 ∷ life1 ∷ Row.off ∷ Row.off ∷ Row.off ∷ Row.dead ∷ Row.alive ∷ List.[]; }
+        G35 = record {
+          locals = List._++_ g30 t31;
+          slots = life0 ∷ life1 ∷ Row.off ∷ Row.off ∷ Row.off ∷ Row.dead ∷ Row.alive ∷ List.[];
+        }
+
         abbrev G36 : Row.Cx
-        G36 = record { locals = List._++_ g30 t31; slots = life0 ∷ life1 ∷ Row.off ∷ Row.off ∷ Row.off ∷ Row.off ∷ Row.alive ∷ List.[]; }
+        G36 = record {
+          locals = List._++_ g30 t31;
+          slots = life0 ∷ life1 ∷ Row.off ∷ Row.off ∷ Row.off ∷ Row.off ∷ Row.alive ∷ List.[];
+        }
+
         abbrev G37 : Row.Cx
-        G37 = record { locals = List._++_ g30 t31; slots = life0 ∷ life1 ∷ Row.off ∷ Row.off ∷ Row.off ∷ Row.off ∷ Row.dead ∷ List.[]; }
+        G37 = record {
+          locals = List._++_ g30 t31;
+          slots = life0 ∷ life1 ∷ Row.off ∷ Row.off ∷ Row.off ∷ Row.off ∷ Row.dead ∷ List.[];
+        }
+
         abbrev G38 : Row.Cx
-        G38 = record { locals = List._++_ t32 t1; slots = life0 ∷ life1 ∷ life2 ∷ Row.off ∷ Row.off ∷ Row.off ∷ Row.dead ∷ List.[]; }
+        G38 = record {
+          locals = List._++_ t32 t1;
+          slots = life0 ∷ life1 ∷ life2 ∷ Row.off ∷ Row.off ∷ Row.off ∷ Row.dead ∷ List.[];
+        }
+
         abbrev G39 : Row.Cx
-        G39 = record { locals = List._++_ t32 t1; slots = life0 ∷ life1 ∷ life2 ∷ Row.off ∷ Row.off ∷ Row.off ∷ Row.dead ∷ List.[]; }
+        G39 = record {
+          locals = List._++_ t32 t1;
+          slots = life0 ∷ life1 ∷ life2 ∷ Row.off ∷ Row.off ∷ Row.off ∷ Row.dead ∷ List.[];
+        }
+
         abbrev G40 : Row.Cx
-        G40 = record { locals = List._++_ t32 t1; slots = life0 ∷ life1 ∷ life2 ∷ Row.off ∷ Row.off ∷ Row.off ∷ Row.off ∷ List.[]; }
+        G40 = record {
+          locals = List._++_ t32 t1;
+          slots = life0 ∷ life1 ∷ life2 ∷ Row.off ∷ Row.off ∷ Row.off ∷ Row.off ∷ List.[];
+        }
+
         abbrev G41 : Row.Cx
-        G41 = record { locals = List._++_ t33 t1; slots = life0 ∷ life1 ∷ life2 ∷ Row.off ∷ Row.off ∷ Row.off ∷ Row.off ∷ List.[]; }
+        G41 = record {
+          locals = List._++_ t33 t1;
+          slots = life0 ∷ life1 ∷ life2 ∷ Row.off ∷ Row.off ∷ Row.off ∷ Row.off ∷ List.[];
+        }
+
         abbrev G42 : Row.Cx
-        G42 = record { locals = List._++_ t34 t1; slots = life0 ∷ life1 ∷ life2 ∷ Row.off ∷ Row.off ∷ Row.off ∷ Row.off ∷ List.[]; }
+        G42 = record {
+          locals = List._++_ t34 t1;
+          slots = life0 ∷ life1 ∷ life2 ∷ Row.off ∷ Row.off ∷ Row.off ∷ Row.off ∷ List.[];
+        }
+
         abbrev G43 : Row.Cx
-        G43 = record { locals = List._++_ t35 t1; slots = life0 ∷ life1 ∷ life2 ∷ Row.off ∷ Row.off ∷ Row.off ∷ Row.off ∷ List.[]; }
+        G43 = record {
+          locals = List._++_ t35 t1;
+          slots = life0 ∷ life1 ∷ life2 ∷ Row.off ∷ Row.off ∷ Row.off ∷ Row.off ∷ List.[];
+        }
+
         abbrev G44 : Row.Cx
-        G44 = record { locals = List._++_ t2 t1; slots = life0 ∷ life1 ∷ life2 ∷ Row.off ∷ Row.off ∷ Row.off ∷ Row.off ∷ List.[]; }
+        G44 = record {
+          locals = List._++_ t2 t1;
+          slots = life0 ∷ life1 ∷ life2 ∷ Row.off ∷ Row.off ∷ Row.off ∷ Row.off ∷ List.[];
+        }
+
         abbrev G45 : Row.Cx
-        G45 = record { locals = List._++_ t36 t1; slots = life0 ∷ life1 ∷ life2 ∷ Row.off ∷ Row.off ∷ Row.off ∷ Row.off ∷ List.[]; }
+        G45 = record {
+          locals = List._++_ t36 t1;
+          slots = life0 ∷ life1 ∷ life2 ∷ Row.off ∷ Row.off ∷ Row.off ∷ Row.off ∷ List.[];
+        }
+
         abbrev G46 : Row.Cx
-        G46 = record { locals = List._++_ t13 t1; slots = life0 ∷ life1 ∷ life2 ∷ Row.off ∷ Row.off ∷ Row.off ∷ Row.off ∷ List.[]; }
+        G46 = record {
+          locals = List._++_ t13 t1;
+          slots = life0 ∷ life1 ∷ life2 ∷ Row.off ∷ Row.off ∷ Row.off ∷ Row.off ∷ List.[];
+        }
+
         abbrev G47 : Row.Cx
-        G47 = record { locals = List._++_ t37 t1; slots = life0 ∷ life1 ∷ life2 ∷ Row.off ∷ Row.off ∷ Row.off ∷ Row.off ∷ List.[]; }
+        G47 = record {
+          locals = List._++_ t37 t1;
+          slots = life0 ∷ life1 ∷ life2 ∷ Row.off ∷ Row.off ∷ Row.off ∷ Row.off ∷ List.[];
+        }
+
         abbrev G48 : Row.Cx
-        G48 = record { locals = List._++_ t34 t1; slots = life0 ∷ life1 ∷ life2 ∷ Row.off ∷ Row.off ∷ Row.off ∷ Row.off ∷ List.[]; }
+        G48 = record {
+          locals = List._++_ t34 t1;
+          slots = life0 ∷ life1 ∷ life2 ∷ Row.off ∷ Row.off ∷ Row.off ∷ Row.off ∷ List.[];
+        }
+
         abbrev G49 : Row.Cx
-        G49 = record { locals = List._++_ t38 t1; slots = life0 ∷ life1 ∷ life2 ∷ Row.off ∷ Row.off ∷ Row.off ∷ Row.off ∷ List.[]; }
+        G49 = record {
+          locals = List._++_ t38 t1;
+          slots = life0 ∷ life1 ∷ life2 ∷ Row.off ∷ Row.off ∷ Row.off ∷ Row.off ∷ List.[];
+        }
+
         abbrev G50 : Row.Cx
-        G50 = record { locals = List._++_ t2 t1; slots = life0 ∷ life1 ∷ life2 ∷ Row.off ∷ Row.off ∷ Row.off ∷ Row.off ∷ List.[]; }
+        G50 = record {
+          locals = List._++_ t2 t1;
+          slots = life0 ∷ life1 ∷ life2 ∷ Row.off ∷ Row.off ∷ Row.off ∷ Row.off ∷ List.[];
+        }
+
         abbrev Δ0 : Typed.Outs
         Δ0 = record { next = Option.none; exits = List.[]; returns = Option.some G1 }
+
         abbrev Δ1 : Typed.Outs
         Δ1 = Typed.withNext (Option.some G16) Δ0
-        module _ { M : Type 1 } (𝓤 : URA.URA M) (H : Wp.Heap 𝓤) (A : Atoms.Atoms 𝓤) (W : Kit.Given 𝓤 H A) (𝓣 : Wp.Tables 𝓤 H) (known : Knowns 𝓤 H A W
-            𝓣) (bs : List.List Nat.ℕ) (bd : Lifetimes.AllOutlive 3 (Kinds.osR r) κs) where
+
+        module _ {M : Type 1} (𝓤 : URA.URA M) (H : Wp.Heap 𝓤) (A : Atoms.Atoms 𝓤) (W : Kit.Given 𝓤 H A)
+            (𝓣 : Wp.Tables 𝓤 H) (known : Knowns 𝓤 H A W 𝓣) (bs : List.List Nat.ℕ)
+            (bd : Lifetimes.AllOutlive 3 (Kinds.osR r) κs) where
           abbrev E : Wp.Env 𝓤 H
           E = Frame.EnvOf 𝓤 H ((Kinds.tyR r) ∷ (Enter.tysP ps xs)) bs
+
           d0 : Typed.Typed 𝓤 H A 𝓣 E G44 b14 Δ1 at0
           d0 = Typed.t-return 𝓤 H A W 𝓣 E Δ1 tt
+
           d1 : Typed.Typed 𝓤 H A 𝓣 E G43 b14 Δ1 at1
-          d1 = Typed.g-pre 𝓤 H A W 𝓣 E G43 G44 b14 Δ1 (Typed.pass T43 T44 s41) at0 (Scalar.g-room 𝓤 H A W E G43 9 (Syntax.tyInt Syntax.w64)
-              (Scalar.room-sc 𝓤 H A W (Row.sInt Syntax.w64))) d0
+          d1 = Typed.g-pre 𝓤 H A W 𝓣 E G43 G44 b14 Δ1 (Typed.pass T43 T44 s41) at0 (Scalar.g-room 𝓤 H A W E G43 9
+              (Syntax.tyInt Syntax.w64) (Scalar.room-sc 𝓤 H A W (Row.sInt Syntax.w64))) d0
+
           d2 : Typed.Typed 𝓤 H A 𝓣 E G42 b14 Δ1 at2
-          d2 = Typed.g-pre 𝓤 H A W 𝓣 E G42 G43 b14 Δ1 (Typed.pass T42 T43 s40) at1 (Scalar.g-room 𝓤 H A W E G42 7 (Syntax.tyInt Syntax.w64)
-              (Scalar.room-sc 𝓤 H A W (Row.sInt Syntax.w64))) d1
+          d2 = Typed.g-pre 𝓤 H A W 𝓣 E G42 G43 b14 Δ1 (Typed.pass T42 T43 s40) at1 (Scalar.g-room 𝓤 H A W E G42 7
+              (Syntax.tyInt Syntax.w64) (Scalar.room-sc 𝓤 H A W (Row.sInt Syntax.w64))) d1
+
           d3 : Typed.Typed 𝓤 H A 𝓣 E G41 b14 Δ1 at3
-          d3 = Typed.g-pre 𝓤 H A W 𝓣 E G41 G42 b14 Δ1 (Typed.pass T41 T42 s39) at2 (Scalar.g-room 𝓤 H A W E G41 10 Laws''''.mir (Local.room-whole 𝓤 H
-              A W (Declared'.row Sending.the-type) Laws''''.mir Path.refl)) d2
+          d3 = Typed.g-pre 𝓤 H A W 𝓣 E G41 G42 b14 Δ1 (Typed.pass T41 T42 s39) at2 (Scalar.g-room 𝓤 H A W E G41 10
+              Laws''''.mir (Local.room-whole 𝓤 H A W (Declared'.row Sending.the-type) Laws''''.mir Path.refl)) d2
+
           d4 : Typed.Typed 𝓤 H A 𝓣 E G40 b15 Δ1 at4
-          d4 = Typed.s-seq 𝓤 H A W 𝓣 E G40 G41 b13 b14 Δ1 (Typed.both s38) at3 (Plain.t-call-plain 𝓤 H A W 𝓣 0 ps·3 r·3 (claims· .6) (claims· .7)
-              "hnsr_circuit::revocation::finished" (known .3) E (λ pos β. β) G40 (record { pos = 10; st = List.[]; d = 0; at = λ x. x }, tt) 0 List.[]
-              (Call.sub-id 𝓤 H A W (G40 .slots)) ((Yields.yields-copy 𝓤 H A W (λ ρ. Unit) (Declared'.row Sending.the-type) Path.refl (Copies.cStruct
-              Sending.the-type Laws''''.the-laws Laws''''.the-copy .copy 𝓤 H A W) (Rows.whole (Declared'.row Sending.the-type)) (λ x. x) (λ x. x) (λ ρ
-              told. Local.mem-whole 𝓤 H A W (Declared'.row Sending.the-type) ρ) λ ρ told. Local.whole-mem 𝓤 H A W (Declared'.row Sending.the-type) ρ,
-              Path.refl,), tt,) (Reads.room-gone 𝓤 H A Laws'''.mir) tt Path.refl) d3
+          d4 = Typed.s-seq 𝓤 H A W 𝓣 E G40 G41 b13 b14 Δ1 (Typed.both s38) at3 (Plain.t-call-plain 𝓤 H A W 𝓣 0 ps·3 r·3
+              (claims· .6) (claims· .7) "hnsr_circuit::revocation::finished" (known .3) E (λ pos β. β) G40
+              (record { pos = 10; st = List.[]; d = 0; at = λ x. x }, tt) 0 List.[] (Call.sub-id 𝓤 H A W (G40 .slots)) (
+                (
+                  Yields.yields-copy 𝓤 H A W (λ ρ. Unit) (Declared'.row Sending.the-type) Path.refl (Copies.cStruct
+                      Sending.the-type Laws''''.the-laws Laws''''.the-copy .copy 𝓤 H A W)
+                      (Rows.whole (Declared'.row Sending.the-type)) (λ x. x) (λ x. x) (λ ρ told. Local.mem-whole 𝓤 H A
+                      W (Declared'.row Sending.the-type) ρ) λ ρ told. Local.whole-mem 𝓤 H A W
+                      (Declared'.row Sending.the-type) ρ,
+                  Path.refl,
+                ),
+                tt,
+              ) (Reads.room-gone 𝓤 H A Laws'''.mir) tt Path.refl) d3
+
           d5 : Typed.Typed 𝓤 H A 𝓣 E G39 b15 Δ1 at5
-          d5 = Typed.g-pre 𝓤 H A W 𝓣 E G39 G40 b15 Δ1 (λ Ψ. Ψ) at4 (Lifetime.g-forget 𝓤 H A W E G39 6 Row.dead Path.refl) d4
+          d5 = Typed.g-pre 𝓤 H A W 𝓣 E G39 G40 b15 Δ1 (λ Ψ. Ψ) at4
+              (Lifetime.g-forget 𝓤 H A W E G39 6 Row.dead Path.refl) d4
+
           d6 : Typed.Typed 𝓤 H A 𝓣 E G38 b15 Δ1 at6
-          d6 = Typed.g-pre 𝓤 H A W 𝓣 E G38 G39 b15 Δ1 (Typed.give s36) at5 (Know.g-sl-known 𝓤 H A W (Referent.fInt Syntax.w32) E G38 3 2 ref6 life2 0
-              (λ x. x) record { fits = Dec.lit< tt } (Reads.as-is 𝓤 H A (Mut.mslice (Referent.rtF (Referent.fInt Syntax.w32)) ref6 2)) Path.refl tt)
-              d5
+          d6 = Typed.g-pre 𝓤 H A W 𝓣 E G38 G39 b15 Δ1 (Typed.give s36) at5 (Know.g-sl-known 𝓤 H A W
+              (Referent.fInt Syntax.w32) E G38 3 2 ref6 life2 0 (λ x. x) record { fits = Dec.lit< tt } (Reads.as-is 𝓤 H
+              A (Mut.mslice (Referent.rtF (Referent.fInt Syntax.w32)) ref6 2)) Path.refl tt) d5
+
           d7 : Typed.Typed 𝓤 H A 𝓣 E G37 b15 Δ1 at7
-          d7 = Typed.g-pre 𝓤 H A W 𝓣 E G37 G38 b15 Δ1 (Typed.both s35) at6 (Relend.g-back-sl 𝓤 H A W E (Referent.rtF (Referent.fInt Syntax.w32)) G37
-              20 3 2 6 ref6 ref3 life2 (λ x. x) (λ x. x) (Reads.as-is 𝓤 H A (Mut.msleft (Referent.rtF (Referent.fInt Syntax.w32)) ref3)) (Reads.as-is
-              𝓤 H A (Relend.mslice-owed (Referent.rtF (Referent.fInt Syntax.w32)) ref6 2 6 life2)) Path.refl Path.refl) d6
+          d7 = Typed.g-pre 𝓤 H A W 𝓣 E G37 G38 b15 Δ1 (Typed.both s35) at6 (Relend.g-back-sl 𝓤 H A W E
+              (Referent.rtF (Referent.fInt Syntax.w32)) G37 20 3 2 6 ref6 ref3 life2 (λ x. x) (λ x. x) (Reads.as-is 𝓤 H
+              A (Mut.msleft (Referent.rtF (Referent.fInt Syntax.w32)) ref3)) (Reads.as-is 𝓤 H A (Relend.mslice-owed
+              (Referent.rtF (Referent.fInt Syntax.w32)) ref6 2 6 life2)) Path.refl Path.refl) d6
+
           d8 : Typed.Typed 𝓤 H A 𝓣 E G36 b15 Δ1 at8
           d8 = Typed.g-pre 𝓤 H A W 𝓣 E G36 G37 b15 Δ1 (λ Ψ. Ψ) at7 (Lifetime.g-end 𝓤 H A W E G36 6 Path.refl) d7
+
           d9 : Typed.Typed 𝓤 H A 𝓣 E G35 b15 Δ1 at9
-          d9 = Typed.g-pre 𝓤 H A W 𝓣 E G35 G36 b15 Δ1 (λ Ψ. Ψ) at8 (Lifetime.g-forget 𝓤 H A W E G35 5 Row.dead Path.refl) d8
+          d9 = Typed.g-pre 𝓤 H A W 𝓣 E G35 G36 b15 Δ1 (λ Ψ. Ψ) at8
+              (Lifetime.g-forget 𝓤 H A W E G35 5 Row.dead Path.refl) d8
+
           d10 : Typed.Typed 𝓤 H A 𝓣 E G34 b15 Δ1 at10
-          d10 = Typed.g-pre 𝓤 H A W 𝓣 E G34 G35 b15 Δ1 (Typed.both s32) at9 (Relend.g-back-sl 𝓤 H A W E InflightAction.row G34 18 2 1 5 ref5 ref2
-              life1 (λ x. x) (λ x. x) (Reads.as-is 𝓤 H A (Mut.msleft InflightAction.row ref2)) (Reads.as-is 𝓤 H A (Relend.mslice-owed
-              InflightAction.row ref5 1 5 life1)) Path.refl Path.refl) d9
+          d10 = Typed.g-pre 𝓤 H A W 𝓣 E G34 G35 b15 Δ1 (Typed.both s32) at9 (Relend.g-back-sl 𝓤 H A W E
+              InflightAction.row G34 18 2 1 5 ref5 ref2 life1 (λ x. x) (λ x. x)
+              (Reads.as-is 𝓤 H A (Mut.msleft InflightAction.row ref2)) (Reads.as-is 𝓤 H A
+              (Relend.mslice-owed InflightAction.row ref5 1 5 life1)) Path.refl Path.refl) d9
+
           d11 : Typed.Typed 𝓤 H A 𝓣 E G33 b15 Δ1 at11
           d11 = Typed.g-pre 𝓤 H A W 𝓣 E G33 G34 b15 Δ1 (λ Ψ. Ψ) at10 (Lifetime.g-end 𝓤 H A W E G33 5 Path.refl) d10
+
           d12 : Typed.Typed 𝓤 H A 𝓣 E G32 b15 Δ1 at12
-          d12 = Typed.g-pre 𝓤 H A W 𝓣 E G32 G33 b15 Δ1 (λ Ψ. Ψ) at11 (Lifetime.g-forget 𝓤 H A W E G32 4 Row.dead Path.refl) d11
+          d12 = Typed.g-pre 𝓤 H A W 𝓣 E G32 G33 b15 Δ1 (λ Ψ. Ψ) at11
+              (Lifetime.g-forget 𝓤 H A W E G32 4 Row.dead Path.refl) d11
+
           d13 : Typed.Typed 𝓤 H A 𝓣 E G31 b15 Δ1 at13
-          d13 = Typed.g-pre 𝓤 H A W 𝓣 E G31 G32 b15 Δ1 (Typed.both s29) at12 (Relend.g-back-sl 𝓤 H A W E RelayCircuit.row G31 16 1 0 4 ref4 ref1 life0
-              (λ x. x) (λ x. x) (Reads.as-is 𝓤 H A (Mut.msleft RelayCircuit.row ref1)) (Reads.as-is 𝓤 H A (Relend.mslice-owed RelayCircuit.row ref4 0
-              4 life0)) Path.refl Path.refl) d12
+          d13 = Typed.g-pre 𝓤 H A W 𝓣 E G31 G32 b15 Δ1 (Typed.both s29) at12 (Relend.g-back-sl 𝓤 H A W E
+              RelayCircuit.row G31 16 1 0 4 ref4 ref1 life0 (λ x. x) (λ x. x)
+              (Reads.as-is 𝓤 H A (Mut.msleft RelayCircuit.row ref1)) (Reads.as-is 𝓤 H A
+              (Relend.mslice-owed RelayCircuit.row ref4 0 4 life0)) Path.refl Path.refl) d12
+
           d14 : Typed.Typed 𝓤 H A 𝓣 E G30 b15 Δ1 at14
           d14 = Typed.g-pre 𝓤 H A W 𝓣 E G30 G31 b15 Δ1 (λ Ψ. Ψ) at13 (Lifetime.g-end 𝓤 H A W E G30 4 Path.refl) d13
+
           d15 : Typed.Typed 𝓤 H A 𝓣 E G29 b15 Δ1 at15
-          d15 = Typed.g-pre 𝓤 H A W 𝓣 E G29 G30 b15 Δ1 (Typed.pass T29 T30 s27) at14 (Scalar.g-room 𝓤 H A W E G29 8 Laws''''.mir (Local.room-whole 𝓤 H
-              A W (Declared'.row Sending.the-type) Laws''''.mir Path.refl)) d14
+          d15 = Typed.g-pre 𝓤 H A W 𝓣 E G29 G30 b15 Δ1 (Typed.pass T29 T30 s27) at14 (Scalar.g-room 𝓤 H A W E G29 8
+              Laws''''.mir (Local.room-whole 𝓤 H A W (Declared'.row Sending.the-type) Laws''''.mir Path.refl)) d14
+
           d16 : Typed.Typed 𝓤 H A 𝓣 E G28 b15 Δ1 at16
-          d16 = Typed.g-pre 𝓤 H A W 𝓣 E G28 G29 b15 Δ1 (Typed.pass T28 T29 s26) at15 (Scalar.g-room 𝓤 H A W E G28 6 Laws.mir (Local.room-whole 𝓤 H A W
-              (Declared.row Notice.the-type) Laws.mir Path.refl)) d15
+          d16 = Typed.g-pre 𝓤 H A W 𝓣 E G28 G29 b15 Δ1 (Typed.pass T28 T29 s26) at15 (Scalar.g-room 𝓤 H A W E G28 6
+              Laws.mir (Local.room-whole 𝓤 H A W (Declared.row Notice.the-type) Laws.mir Path.refl)) d15
+
           d17 : Typed.Typed 𝓤 H A 𝓣 E G27 b16 Δ1 at17
-          d17 = Typed.s-seq 𝓤 H A W 𝓣 E G27 G28 b12 b15 Δ1 (Typed.both s25) at16 (Plain.t-call-plain 𝓤 H A W 𝓣 3 ps·2 r·2 (claims· .4) (claims· .5)
-              "hnsr_circuit::revocation::revoke_circuit" (known .2) E (λ pos β. β) G27 (record { pos = 16; ty = Syntax.tyRef Syntax.erased Syntax.mut
-              RelayCircuit.to; ref = λ x. x; }, (record { pos = 18; ty = Syntax.tyRef Syntax.erased Syntax.mut InflightAction.to; ref = λ x. x; },
-              (record { pos = 20; ty = Syntax.tyRef Syntax.erased Syntax.mut (Syntax.tyInt Syntax.w32); ref = λ x. x; }, (record { pos = 8; st =
-              List.[]; d = 0; at = λ x. x }, (record { pos = 6; st = List.[]; d = 0; at = λ x. x }, (Num.vAt 9 λ x. x, tt),),),),),) 10 (4 ∷ 5 ∷ 6 ∷
-              List.[]) (Call.sub-id 𝓤 H A W (G27 .slots)) (Reads.as-is 𝓤 H A (Mut.mslice RelayCircuit.row ref1 4), Mut.reads-mslice 𝓤 H A W
-              RelayCircuit.row ref1 4, Path.refl, (Reads.as-is 𝓤 H A (Mut.mslice InflightAction.row ref2 5), Mut.reads-mslice 𝓤 H A W
-              InflightAction.row ref2 5, Path.refl, (Reads.as-is 𝓤 H A (Mut.mslice (Referent.rtF (Referent.fInt Syntax.w32)) ref3 6), Mut.reads-mslice
-              𝓤 H A W (Referent.rtF (Referent.fInt Syntax.w32)) ref3 6, Path.refl, ((Yields.yields-copy 𝓤 H A W (λ ρ. Unit) (Declared'.row
-              Sending.the-type) Path.refl (Copies.cStruct Sending.the-type Laws''''.the-laws Laws''''.the-copy .copy 𝓤 H A W) (Rows.whole
-              (Declared'.row Sending.the-type)) (λ x. x) (λ x. x) (λ ρ told. Local.mem-whole 𝓤 H A W (Declared'.row Sending.the-type) ρ) λ ρ told.
-              Local.whole-mem 𝓤 H A W (Declared'.row Sending.the-type) ρ, Path.refl,), ((Yields.yields-copy 𝓤 H A W (λ ρ. Unit) (Declared.row
-              Notice.the-type) Path.refl (Copies.cEnum Notice.the-type Laws.the-laws Laws.the-copy .copy 𝓤 H A W) (Rows.whole (Declared.row
-              Notice.the-type)) (λ x. x) (λ x. x) (λ ρ told. Local.mem-whole 𝓤 H A W (Declared.row Notice.the-type) ρ) λ ρ told. Local.whole-mem 𝓤 H A
-              W (Declared.row Notice.the-type) ρ, Path.refl,), ((Scalar.reads-sc 𝓤 H A W (Row.sInt Syntax.w64), Path.refl), tt),),),),),)
-              (Reads.room-gone 𝓤 H A Laws''''.mir) (tt, (tt, (tt, tt))) Path.refl) d16
+          d17 = Typed.s-seq 𝓤 H A W 𝓣 E G27 G28 b12 b15 Δ1 (Typed.both s25) at16 (Plain.t-call-plain 𝓤 H A W 𝓣 3 ps·2
+              r·2 (claims· .4) (claims· .5) "hnsr_circuit::revocation::revoke_circuit" (known .2) E (λ pos β. β) G27 (
+                record { pos = 16; ty = ref1; ref = λ x. x },
+                (
+                  record { pos = 18; ty = ref2; ref = λ x. x },
+                  (
+                    record { pos = 20; ty = ref3; ref = λ x. x },
+                    (
+                      record { pos = 8; st = List.[]; d = 0; at = λ x. x },
+                      (record { pos = 6; st = List.[]; d = 0; at = λ x. x }, (Num.vAt 9 λ x. x, tt)),
+                    ),
+                  ),
+                ),
+              ) 10 (4 ∷ 5 ∷ 6 ∷ List.[]) (Call.sub-id 𝓤 H A W (G27 .slots)) (
+                Reads.as-is 𝓤 H A (Mut.mslice RelayCircuit.row ref1 4),
+                Mut.reads-mslice 𝓤 H A W RelayCircuit.row ref1 4,
+                Path.refl,
+                (
+                  Reads.as-is 𝓤 H A (Mut.mslice InflightAction.row ref2 5),
+                  Mut.reads-mslice 𝓤 H A W InflightAction.row ref2 5,
+                  Path.refl,
+                  (
+                    Reads.as-is 𝓤 H A (Mut.mslice (Referent.rtF (Referent.fInt Syntax.w32)) ref3 6),
+                    Mut.reads-mslice 𝓤 H A W (Referent.rtF (Referent.fInt Syntax.w32)) ref3 6,
+                    Path.refl,
+                    (
+                      (
+                        Yields.yields-copy 𝓤 H A W (λ ρ. Unit) (Declared'.row Sending.the-type) Path.refl (Copies.cStruct
+                            Sending.the-type Laws''''.the-laws Laws''''.the-copy .copy 𝓤 H A W)
+                            (Rows.whole (Declared'.row Sending.the-type)) (λ x. x) (λ x. x) (λ ρ told. Local.mem-whole
+                            𝓤 H A W (Declared'.row Sending.the-type) ρ) λ ρ told. Local.whole-mem 𝓤 H A W
+                            (Declared'.row Sending.the-type) ρ,
+                        Path.refl,
+                      ),
+                      (
+                        (
+                          Yields.yields-copy 𝓤 H A W (λ ρ. Unit) (Declared.row Notice.the-type) Path.refl (Copies.cEnum
+                              Notice.the-type Laws.the-laws Laws.the-copy .copy 𝓤 H A W)
+                              (Rows.whole (Declared.row Notice.the-type)) (λ x. x) (λ x. x) (λ ρ told. Local.mem-whole
+                              𝓤 H A W (Declared.row Notice.the-type) ρ) λ ρ told. Local.whole-mem 𝓤 H A W
+                              (Declared.row Notice.the-type) ρ,
+                          Path.refl,
+                        ),
+                        ((Scalar.reads-sc 𝓤 H A W (Row.sInt Syntax.w64), Path.refl), tt),
+                      ),
+                    ),
+                  ),
+                ),
+              ) (Reads.room-gone 𝓤 H A Laws''''.mir) (tt, (tt, (tt, tt))) Path.refl) d16
+
           d18 : Typed.Typed 𝓤 H A 𝓣 E G26 b17 Δ1 at18
-          d18 = Typed.s-seq 𝓤 H A W 𝓣 E G26 G27 b11 b16 Δ1 (Typed.ask s24) at17 (Relend.t-sl-aggregate 𝓤 H A W E (Referent.rtF (Referent.fInt
-              Syntax.w32)) 𝓣 (Relend.asMut (Referent.rtF (Referent.fInt Syntax.w32))) G26 19 20 6 ref3 ref3 (λ x. x) (Scalar.oFld 3 ((Syntax.field 1)
-              ∷ List.[]) (Syntax.tyInt Syntax.w64) 8 λ v. Shared.lenV (v .0)) (Reads.as-is 𝓤 H A (Relend.msptr (Referent.rtF (Referent.fInt
-              Syntax.w32)) ref3 6)) (Reads.room-gone 𝓤 H A (Syntax.tyStruct (38 ∷ 91 ∷ 93 ∷ List.[]) (Syntax.tcons ref3 (Syntax.tcons (Syntax.tyInt
-              Syntax.w64) Syntax.tnil)))) (Relend.reads-owed-len 𝓤 H A W (Referent.rtF (Referent.fInt Syntax.w32)) ref6 2 6 life2 8 Path.refl,
-              Path.refl,) Path.refl Path.refl λ b o k. tt) d17
+          d18 = Typed.s-seq 𝓤 H A W 𝓣 E G26 G27 b11 b16 Δ1 (Typed.ask s24) at17 (Relend.t-sl-aggregate 𝓤 H A W E
+              (Referent.rtF (Referent.fInt Syntax.w32)) 𝓣 (Relend.asMut (Referent.rtF (Referent.fInt Syntax.w32))) G26
+              19 20 6 ref3 ref3 (λ x. x) (Scalar.oFld 3 ((Syntax.field 1) ∷ List.[]) (Syntax.tyInt Syntax.w64) 8 λ v.
+              Shared.lenV (v .0)) (Reads.as-is 𝓤 H A (Relend.msptr (Referent.rtF (Referent.fInt Syntax.w32)) ref3 6))
+              (Reads.room-gone 𝓤 H A slice3) (
+                Relend.reads-owed-len 𝓤 H A W (Referent.rtF (Referent.fInt Syntax.w32)) ref6 2 6 life2 8 Path.refl,
+                Path.refl,
+              ) Path.refl Path.refl λ b o k. tt) d17
+
           d19 : Typed.Typed 𝓤 H A 𝓣 E G25 b18 Δ1 at19
-          d19 = Typed.s-seq 𝓤 H A W 𝓣 E G25 G26 b10 b17 Δ1 (Typed.give s23) at18 (Relend.t-sl-relend 𝓤 H A W E (Referent.rtF (Referent.fInt
-              Syntax.w32)) 𝓣 G25 3 19 2 6 ref6 ref3 life2 0 (λ x. x) (Reads.as-is 𝓤 H A (Mut.mslice (Referent.rtF (Referent.fInt Syntax.w32)) ref6 2))
-              (Reads.room-gone 𝓤 H A ref3) Path.refl tt Path.refl Path.refl Path.refl λ b o. tt) d18
+          d19 = Typed.s-seq 𝓤 H A W 𝓣 E G25 G26 b10 b17 Δ1 (Typed.give s23) at18 (Relend.t-sl-relend 𝓤 H A W E
+              (Referent.rtF (Referent.fInt Syntax.w32)) 𝓣 G25 3 19 2 6 ref6 ref3 life2 0 (λ x. x) (Reads.as-is 𝓤 H A (Mut.mslice
+              (Referent.rtF (Referent.fInt Syntax.w32)) ref6 2)) (Reads.room-gone 𝓤 H A ref3) Path.refl tt Path.refl
+              Path.refl Path.refl λ b o. tt) d18
+
           d20 : Typed.Typed 𝓤 H A 𝓣 E G24 b18 Δ1 at20
-          d20 = Typed.g-pre 𝓤 H A W 𝓣 E G24 G25 b18 Δ1 (λ Ψ. Ψ) at19 (Lifetime.g-begin 𝓤 H A W E G24 6 (tt, ((tt, tt), ((tt, tt), (tt, (tt, (tt, (tt,
-              (tt, (tt, (tt, (tt, (tt, (tt, (tt, (tt, (tt, (tt, (tt, (tt, (tt, (tt, tt)))))))),),),),),),),),),),),),),)) d19
+          d20 = Typed.g-pre 𝓤 H A W 𝓣 E G24 G25 b18 Δ1 (λ Ψ. Ψ) at19 (Lifetime.g-begin 𝓤 H A W E G24 6 (
+            tt,
+            (
+              (tt, tt),
+              (
+                (tt, tt),
+                (
+                  tt,
+                  (
+                    tt,
+                    (tt, (tt, (tt, (tt, (tt, (tt, (tt, (tt, (tt, (tt, (tt, (tt, (tt, (tt, (tt, (tt, tt)))))))))))))))),
+                  ),
+                ),
+              ),
+            ),
+          )) d19
+
           d21 : Typed.Typed 𝓤 H A 𝓣 E G23 b19 Δ1 at21
-          d21 = Typed.s-seq 𝓤 H A W 𝓣 E G23 G24 b9 b18 Δ1 (Typed.ask s21) at20 (Relend.t-sl-aggregate 𝓤 H A W E InflightAction.row 𝓣 (Relend.asMut
-              InflightAction.row) G23 17 18 5 ref2 ref2 (λ x. x) (Scalar.oFld 2 ((Syntax.field 1) ∷ List.[]) (Syntax.tyInt Syntax.w64) 8 λ v.
-              Shared.lenV (v .0)) (Reads.as-is 𝓤 H A (Relend.msptr InflightAction.row ref2 5)) (Reads.room-gone 𝓤 H A (Syntax.tyStruct (38 ∷ 91 ∷ 93 ∷
-              List.[]) (Syntax.tcons ref2 (Syntax.tcons (Syntax.tyInt Syntax.w64) Syntax.tnil)))) (Relend.reads-owed-len 𝓤 H A W InflightAction.row
-              ref5 1 5 life1 8 Path.refl, Path.refl,) Path.refl Path.refl λ b o k. tt) d20
+          d21 = Typed.s-seq 𝓤 H A W 𝓣 E G23 G24 b9 b18 Δ1 (Typed.ask s21) at20 (Relend.t-sl-aggregate 𝓤 H A W E
+              InflightAction.row 𝓣 (Relend.asMut InflightAction.row) G23 17 18 5 ref2 ref2 (λ x. x) (Scalar.oFld 2
+              ((Syntax.field 1) ∷ List.[]) (Syntax.tyInt Syntax.w64) 8 λ v. Shared.lenV (v .0)) (Reads.as-is 𝓤 H A
+              (Relend.msptr InflightAction.row ref2 5)) (Reads.room-gone 𝓤 H A slice2) (
+                Relend.reads-owed-len 𝓤 H A W InflightAction.row ref5 1 5 life1 8 Path.refl,
+                Path.refl,
+              ) Path.refl Path.refl λ b o k. tt) d20
+
           d22 : Typed.Typed 𝓤 H A 𝓣 E G22 b20 Δ1 at22
-          d22 = Typed.s-seq 𝓤 H A W 𝓣 E G22 G23 b8 b19 Δ1 (Typed.give s20) at21 (Relend.t-sl-relend 𝓤 H A W E InflightAction.row 𝓣 G22 2 17 1 5 ref5
-              ref2 life1 0 (λ x. x) (Reads.as-is 𝓤 H A (Mut.mslice InflightAction.row ref5 1)) (Reads.room-gone 𝓤 H A ref2) Path.refl tt Path.refl
-              Path.refl Path.refl λ b o. tt) d21
+          d22 = Typed.s-seq 𝓤 H A W 𝓣 E G22 G23 b8 b19 Δ1 (Typed.give s20) at21 (Relend.t-sl-relend 𝓤 H A W E
+              InflightAction.row 𝓣 G22 2 17 1 5 ref5 ref2 life1 0 (λ x. x)
+              (Reads.as-is 𝓤 H A (Mut.mslice InflightAction.row ref5 1)) (Reads.room-gone 𝓤 H A ref2) Path.refl tt
+              Path.refl Path.refl Path.refl λ b o. tt) d21
+
           d23 : Typed.Typed 𝓤 H A 𝓣 E G21 b20 Δ1 at23
-          d23 = Typed.g-pre 𝓤 H A W 𝓣 E G21 G22 b20 Δ1 (λ Ψ. Ψ) at22 (Lifetime.g-begin 𝓤 H A W E G21 5 (tt, ((tt, tt), (tt, (tt, (tt, (tt, (tt, (tt,
-              (tt, (tt, (tt, (tt, (tt, (tt, (tt, (tt, (tt, (tt, (tt, (tt, (tt, tt)))))))),),),),),),),),),),),),),)) d22
+          d23 = Typed.g-pre 𝓤 H A W 𝓣 E G21 G22 b20 Δ1 (λ Ψ. Ψ) at22 (Lifetime.g-begin 𝓤 H A W E G21 5 (
+            tt,
+            (
+              (tt, tt),
+              (
+                tt,
+                (
+                  tt,
+                  (
+                    tt,
+                    (tt, (tt, (tt, (tt, (tt, (tt, (tt, (tt, (tt, (tt, (tt, (tt, (tt, (tt, (tt, (tt, tt)))))))))))))))),
+                  ),
+                ),
+              ),
+            ),
+          )) d22
+
           d24 : Typed.Typed 𝓤 H A 𝓣 E G20 b21 Δ1 at24
-          d24 = Typed.s-seq 𝓤 H A W 𝓣 E G20 G21 b7 b20 Δ1 (Typed.ask s18) at23 (Relend.t-sl-aggregate 𝓤 H A W E RelayCircuit.row 𝓣 (Relend.asMut
-              RelayCircuit.row) G20 15 16 4 ref1 ref1 (λ x. x) (Scalar.oFld 1 ((Syntax.field 1) ∷ List.[]) (Syntax.tyInt Syntax.w64) 8 λ v.
-              Shared.lenV (v .0)) (Reads.as-is 𝓤 H A (Relend.msptr RelayCircuit.row ref1 4)) (Reads.room-gone 𝓤 H A (Syntax.tyStruct (38 ∷ 91 ∷ 93 ∷
-              List.[]) (Syntax.tcons ref1 (Syntax.tcons (Syntax.tyInt Syntax.w64) Syntax.tnil)))) (Relend.reads-owed-len 𝓤 H A W RelayCircuit.row ref4
-              0 4 life0 8 Path.refl, Path.refl,) Path.refl Path.refl λ b o k. tt) d23
+          d24 = Typed.s-seq 𝓤 H A W 𝓣 E G20 G21 b7 b20 Δ1 (Typed.ask s18) at23 (Relend.t-sl-aggregate 𝓤 H A W E
+              RelayCircuit.row 𝓣 (Relend.asMut RelayCircuit.row) G20 15 16 4 ref1 ref1 (λ x. x) (Scalar.oFld 1
+              ((Syntax.field 1) ∷ List.[]) (Syntax.tyInt Syntax.w64) 8 λ v. Shared.lenV (v .0))
+              (Reads.as-is 𝓤 H A (Relend.msptr RelayCircuit.row ref1 4)) (Reads.room-gone 𝓤 H A slice1) (
+                Relend.reads-owed-len 𝓤 H A W RelayCircuit.row ref4 0 4 life0 8 Path.refl,
+                Path.refl,
+              ) Path.refl Path.refl λ b o k. tt) d23
+
           d25 : Typed.Typed 𝓤 H A 𝓣 E G19 b22 Δ1 at25
-          d25 = Typed.s-seq 𝓤 H A W 𝓣 E G19 G20 b6 b21 Δ1 (Typed.give s17) at24 (Relend.t-sl-relend 𝓤 H A W E RelayCircuit.row 𝓣 G19 1 15 0 4 ref4
-              ref1 life0 0 (λ x. x) (Reads.as-is 𝓤 H A (Mut.mslice RelayCircuit.row ref4 0)) (Reads.room-gone 𝓤 H A ref1) Path.refl tt Path.refl
-              Path.refl Path.refl λ b o. tt) d24
+          d25 = Typed.s-seq 𝓤 H A W 𝓣 E G19 G20 b6 b21 Δ1 (Typed.give s17) at24 (Relend.t-sl-relend 𝓤 H A W E
+              RelayCircuit.row 𝓣 G19 1 15 0 4 ref4 ref1 life0 0 (λ x. x)
+              (Reads.as-is 𝓤 H A (Mut.mslice RelayCircuit.row ref4 0)) (Reads.room-gone 𝓤 H A ref1) Path.refl tt
+              Path.refl Path.refl Path.refl λ b o. tt) d24
+
           d26 : Typed.Typed 𝓤 H A 𝓣 E G18 b22 Δ1 at26
-          d26 = Typed.g-pre 𝓤 H A W 𝓣 E G18 G19 b22 Δ1 (λ Ψ. Ψ) at25 (Lifetime.g-begin 𝓤 H A W E G18 4 (tt, (tt, (tt, (tt, (tt, (tt, (tt, (tt, (tt,
-              (tt, (tt, (tt, (tt, (tt, (tt, (tt, (tt, (tt, (tt, (tt, (tt, tt)))))))),),),),),),),),),),),),),)) d25
+          d26 = Typed.g-pre 𝓤 H A W 𝓣 E G18 G19 b22 Δ1 (λ Ψ. Ψ) at25 (Lifetime.g-begin 𝓤 H A W E G18 4 (
+            tt,
+            (
+              tt,
+              (
+                tt,
+                (
+                  tt,
+                  (
+                    tt,
+                    (tt, (tt, (tt, (tt, (tt, (tt, (tt, (tt, (tt, (tt, (tt, (tt, (tt, (tt, (tt, (tt, tt)))))))))))))))),
+                  ),
+                ),
+              ),
+            ),
+          )) d25
+
           d27 : Typed.Typed 𝓤 H A 𝓣 E G17 b22 Δ1 at27
-          d27 = Typed.g-pre 𝓤 H A W 𝓣 E G17 G18 b22 Δ1 (Typed.pass T17 T18 s15) at26 (Scalar.g-room 𝓤 H A W E G17 14 Syntax.tyBool (Scalar.room-sc 𝓤 H
-              A W Row.sBool)) d26
+          d27 = Typed.g-pre 𝓤 H A W 𝓣 E G17 G18 b22 Δ1 (Typed.pass T17 T18 s15) at26 (Scalar.g-room 𝓤 H A W E G17 14
+              Syntax.tyBool (Scalar.room-sc 𝓤 H A W Row.sBool)) d26
+
           d28 : Typed.Typed 𝓤 H A 𝓣 E G46 b23 Δ1 at28
           d28 = Typed.t-skip 𝓤 H A W 𝓣 E Δ1 tt
+
           d29 : Typed.Typed 𝓤 H A 𝓣 E G45 b23 Δ1 at29
-          d29 = Typed.g-pre 𝓤 H A W 𝓣 E G45 G46 b23 Δ1 (Typed.pass T45 T46 s43) at28 (Scalar.g-room 𝓤 H A W E G45 14 Syntax.tyBool (Scalar.room-sc 𝓤 H
-              A W Row.sBool)) d28
+          d29 = Typed.g-pre 𝓤 H A W 𝓣 E G45 G46 b23 Δ1 (Typed.pass T45 T46 s43) at28 (Scalar.g-room 𝓤 H A W E G45 14
+              Syntax.tyBool (Scalar.room-sc 𝓤 H A W Row.sBool)) d28
+
           d30 : Typed.Typed 𝓤 H A 𝓣 E G17 b23 Δ1 at30
-          d30 = Typed.g-pre 𝓤 H A W 𝓣 E G17 G45 b23 Δ1 (Typed.pass T17 T45 s42) at29 (Scalar.g-room 𝓤 H A W E G17 6 Laws.mir (Local.room-whole 𝓤 H A W
-              (Declared.row Notice.the-type) Laws.mir Path.refl)) d29
+          d30 = Typed.g-pre 𝓤 H A W 𝓣 E G17 G45 b23 Δ1 (Typed.pass T17 T45 s42) at29 (Scalar.g-room 𝓤 H A W E G17 6
+              Laws.mir (Local.room-whole 𝓤 H A W (Declared.row Notice.the-type) Laws.mir Path.refl)) d29
+
           d31 : Typed.Typed 𝓤 H A 𝓣 E G17 b24 Δ1 at31
-          d31 = Scalar.t-cond 𝓤 H A W E 𝓣 G17 14 (λ x. x) b22 b23 Δ1 at27 at30 (Scalar.reads-sc 𝓤 H A W Row.sBool) Path.refl d27 d30
+          d31 = Scalar.t-cond 𝓤 H A W E 𝓣 G17 14 (λ x. x) b22 b23 Δ1 at27 at30 (Scalar.reads-sc 𝓤 H A W Row.sBool)
+              Path.refl d27 d30
+
           d32 : Typed.Typed 𝓤 H A 𝓣 E G15 b24 Δ1 at32
-          d32 = Typed.g-pre 𝓤 H A W 𝓣 E G15 G17 b24 Δ1 (Typed.pass T15 T17 s14) at31 (Scalar.g-room 𝓤 H A W E G15 13 (Syntax.tyInt Syntax.w64)
-              (Scalar.room-sc 𝓤 H A W (Row.sInt Syntax.w64))) d31
+          d32 = Typed.g-pre 𝓤 H A W 𝓣 E G15 G17 b24 Δ1 (Typed.pass T15 T17 s14) at31 (Scalar.g-room 𝓤 H A W E G15 13
+              (Syntax.tyInt Syntax.w64) (Scalar.room-sc 𝓤 H A W (Row.sInt Syntax.w64))) d31
+
           d33 : Typed.Typed 𝓤 H A 𝓣 E G50 b26 Δ0 at33
           d33 = Typed.t-return 𝓤 H A W 𝓣 E Δ0 tt
+
           d34 : Typed.Typed 𝓤 H A 𝓣 E G49 b26 Δ0 at34
-          d34 = Typed.g-pre 𝓤 H A W 𝓣 E G49 G50 b26 Δ0 (Typed.pass T49 T50 s47) at33 (Scalar.g-room 𝓤 H A W E G49 7 (Syntax.tyInt Syntax.w64)
-              (Scalar.room-sc 𝓤 H A W (Row.sInt Syntax.w64))) d33
+          d34 = Typed.g-pre 𝓤 H A W 𝓣 E G49 G50 b26 Δ0 (Typed.pass T49 T50 s47) at33 (Scalar.g-room 𝓤 H A W E G49 7
+              (Syntax.tyInt Syntax.w64) (Scalar.room-sc 𝓤 H A W (Row.sInt Syntax.w64))) d33
+
           d35 : Typed.Typed 𝓤 H A 𝓣 E G48 b26 Δ0 at35
-          d35 = Typed.g-pre 𝓤 H A W 𝓣 E G48 G49 b26 Δ0 (Typed.pass T48 T49 s46) at34 (Scalar.g-room 𝓤 H A W E G48 9 (Syntax.tyInt Syntax.w64)
-              (Scalar.room-sc 𝓤 H A W (Row.sInt Syntax.w64))) d34
+          d35 = Typed.g-pre 𝓤 H A W 𝓣 E G48 G49 b26 Δ0 (Typed.pass T48 T49 s46) at34 (Scalar.g-room 𝓤 H A W E G48 9
+              (Syntax.tyInt Syntax.w64) (Scalar.room-sc 𝓤 H A W (Row.sInt Syntax.w64))) d34
+
           d36 : Typed.Typed 𝓤 H A 𝓣 E G47 b26 Δ0 at36
-          d36 = Typed.g-pre 𝓤 H A W 𝓣 E G47 G48 b26 Δ0 (Typed.pass T47 T48 s45) at35 (Scalar.g-room 𝓤 H A W E G47 8 Laws''''.mir (Local.room-whole 𝓤 H
-              A W (Declared'.row Sending.the-type) Laws''''.mir Path.refl)) d35
+          d36 = Typed.g-pre 𝓤 H A W 𝓣 E G47 G48 b26 Δ0 (Typed.pass T47 T48 s45) at35 (Scalar.g-room 𝓤 H A W E G47 8
+              Laws''''.mir (Local.room-whole 𝓤 H A W (Declared'.row Sending.the-type) Laws''''.mir Path.refl)) d35
+
           d37 : Typed.Typed 𝓤 H A 𝓣 E G16 b27 Δ0 at37
-          d37 = Typed.s-seq 𝓤 H A W 𝓣 E G16 G47 b25 b26 Δ0 (Typed.both s44) at36 (Plain.t-call-plain 𝓤 H A W 𝓣 0 ps·3 r·3 (claims· .6) (claims· .7)
-              "hnsr_circuit::revocation::finished" (known .3) E (λ pos β. β) G16 (record { pos = 8; st = List.[]; d = 0; at = λ x. x }, tt) 0 List.[]
-              (Call.sub-id 𝓤 H A W (G16 .slots)) ((Yields.yields-copy 𝓤 H A W (λ ρ. Unit) (Declared'.row Sending.the-type) Path.refl (Copies.cStruct
-              Sending.the-type Laws''''.the-laws Laws''''.the-copy .copy 𝓤 H A W) (Rows.whole (Declared'.row Sending.the-type)) (λ x. x) (λ x. x) (λ ρ
-              told. Local.mem-whole 𝓤 H A W (Declared'.row Sending.the-type) ρ) λ ρ told. Local.whole-mem 𝓤 H A W (Declared'.row Sending.the-type) ρ,
-              Path.refl,), tt,) (Reads.room-gone 𝓤 H A Laws'''.mir) tt Path.refl) d36
+          d37 = Typed.s-seq 𝓤 H A W 𝓣 E G16 G47 b25 b26 Δ0 (Typed.both s44) at36 (Plain.t-call-plain 𝓤 H A W 𝓣 0 ps·3
+              r·3 (claims· .6) (claims· .7) "hnsr_circuit::revocation::finished" (known .3) E (λ pos β. β) G16
+              (record { pos = 8; st = List.[]; d = 0; at = λ x. x }, tt) 0 List.[] (Call.sub-id 𝓤 H A W (G16 .slots)) (
+                (
+                  Yields.yields-copy 𝓤 H A W (λ ρ. Unit) (Declared'.row Sending.the-type) Path.refl (Copies.cStruct
+                      Sending.the-type Laws''''.the-laws Laws''''.the-copy .copy 𝓤 H A W)
+                      (Rows.whole (Declared'.row Sending.the-type)) (λ x. x) (λ x. x) (λ ρ told. Local.mem-whole 𝓤 H A
+                      W (Declared'.row Sending.the-type) ρ) λ ρ told. Local.whole-mem 𝓤 H A W
+                      (Declared'.row Sending.the-type) ρ,
+                  Path.refl,
+                ),
+                tt,
+              ) (Reads.room-gone 𝓤 H A Laws'''.mir) tt Path.refl) d36
+
           d38 : Typed.Typed 𝓤 H A 𝓣 E G15 b28 Δ0 at38
           d38 = Typed.t-seq 𝓤 H A W 𝓣 E G15 G16 b24 b27 Δ0 at32 at37 d32 d37
+
           d39 : Typed.Typed 𝓤 H A 𝓣 E G14 b29 Δ0 at39
-          d39 = Typed.s-seq 𝓤 H A W 𝓣 E G14 G15 b5 b28 Δ0 (Typed.ask s13) at38 (Scalar.t-op2 𝓤 H A W E 𝓣 G14 (Syntax.lt Syntax.unsigned) (Scalar.oAt 9
-              (Syntax.tyInt Syntax.w64) (Row.valS (Row.sInt Syntax.w64))) (Scalar.oAt 13 (Syntax.tyInt Syntax.w64) (Row.valS (Row.sInt Syntax.w64)))
-              14 (Rows.sc-here Row.sBool) Syntax.tyBool (Row.valS Row.sBool) (Row.sBool .of) (Scalar.reads-sc 𝓤 H A W (Row.sInt Syntax.w64),
-              Path.refl) (Scalar.reads-sc 𝓤 H A W (Row.sInt Syntax.w64), Path.refl) (Reads.room-gone 𝓤 H A Syntax.tyBool) (Scalar.holds-sc 𝓤 H A W
-              Row.sBool) Path.refl (λ u. Path.refl) λ u. tt) d38
+          d39 = Typed.s-seq 𝓤 H A W 𝓣 E G14 G15 b5 b28 Δ0 (Typed.ask s13) at38 (Scalar.t-op2 𝓤 H A W E 𝓣 G14
+              (Syntax.lt Syntax.unsigned) (Scalar.oAt 9 (Syntax.tyInt Syntax.w64) (Row.valS (Row.sInt Syntax.w64))) (Scalar.oAt
+              13 (Syntax.tyInt Syntax.w64) (Row.valS (Row.sInt Syntax.w64))) 14 (Rows.sc-here Row.sBool) Syntax.tyBool
+              (Row.valS Row.sBool) (Row.sBool .of) (Scalar.reads-sc 𝓤 H A W (Row.sInt Syntax.w64), Path.refl)
+              (Scalar.reads-sc 𝓤 H A W (Row.sInt Syntax.w64), Path.refl) (Reads.room-gone 𝓤 H A Syntax.tyBool)
+              (Scalar.holds-sc 𝓤 H A W Row.sBool) Path.refl (λ u. Path.refl) λ u. tt) d38
+
           d40 : Typed.Typed 𝓤 H A 𝓣 E G13 b30 Δ0 at40
-          d40 = Typed.s-seq 𝓤 H A W 𝓣 E G13 G14 b4 b29 Δ0 (Typed.pass T12 T14 s12) at39 (Scalar.t-use 𝓤 H A W E 𝓣 G13 (Scalar.oFld 1 ((Syntax.field 1)
-              ∷ List.[]) (Syntax.tyInt Syntax.w64) 8 Shared.lenV) 13 (Rows.sc-here (Row.sInt Syntax.w64)) (Syntax.tyInt Syntax.w64) (Row.valS
-              (Row.sInt Syntax.w64)) (Row.sInt Syntax.w64 .of) (Mut.reads-mslice-len 𝓤 H A W RelayCircuit.row ref4 0 8 Path.refl, Path.refl,)
-              (Reads.room-gone 𝓤 H A (Syntax.tyInt Syntax.w64)) (Scalar.holds-sc 𝓤 H A W (Row.sInt Syntax.w64)) Path.refl (λ u. Path.refl) λ u. tt)
-              d39
+          d40 = Typed.s-seq 𝓤 H A W 𝓣 E G13 G14 b4 b29 Δ0 (Typed.pass T12 T14 s12) at39 (Scalar.t-use 𝓤 H A W E 𝓣 G13 (Scalar.oFld
+              1 ((Syntax.field 1) ∷ List.[]) (Syntax.tyInt Syntax.w64) 8 Shared.lenV) 13
+              (Rows.sc-here (Row.sInt Syntax.w64)) (Syntax.tyInt Syntax.w64) (Row.valS (Row.sInt Syntax.w64))
+              (Row.sInt Syntax.w64 .of) (Mut.reads-mslice-len 𝓤 H A W RelayCircuit.row ref4 0 8 Path.refl, Path.refl)
+              (Reads.room-gone 𝓤 H A (Syntax.tyInt Syntax.w64)) (Scalar.holds-sc 𝓤 H A W (Row.sInt Syntax.w64))
+              Path.refl (λ u. Path.refl) λ u. tt) d39
+
           d41 : Typed.Typed 𝓤 H A 𝓣 E G12 b30 Δ0 at41
-          d41 = Typed.g-pre 𝓤 H A W 𝓣 E G12 G13 b30 Δ0 (λ Ψ. Ψ) at40 (Lifetime.g-forget 𝓤 H A W E G12 3 Row.dead Path.refl) d40
+          d41 = Typed.g-pre 𝓤 H A W 𝓣 E G12 G13 b30 Δ0 (λ Ψ. Ψ) at40
+              (Lifetime.g-forget 𝓤 H A W E G12 3 Row.dead Path.refl) d40
+
           d42 : Typed.Typed 𝓤 H A 𝓣 E G11 b30 Δ0 at42
-          d42 = Typed.g-pre 𝓤 H A W 𝓣 E G11 G12 b30 Δ0 (Typed.pass T10 T12 s10) at41 (Reshare.g-back-sl-shr 𝓤 H A W E RelayCircuit.row G11 1 0 3 ref4
-              life0 (λ x. x) (Reads.as-is 𝓤 H A (Reshare.mslice-owedS RelayCircuit.row ref4 0 3 life0)) Path.refl Path.refl) d41
+          d42 = Typed.g-pre 𝓤 H A W 𝓣 E G11 G12 b30 Δ0 (Typed.pass T10 T12 s10) at41 (Reshare.g-back-sl-shr 𝓤 H A W E
+              RelayCircuit.row G11 1 0 3 ref4 life0 (λ x. x) (Reads.as-is 𝓤 H A
+              (Reshare.mslice-owedS RelayCircuit.row ref4 0 3 life0)) Path.refl Path.refl) d41
+
           d43 : Typed.Typed 𝓤 H A 𝓣 E G10 b30 Δ0 at43
           d43 = Typed.g-pre 𝓤 H A W 𝓣 E G10 G11 b30 Δ0 (λ Ψ. Ψ) at42 (Lifetime.g-end 𝓤 H A W E G10 3 Path.refl) d42
+
           d44 : Typed.Typed 𝓤 H A 𝓣 E G9 b30 Δ0 at44
-          d44 = Typed.g-pre 𝓤 H A W 𝓣 E G9 G10 b30 Δ0 (Typed.pass T9 T10 s8) at43 (Scalar.g-room 𝓤 H A W E G9 5 Laws'.mir (Local.room-whole 𝓤 H A W
-              (Declared'.row Places.the-type) Laws'.mir Path.refl)) d43
+          d44 = Typed.g-pre 𝓤 H A W 𝓣 E G9 G10 b30 Δ0 (Typed.pass T9 T10 s8) at43 (Scalar.g-room 𝓤 H A W E G9 5
+              Laws'.mir (Local.room-whole 𝓤 H A W (Declared'.row Places.the-type) Laws'.mir Path.refl)) d43
+
           d45 : Typed.Typed 𝓤 H A 𝓣 E G8 b30 Δ0 at45
-          d45 = Typed.g-pre 𝓤 H A W 𝓣 E G8 G9 b30 Δ0 (Typed.pass T8 T9 s7) at44 (Scalar.g-room 𝓤 H A W E G8 12 (Syntax.tyStruct (38 ∷ 91 ∷ 93 ∷
-              List.[]) (Syntax.tcons ref0 (Syntax.tcons (Syntax.tyInt Syntax.w64) Syntax.tnil))) (Shared.room-sslice 𝓤 H A W RelayCircuit.row ref0 3))
-              d44
+          d45 = Typed.g-pre 𝓤 H A W 𝓣 E G8 G9 b30 Δ0 (Typed.pass T8 T9 s7) at44 (Scalar.g-room 𝓤 H A W E G8 12 slice0
+              (Shared.room-sslice 𝓤 H A W RelayCircuit.row ref0 3)) d44
+
           d46 : Typed.Typed 𝓤 H A 𝓣 E G7 b31 Δ0 at46
-          d46 = Typed.s-seq 𝓤 H A W 𝓣 E G7 G8 b3 b30 Δ0 (Typed.both s6) at45 (Plain.t-call-plain 𝓤 H A W 𝓣 1 ps·1 r·1 (claims· .2) (claims· .3)
-              "hnsr_circuit::tables::circuits::find_circuit_id" (known .1) E (λ pos β. β) G7 (record { pos = 12; ty = Syntax.tyRef Syntax.erased
-              Syntax.imm RelayCircuit.to; ref = λ x. x; }, (record { pos = 5; st = List.[]; d = 0; at = λ x. x }, (Num.vAt 7 λ x. x, tt)),) 9 (3 ∷
-              List.[]) (Call.sub-id 𝓤 H A W (G7 .slots)) (ShrSlice.spares-sslice 𝓤 H A W RelayCircuit.row ref0 3, Shared.reads-sslice 𝓤 H A W
-              RelayCircuit.row ref0 3, Path.refl, ((Yields.yields-copy 𝓤 H A W (λ ρ. Unit) (Declared'.row Places.the-type) Path.refl (Copies.cStruct
-              Places.the-type Laws'.the-laws Laws'.the-copy .copy 𝓤 H A W) (Rows.whole (Declared'.row Places.the-type)) (λ x. x) (λ x. x) (λ ρ told.
-              Local.mem-whole 𝓤 H A W (Declared'.row Places.the-type) ρ) λ ρ told. Local.whole-mem 𝓤 H A W (Declared'.row Places.the-type) ρ,
-              Path.refl,), ((Scalar.reads-sc 𝓤 H A W (Row.sInt Syntax.w64), Path.refl), tt),),) (Reads.room-gone 𝓤 H A (Syntax.tyInt Syntax.w64)) (tt,
-              tt) Path.refl) d45
+          d46 = Typed.s-seq 𝓤 H A W 𝓣 E G7 G8 b3 b30 Δ0 (Typed.both s6) at45 (Plain.t-call-plain 𝓤 H A W 𝓣 1 ps·1 r·1
+              (claims· .2) (claims· .3) "hnsr_circuit::tables::circuits::find_circuit_id" (known .1) E (λ pos β. β) G7 (
+                record { pos = 12; ty = ref0; ref = λ x. x },
+                (record { pos = 5; st = List.[]; d = 0; at = λ x. x }, (Num.vAt 7 λ x. x, tt)),
+              ) 9 (3 ∷ List.[]) (Call.sub-id 𝓤 H A W (G7 .slots)) (
+                ShrSlice.spares-sslice 𝓤 H A W RelayCircuit.row ref0 3,
+                Shared.reads-sslice 𝓤 H A W RelayCircuit.row ref0 3,
+                Path.refl,
+                (
+                  (
+                    Yields.yields-copy 𝓤 H A W (λ ρ. Unit) (Declared'.row Places.the-type) Path.refl (Copies.cStruct
+                        Places.the-type Laws'.the-laws Laws'.the-copy .copy 𝓤 H A W)
+                        (Rows.whole (Declared'.row Places.the-type)) (λ x. x) (λ x. x) (λ ρ told. Local.mem-whole 𝓤 H A
+                        W (Declared'.row Places.the-type) ρ) λ ρ told. Local.whole-mem 𝓤 H A W
+                        (Declared'.row Places.the-type) ρ,
+                    Path.refl,
+                  ),
+                  ((Scalar.reads-sc 𝓤 H A W (Row.sInt Syntax.w64), Path.refl), tt),
+                ),
+              ) (Reads.room-gone 𝓤 H A (Syntax.tyInt Syntax.w64)) (tt, tt) Path.refl) d45
+
           d47 : Typed.Typed 𝓤 H A 𝓣 E G6 b32 Δ0 at47
-          d47 = Typed.s-seq 𝓤 H A W 𝓣 E G6 G7 b2 b31 Δ0 (Typed.ask s5) at46 (Relend.t-sl-aggregate 𝓤 H A W E RelayCircuit.row 𝓣 (Relend.asShr
-              RelayCircuit.row) G6 11 12 3 ref0 ref0 (λ x. x) (Scalar.oFld 1 ((Syntax.field 1) ∷ List.[]) (Syntax.tyInt Syntax.w64) 8 λ v. Shared.lenV
-              (v .0)) (Reads.as-is 𝓤 H A (Relend.ssptr RelayCircuit.row ref0 3)) (Reads.room-gone 𝓤 H A (Syntax.tyStruct (38 ∷ 91 ∷ 93 ∷ List.[])
-              (Syntax.tcons ref0 (Syntax.tcons (Syntax.tyInt Syntax.w64) Syntax.tnil)))) (Reshare.reads-owedS-len 𝓤 H A W RelayCircuit.row ref4 0 3
-              life0 8 Path.refl, Path.refl,) Path.refl Path.refl λ b o k. tt) d46
+          d47 = Typed.s-seq 𝓤 H A W 𝓣 E G6 G7 b2 b31 Δ0 (Typed.ask s5) at46 (Relend.t-sl-aggregate 𝓤 H A W E
+              RelayCircuit.row 𝓣 (Relend.asShr RelayCircuit.row) G6 11 12 3 ref0 ref0 (λ x. x) (Scalar.oFld 1
+              ((Syntax.field 1) ∷ List.[]) (Syntax.tyInt Syntax.w64) 8 λ v. Shared.lenV (v .0))
+              (Reads.as-is 𝓤 H A (Relend.ssptr RelayCircuit.row ref0 3)) (Reads.room-gone 𝓤 H A slice0) (
+                Reshare.reads-owedS-len 𝓤 H A W RelayCircuit.row ref4 0 3 life0 8 Path.refl,
+                Path.refl,
+              ) Path.refl Path.refl λ b o k. tt) d46
+
           d48 : Typed.Typed 𝓤 H A 𝓣 E G5 b33 Δ0 at48
-          d48 = Typed.s-seq 𝓤 H A W 𝓣 E G5 G6 b1 b32 Δ0 (Typed.give s4) at47 (Reshare.t-sl-reshare 𝓤 H A W E RelayCircuit.row 𝓣 G5 1 11 0 3 ref4 ref0
-              life0 0 (λ x. x) (Reads.as-is 𝓤 H A (Mut.mslice RelayCircuit.row ref4 0)) (Reads.room-gone 𝓤 H A ref0) Path.refl tt Path.refl Path.refl
-              Path.refl λ b o. tt) d47
+          d48 = Typed.s-seq 𝓤 H A W 𝓣 E G5 G6 b1 b32 Δ0 (Typed.give s4) at47 (Reshare.t-sl-reshare 𝓤 H A W E
+              RelayCircuit.row 𝓣 G5 1 11 0 3 ref4 ref0 life0 0 (λ x. x)
+              (Reads.as-is 𝓤 H A (Mut.mslice RelayCircuit.row ref4 0)) (Reads.room-gone 𝓤 H A ref0) Path.refl tt
+              Path.refl Path.refl Path.refl λ b o. tt) d47
+
           d49 : Typed.Typed 𝓤 H A 𝓣 E G4 b33 Δ0 at49
-          d49 = Typed.g-pre 𝓤 H A W 𝓣 E G4 G5 b33 Δ0 (λ Ψ. Ψ) at48 (Lifetime.g-begin 𝓤 H A W E G4 3 (tt, (tt, (tt, (tt, (tt, (tt, (tt, (tt, (tt, (tt,
-              (tt, (tt, (tt, (tt, (tt, (tt, (tt, (tt, (tt, (tt, (tt, tt)))))))),),),),),),),),),),),),),)) d48
+          d49 = Typed.g-pre 𝓤 H A W 𝓣 E G4 G5 b33 Δ0 (λ Ψ. Ψ) at48 (Lifetime.g-begin 𝓤 H A W E G4 3 (
+            tt,
+            (
+              tt,
+              (
+                tt,
+                (
+                  tt,
+                  (
+                    tt,
+                    (tt, (tt, (tt, (tt, (tt, (tt, (tt, (tt, (tt, (tt, (tt, (tt, (tt, (tt, (tt, (tt, tt)))))))))))))))),
+                  ),
+                ),
+              ),
+            ),
+          )) d48
+
           d50 : Typed.Typed 𝓤 H A 𝓣 E G3 b33 Δ0 at50
-          d50 = Typed.g-pre 𝓤 H A W 𝓣 E G3 G4 b33 Δ0 (Typed.pass T3 T4 s2) at49 (Scalar.g-room 𝓤 H A W E G3 4 Laws''.mir (Local.room-whole 𝓤 H A W
-              (Declared'.row OpaqueRelayRuntime.the-type) Laws''.mir Path.refl)) d49
+          d50 = Typed.g-pre 𝓤 H A W 𝓣 E G3 G4 b33 Δ0 (Typed.pass T3 T4 s2) at49 (Scalar.g-room 𝓤 H A W E G3 4
+              Laws''.mir (Local.room-whole 𝓤 H A W (Declared'.row OpaqueRelayRuntime.the-type) Laws''.mir Path.refl))
+              d49
+
           d51 : Typed.Typed 𝓤 H A 𝓣 E G2 b34 Δ0 at51
-          d51 = Typed.s-seq 𝓤 H A W 𝓣 E G2 G3 b0 b33 Δ0 (Typed.both s1) at50 (Plain.t-call-plain 𝓤 H A W 𝓣 0 ps·0 r·0 (claims· .0) (claims· .1)
-              "hnsr_circuit::revocation::started" (known .0) E (λ pos β. β) G2 (record { pos = 4; st = List.[]; d = 0; at = λ x. x }, (record { pos =
-              5; st = List.[]; d = 0; at = λ x. x }, tt),) 8 List.[] (Call.sub-id 𝓤 H A W (G2 .slots)) ((Yields.yields-copy 𝓤 H A W (λ ρ. Unit)
-              (Declared'.row OpaqueRelayRuntime.the-type) Path.refl (Copies.cStruct OpaqueRelayRuntime.the-type Laws''.the-laws Laws''.the-copy .copy
-              𝓤 H A W) (Rows.whole (Declared'.row OpaqueRelayRuntime.the-type)) (λ x. x) (λ x. x) (λ ρ told. Local.mem-whole 𝓤 H A W (Declared'.row
-              OpaqueRelayRuntime.the-type) ρ) λ ρ told. Local.whole-mem 𝓤 H A W (Declared'.row OpaqueRelayRuntime.the-type) ρ, Path.refl,),
-              ((Yields.yields-copy 𝓤 H A W (λ ρ. Unit) (Declared'.row Places.the-type) Path.refl (Copies.cStruct Places.the-type Laws'.the-laws
-              Laws'.the-copy .copy 𝓤 H A W) (Rows.whole (Declared'.row Places.the-type)) (λ x. x) (λ x. x) (λ ρ told. Local.mem-whole 𝓤 H A W
-              (Declared'.row Places.the-type) ρ) λ ρ told. Local.whole-mem 𝓤 H A W (Declared'.row Places.the-type) ρ, Path.refl,), tt,),)
-              (Reads.room-gone 𝓤 H A Laws''''.mir) tt Path.refl) d50
+          d51 = Typed.s-seq 𝓤 H A W 𝓣 E G2 G3 b0 b33 Δ0 (Typed.both s1) at50 (Plain.t-call-plain 𝓤 H A W 𝓣 0 ps·0 r·0
+              (claims· .0) (claims· .1) "hnsr_circuit::revocation::started" (known .0) E (λ pos β. β) G2 (
+                record { pos = 4; st = List.[]; d = 0; at = λ x. x },
+                (record { pos = 5; st = List.[]; d = 0; at = λ x. x }, tt),
+              ) 8 List.[] (Call.sub-id 𝓤 H A W (G2 .slots)) (
+                (
+                  Yields.yields-copy 𝓤 H A W (λ ρ. Unit) (Declared'.row OpaqueRelayRuntime.the-type) Path.refl (Copies.cStruct
+                      OpaqueRelayRuntime.the-type Laws''.the-laws Laws''.the-copy .copy 𝓤 H A W)
+                      (Rows.whole (Declared'.row OpaqueRelayRuntime.the-type)) (λ x. x) (λ x. x) (λ ρ told.
+                      Local.mem-whole 𝓤 H A W (Declared'.row OpaqueRelayRuntime.the-type) ρ) λ ρ told. Local.whole-mem
+                      𝓤 H A W (Declared'.row OpaqueRelayRuntime.the-type) ρ,
+                  Path.refl,
+                ),
+                (
+                  (
+                    Yields.yields-copy 𝓤 H A W (λ ρ. Unit) (Declared'.row Places.the-type) Path.refl (Copies.cStruct
+                        Places.the-type Laws'.the-laws Laws'.the-copy .copy 𝓤 H A W)
+                        (Rows.whole (Declared'.row Places.the-type)) (λ x. x) (λ x. x) (λ ρ told. Local.mem-whole 𝓤 H A
+                        W (Declared'.row Places.the-type) ρ) λ ρ told. Local.whole-mem 𝓤 H A W
+                        (Declared'.row Places.the-type) ρ,
+                    Path.refl,
+                  ),
+                  tt,
+                ),
+              ) (Reads.room-gone 𝓤 H A Laws''''.mir) tt Path.refl) d50
+
           d52 : Typed.Typed 𝓤 H A 𝓣 E G0 b34 Δ0 at52
-          d52 = Typed.g-pre 𝓤 H A W 𝓣 E G0 G2 b34 Δ0 (Typed.give s0) at51 (Know.g-sl-known 𝓤 H A W (Referent.fInt Syntax.w32) E G0 3 2 ref6 life2 0 (λ
-              x. x) record { fits = Dec.lit< tt } (Reads.as-is 𝓤 H A (Mut.mslice (Referent.rtF (Referent.fInt Syntax.w32)) ref6 2)) Path.refl tt) d51
+          d52 = Typed.g-pre 𝓤 H A W 𝓣 E G0 G2 b34 Δ0 (Typed.give s0) at51 (Know.g-sl-known 𝓤 H A W
+              (Referent.fInt Syntax.w32) E G0 3 2 ref6 life2 0 (λ x. x) record { fits = Dec.lit< tt } (Reads.as-is 𝓤 H
+              A (Mut.mslice (Referent.rtF (Referent.fInt Syntax.w32)) ref6 2)) Path.refl tt) d51
+
           pub typed : Typed.Typed 𝓤 H A 𝓣 E (Function.Γin 3 ps r xs m κs qs) b34 (Function.Δret 3 ps r xs m κs qs) Φ
           typed = d52
+
       module _ (κs : Lifetimes.Lfts 3) where
         pub record Args : Type 0 where
-          pub circuits : Kinds.Den { n = 3 } κs (MutSlice.pMutS RelayCircuit.row 0 tt)
-          pub inflight : Kinds.Den { n = 3 } κs (MutSlice.pMutS InflightAction.row 1 tt)
-          pub out : Kinds.Den { n = 3 } κs (MutSlice.pMutS (Referent.rtF (Referent.fInt Syntax.w32)) 2 tt)
-          pub runtime : Kinds.Den { n = 3 } κs (Value.pVal record { ty = Declared'.row OpaqueRelayRuntime.the-type; one = Path.refl; val =
-              Laws''''''.val OpaqueRelayRuntime.the-type Laws''.the-laws; tells = Laws''''''.tells OpaqueRelayRuntime.the-type Laws''.the-laws; still
-              = Laws''''''.still OpaqueRelayRuntime.the-type Laws''.the-copy Exit.yes; row = Rows.whole (Declared'.row OpaqueRelayRuntime.the-type);
-              rd = λ x. x; mk = λ x. x; } λ M 𝓤 H A W. record { copies = Laws''''''.copy OpaqueRelayRuntime.the-type Laws''.the-copy 𝓤 H A W; lawful =
-              Laws''''''.lawful OpaqueRelayRuntime.the-type Laws''.the-laws 𝓤 H A W; makes = Laws''''''.makes OpaqueRelayRuntime.the-type
-              Laws''.the-plain 𝓤 H A; in-mem = Local.mem-whole 𝓤 H A W (Declared'.row OpaqueRelayRuntime.the-type); of-mem = Local.whole-mem 𝓤 H A W
-              (Declared'.row OpaqueRelayRuntime.the-type); })
-          pub places : Kinds.Den { n = 3 } κs (Value.pVal record { ty = Declared'.row Places.the-type; one = Path.refl; val = Laws''''''.val
-              Places.the-type Laws'.the-laws; tells = Laws''''''.tells Places.the-type Laws'.the-laws; still = Laws''''''.still Places.the-type
-              Laws'.the-copy Exit.yes; row = Rows.whole (Declared'.row Places.the-type); rd = λ x. x; mk = λ x. x; } λ M 𝓤 H A W. record { copies =
-              Laws''''''.copy Places.the-type Laws'.the-copy 𝓤 H A W; lawful = Laws''''''.lawful Places.the-type Laws'.the-laws 𝓤 H A W; makes =
-              Laws''''''.makes Places.the-type Laws'.the-plain 𝓤 H A; in-mem = Local.mem-whole 𝓤 H A W (Declared'.row Places.the-type); of-mem =
-              Local.whole-mem 𝓤 H A W (Declared'.row Places.the-type); })
-          pub notice : Kinds.Den { n = 3 } κs (Value.pVal record { ty = Declared.row Notice.the-type; one = Path.refl; val = Laws'''''.val
-              Notice.the-type Laws.the-laws; tells = Laws'''''.tells Notice.the-type Laws.the-laws; still = Laws'''''.still Notice.the-type
-              Laws.the-copy Exit.yes; row = Rows.whole (Declared.row Notice.the-type); rd = λ x. x; mk = λ x. x; } λ M 𝓤 H A W. record { copies =
-              Laws'''''.copy Notice.the-type Laws.the-copy 𝓤 H A W; lawful = Laws'''''.lawful Notice.the-type Laws.the-laws 𝓤 H A W tt; makes =
-              Laws'''''.makes Notice.the-type Laws.the-plain 𝓤 H A; in-mem = Local.mem-whole 𝓤 H A W (Declared.row Notice.the-type); of-mem =
-              Local.whole-mem 𝓤 H A W (Declared.row Notice.the-type); })
-          pub id : Kinds.Den { n = 3 } κs (Num.pNum Syntax.w64)
+          pub circuits : Kinds.Den {n = 3} κs (MutSlice.pMutS RelayCircuit.row 0 tt)
+          pub inflight : Kinds.Den {n = 3} κs (MutSlice.pMutS InflightAction.row 1 tt)
+          pub out : Kinds.Den {n = 3} κs (MutSlice.pMutS (Referent.rtF (Referent.fInt Syntax.w32)) 2 tt)
+          pub runtime : Kinds.Den {n = 3} κs (StructRow.param OpaqueRelayRuntime.the-type Laws''.the-laws
+              Laws''.the-copy Laws''.the-plain)
+          pub places : Kinds.Den {n = 3} κs (StructRow.param Places.the-type Laws'.the-laws Laws'.the-copy
+              Laws'.the-plain)
+          pub notice : Kinds.Den {n = 3} κs (StructRow.enum-param Notice.the-type Laws.the-laws Laws.the-copy
+              Laws.the-plain tt)
+          pub id : Kinds.Den {n = 3} κs (Num.pNum Syntax.w64)
+
         abbrev pub dens : (a : Args) → Kinds.Dens κs ps
-        dens = λ a. (a .circuits, (a .inflight, (a .out, (a .runtime, (a .places, (a .notice, (a .id, tt)))))),)
+        dens = λ a. (a .circuits, (a .inflight, (a .out, (a .runtime, (a .places, (a .notice, (a .id, tt)))))))
+
         module _ (args· : Args) where
           pub record Ranges : Type 0 where
             pub id : Val.Fits Syntax.w64 (args· .id)
+
       abbrev pub m0 : (κs : Lifetimes.Lfts 3) → (args : Args κs) → Typed.Mo T0
       m0 = λ κs args. (tt, Enter.partsP κs 1 ps xs (dens κs args))
+
       abbrev W0 : (κs : Lifetimes.Lfts 3) → (args : Args κs) → Typed.Want O0
-      W0 = λ κs args. (λ u. ⊥, tt, λ u. Enter.Fixs κs 1 ps xs (dens κs args) (u .1) × Post· κs (dens κs args) (Function.resV r κs (u .0))
-          (Clauses.atExit (Kinds.endedOf 3 ps r) κs (dens κs args) (Enter.lastsP κs 1 ps xs (dens κs args) (u .1))),)
+      W0 = λ κs args. (
+        λ u. ⊥,
+        tt,
+        λ u. Enter.Fixs κs 1 ps xs (dens κs args) (u .1) × Post· κs (dens κs args) (Function.resV r κs (u .0)) (Clauses.atExit
+            (Kinds.endedOf 3 ps r) κs (dens κs args) (Enter.lastsP κs 1 ps xs (dens κs args) (u .1))),
+      )
+
       pub record Start : Type 0 where
         pub κs : Lifetimes.Lfts 3
         pub args : Args κs
         pub good : Kinds.GoodsP κs ps (dens κs args)
         pub fits : Ranges κs args
         pub pre : Pre· κs (dens κs args)
+
       abbrev pub m1 : (before : Start) → (given : s0 .gives (m0 (before .κs) (before .args))) → Typed.Mo T2
       m1 = λ before given. s0 .next (m0 (before .κs) (before .args)) given
+
       module _ (before· : Start) where
         pub record After-slice-known·own : Type 0 where
           pub given : s0 .gives (m0 (before· .κs) (before· .args))
+
       pub record After-slice-known : Type 0 where
         pub before : Start
         pub slice-known : After-slice-known·own before
+
       abbrev pub Need-started-requires : Type 0
       Need-started-requires = (c : After-slice-known) → s1 .asks (m1 (c .before) (c .slice-known .given))
-      abbrev pub m2 : (before : After-slice-known) → (given : s1 .gives (m1 (before .before) (before .slice-known .given))) → Typed.Mo T3
+
+      abbrev pub m2 : (before : After-slice-known) → (given : s1 .gives
+          (m1 (before .before) (before .slice-known .given))) → Typed.Mo T3
       m2 = λ before given. s1 .next (m1 (before .before) (before .slice-known .given)) given
+
       module _ (before· : After-slice-known) where
         abbrev pub After-started·own : Type 0
-        After-started·own = Called.Called ps·0 r·0 (claims· .1) T2 (record { pos = 4; st = List.[]; d = 0; at = λ x. x }, (record { pos = 5; st =
-            List.[]; d = 0; at = λ x. x }, tt),) (m1 (before· .before) (before· .slice-known .given))
+        After-started·own = Called.Called ps·0 r·0 (claims· .1) T2 args1
+            (m1 (before· .before) (before· .slice-known .given))
+
       pub record After-started : Type 0 where
         pub before : After-slice-known
         pub started : After-started·own before
-      abbrev pub After-started·gave : (c : After-started) → s1 .gives (m1 (c .before .before) (c .before .slice-known .given))
-      After-started·gave = λ c. Called.given ps·0 r·0 (claims· .1) T2 (record { pos = 4; st = List.[]; d = 0; at = λ x. x }, (record { pos = 5; st =
-          List.[]; d = 0; at = λ x. x }, tt),) (m1 (c .before .before) (c .before .slice-known .given)) (c .started)
-      abbrev pub m3 : (before : After-slice-known) → (given : s1 .gives (m1 (before .before) (before .slice-known .given))) → Typed.Mo T4
+
+      abbrev pub After-started·gave : (c : After-started) → s1 .gives
+          (m1 (c .before .before) (c .before .slice-known .given))
+      After-started·gave = λ c. Called.given ps·0 r·0 (claims· .1) T2 args1
+          (m1 (c .before .before) (c .before .slice-known .given)) (c .started)
+
+      abbrev pub m3 : (before : After-slice-known) → (given : s1 .gives
+          (m1 (before .before) (before .slice-known .given))) → Typed.Mo T4
       m3 = λ before given. s2 (m2 before given)
-      abbrev pub m4 : (before : After-started) → (given : s4 .gives (m3 (before .before) (After-started·gave before))) → Typed.Mo T6
+
+      abbrev pub m4 : (before : After-started) → (given : s4 .gives (m3 (before .before) (After-started·gave before)))
+          → Typed.Mo T6
       m4 = λ before given. s4 .next (m3 (before .before) (After-started·gave before)) given
-      abbrev pub m5 : (before : After-started) → (given : s4 .gives (m3 (before .before) (After-started·gave before))) → Typed.Mo T7
+
+      abbrev pub m5 : (before : After-started) → (given : s4 .gives (m3 (before .before) (After-started·gave before)))
+          → Typed.Mo T7
       m5 = λ before given. s5 .next (m4 before given)
+
       module _ (before· : After-started) where
         pub record After-find-circuit-id-arg·own : Type 0 where
           pub given : s4 .gives (m3 (before· .before) (After-started·gave before·))
+
       pub record After-find-circuit-id-arg : Type 0 where
         pub before : After-started
         pub find-circuit-id-arg : After-find-circuit-id-arg·own before
+
       abbrev pub Need-find-circuit-id-requires : Type 0
-      Need-find-circuit-id-requires = (c : After-find-circuit-id-arg) → s6 .asks (m5 (c .before) (c .find-circuit-id-arg .given))
-      abbrev pub m6 : (before : After-find-circuit-id-arg) → (given : s6 .gives (m5 (before .before) (before .find-circuit-id-arg .given))) → Typed.Mo
-          T8
+      Need-find-circuit-id-requires = (c : After-find-circuit-id-arg) → s6 .asks
+          (m5 (c .before) (c .find-circuit-id-arg .given))
+
+      abbrev pub m6 : (before : After-find-circuit-id-arg) → (given : s6 .gives
+          (m5 (before .before) (before .find-circuit-id-arg .given))) → Typed.Mo T8
       m6 = λ before given. s6 .next (m5 (before .before) (before .find-circuit-id-arg .given)) given
+
       module _ (before· : After-find-circuit-id-arg) where
         abbrev pub After-find-circuit-id·own : Type 0
-        After-find-circuit-id·own = Called.Called ps·1 r·1 (claims· .3) T7 (record { pos = 12; ty = Syntax.tyRef Syntax.erased Syntax.imm
-            RelayCircuit.to; ref = λ x. x; }, (record { pos = 5; st = List.[]; d = 0; at = λ x. x }, (Num.vAt 7 λ x. x, tt)),) (m5 (before· .before)
+        After-find-circuit-id·own = Called.Called ps·1 r·1 (claims· .3) T7 args6 (m5 (before· .before)
             (before· .find-circuit-id-arg .given))
+
       pub record After-find-circuit-id : Type 0 where
         pub before : After-find-circuit-id-arg
         pub find-circuit-id : After-find-circuit-id·own before
-      abbrev pub After-find-circuit-id·gave : (c : After-find-circuit-id) → s6 .gives (m5 (c .before .before) (c .before .find-circuit-id-arg .given))
-      After-find-circuit-id·gave = λ c. Called.given ps·1 r·1 (claims· .3) T7 (record { pos = 12; ty = Syntax.tyRef Syntax.erased Syntax.imm
-          RelayCircuit.to; ref = λ x. x; }, (record { pos = 5; st = List.[]; d = 0; at = λ x. x }, (Num.vAt 7 λ x. x, tt)),) (m5 (c .before .before)
+
+      abbrev pub After-find-circuit-id·gave : (c : After-find-circuit-id) → s6 .gives (m5 (c .before .before)
+          (c .before .find-circuit-id-arg .given))
+      After-find-circuit-id·gave = λ c. Called.given ps·1 r·1 (claims· .3) T7 args6 (m5 (c .before .before)
           (c .before .find-circuit-id-arg .given)) (c .find-circuit-id)
-      abbrev pub m7 : (before : After-find-circuit-id-arg) → (given : s6 .gives (m5 (before .before) (before .find-circuit-id-arg .given))) → Typed.Mo
-          T9
+
+      abbrev pub m7 : (before : After-find-circuit-id-arg) → (given : s6 .gives
+          (m5 (before .before) (before .find-circuit-id-arg .given))) → Typed.Mo T9
       m7 = λ before given. s7 (m6 before given)
-      abbrev pub m8 : (before : After-find-circuit-id-arg) → (given : s6 .gives (m5 (before .before) (before .find-circuit-id-arg .given))) → Typed.Mo
-          T10
+
+      abbrev pub m8 : (before : After-find-circuit-id-arg) → (given : s6 .gives
+          (m5 (before .before) (before .find-circuit-id-arg .given))) → Typed.Mo T10
       m8 = λ before given. s8 (m7 before given)
-      abbrev pub m9 : (before : After-find-circuit-id-arg) → (given : s6 .gives (m5 (before .before) (before .find-circuit-id-arg .given))) → Typed.Mo
-          T12
+
+      abbrev pub m9 : (before : After-find-circuit-id-arg) → (given : s6 .gives
+          (m5 (before .before) (before .find-circuit-id-arg .given))) → Typed.Mo T12
       m9 = λ before given. s10 (m8 before given)
-      abbrev pub m10 : (before : After-find-circuit-id-arg) → (given : s6 .gives (m5 (before .before) (before .find-circuit-id-arg .given))) →
-          Typed.Mo T14
+
+      abbrev pub m10 : (before : After-find-circuit-id-arg) → (given : s6 .gives
+          (m5 (before .before) (before .find-circuit-id-arg .given))) → Typed.Mo T14
       m10 = λ before given. s12 (m9 before given)
-      abbrev pub m11 : (before : After-find-circuit-id-arg) → (given : s6 .gives (m5 (before .before) (before .find-circuit-id-arg .given))) →
-          Typed.Mo T15
+
+      abbrev pub m11 : (before : After-find-circuit-id-arg) → (given : s6 .gives
+          (m5 (before .before) (before .find-circuit-id-arg .given))) → Typed.Mo T15
       m11 = λ before given. s13 .next (m10 before given)
-      abbrev W1 : (before : After-find-circuit-id-arg) → (given : s6 .gives (m5 (before .before) (before .find-circuit-id-arg .given))) → Typed.Want
-          O1
-      W1 = λ before given. Typed.wantNext T16 O0 (at37 (W0 (before .before .before .before .κs) (before .before .before .before .args))) (W0 (before
-          .before .before .before .κs) (before .before .before .before .args))
-      abbrev pub m12 : (before : After-find-circuit-id-arg) → (given : s6 .gives (m5 (before .before) (before .find-circuit-id-arg .given))) →
-          Typed.Mo T17
+
+      abbrev W1 : (before : After-find-circuit-id-arg) → (given : s6 .gives
+          (m5 (before .before) (before .find-circuit-id-arg .given))) → Typed.Want O1
+      W1 = λ before given. Typed.wantNext T16 O0 (at37 (W0 (before .before .before .before .κs)
+          (before .before .before .before .args))) (W0 (before .before .before .before .κs)
+          (before .before .before .before .args))
+
+      abbrev pub m12 : (before : After-find-circuit-id-arg) → (given : s6 .gives
+          (m5 (before .before) (before .find-circuit-id-arg .given))) → Typed.Mo T17
       m12 = λ before given. s14 (m11 before given)
+
       module _ (before· : After-find-circuit-id) where
         pub record Then1·own : Type 0 where
-          pub taken : Nat._<_ (Row.get 9 (T14 .locals) (m10 (before· .before) (After-find-circuit-id·gave before·))) (Row.get 13 (T14 .locals) (m10
-              (before· .before) (After-find-circuit-id·gave before·)))
+          pub taken : Nat._<_ (Row.get 9 (T14 .locals) (m10 (before· .before) (After-find-circuit-id·gave before·))) (Row.get
+              13 (T14 .locals) (m10 (before· .before) (After-find-circuit-id·gave before·)))
+
       pub record Then1 : Type 0 where
         pub before : After-find-circuit-id
         pub if1 : Then1·own before
+
       abbrev pub m13 : (before : After-find-circuit-id) → Typed.Mo T18
       m13 = λ before. s15 (m12 (before .before) (After-find-circuit-id·gave before))
+
       abbrev pub m14 : (before : Then1) → (given : s17 .gives (m13 (before .before))) → Typed.Mo T20
       m14 = λ before given. s17 .next (m13 (before .before)) given
+
       abbrev pub m15 : (before : Then1) → (given : s17 .gives (m13 (before .before))) → Typed.Mo T21
       m15 = λ before given. s18 .next (m14 before given)
+
       module _ (before· : Then1) where
         pub record After-revoke-circuit-arg·own : Type 0 where
           pub given : s17 .gives (m13 (before· .before))
+
       pub record After-revoke-circuit-arg : Type 0 where
         pub before : Then1
         pub revoke-circuit-arg : After-revoke-circuit-arg·own before
-      abbrev pub m16 : (before : After-revoke-circuit-arg) → (given : s20 .gives (m15 (before .before) (before .revoke-circuit-arg .given))) →
-          Typed.Mo T23
+
+      abbrev pub m16 : (before : After-revoke-circuit-arg) → (given : s20 .gives
+          (m15 (before .before) (before .revoke-circuit-arg .given))) → Typed.Mo T23
       m16 = λ before given. s20 .next (m15 (before .before) (before .revoke-circuit-arg .given)) given
-      abbrev pub m17 : (before : After-revoke-circuit-arg) → (given : s20 .gives (m15 (before .before) (before .revoke-circuit-arg .given))) →
-          Typed.Mo T24
+
+      abbrev pub m17 : (before : After-revoke-circuit-arg) → (given : s20 .gives
+          (m15 (before .before) (before .revoke-circuit-arg .given))) → Typed.Mo T24
       m17 = λ before given. s21 .next (m16 before given)
+
       module _ (before· : After-revoke-circuit-arg) where
         pub record After-revoke-circuit-arg2·own : Type 0 where
           pub given : s20 .gives (m15 (before· .before) (before· .revoke-circuit-arg .given))
+
       pub record After-revoke-circuit-arg2 : Type 0 where
         pub before : After-revoke-circuit-arg
         pub revoke-circuit-arg2 : After-revoke-circuit-arg2·own before
-      abbrev pub m18 : (before : After-revoke-circuit-arg2) → (given : s23 .gives (m17 (before .before) (before .revoke-circuit-arg2 .given))) →
-          Typed.Mo T26
+
+      abbrev pub m18 : (before : After-revoke-circuit-arg2) → (given : s23 .gives (m17 (before .before)
+          (before .revoke-circuit-arg2 .given))) → Typed.Mo T26
       m18 = λ before given. s23 .next (m17 (before .before) (before .revoke-circuit-arg2 .given)) given
-      abbrev pub m19 : (before : After-revoke-circuit-arg2) → (given : s23 .gives (m17 (before .before) (before .revoke-circuit-arg2 .given))) →
-          Typed.Mo T27
+
+      abbrev pub m19 : (before : After-revoke-circuit-arg2) → (given : s23 .gives (m17 (before .before)
+          (before .revoke-circuit-arg2 .given))) → Typed.Mo T27
       m19 = λ before given. s24 .next (m18 before given)
+
       module _ (before· : After-revoke-circuit-arg2) where
         pub record After-revoke-circuit-arg3·own : Type 0 where
           pub given : s23 .gives (m17 (before· .before) (before· .revoke-circuit-arg2 .given))
+
       pub record After-revoke-circuit-arg3 : Type 0 where
         pub before : After-revoke-circuit-arg2
         pub revoke-circuit-arg3 : After-revoke-circuit-arg3·own before
+
       abbrev pub Need-revoke-circuit-requires : Type 0
-      Need-revoke-circuit-requires = (c : After-revoke-circuit-arg3) → s25 .asks (m19 (c .before) (c .revoke-circuit-arg3 .given))
-      abbrev pub m20 : (before : After-revoke-circuit-arg3) → (given : s25 .gives (m19 (before .before) (before .revoke-circuit-arg3 .given))) →
-          Typed.Mo T28
+      Need-revoke-circuit-requires = (c : After-revoke-circuit-arg3) → s25 .asks
+          (m19 (c .before) (c .revoke-circuit-arg3 .given))
+
+      abbrev pub m20 : (before : After-revoke-circuit-arg3) → (given : s25 .gives (m19 (before .before)
+          (before .revoke-circuit-arg3 .given))) → Typed.Mo T28
       m20 = λ before given. s25 .next (m19 (before .before) (before .revoke-circuit-arg3 .given)) given
+
       module _ (before· : After-revoke-circuit-arg3) where
         abbrev pub After-revoke-circuit·own : Type 0
-        After-revoke-circuit·own = Called.Called ps·2 r·2 (claims· .5) T27 (record { pos = 16; ty = Syntax.tyRef Syntax.erased Syntax.mut
-            RelayCircuit.to; ref = λ x. x; }, (record { pos = 18; ty = Syntax.tyRef Syntax.erased Syntax.mut InflightAction.to; ref = λ x. x; },
-            (record { pos = 20; ty = Syntax.tyRef Syntax.erased Syntax.mut (Syntax.tyInt Syntax.w32); ref = λ x. x; }, (record { pos = 8; st =
-            List.[]; d = 0; at = λ x. x }, (record { pos = 6; st = List.[]; d = 0; at = λ x. x }, (Num.vAt 9 λ x. x, tt)),),),),) (m19 (before·
-            .before) (before· .revoke-circuit-arg3 .given))
+        After-revoke-circuit·own = Called.Called ps·2 r·2 (claims· .5) T27 args25 (m19 (before· .before)
+            (before· .revoke-circuit-arg3 .given))
+
       pub record After-revoke-circuit : Type 0 where
         pub before : After-revoke-circuit-arg3
         pub revoke-circuit : After-revoke-circuit·own before
-      abbrev pub After-revoke-circuit·gave : (c : After-revoke-circuit) → s25 .gives (m19 (c .before .before) (c .before .revoke-circuit-arg3 .given))
-      After-revoke-circuit·gave = λ c. Called.given ps·2 r·2 (claims· .5) T27 (record { pos = 16; ty = Syntax.tyRef Syntax.erased Syntax.mut
-          RelayCircuit.to; ref = λ x. x; }, (record { pos = 18; ty = Syntax.tyRef Syntax.erased Syntax.mut InflightAction.to; ref = λ x. x; }, (record
-          { pos = 20; ty = Syntax.tyRef Syntax.erased Syntax.mut (Syntax.tyInt Syntax.w32); ref = λ x. x; }, (record { pos = 8; st = List.[]; d = 0;
-          at = λ x. x }, (record { pos = 6; st = List.[]; d = 0; at = λ x. x }, (Num.vAt 9 λ x. x, tt)),),),),) (m19 (c .before .before) (c .before
-          .revoke-circuit-arg3 .given)) (c .revoke-circuit)
-      abbrev pub m21 : (before : After-revoke-circuit-arg3) → (given : s25 .gives (m19 (before .before) (before .revoke-circuit-arg3 .given))) →
-          Typed.Mo T29
+
+      abbrev pub After-revoke-circuit·gave : (c : After-revoke-circuit) → s25 .gives (m19 (c .before .before)
+          (c .before .revoke-circuit-arg3 .given))
+      After-revoke-circuit·gave = λ c. Called.given ps·2 r·2 (claims· .5) T27 args25 (m19 (c .before .before)
+          (c .before .revoke-circuit-arg3 .given)) (c .revoke-circuit)
+
+      abbrev pub m21 : (before : After-revoke-circuit-arg3) → (given : s25 .gives (m19 (before .before)
+          (before .revoke-circuit-arg3 .given))) → Typed.Mo T29
       m21 = λ before given. s26 (m20 before given)
-      abbrev pub m22 : (before : After-revoke-circuit-arg3) → (given : s25 .gives (m19 (before .before) (before .revoke-circuit-arg3 .given))) →
-          Typed.Mo T30
+
+      abbrev pub m22 : (before : After-revoke-circuit-arg3) → (given : s25 .gives (m19 (before .before)
+          (before .revoke-circuit-arg3 .given))) → Typed.Mo T30
       m22 = λ before given. s27 (m21 before given)
-      abbrev pub m23 : (before : After-revoke-circuit) → (given : s29 .gives (m22 (before .before) (After-revoke-circuit·gave before))) → Typed.Mo T32
+
+      abbrev pub m23 : (before : After-revoke-circuit) → (given : s29 .gives
+          (m22 (before .before) (After-revoke-circuit·gave before))) → Typed.Mo T32
       m23 = λ before given. s29 .next (m22 (before .before) (After-revoke-circuit·gave before)) given
+
       module _ (before· : After-revoke-circuit) where
         pub record After-circuits·own : Type 0 where
           pub given : s29 .gives (m22 (before· .before) (After-revoke-circuit·gave before·))
+
       pub record After-circuits : Type 0 where
         pub before : After-revoke-circuit
         pub circuits : After-circuits·own before
-      abbrev pub m24 : (before : After-circuits) → (given : s32 .gives (m23 (before .before) (before .circuits .given))) → Typed.Mo T35
+
+      abbrev pub m24 : (before : After-circuits) → (given : s32 .gives (m23 (before .before) (before .circuits .given)))
+          → Typed.Mo T35
       m24 = λ before given. s32 .next (m23 (before .before) (before .circuits .given)) given
+
       module _ (before· : After-circuits) where
         pub record After-inflight·own : Type 0 where
           pub given : s32 .gives (m23 (before· .before) (before· .circuits .given))
+
       pub record After-inflight : Type 0 where
         pub before : After-circuits
         pub inflight : After-inflight·own before
-      abbrev pub m25 : (before : After-inflight) → (given : s35 .gives (m24 (before .before) (before .inflight .given))) → Typed.Mo T38
+
+      abbrev pub m25 : (before : After-inflight) → (given : s35 .gives (m24 (before .before) (before .inflight .given)))
+          → Typed.Mo T38
       m25 = λ before given. s35 .next (m24 (before .before) (before .inflight .given)) given
+
       module _ (before· : After-inflight) where
         pub record After-out·own : Type 0 where
           pub given : s35 .gives (m24 (before· .before) (before· .inflight .given))
+
       pub record After-out : Type 0 where
         pub before : After-inflight
         pub out : After-out·own before
-      abbrev pub m26 : (before : After-out) → (given : s36 .gives (m25 (before .before) (before .out .given))) → Typed.Mo T39
+
+      abbrev pub m26 : (before : After-out) → (given : s36 .gives (m25 (before .before) (before .out .given))) →
+          Typed.Mo T39
       m26 = λ before given. s36 .next (m25 (before .before) (before .out .given)) given
+
       module _ (before· : After-out) where
         pub record After-slice-known2·own : Type 0 where
           pub given : s36 .gives (m25 (before· .before) (before· .out .given))
+
       pub record After-slice-known2 : Type 0 where
         pub before : After-out
         pub slice-known2 : After-slice-known2·own before
+
       abbrev pub Need-finished-requires : Type 0
       Need-finished-requires = (c : After-slice-known2) → s38 .asks (m26 (c .before) (c .slice-known2 .given))
-      abbrev pub m27 : (before : After-slice-known2) → (given : s38 .gives (m26 (before .before) (before .slice-known2 .given))) → Typed.Mo T41
+
+      abbrev pub m27 : (before : After-slice-known2) → (given : s38 .gives
+          (m26 (before .before) (before .slice-known2 .given))) → Typed.Mo T41
       m27 = λ before given. s38 .next (m26 (before .before) (before .slice-known2 .given)) given
+
       module _ (before· : After-slice-known2) where
         abbrev pub After-finished·own : Type 0
-        After-finished·own = Called.Called ps·3 r·3 (claims· .7) T39 (record { pos = 10; st = List.[]; d = 0; at = λ x. x }, tt,) (m26 (before·
-            .before) (before· .slice-known2 .given))
+        After-finished·own = Called.Called ps·3 r·3 (claims· .7) T39 args38
+            (m26 (before· .before) (before· .slice-known2 .given))
+
       pub record After-finished : Type 0 where
         pub before : After-slice-known2
         pub finished : After-finished·own before
-      abbrev pub After-finished·gave : (c : After-finished) → s38 .gives (m26 (c .before .before) (c .before .slice-known2 .given))
-      After-finished·gave = λ c. Called.given ps·3 r·3 (claims· .7) T39 (record { pos = 10; st = List.[]; d = 0; at = λ x. x }, tt,) (m26 (c .before
-          .before) (c .before .slice-known2 .given)) (c .finished)
-      abbrev pub m28 : (before : After-slice-known2) → (given : s38 .gives (m26 (before .before) (before .slice-known2 .given))) → Typed.Mo T42
+
+      abbrev pub After-finished·gave : (c : After-finished) → s38 .gives
+          (m26 (c .before .before) (c .before .slice-known2 .given))
+      After-finished·gave = λ c. Called.given ps·3 r·3 (claims· .7) T39 args38
+          (m26 (c .before .before) (c .before .slice-known2 .given)) (c .finished)
+
+      abbrev pub m28 : (before : After-slice-known2) → (given : s38 .gives
+          (m26 (before .before) (before .slice-known2 .given))) → Typed.Mo T42
       m28 = λ before given. s39 (m27 before given)
-      abbrev pub m29 : (before : After-slice-known2) → (given : s38 .gives (m26 (before .before) (before .slice-known2 .given))) → Typed.Mo T43
+
+      abbrev pub m29 : (before : After-slice-known2) → (given : s38 .gives
+          (m26 (before .before) (before .slice-known2 .given))) → Typed.Mo T43
       m29 = λ before given. s40 (m28 before given)
-      abbrev pub m30 : (before : After-slice-known2) → (given : s38 .gives (m26 (before .before) (before .slice-known2 .given))) → Typed.Mo T44
+
+      abbrev pub m30 : (before : After-slice-known2) → (given : s38 .gives
+          (m26 (before .before) (before .slice-known2 .given))) → Typed.Mo T44
       m30 = λ before given. s41 (m29 before given)
+
       abbrev pub Need-same-length : Type 0
-      Need-same-length = (c : After-finished) → MutSlice.SameLen (Row.get 1 (T44 .locals) (m30 (c .before) (After-finished·gave c))) (dens (c .before
-          .before .before .before .before .before .before .before .before .before .before .before .before .before .κs) (c .before .before .before
-          .before .before .before .before .before .before .before .before .before .before .before .args) .0)
+      Need-same-length = (c : After-finished) → MutSlice.SameLen (Row.get 1 (T44 .locals)
+          (m30 (c .before) (After-finished·gave c))) (dens (c .before .before .before .before .before .before .before
+          .before .before .before .before .before .before .before .κs) (c .before .before .before .before .before
+          .before .before .before .before .before .before .before .before .before .args) .0)
+
       abbrev pub Need-same-length-2 : Type 0
-      Need-same-length-2 = (c : After-finished) → MutSlice.SameLen (Row.get 2 (T44 .locals) (m30 (c .before) (After-finished·gave c))) (dens (c
-          .before .before .before .before .before .before .before .before .before .before .before .before .before .before .κs) (c .before .before
-          .before .before .before .before .before .before .before .before .before .before .before .before .args) .1 .0)
+      Need-same-length-2 = (c : After-finished) → MutSlice.SameLen (Row.get 2 (T44 .locals)
+          (m30 (c .before) (After-finished·gave c))) (dens (c .before .before .before .before .before .before .before
+          .before .before .before .before .before .before .before .κs) (c .before .before .before .before .before
+          .before .before .before .before .before .before .before .before .before .args) .1 .0)
+
       abbrev pub Need-same-length-3 : Type 0
-      Need-same-length-3 = (c : After-finished) → MutSlice.SameLen (Row.get 3 (T44 .locals) (m30 (c .before) (After-finished·gave c))) (dens (c
-          .before .before .before .before .before .before .before .before .before .before .before .before .before .before .κs) (c .before .before
-          .before .before .before .before .before .before .before .before .before .before .before .before .args) .1 .1 .0)
+      Need-same-length-3 = (c : After-finished) → MutSlice.SameLen (Row.get 3 (T44 .locals)
+          (m30 (c .before) (After-finished·gave c))) (dens (c .before .before .before .before .before .before .before
+          .before .before .before .before .before .before .before .κs) (c .before .before .before .before .before
+          .before .before .before .before .before .before .before .before .before .args) .1 .1 .0)
+
       abbrev pub Need-returns : Type 0
-      Need-returns = (c : After-finished) → Post· (c .before .before .before .before .before .before .before .before .before .before .before .before
-          .before .before .κs) (dens (c .before .before .before .before .before .before .before .before .before .before .before .before .before
-          .before .κs) (c .before .before .before .before .before .before .before .before .before .before .before .before .before .before .args))
-          (Function.resV r (c .before .before .before .before .before .before .before .before .before .before .before .before .before .before .κs)
-          (m30 (c .before) (After-finished·gave c) .0)) (Clauses.atExit (Kinds.endedOf 3 ps r) (c .before .before .before .before .before .before
-          .before .before .before .before .before .before .before .before .κs) (dens (c .before .before .before .before .before .before .before
-          .before .before .before .before .before .before .before .κs) (c .before .before .before .before .before .before .before .before .before
-          .before .before .before .before .before .args)) (Enter.lastsP (c .before .before .before .before .before .before .before .before .before
-          .before .before .before .before .before .κs) 1 ps xs (dens (c .before .before .before .before .before .before .before .before .before
-          .before .before .before .before .before .κs) (c .before .before .before .before .before .before .before .before .before .before .before
-          .before .before .before .args)) (m30 (c .before) (After-finished·gave c) .1)))
+      Need-returns = (c : After-finished) → Post· (c .before .before .before .before .before .before .before .before
+          .before .before .before .before .before .before .κs) (dens (c .before .before .before .before .before .before
+          .before .before .before .before .before .before .before .before .κs) (c .before .before .before .before
+          .before .before .before .before .before .before .before .before .before .before .args)) (Function.resV r (c
+          .before .before .before .before .before .before .before .before .before .before .before .before .before
+          .before .κs) (m30 (c .before) (After-finished·gave c) .0)) (Clauses.atExit (Kinds.endedOf 3 ps r) (c .before
+          .before .before .before .before .before .before .before .before .before .before .before .before .before .κs) (dens (c
+          .before .before .before .before .before .before .before .before .before .before .before .before .before
+          .before .κs) (c .before .before .before .before .before .before .before .before .before .before .before
+          .before .before .before .args)) (Enter.lastsP (c .before .before .before .before .before .before .before
+          .before .before .before .before .before .before .before .κs) 1 ps xs (dens (c .before .before .before .before
+          .before .before .before .before .before .before .before .before .before .before .κs) (c .before .before
+          .before .before .before .before .before .before .before .before .before .before .before .before .args))
+          (m30 (c .before) (After-finished·gave c) .1)))
+
       module _ (before· : After-find-circuit-id) where
         pub record Else1·own : Type 0 where
-          pub left : Nat._≤_ (Row.get 13 (T14 .locals) (m10 (before· .before) (After-find-circuit-id·gave before·))) (Row.get 9 (T14 .locals) (m10
-              (before· .before) (After-find-circuit-id·gave before·)))
+          pub left : Nat._≤_ (Row.get 13 (T14 .locals) (m10 (before· .before) (After-find-circuit-id·gave before·))) (Row.get
+              9 (T14 .locals) (m10 (before· .before) (After-find-circuit-id·gave before·)))
+
       pub record Else1 : Type 0 where
         pub before : After-find-circuit-id
         pub if1 : Else1·own before
+
       abbrev pub m31 : (before : After-find-circuit-id) → Typed.Mo T45
       m31 = λ before. s42 (m12 (before .before) (After-find-circuit-id·gave before))
+
       abbrev pub m32 : (before : After-find-circuit-id) → Typed.Mo T46
       m32 = λ before. s43 (m31 before)
+
       abbrev pub Need-finished-requires-2 : Type 0
       Need-finished-requires-2 = (c : Else1) → s44 .asks (m32 (c .before))
+
       abbrev pub m33 : (before : Else1) → (given : s44 .gives (m32 (before .before))) → Typed.Mo T47
       m33 = λ before given. s44 .next (m32 (before .before)) given
+
       module _ (before· : Else1) where
         abbrev pub After-finished2·own : Type 0
-        After-finished2·own = Called.Called ps·3 r·3 (claims· .7) T16 (record { pos = 8; st = List.[]; d = 0; at = λ x. x }, tt,) (m32 (before·
-            .before))
+        After-finished2·own = Called.Called ps·3 r·3 (claims· .7) T16 args44 (m32 (before· .before))
+
       pub record After-finished2 : Type 0 where
         pub before : Else1
         pub finished2 : After-finished2·own before
+
       abbrev pub After-finished2·gave : (c : After-finished2) → s44 .gives (m32 (c .before .before))
-      After-finished2·gave = λ c. Called.given ps·3 r·3 (claims· .7) T16 (record { pos = 8; st = List.[]; d = 0; at = λ x. x }, tt,) (m32 (c .before
-          .before)) (c .finished2)
+      After-finished2·gave = λ c. Called.given ps·3 r·3 (claims· .7) T16 args44 (m32 (c .before .before))
+          (c .finished2)
+
       abbrev pub m34 : (before : Else1) → (given : s44 .gives (m32 (before .before))) → Typed.Mo T48
       m34 = λ before given. s45 (m33 before given)
+
       abbrev pub m35 : (before : Else1) → (given : s44 .gives (m32 (before .before))) → Typed.Mo T49
       m35 = λ before given. s46 (m34 before given)
+
       abbrev pub m36 : (before : Else1) → (given : s44 .gives (m32 (before .before))) → Typed.Mo T50
       m36 = λ before given. s47 (m35 before given)
+
       abbrev pub Need-same-length-4 : Type 0
-      Need-same-length-4 = (c : After-finished2) → MutSlice.SameLen (Row.get 1 (T50 .locals) (m36 (c .before) (After-finished2·gave c))) (dens (c
-          .before .before .before .before .before .before .κs) (c .before .before .before .before .before .before .args) .0)
+      Need-same-length-4 = (c : After-finished2) → MutSlice.SameLen (Row.get 1 (T50 .locals)
+          (m36 (c .before) (After-finished2·gave c))) (dens (c .before .before .before .before .before .before .κs)
+          (c .before .before .before .before .before .before .args) .0)
+
       abbrev pub Need-returns-2 : Type 0
-      Need-returns-2 = (c : After-finished2) → Post· (c .before .before .before .before .before .before .κs) (dens (c .before .before .before .before
-          .before .before .κs) (c .before .before .before .before .before .before .args)) (Function.resV r (c .before .before .before .before .before
-          .before .κs) (m36 (c .before) (After-finished2·gave c) .0)) (Clauses.atExit (Kinds.endedOf 3 ps r) (c .before .before .before .before
-          .before .before .κs) (dens (c .before .before .before .before .before .before .κs) (c .before .before .before .before .before .before
-          .args)) (Enter.lastsP (c .before .before .before .before .before .before .κs) 1 ps xs (dens (c .before .before .before .before .before
-          .before .κs) (c .before .before .before .before .before .before .args)) (m36 (c .before) (After-finished2·gave c) .1)))
-      module _ (started-requires : Need-started-requires) (find-circuit-id-requires : Need-find-circuit-id-requires) (revoke-circuit-requires :
-          Need-revoke-circuit-requires) (finished-requires : Need-finished-requires) (same-length : Need-same-length) (same-length-2 :
-          Need-same-length-2) (same-length-3 : Need-same-length-3) (returns : Need-returns) (finished-requires-2 : Need-finished-requires-2)
+      Need-returns-2 = (c : After-finished2) → Post· (c .before .before .before .before .before .before .κs) (dens
+          (c .before .before .before .before .before .before .κs)
+          (c .before .before .before .before .before .before .args)) (Function.resV r
+          (c .before .before .before .before .before .before .κs) (m36 (c .before) (After-finished2·gave c) .0)) (Clauses.atExit
+          (Kinds.endedOf 3 ps r) (c .before .before .before .before .before .before .κs) (dens
+          (c .before .before .before .before .before .before .κs)
+          (c .before .before .before .before .before .before .args)) (Enter.lastsP
+          (c .before .before .before .before .before .before .κs) 1 ps xs (dens
+          (c .before .before .before .before .before .before .κs)
+          (c .before .before .before .before .before .before .args)) (m36 (c .before) (After-finished2·gave c) .1)))
+
+      module _ (started-requires : Need-started-requires) (find-circuit-id-requires : Need-find-circuit-id-requires)
+          (revoke-circuit-requires : Need-revoke-circuit-requires) (finished-requires : Need-finished-requires)
+          (same-length : Need-same-length) (same-length-2 : Need-same-length-2) (same-length-3 : Need-same-length-3)
+          (returns : Need-returns) (finished-requires-2 : Need-finished-requires-2)
           (same-length-4 : Need-same-length-4) (returns-2 : Need-returns-2) where
-        lay8 : (c : After-finished2) → at36 (W0 (c .before .before .before .before .before .before .κs) (c .before .before .before .before .before
-            .before .args)) (m33 (c .before) (After-finished2·gave c))
-        lay8 = λ c. ((MutSlice.fix-len (Row.get 1 (T50 .locals) (m36 (c .before) (After-finished2·gave c)) .ptr) (Row.get 1 (T50 .locals) (m36 (c
-            .before) (After-finished2·gave c)) .name) (Row.get 1 (T50 .locals) (m36 (c .before) (After-finished2·gave c)) .now) (dens (c .before
-            .before .before .before .before .before .κs) (c .before .before .before .before .before .before .args) .0 .now) (same-length-4 record {
-            before = c .before; finished2 = c .finished2 }), (Path.refl, (Path.refl, (tt, (tt, (tt, (tt, tt)))))),), returns-2 record { before = c
-            .before; finished2 = c .finished2 },)
-        lay7 : (c : Else1) → at37 (W0 (c .before .before .before .before .before .κs) (c .before .before .before .before .before .args)) (m32 (c
-            .before))
-        lay7 = λ c. (finished-requires-2 record { before = c .before; if1 = c .if1 }, λ g. lay8 record { before = record { before = c .before; if1 = c
-            .if1 }; finished2 = Called.called ps·3 r·3 (claims· .7) T16 (record { pos = 8; st = List.[]; d = 0; at = λ x. x }, tt,) (m32 (c .before))
-            g; },)
-        lay6 : (c : Else1) → at30 (W1 (c .before .before) (After-find-circuit-id·gave (c .before))) (m12 (c .before .before)
-            (After-find-circuit-id·gave (c .before)))
+        lay8 : (c : After-finished2) → at36 (W0 (c .before .before .before .before .before .before .κs)
+            (c .before .before .before .before .before .before .args)) (m33 (c .before) (After-finished2·gave c))
+        lay8 = λ c. (
+          (
+            MutSlice.fix-len (Row.get 1 (T50 .locals) (m36 (c .before) (After-finished2·gave c)) .ptr) (Row.get 1
+                (T50 .locals) (m36 (c .before) (After-finished2·gave c)) .name) (Row.get 1 (T50 .locals)
+                (m36 (c .before) (After-finished2·gave c)) .now) (dens
+                (c .before .before .before .before .before .before .κs)
+                (c .before .before .before .before .before .before .args) .0 .now) (same-length-4
+                record { before = c .before; finished2 = c .finished2 }),
+            (Path.refl, (Path.refl, (tt, (tt, (tt, (tt, tt)))))),
+          ),
+          returns-2 record { before = c .before; finished2 = c .finished2 },
+        )
+
+        lay7 : (c : Else1) → at37 (W0 (c .before .before .before .before .before .κs)
+            (c .before .before .before .before .before .args)) (m32 (c .before))
+        lay7 = λ c. (
+          finished-requires-2 record { before = c .before; if1 = c .if1 },
+          λ g. lay8 record {
+            before = record { before = c .before; if1 = c .if1 };
+            finished2 = Called.called ps·3 r·3 (claims· .7) T16 args44 (m32 (c .before)) g;
+          },
+        )
+
+        lay6 : (c : Else1) → at30 (W1 (c .before .before) (After-find-circuit-id·gave (c .before))) (m12
+            (c .before .before) (After-find-circuit-id·gave (c .before)))
         lay6 = λ c. lay7 record { before = c .before; if1 = c .if1 }
-        lay5 : (c : After-finished) → at3 (W1 (c .before .before .before .before .before .before .before .before .before .before .before)
-            (After-find-circuit-id·gave (c .before .before .before .before .before .before .before .before .before .before))) (m27 (c .before)
-            (After-finished·gave c))
-        lay5 = λ c. ((MutSlice.fix-len (Row.get 1 (T44 .locals) (m30 (c .before) (After-finished·gave c)) .ptr) (Row.get 1 (T44 .locals) (m30 (c
-            .before) (After-finished·gave c)) .name) (Row.get 1 (T44 .locals) (m30 (c .before) (After-finished·gave c)) .now) (dens (c .before .before
-            .before .before .before .before .before .before .before .before .before .before .before .before .κs) (c .before .before .before .before
-            .before .before .before .before .before .before .before .before .before .before .args) .0 .now) (same-length record { before = c .before;
-            finished = c .finished }), (MutSlice.fix-len (Row.get 2 (T44 .locals) (m30 (c .before) (After-finished·gave c)) .ptr) (Row.get 2 (T44
-            .locals) (m30 (c .before) (After-finished·gave c)) .name) (Row.get 2 (T44 .locals) (m30 (c .before) (After-finished·gave c)) .now) (dens
-            (c .before .before .before .before .before .before .before .before .before .before .before .before .before .before .κs) (c .before .before
-            .before .before .before .before .before .before .before .before .before .before .before .before .args) .1 .0 .now) (same-length-2 record {
-            before = c .before; finished = c .finished }), (MutSlice.fix-len (Row.get 3 (T44 .locals) (m30 (c .before) (After-finished·gave c)) .ptr)
-            (Row.get 3 (T44 .locals) (m30 (c .before) (After-finished·gave c)) .name) (Row.get 3 (T44 .locals) (m30 (c .before) (After-finished·gave
-            c)) .now) (dens (c .before .before .before .before .before .before .before .before .before .before .before .before .before .before .κs) (c
-            .before .before .before .before .before .before .before .before .before .before .before .before .before .before .args) .1 .1 .0 .now)
-            (same-length-3 record { before = c .before; finished = c .finished }), (tt, (tt, (tt, (tt, tt)))),),),), returns record { before = c
-            .before; finished = c .finished },)
-        lay4 : (c : After-revoke-circuit) → at16 (W1 (c .before .before .before .before .before .before) (After-find-circuit-id·gave (c .before
-            .before .before .before .before))) (m20 (c .before) (After-revoke-circuit·gave c))
-        lay4 = λ c. (Path.refl, λ g. (Path.refl, λ g'. (Path.refl, λ g''. λ g'3. (finished-requires record { before = record { before = record {
-            before = record { before = record { before = c .before; revoke-circuit = c .revoke-circuit; }; circuits = record { given = g }; };
-            inflight = record { given = g' }; }; out = record { given = g'' }; }; slice-known2 = record { given = g'3 }; }, λ g'4. lay5 record {
-            before = record { before = record { before = record { before = record { before = record { before = c .before; revoke-circuit = c
-            .revoke-circuit; }; circuits = record { given = g }; }; inflight = record { given = g' }; }; out = record { given = g'' }; }; slice-known2
-            = record { given = g'3 }; }; finished = Called.called ps·3 r·3 (claims· .7) T39 (record { pos = 10; st = List.[]; d = 0; at = λ x. x },
-            tt,) (m26 record { before = record { before = record { before = record { before = c .before; revoke-circuit = c .revoke-circuit; };
-            circuits = record { given = g }; }; inflight = record { given = g' }; }; out = record { given = g'' }; } g'3) g'4; },),),),)
-        lay3 : (c : Then1) → at27 (W1 (c .before .before) (After-find-circuit-id·gave (c .before))) (m12 (c .before .before)
-            (After-find-circuit-id·gave (c .before)))
-        lay3 = λ c. λ g. (Path.refl, λ g'. (Path.refl, λ g''. (Path.refl, (revoke-circuit-requires record { before = record { before = record { before
-            = record { before = c .before; if1 = c .if1 }; revoke-circuit-arg = record { given = g }; }; revoke-circuit-arg2 = record { given = g' };
-            }; revoke-circuit-arg3 = record { given = g'' }; }, λ g'3. lay4 record { before = record { before = record { before = record { before =
-            record { before = c .before; if1 = c .if1 }; revoke-circuit-arg = record { given = g }; }; revoke-circuit-arg2 = record { given = g' }; };
-            revoke-circuit-arg3 = record { given = g'' }; }; revoke-circuit = Called.called ps·2 r·2 (claims· .5) T27 (record { pos = 16; ty =
-            Syntax.tyRef Syntax.erased Syntax.mut RelayCircuit.to; ref = λ x. x; }, (record { pos = 18; ty = Syntax.tyRef Syntax.erased Syntax.mut
-            InflightAction.to; ref = λ x. x; }, (record { pos = 20; ty = Syntax.tyRef Syntax.erased Syntax.mut (Syntax.tyInt Syntax.w32); ref = λ x.
-            x; }, (record { pos = 8; st = List.[]; d = 0; at = λ x. x }, (record { pos = 6; st = List.[]; d = 0; at = λ x. x }, (Num.vAt 9 λ x. x,
-            tt),),),),),) (m19 record { before = record { before = record { before = c .before; if1 = c .if1 }; revoke-circuit-arg = record { given =
-            g }; }; revoke-circuit-arg2 = record { given = g' }; } g'') g'3; },),),),)
-        lay2 : (c : After-find-circuit-id) → at45 (W0 (c .before .before .before .before .κs) (c .before .before .before .before .args)) (m6 (c
-            .before) (After-find-circuit-id·gave c))
-        lay2 = λ c. (tt, (λ taken. lay3 record { before = record { before = c .before; find-circuit-id = c .find-circuit-id }; if1 = record { taken =
-            Tests.ltb-true (Row.get 9 (T14 .locals) (m10 (c .before) (After-find-circuit-id·gave c))) (Row.get 13 (T14 .locals) (m10 (c .before)
-            (After-find-circuit-id·gave c))) taken; }; }, λ left. lay6 record { before = record { before = c .before; find-circuit-id = c
-            .find-circuit-id }; if1 = record { left = Tests.ltb-false (Row.get 9 (T14 .locals) (m10 (c .before) (After-find-circuit-id·gave c)))
-            (Row.get 13 (T14 .locals) (m10 (c .before) (After-find-circuit-id·gave c))) left; }; },),)
-        lay1 : (c : After-started) → at50 (W0 (c .before .before .κs) (c .before .before .args)) (m2 (c .before) (After-started·gave c))
-        lay1 = λ c. λ g. (Path.refl, (find-circuit-id-requires record { before = record { before = c .before; started = c .started };
-            find-circuit-id-arg = record { given = g }; }, λ g'. lay2 record { before = record { before = record { before = c .before; started = c
-            .started }; find-circuit-id-arg = record { given = g }; }; find-circuit-id = Called.called ps·1 r·1 (claims· .3) T7 (record { pos = 12; ty
-            = Syntax.tyRef Syntax.erased Syntax.imm RelayCircuit.to; ref = λ x. x; }, (record { pos = 5; st = List.[]; d = 0; at = λ x. x }, (Num.vAt
-            7 λ x. x, tt)),) (m5 record { before = c .before; started = c .started } g) g'; },),)
+
+        lay5 : (c : After-finished) → at3 (W1 (c .before .before .before .before .before .before .before .before
+            .before .before .before) (After-find-circuit-id·gave (c .before .before .before .before .before .before
+            .before .before .before .before))) (m27 (c .before) (After-finished·gave c))
+        lay5 = λ c. (
+          (
+            MutSlice.fix-len (Row.get 1 (T44 .locals) (m30 (c .before) (After-finished·gave c)) .ptr) (Row.get 1
+                (T44 .locals) (m30 (c .before) (After-finished·gave c)) .name) (Row.get 1 (T44 .locals)
+                (m30 (c .before) (After-finished·gave c)) .now) (dens (c .before .before .before .before .before
+                .before .before .before .before .before .before .before .before .before .κs) (c .before .before .before
+                .before .before .before .before .before .before .before .before .before .before .before .args) .0 .now) (same-length
+                record { before = c .before; finished = c .finished }),
+            (
+              MutSlice.fix-len (Row.get 2 (T44 .locals) (m30 (c .before) (After-finished·gave c)) .ptr) (Row.get 2
+                  (T44 .locals) (m30 (c .before) (After-finished·gave c)) .name) (Row.get 2 (T44 .locals)
+                  (m30 (c .before) (After-finished·gave c)) .now) (dens (c .before .before .before .before .before
+                  .before .before .before .before .before .before .before .before .before .κs) (c .before .before
+                  .before .before .before .before .before .before .before .before .before .before .before .before .args)
+                  .1 .0 .now) (same-length-2 record { before = c .before; finished = c .finished }),
+              (
+                MutSlice.fix-len (Row.get 3 (T44 .locals) (m30 (c .before) (After-finished·gave c)) .ptr) (Row.get 3
+                    (T44 .locals) (m30 (c .before) (After-finished·gave c)) .name) (Row.get 3 (T44 .locals)
+                    (m30 (c .before) (After-finished·gave c)) .now) (dens (c .before .before .before .before .before
+                    .before .before .before .before .before .before .before .before .before .κs) (c .before .before
+                    .before .before .before .before .before .before .before .before .before .before .before .before
+                    .args) .1 .1 .0 .now) (same-length-3 record { before = c .before; finished = c .finished }),
+                (tt, (tt, (tt, (tt, tt)))),
+              ),
+            ),
+          ),
+          returns record { before = c .before; finished = c .finished },
+        )
+
+        lay4 : (c : After-revoke-circuit) → at16 (W1 (c .before .before .before .before .before .before) (After-find-circuit-id·gave
+            (c .before .before .before .before .before))) (m20 (c .before) (After-revoke-circuit·gave c))
+        lay4 = λ c. (
+          Path.refl,
+          λ g. (
+            Path.refl,
+            λ g'. (
+              Path.refl,
+              λ g''. λ g'3. (
+                finished-requires record {
+                  before = record {
+                    before = record {
+                      before = record {
+                        before = record { before = c .before; revoke-circuit = c .revoke-circuit };
+                        circuits = record { given = g };
+                      };
+                      inflight = record { given = g' };
+                    };
+                    out = record { given = g'' };
+                  };
+                  slice-known2 = record { given = g'3 };
+                },
+                λ g'4. lay5 record {
+                  before = record {
+                    before = record {
+                      before = record {
+                        before = record {
+                          before = record { before = c .before; revoke-circuit = c .revoke-circuit };
+                          circuits = record { given = g };
+                        };
+                        inflight = record { given = g' };
+                      };
+                      out = record { given = g'' };
+                    };
+                    slice-known2 = record { given = g'3 };
+                  };
+                  finished = Called.called ps·3 r·3 (claims· .7) T39 args38 (m26
+                      record {
+                        before = record {
+                          before = record {
+                            before = record { before = c .before; revoke-circuit = c .revoke-circuit };
+                            circuits = record { given = g };
+                          };
+                          inflight = record { given = g' };
+                        };
+                        out = record { given = g'' };
+                      } g'3) g'4;
+                },
+              ),
+            ),
+          ),
+        )
+
+        lay3 : (c : Then1) → at27 (W1 (c .before .before) (After-find-circuit-id·gave (c .before))) (m12
+            (c .before .before) (After-find-circuit-id·gave (c .before)))
+        lay3 = λ c. λ g. (
+          Path.refl,
+          λ g'. (
+            Path.refl,
+            λ g''. (
+              Path.refl,
+              (
+                revoke-circuit-requires record {
+                  before = record {
+                    before = record {
+                      before = record { before = c .before; if1 = c .if1 };
+                      revoke-circuit-arg = record { given = g };
+                    };
+                    revoke-circuit-arg2 = record { given = g' };
+                  };
+                  revoke-circuit-arg3 = record { given = g'' };
+                },
+                λ g'3. lay4 record {
+                  before = record {
+                    before = record {
+                      before = record {
+                        before = record { before = c .before; if1 = c .if1 };
+                        revoke-circuit-arg = record { given = g };
+                      };
+                      revoke-circuit-arg2 = record { given = g' };
+                    };
+                    revoke-circuit-arg3 = record { given = g'' };
+                  };
+                  revoke-circuit = Called.called ps·2 r·2 (claims· .5) T27 args25 (m19
+                      record {
+                        before = record {
+                          before = record { before = c .before; if1 = c .if1 };
+                          revoke-circuit-arg = record { given = g };
+                        };
+                        revoke-circuit-arg2 = record { given = g' };
+                      } g'') g'3;
+                },
+              ),
+            ),
+          ),
+        )
+
+        lay2 : (c : After-find-circuit-id) → at45 (W0 (c .before .before .before .before .κs)
+            (c .before .before .before .before .args)) (m6 (c .before) (After-find-circuit-id·gave c))
+        lay2 = λ c. (
+          tt,
+          (
+            λ taken. lay3 record {
+              before = record { before = c .before; find-circuit-id = c .find-circuit-id };
+              if1 = record {
+                taken = Tests.ltb-true (Row.get 9 (T14 .locals) (m10 (c .before) (After-find-circuit-id·gave c))) (Row.get
+                    13 (T14 .locals) (m10 (c .before) (After-find-circuit-id·gave c))) taken;
+              };
+            },
+            λ left. lay6 record {
+              before = record { before = c .before; find-circuit-id = c .find-circuit-id };
+              if1 = record {
+                left = Tests.ltb-false (Row.get 9 (T14 .locals) (m10 (c .before) (After-find-circuit-id·gave c))) (Row.get
+                    13 (T14 .locals) (m10 (c .before) (After-find-circuit-id·gave c))) left;
+              };
+            },
+          ),
+        )
+
+        lay1 : (c : After-started) → at50 (W0 (c .before .before .κs) (c .before .before .args))
+            (m2 (c .before) (After-started·gave c))
+        lay1 = λ c. λ g. (
+          Path.refl,
+          (
+            find-circuit-id-requires record {
+              before = record { before = c .before; started = c .started };
+              find-circuit-id-arg = record { given = g };
+            },
+            λ g'. lay2 record {
+              before = record {
+                before = record { before = c .before; started = c .started };
+                find-circuit-id-arg = record { given = g };
+              };
+              find-circuit-id = Called.called ps·1 r·1 (claims· .3) T7 args6
+                  (m5 record { before = c .before; started = c .started } g) g';
+            },
+          ),
+        )
+
         pub laid : (c : Start) → at52 (W0 (c .κs) (c .args)) (m0 (c .κs) (c .args))
-        laid = λ c. λ g. (started-requires record { before = c; slice-known = record { given = g } }, λ g'. lay1 record { before = record { before =
-            c; slice-known = record { given = g } }; started = Called.called ps·0 r·0 (claims· .1) T2 (record { pos = 4; st = List.[]; d = 0; at = λ
-            x. x }, (record { pos = 5; st = List.[]; d = 0; at = λ x. x }, tt),) (m1 c g) g'; },)
+        laid = λ c. λ g. (
+          started-requires record { before = c; slice-known = record { given = g } },
+          λ g'. lay1 record {
+            before = record { before = c; slice-known = record { given = g } };
+            started = Called.called ps·0 r·0 (claims· .1) T2 args1 (m1 c g) g';
+          },
+        )
+
         module _ (κs : Lifetimes.Lfts 3) (qs : Lifetimes.Shares 3) where
-          pub asked : (a : Kinds.Dens κs ps) → (good : Kinds.GoodsP κs ps a) → (pre : Pre· κs a) → (bs : List.List Nat.ℕ) → Φ (Any.wantQ 3 ps r xs m
-              κs qs a (Post· κs a)) (Function.init 3 ps r xs m κs qs a)
-          asked = λ a good pre bs. laid record { κs = κs; args = record { circuits = a .0; inflight = a .1 .0; out = a .1 .1 .0; runtime = a .1 .1 .1
-              .0; places = a .1 .1 .1 .1 .0; notice = a .1 .1 .1 .1 .1 .0; id = a .1 .1 .1 .1 .1 .1 .0; }; good = good; fits = record { id = record {
-              fits = good .1 .1 .1 .1 .1 .1 .0 .1 } }; pre = pre; }
-        module _ { M : Type 1 } (𝓤 : URA.URA M) (H : Wp.Heap 𝓤) (A : Atoms.Atoms 𝓤) (W : Kit.Given 𝓤 H A) (𝓣 : Wp.Tables 𝓤 H) (known0 : Plain.Known 𝓤
-            H A W 𝓣 0 ps·0 r·0 (claims· .0) (claims· .1) "hnsr_circuit::revocation::started") (known1 : Plain.Known 𝓤 H A W 𝓣 1 ps·1 r·1 (claims· .2)
-            (claims· .3) "hnsr_circuit::tables::circuits::find_circuit_id") (known2 : Plain.Known 𝓤 H A W 𝓣 3 ps·2 r·2 (claims· .4) (claims· .5)
-            "hnsr_circuit::revocation::revoke_circuit") (known3 : Plain.Known 𝓤 H A W 𝓣 0 ps·3 r·3 (claims· .6) (claims· .7)
-            "hnsr_circuit::revocation::finished") where
-          pub spec : Statement.Triple 𝓤 (Wp.WpFn 𝓤 H (𝓣 .C) (𝓣 .Λ) (Function.fnOf 3 ps r xs m hs body)) (Function.plainOf 𝓤 H A 3 ps r Pre· Post·)
-          spec = Plain.t-fn-plain 𝓤 H A W 𝓣 3 ps r xs m hs body (λ κs qs bs. Φ) (λ κs qs bs bd. typed κs qs 𝓤 H A W 𝓣 (known0, known1, known2, known3)
-              bs bd) Pre· Post· asked
+          pub asked : (a : Kinds.Dens κs ps) → (good : Kinds.GoodsP κs ps a) → (pre : Pre· κs a) →
+              (bs : List.List Nat.ℕ) → Φ (Any.wantQ 3 ps r xs m κs qs a (Post· κs a))
+              (Function.init 3 ps r xs m κs qs a)
+          asked = λ a good pre bs. laid record {
+            κs = κs;
+            args = record {
+              circuits = a .0;
+              inflight = a .1 .0;
+              out = a .1 .1 .0;
+              runtime = a .1 .1 .1 .0;
+              places = a .1 .1 .1 .1 .0;
+              notice = a .1 .1 .1 .1 .1 .0;
+              id = a .1 .1 .1 .1 .1 .1 .0;
+            };
+            good = good;
+            fits = record { id = record { fits = good .1 .1 .1 .1 .1 .1 .0 .1 } };
+            pre = pre;
+          }
+
+        module _ {M : Type 1} (𝓤 : URA.URA M) (H : Wp.Heap 𝓤) (A : Atoms.Atoms 𝓤) (W : Kit.Given 𝓤 H A)
+            (𝓣 : Wp.Tables 𝓤 H) (known0 : Plain.Known 𝓤 H A W 𝓣 0 ps·0 r·0 (claims· .0) (claims· .1)
+            "hnsr_circuit::revocation::started") (known1 : Plain.Known 𝓤 H A W 𝓣 1 ps·1 r·1 (claims· .2) (claims· .3)
+            "hnsr_circuit::tables::circuits::find_circuit_id") (known2 : Plain.Known 𝓤 H A W 𝓣 3 ps·2 r·2 (claims· .4)
+            (claims· .5) "hnsr_circuit::revocation::revoke_circuit") (known3 : Plain.Known 𝓤 H A W 𝓣 0 ps·3 r·3
+            (claims· .6) (claims· .7) "hnsr_circuit::revocation::finished") where
+          pub spec : Statement.Triple 𝓤 (Wp.WpFn 𝓤 H (𝓣 .C) (𝓣 .Λ) (Function.fnOf 3 ps r xs m hs body))
+              (Function.plainOf 𝓤 H A 3 ps r Pre· Post·)
+          spec = Plain.t-fn-plain 𝓤 H A W 𝓣 3 ps r xs m hs body (λ κs qs bs. Φ) (λ κs qs bs bd. typed κs qs 𝓤 H A W 𝓣
+              (known0, known1, known2, known3) bs bd) Pre· Post· asked

@@ -2,6 +2,7 @@
 use Prim.Native.Nat
 use Rattle.hnsr_circuit.proofs.By.RelayCircuit
 use Rattle.hnsr_circuit.proofs.By.RelayPending
+use Rattle.hnsr_circuit.proofs.StructRow
 use Rattle.hnsr_circuit.proofs.answer.HnsrAnswer
 use Rattle.hnsr_circuit.proofs.answer.HnsrAnswer.Laws
 use Rattle.hnsr_circuit.proofs.config.OpaqueRelayConfig
@@ -16,6 +17,7 @@ use Rattle.hnsr_circuit.proofs.revoking_calls.Entered
 use Rattle.hnsr_circuit.proofs.revoking_calls.Entered.Laws as Laws'''''
 use borrow.Author.Called
 use borrow.Fn.Any
+use borrow.Fn.Args as Args'
 use borrow.Fn.Call
 use borrow.Fn.Enter
 use borrow.Fn.Frame
@@ -25,7 +27,6 @@ use borrow.Fn.Plain
 use borrow.Kind.Bool
 use borrow.Kind.Num
 use borrow.Kind.ShrSlice
-use borrow.Kind.Value
 use borrow.Rule.Local
 use borrow.Rule.Scalar
 use borrow.Rule.Slice.Shared
@@ -38,10 +39,7 @@ use borrow.Table.Rows
 use borrow.Table.Typed
 use contract.Lifetimes
 use denote.Enum.Declared
-use denote.Enum.Laws as Laws''''''
-use denote.Exit
 use denote.Struct.Declared as Declared'
-use denote.Struct.Laws as Laws'''''''
 use denote.Triple.Clauses
 use denote.Triple.Statement
 use ghost.Atoms
@@ -57,748 +55,1104 @@ use mathlib.Core.List.{_∷_}
 
 abbrev ref0 : Syntax.Ty
 ref0 = Syntax.tyRef (Syntax.named 0) Syntax.imm RelayPending.to
+
 abbrev ref1 : Syntax.Ty
 ref1 = Syntax.tyRef (Syntax.named 1) Syntax.imm RelayCircuit.to
+
 abbrev pub ps : List.List (Kinds.PK 2)
-ps = (ShrSlice.pShrS RelayPending.row 0 tt) ∷ (ShrSlice.pShrS RelayCircuit.row 1 tt) ∷ (Value.pVal record { ty = Declared'.row Places.the-type; one =
-    Path.refl; val = Laws'''''''.val Places.the-type Laws''.the-laws; tells = Laws'''''''.tells Places.the-type Laws''.the-laws; still =
-    Laws'''''''.still Places.the-type Laws''.the-copy Exit.yes; row = Rows.whole (Declared'.row Places.the-type); rd = λ x. x; mk = λ x. x; } λ M 𝓤 H
-    A W. record { copies = Laws'''''''.copy Places.the-type Laws''.the-copy 𝓤 H A W; lawful = Laws'''''''.lawful Places.the-type Laws''.the-laws 𝓤 H A
-    W; makes = Laws'''''''.makes Places.the-type Laws''.the-plain 𝓤 H A; in-mem = Local.mem-whole 𝓤 H A W (Declared'.row Places.the-type); of-mem =
-    Local.whole-mem 𝓤 H A W (Declared'.row Places.the-type); }) ∷ (Num.pNum Syntax.w64) ∷ (Num.pNum Syntax.w64) ∷ (Value.pVal record { ty =
-    Declared'.row OpaqueRelayConfig.the-type; one = Path.refl; val = Laws'''''''.val OpaqueRelayConfig.the-type Laws'.the-laws; tells =
-    Laws'''''''.tells OpaqueRelayConfig.the-type Laws'.the-laws; still = Laws'''''''.still OpaqueRelayConfig.the-type Laws'.the-copy Exit.yes; row =
-    Rows.whole (Declared'.row OpaqueRelayConfig.the-type); rd = λ x. x; mk = λ x. x; } λ M 𝓤 H A W. record { copies = Laws'''''''.copy
-    OpaqueRelayConfig.the-type Laws'.the-copy 𝓤 H A W; lawful = Laws'''''''.lawful OpaqueRelayConfig.the-type Laws'.the-laws 𝓤 H A W; makes =
-    Laws'''''''.makes OpaqueRelayConfig.the-type Laws'.the-plain 𝓤 H A; in-mem = Local.mem-whole 𝓤 H A W (Declared'.row OpaqueRelayConfig.the-type);
-    of-mem = Local.whole-mem 𝓤 H A W (Declared'.row OpaqueRelayConfig.the-type); }) ∷ (Value.pVal record { ty = Declared'.row Question.the-type; one =
-    Path.refl; val = Laws'''''''.val Question.the-type Laws'''.the-laws; tells = Laws'''''''.tells Question.the-type Laws'''.the-laws; still =
-    Laws'''''''.still Question.the-type Laws'''.the-copy Exit.yes; row = Rows.whole (Declared'.row Question.the-type); rd = λ x. x; mk = λ x. x; } λ M
-    𝓤 H A W. record { copies = Laws'''''''.copy Question.the-type Laws'''.the-copy 𝓤 H A W; lawful = Laws'''''''.lawful Question.the-type
-    Laws'''.the-laws 𝓤 H A W; makes = Laws'''''''.makes Question.the-type Laws'''.the-plain 𝓤 H A; in-mem = Local.mem-whole 𝓤 H A W (Declared'.row
-    Question.the-type); of-mem = Local.whole-mem 𝓤 H A W (Declared'.row Question.the-type); }) ∷ List.[]
+ps = (ShrSlice.pShrS RelayPending.row 0 tt) ∷ (ShrSlice.pShrS RelayCircuit.row 1 tt) ∷ (StructRow.param Places.the-type
+    Laws''.the-laws Laws''.the-copy Laws''.the-plain) ∷ (Num.pNum Syntax.w64) ∷ (Num.pNum Syntax.w64) ∷ (StructRow.param
+    OpaqueRelayConfig.the-type Laws'.the-laws Laws'.the-copy Laws'.the-plain) ∷ (StructRow.param Question.the-type
+    Laws'''.the-laws Laws'''.the-copy Laws'''.the-plain) ∷ List.[]
+
 abbrev pub r : Kinds.RK 2
-r = Value.rVal record { ty = Declared'.row Entered.the-type; one = Path.refl; val = Laws'''''''.val Entered.the-type Laws'''''.the-laws; tells =
-    Laws'''''''.tells Entered.the-type Laws'''''.the-laws; still = Laws'''''''.still Entered.the-type Laws'''''.the-copy Exit.yes; row = Rows.whole
-    (Declared'.row Entered.the-type); rd = λ x. x; mk = λ x. x; } λ M 𝓤 H A W. record { copies = Laws'''''''.copy Entered.the-type Laws'''''.the-copy
-    𝓤 H A W; lawful = Laws'''''''.lawful Entered.the-type Laws'''''.the-laws 𝓤 H A W; makes = Laws'''''''.makes Entered.the-type Laws'''''.the-plain 𝓤
-    H A; in-mem = Local.mem-whole 𝓤 H A W (Declared'.row Entered.the-type); of-mem = Local.whole-mem 𝓤 H A W (Declared'.row Entered.the-type); }
+r = StructRow.result Entered.the-type Laws'''''.the-laws Laws'''''.the-copy Laws'''''.the-plain
+
 abbrev pub xs : List.List Syntax.Ty
-xs = Laws''''.mir ∷ Laws''''.mir ∷ Syntax.tyBool ∷ Laws.mir ∷ (Syntax.tyInt Syntax.w64) ∷ (Syntax.tyInt Syntax.w64) ∷ List.[]
+xs = Laws''''.mir ∷ Laws''''.mir ∷ Syntax.tyBool ∷ Laws.mir ∷ (Syntax.tyInt Syntax.w64) ∷ (Syntax.tyInt Syntax.w64) ∷
+    List.[]
+
 abbrev pub m : Nat.ℕ
 m = 0
+
 abbrev pub ps·0 : List.List (Kinds.PK 1)
-ps·0 = (ShrSlice.pShrS RelayPending.row 0 tt) ∷ (Value.pVal record { ty = Declared'.row Places.the-type; one = Path.refl; val = Laws'''''''.val
-    Places.the-type Laws''.the-laws; tells = Laws'''''''.tells Places.the-type Laws''.the-laws; still = Laws'''''''.still Places.the-type
-    Laws''.the-copy Exit.yes; row = Rows.whole (Declared'.row Places.the-type); rd = λ x. x; mk = λ x. x; } λ M 𝓤 H A W. record { copies =
-    Laws'''''''.copy Places.the-type Laws''.the-copy 𝓤 H A W; lawful = Laws'''''''.lawful Places.the-type Laws''.the-laws 𝓤 H A W; makes =
-    Laws'''''''.makes Places.the-type Laws''.the-plain 𝓤 H A; in-mem = Local.mem-whole 𝓤 H A W (Declared'.row Places.the-type); of-mem =
-    Local.whole-mem 𝓤 H A W (Declared'.row Places.the-type); }) ∷ (Value.pVal record { ty = Declared'.row Question.the-type; one = Path.refl; val =
-    Laws'''''''.val Question.the-type Laws'''.the-laws; tells = Laws'''''''.tells Question.the-type Laws'''.the-laws; still = Laws'''''''.still
-    Question.the-type Laws'''.the-copy Exit.yes; row = Rows.whole (Declared'.row Question.the-type); rd = λ x. x; mk = λ x. x; } λ M 𝓤 H A W. record {
-    copies = Laws'''''''.copy Question.the-type Laws'''.the-copy 𝓤 H A W; lawful = Laws'''''''.lawful Question.the-type Laws'''.the-laws 𝓤 H A W;
-    makes = Laws'''''''.makes Question.the-type Laws'''.the-plain 𝓤 H A; in-mem = Local.mem-whole 𝓤 H A W (Declared'.row Question.the-type); of-mem =
-    Local.whole-mem 𝓤 H A W (Declared'.row Question.the-type); }) ∷ List.[]
+ps·0 = (ShrSlice.pShrS RelayPending.row 0 tt) ∷ (StructRow.param Places.the-type Laws''.the-laws Laws''.the-copy
+    Laws''.the-plain) ∷ (StructRow.param Question.the-type Laws'''.the-laws Laws'''.the-copy Laws'''.the-plain) ∷
+    List.[]
+
 abbrev pub r·0 : Kinds.RK 1
-r·0 = Value.rVal record { ty = Declared'.row Survey.the-type; one = Path.refl; val = Laws'''''''.val Survey.the-type Laws''''.the-laws; tells =
-    Laws'''''''.tells Survey.the-type Laws''''.the-laws; still = Laws'''''''.still Survey.the-type Laws''''.the-copy Exit.yes; row = Rows.whole
-    (Declared'.row Survey.the-type); rd = λ x. x; mk = λ x. x; } λ M 𝓤 H A W. record { copies = Laws'''''''.copy Survey.the-type Laws''''.the-copy 𝓤 H
-    A W; lawful = Laws'''''''.lawful Survey.the-type Laws''''.the-laws 𝓤 H A W; makes = Laws'''''''.makes Survey.the-type Laws''''.the-plain 𝓤 H A;
-    in-mem = Local.mem-whole 𝓤 H A W (Declared'.row Survey.the-type); of-mem = Local.whole-mem 𝓤 H A W (Declared'.row Survey.the-type); }
+r·0 = StructRow.result Survey.the-type Laws''''.the-laws Laws''''.the-copy Laws''''.the-plain
+
 abbrev pub ps·1 : List.List (Kinds.PK 1)
-ps·1 = (ShrSlice.pShrS RelayCircuit.row 0 tt) ∷ (Value.pVal record { ty = Declared'.row Places.the-type; one = Path.refl; val = Laws'''''''.val
-    Places.the-type Laws''.the-laws; tells = Laws'''''''.tells Places.the-type Laws''.the-laws; still = Laws'''''''.still Places.the-type
-    Laws''.the-copy Exit.yes; row = Rows.whole (Declared'.row Places.the-type); rd = λ x. x; mk = λ x. x; } λ M 𝓤 H A W. record { copies =
-    Laws'''''''.copy Places.the-type Laws''.the-copy 𝓤 H A W; lawful = Laws'''''''.lawful Places.the-type Laws''.the-laws 𝓤 H A W; makes =
-    Laws'''''''.makes Places.the-type Laws''.the-plain 𝓤 H A; in-mem = Local.mem-whole 𝓤 H A W (Declared'.row Places.the-type); of-mem =
-    Local.whole-mem 𝓤 H A W (Declared'.row Places.the-type); }) ∷ (Value.pVal record { ty = Declared'.row Question.the-type; one = Path.refl; val =
-    Laws'''''''.val Question.the-type Laws'''.the-laws; tells = Laws'''''''.tells Question.the-type Laws'''.the-laws; still = Laws'''''''.still
-    Question.the-type Laws'''.the-copy Exit.yes; row = Rows.whole (Declared'.row Question.the-type); rd = λ x. x; mk = λ x. x; } λ M 𝓤 H A W. record {
-    copies = Laws'''''''.copy Question.the-type Laws'''.the-copy 𝓤 H A W; lawful = Laws'''''''.lawful Question.the-type Laws'''.the-laws 𝓤 H A W;
-    makes = Laws'''''''.makes Question.the-type Laws'''.the-plain 𝓤 H A; in-mem = Local.mem-whole 𝓤 H A W (Declared'.row Question.the-type); of-mem =
-    Local.whole-mem 𝓤 H A W (Declared'.row Question.the-type); }) ∷ List.[]
+ps·1 = (ShrSlice.pShrS RelayCircuit.row 0 tt) ∷ (StructRow.param Places.the-type Laws''.the-laws Laws''.the-copy
+    Laws''.the-plain) ∷ (StructRow.param Question.the-type Laws'''.the-laws Laws'''.the-copy Laws'''.the-plain) ∷
+    List.[]
+
 abbrev pub r·1 : Kinds.RK 1
-r·1 = Value.rVal record { ty = Declared'.row Survey.the-type; one = Path.refl; val = Laws'''''''.val Survey.the-type Laws''''.the-laws; tells =
-    Laws'''''''.tells Survey.the-type Laws''''.the-laws; still = Laws'''''''.still Survey.the-type Laws''''.the-copy Exit.yes; row = Rows.whole
-    (Declared'.row Survey.the-type); rd = λ x. x; mk = λ x. x; } λ M 𝓤 H A W. record { copies = Laws'''''''.copy Survey.the-type Laws''''.the-copy 𝓤 H
-    A W; lawful = Laws'''''''.lawful Survey.the-type Laws''''.the-laws 𝓤 H A W; makes = Laws'''''''.makes Survey.the-type Laws''''.the-plain 𝓤 H A;
-    in-mem = Local.mem-whole 𝓤 H A W (Declared'.row Survey.the-type); of-mem = Local.whole-mem 𝓤 H A W (Declared'.row Survey.the-type); }
+r·1 = StructRow.result Survey.the-type Laws''''.the-laws Laws''''.the-copy Laws''''.the-plain
+
 abbrev pub ps·2 : List.List (Kinds.PK 0)
 ps·2 = (Num.pNum Syntax.w64) ∷ (Num.pNum Syntax.w64) ∷ (Num.pNum Syntax.w64) ∷ List.[]
+
 abbrev pub r·2 : Kinds.RK 0
 r·2 = Bool.rBool
+
 abbrev pub ps·3 : List.List (Kinds.PK 0)
-ps·3 = (Value.pVal record { ty = Declared'.row OpaqueRelayConfig.the-type; one = Path.refl; val = Laws'''''''.val OpaqueRelayConfig.the-type
-    Laws'.the-laws; tells = Laws'''''''.tells OpaqueRelayConfig.the-type Laws'.the-laws; still = Laws'''''''.still OpaqueRelayConfig.the-type
-    Laws'.the-copy Exit.yes; row = Rows.whole (Declared'.row OpaqueRelayConfig.the-type); rd = λ x. x; mk = λ x. x; } λ M 𝓤 H A W. record { copies =
-    Laws'''''''.copy OpaqueRelayConfig.the-type Laws'.the-copy 𝓤 H A W; lawful = Laws'''''''.lawful OpaqueRelayConfig.the-type Laws'.the-laws 𝓤 H A W;
-    makes = Laws'''''''.makes OpaqueRelayConfig.the-type Laws'.the-plain 𝓤 H A; in-mem = Local.mem-whole 𝓤 H A W (Declared'.row
-    OpaqueRelayConfig.the-type); of-mem = Local.whole-mem 𝓤 H A W (Declared'.row OpaqueRelayConfig.the-type); }) ∷ (Num.pNum Syntax.w64) ∷ (Num.pNum
-    Syntax.w64) ∷ (Num.pNum Syntax.w64) ∷ Bool.pBool ∷ List.[]
+ps·3 = (StructRow.param OpaqueRelayConfig.the-type Laws'.the-laws Laws'.the-copy Laws'.the-plain) ∷
+    (Num.pNum Syntax.w64) ∷ (Num.pNum Syntax.w64) ∷ (Num.pNum Syntax.w64) ∷ Bool.pBool ∷ List.[]
+
 abbrev pub r·3 : Kinds.RK 0
-r·3 = Value.rVal record { ty = Declared.row HnsrAnswer.the-type; one = Path.refl; val = Laws''''''.val HnsrAnswer.the-type Laws.the-laws; tells =
-    Laws''''''.tells HnsrAnswer.the-type Laws.the-laws; still = Laws''''''.still HnsrAnswer.the-type Laws.the-copy Exit.yes; row = Rows.whole
-    (Declared.row HnsrAnswer.the-type); rd = λ x. x; mk = λ x. x; } λ M 𝓤 H A W. record { copies = Laws''''''.copy HnsrAnswer.the-type Laws.the-copy 𝓤
-    H A W; lawful = Laws''''''.lawful HnsrAnswer.the-type Laws.the-laws 𝓤 H A W tt; makes = Laws''''''.makes HnsrAnswer.the-type Laws.the-plain 𝓤 H A;
-    in-mem = Local.mem-whole 𝓤 H A W (Declared.row HnsrAnswer.the-type); of-mem = Local.whole-mem 𝓤 H A W (Declared.row HnsrAnswer.the-type); }
+r·3 = StructRow.enum-result HnsrAnswer.the-type Laws.the-laws Laws.the-copy Laws.the-plain tt
+
 abbrev pub ps·4 : List.List (Kinds.PK 0)
-ps·4 = (Value.pVal record { ty = Declared.row HnsrAnswer.the-type; one = Path.refl; val = Laws''''''.val HnsrAnswer.the-type Laws.the-laws; tells =
-    Laws''''''.tells HnsrAnswer.the-type Laws.the-laws; still = Laws''''''.still HnsrAnswer.the-type Laws.the-copy Exit.yes; row = Rows.whole
-    (Declared.row HnsrAnswer.the-type); rd = λ x. x; mk = λ x. x; } λ M 𝓤 H A W. record { copies = Laws''''''.copy HnsrAnswer.the-type Laws.the-copy 𝓤
-    H A W; lawful = Laws''''''.lawful HnsrAnswer.the-type Laws.the-laws 𝓤 H A W tt; makes = Laws''''''.makes HnsrAnswer.the-type Laws.the-plain 𝓤 H A;
-    in-mem = Local.mem-whole 𝓤 H A W (Declared.row HnsrAnswer.the-type); of-mem = Local.whole-mem 𝓤 H A W (Declared.row HnsrAnswer.the-type); }) ∷
-    (Value.pVal record { ty = Declared'.row Survey.the-type; one = Path.refl; val = Laws'''''''.val Survey.the-type Laws''''.the-laws; tells =
-    Laws'''''''.tells Survey.the-type Laws''''.the-laws; still = Laws'''''''.still Survey.the-type Laws''''.the-copy Exit.yes; row = Rows.whole
-    (Declared'.row Survey.the-type); rd = λ x. x; mk = λ x. x; } λ M 𝓤 H A W. record { copies = Laws'''''''.copy Survey.the-type Laws''''.the-copy 𝓤 H
-    A W; lawful = Laws'''''''.lawful Survey.the-type Laws''''.the-laws 𝓤 H A W; makes = Laws'''''''.makes Survey.the-type Laws''''.the-plain 𝓤 H A;
-    in-mem = Local.mem-whole 𝓤 H A W (Declared'.row Survey.the-type); of-mem = Local.whole-mem 𝓤 H A W (Declared'.row Survey.the-type); }) ∷
-    (Value.pVal record { ty = Declared'.row Survey.the-type; one = Path.refl; val = Laws'''''''.val Survey.the-type Laws''''.the-laws; tells =
-    Laws'''''''.tells Survey.the-type Laws''''.the-laws; still = Laws'''''''.still Survey.the-type Laws''''.the-copy Exit.yes; row = Rows.whole
-    (Declared'.row Survey.the-type); rd = λ x. x; mk = λ x. x; } λ M 𝓤 H A W. record { copies = Laws'''''''.copy Survey.the-type Laws''''.the-copy 𝓤 H
-    A W; lawful = Laws'''''''.lawful Survey.the-type Laws''''.the-laws 𝓤 H A W; makes = Laws'''''''.makes Survey.the-type Laws''''.the-plain 𝓤 H A;
-    in-mem = Local.mem-whole 𝓤 H A W (Declared'.row Survey.the-type); of-mem = Local.whole-mem 𝓤 H A W (Declared'.row Survey.the-type); }) ∷ List.[]
+ps·4 = (StructRow.enum-param HnsrAnswer.the-type Laws.the-laws Laws.the-copy Laws.the-plain tt) ∷ (StructRow.param
+    Survey.the-type Laws''''.the-laws Laws''''.the-copy Laws''''.the-plain) ∷ (StructRow.param Survey.the-type
+    Laws''''.the-laws Laws''''.the-copy Laws''''.the-plain) ∷ List.[]
+
 abbrev pub r·4 : Kinds.RK 0
-r·4 = Value.rVal record { ty = Declared'.row Entered.the-type; one = Path.refl; val = Laws'''''''.val Entered.the-type Laws'''''.the-laws; tells =
-    Laws'''''''.tells Entered.the-type Laws'''''.the-laws; still = Laws'''''''.still Entered.the-type Laws'''''.the-copy Exit.yes; row = Rows.whole
-    (Declared'.row Entered.the-type); rd = λ x. x; mk = λ x. x; } λ M 𝓤 H A W. record { copies = Laws'''''''.copy Entered.the-type Laws'''''.the-copy
-    𝓤 H A W; lawful = Laws'''''''.lawful Entered.the-type Laws'''''.the-laws 𝓤 H A W; makes = Laws'''''''.makes Entered.the-type Laws'''''.the-plain 𝓤
-    H A; in-mem = Local.mem-whole 𝓤 H A W (Declared'.row Entered.the-type); of-mem = Local.whole-mem 𝓤 H A W (Declared'.row Entered.the-type); }
+r·4 = StructRow.result Entered.the-type Laws'''''.the-laws Laws'''''.the-copy Laws'''''.the-plain
+
 abbrev pub hs : List.List Syntax.Home
-hs = Syntax.valueLocal ∷ Syntax.valueLocal ∷ Syntax.valueLocal ∷ Syntax.valueLocal ∷ Syntax.valueLocal ∷ Syntax.valueLocal ∷ Syntax.valueLocal ∷
-    Syntax.valueLocal ∷ Syntax.valueLocal ∷ Syntax.valueLocal ∷ Syntax.valueLocal ∷ Syntax.valueLocal ∷ Syntax.valueLocal ∷ Syntax.valueLocal ∷
-    List.[]
+hs = Syntax.valueLocal ∷ Syntax.valueLocal ∷ Syntax.valueLocal ∷ Syntax.valueLocal ∷ Syntax.valueLocal ∷
+    Syntax.valueLocal ∷ Syntax.valueLocal ∷ Syntax.valueLocal ∷ Syntax.valueLocal ∷ Syntax.valueLocal ∷
+    Syntax.valueLocal ∷ Syntax.valueLocal ∷ Syntax.valueLocal ∷ Syntax.valueLocal ∷ List.[]
+
 abbrev b0 : Syntax.Body
-b0 = Syntax.call "hnsr_circuit::tables::pending::survey_pending" ((Syntax.copy (Syntax.place 1 List.[])) ∷ (Syntax.copy (Syntax.place 3 List.[])) ∷
-    (Syntax.copy (Syntax.place 7 List.[])) ∷ List.[]) (Syntax.place 8 List.[])
+b0 = Syntax.call "hnsr_circuit::tables::pending::survey_pending" ((Syntax.copy (Syntax.place 1 List.[])) ∷
+    (Syntax.copy (Syntax.place 3 List.[])) ∷ (Syntax.copy (Syntax.place 7 List.[])) ∷ List.[]) (Syntax.place 8 List.[])
+
 abbrev b1 : Syntax.Body
-b1 = Syntax.call "hnsr_circuit::tables::circuits::survey_circuit" ((Syntax.copy (Syntax.place 2 List.[])) ∷ (Syntax.copy (Syntax.place 3 List.[])) ∷
-    (Syntax.copy (Syntax.place 7 List.[])) ∷ List.[]) (Syntax.place 9 List.[])
+b1 = Syntax.call "hnsr_circuit::tables::circuits::survey_circuit" ((Syntax.copy (Syntax.place 2 List.[])) ∷
+    (Syntax.copy (Syntax.place 3 List.[])) ∷ (Syntax.copy (Syntax.place 7 List.[])) ∷ List.[]) (Syntax.place 9 List.[])
+
 abbrev b2 : Syntax.Body
-b2 = Syntax.call "hnsr_circuit::revoking_calls::room_short" ((Syntax.copy (Syntax.place 5 List.[])) ∷ (Syntax.copy (Syntax.place 8 ((Syntax.field 0) ∷
-    List.[]))) ∷ (Syntax.copy (Syntax.place 9 ((Syntax.field 0) ∷ List.[]))) ∷ List.[]) (Syntax.place 10 List.[])
+b2 = Syntax.call "hnsr_circuit::revoking_calls::room_short" ((Syntax.copy (Syntax.place 5 List.[])) ∷
+    (Syntax.copy (Syntax.place 8 ((Syntax.field 0) ∷ List.[]))) ∷
+    (Syntax.copy (Syntax.place 9 ((Syntax.field 0) ∷ List.[]))) ∷ List.[]) (Syntax.place 10 List.[])
+
 abbrev b3 : Syntax.Body
 b3 = Syntax.assign (Syntax.place 12 List.[]) (Syntax.rvOpd (Syntax.copy (Syntax.place 1 ((Syntax.field 1) ∷ List.[]))))
+
 abbrev b4 : Syntax.Body
 b4 = Syntax.assign (Syntax.place 13 List.[]) (Syntax.rvOpd (Syntax.copy (Syntax.place 2 ((Syntax.field 1) ∷ List.[]))))
+
 abbrev b5 : Syntax.Body
-b5 = Syntax.call "hnsr_circuit::revoking_calls::room_answer" ((Syntax.copy (Syntax.place 6 List.[])) ∷ (Syntax.copy (Syntax.place 12 List.[])) ∷
-    (Syntax.copy (Syntax.place 13 List.[])) ∷ (Syntax.copy (Syntax.place 4 List.[])) ∷ (Syntax.copy (Syntax.place 10 List.[])) ∷ List.[])
+b5 = Syntax.call "hnsr_circuit::revoking_calls::room_answer" ((Syntax.copy (Syntax.place 6 List.[])) ∷
+    (Syntax.copy (Syntax.place 12 List.[])) ∷ (Syntax.copy (Syntax.place 13 List.[])) ∷
+    (Syntax.copy (Syntax.place 4 List.[])) ∷ (Syntax.copy (Syntax.place 10 List.[])) ∷ List.[])
     (Syntax.place 11 List.[])
+
 abbrev b6 : Syntax.Body
-b6 = Syntax.call "hnsr_circuit::revoking_calls::entry_found" ((Syntax.copy (Syntax.place 11 List.[])) ∷ (Syntax.copy (Syntax.place 8 List.[])) ∷
-    (Syntax.copy (Syntax.place 9 List.[])) ∷ List.[]) (Syntax.place 0 List.[])
+b6 = Syntax.call "hnsr_circuit::revoking_calls::entry_found" ((Syntax.copy (Syntax.place 11 List.[])) ∷
+    (Syntax.copy (Syntax.place 8 List.[])) ∷ (Syntax.copy (Syntax.place 9 List.[])) ∷ List.[]) (Syntax.place 0 List.[])
+
 abbrev b7 : Syntax.Body
 b7 = Syntax.return
+
 abbrev b8 : Syntax.Body
 b8 = Syntax.seq b6 b7
+
 abbrev b9 : Syntax.Body
 b9 = Syntax.seq b5 b8
+
 abbrev b10 : Syntax.Body
 b10 = Syntax.seq b4 b9
+
 abbrev b11 : Syntax.Body
 b11 = Syntax.seq b3 b10
+
 abbrev b12 : Syntax.Body
 b12 = Syntax.seq b2 b11
+
 abbrev b13 : Syntax.Body
 b13 = Syntax.seq b1 b12
+
 abbrev b14 : Syntax.Body
 b14 = Syntax.seq b0 b13
+
 abbrev pub body : Syntax.Body
 body = b14
+
 abbrev pub Claims : Type 1
-Claims = Kinds.In 1 ps·0 × Kinds.Out 1 ps·0 r·0 × Kinds.In 1 ps·1 × Kinds.Out 1 ps·1 r·1 × Kinds.In 0 ps·2 × Kinds.Out 0 ps·2 r·2 × Kinds.In 0 ps·3 ×
-    Kinds.Out 0 ps·3 r·3 × Kinds.In 0 ps·4 × Kinds.Out 0 ps·4 r·4
+Claims = Kinds.In 1 ps·0 × Kinds.Out 1 ps·0 r·0 × Kinds.In 1 ps·1 × Kinds.Out 1 ps·1 r·1 × Kinds.In 0 ps·2 × Kinds.Out
+    0 ps·2 r·2 × Kinds.In 0 ps·3 × Kinds.Out 0 ps·3 r·3 × Kinds.In 0 ps·4 × Kinds.Out 0 ps·4 r·4
+
 abbrev e0 : Row.Entry
 e0 = (0, Rows.any-gone Laws'''''.mir)
+
 abbrev e1 : Row.Entry
 e1 = (1, Rows.sslice RelayPending.row ref0 0)
+
 abbrev e2 : Row.Entry
 e2 = (2, Rows.sslice RelayCircuit.row ref1 1)
+
 abbrev e3 : Row.Entry
 e3 = (3, Rows.whole (Declared'.row Places.the-type))
+
 abbrev e4 : Row.Entry
 e4 = (4, Rows.sc-here (Row.sInt Syntax.w64))
+
 abbrev e5 : Row.Entry
 e5 = (5, Rows.sc-here (Row.sInt Syntax.w64))
+
 abbrev e6 : Row.Entry
 e6 = (6, Rows.whole (Declared'.row OpaqueRelayConfig.the-type))
+
 abbrev e7 : Row.Entry
 e7 = (7, Rows.whole (Declared'.row Question.the-type))
+
 abbrev e8 : Row.Entry
 e8 = (8, Rows.any-gone Laws''''.mir)
+
 abbrev e9 : Row.Entry
 e9 = (9, Rows.any-gone Laws''''.mir)
+
 abbrev e10 : Row.Entry
 e10 = (10, Rows.any-gone Syntax.tyBool)
+
 abbrev e11 : Row.Entry
 e11 = (11, Rows.any-gone Laws.mir)
+
 abbrev e12 : Row.Entry
 e12 = (12, Rows.any-gone (Syntax.tyInt Syntax.w64))
+
 abbrev e13 : Row.Entry
 e13 = (13, Rows.any-gone (Syntax.tyInt Syntax.w64))
+
 abbrev e0·1 : Row.Entry
 e0·1 = (0, Rows.whole (Declared'.row Entered.the-type))
+
 abbrev e3·1 : Row.Entry
 e3·1 = (3, Rows.any-gone Laws''.mir)
+
 abbrev e4·1 : Row.Entry
 e4·1 = (4, Rows.any-gone (Syntax.tyInt Syntax.w64))
+
 abbrev e5·1 : Row.Entry
 e5·1 = (5, Rows.any-gone (Syntax.tyInt Syntax.w64))
+
 abbrev e6·1 : Row.Entry
 e6·1 = (6, Rows.any-gone Laws'.mir)
+
 abbrev e7·1 : Row.Entry
 e7·1 = (7, Rows.any-gone Laws'''.mir)
+
 abbrev e8·1 : Row.Entry
 e8·1 = (8, Rows.whole (Declared'.row Survey.the-type))
+
 abbrev e9·1 : Row.Entry
 e9·1 = (9, Rows.whole (Declared'.row Survey.the-type))
+
 abbrev e10·1 : Row.Entry
 e10·1 = (10, Rows.sc-here Row.sBool)
+
 abbrev e12·1 : Row.Entry
 e12·1 = (12, Rows.sc-here (Row.sInt Syntax.w64))
+
 abbrev e13·1 : Row.Entry
 e13·1 = (13, Rows.sc-here (Row.sInt Syntax.w64))
+
 abbrev e11·1 : Row.Entry
 e11·1 = (11, Rows.whole (Declared.row HnsrAnswer.the-type))
+
 abbrev pub t0 : List.List Row.Entry
 t0 = e0 ∷ e1 ∷ e2 ∷ e3 ∷ e4 ∷ e5 ∷ e6 ∷ e7 ∷ e8 ∷ e9 ∷ e10 ∷ e11 ∷ e12 ∷ e13 ∷ List.[]
+
 abbrev pub t1 : List.List Row.Entry
 t1 = e0·1 ∷ e1 ∷ e2 ∷ e3·1 ∷ e4·1 ∷ e5·1 ∷ e6·1 ∷ e7·1 ∷ e8 ∷ e9 ∷ e10 ∷ e11 ∷ e12 ∷ e13 ∷ List.[]
+
 abbrev pub t2 : List.List Row.Entry
 t2 = e0 ∷ e1 ∷ e2 ∷ e3 ∷ e4 ∷ e5 ∷ e6 ∷ e7 ∷ e8·1 ∷ e9 ∷ e10 ∷ e11 ∷ e12 ∷ e13 ∷ List.[]
+
 abbrev pub t3 : List.List Row.Entry
 t3 = e0 ∷ e1 ∷ e2 ∷ e3 ∷ e4 ∷ e5 ∷ e6 ∷ e7 ∷ e8·1 ∷ e9·1 ∷ e10 ∷ e11 ∷ e12 ∷ e13 ∷ List.[]
+
 abbrev pub t4 : List.List Row.Entry
 t4 = e0 ∷ e1 ∷ e2 ∷ e3·1 ∷ e4 ∷ e5 ∷ e6 ∷ e7 ∷ e8·1 ∷ e9·1 ∷ e10 ∷ e11 ∷ e12 ∷ e13 ∷ List.[]
+
 abbrev pub t5 : List.List Row.Entry
 t5 = e0 ∷ e1 ∷ e2 ∷ e3·1 ∷ e4 ∷ e5 ∷ e6 ∷ e7·1 ∷ e8·1 ∷ e9·1 ∷ e10 ∷ e11 ∷ e12 ∷ e13 ∷ List.[]
+
 abbrev pub t6 : List.List Row.Entry
 t6 = e0 ∷ e1 ∷ e2 ∷ e3·1 ∷ e4 ∷ e5 ∷ e6 ∷ e7·1 ∷ e8·1 ∷ e9·1 ∷ e10·1 ∷ e11 ∷ e12 ∷ e13 ∷ List.[]
+
 abbrev pub t7 : List.List Row.Entry
 t7 = e0 ∷ e1 ∷ e2 ∷ e3·1 ∷ e4 ∷ e5 ∷ e6 ∷ e7·1 ∷ e8·1 ∷ e9·1 ∷ e10·1 ∷ e11 ∷ e12·1 ∷ e13 ∷ List.[]
+
 abbrev pub t8 : List.List Row.Entry
 t8 = e0 ∷ e1 ∷ e2 ∷ e3·1 ∷ e4 ∷ e5 ∷ e6 ∷ e7·1 ∷ e8·1 ∷ e9·1 ∷ e10·1 ∷ e11 ∷ e12·1 ∷ e13·1 ∷ List.[]
+
 abbrev pub t9 : List.List Row.Entry
 t9 = e0 ∷ e1 ∷ e2 ∷ e3·1 ∷ e4 ∷ e5 ∷ e6 ∷ e7·1 ∷ e8·1 ∷ e9·1 ∷ e10·1 ∷ e11·1 ∷ e12·1 ∷ e13·1 ∷ List.[]
+
 abbrev pub t10 : List.List Row.Entry
 t10 = e0 ∷ e1 ∷ e2 ∷ e3·1 ∷ e4 ∷ e5 ∷ e6·1 ∷ e7·1 ∷ e8·1 ∷ e9·1 ∷ e10·1 ∷ e11·1 ∷ e12·1 ∷ e13·1 ∷ List.[]
+
 abbrev pub t11 : List.List Row.Entry
 t11 = e0 ∷ e1 ∷ e2 ∷ e3·1 ∷ e4 ∷ e5 ∷ e6·1 ∷ e7·1 ∷ e8·1 ∷ e9·1 ∷ e10·1 ∷ e11·1 ∷ e12 ∷ e13·1 ∷ List.[]
+
 abbrev pub t12 : List.List Row.Entry
 t12 = e0 ∷ e1 ∷ e2 ∷ e3·1 ∷ e4 ∷ e5 ∷ e6·1 ∷ e7·1 ∷ e8·1 ∷ e9·1 ∷ e10·1 ∷ e11·1 ∷ e12 ∷ e13 ∷ List.[]
+
 abbrev pub t13 : List.List Row.Entry
 t13 = e0·1 ∷ e1 ∷ e2 ∷ e3·1 ∷ e4 ∷ e5 ∷ e6·1 ∷ e7·1 ∷ e8·1 ∷ e9·1 ∷ e10·1 ∷ e11·1 ∷ e12 ∷ e13 ∷ List.[]
+
 abbrev pub t14 : List.List Row.Entry
 t14 = e0·1 ∷ e1 ∷ e2 ∷ e3·1 ∷ e4 ∷ e5 ∷ e6·1 ∷ e7·1 ∷ e8 ∷ e9·1 ∷ e10·1 ∷ e11·1 ∷ e12 ∷ e13 ∷ List.[]
+
 abbrev pub t15 : List.List Row.Entry
 t15 = e0·1 ∷ e1 ∷ e2 ∷ e3·1 ∷ e4 ∷ e5 ∷ e6·1 ∷ e7·1 ∷ e8 ∷ e9 ∷ e10·1 ∷ e11·1 ∷ e12 ∷ e13 ∷ List.[]
+
 abbrev pub t16 : List.List Row.Entry
 t16 = e0·1 ∷ e1 ∷ e2 ∷ e3·1 ∷ e4 ∷ e5 ∷ e6·1 ∷ e7·1 ∷ e8 ∷ e9 ∷ e10 ∷ e11·1 ∷ e12 ∷ e13 ∷ List.[]
+
 abbrev pub t17 : List.List Row.Entry
 t17 = e0·1 ∷ e1 ∷ e2 ∷ e3·1 ∷ e4 ∷ e5 ∷ e6·1 ∷ e7·1 ∷ e8 ∷ e9 ∷ e10 ∷ e11 ∷ e12 ∷ e13 ∷ List.[]
+
 abbrev pub t18 : List.List Row.Entry
 t18 = e0·1 ∷ e1 ∷ e2 ∷ e3·1 ∷ e4·1 ∷ e5 ∷ e6·1 ∷ e7·1 ∷ e8 ∷ e9 ∷ e10 ∷ e11 ∷ e12 ∷ e13 ∷ List.[]
+
 abbrev pub T0 : Row.Cx
 T0 = record { locals = t0; slots = List.[] }
+
 abbrev pub T1 : Row.Cx
 T1 = record { locals = t1; slots = List.[] }
+
 abbrev pub T2 : Row.Cx
 T2 = record { locals = t2; slots = List.[] }
+
 abbrev pub T3 : Row.Cx
 T3 = record { locals = t3; slots = List.[] }
+
 abbrev pub T4 : Row.Cx
 T4 = record { locals = t4; slots = List.[] }
+
 abbrev pub T5 : Row.Cx
 T5 = record { locals = t5; slots = List.[] }
+
 abbrev pub T6 : Row.Cx
 T6 = record { locals = t6; slots = List.[] }
+
 abbrev pub T7 : Row.Cx
 T7 = record { locals = t7; slots = List.[] }
+
 abbrev pub T8 : Row.Cx
 T8 = record { locals = t8; slots = List.[] }
+
 abbrev pub T9 : Row.Cx
 T9 = record { locals = t9; slots = List.[] }
+
 abbrev pub T10 : Row.Cx
 T10 = record { locals = t10; slots = List.[] }
+
 abbrev pub T11 : Row.Cx
 T11 = record { locals = t11; slots = List.[] }
+
 abbrev pub T12 : Row.Cx
 T12 = record { locals = t12; slots = List.[] }
+
 abbrev pub T13 : Row.Cx
 T13 = record { locals = t13; slots = List.[] }
+
 abbrev pub T14 : Row.Cx
 T14 = record { locals = t14; slots = List.[] }
+
 abbrev pub T15 : Row.Cx
 T15 = record { locals = t15; slots = List.[] }
+
 abbrev pub T16 : Row.Cx
 T16 = record { locals = t16; slots = List.[] }
+
 abbrev pub T17 : Row.Cx
 T17 = record { locals = t17; slots = List.[] }
+
 abbrev pub T18 : Row.Cx
 T18 = record { locals = t18; slots = List.[] }
+
 abbrev pub T19 : Row.Cx
 T19 = record { locals = t1; slots = List.[] }
+
 abbrev pub O0 : Typed.Outs
 O0 = record { next = Option.none; exits = List.[]; returns = Option.some T1 }
+
 module _ (claims· : Claims) where
+  abbrev args0 : Args'.ArgsT ps·0 (T0 .locals)
+  args0 = (
+    record { pos = 1; ty = ref0; ref = λ x. x },
+    (record { pos = 3; st = List.[]; d = 0; at = λ x. x }, (record { pos = 7; st = List.[]; d = 0; at = λ x. x }, tt)),
+  )
+
   abbrev s0 : Typed.Both T0 T2
-  s0 = Call.callB ps·0 r·0 (claims· .0) (claims· .1) T0 (record { pos = 1; ty = Syntax.tyRef (Syntax.named 0) Syntax.imm RelayPending.to; ref = λ x.
-      x; }, (record { pos = 3; st = List.[]; d = 0; at = λ x. x }, (record { pos = 7; st = List.[]; d = 0; at = λ x. x }, tt),),) 8 (0 ∷ List.[])
-      Laws''''.mir
+  s0 = Call.callB ps·0 r·0 (claims· .0) (claims· .1) T0 args0 8 (0 ∷ List.[]) Laws''''.mir
+
+  abbrev args1 : Args'.ArgsT ps·1 (T2 .locals)
+  args1 = (
+    record { pos = 2; ty = ref1; ref = λ x. x },
+    (record { pos = 3; st = List.[]; d = 0; at = λ x. x }, (record { pos = 7; st = List.[]; d = 0; at = λ x. x }, tt)),
+  )
+
   abbrev s1 : Typed.Both T2 T3
-  s1 = Call.callB ps·1 r·1 (claims· .2) (claims· .3) T2 (record { pos = 2; ty = Syntax.tyRef (Syntax.named 1) Syntax.imm RelayCircuit.to; ref = λ x.
-      x; }, (record { pos = 3; st = List.[]; d = 0; at = λ x. x }, (record { pos = 7; st = List.[]; d = 0; at = λ x. x }, tt),),) 9 (1 ∷ List.[])
-      Laws''''.mir
+  s1 = Call.callB ps·1 r·1 (claims· .2) (claims· .3) T2 args1 9 (1 ∷ List.[]) Laws''''.mir
+
   abbrev s2 : Typed.Mo T3 → Typed.Mo T4
   s2 = Scalar.n-room T3 3 Laws''.mir
+
   abbrev s3 : Typed.Mo T4 → Typed.Mo T5
   s3 = Scalar.n-room T4 7 Laws'''.mir
+
+  abbrev args4 : Args'.ArgsT ps·2 (T5 .locals)
+  args4 = (
+    Num.vAt 5 λ x. x,
+    (
+      Num.vFld 8 ((Syntax.field 0) ∷ List.[]) 0 λ x. Survey.struct .as-values x .0,
+      (Num.vFld 9 ((Syntax.field 0) ∷ List.[]) 0 λ x. Survey.struct .as-values x .0, tt),
+    ),
+  )
+
   abbrev s4 : Typed.Both T5 T6
-  s4 = Call.callB ps·2 r·2 (claims· .4) (claims· .5) T5 (Num.vAt 5 λ x. x, (Num.vFld 8 ((Syntax.field 0) ∷ List.[]) 0 λ x. Survey.struct .as-values x
-      .0, (Num.vFld 9 ((Syntax.field 0) ∷ List.[]) 0 λ x. Survey.struct .as-values x .0, tt),),) 10 List.[] Syntax.tyBool
+  s4 = Call.callB ps·2 r·2 (claims· .4) (claims· .5) T5 args4 10 List.[] Syntax.tyBool
+
   abbrev s5 : Typed.Mo T6 → Typed.Mo T7
-  s5 = Scalar.n-use T6 (Scalar.oFld 1 ((Syntax.field 1) ∷ List.[]) (Syntax.tyInt Syntax.w64) 8 Shared.lenV) 12 (Rows.sc-here (Row.sInt Syntax.w64))
-      (Row.sInt Syntax.w64 .of)
+  s5 = Scalar.n-use T6 (Scalar.oFld 1 ((Syntax.field 1) ∷ List.[]) (Syntax.tyInt Syntax.w64) 8 Shared.lenV) 12
+      (Rows.sc-here (Row.sInt Syntax.w64)) (Row.sInt Syntax.w64 .of)
+
   abbrev s6 : Typed.Mo T7 → Typed.Mo T8
-  s6 = Scalar.n-use T7 (Scalar.oFld 2 ((Syntax.field 1) ∷ List.[]) (Syntax.tyInt Syntax.w64) 8 Shared.lenV) 13 (Rows.sc-here (Row.sInt Syntax.w64))
-      (Row.sInt Syntax.w64 .of)
+  s6 = Scalar.n-use T7 (Scalar.oFld 2 ((Syntax.field 1) ∷ List.[]) (Syntax.tyInt Syntax.w64) 8 Shared.lenV) 13
+      (Rows.sc-here (Row.sInt Syntax.w64)) (Row.sInt Syntax.w64 .of)
+
+  abbrev args7 : Args'.ArgsT ps·3 (T8 .locals)
+  args7 = (
+    record { pos = 6; st = List.[]; d = 0; at = λ x. x },
+    (Num.vAt 12 λ x. x, (Num.vAt 13 λ x. x, (Num.vAt 4 λ x. x, (Bool.bAt 10 λ x. x, tt)))),
+  )
+
   abbrev s7 : Typed.Both T8 T9
-  s7 = Call.callB ps·3 r·3 (claims· .6) (claims· .7) T8 (record { pos = 6; st = List.[]; d = 0; at = λ x. x }, (Num.vAt 12 λ x. x, (Num.vAt 13 λ x. x,
-      (Num.vAt 4 λ x. x, (Bool.bAt 10 λ x. x, tt)))),) 11 List.[] Laws.mir
+  s7 = Call.callB ps·3 r·3 (claims· .6) (claims· .7) T8 args7 11 List.[] Laws.mir
+
   abbrev s8 : Typed.Mo T9 → Typed.Mo T10
   s8 = Scalar.n-room T9 6 Laws'.mir
+
   abbrev s9 : Typed.Mo T10 → Typed.Mo T11
   s9 = Scalar.n-room T10 12 (Syntax.tyInt Syntax.w64)
+
   abbrev s10 : Typed.Mo T11 → Typed.Mo T12
   s10 = Scalar.n-room T11 13 (Syntax.tyInt Syntax.w64)
+
+  abbrev args11 : Args'.ArgsT ps·4 (T12 .locals)
+  args11 = (
+    record { pos = 11; st = List.[]; d = 0; at = λ x. x },
+    (record { pos = 8; st = List.[]; d = 0; at = λ x. x }, (record { pos = 9; st = List.[]; d = 0; at = λ x. x }, tt)),
+  )
+
   abbrev s11 : Typed.Both T12 T13
-  s11 = Call.callB ps·4 r·4 (claims· .8) (claims· .9) T12 (record { pos = 11; st = List.[]; d = 0; at = λ x. x }, (record { pos = 8; st = List.[]; d =
-      0; at = λ x. x }, (record { pos = 9; st = List.[]; d = 0; at = λ x. x }, tt),),) 0 List.[] Laws'''''.mir
+  s11 = Call.callB ps·4 r·4 (claims· .8) (claims· .9) T12 args11 0 List.[] Laws'''''.mir
+
   abbrev s12 : Typed.Mo T13 → Typed.Mo T14
   s12 = Scalar.n-room T13 8 Laws''''.mir
+
   abbrev s13 : Typed.Mo T14 → Typed.Mo T15
   s13 = Scalar.n-room T14 9 Laws''''.mir
+
   abbrev s14 : Typed.Mo T15 → Typed.Mo T16
   s14 = Scalar.n-room T15 10 Syntax.tyBool
+
   abbrev s15 : Typed.Mo T16 → Typed.Mo T17
   s15 = Scalar.n-room T16 11 Laws.mir
+
   abbrev s16 : Typed.Mo T17 → Typed.Mo T18
   s16 = Scalar.n-room T17 4 (Syntax.tyInt Syntax.w64)
+
   abbrev s17 : Typed.Mo T18 → Typed.Mo T19
   s17 = Scalar.n-room T18 5 (Syntax.tyInt Syntax.w64)
-  module _ (Pre· : (κs : Lifetimes.Lfts 2) → Kinds.Dens κs ps → Type 0) (Post· : (κs : Lifetimes.Lfts 2) → (a : Kinds.Dens κs ps) → Kinds.Plain 2 ps r
-      κs) where
+
+  module _ (Pre· : (κs : Lifetimes.Lfts 2) → Kinds.Dens κs ps → Type 0) (Post· : (κs : Lifetimes.Lfts 2) →
+      (a : Kinds.Dens κs ps) → Kinds.Plain 2 ps r κs) where
     module _ (M : Type 1) where
       abbrev pub Closed : Type 2
-      Closed = (𝓤 : URA.URA M) (H : Wp.Heap 𝓤) (A : Atoms.Atoms 𝓤) (W : Kit.Given 𝓤 H A) (𝓣 : Wp.Tables 𝓤 H) (known0 : Plain.Known 𝓤 H A W 𝓣 1 ps·0
-          r·0 (claims· .0) (claims· .1) "hnsr_circuit::tables::pending::survey_pending") (known1 : Plain.Known 𝓤 H A W 𝓣 1 ps·1 r·1 (claims· .2)
-          (claims· .3) "hnsr_circuit::tables::circuits::survey_circuit") (known2 : Plain.Known 𝓤 H A W 𝓣 0 ps·2 r·2 (claims· .4) (claims· .5)
-          "hnsr_circuit::revoking_calls::room_short") (known3 : Plain.Known 𝓤 H A W 𝓣 0 ps·3 r·3 (claims· .6) (claims· .7)
-          "hnsr_circuit::revoking_calls::room_answer") (known4 : Plain.Known 𝓤 H A W 𝓣 0 ps·4 r·4 (claims· .8) (claims· .9)
-          "hnsr_circuit::revoking_calls::entry_found") → Statement.Triple 𝓤 (Wp.WpFn 𝓤 H (𝓣 .C) (𝓣 .Λ) (Function.fnOf 2 ps r xs m hs body))
+      Closed = (𝓤 : URA.URA M) (H : Wp.Heap 𝓤) (A : Atoms.Atoms 𝓤) (W : Kit.Given 𝓤 H A) (𝓣 : Wp.Tables 𝓤 H) (known0 :
+          Plain.Known 𝓤 H A W 𝓣 1 ps·0 r·0 (claims· .0) (claims· .1) "hnsr_circuit::tables::pending::survey_pending") (known1
+          : Plain.Known 𝓤 H A W 𝓣 1 ps·1 r·1 (claims· .2) (claims· .3) "hnsr_circuit::tables::circuits::survey_circuit") (known2
+          : Plain.Known 𝓤 H A W 𝓣 0 ps·2 r·2 (claims· .4) (claims· .5) "hnsr_circuit::revoking_calls::room_short") (known3
+          : Plain.Known 𝓤 H A W 𝓣 0 ps·3 r·3 (claims· .6) (claims· .7) "hnsr_circuit::revoking_calls::room_answer") (known4
+          : Plain.Known 𝓤 H A W 𝓣 0 ps·4 r·4 (claims· .8) (claims· .9) "hnsr_circuit::revoking_calls::entry_found") →
+          Statement.Triple 𝓤 (Wp.WpFn 𝓤 H (𝓣 .C) (𝓣 .Λ) (Function.fnOf 2 ps r xs m hs body))
           (Function.plainOf 𝓤 H A 2 ps r Pre· Post·)
+
     module _ where
       abbrev at0 : Typed.TF T19 O0
       at0 = Typed.atRet O0
+
       abbrev at1 : Typed.TF T18 O0
       at1 = λ Ψ. Typed.pass T18 T19 s17 (at0 Ψ)
+
       abbrev at2 : Typed.TF T17 O0
       at2 = λ Ψ. Typed.pass T17 T18 s16 (at1 Ψ)
+
       abbrev at3 : Typed.TF T16 O0
       at3 = λ Ψ. Typed.pass T16 T17 s15 (at2 Ψ)
+
       abbrev at4 : Typed.TF T15 O0
       at4 = λ Ψ. Typed.pass T15 T16 s14 (at3 Ψ)
+
       abbrev at5 : Typed.TF T14 O0
       at5 = λ Ψ. Typed.pass T14 T15 s13 (at4 Ψ)
+
       abbrev at6 : Typed.TF T13 O0
       at6 = λ Ψ. Typed.pass T13 T14 s12 (at5 Ψ)
+
       abbrev at7 : Typed.TF T12 O0
       at7 = λ Ψ. Typed.both s11 (at6 Ψ)
+
       abbrev at8 : Typed.TF T11 O0
       at8 = λ Ψ. Typed.pass T11 T12 s10 (at7 Ψ)
+
       abbrev at9 : Typed.TF T10 O0
       at9 = λ Ψ. Typed.pass T10 T11 s9 (at8 Ψ)
+
       abbrev at10 : Typed.TF T9 O0
       at10 = λ Ψ. Typed.pass T9 T10 s8 (at9 Ψ)
+
       abbrev at11 : Typed.TF T8 O0
       at11 = λ Ψ. Typed.both s7 (at10 Ψ)
+
       abbrev at12 : Typed.TF T7 O0
       at12 = λ Ψ. Typed.pass T7 T8 s6 (at11 Ψ)
+
       abbrev at13 : Typed.TF T6 O0
       at13 = λ Ψ. Typed.pass T6 T7 s5 (at12 Ψ)
+
       abbrev at14 : Typed.TF T5 O0
       at14 = λ Ψ. Typed.both s4 (at13 Ψ)
+
       abbrev at15 : Typed.TF T4 O0
       at15 = λ Ψ. Typed.pass T4 T5 s3 (at14 Ψ)
+
       abbrev at16 : Typed.TF T3 O0
       at16 = λ Ψ. Typed.pass T3 T4 s2 (at15 Ψ)
+
       abbrev at17 : Typed.TF T2 O0
       at17 = λ Ψ. Typed.both s1 (at16 Ψ)
+
       abbrev at18 : Typed.TF T0 O0
       at18 = λ Ψ. Typed.both s0 (at17 Ψ)
+
       abbrev pub Φ : Typed.TF T0 O0
       Φ = at18
-      module _ { M : Type 1 } (𝓤 : URA.URA M) (H : Wp.Heap 𝓤) (A : Atoms.Atoms 𝓤) (W : Kit.Given 𝓤 H A) (𝓣 : Wp.Tables 𝓤 H) where
+
+      module _ {M : Type 1} (𝓤 : URA.URA M) (H : Wp.Heap 𝓤) (A : Atoms.Atoms 𝓤) (W : Kit.Given 𝓤 H A)
+          (𝓣 : Wp.Tables 𝓤 H) where
         abbrev Knowns : Type 1
-        Knowns = Plain.Known 𝓤 H A W 𝓣 1 ps·0 r·0 (claims· .0) (claims· .1) "hnsr_circuit::tables::pending::survey_pending" × Plain.Known 𝓤 H A W 𝓣 1
-            ps·1 r·1 (claims· .2) (claims· .3) "hnsr_circuit::tables::circuits::survey_circuit" × Plain.Known 𝓤 H A W 𝓣 0 ps·2 r·2 (claims· .4)
-            (claims· .5) "hnsr_circuit::revoking_calls::room_short" × Plain.Known 𝓤 H A W 𝓣 0 ps·3 r·3 (claims· .6) (claims· .7)
-            "hnsr_circuit::revoking_calls::room_answer" × Plain.Known 𝓤 H A W 𝓣 0 ps·4 r·4 (claims· .8) (claims· .9)
-            "hnsr_circuit::revoking_calls::entry_found"
+        Knowns = Plain.Known 𝓤 H A W 𝓣 1 ps·0 r·0 (claims· .0) (claims· .1)
+            "hnsr_circuit::tables::pending::survey_pending" × Plain.Known 𝓤 H A W 𝓣 1 ps·1 r·1 (claims· .2)
+            (claims· .3) "hnsr_circuit::tables::circuits::survey_circuit" × Plain.Known 𝓤 H A W 𝓣 0 ps·2 r·2
+            (claims· .4) (claims· .5) "hnsr_circuit::revoking_calls::room_short" × Plain.Known 𝓤 H A W 𝓣 0 ps·3 r·3
+            (claims· .6) (claims· .7) "hnsr_circuit::revoking_calls::room_answer" × Plain.Known 𝓤 H A W 𝓣 0 ps·4 r·4
+            (claims· .8) (claims· .9) "hnsr_circuit::revoking_calls::entry_found"
+
       module _ (κs : Lifetimes.Lfts 2) (qs : Lifetimes.Shares 2) where
         abbrev life0 : Row.Life
         life0 = Row.lease (κs .0) (qs .0)
+
         abbrev life1 : Row.Life
         life1 = Row.lease (κs .1 .0) (qs .1 .0)
+
         abbrev G0 : Row.Cx
-        G0 = record { locals = t0; slots = life0 ∷ life1 ∷ List.[]; }
+        G0 = record { locals = t0; slots = life0 ∷ life1 ∷ List.[] }
+
         abbrev G1 : Row.Cx
-        G1 = record { locals = t1; slots = life0 ∷ life1 ∷ List.[]; }
+        G1 = record { locals = t1; slots = life0 ∷ life1 ∷ List.[] }
+
         abbrev G2 : Row.Cx
-        G2 = record { locals = t2; slots = life0 ∷ life1 ∷ List.[]; }
+        G2 = record { locals = t2; slots = life0 ∷ life1 ∷ List.[] }
+
         abbrev G3 : Row.Cx
-        G3 = record { locals = t3; slots = life0 ∷ life1 ∷ List.[]; }
+        G3 = record { locals = t3; slots = life0 ∷ life1 ∷ List.[] }
+
         abbrev G4 : Row.Cx
-        G4 = record { locals = t4; slots = life0 ∷ life1 ∷ List.[]; }
+        G4 = record { locals = t4; slots = life0 ∷ life1 ∷ List.[] }
+
         abbrev G5 : Row.Cx
-        G5 = record { locals = t5; slots = life0 ∷ life1 ∷ List.[]; }
+        G5 = record { locals = t5; slots = life0 ∷ life1 ∷ List.[] }
+
         abbrev G6 : Row.Cx
-        G6 = record { locals = t6; slots = life0 ∷ life1 ∷ List.[]; }
+        G6 = record { locals = t6; slots = life0 ∷ life1 ∷ List.[] }
+
         abbrev G7 : Row.Cx
-        G7 = record { locals = t7; slots = life0 ∷ life1 ∷ List.[]; }
+        G7 = record { locals = t7; slots = life0 ∷ life1 ∷ List.[] }
+
         abbrev G8 : Row.Cx
-        G8 = record { locals = t8; slots = life0 ∷ life1 ∷ List.[]; }
+        G8 = record { locals = t8; slots = life0 ∷ life1 ∷ List.[] }
+
         abbrev G9 : Row.Cx
-        G9 = record { locals = t9; slots = life0 ∷ life1 ∷ List.[]; }
+        G9 = record { locals = t9; slots = life0 ∷ life1 ∷ List.[] }
+
         abbrev G10 : Row.Cx
-        G10 = record { locals = t10; slots = life0 ∷ life1 ∷ List.[]; }
+        G10 = record { locals = t10; slots = life0 ∷ life1 ∷ List.[] }
+
         abbrev G11 : Row.Cx
-        G11 = record { locals = t11; slots = life0 ∷ life1 ∷ List.[]; }
+        G11 = record { locals = t11; slots = life0 ∷ life1 ∷ List.[] }
+
         abbrev G12 : Row.Cx
-        G12 = record { locals = t12; slots = life0 ∷ life1 ∷ List.[]; }
+        G12 = record { locals = t12; slots = life0 ∷ life1 ∷ List.[] }
+
         abbrev G13 : Row.Cx
-        G13 = record { locals = t13; slots = life0 ∷ life1 ∷ List.[]; }
+        G13 = record { locals = t13; slots = life0 ∷ life1 ∷ List.[] }
+
         abbrev G14 : Row.Cx
-        G14 = record { locals = t14; slots = life0 ∷ life1 ∷ List.[]; }
+        G14 = record { locals = t14; slots = life0 ∷ life1 ∷ List.[] }
+
         abbrev G15 : Row.Cx
-        G15 = record { locals = t15; slots = life0 ∷ life1 ∷ List.[]; }
+        G15 = record { locals = t15; slots = life0 ∷ life1 ∷ List.[] }
+
         abbrev G16 : Row.Cx
-        G16 = record { locals = t16; slots = life0 ∷ life1 ∷ List.[]; }
+        G16 = record { locals = t16; slots = life0 ∷ life1 ∷ List.[] }
+
         abbrev G17 : Row.Cx
-        G17 = record { locals = t17; slots = life0 ∷ life1 ∷ List.[]; }
+        G17 = record { locals = t17; slots = life0 ∷ life1 ∷ List.[] }
+
         abbrev G18 : Row.Cx
-        G18 = record { locals = t18; slots = life0 ∷ life1 ∷ List.[]; }
+        G18 = record { locals = t18; slots = life0 ∷ life1 ∷ List.[] }
+
         abbrev G19 : Row.Cx
-        G19 = record { locals = t1; slots = life0 ∷ life1 ∷ List.[]; }
+        G19 = record { locals = t1; slots = life0 ∷ life1 ∷ List.[] }
+
         abbrev Δ0 : Typed.Outs
         Δ0 = record { next = Option.none; exits = List.[]; returns = Option.some G1 }
-        module _ { M : Type 1 } (𝓤 : URA.URA M) (H : Wp.Heap 𝓤) (A : Atoms.Atoms 𝓤) (W : Kit.Given 𝓤 H A) (𝓣 : Wp.Tables 𝓤 H) (known : Knowns 𝓤 H A W
-            𝓣) (bs : List.List Nat.ℕ) (bd : Lifetimes.AllOutlive 2 (Kinds.osR r) κs) where
+
+        module _ {M : Type 1} (𝓤 : URA.URA M) (H : Wp.Heap 𝓤) (A : Atoms.Atoms 𝓤) (W : Kit.Given 𝓤 H A)
+            (𝓣 : Wp.Tables 𝓤 H) (known : Knowns 𝓤 H A W 𝓣) (bs : List.List Nat.ℕ)
+            (bd : Lifetimes.AllOutlive 2 (Kinds.osR r) κs) where
           abbrev E : Wp.Env 𝓤 H
           E = Frame.EnvOf 𝓤 H ((Kinds.tyR r) ∷ (Enter.tysP ps xs)) bs
+
           d0 : Typed.Typed 𝓤 H A 𝓣 E G19 b7 Δ0 at0
           d0 = Typed.t-return 𝓤 H A W 𝓣 E Δ0 tt
+
           d1 : Typed.Typed 𝓤 H A 𝓣 E G18 b7 Δ0 at1
-          d1 = Typed.g-pre 𝓤 H A W 𝓣 E G18 G19 b7 Δ0 (Typed.pass T18 T19 s17) at0 (Scalar.g-room 𝓤 H A W E G18 5 (Syntax.tyInt Syntax.w64)
-              (Scalar.room-sc 𝓤 H A W (Row.sInt Syntax.w64))) d0
+          d1 = Typed.g-pre 𝓤 H A W 𝓣 E G18 G19 b7 Δ0 (Typed.pass T18 T19 s17) at0 (Scalar.g-room 𝓤 H A W E G18 5
+              (Syntax.tyInt Syntax.w64) (Scalar.room-sc 𝓤 H A W (Row.sInt Syntax.w64))) d0
+
           d2 : Typed.Typed 𝓤 H A 𝓣 E G17 b7 Δ0 at2
-          d2 = Typed.g-pre 𝓤 H A W 𝓣 E G17 G18 b7 Δ0 (Typed.pass T17 T18 s16) at1 (Scalar.g-room 𝓤 H A W E G17 4 (Syntax.tyInt Syntax.w64)
-              (Scalar.room-sc 𝓤 H A W (Row.sInt Syntax.w64))) d1
+          d2 = Typed.g-pre 𝓤 H A W 𝓣 E G17 G18 b7 Δ0 (Typed.pass T17 T18 s16) at1 (Scalar.g-room 𝓤 H A W E G17 4
+              (Syntax.tyInt Syntax.w64) (Scalar.room-sc 𝓤 H A W (Row.sInt Syntax.w64))) d1
+
           d3 : Typed.Typed 𝓤 H A 𝓣 E G16 b7 Δ0 at3
-          d3 = Typed.g-pre 𝓤 H A W 𝓣 E G16 G17 b7 Δ0 (Typed.pass T16 T17 s15) at2 (Scalar.g-room 𝓤 H A W E G16 11 Laws.mir (Local.room-whole 𝓤 H A W
-              (Declared.row HnsrAnswer.the-type) Laws.mir Path.refl)) d2
+          d3 = Typed.g-pre 𝓤 H A W 𝓣 E G16 G17 b7 Δ0 (Typed.pass T16 T17 s15) at2 (Scalar.g-room 𝓤 H A W E G16 11
+              Laws.mir (Local.room-whole 𝓤 H A W (Declared.row HnsrAnswer.the-type) Laws.mir Path.refl)) d2
+
           d4 : Typed.Typed 𝓤 H A 𝓣 E G15 b7 Δ0 at4
-          d4 = Typed.g-pre 𝓤 H A W 𝓣 E G15 G16 b7 Δ0 (Typed.pass T15 T16 s14) at3 (Scalar.g-room 𝓤 H A W E G15 10 Syntax.tyBool (Scalar.room-sc 𝓤 H A
-              W Row.sBool)) d3
+          d4 = Typed.g-pre 𝓤 H A W 𝓣 E G15 G16 b7 Δ0 (Typed.pass T15 T16 s14) at3 (Scalar.g-room 𝓤 H A W E G15 10
+              Syntax.tyBool (Scalar.room-sc 𝓤 H A W Row.sBool)) d3
+
           d5 : Typed.Typed 𝓤 H A 𝓣 E G14 b7 Δ0 at5
-          d5 = Typed.g-pre 𝓤 H A W 𝓣 E G14 G15 b7 Δ0 (Typed.pass T14 T15 s13) at4 (Scalar.g-room 𝓤 H A W E G14 9 Laws''''.mir (Local.room-whole 𝓤 H A
-              W (Declared'.row Survey.the-type) Laws''''.mir Path.refl)) d4
+          d5 = Typed.g-pre 𝓤 H A W 𝓣 E G14 G15 b7 Δ0 (Typed.pass T14 T15 s13) at4 (Scalar.g-room 𝓤 H A W E G14 9
+              Laws''''.mir (Local.room-whole 𝓤 H A W (Declared'.row Survey.the-type) Laws''''.mir Path.refl)) d4
+
           d6 : Typed.Typed 𝓤 H A 𝓣 E G13 b7 Δ0 at6
-          d6 = Typed.g-pre 𝓤 H A W 𝓣 E G13 G14 b7 Δ0 (Typed.pass T13 T14 s12) at5 (Scalar.g-room 𝓤 H A W E G13 8 Laws''''.mir (Local.room-whole 𝓤 H A
-              W (Declared'.row Survey.the-type) Laws''''.mir Path.refl)) d5
+          d6 = Typed.g-pre 𝓤 H A W 𝓣 E G13 G14 b7 Δ0 (Typed.pass T13 T14 s12) at5 (Scalar.g-room 𝓤 H A W E G13 8
+              Laws''''.mir (Local.room-whole 𝓤 H A W (Declared'.row Survey.the-type) Laws''''.mir Path.refl)) d5
+
           d7 : Typed.Typed 𝓤 H A 𝓣 E G12 b8 Δ0 at7
-          d7 = Typed.s-seq 𝓤 H A W 𝓣 E G12 G13 b6 b7 Δ0 (Typed.both s11) at6 (Plain.t-call-plain 𝓤 H A W 𝓣 0 ps·4 r·4 (claims· .8) (claims· .9)
-              "hnsr_circuit::revoking_calls::entry_found" (known .4) E (λ pos β. β) G12 (record { pos = 11; st = List.[]; d = 0; at = λ x. x },
-              (record { pos = 8; st = List.[]; d = 0; at = λ x. x }, (record { pos = 9; st = List.[]; d = 0; at = λ x. x }, tt),),) 0 List.[]
-              (Call.sub-id 𝓤 H A W (G12 .slots)) ((Yields.yields-copy 𝓤 H A W (λ ρ. Unit) (Declared.row HnsrAnswer.the-type) Path.refl (Copies.cEnum
-              HnsrAnswer.the-type Laws.the-laws Laws.the-copy .copy 𝓤 H A W) (Rows.whole (Declared.row HnsrAnswer.the-type)) (λ x. x) (λ x. x) (λ ρ
-              told. Local.mem-whole 𝓤 H A W (Declared.row HnsrAnswer.the-type) ρ) λ ρ told. Local.whole-mem 𝓤 H A W (Declared.row HnsrAnswer.the-type)
-              ρ, Path.refl,), ((Yields.yields-copy 𝓤 H A W (λ ρ. Unit) (Declared'.row Survey.the-type) Path.refl (Copies.cStruct Survey.the-type
-              Laws''''.the-laws Laws''''.the-copy .copy 𝓤 H A W) (Rows.whole (Declared'.row Survey.the-type)) (λ x. x) (λ x. x) (λ ρ told.
-              Local.mem-whole 𝓤 H A W (Declared'.row Survey.the-type) ρ) λ ρ told. Local.whole-mem 𝓤 H A W (Declared'.row Survey.the-type) ρ,
-              Path.refl,), ((Yields.yields-copy 𝓤 H A W (λ ρ. Unit) (Declared'.row Survey.the-type) Path.refl (Copies.cStruct Survey.the-type
-              Laws''''.the-laws Laws''''.the-copy .copy 𝓤 H A W) (Rows.whole (Declared'.row Survey.the-type)) (λ x. x) (λ x. x) (λ ρ told.
-              Local.mem-whole 𝓤 H A W (Declared'.row Survey.the-type) ρ) λ ρ told. Local.whole-mem 𝓤 H A W (Declared'.row Survey.the-type) ρ,
-              Path.refl,), tt,),),) (Reads'.room-gone 𝓤 H A Laws'''''.mir) tt Path.refl) d6
+          d7 = Typed.s-seq 𝓤 H A W 𝓣 E G12 G13 b6 b7 Δ0 (Typed.both s11) at6 (Plain.t-call-plain 𝓤 H A W 𝓣 0 ps·4 r·4
+              (claims· .8) (claims· .9) "hnsr_circuit::revoking_calls::entry_found" (known .4) E (λ pos β. β) G12 (
+                record { pos = 11; st = List.[]; d = 0; at = λ x. x },
+                (
+                  record { pos = 8; st = List.[]; d = 0; at = λ x. x },
+                  (record { pos = 9; st = List.[]; d = 0; at = λ x. x }, tt),
+                ),
+              ) 0 List.[] (Call.sub-id 𝓤 H A W (G12 .slots)) (
+                (
+                  Yields.yields-copy 𝓤 H A W (λ ρ. Unit) (Declared.row HnsrAnswer.the-type) Path.refl (Copies.cEnum
+                      HnsrAnswer.the-type Laws.the-laws Laws.the-copy .copy 𝓤 H A W)
+                      (Rows.whole (Declared.row HnsrAnswer.the-type)) (λ x. x) (λ x. x) (λ ρ told. Local.mem-whole 𝓤 H
+                      A W (Declared.row HnsrAnswer.the-type) ρ) λ ρ told. Local.whole-mem 𝓤 H A W
+                      (Declared.row HnsrAnswer.the-type) ρ,
+                  Path.refl,
+                ),
+                (
+                  (
+                    Yields.yields-copy 𝓤 H A W (λ ρ. Unit) (Declared'.row Survey.the-type) Path.refl (Copies.cStruct
+                        Survey.the-type Laws''''.the-laws Laws''''.the-copy .copy 𝓤 H A W)
+                        (Rows.whole (Declared'.row Survey.the-type)) (λ x. x) (λ x. x) (λ ρ told. Local.mem-whole 𝓤 H A
+                        W (Declared'.row Survey.the-type) ρ) λ ρ told. Local.whole-mem 𝓤 H A W
+                        (Declared'.row Survey.the-type) ρ,
+                    Path.refl,
+                  ),
+                  (
+                    (
+                      Yields.yields-copy 𝓤 H A W (λ ρ. Unit) (Declared'.row Survey.the-type) Path.refl (Copies.cStruct
+                          Survey.the-type Laws''''.the-laws Laws''''.the-copy .copy 𝓤 H A W)
+                          (Rows.whole (Declared'.row Survey.the-type)) (λ x. x) (λ x. x) (λ ρ told. Local.mem-whole 𝓤 H
+                          A W (Declared'.row Survey.the-type) ρ) λ ρ told. Local.whole-mem 𝓤 H A W
+                          (Declared'.row Survey.the-type) ρ,
+                      Path.refl,
+                    ),
+                    tt,
+                  ),
+                ),
+              ) (Reads'.room-gone 𝓤 H A Laws'''''.mir) tt Path.refl) d6
+
           d8 : Typed.Typed 𝓤 H A 𝓣 E G11 b8 Δ0 at8
-          d8 = Typed.g-pre 𝓤 H A W 𝓣 E G11 G12 b8 Δ0 (Typed.pass T11 T12 s10) at7 (Scalar.g-room 𝓤 H A W E G11 13 (Syntax.tyInt Syntax.w64)
-              (Scalar.room-sc 𝓤 H A W (Row.sInt Syntax.w64))) d7
+          d8 = Typed.g-pre 𝓤 H A W 𝓣 E G11 G12 b8 Δ0 (Typed.pass T11 T12 s10) at7 (Scalar.g-room 𝓤 H A W E G11 13
+              (Syntax.tyInt Syntax.w64) (Scalar.room-sc 𝓤 H A W (Row.sInt Syntax.w64))) d7
+
           d9 : Typed.Typed 𝓤 H A 𝓣 E G10 b8 Δ0 at9
-          d9 = Typed.g-pre 𝓤 H A W 𝓣 E G10 G11 b8 Δ0 (Typed.pass T10 T11 s9) at8 (Scalar.g-room 𝓤 H A W E G10 12 (Syntax.tyInt Syntax.w64)
-              (Scalar.room-sc 𝓤 H A W (Row.sInt Syntax.w64))) d8
+          d9 = Typed.g-pre 𝓤 H A W 𝓣 E G10 G11 b8 Δ0 (Typed.pass T10 T11 s9) at8 (Scalar.g-room 𝓤 H A W E G10 12
+              (Syntax.tyInt Syntax.w64) (Scalar.room-sc 𝓤 H A W (Row.sInt Syntax.w64))) d8
+
           d10 : Typed.Typed 𝓤 H A 𝓣 E G9 b8 Δ0 at10
-          d10 = Typed.g-pre 𝓤 H A W 𝓣 E G9 G10 b8 Δ0 (Typed.pass T9 T10 s8) at9 (Scalar.g-room 𝓤 H A W E G9 6 Laws'.mir (Local.room-whole 𝓤 H A W
-              (Declared'.row OpaqueRelayConfig.the-type) Laws'.mir Path.refl)) d9
+          d10 = Typed.g-pre 𝓤 H A W 𝓣 E G9 G10 b8 Δ0 (Typed.pass T9 T10 s8) at9 (Scalar.g-room 𝓤 H A W E G9 6 Laws'.mir (Local.room-whole
+              𝓤 H A W (Declared'.row OpaqueRelayConfig.the-type) Laws'.mir Path.refl)) d9
+
           d11 : Typed.Typed 𝓤 H A 𝓣 E G8 b9 Δ0 at11
-          d11 = Typed.s-seq 𝓤 H A W 𝓣 E G8 G9 b5 b8 Δ0 (Typed.both s7) at10 (Plain.t-call-plain 𝓤 H A W 𝓣 0 ps·3 r·3 (claims· .6) (claims· .7)
-              "hnsr_circuit::revoking_calls::room_answer" (known .3) E (λ pos β. β) G8 (record { pos = 6; st = List.[]; d = 0; at = λ x. x }, (Num.vAt
-              12 λ x. x, (Num.vAt 13 λ x. x, (Num.vAt 4 λ x. x, (Bool.bAt 10 λ x. x, tt))),),) 11 List.[] (Call.sub-id 𝓤 H A W (G8 .slots))
-              ((Yields.yields-copy 𝓤 H A W (λ ρ. Unit) (Declared'.row OpaqueRelayConfig.the-type) Path.refl (Copies.cStruct OpaqueRelayConfig.the-type
-              Laws'.the-laws Laws'.the-copy .copy 𝓤 H A W) (Rows.whole (Declared'.row OpaqueRelayConfig.the-type)) (λ x. x) (λ x. x) (λ ρ told.
-              Local.mem-whole 𝓤 H A W (Declared'.row OpaqueRelayConfig.the-type) ρ) λ ρ told. Local.whole-mem 𝓤 H A W (Declared'.row
-              OpaqueRelayConfig.the-type) ρ, Path.refl,), ((Scalar.reads-sc 𝓤 H A W (Row.sInt Syntax.w64), Path.refl), ((Scalar.reads-sc 𝓤 H A W
-              (Row.sInt Syntax.w64), Path.refl), ((Scalar.reads-sc 𝓤 H A W (Row.sInt Syntax.w64), Path.refl), ((Scalar.reads-sc 𝓤 H A W Row.sBool,
-              Path.refl), tt),),),),) (Reads'.room-gone 𝓤 H A Laws.mir) tt Path.refl) d10
+          d11 = Typed.s-seq 𝓤 H A W 𝓣 E G8 G9 b5 b8 Δ0 (Typed.both s7) at10 (Plain.t-call-plain 𝓤 H A W 𝓣 0 ps·3 r·3
+              (claims· .6) (claims· .7) "hnsr_circuit::revoking_calls::room_answer" (known .3) E (λ pos β. β) G8 (
+                record { pos = 6; st = List.[]; d = 0; at = λ x. x },
+                (Num.vAt 12 λ x. x, (Num.vAt 13 λ x. x, (Num.vAt 4 λ x. x, (Bool.bAt 10 λ x. x, tt)))),
+              ) 11 List.[] (Call.sub-id 𝓤 H A W (G8 .slots)) (
+                (
+                  Yields.yields-copy 𝓤 H A W (λ ρ. Unit) (Declared'.row OpaqueRelayConfig.the-type) Path.refl (Copies.cStruct
+                      OpaqueRelayConfig.the-type Laws'.the-laws Laws'.the-copy .copy 𝓤 H A W)
+                      (Rows.whole (Declared'.row OpaqueRelayConfig.the-type)) (λ x. x) (λ x. x) (λ ρ told.
+                      Local.mem-whole 𝓤 H A W (Declared'.row OpaqueRelayConfig.the-type) ρ) λ ρ told. Local.whole-mem 𝓤
+                      H A W (Declared'.row OpaqueRelayConfig.the-type) ρ,
+                  Path.refl,
+                ),
+                (
+                  (Scalar.reads-sc 𝓤 H A W (Row.sInt Syntax.w64), Path.refl),
+                  (
+                    (Scalar.reads-sc 𝓤 H A W (Row.sInt Syntax.w64), Path.refl),
+                    (
+                      (Scalar.reads-sc 𝓤 H A W (Row.sInt Syntax.w64), Path.refl),
+                      ((Scalar.reads-sc 𝓤 H A W Row.sBool, Path.refl), tt),
+                    ),
+                  ),
+                ),
+              ) (Reads'.room-gone 𝓤 H A Laws.mir) tt Path.refl) d10
+
           d12 : Typed.Typed 𝓤 H A 𝓣 E G7 b10 Δ0 at12
-          d12 = Typed.s-seq 𝓤 H A W 𝓣 E G7 G8 b4 b9 Δ0 (Typed.pass T7 T8 s6) at11 (Scalar.t-use 𝓤 H A W E 𝓣 G7 (Scalar.oFld 2 ((Syntax.field 1) ∷
-              List.[]) (Syntax.tyInt Syntax.w64) 8 Shared.lenV) 13 (Rows.sc-here (Row.sInt Syntax.w64)) (Syntax.tyInt Syntax.w64) (Row.valS (Row.sInt
-              Syntax.w64)) (Row.sInt Syntax.w64 .of) (Shared.reads-sslice-len 𝓤 H A W RelayCircuit.row ref1 1 8 Path.refl, Path.refl,)
-              (Reads'.room-gone 𝓤 H A (Syntax.tyInt Syntax.w64)) (Scalar.holds-sc 𝓤 H A W (Row.sInt Syntax.w64)) Path.refl (λ u. Path.refl) λ u. tt)
-              d11
+          d12 = Typed.s-seq 𝓤 H A W 𝓣 E G7 G8 b4 b9 Δ0 (Typed.pass T7 T8 s6) at11 (Scalar.t-use 𝓤 H A W E 𝓣 G7 (Scalar.oFld
+              2 ((Syntax.field 1) ∷ List.[]) (Syntax.tyInt Syntax.w64) 8 Shared.lenV) 13
+              (Rows.sc-here (Row.sInt Syntax.w64)) (Syntax.tyInt Syntax.w64) (Row.valS (Row.sInt Syntax.w64))
+              (Row.sInt Syntax.w64 .of) (
+                Shared.reads-sslice-len 𝓤 H A W RelayCircuit.row ref1 1 8 Path.refl,
+                Path.refl,
+              ) (Reads'.room-gone 𝓤 H A (Syntax.tyInt Syntax.w64)) (Scalar.holds-sc 𝓤 H A W (Row.sInt Syntax.w64))
+              Path.refl (λ u. Path.refl) λ u. tt) d11
+
           d13 : Typed.Typed 𝓤 H A 𝓣 E G6 b11 Δ0 at13
-          d13 = Typed.s-seq 𝓤 H A W 𝓣 E G6 G7 b3 b10 Δ0 (Typed.pass T6 T7 s5) at12 (Scalar.t-use 𝓤 H A W E 𝓣 G6 (Scalar.oFld 1 ((Syntax.field 1) ∷
-              List.[]) (Syntax.tyInt Syntax.w64) 8 Shared.lenV) 12 (Rows.sc-here (Row.sInt Syntax.w64)) (Syntax.tyInt Syntax.w64) (Row.valS (Row.sInt
-              Syntax.w64)) (Row.sInt Syntax.w64 .of) (Shared.reads-sslice-len 𝓤 H A W RelayPending.row ref0 0 8 Path.refl, Path.refl,)
-              (Reads'.room-gone 𝓤 H A (Syntax.tyInt Syntax.w64)) (Scalar.holds-sc 𝓤 H A W (Row.sInt Syntax.w64)) Path.refl (λ u. Path.refl) λ u. tt)
-              d12
+          d13 = Typed.s-seq 𝓤 H A W 𝓣 E G6 G7 b3 b10 Δ0 (Typed.pass T6 T7 s5) at12 (Scalar.t-use 𝓤 H A W E 𝓣 G6 (Scalar.oFld
+              1 ((Syntax.field 1) ∷ List.[]) (Syntax.tyInt Syntax.w64) 8 Shared.lenV) 12
+              (Rows.sc-here (Row.sInt Syntax.w64)) (Syntax.tyInt Syntax.w64) (Row.valS (Row.sInt Syntax.w64))
+              (Row.sInt Syntax.w64 .of) (
+                Shared.reads-sslice-len 𝓤 H A W RelayPending.row ref0 0 8 Path.refl,
+                Path.refl,
+              ) (Reads'.room-gone 𝓤 H A (Syntax.tyInt Syntax.w64)) (Scalar.holds-sc 𝓤 H A W (Row.sInt Syntax.w64))
+              Path.refl (λ u. Path.refl) λ u. tt) d12
+
           d14 : Typed.Typed 𝓤 H A 𝓣 E G5 b12 Δ0 at14
-          d14 = Typed.s-seq 𝓤 H A W 𝓣 E G5 G6 b2 b11 Δ0 (Typed.both s4) at13 (Plain.t-call-plain 𝓤 H A W 𝓣 0 ps·2 r·2 (claims· .4) (claims· .5)
-              "hnsr_circuit::revoking_calls::room_short" (known .2) E (λ pos β. β) G5 (Num.vAt 5 λ x. x, (Num.vFld 8 ((Syntax.field 0) ∷ List.[]) 0 λ
-              x. Survey.struct .as-values x .0, (Num.vFld 9 ((Syntax.field 0) ∷ List.[]) 0 λ x. Survey.struct .as-values x .0, tt,),),) 10 List.[]
-              (Call.sub-id 𝓤 H A W (G5 .slots)) ((Scalar.reads-sc 𝓤 H A W (Row.sInt Syntax.w64), Path.refl), ((Reads.reads-field 𝓤 H A W
-              Survey.the-type Laws''''.the-laws 0 (Syntax.tyInt Syntax.w64) 0 Path.refl, Path.refl,), ((Reads.reads-field 𝓤 H A W Survey.the-type
-              Laws''''.the-laws 0 (Syntax.tyInt Syntax.w64) 0 Path.refl, Path.refl,), tt,),),) (Reads'.room-gone 𝓤 H A Syntax.tyBool) tt Path.refl)
-              d13
+          d14 = Typed.s-seq 𝓤 H A W 𝓣 E G5 G6 b2 b11 Δ0 (Typed.both s4) at13 (Plain.t-call-plain 𝓤 H A W 𝓣 0 ps·2 r·2
+              (claims· .4) (claims· .5) "hnsr_circuit::revoking_calls::room_short" (known .2) E (λ pos β. β) G5 (
+                Num.vAt 5 λ x. x,
+                (
+                  Num.vFld 8 ((Syntax.field 0) ∷ List.[]) 0 λ x. Survey.struct .as-values x .0,
+                  (Num.vFld 9 ((Syntax.field 0) ∷ List.[]) 0 λ x. Survey.struct .as-values x .0, tt),
+                ),
+              ) 10 List.[] (Call.sub-id 𝓤 H A W (G5 .slots)) (
+                (Scalar.reads-sc 𝓤 H A W (Row.sInt Syntax.w64), Path.refl),
+                (
+                  (
+                    Reads.reads-field 𝓤 H A W Survey.the-type Laws''''.the-laws 0 (Syntax.tyInt Syntax.w64) 0 Path.refl,
+                    Path.refl,
+                  ),
+                  (
+                    (
+                      Reads.reads-field 𝓤 H A W Survey.the-type Laws''''.the-laws 0 (Syntax.tyInt Syntax.w64) 0
+                          Path.refl,
+                      Path.refl,
+                    ),
+                    tt,
+                  ),
+                ),
+              ) (Reads'.room-gone 𝓤 H A Syntax.tyBool) tt Path.refl) d13
+
           d15 : Typed.Typed 𝓤 H A 𝓣 E G4 b12 Δ0 at15
-          d15 = Typed.g-pre 𝓤 H A W 𝓣 E G4 G5 b12 Δ0 (Typed.pass T4 T5 s3) at14 (Scalar.g-room 𝓤 H A W E G4 7 Laws'''.mir (Local.room-whole 𝓤 H A W
-              (Declared'.row Question.the-type) Laws'''.mir Path.refl)) d14
+          d15 = Typed.g-pre 𝓤 H A W 𝓣 E G4 G5 b12 Δ0 (Typed.pass T4 T5 s3) at14 (Scalar.g-room 𝓤 H A W E G4 7
+              Laws'''.mir (Local.room-whole 𝓤 H A W (Declared'.row Question.the-type) Laws'''.mir Path.refl)) d14
+
           d16 : Typed.Typed 𝓤 H A 𝓣 E G3 b12 Δ0 at16
-          d16 = Typed.g-pre 𝓤 H A W 𝓣 E G3 G4 b12 Δ0 (Typed.pass T3 T4 s2) at15 (Scalar.g-room 𝓤 H A W E G3 3 Laws''.mir (Local.room-whole 𝓤 H A W
-              (Declared'.row Places.the-type) Laws''.mir Path.refl)) d15
+          d16 = Typed.g-pre 𝓤 H A W 𝓣 E G3 G4 b12 Δ0 (Typed.pass T3 T4 s2) at15 (Scalar.g-room 𝓤 H A W E G3 3
+              Laws''.mir (Local.room-whole 𝓤 H A W (Declared'.row Places.the-type) Laws''.mir Path.refl)) d15
+
           d17 : Typed.Typed 𝓤 H A 𝓣 E G2 b13 Δ0 at17
-          d17 = Typed.s-seq 𝓤 H A W 𝓣 E G2 G3 b1 b12 Δ0 (Typed.both s1) at16 (Plain.t-call-plain 𝓤 H A W 𝓣 1 ps·1 r·1 (claims· .2) (claims· .3)
-              "hnsr_circuit::tables::circuits::survey_circuit" (known .1) E (λ pos β. β) G2 (record { pos = 2; ty = Syntax.tyRef (Syntax.named 1)
-              Syntax.imm RelayCircuit.to; ref = λ x. x; }, (record { pos = 3; st = List.[]; d = 0; at = λ x. x }, (record { pos = 7; st = List.[]; d =
-              0; at = λ x. x }, tt),),) 9 (1 ∷ List.[]) (Call.sub-id 𝓤 H A W (G2 .slots)) (ShrSlice.spares-sslice 𝓤 H A W RelayCircuit.row ref1 1,
-              Shared.reads-sslice 𝓤 H A W RelayCircuit.row ref1 1, Path.refl, ((Yields.yields-copy 𝓤 H A W (λ ρ. Unit) (Declared'.row Places.the-type)
-              Path.refl (Copies.cStruct Places.the-type Laws''.the-laws Laws''.the-copy .copy 𝓤 H A W) (Rows.whole (Declared'.row Places.the-type)) (λ
-              x. x) (λ x. x) (λ ρ told. Local.mem-whole 𝓤 H A W (Declared'.row Places.the-type) ρ) λ ρ told. Local.whole-mem 𝓤 H A W (Declared'.row
-              Places.the-type) ρ, Path.refl,), ((Yields.yields-copy 𝓤 H A W (λ ρ. Unit) (Declared'.row Question.the-type) Path.refl (Copies.cStruct
-              Question.the-type Laws'''.the-laws Laws'''.the-copy .copy 𝓤 H A W) (Rows.whole (Declared'.row Question.the-type)) (λ x. x) (λ x. x) (λ ρ
-              told. Local.mem-whole 𝓤 H A W (Declared'.row Question.the-type) ρ) λ ρ told. Local.whole-mem 𝓤 H A W (Declared'.row Question.the-type)
-              ρ, Path.refl,), tt,),),) (Reads'.room-gone 𝓤 H A Laws''''.mir) (tt, tt) Path.refl) d16
+          d17 = Typed.s-seq 𝓤 H A W 𝓣 E G2 G3 b1 b12 Δ0 (Typed.both s1) at16 (Plain.t-call-plain 𝓤 H A W 𝓣 1 ps·1 r·1
+              (claims· .2) (claims· .3) "hnsr_circuit::tables::circuits::survey_circuit" (known .1) E (λ pos β. β) G2 (
+                record { pos = 2; ty = ref1; ref = λ x. x },
+                (
+                  record { pos = 3; st = List.[]; d = 0; at = λ x. x },
+                  (record { pos = 7; st = List.[]; d = 0; at = λ x. x }, tt),
+                ),
+              ) 9 (1 ∷ List.[]) (Call.sub-id 𝓤 H A W (G2 .slots)) (
+                ShrSlice.spares-sslice 𝓤 H A W RelayCircuit.row ref1 1,
+                Shared.reads-sslice 𝓤 H A W RelayCircuit.row ref1 1,
+                Path.refl,
+                (
+                  (
+                    Yields.yields-copy 𝓤 H A W (λ ρ. Unit) (Declared'.row Places.the-type) Path.refl (Copies.cStruct
+                        Places.the-type Laws''.the-laws Laws''.the-copy .copy 𝓤 H A W)
+                        (Rows.whole (Declared'.row Places.the-type)) (λ x. x) (λ x. x) (λ ρ told. Local.mem-whole 𝓤 H A
+                        W (Declared'.row Places.the-type) ρ) λ ρ told. Local.whole-mem 𝓤 H A W
+                        (Declared'.row Places.the-type) ρ,
+                    Path.refl,
+                  ),
+                  (
+                    (
+                      Yields.yields-copy 𝓤 H A W (λ ρ. Unit) (Declared'.row Question.the-type) Path.refl (Copies.cStruct
+                          Question.the-type Laws'''.the-laws Laws'''.the-copy .copy 𝓤 H A W)
+                          (Rows.whole (Declared'.row Question.the-type)) (λ x. x) (λ x. x) (λ ρ told. Local.mem-whole 𝓤
+                          H A W (Declared'.row Question.the-type) ρ) λ ρ told. Local.whole-mem 𝓤 H A W
+                          (Declared'.row Question.the-type) ρ,
+                      Path.refl,
+                    ),
+                    tt,
+                  ),
+                ),
+              ) (Reads'.room-gone 𝓤 H A Laws''''.mir) (tt, tt) Path.refl) d16
+
           d18 : Typed.Typed 𝓤 H A 𝓣 E G0 b14 Δ0 at18
-          d18 = Typed.s-seq 𝓤 H A W 𝓣 E G0 G2 b0 b13 Δ0 (Typed.both s0) at17 (Plain.t-call-plain 𝓤 H A W 𝓣 1 ps·0 r·0 (claims· .0) (claims· .1)
-              "hnsr_circuit::tables::pending::survey_pending" (known .0) E (λ pos β. β) G0 (record { pos = 1; ty = Syntax.tyRef (Syntax.named 0)
-              Syntax.imm RelayPending.to; ref = λ x. x; }, (record { pos = 3; st = List.[]; d = 0; at = λ x. x }, (record { pos = 7; st = List.[]; d =
-              0; at = λ x. x }, tt),),) 8 (0 ∷ List.[]) (Call.sub-id 𝓤 H A W (G0 .slots)) (ShrSlice.spares-sslice 𝓤 H A W RelayPending.row ref0 0,
-              Shared.reads-sslice 𝓤 H A W RelayPending.row ref0 0, Path.refl, ((Yields.yields-copy 𝓤 H A W (λ ρ. Unit) (Declared'.row Places.the-type)
-              Path.refl (Copies.cStruct Places.the-type Laws''.the-laws Laws''.the-copy .copy 𝓤 H A W) (Rows.whole (Declared'.row Places.the-type)) (λ
-              x. x) (λ x. x) (λ ρ told. Local.mem-whole 𝓤 H A W (Declared'.row Places.the-type) ρ) λ ρ told. Local.whole-mem 𝓤 H A W (Declared'.row
-              Places.the-type) ρ, Path.refl,), ((Yields.yields-copy 𝓤 H A W (λ ρ. Unit) (Declared'.row Question.the-type) Path.refl (Copies.cStruct
-              Question.the-type Laws'''.the-laws Laws'''.the-copy .copy 𝓤 H A W) (Rows.whole (Declared'.row Question.the-type)) (λ x. x) (λ x. x) (λ ρ
-              told. Local.mem-whole 𝓤 H A W (Declared'.row Question.the-type) ρ) λ ρ told. Local.whole-mem 𝓤 H A W (Declared'.row Question.the-type)
-              ρ, Path.refl,), tt,),),) (Reads'.room-gone 𝓤 H A Laws''''.mir) (tt, tt) Path.refl) d17
+          d18 = Typed.s-seq 𝓤 H A W 𝓣 E G0 G2 b0 b13 Δ0 (Typed.both s0) at17 (Plain.t-call-plain 𝓤 H A W 𝓣 1 ps·0 r·0
+              (claims· .0) (claims· .1) "hnsr_circuit::tables::pending::survey_pending" (known .0) E (λ pos β. β) G0 (
+                record { pos = 1; ty = ref0; ref = λ x. x },
+                (
+                  record { pos = 3; st = List.[]; d = 0; at = λ x. x },
+                  (record { pos = 7; st = List.[]; d = 0; at = λ x. x }, tt),
+                ),
+              ) 8 (0 ∷ List.[]) (Call.sub-id 𝓤 H A W (G0 .slots)) (
+                ShrSlice.spares-sslice 𝓤 H A W RelayPending.row ref0 0,
+                Shared.reads-sslice 𝓤 H A W RelayPending.row ref0 0,
+                Path.refl,
+                (
+                  (
+                    Yields.yields-copy 𝓤 H A W (λ ρ. Unit) (Declared'.row Places.the-type) Path.refl (Copies.cStruct
+                        Places.the-type Laws''.the-laws Laws''.the-copy .copy 𝓤 H A W)
+                        (Rows.whole (Declared'.row Places.the-type)) (λ x. x) (λ x. x) (λ ρ told. Local.mem-whole 𝓤 H A
+                        W (Declared'.row Places.the-type) ρ) λ ρ told. Local.whole-mem 𝓤 H A W
+                        (Declared'.row Places.the-type) ρ,
+                    Path.refl,
+                  ),
+                  (
+                    (
+                      Yields.yields-copy 𝓤 H A W (λ ρ. Unit) (Declared'.row Question.the-type) Path.refl (Copies.cStruct
+                          Question.the-type Laws'''.the-laws Laws'''.the-copy .copy 𝓤 H A W)
+                          (Rows.whole (Declared'.row Question.the-type)) (λ x. x) (λ x. x) (λ ρ told. Local.mem-whole 𝓤
+                          H A W (Declared'.row Question.the-type) ρ) λ ρ told. Local.whole-mem 𝓤 H A W
+                          (Declared'.row Question.the-type) ρ,
+                      Path.refl,
+                    ),
+                    tt,
+                  ),
+                ),
+              ) (Reads'.room-gone 𝓤 H A Laws''''.mir) (tt, tt) Path.refl) d17
+
           pub typed : Typed.Typed 𝓤 H A 𝓣 E (Function.Γin 2 ps r xs m κs qs) b14 (Function.Δret 2 ps r xs m κs qs) Φ
           typed = d18
+
       module _ (κs : Lifetimes.Lfts 2) where
         pub record Args : Type 0 where
-          pub pending : Kinds.Den { n = 2 } κs (ShrSlice.pShrS RelayPending.row 0 tt)
-          pub circuits : Kinds.Den { n = 2 } κs (ShrSlice.pShrS RelayCircuit.row 1 tt)
-          pub places : Kinds.Den { n = 2 } κs (Value.pVal record { ty = Declared'.row Places.the-type; one = Path.refl; val = Laws'''''''.val
-              Places.the-type Laws''.the-laws; tells = Laws'''''''.tells Places.the-type Laws''.the-laws; still = Laws'''''''.still Places.the-type
-              Laws''.the-copy Exit.yes; row = Rows.whole (Declared'.row Places.the-type); rd = λ x. x; mk = λ x. x; } λ M 𝓤 H A W. record { copies =
-              Laws'''''''.copy Places.the-type Laws''.the-copy 𝓤 H A W; lawful = Laws'''''''.lawful Places.the-type Laws''.the-laws 𝓤 H A W; makes =
-              Laws'''''''.makes Places.the-type Laws''.the-plain 𝓤 H A; in-mem = Local.mem-whole 𝓤 H A W (Declared'.row Places.the-type); of-mem =
-              Local.whole-mem 𝓤 H A W (Declared'.row Places.the-type); })
-          pub inflight : Kinds.Den { n = 2 } κs (Num.pNum Syntax.w64)
-          pub room : Kinds.Den { n = 2 } κs (Num.pNum Syntax.w64)
-          pub config : Kinds.Den { n = 2 } κs (Value.pVal record { ty = Declared'.row OpaqueRelayConfig.the-type; one = Path.refl; val =
-              Laws'''''''.val OpaqueRelayConfig.the-type Laws'.the-laws; tells = Laws'''''''.tells OpaqueRelayConfig.the-type Laws'.the-laws; still =
-              Laws'''''''.still OpaqueRelayConfig.the-type Laws'.the-copy Exit.yes; row = Rows.whole (Declared'.row OpaqueRelayConfig.the-type); rd =
-              λ x. x; mk = λ x. x; } λ M 𝓤 H A W. record { copies = Laws'''''''.copy OpaqueRelayConfig.the-type Laws'.the-copy 𝓤 H A W; lawful =
-              Laws'''''''.lawful OpaqueRelayConfig.the-type Laws'.the-laws 𝓤 H A W; makes = Laws'''''''.makes OpaqueRelayConfig.the-type
-              Laws'.the-plain 𝓤 H A; in-mem = Local.mem-whole 𝓤 H A W (Declared'.row OpaqueRelayConfig.the-type); of-mem = Local.whole-mem 𝓤 H A W
-              (Declared'.row OpaqueRelayConfig.the-type); })
-          pub question : Kinds.Den { n = 2 } κs (Value.pVal record { ty = Declared'.row Question.the-type; one = Path.refl; val = Laws'''''''.val
-              Question.the-type Laws'''.the-laws; tells = Laws'''''''.tells Question.the-type Laws'''.the-laws; still = Laws'''''''.still
-              Question.the-type Laws'''.the-copy Exit.yes; row = Rows.whole (Declared'.row Question.the-type); rd = λ x. x; mk = λ x. x; } λ M 𝓤 H A
-              W. record { copies = Laws'''''''.copy Question.the-type Laws'''.the-copy 𝓤 H A W; lawful = Laws'''''''.lawful Question.the-type
-              Laws'''.the-laws 𝓤 H A W; makes = Laws'''''''.makes Question.the-type Laws'''.the-plain 𝓤 H A; in-mem = Local.mem-whole 𝓤 H A W
-              (Declared'.row Question.the-type); of-mem = Local.whole-mem 𝓤 H A W (Declared'.row Question.the-type); })
+          pub pending : Kinds.Den {n = 2} κs (ShrSlice.pShrS RelayPending.row 0 tt)
+          pub circuits : Kinds.Den {n = 2} κs (ShrSlice.pShrS RelayCircuit.row 1 tt)
+          pub places : Kinds.Den {n = 2} κs (StructRow.param Places.the-type Laws''.the-laws Laws''.the-copy
+              Laws''.the-plain)
+          pub inflight : Kinds.Den {n = 2} κs (Num.pNum Syntax.w64)
+          pub room : Kinds.Den {n = 2} κs (Num.pNum Syntax.w64)
+          pub config : Kinds.Den {n = 2} κs (StructRow.param OpaqueRelayConfig.the-type Laws'.the-laws Laws'.the-copy
+              Laws'.the-plain)
+          pub question : Kinds.Den {n = 2} κs (StructRow.param Question.the-type Laws'''.the-laws Laws'''.the-copy
+              Laws'''.the-plain)
+
         abbrev pub dens : (a : Args) → Kinds.Dens κs ps
-        dens = λ a. (a .pending, (a .circuits, (a .places, (a .inflight, (a .room, (a .config, (a .question, tt))))),),)
+        dens = λ a. (a .pending, (a .circuits, (a .places, (a .inflight, (a .room, (a .config, (a .question, tt)))))))
+
         module _ (args· : Args) where
           pub record Ranges : Type 0 where
             pub inflight : Val.Fits Syntax.w64 (args· .inflight)
             pub room : Val.Fits Syntax.w64 (args· .room)
+
       abbrev pub m0 : (κs : Lifetimes.Lfts 2) → (args : Args κs) → Typed.Mo T0
       m0 = λ κs args. (tt, Enter.partsP κs 1 ps xs (dens κs args))
+
       abbrev W0 : (κs : Lifetimes.Lfts 2) → (args : Args κs) → Typed.Want O0
-      W0 = λ κs args. (λ u. ⊥, tt, λ u. Enter.Fixs κs 1 ps xs (dens κs args) (u .1) × Post· κs (dens κs args) (Function.resV r κs (u .0))
-          (Clauses.atExit (Kinds.endedOf 2 ps r) κs (dens κs args) (Enter.lastsP κs 1 ps xs (dens κs args) (u .1))),)
+      W0 = λ κs args. (
+        λ u. ⊥,
+        tt,
+        λ u. Enter.Fixs κs 1 ps xs (dens κs args) (u .1) × Post· κs (dens κs args) (Function.resV r κs (u .0)) (Clauses.atExit
+            (Kinds.endedOf 2 ps r) κs (dens κs args) (Enter.lastsP κs 1 ps xs (dens κs args) (u .1))),
+      )
+
       pub record Start : Type 0 where
         pub κs : Lifetimes.Lfts 2
         pub args : Args κs
         pub good : Kinds.GoodsP κs ps (dens κs args)
         pub fits : Ranges κs args
         pub pre : Pre· κs (dens κs args)
+
       abbrev pub Need-survey-pending-requires : Type 0
       Need-survey-pending-requires = (c : Start) → s0 .asks (m0 (c .κs) (c .args))
+
       abbrev pub m1 : (before : Start) → (given : s0 .gives (m0 (before .κs) (before .args))) → Typed.Mo T2
       m1 = λ before given. s0 .next (m0 (before .κs) (before .args)) given
+
       module _ (before· : Start) where
         abbrev pub After-survey-pending·own : Type 0
-        After-survey-pending·own = Called.Called ps·0 r·0 (claims· .1) T0 (record { pos = 1; ty = Syntax.tyRef (Syntax.named 0) Syntax.imm
-            RelayPending.to; ref = λ x. x; }, (record { pos = 3; st = List.[]; d = 0; at = λ x. x }, (record { pos = 7; st = List.[]; d = 0; at = λ x.
-            x }, tt),),) (m0 (before· .κs) (before· .args))
+        After-survey-pending·own = Called.Called ps·0 r·0 (claims· .1) T0 args0 (m0 (before· .κs) (before· .args))
+
       pub record After-survey-pending : Type 0 where
         pub before : Start
         pub survey-pending : After-survey-pending·own before
-      abbrev pub After-survey-pending·gave : (c : After-survey-pending) → s0 .gives (m0 (c .before .κs) (c .before .args))
-      After-survey-pending·gave = λ c. Called.given ps·0 r·0 (claims· .1) T0 (record { pos = 1; ty = Syntax.tyRef (Syntax.named 0) Syntax.imm
-          RelayPending.to; ref = λ x. x; }, (record { pos = 3; st = List.[]; d = 0; at = λ x. x }, (record { pos = 7; st = List.[]; d = 0; at = λ x. x
-          }, tt),),) (m0 (c .before .κs) (c .before .args)) (c .survey-pending)
+
+      abbrev pub After-survey-pending·gave : (c : After-survey-pending) → s0 .gives
+          (m0 (c .before .κs) (c .before .args))
+      After-survey-pending·gave = λ c. Called.given ps·0 r·0 (claims· .1) T0 args0
+          (m0 (c .before .κs) (c .before .args)) (c .survey-pending)
+
       abbrev pub Need-survey-circuit-requires : Type 0
-      Need-survey-circuit-requires = (c : After-survey-pending) → s1 .asks (m1 (c .before) (After-survey-pending·gave c))
-      abbrev pub m2 : (before : After-survey-pending) → (given : s1 .gives (m1 (before .before) (After-survey-pending·gave before))) → Typed.Mo T3
+      Need-survey-circuit-requires = (c : After-survey-pending) → s1 .asks
+          (m1 (c .before) (After-survey-pending·gave c))
+
+      abbrev pub m2 : (before : After-survey-pending) → (given : s1 .gives
+          (m1 (before .before) (After-survey-pending·gave before))) → Typed.Mo T3
       m2 = λ before given. s1 .next (m1 (before .before) (After-survey-pending·gave before)) given
+
       module _ (before· : After-survey-pending) where
         abbrev pub After-survey-circuit·own : Type 0
-        After-survey-circuit·own = Called.Called ps·1 r·1 (claims· .3) T2 (record { pos = 2; ty = Syntax.tyRef (Syntax.named 1) Syntax.imm
-            RelayCircuit.to; ref = λ x. x; }, (record { pos = 3; st = List.[]; d = 0; at = λ x. x }, (record { pos = 7; st = List.[]; d = 0; at = λ x.
-            x }, tt),),) (m1 (before· .before) (After-survey-pending·gave before·))
+        After-survey-circuit·own = Called.Called ps·1 r·1 (claims· .3) T2 args1
+            (m1 (before· .before) (After-survey-pending·gave before·))
+
       pub record After-survey-circuit : Type 0 where
         pub before : After-survey-pending
         pub survey-circuit : After-survey-circuit·own before
-      abbrev pub After-survey-circuit·gave : (c : After-survey-circuit) → s1 .gives (m1 (c .before .before) (After-survey-pending·gave (c .before)))
-      After-survey-circuit·gave = λ c. Called.given ps·1 r·1 (claims· .3) T2 (record { pos = 2; ty = Syntax.tyRef (Syntax.named 1) Syntax.imm
-          RelayCircuit.to; ref = λ x. x; }, (record { pos = 3; st = List.[]; d = 0; at = λ x. x }, (record { pos = 7; st = List.[]; d = 0; at = λ x. x
-          }, tt),),) (m1 (c .before .before) (After-survey-pending·gave (c .before))) (c .survey-circuit)
-      abbrev pub m3 : (before : After-survey-pending) → (given : s1 .gives (m1 (before .before) (After-survey-pending·gave before))) → Typed.Mo T4
+
+      abbrev pub After-survey-circuit·gave : (c : After-survey-circuit) → s1 .gives (m1 (c .before .before)
+          (After-survey-pending·gave (c .before)))
+      After-survey-circuit·gave = λ c. Called.given ps·1 r·1 (claims· .3) T2 args1 (m1 (c .before .before)
+          (After-survey-pending·gave (c .before))) (c .survey-circuit)
+
+      abbrev pub m3 : (before : After-survey-pending) → (given : s1 .gives
+          (m1 (before .before) (After-survey-pending·gave before))) → Typed.Mo T4
       m3 = λ before given. s2 (m2 before given)
-      abbrev pub m4 : (before : After-survey-pending) → (given : s1 .gives (m1 (before .before) (After-survey-pending·gave before))) → Typed.Mo T5
+
+      abbrev pub m4 : (before : After-survey-pending) → (given : s1 .gives
+          (m1 (before .before) (After-survey-pending·gave before))) → Typed.Mo T5
       m4 = λ before given. s3 (m3 before given)
+
       abbrev pub Need-room-short-requires : Type 0
       Need-room-short-requires = (c : After-survey-circuit) → s4 .asks (m4 (c .before) (After-survey-circuit·gave c))
-      abbrev pub m5 : (before : After-survey-circuit) → (given : s4 .gives (m4 (before .before) (After-survey-circuit·gave before))) → Typed.Mo T6
+
+      abbrev pub m5 : (before : After-survey-circuit) → (given : s4 .gives
+          (m4 (before .before) (After-survey-circuit·gave before))) → Typed.Mo T6
       m5 = λ before given. s4 .next (m4 (before .before) (After-survey-circuit·gave before)) given
+
       module _ (before· : After-survey-circuit) where
         abbrev pub After-room-short·own : Type 0
-        After-room-short·own = Called.Called ps·2 r·2 (claims· .5) T5 (Num.vAt 5 λ x. x, (Num.vFld 8 ((Syntax.field 0) ∷ List.[]) 0 λ x. Survey.struct
-            .as-values x .0, (Num.vFld 9 ((Syntax.field 0) ∷ List.[]) 0 λ x. Survey.struct .as-values x .0, tt,),),) (m4 (before· .before)
-            (After-survey-circuit·gave before·))
+        After-room-short·own = Called.Called ps·2 r·2 (claims· .5) T5 args4
+            (m4 (before· .before) (After-survey-circuit·gave before·))
+
       pub record After-room-short : Type 0 where
         pub before : After-survey-circuit
         pub room-short : After-room-short·own before
-      abbrev pub After-room-short·gave : (c : After-room-short) → s4 .gives (m4 (c .before .before) (After-survey-circuit·gave (c .before)))
-      After-room-short·gave = λ c. Called.given ps·2 r·2 (claims· .5) T5 (Num.vAt 5 λ x. x, (Num.vFld 8 ((Syntax.field 0) ∷ List.[]) 0 λ x.
-          Survey.struct .as-values x .0, (Num.vFld 9 ((Syntax.field 0) ∷ List.[]) 0 λ x. Survey.struct .as-values x .0, tt,),),) (m4 (c .before
-          .before) (After-survey-circuit·gave (c .before))) (c .room-short)
-      abbrev pub m6 : (before : After-survey-circuit) → (given : s4 .gives (m4 (before .before) (After-survey-circuit·gave before))) → Typed.Mo T7
+
+      abbrev pub After-room-short·gave : (c : After-room-short) → s4 .gives (m4 (c .before .before)
+          (After-survey-circuit·gave (c .before)))
+      After-room-short·gave = λ c. Called.given ps·2 r·2 (claims· .5) T5 args4 (m4 (c .before .before)
+          (After-survey-circuit·gave (c .before))) (c .room-short)
+
+      abbrev pub m6 : (before : After-survey-circuit) → (given : s4 .gives
+          (m4 (before .before) (After-survey-circuit·gave before))) → Typed.Mo T7
       m6 = λ before given. s5 (m5 before given)
-      abbrev pub m7 : (before : After-survey-circuit) → (given : s4 .gives (m4 (before .before) (After-survey-circuit·gave before))) → Typed.Mo T8
+
+      abbrev pub m7 : (before : After-survey-circuit) → (given : s4 .gives
+          (m4 (before .before) (After-survey-circuit·gave before))) → Typed.Mo T8
       m7 = λ before given. s6 (m6 before given)
+
       abbrev pub Need-room-answer-requires : Type 0
       Need-room-answer-requires = (c : After-room-short) → s7 .asks (m7 (c .before) (After-room-short·gave c))
-      abbrev pub m8 : (before : After-room-short) → (given : s7 .gives (m7 (before .before) (After-room-short·gave before))) → Typed.Mo T9
+
+      abbrev pub m8 : (before : After-room-short) → (given : s7 .gives
+          (m7 (before .before) (After-room-short·gave before))) → Typed.Mo T9
       m8 = λ before given. s7 .next (m7 (before .before) (After-room-short·gave before)) given
+
       module _ (before· : After-room-short) where
         abbrev pub After-room-answer·own : Type 0
-        After-room-answer·own = Called.Called ps·3 r·3 (claims· .7) T8 (record { pos = 6; st = List.[]; d = 0; at = λ x. x }, (Num.vAt 12 λ x. x,
-            (Num.vAt 13 λ x. x, (Num.vAt 4 λ x. x, (Bool.bAt 10 λ x. x, tt))),),) (m7 (before· .before) (After-room-short·gave before·))
+        After-room-answer·own = Called.Called ps·3 r·3 (claims· .7) T8 args7
+            (m7 (before· .before) (After-room-short·gave before·))
+
       pub record After-room-answer : Type 0 where
         pub before : After-room-short
         pub room-answer : After-room-answer·own before
-      abbrev pub After-room-answer·gave : (c : After-room-answer) → s7 .gives (m7 (c .before .before) (After-room-short·gave (c .before)))
-      After-room-answer·gave = λ c. Called.given ps·3 r·3 (claims· .7) T8 (record { pos = 6; st = List.[]; d = 0; at = λ x. x }, (Num.vAt 12 λ x. x,
-          (Num.vAt 13 λ x. x, (Num.vAt 4 λ x. x, (Bool.bAt 10 λ x. x, tt)))),) (m7 (c .before .before) (After-room-short·gave (c .before))) (c
-          .room-answer)
-      abbrev pub m9 : (before : After-room-short) → (given : s7 .gives (m7 (before .before) (After-room-short·gave before))) → Typed.Mo T10
+
+      abbrev pub After-room-answer·gave : (c : After-room-answer) → s7 .gives (m7 (c .before .before)
+          (After-room-short·gave (c .before)))
+      After-room-answer·gave = λ c. Called.given ps·3 r·3 (claims· .7) T8 args7 (m7 (c .before .before)
+          (After-room-short·gave (c .before))) (c .room-answer)
+
+      abbrev pub m9 : (before : After-room-short) → (given : s7 .gives
+          (m7 (before .before) (After-room-short·gave before))) → Typed.Mo T10
       m9 = λ before given. s8 (m8 before given)
-      abbrev pub m10 : (before : After-room-short) → (given : s7 .gives (m7 (before .before) (After-room-short·gave before))) → Typed.Mo T11
+
+      abbrev pub m10 : (before : After-room-short) → (given : s7 .gives
+          (m7 (before .before) (After-room-short·gave before))) → Typed.Mo T11
       m10 = λ before given. s9 (m9 before given)
-      abbrev pub m11 : (before : After-room-short) → (given : s7 .gives (m7 (before .before) (After-room-short·gave before))) → Typed.Mo T12
+
+      abbrev pub m11 : (before : After-room-short) → (given : s7 .gives
+          (m7 (before .before) (After-room-short·gave before))) → Typed.Mo T12
       m11 = λ before given. s10 (m10 before given)
+
       abbrev pub Need-entry-found-requires : Type 0
       Need-entry-found-requires = (c : After-room-answer) → s11 .asks (m11 (c .before) (After-room-answer·gave c))
-      abbrev pub m12 : (before : After-room-answer) → (given : s11 .gives (m11 (before .before) (After-room-answer·gave before))) → Typed.Mo T13
+
+      abbrev pub m12 : (before : After-room-answer) → (given : s11 .gives
+          (m11 (before .before) (After-room-answer·gave before))) → Typed.Mo T13
       m12 = λ before given. s11 .next (m11 (before .before) (After-room-answer·gave before)) given
+
       module _ (before· : After-room-answer) where
         abbrev pub After-entry-found·own : Type 0
-        After-entry-found·own = Called.Called ps·4 r·4 (claims· .9) T12 (record { pos = 11; st = List.[]; d = 0; at = λ x. x }, (record { pos = 8; st
-            = List.[]; d = 0; at = λ x. x }, (record { pos = 9; st = List.[]; d = 0; at = λ x. x }, tt),),) (m11 (before· .before)
-            (After-room-answer·gave before·))
+        After-entry-found·own = Called.Called ps·4 r·4 (claims· .9) T12 args11
+            (m11 (before· .before) (After-room-answer·gave before·))
+
       pub record After-entry-found : Type 0 where
         pub before : After-room-answer
         pub entry-found : After-entry-found·own before
-      abbrev pub After-entry-found·gave : (c : After-entry-found) → s11 .gives (m11 (c .before .before) (After-room-answer·gave (c .before)))
-      After-entry-found·gave = λ c. Called.given ps·4 r·4 (claims· .9) T12 (record { pos = 11; st = List.[]; d = 0; at = λ x. x }, (record { pos = 8;
-          st = List.[]; d = 0; at = λ x. x }, (record { pos = 9; st = List.[]; d = 0; at = λ x. x }, tt),),) (m11 (c .before .before)
+
+      abbrev pub After-entry-found·gave : (c : After-entry-found) → s11 .gives (m11 (c .before .before)
+          (After-room-answer·gave (c .before)))
+      After-entry-found·gave = λ c. Called.given ps·4 r·4 (claims· .9) T12 args11 (m11 (c .before .before)
           (After-room-answer·gave (c .before))) (c .entry-found)
-      abbrev pub m13 : (before : After-room-answer) → (given : s11 .gives (m11 (before .before) (After-room-answer·gave before))) → Typed.Mo T14
+
+      abbrev pub m13 : (before : After-room-answer) → (given : s11 .gives
+          (m11 (before .before) (After-room-answer·gave before))) → Typed.Mo T14
       m13 = λ before given. s12 (m12 before given)
-      abbrev pub m14 : (before : After-room-answer) → (given : s11 .gives (m11 (before .before) (After-room-answer·gave before))) → Typed.Mo T15
+
+      abbrev pub m14 : (before : After-room-answer) → (given : s11 .gives
+          (m11 (before .before) (After-room-answer·gave before))) → Typed.Mo T15
       m14 = λ before given. s13 (m13 before given)
-      abbrev pub m15 : (before : After-room-answer) → (given : s11 .gives (m11 (before .before) (After-room-answer·gave before))) → Typed.Mo T16
+
+      abbrev pub m15 : (before : After-room-answer) → (given : s11 .gives
+          (m11 (before .before) (After-room-answer·gave before))) → Typed.Mo T16
       m15 = λ before given. s14 (m14 before given)
-      abbrev pub m16 : (before : After-room-answer) → (given : s11 .gives (m11 (before .before) (After-room-answer·gave before))) → Typed.Mo T17
+
+      abbrev pub m16 : (before : After-room-answer) → (given : s11 .gives
+          (m11 (before .before) (After-room-answer·gave before))) → Typed.Mo T17
       m16 = λ before given. s15 (m15 before given)
-      abbrev pub m17 : (before : After-room-answer) → (given : s11 .gives (m11 (before .before) (After-room-answer·gave before))) → Typed.Mo T18
+
+      abbrev pub m17 : (before : After-room-answer) → (given : s11 .gives
+          (m11 (before .before) (After-room-answer·gave before))) → Typed.Mo T18
       m17 = λ before given. s16 (m16 before given)
-      abbrev pub m18 : (before : After-room-answer) → (given : s11 .gives (m11 (before .before) (After-room-answer·gave before))) → Typed.Mo T19
+
+      abbrev pub m18 : (before : After-room-answer) → (given : s11 .gives
+          (m11 (before .before) (After-room-answer·gave before))) → Typed.Mo T19
       m18 = λ before given. s17 (m17 before given)
+
       abbrev pub Need-returns : Type 0
-      Need-returns = (c : After-entry-found) → Post· (c .before .before .before .before .before .κs) (dens (c .before .before .before .before .before
-          .κs) (c .before .before .before .before .before .args)) (Function.resV r (c .before .before .before .before .before .κs) (m18 (c .before)
-          (After-entry-found·gave c) .0)) (Clauses.atExit (Kinds.endedOf 2 ps r) (c .before .before .before .before .before .κs) (dens (c .before
-          .before .before .before .before .κs) (c .before .before .before .before .before .args)) (Enter.lastsP (c .before .before .before .before
-          .before .κs) 1 ps xs (dens (c .before .before .before .before .before .κs) (c .before .before .before .before .before .args)) (m18 (c
-          .before) (After-entry-found·gave c) .1)))
-      module _ (survey-pending-requires : Need-survey-pending-requires) (survey-circuit-requires : Need-survey-circuit-requires) (room-short-requires
-          : Need-room-short-requires) (room-answer-requires : Need-room-answer-requires) (entry-found-requires : Need-entry-found-requires) (returns :
-          Need-returns) where
-        lay5 : (c : After-entry-found) → at6 (W0 (c .before .before .before .before .before .κs) (c .before .before .before .before .before .args))
-            (m12 (c .before) (After-entry-found·gave c))
-        lay5 = λ c. ((Path.refl, (Path.refl, (tt, (tt, (tt, (tt, (tt, tt))))))), returns record { before = c .before; entry-found = c .entry-found },)
-        lay4 : (c : After-room-answer) → at10 (W0 (c .before .before .before .before .κs) (c .before .before .before .before .args)) (m8 (c .before)
-            (After-room-answer·gave c))
-        lay4 = λ c. (entry-found-requires record { before = c .before; room-answer = c .room-answer }, λ g. lay5 record { before = record { before = c
-            .before; room-answer = c .room-answer }; entry-found = Called.called ps·4 r·4 (claims· .9) T12 (record { pos = 11; st = List.[]; d = 0; at
-            = λ x. x }, (record { pos = 8; st = List.[]; d = 0; at = λ x. x }, (record { pos = 9; st = List.[]; d = 0; at = λ x. x }, tt),),) (m11 (c
-            .before) (After-room-answer·gave c)) g; },)
-        lay3 : (c : After-room-short) → at13 (W0 (c .before .before .before .κs) (c .before .before .before .args)) (m5 (c .before)
-            (After-room-short·gave c))
-        lay3 = λ c. (room-answer-requires record { before = c .before; room-short = c .room-short }, λ g. lay4 record { before = record { before = c
-            .before; room-short = c .room-short }; room-answer = Called.called ps·3 r·3 (claims· .7) T8 (record { pos = 6; st = List.[]; d = 0; at = λ
-            x. x }, (Num.vAt 12 λ x. x, (Num.vAt 13 λ x. x, (Num.vAt 4 λ x. x, (Bool.bAt 10 λ x. x, tt))),),) (m7 (c .before) (After-room-short·gave
-            c)) g; },)
-        lay2 : (c : After-survey-circuit) → at16 (W0 (c .before .before .κs) (c .before .before .args)) (m2 (c .before) (After-survey-circuit·gave c))
-        lay2 = λ c. (room-short-requires record { before = c .before; survey-circuit = c .survey-circuit }, λ g. lay3 record { before = record {
-            before = c .before; survey-circuit = c .survey-circuit }; room-short = Called.called ps·2 r·2 (claims· .5) T5 (Num.vAt 5 λ x. x, (Num.vFld
-            8 ((Syntax.field 0) ∷ List.[]) 0 λ x. Survey.struct .as-values x .0, (Num.vFld 9 ((Syntax.field 0) ∷ List.[]) 0 λ x. Survey.struct
-            .as-values x .0, tt,),),) (m4 (c .before) (After-survey-circuit·gave c)) g; },)
-        lay1 : (c : After-survey-pending) → at17 (W0 (c .before .κs) (c .before .args)) (m1 (c .before) (After-survey-pending·gave c))
-        lay1 = λ c. (survey-circuit-requires record { before = c .before; survey-pending = c .survey-pending; }, λ g. lay2 record { before = record {
-            before = c .before; survey-pending = c .survey-pending }; survey-circuit = Called.called ps·1 r·1 (claims· .3) T2 (record { pos = 2; ty =
-            Syntax.tyRef (Syntax.named 1) Syntax.imm RelayCircuit.to; ref = λ x. x; }, (record { pos = 3; st = List.[]; d = 0; at = λ x. x }, (record
-            { pos = 7; st = List.[]; d = 0; at = λ x. x }, tt),),) (m1 (c .before) (After-survey-pending·gave c)) g; },)
+      Need-returns = (c : After-entry-found) → Post· (c .before .before .before .before .before .κs) (dens
+          (c .before .before .before .before .before .κs) (c .before .before .before .before .before .args)) (Function.resV
+          r (c .before .before .before .before .before .κs) (m18 (c .before) (After-entry-found·gave c) .0)) (Clauses.atExit
+          (Kinds.endedOf 2 ps r) (c .before .before .before .before .before .κs) (dens
+          (c .before .before .before .before .before .κs) (c .before .before .before .before .before .args)) (Enter.lastsP
+          (c .before .before .before .before .before .κs) 1 ps xs (dens (c .before .before .before .before .before .κs)
+          (c .before .before .before .before .before .args)) (m18 (c .before) (After-entry-found·gave c) .1)))
+
+      module _ (survey-pending-requires : Need-survey-pending-requires)
+          (survey-circuit-requires : Need-survey-circuit-requires) (room-short-requires : Need-room-short-requires)
+          (room-answer-requires : Need-room-answer-requires) (entry-found-requires : Need-entry-found-requires)
+          (returns : Need-returns) where
+        lay5 : (c : After-entry-found) → at6 (W0 (c .before .before .before .before .before .κs)
+            (c .before .before .before .before .before .args)) (m12 (c .before) (After-entry-found·gave c))
+        lay5 = λ c. (
+          (Path.refl, (Path.refl, (tt, (tt, (tt, (tt, (tt, tt))))))),
+          returns record { before = c .before; entry-found = c .entry-found },
+        )
+
+        lay4 : (c : After-room-answer) → at10 (W0 (c .before .before .before .before .κs)
+            (c .before .before .before .before .args)) (m8 (c .before) (After-room-answer·gave c))
+        lay4 = λ c. (
+          entry-found-requires record { before = c .before; room-answer = c .room-answer },
+          λ g. lay5 record {
+            before = record { before = c .before; room-answer = c .room-answer };
+            entry-found = Called.called ps·4 r·4 (claims· .9) T12 args11 (m11 (c .before) (After-room-answer·gave c)) g;
+          },
+        )
+
+        lay3 : (c : After-room-short) → at13 (W0 (c .before .before .before .κs) (c .before .before .before .args))
+            (m5 (c .before) (After-room-short·gave c))
+        lay3 = λ c. (
+          room-answer-requires record { before = c .before; room-short = c .room-short },
+          λ g. lay4 record {
+            before = record { before = c .before; room-short = c .room-short };
+            room-answer = Called.called ps·3 r·3 (claims· .7) T8 args7 (m7 (c .before) (After-room-short·gave c)) g;
+          },
+        )
+
+        lay2 : (c : After-survey-circuit) → at16 (W0 (c .before .before .κs) (c .before .before .args))
+            (m2 (c .before) (After-survey-circuit·gave c))
+        lay2 = λ c. (
+          room-short-requires record { before = c .before; survey-circuit = c .survey-circuit },
+          λ g. lay3 record {
+            before = record { before = c .before; survey-circuit = c .survey-circuit };
+            room-short = Called.called ps·2 r·2 (claims· .5) T5 args4 (m4 (c .before) (After-survey-circuit·gave c)) g;
+          },
+        )
+
+        lay1 : (c : After-survey-pending) → at17 (W0 (c .before .κs) (c .before .args))
+            (m1 (c .before) (After-survey-pending·gave c))
+        lay1 = λ c. (
+          survey-circuit-requires record { before = c .before; survey-pending = c .survey-pending },
+          λ g. lay2 record {
+            before = record { before = c .before; survey-pending = c .survey-pending };
+            survey-circuit = Called.called ps·1 r·1 (claims· .3) T2 args1
+                (m1 (c .before) (After-survey-pending·gave c)) g;
+          },
+        )
+
         pub laid : (c : Start) → at18 (W0 (c .κs) (c .args)) (m0 (c .κs) (c .args))
-        laid = λ c. (survey-pending-requires c, λ g. lay1 record { before = c; survey-pending = Called.called ps·0 r·0 (claims· .1) T0 (record { pos =
-            1; ty = Syntax.tyRef (Syntax.named 0) Syntax.imm RelayPending.to; ref = λ x. x; }, (record { pos = 3; st = List.[]; d = 0; at = λ x. x },
-            (record { pos = 7; st = List.[]; d = 0; at = λ x. x }, tt),),) (m0 (c .κs) (c .args)) g; },)
+        laid = λ c. (
+          survey-pending-requires c,
+          λ g. lay1 record {
+            before = c;
+            survey-pending = Called.called ps·0 r·0 (claims· .1) T0 args0 (m0 (c .κs) (c .args)) g;
+          },
+        )
+
         module _ (κs : Lifetimes.Lfts 2) (qs : Lifetimes.Shares 2) where
-          pub asked : (a : Kinds.Dens κs ps) → (good : Kinds.GoodsP κs ps a) → (pre : Pre· κs a) → (bs : List.List Nat.ℕ) → Φ (Any.wantQ 2 ps r xs m
-              κs qs a (Post· κs a)) (Function.init 2 ps r xs m κs qs a)
-          asked = λ a good pre bs. laid record { κs = κs; args = record { pending = a .0; circuits = a .1 .0; places = a .1 .1 .0; inflight = a .1 .1
-              .1 .0; room = a .1 .1 .1 .1 .0; config = a .1 .1 .1 .1 .1 .0; question = a .1 .1 .1 .1 .1 .1 .0; }; good = good; fits = record {
-              inflight = record { fits = good .1 .1 .1 .0 .1 }; room = record { fits = good .1 .1 .1 .1 .0 .1 }; }; pre = pre; }
-        module _ { M : Type 1 } (𝓤 : URA.URA M) (H : Wp.Heap 𝓤) (A : Atoms.Atoms 𝓤) (W : Kit.Given 𝓤 H A) (𝓣 : Wp.Tables 𝓤 H) (known0 : Plain.Known 𝓤
-            H A W 𝓣 1 ps·0 r·0 (claims· .0) (claims· .1) "hnsr_circuit::tables::pending::survey_pending") (known1 : Plain.Known 𝓤 H A W 𝓣 1 ps·1 r·1
-            (claims· .2) (claims· .3) "hnsr_circuit::tables::circuits::survey_circuit") (known2 : Plain.Known 𝓤 H A W 𝓣 0 ps·2 r·2 (claims· .4)
-            (claims· .5) "hnsr_circuit::revoking_calls::room_short") (known3 : Plain.Known 𝓤 H A W 𝓣 0 ps·3 r·3 (claims· .6) (claims· .7)
-            "hnsr_circuit::revoking_calls::room_answer") (known4 : Plain.Known 𝓤 H A W 𝓣 0 ps·4 r·4 (claims· .8) (claims· .9)
-            "hnsr_circuit::revoking_calls::entry_found") where
-          pub spec : Statement.Triple 𝓤 (Wp.WpFn 𝓤 H (𝓣 .C) (𝓣 .Λ) (Function.fnOf 2 ps r xs m hs body)) (Function.plainOf 𝓤 H A 2 ps r Pre· Post·)
-          spec = Plain.t-fn-plain 𝓤 H A W 𝓣 2 ps r xs m hs body (λ κs qs bs. Φ) (λ κs qs bs bd. typed κs qs 𝓤 H A W 𝓣 (known0, known1, known2, known3,
-              known4) bs bd) Pre· Post· asked
+          pub asked : (a : Kinds.Dens κs ps) → (good : Kinds.GoodsP κs ps a) → (pre : Pre· κs a) →
+              (bs : List.List Nat.ℕ) → Φ (Any.wantQ 2 ps r xs m κs qs a (Post· κs a))
+              (Function.init 2 ps r xs m κs qs a)
+          asked = λ a good pre bs. laid record {
+            κs = κs;
+            args = record {
+              pending = a .0;
+              circuits = a .1 .0;
+              places = a .1 .1 .0;
+              inflight = a .1 .1 .1 .0;
+              room = a .1 .1 .1 .1 .0;
+              config = a .1 .1 .1 .1 .1 .0;
+              question = a .1 .1 .1 .1 .1 .1 .0;
+            };
+            good = good;
+            fits = record {
+              inflight = record { fits = good .1 .1 .1 .0 .1 };
+              room = record { fits = good .1 .1 .1 .1 .0 .1 };
+            };
+            pre = pre;
+          }
+
+        module _ {M : Type 1} (𝓤 : URA.URA M) (H : Wp.Heap 𝓤) (A : Atoms.Atoms 𝓤) (W : Kit.Given 𝓤 H A)
+            (𝓣 : Wp.Tables 𝓤 H) (known0 : Plain.Known 𝓤 H A W 𝓣 1 ps·0 r·0 (claims· .0) (claims· .1)
+            "hnsr_circuit::tables::pending::survey_pending") (known1 : Plain.Known 𝓤 H A W 𝓣 1 ps·1 r·1 (claims· .2)
+            (claims· .3) "hnsr_circuit::tables::circuits::survey_circuit") (known2 : Plain.Known 𝓤 H A W 𝓣 0 ps·2 r·2
+            (claims· .4) (claims· .5) "hnsr_circuit::revoking_calls::room_short") (known3 : Plain.Known 𝓤 H A W 𝓣 0
+            ps·3 r·3 (claims· .6) (claims· .7) "hnsr_circuit::revoking_calls::room_answer") (known4 : Plain.Known 𝓤 H A
+            W 𝓣 0 ps·4 r·4 (claims· .8) (claims· .9) "hnsr_circuit::revoking_calls::entry_found") where
+          pub spec : Statement.Triple 𝓤 (Wp.WpFn 𝓤 H (𝓣 .C) (𝓣 .Λ) (Function.fnOf 2 ps r xs m hs body))
+              (Function.plainOf 𝓤 H A 2 ps r Pre· Post·)
+          spec = Plain.t-fn-plain 𝓤 H A W 𝓣 2 ps r xs m hs body (λ κs qs bs. Φ) (λ κs qs bs bd. typed κs qs 𝓤 H A W 𝓣
+              (known0, known1, known2, known3, known4) bs bd) Pre· Post· asked

@@ -3,6 +3,7 @@ use Prim.Native.Nat
 use Rattle.hnsr_circuit.proofs.By.InflightAction
 use Rattle.hnsr_circuit.proofs.By.RelayCircuit
 use Rattle.hnsr_circuit.proofs.By.RelayPending
+use Rattle.hnsr_circuit.proofs.StructRow
 use Rattle.hnsr_circuit.proofs.answer.HnsrAnswer
 use Rattle.hnsr_circuit.proofs.answer.HnsrAnswer.Laws
 use Rattle.hnsr_circuit.proofs.config.OpaqueRelayConfig
@@ -31,7 +32,6 @@ use borrow.Kind.Bool
 use borrow.Kind.MutSlice
 use borrow.Kind.Num
 use borrow.Kind.ShrSlice
-use borrow.Kind.Value
 use borrow.Rule.DerefMove
 use borrow.Rule.Lifetime
 use borrow.Rule.Local
@@ -60,7 +60,6 @@ use borrow.Table.Typed
 use contract.Lifetimes
 use denote.Enum.Declared
 use denote.Enum.Laws as Laws''''''''
-use denote.Exit
 use denote.Laws as Laws'''''''''
 use denote.Struct.At
 use denote.Struct.Declared as Declared'
@@ -82,2135 +81,3752 @@ use mathlib.Core.List.{_∷_}
 
 abbrev ref0 : Syntax.Ty
 ref0 = Syntax.tyRef Syntax.erased Syntax.imm RelayPending.to
+
 abbrev ref1 : Syntax.Ty
 ref1 = Syntax.tyRef Syntax.erased Syntax.imm RelayCircuit.to
+
 abbrev ref2 : Syntax.Ty
 ref2 = Syntax.tyRef Syntax.erased Syntax.mut RelayPending.to
+
 abbrev ref3 : Syntax.Ty
 ref3 = Syntax.tyRef Syntax.erased Syntax.mut RelayCircuit.to
+
 abbrev ref4 : Syntax.Ty
 ref4 = Syntax.tyRef Syntax.erased Syntax.mut InflightAction.to
+
 abbrev ref5 : Syntax.Ty
 ref5 = Syntax.tyRef Syntax.erased Syntax.mut (Syntax.tyInt Syntax.w32)
+
 abbrev ref6 : Syntax.Ty
 ref6 = Syntax.tyRef (Syntax.named 0) Syntax.mut RelayPending.to
+
 abbrev ref7 : Syntax.Ty
 ref7 = Syntax.tyRef (Syntax.named 1) Syntax.mut RelayCircuit.to
+
 abbrev ref8 : Syntax.Ty
 ref8 = Syntax.tyRef (Syntax.named 2) Syntax.mut InflightAction.to
+
 abbrev ref9 : Syntax.Ty
 ref9 = Syntax.tyRef (Syntax.named 3) Syntax.mut (Syntax.tyInt Syntax.w32)
+
+abbrev slice0 : Syntax.Ty
+slice0 = Syntax.tyStruct (38 ∷ 91 ∷ 93 ∷ List.[]) (Syntax.tcons ref0
+    (Syntax.tcons (Syntax.tyInt Syntax.w64) Syntax.tnil))
+
+abbrev slice1 : Syntax.Ty
+slice1 = Syntax.tyStruct (38 ∷ 91 ∷ 93 ∷ List.[]) (Syntax.tcons ref1
+    (Syntax.tcons (Syntax.tyInt Syntax.w64) Syntax.tnil))
+
+abbrev slice2 : Syntax.Ty
+slice2 = Syntax.tyStruct (38 ∷ 91 ∷ 93 ∷ List.[]) (Syntax.tcons ref2
+    (Syntax.tcons (Syntax.tyInt Syntax.w64) Syntax.tnil))
+
+abbrev slice3 : Syntax.Ty
+slice3 = Syntax.tyStruct (38 ∷ 91 ∷ 93 ∷ List.[]) (Syntax.tcons ref3
+    (Syntax.tcons (Syntax.tyInt Syntax.w64) Syntax.tnil))
+
+abbrev slice4 : Syntax.Ty
+slice4 = Syntax.tyStruct (38 ∷ 91 ∷ 93 ∷ List.[]) (Syntax.tcons ref4
+    (Syntax.tcons (Syntax.tyInt Syntax.w64) Syntax.tnil))
+
+abbrev slice5 : Syntax.Ty
+slice5 = Syntax.tyStruct (38 ∷ 91 ∷ 93 ∷ List.[]) (Syntax.tcons ref5
+    (Syntax.tcons (Syntax.tyInt Syntax.w64) Syntax.tnil))
+
 abbrev pub ps : List.List (Kinds.PK 4)
-ps = (MutSlice.pMutS RelayPending.row 0 tt) ∷ (MutSlice.pMutS RelayCircuit.row 1 tt) ∷ (MutSlice.pMutS InflightAction.row 2 tt) ∷ (MutSlice.pMutS
-    (Referent.rtF (Referent.fInt Syntax.w32)) 3 tt) ∷ (Value.pVal record { ty = Declared'.row OpaqueRelayRuntime.the-type; one = Path.refl; val =
-    Laws''''''''''.val OpaqueRelayRuntime.the-type Laws''''''.the-laws; tells = Laws''''''''''.tells OpaqueRelayRuntime.the-type Laws''''''.the-laws;
-    still = Laws''''''''''.still OpaqueRelayRuntime.the-type Laws''''''.the-copy Exit.yes; row = Rows.whole (Declared'.row
-    OpaqueRelayRuntime.the-type); rd = λ x. x; mk = λ x. x; } λ M 𝓤 H A W. record { copies = Laws''''''''''.copy OpaqueRelayRuntime.the-type
-    Laws''''''.the-copy 𝓤 H A W; lawful = Laws''''''''''.lawful OpaqueRelayRuntime.the-type Laws''''''.the-laws 𝓤 H A W; makes = Laws''''''''''.makes
-    OpaqueRelayRuntime.the-type Laws''''''.the-plain 𝓤 H A; in-mem = Local.mem-whole 𝓤 H A W (Declared'.row OpaqueRelayRuntime.the-type); of-mem =
-    Local.whole-mem 𝓤 H A W (Declared'.row OpaqueRelayRuntime.the-type); }) ∷ (Value.pVal record { ty = Declared'.row Places.the-type; one =
-    Path.refl; val = Laws''''''''''.val Places.the-type Laws''.the-laws; tells = Laws''''''''''.tells Places.the-type Laws''.the-laws; still =
-    Laws''''''''''.still Places.the-type Laws''.the-copy Exit.yes; row = Rows.whole (Declared'.row Places.the-type); rd = λ x. x; mk = λ x. x; } λ M 𝓤
-    H A W. record { copies = Laws''''''''''.copy Places.the-type Laws''.the-copy 𝓤 H A W; lawful = Laws''''''''''.lawful Places.the-type
-    Laws''.the-laws 𝓤 H A W; makes = Laws''''''''''.makes Places.the-type Laws''.the-plain 𝓤 H A; in-mem = Local.mem-whole 𝓤 H A W (Declared'.row
-    Places.the-type); of-mem = Local.whole-mem 𝓤 H A W (Declared'.row Places.the-type); }) ∷ (Num.pNum Syntax.w64) ∷ Bool.pBool ∷ List.[]
+ps = (MutSlice.pMutS RelayPending.row 0 tt) ∷ (MutSlice.pMutS RelayCircuit.row 1 tt) ∷
+    (MutSlice.pMutS InflightAction.row 2 tt) ∷ (MutSlice.pMutS (Referent.rtF (Referent.fInt Syntax.w32)) 3 tt) ∷ (StructRow.param
+    OpaqueRelayRuntime.the-type Laws''''''.the-laws Laws''''''.the-copy Laws''''''.the-plain) ∷ (StructRow.param
+    Places.the-type Laws''.the-laws Laws''.the-copy Laws''.the-plain) ∷ (Num.pNum Syntax.w64) ∷ Bool.pBool ∷ List.[]
+
 abbrev pub r : Kinds.RK 4
-r = Value.rVal record { ty = Declared'.row Relayed.the-type; one = Path.refl; val = Laws''''''''''.val Relayed.the-type Laws'''''''.the-laws; tells =
-    Laws''''''''''.tells Relayed.the-type Laws'''''''.the-laws; still = Laws''''''''''.still Relayed.the-type Laws'''''''.the-copy Exit.yes; row =
-    Rows.whole (Declared'.row Relayed.the-type); rd = λ x. x; mk = λ x. x; } λ M 𝓤 H A W. record { copies = Laws''''''''''.copy Relayed.the-type
-    Laws'''''''.the-copy 𝓤 H A W; lawful = Laws''''''''''.lawful Relayed.the-type Laws'''''''.the-laws 𝓤 H A W; makes = Laws''''''''''.makes
-    Relayed.the-type Laws'''''''.the-plain 𝓤 H A; in-mem = Local.mem-whole 𝓤 H A W (Declared'.row Relayed.the-type); of-mem = Local.whole-mem 𝓤 H A W
-    (Declared'.row Relayed.the-type); }
+r = StructRow.result Relayed.the-type Laws'''''''.the-laws Laws'''''''.the-copy Laws'''''''.the-plain
+
 abbrev pub xs : List.List Syntax.Ty
-xs = Laws'.mir ∷ Laws'''.mir ∷ Laws'''''.mir ∷ Laws.mir ∷ Laws''''.mir ∷ Laws.mir ∷ Syntax.tyBool ∷ Laws.mir ∷ Laws.mir ∷ Laws.mir ∷ ref0 ∷
-    (Syntax.tyStruct (38 ∷ 91 ∷ 93 ∷ List.[]) (Syntax.tcons ref0 (Syntax.tcons (Syntax.tyInt Syntax.w64) Syntax.tnil))) ∷ ref1 ∷ (Syntax.tyStruct (38
-    ∷ 91 ∷ 93 ∷ List.[]) (Syntax.tcons ref1 (Syntax.tcons (Syntax.tyInt Syntax.w64) Syntax.tnil))) ∷ (Syntax.tyInt Syntax.w64) ∷ (Syntax.tyInt
-    Syntax.w64) ∷ Syntax.tyBool ∷ Syntax.tyBool ∷ ref2 ∷ (Syntax.tyStruct (38 ∷ 91 ∷ 93 ∷ List.[]) (Syntax.tcons ref2 (Syntax.tcons (Syntax.tyInt
-    Syntax.w64) Syntax.tnil))) ∷ ref3 ∷ (Syntax.tyStruct (38 ∷ 91 ∷ 93 ∷ List.[]) (Syntax.tcons ref3 (Syntax.tcons (Syntax.tyInt Syntax.w64)
-    Syntax.tnil))) ∷ ref4 ∷ (Syntax.tyStruct (38 ∷ 91 ∷ 93 ∷ List.[]) (Syntax.tcons ref4 (Syntax.tcons (Syntax.tyInt Syntax.w64) Syntax.tnil))) ∷ ref5
-    ∷ (Syntax.tyStruct (38 ∷ 91 ∷ 93 ∷ List.[]) (Syntax.tcons ref5 (Syntax.tcons (Syntax.tyInt Syntax.w64) Syntax.tnil))) ∷ List.[]
+xs = Laws'.mir ∷ Laws'''.mir ∷ Laws'''''.mir ∷ Laws.mir ∷ Laws''''.mir ∷ Laws.mir ∷ Syntax.tyBool ∷ Laws.mir ∷ Laws.mir
+    ∷ Laws.mir ∷ ref0 ∷ slice0 ∷ ref1 ∷ slice1 ∷ (Syntax.tyInt Syntax.w64) ∷ (Syntax.tyInt Syntax.w64) ∷ Syntax.tyBool
+    ∷ Syntax.tyBool ∷ ref2 ∷ slice2 ∷ ref3 ∷ slice3 ∷ ref4 ∷ slice4 ∷ ref5 ∷ slice5 ∷ List.[]
+
 abbrev pub m : Nat.ℕ
 m = 6
+
 abbrev pub ps·0 : List.List (Kinds.PK 0)
 ps·0 = List.[]
+
 abbrev pub r·0 : Kinds.RK 0
-r·0 = Value.rVal record { ty = Declared'.row Question.the-type; one = Path.refl; val = Laws''''''''''.val Question.the-type Laws'''.the-laws; tells =
-    Laws''''''''''.tells Question.the-type Laws'''.the-laws; still = Laws''''''''''.still Question.the-type Laws'''.the-copy Exit.yes; row =
-    Rows.whole (Declared'.row Question.the-type); rd = λ x. x; mk = λ x. x; } λ M 𝓤 H A W. record { copies = Laws''''''''''.copy Question.the-type
-    Laws'''.the-copy 𝓤 H A W; lawful = Laws''''''''''.lawful Question.the-type Laws'''.the-laws 𝓤 H A W; makes = Laws''''''''''.makes
-    Question.the-type Laws'''.the-plain 𝓤 H A; in-mem = Local.mem-whole 𝓤 H A W (Declared'.row Question.the-type); of-mem = Local.whole-mem 𝓤 H A W
-    (Declared'.row Question.the-type); }
+r·0 = StructRow.result Question.the-type Laws'''.the-laws Laws'''.the-copy Laws'''.the-plain
+
 abbrev pub ps·1 : List.List (Kinds.PK 2)
-ps·1 = (ShrSlice.pShrS RelayPending.row 0 tt) ∷ (ShrSlice.pShrS RelayCircuit.row 1 tt) ∷ (Value.pVal record { ty = Declared'.row Places.the-type; one
-    = Path.refl; val = Laws''''''''''.val Places.the-type Laws''.the-laws; tells = Laws''''''''''.tells Places.the-type Laws''.the-laws; still =
-    Laws''''''''''.still Places.the-type Laws''.the-copy Exit.yes; row = Rows.whole (Declared'.row Places.the-type); rd = λ x. x; mk = λ x. x; } λ M 𝓤
-    H A W. record { copies = Laws''''''''''.copy Places.the-type Laws''.the-copy 𝓤 H A W; lawful = Laws''''''''''.lawful Places.the-type
-    Laws''.the-laws 𝓤 H A W; makes = Laws''''''''''.makes Places.the-type Laws''.the-plain 𝓤 H A; in-mem = Local.mem-whole 𝓤 H A W (Declared'.row
-    Places.the-type); of-mem = Local.whole-mem 𝓤 H A W (Declared'.row Places.the-type); }) ∷ (Num.pNum Syntax.w64) ∷ (Num.pNum Syntax.w64) ∷
-    (Value.pVal record { ty = Declared'.row OpaqueRelayConfig.the-type; one = Path.refl; val = Laws''''''''''.val OpaqueRelayConfig.the-type
-    Laws'.the-laws; tells = Laws''''''''''.tells OpaqueRelayConfig.the-type Laws'.the-laws; still = Laws''''''''''.still OpaqueRelayConfig.the-type
-    Laws'.the-copy Exit.yes; row = Rows.whole (Declared'.row OpaqueRelayConfig.the-type); rd = λ x. x; mk = λ x. x; } λ M 𝓤 H A W. record { copies =
-    Laws''''''''''.copy OpaqueRelayConfig.the-type Laws'.the-copy 𝓤 H A W; lawful = Laws''''''''''.lawful OpaqueRelayConfig.the-type Laws'.the-laws 𝓤
-    H A W; makes = Laws''''''''''.makes OpaqueRelayConfig.the-type Laws'.the-plain 𝓤 H A; in-mem = Local.mem-whole 𝓤 H A W (Declared'.row
-    OpaqueRelayConfig.the-type); of-mem = Local.whole-mem 𝓤 H A W (Declared'.row OpaqueRelayConfig.the-type); }) ∷ (Value.pVal record { ty =
-    Declared'.row Question.the-type; one = Path.refl; val = Laws''''''''''.val Question.the-type Laws'''.the-laws; tells = Laws''''''''''.tells
-    Question.the-type Laws'''.the-laws; still = Laws''''''''''.still Question.the-type Laws'''.the-copy Exit.yes; row = Rows.whole (Declared'.row
-    Question.the-type); rd = λ x. x; mk = λ x. x; } λ M 𝓤 H A W. record { copies = Laws''''''''''.copy Question.the-type Laws'''.the-copy 𝓤 H A W;
-    lawful = Laws''''''''''.lawful Question.the-type Laws'''.the-laws 𝓤 H A W; makes = Laws''''''''''.makes Question.the-type Laws'''.the-plain 𝓤 H A;
-    in-mem = Local.mem-whole 𝓤 H A W (Declared'.row Question.the-type); of-mem = Local.whole-mem 𝓤 H A W (Declared'.row Question.the-type); }) ∷
-    List.[]
+ps·1 = (ShrSlice.pShrS RelayPending.row 0 tt) ∷ (ShrSlice.pShrS RelayCircuit.row 1 tt) ∷ (StructRow.param
+    Places.the-type Laws''.the-laws Laws''.the-copy Laws''.the-plain) ∷ (Num.pNum Syntax.w64) ∷ (Num.pNum Syntax.w64) ∷ (StructRow.param
+    OpaqueRelayConfig.the-type Laws'.the-laws Laws'.the-copy Laws'.the-plain) ∷ (StructRow.param Question.the-type
+    Laws'''.the-laws Laws'''.the-copy Laws'''.the-plain) ∷ List.[]
+
 abbrev pub r·1 : Kinds.RK 2
-r·1 = Value.rVal record { ty = Declared'.row Entered.the-type; one = Path.refl; val = Laws''''''''''.val Entered.the-type Laws'''''.the-laws; tells =
-    Laws''''''''''.tells Entered.the-type Laws'''''.the-laws; still = Laws''''''''''.still Entered.the-type Laws'''''.the-copy Exit.yes; row =
-    Rows.whole (Declared'.row Entered.the-type); rd = λ x. x; mk = λ x. x; } λ M 𝓤 H A W. record { copies = Laws''''''''''.copy Entered.the-type
-    Laws'''''.the-copy 𝓤 H A W; lawful = Laws''''''''''.lawful Entered.the-type Laws'''''.the-laws 𝓤 H A W; makes = Laws''''''''''.makes
-    Entered.the-type Laws'''''.the-plain 𝓤 H A; in-mem = Local.mem-whole 𝓤 H A W (Declared'.row Entered.the-type); of-mem = Local.whole-mem 𝓤 H A W
-    (Declared'.row Entered.the-type); }
+r·1 = StructRow.result Entered.the-type Laws'''''.the-laws Laws'''''.the-copy Laws'''''.the-plain
+
 abbrev pub ps·2 : List.List (Kinds.PK 0)
 ps·2 = (Num.pNum Syntax.w64) ∷ (Num.pNum Syntax.w64) ∷ List.[]
+
 abbrev pub r·2 : Kinds.RK 0
-r·2 = Value.rVal record { ty = Declared.row HnsrAnswer.the-type; one = Path.refl; val = Laws''''''''.val HnsrAnswer.the-type Laws.the-laws; tells =
-    Laws''''''''.tells HnsrAnswer.the-type Laws.the-laws; still = Laws''''''''.still HnsrAnswer.the-type Laws.the-copy Exit.yes; row = Rows.whole
-    (Declared.row HnsrAnswer.the-type); rd = λ x. x; mk = λ x. x; } λ M 𝓤 H A W. record { copies = Laws''''''''.copy HnsrAnswer.the-type Laws.the-copy
-    𝓤 H A W; lawful = Laws''''''''.lawful HnsrAnswer.the-type Laws.the-laws 𝓤 H A W tt; makes = Laws''''''''.makes HnsrAnswer.the-type Laws.the-plain
-    𝓤 H A; in-mem = Local.mem-whole 𝓤 H A W (Declared.row HnsrAnswer.the-type); of-mem = Local.whole-mem 𝓤 H A W (Declared.row HnsrAnswer.the-type); }
+r·2 = StructRow.enum-result HnsrAnswer.the-type Laws.the-laws Laws.the-copy Laws.the-plain tt
+
 abbrev pub ps·3 : List.List (Kinds.PK 0)
 ps·3 = Bool.pBool ∷ Bool.pBool ∷ List.[]
+
 abbrev pub r·3 : Kinds.RK 0
 r·3 = Bool.rBool
+
 abbrev pub ps·4 : List.List (Kinds.PK 0)
 ps·4 = (Num.pNum Syntax.w64) ∷ Bool.pBool ∷ List.[]
+
 abbrev pub r·4 : Kinds.RK 0
-r·4 = Value.rVal record { ty = Declared.row HnsrAnswer.the-type; one = Path.refl; val = Laws''''''''.val HnsrAnswer.the-type Laws.the-laws; tells =
-    Laws''''''''.tells HnsrAnswer.the-type Laws.the-laws; still = Laws''''''''.still HnsrAnswer.the-type Laws.the-copy Exit.yes; row = Rows.whole
-    (Declared.row HnsrAnswer.the-type); rd = λ x. x; mk = λ x. x; } λ M 𝓤 H A W. record { copies = Laws''''''''.copy HnsrAnswer.the-type Laws.the-copy
-    𝓤 H A W; lawful = Laws''''''''.lawful HnsrAnswer.the-type Laws.the-laws 𝓤 H A W tt; makes = Laws''''''''.makes HnsrAnswer.the-type Laws.the-plain
-    𝓤 H A; in-mem = Local.mem-whole 𝓤 H A W (Declared.row HnsrAnswer.the-type); of-mem = Local.whole-mem 𝓤 H A W (Declared.row HnsrAnswer.the-type); }
+r·4 = StructRow.enum-result HnsrAnswer.the-type Laws.the-laws Laws.the-copy Laws.the-plain tt
+
 abbrev pub ps·5 : List.List (Kinds.PK 0)
-ps·5 = (Value.pVal record { ty = Declared.row HnsrAnswer.the-type; one = Path.refl; val = Laws''''''''.val HnsrAnswer.the-type Laws.the-laws; tells =
-    Laws''''''''.tells HnsrAnswer.the-type Laws.the-laws; still = Laws''''''''.still HnsrAnswer.the-type Laws.the-copy Exit.yes; row = Rows.whole
-    (Declared.row HnsrAnswer.the-type); rd = λ x. x; mk = λ x. x; } λ M 𝓤 H A W. record { copies = Laws''''''''.copy HnsrAnswer.the-type Laws.the-copy
-    𝓤 H A W; lawful = Laws''''''''.lawful HnsrAnswer.the-type Laws.the-laws 𝓤 H A W tt; makes = Laws''''''''.makes HnsrAnswer.the-type Laws.the-plain
-    𝓤 H A; in-mem = Local.mem-whole 𝓤 H A W (Declared.row HnsrAnswer.the-type); of-mem = Local.whole-mem 𝓤 H A W (Declared.row HnsrAnswer.the-type);
-    }) ∷ (Value.pVal record { ty = Declared.row HnsrAnswer.the-type; one = Path.refl; val = Laws''''''''.val HnsrAnswer.the-type Laws.the-laws; tells
-    = Laws''''''''.tells HnsrAnswer.the-type Laws.the-laws; still = Laws''''''''.still HnsrAnswer.the-type Laws.the-copy Exit.yes; row = Rows.whole
-    (Declared.row HnsrAnswer.the-type); rd = λ x. x; mk = λ x. x; } λ M 𝓤 H A W. record { copies = Laws''''''''.copy HnsrAnswer.the-type Laws.the-copy
-    𝓤 H A W; lawful = Laws''''''''.lawful HnsrAnswer.the-type Laws.the-laws 𝓤 H A W tt; makes = Laws''''''''.makes HnsrAnswer.the-type Laws.the-plain
-    𝓤 H A; in-mem = Local.mem-whole 𝓤 H A W (Declared.row HnsrAnswer.the-type); of-mem = Local.whole-mem 𝓤 H A W (Declared.row HnsrAnswer.the-type);
-    }) ∷ List.[]
+ps·5 = (StructRow.enum-param HnsrAnswer.the-type Laws.the-laws Laws.the-copy Laws.the-plain tt) ∷ (StructRow.enum-param
+    HnsrAnswer.the-type Laws.the-laws Laws.the-copy Laws.the-plain tt) ∷ List.[]
+
 abbrev pub r·5 : Kinds.RK 0
-r·5 = Value.rVal record { ty = Declared.row HnsrAnswer.the-type; one = Path.refl; val = Laws''''''''.val HnsrAnswer.the-type Laws.the-laws; tells =
-    Laws''''''''.tells HnsrAnswer.the-type Laws.the-laws; still = Laws''''''''.still HnsrAnswer.the-type Laws.the-copy Exit.yes; row = Rows.whole
-    (Declared.row HnsrAnswer.the-type); rd = λ x. x; mk = λ x. x; } λ M 𝓤 H A W. record { copies = Laws''''''''.copy HnsrAnswer.the-type Laws.the-copy
-    𝓤 H A W; lawful = Laws''''''''.lawful HnsrAnswer.the-type Laws.the-laws 𝓤 H A W tt; makes = Laws''''''''.makes HnsrAnswer.the-type Laws.the-plain
-    𝓤 H A; in-mem = Local.mem-whole 𝓤 H A W (Declared.row HnsrAnswer.the-type); of-mem = Local.whole-mem 𝓤 H A W (Declared.row HnsrAnswer.the-type); }
+r·5 = StructRow.enum-result HnsrAnswer.the-type Laws.the-laws Laws.the-copy Laws.the-plain tt
+
 abbrev pub ps·6 : List.List (Kinds.PK 0)
-ps·6 = (Value.pVal record { ty = Declared.row HnsrAnswer.the-type; one = Path.refl; val = Laws''''''''.val HnsrAnswer.the-type Laws.the-laws; tells =
-    Laws''''''''.tells HnsrAnswer.the-type Laws.the-laws; still = Laws''''''''.still HnsrAnswer.the-type Laws.the-copy Exit.yes; row = Rows.whole
-    (Declared.row HnsrAnswer.the-type); rd = λ x. x; mk = λ x. x; } λ M 𝓤 H A W. record { copies = Laws''''''''.copy HnsrAnswer.the-type Laws.the-copy
-    𝓤 H A W; lawful = Laws''''''''.lawful HnsrAnswer.the-type Laws.the-laws 𝓤 H A W tt; makes = Laws''''''''.makes HnsrAnswer.the-type Laws.the-plain
-    𝓤 H A; in-mem = Local.mem-whole 𝓤 H A W (Declared.row HnsrAnswer.the-type); of-mem = Local.whole-mem 𝓤 H A W (Declared.row HnsrAnswer.the-type);
-    }) ∷ List.[]
+ps·6 = (StructRow.enum-param HnsrAnswer.the-type Laws.the-laws Laws.the-copy Laws.the-plain tt) ∷ List.[]
+
 abbrev pub r·6 : Kinds.RK 0
 r·6 = Bool.rBool
+
 abbrev pub ps·7 : List.List (Kinds.PK 4)
-ps·7 = (MutSlice.pMutS RelayPending.row 0 tt) ∷ (MutSlice.pMutS RelayCircuit.row 1 tt) ∷ (MutSlice.pMutS InflightAction.row 2 tt) ∷ (MutSlice.pMutS
-    (Referent.rtF (Referent.fInt Syntax.w32)) 3 tt) ∷ (Value.pVal record { ty = Declared'.row OpaqueRelayRuntime.the-type; one = Path.refl; val =
-    Laws''''''''''.val OpaqueRelayRuntime.the-type Laws''''''.the-laws; tells = Laws''''''''''.tells OpaqueRelayRuntime.the-type Laws''''''.the-laws;
-    still = Laws''''''''''.still OpaqueRelayRuntime.the-type Laws''''''.the-copy Exit.yes; row = Rows.whole (Declared'.row
-    OpaqueRelayRuntime.the-type); rd = λ x. x; mk = λ x. x; } λ M 𝓤 H A W. record { copies = Laws''''''''''.copy OpaqueRelayRuntime.the-type
-    Laws''''''.the-copy 𝓤 H A W; lawful = Laws''''''''''.lawful OpaqueRelayRuntime.the-type Laws''''''.the-laws 𝓤 H A W; makes = Laws''''''''''.makes
-    OpaqueRelayRuntime.the-type Laws''''''.the-plain 𝓤 H A; in-mem = Local.mem-whole 𝓤 H A W (Declared'.row OpaqueRelayRuntime.the-type); of-mem =
-    Local.whole-mem 𝓤 H A W (Declared'.row OpaqueRelayRuntime.the-type); }) ∷ (Value.pVal record { ty = Declared'.row Places.the-type; one =
-    Path.refl; val = Laws''''''''''.val Places.the-type Laws''.the-laws; tells = Laws''''''''''.tells Places.the-type Laws''.the-laws; still =
-    Laws''''''''''.still Places.the-type Laws''.the-copy Exit.yes; row = Rows.whole (Declared'.row Places.the-type); rd = λ x. x; mk = λ x. x; } λ M 𝓤
-    H A W. record { copies = Laws''''''''''.copy Places.the-type Laws''.the-copy 𝓤 H A W; lawful = Laws''''''''''.lawful Places.the-type
-    Laws''.the-laws 𝓤 H A W; makes = Laws''''''''''.makes Places.the-type Laws''.the-plain 𝓤 H A; in-mem = Local.mem-whole 𝓤 H A W (Declared'.row
-    Places.the-type); of-mem = Local.whole-mem 𝓤 H A W (Declared'.row Places.the-type); }) ∷ Bool.pBool ∷ (Value.pVal record { ty = Declared'.row
-    Firsts.the-type; one = Path.refl; val = Laws''''''''''.val Firsts.the-type Laws''''.the-laws; tells = Laws''''''''''.tells Firsts.the-type
-    Laws''''.the-laws; still = Laws''''''''''.still Firsts.the-type Laws''''.the-copy Exit.yes; row = Rows.whole (Declared'.row Firsts.the-type); rd =
-    λ x. x; mk = λ x. x; } λ M 𝓤 H A W. record { copies = Laws''''''''''.copy Firsts.the-type Laws''''.the-copy 𝓤 H A W; lawful =
-    Laws''''''''''.lawful Firsts.the-type Laws''''.the-laws 𝓤 H A W; makes = Laws''''''''''.makes Firsts.the-type Laws''''.the-plain 𝓤 H A; in-mem =
-    Local.mem-whole 𝓤 H A W (Declared'.row Firsts.the-type); of-mem = Local.whole-mem 𝓤 H A W (Declared'.row Firsts.the-type); }) ∷ List.[]
+ps·7 = (MutSlice.pMutS RelayPending.row 0 tt) ∷ (MutSlice.pMutS RelayCircuit.row 1 tt) ∷
+    (MutSlice.pMutS InflightAction.row 2 tt) ∷ (MutSlice.pMutS (Referent.rtF (Referent.fInt Syntax.w32)) 3 tt) ∷ (StructRow.param
+    OpaqueRelayRuntime.the-type Laws''''''.the-laws Laws''''''.the-copy Laws''''''.the-plain) ∷ (StructRow.param
+    Places.the-type Laws''.the-laws Laws''.the-copy Laws''.the-plain) ∷ Bool.pBool ∷ (StructRow.param Firsts.the-type
+    Laws''''.the-laws Laws''''.the-copy Laws''''.the-plain) ∷ List.[]
+
 abbrev pub r·7 : Kinds.RK 4
-r·7 = Value.rVal record { ty = Declared'.row Relayed.the-type; one = Path.refl; val = Laws''''''''''.val Relayed.the-type Laws'''''''.the-laws; tells
-    = Laws''''''''''.tells Relayed.the-type Laws'''''''.the-laws; still = Laws''''''''''.still Relayed.the-type Laws'''''''.the-copy Exit.yes; row =
-    Rows.whole (Declared'.row Relayed.the-type); rd = λ x. x; mk = λ x. x; } λ M 𝓤 H A W. record { copies = Laws''''''''''.copy Relayed.the-type
-    Laws'''''''.the-copy 𝓤 H A W; lawful = Laws''''''''''.lawful Relayed.the-type Laws'''''''.the-laws 𝓤 H A W; makes = Laws''''''''''.makes
-    Relayed.the-type Laws'''''''.the-plain 𝓤 H A; in-mem = Local.mem-whole 𝓤 H A W (Declared'.row Relayed.the-type); of-mem = Local.whole-mem 𝓤 H A W
-    (Declared'.row Relayed.the-type); }
+r·7 = StructRow.result Relayed.the-type Laws'''''''.the-laws Laws'''''''.the-copy Laws'''''''.the-plain
+
 abbrev pub ps·8 : List.List (Kinds.PK 0)
-ps·8 = (Value.pVal record { ty = Declared'.row OpaqueRelayRuntime.the-type; one = Path.refl; val = Laws''''''''''.val OpaqueRelayRuntime.the-type
-    Laws''''''.the-laws; tells = Laws''''''''''.tells OpaqueRelayRuntime.the-type Laws''''''.the-laws; still = Laws''''''''''.still
-    OpaqueRelayRuntime.the-type Laws''''''.the-copy Exit.yes; row = Rows.whole (Declared'.row OpaqueRelayRuntime.the-type); rd = λ x. x; mk = λ x. x;
-    } λ M 𝓤 H A W. record { copies = Laws''''''''''.copy OpaqueRelayRuntime.the-type Laws''''''.the-copy 𝓤 H A W; lawful = Laws''''''''''.lawful
-    OpaqueRelayRuntime.the-type Laws''''''.the-laws 𝓤 H A W; makes = Laws''''''''''.makes OpaqueRelayRuntime.the-type Laws''''''.the-plain 𝓤 H A;
-    in-mem = Local.mem-whole 𝓤 H A W (Declared'.row OpaqueRelayRuntime.the-type); of-mem = Local.whole-mem 𝓤 H A W (Declared'.row
-    OpaqueRelayRuntime.the-type); }) ∷ (Value.pVal record { ty = Declared'.row Places.the-type; one = Path.refl; val = Laws''''''''''.val
-    Places.the-type Laws''.the-laws; tells = Laws''''''''''.tells Places.the-type Laws''.the-laws; still = Laws''''''''''.still Places.the-type
-    Laws''.the-copy Exit.yes; row = Rows.whole (Declared'.row Places.the-type); rd = λ x. x; mk = λ x. x; } λ M 𝓤 H A W. record { copies =
-    Laws''''''''''.copy Places.the-type Laws''.the-copy 𝓤 H A W; lawful = Laws''''''''''.lawful Places.the-type Laws''.the-laws 𝓤 H A W; makes =
-    Laws''''''''''.makes Places.the-type Laws''.the-plain 𝓤 H A; in-mem = Local.mem-whole 𝓤 H A W (Declared'.row Places.the-type); of-mem =
-    Local.whole-mem 𝓤 H A W (Declared'.row Places.the-type); }) ∷ List.[]
+ps·8 = (StructRow.param OpaqueRelayRuntime.the-type Laws''''''.the-laws Laws''''''.the-copy Laws''''''.the-plain) ∷ (StructRow.param
+    Places.the-type Laws''.the-laws Laws''.the-copy Laws''.the-plain) ∷ List.[]
+
 abbrev pub r·8 : Kinds.RK 0
-r·8 = Value.rVal record { ty = Declared'.row Relayed.the-type; one = Path.refl; val = Laws''''''''''.val Relayed.the-type Laws'''''''.the-laws; tells
-    = Laws''''''''''.tells Relayed.the-type Laws'''''''.the-laws; still = Laws''''''''''.still Relayed.the-type Laws'''''''.the-copy Exit.yes; row =
-    Rows.whole (Declared'.row Relayed.the-type); rd = λ x. x; mk = λ x. x; } λ M 𝓤 H A W. record { copies = Laws''''''''''.copy Relayed.the-type
-    Laws'''''''.the-copy 𝓤 H A W; lawful = Laws''''''''''.lawful Relayed.the-type Laws'''''''.the-laws 𝓤 H A W; makes = Laws''''''''''.makes
-    Relayed.the-type Laws'''''''.the-plain 𝓤 H A; in-mem = Local.mem-whole 𝓤 H A W (Declared'.row Relayed.the-type); of-mem = Local.whole-mem 𝓤 H A W
-    (Declared'.row Relayed.the-type); }
+r·8 = StructRow.result Relayed.the-type Laws'''''''.the-laws Laws'''''''.the-copy Laws'''''''.the-plain
+
 abbrev pub ps·9 : List.List (Kinds.PK 0)
-ps·9 = (Value.pVal record { ty = Declared'.row OpaqueRelayRuntime.the-type; one = Path.refl; val = Laws''''''''''.val OpaqueRelayRuntime.the-type
-    Laws''''''.the-laws; tells = Laws''''''''''.tells OpaqueRelayRuntime.the-type Laws''''''.the-laws; still = Laws''''''''''.still
-    OpaqueRelayRuntime.the-type Laws''''''.the-copy Exit.yes; row = Rows.whole (Declared'.row OpaqueRelayRuntime.the-type); rd = λ x. x; mk = λ x. x;
-    } λ M 𝓤 H A W. record { copies = Laws''''''''''.copy OpaqueRelayRuntime.the-type Laws''''''.the-copy 𝓤 H A W; lawful = Laws''''''''''.lawful
-    OpaqueRelayRuntime.the-type Laws''''''.the-laws 𝓤 H A W; makes = Laws''''''''''.makes OpaqueRelayRuntime.the-type Laws''''''.the-plain 𝓤 H A;
-    in-mem = Local.mem-whole 𝓤 H A W (Declared'.row OpaqueRelayRuntime.the-type); of-mem = Local.whole-mem 𝓤 H A W (Declared'.row
-    OpaqueRelayRuntime.the-type); }) ∷ (Value.pVal record { ty = Declared'.row Places.the-type; one = Path.refl; val = Laws''''''''''.val
-    Places.the-type Laws''.the-laws; tells = Laws''''''''''.tells Places.the-type Laws''.the-laws; still = Laws''''''''''.still Places.the-type
-    Laws''.the-copy Exit.yes; row = Rows.whole (Declared'.row Places.the-type); rd = λ x. x; mk = λ x. x; } λ M 𝓤 H A W. record { copies =
-    Laws''''''''''.copy Places.the-type Laws''.the-copy 𝓤 H A W; lawful = Laws''''''''''.lawful Places.the-type Laws''.the-laws 𝓤 H A W; makes =
-    Laws''''''''''.makes Places.the-type Laws''.the-plain 𝓤 H A; in-mem = Local.mem-whole 𝓤 H A W (Declared'.row Places.the-type); of-mem =
-    Local.whole-mem 𝓤 H A W (Declared'.row Places.the-type); }) ∷ (Value.pVal record { ty = Declared.row HnsrAnswer.the-type; one = Path.refl; val =
-    Laws''''''''.val HnsrAnswer.the-type Laws.the-laws; tells = Laws''''''''.tells HnsrAnswer.the-type Laws.the-laws; still = Laws''''''''.still
-    HnsrAnswer.the-type Laws.the-copy Exit.yes; row = Rows.whole (Declared.row HnsrAnswer.the-type); rd = λ x. x; mk = λ x. x; } λ M 𝓤 H A W. record {
-    copies = Laws''''''''.copy HnsrAnswer.the-type Laws.the-copy 𝓤 H A W; lawful = Laws''''''''.lawful HnsrAnswer.the-type Laws.the-laws 𝓤 H A W tt;
-    makes = Laws''''''''.makes HnsrAnswer.the-type Laws.the-plain 𝓤 H A; in-mem = Local.mem-whole 𝓤 H A W (Declared.row HnsrAnswer.the-type); of-mem =
-    Local.whole-mem 𝓤 H A W (Declared.row HnsrAnswer.the-type); }) ∷ List.[]
+ps·9 = (StructRow.param OpaqueRelayRuntime.the-type Laws''''''.the-laws Laws''''''.the-copy Laws''''''.the-plain) ∷ (StructRow.param
+    Places.the-type Laws''.the-laws Laws''.the-copy Laws''.the-plain) ∷ (StructRow.enum-param HnsrAnswer.the-type
+    Laws.the-laws Laws.the-copy Laws.the-plain tt) ∷ List.[]
+
 abbrev pub r·9 : Kinds.RK 0
-r·9 = Value.rVal record { ty = Declared'.row Relayed.the-type; one = Path.refl; val = Laws''''''''''.val Relayed.the-type Laws'''''''.the-laws; tells
-    = Laws''''''''''.tells Relayed.the-type Laws'''''''.the-laws; still = Laws''''''''''.still Relayed.the-type Laws'''''''.the-copy Exit.yes; row =
-    Rows.whole (Declared'.row Relayed.the-type); rd = λ x. x; mk = λ x. x; } λ M 𝓤 H A W. record { copies = Laws''''''''''.copy Relayed.the-type
-    Laws'''''''.the-copy 𝓤 H A W; lawful = Laws''''''''''.lawful Relayed.the-type Laws'''''''.the-laws 𝓤 H A W; makes = Laws''''''''''.makes
-    Relayed.the-type Laws'''''''.the-plain 𝓤 H A; in-mem = Local.mem-whole 𝓤 H A W (Declared'.row Relayed.the-type); of-mem = Local.whole-mem 𝓤 H A W
-    (Declared'.row Relayed.the-type); }
+r·9 = StructRow.result Relayed.the-type Laws'''''''.the-laws Laws'''''''.the-copy Laws'''''''.the-plain
+
 abbrev pub hs : List.List Syntax.Home
-hs = Syntax.valueLocal ∷ Syntax.valueLocal ∷ Syntax.valueLocal ∷ Syntax.valueLocal ∷ Syntax.valueLocal ∷ Syntax.valueLocal ∷ Syntax.valueLocal ∷
-    Syntax.valueLocal ∷ Syntax.valueLocal ∷ Syntax.valueLocal ∷ Syntax.valueLocal ∷ Syntax.valueLocal ∷ Syntax.valueLocal ∷ Syntax.valueLocal ∷
-    Syntax.valueLocal ∷ Syntax.valueLocal ∷ Syntax.valueLocal ∷ Syntax.valueLocal ∷ Syntax.valueLocal ∷ Syntax.valueLocal ∷ Syntax.valueLocal ∷
-    Syntax.valueLocal ∷ Syntax.valueLocal ∷ Syntax.valueLocal ∷ Syntax.valueLocal ∷ Syntax.valueLocal ∷ Syntax.valueLocal ∷ Syntax.valueLocal ∷
-    Syntax.valueLocal ∷ Syntax.valueLocal ∷ Syntax.valueLocal ∷ Syntax.valueLocal ∷ Syntax.valueLocal ∷ Syntax.valueLocal ∷ Syntax.valueLocal ∷
-    List.[]
+hs = Syntax.valueLocal ∷ Syntax.valueLocal ∷ Syntax.valueLocal ∷ Syntax.valueLocal ∷ Syntax.valueLocal ∷
+    Syntax.valueLocal ∷ Syntax.valueLocal ∷ Syntax.valueLocal ∷ Syntax.valueLocal ∷ Syntax.valueLocal ∷
+    Syntax.valueLocal ∷ Syntax.valueLocal ∷ Syntax.valueLocal ∷ Syntax.valueLocal ∷ Syntax.valueLocal ∷
+    Syntax.valueLocal ∷ Syntax.valueLocal ∷ Syntax.valueLocal ∷ Syntax.valueLocal ∷ Syntax.valueLocal ∷
+    Syntax.valueLocal ∷ Syntax.valueLocal ∷ Syntax.valueLocal ∷ Syntax.valueLocal ∷ Syntax.valueLocal ∷
+    Syntax.valueLocal ∷ Syntax.valueLocal ∷ Syntax.valueLocal ∷ Syntax.valueLocal ∷ Syntax.valueLocal ∷
+    Syntax.valueLocal ∷ Syntax.valueLocal ∷ Syntax.valueLocal ∷ Syntax.valueLocal ∷ Syntax.valueLocal ∷ List.[]
+
 abbrev b0 : Syntax.Body
 b0 = Syntax.assign (Syntax.place 9 List.[]) (Syntax.rvOpd (Syntax.copy (Syntax.place 5 ((Syntax.field 4) ∷ List.[]))))
+
 abbrev b1 : Syntax.Body
 b1 = Syntax.call "hnsr_circuit::question::used" List.[] (Syntax.place 10 List.[])
+
 abbrev b2 : Syntax.Body
-b2 = Syntax.assign (Syntax.place 19 List.[]) (Syntax.addrOf (Syntax.place 1 ((Syntax.field 0) ∷ (Syntax.deref RelayPending.ty) ∷ List.[])))
+b2 = Syntax.assign (Syntax.place 19 List.[]) (Syntax.addrOf (Syntax.place 1 ((Syntax.field 0) ∷
+    (Syntax.deref RelayPending.ty) ∷ List.[])))
+
 abbrev b3 : Syntax.Body
-b3 = Syntax.assign (Syntax.place 20 List.[]) (Syntax.aggregate ((Syntax.copy (Syntax.place 19 List.[])) ∷ (Syntax.copy (Syntax.place 1 ((Syntax.field
-    1) ∷ List.[]))) ∷ List.[]))
+b3 = Syntax.assign (Syntax.place 20 List.[]) (Syntax.aggregate ((Syntax.copy (Syntax.place 19 List.[])) ∷
+    (Syntax.copy (Syntax.place 1 ((Syntax.field 1) ∷ List.[]))) ∷ List.[]))
+
 abbrev b4 : Syntax.Body
-b4 = Syntax.assign (Syntax.place 21 List.[]) (Syntax.addrOf (Syntax.place 2 ((Syntax.field 0) ∷ (Syntax.deref RelayCircuit.ty) ∷ List.[])))
+b4 = Syntax.assign (Syntax.place 21 List.[]) (Syntax.addrOf (Syntax.place 2 ((Syntax.field 0) ∷
+    (Syntax.deref RelayCircuit.ty) ∷ List.[])))
+
 abbrev b5 : Syntax.Body
-b5 = Syntax.assign (Syntax.place 22 List.[]) (Syntax.aggregate ((Syntax.copy (Syntax.place 21 List.[])) ∷ (Syntax.copy (Syntax.place 2 ((Syntax.field
-    1) ∷ List.[]))) ∷ List.[]))
+b5 = Syntax.assign (Syntax.place 22 List.[]) (Syntax.aggregate ((Syntax.copy (Syntax.place 21 List.[])) ∷
+    (Syntax.copy (Syntax.place 2 ((Syntax.field 1) ∷ List.[]))) ∷ List.[]))
+
 abbrev b6 : Syntax.Body
 b6 = Syntax.assign (Syntax.place 23 List.[]) (Syntax.rvOpd (Syntax.copy (Syntax.place 3 ((Syntax.field 1) ∷ List.[]))))
+
 abbrev b7 : Syntax.Body
 b7 = Syntax.assign (Syntax.place 24 List.[]) (Syntax.rvOpd (Syntax.copy (Syntax.place 4 ((Syntax.field 1) ∷ List.[]))))
+
 abbrev b8 : Syntax.Body
-b8 = Syntax.call "hnsr_circuit::revoking_calls::entry_answer" ((Syntax.copy (Syntax.place 20 List.[])) ∷ (Syntax.copy (Syntax.place 22 List.[])) ∷
-    (Syntax.copy (Syntax.place 6 List.[])) ∷ (Syntax.copy (Syntax.place 23 List.[])) ∷ (Syntax.copy (Syntax.place 24 List.[])) ∷ (Syntax.copy
-    (Syntax.place 9 List.[])) ∷ (Syntax.copy (Syntax.place 10 List.[])) ∷ List.[]) (Syntax.place 11 List.[])
+b8 = Syntax.call "hnsr_circuit::revoking_calls::entry_answer" ((Syntax.copy (Syntax.place 20 List.[])) ∷
+    (Syntax.copy (Syntax.place 22 List.[])) ∷ (Syntax.copy (Syntax.place 6 List.[])) ∷
+    (Syntax.copy (Syntax.place 23 List.[])) ∷ (Syntax.copy (Syntax.place 24 List.[])) ∷
+    (Syntax.copy (Syntax.place 9 List.[])) ∷ (Syntax.copy (Syntax.place 10 List.[])) ∷ List.[])
+    (Syntax.place 11 List.[])
+
 abbrev b9 : Syntax.Body
 b9 = Syntax.assign (Syntax.place 12 List.[]) (Syntax.rvOpd (Syntax.copy (Syntax.place 11 ((Syntax.field 0) ∷ List.[]))))
+
 abbrev b10 : Syntax.Body
-b10 = Syntax.assign (Syntax.place 13 List.[]) (Syntax.rvOpd (Syntax.copy (Syntax.place 11 ((Syntax.field 1) ∷ List.[]))))
+b10 = Syntax.assign (Syntax.place 13 List.[]) (Syntax.rvOpd (Syntax.copy
+    (Syntax.place 11 ((Syntax.field 1) ∷ List.[]))))
+
 abbrev b11 : Syntax.Body
-b11 = Syntax.call "hnsr_circuit::acknowledge::generation_answer" ((Syntax.copy (Syntax.place 5 ((Syntax.field 1) ∷ List.[]))) ∷ (Syntax.copy
-    (Syntax.place 7 List.[])) ∷ List.[]) (Syntax.place 14 List.[])
+b11 = Syntax.call "hnsr_circuit::acknowledge::generation_answer" ((Syntax.copy
+    (Syntax.place 5 ((Syntax.field 1) ∷ List.[]))) ∷ (Syntax.copy (Syntax.place 7 List.[])) ∷ List.[])
+    (Syntax.place 14 List.[])
+
 abbrev b12 : Syntax.Body
-b12 = Syntax.call "hnsr_circuit::revoking_calls::changed" ((Syntax.copy (Syntax.place 5 ((Syntax.field 2) ∷ List.[]))) ∷ (Syntax.copy (Syntax.place 8
-    List.[])) ∷ List.[]) (Syntax.place 15 List.[])
+b12 = Syntax.call "hnsr_circuit::revoking_calls::changed" ((Syntax.copy (Syntax.place 5 ((Syntax.field 2) ∷ List.[])))
+    ∷ (Syntax.copy (Syntax.place 8 List.[])) ∷ List.[]) (Syntax.place 15 List.[])
+
 abbrev b13 : Syntax.Body
-b13 = Syntax.call "hnsr_circuit::revoking_calls::change_answer" ((Syntax.copy (Syntax.place 5 ((Syntax.field 1) ∷ List.[]))) ∷ (Syntax.copy
-    (Syntax.place 15 List.[])) ∷ List.[]) (Syntax.place 16 List.[])
+b13 = Syntax.call "hnsr_circuit::revoking_calls::change_answer" ((Syntax.copy
+    (Syntax.place 5 ((Syntax.field 1) ∷ List.[]))) ∷ (Syntax.copy (Syntax.place 15 List.[])) ∷ List.[])
+    (Syntax.place 16 List.[])
+
 abbrev b14 : Syntax.Body
-b14 = Syntax.call "hnsr_circuit::answer::first_refusal" ((Syntax.copy (Syntax.place 14 List.[])) ∷ (Syntax.copy (Syntax.place 16 List.[])) ∷ List.[])
-    (Syntax.place 17 List.[])
+b14 = Syntax.call "hnsr_circuit::answer::first_refusal" ((Syntax.copy (Syntax.place 14 List.[])) ∷
+    (Syntax.copy (Syntax.place 16 List.[])) ∷ List.[]) (Syntax.place 17 List.[])
+
 abbrev b15 : Syntax.Body
-b15 = Syntax.call "hnsr_circuit::answer::first_refusal" ((Syntax.copy (Syntax.place 12 List.[])) ∷ (Syntax.copy (Syntax.place 17 List.[])) ∷ List.[])
-    (Syntax.place 18 List.[])
+b15 = Syntax.call "hnsr_circuit::answer::first_refusal" ((Syntax.copy (Syntax.place 12 List.[])) ∷
+    (Syntax.copy (Syntax.place 17 List.[])) ∷ List.[]) (Syntax.place 18 List.[])
+
 abbrev b16 : Syntax.Body
-b16 = Syntax.call "hnsr_circuit::answer::is_taken" ((Syntax.copy (Syntax.place 18 List.[])) ∷ List.[]) (Syntax.place 25 List.[])
+b16 = Syntax.call "hnsr_circuit::answer::is_taken" ((Syntax.copy (Syntax.place 18 List.[])) ∷ List.[])
+    (Syntax.place 25 List.[])
+
 abbrev b17 : Syntax.Body
 b17 = Syntax.assign (Syntax.place 26 List.[]) (Syntax.rvOpd (Syntax.copy (Syntax.place 15 List.[])))
+
 abbrev b18 : Syntax.Body
-b18 = Syntax.assign (Syntax.place 27 List.[]) (Syntax.addrOf (Syntax.place 1 ((Syntax.field 0) ∷ (Syntax.deref RelayPending.ty) ∷ List.[])))
+b18 = Syntax.assign (Syntax.place 27 List.[]) (Syntax.addrOf (Syntax.place 1 ((Syntax.field 0) ∷
+    (Syntax.deref RelayPending.ty) ∷ List.[])))
+
 abbrev b19 : Syntax.Body
-b19 = Syntax.assign (Syntax.place 28 List.[]) (Syntax.aggregate ((Syntax.copy (Syntax.place 27 List.[])) ∷ (Syntax.copy (Syntax.place 1 ((Syntax.field
-    1) ∷ List.[]))) ∷ List.[]))
+b19 = Syntax.assign (Syntax.place 28 List.[]) (Syntax.aggregate ((Syntax.copy (Syntax.place 27 List.[])) ∷
+    (Syntax.copy (Syntax.place 1 ((Syntax.field 1) ∷ List.[]))) ∷ List.[]))
+
 abbrev b20 : Syntax.Body
-b20 = Syntax.assign (Syntax.place 29 List.[]) (Syntax.addrOf (Syntax.place 2 ((Syntax.field 0) ∷ (Syntax.deref RelayCircuit.ty) ∷ List.[])))
+b20 = Syntax.assign (Syntax.place 29 List.[]) (Syntax.addrOf (Syntax.place 2 ((Syntax.field 0) ∷
+    (Syntax.deref RelayCircuit.ty) ∷ List.[])))
+
 abbrev b21 : Syntax.Body
-b21 = Syntax.assign (Syntax.place 30 List.[]) (Syntax.aggregate ((Syntax.copy (Syntax.place 29 List.[])) ∷ (Syntax.copy (Syntax.place 2 ((Syntax.field
-    1) ∷ List.[]))) ∷ List.[]))
+b21 = Syntax.assign (Syntax.place 30 List.[]) (Syntax.aggregate ((Syntax.copy (Syntax.place 29 List.[])) ∷
+    (Syntax.copy (Syntax.place 2 ((Syntax.field 1) ∷ List.[]))) ∷ List.[]))
+
 abbrev b22 : Syntax.Body
-b22 = Syntax.assign (Syntax.place 31 List.[]) (Syntax.addrOf (Syntax.place 3 ((Syntax.field 0) ∷ (Syntax.deref InflightAction.ty) ∷ List.[])))
+b22 = Syntax.assign (Syntax.place 31 List.[]) (Syntax.addrOf (Syntax.place 3 ((Syntax.field 0) ∷
+    (Syntax.deref InflightAction.ty) ∷ List.[])))
+
 abbrev b23 : Syntax.Body
-b23 = Syntax.assign (Syntax.place 32 List.[]) (Syntax.aggregate ((Syntax.copy (Syntax.place 31 List.[])) ∷ (Syntax.copy (Syntax.place 3 ((Syntax.field
-    1) ∷ List.[]))) ∷ List.[]))
+b23 = Syntax.assign (Syntax.place 32 List.[]) (Syntax.aggregate ((Syntax.copy (Syntax.place 31 List.[])) ∷
+    (Syntax.copy (Syntax.place 3 ((Syntax.field 1) ∷ List.[]))) ∷ List.[]))
+
 abbrev b24 : Syntax.Body
-b24 = Syntax.assign (Syntax.place 33 List.[]) (Syntax.addrOf (Syntax.place 4 ((Syntax.field 0) ∷ (Syntax.deref (Syntax.tyInt Syntax.w32)) ∷ List.[])))
+b24 = Syntax.assign (Syntax.place 33 List.[]) (Syntax.addrOf (Syntax.place 4 ((Syntax.field 0) ∷
+    (Syntax.deref (Syntax.tyInt Syntax.w32)) ∷ List.[])))
+
 abbrev b25 : Syntax.Body
-b25 = Syntax.assign (Syntax.place 34 List.[]) (Syntax.aggregate ((Syntax.copy (Syntax.place 33 List.[])) ∷ (Syntax.copy (Syntax.place 4 ((Syntax.field
-    1) ∷ List.[]))) ∷ List.[]))
+b25 = Syntax.assign (Syntax.place 34 List.[]) (Syntax.aggregate ((Syntax.copy (Syntax.place 33 List.[])) ∷
+    (Syntax.copy (Syntax.place 4 ((Syntax.field 1) ∷ List.[]))) ∷ List.[]))
+
 abbrev b26 : Syntax.Body
-b26 = Syntax.call "hnsr_circuit::revoking_calls::switch_to" ((Syntax.copy (Syntax.place 28 List.[])) ∷ (Syntax.copy (Syntax.place 30 List.[])) ∷
-    (Syntax.copy (Syntax.place 32 List.[])) ∷ (Syntax.copy (Syntax.place 34 List.[])) ∷ (Syntax.copy (Syntax.place 5 List.[])) ∷ (Syntax.copy
-    (Syntax.place 6 List.[])) ∷ (Syntax.copy (Syntax.place 8 List.[])) ∷ (Syntax.copy (Syntax.place 13 List.[])) ∷ List.[]) (Syntax.place 0 List.[])
+b26 = Syntax.call "hnsr_circuit::revoking_calls::switch_to" ((Syntax.copy (Syntax.place 28 List.[])) ∷
+    (Syntax.copy (Syntax.place 30 List.[])) ∷ (Syntax.copy (Syntax.place 32 List.[])) ∷
+    (Syntax.copy (Syntax.place 34 List.[])) ∷ (Syntax.copy (Syntax.place 5 List.[])) ∷
+    (Syntax.copy (Syntax.place 6 List.[])) ∷ (Syntax.copy (Syntax.place 8 List.[])) ∷
+    (Syntax.copy (Syntax.place 13 List.[])) ∷ List.[]) (Syntax.place 0 List.[])
+
 abbrev b27 : Syntax.Body
 b27 = Syntax.return
+
 abbrev b28 : Syntax.Body
 b28 = Syntax.seq b26 b27
+
 abbrev b29 : Syntax.Body
 b29 = Syntax.seq b25 b28
+
 abbrev b30 : Syntax.Body
 b30 = Syntax.seq b24 b29
+
 abbrev b31 : Syntax.Body
 b31 = Syntax.seq b23 b30
+
 abbrev b32 : Syntax.Body
 b32 = Syntax.seq b22 b31
+
 abbrev b33 : Syntax.Body
 b33 = Syntax.seq b21 b32
+
 abbrev b34 : Syntax.Body
 b34 = Syntax.seq b20 b33
+
 abbrev b35 : Syntax.Body
 b35 = Syntax.seq b19 b34
+
 abbrev b36 : Syntax.Body
 b36 = Syntax.seq b18 b35
+
 abbrev b37 : Syntax.Body
 b37 = Syntax.skip
+
 abbrev b38 : Syntax.Body
 b38 = Syntax.cond (Syntax.copy (Syntax.place 26 List.[])) b36 b37
+
 abbrev b39 : Syntax.Body
-b39 = Syntax.call "hnsr_circuit::revoking_calls::taken_with" ((Syntax.copy (Syntax.place 5 List.[])) ∷ (Syntax.copy (Syntax.place 6 List.[])) ∷
-    List.[]) (Syntax.place 0 List.[])
+b39 = Syntax.call "hnsr_circuit::revoking_calls::taken_with" ((Syntax.copy (Syntax.place 5 List.[])) ∷
+    (Syntax.copy (Syntax.place 6 List.[])) ∷ List.[]) (Syntax.place 0 List.[])
+
 abbrev b40 : Syntax.Body
 b40 = Syntax.return
+
 abbrev b41 : Syntax.Body
 b41 = Syntax.seq b39 b40
+
 abbrev b42 : Syntax.Body
 b42 = Syntax.seq b38 b41
+
 abbrev b43 : Syntax.Body
 b43 = Syntax.seq b17 b42
+
 abbrev b44 : Syntax.Body
 b44 = Syntax.skip
+
 abbrev b45 : Syntax.Body
 b45 = Syntax.cond (Syntax.copy (Syntax.place 25 List.[])) b43 b44
+
 abbrev b46 : Syntax.Body
-b46 = Syntax.call "hnsr_circuit::revoking_calls::refused" ((Syntax.copy (Syntax.place 5 List.[])) ∷ (Syntax.copy (Syntax.place 6 List.[])) ∷
-    (Syntax.copy (Syntax.place 18 List.[])) ∷ List.[]) (Syntax.place 0 List.[])
+b46 = Syntax.call "hnsr_circuit::revoking_calls::refused" ((Syntax.copy (Syntax.place 5 List.[])) ∷
+    (Syntax.copy (Syntax.place 6 List.[])) ∷ (Syntax.copy (Syntax.place 18 List.[])) ∷ List.[])
+    (Syntax.place 0 List.[])
+
 abbrev b47 : Syntax.Body
 b47 = Syntax.return
+
 abbrev b48 : Syntax.Body
 b48 = Syntax.seq b46 b47
+
 abbrev b49 : Syntax.Body
 b49 = Syntax.seq b45 b48
+
 abbrev b50 : Syntax.Body
 b50 = Syntax.seq b16 b49
+
 abbrev b51 : Syntax.Body
 b51 = Syntax.seq b15 b50
+
 abbrev b52 : Syntax.Body
 b52 = Syntax.seq b14 b51
+
 abbrev b53 : Syntax.Body
 b53 = Syntax.seq b13 b52
+
 abbrev b54 : Syntax.Body
 b54 = Syntax.seq b12 b53
+
 abbrev b55 : Syntax.Body
 b55 = Syntax.seq b11 b54
+
 abbrev b56 : Syntax.Body
 b56 = Syntax.seq b10 b55
+
 abbrev b57 : Syntax.Body
 b57 = Syntax.seq b9 b56
+
 abbrev b58 : Syntax.Body
 b58 = Syntax.seq b8 b57
+
 abbrev b59 : Syntax.Body
 b59 = Syntax.seq b7 b58
+
 abbrev b60 : Syntax.Body
 b60 = Syntax.seq b6 b59
+
 abbrev b61 : Syntax.Body
 b61 = Syntax.seq b5 b60
+
 abbrev b62 : Syntax.Body
 b62 = Syntax.seq b4 b61
+
 abbrev b63 : Syntax.Body
 b63 = Syntax.seq b3 b62
+
 abbrev b64 : Syntax.Body
 b64 = Syntax.seq b2 b63
+
 abbrev b65 : Syntax.Body
 b65 = Syntax.seq b1 b64
+
 abbrev b66 : Syntax.Body
 b66 = Syntax.seq b0 b65
+
 abbrev pub body : Syntax.Body
 body = b66
+
 abbrev pub Claims : Type 1
-Claims = Kinds.In 0 ps·0 × Kinds.Out 0 ps·0 r·0 × Kinds.In 2 ps·1 × Kinds.Out 2 ps·1 r·1 × Kinds.In 0 ps·2 × Kinds.Out 0 ps·2 r·2 × Kinds.In 0 ps·3 ×
-    Kinds.Out 0 ps·3 r·3 × Kinds.In 0 ps·4 × Kinds.Out 0 ps·4 r·4 × Kinds.In 0 ps·5 × Kinds.Out 0 ps·5 r·5 × Kinds.In 0 ps·6 × Kinds.Out 0 ps·6 r·6 ×
-    Kinds.In 4 ps·7 × Kinds.Out 4 ps·7 r·7 × Kinds.In 0 ps·8 × Kinds.Out 0 ps·8 r·8 × Kinds.In 0 ps·9 × Kinds.Out 0 ps·9 r·9
+Claims = Kinds.In 0 ps·0 × Kinds.Out 0 ps·0 r·0 × Kinds.In 2 ps·1 × Kinds.Out 2 ps·1 r·1 × Kinds.In 0 ps·2 × Kinds.Out
+    0 ps·2 r·2 × Kinds.In 0 ps·3 × Kinds.Out 0 ps·3 r·3 × Kinds.In 0 ps·4 × Kinds.Out 0 ps·4 r·4 × Kinds.In 0 ps·5 ×
+    Kinds.Out 0 ps·5 r·5 × Kinds.In 0 ps·6 × Kinds.Out 0 ps·6 r·6 × Kinds.In 4 ps·7 × Kinds.Out 4 ps·7 r·7 × Kinds.In 0
+    ps·8 × Kinds.Out 0 ps·8 r·8 × Kinds.In 0 ps·9 × Kinds.Out 0 ps·9 r·9
+
 abbrev e0 : Row.Entry
 e0 = (0, Rows.any-gone Laws'''''''.mir)
+
 abbrev e1 : Row.Entry
 e1 = (1, Mut.mslice RelayPending.row ref6 0)
+
 abbrev e2 : Row.Entry
 e2 = (2, Mut.mslice RelayCircuit.row ref7 1)
+
 abbrev e3 : Row.Entry
 e3 = (3, Mut.mslice InflightAction.row ref8 2)
+
 abbrev e4 : Row.Entry
 e4 = (4, Mut.mslice (Referent.rtF (Referent.fInt Syntax.w32)) ref9 3)
+
 abbrev e5 : Row.Entry
 e5 = (5, Rows.whole (Declared'.row OpaqueRelayRuntime.the-type))
+
 abbrev e6 : Row.Entry
 e6 = (6, Rows.whole (Declared'.row Places.the-type))
+
 abbrev e7 : Row.Entry
 e7 = (7, Rows.sc-here (Row.sInt Syntax.w64))
+
 abbrev e8 : Row.Entry
 e8 = (8, Rows.sc-here Row.sBool)
+
 abbrev e9 : Row.Entry
 e9 = (9, Rows.any-gone Laws'.mir)
+
 abbrev e10 : Row.Entry
 e10 = (10, Rows.any-gone Laws'''.mir)
+
 abbrev e11 : Row.Entry
 e11 = (11, Rows.any-gone Laws'''''.mir)
+
 abbrev e12 : Row.Entry
 e12 = (12, Rows.any-gone Laws.mir)
+
 abbrev e13 : Row.Entry
 e13 = (13, Rows.any-gone Laws''''.mir)
+
 abbrev e14 : Row.Entry
 e14 = (14, Rows.any-gone Laws.mir)
+
 abbrev e15 : Row.Entry
 e15 = (15, Rows.any-gone Syntax.tyBool)
+
 abbrev e16 : Row.Entry
 e16 = (16, Rows.any-gone Laws.mir)
+
 abbrev e17 : Row.Entry
 e17 = (17, Rows.any-gone Laws.mir)
+
 abbrev e18 : Row.Entry
 e18 = (18, Rows.any-gone Laws.mir)
+
 abbrev e19 : Row.Entry
 e19 = (19, Rows.any-gone ref0)
+
 abbrev e20 : Row.Entry
-e20 = (20, Rows.any-gone (Syntax.tyStruct (38 ∷ 91 ∷ 93 ∷ List.[]) (Syntax.tcons ref0 (Syntax.tcons (Syntax.tyInt Syntax.w64) Syntax.tnil))))
+e20 = (20, Rows.any-gone slice0)
+
 abbrev e21 : Row.Entry
 e21 = (21, Rows.any-gone ref1)
+
 abbrev e22 : Row.Entry
-e22 = (22, Rows.any-gone (Syntax.tyStruct (38 ∷ 91 ∷ 93 ∷ List.[]) (Syntax.tcons ref1 (Syntax.tcons (Syntax.tyInt Syntax.w64) Syntax.tnil))))
+e22 = (22, Rows.any-gone slice1)
+
 abbrev e23 : Row.Entry
 e23 = (23, Rows.any-gone (Syntax.tyInt Syntax.w64))
+
 abbrev e24 : Row.Entry
 e24 = (24, Rows.any-gone (Syntax.tyInt Syntax.w64))
+
 abbrev e25 : Row.Entry
 e25 = (25, Rows.any-gone Syntax.tyBool)
+
 abbrev e26 : Row.Entry
 e26 = (26, Rows.any-gone Syntax.tyBool)
+
 abbrev e27 : Row.Entry
 e27 = (27, Rows.any-gone ref2)
+
 abbrev e28 : Row.Entry
-e28 = (28, Rows.any-gone (Syntax.tyStruct (38 ∷ 91 ∷ 93 ∷ List.[]) (Syntax.tcons ref2 (Syntax.tcons (Syntax.tyInt Syntax.w64) Syntax.tnil))))
+e28 = (28, Rows.any-gone slice2)
+
 abbrev e29 : Row.Entry
 e29 = (29, Rows.any-gone ref3)
+
 abbrev e30 : Row.Entry
-e30 = (30, Rows.any-gone (Syntax.tyStruct (38 ∷ 91 ∷ 93 ∷ List.[]) (Syntax.tcons ref3 (Syntax.tcons (Syntax.tyInt Syntax.w64) Syntax.tnil))))
+e30 = (30, Rows.any-gone slice3)
+
 abbrev e31 : Row.Entry
 e31 = (31, Rows.any-gone ref4)
+
 abbrev e32 : Row.Entry
-e32 = (32, Rows.any-gone (Syntax.tyStruct (38 ∷ 91 ∷ 93 ∷ List.[]) (Syntax.tcons ref4 (Syntax.tcons (Syntax.tyInt Syntax.w64) Syntax.tnil))))
+e32 = (32, Rows.any-gone slice4)
+
 abbrev e33 : Row.Entry
 e33 = (33, Rows.any-gone ref5)
+
 abbrev e34 : Row.Entry
-e34 = (34, Rows.any-gone (Syntax.tyStruct (38 ∷ 91 ∷ 93 ∷ List.[]) (Syntax.tcons ref5 (Syntax.tcons (Syntax.tyInt Syntax.w64) Syntax.tnil))))
+e34 = (34, Rows.any-gone slice5)
+
 abbrev e0·1 : Row.Entry
 e0·1 = (0, Rows.whole (Declared'.row Relayed.the-type))
+
 abbrev e5·1 : Row.Entry
 e5·1 = (5, Rows.any-gone Laws''''''.mir)
+
 abbrev e6·1 : Row.Entry
 e6·1 = (6, Rows.any-gone Laws''.mir)
+
 abbrev e7·1 : Row.Entry
 e7·1 = (7, Rows.any-gone (Syntax.tyInt Syntax.w64))
+
 abbrev e8·1 : Row.Entry
 e8·1 = (8, Rows.any-gone Syntax.tyBool)
+
 abbrev e9·1 : Row.Entry
 e9·1 = (9, Rows.whole (Declared'.row OpaqueRelayConfig.the-type))
+
 abbrev e10·1 : Row.Entry
 e10·1 = (10, Rows.whole (Declared'.row Question.the-type))
+
 abbrev e1·1 : Row.Entry
 e1·1 = (1, Reshare.mslice-owedS RelayPending.row ref6 0 4 Row.off)
+
 abbrev e19·1 : Row.Entry
 e19·1 = (19, Relend.ssptr RelayPending.row ref0 4)
+
 abbrev e20·1 : Row.Entry
 e20·1 = (20, Rows.sslice RelayPending.row ref0 4)
+
 abbrev e2·1 : Row.Entry
 e2·1 = (2, Reshare.mslice-owedS RelayCircuit.row ref7 1 5 Row.off)
+
 abbrev e21·1 : Row.Entry
 e21·1 = (21, Relend.ssptr RelayCircuit.row ref1 5)
+
 abbrev e22·1 : Row.Entry
 e22·1 = (22, Rows.sslice RelayCircuit.row ref1 5)
+
 abbrev e23·1 : Row.Entry
 e23·1 = (23, Rows.sc-here (Row.sInt Syntax.w64))
+
 abbrev e24·1 : Row.Entry
 e24·1 = (24, Rows.sc-here (Row.sInt Syntax.w64))
+
 abbrev e11·1 : Row.Entry
 e11·1 = (11, Rows.whole (Declared'.row Entered.the-type))
+
 abbrev e12·1 : Row.Entry
 e12·1 = (12, Rows.whole (Declared.row HnsrAnswer.the-type))
+
 abbrev e13·1 : Row.Entry
 e13·1 = (13, Rows.whole (Declared'.row Firsts.the-type))
+
 abbrev e14·1 : Row.Entry
 e14·1 = (14, Rows.whole (Declared.row HnsrAnswer.the-type))
+
 abbrev e15·1 : Row.Entry
 e15·1 = (15, Rows.sc-here Row.sBool)
+
 abbrev e16·1 : Row.Entry
 e16·1 = (16, Rows.whole (Declared.row HnsrAnswer.the-type))
+
 abbrev e17·1 : Row.Entry
 e17·1 = (17, Rows.whole (Declared.row HnsrAnswer.the-type))
+
 abbrev e18·1 : Row.Entry
 e18·1 = (18, Rows.whole (Declared.row HnsrAnswer.the-type))
+
 abbrev e25·1 : Row.Entry
 e25·1 = (25, Rows.sc-here Row.sBool)
+
 abbrev e26·1 : Row.Entry
 e26·1 = (26, Rows.sc-here Row.sBool)
+
 abbrev e1·2 : Row.Entry
 e1·2 = (1, Relend.mslice-owed RelayPending.row ref6 0 6 Row.off)
+
 abbrev e27·1 : Row.Entry
 e27·1 = (27, Relend.msptr RelayPending.row ref2 6)
+
 abbrev e28·1 : Row.Entry
 e28·1 = (28, Mut.mslice RelayPending.row ref2 6)
+
 abbrev e2·2 : Row.Entry
 e2·2 = (2, Relend.mslice-owed RelayCircuit.row ref7 1 7 Row.off)
+
 abbrev e29·1 : Row.Entry
 e29·1 = (29, Relend.msptr RelayCircuit.row ref3 7)
+
 abbrev e30·1 : Row.Entry
 e30·1 = (30, Mut.mslice RelayCircuit.row ref3 7)
+
 abbrev e3·1 : Row.Entry
 e3·1 = (3, Relend.mslice-owed InflightAction.row ref8 2 8 Row.off)
+
 abbrev e31·1 : Row.Entry
 e31·1 = (31, Relend.msptr InflightAction.row ref4 8)
+
 abbrev e32·1 : Row.Entry
 e32·1 = (32, Mut.mslice InflightAction.row ref4 8)
+
 abbrev e4·1 : Row.Entry
 e4·1 = (4, Relend.mslice-owed (Referent.rtF (Referent.fInt Syntax.w32)) ref9 3 9 Row.off)
+
 abbrev e33·1 : Row.Entry
 e33·1 = (33, Relend.msptr (Referent.rtF (Referent.fInt Syntax.w32)) ref5 9)
+
 abbrev e34·1 : Row.Entry
 e34·1 = (34, Mut.mslice (Referent.rtF (Referent.fInt Syntax.w32)) ref5 9)
+
 abbrev e28·2 : Row.Entry
 e28·2 = (28, Mut.msleft RelayPending.row ref2)
+
 abbrev e30·2 : Row.Entry
 e30·2 = (30, Mut.msleft RelayCircuit.row ref3)
+
 abbrev e32·2 : Row.Entry
 e32·2 = (32, Mut.msleft InflightAction.row ref4)
+
 abbrev e34·2 : Row.Entry
 e34·2 = (34, Mut.msleft (Referent.rtF (Referent.fInt Syntax.w32)) ref5)
+
 abbrev pub t0 : List.List Row.Entry
 t0 = e0 ∷ e1 ∷ e2 ∷ e3 ∷ e4 ∷ e5 ∷ e6 ∷ e7 ∷ e8 ∷ e9 ∷ e10 ∷ e11 ∷ e12 ∷ e13 ∷ e14 ∷ e15 ∷ List.[]
+
 abbrev pub t1 : List.List Row.Entry
 t1 = e16 ∷ e17 ∷ e18 ∷ e19 ∷ e20 ∷ e21 ∷ e22 ∷ e23 ∷ e24 ∷ e25 ∷ e26 ∷ e27 ∷ e28 ∷ e29 ∷ e30 ∷ e31 ∷ List.[]
+
 abbrev pub t2 : List.List Row.Entry
 t2 = e32 ∷ e33 ∷ e34 ∷ List.[]
+
 abbrev pub t3 : List.List Row.Entry
 t3 = e0·1 ∷ e1 ∷ e2 ∷ e3 ∷ e4 ∷ e5·1 ∷ e6·1 ∷ e7·1 ∷ e8·1 ∷ e9 ∷ e10 ∷ e11 ∷ e12 ∷ e13 ∷ e14 ∷ e15 ∷ List.[]
+
 abbrev pub t4 : List.List Row.Entry
 t4 = e0 ∷ e1 ∷ e2 ∷ e3 ∷ e4 ∷ e5 ∷ e6 ∷ e7 ∷ e8 ∷ e9·1 ∷ e10 ∷ e11 ∷ e12 ∷ e13 ∷ e14 ∷ e15 ∷ List.[]
+
 abbrev pub t5 : List.List Row.Entry
 t5 = e0 ∷ e1 ∷ e2 ∷ e3 ∷ e4 ∷ e5 ∷ e6 ∷ e7 ∷ e8 ∷ e9·1 ∷ e10·1 ∷ e11 ∷ e12 ∷ e13 ∷ e14 ∷ e15 ∷ List.[]
+
 abbrev pub t6 : List.List Row.Entry
 t6 = e0 ∷ e1·1 ∷ e2 ∷ e3 ∷ e4 ∷ e5 ∷ e6 ∷ e7 ∷ e8 ∷ e9·1 ∷ e10·1 ∷ e11 ∷ e12 ∷ e13 ∷ e14 ∷ e15 ∷ List.[]
+
 abbrev pub t7 : List.List Row.Entry
 t7 = e16 ∷ e17 ∷ e18 ∷ e19·1 ∷ e20 ∷ e21 ∷ e22 ∷ e23 ∷ e24 ∷ e25 ∷ e26 ∷ e27 ∷ e28 ∷ e29 ∷ e30 ∷ e31 ∷ List.[]
+
 abbrev pub t8 : List.List Row.Entry
 t8 = e16 ∷ e17 ∷ e18 ∷ e19 ∷ e20·1 ∷ e21 ∷ e22 ∷ e23 ∷ e24 ∷ e25 ∷ e26 ∷ e27 ∷ e28 ∷ e29 ∷ e30 ∷ e31 ∷ List.[]
+
 abbrev pub t9 : List.List Row.Entry
 t9 = e0 ∷ e1·1 ∷ e2·1 ∷ e3 ∷ e4 ∷ e5 ∷ e6 ∷ e7 ∷ e8 ∷ e9·1 ∷ e10·1 ∷ e11 ∷ e12 ∷ e13 ∷ e14 ∷ e15 ∷ List.[]
+
 abbrev pub t10 : List.List Row.Entry
 t10 = e16 ∷ e17 ∷ e18 ∷ e19 ∷ e20·1 ∷ e21·1 ∷ e22 ∷ e23 ∷ e24 ∷ e25 ∷ e26 ∷ e27 ∷ e28 ∷ e29 ∷ e30 ∷ e31 ∷ List.[]
+
 abbrev pub t11 : List.List Row.Entry
 t11 = e16 ∷ e17 ∷ e18 ∷ e19 ∷ e20·1 ∷ e21 ∷ e22·1 ∷ e23 ∷ e24 ∷ e25 ∷ e26 ∷ e27 ∷ e28 ∷ e29 ∷ e30 ∷ e31 ∷ List.[]
+
 abbrev pub t12 : List.List Row.Entry
 t12 = e16 ∷ e17 ∷ e18 ∷ e19 ∷ e20·1 ∷ e21 ∷ e22·1 ∷ e23·1 ∷ e24 ∷ e25 ∷ e26 ∷ e27 ∷ e28 ∷ e29 ∷ e30 ∷ e31 ∷ List.[]
+
 abbrev pub t13 : List.List Row.Entry
 t13 = e16 ∷ e17 ∷ e18 ∷ e19 ∷ e20·1 ∷ e21 ∷ e22·1 ∷ e23·1 ∷ e24·1 ∷ e25 ∷ e26 ∷ e27 ∷ e28 ∷ e29 ∷ e30 ∷ e31 ∷ List.[]
+
 abbrev pub t14 : List.List Row.Entry
 t14 = e0 ∷ e1·1 ∷ e2·1 ∷ e3 ∷ e4 ∷ e5 ∷ e6 ∷ e7 ∷ e8 ∷ e9·1 ∷ e10·1 ∷ e11·1 ∷ e12 ∷ e13 ∷ e14 ∷ e15 ∷ List.[]
+
 abbrev pub t15 : List.List Row.Entry
 t15 = e16 ∷ e17 ∷ e18 ∷ e19 ∷ e20 ∷ e21 ∷ e22·1 ∷ e23·1 ∷ e24·1 ∷ e25 ∷ e26 ∷ e27 ∷ e28 ∷ e29 ∷ e30 ∷ e31 ∷ List.[]
+
 abbrev pub t16 : List.List Row.Entry
 t16 = e16 ∷ e17 ∷ e18 ∷ e19 ∷ e20 ∷ e21 ∷ e22 ∷ e23·1 ∷ e24·1 ∷ e25 ∷ e26 ∷ e27 ∷ e28 ∷ e29 ∷ e30 ∷ e31 ∷ List.[]
+
 abbrev pub t17 : List.List Row.Entry
 t17 = e0 ∷ e1·1 ∷ e2·1 ∷ e3 ∷ e4 ∷ e5 ∷ e6 ∷ e7 ∷ e8 ∷ e9 ∷ e10·1 ∷ e11·1 ∷ e12 ∷ e13 ∷ e14 ∷ e15 ∷ List.[]
+
 abbrev pub t18 : List.List Row.Entry
 t18 = e0 ∷ e1·1 ∷ e2·1 ∷ e3 ∷ e4 ∷ e5 ∷ e6 ∷ e7 ∷ e8 ∷ e9 ∷ e10 ∷ e11·1 ∷ e12 ∷ e13 ∷ e14 ∷ e15 ∷ List.[]
+
 abbrev pub t19 : List.List Row.Entry
 t19 = e16 ∷ e17 ∷ e18 ∷ e19 ∷ e20 ∷ e21 ∷ e22 ∷ e23 ∷ e24·1 ∷ e25 ∷ e26 ∷ e27 ∷ e28 ∷ e29 ∷ e30 ∷ e31 ∷ List.[]
+
 abbrev pub t20 : List.List Row.Entry
 t20 = e0 ∷ e1 ∷ e2·1 ∷ e3 ∷ e4 ∷ e5 ∷ e6 ∷ e7 ∷ e8 ∷ e9 ∷ e10 ∷ e11·1 ∷ e12 ∷ e13 ∷ e14 ∷ e15 ∷ List.[]
+
 abbrev pub t21 : List.List Row.Entry
 t21 = e0 ∷ e1 ∷ e2 ∷ e3 ∷ e4 ∷ e5 ∷ e6 ∷ e7 ∷ e8 ∷ e9 ∷ e10 ∷ e11·1 ∷ e12 ∷ e13 ∷ e14 ∷ e15 ∷ List.[]
+
 abbrev pub t22 : List.List Row.Entry
 t22 = e0 ∷ e1 ∷ e2 ∷ e3 ∷ e4 ∷ e5 ∷ e6 ∷ e7 ∷ e8 ∷ e9 ∷ e10 ∷ e11·1 ∷ e12·1 ∷ e13 ∷ e14 ∷ e15 ∷ List.[]
+
 abbrev pub t23 : List.List Row.Entry
 t23 = e0 ∷ e1 ∷ e2 ∷ e3 ∷ e4 ∷ e5 ∷ e6 ∷ e7 ∷ e8 ∷ e9 ∷ e10 ∷ e11·1 ∷ e12·1 ∷ e13·1 ∷ e14 ∷ e15 ∷ List.[]
+
 abbrev pub t24 : List.List Row.Entry
 t24 = e0 ∷ e1 ∷ e2 ∷ e3 ∷ e4 ∷ e5 ∷ e6 ∷ e7 ∷ e8 ∷ e9 ∷ e10 ∷ e11 ∷ e12·1 ∷ e13·1 ∷ e14 ∷ e15 ∷ List.[]
+
 abbrev pub t25 : List.List Row.Entry
 t25 = e0 ∷ e1 ∷ e2 ∷ e3 ∷ e4 ∷ e5 ∷ e6 ∷ e7 ∷ e8 ∷ e9 ∷ e10 ∷ e11 ∷ e12·1 ∷ e13·1 ∷ e14·1 ∷ e15 ∷ List.[]
+
 abbrev pub t26 : List.List Row.Entry
 t26 = e0 ∷ e1 ∷ e2 ∷ e3 ∷ e4 ∷ e5 ∷ e6 ∷ e7 ∷ e8 ∷ e9 ∷ e10 ∷ e11 ∷ e12·1 ∷ e13·1 ∷ e14·1 ∷ e15·1 ∷ List.[]
+
 abbrev pub t27 : List.List Row.Entry
 t27 = e16·1 ∷ e17 ∷ e18 ∷ e19 ∷ e20 ∷ e21 ∷ e22 ∷ e23 ∷ e24 ∷ e25 ∷ e26 ∷ e27 ∷ e28 ∷ e29 ∷ e30 ∷ e31 ∷ List.[]
+
 abbrev pub t28 : List.List Row.Entry
 t28 = e16·1 ∷ e17·1 ∷ e18 ∷ e19 ∷ e20 ∷ e21 ∷ e22 ∷ e23 ∷ e24 ∷ e25 ∷ e26 ∷ e27 ∷ e28 ∷ e29 ∷ e30 ∷ e31 ∷ List.[]
+
 abbrev pub t29 : List.List Row.Entry
 t29 = e0 ∷ e1 ∷ e2 ∷ e3 ∷ e4 ∷ e5 ∷ e6 ∷ e7 ∷ e8 ∷ e9 ∷ e10 ∷ e11 ∷ e12·1 ∷ e13·1 ∷ e14 ∷ e15·1 ∷ List.[]
+
 abbrev pub t30 : List.List Row.Entry
 t30 = e16 ∷ e17·1 ∷ e18 ∷ e19 ∷ e20 ∷ e21 ∷ e22 ∷ e23 ∷ e24 ∷ e25 ∷ e26 ∷ e27 ∷ e28 ∷ e29 ∷ e30 ∷ e31 ∷ List.[]
+
 abbrev pub t31 : List.List Row.Entry
 t31 = e16 ∷ e17·1 ∷ e18·1 ∷ e19 ∷ e20 ∷ e21 ∷ e22 ∷ e23 ∷ e24 ∷ e25 ∷ e26 ∷ e27 ∷ e28 ∷ e29 ∷ e30 ∷ e31 ∷ List.[]
+
 abbrev pub t32 : List.List Row.Entry
 t32 = e0 ∷ e1 ∷ e2 ∷ e3 ∷ e4 ∷ e5 ∷ e6 ∷ e7 ∷ e8 ∷ e9 ∷ e10 ∷ e11 ∷ e12 ∷ e13·1 ∷ e14 ∷ e15·1 ∷ List.[]
+
 abbrev pub t33 : List.List Row.Entry
 t33 = e16 ∷ e17 ∷ e18·1 ∷ e19 ∷ e20 ∷ e21 ∷ e22 ∷ e23 ∷ e24 ∷ e25 ∷ e26 ∷ e27 ∷ e28 ∷ e29 ∷ e30 ∷ e31 ∷ List.[]
+
 abbrev pub t34 : List.List Row.Entry
 t34 = e16 ∷ e17 ∷ e18·1 ∷ e19 ∷ e20 ∷ e21 ∷ e22 ∷ e23 ∷ e24 ∷ e25·1 ∷ e26 ∷ e27 ∷ e28 ∷ e29 ∷ e30 ∷ e31 ∷ List.[]
+
 abbrev pub t35 : List.List Row.Entry
 t35 = e0 ∷ e1 ∷ e2 ∷ e3 ∷ e4 ∷ e5 ∷ e6 ∷ e7 ∷ e8 ∷ e9 ∷ e10 ∷ e11 ∷ e12 ∷ e13 ∷ e14 ∷ e15·1 ∷ List.[]
+
 abbrev pub t36 : List.List Row.Entry
 t36 = e16 ∷ e17 ∷ e18 ∷ e19 ∷ e20 ∷ e21 ∷ e22 ∷ e23 ∷ e24 ∷ e25·1 ∷ e26 ∷ e27 ∷ e28 ∷ e29 ∷ e30 ∷ e31 ∷ List.[]
+
 abbrev pub t37 : List.List Row.Entry
 t37 = e16 ∷ e17 ∷ e18 ∷ e19 ∷ e20 ∷ e21 ∷ e22 ∷ e23 ∷ e24 ∷ e25 ∷ e26·1 ∷ e27 ∷ e28 ∷ e29 ∷ e30 ∷ e31 ∷ List.[]
+
 abbrev pub t38 : List.List Row.Entry
 t38 = e0 ∷ e1·2 ∷ e2 ∷ e3 ∷ e4 ∷ e5 ∷ e6 ∷ e7 ∷ e8 ∷ e9 ∷ e10 ∷ e11 ∷ e12 ∷ e13·1 ∷ e14 ∷ e15·1 ∷ List.[]
+
 abbrev pub t39 : List.List Row.Entry
 t39 = e16 ∷ e17 ∷ e18 ∷ e19 ∷ e20 ∷ e21 ∷ e22 ∷ e23 ∷ e24 ∷ e25 ∷ e26 ∷ e27·1 ∷ e28 ∷ e29 ∷ e30 ∷ e31 ∷ List.[]
+
 abbrev pub t40 : List.List Row.Entry
 t40 = e16 ∷ e17 ∷ e18 ∷ e19 ∷ e20 ∷ e21 ∷ e22 ∷ e23 ∷ e24 ∷ e25 ∷ e26 ∷ e27 ∷ e28·1 ∷ e29 ∷ e30 ∷ e31 ∷ List.[]
+
 abbrev pub t41 : List.List Row.Entry
 t41 = e0 ∷ e1·2 ∷ e2·2 ∷ e3 ∷ e4 ∷ e5 ∷ e6 ∷ e7 ∷ e8 ∷ e9 ∷ e10 ∷ e11 ∷ e12 ∷ e13·1 ∷ e14 ∷ e15·1 ∷ List.[]
+
 abbrev pub t42 : List.List Row.Entry
 t42 = e16 ∷ e17 ∷ e18 ∷ e19 ∷ e20 ∷ e21 ∷ e22 ∷ e23 ∷ e24 ∷ e25 ∷ e26 ∷ e27 ∷ e28·1 ∷ e29·1 ∷ e30 ∷ e31 ∷ List.[]
+
 abbrev pub t43 : List.List Row.Entry
 t43 = e16 ∷ e17 ∷ e18 ∷ e19 ∷ e20 ∷ e21 ∷ e22 ∷ e23 ∷ e24 ∷ e25 ∷ e26 ∷ e27 ∷ e28·1 ∷ e29 ∷ e30·1 ∷ e31 ∷ List.[]
+
 abbrev pub t44 : List.List Row.Entry
 t44 = e0 ∷ e1·2 ∷ e2·2 ∷ e3·1 ∷ e4 ∷ e5 ∷ e6 ∷ e7 ∷ e8 ∷ e9 ∷ e10 ∷ e11 ∷ e12 ∷ e13·1 ∷ e14 ∷ e15·1 ∷ List.[]
+
 abbrev pub t45 : List.List Row.Entry
 t45 = e16 ∷ e17 ∷ e18 ∷ e19 ∷ e20 ∷ e21 ∷ e22 ∷ e23 ∷ e24 ∷ e25 ∷ e26 ∷ e27 ∷ e28·1 ∷ e29 ∷ e30·1 ∷ e31·1 ∷ List.[]
+
 abbrev pub t46 : List.List Row.Entry
 t46 = e32·1 ∷ e33 ∷ e34 ∷ List.[]
+
 abbrev pub t47 : List.List Row.Entry
 t47 = e0 ∷ e1·2 ∷ e2·2 ∷ e3·1 ∷ e4·1 ∷ e5 ∷ e6 ∷ e7 ∷ e8 ∷ e9 ∷ e10 ∷ e11 ∷ e12 ∷ e13·1 ∷ e14 ∷ e15·1 ∷ List.[]
+
 abbrev pub t48 : List.List Row.Entry
 t48 = e32·1 ∷ e33·1 ∷ e34 ∷ List.[]
+
 abbrev pub t49 : List.List Row.Entry
 t49 = e32·1 ∷ e33 ∷ e34·1 ∷ List.[]
+
 abbrev pub t50 : List.List Row.Entry
 t50 = e0·1 ∷ e1·2 ∷ e2·2 ∷ e3·1 ∷ e4·1 ∷ e5 ∷ e6 ∷ e7 ∷ e8 ∷ e9 ∷ e10 ∷ e11 ∷ e12 ∷ e13·1 ∷ e14 ∷ e15·1 ∷ List.[]
+
 abbrev pub t51 : List.List Row.Entry
 t51 = e16 ∷ e17 ∷ e18 ∷ e19 ∷ e20 ∷ e21 ∷ e22 ∷ e23 ∷ e24 ∷ e25 ∷ e26 ∷ e27 ∷ e28·2 ∷ e29 ∷ e30·2 ∷ e31 ∷ List.[]
+
 abbrev pub t52 : List.List Row.Entry
 t52 = e32·2 ∷ e33 ∷ e34·2 ∷ List.[]
+
 abbrev pub t53 : List.List Row.Entry
 t53 = e0·1 ∷ e1·2 ∷ e2·2 ∷ e3·1 ∷ e4·1 ∷ e5·1 ∷ e6 ∷ e7 ∷ e8 ∷ e9 ∷ e10 ∷ e11 ∷ e12 ∷ e13·1 ∷ e14 ∷ e15·1 ∷ List.[]
+
 abbrev pub t54 : List.List Row.Entry
 t54 = e0·1 ∷ e1·2 ∷ e2·2 ∷ e3·1 ∷ e4·1 ∷ e5·1 ∷ e6·1 ∷ e7 ∷ e8 ∷ e9 ∷ e10 ∷ e11 ∷ e12 ∷ e13·1 ∷ e14 ∷ e15·1 ∷ List.[]
+
 abbrev pub t55 : List.List Row.Entry
 t55 = e0·1 ∷ e1·2 ∷ e2·2 ∷ e3·1 ∷ e4·1 ∷ e5·1 ∷ e6·1 ∷ e7 ∷ e8 ∷ e9 ∷ e10 ∷ e11 ∷ e12 ∷ e13 ∷ e14 ∷ e15·1 ∷ List.[]
+
 abbrev pub t56 : List.List Row.Entry
 t56 = e0·1 ∷ e1 ∷ e2·2 ∷ e3·1 ∷ e4·1 ∷ e5·1 ∷ e6·1 ∷ e7 ∷ e8 ∷ e9 ∷ e10 ∷ e11 ∷ e12 ∷ e13 ∷ e14 ∷ e15·1 ∷ List.[]
+
 abbrev pub t57 : List.List Row.Entry
 t57 = e16 ∷ e17 ∷ e18 ∷ e19 ∷ e20 ∷ e21 ∷ e22 ∷ e23 ∷ e24 ∷ e25 ∷ e26 ∷ e27 ∷ e28 ∷ e29 ∷ e30·2 ∷ e31 ∷ List.[]
+
 abbrev pub t58 : List.List Row.Entry
 t58 = e0·1 ∷ e1 ∷ e2 ∷ e3·1 ∷ e4·1 ∷ e5·1 ∷ e6·1 ∷ e7 ∷ e8 ∷ e9 ∷ e10 ∷ e11 ∷ e12 ∷ e13 ∷ e14 ∷ e15·1 ∷ List.[]
+
 abbrev pub t59 : List.List Row.Entry
 t59 = e0·1 ∷ e1 ∷ e2 ∷ e3 ∷ e4·1 ∷ e5·1 ∷ e6·1 ∷ e7 ∷ e8 ∷ e9 ∷ e10 ∷ e11 ∷ e12 ∷ e13 ∷ e14 ∷ e15·1 ∷ List.[]
+
 abbrev pub t60 : List.List Row.Entry
 t60 = e32 ∷ e33 ∷ e34·2 ∷ List.[]
+
 abbrev pub t61 : List.List Row.Entry
 t61 = e0·1 ∷ e1 ∷ e2 ∷ e3 ∷ e4 ∷ e5·1 ∷ e6·1 ∷ e7 ∷ e8 ∷ e9 ∷ e10 ∷ e11 ∷ e12 ∷ e13 ∷ e14 ∷ e15·1 ∷ List.[]
+
 abbrev pub t62 : List.List Row.Entry
 t62 = e0·1 ∷ e1 ∷ e2 ∷ e3 ∷ e4 ∷ e5·1 ∷ e6·1 ∷ e7·1 ∷ e8 ∷ e9 ∷ e10 ∷ e11 ∷ e12 ∷ e13 ∷ e14 ∷ e15·1 ∷ List.[]
+
 abbrev pub t63 : List.List Row.Entry
 t63 = e0·1 ∷ e1 ∷ e2 ∷ e3 ∷ e4 ∷ e5·1 ∷ e6·1 ∷ e7·1 ∷ e8·1 ∷ e9 ∷ e10 ∷ e11 ∷ e12 ∷ e13 ∷ e14 ∷ e15·1 ∷ List.[]
+
 abbrev pub t64 : List.List Row.Entry
 t64 = e0·1 ∷ e1 ∷ e2 ∷ e3 ∷ e4 ∷ e5 ∷ e6 ∷ e7 ∷ e8 ∷ e9 ∷ e10 ∷ e11 ∷ e12 ∷ e13 ∷ e14 ∷ e15·1 ∷ List.[]
+
 abbrev pub t65 : List.List Row.Entry
 t65 = e0·1 ∷ e1 ∷ e2 ∷ e3 ∷ e4 ∷ e5·1 ∷ e6 ∷ e7 ∷ e8 ∷ e9 ∷ e10 ∷ e11 ∷ e12 ∷ e13 ∷ e14 ∷ e15·1 ∷ List.[]
+
 abbrev pub t66 : List.List Row.Entry
 t66 = e0·1 ∷ e1 ∷ e2 ∷ e3 ∷ e4 ∷ e5·1 ∷ e6·1 ∷ e7 ∷ e8 ∷ e9 ∷ e10 ∷ e11 ∷ e12 ∷ e13 ∷ e14 ∷ e15 ∷ List.[]
+
 abbrev pub t67 : List.List Row.Entry
 t67 = e0·1 ∷ e1 ∷ e2 ∷ e3 ∷ e4 ∷ e5·1 ∷ e6·1 ∷ e7·1 ∷ e8 ∷ e9 ∷ e10 ∷ e11 ∷ e12 ∷ e13 ∷ e14 ∷ e15 ∷ List.[]
+
 abbrev pub T0 : Row.Cx
 T0 = record { locals = List._++_ t0 (List._++_ t1 t2); slots = List.[] }
+
 abbrev pub T1 : Row.Cx
 T1 = record { locals = List._++_ t3 (List._++_ t1 t2); slots = List.[] }
+
 abbrev pub T2 : Row.Cx
 T2 = record { locals = List._++_ t0 (List._++_ t1 t2); slots = List.[] }
+
 abbrev pub T3 : Row.Cx
 T3 = record { locals = List._++_ t4 (List._++_ t1 t2); slots = List.[] }
+
 abbrev pub T4 : Row.Cx
 T4 = record { locals = List._++_ t5 (List._++_ t1 t2); slots = List.[] }
+
 abbrev pub T6 : Row.Cx
 T6 = record { locals = List._++_ t6 (List._++_ t7 t2); slots = List.[] }
+
 abbrev pub T7 : Row.Cx
 T7 = record { locals = List._++_ t6 (List._++_ t8 t2); slots = List.[] }
+
 abbrev pub T9 : Row.Cx
 T9 = record { locals = List._++_ t9 (List._++_ t10 t2); slots = List.[] }
+
 abbrev pub T10 : Row.Cx
 T10 = record { locals = List._++_ t9 (List._++_ t11 t2); slots = List.[] }
+
 abbrev pub T11 : Row.Cx
 T11 = record { locals = List._++_ t9 (List._++_ t12 t2); slots = List.[] }
+
 abbrev pub T12 : Row.Cx
 T12 = record { locals = List._++_ t9 (List._++_ t13 t2); slots = List.[] }
+
 abbrev pub T13 : Row.Cx
 T13 = record { locals = List._++_ t14 (List._++_ t13 t2); slots = List.[] }
+
 abbrev pub T14 : Row.Cx
 T14 = record { locals = List._++_ t14 (List._++_ t15 t2); slots = List.[] }
+
 abbrev pub T15 : Row.Cx
 T15 = record { locals = List._++_ t14 (List._++_ t16 t2); slots = List.[] }
+
 abbrev pub T16 : Row.Cx
 T16 = record { locals = List._++_ t17 (List._++_ t16 t2); slots = List.[] }
+
 abbrev pub T17 : Row.Cx
 T17 = record { locals = List._++_ t18 (List._++_ t16 t2); slots = List.[] }
+
 abbrev pub T18 : Row.Cx
 T18 = record { locals = List._++_ t18 (List._++_ t19 t2); slots = List.[] }
+
 abbrev pub T19 : Row.Cx
 T19 = record { locals = List._++_ t18 (List._++_ t1 t2); slots = List.[] }
+
 abbrev pub T21 : Row.Cx
 T21 = record { locals = List._++_ t20 (List._++_ t1 t2); slots = List.[] }
+
 abbrev pub T24 : Row.Cx
 T24 = record { locals = List._++_ t21 (List._++_ t1 t2); slots = List.[] }
+
 abbrev pub T26 : Row.Cx
 T26 = record { locals = List._++_ t22 (List._++_ t1 t2); slots = List.[] }
+
 abbrev pub T27 : Row.Cx
 T27 = record { locals = List._++_ t23 (List._++_ t1 t2); slots = List.[] }
+
 abbrev pub T28 : Row.Cx
 T28 = record { locals = List._++_ t24 (List._++_ t1 t2); slots = List.[] }
+
 abbrev pub T29 : Row.Cx
 T29 = record { locals = List._++_ t25 (List._++_ t1 t2); slots = List.[] }
+
 abbrev pub T30 : Row.Cx
 T30 = record { locals = List._++_ t26 (List._++_ t1 t2); slots = List.[] }
+
 abbrev pub T31 : Row.Cx
 T31 = record { locals = List._++_ t26 (List._++_ t27 t2); slots = List.[] }
+
 abbrev pub T32 : Row.Cx
 T32 = record { locals = List._++_ t26 (List._++_ t28 t2); slots = List.[] }
+
 abbrev pub T33 : Row.Cx
 T33 = record { locals = List._++_ t29 (List._++_ t28 t2); slots = List.[] }
+
 abbrev pub T34 : Row.Cx
 T34 = record { locals = List._++_ t29 (List._++_ t30 t2); slots = List.[] }
+
 abbrev pub T35 : Row.Cx
 T35 = record { locals = List._++_ t29 (List._++_ t31 t2); slots = List.[] }
+
 abbrev pub T36 : Row.Cx
 T36 = record { locals = List._++_ t32 (List._++_ t31 t2); slots = List.[] }
+
 abbrev pub T37 : Row.Cx
 T37 = record { locals = List._++_ t32 (List._++_ t33 t2); slots = List.[] }
+
 abbrev pub T38 : Row.Cx
 T38 = record { locals = List._++_ t32 (List._++_ t34 t2); slots = List.[] }
+
 abbrev pub T39 : Row.Cx
 T39 = record { locals = List._++_ t35 (List._++_ t33 t2); slots = List.[] }
+
 abbrev pub T40 : Row.Cx
 T40 = record { locals = List._++_ t32 (List._++_ t36 t2); slots = List.[] }
+
 abbrev pub T41 : Row.Cx
 T41 = record { locals = List._++_ t32 (List._++_ t1 t2); slots = List.[] }
+
 abbrev pub T42 : Row.Cx
 T42 = record { locals = List._++_ t32 (List._++_ t37 t2); slots = List.[] }
+
 abbrev pub T43 : Row.Cx
 T43 = record { locals = List._++_ t35 (List._++_ t1 t2); slots = List.[] }
+
 abbrev pub T44 : Row.Cx
 T44 = record { locals = List._++_ t32 (List._++_ t1 t2); slots = List.[] }
+
 abbrev pub T46 : Row.Cx
 T46 = record { locals = List._++_ t38 (List._++_ t39 t2); slots = List.[] }
+
 abbrev pub T47 : Row.Cx
 T47 = record { locals = List._++_ t38 (List._++_ t40 t2); slots = List.[] }
+
 abbrev pub T49 : Row.Cx
 T49 = record { locals = List._++_ t41 (List._++_ t42 t2); slots = List.[] }
+
 abbrev pub T50 : Row.Cx
 T50 = record { locals = List._++_ t41 (List._++_ t43 t2); slots = List.[] }
+
 abbrev pub T52 : Row.Cx
 T52 = record { locals = List._++_ t44 (List._++_ t45 t2); slots = List.[] }
+
 abbrev pub T53 : Row.Cx
 T53 = record { locals = List._++_ t44 (List._++_ t43 t46); slots = List.[] }
+
 abbrev pub T55 : Row.Cx
 T55 = record { locals = List._++_ t47 (List._++_ t43 t48); slots = List.[] }
+
 abbrev pub T56 : Row.Cx
 T56 = record { locals = List._++_ t47 (List._++_ t43 t49); slots = List.[] }
+
 abbrev pub T57 : Row.Cx
 T57 = record { locals = List._++_ t50 (List._++_ t51 t52); slots = List.[] }
+
 abbrev pub T58 : Row.Cx
 T58 = record { locals = List._++_ t53 (List._++_ t51 t52); slots = List.[] }
+
 abbrev pub T59 : Row.Cx
 T59 = record { locals = List._++_ t54 (List._++_ t51 t52); slots = List.[] }
+
 abbrev pub T60 : Row.Cx
 T60 = record { locals = List._++_ t55 (List._++_ t51 t52); slots = List.[] }
+
 abbrev pub T62 : Row.Cx
 T62 = record { locals = List._++_ t56 (List._++_ t57 t52); slots = List.[] }
+
 abbrev pub T65 : Row.Cx
 T65 = record { locals = List._++_ t58 (List._++_ t1 t52); slots = List.[] }
+
 abbrev pub T68 : Row.Cx
 T68 = record { locals = List._++_ t59 (List._++_ t1 t60); slots = List.[] }
+
 abbrev pub T71 : Row.Cx
 T71 = record { locals = List._++_ t61 (List._++_ t1 t2); slots = List.[] }
+
 abbrev pub T72 : Row.Cx
 T72 = record { locals = List._++_ t61 (List._++_ t1 t2); slots = List.[] }
+
 abbrev pub T74 : Row.Cx
 T74 = record { locals = List._++_ t62 (List._++_ t1 t2); slots = List.[] }
+
 abbrev pub T75 : Row.Cx
 T75 = record { locals = List._++_ t63 (List._++_ t1 t2); slots = List.[] }
+
 abbrev pub T76 : Row.Cx
 T76 = record { locals = List._++_ t3 (List._++_ t1 t2); slots = List.[] }
+
 abbrev pub T77 : Row.Cx
 T77 = record { locals = List._++_ t35 (List._++_ t37 t2); slots = List.[] }
+
 abbrev pub T78 : Row.Cx
 T78 = record { locals = List._++_ t35 (List._++_ t1 t2); slots = List.[] }
+
 abbrev pub T79 : Row.Cx
 T79 = record { locals = List._++_ t64 (List._++_ t1 t2); slots = List.[] }
+
 abbrev pub T80 : Row.Cx
 T80 = record { locals = List._++_ t65 (List._++_ t1 t2); slots = List.[] }
+
 abbrev pub T81 : Row.Cx
 T81 = record { locals = List._++_ t61 (List._++_ t1 t2); slots = List.[] }
+
 abbrev pub T82 : Row.Cx
 T82 = record { locals = List._++_ t62 (List._++_ t1 t2); slots = List.[] }
+
 abbrev pub T83 : Row.Cx
 T83 = record { locals = List._++_ t63 (List._++_ t1 t2); slots = List.[] }
+
 abbrev pub T84 : Row.Cx
 T84 = record { locals = List._++_ t3 (List._++_ t1 t2); slots = List.[] }
+
 abbrev pub T85 : Row.Cx
 T85 = record { locals = List._++_ t35 (List._++_ t34 t2); slots = List.[] }
+
 abbrev pub T86 : Row.Cx
 T86 = record { locals = List._++_ t35 (List._++_ t33 t2); slots = List.[] }
+
 abbrev pub T87 : Row.Cx
 T87 = record { locals = List._++_ t64 (List._++_ t33 t2); slots = List.[] }
+
 abbrev pub T88 : Row.Cx
 T88 = record { locals = List._++_ t65 (List._++_ t33 t2); slots = List.[] }
+
 abbrev pub T89 : Row.Cx
 T89 = record { locals = List._++_ t61 (List._++_ t33 t2); slots = List.[] }
+
 abbrev pub T90 : Row.Cx
 T90 = record { locals = List._++_ t66 (List._++_ t33 t2); slots = List.[] }
+
 abbrev pub T91 : Row.Cx
 T91 = record { locals = List._++_ t66 (List._++_ t1 t2); slots = List.[] }
+
 abbrev pub T92 : Row.Cx
 T92 = record { locals = List._++_ t67 (List._++_ t1 t2); slots = List.[] }
+
 abbrev pub T93 : Row.Cx
 T93 = record { locals = List._++_ t3 (List._++_ t1 t2); slots = List.[] }
+
 abbrev pub O0 : Typed.Outs
 O0 = record { next = Option.none; exits = List.[]; returns = Option.some T1 }
+
 abbrev pub O1 : Typed.Outs
 O1 = Typed.withNext (Option.some T39) O0
+
 abbrev pub O2 : Typed.Outs
 O2 = Typed.withNext (Option.some T43) O1
+
 module _ (claims· : Claims) where
   abbrev s0 : (bs : List.List Nat.ℕ) → Typed.Gives T0 T2
   s0 = λ bs. Know.k-sl-known (Referent.fInt Syntax.w32) T0 4 3 ref9 Row.off 0 λ x. x
+
   abbrev s1 : (bs : List.List Nat.ℕ) → Typed.Both T2 T3
-  s1 = λ bs. WayStmt.k-way-copy-out T2 (Row.out 5 (T2 .locals)) (λ u. Row.drop 5 (T2 .locals) u) 9 (Rows.whole (Declared'.row
-      OpaqueRelayConfig.the-type)) (λ u. At.getAt (OpaqueRelayRuntime.the-type .parts) 4 (OpaqueRelayRuntime.struct .as-values (u .1 .1 .1 .1 .1 .0)))
-      (λ T′. record { locals = Row.setRow 5 (5, Rows.whole (Declared'.row OpaqueRelayRuntime.the-type)) T′; slots = List.[]; }) (λ u T′ m′. Row.set 5
-      (5, Rows.whole (Declared'.row OpaqueRelayRuntime.the-type)) (u .1 .1 .1 .1 .1 .0) T′ m′) (λ u. Unit) λ u. Unit
+  s1 = λ bs. WayStmt.k-way-copy-out T2 (Row.out 5 (T2 .locals)) (λ u. Row.drop 5 (T2 .locals) u) 9
+      (Rows.whole (Declared'.row OpaqueRelayConfig.the-type)) (λ u. At.getAt (OpaqueRelayRuntime.the-type .parts) 4 (OpaqueRelayRuntime.struct
+      .as-values (u .1 .1 .1 .1 .1 .0))) (λ T′. record {
+        locals = Row.setRow 5 (5, Rows.whole (Declared'.row OpaqueRelayRuntime.the-type)) T′;
+        slots = List.[];
+      }) (λ u T′ m′. Row.set 5 (5, Rows.whole (Declared'.row OpaqueRelayRuntime.the-type)) (u .1 .1 .1 .1 .1 .0) T′ m′)
+      (λ u. Unit) λ u. Unit
+
   abbrev s2 : (bs : List.List Nat.ℕ) → Typed.Both T3 T4
   s2 = λ bs. Call.callB ps·0 r·0 (claims· .0) (claims· .1) T3 tt 10 List.[] Laws'''.mir
+
   abbrev s4 : (bs : List.List Nat.ℕ) → Typed.Gives T4 T6
   s4 = λ bs. Reshare.k-sl-reshare RelayPending.row T4 1 19 0 4 ref6 ref0 Row.off λ x. x
+
   abbrev s5 : (bs : List.List Nat.ℕ) → Typed.Asks T6 T7
-  s5 = λ bs. Relend.k-sl-aggregate RelayPending.row (Relend.asShr RelayPending.row) T6 19 20 4 ref0 ref0 (λ x. x) (Scalar.oFld 1 ((Syntax.field 1) ∷
-      List.[]) (Syntax.tyInt Syntax.w64) 8 λ v. Shared.lenV (v .0))
+  s5 = λ bs. Relend.k-sl-aggregate RelayPending.row (Relend.asShr RelayPending.row) T6 19 20 4 ref0 ref0 (λ x. x) (Scalar.oFld
+      1 ((Syntax.field 1) ∷ List.[]) (Syntax.tyInt Syntax.w64) 8 λ v. Shared.lenV (v .0))
+
   abbrev s7 : (bs : List.List Nat.ℕ) → Typed.Gives T7 T9
   s7 = λ bs. Reshare.k-sl-reshare RelayCircuit.row T7 2 21 1 5 ref7 ref1 Row.off λ x. x
+
   abbrev s8 : (bs : List.List Nat.ℕ) → Typed.Asks T9 T10
-  s8 = λ bs. Relend.k-sl-aggregate RelayCircuit.row (Relend.asShr RelayCircuit.row) T9 21 22 5 ref1 ref1 (λ x. x) (Scalar.oFld 2 ((Syntax.field 1) ∷
-      List.[]) (Syntax.tyInt Syntax.w64) 8 λ v. Shared.lenV (v .0))
+  s8 = λ bs. Relend.k-sl-aggregate RelayCircuit.row (Relend.asShr RelayCircuit.row) T9 21 22 5 ref1 ref1 (λ x. x) (Scalar.oFld
+      2 ((Syntax.field 1) ∷ List.[]) (Syntax.tyInt Syntax.w64) 8 λ v. Shared.lenV (v .0))
+
   abbrev s9 : (bs : List.List Nat.ℕ) → Typed.Mo T10 → Typed.Mo T11
-  s9 = λ bs. Scalar.n-use T10 (Scalar.oFld 3 ((Syntax.field 1) ∷ List.[]) (Syntax.tyInt Syntax.w64) 8 Shared.lenV) 23 (Rows.sc-here (Row.sInt
-      Syntax.w64)) (Row.sInt Syntax.w64 .of)
+  s9 = λ bs. Scalar.n-use T10 (Scalar.oFld 3 ((Syntax.field 1) ∷ List.[]) (Syntax.tyInt Syntax.w64) 8 Shared.lenV) 23
+      (Rows.sc-here (Row.sInt Syntax.w64)) (Row.sInt Syntax.w64 .of)
+
   abbrev s10 : (bs : List.List Nat.ℕ) → Typed.Mo T11 → Typed.Mo T12
-  s10 = λ bs. Scalar.n-use T11 (Scalar.oFld 4 ((Syntax.field 1) ∷ List.[]) (Syntax.tyInt Syntax.w64) 8 Shared.lenV) 24 (Rows.sc-here (Row.sInt
-      Syntax.w64)) (Row.sInt Syntax.w64 .of)
+  s10 = λ bs. Scalar.n-use T11 (Scalar.oFld 4 ((Syntax.field 1) ∷ List.[]) (Syntax.tyInt Syntax.w64) 8 Shared.lenV) 24
+      (Rows.sc-here (Row.sInt Syntax.w64)) (Row.sInt Syntax.w64 .of)
+
   abbrev s11 : (bs : List.List Nat.ℕ) → Typed.Both T12 T13
-  s11 = λ bs. Call.callB ps·1 r·1 (claims· .2) (claims· .3) T12 (record { pos = 20; ty = Syntax.tyRef Syntax.erased Syntax.imm RelayPending.to; ref =
-      λ x. x; }, (record { pos = 22; ty = Syntax.tyRef Syntax.erased Syntax.imm RelayCircuit.to; ref = λ x. x; }, (record { pos = 6; st = List.[]; d =
-      0; at = λ x. x }, (Num.vAt 23 λ x. x, (Num.vAt 24 λ x. x, (record { pos = 9; st = List.[]; d = 0; at = λ x. x }, (record { pos = 10; st =
-      List.[]; d = 0; at = λ x. x }, tt),),),),),),) 11 (4 ∷ 5 ∷ List.[]) Laws'''''.mir
+  s11 = λ bs. Call.callB ps·1 r·1 (claims· .2) (claims· .3) T12 (
+    record { pos = 20; ty = ref0; ref = λ x. x },
+    (
+      record { pos = 22; ty = ref1; ref = λ x. x },
+      (
+        record { pos = 6; st = List.[]; d = 0; at = λ x. x },
+        (
+          Num.vAt 23 λ x. x,
+          (
+            Num.vAt 24 λ x. x,
+            (
+              record { pos = 9; st = List.[]; d = 0; at = λ x. x },
+              (record { pos = 10; st = List.[]; d = 0; at = λ x. x }, tt),
+            ),
+          ),
+        ),
+      ),
+    ),
+  ) 11 (4 ∷ 5 ∷ List.[]) Laws'''''.mir
+
   abbrev s12 : (bs : List.List Nat.ℕ) → Typed.Mo T13 → Typed.Mo T14
-  s12 = λ bs. Scalar.n-room T13 20 (Syntax.tyStruct (38 ∷ 91 ∷ 93 ∷ List.[]) (Syntax.tcons ref0 (Syntax.tcons (Syntax.tyInt Syntax.w64) Syntax.tnil)))
+  s12 = λ bs. Scalar.n-room T13 20 slice0
+
   abbrev s13 : (bs : List.List Nat.ℕ) → Typed.Mo T14 → Typed.Mo T15
-  s13 = λ bs. Scalar.n-room T14 22 (Syntax.tyStruct (38 ∷ 91 ∷ 93 ∷ List.[]) (Syntax.tcons ref1 (Syntax.tcons (Syntax.tyInt Syntax.w64) Syntax.tnil)))
+  s13 = λ bs. Scalar.n-room T14 22 slice1
+
   abbrev s14 : (bs : List.List Nat.ℕ) → Typed.Mo T15 → Typed.Mo T16
   s14 = λ bs. Scalar.n-room T15 9 Laws'.mir
+
   abbrev s15 : (bs : List.List Nat.ℕ) → Typed.Mo T16 → Typed.Mo T17
   s15 = λ bs. Scalar.n-room T16 10 Laws'''.mir
+
   abbrev s16 : (bs : List.List Nat.ℕ) → Typed.Mo T17 → Typed.Mo T18
   s16 = λ bs. Scalar.n-room T17 23 (Syntax.tyInt Syntax.w64)
+
   abbrev s17 : (bs : List.List Nat.ℕ) → Typed.Mo T18 → Typed.Mo T19
   s17 = λ bs. Scalar.n-room T18 24 (Syntax.tyInt Syntax.w64)
+
   abbrev s19 : (bs : List.List Nat.ℕ) → Typed.Mo T19 → Typed.Mo T21
   s19 = λ bs. Reshare.n-back-sl-shr RelayPending.row T19 1 0 4 ref6 Row.off λ x. x
+
   abbrev s22 : (bs : List.List Nat.ℕ) → Typed.Mo T21 → Typed.Mo T24
   s22 = λ bs. Reshare.n-back-sl-shr RelayCircuit.row T21 2 1 5 ref7 Row.off λ x. x
+
   abbrev s24 : (bs : List.List Nat.ℕ) → Typed.Mo T24 → Typed.Mo T26
-  s24 = λ bs. Make.n-make (Declared.row HnsrAnswer.the-type) T24 12 λ m. Entered.struct .as-values (m .1 .1 .1 .1 .1 .1 .1 .1 .1 .1 .1 .0) .0
+  s24 = λ bs. Make.n-make (Declared.row HnsrAnswer.the-type) T24 12 λ m. Entered.struct .as-values
+      (m .1 .1 .1 .1 .1 .1 .1 .1 .1 .1 .1 .0) .0
+
   abbrev s25 : (bs : List.List Nat.ℕ) → Typed.Both T26 T27
-  s25 = λ bs. WayStmt.k-way-copy-out T26 (Row.out 11 (T26 .locals)) (λ u. Row.drop 11 (T26 .locals) u) 13 (Rows.whole (Declared'.row Firsts.the-type))
-      (λ u. At.getAt (Entered.the-type .parts) 1 (Entered.struct .as-values (u .1 .1 .1 .1 .1 .1 .1 .1 .1 .1 .1 .0))) (λ T′. record { locals =
-      Row.setRow 11 (11, Rows.whole (Declared'.row Entered.the-type)) T′; slots = List.[]; }) (λ u T′ m′. Row.set 11 (11, Rows.whole (Declared'.row
-      Entered.the-type)) (u .1 .1 .1 .1 .1 .1 .1 .1 .1 .1 .1 .0) T′ m′) (λ u. Unit) λ u. Unit
+  s25 = λ bs. WayStmt.k-way-copy-out T26 (Row.out 11 (T26 .locals)) (λ u. Row.drop 11 (T26 .locals) u) 13
+      (Rows.whole (Declared'.row Firsts.the-type)) (λ u. At.getAt (Entered.the-type .parts) 1 (Entered.struct
+      .as-values (u .1 .1 .1 .1 .1 .1 .1 .1 .1 .1 .1 .0))) (λ T′.
+      record { locals = Row.setRow 11 (11, Rows.whole (Declared'.row Entered.the-type)) T′; slots = List.[] }) (λ u T′
+      m′. Row.set 11 (11, Rows.whole (Declared'.row Entered.the-type)) (u .1 .1 .1 .1 .1 .1 .1 .1 .1 .1 .1 .0) T′ m′)
+      (λ u. Unit) λ u. Unit
+
   abbrev s26 : (bs : List.List Nat.ℕ) → Typed.Mo T27 → Typed.Mo T28
   s26 = λ bs. Scalar.n-room T27 11 Laws'''''.mir
+
   abbrev s27 : (bs : List.List Nat.ℕ) → Typed.Both T28 T29
-  s27 = λ bs. Call.callB ps·2 r·2 (claims· .4) (claims· .5) T28 (Num.vFld 5 ((Syntax.field 1) ∷ List.[]) 16 λ x. OpaqueRelayRuntime.struct .as-values
-      x .1 .0, (Num.vAt 7 λ x. x, tt),) 14 List.[] Laws.mir
+  s27 = λ bs. Call.callB ps·2 r·2 (claims· .4) (claims· .5) T28 (
+    Num.vFld 5 ((Syntax.field 1) ∷ List.[]) 16 λ x. OpaqueRelayRuntime.struct .as-values x .1 .0,
+    (Num.vAt 7 λ x. x, tt),
+  ) 14 List.[] Laws.mir
+
   abbrev s28 : (bs : List.List Nat.ℕ) → Typed.Both T29 T30
-  s28 = λ bs. Call.callB ps·3 r·3 (claims· .6) (claims· .7) T29 (Bool.bFld 5 ((Syntax.field 2) ∷ List.[]) 24 λ x. OpaqueRelayRuntime.struct .as-values
-      x .1 .1 .0, (Bool.bAt 8 λ x. x, tt),) 15 List.[] Syntax.tyBool
+  s28 = λ bs. Call.callB ps·3 r·3 (claims· .6) (claims· .7) T29 (
+    Bool.bFld 5 ((Syntax.field 2) ∷ List.[]) 24 λ x. OpaqueRelayRuntime.struct .as-values x .1 .1 .0,
+    (Bool.bAt 8 λ x. x, tt),
+  ) 15 List.[] Syntax.tyBool
+
   abbrev s29 : (bs : List.List Nat.ℕ) → Typed.Both T30 T31
-  s29 = λ bs. Call.callB ps·4 r·4 (claims· .8) (claims· .9) T30 (Num.vFld 5 ((Syntax.field 1) ∷ List.[]) 16 λ x. OpaqueRelayRuntime.struct .as-values
-      x .1 .0, (Bool.bAt 15 λ x. x, tt),) 16 List.[] Laws.mir
+  s29 = λ bs. Call.callB ps·4 r·4 (claims· .8) (claims· .9) T30 (
+    Num.vFld 5 ((Syntax.field 1) ∷ List.[]) 16 λ x. OpaqueRelayRuntime.struct .as-values x .1 .0,
+    (Bool.bAt 15 λ x. x, tt),
+  ) 16 List.[] Laws.mir
+
   abbrev s30 : (bs : List.List Nat.ℕ) → Typed.Both T31 T32
-  s30 = λ bs. Call.callB ps·5 r·5 (claims· .10) (claims· .11) T31 (record { pos = 14; st = List.[]; d = 0; at = λ x. x }, (record { pos = 16; st =
-      List.[]; d = 0; at = λ x. x }, tt),) 17 List.[] Laws.mir
+  s30 = λ bs. Call.callB ps·5 r·5 (claims· .10) (claims· .11) T31 (
+    record { pos = 14; st = List.[]; d = 0; at = λ x. x },
+    (record { pos = 16; st = List.[]; d = 0; at = λ x. x }, tt),
+  ) 17 List.[] Laws.mir
+
   abbrev s31 : (bs : List.List Nat.ℕ) → Typed.Mo T32 → Typed.Mo T33
   s31 = λ bs. Scalar.n-room T32 14 Laws.mir
+
   abbrev s32 : (bs : List.List Nat.ℕ) → Typed.Mo T33 → Typed.Mo T34
   s32 = λ bs. Scalar.n-room T33 16 Laws.mir
+
   abbrev s33 : (bs : List.List Nat.ℕ) → Typed.Both T34 T35
-  s33 = λ bs. Call.callB ps·5 r·5 (claims· .10) (claims· .11) T34 (record { pos = 12; st = List.[]; d = 0; at = λ x. x }, (record { pos = 17; st =
-      List.[]; d = 0; at = λ x. x }, tt),) 18 List.[] Laws.mir
+  s33 = λ bs. Call.callB ps·5 r·5 (claims· .10) (claims· .11) T34 (
+    record { pos = 12; st = List.[]; d = 0; at = λ x. x },
+    (record { pos = 17; st = List.[]; d = 0; at = λ x. x }, tt),
+  ) 18 List.[] Laws.mir
+
   abbrev s34 : (bs : List.List Nat.ℕ) → Typed.Mo T35 → Typed.Mo T36
   s34 = λ bs. Scalar.n-room T35 12 Laws.mir
+
   abbrev s35 : (bs : List.List Nat.ℕ) → Typed.Mo T36 → Typed.Mo T37
   s35 = λ bs. Scalar.n-room T36 17 Laws.mir
+
   abbrev s36 : (bs : List.List Nat.ℕ) → Typed.Both T37 T38
-  s36 = λ bs. Call.callB ps·6 r·6 (claims· .12) (claims· .13) T37 (record { pos = 18; st = List.[]; d = 0; at = λ x. x }, tt,) 25 List.[]
-      Syntax.tyBool
+  s36 = λ bs. Call.callB ps·6 r·6 (claims· .12) (claims· .13) T37
+      (record { pos = 18; st = List.[]; d = 0; at = λ x. x }, tt) 25 List.[] Syntax.tyBool
+
   abbrev s37 : (bs : List.List Nat.ℕ) → Typed.Mo T38 → Typed.Mo T40
   s37 = λ bs. Scalar.n-room T38 18 Laws.mir
+
   abbrev s38 : (bs : List.List Nat.ℕ) → Typed.Mo T40 → Typed.Mo T41
   s38 = λ bs. Scalar.n-room T40 25 Syntax.tyBool
+
   abbrev s39 : (bs : List.List Nat.ℕ) → Typed.Mo T41 → Typed.Mo T42
-  s39 = λ bs. Scalar.n-use T41 (Scalar.oAt 15 Syntax.tyBool (Row.valS Row.sBool)) 26 (Rows.sc-here Row.sBool) (Row.sBool .of)
+  s39 = λ bs. Scalar.n-use T41 (Scalar.oAt 15 Syntax.tyBool (Row.valS Row.sBool)) 26 (Rows.sc-here Row.sBool)
+      (Row.sBool .of)
+
   abbrev s40 : (bs : List.List Nat.ℕ) → Typed.Mo T42 → Typed.Mo T44
   s40 = λ bs. Scalar.n-room T42 26 Syntax.tyBool
+
   abbrev s42 : (bs : List.List Nat.ℕ) → Typed.Gives T44 T46
   s42 = λ bs. Relend.k-sl-relend RelayPending.row T44 1 27 0 6 ref6 ref2 Row.off λ x. x
+
   abbrev s43 : (bs : List.List Nat.ℕ) → Typed.Asks T46 T47
-  s43 = λ bs. Relend.k-sl-aggregate RelayPending.row (Relend.asMut RelayPending.row) T46 27 28 6 ref2 ref2 (λ x. x) (Scalar.oFld 1 ((Syntax.field 1) ∷
-      List.[]) (Syntax.tyInt Syntax.w64) 8 λ v. Shared.lenV (v .0))
+  s43 = λ bs. Relend.k-sl-aggregate RelayPending.row (Relend.asMut RelayPending.row) T46 27 28 6 ref2 ref2 (λ x. x) (Scalar.oFld
+      1 ((Syntax.field 1) ∷ List.[]) (Syntax.tyInt Syntax.w64) 8 λ v. Shared.lenV (v .0))
+
   abbrev s45 : (bs : List.List Nat.ℕ) → Typed.Gives T47 T49
   s45 = λ bs. Relend.k-sl-relend RelayCircuit.row T47 2 29 1 7 ref7 ref3 Row.off λ x. x
+
   abbrev s46 : (bs : List.List Nat.ℕ) → Typed.Asks T49 T50
-  s46 = λ bs. Relend.k-sl-aggregate RelayCircuit.row (Relend.asMut RelayCircuit.row) T49 29 30 7 ref3 ref3 (λ x. x) (Scalar.oFld 2 ((Syntax.field 1) ∷
-      List.[]) (Syntax.tyInt Syntax.w64) 8 λ v. Shared.lenV (v .0))
+  s46 = λ bs. Relend.k-sl-aggregate RelayCircuit.row (Relend.asMut RelayCircuit.row) T49 29 30 7 ref3 ref3 (λ x. x) (Scalar.oFld
+      2 ((Syntax.field 1) ∷ List.[]) (Syntax.tyInt Syntax.w64) 8 λ v. Shared.lenV (v .0))
+
   abbrev s48 : (bs : List.List Nat.ℕ) → Typed.Gives T50 T52
   s48 = λ bs. Relend.k-sl-relend InflightAction.row T50 3 31 2 8 ref8 ref4 Row.off λ x. x
+
   abbrev s49 : (bs : List.List Nat.ℕ) → Typed.Asks T52 T53
-  s49 = λ bs. Relend.k-sl-aggregate InflightAction.row (Relend.asMut InflightAction.row) T52 31 32 8 ref4 ref4 (λ x. x) (Scalar.oFld 3 ((Syntax.field
-      1) ∷ List.[]) (Syntax.tyInt Syntax.w64) 8 λ v. Shared.lenV (v .0))
+  s49 = λ bs. Relend.k-sl-aggregate InflightAction.row (Relend.asMut InflightAction.row) T52 31 32 8 ref4 ref4 (λ x. x) (Scalar.oFld
+      3 ((Syntax.field 1) ∷ List.[]) (Syntax.tyInt Syntax.w64) 8 λ v. Shared.lenV (v .0))
+
   abbrev s51 : (bs : List.List Nat.ℕ) → Typed.Gives T53 T55
   s51 = λ bs. Relend.k-sl-relend (Referent.rtF (Referent.fInt Syntax.w32)) T53 4 33 3 9 ref9 ref5 Row.off λ x. x
+
   abbrev s52 : (bs : List.List Nat.ℕ) → Typed.Asks T55 T56
-  s52 = λ bs. Relend.k-sl-aggregate (Referent.rtF (Referent.fInt Syntax.w32)) (Relend.asMut (Referent.rtF (Referent.fInt Syntax.w32))) T55 33 34 9
-      ref5 ref5 (λ x. x) (Scalar.oFld 4 ((Syntax.field 1) ∷ List.[]) (Syntax.tyInt Syntax.w64) 8 λ v. Shared.lenV (v .0))
+  s52 = λ bs. Relend.k-sl-aggregate (Referent.rtF (Referent.fInt Syntax.w32))
+      (Relend.asMut (Referent.rtF (Referent.fInt Syntax.w32))) T55 33 34 9 ref5 ref5 (λ x. x) (Scalar.oFld 4
+      ((Syntax.field 1) ∷ List.[]) (Syntax.tyInt Syntax.w64) 8 λ v. Shared.lenV (v .0))
+
   abbrev s53 : (bs : List.List Nat.ℕ) → Typed.Both T56 T57
-  s53 = λ bs. Call.callB ps·7 r·7 (claims· .14) (claims· .15) T56 (record { pos = 28; ty = Syntax.tyRef Syntax.erased Syntax.mut RelayPending.to; ref
-      = λ x. x; }, (record { pos = 30; ty = Syntax.tyRef Syntax.erased Syntax.mut RelayCircuit.to; ref = λ x. x; }, (record { pos = 32; ty =
-      Syntax.tyRef Syntax.erased Syntax.mut InflightAction.to; ref = λ x. x; }, (record { pos = 34; ty = Syntax.tyRef Syntax.erased Syntax.mut
-      (Syntax.tyInt Syntax.w32); ref = λ x. x; }, (record { pos = 5; st = List.[]; d = 0; at = λ x. x }, (record { pos = 6; st = List.[]; d = 0; at =
-      λ x. x }, (Bool.bAt 8 λ x. x, (record { pos = 13; st = List.[]; d = 0; at = λ x. x }, tt)),),),),),),) 0 (6 ∷ 7 ∷ 8 ∷ 9 ∷ List.[])
-      Laws'''''''.mir
+  s53 = λ bs. Call.callB ps·7 r·7 (claims· .14) (claims· .15) T56 (
+    record { pos = 28; ty = ref2; ref = λ x. x },
+    (
+      record { pos = 30; ty = ref3; ref = λ x. x },
+      (
+        record { pos = 32; ty = ref4; ref = λ x. x },
+        (
+          record { pos = 34; ty = ref5; ref = λ x. x },
+          (
+            record { pos = 5; st = List.[]; d = 0; at = λ x. x },
+            (
+              record { pos = 6; st = List.[]; d = 0; at = λ x. x },
+              (Bool.bAt 8 λ x. x, (record { pos = 13; st = List.[]; d = 0; at = λ x. x }, tt)),
+            ),
+          ),
+        ),
+      ),
+    ),
+  ) 0 (6 ∷ 7 ∷ 8 ∷ 9 ∷ List.[]) Laws'''''''.mir
+
   abbrev s54 : (bs : List.List Nat.ℕ) → Typed.Mo T57 → Typed.Mo T58
   s54 = λ bs. Scalar.n-room T57 5 Laws''''''.mir
+
   abbrev s55 : (bs : List.List Nat.ℕ) → Typed.Mo T58 → Typed.Mo T59
   s55 = λ bs. Scalar.n-room T58 6 Laws''.mir
+
   abbrev s56 : (bs : List.List Nat.ℕ) → Typed.Mo T59 → Typed.Mo T60
   s56 = λ bs. Scalar.n-room T59 13 Laws''''.mir
+
   abbrev s58 : (bs : List.List Nat.ℕ) → Typed.Both T60 T62
   s58 = λ bs. Relend.k-back-sl RelayPending.row T60 28 1 0 6 ref6 ref2 Row.off (λ x. x) λ x. x
+
   abbrev s61 : (bs : List.List Nat.ℕ) → Typed.Both T62 T65
   s61 = λ bs. Relend.k-back-sl RelayCircuit.row T62 30 2 1 7 ref7 ref3 Row.off (λ x. x) λ x. x
+
   abbrev s64 : (bs : List.List Nat.ℕ) → Typed.Both T65 T68
   s64 = λ bs. Relend.k-back-sl InflightAction.row T65 32 3 2 8 ref8 ref4 Row.off (λ x. x) λ x. x
+
   abbrev s67 : (bs : List.List Nat.ℕ) → Typed.Both T68 T71
   s67 = λ bs. Relend.k-back-sl (Referent.rtF (Referent.fInt Syntax.w32)) T68 34 4 3 9 ref9 ref5 Row.off (λ x. x) λ x. x
+
   abbrev s68 : (bs : List.List Nat.ℕ) → Typed.Gives T71 T72
   s68 = λ bs. Know.k-sl-known (Referent.fInt Syntax.w32) T71 4 3 ref9 Row.off 0 λ x. x
+
   abbrev s70 : (bs : List.List Nat.ℕ) → Typed.Mo T72 → Typed.Mo T74
   s70 = λ bs. Scalar.n-room T72 7 (Syntax.tyInt Syntax.w64)
+
   abbrev s71 : (bs : List.List Nat.ℕ) → Typed.Mo T74 → Typed.Mo T75
   s71 = λ bs. Scalar.n-room T74 8 Syntax.tyBool
+
   abbrev s72 : (bs : List.List Nat.ℕ) → Typed.Mo T75 → Typed.Mo T76
   s72 = λ bs. Scalar.n-room T75 15 Syntax.tyBool
+
   abbrev s73 : (bs : List.List Nat.ℕ) → Typed.Mo T42 → Typed.Mo T77
   s73 = λ bs. Scalar.n-room T42 13 Laws''''.mir
+
   abbrev s74 : (bs : List.List Nat.ℕ) → Typed.Mo T77 → Typed.Mo T78
   s74 = λ bs. Scalar.n-room T77 26 Syntax.tyBool
+
   abbrev s75 : (bs : List.List Nat.ℕ) → Typed.Both T43 T79
-  s75 = λ bs. Call.callB ps·8 r·8 (claims· .16) (claims· .17) T43 (record { pos = 5; st = List.[]; d = 0; at = λ x. x }, (record { pos = 6; st =
-      List.[]; d = 0; at = λ x. x }, tt),) 0 List.[] Laws'''''''.mir
+  s75 = λ bs. Call.callB ps·8 r·8 (claims· .16) (claims· .17) T43 (
+    record { pos = 5; st = List.[]; d = 0; at = λ x. x },
+    (record { pos = 6; st = List.[]; d = 0; at = λ x. x }, tt),
+  ) 0 List.[] Laws'''''''.mir
+
   abbrev s76 : (bs : List.List Nat.ℕ) → Typed.Mo T79 → Typed.Mo T80
   s76 = λ bs. Scalar.n-room T79 5 Laws''''''.mir
+
   abbrev s77 : (bs : List.List Nat.ℕ) → Typed.Mo T80 → Typed.Mo T81
   s77 = λ bs. Scalar.n-room T80 6 Laws''.mir
+
   abbrev s78 : (bs : List.List Nat.ℕ) → Typed.Mo T81 → Typed.Mo T82
   s78 = λ bs. Scalar.n-room T81 7 (Syntax.tyInt Syntax.w64)
+
   abbrev s79 : (bs : List.List Nat.ℕ) → Typed.Mo T82 → Typed.Mo T83
   s79 = λ bs. Scalar.n-room T82 8 Syntax.tyBool
+
   abbrev s80 : (bs : List.List Nat.ℕ) → Typed.Mo T83 → Typed.Mo T84
   s80 = λ bs. Scalar.n-room T83 15 Syntax.tyBool
+
   abbrev s81 : (bs : List.List Nat.ℕ) → Typed.Mo T38 → Typed.Mo T85
   s81 = λ bs. Scalar.n-room T38 13 Laws''''.mir
+
   abbrev s82 : (bs : List.List Nat.ℕ) → Typed.Mo T85 → Typed.Mo T86
   s82 = λ bs. Scalar.n-room T85 25 Syntax.tyBool
+
   abbrev s83 : (bs : List.List Nat.ℕ) → Typed.Both T39 T87
-  s83 = λ bs. Call.callB ps·9 r·9 (claims· .18) (claims· .19) T39 (record { pos = 5; st = List.[]; d = 0; at = λ x. x }, (record { pos = 6; st =
-      List.[]; d = 0; at = λ x. x }, (record { pos = 18; st = List.[]; d = 0; at = λ x. x }, tt),),) 0 List.[] Laws'''''''.mir
+  s83 = λ bs. Call.callB ps·9 r·9 (claims· .18) (claims· .19) T39 (
+    record { pos = 5; st = List.[]; d = 0; at = λ x. x },
+    (
+      record { pos = 6; st = List.[]; d = 0; at = λ x. x },
+      (record { pos = 18; st = List.[]; d = 0; at = λ x. x }, tt),
+    ),
+  ) 0 List.[] Laws'''''''.mir
+
   abbrev s84 : (bs : List.List Nat.ℕ) → Typed.Mo T87 → Typed.Mo T88
   s84 = λ bs. Scalar.n-room T87 5 Laws''''''.mir
+
   abbrev s85 : (bs : List.List Nat.ℕ) → Typed.Mo T88 → Typed.Mo T89
   s85 = λ bs. Scalar.n-room T88 6 Laws''.mir
+
   abbrev s86 : (bs : List.List Nat.ℕ) → Typed.Mo T89 → Typed.Mo T90
   s86 = λ bs. Scalar.n-room T89 15 Syntax.tyBool
+
   abbrev s87 : (bs : List.List Nat.ℕ) → Typed.Mo T90 → Typed.Mo T91
   s87 = λ bs. Scalar.n-room T90 18 Laws.mir
+
   abbrev s88 : (bs : List.List Nat.ℕ) → Typed.Mo T91 → Typed.Mo T92
   s88 = λ bs. Scalar.n-room T91 7 (Syntax.tyInt Syntax.w64)
+
   abbrev s89 : (bs : List.List Nat.ℕ) → Typed.Mo T92 → Typed.Mo T93
   s89 = λ bs. Scalar.n-room T92 8 Syntax.tyBool
-  module _ (Pre· : (κs : Lifetimes.Lfts 4) → Kinds.Dens κs ps → Type 0) (Post· : (κs : Lifetimes.Lfts 4) → (a : Kinds.Dens κs ps) → Kinds.Plain 4 ps r
-      κs) where
+
+  module _ (Pre· : (κs : Lifetimes.Lfts 4) → Kinds.Dens κs ps → Type 0) (Post· : (κs : Lifetimes.Lfts 4) →
+      (a : Kinds.Dens κs ps) → Kinds.Plain 4 ps r κs) where
     module _ (M : Type 1) where
       abbrev pub Closed : Type 2
-      Closed = (𝓤 : URA.URA M) (H : Wp.Heap 𝓤) (A : Atoms.Atoms 𝓤) (W : Kit.Given 𝓤 H A) (𝓣 : Wp.Tables 𝓤 H) (known0 : Plain.Known 𝓤 H A W 𝓣 0 ps·0
-          r·0 (claims· .0) (claims· .1) "hnsr_circuit::question::used") (known1 : Plain.Known 𝓤 H A W 𝓣 2 ps·1 r·1 (claims· .2) (claims· .3)
-          "hnsr_circuit::revoking_calls::entry_answer") (known2 : Plain.Known 𝓤 H A W 𝓣 0 ps·2 r·2 (claims· .4) (claims· .5)
-          "hnsr_circuit::acknowledge::generation_answer") (known3 : Plain.Known 𝓤 H A W 𝓣 0 ps·3 r·3 (claims· .6) (claims· .7)
-          "hnsr_circuit::revoking_calls::changed") (known4 : Plain.Known 𝓤 H A W 𝓣 0 ps·4 r·4 (claims· .8) (claims· .9)
-          "hnsr_circuit::revoking_calls::change_answer") (known5 : Plain.Known 𝓤 H A W 𝓣 0 ps·5 r·5 (claims· .10) (claims· .11)
-          "hnsr_circuit::answer::first_refusal") (known6 : Plain.Known 𝓤 H A W 𝓣 0 ps·6 r·6 (claims· .12) (claims· .13)
-          "hnsr_circuit::answer::is_taken") (known7 : Plain.Known 𝓤 H A W 𝓣 4 ps·7 r·7 (claims· .14) (claims· .15)
-          "hnsr_circuit::revoking_calls::switch_to") (known8 : Plain.Known 𝓤 H A W 𝓣 0 ps·8 r·8 (claims· .16) (claims· .17)
-          "hnsr_circuit::revoking_calls::taken_with") (known9 : Plain.Known 𝓤 H A W 𝓣 0 ps·9 r·9 (claims· .18) (claims· .19)
-          "hnsr_circuit::revoking_calls::refused") → Statement.Triple 𝓤 (Wp.WpFn 𝓤 H (𝓣 .C) (𝓣 .Λ) (Function.fnOf 4 ps r xs m hs body))
+      Closed = (𝓤 : URA.URA M) (H : Wp.Heap 𝓤) (A : Atoms.Atoms 𝓤) (W : Kit.Given 𝓤 H A) (𝓣 : Wp.Tables 𝓤 H) (known0 :
+          Plain.Known 𝓤 H A W 𝓣 0 ps·0 r·0 (claims· .0) (claims· .1) "hnsr_circuit::question::used") (known1 :
+          Plain.Known 𝓤 H A W 𝓣 2 ps·1 r·1 (claims· .2) (claims· .3) "hnsr_circuit::revoking_calls::entry_answer") (known2
+          : Plain.Known 𝓤 H A W 𝓣 0 ps·2 r·2 (claims· .4) (claims· .5) "hnsr_circuit::acknowledge::generation_answer") (known3
+          : Plain.Known 𝓤 H A W 𝓣 0 ps·3 r·3 (claims· .6) (claims· .7) "hnsr_circuit::revoking_calls::changed") (known4
+          : Plain.Known 𝓤 H A W 𝓣 0 ps·4 r·4 (claims· .8) (claims· .9) "hnsr_circuit::revoking_calls::change_answer") (known5
+          : Plain.Known 𝓤 H A W 𝓣 0 ps·5 r·5 (claims· .10) (claims· .11) "hnsr_circuit::answer::first_refusal") (known6
+          : Plain.Known 𝓤 H A W 𝓣 0 ps·6 r·6 (claims· .12) (claims· .13) "hnsr_circuit::answer::is_taken") (known7 :
+          Plain.Known 𝓤 H A W 𝓣 4 ps·7 r·7 (claims· .14) (claims· .15) "hnsr_circuit::revoking_calls::switch_to") (known8
+          : Plain.Known 𝓤 H A W 𝓣 0 ps·8 r·8 (claims· .16) (claims· .17) "hnsr_circuit::revoking_calls::taken_with") (known9
+          : Plain.Known 𝓤 H A W 𝓣 0 ps·9 r·9 (claims· .18) (claims· .19) "hnsr_circuit::revoking_calls::refused") →
+          Statement.Triple 𝓤 (Wp.WpFn 𝓤 H (𝓣 .C) (𝓣 .Λ) (Function.fnOf 4 ps r xs m hs body))
           (Function.plainOf 𝓤 H A 4 ps r Pre· Post·)
+
     module _ where
       abbrev at0 : (bs : List.List Nat.ℕ) → Typed.TF T76 O2
       at0 = λ bs. Typed.atRet O2
+
       abbrev at1 : (bs : List.List Nat.ℕ) → Typed.TF T75 O2
       at1 = λ bs. λ Ψ. Typed.pass T75 T76 (s72 bs) (at0 bs Ψ)
+
       abbrev at2 : (bs : List.List Nat.ℕ) → Typed.TF T74 O2
       at2 = λ bs. λ Ψ. Typed.pass T74 T75 (s71 bs) (at1 bs Ψ)
+
       abbrev at3 : (bs : List.List Nat.ℕ) → Typed.TF T72 O2
       at3 = λ bs. λ Ψ. Typed.pass T72 T74 (s70 bs) (at2 bs Ψ)
+
       abbrev at4 : (bs : List.List Nat.ℕ) → Typed.TF T72 O2
       at4 = λ bs. λ Ψ. at3 bs Ψ
+
       abbrev at5 : (bs : List.List Nat.ℕ) → Typed.TF T71 O2
       at5 = λ bs. λ Ψ. Typed.give (s68 bs) (at4 bs Ψ)
+
       abbrev at6 : (bs : List.List Nat.ℕ) → Typed.TF T68 O2
       at6 = λ bs. λ Ψ. Typed.both (s67 bs) (at5 bs Ψ)
+
       abbrev at7 : (bs : List.List Nat.ℕ) → Typed.TF T68 O2
       at7 = λ bs. λ Ψ. at6 bs Ψ
+
       abbrev at8 : (bs : List.List Nat.ℕ) → Typed.TF T68 O2
       at8 = λ bs. λ Ψ. at7 bs Ψ
+
       abbrev at9 : (bs : List.List Nat.ℕ) → Typed.TF T65 O2
       at9 = λ bs. λ Ψ. Typed.both (s64 bs) (at8 bs Ψ)
+
       abbrev at10 : (bs : List.List Nat.ℕ) → Typed.TF T65 O2
       at10 = λ bs. λ Ψ. at9 bs Ψ
+
       abbrev at11 : (bs : List.List Nat.ℕ) → Typed.TF T65 O2
       at11 = λ bs. λ Ψ. at10 bs Ψ
+
       abbrev at12 : (bs : List.List Nat.ℕ) → Typed.TF T62 O2
       at12 = λ bs. λ Ψ. Typed.both (s61 bs) (at11 bs Ψ)
+
       abbrev at13 : (bs : List.List Nat.ℕ) → Typed.TF T62 O2
       at13 = λ bs. λ Ψ. at12 bs Ψ
+
       abbrev at14 : (bs : List.List Nat.ℕ) → Typed.TF T62 O2
       at14 = λ bs. λ Ψ. at13 bs Ψ
+
       abbrev at15 : (bs : List.List Nat.ℕ) → Typed.TF T60 O2
       at15 = λ bs. λ Ψ. Typed.both (s58 bs) (at14 bs Ψ)
+
       abbrev at16 : (bs : List.List Nat.ℕ) → Typed.TF T60 O2
       at16 = λ bs. λ Ψ. at15 bs Ψ
+
       abbrev at17 : (bs : List.List Nat.ℕ) → Typed.TF T59 O2
       at17 = λ bs. λ Ψ. Typed.pass T59 T60 (s56 bs) (at16 bs Ψ)
+
       abbrev at18 : (bs : List.List Nat.ℕ) → Typed.TF T58 O2
       at18 = λ bs. λ Ψ. Typed.pass T58 T59 (s55 bs) (at17 bs Ψ)
+
       abbrev at19 : (bs : List.List Nat.ℕ) → Typed.TF T57 O2
       at19 = λ bs. λ Ψ. Typed.pass T57 T58 (s54 bs) (at18 bs Ψ)
+
       abbrev at20 : (bs : List.List Nat.ℕ) → Typed.TF T56 O2
       at20 = λ bs. λ Ψ. Typed.both (s53 bs) (at19 bs Ψ)
+
       abbrev at21 : (bs : List.List Nat.ℕ) → Typed.TF T55 O2
       at21 = λ bs. λ Ψ. Typed.ask (s52 bs) (at20 bs Ψ)
+
       abbrev at22 : (bs : List.List Nat.ℕ) → Typed.TF T53 O2
       at22 = λ bs. λ Ψ. Typed.give (s51 bs) (at21 bs Ψ)
+
       abbrev at23 : (bs : List.List Nat.ℕ) → Typed.TF T53 O2
       at23 = λ bs. λ Ψ. at22 bs Ψ
+
       abbrev at24 : (bs : List.List Nat.ℕ) → Typed.TF T52 O2
       at24 = λ bs. λ Ψ. Typed.ask (s49 bs) (at23 bs Ψ)
+
       abbrev at25 : (bs : List.List Nat.ℕ) → Typed.TF T50 O2
       at25 = λ bs. λ Ψ. Typed.give (s48 bs) (at24 bs Ψ)
+
       abbrev at26 : (bs : List.List Nat.ℕ) → Typed.TF T50 O2
       at26 = λ bs. λ Ψ. at25 bs Ψ
+
       abbrev at27 : (bs : List.List Nat.ℕ) → Typed.TF T49 O2
       at27 = λ bs. λ Ψ. Typed.ask (s46 bs) (at26 bs Ψ)
+
       abbrev at28 : (bs : List.List Nat.ℕ) → Typed.TF T47 O2
       at28 = λ bs. λ Ψ. Typed.give (s45 bs) (at27 bs Ψ)
+
       abbrev at29 : (bs : List.List Nat.ℕ) → Typed.TF T47 O2
       at29 = λ bs. λ Ψ. at28 bs Ψ
+
       abbrev at30 : (bs : List.List Nat.ℕ) → Typed.TF T46 O2
       at30 = λ bs. λ Ψ. Typed.ask (s43 bs) (at29 bs Ψ)
+
       abbrev at31 : (bs : List.List Nat.ℕ) → Typed.TF T44 O2
       at31 = λ bs. λ Ψ. Typed.give (s42 bs) (at30 bs Ψ)
+
       abbrev at32 : (bs : List.List Nat.ℕ) → Typed.TF T44 O2
       at32 = λ bs. λ Ψ. at31 bs Ψ
+
       abbrev at33 : (bs : List.List Nat.ℕ) → Typed.TF T42 O2
       at33 = λ bs. λ Ψ. Typed.pass T42 T44 (s40 bs) (at32 bs Ψ)
+
       abbrev at34 : (bs : List.List Nat.ℕ) → Typed.TF T78 O2
       at34 = λ bs. Typed.atNext O2
+
       abbrev at35 : (bs : List.List Nat.ℕ) → Typed.TF T77 O2
       at35 = λ bs. λ Ψ. Typed.pass T77 T78 (s74 bs) (at34 bs Ψ)
+
       abbrev at36 : (bs : List.List Nat.ℕ) → Typed.TF T42 O2
       at36 = λ bs. λ Ψ. Typed.pass T42 T77 (s73 bs) (at35 bs Ψ)
+
       abbrev at37 : (bs : List.List Nat.ℕ) → Typed.TF T42 O2
       at37 = λ bs. Scalar.Φcond T42 O2 26 (λ x. x) (at33 bs) (at36 bs)
+
       abbrev at38 : (bs : List.List Nat.ℕ) → Typed.TF T84 O1
       at38 = λ bs. Typed.atRet O1
+
       abbrev at39 : (bs : List.List Nat.ℕ) → Typed.TF T83 O1
       at39 = λ bs. λ Ψ. Typed.pass T83 T84 (s80 bs) (at38 bs Ψ)
+
       abbrev at40 : (bs : List.List Nat.ℕ) → Typed.TF T82 O1
       at40 = λ bs. λ Ψ. Typed.pass T82 T83 (s79 bs) (at39 bs Ψ)
+
       abbrev at41 : (bs : List.List Nat.ℕ) → Typed.TF T81 O1
       at41 = λ bs. λ Ψ. Typed.pass T81 T82 (s78 bs) (at40 bs Ψ)
+
       abbrev at42 : (bs : List.List Nat.ℕ) → Typed.TF T80 O1
       at42 = λ bs. λ Ψ. Typed.pass T80 T81 (s77 bs) (at41 bs Ψ)
+
       abbrev at43 : (bs : List.List Nat.ℕ) → Typed.TF T79 O1
       at43 = λ bs. λ Ψ. Typed.pass T79 T80 (s76 bs) (at42 bs Ψ)
+
       abbrev at44 : (bs : List.List Nat.ℕ) → Typed.TF T43 O1
       at44 = λ bs. λ Ψ. Typed.both (s75 bs) (at43 bs Ψ)
+
       abbrev at45 : (bs : List.List Nat.ℕ) → Typed.TF T42 O1
       at45 = λ bs. λ Ψ. at37 bs (Typed.wantNext T43 O1 (at44 bs Ψ) Ψ)
+
       abbrev at46 : (bs : List.List Nat.ℕ) → Typed.TF T41 O1
       at46 = λ bs. λ Ψ. Typed.pass T41 T42 (s39 bs) (at45 bs Ψ)
+
       abbrev at47 : (bs : List.List Nat.ℕ) → Typed.TF T40 O1
       at47 = λ bs. λ Ψ. Typed.pass T40 T41 (s38 bs) (at46 bs Ψ)
+
       abbrev at48 : (bs : List.List Nat.ℕ) → Typed.TF T38 O1
       at48 = λ bs. λ Ψ. Typed.pass T38 T40 (s37 bs) (at47 bs Ψ)
+
       abbrev at49 : (bs : List.List Nat.ℕ) → Typed.TF T86 O1
       at49 = λ bs. Typed.atNext O1
+
       abbrev at50 : (bs : List.List Nat.ℕ) → Typed.TF T85 O1
       at50 = λ bs. λ Ψ. Typed.pass T85 T86 (s82 bs) (at49 bs Ψ)
+
       abbrev at51 : (bs : List.List Nat.ℕ) → Typed.TF T38 O1
       at51 = λ bs. λ Ψ. Typed.pass T38 T85 (s81 bs) (at50 bs Ψ)
+
       abbrev at52 : (bs : List.List Nat.ℕ) → Typed.TF T38 O1
       at52 = λ bs. Scalar.Φcond T38 O1 25 (λ x. x) (at48 bs) (at51 bs)
+
       abbrev at53 : (bs : List.List Nat.ℕ) → Typed.TF T93 O0
       at53 = λ bs. Typed.atRet O0
+
       abbrev at54 : (bs : List.List Nat.ℕ) → Typed.TF T92 O0
       at54 = λ bs. λ Ψ. Typed.pass T92 T93 (s89 bs) (at53 bs Ψ)
+
       abbrev at55 : (bs : List.List Nat.ℕ) → Typed.TF T91 O0
       at55 = λ bs. λ Ψ. Typed.pass T91 T92 (s88 bs) (at54 bs Ψ)
+
       abbrev at56 : (bs : List.List Nat.ℕ) → Typed.TF T90 O0
       at56 = λ bs. λ Ψ. Typed.pass T90 T91 (s87 bs) (at55 bs Ψ)
+
       abbrev at57 : (bs : List.List Nat.ℕ) → Typed.TF T89 O0
       at57 = λ bs. λ Ψ. Typed.pass T89 T90 (s86 bs) (at56 bs Ψ)
+
       abbrev at58 : (bs : List.List Nat.ℕ) → Typed.TF T88 O0
       at58 = λ bs. λ Ψ. Typed.pass T88 T89 (s85 bs) (at57 bs Ψ)
+
       abbrev at59 : (bs : List.List Nat.ℕ) → Typed.TF T87 O0
       at59 = λ bs. λ Ψ. Typed.pass T87 T88 (s84 bs) (at58 bs Ψ)
+
       abbrev at60 : (bs : List.List Nat.ℕ) → Typed.TF T39 O0
       at60 = λ bs. λ Ψ. Typed.both (s83 bs) (at59 bs Ψ)
+
       abbrev at61 : (bs : List.List Nat.ℕ) → Typed.TF T38 O0
       at61 = λ bs. λ Ψ. at52 bs (Typed.wantNext T39 O0 (at60 bs Ψ) Ψ)
+
       abbrev at62 : (bs : List.List Nat.ℕ) → Typed.TF T37 O0
       at62 = λ bs. λ Ψ. Typed.both (s36 bs) (at61 bs Ψ)
+
       abbrev at63 : (bs : List.List Nat.ℕ) → Typed.TF T36 O0
       at63 = λ bs. λ Ψ. Typed.pass T36 T37 (s35 bs) (at62 bs Ψ)
+
       abbrev at64 : (bs : List.List Nat.ℕ) → Typed.TF T35 O0
       at64 = λ bs. λ Ψ. Typed.pass T35 T36 (s34 bs) (at63 bs Ψ)
+
       abbrev at65 : (bs : List.List Nat.ℕ) → Typed.TF T34 O0
       at65 = λ bs. λ Ψ. Typed.both (s33 bs) (at64 bs Ψ)
+
       abbrev at66 : (bs : List.List Nat.ℕ) → Typed.TF T33 O0
       at66 = λ bs. λ Ψ. Typed.pass T33 T34 (s32 bs) (at65 bs Ψ)
+
       abbrev at67 : (bs : List.List Nat.ℕ) → Typed.TF T32 O0
       at67 = λ bs. λ Ψ. Typed.pass T32 T33 (s31 bs) (at66 bs Ψ)
+
       abbrev at68 : (bs : List.List Nat.ℕ) → Typed.TF T31 O0
       at68 = λ bs. λ Ψ. Typed.both (s30 bs) (at67 bs Ψ)
+
       abbrev at69 : (bs : List.List Nat.ℕ) → Typed.TF T30 O0
       at69 = λ bs. λ Ψ. Typed.both (s29 bs) (at68 bs Ψ)
+
       abbrev at70 : (bs : List.List Nat.ℕ) → Typed.TF T29 O0
       at70 = λ bs. λ Ψ. Typed.both (s28 bs) (at69 bs Ψ)
+
       abbrev at71 : (bs : List.List Nat.ℕ) → Typed.TF T28 O0
       at71 = λ bs. λ Ψ. Typed.both (s27 bs) (at70 bs Ψ)
+
       abbrev at72 : (bs : List.List Nat.ℕ) → Typed.TF T27 O0
       at72 = λ bs. λ Ψ. Typed.pass T27 T28 (s26 bs) (at71 bs Ψ)
+
       abbrev at73 : (bs : List.List Nat.ℕ) → Typed.TF T26 O0
       at73 = λ bs. λ Ψ. Typed.both (s25 bs) (at72 bs Ψ)
+
       abbrev at74 : (bs : List.List Nat.ℕ) → Typed.TF T24 O0
       at74 = λ bs. λ Ψ. Typed.pass T24 T26 (s24 bs) (at73 bs Ψ)
+
       abbrev at75 : (bs : List.List Nat.ℕ) → Typed.TF T24 O0
       at75 = λ bs. λ Ψ. at74 bs Ψ
+
       abbrev at76 : (bs : List.List Nat.ℕ) → Typed.TF T21 O0
       at76 = λ bs. λ Ψ. Typed.pass T21 T24 (s22 bs) (at75 bs Ψ)
+
       abbrev at77 : (bs : List.List Nat.ℕ) → Typed.TF T21 O0
       at77 = λ bs. λ Ψ. at76 bs Ψ
+
       abbrev at78 : (bs : List.List Nat.ℕ) → Typed.TF T21 O0
       at78 = λ bs. λ Ψ. at77 bs Ψ
+
       abbrev at79 : (bs : List.List Nat.ℕ) → Typed.TF T19 O0
       at79 = λ bs. λ Ψ. Typed.pass T19 T21 (s19 bs) (at78 bs Ψ)
+
       abbrev at80 : (bs : List.List Nat.ℕ) → Typed.TF T19 O0
       at80 = λ bs. λ Ψ. at79 bs Ψ
+
       abbrev at81 : (bs : List.List Nat.ℕ) → Typed.TF T18 O0
       at81 = λ bs. λ Ψ. Typed.pass T18 T19 (s17 bs) (at80 bs Ψ)
+
       abbrev at82 : (bs : List.List Nat.ℕ) → Typed.TF T17 O0
       at82 = λ bs. λ Ψ. Typed.pass T17 T18 (s16 bs) (at81 bs Ψ)
+
       abbrev at83 : (bs : List.List Nat.ℕ) → Typed.TF T16 O0
       at83 = λ bs. λ Ψ. Typed.pass T16 T17 (s15 bs) (at82 bs Ψ)
+
       abbrev at84 : (bs : List.List Nat.ℕ) → Typed.TF T15 O0
       at84 = λ bs. λ Ψ. Typed.pass T15 T16 (s14 bs) (at83 bs Ψ)
+
       abbrev at85 : (bs : List.List Nat.ℕ) → Typed.TF T14 O0
       at85 = λ bs. λ Ψ. Typed.pass T14 T15 (s13 bs) (at84 bs Ψ)
+
       abbrev at86 : (bs : List.List Nat.ℕ) → Typed.TF T13 O0
       at86 = λ bs. λ Ψ. Typed.pass T13 T14 (s12 bs) (at85 bs Ψ)
+
       abbrev at87 : (bs : List.List Nat.ℕ) → Typed.TF T12 O0
       at87 = λ bs. λ Ψ. Typed.both (s11 bs) (at86 bs Ψ)
+
       abbrev at88 : (bs : List.List Nat.ℕ) → Typed.TF T11 O0
       at88 = λ bs. λ Ψ. Typed.pass T11 T12 (s10 bs) (at87 bs Ψ)
+
       abbrev at89 : (bs : List.List Nat.ℕ) → Typed.TF T10 O0
       at89 = λ bs. λ Ψ. Typed.pass T10 T11 (s9 bs) (at88 bs Ψ)
+
       abbrev at90 : (bs : List.List Nat.ℕ) → Typed.TF T9 O0
       at90 = λ bs. λ Ψ. Typed.ask (s8 bs) (at89 bs Ψ)
+
       abbrev at91 : (bs : List.List Nat.ℕ) → Typed.TF T7 O0
       at91 = λ bs. λ Ψ. Typed.give (s7 bs) (at90 bs Ψ)
+
       abbrev at92 : (bs : List.List Nat.ℕ) → Typed.TF T7 O0
       at92 = λ bs. λ Ψ. at91 bs Ψ
+
       abbrev at93 : (bs : List.List Nat.ℕ) → Typed.TF T6 O0
       at93 = λ bs. λ Ψ. Typed.ask (s5 bs) (at92 bs Ψ)
+
       abbrev at94 : (bs : List.List Nat.ℕ) → Typed.TF T4 O0
       at94 = λ bs. λ Ψ. Typed.give (s4 bs) (at93 bs Ψ)
+
       abbrev at95 : (bs : List.List Nat.ℕ) → Typed.TF T4 O0
       at95 = λ bs. λ Ψ. at94 bs Ψ
+
       abbrev at96 : (bs : List.List Nat.ℕ) → Typed.TF T3 O0
       at96 = λ bs. λ Ψ. Typed.both (s2 bs) (at95 bs Ψ)
+
       abbrev at97 : (bs : List.List Nat.ℕ) → Typed.TF T2 O0
       at97 = λ bs. λ Ψ. Typed.both (s1 bs) (at96 bs Ψ)
+
       abbrev at98 : (bs : List.List Nat.ℕ) → Typed.TF T0 O0
       at98 = λ bs. λ Ψ. Typed.give (s0 bs) (at97 bs Ψ)
+
       abbrev pub Φ : (bs : List.List Nat.ℕ) → Typed.TF T0 O0
       Φ = λ bs. at98 bs
-      module _ { M : Type 1 } (𝓤 : URA.URA M) (H : Wp.Heap 𝓤) (A : Atoms.Atoms 𝓤) (W : Kit.Given 𝓤 H A) (𝓣 : Wp.Tables 𝓤 H) where
+
+      module _ {M : Type 1} (𝓤 : URA.URA M) (H : Wp.Heap 𝓤) (A : Atoms.Atoms 𝓤) (W : Kit.Given 𝓤 H A)
+          (𝓣 : Wp.Tables 𝓤 H) where
         abbrev Knowns : Type 1
-        Knowns = Plain.Known 𝓤 H A W 𝓣 0 ps·0 r·0 (claims· .0) (claims· .1) "hnsr_circuit::question::used" × Plain.Known 𝓤 H A W 𝓣 2 ps·1 r·1 (claims·
-            .2) (claims· .3) "hnsr_circuit::revoking_calls::entry_answer" × Plain.Known 𝓤 H A W 𝓣 0 ps·2 r·2 (claims· .4) (claims· .5)
-            "hnsr_circuit::acknowledge::generation_answer" × Plain.Known 𝓤 H A W 𝓣 0 ps·3 r·3 (claims· .6) (claims· .7)
-            "hnsr_circuit::revoking_calls::changed" × Plain.Known 𝓤 H A W 𝓣 0 ps·4 r·4 (claims· .8) (claims· .9)
-            "hnsr_circuit::revoking_calls::change_answer" × Plain.Known 𝓤 H A W 𝓣 0 ps·5 r·5 (claims· .10) (claims· .11)
-            "hnsr_circuit::answer::first_refusal" × Plain.Known 𝓤 H A W 𝓣 0 ps·6 r·6 (claims· .12) (claims· .13) "hnsr_circuit::answer::is_taken" ×
-            Plain.Known 𝓤 H A W 𝓣 4 ps·7 r·7 (claims· .14) (claims· .15) "hnsr_circuit::revoking_calls::switch_to" × Plain.Known 𝓤 H A W 𝓣 0 ps·8 r·8
-            (claims· .16) (claims· .17) "hnsr_circuit::revoking_calls::taken_with" × Plain.Known 𝓤 H A W 𝓣 0 ps·9 r·9 (claims· .18) (claims· .19)
-            "hnsr_circuit::revoking_calls::refused"
+        Knowns = Plain.Known 𝓤 H A W 𝓣 0 ps·0 r·0 (claims· .0) (claims· .1) "hnsr_circuit::question::used" ×
+            Plain.Known 𝓤 H A W 𝓣 2 ps·1 r·1 (claims· .2) (claims· .3) "hnsr_circuit::revoking_calls::entry_answer" ×
+            Plain.Known 𝓤 H A W 𝓣 0 ps·2 r·2 (claims· .4) (claims· .5) "hnsr_circuit::acknowledge::generation_answer" ×
+            Plain.Known 𝓤 H A W 𝓣 0 ps·3 r·3 (claims· .6) (claims· .7) "hnsr_circuit::revoking_calls::changed" ×
+            Plain.Known 𝓤 H A W 𝓣 0 ps·4 r·4 (claims· .8) (claims· .9) "hnsr_circuit::revoking_calls::change_answer" ×
+            Plain.Known 𝓤 H A W 𝓣 0 ps·5 r·5 (claims· .10) (claims· .11) "hnsr_circuit::answer::first_refusal" ×
+            Plain.Known 𝓤 H A W 𝓣 0 ps·6 r·6 (claims· .12) (claims· .13) "hnsr_circuit::answer::is_taken" × Plain.Known
+            𝓤 H A W 𝓣 4 ps·7 r·7 (claims· .14) (claims· .15) "hnsr_circuit::revoking_calls::switch_to" × Plain.Known 𝓤
+            H A W 𝓣 0 ps·8 r·8 (claims· .16) (claims· .17) "hnsr_circuit::revoking_calls::taken_with" × Plain.Known 𝓤 H
+            A W 𝓣 0 ps·9 r·9 (claims· .18) (claims· .19) "hnsr_circuit::revoking_calls::refused"
+
       module _ (κs : Lifetimes.Lfts 4) (qs : Lifetimes.Shares 4) where
         abbrev life0 : Row.Life
         life0 = Row.lease (κs .0) (qs .0)
+
         abbrev life1 : Row.Life
         life1 = Row.lease (κs .1 .0) (qs .1 .0)
+
         abbrev life2 : Row.Life
         life2 = Row.lease (κs .1 .1 .0) (qs .1 .1 .0)
+
         abbrev life3 : Row.Life
         life3 = Row.lease (κs .1 .1 .1 .0) (qs .1 .1 .1 .0)
+
+        abbrev l1 : Row.Entry
+        l1 = (1, Reshare.mslice-owedS RelayPending.row ref6 0 4 life0)
+
+        abbrev l2 : Row.Entry
+        l2 = (2, Reshare.mslice-owedS RelayCircuit.row ref7 1 5 life1)
+
+        abbrev l1·1 : Row.Entry
+        l1·1 = (1, Relend.mslice-owed RelayPending.row ref6 0 6 life0)
+
+        abbrev l2·1 : Row.Entry
+        l2·1 = (2, Relend.mslice-owed RelayCircuit.row ref7 1 7 life1)
+
+        abbrev l3 : Row.Entry
+        l3 = (3, Relend.mslice-owed InflightAction.row ref8 2 8 life2)
+
+        abbrev l4 : Row.Entry
+        l4 = (4, Relend.mslice-owed (Referent.rtF (Referent.fInt Syntax.w32)) ref9 3 9 life3)
+
         abbrev g6 : List.List Row.Entry
-        g6 = (0, Rows.any-gone Laws'''''''.mir,) ∷ (1, Reshare.mslice-owedS RelayPending.row ref6 0 4 life0,) ∷ (2, Mut.mslice RelayCircuit.row ref7
-            1,) ∷ (3, Mut.mslice InflightAction.row ref8 2,) ∷ (4, Mut.mslice (Referent.rtF (Referent.fInt Syntax.w32)) ref9 3,) ∷ (5, Rows.whole
-            (Declared'.row OpaqueRelayRuntime.the-type)) ∷ (6, Rows.whole (Declared'.row Places.the-type),) ∷ (7, Rows.sc-here (Row.sInt Syntax.w64))
-            ∷ (8, Rows.sc-here Row.sBool,) ∷ (9, Rows.whole (Declared'.row OpaqueRelayConfig.the-type)) ∷ (10, Rows.whole (Declared'.row
-            Question.the-type),) ∷ (11, Rows.any-gone Laws'''''.mir,) ∷ (12, Rows.any-gone Laws.mir,) ∷ (13, Rows.any-gone Laws''''.mir,) ∷ (14,
-            Rows.any-gone Laws.mir,) ∷ (15, Rows.any-gone Syntax.tyBool) ∷ List.[]
+        g6 = e0 ∷ l1 ∷ e2 ∷ e3 ∷ e4 ∷ e5 ∷ e6 ∷ e7 ∷ e8 ∷ e9·1 ∷ e10·1 ∷ e11 ∷ e12 ∷ e13 ∷ e14 ∷ e15 ∷ List.[]
+
         abbrev g9 : List.List Row.Entry
-        g9 = (0, Rows.any-gone Laws'''''''.mir,) ∷ (1, Reshare.mslice-owedS RelayPending.row ref6 0 4 life0,) ∷ (2, Reshare.mslice-owedS
-            RelayCircuit.row ref7 1 5 life1,) ∷ (3, Mut.mslice InflightAction.row ref8 2,) ∷ (4, Mut.mslice (Referent.rtF (Referent.fInt Syntax.w32))
-            ref9 3,) ∷ (5, Rows.whole (Declared'.row OpaqueRelayRuntime.the-type)) ∷ (6, Rows.whole (Declared'.row Places.the-type),) ∷ (7,
-            Rows.sc-here (Row.sInt Syntax.w64)) ∷ (8, Rows.sc-here Row.sBool,) ∷ (9, Rows.whole (Declared'.row OpaqueRelayConfig.the-type)) ∷ (10,
-            Rows.whole (Declared'.row Question.the-type),) ∷ (11, Rows.any-gone Laws'''''.mir,) ∷ (12, Rows.any-gone Laws.mir,) ∷ (13, Rows.any-gone
-            Laws''''.mir,) ∷ (14, Rows.any-gone Laws.mir,) ∷ (15, Rows.any-gone Syntax.tyBool) ∷ List.[]
+        g9 = e0 ∷ l1 ∷ l2 ∷ e3 ∷ e4 ∷ e5 ∷ e6 ∷ e7 ∷ e8 ∷ e9·1 ∷ e10·1 ∷ e11 ∷ e12 ∷ e13 ∷ e14 ∷ e15 ∷ List.[]
+
         abbrev g14 : List.List Row.Entry
-        g14 = (0, Rows.any-gone Laws'''''''.mir,) ∷ (1, Reshare.mslice-owedS RelayPending.row ref6 0 4 life0,) ∷ (2, Reshare.mslice-owedS
-            RelayCircuit.row ref7 1 5 life1,) ∷ (3, Mut.mslice InflightAction.row ref8 2,) ∷ (4, Mut.mslice (Referent.rtF (Referent.fInt Syntax.w32))
-            ref9 3,) ∷ (5, Rows.whole (Declared'.row OpaqueRelayRuntime.the-type)) ∷ (6, Rows.whole (Declared'.row Places.the-type),) ∷ (7,
-            Rows.sc-here (Row.sInt Syntax.w64)) ∷ (8, Rows.sc-here Row.sBool,) ∷ (9, Rows.whole (Declared'.row OpaqueRelayConfig.the-type)) ∷ (10,
-            Rows.whole (Declared'.row Question.the-type),) ∷ (11, Rows.whole (Declared'.row Entered.the-type)) ∷ (12, Rows.any-gone Laws.mir,) ∷ (13,
-            Rows.any-gone Laws''''.mir,) ∷ (14, Rows.any-gone Laws.mir,) ∷ (15, Rows.any-gone Syntax.tyBool) ∷ List.[]
+        g14 = e0 ∷ l1 ∷ l2 ∷ e3 ∷ e4 ∷ e5 ∷ e6 ∷ e7 ∷ e8 ∷ e9·1 ∷ e10·1 ∷ e11·1 ∷ e12 ∷ e13 ∷ e14 ∷ e15 ∷ List.[]
+
         abbrev g17 : List.List Row.Entry
-        g17 = (0, Rows.any-gone Laws'''''''.mir,) ∷ (1, Reshare.mslice-owedS RelayPending.row ref6 0 4 life0,) ∷ (2, Reshare.mslice-owedS
-            RelayCircuit.row ref7 1 5 life1,) ∷ (3, Mut.mslice InflightAction.row ref8 2,) ∷ (4, Mut.mslice (Referent.rtF (Referent.fInt Syntax.w32))
-            ref9 3,) ∷ (5, Rows.whole (Declared'.row OpaqueRelayRuntime.the-type)) ∷ (6, Rows.whole (Declared'.row Places.the-type),) ∷ (7,
-            Rows.sc-here (Row.sInt Syntax.w64)) ∷ (8, Rows.sc-here Row.sBool,) ∷ (9, Rows.any-gone Laws'.mir,) ∷ (10, Rows.whole (Declared'.row
-            Question.the-type)) ∷ (11, Rows.whole (Declared'.row Entered.the-type),) ∷ (12, Rows.any-gone Laws.mir,) ∷ (13, Rows.any-gone
-            Laws''''.mir,) ∷ (14, Rows.any-gone Laws.mir,) ∷ (15, Rows.any-gone Syntax.tyBool) ∷ List.[]
+        g17 = e0 ∷ l1 ∷ l2 ∷ e3 ∷ e4 ∷ e5 ∷ e6 ∷ e7 ∷ e8 ∷ e9 ∷ e10·1 ∷ e11·1 ∷ e12 ∷ e13 ∷ e14 ∷ e15 ∷ List.[]
+
         abbrev g18 : List.List Row.Entry
-        g18 = (0, Rows.any-gone Laws'''''''.mir,) ∷ (1, Reshare.mslice-owedS RelayPending.row ref6 0 4 life0,) ∷ (2, Reshare.mslice-owedS
-            RelayCircuit.row ref7 1 5 life1,) ∷ (3, Mut.mslice InflightAction.row ref8 2,) ∷ (4, Mut.mslice (Referent.rtF (Referent.fInt Syntax.w32))
-            ref9 3,) ∷ (5, Rows.whole (Declared'.row OpaqueRelayRuntime.the-type)) ∷ (6, Rows.whole (Declared'.row Places.the-type),) ∷ (7,
-            Rows.sc-here (Row.sInt Syntax.w64)) ∷ (8, Rows.sc-here Row.sBool,) ∷ (9, Rows.any-gone Laws'.mir,) ∷ (10, Rows.any-gone Laws'''.mir,) ∷
-            (11, Rows.whole (Declared'.row Entered.the-type)) ∷ (12, Rows.any-gone Laws.mir,) ∷ (13, Rows.any-gone Laws''''.mir,) ∷ (14, Rows.any-gone
-            Laws.mir,) ∷ (15, Rows.any-gone Syntax.tyBool) ∷ List.[]
+        g18 = e0 ∷ l1 ∷ l2 ∷ e3 ∷ e4 ∷ e5 ∷ e6 ∷ e7 ∷ e8 ∷ e9 ∷ e10 ∷ e11·1 ∷ e12 ∷ e13 ∷ e14 ∷ e15 ∷ List.[]
+
         abbrev g20 : List.List Row.Entry
-        g20 = (0, Rows.any-gone Laws'''''''.mir,) ∷ (1, Mut.mslice RelayPending.row ref6 0,) ∷ (2, Reshare.mslice-owedS RelayCircuit.row ref7 1 5
-            life1,) ∷ (3, Mut.mslice InflightAction.row ref8 2,) ∷ (4, Mut.mslice (Referent.rtF (Referent.fInt Syntax.w32)) ref9 3,) ∷ (5, Rows.whole
-            (Declared'.row OpaqueRelayRuntime.the-type)) ∷ (6, Rows.whole (Declared'.row Places.the-type),) ∷ (7, Rows.sc-here (Row.sInt Syntax.w64))
-            ∷ (8, Rows.sc-here Row.sBool,) ∷ (9, Rows.any-gone Laws'.mir,) ∷ (10, Rows.any-gone Laws'''.mir,) ∷ (11, Rows.whole (Declared'.row
-            Entered.the-type)) ∷ (12, Rows.any-gone Laws.mir,) ∷ (13, Rows.any-gone Laws''''.mir,) ∷ (14, Rows.any-gone Laws.mir,) ∷ (15,
-            Rows.any-gone Syntax.tyBool) ∷ List.[]
+        g20 = e0 ∷ e1 ∷ l2 ∷ e3 ∷ e4 ∷ e5 ∷ e6 ∷ e7 ∷ e8 ∷ e9 ∷ e10 ∷ e11·1 ∷ e12 ∷ e13 ∷ e14 ∷ e15 ∷ List.[]
+
         abbrev g38 : List.List Row.Entry
-        g38 = (0, Rows.any-gone Laws'''''''.mir,) ∷ (1, Relend.mslice-owed RelayPending.row ref6 0 6 life0,) ∷ (2, Mut.mslice RelayCircuit.row ref7
-            1,) ∷ (3, Mut.mslice InflightAction.row ref8 2,) ∷ (4, Mut.mslice (Referent.rtF (Referent.fInt Syntax.w32)) ref9 3,) ∷ (5, Rows.whole
-            (Declared'.row OpaqueRelayRuntime.the-type)) ∷ (6, Rows.whole (Declared'.row Places.the-type),) ∷ (7, Rows.sc-here (Row.sInt Syntax.w64))
-            ∷ (8, Rows.sc-here Row.sBool,) ∷ (9, Rows.any-gone Laws'.mir,) ∷ (10, Rows.any-gone Laws'''.mir,) ∷ (11, Rows.any-gone Laws'''''.mir,) ∷
-            (12, Rows.any-gone Laws.mir,) ∷ (13, Rows.whole (Declared'.row Firsts.the-type)) ∷ (14, Rows.any-gone Laws.mir,) ∷ (15, Rows.sc-here
-            Row.sBool) ∷ List.[]
+        g38 = e0 ∷ l1·1 ∷ e2 ∷ e3 ∷ e4 ∷ e5 ∷ e6 ∷ e7 ∷ e8 ∷ e9 ∷ e10 ∷ e11 ∷ e12 ∷ e13·1 ∷ e14 ∷ e15·1 ∷ List.[]
+
         abbrev g41 : List.List Row.Entry
-        g41 = (0, Rows.any-gone Laws'''''''.mir,) ∷ (1, Relend.mslice-owed RelayPending.row ref6 0 6 life0,) ∷ (2, Relend.mslice-owed RelayCircuit.row
-            ref7 1 7 life1,) ∷ (3, Mut.mslice InflightAction.row ref8 2,) ∷ (4, Mut.mslice (Referent.rtF (Referent.fInt Syntax.w32)) ref9 3,) ∷ (5,
-            Rows.whole (Declared'.row OpaqueRelayRuntime.the-type)) ∷ (6, Rows.whole (Declared'.row Places.the-type),) ∷ (7, Rows.sc-here (Row.sInt
-            Syntax.w64)) ∷ (8, Rows.sc-here Row.sBool,) ∷ (9, Rows.any-gone Laws'.mir,) ∷ (10, Rows.any-gone Laws'''.mir,) ∷ (11, Rows.any-gone
-            Laws'''''.mir,) ∷ (12, Rows.any-gone Laws.mir,) ∷ (13, Rows.whole (Declared'.row Firsts.the-type)) ∷ (14, Rows.any-gone Laws.mir,) ∷ (15,
-            Rows.sc-here Row.sBool) ∷ List.[]
+        g41 = e0 ∷ l1·1 ∷ l2·1 ∷ e3 ∷ e4 ∷ e5 ∷ e6 ∷ e7 ∷ e8 ∷ e9 ∷ e10 ∷ e11 ∷ e12 ∷ e13·1 ∷ e14 ∷ e15·1 ∷ List.[]
+
         abbrev g44 : List.List Row.Entry
-        g44 = (0, Rows.any-gone Laws'''''''.mir,) ∷ (1, Relend.mslice-owed RelayPending.row ref6 0 6 life0,) ∷ (2, Relend.mslice-owed RelayCircuit.row
-            ref7 1 7 life1,) ∷ (3, Relend.mslice-owed InflightAction.row ref8 2 8 life2,) ∷ (4, Mut.mslice (Referent.rtF (Referent.fInt Syntax.w32))
-            ref9 3,) ∷ (5, Rows.whole (Declared'.row OpaqueRelayRuntime.the-type)) ∷ (6, Rows.whole (Declared'.row Places.the-type),) ∷ (7,
-            Rows.sc-here (Row.sInt Syntax.w64)) ∷ (8, Rows.sc-here Row.sBool,) ∷ (9, Rows.any-gone Laws'.mir,) ∷ (10, Rows.any-gone Laws'''.mir,) ∷
-            (11, Rows.any-gone Laws'''''.mir,) ∷ (12, Rows.any-gone Laws.mir,) ∷ (13, Rows.whole (Declared'.row Firsts.the-type)) ∷ (14, Rows.any-gone
-            Laws.mir,) ∷ (15, Rows.sc-here Row.sBool) ∷ List.[]
+        g44 = e0 ∷ l1·1 ∷ l2·1 ∷ l3 ∷ e4 ∷ e5 ∷ e6 ∷ e7 ∷ e8 ∷ e9 ∷ e10 ∷ e11 ∷ e12 ∷ e13·1 ∷ e14 ∷ e15·1 ∷ List.[]
+
         abbrev g47 : List.List Row.Entry
-        g47 = (0, Rows.any-gone Laws'''''''.mir,) ∷ (1, Relend.mslice-owed RelayPending.row ref6 0 6 life0,) ∷ (2, Relend.mslice-owed RelayCircuit.row
-            ref7 1 7 life1,) ∷ (3, Relend.mslice-owed InflightAction.row ref8 2 8 life2,) ∷ (4, Relend.mslice-owed (Referent.rtF (Referent.fInt
-            Syntax.w32)) ref9 3 9 life3,) ∷ (5, Rows.whole (Declared'.row OpaqueRelayRuntime.the-type)) ∷ (6, Rows.whole (Declared'.row
-            Places.the-type),) ∷ (7, Rows.sc-here (Row.sInt Syntax.w64)) ∷ (8, Rows.sc-here Row.sBool,) ∷ (9, Rows.any-gone Laws'.mir,) ∷ (10,
-            Rows.any-gone Laws'''.mir,) ∷ (11, Rows.any-gone Laws'''''.mir,) ∷ (12, Rows.any-gone Laws.mir,) ∷ (13, Rows.whole (Declared'.row
-            Firsts.the-type)) ∷ (14, Rows.any-gone Laws.mir,) ∷ (15, Rows.sc-here Row.sBool) ∷ List.[]
+        g47 = e0 ∷ l1·1 ∷ l2·1 ∷ l3 ∷ l4 ∷ e5 ∷ e6 ∷ e7 ∷ e8 ∷ e9 ∷ e10 ∷ e11 ∷ e12 ∷ e13·1 ∷ e14 ∷ e15·1 ∷ List.[]
+
         abbrev g50 : List.List Row.Entry
-        g50 = (0, Rows.whole (Declared'.row Relayed.the-type)) ∷ (1, Relend.mslice-owed RelayPending.row ref6 0 6 life0,) ∷ (2, Relend.mslice-owed
-            RelayCircuit.row ref7 1 7 life1,) ∷ (3, Relend.mslice-owed InflightAction.row ref8 2 8 life2,) ∷ (4, Relend.mslice-owed (Referent.rtF
-            (Referent.fInt Syntax.w32)) ref9 3 9 life3,) ∷ (5, Rows.whole (Declared'.row OpaqueRelayRuntime.the-type)) ∷ (6, Rows.whole (Declared'.row
-            Places.the-type),) ∷ (7, Rows.sc-here (Row.sInt Syntax.w64)) ∷ (8, Rows.sc-here Row.sBool,) ∷ (9, Rows.any-gone Laws'.mir,) ∷ (10,
-            Rows.any-gone Laws'''.mir,) ∷ (11, Rows.any-gone Laws'''''.mir,) ∷ (12, Rows.any-gone Laws.mir,) ∷ (13, Rows.whole (Declared'.row
-            Firsts.the-type)) ∷ (14, Rows.any-gone Laws.mir,) ∷ (15, Rows.sc-here Row.sBool) ∷ List.[]
+        g50 = e0·1 ∷ l1·1 ∷ l2·1 ∷ l3 ∷ l4 ∷ e5 ∷ e6 ∷ e7 ∷ e8 ∷ e9 ∷ e10 ∷ e11 ∷ e12 ∷ e13·1 ∷ e14 ∷ e15·1 ∷ List.[]
+
         abbrev g53 : List.List Row.Entry
-        g53 = (0, Rows.whole (Declared'.row Relayed.the-type)) ∷ (1, Relend.mslice-owed RelayPending.row ref6 0 6 life0,) ∷ (2, Relend.mslice-owed
-            RelayCircuit.row ref7 1 7 life1,) ∷ (3, Relend.mslice-owed InflightAction.row ref8 2 8 life2,) ∷ (4, Relend.mslice-owed (Referent.rtF
-            (Referent.fInt Syntax.w32)) ref9 3 9 life3,) ∷ (5, Rows.any-gone Laws''''''.mir,) ∷ (6, Rows.whole (Declared'.row Places.the-type)) ∷ (7,
-            Rows.sc-here (Row.sInt Syntax.w64),) ∷ (8, Rows.sc-here Row.sBool) ∷ (9, Rows.any-gone Laws'.mir,) ∷ (10, Rows.any-gone Laws'''.mir,) ∷
-            (11, Rows.any-gone Laws'''''.mir,) ∷ (12, Rows.any-gone Laws.mir,) ∷ (13, Rows.whole (Declared'.row Firsts.the-type)) ∷ (14, Rows.any-gone
-            Laws.mir,) ∷ (15, Rows.sc-here Row.sBool) ∷ List.[]
+        g53 = e0·1 ∷ l1·1 ∷ l2·1 ∷ l3 ∷ l4 ∷ e5·1 ∷ e6 ∷ e7 ∷ e8 ∷ e9 ∷ e10 ∷ e11 ∷ e12 ∷ e13·1 ∷ e14 ∷ e15·1 ∷ List.[]
+
         abbrev g54 : List.List Row.Entry
-        g54 = (0, Rows.whole (Declared'.row Relayed.the-type)) ∷ (1, Relend.mslice-owed RelayPending.row ref6 0 6 life0,) ∷ (2, Relend.mslice-owed
-            RelayCircuit.row ref7 1 7 life1,) ∷ (3, Relend.mslice-owed InflightAction.row ref8 2 8 life2,) ∷ (4, Relend.mslice-owed (Referent.rtF
-            (Referent.fInt Syntax.w32)) ref9 3 9 life3,) ∷ (5, Rows.any-gone Laws''''''.mir,) ∷ (6, Rows.any-gone Laws''.mir,) ∷ (7, Rows.sc-here
-            (Row.sInt Syntax.w64)) ∷ (8, Rows.sc-here Row.sBool,) ∷ (9, Rows.any-gone Laws'.mir,) ∷ (10, Rows.any-gone Laws'''.mir,) ∷ (11,
-            Rows.any-gone Laws'''''.mir,) ∷ (12, Rows.any-gone Laws.mir,) ∷ (13, Rows.whole (Declared'.row Firsts.the-type)) ∷ (14, Rows.any-gone
-            Laws.mir,) ∷ (15, Rows.sc-here Row.sBool) ∷ List.[]
+        g54 = e0·1 ∷ l1·1 ∷ l2·1 ∷ l3 ∷ l4 ∷ e5·1 ∷ e6·1 ∷ e7 ∷ e8 ∷ e9 ∷ e10 ∷ e11 ∷ e12 ∷ e13·1 ∷ e14 ∷ e15·1 ∷
+            List.[]
+
         abbrev g55 : List.List Row.Entry
-        g55 = (0, Rows.whole (Declared'.row Relayed.the-type)) ∷ (1, Relend.mslice-owed RelayPending.row ref6 0 6 life0,) ∷ (2, Relend.mslice-owed
-            RelayCircuit.row ref7 1 7 life1,) ∷ (3, Relend.mslice-owed InflightAction.row ref8 2 8 life2,) ∷ (4, Relend.mslice-owed (Referent.rtF
-            (Referent.fInt Syntax.w32)) ref9 3 9 life3,) ∷ (5, Rows.any-gone Laws''''''.mir,) ∷ (6, Rows.any-gone Laws''.mir,) ∷ (7, Rows.sc-here
-            (Row.sInt Syntax.w64)) ∷ (8, Rows.sc-here Row.sBool,) ∷ (9, Rows.any-gone Laws'.mir,) ∷ (10, Rows.any-gone Laws'''.mir,) ∷ (11,
-            Rows.any-gone Laws'''''.mir,) ∷ (12, Rows.any-gone Laws.mir,) ∷ (13, Rows.any-gone Laws''''.mir,) ∷ (14, Rows.any-gone Laws.mir,) ∷ (15,
-            Rows.sc-here Row.sBool) ∷ List.[]
+        g55 = e0·1 ∷ l1·1 ∷ l2·1 ∷ l3 ∷ l4 ∷ e5·1 ∷ e6·1 ∷ e7 ∷ e8 ∷ e9 ∷ e10 ∷ e11 ∷ e12 ∷ e13 ∷ e14 ∷ e15·1 ∷ List.[]
+
         abbrev g56 : List.List Row.Entry
-        g56 = (0, Rows.whole (Declared'.row Relayed.the-type)) ∷ (1, Mut.mslice RelayPending.row ref6 0,) ∷ (2, Relend.mslice-owed RelayCircuit.row
-            ref7 1 7 life1,) ∷ (3, Relend.mslice-owed InflightAction.row ref8 2 8 life2,) ∷ (4, Relend.mslice-owed (Referent.rtF (Referent.fInt
-            Syntax.w32)) ref9 3 9 life3,) ∷ (5, Rows.any-gone Laws''''''.mir,) ∷ (6, Rows.any-gone Laws''.mir,) ∷ (7, Rows.sc-here (Row.sInt
-            Syntax.w64)) ∷ (8, Rows.sc-here Row.sBool,) ∷ (9, Rows.any-gone Laws'.mir,) ∷ (10, Rows.any-gone Laws'''.mir,) ∷ (11, Rows.any-gone
-            Laws'''''.mir,) ∷ (12, Rows.any-gone Laws.mir,) ∷ (13, Rows.any-gone Laws''''.mir,) ∷ (14, Rows.any-gone Laws.mir,) ∷ (15, Rows.sc-here
-            Row.sBool) ∷ List.[]
+        g56 = e0·1 ∷ e1 ∷ l2·1 ∷ l3 ∷ l4 ∷ e5·1 ∷ e6·1 ∷ e7 ∷ e8 ∷ e9 ∷ e10 ∷ e11 ∷ e12 ∷ e13 ∷ e14 ∷ e15·1 ∷ List.[]
+
         abbrev g58 : List.List Row.Entry
-        g58 = (0, Rows.whole (Declared'.row Relayed.the-type)) ∷ (1, Mut.mslice RelayPending.row ref6 0,) ∷ (2, Mut.mslice RelayCircuit.row ref7 1,) ∷
-            (3, Relend.mslice-owed InflightAction.row ref8 2 8 life2,) ∷ (4, Relend.mslice-owed (Referent.rtF (Referent.fInt Syntax.w32)) ref9 3 9
-            life3,) ∷ (5, Rows.any-gone Laws''''''.mir,) ∷ (6, Rows.any-gone Laws''.mir,) ∷ (7, Rows.sc-here (Row.sInt Syntax.w64)) ∷ (8, Rows.sc-here
-            Row.sBool,) ∷ (9, Rows.any-gone Laws'.mir,) ∷ (10, Rows.any-gone Laws'''.mir,) ∷ (11, Rows.any-gone Laws'''''.mir,) ∷ (12, Rows.any-gone
-            Laws.mir,) ∷ (13, Rows.any-gone Laws''''.mir,) ∷ (14, Rows.any-gone Laws.mir,) ∷ (15, Rows.sc-here Row.sBool) ∷ List.[]
+        g58 = e0·1 ∷ e1 ∷ e2 ∷ l3 ∷ l4 ∷ e5·1 ∷ e6·1 ∷ e7 ∷ e8 ∷ e9 ∷ e10 ∷ e11 ∷ e12 ∷ e13 ∷ e14 ∷ e15·1 ∷ List.[]
+
         abbrev g59 : List.List Row.Entry
-        g59 = (0, Rows.whole (Declared'.row Relayed.the-type)) ∷ (1, Mut.mslice RelayPending.row ref6 0,) ∷ (2, Mut.mslice RelayCircuit.row ref7 1,) ∷
-            (3, Mut.mslice InflightAction.row ref8 2,) ∷ (4, Relend.mslice-owed (Referent.rtF (Referent.fInt Syntax.w32)) ref9 3 9 life3,) ∷ (5,
-            Rows.any-gone Laws''''''.mir,) ∷ (6, Rows.any-gone Laws''.mir,) ∷ (7, Rows.sc-here (Row.sInt Syntax.w64)) ∷ (8, Rows.sc-here Row.sBool,) ∷
-            (9, Rows.any-gone Laws'.mir,) ∷ (10, Rows.any-gone Laws'''.mir,) ∷ (11, Rows.any-gone Laws'''''.mir,) ∷ (12, Rows.any-gone Laws.mir,) ∷
-            (13, Rows.any-gone Laws''''.mir,) ∷ (14, Rows.any-gone Laws.mir,) ∷ (15, Rows.sc-here Row.sBool) ∷ List.[]
+        g59 = e0·1 ∷ e1 ∷ e2 ∷ e3 ∷ l4 ∷ e5·1 ∷ e6·1 ∷ e7 ∷ e8 ∷ e9 ∷ e10 ∷ e11 ∷ e12 ∷ e13 ∷ e14 ∷ e15·1 ∷ List.[]
+
         abbrev G0 : Row.Cx
-        G0 = record { locals = List._++_ t0 (List._++_ t1 t2); slots = life0 ∷ life1 ∷ life2 ∷ life3 ∷ Row.off ∷ Row.off ∷ Row.off ∷ Row.off ∷ Row.off
-            ∷ Row.off ∷ List.[]; }
+        G0 = record {
+          locals = List._++_ t0 (List._++_ t1 t2);
+          slots = life0 ∷ life1 ∷ life2 ∷ life3 ∷ Row.off ∷ Row.off ∷ Row.off ∷ Row.off ∷ Row.off ∷ Row.off ∷ List.[];
+        }
+
         abbrev G1 : Row.Cx
-        G1 = record { locals = List._++_ t3 (List._++_ t1 t2); slots = life0 ∷ life1 ∷ life2 ∷ life3 ∷ Row.off ∷ Row.off ∷ Row.off ∷ Row.off ∷ Row.off
-            ∷ Row.off ∷ List.[]; }
+        G1 = record {
+          locals = List._++_ t3 (List._++_ t1 t2);
+          slots = life0 ∷ life1 ∷ life2 ∷ life3 ∷ Row.off ∷ Row.off ∷ Row.off ∷ Row.off ∷ Row.off ∷ Row.off ∷ List.[];
+        }
+
         abbrev G2 : Row.Cx
-        G2 = record { locals = List._++_ t0 (List._++_ t1 t2); slots = life0 ∷ life1 ∷ life2 ∷ life3 ∷ Row.off ∷ Row.off ∷ Row.off ∷ Row.off ∷ Row.off
-            ∷ Row.off ∷ List.[]; }
+        G2 = record {
+          locals = List._++_ t0 (List._++_ t1 t2);
+          slots = life0 ∷ life1 ∷ life2 ∷ life3 ∷ Row.off ∷ Row.off ∷ Row.off ∷ Row.off ∷ Row.off ∷ Row.off ∷ List.[];
+        }
+
         abbrev G3 : Row.Cx
-        G3 = record { locals = List._++_ t4 (List._++_ t1 t2); slots = life0 ∷ life1 ∷ life2 ∷ life3 ∷ Row.off ∷ Row.off ∷ Row.off ∷ Row.off ∷ Row.off
-            ∷ Row.off ∷ List.[]; }
+        G3 = record {
+          locals = List._++_ t4 (List._++_ t1 t2);
+          slots = life0 ∷ life1 ∷ life2 ∷ life3 ∷ Row.off ∷ Row.off ∷ Row.off ∷ Row.off ∷ Row.off ∷ Row.off ∷ List.[];
+        }
+
         abbrev G4 : Row.Cx
-        G4 = record { locals = List._++_ t5 (List._++_ t1 t2); slots = life0 ∷ life1 ∷ life2 ∷ life3 ∷ Row.off ∷ Row.off ∷ Row.off ∷ Row.off ∷ Row.off
-            ∷ Row.off ∷ List.[]; }
+        G4 = record {
+          locals = List._++_ t5 (List._++_ t1 t2);
+          slots = life0 ∷ life1 ∷ life2 ∷ life3 ∷ Row.off ∷ Row.off ∷ Row.off ∷ Row.off ∷ Row.off ∷ Row.off ∷ List.[];
+        }
+
         abbrev G5 : Row.Cx
-        G5 = record { locals = List._++_ t5 (List._++_ t1 t2); slots = life0 ∷ life1 ∷ life2 ∷ life3 ∷ Row.alive ∷ Row.off ∷ Row.off ∷ Row.off ∷
-            Row.off ∷ Row.off ∷ List.[]; }
+        G5 = record {
+          locals = List._++_ t5 (List._++_ t1 t2);
+          slots = life0 ∷ life1 ∷ life2 ∷ life3 ∷ Row.alive ∷ Row.off ∷ Row.off ∷ Row.off ∷ Row.off ∷ Row.off ∷ List.[];
+        }
+
         abbrev G6 : Row.Cx
-        G6 = record { locals = List._++_ g6 (List._++_ t7 t2); slots = Row.off ∷ life1 ∷ life2 ∷ life3 ∷ Row.alive ∷ Row.off ∷ Row.off ∷ Row.off ∷
-            Row.off ∷ Row.off ∷ List.[]; }
+        G6 = record {
+          locals = List._++_ g6 (List._++_ t7 t2);
+          slots = Row.off ∷ life1 ∷ life2 ∷ life3 ∷ Row.alive ∷ Row.off ∷ Row.off ∷ Row.off ∷ Row.off ∷ Row.off ∷
+              List.[];
+        }
+
         abbrev G7 : Row.Cx
-        G7 = record { locals = List._++_ g6 (List._++_ t8 t2); slots = Row.off ∷ life1 ∷ life2 ∷ life3 ∷ Row.alive ∷ Row.off ∷ Row.off ∷ Row.off ∷
-            Row.off ∷ Row.off ∷ List.[]; }
+        G7 = record {
+          locals = List._++_ g6 (List._++_ t8 t2);
+          slots = Row.off ∷ life1 ∷ life2 ∷ life3 ∷ Row.alive ∷ Row.off ∷ Row.off ∷ Row.off ∷ Row.off ∷ Row.off ∷
+              List.[];
+        }
+
         abbrev G8 : Row.Cx
-        G8 = record { locals = List._++_ g6 (List._++_ t8 t2); slots = Row.off ∷ life1 ∷ life2 ∷ life3 ∷ Row.alive ∷ Row.alive ∷ Row.off ∷ Row.off ∷
-            Row.off ∷ Row.off ∷ List.[]; }
+        G8 = record {
+          locals = List._++_ g6 (List._++_ t8 t2);
+          slots = Row.off ∷ life1 ∷ life2 ∷ life3 ∷ Row.alive ∷ Row.alive ∷ Row.off ∷ Row.off ∷ Row.off ∷ Row.off ∷
+              List.[];
+        }
+
         abbrev G9 : Row.Cx
-        G9 = record { locals = List._++_ g9 (List._++_ t10 t2); slots = Row.off ∷ Row.off ∷ life2 ∷ life3 ∷ Row.alive ∷ Row.alive ∷ Row.off ∷ Row.off
-            ∷ Row.off ∷ Row.off ∷ List.[]; }
+        G9 = record {
+          locals = List._++_ g9 (List._++_ t10 t2);
+          slots = Row.off ∷ Row.off ∷ life2 ∷ life3 ∷ Row.alive ∷ Row.alive ∷ Row.off ∷ Row.off ∷ Row.off ∷ Row.off ∷
+              List.[];
+        }
+
         abbrev G10 : Row.Cx
-        G10 = record { locals = List._++_ g9 (List._++_ t11 t2); slots = Row.off ∷ Row.off ∷ life2 ∷ life3 ∷ Row.alive ∷ Row.alive ∷ Row.off ∷ Row.off
-            ∷ Row.off ∷ Row.off ∷ List.[]; }
+        G10 = record {
+          locals = List._++_ g9 (List._++_ t11 t2);
+          slots = Row.off ∷ Row.off ∷ life2 ∷ life3 ∷ Row.alive ∷ Row.alive ∷ Row.off ∷ Row.off ∷ Row.off ∷ Row.off ∷
+              List.[];
+        }
+
         abbrev G11 : Row.Cx
-        G11 = record { locals = List._++_ g9 (List._++_ t12 t2); slots = Row.off ∷ Row.off ∷ life2 ∷ life3 ∷ Row.alive ∷ Row.alive ∷ Row.off ∷ Row.off
-            ∷ Row.off ∷ Row.off ∷ List.[]; }
+        G11 = record {
+          locals = List._++_ g9 (List._++_ t12 t2);
+          slots = Row.off ∷ Row.off ∷ life2 ∷ life3 ∷ Row.alive ∷ Row.alive ∷ Row.off ∷ Row.off ∷ Row.off ∷ Row.off ∷
+              List.[];
+        }
+
         abbrev G12 : Row.Cx
-        G12 = record { locals = List._++_ g9 (List._++_ t13 t2); slots = Row.off ∷ Row.off ∷ life2 ∷ life3 ∷ Row.alive ∷ Row.alive ∷ Row.off ∷ Row.off
-            ∷ Row.off ∷ Row.off ∷ List.[]; }
+        G12 = record {
+          locals = List._++_ g9 (List._++_ t13 t2);
+          slots = Row.off ∷ Row.off ∷ life2 ∷ life3 ∷ Row.alive ∷ Row.alive ∷ Row.off ∷ Row.off ∷ Row.off ∷ Row.off ∷
+              List.[];
+        }
+
         abbrev G13 : Row.Cx
-        G13 = record { locals = List._++_ g14 (List._++_ t13 t2); slots = Row.off ∷ Row.off ∷ life2 ∷ life3 ∷ Row.alive ∷ Row.alive ∷ Row.off ∷
-            Row.off ∷ Row.off ∷ Row.off ∷ List.[]; }
+        G13 = record {
+          locals = List._++_ g14 (List._++_ t13 t2);
+          slots = Row.off ∷ Row.off ∷ life2 ∷ life3 ∷ Row.alive ∷ Row.alive ∷ Row.off ∷ Row.off ∷ Row.off ∷ Row.off ∷
+              List.[];
+        }
+
         abbrev G14 : Row.Cx
-        G14 = record { locals = List._++_ g14 (List._++_ t15 t2); slots = Row.off ∷ Row.off ∷ life2 ∷ life3 ∷ Row.alive ∷ Row.alive ∷ Row.off ∷
-            Row.off ∷ Row.off ∷ Row.off ∷ List.[]; }
+        G14 = record {
+          locals = List._++_ g14 (List._++_ t15 t2);
+          slots = Row.off ∷ Row.off ∷ life2 ∷ life3 ∷ Row.alive ∷ Row.alive ∷ Row.off ∷ Row.off ∷ Row.off ∷ Row.off ∷
+              List.[];
+        }
+
         abbrev G15 : Row.Cx
-        G15 = record { locals = List._++_ g14 (List._++_ t16 t2); slots = Row.off ∷ Row.off ∷ life2 ∷ life3 ∷ Row.alive ∷ Row.alive ∷ Row.off ∷
-            Row.off ∷ Row.off ∷ Row.off ∷ List.[]; }
+        G15 = record {
+          locals = List._++_ g14 (List._++_ t16 t2);
+          slots = Row.off ∷ Row.off ∷ life2 ∷ life3 ∷ Row.alive ∷ Row.alive ∷ Row.off ∷ Row.off ∷ Row.off ∷ Row.off ∷
+              List.[];
+        }
+
         abbrev G16 : Row.Cx
-        G16 = record { locals = List._++_ g17 (List._++_ t16 t2); slots = Row.off ∷ Row.off ∷ life2 ∷ life3 ∷ Row.alive ∷ Row.alive ∷ Row.off ∷
-            Row.off ∷ Row.off ∷ Row.off ∷ List.[]; }
+        G16 = record {
+          locals = List._++_ g17 (List._++_ t16 t2);
+          slots = Row.off ∷ Row.off ∷ life2 ∷ life3 ∷ Row.alive ∷ Row.alive ∷ Row.off ∷ Row.off ∷ Row.off ∷ Row.off ∷
+              List.[];
+        }
+
         abbrev G17 : Row.Cx
-        G17 = record { locals = List._++_ g18 (List._++_ t16 t2); slots = Row.off ∷ Row.off ∷ life2 ∷ life3 ∷ Row.alive ∷ Row.alive ∷ Row.off ∷
-            Row.off ∷ Row.off ∷ Row.off ∷ List.[]; }
+        G17 = record {
+          locals = List._++_ g18 (List._++_ t16 t2);
+          slots = Row.off ∷ Row.off ∷ life2 ∷ life3 ∷ Row.alive ∷ Row.alive ∷ Row.off ∷ Row.off ∷ Row.off ∷ Row.off ∷
+              List.[];
+        }
+
         abbrev G18 : Row.Cx
-        G18 = record { locals = List._++_ g18 (List._++_ t19 t2); slots = Row.off ∷ Row.off ∷ life2 ∷ life3 ∷ Row.alive ∷ Row.alive ∷ Row.off ∷
-            Row.off ∷ Row.off ∷ Row.off ∷ List.[]; }
+        G18 = record {
+          locals = List._++_ g18 (List._++_ t19 t2);
+          slots = Row.off ∷ Row.off ∷ life2 ∷ life3 ∷ Row.alive ∷ Row.alive ∷ Row.off ∷ Row.off ∷ Row.off ∷ Row.off ∷
+              List.[];
+        }
+
         abbrev G19 : Row.Cx
-        G19 = record { locals = List._++_ g18 (List._++_ t1 t2); slots = Row.off ∷ Row.off ∷ life2 ∷ life3 ∷ Row.alive ∷ Row.alive ∷ Row.off ∷ Row.off
-            ∷ Row.off ∷ Row.off ∷ List.[]; }
+        G19 = record {
+          locals = List._++_ g18 (List._++_ t1 t2);
+          slots = Row.off ∷ Row.off ∷ life2 ∷ life3 ∷ Row.alive ∷ Row.alive ∷ Row.off ∷ Row.off ∷ Row.off ∷ Row.off ∷
+              List.[];
+        }
+
         abbrev G20 : Row.Cx
-        G20 = record { locals = List._++_ g18 (List._++_ t1 t2); slots = Row.off ∷ Row.off ∷ life2 ∷ life3 ∷ Row.dead ∷ Row.alive ∷ Row.off ∷ Row.off
-            ∷ Row.off ∷ Row.off ∷ List.[]; }
+        G20 = record {
+          locals = List._++_ g18 (List._++_ t1 t2);
+          slots = Row.off ∷ Row.off ∷ life2 ∷ life3 ∷ Row.dead ∷ Row.alive ∷ Row.off ∷ Row.off ∷ Row.off ∷ Row.off ∷
+              List.[];
+        }
+
         abbrev G21 : Row.Cx
-        G21 = record { locals = List._++_ g20 (List._++_ t1 t2); slots = life0 ∷ Row.off ∷ life2 ∷ life3 ∷ Row.dead ∷ Row.alive ∷ Row.off ∷ Row.off ∷
-            Row.off ∷ Row.off ∷ List.[]; }
+        G21 = record {
+          locals = List._++_ g20 (List._++_ t1 t2);
+          slots = life0 ∷ Row.off ∷ life2 ∷ life3 ∷ Row.dead ∷ Row.alive ∷ Row.off ∷ Row.off ∷ Row.off ∷ Row.off ∷
+              List.[];
+        }
+
         abbrev G22 : Row.Cx
-        G22 = record { locals = List._++_ g20 (List._++_ t1 t2); slots = life0 ∷ Row.off ∷ life2 ∷ life3 ∷ Row.off ∷ Row.alive ∷ Row.off ∷ Row.off ∷
-            Row.off ∷ Row.off ∷ List.[]; }
+        G22 = record {
+          locals = List._++_ g20 (List._++_ t1 t2);
+          slots = life0 ∷ Row.off ∷ life2 ∷ life3 ∷ Row.off ∷ Row.alive ∷ Row.off ∷ Row.off ∷ Row.off ∷ Row.off ∷
+              List.[];
+        }
+
         abbrev G23 : Row.Cx
-        G23 = record { locals = List._++_ g20 (List._++_ t1 t2); slots = life0 ∷ Row.off ∷ life2 ∷ life3 ∷ Row.off ∷ Row.dead ∷ Row.off ∷ Row.off ∷
-            Row.off ∷ Row.off ∷ List.[]; }
+        G23 = record {
+          locals = List._++_ g20 (List._++_ t1 t2);
+          slots = life0 ∷ Row.off ∷ life2 ∷ life3 ∷ Row.off ∷ Row.dead ∷ Row.off ∷ Row.off ∷ Row.off ∷ Row.off ∷
+              List.[];
+        }
+
         abbrev G24 : Row.Cx
-        G24 = record { locals = List._++_ t21 (List._++_ t1 t2); slots = life0 ∷ life1 ∷ life2 ∷ life3 ∷ Row.off ∷ Row.dead ∷ Row.off ∷ Row.off ∷
-            Row.off ∷ Row.off ∷ List.[]; }
+        G24 = record {
+          locals = List._++_ t21 (List._++_ t1 t2);
+          slots = life0 ∷ life1 ∷ life2 ∷ life3 ∷ Row.off ∷ Row.dead ∷ Row.off ∷ Row.off ∷ Row.off ∷ Row.off ∷ List.[];
+        }
+
         abbrev G25 : Row.Cx
-        G25 = record { locals = List._++_ t21 (List._++_ t1 t2); slots = life0 ∷ life1 ∷ life2 ∷ life3 ∷ Row.off ∷ Row.off ∷ Row.off ∷ Row.off ∷
-            Row.off ∷ Row.off ∷ List.[]; }
+        G25 = record {
+          locals = List._++_ t21 (List._++_ t1 t2);
+          slots = life0 ∷ life1 ∷ life2 ∷ life3 ∷ Row.off ∷ Row.off ∷ Row.off ∷ Row.off ∷ Row.off ∷ Row.off ∷ List.[];
+        }
+
         abbrev G26 : Row.Cx
-        G26 = record { locals = List._++_ t22 (List._++_ t1 t2); slots = life0 ∷ life1 ∷ life2 ∷ life3 ∷ Row.off ∷ Row.off ∷ Row.off ∷ Row.off ∷
-            Row.off ∷ Row.off ∷ List.[]; }
+        G26 = record {
+          locals = List._++_ t22 (List._++_ t1 t2);
+          slots = life0 ∷ life1 ∷ life2 ∷ life3 ∷ Row.off ∷ Row.off ∷ Row.off ∷ Row.off ∷ Row.off ∷ Row.off ∷ List.[];
+        }
+
         abbrev G27 : Row.Cx
-        G27 = record { locals = List._++_ t23 (List._++_ t1 t2); slots = life0 ∷ life1 ∷ life2 ∷ life3 ∷ Row.off ∷ Row.off ∷ Row.off ∷ Row.off ∷
-            Row.off ∷ Row.off ∷ List.[]; }
+        G27 = record {
+          locals = List._++_ t23 (List._++_ t1 t2);
+          slots = life0 ∷ life1 ∷ life2 ∷ life3 ∷ Row.off ∷ Row.off ∷ Row.off ∷ Row.off ∷ Row.off ∷ Row.off ∷ List.[];
+        }
+
         abbrev G28 : Row.Cx
-        G28 = record { locals = List._++_ t24 (List._++_ t1 t2); slots = life0 ∷ life1 ∷ life2 ∷ life3 ∷ Row.off ∷ Row.off ∷ Row.off ∷ Row.off ∷
-            Row.off ∷ Row.off ∷ List.[]; }
+        G28 = record {
+          locals = List._++_ t24 (List._++_ t1 t2);
+          slots = life0 ∷ life1 ∷ life2 ∷ life3 ∷ Row.off ∷ Row.off ∷ Row.off ∷ Row.off ∷ Row.off ∷ Row.off ∷ List.[];
+        }
+
         abbrev G29 : Row.Cx
-        G29 = record { locals = List._++_ t25 (List._++_ t1 t2); slots = life0 ∷ life1 ∷ life2 ∷ life3 ∷ Row.off ∷ Row.off ∷ Row.off ∷ Row.off ∷
-            Row.off ∷ Row.off ∷ List.[]; }
+        G29 = record {
+          locals = List._++_ t25 (List._++_ t1 t2);
+          slots = life0 ∷ life1 ∷ life2 ∷ life3 ∷ Row.off ∷ Row.off ∷ Row.off ∷ Row.off ∷ Row.off ∷ Row.off ∷ List.[];
+        }
+
         abbrev G30 : Row.Cx
-        G30 = record { locals = List._++_ t26 (List._++_ t1 t2); slots = life0 ∷ life1 ∷ life2 ∷ life3 ∷ Row.off ∷ Row.off ∷ Row.off ∷ Row.off ∷
-            Row.off ∷ Row.off ∷ List.[]; }
+        G30 = record {
+          locals = List._++_ t26 (List._++_ t1 t2);
+          slots = life0 ∷ life1 ∷ life2 ∷ life3 ∷ Row.off ∷ Row.off ∷ Row.off ∷ Row.off ∷ Row.off ∷ Row.off ∷ List.[];
+        }
+
         abbrev G31 : Row.Cx
-        G31 = record { locals = List._++_ t26 (List._++_ t27 t2); slots = life0 ∷ life1 ∷ life2 ∷ life3 ∷ Row.off ∷ Row.off ∷ Row.off ∷ Row.off ∷
-            Row.off ∷ Row.off ∷ List.[]; }
+        G31 = record {
+          locals = List._++_ t26 (List._++_ t27 t2);
+          slots = life0 ∷ life1 ∷ life2 ∷ life3 ∷ Row.off ∷ Row.off ∷ Row.off ∷ Row.off ∷ Row.off ∷ Row.off ∷ List.[];
+        }
+
         abbrev G32 : Row.Cx
-        G32 = record { locals = List._++_ t26 (List._++_ t28 t2); slots = life0 ∷ life1 ∷ life2 ∷ life3 ∷ Row.off ∷ Row.off ∷ Row.off ∷ Row.off ∷
-            Row.off ∷ Row.off ∷ List.[]; }
+        G32 = record {
+          locals = List._++_ t26 (List._++_ t28 t2);
+          slots = life0 ∷ life1 ∷ life2 ∷ life3 ∷ Row.off ∷ Row.off ∷ Row.off ∷ Row.off ∷ Row.off ∷ Row.off ∷ List.[];
+        }
+
         abbrev G33 : Row.Cx
-        G33 = record { locals = List._++_ t29 (List._++_ t28 t2); slots = life0 ∷ life1 ∷ life2 ∷ life3 ∷ Row.off ∷ Row.off ∷ Row.off ∷ Row.off ∷
-            Row.off ∷ Row.off ∷ List.[]; }
+        G33 = record {
+          locals = List._++_ t29 (List._++_ t28 t2);
+          slots = life0 ∷ life1 ∷ life2 ∷ life3 ∷ Row.off ∷ Row.off ∷ Row.off ∷ Row.off ∷ Row.off ∷ Row.off ∷ List.[];
+        }
+
         abbrev G34 : Row.Cx
-        G34 = record { locals = List._++_ t29 (List._++_ t30 t2); slots = life0 ∷ life1 ∷ life2 ∷ life3 ∷ Row.off ∷ Row.off ∷ Row.off ∷ Row.off ∷
-            Row.off ∷ Row.off ∷ List.[]; }
+        G34 = record {
+          locals = List._++_ t29 (List._++_ t30 t2);
+          slots = life0 ∷ life1 ∷ life2 ∷ life3 ∷ Row.off ∷ Row.off ∷ Row.off ∷ Row.off ∷ Row.off ∷ Row.off ∷ List.[];
+        }
+
         abbrev G35 : Row.Cx
-        G35 = record { locals = List._++_ t29 (List._++_ t31 t2); slots = life0 ∷ life1 ∷ life2 ∷ life3 ∷ Row.off ∷ Row.off ∷ Row.off ∷ Row.off ∷
-            Row.off ∷ Row.off ∷ List.[]; }
+        G35 = record {
+          locals = List._++_ t29 (List._++_ t31 t2);
+          slots = life0 ∷ life1 ∷ life2 ∷ life3 ∷ Row.off ∷ Row.off ∷ Row.off ∷ Row.off ∷ Row.off ∷ Row.off ∷ List.[];
+        }
+
         abbrev G36 : Row.Cx
-        G36 = record { locals = List._++_ t32 (List._++_ t31 t2); slots = life0 ∷ life1 ∷ life2 ∷ life3 ∷ Row.off ∷ Row.off ∷ Row.off ∷ Row.off ∷
-            Row.off ∷ Row.off ∷ List.[]; }
+        G36 = record {
+          locals = List._++_ t32 (List._++_ t31 t2);
+          slots = life0 ∷ life1 ∷ life2 ∷ life3 ∷ Row.off ∷ Row.off ∷ Row.off ∷ Row.off ∷ Row.off ∷ Row.off ∷ List.[];
+        }
+
         abbrev G37 : Row.Cx
-        G37 = record { locals = List._++_ t32 (List._++_ t33 t2); slots = life0 ∷ life1 ∷ life2 ∷ life3 ∷ Row.off ∷ Row.off ∷ Row.off ∷ Row.off ∷
-            Row.off ∷ Row.off ∷ List.[]; }
+        G37 = record {
+          locals = List._++_ t32 (List._++_ t33 t2);
+          slots = life0 ∷ life1 ∷ life2 ∷ life3 ∷ Row.off ∷ Row.off ∷ Row.off ∷ Row.off ∷ Row.off ∷ Row.off ∷ List.[];
+        }
+
         abbrev G38 : Row.Cx
-        G38 = record { locals = List._++_ t32 (List._++_ t34 t2); slots = life0 ∷ life1 ∷ life2 ∷ life3 ∷ Row.off ∷ Row.off ∷ Row.off ∷ Row.off ∷
-            Row.off ∷ Row.off ∷ List.[]; }
+        G38 = record {
+          locals = List._++_ t32 (List._++_ t34 t2);
+          slots = life0 ∷ life1 ∷ life2 ∷ life3 ∷ Row.off ∷ Row.off ∷ Row.off ∷ Row.off ∷ Row.off ∷ Row.off ∷ List.[];
+        }
+
         abbrev G39 : Row.Cx
-        G39 = record { locals = List._++_ t35 (List._++_ t33 t2); slots = life0 ∷ life1 ∷ life2 ∷ life3 ∷ Row.off ∷ Row.off ∷ Row.off ∷ Row.off ∷
-            Row.off ∷ Row.off ∷ List.[]; }
+        G39 = record {
+          locals = List._++_ t35 (List._++_ t33 t2);
+          slots = life0 ∷ life1 ∷ life2 ∷ life3 ∷ Row.off ∷ Row.off ∷ Row.off ∷ Row.off ∷ Row.off ∷ Row.off ∷ List.[];
+        }
+
         abbrev G40 : Row.Cx
-        G40 = record { locals = List._++_ t32 (List._++_ t36 t2); slots = life0 ∷ life1 ∷ life2 ∷ life3 ∷ Row.off ∷ Row.off ∷ Row.off ∷ Row.off ∷
-            Row.off ∷ Row.off ∷ List.[]; }
+        G40 = record {
+          locals = List._++_ t32 (List._++_ t36 t2);
+          slots = life0 ∷ life1 ∷ life2 ∷ life3 ∷ Row.off ∷ Row.off ∷ Row.off ∷ Row.off ∷ Row.off ∷ Row.off ∷ List.[];
+        }
+
         abbrev G41 : Row.Cx
-        G41 = record { locals = List._++_ t32 (List._++_ t1 t2); slots = life0 ∷ life1 ∷ life2 ∷ life3 ∷ Row.off ∷ Row.off ∷ Row.off ∷ Row.off ∷
-            Row.off ∷ Row.off ∷ List.[]; }
+        G41 = record {
+          locals = List._++_ t32 (List._++_ t1 t2);
+          slots = life0 ∷ life1 ∷ life2 ∷ life3 ∷ Row.off ∷ Row.off ∷ Row.off ∷ Row.off ∷ Row.off ∷ Row.off ∷ List.[];
+        }
+
         abbrev G42 : Row.Cx
-        G42 = record { locals = List._++_ t32 (List._++_ t37 t2); slots = life0 ∷ life1 ∷ life2 ∷ life3 ∷ Row.off ∷ Row.off ∷ Row.off ∷ Row.off ∷
-            Row.off ∷ Row.off ∷ List.[]; }
+        G42 = record {
+          locals = List._++_ t32 (List._++_ t37 t2);
+          slots = life0 ∷ life1 ∷ life2 ∷ life3 ∷ Row.off ∷ Row.off ∷ Row.off ∷ Row.off ∷ Row.off ∷ Row.off ∷ List.[];
+        }
+
         abbrev G43 : Row.Cx
-        G43 = record { locals = List._++_ t35 (List._++_ t1 t2); slots = life0 ∷ life1 ∷ life2 ∷ life3 ∷ Row.off ∷ Row.off ∷ Row.off ∷ Row.off ∷
-            Row.off ∷ Row.off ∷ List.[]; }
+        G43 = record {
+          locals = List._++_ t35 (List._++_ t1 t2);
+          slots = life0 ∷ life1 ∷ life2 ∷ life3 ∷ Row.off ∷ Row.off ∷ Row.off ∷ Row.off ∷ Row.off ∷ Row.off ∷ List.[];
+        }
+
         abbrev G44 : Row.Cx
-        G44 = record { locals = List._++_ t32 (List._++_ t1 t2); slots = life0 ∷ life1 ∷ life2 ∷ life3 ∷ Row.off ∷ Row.off ∷ Row.off ∷ Row.off ∷
-            Row.off ∷ Row.off ∷ List.[]; }
+        G44 = record {
+          locals = List._++_ t32 (List._++_ t1 t2);
+          slots = life0 ∷ life1 ∷ life2 ∷ life3 ∷ Row.off ∷ Row.off ∷ Row.off ∷ Row.off ∷ Row.off ∷ Row.off ∷ List.[];
+        }
+
         abbrev G45 : Row.Cx
-        G45 = record { locals = List._++_ t32 (List._++_ t1 t2); slots = life0 ∷ life1 ∷ life2 ∷ life3 ∷ Row.off ∷ Row.off ∷ Row.alive ∷ Row.off ∷
-            Row.off ∷ Row.off ∷ List.[]; }
+        G45 = record {
+          locals = List._++_ t32 (List._++_ t1 t2);
+          slots = life0 ∷ life1 ∷ life2 ∷ life3 ∷ Row.off ∷ Row.off ∷ Row.alive ∷ Row.off ∷ Row.off ∷ Row.off ∷ List.[];
+        }
+
         abbrev G46 : Row.Cx
-        G46 = record { locals = List._++_ g38 (List._++_ t39 t2); slots = Row.off ∷ life1 ∷ life2 ∷ life3 ∷ Row.off ∷ Row.off ∷ Row.alive ∷ Row.off ∷
-            Row.off ∷ Row.off ∷ List.[]; }
+        G46 = record {
+          locals = List._++_ g38 (List._++_ t39 t2);
+          slots = Row.off ∷ life1 ∷ life2 ∷ life3 ∷ Row.off ∷ Row.off ∷ Row.alive ∷ Row.off ∷ Row.off ∷ Row.off ∷
+              List.[];
+        }
+
         abbrev G47 : Row.Cx
-        G47 = record { locals = List._++_ g38 (List._++_ t40 t2); slots = Row.off ∷ life1 ∷ life2 ∷ life3 ∷ Row.off ∷ Row.off ∷ Row.alive ∷ Row.off ∷
-            Row.off ∷ Row.off ∷ List.[]; }
+        G47 = record {
+          locals = List._++_ g38 (List._++_ t40 t2);
+          slots = Row.off ∷ life1 ∷ life2 ∷ life3 ∷ Row.off ∷ Row.off ∷ Row.alive ∷ Row.off ∷ Row.off ∷ Row.off ∷
+              List.[];
+        }
+
         abbrev G48 : Row.Cx
-        G48 = record { locals = List._++_ g38 (List._++_ t40 t2); slots = Row.off ∷ life1 ∷ life2 ∷ life3 ∷ Row.off ∷ Row.off ∷ Row.alive ∷ Row.alive
-            ∷ Row.off ∷ Row.off ∷ List.[]; }
+        G48 = record {
+          locals = List._++_ g38 (List._++_ t40 t2);
+          slots = Row.off ∷ life1 ∷ life2 ∷ life3 ∷ Row.off ∷ Row.off ∷ Row.alive ∷ Row.alive ∷ Row.off ∷ Row.off ∷
+              List.[];
+        }
+
         abbrev G49 : Row.Cx
-        G49 = record { locals = List._++_ g41 (List._++_ t42 t2); slots = Row.off ∷ Row.off ∷ life2 ∷ life3 ∷ Row.off ∷ Row.off ∷ Row.alive ∷
-            Row.alive ∷ Row.off ∷ Row.off ∷ List.[]; }
+        G49 = record {
+          locals = List._++_ g41 (List._++_ t42 t2);
+          slots = Row.off ∷ Row.off ∷ life2 ∷ life3 ∷ Row.off ∷ Row.off ∷ Row.alive ∷ Row.alive ∷ Row.off ∷ Row.off ∷
+              List.[];
+        }
+
         abbrev G50 : Row.Cx
-        G50 = record { locals = List._++_ g41 (List._++_ t43 t2); slots = Row.off ∷ Row.off ∷ life2 ∷ life3 ∷ Row.off ∷ Row.off ∷ Row.alive ∷
-            Row.alive ∷ Row.off ∷ Row.off ∷ List.[]; }
+        G50 = record {
+          locals = List._++_ g41 (List._++_ t43 t2);
+          slots = Row.off ∷ Row.off ∷ life2 ∷ life3 ∷ Row.off ∷ Row.off ∷ Row.alive ∷ Row.alive ∷ Row.off ∷ Row.off ∷
+              List.[];
+        }
+
         abbrev G51 : Row.Cx
-        G51 = record { locals = List._++_ g41 (List._++_ t43 t2); slots = Row.off ∷ Row.off ∷ life2 ∷ life3 ∷ Row.off ∷ Row.off ∷ Row.alive ∷
-            Row.alive ∷ Row.alive ∷ Row.off ∷ List.[]; }
+        G51 = record {
+          locals = List._++_ g41 (List._++_ t43 t2);
+          slots = Row.off ∷ Row.off ∷ life2 ∷ life3 ∷ Row.off ∷ Row.off ∷ Row.alive ∷ Row.alive ∷ Row.alive ∷ Row.off ∷
+              List.[];
+        }
+
         abbrev G52 : Row.Cx
-        G52 = record { locals = List._++_ g44 (List._++_ t45 t2); slots = Row.off ∷ Row.off ∷ Row.off ∷ life3 ∷ Row.off ∷ Row.off ∷ Row.alive ∷
-            Row.alive ∷ Row.alive ∷ Row.off ∷ List.[]; }
+        G52 = record {
+          locals = List._++_ g44 (List._++_ t45 t2);
+          slots = Row.off ∷ Row.off ∷ Row.off ∷ life3 ∷ Row.off ∷ Row.off ∷ Row.alive ∷ Row.alive ∷ Row.alive ∷ Row.off
+              ∷ List.[];
+        }
+
         abbrev G53 : Row.Cx
-        G53 = record { locals = List._++_ g44 (List._++_ t43 t46); slots = Row.off ∷ Row.off ∷ Row.off ∷ life3 ∷ Row.off ∷ Row.off ∷ Row.alive ∷
-            Row.alive ∷ Row.alive ∷ Row.off ∷ List.[]; }
+        G53 = record {
+          locals = List._++_ g44 (List._++_ t43 t46);
+          slots = Row.off ∷ Row.off ∷ Row.off ∷ life3 ∷ Row.off ∷ Row.off ∷ Row.alive ∷ Row.alive ∷ Row.alive ∷ Row.off
+              ∷ List.[];
+        }
+
         abbrev G54 : Row.Cx
-        G54 = record { locals = List._++_ g44 (List._++_ t43 t46); slots = Row.off ∷ Row.off ∷ Row.off ∷ life3 ∷ Row.off ∷ Row.off ∷ Row.alive ∷
-            Row.alive ∷ Row.alive ∷ Row.alive ∷ List.[]; }
+        G54 = record {
+          locals = List._++_ g44 (List._++_ t43 t46);
+          slots = Row.off ∷ Row.off ∷ Row.off ∷ life3 ∷ Row.off ∷ Row.off ∷ Row.alive ∷ Row.alive ∷ Row.alive ∷
+              Row.alive ∷ List.[];
+        }
+
         abbrev G55 : Row.Cx
-        G55 = record { locals = List._++_ g47 (List._++_ t43 t48); slots = Row.off ∷ Row.off ∷ Row.off ∷ Row.off ∷ Row.off ∷ Row.off ∷ Row.alive ∷
-            Row.alive ∷ Row.alive ∷ Row.alive ∷ List.[]; }
+        G55 = record {
+          locals = List._++_ g47 (List._++_ t43 t48);
+          slots = Row.off ∷ Row.off ∷ Row.off ∷ Row.off ∷ Row.off ∷ Row.off ∷ Row.alive ∷ Row.alive ∷ Row.alive ∷
+              Row.alive ∷ List.[];
+        }
+
         abbrev G56 : Row.Cx
-        G56 = record { locals = List._++_ g47 (List._++_ t43 t49); slots = Row.off ∷ Row.off ∷ Row.off ∷ Row.off ∷ Row.off ∷ Row.off ∷ Row.alive ∷
-            Row.alive ∷ Row.alive ∷ Row.alive ∷ List.[]; }
+        G56 = record {
+          locals = List._++_ g47 (List._++_ t43 t49);
+          slots = Row.off ∷ Row.off ∷ Row.off ∷ Row.off ∷ Row.off ∷ Row.off ∷ Row.alive ∷ Row.alive ∷ Row.alive ∷
+              Row.alive ∷ List.[];
+        }
+
         abbrev G57 : Row.Cx
-        G57 = record { locals = List._++_ g50 (List._++_ t51 t52); slots = Row.off ∷ Row.off ∷ Row.off ∷ Row.off ∷ Row.off ∷ Row.off ∷ Row.alive ∷
-            Row.alive ∷ Row.alive ∷ Row.alive ∷ List.[]; }
+        G57 = record {
+          locals = List._++_ g50 (List._++_ t51 t52);
+          slots = Row.off ∷ Row.off ∷ Row.off ∷ Row.off ∷ Row.off ∷ Row.off ∷ Row.alive ∷ Row.alive ∷ Row.alive ∷
+              Row.alive ∷ List.[];
+        }
+
         abbrev G58 : Row.Cx
-        G58 = record { locals = List._++_ g53 (List._++_ t51 t52); slots = Row.off ∷ Row.off ∷ Row.off ∷ Row.off ∷ Row.off ∷ Row.off ∷ Row.alive ∷
-            Row.alive ∷ Row.alive ∷ Row.alive ∷ List.[]; }
+        G58 = record {
+          locals = List._++_ g53 (List._++_ t51 t52);
+          slots = Row.off ∷ Row.off ∷ Row.off ∷ Row.off ∷ Row.off ∷ Row.off ∷ Row.alive ∷ Row.alive ∷ Row.alive ∷
+              Row.alive ∷ List.[];
+        }
+
         abbrev G59 : Row.Cx
-        G59 = record { locals = List._++_ g54 (List._++_ t51 t52); slots = Row.off ∷ Row.off ∷ Row.off ∷ Row.off ∷ Row.off ∷ Row.off ∷ Row.alive ∷
-            Row.alive ∷ Row.alive ∷ Row.alive ∷ List.[]; }
+        G59 = record {
+          locals = List._++_ g54 (List._++_ t51 t52);
+          slots = Row.off ∷ Row.off ∷ Row.off ∷ Row.off ∷ Row.off ∷ Row.off ∷ Row.alive ∷ Row.alive ∷ Row.alive ∷
+              Row.alive ∷ List.[];
+        }
+
         abbrev G60 : Row.Cx
-        G60 = record { locals = List._++_ g55 (List._++_ t51 t52); slots = Row.off ∷ Row.off ∷ Row.off ∷ Row.off ∷ Row.off ∷ Row.off ∷ Row.alive ∷
-            Row.alive ∷ Row.alive ∷ Row.alive ∷ List.[]; }
+        G60 = record {
+          locals = List._++_ g55 (List._++_ t51 t52);
+          slots = Row.off ∷ Row.off ∷ Row.off ∷ Row.off ∷ Row.off ∷ Row.off ∷ Row.alive ∷ Row.alive ∷ Row.alive ∷
+              Row.alive ∷ List.[];
+        }
+
         abbrev G61 : Row.Cx
-        G61 = record { locals = List._++_ g55 (List._++_ t51 t52); slots = Row.off ∷ Row.off ∷ Row.off ∷ Row.off ∷ Row.off ∷ Row.off ∷ Row.dead ∷
-            Row.alive ∷ Row.alive ∷ Row.alive ∷ List.[]; }
+        G61 = record {
+          locals = List._++_ g55 (List._++_ t51 t52);
+          slots = Row.off ∷ Row.off ∷ Row.off ∷ Row.off ∷ Row.off ∷ Row.off ∷ Row.dead ∷ Row.alive ∷ Row.alive ∷
+              Row.alive ∷ List.[];
+        }
+
         abbrev G62 : Row.Cx
-        G62 = record { locals = List._++_ g56 (List._++_ t57 t52); slots = life0 ∷ Row.off ∷ Row.off ∷ Row.off ∷ Row.off ∷ Row.off ∷ Row.dead ∷
-            Row.alive ∷ Row.alive ∷ Row.alive ∷ List.[]; }
+        G62 = record {
+          locals = List._++_ g56 (List._++_ t57 t52);
+          slots = life0 ∷ Row.off ∷ Row.off ∷ Row.off ∷ Row.off ∷ Row.off ∷ Row.dead ∷ Row.alive ∷ Row.alive ∷
+              Row.alive ∷ List.[];
+        }
+
         abbrev G63 : Row.Cx
-        G63 = record { locals = List._++_ g56 (List._++_ t57 t52); slots = life0 ∷ Row.off ∷ Row.off ∷ Row.off ∷ Row.off ∷ Row.off ∷ Row.off ∷
-            Row.alive ∷ Row.alive ∷ Row.alive ∷ List.[]; }
+        G63 = record {
+          locals = List._++_ g56 (List._++_ t57 t52);
+          slots = life0 ∷ Row.off ∷ Row.off ∷ Row.off ∷ Row.off ∷ Row.off ∷ Row.off ∷ Row.alive ∷ Row.alive ∷ Row.alive
+              ∷ List.[];
+        }
+
         abbrev G64 : Row.Cx
-        G64 = record { locals = List._++_ g56 (List._++_ t57 t52); slots = life0 ∷ Row.off ∷ Row.off ∷ Row.off ∷ Row.off ∷ Row.off ∷ Row.off ∷
-            Row.dead ∷ Row.alive ∷ Row.alive ∷ List.[]; }
+        G64 = record {
+          locals = List._++_ g56 (List._++_ t57 t52);
+          slots = life0 ∷ Row.off ∷ Row.off ∷ Row.off ∷ Row.off ∷ Row.off ∷ Row.off ∷ Row.dead ∷ Row.alive ∷ Row.alive
+              ∷ List.[];
+        }
+
         abbrev G65 : Row.Cx
-        G65 = record { locals = List._++_ g58 (List._++_ t1 t52); slots = life0 ∷ life1 ∷ Row.off ∷ Row.off ∷ Row.off ∷ Row.off ∷ Row.off ∷ Row.dead ∷
-            Row.alive ∷ Row.alive ∷ List.[]; }
+        G65 = record {
+          locals = List._++_ g58 (List._++_ t1 t52);
+          slots = life0 ∷ life1 ∷ Row.off ∷ Row.off ∷ Row.off ∷ Row.off ∷ Row.off ∷ Row.dead ∷ Row.alive ∷ Row.alive ∷
+              List.[];
+        }
+
         abbrev G66 : Row.Cx
-        G66 = record { locals = List._++_ g58 (List._++_ t1 t52); slots = life0 ∷ life1 ∷ Row.off ∷ Row.off ∷ Row.off ∷ Row.off ∷ Row.off ∷ Row.off ∷
-            Row.alive ∷ Row.alive ∷ List.[]; }
+        G66 = record {
+          locals = List._++_ g58 (List._++_ t1 t52);
+          slots = life0 ∷ life1 ∷ Row.off ∷ Row.off ∷ Row.off ∷ Row.off ∷ Row.off ∷ Row.off ∷ Row.alive ∷ Row.alive ∷
+              List.[];
+        }
+
         abbrev G67 : Row.Cx
-        G67 = record { locals = List._++_ g58 (List._++_ t1 t52); slots = life0 ∷ life1 ∷ Row.off ∷ Row.off ∷ Row.off ∷ Row.off ∷ Row.off ∷ Row.off ∷
-            Row.dead ∷ Row.alive ∷ List.[]; }
+        G67 = record {
+          locals = List._++_ g58 (List._++_ t1 t52);
+          slots = life0 ∷ life1 ∷ Row.off ∷ Row.off ∷ Row.off ∷ Row.off ∷ Row.off ∷ Row.off ∷ Row.dead ∷ Row.alive ∷
+              List.[];
+        }
+
         abbrev G68 : Row.Cx
-        G68 = record { locals = List._++_ g59 (List._++_ t1 t60); slots = life0 ∷ life1 ∷ life2 ∷ Row.off ∷ Row.off ∷ Row.off ∷ Row.off ∷ Row.off ∷
-            Row.dead ∷ Row.alive ∷ List.[]; }
+        G68 = record {
+          locals = List._++_ g59 (List._++_ t1 t60);
+          slots = life0 ∷ life1 ∷ life2 ∷ Row.off ∷ Row.off ∷ Row.off ∷ Row.off ∷ Row.off ∷ Row.dead ∷ Row.alive ∷
+              List.[];
+        }
+
         abbrev G69 : Row.Cx
-        G69 = record { locals = List._++_ g59 (List._++_ t1 t60); slots = life0 ∷ life1 ∷ life2 ∷ Row.off ∷ Row.off ∷ Row.off ∷ Row.off ∷ Row.off ∷
-            Row.off ∷ Row.alive ∷ List.[]; }
+        G69 = record {
+          locals = List._++_ g59 (List._++_ t1 t60);
+          slots = life0 ∷ life1 ∷ life2 ∷ Row.off ∷ Row.off ∷ Row.off ∷ Row.off ∷ Row.off ∷ Row.off ∷ Row.alive ∷
+              List.[];
+        }
+
         abbrev G70 : Row.Cx
-        G70 = record { locals = List._++_ g59 (List._++_ t1 t60); slots = life0 ∷ life1 ∷ life2 ∷ Row.off ∷ Row.off ∷ Row.off ∷ Row.off ∷ Row.off ∷
-            Row.off ∷ Row.dead ∷ List.[]; }
+        G70 = record {
+          locals = List._++_ g59 (List._++_ t1 t60);
+          slots = life0 ∷ life1 ∷ life2 ∷ Row.off ∷ Row.off ∷ Row.off ∷ Row.off ∷ Row.off ∷ Row.off ∷ Row.dead ∷
+              List.[];
+        }
+
         abbrev G71 : Row.Cx
-        G71 = record { locals = List._++_ t61 (List._++_ t1 t2); slots = life0 ∷ life1 ∷ life2 ∷ life3 ∷ Row.off ∷ Row.off ∷ Row.off ∷ Row.off ∷
-            Row.off ∷ Row.dead ∷ List.[]; }
+        G71 = record {
+          locals = List._++_ t61 (List._++_ t1 t2);
+          slots = life0 ∷ life1 ∷ life2 ∷ life3 ∷ Row.off ∷ Row.off ∷ Row.off ∷ Row.off ∷ Row.off ∷ Row.dead ∷ List.[];
+        }
+
         abbrev G72 : Row.Cx
-        G72 = record { locals = List._++_ t61 (List._++_ t1 t2); slots = life0 ∷ life1 ∷ life2 ∷ life3 ∷ Row.off ∷ Row.off ∷ Row.off ∷ Row.off ∷
-            Row.off ∷ Row.dead ∷ List.[]; }
+        G72 = record {
+          locals = List._++_ t61 (List._++_ t1 t2);
+          slots = life0 ∷ life1 ∷ life2 ∷ life3 ∷ Row.off ∷ Row.off ∷ Row.off ∷ Row.off ∷ Row.off ∷ Row.dead ∷ List.[];
+        }
+
         abbrev G73 : Row.Cx
-        G73 = record { locals = List._++_ t61 (List._++_ t1 t2); slots = life0 ∷ life1 ∷ life2 ∷ life3 ∷ Row.off ∷ Row.off ∷ Row.off ∷ Row.off ∷
-            Row.off ∷ Row.off ∷ List.[]; }
+        G73 = record {
+          locals = List._++_ t61 (List._++_ t1 t2);
+          slots = life0 ∷ life1 ∷ life2 ∷ life3 ∷ Row.off ∷ Row.off ∷ Row.off ∷ Row.off ∷ Row.off ∷ Row.off ∷ List.[];
+        }
+
         abbrev G74 : Row.Cx
-        G74 = record { locals = List._++_ t62 (List._++_ t1 t2); slots = life0 ∷ life1 ∷ life2 ∷ life3 ∷ Row.off ∷ Row.off ∷ Row.off ∷ Row.off ∷
-            Row.off ∷ Row.off ∷ List.[]; }
+        G74 = record {
+          locals = List._++_ t62 (List._++_ t1 t2);
+          slots = life0 ∷ life1 ∷ life2 ∷ life3 ∷ Row.off ∷ Row.off ∷ Row.off ∷ Row.off ∷ Row.off ∷ Row.off ∷ List.[];
+        }
+
         abbrev G75 : Row.Cx
-        G75 = record { locals = List._++_ t63 (List._++_ t1 t2); slots = life0 ∷ life1 ∷ life2 ∷ life3 ∷ Row.off ∷ Row.off ∷ Row.off ∷ Row.off ∷
-            Row.off ∷ Row.off ∷ List.[]; }
+        G75 = record {
+          locals = List._++_ t63 (List._++_ t1 t2);
+          slots = life0 ∷ life1 ∷ life2 ∷ life3 ∷ Row.off ∷ Row.off ∷ Row.off ∷ Row.off ∷ Row.off ∷ Row.off ∷ List.[];
+        }
+
         abbrev G76 : Row.Cx
-        G76 = record { locals = List._++_ t3 (List._++_ t1 t2); slots = life0 ∷ life1 ∷ life2 ∷ life3 ∷ Row.off ∷ Row.off ∷ Row.off ∷ Row.off ∷
-            Row.off ∷ Row.off ∷ List.[]; }
+        G76 = record {
+          locals = List._++_ t3 (List._++_ t1 t2);
+          slots = life0 ∷ life1 ∷ life2 ∷ life3 ∷ Row.off ∷ Row.off ∷ Row.off ∷ Row.off ∷ Row.off ∷ Row.off ∷ List.[];
+        }
+
         abbrev G77 : Row.Cx
-        G77 = record { locals = List._++_ t35 (List._++_ t37 t2); slots = life0 ∷ life1 ∷ life2 ∷ life3 ∷ Row.off ∷ Row.off ∷ Row.off ∷ Row.off ∷
-            Row.off ∷ Row.off ∷ List.[]; }
+        G77 = record {
+          locals = List._++_ t35 (List._++_ t37 t2);
+          slots = life0 ∷ life1 ∷ life2 ∷ life3 ∷ Row.off ∷ Row.off ∷ Row.off ∷ Row.off ∷ Row.off ∷ Row.off ∷ List.[];
+        }
+
         abbrev G78 : Row.Cx
-        G78 = record { locals = List._++_ t35 (List._++_ t1 t2); slots = life0 ∷ life1 ∷ life2 ∷ life3 ∷ Row.off ∷ Row.off ∷ Row.off ∷ Row.off ∷
-            Row.off ∷ Row.off ∷ List.[]; }
+        G78 = record {
+          locals = List._++_ t35 (List._++_ t1 t2);
+          slots = life0 ∷ life1 ∷ life2 ∷ life3 ∷ Row.off ∷ Row.off ∷ Row.off ∷ Row.off ∷ Row.off ∷ Row.off ∷ List.[];
+        }
+
         abbrev G79 : Row.Cx
-        G79 = record { locals = List._++_ t64 (List._++_ t1 t2); slots = life0 ∷ life1 ∷ life2 ∷ life3 ∷ Row.off ∷ Row.off ∷ Row.off ∷ Row.off ∷
-            Row.off ∷ Row.off ∷ List.[]; }
+        G79 = record {
+          locals = List._++_ t64 (List._++_ t1 t2);
+          slots = life0 ∷ life1 ∷ life2 ∷ life3 ∷ Row.off ∷ Row.off ∷ Row.off ∷ Row.off ∷ Row.off ∷ Row.off ∷ List.[];
+        }
+
         abbrev G80 : Row.Cx
-        G80 = record { locals = List._++_ t65 (List._++_ t1 t2); slots = life0 ∷ life1 ∷ life2 ∷ life3 ∷ Row.off ∷ Row.off ∷ Row.off ∷ Row.off ∷
-            Row.off ∷ Row.off ∷ List.[]; }
+        G80 = record {
+          locals = List._++_ t65 (List._++_ t1 t2);
+          slots = life0 ∷ life1 ∷ life2 ∷ life3 ∷ Row.off ∷ Row.off ∷ Row.off ∷ Row.off ∷ Row.off ∷ Row.off ∷ List.[];
+        }
+
         abbrev G81 : Row.Cx
-        G81 = record { locals = List._++_ t61 (List._++_ t1 t2); slots = life0 ∷ life1 ∷ life2 ∷ life3 ∷ Row.off ∷ Row.off ∷ Row.off ∷ Row.off ∷
-            Row.off ∷ Row.off ∷ List.[]; }
+        G81 = record {
+          locals = List._++_ t61 (List._++_ t1 t2);
+          slots = life0 ∷ life1 ∷ life2 ∷ life3 ∷ Row.off ∷ Row.off ∷ Row.off ∷ Row.off ∷ Row.off ∷ Row.off ∷ List.[];
+        }
+
         abbrev G82 : Row.Cx
-        G82 = record { locals = List._++_ t62 (List._++_ t1 t2); slots = life0 ∷ life1 ∷ life2 ∷ life3 ∷ Row.off ∷ Row.off ∷ Row.off ∷ Row.off ∷
-            Row.off ∷ Row.off ∷ List.[]; }
+        G82 = record {
+          locals = List._++_ t62 (List._++_ t1 t2);
+          slots = life0 ∷ life1 ∷ life2 ∷ life3 ∷ Row.off ∷ Row.off ∷ Row.off ∷ Row.off ∷ Row.off ∷ Row.off ∷ List.[];
+        }
+
         abbrev G83 : Row.Cx
-        G83 = record { locals = List._++_ t63 (List._++_ t1 t2); slots = life0 ∷ life1 ∷ life2 ∷ life3 ∷ Row.off ∷ Row.off ∷ Row.off ∷ Row.off ∷
-            Row.off ∷ Row.off ∷ List.[]; }
+        G83 = record {
+          locals = List._++_ t63 (List._++_ t1 t2);
+          slots = life0 ∷ life1 ∷ life2 ∷ life3 ∷ Row.off ∷ Row.off ∷ Row.off ∷ Row.off ∷ Row.off ∷ Row.off ∷ List.[];
+        }
+
         abbrev G84 : Row.Cx
-        G84 = record { locals = List._++_ t3 (List._++_ t1 t2); slots = life0 ∷ life1 ∷ life2 ∷ life3 ∷ Row.off ∷ Row.off ∷ Row.off ∷ Row.off ∷
-            Row.off ∷ Row.off ∷ List.[]; }
+        G84 = record {
+          locals = List._++_ t3 (List._++_ t1 t2);
+          slots = life0 ∷ life1 ∷ life2 ∷ life3 ∷ Row.off ∷ Row.off ∷ Row.off ∷ Row.off ∷ Row.off ∷ Row.off ∷ List.[];
+        }
+
         abbrev G85 : Row.Cx
-        G85 = record { locals = List._++_ t35 (List._++_ t34 t2); slots = life0 ∷ life1 ∷ life2 ∷ life3 ∷ Row.off ∷ Row.off ∷ Row.off ∷ Row.off ∷
-            Row.off ∷ Row.off ∷ List.[]; }
+        G85 = record {
+          locals = List._++_ t35 (List._++_ t34 t2);
+          slots = life0 ∷ life1 ∷ life2 ∷ life3 ∷ Row.off ∷ Row.off ∷ Row.off ∷ Row.off ∷ Row.off ∷ Row.off ∷ List.[];
+        }
+
         abbrev G86 : Row.Cx
-        G86 = record { locals = List._++_ t35 (List._++_ t33 t2); slots = life0 ∷ life1 ∷ life2 ∷ life3 ∷ Row.off ∷ Row.off ∷ Row.off ∷ Row.off ∷
-            Row.off ∷ Row.off ∷ List.[]; }
+        G86 = record {
+          locals = List._++_ t35 (List._++_ t33 t2);
+          slots = life0 ∷ life1 ∷ life2 ∷ life3 ∷ Row.off ∷ Row.off ∷ Row.off ∷ Row.off ∷ Row.off ∷ Row.off ∷ List.[];
+        }
+
         abbrev G87 : Row.Cx
-        G87 = record { locals = List._++_ t64 (List._++_ t33 t2); slots = life0 ∷ life1 ∷ life2 ∷ life3 ∷ Row.off ∷ Row.off ∷ Row.off ∷ Row.off ∷
-            Row.off ∷ Row.off ∷ List.[]; }
+        G87 = record {
+          locals = List._++_ t64 (List._++_ t33 t2);
+          slots = life0 ∷ life1 ∷ life2 ∷ life3 ∷ Row.off ∷ Row.off ∷ Row.off ∷ Row.off ∷ Row.off ∷ Row.off ∷ List.[];
+        }
+
         abbrev G88 : Row.Cx
-        G88 = record { locals = List._++_ t65 (List._++_ t33 t2); slots = life0 ∷ life1 ∷ life2 ∷ life3 ∷ Row.off ∷ Row.off ∷ Row.off ∷ Row.off ∷
-            Row.off ∷ Row.off ∷ List.[]; }
+        G88 = record {
+          locals = List._++_ t65 (List._++_ t33 t2);
+          slots = life0 ∷ life1 ∷ life2 ∷ life3 ∷ Row.off ∷ Row.off ∷ Row.off ∷ Row.off ∷ Row.off ∷ Row.off ∷ List.[];
+        }
+
         abbrev G89 : Row.Cx
-        G89 = record { locals = List._++_ t61 (List._++_ t33 t2); slots = life0 ∷ life1 ∷ life2 ∷ life3 ∷ Row.off ∷ Row.off ∷ Row.off ∷ Row.off ∷
-            Row.off ∷ Row.off ∷ List.[]; }
+        G89 = record {
+          locals = List._++_ t61 (List._++_ t33 t2);
+          slots = life0 ∷ life1 ∷ life2 ∷ life3 ∷ Row.off ∷ Row.off ∷ Row.off ∷ Row.off ∷ Row.off ∷ Row.off ∷ List.[];
+        }
+
         abbrev G90 : Row.Cx
-        G90 = record { locals = List._++_ t66 (List._++_ t33 t2); slots = life0 ∷ life1 ∷ life2 ∷ life3 ∷ Row.off ∷ Row.off ∷ Row.off ∷ Row.off ∷
-            Row.off ∷ Row.off ∷ List.[]; }
+        G90 = record {
+          locals = List._++_ t66 (List._++_ t33 t2);
+          slots = life0 ∷ life1 ∷ life2 ∷ life3 ∷ Row.off ∷ Row.off ∷ Row.off ∷ Row.off ∷ Row.off ∷ Row.off ∷ List.[];
+        }
+
         abbrev G91 : Row.Cx
-        G91 = record { locals = List._++_ t66 (List._++_ t1 t2); slots = life0 ∷ life1 ∷ life2 ∷ life3 ∷ Row.off ∷ Row.off ∷ Row.off ∷ Row.off ∷
-            Row.off ∷ Row.off ∷ List.[]; }
+        G91 = record {
+          locals = List._++_ t66 (List._++_ t1 t2);
+          slots = life0 ∷ life1 ∷ life2 ∷ life3 ∷ Row.off ∷ Row.off ∷ Row.off ∷ Row.off ∷ Row.off ∷ Row.off ∷ List.[];
+        }
+
         abbrev G92 : Row.Cx
-        G92 = record { locals = List._++_ t67 (List._++_ t1 t2); slots = life0 ∷ life1 ∷ life2 ∷ life3 ∷ Row.off ∷ Row.off ∷ Row.off ∷ Row.off ∷
-            Row.off ∷ Row.off ∷ List.[]; }
+        G92 = record {
+          locals = List._++_ t67 (List._++_ t1 t2);
+          slots = life0 ∷ life1 ∷ life2 ∷ life3 ∷ Row.off ∷ Row.off ∷ Row.off ∷ Row.off ∷ Row.off ∷ Row.off ∷ List.[];
+        }
+
         abbrev G93 : Row.Cx
-        G93 = record { locals = List._++_ t3 (List._++_ t1 t2); slots = life0 ∷ life1 ∷ life2 ∷ life3 ∷ Row.off ∷ Row.off ∷ Row.off ∷ Row.off ∷
-            Row.off ∷ Row.off ∷ List.[]; }
+        G93 = record {
+          locals = List._++_ t3 (List._++_ t1 t2);
+          slots = life0 ∷ life1 ∷ life2 ∷ life3 ∷ Row.off ∷ Row.off ∷ Row.off ∷ Row.off ∷ Row.off ∷ Row.off ∷ List.[];
+        }
+
         abbrev Δ0 : Typed.Outs
         Δ0 = record { next = Option.none; exits = List.[]; returns = Option.some G1 }
+
         abbrev Δ1 : Typed.Outs
         Δ1 = Typed.withNext (Option.some G39) Δ0
+
         abbrev Δ2 : Typed.Outs
         Δ2 = Typed.withNext (Option.some G43) Δ1
-        module _ { M : Type 1 } (𝓤 : URA.URA M) (H : Wp.Heap 𝓤) (A : Atoms.Atoms 𝓤) (W : Kit.Given 𝓤 H A) (𝓣 : Wp.Tables 𝓤 H) (known : Knowns 𝓤 H A W
-            𝓣) (bs : List.List Nat.ℕ) (bd : Lifetimes.AllOutlive 4 (Kinds.osR r) κs) where
+
+        module _ {M : Type 1} (𝓤 : URA.URA M) (H : Wp.Heap 𝓤) (A : Atoms.Atoms 𝓤) (W : Kit.Given 𝓤 H A)
+            (𝓣 : Wp.Tables 𝓤 H) (known : Knowns 𝓤 H A W 𝓣) (bs : List.List Nat.ℕ)
+            (bd : Lifetimes.AllOutlive 4 (Kinds.osR r) κs) where
           abbrev E : Wp.Env 𝓤 H
           E = Frame.EnvOf 𝓤 H ((Kinds.tyR r) ∷ (Enter.tysP ps xs)) bs
+
           d0 : Typed.Typed 𝓤 H A 𝓣 E G76 b27 Δ2 (at0 bs)
           d0 = Typed.t-return 𝓤 H A W 𝓣 E Δ2 tt
+
           d1 : Typed.Typed 𝓤 H A 𝓣 E G75 b27 Δ2 (at1 bs)
-          d1 = Typed.g-pre 𝓤 H A W 𝓣 E G75 G76 b27 Δ2 (Typed.pass T75 T76 (s72 bs)) (at0 bs) (Scalar.g-room 𝓤 H A W E G75 15 Syntax.tyBool
-              (Scalar.room-sc 𝓤 H A W Row.sBool)) d0
+          d1 = Typed.g-pre 𝓤 H A W 𝓣 E G75 G76 b27 Δ2 (Typed.pass T75 T76 (s72 bs)) (at0 bs) (Scalar.g-room 𝓤 H A W E
+              G75 15 Syntax.tyBool (Scalar.room-sc 𝓤 H A W Row.sBool)) d0
+
           d2 : Typed.Typed 𝓤 H A 𝓣 E G74 b27 Δ2 (at2 bs)
-          d2 = Typed.g-pre 𝓤 H A W 𝓣 E G74 G75 b27 Δ2 (Typed.pass T74 T75 (s71 bs)) (at1 bs) (Scalar.g-room 𝓤 H A W E G74 8 Syntax.tyBool
-              (Scalar.room-sc 𝓤 H A W Row.sBool)) d1
+          d2 = Typed.g-pre 𝓤 H A W 𝓣 E G74 G75 b27 Δ2 (Typed.pass T74 T75 (s71 bs)) (at1 bs) (Scalar.g-room 𝓤 H A W E
+              G74 8 Syntax.tyBool (Scalar.room-sc 𝓤 H A W Row.sBool)) d1
+
           d3 : Typed.Typed 𝓤 H A 𝓣 E G73 b27 Δ2 (at3 bs)
-          d3 = Typed.g-pre 𝓤 H A W 𝓣 E G73 G74 b27 Δ2 (Typed.pass T72 T74 (s70 bs)) (at2 bs) (Scalar.g-room 𝓤 H A W E G73 7 (Syntax.tyInt Syntax.w64)
-              (Scalar.room-sc 𝓤 H A W (Row.sInt Syntax.w64))) d2
+          d3 = Typed.g-pre 𝓤 H A W 𝓣 E G73 G74 b27 Δ2 (Typed.pass T72 T74 (s70 bs)) (at2 bs) (Scalar.g-room 𝓤 H A W E
+              G73 7 (Syntax.tyInt Syntax.w64) (Scalar.room-sc 𝓤 H A W (Row.sInt Syntax.w64))) d2
+
           d4 : Typed.Typed 𝓤 H A 𝓣 E G72 b27 Δ2 (at4 bs)
-          d4 = Typed.g-pre 𝓤 H A W 𝓣 E G72 G73 b27 Δ2 (λ Ψ. Ψ) (at3 bs) (Lifetime.g-forget 𝓤 H A W E G72 9 Row.dead Path.refl) d3
+          d4 = Typed.g-pre 𝓤 H A W 𝓣 E G72 G73 b27 Δ2 (λ Ψ. Ψ) (at3 bs)
+              (Lifetime.g-forget 𝓤 H A W E G72 9 Row.dead Path.refl) d3
+
           d5 : Typed.Typed 𝓤 H A 𝓣 E G71 b27 Δ2 (at5 bs)
-          d5 = Typed.g-pre 𝓤 H A W 𝓣 E G71 G72 b27 Δ2 (Typed.give (s68 bs)) (at4 bs) (Know.g-sl-known 𝓤 H A W (Referent.fInt Syntax.w32) E G71 4 3
-              ref9 life3 0 (λ x. x) record { fits = Dec.lit< tt } (Reads'.as-is 𝓤 H A (Mut.mslice (Referent.rtF (Referent.fInt Syntax.w32)) ref9 3))
-              Path.refl tt) d4
+          d5 = Typed.g-pre 𝓤 H A W 𝓣 E G71 G72 b27 Δ2 (Typed.give (s68 bs)) (at4 bs) (Know.g-sl-known 𝓤 H A W
+              (Referent.fInt Syntax.w32) E G71 4 3 ref9 life3 0 (λ x. x) record { fits = Dec.lit< tt } (Reads'.as-is 𝓤
+              H A (Mut.mslice (Referent.rtF (Referent.fInt Syntax.w32)) ref9 3)) Path.refl tt) d4
+
           d6 : Typed.Typed 𝓤 H A 𝓣 E G70 b27 Δ2 (at6 bs)
-          d6 = Typed.g-pre 𝓤 H A W 𝓣 E G70 G71 b27 Δ2 (Typed.both (s67 bs)) (at5 bs) (Relend.g-back-sl 𝓤 H A W E (Referent.rtF (Referent.fInt
-              Syntax.w32)) G70 34 4 3 9 ref9 ref5 life3 (λ x. x) (λ x. x) (Reads'.as-is 𝓤 H A (Mut.msleft (Referent.rtF (Referent.fInt Syntax.w32))
-              ref5)) (Reads'.as-is 𝓤 H A (Relend.mslice-owed (Referent.rtF (Referent.fInt Syntax.w32)) ref9 3 9 life3)) Path.refl Path.refl) d5
+          d6 = Typed.g-pre 𝓤 H A W 𝓣 E G70 G71 b27 Δ2 (Typed.both (s67 bs)) (at5 bs) (Relend.g-back-sl 𝓤 H A W E
+              (Referent.rtF (Referent.fInt Syntax.w32)) G70 34 4 3 9 ref9 ref5 life3 (λ x. x) (λ x. x) (Reads'.as-is 𝓤
+              H A (Mut.msleft (Referent.rtF (Referent.fInt Syntax.w32)) ref5)) (Reads'.as-is 𝓤 H A (Relend.mslice-owed
+              (Referent.rtF (Referent.fInt Syntax.w32)) ref9 3 9 life3)) Path.refl Path.refl) d5
+
           d7 : Typed.Typed 𝓤 H A 𝓣 E G69 b27 Δ2 (at7 bs)
           d7 = Typed.g-pre 𝓤 H A W 𝓣 E G69 G70 b27 Δ2 (λ Ψ. Ψ) (at6 bs) (Lifetime.g-end 𝓤 H A W E G69 9 Path.refl) d6
+
           d8 : Typed.Typed 𝓤 H A 𝓣 E G68 b27 Δ2 (at8 bs)
-          d8 = Typed.g-pre 𝓤 H A W 𝓣 E G68 G69 b27 Δ2 (λ Ψ. Ψ) (at7 bs) (Lifetime.g-forget 𝓤 H A W E G68 8 Row.dead Path.refl) d7
+          d8 = Typed.g-pre 𝓤 H A W 𝓣 E G68 G69 b27 Δ2 (λ Ψ. Ψ) (at7 bs)
+              (Lifetime.g-forget 𝓤 H A W E G68 8 Row.dead Path.refl) d7
+
           d9 : Typed.Typed 𝓤 H A 𝓣 E G67 b27 Δ2 (at9 bs)
-          d9 = Typed.g-pre 𝓤 H A W 𝓣 E G67 G68 b27 Δ2 (Typed.both (s64 bs)) (at8 bs) (Relend.g-back-sl 𝓤 H A W E InflightAction.row G67 32 3 2 8 ref8
-              ref4 life2 (λ x. x) (λ x. x) (Reads'.as-is 𝓤 H A (Mut.msleft InflightAction.row ref4)) (Reads'.as-is 𝓤 H A (Relend.mslice-owed
-              InflightAction.row ref8 2 8 life2)) Path.refl Path.refl) d8
+          d9 = Typed.g-pre 𝓤 H A W 𝓣 E G67 G68 b27 Δ2 (Typed.both (s64 bs)) (at8 bs) (Relend.g-back-sl 𝓤 H A W E
+              InflightAction.row G67 32 3 2 8 ref8 ref4 life2 (λ x. x) (λ x. x)
+              (Reads'.as-is 𝓤 H A (Mut.msleft InflightAction.row ref4)) (Reads'.as-is 𝓤 H A
+              (Relend.mslice-owed InflightAction.row ref8 2 8 life2)) Path.refl Path.refl) d8
+
           d10 : Typed.Typed 𝓤 H A 𝓣 E G66 b27 Δ2 (at10 bs)
           d10 = Typed.g-pre 𝓤 H A W 𝓣 E G66 G67 b27 Δ2 (λ Ψ. Ψ) (at9 bs) (Lifetime.g-end 𝓤 H A W E G66 8 Path.refl) d9
+
           d11 : Typed.Typed 𝓤 H A 𝓣 E G65 b27 Δ2 (at11 bs)
-          d11 = Typed.g-pre 𝓤 H A W 𝓣 E G65 G66 b27 Δ2 (λ Ψ. Ψ) (at10 bs) (Lifetime.g-forget 𝓤 H A W E G65 7 Row.dead Path.refl) d10
+          d11 = Typed.g-pre 𝓤 H A W 𝓣 E G65 G66 b27 Δ2 (λ Ψ. Ψ) (at10 bs)
+              (Lifetime.g-forget 𝓤 H A W E G65 7 Row.dead Path.refl) d10
+
           d12 : Typed.Typed 𝓤 H A 𝓣 E G64 b27 Δ2 (at12 bs)
-          d12 = Typed.g-pre 𝓤 H A W 𝓣 E G64 G65 b27 Δ2 (Typed.both (s61 bs)) (at11 bs) (Relend.g-back-sl 𝓤 H A W E RelayCircuit.row G64 30 2 1 7 ref7
-              ref3 life1 (λ x. x) (λ x. x) (Reads'.as-is 𝓤 H A (Mut.msleft RelayCircuit.row ref3)) (Reads'.as-is 𝓤 H A (Relend.mslice-owed
-              RelayCircuit.row ref7 1 7 life1)) Path.refl Path.refl) d11
+          d12 = Typed.g-pre 𝓤 H A W 𝓣 E G64 G65 b27 Δ2 (Typed.both (s61 bs)) (at11 bs) (Relend.g-back-sl 𝓤 H A W E
+              RelayCircuit.row G64 30 2 1 7 ref7 ref3 life1 (λ x. x) (λ x. x)
+              (Reads'.as-is 𝓤 H A (Mut.msleft RelayCircuit.row ref3)) (Reads'.as-is 𝓤 H A
+              (Relend.mslice-owed RelayCircuit.row ref7 1 7 life1)) Path.refl Path.refl) d11
+
           d13 : Typed.Typed 𝓤 H A 𝓣 E G63 b27 Δ2 (at13 bs)
-          d13 = Typed.g-pre 𝓤 H A W 𝓣 E G63 G64 b27 Δ2 (λ Ψ. Ψ) (at12 bs) (Lifetime.g-end 𝓤 H A W E G63 7 Path.refl) d12
+          d13 = Typed.g-pre 𝓤 H A W 𝓣 E G63 G64 b27 Δ2 (λ Ψ. Ψ) (at12 bs) (Lifetime.g-end 𝓤 H A W E G63 7 Path.refl)
+              d12
+
           d14 : Typed.Typed 𝓤 H A 𝓣 E G62 b27 Δ2 (at14 bs)
-          d14 = Typed.g-pre 𝓤 H A W 𝓣 E G62 G63 b27 Δ2 (λ Ψ. Ψ) (at13 bs) (Lifetime.g-forget 𝓤 H A W E G62 6 Row.dead Path.refl) d13
+          d14 = Typed.g-pre 𝓤 H A W 𝓣 E G62 G63 b27 Δ2 (λ Ψ. Ψ) (at13 bs)
+              (Lifetime.g-forget 𝓤 H A W E G62 6 Row.dead Path.refl) d13
+
           d15 : Typed.Typed 𝓤 H A 𝓣 E G61 b27 Δ2 (at15 bs)
-          d15 = Typed.g-pre 𝓤 H A W 𝓣 E G61 G62 b27 Δ2 (Typed.both (s58 bs)) (at14 bs) (Relend.g-back-sl 𝓤 H A W E RelayPending.row G61 28 1 0 6 ref6
-              ref2 life0 (λ x. x) (λ x. x) (Reads'.as-is 𝓤 H A (Mut.msleft RelayPending.row ref2)) (Reads'.as-is 𝓤 H A (Relend.mslice-owed
-              RelayPending.row ref6 0 6 life0)) Path.refl Path.refl) d14
+          d15 = Typed.g-pre 𝓤 H A W 𝓣 E G61 G62 b27 Δ2 (Typed.both (s58 bs)) (at14 bs) (Relend.g-back-sl 𝓤 H A W E
+              RelayPending.row G61 28 1 0 6 ref6 ref2 life0 (λ x. x) (λ x. x)
+              (Reads'.as-is 𝓤 H A (Mut.msleft RelayPending.row ref2)) (Reads'.as-is 𝓤 H A
+              (Relend.mslice-owed RelayPending.row ref6 0 6 life0)) Path.refl Path.refl) d14
+
           d16 : Typed.Typed 𝓤 H A 𝓣 E G60 b27 Δ2 (at16 bs)
-          d16 = Typed.g-pre 𝓤 H A W 𝓣 E G60 G61 b27 Δ2 (λ Ψ. Ψ) (at15 bs) (Lifetime.g-end 𝓤 H A W E G60 6 Path.refl) d15
+          d16 = Typed.g-pre 𝓤 H A W 𝓣 E G60 G61 b27 Δ2 (λ Ψ. Ψ) (at15 bs) (Lifetime.g-end 𝓤 H A W E G60 6 Path.refl)
+              d15
+
           d17 : Typed.Typed 𝓤 H A 𝓣 E G59 b27 Δ2 (at17 bs)
-          d17 = Typed.g-pre 𝓤 H A W 𝓣 E G59 G60 b27 Δ2 (Typed.pass T59 T60 (s56 bs)) (at16 bs) (Scalar.g-room 𝓤 H A W E G59 13 Laws''''.mir
-              (Local.room-whole 𝓤 H A W (Declared'.row Firsts.the-type) Laws''''.mir Path.refl)) d16
+          d17 = Typed.g-pre 𝓤 H A W 𝓣 E G59 G60 b27 Δ2 (Typed.pass T59 T60 (s56 bs)) (at16 bs) (Scalar.g-room 𝓤 H A W E
+              G59 13 Laws''''.mir (Local.room-whole 𝓤 H A W (Declared'.row Firsts.the-type) Laws''''.mir Path.refl))
+              d16
+
           d18 : Typed.Typed 𝓤 H A 𝓣 E G58 b27 Δ2 (at18 bs)
-          d18 = Typed.g-pre 𝓤 H A W 𝓣 E G58 G59 b27 Δ2 (Typed.pass T58 T59 (s55 bs)) (at17 bs) (Scalar.g-room 𝓤 H A W E G58 6 Laws''.mir
-              (Local.room-whole 𝓤 H A W (Declared'.row Places.the-type) Laws''.mir Path.refl)) d17
+          d18 = Typed.g-pre 𝓤 H A W 𝓣 E G58 G59 b27 Δ2 (Typed.pass T58 T59 (s55 bs)) (at17 bs) (Scalar.g-room 𝓤 H A W E
+              G58 6 Laws''.mir (Local.room-whole 𝓤 H A W (Declared'.row Places.the-type) Laws''.mir Path.refl)) d17
+
           d19 : Typed.Typed 𝓤 H A 𝓣 E G57 b27 Δ2 (at19 bs)
-          d19 = Typed.g-pre 𝓤 H A W 𝓣 E G57 G58 b27 Δ2 (Typed.pass T57 T58 (s54 bs)) (at18 bs) (Scalar.g-room 𝓤 H A W E G57 5 Laws''''''.mir
-              (Local.room-whole 𝓤 H A W (Declared'.row OpaqueRelayRuntime.the-type) Laws''''''.mir Path.refl)) d18
+          d19 = Typed.g-pre 𝓤 H A W 𝓣 E G57 G58 b27 Δ2 (Typed.pass T57 T58 (s54 bs)) (at18 bs) (Scalar.g-room 𝓤 H A W E
+              G57 5 Laws''''''.mir (Local.room-whole 𝓤 H A W (Declared'.row OpaqueRelayRuntime.the-type) Laws''''''.mir
+              Path.refl)) d18
+
           d20 : Typed.Typed 𝓤 H A 𝓣 E G56 b28 Δ2 (at20 bs)
-          d20 = Typed.s-seq 𝓤 H A W 𝓣 E G56 G57 b26 b27 Δ2 (Typed.both (s53 bs)) (at19 bs) (Plain.t-call-plain 𝓤 H A W 𝓣 4 ps·7 r·7 (claims· .14)
-              (claims· .15) "hnsr_circuit::revoking_calls::switch_to" (known .7) E (λ pos β. β) G56 (record { pos = 28; ty = Syntax.tyRef
-              Syntax.erased Syntax.mut RelayPending.to; ref = λ x. x; }, (record { pos = 30; ty = Syntax.tyRef Syntax.erased Syntax.mut
-              RelayCircuit.to; ref = λ x. x; }, (record { pos = 32; ty = Syntax.tyRef Syntax.erased Syntax.mut InflightAction.to; ref = λ x. x; },
-              (record { pos = 34; ty = Syntax.tyRef Syntax.erased Syntax.mut (Syntax.tyInt Syntax.w32); ref = λ x. x; }, (record { pos = 5; st =
-              List.[]; d = 0; at = λ x. x }, (record { pos = 6; st = List.[]; d = 0; at = λ x. x }, (Bool.bAt 8 λ x. x, (record { pos = 13; st =
-              List.[]; d = 0; at = λ x. x }, tt),),),),),),),) 0 (6 ∷ 7 ∷ 8 ∷ 9 ∷ List.[]) (Call.sub-id 𝓤 H A W (G56 .slots)) (Reads'.as-is 𝓤 H A
-              (Mut.mslice RelayPending.row ref2 6), Mut.reads-mslice 𝓤 H A W RelayPending.row ref2 6, Path.refl, (Reads'.as-is 𝓤 H A (Mut.mslice
-              RelayCircuit.row ref3 7), Mut.reads-mslice 𝓤 H A W RelayCircuit.row ref3 7, Path.refl, (Reads'.as-is 𝓤 H A (Mut.mslice
-              InflightAction.row ref4 8), Mut.reads-mslice 𝓤 H A W InflightAction.row ref4 8, Path.refl, (Reads'.as-is 𝓤 H A (Mut.mslice (Referent.rtF
-              (Referent.fInt Syntax.w32)) ref5 9), Mut.reads-mslice 𝓤 H A W (Referent.rtF (Referent.fInt Syntax.w32)) ref5 9, Path.refl,
-              ((Yields.yields-copy 𝓤 H A W (λ ρ. Unit) (Declared'.row OpaqueRelayRuntime.the-type) Path.refl (Copies.cStruct
-              OpaqueRelayRuntime.the-type Laws''''''.the-laws Laws''''''.the-copy .copy 𝓤 H A W) (Rows.whole (Declared'.row
-              OpaqueRelayRuntime.the-type)) (λ x. x) (λ x. x) (λ ρ told. Local.mem-whole 𝓤 H A W (Declared'.row OpaqueRelayRuntime.the-type) ρ) λ ρ
-              told. Local.whole-mem 𝓤 H A W (Declared'.row OpaqueRelayRuntime.the-type) ρ, Path.refl,), ((Yields.yields-copy 𝓤 H A W (λ ρ. Unit)
-              (Declared'.row Places.the-type) Path.refl (Copies.cStruct Places.the-type Laws''.the-laws Laws''.the-copy .copy 𝓤 H A W) (Rows.whole
-              (Declared'.row Places.the-type)) (λ x. x) (λ x. x) (λ ρ told. Local.mem-whole 𝓤 H A W (Declared'.row Places.the-type) ρ) λ ρ told.
-              Local.whole-mem 𝓤 H A W (Declared'.row Places.the-type) ρ, Path.refl,), ((Scalar.reads-sc 𝓤 H A W Row.sBool, Path.refl),
-              ((Yields.yields-copy 𝓤 H A W (λ ρ. Unit) (Declared'.row Firsts.the-type) Path.refl (Copies.cStruct Firsts.the-type Laws''''.the-laws
-              Laws''''.the-copy .copy 𝓤 H A W) (Rows.whole (Declared'.row Firsts.the-type)) (λ x. x) (λ x. x) (λ ρ told. Local.mem-whole 𝓤 H A W
-              (Declared'.row Firsts.the-type) ρ) λ ρ told. Local.whole-mem 𝓤 H A W (Declared'.row Firsts.the-type) ρ, Path.refl,), tt,),),),),),),),)
-              (Reads'.room-gone 𝓤 H A Laws'''''''.mir) (tt, (tt, (tt, (tt, tt)))) Path.refl) d19
+          d20 = Typed.s-seq 𝓤 H A W 𝓣 E G56 G57 b26 b27 Δ2 (Typed.both (s53 bs)) (at19 bs) (Plain.t-call-plain 𝓤 H A W
+              𝓣 4 ps·7 r·7 (claims· .14) (claims· .15) "hnsr_circuit::revoking_calls::switch_to" (known .7) E
+              (λ pos β. β) G56 (
+                record { pos = 28; ty = ref2; ref = λ x. x },
+                (
+                  record { pos = 30; ty = ref3; ref = λ x. x },
+                  (
+                    record { pos = 32; ty = ref4; ref = λ x. x },
+                    (
+                      record { pos = 34; ty = ref5; ref = λ x. x },
+                      (
+                        record { pos = 5; st = List.[]; d = 0; at = λ x. x },
+                        (
+                          record { pos = 6; st = List.[]; d = 0; at = λ x. x },
+                          (Bool.bAt 8 λ x. x, (record { pos = 13; st = List.[]; d = 0; at = λ x. x }, tt)),
+                        ),
+                      ),
+                    ),
+                  ),
+                ),
+              ) 0 (6 ∷ 7 ∷ 8 ∷ 9 ∷ List.[]) (Call.sub-id 𝓤 H A W (G56 .slots)) (
+                Reads'.as-is 𝓤 H A (Mut.mslice RelayPending.row ref2 6),
+                Mut.reads-mslice 𝓤 H A W RelayPending.row ref2 6,
+                Path.refl,
+                (
+                  Reads'.as-is 𝓤 H A (Mut.mslice RelayCircuit.row ref3 7),
+                  Mut.reads-mslice 𝓤 H A W RelayCircuit.row ref3 7,
+                  Path.refl,
+                  (
+                    Reads'.as-is 𝓤 H A (Mut.mslice InflightAction.row ref4 8),
+                    Mut.reads-mslice 𝓤 H A W InflightAction.row ref4 8,
+                    Path.refl,
+                    (
+                      Reads'.as-is 𝓤 H A (Mut.mslice (Referent.rtF (Referent.fInt Syntax.w32)) ref5 9),
+                      Mut.reads-mslice 𝓤 H A W (Referent.rtF (Referent.fInt Syntax.w32)) ref5 9,
+                      Path.refl,
+                      (
+                        (
+                          Yields.yields-copy 𝓤 H A W (λ ρ. Unit) (Declared'.row OpaqueRelayRuntime.the-type) Path.refl (Copies.cStruct
+                              OpaqueRelayRuntime.the-type Laws''''''.the-laws Laws''''''.the-copy .copy 𝓤 H A W)
+                              (Rows.whole (Declared'.row OpaqueRelayRuntime.the-type)) (λ x. x) (λ x. x) (λ ρ told.
+                              Local.mem-whole 𝓤 H A W (Declared'.row OpaqueRelayRuntime.the-type) ρ) λ ρ told.
+                              Local.whole-mem 𝓤 H A W (Declared'.row OpaqueRelayRuntime.the-type) ρ,
+                          Path.refl,
+                        ),
+                        (
+                          (
+                            Yields.yields-copy 𝓤 H A W (λ ρ. Unit) (Declared'.row Places.the-type) Path.refl (Copies.cStruct
+                                Places.the-type Laws''.the-laws Laws''.the-copy .copy 𝓤 H A W)
+                                (Rows.whole (Declared'.row Places.the-type)) (λ x. x) (λ x. x) (λ ρ told.
+                                Local.mem-whole 𝓤 H A W (Declared'.row Places.the-type) ρ) λ ρ told. Local.whole-mem 𝓤
+                                H A W (Declared'.row Places.the-type) ρ,
+                            Path.refl,
+                          ),
+                          (
+                            (Scalar.reads-sc 𝓤 H A W Row.sBool, Path.refl),
+                            (
+                              (
+                                Yields.yields-copy 𝓤 H A W (λ ρ. Unit) (Declared'.row Firsts.the-type) Path.refl (Copies.cStruct
+                                    Firsts.the-type Laws''''.the-laws Laws''''.the-copy .copy 𝓤 H A W)
+                                    (Rows.whole (Declared'.row Firsts.the-type)) (λ x. x) (λ x. x) (λ ρ told.
+                                    Local.mem-whole 𝓤 H A W (Declared'.row Firsts.the-type) ρ) λ ρ told.
+                                    Local.whole-mem 𝓤 H A W (Declared'.row Firsts.the-type) ρ,
+                                Path.refl,
+                              ),
+                              tt,
+                            ),
+                          ),
+                        ),
+                      ),
+                    ),
+                  ),
+                ),
+              ) (Reads'.room-gone 𝓤 H A Laws'''''''.mir) (tt, (tt, (tt, (tt, tt)))) Path.refl) d19
+
           d21 : Typed.Typed 𝓤 H A 𝓣 E G55 b29 Δ2 (at21 bs)
-          d21 = Typed.s-seq 𝓤 H A W 𝓣 E G55 G56 b25 b28 Δ2 (Typed.ask (s52 bs)) (at20 bs) (Relend.t-sl-aggregate 𝓤 H A W E (Referent.rtF
-              (Referent.fInt Syntax.w32)) 𝓣 (Relend.asMut (Referent.rtF (Referent.fInt Syntax.w32))) G55 33 34 9 ref5 ref5 (λ x. x) (Scalar.oFld 4
-              ((Syntax.field 1) ∷ List.[]) (Syntax.tyInt Syntax.w64) 8 λ v. Shared.lenV (v .0)) (Reads'.as-is 𝓤 H A (Relend.msptr (Referent.rtF
-              (Referent.fInt Syntax.w32)) ref5 9)) (Reads'.room-gone 𝓤 H A (Syntax.tyStruct (38 ∷ 91 ∷ 93 ∷ List.[]) (Syntax.tcons ref5 (Syntax.tcons
-              (Syntax.tyInt Syntax.w64) Syntax.tnil)))) (Relend.reads-owed-len 𝓤 H A W (Referent.rtF (Referent.fInt Syntax.w32)) ref9 3 9 life3 8
-              Path.refl, Path.refl,) Path.refl Path.refl λ b o k. tt) d20
+          d21 = Typed.s-seq 𝓤 H A W 𝓣 E G55 G56 b25 b28 Δ2 (Typed.ask (s52 bs)) (at20 bs) (Relend.t-sl-aggregate 𝓤 H A
+              W E (Referent.rtF (Referent.fInt Syntax.w32)) 𝓣 (Relend.asMut (Referent.rtF (Referent.fInt Syntax.w32)))
+              G55 33 34 9 ref5 ref5 (λ x. x) (Scalar.oFld 4 ((Syntax.field 1) ∷ List.[]) (Syntax.tyInt Syntax.w64) 8
+              λ v. Shared.lenV (v .0)) (Reads'.as-is 𝓤 H A (Relend.msptr (Referent.rtF (Referent.fInt Syntax.w32)) ref5
+              9)) (Reads'.room-gone 𝓤 H A slice5) (
+                Relend.reads-owed-len 𝓤 H A W (Referent.rtF (Referent.fInt Syntax.w32)) ref9 3 9 life3 8 Path.refl,
+                Path.refl,
+              ) Path.refl Path.refl λ b o k. tt) d20
+
           d22 : Typed.Typed 𝓤 H A 𝓣 E G54 b30 Δ2 (at22 bs)
-          d22 = Typed.s-seq 𝓤 H A W 𝓣 E G54 G55 b24 b29 Δ2 (Typed.give (s51 bs)) (at21 bs) (Relend.t-sl-relend 𝓤 H A W E (Referent.rtF (Referent.fInt
-              Syntax.w32)) 𝓣 G54 4 33 3 9 ref9 ref5 life3 0 (λ x. x) (Reads'.as-is 𝓤 H A (Mut.mslice (Referent.rtF (Referent.fInt Syntax.w32)) ref9
-              3)) (Reads'.room-gone 𝓤 H A ref5) Path.refl tt Path.refl Path.refl Path.refl λ b o. tt) d21
+          d22 = Typed.s-seq 𝓤 H A W 𝓣 E G54 G55 b24 b29 Δ2 (Typed.give (s51 bs)) (at21 bs) (Relend.t-sl-relend 𝓤 H A W
+              E (Referent.rtF (Referent.fInt Syntax.w32)) 𝓣 G54 4 33 3 9 ref9 ref5 life3 0 (λ x. x) (Reads'.as-is 𝓤 H A (Mut.mslice
+              (Referent.rtF (Referent.fInt Syntax.w32)) ref9 3)) (Reads'.room-gone 𝓤 H A ref5) Path.refl tt Path.refl
+              Path.refl Path.refl λ b o. tt) d21
+
           d23 : Typed.Typed 𝓤 H A 𝓣 E G53 b30 Δ2 (at23 bs)
-          d23 = Typed.g-pre 𝓤 H A W 𝓣 E G53 G54 b30 Δ2 (λ Ψ. Ψ) (at22 bs) (Lifetime.g-begin 𝓤 H A W E G53 9 (tt, ((tt, tt), ((tt, tt), ((tt, tt), (tt,
-              (tt, (tt, (tt, (tt, (tt, (tt, (tt, (tt, (tt, (tt, (tt, (tt, (tt, (tt, (tt, (tt, (tt, (tt, (tt, (tt, (tt, (tt, (tt, (tt, (tt, (tt, (tt,
-              (tt, (tt, (tt, tt)),),),),),),),),),),),),),),),),),),),),),),),),),),),),),),),),),)) d22
+          d23 = Typed.g-pre 𝓤 H A W 𝓣 E G53 G54 b30 Δ2 (λ Ψ. Ψ) (at22 bs) (Lifetime.g-begin 𝓤 H A W E G53 9 (
+            tt,
+            (
+              (tt, tt),
+              (
+                (tt, tt),
+                (
+                  (tt, tt),
+                  (
+                    tt,
+                    (
+                      tt,
+                      (
+                        tt,
+                        (
+                          tt,
+                          (
+                            tt,
+                            (
+                              tt,
+                              (
+                                tt,
+                                (
+                                  tt,
+                                  (
+                                    tt,
+                                    (
+                                      tt,
+                                      (
+                                        tt,
+                                        (
+                                          tt,
+                                          (
+                                            tt,
+                                            (
+                                              tt,
+                                              (
+                                                tt,
+                                                (
+                                                  tt,
+                                                  (
+                                                    tt,
+                                                    (
+                                                      tt,
+                                                      (
+                                                        tt,
+                                                        (
+                                                          tt,
+                                                          (
+                                                            tt,
+                                                            (
+                                                              tt,
+                                                              (tt, (tt, (tt, (tt, (tt, (tt, (tt, (tt, (tt, tt))))))))),
+                                                            ),
+                                                          ),
+                                                        ),
+                                                      ),
+                                                    ),
+                                                  ),
+                                                ),
+                                              ),
+                                            ),
+                                          ),
+                                        ),
+                                      ),
+                                    ),
+                                  ),
+                                ),
+                              ),
+                            ),
+                          ),
+                        ),
+                      ),
+                    ),
+                  ),
+                ),
+              ),
+            ),
+          )) d22
+
           d24 : Typed.Typed 𝓤 H A 𝓣 E G52 b31 Δ2 (at24 bs)
-          d24 = Typed.s-seq 𝓤 H A W 𝓣 E G52 G53 b23 b30 Δ2 (Typed.ask (s49 bs)) (at23 bs) (Relend.t-sl-aggregate 𝓤 H A W E InflightAction.row 𝓣
-              (Relend.asMut InflightAction.row) G52 31 32 8 ref4 ref4 (λ x. x) (Scalar.oFld 3 ((Syntax.field 1) ∷ List.[]) (Syntax.tyInt Syntax.w64) 8
-              λ v. Shared.lenV (v .0)) (Reads'.as-is 𝓤 H A (Relend.msptr InflightAction.row ref4 8)) (Reads'.room-gone 𝓤 H A (Syntax.tyStruct (38 ∷ 91
-              ∷ 93 ∷ List.[]) (Syntax.tcons ref4 (Syntax.tcons (Syntax.tyInt Syntax.w64) Syntax.tnil)))) (Relend.reads-owed-len 𝓤 H A W
-              InflightAction.row ref8 2 8 life2 8 Path.refl, Path.refl,) Path.refl Path.refl λ b o k. tt) d23
+          d24 = Typed.s-seq 𝓤 H A W 𝓣 E G52 G53 b23 b30 Δ2 (Typed.ask (s49 bs)) (at23 bs) (Relend.t-sl-aggregate 𝓤 H A
+              W E InflightAction.row 𝓣 (Relend.asMut InflightAction.row) G52 31 32 8 ref4 ref4 (λ x. x) (Scalar.oFld 3
+              ((Syntax.field 1) ∷ List.[]) (Syntax.tyInt Syntax.w64) 8 λ v. Shared.lenV (v .0)) (Reads'.as-is 𝓤 H A
+              (Relend.msptr InflightAction.row ref4 8)) (Reads'.room-gone 𝓤 H A slice4) (
+                Relend.reads-owed-len 𝓤 H A W InflightAction.row ref8 2 8 life2 8 Path.refl,
+                Path.refl,
+              ) Path.refl Path.refl λ b o k. tt) d23
+
           d25 : Typed.Typed 𝓤 H A 𝓣 E G51 b32 Δ2 (at25 bs)
-          d25 = Typed.s-seq 𝓤 H A W 𝓣 E G51 G52 b22 b31 Δ2 (Typed.give (s48 bs)) (at24 bs) (Relend.t-sl-relend 𝓤 H A W E InflightAction.row 𝓣 G51 3 31
-              2 8 ref8 ref4 life2 0 (λ x. x) (Reads'.as-is 𝓤 H A (Mut.mslice InflightAction.row ref8 2)) (Reads'.room-gone 𝓤 H A ref4) Path.refl tt
+          d25 = Typed.s-seq 𝓤 H A W 𝓣 E G51 G52 b22 b31 Δ2 (Typed.give (s48 bs)) (at24 bs) (Relend.t-sl-relend 𝓤 H A W
+              E InflightAction.row 𝓣 G51 3 31 2 8 ref8 ref4 life2 0 (λ x. x)
+              (Reads'.as-is 𝓤 H A (Mut.mslice InflightAction.row ref8 2)) (Reads'.room-gone 𝓤 H A ref4) Path.refl tt
               Path.refl Path.refl Path.refl λ b o. tt) d24
+
           d26 : Typed.Typed 𝓤 H A 𝓣 E G50 b32 Δ2 (at26 bs)
-          d26 = Typed.g-pre 𝓤 H A W 𝓣 E G50 G51 b32 Δ2 (λ Ψ. Ψ) (at25 bs) (Lifetime.g-begin 𝓤 H A W E G50 8 (tt, ((tt, tt), ((tt, tt), (tt, (tt, (tt,
-              (tt, (tt, (tt, (tt, (tt, (tt, (tt, (tt, (tt, (tt, (tt, (tt, (tt, (tt, (tt, (tt, (tt, (tt, (tt, (tt, (tt, (tt, (tt, (tt, (tt, (tt, (tt,
-              (tt, (tt, tt)),),),),),),),),),),),),),),),),),),),),),),),),),),),),),),),),),)) d25
+          d26 = Typed.g-pre 𝓤 H A W 𝓣 E G50 G51 b32 Δ2 (λ Ψ. Ψ) (at25 bs) (Lifetime.g-begin 𝓤 H A W E G50 8 (
+            tt,
+            (
+              (tt, tt),
+              (
+                (tt, tt),
+                (
+                  tt,
+                  (
+                    tt,
+                    (
+                      tt,
+                      (
+                        tt,
+                        (
+                          tt,
+                          (
+                            tt,
+                            (
+                              tt,
+                              (
+                                tt,
+                                (
+                                  tt,
+                                  (
+                                    tt,
+                                    (
+                                      tt,
+                                      (
+                                        tt,
+                                        (
+                                          tt,
+                                          (
+                                            tt,
+                                            (
+                                              tt,
+                                              (
+                                                tt,
+                                                (
+                                                  tt,
+                                                  (
+                                                    tt,
+                                                    (
+                                                      tt,
+                                                      (
+                                                        tt,
+                                                        (
+                                                          tt,
+                                                          (
+                                                            tt,
+                                                            (
+                                                              tt,
+                                                              (tt, (tt, (tt, (tt, (tt, (tt, (tt, (tt, (tt, tt))))))))),
+                                                            ),
+                                                          ),
+                                                        ),
+                                                      ),
+                                                    ),
+                                                  ),
+                                                ),
+                                              ),
+                                            ),
+                                          ),
+                                        ),
+                                      ),
+                                    ),
+                                  ),
+                                ),
+                              ),
+                            ),
+                          ),
+                        ),
+                      ),
+                    ),
+                  ),
+                ),
+              ),
+            ),
+          )) d25
+
           d27 : Typed.Typed 𝓤 H A 𝓣 E G49 b33 Δ2 (at27 bs)
-          d27 = Typed.s-seq 𝓤 H A W 𝓣 E G49 G50 b21 b32 Δ2 (Typed.ask (s46 bs)) (at26 bs) (Relend.t-sl-aggregate 𝓤 H A W E RelayCircuit.row 𝓣
-              (Relend.asMut RelayCircuit.row) G49 29 30 7 ref3 ref3 (λ x. x) (Scalar.oFld 2 ((Syntax.field 1) ∷ List.[]) (Syntax.tyInt Syntax.w64) 8 λ
-              v. Shared.lenV (v .0)) (Reads'.as-is 𝓤 H A (Relend.msptr RelayCircuit.row ref3 7)) (Reads'.room-gone 𝓤 H A (Syntax.tyStruct (38 ∷ 91 ∷
-              93 ∷ List.[]) (Syntax.tcons ref3 (Syntax.tcons (Syntax.tyInt Syntax.w64) Syntax.tnil)))) (Relend.reads-owed-len 𝓤 H A W RelayCircuit.row
-              ref7 1 7 life1 8 Path.refl, Path.refl,) Path.refl Path.refl λ b o k. tt) d26
+          d27 = Typed.s-seq 𝓤 H A W 𝓣 E G49 G50 b21 b32 Δ2 (Typed.ask (s46 bs)) (at26 bs) (Relend.t-sl-aggregate 𝓤 H A
+              W E RelayCircuit.row 𝓣 (Relend.asMut RelayCircuit.row) G49 29 30 7 ref3 ref3 (λ x. x) (Scalar.oFld 2
+              ((Syntax.field 1) ∷ List.[]) (Syntax.tyInt Syntax.w64) 8 λ v. Shared.lenV (v .0))
+              (Reads'.as-is 𝓤 H A (Relend.msptr RelayCircuit.row ref3 7)) (Reads'.room-gone 𝓤 H A slice3) (
+                Relend.reads-owed-len 𝓤 H A W RelayCircuit.row ref7 1 7 life1 8 Path.refl,
+                Path.refl,
+              ) Path.refl Path.refl λ b o k. tt) d26
+
           d28 : Typed.Typed 𝓤 H A 𝓣 E G48 b34 Δ2 (at28 bs)
-          d28 = Typed.s-seq 𝓤 H A W 𝓣 E G48 G49 b20 b33 Δ2 (Typed.give (s45 bs)) (at27 bs) (Relend.t-sl-relend 𝓤 H A W E RelayCircuit.row 𝓣 G48 2 29 1
-              7 ref7 ref3 life1 0 (λ x. x) (Reads'.as-is 𝓤 H A (Mut.mslice RelayCircuit.row ref7 1)) (Reads'.room-gone 𝓤 H A ref3) Path.refl tt
+          d28 = Typed.s-seq 𝓤 H A W 𝓣 E G48 G49 b20 b33 Δ2 (Typed.give (s45 bs)) (at27 bs) (Relend.t-sl-relend 𝓤 H A W
+              E RelayCircuit.row 𝓣 G48 2 29 1 7 ref7 ref3 life1 0 (λ x. x)
+              (Reads'.as-is 𝓤 H A (Mut.mslice RelayCircuit.row ref7 1)) (Reads'.room-gone 𝓤 H A ref3) Path.refl tt
               Path.refl Path.refl Path.refl λ b o. tt) d27
+
           d29 : Typed.Typed 𝓤 H A 𝓣 E G47 b34 Δ2 (at29 bs)
-          d29 = Typed.g-pre 𝓤 H A W 𝓣 E G47 G48 b34 Δ2 (λ Ψ. Ψ) (at28 bs) (Lifetime.g-begin 𝓤 H A W E G47 7 (tt, ((tt, tt), (tt, (tt, (tt, (tt, (tt,
-              (tt, (tt, (tt, (tt, (tt, (tt, (tt, (tt, (tt, (tt, (tt, (tt, (tt, (tt, (tt, (tt, (tt, (tt, (tt, (tt, (tt, (tt, (tt, (tt, (tt, (tt, (tt,
-              (tt, tt)),),),),),),),),),),),),),),),),),),),),),),),),),),),),),),),),),)) d28
+          d29 = Typed.g-pre 𝓤 H A W 𝓣 E G47 G48 b34 Δ2 (λ Ψ. Ψ) (at28 bs) (Lifetime.g-begin 𝓤 H A W E G47 7 (
+            tt,
+            (
+              (tt, tt),
+              (
+                tt,
+                (
+                  tt,
+                  (
+                    tt,
+                    (
+                      tt,
+                      (
+                        tt,
+                        (
+                          tt,
+                          (
+                            tt,
+                            (
+                              tt,
+                              (
+                                tt,
+                                (
+                                  tt,
+                                  (
+                                    tt,
+                                    (
+                                      tt,
+                                      (
+                                        tt,
+                                        (
+                                          tt,
+                                          (
+                                            tt,
+                                            (
+                                              tt,
+                                              (
+                                                tt,
+                                                (
+                                                  tt,
+                                                  (
+                                                    tt,
+                                                    (
+                                                      tt,
+                                                      (
+                                                        tt,
+                                                        (
+                                                          tt,
+                                                          (
+                                                            tt,
+                                                            (
+                                                              tt,
+                                                              (tt, (tt, (tt, (tt, (tt, (tt, (tt, (tt, (tt, tt))))))))),
+                                                            ),
+                                                          ),
+                                                        ),
+                                                      ),
+                                                    ),
+                                                  ),
+                                                ),
+                                              ),
+                                            ),
+                                          ),
+                                        ),
+                                      ),
+                                    ),
+                                  ),
+                                ),
+                              ),
+                            ),
+                          ),
+                        ),
+                      ),
+                    ),
+                  ),
+                ),
+              ),
+            ),
+          )) d28
+
           d30 : Typed.Typed 𝓤 H A 𝓣 E G46 b35 Δ2 (at30 bs)
-          d30 = Typed.s-seq 𝓤 H A W 𝓣 E G46 G47 b19 b34 Δ2 (Typed.ask (s43 bs)) (at29 bs) (Relend.t-sl-aggregate 𝓤 H A W E RelayPending.row 𝓣
-              (Relend.asMut RelayPending.row) G46 27 28 6 ref2 ref2 (λ x. x) (Scalar.oFld 1 ((Syntax.field 1) ∷ List.[]) (Syntax.tyInt Syntax.w64) 8 λ
-              v. Shared.lenV (v .0)) (Reads'.as-is 𝓤 H A (Relend.msptr RelayPending.row ref2 6)) (Reads'.room-gone 𝓤 H A (Syntax.tyStruct (38 ∷ 91 ∷
-              93 ∷ List.[]) (Syntax.tcons ref2 (Syntax.tcons (Syntax.tyInt Syntax.w64) Syntax.tnil)))) (Relend.reads-owed-len 𝓤 H A W RelayPending.row
-              ref6 0 6 life0 8 Path.refl, Path.refl,) Path.refl Path.refl λ b o k. tt) d29
+          d30 = Typed.s-seq 𝓤 H A W 𝓣 E G46 G47 b19 b34 Δ2 (Typed.ask (s43 bs)) (at29 bs) (Relend.t-sl-aggregate 𝓤 H A
+              W E RelayPending.row 𝓣 (Relend.asMut RelayPending.row) G46 27 28 6 ref2 ref2 (λ x. x) (Scalar.oFld 1
+              ((Syntax.field 1) ∷ List.[]) (Syntax.tyInt Syntax.w64) 8 λ v. Shared.lenV (v .0))
+              (Reads'.as-is 𝓤 H A (Relend.msptr RelayPending.row ref2 6)) (Reads'.room-gone 𝓤 H A slice2) (
+                Relend.reads-owed-len 𝓤 H A W RelayPending.row ref6 0 6 life0 8 Path.refl,
+                Path.refl,
+              ) Path.refl Path.refl λ b o k. tt) d29
+
           d31 : Typed.Typed 𝓤 H A 𝓣 E G45 b36 Δ2 (at31 bs)
-          d31 = Typed.s-seq 𝓤 H A W 𝓣 E G45 G46 b18 b35 Δ2 (Typed.give (s42 bs)) (at30 bs) (Relend.t-sl-relend 𝓤 H A W E RelayPending.row 𝓣 G45 1 27 0
-              6 ref6 ref2 life0 0 (λ x. x) (Reads'.as-is 𝓤 H A (Mut.mslice RelayPending.row ref6 0)) (Reads'.room-gone 𝓤 H A ref2) Path.refl tt
+          d31 = Typed.s-seq 𝓤 H A W 𝓣 E G45 G46 b18 b35 Δ2 (Typed.give (s42 bs)) (at30 bs) (Relend.t-sl-relend 𝓤 H A W
+              E RelayPending.row 𝓣 G45 1 27 0 6 ref6 ref2 life0 0 (λ x. x)
+              (Reads'.as-is 𝓤 H A (Mut.mslice RelayPending.row ref6 0)) (Reads'.room-gone 𝓤 H A ref2) Path.refl tt
               Path.refl Path.refl Path.refl λ b o. tt) d30
+
           d32 : Typed.Typed 𝓤 H A 𝓣 E G44 b36 Δ2 (at32 bs)
-          d32 = Typed.g-pre 𝓤 H A W 𝓣 E G44 G45 b36 Δ2 (λ Ψ. Ψ) (at31 bs) (Lifetime.g-begin 𝓤 H A W E G44 6 (tt, (tt, (tt, (tt, (tt, (tt, (tt, (tt,
-              (tt, (tt, (tt, (tt, (tt, (tt, (tt, (tt, (tt, (tt, (tt, (tt, (tt, (tt, (tt, (tt, (tt, (tt, (tt, (tt, (tt, (tt, (tt, (tt, (tt, (tt, (tt,
-              tt)),),),),),),),),),),),),),),),),),),),),),),),),),),),),),),),),),)) d31
+          d32 = Typed.g-pre 𝓤 H A W 𝓣 E G44 G45 b36 Δ2 (λ Ψ. Ψ) (at31 bs) (Lifetime.g-begin 𝓤 H A W E G44 6 (
+            tt,
+            (
+              tt,
+              (
+                tt,
+                (
+                  tt,
+                  (
+                    tt,
+                    (
+                      tt,
+                      (
+                        tt,
+                        (
+                          tt,
+                          (
+                            tt,
+                            (
+                              tt,
+                              (
+                                tt,
+                                (
+                                  tt,
+                                  (
+                                    tt,
+                                    (
+                                      tt,
+                                      (
+                                        tt,
+                                        (
+                                          tt,
+                                          (
+                                            tt,
+                                            (
+                                              tt,
+                                              (
+                                                tt,
+                                                (
+                                                  tt,
+                                                  (
+                                                    tt,
+                                                    (
+                                                      tt,
+                                                      (
+                                                        tt,
+                                                        (
+                                                          tt,
+                                                          (
+                                                            tt,
+                                                            (
+                                                              tt,
+                                                              (tt, (tt, (tt, (tt, (tt, (tt, (tt, (tt, (tt, tt))))))))),
+                                                            ),
+                                                          ),
+                                                        ),
+                                                      ),
+                                                    ),
+                                                  ),
+                                                ),
+                                              ),
+                                            ),
+                                          ),
+                                        ),
+                                      ),
+                                    ),
+                                  ),
+                                ),
+                              ),
+                            ),
+                          ),
+                        ),
+                      ),
+                    ),
+                  ),
+                ),
+              ),
+            ),
+          )) d31
+
           d33 : Typed.Typed 𝓤 H A 𝓣 E G42 b36 Δ2 (at33 bs)
-          d33 = Typed.g-pre 𝓤 H A W 𝓣 E G42 G44 b36 Δ2 (Typed.pass T42 T44 (s40 bs)) (at32 bs) (Scalar.g-room 𝓤 H A W E G42 26 Syntax.tyBool
-              (Scalar.room-sc 𝓤 H A W Row.sBool)) d32
+          d33 = Typed.g-pre 𝓤 H A W 𝓣 E G42 G44 b36 Δ2 (Typed.pass T42 T44 (s40 bs)) (at32 bs) (Scalar.g-room 𝓤 H A W E
+              G42 26 Syntax.tyBool (Scalar.room-sc 𝓤 H A W Row.sBool)) d32
+
           d34 : Typed.Typed 𝓤 H A 𝓣 E G78 b37 Δ2 (at34 bs)
           d34 = Typed.t-skip 𝓤 H A W 𝓣 E Δ2 tt
+
           d35 : Typed.Typed 𝓤 H A 𝓣 E G77 b37 Δ2 (at35 bs)
-          d35 = Typed.g-pre 𝓤 H A W 𝓣 E G77 G78 b37 Δ2 (Typed.pass T77 T78 (s74 bs)) (at34 bs) (Scalar.g-room 𝓤 H A W E G77 26 Syntax.tyBool
-              (Scalar.room-sc 𝓤 H A W Row.sBool)) d34
+          d35 = Typed.g-pre 𝓤 H A W 𝓣 E G77 G78 b37 Δ2 (Typed.pass T77 T78 (s74 bs)) (at34 bs) (Scalar.g-room 𝓤 H A W E
+              G77 26 Syntax.tyBool (Scalar.room-sc 𝓤 H A W Row.sBool)) d34
+
           d36 : Typed.Typed 𝓤 H A 𝓣 E G42 b37 Δ2 (at36 bs)
-          d36 = Typed.g-pre 𝓤 H A W 𝓣 E G42 G77 b37 Δ2 (Typed.pass T42 T77 (s73 bs)) (at35 bs) (Scalar.g-room 𝓤 H A W E G42 13 Laws''''.mir
-              (Local.room-whole 𝓤 H A W (Declared'.row Firsts.the-type) Laws''''.mir Path.refl)) d35
+          d36 = Typed.g-pre 𝓤 H A W 𝓣 E G42 G77 b37 Δ2 (Typed.pass T42 T77 (s73 bs)) (at35 bs) (Scalar.g-room 𝓤 H A W E
+              G42 13 Laws''''.mir (Local.room-whole 𝓤 H A W (Declared'.row Firsts.the-type) Laws''''.mir Path.refl))
+              d35
+
           d37 : Typed.Typed 𝓤 H A 𝓣 E G42 b38 Δ2 (at37 bs)
-          d37 = Scalar.t-cond 𝓤 H A W E 𝓣 G42 26 (λ x. x) b36 b37 Δ2 (at33 bs) (at36 bs) (Scalar.reads-sc 𝓤 H A W Row.sBool) Path.refl d33 d36
+          d37 = Scalar.t-cond 𝓤 H A W E 𝓣 G42 26 (λ x. x) b36 b37 Δ2 (at33 bs) (at36 bs)
+              (Scalar.reads-sc 𝓤 H A W Row.sBool) Path.refl d33 d36
+
           d38 : Typed.Typed 𝓤 H A 𝓣 E G84 b40 Δ1 (at38 bs)
           d38 = Typed.t-return 𝓤 H A W 𝓣 E Δ1 tt
+
           d39 : Typed.Typed 𝓤 H A 𝓣 E G83 b40 Δ1 (at39 bs)
-          d39 = Typed.g-pre 𝓤 H A W 𝓣 E G83 G84 b40 Δ1 (Typed.pass T83 T84 (s80 bs)) (at38 bs) (Scalar.g-room 𝓤 H A W E G83 15 Syntax.tyBool
-              (Scalar.room-sc 𝓤 H A W Row.sBool)) d38
+          d39 = Typed.g-pre 𝓤 H A W 𝓣 E G83 G84 b40 Δ1 (Typed.pass T83 T84 (s80 bs)) (at38 bs) (Scalar.g-room 𝓤 H A W E
+              G83 15 Syntax.tyBool (Scalar.room-sc 𝓤 H A W Row.sBool)) d38
+
           d40 : Typed.Typed 𝓤 H A 𝓣 E G82 b40 Δ1 (at40 bs)
-          d40 = Typed.g-pre 𝓤 H A W 𝓣 E G82 G83 b40 Δ1 (Typed.pass T82 T83 (s79 bs)) (at39 bs) (Scalar.g-room 𝓤 H A W E G82 8 Syntax.tyBool
-              (Scalar.room-sc 𝓤 H A W Row.sBool)) d39
+          d40 = Typed.g-pre 𝓤 H A W 𝓣 E G82 G83 b40 Δ1 (Typed.pass T82 T83 (s79 bs)) (at39 bs) (Scalar.g-room 𝓤 H A W E
+              G82 8 Syntax.tyBool (Scalar.room-sc 𝓤 H A W Row.sBool)) d39
+
           d41 : Typed.Typed 𝓤 H A 𝓣 E G81 b40 Δ1 (at41 bs)
-          d41 = Typed.g-pre 𝓤 H A W 𝓣 E G81 G82 b40 Δ1 (Typed.pass T81 T82 (s78 bs)) (at40 bs) (Scalar.g-room 𝓤 H A W E G81 7 (Syntax.tyInt
-              Syntax.w64) (Scalar.room-sc 𝓤 H A W (Row.sInt Syntax.w64))) d40
+          d41 = Typed.g-pre 𝓤 H A W 𝓣 E G81 G82 b40 Δ1 (Typed.pass T81 T82 (s78 bs)) (at40 bs) (Scalar.g-room 𝓤 H A W E
+              G81 7 (Syntax.tyInt Syntax.w64) (Scalar.room-sc 𝓤 H A W (Row.sInt Syntax.w64))) d40
+
           d42 : Typed.Typed 𝓤 H A 𝓣 E G80 b40 Δ1 (at42 bs)
-          d42 = Typed.g-pre 𝓤 H A W 𝓣 E G80 G81 b40 Δ1 (Typed.pass T80 T81 (s77 bs)) (at41 bs) (Scalar.g-room 𝓤 H A W E G80 6 Laws''.mir
-              (Local.room-whole 𝓤 H A W (Declared'.row Places.the-type) Laws''.mir Path.refl)) d41
+          d42 = Typed.g-pre 𝓤 H A W 𝓣 E G80 G81 b40 Δ1 (Typed.pass T80 T81 (s77 bs)) (at41 bs) (Scalar.g-room 𝓤 H A W E
+              G80 6 Laws''.mir (Local.room-whole 𝓤 H A W (Declared'.row Places.the-type) Laws''.mir Path.refl)) d41
+
           d43 : Typed.Typed 𝓤 H A 𝓣 E G79 b40 Δ1 (at43 bs)
-          d43 = Typed.g-pre 𝓤 H A W 𝓣 E G79 G80 b40 Δ1 (Typed.pass T79 T80 (s76 bs)) (at42 bs) (Scalar.g-room 𝓤 H A W E G79 5 Laws''''''.mir
-              (Local.room-whole 𝓤 H A W (Declared'.row OpaqueRelayRuntime.the-type) Laws''''''.mir Path.refl)) d42
+          d43 = Typed.g-pre 𝓤 H A W 𝓣 E G79 G80 b40 Δ1 (Typed.pass T79 T80 (s76 bs)) (at42 bs) (Scalar.g-room 𝓤 H A W E
+              G79 5 Laws''''''.mir (Local.room-whole 𝓤 H A W (Declared'.row OpaqueRelayRuntime.the-type) Laws''''''.mir
+              Path.refl)) d42
+
           d44 : Typed.Typed 𝓤 H A 𝓣 E G43 b41 Δ1 (at44 bs)
-          d44 = Typed.s-seq 𝓤 H A W 𝓣 E G43 G79 b39 b40 Δ1 (Typed.both (s75 bs)) (at43 bs) (Plain.t-call-plain 𝓤 H A W 𝓣 0 ps·8 r·8 (claims· .16)
-              (claims· .17) "hnsr_circuit::revoking_calls::taken_with" (known .8) E (λ pos β. β) G43 (record { pos = 5; st = List.[]; d = 0; at = λ x.
-              x }, (record { pos = 6; st = List.[]; d = 0; at = λ x. x }, tt),) 0 List.[] (Call.sub-id 𝓤 H A W (G43 .slots)) ((Yields.yields-copy 𝓤 H
-              A W (λ ρ. Unit) (Declared'.row OpaqueRelayRuntime.the-type) Path.refl (Copies.cStruct OpaqueRelayRuntime.the-type Laws''''''.the-laws
-              Laws''''''.the-copy .copy 𝓤 H A W) (Rows.whole (Declared'.row OpaqueRelayRuntime.the-type)) (λ x. x) (λ x. x) (λ ρ told. Local.mem-whole
-              𝓤 H A W (Declared'.row OpaqueRelayRuntime.the-type) ρ) λ ρ told. Local.whole-mem 𝓤 H A W (Declared'.row OpaqueRelayRuntime.the-type) ρ,
-              Path.refl,), ((Yields.yields-copy 𝓤 H A W (λ ρ. Unit) (Declared'.row Places.the-type) Path.refl (Copies.cStruct Places.the-type
-              Laws''.the-laws Laws''.the-copy .copy 𝓤 H A W) (Rows.whole (Declared'.row Places.the-type)) (λ x. x) (λ x. x) (λ ρ told. Local.mem-whole
-              𝓤 H A W (Declared'.row Places.the-type) ρ) λ ρ told. Local.whole-mem 𝓤 H A W (Declared'.row Places.the-type) ρ, Path.refl,), tt,),)
-              (Reads'.room-gone 𝓤 H A Laws'''''''.mir) tt Path.refl) d43
+          d44 = Typed.s-seq 𝓤 H A W 𝓣 E G43 G79 b39 b40 Δ1 (Typed.both (s75 bs)) (at43 bs) (Plain.t-call-plain 𝓤 H A W
+              𝓣 0 ps·8 r·8 (claims· .16) (claims· .17) "hnsr_circuit::revoking_calls::taken_with" (known .8) E
+              (λ pos β. β) G43 (
+                record { pos = 5; st = List.[]; d = 0; at = λ x. x },
+                (record { pos = 6; st = List.[]; d = 0; at = λ x. x }, tt),
+              ) 0 List.[] (Call.sub-id 𝓤 H A W (G43 .slots)) (
+                (
+                  Yields.yields-copy 𝓤 H A W (λ ρ. Unit) (Declared'.row OpaqueRelayRuntime.the-type) Path.refl (Copies.cStruct
+                      OpaqueRelayRuntime.the-type Laws''''''.the-laws Laws''''''.the-copy .copy 𝓤 H A W)
+                      (Rows.whole (Declared'.row OpaqueRelayRuntime.the-type)) (λ x. x) (λ x. x) (λ ρ told.
+                      Local.mem-whole 𝓤 H A W (Declared'.row OpaqueRelayRuntime.the-type) ρ) λ ρ told. Local.whole-mem
+                      𝓤 H A W (Declared'.row OpaqueRelayRuntime.the-type) ρ,
+                  Path.refl,
+                ),
+                (
+                  (
+                    Yields.yields-copy 𝓤 H A W (λ ρ. Unit) (Declared'.row Places.the-type) Path.refl (Copies.cStruct
+                        Places.the-type Laws''.the-laws Laws''.the-copy .copy 𝓤 H A W)
+                        (Rows.whole (Declared'.row Places.the-type)) (λ x. x) (λ x. x) (λ ρ told. Local.mem-whole 𝓤 H A
+                        W (Declared'.row Places.the-type) ρ) λ ρ told. Local.whole-mem 𝓤 H A W
+                        (Declared'.row Places.the-type) ρ,
+                    Path.refl,
+                  ),
+                  tt,
+                ),
+              ) (Reads'.room-gone 𝓤 H A Laws'''''''.mir) tt Path.refl) d43
+
           d45 : Typed.Typed 𝓤 H A 𝓣 E G42 b42 Δ1 (at45 bs)
           d45 = Typed.t-seq 𝓤 H A W 𝓣 E G42 G43 b38 b41 Δ1 (at37 bs) (at44 bs) d37 d44
+
           d46 : Typed.Typed 𝓤 H A 𝓣 E G41 b43 Δ1 (at46 bs)
-          d46 = Typed.s-seq 𝓤 H A W 𝓣 E G41 G42 b17 b42 Δ1 (Typed.pass T41 T42 (s39 bs)) (at45 bs) (Scalar.t-use 𝓤 H A W E 𝓣 G41 (Scalar.oAt 15
-              Syntax.tyBool (Row.valS Row.sBool)) 26 (Rows.sc-here Row.sBool) Syntax.tyBool (Row.valS Row.sBool) (Row.sBool .of) (Scalar.reads-sc 𝓤 H
-              A W Row.sBool, Path.refl) (Reads'.room-gone 𝓤 H A Syntax.tyBool) (Scalar.holds-sc 𝓤 H A W Row.sBool) Path.refl (λ u. Path.refl) λ u. tt)
-              d45
+          d46 = Typed.s-seq 𝓤 H A W 𝓣 E G41 G42 b17 b42 Δ1 (Typed.pass T41 T42 (s39 bs)) (at45 bs) (Scalar.t-use 𝓤 H A
+              W E 𝓣 G41 (Scalar.oAt 15 Syntax.tyBool (Row.valS Row.sBool)) 26 (Rows.sc-here Row.sBool) Syntax.tyBool
+              (Row.valS Row.sBool) (Row.sBool .of) (Scalar.reads-sc 𝓤 H A W Row.sBool, Path.refl)
+              (Reads'.room-gone 𝓤 H A Syntax.tyBool) (Scalar.holds-sc 𝓤 H A W Row.sBool) Path.refl (λ u. Path.refl) λ
+              u. tt) d45
+
           d47 : Typed.Typed 𝓤 H A 𝓣 E G40 b43 Δ1 (at47 bs)
-          d47 = Typed.g-pre 𝓤 H A W 𝓣 E G40 G41 b43 Δ1 (Typed.pass T40 T41 (s38 bs)) (at46 bs) (Scalar.g-room 𝓤 H A W E G40 25 Syntax.tyBool
-              (Scalar.room-sc 𝓤 H A W Row.sBool)) d46
+          d47 = Typed.g-pre 𝓤 H A W 𝓣 E G40 G41 b43 Δ1 (Typed.pass T40 T41 (s38 bs)) (at46 bs) (Scalar.g-room 𝓤 H A W E
+              G40 25 Syntax.tyBool (Scalar.room-sc 𝓤 H A W Row.sBool)) d46
+
           d48 : Typed.Typed 𝓤 H A 𝓣 E G38 b43 Δ1 (at48 bs)
-          d48 = Typed.g-pre 𝓤 H A W 𝓣 E G38 G40 b43 Δ1 (Typed.pass T38 T40 (s37 bs)) (at47 bs) (Scalar.g-room 𝓤 H A W E G38 18 Laws.mir
-              (Local.room-whole 𝓤 H A W (Declared.row HnsrAnswer.the-type) Laws.mir Path.refl)) d47
+          d48 = Typed.g-pre 𝓤 H A W 𝓣 E G38 G40 b43 Δ1 (Typed.pass T38 T40 (s37 bs)) (at47 bs) (Scalar.g-room 𝓤 H A W E
+              G38 18 Laws.mir (Local.room-whole 𝓤 H A W (Declared.row HnsrAnswer.the-type) Laws.mir Path.refl)) d47
+
           d49 : Typed.Typed 𝓤 H A 𝓣 E G86 b44 Δ1 (at49 bs)
           d49 = Typed.t-skip 𝓤 H A W 𝓣 E Δ1 tt
+
           d50 : Typed.Typed 𝓤 H A 𝓣 E G85 b44 Δ1 (at50 bs)
-          d50 = Typed.g-pre 𝓤 H A W 𝓣 E G85 G86 b44 Δ1 (Typed.pass T85 T86 (s82 bs)) (at49 bs) (Scalar.g-room 𝓤 H A W E G85 25 Syntax.tyBool
-              (Scalar.room-sc 𝓤 H A W Row.sBool)) d49
+          d50 = Typed.g-pre 𝓤 H A W 𝓣 E G85 G86 b44 Δ1 (Typed.pass T85 T86 (s82 bs)) (at49 bs) (Scalar.g-room 𝓤 H A W E
+              G85 25 Syntax.tyBool (Scalar.room-sc 𝓤 H A W Row.sBool)) d49
+
           d51 : Typed.Typed 𝓤 H A 𝓣 E G38 b44 Δ1 (at51 bs)
-          d51 = Typed.g-pre 𝓤 H A W 𝓣 E G38 G85 b44 Δ1 (Typed.pass T38 T85 (s81 bs)) (at50 bs) (Scalar.g-room 𝓤 H A W E G38 13 Laws''''.mir
-              (Local.room-whole 𝓤 H A W (Declared'.row Firsts.the-type) Laws''''.mir Path.refl)) d50
+          d51 = Typed.g-pre 𝓤 H A W 𝓣 E G38 G85 b44 Δ1 (Typed.pass T38 T85 (s81 bs)) (at50 bs) (Scalar.g-room 𝓤 H A W E
+              G38 13 Laws''''.mir (Local.room-whole 𝓤 H A W (Declared'.row Firsts.the-type) Laws''''.mir Path.refl))
+              d50
+
           d52 : Typed.Typed 𝓤 H A 𝓣 E G38 b45 Δ1 (at52 bs)
-          d52 = Scalar.t-cond 𝓤 H A W E 𝓣 G38 25 (λ x. x) b43 b44 Δ1 (at48 bs) (at51 bs) (Scalar.reads-sc 𝓤 H A W Row.sBool) Path.refl d48 d51
+          d52 = Scalar.t-cond 𝓤 H A W E 𝓣 G38 25 (λ x. x) b43 b44 Δ1 (at48 bs) (at51 bs)
+              (Scalar.reads-sc 𝓤 H A W Row.sBool) Path.refl d48 d51
+
           d53 : Typed.Typed 𝓤 H A 𝓣 E G93 b47 Δ0 (at53 bs)
           d53 = Typed.t-return 𝓤 H A W 𝓣 E Δ0 tt
+
           d54 : Typed.Typed 𝓤 H A 𝓣 E G92 b47 Δ0 (at54 bs)
-          d54 = Typed.g-pre 𝓤 H A W 𝓣 E G92 G93 b47 Δ0 (Typed.pass T92 T93 (s89 bs)) (at53 bs) (Scalar.g-room 𝓤 H A W E G92 8 Syntax.tyBool
-              (Scalar.room-sc 𝓤 H A W Row.sBool)) d53
+          d54 = Typed.g-pre 𝓤 H A W 𝓣 E G92 G93 b47 Δ0 (Typed.pass T92 T93 (s89 bs)) (at53 bs) (Scalar.g-room 𝓤 H A W E
+              G92 8 Syntax.tyBool (Scalar.room-sc 𝓤 H A W Row.sBool)) d53
+
           d55 : Typed.Typed 𝓤 H A 𝓣 E G91 b47 Δ0 (at55 bs)
-          d55 = Typed.g-pre 𝓤 H A W 𝓣 E G91 G92 b47 Δ0 (Typed.pass T91 T92 (s88 bs)) (at54 bs) (Scalar.g-room 𝓤 H A W E G91 7 (Syntax.tyInt
-              Syntax.w64) (Scalar.room-sc 𝓤 H A W (Row.sInt Syntax.w64))) d54
+          d55 = Typed.g-pre 𝓤 H A W 𝓣 E G91 G92 b47 Δ0 (Typed.pass T91 T92 (s88 bs)) (at54 bs) (Scalar.g-room 𝓤 H A W E
+              G91 7 (Syntax.tyInt Syntax.w64) (Scalar.room-sc 𝓤 H A W (Row.sInt Syntax.w64))) d54
+
           d56 : Typed.Typed 𝓤 H A 𝓣 E G90 b47 Δ0 (at56 bs)
-          d56 = Typed.g-pre 𝓤 H A W 𝓣 E G90 G91 b47 Δ0 (Typed.pass T90 T91 (s87 bs)) (at55 bs) (Scalar.g-room 𝓤 H A W E G90 18 Laws.mir
-              (Local.room-whole 𝓤 H A W (Declared.row HnsrAnswer.the-type) Laws.mir Path.refl)) d55
+          d56 = Typed.g-pre 𝓤 H A W 𝓣 E G90 G91 b47 Δ0 (Typed.pass T90 T91 (s87 bs)) (at55 bs) (Scalar.g-room 𝓤 H A W E
+              G90 18 Laws.mir (Local.room-whole 𝓤 H A W (Declared.row HnsrAnswer.the-type) Laws.mir Path.refl)) d55
+
           d57 : Typed.Typed 𝓤 H A 𝓣 E G89 b47 Δ0 (at57 bs)
-          d57 = Typed.g-pre 𝓤 H A W 𝓣 E G89 G90 b47 Δ0 (Typed.pass T89 T90 (s86 bs)) (at56 bs) (Scalar.g-room 𝓤 H A W E G89 15 Syntax.tyBool
-              (Scalar.room-sc 𝓤 H A W Row.sBool)) d56
+          d57 = Typed.g-pre 𝓤 H A W 𝓣 E G89 G90 b47 Δ0 (Typed.pass T89 T90 (s86 bs)) (at56 bs) (Scalar.g-room 𝓤 H A W E
+              G89 15 Syntax.tyBool (Scalar.room-sc 𝓤 H A W Row.sBool)) d56
+
           d58 : Typed.Typed 𝓤 H A 𝓣 E G88 b47 Δ0 (at58 bs)
-          d58 = Typed.g-pre 𝓤 H A W 𝓣 E G88 G89 b47 Δ0 (Typed.pass T88 T89 (s85 bs)) (at57 bs) (Scalar.g-room 𝓤 H A W E G88 6 Laws''.mir
-              (Local.room-whole 𝓤 H A W (Declared'.row Places.the-type) Laws''.mir Path.refl)) d57
+          d58 = Typed.g-pre 𝓤 H A W 𝓣 E G88 G89 b47 Δ0 (Typed.pass T88 T89 (s85 bs)) (at57 bs) (Scalar.g-room 𝓤 H A W E
+              G88 6 Laws''.mir (Local.room-whole 𝓤 H A W (Declared'.row Places.the-type) Laws''.mir Path.refl)) d57
+
           d59 : Typed.Typed 𝓤 H A 𝓣 E G87 b47 Δ0 (at59 bs)
-          d59 = Typed.g-pre 𝓤 H A W 𝓣 E G87 G88 b47 Δ0 (Typed.pass T87 T88 (s84 bs)) (at58 bs) (Scalar.g-room 𝓤 H A W E G87 5 Laws''''''.mir
-              (Local.room-whole 𝓤 H A W (Declared'.row OpaqueRelayRuntime.the-type) Laws''''''.mir Path.refl)) d58
+          d59 = Typed.g-pre 𝓤 H A W 𝓣 E G87 G88 b47 Δ0 (Typed.pass T87 T88 (s84 bs)) (at58 bs) (Scalar.g-room 𝓤 H A W E
+              G87 5 Laws''''''.mir (Local.room-whole 𝓤 H A W (Declared'.row OpaqueRelayRuntime.the-type) Laws''''''.mir
+              Path.refl)) d58
+
           d60 : Typed.Typed 𝓤 H A 𝓣 E G39 b48 Δ0 (at60 bs)
-          d60 = Typed.s-seq 𝓤 H A W 𝓣 E G39 G87 b46 b47 Δ0 (Typed.both (s83 bs)) (at59 bs) (Plain.t-call-plain 𝓤 H A W 𝓣 0 ps·9 r·9 (claims· .18)
-              (claims· .19) "hnsr_circuit::revoking_calls::refused" (known .9) E (λ pos β. β) G39 (record { pos = 5; st = List.[]; d = 0; at = λ x. x
-              }, (record { pos = 6; st = List.[]; d = 0; at = λ x. x }, (record { pos = 18; st = List.[]; d = 0; at = λ x. x }, tt),),) 0 List.[]
-              (Call.sub-id 𝓤 H A W (G39 .slots)) ((Yields.yields-copy 𝓤 H A W (λ ρ. Unit) (Declared'.row OpaqueRelayRuntime.the-type) Path.refl
-              (Copies.cStruct OpaqueRelayRuntime.the-type Laws''''''.the-laws Laws''''''.the-copy .copy 𝓤 H A W) (Rows.whole (Declared'.row
-              OpaqueRelayRuntime.the-type)) (λ x. x) (λ x. x) (λ ρ told. Local.mem-whole 𝓤 H A W (Declared'.row OpaqueRelayRuntime.the-type) ρ) λ ρ
-              told. Local.whole-mem 𝓤 H A W (Declared'.row OpaqueRelayRuntime.the-type) ρ, Path.refl,), ((Yields.yields-copy 𝓤 H A W (λ ρ. Unit)
-              (Declared'.row Places.the-type) Path.refl (Copies.cStruct Places.the-type Laws''.the-laws Laws''.the-copy .copy 𝓤 H A W) (Rows.whole
-              (Declared'.row Places.the-type)) (λ x. x) (λ x. x) (λ ρ told. Local.mem-whole 𝓤 H A W (Declared'.row Places.the-type) ρ) λ ρ told.
-              Local.whole-mem 𝓤 H A W (Declared'.row Places.the-type) ρ, Path.refl,), ((Yields.yields-copy 𝓤 H A W (λ ρ. Unit) (Declared.row
-              HnsrAnswer.the-type) Path.refl (Copies.cEnum HnsrAnswer.the-type Laws.the-laws Laws.the-copy .copy 𝓤 H A W) (Rows.whole (Declared.row
-              HnsrAnswer.the-type)) (λ x. x) (λ x. x) (λ ρ told. Local.mem-whole 𝓤 H A W (Declared.row HnsrAnswer.the-type) ρ) λ ρ told.
-              Local.whole-mem 𝓤 H A W (Declared.row HnsrAnswer.the-type) ρ, Path.refl,), tt,),),) (Reads'.room-gone 𝓤 H A Laws'''''''.mir) tt
-              Path.refl) d59
+          d60 = Typed.s-seq 𝓤 H A W 𝓣 E G39 G87 b46 b47 Δ0 (Typed.both (s83 bs)) (at59 bs) (Plain.t-call-plain 𝓤 H A W
+              𝓣 0 ps·9 r·9 (claims· .18) (claims· .19) "hnsr_circuit::revoking_calls::refused" (known .9) E
+              (λ pos β. β) G39 (
+                record { pos = 5; st = List.[]; d = 0; at = λ x. x },
+                (
+                  record { pos = 6; st = List.[]; d = 0; at = λ x. x },
+                  (record { pos = 18; st = List.[]; d = 0; at = λ x. x }, tt),
+                ),
+              ) 0 List.[] (Call.sub-id 𝓤 H A W (G39 .slots)) (
+                (
+                  Yields.yields-copy 𝓤 H A W (λ ρ. Unit) (Declared'.row OpaqueRelayRuntime.the-type) Path.refl (Copies.cStruct
+                      OpaqueRelayRuntime.the-type Laws''''''.the-laws Laws''''''.the-copy .copy 𝓤 H A W)
+                      (Rows.whole (Declared'.row OpaqueRelayRuntime.the-type)) (λ x. x) (λ x. x) (λ ρ told.
+                      Local.mem-whole 𝓤 H A W (Declared'.row OpaqueRelayRuntime.the-type) ρ) λ ρ told. Local.whole-mem
+                      𝓤 H A W (Declared'.row OpaqueRelayRuntime.the-type) ρ,
+                  Path.refl,
+                ),
+                (
+                  (
+                    Yields.yields-copy 𝓤 H A W (λ ρ. Unit) (Declared'.row Places.the-type) Path.refl (Copies.cStruct
+                        Places.the-type Laws''.the-laws Laws''.the-copy .copy 𝓤 H A W)
+                        (Rows.whole (Declared'.row Places.the-type)) (λ x. x) (λ x. x) (λ ρ told. Local.mem-whole 𝓤 H A
+                        W (Declared'.row Places.the-type) ρ) λ ρ told. Local.whole-mem 𝓤 H A W
+                        (Declared'.row Places.the-type) ρ,
+                    Path.refl,
+                  ),
+                  (
+                    (
+                      Yields.yields-copy 𝓤 H A W (λ ρ. Unit) (Declared.row HnsrAnswer.the-type) Path.refl (Copies.cEnum
+                          HnsrAnswer.the-type Laws.the-laws Laws.the-copy .copy 𝓤 H A W)
+                          (Rows.whole (Declared.row HnsrAnswer.the-type)) (λ x. x) (λ x. x) (λ ρ told. Local.mem-whole
+                          𝓤 H A W (Declared.row HnsrAnswer.the-type) ρ) λ ρ told. Local.whole-mem 𝓤 H A W
+                          (Declared.row HnsrAnswer.the-type) ρ,
+                      Path.refl,
+                    ),
+                    tt,
+                  ),
+                ),
+              ) (Reads'.room-gone 𝓤 H A Laws'''''''.mir) tt Path.refl) d59
+
           d61 : Typed.Typed 𝓤 H A 𝓣 E G38 b49 Δ0 (at61 bs)
           d61 = Typed.t-seq 𝓤 H A W 𝓣 E G38 G39 b45 b48 Δ0 (at52 bs) (at60 bs) d52 d60
+
           d62 : Typed.Typed 𝓤 H A 𝓣 E G37 b50 Δ0 (at62 bs)
-          d62 = Typed.s-seq 𝓤 H A W 𝓣 E G37 G38 b16 b49 Δ0 (Typed.both (s36 bs)) (at61 bs) (Plain.t-call-plain 𝓤 H A W 𝓣 0 ps·6 r·6 (claims· .12)
-              (claims· .13) "hnsr_circuit::answer::is_taken" (known .6) E (λ pos β. β) G37 (record { pos = 18; st = List.[]; d = 0; at = λ x. x }, tt)
-              25 List.[] (Call.sub-id 𝓤 H A W (G37 .slots)) ((Yields.yields-copy 𝓤 H A W (λ ρ. Unit) (Declared.row HnsrAnswer.the-type) Path.refl
-              (Copies.cEnum HnsrAnswer.the-type Laws.the-laws Laws.the-copy .copy 𝓤 H A W) (Rows.whole (Declared.row HnsrAnswer.the-type)) (λ x. x) (λ
-              x. x) (λ ρ told. Local.mem-whole 𝓤 H A W (Declared.row HnsrAnswer.the-type) ρ) λ ρ told. Local.whole-mem 𝓤 H A W (Declared.row
-              HnsrAnswer.the-type) ρ, Path.refl,), tt,) (Reads'.room-gone 𝓤 H A Syntax.tyBool) tt Path.refl) d61
+          d62 = Typed.s-seq 𝓤 H A W 𝓣 E G37 G38 b16 b49 Δ0 (Typed.both (s36 bs)) (at61 bs) (Plain.t-call-plain 𝓤 H A W
+              𝓣 0 ps·6 r·6 (claims· .12) (claims· .13) "hnsr_circuit::answer::is_taken" (known .6) E (λ pos β. β) G37
+              (record { pos = 18; st = List.[]; d = 0; at = λ x. x }, tt) 25 List.[] (Call.sub-id 𝓤 H A W (G37 .slots)) (
+                (
+                  Yields.yields-copy 𝓤 H A W (λ ρ. Unit) (Declared.row HnsrAnswer.the-type) Path.refl (Copies.cEnum
+                      HnsrAnswer.the-type Laws.the-laws Laws.the-copy .copy 𝓤 H A W)
+                      (Rows.whole (Declared.row HnsrAnswer.the-type)) (λ x. x) (λ x. x) (λ ρ told. Local.mem-whole 𝓤 H
+                      A W (Declared.row HnsrAnswer.the-type) ρ) λ ρ told. Local.whole-mem 𝓤 H A W
+                      (Declared.row HnsrAnswer.the-type) ρ,
+                  Path.refl,
+                ),
+                tt,
+              ) (Reads'.room-gone 𝓤 H A Syntax.tyBool) tt Path.refl) d61
+
           d63 : Typed.Typed 𝓤 H A 𝓣 E G36 b50 Δ0 (at63 bs)
-          d63 = Typed.g-pre 𝓤 H A W 𝓣 E G36 G37 b50 Δ0 (Typed.pass T36 T37 (s35 bs)) (at62 bs) (Scalar.g-room 𝓤 H A W E G36 17 Laws.mir
-              (Local.room-whole 𝓤 H A W (Declared.row HnsrAnswer.the-type) Laws.mir Path.refl)) d62
+          d63 = Typed.g-pre 𝓤 H A W 𝓣 E G36 G37 b50 Δ0 (Typed.pass T36 T37 (s35 bs)) (at62 bs) (Scalar.g-room 𝓤 H A W E
+              G36 17 Laws.mir (Local.room-whole 𝓤 H A W (Declared.row HnsrAnswer.the-type) Laws.mir Path.refl)) d62
+
           d64 : Typed.Typed 𝓤 H A 𝓣 E G35 b50 Δ0 (at64 bs)
-          d64 = Typed.g-pre 𝓤 H A W 𝓣 E G35 G36 b50 Δ0 (Typed.pass T35 T36 (s34 bs)) (at63 bs) (Scalar.g-room 𝓤 H A W E G35 12 Laws.mir
-              (Local.room-whole 𝓤 H A W (Declared.row HnsrAnswer.the-type) Laws.mir Path.refl)) d63
+          d64 = Typed.g-pre 𝓤 H A W 𝓣 E G35 G36 b50 Δ0 (Typed.pass T35 T36 (s34 bs)) (at63 bs) (Scalar.g-room 𝓤 H A W E
+              G35 12 Laws.mir (Local.room-whole 𝓤 H A W (Declared.row HnsrAnswer.the-type) Laws.mir Path.refl)) d63
+
           d65 : Typed.Typed 𝓤 H A 𝓣 E G34 b51 Δ0 (at65 bs)
-          d65 = Typed.s-seq 𝓤 H A W 𝓣 E G34 G35 b15 b50 Δ0 (Typed.both (s33 bs)) (at64 bs) (Plain.t-call-plain 𝓤 H A W 𝓣 0 ps·5 r·5 (claims· .10)
-              (claims· .11) "hnsr_circuit::answer::first_refusal" (known .5) E (λ pos β. β) G34 (record { pos = 12; st = List.[]; d = 0; at = λ x. x
-              }, (record { pos = 17; st = List.[]; d = 0; at = λ x. x }, tt),) 18 List.[] (Call.sub-id 𝓤 H A W (G34 .slots)) ((Yields.yields-copy 𝓤 H
-              A W (λ ρ. Unit) (Declared.row HnsrAnswer.the-type) Path.refl (Copies.cEnum HnsrAnswer.the-type Laws.the-laws Laws.the-copy .copy 𝓤 H A
-              W) (Rows.whole (Declared.row HnsrAnswer.the-type)) (λ x. x) (λ x. x) (λ ρ told. Local.mem-whole 𝓤 H A W (Declared.row
-              HnsrAnswer.the-type) ρ) λ ρ told. Local.whole-mem 𝓤 H A W (Declared.row HnsrAnswer.the-type) ρ, Path.refl,), ((Yields.yields-copy 𝓤 H A
-              W (λ ρ. Unit) (Declared.row HnsrAnswer.the-type) Path.refl (Copies.cEnum HnsrAnswer.the-type Laws.the-laws Laws.the-copy .copy 𝓤 H A W)
-              (Rows.whole (Declared.row HnsrAnswer.the-type)) (λ x. x) (λ x. x) (λ ρ told. Local.mem-whole 𝓤 H A W (Declared.row HnsrAnswer.the-type)
-              ρ) λ ρ told. Local.whole-mem 𝓤 H A W (Declared.row HnsrAnswer.the-type) ρ, Path.refl,), tt,),) (Reads'.room-gone 𝓤 H A Laws.mir) tt
-              Path.refl) d64
+          d65 = Typed.s-seq 𝓤 H A W 𝓣 E G34 G35 b15 b50 Δ0 (Typed.both (s33 bs)) (at64 bs) (Plain.t-call-plain 𝓤 H A W
+              𝓣 0 ps·5 r·5 (claims· .10) (claims· .11) "hnsr_circuit::answer::first_refusal" (known .5) E (λ pos β. β)
+              G34 (
+                record { pos = 12; st = List.[]; d = 0; at = λ x. x },
+                (record { pos = 17; st = List.[]; d = 0; at = λ x. x }, tt),
+              ) 18 List.[] (Call.sub-id 𝓤 H A W (G34 .slots)) (
+                (
+                  Yields.yields-copy 𝓤 H A W (λ ρ. Unit) (Declared.row HnsrAnswer.the-type) Path.refl (Copies.cEnum
+                      HnsrAnswer.the-type Laws.the-laws Laws.the-copy .copy 𝓤 H A W)
+                      (Rows.whole (Declared.row HnsrAnswer.the-type)) (λ x. x) (λ x. x) (λ ρ told. Local.mem-whole 𝓤 H
+                      A W (Declared.row HnsrAnswer.the-type) ρ) λ ρ told. Local.whole-mem 𝓤 H A W
+                      (Declared.row HnsrAnswer.the-type) ρ,
+                  Path.refl,
+                ),
+                (
+                  (
+                    Yields.yields-copy 𝓤 H A W (λ ρ. Unit) (Declared.row HnsrAnswer.the-type) Path.refl (Copies.cEnum
+                        HnsrAnswer.the-type Laws.the-laws Laws.the-copy .copy 𝓤 H A W)
+                        (Rows.whole (Declared.row HnsrAnswer.the-type)) (λ x. x) (λ x. x) (λ ρ told. Local.mem-whole 𝓤
+                        H A W (Declared.row HnsrAnswer.the-type) ρ) λ ρ told. Local.whole-mem 𝓤 H A W
+                        (Declared.row HnsrAnswer.the-type) ρ,
+                    Path.refl,
+                  ),
+                  tt,
+                ),
+              ) (Reads'.room-gone 𝓤 H A Laws.mir) tt Path.refl) d64
+
           d66 : Typed.Typed 𝓤 H A 𝓣 E G33 b51 Δ0 (at66 bs)
-          d66 = Typed.g-pre 𝓤 H A W 𝓣 E G33 G34 b51 Δ0 (Typed.pass T33 T34 (s32 bs)) (at65 bs) (Scalar.g-room 𝓤 H A W E G33 16 Laws.mir
-              (Local.room-whole 𝓤 H A W (Declared.row HnsrAnswer.the-type) Laws.mir Path.refl)) d65
+          d66 = Typed.g-pre 𝓤 H A W 𝓣 E G33 G34 b51 Δ0 (Typed.pass T33 T34 (s32 bs)) (at65 bs) (Scalar.g-room 𝓤 H A W E
+              G33 16 Laws.mir (Local.room-whole 𝓤 H A W (Declared.row HnsrAnswer.the-type) Laws.mir Path.refl)) d65
+
           d67 : Typed.Typed 𝓤 H A 𝓣 E G32 b51 Δ0 (at67 bs)
-          d67 = Typed.g-pre 𝓤 H A W 𝓣 E G32 G33 b51 Δ0 (Typed.pass T32 T33 (s31 bs)) (at66 bs) (Scalar.g-room 𝓤 H A W E G32 14 Laws.mir
-              (Local.room-whole 𝓤 H A W (Declared.row HnsrAnswer.the-type) Laws.mir Path.refl)) d66
+          d67 = Typed.g-pre 𝓤 H A W 𝓣 E G32 G33 b51 Δ0 (Typed.pass T32 T33 (s31 bs)) (at66 bs) (Scalar.g-room 𝓤 H A W E
+              G32 14 Laws.mir (Local.room-whole 𝓤 H A W (Declared.row HnsrAnswer.the-type) Laws.mir Path.refl)) d66
+
           d68 : Typed.Typed 𝓤 H A 𝓣 E G31 b52 Δ0 (at68 bs)
-          d68 = Typed.s-seq 𝓤 H A W 𝓣 E G31 G32 b14 b51 Δ0 (Typed.both (s30 bs)) (at67 bs) (Plain.t-call-plain 𝓤 H A W 𝓣 0 ps·5 r·5 (claims· .10)
-              (claims· .11) "hnsr_circuit::answer::first_refusal" (known .5) E (λ pos β. β) G31 (record { pos = 14; st = List.[]; d = 0; at = λ x. x
-              }, (record { pos = 16; st = List.[]; d = 0; at = λ x. x }, tt),) 17 List.[] (Call.sub-id 𝓤 H A W (G31 .slots)) ((Yields.yields-copy 𝓤 H
-              A W (λ ρ. Unit) (Declared.row HnsrAnswer.the-type) Path.refl (Copies.cEnum HnsrAnswer.the-type Laws.the-laws Laws.the-copy .copy 𝓤 H A
-              W) (Rows.whole (Declared.row HnsrAnswer.the-type)) (λ x. x) (λ x. x) (λ ρ told. Local.mem-whole 𝓤 H A W (Declared.row
-              HnsrAnswer.the-type) ρ) λ ρ told. Local.whole-mem 𝓤 H A W (Declared.row HnsrAnswer.the-type) ρ, Path.refl,), ((Yields.yields-copy 𝓤 H A
-              W (λ ρ. Unit) (Declared.row HnsrAnswer.the-type) Path.refl (Copies.cEnum HnsrAnswer.the-type Laws.the-laws Laws.the-copy .copy 𝓤 H A W)
-              (Rows.whole (Declared.row HnsrAnswer.the-type)) (λ x. x) (λ x. x) (λ ρ told. Local.mem-whole 𝓤 H A W (Declared.row HnsrAnswer.the-type)
-              ρ) λ ρ told. Local.whole-mem 𝓤 H A W (Declared.row HnsrAnswer.the-type) ρ, Path.refl,), tt,),) (Reads'.room-gone 𝓤 H A Laws.mir) tt
-              Path.refl) d67
+          d68 = Typed.s-seq 𝓤 H A W 𝓣 E G31 G32 b14 b51 Δ0 (Typed.both (s30 bs)) (at67 bs) (Plain.t-call-plain 𝓤 H A W
+              𝓣 0 ps·5 r·5 (claims· .10) (claims· .11) "hnsr_circuit::answer::first_refusal" (known .5) E (λ pos β. β)
+              G31 (
+                record { pos = 14; st = List.[]; d = 0; at = λ x. x },
+                (record { pos = 16; st = List.[]; d = 0; at = λ x. x }, tt),
+              ) 17 List.[] (Call.sub-id 𝓤 H A W (G31 .slots)) (
+                (
+                  Yields.yields-copy 𝓤 H A W (λ ρ. Unit) (Declared.row HnsrAnswer.the-type) Path.refl (Copies.cEnum
+                      HnsrAnswer.the-type Laws.the-laws Laws.the-copy .copy 𝓤 H A W)
+                      (Rows.whole (Declared.row HnsrAnswer.the-type)) (λ x. x) (λ x. x) (λ ρ told. Local.mem-whole 𝓤 H
+                      A W (Declared.row HnsrAnswer.the-type) ρ) λ ρ told. Local.whole-mem 𝓤 H A W
+                      (Declared.row HnsrAnswer.the-type) ρ,
+                  Path.refl,
+                ),
+                (
+                  (
+                    Yields.yields-copy 𝓤 H A W (λ ρ. Unit) (Declared.row HnsrAnswer.the-type) Path.refl (Copies.cEnum
+                        HnsrAnswer.the-type Laws.the-laws Laws.the-copy .copy 𝓤 H A W)
+                        (Rows.whole (Declared.row HnsrAnswer.the-type)) (λ x. x) (λ x. x) (λ ρ told. Local.mem-whole 𝓤
+                        H A W (Declared.row HnsrAnswer.the-type) ρ) λ ρ told. Local.whole-mem 𝓤 H A W
+                        (Declared.row HnsrAnswer.the-type) ρ,
+                    Path.refl,
+                  ),
+                  tt,
+                ),
+              ) (Reads'.room-gone 𝓤 H A Laws.mir) tt Path.refl) d67
+
           d69 : Typed.Typed 𝓤 H A 𝓣 E G30 b53 Δ0 (at69 bs)
-          d69 = Typed.s-seq 𝓤 H A W 𝓣 E G30 G31 b13 b52 Δ0 (Typed.both (s29 bs)) (at68 bs) (Plain.t-call-plain 𝓤 H A W 𝓣 0 ps·4 r·4 (claims· .8)
-              (claims· .9) "hnsr_circuit::revoking_calls::change_answer" (known .4) E (λ pos β. β) G30 (Num.vFld 5 ((Syntax.field 1) ∷ List.[]) 16 λ
-              x. OpaqueRelayRuntime.struct .as-values x .1 .0, (Bool.bAt 15 λ x. x, tt),) 16 List.[] (Call.sub-id 𝓤 H A W (G30 .slots))
-              ((Reads.reads-field 𝓤 H A W OpaqueRelayRuntime.the-type Laws''''''.the-laws 1 (Syntax.tyInt Syntax.w64) 16 Path.refl, Path.refl,),
-              ((Scalar.reads-sc 𝓤 H A W Row.sBool, Path.refl), tt),) (Reads'.room-gone 𝓤 H A Laws.mir) tt Path.refl) d68
+          d69 = Typed.s-seq 𝓤 H A W 𝓣 E G30 G31 b13 b52 Δ0 (Typed.both (s29 bs)) (at68 bs) (Plain.t-call-plain 𝓤 H A W
+              𝓣 0 ps·4 r·4 (claims· .8) (claims· .9) "hnsr_circuit::revoking_calls::change_answer" (known .4) E
+              (λ pos β. β) G30 (
+                Num.vFld 5 ((Syntax.field 1) ∷ List.[]) 16 λ x. OpaqueRelayRuntime.struct .as-values x .1 .0,
+                (Bool.bAt 15 λ x. x, tt),
+              ) 16 List.[] (Call.sub-id 𝓤 H A W (G30 .slots)) (
+                (
+                  Reads.reads-field 𝓤 H A W OpaqueRelayRuntime.the-type Laws''''''.the-laws 1 (Syntax.tyInt Syntax.w64)
+                      16 Path.refl,
+                  Path.refl,
+                ),
+                ((Scalar.reads-sc 𝓤 H A W Row.sBool, Path.refl), tt),
+              ) (Reads'.room-gone 𝓤 H A Laws.mir) tt Path.refl) d68
+
           d70 : Typed.Typed 𝓤 H A 𝓣 E G29 b54 Δ0 (at70 bs)
-          d70 = Typed.s-seq 𝓤 H A W 𝓣 E G29 G30 b12 b53 Δ0 (Typed.both (s28 bs)) (at69 bs) (Plain.t-call-plain 𝓤 H A W 𝓣 0 ps·3 r·3 (claims· .6)
-              (claims· .7) "hnsr_circuit::revoking_calls::changed" (known .3) E (λ pos β. β) G29 (Bool.bFld 5 ((Syntax.field 2) ∷ List.[]) 24 λ x.
-              OpaqueRelayRuntime.struct .as-values x .1 .1 .0, (Bool.bAt 8 λ x. x, tt),) 15 List.[] (Call.sub-id 𝓤 H A W (G29 .slots))
-              ((Reads.reads-field 𝓤 H A W OpaqueRelayRuntime.the-type Laws''''''.the-laws 2 Syntax.tyBool 24 Path.refl, Path.refl,), ((Scalar.reads-sc
-              𝓤 H A W Row.sBool, Path.refl), tt),) (Reads'.room-gone 𝓤 H A Syntax.tyBool) tt Path.refl) d69
+          d70 = Typed.s-seq 𝓤 H A W 𝓣 E G29 G30 b12 b53 Δ0 (Typed.both (s28 bs)) (at69 bs) (Plain.t-call-plain 𝓤 H A W
+              𝓣 0 ps·3 r·3 (claims· .6) (claims· .7) "hnsr_circuit::revoking_calls::changed" (known .3) E (λ pos β. β)
+              G29 (
+                Bool.bFld 5 ((Syntax.field 2) ∷ List.[]) 24 λ x. OpaqueRelayRuntime.struct .as-values x .1 .1 .0,
+                (Bool.bAt 8 λ x. x, tt),
+              ) 15 List.[] (Call.sub-id 𝓤 H A W (G29 .slots)) (
+                (
+                  Reads.reads-field 𝓤 H A W OpaqueRelayRuntime.the-type Laws''''''.the-laws 2 Syntax.tyBool 24
+                      Path.refl,
+                  Path.refl,
+                ),
+                ((Scalar.reads-sc 𝓤 H A W Row.sBool, Path.refl), tt),
+              ) (Reads'.room-gone 𝓤 H A Syntax.tyBool) tt Path.refl) d69
+
           d71 : Typed.Typed 𝓤 H A 𝓣 E G28 b55 Δ0 (at71 bs)
-          d71 = Typed.s-seq 𝓤 H A W 𝓣 E G28 G29 b11 b54 Δ0 (Typed.both (s27 bs)) (at70 bs) (Plain.t-call-plain 𝓤 H A W 𝓣 0 ps·2 r·2 (claims· .4)
-              (claims· .5) "hnsr_circuit::acknowledge::generation_answer" (known .2) E (λ pos β. β) G28 (Num.vFld 5 ((Syntax.field 1) ∷ List.[]) 16 λ
-              x. OpaqueRelayRuntime.struct .as-values x .1 .0, (Num.vAt 7 λ x. x, tt),) 14 List.[] (Call.sub-id 𝓤 H A W (G28 .slots))
-              ((Reads.reads-field 𝓤 H A W OpaqueRelayRuntime.the-type Laws''''''.the-laws 1 (Syntax.tyInt Syntax.w64) 16 Path.refl, Path.refl,),
-              ((Scalar.reads-sc 𝓤 H A W (Row.sInt Syntax.w64), Path.refl), tt),) (Reads'.room-gone 𝓤 H A Laws.mir) tt Path.refl) d70
+          d71 = Typed.s-seq 𝓤 H A W 𝓣 E G28 G29 b11 b54 Δ0 (Typed.both (s27 bs)) (at70 bs) (Plain.t-call-plain 𝓤 H A W
+              𝓣 0 ps·2 r·2 (claims· .4) (claims· .5) "hnsr_circuit::acknowledge::generation_answer" (known .2) E
+              (λ pos β. β) G28 (
+                Num.vFld 5 ((Syntax.field 1) ∷ List.[]) 16 λ x. OpaqueRelayRuntime.struct .as-values x .1 .0,
+                (Num.vAt 7 λ x. x, tt),
+              ) 14 List.[] (Call.sub-id 𝓤 H A W (G28 .slots)) (
+                (
+                  Reads.reads-field 𝓤 H A W OpaqueRelayRuntime.the-type Laws''''''.the-laws 1 (Syntax.tyInt Syntax.w64)
+                      16 Path.refl,
+                  Path.refl,
+                ),
+                ((Scalar.reads-sc 𝓤 H A W (Row.sInt Syntax.w64), Path.refl), tt),
+              ) (Reads'.room-gone 𝓤 H A Laws.mir) tt Path.refl) d70
+
           d72 : Typed.Typed 𝓤 H A 𝓣 E G27 b55 Δ0 (at72 bs)
-          d72 = Typed.g-pre 𝓤 H A W 𝓣 E G27 G28 b55 Δ0 (Typed.pass T27 T28 (s26 bs)) (at71 bs) (Scalar.g-room 𝓤 H A W E G27 11 Laws'''''.mir
-              (Local.room-whole 𝓤 H A W (Declared'.row Entered.the-type) Laws'''''.mir Path.refl)) d71
+          d72 = Typed.g-pre 𝓤 H A W 𝓣 E G27 G28 b55 Δ0 (Typed.pass T27 T28 (s26 bs)) (at71 bs) (Scalar.g-room 𝓤 H A W E
+              G27 11 Laws'''''.mir (Local.room-whole 𝓤 H A W (Declared'.row Entered.the-type) Laws'''''.mir Path.refl))
+              d71
+
           d73 : Typed.Typed 𝓤 H A 𝓣 E G26 b56 Δ0 (at73 bs)
-          d73 = Typed.s-seq 𝓤 H A W 𝓣 E G26 G27 b10 b55 Δ0 (Typed.both (s25 bs)) (at72 bs) (WayStmt.t-way-copy-out 𝓤 H A W E 𝓣 (Declared'.row
-              Firsts.the-type) Path.refl (Copies.cStruct Firsts.the-type Laws''''.the-laws Laws''''.the-copy .copy 𝓤 H A W) (λ ρ. Unit) G26 (Row.out
-              11 (G26 .locals)) (λ u. Row.drop 11 (G26 .locals) u) (G26 .slots) 11 (λ t. (Syntax.field 1) ∷ t) Laws''''.mir Laws''''.mir 13
-              (Rows.whole (Declared'.row Firsts.the-type)) (λ x. x) (λ u. At.getAt (Entered.the-type .parts) 1 (Entered.struct .as-values (u .1 .1 .1
-              .1 .1 .1 .1 .1 .1 .1 .1 .0))) (λ u. (Row.hd 0 (Row.tl (Row.tl (Row.tl (Row.tl (Row.tl (Row.tl (Row.tl (Row.tl (Row.tl (Row.tl (Row.tl
-              bs))))))))))), Nat._+_ 0 48,)) (λ T′. record { locals = Row.setRow 11 (11, Rows.whole (Declared'.row Entered.the-type)) T′; slots = G26
-              .slots; }) (λ u T′ m′. Row.set 11 (11, Rows.whole (Declared'.row Entered.the-type)) (u .1 .1 .1 .1 .1 .1 .1 .1 .1 .1 .1 .0) T′ m′) (λ u.
-              Unit) (λ x. Unit) (Own.told-none 𝓤 H A (G26 .slots)) (DerefMove.learns-nothing 𝓤 H A (Declared'.row Firsts.the-type)) (λ ρ told u asked.
-              Way'.w-partˢ 𝓤 H A W E (Declared'.row Entered.the-type) (Declared'.row Firsts.the-type) Laws'''''.mir Laws''''.mir 1 48 (u .1 .1 .1 .1
-              .1 .1 .1 .1 .1 .1 .1 .0) (At.getAt (Entered.the-type .parts) 1 (Entered.struct .as-values (u .1 .1 .1 .1 .1 .1 .1 .1 .1 .1 .1 .0)))
-              (Row.hd 0 (Row.tl (Row.tl (Row.tl (Row.tl (Row.tl (Row.tl (Row.tl (Row.tl (Row.tl (Row.tl (Row.tl bs))))))))))), 0,) (Way.w-look 𝓤 H A W
-              E (Way.w-local 𝓤 H A W E G26 ρ u (G26 .slots) 11 (Declared'.row Entered.the-type) (Rows.whole (Declared'.row Entered.the-type)) (λ x. x)
-              (λ x. x) (u .1 .1 .1 .1 .1 .1 .1 .1 .1 .1 .1 .0) (Local.mem-whole 𝓤 H A W (Declared'.row Entered.the-type) ρ (u .1 .1 .1 .1 .1 .1 .1 .1
-              .1 .1 .1 .0) (Row.hd 0 (Row.tl (Row.tl (Row.tl (Row.tl (Row.tl (Row.tl (Row.tl (Row.tl (Row.tl (Row.tl (Row.tl bs)))))))))))))
-              (Local.whole-mem 𝓤 H A W (Declared'.row Entered.the-type) ρ (u .1 .1 .1 .1 .1 .1 .1 .1 .1 .1 .1 .0) (Row.hd 0 (Row.tl (Row.tl (Row.tl
-              (Row.tl (Row.tl (Row.tl (Row.tl (Row.tl (Row.tl (Row.tl (Row.tl bs))))))))))))))) Path.refl λ q. Inner.cut-record 𝓤 H A q (Declared'.row
-              Entered.the-type) Firsts.the-type 48 (u .1 .1 .1 .1 .1 .1 .1 .1 .1 .1 .1 .0) (u .1 .1 .1 .1 .1 .1 .1 .1 .1 .1 .1 .0) (At.getAt
-              (Entered.the-type .parts) 1 (Entered.struct .as-values (u .1 .1 .1 .1 .1 .1 .1 .1 .1 .1 .1 .0))) (At.getAt (Entered.the-type .parts) 1
-              (Entered.struct .as-values (u .1 .1 .1 .1 .1 .1 .1 .1 .1 .1 .1 .0))) (Row.hd 0 (Row.tl (Row.tl (Row.tl (Row.tl (Row.tl (Row.tl (Row.tl
-              (Row.tl (Row.tl (Row.tl (Row.tl bs))))))))))), 0,) (Behind.look-at 𝓤 H A W q Entered.the-type Laws'''''.the-laws 1 48 Path.refl
-              Path.refl (Row.hd 0 (Row.tl (Row.tl (Row.tl (Row.tl (Row.tl (Row.tl (Row.tl (Row.tl (Row.tl (Row.tl (Row.tl bs))))))))))), 0,) (u .1 .1
-              .1 .1 .1 .1 .1 .1 .1 .1 .1 .0) (Entered.struct .as-values (u .1 .1 .1 .1 .1 .1 .1 .1 .1 .1 .1 .0)) Path.refl)) (Reads'.room-gone 𝓤 H A
-              Laws''''.mir) (Yields.makes-mem 𝓤 H A W (λ ρ. Unit) (Declared'.row Firsts.the-type) Path.refl (Rows.whole (Declared'.row
-              Firsts.the-type)) (λ x. x) λ ρ told. Local.whole-mem 𝓤 H A W (Declared'.row Firsts.the-type) ρ) Path.refl Path.refl Path.refl) d72
+          d73 = Typed.s-seq 𝓤 H A W 𝓣 E G26 G27 b10 b55 Δ0 (Typed.both (s25 bs)) (at72 bs) (WayStmt.t-way-copy-out 𝓤 H
+              A W E 𝓣 (Declared'.row Firsts.the-type) Path.refl (Copies.cStruct Firsts.the-type Laws''''.the-laws
+              Laws''''.the-copy .copy 𝓤 H A W) (λ ρ. Unit) G26 (Row.out 11 (G26 .locals))
+              (λ u. Row.drop 11 (G26 .locals) u) (G26 .slots) 11 (λ t. (Syntax.field 1) ∷ t) Laws''''.mir Laws''''.mir
+              13 (Rows.whole (Declared'.row Firsts.the-type)) (λ x. x) (λ u. At.getAt (Entered.the-type .parts) 1 (Entered.struct
+              .as-values (u .1 .1 .1 .1 .1 .1 .1 .1 .1 .1 .1 .0))) (λ u. (
+                Row.hd 0 (Row.tl (Row.tl (Row.tl (Row.tl (Row.tl (Row.tl
+                    (Row.tl (Row.tl (Row.tl (Row.tl (Row.tl bs))))))))))),
+                Nat._+_ 0 48,
+              )) (λ T′. record {
+                locals = Row.setRow 11 (11, Rows.whole (Declared'.row Entered.the-type)) T′;
+                slots = G26 .slots;
+              }) (λ u T′ m′. Row.set 11 (11, Rows.whole (Declared'.row Entered.the-type))
+              (u .1 .1 .1 .1 .1 .1 .1 .1 .1 .1 .1 .0) T′ m′) (λ u. Unit) (λ x. Unit) (Own.told-none 𝓤 H A (G26 .slots)) (DerefMove.learns-nothing
+              𝓤 H A (Declared'.row Firsts.the-type)) (λ ρ told u asked. Way'.w-partˢ 𝓤 H A W E
+              (Declared'.row Entered.the-type) (Declared'.row Firsts.the-type) Laws'''''.mir Laws''''.mir 1 48
+              (u .1 .1 .1 .1 .1 .1 .1 .1 .1 .1 .1 .0) (At.getAt (Entered.the-type .parts) 1 (Entered.struct .as-values
+              (u .1 .1 .1 .1 .1 .1 .1 .1 .1 .1 .1 .0))) (
+                Row.hd 0 (Row.tl (Row.tl (Row.tl (Row.tl (Row.tl (Row.tl
+                    (Row.tl (Row.tl (Row.tl (Row.tl (Row.tl bs))))))))))),
+                0,
+              ) (Way.w-look 𝓤 H A W E (Way.w-local 𝓤 H A W E G26 ρ u (G26 .slots) 11 (Declared'.row Entered.the-type)
+              (Rows.whole (Declared'.row Entered.the-type)) (λ x. x) (λ x. x) (u .1 .1 .1 .1 .1 .1 .1 .1 .1 .1 .1 .0) (Local.mem-whole
+              𝓤 H A W (Declared'.row Entered.the-type) ρ (u .1 .1 .1 .1 .1 .1 .1 .1 .1 .1 .1 .0) (Row.hd 0 (Row.tl (Row.tl (Row.tl (Row.tl (Row.tl (Row.tl
+              (Row.tl (Row.tl (Row.tl (Row.tl (Row.tl bs))))))))))))) (Local.whole-mem 𝓤 H A W
+              (Declared'.row Entered.the-type) ρ (u .1 .1 .1 .1 .1 .1 .1 .1 .1 .1 .1 .0) (Row.hd 0 (Row.tl (Row.tl (Row.tl (Row.tl (Row.tl (Row.tl
+              (Row.tl (Row.tl (Row.tl (Row.tl (Row.tl bs))))))))))))))) Path.refl λ q. Inner.cut-record 𝓤 H A q
+              (Declared'.row Entered.the-type) Firsts.the-type 48 (u .1 .1 .1 .1 .1 .1 .1 .1 .1 .1 .1 .0)
+              (u .1 .1 .1 .1 .1 .1 .1 .1 .1 .1 .1 .0) (At.getAt (Entered.the-type .parts) 1 (Entered.struct .as-values
+              (u .1 .1 .1 .1 .1 .1 .1 .1 .1 .1 .1 .0))) (At.getAt (Entered.the-type .parts) 1 (Entered.struct
+              .as-values (u .1 .1 .1 .1 .1 .1 .1 .1 .1 .1 .1 .0))) (
+                Row.hd 0 (Row.tl (Row.tl (Row.tl (Row.tl (Row.tl (Row.tl
+                    (Row.tl (Row.tl (Row.tl (Row.tl (Row.tl bs))))))))))),
+                0,
+              ) (Behind.look-at 𝓤 H A W q Entered.the-type Laws'''''.the-laws 1 48 Path.refl Path.refl (
+                Row.hd 0 (Row.tl (Row.tl (Row.tl (Row.tl (Row.tl (Row.tl
+                    (Row.tl (Row.tl (Row.tl (Row.tl (Row.tl bs))))))))))),
+                0,
+              ) (u .1 .1 .1 .1 .1 .1 .1 .1 .1 .1 .1 .0) (Entered.struct .as-values
+              (u .1 .1 .1 .1 .1 .1 .1 .1 .1 .1 .1 .0)) Path.refl)) (Reads'.room-gone 𝓤 H A Laws''''.mir) (Yields.makes-mem
+              𝓤 H A W (λ ρ. Unit) (Declared'.row Firsts.the-type) Path.refl
+              (Rows.whole (Declared'.row Firsts.the-type)) (λ x. x) λ ρ told. Local.whole-mem 𝓤 H A W
+              (Declared'.row Firsts.the-type) ρ) Path.refl Path.refl Path.refl) d72
+
           d74 : Typed.Typed 𝓤 H A 𝓣 E G25 b57 Δ0 (at74 bs)
-          d74 = Typed.s-seq 𝓤 H A W 𝓣 E G25 G26 b9 b56 Δ0 (Typed.pass T24 T26 (s24 bs)) (at73 bs) (CopyOut.t-copy-told 𝓤 H A W E 𝓣 (Declared.row
-              HnsrAnswer.the-type) Path.refl (Laws''''''''.val HnsrAnswer.the-type Laws.the-laws) (Laws''''''''.lawful HnsrAnswer.the-type
-              Laws.the-laws 𝓤 H A W tt) (Laws''''''''.makes HnsrAnswer.the-type Laws.the-plain 𝓤 H A) G25 12 (Scalar.oFld 11 ((Syntax.field 0) ∷
-              List.[]) Laws.mir 0 λ x. Laws''''''''.val HnsrAnswer.the-type Laws.the-laws (Entered.struct .as-values x .0)) (λ m. Entered.struct
-              .as-values (m .1 .1 .1 .1 .1 .1 .1 .1 .1 .1 .1 .0) .0) (λ m. Laws'''''''''.Is (Declared'.row Entered.the-type) (m .1 .1 .1 .1 .1 .1 .1
-              .1 .1 .1 .1 .0) (Laws''''''''''.vals Entered.the-type Laws'''''.the-laws (m .1 .1 .1 .1 .1 .1 .1 .1 .1 .1 .1 .0))) (Reads'.room-gone 𝓤 H
-              A Laws.mir) (Reads.reads-field 𝓤 H A W Entered.the-type Laws'''''.the-laws 0 Laws.mir 0 Path.refl, Path.refl,) Path.refl (λ ρ m.
-              Make.tells-row 𝓤 H A W E ρ (Row.out 12 (G25 .locals)) m 11 (Laws'''''''''.Is (Declared'.row Entered.the-type) (m .1 .1 .1 .1 .1 .1 .1 .1
-              .1 .1 .1 .0) (Laws''''''''''.vals Entered.the-type Laws'''''.the-laws (m .1 .1 .1 .1 .1 .1 .1 .1 .1 .1 .1 .0))) (Make.whole-is 𝓤 H A W E
-              (Declared'.row Entered.the-type) Path.refl (Laws''''''''''.val Entered.the-type Laws'''''.the-laws) (Laws''''''''''.tells
-              Entered.the-type Laws'''''.the-laws) ρ 11 (m .1 .1 .1 .1 .1 .1 .1 .1 .1 .1 .1 .0))) (λ m k wa. Path.refl) λ m k wa. Laws''''''''''.owed
-              Entered.the-type Laws'''''.the-laws (m .1 .1 .1 .1 .1 .1 .1 .1 .1 .1 .1 .0) (Laws''''''''''.vals Entered.the-type Laws'''''.the-laws (m
-              .1 .1 .1 .1 .1 .1 .1 .1 .1 .1 .1 .0)) k .0) d73
+          d74 = Typed.s-seq 𝓤 H A W 𝓣 E G25 G26 b9 b56 Δ0 (Typed.pass T24 T26 (s24 bs)) (at73 bs) (CopyOut.t-copy-told
+              𝓤 H A W E 𝓣 (Declared.row HnsrAnswer.the-type) Path.refl
+              (Laws''''''''.val HnsrAnswer.the-type Laws.the-laws) (Laws''''''''.lawful HnsrAnswer.the-type
+              Laws.the-laws 𝓤 H A W tt) (Laws''''''''.makes HnsrAnswer.the-type Laws.the-plain 𝓤 H A) G25 12 (Scalar.oFld
+              11 ((Syntax.field 0) ∷ List.[]) Laws.mir 0 λ x. Laws''''''''.val HnsrAnswer.the-type Laws.the-laws
+              (Entered.struct .as-values x .0)) (λ m. Entered.struct .as-values (m .1 .1 .1 .1 .1 .1 .1 .1 .1 .1 .1 .0)
+              .0) (λ m. Laws'''''''''.Is (Declared'.row Entered.the-type) (m .1 .1 .1 .1 .1 .1 .1 .1 .1 .1 .1 .0) (Laws''''''''''.vals
+              Entered.the-type Laws'''''.the-laws (m .1 .1 .1 .1 .1 .1 .1 .1 .1 .1 .1 .0)))
+              (Reads'.room-gone 𝓤 H A Laws.mir) (
+                Reads.reads-field 𝓤 H A W Entered.the-type Laws'''''.the-laws 0 Laws.mir 0 Path.refl,
+                Path.refl,
+              ) Path.refl (λ ρ m. Make.tells-row 𝓤 H A W E ρ (Row.out 12 (G25 .locals)) m 11 (Laws'''''''''.Is
+              (Declared'.row Entered.the-type) (m .1 .1 .1 .1 .1 .1 .1 .1 .1 .1 .1 .0) (Laws''''''''''.vals
+              Entered.the-type Laws'''''.the-laws (m .1 .1 .1 .1 .1 .1 .1 .1 .1 .1 .1 .0))) (Make.whole-is 𝓤 H A W E
+              (Declared'.row Entered.the-type) Path.refl (Laws''''''''''.val Entered.the-type Laws'''''.the-laws)
+              (Laws''''''''''.tells Entered.the-type Laws'''''.the-laws) ρ 11 (m .1 .1 .1 .1 .1 .1 .1 .1 .1 .1 .1 .0)))
+              (λ m k wa. Path.refl) λ m k wa. Laws''''''''''.owed Entered.the-type Laws'''''.the-laws
+              (m .1 .1 .1 .1 .1 .1 .1 .1 .1 .1 .1 .0) (Laws''''''''''.vals Entered.the-type Laws'''''.the-laws
+              (m .1 .1 .1 .1 .1 .1 .1 .1 .1 .1 .1 .0)) k .0) d73
+
           d75 : Typed.Typed 𝓤 H A 𝓣 E G24 b57 Δ0 (at75 bs)
-          d75 = Typed.g-pre 𝓤 H A W 𝓣 E G24 G25 b57 Δ0 (λ Ψ. Ψ) (at74 bs) (Lifetime.g-forget 𝓤 H A W E G24 5 Row.dead Path.refl) d74
+          d75 = Typed.g-pre 𝓤 H A W 𝓣 E G24 G25 b57 Δ0 (λ Ψ. Ψ) (at74 bs)
+              (Lifetime.g-forget 𝓤 H A W E G24 5 Row.dead Path.refl) d74
+
           d76 : Typed.Typed 𝓤 H A 𝓣 E G23 b57 Δ0 (at76 bs)
-          d76 = Typed.g-pre 𝓤 H A W 𝓣 E G23 G24 b57 Δ0 (Typed.pass T21 T24 (s22 bs)) (at75 bs) (Reshare.g-back-sl-shr 𝓤 H A W E RelayCircuit.row G23 2
-              1 5 ref7 life1 (λ x. x) (Reads'.as-is 𝓤 H A (Reshare.mslice-owedS RelayCircuit.row ref7 1 5 life1)) Path.refl Path.refl) d75
+          d76 = Typed.g-pre 𝓤 H A W 𝓣 E G23 G24 b57 Δ0 (Typed.pass T21 T24 (s22 bs)) (at75 bs) (Reshare.g-back-sl-shr 𝓤
+              H A W E RelayCircuit.row G23 2 1 5 ref7 life1 (λ x. x) (Reads'.as-is 𝓤 H A
+              (Reshare.mslice-owedS RelayCircuit.row ref7 1 5 life1)) Path.refl Path.refl) d75
+
           d77 : Typed.Typed 𝓤 H A 𝓣 E G22 b57 Δ0 (at77 bs)
-          d77 = Typed.g-pre 𝓤 H A W 𝓣 E G22 G23 b57 Δ0 (λ Ψ. Ψ) (at76 bs) (Lifetime.g-end 𝓤 H A W E G22 5 Path.refl) d76
+          d77 = Typed.g-pre 𝓤 H A W 𝓣 E G22 G23 b57 Δ0 (λ Ψ. Ψ) (at76 bs) (Lifetime.g-end 𝓤 H A W E G22 5 Path.refl)
+              d76
+
           d78 : Typed.Typed 𝓤 H A 𝓣 E G21 b57 Δ0 (at78 bs)
-          d78 = Typed.g-pre 𝓤 H A W 𝓣 E G21 G22 b57 Δ0 (λ Ψ. Ψ) (at77 bs) (Lifetime.g-forget 𝓤 H A W E G21 4 Row.dead Path.refl) d77
+          d78 = Typed.g-pre 𝓤 H A W 𝓣 E G21 G22 b57 Δ0 (λ Ψ. Ψ) (at77 bs)
+              (Lifetime.g-forget 𝓤 H A W E G21 4 Row.dead Path.refl) d77
+
           d79 : Typed.Typed 𝓤 H A 𝓣 E G20 b57 Δ0 (at79 bs)
-          d79 = Typed.g-pre 𝓤 H A W 𝓣 E G20 G21 b57 Δ0 (Typed.pass T19 T21 (s19 bs)) (at78 bs) (Reshare.g-back-sl-shr 𝓤 H A W E RelayPending.row G20 1
-              0 4 ref6 life0 (λ x. x) (Reads'.as-is 𝓤 H A (Reshare.mslice-owedS RelayPending.row ref6 0 4 life0)) Path.refl Path.refl) d78
+          d79 = Typed.g-pre 𝓤 H A W 𝓣 E G20 G21 b57 Δ0 (Typed.pass T19 T21 (s19 bs)) (at78 bs) (Reshare.g-back-sl-shr 𝓤
+              H A W E RelayPending.row G20 1 0 4 ref6 life0 (λ x. x) (Reads'.as-is 𝓤 H A
+              (Reshare.mslice-owedS RelayPending.row ref6 0 4 life0)) Path.refl Path.refl) d78
+
           d80 : Typed.Typed 𝓤 H A 𝓣 E G19 b57 Δ0 (at80 bs)
-          d80 = Typed.g-pre 𝓤 H A W 𝓣 E G19 G20 b57 Δ0 (λ Ψ. Ψ) (at79 bs) (Lifetime.g-end 𝓤 H A W E G19 4 Path.refl) d79
+          d80 = Typed.g-pre 𝓤 H A W 𝓣 E G19 G20 b57 Δ0 (λ Ψ. Ψ) (at79 bs) (Lifetime.g-end 𝓤 H A W E G19 4 Path.refl)
+              d79
+
           d81 : Typed.Typed 𝓤 H A 𝓣 E G18 b57 Δ0 (at81 bs)
-          d81 = Typed.g-pre 𝓤 H A W 𝓣 E G18 G19 b57 Δ0 (Typed.pass T18 T19 (s17 bs)) (at80 bs) (Scalar.g-room 𝓤 H A W E G18 24 (Syntax.tyInt
-              Syntax.w64) (Scalar.room-sc 𝓤 H A W (Row.sInt Syntax.w64))) d80
+          d81 = Typed.g-pre 𝓤 H A W 𝓣 E G18 G19 b57 Δ0 (Typed.pass T18 T19 (s17 bs)) (at80 bs) (Scalar.g-room 𝓤 H A W E
+              G18 24 (Syntax.tyInt Syntax.w64) (Scalar.room-sc 𝓤 H A W (Row.sInt Syntax.w64))) d80
+
           d82 : Typed.Typed 𝓤 H A 𝓣 E G17 b57 Δ0 (at82 bs)
-          d82 = Typed.g-pre 𝓤 H A W 𝓣 E G17 G18 b57 Δ0 (Typed.pass T17 T18 (s16 bs)) (at81 bs) (Scalar.g-room 𝓤 H A W E G17 23 (Syntax.tyInt
-              Syntax.w64) (Scalar.room-sc 𝓤 H A W (Row.sInt Syntax.w64))) d81
+          d82 = Typed.g-pre 𝓤 H A W 𝓣 E G17 G18 b57 Δ0 (Typed.pass T17 T18 (s16 bs)) (at81 bs) (Scalar.g-room 𝓤 H A W E
+              G17 23 (Syntax.tyInt Syntax.w64) (Scalar.room-sc 𝓤 H A W (Row.sInt Syntax.w64))) d81
+
           d83 : Typed.Typed 𝓤 H A 𝓣 E G16 b57 Δ0 (at83 bs)
-          d83 = Typed.g-pre 𝓤 H A W 𝓣 E G16 G17 b57 Δ0 (Typed.pass T16 T17 (s15 bs)) (at82 bs) (Scalar.g-room 𝓤 H A W E G16 10 Laws'''.mir
-              (Local.room-whole 𝓤 H A W (Declared'.row Question.the-type) Laws'''.mir Path.refl)) d82
+          d83 = Typed.g-pre 𝓤 H A W 𝓣 E G16 G17 b57 Δ0 (Typed.pass T16 T17 (s15 bs)) (at82 bs) (Scalar.g-room 𝓤 H A W E
+              G16 10 Laws'''.mir (Local.room-whole 𝓤 H A W (Declared'.row Question.the-type) Laws'''.mir Path.refl))
+              d82
+
           d84 : Typed.Typed 𝓤 H A 𝓣 E G15 b57 Δ0 (at84 bs)
-          d84 = Typed.g-pre 𝓤 H A W 𝓣 E G15 G16 b57 Δ0 (Typed.pass T15 T16 (s14 bs)) (at83 bs) (Scalar.g-room 𝓤 H A W E G15 9 Laws'.mir
-              (Local.room-whole 𝓤 H A W (Declared'.row OpaqueRelayConfig.the-type) Laws'.mir Path.refl)) d83
+          d84 = Typed.g-pre 𝓤 H A W 𝓣 E G15 G16 b57 Δ0 (Typed.pass T15 T16 (s14 bs)) (at83 bs) (Scalar.g-room 𝓤 H A W E
+              G15 9 Laws'.mir (Local.room-whole 𝓤 H A W (Declared'.row OpaqueRelayConfig.the-type) Laws'.mir Path.refl))
+              d83
+
           d85 : Typed.Typed 𝓤 H A 𝓣 E G14 b57 Δ0 (at85 bs)
-          d85 = Typed.g-pre 𝓤 H A W 𝓣 E G14 G15 b57 Δ0 (Typed.pass T14 T15 (s13 bs)) (at84 bs) (Scalar.g-room 𝓤 H A W E G14 22 (Syntax.tyStruct (38 ∷
-              91 ∷ 93 ∷ List.[]) (Syntax.tcons ref1 (Syntax.tcons (Syntax.tyInt Syntax.w64) Syntax.tnil))) (Shared.room-sslice 𝓤 H A W
-              RelayCircuit.row ref1 5)) d84
+          d85 = Typed.g-pre 𝓤 H A W 𝓣 E G14 G15 b57 Δ0 (Typed.pass T14 T15 (s13 bs)) (at84 bs) (Scalar.g-room 𝓤 H A W E
+              G14 22 slice1 (Shared.room-sslice 𝓤 H A W RelayCircuit.row ref1 5)) d84
+
           d86 : Typed.Typed 𝓤 H A 𝓣 E G13 b57 Δ0 (at86 bs)
-          d86 = Typed.g-pre 𝓤 H A W 𝓣 E G13 G14 b57 Δ0 (Typed.pass T13 T14 (s12 bs)) (at85 bs) (Scalar.g-room 𝓤 H A W E G13 20 (Syntax.tyStruct (38 ∷
-              91 ∷ 93 ∷ List.[]) (Syntax.tcons ref0 (Syntax.tcons (Syntax.tyInt Syntax.w64) Syntax.tnil))) (Shared.room-sslice 𝓤 H A W
-              RelayPending.row ref0 4)) d85
+          d86 = Typed.g-pre 𝓤 H A W 𝓣 E G13 G14 b57 Δ0 (Typed.pass T13 T14 (s12 bs)) (at85 bs) (Scalar.g-room 𝓤 H A W E
+              G13 20 slice0 (Shared.room-sslice 𝓤 H A W RelayPending.row ref0 4)) d85
+
           d87 : Typed.Typed 𝓤 H A 𝓣 E G12 b58 Δ0 (at87 bs)
-          d87 = Typed.s-seq 𝓤 H A W 𝓣 E G12 G13 b8 b57 Δ0 (Typed.both (s11 bs)) (at86 bs) (Plain.t-call-plain 𝓤 H A W 𝓣 2 ps·1 r·1 (claims· .2)
-              (claims· .3) "hnsr_circuit::revoking_calls::entry_answer" (known .1) E (λ pos β. β) G12 (record { pos = 20; ty = Syntax.tyRef
-              Syntax.erased Syntax.imm RelayPending.to; ref = λ x. x; }, (record { pos = 22; ty = Syntax.tyRef Syntax.erased Syntax.imm
-              RelayCircuit.to; ref = λ x. x; }, (record { pos = 6; st = List.[]; d = 0; at = λ x. x }, (Num.vAt 23 λ x. x, (Num.vAt 24 λ x. x, (record
-              { pos = 9; st = List.[]; d = 0; at = λ x. x }, (record { pos = 10; st = List.[]; d = 0; at = λ x. x }, tt),),),),),),) 11 (4 ∷ 5 ∷
-              List.[]) (Call.sub-id 𝓤 H A W (G12 .slots)) (ShrSlice.spares-sslice 𝓤 H A W RelayPending.row ref0 4, Shared.reads-sslice 𝓤 H A W
-              RelayPending.row ref0 4, Path.refl, (ShrSlice.spares-sslice 𝓤 H A W RelayCircuit.row ref1 5, Shared.reads-sslice 𝓤 H A W
-              RelayCircuit.row ref1 5, Path.refl, ((Yields.yields-copy 𝓤 H A W (λ ρ. Unit) (Declared'.row Places.the-type) Path.refl (Copies.cStruct
-              Places.the-type Laws''.the-laws Laws''.the-copy .copy 𝓤 H A W) (Rows.whole (Declared'.row Places.the-type)) (λ x. x) (λ x. x) (λ ρ told.
-              Local.mem-whole 𝓤 H A W (Declared'.row Places.the-type) ρ) λ ρ told. Local.whole-mem 𝓤 H A W (Declared'.row Places.the-type) ρ,
-              Path.refl,), ((Scalar.reads-sc 𝓤 H A W (Row.sInt Syntax.w64), Path.refl), ((Scalar.reads-sc 𝓤 H A W (Row.sInt Syntax.w64), Path.refl),
-              ((Yields.yields-copy 𝓤 H A W (λ ρ. Unit) (Declared'.row OpaqueRelayConfig.the-type) Path.refl (Copies.cStruct OpaqueRelayConfig.the-type
-              Laws'.the-laws Laws'.the-copy .copy 𝓤 H A W) (Rows.whole (Declared'.row OpaqueRelayConfig.the-type)) (λ x. x) (λ x. x) (λ ρ told.
-              Local.mem-whole 𝓤 H A W (Declared'.row OpaqueRelayConfig.the-type) ρ) λ ρ told. Local.whole-mem 𝓤 H A W (Declared'.row
-              OpaqueRelayConfig.the-type) ρ, Path.refl,), ((Yields.yields-copy 𝓤 H A W (λ ρ. Unit) (Declared'.row Question.the-type) Path.refl
-              (Copies.cStruct Question.the-type Laws'''.the-laws Laws'''.the-copy .copy 𝓤 H A W) (Rows.whole (Declared'.row Question.the-type)) (λ x.
-              x) (λ x. x) (λ ρ told. Local.mem-whole 𝓤 H A W (Declared'.row Question.the-type) ρ) λ ρ told. Local.whole-mem 𝓤 H A W (Declared'.row
-              Question.the-type) ρ, Path.refl,), tt,),),),),),),) (Reads'.room-gone 𝓤 H A Laws'''''.mir) (tt, (tt, tt)) Path.refl) d86
+          d87 = Typed.s-seq 𝓤 H A W 𝓣 E G12 G13 b8 b57 Δ0 (Typed.both (s11 bs)) (at86 bs) (Plain.t-call-plain 𝓤 H A W 𝓣
+              2 ps·1 r·1 (claims· .2) (claims· .3) "hnsr_circuit::revoking_calls::entry_answer" (known .1) E
+              (λ pos β. β) G12 (
+                record { pos = 20; ty = ref0; ref = λ x. x },
+                (
+                  record { pos = 22; ty = ref1; ref = λ x. x },
+                  (
+                    record { pos = 6; st = List.[]; d = 0; at = λ x. x },
+                    (
+                      Num.vAt 23 λ x. x,
+                      (
+                        Num.vAt 24 λ x. x,
+                        (
+                          record { pos = 9; st = List.[]; d = 0; at = λ x. x },
+                          (record { pos = 10; st = List.[]; d = 0; at = λ x. x }, tt),
+                        ),
+                      ),
+                    ),
+                  ),
+                ),
+              ) 11 (4 ∷ 5 ∷ List.[]) (Call.sub-id 𝓤 H A W (G12 .slots)) (
+                ShrSlice.spares-sslice 𝓤 H A W RelayPending.row ref0 4,
+                Shared.reads-sslice 𝓤 H A W RelayPending.row ref0 4,
+                Path.refl,
+                (
+                  ShrSlice.spares-sslice 𝓤 H A W RelayCircuit.row ref1 5,
+                  Shared.reads-sslice 𝓤 H A W RelayCircuit.row ref1 5,
+                  Path.refl,
+                  (
+                    (
+                      Yields.yields-copy 𝓤 H A W (λ ρ. Unit) (Declared'.row Places.the-type) Path.refl (Copies.cStruct
+                          Places.the-type Laws''.the-laws Laws''.the-copy .copy 𝓤 H A W)
+                          (Rows.whole (Declared'.row Places.the-type)) (λ x. x) (λ x. x) (λ ρ told. Local.mem-whole 𝓤 H
+                          A W (Declared'.row Places.the-type) ρ) λ ρ told. Local.whole-mem 𝓤 H A W
+                          (Declared'.row Places.the-type) ρ,
+                      Path.refl,
+                    ),
+                    (
+                      (Scalar.reads-sc 𝓤 H A W (Row.sInt Syntax.w64), Path.refl),
+                      (
+                        (Scalar.reads-sc 𝓤 H A W (Row.sInt Syntax.w64), Path.refl),
+                        (
+                          (
+                            Yields.yields-copy 𝓤 H A W (λ ρ. Unit) (Declared'.row OpaqueRelayConfig.the-type) Path.refl (Copies.cStruct
+                                OpaqueRelayConfig.the-type Laws'.the-laws Laws'.the-copy .copy 𝓤 H A W)
+                                (Rows.whole (Declared'.row OpaqueRelayConfig.the-type)) (λ x. x) (λ x. x) (λ ρ told.
+                                Local.mem-whole 𝓤 H A W (Declared'.row OpaqueRelayConfig.the-type) ρ) λ ρ told.
+                                Local.whole-mem 𝓤 H A W (Declared'.row OpaqueRelayConfig.the-type) ρ,
+                            Path.refl,
+                          ),
+                          (
+                            (
+                              Yields.yields-copy 𝓤 H A W (λ ρ. Unit) (Declared'.row Question.the-type) Path.refl (Copies.cStruct
+                                  Question.the-type Laws'''.the-laws Laws'''.the-copy .copy 𝓤 H A W)
+                                  (Rows.whole (Declared'.row Question.the-type)) (λ x. x) (λ x. x) (λ ρ told.
+                                  Local.mem-whole 𝓤 H A W (Declared'.row Question.the-type) ρ) λ ρ told.
+                                  Local.whole-mem 𝓤 H A W (Declared'.row Question.the-type) ρ,
+                              Path.refl,
+                            ),
+                            tt,
+                          ),
+                        ),
+                      ),
+                    ),
+                  ),
+                ),
+              ) (Reads'.room-gone 𝓤 H A Laws'''''.mir) (tt, (tt, tt)) Path.refl) d86
+
           d88 : Typed.Typed 𝓤 H A 𝓣 E G11 b59 Δ0 (at88 bs)
-          d88 = Typed.s-seq 𝓤 H A W 𝓣 E G11 G12 b7 b58 Δ0 (Typed.pass T11 T12 (s10 bs)) (at87 bs) (Scalar.t-use 𝓤 H A W E 𝓣 G11 (Scalar.oFld 4
-              ((Syntax.field 1) ∷ List.[]) (Syntax.tyInt Syntax.w64) 8 Shared.lenV) 24 (Rows.sc-here (Row.sInt Syntax.w64)) (Syntax.tyInt Syntax.w64)
-              (Row.valS (Row.sInt Syntax.w64)) (Row.sInt Syntax.w64 .of) (Mut.reads-mslice-len 𝓤 H A W (Referent.rtF (Referent.fInt Syntax.w32)) ref9
-              3 8 Path.refl, Path.refl,) (Reads'.room-gone 𝓤 H A (Syntax.tyInt Syntax.w64)) (Scalar.holds-sc 𝓤 H A W (Row.sInt Syntax.w64)) Path.refl
-              (λ u. Path.refl) λ u. tt) d87
+          d88 = Typed.s-seq 𝓤 H A W 𝓣 E G11 G12 b7 b58 Δ0 (Typed.pass T11 T12 (s10 bs)) (at87 bs) (Scalar.t-use 𝓤 H A W
+              E 𝓣 G11 (Scalar.oFld 4 ((Syntax.field 1) ∷ List.[]) (Syntax.tyInt Syntax.w64) 8 Shared.lenV) 24
+              (Rows.sc-here (Row.sInt Syntax.w64)) (Syntax.tyInt Syntax.w64) (Row.valS (Row.sInt Syntax.w64))
+              (Row.sInt Syntax.w64 .of) (
+                Mut.reads-mslice-len 𝓤 H A W (Referent.rtF (Referent.fInt Syntax.w32)) ref9 3 8 Path.refl,
+                Path.refl,
+              ) (Reads'.room-gone 𝓤 H A (Syntax.tyInt Syntax.w64)) (Scalar.holds-sc 𝓤 H A W (Row.sInt Syntax.w64))
+              Path.refl (λ u. Path.refl) λ u. tt) d87
+
           d89 : Typed.Typed 𝓤 H A 𝓣 E G10 b60 Δ0 (at89 bs)
-          d89 = Typed.s-seq 𝓤 H A W 𝓣 E G10 G11 b6 b59 Δ0 (Typed.pass T10 T11 (s9 bs)) (at88 bs) (Scalar.t-use 𝓤 H A W E 𝓣 G10 (Scalar.oFld 3
-              ((Syntax.field 1) ∷ List.[]) (Syntax.tyInt Syntax.w64) 8 Shared.lenV) 23 (Rows.sc-here (Row.sInt Syntax.w64)) (Syntax.tyInt Syntax.w64)
-              (Row.valS (Row.sInt Syntax.w64)) (Row.sInt Syntax.w64 .of) (Mut.reads-mslice-len 𝓤 H A W InflightAction.row ref8 2 8 Path.refl,
-              Path.refl,) (Reads'.room-gone 𝓤 H A (Syntax.tyInt Syntax.w64)) (Scalar.holds-sc 𝓤 H A W (Row.sInt Syntax.w64)) Path.refl (λ u.
-              Path.refl) λ u. tt) d88
+          d89 = Typed.s-seq 𝓤 H A W 𝓣 E G10 G11 b6 b59 Δ0 (Typed.pass T10 T11 (s9 bs)) (at88 bs) (Scalar.t-use 𝓤 H A W
+              E 𝓣 G10 (Scalar.oFld 3 ((Syntax.field 1) ∷ List.[]) (Syntax.tyInt Syntax.w64) 8 Shared.lenV) 23
+              (Rows.sc-here (Row.sInt Syntax.w64)) (Syntax.tyInt Syntax.w64) (Row.valS (Row.sInt Syntax.w64))
+              (Row.sInt Syntax.w64 .of) (Mut.reads-mslice-len 𝓤 H A W InflightAction.row ref8 2 8 Path.refl, Path.refl)
+              (Reads'.room-gone 𝓤 H A (Syntax.tyInt Syntax.w64)) (Scalar.holds-sc 𝓤 H A W (Row.sInt Syntax.w64))
+              Path.refl (λ u. Path.refl) λ u. tt) d88
+
           d90 : Typed.Typed 𝓤 H A 𝓣 E G9 b61 Δ0 (at90 bs)
-          d90 = Typed.s-seq 𝓤 H A W 𝓣 E G9 G10 b5 b60 Δ0 (Typed.ask (s8 bs)) (at89 bs) (Relend.t-sl-aggregate 𝓤 H A W E RelayCircuit.row 𝓣
-              (Relend.asShr RelayCircuit.row) G9 21 22 5 ref1 ref1 (λ x. x) (Scalar.oFld 2 ((Syntax.field 1) ∷ List.[]) (Syntax.tyInt Syntax.w64) 8 λ
-              v. Shared.lenV (v .0)) (Reads'.as-is 𝓤 H A (Relend.ssptr RelayCircuit.row ref1 5)) (Reads'.room-gone 𝓤 H A (Syntax.tyStruct (38 ∷ 91 ∷
-              93 ∷ List.[]) (Syntax.tcons ref1 (Syntax.tcons (Syntax.tyInt Syntax.w64) Syntax.tnil)))) (Reshare.reads-owedS-len 𝓤 H A W
-              RelayCircuit.row ref7 1 5 life1 8 Path.refl, Path.refl,) Path.refl Path.refl λ b o k. tt) d89
+          d90 = Typed.s-seq 𝓤 H A W 𝓣 E G9 G10 b5 b60 Δ0 (Typed.ask (s8 bs)) (at89 bs) (Relend.t-sl-aggregate 𝓤 H A W E
+              RelayCircuit.row 𝓣 (Relend.asShr RelayCircuit.row) G9 21 22 5 ref1 ref1 (λ x. x) (Scalar.oFld 2
+              ((Syntax.field 1) ∷ List.[]) (Syntax.tyInt Syntax.w64) 8 λ v. Shared.lenV (v .0))
+              (Reads'.as-is 𝓤 H A (Relend.ssptr RelayCircuit.row ref1 5)) (Reads'.room-gone 𝓤 H A slice1) (
+                Reshare.reads-owedS-len 𝓤 H A W RelayCircuit.row ref7 1 5 life1 8 Path.refl,
+                Path.refl,
+              ) Path.refl Path.refl λ b o k. tt) d89
+
           d91 : Typed.Typed 𝓤 H A 𝓣 E G8 b62 Δ0 (at91 bs)
-          d91 = Typed.s-seq 𝓤 H A W 𝓣 E G8 G9 b4 b61 Δ0 (Typed.give (s7 bs)) (at90 bs) (Reshare.t-sl-reshare 𝓤 H A W E RelayCircuit.row 𝓣 G8 2 21 1 5
-              ref7 ref1 life1 0 (λ x. x) (Reads'.as-is 𝓤 H A (Mut.mslice RelayCircuit.row ref7 1)) (Reads'.room-gone 𝓤 H A ref1) Path.refl tt
+          d91 = Typed.s-seq 𝓤 H A W 𝓣 E G8 G9 b4 b61 Δ0 (Typed.give (s7 bs)) (at90 bs) (Reshare.t-sl-reshare 𝓤 H A W E
+              RelayCircuit.row 𝓣 G8 2 21 1 5 ref7 ref1 life1 0 (λ x. x)
+              (Reads'.as-is 𝓤 H A (Mut.mslice RelayCircuit.row ref7 1)) (Reads'.room-gone 𝓤 H A ref1) Path.refl tt
               Path.refl Path.refl Path.refl λ b o. tt) d90
+
           d92 : Typed.Typed 𝓤 H A 𝓣 E G7 b62 Δ0 (at92 bs)
-          d92 = Typed.g-pre 𝓤 H A W 𝓣 E G7 G8 b62 Δ0 (λ Ψ. Ψ) (at91 bs) (Lifetime.g-begin 𝓤 H A W E G7 5 (tt, ((tt, tt), (tt, (tt, (tt, (tt, (tt, (tt,
-              (tt, (tt, (tt, (tt, (tt, (tt, (tt, (tt, (tt, (tt, (tt, (tt, (tt, (tt, (tt, (tt, (tt, (tt, (tt, (tt, (tt, (tt, (tt, (tt, (tt, (tt, (tt,
-              tt)),),),),),),),),),),),),),),),),),),),),),),),),),),),),),),),),),)) d91
+          d92 = Typed.g-pre 𝓤 H A W 𝓣 E G7 G8 b62 Δ0 (λ Ψ. Ψ) (at91 bs) (Lifetime.g-begin 𝓤 H A W E G7 5 (
+            tt,
+            (
+              (tt, tt),
+              (
+                tt,
+                (
+                  tt,
+                  (
+                    tt,
+                    (
+                      tt,
+                      (
+                        tt,
+                        (
+                          tt,
+                          (
+                            tt,
+                            (
+                              tt,
+                              (
+                                tt,
+                                (
+                                  tt,
+                                  (
+                                    tt,
+                                    (
+                                      tt,
+                                      (
+                                        tt,
+                                        (
+                                          tt,
+                                          (
+                                            tt,
+                                            (
+                                              tt,
+                                              (
+                                                tt,
+                                                (
+                                                  tt,
+                                                  (
+                                                    tt,
+                                                    (
+                                                      tt,
+                                                      (
+                                                        tt,
+                                                        (
+                                                          tt,
+                                                          (
+                                                            tt,
+                                                            (
+                                                              tt,
+                                                              (tt, (tt, (tt, (tt, (tt, (tt, (tt, (tt, (tt, tt))))))))),
+                                                            ),
+                                                          ),
+                                                        ),
+                                                      ),
+                                                    ),
+                                                  ),
+                                                ),
+                                              ),
+                                            ),
+                                          ),
+                                        ),
+                                      ),
+                                    ),
+                                  ),
+                                ),
+                              ),
+                            ),
+                          ),
+                        ),
+                      ),
+                    ),
+                  ),
+                ),
+              ),
+            ),
+          )) d91
+
           d93 : Typed.Typed 𝓤 H A 𝓣 E G6 b63 Δ0 (at93 bs)
-          d93 = Typed.s-seq 𝓤 H A W 𝓣 E G6 G7 b3 b62 Δ0 (Typed.ask (s5 bs)) (at92 bs) (Relend.t-sl-aggregate 𝓤 H A W E RelayPending.row 𝓣
-              (Relend.asShr RelayPending.row) G6 19 20 4 ref0 ref0 (λ x. x) (Scalar.oFld 1 ((Syntax.field 1) ∷ List.[]) (Syntax.tyInt Syntax.w64) 8 λ
-              v. Shared.lenV (v .0)) (Reads'.as-is 𝓤 H A (Relend.ssptr RelayPending.row ref0 4)) (Reads'.room-gone 𝓤 H A (Syntax.tyStruct (38 ∷ 91 ∷
-              93 ∷ List.[]) (Syntax.tcons ref0 (Syntax.tcons (Syntax.tyInt Syntax.w64) Syntax.tnil)))) (Reshare.reads-owedS-len 𝓤 H A W
-              RelayPending.row ref6 0 4 life0 8 Path.refl, Path.refl,) Path.refl Path.refl λ b o k. tt) d92
+          d93 = Typed.s-seq 𝓤 H A W 𝓣 E G6 G7 b3 b62 Δ0 (Typed.ask (s5 bs)) (at92 bs) (Relend.t-sl-aggregate 𝓤 H A W E
+              RelayPending.row 𝓣 (Relend.asShr RelayPending.row) G6 19 20 4 ref0 ref0 (λ x. x) (Scalar.oFld 1
+              ((Syntax.field 1) ∷ List.[]) (Syntax.tyInt Syntax.w64) 8 λ v. Shared.lenV (v .0))
+              (Reads'.as-is 𝓤 H A (Relend.ssptr RelayPending.row ref0 4)) (Reads'.room-gone 𝓤 H A slice0) (
+                Reshare.reads-owedS-len 𝓤 H A W RelayPending.row ref6 0 4 life0 8 Path.refl,
+                Path.refl,
+              ) Path.refl Path.refl λ b o k. tt) d92
+
           d94 : Typed.Typed 𝓤 H A 𝓣 E G5 b64 Δ0 (at94 bs)
-          d94 = Typed.s-seq 𝓤 H A W 𝓣 E G5 G6 b2 b63 Δ0 (Typed.give (s4 bs)) (at93 bs) (Reshare.t-sl-reshare 𝓤 H A W E RelayPending.row 𝓣 G5 1 19 0 4
-              ref6 ref0 life0 0 (λ x. x) (Reads'.as-is 𝓤 H A (Mut.mslice RelayPending.row ref6 0)) (Reads'.room-gone 𝓤 H A ref0) Path.refl tt
+          d94 = Typed.s-seq 𝓤 H A W 𝓣 E G5 G6 b2 b63 Δ0 (Typed.give (s4 bs)) (at93 bs) (Reshare.t-sl-reshare 𝓤 H A W E
+              RelayPending.row 𝓣 G5 1 19 0 4 ref6 ref0 life0 0 (λ x. x)
+              (Reads'.as-is 𝓤 H A (Mut.mslice RelayPending.row ref6 0)) (Reads'.room-gone 𝓤 H A ref0) Path.refl tt
               Path.refl Path.refl Path.refl λ b o. tt) d93
+
           d95 : Typed.Typed 𝓤 H A 𝓣 E G4 b64 Δ0 (at95 bs)
-          d95 = Typed.g-pre 𝓤 H A W 𝓣 E G4 G5 b64 Δ0 (λ Ψ. Ψ) (at94 bs) (Lifetime.g-begin 𝓤 H A W E G4 4 (tt, (tt, (tt, (tt, (tt, (tt, (tt, (tt, (tt,
-              (tt, (tt, (tt, (tt, (tt, (tt, (tt, (tt, (tt, (tt, (tt, (tt, (tt, (tt, (tt, (tt, (tt, (tt, (tt, (tt, (tt, (tt, (tt, (tt, (tt, (tt,
-              tt)),),),),),),),),),),),),),),),),),),),),),),),),),),),),),),),),),)) d94
+          d95 = Typed.g-pre 𝓤 H A W 𝓣 E G4 G5 b64 Δ0 (λ Ψ. Ψ) (at94 bs) (Lifetime.g-begin 𝓤 H A W E G4 4 (
+            tt,
+            (
+              tt,
+              (
+                tt,
+                (
+                  tt,
+                  (
+                    tt,
+                    (
+                      tt,
+                      (
+                        tt,
+                        (
+                          tt,
+                          (
+                            tt,
+                            (
+                              tt,
+                              (
+                                tt,
+                                (
+                                  tt,
+                                  (
+                                    tt,
+                                    (
+                                      tt,
+                                      (
+                                        tt,
+                                        (
+                                          tt,
+                                          (
+                                            tt,
+                                            (
+                                              tt,
+                                              (
+                                                tt,
+                                                (
+                                                  tt,
+                                                  (
+                                                    tt,
+                                                    (
+                                                      tt,
+                                                      (
+                                                        tt,
+                                                        (
+                                                          tt,
+                                                          (
+                                                            tt,
+                                                            (
+                                                              tt,
+                                                              (tt, (tt, (tt, (tt, (tt, (tt, (tt, (tt, (tt, tt))))))))),
+                                                            ),
+                                                          ),
+                                                        ),
+                                                      ),
+                                                    ),
+                                                  ),
+                                                ),
+                                              ),
+                                            ),
+                                          ),
+                                        ),
+                                      ),
+                                    ),
+                                  ),
+                                ),
+                              ),
+                            ),
+                          ),
+                        ),
+                      ),
+                    ),
+                  ),
+                ),
+              ),
+            ),
+          )) d94
+
           d96 : Typed.Typed 𝓤 H A 𝓣 E G3 b65 Δ0 (at96 bs)
-          d96 = Typed.s-seq 𝓤 H A W 𝓣 E G3 G4 b1 b64 Δ0 (Typed.both (s2 bs)) (at95 bs) (Plain.t-call-plain 𝓤 H A W 𝓣 0 ps·0 r·0 (claims· .0) (claims·
-              .1) "hnsr_circuit::question::used" (known .0) E (λ pos β. β) G3 tt 10 List.[] (Call.sub-id 𝓤 H A W (G3 .slots)) tt (Reads'.room-gone 𝓤 H
-              A Laws'''.mir) tt Path.refl) d95
+          d96 = Typed.s-seq 𝓤 H A W 𝓣 E G3 G4 b1 b64 Δ0 (Typed.both (s2 bs)) (at95 bs) (Plain.t-call-plain 𝓤 H A W 𝓣 0
+              ps·0 r·0 (claims· .0) (claims· .1) "hnsr_circuit::question::used" (known .0) E (λ pos β. β) G3 tt 10
+              List.[] (Call.sub-id 𝓤 H A W (G3 .slots)) tt (Reads'.room-gone 𝓤 H A Laws'''.mir) tt Path.refl) d95
+
           d97 : Typed.Typed 𝓤 H A 𝓣 E G2 b66 Δ0 (at97 bs)
-          d97 = Typed.s-seq 𝓤 H A W 𝓣 E G2 G3 b0 b65 Δ0 (Typed.both (s1 bs)) (at96 bs) (WayStmt.t-way-copy-out 𝓤 H A W E 𝓣 (Declared'.row
-              OpaqueRelayConfig.the-type) Path.refl (Copies.cStruct OpaqueRelayConfig.the-type Laws'.the-laws Laws'.the-copy .copy 𝓤 H A W) (λ ρ.
-              Unit) G2 (Row.out 5 (G2 .locals)) (λ u. Row.drop 5 (G2 .locals) u) (G2 .slots) 5 (λ t. (Syntax.field 4) ∷ t) Laws'.mir Laws'.mir 9
-              (Rows.whole (Declared'.row OpaqueRelayConfig.the-type)) (λ x. x) (λ u. At.getAt (OpaqueRelayRuntime.the-type .parts) 4
-              (OpaqueRelayRuntime.struct .as-values (u .1 .1 .1 .1 .1 .0))) (λ u. (Row.hd 0 (Row.tl (Row.tl (Row.tl (Row.tl (Row.tl bs))))), Nat._+_ 0
-              40)) (λ T′. record { locals = Row.setRow 5 (5, Rows.whole (Declared'.row OpaqueRelayRuntime.the-type)) T′; slots = G2 .slots; }) (λ u T′
-              m′. Row.set 5 (5, Rows.whole (Declared'.row OpaqueRelayRuntime.the-type)) (u .1 .1 .1 .1 .1 .0) T′ m′) (λ u. Unit) (λ x. Unit)
-              (Own.told-none 𝓤 H A (G2 .slots)) (DerefMove.learns-nothing 𝓤 H A (Declared'.row OpaqueRelayConfig.the-type)) (λ ρ told u asked.
-              Way'.w-partˢ 𝓤 H A W E (Declared'.row OpaqueRelayRuntime.the-type) (Declared'.row OpaqueRelayConfig.the-type) Laws''''''.mir Laws'.mir 4
-              40 (u .1 .1 .1 .1 .1 .0) (At.getAt (OpaqueRelayRuntime.the-type .parts) 4 (OpaqueRelayRuntime.struct .as-values (u .1 .1 .1 .1 .1 .0)))
-              (Row.hd 0 (Row.tl (Row.tl (Row.tl (Row.tl (Row.tl bs))))), 0) (Way.w-look 𝓤 H A W E (Way.w-local 𝓤 H A W E G2 ρ u (G2 .slots) 5
-              (Declared'.row OpaqueRelayRuntime.the-type) (Rows.whole (Declared'.row OpaqueRelayRuntime.the-type)) (λ x. x) (λ x. x) (u .1 .1 .1 .1 .1
-              .0) (Local.mem-whole 𝓤 H A W (Declared'.row OpaqueRelayRuntime.the-type) ρ (u .1 .1 .1 .1 .1 .0) (Row.hd 0 (Row.tl (Row.tl (Row.tl
-              (Row.tl (Row.tl bs))))))) (Local.whole-mem 𝓤 H A W (Declared'.row OpaqueRelayRuntime.the-type) ρ (u .1 .1 .1 .1 .1 .0) (Row.hd 0 (Row.tl
-              (Row.tl (Row.tl (Row.tl (Row.tl bs))))))))) Path.refl λ q. Inner.cut-record 𝓤 H A q (Declared'.row OpaqueRelayRuntime.the-type)
-              OpaqueRelayConfig.the-type 40 (u .1 .1 .1 .1 .1 .0) (u .1 .1 .1 .1 .1 .0) (At.getAt (OpaqueRelayRuntime.the-type .parts) 4
-              (OpaqueRelayRuntime.struct .as-values (u .1 .1 .1 .1 .1 .0))) (At.getAt (OpaqueRelayRuntime.the-type .parts) 4
-              (OpaqueRelayRuntime.struct .as-values (u .1 .1 .1 .1 .1 .0))) (Row.hd 0 (Row.tl (Row.tl (Row.tl (Row.tl (Row.tl bs))))), 0)
-              (Behind.look-at 𝓤 H A W q OpaqueRelayRuntime.the-type Laws''''''.the-laws 4 40 Path.refl Path.refl (Row.hd 0 (Row.tl (Row.tl (Row.tl
-              (Row.tl (Row.tl bs))))), 0) (u .1 .1 .1 .1 .1 .0) (OpaqueRelayRuntime.struct .as-values (u .1 .1 .1 .1 .1 .0)) Path.refl))
-              (Reads'.room-gone 𝓤 H A Laws'.mir) (Yields.makes-mem 𝓤 H A W (λ ρ. Unit) (Declared'.row OpaqueRelayConfig.the-type) Path.refl
-              (Rows.whole (Declared'.row OpaqueRelayConfig.the-type)) (λ x. x) λ ρ told. Local.whole-mem 𝓤 H A W (Declared'.row
-              OpaqueRelayConfig.the-type) ρ) Path.refl Path.refl Path.refl) d96
+          d97 = Typed.s-seq 𝓤 H A W 𝓣 E G2 G3 b0 b65 Δ0 (Typed.both (s1 bs)) (at96 bs) (WayStmt.t-way-copy-out 𝓤 H A W
+              E 𝓣 (Declared'.row OpaqueRelayConfig.the-type) Path.refl (Copies.cStruct OpaqueRelayConfig.the-type
+              Laws'.the-laws Laws'.the-copy .copy 𝓤 H A W) (λ ρ. Unit) G2 (Row.out 5 (G2 .locals))
+              (λ u. Row.drop 5 (G2 .locals) u) (G2 .slots) 5 (λ t. (Syntax.field 4) ∷ t) Laws'.mir Laws'.mir 9
+              (Rows.whole (Declared'.row OpaqueRelayConfig.the-type)) (λ x. x) (λ u. At.getAt
+              (OpaqueRelayRuntime.the-type .parts) 4 (OpaqueRelayRuntime.struct .as-values (u .1 .1 .1 .1 .1 .0))) (λ
+              u. (Row.hd 0 (Row.tl (Row.tl (Row.tl (Row.tl (Row.tl bs))))), Nat._+_ 0 40)) (λ T′.
+              record {
+                locals = Row.setRow 5 (5, Rows.whole (Declared'.row OpaqueRelayRuntime.the-type)) T′;
+                slots = G2 .slots;
+              }) (λ u T′ m′. Row.set 5 (5, Rows.whole (Declared'.row OpaqueRelayRuntime.the-type))
+              (u .1 .1 .1 .1 .1 .0) T′ m′) (λ u. Unit) (λ x. Unit) (Own.told-none 𝓤 H A (G2 .slots)) (DerefMove.learns-nothing
+              𝓤 H A (Declared'.row OpaqueRelayConfig.the-type)) (λ ρ told u asked. Way'.w-partˢ 𝓤 H A W E
+              (Declared'.row OpaqueRelayRuntime.the-type) (Declared'.row OpaqueRelayConfig.the-type) Laws''''''.mir
+              Laws'.mir 4 40 (u .1 .1 .1 .1 .1 .0) (At.getAt (OpaqueRelayRuntime.the-type .parts) 4 (OpaqueRelayRuntime.struct
+              .as-values (u .1 .1 .1 .1 .1 .0))) (Row.hd 0 (Row.tl (Row.tl (Row.tl (Row.tl (Row.tl bs))))), 0) (Way.w-look
+              𝓤 H A W E (Way.w-local 𝓤 H A W E G2 ρ u (G2 .slots) 5 (Declared'.row OpaqueRelayRuntime.the-type)
+              (Rows.whole (Declared'.row OpaqueRelayRuntime.the-type)) (λ x. x) (λ x. x) (u .1 .1 .1 .1 .1 .0) (Local.mem-whole
+              𝓤 H A W (Declared'.row OpaqueRelayRuntime.the-type) ρ (u .1 .1 .1 .1 .1 .0)
+              (Row.hd 0 (Row.tl (Row.tl (Row.tl (Row.tl (Row.tl bs))))))) (Local.whole-mem 𝓤 H A W
+              (Declared'.row OpaqueRelayRuntime.the-type) ρ (u .1 .1 .1 .1 .1 .0) (Row.hd 0
+              (Row.tl (Row.tl (Row.tl (Row.tl (Row.tl bs))))))))) Path.refl λ q. Inner.cut-record 𝓤 H A q
+              (Declared'.row OpaqueRelayRuntime.the-type) OpaqueRelayConfig.the-type 40 (u .1 .1 .1 .1 .1 .0)
+              (u .1 .1 .1 .1 .1 .0) (At.getAt (OpaqueRelayRuntime.the-type .parts) 4 (OpaqueRelayRuntime.struct
+              .as-values (u .1 .1 .1 .1 .1 .0))) (At.getAt (OpaqueRelayRuntime.the-type .parts) 4 (OpaqueRelayRuntime.struct
+              .as-values (u .1 .1 .1 .1 .1 .0))) (Row.hd 0 (Row.tl (Row.tl (Row.tl (Row.tl (Row.tl bs))))), 0) (Behind.look-at
+              𝓤 H A W q OpaqueRelayRuntime.the-type Laws''''''.the-laws 4 40 Path.refl Path.refl (
+                Row.hd 0 (Row.tl (Row.tl (Row.tl (Row.tl (Row.tl bs))))),
+                0,
+              ) (u .1 .1 .1 .1 .1 .0) (OpaqueRelayRuntime.struct .as-values (u .1 .1 .1 .1 .1 .0)) Path.refl))
+              (Reads'.room-gone 𝓤 H A Laws'.mir) (Yields.makes-mem 𝓤 H A W (λ ρ. Unit)
+              (Declared'.row OpaqueRelayConfig.the-type) Path.refl
+              (Rows.whole (Declared'.row OpaqueRelayConfig.the-type)) (λ x. x) λ ρ told. Local.whole-mem 𝓤 H A W
+              (Declared'.row OpaqueRelayConfig.the-type) ρ) Path.refl Path.refl Path.refl) d96
+
           d98 : Typed.Typed 𝓤 H A 𝓣 E G0 b66 Δ0 (at98 bs)
-          d98 = Typed.g-pre 𝓤 H A W 𝓣 E G0 G2 b66 Δ0 (Typed.give (s0 bs)) (at97 bs) (Know.g-sl-known 𝓤 H A W (Referent.fInt Syntax.w32) E G0 4 3 ref9
-              life3 0 (λ x. x) record { fits = Dec.lit< tt } (Reads'.as-is 𝓤 H A (Mut.mslice (Referent.rtF (Referent.fInt Syntax.w32)) ref9 3))
-              Path.refl tt) d97
-          pub typed : Typed.Typed 𝓤 H A 𝓣 E (Function.Γin 4 ps r xs m κs qs) b66 (Function.Δret 4 ps r xs m κs qs) (Φ bs)
+          d98 = Typed.g-pre 𝓤 H A W 𝓣 E G0 G2 b66 Δ0 (Typed.give (s0 bs)) (at97 bs) (Know.g-sl-known 𝓤 H A W
+              (Referent.fInt Syntax.w32) E G0 4 3 ref9 life3 0 (λ x. x) record { fits = Dec.lit< tt } (Reads'.as-is 𝓤 H
+              A (Mut.mslice (Referent.rtF (Referent.fInt Syntax.w32)) ref9 3)) Path.refl tt) d97
+
+          pub typed : Typed.Typed 𝓤 H A 𝓣 E (Function.Γin 4 ps r xs m κs qs) b66 (Function.Δret 4 ps r xs m κs qs)
+              (Φ bs)
           typed = d98
+
       module _ (κs : Lifetimes.Lfts 4) where
         pub record Args : Type 0 where
-          pub pending : Kinds.Den { n = 4 } κs (MutSlice.pMutS RelayPending.row 0 tt)
-          pub circuits : Kinds.Den { n = 4 } κs (MutSlice.pMutS RelayCircuit.row 1 tt)
-          pub inflight : Kinds.Den { n = 4 } κs (MutSlice.pMutS InflightAction.row 2 tt)
-          pub out : Kinds.Den { n = 4 } κs (MutSlice.pMutS (Referent.rtF (Referent.fInt Syntax.w32)) 3 tt)
-          pub runtime : Kinds.Den { n = 4 } κs (Value.pVal record { ty = Declared'.row OpaqueRelayRuntime.the-type; one = Path.refl; val =
-              Laws''''''''''.val OpaqueRelayRuntime.the-type Laws''''''.the-laws; tells = Laws''''''''''.tells OpaqueRelayRuntime.the-type
-              Laws''''''.the-laws; still = Laws''''''''''.still OpaqueRelayRuntime.the-type Laws''''''.the-copy Exit.yes; row = Rows.whole
-              (Declared'.row OpaqueRelayRuntime.the-type); rd = λ x. x; mk = λ x. x; } λ M 𝓤 H A W. record { copies = Laws''''''''''.copy
-              OpaqueRelayRuntime.the-type Laws''''''.the-copy 𝓤 H A W; lawful = Laws''''''''''.lawful OpaqueRelayRuntime.the-type Laws''''''.the-laws
-              𝓤 H A W; makes = Laws''''''''''.makes OpaqueRelayRuntime.the-type Laws''''''.the-plain 𝓤 H A; in-mem = Local.mem-whole 𝓤 H A W
-              (Declared'.row OpaqueRelayRuntime.the-type); of-mem = Local.whole-mem 𝓤 H A W (Declared'.row OpaqueRelayRuntime.the-type); })
-          pub places : Kinds.Den { n = 4 } κs (Value.pVal record { ty = Declared'.row Places.the-type; one = Path.refl; val = Laws''''''''''.val
-              Places.the-type Laws''.the-laws; tells = Laws''''''''''.tells Places.the-type Laws''.the-laws; still = Laws''''''''''.still
-              Places.the-type Laws''.the-copy Exit.yes; row = Rows.whole (Declared'.row Places.the-type); rd = λ x. x; mk = λ x. x; } λ M 𝓤 H A W.
-              record { copies = Laws''''''''''.copy Places.the-type Laws''.the-copy 𝓤 H A W; lawful = Laws''''''''''.lawful Places.the-type
-              Laws''.the-laws 𝓤 H A W; makes = Laws''''''''''.makes Places.the-type Laws''.the-plain 𝓤 H A; in-mem = Local.mem-whole 𝓤 H A W
-              (Declared'.row Places.the-type); of-mem = Local.whole-mem 𝓤 H A W (Declared'.row Places.the-type); })
-          pub expected-generation : Kinds.Den { n = 4 } κs (Num.pNum Syntax.w64)
-          pub enabled : Kinds.Den { n = 4 } κs Bool.pBool
+          pub pending : Kinds.Den {n = 4} κs (MutSlice.pMutS RelayPending.row 0 tt)
+          pub circuits : Kinds.Den {n = 4} κs (MutSlice.pMutS RelayCircuit.row 1 tt)
+          pub inflight : Kinds.Den {n = 4} κs (MutSlice.pMutS InflightAction.row 2 tt)
+          pub out : Kinds.Den {n = 4} κs (MutSlice.pMutS (Referent.rtF (Referent.fInt Syntax.w32)) 3 tt)
+          pub runtime : Kinds.Den {n = 4} κs (StructRow.param OpaqueRelayRuntime.the-type Laws''''''.the-laws
+              Laws''''''.the-copy Laws''''''.the-plain)
+          pub places : Kinds.Den {n = 4} κs (StructRow.param Places.the-type Laws''.the-laws Laws''.the-copy
+              Laws''.the-plain)
+          pub expected-generation : Kinds.Den {n = 4} κs (Num.pNum Syntax.w64)
+          pub enabled : Kinds.Den {n = 4} κs Bool.pBool
+
         abbrev pub dens : (a : Args) → Kinds.Dens κs ps
-        dens = λ a. (a .pending, (a .circuits, (a .inflight, (a .out, (a .runtime, (a .places, (a .expected-generation, (a .enabled, tt))))),),),)
+        dens = λ a. (
+          a .pending,
+          (
+            a .circuits,
+            (a .inflight, (a .out, (a .runtime, (a .places, (a .expected-generation, (a .enabled, tt)))))),
+          ),
+        )
+
         module _ (args· : Args) where
           pub record Ranges : Type 0 where
             pub expected-generation : Val.Fits Syntax.w64 (args· .expected-generation)
+
       abbrev pub m0 : (κs : Lifetimes.Lfts 4) → (args : Args κs) → (blocks : List.List Nat.ℕ) → Typed.Mo T0
       m0 = λ κs args blocks. (tt, Enter.partsP κs 1 ps xs (dens κs args))
+
       abbrev W0 : (κs : Lifetimes.Lfts 4) → (args : Args κs) → (blocks : List.List Nat.ℕ) → Typed.Want O0
-      W0 = λ κs args blocks. (λ u. ⊥, tt, λ u. Enter.Fixs κs 1 ps xs (dens κs args) (u .1) × Post· κs (dens κs args) (Function.resV r κs (u .0))
-          (Clauses.atExit (Kinds.endedOf 4 ps r) κs (dens κs args) (Enter.lastsP κs 1 ps xs (dens κs args) (u .1))),)
+      W0 = λ κs args blocks. (
+        λ u. ⊥,
+        tt,
+        λ u. Enter.Fixs κs 1 ps xs (dens κs args) (u .1) × Post· κs (dens κs args) (Function.resV r κs (u .0)) (Clauses.atExit
+            (Kinds.endedOf 4 ps r) κs (dens κs args) (Enter.lastsP κs 1 ps xs (dens κs args) (u .1))),
+      )
+
       pub record Start : Type 0 where
         pub κs : Lifetimes.Lfts 4
         pub args : Args κs
@@ -2218,871 +3834,1721 @@ module _ (claims· : Claims) where
         pub good : Kinds.GoodsP κs ps (dens κs args)
         pub fits : Ranges κs args
         pub pre : Pre· κs (dens κs args)
-      abbrev pub m1 : (before : Start) → (given : s0 (before .blocks) .gives (m0 (before .κs) (before .args) (before .blocks))) → Typed.Mo T2
+
+      abbrev pub m1 : (before : Start) → (given : s0 (before .blocks) .gives
+          (m0 (before .κs) (before .args) (before .blocks))) → Typed.Mo T2
       m1 = λ before given. s0 (before .blocks) .next (m0 (before .κs) (before .args) (before .blocks)) given
+
       module _ (before· : Start) where
         pub record After-slice-known·own : Type 0 where
           pub given : s0 (before· .blocks) .gives (m0 (before· .κs) (before· .args) (before· .blocks))
+
       pub record After-slice-known : Type 0 where
         pub before : Start
         pub slice-known : After-slice-known·own before
-      abbrev pub m2 : (before : After-slice-known) → (given : s1 (before .before .blocks) .gives (m1 (before .before) (before .slice-known .given))) →
-          Typed.Mo T3
+
+      abbrev pub m2 : (before : After-slice-known) → (given : s1 (before .before .blocks) .gives
+          (m1 (before .before) (before .slice-known .given))) → Typed.Mo T3
       m2 = λ before given. s1 (before .before .blocks) .next (m1 (before .before) (before .slice-known .given)) given
+
       module _ (before· : After-slice-known) where
         pub record After-config·own : Type 0 where
           pub given : s1 (before· .before .blocks) .gives (m1 (before· .before) (before· .slice-known .given))
+
       pub record After-config : Type 0 where
         pub before : After-slice-known
         pub config : After-config·own before
+
       abbrev pub Need-used-requires : Type 0
-      Need-used-requires = (c : After-config) → s2 (c .before .before .blocks) .asks (m2 (c .before) (c .config .given))
-      abbrev pub m3 : (before : After-config) → (given : s2 (before .before .before .blocks) .gives (m2 (before .before) (before .config .given))) →
-          Typed.Mo T4
-      m3 = λ before given. s2 (before .before .before .blocks) .next (m2 (before .before) (before .config .given)) given
+      Need-used-requires = (c : After-config) → s2 (c .before .before .blocks) .asks
+          (m2 (c .before) (c .config .given))
+
+      abbrev pub m3 : (before : After-config) → (given : s2 (before .before .before .blocks) .gives
+          (m2 (before .before) (before .config .given))) → Typed.Mo T4
+      m3 = λ before given. s2 (before .before .before .blocks) .next (m2 (before .before) (before .config .given))
+          given
+
       module _ (before· : After-config) where
         abbrev pub After-used·own : Type 0
         After-used·own = Called.Called ps·0 r·0 (claims· .1) T3 tt (m2 (before· .before) (before· .config .given))
+
       pub record After-used : Type 0 where
         pub before : After-config
         pub used : After-used·own before
-      abbrev pub After-used·gave : (c : After-used) → s2 (c .before .before .before .blocks) .gives (m2 (c .before .before) (c .before .config
-          .given))
-      After-used·gave = λ c. Called.given ps·0 r·0 (claims· .1) T3 tt (m2 (c .before .before) (c .before .config .given)) (c .used)
-      abbrev pub m4 : (before : After-used) → (given : s4 (before .before .before .before .blocks) .gives (m3 (before .before) (After-used·gave
-          before))) → Typed.Mo T6
-      m4 = λ before given. s4 (before .before .before .before .blocks) .next (m3 (before .before) (After-used·gave before)) given
-      abbrev pub m5 : (before : After-used) → (given : s4 (before .before .before .before .blocks) .gives (m3 (before .before) (After-used·gave
-          before))) → Typed.Mo T7
+
+      abbrev pub After-used·gave : (c : After-used) → s2 (c .before .before .before .blocks) .gives
+          (m2 (c .before .before) (c .before .config .given))
+      After-used·gave = λ c. Called.given ps·0 r·0 (claims· .1) T3 tt
+          (m2 (c .before .before) (c .before .config .given)) (c .used)
+
+      abbrev pub m4 : (before : After-used) → (given : s4 (before .before .before .before .blocks) .gives
+          (m3 (before .before) (After-used·gave before))) → Typed.Mo T6
+      m4 = λ before given. s4 (before .before .before .before .blocks) .next
+          (m3 (before .before) (After-used·gave before)) given
+
+      abbrev pub m5 : (before : After-used) → (given : s4 (before .before .before .before .blocks) .gives
+          (m3 (before .before) (After-used·gave before))) → Typed.Mo T7
       m5 = λ before given. s5 (before .before .before .before .blocks) .next (m4 before given)
+
       module _ (before· : After-used) where
         pub record After-entry-answer-arg·own : Type 0 where
-          pub given : s4 (before· .before .before .before .blocks) .gives (m3 (before· .before) (After-used·gave before·))
+          pub given : s4 (before· .before .before .before .blocks) .gives
+              (m3 (before· .before) (After-used·gave before·))
+
       pub record After-entry-answer-arg : Type 0 where
         pub before : After-used
         pub entry-answer-arg : After-entry-answer-arg·own before
-      abbrev pub m6 : (before : After-entry-answer-arg) → (given : s7 (before .before .before .before .before .blocks) .gives (m5 (before .before)
-          (before .entry-answer-arg .given))) → Typed.Mo T9
-      m6 = λ before given. s7 (before .before .before .before .before .blocks) .next (m5 (before .before) (before .entry-answer-arg .given)) given
-      abbrev pub m7 : (before : After-entry-answer-arg) → (given : s7 (before .before .before .before .before .blocks) .gives (m5 (before .before)
-          (before .entry-answer-arg .given))) → Typed.Mo T10
+
+      abbrev pub m6 : (before : After-entry-answer-arg) → (given : s7 (before .before .before .before .before .blocks)
+          .gives (m5 (before .before) (before .entry-answer-arg .given))) → Typed.Mo T9
+      m6 = λ before given. s7 (before .before .before .before .before .blocks) .next
+          (m5 (before .before) (before .entry-answer-arg .given)) given
+
+      abbrev pub m7 : (before : After-entry-answer-arg) → (given : s7 (before .before .before .before .before .blocks)
+          .gives (m5 (before .before) (before .entry-answer-arg .given))) → Typed.Mo T10
       m7 = λ before given. s8 (before .before .before .before .before .blocks) .next (m6 before given)
-      abbrev pub m8 : (before : After-entry-answer-arg) → (given : s7 (before .before .before .before .before .blocks) .gives (m5 (before .before)
-          (before .entry-answer-arg .given))) → Typed.Mo T11
+
+      abbrev pub m8 : (before : After-entry-answer-arg) → (given : s7 (before .before .before .before .before .blocks)
+          .gives (m5 (before .before) (before .entry-answer-arg .given))) → Typed.Mo T11
       m8 = λ before given. s9 (before .before .before .before .before .blocks) (m7 before given)
-      abbrev pub m9 : (before : After-entry-answer-arg) → (given : s7 (before .before .before .before .before .blocks) .gives (m5 (before .before)
-          (before .entry-answer-arg .given))) → Typed.Mo T12
+
+      abbrev pub m9 : (before : After-entry-answer-arg) → (given : s7 (before .before .before .before .before .blocks)
+          .gives (m5 (before .before) (before .entry-answer-arg .given))) → Typed.Mo T12
       m9 = λ before given. s10 (before .before .before .before .before .blocks) (m8 before given)
+
       module _ (before· : After-entry-answer-arg) where
         pub record After-entry-answer-arg2·own : Type 0 where
-          pub given : s7 (before· .before .before .before .before .blocks) .gives (m5 (before· .before) (before· .entry-answer-arg .given))
+          pub given : s7 (before· .before .before .before .before .blocks) .gives
+              (m5 (before· .before) (before· .entry-answer-arg .given))
+
       pub record After-entry-answer-arg2 : Type 0 where
         pub before : After-entry-answer-arg
         pub entry-answer-arg2 : After-entry-answer-arg2·own before
+
       abbrev pub Need-entry-answer-requires : Type 0
-      Need-entry-answer-requires = (c : After-entry-answer-arg2) → s11 (c .before .before .before .before .before .blocks) .asks (m9 (c .before) (c
-          .entry-answer-arg2 .given))
-      abbrev pub m10 : (before : After-entry-answer-arg2) → (given : s11 (before .before .before .before .before .before .blocks) .gives (m9 (before
-          .before) (before .entry-answer-arg2 .given))) → Typed.Mo T13
-      m10 = λ before given. s11 (before .before .before .before .before .before .blocks) .next (m9 (before .before) (before .entry-answer-arg2
-          .given)) given
+      Need-entry-answer-requires = (c : After-entry-answer-arg2) → s11
+          (c .before .before .before .before .before .blocks) .asks (m9 (c .before) (c .entry-answer-arg2 .given))
+
+      abbrev pub m10 : (before : After-entry-answer-arg2) → (given : s11
+          (before .before .before .before .before .before .blocks) .gives
+          (m9 (before .before) (before .entry-answer-arg2 .given))) → Typed.Mo T13
+      m10 = λ before given. s11 (before .before .before .before .before .before .blocks) .next
+          (m9 (before .before) (before .entry-answer-arg2 .given)) given
+
       module _ (before· : After-entry-answer-arg2) where
         abbrev pub After-entry-answer·own : Type 0
-        After-entry-answer·own = Called.Called ps·1 r·1 (claims· .3) T12 (record { pos = 20; ty = Syntax.tyRef Syntax.erased Syntax.imm
-            RelayPending.to; ref = λ x. x; }, (record { pos = 22; ty = Syntax.tyRef Syntax.erased Syntax.imm RelayCircuit.to; ref = λ x. x; }, (record
-            { pos = 6; st = List.[]; d = 0; at = λ x. x }, (Num.vAt 23 λ x. x, (Num.vAt 24 λ x. x, (record { pos = 9; st = List.[]; d = 0; at = λ x. x
-            }, (record { pos = 10; st = List.[]; d = 0; at = λ x. x }, tt),),),),),),) (m9 (before· .before) (before· .entry-answer-arg2 .given))
+        After-entry-answer·own = Called.Called ps·1 r·1 (claims· .3) T12 (
+          record { pos = 20; ty = ref0; ref = λ x. x },
+          (
+            record { pos = 22; ty = ref1; ref = λ x. x },
+            (
+              record { pos = 6; st = List.[]; d = 0; at = λ x. x },
+              (
+                Num.vAt 23 λ x. x,
+                (
+                  Num.vAt 24 λ x. x,
+                  (
+                    record { pos = 9; st = List.[]; d = 0; at = λ x. x },
+                    (record { pos = 10; st = List.[]; d = 0; at = λ x. x }, tt),
+                  ),
+                ),
+              ),
+            ),
+          ),
+        ) (m9 (before· .before) (before· .entry-answer-arg2 .given))
+
       pub record After-entry-answer : Type 0 where
         pub before : After-entry-answer-arg2
         pub entry-answer : After-entry-answer·own before
-      abbrev pub After-entry-answer·gave : (c : After-entry-answer) → s11 (c .before .before .before .before .before .before .blocks) .gives (m9 (c
-          .before .before) (c .before .entry-answer-arg2 .given))
-      After-entry-answer·gave = λ c. Called.given ps·1 r·1 (claims· .3) T12 (record { pos = 20; ty = Syntax.tyRef Syntax.erased Syntax.imm
-          RelayPending.to; ref = λ x. x; }, (record { pos = 22; ty = Syntax.tyRef Syntax.erased Syntax.imm RelayCircuit.to; ref = λ x. x; }, (record {
-          pos = 6; st = List.[]; d = 0; at = λ x. x }, (Num.vAt 23 λ x. x, (Num.vAt 24 λ x. x, (record { pos = 9; st = List.[]; d = 0; at = λ x. x },
-          (record { pos = 10; st = List.[]; d = 0; at = λ x. x }, tt),),),),),),) (m9 (c .before .before) (c .before .entry-answer-arg2 .given)) (c
-          .entry-answer)
-      abbrev pub m11 : (before : After-entry-answer-arg2) → (given : s11 (before .before .before .before .before .before .blocks) .gives (m9 (before
-          .before) (before .entry-answer-arg2 .given))) → Typed.Mo T14
+
+      abbrev pub After-entry-answer·gave : (c : After-entry-answer) → s11
+          (c .before .before .before .before .before .before .blocks) .gives (m9 (c .before .before)
+          (c .before .entry-answer-arg2 .given))
+      After-entry-answer·gave = λ c. Called.given ps·1 r·1 (claims· .3) T12 (
+        record { pos = 20; ty = ref0; ref = λ x. x },
+        (
+          record { pos = 22; ty = ref1; ref = λ x. x },
+          (
+            record { pos = 6; st = List.[]; d = 0; at = λ x. x },
+            (
+              Num.vAt 23 λ x. x,
+              (
+                Num.vAt 24 λ x. x,
+                (
+                  record { pos = 9; st = List.[]; d = 0; at = λ x. x },
+                  (record { pos = 10; st = List.[]; d = 0; at = λ x. x }, tt),
+                ),
+              ),
+            ),
+          ),
+        ),
+      ) (m9 (c .before .before) (c .before .entry-answer-arg2 .given)) (c .entry-answer)
+
+      abbrev pub m11 : (before : After-entry-answer-arg2) → (given : s11
+          (before .before .before .before .before .before .blocks) .gives
+          (m9 (before .before) (before .entry-answer-arg2 .given))) → Typed.Mo T14
       m11 = λ before given. s12 (before .before .before .before .before .before .blocks) (m10 before given)
-      abbrev pub m12 : (before : After-entry-answer-arg2) → (given : s11 (before .before .before .before .before .before .blocks) .gives (m9 (before
-          .before) (before .entry-answer-arg2 .given))) → Typed.Mo T15
+
+      abbrev pub m12 : (before : After-entry-answer-arg2) → (given : s11
+          (before .before .before .before .before .before .blocks) .gives
+          (m9 (before .before) (before .entry-answer-arg2 .given))) → Typed.Mo T15
       m12 = λ before given. s13 (before .before .before .before .before .before .blocks) (m11 before given)
-      abbrev pub m13 : (before : After-entry-answer-arg2) → (given : s11 (before .before .before .before .before .before .blocks) .gives (m9 (before
-          .before) (before .entry-answer-arg2 .given))) → Typed.Mo T16
+
+      abbrev pub m13 : (before : After-entry-answer-arg2) → (given : s11
+          (before .before .before .before .before .before .blocks) .gives
+          (m9 (before .before) (before .entry-answer-arg2 .given))) → Typed.Mo T16
       m13 = λ before given. s14 (before .before .before .before .before .before .blocks) (m12 before given)
-      abbrev pub m14 : (before : After-entry-answer-arg2) → (given : s11 (before .before .before .before .before .before .blocks) .gives (m9 (before
-          .before) (before .entry-answer-arg2 .given))) → Typed.Mo T17
+
+      abbrev pub m14 : (before : After-entry-answer-arg2) → (given : s11
+          (before .before .before .before .before .before .blocks) .gives
+          (m9 (before .before) (before .entry-answer-arg2 .given))) → Typed.Mo T17
       m14 = λ before given. s15 (before .before .before .before .before .before .blocks) (m13 before given)
-      abbrev pub m15 : (before : After-entry-answer-arg2) → (given : s11 (before .before .before .before .before .before .blocks) .gives (m9 (before
-          .before) (before .entry-answer-arg2 .given))) → Typed.Mo T18
+
+      abbrev pub m15 : (before : After-entry-answer-arg2) → (given : s11
+          (before .before .before .before .before .before .blocks) .gives
+          (m9 (before .before) (before .entry-answer-arg2 .given))) → Typed.Mo T18
       m15 = λ before given. s16 (before .before .before .before .before .before .blocks) (m14 before given)
-      abbrev pub m16 : (before : After-entry-answer-arg2) → (given : s11 (before .before .before .before .before .before .blocks) .gives (m9 (before
-          .before) (before .entry-answer-arg2 .given))) → Typed.Mo T19
+
+      abbrev pub m16 : (before : After-entry-answer-arg2) → (given : s11
+          (before .before .before .before .before .before .blocks) .gives
+          (m9 (before .before) (before .entry-answer-arg2 .given))) → Typed.Mo T19
       m16 = λ before given. s17 (before .before .before .before .before .before .blocks) (m15 before given)
-      abbrev pub m17 : (before : After-entry-answer-arg2) → (given : s11 (before .before .before .before .before .before .blocks) .gives (m9 (before
-          .before) (before .entry-answer-arg2 .given))) → Typed.Mo T21
+
+      abbrev pub m17 : (before : After-entry-answer-arg2) → (given : s11
+          (before .before .before .before .before .before .blocks) .gives
+          (m9 (before .before) (before .entry-answer-arg2 .given))) → Typed.Mo T21
       m17 = λ before given. s19 (before .before .before .before .before .before .blocks) (m16 before given)
-      abbrev pub m18 : (before : After-entry-answer-arg2) → (given : s11 (before .before .before .before .before .before .blocks) .gives (m9 (before
-          .before) (before .entry-answer-arg2 .given))) → Typed.Mo T24
+
+      abbrev pub m18 : (before : After-entry-answer-arg2) → (given : s11
+          (before .before .before .before .before .before .blocks) .gives
+          (m9 (before .before) (before .entry-answer-arg2 .given))) → Typed.Mo T24
       m18 = λ before given. s22 (before .before .before .before .before .before .blocks) (m17 before given)
-      abbrev pub m19 : (before : After-entry-answer-arg2) → (given : s11 (before .before .before .before .before .before .blocks) .gives (m9 (before
-          .before) (before .entry-answer-arg2 .given))) → Typed.Mo T26
+
+      abbrev pub m19 : (before : After-entry-answer-arg2) → (given : s11
+          (before .before .before .before .before .before .blocks) .gives
+          (m9 (before .before) (before .entry-answer-arg2 .given))) → Typed.Mo T26
       m19 = λ before given. s24 (before .before .before .before .before .before .blocks) (m18 before given)
-      abbrev pub m20 : (before : After-entry-answer) → (given : s25 (before .before .before .before .before .before .before .blocks) .gives (m19
-          (before .before) (After-entry-answer·gave before))) → Typed.Mo T27
-      m20 = λ before given. s25 (before .before .before .before .before .before .before .blocks) .next (m19 (before .before) (After-entry-answer·gave
-          before)) given
-      abbrev pub m21 : (before : After-entry-answer) → (given : s25 (before .before .before .before .before .before .before .blocks) .gives (m19
-          (before .before) (After-entry-answer·gave before))) → Typed.Mo T28
+
+      abbrev pub m20 : (before : After-entry-answer) → (given : s25 (before .before .before .before .before .before
+          .before .blocks) .gives (m19 (before .before) (After-entry-answer·gave before))) → Typed.Mo T27
+      m20 = λ before given. s25 (before .before .before .before .before .before .before .blocks) .next
+          (m19 (before .before) (After-entry-answer·gave before)) given
+
+      abbrev pub m21 : (before : After-entry-answer) → (given : s25 (before .before .before .before .before .before
+          .before .blocks) .gives (m19 (before .before) (After-entry-answer·gave before))) → Typed.Mo T28
       m21 = λ before given. s26 (before .before .before .before .before .before .before .blocks) (m20 before given)
+
       module _ (before· : After-entry-answer) where
         pub record After-first·own : Type 0 where
-          pub given : s25 (before· .before .before .before .before .before .before .blocks) .gives (m19 (before· .before) (After-entry-answer·gave
-              before·))
+          pub given : s25 (before· .before .before .before .before .before .before .blocks) .gives
+              (m19 (before· .before) (After-entry-answer·gave before·))
+
       pub record After-first : Type 0 where
         pub before : After-entry-answer
         pub first : After-first·own before
+
       abbrev pub Need-generation-answer-requires : Type 0
-      Need-generation-answer-requires = (c : After-first) → s27 (c .before .before .before .before .before .before .before .blocks) .asks (m21 (c
-          .before) (c .first .given))
-      abbrev pub m22 : (before : After-first) → (given : s27 (before .before .before .before .before .before .before .before .blocks) .gives (m21
-          (before .before) (before .first .given))) → Typed.Mo T29
-      m22 = λ before given. s27 (before .before .before .before .before .before .before .before .blocks) .next (m21 (before .before) (before .first
-          .given)) given
+      Need-generation-answer-requires = (c : After-first) → s27 (c .before .before .before .before .before .before
+          .before .blocks) .asks (m21 (c .before) (c .first .given))
+
+      abbrev pub m22 : (before : After-first) → (given : s27 (before .before .before .before .before .before .before
+          .before .blocks) .gives (m21 (before .before) (before .first .given))) → Typed.Mo T29
+      m22 = λ before given. s27 (before .before .before .before .before .before .before .before .blocks) .next
+          (m21 (before .before) (before .first .given)) given
+
       module _ (before· : After-first) where
         abbrev pub After-generation-answer·own : Type 0
-        After-generation-answer·own = Called.Called ps·2 r·2 (claims· .5) T28 (Num.vFld 5 ((Syntax.field 1) ∷ List.[]) 16 λ x.
-            OpaqueRelayRuntime.struct .as-values x .1 .0, (Num.vAt 7 λ x. x, tt),) (m21 (before· .before) (before· .first .given))
+        After-generation-answer·own = Called.Called ps·2 r·2 (claims· .5) T28 (
+          Num.vFld 5 ((Syntax.field 1) ∷ List.[]) 16 λ x. OpaqueRelayRuntime.struct .as-values x .1 .0,
+          (Num.vAt 7 λ x. x, tt),
+        ) (m21 (before· .before) (before· .first .given))
+
       pub record After-generation-answer : Type 0 where
         pub before : After-first
         pub generation-answer : After-generation-answer·own before
-      abbrev pub After-generation-answer·gave : (c : After-generation-answer) → s27 (c .before .before .before .before .before .before .before .before
-          .blocks) .gives (m21 (c .before .before) (c .before .first .given))
-      After-generation-answer·gave = λ c. Called.given ps·2 r·2 (claims· .5) T28 (Num.vFld 5 ((Syntax.field 1) ∷ List.[]) 16 λ x.
-          OpaqueRelayRuntime.struct .as-values x .1 .0, (Num.vAt 7 λ x. x, tt),) (m21 (c .before .before) (c .before .first .given)) (c
-          .generation-answer)
+
+      abbrev pub After-generation-answer·gave : (c : After-generation-answer) → s27 (c .before .before .before .before
+          .before .before .before .before .blocks) .gives (m21 (c .before .before) (c .before .first .given))
+      After-generation-answer·gave = λ c. Called.given ps·2 r·2 (claims· .5) T28 (
+        Num.vFld 5 ((Syntax.field 1) ∷ List.[]) 16 λ x. OpaqueRelayRuntime.struct .as-values x .1 .0,
+        (Num.vAt 7 λ x. x, tt),
+      ) (m21 (c .before .before) (c .before .first .given)) (c .generation-answer)
+
       abbrev pub Need-changed-requires : Type 0
-      Need-changed-requires = (c : After-generation-answer) → s28 (c .before .before .before .before .before .before .before .before .blocks) .asks
-          (m22 (c .before) (After-generation-answer·gave c))
-      abbrev pub m23 : (before : After-generation-answer) → (given : s28 (before .before .before .before .before .before .before .before .before
-          .blocks) .gives (m22 (before .before) (After-generation-answer·gave before))) → Typed.Mo T30
-      m23 = λ before given. s28 (before .before .before .before .before .before .before .before .before .blocks) .next (m22 (before .before)
-          (After-generation-answer·gave before)) given
+      Need-changed-requires = (c : After-generation-answer) → s28 (c .before .before .before .before .before .before
+          .before .before .blocks) .asks (m22 (c .before) (After-generation-answer·gave c))
+
+      abbrev pub m23 : (before : After-generation-answer) → (given : s28 (before .before .before .before .before
+          .before .before .before .before .blocks) .gives (m22 (before .before) (After-generation-answer·gave before)))
+          → Typed.Mo T30
+      m23 = λ before given. s28 (before .before .before .before .before .before .before .before .before .blocks) .next (m22
+          (before .before) (After-generation-answer·gave before)) given
+
       module _ (before· : After-generation-answer) where
         abbrev pub After-changed·own : Type 0
-        After-changed·own = Called.Called ps·3 r·3 (claims· .7) T29 (Bool.bFld 5 ((Syntax.field 2) ∷ List.[]) 24 λ x. OpaqueRelayRuntime.struct
-            .as-values x .1 .1 .0, (Bool.bAt 8 λ x. x, tt),) (m22 (before· .before) (After-generation-answer·gave before·))
+        After-changed·own = Called.Called ps·3 r·3 (claims· .7) T29 (
+          Bool.bFld 5 ((Syntax.field 2) ∷ List.[]) 24 λ x. OpaqueRelayRuntime.struct .as-values x .1 .1 .0,
+          (Bool.bAt 8 λ x. x, tt),
+        ) (m22 (before· .before) (After-generation-answer·gave before·))
+
       pub record After-changed : Type 0 where
         pub before : After-generation-answer
         pub changed : After-changed·own before
-      abbrev pub After-changed·gave : (c : After-changed) → s28 (c .before .before .before .before .before .before .before .before .before .blocks)
-          .gives (m22 (c .before .before) (After-generation-answer·gave (c .before)))
-      After-changed·gave = λ c. Called.given ps·3 r·3 (claims· .7) T29 (Bool.bFld 5 ((Syntax.field 2) ∷ List.[]) 24 λ x. OpaqueRelayRuntime.struct
-          .as-values x .1 .1 .0, (Bool.bAt 8 λ x. x, tt),) (m22 (c .before .before) (After-generation-answer·gave (c .before))) (c .changed)
+
+      abbrev pub After-changed·gave : (c : After-changed) → s28 (c .before .before .before .before .before .before
+          .before .before .before .blocks) .gives (m22 (c .before .before) (After-generation-answer·gave (c .before)))
+      After-changed·gave = λ c. Called.given ps·3 r·3 (claims· .7) T29 (
+        Bool.bFld 5 ((Syntax.field 2) ∷ List.[]) 24 λ x. OpaqueRelayRuntime.struct .as-values x .1 .1 .0,
+        (Bool.bAt 8 λ x. x, tt),
+      ) (m22 (c .before .before) (After-generation-answer·gave (c .before))) (c .changed)
+
       abbrev pub Need-change-answer-requires : Type 0
-      Need-change-answer-requires = (c : After-changed) → s29 (c .before .before .before .before .before .before .before .before .before .blocks)
-          .asks (m23 (c .before) (After-changed·gave c))
-      abbrev pub m24 : (before : After-changed) → (given : s29 (before .before .before .before .before .before .before .before .before .before
-          .blocks) .gives (m23 (before .before) (After-changed·gave before))) → Typed.Mo T31
-      m24 = λ before given. s29 (before .before .before .before .before .before .before .before .before .before .blocks) .next (m23 (before .before)
-          (After-changed·gave before)) given
+      Need-change-answer-requires = (c : After-changed) → s29 (c .before .before .before .before .before .before
+          .before .before .before .blocks) .asks (m23 (c .before) (After-changed·gave c))
+
+      abbrev pub m24 : (before : After-changed) → (given : s29 (before .before .before .before .before .before .before
+          .before .before .before .blocks) .gives (m23 (before .before) (After-changed·gave before))) → Typed.Mo T31
+      m24 = λ before given. s29 (before .before .before .before .before .before .before .before .before .before .blocks)
+          .next (m23 (before .before) (After-changed·gave before)) given
+
       module _ (before· : After-changed) where
         abbrev pub After-change-answer·own : Type 0
-        After-change-answer·own = Called.Called ps·4 r·4 (claims· .9) T30 (Num.vFld 5 ((Syntax.field 1) ∷ List.[]) 16 λ x. OpaqueRelayRuntime.struct
-            .as-values x .1 .0, (Bool.bAt 15 λ x. x, tt),) (m23 (before· .before) (After-changed·gave before·))
+        After-change-answer·own = Called.Called ps·4 r·4 (claims· .9) T30 (
+          Num.vFld 5 ((Syntax.field 1) ∷ List.[]) 16 λ x. OpaqueRelayRuntime.struct .as-values x .1 .0,
+          (Bool.bAt 15 λ x. x, tt),
+        ) (m23 (before· .before) (After-changed·gave before·))
+
       pub record After-change-answer : Type 0 where
         pub before : After-changed
         pub change-answer : After-change-answer·own before
-      abbrev pub After-change-answer·gave : (c : After-change-answer) → s29 (c .before .before .before .before .before .before .before .before .before
-          .before .blocks) .gives (m23 (c .before .before) (After-changed·gave (c .before)))
-      After-change-answer·gave = λ c. Called.given ps·4 r·4 (claims· .9) T30 (Num.vFld 5 ((Syntax.field 1) ∷ List.[]) 16 λ x.
-          OpaqueRelayRuntime.struct .as-values x .1 .0, (Bool.bAt 15 λ x. x, tt),) (m23 (c .before .before) (After-changed·gave (c .before))) (c
-          .change-answer)
+
+      abbrev pub After-change-answer·gave : (c : After-change-answer) → s29 (c .before .before .before .before .before
+          .before .before .before .before .before .blocks) .gives
+          (m23 (c .before .before) (After-changed·gave (c .before)))
+      After-change-answer·gave = λ c. Called.given ps·4 r·4 (claims· .9) T30 (
+        Num.vFld 5 ((Syntax.field 1) ∷ List.[]) 16 λ x. OpaqueRelayRuntime.struct .as-values x .1 .0,
+        (Bool.bAt 15 λ x. x, tt),
+      ) (m23 (c .before .before) (After-changed·gave (c .before))) (c .change-answer)
+
       abbrev pub Need-first-refusal-requires : Type 0
-      Need-first-refusal-requires = (c : After-change-answer) → s30 (c .before .before .before .before .before .before .before .before .before .before
-          .blocks) .asks (m24 (c .before) (After-change-answer·gave c))
-      abbrev pub m25 : (before : After-change-answer) → (given : s30 (before .before .before .before .before .before .before .before .before .before
-          .before .blocks) .gives (m24 (before .before) (After-change-answer·gave before))) → Typed.Mo T32
-      m25 = λ before given. s30 (before .before .before .before .before .before .before .before .before .before .before .blocks) .next (m24 (before
-          .before) (After-change-answer·gave before)) given
+      Need-first-refusal-requires = (c : After-change-answer) → s30 (c .before .before .before .before .before .before
+          .before .before .before .before .blocks) .asks (m24 (c .before) (After-change-answer·gave c))
+
+      abbrev pub m25 : (before : After-change-answer) → (given : s30 (before .before .before .before .before .before
+          .before .before .before .before .before .blocks) .gives
+          (m24 (before .before) (After-change-answer·gave before))) → Typed.Mo T32
+      m25 = λ before given. s30 (before .before .before .before .before .before .before .before .before .before .before
+          .blocks) .next (m24 (before .before) (After-change-answer·gave before)) given
+
       module _ (before· : After-change-answer) where
         abbrev pub After-first-refusal·own : Type 0
-        After-first-refusal·own = Called.Called ps·5 r·5 (claims· .11) T31 (record { pos = 14; st = List.[]; d = 0; at = λ x. x }, (record { pos = 16;
-            st = List.[]; d = 0; at = λ x. x }, tt),) (m24 (before· .before) (After-change-answer·gave before·))
+        After-first-refusal·own = Called.Called ps·5 r·5 (claims· .11) T31 (
+          record { pos = 14; st = List.[]; d = 0; at = λ x. x },
+          (record { pos = 16; st = List.[]; d = 0; at = λ x. x }, tt),
+        ) (m24 (before· .before) (After-change-answer·gave before·))
+
       pub record After-first-refusal : Type 0 where
         pub before : After-change-answer
         pub first-refusal : After-first-refusal·own before
-      abbrev pub After-first-refusal·gave : (c : After-first-refusal) → s30 (c .before .before .before .before .before .before .before .before .before
-          .before .before .blocks) .gives (m24 (c .before .before) (After-change-answer·gave (c .before)))
-      After-first-refusal·gave = λ c. Called.given ps·5 r·5 (claims· .11) T31 (record { pos = 14; st = List.[]; d = 0; at = λ x. x }, (record { pos =
-          16; st = List.[]; d = 0; at = λ x. x }, tt),) (m24 (c .before .before) (After-change-answer·gave (c .before))) (c .first-refusal)
-      abbrev pub m26 : (before : After-change-answer) → (given : s30 (before .before .before .before .before .before .before .before .before .before
-          .before .blocks) .gives (m24 (before .before) (After-change-answer·gave before))) → Typed.Mo T33
-      m26 = λ before given. s31 (before .before .before .before .before .before .before .before .before .before .before .blocks) (m25 before given)
-      abbrev pub m27 : (before : After-change-answer) → (given : s30 (before .before .before .before .before .before .before .before .before .before
-          .before .blocks) .gives (m24 (before .before) (After-change-answer·gave before))) → Typed.Mo T34
-      m27 = λ before given. s32 (before .before .before .before .before .before .before .before .before .before .before .blocks) (m26 before given)
+
+      abbrev pub After-first-refusal·gave : (c : After-first-refusal) → s30 (c .before .before .before .before .before
+          .before .before .before .before .before .before .blocks) .gives (m24 (c .before .before)
+          (After-change-answer·gave (c .before)))
+      After-first-refusal·gave = λ c. Called.given ps·5 r·5 (claims· .11) T31 (
+        record { pos = 14; st = List.[]; d = 0; at = λ x. x },
+        (record { pos = 16; st = List.[]; d = 0; at = λ x. x }, tt),
+      ) (m24 (c .before .before) (After-change-answer·gave (c .before))) (c .first-refusal)
+
+      abbrev pub m26 : (before : After-change-answer) → (given : s30 (before .before .before .before .before .before
+          .before .before .before .before .before .blocks) .gives
+          (m24 (before .before) (After-change-answer·gave before))) → Typed.Mo T33
+      m26 = λ before given. s31 (before .before .before .before .before .before .before .before .before .before .before
+          .blocks) (m25 before given)
+
+      abbrev pub m27 : (before : After-change-answer) → (given : s30 (before .before .before .before .before .before
+          .before .before .before .before .before .blocks) .gives
+          (m24 (before .before) (After-change-answer·gave before))) → Typed.Mo T34
+      m27 = λ before given. s32 (before .before .before .before .before .before .before .before .before .before .before
+          .blocks) (m26 before given)
+
       abbrev pub Need-first-refusal-requires-2 : Type 0
-      Need-first-refusal-requires-2 = (c : After-first-refusal) → s33 (c .before .before .before .before .before .before .before .before .before
-          .before .before .blocks) .asks (m27 (c .before) (After-first-refusal·gave c))
-      abbrev pub m28 : (before : After-first-refusal) → (given : s33 (before .before .before .before .before .before .before .before .before .before
-          .before .before .blocks) .gives (m27 (before .before) (After-first-refusal·gave before))) → Typed.Mo T35
-      m28 = λ before given. s33 (before .before .before .before .before .before .before .before .before .before .before .before .blocks) .next (m27
-          (before .before) (After-first-refusal·gave before)) given
+      Need-first-refusal-requires-2 = (c : After-first-refusal) → s33 (c .before .before .before .before .before
+          .before .before .before .before .before .before .blocks) .asks (m27 (c .before) (After-first-refusal·gave c))
+
+      abbrev pub m28 : (before : After-first-refusal) → (given : s33 (before .before .before .before .before .before
+          .before .before .before .before .before .before .blocks) .gives
+          (m27 (before .before) (After-first-refusal·gave before))) → Typed.Mo T35
+      m28 = λ before given. s33 (before .before .before .before .before .before .before .before .before .before .before
+          .before .blocks) .next (m27 (before .before) (After-first-refusal·gave before)) given
+
       module _ (before· : After-first-refusal) where
         abbrev pub After-first-refusal2·own : Type 0
-        After-first-refusal2·own = Called.Called ps·5 r·5 (claims· .11) T34 (record { pos = 12; st = List.[]; d = 0; at = λ x. x }, (record { pos =
-            17; st = List.[]; d = 0; at = λ x. x }, tt),) (m27 (before· .before) (After-first-refusal·gave before·))
+        After-first-refusal2·own = Called.Called ps·5 r·5 (claims· .11) T34 (
+          record { pos = 12; st = List.[]; d = 0; at = λ x. x },
+          (record { pos = 17; st = List.[]; d = 0; at = λ x. x }, tt),
+        ) (m27 (before· .before) (After-first-refusal·gave before·))
+
       pub record After-first-refusal2 : Type 0 where
         pub before : After-first-refusal
         pub first-refusal2 : After-first-refusal2·own before
-      abbrev pub After-first-refusal2·gave : (c : After-first-refusal2) → s33 (c .before .before .before .before .before .before .before .before
-          .before .before .before .before .blocks) .gives (m27 (c .before .before) (After-first-refusal·gave (c .before)))
-      After-first-refusal2·gave = λ c. Called.given ps·5 r·5 (claims· .11) T34 (record { pos = 12; st = List.[]; d = 0; at = λ x. x }, (record { pos =
-          17; st = List.[]; d = 0; at = λ x. x }, tt),) (m27 (c .before .before) (After-first-refusal·gave (c .before))) (c .first-refusal2)
-      abbrev pub m29 : (before : After-first-refusal) → (given : s33 (before .before .before .before .before .before .before .before .before .before
-          .before .before .blocks) .gives (m27 (before .before) (After-first-refusal·gave before))) → Typed.Mo T36
-      m29 = λ before given. s34 (before .before .before .before .before .before .before .before .before .before .before .before .blocks) (m28 before
-          given)
-      abbrev pub m30 : (before : After-first-refusal) → (given : s33 (before .before .before .before .before .before .before .before .before .before
-          .before .before .blocks) .gives (m27 (before .before) (After-first-refusal·gave before))) → Typed.Mo T37
-      m30 = λ before given. s35 (before .before .before .before .before .before .before .before .before .before .before .before .blocks) (m29 before
-          given)
+
+      abbrev pub After-first-refusal2·gave : (c : After-first-refusal2) → s33 (c .before .before .before .before
+          .before .before .before .before .before .before .before .before .blocks) .gives (m27 (c .before .before)
+          (After-first-refusal·gave (c .before)))
+      After-first-refusal2·gave = λ c. Called.given ps·5 r·5 (claims· .11) T34 (
+        record { pos = 12; st = List.[]; d = 0; at = λ x. x },
+        (record { pos = 17; st = List.[]; d = 0; at = λ x. x }, tt),
+      ) (m27 (c .before .before) (After-first-refusal·gave (c .before))) (c .first-refusal2)
+
+      abbrev pub m29 : (before : After-first-refusal) → (given : s33 (before .before .before .before .before .before
+          .before .before .before .before .before .before .blocks) .gives
+          (m27 (before .before) (After-first-refusal·gave before))) → Typed.Mo T36
+      m29 = λ before given. s34 (before .before .before .before .before .before .before .before .before .before .before
+          .before .blocks) (m28 before given)
+
+      abbrev pub m30 : (before : After-first-refusal) → (given : s33 (before .before .before .before .before .before
+          .before .before .before .before .before .before .blocks) .gives
+          (m27 (before .before) (After-first-refusal·gave before))) → Typed.Mo T37
+      m30 = λ before given. s35 (before .before .before .before .before .before .before .before .before .before .before
+          .before .blocks) (m29 before given)
+
       abbrev pub Need-is-taken-requires : Type 0
-      Need-is-taken-requires = (c : After-first-refusal2) → s36 (c .before .before .before .before .before .before .before .before .before .before
-          .before .before .blocks) .asks (m30 (c .before) (After-first-refusal2·gave c))
-      abbrev pub m31 : (before : After-first-refusal2) → (given : s36 (before .before .before .before .before .before .before .before .before .before
-          .before .before .before .blocks) .gives (m30 (before .before) (After-first-refusal2·gave before))) → Typed.Mo T38
-      m31 = λ before given. s36 (before .before .before .before .before .before .before .before .before .before .before .before .before .blocks) .next
-          (m30 (before .before) (After-first-refusal2·gave before)) given
+      Need-is-taken-requires = (c : After-first-refusal2) → s36 (c .before .before .before .before .before .before
+          .before .before .before .before .before .before .blocks) .asks
+          (m30 (c .before) (After-first-refusal2·gave c))
+
+      abbrev pub m31 : (before : After-first-refusal2) → (given : s36 (before .before .before .before .before .before
+          .before .before .before .before .before .before .before .blocks) .gives
+          (m30 (before .before) (After-first-refusal2·gave before))) → Typed.Mo T38
+      m31 = λ before given. s36 (before .before .before .before .before .before .before .before .before .before .before
+          .before .before .blocks) .next (m30 (before .before) (After-first-refusal2·gave before)) given
+
       module _ (before· : After-first-refusal2) where
         abbrev pub After-is-taken·own : Type 0
-        After-is-taken·own = Called.Called ps·6 r·6 (claims· .13) T37 (record { pos = 18; st = List.[]; d = 0; at = λ x. x }, tt,) (m30 (before·
-            .before) (After-first-refusal2·gave before·))
+        After-is-taken·own = Called.Called ps·6 r·6 (claims· .13) T37
+            (record { pos = 18; st = List.[]; d = 0; at = λ x. x }, tt)
+            (m30 (before· .before) (After-first-refusal2·gave before·))
+
       pub record After-is-taken : Type 0 where
         pub before : After-first-refusal2
         pub is-taken : After-is-taken·own before
-      abbrev pub After-is-taken·gave : (c : After-is-taken) → s36 (c .before .before .before .before .before .before .before .before .before .before
-          .before .before .before .blocks) .gives (m30 (c .before .before) (After-first-refusal2·gave (c .before)))
-      After-is-taken·gave = λ c. Called.given ps·6 r·6 (claims· .13) T37 (record { pos = 18; st = List.[]; d = 0; at = λ x. x }, tt,) (m30 (c .before
-          .before) (After-first-refusal2·gave (c .before))) (c .is-taken)
-      abbrev W1 : (before : After-first-refusal2) → (given : s36 (before .before .before .before .before .before .before .before .before .before
-          .before .before .before .blocks) .gives (m30 (before .before) (After-first-refusal2·gave before))) → Typed.Want O1
-      W1 = λ before given. Typed.wantNext T39 O0 (at60 (before .before .before .before .before .before .before .before .before .before .before .before
-          .before .blocks) (W0 (before .before .before .before .before .before .before .before .before .before .before .before .before .κs) (before
-          .before .before .before .before .before .before .before .before .before .before .before .before .args) (before .before .before .before
-          .before .before .before .before .before .before .before .before .before .blocks))) (W0 (before .before .before .before .before .before
-          .before .before .before .before .before .before .before .κs) (before .before .before .before .before .before .before .before .before .before
-          .before .before .before .args) (before .before .before .before .before .before .before .before .before .before .before .before .before
-          .blocks))
+
+      abbrev pub After-is-taken·gave : (c : After-is-taken) → s36 (c .before .before .before .before .before .before
+          .before .before .before .before .before .before .before .blocks) .gives (m30 (c .before .before)
+          (After-first-refusal2·gave (c .before)))
+      After-is-taken·gave = λ c. Called.given ps·6 r·6 (claims· .13) T37
+          (record { pos = 18; st = List.[]; d = 0; at = λ x. x }, tt) (m30 (c .before .before)
+          (After-first-refusal2·gave (c .before))) (c .is-taken)
+
+      abbrev W1 : (before : After-first-refusal2) → (given : s36 (before .before .before .before .before .before
+          .before .before .before .before .before .before .before .blocks) .gives
+          (m30 (before .before) (After-first-refusal2·gave before))) → Typed.Want O1
+      W1 = λ before given. Typed.wantNext T39 O0 (at60 (before .before .before .before .before .before .before .before
+          .before .before .before .before .before .blocks) (W0 (before .before .before .before .before .before .before
+          .before .before .before .before .before .before .κs) (before .before .before .before .before .before .before
+          .before .before .before .before .before .before .args) (before .before .before .before .before .before
+          .before .before .before .before .before .before .before .blocks))) (W0 (before .before .before .before
+          .before .before .before .before .before .before .before .before .before .κs) (before .before .before .before
+          .before .before .before .before .before .before .before .before .before .args) (before .before .before
+          .before .before .before .before .before .before .before .before .before .before .blocks))
+
       abbrev pub m32 : (before : After-is-taken) → Typed.Mo T40
-      m32 = λ before. s37 (before .before .before .before .before .before .before .before .before .before .before .before .before .before .blocks)
-          (m31 (before .before) (After-is-taken·gave before))
+      m32 = λ before. s37 (before .before .before .before .before .before .before .before .before .before .before
+          .before .before .before .blocks) (m31 (before .before) (After-is-taken·gave before))
+
       abbrev pub m33 : (before : After-is-taken) → Typed.Mo T41
-      m33 = λ before. s38 (before .before .before .before .before .before .before .before .before .before .before .before .before .before .blocks)
-          (m32 before)
+      m33 = λ before. s38 (before .before .before .before .before .before .before .before .before .before .before
+          .before .before .before .blocks) (m32 before)
+
       abbrev pub m34 : (before : After-is-taken) → Typed.Mo T42
-      m34 = λ before. s39 (before .before .before .before .before .before .before .before .before .before .before .before .before .before .blocks)
-          (m33 before)
+      m34 = λ before. s39 (before .before .before .before .before .before .before .before .before .before .before
+          .before .before .before .blocks) (m33 before)
+
       abbrev W2 : (before : After-is-taken) → Typed.Want O2
-      W2 = λ before. Typed.wantNext T43 O1 (at44 (before .before .before .before .before .before .before .before .before .before .before .before
-          .before .before .blocks) (W1 (before .before) (After-is-taken·gave before))) (W1 (before .before) (After-is-taken·gave before))
+      W2 = λ before. Typed.wantNext T43 O1 (at44 (before .before .before .before .before .before .before .before
+          .before .before .before .before .before .before .blocks) (W1 (before .before) (After-is-taken·gave before)))
+          (W1 (before .before) (After-is-taken·gave before))
+
       module _ (before· : After-is-taken) where
         pub record Then1·own : Type 0 where
-          pub taken : Path._≡_ (Row.get 25 (T38 .locals) (m31 (before· .before) (After-is-taken·gave before·))) Bool'.true
+          pub taken : Path._≡_ (Row.get 25 (T38 .locals) (m31 (before· .before) (After-is-taken·gave before·)))
+              Bool'.true
+
       pub record Then1 : Type 0 where
         pub before : After-is-taken
         pub if1 : Then1·own before
+
       abbrev pub m35 : (before : Then1) → Typed.Mo T44
-      m35 = λ before. s40 (before .before .before .before .before .before .before .before .before .before .before .before .before .before .before
-          .blocks) (m34 (before .before))
+      m35 = λ before. s40 (before .before .before .before .before .before .before .before .before .before .before
+          .before .before .before .before .blocks) (m34 (before .before))
+
       module _ (before· : Then1) where
         pub record Then2·own : Type 0 where
           pub taken : Path._≡_ (Row.get 26 (T42 .locals) (m34 (before· .before))) Bool'.true
+
       pub record Then2 : Type 0 where
         pub before : Then1
         pub if2 : Then2·own before
-      abbrev pub m36 : (before : Then2) → (given : s42 (before .before .before .before .before .before .before .before .before .before .before .before
-          .before .before .before .before .blocks) .gives (m35 (before .before))) → Typed.Mo T46
-      m36 = λ before given. s42 (before .before .before .before .before .before .before .before .before .before .before .before .before .before
-          .before .before .blocks) .next (m35 (before .before)) given
-      abbrev pub m37 : (before : Then2) → (given : s42 (before .before .before .before .before .before .before .before .before .before .before .before
-          .before .before .before .before .blocks) .gives (m35 (before .before))) → Typed.Mo T47
-      m37 = λ before given. s43 (before .before .before .before .before .before .before .before .before .before .before .before .before .before
-          .before .before .blocks) .next (m36 before given)
+
+      abbrev pub m36 : (before : Then2) → (given : s42 (before .before .before .before .before .before .before .before
+          .before .before .before .before .before .before .before .before .blocks) .gives (m35 (before .before))) →
+          Typed.Mo T46
+      m36 = λ before given. s42 (before .before .before .before .before .before .before .before .before .before .before
+          .before .before .before .before .before .blocks) .next (m35 (before .before)) given
+
+      abbrev pub m37 : (before : Then2) → (given : s42 (before .before .before .before .before .before .before .before
+          .before .before .before .before .before .before .before .before .blocks) .gives (m35 (before .before))) →
+          Typed.Mo T47
+      m37 = λ before given. s43 (before .before .before .before .before .before .before .before .before .before .before
+          .before .before .before .before .before .blocks) .next (m36 before given)
+
       module _ (before· : Then2) where
         pub record After-switch-to-arg·own : Type 0 where
-          pub given : s42 (before· .before .before .before .before .before .before .before .before .before .before .before .before .before .before
-              .before .blocks) .gives (m35 (before· .before))
+          pub given : s42 (before· .before .before .before .before .before .before .before .before .before .before
+              .before .before .before .before .before .blocks) .gives (m35 (before· .before))
+
       pub record After-switch-to-arg : Type 0 where
         pub before : Then2
         pub switch-to-arg : After-switch-to-arg·own before
-      abbrev pub m38 : (before : After-switch-to-arg) → (given : s45 (before .before .before .before .before .before .before .before .before .before
-          .before .before .before .before .before .before .before .blocks) .gives (m37 (before .before) (before .switch-to-arg .given))) → Typed.Mo
-          T49
-      m38 = λ before given. s45 (before .before .before .before .before .before .before .before .before .before .before .before .before .before
-          .before .before .before .blocks) .next (m37 (before .before) (before .switch-to-arg .given)) given
-      abbrev pub m39 : (before : After-switch-to-arg) → (given : s45 (before .before .before .before .before .before .before .before .before .before
-          .before .before .before .before .before .before .before .blocks) .gives (m37 (before .before) (before .switch-to-arg .given))) → Typed.Mo
-          T50
-      m39 = λ before given. s46 (before .before .before .before .before .before .before .before .before .before .before .before .before .before
-          .before .before .before .blocks) .next (m38 before given)
+
+      abbrev pub m38 : (before : After-switch-to-arg) → (given : s45 (before .before .before .before .before .before
+          .before .before .before .before .before .before .before .before .before .before .before .blocks) .gives
+          (m37 (before .before) (before .switch-to-arg .given))) → Typed.Mo T49
+      m38 = λ before given. s45 (before .before .before .before .before .before .before .before .before .before .before
+          .before .before .before .before .before .before .blocks) .next
+          (m37 (before .before) (before .switch-to-arg .given)) given
+
+      abbrev pub m39 : (before : After-switch-to-arg) → (given : s45 (before .before .before .before .before .before
+          .before .before .before .before .before .before .before .before .before .before .before .blocks) .gives
+          (m37 (before .before) (before .switch-to-arg .given))) → Typed.Mo T50
+      m39 = λ before given. s46 (before .before .before .before .before .before .before .before .before .before .before
+          .before .before .before .before .before .before .blocks) .next (m38 before given)
+
       module _ (before· : After-switch-to-arg) where
         pub record After-switch-to-arg2·own : Type 0 where
-          pub given : s45 (before· .before .before .before .before .before .before .before .before .before .before .before .before .before .before
-              .before .before .blocks) .gives (m37 (before· .before) (before· .switch-to-arg .given))
+          pub given : s45 (before· .before .before .before .before .before .before .before .before .before .before
+              .before .before .before .before .before .before .blocks) .gives
+              (m37 (before· .before) (before· .switch-to-arg .given))
+
       pub record After-switch-to-arg2 : Type 0 where
         pub before : After-switch-to-arg
         pub switch-to-arg2 : After-switch-to-arg2·own before
-      abbrev pub m40 : (before : After-switch-to-arg2) → (given : s48 (before .before .before .before .before .before .before .before .before .before
-          .before .before .before .before .before .before .before .before .blocks) .gives (m39 (before .before) (before .switch-to-arg2 .given))) →
-          Typed.Mo T52
-      m40 = λ before given. s48 (before .before .before .before .before .before .before .before .before .before .before .before .before .before
-          .before .before .before .before .blocks) .next (m39 (before .before) (before .switch-to-arg2 .given)) given
-      abbrev pub m41 : (before : After-switch-to-arg2) → (given : s48 (before .before .before .before .before .before .before .before .before .before
-          .before .before .before .before .before .before .before .before .blocks) .gives (m39 (before .before) (before .switch-to-arg2 .given))) →
-          Typed.Mo T53
-      m41 = λ before given. s49 (before .before .before .before .before .before .before .before .before .before .before .before .before .before
-          .before .before .before .before .blocks) .next (m40 before given)
+
+      abbrev pub m40 : (before : After-switch-to-arg2) → (given : s48 (before .before .before .before .before .before
+          .before .before .before .before .before .before .before .before .before .before .before .before .blocks)
+          .gives (m39 (before .before) (before .switch-to-arg2 .given))) → Typed.Mo T52
+      m40 = λ before given. s48 (before .before .before .before .before .before .before .before .before .before .before
+          .before .before .before .before .before .before .before .blocks) .next
+          (m39 (before .before) (before .switch-to-arg2 .given)) given
+
+      abbrev pub m41 : (before : After-switch-to-arg2) → (given : s48 (before .before .before .before .before .before
+          .before .before .before .before .before .before .before .before .before .before .before .before .blocks)
+          .gives (m39 (before .before) (before .switch-to-arg2 .given))) → Typed.Mo T53
+      m41 = λ before given. s49 (before .before .before .before .before .before .before .before .before .before .before
+          .before .before .before .before .before .before .before .blocks) .next (m40 before given)
+
       module _ (before· : After-switch-to-arg2) where
         pub record After-switch-to-arg3·own : Type 0 where
-          pub given : s48 (before· .before .before .before .before .before .before .before .before .before .before .before .before .before .before
-              .before .before .before .blocks) .gives (m39 (before· .before) (before· .switch-to-arg2 .given))
+          pub given : s48 (before· .before .before .before .before .before .before .before .before .before .before
+              .before .before .before .before .before .before .before .blocks) .gives
+              (m39 (before· .before) (before· .switch-to-arg2 .given))
+
       pub record After-switch-to-arg3 : Type 0 where
         pub before : After-switch-to-arg2
         pub switch-to-arg3 : After-switch-to-arg3·own before
-      abbrev pub m42 : (before : After-switch-to-arg3) → (given : s51 (before .before .before .before .before .before .before .before .before .before
-          .before .before .before .before .before .before .before .before .before .blocks) .gives (m41 (before .before) (before .switch-to-arg3
-          .given))) → Typed.Mo T55
-      m42 = λ before given. s51 (before .before .before .before .before .before .before .before .before .before .before .before .before .before
-          .before .before .before .before .before .blocks) .next (m41 (before .before) (before .switch-to-arg3 .given)) given
-      abbrev pub m43 : (before : After-switch-to-arg3) → (given : s51 (before .before .before .before .before .before .before .before .before .before
-          .before .before .before .before .before .before .before .before .before .blocks) .gives (m41 (before .before) (before .switch-to-arg3
-          .given))) → Typed.Mo T56
-      m43 = λ before given. s52 (before .before .before .before .before .before .before .before .before .before .before .before .before .before
-          .before .before .before .before .before .blocks) .next (m42 before given)
+
+      abbrev pub m42 : (before : After-switch-to-arg3) → (given : s51 (before .before .before .before .before .before
+          .before .before .before .before .before .before .before .before .before .before .before .before .before
+          .blocks) .gives (m41 (before .before) (before .switch-to-arg3 .given))) → Typed.Mo T55
+      m42 = λ before given. s51 (before .before .before .before .before .before .before .before .before .before .before
+          .before .before .before .before .before .before .before .before .blocks) .next
+          (m41 (before .before) (before .switch-to-arg3 .given)) given
+
+      abbrev pub m43 : (before : After-switch-to-arg3) → (given : s51 (before .before .before .before .before .before
+          .before .before .before .before .before .before .before .before .before .before .before .before .before
+          .blocks) .gives (m41 (before .before) (before .switch-to-arg3 .given))) → Typed.Mo T56
+      m43 = λ before given. s52 (before .before .before .before .before .before .before .before .before .before .before
+          .before .before .before .before .before .before .before .before .blocks) .next (m42 before given)
+
       module _ (before· : After-switch-to-arg3) where
         pub record After-switch-to-arg4·own : Type 0 where
-          pub given : s51 (before· .before .before .before .before .before .before .before .before .before .before .before .before .before .before
-              .before .before .before .before .blocks) .gives (m41 (before· .before) (before· .switch-to-arg3 .given))
+          pub given : s51 (before· .before .before .before .before .before .before .before .before .before .before
+              .before .before .before .before .before .before .before .before .blocks) .gives
+              (m41 (before· .before) (before· .switch-to-arg3 .given))
+
       pub record After-switch-to-arg4 : Type 0 where
         pub before : After-switch-to-arg3
         pub switch-to-arg4 : After-switch-to-arg4·own before
+
       abbrev pub Need-switch-to-requires : Type 0
-      Need-switch-to-requires = (c : After-switch-to-arg4) → s53 (c .before .before .before .before .before .before .before .before .before .before
-          .before .before .before .before .before .before .before .before .before .blocks) .asks (m43 (c .before) (c .switch-to-arg4 .given))
-      abbrev pub m44 : (before : After-switch-to-arg4) → (given : s53 (before .before .before .before .before .before .before .before .before .before
-          .before .before .before .before .before .before .before .before .before .before .blocks) .gives (m43 (before .before) (before
-          .switch-to-arg4 .given))) → Typed.Mo T57
-      m44 = λ before given. s53 (before .before .before .before .before .before .before .before .before .before .before .before .before .before
-          .before .before .before .before .before .before .blocks) .next (m43 (before .before) (before .switch-to-arg4 .given)) given
+      Need-switch-to-requires = (c : After-switch-to-arg4) → s53 (c .before .before .before .before .before .before
+          .before .before .before .before .before .before .before .before .before .before .before .before .before
+          .blocks) .asks (m43 (c .before) (c .switch-to-arg4 .given))
+
+      abbrev pub m44 : (before : After-switch-to-arg4) → (given : s53 (before .before .before .before .before .before
+          .before .before .before .before .before .before .before .before .before .before .before .before .before
+          .before .blocks) .gives (m43 (before .before) (before .switch-to-arg4 .given))) → Typed.Mo T57
+      m44 = λ before given. s53 (before .before .before .before .before .before .before .before .before .before .before
+          .before .before .before .before .before .before .before .before .before .blocks) .next
+          (m43 (before .before) (before .switch-to-arg4 .given)) given
+
       module _ (before· : After-switch-to-arg4) where
         abbrev pub After-switch-to·own : Type 0
-        After-switch-to·own = Called.Called ps·7 r·7 (claims· .15) T56 (record { pos = 28; ty = Syntax.tyRef Syntax.erased Syntax.mut RelayPending.to;
-            ref = λ x. x; }, (record { pos = 30; ty = Syntax.tyRef Syntax.erased Syntax.mut RelayCircuit.to; ref = λ x. x; }, (record { pos = 32; ty =
-            Syntax.tyRef Syntax.erased Syntax.mut InflightAction.to; ref = λ x. x; }, (record { pos = 34; ty = Syntax.tyRef Syntax.erased Syntax.mut
-            (Syntax.tyInt Syntax.w32); ref = λ x. x; }, (record { pos = 5; st = List.[]; d = 0; at = λ x. x }, (record { pos = 6; st = List.[]; d = 0;
-            at = λ x. x }, (Bool.bAt 8 λ x. x, (record { pos = 13; st = List.[]; d = 0; at = λ x. x }, tt),),),),),),),) (m43 (before· .before)
-            (before· .switch-to-arg4 .given))
+        After-switch-to·own = Called.Called ps·7 r·7 (claims· .15) T56 (
+          record { pos = 28; ty = ref2; ref = λ x. x },
+          (
+            record { pos = 30; ty = ref3; ref = λ x. x },
+            (
+              record { pos = 32; ty = ref4; ref = λ x. x },
+              (
+                record { pos = 34; ty = ref5; ref = λ x. x },
+                (
+                  record { pos = 5; st = List.[]; d = 0; at = λ x. x },
+                  (
+                    record { pos = 6; st = List.[]; d = 0; at = λ x. x },
+                    (Bool.bAt 8 λ x. x, (record { pos = 13; st = List.[]; d = 0; at = λ x. x }, tt)),
+                  ),
+                ),
+              ),
+            ),
+          ),
+        ) (m43 (before· .before) (before· .switch-to-arg4 .given))
+
       pub record After-switch-to : Type 0 where
         pub before : After-switch-to-arg4
         pub switch-to : After-switch-to·own before
-      abbrev pub After-switch-to·gave : (c : After-switch-to) → s53 (c .before .before .before .before .before .before .before .before .before .before
-          .before .before .before .before .before .before .before .before .before .before .blocks) .gives (m43 (c .before .before) (c .before
-          .switch-to-arg4 .given))
-      After-switch-to·gave = λ c. Called.given ps·7 r·7 (claims· .15) T56 (record { pos = 28; ty = Syntax.tyRef Syntax.erased Syntax.mut
-          RelayPending.to; ref = λ x. x; }, (record { pos = 30; ty = Syntax.tyRef Syntax.erased Syntax.mut RelayCircuit.to; ref = λ x. x; }, (record {
-          pos = 32; ty = Syntax.tyRef Syntax.erased Syntax.mut InflightAction.to; ref = λ x. x; }, (record { pos = 34; ty = Syntax.tyRef Syntax.erased
-          Syntax.mut (Syntax.tyInt Syntax.w32); ref = λ x. x; }, (record { pos = 5; st = List.[]; d = 0; at = λ x. x }, (record { pos = 6; st =
-          List.[]; d = 0; at = λ x. x }, (Bool.bAt 8 λ x. x, (record { pos = 13; st = List.[]; d = 0; at = λ x. x }, tt),),),),),),),) (m43 (c .before
-          .before) (c .before .switch-to-arg4 .given)) (c .switch-to)
-      abbrev pub m45 : (before : After-switch-to-arg4) → (given : s53 (before .before .before .before .before .before .before .before .before .before
-          .before .before .before .before .before .before .before .before .before .before .blocks) .gives (m43 (before .before) (before
-          .switch-to-arg4 .given))) → Typed.Mo T58
-      m45 = λ before given. s54 (before .before .before .before .before .before .before .before .before .before .before .before .before .before
-          .before .before .before .before .before .before .blocks) (m44 before given)
-      abbrev pub m46 : (before : After-switch-to-arg4) → (given : s53 (before .before .before .before .before .before .before .before .before .before
-          .before .before .before .before .before .before .before .before .before .before .blocks) .gives (m43 (before .before) (before
-          .switch-to-arg4 .given))) → Typed.Mo T59
-      m46 = λ before given. s55 (before .before .before .before .before .before .before .before .before .before .before .before .before .before
-          .before .before .before .before .before .before .blocks) (m45 before given)
-      abbrev pub m47 : (before : After-switch-to-arg4) → (given : s53 (before .before .before .before .before .before .before .before .before .before
-          .before .before .before .before .before .before .before .before .before .before .blocks) .gives (m43 (before .before) (before
-          .switch-to-arg4 .given))) → Typed.Mo T60
-      m47 = λ before given. s56 (before .before .before .before .before .before .before .before .before .before .before .before .before .before
-          .before .before .before .before .before .before .blocks) (m46 before given)
-      abbrev pub m48 : (before : After-switch-to) → (given : s58 (before .before .before .before .before .before .before .before .before .before
-          .before .before .before .before .before .before .before .before .before .before .before .blocks) .gives (m47 (before .before)
-          (After-switch-to·gave before))) → Typed.Mo T62
-      m48 = λ before given. s58 (before .before .before .before .before .before .before .before .before .before .before .before .before .before
-          .before .before .before .before .before .before .before .blocks) .next (m47 (before .before) (After-switch-to·gave before)) given
+
+      abbrev pub After-switch-to·gave : (c : After-switch-to) → s53 (c .before .before .before .before .before .before
+          .before .before .before .before .before .before .before .before .before .before .before .before .before
+          .before .blocks) .gives (m43 (c .before .before) (c .before .switch-to-arg4 .given))
+      After-switch-to·gave = λ c. Called.given ps·7 r·7 (claims· .15) T56 (
+        record { pos = 28; ty = ref2; ref = λ x. x },
+        (
+          record { pos = 30; ty = ref3; ref = λ x. x },
+          (
+            record { pos = 32; ty = ref4; ref = λ x. x },
+            (
+              record { pos = 34; ty = ref5; ref = λ x. x },
+              (
+                record { pos = 5; st = List.[]; d = 0; at = λ x. x },
+                (
+                  record { pos = 6; st = List.[]; d = 0; at = λ x. x },
+                  (Bool.bAt 8 λ x. x, (record { pos = 13; st = List.[]; d = 0; at = λ x. x }, tt)),
+                ),
+              ),
+            ),
+          ),
+        ),
+      ) (m43 (c .before .before) (c .before .switch-to-arg4 .given)) (c .switch-to)
+
+      abbrev pub m45 : (before : After-switch-to-arg4) → (given : s53 (before .before .before .before .before .before
+          .before .before .before .before .before .before .before .before .before .before .before .before .before
+          .before .blocks) .gives (m43 (before .before) (before .switch-to-arg4 .given))) → Typed.Mo T58
+      m45 = λ before given. s54 (before .before .before .before .before .before .before .before .before .before .before
+          .before .before .before .before .before .before .before .before .before .blocks) (m44 before given)
+
+      abbrev pub m46 : (before : After-switch-to-arg4) → (given : s53 (before .before .before .before .before .before
+          .before .before .before .before .before .before .before .before .before .before .before .before .before
+          .before .blocks) .gives (m43 (before .before) (before .switch-to-arg4 .given))) → Typed.Mo T59
+      m46 = λ before given. s55 (before .before .before .before .before .before .before .before .before .before .before
+          .before .before .before .before .before .before .before .before .before .blocks) (m45 before given)
+
+      abbrev pub m47 : (before : After-switch-to-arg4) → (given : s53 (before .before .before .before .before .before
+          .before .before .before .before .before .before .before .before .before .before .before .before .before
+          .before .blocks) .gives (m43 (before .before) (before .switch-to-arg4 .given))) → Typed.Mo T60
+      m47 = λ before given. s56 (before .before .before .before .before .before .before .before .before .before .before
+          .before .before .before .before .before .before .before .before .before .blocks) (m46 before given)
+
+      abbrev pub m48 : (before : After-switch-to) → (given : s58 (before .before .before .before .before .before
+          .before .before .before .before .before .before .before .before .before .before .before .before .before
+          .before .before .blocks) .gives (m47 (before .before) (After-switch-to·gave before))) → Typed.Mo T62
+      m48 = λ before given. s58 (before .before .before .before .before .before .before .before .before .before .before
+          .before .before .before .before .before .before .before .before .before .before .blocks) .next
+          (m47 (before .before) (After-switch-to·gave before)) given
+
       module _ (before· : After-switch-to) where
         pub record After-pending·own : Type 0 where
-          pub given : s58 (before· .before .before .before .before .before .before .before .before .before .before .before .before .before .before
-              .before .before .before .before .before .before .blocks) .gives (m47 (before· .before) (After-switch-to·gave before·))
+          pub given : s58 (before· .before .before .before .before .before .before .before .before .before .before
+              .before .before .before .before .before .before .before .before .before .before .blocks) .gives
+              (m47 (before· .before) (After-switch-to·gave before·))
+
       pub record After-pending : Type 0 where
         pub before : After-switch-to
         pub pending : After-pending·own before
-      abbrev pub m49 : (before : After-pending) → (given : s61 (before .before .before .before .before .before .before .before .before .before .before
-          .before .before .before .before .before .before .before .before .before .before .before .blocks) .gives (m48 (before .before) (before
-          .pending .given))) → Typed.Mo T65
-      m49 = λ before given. s61 (before .before .before .before .before .before .before .before .before .before .before .before .before .before
-          .before .before .before .before .before .before .before .before .blocks) .next (m48 (before .before) (before .pending .given)) given
+
+      abbrev pub m49 : (before : After-pending) → (given : s61 (before .before .before .before .before .before .before
+          .before .before .before .before .before .before .before .before .before .before .before .before .before
+          .before .before .blocks) .gives (m48 (before .before) (before .pending .given))) → Typed.Mo T65
+      m49 = λ before given. s61 (before .before .before .before .before .before .before .before .before .before .before
+          .before .before .before .before .before .before .before .before .before .before .before .blocks) .next
+          (m48 (before .before) (before .pending .given)) given
+
       module _ (before· : After-pending) where
         pub record After-circuits·own : Type 0 where
-          pub given : s61 (before· .before .before .before .before .before .before .before .before .before .before .before .before .before .before
-              .before .before .before .before .before .before .before .blocks) .gives (m48 (before· .before) (before· .pending .given))
+          pub given : s61 (before· .before .before .before .before .before .before .before .before .before .before
+              .before .before .before .before .before .before .before .before .before .before .before .blocks) .gives
+              (m48 (before· .before) (before· .pending .given))
+
       pub record After-circuits : Type 0 where
         pub before : After-pending
         pub circuits : After-circuits·own before
-      abbrev pub m50 : (before : After-circuits) → (given : s64 (before .before .before .before .before .before .before .before .before .before
-          .before .before .before .before .before .before .before .before .before .before .before .before .before .blocks) .gives (m49 (before
-          .before) (before .circuits .given))) → Typed.Mo T68
-      m50 = λ before given. s64 (before .before .before .before .before .before .before .before .before .before .before .before .before .before
-          .before .before .before .before .before .before .before .before .before .blocks) .next (m49 (before .before) (before .circuits .given))
-          given
+
+      abbrev pub m50 : (before : After-circuits) → (given : s64 (before .before .before .before .before .before .before
+          .before .before .before .before .before .before .before .before .before .before .before .before .before
+          .before .before .before .blocks) .gives (m49 (before .before) (before .circuits .given))) → Typed.Mo T68
+      m50 = λ before given. s64 (before .before .before .before .before .before .before .before .before .before .before
+          .before .before .before .before .before .before .before .before .before .before .before .before .blocks)
+          .next (m49 (before .before) (before .circuits .given)) given
+
       module _ (before· : After-circuits) where
         pub record After-inflight·own : Type 0 where
-          pub given : s64 (before· .before .before .before .before .before .before .before .before .before .before .before .before .before .before
-              .before .before .before .before .before .before .before .before .blocks) .gives (m49 (before· .before) (before· .circuits .given))
+          pub given : s64 (before· .before .before .before .before .before .before .before .before .before .before
+              .before .before .before .before .before .before .before .before .before .before .before .before .blocks)
+              .gives (m49 (before· .before) (before· .circuits .given))
+
       pub record After-inflight : Type 0 where
         pub before : After-circuits
         pub inflight : After-inflight·own before
-      abbrev pub m51 : (before : After-inflight) → (given : s67 (before .before .before .before .before .before .before .before .before .before
-          .before .before .before .before .before .before .before .before .before .before .before .before .before .before .blocks) .gives (m50 (before
-          .before) (before .inflight .given))) → Typed.Mo T71
-      m51 = λ before given. s67 (before .before .before .before .before .before .before .before .before .before .before .before .before .before
-          .before .before .before .before .before .before .before .before .before .before .blocks) .next (m50 (before .before) (before .inflight
-          .given)) given
+
+      abbrev pub m51 : (before : After-inflight) → (given : s67 (before .before .before .before .before .before .before
+          .before .before .before .before .before .before .before .before .before .before .before .before .before
+          .before .before .before .before .blocks) .gives (m50 (before .before) (before .inflight .given))) → Typed.Mo
+          T71
+      m51 = λ before given. s67 (before .before .before .before .before .before .before .before .before .before .before
+          .before .before .before .before .before .before .before .before .before .before .before .before .before
+          .blocks) .next (m50 (before .before) (before .inflight .given)) given
+
       module _ (before· : After-inflight) where
         pub record After-out·own : Type 0 where
-          pub given : s67 (before· .before .before .before .before .before .before .before .before .before .before .before .before .before .before
-              .before .before .before .before .before .before .before .before .before .blocks) .gives (m50 (before· .before) (before· .inflight
-              .given))
+          pub given : s67 (before· .before .before .before .before .before .before .before .before .before .before
+              .before .before .before .before .before .before .before .before .before .before .before .before .before
+              .blocks) .gives (m50 (before· .before) (before· .inflight .given))
+
       pub record After-out : Type 0 where
         pub before : After-inflight
         pub out : After-out·own before
-      abbrev pub m52 : (before : After-out) → (given : s68 (before .before .before .before .before .before .before .before .before .before .before
-          .before .before .before .before .before .before .before .before .before .before .before .before .before .before .blocks) .gives (m51 (before
-          .before) (before .out .given))) → Typed.Mo T72
-      m52 = λ before given. s68 (before .before .before .before .before .before .before .before .before .before .before .before .before .before
-          .before .before .before .before .before .before .before .before .before .before .before .blocks) .next (m51 (before .before) (before .out
-          .given)) given
-      abbrev pub m53 : (before : After-out) → (given : s68 (before .before .before .before .before .before .before .before .before .before .before
-          .before .before .before .before .before .before .before .before .before .before .before .before .before .before .blocks) .gives (m51 (before
-          .before) (before .out .given))) → Typed.Mo T74
-      m53 = λ before given. s70 (before .before .before .before .before .before .before .before .before .before .before .before .before .before
-          .before .before .before .before .before .before .before .before .before .before .before .blocks) (m52 before given)
-      abbrev pub m54 : (before : After-out) → (given : s68 (before .before .before .before .before .before .before .before .before .before .before
-          .before .before .before .before .before .before .before .before .before .before .before .before .before .before .blocks) .gives (m51 (before
-          .before) (before .out .given))) → Typed.Mo T75
-      m54 = λ before given. s71 (before .before .before .before .before .before .before .before .before .before .before .before .before .before
-          .before .before .before .before .before .before .before .before .before .before .before .blocks) (m53 before given)
-      abbrev pub m55 : (before : After-out) → (given : s68 (before .before .before .before .before .before .before .before .before .before .before
-          .before .before .before .before .before .before .before .before .before .before .before .before .before .before .blocks) .gives (m51 (before
-          .before) (before .out .given))) → Typed.Mo T76
-      m55 = λ before given. s72 (before .before .before .before .before .before .before .before .before .before .before .before .before .before
-          .before .before .before .before .before .before .before .before .before .before .before .blocks) (m54 before given)
+
+      abbrev pub m52 : (before : After-out) → (given : s68 (before .before .before .before .before .before .before
+          .before .before .before .before .before .before .before .before .before .before .before .before .before
+          .before .before .before .before .before .blocks) .gives (m51 (before .before) (before .out .given))) →
+          Typed.Mo T72
+      m52 = λ before given. s68 (before .before .before .before .before .before .before .before .before .before .before
+          .before .before .before .before .before .before .before .before .before .before .before .before .before
+          .before .blocks) .next (m51 (before .before) (before .out .given)) given
+
+      abbrev pub m53 : (before : After-out) → (given : s68 (before .before .before .before .before .before .before
+          .before .before .before .before .before .before .before .before .before .before .before .before .before
+          .before .before .before .before .before .blocks) .gives (m51 (before .before) (before .out .given))) →
+          Typed.Mo T74
+      m53 = λ before given. s70 (before .before .before .before .before .before .before .before .before .before .before
+          .before .before .before .before .before .before .before .before .before .before .before .before .before
+          .before .blocks) (m52 before given)
+
+      abbrev pub m54 : (before : After-out) → (given : s68 (before .before .before .before .before .before .before
+          .before .before .before .before .before .before .before .before .before .before .before .before .before
+          .before .before .before .before .before .blocks) .gives (m51 (before .before) (before .out .given))) →
+          Typed.Mo T75
+      m54 = λ before given. s71 (before .before .before .before .before .before .before .before .before .before .before
+          .before .before .before .before .before .before .before .before .before .before .before .before .before
+          .before .blocks) (m53 before given)
+
+      abbrev pub m55 : (before : After-out) → (given : s68 (before .before .before .before .before .before .before
+          .before .before .before .before .before .before .before .before .before .before .before .before .before
+          .before .before .before .before .before .blocks) .gives (m51 (before .before) (before .out .given))) →
+          Typed.Mo T76
+      m55 = λ before given. s72 (before .before .before .before .before .before .before .before .before .before .before
+          .before .before .before .before .before .before .before .before .before .before .before .before .before
+          .before .blocks) (m54 before given)
+
       module _ (before· : After-out) where
         pub record After-slice-known2·own : Type 0 where
-          pub given : s68 (before· .before .before .before .before .before .before .before .before .before .before .before .before .before .before
-              .before .before .before .before .before .before .before .before .before .before .blocks) .gives (m51 (before· .before) (before· .out
-              .given))
+          pub given : s68 (before· .before .before .before .before .before .before .before .before .before .before
+              .before .before .before .before .before .before .before .before .before .before .before .before .before
+              .before .blocks) .gives (m51 (before· .before) (before· .out .given))
+
       pub record After-slice-known2 : Type 0 where
         pub before : After-out
         pub slice-known2 : After-slice-known2·own before
+
       abbrev pub Need-same-length : Type 0
-      Need-same-length = (c : After-slice-known2) → MutSlice.SameLen (Row.get 1 (T76 .locals) (m55 (c .before) (c .slice-known2 .given))) (dens (c
-          .before .before .before .before .before .before .before .before .before .before .before .before .before .before .before .before .before
-          .before .before .before .before .before .before .before .before .κs) (c .before .before .before .before .before .before .before .before
-          .before .before .before .before .before .before .before .before .before .before .before .before .before .before .before .before .before
-          .args) .0)
+      Need-same-length = (c : After-slice-known2) → MutSlice.SameLen (Row.get 1 (T76 .locals)
+          (m55 (c .before) (c .slice-known2 .given))) (dens (c .before .before .before .before .before .before .before
+          .before .before .before .before .before .before .before .before .before .before .before .before .before
+          .before .before .before .before .before .κs) (c .before .before .before .before .before .before .before
+          .before .before .before .before .before .before .before .before .before .before .before .before .before
+          .before .before .before .before .before .args) .0)
+
       abbrev pub Need-same-length-2 : Type 0
-      Need-same-length-2 = (c : After-slice-known2) → MutSlice.SameLen (Row.get 2 (T76 .locals) (m55 (c .before) (c .slice-known2 .given))) (dens (c
-          .before .before .before .before .before .before .before .before .before .before .before .before .before .before .before .before .before
-          .before .before .before .before .before .before .before .before .κs) (c .before .before .before .before .before .before .before .before
-          .before .before .before .before .before .before .before .before .before .before .before .before .before .before .before .before .before
-          .args) .1 .0)
+      Need-same-length-2 = (c : After-slice-known2) → MutSlice.SameLen (Row.get 2 (T76 .locals)
+          (m55 (c .before) (c .slice-known2 .given))) (dens (c .before .before .before .before .before .before .before
+          .before .before .before .before .before .before .before .before .before .before .before .before .before
+          .before .before .before .before .before .κs) (c .before .before .before .before .before .before .before
+          .before .before .before .before .before .before .before .before .before .before .before .before .before
+          .before .before .before .before .before .args) .1 .0)
+
       abbrev pub Need-same-length-3 : Type 0
-      Need-same-length-3 = (c : After-slice-known2) → MutSlice.SameLen (Row.get 3 (T76 .locals) (m55 (c .before) (c .slice-known2 .given))) (dens (c
-          .before .before .before .before .before .before .before .before .before .before .before .before .before .before .before .before .before
-          .before .before .before .before .before .before .before .before .κs) (c .before .before .before .before .before .before .before .before
-          .before .before .before .before .before .before .before .before .before .before .before .before .before .before .before .before .before
-          .args) .1 .1 .0)
+      Need-same-length-3 = (c : After-slice-known2) → MutSlice.SameLen (Row.get 3 (T76 .locals)
+          (m55 (c .before) (c .slice-known2 .given))) (dens (c .before .before .before .before .before .before .before
+          .before .before .before .before .before .before .before .before .before .before .before .before .before
+          .before .before .before .before .before .κs) (c .before .before .before .before .before .before .before
+          .before .before .before .before .before .before .before .before .before .before .before .before .before
+          .before .before .before .before .before .args) .1 .1 .0)
+
       abbrev pub Need-same-length-4 : Type 0
-      Need-same-length-4 = (c : After-slice-known2) → MutSlice.SameLen (Row.get 4 (T76 .locals) (m55 (c .before) (c .slice-known2 .given))) (dens (c
-          .before .before .before .before .before .before .before .before .before .before .before .before .before .before .before .before .before
-          .before .before .before .before .before .before .before .before .κs) (c .before .before .before .before .before .before .before .before
-          .before .before .before .before .before .before .before .before .before .before .before .before .before .before .before .before .before
-          .args) .1 .1 .1 .0)
+      Need-same-length-4 = (c : After-slice-known2) → MutSlice.SameLen (Row.get 4 (T76 .locals)
+          (m55 (c .before) (c .slice-known2 .given))) (dens (c .before .before .before .before .before .before .before
+          .before .before .before .before .before .before .before .before .before .before .before .before .before
+          .before .before .before .before .before .κs) (c .before .before .before .before .before .before .before
+          .before .before .before .before .before .before .before .before .before .before .before .before .before
+          .before .before .before .before .before .args) .1 .1 .1 .0)
+
       abbrev pub Need-returns : Type 0
-      Need-returns = (c : After-slice-known2) → Post· (c .before .before .before .before .before .before .before .before .before .before .before
-          .before .before .before .before .before .before .before .before .before .before .before .before .before .before .κs) (dens (c .before
-          .before .before .before .before .before .before .before .before .before .before .before .before .before .before .before .before .before
-          .before .before .before .before .before .before .before .κs) (c .before .before .before .before .before .before .before .before .before
-          .before .before .before .before .before .before .before .before .before .before .before .before .before .before .before .before .args))
-          (Function.resV r (c .before .before .before .before .before .before .before .before .before .before .before .before .before .before .before
-          .before .before .before .before .before .before .before .before .before .before .κs) (m55 (c .before) (c .slice-known2 .given) .0))
-          (Clauses.atExit (Kinds.endedOf 4 ps r) (c .before .before .before .before .before .before .before .before .before .before .before .before
-          .before .before .before .before .before .before .before .before .before .before .before .before .before .κs) (dens (c .before .before
-          .before .before .before .before .before .before .before .before .before .before .before .before .before .before .before .before .before
-          .before .before .before .before .before .before .κs) (c .before .before .before .before .before .before .before .before .before .before
-          .before .before .before .before .before .before .before .before .before .before .before .before .before .before .before .args))
-          (Enter.lastsP (c .before .before .before .before .before .before .before .before .before .before .before .before .before .before .before
-          .before .before .before .before .before .before .before .before .before .before .κs) 1 ps xs (dens (c .before .before .before .before
-          .before .before .before .before .before .before .before .before .before .before .before .before .before .before .before .before .before
-          .before .before .before .before .κs) (c .before .before .before .before .before .before .before .before .before .before .before .before
-          .before .before .before .before .before .before .before .before .before .before .before .before .before .args)) (m55 (c .before) (c
-          .slice-known2 .given) .1)))
+      Need-returns = (c : After-slice-known2) → Post· (c .before .before .before .before .before .before .before
+          .before .before .before .before .before .before .before .before .before .before .before .before .before
+          .before .before .before .before .before .κs) (dens (c .before .before .before .before .before .before .before
+          .before .before .before .before .before .before .before .before .before .before .before .before .before
+          .before .before .before .before .before .κs) (c .before .before .before .before .before .before .before
+          .before .before .before .before .before .before .before .before .before .before .before .before .before
+          .before .before .before .before .before .args)) (Function.resV r (c .before .before .before .before .before
+          .before .before .before .before .before .before .before .before .before .before .before .before .before
+          .before .before .before .before .before .before .before .κs) (m55 (c .before) (c .slice-known2 .given) .0)) (Clauses.atExit
+          (Kinds.endedOf 4 ps r) (c .before .before .before .before .before .before .before .before .before .before
+          .before .before .before .before .before .before .before .before .before .before .before .before .before
+          .before .before .κs) (dens (c .before .before .before .before .before .before .before .before .before .before
+          .before .before .before .before .before .before .before .before .before .before .before .before .before
+          .before .before .κs) (c .before .before .before .before .before .before .before .before .before .before
+          .before .before .before .before .before .before .before .before .before .before .before .before .before
+          .before .before .args)) (Enter.lastsP (c .before .before .before .before .before .before .before .before
+          .before .before .before .before .before .before .before .before .before .before .before .before .before
+          .before .before .before .before .κs) 1 ps xs (dens (c .before .before .before .before .before .before .before
+          .before .before .before .before .before .before .before .before .before .before .before .before .before
+          .before .before .before .before .before .κs) (c .before .before .before .before .before .before .before
+          .before .before .before .before .before .before .before .before .before .before .before .before .before
+          .before .before .before .before .before .args)) (m55 (c .before) (c .slice-known2 .given) .1)))
+
       abbrev pub m56 : (before : Then1) → Typed.Mo T77
-      m56 = λ before. s73 (before .before .before .before .before .before .before .before .before .before .before .before .before .before .before
-          .blocks) (m34 (before .before))
+      m56 = λ before. s73 (before .before .before .before .before .before .before .before .before .before .before
+          .before .before .before .before .blocks) (m34 (before .before))
+
       abbrev pub m57 : (before : Then1) → Typed.Mo T78
-      m57 = λ before. s74 (before .before .before .before .before .before .before .before .before .before .before .before .before .before .before
-          .blocks) (m56 before)
+      m57 = λ before. s74 (before .before .before .before .before .before .before .before .before .before .before
+          .before .before .before .before .blocks) (m56 before)
+
       module _ (before· : Then1) where
         pub record Else2·own : Type 0 where
           pub left : Path._≡_ (Row.get 26 (T42 .locals) (m34 (before· .before))) Bool'.false
+
       pub record Else2 : Type 0 where
         pub before : Then1
         pub if2 : Else2·own before
+
       abbrev pub Need-taken-with-requires : Type 0
-      Need-taken-with-requires = (c : Else2) → s75 (c .before .before .before .before .before .before .before .before .before .before .before .before
-          .before .before .before .blocks) .asks (m57 (c .before))
-      abbrev pub m58 : (before : Else2) → (given : s75 (before .before .before .before .before .before .before .before .before .before .before .before
-          .before .before .before .before .blocks) .gives (m57 (before .before))) → Typed.Mo T79
-      m58 = λ before given. s75 (before .before .before .before .before .before .before .before .before .before .before .before .before .before
-          .before .before .blocks) .next (m57 (before .before)) given
+      Need-taken-with-requires = (c : Else2) → s75 (c .before .before .before .before .before .before .before .before
+          .before .before .before .before .before .before .before .blocks) .asks (m57 (c .before))
+
+      abbrev pub m58 : (before : Else2) → (given : s75 (before .before .before .before .before .before .before .before
+          .before .before .before .before .before .before .before .before .blocks) .gives (m57 (before .before))) →
+          Typed.Mo T79
+      m58 = λ before given. s75 (before .before .before .before .before .before .before .before .before .before .before
+          .before .before .before .before .before .blocks) .next (m57 (before .before)) given
+
       module _ (before· : Else2) where
         abbrev pub After-taken-with·own : Type 0
-        After-taken-with·own = Called.Called ps·8 r·8 (claims· .17) T43 (record { pos = 5; st = List.[]; d = 0; at = λ x. x }, (record { pos = 6; st =
-            List.[]; d = 0; at = λ x. x }, tt),) (m57 (before· .before))
+        After-taken-with·own = Called.Called ps·8 r·8 (claims· .17) T43 (
+          record { pos = 5; st = List.[]; d = 0; at = λ x. x },
+          (record { pos = 6; st = List.[]; d = 0; at = λ x. x }, tt),
+        ) (m57 (before· .before))
+
       pub record After-taken-with : Type 0 where
         pub before : Else2
         pub taken-with : After-taken-with·own before
-      abbrev pub After-taken-with·gave : (c : After-taken-with) → s75 (c .before .before .before .before .before .before .before .before .before
-          .before .before .before .before .before .before .before .blocks) .gives (m57 (c .before .before))
-      After-taken-with·gave = λ c. Called.given ps·8 r·8 (claims· .17) T43 (record { pos = 5; st = List.[]; d = 0; at = λ x. x }, (record { pos = 6;
-          st = List.[]; d = 0; at = λ x. x }, tt),) (m57 (c .before .before)) (c .taken-with)
-      abbrev pub m59 : (before : Else2) → (given : s75 (before .before .before .before .before .before .before .before .before .before .before .before
-          .before .before .before .before .blocks) .gives (m57 (before .before))) → Typed.Mo T80
-      m59 = λ before given. s76 (before .before .before .before .before .before .before .before .before .before .before .before .before .before
-          .before .before .blocks) (m58 before given)
-      abbrev pub m60 : (before : Else2) → (given : s75 (before .before .before .before .before .before .before .before .before .before .before .before
-          .before .before .before .before .blocks) .gives (m57 (before .before))) → Typed.Mo T81
-      m60 = λ before given. s77 (before .before .before .before .before .before .before .before .before .before .before .before .before .before
-          .before .before .blocks) (m59 before given)
-      abbrev pub m61 : (before : Else2) → (given : s75 (before .before .before .before .before .before .before .before .before .before .before .before
-          .before .before .before .before .blocks) .gives (m57 (before .before))) → Typed.Mo T82
-      m61 = λ before given. s78 (before .before .before .before .before .before .before .before .before .before .before .before .before .before
-          .before .before .blocks) (m60 before given)
-      abbrev pub m62 : (before : Else2) → (given : s75 (before .before .before .before .before .before .before .before .before .before .before .before
-          .before .before .before .before .blocks) .gives (m57 (before .before))) → Typed.Mo T83
-      m62 = λ before given. s79 (before .before .before .before .before .before .before .before .before .before .before .before .before .before
-          .before .before .blocks) (m61 before given)
-      abbrev pub m63 : (before : Else2) → (given : s75 (before .before .before .before .before .before .before .before .before .before .before .before
-          .before .before .before .before .blocks) .gives (m57 (before .before))) → Typed.Mo T84
-      m63 = λ before given. s80 (before .before .before .before .before .before .before .before .before .before .before .before .before .before
-          .before .before .blocks) (m62 before given)
+
+      abbrev pub After-taken-with·gave : (c : After-taken-with) → s75 (c .before .before .before .before .before
+          .before .before .before .before .before .before .before .before .before .before .before .blocks) .gives
+          (m57 (c .before .before))
+      After-taken-with·gave = λ c. Called.given ps·8 r·8 (claims· .17) T43 (
+        record { pos = 5; st = List.[]; d = 0; at = λ x. x },
+        (record { pos = 6; st = List.[]; d = 0; at = λ x. x }, tt),
+      ) (m57 (c .before .before)) (c .taken-with)
+
+      abbrev pub m59 : (before : Else2) → (given : s75 (before .before .before .before .before .before .before .before
+          .before .before .before .before .before .before .before .before .blocks) .gives (m57 (before .before))) →
+          Typed.Mo T80
+      m59 = λ before given. s76 (before .before .before .before .before .before .before .before .before .before .before
+          .before .before .before .before .before .blocks) (m58 before given)
+
+      abbrev pub m60 : (before : Else2) → (given : s75 (before .before .before .before .before .before .before .before
+          .before .before .before .before .before .before .before .before .blocks) .gives (m57 (before .before))) →
+          Typed.Mo T81
+      m60 = λ before given. s77 (before .before .before .before .before .before .before .before .before .before .before
+          .before .before .before .before .before .blocks) (m59 before given)
+
+      abbrev pub m61 : (before : Else2) → (given : s75 (before .before .before .before .before .before .before .before
+          .before .before .before .before .before .before .before .before .blocks) .gives (m57 (before .before))) →
+          Typed.Mo T82
+      m61 = λ before given. s78 (before .before .before .before .before .before .before .before .before .before .before
+          .before .before .before .before .before .blocks) (m60 before given)
+
+      abbrev pub m62 : (before : Else2) → (given : s75 (before .before .before .before .before .before .before .before
+          .before .before .before .before .before .before .before .before .blocks) .gives (m57 (before .before))) →
+          Typed.Mo T83
+      m62 = λ before given. s79 (before .before .before .before .before .before .before .before .before .before .before
+          .before .before .before .before .before .blocks) (m61 before given)
+
+      abbrev pub m63 : (before : Else2) → (given : s75 (before .before .before .before .before .before .before .before
+          .before .before .before .before .before .before .before .before .blocks) .gives (m57 (before .before))) →
+          Typed.Mo T84
+      m63 = λ before given. s80 (before .before .before .before .before .before .before .before .before .before .before
+          .before .before .before .before .before .blocks) (m62 before given)
+
       abbrev pub Need-same-length-5 : Type 0
-      Need-same-length-5 = (c : After-taken-with) → MutSlice.SameLen (Row.get 1 (T84 .locals) (m63 (c .before) (After-taken-with·gave c))) (dens (c
-          .before .before .before .before .before .before .before .before .before .before .before .before .before .before .before .before .κs) (c
-          .before .before .before .before .before .before .before .before .before .before .before .before .before .before .before .before .args) .0)
-      abbrev pub Need-same-length-6 : Type 0
-      Need-same-length-6 = (c : After-taken-with) → MutSlice.SameLen (Row.get 2 (T84 .locals) (m63 (c .before) (After-taken-with·gave c))) (dens (c
-          .before .before .before .before .before .before .before .before .before .before .before .before .before .before .before .before .κs) (c
-          .before .before .before .before .before .before .before .before .before .before .before .before .before .before .before .before .args) .1
+      Need-same-length-5 = (c : After-taken-with) → MutSlice.SameLen (Row.get 1 (T84 .locals)
+          (m63 (c .before) (After-taken-with·gave c))) (dens (c .before .before .before .before .before .before .before
+          .before .before .before .before .before .before .before .before .before .κs) (c .before .before .before
+          .before .before .before .before .before .before .before .before .before .before .before .before .before .args)
           .0)
+
+      abbrev pub Need-same-length-6 : Type 0
+      Need-same-length-6 = (c : After-taken-with) → MutSlice.SameLen (Row.get 2 (T84 .locals)
+          (m63 (c .before) (After-taken-with·gave c))) (dens (c .before .before .before .before .before .before .before
+          .before .before .before .before .before .before .before .before .before .κs) (c .before .before .before
+          .before .before .before .before .before .before .before .before .before .before .before .before .before .args)
+          .1 .0)
+
       abbrev pub Need-returns-2 : Type 0
-      Need-returns-2 = (c : After-taken-with) → Post· (c .before .before .before .before .before .before .before .before .before .before .before
-          .before .before .before .before .before .κs) (dens (c .before .before .before .before .before .before .before .before .before .before
-          .before .before .before .before .before .before .κs) (c .before .before .before .before .before .before .before .before .before .before
-          .before .before .before .before .before .before .args)) (Function.resV r (c .before .before .before .before .before .before .before .before
-          .before .before .before .before .before .before .before .before .κs) (m63 (c .before) (After-taken-with·gave c) .0)) (Clauses.atExit
-          (Kinds.endedOf 4 ps r) (c .before .before .before .before .before .before .before .before .before .before .before .before .before .before
-          .before .before .κs) (dens (c .before .before .before .before .before .before .before .before .before .before .before .before .before
-          .before .before .before .κs) (c .before .before .before .before .before .before .before .before .before .before .before .before .before
-          .before .before .before .args)) (Enter.lastsP (c .before .before .before .before .before .before .before .before .before .before .before
-          .before .before .before .before .before .κs) 1 ps xs (dens (c .before .before .before .before .before .before .before .before .before
-          .before .before .before .before .before .before .before .κs) (c .before .before .before .before .before .before .before .before .before
-          .before .before .before .before .before .before .before .args)) (m63 (c .before) (After-taken-with·gave c) .1)))
+      Need-returns-2 = (c : After-taken-with) → Post· (c .before .before .before .before .before .before .before
+          .before .before .before .before .before .before .before .before .before .κs) (dens (c .before .before .before
+          .before .before .before .before .before .before .before .before .before .before .before .before .before .κs) (c
+          .before .before .before .before .before .before .before .before .before .before .before .before .before
+          .before .before .before .args)) (Function.resV r (c .before .before .before .before .before .before .before
+          .before .before .before .before .before .before .before .before .before .κs)
+          (m63 (c .before) (After-taken-with·gave c) .0)) (Clauses.atExit (Kinds.endedOf 4 ps r) (c .before .before
+          .before .before .before .before .before .before .before .before .before .before .before .before .before
+          .before .κs) (dens (c .before .before .before .before .before .before .before .before .before .before .before
+          .before .before .before .before .before .κs) (c .before .before .before .before .before .before .before
+          .before .before .before .before .before .before .before .before .before .args)) (Enter.lastsP (c .before
+          .before .before .before .before .before .before .before .before .before .before .before .before .before
+          .before .before .κs) 1 ps xs (dens (c .before .before .before .before .before .before .before .before .before
+          .before .before .before .before .before .before .before .κs) (c .before .before .before .before .before
+          .before .before .before .before .before .before .before .before .before .before .before .args))
+          (m63 (c .before) (After-taken-with·gave c) .1)))
+
       abbrev pub m64 : (before : After-is-taken) → Typed.Mo T85
-      m64 = λ before. s81 (before .before .before .before .before .before .before .before .before .before .before .before .before .before .blocks)
-          (m31 (before .before) (After-is-taken·gave before))
+      m64 = λ before. s81 (before .before .before .before .before .before .before .before .before .before .before
+          .before .before .before .blocks) (m31 (before .before) (After-is-taken·gave before))
+
       abbrev pub m65 : (before : After-is-taken) → Typed.Mo T86
-      m65 = λ before. s82 (before .before .before .before .before .before .before .before .before .before .before .before .before .before .blocks)
-          (m64 before)
+      m65 = λ before. s82 (before .before .before .before .before .before .before .before .before .before .before
+          .before .before .before .blocks) (m64 before)
+
       module _ (before· : After-is-taken) where
         pub record Else1·own : Type 0 where
-          pub left : Path._≡_ (Row.get 25 (T38 .locals) (m31 (before· .before) (After-is-taken·gave before·))) Bool'.false
+          pub left : Path._≡_ (Row.get 25 (T38 .locals) (m31 (before· .before) (After-is-taken·gave before·)))
+              Bool'.false
+
       pub record Else1 : Type 0 where
         pub before : After-is-taken
         pub if1 : Else1·own before
+
       abbrev pub Need-refused-requires : Type 0
-      Need-refused-requires = (c : Else1) → s83 (c .before .before .before .before .before .before .before .before .before .before .before .before
-          .before .before .blocks) .asks (m65 (c .before))
-      abbrev pub m66 : (before : Else1) → (given : s83 (before .before .before .before .before .before .before .before .before .before .before .before
-          .before .before .before .blocks) .gives (m65 (before .before))) → Typed.Mo T87
-      m66 = λ before given. s83 (before .before .before .before .before .before .before .before .before .before .before .before .before .before
-          .before .blocks) .next (m65 (before .before)) given
+      Need-refused-requires = (c : Else1) → s83 (c .before .before .before .before .before .before .before .before
+          .before .before .before .before .before .before .blocks) .asks (m65 (c .before))
+
+      abbrev pub m66 : (before : Else1) → (given : s83 (before .before .before .before .before .before .before .before
+          .before .before .before .before .before .before .before .blocks) .gives (m65 (before .before))) → Typed.Mo
+          T87
+      m66 = λ before given. s83 (before .before .before .before .before .before .before .before .before .before .before
+          .before .before .before .before .blocks) .next (m65 (before .before)) given
+
       module _ (before· : Else1) where
         abbrev pub After-refused·own : Type 0
-        After-refused·own = Called.Called ps·9 r·9 (claims· .19) T39 (record { pos = 5; st = List.[]; d = 0; at = λ x. x }, (record { pos = 6; st =
-            List.[]; d = 0; at = λ x. x }, (record { pos = 18; st = List.[]; d = 0; at = λ x. x }, tt),),) (m65 (before· .before))
+        After-refused·own = Called.Called ps·9 r·9 (claims· .19) T39 (
+          record { pos = 5; st = List.[]; d = 0; at = λ x. x },
+          (
+            record { pos = 6; st = List.[]; d = 0; at = λ x. x },
+            (record { pos = 18; st = List.[]; d = 0; at = λ x. x }, tt),
+          ),
+        ) (m65 (before· .before))
+
       pub record After-refused : Type 0 where
         pub before : Else1
         pub refused : After-refused·own before
-      abbrev pub After-refused·gave : (c : After-refused) → s83 (c .before .before .before .before .before .before .before .before .before .before
-          .before .before .before .before .before .blocks) .gives (m65 (c .before .before))
-      After-refused·gave = λ c. Called.given ps·9 r·9 (claims· .19) T39 (record { pos = 5; st = List.[]; d = 0; at = λ x. x }, (record { pos = 6; st =
-          List.[]; d = 0; at = λ x. x }, (record { pos = 18; st = List.[]; d = 0; at = λ x. x }, tt),),) (m65 (c .before .before)) (c .refused)
-      abbrev pub m67 : (before : Else1) → (given : s83 (before .before .before .before .before .before .before .before .before .before .before .before
-          .before .before .before .blocks) .gives (m65 (before .before))) → Typed.Mo T88
-      m67 = λ before given. s84 (before .before .before .before .before .before .before .before .before .before .before .before .before .before
-          .before .blocks) (m66 before given)
-      abbrev pub m68 : (before : Else1) → (given : s83 (before .before .before .before .before .before .before .before .before .before .before .before
-          .before .before .before .blocks) .gives (m65 (before .before))) → Typed.Mo T89
-      m68 = λ before given. s85 (before .before .before .before .before .before .before .before .before .before .before .before .before .before
-          .before .blocks) (m67 before given)
-      abbrev pub m69 : (before : Else1) → (given : s83 (before .before .before .before .before .before .before .before .before .before .before .before
-          .before .before .before .blocks) .gives (m65 (before .before))) → Typed.Mo T90
-      m69 = λ before given. s86 (before .before .before .before .before .before .before .before .before .before .before .before .before .before
-          .before .blocks) (m68 before given)
-      abbrev pub m70 : (before : Else1) → (given : s83 (before .before .before .before .before .before .before .before .before .before .before .before
-          .before .before .before .blocks) .gives (m65 (before .before))) → Typed.Mo T91
-      m70 = λ before given. s87 (before .before .before .before .before .before .before .before .before .before .before .before .before .before
-          .before .blocks) (m69 before given)
-      abbrev pub m71 : (before : Else1) → (given : s83 (before .before .before .before .before .before .before .before .before .before .before .before
-          .before .before .before .blocks) .gives (m65 (before .before))) → Typed.Mo T92
-      m71 = λ before given. s88 (before .before .before .before .before .before .before .before .before .before .before .before .before .before
-          .before .blocks) (m70 before given)
-      abbrev pub m72 : (before : Else1) → (given : s83 (before .before .before .before .before .before .before .before .before .before .before .before
-          .before .before .before .blocks) .gives (m65 (before .before))) → Typed.Mo T93
-      m72 = λ before given. s89 (before .before .before .before .before .before .before .before .before .before .before .before .before .before
-          .before .blocks) (m71 before given)
+
+      abbrev pub After-refused·gave : (c : After-refused) → s83 (c .before .before .before .before .before .before
+          .before .before .before .before .before .before .before .before .before .blocks) .gives
+          (m65 (c .before .before))
+      After-refused·gave = λ c. Called.given ps·9 r·9 (claims· .19) T39 (
+        record { pos = 5; st = List.[]; d = 0; at = λ x. x },
+        (
+          record { pos = 6; st = List.[]; d = 0; at = λ x. x },
+          (record { pos = 18; st = List.[]; d = 0; at = λ x. x }, tt),
+        ),
+      ) (m65 (c .before .before)) (c .refused)
+
+      abbrev pub m67 : (before : Else1) → (given : s83 (before .before .before .before .before .before .before .before
+          .before .before .before .before .before .before .before .blocks) .gives (m65 (before .before))) → Typed.Mo
+          T88
+      m67 = λ before given. s84 (before .before .before .before .before .before .before .before .before .before .before
+          .before .before .before .before .blocks) (m66 before given)
+
+      abbrev pub m68 : (before : Else1) → (given : s83 (before .before .before .before .before .before .before .before
+          .before .before .before .before .before .before .before .blocks) .gives (m65 (before .before))) → Typed.Mo
+          T89
+      m68 = λ before given. s85 (before .before .before .before .before .before .before .before .before .before .before
+          .before .before .before .before .blocks) (m67 before given)
+
+      abbrev pub m69 : (before : Else1) → (given : s83 (before .before .before .before .before .before .before .before
+          .before .before .before .before .before .before .before .blocks) .gives (m65 (before .before))) → Typed.Mo
+          T90
+      m69 = λ before given. s86 (before .before .before .before .before .before .before .before .before .before .before
+          .before .before .before .before .blocks) (m68 before given)
+
+      abbrev pub m70 : (before : Else1) → (given : s83 (before .before .before .before .before .before .before .before
+          .before .before .before .before .before .before .before .blocks) .gives (m65 (before .before))) → Typed.Mo
+          T91
+      m70 = λ before given. s87 (before .before .before .before .before .before .before .before .before .before .before
+          .before .before .before .before .blocks) (m69 before given)
+
+      abbrev pub m71 : (before : Else1) → (given : s83 (before .before .before .before .before .before .before .before
+          .before .before .before .before .before .before .before .blocks) .gives (m65 (before .before))) → Typed.Mo
+          T92
+      m71 = λ before given. s88 (before .before .before .before .before .before .before .before .before .before .before
+          .before .before .before .before .blocks) (m70 before given)
+
+      abbrev pub m72 : (before : Else1) → (given : s83 (before .before .before .before .before .before .before .before
+          .before .before .before .before .before .before .before .blocks) .gives (m65 (before .before))) → Typed.Mo
+          T93
+      m72 = λ before given. s89 (before .before .before .before .before .before .before .before .before .before .before
+          .before .before .before .before .blocks) (m71 before given)
+
       abbrev pub Need-same-length-7 : Type 0
-      Need-same-length-7 = (c : After-refused) → MutSlice.SameLen (Row.get 1 (T93 .locals) (m72 (c .before) (After-refused·gave c))) (dens (c .before
-          .before .before .before .before .before .before .before .before .before .before .before .before .before .before .κs) (c .before .before
-          .before .before .before .before .before .before .before .before .before .before .before .before .before .args) .0)
+      Need-same-length-7 = (c : After-refused) → MutSlice.SameLen (Row.get 1 (T93 .locals)
+          (m72 (c .before) (After-refused·gave c))) (dens (c .before .before .before .before .before .before .before
+          .before .before .before .before .before .before .before .before .κs) (c .before .before .before .before
+          .before .before .before .before .before .before .before .before .before .before .before .args) .0)
+
       abbrev pub Need-same-length-8 : Type 0
-      Need-same-length-8 = (c : After-refused) → MutSlice.SameLen (Row.get 2 (T93 .locals) (m72 (c .before) (After-refused·gave c))) (dens (c .before
-          .before .before .before .before .before .before .before .before .before .before .before .before .before .before .κs) (c .before .before
-          .before .before .before .before .before .before .before .before .before .before .before .before .before .args) .1 .0)
+      Need-same-length-8 = (c : After-refused) → MutSlice.SameLen (Row.get 2 (T93 .locals)
+          (m72 (c .before) (After-refused·gave c))) (dens (c .before .before .before .before .before .before .before
+          .before .before .before .before .before .before .before .before .κs) (c .before .before .before .before
+          .before .before .before .before .before .before .before .before .before .before .before .args) .1 .0)
+
       abbrev pub Need-returns-3 : Type 0
-      Need-returns-3 = (c : After-refused) → Post· (c .before .before .before .before .before .before .before .before .before .before .before .before
-          .before .before .before .κs) (dens (c .before .before .before .before .before .before .before .before .before .before .before .before
-          .before .before .before .κs) (c .before .before .before .before .before .before .before .before .before .before .before .before .before
-          .before .before .args)) (Function.resV r (c .before .before .before .before .before .before .before .before .before .before .before .before
-          .before .before .before .κs) (m72 (c .before) (After-refused·gave c) .0)) (Clauses.atExit (Kinds.endedOf 4 ps r) (c .before .before .before
-          .before .before .before .before .before .before .before .before .before .before .before .before .κs) (dens (c .before .before .before
-          .before .before .before .before .before .before .before .before .before .before .before .before .κs) (c .before .before .before .before
-          .before .before .before .before .before .before .before .before .before .before .before .args)) (Enter.lastsP (c .before .before .before
-          .before .before .before .before .before .before .before .before .before .before .before .before .κs) 1 ps xs (dens (c .before .before
-          .before .before .before .before .before .before .before .before .before .before .before .before .before .κs) (c .before .before .before
-          .before .before .before .before .before .before .before .before .before .before .before .before .args)) (m72 (c .before) (After-refused·gave
-          c) .1)))
-      module _ (used-requires : Need-used-requires) (entry-answer-requires : Need-entry-answer-requires) (generation-answer-requires :
-          Need-generation-answer-requires) (changed-requires : Need-changed-requires) (change-answer-requires : Need-change-answer-requires)
-          (first-refusal-requires : Need-first-refusal-requires) (first-refusal-requires-2 : Need-first-refusal-requires-2) (is-taken-requires :
-          Need-is-taken-requires) (switch-to-requires : Need-switch-to-requires) (same-length : Need-same-length) (same-length-2 : Need-same-length-2)
-          (same-length-3 : Need-same-length-3) (same-length-4 : Need-same-length-4) (returns : Need-returns) (taken-with-requires :
-          Need-taken-with-requires) (same-length-5 : Need-same-length-5) (same-length-6 : Need-same-length-6) (returns-2 : Need-returns-2)
-          (refused-requires : Need-refused-requires) (same-length-7 : Need-same-length-7) (same-length-8 : Need-same-length-8) (returns-3 :
-          Need-returns-3) where
-        lay13 : (c : After-refused) → at59 (c .before .before .before .before .before .before .before .before .before .before .before .before .before
-            .before .before .blocks) (W0 (c .before .before .before .before .before .before .before .before .before .before .before .before .before
-            .before .before .κs) (c .before .before .before .before .before .before .before .before .before .before .before .before .before .before
-            .before .args) (c .before .before .before .before .before .before .before .before .before .before .before .before .before .before .before
-            .blocks)) (m66 (c .before) (After-refused·gave c))
-        lay13 = λ c. ((MutSlice.fix-len (Row.get 1 (T93 .locals) (m72 (c .before) (After-refused·gave c)) .ptr) (Row.get 1 (T93 .locals) (m72 (c
-            .before) (After-refused·gave c)) .name) (Row.get 1 (T93 .locals) (m72 (c .before) (After-refused·gave c)) .now) (dens (c .before .before
-            .before .before .before .before .before .before .before .before .before .before .before .before .before .κs) (c .before .before .before
-            .before .before .before .before .before .before .before .before .before .before .before .before .args) .0 .now) (same-length-7 record {
-            before = c .before; refused = c .refused }), (MutSlice.fix-len (Row.get 2 (T93 .locals) (m72 (c .before) (After-refused·gave c)) .ptr)
-            (Row.get 2 (T93 .locals) (m72 (c .before) (After-refused·gave c)) .name) (Row.get 2 (T93 .locals) (m72 (c .before) (After-refused·gave c))
-            .now) (dens (c .before .before .before .before .before .before .before .before .before .before .before .before .before .before .before
-            .κs) (c .before .before .before .before .before .before .before .before .before .before .before .before .before .before .before .args) .1
-            .0 .now) (same-length-8 record { before = c .before; refused = c .refused }), (Path.refl, (Path.refl, (tt, (tt, (tt, (tt, tt)))))),),),
-            returns-3 record { before = c .before; refused = c .refused },)
-        lay12 : (c : Else1) → at60 (c .before .before .before .before .before .before .before .before .before .before .before .before .before .before
-            .blocks) (W0 (c .before .before .before .before .before .before .before .before .before .before .before .before .before .before .κs) (c
-            .before .before .before .before .before .before .before .before .before .before .before .before .before .before .args) (c .before .before
-            .before .before .before .before .before .before .before .before .before .before .before .before .blocks)) (m65 (c .before))
-        lay12 = λ c. (refused-requires record { before = c .before; if1 = c .if1 }, λ g. lay13 record { before = record { before = c .before; if1 = c
-            .if1 }; refused = Called.called ps·9 r·9 (claims· .19) T39 (record { pos = 5; st = List.[]; d = 0; at = λ x. x }, (record { pos = 6; st =
-            List.[]; d = 0; at = λ x. x }, (record { pos = 18; st = List.[]; d = 0; at = λ x. x }, tt),),) (m65 (c .before)) g; },)
-        lay11 : (c : After-taken-with) → at43 (c .before .before .before .before .before .before .before .before .before .before .before .before
-            .before .before .before .before .blocks) (W1 (c .before .before .before .before) (After-is-taken·gave (c .before .before .before))) (m58
-            (c .before) (After-taken-with·gave c))
-        lay11 = λ c. ((MutSlice.fix-len (Row.get 1 (T84 .locals) (m63 (c .before) (After-taken-with·gave c)) .ptr) (Row.get 1 (T84 .locals) (m63 (c
-            .before) (After-taken-with·gave c)) .name) (Row.get 1 (T84 .locals) (m63 (c .before) (After-taken-with·gave c)) .now) (dens (c .before
-            .before .before .before .before .before .before .before .before .before .before .before .before .before .before .before .κs) (c .before
-            .before .before .before .before .before .before .before .before .before .before .before .before .before .before .before .args) .0 .now)
-            (same-length-5 record { before = c .before; taken-with = c .taken-with }), (MutSlice.fix-len (Row.get 2 (T84 .locals) (m63 (c .before)
-            (After-taken-with·gave c)) .ptr) (Row.get 2 (T84 .locals) (m63 (c .before) (After-taken-with·gave c)) .name) (Row.get 2 (T84 .locals) (m63
-            (c .before) (After-taken-with·gave c)) .now) (dens (c .before .before .before .before .before .before .before .before .before .before
-            .before .before .before .before .before .before .κs) (c .before .before .before .before .before .before .before .before .before .before
-            .before .before .before .before .before .before .args) .1 .0 .now) (same-length-6 record { before = c .before; taken-with = c .taken-with
-            }), (Path.refl, (Path.refl, (tt, (tt, (tt, (tt, tt)))))),),), returns-2 record { before = c .before; taken-with = c .taken-with },)
-        lay10 : (c : Else2) → at44 (c .before .before .before .before .before .before .before .before .before .before .before .before .before .before
-            .before .blocks) (W1 (c .before .before .before) (After-is-taken·gave (c .before .before))) (m57 (c .before))
-        lay10 = λ c. (taken-with-requires record { before = c .before; if2 = c .if2 }, λ g. lay11 record { before = record { before = c .before; if2 =
-            c .if2 }; taken-with = Called.called ps·8 r·8 (claims· .17) T43 (record { pos = 5; st = List.[]; d = 0; at = λ x. x }, (record { pos = 6;
-            st = List.[]; d = 0; at = λ x. x }, tt),) (m57 (c .before)) g; },)
-        lay9 : (c : After-switch-to) → at19 (c .before .before .before .before .before .before .before .before .before .before .before .before .before
-            .before .before .before .before .before .before .before .blocks) (W2 (c .before .before .before .before .before .before .before)) (m44 (c
-            .before) (After-switch-to·gave c))
-        lay9 = λ c. (Path.refl, λ g. (Path.refl, λ g'. (Path.refl, λ g''. (Path.refl, λ g'3. λ g'4. ((MutSlice.fix-len (Row.get 1 (T76 .locals) (m55
-            record { before = record { before = record { before = record { before = record { before = c .before; switch-to = c .switch-to }; pending =
-            record { given = g }; }; circuits = record { given = g' }; }; inflight = record { given = g'' }; }; out = record { given = g'3 }; } g'4)
-            .ptr) (Row.get 1 (T76 .locals) (m55 record { before = record { before = record { before = record { before = record { before = c .before;
-            switch-to = c .switch-to }; pending = record { given = g }; }; circuits = record { given = g' }; }; inflight = record { given = g'' }; };
-            out = record { given = g'3 }; } g'4) .name) (Row.get 1 (T76 .locals) (m55 record { before = record { before = record { before = record {
-            before = record { before = c .before; switch-to = c .switch-to }; pending = record { given = g }; }; circuits = record { given = g' }; };
-            inflight = record { given = g'' }; }; out = record { given = g'3 }; } g'4) .now) (dens (c .before .before .before .before .before .before
-            .before .before .before .before .before .before .before .before .before .before .before .before .before .before .κs) (c .before .before
-            .before .before .before .before .before .before .before .before .before .before .before .before .before .before .before .before .before
-            .before .args) .0 .now) (same-length record { before = record { before = record { before = record { before = record { before = record {
-            before = c .before; switch-to = c .switch-to; }; pending = record { given = g }; }; circuits = record { given = g' }; }; inflight = record
-            { given = g'' }; }; out = record { given = g'3 }; }; slice-known2 = record { given = g'4 }; }), (MutSlice.fix-len (Row.get 2 (T76 .locals)
-            (m55 record { before = record { before = record { before = record { before = record { before = c .before; switch-to = c .switch-to };
-            pending = record { given = g }; }; circuits = record { given = g' }; }; inflight = record { given = g'' }; }; out = record { given = g'3
-            }; } g'4) .ptr) (Row.get 2 (T76 .locals) (m55 record { before = record { before = record { before = record { before = record { before = c
-            .before; switch-to = c .switch-to }; pending = record { given = g }; }; circuits = record { given = g' }; }; inflight = record { given =
-            g'' }; }; out = record { given = g'3 }; } g'4) .name) (Row.get 2 (T76 .locals) (m55 record { before = record { before = record { before =
-            record { before = record { before = c .before; switch-to = c .switch-to }; pending = record { given = g }; }; circuits = record { given =
-            g' }; }; inflight = record { given = g'' }; }; out = record { given = g'3 }; } g'4) .now) (dens (c .before .before .before .before .before
-            .before .before .before .before .before .before .before .before .before .before .before .before .before .before .before .κs) (c .before
-            .before .before .before .before .before .before .before .before .before .before .before .before .before .before .before .before .before
-            .before .before .args) .1 .0 .now) (same-length-2 record { before = record { before = record { before = record { before = record { before
-            = record { before = c .before; switch-to = c .switch-to; }; pending = record { given = g }; }; circuits = record { given = g' }; };
-            inflight = record { given = g'' }; }; out = record { given = g'3 }; }; slice-known2 = record { given = g'4 }; }), (MutSlice.fix-len
-            (Row.get 3 (T76 .locals) (m55 record { before = record { before = record { before = record { before = record { before = c .before;
-            switch-to = c .switch-to }; pending = record { given = g }; }; circuits = record { given = g' }; }; inflight = record { given = g'' }; };
-            out = record { given = g'3 }; } g'4) .ptr) (Row.get 3 (T76 .locals) (m55 record { before = record { before = record { before = record {
-            before = record { before = c .before; switch-to = c .switch-to }; pending = record { given = g }; }; circuits = record { given = g' }; };
-            inflight = record { given = g'' }; }; out = record { given = g'3 }; } g'4) .name) (Row.get 3 (T76 .locals) (m55 record { before = record {
-            before = record { before = record { before = record { before = c .before; switch-to = c .switch-to }; pending = record { given = g }; };
-            circuits = record { given = g' }; }; inflight = record { given = g'' }; }; out = record { given = g'3 }; } g'4) .now) (dens (c .before
-            .before .before .before .before .before .before .before .before .before .before .before .before .before .before .before .before .before
-            .before .before .κs) (c .before .before .before .before .before .before .before .before .before .before .before .before .before .before
-            .before .before .before .before .before .before .args) .1 .1 .0 .now) (same-length-3 record { before = record { before = record { before =
-            record { before = record { before = record { before = c .before; switch-to = c .switch-to; }; pending = record { given = g }; }; circuits
-            = record { given = g' }; }; inflight = record { given = g'' }; }; out = record { given = g'3 }; }; slice-known2 = record { given = g'4 };
-            }), (MutSlice.fix-len (Row.get 4 (T76 .locals) (m55 record { before = record { before = record { before = record { before = record {
-            before = c .before; switch-to = c .switch-to; }; pending = record { given = g }; }; circuits = record { given = g' }; }; inflight = record
-            { given = g'' }; }; out = record { given = g'3 }; } g'4) .ptr) (Row.get 4 (T76 .locals) (m55 record { before = record { before = record {
-            before = record { before = record { before = c .before; switch-to = c .switch-to; }; pending = record { given = g }; }; circuits = record
-            { given = g' }; }; inflight = record { given = g'' }; }; out = record { given = g'3 }; } g'4) .name) (Row.get 4 (T76 .locals) (m55 record
-            { before = record { before = record { before = record { before = record { before = c .before; switch-to = c .switch-to; }; pending =
-            record { given = g }; }; circuits = record { given = g' }; }; inflight = record { given = g'' }; }; out = record { given = g'3 }; } g'4)
-            .now) (dens (c .before .before .before .before .before .before .before .before .before .before .before .before .before .before .before
-            .before .before .before .before .before .κs) (c .before .before .before .before .before .before .before .before .before .before .before
-            .before .before .before .before .before .before .before .before .before .args) .1 .1 .1 .0 .now) (same-length-4 record { before = record {
-            before = record { before = record { before = record { before = record { before = c .before; switch-to = c .switch-to; }; pending = record
-            { given = g }; }; circuits = record { given = g' }; }; inflight = record { given = g'' }; }; out = record { given = g'3 }; }; slice-known2
-            = record { given = g'4 }; }), (tt, (tt, (tt, (tt, tt)))),),),),), returns record { before = record { before = record { before = record {
-            before = record { before = record { before = c .before; switch-to = c .switch-to }; pending = record { given = g }; }; circuits = record {
-            given = g' }; }; inflight = record { given = g'' }; }; out = record { given = g'3 }; }; slice-known2 = record { given = g'4 }; },),),),),)
-        lay8 : (c : After-is-taken) → at61 (c .before .before .before .before .before .before .before .before .before .before .before .before .before
-            .blocks) (W0 (c .before .before .before .before .before .before .before .before .before .before .before .before .before .κs) (c .before
-            .before .before .before .before .before .before .before .before .before .before .before .before .args) (c .before .before .before .before
-            .before .before .before .before .before .before .before .before .before .blocks)) (m31 (c .before) (After-is-taken·gave c))
-        lay8 = λ c. (λ taken. (λ taken'. λ g. (Path.refl, λ g'. (Path.refl, λ g''. (Path.refl, λ g'3. (Path.refl, (switch-to-requires record { before
-            = record { before = record { before = record { before = record { before = record { before = record { before = c .before; is-taken = c
-            .is-taken }; if1 = record { taken = taken }; }; if2 = record { taken = taken' }; }; switch-to-arg = record { given = g }; };
-            switch-to-arg2 = record { given = g' }; }; switch-to-arg3 = record { given = g'' }; }; switch-to-arg4 = record { given = g'3 }; }, λ g'4.
-            lay9 record { before = record { before = record { before = record { before = record { before = record { before = record { before = record
-            { before = c .before; is-taken = c .is-taken; }; if1 = record { taken = taken }; }; if2 = record { taken = taken' }; }; switch-to-arg =
-            record { given = g }; }; switch-to-arg2 = record { given = g' }; }; switch-to-arg3 = record { given = g'' }; }; switch-to-arg4 = record {
-            given = g'3 }; }; switch-to = Called.called ps·7 r·7 (claims· .15) T56 (record { pos = 28; ty = Syntax.tyRef Syntax.erased Syntax.mut
-            RelayPending.to; ref = λ x. x; }, (record { pos = 30; ty = Syntax.tyRef Syntax.erased Syntax.mut RelayCircuit.to; ref = λ x. x; }, (record
-            { pos = 32; ty = Syntax.tyRef Syntax.erased Syntax.mut InflightAction.to; ref = λ x. x; }, (record { pos = 34; ty = Syntax.tyRef
-            Syntax.erased Syntax.mut (Syntax.tyInt Syntax.w32); ref = λ x. x; }, (record { pos = 5; st = List.[]; d = 0; at = λ x. x }, (record { pos
-            = 6; st = List.[]; d = 0; at = λ x. x }, (Bool.bAt 8 λ x. x, (record { pos = 13; st = List.[]; d = 0; at = λ x. x }, tt),),),),),),),)
-            (m43 record { before = record { before = record { before = record { before = record { before = record { before = c .before; is-taken = c
-            .is-taken }; if1 = record { taken = taken }; }; if2 = record { taken = taken' }; }; switch-to-arg = record { given = g }; };
-            switch-to-arg2 = record { given = g' }; }; switch-to-arg3 = record { given = g'' }; } g'3) g'4; },),),),),), λ left. lay10 record { before
-            = record { before = record { before = c .before; is-taken = c .is-taken }; if1 = record { taken = taken }; }; if2 = record { left = left
-            }; },), λ left. lay12 record { before = record { before = c .before; is-taken = c .is-taken }; if1 = record { left = left }; },)
-        lay7 : (c : After-first-refusal2) → at64 (c .before .before .before .before .before .before .before .before .before .before .before .before
-            .blocks) (W0 (c .before .before .before .before .before .before .before .before .before .before .before .before .κs) (c .before .before
-            .before .before .before .before .before .before .before .before .before .before .args) (c .before .before .before .before .before .before
-            .before .before .before .before .before .before .blocks)) (m28 (c .before) (After-first-refusal2·gave c))
-        lay7 = λ c. (is-taken-requires record { before = c .before; first-refusal2 = c .first-refusal2 }, λ g. lay8 record { before = record { before
-            = c .before; first-refusal2 = c .first-refusal2 }; is-taken = Called.called ps·6 r·6 (claims· .13) T37 (record { pos = 18; st = List.[]; d
-            = 0; at = λ x. x }, tt,) (m30 (c .before) (After-first-refusal2·gave c)) g; },)
-        lay6 : (c : After-first-refusal) → at67 (c .before .before .before .before .before .before .before .before .before .before .before .blocks)
-            (W0 (c .before .before .before .before .before .before .before .before .before .before .before .κs) (c .before .before .before .before
-            .before .before .before .before .before .before .before .args) (c .before .before .before .before .before .before .before .before .before
-            .before .before .blocks)) (m25 (c .before) (After-first-refusal·gave c))
-        lay6 = λ c. (first-refusal-requires-2 record { before = c .before; first-refusal = c .first-refusal; }, λ g. lay7 record { before = record {
-            before = c .before; first-refusal = c .first-refusal }; first-refusal2 = Called.called ps·5 r·5 (claims· .11) T34 (record { pos = 12; st =
-            List.[]; d = 0; at = λ x. x }, (record { pos = 17; st = List.[]; d = 0; at = λ x. x }, tt),) (m27 (c .before) (After-first-refusal·gave
-            c)) g; },)
-        lay5 : (c : After-change-answer) → at68 (c .before .before .before .before .before .before .before .before .before .before .blocks) (W0 (c
-            .before .before .before .before .before .before .before .before .before .before .κs) (c .before .before .before .before .before .before
-            .before .before .before .before .args) (c .before .before .before .before .before .before .before .before .before .before .blocks)) (m24
-            (c .before) (After-change-answer·gave c))
-        lay5 = λ c. (first-refusal-requires record { before = c .before; change-answer = c .change-answer }, λ g. lay6 record { before = record {
-            before = c .before; change-answer = c .change-answer }; first-refusal = Called.called ps·5 r·5 (claims· .11) T31 (record { pos = 14; st =
-            List.[]; d = 0; at = λ x. x }, (record { pos = 16; st = List.[]; d = 0; at = λ x. x }, tt),) (m24 (c .before) (After-change-answer·gave
-            c)) g; },)
-        lay4 : (c : After-changed) → at69 (c .before .before .before .before .before .before .before .before .before .blocks) (W0 (c .before .before
-            .before .before .before .before .before .before .before .κs) (c .before .before .before .before .before .before .before .before .before
-            .args) (c .before .before .before .before .before .before .before .before .before .blocks)) (m23 (c .before) (After-changed·gave c))
-        lay4 = λ c. (change-answer-requires record { before = c .before; changed = c .changed }, λ g. lay5 record { before = record { before = c
-            .before; changed = c .changed }; change-answer = Called.called ps·4 r·4 (claims· .9) T30 (Num.vFld 5 ((Syntax.field 1) ∷ List.[]) 16 λ x.
-            OpaqueRelayRuntime.struct .as-values x .1 .0, (Bool.bAt 15 λ x. x, tt),) (m23 (c .before) (After-changed·gave c)) g; },)
-        lay3 : (c : After-generation-answer) → at70 (c .before .before .before .before .before .before .before .before .blocks) (W0 (c .before .before
-            .before .before .before .before .before .before .κs) (c .before .before .before .before .before .before .before .before .args) (c .before
-            .before .before .before .before .before .before .before .blocks)) (m22 (c .before) (After-generation-answer·gave c))
-        lay3 = λ c. (changed-requires record { before = c .before; generation-answer = c .generation-answer; }, λ g. lay4 record { before = record {
-            before = c .before; generation-answer = c .generation-answer }; changed = Called.called ps·3 r·3 (claims· .7) T29 (Bool.bFld 5
-            ((Syntax.field 2) ∷ List.[]) 24 λ x. OpaqueRelayRuntime.struct .as-values x .1 .1 .0, (Bool.bAt 8 λ x. x, tt),) (m22 (c .before)
-            (After-generation-answer·gave c)) g; },)
-        lay2 : (c : After-entry-answer) → at86 (c .before .before .before .before .before .before .blocks) (W0 (c .before .before .before .before
-            .before .before .κs) (c .before .before .before .before .before .before .args) (c .before .before .before .before .before .before
-            .blocks)) (m10 (c .before) (After-entry-answer·gave c))
-        lay2 = λ c. (tt, λ g. (generation-answer-requires record { before = record { before = c .before; entry-answer = c .entry-answer }; first =
-            record { given = g }; }, λ g'. lay3 record { before = record { before = record { before = c .before; entry-answer = c .entry-answer };
-            first = record { given = g }; }; generation-answer = Called.called ps·2 r·2 (claims· .5) T28 (Num.vFld 5 ((Syntax.field 1) ∷ List.[]) 16 λ
-            x. OpaqueRelayRuntime.struct .as-values x .1 .0, (Num.vAt 7 λ x. x, tt),) (m21 record { before = c .before; entry-answer = c .entry-answer
-            } g) g'; },),)
-        lay1 : (c : After-used) → at95 (c .before .before .before .blocks) (W0 (c .before .before .before .κs) (c .before .before .before .args) (c
-            .before .before .before .blocks)) (m3 (c .before) (After-used·gave c))
-        lay1 = λ c. λ g. (Path.refl, λ g'. (Path.refl, (entry-answer-requires record { before = record { before = record { before = c .before; used =
-            c .used }; entry-answer-arg = record { given = g }; }; entry-answer-arg2 = record { given = g' }; }, λ g''. lay2 record { before = record
-            { before = record { before = record { before = c .before; used = c .used }; entry-answer-arg = record { given = g }; }; entry-answer-arg2
-            = record { given = g' }; }; entry-answer = Called.called ps·1 r·1 (claims· .3) T12 (record { pos = 20; ty = Syntax.tyRef Syntax.erased
-            Syntax.imm RelayPending.to; ref = λ x. x; }, (record { pos = 22; ty = Syntax.tyRef Syntax.erased Syntax.imm RelayCircuit.to; ref = λ x. x;
-            }, (record { pos = 6; st = List.[]; d = 0; at = λ x. x }, (Num.vAt 23 λ x. x, (Num.vAt 24 λ x. x, (record { pos = 9; st = List.[]; d = 0;
-            at = λ x. x }, (record { pos = 10; st = List.[]; d = 0; at = λ x. x }, tt),),),),),),) (m9 record { before = record { before = c .before;
-            used = c .used }; entry-answer-arg = record { given = g }; } g') g''; },),),)
+      Need-returns-3 = (c : After-refused) → Post· (c .before .before .before .before .before .before .before .before
+          .before .before .before .before .before .before .before .κs) (dens (c .before .before .before .before .before
+          .before .before .before .before .before .before .before .before .before .before .κs) (c .before .before
+          .before .before .before .before .before .before .before .before .before .before .before .before .before
+          .args)) (Function.resV r (c .before .before .before .before .before .before .before .before .before .before
+          .before .before .before .before .before .κs) (m72 (c .before) (After-refused·gave c) .0)) (Clauses.atExit
+          (Kinds.endedOf 4 ps r) (c .before .before .before .before .before .before .before .before .before .before
+          .before .before .before .before .before .κs) (dens (c .before .before .before .before .before .before .before
+          .before .before .before .before .before .before .before .before .κs) (c .before .before .before .before
+          .before .before .before .before .before .before .before .before .before .before .before .args)) (Enter.lastsP (c
+          .before .before .before .before .before .before .before .before .before .before .before .before .before
+          .before .before .κs) 1 ps xs (dens (c .before .before .before .before .before .before .before .before .before
+          .before .before .before .before .before .before .κs) (c .before .before .before .before .before .before
+          .before .before .before .before .before .before .before .before .before .args))
+          (m72 (c .before) (After-refused·gave c) .1)))
+
+      module _ (used-requires : Need-used-requires) (entry-answer-requires : Need-entry-answer-requires) (generation-answer-requires
+          : Need-generation-answer-requires) (changed-requires : Need-changed-requires)
+          (change-answer-requires : Need-change-answer-requires) (first-refusal-requires : Need-first-refusal-requires)
+          (first-refusal-requires-2 : Need-first-refusal-requires-2) (is-taken-requires : Need-is-taken-requires)
+          (switch-to-requires : Need-switch-to-requires) (same-length : Need-same-length)
+          (same-length-2 : Need-same-length-2) (same-length-3 : Need-same-length-3)
+          (same-length-4 : Need-same-length-4) (returns : Need-returns)
+          (taken-with-requires : Need-taken-with-requires) (same-length-5 : Need-same-length-5)
+          (same-length-6 : Need-same-length-6) (returns-2 : Need-returns-2) (refused-requires : Need-refused-requires)
+          (same-length-7 : Need-same-length-7) (same-length-8 : Need-same-length-8) (returns-3 : Need-returns-3) where
+        lay13 : (c : After-refused) → at59 (c .before .before .before .before .before .before .before .before .before
+            .before .before .before .before .before .before .blocks) (W0 (c .before .before .before .before .before
+            .before .before .before .before .before .before .before .before .before .before .κs) (c .before .before
+            .before .before .before .before .before .before .before .before .before .before .before .before .before
+            .args) (c .before .before .before .before .before .before .before .before .before .before .before .before
+            .before .before .before .blocks)) (m66 (c .before) (After-refused·gave c))
+        lay13 = λ c. (
+          (
+            MutSlice.fix-len (Row.get 1 (T93 .locals) (m72 (c .before) (After-refused·gave c)) .ptr) (Row.get 1
+                (T93 .locals) (m72 (c .before) (After-refused·gave c)) .name) (Row.get 1 (T93 .locals)
+                (m72 (c .before) (After-refused·gave c)) .now) (dens (c .before .before .before .before .before .before
+                .before .before .before .before .before .before .before .before .before .κs) (c .before .before .before
+                .before .before .before .before .before .before .before .before .before .before .before .before .args)
+                .0 .now) (same-length-7 record { before = c .before; refused = c .refused }),
+            (
+              MutSlice.fix-len (Row.get 2 (T93 .locals) (m72 (c .before) (After-refused·gave c)) .ptr) (Row.get 2
+                  (T93 .locals) (m72 (c .before) (After-refused·gave c)) .name) (Row.get 2 (T93 .locals)
+                  (m72 (c .before) (After-refused·gave c)) .now) (dens (c .before .before .before .before .before
+                  .before .before .before .before .before .before .before .before .before .before .κs) (c .before
+                  .before .before .before .before .before .before .before .before .before .before .before .before
+                  .before .before .args) .1 .0 .now) (same-length-8 record {
+                    before = c .before;
+                    refused = c .refused;
+                  }),
+              (Path.refl, (Path.refl, (tt, (tt, (tt, (tt, tt)))))),
+            ),
+          ),
+          returns-3 record { before = c .before; refused = c .refused },
+        )
+
+        lay12 : (c : Else1) → at60 (c .before .before .before .before .before .before .before .before .before .before
+            .before .before .before .before .blocks) (W0 (c .before .before .before .before .before .before .before
+            .before .before .before .before .before .before .before .κs) (c .before .before .before .before .before
+            .before .before .before .before .before .before .before .before .before .args) (c .before .before .before
+            .before .before .before .before .before .before .before .before .before .before .before .blocks))
+            (m65 (c .before))
+        lay12 = λ c. (
+          refused-requires record { before = c .before; if1 = c .if1 },
+          λ g. lay13 record {
+            before = record { before = c .before; if1 = c .if1 };
+            refused = Called.called ps·9 r·9 (claims· .19) T39 (
+              record { pos = 5; st = List.[]; d = 0; at = λ x. x },
+              (
+                record { pos = 6; st = List.[]; d = 0; at = λ x. x },
+                (record { pos = 18; st = List.[]; d = 0; at = λ x. x }, tt),
+              ),
+            ) (m65 (c .before)) g;
+          },
+        )
+
+        lay11 : (c : After-taken-with) → at43 (c .before .before .before .before .before .before .before .before
+            .before .before .before .before .before .before .before .before .blocks) (W1
+            (c .before .before .before .before) (After-is-taken·gave (c .before .before .before)))
+            (m58 (c .before) (After-taken-with·gave c))
+        lay11 = λ c. (
+          (
+            MutSlice.fix-len (Row.get 1 (T84 .locals) (m63 (c .before) (After-taken-with·gave c)) .ptr) (Row.get 1
+                (T84 .locals) (m63 (c .before) (After-taken-with·gave c)) .name) (Row.get 1 (T84 .locals)
+                (m63 (c .before) (After-taken-with·gave c)) .now) (dens (c .before .before .before .before .before
+                .before .before .before .before .before .before .before .before .before .before .before .κs) (c .before
+                .before .before .before .before .before .before .before .before .before .before .before .before .before
+                .before .before .args) .0 .now) (same-length-5 record {
+                  before = c .before;
+                  taken-with = c .taken-with;
+                }),
+            (
+              MutSlice.fix-len (Row.get 2 (T84 .locals) (m63 (c .before) (After-taken-with·gave c)) .ptr) (Row.get 2
+                  (T84 .locals) (m63 (c .before) (After-taken-with·gave c)) .name) (Row.get 2 (T84 .locals)
+                  (m63 (c .before) (After-taken-with·gave c)) .now) (dens (c .before .before .before .before .before
+                  .before .before .before .before .before .before .before .before .before .before .before .κs) (c
+                  .before .before .before .before .before .before .before .before .before .before .before .before
+                  .before .before .before .before .args) .1 .0 .now) (same-length-6
+                  record { before = c .before; taken-with = c .taken-with }),
+              (Path.refl, (Path.refl, (tt, (tt, (tt, (tt, tt)))))),
+            ),
+          ),
+          returns-2 record { before = c .before; taken-with = c .taken-with },
+        )
+
+        lay10 : (c : Else2) → at44 (c .before .before .before .before .before .before .before .before .before .before
+            .before .before .before .before .before .blocks) (W1 (c .before .before .before)
+            (After-is-taken·gave (c .before .before))) (m57 (c .before))
+        lay10 = λ c. (
+          taken-with-requires record { before = c .before; if2 = c .if2 },
+          λ g. lay11 record {
+            before = record { before = c .before; if2 = c .if2 };
+            taken-with = Called.called ps·8 r·8 (claims· .17) T43 (
+              record { pos = 5; st = List.[]; d = 0; at = λ x. x },
+              (record { pos = 6; st = List.[]; d = 0; at = λ x. x }, tt),
+            ) (m57 (c .before)) g;
+          },
+        )
+
+        lay9 : (c : After-switch-to) → at19 (c .before .before .before .before .before .before .before .before .before
+            .before .before .before .before .before .before .before .before .before .before .before .blocks) (W2 (c
+            .before .before .before .before .before .before .before)) (m44 (c .before) (After-switch-to·gave c))
+        lay9 = λ c. (
+          Path.refl,
+          λ g. (
+            Path.refl,
+            λ g'. (
+              Path.refl,
+              λ g''. (
+                Path.refl,
+                λ g'3. λ g'4. (
+                  (
+                    MutSlice.fix-len (Row.get 1 (T76 .locals) (m55
+                        record {
+                          before = record {
+                            before = record {
+                              before = record {
+                                before = record { before = c .before; switch-to = c .switch-to };
+                                pending = record { given = g };
+                              };
+                              circuits = record { given = g' };
+                            };
+                            inflight = record { given = g'' };
+                          };
+                          out = record { given = g'3 };
+                        } g'4) .ptr) (Row.get 1 (T76 .locals) (m55
+                        record {
+                          before = record {
+                            before = record {
+                              before = record {
+                                before = record { before = c .before; switch-to = c .switch-to };
+                                pending = record { given = g };
+                              };
+                              circuits = record { given = g' };
+                            };
+                            inflight = record { given = g'' };
+                          };
+                          out = record { given = g'3 };
+                        } g'4) .name) (Row.get 1 (T76 .locals) (m55
+                        record {
+                          before = record {
+                            before = record {
+                              before = record {
+                                before = record { before = c .before; switch-to = c .switch-to };
+                                pending = record { given = g };
+                              };
+                              circuits = record { given = g' };
+                            };
+                            inflight = record { given = g'' };
+                          };
+                          out = record { given = g'3 };
+                        } g'4) .now) (dens (c .before .before .before .before .before .before .before .before .before
+                        .before .before .before .before .before .before .before .before .before .before .before .κs) (c
+                        .before .before .before .before .before .before .before .before .before .before .before .before
+                        .before .before .before .before .before .before .before .before .args) .0 .now) (same-length
+                        record {
+                          before = record {
+                            before = record {
+                              before = record {
+                                before = record {
+                                  before = record { before = c .before; switch-to = c .switch-to };
+                                  pending = record { given = g };
+                                };
+                                circuits = record { given = g' };
+                              };
+                              inflight = record { given = g'' };
+                            };
+                            out = record { given = g'3 };
+                          };
+                          slice-known2 = record { given = g'4 };
+                        }),
+                    (
+                      MutSlice.fix-len (Row.get 2 (T76 .locals) (m55
+                          record {
+                            before = record {
+                              before = record {
+                                before = record {
+                                  before = record { before = c .before; switch-to = c .switch-to };
+                                  pending = record { given = g };
+                                };
+                                circuits = record { given = g' };
+                              };
+                              inflight = record { given = g'' };
+                            };
+                            out = record { given = g'3 };
+                          } g'4) .ptr) (Row.get 2 (T76 .locals) (m55
+                          record {
+                            before = record {
+                              before = record {
+                                before = record {
+                                  before = record { before = c .before; switch-to = c .switch-to };
+                                  pending = record { given = g };
+                                };
+                                circuits = record { given = g' };
+                              };
+                              inflight = record { given = g'' };
+                            };
+                            out = record { given = g'3 };
+                          } g'4) .name) (Row.get 2 (T76 .locals) (m55
+                          record {
+                            before = record {
+                              before = record {
+                                before = record {
+                                  before = record { before = c .before; switch-to = c .switch-to };
+                                  pending = record { given = g };
+                                };
+                                circuits = record { given = g' };
+                              };
+                              inflight = record { given = g'' };
+                            };
+                            out = record { given = g'3 };
+                          } g'4) .now) (dens (c .before .before .before .before .before .before .before .before .before
+                          .before .before .before .before .before .before .before .before .before .before .before .κs) (c
+                          .before .before .before .before .before .before .before .before .before .before .before
+                          .before .before .before .before .before .before .before .before .before .args) .1 .0 .now) (same-length-2
+                          record {
+                            before = record {
+                              before = record {
+                                before = record {
+                                  before = record {
+                                    before = record { before = c .before; switch-to = c .switch-to };
+                                    pending = record { given = g };
+                                  };
+                                  circuits = record { given = g' };
+                                };
+                                inflight = record { given = g'' };
+                              };
+                              out = record { given = g'3 };
+                            };
+                            slice-known2 = record { given = g'4 };
+                          }),
+                      (
+                        MutSlice.fix-len (Row.get 3 (T76 .locals) (m55
+                            record {
+                              before = record {
+                                before = record {
+                                  before = record {
+                                    before = record { before = c .before; switch-to = c .switch-to };
+                                    pending = record { given = g };
+                                  };
+                                  circuits = record { given = g' };
+                                };
+                                inflight = record { given = g'' };
+                              };
+                              out = record { given = g'3 };
+                            } g'4) .ptr) (Row.get 3 (T76 .locals) (m55
+                            record {
+                              before = record {
+                                before = record {
+                                  before = record {
+                                    before = record { before = c .before; switch-to = c .switch-to };
+                                    pending = record { given = g };
+                                  };
+                                  circuits = record { given = g' };
+                                };
+                                inflight = record { given = g'' };
+                              };
+                              out = record { given = g'3 };
+                            } g'4) .name) (Row.get 3 (T76 .locals) (m55
+                            record {
+                              before = record {
+                                before = record {
+                                  before = record {
+                                    before = record { before = c .before; switch-to = c .switch-to };
+                                    pending = record { given = g };
+                                  };
+                                  circuits = record { given = g' };
+                                };
+                                inflight = record { given = g'' };
+                              };
+                              out = record { given = g'3 };
+                            } g'4) .now) (dens (c .before .before .before .before .before .before .before .before
+                            .before .before .before .before .before .before .before .before .before .before .before
+                            .before .κs) (c .before .before .before .before .before .before .before .before .before
+                            .before .before .before .before .before .before .before .before .before .before .before
+                            .args) .1 .1 .0 .now) (same-length-3
+                            record {
+                              before = record {
+                                before = record {
+                                  before = record {
+                                    before = record {
+                                      before = record { before = c .before; switch-to = c .switch-to };
+                                      pending = record { given = g };
+                                    };
+                                    circuits = record { given = g' };
+                                  };
+                                  inflight = record { given = g'' };
+                                };
+                                out = record { given = g'3 };
+                              };
+                              slice-known2 = record { given = g'4 };
+                            }),
+                        (
+                          MutSlice.fix-len (Row.get 4 (T76 .locals) (m55
+                              record {
+                                before = record {
+                                  before = record {
+                                    before = record {
+                                      before = record { before = c .before; switch-to = c .switch-to };
+                                      pending = record { given = g };
+                                    };
+                                    circuits = record { given = g' };
+                                  };
+                                  inflight = record { given = g'' };
+                                };
+                                out = record { given = g'3 };
+                              } g'4) .ptr) (Row.get 4 (T76 .locals) (m55
+                              record {
+                                before = record {
+                                  before = record {
+                                    before = record {
+                                      before = record { before = c .before; switch-to = c .switch-to };
+                                      pending = record { given = g };
+                                    };
+                                    circuits = record { given = g' };
+                                  };
+                                  inflight = record { given = g'' };
+                                };
+                                out = record { given = g'3 };
+                              } g'4) .name) (Row.get 4 (T76 .locals) (m55
+                              record {
+                                before = record {
+                                  before = record {
+                                    before = record {
+                                      before = record { before = c .before; switch-to = c .switch-to };
+                                      pending = record { given = g };
+                                    };
+                                    circuits = record { given = g' };
+                                  };
+                                  inflight = record { given = g'' };
+                                };
+                                out = record { given = g'3 };
+                              } g'4) .now) (dens (c .before .before .before .before .before .before .before .before
+                              .before .before .before .before .before .before .before .before .before .before .before
+                              .before .κs) (c .before .before .before .before .before .before .before .before .before
+                              .before .before .before .before .before .before .before .before .before .before .before
+                              .args) .1 .1 .1 .0 .now) (same-length-4
+                              record {
+                                before = record {
+                                  before = record {
+                                    before = record {
+                                      before = record {
+                                        before = record { before = c .before; switch-to = c .switch-to };
+                                        pending = record { given = g };
+                                      };
+                                      circuits = record { given = g' };
+                                    };
+                                    inflight = record { given = g'' };
+                                  };
+                                  out = record { given = g'3 };
+                                };
+                                slice-known2 = record { given = g'4 };
+                              }),
+                          (tt, (tt, (tt, (tt, tt)))),
+                        ),
+                      ),
+                    ),
+                  ),
+                  returns record {
+                    before = record {
+                      before = record {
+                        before = record {
+                          before = record {
+                            before = record { before = c .before; switch-to = c .switch-to };
+                            pending = record { given = g };
+                          };
+                          circuits = record { given = g' };
+                        };
+                        inflight = record { given = g'' };
+                      };
+                      out = record { given = g'3 };
+                    };
+                    slice-known2 = record { given = g'4 };
+                  },
+                ),
+              ),
+            ),
+          ),
+        )
+
+        lay8 : (c : After-is-taken) → at61 (c .before .before .before .before .before .before .before .before .before
+            .before .before .before .before .blocks) (W0 (c .before .before .before .before .before .before .before
+            .before .before .before .before .before .before .κs) (c .before .before .before .before .before .before
+            .before .before .before .before .before .before .before .args) (c .before .before .before .before .before
+            .before .before .before .before .before .before .before .before .blocks))
+            (m31 (c .before) (After-is-taken·gave c))
+        lay8 = λ c. (
+          λ taken. (
+            λ taken'. λ g. (
+              Path.refl,
+              λ g'. (
+                Path.refl,
+                λ g''. (
+                  Path.refl,
+                  λ g'3. (
+                    Path.refl,
+                    (
+                      switch-to-requires record {
+                        before = record {
+                          before = record {
+                            before = record {
+                              before = record {
+                                before = record {
+                                  before = record { before = c .before; is-taken = c .is-taken };
+                                  if1 = record { taken = taken };
+                                };
+                                if2 = record { taken = taken' };
+                              };
+                              switch-to-arg = record { given = g };
+                            };
+                            switch-to-arg2 = record { given = g' };
+                          };
+                          switch-to-arg3 = record { given = g'' };
+                        };
+                        switch-to-arg4 = record { given = g'3 };
+                      },
+                      λ g'4. lay9 record {
+                        before = record {
+                          before = record {
+                            before = record {
+                              before = record {
+                                before = record {
+                                  before = record {
+                                    before = record { before = c .before; is-taken = c .is-taken };
+                                    if1 = record { taken = taken };
+                                  };
+                                  if2 = record { taken = taken' };
+                                };
+                                switch-to-arg = record { given = g };
+                              };
+                              switch-to-arg2 = record { given = g' };
+                            };
+                            switch-to-arg3 = record { given = g'' };
+                          };
+                          switch-to-arg4 = record { given = g'3 };
+                        };
+                        switch-to = Called.called ps·7 r·7 (claims· .15) T56 (
+                          record { pos = 28; ty = ref2; ref = λ x. x },
+                          (
+                            record { pos = 30; ty = ref3; ref = λ x. x },
+                            (
+                              record { pos = 32; ty = ref4; ref = λ x. x },
+                              (
+                                record { pos = 34; ty = ref5; ref = λ x. x },
+                                (
+                                  record { pos = 5; st = List.[]; d = 0; at = λ x. x },
+                                  (
+                                    record { pos = 6; st = List.[]; d = 0; at = λ x. x },
+                                    (Bool.bAt 8 λ x. x, (record { pos = 13; st = List.[]; d = 0; at = λ x. x }, tt)),
+                                  ),
+                                ),
+                              ),
+                            ),
+                          ),
+                        ) (m43 record {
+                          before = record {
+                            before = record {
+                              before = record {
+                                before = record {
+                                  before = record { before = c .before; is-taken = c .is-taken };
+                                  if1 = record { taken = taken };
+                                };
+                                if2 = record { taken = taken' };
+                              };
+                              switch-to-arg = record { given = g };
+                            };
+                            switch-to-arg2 = record { given = g' };
+                          };
+                          switch-to-arg3 = record { given = g'' };
+                        } g'3) g'4;
+                      },
+                    ),
+                  ),
+                ),
+              ),
+            ),
+            λ left. lay10 record {
+              before = record {
+                before = record { before = c .before; is-taken = c .is-taken };
+                if1 = record { taken = taken };
+              };
+              if2 = record { left = left };
+            },
+          ),
+          λ left. lay12 record {
+            before = record { before = c .before; is-taken = c .is-taken };
+            if1 = record { left = left };
+          },
+        )
+
+        lay7 : (c : After-first-refusal2) → at64 (c .before .before .before .before .before .before .before .before
+            .before .before .before .before .blocks) (W0 (c .before .before .before .before .before .before .before
+            .before .before .before .before .before .κs) (c .before .before .before .before .before .before .before
+            .before .before .before .before .before .args) (c .before .before .before .before .before .before .before
+            .before .before .before .before .before .blocks)) (m28 (c .before) (After-first-refusal2·gave c))
+        lay7 = λ c. (
+          is-taken-requires record { before = c .before; first-refusal2 = c .first-refusal2 },
+          λ g. lay8 record {
+            before = record { before = c .before; first-refusal2 = c .first-refusal2 };
+            is-taken = Called.called ps·6 r·6 (claims· .13) T37
+                (record { pos = 18; st = List.[]; d = 0; at = λ x. x }, tt)
+                (m30 (c .before) (After-first-refusal2·gave c)) g;
+          },
+        )
+
+        lay6 : (c : After-first-refusal) → at67 (c .before .before .before .before .before .before .before .before
+            .before .before .before .blocks) (W0 (c .before .before .before .before .before .before .before .before
+            .before .before .before .κs) (c .before .before .before .before .before .before .before .before .before
+            .before .before .args) (c .before .before .before .before .before .before .before .before .before .before
+            .before .blocks)) (m25 (c .before) (After-first-refusal·gave c))
+        lay6 = λ c. (
+          first-refusal-requires-2 record { before = c .before; first-refusal = c .first-refusal },
+          λ g. lay7 record {
+            before = record { before = c .before; first-refusal = c .first-refusal };
+            first-refusal2 = Called.called ps·5 r·5 (claims· .11) T34 (
+              record { pos = 12; st = List.[]; d = 0; at = λ x. x },
+              (record { pos = 17; st = List.[]; d = 0; at = λ x. x }, tt),
+            ) (m27 (c .before) (After-first-refusal·gave c)) g;
+          },
+        )
+
+        lay5 : (c : After-change-answer) → at68 (c .before .before .before .before .before .before .before .before
+            .before .before .blocks) (W0 (c .before .before .before .before .before .before .before .before .before
+            .before .κs) (c .before .before .before .before .before .before .before .before .before .before .args) (c
+            .before .before .before .before .before .before .before .before .before .before .blocks))
+            (m24 (c .before) (After-change-answer·gave c))
+        lay5 = λ c. (
+          first-refusal-requires record { before = c .before; change-answer = c .change-answer },
+          λ g. lay6 record {
+            before = record { before = c .before; change-answer = c .change-answer };
+            first-refusal = Called.called ps·5 r·5 (claims· .11) T31 (
+              record { pos = 14; st = List.[]; d = 0; at = λ x. x },
+              (record { pos = 16; st = List.[]; d = 0; at = λ x. x }, tt),
+            ) (m24 (c .before) (After-change-answer·gave c)) g;
+          },
+        )
+
+        lay4 : (c : After-changed) → at69 (c .before .before .before .before .before .before .before .before .before
+            .blocks) (W0 (c .before .before .before .before .before .before .before .before .before .κs) (c .before
+            .before .before .before .before .before .before .before .before .args) (c .before .before .before .before
+            .before .before .before .before .before .blocks)) (m23 (c .before) (After-changed·gave c))
+        lay4 = λ c. (
+          change-answer-requires record { before = c .before; changed = c .changed },
+          λ g. lay5 record {
+            before = record { before = c .before; changed = c .changed };
+            change-answer = Called.called ps·4 r·4 (claims· .9) T30 (
+              Num.vFld 5 ((Syntax.field 1) ∷ List.[]) 16 λ x. OpaqueRelayRuntime.struct .as-values x .1 .0,
+              (Bool.bAt 15 λ x. x, tt),
+            ) (m23 (c .before) (After-changed·gave c)) g;
+          },
+        )
+
+        lay3 : (c : After-generation-answer) → at70 (c .before .before .before .before .before .before .before .before
+            .blocks) (W0 (c .before .before .before .before .before .before .before .before .κs) (c .before .before
+            .before .before .before .before .before .before .args) (c .before .before .before .before .before .before
+            .before .before .blocks)) (m22 (c .before) (After-generation-answer·gave c))
+        lay3 = λ c. (
+          changed-requires record { before = c .before; generation-answer = c .generation-answer },
+          λ g. lay4 record {
+            before = record { before = c .before; generation-answer = c .generation-answer };
+            changed = Called.called ps·3 r·3 (claims· .7) T29 (
+              Bool.bFld 5 ((Syntax.field 2) ∷ List.[]) 24 λ x. OpaqueRelayRuntime.struct .as-values x .1 .1 .0,
+              (Bool.bAt 8 λ x. x, tt),
+            ) (m22 (c .before) (After-generation-answer·gave c)) g;
+          },
+        )
+
+        lay2 : (c : After-entry-answer) → at86 (c .before .before .before .before .before .before .blocks) (W0
+            (c .before .before .before .before .before .before .κs)
+            (c .before .before .before .before .before .before .args) (c .before .before .before .before .before
+            .before .blocks)) (m10 (c .before) (After-entry-answer·gave c))
+        lay2 = λ c. (
+          tt,
+          λ g. (
+            generation-answer-requires record {
+              before = record { before = c .before; entry-answer = c .entry-answer };
+              first = record { given = g };
+            },
+            λ g'. lay3 record {
+              before = record {
+                before = record { before = c .before; entry-answer = c .entry-answer };
+                first = record { given = g };
+              };
+              generation-answer = Called.called ps·2 r·2 (claims· .5) T28 (
+                Num.vFld 5 ((Syntax.field 1) ∷ List.[]) 16 λ x. OpaqueRelayRuntime.struct .as-values x .1 .0,
+                (Num.vAt 7 λ x. x, tt),
+              ) (m21 record { before = c .before; entry-answer = c .entry-answer } g) g';
+            },
+          ),
+        )
+
+        lay1 : (c : After-used) → at95 (c .before .before .before .blocks) (W0 (c .before .before .before .κs)
+            (c .before .before .before .args) (c .before .before .before .blocks)) (m3 (c .before) (After-used·gave c))
+        lay1 = λ c. λ g. (
+          Path.refl,
+          λ g'. (
+            Path.refl,
+            (
+              entry-answer-requires record {
+                before = record {
+                  before = record { before = c .before; used = c .used };
+                  entry-answer-arg = record { given = g };
+                };
+                entry-answer-arg2 = record { given = g' };
+              },
+              λ g''. lay2 record {
+                before = record {
+                  before = record {
+                    before = record { before = c .before; used = c .used };
+                    entry-answer-arg = record { given = g };
+                  };
+                  entry-answer-arg2 = record { given = g' };
+                };
+                entry-answer = Called.called ps·1 r·1 (claims· .3) T12 (
+                  record { pos = 20; ty = ref0; ref = λ x. x },
+                  (
+                    record { pos = 22; ty = ref1; ref = λ x. x },
+                    (
+                      record { pos = 6; st = List.[]; d = 0; at = λ x. x },
+                      (
+                        Num.vAt 23 λ x. x,
+                        (
+                          Num.vAt 24 λ x. x,
+                          (
+                            record { pos = 9; st = List.[]; d = 0; at = λ x. x },
+                            (record { pos = 10; st = List.[]; d = 0; at = λ x. x }, tt),
+                          ),
+                        ),
+                      ),
+                    ),
+                  ),
+                ) (m9 record {
+                  before = record { before = c .before; used = c .used };
+                  entry-answer-arg = record { given = g };
+                } g') g'';
+              },
+            ),
+          ),
+        )
+
         pub laid : (c : Start) → at98 (c .blocks) (W0 (c .κs) (c .args) (c .blocks)) (m0 (c .κs) (c .args) (c .blocks))
-        laid = λ c. λ g. (tt, λ g'. (used-requires record { before = record { before = c; slice-known = record { given = g } }; config = record {
-            given = g' }; }, λ g''. lay1 record { before = record { before = record { before = c; slice-known = record { given = g } }; config =
-            record { given = g' }; }; used = Called.called ps·0 r·0 (claims· .1) T3 tt (m2 record { before = c; slice-known = record { given = g }; }
-            g') g''; },),)
+        laid = λ c. λ g. (
+          tt,
+          λ g'. (
+            used-requires record {
+              before = record { before = c; slice-known = record { given = g } };
+              config = record { given = g' };
+            },
+            λ g''. lay1 record {
+              before = record {
+                before = record { before = c; slice-known = record { given = g } };
+                config = record { given = g' };
+              };
+              used = Called.called ps·0 r·0 (claims· .1) T3 tt (m2
+                  record { before = c; slice-known = record { given = g } } g') g'';
+            },
+          ),
+        )
+
         module _ (κs : Lifetimes.Lfts 4) (qs : Lifetimes.Shares 4) where
-          pub asked : (a : Kinds.Dens κs ps) → (good : Kinds.GoodsP κs ps a) → (pre : Pre· κs a) → (bs : List.List Nat.ℕ) → Φ bs (Any.wantQ 4 ps r xs
-              m κs qs a (Post· κs a)) (Function.init 4 ps r xs m κs qs a)
-          asked = λ a good pre bs. laid record { κs = κs; args = record { pending = a .0; circuits = a .1 .0; inflight = a .1 .1 .0; out = a .1 .1 .1
-              .0; runtime = a .1 .1 .1 .1 .0; places = a .1 .1 .1 .1 .1 .0; expected-generation = a .1 .1 .1 .1 .1 .1 .0; enabled = a .1 .1 .1 .1 .1
-              .1 .1 .0; }; blocks = bs; good = good; fits = record { expected-generation = record { fits = good .1 .1 .1 .1 .1 .1 .0 .1 }; }; pre =
-              pre; }
-        module _ { M : Type 1 } (𝓤 : URA.URA M) (H : Wp.Heap 𝓤) (A : Atoms.Atoms 𝓤) (W : Kit.Given 𝓤 H A) (𝓣 : Wp.Tables 𝓤 H) (known0 : Plain.Known 𝓤
-            H A W 𝓣 0 ps·0 r·0 (claims· .0) (claims· .1) "hnsr_circuit::question::used") (known1 : Plain.Known 𝓤 H A W 𝓣 2 ps·1 r·1 (claims· .2)
-            (claims· .3) "hnsr_circuit::revoking_calls::entry_answer") (known2 : Plain.Known 𝓤 H A W 𝓣 0 ps·2 r·2 (claims· .4) (claims· .5)
-            "hnsr_circuit::acknowledge::generation_answer") (known3 : Plain.Known 𝓤 H A W 𝓣 0 ps·3 r·3 (claims· .6) (claims· .7)
-            "hnsr_circuit::revoking_calls::changed") (known4 : Plain.Known 𝓤 H A W 𝓣 0 ps·4 r·4 (claims· .8) (claims· .9)
-            "hnsr_circuit::revoking_calls::change_answer") (known5 : Plain.Known 𝓤 H A W 𝓣 0 ps·5 r·5 (claims· .10) (claims· .11)
-            "hnsr_circuit::answer::first_refusal") (known6 : Plain.Known 𝓤 H A W 𝓣 0 ps·6 r·6 (claims· .12) (claims· .13)
-            "hnsr_circuit::answer::is_taken") (known7 : Plain.Known 𝓤 H A W 𝓣 4 ps·7 r·7 (claims· .14) (claims· .15)
-            "hnsr_circuit::revoking_calls::switch_to") (known8 : Plain.Known 𝓤 H A W 𝓣 0 ps·8 r·8 (claims· .16) (claims· .17)
-            "hnsr_circuit::revoking_calls::taken_with") (known9 : Plain.Known 𝓤 H A W 𝓣 0 ps·9 r·9 (claims· .18) (claims· .19)
-            "hnsr_circuit::revoking_calls::refused") where
-          pub spec : Statement.Triple 𝓤 (Wp.WpFn 𝓤 H (𝓣 .C) (𝓣 .Λ) (Function.fnOf 4 ps r xs m hs body)) (Function.plainOf 𝓤 H A 4 ps r Pre· Post·)
-          spec = Plain.t-fn-plain 𝓤 H A W 𝓣 4 ps r xs m hs body (λ κs qs bs. Φ bs) (λ κs qs bs bd. typed κs qs 𝓤 H A W 𝓣 (known0, known1, known2,
-              known3, known4, known5, known6, known7, known8, known9,) bs bd) Pre· Post· asked
+          pub asked : (a : Kinds.Dens κs ps) → (good : Kinds.GoodsP κs ps a) → (pre : Pre· κs a) →
+              (bs : List.List Nat.ℕ) → Φ bs (Any.wantQ 4 ps r xs m κs qs a (Post· κs a))
+              (Function.init 4 ps r xs m κs qs a)
+          asked = λ a good pre bs. laid record {
+            κs = κs;
+            args = record {
+              pending = a .0;
+              circuits = a .1 .0;
+              inflight = a .1 .1 .0;
+              out = a .1 .1 .1 .0;
+              runtime = a .1 .1 .1 .1 .0;
+              places = a .1 .1 .1 .1 .1 .0;
+              expected-generation = a .1 .1 .1 .1 .1 .1 .0;
+              enabled = a .1 .1 .1 .1 .1 .1 .1 .0;
+            };
+            blocks = bs;
+            good = good;
+            fits = record { expected-generation = record { fits = good .1 .1 .1 .1 .1 .1 .0 .1 } };
+            pre = pre;
+          }
+
+        module _ {M : Type 1} (𝓤 : URA.URA M) (H : Wp.Heap 𝓤) (A : Atoms.Atoms 𝓤) (W : Kit.Given 𝓤 H A)
+            (𝓣 : Wp.Tables 𝓤 H) (known0 : Plain.Known 𝓤 H A W 𝓣 0 ps·0 r·0 (claims· .0) (claims· .1)
+            "hnsr_circuit::question::used") (known1 : Plain.Known 𝓤 H A W 𝓣 2 ps·1 r·1 (claims· .2) (claims· .3)
+            "hnsr_circuit::revoking_calls::entry_answer") (known2 : Plain.Known 𝓤 H A W 𝓣 0 ps·2 r·2 (claims· .4)
+            (claims· .5) "hnsr_circuit::acknowledge::generation_answer") (known3 : Plain.Known 𝓤 H A W 𝓣 0 ps·3 r·3
+            (claims· .6) (claims· .7) "hnsr_circuit::revoking_calls::changed") (known4 : Plain.Known 𝓤 H A W 𝓣 0 ps·4
+            r·4 (claims· .8) (claims· .9) "hnsr_circuit::revoking_calls::change_answer") (known5 : Plain.Known 𝓤 H A W
+            𝓣 0 ps·5 r·5 (claims· .10) (claims· .11) "hnsr_circuit::answer::first_refusal") (known6 : Plain.Known 𝓤 H A
+            W 𝓣 0 ps·6 r·6 (claims· .12) (claims· .13) "hnsr_circuit::answer::is_taken") (known7 : Plain.Known 𝓤 H A W
+            𝓣 4 ps·7 r·7 (claims· .14) (claims· .15) "hnsr_circuit::revoking_calls::switch_to") (known8 : Plain.Known 𝓤
+            H A W 𝓣 0 ps·8 r·8 (claims· .16) (claims· .17) "hnsr_circuit::revoking_calls::taken_with") (known9 :
+            Plain.Known 𝓤 H A W 𝓣 0 ps·9 r·9 (claims· .18) (claims· .19) "hnsr_circuit::revoking_calls::refused") where
+          pub spec : Statement.Triple 𝓤 (Wp.WpFn 𝓤 H (𝓣 .C) (𝓣 .Λ) (Function.fnOf 4 ps r xs m hs body))
+              (Function.plainOf 𝓤 H A 4 ps r Pre· Post·)
+          spec = Plain.t-fn-plain 𝓤 H A W 𝓣 4 ps r xs m hs body (λ κs qs bs. Φ bs) (λ κs qs bs bd. typed κs qs 𝓤 H A W
+              𝓣 (known0, known1, known2, known3, known4, known5, known6, known7, known8, known9) bs bd) Pre· Post·
+              asked

@@ -5,6 +5,7 @@ use Rattle.hnsr_body.proofs.messages.Notice.Laws
 use Rattle.hnsr_circuit.proofs.By.InflightAction
 use Rattle.hnsr_circuit.proofs.By.RelayCircuit
 use Rattle.hnsr_circuit.proofs.By.RelayPending
+use Rattle.hnsr_circuit.proofs.StructRow
 use Rattle.hnsr_circuit.proofs.places.Places
 use Rattle.hnsr_circuit.proofs.places.Places.Laws as Laws'
 use Rattle.hnsr_circuit.proofs.records.Question
@@ -20,6 +21,7 @@ use Rattle.hnsr_circuit.proofs.runtime.Relayed.Laws as Laws''''''
 use borrow.Author.Called
 use borrow.Enum.Make
 use borrow.Fn.Any
+use borrow.Fn.Args as Args'
 use borrow.Fn.Call
 use borrow.Fn.Enter
 use borrow.Fn.Frame
@@ -29,7 +31,6 @@ use borrow.Fn.Plain
 use borrow.Kind.Bool
 use borrow.Kind.MutSlice
 use borrow.Kind.Unit
-use borrow.Kind.Value
 use borrow.Rule.Lifetime
 use borrow.Rule.Local
 use borrow.Rule.Scalar
@@ -46,10 +47,7 @@ use borrow.Table.Rows
 use borrow.Table.Typed
 use contract.Lifetimes
 use denote.Enum.Declared
-use denote.Enum.Laws as Laws'''''''
-use denote.Exit
 use denote.Struct.Declared as Declared'
-use denote.Struct.Laws as Laws''''''''
 use denote.Triple.Clauses
 use denote.Triple.Statement
 use ghost.Atoms
@@ -67,1854 +65,3228 @@ use mathlib.Core.List.{_∷_}
 
 abbrev ref0 : Syntax.Ty
 ref0 = Syntax.tyRef Syntax.erased Syntax.mut InflightAction.to
+
 abbrev ref1 : Syntax.Ty
 ref1 = Syntax.tyRef Syntax.erased Syntax.mut RelayPending.to
+
 abbrev ref2 : Syntax.Ty
 ref2 = Syntax.tyRef Syntax.erased Syntax.mut RelayCircuit.to
+
 abbrev ref3 : Syntax.Ty
 ref3 = Syntax.tyRef Syntax.erased Syntax.mut (Syntax.tyInt Syntax.w32)
+
 abbrev ref4 : Syntax.Ty
 ref4 = Syntax.tyRef (Syntax.named 0) Syntax.mut RelayPending.to
+
 abbrev ref5 : Syntax.Ty
 ref5 = Syntax.tyRef (Syntax.named 1) Syntax.mut RelayCircuit.to
+
 abbrev ref6 : Syntax.Ty
 ref6 = Syntax.tyRef (Syntax.named 2) Syntax.mut InflightAction.to
+
 abbrev ref7 : Syntax.Ty
 ref7 = Syntax.tyRef (Syntax.named 3) Syntax.mut (Syntax.tyInt Syntax.w32)
+
+abbrev slice0 : Syntax.Ty
+slice0 = Syntax.tyStruct (38 ∷ 91 ∷ 93 ∷ List.[]) (Syntax.tcons ref0
+    (Syntax.tcons (Syntax.tyInt Syntax.w64) Syntax.tnil))
+
+abbrev slice1 : Syntax.Ty
+slice1 = Syntax.tyStruct (38 ∷ 91 ∷ 93 ∷ List.[]) (Syntax.tcons ref1
+    (Syntax.tcons (Syntax.tyInt Syntax.w64) Syntax.tnil))
+
+abbrev slice2 : Syntax.Ty
+slice2 = Syntax.tyStruct (38 ∷ 91 ∷ 93 ∷ List.[]) (Syntax.tcons ref2
+    (Syntax.tcons (Syntax.tyInt Syntax.w64) Syntax.tnil))
+
+abbrev slice3 : Syntax.Ty
+slice3 = Syntax.tyStruct (38 ∷ 91 ∷ 93 ∷ List.[]) (Syntax.tcons ref3
+    (Syntax.tcons (Syntax.tyInt Syntax.w64) Syntax.tnil))
+
 abbrev pub ps : List.List (Kinds.PK 4)
-ps = (MutSlice.pMutS RelayPending.row 0 tt) ∷ (MutSlice.pMutS RelayCircuit.row 1 tt) ∷ (MutSlice.pMutS InflightAction.row 2 tt) ∷ (MutSlice.pMutS
-    (Referent.rtF (Referent.fInt Syntax.w32)) 3 tt) ∷ (Value.pVal record { ty = Declared'.row OpaqueRelayRuntime.the-type; one = Path.refl; val =
-    Laws''''''''.val OpaqueRelayRuntime.the-type Laws'''''.the-laws; tells = Laws''''''''.tells OpaqueRelayRuntime.the-type Laws'''''.the-laws; still
-    = Laws''''''''.still OpaqueRelayRuntime.the-type Laws'''''.the-copy Exit.yes; row = Rows.whole (Declared'.row OpaqueRelayRuntime.the-type); rd = λ
-    x. x; mk = λ x. x; } λ M 𝓤 H A W. record { copies = Laws''''''''.copy OpaqueRelayRuntime.the-type Laws'''''.the-copy 𝓤 H A W; lawful =
-    Laws''''''''.lawful OpaqueRelayRuntime.the-type Laws'''''.the-laws 𝓤 H A W; makes = Laws''''''''.makes OpaqueRelayRuntime.the-type
-    Laws'''''.the-plain 𝓤 H A; in-mem = Local.mem-whole 𝓤 H A W (Declared'.row OpaqueRelayRuntime.the-type); of-mem = Local.whole-mem 𝓤 H A W
-    (Declared'.row OpaqueRelayRuntime.the-type); }) ∷ (Value.pVal record { ty = Declared'.row Places.the-type; one = Path.refl; val = Laws''''''''.val
-    Places.the-type Laws'.the-laws; tells = Laws''''''''.tells Places.the-type Laws'.the-laws; still = Laws''''''''.still Places.the-type
-    Laws'.the-copy Exit.yes; row = Rows.whole (Declared'.row Places.the-type); rd = λ x. x; mk = λ x. x; } λ M 𝓤 H A W. record { copies =
-    Laws''''''''.copy Places.the-type Laws'.the-copy 𝓤 H A W; lawful = Laws''''''''.lawful Places.the-type Laws'.the-laws 𝓤 H A W; makes =
-    Laws''''''''.makes Places.the-type Laws'.the-plain 𝓤 H A; in-mem = Local.mem-whole 𝓤 H A W (Declared'.row Places.the-type); of-mem =
-    Local.whole-mem 𝓤 H A W (Declared'.row Places.the-type); }) ∷ Bool.pBool ∷ (Value.pVal record { ty = Declared'.row Firsts.the-type; one =
-    Path.refl; val = Laws''''''''.val Firsts.the-type Laws'''.the-laws; tells = Laws''''''''.tells Firsts.the-type Laws'''.the-laws; still =
-    Laws''''''''.still Firsts.the-type Laws'''.the-copy Exit.yes; row = Rows.whole (Declared'.row Firsts.the-type); rd = λ x. x; mk = λ x. x; } λ M 𝓤
-    H A W. record { copies = Laws''''''''.copy Firsts.the-type Laws'''.the-copy 𝓤 H A W; lawful = Laws''''''''.lawful Firsts.the-type Laws'''.the-laws
-    𝓤 H A W; makes = Laws''''''''.makes Firsts.the-type Laws'''.the-plain 𝓤 H A; in-mem = Local.mem-whole 𝓤 H A W (Declared'.row Firsts.the-type);
-    of-mem = Local.whole-mem 𝓤 H A W (Declared'.row Firsts.the-type); }) ∷ List.[]
+ps = (MutSlice.pMutS RelayPending.row 0 tt) ∷ (MutSlice.pMutS RelayCircuit.row 1 tt) ∷
+    (MutSlice.pMutS InflightAction.row 2 tt) ∷ (MutSlice.pMutS (Referent.rtF (Referent.fInt Syntax.w32)) 3 tt) ∷ (StructRow.param
+    OpaqueRelayRuntime.the-type Laws'''''.the-laws Laws'''''.the-copy Laws'''''.the-plain) ∷ (StructRow.param
+    Places.the-type Laws'.the-laws Laws'.the-copy Laws'.the-plain) ∷ Bool.pBool ∷ (StructRow.param Firsts.the-type
+    Laws'''.the-laws Laws'''.the-copy Laws'''.the-plain) ∷ List.[]
+
 abbrev pub r : Kinds.RK 4
-r = Value.rVal record { ty = Declared'.row Relayed.the-type; one = Path.refl; val = Laws''''''''.val Relayed.the-type Laws''''''.the-laws; tells =
-    Laws''''''''.tells Relayed.the-type Laws''''''.the-laws; still = Laws''''''''.still Relayed.the-type Laws''''''.the-copy Exit.yes; row =
-    Rows.whole (Declared'.row Relayed.the-type); rd = λ x. x; mk = λ x. x; } λ M 𝓤 H A W. record { copies = Laws''''''''.copy Relayed.the-type
-    Laws''''''.the-copy 𝓤 H A W; lawful = Laws''''''''.lawful Relayed.the-type Laws''''''.the-laws 𝓤 H A W; makes = Laws''''''''.makes
-    Relayed.the-type Laws''''''.the-plain 𝓤 H A; in-mem = Local.mem-whole 𝓤 H A W (Declared'.row Relayed.the-type); of-mem = Local.whole-mem 𝓤 H A W
-    (Declared'.row Relayed.the-type); }
+r = StructRow.result Relayed.the-type Laws''''''.the-laws Laws''''''.the-copy Laws''''''.the-plain
+
 abbrev pub xs : List.List Syntax.Ty
-xs = Laws''.mir ∷ Laws'''''.mir ∷ Laws''''.mir ∷ Syntax.tyUnit ∷ ref0 ∷ (Syntax.tyStruct (38 ∷ 91 ∷ 93 ∷ List.[]) (Syntax.tcons ref0 (Syntax.tcons
-    (Syntax.tyInt Syntax.w64) Syntax.tnil))) ∷ Syntax.tyBool ∷ Laws.mir ∷ Laws.mir ∷ ref1 ∷ (Syntax.tyStruct (38 ∷ 91 ∷ 93 ∷ List.[]) (Syntax.tcons
-    ref1 (Syntax.tcons (Syntax.tyInt Syntax.w64) Syntax.tnil))) ∷ ref2 ∷ (Syntax.tyStruct (38 ∷ 91 ∷ 93 ∷ List.[]) (Syntax.tcons ref2 (Syntax.tcons
-    (Syntax.tyInt Syntax.w64) Syntax.tnil))) ∷ ref0 ∷ (Syntax.tyStruct (38 ∷ 91 ∷ 93 ∷ List.[]) (Syntax.tcons ref0 (Syntax.tcons (Syntax.tyInt
-    Syntax.w64) Syntax.tnil))) ∷ ref3 ∷ (Syntax.tyStruct (38 ∷ 91 ∷ 93 ∷ List.[]) (Syntax.tcons ref3 (Syntax.tcons (Syntax.tyInt Syntax.w64)
-    Syntax.tnil))) ∷ List.[]
+xs = Laws''.mir ∷ Laws'''''.mir ∷ Laws''''.mir ∷ Syntax.tyUnit ∷ ref0 ∷ slice0 ∷ Syntax.tyBool ∷ Laws.mir ∷ Laws.mir ∷
+    ref1 ∷ slice1 ∷ ref2 ∷ slice2 ∷ ref0 ∷ slice0 ∷ ref3 ∷ slice3 ∷ List.[]
+
 abbrev pub m : Nat.ℕ
 m = 5
+
 abbrev pub ps·0 : List.List (Kinds.PK 0)
 ps·0 = List.[]
+
 abbrev pub r·0 : Kinds.RK 0
-r·0 = Value.rVal record { ty = Declared'.row Question.the-type; one = Path.refl; val = Laws''''''''.val Question.the-type Laws''.the-laws; tells =
-    Laws''''''''.tells Question.the-type Laws''.the-laws; still = Laws''''''''.still Question.the-type Laws''.the-copy Exit.yes; row = Rows.whole
-    (Declared'.row Question.the-type); rd = λ x. x; mk = λ x. x; } λ M 𝓤 H A W. record { copies = Laws''''''''.copy Question.the-type Laws''.the-copy
-    𝓤 H A W; lawful = Laws''''''''.lawful Question.the-type Laws''.the-laws 𝓤 H A W; makes = Laws''''''''.makes Question.the-type Laws''.the-plain 𝓤 H
-    A; in-mem = Local.mem-whole 𝓤 H A W (Declared'.row Question.the-type); of-mem = Local.whole-mem 𝓤 H A W (Declared'.row Question.the-type); }
+r·0 = StructRow.result Question.the-type Laws''.the-laws Laws''.the-copy Laws''.the-plain
+
 abbrev pub ps·1 : List.List (Kinds.PK 0)
-ps·1 = (Value.pVal record { ty = Declared'.row OpaqueRelayRuntime.the-type; one = Path.refl; val = Laws''''''''.val OpaqueRelayRuntime.the-type
-    Laws'''''.the-laws; tells = Laws''''''''.tells OpaqueRelayRuntime.the-type Laws'''''.the-laws; still = Laws''''''''.still
-    OpaqueRelayRuntime.the-type Laws'''''.the-copy Exit.yes; row = Rows.whole (Declared'.row OpaqueRelayRuntime.the-type); rd = λ x. x; mk = λ x. x; }
-    λ M 𝓤 H A W. record { copies = Laws''''''''.copy OpaqueRelayRuntime.the-type Laws'''''.the-copy 𝓤 H A W; lawful = Laws''''''''.lawful
-    OpaqueRelayRuntime.the-type Laws'''''.the-laws 𝓤 H A W; makes = Laws''''''''.makes OpaqueRelayRuntime.the-type Laws'''''.the-plain 𝓤 H A; in-mem =
-    Local.mem-whole 𝓤 H A W (Declared'.row OpaqueRelayRuntime.the-type); of-mem = Local.whole-mem 𝓤 H A W (Declared'.row OpaqueRelayRuntime.the-type);
-    }) ∷ Bool.pBool ∷ List.[]
+ps·1 = (StructRow.param OpaqueRelayRuntime.the-type Laws'''''.the-laws Laws'''''.the-copy Laws'''''.the-plain) ∷
+    Bool.pBool ∷ List.[]
+
 abbrev pub r·1 : Kinds.RK 0
-r·1 = Value.rVal record { ty = Declared'.row OpaqueRelayRuntime.the-type; one = Path.refl; val = Laws''''''''.val OpaqueRelayRuntime.the-type
-    Laws'''''.the-laws; tells = Laws''''''''.tells OpaqueRelayRuntime.the-type Laws'''''.the-laws; still = Laws''''''''.still
-    OpaqueRelayRuntime.the-type Laws'''''.the-copy Exit.yes; row = Rows.whole (Declared'.row OpaqueRelayRuntime.the-type); rd = λ x. x; mk = λ x. x; }
-    λ M 𝓤 H A W. record { copies = Laws''''''''.copy OpaqueRelayRuntime.the-type Laws'''''.the-copy 𝓤 H A W; lawful = Laws''''''''.lawful
-    OpaqueRelayRuntime.the-type Laws'''''.the-laws 𝓤 H A W; makes = Laws''''''''.makes OpaqueRelayRuntime.the-type Laws'''''.the-plain 𝓤 H A; in-mem =
-    Local.mem-whole 𝓤 H A W (Declared'.row OpaqueRelayRuntime.the-type); of-mem = Local.whole-mem 𝓤 H A W (Declared'.row OpaqueRelayRuntime.the-type);
-    }
+r·1 = StructRow.result OpaqueRelayRuntime.the-type Laws'''''.the-laws Laws'''''.the-copy Laws'''''.the-plain
+
 abbrev pub ps·2 : List.List (Kinds.PK 1)
-ps·2 = (MutSlice.pMutS InflightAction.row 0 tt) ∷ (Value.pVal record { ty = Declared'.row Places.the-type; one = Path.refl; val = Laws''''''''.val
-    Places.the-type Laws'.the-laws; tells = Laws''''''''.tells Places.the-type Laws'.the-laws; still = Laws''''''''.still Places.the-type
-    Laws'.the-copy Exit.yes; row = Rows.whole (Declared'.row Places.the-type); rd = λ x. x; mk = λ x. x; } λ M 𝓤 H A W. record { copies =
-    Laws''''''''.copy Places.the-type Laws'.the-copy 𝓤 H A W; lawful = Laws''''''''.lawful Places.the-type Laws'.the-laws 𝓤 H A W; makes =
-    Laws''''''''.makes Places.the-type Laws'.the-plain 𝓤 H A; in-mem = Local.mem-whole 𝓤 H A W (Declared'.row Places.the-type); of-mem =
-    Local.whole-mem 𝓤 H A W (Declared'.row Places.the-type); }) ∷ (Value.pVal record { ty = Declared'.row Question.the-type; one = Path.refl; val =
-    Laws''''''''.val Question.the-type Laws''.the-laws; tells = Laws''''''''.tells Question.the-type Laws''.the-laws; still = Laws''''''''.still
-    Question.the-type Laws''.the-copy Exit.yes; row = Rows.whole (Declared'.row Question.the-type); rd = λ x. x; mk = λ x. x; } λ M 𝓤 H A W. record {
-    copies = Laws''''''''.copy Question.the-type Laws''.the-copy 𝓤 H A W; lawful = Laws''''''''.lawful Question.the-type Laws''.the-laws 𝓤 H A W;
-    makes = Laws''''''''.makes Question.the-type Laws''.the-plain 𝓤 H A; in-mem = Local.mem-whole 𝓤 H A W (Declared'.row Question.the-type); of-mem =
-    Local.whole-mem 𝓤 H A W (Declared'.row Question.the-type); }) ∷ List.[]
+ps·2 = (MutSlice.pMutS InflightAction.row 0 tt) ∷ (StructRow.param Places.the-type Laws'.the-laws Laws'.the-copy
+    Laws'.the-plain) ∷ (StructRow.param Question.the-type Laws''.the-laws Laws''.the-copy Laws''.the-plain) ∷ List.[]
+
 abbrev pub r·2 : Kinds.RK 1
 r·2 = Unit.rUnit
+
 abbrev pub ps·3 : List.List (Kinds.PK 0)
-ps·3 = (Value.pVal record { ty = Declared'.row OpaqueRelayRuntime.the-type; one = Path.refl; val = Laws''''''''.val OpaqueRelayRuntime.the-type
-    Laws'''''.the-laws; tells = Laws''''''''.tells OpaqueRelayRuntime.the-type Laws'''''.the-laws; still = Laws''''''''.still
-    OpaqueRelayRuntime.the-type Laws'''''.the-copy Exit.yes; row = Rows.whole (Declared'.row OpaqueRelayRuntime.the-type); rd = λ x. x; mk = λ x. x; }
-    λ M 𝓤 H A W. record { copies = Laws''''''''.copy OpaqueRelayRuntime.the-type Laws'''''.the-copy 𝓤 H A W; lawful = Laws''''''''.lawful
-    OpaqueRelayRuntime.the-type Laws'''''.the-laws 𝓤 H A W; makes = Laws''''''''.makes OpaqueRelayRuntime.the-type Laws'''''.the-plain 𝓤 H A; in-mem =
-    Local.mem-whole 𝓤 H A W (Declared'.row OpaqueRelayRuntime.the-type); of-mem = Local.whole-mem 𝓤 H A W (Declared'.row OpaqueRelayRuntime.the-type);
-    }) ∷ (Value.pVal record { ty = Declared'.row Places.the-type; one = Path.refl; val = Laws''''''''.val Places.the-type Laws'.the-laws; tells =
-    Laws''''''''.tells Places.the-type Laws'.the-laws; still = Laws''''''''.still Places.the-type Laws'.the-copy Exit.yes; row = Rows.whole
-    (Declared'.row Places.the-type); rd = λ x. x; mk = λ x. x; } λ M 𝓤 H A W. record { copies = Laws''''''''.copy Places.the-type Laws'.the-copy 𝓤 H A
-    W; lawful = Laws''''''''.lawful Places.the-type Laws'.the-laws 𝓤 H A W; makes = Laws''''''''.makes Places.the-type Laws'.the-plain 𝓤 H A; in-mem =
-    Local.mem-whole 𝓤 H A W (Declared'.row Places.the-type); of-mem = Local.whole-mem 𝓤 H A W (Declared'.row Places.the-type); }) ∷ List.[]
+ps·3 = (StructRow.param OpaqueRelayRuntime.the-type Laws'''''.the-laws Laws'''''.the-copy Laws'''''.the-plain) ∷ (StructRow.param
+    Places.the-type Laws'.the-laws Laws'.the-copy Laws'.the-plain) ∷ List.[]
+
 abbrev pub r·3 : Kinds.RK 0
-r·3 = Value.rVal record { ty = Declared'.row Relayed.the-type; one = Path.refl; val = Laws''''''''.val Relayed.the-type Laws''''''.the-laws; tells =
-    Laws''''''''.tells Relayed.the-type Laws''''''.the-laws; still = Laws''''''''.still Relayed.the-type Laws''''''.the-copy Exit.yes; row =
-    Rows.whole (Declared'.row Relayed.the-type); rd = λ x. x; mk = λ x. x; } λ M 𝓤 H A W. record { copies = Laws''''''''.copy Relayed.the-type
-    Laws''''''.the-copy 𝓤 H A W; lawful = Laws''''''''.lawful Relayed.the-type Laws''''''.the-laws 𝓤 H A W; makes = Laws''''''''.makes
-    Relayed.the-type Laws''''''.the-plain 𝓤 H A; in-mem = Local.mem-whole 𝓤 H A W (Declared'.row Relayed.the-type); of-mem = Local.whole-mem 𝓤 H A W
-    (Declared'.row Relayed.the-type); }
+r·3 = StructRow.result Relayed.the-type Laws''''''.the-laws Laws''''''.the-copy Laws''''''.the-plain
+
 abbrev pub ps·4 : List.List (Kinds.PK 0)
-ps·4 = (Value.pVal record { ty = Declared'.row Question.the-type; one = Path.refl; val = Laws''''''''.val Question.the-type Laws''.the-laws; tells =
-    Laws''''''''.tells Question.the-type Laws''.the-laws; still = Laws''''''''.still Question.the-type Laws''.the-copy Exit.yes; row = Rows.whole
-    (Declared'.row Question.the-type); rd = λ x. x; mk = λ x. x; } λ M 𝓤 H A W. record { copies = Laws''''''''.copy Question.the-type Laws''.the-copy
-    𝓤 H A W; lawful = Laws''''''''.lawful Question.the-type Laws''.the-laws 𝓤 H A W; makes = Laws''''''''.makes Question.the-type Laws''.the-plain 𝓤 H
-    A; in-mem = Local.mem-whole 𝓤 H A W (Declared'.row Question.the-type); of-mem = Local.whole-mem 𝓤 H A W (Declared'.row Question.the-type); }) ∷
-    (Value.pVal record { ty = Declared.row Notice.the-type; one = Path.refl; val = Laws'''''''.val Notice.the-type Laws.the-laws; tells =
-    Laws'''''''.tells Notice.the-type Laws.the-laws; still = Laws'''''''.still Notice.the-type Laws.the-copy Exit.yes; row = Rows.whole (Declared.row
-    Notice.the-type); rd = λ x. x; mk = λ x. x; } λ M 𝓤 H A W. record { copies = Laws'''''''.copy Notice.the-type Laws.the-copy 𝓤 H A W; lawful =
-    Laws'''''''.lawful Notice.the-type Laws.the-laws 𝓤 H A W tt; makes = Laws'''''''.makes Notice.the-type Laws.the-plain 𝓤 H A; in-mem =
-    Local.mem-whole 𝓤 H A W (Declared.row Notice.the-type); of-mem = Local.whole-mem 𝓤 H A W (Declared.row Notice.the-type); }) ∷ (Value.pVal record {
-    ty = Declared.row Notice.the-type; one = Path.refl; val = Laws'''''''.val Notice.the-type Laws.the-laws; tells = Laws'''''''.tells Notice.the-type
-    Laws.the-laws; still = Laws'''''''.still Notice.the-type Laws.the-copy Exit.yes; row = Rows.whole (Declared.row Notice.the-type); rd = λ x. x; mk
-    = λ x. x; } λ M 𝓤 H A W. record { copies = Laws'''''''.copy Notice.the-type Laws.the-copy 𝓤 H A W; lawful = Laws'''''''.lawful Notice.the-type
-    Laws.the-laws 𝓤 H A W tt; makes = Laws'''''''.makes Notice.the-type Laws.the-plain 𝓤 H A; in-mem = Local.mem-whole 𝓤 H A W (Declared.row
-    Notice.the-type); of-mem = Local.whole-mem 𝓤 H A W (Declared.row Notice.the-type); }) ∷ List.[]
+ps·4 = (StructRow.param Question.the-type Laws''.the-laws Laws''.the-copy Laws''.the-plain) ∷ (StructRow.enum-param
+    Notice.the-type Laws.the-laws Laws.the-copy Laws.the-plain tt) ∷ (StructRow.enum-param Notice.the-type
+    Laws.the-laws Laws.the-copy Laws.the-plain tt) ∷ List.[]
+
 abbrev pub r·4 : Kinds.RK 0
-r·4 = Value.rVal record { ty = Declared'.row Revoking.the-type; one = Path.refl; val = Laws''''''''.val Revoking.the-type Laws''''.the-laws; tells =
-    Laws''''''''.tells Revoking.the-type Laws''''.the-laws; still = Laws''''''''.still Revoking.the-type Laws''''.the-copy Exit.yes; row = Rows.whole
-    (Declared'.row Revoking.the-type); rd = λ x. x; mk = λ x. x; } λ M 𝓤 H A W. record { copies = Laws''''''''.copy Revoking.the-type
-    Laws''''.the-copy 𝓤 H A W; lawful = Laws''''''''.lawful Revoking.the-type Laws''''.the-laws 𝓤 H A W; makes = Laws''''''''.makes Revoking.the-type
-    Laws''''.the-plain 𝓤 H A; in-mem = Local.mem-whole 𝓤 H A W (Declared'.row Revoking.the-type); of-mem = Local.whole-mem 𝓤 H A W (Declared'.row
-    Revoking.the-type); }
+r·4 = StructRow.result Revoking.the-type Laws''''.the-laws Laws''''.the-copy Laws''''.the-plain
+
 abbrev pub ps·5 : List.List (Kinds.PK 4)
-ps·5 = (MutSlice.pMutS RelayPending.row 0 tt) ∷ (MutSlice.pMutS RelayCircuit.row 1 tt) ∷ (MutSlice.pMutS InflightAction.row 2 tt) ∷ (MutSlice.pMutS
-    (Referent.rtF (Referent.fInt Syntax.w32)) 3 tt) ∷ (Value.pVal record { ty = Declared'.row OpaqueRelayRuntime.the-type; one = Path.refl; val =
-    Laws''''''''.val OpaqueRelayRuntime.the-type Laws'''''.the-laws; tells = Laws''''''''.tells OpaqueRelayRuntime.the-type Laws'''''.the-laws; still
-    = Laws''''''''.still OpaqueRelayRuntime.the-type Laws'''''.the-copy Exit.yes; row = Rows.whole (Declared'.row OpaqueRelayRuntime.the-type); rd = λ
-    x. x; mk = λ x. x; } λ M 𝓤 H A W. record { copies = Laws''''''''.copy OpaqueRelayRuntime.the-type Laws'''''.the-copy 𝓤 H A W; lawful =
-    Laws''''''''.lawful OpaqueRelayRuntime.the-type Laws'''''.the-laws 𝓤 H A W; makes = Laws''''''''.makes OpaqueRelayRuntime.the-type
-    Laws'''''.the-plain 𝓤 H A; in-mem = Local.mem-whole 𝓤 H A W (Declared'.row OpaqueRelayRuntime.the-type); of-mem = Local.whole-mem 𝓤 H A W
-    (Declared'.row OpaqueRelayRuntime.the-type); }) ∷ (Value.pVal record { ty = Declared'.row Places.the-type; one = Path.refl; val = Laws''''''''.val
-    Places.the-type Laws'.the-laws; tells = Laws''''''''.tells Places.the-type Laws'.the-laws; still = Laws''''''''.still Places.the-type
-    Laws'.the-copy Exit.yes; row = Rows.whole (Declared'.row Places.the-type); rd = λ x. x; mk = λ x. x; } λ M 𝓤 H A W. record { copies =
-    Laws''''''''.copy Places.the-type Laws'.the-copy 𝓤 H A W; lawful = Laws''''''''.lawful Places.the-type Laws'.the-laws 𝓤 H A W; makes =
-    Laws''''''''.makes Places.the-type Laws'.the-plain 𝓤 H A; in-mem = Local.mem-whole 𝓤 H A W (Declared'.row Places.the-type); of-mem =
-    Local.whole-mem 𝓤 H A W (Declared'.row Places.the-type); }) ∷ (Value.pVal record { ty = Declared'.row Revoking.the-type; one = Path.refl; val =
-    Laws''''''''.val Revoking.the-type Laws''''.the-laws; tells = Laws''''''''.tells Revoking.the-type Laws''''.the-laws; still = Laws''''''''.still
-    Revoking.the-type Laws''''.the-copy Exit.yes; row = Rows.whole (Declared'.row Revoking.the-type); rd = λ x. x; mk = λ x. x; } λ M 𝓤 H A W. record
-    { copies = Laws''''''''.copy Revoking.the-type Laws''''.the-copy 𝓤 H A W; lawful = Laws''''''''.lawful Revoking.the-type Laws''''.the-laws 𝓤 H A
-    W; makes = Laws''''''''.makes Revoking.the-type Laws''''.the-plain 𝓤 H A; in-mem = Local.mem-whole 𝓤 H A W (Declared'.row Revoking.the-type);
-    of-mem = Local.whole-mem 𝓤 H A W (Declared'.row Revoking.the-type); }) ∷ (Value.pVal record { ty = Declared'.row Firsts.the-type; one = Path.refl;
-    val = Laws''''''''.val Firsts.the-type Laws'''.the-laws; tells = Laws''''''''.tells Firsts.the-type Laws'''.the-laws; still = Laws''''''''.still
-    Firsts.the-type Laws'''.the-copy Exit.yes; row = Rows.whole (Declared'.row Firsts.the-type); rd = λ x. x; mk = λ x. x; } λ M 𝓤 H A W. record {
-    copies = Laws''''''''.copy Firsts.the-type Laws'''.the-copy 𝓤 H A W; lawful = Laws''''''''.lawful Firsts.the-type Laws'''.the-laws 𝓤 H A W; makes
-    = Laws''''''''.makes Firsts.the-type Laws'''.the-plain 𝓤 H A; in-mem = Local.mem-whole 𝓤 H A W (Declared'.row Firsts.the-type); of-mem =
-    Local.whole-mem 𝓤 H A W (Declared'.row Firsts.the-type); }) ∷ List.[]
+ps·5 = (MutSlice.pMutS RelayPending.row 0 tt) ∷ (MutSlice.pMutS RelayCircuit.row 1 tt) ∷
+    (MutSlice.pMutS InflightAction.row 2 tt) ∷ (MutSlice.pMutS (Referent.rtF (Referent.fInt Syntax.w32)) 3 tt) ∷ (StructRow.param
+    OpaqueRelayRuntime.the-type Laws'''''.the-laws Laws'''''.the-copy Laws'''''.the-plain) ∷ (StructRow.param
+    Places.the-type Laws'.the-laws Laws'.the-copy Laws'.the-plain) ∷ (StructRow.param Revoking.the-type
+    Laws''''.the-laws Laws''''.the-copy Laws''''.the-plain) ∷ (StructRow.param Firsts.the-type Laws'''.the-laws
+    Laws'''.the-copy Laws'''.the-plain) ∷ List.[]
+
 abbrev pub r·5 : Kinds.RK 4
-r·5 = Value.rVal record { ty = Declared'.row Relayed.the-type; one = Path.refl; val = Laws''''''''.val Relayed.the-type Laws''''''.the-laws; tells =
-    Laws''''''''.tells Relayed.the-type Laws''''''.the-laws; still = Laws''''''''.still Relayed.the-type Laws''''''.the-copy Exit.yes; row =
-    Rows.whole (Declared'.row Relayed.the-type); rd = λ x. x; mk = λ x. x; } λ M 𝓤 H A W. record { copies = Laws''''''''.copy Relayed.the-type
-    Laws''''''.the-copy 𝓤 H A W; lawful = Laws''''''''.lawful Relayed.the-type Laws''''''.the-laws 𝓤 H A W; makes = Laws''''''''.makes
-    Relayed.the-type Laws''''''.the-plain 𝓤 H A; in-mem = Local.mem-whole 𝓤 H A W (Declared'.row Relayed.the-type); of-mem = Local.whole-mem 𝓤 H A W
-    (Declared'.row Relayed.the-type); }
+r·5 = StructRow.result Relayed.the-type Laws''''''.the-laws Laws''''''.the-copy Laws''''''.the-plain
+
 abbrev pub hs : List.List Syntax.Home
-hs = Syntax.valueLocal ∷ Syntax.valueLocal ∷ Syntax.valueLocal ∷ Syntax.valueLocal ∷ Syntax.valueLocal ∷ Syntax.valueLocal ∷ Syntax.valueLocal ∷
-    Syntax.valueLocal ∷ Syntax.valueLocal ∷ Syntax.valueLocal ∷ Syntax.valueLocal ∷ Syntax.valueLocal ∷ Syntax.valueLocal ∷ Syntax.valueLocal ∷
-    Syntax.valueLocal ∷ Syntax.valueLocal ∷ Syntax.valueLocal ∷ Syntax.valueLocal ∷ Syntax.valueLocal ∷ Syntax.valueLocal ∷ Syntax.valueLocal ∷
-    Syntax.valueLocal ∷ Syntax.valueLocal ∷ Syntax.valueLocal ∷ Syntax.valueLocal ∷ Syntax.valueLocal ∷ List.[]
+hs = Syntax.valueLocal ∷ Syntax.valueLocal ∷ Syntax.valueLocal ∷ Syntax.valueLocal ∷ Syntax.valueLocal ∷
+    Syntax.valueLocal ∷ Syntax.valueLocal ∷ Syntax.valueLocal ∷ Syntax.valueLocal ∷ Syntax.valueLocal ∷
+    Syntax.valueLocal ∷ Syntax.valueLocal ∷ Syntax.valueLocal ∷ Syntax.valueLocal ∷ Syntax.valueLocal ∷
+    Syntax.valueLocal ∷ Syntax.valueLocal ∷ Syntax.valueLocal ∷ Syntax.valueLocal ∷ Syntax.valueLocal ∷
+    Syntax.valueLocal ∷ Syntax.valueLocal ∷ Syntax.valueLocal ∷ Syntax.valueLocal ∷ Syntax.valueLocal ∷
+    Syntax.valueLocal ∷ List.[]
+
 abbrev b0 : Syntax.Body
 b0 = Syntax.call "hnsr_circuit::question::used" List.[] (Syntax.place 9 List.[])
+
 abbrev b1 : Syntax.Body
-b1 = Syntax.call "hnsr_circuit::header::with_enabled" ((Syntax.copy (Syntax.place 5 List.[])) ∷ (Syntax.copy (Syntax.place 7 List.[])) ∷ List.[])
-    (Syntax.place 10 List.[])
+b1 = Syntax.call "hnsr_circuit::header::with_enabled" ((Syntax.copy (Syntax.place 5 List.[])) ∷
+    (Syntax.copy (Syntax.place 7 List.[])) ∷ List.[]) (Syntax.place 10 List.[])
+
 abbrev b2 : Syntax.Body
-b2 = Syntax.assign (Syntax.place 13 List.[]) (Syntax.addrOf (Syntax.place 3 ((Syntax.field 0) ∷ (Syntax.deref InflightAction.ty) ∷ List.[])))
+b2 = Syntax.assign (Syntax.place 13 List.[]) (Syntax.addrOf (Syntax.place 3 ((Syntax.field 0) ∷
+    (Syntax.deref InflightAction.ty) ∷ List.[])))
+
 abbrev b3 : Syntax.Body
-b3 = Syntax.assign (Syntax.place 14 List.[]) (Syntax.aggregate ((Syntax.copy (Syntax.place 13 List.[])) ∷ (Syntax.copy (Syntax.place 3 ((Syntax.field
-    1) ∷ List.[]))) ∷ List.[]))
+b3 = Syntax.assign (Syntax.place 14 List.[]) (Syntax.aggregate ((Syntax.copy (Syntax.place 13 List.[])) ∷
+    (Syntax.copy (Syntax.place 3 ((Syntax.field 1) ∷ List.[]))) ∷ List.[]))
+
 abbrev b4 : Syntax.Body
-b4 = Syntax.call "hnsr_circuit::tables::inflight::clear_action" ((Syntax.copy (Syntax.place 14 List.[])) ∷ (Syntax.copy (Syntax.place 6 List.[])) ∷
-    (Syntax.copy (Syntax.place 9 List.[])) ∷ List.[]) (Syntax.place 12 List.[])
+b4 = Syntax.call "hnsr_circuit::tables::inflight::clear_action" ((Syntax.copy (Syntax.place 14 List.[])) ∷
+    (Syntax.copy (Syntax.place 6 List.[])) ∷ (Syntax.copy (Syntax.place 9 List.[])) ∷ List.[])
+    (Syntax.place 12 List.[])
+
 abbrev b5 : Syntax.Body
 b5 = Syntax.assign (Syntax.place 15 List.[]) (Syntax.rvOpd (Syntax.copy (Syntax.place 7 List.[])))
+
 abbrev b6 : Syntax.Body
-b6 = Syntax.call "hnsr_circuit::revoking_calls::taken_with" ((Syntax.copy (Syntax.place 10 List.[])) ∷ (Syntax.copy (Syntax.place 6 List.[])) ∷
-    List.[]) (Syntax.place 0 List.[])
+b6 = Syntax.call "hnsr_circuit::revoking_calls::taken_with" ((Syntax.copy (Syntax.place 10 List.[])) ∷
+    (Syntax.copy (Syntax.place 6 List.[])) ∷ List.[]) (Syntax.place 0 List.[])
+
 abbrev b7 : Syntax.Body
 b7 = Syntax.return
+
 abbrev b8 : Syntax.Body
 b8 = Syntax.seq b6 b7
+
 abbrev b9 : Syntax.Body
 b9 = Syntax.skip
+
 abbrev b10 : Syntax.Body
 b10 = Syntax.cond (Syntax.copy (Syntax.place 15 List.[])) b8 b9
+
 abbrev b11 : Syntax.Body
 b11 = Syntax.assign (Syntax.place 16 List.[]) (Syntax.aggregate ((Syntax.int Syntax.w8 4) ∷ List.[]))
+
 abbrev b12 : Syntax.Body
 b12 = Syntax.assign (Syntax.place 17 List.[]) (Syntax.aggregate ((Syntax.int Syntax.w8 4) ∷ List.[]))
+
 abbrev b13 : Syntax.Body
-b13 = Syntax.call "hnsr_circuit::revoking_calls::revoking" ((Syntax.copy (Syntax.place 9 List.[])) ∷ (Syntax.copy (Syntax.place 16 List.[])) ∷
-    (Syntax.copy (Syntax.place 17 List.[])) ∷ List.[]) (Syntax.place 11 List.[])
+b13 = Syntax.call "hnsr_circuit::revoking_calls::revoking" ((Syntax.copy (Syntax.place 9 List.[])) ∷
+    (Syntax.copy (Syntax.place 16 List.[])) ∷ (Syntax.copy (Syntax.place 17 List.[])) ∷ List.[])
+    (Syntax.place 11 List.[])
+
 abbrev b14 : Syntax.Body
-b14 = Syntax.assign (Syntax.place 18 List.[]) (Syntax.addrOf (Syntax.place 1 ((Syntax.field 0) ∷ (Syntax.deref RelayPending.ty) ∷ List.[])))
+b14 = Syntax.assign (Syntax.place 18 List.[]) (Syntax.addrOf (Syntax.place 1 ((Syntax.field 0) ∷
+    (Syntax.deref RelayPending.ty) ∷ List.[])))
+
 abbrev b15 : Syntax.Body
-b15 = Syntax.assign (Syntax.place 19 List.[]) (Syntax.aggregate ((Syntax.copy (Syntax.place 18 List.[])) ∷ (Syntax.copy (Syntax.place 1 ((Syntax.field
-    1) ∷ List.[]))) ∷ List.[]))
+b15 = Syntax.assign (Syntax.place 19 List.[]) (Syntax.aggregate ((Syntax.copy (Syntax.place 18 List.[])) ∷
+    (Syntax.copy (Syntax.place 1 ((Syntax.field 1) ∷ List.[]))) ∷ List.[]))
+
 abbrev b16 : Syntax.Body
-b16 = Syntax.assign (Syntax.place 20 List.[]) (Syntax.addrOf (Syntax.place 2 ((Syntax.field 0) ∷ (Syntax.deref RelayCircuit.ty) ∷ List.[])))
+b16 = Syntax.assign (Syntax.place 20 List.[]) (Syntax.addrOf (Syntax.place 2 ((Syntax.field 0) ∷
+    (Syntax.deref RelayCircuit.ty) ∷ List.[])))
+
 abbrev b17 : Syntax.Body
-b17 = Syntax.assign (Syntax.place 21 List.[]) (Syntax.aggregate ((Syntax.copy (Syntax.place 20 List.[])) ∷ (Syntax.copy (Syntax.place 2 ((Syntax.field
-    1) ∷ List.[]))) ∷ List.[]))
+b17 = Syntax.assign (Syntax.place 21 List.[]) (Syntax.aggregate ((Syntax.copy (Syntax.place 20 List.[])) ∷
+    (Syntax.copy (Syntax.place 2 ((Syntax.field 1) ∷ List.[]))) ∷ List.[]))
+
 abbrev b18 : Syntax.Body
-b18 = Syntax.assign (Syntax.place 22 List.[]) (Syntax.addrOf (Syntax.place 3 ((Syntax.field 0) ∷ (Syntax.deref InflightAction.ty) ∷ List.[])))
+b18 = Syntax.assign (Syntax.place 22 List.[]) (Syntax.addrOf (Syntax.place 3 ((Syntax.field 0) ∷
+    (Syntax.deref InflightAction.ty) ∷ List.[])))
+
 abbrev b19 : Syntax.Body
-b19 = Syntax.assign (Syntax.place 23 List.[]) (Syntax.aggregate ((Syntax.copy (Syntax.place 22 List.[])) ∷ (Syntax.copy (Syntax.place 3 ((Syntax.field
-    1) ∷ List.[]))) ∷ List.[]))
+b19 = Syntax.assign (Syntax.place 23 List.[]) (Syntax.aggregate ((Syntax.copy (Syntax.place 22 List.[])) ∷
+    (Syntax.copy (Syntax.place 3 ((Syntax.field 1) ∷ List.[]))) ∷ List.[]))
+
 abbrev b20 : Syntax.Body
-b20 = Syntax.assign (Syntax.place 24 List.[]) (Syntax.addrOf (Syntax.place 4 ((Syntax.field 0) ∷ (Syntax.deref (Syntax.tyInt Syntax.w32)) ∷ List.[])))
+b20 = Syntax.assign (Syntax.place 24 List.[]) (Syntax.addrOf (Syntax.place 4 ((Syntax.field 0) ∷
+    (Syntax.deref (Syntax.tyInt Syntax.w32)) ∷ List.[])))
+
 abbrev b21 : Syntax.Body
-b21 = Syntax.assign (Syntax.place 25 List.[]) (Syntax.aggregate ((Syntax.copy (Syntax.place 24 List.[])) ∷ (Syntax.copy (Syntax.place 4 ((Syntax.field
-    1) ∷ List.[]))) ∷ List.[]))
+b21 = Syntax.assign (Syntax.place 25 List.[]) (Syntax.aggregate ((Syntax.copy (Syntax.place 24 List.[])) ∷
+    (Syntax.copy (Syntax.place 4 ((Syntax.field 1) ∷ List.[]))) ∷ List.[]))
+
 abbrev b22 : Syntax.Body
-b22 = Syntax.call "hnsr_circuit::revocation::revoke_all" ((Syntax.copy (Syntax.place 19 List.[])) ∷ (Syntax.copy (Syntax.place 21 List.[])) ∷
-    (Syntax.copy (Syntax.place 23 List.[])) ∷ (Syntax.copy (Syntax.place 25 List.[])) ∷ (Syntax.copy (Syntax.place 10 List.[])) ∷ (Syntax.copy
-    (Syntax.place 6 List.[])) ∷ (Syntax.copy (Syntax.place 11 List.[])) ∷ (Syntax.copy (Syntax.place 8 List.[])) ∷ List.[]) (Syntax.place 0 List.[])
+b22 = Syntax.call "hnsr_circuit::revocation::revoke_all" ((Syntax.copy (Syntax.place 19 List.[])) ∷
+    (Syntax.copy (Syntax.place 21 List.[])) ∷ (Syntax.copy (Syntax.place 23 List.[])) ∷
+    (Syntax.copy (Syntax.place 25 List.[])) ∷ (Syntax.copy (Syntax.place 10 List.[])) ∷
+    (Syntax.copy (Syntax.place 6 List.[])) ∷ (Syntax.copy (Syntax.place 11 List.[])) ∷
+    (Syntax.copy (Syntax.place 8 List.[])) ∷ List.[]) (Syntax.place 0 List.[])
+
 abbrev b23 : Syntax.Body
 b23 = Syntax.return
+
 abbrev b24 : Syntax.Body
 b24 = Syntax.seq b22 b23
+
 abbrev b25 : Syntax.Body
 b25 = Syntax.seq b21 b24
+
 abbrev b26 : Syntax.Body
 b26 = Syntax.seq b20 b25
+
 abbrev b27 : Syntax.Body
 b27 = Syntax.seq b19 b26
+
 abbrev b28 : Syntax.Body
 b28 = Syntax.seq b18 b27
+
 abbrev b29 : Syntax.Body
 b29 = Syntax.seq b17 b28
+
 abbrev b30 : Syntax.Body
 b30 = Syntax.seq b16 b29
+
 abbrev b31 : Syntax.Body
 b31 = Syntax.seq b15 b30
+
 abbrev b32 : Syntax.Body
 b32 = Syntax.seq b14 b31
+
 abbrev b33 : Syntax.Body
 b33 = Syntax.seq b13 b32
+
 abbrev b34 : Syntax.Body
 b34 = Syntax.seq b12 b33
+
 abbrev b35 : Syntax.Body
 b35 = Syntax.seq b11 b34
+
 abbrev b36 : Syntax.Body
 b36 = Syntax.seq b10 b35
+
 abbrev b37 : Syntax.Body
 b37 = Syntax.seq b5 b36
+
 abbrev b38 : Syntax.Body
 b38 = Syntax.seq b4 b37
+
 abbrev b39 : Syntax.Body
 b39 = Syntax.seq b3 b38
+
 abbrev b40 : Syntax.Body
 b40 = Syntax.seq b2 b39
+
 abbrev b41 : Syntax.Body
 b41 = Syntax.seq b1 b40
+
 abbrev b42 : Syntax.Body
 b42 = Syntax.seq b0 b41
+
 abbrev pub body : Syntax.Body
 body = b42
+
 abbrev pub Claims : Type 1
-Claims = Kinds.In 0 ps·0 × Kinds.Out 0 ps·0 r·0 × Kinds.In 0 ps·1 × Kinds.Out 0 ps·1 r·1 × Kinds.In 1 ps·2 × Kinds.Out 1 ps·2 r·2 × Kinds.In 0 ps·3 ×
-    Kinds.Out 0 ps·3 r·3 × Kinds.In 0 ps·4 × Kinds.Out 0 ps·4 r·4 × Kinds.In 4 ps·5 × Kinds.Out 4 ps·5 r·5
+Claims = Kinds.In 0 ps·0 × Kinds.Out 0 ps·0 r·0 × Kinds.In 0 ps·1 × Kinds.Out 0 ps·1 r·1 × Kinds.In 1 ps·2 × Kinds.Out
+    1 ps·2 r·2 × Kinds.In 0 ps·3 × Kinds.Out 0 ps·3 r·3 × Kinds.In 0 ps·4 × Kinds.Out 0 ps·4 r·4 × Kinds.In 4 ps·5 ×
+    Kinds.Out 4 ps·5 r·5
+
 abbrev e0 : Row.Entry
 e0 = (0, Rows.any-gone Laws''''''.mir)
+
 abbrev e1 : Row.Entry
 e1 = (1, Mut.mslice RelayPending.row ref4 0)
+
 abbrev e2 : Row.Entry
 e2 = (2, Mut.mslice RelayCircuit.row ref5 1)
+
 abbrev e3 : Row.Entry
 e3 = (3, Mut.mslice InflightAction.row ref6 2)
+
 abbrev e4 : Row.Entry
 e4 = (4, Mut.mslice (Referent.rtF (Referent.fInt Syntax.w32)) ref7 3)
+
 abbrev e5 : Row.Entry
 e5 = (5, Rows.whole (Declared'.row OpaqueRelayRuntime.the-type))
+
 abbrev e6 : Row.Entry
 e6 = (6, Rows.whole (Declared'.row Places.the-type))
+
 abbrev e7 : Row.Entry
 e7 = (7, Rows.sc-here Row.sBool)
+
 abbrev e8 : Row.Entry
 e8 = (8, Rows.whole (Declared'.row Firsts.the-type))
+
 abbrev e9 : Row.Entry
 e9 = (9, Rows.any-gone Laws''.mir)
+
 abbrev e10 : Row.Entry
 e10 = (10, Rows.any-gone Laws'''''.mir)
+
 abbrev e11 : Row.Entry
 e11 = (11, Rows.any-gone Laws''''.mir)
+
 abbrev e12 : Row.Entry
 e12 = (12, Rows.any-gone Syntax.tyUnit)
+
 abbrev e13 : Row.Entry
 e13 = (13, Rows.any-gone ref0)
+
 abbrev e14 : Row.Entry
-e14 = (14, Rows.any-gone (Syntax.tyStruct (38 ∷ 91 ∷ 93 ∷ List.[]) (Syntax.tcons ref0 (Syntax.tcons (Syntax.tyInt Syntax.w64) Syntax.tnil))))
+e14 = (14, Rows.any-gone slice0)
+
 abbrev e15 : Row.Entry
 e15 = (15, Rows.any-gone Syntax.tyBool)
+
 abbrev e16 : Row.Entry
 e16 = (16, Rows.any-gone Laws.mir)
+
 abbrev e17 : Row.Entry
 e17 = (17, Rows.any-gone Laws.mir)
+
 abbrev e18 : Row.Entry
 e18 = (18, Rows.any-gone ref1)
+
 abbrev e19 : Row.Entry
-e19 = (19, Rows.any-gone (Syntax.tyStruct (38 ∷ 91 ∷ 93 ∷ List.[]) (Syntax.tcons ref1 (Syntax.tcons (Syntax.tyInt Syntax.w64) Syntax.tnil))))
+e19 = (19, Rows.any-gone slice1)
+
 abbrev e20 : Row.Entry
 e20 = (20, Rows.any-gone ref2)
+
 abbrev e21 : Row.Entry
-e21 = (21, Rows.any-gone (Syntax.tyStruct (38 ∷ 91 ∷ 93 ∷ List.[]) (Syntax.tcons ref2 (Syntax.tcons (Syntax.tyInt Syntax.w64) Syntax.tnil))))
+e21 = (21, Rows.any-gone slice2)
+
 abbrev e22 : Row.Entry
 e22 = (22, Rows.any-gone ref0)
+
 abbrev e23 : Row.Entry
-e23 = (23, Rows.any-gone (Syntax.tyStruct (38 ∷ 91 ∷ 93 ∷ List.[]) (Syntax.tcons ref0 (Syntax.tcons (Syntax.tyInt Syntax.w64) Syntax.tnil))))
+e23 = (23, Rows.any-gone slice0)
+
 abbrev e24 : Row.Entry
 e24 = (24, Rows.any-gone ref3)
+
 abbrev e25 : Row.Entry
-e25 = (25, Rows.any-gone (Syntax.tyStruct (38 ∷ 91 ∷ 93 ∷ List.[]) (Syntax.tcons ref3 (Syntax.tcons (Syntax.tyInt Syntax.w64) Syntax.tnil))))
+e25 = (25, Rows.any-gone slice3)
+
 abbrev e0·1 : Row.Entry
 e0·1 = (0, Rows.whole (Declared'.row Relayed.the-type))
+
 abbrev e5·1 : Row.Entry
 e5·1 = (5, Rows.any-gone Laws'''''.mir)
+
 abbrev e6·1 : Row.Entry
 e6·1 = (6, Rows.any-gone Laws'.mir)
+
 abbrev e7·1 : Row.Entry
 e7·1 = (7, Rows.any-gone Syntax.tyBool)
+
 abbrev e8·1 : Row.Entry
 e8·1 = (8, Rows.any-gone Laws'''.mir)
+
 abbrev e9·1 : Row.Entry
 e9·1 = (9, Rows.whole (Declared'.row Question.the-type))
+
 abbrev e10·1 : Row.Entry
 e10·1 = (10, Rows.whole (Declared'.row OpaqueRelayRuntime.the-type))
+
 abbrev e3·1 : Row.Entry
 e3·1 = (3, Relend.mslice-owed InflightAction.row ref6 2 4 Row.off)
+
 abbrev e13·1 : Row.Entry
 e13·1 = (13, Relend.msptr InflightAction.row ref0 4)
+
 abbrev e14·1 : Row.Entry
 e14·1 = (14, Mut.mslice InflightAction.row ref0 4)
+
 abbrev e12·1 : Row.Entry
 e12·1 = (12, Rows.sc-here Row.sUnit)
+
 abbrev e14·2 : Row.Entry
 e14·2 = (14, Mut.msleft InflightAction.row ref0)
+
 abbrev e15·1 : Row.Entry
 e15·1 = (15, Rows.sc-here Row.sBool)
+
 abbrev e16·1 : Row.Entry
 e16·1 = (16, Rows.whole (Declared.row Notice.the-type))
+
 abbrev e17·1 : Row.Entry
 e17·1 = (17, Rows.whole (Declared.row Notice.the-type))
+
 abbrev e11·1 : Row.Entry
 e11·1 = (11, Rows.whole (Declared'.row Revoking.the-type))
+
 abbrev e1·1 : Row.Entry
 e1·1 = (1, Relend.mslice-owed RelayPending.row ref4 0 5 Row.off)
+
 abbrev e18·1 : Row.Entry
 e18·1 = (18, Relend.msptr RelayPending.row ref1 5)
+
 abbrev e19·1 : Row.Entry
 e19·1 = (19, Mut.mslice RelayPending.row ref1 5)
+
 abbrev e2·1 : Row.Entry
 e2·1 = (2, Relend.mslice-owed RelayCircuit.row ref5 1 6 Row.off)
+
 abbrev e20·1 : Row.Entry
 e20·1 = (20, Relend.msptr RelayCircuit.row ref2 6)
+
 abbrev e21·1 : Row.Entry
 e21·1 = (21, Mut.mslice RelayCircuit.row ref2 6)
+
 abbrev e3·2 : Row.Entry
 e3·2 = (3, Relend.mslice-owed InflightAction.row ref6 2 7 Row.off)
+
 abbrev e22·1 : Row.Entry
 e22·1 = (22, Relend.msptr InflightAction.row ref0 7)
+
 abbrev e23·1 : Row.Entry
 e23·1 = (23, Mut.mslice InflightAction.row ref0 7)
+
 abbrev e4·1 : Row.Entry
 e4·1 = (4, Relend.mslice-owed (Referent.rtF (Referent.fInt Syntax.w32)) ref7 3 8 Row.off)
+
 abbrev e24·1 : Row.Entry
 e24·1 = (24, Relend.msptr (Referent.rtF (Referent.fInt Syntax.w32)) ref3 8)
+
 abbrev e25·1 : Row.Entry
 e25·1 = (25, Mut.mslice (Referent.rtF (Referent.fInt Syntax.w32)) ref3 8)
+
 abbrev e19·2 : Row.Entry
 e19·2 = (19, Mut.msleft RelayPending.row ref1)
+
 abbrev e21·2 : Row.Entry
 e21·2 = (21, Mut.msleft RelayCircuit.row ref2)
+
 abbrev e23·2 : Row.Entry
 e23·2 = (23, Mut.msleft InflightAction.row ref0)
+
 abbrev e25·2 : Row.Entry
 e25·2 = (25, Mut.msleft (Referent.rtF (Referent.fInt Syntax.w32)) ref3)
+
 abbrev pub t0 : List.List Row.Entry
 t0 = e0 ∷ e1 ∷ e2 ∷ e3 ∷ e4 ∷ e5 ∷ e6 ∷ e7 ∷ e8 ∷ e9 ∷ e10 ∷ e11 ∷ e12 ∷ e13 ∷ e14 ∷ e15 ∷ List.[]
+
 abbrev pub t1 : List.List Row.Entry
 t1 = e16 ∷ e17 ∷ e18 ∷ e19 ∷ e20 ∷ e21 ∷ e22 ∷ e23 ∷ e24 ∷ e25 ∷ List.[]
+
 abbrev pub t2 : List.List Row.Entry
 t2 = e0·1 ∷ e1 ∷ e2 ∷ e3 ∷ e4 ∷ e5·1 ∷ e6·1 ∷ e7·1 ∷ e8·1 ∷ e9 ∷ e10 ∷ e11 ∷ e12 ∷ e13 ∷ e14 ∷ e15 ∷ List.[]
+
 abbrev pub t3 : List.List Row.Entry
 t3 = e0 ∷ e1 ∷ e2 ∷ e3 ∷ e4 ∷ e5 ∷ e6 ∷ e7 ∷ e8 ∷ e9·1 ∷ e10 ∷ e11 ∷ e12 ∷ e13 ∷ e14 ∷ e15 ∷ List.[]
+
 abbrev pub t4 : List.List Row.Entry
 t4 = e0 ∷ e1 ∷ e2 ∷ e3 ∷ e4 ∷ e5 ∷ e6 ∷ e7 ∷ e8 ∷ e9·1 ∷ e10·1 ∷ e11 ∷ e12 ∷ e13 ∷ e14 ∷ e15 ∷ List.[]
+
 abbrev pub t5 : List.List Row.Entry
 t5 = e0 ∷ e1 ∷ e2 ∷ e3 ∷ e4 ∷ e5·1 ∷ e6 ∷ e7 ∷ e8 ∷ e9·1 ∷ e10·1 ∷ e11 ∷ e12 ∷ e13 ∷ e14 ∷ e15 ∷ List.[]
+
 abbrev pub t6 : List.List Row.Entry
 t6 = e0 ∷ e1 ∷ e2 ∷ e3·1 ∷ e4 ∷ e5·1 ∷ e6 ∷ e7 ∷ e8 ∷ e9·1 ∷ e10·1 ∷ e11 ∷ e12 ∷ e13·1 ∷ e14 ∷ e15 ∷ List.[]
+
 abbrev pub t7 : List.List Row.Entry
 t7 = e0 ∷ e1 ∷ e2 ∷ e3·1 ∷ e4 ∷ e5·1 ∷ e6 ∷ e7 ∷ e8 ∷ e9·1 ∷ e10·1 ∷ e11 ∷ e12 ∷ e13 ∷ e14·1 ∷ e15 ∷ List.[]
+
 abbrev pub t8 : List.List Row.Entry
 t8 = e0 ∷ e1 ∷ e2 ∷ e3·1 ∷ e4 ∷ e5·1 ∷ e6 ∷ e7 ∷ e8 ∷ e9·1 ∷ e10·1 ∷ e11 ∷ e12·1 ∷ e13 ∷ e14·2 ∷ e15 ∷ List.[]
+
 abbrev pub t9 : List.List Row.Entry
 t9 = e0 ∷ e1 ∷ e2 ∷ e3·1 ∷ e4 ∷ e5·1 ∷ e6 ∷ e7 ∷ e8 ∷ e9·1 ∷ e10·1 ∷ e11 ∷ e12 ∷ e13 ∷ e14·2 ∷ e15 ∷ List.[]
+
 abbrev pub t10 : List.List Row.Entry
 t10 = e0 ∷ e1 ∷ e2 ∷ e3 ∷ e4 ∷ e5·1 ∷ e6 ∷ e7 ∷ e8 ∷ e9·1 ∷ e10·1 ∷ e11 ∷ e12 ∷ e13 ∷ e14 ∷ e15·1 ∷ List.[]
+
 abbrev pub t11 : List.List Row.Entry
 t11 = e0 ∷ e1 ∷ e2 ∷ e3 ∷ e4 ∷ e5·1 ∷ e6 ∷ e7 ∷ e8·1 ∷ e9·1 ∷ e10·1 ∷ e11 ∷ e12 ∷ e13 ∷ e14 ∷ e15·1 ∷ List.[]
+
 abbrev pub t12 : List.List Row.Entry
 t12 = e0 ∷ e1 ∷ e2 ∷ e3 ∷ e4 ∷ e5·1 ∷ e6 ∷ e7 ∷ e8·1 ∷ e9 ∷ e10·1 ∷ e11 ∷ e12 ∷ e13 ∷ e14 ∷ e15·1 ∷ List.[]
+
 abbrev pub t13 : List.List Row.Entry
 t13 = e0 ∷ e1 ∷ e2 ∷ e3 ∷ e4 ∷ e5·1 ∷ e6 ∷ e7 ∷ e8·1 ∷ e9 ∷ e10·1 ∷ e11 ∷ e12 ∷ e13 ∷ e14 ∷ e15 ∷ List.[]
+
 abbrev pub t14 : List.List Row.Entry
 t14 = e0·1 ∷ e1 ∷ e2 ∷ e3 ∷ e4 ∷ e5·1 ∷ e6 ∷ e7 ∷ e8·1 ∷ e9 ∷ e10·1 ∷ e11 ∷ e12 ∷ e13 ∷ e14 ∷ e15 ∷ List.[]
+
 abbrev pub t15 : List.List Row.Entry
 t15 = e0·1 ∷ e1 ∷ e2 ∷ e3 ∷ e4 ∷ e5·1 ∷ e6·1 ∷ e7 ∷ e8·1 ∷ e9 ∷ e10·1 ∷ e11 ∷ e12 ∷ e13 ∷ e14 ∷ e15 ∷ List.[]
+
 abbrev pub t16 : List.List Row.Entry
 t16 = e0·1 ∷ e1 ∷ e2 ∷ e3 ∷ e4 ∷ e5·1 ∷ e6·1 ∷ e7 ∷ e8·1 ∷ e9 ∷ e10 ∷ e11 ∷ e12 ∷ e13 ∷ e14 ∷ e15 ∷ List.[]
+
 abbrev pub t17 : List.List Row.Entry
 t17 = e16·1 ∷ e17 ∷ e18 ∷ e19 ∷ e20 ∷ e21 ∷ e22 ∷ e23 ∷ e24 ∷ e25 ∷ List.[]
+
 abbrev pub t18 : List.List Row.Entry
 t18 = e16·1 ∷ e17·1 ∷ e18 ∷ e19 ∷ e20 ∷ e21 ∷ e22 ∷ e23 ∷ e24 ∷ e25 ∷ List.[]
+
 abbrev pub t19 : List.List Row.Entry
 t19 = e0 ∷ e1 ∷ e2 ∷ e3 ∷ e4 ∷ e5·1 ∷ e6 ∷ e7 ∷ e8 ∷ e9·1 ∷ e10·1 ∷ e11·1 ∷ e12 ∷ e13 ∷ e14 ∷ e15 ∷ List.[]
+
 abbrev pub t20 : List.List Row.Entry
 t20 = e0 ∷ e1 ∷ e2 ∷ e3 ∷ e4 ∷ e5·1 ∷ e6 ∷ e7 ∷ e8 ∷ e9 ∷ e10·1 ∷ e11·1 ∷ e12 ∷ e13 ∷ e14 ∷ e15 ∷ List.[]
+
 abbrev pub t21 : List.List Row.Entry
 t21 = e16 ∷ e17·1 ∷ e18 ∷ e19 ∷ e20 ∷ e21 ∷ e22 ∷ e23 ∷ e24 ∷ e25 ∷ List.[]
+
 abbrev pub t22 : List.List Row.Entry
 t22 = e0 ∷ e1·1 ∷ e2 ∷ e3 ∷ e4 ∷ e5·1 ∷ e6 ∷ e7 ∷ e8 ∷ e9 ∷ e10·1 ∷ e11·1 ∷ e12 ∷ e13 ∷ e14 ∷ e15 ∷ List.[]
+
 abbrev pub t23 : List.List Row.Entry
 t23 = e16 ∷ e17 ∷ e18·1 ∷ e19 ∷ e20 ∷ e21 ∷ e22 ∷ e23 ∷ e24 ∷ e25 ∷ List.[]
+
 abbrev pub t24 : List.List Row.Entry
 t24 = e16 ∷ e17 ∷ e18 ∷ e19·1 ∷ e20 ∷ e21 ∷ e22 ∷ e23 ∷ e24 ∷ e25 ∷ List.[]
+
 abbrev pub t25 : List.List Row.Entry
 t25 = e0 ∷ e1·1 ∷ e2·1 ∷ e3 ∷ e4 ∷ e5·1 ∷ e6 ∷ e7 ∷ e8 ∷ e9 ∷ e10·1 ∷ e11·1 ∷ e12 ∷ e13 ∷ e14 ∷ e15 ∷ List.[]
+
 abbrev pub t26 : List.List Row.Entry
 t26 = e16 ∷ e17 ∷ e18 ∷ e19·1 ∷ e20·1 ∷ e21 ∷ e22 ∷ e23 ∷ e24 ∷ e25 ∷ List.[]
+
 abbrev pub t27 : List.List Row.Entry
 t27 = e16 ∷ e17 ∷ e18 ∷ e19·1 ∷ e20 ∷ e21·1 ∷ e22 ∷ e23 ∷ e24 ∷ e25 ∷ List.[]
+
 abbrev pub t28 : List.List Row.Entry
 t28 = e0 ∷ e1·1 ∷ e2·1 ∷ e3·2 ∷ e4 ∷ e5·1 ∷ e6 ∷ e7 ∷ e8 ∷ e9 ∷ e10·1 ∷ e11·1 ∷ e12 ∷ e13 ∷ e14 ∷ e15 ∷ List.[]
+
 abbrev pub t29 : List.List Row.Entry
 t29 = e16 ∷ e17 ∷ e18 ∷ e19·1 ∷ e20 ∷ e21·1 ∷ e22·1 ∷ e23 ∷ e24 ∷ e25 ∷ List.[]
+
 abbrev pub t30 : List.List Row.Entry
 t30 = e16 ∷ e17 ∷ e18 ∷ e19·1 ∷ e20 ∷ e21·1 ∷ e22 ∷ e23·1 ∷ e24 ∷ e25 ∷ List.[]
+
 abbrev pub t31 : List.List Row.Entry
 t31 = e0 ∷ e1·1 ∷ e2·1 ∷ e3·2 ∷ e4·1 ∷ e5·1 ∷ e6 ∷ e7 ∷ e8 ∷ e9 ∷ e10·1 ∷ e11·1 ∷ e12 ∷ e13 ∷ e14 ∷ e15 ∷ List.[]
+
 abbrev pub t32 : List.List Row.Entry
 t32 = e16 ∷ e17 ∷ e18 ∷ e19·1 ∷ e20 ∷ e21·1 ∷ e22 ∷ e23·1 ∷ e24·1 ∷ e25 ∷ List.[]
+
 abbrev pub t33 : List.List Row.Entry
 t33 = e16 ∷ e17 ∷ e18 ∷ e19·1 ∷ e20 ∷ e21·1 ∷ e22 ∷ e23·1 ∷ e24 ∷ e25·1 ∷ List.[]
+
 abbrev pub t34 : List.List Row.Entry
 t34 = e0·1 ∷ e1·1 ∷ e2·1 ∷ e3·2 ∷ e4·1 ∷ e5·1 ∷ e6 ∷ e7 ∷ e8 ∷ e9 ∷ e10·1 ∷ e11·1 ∷ e12 ∷ e13 ∷ e14 ∷ e15 ∷ List.[]
+
 abbrev pub t35 : List.List Row.Entry
 t35 = e16 ∷ e17 ∷ e18 ∷ e19·2 ∷ e20 ∷ e21·2 ∷ e22 ∷ e23·2 ∷ e24 ∷ e25·2 ∷ List.[]
+
 abbrev pub t36 : List.List Row.Entry
 t36 = e0·1 ∷ e1·1 ∷ e2·1 ∷ e3·2 ∷ e4·1 ∷ e5·1 ∷ e6·1 ∷ e7 ∷ e8 ∷ e9 ∷ e10·1 ∷ e11·1 ∷ e12 ∷ e13 ∷ e14 ∷ e15 ∷ List.[]
+
 abbrev pub t37 : List.List Row.Entry
 t37 = e0·1 ∷ e1·1 ∷ e2·1 ∷ e3·2 ∷ e4·1 ∷ e5·1 ∷ e6·1 ∷ e7 ∷ e8·1 ∷ e9 ∷ e10·1 ∷ e11·1 ∷ e12 ∷ e13 ∷ e14 ∷ e15 ∷ List.[]
+
 abbrev pub t38 : List.List Row.Entry
 t38 = e0·1 ∷ e1·1 ∷ e2·1 ∷ e3·2 ∷ e4·1 ∷ e5·1 ∷ e6·1 ∷ e7 ∷ e8·1 ∷ e9 ∷ e10 ∷ e11·1 ∷ e12 ∷ e13 ∷ e14 ∷ e15 ∷ List.[]
+
 abbrev pub t39 : List.List Row.Entry
 t39 = e0·1 ∷ e1·1 ∷ e2·1 ∷ e3·2 ∷ e4·1 ∷ e5·1 ∷ e6·1 ∷ e7 ∷ e8·1 ∷ e9 ∷ e10 ∷ e11 ∷ e12 ∷ e13 ∷ e14 ∷ e15 ∷ List.[]
+
 abbrev pub t40 : List.List Row.Entry
 t40 = e0·1 ∷ e1 ∷ e2·1 ∷ e3·2 ∷ e4·1 ∷ e5·1 ∷ e6·1 ∷ e7 ∷ e8·1 ∷ e9 ∷ e10 ∷ e11 ∷ e12 ∷ e13 ∷ e14 ∷ e15 ∷ List.[]
+
 abbrev pub t41 : List.List Row.Entry
 t41 = e16 ∷ e17 ∷ e18 ∷ e19 ∷ e20 ∷ e21·2 ∷ e22 ∷ e23·2 ∷ e24 ∷ e25·2 ∷ List.[]
+
 abbrev pub t42 : List.List Row.Entry
 t42 = e0·1 ∷ e1 ∷ e2 ∷ e3·2 ∷ e4·1 ∷ e5·1 ∷ e6·1 ∷ e7 ∷ e8·1 ∷ e9 ∷ e10 ∷ e11 ∷ e12 ∷ e13 ∷ e14 ∷ e15 ∷ List.[]
+
 abbrev pub t43 : List.List Row.Entry
 t43 = e16 ∷ e17 ∷ e18 ∷ e19 ∷ e20 ∷ e21 ∷ e22 ∷ e23·2 ∷ e24 ∷ e25·2 ∷ List.[]
+
 abbrev pub t44 : List.List Row.Entry
 t44 = e0·1 ∷ e1 ∷ e2 ∷ e3 ∷ e4·1 ∷ e5·1 ∷ e6·1 ∷ e7 ∷ e8·1 ∷ e9 ∷ e10 ∷ e11 ∷ e12 ∷ e13 ∷ e14 ∷ e15 ∷ List.[]
+
 abbrev pub t45 : List.List Row.Entry
 t45 = e16 ∷ e17 ∷ e18 ∷ e19 ∷ e20 ∷ e21 ∷ e22 ∷ e23 ∷ e24 ∷ e25·2 ∷ List.[]
+
 abbrev pub T0 : Row.Cx
 T0 = record { locals = List._++_ t0 t1; slots = List.[] }
+
 abbrev pub T1 : Row.Cx
 T1 = record { locals = List._++_ t2 t1; slots = List.[] }
+
 abbrev pub T2 : Row.Cx
 T2 = record { locals = List._++_ t0 t1; slots = List.[] }
+
 abbrev pub T3 : Row.Cx
 T3 = record { locals = List._++_ t3 t1; slots = List.[] }
+
 abbrev pub T4 : Row.Cx
 T4 = record { locals = List._++_ t4 t1; slots = List.[] }
+
 abbrev pub T5 : Row.Cx
 T5 = record { locals = List._++_ t5 t1; slots = List.[] }
+
 abbrev pub T7 : Row.Cx
 T7 = record { locals = List._++_ t6 t1; slots = List.[] }
+
 abbrev pub T8 : Row.Cx
 T8 = record { locals = List._++_ t7 t1; slots = List.[] }
+
 abbrev pub T9 : Row.Cx
 T9 = record { locals = List._++_ t8 t1; slots = List.[] }
+
 abbrev pub T10 : Row.Cx
 T10 = record { locals = List._++_ t9 t1; slots = List.[] }
+
 abbrev pub T12 : Row.Cx
 T12 = record { locals = List._++_ t5 t1; slots = List.[] }
+
 abbrev pub T14 : Row.Cx
 T14 = record { locals = List._++_ t10 t1; slots = List.[] }
+
 abbrev pub T15 : Row.Cx
 T15 = record { locals = List._++_ t5 t1; slots = List.[] }
+
 abbrev pub T16 : Row.Cx
 T16 = record { locals = List._++_ t11 t1; slots = List.[] }
+
 abbrev pub T17 : Row.Cx
 T17 = record { locals = List._++_ t12 t1; slots = List.[] }
+
 abbrev pub T18 : Row.Cx
 T18 = record { locals = List._++_ t13 t1; slots = List.[] }
+
 abbrev pub T19 : Row.Cx
 T19 = record { locals = List._++_ t14 t1; slots = List.[] }
+
 abbrev pub T20 : Row.Cx
 T20 = record { locals = List._++_ t15 t1; slots = List.[] }
+
 abbrev pub T21 : Row.Cx
 T21 = record { locals = List._++_ t16 t1; slots = List.[] }
+
 abbrev pub T22 : Row.Cx
 T22 = record { locals = List._++_ t2 t1; slots = List.[] }
+
 abbrev pub T23 : Row.Cx
 T23 = record { locals = List._++_ t5 t1; slots = List.[] }
+
 abbrev pub T24 : Row.Cx
 T24 = record { locals = List._++_ t5 t17; slots = List.[] }
+
 abbrev pub T25 : Row.Cx
 T25 = record { locals = List._++_ t5 t18; slots = List.[] }
+
 abbrev pub T26 : Row.Cx
 T26 = record { locals = List._++_ t19 t18; slots = List.[] }
+
 abbrev pub T27 : Row.Cx
 T27 = record { locals = List._++_ t20 t18; slots = List.[] }
+
 abbrev pub T28 : Row.Cx
 T28 = record { locals = List._++_ t20 t21; slots = List.[] }
+
 abbrev pub T29 : Row.Cx
 T29 = record { locals = List._++_ t20 t1; slots = List.[] }
+
 abbrev pub T31 : Row.Cx
 T31 = record { locals = List._++_ t22 t23; slots = List.[] }
+
 abbrev pub T32 : Row.Cx
 T32 = record { locals = List._++_ t22 t24; slots = List.[] }
+
 abbrev pub T34 : Row.Cx
 T34 = record { locals = List._++_ t25 t26; slots = List.[] }
+
 abbrev pub T35 : Row.Cx
 T35 = record { locals = List._++_ t25 t27; slots = List.[] }
+
 abbrev pub T37 : Row.Cx
 T37 = record { locals = List._++_ t28 t29; slots = List.[] }
+
 abbrev pub T38 : Row.Cx
 T38 = record { locals = List._++_ t28 t30; slots = List.[] }
+
 abbrev pub T40 : Row.Cx
 T40 = record { locals = List._++_ t31 t32; slots = List.[] }
+
 abbrev pub T41 : Row.Cx
 T41 = record { locals = List._++_ t31 t33; slots = List.[] }
+
 abbrev pub T42 : Row.Cx
 T42 = record { locals = List._++_ t34 t35; slots = List.[] }
+
 abbrev pub T43 : Row.Cx
 T43 = record { locals = List._++_ t36 t35; slots = List.[] }
+
 abbrev pub T44 : Row.Cx
 T44 = record { locals = List._++_ t37 t35; slots = List.[] }
+
 abbrev pub T45 : Row.Cx
 T45 = record { locals = List._++_ t38 t35; slots = List.[] }
+
 abbrev pub T46 : Row.Cx
 T46 = record { locals = List._++_ t39 t35; slots = List.[] }
+
 abbrev pub T48 : Row.Cx
 T48 = record { locals = List._++_ t40 t41; slots = List.[] }
+
 abbrev pub T51 : Row.Cx
 T51 = record { locals = List._++_ t42 t43; slots = List.[] }
+
 abbrev pub T54 : Row.Cx
 T54 = record { locals = List._++_ t44 t45; slots = List.[] }
+
 abbrev pub T57 : Row.Cx
 T57 = record { locals = List._++_ t16 t1; slots = List.[] }
+
 abbrev pub T58 : Row.Cx
 T58 = record { locals = List._++_ t16 t1; slots = List.[] }
+
 abbrev pub T60 : Row.Cx
 T60 = record { locals = List._++_ t2 t1; slots = List.[] }
+
 abbrev pub O0 : Typed.Outs
 O0 = record { next = Option.none; exits = List.[]; returns = Option.some T1 }
+
 abbrev pub O1 : Typed.Outs
 O1 = Typed.withNext (Option.some T15) O0
+
 module _ (claims· : Claims) where
   abbrev s0 : Typed.Gives T0 T2
   s0 = Know.k-sl-known (Referent.fInt Syntax.w32) T0 4 3 ref7 Row.off 0 λ x. x
+
   abbrev s1 : Typed.Both T2 T3
   s1 = Call.callB ps·0 r·0 (claims· .0) (claims· .1) T2 tt 9 List.[] Laws''.mir
+
+  abbrev args2 : Args'.ArgsT ps·1 (T3 .locals)
+  args2 = (record { pos = 5; st = List.[]; d = 0; at = λ x. x }, (Bool.bAt 7 λ x. x, tt))
+
   abbrev s2 : Typed.Both T3 T4
-  s2 = Call.callB ps·1 r·1 (claims· .2) (claims· .3) T3 (record { pos = 5; st = List.[]; d = 0; at = λ x. x }, (Bool.bAt 7 λ x. x, tt),) 10 List.[]
-      Laws'''''.mir
+  s2 = Call.callB ps·1 r·1 (claims· .2) (claims· .3) T3 args2 10 List.[] Laws'''''.mir
+
   abbrev s3 : Typed.Mo T4 → Typed.Mo T5
   s3 = Scalar.n-room T4 5 Laws'''''.mir
+
   abbrev s5 : Typed.Gives T5 T7
   s5 = Relend.k-sl-relend InflightAction.row T5 3 13 2 4 ref6 ref0 Row.off λ x. x
+
   abbrev s6 : Typed.Asks T7 T8
-  s6 = Relend.k-sl-aggregate InflightAction.row (Relend.asMut InflightAction.row) T7 13 14 4 ref0 ref0 (λ x. x) (Scalar.oFld 3 ((Syntax.field 1) ∷
-      List.[]) (Syntax.tyInt Syntax.w64) 8 λ v. Shared.lenV (v .0))
+  s6 = Relend.k-sl-aggregate InflightAction.row (Relend.asMut InflightAction.row) T7 13 14 4 ref0 ref0 (λ x. x) (Scalar.oFld
+      3 ((Syntax.field 1) ∷ List.[]) (Syntax.tyInt Syntax.w64) 8 λ v. Shared.lenV (v .0))
+
+  abbrev args7 : Args'.ArgsT ps·2 (T8 .locals)
+  args7 = (
+    record { pos = 14; ty = ref0; ref = λ x. x },
+    (record { pos = 6; st = List.[]; d = 0; at = λ x. x }, (record { pos = 9; st = List.[]; d = 0; at = λ x. x }, tt)),
+  )
+
   abbrev s7 : Typed.Both T8 T9
-  s7 = Call.callB ps·2 r·2 (claims· .4) (claims· .5) T8 (record { pos = 14; ty = Syntax.tyRef Syntax.erased Syntax.mut InflightAction.to; ref = λ x.
-      x; }, (record { pos = 6; st = List.[]; d = 0; at = λ x. x }, (record { pos = 9; st = List.[]; d = 0; at = λ x. x }, tt),),) 12 (4 ∷ List.[])
-      Syntax.tyUnit
+  s7 = Call.callB ps·2 r·2 (claims· .4) (claims· .5) T8 args7 12 (4 ∷ List.[]) Syntax.tyUnit
+
   abbrev s8 : Typed.Mo T9 → Typed.Mo T10
   s8 = Scalar.n-room T9 12 Syntax.tyUnit
+
   abbrev s10 : Typed.Both T10 T12
   s10 = Relend.k-back-sl InflightAction.row T10 14 3 2 4 ref6 ref0 Row.off (λ x. x) λ x. x
+
   abbrev s12 : Typed.Mo T12 → Typed.Mo T14
   s12 = Scalar.n-use T12 (Scalar.oAt 7 Syntax.tyBool (Row.valS Row.sBool)) 15 (Rows.sc-here Row.sBool) (Row.sBool .of)
+
   abbrev s13 : Typed.Mo T14 → Typed.Mo T16
   s13 = Scalar.n-room T14 8 Laws'''.mir
+
   abbrev s14 : Typed.Mo T16 → Typed.Mo T17
   s14 = Scalar.n-room T16 9 Laws''.mir
+
   abbrev s15 : Typed.Mo T17 → Typed.Mo T18
   s15 = Scalar.n-room T17 15 Syntax.tyBool
+
+  abbrev args16 : Args'.ArgsT ps·3 (T18 .locals)
+  args16 = (
+    record { pos = 10; st = List.[]; d = 0; at = λ x. x },
+    (record { pos = 6; st = List.[]; d = 0; at = λ x. x }, tt),
+  )
+
   abbrev s16 : Typed.Both T18 T19
-  s16 = Call.callB ps·3 r·3 (claims· .6) (claims· .7) T18 (record { pos = 10; st = List.[]; d = 0; at = λ x. x }, (record { pos = 6; st = List.[]; d =
-      0; at = λ x. x }, tt),) 0 List.[] Laws''''''.mir
+  s16 = Call.callB ps·3 r·3 (claims· .6) (claims· .7) T18 args16 0 List.[] Laws''''''.mir
+
   abbrev s17 : Typed.Mo T19 → Typed.Mo T20
   s17 = Scalar.n-room T19 6 Laws'.mir
+
   abbrev s18 : Typed.Mo T20 → Typed.Mo T21
   s18 = Scalar.n-room T20 10 Laws'''''.mir
+
   abbrev s19 : Typed.Mo T21 → Typed.Mo T22
   s19 = Scalar.n-room T21 7 Syntax.tyBool
+
   abbrev s20 : Typed.Mo T14 → Typed.Mo T23
   s20 = Scalar.n-room T14 15 Syntax.tyBool
+
   abbrev s21 : Typed.Mo T15 → Typed.Mo T24
-  s21 = Make.n-enum-make Notice.the-type T15 16 λ m. Notice.enum .make (Logic.inr (Logic.inr (Logic.inr (Logic.inr (Logic.inl tt)))))
+  s21 = Make.n-enum-make Notice.the-type T15 16 λ m. Notice.enum .make (Logic.inr
+      (Logic.inr (Logic.inr (Logic.inr (Logic.inl tt)))))
+
   abbrev s22 : Typed.Mo T24 → Typed.Mo T25
-  s22 = Make.n-enum-make Notice.the-type T24 17 λ m. Notice.enum .make (Logic.inr (Logic.inr (Logic.inr (Logic.inr (Logic.inl tt)))))
+  s22 = Make.n-enum-make Notice.the-type T24 17 λ m. Notice.enum .make (Logic.inr
+      (Logic.inr (Logic.inr (Logic.inr (Logic.inl tt)))))
+
+  abbrev args23 : Args'.ArgsT ps·4 (T25 .locals)
+  args23 = (
+    record { pos = 9; st = List.[]; d = 0; at = λ x. x },
+    (
+      record { pos = 16; st = List.[]; d = 0; at = λ x. x },
+      (record { pos = 17; st = List.[]; d = 0; at = λ x. x }, tt),
+    ),
+  )
+
   abbrev s23 : Typed.Both T25 T26
-  s23 = Call.callB ps·4 r·4 (claims· .8) (claims· .9) T25 (record { pos = 9; st = List.[]; d = 0; at = λ x. x }, (record { pos = 16; st = List.[]; d =
-      0; at = λ x. x }, (record { pos = 17; st = List.[]; d = 0; at = λ x. x }, tt),),) 11 List.[] Laws''''.mir
+  s23 = Call.callB ps·4 r·4 (claims· .8) (claims· .9) T25 args23 11 List.[] Laws''''.mir
+
   abbrev s24 : Typed.Mo T26 → Typed.Mo T27
   s24 = Scalar.n-room T26 9 Laws''.mir
+
   abbrev s25 : Typed.Mo T27 → Typed.Mo T28
   s25 = Scalar.n-room T27 16 Laws.mir
+
   abbrev s26 : Typed.Mo T28 → Typed.Mo T29
   s26 = Scalar.n-room T28 17 Laws.mir
+
   abbrev s28 : Typed.Gives T29 T31
   s28 = Relend.k-sl-relend RelayPending.row T29 1 18 0 5 ref4 ref1 Row.off λ x. x
+
   abbrev s29 : Typed.Asks T31 T32
-  s29 = Relend.k-sl-aggregate RelayPending.row (Relend.asMut RelayPending.row) T31 18 19 5 ref1 ref1 (λ x. x) (Scalar.oFld 1 ((Syntax.field 1) ∷
-      List.[]) (Syntax.tyInt Syntax.w64) 8 λ v. Shared.lenV (v .0))
+  s29 = Relend.k-sl-aggregate RelayPending.row (Relend.asMut RelayPending.row) T31 18 19 5 ref1 ref1 (λ x. x) (Scalar.oFld
+      1 ((Syntax.field 1) ∷ List.[]) (Syntax.tyInt Syntax.w64) 8 λ v. Shared.lenV (v .0))
+
   abbrev s31 : Typed.Gives T32 T34
   s31 = Relend.k-sl-relend RelayCircuit.row T32 2 20 1 6 ref5 ref2 Row.off λ x. x
+
   abbrev s32 : Typed.Asks T34 T35
-  s32 = Relend.k-sl-aggregate RelayCircuit.row (Relend.asMut RelayCircuit.row) T34 20 21 6 ref2 ref2 (λ x. x) (Scalar.oFld 2 ((Syntax.field 1) ∷
-      List.[]) (Syntax.tyInt Syntax.w64) 8 λ v. Shared.lenV (v .0))
+  s32 = Relend.k-sl-aggregate RelayCircuit.row (Relend.asMut RelayCircuit.row) T34 20 21 6 ref2 ref2 (λ x. x) (Scalar.oFld
+      2 ((Syntax.field 1) ∷ List.[]) (Syntax.tyInt Syntax.w64) 8 λ v. Shared.lenV (v .0))
+
   abbrev s34 : Typed.Gives T35 T37
   s34 = Relend.k-sl-relend InflightAction.row T35 3 22 2 7 ref6 ref0 Row.off λ x. x
+
   abbrev s35 : Typed.Asks T37 T38
-  s35 = Relend.k-sl-aggregate InflightAction.row (Relend.asMut InflightAction.row) T37 22 23 7 ref0 ref0 (λ x. x) (Scalar.oFld 3 ((Syntax.field 1) ∷
-      List.[]) (Syntax.tyInt Syntax.w64) 8 λ v. Shared.lenV (v .0))
+  s35 = Relend.k-sl-aggregate InflightAction.row (Relend.asMut InflightAction.row) T37 22 23 7 ref0 ref0 (λ x. x) (Scalar.oFld
+      3 ((Syntax.field 1) ∷ List.[]) (Syntax.tyInt Syntax.w64) 8 λ v. Shared.lenV (v .0))
+
   abbrev s37 : Typed.Gives T38 T40
   s37 = Relend.k-sl-relend (Referent.rtF (Referent.fInt Syntax.w32)) T38 4 24 3 8 ref7 ref3 Row.off λ x. x
+
   abbrev s38 : Typed.Asks T40 T41
-  s38 = Relend.k-sl-aggregate (Referent.rtF (Referent.fInt Syntax.w32)) (Relend.asMut (Referent.rtF (Referent.fInt Syntax.w32))) T40 24 25 8 ref3 ref3
-      (λ x. x) (Scalar.oFld 4 ((Syntax.field 1) ∷ List.[]) (Syntax.tyInt Syntax.w64) 8 λ v. Shared.lenV (v .0))
+  s38 = Relend.k-sl-aggregate (Referent.rtF (Referent.fInt Syntax.w32))
+      (Relend.asMut (Referent.rtF (Referent.fInt Syntax.w32))) T40 24 25 8 ref3 ref3 (λ x. x) (Scalar.oFld 4
+      ((Syntax.field 1) ∷ List.[]) (Syntax.tyInt Syntax.w64) 8 λ v. Shared.lenV (v .0))
+
+  abbrev args39 : Args'.ArgsT ps·5 (T41 .locals)
+  args39 = (
+    record { pos = 19; ty = ref1; ref = λ x. x },
+    (
+      record { pos = 21; ty = ref2; ref = λ x. x },
+      (
+        record { pos = 23; ty = ref0; ref = λ x. x },
+        (
+          record { pos = 25; ty = ref3; ref = λ x. x },
+          (
+            record { pos = 10; st = List.[]; d = 0; at = λ x. x },
+            (
+              record { pos = 6; st = List.[]; d = 0; at = λ x. x },
+              (
+                record { pos = 11; st = List.[]; d = 0; at = λ x. x },
+                (record { pos = 8; st = List.[]; d = 0; at = λ x. x }, tt),
+              ),
+            ),
+          ),
+        ),
+      ),
+    ),
+  )
+
   abbrev s39 : Typed.Both T41 T42
-  s39 = Call.callB ps·5 r·5 (claims· .10) (claims· .11) T41 (record { pos = 19; ty = Syntax.tyRef Syntax.erased Syntax.mut RelayPending.to; ref = λ x.
-      x; }, (record { pos = 21; ty = Syntax.tyRef Syntax.erased Syntax.mut RelayCircuit.to; ref = λ x. x; }, (record { pos = 23; ty = Syntax.tyRef
-      Syntax.erased Syntax.mut InflightAction.to; ref = λ x. x; }, (record { pos = 25; ty = Syntax.tyRef Syntax.erased Syntax.mut (Syntax.tyInt
-      Syntax.w32); ref = λ x. x; }, (record { pos = 10; st = List.[]; d = 0; at = λ x. x }, (record { pos = 6; st = List.[]; d = 0; at = λ x. x },
-      (record { pos = 11; st = List.[]; d = 0; at = λ x. x }, (record { pos = 8; st = List.[]; d = 0; at = λ x. x }, tt),),),),),),),) 0 (5 ∷ 6 ∷ 7 ∷
-      8 ∷ List.[]) Laws''''''.mir
+  s39 = Call.callB ps·5 r·5 (claims· .10) (claims· .11) T41 args39 0 (5 ∷ 6 ∷ 7 ∷ 8 ∷ List.[]) Laws''''''.mir
+
   abbrev s40 : Typed.Mo T42 → Typed.Mo T43
   s40 = Scalar.n-room T42 6 Laws'.mir
+
   abbrev s41 : Typed.Mo T43 → Typed.Mo T44
   s41 = Scalar.n-room T43 8 Laws'''.mir
+
   abbrev s42 : Typed.Mo T44 → Typed.Mo T45
   s42 = Scalar.n-room T44 10 Laws'''''.mir
+
   abbrev s43 : Typed.Mo T45 → Typed.Mo T46
   s43 = Scalar.n-room T45 11 Laws''''.mir
+
   abbrev s45 : Typed.Both T46 T48
   s45 = Relend.k-back-sl RelayPending.row T46 19 1 0 5 ref4 ref1 Row.off (λ x. x) λ x. x
+
   abbrev s48 : Typed.Both T48 T51
   s48 = Relend.k-back-sl RelayCircuit.row T48 21 2 1 6 ref5 ref2 Row.off (λ x. x) λ x. x
+
   abbrev s51 : Typed.Both T51 T54
   s51 = Relend.k-back-sl InflightAction.row T51 23 3 2 7 ref6 ref0 Row.off (λ x. x) λ x. x
+
   abbrev s54 : Typed.Both T54 T57
   s54 = Relend.k-back-sl (Referent.rtF (Referent.fInt Syntax.w32)) T54 25 4 3 8 ref7 ref3 Row.off (λ x. x) λ x. x
+
   abbrev s55 : Typed.Gives T57 T58
   s55 = Know.k-sl-known (Referent.fInt Syntax.w32) T57 4 3 ref7 Row.off 0 λ x. x
+
   abbrev s57 : Typed.Mo T58 → Typed.Mo T60
   s57 = Scalar.n-room T58 7 Syntax.tyBool
-  module _ (Pre· : (κs : Lifetimes.Lfts 4) → Kinds.Dens κs ps → Type 0) (Post· : (κs : Lifetimes.Lfts 4) → (a : Kinds.Dens κs ps) → Kinds.Plain 4 ps r
-      κs) where
+
+  module _ (Pre· : (κs : Lifetimes.Lfts 4) → Kinds.Dens κs ps → Type 0) (Post· : (κs : Lifetimes.Lfts 4) →
+      (a : Kinds.Dens κs ps) → Kinds.Plain 4 ps r κs) where
     module _ (M : Type 1) where
       abbrev pub Closed : Type 2
-      Closed = (𝓤 : URA.URA M) (H : Wp.Heap 𝓤) (A : Atoms.Atoms 𝓤) (W : Kit.Given 𝓤 H A) (𝓣 : Wp.Tables 𝓤 H) (known0 : Plain.Known 𝓤 H A W 𝓣 0 ps·0
-          r·0 (claims· .0) (claims· .1) "hnsr_circuit::question::used") (known1 : Plain.Known 𝓤 H A W 𝓣 0 ps·1 r·1 (claims· .2) (claims· .3)
-          "hnsr_circuit::header::with_enabled") (known2 : Plain.Known 𝓤 H A W 𝓣 1 ps·2 r·2 (claims· .4) (claims· .5)
-          "hnsr_circuit::tables::inflight::clear_action") (known3 : Plain.Known 𝓤 H A W 𝓣 0 ps·3 r·3 (claims· .6) (claims· .7)
-          "hnsr_circuit::revoking_calls::taken_with") (known4 : Plain.Known 𝓤 H A W 𝓣 0 ps·4 r·4 (claims· .8) (claims· .9)
-          "hnsr_circuit::revoking_calls::revoking") (known5 : Plain.Known 𝓤 H A W 𝓣 4 ps·5 r·5 (claims· .10) (claims· .11)
-          "hnsr_circuit::revocation::revoke_all") → Statement.Triple 𝓤 (Wp.WpFn 𝓤 H (𝓣 .C) (𝓣 .Λ) (Function.fnOf 4 ps r xs m hs body))
+      Closed = (𝓤 : URA.URA M) (H : Wp.Heap 𝓤) (A : Atoms.Atoms 𝓤) (W : Kit.Given 𝓤 H A) (𝓣 : Wp.Tables 𝓤 H) (known0 :
+          Plain.Known 𝓤 H A W 𝓣 0 ps·0 r·0 (claims· .0) (claims· .1) "hnsr_circuit::question::used") (known1 :
+          Plain.Known 𝓤 H A W 𝓣 0 ps·1 r·1 (claims· .2) (claims· .3) "hnsr_circuit::header::with_enabled") (known2 :
+          Plain.Known 𝓤 H A W 𝓣 1 ps·2 r·2 (claims· .4) (claims· .5) "hnsr_circuit::tables::inflight::clear_action") (known3
+          : Plain.Known 𝓤 H A W 𝓣 0 ps·3 r·3 (claims· .6) (claims· .7) "hnsr_circuit::revoking_calls::taken_with") (known4
+          : Plain.Known 𝓤 H A W 𝓣 0 ps·4 r·4 (claims· .8) (claims· .9) "hnsr_circuit::revoking_calls::revoking") (known5
+          : Plain.Known 𝓤 H A W 𝓣 4 ps·5 r·5 (claims· .10) (claims· .11) "hnsr_circuit::revocation::revoke_all") →
+          Statement.Triple 𝓤 (Wp.WpFn 𝓤 H (𝓣 .C) (𝓣 .Λ) (Function.fnOf 4 ps r xs m hs body))
           (Function.plainOf 𝓤 H A 4 ps r Pre· Post·)
+
     module _ where
       abbrev at0 : Typed.TF T22 O1
       at0 = Typed.atRet O1
+
       abbrev at1 : Typed.TF T21 O1
       at1 = λ Ψ. Typed.pass T21 T22 s19 (at0 Ψ)
+
       abbrev at2 : Typed.TF T20 O1
       at2 = λ Ψ. Typed.pass T20 T21 s18 (at1 Ψ)
+
       abbrev at3 : Typed.TF T19 O1
       at3 = λ Ψ. Typed.pass T19 T20 s17 (at2 Ψ)
+
       abbrev at4 : Typed.TF T18 O1
       at4 = λ Ψ. Typed.both s16 (at3 Ψ)
+
       abbrev at5 : Typed.TF T17 O1
       at5 = λ Ψ. Typed.pass T17 T18 s15 (at4 Ψ)
+
       abbrev at6 : Typed.TF T16 O1
       at6 = λ Ψ. Typed.pass T16 T17 s14 (at5 Ψ)
+
       abbrev at7 : Typed.TF T14 O1
       at7 = λ Ψ. Typed.pass T14 T16 s13 (at6 Ψ)
+
       abbrev at8 : Typed.TF T23 O1
       at8 = Typed.atNext O1
+
       abbrev at9 : Typed.TF T14 O1
       at9 = λ Ψ. Typed.pass T14 T23 s20 (at8 Ψ)
+
       abbrev at10 : Typed.TF T14 O1
       at10 = Scalar.Φcond T14 O1 15 (λ x. x) at7 at9
+
       abbrev at11 : Typed.TF T60 O0
       at11 = Typed.atRet O0
+
       abbrev at12 : Typed.TF T58 O0
       at12 = λ Ψ. Typed.pass T58 T60 s57 (at11 Ψ)
+
       abbrev at13 : Typed.TF T58 O0
       at13 = λ Ψ. at12 Ψ
+
       abbrev at14 : Typed.TF T57 O0
       at14 = λ Ψ. Typed.give s55 (at13 Ψ)
+
       abbrev at15 : Typed.TF T54 O0
       at15 = λ Ψ. Typed.both s54 (at14 Ψ)
+
       abbrev at16 : Typed.TF T54 O0
       at16 = λ Ψ. at15 Ψ
+
       abbrev at17 : Typed.TF T54 O0
       at17 = λ Ψ. at16 Ψ
+
       abbrev at18 : Typed.TF T51 O0
       at18 = λ Ψ. Typed.both s51 (at17 Ψ)
+
       abbrev at19 : Typed.TF T51 O0
       at19 = λ Ψ. at18 Ψ
+
       abbrev at20 : Typed.TF T51 O0
       at20 = λ Ψ. at19 Ψ
+
       abbrev at21 : Typed.TF T48 O0
       at21 = λ Ψ. Typed.both s48 (at20 Ψ)
+
       abbrev at22 : Typed.TF T48 O0
       at22 = λ Ψ. at21 Ψ
+
       abbrev at23 : Typed.TF T48 O0
       at23 = λ Ψ. at22 Ψ
+
       abbrev at24 : Typed.TF T46 O0
       at24 = λ Ψ. Typed.both s45 (at23 Ψ)
+
       abbrev at25 : Typed.TF T46 O0
       at25 = λ Ψ. at24 Ψ
+
       abbrev at26 : Typed.TF T45 O0
       at26 = λ Ψ. Typed.pass T45 T46 s43 (at25 Ψ)
+
       abbrev at27 : Typed.TF T44 O0
       at27 = λ Ψ. Typed.pass T44 T45 s42 (at26 Ψ)
+
       abbrev at28 : Typed.TF T43 O0
       at28 = λ Ψ. Typed.pass T43 T44 s41 (at27 Ψ)
+
       abbrev at29 : Typed.TF T42 O0
       at29 = λ Ψ. Typed.pass T42 T43 s40 (at28 Ψ)
+
       abbrev at30 : Typed.TF T41 O0
       at30 = λ Ψ. Typed.both s39 (at29 Ψ)
+
       abbrev at31 : Typed.TF T40 O0
       at31 = λ Ψ. Typed.ask s38 (at30 Ψ)
+
       abbrev at32 : Typed.TF T38 O0
       at32 = λ Ψ. Typed.give s37 (at31 Ψ)
+
       abbrev at33 : Typed.TF T38 O0
       at33 = λ Ψ. at32 Ψ
+
       abbrev at34 : Typed.TF T37 O0
       at34 = λ Ψ. Typed.ask s35 (at33 Ψ)
+
       abbrev at35 : Typed.TF T35 O0
       at35 = λ Ψ. Typed.give s34 (at34 Ψ)
+
       abbrev at36 : Typed.TF T35 O0
       at36 = λ Ψ. at35 Ψ
+
       abbrev at37 : Typed.TF T34 O0
       at37 = λ Ψ. Typed.ask s32 (at36 Ψ)
+
       abbrev at38 : Typed.TF T32 O0
       at38 = λ Ψ. Typed.give s31 (at37 Ψ)
+
       abbrev at39 : Typed.TF T32 O0
       at39 = λ Ψ. at38 Ψ
+
       abbrev at40 : Typed.TF T31 O0
       at40 = λ Ψ. Typed.ask s29 (at39 Ψ)
+
       abbrev at41 : Typed.TF T29 O0
       at41 = λ Ψ. Typed.give s28 (at40 Ψ)
+
       abbrev at42 : Typed.TF T29 O0
       at42 = λ Ψ. at41 Ψ
+
       abbrev at43 : Typed.TF T28 O0
       at43 = λ Ψ. Typed.pass T28 T29 s26 (at42 Ψ)
+
       abbrev at44 : Typed.TF T27 O0
       at44 = λ Ψ. Typed.pass T27 T28 s25 (at43 Ψ)
+
       abbrev at45 : Typed.TF T26 O0
       at45 = λ Ψ. Typed.pass T26 T27 s24 (at44 Ψ)
+
       abbrev at46 : Typed.TF T25 O0
       at46 = λ Ψ. Typed.both s23 (at45 Ψ)
+
       abbrev at47 : Typed.TF T24 O0
       at47 = λ Ψ. Typed.pass T24 T25 s22 (at46 Ψ)
+
       abbrev at48 : Typed.TF T15 O0
       at48 = λ Ψ. Typed.pass T15 T24 s21 (at47 Ψ)
+
       abbrev at49 : Typed.TF T14 O0
       at49 = λ Ψ. at10 (Typed.wantNext T15 O0 (at48 Ψ) Ψ)
+
       abbrev at50 : Typed.TF T12 O0
       at50 = λ Ψ. Typed.pass T12 T14 s12 (at49 Ψ)
+
       abbrev at51 : Typed.TF T12 O0
       at51 = λ Ψ. at50 Ψ
+
       abbrev at52 : Typed.TF T10 O0
       at52 = λ Ψ. Typed.both s10 (at51 Ψ)
+
       abbrev at53 : Typed.TF T10 O0
       at53 = λ Ψ. at52 Ψ
+
       abbrev at54 : Typed.TF T9 O0
       at54 = λ Ψ. Typed.pass T9 T10 s8 (at53 Ψ)
+
       abbrev at55 : Typed.TF T8 O0
       at55 = λ Ψ. Typed.both s7 (at54 Ψ)
+
       abbrev at56 : Typed.TF T7 O0
       at56 = λ Ψ. Typed.ask s6 (at55 Ψ)
+
       abbrev at57 : Typed.TF T5 O0
       at57 = λ Ψ. Typed.give s5 (at56 Ψ)
+
       abbrev at58 : Typed.TF T5 O0
       at58 = λ Ψ. at57 Ψ
+
       abbrev at59 : Typed.TF T4 O0
       at59 = λ Ψ. Typed.pass T4 T5 s3 (at58 Ψ)
+
       abbrev at60 : Typed.TF T3 O0
       at60 = λ Ψ. Typed.both s2 (at59 Ψ)
+
       abbrev at61 : Typed.TF T2 O0
       at61 = λ Ψ. Typed.both s1 (at60 Ψ)
+
       abbrev at62 : Typed.TF T0 O0
       at62 = λ Ψ. Typed.give s0 (at61 Ψ)
+
       abbrev pub Φ : Typed.TF T0 O0
       Φ = at62
-      module _ { M : Type 1 } (𝓤 : URA.URA M) (H : Wp.Heap 𝓤) (A : Atoms.Atoms 𝓤) (W : Kit.Given 𝓤 H A) (𝓣 : Wp.Tables 𝓤 H) where
+
+      module _ {M : Type 1} (𝓤 : URA.URA M) (H : Wp.Heap 𝓤) (A : Atoms.Atoms 𝓤) (W : Kit.Given 𝓤 H A)
+          (𝓣 : Wp.Tables 𝓤 H) where
         abbrev Knowns : Type 1
-        Knowns = Plain.Known 𝓤 H A W 𝓣 0 ps·0 r·0 (claims· .0) (claims· .1) "hnsr_circuit::question::used" × Plain.Known 𝓤 H A W 𝓣 0 ps·1 r·1 (claims·
-            .2) (claims· .3) "hnsr_circuit::header::with_enabled" × Plain.Known 𝓤 H A W 𝓣 1 ps·2 r·2 (claims· .4) (claims· .5)
-            "hnsr_circuit::tables::inflight::clear_action" × Plain.Known 𝓤 H A W 𝓣 0 ps·3 r·3 (claims· .6) (claims· .7)
-            "hnsr_circuit::revoking_calls::taken_with" × Plain.Known 𝓤 H A W 𝓣 0 ps·4 r·4 (claims· .8) (claims· .9)
-            "hnsr_circuit::revoking_calls::revoking" × Plain.Known 𝓤 H A W 𝓣 4 ps·5 r·5 (claims· .10) (claims· .11)
-            "hnsr_circuit::revocation::revoke_all"
+        Knowns = Plain.Known 𝓤 H A W 𝓣 0 ps·0 r·0 (claims· .0) (claims· .1) "hnsr_circuit::question::used" ×
+            Plain.Known 𝓤 H A W 𝓣 0 ps·1 r·1 (claims· .2) (claims· .3) "hnsr_circuit::header::with_enabled" ×
+            Plain.Known 𝓤 H A W 𝓣 1 ps·2 r·2 (claims· .4) (claims· .5) "hnsr_circuit::tables::inflight::clear_action" ×
+            Plain.Known 𝓤 H A W 𝓣 0 ps·3 r·3 (claims· .6) (claims· .7) "hnsr_circuit::revoking_calls::taken_with" ×
+            Plain.Known 𝓤 H A W 𝓣 0 ps·4 r·4 (claims· .8) (claims· .9) "hnsr_circuit::revoking_calls::revoking" ×
+            Plain.Known 𝓤 H A W 𝓣 4 ps·5 r·5 (claims· .10) (claims· .11) "hnsr_circuit::revocation::revoke_all"
+
       module _ (κs : Lifetimes.Lfts 4) (qs : Lifetimes.Shares 4) where
         abbrev life0 : Row.Life
         life0 = Row.lease (κs .1 .1 .0) (qs .1 .1 .0)
+
         abbrev life1 : Row.Life
         life1 = Row.lease (κs .0) (qs .0)
+
         abbrev life2 : Row.Life
         life2 = Row.lease (κs .1 .0) (qs .1 .0)
+
         abbrev life3 : Row.Life
         life3 = Row.lease (κs .1 .1 .1 .0) (qs .1 .1 .1 .0)
+
+        abbrev l3 : Row.Entry
+        l3 = (3, Relend.mslice-owed InflightAction.row ref6 2 4 life0)
+
+        abbrev l1 : Row.Entry
+        l1 = (1, Relend.mslice-owed RelayPending.row ref4 0 5 life1)
+
+        abbrev l2 : Row.Entry
+        l2 = (2, Relend.mslice-owed RelayCircuit.row ref5 1 6 life2)
+
+        abbrev l3·1 : Row.Entry
+        l3·1 = (3, Relend.mslice-owed InflightAction.row ref6 2 7 life0)
+
+        abbrev l4 : Row.Entry
+        l4 = (4, Relend.mslice-owed (Referent.rtF (Referent.fInt Syntax.w32)) ref7 3 8 life3)
+
         abbrev g6 : List.List Row.Entry
-        g6 = (0, Rows.any-gone Laws''''''.mir,) ∷ (1, Mut.mslice RelayPending.row ref4 0,) ∷ (2, Mut.mslice RelayCircuit.row ref5 1,) ∷ (3,
-            Relend.mslice-owed InflightAction.row ref6 2 4 life0,) ∷ (4, Mut.mslice (Referent.rtF (Referent.fInt Syntax.w32)) ref7 3,) ∷ (5,
-            Rows.any-gone Laws'''''.mir,) ∷ (6, Rows.whole (Declared'.row Places.the-type)) ∷ (7, Rows.sc-here Row.sBool,) ∷ (8, Rows.whole
-            (Declared'.row Firsts.the-type)) ∷ (9, Rows.whole (Declared'.row Question.the-type),) ∷ (10, Rows.whole (Declared'.row
-            OpaqueRelayRuntime.the-type)) ∷ (11, Rows.any-gone Laws''''.mir,) ∷ (12, Rows.any-gone Syntax.tyUnit) ∷ (13, Relend.msptr
-            InflightAction.row ref0 4,) ∷ (14, Rows.any-gone (Syntax.tyStruct (38 ∷ 91 ∷ 93 ∷ List.[]) (Syntax.tcons ref0 (Syntax.tcons (Syntax.tyInt
-            Syntax.w64) Syntax.tnil))),) ∷ (15, Rows.any-gone Syntax.tyBool) ∷ List.[]
+        g6 = e0 ∷ e1 ∷ e2 ∷ l3 ∷ e4 ∷ e5·1 ∷ e6 ∷ e7 ∷ e8 ∷ e9·1 ∷ e10·1 ∷ e11 ∷ e12 ∷ e13·1 ∷ e14 ∷ e15 ∷ List.[]
+
         abbrev g7 : List.List Row.Entry
-        g7 = (0, Rows.any-gone Laws''''''.mir,) ∷ (1, Mut.mslice RelayPending.row ref4 0,) ∷ (2, Mut.mslice RelayCircuit.row ref5 1,) ∷ (3,
-            Relend.mslice-owed InflightAction.row ref6 2 4 life0,) ∷ (4, Mut.mslice (Referent.rtF (Referent.fInt Syntax.w32)) ref7 3,) ∷ (5,
-            Rows.any-gone Laws'''''.mir,) ∷ (6, Rows.whole (Declared'.row Places.the-type)) ∷ (7, Rows.sc-here Row.sBool,) ∷ (8, Rows.whole
-            (Declared'.row Firsts.the-type)) ∷ (9, Rows.whole (Declared'.row Question.the-type),) ∷ (10, Rows.whole (Declared'.row
-            OpaqueRelayRuntime.the-type)) ∷ (11, Rows.any-gone Laws''''.mir,) ∷ (12, Rows.any-gone Syntax.tyUnit) ∷ (13, Rows.any-gone ref0,) ∷ (14,
-            Mut.mslice InflightAction.row ref0 4,) ∷ (15, Rows.any-gone Syntax.tyBool) ∷ List.[]
+        g7 = e0 ∷ e1 ∷ e2 ∷ l3 ∷ e4 ∷ e5·1 ∷ e6 ∷ e7 ∷ e8 ∷ e9·1 ∷ e10·1 ∷ e11 ∷ e12 ∷ e13 ∷ e14·1 ∷ e15 ∷ List.[]
+
         abbrev g8 : List.List Row.Entry
-        g8 = (0, Rows.any-gone Laws''''''.mir,) ∷ (1, Mut.mslice RelayPending.row ref4 0,) ∷ (2, Mut.mslice RelayCircuit.row ref5 1,) ∷ (3,
-            Relend.mslice-owed InflightAction.row ref6 2 4 life0,) ∷ (4, Mut.mslice (Referent.rtF (Referent.fInt Syntax.w32)) ref7 3,) ∷ (5,
-            Rows.any-gone Laws'''''.mir,) ∷ (6, Rows.whole (Declared'.row Places.the-type)) ∷ (7, Rows.sc-here Row.sBool,) ∷ (8, Rows.whole
-            (Declared'.row Firsts.the-type)) ∷ (9, Rows.whole (Declared'.row Question.the-type),) ∷ (10, Rows.whole (Declared'.row
-            OpaqueRelayRuntime.the-type)) ∷ (11, Rows.any-gone Laws''''.mir,) ∷ (12, Rows.sc-here Row.sUnit) ∷ (13, Rows.any-gone ref0,) ∷ (14,
-            Mut.msleft InflightAction.row ref0,) ∷ (15, Rows.any-gone Syntax.tyBool) ∷ List.[]
+        g8 = e0 ∷ e1 ∷ e2 ∷ l3 ∷ e4 ∷ e5·1 ∷ e6 ∷ e7 ∷ e8 ∷ e9·1 ∷ e10·1 ∷ e11 ∷ e12·1 ∷ e13 ∷ e14·2 ∷ e15 ∷ List.[]
+
         abbrev g9 : List.List Row.Entry
-        g9 = (0, Rows.any-gone Laws''''''.mir,) ∷ (1, Mut.mslice RelayPending.row ref4 0,) ∷ (2, Mut.mslice RelayCircuit.row ref5 1,) ∷ (3,
-            Relend.mslice-owed InflightAction.row ref6 2 4 life0,) ∷ (4, Mut.mslice (Referent.rtF (Referent.fInt Syntax.w32)) ref7 3,) ∷ (5,
-            Rows.any-gone Laws'''''.mir,) ∷ (6, Rows.whole (Declared'.row Places.the-type)) ∷ (7, Rows.sc-here Row.sBool,) ∷ (8, Rows.whole
-            (Declared'.row Firsts.the-type)) ∷ (9, Rows.whole (Declared'.row Question.the-type),) ∷ (10, Rows.whole (Declared'.row
-            OpaqueRelayRuntime.the-type)) ∷ (11, Rows.any-gone Laws''''.mir,) ∷ (12, Rows.any-gone Syntax.tyUnit) ∷ (13, Rows.any-gone ref0,) ∷ (14,
-            Mut.msleft InflightAction.row ref0,) ∷ (15, Rows.any-gone Syntax.tyBool) ∷ List.[]
+        g9 = e0 ∷ e1 ∷ e2 ∷ l3 ∷ e4 ∷ e5·1 ∷ e6 ∷ e7 ∷ e8 ∷ e9·1 ∷ e10·1 ∷ e11 ∷ e12 ∷ e13 ∷ e14·2 ∷ e15 ∷ List.[]
+
         abbrev g22 : List.List Row.Entry
-        g22 = (0, Rows.any-gone Laws''''''.mir,) ∷ (1, Relend.mslice-owed RelayPending.row ref4 0 5 life1,) ∷ (2, Mut.mslice RelayCircuit.row ref5 1,)
-            ∷ (3, Mut.mslice InflightAction.row ref6 2,) ∷ (4, Mut.mslice (Referent.rtF (Referent.fInt Syntax.w32)) ref7 3,) ∷ (5, Rows.any-gone
-            Laws'''''.mir,) ∷ (6, Rows.whole (Declared'.row Places.the-type)) ∷ (7, Rows.sc-here Row.sBool,) ∷ (8, Rows.whole (Declared'.row
-            Firsts.the-type)) ∷ (9, Rows.any-gone Laws''.mir,) ∷ (10, Rows.whole (Declared'.row OpaqueRelayRuntime.the-type)) ∷ (11, Rows.whole
-            (Declared'.row Revoking.the-type),) ∷ (12, Rows.any-gone Syntax.tyUnit) ∷ (13, Rows.any-gone ref0,) ∷ (14, Rows.any-gone (Syntax.tyStruct
-            (38 ∷ 91 ∷ 93 ∷ List.[]) (Syntax.tcons ref0 (Syntax.tcons (Syntax.tyInt Syntax.w64) Syntax.tnil))),) ∷ (15, Rows.any-gone Syntax.tyBool) ∷
-            List.[]
+        g22 = e0 ∷ l1 ∷ e2 ∷ e3 ∷ e4 ∷ e5·1 ∷ e6 ∷ e7 ∷ e8 ∷ e9 ∷ e10·1 ∷ e11·1 ∷ e12 ∷ e13 ∷ e14 ∷ e15 ∷ List.[]
+
         abbrev g25 : List.List Row.Entry
-        g25 = (0, Rows.any-gone Laws''''''.mir,) ∷ (1, Relend.mslice-owed RelayPending.row ref4 0 5 life1,) ∷ (2, Relend.mslice-owed RelayCircuit.row
-            ref5 1 6 life2,) ∷ (3, Mut.mslice InflightAction.row ref6 2,) ∷ (4, Mut.mslice (Referent.rtF (Referent.fInt Syntax.w32)) ref7 3,) ∷ (5,
-            Rows.any-gone Laws'''''.mir,) ∷ (6, Rows.whole (Declared'.row Places.the-type)) ∷ (7, Rows.sc-here Row.sBool,) ∷ (8, Rows.whole
-            (Declared'.row Firsts.the-type)) ∷ (9, Rows.any-gone Laws''.mir,) ∷ (10, Rows.whole (Declared'.row OpaqueRelayRuntime.the-type)) ∷ (11,
-            Rows.whole (Declared'.row Revoking.the-type),) ∷ (12, Rows.any-gone Syntax.tyUnit) ∷ (13, Rows.any-gone ref0,) ∷ (14, Rows.any-gone
-            (Syntax.tyStruct (38 ∷ 91 ∷ 93 ∷ List.[]) (Syntax.tcons ref0 (Syntax.tcons (Syntax.tyInt Syntax.w64) Syntax.tnil))),) ∷ (15, Rows.any-gone
-            Syntax.tyBool) ∷ List.[]
+        g25 = e0 ∷ l1 ∷ l2 ∷ e3 ∷ e4 ∷ e5·1 ∷ e6 ∷ e7 ∷ e8 ∷ e9 ∷ e10·1 ∷ e11·1 ∷ e12 ∷ e13 ∷ e14 ∷ e15 ∷ List.[]
+
         abbrev g28 : List.List Row.Entry
-        g28 = (0, Rows.any-gone Laws''''''.mir,) ∷ (1, Relend.mslice-owed RelayPending.row ref4 0 5 life1,) ∷ (2, Relend.mslice-owed RelayCircuit.row
-            ref5 1 6 life2,) ∷ (3, Relend.mslice-owed InflightAction.row ref6 2 7 life0,) ∷ (4, Mut.mslice (Referent.rtF (Referent.fInt Syntax.w32))
-            ref7 3,) ∷ (5, Rows.any-gone Laws'''''.mir,) ∷ (6, Rows.whole (Declared'.row Places.the-type)) ∷ (7, Rows.sc-here Row.sBool,) ∷ (8,
-            Rows.whole (Declared'.row Firsts.the-type)) ∷ (9, Rows.any-gone Laws''.mir,) ∷ (10, Rows.whole (Declared'.row
-            OpaqueRelayRuntime.the-type)) ∷ (11, Rows.whole (Declared'.row Revoking.the-type),) ∷ (12, Rows.any-gone Syntax.tyUnit) ∷ (13,
-            Rows.any-gone ref0,) ∷ (14, Rows.any-gone (Syntax.tyStruct (38 ∷ 91 ∷ 93 ∷ List.[]) (Syntax.tcons ref0 (Syntax.tcons (Syntax.tyInt
-            Syntax.w64) Syntax.tnil))),) ∷ (15, Rows.any-gone Syntax.tyBool) ∷ List.[]
+        g28 = e0 ∷ l1 ∷ l2 ∷ l3·1 ∷ e4 ∷ e5·1 ∷ e6 ∷ e7 ∷ e8 ∷ e9 ∷ e10·1 ∷ e11·1 ∷ e12 ∷ e13 ∷ e14 ∷ e15 ∷ List.[]
+
         abbrev g31 : List.List Row.Entry
-        g31 = (0, Rows.any-gone Laws''''''.mir,) ∷ (1, Relend.mslice-owed RelayPending.row ref4 0 5 life1,) ∷ (2, Relend.mslice-owed RelayCircuit.row
-            ref5 1 6 life2,) ∷ (3, Relend.mslice-owed InflightAction.row ref6 2 7 life0,) ∷ (4, Relend.mslice-owed (Referent.rtF (Referent.fInt
-            Syntax.w32)) ref7 3 8 life3,) ∷ (5, Rows.any-gone Laws'''''.mir,) ∷ (6, Rows.whole (Declared'.row Places.the-type)) ∷ (7, Rows.sc-here
-            Row.sBool,) ∷ (8, Rows.whole (Declared'.row Firsts.the-type)) ∷ (9, Rows.any-gone Laws''.mir,) ∷ (10, Rows.whole (Declared'.row
-            OpaqueRelayRuntime.the-type)) ∷ (11, Rows.whole (Declared'.row Revoking.the-type),) ∷ (12, Rows.any-gone Syntax.tyUnit) ∷ (13,
-            Rows.any-gone ref0,) ∷ (14, Rows.any-gone (Syntax.tyStruct (38 ∷ 91 ∷ 93 ∷ List.[]) (Syntax.tcons ref0 (Syntax.tcons (Syntax.tyInt
-            Syntax.w64) Syntax.tnil))),) ∷ (15, Rows.any-gone Syntax.tyBool) ∷ List.[]
+        g31 = e0 ∷ l1 ∷ l2 ∷ l3·1 ∷ l4 ∷ e5·1 ∷ e6 ∷ e7 ∷ e8 ∷ e9 ∷ e10·1 ∷ e11·1 ∷ e12 ∷ e13 ∷ e14 ∷ e15 ∷ List.[]
+
         abbrev g34 : List.List Row.Entry
-        g34 = (0, Rows.whole (Declared'.row Relayed.the-type)) ∷ (1, Relend.mslice-owed RelayPending.row ref4 0 5 life1,) ∷ (2, Relend.mslice-owed
-            RelayCircuit.row ref5 1 6 life2,) ∷ (3, Relend.mslice-owed InflightAction.row ref6 2 7 life0,) ∷ (4, Relend.mslice-owed (Referent.rtF
-            (Referent.fInt Syntax.w32)) ref7 3 8 life3,) ∷ (5, Rows.any-gone Laws'''''.mir,) ∷ (6, Rows.whole (Declared'.row Places.the-type)) ∷ (7,
-            Rows.sc-here Row.sBool,) ∷ (8, Rows.whole (Declared'.row Firsts.the-type)) ∷ (9, Rows.any-gone Laws''.mir,) ∷ (10, Rows.whole
-            (Declared'.row OpaqueRelayRuntime.the-type)) ∷ (11, Rows.whole (Declared'.row Revoking.the-type),) ∷ (12, Rows.any-gone Syntax.tyUnit) ∷
-            (13, Rows.any-gone ref0,) ∷ (14, Rows.any-gone (Syntax.tyStruct (38 ∷ 91 ∷ 93 ∷ List.[]) (Syntax.tcons ref0 (Syntax.tcons (Syntax.tyInt
-            Syntax.w64) Syntax.tnil))),) ∷ (15, Rows.any-gone Syntax.tyBool) ∷ List.[]
+        g34 = e0·1 ∷ l1 ∷ l2 ∷ l3·1 ∷ l4 ∷ e5·1 ∷ e6 ∷ e7 ∷ e8 ∷ e9 ∷ e10·1 ∷ e11·1 ∷ e12 ∷ e13 ∷ e14 ∷ e15 ∷ List.[]
+
         abbrev g36 : List.List Row.Entry
-        g36 = (0, Rows.whole (Declared'.row Relayed.the-type)) ∷ (1, Relend.mslice-owed RelayPending.row ref4 0 5 life1,) ∷ (2, Relend.mslice-owed
-            RelayCircuit.row ref5 1 6 life2,) ∷ (3, Relend.mslice-owed InflightAction.row ref6 2 7 life0,) ∷ (4, Relend.mslice-owed (Referent.rtF
-            (Referent.fInt Syntax.w32)) ref7 3 8 life3,) ∷ (5, Rows.any-gone Laws'''''.mir,) ∷ (6, Rows.any-gone Laws'.mir,) ∷ (7, Rows.sc-here
-            Row.sBool) ∷ (8, Rows.whole (Declared'.row Firsts.the-type),) ∷ (9, Rows.any-gone Laws''.mir,) ∷ (10, Rows.whole (Declared'.row
-            OpaqueRelayRuntime.the-type)) ∷ (11, Rows.whole (Declared'.row Revoking.the-type),) ∷ (12, Rows.any-gone Syntax.tyUnit) ∷ (13,
-            Rows.any-gone ref0,) ∷ (14, Rows.any-gone (Syntax.tyStruct (38 ∷ 91 ∷ 93 ∷ List.[]) (Syntax.tcons ref0 (Syntax.tcons (Syntax.tyInt
-            Syntax.w64) Syntax.tnil))),) ∷ (15, Rows.any-gone Syntax.tyBool) ∷ List.[]
+        g36 = e0·1 ∷ l1 ∷ l2 ∷ l3·1 ∷ l4 ∷ e5·1 ∷ e6·1 ∷ e7 ∷ e8 ∷ e9 ∷ e10·1 ∷ e11·1 ∷ e12 ∷ e13 ∷ e14 ∷ e15 ∷ List.[]
+
         abbrev g37 : List.List Row.Entry
-        g37 = (0, Rows.whole (Declared'.row Relayed.the-type)) ∷ (1, Relend.mslice-owed RelayPending.row ref4 0 5 life1,) ∷ (2, Relend.mslice-owed
-            RelayCircuit.row ref5 1 6 life2,) ∷ (3, Relend.mslice-owed InflightAction.row ref6 2 7 life0,) ∷ (4, Relend.mslice-owed (Referent.rtF
-            (Referent.fInt Syntax.w32)) ref7 3 8 life3,) ∷ (5, Rows.any-gone Laws'''''.mir,) ∷ (6, Rows.any-gone Laws'.mir,) ∷ (7, Rows.sc-here
-            Row.sBool) ∷ (8, Rows.any-gone Laws'''.mir,) ∷ (9, Rows.any-gone Laws''.mir,) ∷ (10, Rows.whole (Declared'.row
-            OpaqueRelayRuntime.the-type)) ∷ (11, Rows.whole (Declared'.row Revoking.the-type),) ∷ (12, Rows.any-gone Syntax.tyUnit) ∷ (13,
-            Rows.any-gone ref0,) ∷ (14, Rows.any-gone (Syntax.tyStruct (38 ∷ 91 ∷ 93 ∷ List.[]) (Syntax.tcons ref0 (Syntax.tcons (Syntax.tyInt
-            Syntax.w64) Syntax.tnil))),) ∷ (15, Rows.any-gone Syntax.tyBool) ∷ List.[]
-        abbrev g38 : List.List Row.Entry
-        g38 = (0, Rows.whole (Declared'.row Relayed.the-type)) ∷ (1, Relend.mslice-owed RelayPending.row ref4 0 5 life1,) ∷ (2, Relend.mslice-owed
-            RelayCircuit.row ref5 1 6 life2,) ∷ (3, Relend.mslice-owed InflightAction.row ref6 2 7 life0,) ∷ (4, Relend.mslice-owed (Referent.rtF
-            (Referent.fInt Syntax.w32)) ref7 3 8 life3,) ∷ (5, Rows.any-gone Laws'''''.mir,) ∷ (6, Rows.any-gone Laws'.mir,) ∷ (7, Rows.sc-here
-            Row.sBool) ∷ (8, Rows.any-gone Laws'''.mir,) ∷ (9, Rows.any-gone Laws''.mir,) ∷ (10, Rows.any-gone Laws'''''.mir,) ∷ (11, Rows.whole
-            (Declared'.row Revoking.the-type)) ∷ (12, Rows.any-gone Syntax.tyUnit,) ∷ (13, Rows.any-gone ref0,) ∷ (14, Rows.any-gone (Syntax.tyStruct
-            (38 ∷ 91 ∷ 93 ∷ List.[]) (Syntax.tcons ref0 (Syntax.tcons (Syntax.tyInt Syntax.w64) Syntax.tnil))),) ∷ (15, Rows.any-gone Syntax.tyBool) ∷
+        g37 = e0·1 ∷ l1 ∷ l2 ∷ l3·1 ∷ l4 ∷ e5·1 ∷ e6·1 ∷ e7 ∷ e8·1 ∷ e9 ∷ e10·1 ∷ e11·1 ∷ e12 ∷ e13 ∷ e14 ∷ e15 ∷
             List.[]
+
+        abbrev g38 : List.List Row.Entry
+        g38 = e0·1 ∷ l1 ∷ l2 ∷ l3·1 ∷ l4 ∷ e5·1 ∷ e6·1 ∷ e7 ∷ e8·1 ∷ e9 ∷ e10 ∷ e11·1 ∷ e12 ∷ e13 ∷ e14 ∷ e15 ∷ List.[]
+
         abbrev g39 : List.List Row.Entry
-        g39 = (0, Rows.whole (Declared'.row Relayed.the-type)) ∷ (1, Relend.mslice-owed RelayPending.row ref4 0 5 life1,) ∷ (2, Relend.mslice-owed
-            RelayCircuit.row ref5 1 6 life2,) ∷ (3, Relend.mslice-owed InflightAction.row ref6 2 7 life0,) ∷ (4, Relend.mslice-owed (Referent.rtF
-            (Referent.fInt Syntax.w32)) ref7 3 8 life3,) ∷ (5, Rows.any-gone Laws'''''.mir,) ∷ (6, Rows.any-gone Laws'.mir,) ∷ (7, Rows.sc-here
-            Row.sBool) ∷ (8, Rows.any-gone Laws'''.mir,) ∷ (9, Rows.any-gone Laws''.mir,) ∷ (10, Rows.any-gone Laws'''''.mir,) ∷ (11, Rows.any-gone
-            Laws''''.mir,) ∷ (12, Rows.any-gone Syntax.tyUnit) ∷ (13, Rows.any-gone ref0,) ∷ (14, Rows.any-gone (Syntax.tyStruct (38 ∷ 91 ∷ 93 ∷
-            List.[]) (Syntax.tcons ref0 (Syntax.tcons (Syntax.tyInt Syntax.w64) Syntax.tnil))),) ∷ (15, Rows.any-gone Syntax.tyBool) ∷ List.[]
+        g39 = e0·1 ∷ l1 ∷ l2 ∷ l3·1 ∷ l4 ∷ e5·1 ∷ e6·1 ∷ e7 ∷ e8·1 ∷ e9 ∷ e10 ∷ e11 ∷ e12 ∷ e13 ∷ e14 ∷ e15 ∷ List.[]
+
         abbrev g40 : List.List Row.Entry
-        g40 = (0, Rows.whole (Declared'.row Relayed.the-type)) ∷ (1, Mut.mslice RelayPending.row ref4 0,) ∷ (2, Relend.mslice-owed RelayCircuit.row
-            ref5 1 6 life2,) ∷ (3, Relend.mslice-owed InflightAction.row ref6 2 7 life0,) ∷ (4, Relend.mslice-owed (Referent.rtF (Referent.fInt
-            Syntax.w32)) ref7 3 8 life3,) ∷ (5, Rows.any-gone Laws'''''.mir,) ∷ (6, Rows.any-gone Laws'.mir,) ∷ (7, Rows.sc-here Row.sBool) ∷ (8,
-            Rows.any-gone Laws'''.mir,) ∷ (9, Rows.any-gone Laws''.mir,) ∷ (10, Rows.any-gone Laws'''''.mir,) ∷ (11, Rows.any-gone Laws''''.mir,) ∷
-            (12, Rows.any-gone Syntax.tyUnit) ∷ (13, Rows.any-gone ref0,) ∷ (14, Rows.any-gone (Syntax.tyStruct (38 ∷ 91 ∷ 93 ∷ List.[]) (Syntax.tcons
-            ref0 (Syntax.tcons (Syntax.tyInt Syntax.w64) Syntax.tnil))),) ∷ (15, Rows.any-gone Syntax.tyBool) ∷ List.[]
+        g40 = e0·1 ∷ e1 ∷ l2 ∷ l3·1 ∷ l4 ∷ e5·1 ∷ e6·1 ∷ e7 ∷ e8·1 ∷ e9 ∷ e10 ∷ e11 ∷ e12 ∷ e13 ∷ e14 ∷ e15 ∷ List.[]
+
         abbrev g42 : List.List Row.Entry
-        g42 = (0, Rows.whole (Declared'.row Relayed.the-type)) ∷ (1, Mut.mslice RelayPending.row ref4 0,) ∷ (2, Mut.mslice RelayCircuit.row ref5 1,) ∷
-            (3, Relend.mslice-owed InflightAction.row ref6 2 7 life0,) ∷ (4, Relend.mslice-owed (Referent.rtF (Referent.fInt Syntax.w32)) ref7 3 8
-            life3,) ∷ (5, Rows.any-gone Laws'''''.mir,) ∷ (6, Rows.any-gone Laws'.mir,) ∷ (7, Rows.sc-here Row.sBool) ∷ (8, Rows.any-gone
-            Laws'''.mir,) ∷ (9, Rows.any-gone Laws''.mir,) ∷ (10, Rows.any-gone Laws'''''.mir,) ∷ (11, Rows.any-gone Laws''''.mir,) ∷ (12,
-            Rows.any-gone Syntax.tyUnit) ∷ (13, Rows.any-gone ref0,) ∷ (14, Rows.any-gone (Syntax.tyStruct (38 ∷ 91 ∷ 93 ∷ List.[]) (Syntax.tcons ref0
-            (Syntax.tcons (Syntax.tyInt Syntax.w64) Syntax.tnil))),) ∷ (15, Rows.any-gone Syntax.tyBool) ∷ List.[]
+        g42 = e0·1 ∷ e1 ∷ e2 ∷ l3·1 ∷ l4 ∷ e5·1 ∷ e6·1 ∷ e7 ∷ e8·1 ∷ e9 ∷ e10 ∷ e11 ∷ e12 ∷ e13 ∷ e14 ∷ e15 ∷ List.[]
+
         abbrev g44 : List.List Row.Entry
-        g44 = (0, Rows.whole (Declared'.row Relayed.the-type)) ∷ (1, Mut.mslice RelayPending.row ref4 0,) ∷ (2, Mut.mslice RelayCircuit.row ref5 1,) ∷
-            (3, Mut.mslice InflightAction.row ref6 2,) ∷ (4, Relend.mslice-owed (Referent.rtF (Referent.fInt Syntax.w32)) ref7 3 8 life3,) ∷ (5,
-            Rows.any-gone Laws'''''.mir,) ∷ (6, Rows.any-gone Laws'.mir,) ∷ (7, Rows.sc-here Row.sBool) ∷ (8, Rows.any-gone Laws'''.mir,) ∷ (9,
-            Rows.any-gone Laws''.mir,) ∷ (10, Rows.any-gone Laws'''''.mir,) ∷ (11, Rows.any-gone Laws''''.mir,) ∷ (12, Rows.any-gone Syntax.tyUnit) ∷
-            (13, Rows.any-gone ref0,) ∷ (14, Rows.any-gone (Syntax.tyStruct (38 ∷ 91 ∷ 93 ∷ List.[]) (Syntax.tcons ref0 (Syntax.tcons (Syntax.tyInt
-            Syntax.w64) Syntax.tnil))),) ∷ (15, Rows.any-gone Syntax.tyBool) ∷ List.[]
+        g44 = e0·1 ∷ e1 ∷ e2 ∷ e3 ∷ l4 ∷ e5·1 ∷ e6·1 ∷ e7 ∷ e8·1 ∷ e9 ∷ e10 ∷ e11 ∷ e12 ∷ e13 ∷ e14 ∷ e15 ∷ List.[]
+
         abbrev G0 : Row.Cx
-        G0 = record { locals = List._++_ t0 t1; slots = life1 ∷ life2 ∷ life0 ∷ life3 ∷ Row.off ∷ Row.off ∷ Row.off ∷ Row.off ∷ Row.off ∷ List.[]; }
+        G0 = record {
+          locals = List._++_ t0 t1;
+          slots = life1 ∷ life2 ∷ life0 ∷ life3 ∷ Row.off ∷ Row.off ∷ Row.off ∷ Row.off ∷ Row.off ∷ List.[];
+        }
+
         abbrev G1 : Row.Cx
-        G1 = record { locals = List._++_ t2 t1; slots = life1 ∷ life2 ∷ life0 ∷ life3 ∷ Row.off ∷ Row.off ∷ Row.off ∷ Row.off ∷ Row.off ∷ List.[]; }
+        G1 = record {
+          locals = List._++_ t2 t1;
+          slots = life1 ∷ life2 ∷ life0 ∷ life3 ∷ Row.off ∷ Row.off ∷ Row.off ∷ Row.off ∷ Row.off ∷ List.[];
+        }
+
         abbrev G2 : Row.Cx
-        G2 = record { locals = List._++_ t0 t1; slots = life1 ∷ life2 ∷ life0 ∷ life3 ∷ Row.off ∷ Row.off ∷ Row.off ∷ Row.off ∷ Row.off ∷ List.[]; }
+        G2 = record {
+          locals = List._++_ t0 t1;
+          slots = life1 ∷ life2 ∷ life0 ∷ life3 ∷ Row.off ∷ Row.off ∷ Row.off ∷ Row.off ∷ Row.off ∷ List.[];
+        }
+
         abbrev G3 : Row.Cx
-        G3 = record { locals = List._++_ t3 t1; slots = life1 ∷ life2 ∷ life0 ∷ life3 ∷ Row.off ∷ Row.off ∷ Row.off ∷ Row.off ∷ Row.off ∷ List.[]; }
+        G3 = record {
+          locals = List._++_ t3 t1;
+          slots = life1 ∷ life2 ∷ life0 ∷ life3 ∷ Row.off ∷ Row.off ∷ Row.off ∷ Row.off ∷ Row.off ∷ List.[];
+        }
+
         abbrev G4 : Row.Cx
-        G4 = record { locals = List._++_ t4 t1; slots = life1 ∷ life2 ∷ life0 ∷ life3 ∷ Row.off ∷ Row.off ∷ Row.off ∷ Row.off ∷ Row.off ∷ List.[]; }
+        G4 = record {
+          locals = List._++_ t4 t1;
+          slots = life1 ∷ life2 ∷ life0 ∷ life3 ∷ Row.off ∷ Row.off ∷ Row.off ∷ Row.off ∷ Row.off ∷ List.[];
+        }
+
         abbrev G5 : Row.Cx
-        G5 = record { locals = List._++_ t5 t1; slots = life1 ∷ life2 ∷ life0 ∷ life3 ∷ Row.off ∷ Row.off ∷ Row.off ∷ Row.off ∷ Row.off ∷ List.[]; }
+        G5 = record {
+          locals = List._++_ t5 t1;
+          slots = life1 ∷ life2 ∷ life0 ∷ life3 ∷ Row.off ∷ Row.off ∷ Row.off ∷ Row.off ∷ Row.off ∷ List.[];
+        }
+
         abbrev G6 : Row.Cx
-        G6 = record { locals = List._++_ t5 t1; slots = life1 ∷ life2 ∷ life0 ∷ life3 ∷ Row.alive ∷ Row.off ∷ Row.off ∷ Row.off ∷ Row.off ∷ List.[]; }
+        G6 = record {
+          locals = List._++_ t5 t1;
+          slots = life1 ∷ life2 ∷ life0 ∷ life3 ∷ Row.alive ∷ Row.off ∷ Row.off ∷ Row.off ∷ Row.off ∷ List.[];
+        }
+
         abbrev G7 : Row.Cx
-        G7 = record { locals = List._++_ g6 t1; slots = life1 ∷ life2 ∷ Row.off ∷ life3 ∷ Row.alive ∷ Row.off ∷ Row.off ∷ Row.off ∷ Row.off ∷ List.[];
-            }
+        G7 = record {
+          locals = List._++_ g6 t1;
+          slots = life1 ∷ life2 ∷ Row.off ∷ life3 ∷ Row.alive ∷ Row.off ∷ Row.off ∷ Row.off ∷ Row.off ∷ List.[];
+        }
+
         abbrev G8 : Row.Cx
-        G8 = record { locals = List._++_ g7 t1; slots = life1 ∷ life2 ∷ Row.off ∷ life3 ∷ Row.alive ∷ Row.off ∷ Row.off ∷ Row.off ∷ Row.off ∷ List.[];
-            }
+        G8 = record {
+          locals = List._++_ g7 t1;
+          slots = life1 ∷ life2 ∷ Row.off ∷ life3 ∷ Row.alive ∷ Row.off ∷ Row.off ∷ Row.off ∷ Row.off ∷ List.[];
+        }
+
         abbrev G9 : Row.Cx
-        G9 = record { locals = List._++_ g8 t1; slots = life1 ∷ life2 ∷ Row.off ∷ life3 ∷ Row.alive ∷ Row.off ∷ Row.off ∷ Row.off ∷ Row.off ∷ List.[];
-            }
+        G9 = record {
+          locals = List._++_ g8 t1;
+          slots = life1 ∷ life2 ∷ Row.off ∷ life3 ∷ Row.alive ∷ Row.off ∷ Row.off ∷ Row.off ∷ Row.off ∷ List.[];
+        }
+
         abbrev G10 : Row.Cx
-        G10 = record { locals = List._++_ g9 t1; slots = life1 ∷ life2 ∷ Row.off ∷ life3 ∷ Row.alive ∷ Row.off ∷ Row.off ∷ Row.off ∷ Row.off ∷
-            List.[]; }
+        G10 = record {
+          locals = List._++_ g9 t1;
+          slots = life1 ∷ life2 ∷ Row.off ∷ life3 ∷ Row.alive ∷ Row.off ∷ Row.off ∷ Row.off ∷ Row.off ∷ List.[];
+        }
+
         abbrev G11 : Row.Cx
-        G11 = record { locals = List._++_ g9 t1; slots = life1 ∷ life2 ∷ Row.off ∷ life3 ∷ Row.dead ∷ Row.off ∷ Row.off ∷ Row.off ∷ Row.off ∷ List.[];
-            }
+        G11 = record {
+          locals = List._++_ g9 t1;
+          slots = life1 ∷ life2 ∷ Row.off ∷ life3 ∷ Row.dead ∷ Row.off ∷ Row.off ∷ Row.off ∷ Row.off ∷ List.[];
+        }
+
         abbrev G12 : Row.Cx
-        G12 = record { locals = List._++_ t5 t1; slots = life1 ∷ life2 ∷ life0 ∷ life3 ∷ Row.dead ∷ Row.off ∷ Row.off ∷ Row.off ∷ Row.off ∷ List.[]; }
+        G12 = record {
+          locals = List._++_ t5 t1;
+          slots = life1 ∷ life2 ∷ life0 ∷ life3 ∷ Row.dead ∷ Row.off ∷ Row.off ∷ Row.off ∷ Row.off ∷ List.[];
+        }
+
         abbrev G13 : Row.Cx
-        G13 = record { locals = List._++_ t5 t1; slots = life1 ∷ life2 ∷ life0 ∷ life3 ∷ Row.off ∷ Row.off ∷ Row.off ∷ Row.off ∷ Row.off ∷ List.[]; }
+        G13 = record {
+          locals = List._++_ t5 t1;
+          slots = life1 ∷ life2 ∷ life0 ∷ life3 ∷ Row.off ∷ Row.off ∷ Row.off ∷ Row.off ∷ Row.off ∷ List.[];
+        }
+
         abbrev G14 : Row.Cx
-        G14 = record { locals = List._++_ t10 t1; slots = life1 ∷ life2 ∷ life0 ∷ life3 ∷ Row.off ∷ Row.off ∷ Row.off ∷ Row.off ∷ Row.off ∷ List.[]; }
+        G14 = record {
+          locals = List._++_ t10 t1;
+          slots = life1 ∷ life2 ∷ life0 ∷ life3 ∷ Row.off ∷ Row.off ∷ Row.off ∷ Row.off ∷ Row.off ∷ List.[];
+        }
+
         abbrev G15 : Row.Cx
-        G15 = record { locals = List._++_ t5 t1; slots = life1 ∷ life2 ∷ life0 ∷ life3 ∷ Row.off ∷ Row.off ∷ Row.off ∷ Row.off ∷ Row.off ∷ List.[]; }
+        G15 = record {
+          locals = List._++_ t5 t1;
+          slots = life1 ∷ life2 ∷ life0 ∷ life3 ∷ Row.off ∷ Row.off ∷ Row.off ∷ Row.off ∷ Row.off ∷ List.[];
+        }
+
         abbrev G16 : Row.Cx
-        G16 = record { locals = List._++_ t11 t1; slots = life1 ∷ life2 ∷ life0 ∷ life3 ∷ Row.off ∷ Row.off ∷ Row.off ∷ Row.off ∷ Row.off ∷ List.[]; }
+        G16 = record {
+          locals = List._++_ t11 t1;
+          slots = life1 ∷ life2 ∷ life0 ∷ life3 ∷ Row.off ∷ Row.off ∷ Row.off ∷ Row.off ∷ Row.off ∷ List.[];
+        }
+
         abbrev G17 : Row.Cx
-        G17 = record { locals = List._++_ t12 t1; slots = life1 ∷ life2 ∷ life0 ∷ life3 ∷ Row.off ∷ Row.off ∷ Row.off ∷ Row.off ∷ Row.off ∷ List.[]; }
+        G17 = record {
+          locals = List._++_ t12 t1;
+          slots = life1 ∷ life2 ∷ life0 ∷ life3 ∷ Row.off ∷ Row.off ∷ Row.off ∷ Row.off ∷ Row.off ∷ List.[];
+        }
+
         abbrev G18 : Row.Cx
-        G18 = record { locals = List._++_ t13 t1; slots = life1 ∷ life2 ∷ life0 ∷ life3 ∷ Row.off ∷ Row.off ∷ Row.off ∷ Row.off ∷ Row.off ∷ List.[]; }
+        G18 = record {
+          locals = List._++_ t13 t1;
+          slots = life1 ∷ life2 ∷ life0 ∷ life3 ∷ Row.off ∷ Row.off ∷ Row.off ∷ Row.off ∷ Row.off ∷ List.[];
+        }
+
         abbrev G19 : Row.Cx
-        G19 = record { locals = List._++_ t14 t1; slots = life1 ∷ life2 ∷ life0 ∷ life3 ∷ Row.off ∷ Row.off ∷ Row.off ∷ Row.off ∷ Row.off ∷ List.[]; }
+        G19 = record {
+          locals = List._++_ t14 t1;
+          slots = life1 ∷ life2 ∷ life0 ∷ life3 ∷ Row.off ∷ Row.off ∷ Row.off ∷ Row.off ∷ Row.off ∷ List.[];
+        }
+
         abbrev G20 : Row.Cx
-        G20 = record { locals = List._++_ t15 t1; slots = life1 ∷ life2 ∷ life0 ∷ life3 ∷ Row.off ∷ Row.off ∷ Row.off ∷ Row.off ∷ Row.off ∷ List.[]; }
+        G20 = record {
+          locals = List._++_ t15 t1;
+          slots = life1 ∷ life2 ∷ life0 ∷ life3 ∷ Row.off ∷ Row.off ∷ Row.off ∷ Row.off ∷ Row.off ∷ List.[];
+        }
+
         abbrev G21 : Row.Cx
-        G21 = record { locals = List._++_ t16 t1; slots = life1 ∷ life2 ∷ life0 ∷ life3 ∷ Row.off ∷ Row.off ∷ Row.off ∷ Row.off ∷ Row.off ∷ List.[]; }
+        G21 = record {
+          locals = List._++_ t16 t1;
+          slots = life1 ∷ life2 ∷ life0 ∷ life3 ∷ Row.off ∷ Row.off ∷ Row.off ∷ Row.off ∷ Row.off ∷ List.[];
+        }
+
         abbrev G22 : Row.Cx
-        G22 = record { locals = List._++_ t2 t1; slots = life1 ∷ life2 ∷ life0 ∷ life3 ∷ Row.off ∷ Row.off ∷ Row.off ∷ Row.off ∷ Row.off ∷ List.[]; }
+        G22 = record {
+          locals = List._++_ t2 t1;
+          slots = life1 ∷ life2 ∷ life0 ∷ life3 ∷ Row.off ∷ Row.off ∷ Row.off ∷ Row.off ∷ Row.off ∷ List.[];
+        }
+
         abbrev G23 : Row.Cx
-        G23 = record { locals = List._++_ t5 t1; slots = life1 ∷ life2 ∷ life0 ∷ life3 ∷ Row.off ∷ Row.off ∷ Row.off ∷ Row.off ∷ Row.off ∷ List.[]; }
+        G23 = record {
+          locals = List._++_ t5 t1;
+          slots = life1 ∷ life2 ∷ life0 ∷ life3 ∷ Row.off ∷ Row.off ∷ Row.off ∷ Row.off ∷ Row.off ∷ List.[];
+        }
+
         abbrev G24 : Row.Cx
-        G24 = record { locals = List._++_ t5 t17; slots = life1 ∷ life2 ∷ life0 ∷ life3 ∷ Row.off ∷ Row.off ∷ Row.off ∷ Row.off ∷ Row.off ∷ List.[]; }
+        G24 = record {
+          locals = List._++_ t5 t17;
+          slots = life1 ∷ life2 ∷ life0 ∷ life3 ∷ Row.off ∷ Row.off ∷ Row.off ∷ Row.off ∷ Row.off ∷ List.[];
+        }
+
         abbrev G25 : Row.Cx
-        G25 = record { locals = List._++_ t5 t18; slots = life1 ∷ life2 ∷ life0 ∷ life3 ∷ Row.off ∷ Row.off ∷ Row.off ∷ Row.off ∷ Row.off ∷ List.[]; }
+        G25 = record {
+          locals = List._++_ t5 t18;
+          slots = life1 ∷ life2 ∷ life0 ∷ life3 ∷ Row.off ∷ Row.off ∷ Row.off ∷ Row.off ∷ Row.off ∷ List.[];
+        }
+
         abbrev G26 : Row.Cx
-        G26 = record { locals = List._++_ t19 t18; slots = life1 ∷ life2 ∷ life0 ∷ life3 ∷ Row.off ∷ Row.off ∷ Row.off ∷ Row.off ∷ Row.off ∷ List.[];
-            }
+        G26 = record {
+          locals = List._++_ t19 t18;
+          slots = life1 ∷ life2 ∷ life0 ∷ life3 ∷ Row.off ∷ Row.off ∷ Row.off ∷ Row.off ∷ Row.off ∷ List.[];
+        }
+
         abbrev G27 : Row.Cx
-        G27 = record { locals = List._++_ t20 t18; slots = life1 ∷ life2 ∷ life0 ∷ life3 ∷ Row.off ∷ Row.off ∷ Row.off ∷ Row.off ∷ Row.off ∷ List.[];
-            }
+        G27 = record {
+          locals = List._++_ t20 t18;
+          slots = life1 ∷ life2 ∷ life0 ∷ life3 ∷ Row.off ∷ Row.off ∷ Row.off ∷ Row.off ∷ Row.off ∷ List.[];
+        }
+
         abbrev G28 : Row.Cx
-        G28 = record { locals = List._++_ t20 t21; slots = life1 ∷ life2 ∷ life0 ∷ life3 ∷ Row.off ∷ Row.off ∷ Row.off ∷ Row.off ∷ Row.off ∷ List.[];
-            }
+        G28 = record {
+          locals = List._++_ t20 t21;
+          slots = life1 ∷ life2 ∷ life0 ∷ life3 ∷ Row.off ∷ Row.off ∷ Row.off ∷ Row.off ∷ Row.off ∷ List.[];
+        }
+
         abbrev G29 : Row.Cx
-        G29 = record { locals = List._++_ t20 t1; slots = life1 ∷ life2 ∷ life0 ∷ life3 ∷ Row.off ∷ Row.off ∷ Row.off ∷ Row.off ∷ Row.off ∷ List.[]; }
+        G29 = record {
+          locals = List._++_ t20 t1;
+          slots = life1 ∷ life2 ∷ life0 ∷ life3 ∷ Row.off ∷ Row.off ∷ Row.off ∷ Row.off ∷ Row.off ∷ List.[];
+        }
+
         abbrev G30 : Row.Cx
-        G30 = record { locals = List._++_ t20 t1; slots = life1 ∷ life2 ∷ life0 ∷ life3 ∷ Row.off ∷ Row.alive ∷ Row.off ∷ Row.off ∷ Row.off ∷ List.[];
-            }
+        G30 = record {
+          locals = List._++_ t20 t1;
+          slots = life1 ∷ life2 ∷ life0 ∷ life3 ∷ Row.off ∷ Row.alive ∷ Row.off ∷ Row.off ∷ Row.off ∷ List.[];
+        }
+
         abbrev G31 : Row.Cx
-        G31 = record { locals = List._++_ g22 t23; slots = Row.off ∷ life2 ∷ life0 ∷ life3 ∷ Row.off ∷ Row.alive ∷ Row.off ∷ Row.off ∷ Row.off ∷
-            List.[]; }
+        G31 = record {
+          locals = List._++_ g22 t23;
+          slots = Row.off ∷ life2 ∷ life0 ∷ life3 ∷ Row.off ∷ Row.alive ∷ Row.off ∷ Row.off ∷ Row.off ∷ List.[];
+        }
+
         abbrev G32 : Row.Cx
-        G32 = record { locals = List._++_ g22 t24; slots = Row.off ∷ life2 ∷ life0 ∷ life3 ∷ Row.off ∷ Row.alive ∷ Row.off ∷ Row.off ∷ Row.off ∷
-            List.[]; }
+        G32 = record {
+          locals = List._++_ g22 t24;
+          slots = Row.off ∷ life2 ∷ life0 ∷ life3 ∷ Row.off ∷ Row.alive ∷ Row.off ∷ Row.off ∷ Row.off ∷ List.[];
+        }
+
         abbrev G33 : Row.Cx
-        G33 = record { locals = List._++_ g22 t24; slots = Row.off ∷ life2 ∷ life0 ∷ life3 ∷ Row.off ∷ Row.alive ∷ Row.alive ∷ Row.off ∷ Row.off ∷
-            List.[]; }
+        G33 = record {
+          locals = List._++_ g22 t24;
+          slots = Row.off ∷ life2 ∷ life0 ∷ life3 ∷ Row.off ∷ Row.alive ∷ Row.alive ∷ Row.off ∷ Row.off ∷ List.[];
+        }
+
         abbrev G34 : Row.Cx
-        G34 = record { locals = List._++_ g25 t26; slots = Row.off ∷ Row.off ∷ life0 ∷ life3 ∷ Row.off ∷ Row.alive ∷ Row.alive ∷ Row.off ∷ Row.off ∷
-            List.[]; }
+        G34 = record {
+          locals = List._++_ g25 t26;
+          slots = Row.off ∷ Row.off ∷ life0 ∷ life3 ∷ Row.off ∷ Row.alive ∷ Row.alive ∷ Row.off ∷ Row.off ∷ List.[];
+        }
+
         abbrev G35 : Row.Cx
-        G35 = record { locals = List._++_ g25 t27; slots = Row.off ∷ Row.off ∷ life0 ∷ life3 ∷ Row.off ∷ Row.alive ∷ Row.alive ∷ Row.off ∷ Row.off ∷
-            List.[]; }
+        G35 = record {
+          locals = List._++_ g25 t27;
+          slots = Row.off ∷ Row.off ∷ life0 ∷ life3 ∷ Row.off ∷ Row.alive ∷ Row.alive ∷ Row.off ∷ Row.off ∷ List.[];
+        }
+
         abbrev G36 : Row.Cx
-        G36 = record { locals = List._++_ g25 t27; slots = Row.off ∷ Row.off ∷ life0 ∷ life3 ∷ Row.off ∷ Row.alive ∷ Row.alive ∷ Row.alive ∷ Row.off ∷
-            List.[]; }
+        G36 = record {
+          locals = List._++_ g25 t27;
+          slots = Row.off ∷ Row.off ∷ life0 ∷ life3 ∷ Row.off ∷ Row.alive ∷ Row.alive ∷ Row.alive ∷ Row.off ∷ List.[];
+        }
+
         abbrev G37 : Row.Cx
-        G37 = record { locals = List._++_ g28 t29; slots = Row.off ∷ Row.off ∷ Row.off ∷ life3 ∷ Row.off ∷ Row.alive ∷ Row.alive ∷ Row.alive ∷ Row.off
-            ∷ List.[]; }
+        G37 = record {
+          locals = List._++_ g28 t29;
+          slots = Row.off ∷ Row.off ∷ Row.off ∷ life3 ∷ Row.off ∷ Row.alive ∷ Row.alive ∷ Row.alive ∷ Row.off ∷ List.[];
+        }
+
         abbrev G38 : Row.Cx
-        G38 = record { locals = List._++_ g28 t30; slots = Row.off ∷ Row.off ∷ Row.off ∷ life3 ∷ Row.off ∷ Row.alive ∷ Row.alive ∷ Row.alive ∷ Row.off
-            ∷ List.[]; }
+        G38 = record {
+          locals = List._++_ g28 t30;
+          slots = Row.off ∷ Row.off ∷ Row.off ∷ life3 ∷ Row.off ∷ Row.alive ∷ Row.alive ∷ Row.alive ∷ Row.off ∷ List.[];
+        }
+
         abbrev G39 : Row.Cx
-        G39 = record { locals = List._++_ g28 t30; slots = Row.off ∷ Row.off ∷ Row.off ∷ life3 ∷ Row.off ∷ Row.alive ∷ Row.alive ∷ Row.alive ∷
-            Row.alive ∷ List.[]; }
+        G39 = record {
+          locals = List._++_ g28 t30;
+          slots = Row.off ∷ Row.off ∷ Row.off ∷ life3 ∷ Row.off ∷ Row.alive ∷ Row.alive ∷ Row.alive ∷ Row.alive ∷
+              List.[];
+        }
+
         abbrev G40 : Row.Cx
-        G40 = record { locals = List._++_ g31 t32; slots = Row.off ∷ Row.off ∷ Row.off ∷ Row.off ∷ Row.off ∷ Row.alive ∷ Row.alive ∷ Row.alive ∷
-            Row.alive ∷ List.[]; }
+        G40 = record {
+          locals = List._++_ g31 t32;
+          slots = Row.off ∷ Row.off ∷ Row.off ∷ Row.off ∷ Row.off ∷ Row.alive ∷ Row.alive ∷ Row.alive ∷ Row.alive ∷
+              List.[];
+        }
+
         abbrev G41 : Row.Cx
-        G41 = record { locals = List._++_ g31 t33; slots = Row.off ∷ Row.off ∷ Row.off ∷ Row.off ∷ Row.off ∷ Row.alive ∷ Row.alive ∷ Row.alive ∷
-            Row.alive ∷ List.[]; }
+        G41 = record {
+          locals = List._++_ g31 t33;
+          slots = Row.off ∷ Row.off ∷ Row.off ∷ Row.off ∷ Row.off ∷ Row.alive ∷ Row.alive ∷ Row.alive ∷ Row.alive ∷
+              List.[];
+        }
+
         abbrev G42 : Row.Cx
-        G42 = record { locals = List._++_ g34 t35; slots = Row.off ∷ Row.off ∷ Row.off ∷ Row.off ∷ Row.off ∷ Row.alive ∷ Row.alive ∷ Row.alive ∷
-            Row.alive ∷ List.[]; }
+        G42 = record {
+          locals = List._++_ g34 t35;
+          slots = Row.off ∷ Row.off ∷ Row.off ∷ Row.off ∷ Row.off ∷ Row.alive ∷ Row.alive ∷ Row.alive ∷ Row.alive ∷
+              List.[];
+        }
+
         abbrev G43 : Row.Cx
-        G43 = record { locals = List._++_ g36 t35; slots = Row.off ∷ Row.off ∷ Row.off ∷ Row.off ∷ Row.off ∷ Row.alive ∷ Row.alive ∷ Row.alive ∷
-            Row.alive ∷ List.[]; }
+        G43 = record {
+          locals = List._++_ g36 t35;
+          slots = Row.off ∷ Row.off ∷ Row.off ∷ Row.off ∷ Row.off ∷ Row.alive ∷ Row.alive ∷ Row.alive ∷ Row.alive ∷
+              List.[];
+        }
+
         abbrev G44 : Row.Cx
-        G44 = record { locals = List._++_ g37 t35; slots = Row.off ∷ Row.off ∷ Row.off ∷ Row.off ∷ Row.off ∷ Row.alive ∷ Row.alive ∷ Row.alive ∷
-            Row.alive ∷ List.[]; }
+        G44 = record {
+          locals = List._++_ g37 t35;
+          slots = Row.off ∷ Row.off ∷ Row.off ∷ Row.off ∷ Row.off ∷ Row.alive ∷ Row.alive ∷ Row.alive ∷ Row.alive ∷
+              List.[];
+        }
+
         abbrev G45 : Row.Cx
-        G45 = record { locals = List._++_ g38 t35; slots = Row.off ∷ Row.off ∷ Row.off ∷ Row.off ∷ Row.off ∷ Row.alive ∷ Row.alive ∷ Row.alive ∷
-            Row.alive ∷ List.[]; }
+        G45 = record {
+          locals = List._++_ g38 t35;
+          slots = Row.off ∷ Row.off ∷ Row.off ∷ Row.off ∷ Row.off ∷ Row.alive ∷ Row.alive ∷ Row.alive ∷ Row.alive ∷
+              List.[];
+        }
+
         abbrev G46 : Row.Cx
-        G46 = record { locals = List._++_ g39 t35; slots = Row.off ∷ Row.off ∷ Row.off ∷ Row.off ∷ Row.off ∷ Row.alive ∷ Row.alive ∷ Row.alive ∷
-            Row.alive ∷ List.[]; }
+        G46 = record {
+          locals = List._++_ g39 t35;
+          slots = Row.off ∷ Row.off ∷ Row.off ∷ Row.off ∷ Row.off ∷ Row.alive ∷ Row.alive ∷ Row.alive ∷ Row.alive ∷
+              List.[];
+        }
+
         abbrev G47 : Row.Cx
-        G47 = record { locals = List._++_ g39 t35; slots = Row.off ∷ Row.off ∷ Row.off ∷ Row.off ∷ Row.off ∷ Row.dead ∷ Row.alive ∷ Row.alive ∷
-            Row.alive ∷ List.[]; }
+        G47 = record {
+          locals = List._++_ g39 t35;
+          slots = Row.off ∷ Row.off ∷ Row.off ∷ Row.off ∷ Row.off ∷ Row.dead ∷ Row.alive ∷ Row.alive ∷ Row.alive ∷
+              List.[];
+        }
+
         abbrev G48 : Row.Cx
-        G48 = record { locals = List._++_ g40 t41; slots = life1 ∷ Row.off ∷ Row.off ∷ Row.off ∷ Row.off ∷ Row.dead ∷ Row.alive ∷ Row.alive ∷
-            Row.alive ∷ List.[]; }
+        G48 = record {
+          locals = List._++_ g40 t41;
+          slots = life1 ∷ Row.off ∷ Row.off ∷ Row.off ∷ Row.off ∷ Row.dead ∷ Row.alive ∷ Row.alive ∷ Row.alive ∷
+              List.[];
+        }
+
         abbrev G49 : Row.Cx
-        G49 = record { locals = List._++_ g40 t41; slots = life1 ∷ Row.off ∷ Row.off ∷ Row.off ∷ Row.off ∷ Row.off ∷ Row.alive ∷ Row.alive ∷ Row.alive
-            ∷ List.[]; }
+        G49 = record {
+          locals = List._++_ g40 t41;
+          slots = life1 ∷ Row.off ∷ Row.off ∷ Row.off ∷ Row.off ∷ Row.off ∷ Row.alive ∷ Row.alive ∷ Row.alive ∷ List.[];
+        }
+
         abbrev G50 : Row.Cx
-        G50 = record { locals = List._++_ g40 t41; slots = life1 ∷ Row.off ∷ Row.off ∷ Row.off ∷ Row.off ∷ Row.off ∷ Row.dead ∷ Row.alive ∷ Row.alive
-            ∷ List.[]; }
+        G50 = record {
+          locals = List._++_ g40 t41;
+          slots = life1 ∷ Row.off ∷ Row.off ∷ Row.off ∷ Row.off ∷ Row.off ∷ Row.dead ∷ Row.alive ∷ Row.alive ∷ List.[];
+        }
+
         abbrev G51 : Row.Cx
-        G51 = record { locals = List._++_ g42 t43; slots = life1 ∷ life2 ∷ Row.off ∷ Row.off ∷ Row.off ∷ Row.off ∷ Row.dead ∷ Row.alive ∷ Row.alive ∷
-            List.[]; }
+        G51 = record {
+          locals = List._++_ g42 t43;
+          slots = life1 ∷ life2 ∷ Row.off ∷ Row.off ∷ Row.off ∷ Row.off ∷ Row.dead ∷ Row.alive ∷ Row.alive ∷ List.[];
+        }
+
         abbrev G52 : Row.Cx
-        G52 = record { locals = List._++_ g42 t43; slots = life1 ∷ life2 ∷ Row.off ∷ Row.off ∷ Row.off ∷ Row.off ∷ Row.off ∷ Row.alive ∷ Row.alive ∷
-            List.[]; }
+        G52 = record {
+          locals = List._++_ g42 t43;
+          slots = life1 ∷ life2 ∷ Row.off ∷ Row.off ∷ Row.off ∷ Row.off ∷ Row.off ∷ Row.alive ∷ Row.alive ∷ List.[];
+        }
+
         abbrev G53 : Row.Cx
-        G53 = record { locals = List._++_ g42 t43; slots = life1 ∷ life2 ∷ Row.off ∷ Row.off ∷ Row.off ∷ Row.off ∷ Row.off ∷ Row.dead ∷ Row.alive ∷
-            List.[]; }
+        G53 = record {
+          locals = List._++_ g42 t43;
+          slots = life1 ∷ life2 ∷ Row.off ∷ Row.off ∷ Row.off ∷ Row.off ∷ Row.off ∷ Row.dead ∷ Row.alive ∷ List.[];
+        }
+
         abbrev G54 : Row.Cx
-        G54 = record { locals = List._++_ g44 t45; slots = life1 ∷ life2 ∷ life0 ∷ Row.off ∷ Row.off ∷ Row.off ∷ Row.off ∷ Row.dead ∷ Row.alive ∷
-            List.[]; }
+        G54 = record {
+          locals = List._++_ g44 t45;
+          slots = life1 ∷ life2 ∷ life0 ∷ Row.off ∷ Row.off ∷ Row.off ∷ Row.off ∷ Row.dead ∷ Row.alive ∷ List.[];
+        }
+
         abbrev G55 : Row.Cx
-        G55 = record { locals = List._++_ g44 t45; slots = life1 ∷ life2 ∷ life0 ∷ Row.off ∷ Row.off ∷ Row.off ∷ Row.off ∷ Row.off ∷ Row.alive ∷
-            List.[]; }
+        G55 = record {
+          locals = List._++_ g44 t45;
+          slots = life1 ∷ life2 ∷ life0 ∷ Row.off ∷ Row.off ∷ Row.off ∷ Row.off ∷ Row.off ∷ Row.alive ∷ List.[];
+        }
+
         abbrev G56 : Row.Cx
-        G56 = record { locals = List._++_ g44 t45; slots = life1 ∷ life2 ∷ life0 ∷ Row.off ∷ Row.off ∷ Row.off ∷ Row.off ∷ Row.off ∷ Row.dead ∷
-            List.[]; }
+        G56 = record {
+          locals = List._++_ g44 t45;
+          slots = life1 ∷ life2 ∷ life0 ∷ Row.off ∷ Row.off ∷ Row.off ∷ Row.off ∷ Row.off ∷ Row.dead ∷ List.[];
+        }
+
         abbrev G57 : Row.Cx
-        G57 = record { locals = List._++_ t16 t1; slots = life1 ∷ life2 ∷ life0 ∷ life3 ∷ Row.off ∷ Row.off ∷ Row.off ∷ Row.off ∷ Row.dead ∷ List.[];
-            }
+        G57 = record {
+          locals = List._++_ t16 t1;
+          slots = life1 ∷ life2 ∷ life0 ∷ life3 ∷ Row.off ∷ Row.off ∷ Row.off ∷ Row.off ∷ Row.dead ∷ List.[];
+        }
+
         abbrev G58 : Row.Cx
-        G58 = record { locals = List._++_ t16 t1; slots = life1 ∷ life2 ∷ life0 ∷ life3 ∷ Row.off ∷ Row.off ∷ Row.off ∷ Row.off ∷ Row.dead ∷ List.[];
-            }
+        G58 = record {
+          locals = List._++_ t16 t1;
+          slots = life1 ∷ life2 ∷ life0 ∷ life3 ∷ Row.off ∷ Row.off ∷ Row.off ∷ Row.off ∷ Row.dead ∷ List.[];
+        }
+
         abbrev G59 : Row.Cx
-        G59 = record { locals = List._++_ t16 t1; slots = life1 ∷ life2 ∷ life0 ∷ life3 ∷ Row.off ∷ Row.off ∷ Row.off ∷ Row.off ∷ Row.off ∷ List.[]; }
+        G59 = record {
+          locals = List._++_ t16 t1;
+          slots = life1 ∷ life2 ∷ life0 ∷ life3 ∷ Row.off ∷ Row.off ∷ Row.off ∷ Row.off ∷ Row.off ∷ List.[];
+        }
+
         abbrev G60 : Row.Cx
-        G60 = record { locals = List._++_ t2 t1; slots = life1 ∷ life2 ∷ life0 ∷ life3 ∷ Row.off ∷ Row.off ∷ Row.off ∷ Row.off ∷ Row.off ∷ List.[]; }
+        G60 = record {
+          locals = List._++_ t2 t1;
+          slots = life1 ∷ life2 ∷ life0 ∷ life3 ∷ Row.off ∷ Row.off ∷ Row.off ∷ Row.off ∷ Row.off ∷ List.[];
+        }
+
         abbrev Δ0 : Typed.Outs
         Δ0 = record { next = Option.none; exits = List.[]; returns = Option.some G1 }
+
         abbrev Δ1 : Typed.Outs
         Δ1 = Typed.withNext (Option.some G15) Δ0
-        module _ { M : Type 1 } (𝓤 : URA.URA M) (H : Wp.Heap 𝓤) (A : Atoms.Atoms 𝓤) (W : Kit.Given 𝓤 H A) (𝓣 : Wp.Tables 𝓤 H) (known : Knowns 𝓤 H A W
-            𝓣) (bs : List.List Nat.ℕ) (bd : Lifetimes.AllOutlive 4 (Kinds.osR r) κs) where
+
+        module _ {M : Type 1} (𝓤 : URA.URA M) (H : Wp.Heap 𝓤) (A : Atoms.Atoms 𝓤) (W : Kit.Given 𝓤 H A)
+            (𝓣 : Wp.Tables 𝓤 H) (known : Knowns 𝓤 H A W 𝓣) (bs : List.List Nat.ℕ)
+            (bd : Lifetimes.AllOutlive 4 (Kinds.osR r) κs) where
           abbrev E : Wp.Env 𝓤 H
           E = Frame.EnvOf 𝓤 H ((Kinds.tyR r) ∷ (Enter.tysP ps xs)) bs
+
           d0 : Typed.Typed 𝓤 H A 𝓣 E G22 b7 Δ1 at0
           d0 = Typed.t-return 𝓤 H A W 𝓣 E Δ1 tt
+
           d1 : Typed.Typed 𝓤 H A 𝓣 E G21 b7 Δ1 at1
-          d1 = Typed.g-pre 𝓤 H A W 𝓣 E G21 G22 b7 Δ1 (Typed.pass T21 T22 s19) at0 (Scalar.g-room 𝓤 H A W E G21 7 Syntax.tyBool (Scalar.room-sc 𝓤 H A W
-              Row.sBool)) d0
+          d1 = Typed.g-pre 𝓤 H A W 𝓣 E G21 G22 b7 Δ1 (Typed.pass T21 T22 s19) at0 (Scalar.g-room 𝓤 H A W E G21 7
+              Syntax.tyBool (Scalar.room-sc 𝓤 H A W Row.sBool)) d0
+
           d2 : Typed.Typed 𝓤 H A 𝓣 E G20 b7 Δ1 at2
-          d2 = Typed.g-pre 𝓤 H A W 𝓣 E G20 G21 b7 Δ1 (Typed.pass T20 T21 s18) at1 (Scalar.g-room 𝓤 H A W E G20 10 Laws'''''.mir (Local.room-whole 𝓤 H
-              A W (Declared'.row OpaqueRelayRuntime.the-type) Laws'''''.mir Path.refl)) d1
+          d2 = Typed.g-pre 𝓤 H A W 𝓣 E G20 G21 b7 Δ1 (Typed.pass T20 T21 s18) at1 (Scalar.g-room 𝓤 H A W E G20 10
+              Laws'''''.mir (Local.room-whole 𝓤 H A W (Declared'.row OpaqueRelayRuntime.the-type) Laws'''''.mir
+              Path.refl)) d1
+
           d3 : Typed.Typed 𝓤 H A 𝓣 E G19 b7 Δ1 at3
-          d3 = Typed.g-pre 𝓤 H A W 𝓣 E G19 G20 b7 Δ1 (Typed.pass T19 T20 s17) at2 (Scalar.g-room 𝓤 H A W E G19 6 Laws'.mir (Local.room-whole 𝓤 H A W
-              (Declared'.row Places.the-type) Laws'.mir Path.refl)) d2
+          d3 = Typed.g-pre 𝓤 H A W 𝓣 E G19 G20 b7 Δ1 (Typed.pass T19 T20 s17) at2 (Scalar.g-room 𝓤 H A W E G19 6
+              Laws'.mir (Local.room-whole 𝓤 H A W (Declared'.row Places.the-type) Laws'.mir Path.refl)) d2
+
           d4 : Typed.Typed 𝓤 H A 𝓣 E G18 b8 Δ1 at4
-          d4 = Typed.s-seq 𝓤 H A W 𝓣 E G18 G19 b6 b7 Δ1 (Typed.both s16) at3 (Plain.t-call-plain 𝓤 H A W 𝓣 0 ps·3 r·3 (claims· .6) (claims· .7)
-              "hnsr_circuit::revoking_calls::taken_with" (known .3) E (λ pos β. β) G18 (record { pos = 10; st = List.[]; d = 0; at = λ x. x }, (record
-              { pos = 6; st = List.[]; d = 0; at = λ x. x }, tt),) 0 List.[] (Call.sub-id 𝓤 H A W (G18 .slots)) ((Yields.yields-copy 𝓤 H A W (λ ρ.
-              Unit) (Declared'.row OpaqueRelayRuntime.the-type) Path.refl (Copies.cStruct OpaqueRelayRuntime.the-type Laws'''''.the-laws
-              Laws'''''.the-copy .copy 𝓤 H A W) (Rows.whole (Declared'.row OpaqueRelayRuntime.the-type)) (λ x. x) (λ x. x) (λ ρ told. Local.mem-whole
-              𝓤 H A W (Declared'.row OpaqueRelayRuntime.the-type) ρ) λ ρ told. Local.whole-mem 𝓤 H A W (Declared'.row OpaqueRelayRuntime.the-type) ρ,
-              Path.refl,), ((Yields.yields-copy 𝓤 H A W (λ ρ. Unit) (Declared'.row Places.the-type) Path.refl (Copies.cStruct Places.the-type
-              Laws'.the-laws Laws'.the-copy .copy 𝓤 H A W) (Rows.whole (Declared'.row Places.the-type)) (λ x. x) (λ x. x) (λ ρ told. Local.mem-whole 𝓤
-              H A W (Declared'.row Places.the-type) ρ) λ ρ told. Local.whole-mem 𝓤 H A W (Declared'.row Places.the-type) ρ, Path.refl,), tt,),)
-              (Reads.room-gone 𝓤 H A Laws''''''.mir) tt Path.refl) d3
+          d4 = Typed.s-seq 𝓤 H A W 𝓣 E G18 G19 b6 b7 Δ1 (Typed.both s16) at3 (Plain.t-call-plain 𝓤 H A W 𝓣 0 ps·3 r·3
+              (claims· .6) (claims· .7) "hnsr_circuit::revoking_calls::taken_with" (known .3) E (λ pos β. β) G18 (
+                record { pos = 10; st = List.[]; d = 0; at = λ x. x },
+                (record { pos = 6; st = List.[]; d = 0; at = λ x. x }, tt),
+              ) 0 List.[] (Call.sub-id 𝓤 H A W (G18 .slots)) (
+                (
+                  Yields.yields-copy 𝓤 H A W (λ ρ. Unit) (Declared'.row OpaqueRelayRuntime.the-type) Path.refl (Copies.cStruct
+                      OpaqueRelayRuntime.the-type Laws'''''.the-laws Laws'''''.the-copy .copy 𝓤 H A W)
+                      (Rows.whole (Declared'.row OpaqueRelayRuntime.the-type)) (λ x. x) (λ x. x) (λ ρ told.
+                      Local.mem-whole 𝓤 H A W (Declared'.row OpaqueRelayRuntime.the-type) ρ) λ ρ told. Local.whole-mem
+                      𝓤 H A W (Declared'.row OpaqueRelayRuntime.the-type) ρ,
+                  Path.refl,
+                ),
+                (
+                  (
+                    Yields.yields-copy 𝓤 H A W (λ ρ. Unit) (Declared'.row Places.the-type) Path.refl (Copies.cStruct
+                        Places.the-type Laws'.the-laws Laws'.the-copy .copy 𝓤 H A W)
+                        (Rows.whole (Declared'.row Places.the-type)) (λ x. x) (λ x. x) (λ ρ told. Local.mem-whole 𝓤 H A
+                        W (Declared'.row Places.the-type) ρ) λ ρ told. Local.whole-mem 𝓤 H A W
+                        (Declared'.row Places.the-type) ρ,
+                    Path.refl,
+                  ),
+                  tt,
+                ),
+              ) (Reads.room-gone 𝓤 H A Laws''''''.mir) tt Path.refl) d3
+
           d5 : Typed.Typed 𝓤 H A 𝓣 E G17 b8 Δ1 at5
-          d5 = Typed.g-pre 𝓤 H A W 𝓣 E G17 G18 b8 Δ1 (Typed.pass T17 T18 s15) at4 (Scalar.g-room 𝓤 H A W E G17 15 Syntax.tyBool (Scalar.room-sc 𝓤 H A
-              W Row.sBool)) d4
+          d5 = Typed.g-pre 𝓤 H A W 𝓣 E G17 G18 b8 Δ1 (Typed.pass T17 T18 s15) at4 (Scalar.g-room 𝓤 H A W E G17 15
+              Syntax.tyBool (Scalar.room-sc 𝓤 H A W Row.sBool)) d4
+
           d6 : Typed.Typed 𝓤 H A 𝓣 E G16 b8 Δ1 at6
-          d6 = Typed.g-pre 𝓤 H A W 𝓣 E G16 G17 b8 Δ1 (Typed.pass T16 T17 s14) at5 (Scalar.g-room 𝓤 H A W E G16 9 Laws''.mir (Local.room-whole 𝓤 H A W
-              (Declared'.row Question.the-type) Laws''.mir Path.refl)) d5
+          d6 = Typed.g-pre 𝓤 H A W 𝓣 E G16 G17 b8 Δ1 (Typed.pass T16 T17 s14) at5 (Scalar.g-room 𝓤 H A W E G16 9
+              Laws''.mir (Local.room-whole 𝓤 H A W (Declared'.row Question.the-type) Laws''.mir Path.refl)) d5
+
           d7 : Typed.Typed 𝓤 H A 𝓣 E G14 b8 Δ1 at7
-          d7 = Typed.g-pre 𝓤 H A W 𝓣 E G14 G16 b8 Δ1 (Typed.pass T14 T16 s13) at6 (Scalar.g-room 𝓤 H A W E G14 8 Laws'''.mir (Local.room-whole 𝓤 H A W
-              (Declared'.row Firsts.the-type) Laws'''.mir Path.refl)) d6
+          d7 = Typed.g-pre 𝓤 H A W 𝓣 E G14 G16 b8 Δ1 (Typed.pass T14 T16 s13) at6 (Scalar.g-room 𝓤 H A W E G14 8
+              Laws'''.mir (Local.room-whole 𝓤 H A W (Declared'.row Firsts.the-type) Laws'''.mir Path.refl)) d6
+
           d8 : Typed.Typed 𝓤 H A 𝓣 E G23 b9 Δ1 at8
           d8 = Typed.t-skip 𝓤 H A W 𝓣 E Δ1 tt
+
           d9 : Typed.Typed 𝓤 H A 𝓣 E G14 b9 Δ1 at9
-          d9 = Typed.g-pre 𝓤 H A W 𝓣 E G14 G23 b9 Δ1 (Typed.pass T14 T23 s20) at8 (Scalar.g-room 𝓤 H A W E G14 15 Syntax.tyBool (Scalar.room-sc 𝓤 H A
-              W Row.sBool)) d8
+          d9 = Typed.g-pre 𝓤 H A W 𝓣 E G14 G23 b9 Δ1 (Typed.pass T14 T23 s20) at8 (Scalar.g-room 𝓤 H A W E G14 15
+              Syntax.tyBool (Scalar.room-sc 𝓤 H A W Row.sBool)) d8
+
           d10 : Typed.Typed 𝓤 H A 𝓣 E G14 b10 Δ1 at10
-          d10 = Scalar.t-cond 𝓤 H A W E 𝓣 G14 15 (λ x. x) b8 b9 Δ1 at7 at9 (Scalar.reads-sc 𝓤 H A W Row.sBool) Path.refl d7 d9
+          d10 = Scalar.t-cond 𝓤 H A W E 𝓣 G14 15 (λ x. x) b8 b9 Δ1 at7 at9 (Scalar.reads-sc 𝓤 H A W Row.sBool)
+              Path.refl d7 d9
+
           d11 : Typed.Typed 𝓤 H A 𝓣 E G60 b23 Δ0 at11
           d11 = Typed.t-return 𝓤 H A W 𝓣 E Δ0 tt
+
           d12 : Typed.Typed 𝓤 H A 𝓣 E G59 b23 Δ0 at12
-          d12 = Typed.g-pre 𝓤 H A W 𝓣 E G59 G60 b23 Δ0 (Typed.pass T58 T60 s57) at11 (Scalar.g-room 𝓤 H A W E G59 7 Syntax.tyBool (Scalar.room-sc 𝓤 H
-              A W Row.sBool)) d11
+          d12 = Typed.g-pre 𝓤 H A W 𝓣 E G59 G60 b23 Δ0 (Typed.pass T58 T60 s57) at11 (Scalar.g-room 𝓤 H A W E G59 7
+              Syntax.tyBool (Scalar.room-sc 𝓤 H A W Row.sBool)) d11
+
           d13 : Typed.Typed 𝓤 H A 𝓣 E G58 b23 Δ0 at13
-          d13 = Typed.g-pre 𝓤 H A W 𝓣 E G58 G59 b23 Δ0 (λ Ψ. Ψ) at12 (Lifetime.g-forget 𝓤 H A W E G58 8 Row.dead Path.refl) d12
+          d13 = Typed.g-pre 𝓤 H A W 𝓣 E G58 G59 b23 Δ0 (λ Ψ. Ψ) at12
+              (Lifetime.g-forget 𝓤 H A W E G58 8 Row.dead Path.refl) d12
+
           d14 : Typed.Typed 𝓤 H A 𝓣 E G57 b23 Δ0 at14
-          d14 = Typed.g-pre 𝓤 H A W 𝓣 E G57 G58 b23 Δ0 (Typed.give s55) at13 (Know.g-sl-known 𝓤 H A W (Referent.fInt Syntax.w32) E G57 4 3 ref7 life3
-              0 (λ x. x) record { fits = Dec.lit< tt } (Reads.as-is 𝓤 H A (Mut.mslice (Referent.rtF (Referent.fInt Syntax.w32)) ref7 3)) Path.refl tt)
-              d13
+          d14 = Typed.g-pre 𝓤 H A W 𝓣 E G57 G58 b23 Δ0 (Typed.give s55) at13 (Know.g-sl-known 𝓤 H A W
+              (Referent.fInt Syntax.w32) E G57 4 3 ref7 life3 0 (λ x. x) record { fits = Dec.lit< tt } (Reads.as-is 𝓤 H
+              A (Mut.mslice (Referent.rtF (Referent.fInt Syntax.w32)) ref7 3)) Path.refl tt) d13
+
           d15 : Typed.Typed 𝓤 H A 𝓣 E G56 b23 Δ0 at15
-          d15 = Typed.g-pre 𝓤 H A W 𝓣 E G56 G57 b23 Δ0 (Typed.both s54) at14 (Relend.g-back-sl 𝓤 H A W E (Referent.rtF (Referent.fInt Syntax.w32)) G56
-              25 4 3 8 ref7 ref3 life3 (λ x. x) (λ x. x) (Reads.as-is 𝓤 H A (Mut.msleft (Referent.rtF (Referent.fInt Syntax.w32)) ref3)) (Reads.as-is
-              𝓤 H A (Relend.mslice-owed (Referent.rtF (Referent.fInt Syntax.w32)) ref7 3 8 life3)) Path.refl Path.refl) d14
+          d15 = Typed.g-pre 𝓤 H A W 𝓣 E G56 G57 b23 Δ0 (Typed.both s54) at14 (Relend.g-back-sl 𝓤 H A W E
+              (Referent.rtF (Referent.fInt Syntax.w32)) G56 25 4 3 8 ref7 ref3 life3 (λ x. x) (λ x. x) (Reads.as-is 𝓤 H
+              A (Mut.msleft (Referent.rtF (Referent.fInt Syntax.w32)) ref3)) (Reads.as-is 𝓤 H A (Relend.mslice-owed
+              (Referent.rtF (Referent.fInt Syntax.w32)) ref7 3 8 life3)) Path.refl Path.refl) d14
+
           d16 : Typed.Typed 𝓤 H A 𝓣 E G55 b23 Δ0 at16
           d16 = Typed.g-pre 𝓤 H A W 𝓣 E G55 G56 b23 Δ0 (λ Ψ. Ψ) at15 (Lifetime.g-end 𝓤 H A W E G55 8 Path.refl) d15
+
           d17 : Typed.Typed 𝓤 H A 𝓣 E G54 b23 Δ0 at17
-          d17 = Typed.g-pre 𝓤 H A W 𝓣 E G54 G55 b23 Δ0 (λ Ψ. Ψ) at16 (Lifetime.g-forget 𝓤 H A W E G54 7 Row.dead Path.refl) d16
+          d17 = Typed.g-pre 𝓤 H A W 𝓣 E G54 G55 b23 Δ0 (λ Ψ. Ψ) at16
+              (Lifetime.g-forget 𝓤 H A W E G54 7 Row.dead Path.refl) d16
+
           d18 : Typed.Typed 𝓤 H A 𝓣 E G53 b23 Δ0 at18
-          d18 = Typed.g-pre 𝓤 H A W 𝓣 E G53 G54 b23 Δ0 (Typed.both s51) at17 (Relend.g-back-sl 𝓤 H A W E InflightAction.row G53 23 3 2 7 ref6 ref0
-              life0 (λ x. x) (λ x. x) (Reads.as-is 𝓤 H A (Mut.msleft InflightAction.row ref0)) (Reads.as-is 𝓤 H A (Relend.mslice-owed
-              InflightAction.row ref6 2 7 life0)) Path.refl Path.refl) d17
+          d18 = Typed.g-pre 𝓤 H A W 𝓣 E G53 G54 b23 Δ0 (Typed.both s51) at17 (Relend.g-back-sl 𝓤 H A W E
+              InflightAction.row G53 23 3 2 7 ref6 ref0 life0 (λ x. x) (λ x. x)
+              (Reads.as-is 𝓤 H A (Mut.msleft InflightAction.row ref0)) (Reads.as-is 𝓤 H A
+              (Relend.mslice-owed InflightAction.row ref6 2 7 life0)) Path.refl Path.refl) d17
+
           d19 : Typed.Typed 𝓤 H A 𝓣 E G52 b23 Δ0 at19
           d19 = Typed.g-pre 𝓤 H A W 𝓣 E G52 G53 b23 Δ0 (λ Ψ. Ψ) at18 (Lifetime.g-end 𝓤 H A W E G52 7 Path.refl) d18
+
           d20 : Typed.Typed 𝓤 H A 𝓣 E G51 b23 Δ0 at20
-          d20 = Typed.g-pre 𝓤 H A W 𝓣 E G51 G52 b23 Δ0 (λ Ψ. Ψ) at19 (Lifetime.g-forget 𝓤 H A W E G51 6 Row.dead Path.refl) d19
+          d20 = Typed.g-pre 𝓤 H A W 𝓣 E G51 G52 b23 Δ0 (λ Ψ. Ψ) at19
+              (Lifetime.g-forget 𝓤 H A W E G51 6 Row.dead Path.refl) d19
+
           d21 : Typed.Typed 𝓤 H A 𝓣 E G50 b23 Δ0 at21
-          d21 = Typed.g-pre 𝓤 H A W 𝓣 E G50 G51 b23 Δ0 (Typed.both s48) at20 (Relend.g-back-sl 𝓤 H A W E RelayCircuit.row G50 21 2 1 6 ref5 ref2 life2
-              (λ x. x) (λ x. x) (Reads.as-is 𝓤 H A (Mut.msleft RelayCircuit.row ref2)) (Reads.as-is 𝓤 H A (Relend.mslice-owed RelayCircuit.row ref5 1
-              6 life2)) Path.refl Path.refl) d20
+          d21 = Typed.g-pre 𝓤 H A W 𝓣 E G50 G51 b23 Δ0 (Typed.both s48) at20 (Relend.g-back-sl 𝓤 H A W E
+              RelayCircuit.row G50 21 2 1 6 ref5 ref2 life2 (λ x. x) (λ x. x)
+              (Reads.as-is 𝓤 H A (Mut.msleft RelayCircuit.row ref2)) (Reads.as-is 𝓤 H A
+              (Relend.mslice-owed RelayCircuit.row ref5 1 6 life2)) Path.refl Path.refl) d20
+
           d22 : Typed.Typed 𝓤 H A 𝓣 E G49 b23 Δ0 at22
           d22 = Typed.g-pre 𝓤 H A W 𝓣 E G49 G50 b23 Δ0 (λ Ψ. Ψ) at21 (Lifetime.g-end 𝓤 H A W E G49 6 Path.refl) d21
+
           d23 : Typed.Typed 𝓤 H A 𝓣 E G48 b23 Δ0 at23
-          d23 = Typed.g-pre 𝓤 H A W 𝓣 E G48 G49 b23 Δ0 (λ Ψ. Ψ) at22 (Lifetime.g-forget 𝓤 H A W E G48 5 Row.dead Path.refl) d22
+          d23 = Typed.g-pre 𝓤 H A W 𝓣 E G48 G49 b23 Δ0 (λ Ψ. Ψ) at22
+              (Lifetime.g-forget 𝓤 H A W E G48 5 Row.dead Path.refl) d22
+
           d24 : Typed.Typed 𝓤 H A 𝓣 E G47 b23 Δ0 at24
-          d24 = Typed.g-pre 𝓤 H A W 𝓣 E G47 G48 b23 Δ0 (Typed.both s45) at23 (Relend.g-back-sl 𝓤 H A W E RelayPending.row G47 19 1 0 5 ref4 ref1 life1
-              (λ x. x) (λ x. x) (Reads.as-is 𝓤 H A (Mut.msleft RelayPending.row ref1)) (Reads.as-is 𝓤 H A (Relend.mslice-owed RelayPending.row ref4 0
-              5 life1)) Path.refl Path.refl) d23
+          d24 = Typed.g-pre 𝓤 H A W 𝓣 E G47 G48 b23 Δ0 (Typed.both s45) at23 (Relend.g-back-sl 𝓤 H A W E
+              RelayPending.row G47 19 1 0 5 ref4 ref1 life1 (λ x. x) (λ x. x)
+              (Reads.as-is 𝓤 H A (Mut.msleft RelayPending.row ref1)) (Reads.as-is 𝓤 H A
+              (Relend.mslice-owed RelayPending.row ref4 0 5 life1)) Path.refl Path.refl) d23
+
           d25 : Typed.Typed 𝓤 H A 𝓣 E G46 b23 Δ0 at25
           d25 = Typed.g-pre 𝓤 H A W 𝓣 E G46 G47 b23 Δ0 (λ Ψ. Ψ) at24 (Lifetime.g-end 𝓤 H A W E G46 5 Path.refl) d24
+
           d26 : Typed.Typed 𝓤 H A 𝓣 E G45 b23 Δ0 at26
-          d26 = Typed.g-pre 𝓤 H A W 𝓣 E G45 G46 b23 Δ0 (Typed.pass T45 T46 s43) at25 (Scalar.g-room 𝓤 H A W E G45 11 Laws''''.mir (Local.room-whole 𝓤
-              H A W (Declared'.row Revoking.the-type) Laws''''.mir Path.refl)) d25
+          d26 = Typed.g-pre 𝓤 H A W 𝓣 E G45 G46 b23 Δ0 (Typed.pass T45 T46 s43) at25 (Scalar.g-room 𝓤 H A W E G45 11
+              Laws''''.mir (Local.room-whole 𝓤 H A W (Declared'.row Revoking.the-type) Laws''''.mir Path.refl)) d25
+
           d27 : Typed.Typed 𝓤 H A 𝓣 E G44 b23 Δ0 at27
-          d27 = Typed.g-pre 𝓤 H A W 𝓣 E G44 G45 b23 Δ0 (Typed.pass T44 T45 s42) at26 (Scalar.g-room 𝓤 H A W E G44 10 Laws'''''.mir (Local.room-whole 𝓤
-              H A W (Declared'.row OpaqueRelayRuntime.the-type) Laws'''''.mir Path.refl)) d26
+          d27 = Typed.g-pre 𝓤 H A W 𝓣 E G44 G45 b23 Δ0 (Typed.pass T44 T45 s42) at26 (Scalar.g-room 𝓤 H A W E G44 10
+              Laws'''''.mir (Local.room-whole 𝓤 H A W (Declared'.row OpaqueRelayRuntime.the-type) Laws'''''.mir
+              Path.refl)) d26
+
           d28 : Typed.Typed 𝓤 H A 𝓣 E G43 b23 Δ0 at28
-          d28 = Typed.g-pre 𝓤 H A W 𝓣 E G43 G44 b23 Δ0 (Typed.pass T43 T44 s41) at27 (Scalar.g-room 𝓤 H A W E G43 8 Laws'''.mir (Local.room-whole 𝓤 H
-              A W (Declared'.row Firsts.the-type) Laws'''.mir Path.refl)) d27
+          d28 = Typed.g-pre 𝓤 H A W 𝓣 E G43 G44 b23 Δ0 (Typed.pass T43 T44 s41) at27 (Scalar.g-room 𝓤 H A W E G43 8
+              Laws'''.mir (Local.room-whole 𝓤 H A W (Declared'.row Firsts.the-type) Laws'''.mir Path.refl)) d27
+
           d29 : Typed.Typed 𝓤 H A 𝓣 E G42 b23 Δ0 at29
-          d29 = Typed.g-pre 𝓤 H A W 𝓣 E G42 G43 b23 Δ0 (Typed.pass T42 T43 s40) at28 (Scalar.g-room 𝓤 H A W E G42 6 Laws'.mir (Local.room-whole 𝓤 H A
-              W (Declared'.row Places.the-type) Laws'.mir Path.refl)) d28
+          d29 = Typed.g-pre 𝓤 H A W 𝓣 E G42 G43 b23 Δ0 (Typed.pass T42 T43 s40) at28 (Scalar.g-room 𝓤 H A W E G42 6
+              Laws'.mir (Local.room-whole 𝓤 H A W (Declared'.row Places.the-type) Laws'.mir Path.refl)) d28
+
           d30 : Typed.Typed 𝓤 H A 𝓣 E G41 b24 Δ0 at30
-          d30 = Typed.s-seq 𝓤 H A W 𝓣 E G41 G42 b22 b23 Δ0 (Typed.both s39) at29 (Plain.t-call-plain 𝓤 H A W 𝓣 4 ps·5 r·5 (claims· .10) (claims· .11)
-              "hnsr_circuit::revocation::revoke_all" (known .5) E (λ pos β. β) G41 (record { pos = 19; ty = Syntax.tyRef Syntax.erased Syntax.mut
-              RelayPending.to; ref = λ x. x; }, (record { pos = 21; ty = Syntax.tyRef Syntax.erased Syntax.mut RelayCircuit.to; ref = λ x. x; },
-              (record { pos = 23; ty = Syntax.tyRef Syntax.erased Syntax.mut InflightAction.to; ref = λ x. x; }, (record { pos = 25; ty = Syntax.tyRef
-              Syntax.erased Syntax.mut (Syntax.tyInt Syntax.w32); ref = λ x. x; }, (record { pos = 10; st = List.[]; d = 0; at = λ x. x }, (record {
-              pos = 6; st = List.[]; d = 0; at = λ x. x }, (record { pos = 11; st = List.[]; d = 0; at = λ x. x }, (record { pos = 8; st = List.[]; d
-              = 0; at = λ x. x }, tt),),),),),),),) 0 (5 ∷ 6 ∷ 7 ∷ 8 ∷ List.[]) (Call.sub-id 𝓤 H A W (G41 .slots)) (Reads.as-is 𝓤 H A (Mut.mslice
-              RelayPending.row ref1 5), Mut.reads-mslice 𝓤 H A W RelayPending.row ref1 5, Path.refl, (Reads.as-is 𝓤 H A (Mut.mslice RelayCircuit.row
-              ref2 6), Mut.reads-mslice 𝓤 H A W RelayCircuit.row ref2 6, Path.refl, (Reads.as-is 𝓤 H A (Mut.mslice InflightAction.row ref0 7),
-              Mut.reads-mslice 𝓤 H A W InflightAction.row ref0 7, Path.refl, (Reads.as-is 𝓤 H A (Mut.mslice (Referent.rtF (Referent.fInt Syntax.w32))
-              ref3 8), Mut.reads-mslice 𝓤 H A W (Referent.rtF (Referent.fInt Syntax.w32)) ref3 8, Path.refl, ((Yields.yields-copy 𝓤 H A W (λ ρ. Unit)
-              (Declared'.row OpaqueRelayRuntime.the-type) Path.refl (Copies.cStruct OpaqueRelayRuntime.the-type Laws'''''.the-laws Laws'''''.the-copy
-              .copy 𝓤 H A W) (Rows.whole (Declared'.row OpaqueRelayRuntime.the-type)) (λ x. x) (λ x. x) (λ ρ told. Local.mem-whole 𝓤 H A W
-              (Declared'.row OpaqueRelayRuntime.the-type) ρ) λ ρ told. Local.whole-mem 𝓤 H A W (Declared'.row OpaqueRelayRuntime.the-type) ρ,
-              Path.refl,), ((Yields.yields-copy 𝓤 H A W (λ ρ. Unit) (Declared'.row Places.the-type) Path.refl (Copies.cStruct Places.the-type
-              Laws'.the-laws Laws'.the-copy .copy 𝓤 H A W) (Rows.whole (Declared'.row Places.the-type)) (λ x. x) (λ x. x) (λ ρ told. Local.mem-whole 𝓤
-              H A W (Declared'.row Places.the-type) ρ) λ ρ told. Local.whole-mem 𝓤 H A W (Declared'.row Places.the-type) ρ, Path.refl,),
-              ((Yields.yields-copy 𝓤 H A W (λ ρ. Unit) (Declared'.row Revoking.the-type) Path.refl (Copies.cStruct Revoking.the-type Laws''''.the-laws
-              Laws''''.the-copy .copy 𝓤 H A W) (Rows.whole (Declared'.row Revoking.the-type)) (λ x. x) (λ x. x) (λ ρ told. Local.mem-whole 𝓤 H A W
-              (Declared'.row Revoking.the-type) ρ) λ ρ told. Local.whole-mem 𝓤 H A W (Declared'.row Revoking.the-type) ρ, Path.refl,),
-              ((Yields.yields-copy 𝓤 H A W (λ ρ. Unit) (Declared'.row Firsts.the-type) Path.refl (Copies.cStruct Firsts.the-type Laws'''.the-laws
-              Laws'''.the-copy .copy 𝓤 H A W) (Rows.whole (Declared'.row Firsts.the-type)) (λ x. x) (λ x. x) (λ ρ told. Local.mem-whole 𝓤 H A W
-              (Declared'.row Firsts.the-type) ρ) λ ρ told. Local.whole-mem 𝓤 H A W (Declared'.row Firsts.the-type) ρ, Path.refl,), tt,),),),),),),),)
-              (Reads.room-gone 𝓤 H A Laws''''''.mir) (tt, (tt, (tt, (tt, tt)))) Path.refl) d29
+          d30 = Typed.s-seq 𝓤 H A W 𝓣 E G41 G42 b22 b23 Δ0 (Typed.both s39) at29 (Plain.t-call-plain 𝓤 H A W 𝓣 4 ps·5
+              r·5 (claims· .10) (claims· .11) "hnsr_circuit::revocation::revoke_all" (known .5) E (λ pos β. β) G41 (
+                record { pos = 19; ty = ref1; ref = λ x. x },
+                (
+                  record { pos = 21; ty = ref2; ref = λ x. x },
+                  (
+                    record { pos = 23; ty = ref0; ref = λ x. x },
+                    (
+                      record { pos = 25; ty = ref3; ref = λ x. x },
+                      (
+                        record { pos = 10; st = List.[]; d = 0; at = λ x. x },
+                        (
+                          record { pos = 6; st = List.[]; d = 0; at = λ x. x },
+                          (
+                            record { pos = 11; st = List.[]; d = 0; at = λ x. x },
+                            (record { pos = 8; st = List.[]; d = 0; at = λ x. x }, tt),
+                          ),
+                        ),
+                      ),
+                    ),
+                  ),
+                ),
+              ) 0 (5 ∷ 6 ∷ 7 ∷ 8 ∷ List.[]) (Call.sub-id 𝓤 H A W (G41 .slots)) (
+                Reads.as-is 𝓤 H A (Mut.mslice RelayPending.row ref1 5),
+                Mut.reads-mslice 𝓤 H A W RelayPending.row ref1 5,
+                Path.refl,
+                (
+                  Reads.as-is 𝓤 H A (Mut.mslice RelayCircuit.row ref2 6),
+                  Mut.reads-mslice 𝓤 H A W RelayCircuit.row ref2 6,
+                  Path.refl,
+                  (
+                    Reads.as-is 𝓤 H A (Mut.mslice InflightAction.row ref0 7),
+                    Mut.reads-mslice 𝓤 H A W InflightAction.row ref0 7,
+                    Path.refl,
+                    (
+                      Reads.as-is 𝓤 H A (Mut.mslice (Referent.rtF (Referent.fInt Syntax.w32)) ref3 8),
+                      Mut.reads-mslice 𝓤 H A W (Referent.rtF (Referent.fInt Syntax.w32)) ref3 8,
+                      Path.refl,
+                      (
+                        (
+                          Yields.yields-copy 𝓤 H A W (λ ρ. Unit) (Declared'.row OpaqueRelayRuntime.the-type) Path.refl (Copies.cStruct
+                              OpaqueRelayRuntime.the-type Laws'''''.the-laws Laws'''''.the-copy .copy 𝓤 H A W)
+                              (Rows.whole (Declared'.row OpaqueRelayRuntime.the-type)) (λ x. x) (λ x. x) (λ ρ told.
+                              Local.mem-whole 𝓤 H A W (Declared'.row OpaqueRelayRuntime.the-type) ρ) λ ρ told.
+                              Local.whole-mem 𝓤 H A W (Declared'.row OpaqueRelayRuntime.the-type) ρ,
+                          Path.refl,
+                        ),
+                        (
+                          (
+                            Yields.yields-copy 𝓤 H A W (λ ρ. Unit) (Declared'.row Places.the-type) Path.refl (Copies.cStruct
+                                Places.the-type Laws'.the-laws Laws'.the-copy .copy 𝓤 H A W)
+                                (Rows.whole (Declared'.row Places.the-type)) (λ x. x) (λ x. x) (λ ρ told.
+                                Local.mem-whole 𝓤 H A W (Declared'.row Places.the-type) ρ) λ ρ told. Local.whole-mem 𝓤
+                                H A W (Declared'.row Places.the-type) ρ,
+                            Path.refl,
+                          ),
+                          (
+                            (
+                              Yields.yields-copy 𝓤 H A W (λ ρ. Unit) (Declared'.row Revoking.the-type) Path.refl (Copies.cStruct
+                                  Revoking.the-type Laws''''.the-laws Laws''''.the-copy .copy 𝓤 H A W)
+                                  (Rows.whole (Declared'.row Revoking.the-type)) (λ x. x) (λ x. x) (λ ρ told.
+                                  Local.mem-whole 𝓤 H A W (Declared'.row Revoking.the-type) ρ) λ ρ told.
+                                  Local.whole-mem 𝓤 H A W (Declared'.row Revoking.the-type) ρ,
+                              Path.refl,
+                            ),
+                            (
+                              (
+                                Yields.yields-copy 𝓤 H A W (λ ρ. Unit) (Declared'.row Firsts.the-type) Path.refl (Copies.cStruct
+                                    Firsts.the-type Laws'''.the-laws Laws'''.the-copy .copy 𝓤 H A W)
+                                    (Rows.whole (Declared'.row Firsts.the-type)) (λ x. x) (λ x. x) (λ ρ told.
+                                    Local.mem-whole 𝓤 H A W (Declared'.row Firsts.the-type) ρ) λ ρ told.
+                                    Local.whole-mem 𝓤 H A W (Declared'.row Firsts.the-type) ρ,
+                                Path.refl,
+                              ),
+                              tt,
+                            ),
+                          ),
+                        ),
+                      ),
+                    ),
+                  ),
+                ),
+              ) (Reads.room-gone 𝓤 H A Laws''''''.mir) (tt, (tt, (tt, (tt, tt)))) Path.refl) d29
+
           d31 : Typed.Typed 𝓤 H A 𝓣 E G40 b25 Δ0 at31
-          d31 = Typed.s-seq 𝓤 H A W 𝓣 E G40 G41 b21 b24 Δ0 (Typed.ask s38) at30 (Relend.t-sl-aggregate 𝓤 H A W E (Referent.rtF (Referent.fInt
-              Syntax.w32)) 𝓣 (Relend.asMut (Referent.rtF (Referent.fInt Syntax.w32))) G40 24 25 8 ref3 ref3 (λ x. x) (Scalar.oFld 4 ((Syntax.field 1)
-              ∷ List.[]) (Syntax.tyInt Syntax.w64) 8 λ v. Shared.lenV (v .0)) (Reads.as-is 𝓤 H A (Relend.msptr (Referent.rtF (Referent.fInt
-              Syntax.w32)) ref3 8)) (Reads.room-gone 𝓤 H A (Syntax.tyStruct (38 ∷ 91 ∷ 93 ∷ List.[]) (Syntax.tcons ref3 (Syntax.tcons (Syntax.tyInt
-              Syntax.w64) Syntax.tnil)))) (Relend.reads-owed-len 𝓤 H A W (Referent.rtF (Referent.fInt Syntax.w32)) ref7 3 8 life3 8 Path.refl,
-              Path.refl,) Path.refl Path.refl λ b o k. tt) d30
+          d31 = Typed.s-seq 𝓤 H A W 𝓣 E G40 G41 b21 b24 Δ0 (Typed.ask s38) at30 (Relend.t-sl-aggregate 𝓤 H A W E
+              (Referent.rtF (Referent.fInt Syntax.w32)) 𝓣 (Relend.asMut (Referent.rtF (Referent.fInt Syntax.w32))) G40
+              24 25 8 ref3 ref3 (λ x. x) (Scalar.oFld 4 ((Syntax.field 1) ∷ List.[]) (Syntax.tyInt Syntax.w64) 8 λ v.
+              Shared.lenV (v .0)) (Reads.as-is 𝓤 H A (Relend.msptr (Referent.rtF (Referent.fInt Syntax.w32)) ref3 8))
+              (Reads.room-gone 𝓤 H A slice3) (
+                Relend.reads-owed-len 𝓤 H A W (Referent.rtF (Referent.fInt Syntax.w32)) ref7 3 8 life3 8 Path.refl,
+                Path.refl,
+              ) Path.refl Path.refl λ b o k. tt) d30
+
           d32 : Typed.Typed 𝓤 H A 𝓣 E G39 b26 Δ0 at32
-          d32 = Typed.s-seq 𝓤 H A W 𝓣 E G39 G40 b20 b25 Δ0 (Typed.give s37) at31 (Relend.t-sl-relend 𝓤 H A W E (Referent.rtF (Referent.fInt
-              Syntax.w32)) 𝓣 G39 4 24 3 8 ref7 ref3 life3 0 (λ x. x) (Reads.as-is 𝓤 H A (Mut.mslice (Referent.rtF (Referent.fInt Syntax.w32)) ref7 3))
-              (Reads.room-gone 𝓤 H A ref3) Path.refl tt Path.refl Path.refl Path.refl λ b o. tt) d31
+          d32 = Typed.s-seq 𝓤 H A W 𝓣 E G39 G40 b20 b25 Δ0 (Typed.give s37) at31 (Relend.t-sl-relend 𝓤 H A W E
+              (Referent.rtF (Referent.fInt Syntax.w32)) 𝓣 G39 4 24 3 8 ref7 ref3 life3 0 (λ x. x) (Reads.as-is 𝓤 H A (Mut.mslice
+              (Referent.rtF (Referent.fInt Syntax.w32)) ref7 3)) (Reads.room-gone 𝓤 H A ref3) Path.refl tt Path.refl
+              Path.refl Path.refl λ b o. tt) d31
+
           d33 : Typed.Typed 𝓤 H A 𝓣 E G38 b26 Δ0 at33
-          d33 = Typed.g-pre 𝓤 H A W 𝓣 E G38 G39 b26 Δ0 (λ Ψ. Ψ) at32 (Lifetime.g-begin 𝓤 H A W E G38 8 (tt, ((tt, tt), ((tt, tt), ((tt, tt), (tt, (tt,
-              (tt, (tt, (tt, (tt, (tt, (tt, (tt, (tt, (tt, (tt, (tt, (tt, (tt, (tt, (tt, (tt, (tt, (tt, (tt, (tt,
-              tt)))))),),),),),),),),),),),),),),),),),),),),)) d32
+          d33 = Typed.g-pre 𝓤 H A W 𝓣 E G38 G39 b26 Δ0 (λ Ψ. Ψ) at32 (Lifetime.g-begin 𝓤 H A W E G38 8 (
+            tt,
+            (
+              (tt, tt),
+              (
+                (tt, tt),
+                (
+                  (tt, tt),
+                  (
+                    tt,
+                    (
+                      tt,
+                      (
+                        tt,
+                        (
+                          tt,
+                          (
+                            tt,
+                            (
+                              tt,
+                              (
+                                tt,
+                                (
+                                  tt,
+                                  (
+                                    tt,
+                                    (tt, (tt, (tt, (tt, (tt, (tt, (tt, (tt, (tt, (tt, (tt, (tt, (tt, tt))))))))))))),
+                                  ),
+                                ),
+                              ),
+                            ),
+                          ),
+                        ),
+                      ),
+                    ),
+                  ),
+                ),
+              ),
+            ),
+          )) d32
+
           d34 : Typed.Typed 𝓤 H A 𝓣 E G37 b27 Δ0 at34
-          d34 = Typed.s-seq 𝓤 H A W 𝓣 E G37 G38 b19 b26 Δ0 (Typed.ask s35) at33 (Relend.t-sl-aggregate 𝓤 H A W E InflightAction.row 𝓣 (Relend.asMut
-              InflightAction.row) G37 22 23 7 ref0 ref0 (λ x. x) (Scalar.oFld 3 ((Syntax.field 1) ∷ List.[]) (Syntax.tyInt Syntax.w64) 8 λ v.
-              Shared.lenV (v .0)) (Reads.as-is 𝓤 H A (Relend.msptr InflightAction.row ref0 7)) (Reads.room-gone 𝓤 H A (Syntax.tyStruct (38 ∷ 91 ∷ 93 ∷
-              List.[]) (Syntax.tcons ref0 (Syntax.tcons (Syntax.tyInt Syntax.w64) Syntax.tnil)))) (Relend.reads-owed-len 𝓤 H A W InflightAction.row
-              ref6 2 7 life0 8 Path.refl, Path.refl,) Path.refl Path.refl λ b o k. tt) d33
+          d34 = Typed.s-seq 𝓤 H A W 𝓣 E G37 G38 b19 b26 Δ0 (Typed.ask s35) at33 (Relend.t-sl-aggregate 𝓤 H A W E
+              InflightAction.row 𝓣 (Relend.asMut InflightAction.row) G37 22 23 7 ref0 ref0 (λ x. x) (Scalar.oFld 3
+              ((Syntax.field 1) ∷ List.[]) (Syntax.tyInt Syntax.w64) 8 λ v. Shared.lenV (v .0)) (Reads.as-is 𝓤 H A
+              (Relend.msptr InflightAction.row ref0 7)) (Reads.room-gone 𝓤 H A slice0) (
+                Relend.reads-owed-len 𝓤 H A W InflightAction.row ref6 2 7 life0 8 Path.refl,
+                Path.refl,
+              ) Path.refl Path.refl λ b o k. tt) d33
+
           d35 : Typed.Typed 𝓤 H A 𝓣 E G36 b28 Δ0 at35
-          d35 = Typed.s-seq 𝓤 H A W 𝓣 E G36 G37 b18 b27 Δ0 (Typed.give s34) at34 (Relend.t-sl-relend 𝓤 H A W E InflightAction.row 𝓣 G36 3 22 2 7 ref6
-              ref0 life0 0 (λ x. x) (Reads.as-is 𝓤 H A (Mut.mslice InflightAction.row ref6 2)) (Reads.room-gone 𝓤 H A ref0) Path.refl tt Path.refl
-              Path.refl Path.refl λ b o. tt) d34
+          d35 = Typed.s-seq 𝓤 H A W 𝓣 E G36 G37 b18 b27 Δ0 (Typed.give s34) at34 (Relend.t-sl-relend 𝓤 H A W E
+              InflightAction.row 𝓣 G36 3 22 2 7 ref6 ref0 life0 0 (λ x. x)
+              (Reads.as-is 𝓤 H A (Mut.mslice InflightAction.row ref6 2)) (Reads.room-gone 𝓤 H A ref0) Path.refl tt
+              Path.refl Path.refl Path.refl λ b o. tt) d34
+
           d36 : Typed.Typed 𝓤 H A 𝓣 E G35 b28 Δ0 at36
-          d36 = Typed.g-pre 𝓤 H A W 𝓣 E G35 G36 b28 Δ0 (λ Ψ. Ψ) at35 (Lifetime.g-begin 𝓤 H A W E G35 7 (tt, ((tt, tt), ((tt, tt), (tt, (tt, (tt, (tt,
-              (tt, (tt, (tt, (tt, (tt, (tt, (tt, (tt, (tt, (tt, (tt, (tt, (tt, (tt, (tt, (tt, (tt, (tt, (tt,
-              tt)))))),),),),),),),),),),),),),),),),),),),),)) d35
+          d36 = Typed.g-pre 𝓤 H A W 𝓣 E G35 G36 b28 Δ0 (λ Ψ. Ψ) at35 (Lifetime.g-begin 𝓤 H A W E G35 7 (
+            tt,
+            (
+              (tt, tt),
+              (
+                (tt, tt),
+                (
+                  tt,
+                  (
+                    tt,
+                    (
+                      tt,
+                      (
+                        tt,
+                        (
+                          tt,
+                          (
+                            tt,
+                            (
+                              tt,
+                              (
+                                tt,
+                                (
+                                  tt,
+                                  (
+                                    tt,
+                                    (tt, (tt, (tt, (tt, (tt, (tt, (tt, (tt, (tt, (tt, (tt, (tt, (tt, tt))))))))))))),
+                                  ),
+                                ),
+                              ),
+                            ),
+                          ),
+                        ),
+                      ),
+                    ),
+                  ),
+                ),
+              ),
+            ),
+          )) d35
+
           d37 : Typed.Typed 𝓤 H A 𝓣 E G34 b29 Δ0 at37
-          d37 = Typed.s-seq 𝓤 H A W 𝓣 E G34 G35 b17 b28 Δ0 (Typed.ask s32) at36 (Relend.t-sl-aggregate 𝓤 H A W E RelayCircuit.row 𝓣 (Relend.asMut
-              RelayCircuit.row) G34 20 21 6 ref2 ref2 (λ x. x) (Scalar.oFld 2 ((Syntax.field 1) ∷ List.[]) (Syntax.tyInt Syntax.w64) 8 λ v.
-              Shared.lenV (v .0)) (Reads.as-is 𝓤 H A (Relend.msptr RelayCircuit.row ref2 6)) (Reads.room-gone 𝓤 H A (Syntax.tyStruct (38 ∷ 91 ∷ 93 ∷
-              List.[]) (Syntax.tcons ref2 (Syntax.tcons (Syntax.tyInt Syntax.w64) Syntax.tnil)))) (Relend.reads-owed-len 𝓤 H A W RelayCircuit.row ref5
-              1 6 life2 8 Path.refl, Path.refl,) Path.refl Path.refl λ b o k. tt) d36
+          d37 = Typed.s-seq 𝓤 H A W 𝓣 E G34 G35 b17 b28 Δ0 (Typed.ask s32) at36 (Relend.t-sl-aggregate 𝓤 H A W E
+              RelayCircuit.row 𝓣 (Relend.asMut RelayCircuit.row) G34 20 21 6 ref2 ref2 (λ x. x) (Scalar.oFld 2
+              ((Syntax.field 1) ∷ List.[]) (Syntax.tyInt Syntax.w64) 8 λ v. Shared.lenV (v .0))
+              (Reads.as-is 𝓤 H A (Relend.msptr RelayCircuit.row ref2 6)) (Reads.room-gone 𝓤 H A slice2) (
+                Relend.reads-owed-len 𝓤 H A W RelayCircuit.row ref5 1 6 life2 8 Path.refl,
+                Path.refl,
+              ) Path.refl Path.refl λ b o k. tt) d36
+
           d38 : Typed.Typed 𝓤 H A 𝓣 E G33 b30 Δ0 at38
-          d38 = Typed.s-seq 𝓤 H A W 𝓣 E G33 G34 b16 b29 Δ0 (Typed.give s31) at37 (Relend.t-sl-relend 𝓤 H A W E RelayCircuit.row 𝓣 G33 2 20 1 6 ref5
-              ref2 life2 0 (λ x. x) (Reads.as-is 𝓤 H A (Mut.mslice RelayCircuit.row ref5 1)) (Reads.room-gone 𝓤 H A ref2) Path.refl tt Path.refl
-              Path.refl Path.refl λ b o. tt) d37
+          d38 = Typed.s-seq 𝓤 H A W 𝓣 E G33 G34 b16 b29 Δ0 (Typed.give s31) at37 (Relend.t-sl-relend 𝓤 H A W E
+              RelayCircuit.row 𝓣 G33 2 20 1 6 ref5 ref2 life2 0 (λ x. x)
+              (Reads.as-is 𝓤 H A (Mut.mslice RelayCircuit.row ref5 1)) (Reads.room-gone 𝓤 H A ref2) Path.refl tt
+              Path.refl Path.refl Path.refl λ b o. tt) d37
+
           d39 : Typed.Typed 𝓤 H A 𝓣 E G32 b30 Δ0 at39
-          d39 = Typed.g-pre 𝓤 H A W 𝓣 E G32 G33 b30 Δ0 (λ Ψ. Ψ) at38 (Lifetime.g-begin 𝓤 H A W E G32 6 (tt, ((tt, tt), (tt, (tt, (tt, (tt, (tt, (tt,
-              (tt, (tt, (tt, (tt, (tt, (tt, (tt, (tt, (tt, (tt, (tt, (tt, (tt, (tt, (tt, (tt, (tt, (tt,
-              tt)))))),),),),),),),),),),),),),),),),),),),),)) d38
+          d39 = Typed.g-pre 𝓤 H A W 𝓣 E G32 G33 b30 Δ0 (λ Ψ. Ψ) at38 (Lifetime.g-begin 𝓤 H A W E G32 6 (
+            tt,
+            (
+              (tt, tt),
+              (
+                tt,
+                (
+                  tt,
+                  (
+                    tt,
+                    (
+                      tt,
+                      (
+                        tt,
+                        (
+                          tt,
+                          (
+                            tt,
+                            (
+                              tt,
+                              (
+                                tt,
+                                (
+                                  tt,
+                                  (
+                                    tt,
+                                    (tt, (tt, (tt, (tt, (tt, (tt, (tt, (tt, (tt, (tt, (tt, (tt, (tt, tt))))))))))))),
+                                  ),
+                                ),
+                              ),
+                            ),
+                          ),
+                        ),
+                      ),
+                    ),
+                  ),
+                ),
+              ),
+            ),
+          )) d38
+
           d40 : Typed.Typed 𝓤 H A 𝓣 E G31 b31 Δ0 at40
-          d40 = Typed.s-seq 𝓤 H A W 𝓣 E G31 G32 b15 b30 Δ0 (Typed.ask s29) at39 (Relend.t-sl-aggregate 𝓤 H A W E RelayPending.row 𝓣 (Relend.asMut
-              RelayPending.row) G31 18 19 5 ref1 ref1 (λ x. x) (Scalar.oFld 1 ((Syntax.field 1) ∷ List.[]) (Syntax.tyInt Syntax.w64) 8 λ v.
-              Shared.lenV (v .0)) (Reads.as-is 𝓤 H A (Relend.msptr RelayPending.row ref1 5)) (Reads.room-gone 𝓤 H A (Syntax.tyStruct (38 ∷ 91 ∷ 93 ∷
-              List.[]) (Syntax.tcons ref1 (Syntax.tcons (Syntax.tyInt Syntax.w64) Syntax.tnil)))) (Relend.reads-owed-len 𝓤 H A W RelayPending.row ref4
-              0 5 life1 8 Path.refl, Path.refl,) Path.refl Path.refl λ b o k. tt) d39
+          d40 = Typed.s-seq 𝓤 H A W 𝓣 E G31 G32 b15 b30 Δ0 (Typed.ask s29) at39 (Relend.t-sl-aggregate 𝓤 H A W E
+              RelayPending.row 𝓣 (Relend.asMut RelayPending.row) G31 18 19 5 ref1 ref1 (λ x. x) (Scalar.oFld 1
+              ((Syntax.field 1) ∷ List.[]) (Syntax.tyInt Syntax.w64) 8 λ v. Shared.lenV (v .0))
+              (Reads.as-is 𝓤 H A (Relend.msptr RelayPending.row ref1 5)) (Reads.room-gone 𝓤 H A slice1) (
+                Relend.reads-owed-len 𝓤 H A W RelayPending.row ref4 0 5 life1 8 Path.refl,
+                Path.refl,
+              ) Path.refl Path.refl λ b o k. tt) d39
+
           d41 : Typed.Typed 𝓤 H A 𝓣 E G30 b32 Δ0 at41
-          d41 = Typed.s-seq 𝓤 H A W 𝓣 E G30 G31 b14 b31 Δ0 (Typed.give s28) at40 (Relend.t-sl-relend 𝓤 H A W E RelayPending.row 𝓣 G30 1 18 0 5 ref4
-              ref1 life1 0 (λ x. x) (Reads.as-is 𝓤 H A (Mut.mslice RelayPending.row ref4 0)) (Reads.room-gone 𝓤 H A ref1) Path.refl tt Path.refl
-              Path.refl Path.refl λ b o. tt) d40
+          d41 = Typed.s-seq 𝓤 H A W 𝓣 E G30 G31 b14 b31 Δ0 (Typed.give s28) at40 (Relend.t-sl-relend 𝓤 H A W E
+              RelayPending.row 𝓣 G30 1 18 0 5 ref4 ref1 life1 0 (λ x. x)
+              (Reads.as-is 𝓤 H A (Mut.mslice RelayPending.row ref4 0)) (Reads.room-gone 𝓤 H A ref1) Path.refl tt
+              Path.refl Path.refl Path.refl λ b o. tt) d40
+
           d42 : Typed.Typed 𝓤 H A 𝓣 E G29 b32 Δ0 at42
-          d42 = Typed.g-pre 𝓤 H A W 𝓣 E G29 G30 b32 Δ0 (λ Ψ. Ψ) at41 (Lifetime.g-begin 𝓤 H A W E G29 5 (tt, (tt, (tt, (tt, (tt, (tt, (tt, (tt, (tt,
-              (tt, (tt, (tt, (tt, (tt, (tt, (tt, (tt, (tt, (tt, (tt, (tt, (tt, (tt, (tt, (tt, (tt, tt)))))),),),),),),),),),),),),),),),),),),),),))
-              d41
+          d42 = Typed.g-pre 𝓤 H A W 𝓣 E G29 G30 b32 Δ0 (λ Ψ. Ψ) at41 (Lifetime.g-begin 𝓤 H A W E G29 5 (
+            tt,
+            (
+              tt,
+              (
+                tt,
+                (
+                  tt,
+                  (
+                    tt,
+                    (
+                      tt,
+                      (
+                        tt,
+                        (
+                          tt,
+                          (
+                            tt,
+                            (
+                              tt,
+                              (
+                                tt,
+                                (
+                                  tt,
+                                  (
+                                    tt,
+                                    (tt, (tt, (tt, (tt, (tt, (tt, (tt, (tt, (tt, (tt, (tt, (tt, (tt, tt))))))))))))),
+                                  ),
+                                ),
+                              ),
+                            ),
+                          ),
+                        ),
+                      ),
+                    ),
+                  ),
+                ),
+              ),
+            ),
+          )) d41
+
           d43 : Typed.Typed 𝓤 H A 𝓣 E G28 b32 Δ0 at43
-          d43 = Typed.g-pre 𝓤 H A W 𝓣 E G28 G29 b32 Δ0 (Typed.pass T28 T29 s26) at42 (Scalar.g-room 𝓤 H A W E G28 17 Laws.mir (Local.room-whole 𝓤 H A
-              W (Declared.row Notice.the-type) Laws.mir Path.refl)) d42
+          d43 = Typed.g-pre 𝓤 H A W 𝓣 E G28 G29 b32 Δ0 (Typed.pass T28 T29 s26) at42 (Scalar.g-room 𝓤 H A W E G28 17
+              Laws.mir (Local.room-whole 𝓤 H A W (Declared.row Notice.the-type) Laws.mir Path.refl)) d42
+
           d44 : Typed.Typed 𝓤 H A 𝓣 E G27 b32 Δ0 at44
-          d44 = Typed.g-pre 𝓤 H A W 𝓣 E G27 G28 b32 Δ0 (Typed.pass T27 T28 s25) at43 (Scalar.g-room 𝓤 H A W E G27 16 Laws.mir (Local.room-whole 𝓤 H A
-              W (Declared.row Notice.the-type) Laws.mir Path.refl)) d43
+          d44 = Typed.g-pre 𝓤 H A W 𝓣 E G27 G28 b32 Δ0 (Typed.pass T27 T28 s25) at43 (Scalar.g-room 𝓤 H A W E G27 16
+              Laws.mir (Local.room-whole 𝓤 H A W (Declared.row Notice.the-type) Laws.mir Path.refl)) d43
+
           d45 : Typed.Typed 𝓤 H A 𝓣 E G26 b32 Δ0 at45
-          d45 = Typed.g-pre 𝓤 H A W 𝓣 E G26 G27 b32 Δ0 (Typed.pass T26 T27 s24) at44 (Scalar.g-room 𝓤 H A W E G26 9 Laws''.mir (Local.room-whole 𝓤 H A
-              W (Declared'.row Question.the-type) Laws''.mir Path.refl)) d44
+          d45 = Typed.g-pre 𝓤 H A W 𝓣 E G26 G27 b32 Δ0 (Typed.pass T26 T27 s24) at44 (Scalar.g-room 𝓤 H A W E G26 9
+              Laws''.mir (Local.room-whole 𝓤 H A W (Declared'.row Question.the-type) Laws''.mir Path.refl)) d44
+
           d46 : Typed.Typed 𝓤 H A 𝓣 E G25 b33 Δ0 at46
-          d46 = Typed.s-seq 𝓤 H A W 𝓣 E G25 G26 b13 b32 Δ0 (Typed.both s23) at45 (Plain.t-call-plain 𝓤 H A W 𝓣 0 ps·4 r·4 (claims· .8) (claims· .9)
-              "hnsr_circuit::revoking_calls::revoking" (known .4) E (λ pos β. β) G25 (record { pos = 9; st = List.[]; d = 0; at = λ x. x }, (record {
-              pos = 16; st = List.[]; d = 0; at = λ x. x }, (record { pos = 17; st = List.[]; d = 0; at = λ x. x }, tt),),) 11 List.[] (Call.sub-id 𝓤
-              H A W (G25 .slots)) ((Yields.yields-copy 𝓤 H A W (λ ρ. Unit) (Declared'.row Question.the-type) Path.refl (Copies.cStruct
-              Question.the-type Laws''.the-laws Laws''.the-copy .copy 𝓤 H A W) (Rows.whole (Declared'.row Question.the-type)) (λ x. x) (λ x. x) (λ ρ
-              told. Local.mem-whole 𝓤 H A W (Declared'.row Question.the-type) ρ) λ ρ told. Local.whole-mem 𝓤 H A W (Declared'.row Question.the-type)
-              ρ, Path.refl,), ((Yields.yields-copy 𝓤 H A W (λ ρ. Unit) (Declared.row Notice.the-type) Path.refl (Copies.cEnum Notice.the-type
-              Laws.the-laws Laws.the-copy .copy 𝓤 H A W) (Rows.whole (Declared.row Notice.the-type)) (λ x. x) (λ x. x) (λ ρ told. Local.mem-whole 𝓤 H
-              A W (Declared.row Notice.the-type) ρ) λ ρ told. Local.whole-mem 𝓤 H A W (Declared.row Notice.the-type) ρ, Path.refl,),
-              ((Yields.yields-copy 𝓤 H A W (λ ρ. Unit) (Declared.row Notice.the-type) Path.refl (Copies.cEnum Notice.the-type Laws.the-laws
-              Laws.the-copy .copy 𝓤 H A W) (Rows.whole (Declared.row Notice.the-type)) (λ x. x) (λ x. x) (λ ρ told. Local.mem-whole 𝓤 H A W
-              (Declared.row Notice.the-type) ρ) λ ρ told. Local.whole-mem 𝓤 H A W (Declared.row Notice.the-type) ρ, Path.refl,), tt,),),)
-              (Reads.room-gone 𝓤 H A Laws''''.mir) tt Path.refl) d45
+          d46 = Typed.s-seq 𝓤 H A W 𝓣 E G25 G26 b13 b32 Δ0 (Typed.both s23) at45 (Plain.t-call-plain 𝓤 H A W 𝓣 0 ps·4
+              r·4 (claims· .8) (claims· .9) "hnsr_circuit::revoking_calls::revoking" (known .4) E (λ pos β. β) G25 (
+                record { pos = 9; st = List.[]; d = 0; at = λ x. x },
+                (
+                  record { pos = 16; st = List.[]; d = 0; at = λ x. x },
+                  (record { pos = 17; st = List.[]; d = 0; at = λ x. x }, tt),
+                ),
+              ) 11 List.[] (Call.sub-id 𝓤 H A W (G25 .slots)) (
+                (
+                  Yields.yields-copy 𝓤 H A W (λ ρ. Unit) (Declared'.row Question.the-type) Path.refl (Copies.cStruct
+                      Question.the-type Laws''.the-laws Laws''.the-copy .copy 𝓤 H A W)
+                      (Rows.whole (Declared'.row Question.the-type)) (λ x. x) (λ x. x) (λ ρ told. Local.mem-whole 𝓤 H A
+                      W (Declared'.row Question.the-type) ρ) λ ρ told. Local.whole-mem 𝓤 H A W
+                      (Declared'.row Question.the-type) ρ,
+                  Path.refl,
+                ),
+                (
+                  (
+                    Yields.yields-copy 𝓤 H A W (λ ρ. Unit) (Declared.row Notice.the-type) Path.refl (Copies.cEnum
+                        Notice.the-type Laws.the-laws Laws.the-copy .copy 𝓤 H A W)
+                        (Rows.whole (Declared.row Notice.the-type)) (λ x. x) (λ x. x) (λ ρ told. Local.mem-whole 𝓤 H A
+                        W (Declared.row Notice.the-type) ρ) λ ρ told. Local.whole-mem 𝓤 H A W
+                        (Declared.row Notice.the-type) ρ,
+                    Path.refl,
+                  ),
+                  (
+                    (
+                      Yields.yields-copy 𝓤 H A W (λ ρ. Unit) (Declared.row Notice.the-type) Path.refl (Copies.cEnum
+                          Notice.the-type Laws.the-laws Laws.the-copy .copy 𝓤 H A W)
+                          (Rows.whole (Declared.row Notice.the-type)) (λ x. x) (λ x. x) (λ ρ told. Local.mem-whole 𝓤 H
+                          A W (Declared.row Notice.the-type) ρ) λ ρ told. Local.whole-mem 𝓤 H A W
+                          (Declared.row Notice.the-type) ρ,
+                      Path.refl,
+                    ),
+                    tt,
+                  ),
+                ),
+              ) (Reads.room-gone 𝓤 H A Laws''''.mir) tt Path.refl) d45
+
           d47 : Typed.Typed 𝓤 H A 𝓣 E G24 b34 Δ0 at47
-          d47 = Typed.s-seq 𝓤 H A W 𝓣 E G24 G25 b12 b33 Δ0 (Typed.pass T24 T25 s22) at46 (Make.t-enum-make-wt 𝓤 H A W E 𝓣 Notice.the-type
-              Laws.the-laws Laws.the-plain tt G24 17 ((Scalar.oInt Syntax.w8 4) ∷ List.[]) (λ m. Notice.enum .make (Logic.inr (Logic.inr (Logic.inr
-              (Logic.inr (Logic.inl tt)))))) (Reads.room-gone 𝓤 H A Laws.mir) (tt, tt) Path.refl (λ m wa. Make.made-val Notice.the-type Laws.the-laws
-              List.[] (Notice.enum .make (Logic.inr (Logic.inr (Logic.inr (Logic.inr (Logic.inl tt)))))) tt (wa .1)) λ m wa. Make.made-is
-              Notice.the-type Laws.the-laws List.[] (Notice.enum .make (Logic.inr (Logic.inr (Logic.inr (Logic.inr (Logic.inl tt)))))) tt (wa .1)) d46
+          d47 = Typed.s-seq 𝓤 H A W 𝓣 E G24 G25 b12 b33 Δ0 (Typed.pass T24 T25 s22) at46 (Make.t-enum-make-wt 𝓤 H A W E
+              𝓣 Notice.the-type Laws.the-laws Laws.the-plain tt G24 17 ((Scalar.oInt Syntax.w8 4) ∷ List.[]) (λ m.
+              Notice.enum .make (Logic.inr (Logic.inr (Logic.inr (Logic.inr (Logic.inl tt))))))
+              (Reads.room-gone 𝓤 H A Laws.mir) (tt, tt) Path.refl (λ m wa. Make.made-val Notice.the-type Laws.the-laws
+              List.[] (Notice.enum .make (Logic.inr (Logic.inr (Logic.inr (Logic.inr (Logic.inl tt)))))) tt (wa .1)) λ
+              m wa. Make.made-is Notice.the-type Laws.the-laws List.[] (Notice.enum .make (Logic.inr
+              (Logic.inr (Logic.inr (Logic.inr (Logic.inl tt)))))) tt (wa .1)) d46
+
           d48 : Typed.Typed 𝓤 H A 𝓣 E G15 b35 Δ0 at48
-          d48 = Typed.s-seq 𝓤 H A W 𝓣 E G15 G24 b11 b34 Δ0 (Typed.pass T15 T24 s21) at47 (Make.t-enum-make-wt 𝓤 H A W E 𝓣 Notice.the-type
-              Laws.the-laws Laws.the-plain tt G15 16 ((Scalar.oInt Syntax.w8 4) ∷ List.[]) (λ m. Notice.enum .make (Logic.inr (Logic.inr (Logic.inr
-              (Logic.inr (Logic.inl tt)))))) (Reads.room-gone 𝓤 H A Laws.mir) (tt, tt) Path.refl (λ m wa. Make.made-val Notice.the-type Laws.the-laws
-              List.[] (Notice.enum .make (Logic.inr (Logic.inr (Logic.inr (Logic.inr (Logic.inl tt)))))) tt (wa .1)) λ m wa. Make.made-is
-              Notice.the-type Laws.the-laws List.[] (Notice.enum .make (Logic.inr (Logic.inr (Logic.inr (Logic.inr (Logic.inl tt)))))) tt (wa .1)) d47
+          d48 = Typed.s-seq 𝓤 H A W 𝓣 E G15 G24 b11 b34 Δ0 (Typed.pass T15 T24 s21) at47 (Make.t-enum-make-wt 𝓤 H A W E
+              𝓣 Notice.the-type Laws.the-laws Laws.the-plain tt G15 16 ((Scalar.oInt Syntax.w8 4) ∷ List.[]) (λ m.
+              Notice.enum .make (Logic.inr (Logic.inr (Logic.inr (Logic.inr (Logic.inl tt))))))
+              (Reads.room-gone 𝓤 H A Laws.mir) (tt, tt) Path.refl (λ m wa. Make.made-val Notice.the-type Laws.the-laws
+              List.[] (Notice.enum .make (Logic.inr (Logic.inr (Logic.inr (Logic.inr (Logic.inl tt)))))) tt (wa .1)) λ
+              m wa. Make.made-is Notice.the-type Laws.the-laws List.[] (Notice.enum .make (Logic.inr
+              (Logic.inr (Logic.inr (Logic.inr (Logic.inl tt)))))) tt (wa .1)) d47
+
           d49 : Typed.Typed 𝓤 H A 𝓣 E G14 b36 Δ0 at49
           d49 = Typed.t-seq 𝓤 H A W 𝓣 E G14 G15 b10 b35 Δ0 at10 at48 d10 d48
+
           d50 : Typed.Typed 𝓤 H A 𝓣 E G13 b37 Δ0 at50
-          d50 = Typed.s-seq 𝓤 H A W 𝓣 E G13 G14 b5 b36 Δ0 (Typed.pass T12 T14 s12) at49 (Scalar.t-use 𝓤 H A W E 𝓣 G13 (Scalar.oAt 7 Syntax.tyBool
-              (Row.valS Row.sBool)) 15 (Rows.sc-here Row.sBool) Syntax.tyBool (Row.valS Row.sBool) (Row.sBool .of) (Scalar.reads-sc 𝓤 H A W Row.sBool,
-              Path.refl) (Reads.room-gone 𝓤 H A Syntax.tyBool) (Scalar.holds-sc 𝓤 H A W Row.sBool) Path.refl (λ u. Path.refl) λ u. tt) d49
+          d50 = Typed.s-seq 𝓤 H A W 𝓣 E G13 G14 b5 b36 Δ0 (Typed.pass T12 T14 s12) at49 (Scalar.t-use 𝓤 H A W E 𝓣 G13
+              (Scalar.oAt 7 Syntax.tyBool (Row.valS Row.sBool)) 15 (Rows.sc-here Row.sBool) Syntax.tyBool
+              (Row.valS Row.sBool) (Row.sBool .of) (Scalar.reads-sc 𝓤 H A W Row.sBool, Path.refl)
+              (Reads.room-gone 𝓤 H A Syntax.tyBool) (Scalar.holds-sc 𝓤 H A W Row.sBool) Path.refl (λ u. Path.refl) λ u.
+              tt) d49
+
           d51 : Typed.Typed 𝓤 H A 𝓣 E G12 b37 Δ0 at51
-          d51 = Typed.g-pre 𝓤 H A W 𝓣 E G12 G13 b37 Δ0 (λ Ψ. Ψ) at50 (Lifetime.g-forget 𝓤 H A W E G12 4 Row.dead Path.refl) d50
+          d51 = Typed.g-pre 𝓤 H A W 𝓣 E G12 G13 b37 Δ0 (λ Ψ. Ψ) at50
+              (Lifetime.g-forget 𝓤 H A W E G12 4 Row.dead Path.refl) d50
+
           d52 : Typed.Typed 𝓤 H A 𝓣 E G11 b37 Δ0 at52
-          d52 = Typed.g-pre 𝓤 H A W 𝓣 E G11 G12 b37 Δ0 (Typed.both s10) at51 (Relend.g-back-sl 𝓤 H A W E InflightAction.row G11 14 3 2 4 ref6 ref0
-              life0 (λ x. x) (λ x. x) (Reads.as-is 𝓤 H A (Mut.msleft InflightAction.row ref0)) (Reads.as-is 𝓤 H A (Relend.mslice-owed
-              InflightAction.row ref6 2 4 life0)) Path.refl Path.refl) d51
+          d52 = Typed.g-pre 𝓤 H A W 𝓣 E G11 G12 b37 Δ0 (Typed.both s10) at51 (Relend.g-back-sl 𝓤 H A W E
+              InflightAction.row G11 14 3 2 4 ref6 ref0 life0 (λ x. x) (λ x. x)
+              (Reads.as-is 𝓤 H A (Mut.msleft InflightAction.row ref0)) (Reads.as-is 𝓤 H A
+              (Relend.mslice-owed InflightAction.row ref6 2 4 life0)) Path.refl Path.refl) d51
+
           d53 : Typed.Typed 𝓤 H A 𝓣 E G10 b37 Δ0 at53
           d53 = Typed.g-pre 𝓤 H A W 𝓣 E G10 G11 b37 Δ0 (λ Ψ. Ψ) at52 (Lifetime.g-end 𝓤 H A W E G10 4 Path.refl) d52
+
           d54 : Typed.Typed 𝓤 H A 𝓣 E G9 b37 Δ0 at54
-          d54 = Typed.g-pre 𝓤 H A W 𝓣 E G9 G10 b37 Δ0 (Typed.pass T9 T10 s8) at53 (Scalar.g-room 𝓤 H A W E G9 12 Syntax.tyUnit (Scalar.room-sc 𝓤 H A W
-              Row.sUnit)) d53
+          d54 = Typed.g-pre 𝓤 H A W 𝓣 E G9 G10 b37 Δ0 (Typed.pass T9 T10 s8) at53 (Scalar.g-room 𝓤 H A W E G9 12
+              Syntax.tyUnit (Scalar.room-sc 𝓤 H A W Row.sUnit)) d53
+
           d55 : Typed.Typed 𝓤 H A 𝓣 E G8 b38 Δ0 at55
-          d55 = Typed.s-seq 𝓤 H A W 𝓣 E G8 G9 b4 b37 Δ0 (Typed.both s7) at54 (Plain.t-call-plain 𝓤 H A W 𝓣 1 ps·2 r·2 (claims· .4) (claims· .5)
-              "hnsr_circuit::tables::inflight::clear_action" (known .2) E (λ pos β. β) G8 (record { pos = 14; ty = Syntax.tyRef Syntax.erased
-              Syntax.mut InflightAction.to; ref = λ x. x; }, (record { pos = 6; st = List.[]; d = 0; at = λ x. x }, (record { pos = 9; st = List.[]; d
-              = 0; at = λ x. x }, tt),),) 12 (4 ∷ List.[]) (Call.sub-id 𝓤 H A W (G8 .slots)) (Reads.as-is 𝓤 H A (Mut.mslice InflightAction.row ref0
-              4), Mut.reads-mslice 𝓤 H A W InflightAction.row ref0 4, Path.refl, ((Yields.yields-copy 𝓤 H A W (λ ρ. Unit) (Declared'.row
-              Places.the-type) Path.refl (Copies.cStruct Places.the-type Laws'.the-laws Laws'.the-copy .copy 𝓤 H A W) (Rows.whole (Declared'.row
-              Places.the-type)) (λ x. x) (λ x. x) (λ ρ told. Local.mem-whole 𝓤 H A W (Declared'.row Places.the-type) ρ) λ ρ told. Local.whole-mem 𝓤 H
-              A W (Declared'.row Places.the-type) ρ, Path.refl,), ((Yields.yields-copy 𝓤 H A W (λ ρ. Unit) (Declared'.row Question.the-type) Path.refl
-              (Copies.cStruct Question.the-type Laws''.the-laws Laws''.the-copy .copy 𝓤 H A W) (Rows.whole (Declared'.row Question.the-type)) (λ x. x)
-              (λ x. x) (λ ρ told. Local.mem-whole 𝓤 H A W (Declared'.row Question.the-type) ρ) λ ρ told. Local.whole-mem 𝓤 H A W (Declared'.row
-              Question.the-type) ρ, Path.refl,), tt,),),) (Reads.room-gone 𝓤 H A Syntax.tyUnit) (tt, tt) Path.refl) d54
+          d55 = Typed.s-seq 𝓤 H A W 𝓣 E G8 G9 b4 b37 Δ0 (Typed.both s7) at54 (Plain.t-call-plain 𝓤 H A W 𝓣 1 ps·2 r·2
+              (claims· .4) (claims· .5) "hnsr_circuit::tables::inflight::clear_action" (known .2) E (λ pos β. β) G8 (
+                record { pos = 14; ty = ref0; ref = λ x. x },
+                (
+                  record { pos = 6; st = List.[]; d = 0; at = λ x. x },
+                  (record { pos = 9; st = List.[]; d = 0; at = λ x. x }, tt),
+                ),
+              ) 12 (4 ∷ List.[]) (Call.sub-id 𝓤 H A W (G8 .slots)) (
+                Reads.as-is 𝓤 H A (Mut.mslice InflightAction.row ref0 4),
+                Mut.reads-mslice 𝓤 H A W InflightAction.row ref0 4,
+                Path.refl,
+                (
+                  (
+                    Yields.yields-copy 𝓤 H A W (λ ρ. Unit) (Declared'.row Places.the-type) Path.refl (Copies.cStruct
+                        Places.the-type Laws'.the-laws Laws'.the-copy .copy 𝓤 H A W)
+                        (Rows.whole (Declared'.row Places.the-type)) (λ x. x) (λ x. x) (λ ρ told. Local.mem-whole 𝓤 H A
+                        W (Declared'.row Places.the-type) ρ) λ ρ told. Local.whole-mem 𝓤 H A W
+                        (Declared'.row Places.the-type) ρ,
+                    Path.refl,
+                  ),
+                  (
+                    (
+                      Yields.yields-copy 𝓤 H A W (λ ρ. Unit) (Declared'.row Question.the-type) Path.refl (Copies.cStruct
+                          Question.the-type Laws''.the-laws Laws''.the-copy .copy 𝓤 H A W)
+                          (Rows.whole (Declared'.row Question.the-type)) (λ x. x) (λ x. x) (λ ρ told. Local.mem-whole 𝓤
+                          H A W (Declared'.row Question.the-type) ρ) λ ρ told. Local.whole-mem 𝓤 H A W
+                          (Declared'.row Question.the-type) ρ,
+                      Path.refl,
+                    ),
+                    tt,
+                  ),
+                ),
+              ) (Reads.room-gone 𝓤 H A Syntax.tyUnit) (tt, tt) Path.refl) d54
+
           d56 : Typed.Typed 𝓤 H A 𝓣 E G7 b39 Δ0 at56
-          d56 = Typed.s-seq 𝓤 H A W 𝓣 E G7 G8 b3 b38 Δ0 (Typed.ask s6) at55 (Relend.t-sl-aggregate 𝓤 H A W E InflightAction.row 𝓣 (Relend.asMut
-              InflightAction.row) G7 13 14 4 ref0 ref0 (λ x. x) (Scalar.oFld 3 ((Syntax.field 1) ∷ List.[]) (Syntax.tyInt Syntax.w64) 8 λ v.
-              Shared.lenV (v .0)) (Reads.as-is 𝓤 H A (Relend.msptr InflightAction.row ref0 4)) (Reads.room-gone 𝓤 H A (Syntax.tyStruct (38 ∷ 91 ∷ 93 ∷
-              List.[]) (Syntax.tcons ref0 (Syntax.tcons (Syntax.tyInt Syntax.w64) Syntax.tnil)))) (Relend.reads-owed-len 𝓤 H A W InflightAction.row
-              ref6 2 4 life0 8 Path.refl, Path.refl,) Path.refl Path.refl λ b o k. tt) d55
+          d56 = Typed.s-seq 𝓤 H A W 𝓣 E G7 G8 b3 b38 Δ0 (Typed.ask s6) at55 (Relend.t-sl-aggregate 𝓤 H A W E
+              InflightAction.row 𝓣 (Relend.asMut InflightAction.row) G7 13 14 4 ref0 ref0 (λ x. x) (Scalar.oFld 3
+              ((Syntax.field 1) ∷ List.[]) (Syntax.tyInt Syntax.w64) 8 λ v. Shared.lenV (v .0)) (Reads.as-is 𝓤 H A
+              (Relend.msptr InflightAction.row ref0 4)) (Reads.room-gone 𝓤 H A slice0) (
+                Relend.reads-owed-len 𝓤 H A W InflightAction.row ref6 2 4 life0 8 Path.refl,
+                Path.refl,
+              ) Path.refl Path.refl λ b o k. tt) d55
+
           d57 : Typed.Typed 𝓤 H A 𝓣 E G6 b40 Δ0 at57
-          d57 = Typed.s-seq 𝓤 H A W 𝓣 E G6 G7 b2 b39 Δ0 (Typed.give s5) at56 (Relend.t-sl-relend 𝓤 H A W E InflightAction.row 𝓣 G6 3 13 2 4 ref6 ref0
-              life0 0 (λ x. x) (Reads.as-is 𝓤 H A (Mut.mslice InflightAction.row ref6 2)) (Reads.room-gone 𝓤 H A ref0) Path.refl tt Path.refl
-              Path.refl Path.refl λ b o. tt) d56
+          d57 = Typed.s-seq 𝓤 H A W 𝓣 E G6 G7 b2 b39 Δ0 (Typed.give s5) at56 (Relend.t-sl-relend 𝓤 H A W E
+              InflightAction.row 𝓣 G6 3 13 2 4 ref6 ref0 life0 0 (λ x. x)
+              (Reads.as-is 𝓤 H A (Mut.mslice InflightAction.row ref6 2)) (Reads.room-gone 𝓤 H A ref0) Path.refl tt
+              Path.refl Path.refl Path.refl λ b o. tt) d56
+
           d58 : Typed.Typed 𝓤 H A 𝓣 E G5 b40 Δ0 at58
-          d58 = Typed.g-pre 𝓤 H A W 𝓣 E G5 G6 b40 Δ0 (λ Ψ. Ψ) at57 (Lifetime.g-begin 𝓤 H A W E G5 4 (tt, (tt, (tt, (tt, (tt, (tt, (tt, (tt, (tt, (tt,
-              (tt, (tt, (tt, (tt, (tt, (tt, (tt, (tt, (tt, (tt, (tt, (tt, (tt, (tt, (tt, (tt, tt)))))),),),),),),),),),),),),),),),),),),),),)) d57
+          d58 = Typed.g-pre 𝓤 H A W 𝓣 E G5 G6 b40 Δ0 (λ Ψ. Ψ) at57 (Lifetime.g-begin 𝓤 H A W E G5 4 (
+            tt,
+            (
+              tt,
+              (
+                tt,
+                (
+                  tt,
+                  (
+                    tt,
+                    (
+                      tt,
+                      (
+                        tt,
+                        (
+                          tt,
+                          (
+                            tt,
+                            (
+                              tt,
+                              (
+                                tt,
+                                (
+                                  tt,
+                                  (
+                                    tt,
+                                    (tt, (tt, (tt, (tt, (tt, (tt, (tt, (tt, (tt, (tt, (tt, (tt, (tt, tt))))))))))))),
+                                  ),
+                                ),
+                              ),
+                            ),
+                          ),
+                        ),
+                      ),
+                    ),
+                  ),
+                ),
+              ),
+            ),
+          )) d57
+
           d59 : Typed.Typed 𝓤 H A 𝓣 E G4 b40 Δ0 at59
-          d59 = Typed.g-pre 𝓤 H A W 𝓣 E G4 G5 b40 Δ0 (Typed.pass T4 T5 s3) at58 (Scalar.g-room 𝓤 H A W E G4 5 Laws'''''.mir (Local.room-whole 𝓤 H A W
-              (Declared'.row OpaqueRelayRuntime.the-type) Laws'''''.mir Path.refl)) d58
+          d59 = Typed.g-pre 𝓤 H A W 𝓣 E G4 G5 b40 Δ0 (Typed.pass T4 T5 s3) at58 (Scalar.g-room 𝓤 H A W E G4 5
+              Laws'''''.mir (Local.room-whole 𝓤 H A W (Declared'.row OpaqueRelayRuntime.the-type) Laws'''''.mir
+              Path.refl)) d58
+
           d60 : Typed.Typed 𝓤 H A 𝓣 E G3 b41 Δ0 at60
-          d60 = Typed.s-seq 𝓤 H A W 𝓣 E G3 G4 b1 b40 Δ0 (Typed.both s2) at59 (Plain.t-call-plain 𝓤 H A W 𝓣 0 ps·1 r·1 (claims· .2) (claims· .3)
-              "hnsr_circuit::header::with_enabled" (known .1) E (λ pos β. β) G3 (record { pos = 5; st = List.[]; d = 0; at = λ x. x }, (Bool.bAt 7 λ
-              x. x, tt)) 10 List.[] (Call.sub-id 𝓤 H A W (G3 .slots)) ((Yields.yields-copy 𝓤 H A W (λ ρ. Unit) (Declared'.row
-              OpaqueRelayRuntime.the-type) Path.refl (Copies.cStruct OpaqueRelayRuntime.the-type Laws'''''.the-laws Laws'''''.the-copy .copy 𝓤 H A W)
-              (Rows.whole (Declared'.row OpaqueRelayRuntime.the-type)) (λ x. x) (λ x. x) (λ ρ told. Local.mem-whole 𝓤 H A W (Declared'.row
-              OpaqueRelayRuntime.the-type) ρ) λ ρ told. Local.whole-mem 𝓤 H A W (Declared'.row OpaqueRelayRuntime.the-type) ρ, Path.refl,),
-              ((Scalar.reads-sc 𝓤 H A W Row.sBool, Path.refl), tt),) (Reads.room-gone 𝓤 H A Laws'''''.mir) tt Path.refl) d59
+          d60 = Typed.s-seq 𝓤 H A W 𝓣 E G3 G4 b1 b40 Δ0 (Typed.both s2) at59 (Plain.t-call-plain 𝓤 H A W 𝓣 0 ps·1 r·1
+              (claims· .2) (claims· .3) "hnsr_circuit::header::with_enabled" (known .1) E (λ pos β. β) G3 (
+                record { pos = 5; st = List.[]; d = 0; at = λ x. x },
+                (Bool.bAt 7 λ x. x, tt),
+              ) 10 List.[] (Call.sub-id 𝓤 H A W (G3 .slots)) (
+                (
+                  Yields.yields-copy 𝓤 H A W (λ ρ. Unit) (Declared'.row OpaqueRelayRuntime.the-type) Path.refl (Copies.cStruct
+                      OpaqueRelayRuntime.the-type Laws'''''.the-laws Laws'''''.the-copy .copy 𝓤 H A W)
+                      (Rows.whole (Declared'.row OpaqueRelayRuntime.the-type)) (λ x. x) (λ x. x) (λ ρ told.
+                      Local.mem-whole 𝓤 H A W (Declared'.row OpaqueRelayRuntime.the-type) ρ) λ ρ told. Local.whole-mem
+                      𝓤 H A W (Declared'.row OpaqueRelayRuntime.the-type) ρ,
+                  Path.refl,
+                ),
+                ((Scalar.reads-sc 𝓤 H A W Row.sBool, Path.refl), tt),
+              ) (Reads.room-gone 𝓤 H A Laws'''''.mir) tt Path.refl) d59
+
           d61 : Typed.Typed 𝓤 H A 𝓣 E G2 b42 Δ0 at61
-          d61 = Typed.s-seq 𝓤 H A W 𝓣 E G2 G3 b0 b41 Δ0 (Typed.both s1) at60 (Plain.t-call-plain 𝓤 H A W 𝓣 0 ps·0 r·0 (claims· .0) (claims· .1)
-              "hnsr_circuit::question::used" (known .0) E (λ pos β. β) G2 tt 9 List.[] (Call.sub-id 𝓤 H A W (G2 .slots)) tt (Reads.room-gone 𝓤 H A
-              Laws''.mir) tt Path.refl) d60
+          d61 = Typed.s-seq 𝓤 H A W 𝓣 E G2 G3 b0 b41 Δ0 (Typed.both s1) at60 (Plain.t-call-plain 𝓤 H A W 𝓣 0 ps·0 r·0
+              (claims· .0) (claims· .1) "hnsr_circuit::question::used" (known .0) E (λ pos β. β) G2 tt 9 List.[]
+              (Call.sub-id 𝓤 H A W (G2 .slots)) tt (Reads.room-gone 𝓤 H A Laws''.mir) tt Path.refl) d60
+
           d62 : Typed.Typed 𝓤 H A 𝓣 E G0 b42 Δ0 at62
-          d62 = Typed.g-pre 𝓤 H A W 𝓣 E G0 G2 b42 Δ0 (Typed.give s0) at61 (Know.g-sl-known 𝓤 H A W (Referent.fInt Syntax.w32) E G0 4 3 ref7 life3 0 (λ
-              x. x) record { fits = Dec.lit< tt } (Reads.as-is 𝓤 H A (Mut.mslice (Referent.rtF (Referent.fInt Syntax.w32)) ref7 3)) Path.refl tt) d61
+          d62 = Typed.g-pre 𝓤 H A W 𝓣 E G0 G2 b42 Δ0 (Typed.give s0) at61 (Know.g-sl-known 𝓤 H A W
+              (Referent.fInt Syntax.w32) E G0 4 3 ref7 life3 0 (λ x. x) record { fits = Dec.lit< tt } (Reads.as-is 𝓤 H
+              A (Mut.mslice (Referent.rtF (Referent.fInt Syntax.w32)) ref7 3)) Path.refl tt) d61
+
           pub typed : Typed.Typed 𝓤 H A 𝓣 E (Function.Γin 4 ps r xs m κs qs) b42 (Function.Δret 4 ps r xs m κs qs) Φ
           typed = d62
+
       module _ (κs : Lifetimes.Lfts 4) where
         pub record Args : Type 0 where
-          pub pending : Kinds.Den { n = 4 } κs (MutSlice.pMutS RelayPending.row 0 tt)
-          pub circuits : Kinds.Den { n = 4 } κs (MutSlice.pMutS RelayCircuit.row 1 tt)
-          pub inflight : Kinds.Den { n = 4 } κs (MutSlice.pMutS InflightAction.row 2 tt)
-          pub out : Kinds.Den { n = 4 } κs (MutSlice.pMutS (Referent.rtF (Referent.fInt Syntax.w32)) 3 tt)
-          pub runtime : Kinds.Den { n = 4 } κs (Value.pVal record { ty = Declared'.row OpaqueRelayRuntime.the-type; one = Path.refl; val =
-              Laws''''''''.val OpaqueRelayRuntime.the-type Laws'''''.the-laws; tells = Laws''''''''.tells OpaqueRelayRuntime.the-type
-              Laws'''''.the-laws; still = Laws''''''''.still OpaqueRelayRuntime.the-type Laws'''''.the-copy Exit.yes; row = Rows.whole (Declared'.row
-              OpaqueRelayRuntime.the-type); rd = λ x. x; mk = λ x. x; } λ M 𝓤 H A W. record { copies = Laws''''''''.copy OpaqueRelayRuntime.the-type
-              Laws'''''.the-copy 𝓤 H A W; lawful = Laws''''''''.lawful OpaqueRelayRuntime.the-type Laws'''''.the-laws 𝓤 H A W; makes =
-              Laws''''''''.makes OpaqueRelayRuntime.the-type Laws'''''.the-plain 𝓤 H A; in-mem = Local.mem-whole 𝓤 H A W (Declared'.row
-              OpaqueRelayRuntime.the-type); of-mem = Local.whole-mem 𝓤 H A W (Declared'.row OpaqueRelayRuntime.the-type); })
-          pub places : Kinds.Den { n = 4 } κs (Value.pVal record { ty = Declared'.row Places.the-type; one = Path.refl; val = Laws''''''''.val
-              Places.the-type Laws'.the-laws; tells = Laws''''''''.tells Places.the-type Laws'.the-laws; still = Laws''''''''.still Places.the-type
-              Laws'.the-copy Exit.yes; row = Rows.whole (Declared'.row Places.the-type); rd = λ x. x; mk = λ x. x; } λ M 𝓤 H A W. record { copies =
-              Laws''''''''.copy Places.the-type Laws'.the-copy 𝓤 H A W; lawful = Laws''''''''.lawful Places.the-type Laws'.the-laws 𝓤 H A W; makes =
-              Laws''''''''.makes Places.the-type Laws'.the-plain 𝓤 H A; in-mem = Local.mem-whole 𝓤 H A W (Declared'.row Places.the-type); of-mem =
-              Local.whole-mem 𝓤 H A W (Declared'.row Places.the-type); })
-          pub enabled : Kinds.Den { n = 4 } κs Bool.pBool
-          pub first : Kinds.Den { n = 4 } κs (Value.pVal record { ty = Declared'.row Firsts.the-type; one = Path.refl; val = Laws''''''''.val
-              Firsts.the-type Laws'''.the-laws; tells = Laws''''''''.tells Firsts.the-type Laws'''.the-laws; still = Laws''''''''.still
-              Firsts.the-type Laws'''.the-copy Exit.yes; row = Rows.whole (Declared'.row Firsts.the-type); rd = λ x. x; mk = λ x. x; } λ M 𝓤 H A W.
-              record { copies = Laws''''''''.copy Firsts.the-type Laws'''.the-copy 𝓤 H A W; lawful = Laws''''''''.lawful Firsts.the-type
-              Laws'''.the-laws 𝓤 H A W; makes = Laws''''''''.makes Firsts.the-type Laws'''.the-plain 𝓤 H A; in-mem = Local.mem-whole 𝓤 H A W
-              (Declared'.row Firsts.the-type); of-mem = Local.whole-mem 𝓤 H A W (Declared'.row Firsts.the-type); })
+          pub pending : Kinds.Den {n = 4} κs (MutSlice.pMutS RelayPending.row 0 tt)
+          pub circuits : Kinds.Den {n = 4} κs (MutSlice.pMutS RelayCircuit.row 1 tt)
+          pub inflight : Kinds.Den {n = 4} κs (MutSlice.pMutS InflightAction.row 2 tt)
+          pub out : Kinds.Den {n = 4} κs (MutSlice.pMutS (Referent.rtF (Referent.fInt Syntax.w32)) 3 tt)
+          pub runtime : Kinds.Den {n = 4} κs (StructRow.param OpaqueRelayRuntime.the-type Laws'''''.the-laws
+              Laws'''''.the-copy Laws'''''.the-plain)
+          pub places : Kinds.Den {n = 4} κs (StructRow.param Places.the-type Laws'.the-laws Laws'.the-copy
+              Laws'.the-plain)
+          pub enabled : Kinds.Den {n = 4} κs Bool.pBool
+          pub first : Kinds.Den {n = 4} κs (StructRow.param Firsts.the-type Laws'''.the-laws Laws'''.the-copy
+              Laws'''.the-plain)
+
         abbrev pub dens : (a : Args) → Kinds.Dens κs ps
-        dens = λ a. (a .pending, (a .circuits, (a .inflight, (a .out, (a .runtime, (a .places, (a .enabled, (a .first, tt)))))),),)
+        dens = λ a. (
+          a .pending,
+          (a .circuits, (a .inflight, (a .out, (a .runtime, (a .places, (a .enabled, (a .first, tt))))))),
+        )
+
       abbrev pub m0 : (κs : Lifetimes.Lfts 4) → (args : Args κs) → Typed.Mo T0
       m0 = λ κs args. (tt, Enter.partsP κs 1 ps xs (dens κs args))
+
       abbrev W0 : (κs : Lifetimes.Lfts 4) → (args : Args κs) → Typed.Want O0
-      W0 = λ κs args. (λ u. ⊥, tt, λ u. Enter.Fixs κs 1 ps xs (dens κs args) (u .1) × Post· κs (dens κs args) (Function.resV r κs (u .0))
-          (Clauses.atExit (Kinds.endedOf 4 ps r) κs (dens κs args) (Enter.lastsP κs 1 ps xs (dens κs args) (u .1))),)
+      W0 = λ κs args. (
+        λ u. ⊥,
+        tt,
+        λ u. Enter.Fixs κs 1 ps xs (dens κs args) (u .1) × Post· κs (dens κs args) (Function.resV r κs (u .0)) (Clauses.atExit
+            (Kinds.endedOf 4 ps r) κs (dens κs args) (Enter.lastsP κs 1 ps xs (dens κs args) (u .1))),
+      )
+
       pub record Start : Type 0 where
         pub κs : Lifetimes.Lfts 4
         pub args : Args κs
         pub good : Kinds.GoodsP κs ps (dens κs args)
         pub pre : Pre· κs (dens κs args)
+
       abbrev pub m1 : (before : Start) → (given : s0 .gives (m0 (before .κs) (before .args))) → Typed.Mo T2
       m1 = λ before given. s0 .next (m0 (before .κs) (before .args)) given
+
       module _ (before· : Start) where
         pub record After-slice-known·own : Type 0 where
           pub given : s0 .gives (m0 (before· .κs) (before· .args))
+
       pub record After-slice-known : Type 0 where
         pub before : Start
         pub slice-known : After-slice-known·own before
+
       abbrev pub Need-used-requires : Type 0
       Need-used-requires = (c : After-slice-known) → s1 .asks (m1 (c .before) (c .slice-known .given))
-      abbrev pub m2 : (before : After-slice-known) → (given : s1 .gives (m1 (before .before) (before .slice-known .given))) → Typed.Mo T3
+
+      abbrev pub m2 : (before : After-slice-known) → (given : s1 .gives
+          (m1 (before .before) (before .slice-known .given))) → Typed.Mo T3
       m2 = λ before given. s1 .next (m1 (before .before) (before .slice-known .given)) given
+
       module _ (before· : After-slice-known) where
         abbrev pub After-used·own : Type 0
         After-used·own = Called.Called ps·0 r·0 (claims· .1) T2 tt (m1 (before· .before) (before· .slice-known .given))
+
       pub record After-used : Type 0 where
         pub before : After-slice-known
         pub used : After-used·own before
-      abbrev pub After-used·gave : (c : After-used) → s1 .gives (m1 (c .before .before) (c .before .slice-known .given))
-      After-used·gave = λ c. Called.given ps·0 r·0 (claims· .1) T2 tt (m1 (c .before .before) (c .before .slice-known .given)) (c .used)
+
+      abbrev pub After-used·gave : (c : After-used) → s1 .gives
+          (m1 (c .before .before) (c .before .slice-known .given))
+      After-used·gave = λ c. Called.given ps·0 r·0 (claims· .1) T2 tt
+          (m1 (c .before .before) (c .before .slice-known .given)) (c .used)
+
       abbrev pub Need-with-enabled-requires : Type 0
       Need-with-enabled-requires = (c : After-used) → s2 .asks (m2 (c .before) (After-used·gave c))
-      abbrev pub m3 : (before : After-used) → (given : s2 .gives (m2 (before .before) (After-used·gave before))) → Typed.Mo T4
+
+      abbrev pub m3 : (before : After-used) → (given : s2 .gives (m2 (before .before) (After-used·gave before))) →
+          Typed.Mo T4
       m3 = λ before given. s2 .next (m2 (before .before) (After-used·gave before)) given
+
       module _ (before· : After-used) where
         abbrev pub After-with-enabled·own : Type 0
-        After-with-enabled·own = Called.Called ps·1 r·1 (claims· .3) T3 (record { pos = 5; st = List.[]; d = 0; at = λ x. x }, (Bool.bAt 7 λ x. x,
-            tt),) (m2 (before· .before) (After-used·gave before·))
+        After-with-enabled·own = Called.Called ps·1 r·1 (claims· .3) T3 args2
+            (m2 (before· .before) (After-used·gave before·))
+
       pub record After-with-enabled : Type 0 where
         pub before : After-used
         pub with-enabled : After-with-enabled·own before
-      abbrev pub After-with-enabled·gave : (c : After-with-enabled) → s2 .gives (m2 (c .before .before) (After-used·gave (c .before)))
-      After-with-enabled·gave = λ c. Called.given ps·1 r·1 (claims· .3) T3 (record { pos = 5; st = List.[]; d = 0; at = λ x. x }, (Bool.bAt 7 λ x. x,
-          tt),) (m2 (c .before .before) (After-used·gave (c .before))) (c .with-enabled)
-      abbrev pub m4 : (before : After-used) → (given : s2 .gives (m2 (before .before) (After-used·gave before))) → Typed.Mo T5
+
+      abbrev pub After-with-enabled·gave : (c : After-with-enabled) → s2 .gives
+          (m2 (c .before .before) (After-used·gave (c .before)))
+      After-with-enabled·gave = λ c. Called.given ps·1 r·1 (claims· .3) T3 args2
+          (m2 (c .before .before) (After-used·gave (c .before))) (c .with-enabled)
+
+      abbrev pub m4 : (before : After-used) → (given : s2 .gives (m2 (before .before) (After-used·gave before))) →
+          Typed.Mo T5
       m4 = λ before given. s3 (m3 before given)
-      abbrev pub m5 : (before : After-with-enabled) → (given : s5 .gives (m4 (before .before) (After-with-enabled·gave before))) → Typed.Mo T7
+
+      abbrev pub m5 : (before : After-with-enabled) → (given : s5 .gives
+          (m4 (before .before) (After-with-enabled·gave before))) → Typed.Mo T7
       m5 = λ before given. s5 .next (m4 (before .before) (After-with-enabled·gave before)) given
-      abbrev pub m6 : (before : After-with-enabled) → (given : s5 .gives (m4 (before .before) (After-with-enabled·gave before))) → Typed.Mo T8
+
+      abbrev pub m6 : (before : After-with-enabled) → (given : s5 .gives
+          (m4 (before .before) (After-with-enabled·gave before))) → Typed.Mo T8
       m6 = λ before given. s6 .next (m5 before given)
+
       module _ (before· : After-with-enabled) where
         pub record After-clear-action-arg·own : Type 0 where
           pub given : s5 .gives (m4 (before· .before) (After-with-enabled·gave before·))
+
       pub record After-clear-action-arg : Type 0 where
         pub before : After-with-enabled
         pub clear-action-arg : After-clear-action-arg·own before
+
       abbrev pub Need-clear-action-requires : Type 0
-      Need-clear-action-requires = (c : After-clear-action-arg) → s7 .asks (m6 (c .before) (c .clear-action-arg .given))
-      abbrev pub m7 : (before : After-clear-action-arg) → (given : s7 .gives (m6 (before .before) (before .clear-action-arg .given))) → Typed.Mo T9
+      Need-clear-action-requires = (c : After-clear-action-arg) → s7 .asks
+          (m6 (c .before) (c .clear-action-arg .given))
+
+      abbrev pub m7 : (before : After-clear-action-arg) → (given : s7 .gives
+          (m6 (before .before) (before .clear-action-arg .given))) → Typed.Mo T9
       m7 = λ before given. s7 .next (m6 (before .before) (before .clear-action-arg .given)) given
+
       module _ (before· : After-clear-action-arg) where
         abbrev pub After-clear-action·own : Type 0
-        After-clear-action·own = Called.Called ps·2 r·2 (claims· .5) T8 (record { pos = 14; ty = Syntax.tyRef Syntax.erased Syntax.mut
-            InflightAction.to; ref = λ x. x; }, (record { pos = 6; st = List.[]; d = 0; at = λ x. x }, (record { pos = 9; st = List.[]; d = 0; at = λ
-            x. x }, tt),),) (m6 (before· .before) (before· .clear-action-arg .given))
+        After-clear-action·own = Called.Called ps·2 r·2 (claims· .5) T8 args7
+            (m6 (before· .before) (before· .clear-action-arg .given))
+
       pub record After-clear-action : Type 0 where
         pub before : After-clear-action-arg
         pub clear-action : After-clear-action·own before
-      abbrev pub After-clear-action·gave : (c : After-clear-action) → s7 .gives (m6 (c .before .before) (c .before .clear-action-arg .given))
-      After-clear-action·gave = λ c. Called.given ps·2 r·2 (claims· .5) T8 (record { pos = 14; ty = Syntax.tyRef Syntax.erased Syntax.mut
-          InflightAction.to; ref = λ x. x; }, (record { pos = 6; st = List.[]; d = 0; at = λ x. x }, (record { pos = 9; st = List.[]; d = 0; at = λ x.
-          x }, tt),),) (m6 (c .before .before) (c .before .clear-action-arg .given)) (c .clear-action)
-      abbrev pub m8 : (before : After-clear-action-arg) → (given : s7 .gives (m6 (before .before) (before .clear-action-arg .given))) → Typed.Mo T10
+
+      abbrev pub After-clear-action·gave : (c : After-clear-action) → s7 .gives (m6 (c .before .before)
+          (c .before .clear-action-arg .given))
+      After-clear-action·gave = λ c. Called.given ps·2 r·2 (claims· .5) T8 args7 (m6 (c .before .before)
+          (c .before .clear-action-arg .given)) (c .clear-action)
+
+      abbrev pub m8 : (before : After-clear-action-arg) → (given : s7 .gives
+          (m6 (before .before) (before .clear-action-arg .given))) → Typed.Mo T10
       m8 = λ before given. s8 (m7 before given)
-      abbrev pub m9 : (before : After-clear-action) → (given : s10 .gives (m8 (before .before) (After-clear-action·gave before))) → Typed.Mo T12
+
+      abbrev pub m9 : (before : After-clear-action) → (given : s10 .gives
+          (m8 (before .before) (After-clear-action·gave before))) → Typed.Mo T12
       m9 = λ before given. s10 .next (m8 (before .before) (After-clear-action·gave before)) given
-      abbrev pub m10 : (before : After-clear-action) → (given : s10 .gives (m8 (before .before) (After-clear-action·gave before))) → Typed.Mo T14
+
+      abbrev pub m10 : (before : After-clear-action) → (given : s10 .gives
+          (m8 (before .before) (After-clear-action·gave before))) → Typed.Mo T14
       m10 = λ before given. s12 (m9 before given)
-      abbrev W1 : (before : After-clear-action) → (given : s10 .gives (m8 (before .before) (After-clear-action·gave before))) → Typed.Want O1
-      W1 = λ before given. Typed.wantNext T15 O0 (at48 (W0 (before .before .before .before .before .before .κs) (before .before .before .before
-          .before .before .args))) (W0 (before .before .before .before .before .before .κs) (before .before .before .before .before .before .args))
+
+      abbrev W1 : (before : After-clear-action) → (given : s10 .gives
+          (m8 (before .before) (After-clear-action·gave before))) → Typed.Want O1
+      W1 = λ before given. Typed.wantNext T15 O0 (at48 (W0 (before .before .before .before .before .before .κs)
+          (before .before .before .before .before .before .args))) (W0
+          (before .before .before .before .before .before .κs) (before .before .before .before .before .before .args))
+
       module _ (before· : After-clear-action) where
         pub record After-inflight·own : Type 0 where
           pub given : s10 .gives (m8 (before· .before) (After-clear-action·gave before·))
+
       pub record After-inflight : Type 0 where
         pub before : After-clear-action
         pub inflight : After-inflight·own before
+
       abbrev pub m11 : (before : After-inflight) → Typed.Mo T16
       m11 = λ before. s13 (m10 (before .before) (before .inflight .given))
+
       abbrev pub m12 : (before : After-inflight) → Typed.Mo T17
       m12 = λ before. s14 (m11 before)
+
       abbrev pub m13 : (before : After-inflight) → Typed.Mo T18
       m13 = λ before. s15 (m12 before)
+
       module _ (before· : After-inflight) where
         pub record Then1·own : Type 0 where
           pub taken : Path._≡_ (Row.get 15 (T14 .locals) (m10 (before· .before) (before· .inflight .given))) Bool'.true
+
       pub record Then1 : Type 0 where
         pub before : After-inflight
         pub if1 : Then1·own before
+
       abbrev pub Need-taken-with-requires : Type 0
       Need-taken-with-requires = (c : Then1) → s16 .asks (m13 (c .before))
+
       abbrev pub m14 : (before : Then1) → (given : s16 .gives (m13 (before .before))) → Typed.Mo T19
       m14 = λ before given. s16 .next (m13 (before .before)) given
+
       module _ (before· : Then1) where
         abbrev pub After-taken-with·own : Type 0
-        After-taken-with·own = Called.Called ps·3 r·3 (claims· .7) T18 (record { pos = 10; st = List.[]; d = 0; at = λ x. x }, (record { pos = 6; st =
-            List.[]; d = 0; at = λ x. x }, tt),) (m13 (before· .before))
+        After-taken-with·own = Called.Called ps·3 r·3 (claims· .7) T18 args16 (m13 (before· .before))
+
       pub record After-taken-with : Type 0 where
         pub before : Then1
         pub taken-with : After-taken-with·own before
+
       abbrev pub After-taken-with·gave : (c : After-taken-with) → s16 .gives (m13 (c .before .before))
-      After-taken-with·gave = λ c. Called.given ps·3 r·3 (claims· .7) T18 (record { pos = 10; st = List.[]; d = 0; at = λ x. x }, (record { pos = 6;
-          st = List.[]; d = 0; at = λ x. x }, tt),) (m13 (c .before .before)) (c .taken-with)
+      After-taken-with·gave = λ c. Called.given ps·3 r·3 (claims· .7) T18 args16 (m13 (c .before .before))
+          (c .taken-with)
+
       abbrev pub m15 : (before : Then1) → (given : s16 .gives (m13 (before .before))) → Typed.Mo T20
       m15 = λ before given. s17 (m14 before given)
+
       abbrev pub m16 : (before : Then1) → (given : s16 .gives (m13 (before .before))) → Typed.Mo T21
       m16 = λ before given. s18 (m15 before given)
+
       abbrev pub m17 : (before : Then1) → (given : s16 .gives (m13 (before .before))) → Typed.Mo T22
       m17 = λ before given. s19 (m16 before given)
+
       abbrev pub Need-same-length : Type 0
-      Need-same-length = (c : After-taken-with) → MutSlice.SameLen (Row.get 3 (T22 .locals) (m17 (c .before) (After-taken-with·gave c))) (dens (c
-          .before .before .before .before .before .before .before .before .κs) (c .before .before .before .before .before .before .before .before
-          .args) .1 .1 .0)
+      Need-same-length = (c : After-taken-with) → MutSlice.SameLen (Row.get 3 (T22 .locals)
+          (m17 (c .before) (After-taken-with·gave c))) (dens (c .before .before .before .before .before .before .before
+          .before .κs) (c .before .before .before .before .before .before .before .before .args) .1 .1 .0)
+
       abbrev pub Need-returns : Type 0
-      Need-returns = (c : After-taken-with) → Post· (c .before .before .before .before .before .before .before .before .κs) (dens (c .before .before
-          .before .before .before .before .before .before .κs) (c .before .before .before .before .before .before .before .before .args))
-          (Function.resV r (c .before .before .before .before .before .before .before .before .κs) (m17 (c .before) (After-taken-with·gave c) .0))
-          (Clauses.atExit (Kinds.endedOf 4 ps r) (c .before .before .before .before .before .before .before .before .κs) (dens (c .before .before
-          .before .before .before .before .before .before .κs) (c .before .before .before .before .before .before .before .before .args))
-          (Enter.lastsP (c .before .before .before .before .before .before .before .before .κs) 1 ps xs (dens (c .before .before .before .before
-          .before .before .before .before .κs) (c .before .before .before .before .before .before .before .before .args)) (m17 (c .before)
-          (After-taken-with·gave c) .1)))
+      Need-returns = (c : After-taken-with) → Post· (c .before .before .before .before .before .before .before .before
+          .κs) (dens (c .before .before .before .before .before .before .before .before .κs) (c .before .before .before
+          .before .before .before .before .before .args)) (Function.resV r (c .before .before .before .before .before
+          .before .before .before .κs) (m17 (c .before) (After-taken-with·gave c) .0)) (Clauses.atExit
+          (Kinds.endedOf 4 ps r) (c .before .before .before .before .before .before .before .before .κs) (dens (c
+          .before .before .before .before .before .before .before .before .κs) (c .before .before .before .before
+          .before .before .before .before .args)) (Enter.lastsP (c .before .before .before .before .before .before
+          .before .before .κs) 1 ps xs (dens (c .before .before .before .before .before .before .before .before .κs) (c
+          .before .before .before .before .before .before .before .before .args))
+          (m17 (c .before) (After-taken-with·gave c) .1)))
+
       abbrev pub m18 : (before : After-inflight) → Typed.Mo T23
       m18 = λ before. s20 (m10 (before .before) (before .inflight .given))
+
       module _ (before· : After-inflight) where
         pub record Else1·own : Type 0 where
           pub left : Path._≡_ (Row.get 15 (T14 .locals) (m10 (before· .before) (before· .inflight .given))) Bool'.false
+
       pub record Else1 : Type 0 where
         pub before : After-inflight
         pub if1 : Else1·own before
+
       abbrev pub m19 : (before : After-inflight) → Typed.Mo T24
       m19 = λ before. s21 (m18 before)
+
       abbrev pub m20 : (before : After-inflight) → Typed.Mo T25
       m20 = λ before. s22 (m19 before)
+
       abbrev pub Need-revoking-requires : Type 0
       Need-revoking-requires = (c : Else1) → s23 .asks (m20 (c .before))
+
       abbrev pub m21 : (before : Else1) → (given : s23 .gives (m20 (before .before))) → Typed.Mo T26
       m21 = λ before given. s23 .next (m20 (before .before)) given
+
       module _ (before· : Else1) where
         abbrev pub After-revoking·own : Type 0
-        After-revoking·own = Called.Called ps·4 r·4 (claims· .9) T25 (record { pos = 9; st = List.[]; d = 0; at = λ x. x }, (record { pos = 16; st =
-            List.[]; d = 0; at = λ x. x }, (record { pos = 17; st = List.[]; d = 0; at = λ x. x }, tt),),) (m20 (before· .before))
+        After-revoking·own = Called.Called ps·4 r·4 (claims· .9) T25 args23 (m20 (before· .before))
+
       pub record After-revoking : Type 0 where
         pub before : Else1
         pub revoking : After-revoking·own before
+
       abbrev pub After-revoking·gave : (c : After-revoking) → s23 .gives (m20 (c .before .before))
-      After-revoking·gave = λ c. Called.given ps·4 r·4 (claims· .9) T25 (record { pos = 9; st = List.[]; d = 0; at = λ x. x }, (record { pos = 16; st
-          = List.[]; d = 0; at = λ x. x }, (record { pos = 17; st = List.[]; d = 0; at = λ x. x }, tt),),) (m20 (c .before .before)) (c .revoking)
+      After-revoking·gave = λ c. Called.given ps·4 r·4 (claims· .9) T25 args23 (m20 (c .before .before)) (c .revoking)
+
       abbrev pub m22 : (before : Else1) → (given : s23 .gives (m20 (before .before))) → Typed.Mo T27
       m22 = λ before given. s24 (m21 before given)
+
       abbrev pub m23 : (before : Else1) → (given : s23 .gives (m20 (before .before))) → Typed.Mo T28
       m23 = λ before given. s25 (m22 before given)
+
       abbrev pub m24 : (before : Else1) → (given : s23 .gives (m20 (before .before))) → Typed.Mo T29
       m24 = λ before given. s26 (m23 before given)
-      abbrev pub m25 : (before : After-revoking) → (given : s28 .gives (m24 (before .before) (After-revoking·gave before))) → Typed.Mo T31
+
+      abbrev pub m25 : (before : After-revoking) → (given : s28 .gives
+          (m24 (before .before) (After-revoking·gave before))) → Typed.Mo T31
       m25 = λ before given. s28 .next (m24 (before .before) (After-revoking·gave before)) given
-      abbrev pub m26 : (before : After-revoking) → (given : s28 .gives (m24 (before .before) (After-revoking·gave before))) → Typed.Mo T32
+
+      abbrev pub m26 : (before : After-revoking) → (given : s28 .gives
+          (m24 (before .before) (After-revoking·gave before))) → Typed.Mo T32
       m26 = λ before given. s29 .next (m25 before given)
+
       module _ (before· : After-revoking) where
         pub record After-revoke-all-arg·own : Type 0 where
           pub given : s28 .gives (m24 (before· .before) (After-revoking·gave before·))
+
       pub record After-revoke-all-arg : Type 0 where
         pub before : After-revoking
         pub revoke-all-arg : After-revoke-all-arg·own before
-      abbrev pub m27 : (before : After-revoke-all-arg) → (given : s31 .gives (m26 (before .before) (before .revoke-all-arg .given))) → Typed.Mo T34
+
+      abbrev pub m27 : (before : After-revoke-all-arg) → (given : s31 .gives
+          (m26 (before .before) (before .revoke-all-arg .given))) → Typed.Mo T34
       m27 = λ before given. s31 .next (m26 (before .before) (before .revoke-all-arg .given)) given
-      abbrev pub m28 : (before : After-revoke-all-arg) → (given : s31 .gives (m26 (before .before) (before .revoke-all-arg .given))) → Typed.Mo T35
+
+      abbrev pub m28 : (before : After-revoke-all-arg) → (given : s31 .gives
+          (m26 (before .before) (before .revoke-all-arg .given))) → Typed.Mo T35
       m28 = λ before given. s32 .next (m27 before given)
+
       module _ (before· : After-revoke-all-arg) where
         pub record After-revoke-all-arg2·own : Type 0 where
           pub given : s31 .gives (m26 (before· .before) (before· .revoke-all-arg .given))
+
       pub record After-revoke-all-arg2 : Type 0 where
         pub before : After-revoke-all-arg
         pub revoke-all-arg2 : After-revoke-all-arg2·own before
-      abbrev pub m29 : (before : After-revoke-all-arg2) → (given : s34 .gives (m28 (before .before) (before .revoke-all-arg2 .given))) → Typed.Mo T37
+
+      abbrev pub m29 : (before : After-revoke-all-arg2) → (given : s34 .gives
+          (m28 (before .before) (before .revoke-all-arg2 .given))) → Typed.Mo T37
       m29 = λ before given. s34 .next (m28 (before .before) (before .revoke-all-arg2 .given)) given
-      abbrev pub m30 : (before : After-revoke-all-arg2) → (given : s34 .gives (m28 (before .before) (before .revoke-all-arg2 .given))) → Typed.Mo T38
+
+      abbrev pub m30 : (before : After-revoke-all-arg2) → (given : s34 .gives
+          (m28 (before .before) (before .revoke-all-arg2 .given))) → Typed.Mo T38
       m30 = λ before given. s35 .next (m29 before given)
+
       module _ (before· : After-revoke-all-arg2) where
         pub record After-revoke-all-arg3·own : Type 0 where
           pub given : s34 .gives (m28 (before· .before) (before· .revoke-all-arg2 .given))
+
       pub record After-revoke-all-arg3 : Type 0 where
         pub before : After-revoke-all-arg2
         pub revoke-all-arg3 : After-revoke-all-arg3·own before
-      abbrev pub m31 : (before : After-revoke-all-arg3) → (given : s37 .gives (m30 (before .before) (before .revoke-all-arg3 .given))) → Typed.Mo T40
+
+      abbrev pub m31 : (before : After-revoke-all-arg3) → (given : s37 .gives
+          (m30 (before .before) (before .revoke-all-arg3 .given))) → Typed.Mo T40
       m31 = λ before given. s37 .next (m30 (before .before) (before .revoke-all-arg3 .given)) given
-      abbrev pub m32 : (before : After-revoke-all-arg3) → (given : s37 .gives (m30 (before .before) (before .revoke-all-arg3 .given))) → Typed.Mo T41
+
+      abbrev pub m32 : (before : After-revoke-all-arg3) → (given : s37 .gives
+          (m30 (before .before) (before .revoke-all-arg3 .given))) → Typed.Mo T41
       m32 = λ before given. s38 .next (m31 before given)
+
       module _ (before· : After-revoke-all-arg3) where
         pub record After-revoke-all-arg4·own : Type 0 where
           pub given : s37 .gives (m30 (before· .before) (before· .revoke-all-arg3 .given))
+
       pub record After-revoke-all-arg4 : Type 0 where
         pub before : After-revoke-all-arg3
         pub revoke-all-arg4 : After-revoke-all-arg4·own before
+
       abbrev pub Need-revoke-all-requires : Type 0
       Need-revoke-all-requires = (c : After-revoke-all-arg4) → s39 .asks (m32 (c .before) (c .revoke-all-arg4 .given))
-      abbrev pub m33 : (before : After-revoke-all-arg4) → (given : s39 .gives (m32 (before .before) (before .revoke-all-arg4 .given))) → Typed.Mo T42
+
+      abbrev pub m33 : (before : After-revoke-all-arg4) → (given : s39 .gives
+          (m32 (before .before) (before .revoke-all-arg4 .given))) → Typed.Mo T42
       m33 = λ before given. s39 .next (m32 (before .before) (before .revoke-all-arg4 .given)) given
+
       module _ (before· : After-revoke-all-arg4) where
         abbrev pub After-revoke-all·own : Type 0
-        After-revoke-all·own = Called.Called ps·5 r·5 (claims· .11) T41 (record { pos = 19; ty = Syntax.tyRef Syntax.erased Syntax.mut
-            RelayPending.to; ref = λ x. x; }, (record { pos = 21; ty = Syntax.tyRef Syntax.erased Syntax.mut RelayCircuit.to; ref = λ x. x; }, (record
-            { pos = 23; ty = Syntax.tyRef Syntax.erased Syntax.mut InflightAction.to; ref = λ x. x; }, (record { pos = 25; ty = Syntax.tyRef
-            Syntax.erased Syntax.mut (Syntax.tyInt Syntax.w32); ref = λ x. x; }, (record { pos = 10; st = List.[]; d = 0; at = λ x. x }, (record { pos
-            = 6; st = List.[]; d = 0; at = λ x. x }, (record { pos = 11; st = List.[]; d = 0; at = λ x. x }, (record { pos = 8; st = List.[]; d = 0;
-            at = λ x. x }, tt),),),),),),),) (m32 (before· .before) (before· .revoke-all-arg4 .given))
+        After-revoke-all·own = Called.Called ps·5 r·5 (claims· .11) T41 args39
+            (m32 (before· .before) (before· .revoke-all-arg4 .given))
+
       pub record After-revoke-all : Type 0 where
         pub before : After-revoke-all-arg4
         pub revoke-all : After-revoke-all·own before
-      abbrev pub After-revoke-all·gave : (c : After-revoke-all) → s39 .gives (m32 (c .before .before) (c .before .revoke-all-arg4 .given))
-      After-revoke-all·gave = λ c. Called.given ps·5 r·5 (claims· .11) T41 (record { pos = 19; ty = Syntax.tyRef Syntax.erased Syntax.mut
-          RelayPending.to; ref = λ x. x; }, (record { pos = 21; ty = Syntax.tyRef Syntax.erased Syntax.mut RelayCircuit.to; ref = λ x. x; }, (record {
-          pos = 23; ty = Syntax.tyRef Syntax.erased Syntax.mut InflightAction.to; ref = λ x. x; }, (record { pos = 25; ty = Syntax.tyRef Syntax.erased
-          Syntax.mut (Syntax.tyInt Syntax.w32); ref = λ x. x; }, (record { pos = 10; st = List.[]; d = 0; at = λ x. x }, (record { pos = 6; st =
-          List.[]; d = 0; at = λ x. x }, (record { pos = 11; st = List.[]; d = 0; at = λ x. x }, (record { pos = 8; st = List.[]; d = 0; at = λ x. x
-          }, tt),),),),),),),) (m32 (c .before .before) (c .before .revoke-all-arg4 .given)) (c .revoke-all)
-      abbrev pub m34 : (before : After-revoke-all-arg4) → (given : s39 .gives (m32 (before .before) (before .revoke-all-arg4 .given))) → Typed.Mo T43
+
+      abbrev pub After-revoke-all·gave : (c : After-revoke-all) → s39 .gives (m32 (c .before .before)
+          (c .before .revoke-all-arg4 .given))
+      After-revoke-all·gave = λ c. Called.given ps·5 r·5 (claims· .11) T41 args39 (m32 (c .before .before)
+          (c .before .revoke-all-arg4 .given)) (c .revoke-all)
+
+      abbrev pub m34 : (before : After-revoke-all-arg4) → (given : s39 .gives
+          (m32 (before .before) (before .revoke-all-arg4 .given))) → Typed.Mo T43
       m34 = λ before given. s40 (m33 before given)
-      abbrev pub m35 : (before : After-revoke-all-arg4) → (given : s39 .gives (m32 (before .before) (before .revoke-all-arg4 .given))) → Typed.Mo T44
+
+      abbrev pub m35 : (before : After-revoke-all-arg4) → (given : s39 .gives
+          (m32 (before .before) (before .revoke-all-arg4 .given))) → Typed.Mo T44
       m35 = λ before given. s41 (m34 before given)
-      abbrev pub m36 : (before : After-revoke-all-arg4) → (given : s39 .gives (m32 (before .before) (before .revoke-all-arg4 .given))) → Typed.Mo T45
+
+      abbrev pub m36 : (before : After-revoke-all-arg4) → (given : s39 .gives
+          (m32 (before .before) (before .revoke-all-arg4 .given))) → Typed.Mo T45
       m36 = λ before given. s42 (m35 before given)
-      abbrev pub m37 : (before : After-revoke-all-arg4) → (given : s39 .gives (m32 (before .before) (before .revoke-all-arg4 .given))) → Typed.Mo T46
+
+      abbrev pub m37 : (before : After-revoke-all-arg4) → (given : s39 .gives
+          (m32 (before .before) (before .revoke-all-arg4 .given))) → Typed.Mo T46
       m37 = λ before given. s43 (m36 before given)
-      abbrev pub m38 : (before : After-revoke-all) → (given : s45 .gives (m37 (before .before) (After-revoke-all·gave before))) → Typed.Mo T48
+
+      abbrev pub m38 : (before : After-revoke-all) → (given : s45 .gives
+          (m37 (before .before) (After-revoke-all·gave before))) → Typed.Mo T48
       m38 = λ before given. s45 .next (m37 (before .before) (After-revoke-all·gave before)) given
+
       module _ (before· : After-revoke-all) where
         pub record After-pending·own : Type 0 where
           pub given : s45 .gives (m37 (before· .before) (After-revoke-all·gave before·))
+
       pub record After-pending : Type 0 where
         pub before : After-revoke-all
         pub pending : After-pending·own before
-      abbrev pub m39 : (before : After-pending) → (given : s48 .gives (m38 (before .before) (before .pending .given))) → Typed.Mo T51
+
+      abbrev pub m39 : (before : After-pending) → (given : s48 .gives (m38 (before .before) (before .pending .given)))
+          → Typed.Mo T51
       m39 = λ before given. s48 .next (m38 (before .before) (before .pending .given)) given
+
       module _ (before· : After-pending) where
         pub record After-circuits·own : Type 0 where
           pub given : s48 .gives (m38 (before· .before) (before· .pending .given))
+
       pub record After-circuits : Type 0 where
         pub before : After-pending
         pub circuits : After-circuits·own before
-      abbrev pub m40 : (before : After-circuits) → (given : s51 .gives (m39 (before .before) (before .circuits .given))) → Typed.Mo T54
+
+      abbrev pub m40 : (before : After-circuits) → (given : s51 .gives (m39 (before .before) (before .circuits .given)))
+          → Typed.Mo T54
       m40 = λ before given. s51 .next (m39 (before .before) (before .circuits .given)) given
+
       module _ (before· : After-circuits) where
         pub record After-inflight2·own : Type 0 where
           pub given : s51 .gives (m39 (before· .before) (before· .circuits .given))
+
       pub record After-inflight2 : Type 0 where
         pub before : After-circuits
         pub inflight2 : After-inflight2·own before
-      abbrev pub m41 : (before : After-inflight2) → (given : s54 .gives (m40 (before .before) (before .inflight2 .given))) → Typed.Mo T57
+
+      abbrev pub m41 : (before : After-inflight2) → (given : s54 .gives
+          (m40 (before .before) (before .inflight2 .given))) → Typed.Mo T57
       m41 = λ before given. s54 .next (m40 (before .before) (before .inflight2 .given)) given
+
       module _ (before· : After-inflight2) where
         pub record After-out·own : Type 0 where
           pub given : s54 .gives (m40 (before· .before) (before· .inflight2 .given))
+
       pub record After-out : Type 0 where
         pub before : After-inflight2
         pub out : After-out·own before
-      abbrev pub m42 : (before : After-out) → (given : s55 .gives (m41 (before .before) (before .out .given))) → Typed.Mo T58
+
+      abbrev pub m42 : (before : After-out) → (given : s55 .gives (m41 (before .before) (before .out .given))) →
+          Typed.Mo T58
       m42 = λ before given. s55 .next (m41 (before .before) (before .out .given)) given
-      abbrev pub m43 : (before : After-out) → (given : s55 .gives (m41 (before .before) (before .out .given))) → Typed.Mo T60
+
+      abbrev pub m43 : (before : After-out) → (given : s55 .gives (m41 (before .before) (before .out .given))) →
+          Typed.Mo T60
       m43 = λ before given. s57 (m42 before given)
+
       module _ (before· : After-out) where
         pub record After-slice-known2·own : Type 0 where
           pub given : s55 .gives (m41 (before· .before) (before· .out .given))
+
       pub record After-slice-known2 : Type 0 where
         pub before : After-out
         pub slice-known2 : After-slice-known2·own before
+
       abbrev pub Need-same-length-2 : Type 0
-      Need-same-length-2 = (c : After-slice-known2) → MutSlice.SameLen (Row.get 1 (T60 .locals) (m43 (c .before) (c .slice-known2 .given))) (dens (c
-          .before .before .before .before .before .before .before .before .before .before .before .before .before .before .before .before .before
-          .before .κs) (c .before .before .before .before .before .before .before .before .before .before .before .before .before .before .before
-          .before .before .before .args) .0)
+      Need-same-length-2 = (c : After-slice-known2) → MutSlice.SameLen (Row.get 1 (T60 .locals)
+          (m43 (c .before) (c .slice-known2 .given))) (dens (c .before .before .before .before .before .before .before
+          .before .before .before .before .before .before .before .before .before .before .before .κs) (c .before
+          .before .before .before .before .before .before .before .before .before .before .before .before .before
+          .before .before .before .before .args) .0)
+
       abbrev pub Need-same-length-3 : Type 0
-      Need-same-length-3 = (c : After-slice-known2) → MutSlice.SameLen (Row.get 2 (T60 .locals) (m43 (c .before) (c .slice-known2 .given))) (dens (c
-          .before .before .before .before .before .before .before .before .before .before .before .before .before .before .before .before .before
-          .before .κs) (c .before .before .before .before .before .before .before .before .before .before .before .before .before .before .before
-          .before .before .before .args) .1 .0)
+      Need-same-length-3 = (c : After-slice-known2) → MutSlice.SameLen (Row.get 2 (T60 .locals)
+          (m43 (c .before) (c .slice-known2 .given))) (dens (c .before .before .before .before .before .before .before
+          .before .before .before .before .before .before .before .before .before .before .before .κs) (c .before
+          .before .before .before .before .before .before .before .before .before .before .before .before .before
+          .before .before .before .before .args) .1 .0)
+
       abbrev pub Need-same-length-4 : Type 0
-      Need-same-length-4 = (c : After-slice-known2) → MutSlice.SameLen (Row.get 3 (T60 .locals) (m43 (c .before) (c .slice-known2 .given))) (dens (c
-          .before .before .before .before .before .before .before .before .before .before .before .before .before .before .before .before .before
-          .before .κs) (c .before .before .before .before .before .before .before .before .before .before .before .before .before .before .before
-          .before .before .before .args) .1 .1 .0)
+      Need-same-length-4 = (c : After-slice-known2) → MutSlice.SameLen (Row.get 3 (T60 .locals)
+          (m43 (c .before) (c .slice-known2 .given))) (dens (c .before .before .before .before .before .before .before
+          .before .before .before .before .before .before .before .before .before .before .before .κs) (c .before
+          .before .before .before .before .before .before .before .before .before .before .before .before .before
+          .before .before .before .before .args) .1 .1 .0)
+
       abbrev pub Need-same-length-5 : Type 0
-      Need-same-length-5 = (c : After-slice-known2) → MutSlice.SameLen (Row.get 4 (T60 .locals) (m43 (c .before) (c .slice-known2 .given))) (dens (c
-          .before .before .before .before .before .before .before .before .before .before .before .before .before .before .before .before .before
-          .before .κs) (c .before .before .before .before .before .before .before .before .before .before .before .before .before .before .before
-          .before .before .before .args) .1 .1 .1 .0)
+      Need-same-length-5 = (c : After-slice-known2) → MutSlice.SameLen (Row.get 4 (T60 .locals)
+          (m43 (c .before) (c .slice-known2 .given))) (dens (c .before .before .before .before .before .before .before
+          .before .before .before .before .before .before .before .before .before .before .before .κs) (c .before
+          .before .before .before .before .before .before .before .before .before .before .before .before .before
+          .before .before .before .before .args) .1 .1 .1 .0)
+
       abbrev pub Need-returns-2 : Type 0
-      Need-returns-2 = (c : After-slice-known2) → Post· (c .before .before .before .before .before .before .before .before .before .before .before
-          .before .before .before .before .before .before .before .κs) (dens (c .before .before .before .before .before .before .before .before
-          .before .before .before .before .before .before .before .before .before .before .κs) (c .before .before .before .before .before .before
-          .before .before .before .before .before .before .before .before .before .before .before .before .args)) (Function.resV r (c .before .before
-          .before .before .before .before .before .before .before .before .before .before .before .before .before .before .before .before .κs) (m43 (c
-          .before) (c .slice-known2 .given) .0)) (Clauses.atExit (Kinds.endedOf 4 ps r) (c .before .before .before .before .before .before .before
-          .before .before .before .before .before .before .before .before .before .before .before .κs) (dens (c .before .before .before .before
-          .before .before .before .before .before .before .before .before .before .before .before .before .before .before .κs) (c .before .before
-          .before .before .before .before .before .before .before .before .before .before .before .before .before .before .before .before .args))
-          (Enter.lastsP (c .before .before .before .before .before .before .before .before .before .before .before .before .before .before .before
-          .before .before .before .κs) 1 ps xs (dens (c .before .before .before .before .before .before .before .before .before .before .before
-          .before .before .before .before .before .before .before .κs) (c .before .before .before .before .before .before .before .before .before
-          .before .before .before .before .before .before .before .before .before .args)) (m43 (c .before) (c .slice-known2 .given) .1)))
-      module _ (used-requires : Need-used-requires) (with-enabled-requires : Need-with-enabled-requires) (clear-action-requires :
-          Need-clear-action-requires) (taken-with-requires : Need-taken-with-requires) (same-length : Need-same-length) (returns : Need-returns)
-          (revoking-requires : Need-revoking-requires) (revoke-all-requires : Need-revoke-all-requires) (same-length-2 : Need-same-length-2)
-          (same-length-3 : Need-same-length-3) (same-length-4 : Need-same-length-4) (same-length-5 : Need-same-length-5) (returns-2 : Need-returns-2)
-          where
-        lay7 : (c : After-revoke-all) → at29 (W0 (c .before .before .before .before .before .before .before .before .before .before .before .before
-            .before .κs) (c .before .before .before .before .before .before .before .before .before .before .before .before .before .args)) (m33 (c
-            .before) (After-revoke-all·gave c))
-        lay7 = λ c. (Path.refl, λ g. (Path.refl, λ g'. (Path.refl, λ g''. (Path.refl, λ g'3. λ g'4. ((MutSlice.fix-len (Row.get 1 (T60 .locals) (m43
-            record { before = record { before = record { before = record { before = record { before = c .before; revoke-all = c .revoke-all }; pending
-            = record { given = g }; }; circuits = record { given = g' }; }; inflight2 = record { given = g'' }; }; out = record { given = g'3 }; }
-            g'4) .ptr) (Row.get 1 (T60 .locals) (m43 record { before = record { before = record { before = record { before = record { before = c
-            .before; revoke-all = c .revoke-all }; pending = record { given = g }; }; circuits = record { given = g' }; }; inflight2 = record { given
-            = g'' }; }; out = record { given = g'3 }; } g'4) .name) (Row.get 1 (T60 .locals) (m43 record { before = record { before = record { before
-            = record { before = record { before = c .before; revoke-all = c .revoke-all }; pending = record { given = g }; }; circuits = record {
-            given = g' }; }; inflight2 = record { given = g'' }; }; out = record { given = g'3 }; } g'4) .now) (dens (c .before .before .before
-            .before .before .before .before .before .before .before .before .before .before .κs) (c .before .before .before .before .before .before
-            .before .before .before .before .before .before .before .args) .0 .now) (same-length-2 record { before = record { before = record { before
-            = record { before = record { before = record { before = c .before; revoke-all = c .revoke-all; }; pending = record { given = g }; };
-            circuits = record { given = g' }; }; inflight2 = record { given = g'' }; }; out = record { given = g'3 }; }; slice-known2 = record { given
-            = g'4 }; }), (MutSlice.fix-len (Row.get 2 (T60 .locals) (m43 record { before = record { before = record { before = record { before =
-            record { before = c .before; revoke-all = c .revoke-all }; pending = record { given = g }; }; circuits = record { given = g' }; };
-            inflight2 = record { given = g'' }; }; out = record { given = g'3 }; } g'4) .ptr) (Row.get 2 (T60 .locals) (m43 record { before = record {
-            before = record { before = record { before = record { before = c .before; revoke-all = c .revoke-all }; pending = record { given = g }; };
-            circuits = record { given = g' }; }; inflight2 = record { given = g'' }; }; out = record { given = g'3 }; } g'4) .name) (Row.get 2 (T60
-            .locals) (m43 record { before = record { before = record { before = record { before = record { before = c .before; revoke-all = c
-            .revoke-all }; pending = record { given = g }; }; circuits = record { given = g' }; }; inflight2 = record { given = g'' }; }; out = record
-            { given = g'3 }; } g'4) .now) (dens (c .before .before .before .before .before .before .before .before .before .before .before .before
-            .before .κs) (c .before .before .before .before .before .before .before .before .before .before .before .before .before .args) .1 .0 .now)
-            (same-length-3 record { before = record { before = record { before = record { before = record { before = record { before = c .before;
-            revoke-all = c .revoke-all; }; pending = record { given = g }; }; circuits = record { given = g' }; }; inflight2 = record { given = g'' };
-            }; out = record { given = g'3 }; }; slice-known2 = record { given = g'4 }; }), (MutSlice.fix-len (Row.get 3 (T60 .locals) (m43 record {
-            before = record { before = record { before = record { before = record { before = c .before; revoke-all = c .revoke-all; }; pending =
-            record { given = g }; }; circuits = record { given = g' }; }; inflight2 = record { given = g'' }; }; out = record { given = g'3 }; } g'4)
-            .ptr) (Row.get 3 (T60 .locals) (m43 record { before = record { before = record { before = record { before = record { before = c .before;
-            revoke-all = c .revoke-all; }; pending = record { given = g }; }; circuits = record { given = g' }; }; inflight2 = record { given = g'' };
-            }; out = record { given = g'3 }; } g'4) .name) (Row.get 3 (T60 .locals) (m43 record { before = record { before = record { before = record
-            { before = record { before = c .before; revoke-all = c .revoke-all; }; pending = record { given = g }; }; circuits = record { given = g'
-            }; }; inflight2 = record { given = g'' }; }; out = record { given = g'3 }; } g'4) .now) (dens (c .before .before .before .before .before
-            .before .before .before .before .before .before .before .before .κs) (c .before .before .before .before .before .before .before .before
-            .before .before .before .before .before .args) .1 .1 .0 .now) (same-length-4 record { before = record { before = record { before = record
-            { before = record { before = record { before = c .before; revoke-all = c .revoke-all; }; pending = record { given = g }; }; circuits =
-            record { given = g' }; }; inflight2 = record { given = g'' }; }; out = record { given = g'3 }; }; slice-known2 = record { given = g'4 };
-            }), (MutSlice.fix-len (Row.get 4 (T60 .locals) (m43 record { before = record { before = record { before = record { before = record {
-            before = c .before; revoke-all = c .revoke-all; }; pending = record { given = g }; }; circuits = record { given = g' }; }; inflight2 =
-            record { given = g'' }; }; out = record { given = g'3 }; } g'4) .ptr) (Row.get 4 (T60 .locals) (m43 record { before = record { before =
-            record { before = record { before = record { before = c .before; revoke-all = c .revoke-all; }; pending = record { given = g }; };
-            circuits = record { given = g' }; }; inflight2 = record { given = g'' }; }; out = record { given = g'3 }; } g'4) .name) (Row.get 4 (T60
-            .locals) (m43 record { before = record { before = record { before = record { before = record { before = c .before; revoke-all = c
-            .revoke-all; }; pending = record { given = g }; }; circuits = record { given = g' }; }; inflight2 = record { given = g'' }; }; out =
-            record { given = g'3 }; } g'4) .now) (dens (c .before .before .before .before .before .before .before .before .before .before .before
-            .before .before .κs) (c .before .before .before .before .before .before .before .before .before .before .before .before .before .args) .1
-            .1 .1 .0 .now) (same-length-5 record { before = record { before = record { before = record { before = record { before = record { before =
-            c .before; revoke-all = c .revoke-all; }; pending = record { given = g }; }; circuits = record { given = g' }; }; inflight2 = record {
-            given = g'' }; }; out = record { given = g'3 }; }; slice-known2 = record { given = g'4 }; }), (tt, (tt, (tt, (tt, tt)))),),),),),
-            returns-2 record { before = record { before = record { before = record { before = record { before = record { before = c .before;
-            revoke-all = c .revoke-all }; pending = record { given = g }; }; circuits = record { given = g' }; }; inflight2 = record { given = g'' };
-            }; out = record { given = g'3 }; }; slice-known2 = record { given = g'4 }; },),),),),)
-        lay6 : (c : After-revoking) → at45 (W0 (c .before .before .before .before .before .before .before .before .κs) (c .before .before .before
-            .before .before .before .before .before .args)) (m21 (c .before) (After-revoking·gave c))
-        lay6 = λ c. λ g. (Path.refl, λ g'. (Path.refl, λ g''. (Path.refl, λ g'3. (Path.refl, (revoke-all-requires record { before = record { before =
-            record { before = record { before = record { before = c .before; revoking = c .revoking }; revoke-all-arg = record { given = g }; };
-            revoke-all-arg2 = record { given = g' }; }; revoke-all-arg3 = record { given = g'' }; }; revoke-all-arg4 = record { given = g'3 }; }, λ
-            g'4. lay7 record { before = record { before = record { before = record { before = record { before = record { before = c .before; revoking
-            = c .revoking }; revoke-all-arg = record { given = g }; }; revoke-all-arg2 = record { given = g' }; }; revoke-all-arg3 = record { given =
-            g'' }; }; revoke-all-arg4 = record { given = g'3 }; }; revoke-all = Called.called ps·5 r·5 (claims· .11) T41 (record { pos = 19; ty =
-            Syntax.tyRef Syntax.erased Syntax.mut RelayPending.to; ref = λ x. x; }, (record { pos = 21; ty = Syntax.tyRef Syntax.erased Syntax.mut
-            RelayCircuit.to; ref = λ x. x; }, (record { pos = 23; ty = Syntax.tyRef Syntax.erased Syntax.mut InflightAction.to; ref = λ x. x; },
-            (record { pos = 25; ty = Syntax.tyRef Syntax.erased Syntax.mut (Syntax.tyInt Syntax.w32); ref = λ x. x; }, (record { pos = 10; st =
-            List.[]; d = 0; at = λ x. x }, (record { pos = 6; st = List.[]; d = 0; at = λ x. x }, (record { pos = 11; st = List.[]; d = 0; at = λ x. x
-            }, (record { pos = 8; st = List.[]; d = 0; at = λ x. x }, tt),),),),),),),) (m32 record { before = record { before = record { before =
-            record { before = c .before; revoking = c .revoking }; revoke-all-arg = record { given = g }; }; revoke-all-arg2 = record { given = g' };
-            }; revoke-all-arg3 = record { given = g'' }; } g'3) g'4; },),),),),)
-        lay5 : (c : Else1) → at48 (W0 (c .before .before .before .before .before .before .before .κs) (c .before .before .before .before .before
-            .before .before .args)) (m18 (c .before))
-        lay5 = λ c. (revoking-requires record { before = c .before; if1 = c .if1 }, λ g. lay6 record { before = record { before = c .before; if1 = c
-            .if1 }; revoking = Called.called ps·4 r·4 (claims· .9) T25 (record { pos = 9; st = List.[]; d = 0; at = λ x. x }, (record { pos = 16; st =
-            List.[]; d = 0; at = λ x. x }, (record { pos = 17; st = List.[]; d = 0; at = λ x. x }, tt),),) (m20 (c .before)) g; },)
-        lay4 : (c : After-taken-with) → at3 (W1 (c .before .before .before) (c .before .before .inflight .given)) (m14 (c .before)
-            (After-taken-with·gave c))
-        lay4 = λ c. ((Path.refl, (Path.refl, (MutSlice.fix-len (Row.get 3 (T22 .locals) (m17 (c .before) (After-taken-with·gave c)) .ptr) (Row.get 3
-            (T22 .locals) (m17 (c .before) (After-taken-with·gave c)) .name) (Row.get 3 (T22 .locals) (m17 (c .before) (After-taken-with·gave c))
-            .now) (dens (c .before .before .before .before .before .before .before .before .κs) (c .before .before .before .before .before .before
-            .before .before .args) .1 .1 .0 .now) (same-length record { before = c .before; taken-with = c .taken-with }), (Path.refl, (tt, (tt, (tt,
-            (tt, tt))))),),),), returns record { before = c .before; taken-with = c .taken-with },)
-        lay3 : (c : After-clear-action) → at54 (W0 (c .before .before .before .before .before .κs) (c .before .before .before .before .before .args))
-            (m7 (c .before) (After-clear-action·gave c))
-        lay3 = λ c. (Path.refl, λ g. (λ taken. (taken-with-requires record { before = record { before = record { before = c .before; clear-action = c
-            .clear-action }; inflight = record { given = g }; }; if1 = record { taken = taken }; }, λ g'. lay4 record { before = record { before =
-            record { before = record { before = c .before; clear-action = c .clear-action }; inflight = record { given = g }; }; if1 = record { taken
-            = taken }; }; taken-with = Called.called ps·3 r·3 (claims· .7) T18 (record { pos = 10; st = List.[]; d = 0; at = λ x. x }, (record { pos =
-            6; st = List.[]; d = 0; at = λ x. x }, tt),) (m13 record { before = record { before = c .before; clear-action = c .clear-action };
-            inflight = record { given = g }; }) g'; },), λ left. lay5 record { before = record { before = record { before = c .before; clear-action =
-            c .clear-action }; inflight = record { given = g }; }; if1 = record { left = left }; },),)
-        lay2 : (c : After-with-enabled) → at59 (W0 (c .before .before .before .κs) (c .before .before .before .args)) (m3 (c .before)
-            (After-with-enabled·gave c))
-        lay2 = λ c. λ g. (Path.refl, (clear-action-requires record { before = record { before = c .before; with-enabled = c .with-enabled };
-            clear-action-arg = record { given = g }; }, λ g'. lay3 record { before = record { before = record { before = c .before; with-enabled = c
-            .with-enabled }; clear-action-arg = record { given = g }; }; clear-action = Called.called ps·2 r·2 (claims· .5) T8 (record { pos = 14; ty
-            = Syntax.tyRef Syntax.erased Syntax.mut InflightAction.to; ref = λ x. x; }, (record { pos = 6; st = List.[]; d = 0; at = λ x. x }, (record
-            { pos = 9; st = List.[]; d = 0; at = λ x. x }, tt),),) (m6 record { before = c .before; with-enabled = c .with-enabled } g) g'; },),)
-        lay1 : (c : After-used) → at60 (W0 (c .before .before .κs) (c .before .before .args)) (m2 (c .before) (After-used·gave c))
-        lay1 = λ c. (with-enabled-requires record { before = c .before; used = c .used }, λ g. lay2 record { before = record { before = c .before;
-            used = c .used }; with-enabled = Called.called ps·1 r·1 (claims· .3) T3 (record { pos = 5; st = List.[]; d = 0; at = λ x. x }, (Bool.bAt 7
-            λ x. x, tt),) (m2 (c .before) (After-used·gave c)) g; },)
+      Need-returns-2 = (c : After-slice-known2) → Post· (c .before .before .before .before .before .before .before
+          .before .before .before .before .before .before .before .before .before .before .before .κs) (dens (c .before
+          .before .before .before .before .before .before .before .before .before .before .before .before .before
+          .before .before .before .before .κs) (c .before .before .before .before .before .before .before .before
+          .before .before .before .before .before .before .before .before .before .before .args)) (Function.resV r (c
+          .before .before .before .before .before .before .before .before .before .before .before .before .before
+          .before .before .before .before .before .κs) (m43 (c .before) (c .slice-known2 .given) .0)) (Clauses.atExit
+          (Kinds.endedOf 4 ps r) (c .before .before .before .before .before .before .before .before .before .before
+          .before .before .before .before .before .before .before .before .κs) (dens (c .before .before .before .before
+          .before .before .before .before .before .before .before .before .before .before .before .before .before
+          .before .κs) (c .before .before .before .before .before .before .before .before .before .before .before
+          .before .before .before .before .before .before .before .args)) (Enter.lastsP (c .before .before .before
+          .before .before .before .before .before .before .before .before .before .before .before .before .before
+          .before .before .κs) 1 ps xs (dens (c .before .before .before .before .before .before .before .before .before
+          .before .before .before .before .before .before .before .before .before .κs) (c .before .before .before
+          .before .before .before .before .before .before .before .before .before .before .before .before .before
+          .before .before .args)) (m43 (c .before) (c .slice-known2 .given) .1)))
+
+      module _ (used-requires : Need-used-requires) (with-enabled-requires : Need-with-enabled-requires)
+          (clear-action-requires : Need-clear-action-requires) (taken-with-requires : Need-taken-with-requires)
+          (same-length : Need-same-length) (returns : Need-returns) (revoking-requires : Need-revoking-requires)
+          (revoke-all-requires : Need-revoke-all-requires) (same-length-2 : Need-same-length-2)
+          (same-length-3 : Need-same-length-3) (same-length-4 : Need-same-length-4)
+          (same-length-5 : Need-same-length-5) (returns-2 : Need-returns-2) where
+        lay7 : (c : After-revoke-all) → at29 (W0 (c .before .before .before .before .before .before .before .before
+            .before .before .before .before .before .κs) (c .before .before .before .before .before .before .before
+            .before .before .before .before .before .before .args)) (m33 (c .before) (After-revoke-all·gave c))
+        lay7 = λ c. (
+          Path.refl,
+          λ g. (
+            Path.refl,
+            λ g'. (
+              Path.refl,
+              λ g''. (
+                Path.refl,
+                λ g'3. λ g'4. (
+                  (
+                    MutSlice.fix-len (Row.get 1 (T60 .locals) (m43
+                        record {
+                          before = record {
+                            before = record {
+                              before = record {
+                                before = record { before = c .before; revoke-all = c .revoke-all };
+                                pending = record { given = g };
+                              };
+                              circuits = record { given = g' };
+                            };
+                            inflight2 = record { given = g'' };
+                          };
+                          out = record { given = g'3 };
+                        } g'4) .ptr) (Row.get 1 (T60 .locals) (m43
+                        record {
+                          before = record {
+                            before = record {
+                              before = record {
+                                before = record { before = c .before; revoke-all = c .revoke-all };
+                                pending = record { given = g };
+                              };
+                              circuits = record { given = g' };
+                            };
+                            inflight2 = record { given = g'' };
+                          };
+                          out = record { given = g'3 };
+                        } g'4) .name) (Row.get 1 (T60 .locals) (m43
+                        record {
+                          before = record {
+                            before = record {
+                              before = record {
+                                before = record { before = c .before; revoke-all = c .revoke-all };
+                                pending = record { given = g };
+                              };
+                              circuits = record { given = g' };
+                            };
+                            inflight2 = record { given = g'' };
+                          };
+                          out = record { given = g'3 };
+                        } g'4) .now) (dens (c .before .before .before .before .before .before .before .before .before
+                        .before .before .before .before .κs) (c .before .before .before .before .before .before .before
+                        .before .before .before .before .before .before .args) .0 .now) (same-length-2
+                        record {
+                          before = record {
+                            before = record {
+                              before = record {
+                                before = record {
+                                  before = record { before = c .before; revoke-all = c .revoke-all };
+                                  pending = record { given = g };
+                                };
+                                circuits = record { given = g' };
+                              };
+                              inflight2 = record { given = g'' };
+                            };
+                            out = record { given = g'3 };
+                          };
+                          slice-known2 = record { given = g'4 };
+                        }),
+                    (
+                      MutSlice.fix-len (Row.get 2 (T60 .locals) (m43
+                          record {
+                            before = record {
+                              before = record {
+                                before = record {
+                                  before = record { before = c .before; revoke-all = c .revoke-all };
+                                  pending = record { given = g };
+                                };
+                                circuits = record { given = g' };
+                              };
+                              inflight2 = record { given = g'' };
+                            };
+                            out = record { given = g'3 };
+                          } g'4) .ptr) (Row.get 2 (T60 .locals) (m43
+                          record {
+                            before = record {
+                              before = record {
+                                before = record {
+                                  before = record { before = c .before; revoke-all = c .revoke-all };
+                                  pending = record { given = g };
+                                };
+                                circuits = record { given = g' };
+                              };
+                              inflight2 = record { given = g'' };
+                            };
+                            out = record { given = g'3 };
+                          } g'4) .name) (Row.get 2 (T60 .locals) (m43
+                          record {
+                            before = record {
+                              before = record {
+                                before = record {
+                                  before = record { before = c .before; revoke-all = c .revoke-all };
+                                  pending = record { given = g };
+                                };
+                                circuits = record { given = g' };
+                              };
+                              inflight2 = record { given = g'' };
+                            };
+                            out = record { given = g'3 };
+                          } g'4) .now) (dens (c .before .before .before .before .before .before .before .before .before
+                          .before .before .before .before .κs) (c .before .before .before .before .before .before
+                          .before .before .before .before .before .before .before .args) .1 .0 .now) (same-length-3
+                          record {
+                            before = record {
+                              before = record {
+                                before = record {
+                                  before = record {
+                                    before = record { before = c .before; revoke-all = c .revoke-all };
+                                    pending = record { given = g };
+                                  };
+                                  circuits = record { given = g' };
+                                };
+                                inflight2 = record { given = g'' };
+                              };
+                              out = record { given = g'3 };
+                            };
+                            slice-known2 = record { given = g'4 };
+                          }),
+                      (
+                        MutSlice.fix-len (Row.get 3 (T60 .locals) (m43
+                            record {
+                              before = record {
+                                before = record {
+                                  before = record {
+                                    before = record { before = c .before; revoke-all = c .revoke-all };
+                                    pending = record { given = g };
+                                  };
+                                  circuits = record { given = g' };
+                                };
+                                inflight2 = record { given = g'' };
+                              };
+                              out = record { given = g'3 };
+                            } g'4) .ptr) (Row.get 3 (T60 .locals) (m43
+                            record {
+                              before = record {
+                                before = record {
+                                  before = record {
+                                    before = record { before = c .before; revoke-all = c .revoke-all };
+                                    pending = record { given = g };
+                                  };
+                                  circuits = record { given = g' };
+                                };
+                                inflight2 = record { given = g'' };
+                              };
+                              out = record { given = g'3 };
+                            } g'4) .name) (Row.get 3 (T60 .locals) (m43
+                            record {
+                              before = record {
+                                before = record {
+                                  before = record {
+                                    before = record { before = c .before; revoke-all = c .revoke-all };
+                                    pending = record { given = g };
+                                  };
+                                  circuits = record { given = g' };
+                                };
+                                inflight2 = record { given = g'' };
+                              };
+                              out = record { given = g'3 };
+                            } g'4) .now) (dens (c .before .before .before .before .before .before .before .before
+                            .before .before .before .before .before .κs) (c .before .before .before .before .before
+                            .before .before .before .before .before .before .before .before .args) .1 .1 .0 .now) (same-length-4
+                            record {
+                              before = record {
+                                before = record {
+                                  before = record {
+                                    before = record {
+                                      before = record { before = c .before; revoke-all = c .revoke-all };
+                                      pending = record { given = g };
+                                    };
+                                    circuits = record { given = g' };
+                                  };
+                                  inflight2 = record { given = g'' };
+                                };
+                                out = record { given = g'3 };
+                              };
+                              slice-known2 = record { given = g'4 };
+                            }),
+                        (
+                          MutSlice.fix-len (Row.get 4 (T60 .locals) (m43
+                              record {
+                                before = record {
+                                  before = record {
+                                    before = record {
+                                      before = record { before = c .before; revoke-all = c .revoke-all };
+                                      pending = record { given = g };
+                                    };
+                                    circuits = record { given = g' };
+                                  };
+                                  inflight2 = record { given = g'' };
+                                };
+                                out = record { given = g'3 };
+                              } g'4) .ptr) (Row.get 4 (T60 .locals) (m43
+                              record {
+                                before = record {
+                                  before = record {
+                                    before = record {
+                                      before = record { before = c .before; revoke-all = c .revoke-all };
+                                      pending = record { given = g };
+                                    };
+                                    circuits = record { given = g' };
+                                  };
+                                  inflight2 = record { given = g'' };
+                                };
+                                out = record { given = g'3 };
+                              } g'4) .name) (Row.get 4 (T60 .locals) (m43
+                              record {
+                                before = record {
+                                  before = record {
+                                    before = record {
+                                      before = record { before = c .before; revoke-all = c .revoke-all };
+                                      pending = record { given = g };
+                                    };
+                                    circuits = record { given = g' };
+                                  };
+                                  inflight2 = record { given = g'' };
+                                };
+                                out = record { given = g'3 };
+                              } g'4) .now) (dens (c .before .before .before .before .before .before .before .before
+                              .before .before .before .before .before .κs) (c .before .before .before .before .before
+                              .before .before .before .before .before .before .before .before .args) .1 .1 .1 .0 .now) (same-length-5
+                              record {
+                                before = record {
+                                  before = record {
+                                    before = record {
+                                      before = record {
+                                        before = record { before = c .before; revoke-all = c .revoke-all };
+                                        pending = record { given = g };
+                                      };
+                                      circuits = record { given = g' };
+                                    };
+                                    inflight2 = record { given = g'' };
+                                  };
+                                  out = record { given = g'3 };
+                                };
+                                slice-known2 = record { given = g'4 };
+                              }),
+                          (tt, (tt, (tt, (tt, tt)))),
+                        ),
+                      ),
+                    ),
+                  ),
+                  returns-2 record {
+                    before = record {
+                      before = record {
+                        before = record {
+                          before = record {
+                            before = record { before = c .before; revoke-all = c .revoke-all };
+                            pending = record { given = g };
+                          };
+                          circuits = record { given = g' };
+                        };
+                        inflight2 = record { given = g'' };
+                      };
+                      out = record { given = g'3 };
+                    };
+                    slice-known2 = record { given = g'4 };
+                  },
+                ),
+              ),
+            ),
+          ),
+        )
+
+        lay6 : (c : After-revoking) → at45 (W0 (c .before .before .before .before .before .before .before .before .κs) (c
+            .before .before .before .before .before .before .before .before .args))
+            (m21 (c .before) (After-revoking·gave c))
+        lay6 = λ c. λ g. (
+          Path.refl,
+          λ g'. (
+            Path.refl,
+            λ g''. (
+              Path.refl,
+              λ g'3. (
+                Path.refl,
+                (
+                  revoke-all-requires record {
+                    before = record {
+                      before = record {
+                        before = record {
+                          before = record { before = c .before; revoking = c .revoking };
+                          revoke-all-arg = record { given = g };
+                        };
+                        revoke-all-arg2 = record { given = g' };
+                      };
+                      revoke-all-arg3 = record { given = g'' };
+                    };
+                    revoke-all-arg4 = record { given = g'3 };
+                  },
+                  λ g'4. lay7 record {
+                    before = record {
+                      before = record {
+                        before = record {
+                          before = record {
+                            before = record { before = c .before; revoking = c .revoking };
+                            revoke-all-arg = record { given = g };
+                          };
+                          revoke-all-arg2 = record { given = g' };
+                        };
+                        revoke-all-arg3 = record { given = g'' };
+                      };
+                      revoke-all-arg4 = record { given = g'3 };
+                    };
+                    revoke-all = Called.called ps·5 r·5 (claims· .11) T41 args39 (m32
+                        record {
+                          before = record {
+                            before = record {
+                              before = record { before = c .before; revoking = c .revoking };
+                              revoke-all-arg = record { given = g };
+                            };
+                            revoke-all-arg2 = record { given = g' };
+                          };
+                          revoke-all-arg3 = record { given = g'' };
+                        } g'3) g'4;
+                  },
+                ),
+              ),
+            ),
+          ),
+        )
+
+        lay5 : (c : Else1) → at48 (W0 (c .before .before .before .before .before .before .before .κs) (c .before
+            .before .before .before .before .before .before .args)) (m18 (c .before))
+        lay5 = λ c. (
+          revoking-requires record { before = c .before; if1 = c .if1 },
+          λ g. lay6 record {
+            before = record { before = c .before; if1 = c .if1 };
+            revoking = Called.called ps·4 r·4 (claims· .9) T25 args23 (m20 (c .before)) g;
+          },
+        )
+
+        lay4 : (c : After-taken-with) → at3 (W1 (c .before .before .before) (c .before .before .inflight .given))
+            (m14 (c .before) (After-taken-with·gave c))
+        lay4 = λ c. (
+          (
+            Path.refl,
+            (
+              Path.refl,
+              (
+                MutSlice.fix-len (Row.get 3 (T22 .locals) (m17 (c .before) (After-taken-with·gave c)) .ptr) (Row.get 3
+                    (T22 .locals) (m17 (c .before) (After-taken-with·gave c)) .name) (Row.get 3 (T22 .locals)
+                    (m17 (c .before) (After-taken-with·gave c)) .now) (dens (c .before .before .before .before .before
+                    .before .before .before .κs) (c .before .before .before .before .before .before .before .before
+                    .args) .1 .1 .0 .now) (same-length record { before = c .before; taken-with = c .taken-with }),
+                (Path.refl, (tt, (tt, (tt, (tt, tt))))),
+              ),
+            ),
+          ),
+          returns record { before = c .before; taken-with = c .taken-with },
+        )
+
+        lay3 : (c : After-clear-action) → at54 (W0 (c .before .before .before .before .before .κs)
+            (c .before .before .before .before .before .args)) (m7 (c .before) (After-clear-action·gave c))
+        lay3 = λ c. (
+          Path.refl,
+          λ g. (
+            λ taken. (
+              taken-with-requires record {
+                before = record {
+                  before = record { before = c .before; clear-action = c .clear-action };
+                  inflight = record { given = g };
+                };
+                if1 = record { taken = taken };
+              },
+              λ g'. lay4 record {
+                before = record {
+                  before = record {
+                    before = record { before = c .before; clear-action = c .clear-action };
+                    inflight = record { given = g };
+                  };
+                  if1 = record { taken = taken };
+                };
+                taken-with = Called.called ps·3 r·3 (claims· .7) T18 args16 (m13
+                    record {
+                      before = record { before = c .before; clear-action = c .clear-action };
+                      inflight = record { given = g };
+                    }) g';
+              },
+            ),
+            λ left. lay5 record {
+              before = record {
+                before = record { before = c .before; clear-action = c .clear-action };
+                inflight = record { given = g };
+              };
+              if1 = record { left = left };
+            },
+          ),
+        )
+
+        lay2 : (c : After-with-enabled) → at59 (W0 (c .before .before .before .κs) (c .before .before .before .args))
+            (m3 (c .before) (After-with-enabled·gave c))
+        lay2 = λ c. λ g. (
+          Path.refl,
+          (
+            clear-action-requires record {
+              before = record { before = c .before; with-enabled = c .with-enabled };
+              clear-action-arg = record { given = g };
+            },
+            λ g'. lay3 record {
+              before = record {
+                before = record { before = c .before; with-enabled = c .with-enabled };
+                clear-action-arg = record { given = g };
+              };
+              clear-action = Called.called ps·2 r·2 (claims· .5) T8 args7 (m6
+                  record { before = c .before; with-enabled = c .with-enabled } g) g';
+            },
+          ),
+        )
+
+        lay1 : (c : After-used) → at60 (W0 (c .before .before .κs) (c .before .before .args))
+            (m2 (c .before) (After-used·gave c))
+        lay1 = λ c. (
+          with-enabled-requires record { before = c .before; used = c .used },
+          λ g. lay2 record {
+            before = record { before = c .before; used = c .used };
+            with-enabled = Called.called ps·1 r·1 (claims· .3) T3 args2 (m2 (c .before) (After-used·gave c)) g;
+          },
+        )
+
         pub laid : (c : Start) → at62 (W0 (c .κs) (c .args)) (m0 (c .κs) (c .args))
-        laid = λ c. λ g. (used-requires record { before = c; slice-known = record { given = g } }, λ g'. lay1 record { before = record { before = c;
-            slice-known = record { given = g } }; used = Called.called ps·0 r·0 (claims· .1) T2 tt (m1 c g) g'; },)
+        laid = λ c. λ g. (
+          used-requires record { before = c; slice-known = record { given = g } },
+          λ g'. lay1 record {
+            before = record { before = c; slice-known = record { given = g } };
+            used = Called.called ps·0 r·0 (claims· .1) T2 tt (m1 c g) g';
+          },
+        )
+
         module _ (κs : Lifetimes.Lfts 4) (qs : Lifetimes.Shares 4) where
-          pub asked : (a : Kinds.Dens κs ps) → (good : Kinds.GoodsP κs ps a) → (pre : Pre· κs a) → (bs : List.List Nat.ℕ) → Φ (Any.wantQ 4 ps r xs m
-              κs qs a (Post· κs a)) (Function.init 4 ps r xs m κs qs a)
-          asked = λ a good pre bs. laid record { κs = κs; args = record { pending = a .0; circuits = a .1 .0; inflight = a .1 .1 .0; out = a .1 .1 .1
-              .0; runtime = a .1 .1 .1 .1 .0; places = a .1 .1 .1 .1 .1 .0; enabled = a .1 .1 .1 .1 .1 .1 .0; first = a .1 .1 .1 .1 .1 .1 .1 .0; };
-              good = good; pre = pre; }
-        module _ { M : Type 1 } (𝓤 : URA.URA M) (H : Wp.Heap 𝓤) (A : Atoms.Atoms 𝓤) (W : Kit.Given 𝓤 H A) (𝓣 : Wp.Tables 𝓤 H) (known0 : Plain.Known 𝓤
-            H A W 𝓣 0 ps·0 r·0 (claims· .0) (claims· .1) "hnsr_circuit::question::used") (known1 : Plain.Known 𝓤 H A W 𝓣 0 ps·1 r·1 (claims· .2)
-            (claims· .3) "hnsr_circuit::header::with_enabled") (known2 : Plain.Known 𝓤 H A W 𝓣 1 ps·2 r·2 (claims· .4) (claims· .5)
-            "hnsr_circuit::tables::inflight::clear_action") (known3 : Plain.Known 𝓤 H A W 𝓣 0 ps·3 r·3 (claims· .6) (claims· .7)
-            "hnsr_circuit::revoking_calls::taken_with") (known4 : Plain.Known 𝓤 H A W 𝓣 0 ps·4 r·4 (claims· .8) (claims· .9)
-            "hnsr_circuit::revoking_calls::revoking") (known5 : Plain.Known 𝓤 H A W 𝓣 4 ps·5 r·5 (claims· .10) (claims· .11)
-            "hnsr_circuit::revocation::revoke_all") where
-          pub spec : Statement.Triple 𝓤 (Wp.WpFn 𝓤 H (𝓣 .C) (𝓣 .Λ) (Function.fnOf 4 ps r xs m hs body)) (Function.plainOf 𝓤 H A 4 ps r Pre· Post·)
-          spec = Plain.t-fn-plain 𝓤 H A W 𝓣 4 ps r xs m hs body (λ κs qs bs. Φ) (λ κs qs bs bd. typed κs qs 𝓤 H A W 𝓣 (known0, known1, known2, known3,
-              known4, known5,) bs bd) Pre· Post· asked
+          pub asked : (a : Kinds.Dens κs ps) → (good : Kinds.GoodsP κs ps a) → (pre : Pre· κs a) →
+              (bs : List.List Nat.ℕ) → Φ (Any.wantQ 4 ps r xs m κs qs a (Post· κs a))
+              (Function.init 4 ps r xs m κs qs a)
+          asked = λ a good pre bs. laid record {
+            κs = κs;
+            args = record {
+              pending = a .0;
+              circuits = a .1 .0;
+              inflight = a .1 .1 .0;
+              out = a .1 .1 .1 .0;
+              runtime = a .1 .1 .1 .1 .0;
+              places = a .1 .1 .1 .1 .1 .0;
+              enabled = a .1 .1 .1 .1 .1 .1 .0;
+              first = a .1 .1 .1 .1 .1 .1 .1 .0;
+            };
+            good = good;
+            pre = pre;
+          }
+
+        module _ {M : Type 1} (𝓤 : URA.URA M) (H : Wp.Heap 𝓤) (A : Atoms.Atoms 𝓤) (W : Kit.Given 𝓤 H A)
+            (𝓣 : Wp.Tables 𝓤 H) (known0 : Plain.Known 𝓤 H A W 𝓣 0 ps·0 r·0 (claims· .0) (claims· .1)
+            "hnsr_circuit::question::used") (known1 : Plain.Known 𝓤 H A W 𝓣 0 ps·1 r·1 (claims· .2) (claims· .3)
+            "hnsr_circuit::header::with_enabled") (known2 : Plain.Known 𝓤 H A W 𝓣 1 ps·2 r·2 (claims· .4) (claims· .5)
+            "hnsr_circuit::tables::inflight::clear_action") (known3 : Plain.Known 𝓤 H A W 𝓣 0 ps·3 r·3 (claims· .6)
+            (claims· .7) "hnsr_circuit::revoking_calls::taken_with") (known4 : Plain.Known 𝓤 H A W 𝓣 0 ps·4 r·4
+            (claims· .8) (claims· .9) "hnsr_circuit::revoking_calls::revoking") (known5 : Plain.Known 𝓤 H A W 𝓣 4 ps·5
+            r·5 (claims· .10) (claims· .11) "hnsr_circuit::revocation::revoke_all") where
+          pub spec : Statement.Triple 𝓤 (Wp.WpFn 𝓤 H (𝓣 .C) (𝓣 .Λ) (Function.fnOf 4 ps r xs m hs body))
+              (Function.plainOf 𝓤 H A 4 ps r Pre· Post·)
+          spec = Plain.t-fn-plain 𝓤 H A W 𝓣 4 ps r xs m hs body (λ κs qs bs. Φ) (λ κs qs bs bd. typed κs qs 𝓤 H A W 𝓣
+              (known0, known1, known2, known3, known4, known5) bs bd) Pre· Post· asked

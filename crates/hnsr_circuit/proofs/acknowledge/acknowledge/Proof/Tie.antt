@@ -27,8 +27,8 @@ use borrow.Fn.Run
 use borrow.Fn.Written
 use contract.Running
 
-abbrev pub Start : Type 0
-Start = Lts.Start (
+abbrev pub readings : Lts.Claims
+readings = (
   Reads''.Asked,
   Reads''.Learnt,
   Reads'''''.Asked,
@@ -41,616 +41,137 @@ Start = Lts.Start (
   Reads'.Learnt,
   Reads''''''.Asked,
   Reads''''''.Learnt,
-) Reads.Pre Reads.Post
+)
+
+abbrev pub Start : Type 0
+Start = Lts.Start readings Reads.Pre Reads.Post
 
 abbrev pub After-slice-known : Type 0
-After-slice-known = Lts.After-slice-known (
-  Reads''.Asked,
-  Reads''.Learnt,
-  Reads'''''.Asked,
-  Reads'''''.Learnt,
-  Reads'''.Asked,
-  Reads'''.Learnt,
-  Reads''''.Asked,
-  Reads''''.Learnt,
-  Reads'.Asked,
-  Reads'.Learnt,
-  Reads''''''.Asked,
-  Reads''''''.Learnt,
-) Reads.Pre Reads.Post
+After-slice-known = Lts.After-slice-known readings Reads.Pre Reads.Post
 
 abbrev pub After-config : Type 0
-After-config = Lts.After-config (
-  Reads''.Asked,
-  Reads''.Learnt,
-  Reads'''''.Asked,
-  Reads'''''.Learnt,
-  Reads'''.Asked,
-  Reads'''.Learnt,
-  Reads''''.Asked,
-  Reads''''.Learnt,
-  Reads'.Asked,
-  Reads'.Learnt,
-  Reads''''''.Asked,
-  Reads''''''.Learnt,
-) Reads.Pre Reads.Post
+After-config = Lts.After-config readings Reads.Pre Reads.Post
 
 abbrev pub After-look-up-action-arg : Type 0
-After-look-up-action-arg = Lts.After-look-up-action-arg (
-  Reads''.Asked,
-  Reads''.Learnt,
-  Reads'''''.Asked,
-  Reads'''''.Learnt,
-  Reads'''.Asked,
-  Reads'''.Learnt,
-  Reads''''.Asked,
-  Reads''''.Learnt,
-  Reads'.Asked,
-  Reads'.Learnt,
-  Reads''''''.Asked,
-  Reads''''''.Learnt,
-) Reads.Pre Reads.Post
+After-look-up-action-arg = Lts.After-look-up-action-arg readings Reads.Pre Reads.Post
 
 abbrev pub After-look-up-action : Type 0
-After-look-up-action = Lts.After-look-up-action (
-  Reads''.Asked,
-  Reads''.Learnt,
-  Reads'''''.Asked,
-  Reads'''''.Learnt,
-  Reads'''.Asked,
-  Reads'''.Learnt,
-  Reads''''.Asked,
-  Reads''''.Learnt,
-  Reads'.Asked,
-  Reads'.Learnt,
-  Reads''''''.Asked,
-  Reads''''''.Learnt,
-) Reads.Pre Reads.Post
+After-look-up-action = Lts.After-look-up-action readings Reads.Pre Reads.Post
 
 abbrev pub After-too-few : Type 0
-After-too-few = Lts.After-too-few (
-  Reads''.Asked,
-  Reads''.Learnt,
-  Reads'''''.Asked,
-  Reads'''''.Learnt,
-  Reads'''.Asked,
-  Reads'''.Learnt,
-  Reads''''.Asked,
-  Reads''''.Learnt,
-  Reads'.Asked,
-  Reads'.Learnt,
-  Reads''''''.Asked,
-  Reads''''''.Learnt,
-) Reads.Pre Reads.Post
+After-too-few = Lts.After-too-few readings Reads.Pre Reads.Post
 
 abbrev pub After-acknowledge-answer : Type 0
-After-acknowledge-answer = Lts.After-acknowledge-answer (
-  Reads''.Asked,
-  Reads''.Learnt,
-  Reads'''''.Asked,
-  Reads'''''.Learnt,
-  Reads'''.Asked,
-  Reads'''.Learnt,
-  Reads''''.Asked,
-  Reads''''.Learnt,
-  Reads'.Asked,
-  Reads'.Learnt,
-  Reads''''''.Asked,
-  Reads''''''.Learnt,
-) Reads.Pre Reads.Post
+After-acknowledge-answer = Lts.After-acknowledge-answer readings Reads.Pre Reads.Post
 
 abbrev pub After-is-taken : Type 0
-After-is-taken = Lts.After-is-taken (
-  Reads''.Asked,
-  Reads''.Learnt,
-  Reads'''''.Asked,
-  Reads'''''.Learnt,
-  Reads'''.Asked,
-  Reads'''.Learnt,
-  Reads''''.Asked,
-  Reads''''.Learnt,
-  Reads'.Asked,
-  Reads'.Learnt,
-  Reads''''''.Asked,
-  Reads''''''.Learnt,
-) Reads.Pre Reads.Post
+After-is-taken = Lts.After-is-taken readings Reads.Pre Reads.Post
 
 abbrev pub Then1 : Type 0
-Then1 = Lts.Then1 (
-  Reads''.Asked,
-  Reads''.Learnt,
-  Reads'''''.Asked,
-  Reads'''''.Learnt,
-  Reads'''.Asked,
-  Reads'''.Learnt,
-  Reads''''.Asked,
-  Reads''''.Learnt,
-  Reads'.Asked,
-  Reads'.Learnt,
-  Reads''''''.Asked,
-  Reads''''''.Learnt,
-) Reads.Pre Reads.Post
+Then1 = Lts.Then1 readings Reads.Pre Reads.Post
 
 abbrev pub After-acknowledge-action-arg : Type 0
-After-acknowledge-action-arg = Lts.After-acknowledge-action-arg (
-  Reads''.Asked,
-  Reads''.Learnt,
-  Reads'''''.Asked,
-  Reads'''''.Learnt,
-  Reads'''.Asked,
-  Reads'''.Learnt,
-  Reads''''.Asked,
-  Reads''''.Learnt,
-  Reads'.Asked,
-  Reads'.Learnt,
-  Reads''''''.Asked,
-  Reads''''''.Learnt,
-) Reads.Pre Reads.Post
+After-acknowledge-action-arg = Lts.After-acknowledge-action-arg readings Reads.Pre Reads.Post
 
 abbrev pub After-acknowledge-action-arg2 : Type 0
-After-acknowledge-action-arg2 = Lts.After-acknowledge-action-arg2 (
-  Reads''.Asked,
-  Reads''.Learnt,
-  Reads'''''.Asked,
-  Reads'''''.Learnt,
-  Reads'''.Asked,
-  Reads'''.Learnt,
-  Reads''''.Asked,
-  Reads''''.Learnt,
-  Reads'.Asked,
-  Reads'.Learnt,
-  Reads''''''.Asked,
-  Reads''''''.Learnt,
-) Reads.Pre Reads.Post
+After-acknowledge-action-arg2 = Lts.After-acknowledge-action-arg2 readings Reads.Pre Reads.Post
 
 abbrev pub After-acknowledge-action-arg3 : Type 0
-After-acknowledge-action-arg3 = Lts.After-acknowledge-action-arg3 (
-  Reads''.Asked,
-  Reads''.Learnt,
-  Reads'''''.Asked,
-  Reads'''''.Learnt,
-  Reads'''.Asked,
-  Reads'''.Learnt,
-  Reads''''.Asked,
-  Reads''''.Learnt,
-  Reads'.Asked,
-  Reads'.Learnt,
-  Reads''''''.Asked,
-  Reads''''''.Learnt,
-) Reads.Pre Reads.Post
+After-acknowledge-action-arg3 = Lts.After-acknowledge-action-arg3 readings Reads.Pre Reads.Post
 
 abbrev pub After-acknowledge-action-arg4 : Type 0
-After-acknowledge-action-arg4 = Lts.After-acknowledge-action-arg4 (
-  Reads''.Asked,
-  Reads''.Learnt,
-  Reads'''''.Asked,
-  Reads'''''.Learnt,
-  Reads'''.Asked,
-  Reads'''.Learnt,
-  Reads''''.Asked,
-  Reads''''.Learnt,
-  Reads'.Asked,
-  Reads'.Learnt,
-  Reads''''''.Asked,
-  Reads''''''.Learnt,
-) Reads.Pre Reads.Post
+After-acknowledge-action-arg4 = Lts.After-acknowledge-action-arg4 readings Reads.Pre Reads.Post
 
 abbrev pub After-acknowledge-action : Type 0
-After-acknowledge-action = Lts.After-acknowledge-action (
-  Reads''.Asked,
-  Reads''.Learnt,
-  Reads'''''.Asked,
-  Reads'''''.Learnt,
-  Reads'''.Asked,
-  Reads'''.Learnt,
-  Reads''''.Asked,
-  Reads''''.Learnt,
-  Reads'.Asked,
-  Reads'.Learnt,
-  Reads''''''.Asked,
-  Reads''''''.Learnt,
-) Reads.Pre Reads.Post
+After-acknowledge-action = Lts.After-acknowledge-action readings Reads.Pre Reads.Post
 
 abbrev pub After-pending : Type 0
-After-pending = Lts.After-pending (
-  Reads''.Asked,
-  Reads''.Learnt,
-  Reads'''''.Asked,
-  Reads'''''.Learnt,
-  Reads'''.Asked,
-  Reads'''.Learnt,
-  Reads''''.Asked,
-  Reads''''.Learnt,
-  Reads'.Asked,
-  Reads'.Learnt,
-  Reads''''''.Asked,
-  Reads''''''.Learnt,
-) Reads.Pre Reads.Post
+After-pending = Lts.After-pending readings Reads.Pre Reads.Post
 
 abbrev pub After-circuits : Type 0
-After-circuits = Lts.After-circuits (
-  Reads''.Asked,
-  Reads''.Learnt,
-  Reads'''''.Asked,
-  Reads'''''.Learnt,
-  Reads'''.Asked,
-  Reads'''.Learnt,
-  Reads''''.Asked,
-  Reads''''.Learnt,
-  Reads'.Asked,
-  Reads'.Learnt,
-  Reads''''''.Asked,
-  Reads''''''.Learnt,
-) Reads.Pre Reads.Post
+After-circuits = Lts.After-circuits readings Reads.Pre Reads.Post
 
 abbrev pub After-inflight : Type 0
-After-inflight = Lts.After-inflight (
-  Reads''.Asked,
-  Reads''.Learnt,
-  Reads'''''.Asked,
-  Reads'''''.Learnt,
-  Reads'''.Asked,
-  Reads'''.Learnt,
-  Reads''''.Asked,
-  Reads''''.Learnt,
-  Reads'.Asked,
-  Reads'.Learnt,
-  Reads''''''.Asked,
-  Reads''''''.Learnt,
-) Reads.Pre Reads.Post
+After-inflight = Lts.After-inflight readings Reads.Pre Reads.Post
 
 abbrev pub After-out : Type 0
-After-out = Lts.After-out (
-  Reads''.Asked,
-  Reads''.Learnt,
-  Reads'''''.Asked,
-  Reads'''''.Learnt,
-  Reads'''.Asked,
-  Reads'''.Learnt,
-  Reads''''.Asked,
-  Reads''''.Learnt,
-  Reads'.Asked,
-  Reads'.Learnt,
-  Reads''''''.Asked,
-  Reads''''''.Learnt,
-) Reads.Pre Reads.Post
+After-out = Lts.After-out readings Reads.Pre Reads.Post
 
 abbrev pub After-slice-known2 : Type 0
-After-slice-known2 = Lts.After-slice-known2 (
-  Reads''.Asked,
-  Reads''.Learnt,
-  Reads'''''.Asked,
-  Reads'''''.Learnt,
-  Reads'''.Asked,
-  Reads'''.Learnt,
-  Reads''''.Asked,
-  Reads''''.Learnt,
-  Reads'.Asked,
-  Reads'.Learnt,
-  Reads''''''.Asked,
-  Reads''''''.Learnt,
-) Reads.Pre Reads.Post
+After-slice-known2 = Lts.After-slice-known2 readings Reads.Pre Reads.Post
 
 abbrev pub Else1 : Type 0
-Else1 = Lts.Else1 (
-  Reads''.Asked,
-  Reads''.Learnt,
-  Reads'''''.Asked,
-  Reads'''''.Learnt,
-  Reads'''.Asked,
-  Reads'''.Learnt,
-  Reads''''.Asked,
-  Reads''''.Learnt,
-  Reads'.Asked,
-  Reads'.Learnt,
-  Reads''''''.Asked,
-  Reads''''''.Learnt,
-) Reads.Pre Reads.Post
+Else1 = Lts.Else1 readings Reads.Pre Reads.Post
 
 abbrev pub After-refused : Type 0
-After-refused = Lts.After-refused (
-  Reads''.Asked,
-  Reads''.Learnt,
-  Reads'''''.Asked,
-  Reads'''''.Learnt,
-  Reads'''.Asked,
-  Reads'''.Learnt,
-  Reads''''.Asked,
-  Reads''''.Learnt,
-  Reads'.Asked,
-  Reads'.Learnt,
-  Reads''''''.Asked,
-  Reads''''''.Learnt,
-) Reads.Pre Reads.Post
+After-refused = Lts.After-refused readings Reads.Pre Reads.Post
 
 abbrev pub Need-look-up-action-requires : Type 0
-Need-look-up-action-requires = Lts.Need-look-up-action-requires (
-  Reads''.Asked,
-  Reads''.Learnt,
-  Reads'''''.Asked,
-  Reads'''''.Learnt,
-  Reads'''.Asked,
-  Reads'''.Learnt,
-  Reads''''.Asked,
-  Reads''''.Learnt,
-  Reads'.Asked,
-  Reads'.Learnt,
-  Reads''''''.Asked,
-  Reads''''''.Learnt,
-) Reads.Pre Reads.Post
+Need-look-up-action-requires = Lts.Need-look-up-action-requires readings Reads.Pre Reads.Post
 
 abbrev pub Need-too-few-requires : Type 0
-Need-too-few-requires = Lts.Need-too-few-requires (
-  Reads''.Asked,
-  Reads''.Learnt,
-  Reads'''''.Asked,
-  Reads'''''.Learnt,
-  Reads'''.Asked,
-  Reads'''.Learnt,
-  Reads''''.Asked,
-  Reads''''.Learnt,
-  Reads'.Asked,
-  Reads'.Learnt,
-  Reads''''''.Asked,
-  Reads''''''.Learnt,
-) Reads.Pre Reads.Post
+Need-too-few-requires = Lts.Need-too-few-requires readings Reads.Pre Reads.Post
 
 abbrev pub Need-acknowledge-answer-requires : Type 0
-Need-acknowledge-answer-requires = Lts.Need-acknowledge-answer-requires (
-  Reads''.Asked,
-  Reads''.Learnt,
-  Reads'''''.Asked,
-  Reads'''''.Learnt,
-  Reads'''.Asked,
-  Reads'''.Learnt,
-  Reads''''.Asked,
-  Reads''''.Learnt,
-  Reads'.Asked,
-  Reads'.Learnt,
-  Reads''''''.Asked,
-  Reads''''''.Learnt,
-) Reads.Pre
-    Reads.Post
+Need-acknowledge-answer-requires = Lts.Need-acknowledge-answer-requires readings Reads.Pre Reads.Post
 
 abbrev pub Need-is-taken-requires : Type 0
-Need-is-taken-requires = Lts.Need-is-taken-requires (
-  Reads''.Asked,
-  Reads''.Learnt,
-  Reads'''''.Asked,
-  Reads'''''.Learnt,
-  Reads'''.Asked,
-  Reads'''.Learnt,
-  Reads''''.Asked,
-  Reads''''.Learnt,
-  Reads'.Asked,
-  Reads'.Learnt,
-  Reads''''''.Asked,
-  Reads''''''.Learnt,
-) Reads.Pre Reads.Post
+Need-is-taken-requires = Lts.Need-is-taken-requires readings Reads.Pre Reads.Post
 
 abbrev pub Need-acknowledge-action-requires : Type 0
-Need-acknowledge-action-requires = Lts.Need-acknowledge-action-requires (
-  Reads''.Asked,
-  Reads''.Learnt,
-  Reads'''''.Asked,
-  Reads'''''.Learnt,
-  Reads'''.Asked,
-  Reads'''.Learnt,
-  Reads''''.Asked,
-  Reads''''.Learnt,
-  Reads'.Asked,
-  Reads'.Learnt,
-  Reads''''''.Asked,
-  Reads''''''.Learnt,
-) Reads.Pre
-    Reads.Post
+Need-acknowledge-action-requires = Lts.Need-acknowledge-action-requires readings Reads.Pre Reads.Post
 
 abbrev pub Need-same-length : Type 0
-Need-same-length = Lts.Need-same-length (
-  Reads''.Asked,
-  Reads''.Learnt,
-  Reads'''''.Asked,
-  Reads'''''.Learnt,
-  Reads'''.Asked,
-  Reads'''.Learnt,
-  Reads''''.Asked,
-  Reads''''.Learnt,
-  Reads'.Asked,
-  Reads'.Learnt,
-  Reads''''''.Asked,
-  Reads''''''.Learnt,
-) Reads.Pre Reads.Post
+Need-same-length = Lts.Need-same-length readings Reads.Pre Reads.Post
 
 abbrev pub Need-same-length-2 : Type 0
-Need-same-length-2 = Lts.Need-same-length-2 (
-  Reads''.Asked,
-  Reads''.Learnt,
-  Reads'''''.Asked,
-  Reads'''''.Learnt,
-  Reads'''.Asked,
-  Reads'''.Learnt,
-  Reads''''.Asked,
-  Reads''''.Learnt,
-  Reads'.Asked,
-  Reads'.Learnt,
-  Reads''''''.Asked,
-  Reads''''''.Learnt,
-) Reads.Pre Reads.Post
+Need-same-length-2 = Lts.Need-same-length-2 readings Reads.Pre Reads.Post
 
 abbrev pub Need-same-length-3 : Type 0
-Need-same-length-3 = Lts.Need-same-length-3 (
-  Reads''.Asked,
-  Reads''.Learnt,
-  Reads'''''.Asked,
-  Reads'''''.Learnt,
-  Reads'''.Asked,
-  Reads'''.Learnt,
-  Reads''''.Asked,
-  Reads''''.Learnt,
-  Reads'.Asked,
-  Reads'.Learnt,
-  Reads''''''.Asked,
-  Reads''''''.Learnt,
-) Reads.Pre Reads.Post
+Need-same-length-3 = Lts.Need-same-length-3 readings Reads.Pre Reads.Post
 
 abbrev pub Need-same-length-4 : Type 0
-Need-same-length-4 = Lts.Need-same-length-4 (
-  Reads''.Asked,
-  Reads''.Learnt,
-  Reads'''''.Asked,
-  Reads'''''.Learnt,
-  Reads'''.Asked,
-  Reads'''.Learnt,
-  Reads''''.Asked,
-  Reads''''.Learnt,
-  Reads'.Asked,
-  Reads'.Learnt,
-  Reads''''''.Asked,
-  Reads''''''.Learnt,
-) Reads.Pre Reads.Post
+Need-same-length-4 = Lts.Need-same-length-4 readings Reads.Pre Reads.Post
 
 abbrev pub Need-returns : Type 0
-Need-returns = Lts.Need-returns (
-  Reads''.Asked,
-  Reads''.Learnt,
-  Reads'''''.Asked,
-  Reads'''''.Learnt,
-  Reads'''.Asked,
-  Reads'''.Learnt,
-  Reads''''.Asked,
-  Reads''''.Learnt,
-  Reads'.Asked,
-  Reads'.Learnt,
-  Reads''''''.Asked,
-  Reads''''''.Learnt,
-) Reads.Pre Reads.Post
+Need-returns = Lts.Need-returns readings Reads.Pre Reads.Post
 
 abbrev pub Need-refused-requires : Type 0
-Need-refused-requires = Lts.Need-refused-requires (
-  Reads''.Asked,
-  Reads''.Learnt,
-  Reads'''''.Asked,
-  Reads'''''.Learnt,
-  Reads'''.Asked,
-  Reads'''.Learnt,
-  Reads''''.Asked,
-  Reads''''.Learnt,
-  Reads'.Asked,
-  Reads'.Learnt,
-  Reads''''''.Asked,
-  Reads''''''.Learnt,
-) Reads.Pre Reads.Post
+Need-refused-requires = Lts.Need-refused-requires readings Reads.Pre Reads.Post
 
 abbrev pub Need-same-length-5 : Type 0
-Need-same-length-5 = Lts.Need-same-length-5 (
-  Reads''.Asked,
-  Reads''.Learnt,
-  Reads'''''.Asked,
-  Reads'''''.Learnt,
-  Reads'''.Asked,
-  Reads'''.Learnt,
-  Reads''''.Asked,
-  Reads''''.Learnt,
-  Reads'.Asked,
-  Reads'.Learnt,
-  Reads''''''.Asked,
-  Reads''''''.Learnt,
-) Reads.Pre Reads.Post
+Need-same-length-5 = Lts.Need-same-length-5 readings Reads.Pre Reads.Post
 
 abbrev pub Need-returns-2 : Type 0
-Need-returns-2 = Lts.Need-returns-2 (
-  Reads''.Asked,
-  Reads''.Learnt,
-  Reads'''''.Asked,
-  Reads'''''.Learnt,
-  Reads'''.Asked,
-  Reads'''.Learnt,
-  Reads''''.Asked,
-  Reads''''.Learnt,
-  Reads'.Asked,
-  Reads'.Learnt,
-  Reads''''''.Asked,
-  Reads''''''.Learnt,
-) Reads.Pre Reads.Post
+Need-returns-2 = Lts.Need-returns-2 readings Reads.Pre Reads.Post
 
 module _ {M : Type 1} where
-  pub spec : (answer : Need-look-up-action-requires) → (answer : Need-too-few-requires) → (answer : Need-acknowledge-answer-requires) → (answer :
-      Need-is-taken-requires) → (answer : Need-acknowledge-action-requires) → (answer : Need-same-length) → (answer : Need-same-length-2) → (answer :
-      Need-same-length-3) → (answer : Need-same-length-4) → (answer : Need-returns) → (answer : Need-refused-requires) → (answer : Need-same-length-5)
-      → (answer : Need-returns-2) → Lts.Closed (
-        Reads''.Asked,
-        Reads''.Learnt,
-        Reads'''''.Asked,
-        Reads'''''.Learnt,
-        Reads'''.Asked,
-        Reads'''.Learnt,
-        Reads''''.Asked,
-        Reads''''.Learnt,
-        Reads'.Asked,
-        Reads'.Learnt,
-        Reads''''''.Asked,
-        Reads''''''.Learnt,
-      ) Reads.Pre Reads.Post M
-  spec = λ answer answer' answer'' answer'3 answer'4 answer'5 answer'6 answer'7 answer'8 answer'9 answer'10 answer'11 answer'12. Lts.spec (
-    Reads''.Asked,
-    Reads''.Learnt,
-    Reads'''''.Asked,
-    Reads'''''.Learnt,
-    Reads'''.Asked,
-    Reads'''.Learnt,
-    Reads''''.Asked,
-    Reads''''.Learnt,
-    Reads'.Asked,
-    Reads'.Learnt,
-    Reads''''''.Asked,
-    Reads''''''.Learnt,
-  ) Reads.Pre Reads.Post answer answer' answer'' answer'3 answer'4 answer'5
-      answer'6 answer'7 answer'8 answer'9 answer'10 answer'11 answer'12
+  pub spec : (answer : Need-look-up-action-requires) → (answer : Need-too-few-requires) →
+      (answer : Need-acknowledge-answer-requires) → (answer : Need-is-taken-requires) →
+      (answer : Need-acknowledge-action-requires) → (answer : Need-same-length) → (answer : Need-same-length-2) →
+      (answer : Need-same-length-3) → (answer : Need-same-length-4) → (answer : Need-returns) →
+      (answer : Need-refused-requires) → (answer : Need-same-length-5) → (answer : Need-returns-2) → Lts.Closed
+      readings Reads.Pre Reads.Post M
+  spec = λ answer answer' answer'' answer'3 answer'4 answer'5 answer'6 answer'7 answer'8 answer'9 answer'10 answer'11
+      answer'12. Lts.spec readings Reads.Pre Reads.Post answer answer' answer'' answer'3 answer'4 answer'5 answer'6
+      answer'7 answer'8 answer'9 answer'10 answer'11 answer'12
 
-  pub close : Lts.Closed (
-    Reads''.Asked,
-    Reads''.Learnt,
-    Reads'''''.Asked,
-    Reads'''''.Learnt,
-    Reads'''.Asked,
-    Reads'''.Learnt,
-    Reads''''.Asked,
-    Reads''''.Learnt,
-    Reads'.Asked,
-    Reads'.Learnt,
-    Reads''''''.Asked,
-    Reads''''''.Learnt,
-  ) Reads.Pre Reads.Post M → Statement.statement M
+  pub close : Lts.Closed readings Reads.Pre Reads.Post M → Statement.statement M
   unfolding Code.routine Running.tablesOf
-  close = λ closed 𝓤 H 𝓜 𝓖 𝓡. Written.close 4 Kinds.ps Kinds.r Reads.Ghost Reads.requires Reads.ensures Reads.pre-read Reads.Pinned Reads.Owned
-      Reads.post-read record { M = M; 𝓤 = 𝓤; H = H; 𝓜 = 𝓜; 𝓖 = 𝓖; 𝓡 = 𝓡 } Code.env Key.name Code.function (Code.unfolded 𝓤 H 𝓜 𝓡) (λ κs a g. tt) (λ
-      κs. Reads.owns κs record { M = M; 𝓤 = 𝓤; H = H; 𝓜 = 𝓜; 𝓖 = 𝓖; 𝓡 = 𝓡 }) (Reads.passes record { M = M; 𝓤 = 𝓤; H = H; 𝓜 = 𝓜; 𝓖 = 𝓖; 𝓡 = 𝓡 }) λ g.
-      closed 𝓤 H (𝓖 .A) (Running.givenOf 𝓤 H 𝓜 𝓖) (Run.Over 𝓤 H 𝓜 𝓖 𝓡 Code.env) (Reads''.known record { M = M; 𝓤 = 𝓤; H = H; 𝓜 = 𝓜; 𝓖 = 𝓖; 𝓡 = 𝓡 }
-      Code.env Symbol''''.name Symbol''''.routine Code.calls-hnsr-circuit·lookup·look-up-action (Met''''.met 𝓤 H 𝓜 𝓖 𝓡)) (Reads'''''.known record {
-        M
-            = M;
-        𝓤 = 𝓤;
-        H = H;
-        𝓜 = 𝓜;
-        𝓖 = 𝓖;
-        𝓡 = 𝓡;
-      } Code.env Symbol'''.name Symbol'''.routine Code.calls-hnsr-circuit·entry·too-few (Met'''.met 𝓤 H 𝓜 𝓖 𝓡))
-      (Reads'''.known record { M = M; 𝓤 = 𝓤; H = H; 𝓜 = 𝓜; 𝓖 = 𝓖; 𝓡 = 𝓡 } Code.env Symbol'.name Symbol'.routine
-      Code.calls-hnsr-circuit·acknowledge·acknowledge-answer (Met'.met 𝓤 H 𝓜 𝓖 𝓡)) (Reads''''.known record {
-        M = M;
-        𝓤 = 𝓤;
-        H = H;
-        𝓜 = 𝓜;
-        𝓖 = 𝓖;
-        𝓡 = 𝓡;
-      } Code.env Symbol''.name Symbol''.routine Code.calls-hnsr-circuit·answer·is-taken (Met''.met 𝓤 H 𝓜 𝓖 𝓡)) (Reads'.known record {
-        M = M;
-        𝓤 = 𝓤;
-        H
-            = H;
-        𝓜 = 𝓜;
-        𝓖 = 𝓖;
-        𝓡 = 𝓡;
-      } Code.env Symbol.name Symbol.routine Code.calls-hnsr-circuit·acknowledge·acknowledge-action (Met.met 𝓤 H 𝓜 𝓖 𝓡))
-      (Reads''''''.known record { M = M; 𝓤 = 𝓤; H = H; 𝓜 = 𝓜; 𝓖 = 𝓖; 𝓡 = 𝓡 } Code.env Symbol'''''.name Symbol'''''.routine
+  close = λ closed 𝓤 H 𝓜 𝓖 𝓡. Written.close 4 Kinds.ps Kinds.r Reads.Ghost Reads.requires Reads.ensures Reads.pre-read
+      Reads.Pinned Reads.Owned Reads.post-read record { M = M; 𝓤 = 𝓤; H = H; 𝓜 = 𝓜; 𝓖 = 𝓖; 𝓡 = 𝓡 } Code.env Key.name
+      Code.function (Code.unfolded 𝓤 H 𝓜 𝓡) (λ κs a g. tt) (λ κs. Reads.owns κs
+      record { M = M; 𝓤 = 𝓤; H = H; 𝓜 = 𝓜; 𝓖 = 𝓖; 𝓡 = 𝓡 }) (Reads.passes
+      record { M = M; 𝓤 = 𝓤; H = H; 𝓜 = 𝓜; 𝓖 = 𝓖; 𝓡 = 𝓡 }) λ g. closed 𝓤 H (𝓖 .A) (Running.givenOf 𝓤 H 𝓜 𝓖)
+      (Run.Over 𝓤 H 𝓜 𝓖 𝓡 Code.env) (Reads''.known record { M = M; 𝓤 = 𝓤; H = H; 𝓜 = 𝓜; 𝓖 = 𝓖; 𝓡 = 𝓡 } Code.env
+      Symbol''''.name Symbol''''.routine Code.calls-hnsr-circuit·lookup·look-up-action (Met''''.met 𝓤 H 𝓜 𝓖 𝓡)) (Reads'''''.known
+      record { M = M; 𝓤 = 𝓤; H = H; 𝓜 = 𝓜; 𝓖 = 𝓖; 𝓡 = 𝓡 } Code.env Symbol'''.name Symbol'''.routine
+      Code.calls-hnsr-circuit·entry·too-few (Met'''.met 𝓤 H 𝓜 𝓖 𝓡)) (Reads'''.known
+      record { M = M; 𝓤 = 𝓤; H = H; 𝓜 = 𝓜; 𝓖 = 𝓖; 𝓡 = 𝓡 } Code.env Symbol'.name Symbol'.routine
+      Code.calls-hnsr-circuit·acknowledge·acknowledge-answer (Met'.met 𝓤 H 𝓜 𝓖 𝓡)) (Reads''''.known
+      record { M = M; 𝓤 = 𝓤; H = H; 𝓜 = 𝓜; 𝓖 = 𝓖; 𝓡 = 𝓡 } Code.env Symbol''.name Symbol''.routine
+      Code.calls-hnsr-circuit·answer·is-taken (Met''.met 𝓤 H 𝓜 𝓖 𝓡)) (Reads'.known
+      record { M = M; 𝓤 = 𝓤; H = H; 𝓜 = 𝓜; 𝓖 = 𝓖; 𝓡 = 𝓡 } Code.env Symbol.name Symbol.routine
+      Code.calls-hnsr-circuit·acknowledge·acknowledge-action (Met.met 𝓤 H 𝓜 𝓖 𝓡)) (Reads''''''.known
+      record { M = M; 𝓤 = 𝓤; H = H; 𝓜 = 𝓜; 𝓖 = 𝓖; 𝓡 = 𝓡 } Code.env Symbol'''''.name Symbol'''''.routine
       Code.calls-hnsr-circuit·revoking-calls·refused (Met'''''.met 𝓤 H 𝓜 𝓖 𝓡))

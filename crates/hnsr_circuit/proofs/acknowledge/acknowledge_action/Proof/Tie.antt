@@ -24,8 +24,8 @@ use borrow.Fn.Run
 use borrow.Fn.Written
 use contract.Running
 
-abbrev pub Start : Type 0
-Start = Lts.Start (
+abbrev pub readings : Lts.Claims
+readings = (
   Reads''''.Asked,
   Reads''''.Learnt,
   Reads'''''.Asked,
@@ -36,477 +36,120 @@ Start = Lts.Start (
   Reads'.Learnt,
   Reads''.Asked,
   Reads''.Learnt,
-) Reads.Pre Reads.Post
+)
+
+abbrev pub Start : Type 0
+Start = Lts.Start readings Reads.Pre Reads.Post
 
 abbrev pub After-slice-known : Type 0
-After-slice-known = Lts.After-slice-known (
-  Reads''''.Asked,
-  Reads''''.Learnt,
-  Reads'''''.Asked,
-  Reads'''''.Learnt,
-  Reads'''.Asked,
-  Reads'''.Learnt,
-  Reads'.Asked,
-  Reads'.Learnt,
-  Reads''.Asked,
-  Reads''.Learnt,
-) Reads.Pre Reads.Post
+After-slice-known = Lts.After-slice-known readings Reads.Pre Reads.Post
 
 abbrev pub After-action-gone : Type 0
-After-action-gone = Lts.After-action-gone (
-  Reads''''.Asked,
-  Reads''''.Learnt,
-  Reads'''''.Asked,
-  Reads'''''.Learnt,
-  Reads'''.Asked,
-  Reads'''.Learnt,
-  Reads'.Asked,
-  Reads'.Learnt,
-  Reads''.Asked,
-  Reads''.Learnt,
-) Reads.Pre Reads.Post
+After-action-gone = Lts.After-action-gone readings Reads.Pre Reads.Post
 
 abbrev pub After-settle-plan : Type 0
-After-settle-plan = Lts.After-settle-plan (
-  Reads''''.Asked,
-  Reads''''.Learnt,
-  Reads'''''.Asked,
-  Reads'''''.Learnt,
-  Reads'''.Asked,
-  Reads'''.Learnt,
-  Reads'.Asked,
-  Reads'.Learnt,
-  Reads''.Asked,
-  Reads''.Learnt,
-) Reads.Pre Reads.Post
+After-settle-plan = Lts.After-settle-plan readings Reads.Pre Reads.Post
 
 abbrev pub After-set-action-arg : Type 0
-After-set-action-arg = Lts.After-set-action-arg (
-  Reads''''.Asked,
-  Reads''''.Learnt,
-  Reads'''''.Asked,
-  Reads'''''.Learnt,
-  Reads'''.Asked,
-  Reads'''.Learnt,
-  Reads'.Asked,
-  Reads'.Learnt,
-  Reads''.Asked,
-  Reads''.Learnt,
-) Reads.Pre Reads.Post
+After-set-action-arg = Lts.After-set-action-arg readings Reads.Pre Reads.Post
 
 abbrev pub After-set-action : Type 0
-After-set-action = Lts.After-set-action (
-  Reads''''.Asked,
-  Reads''''.Learnt,
-  Reads'''''.Asked,
-  Reads'''''.Learnt,
-  Reads'''.Asked,
-  Reads'''.Learnt,
-  Reads'.Asked,
-  Reads'.Learnt,
-  Reads''.Asked,
-  Reads''.Learnt,
-) Reads.Pre Reads.Post
+After-set-action = Lts.After-set-action readings Reads.Pre Reads.Post
 
 abbrev pub After-inflight : Type 0
-After-inflight = Lts.After-inflight (
-  Reads''''.Asked,
-  Reads''''.Learnt,
-  Reads'''''.Asked,
-  Reads'''''.Learnt,
-  Reads'''.Asked,
-  Reads'''.Learnt,
-  Reads'.Asked,
-  Reads'.Learnt,
-  Reads''.Asked,
-  Reads''.Learnt,
-) Reads.Pre Reads.Post
+After-inflight = Lts.After-inflight readings Reads.Pre Reads.Post
 
 abbrev pub After-lower-circuit-arg : Type 0
-After-lower-circuit-arg = Lts.After-lower-circuit-arg (
-  Reads''''.Asked,
-  Reads''''.Learnt,
-  Reads'''''.Asked,
-  Reads'''''.Learnt,
-  Reads'''.Asked,
-  Reads'''.Learnt,
-  Reads'.Asked,
-  Reads'.Learnt,
-  Reads''.Asked,
-  Reads''.Learnt,
-) Reads.Pre Reads.Post
+After-lower-circuit-arg = Lts.After-lower-circuit-arg readings Reads.Pre Reads.Post
 
 abbrev pub After-lower-circuit : Type 0
-After-lower-circuit = Lts.After-lower-circuit (
-  Reads''''.Asked,
-  Reads''''.Learnt,
-  Reads'''''.Asked,
-  Reads'''''.Learnt,
-  Reads'''.Asked,
-  Reads'''.Learnt,
-  Reads'.Asked,
-  Reads'.Learnt,
-  Reads''.Asked,
-  Reads''.Learnt,
-) Reads.Pre Reads.Post
+After-lower-circuit = Lts.After-lower-circuit readings Reads.Pre Reads.Post
 
 abbrev pub After-circuits : Type 0
-After-circuits = Lts.After-circuits (
-  Reads''''.Asked,
-  Reads''''.Learnt,
-  Reads'''''.Asked,
-  Reads'''''.Learnt,
-  Reads'''.Asked,
-  Reads'''.Learnt,
-  Reads'.Asked,
-  Reads'.Learnt,
-  Reads''.Asked,
-  Reads''.Learnt,
-) Reads.Pre Reads.Post
+After-circuits = Lts.After-circuits readings Reads.Pre Reads.Post
 
 abbrev pub After-settle-arg : Type 0
-After-settle-arg = Lts.After-settle-arg (
-  Reads''''.Asked,
-  Reads''''.Learnt,
-  Reads'''''.Asked,
-  Reads'''''.Learnt,
-  Reads'''.Asked,
-  Reads'''.Learnt,
-  Reads'.Asked,
-  Reads'.Learnt,
-  Reads''.Asked,
-  Reads''.Learnt,
-) Reads.Pre Reads.Post
+After-settle-arg = Lts.After-settle-arg readings Reads.Pre Reads.Post
 
 abbrev pub After-settle-arg2 : Type 0
-After-settle-arg2 = Lts.After-settle-arg2 (
-  Reads''''.Asked,
-  Reads''''.Learnt,
-  Reads'''''.Asked,
-  Reads'''''.Learnt,
-  Reads'''.Asked,
-  Reads'''.Learnt,
-  Reads'.Asked,
-  Reads'.Learnt,
-  Reads''.Asked,
-  Reads''.Learnt,
-) Reads.Pre Reads.Post
+After-settle-arg2 = Lts.After-settle-arg2 readings Reads.Pre Reads.Post
 
 abbrev pub After-settle-arg3 : Type 0
-After-settle-arg3 = Lts.After-settle-arg3 (
-  Reads''''.Asked,
-  Reads''''.Learnt,
-  Reads'''''.Asked,
-  Reads'''''.Learnt,
-  Reads'''.Asked,
-  Reads'''.Learnt,
-  Reads'.Asked,
-  Reads'.Learnt,
-  Reads''.Asked,
-  Reads''.Learnt,
-) Reads.Pre Reads.Post
+After-settle-arg3 = Lts.After-settle-arg3 readings Reads.Pre Reads.Post
 
 abbrev pub After-settle-arg4 : Type 0
-After-settle-arg4 = Lts.After-settle-arg4 (
-  Reads''''.Asked,
-  Reads''''.Learnt,
-  Reads'''''.Asked,
-  Reads'''''.Learnt,
-  Reads'''.Asked,
-  Reads'''.Learnt,
-  Reads'.Asked,
-  Reads'.Learnt,
-  Reads''.Asked,
-  Reads''.Learnt,
-) Reads.Pre Reads.Post
+After-settle-arg4 = Lts.After-settle-arg4 readings Reads.Pre Reads.Post
 
 abbrev pub After-settle : Type 0
-After-settle = Lts.After-settle (
-  Reads''''.Asked,
-  Reads''''.Learnt,
-  Reads'''''.Asked,
-  Reads'''''.Learnt,
-  Reads'''.Asked,
-  Reads'''.Learnt,
-  Reads'.Asked,
-  Reads'.Learnt,
-  Reads''.Asked,
-  Reads''.Learnt,
-) Reads.Pre Reads.Post
+After-settle = Lts.After-settle readings Reads.Pre Reads.Post
 
 abbrev pub After-pending : Type 0
-After-pending = Lts.After-pending (
-  Reads''''.Asked,
-  Reads''''.Learnt,
-  Reads'''''.Asked,
-  Reads'''''.Learnt,
-  Reads'''.Asked,
-  Reads'''.Learnt,
-  Reads'.Asked,
-  Reads'.Learnt,
-  Reads''.Asked,
-  Reads''.Learnt,
-) Reads.Pre Reads.Post
+After-pending = Lts.After-pending readings Reads.Pre Reads.Post
 
 abbrev pub After-circuits2 : Type 0
-After-circuits2 = Lts.After-circuits2 (
-  Reads''''.Asked,
-  Reads''''.Learnt,
-  Reads'''''.Asked,
-  Reads'''''.Learnt,
-  Reads'''.Asked,
-  Reads'''.Learnt,
-  Reads'.Asked,
-  Reads'.Learnt,
-  Reads''.Asked,
-  Reads''.Learnt,
-) Reads.Pre Reads.Post
+After-circuits2 = Lts.After-circuits2 readings Reads.Pre Reads.Post
 
 abbrev pub After-inflight2 : Type 0
-After-inflight2 = Lts.After-inflight2 (
-  Reads''''.Asked,
-  Reads''''.Learnt,
-  Reads'''''.Asked,
-  Reads'''''.Learnt,
-  Reads'''.Asked,
-  Reads'''.Learnt,
-  Reads'.Asked,
-  Reads'.Learnt,
-  Reads''.Asked,
-  Reads''.Learnt,
-) Reads.Pre Reads.Post
+After-inflight2 = Lts.After-inflight2 readings Reads.Pre Reads.Post
 
 abbrev pub After-out : Type 0
-After-out = Lts.After-out (
-  Reads''''.Asked,
-  Reads''''.Learnt,
-  Reads'''''.Asked,
-  Reads'''''.Learnt,
-  Reads'''.Asked,
-  Reads'''.Learnt,
-  Reads'.Asked,
-  Reads'.Learnt,
-  Reads''.Asked,
-  Reads''.Learnt,
-) Reads.Pre Reads.Post
+After-out = Lts.After-out readings Reads.Pre Reads.Post
 
 abbrev pub After-slice-known2 : Type 0
-After-slice-known2 = Lts.After-slice-known2 (
-  Reads''''.Asked,
-  Reads''''.Learnt,
-  Reads'''''.Asked,
-  Reads'''''.Learnt,
-  Reads'''.Asked,
-  Reads'''.Learnt,
-  Reads'.Asked,
-  Reads'.Learnt,
-  Reads''.Asked,
-  Reads''.Learnt,
-) Reads.Pre Reads.Post
+After-slice-known2 = Lts.After-slice-known2 readings Reads.Pre Reads.Post
 
 abbrev pub Need-action-gone-requires : Type 0
-Need-action-gone-requires = Lts.Need-action-gone-requires (
-  Reads''''.Asked,
-  Reads''''.Learnt,
-  Reads'''''.Asked,
-  Reads'''''.Learnt,
-  Reads'''.Asked,
-  Reads'''.Learnt,
-  Reads'.Asked,
-  Reads'.Learnt,
-  Reads''.Asked,
-  Reads''.Learnt,
-) Reads.Pre Reads.Post
+Need-action-gone-requires = Lts.Need-action-gone-requires readings Reads.Pre Reads.Post
 
 abbrev pub Need-settle-plan-requires : Type 0
-Need-settle-plan-requires = Lts.Need-settle-plan-requires (
-  Reads''''.Asked,
-  Reads''''.Learnt,
-  Reads'''''.Asked,
-  Reads'''''.Learnt,
-  Reads'''.Asked,
-  Reads'''.Learnt,
-  Reads'.Asked,
-  Reads'.Learnt,
-  Reads''.Asked,
-  Reads''.Learnt,
-) Reads.Pre Reads.Post
+Need-settle-plan-requires = Lts.Need-settle-plan-requires readings Reads.Pre Reads.Post
 
 abbrev pub Need-set-action-requires : Type 0
-Need-set-action-requires = Lts.Need-set-action-requires (
-  Reads''''.Asked,
-  Reads''''.Learnt,
-  Reads'''''.Asked,
-  Reads'''''.Learnt,
-  Reads'''.Asked,
-  Reads'''.Learnt,
-  Reads'.Asked,
-  Reads'.Learnt,
-  Reads''.Asked,
-  Reads''.Learnt,
-) Reads.Pre Reads.Post
+Need-set-action-requires = Lts.Need-set-action-requires readings Reads.Pre Reads.Post
 
 abbrev pub Need-lower-circuit-requires : Type 0
-Need-lower-circuit-requires = Lts.Need-lower-circuit-requires (
-  Reads''''.Asked,
-  Reads''''.Learnt,
-  Reads'''''.Asked,
-  Reads'''''.Learnt,
-  Reads'''.Asked,
-  Reads'''.Learnt,
-  Reads'.Asked,
-  Reads'.Learnt,
-  Reads''.Asked,
-  Reads''.Learnt,
-) Reads.Pre Reads.Post
+Need-lower-circuit-requires = Lts.Need-lower-circuit-requires readings Reads.Pre Reads.Post
 
 abbrev pub Need-settle-requires : Type 0
-Need-settle-requires = Lts.Need-settle-requires (
-  Reads''''.Asked,
-  Reads''''.Learnt,
-  Reads'''''.Asked,
-  Reads'''''.Learnt,
-  Reads'''.Asked,
-  Reads'''.Learnt,
-  Reads'.Asked,
-  Reads'.Learnt,
-  Reads''.Asked,
-  Reads''.Learnt,
-) Reads.Pre Reads.Post
+Need-settle-requires = Lts.Need-settle-requires readings Reads.Pre Reads.Post
 
 abbrev pub Need-same-length : Type 0
-Need-same-length = Lts.Need-same-length (
-  Reads''''.Asked,
-  Reads''''.Learnt,
-  Reads'''''.Asked,
-  Reads'''''.Learnt,
-  Reads'''.Asked,
-  Reads'''.Learnt,
-  Reads'.Asked,
-  Reads'.Learnt,
-  Reads''.Asked,
-  Reads''.Learnt,
-) Reads.Pre Reads.Post
+Need-same-length = Lts.Need-same-length readings Reads.Pre Reads.Post
 
 abbrev pub Need-same-length-2 : Type 0
-Need-same-length-2 = Lts.Need-same-length-2 (
-  Reads''''.Asked,
-  Reads''''.Learnt,
-  Reads'''''.Asked,
-  Reads'''''.Learnt,
-  Reads'''.Asked,
-  Reads'''.Learnt,
-  Reads'.Asked,
-  Reads'.Learnt,
-  Reads''.Asked,
-  Reads''.Learnt,
-) Reads.Pre Reads.Post
+Need-same-length-2 = Lts.Need-same-length-2 readings Reads.Pre Reads.Post
 
 abbrev pub Need-same-length-3 : Type 0
-Need-same-length-3 = Lts.Need-same-length-3 (
-  Reads''''.Asked,
-  Reads''''.Learnt,
-  Reads'''''.Asked,
-  Reads'''''.Learnt,
-  Reads'''.Asked,
-  Reads'''.Learnt,
-  Reads'.Asked,
-  Reads'.Learnt,
-  Reads''.Asked,
-  Reads''.Learnt,
-) Reads.Pre Reads.Post
+Need-same-length-3 = Lts.Need-same-length-3 readings Reads.Pre Reads.Post
 
 abbrev pub Need-same-length-4 : Type 0
-Need-same-length-4 = Lts.Need-same-length-4 (
-  Reads''''.Asked,
-  Reads''''.Learnt,
-  Reads'''''.Asked,
-  Reads'''''.Learnt,
-  Reads'''.Asked,
-  Reads'''.Learnt,
-  Reads'.Asked,
-  Reads'.Learnt,
-  Reads''.Asked,
-  Reads''.Learnt,
-) Reads.Pre Reads.Post
+Need-same-length-4 = Lts.Need-same-length-4 readings Reads.Pre Reads.Post
 
 abbrev pub Need-returns : Type 0
-Need-returns = Lts.Need-returns (
-  Reads''''.Asked,
-  Reads''''.Learnt,
-  Reads'''''.Asked,
-  Reads'''''.Learnt,
-  Reads'''.Asked,
-  Reads'''.Learnt,
-  Reads'.Asked,
-  Reads'.Learnt,
-  Reads''.Asked,
-  Reads''.Learnt,
-) Reads.Pre Reads.Post
+Need-returns = Lts.Need-returns readings Reads.Pre Reads.Post
 
 module _ {M : Type 1} where
-  pub spec : (answer : Need-action-gone-requires) → (answer : Need-settle-plan-requires) → (answer : Need-set-action-requires) → (answer :
-      Need-lower-circuit-requires) → (answer : Need-settle-requires) → (answer : Need-same-length) → (answer : Need-same-length-2) → (answer :
-      Need-same-length-3) → (answer : Need-same-length-4) → (answer : Need-returns) → Lts.Closed (
-        Reads''''.Asked,
-        Reads''''.Learnt,
-        Reads'''''.Asked,
-        Reads'''''.Learnt,
-        Reads'''.Asked,
-        Reads'''.Learnt,
-        Reads'.Asked,
-        Reads'.Learnt,
-        Reads''.Asked,
-        Reads''.Learnt,
-      ) Reads.Pre Reads.Post M
-  spec = λ answer answer' answer'' answer'3 answer'4 answer'5 answer'6 answer'7 answer'8 answer'9. Lts.spec (
-    Reads''''.Asked,
-    Reads''''.Learnt,
-    Reads'''''.Asked,
-    Reads'''''.Learnt,
-    Reads'''.Asked,
-    Reads'''.Learnt,
-    Reads'.Asked,
-    Reads'.Learnt,
-    Reads''.Asked,
-    Reads''.Learnt,
-  ) Reads.Pre
-      Reads.Post answer answer' answer'' answer'3 answer'4 answer'5 answer'6 answer'7 answer'8 answer'9
+  pub spec : (answer : Need-action-gone-requires) → (answer : Need-settle-plan-requires) →
+      (answer : Need-set-action-requires) → (answer : Need-lower-circuit-requires) → (answer : Need-settle-requires) →
+      (answer : Need-same-length) → (answer : Need-same-length-2) → (answer : Need-same-length-3) →
+      (answer : Need-same-length-4) → (answer : Need-returns) → Lts.Closed readings Reads.Pre Reads.Post M
+  spec = λ answer answer' answer'' answer'3 answer'4 answer'5 answer'6 answer'7 answer'8 answer'9. Lts.spec readings
+      Reads.Pre Reads.Post answer answer' answer'' answer'3 answer'4 answer'5 answer'6 answer'7 answer'8 answer'9
 
-  pub close : Lts.Closed (
-    Reads''''.Asked,
-    Reads''''.Learnt,
-    Reads'''''.Asked,
-    Reads'''''.Learnt,
-    Reads'''.Asked,
-    Reads'''.Learnt,
-    Reads'.Asked,
-    Reads'.Learnt,
-    Reads''.Asked,
-    Reads''.Learnt,
-  ) Reads.Pre Reads.Post M → Statement.statement M
+  pub close : Lts.Closed readings Reads.Pre Reads.Post M → Statement.statement M
   unfolding Code.routine Running.tablesOf
-  close = λ closed 𝓤 H 𝓜 𝓖 𝓡. Written.close 4 Kinds.ps Kinds.r Reads.Ghost Reads.requires Reads.ensures Reads.pre-read Reads.Pinned Reads.Owned
-      Reads.post-read record { M = M; 𝓤 = 𝓤; H = H; 𝓜 = 𝓜; 𝓖 = 𝓖; 𝓡 = 𝓡 } Code.env Key.name Code.function (Code.unfolded 𝓤 H 𝓜 𝓡) (λ κs a g. tt) (λ
-      κs. Reads.owns κs record { M = M; 𝓤 = 𝓤; H = H; 𝓜 = 𝓜; 𝓖 = 𝓖; 𝓡 = 𝓡 }) (Reads.passes record { M = M; 𝓤 = 𝓤; H = H; 𝓜 = 𝓜; 𝓖 = 𝓖; 𝓡 = 𝓡 }) λ g.
-      closed 𝓤 H (𝓖 .A) (Running.givenOf 𝓤 H 𝓜 𝓖) (Run.Over 𝓤 H 𝓜 𝓖 𝓡 Code.env) (Reads''''.known record { M = M; 𝓤 = 𝓤; H = H; 𝓜 = 𝓜; 𝓖 = 𝓖; 𝓡 = 𝓡 }
-      Code.env Symbol.name Symbol.routine Code.calls-hnsr-circuit·acknowledge·action-gone (Met.met 𝓤 H 𝓜 𝓖 𝓡)) (Reads'''''.known record {
-        M = M;
-        𝓤 =
-            𝓤;
-        H = H;
-        𝓜 = 𝓜;
-        𝓖 = 𝓖;
-        𝓡 = 𝓡;
-      } Code.env Symbol'''.name Symbol'''.routine Code.calls-hnsr-circuit·acknowledge·settle-plan (Met'''.met 𝓤 H 𝓜 𝓖
-      𝓡)) (Reads'''.known record { M = M; 𝓤 = 𝓤; H = H; 𝓜 = 𝓜; 𝓖 = 𝓖; 𝓡 = 𝓡 } Code.env Symbol''''.name Symbol''''.routine
-      Code.calls-hnsr-circuit·tables·inflight·set-action (Met''''.met 𝓤 H 𝓜 𝓖 𝓡)) (Reads'.known record { M = M; 𝓤 = 𝓤; H = H; 𝓜 = 𝓜; 𝓖 = 𝓖; 𝓡 = 𝓡 }
-      Code.env Symbol'.name Symbol'.routine Code.calls-hnsr-circuit·acknowledge·lower-circuit (Met'.met 𝓤 H 𝓜 𝓖 𝓡)) (Reads''.known record {
-        M = M;
-        𝓤 =
-            𝓤;
-        H = H;
-        𝓜 = 𝓜;
-        𝓖 = 𝓖;
-        𝓡 = 𝓡;
-      } Code.env Symbol''.name Symbol''.routine Code.calls-hnsr-circuit·acknowledge·settle (Met''.met 𝓤 H 𝓜 𝓖 𝓡))
+  close = λ closed 𝓤 H 𝓜 𝓖 𝓡. Written.close 4 Kinds.ps Kinds.r Reads.Ghost Reads.requires Reads.ensures Reads.pre-read
+      Reads.Pinned Reads.Owned Reads.post-read record { M = M; 𝓤 = 𝓤; H = H; 𝓜 = 𝓜; 𝓖 = 𝓖; 𝓡 = 𝓡 } Code.env Key.name
+      Code.function (Code.unfolded 𝓤 H 𝓜 𝓡) (λ κs a g. tt) (λ κs. Reads.owns κs
+      record { M = M; 𝓤 = 𝓤; H = H; 𝓜 = 𝓜; 𝓖 = 𝓖; 𝓡 = 𝓡 }) (Reads.passes
+      record { M = M; 𝓤 = 𝓤; H = H; 𝓜 = 𝓜; 𝓖 = 𝓖; 𝓡 = 𝓡 }) λ g. closed 𝓤 H (𝓖 .A) (Running.givenOf 𝓤 H 𝓜 𝓖)
+      (Run.Over 𝓤 H 𝓜 𝓖 𝓡 Code.env) (Reads''''.known record { M = M; 𝓤 = 𝓤; H = H; 𝓜 = 𝓜; 𝓖 = 𝓖; 𝓡 = 𝓡 } Code.env
+      Symbol.name Symbol.routine Code.calls-hnsr-circuit·acknowledge·action-gone (Met.met 𝓤 H 𝓜 𝓖 𝓡)) (Reads'''''.known
+      record { M = M; 𝓤 = 𝓤; H = H; 𝓜 = 𝓜; 𝓖 = 𝓖; 𝓡 = 𝓡 } Code.env Symbol'''.name Symbol'''.routine
+      Code.calls-hnsr-circuit·acknowledge·settle-plan (Met'''.met 𝓤 H 𝓜 𝓖 𝓡)) (Reads'''.known
+      record { M = M; 𝓤 = 𝓤; H = H; 𝓜 = 𝓜; 𝓖 = 𝓖; 𝓡 = 𝓡 } Code.env Symbol''''.name Symbol''''.routine
+      Code.calls-hnsr-circuit·tables·inflight·set-action (Met''''.met 𝓤 H 𝓜 𝓖 𝓡)) (Reads'.known
+      record { M = M; 𝓤 = 𝓤; H = H; 𝓜 = 𝓜; 𝓖 = 𝓖; 𝓡 = 𝓡 } Code.env Symbol'.name Symbol'.routine
+      Code.calls-hnsr-circuit·acknowledge·lower-circuit (Met'.met 𝓤 H 𝓜 𝓖 𝓡)) (Reads''.known
+      record { M = M; 𝓤 = 𝓤; H = H; 𝓜 = 𝓜; 𝓖 = 𝓖; 𝓡 = 𝓡 } Code.env Symbol''.name Symbol''.routine
+      Code.calls-hnsr-circuit·acknowledge·settle (Met''.met 𝓤 H 𝓜 𝓖 𝓡))

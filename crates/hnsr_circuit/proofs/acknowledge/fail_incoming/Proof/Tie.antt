@@ -27,8 +27,8 @@ use borrow.Fn.Run
 use borrow.Fn.Written
 use contract.Running
 
-abbrev pub Start : Type 0
-Start = Lts.Start (
+abbrev pub readings : Lts.Claims
+readings = (
   Reads''.Asked,
   Reads''.Learnt,
   Reads'''''.Asked,
@@ -41,575 +41,130 @@ Start = Lts.Start (
   Reads'.Learnt,
   Reads''''''.Asked,
   Reads''''''.Learnt,
-) Reads.Pre Reads.Post
+)
+
+abbrev pub Start : Type 0
+Start = Lts.Start readings Reads.Pre Reads.Post
 
 abbrev pub After-slice-known : Type 0
-After-slice-known = Lts.After-slice-known (
-  Reads''.Asked,
-  Reads''.Learnt,
-  Reads'''''.Asked,
-  Reads'''''.Learnt,
-  Reads''''.Asked,
-  Reads''''.Learnt,
-  Reads'''.Asked,
-  Reads'''.Learnt,
-  Reads'.Asked,
-  Reads'.Learnt,
-  Reads''''''.Asked,
-  Reads''''''.Learnt,
-) Reads.Pre Reads.Post
+After-slice-known = Lts.After-slice-known readings Reads.Pre Reads.Post
 
 abbrev pub After-pending-by-id-arg : Type 0
-After-pending-by-id-arg = Lts.After-pending-by-id-arg (
-  Reads''.Asked,
-  Reads''.Learnt,
-  Reads'''''.Asked,
-  Reads'''''.Learnt,
-  Reads''''.Asked,
-  Reads''''.Learnt,
-  Reads'''.Asked,
-  Reads'''.Learnt,
-  Reads'.Asked,
-  Reads'.Learnt,
-  Reads''''''.Asked,
-  Reads''''''.Learnt,
-) Reads.Pre Reads.Post
+After-pending-by-id-arg = Lts.After-pending-by-id-arg readings Reads.Pre Reads.Post
 
 abbrev pub After-pending-by-id : Type 0
-After-pending-by-id = Lts.After-pending-by-id (
-  Reads''.Asked,
-  Reads''.Learnt,
-  Reads'''''.Asked,
-  Reads'''''.Learnt,
-  Reads''''.Asked,
-  Reads''''.Learnt,
-  Reads'''.Asked,
-  Reads'''.Learnt,
-  Reads'.Asked,
-  Reads'.Learnt,
-  Reads''''''.Asked,
-  Reads''''''.Learnt,
-) Reads.Pre Reads.Post
+After-pending-by-id = Lts.After-pending-by-id readings Reads.Pre Reads.Post
 
 abbrev pub After-pending-gone : Type 0
-After-pending-gone = Lts.After-pending-gone (
-  Reads''.Asked,
-  Reads''.Learnt,
-  Reads'''''.Asked,
-  Reads'''''.Learnt,
-  Reads''''.Asked,
-  Reads''''.Learnt,
-  Reads'''.Asked,
-  Reads'''.Learnt,
-  Reads'.Asked,
-  Reads'.Learnt,
-  Reads''''''.Asked,
-  Reads''''''.Learnt,
-) Reads.Pre Reads.Post
+After-pending-gone = Lts.After-pending-gone readings Reads.Pre Reads.Post
 
 abbrev pub After-fail-plan : Type 0
-After-fail-plan = Lts.After-fail-plan (
-  Reads''.Asked,
-  Reads''.Learnt,
-  Reads'''''.Asked,
-  Reads'''''.Learnt,
-  Reads''''.Asked,
-  Reads''''.Learnt,
-  Reads'''.Asked,
-  Reads'''.Learnt,
-  Reads'.Asked,
-  Reads'.Learnt,
-  Reads''''''.Asked,
-  Reads''''''.Learnt,
-) Reads.Pre Reads.Post
+After-fail-plan = Lts.After-fail-plan readings Reads.Pre Reads.Post
 
 abbrev pub After-after : Type 0
-After-after = Lts.After-after (
-  Reads''.Asked,
-  Reads''.Learnt,
-  Reads'''''.Asked,
-  Reads'''''.Learnt,
-  Reads''''.Asked,
-  Reads''''.Learnt,
-  Reads'''.Asked,
-  Reads'''.Learnt,
-  Reads'.Asked,
-  Reads'.Learnt,
-  Reads''''''.Asked,
-  Reads''''''.Learnt,
-) Reads.Pre Reads.Post
+After-after = Lts.After-after readings Reads.Pre Reads.Post
 
 abbrev pub After-message : Type 0
-After-message = Lts.After-message (
-  Reads''.Asked,
-  Reads''.Learnt,
-  Reads'''''.Asked,
-  Reads'''''.Learnt,
-  Reads''''.Asked,
-  Reads''''.Learnt,
-  Reads'''.Asked,
-  Reads'''.Learnt,
-  Reads'.Asked,
-  Reads'.Learnt,
-  Reads''''''.Asked,
-  Reads''''''.Learnt,
-) Reads.Pre Reads.Post
+After-message = Lts.After-message readings Reads.Pre Reads.Post
 
 abbrev pub Then1 : Type 0
-Then1 = Lts.Then1 (
-  Reads''.Asked,
-  Reads''.Learnt,
-  Reads'''''.Asked,
-  Reads'''''.Learnt,
-  Reads''''.Asked,
-  Reads''''.Learnt,
-  Reads'''.Asked,
-  Reads'''.Learnt,
-  Reads'.Asked,
-  Reads'.Learnt,
-  Reads''''''.Asked,
-  Reads''''''.Learnt,
-) Reads.Pre Reads.Post
+Then1 = Lts.Then1 readings Reads.Pre Reads.Post
 
 abbrev pub After-set-pending-arg : Type 0
-After-set-pending-arg = Lts.After-set-pending-arg (
-  Reads''.Asked,
-  Reads''.Learnt,
-  Reads'''''.Asked,
-  Reads'''''.Learnt,
-  Reads''''.Asked,
-  Reads''''.Learnt,
-  Reads'''.Asked,
-  Reads'''.Learnt,
-  Reads'.Asked,
-  Reads'.Learnt,
-  Reads''''''.Asked,
-  Reads''''''.Learnt,
-) Reads.Pre Reads.Post
+After-set-pending-arg = Lts.After-set-pending-arg readings Reads.Pre Reads.Post
 
 abbrev pub After-set-pending : Type 0
-After-set-pending = Lts.After-set-pending (
-  Reads''.Asked,
-  Reads''.Learnt,
-  Reads'''''.Asked,
-  Reads'''''.Learnt,
-  Reads''''.Asked,
-  Reads''''.Learnt,
-  Reads'''.Asked,
-  Reads'''.Learnt,
-  Reads'.Asked,
-  Reads'.Learnt,
-  Reads''''''.Asked,
-  Reads''''''.Learnt,
-) Reads.Pre Reads.Post
+After-set-pending = Lts.After-set-pending readings Reads.Pre Reads.Post
 
 abbrev pub After-pending : Type 0
-After-pending = Lts.After-pending (
-  Reads''.Asked,
-  Reads''.Learnt,
-  Reads'''''.Asked,
-  Reads'''''.Learnt,
-  Reads''''.Asked,
-  Reads''''.Learnt,
-  Reads'''.Asked,
-  Reads'''.Learnt,
-  Reads'.Asked,
-  Reads'.Learnt,
-  Reads''''''.Asked,
-  Reads''''''.Learnt,
-) Reads.Pre Reads.Post
+After-pending = Lts.After-pending readings Reads.Pre Reads.Post
 
 abbrev pub After-send-notice-arg : Type 0
-After-send-notice-arg = Lts.After-send-notice-arg (
-  Reads''.Asked,
-  Reads''.Learnt,
-  Reads'''''.Asked,
-  Reads'''''.Learnt,
-  Reads''''.Asked,
-  Reads''''.Learnt,
-  Reads'''.Asked,
-  Reads'''.Learnt,
-  Reads'.Asked,
-  Reads'.Learnt,
-  Reads''''''.Asked,
-  Reads''''''.Learnt,
-) Reads.Pre Reads.Post
+After-send-notice-arg = Lts.After-send-notice-arg readings Reads.Pre Reads.Post
 
 abbrev pub After-send-notice-arg2 : Type 0
-After-send-notice-arg2 = Lts.After-send-notice-arg2 (
-  Reads''.Asked,
-  Reads''.Learnt,
-  Reads'''''.Asked,
-  Reads'''''.Learnt,
-  Reads''''.Asked,
-  Reads''''.Learnt,
-  Reads'''.Asked,
-  Reads'''.Learnt,
-  Reads'.Asked,
-  Reads'.Learnt,
-  Reads''''''.Asked,
-  Reads''''''.Learnt,
-) Reads.Pre Reads.Post
+After-send-notice-arg2 = Lts.After-send-notice-arg2 readings Reads.Pre Reads.Post
 
 abbrev pub After-send-notice : Type 0
-After-send-notice = Lts.After-send-notice (
-  Reads''.Asked,
-  Reads''.Learnt,
-  Reads'''''.Asked,
-  Reads'''''.Learnt,
-  Reads''''.Asked,
-  Reads''''.Learnt,
-  Reads'''.Asked,
-  Reads'''.Learnt,
-  Reads'.Asked,
-  Reads'.Learnt,
-  Reads''''''.Asked,
-  Reads''''''.Learnt,
-) Reads.Pre Reads.Post
+After-send-notice = Lts.After-send-notice readings Reads.Pre Reads.Post
 
 abbrev pub After-inflight : Type 0
-After-inflight = Lts.After-inflight (
-  Reads''.Asked,
-  Reads''.Learnt,
-  Reads'''''.Asked,
-  Reads'''''.Learnt,
-  Reads''''.Asked,
-  Reads''''.Learnt,
-  Reads'''.Asked,
-  Reads'''.Learnt,
-  Reads'.Asked,
-  Reads'.Learnt,
-  Reads''''''.Asked,
-  Reads''''''.Learnt,
-) Reads.Pre Reads.Post
+After-inflight = Lts.After-inflight readings Reads.Pre Reads.Post
 
 abbrev pub After-out : Type 0
-After-out = Lts.After-out (
-  Reads''.Asked,
-  Reads''.Learnt,
-  Reads'''''.Asked,
-  Reads'''''.Learnt,
-  Reads''''.Asked,
-  Reads''''.Learnt,
-  Reads'''.Asked,
-  Reads'''.Learnt,
-  Reads'.Asked,
-  Reads'.Learnt,
-  Reads''''''.Asked,
-  Reads''''''.Learnt,
-) Reads.Pre Reads.Post
+After-out = Lts.After-out readings Reads.Pre Reads.Post
 
 abbrev pub After-slice-known2 : Type 0
-After-slice-known2 = Lts.After-slice-known2 (
-  Reads''.Asked,
-  Reads''.Learnt,
-  Reads'''''.Asked,
-  Reads'''''.Learnt,
-  Reads''''.Asked,
-  Reads''''.Learnt,
-  Reads'''.Asked,
-  Reads'''.Learnt,
-  Reads'.Asked,
-  Reads'.Learnt,
-  Reads''''''.Asked,
-  Reads''''''.Learnt,
-) Reads.Pre Reads.Post
+After-slice-known2 = Lts.After-slice-known2 readings Reads.Pre Reads.Post
 
 abbrev pub Else1 : Type 0
-Else1 = Lts.Else1 (
-  Reads''.Asked,
-  Reads''.Learnt,
-  Reads'''''.Asked,
-  Reads'''''.Learnt,
-  Reads''''.Asked,
-  Reads''''.Learnt,
-  Reads'''.Asked,
-  Reads'''.Learnt,
-  Reads'.Asked,
-  Reads'.Learnt,
-  Reads''''''.Asked,
-  Reads''''''.Learnt,
-) Reads.Pre Reads.Post
+Else1 = Lts.Else1 readings Reads.Pre Reads.Post
 
 abbrev pub After-taken-with : Type 0
-After-taken-with = Lts.After-taken-with (
-  Reads''.Asked,
-  Reads''.Learnt,
-  Reads'''''.Asked,
-  Reads'''''.Learnt,
-  Reads''''.Asked,
-  Reads''''.Learnt,
-  Reads'''.Asked,
-  Reads'''.Learnt,
-  Reads'.Asked,
-  Reads'.Learnt,
-  Reads''''''.Asked,
-  Reads''''''.Learnt,
-) Reads.Pre Reads.Post
+After-taken-with = Lts.After-taken-with readings Reads.Pre Reads.Post
 
 abbrev pub Need-pending-by-id-requires : Type 0
-Need-pending-by-id-requires = Lts.Need-pending-by-id-requires (
-  Reads''.Asked,
-  Reads''.Learnt,
-  Reads'''''.Asked,
-  Reads'''''.Learnt,
-  Reads''''.Asked,
-  Reads''''.Learnt,
-  Reads'''.Asked,
-  Reads'''.Learnt,
-  Reads'.Asked,
-  Reads'.Learnt,
-  Reads''''''.Asked,
-  Reads''''''.Learnt,
-) Reads.Pre Reads.Post
+Need-pending-by-id-requires = Lts.Need-pending-by-id-requires readings Reads.Pre Reads.Post
 
 abbrev pub Need-pending-gone-requires : Type 0
-Need-pending-gone-requires = Lts.Need-pending-gone-requires (
-  Reads''.Asked,
-  Reads''.Learnt,
-  Reads'''''.Asked,
-  Reads'''''.Learnt,
-  Reads''''.Asked,
-  Reads''''.Learnt,
-  Reads'''.Asked,
-  Reads'''.Learnt,
-  Reads'.Asked,
-  Reads'.Learnt,
-  Reads''''''.Asked,
-  Reads''''''.Learnt,
-) Reads.Pre Reads.Post
+Need-pending-gone-requires = Lts.Need-pending-gone-requires readings Reads.Pre Reads.Post
 
 abbrev pub Need-fail-plan-requires : Type 0
-Need-fail-plan-requires = Lts.Need-fail-plan-requires (
-  Reads''.Asked,
-  Reads''.Learnt,
-  Reads'''''.Asked,
-  Reads'''''.Learnt,
-  Reads''''.Asked,
-  Reads''''.Learnt,
-  Reads'''.Asked,
-  Reads'''.Learnt,
-  Reads'.Asked,
-  Reads'.Learnt,
-  Reads''''''.Asked,
-  Reads''''''.Learnt,
-) Reads.Pre Reads.Post
+Need-fail-plan-requires = Lts.Need-fail-plan-requires readings Reads.Pre Reads.Post
 
 abbrev pub Need-set-pending-requires : Type 0
-Need-set-pending-requires = Lts.Need-set-pending-requires (
-  Reads''.Asked,
-  Reads''.Learnt,
-  Reads'''''.Asked,
-  Reads'''''.Learnt,
-  Reads''''.Asked,
-  Reads''''.Learnt,
-  Reads'''.Asked,
-  Reads'''.Learnt,
-  Reads'.Asked,
-  Reads'.Learnt,
-  Reads''''''.Asked,
-  Reads''''''.Learnt,
-) Reads.Pre Reads.Post
+Need-set-pending-requires = Lts.Need-set-pending-requires readings Reads.Pre Reads.Post
 
 abbrev pub Need-send-notice-requires : Type 0
-Need-send-notice-requires = Lts.Need-send-notice-requires (
-  Reads''.Asked,
-  Reads''.Learnt,
-  Reads'''''.Asked,
-  Reads'''''.Learnt,
-  Reads''''.Asked,
-  Reads''''.Learnt,
-  Reads'''.Asked,
-  Reads'''.Learnt,
-  Reads'.Asked,
-  Reads'.Learnt,
-  Reads''''''.Asked,
-  Reads''''''.Learnt,
-) Reads.Pre Reads.Post
+Need-send-notice-requires = Lts.Need-send-notice-requires readings Reads.Pre Reads.Post
 
 abbrev pub Need-same-length : Type 0
-Need-same-length = Lts.Need-same-length (
-  Reads''.Asked,
-  Reads''.Learnt,
-  Reads'''''.Asked,
-  Reads'''''.Learnt,
-  Reads''''.Asked,
-  Reads''''.Learnt,
-  Reads'''.Asked,
-  Reads'''.Learnt,
-  Reads'.Asked,
-  Reads'.Learnt,
-  Reads''''''.Asked,
-  Reads''''''.Learnt,
-) Reads.Pre Reads.Post
+Need-same-length = Lts.Need-same-length readings Reads.Pre Reads.Post
 
 abbrev pub Need-same-length-2 : Type 0
-Need-same-length-2 = Lts.Need-same-length-2 (
-  Reads''.Asked,
-  Reads''.Learnt,
-  Reads'''''.Asked,
-  Reads'''''.Learnt,
-  Reads''''.Asked,
-  Reads''''.Learnt,
-  Reads'''.Asked,
-  Reads'''.Learnt,
-  Reads'.Asked,
-  Reads'.Learnt,
-  Reads''''''.Asked,
-  Reads''''''.Learnt,
-) Reads.Pre Reads.Post
+Need-same-length-2 = Lts.Need-same-length-2 readings Reads.Pre Reads.Post
 
 abbrev pub Need-same-length-3 : Type 0
-Need-same-length-3 = Lts.Need-same-length-3 (
-  Reads''.Asked,
-  Reads''.Learnt,
-  Reads'''''.Asked,
-  Reads'''''.Learnt,
-  Reads''''.Asked,
-  Reads''''.Learnt,
-  Reads'''.Asked,
-  Reads'''.Learnt,
-  Reads'.Asked,
-  Reads'.Learnt,
-  Reads''''''.Asked,
-  Reads''''''.Learnt,
-) Reads.Pre Reads.Post
+Need-same-length-3 = Lts.Need-same-length-3 readings Reads.Pre Reads.Post
 
 abbrev pub Need-returns : Type 0
-Need-returns = Lts.Need-returns (
-  Reads''.Asked,
-  Reads''.Learnt,
-  Reads'''''.Asked,
-  Reads'''''.Learnt,
-  Reads''''.Asked,
-  Reads''''.Learnt,
-  Reads'''.Asked,
-  Reads'''.Learnt,
-  Reads'.Asked,
-  Reads'.Learnt,
-  Reads''''''.Asked,
-  Reads''''''.Learnt,
-) Reads.Pre Reads.Post
+Need-returns = Lts.Need-returns readings Reads.Pre Reads.Post
 
 abbrev pub Need-taken-with-requires : Type 0
-Need-taken-with-requires = Lts.Need-taken-with-requires (
-  Reads''.Asked,
-  Reads''.Learnt,
-  Reads'''''.Asked,
-  Reads'''''.Learnt,
-  Reads''''.Asked,
-  Reads''''.Learnt,
-  Reads'''.Asked,
-  Reads'''.Learnt,
-  Reads'.Asked,
-  Reads'.Learnt,
-  Reads''''''.Asked,
-  Reads''''''.Learnt,
-) Reads.Pre Reads.Post
+Need-taken-with-requires = Lts.Need-taken-with-requires readings Reads.Pre Reads.Post
 
 abbrev pub Need-same-length-4 : Type 0
-Need-same-length-4 = Lts.Need-same-length-4 (
-  Reads''.Asked,
-  Reads''.Learnt,
-  Reads'''''.Asked,
-  Reads'''''.Learnt,
-  Reads''''.Asked,
-  Reads''''.Learnt,
-  Reads'''.Asked,
-  Reads'''.Learnt,
-  Reads'.Asked,
-  Reads'.Learnt,
-  Reads''''''.Asked,
-  Reads''''''.Learnt,
-) Reads.Pre Reads.Post
+Need-same-length-4 = Lts.Need-same-length-4 readings Reads.Pre Reads.Post
 
 abbrev pub Need-returns-2 : Type 0
-Need-returns-2 = Lts.Need-returns-2 (
-  Reads''.Asked,
-  Reads''.Learnt,
-  Reads'''''.Asked,
-  Reads'''''.Learnt,
-  Reads''''.Asked,
-  Reads''''.Learnt,
-  Reads'''.Asked,
-  Reads'''.Learnt,
-  Reads'.Asked,
-  Reads'.Learnt,
-  Reads''''''.Asked,
-  Reads''''''.Learnt,
-) Reads.Pre Reads.Post
+Need-returns-2 = Lts.Need-returns-2 readings Reads.Pre Reads.Post
 
 module _ {M : Type 1} where
-  pub spec : (answer : Need-pending-by-id-requires) → (answer : Need-pending-gone-requires) → (answer : Need-fail-plan-requires) → (answer :
-      Need-set-pending-requires) → (answer : Need-send-notice-requires) → (answer : Need-same-length) → (answer : Need-same-length-2) → (answer :
-      Need-same-length-3) → (answer : Need-returns) → (answer : Need-taken-with-requires) → (answer : Need-same-length-4) → (answer : Need-returns-2)
-      → Lts.Closed (
-        Reads''.Asked,
-        Reads''.Learnt,
-        Reads'''''.Asked,
-        Reads'''''.Learnt,
-        Reads''''.Asked,
-        Reads''''.Learnt,
-        Reads'''.Asked,
-        Reads'''.Learnt,
-        Reads'.Asked,
-        Reads'.Learnt,
-        Reads''''''.Asked,
-        Reads''''''.Learnt,
-      ) Reads.Pre Reads.Post M
-  spec = λ answer answer' answer'' answer'3 answer'4 answer'5 answer'6 answer'7 answer'8 answer'9 answer'10 answer'11. Lts.spec (
-    Reads''.Asked,
-    Reads''.Learnt,
-    Reads'''''.Asked,
-    Reads'''''.Learnt,
-    Reads''''.Asked,
-    Reads''''.Learnt,
-    Reads'''.Asked,
-    Reads'''.Learnt,
-    Reads'.Asked,
-    Reads'.Learnt,
-    Reads''''''.Asked,
-    Reads''''''.Learnt,
-  ) Reads.Pre Reads.Post answer answer' answer'' answer'3 answer'4 answer'5 answer'6 answer'7
+  pub spec : (answer : Need-pending-by-id-requires) → (answer : Need-pending-gone-requires) →
+      (answer : Need-fail-plan-requires) → (answer : Need-set-pending-requires) → (answer : Need-send-notice-requires)
+      → (answer : Need-same-length) → (answer : Need-same-length-2) → (answer : Need-same-length-3) →
+      (answer : Need-returns) → (answer : Need-taken-with-requires) → (answer : Need-same-length-4) →
+      (answer : Need-returns-2) → Lts.Closed readings Reads.Pre Reads.Post M
+  spec = λ answer answer' answer'' answer'3 answer'4 answer'5 answer'6 answer'7 answer'8 answer'9 answer'10 answer'11.
+      Lts.spec readings Reads.Pre Reads.Post answer answer' answer'' answer'3 answer'4 answer'5 answer'6 answer'7
       answer'8 answer'9 answer'10 answer'11
 
-  pub close : Lts.Closed (
-    Reads''.Asked,
-    Reads''.Learnt,
-    Reads'''''.Asked,
-    Reads'''''.Learnt,
-    Reads''''.Asked,
-    Reads''''.Learnt,
-    Reads'''.Asked,
-    Reads'''.Learnt,
-    Reads'.Asked,
-    Reads'.Learnt,
-    Reads''''''.Asked,
-    Reads''''''.Learnt,
-  ) Reads.Pre Reads.Post M → Statement.statement M
+  pub close : Lts.Closed readings Reads.Pre Reads.Post M → Statement.statement M
   unfolding Code.routine Running.tablesOf
-  close = λ closed 𝓤 H 𝓜 𝓖 𝓡. Written.close 3 Kinds.ps Kinds.r Reads.Ghost Reads.requires Reads.ensures Reads.pre-read Reads.Pinned Reads.Owned
-      Reads.post-read record { M = M; 𝓤 = 𝓤; H = H; 𝓜 = 𝓜; 𝓖 = 𝓖; 𝓡 = 𝓡 } Code.env Key.name Code.function (Code.unfolded 𝓤 H 𝓜 𝓡) (λ κs a g. tt) (λ
-      κs. Reads.owns κs record { M = M; 𝓤 = 𝓤; H = H; 𝓜 = 𝓜; 𝓖 = 𝓖; 𝓡 = 𝓡 }) (Reads.passes record { M = M; 𝓤 = 𝓤; H = H; 𝓜 = 𝓜; 𝓖 = 𝓖; 𝓡 = 𝓡 }) λ g.
-      closed 𝓤 H (𝓖 .A) (Running.givenOf 𝓤 H 𝓜 𝓖) (Run.Over 𝓤 H 𝓜 𝓖 𝓡 Code.env) (Reads''.known record { M = M; 𝓤 = 𝓤; H = H; 𝓜 = 𝓜; 𝓖 = 𝓖; 𝓡 = 𝓡 }
-      Code.env Symbol''.name Symbol''.routine Code.calls-hnsr-circuit·lookup·pending-by-id (Met''.met 𝓤 H 𝓜 𝓖 𝓡)) (Reads'''''.known record {
-        M = M;
-        𝓤
-            = 𝓤;
-        H = H;
-        𝓜 = 𝓜;
-        𝓖 = 𝓖;
-        𝓡 = 𝓡;
-      } Code.env Symbol'''.name Symbol'''.routine Code.calls-hnsr-circuit·revocation·pending-gone (Met'''.met 𝓤 H 𝓜 𝓖
-      𝓡)) (Reads''''.known record { M = M; 𝓤 = 𝓤; H = H; 𝓜 = 𝓜; 𝓖 = 𝓖; 𝓡 = 𝓡 } Code.env Symbol.name Symbol.routine
-      Code.calls-hnsr-circuit·acknowledge·fail-plan (Met.met 𝓤 H 𝓜 𝓖 𝓡)) (Reads'''.known record { M = M; 𝓤 = 𝓤; H = H; 𝓜 = 𝓜; 𝓖 = 𝓖; 𝓡 = 𝓡 } Code.env
-      Symbol'''''.name Symbol'''''.routine Code.calls-hnsr-circuit·tables·pending·set-pending (Met'''''.met 𝓤 H 𝓜 𝓖 𝓡)) (Reads'.known record {
-        M = M;
-        𝓤 = 𝓤;
-        H = H;
-        𝓜 = 𝓜;
-        𝓖 = 𝓖;
-        𝓡 = 𝓡;
-      } Code.env Symbol'.name Symbol'.routine Code.calls-hnsr-circuit·acknowledge·send-notice (Met'.met 𝓤 H 𝓜 𝓖 𝓡))
-      (Reads''''''.known record { M = M; 𝓤 = 𝓤; H = H; 𝓜 = 𝓜; 𝓖 = 𝓖; 𝓡 = 𝓡 } Code.env Symbol''''.name Symbol''''.routine
+  close = λ closed 𝓤 H 𝓜 𝓖 𝓡. Written.close 3 Kinds.ps Kinds.r Reads.Ghost Reads.requires Reads.ensures Reads.pre-read
+      Reads.Pinned Reads.Owned Reads.post-read record { M = M; 𝓤 = 𝓤; H = H; 𝓜 = 𝓜; 𝓖 = 𝓖; 𝓡 = 𝓡 } Code.env Key.name
+      Code.function (Code.unfolded 𝓤 H 𝓜 𝓡) (λ κs a g. tt) (λ κs. Reads.owns κs
+      record { M = M; 𝓤 = 𝓤; H = H; 𝓜 = 𝓜; 𝓖 = 𝓖; 𝓡 = 𝓡 }) (Reads.passes
+      record { M = M; 𝓤 = 𝓤; H = H; 𝓜 = 𝓜; 𝓖 = 𝓖; 𝓡 = 𝓡 }) λ g. closed 𝓤 H (𝓖 .A) (Running.givenOf 𝓤 H 𝓜 𝓖)
+      (Run.Over 𝓤 H 𝓜 𝓖 𝓡 Code.env) (Reads''.known record { M = M; 𝓤 = 𝓤; H = H; 𝓜 = 𝓜; 𝓖 = 𝓖; 𝓡 = 𝓡 } Code.env
+      Symbol''.name Symbol''.routine Code.calls-hnsr-circuit·lookup·pending-by-id (Met''.met 𝓤 H 𝓜 𝓖 𝓡)) (Reads'''''.known
+      record { M = M; 𝓤 = 𝓤; H = H; 𝓜 = 𝓜; 𝓖 = 𝓖; 𝓡 = 𝓡 } Code.env Symbol'''.name Symbol'''.routine
+      Code.calls-hnsr-circuit·revocation·pending-gone (Met'''.met 𝓤 H 𝓜 𝓖 𝓡)) (Reads''''.known
+      record { M = M; 𝓤 = 𝓤; H = H; 𝓜 = 𝓜; 𝓖 = 𝓖; 𝓡 = 𝓡 } Code.env Symbol.name Symbol.routine
+      Code.calls-hnsr-circuit·acknowledge·fail-plan (Met.met 𝓤 H 𝓜 𝓖 𝓡)) (Reads'''.known
+      record { M = M; 𝓤 = 𝓤; H = H; 𝓜 = 𝓜; 𝓖 = 𝓖; 𝓡 = 𝓡 } Code.env Symbol'''''.name Symbol'''''.routine
+      Code.calls-hnsr-circuit·tables·pending·set-pending (Met'''''.met 𝓤 H 𝓜 𝓖 𝓡)) (Reads'.known
+      record { M = M; 𝓤 = 𝓤; H = H; 𝓜 = 𝓜; 𝓖 = 𝓖; 𝓡 = 𝓡 } Code.env Symbol'.name Symbol'.routine
+      Code.calls-hnsr-circuit·acknowledge·send-notice (Met'.met 𝓤 H 𝓜 𝓖 𝓡)) (Reads''''''.known
+      record { M = M; 𝓤 = 𝓤; H = H; 𝓜 = 𝓜; 𝓖 = 𝓖; 𝓡 = 𝓡 } Code.env Symbol''''.name Symbol''''.routine
       Code.calls-hnsr-circuit·revoking-calls·taken-with (Met''''.met 𝓤 H 𝓜 𝓖 𝓡))

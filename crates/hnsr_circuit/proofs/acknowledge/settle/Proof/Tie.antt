@@ -18,178 +18,134 @@ use borrow.Fn.Run
 use borrow.Fn.Written
 use contract.Running
 
+abbrev pub readings : Lts.Claims
+readings = (Reads.Asked, Reads.Learnt, Reads''.Asked, Reads''.Learnt, Reads'''.Asked, Reads'''.Learnt)
+
 abbrev pub Start : Type 0
-Start = Lts.Start (Reads.Asked, Reads.Learnt, Reads''.Asked, Reads''.Learnt, Reads'''.Asked, Reads'''.Learnt) Reads'.Pre Reads'.Post
+Start = Lts.Start readings Reads'.Pre Reads'.Post
 
 abbrev pub After-slice-known : Type 0
-After-slice-known = Lts.After-slice-known (Reads.Asked, Reads.Learnt, Reads''.Asked, Reads''.Learnt, Reads'''.Asked, Reads'''.Learnt) Reads'.Pre
-    Reads'.Post
+After-slice-known = Lts.After-slice-known readings Reads'.Pre Reads'.Post
 
 abbrev pub Then1 : Type 0
-Then1 = Lts.Then1 (Reads.Asked, Reads.Learnt, Reads''.Asked, Reads''.Learnt, Reads'''.Asked, Reads'''.Learnt) Reads'.Pre Reads'.Post
+Then1 = Lts.Then1 readings Reads'.Pre Reads'.Post
 
 abbrev pub After-fail-incoming-arg : Type 0
-After-fail-incoming-arg = Lts.After-fail-incoming-arg (Reads.Asked, Reads.Learnt, Reads''.Asked, Reads''.Learnt, Reads'''.Asked, Reads'''.Learnt)
-    Reads'.Pre Reads'.Post
+After-fail-incoming-arg = Lts.After-fail-incoming-arg readings Reads'.Pre Reads'.Post
 
 abbrev pub After-fail-incoming-arg2 : Type 0
-After-fail-incoming-arg2 = Lts.After-fail-incoming-arg2 (Reads.Asked, Reads.Learnt, Reads''.Asked, Reads''.Learnt, Reads'''.Asked, Reads'''.Learnt)
-    Reads'.Pre Reads'.Post
+After-fail-incoming-arg2 = Lts.After-fail-incoming-arg2 readings Reads'.Pre Reads'.Post
 
 abbrev pub After-fail-incoming-arg3 : Type 0
-After-fail-incoming-arg3 = Lts.After-fail-incoming-arg3 (Reads.Asked, Reads.Learnt, Reads''.Asked, Reads''.Learnt, Reads'''.Asked, Reads'''.Learnt)
-    Reads'.Pre Reads'.Post
+After-fail-incoming-arg3 = Lts.After-fail-incoming-arg3 readings Reads'.Pre Reads'.Post
 
 abbrev pub After-fail-incoming : Type 0
-After-fail-incoming = Lts.After-fail-incoming (Reads.Asked, Reads.Learnt, Reads''.Asked, Reads''.Learnt, Reads'''.Asked, Reads'''.Learnt) Reads'.Pre
-    Reads'.Post
+After-fail-incoming = Lts.After-fail-incoming readings Reads'.Pre Reads'.Post
 
 abbrev pub After-pending : Type 0
-After-pending = Lts.After-pending (Reads.Asked, Reads.Learnt, Reads''.Asked, Reads''.Learnt, Reads'''.Asked, Reads'''.Learnt) Reads'.Pre Reads'.Post
+After-pending = Lts.After-pending readings Reads'.Pre Reads'.Post
 
 abbrev pub After-inflight : Type 0
-After-inflight = Lts.After-inflight (Reads.Asked, Reads.Learnt, Reads''.Asked, Reads''.Learnt, Reads'''.Asked, Reads'''.Learnt) Reads'.Pre
-    Reads'.Post
+After-inflight = Lts.After-inflight readings Reads'.Pre Reads'.Post
 
 abbrev pub After-out : Type 0
-After-out = Lts.After-out (Reads.Asked, Reads.Learnt, Reads''.Asked, Reads''.Learnt, Reads'''.Asked, Reads'''.Learnt) Reads'.Pre Reads'.Post
+After-out = Lts.After-out readings Reads'.Pre Reads'.Post
 
 abbrev pub After-slice-known2 : Type 0
-After-slice-known2 = Lts.After-slice-known2 (Reads.Asked, Reads.Learnt, Reads''.Asked, Reads''.Learnt, Reads'''.Asked, Reads'''.Learnt) Reads'.Pre
-    Reads'.Post
+After-slice-known2 = Lts.After-slice-known2 readings Reads'.Pre Reads'.Post
 
 abbrev pub Else1 : Type 0
-Else1 = Lts.Else1 (Reads.Asked, Reads.Learnt, Reads''.Asked, Reads''.Learnt, Reads'''.Asked, Reads'''.Learnt) Reads'.Pre Reads'.Post
+Else1 = Lts.Else1 readings Reads'.Pre Reads'.Post
 
 abbrev pub Then2 : Type 0
-Then2 = Lts.Then2 (Reads.Asked, Reads.Learnt, Reads''.Asked, Reads''.Learnt, Reads'''.Asked, Reads'''.Learnt) Reads'.Pre Reads'.Post
+Then2 = Lts.Then2 readings Reads'.Pre Reads'.Post
 
 abbrev pub After-revoke-one-arg : Type 0
-After-revoke-one-arg = Lts.After-revoke-one-arg (Reads.Asked, Reads.Learnt, Reads''.Asked, Reads''.Learnt, Reads'''.Asked, Reads'''.Learnt)
-    Reads'.Pre Reads'.Post
+After-revoke-one-arg = Lts.After-revoke-one-arg readings Reads'.Pre Reads'.Post
 
 abbrev pub After-revoke-one-arg2 : Type 0
-After-revoke-one-arg2 = Lts.After-revoke-one-arg2 (Reads.Asked, Reads.Learnt, Reads''.Asked, Reads''.Learnt, Reads'''.Asked, Reads'''.Learnt)
-    Reads'.Pre Reads'.Post
+After-revoke-one-arg2 = Lts.After-revoke-one-arg2 readings Reads'.Pre Reads'.Post
 
 abbrev pub After-revoke-one-arg3 : Type 0
-After-revoke-one-arg3 = Lts.After-revoke-one-arg3 (Reads.Asked, Reads.Learnt, Reads''.Asked, Reads''.Learnt, Reads'''.Asked, Reads'''.Learnt)
-    Reads'.Pre Reads'.Post
+After-revoke-one-arg3 = Lts.After-revoke-one-arg3 readings Reads'.Pre Reads'.Post
 
 abbrev pub After-revoke-one : Type 0
-After-revoke-one = Lts.After-revoke-one (Reads.Asked, Reads.Learnt, Reads''.Asked, Reads''.Learnt, Reads'''.Asked, Reads'''.Learnt) Reads'.Pre
-    Reads'.Post
+After-revoke-one = Lts.After-revoke-one readings Reads'.Pre Reads'.Post
 
 abbrev pub After-circuits : Type 0
-After-circuits = Lts.After-circuits (Reads.Asked, Reads.Learnt, Reads''.Asked, Reads''.Learnt, Reads'''.Asked, Reads'''.Learnt) Reads'.Pre
-    Reads'.Post
+After-circuits = Lts.After-circuits readings Reads'.Pre Reads'.Post
 
 abbrev pub After-inflight2 : Type 0
-After-inflight2 = Lts.After-inflight2 (Reads.Asked, Reads.Learnt, Reads''.Asked, Reads''.Learnt, Reads'''.Asked, Reads'''.Learnt) Reads'.Pre
-    Reads'.Post
+After-inflight2 = Lts.After-inflight2 readings Reads'.Pre Reads'.Post
 
 abbrev pub After-out2 : Type 0
-After-out2 = Lts.After-out2 (Reads.Asked, Reads.Learnt, Reads''.Asked, Reads''.Learnt, Reads'''.Asked, Reads'''.Learnt) Reads'.Pre Reads'.Post
+After-out2 = Lts.After-out2 readings Reads'.Pre Reads'.Post
 
 abbrev pub After-slice-known3 : Type 0
-After-slice-known3 = Lts.After-slice-known3 (Reads.Asked, Reads.Learnt, Reads''.Asked, Reads''.Learnt, Reads'''.Asked, Reads'''.Learnt) Reads'.Pre
-    Reads'.Post
+After-slice-known3 = Lts.After-slice-known3 readings Reads'.Pre Reads'.Post
 
 abbrev pub Else2 : Type 0
-Else2 = Lts.Else2 (Reads.Asked, Reads.Learnt, Reads''.Asked, Reads''.Learnt, Reads'''.Asked, Reads'''.Learnt) Reads'.Pre Reads'.Post
+Else2 = Lts.Else2 readings Reads'.Pre Reads'.Post
 
 abbrev pub After-taken-with : Type 0
-After-taken-with = Lts.After-taken-with (Reads.Asked, Reads.Learnt, Reads''.Asked, Reads''.Learnt, Reads'''.Asked, Reads'''.Learnt) Reads'.Pre
-    Reads'.Post
+After-taken-with = Lts.After-taken-with readings Reads'.Pre Reads'.Post
 
 abbrev pub Need-fail-incoming-requires : Type 0
-Need-fail-incoming-requires = Lts.Need-fail-incoming-requires (
-  Reads.Asked,
-  Reads.Learnt,
-  Reads''.Asked,
-  Reads''.Learnt,
-  Reads'''.Asked,
-  Reads'''.Learnt,
-) Reads'.Pre Reads'.Post
+Need-fail-incoming-requires = Lts.Need-fail-incoming-requires readings Reads'.Pre Reads'.Post
 
 abbrev pub Need-same-length : Type 0
-Need-same-length = Lts.Need-same-length (Reads.Asked, Reads.Learnt, Reads''.Asked, Reads''.Learnt, Reads'''.Asked, Reads'''.Learnt) Reads'.Pre
-    Reads'.Post
+Need-same-length = Lts.Need-same-length readings Reads'.Pre Reads'.Post
 
 abbrev pub Need-same-length-2 : Type 0
-Need-same-length-2 = Lts.Need-same-length-2 (Reads.Asked, Reads.Learnt, Reads''.Asked, Reads''.Learnt, Reads'''.Asked, Reads'''.Learnt) Reads'.Pre
-    Reads'.Post
+Need-same-length-2 = Lts.Need-same-length-2 readings Reads'.Pre Reads'.Post
 
 abbrev pub Need-same-length-3 : Type 0
-Need-same-length-3 = Lts.Need-same-length-3 (Reads.Asked, Reads.Learnt, Reads''.Asked, Reads''.Learnt, Reads'''.Asked, Reads'''.Learnt) Reads'.Pre
-    Reads'.Post
+Need-same-length-3 = Lts.Need-same-length-3 readings Reads'.Pre Reads'.Post
 
 abbrev pub Need-returns : Type 0
-Need-returns = Lts.Need-returns (Reads.Asked, Reads.Learnt, Reads''.Asked, Reads''.Learnt, Reads'''.Asked, Reads'''.Learnt) Reads'.Pre Reads'.Post
+Need-returns = Lts.Need-returns readings Reads'.Pre Reads'.Post
 
 abbrev pub Need-revoke-one-requires : Type 0
-Need-revoke-one-requires = Lts.Need-revoke-one-requires (Reads.Asked, Reads.Learnt, Reads''.Asked, Reads''.Learnt, Reads'''.Asked, Reads'''.Learnt)
-    Reads'.Pre Reads'.Post
+Need-revoke-one-requires = Lts.Need-revoke-one-requires readings Reads'.Pre Reads'.Post
 
 abbrev pub Need-same-length-4 : Type 0
-Need-same-length-4 = Lts.Need-same-length-4 (Reads.Asked, Reads.Learnt, Reads''.Asked, Reads''.Learnt, Reads'''.Asked, Reads'''.Learnt) Reads'.Pre
-    Reads'.Post
+Need-same-length-4 = Lts.Need-same-length-4 readings Reads'.Pre Reads'.Post
 
 abbrev pub Need-same-length-5 : Type 0
-Need-same-length-5 = Lts.Need-same-length-5 (Reads.Asked, Reads.Learnt, Reads''.Asked, Reads''.Learnt, Reads'''.Asked, Reads'''.Learnt) Reads'.Pre
-    Reads'.Post
+Need-same-length-5 = Lts.Need-same-length-5 readings Reads'.Pre Reads'.Post
 
 abbrev pub Need-same-length-6 : Type 0
-Need-same-length-6 = Lts.Need-same-length-6 (Reads.Asked, Reads.Learnt, Reads''.Asked, Reads''.Learnt, Reads'''.Asked, Reads'''.Learnt) Reads'.Pre
-    Reads'.Post
+Need-same-length-6 = Lts.Need-same-length-6 readings Reads'.Pre Reads'.Post
 
 abbrev pub Need-returns-2 : Type 0
-Need-returns-2 = Lts.Need-returns-2 (Reads.Asked, Reads.Learnt, Reads''.Asked, Reads''.Learnt, Reads'''.Asked, Reads'''.Learnt) Reads'.Pre
-    Reads'.Post
+Need-returns-2 = Lts.Need-returns-2 readings Reads'.Pre Reads'.Post
 
 abbrev pub Need-taken-with-requires : Type 0
-Need-taken-with-requires = Lts.Need-taken-with-requires (Reads.Asked, Reads.Learnt, Reads''.Asked, Reads''.Learnt, Reads'''.Asked, Reads'''.Learnt)
-    Reads'.Pre Reads'.Post
+Need-taken-with-requires = Lts.Need-taken-with-requires readings Reads'.Pre Reads'.Post
 
 abbrev pub Need-returns-3 : Type 0
-Need-returns-3 = Lts.Need-returns-3 (Reads.Asked, Reads.Learnt, Reads''.Asked, Reads''.Learnt, Reads'''.Asked, Reads'''.Learnt) Reads'.Pre
-    Reads'.Post
+Need-returns-3 = Lts.Need-returns-3 readings Reads'.Pre Reads'.Post
 
 module _ {M : Type 1} where
-  pub spec : (answer : Need-fail-incoming-requires) → (answer : Need-same-length) → (answer : Need-same-length-2) → (answer : Need-same-length-3) →
-      (answer : Need-returns) → (answer : Need-revoke-one-requires) → (answer : Need-same-length-4) → (answer : Need-same-length-5) → (answer :
-      Need-same-length-6) → (answer : Need-returns-2) → (answer : Need-taken-with-requires) → (answer : Need-returns-3) → Lts.Closed (
-        Reads.Asked,
-        Reads.Learnt,
-        Reads''.Asked,
-        Reads''.Learnt,
-        Reads'''.Asked,
-        Reads'''.Learnt,
-      ) Reads'.Pre Reads'.Post M
-  spec = λ answer answer' answer'' answer'3 answer'4 answer'5 answer'6 answer'7 answer'8 answer'9 answer'10 answer'11. Lts.spec (
-    Reads.Asked,
-    Reads.Learnt,
-    Reads''.Asked,
-    Reads''.Learnt,
-    Reads'''.Asked,
-    Reads'''.Learnt,
-  ) Reads'.Pre Reads'.Post answer answer' answer'' answer'3 answer'4
-      answer'5 answer'6 answer'7 answer'8 answer'9 answer'10 answer'11
+  pub spec : (answer : Need-fail-incoming-requires) → (answer : Need-same-length) → (answer : Need-same-length-2) →
+      (answer : Need-same-length-3) → (answer : Need-returns) → (answer : Need-revoke-one-requires) →
+      (answer : Need-same-length-4) → (answer : Need-same-length-5) → (answer : Need-same-length-6) →
+      (answer : Need-returns-2) → (answer : Need-taken-with-requires) → (answer : Need-returns-3) → Lts.Closed readings
+      Reads'.Pre Reads'.Post M
+  spec = λ answer answer' answer'' answer'3 answer'4 answer'5 answer'6 answer'7 answer'8 answer'9 answer'10 answer'11.
+      Lts.spec readings Reads'.Pre Reads'.Post answer answer' answer'' answer'3 answer'4 answer'5 answer'6 answer'7
+      answer'8 answer'9 answer'10 answer'11
 
-  pub close : Lts.Closed (Reads.Asked, Reads.Learnt, Reads''.Asked, Reads''.Learnt, Reads'''.Asked, Reads'''.Learnt) Reads'.Pre Reads'.Post M →
-      Statement.statement M
+  pub close : Lts.Closed readings Reads'.Pre Reads'.Post M → Statement.statement M
   unfolding Code.routine Running.tablesOf
-  close = λ closed 𝓤 H 𝓜 𝓖 𝓡. Written.close 4 Kinds.ps Kinds.r Reads'.Ghost Reads'.requires Reads'.ensures Reads'.pre-read Reads'.Pinned Reads'.Owned
-      Reads'.post-read record { M = M; 𝓤 = 𝓤; H = H; 𝓜 = 𝓜; 𝓖 = 𝓖; 𝓡 = 𝓡 } Code.env Key.name Code.function (Code.unfolded 𝓤 H 𝓜 𝓡) (λ κs a g. tt) (λ
-      κs. Reads'.owns κs record { M = M; 𝓤 = 𝓤; H = H; 𝓜 = 𝓜; 𝓖 = 𝓖; 𝓡 = 𝓡 }) (Reads'.passes record { M = M; 𝓤 = 𝓤; H = H; 𝓜 = 𝓜; 𝓖 = 𝓖; 𝓡 = 𝓡 }) λ g.
-      closed 𝓤 H (𝓖 .A) (Running.givenOf 𝓤 H 𝓜 𝓖) (Run.Over 𝓤 H 𝓜 𝓖 𝓡 Code.env) (Reads.known record { M = M; 𝓤 = 𝓤; H = H; 𝓜 = 𝓜; 𝓖 = 𝓖; 𝓡 = 𝓡 }
-      Code.env Symbol.name Symbol.routine Code.calls-hnsr-circuit·acknowledge·fail-incoming (Met.met 𝓤 H 𝓜 𝓖 𝓡)) (Reads''.known record {
-        M = M;
-        𝓤 = 𝓤;
-        H = H;
-        𝓜 = 𝓜;
-        𝓖 = 𝓖;
-        𝓡 = 𝓡;
-      } Code.env Symbol'.name Symbol'.routine Code.calls-hnsr-circuit·revocation·revoke-one (Met'.met 𝓤 H 𝓜 𝓖 𝓡))
-      (Reads'''.known record { M = M; 𝓤 = 𝓤; H = H; 𝓜 = 𝓜; 𝓖 = 𝓖; 𝓡 = 𝓡 } Code.env Symbol''.name Symbol''.routine
+  close = λ closed 𝓤 H 𝓜 𝓖 𝓡. Written.close 4 Kinds.ps Kinds.r Reads'.Ghost Reads'.requires Reads'.ensures
+      Reads'.pre-read Reads'.Pinned Reads'.Owned Reads'.post-read record { M = M; 𝓤 = 𝓤; H = H; 𝓜 = 𝓜; 𝓖 = 𝓖; 𝓡 = 𝓡 }
+      Code.env Key.name Code.function (Code.unfolded 𝓤 H 𝓜 𝓡) (λ κs a g. tt) (λ κs. Reads'.owns κs
+      record { M = M; 𝓤 = 𝓤; H = H; 𝓜 = 𝓜; 𝓖 = 𝓖; 𝓡 = 𝓡 }) (Reads'.passes
+      record { M = M; 𝓤 = 𝓤; H = H; 𝓜 = 𝓜; 𝓖 = 𝓖; 𝓡 = 𝓡 }) λ g. closed 𝓤 H (𝓖 .A) (Running.givenOf 𝓤 H 𝓜 𝓖)
+      (Run.Over 𝓤 H 𝓜 𝓖 𝓡 Code.env) (Reads.known record { M = M; 𝓤 = 𝓤; H = H; 𝓜 = 𝓜; 𝓖 = 𝓖; 𝓡 = 𝓡 } Code.env
+      Symbol.name Symbol.routine Code.calls-hnsr-circuit·acknowledge·fail-incoming (Met.met 𝓤 H 𝓜 𝓖 𝓡)) (Reads''.known
+      record { M = M; 𝓤 = 𝓤; H = H; 𝓜 = 𝓜; 𝓖 = 𝓖; 𝓡 = 𝓡 } Code.env Symbol'.name Symbol'.routine
+      Code.calls-hnsr-circuit·revocation·revoke-one (Met'.met 𝓤 H 𝓜 𝓖 𝓡)) (Reads'''.known
+      record { M = M; 𝓤 = 𝓤; H = H; 𝓜 = 𝓜; 𝓖 = 𝓖; 𝓡 = 𝓡 } Code.env Symbol''.name Symbol''.routine
       Code.calls-hnsr-circuit·revoking-calls·taken-with (Met''.met 𝓤 H 𝓜 𝓖 𝓡))

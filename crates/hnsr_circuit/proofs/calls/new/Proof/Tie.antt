@@ -36,8 +36,8 @@ use borrow.Fn.Run
 use borrow.Fn.Written
 use contract.Running
 
-abbrev pub Start : Type 0
-Start = Lts.Start (
+abbrev pub readings : Lts.Claims
+readings = (
   Reads'''.Asked,
   Reads'''.Learnt,
   Reads''.Asked,
@@ -56,590 +56,109 @@ Start = Lts.Start (
   Reads''''''.Learnt,
   Reads''''''''.Asked,
   Reads''''''''.Learnt,
-) Reads.Pre Reads.Post
+)
+
+abbrev pub Start : Type 0
+Start = Lts.Start readings Reads.Pre Reads.Post
 
 abbrev pub After-too-few : Type 0
-After-too-few = Lts.After-too-few (
-  Reads'''.Asked,
-  Reads'''.Learnt,
-  Reads''.Asked,
-  Reads''.Learnt,
-  Reads''''.Asked,
-  Reads''''.Learnt,
-  Reads'.Asked,
-  Reads'.Learnt,
-  Reads'''''''.Asked,
-  Reads'''''''.Learnt,
-  Reads'''''''''.Asked,
-  Reads'''''''''.Learnt,
-  Reads'''''.Asked,
-  Reads'''''.Learnt,
-  Reads''''''.Asked,
-  Reads''''''.Learnt,
-  Reads''''''''.Asked,
-  Reads''''''''.Learnt,
-) Reads.Pre Reads.Post
+After-too-few = Lts.After-too-few readings Reads.Pre Reads.Post
 
 abbrev pub After-new-answer : Type 0
-After-new-answer = Lts.After-new-answer (
-  Reads'''.Asked,
-  Reads'''.Learnt,
-  Reads''.Asked,
-  Reads''.Learnt,
-  Reads''''.Asked,
-  Reads''''.Learnt,
-  Reads'.Asked,
-  Reads'.Learnt,
-  Reads'''''''.Asked,
-  Reads'''''''.Learnt,
-  Reads'''''''''.Asked,
-  Reads'''''''''.Learnt,
-  Reads'''''.Asked,
-  Reads'''''.Learnt,
-  Reads''''''.Asked,
-  Reads''''''.Learnt,
-  Reads''''''''.Asked,
-  Reads''''''''.Learnt,
-) Reads.Pre Reads.Post
+After-new-answer = Lts.After-new-answer readings Reads.Pre Reads.Post
 
 abbrev pub After-new-header : Type 0
-After-new-header = Lts.After-new-header (
-  Reads'''.Asked,
-  Reads'''.Learnt,
-  Reads''.Asked,
-  Reads''.Learnt,
-  Reads''''.Asked,
-  Reads''''.Learnt,
-  Reads'.Asked,
-  Reads'.Learnt,
-  Reads'''''''.Asked,
-  Reads'''''''.Learnt,
-  Reads'''''''''.Asked,
-  Reads'''''''''.Learnt,
-  Reads'''''.Asked,
-  Reads'''''.Learnt,
-  Reads''''''.Asked,
-  Reads''''''.Learnt,
-  Reads''''''''.Asked,
-  Reads''''''''.Learnt,
-) Reads.Pre Reads.Post
+After-new-header = Lts.After-new-header readings Reads.Pre Reads.Post
 
 abbrev pub After-is-taken : Type 0
-After-is-taken = Lts.After-is-taken (
-  Reads'''.Asked,
-  Reads'''.Learnt,
-  Reads''.Asked,
-  Reads''.Learnt,
-  Reads''''.Asked,
-  Reads''''.Learnt,
-  Reads'.Asked,
-  Reads'.Learnt,
-  Reads'''''''.Asked,
-  Reads'''''''.Learnt,
-  Reads'''''''''.Asked,
-  Reads'''''''''.Learnt,
-  Reads'''''.Asked,
-  Reads'''''.Learnt,
-  Reads''''''.Asked,
-  Reads''''''.Learnt,
-  Reads''''''''.Asked,
-  Reads''''''''.Learnt,
-) Reads.Pre Reads.Post
+After-is-taken = Lts.After-is-taken readings Reads.Pre Reads.Post
 
 abbrev pub Then1 : Type 0
-Then1 = Lts.Then1 (
-  Reads'''.Asked,
-  Reads'''.Learnt,
-  Reads''.Asked,
-  Reads''.Learnt,
-  Reads''''.Asked,
-  Reads''''.Learnt,
-  Reads'.Asked,
-  Reads'.Learnt,
-  Reads'''''''.Asked,
-  Reads'''''''.Learnt,
-  Reads'''''''''.Asked,
-  Reads'''''''''.Learnt,
-  Reads'''''.Asked,
-  Reads'''''.Learnt,
-  Reads''''''.Asked,
-  Reads''''''.Learnt,
-  Reads''''''''.Asked,
-  Reads''''''''.Learnt,
-) Reads.Pre Reads.Post
+Then1 = Lts.Then1 readings Reads.Pre Reads.Post
 
 abbrev pub After-no-place : Type 0
-After-no-place = Lts.After-no-place (
-  Reads'''.Asked,
-  Reads'''.Learnt,
-  Reads''.Asked,
-  Reads''.Learnt,
-  Reads''''.Asked,
-  Reads''''.Learnt,
-  Reads'.Asked,
-  Reads'.Learnt,
-  Reads'''''''.Asked,
-  Reads'''''''.Learnt,
-  Reads'''''''''.Asked,
-  Reads'''''''''.Learnt,
-  Reads'''''.Asked,
-  Reads'''''.Learnt,
-  Reads''''''.Asked,
-  Reads''''''.Learnt,
-  Reads''''''''.Asked,
-  Reads''''''''.Learnt,
-) Reads.Pre Reads.Post
+After-no-place = Lts.After-no-place readings Reads.Pre Reads.Post
 
 abbrev pub After-taken-with : Type 0
-After-taken-with = Lts.After-taken-with (
-  Reads'''.Asked,
-  Reads'''.Learnt,
-  Reads''.Asked,
-  Reads''.Learnt,
-  Reads''''.Asked,
-  Reads''''.Learnt,
-  Reads'.Asked,
-  Reads'.Learnt,
-  Reads'''''''.Asked,
-  Reads'''''''.Learnt,
-  Reads'''''''''.Asked,
-  Reads'''''''''.Learnt,
-  Reads'''''.Asked,
-  Reads'''''.Learnt,
-  Reads''''''.Asked,
-  Reads''''''.Learnt,
-  Reads''''''''.Asked,
-  Reads''''''''.Learnt,
-) Reads.Pre Reads.Post
+After-taken-with = Lts.After-taken-with readings Reads.Pre Reads.Post
 
 abbrev pub Else1 : Type 0
-Else1 = Lts.Else1 (
-  Reads'''.Asked,
-  Reads'''.Learnt,
-  Reads''.Asked,
-  Reads''.Learnt,
-  Reads''''.Asked,
-  Reads''''.Learnt,
-  Reads'.Asked,
-  Reads'.Learnt,
-  Reads'''''''.Asked,
-  Reads'''''''.Learnt,
-  Reads'''''''''.Asked,
-  Reads'''''''''.Learnt,
-  Reads'''''.Asked,
-  Reads'''''.Learnt,
-  Reads''''''.Asked,
-  Reads''''''.Learnt,
-  Reads''''''''.Asked,
-  Reads''''''''.Learnt,
-) Reads.Pre Reads.Post
+Else1 = Lts.Else1 readings Reads.Pre Reads.Post
 
 abbrev pub After-no-runtime : Type 0
-After-no-runtime = Lts.After-no-runtime (
-  Reads'''.Asked,
-  Reads'''.Learnt,
-  Reads''.Asked,
-  Reads''.Learnt,
-  Reads''''.Asked,
-  Reads''''.Learnt,
-  Reads'.Asked,
-  Reads'.Learnt,
-  Reads'''''''.Asked,
-  Reads'''''''.Learnt,
-  Reads'''''''''.Asked,
-  Reads'''''''''.Learnt,
-  Reads'''''.Asked,
-  Reads'''''.Learnt,
-  Reads''''''.Asked,
-  Reads''''''.Learnt,
-  Reads''''''''.Asked,
-  Reads''''''''.Learnt,
-) Reads.Pre Reads.Post
+After-no-runtime = Lts.After-no-runtime readings Reads.Pre Reads.Post
 
 abbrev pub After-every-place : Type 0
-After-every-place = Lts.After-every-place (
-  Reads'''.Asked,
-  Reads'''.Learnt,
-  Reads''.Asked,
-  Reads''.Learnt,
-  Reads''''.Asked,
-  Reads''''.Learnt,
-  Reads'.Asked,
-  Reads'.Learnt,
-  Reads'''''''.Asked,
-  Reads'''''''.Learnt,
-  Reads'''''''''.Asked,
-  Reads'''''''''.Learnt,
-  Reads'''''.Asked,
-  Reads'''''.Learnt,
-  Reads''''''.Asked,
-  Reads''''''.Learnt,
-  Reads''''''''.Asked,
-  Reads''''''''.Learnt,
-) Reads.Pre Reads.Post
+After-every-place = Lts.After-every-place readings Reads.Pre Reads.Post
 
 abbrev pub After-refused : Type 0
-After-refused = Lts.After-refused (
-  Reads'''.Asked,
-  Reads'''.Learnt,
-  Reads''.Asked,
-  Reads''.Learnt,
-  Reads''''.Asked,
-  Reads''''.Learnt,
-  Reads'.Asked,
-  Reads'.Learnt,
-  Reads'''''''.Asked,
-  Reads'''''''.Learnt,
-  Reads'''''''''.Asked,
-  Reads'''''''''.Learnt,
-  Reads'''''.Asked,
-  Reads'''''.Learnt,
-  Reads''''''.Asked,
-  Reads''''''.Learnt,
-  Reads''''''''.Asked,
-  Reads''''''''.Learnt,
-) Reads.Pre Reads.Post
+After-refused = Lts.After-refused readings Reads.Pre Reads.Post
 
 abbrev pub Need-too-few-requires : Type 0
-Need-too-few-requires = Lts.Need-too-few-requires (
-  Reads'''.Asked,
-  Reads'''.Learnt,
-  Reads''.Asked,
-  Reads''.Learnt,
-  Reads''''.Asked,
-  Reads''''.Learnt,
-  Reads'.Asked,
-  Reads'.Learnt,
-  Reads'''''''.Asked,
-  Reads'''''''.Learnt,
-  Reads'''''''''.Asked,
-  Reads'''''''''.Learnt,
-  Reads'''''.Asked,
-  Reads'''''.Learnt,
-  Reads''''''.Asked,
-  Reads''''''.Learnt,
-  Reads''''''''.Asked,
-  Reads''''''''.Learnt,
-) Reads.Pre Reads.Post
+Need-too-few-requires = Lts.Need-too-few-requires readings Reads.Pre Reads.Post
 
 abbrev pub Need-new-answer-requires : Type 0
-Need-new-answer-requires = Lts.Need-new-answer-requires (
-  Reads'''.Asked,
-  Reads'''.Learnt,
-  Reads''.Asked,
-  Reads''.Learnt,
-  Reads''''.Asked,
-  Reads''''.Learnt,
-  Reads'.Asked,
-  Reads'.Learnt,
-  Reads'''''''.Asked,
-  Reads'''''''.Learnt,
-  Reads'''''''''.Asked,
-  Reads'''''''''.Learnt,
-  Reads'''''.Asked,
-  Reads'''''.Learnt,
-  Reads''''''.Asked,
-  Reads''''''.Learnt,
-  Reads''''''''.Asked,
-  Reads''''''''.Learnt,
-) Reads.Pre Reads.Post
+Need-new-answer-requires = Lts.Need-new-answer-requires readings Reads.Pre Reads.Post
 
 abbrev pub Need-new-header-requires : Type 0
-Need-new-header-requires = Lts.Need-new-header-requires (
-  Reads'''.Asked,
-  Reads'''.Learnt,
-  Reads''.Asked,
-  Reads''.Learnt,
-  Reads''''.Asked,
-  Reads''''.Learnt,
-  Reads'.Asked,
-  Reads'.Learnt,
-  Reads'''''''.Asked,
-  Reads'''''''.Learnt,
-  Reads'''''''''.Asked,
-  Reads'''''''''.Learnt,
-  Reads'''''.Asked,
-  Reads'''''.Learnt,
-  Reads''''''.Asked,
-  Reads''''''.Learnt,
-  Reads''''''''.Asked,
-  Reads''''''''.Learnt,
-) Reads.Pre Reads.Post
+Need-new-header-requires = Lts.Need-new-header-requires readings Reads.Pre Reads.Post
 
 abbrev pub Need-is-taken-requires : Type 0
-Need-is-taken-requires = Lts.Need-is-taken-requires (
-  Reads'''.Asked,
-  Reads'''.Learnt,
-  Reads''.Asked,
-  Reads''.Learnt,
-  Reads''''.Asked,
-  Reads''''.Learnt,
-  Reads'.Asked,
-  Reads'.Learnt,
-  Reads'''''''.Asked,
-  Reads'''''''.Learnt,
-  Reads'''''''''.Asked,
-  Reads'''''''''.Learnt,
-  Reads'''''.Asked,
-  Reads'''''.Learnt,
-  Reads''''''.Asked,
-  Reads''''''.Learnt,
-  Reads''''''''.Asked,
-  Reads''''''''.Learnt,
-) Reads.Pre Reads.Post
+Need-is-taken-requires = Lts.Need-is-taken-requires readings Reads.Pre Reads.Post
 
 abbrev pub Need-no-place-requires : Type 0
-Need-no-place-requires = Lts.Need-no-place-requires (
-  Reads'''.Asked,
-  Reads'''.Learnt,
-  Reads''.Asked,
-  Reads''.Learnt,
-  Reads''''.Asked,
-  Reads''''.Learnt,
-  Reads'.Asked,
-  Reads'.Learnt,
-  Reads'''''''.Asked,
-  Reads'''''''.Learnt,
-  Reads'''''''''.Asked,
-  Reads'''''''''.Learnt,
-  Reads'''''.Asked,
-  Reads'''''.Learnt,
-  Reads''''''.Asked,
-  Reads''''''.Learnt,
-  Reads''''''''.Asked,
-  Reads''''''''.Learnt,
-) Reads.Pre Reads.Post
+Need-no-place-requires = Lts.Need-no-place-requires readings Reads.Pre Reads.Post
 
 abbrev pub Need-taken-with-requires : Type 0
-Need-taken-with-requires = Lts.Need-taken-with-requires (
-  Reads'''.Asked,
-  Reads'''.Learnt,
-  Reads''.Asked,
-  Reads''.Learnt,
-  Reads''''.Asked,
-  Reads''''.Learnt,
-  Reads'.Asked,
-  Reads'.Learnt,
-  Reads'''''''.Asked,
-  Reads'''''''.Learnt,
-  Reads'''''''''.Asked,
-  Reads'''''''''.Learnt,
-  Reads'''''.Asked,
-  Reads'''''.Learnt,
-  Reads''''''.Asked,
-  Reads''''''.Learnt,
-  Reads''''''''.Asked,
-  Reads''''''''.Learnt,
-) Reads.Pre Reads.Post
+Need-taken-with-requires = Lts.Need-taken-with-requires readings Reads.Pre Reads.Post
 
 abbrev pub Need-returns : Type 0
-Need-returns = Lts.Need-returns (
-  Reads'''.Asked,
-  Reads'''.Learnt,
-  Reads''.Asked,
-  Reads''.Learnt,
-  Reads''''.Asked,
-  Reads''''.Learnt,
-  Reads'.Asked,
-  Reads'.Learnt,
-  Reads'''''''.Asked,
-  Reads'''''''.Learnt,
-  Reads'''''''''.Asked,
-  Reads'''''''''.Learnt,
-  Reads'''''.Asked,
-  Reads'''''.Learnt,
-  Reads''''''.Asked,
-  Reads''''''.Learnt,
-  Reads''''''''.Asked,
-  Reads''''''''.Learnt,
-) Reads.Pre Reads.Post
+Need-returns = Lts.Need-returns readings Reads.Pre Reads.Post
 
 abbrev pub Need-no-runtime-requires : Type 0
-Need-no-runtime-requires = Lts.Need-no-runtime-requires (
-  Reads'''.Asked,
-  Reads'''.Learnt,
-  Reads''.Asked,
-  Reads''.Learnt,
-  Reads''''.Asked,
-  Reads''''.Learnt,
-  Reads'.Asked,
-  Reads'.Learnt,
-  Reads'''''''.Asked,
-  Reads'''''''.Learnt,
-  Reads'''''''''.Asked,
-  Reads'''''''''.Learnt,
-  Reads'''''.Asked,
-  Reads'''''.Learnt,
-  Reads''''''.Asked,
-  Reads''''''.Learnt,
-  Reads''''''''.Asked,
-  Reads''''''''.Learnt,
-) Reads.Pre Reads.Post
+Need-no-runtime-requires = Lts.Need-no-runtime-requires readings Reads.Pre Reads.Post
 
 abbrev pub Need-every-place-requires : Type 0
-Need-every-place-requires = Lts.Need-every-place-requires (
-  Reads'''.Asked,
-  Reads'''.Learnt,
-  Reads''.Asked,
-  Reads''.Learnt,
-  Reads''''.Asked,
-  Reads''''.Learnt,
-  Reads'.Asked,
-  Reads'.Learnt,
-  Reads'''''''.Asked,
-  Reads'''''''.Learnt,
-  Reads'''''''''.Asked,
-  Reads'''''''''.Learnt,
-  Reads'''''.Asked,
-  Reads'''''.Learnt,
-  Reads''''''.Asked,
-  Reads''''''.Learnt,
-  Reads''''''''.Asked,
-  Reads''''''''.Learnt,
-) Reads.Pre Reads.Post
+Need-every-place-requires = Lts.Need-every-place-requires readings Reads.Pre Reads.Post
 
 abbrev pub Need-refused-requires : Type 0
-Need-refused-requires = Lts.Need-refused-requires (
-  Reads'''.Asked,
-  Reads'''.Learnt,
-  Reads''.Asked,
-  Reads''.Learnt,
-  Reads''''.Asked,
-  Reads''''.Learnt,
-  Reads'.Asked,
-  Reads'.Learnt,
-  Reads'''''''.Asked,
-  Reads'''''''.Learnt,
-  Reads'''''''''.Asked,
-  Reads'''''''''.Learnt,
-  Reads'''''.Asked,
-  Reads'''''.Learnt,
-  Reads''''''.Asked,
-  Reads''''''.Learnt,
-  Reads''''''''.Asked,
-  Reads''''''''.Learnt,
-) Reads.Pre Reads.Post
+Need-refused-requires = Lts.Need-refused-requires readings Reads.Pre Reads.Post
 
 abbrev pub Need-returns-2 : Type 0
-Need-returns-2 = Lts.Need-returns-2 (
-  Reads'''.Asked,
-  Reads'''.Learnt,
-  Reads''.Asked,
-  Reads''.Learnt,
-  Reads''''.Asked,
-  Reads''''.Learnt,
-  Reads'.Asked,
-  Reads'.Learnt,
-  Reads'''''''.Asked,
-  Reads'''''''.Learnt,
-  Reads'''''''''.Asked,
-  Reads'''''''''.Learnt,
-  Reads'''''.Asked,
-  Reads'''''.Learnt,
-  Reads''''''.Asked,
-  Reads''''''.Learnt,
-  Reads''''''''.Asked,
-  Reads''''''''.Learnt,
-) Reads.Pre Reads.Post
+Need-returns-2 = Lts.Need-returns-2 readings Reads.Pre Reads.Post
 
 module _ {M : Type 1} where
-  pub spec : (answer : Need-too-few-requires) → (answer : Need-new-answer-requires) → (answer : Need-new-header-requires) → (answer :
-      Need-is-taken-requires) → (answer : Need-no-place-requires) → (answer : Need-taken-with-requires) → (answer : Need-returns) → (answer :
-      Need-no-runtime-requires) → (answer : Need-every-place-requires) → (answer : Need-refused-requires) → (answer : Need-returns-2) → Lts.Closed (
-        Reads'''.Asked,
-        Reads'''.Learnt,
-        Reads''.Asked,
-        Reads''.Learnt,
-        Reads''''.Asked,
-        Reads''''.Learnt,
-        Reads'.Asked,
-        Reads'.Learnt,
-        Reads'''''''.Asked,
-        Reads'''''''.Learnt,
-        Reads'''''''''.Asked,
-        Reads'''''''''.Learnt,
-        Reads'''''.Asked,
-        Reads'''''.Learnt,
-        Reads''''''.Asked,
-        Reads''''''.Learnt,
-        Reads''''''''.Asked,
-        Reads''''''''.Learnt,
-      ) Reads.Pre Reads.Post M
-  spec = λ answer answer' answer'' answer'3 answer'4 answer'5 answer'6 answer'7 answer'8 answer'9 answer'10. Lts.spec (
-    Reads'''.Asked,
-    Reads'''.Learnt,
-    Reads''.Asked,
-    Reads''.Learnt,
-    Reads''''.Asked,
-    Reads''''.Learnt,
-    Reads'.Asked,
-    Reads'.Learnt,
-    Reads'''''''.Asked,
-    Reads'''''''.Learnt,
-    Reads'''''''''.Asked,
-    Reads'''''''''.Learnt,
-    Reads'''''.Asked,
-    Reads'''''.Learnt,
-    Reads''''''.Asked,
-    Reads''''''.Learnt,
-    Reads''''''''.Asked,
-    Reads''''''''.Learnt,
-  ) Reads.Pre Reads.Post answer answer' answer'' answer'3 answer'4 answer'5 answer'6 answer'7 answer'8
+  pub spec : (answer : Need-too-few-requires) → (answer : Need-new-answer-requires) →
+      (answer : Need-new-header-requires) → (answer : Need-is-taken-requires) → (answer : Need-no-place-requires) →
+      (answer : Need-taken-with-requires) → (answer : Need-returns) → (answer : Need-no-runtime-requires) →
+      (answer : Need-every-place-requires) → (answer : Need-refused-requires) → (answer : Need-returns-2) → Lts.Closed
+      readings Reads.Pre Reads.Post M
+  spec = λ answer answer' answer'' answer'3 answer'4 answer'5 answer'6 answer'7 answer'8 answer'9 answer'10. Lts.spec
+      readings Reads.Pre Reads.Post answer answer' answer'' answer'3 answer'4 answer'5 answer'6 answer'7 answer'8
       answer'9 answer'10
 
-  pub close : Lts.Closed (
-    Reads'''.Asked,
-    Reads'''.Learnt,
-    Reads''.Asked,
-    Reads''.Learnt,
-    Reads''''.Asked,
-    Reads''''.Learnt,
-    Reads'.Asked,
-    Reads'.Learnt,
-    Reads'''''''.Asked,
-    Reads'''''''.Learnt,
-    Reads'''''''''.Asked,
-    Reads'''''''''.Learnt,
-    Reads'''''.Asked,
-    Reads'''''.Learnt,
-    Reads''''''.Asked,
-    Reads''''''.Learnt,
-    Reads''''''''.Asked,
-    Reads''''''''.Learnt,
-  ) Reads.Pre Reads.Post M → Statement.statement M
+  pub close : Lts.Closed readings Reads.Pre Reads.Post M → Statement.statement M
   unfolding Code.routine Running.tablesOf
-  close = λ closed 𝓤 H 𝓜 𝓖 𝓡. Written.close 4 Kinds.ps Kinds.r Reads.Ghost Reads.requires Reads.ensures Reads.pre-read Reads.Pinned Reads.Owned
-      Reads.post-read record { M = M; 𝓤 = 𝓤; H = H; 𝓜 = 𝓜; 𝓖 = 𝓖; 𝓡 = 𝓡 } Code.env Key.name Code.function (Code.unfolded 𝓤 H 𝓜 𝓡) (λ κs a g. tt) (λ
-      κs. Reads.owns κs record { M = M; 𝓤 = 𝓤; H = H; 𝓜 = 𝓜; 𝓖 = 𝓖; 𝓡 = 𝓡 }) (Reads.passes record { M = M; 𝓤 = 𝓤; H = H; 𝓜 = 𝓜; 𝓖 = 𝓖; 𝓡 = 𝓡 }) λ g.
-      closed 𝓤 H (𝓖 .A) (Running.givenOf 𝓤 H 𝓜 𝓖) (Run.Over 𝓤 H 𝓜 𝓖 𝓡 Code.env) (Reads'''.known record { M = M; 𝓤 = 𝓤; H = H; 𝓜 = 𝓜; 𝓖 = 𝓖; 𝓡 = 𝓡 }
-      Code.env Symbol''.name Symbol''.routine Code.calls-hnsr-circuit·entry·too-few (Met''.met 𝓤 H 𝓜 𝓖 𝓡)) (Reads''.known record {
-        M = M;
-        𝓤 = 𝓤;
-        H =
-            H;
-        𝓜 = 𝓜;
-        𝓖 = 𝓖;
-        𝓡 = 𝓡;
-      } Code.env Symbol'.name Symbol'.routine Code.calls-hnsr-circuit·calls·new-answer (Met'.met 𝓤 H 𝓜 𝓖 𝓡)) (Reads''''.known
-      record { M = M; 𝓤 = 𝓤; H = H; 𝓜 = 𝓜; 𝓖 = 𝓖; 𝓡 = 𝓡 } Code.env Symbol'''.name Symbol'''.routine Code.calls-hnsr-circuit·header·new-header
-      (Met'''.met 𝓤 H 𝓜 𝓖 𝓡)) (Reads'.known record { M = M; 𝓤 = 𝓤; H = H; 𝓜 = 𝓜; 𝓖 = 𝓖; 𝓡 = 𝓡 } Code.env Symbol.name Symbol.routine
-      Code.calls-hnsr-circuit·answer·is-taken (Met.met 𝓤 H 𝓜 𝓖 𝓡)) (Reads'''''''.known record { M = M; 𝓤 = 𝓤; H = H; 𝓜 = 𝓜; 𝓖 = 𝓖; 𝓡 = 𝓡 } Code.env
-      Symbol''''''.name Symbol''''''.routine Code.calls-hnsr-circuit·places·no-place (Met''''''.met 𝓤 H 𝓜 𝓖 𝓡)) (Reads'''''''''.known record {
-        M = M;
-        𝓤 = 𝓤;
-        H = H;
-        𝓜 = 𝓜;
-        𝓖 = 𝓖;
-        𝓡 = 𝓡;
-      } Code.env Symbol''''''''.name Symbol''''''''.routine Code.calls-hnsr-circuit·revoking-calls·taken-with
-      (Met''''''''.met 𝓤 H 𝓜 𝓖 𝓡)) (Reads'''''.known record { M = M; 𝓤 = 𝓤; H = H; 𝓜 = 𝓜; 𝓖 = 𝓖; 𝓡 = 𝓡 } Code.env Symbol''''.name Symbol''''.routine
-      Code.calls-hnsr-circuit·header·no-runtime (Met''''.met 𝓤 H 𝓜 𝓖 𝓡)) (Reads''''''.known record { M = M; 𝓤 = 𝓤; H = H; 𝓜 = 𝓜; 𝓖 = 𝓖; 𝓡 = 𝓡 }
-      Code.env Symbol'''''.name Symbol'''''.routine Code.calls-hnsr-circuit·places·every-place (Met'''''.met 𝓤 H 𝓜 𝓖 𝓡)) (Reads''''''''.known record {
-        M = M;
-        𝓤 = 𝓤;
-        H = H;
-        𝓜 = 𝓜;
-        𝓖 = 𝓖;
-        𝓡 = 𝓡;
-      } Code.env Symbol'''''''.name Symbol'''''''.routine Code.calls-hnsr-circuit·revoking-calls·refused
-      (Met'''''''.met 𝓤 H 𝓜 𝓖 𝓡))
+  close = λ closed 𝓤 H 𝓜 𝓖 𝓡. Written.close 4 Kinds.ps Kinds.r Reads.Ghost Reads.requires Reads.ensures Reads.pre-read
+      Reads.Pinned Reads.Owned Reads.post-read record { M = M; 𝓤 = 𝓤; H = H; 𝓜 = 𝓜; 𝓖 = 𝓖; 𝓡 = 𝓡 } Code.env Key.name
+      Code.function (Code.unfolded 𝓤 H 𝓜 𝓡) (λ κs a g. tt) (λ κs. Reads.owns κs
+      record { M = M; 𝓤 = 𝓤; H = H; 𝓜 = 𝓜; 𝓖 = 𝓖; 𝓡 = 𝓡 }) (Reads.passes
+      record { M = M; 𝓤 = 𝓤; H = H; 𝓜 = 𝓜; 𝓖 = 𝓖; 𝓡 = 𝓡 }) λ g. closed 𝓤 H (𝓖 .A) (Running.givenOf 𝓤 H 𝓜 𝓖)
+      (Run.Over 𝓤 H 𝓜 𝓖 𝓡 Code.env) (Reads'''.known record { M = M; 𝓤 = 𝓤; H = H; 𝓜 = 𝓜; 𝓖 = 𝓖; 𝓡 = 𝓡 } Code.env
+      Symbol''.name Symbol''.routine Code.calls-hnsr-circuit·entry·too-few (Met''.met 𝓤 H 𝓜 𝓖 𝓡)) (Reads''.known
+      record { M = M; 𝓤 = 𝓤; H = H; 𝓜 = 𝓜; 𝓖 = 𝓖; 𝓡 = 𝓡 } Code.env Symbol'.name Symbol'.routine
+      Code.calls-hnsr-circuit·calls·new-answer (Met'.met 𝓤 H 𝓜 𝓖 𝓡)) (Reads''''.known
+      record { M = M; 𝓤 = 𝓤; H = H; 𝓜 = 𝓜; 𝓖 = 𝓖; 𝓡 = 𝓡 } Code.env Symbol'''.name Symbol'''.routine
+      Code.calls-hnsr-circuit·header·new-header (Met'''.met 𝓤 H 𝓜 𝓖 𝓡)) (Reads'.known
+      record { M = M; 𝓤 = 𝓤; H = H; 𝓜 = 𝓜; 𝓖 = 𝓖; 𝓡 = 𝓡 } Code.env Symbol.name Symbol.routine
+      Code.calls-hnsr-circuit·answer·is-taken (Met.met 𝓤 H 𝓜 𝓖 𝓡)) (Reads'''''''.known
+      record { M = M; 𝓤 = 𝓤; H = H; 𝓜 = 𝓜; 𝓖 = 𝓖; 𝓡 = 𝓡 } Code.env Symbol''''''.name Symbol''''''.routine
+      Code.calls-hnsr-circuit·places·no-place (Met''''''.met 𝓤 H 𝓜 𝓖 𝓡)) (Reads'''''''''.known
+      record { M = M; 𝓤 = 𝓤; H = H; 𝓜 = 𝓜; 𝓖 = 𝓖; 𝓡 = 𝓡 } Code.env Symbol''''''''.name Symbol''''''''.routine
+      Code.calls-hnsr-circuit·revoking-calls·taken-with (Met''''''''.met 𝓤 H 𝓜 𝓖 𝓡)) (Reads'''''.known
+      record { M = M; 𝓤 = 𝓤; H = H; 𝓜 = 𝓜; 𝓖 = 𝓖; 𝓡 = 𝓡 } Code.env Symbol''''.name Symbol''''.routine
+      Code.calls-hnsr-circuit·header·no-runtime (Met''''.met 𝓤 H 𝓜 𝓖 𝓡)) (Reads''''''.known
+      record { M = M; 𝓤 = 𝓤; H = H; 𝓜 = 𝓜; 𝓖 = 𝓖; 𝓡 = 𝓡 } Code.env Symbol'''''.name Symbol'''''.routine
+      Code.calls-hnsr-circuit·places·every-place (Met'''''.met 𝓤 H 𝓜 𝓖 𝓡)) (Reads''''''''.known
+      record { M = M; 𝓤 = 𝓤; H = H; 𝓜 = 𝓜; 𝓖 = 𝓖; 𝓡 = 𝓡 } Code.env Symbol'''''''.name Symbol'''''''.routine
+      Code.calls-hnsr-circuit·revoking-calls·refused (Met'''''''.met 𝓤 H 𝓜 𝓖 𝓡))

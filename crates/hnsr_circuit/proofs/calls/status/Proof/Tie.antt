@@ -30,8 +30,8 @@ use borrow.Fn.Run
 use borrow.Fn.Written
 use contract.Running
 
-abbrev pub Start : Type 0
-Start = Lts.Start (
+abbrev pub readings : Lts.Claims
+readings = (
   Reads'''''''.Asked,
   Reads'''''''.Learnt,
   Reads'''.Asked,
@@ -46,397 +46,85 @@ Start = Lts.Start (
   Reads''''.Learnt,
   Reads'''''.Asked,
   Reads'''''.Learnt,
-) Reads.Pre
-    Reads.Post
+)
+
+abbrev pub Start : Type 0
+Start = Lts.Start readings Reads.Pre Reads.Post
 
 abbrev pub After-config : Type 0
-After-config = Lts.After-config (
-  Reads'''''''.Asked,
-  Reads'''''''.Learnt,
-  Reads'''.Asked,
-  Reads'''.Learnt,
-  Reads'.Asked,
-  Reads'.Learnt,
-  Reads''.Asked,
-  Reads''.Learnt,
-  Reads''''''.Asked,
-  Reads''''''.Learnt,
-  Reads''''.Asked,
-  Reads''''.Learnt,
-  Reads'''''.Asked,
-  Reads'''''.Learnt,
-) Reads.Pre
-    Reads.Post
+After-config = Lts.After-config readings Reads.Pre Reads.Post
 
 abbrev pub After-used : Type 0
-After-used = Lts.After-used (
-  Reads'''''''.Asked,
-  Reads'''''''.Learnt,
-  Reads'''.Asked,
-  Reads'''.Learnt,
-  Reads'.Asked,
-  Reads'.Learnt,
-  Reads''.Asked,
-  Reads''.Learnt,
-  Reads''''''.Asked,
-  Reads''''''.Learnt,
-  Reads''''.Asked,
-  Reads''''.Learnt,
-  Reads'''''.Asked,
-  Reads'''''.Learnt,
-) Reads.Pre
-    Reads.Post
+After-used = Lts.After-used readings Reads.Pre Reads.Post
 
 abbrev pub After-count-pending : Type 0
-After-count-pending = Lts.After-count-pending (
-  Reads'''''''.Asked,
-  Reads'''''''.Learnt,
-  Reads'''.Asked,
-  Reads'''.Learnt,
-  Reads'.Asked,
-  Reads'.Learnt,
-  Reads''.Asked,
-  Reads''.Learnt,
-  Reads''''''.Asked,
-  Reads''''''.Learnt,
-  Reads''''.Asked,
-  Reads''''.Learnt,
-  Reads'''''.Asked,
-  Reads'''''.Learnt,
-)
-    Reads.Pre Reads.Post
+After-count-pending = Lts.After-count-pending readings Reads.Pre Reads.Post
 
 abbrev pub After-circuit-totals : Type 0
-After-circuit-totals = Lts.After-circuit-totals (
-  Reads'''''''.Asked,
-  Reads'''''''.Learnt,
-  Reads'''.Asked,
-  Reads'''.Learnt,
-  Reads'.Asked,
-  Reads'.Learnt,
-  Reads''.Asked,
-  Reads''.Learnt,
-  Reads''''''.Asked,
-  Reads''''''.Learnt,
-  Reads''''.Asked,
-  Reads''''.Learnt,
-  Reads'''''.Asked,
-  Reads'''''.Learnt,
-) Reads.Pre Reads.Post
+After-circuit-totals = Lts.After-circuit-totals readings Reads.Pre Reads.Post
 
 abbrev pub After-count-action : Type 0
-After-count-action = Lts.After-count-action (
-  Reads'''''''.Asked,
-  Reads'''''''.Learnt,
-  Reads'''.Asked,
-  Reads'''.Learnt,
-  Reads'.Asked,
-  Reads'.Learnt,
-  Reads''.Asked,
-  Reads''.Learnt,
-  Reads''''''.Asked,
-  Reads''''''.Learnt,
-  Reads''''.Asked,
-  Reads''''.Learnt,
-  Reads'''''.Asked,
-  Reads'''''.Learnt,
-)
-    Reads.Pre Reads.Post
+After-count-action = Lts.After-count-action readings Reads.Pre Reads.Post
 
 abbrev pub After-too-few : Type 0
-After-too-few = Lts.After-too-few (
-  Reads'''''''.Asked,
-  Reads'''''''.Learnt,
-  Reads'''.Asked,
-  Reads'''.Learnt,
-  Reads'.Asked,
-  Reads'.Learnt,
-  Reads''.Asked,
-  Reads''.Learnt,
-  Reads''''''.Asked,
-  Reads''''''.Learnt,
-  Reads''''.Asked,
-  Reads''''.Learnt,
-  Reads'''''.Asked,
-  Reads'''''.Learnt,
-)
-    Reads.Pre Reads.Post
+After-too-few = Lts.After-too-few readings Reads.Pre Reads.Post
 
 abbrev pub After-status-of : Type 0
-After-status-of = Lts.After-status-of (
-  Reads'''''''.Asked,
-  Reads'''''''.Learnt,
-  Reads'''.Asked,
-  Reads'''.Learnt,
-  Reads'.Asked,
-  Reads'.Learnt,
-  Reads''.Asked,
-  Reads''.Learnt,
-  Reads''''''.Asked,
-  Reads''''''.Learnt,
-  Reads''''.Asked,
-  Reads''''.Learnt,
-  Reads'''''.Asked,
-  Reads'''''.Learnt,
-)
-    Reads.Pre Reads.Post
+After-status-of = Lts.After-status-of readings Reads.Pre Reads.Post
 
 abbrev pub After-status-told : Type 0
-After-status-told = Lts.After-status-told (
-  Reads'''''''.Asked,
-  Reads'''''''.Learnt,
-  Reads'''.Asked,
-  Reads'''.Learnt,
-  Reads'.Asked,
-  Reads'.Learnt,
-  Reads''.Asked,
-  Reads''.Learnt,
-  Reads''''''.Asked,
-  Reads''''''.Learnt,
-  Reads''''.Asked,
-  Reads''''.Learnt,
-  Reads'''''.Asked,
-  Reads'''''.Learnt,
-)
-    Reads.Pre Reads.Post
+After-status-told = Lts.After-status-told readings Reads.Pre Reads.Post
 
 abbrev pub Need-used-requires : Type 0
-Need-used-requires = Lts.Need-used-requires (
-  Reads'''''''.Asked,
-  Reads'''''''.Learnt,
-  Reads'''.Asked,
-  Reads'''.Learnt,
-  Reads'.Asked,
-  Reads'.Learnt,
-  Reads''.Asked,
-  Reads''.Learnt,
-  Reads''''''.Asked,
-  Reads''''''.Learnt,
-  Reads''''.Asked,
-  Reads''''.Learnt,
-  Reads'''''.Asked,
-  Reads'''''.Learnt,
-)
-    Reads.Pre Reads.Post
+Need-used-requires = Lts.Need-used-requires readings Reads.Pre Reads.Post
 
 abbrev pub Need-count-pending-requires : Type 0
-Need-count-pending-requires = Lts.Need-count-pending-requires (
-  Reads'''''''.Asked,
-  Reads'''''''.Learnt,
-  Reads'''.Asked,
-  Reads'''.Learnt,
-  Reads'.Asked,
-  Reads'.Learnt,
-  Reads''.Asked,
-  Reads''.Learnt,
-  Reads''''''.Asked,
-  Reads''''''.Learnt,
-  Reads''''.Asked,
-  Reads''''.Learnt,
-  Reads'''''.Asked,
-  Reads'''''.Learnt,
-) Reads.Pre Reads.Post
+Need-count-pending-requires = Lts.Need-count-pending-requires readings Reads.Pre Reads.Post
 
 abbrev pub Need-circuit-totals-requires : Type 0
-Need-circuit-totals-requires = Lts.Need-circuit-totals-requires (
-  Reads'''''''.Asked,
-  Reads'''''''.Learnt,
-  Reads'''.Asked,
-  Reads'''.Learnt,
-  Reads'.Asked,
-  Reads'.Learnt,
-  Reads''.Asked,
-  Reads''.Learnt,
-  Reads''''''.Asked,
-  Reads''''''.Learnt,
-  Reads''''.Asked,
-  Reads''''.Learnt,
-  Reads'''''.Asked,
-  Reads'''''.Learnt,
-) Reads.Pre Reads.Post
+Need-circuit-totals-requires = Lts.Need-circuit-totals-requires readings Reads.Pre Reads.Post
 
 abbrev pub Need-count-action-requires : Type 0
-Need-count-action-requires = Lts.Need-count-action-requires (
-  Reads'''''''.Asked,
-  Reads'''''''.Learnt,
-  Reads'''.Asked,
-  Reads'''.Learnt,
-  Reads'.Asked,
-  Reads'.Learnt,
-  Reads''.Asked,
-  Reads''.Learnt,
-  Reads''''''.Asked,
-  Reads''''''.Learnt,
-  Reads''''.Asked,
-  Reads''''.Learnt,
-  Reads'''''.Asked,
-  Reads'''''.Learnt,
-) Reads.Pre Reads.Post
+Need-count-action-requires = Lts.Need-count-action-requires readings Reads.Pre Reads.Post
 
 abbrev pub Need-too-few-requires : Type 0
-Need-too-few-requires = Lts.Need-too-few-requires (
-  Reads'''''''.Asked,
-  Reads'''''''.Learnt,
-  Reads'''.Asked,
-  Reads'''.Learnt,
-  Reads'.Asked,
-  Reads'.Learnt,
-  Reads''.Asked,
-  Reads''.Learnt,
-  Reads''''''.Asked,
-  Reads''''''.Learnt,
-  Reads''''.Asked,
-  Reads''''.Learnt,
-  Reads'''''.Asked,
-  Reads'''''.Learnt,
-) Reads.Pre Reads.Post
+Need-too-few-requires = Lts.Need-too-few-requires readings Reads.Pre Reads.Post
 
 abbrev pub Need-status-of-requires : Type 0
-Need-status-of-requires = Lts.Need-status-of-requires (
-  Reads'''''''.Asked,
-  Reads'''''''.Learnt,
-  Reads'''.Asked,
-  Reads'''.Learnt,
-  Reads'.Asked,
-  Reads'.Learnt,
-  Reads''.Asked,
-  Reads''.Learnt,
-  Reads''''''.Asked,
-  Reads''''''.Learnt,
-  Reads''''.Asked,
-  Reads''''.Learnt,
-  Reads'''''.Asked,
-  Reads'''''.Learnt,
-) Reads.Pre Reads.Post
+Need-status-of-requires = Lts.Need-status-of-requires readings Reads.Pre Reads.Post
 
 abbrev pub Need-status-told-requires : Type 0
-Need-status-told-requires = Lts.Need-status-told-requires (
-  Reads'''''''.Asked,
-  Reads'''''''.Learnt,
-  Reads'''.Asked,
-  Reads'''.Learnt,
-  Reads'.Asked,
-  Reads'.Learnt,
-  Reads''.Asked,
-  Reads''.Learnt,
-  Reads''''''.Asked,
-  Reads''''''.Learnt,
-  Reads''''.Asked,
-  Reads''''.Learnt,
-  Reads'''''.Asked,
-  Reads'''''.Learnt,
-) Reads.Pre Reads.Post
+Need-status-told-requires = Lts.Need-status-told-requires readings Reads.Pre Reads.Post
 
 abbrev pub Need-returns : Type 0
-Need-returns = Lts.Need-returns (
-  Reads'''''''.Asked,
-  Reads'''''''.Learnt,
-  Reads'''.Asked,
-  Reads'''.Learnt,
-  Reads'.Asked,
-  Reads'.Learnt,
-  Reads''.Asked,
-  Reads''.Learnt,
-  Reads''''''.Asked,
-  Reads''''''.Learnt,
-  Reads''''.Asked,
-  Reads''''.Learnt,
-  Reads'''''.Asked,
-  Reads'''''.Learnt,
-) Reads.Pre
-    Reads.Post
+Need-returns = Lts.Need-returns readings Reads.Pre Reads.Post
 
 module _ {M : Type 1} where
-  pub spec : (answer : Need-used-requires) → (answer : Need-count-pending-requires) → (answer : Need-circuit-totals-requires) → (answer :
-      Need-count-action-requires) → (answer : Need-too-few-requires) → (answer : Need-status-of-requires) → (answer : Need-status-told-requires) →
-      (answer : Need-returns) → Lts.Closed (
-        Reads'''''''.Asked,
-        Reads'''''''.Learnt,
-        Reads'''.Asked,
-        Reads'''.Learnt,
-        Reads'.Asked,
-        Reads'.Learnt,
-        Reads''.Asked,
-        Reads''.Learnt,
-        Reads''''''.Asked,
-        Reads''''''.Learnt,
-        Reads''''.Asked,
-        Reads''''.Learnt,
-        Reads'''''.Asked,
-        Reads'''''.Learnt,
-      )
-      Reads.Pre Reads.Post M
-  spec = λ answer answer' answer'' answer'3 answer'4 answer'5 answer'6 answer'7. Lts.spec (
-    Reads'''''''.Asked,
-    Reads'''''''.Learnt,
-    Reads'''.Asked,
-    Reads'''.Learnt,
-    Reads'.Asked,
-    Reads'.Learnt,
-    Reads''.Asked,
-    Reads''.Learnt,
-    Reads''''''.Asked,
-    Reads''''''.Learnt,
-    Reads''''.Asked,
-    Reads''''.Learnt,
-    Reads'''''.Asked,
-    Reads'''''.Learnt,
-  ) Reads.Pre Reads.Post answer answer' answer'' answer'3 answer'4 answer'5 answer'6
-      answer'7
+  pub spec : (answer : Need-used-requires) → (answer : Need-count-pending-requires) →
+      (answer : Need-circuit-totals-requires) → (answer : Need-count-action-requires) →
+      (answer : Need-too-few-requires) → (answer : Need-status-of-requires) → (answer : Need-status-told-requires) →
+      (answer : Need-returns) → Lts.Closed readings Reads.Pre Reads.Post M
+  spec = λ answer answer' answer'' answer'3 answer'4 answer'5 answer'6 answer'7. Lts.spec readings Reads.Pre Reads.Post
+      answer answer' answer'' answer'3 answer'4 answer'5 answer'6 answer'7
 
-  pub close : Lts.Closed (
-    Reads'''''''.Asked,
-    Reads'''''''.Learnt,
-    Reads'''.Asked,
-    Reads'''.Learnt,
-    Reads'.Asked,
-    Reads'.Learnt,
-    Reads''.Asked,
-    Reads''.Learnt,
-    Reads''''''.Asked,
-    Reads''''''.Learnt,
-    Reads''''.Asked,
-    Reads''''.Learnt,
-    Reads'''''.Asked,
-    Reads'''''.Learnt,
-  ) Reads.Pre
-      Reads.Post M → Statement.statement M
+  pub close : Lts.Closed readings Reads.Pre Reads.Post M → Statement.statement M
   unfolding Code.routine Running.tablesOf
-  close = λ closed 𝓤 H 𝓜 𝓖 𝓡. Written.close 3 Kinds.ps Kinds.r Reads.Ghost Reads.requires Reads.ensures Reads.pre-read Reads.Pinned Reads.Owned
-      Reads.post-read record { M = M; 𝓤 = 𝓤; H = H; 𝓜 = 𝓜; 𝓖 = 𝓖; 𝓡 = 𝓡 } Code.env Key.name Code.function (Code.unfolded 𝓤 H 𝓜 𝓡) (λ κs a g. tt) (λ
-      κs. Reads.owns κs record { M = M; 𝓤 = 𝓤; H = H; 𝓜 = 𝓜; 𝓖 = 𝓖; 𝓡 = 𝓡 }) (Reads.passes record { M = M; 𝓤 = 𝓤; H = H; 𝓜 = 𝓜; 𝓖 = 𝓖; 𝓡 = 𝓡 }) λ g.
-      closed 𝓤 H (𝓖 .A) (Running.givenOf 𝓤 H 𝓜 𝓖) (Run.Over 𝓤 H 𝓜 𝓖 𝓡 Code.env) (Reads'''''''.known record {
-        M = M;
-        𝓤 = 𝓤;
-        H = H;
-        𝓜 = 𝓜;
-        𝓖 = 𝓖;
-        𝓡 = 𝓡;
-      } Code.env Symbol'''.name Symbol'''.routine Code.calls-hnsr-circuit·question·used (Met'''.met 𝓤 H 𝓜 𝓖 𝓡)) (Reads'''.known record {
-        M = M;
-        𝓤 = 𝓤;
-        H = H;
-        𝓜 = 𝓜;
-        𝓖 = 𝓖;
-        𝓡 = 𝓡;
-      } Code.env Symbol''''''.name Symbol''''''.routine Code.calls-hnsr-circuit·tables·pending·count-pending (Met''''''.met
-      𝓤 H 𝓜 𝓖 𝓡)) (Reads'.known record { M = M; 𝓤 = 𝓤; H = H; 𝓜 = 𝓜; 𝓖 = 𝓖; 𝓡 = 𝓡 } Code.env Symbol''''.name Symbol''''.routine
-      Code.calls-hnsr-circuit·tables·circuits·circuit-totals (Met''''.met 𝓤 H 𝓜 𝓖 𝓡)) (Reads''.known record {
-        M = M;
-        𝓤 = 𝓤;
-        H = H;
-        𝓜 = 𝓜;
-        𝓖 = 𝓖;
-        𝓡 = 𝓡;
-      } Code.env Symbol'''''.name Symbol'''''.routine Code.calls-hnsr-circuit·tables·inflight·count-action (Met'''''.met 𝓤 H 𝓜 𝓖 𝓡))
-      (Reads''''''.known record { M = M; 𝓤 = 𝓤; H = H; 𝓜 = 𝓜; 𝓖 = 𝓖; 𝓡 = 𝓡 } Code.env Symbol''.name Symbol''.routine
-      Code.calls-hnsr-circuit·entry·too-few (Met''.met 𝓤 H 𝓜 𝓖 𝓡)) (Reads''''.known record { M = M; 𝓤 = 𝓤; H = H; 𝓜 = 𝓜; 𝓖 = 𝓖; 𝓡 = 𝓡 } Code.env
-      Symbol.name Symbol.routine Code.calls-hnsr-circuit·calls·status-of (Met.met 𝓤 H 𝓜 𝓖 𝓡)) (Reads'''''.known record {
-        M = M;
-        𝓤 = 𝓤;
-        H = H;
-        𝓜 = 𝓜;
-        𝓖
-            = 𝓖;
-        𝓡 = 𝓡;
-      } Code.env Symbol'.name Symbol'.routine Code.calls-hnsr-circuit·calls·status-told (Met'.met 𝓤 H 𝓜 𝓖 𝓡))
+  close = λ closed 𝓤 H 𝓜 𝓖 𝓡. Written.close 3 Kinds.ps Kinds.r Reads.Ghost Reads.requires Reads.ensures Reads.pre-read
+      Reads.Pinned Reads.Owned Reads.post-read record { M = M; 𝓤 = 𝓤; H = H; 𝓜 = 𝓜; 𝓖 = 𝓖; 𝓡 = 𝓡 } Code.env Key.name
+      Code.function (Code.unfolded 𝓤 H 𝓜 𝓡) (λ κs a g. tt) (λ κs. Reads.owns κs
+      record { M = M; 𝓤 = 𝓤; H = H; 𝓜 = 𝓜; 𝓖 = 𝓖; 𝓡 = 𝓡 }) (Reads.passes
+      record { M = M; 𝓤 = 𝓤; H = H; 𝓜 = 𝓜; 𝓖 = 𝓖; 𝓡 = 𝓡 }) λ g. closed 𝓤 H (𝓖 .A) (Running.givenOf 𝓤 H 𝓜 𝓖)
+      (Run.Over 𝓤 H 𝓜 𝓖 𝓡 Code.env) (Reads'''''''.known record { M = M; 𝓤 = 𝓤; H = H; 𝓜 = 𝓜; 𝓖 = 𝓖; 𝓡 = 𝓡 } Code.env
+      Symbol'''.name Symbol'''.routine Code.calls-hnsr-circuit·question·used (Met'''.met 𝓤 H 𝓜 𝓖 𝓡)) (Reads'''.known
+      record { M = M; 𝓤 = 𝓤; H = H; 𝓜 = 𝓜; 𝓖 = 𝓖; 𝓡 = 𝓡 } Code.env Symbol''''''.name Symbol''''''.routine
+      Code.calls-hnsr-circuit·tables·pending·count-pending (Met''''''.met 𝓤 H 𝓜 𝓖 𝓡)) (Reads'.known
+      record { M = M; 𝓤 = 𝓤; H = H; 𝓜 = 𝓜; 𝓖 = 𝓖; 𝓡 = 𝓡 } Code.env Symbol''''.name Symbol''''.routine
+      Code.calls-hnsr-circuit·tables·circuits·circuit-totals (Met''''.met 𝓤 H 𝓜 𝓖 𝓡)) (Reads''.known
+      record { M = M; 𝓤 = 𝓤; H = H; 𝓜 = 𝓜; 𝓖 = 𝓖; 𝓡 = 𝓡 } Code.env Symbol'''''.name Symbol'''''.routine
+      Code.calls-hnsr-circuit·tables·inflight·count-action (Met'''''.met 𝓤 H 𝓜 𝓖 𝓡)) (Reads''''''.known
+      record { M = M; 𝓤 = 𝓤; H = H; 𝓜 = 𝓜; 𝓖 = 𝓖; 𝓡 = 𝓡 } Code.env Symbol''.name Symbol''.routine
+      Code.calls-hnsr-circuit·entry·too-few (Met''.met 𝓤 H 𝓜 𝓖 𝓡)) (Reads''''.known
+      record { M = M; 𝓤 = 𝓤; H = H; 𝓜 = 𝓜; 𝓖 = 𝓖; 𝓡 = 𝓡 } Code.env Symbol.name Symbol.routine
+      Code.calls-hnsr-circuit·calls·status-of (Met.met 𝓤 H 𝓜 𝓖 𝓡)) (Reads'''''.known
+      record { M = M; 𝓤 = 𝓤; H = H; 𝓜 = 𝓜; 𝓖 = 𝓖; 𝓡 = 𝓡 } Code.env Symbol'.name Symbol'.routine
+      Code.calls-hnsr-circuit·calls·status-told (Met'.met 𝓤 H 𝓜 𝓖 𝓡))

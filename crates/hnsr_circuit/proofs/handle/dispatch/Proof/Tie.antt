@@ -27,8 +27,8 @@ use borrow.Fn.Run
 use borrow.Fn.Written
 use contract.Running
 
-abbrev pub Start : Type 0
-Start = Lts.Start (
+abbrev pub readings : Lts.Claims
+readings = (
   Reads''''.Asked,
   Reads''''.Learnt,
   Reads'.Asked,
@@ -41,1665 +41,344 @@ Start = Lts.Start (
   Reads''.Learnt,
   Reads''''''.Asked,
   Reads''''''.Learnt,
-) Reads.Pre Reads.Post
+)
+
+abbrev pub Start : Type 0
+Start = Lts.Start readings Reads.Pre Reads.Post
 
 abbrev pub After-slice-known : Type 0
-After-slice-known = Lts.After-slice-known (
-  Reads''''.Asked,
-  Reads''''.Learnt,
-  Reads'.Asked,
-  Reads'.Learnt,
-  Reads'''.Asked,
-  Reads'''.Learnt,
-  Reads'''''.Asked,
-  Reads'''''.Learnt,
-  Reads''.Asked,
-  Reads''.Learnt,
-  Reads''''''.Asked,
-  Reads''''''.Learnt,
-) Reads.Pre Reads.Post
+After-slice-known = Lts.After-slice-known readings Reads.Pre Reads.Post
 
 abbrev pub After-shared-slice-known : Type 0
-After-shared-slice-known = Lts.After-shared-slice-known (
-  Reads''''.Asked,
-  Reads''''.Learnt,
-  Reads'.Asked,
-  Reads'.Learnt,
-  Reads'''.Asked,
-  Reads'''.Learnt,
-  Reads'''''.Asked,
-  Reads'''''.Learnt,
-  Reads''.Asked,
-  Reads''.Learnt,
-  Reads''''''.Asked,
-  Reads''''''.Learnt,
-) Reads.Pre Reads.Post
+After-shared-slice-known = Lts.After-shared-slice-known readings Reads.Pre Reads.Post
 
 abbrev pub After-shared-slice-known2 : Type 0
-After-shared-slice-known2 = Lts.After-shared-slice-known2 (
-  Reads''''.Asked,
-  Reads''''.Learnt,
-  Reads'.Asked,
-  Reads'.Learnt,
-  Reads'''.Asked,
-  Reads'''.Learnt,
-  Reads'''''.Asked,
-  Reads'''''.Learnt,
-  Reads''.Asked,
-  Reads''.Learnt,
-  Reads''''''.Asked,
-  Reads''''''.Learnt,
-) Reads.Pre Reads.Post
+After-shared-slice-known2 = Lts.After-shared-slice-known2 readings Reads.Pre Reads.Post
 
 abbrev pub After-shared-slice-known3 : Type 0
-After-shared-slice-known3 = Lts.After-shared-slice-known3 (
-  Reads''''.Asked,
-  Reads''''.Learnt,
-  Reads'.Asked,
-  Reads'.Learnt,
-  Reads'''.Asked,
-  Reads'''.Learnt,
-  Reads'''''.Asked,
-  Reads'''''.Learnt,
-  Reads''.Asked,
-  Reads''.Learnt,
-  Reads''''''.Asked,
-  Reads''''''.Learnt,
-) Reads.Pre Reads.Post
+After-shared-slice-known3 = Lts.After-shared-slice-known3 readings Reads.Pre Reads.Post
 
 abbrev pub After-shared-slice-known4 : Type 0
-After-shared-slice-known4 = Lts.After-shared-slice-known4 (
-  Reads''''.Asked,
-  Reads''''.Learnt,
-  Reads'.Asked,
-  Reads'.Learnt,
-  Reads'''.Asked,
-  Reads'''.Learnt,
-  Reads'''''.Asked,
-  Reads'''''.Learnt,
-  Reads''.Asked,
-  Reads''.Learnt,
-  Reads''''''.Asked,
-  Reads''''''.Learnt,
-) Reads.Pre Reads.Post
+After-shared-slice-known4 = Lts.After-shared-slice-known4 readings Reads.Pre Reads.Post
 
 abbrev pub At-match-keys1 : Type 0
-At-match-keys1 = Lts.At-match-keys1 (
-  Reads''''.Asked,
-  Reads''''.Learnt,
-  Reads'.Asked,
-  Reads'.Learnt,
-  Reads'''.Asked,
-  Reads'''.Learnt,
-  Reads'''''.Asked,
-  Reads'''''.Learnt,
-  Reads''.Asked,
-  Reads''.Learnt,
-  Reads''''''.Asked,
-  Reads''''''.Learnt,
-) Reads.Pre Reads.Post
+At-match-keys1 = Lts.At-match-keys1 readings Reads.Pre Reads.Post
 
 abbrev pub After-handle-open-arg : Type 0
-After-handle-open-arg = Lts.After-handle-open-arg (
-  Reads''''.Asked,
-  Reads''''.Learnt,
-  Reads'.Asked,
-  Reads'.Learnt,
-  Reads'''.Asked,
-  Reads'''.Learnt,
-  Reads'''''.Asked,
-  Reads'''''.Learnt,
-  Reads''.Asked,
-  Reads''.Learnt,
-  Reads''''''.Asked,
-  Reads''''''.Learnt,
-) Reads.Pre Reads.Post
+After-handle-open-arg = Lts.After-handle-open-arg readings Reads.Pre Reads.Post
 
 abbrev pub After-handle-open-arg2 : Type 0
-After-handle-open-arg2 = Lts.After-handle-open-arg2 (
-  Reads''''.Asked,
-  Reads''''.Learnt,
-  Reads'.Asked,
-  Reads'.Learnt,
-  Reads'''.Asked,
-  Reads'''.Learnt,
-  Reads'''''.Asked,
-  Reads'''''.Learnt,
-  Reads''.Asked,
-  Reads''.Learnt,
-  Reads''''''.Asked,
-  Reads''''''.Learnt,
-) Reads.Pre Reads.Post
+After-handle-open-arg2 = Lts.After-handle-open-arg2 readings Reads.Pre Reads.Post
 
 abbrev pub After-handle-open-arg3 : Type 0
-After-handle-open-arg3 = Lts.After-handle-open-arg3 (
-  Reads''''.Asked,
-  Reads''''.Learnt,
-  Reads'.Asked,
-  Reads'.Learnt,
-  Reads'''.Asked,
-  Reads'''.Learnt,
-  Reads'''''.Asked,
-  Reads'''''.Learnt,
-  Reads''.Asked,
-  Reads''.Learnt,
-  Reads''''''.Asked,
-  Reads''''''.Learnt,
-) Reads.Pre Reads.Post
+After-handle-open-arg3 = Lts.After-handle-open-arg3 readings Reads.Pre Reads.Post
 
 abbrev pub After-handle-open-arg4 : Type 0
-After-handle-open-arg4 = Lts.After-handle-open-arg4 (
-  Reads''''.Asked,
-  Reads''''.Learnt,
-  Reads'.Asked,
-  Reads'.Learnt,
-  Reads'''.Asked,
-  Reads'''.Learnt,
-  Reads'''''.Asked,
-  Reads'''''.Learnt,
-  Reads''.Asked,
-  Reads''.Learnt,
-  Reads''''''.Asked,
-  Reads''''''.Learnt,
-) Reads.Pre Reads.Post
+After-handle-open-arg4 = Lts.After-handle-open-arg4 readings Reads.Pre Reads.Post
 
 abbrev pub After-handle-open-arg5 : Type 0
-After-handle-open-arg5 = Lts.After-handle-open-arg5 (
-  Reads''''.Asked,
-  Reads''''.Learnt,
-  Reads'.Asked,
-  Reads'.Learnt,
-  Reads'''.Asked,
-  Reads'''.Learnt,
-  Reads'''''.Asked,
-  Reads'''''.Learnt,
-  Reads''.Asked,
-  Reads''.Learnt,
-  Reads''''''.Asked,
-  Reads''''''.Learnt,
-) Reads.Pre Reads.Post
+After-handle-open-arg5 = Lts.After-handle-open-arg5 readings Reads.Pre Reads.Post
 
 abbrev pub After-handle-open : Type 0
-After-handle-open = Lts.After-handle-open (
-  Reads''''.Asked,
-  Reads''''.Learnt,
-  Reads'.Asked,
-  Reads'.Learnt,
-  Reads'''.Asked,
-  Reads'''.Learnt,
-  Reads'''''.Asked,
-  Reads'''''.Learnt,
-  Reads''.Asked,
-  Reads''.Learnt,
-  Reads''''''.Asked,
-  Reads''''''.Learnt,
-) Reads.Pre Reads.Post
+After-handle-open = Lts.After-handle-open readings Reads.Pre Reads.Post
 
 abbrev pub After-pending : Type 0
-After-pending = Lts.After-pending (
-  Reads''''.Asked,
-  Reads''''.Learnt,
-  Reads'.Asked,
-  Reads'.Learnt,
-  Reads'''.Asked,
-  Reads'''.Learnt,
-  Reads'''''.Asked,
-  Reads'''''.Learnt,
-  Reads''.Asked,
-  Reads''.Learnt,
-  Reads''''''.Asked,
-  Reads''''''.Learnt,
-) Reads.Pre Reads.Post
+After-pending = Lts.After-pending readings Reads.Pre Reads.Post
 
 abbrev pub After-circuits : Type 0
-After-circuits = Lts.After-circuits (
-  Reads''''.Asked,
-  Reads''''.Learnt,
-  Reads'.Asked,
-  Reads'.Learnt,
-  Reads'''.Asked,
-  Reads'''.Learnt,
-  Reads'''''.Asked,
-  Reads'''''.Learnt,
-  Reads''.Asked,
-  Reads''.Learnt,
-  Reads''''''.Asked,
-  Reads''''''.Learnt,
-) Reads.Pre Reads.Post
+After-circuits = Lts.After-circuits readings Reads.Pre Reads.Post
 
 abbrev pub After-ledger : Type 0
-After-ledger = Lts.After-ledger (
-  Reads''''.Asked,
-  Reads''''.Learnt,
-  Reads'.Asked,
-  Reads'.Learnt,
-  Reads'''.Asked,
-  Reads'''.Learnt,
-  Reads'''''.Asked,
-  Reads'''''.Learnt,
-  Reads''.Asked,
-  Reads''.Learnt,
-  Reads''''''.Asked,
-  Reads''''''.Learnt,
-) Reads.Pre Reads.Post
+After-ledger = Lts.After-ledger readings Reads.Pre Reads.Post
 
 abbrev pub After-inflight : Type 0
-After-inflight = Lts.After-inflight (
-  Reads''''.Asked,
-  Reads''''.Learnt,
-  Reads'.Asked,
-  Reads'.Learnt,
-  Reads'''.Asked,
-  Reads'''.Learnt,
-  Reads'''''.Asked,
-  Reads'''''.Learnt,
-  Reads''.Asked,
-  Reads''.Learnt,
-  Reads''''''.Asked,
-  Reads''''''.Learnt,
-) Reads.Pre Reads.Post
+After-inflight = Lts.After-inflight readings Reads.Pre Reads.Post
 
 abbrev pub After-out : Type 0
-After-out = Lts.After-out (
-  Reads''''.Asked,
-  Reads''''.Learnt,
-  Reads'.Asked,
-  Reads'.Learnt,
-  Reads'''.Asked,
-  Reads'''.Learnt,
-  Reads'''''.Asked,
-  Reads'''''.Learnt,
-  Reads''.Asked,
-  Reads''.Learnt,
-  Reads''''''.Asked,
-  Reads''''''.Learnt,
-) Reads.Pre Reads.Post
+After-out = Lts.After-out readings Reads.Pre Reads.Post
 
 abbrev pub After-slice-known2 : Type 0
-After-slice-known2 = Lts.After-slice-known2 (
-  Reads''''.Asked,
-  Reads''''.Learnt,
-  Reads'.Asked,
-  Reads'.Learnt,
-  Reads'''.Asked,
-  Reads'''.Learnt,
-  Reads'''''.Asked,
-  Reads'''''.Learnt,
-  Reads''.Asked,
-  Reads''.Learnt,
-  Reads''''''.Asked,
-  Reads''''''.Learnt,
-) Reads.Pre Reads.Post
+After-slice-known2 = Lts.After-slice-known2 readings Reads.Pre Reads.Post
 
 abbrev pub At-match-keys2 : Type 0
-At-match-keys2 = Lts.At-match-keys2 (
-  Reads''''.Asked,
-  Reads''''.Learnt,
-  Reads'.Asked,
-  Reads'.Learnt,
-  Reads'''.Asked,
-  Reads'''.Learnt,
-  Reads'''''.Asked,
-  Reads'''''.Learnt,
-  Reads''.Asked,
-  Reads''.Learnt,
-  Reads''''''.Asked,
-  Reads''''''.Learnt,
-) Reads.Pre Reads.Post
+At-match-keys2 = Lts.At-match-keys2 readings Reads.Pre Reads.Post
 
 abbrev pub After-handle-accept-arg : Type 0
-After-handle-accept-arg = Lts.After-handle-accept-arg (
-  Reads''''.Asked,
-  Reads''''.Learnt,
-  Reads'.Asked,
-  Reads'.Learnt,
-  Reads'''.Asked,
-  Reads'''.Learnt,
-  Reads'''''.Asked,
-  Reads'''''.Learnt,
-  Reads''.Asked,
-  Reads''.Learnt,
-  Reads''''''.Asked,
-  Reads''''''.Learnt,
-) Reads.Pre Reads.Post
+After-handle-accept-arg = Lts.After-handle-accept-arg readings Reads.Pre Reads.Post
 
 abbrev pub After-handle-accept-arg2 : Type 0
-After-handle-accept-arg2 = Lts.After-handle-accept-arg2 (
-  Reads''''.Asked,
-  Reads''''.Learnt,
-  Reads'.Asked,
-  Reads'.Learnt,
-  Reads'''.Asked,
-  Reads'''.Learnt,
-  Reads'''''.Asked,
-  Reads'''''.Learnt,
-  Reads''.Asked,
-  Reads''.Learnt,
-  Reads''''''.Asked,
-  Reads''''''.Learnt,
-) Reads.Pre Reads.Post
+After-handle-accept-arg2 = Lts.After-handle-accept-arg2 readings Reads.Pre Reads.Post
 
 abbrev pub After-handle-accept-arg3 : Type 0
-After-handle-accept-arg3 = Lts.After-handle-accept-arg3 (
-  Reads''''.Asked,
-  Reads''''.Learnt,
-  Reads'.Asked,
-  Reads'.Learnt,
-  Reads'''.Asked,
-  Reads'''.Learnt,
-  Reads'''''.Asked,
-  Reads'''''.Learnt,
-  Reads''.Asked,
-  Reads''.Learnt,
-  Reads''''''.Asked,
-  Reads''''''.Learnt,
-) Reads.Pre Reads.Post
+After-handle-accept-arg3 = Lts.After-handle-accept-arg3 readings Reads.Pre Reads.Post
 
 abbrev pub After-handle-accept-arg4 : Type 0
-After-handle-accept-arg4 = Lts.After-handle-accept-arg4 (
-  Reads''''.Asked,
-  Reads''''.Learnt,
-  Reads'.Asked,
-  Reads'.Learnt,
-  Reads'''.Asked,
-  Reads'''.Learnt,
-  Reads'''''.Asked,
-  Reads'''''.Learnt,
-  Reads''.Asked,
-  Reads''.Learnt,
-  Reads''''''.Asked,
-  Reads''''''.Learnt,
-) Reads.Pre Reads.Post
+After-handle-accept-arg4 = Lts.After-handle-accept-arg4 readings Reads.Pre Reads.Post
 
 abbrev pub After-handle-accept : Type 0
-After-handle-accept = Lts.After-handle-accept (
-  Reads''''.Asked,
-  Reads''''.Learnt,
-  Reads'.Asked,
-  Reads'.Learnt,
-  Reads'''.Asked,
-  Reads'''.Learnt,
-  Reads'''''.Asked,
-  Reads'''''.Learnt,
-  Reads''.Asked,
-  Reads''.Learnt,
-  Reads''''''.Asked,
-  Reads''''''.Learnt,
-) Reads.Pre Reads.Post
+After-handle-accept = Lts.After-handle-accept readings Reads.Pre Reads.Post
 
 abbrev pub After-pending2 : Type 0
-After-pending2 = Lts.After-pending2 (
-  Reads''''.Asked,
-  Reads''''.Learnt,
-  Reads'.Asked,
-  Reads'.Learnt,
-  Reads'''.Asked,
-  Reads'''.Learnt,
-  Reads'''''.Asked,
-  Reads'''''.Learnt,
-  Reads''.Asked,
-  Reads''.Learnt,
-  Reads''''''.Asked,
-  Reads''''''.Learnt,
-) Reads.Pre Reads.Post
+After-pending2 = Lts.After-pending2 readings Reads.Pre Reads.Post
 
 abbrev pub After-circuits2 : Type 0
-After-circuits2 = Lts.After-circuits2 (
-  Reads''''.Asked,
-  Reads''''.Learnt,
-  Reads'.Asked,
-  Reads'.Learnt,
-  Reads'''.Asked,
-  Reads'''.Learnt,
-  Reads'''''.Asked,
-  Reads'''''.Learnt,
-  Reads''.Asked,
-  Reads''.Learnt,
-  Reads''''''.Asked,
-  Reads''''''.Learnt,
-) Reads.Pre Reads.Post
+After-circuits2 = Lts.After-circuits2 readings Reads.Pre Reads.Post
 
 abbrev pub After-inflight2 : Type 0
-After-inflight2 = Lts.After-inflight2 (
-  Reads''''.Asked,
-  Reads''''.Learnt,
-  Reads'.Asked,
-  Reads'.Learnt,
-  Reads'''.Asked,
-  Reads'''.Learnt,
-  Reads'''''.Asked,
-  Reads'''''.Learnt,
-  Reads''.Asked,
-  Reads''.Learnt,
-  Reads''''''.Asked,
-  Reads''''''.Learnt,
-) Reads.Pre Reads.Post
+After-inflight2 = Lts.After-inflight2 readings Reads.Pre Reads.Post
 
 abbrev pub After-out2 : Type 0
-After-out2 = Lts.After-out2 (
-  Reads''''.Asked,
-  Reads''''.Learnt,
-  Reads'.Asked,
-  Reads'.Learnt,
-  Reads'''.Asked,
-  Reads'''.Learnt,
-  Reads'''''.Asked,
-  Reads'''''.Learnt,
-  Reads''.Asked,
-  Reads''.Learnt,
-  Reads''''''.Asked,
-  Reads''''''.Learnt,
-) Reads.Pre Reads.Post
+After-out2 = Lts.After-out2 readings Reads.Pre Reads.Post
 
 abbrev pub After-slice-known3 : Type 0
-After-slice-known3 = Lts.After-slice-known3 (
-  Reads''''.Asked,
-  Reads''''.Learnt,
-  Reads'.Asked,
-  Reads'.Learnt,
-  Reads'''.Asked,
-  Reads'''.Learnt,
-  Reads'''''.Asked,
-  Reads'''''.Learnt,
-  Reads''.Asked,
-  Reads''.Learnt,
-  Reads''''''.Asked,
-  Reads''''''.Learnt,
-) Reads.Pre Reads.Post
+After-slice-known3 = Lts.After-slice-known3 readings Reads.Pre Reads.Post
 
 abbrev pub At-match-keys3 : Type 0
-At-match-keys3 = Lts.At-match-keys3 (
-  Reads''''.Asked,
-  Reads''''.Learnt,
-  Reads'.Asked,
-  Reads'.Learnt,
-  Reads'''.Asked,
-  Reads'''.Learnt,
-  Reads'''''.Asked,
-  Reads'''''.Learnt,
-  Reads''.Asked,
-  Reads''.Learnt,
-  Reads''''''.Asked,
-  Reads''''''.Learnt,
-) Reads.Pre Reads.Post
+At-match-keys3 = Lts.At-match-keys3 readings Reads.Pre Reads.Post
 
 abbrev pub After-handle-data-arg : Type 0
-After-handle-data-arg = Lts.After-handle-data-arg (
-  Reads''''.Asked,
-  Reads''''.Learnt,
-  Reads'.Asked,
-  Reads'.Learnt,
-  Reads'''.Asked,
-  Reads'''.Learnt,
-  Reads'''''.Asked,
-  Reads'''''.Learnt,
-  Reads''.Asked,
-  Reads''.Learnt,
-  Reads''''''.Asked,
-  Reads''''''.Learnt,
-) Reads.Pre Reads.Post
+After-handle-data-arg = Lts.After-handle-data-arg readings Reads.Pre Reads.Post
 
 abbrev pub After-handle-data-arg2 : Type 0
-After-handle-data-arg2 = Lts.After-handle-data-arg2 (
-  Reads''''.Asked,
-  Reads''''.Learnt,
-  Reads'.Asked,
-  Reads'.Learnt,
-  Reads'''.Asked,
-  Reads'''.Learnt,
-  Reads'''''.Asked,
-  Reads'''''.Learnt,
-  Reads''.Asked,
-  Reads''.Learnt,
-  Reads''''''.Asked,
-  Reads''''''.Learnt,
-) Reads.Pre Reads.Post
+After-handle-data-arg2 = Lts.After-handle-data-arg2 readings Reads.Pre Reads.Post
 
 abbrev pub After-handle-data-arg3 : Type 0
-After-handle-data-arg3 = Lts.After-handle-data-arg3 (
-  Reads''''.Asked,
-  Reads''''.Learnt,
-  Reads'.Asked,
-  Reads'.Learnt,
-  Reads'''.Asked,
-  Reads'''.Learnt,
-  Reads'''''.Asked,
-  Reads'''''.Learnt,
-  Reads''.Asked,
-  Reads''.Learnt,
-  Reads''''''.Asked,
-  Reads''''''.Learnt,
-) Reads.Pre Reads.Post
+After-handle-data-arg3 = Lts.After-handle-data-arg3 readings Reads.Pre Reads.Post
 
 abbrev pub After-handle-data-arg4 : Type 0
-After-handle-data-arg4 = Lts.After-handle-data-arg4 (
-  Reads''''.Asked,
-  Reads''''.Learnt,
-  Reads'.Asked,
-  Reads'.Learnt,
-  Reads'''.Asked,
-  Reads'''.Learnt,
-  Reads'''''.Asked,
-  Reads'''''.Learnt,
-  Reads''.Asked,
-  Reads''.Learnt,
-  Reads''''''.Asked,
-  Reads''''''.Learnt,
-) Reads.Pre Reads.Post
+After-handle-data-arg4 = Lts.After-handle-data-arg4 readings Reads.Pre Reads.Post
 
 abbrev pub After-handle-data : Type 0
-After-handle-data = Lts.After-handle-data (
-  Reads''''.Asked,
-  Reads''''.Learnt,
-  Reads'.Asked,
-  Reads'.Learnt,
-  Reads'''.Asked,
-  Reads'''.Learnt,
-  Reads'''''.Asked,
-  Reads'''''.Learnt,
-  Reads''.Asked,
-  Reads''.Learnt,
-  Reads''''''.Asked,
-  Reads''''''.Learnt,
-) Reads.Pre Reads.Post
+After-handle-data = Lts.After-handle-data readings Reads.Pre Reads.Post
 
 abbrev pub After-circuits3 : Type 0
-After-circuits3 = Lts.After-circuits3 (
-  Reads''''.Asked,
-  Reads''''.Learnt,
-  Reads'.Asked,
-  Reads'.Learnt,
-  Reads'''.Asked,
-  Reads'''.Learnt,
-  Reads'''''.Asked,
-  Reads'''''.Learnt,
-  Reads''.Asked,
-  Reads''.Learnt,
-  Reads''''''.Asked,
-  Reads''''''.Learnt,
-) Reads.Pre Reads.Post
+After-circuits3 = Lts.After-circuits3 readings Reads.Pre Reads.Post
 
 abbrev pub After-ledger2 : Type 0
-After-ledger2 = Lts.After-ledger2 (
-  Reads''''.Asked,
-  Reads''''.Learnt,
-  Reads'.Asked,
-  Reads'.Learnt,
-  Reads'''.Asked,
-  Reads'''.Learnt,
-  Reads'''''.Asked,
-  Reads'''''.Learnt,
-  Reads''.Asked,
-  Reads''.Learnt,
-  Reads''''''.Asked,
-  Reads''''''.Learnt,
-) Reads.Pre Reads.Post
+After-ledger2 = Lts.After-ledger2 readings Reads.Pre Reads.Post
 
 abbrev pub After-inflight3 : Type 0
-After-inflight3 = Lts.After-inflight3 (
-  Reads''''.Asked,
-  Reads''''.Learnt,
-  Reads'.Asked,
-  Reads'.Learnt,
-  Reads'''.Asked,
-  Reads'''.Learnt,
-  Reads'''''.Asked,
-  Reads'''''.Learnt,
-  Reads''.Asked,
-  Reads''.Learnt,
-  Reads''''''.Asked,
-  Reads''''''.Learnt,
-) Reads.Pre Reads.Post
+After-inflight3 = Lts.After-inflight3 readings Reads.Pre Reads.Post
 
 abbrev pub After-out3 : Type 0
-After-out3 = Lts.After-out3 (
-  Reads''''.Asked,
-  Reads''''.Learnt,
-  Reads'.Asked,
-  Reads'.Learnt,
-  Reads'''.Asked,
-  Reads'''.Learnt,
-  Reads'''''.Asked,
-  Reads'''''.Learnt,
-  Reads''.Asked,
-  Reads''.Learnt,
-  Reads''''''.Asked,
-  Reads''''''.Learnt,
-) Reads.Pre Reads.Post
+After-out3 = Lts.After-out3 readings Reads.Pre Reads.Post
 
 abbrev pub After-slice-known4 : Type 0
-After-slice-known4 = Lts.After-slice-known4 (
-  Reads''''.Asked,
-  Reads''''.Learnt,
-  Reads'.Asked,
-  Reads'.Learnt,
-  Reads'''.Asked,
-  Reads'''.Learnt,
-  Reads'''''.Asked,
-  Reads'''''.Learnt,
-  Reads''.Asked,
-  Reads''.Learnt,
-  Reads''''''.Asked,
-  Reads''''''.Learnt,
-) Reads.Pre Reads.Post
+After-slice-known4 = Lts.After-slice-known4 readings Reads.Pre Reads.Post
 
 abbrev pub At-match-keys4 : Type 0
-At-match-keys4 = Lts.At-match-keys4 (
-  Reads''''.Asked,
-  Reads''''.Learnt,
-  Reads'.Asked,
-  Reads'.Learnt,
-  Reads'''.Asked,
-  Reads'''.Learnt,
-  Reads'''''.Asked,
-  Reads'''''.Learnt,
-  Reads''.Asked,
-  Reads''.Learnt,
-  Reads''''''.Asked,
-  Reads''''''.Learnt,
-) Reads.Pre Reads.Post
+At-match-keys4 = Lts.At-match-keys4 readings Reads.Pre Reads.Post
 
 abbrev pub After-handle-window-arg : Type 0
-After-handle-window-arg = Lts.After-handle-window-arg (
-  Reads''''.Asked,
-  Reads''''.Learnt,
-  Reads'.Asked,
-  Reads'.Learnt,
-  Reads'''.Asked,
-  Reads'''.Learnt,
-  Reads'''''.Asked,
-  Reads'''''.Learnt,
-  Reads''.Asked,
-  Reads''.Learnt,
-  Reads''''''.Asked,
-  Reads''''''.Learnt,
-) Reads.Pre Reads.Post
+After-handle-window-arg = Lts.After-handle-window-arg readings Reads.Pre Reads.Post
 
 abbrev pub After-handle-window-arg2 : Type 0
-After-handle-window-arg2 = Lts.After-handle-window-arg2 (
-  Reads''''.Asked,
-  Reads''''.Learnt,
-  Reads'.Asked,
-  Reads'.Learnt,
-  Reads'''.Asked,
-  Reads'''.Learnt,
-  Reads'''''.Asked,
-  Reads'''''.Learnt,
-  Reads''.Asked,
-  Reads''.Learnt,
-  Reads''''''.Asked,
-  Reads''''''.Learnt,
-) Reads.Pre Reads.Post
+After-handle-window-arg2 = Lts.After-handle-window-arg2 readings Reads.Pre Reads.Post
 
 abbrev pub After-handle-window-arg3 : Type 0
-After-handle-window-arg3 = Lts.After-handle-window-arg3 (
-  Reads''''.Asked,
-  Reads''''.Learnt,
-  Reads'.Asked,
-  Reads'.Learnt,
-  Reads'''.Asked,
-  Reads'''.Learnt,
-  Reads'''''.Asked,
-  Reads'''''.Learnt,
-  Reads''.Asked,
-  Reads''.Learnt,
-  Reads''''''.Asked,
-  Reads''''''.Learnt,
-) Reads.Pre Reads.Post
+After-handle-window-arg3 = Lts.After-handle-window-arg3 readings Reads.Pre Reads.Post
 
 abbrev pub After-handle-window : Type 0
-After-handle-window = Lts.After-handle-window (
-  Reads''''.Asked,
-  Reads''''.Learnt,
-  Reads'.Asked,
-  Reads'.Learnt,
-  Reads'''.Asked,
-  Reads'''.Learnt,
-  Reads'''''.Asked,
-  Reads'''''.Learnt,
-  Reads''.Asked,
-  Reads''.Learnt,
-  Reads''''''.Asked,
-  Reads''''''.Learnt,
-) Reads.Pre Reads.Post
+After-handle-window = Lts.After-handle-window readings Reads.Pre Reads.Post
 
 abbrev pub After-circuits4 : Type 0
-After-circuits4 = Lts.After-circuits4 (
-  Reads''''.Asked,
-  Reads''''.Learnt,
-  Reads'.Asked,
-  Reads'.Learnt,
-  Reads'''.Asked,
-  Reads'''.Learnt,
-  Reads'''''.Asked,
-  Reads'''''.Learnt,
-  Reads''.Asked,
-  Reads''.Learnt,
-  Reads''''''.Asked,
-  Reads''''''.Learnt,
-) Reads.Pre Reads.Post
+After-circuits4 = Lts.After-circuits4 readings Reads.Pre Reads.Post
 
 abbrev pub After-inflight4 : Type 0
-After-inflight4 = Lts.After-inflight4 (
-  Reads''''.Asked,
-  Reads''''.Learnt,
-  Reads'.Asked,
-  Reads'.Learnt,
-  Reads'''.Asked,
-  Reads'''.Learnt,
-  Reads'''''.Asked,
-  Reads'''''.Learnt,
-  Reads''.Asked,
-  Reads''.Learnt,
-  Reads''''''.Asked,
-  Reads''''''.Learnt,
-) Reads.Pre Reads.Post
+After-inflight4 = Lts.After-inflight4 readings Reads.Pre Reads.Post
 
 abbrev pub After-out4 : Type 0
-After-out4 = Lts.After-out4 (
-  Reads''''.Asked,
-  Reads''''.Learnt,
-  Reads'.Asked,
-  Reads'.Learnt,
-  Reads'''.Asked,
-  Reads'''.Learnt,
-  Reads'''''.Asked,
-  Reads'''''.Learnt,
-  Reads''.Asked,
-  Reads''.Learnt,
-  Reads''''''.Asked,
-  Reads''''''.Learnt,
-) Reads.Pre Reads.Post
+After-out4 = Lts.After-out4 readings Reads.Pre Reads.Post
 
 abbrev pub After-slice-known5 : Type 0
-After-slice-known5 = Lts.After-slice-known5 (
-  Reads''''.Asked,
-  Reads''''.Learnt,
-  Reads'.Asked,
-  Reads'.Learnt,
-  Reads'''.Asked,
-  Reads'''.Learnt,
-  Reads'''''.Asked,
-  Reads'''''.Learnt,
-  Reads''.Asked,
-  Reads''.Learnt,
-  Reads''''''.Asked,
-  Reads''''''.Learnt,
-) Reads.Pre Reads.Post
+After-slice-known5 = Lts.After-slice-known5 readings Reads.Pre Reads.Post
 
 abbrev pub At-match-keys5 : Type 0
-At-match-keys5 = Lts.At-match-keys5 (
-  Reads''''.Asked,
-  Reads''''.Learnt,
-  Reads'.Asked,
-  Reads'.Learnt,
-  Reads'''.Asked,
-  Reads'''.Learnt,
-  Reads'''''.Asked,
-  Reads'''''.Learnt,
-  Reads''.Asked,
-  Reads''.Learnt,
-  Reads''''''.Asked,
-  Reads''''''.Learnt,
-) Reads.Pre Reads.Post
+At-match-keys5 = Lts.At-match-keys5 readings Reads.Pre Reads.Post
 
 abbrev pub At-match-rest : Type 0
-At-match-rest = Lts.At-match-rest (
-  Reads''''.Asked,
-  Reads''''.Learnt,
-  Reads'.Asked,
-  Reads'.Learnt,
-  Reads'''.Asked,
-  Reads'''.Learnt,
-  Reads'''''.Asked,
-  Reads'''''.Learnt,
-  Reads''.Asked,
-  Reads''.Learnt,
-  Reads''''''.Asked,
-  Reads''''''.Learnt,
-) Reads.Pre Reads.Post
+At-match-rest = Lts.At-match-rest readings Reads.Pre Reads.Post
 
 abbrev pub Then1 : Type 0
-Then1 = Lts.Then1 (
-  Reads''''.Asked,
-  Reads''''.Learnt,
-  Reads'.Asked,
-  Reads'.Learnt,
-  Reads'''.Asked,
-  Reads'''.Learnt,
-  Reads'''''.Asked,
-  Reads'''''.Learnt,
-  Reads''.Asked,
-  Reads''.Learnt,
-  Reads''''''.Asked,
-  Reads''''''.Learnt,
-) Reads.Pre Reads.Post
+Then1 = Lts.Then1 readings Reads.Pre Reads.Post
 
 abbrev pub Else1 : Type 0
-Else1 = Lts.Else1 (
-  Reads''''.Asked,
-  Reads''''.Learnt,
-  Reads'.Asked,
-  Reads'.Learnt,
-  Reads'''.Asked,
-  Reads'''.Learnt,
-  Reads'''''.Asked,
-  Reads'''''.Learnt,
-  Reads''.Asked,
-  Reads''.Learnt,
-  Reads''''''.Asked,
-  Reads''''''.Learnt,
-) Reads.Pre Reads.Post
+Else1 = Lts.Else1 readings Reads.Pre Reads.Post
 
 abbrev pub Then2 : Type 0
-Then2 = Lts.Then2 (
-  Reads''''.Asked,
-  Reads''''.Learnt,
-  Reads'.Asked,
-  Reads'.Learnt,
-  Reads'''.Asked,
-  Reads'''.Learnt,
-  Reads'''''.Asked,
-  Reads'''''.Learnt,
-  Reads''.Asked,
-  Reads''.Learnt,
-  Reads''''''.Asked,
-  Reads''''''.Learnt,
-) Reads.Pre Reads.Post
+Then2 = Lts.Then2 readings Reads.Pre Reads.Post
 
 abbrev pub After-handle-close-arg : Type 0
-After-handle-close-arg = Lts.After-handle-close-arg (
-  Reads''''.Asked,
-  Reads''''.Learnt,
-  Reads'.Asked,
-  Reads'.Learnt,
-  Reads'''.Asked,
-  Reads'''.Learnt,
-  Reads'''''.Asked,
-  Reads'''''.Learnt,
-  Reads''.Asked,
-  Reads''.Learnt,
-  Reads''''''.Asked,
-  Reads''''''.Learnt,
-) Reads.Pre Reads.Post
+After-handle-close-arg = Lts.After-handle-close-arg readings Reads.Pre Reads.Post
 
 abbrev pub After-handle-close-arg2 : Type 0
-After-handle-close-arg2 = Lts.After-handle-close-arg2 (
-  Reads''''.Asked,
-  Reads''''.Learnt,
-  Reads'.Asked,
-  Reads'.Learnt,
-  Reads'''.Asked,
-  Reads'''.Learnt,
-  Reads'''''.Asked,
-  Reads'''''.Learnt,
-  Reads''.Asked,
-  Reads''.Learnt,
-  Reads''''''.Asked,
-  Reads''''''.Learnt,
-) Reads.Pre Reads.Post
+After-handle-close-arg2 = Lts.After-handle-close-arg2 readings Reads.Pre Reads.Post
 
 abbrev pub After-handle-close-arg3 : Type 0
-After-handle-close-arg3 = Lts.After-handle-close-arg3 (
-  Reads''''.Asked,
-  Reads''''.Learnt,
-  Reads'.Asked,
-  Reads'.Learnt,
-  Reads'''.Asked,
-  Reads'''.Learnt,
-  Reads'''''.Asked,
-  Reads'''''.Learnt,
-  Reads''.Asked,
-  Reads''.Learnt,
-  Reads''''''.Asked,
-  Reads''''''.Learnt,
-) Reads.Pre Reads.Post
+After-handle-close-arg3 = Lts.After-handle-close-arg3 readings Reads.Pre Reads.Post
 
 abbrev pub After-handle-close-arg4 : Type 0
-After-handle-close-arg4 = Lts.After-handle-close-arg4 (
-  Reads''''.Asked,
-  Reads''''.Learnt,
-  Reads'.Asked,
-  Reads'.Learnt,
-  Reads'''.Asked,
-  Reads'''.Learnt,
-  Reads'''''.Asked,
-  Reads'''''.Learnt,
-  Reads''.Asked,
-  Reads''.Learnt,
-  Reads''''''.Asked,
-  Reads''''''.Learnt,
-) Reads.Pre Reads.Post
+After-handle-close-arg4 = Lts.After-handle-close-arg4 readings Reads.Pre Reads.Post
 
 abbrev pub After-handle-close : Type 0
-After-handle-close = Lts.After-handle-close (
-  Reads''''.Asked,
-  Reads''''.Learnt,
-  Reads'.Asked,
-  Reads'.Learnt,
-  Reads'''.Asked,
-  Reads'''.Learnt,
-  Reads'''''.Asked,
-  Reads'''''.Learnt,
-  Reads''.Asked,
-  Reads''.Learnt,
-  Reads''''''.Asked,
-  Reads''''''.Learnt,
-) Reads.Pre Reads.Post
+After-handle-close = Lts.After-handle-close readings Reads.Pre Reads.Post
 
 abbrev pub After-pending3 : Type 0
-After-pending3 = Lts.After-pending3 (
-  Reads''''.Asked,
-  Reads''''.Learnt,
-  Reads'.Asked,
-  Reads'.Learnt,
-  Reads'''.Asked,
-  Reads'''.Learnt,
-  Reads'''''.Asked,
-  Reads'''''.Learnt,
-  Reads''.Asked,
-  Reads''.Learnt,
-  Reads''''''.Asked,
-  Reads''''''.Learnt,
-) Reads.Pre Reads.Post
+After-pending3 = Lts.After-pending3 readings Reads.Pre Reads.Post
 
 abbrev pub After-circuits5 : Type 0
-After-circuits5 = Lts.After-circuits5 (
-  Reads''''.Asked,
-  Reads''''.Learnt,
-  Reads'.Asked,
-  Reads'.Learnt,
-  Reads'''.Asked,
-  Reads'''.Learnt,
-  Reads'''''.Asked,
-  Reads'''''.Learnt,
-  Reads''.Asked,
-  Reads''.Learnt,
-  Reads''''''.Asked,
-  Reads''''''.Learnt,
-) Reads.Pre Reads.Post
+After-circuits5 = Lts.After-circuits5 readings Reads.Pre Reads.Post
 
 abbrev pub After-inflight5 : Type 0
-After-inflight5 = Lts.After-inflight5 (
-  Reads''''.Asked,
-  Reads''''.Learnt,
-  Reads'.Asked,
-  Reads'.Learnt,
-  Reads'''.Asked,
-  Reads'''.Learnt,
-  Reads'''''.Asked,
-  Reads'''''.Learnt,
-  Reads''.Asked,
-  Reads''.Learnt,
-  Reads''''''.Asked,
-  Reads''''''.Learnt,
-) Reads.Pre Reads.Post
+After-inflight5 = Lts.After-inflight5 readings Reads.Pre Reads.Post
 
 abbrev pub After-out5 : Type 0
-After-out5 = Lts.After-out5 (
-  Reads''''.Asked,
-  Reads''''.Learnt,
-  Reads'.Asked,
-  Reads'.Learnt,
-  Reads'''.Asked,
-  Reads'''.Learnt,
-  Reads'''''.Asked,
-  Reads'''''.Learnt,
-  Reads''.Asked,
-  Reads''.Learnt,
-  Reads''''''.Asked,
-  Reads''''''.Learnt,
-) Reads.Pre Reads.Post
+After-out5 = Lts.After-out5 readings Reads.Pre Reads.Post
 
 abbrev pub After-slice-known6 : Type 0
-After-slice-known6 = Lts.After-slice-known6 (
-  Reads''''.Asked,
-  Reads''''.Learnt,
-  Reads'.Asked,
-  Reads'.Learnt,
-  Reads'''.Asked,
-  Reads'''.Learnt,
-  Reads'''''.Asked,
-  Reads'''''.Learnt,
-  Reads''.Asked,
-  Reads''.Learnt,
-  Reads''''''.Asked,
-  Reads''''''.Learnt,
-) Reads.Pre Reads.Post
+After-slice-known6 = Lts.After-slice-known6 readings Reads.Pre Reads.Post
 
 abbrev pub Else2 : Type 0
-Else2 = Lts.Else2 (
-  Reads''''.Asked,
-  Reads''''.Learnt,
-  Reads'.Asked,
-  Reads'.Learnt,
-  Reads'''.Asked,
-  Reads'''.Learnt,
-  Reads'''''.Asked,
-  Reads'''''.Learnt,
-  Reads''.Asked,
-  Reads''.Learnt,
-  Reads''''''.Asked,
-  Reads''''''.Learnt,
-) Reads.Pre Reads.Post
+Else2 = Lts.Else2 readings Reads.Pre Reads.Post
 
 abbrev pub At-match-came : Type 0
-At-match-came = Lts.At-match-came (
-  Reads''''.Asked,
-  Reads''''.Learnt,
-  Reads'.Asked,
-  Reads'.Learnt,
-  Reads'''.Asked,
-  Reads'''.Learnt,
-  Reads'''''.Asked,
-  Reads'''''.Learnt,
-  Reads''.Asked,
-  Reads''.Learnt,
-  Reads''''''.Asked,
-  Reads''''''.Learnt,
-) Reads.Pre Reads.Post
+At-match-came = Lts.At-match-came readings Reads.Pre Reads.Post
 
 abbrev pub After-unexpected : Type 0
-After-unexpected = Lts.After-unexpected (
-  Reads''''.Asked,
-  Reads''''.Learnt,
-  Reads'.Asked,
-  Reads'.Learnt,
-  Reads'''.Asked,
-  Reads'''.Learnt,
-  Reads'''''.Asked,
-  Reads'''''.Learnt,
-  Reads''.Asked,
-  Reads''.Learnt,
-  Reads''''''.Asked,
-  Reads''''''.Learnt,
-) Reads.Pre Reads.Post
+After-unexpected = Lts.After-unexpected readings Reads.Pre Reads.Post
 
 abbrev pub Need-handle-open-requires : Type 0
-Need-handle-open-requires = Lts.Need-handle-open-requires (
-  Reads''''.Asked,
-  Reads''''.Learnt,
-  Reads'.Asked,
-  Reads'.Learnt,
-  Reads'''.Asked,
-  Reads'''.Learnt,
-  Reads'''''.Asked,
-  Reads'''''.Learnt,
-  Reads''.Asked,
-  Reads''.Learnt,
-  Reads''''''.Asked,
-  Reads''''''.Learnt,
-) Reads.Pre Reads.Post
+Need-handle-open-requires = Lts.Need-handle-open-requires readings Reads.Pre Reads.Post
 
 abbrev pub Need-handle-accept-requires : Type 0
-Need-handle-accept-requires = Lts.Need-handle-accept-requires (
-  Reads''''.Asked,
-  Reads''''.Learnt,
-  Reads'.Asked,
-  Reads'.Learnt,
-  Reads'''.Asked,
-  Reads'''.Learnt,
-  Reads'''''.Asked,
-  Reads'''''.Learnt,
-  Reads''.Asked,
-  Reads''.Learnt,
-  Reads''''''.Asked,
-  Reads''''''.Learnt,
-) Reads.Pre Reads.Post
+Need-handle-accept-requires = Lts.Need-handle-accept-requires readings Reads.Pre Reads.Post
 
 abbrev pub Need-handle-data-requires : Type 0
-Need-handle-data-requires = Lts.Need-handle-data-requires (
-  Reads''''.Asked,
-  Reads''''.Learnt,
-  Reads'.Asked,
-  Reads'.Learnt,
-  Reads'''.Asked,
-  Reads'''.Learnt,
-  Reads'''''.Asked,
-  Reads'''''.Learnt,
-  Reads''.Asked,
-  Reads''.Learnt,
-  Reads''''''.Asked,
-  Reads''''''.Learnt,
-) Reads.Pre Reads.Post
+Need-handle-data-requires = Lts.Need-handle-data-requires readings Reads.Pre Reads.Post
 
 abbrev pub Need-handle-window-requires : Type 0
-Need-handle-window-requires = Lts.Need-handle-window-requires (
-  Reads''''.Asked,
-  Reads''''.Learnt,
-  Reads'.Asked,
-  Reads'.Learnt,
-  Reads'''.Asked,
-  Reads'''.Learnt,
-  Reads'''''.Asked,
-  Reads'''''.Learnt,
-  Reads''.Asked,
-  Reads''.Learnt,
-  Reads''''''.Asked,
-  Reads''''''.Learnt,
-) Reads.Pre Reads.Post
+Need-handle-window-requires = Lts.Need-handle-window-requires readings Reads.Pre Reads.Post
 
 abbrev pub Need-handle-close-requires : Type 0
-Need-handle-close-requires = Lts.Need-handle-close-requires (
-  Reads''''.Asked,
-  Reads''''.Learnt,
-  Reads'.Asked,
-  Reads'.Learnt,
-  Reads'''.Asked,
-  Reads'''.Learnt,
-  Reads'''''.Asked,
-  Reads'''''.Learnt,
-  Reads''.Asked,
-  Reads''.Learnt,
-  Reads''''''.Asked,
-  Reads''''''.Learnt,
-) Reads.Pre Reads.Post
+Need-handle-close-requires = Lts.Need-handle-close-requires readings Reads.Pre Reads.Post
 
 abbrev pub Need-unexpected-requires : Type 0
-Need-unexpected-requires = Lts.Need-unexpected-requires (
-  Reads''''.Asked,
-  Reads''''.Learnt,
-  Reads'.Asked,
-  Reads'.Learnt,
-  Reads'''.Asked,
-  Reads'''.Learnt,
-  Reads'''''.Asked,
-  Reads'''''.Learnt,
-  Reads''.Asked,
-  Reads''.Learnt,
-  Reads''''''.Asked,
-  Reads''''''.Learnt,
-) Reads.Pre Reads.Post
+Need-unexpected-requires = Lts.Need-unexpected-requires readings Reads.Pre Reads.Post
 
 abbrev pub Need-same-length : Type 0
-Need-same-length = Lts.Need-same-length (
-  Reads''''.Asked,
-  Reads''''.Learnt,
-  Reads'.Asked,
-  Reads'.Learnt,
-  Reads'''.Asked,
-  Reads'''.Learnt,
-  Reads'''''.Asked,
-  Reads'''''.Learnt,
-  Reads''.Asked,
-  Reads''.Learnt,
-  Reads''''''.Asked,
-  Reads''''''.Learnt,
-) Reads.Pre Reads.Post
+Need-same-length = Lts.Need-same-length readings Reads.Pre Reads.Post
 
 abbrev pub Need-same-length-2 : Type 0
-Need-same-length-2 = Lts.Need-same-length-2 (
-  Reads''''.Asked,
-  Reads''''.Learnt,
-  Reads'.Asked,
-  Reads'.Learnt,
-  Reads'''.Asked,
-  Reads'''.Learnt,
-  Reads'''''.Asked,
-  Reads'''''.Learnt,
-  Reads''.Asked,
-  Reads''.Learnt,
-  Reads''''''.Asked,
-  Reads''''''.Learnt,
-) Reads.Pre Reads.Post
+Need-same-length-2 = Lts.Need-same-length-2 readings Reads.Pre Reads.Post
 
 abbrev pub Need-same-length-3 : Type 0
-Need-same-length-3 = Lts.Need-same-length-3 (
-  Reads''''.Asked,
-  Reads''''.Learnt,
-  Reads'.Asked,
-  Reads'.Learnt,
-  Reads'''.Asked,
-  Reads'''.Learnt,
-  Reads'''''.Asked,
-  Reads'''''.Learnt,
-  Reads''.Asked,
-  Reads''.Learnt,
-  Reads''''''.Asked,
-  Reads''''''.Learnt,
-) Reads.Pre Reads.Post
+Need-same-length-3 = Lts.Need-same-length-3 readings Reads.Pre Reads.Post
 
 abbrev pub Need-same-length-4 : Type 0
-Need-same-length-4 = Lts.Need-same-length-4 (
-  Reads''''.Asked,
-  Reads''''.Learnt,
-  Reads'.Asked,
-  Reads'.Learnt,
-  Reads'''.Asked,
-  Reads'''.Learnt,
-  Reads'''''.Asked,
-  Reads'''''.Learnt,
-  Reads''.Asked,
-  Reads''.Learnt,
-  Reads''''''.Asked,
-  Reads''''''.Learnt,
-) Reads.Pre Reads.Post
+Need-same-length-4 = Lts.Need-same-length-4 readings Reads.Pre Reads.Post
 
 abbrev pub Need-same-length-5 : Type 0
-Need-same-length-5 = Lts.Need-same-length-5 (
-  Reads''''.Asked,
-  Reads''''.Learnt,
-  Reads'.Asked,
-  Reads'.Learnt,
-  Reads'''.Asked,
-  Reads'''.Learnt,
-  Reads'''''.Asked,
-  Reads'''''.Learnt,
-  Reads''.Asked,
-  Reads''.Learnt,
-  Reads''''''.Asked,
-  Reads''''''.Learnt,
-) Reads.Pre Reads.Post
+Need-same-length-5 = Lts.Need-same-length-5 readings Reads.Pre Reads.Post
 
 abbrev pub Need-returns : Type 0
-Need-returns = Lts.Need-returns (
-  Reads''''.Asked,
-  Reads''''.Learnt,
-  Reads'.Asked,
-  Reads'.Learnt,
-  Reads'''.Asked,
-  Reads'''.Learnt,
-  Reads'''''.Asked,
-  Reads'''''.Learnt,
-  Reads''.Asked,
-  Reads''.Learnt,
-  Reads''''''.Asked,
-  Reads''''''.Learnt,
-) Reads.Pre Reads.Post
+Need-returns = Lts.Need-returns readings Reads.Pre Reads.Post
 
 abbrev pub Need-same-length-6 : Type 0
-Need-same-length-6 = Lts.Need-same-length-6 (
-  Reads''''.Asked,
-  Reads''''.Learnt,
-  Reads'.Asked,
-  Reads'.Learnt,
-  Reads'''.Asked,
-  Reads'''.Learnt,
-  Reads'''''.Asked,
-  Reads'''''.Learnt,
-  Reads''.Asked,
-  Reads''.Learnt,
-  Reads''''''.Asked,
-  Reads''''''.Learnt,
-) Reads.Pre Reads.Post
+Need-same-length-6 = Lts.Need-same-length-6 readings Reads.Pre Reads.Post
 
 abbrev pub Need-same-length-7 : Type 0
-Need-same-length-7 = Lts.Need-same-length-7 (
-  Reads''''.Asked,
-  Reads''''.Learnt,
-  Reads'.Asked,
-  Reads'.Learnt,
-  Reads'''.Asked,
-  Reads'''.Learnt,
-  Reads'''''.Asked,
-  Reads'''''.Learnt,
-  Reads''.Asked,
-  Reads''.Learnt,
-  Reads''''''.Asked,
-  Reads''''''.Learnt,
-) Reads.Pre Reads.Post
+Need-same-length-7 = Lts.Need-same-length-7 readings Reads.Pre Reads.Post
 
 abbrev pub Need-same-length-8 : Type 0
-Need-same-length-8 = Lts.Need-same-length-8 (
-  Reads''''.Asked,
-  Reads''''.Learnt,
-  Reads'.Asked,
-  Reads'.Learnt,
-  Reads'''.Asked,
-  Reads'''.Learnt,
-  Reads'''''.Asked,
-  Reads'''''.Learnt,
-  Reads''.Asked,
-  Reads''.Learnt,
-  Reads''''''.Asked,
-  Reads''''''.Learnt,
-) Reads.Pre Reads.Post
+Need-same-length-8 = Lts.Need-same-length-8 readings Reads.Pre Reads.Post
 
 abbrev pub Need-same-length-9 : Type 0
-Need-same-length-9 = Lts.Need-same-length-9 (
-  Reads''''.Asked,
-  Reads''''.Learnt,
-  Reads'.Asked,
-  Reads'.Learnt,
-  Reads'''.Asked,
-  Reads'''.Learnt,
-  Reads'''''.Asked,
-  Reads'''''.Learnt,
-  Reads''.Asked,
-  Reads''.Learnt,
-  Reads''''''.Asked,
-  Reads''''''.Learnt,
-) Reads.Pre Reads.Post
+Need-same-length-9 = Lts.Need-same-length-9 readings Reads.Pre Reads.Post
 
 abbrev pub Need-returns-2 : Type 0
-Need-returns-2 = Lts.Need-returns-2 (
-  Reads''''.Asked,
-  Reads''''.Learnt,
-  Reads'.Asked,
-  Reads'.Learnt,
-  Reads'''.Asked,
-  Reads'''.Learnt,
-  Reads'''''.Asked,
-  Reads'''''.Learnt,
-  Reads''.Asked,
-  Reads''.Learnt,
-  Reads''''''.Asked,
-  Reads''''''.Learnt,
-) Reads.Pre Reads.Post
+Need-returns-2 = Lts.Need-returns-2 readings Reads.Pre Reads.Post
 
 abbrev pub Need-same-length-10 : Type 0
-Need-same-length-10 = Lts.Need-same-length-10 (
-  Reads''''.Asked,
-  Reads''''.Learnt,
-  Reads'.Asked,
-  Reads'.Learnt,
-  Reads'''.Asked,
-  Reads'''.Learnt,
-  Reads'''''.Asked,
-  Reads'''''.Learnt,
-  Reads''.Asked,
-  Reads''.Learnt,
-  Reads''''''.Asked,
-  Reads''''''.Learnt,
-) Reads.Pre Reads.Post
+Need-same-length-10 = Lts.Need-same-length-10 readings Reads.Pre Reads.Post
 
 abbrev pub Need-same-length-11 : Type 0
-Need-same-length-11 = Lts.Need-same-length-11 (
-  Reads''''.Asked,
-  Reads''''.Learnt,
-  Reads'.Asked,
-  Reads'.Learnt,
-  Reads'''.Asked,
-  Reads'''.Learnt,
-  Reads'''''.Asked,
-  Reads'''''.Learnt,
-  Reads''.Asked,
-  Reads''.Learnt,
-  Reads''''''.Asked,
-  Reads''''''.Learnt,
-) Reads.Pre Reads.Post
+Need-same-length-11 = Lts.Need-same-length-11 readings Reads.Pre Reads.Post
 
 abbrev pub Need-same-length-12 : Type 0
-Need-same-length-12 = Lts.Need-same-length-12 (
-  Reads''''.Asked,
-  Reads''''.Learnt,
-  Reads'.Asked,
-  Reads'.Learnt,
-  Reads'''.Asked,
-  Reads'''.Learnt,
-  Reads'''''.Asked,
-  Reads'''''.Learnt,
-  Reads''.Asked,
-  Reads''.Learnt,
-  Reads''''''.Asked,
-  Reads''''''.Learnt,
-) Reads.Pre Reads.Post
+Need-same-length-12 = Lts.Need-same-length-12 readings Reads.Pre Reads.Post
 
 abbrev pub Need-same-length-13 : Type 0
-Need-same-length-13 = Lts.Need-same-length-13 (
-  Reads''''.Asked,
-  Reads''''.Learnt,
-  Reads'.Asked,
-  Reads'.Learnt,
-  Reads'''.Asked,
-  Reads'''.Learnt,
-  Reads'''''.Asked,
-  Reads'''''.Learnt,
-  Reads''.Asked,
-  Reads''.Learnt,
-  Reads''''''.Asked,
-  Reads''''''.Learnt,
-) Reads.Pre Reads.Post
+Need-same-length-13 = Lts.Need-same-length-13 readings Reads.Pre Reads.Post
 
 abbrev pub Need-returns-3 : Type 0
-Need-returns-3 = Lts.Need-returns-3 (
-  Reads''''.Asked,
-  Reads''''.Learnt,
-  Reads'.Asked,
-  Reads'.Learnt,
-  Reads'''.Asked,
-  Reads'''.Learnt,
-  Reads'''''.Asked,
-  Reads'''''.Learnt,
-  Reads''.Asked,
-  Reads''.Learnt,
-  Reads''''''.Asked,
-  Reads''''''.Learnt,
-) Reads.Pre Reads.Post
+Need-returns-3 = Lts.Need-returns-3 readings Reads.Pre Reads.Post
 
 abbrev pub Need-same-length-14 : Type 0
-Need-same-length-14 = Lts.Need-same-length-14 (
-  Reads''''.Asked,
-  Reads''''.Learnt,
-  Reads'.Asked,
-  Reads'.Learnt,
-  Reads'''.Asked,
-  Reads'''.Learnt,
-  Reads'''''.Asked,
-  Reads'''''.Learnt,
-  Reads''.Asked,
-  Reads''.Learnt,
-  Reads''''''.Asked,
-  Reads''''''.Learnt,
-) Reads.Pre Reads.Post
+Need-same-length-14 = Lts.Need-same-length-14 readings Reads.Pre Reads.Post
 
 abbrev pub Need-same-length-15 : Type 0
-Need-same-length-15 = Lts.Need-same-length-15 (
-  Reads''''.Asked,
-  Reads''''.Learnt,
-  Reads'.Asked,
-  Reads'.Learnt,
-  Reads'''.Asked,
-  Reads'''.Learnt,
-  Reads'''''.Asked,
-  Reads'''''.Learnt,
-  Reads''.Asked,
-  Reads''.Learnt,
-  Reads''''''.Asked,
-  Reads''''''.Learnt,
-) Reads.Pre Reads.Post
+Need-same-length-15 = Lts.Need-same-length-15 readings Reads.Pre Reads.Post
 
 abbrev pub Need-same-length-16 : Type 0
-Need-same-length-16 = Lts.Need-same-length-16 (
-  Reads''''.Asked,
-  Reads''''.Learnt,
-  Reads'.Asked,
-  Reads'.Learnt,
-  Reads'''.Asked,
-  Reads'''.Learnt,
-  Reads'''''.Asked,
-  Reads'''''.Learnt,
-  Reads''.Asked,
-  Reads''.Learnt,
-  Reads''''''.Asked,
-  Reads''''''.Learnt,
-) Reads.Pre Reads.Post
+Need-same-length-16 = Lts.Need-same-length-16 readings Reads.Pre Reads.Post
 
 abbrev pub Need-returns-4 : Type 0
-Need-returns-4 = Lts.Need-returns-4 (
-  Reads''''.Asked,
-  Reads''''.Learnt,
-  Reads'.Asked,
-  Reads'.Learnt,
-  Reads'''.Asked,
-  Reads'''.Learnt,
-  Reads'''''.Asked,
-  Reads'''''.Learnt,
-  Reads''.Asked,
-  Reads''.Learnt,
-  Reads''''''.Asked,
-  Reads''''''.Learnt,
-) Reads.Pre Reads.Post
+Need-returns-4 = Lts.Need-returns-4 readings Reads.Pre Reads.Post
 
 abbrev pub Need-same-length-17 : Type 0
-Need-same-length-17 = Lts.Need-same-length-17 (
-  Reads''''.Asked,
-  Reads''''.Learnt,
-  Reads'.Asked,
-  Reads'.Learnt,
-  Reads'''.Asked,
-  Reads'''.Learnt,
-  Reads'''''.Asked,
-  Reads'''''.Learnt,
-  Reads''.Asked,
-  Reads''.Learnt,
-  Reads''''''.Asked,
-  Reads''''''.Learnt,
-) Reads.Pre Reads.Post
+Need-same-length-17 = Lts.Need-same-length-17 readings Reads.Pre Reads.Post
 
 abbrev pub Need-same-length-18 : Type 0
-Need-same-length-18 = Lts.Need-same-length-18 (
-  Reads''''.Asked,
-  Reads''''.Learnt,
-  Reads'.Asked,
-  Reads'.Learnt,
-  Reads'''.Asked,
-  Reads'''.Learnt,
-  Reads'''''.Asked,
-  Reads'''''.Learnt,
-  Reads''.Asked,
-  Reads''.Learnt,
-  Reads''''''.Asked,
-  Reads''''''.Learnt,
-) Reads.Pre Reads.Post
+Need-same-length-18 = Lts.Need-same-length-18 readings Reads.Pre Reads.Post
 
 abbrev pub Need-same-length-19 : Type 0
-Need-same-length-19 = Lts.Need-same-length-19 (
-  Reads''''.Asked,
-  Reads''''.Learnt,
-  Reads'.Asked,
-  Reads'.Learnt,
-  Reads'''.Asked,
-  Reads'''.Learnt,
-  Reads'''''.Asked,
-  Reads'''''.Learnt,
-  Reads''.Asked,
-  Reads''.Learnt,
-  Reads''''''.Asked,
-  Reads''''''.Learnt,
-) Reads.Pre Reads.Post
+Need-same-length-19 = Lts.Need-same-length-19 readings Reads.Pre Reads.Post
 
 abbrev pub Need-same-length-20 : Type 0
-Need-same-length-20 = Lts.Need-same-length-20 (
-  Reads''''.Asked,
-  Reads''''.Learnt,
-  Reads'.Asked,
-  Reads'.Learnt,
-  Reads'''.Asked,
-  Reads'''.Learnt,
-  Reads'''''.Asked,
-  Reads'''''.Learnt,
-  Reads''.Asked,
-  Reads''.Learnt,
-  Reads''''''.Asked,
-  Reads''''''.Learnt,
-) Reads.Pre Reads.Post
+Need-same-length-20 = Lts.Need-same-length-20 readings Reads.Pre Reads.Post
 
 abbrev pub Need-returns-5 : Type 0
-Need-returns-5 = Lts.Need-returns-5 (
-  Reads''''.Asked,
-  Reads''''.Learnt,
-  Reads'.Asked,
-  Reads'.Learnt,
-  Reads'''.Asked,
-  Reads'''.Learnt,
-  Reads'''''.Asked,
-  Reads'''''.Learnt,
-  Reads''.Asked,
-  Reads''.Learnt,
-  Reads''''''.Asked,
-  Reads''''''.Learnt,
-) Reads.Pre Reads.Post
+Need-returns-5 = Lts.Need-returns-5 readings Reads.Pre Reads.Post
 
 abbrev pub Need-returns-6 : Type 0
-Need-returns-6 = Lts.Need-returns-6 (
-  Reads''''.Asked,
-  Reads''''.Learnt,
-  Reads'.Asked,
-  Reads'.Learnt,
-  Reads'''.Asked,
-  Reads'''.Learnt,
-  Reads'''''.Asked,
-  Reads'''''.Learnt,
-  Reads''.Asked,
-  Reads''.Learnt,
-  Reads''''''.Asked,
-  Reads''''''.Learnt,
-) Reads.Pre Reads.Post
+Need-returns-6 = Lts.Need-returns-6 readings Reads.Pre Reads.Post
 
 module _ {M : Type 1} where
-  pub spec : (answer : Need-handle-open-requires) → (answer : Need-handle-accept-requires) → (answer : Need-handle-data-requires) → (answer :
-      Need-handle-window-requires) → (answer : Need-handle-close-requires) → (answer : Need-unexpected-requires) → (answer : Need-same-length) →
-      (answer : Need-same-length-2) → (answer : Need-same-length-3) → (answer : Need-same-length-4) → (answer : Need-same-length-5) → (answer :
-      Need-returns) → (answer : Need-same-length-6) → (answer : Need-same-length-7) → (answer : Need-same-length-8) → (answer : Need-same-length-9) →
-      (answer : Need-returns-2) → (answer : Need-same-length-10) → (answer : Need-same-length-11) → (answer : Need-same-length-12) → (answer :
-      Need-same-length-13) → (answer : Need-returns-3) → (answer : Need-same-length-14) → (answer : Need-same-length-15) → (answer :
-      Need-same-length-16) → (answer : Need-returns-4) → (answer : Need-same-length-17) → (answer : Need-same-length-18) → (answer :
-      Need-same-length-19) → (answer : Need-same-length-20) → (answer : Need-returns-5) → (answer : Need-returns-6) → Lts.Closed (
-        Reads''''.Asked,
-        Reads''''.Learnt,
-        Reads'.Asked,
-        Reads'.Learnt,
-        Reads'''.Asked,
-        Reads'''.Learnt,
-        Reads'''''.Asked,
-        Reads'''''.Learnt,
-        Reads''.Asked,
-        Reads''.Learnt,
-        Reads''''''.Asked,
-        Reads''''''.Learnt,
-      ) Reads.Pre Reads.Post M
-  spec = λ answer answer' answer'' answer'3 answer'4 answer'5 answer'6 answer'7 answer'8 answer'9 answer'10 answer'11 answer'12 answer'13 answer'14
-      answer'15 answer'16 answer'17 answer'18 answer'19 answer'20 answer'21 answer'22 answer'23 answer'24 answer'25 answer'26 answer'27 answer'28
-      answer'29 answer'30 answer'31. Lts.spec (
-        Reads''''.Asked,
-        Reads''''.Learnt,
-        Reads'.Asked,
-        Reads'.Learnt,
-        Reads'''.Asked,
-        Reads'''.Learnt,
-        Reads'''''.Asked,
-        Reads'''''.Learnt,
-        Reads''.Asked,
-        Reads''.Learnt,
-        Reads''''''.Asked,
-        Reads''''''.Learnt,
-      ) Reads.Pre Reads.Post answer answer'
-      answer'' answer'3 answer'4 answer'5 answer'6 answer'7 answer'8 answer'9 answer'10 answer'11 answer'12 answer'13 answer'14 answer'15 answer'16
-      answer'17 answer'18 answer'19 answer'20 answer'21 answer'22 answer'23 answer'24 answer'25 answer'26 answer'27 answer'28 answer'29 answer'30
-      answer'31
+  pub spec : (answer : Need-handle-open-requires) → (answer : Need-handle-accept-requires) →
+      (answer : Need-handle-data-requires) → (answer : Need-handle-window-requires) →
+      (answer : Need-handle-close-requires) → (answer : Need-unexpected-requires) → (answer : Need-same-length) →
+      (answer : Need-same-length-2) → (answer : Need-same-length-3) → (answer : Need-same-length-4) →
+      (answer : Need-same-length-5) → (answer : Need-returns) → (answer : Need-same-length-6) →
+      (answer : Need-same-length-7) → (answer : Need-same-length-8) → (answer : Need-same-length-9) →
+      (answer : Need-returns-2) → (answer : Need-same-length-10) → (answer : Need-same-length-11) →
+      (answer : Need-same-length-12) → (answer : Need-same-length-13) → (answer : Need-returns-3) →
+      (answer : Need-same-length-14) → (answer : Need-same-length-15) → (answer : Need-same-length-16) →
+      (answer : Need-returns-4) → (answer : Need-same-length-17) → (answer : Need-same-length-18) →
+      (answer : Need-same-length-19) → (answer : Need-same-length-20) → (answer : Need-returns-5) →
+      (answer : Need-returns-6) → Lts.Closed readings Reads.Pre Reads.Post M
+  spec = λ answer answer' answer'' answer'3 answer'4 answer'5 answer'6 answer'7 answer'8 answer'9 answer'10 answer'11
+      answer'12 answer'13 answer'14 answer'15 answer'16 answer'17 answer'18 answer'19 answer'20 answer'21 answer'22
+      answer'23 answer'24 answer'25 answer'26 answer'27 answer'28 answer'29 answer'30 answer'31. Lts.spec readings
+      Reads.Pre Reads.Post answer answer' answer'' answer'3 answer'4 answer'5 answer'6 answer'7 answer'8 answer'9
+      answer'10 answer'11 answer'12 answer'13 answer'14 answer'15 answer'16 answer'17 answer'18 answer'19 answer'20
+      answer'21 answer'22 answer'23 answer'24 answer'25 answer'26 answer'27 answer'28 answer'29 answer'30 answer'31
 
-  pub close : Lts.Closed (
-    Reads''''.Asked,
-    Reads''''.Learnt,
-    Reads'.Asked,
-    Reads'.Learnt,
-    Reads'''.Asked,
-    Reads'''.Learnt,
-    Reads'''''.Asked,
-    Reads'''''.Learnt,
-    Reads''.Asked,
-    Reads''.Learnt,
-    Reads''''''.Asked,
-    Reads''''''.Learnt,
-  ) Reads.Pre Reads.Post M → Statement.statement M
+  pub close : Lts.Closed readings Reads.Pre Reads.Post M → Statement.statement M
   unfolding Code.routine Running.tablesOf
-  close = λ closed 𝓤 H 𝓜 𝓖 𝓡. Written.close 9 Kinds.ps Kinds.r Reads.Ghost Reads.requires Reads.ensures Reads.pre-read Reads.Pinned Reads.Owned
-      Reads.post-read record { M = M; 𝓤 = 𝓤; H = H; 𝓜 = 𝓜; 𝓖 = 𝓖; 𝓡 = 𝓡 } Code.env Key.name Code.function (Code.unfolded 𝓤 H 𝓜 𝓡) (λ κs a g. tt) (λ
-      κs. Reads.owns κs record { M = M; 𝓤 = 𝓤; H = H; 𝓜 = 𝓜; 𝓖 = 𝓖; 𝓡 = 𝓡 }) (Reads.passes record { M = M; 𝓤 = 𝓤; H = H; 𝓜 = 𝓜; 𝓖 = 𝓖; 𝓡 = 𝓡 }) λ g.
-      closed 𝓤 H (𝓖 .A) (Running.givenOf 𝓤 H 𝓜 𝓖) (Run.Over 𝓤 H 𝓜 𝓖 𝓡 Code.env) (Reads''''.known record { M = M; 𝓤 = 𝓤; H = H; 𝓜 = 𝓜; 𝓖 = 𝓖; 𝓡 = 𝓡 }
-      Code.env Symbol''''.name Symbol''''.routine Code.calls-hnsr-circuit·handle-open·handle-open (Met''''.met 𝓤 H 𝓜 𝓖 𝓡)) (Reads'.known record {
-        M =
-            M;
-        𝓤 = 𝓤;
-        H = H;
-        𝓜 = 𝓜;
-        𝓖 = 𝓖;
-        𝓡 = 𝓡;
-      } Code.env Symbol'.name Symbol'.routine Code.calls-hnsr-circuit·handle-accept·handle-accept (Met'.met 𝓤 H 𝓜
-      𝓖 𝓡)) (Reads'''.known record { M = M; 𝓤 = 𝓤; H = H; 𝓜 = 𝓜; 𝓖 = 𝓖; 𝓡 = 𝓡 } Code.env Symbol'''.name Symbol'''.routine
-      Code.calls-hnsr-circuit·handle-data·handle-data (Met'''.met 𝓤 H 𝓜 𝓖 𝓡)) (Reads'''''.known record { M = M; 𝓤 = 𝓤; H = H; 𝓜 = 𝓜; 𝓖 = 𝓖; 𝓡 = 𝓡 }
-      Code.env Symbol'''''.name Symbol'''''.routine Code.calls-hnsr-circuit·handle-window·handle-window (Met'''''.met 𝓤 H 𝓜 𝓖 𝓡)) (Reads''.known
-      record { M = M; 𝓤 = 𝓤; H = H; 𝓜 = 𝓜; 𝓖 = 𝓖; 𝓡 = 𝓡 } Code.env Symbol''.name Symbol''.routine Code.calls-hnsr-circuit·handle-close·handle-close
-      (Met''.met 𝓤 H 𝓜 𝓖 𝓡)) (Reads''''''.known record { M = M; 𝓤 = 𝓤; H = H; 𝓜 = 𝓜; 𝓖 = 𝓖; 𝓡 = 𝓡 } Code.env Symbol.name Symbol.routine
+  close = λ closed 𝓤 H 𝓜 𝓖 𝓡. Written.close 9 Kinds.ps Kinds.r Reads.Ghost Reads.requires Reads.ensures Reads.pre-read
+      Reads.Pinned Reads.Owned Reads.post-read record { M = M; 𝓤 = 𝓤; H = H; 𝓜 = 𝓜; 𝓖 = 𝓖; 𝓡 = 𝓡 } Code.env Key.name
+      Code.function (Code.unfolded 𝓤 H 𝓜 𝓡) (λ κs a g. tt) (λ κs. Reads.owns κs
+      record { M = M; 𝓤 = 𝓤; H = H; 𝓜 = 𝓜; 𝓖 = 𝓖; 𝓡 = 𝓡 }) (Reads.passes
+      record { M = M; 𝓤 = 𝓤; H = H; 𝓜 = 𝓜; 𝓖 = 𝓖; 𝓡 = 𝓡 }) λ g. closed 𝓤 H (𝓖 .A) (Running.givenOf 𝓤 H 𝓜 𝓖)
+      (Run.Over 𝓤 H 𝓜 𝓖 𝓡 Code.env) (Reads''''.known record { M = M; 𝓤 = 𝓤; H = H; 𝓜 = 𝓜; 𝓖 = 𝓖; 𝓡 = 𝓡 } Code.env
+      Symbol''''.name Symbol''''.routine Code.calls-hnsr-circuit·handle-open·handle-open (Met''''.met 𝓤 H 𝓜 𝓖 𝓡)) (Reads'.known
+      record { M = M; 𝓤 = 𝓤; H = H; 𝓜 = 𝓜; 𝓖 = 𝓖; 𝓡 = 𝓡 } Code.env Symbol'.name Symbol'.routine
+      Code.calls-hnsr-circuit·handle-accept·handle-accept (Met'.met 𝓤 H 𝓜 𝓖 𝓡)) (Reads'''.known
+      record { M = M; 𝓤 = 𝓤; H = H; 𝓜 = 𝓜; 𝓖 = 𝓖; 𝓡 = 𝓡 } Code.env Symbol'''.name Symbol'''.routine
+      Code.calls-hnsr-circuit·handle-data·handle-data (Met'''.met 𝓤 H 𝓜 𝓖 𝓡)) (Reads'''''.known
+      record { M = M; 𝓤 = 𝓤; H = H; 𝓜 = 𝓜; 𝓖 = 𝓖; 𝓡 = 𝓡 } Code.env Symbol'''''.name Symbol'''''.routine
+      Code.calls-hnsr-circuit·handle-window·handle-window (Met'''''.met 𝓤 H 𝓜 𝓖 𝓡)) (Reads''.known
+      record { M = M; 𝓤 = 𝓤; H = H; 𝓜 = 𝓜; 𝓖 = 𝓖; 𝓡 = 𝓡 } Code.env Symbol''.name Symbol''.routine
+      Code.calls-hnsr-circuit·handle-close·handle-close (Met''.met 𝓤 H 𝓜 𝓖 𝓡)) (Reads''''''.known
+      record { M = M; 𝓤 = 𝓤; H = H; 𝓜 = 𝓜; 𝓖 = 𝓖; 𝓡 = 𝓡 } Code.env Symbol.name Symbol.routine
       Code.calls-hnsr-circuit·handle·unexpected (Met.met 𝓤 H 𝓜 𝓖 𝓡))

@@ -30,8 +30,8 @@ use borrow.Fn.Run
 use borrow.Fn.Written
 use contract.Running
 
-abbrev pub Start : Type 0
-Start = Lts.Start (
+abbrev pub readings : Lts.Claims
+readings = (
   Reads'''''''.Asked,
   Reads'''''''.Learnt,
   Reads'''''.Asked,
@@ -46,402 +46,88 @@ Start = Lts.Start (
   Reads''.Learnt,
   Reads''''.Asked,
   Reads''''.Learnt,
-) Reads.Pre Reads.Post
+)
+
+abbrev pub Start : Type 0
+Start = Lts.Start readings Reads.Pre Reads.Post
 
 abbrev pub After-shared-slice-known : Type 0
-After-shared-slice-known = Lts.After-shared-slice-known (
-  Reads'''''''.Asked,
-  Reads'''''''.Learnt,
-  Reads'''''.Asked,
-  Reads'''''.Learnt,
-  Reads'''.Asked,
-  Reads'''.Learnt,
-  Reads'.Asked,
-  Reads'.Learnt,
-  Reads''''''.Asked,
-  Reads''''''.Learnt,
-  Reads''.Asked,
-  Reads''.Learnt,
-  Reads''''.Asked,
-  Reads''''.Learnt,
-) Reads.Pre Reads.Post
+After-shared-slice-known = Lts.After-shared-slice-known readings Reads.Pre Reads.Post
 
 abbrev pub After-peer-of : Type 0
-After-peer-of = Lts.After-peer-of (
-  Reads'''''''.Asked,
-  Reads'''''''.Learnt,
-  Reads'''''.Asked,
-  Reads'''''.Learnt,
-  Reads'''.Asked,
-  Reads'''.Learnt,
-  Reads'.Asked,
-  Reads'.Learnt,
-  Reads''''''.Asked,
-  Reads''''''.Learnt,
-  Reads''.Asked,
-  Reads''.Learnt,
-  Reads''''.Asked,
-  Reads''''.Learnt,
-) Reads.Pre
-    Reads.Post
+After-peer-of = Lts.After-peer-of readings Reads.Pre Reads.Post
 
 abbrev pub After-accept-work : Type 0
-After-accept-work = Lts.After-accept-work (
-  Reads'''''''.Asked,
-  Reads'''''''.Learnt,
-  Reads'''''.Asked,
-  Reads'''''.Learnt,
-  Reads'''.Asked,
-  Reads'''.Learnt,
-  Reads'.Asked,
-  Reads'.Learnt,
-  Reads''''''.Asked,
-  Reads''''''.Learnt,
-  Reads''.Asked,
-  Reads''.Learnt,
-  Reads''''.Asked,
-  Reads''''.Learnt,
-) Reads.Pre Reads.Post
+After-accept-work = Lts.After-accept-work readings Reads.Pre Reads.Post
 
 abbrev pub After-pending-work : Type 0
-After-pending-work = Lts.After-pending-work (
-  Reads'''''''.Asked,
-  Reads'''''''.Learnt,
-  Reads'''''.Asked,
-  Reads'''''.Learnt,
-  Reads'''.Asked,
-  Reads'''.Learnt,
-  Reads'.Asked,
-  Reads'.Learnt,
-  Reads''''''.Asked,
-  Reads''''''.Learnt,
-  Reads''.Asked,
-  Reads''.Learnt,
-  Reads''''.Asked,
-  Reads''''.Learnt,
-) Reads.Pre Reads.Post
+After-pending-work = Lts.After-pending-work readings Reads.Pre Reads.Post
 
 abbrev pub After-circuit-work : Type 0
-After-circuit-work = Lts.After-circuit-work (
-  Reads'''''''.Asked,
-  Reads'''''''.Learnt,
-  Reads'''''.Asked,
-  Reads'''''.Learnt,
-  Reads'''.Asked,
-  Reads'''.Learnt,
-  Reads'.Asked,
-  Reads'.Learnt,
-  Reads''''''.Asked,
-  Reads''''''.Learnt,
-  Reads''.Asked,
-  Reads''.Learnt,
-  Reads''''.Asked,
-  Reads''''.Learnt,
-) Reads.Pre Reads.Post
+After-circuit-work = Lts.After-circuit-work readings Reads.Pre Reads.Post
 
 abbrev pub After-replacing : Type 0
-After-replacing = Lts.After-replacing (
-  Reads'''''''.Asked,
-  Reads'''''''.Learnt,
-  Reads'''''.Asked,
-  Reads'''''.Learnt,
-  Reads'''.Asked,
-  Reads'''.Learnt,
-  Reads'.Asked,
-  Reads'.Learnt,
-  Reads''''''.Asked,
-  Reads''''''.Learnt,
-  Reads''.Asked,
-  Reads''.Learnt,
-  Reads''''.Asked,
-  Reads''''.Learnt,
-) Reads.Pre
-    Reads.Post
+After-replacing = Lts.After-replacing readings Reads.Pre Reads.Post
 
 abbrev pub After-scan-actions : Type 0
-After-scan-actions = Lts.After-scan-actions (
-  Reads'''''''.Asked,
-  Reads'''''''.Learnt,
-  Reads'''''.Asked,
-  Reads'''''.Learnt,
-  Reads'''.Asked,
-  Reads'''.Learnt,
-  Reads'.Asked,
-  Reads'.Learnt,
-  Reads''''''.Asked,
-  Reads''''''.Learnt,
-  Reads''.Asked,
-  Reads''.Learnt,
-  Reads''''.Asked,
-  Reads''''.Learnt,
-) Reads.Pre Reads.Post
+After-scan-actions = Lts.After-scan-actions readings Reads.Pre Reads.Post
 
 abbrev pub After-tally : Type 0
-After-tally = Lts.After-tally (
-  Reads'''''''.Asked,
-  Reads'''''''.Learnt,
-  Reads'''''.Asked,
-  Reads'''''.Learnt,
-  Reads'''.Asked,
-  Reads'''.Learnt,
-  Reads'.Asked,
-  Reads'.Learnt,
-  Reads''''''.Asked,
-  Reads''''''.Learnt,
-  Reads''.Asked,
-  Reads''.Learnt,
-  Reads''''.Asked,
-  Reads''''.Learnt,
-) Reads.Pre
-    Reads.Post
+After-tally = Lts.After-tally readings Reads.Pre Reads.Post
 
 abbrev pub After-accept-rows : Type 0
-After-accept-rows = Lts.After-accept-rows (
-  Reads'''''''.Asked,
-  Reads'''''''.Learnt,
-  Reads'''''.Asked,
-  Reads'''''.Learnt,
-  Reads'''.Asked,
-  Reads'''.Learnt,
-  Reads'.Asked,
-  Reads'.Learnt,
-  Reads''''''.Asked,
-  Reads''''''.Learnt,
-  Reads''.Asked,
-  Reads''.Learnt,
-  Reads''''.Asked,
-  Reads''''.Learnt,
-) Reads.Pre Reads.Post
+After-accept-rows = Lts.After-accept-rows readings Reads.Pre Reads.Post
 
 abbrev pub Need-peer-of-requires : Type 0
-Need-peer-of-requires = Lts.Need-peer-of-requires (
-  Reads'''''''.Asked,
-  Reads'''''''.Learnt,
-  Reads'''''.Asked,
-  Reads'''''.Learnt,
-  Reads'''.Asked,
-  Reads'''.Learnt,
-  Reads'.Asked,
-  Reads'.Learnt,
-  Reads''''''.Asked,
-  Reads''''''.Learnt,
-  Reads''.Asked,
-  Reads''.Learnt,
-  Reads''''.Asked,
-  Reads''''.Learnt,
-) Reads.Pre Reads.Post
+Need-peer-of-requires = Lts.Need-peer-of-requires readings Reads.Pre Reads.Post
 
 abbrev pub Need-accept-work-requires : Type 0
-Need-accept-work-requires = Lts.Need-accept-work-requires (
-  Reads'''''''.Asked,
-  Reads'''''''.Learnt,
-  Reads'''''.Asked,
-  Reads'''''.Learnt,
-  Reads'''.Asked,
-  Reads'''.Learnt,
-  Reads'.Asked,
-  Reads'.Learnt,
-  Reads''''''.Asked,
-  Reads''''''.Learnt,
-  Reads''.Asked,
-  Reads''.Learnt,
-  Reads''''.Asked,
-  Reads''''.Learnt,
-) Reads.Pre Reads.Post
+Need-accept-work-requires = Lts.Need-accept-work-requires readings Reads.Pre Reads.Post
 
 abbrev pub Need-pending-work-requires : Type 0
-Need-pending-work-requires = Lts.Need-pending-work-requires (
-  Reads'''''''.Asked,
-  Reads'''''''.Learnt,
-  Reads'''''.Asked,
-  Reads'''''.Learnt,
-  Reads'''.Asked,
-  Reads'''.Learnt,
-  Reads'.Asked,
-  Reads'.Learnt,
-  Reads''''''.Asked,
-  Reads''''''.Learnt,
-  Reads''.Asked,
-  Reads''.Learnt,
-  Reads''''.Asked,
-  Reads''''.Learnt,
-) Reads.Pre Reads.Post
+Need-pending-work-requires = Lts.Need-pending-work-requires readings Reads.Pre Reads.Post
 
 abbrev pub Need-circuit-work-requires : Type 0
-Need-circuit-work-requires = Lts.Need-circuit-work-requires (
-  Reads'''''''.Asked,
-  Reads'''''''.Learnt,
-  Reads'''''.Asked,
-  Reads'''''.Learnt,
-  Reads'''.Asked,
-  Reads'''.Learnt,
-  Reads'.Asked,
-  Reads'.Learnt,
-  Reads''''''.Asked,
-  Reads''''''.Learnt,
-  Reads''.Asked,
-  Reads''.Learnt,
-  Reads''''.Asked,
-  Reads''''.Learnt,
-) Reads.Pre Reads.Post
+Need-circuit-work-requires = Lts.Need-circuit-work-requires readings Reads.Pre Reads.Post
 
 abbrev pub Need-replacing-requires : Type 0
-Need-replacing-requires = Lts.Need-replacing-requires (
-  Reads'''''''.Asked,
-  Reads'''''''.Learnt,
-  Reads'''''.Asked,
-  Reads'''''.Learnt,
-  Reads'''.Asked,
-  Reads'''.Learnt,
-  Reads'.Asked,
-  Reads'.Learnt,
-  Reads''''''.Asked,
-  Reads''''''.Learnt,
-  Reads''.Asked,
-  Reads''.Learnt,
-  Reads''''.Asked,
-  Reads''''.Learnt,
-) Reads.Pre Reads.Post
+Need-replacing-requires = Lts.Need-replacing-requires readings Reads.Pre Reads.Post
 
 abbrev pub Need-scan-actions-requires : Type 0
-Need-scan-actions-requires = Lts.Need-scan-actions-requires (
-  Reads'''''''.Asked,
-  Reads'''''''.Learnt,
-  Reads'''''.Asked,
-  Reads'''''.Learnt,
-  Reads'''.Asked,
-  Reads'''.Learnt,
-  Reads'.Asked,
-  Reads'.Learnt,
-  Reads''''''.Asked,
-  Reads''''''.Learnt,
-  Reads''.Asked,
-  Reads''.Learnt,
-  Reads''''.Asked,
-  Reads''''.Learnt,
-) Reads.Pre Reads.Post
+Need-scan-actions-requires = Lts.Need-scan-actions-requires readings Reads.Pre Reads.Post
 
 abbrev pub Need-accept-rows-requires : Type 0
-Need-accept-rows-requires = Lts.Need-accept-rows-requires (
-  Reads'''''''.Asked,
-  Reads'''''''.Learnt,
-  Reads'''''.Asked,
-  Reads'''''.Learnt,
-  Reads'''.Asked,
-  Reads'''.Learnt,
-  Reads'.Asked,
-  Reads'.Learnt,
-  Reads''''''.Asked,
-  Reads''''''.Learnt,
-  Reads''.Asked,
-  Reads''.Learnt,
-  Reads''''.Asked,
-  Reads''''.Learnt,
-) Reads.Pre Reads.Post
+Need-accept-rows-requires = Lts.Need-accept-rows-requires readings Reads.Pre Reads.Post
 
 abbrev pub Need-returns : Type 0
-Need-returns = Lts.Need-returns (
-  Reads'''''''.Asked,
-  Reads'''''''.Learnt,
-  Reads'''''.Asked,
-  Reads'''''.Learnt,
-  Reads'''.Asked,
-  Reads'''.Learnt,
-  Reads'.Asked,
-  Reads'.Learnt,
-  Reads''''''.Asked,
-  Reads''''''.Learnt,
-  Reads''.Asked,
-  Reads''.Learnt,
-  Reads''''.Asked,
-  Reads''''.Learnt,
-) Reads.Pre
-    Reads.Post
+Need-returns = Lts.Need-returns readings Reads.Pre Reads.Post
 
 module _ {M : Type 1} where
-  pub spec : (answer : Need-peer-of-requires) → (answer : Need-accept-work-requires) → (answer : Need-pending-work-requires) → (answer :
-      Need-circuit-work-requires) → (answer : Need-replacing-requires) → (answer : Need-scan-actions-requires) → (answer : Need-accept-rows-requires)
-      → (answer : Need-returns) → Lts.Closed (
-        Reads'''''''.Asked,
-        Reads'''''''.Learnt,
-        Reads'''''.Asked,
-        Reads'''''.Learnt,
-        Reads'''.Asked,
-        Reads'''.Learnt,
-        Reads'.Asked,
-        Reads'.Learnt,
-        Reads''''''.Asked,
-        Reads''''''.Learnt,
-        Reads''.Asked,
-        Reads''.Learnt,
-        Reads''''.Asked,
-        Reads''''.Learnt,
-      ) Reads.Pre Reads.Post M
-  spec = λ answer answer' answer'' answer'3 answer'4 answer'5 answer'6 answer'7. Lts.spec (
-    Reads'''''''.Asked,
-    Reads'''''''.Learnt,
-    Reads'''''.Asked,
-    Reads'''''.Learnt,
-    Reads'''.Asked,
-    Reads'''.Learnt,
-    Reads'.Asked,
-    Reads'.Learnt,
-    Reads''''''.Asked,
-    Reads''''''.Learnt,
-    Reads''.Asked,
-    Reads''.Learnt,
-    Reads''''.Asked,
-    Reads''''.Learnt,
-  ) Reads.Pre Reads.Post answer answer' answer'' answer'3 answer'4 answer'5 answer'6 answer'7
+  pub spec : (answer : Need-peer-of-requires) → (answer : Need-accept-work-requires) →
+      (answer : Need-pending-work-requires) → (answer : Need-circuit-work-requires) →
+      (answer : Need-replacing-requires) → (answer : Need-scan-actions-requires) → (answer : Need-accept-rows-requires)
+      → (answer : Need-returns) → Lts.Closed readings Reads.Pre Reads.Post M
+  spec = λ answer answer' answer'' answer'3 answer'4 answer'5 answer'6 answer'7. Lts.spec readings Reads.Pre Reads.Post
+      answer answer' answer'' answer'3 answer'4 answer'5 answer'6 answer'7
 
-  pub close : Lts.Closed (
-    Reads'''''''.Asked,
-    Reads'''''''.Learnt,
-    Reads'''''.Asked,
-    Reads'''''.Learnt,
-    Reads'''.Asked,
-    Reads'''.Learnt,
-    Reads'.Asked,
-    Reads'.Learnt,
-    Reads''''''.Asked,
-    Reads''''''.Learnt,
-    Reads''.Asked,
-    Reads''.Learnt,
-    Reads''''.Asked,
-    Reads''''.Learnt,
-  ) Reads.Pre Reads.Post M
-      → Statement.statement M
+  pub close : Lts.Closed readings Reads.Pre Reads.Post M → Statement.statement M
   unfolding Code.routine Running.tablesOf
-  close = λ closed 𝓤 H 𝓜 𝓖 𝓡. Written.close 4 Kinds.ps Kinds.r Reads.Ghost Reads.requires Reads.ensures Reads.pre-read Reads.Pinned Reads.Owned
-      Reads.post-read record { M = M; 𝓤 = 𝓤; H = H; 𝓜 = 𝓜; 𝓖 = 𝓖; 𝓡 = 𝓡 } Code.env Key.name Code.function (Code.unfolded 𝓤 H 𝓜 𝓡) (λ κs a g. tt) (λ
-      κs. Reads.owns κs record { M = M; 𝓤 = 𝓤; H = H; 𝓜 = 𝓜; 𝓖 = 𝓖; 𝓡 = 𝓡 }) (Reads.passes record { M = M; 𝓤 = 𝓤; H = H; 𝓜 = 𝓜; 𝓖 = 𝓖; 𝓡 = 𝓡 }) λ g.
-      closed 𝓤 H (𝓖 .A) (Running.givenOf 𝓤 H 𝓜 𝓖) (Run.Over 𝓤 H 𝓜 𝓖 𝓡 Code.env) (Reads'''''''.known record {
-        M = M;
-        𝓤 = 𝓤;
-        H = H;
-        𝓜 = 𝓜;
-        𝓖 = 𝓖;
-        𝓡 = 𝓡;
-      } Code.env Symbol'''.name Symbol'''.routine Code.calls-hnsr-circuit·peer·peer-of (Met'''.met 𝓤 H 𝓜 𝓖 𝓡)) (Reads'''''.known record {
-        M = M;
-        𝓤 =
-            𝓤;
-        H = H;
-        𝓜 = 𝓜;
-        𝓖 = 𝓖;
-        𝓡 = 𝓡;
-      } Code.env Symbol'.name Symbol'.routine Code.calls-hnsr-circuit·accept·accept-work (Met'.met 𝓤 H 𝓜 𝓖 𝓡))
-      (Reads'''.known record { M = M; 𝓤 = 𝓤; H = H; 𝓜 = 𝓜; 𝓖 = 𝓖; 𝓡 = 𝓡 } Code.env Symbol''''''.name Symbol''''''.routine
-      Code.calls-hnsr-circuit·tables·pending·pending-work (Met''''''.met 𝓤 H 𝓜 𝓖 𝓡)) (Reads'.known record { M = M; 𝓤 = 𝓤; H = H; 𝓜 = 𝓜; 𝓖 = 𝓖; 𝓡 = 𝓡 }
-      Code.env Symbol''''.name Symbol''''.routine Code.calls-hnsr-circuit·tables·circuits·circuit-work (Met''''.met 𝓤 H 𝓜 𝓖 𝓡)) (Reads''''''.known
-      record { M = M; 𝓤 = 𝓤; H = H; 𝓜 = 𝓜; 𝓖 = 𝓖; 𝓡 = 𝓡 } Code.env Symbol''.name Symbol''.routine Code.calls-hnsr-circuit·accept·replacing (Met''.met
-      𝓤 H 𝓜 𝓖 𝓡)) (Reads''.known record { M = M; 𝓤 = 𝓤; H = H; 𝓜 = 𝓜; 𝓖 = 𝓖; 𝓡 = 𝓡 } Code.env Symbol'''''.name Symbol'''''.routine
-      Code.calls-hnsr-circuit·tables·inflight·scan-actions (Met'''''.met 𝓤 H 𝓜 𝓖 𝓡)) (Reads''''.known record {
-        M = M;
-        𝓤 = 𝓤;
-        H = H;
-        𝓜 = 𝓜;
-        𝓖 = 𝓖;
-        𝓡 =
-            𝓡;
-      } Code.env Symbol.name Symbol.routine Code.calls-hnsr-circuit·accept·accept-rows (Met.met 𝓤 H 𝓜 𝓖 𝓡))
+  close = λ closed 𝓤 H 𝓜 𝓖 𝓡. Written.close 4 Kinds.ps Kinds.r Reads.Ghost Reads.requires Reads.ensures Reads.pre-read
+      Reads.Pinned Reads.Owned Reads.post-read record { M = M; 𝓤 = 𝓤; H = H; 𝓜 = 𝓜; 𝓖 = 𝓖; 𝓡 = 𝓡 } Code.env Key.name
+      Code.function (Code.unfolded 𝓤 H 𝓜 𝓡) (λ κs a g. tt) (λ κs. Reads.owns κs
+      record { M = M; 𝓤 = 𝓤; H = H; 𝓜 = 𝓜; 𝓖 = 𝓖; 𝓡 = 𝓡 }) (Reads.passes
+      record { M = M; 𝓤 = 𝓤; H = H; 𝓜 = 𝓜; 𝓖 = 𝓖; 𝓡 = 𝓡 }) λ g. closed 𝓤 H (𝓖 .A) (Running.givenOf 𝓤 H 𝓜 𝓖)
+      (Run.Over 𝓤 H 𝓜 𝓖 𝓡 Code.env) (Reads'''''''.known record { M = M; 𝓤 = 𝓤; H = H; 𝓜 = 𝓜; 𝓖 = 𝓖; 𝓡 = 𝓡 } Code.env
+      Symbol'''.name Symbol'''.routine Code.calls-hnsr-circuit·peer·peer-of (Met'''.met 𝓤 H 𝓜 𝓖 𝓡)) (Reads'''''.known
+      record { M = M; 𝓤 = 𝓤; H = H; 𝓜 = 𝓜; 𝓖 = 𝓖; 𝓡 = 𝓡 } Code.env Symbol'.name Symbol'.routine
+      Code.calls-hnsr-circuit·accept·accept-work (Met'.met 𝓤 H 𝓜 𝓖 𝓡)) (Reads'''.known
+      record { M = M; 𝓤 = 𝓤; H = H; 𝓜 = 𝓜; 𝓖 = 𝓖; 𝓡 = 𝓡 } Code.env Symbol''''''.name Symbol''''''.routine
+      Code.calls-hnsr-circuit·tables·pending·pending-work (Met''''''.met 𝓤 H 𝓜 𝓖 𝓡)) (Reads'.known
+      record { M = M; 𝓤 = 𝓤; H = H; 𝓜 = 𝓜; 𝓖 = 𝓖; 𝓡 = 𝓡 } Code.env Symbol''''.name Symbol''''.routine
+      Code.calls-hnsr-circuit·tables·circuits·circuit-work (Met''''.met 𝓤 H 𝓜 𝓖 𝓡)) (Reads''''''.known
+      record { M = M; 𝓤 = 𝓤; H = H; 𝓜 = 𝓜; 𝓖 = 𝓖; 𝓡 = 𝓡 } Code.env Symbol''.name Symbol''.routine
+      Code.calls-hnsr-circuit·accept·replacing (Met''.met 𝓤 H 𝓜 𝓖 𝓡)) (Reads''.known
+      record { M = M; 𝓤 = 𝓤; H = H; 𝓜 = 𝓜; 𝓖 = 𝓖; 𝓡 = 𝓡 } Code.env Symbol'''''.name Symbol'''''.routine
+      Code.calls-hnsr-circuit·tables·inflight·scan-actions (Met'''''.met 𝓤 H 𝓜 𝓖 𝓡)) (Reads''''.known
+      record { M = M; 𝓤 = 𝓤; H = H; 𝓜 = 𝓜; 𝓖 = 𝓖; 𝓡 = 𝓡 } Code.env Symbol.name Symbol.routine
+      Code.calls-hnsr-circuit·accept·accept-rows (Met.met 𝓤 H 𝓜 𝓖 𝓡))

@@ -45,8 +45,8 @@ use borrow.Fn.Run
 use borrow.Fn.Written
 use contract.Running
 
-abbrev pub Start : Type 0
-Start = Lts.Start (
+abbrev pub readings : Lts.Claims
+readings = (
   Reads'.Asked,
   Reads'.Learnt,
   Reads'''''''''.Asked,
@@ -71,1745 +71,226 @@ Start = Lts.Start (
   Reads''''.Learnt,
   Reads''''''''''''.Asked,
   Reads''''''''''''.Learnt,
-) Reads''.Pre Reads''.Post
+)
+
+abbrev pub Start : Type 0
+Start = Lts.Start readings Reads''.Pre Reads''.Post
 
 abbrev pub After-slice-known : Type 0
-After-slice-known = Lts.After-slice-known (
-  Reads'.Asked,
-  Reads'.Learnt,
-  Reads'''''''''.Asked,
-  Reads'''''''''.Learnt,
-  Reads''''''.Asked,
-  Reads''''''.Learnt,
-  Reads''''''''.Asked,
-  Reads''''''''.Learnt,
-  Reads'''''''.Asked,
-  Reads'''''''.Learnt,
-  Reads'''''''''''.Asked,
-  Reads'''''''''''.Learnt,
-  Reads'''.Asked,
-  Reads'''.Learnt,
-  Reads''''''''''.Asked,
-  Reads''''''''''.Learnt,
-  Reads'''''.Asked,
-  Reads'''''.Learnt,
-  Reads.Asked,
-  Reads.Learnt,
-  Reads''''.Asked,
-  Reads''''.Learnt,
-  Reads''''''''''''.Asked,
-  Reads''''''''''''.Learnt,
-) Reads''.Pre Reads''.Post
+After-slice-known = Lts.After-slice-known readings Reads''.Pre Reads''.Post
 
 abbrev pub After-shared-slice-known : Type 0
-After-shared-slice-known = Lts.After-shared-slice-known (
-  Reads'.Asked,
-  Reads'.Learnt,
-  Reads'''''''''.Asked,
-  Reads'''''''''.Learnt,
-  Reads''''''.Asked,
-  Reads''''''.Learnt,
-  Reads''''''''.Asked,
-  Reads''''''''.Learnt,
-  Reads'''''''.Asked,
-  Reads'''''''.Learnt,
-  Reads'''''''''''.Asked,
-  Reads'''''''''''.Learnt,
-  Reads'''.Asked,
-  Reads'''.Learnt,
-  Reads''''''''''.Asked,
-  Reads''''''''''.Learnt,
-  Reads'''''.Asked,
-  Reads'''''.Learnt,
-  Reads.Asked,
-  Reads.Learnt,
-  Reads''''.Asked,
-  Reads''''.Learnt,
-  Reads''''''''''''.Asked,
-  Reads''''''''''''.Learnt,
-) Reads''.Pre Reads''.Post
+After-shared-slice-known = Lts.After-shared-slice-known readings Reads''.Pre Reads''.Post
 
 abbrev pub After-config : Type 0
-After-config = Lts.After-config (
-  Reads'.Asked,
-  Reads'.Learnt,
-  Reads'''''''''.Asked,
-  Reads'''''''''.Learnt,
-  Reads''''''.Asked,
-  Reads''''''.Learnt,
-  Reads''''''''.Asked,
-  Reads''''''''.Learnt,
-  Reads'''''''.Asked,
-  Reads'''''''.Learnt,
-  Reads'''''''''''.Asked,
-  Reads'''''''''''.Learnt,
-  Reads'''.Asked,
-  Reads'''.Learnt,
-  Reads''''''''''.Asked,
-  Reads''''''''''.Learnt,
-  Reads'''''.Asked,
-  Reads'''''.Learnt,
-  Reads.Asked,
-  Reads.Learnt,
-  Reads''''.Asked,
-  Reads''''.Learnt,
-  Reads''''''''''''.Asked,
-  Reads''''''''''''.Learnt,
-) Reads''.Pre Reads''.Post
+After-config = Lts.After-config readings Reads''.Pre Reads''.Post
 
 abbrev pub After-accept-answered-arg : Type 0
-After-accept-answered-arg = Lts.After-accept-answered-arg (
-  Reads'.Asked,
-  Reads'.Learnt,
-  Reads'''''''''.Asked,
-  Reads'''''''''.Learnt,
-  Reads''''''.Asked,
-  Reads''''''.Learnt,
-  Reads''''''''.Asked,
-  Reads''''''''.Learnt,
-  Reads'''''''.Asked,
-  Reads'''''''.Learnt,
-  Reads'''''''''''.Asked,
-  Reads'''''''''''.Learnt,
-  Reads'''.Asked,
-  Reads'''.Learnt,
-  Reads''''''''''.Asked,
-  Reads''''''''''.Learnt,
-  Reads'''''.Asked,
-  Reads'''''.Learnt,
-  Reads.Asked,
-  Reads.Learnt,
-  Reads''''.Asked,
-  Reads''''.Learnt,
-  Reads''''''''''''.Asked,
-  Reads''''''''''''.Learnt,
-) Reads''.Pre Reads''.Post
+After-accept-answered-arg = Lts.After-accept-answered-arg readings Reads''.Pre Reads''.Post
 
 abbrev pub After-accept-answered-arg2 : Type 0
-After-accept-answered-arg2 = Lts.After-accept-answered-arg2 (
-  Reads'.Asked,
-  Reads'.Learnt,
-  Reads'''''''''.Asked,
-  Reads'''''''''.Learnt,
-  Reads''''''.Asked,
-  Reads''''''.Learnt,
-  Reads''''''''.Asked,
-  Reads''''''''.Learnt,
-  Reads'''''''.Asked,
-  Reads'''''''.Learnt,
-  Reads'''''''''''.Asked,
-  Reads'''''''''''.Learnt,
-  Reads'''.Asked,
-  Reads'''.Learnt,
-  Reads''''''''''.Asked,
-  Reads''''''''''.Learnt,
-  Reads'''''.Asked,
-  Reads'''''.Learnt,
-  Reads.Asked,
-  Reads.Learnt,
-  Reads''''.Asked,
-  Reads''''.Learnt,
-  Reads''''''''''''.Asked,
-  Reads''''''''''''.Learnt,
-) Reads''.Pre Reads''.Post
+After-accept-answered-arg2 = Lts.After-accept-answered-arg2 readings Reads''.Pre Reads''.Post
 
 abbrev pub After-accept-answered-arg3 : Type 0
-After-accept-answered-arg3 = Lts.After-accept-answered-arg3 (
-  Reads'.Asked,
-  Reads'.Learnt,
-  Reads'''''''''.Asked,
-  Reads'''''''''.Learnt,
-  Reads''''''.Asked,
-  Reads''''''.Learnt,
-  Reads''''''''.Asked,
-  Reads''''''''.Learnt,
-  Reads'''''''.Asked,
-  Reads'''''''.Learnt,
-  Reads'''''''''''.Asked,
-  Reads'''''''''''.Learnt,
-  Reads'''.Asked,
-  Reads'''.Learnt,
-  Reads''''''''''.Asked,
-  Reads''''''''''.Learnt,
-  Reads'''''.Asked,
-  Reads'''''.Learnt,
-  Reads.Asked,
-  Reads.Learnt,
-  Reads''''.Asked,
-  Reads''''.Learnt,
-  Reads''''''''''''.Asked,
-  Reads''''''''''''.Learnt,
-) Reads''.Pre Reads''.Post
+After-accept-answered-arg3 = Lts.After-accept-answered-arg3 readings Reads''.Pre Reads''.Post
 
 abbrev pub After-accept-answered : Type 0
-After-accept-answered = Lts.After-accept-answered (
-  Reads'.Asked,
-  Reads'.Learnt,
-  Reads'''''''''.Asked,
-  Reads'''''''''.Learnt,
-  Reads''''''.Asked,
-  Reads''''''.Learnt,
-  Reads''''''''.Asked,
-  Reads''''''''.Learnt,
-  Reads'''''''.Asked,
-  Reads'''''''.Learnt,
-  Reads'''''''''''.Asked,
-  Reads'''''''''''.Learnt,
-  Reads'''.Asked,
-  Reads'''.Learnt,
-  Reads''''''''''.Asked,
-  Reads''''''''''.Learnt,
-  Reads'''''.Asked,
-  Reads'''''.Learnt,
-  Reads.Asked,
-  Reads.Learnt,
-  Reads''''.Asked,
-  Reads''''.Learnt,
-  Reads''''''''''''.Asked,
-  Reads''''''''''''.Learnt,
-) Reads''.Pre Reads''.Post
+After-accept-answered = Lts.After-accept-answered readings Reads''.Pre Reads''.Post
 
 abbrev pub After-is-taken : Type 0
-After-is-taken = Lts.After-is-taken (
-  Reads'.Asked,
-  Reads'.Learnt,
-  Reads'''''''''.Asked,
-  Reads'''''''''.Learnt,
-  Reads''''''.Asked,
-  Reads''''''.Learnt,
-  Reads''''''''.Asked,
-  Reads''''''''.Learnt,
-  Reads'''''''.Asked,
-  Reads'''''''.Learnt,
-  Reads'''''''''''.Asked,
-  Reads'''''''''''.Learnt,
-  Reads'''.Asked,
-  Reads'''.Learnt,
-  Reads''''''''''.Asked,
-  Reads''''''''''.Learnt,
-  Reads'''''.Asked,
-  Reads'''''.Learnt,
-  Reads.Asked,
-  Reads.Learnt,
-  Reads''''.Asked,
-  Reads''''.Learnt,
-  Reads''''''''''''.Asked,
-  Reads''''''''''''.Learnt,
-) Reads''.Pre Reads''.Post
+After-is-taken = Lts.After-is-taken readings Reads''.Pre Reads''.Post
 
 abbrev pub Then1 : Type 0
-Then1 = Lts.Then1 (
-  Reads'.Asked,
-  Reads'.Learnt,
-  Reads'''''''''.Asked,
-  Reads'''''''''.Learnt,
-  Reads''''''.Asked,
-  Reads''''''.Learnt,
-  Reads''''''''.Asked,
-  Reads''''''''.Learnt,
-  Reads'''''''.Asked,
-  Reads'''''''.Learnt,
-  Reads'''''''''''.Asked,
-  Reads'''''''''''.Learnt,
-  Reads'''.Asked,
-  Reads'''.Learnt,
-  Reads''''''''''.Asked,
-  Reads''''''''''.Learnt,
-  Reads'''''.Asked,
-  Reads'''''.Learnt,
-  Reads.Asked,
-  Reads.Learnt,
-  Reads''''.Asked,
-  Reads''''.Learnt,
-  Reads''''''''''''.Asked,
-  Reads''''''''''''.Learnt,
-) Reads''.Pre Reads''.Post
+Then1 = Lts.Then1 readings Reads''.Pre Reads''.Post
 
 abbrev pub After-accept-plan : Type 0
-After-accept-plan = Lts.After-accept-plan (
-  Reads'.Asked,
-  Reads'.Learnt,
-  Reads'''''''''.Asked,
-  Reads'''''''''.Learnt,
-  Reads''''''.Asked,
-  Reads''''''.Learnt,
-  Reads''''''''.Asked,
-  Reads''''''''.Learnt,
-  Reads'''''''.Asked,
-  Reads'''''''.Learnt,
-  Reads'''''''''''.Asked,
-  Reads'''''''''''.Learnt,
-  Reads'''.Asked,
-  Reads'''.Learnt,
-  Reads''''''''''.Asked,
-  Reads''''''''''.Learnt,
-  Reads'''''.Asked,
-  Reads'''''.Learnt,
-  Reads.Asked,
-  Reads.Learnt,
-  Reads''''.Asked,
-  Reads''''.Learnt,
-  Reads''''''''''''.Asked,
-  Reads''''''''''''.Learnt,
-) Reads''.Pre Reads''.Post
+After-accept-plan = Lts.After-accept-plan readings Reads''.Pre Reads''.Post
 
 abbrev pub After-found-unmarked : Type 0
-After-found-unmarked = Lts.After-found-unmarked (
-  Reads'.Asked,
-  Reads'.Learnt,
-  Reads'''''''''.Asked,
-  Reads'''''''''.Learnt,
-  Reads''''''.Asked,
-  Reads''''''.Learnt,
-  Reads''''''''.Asked,
-  Reads''''''''.Learnt,
-  Reads'''''''.Asked,
-  Reads'''''''.Learnt,
-  Reads'''''''''''.Asked,
-  Reads'''''''''''.Learnt,
-  Reads'''.Asked,
-  Reads'''.Learnt,
-  Reads''''''''''.Asked,
-  Reads''''''''''.Learnt,
-  Reads'''''.Asked,
-  Reads'''''.Learnt,
-  Reads.Asked,
-  Reads.Learnt,
-  Reads''''.Asked,
-  Reads''''.Learnt,
-  Reads''''''''''''.Asked,
-  Reads''''''''''''.Learnt,
-) Reads''.Pre Reads''.Post
+After-found-unmarked = Lts.After-found-unmarked readings Reads''.Pre Reads''.Post
 
 abbrev pub After-circuit-for : Type 0
-After-circuit-for = Lts.After-circuit-for (
-  Reads'.Asked,
-  Reads'.Learnt,
-  Reads'''''''''.Asked,
-  Reads'''''''''.Learnt,
-  Reads''''''.Asked,
-  Reads''''''.Learnt,
-  Reads''''''''.Asked,
-  Reads''''''''.Learnt,
-  Reads'''''''.Asked,
-  Reads'''''''.Learnt,
-  Reads'''''''''''.Asked,
-  Reads'''''''''''.Learnt,
-  Reads'''.Asked,
-  Reads'''.Learnt,
-  Reads''''''''''.Asked,
-  Reads''''''''''.Learnt,
-  Reads'''''.Asked,
-  Reads'''''.Learnt,
-  Reads.Asked,
-  Reads.Learnt,
-  Reads''''.Asked,
-  Reads''''.Learnt,
-  Reads''''''''''''.Asked,
-  Reads''''''''''''.Learnt,
-) Reads''.Pre Reads''.Post
+After-circuit-for = Lts.After-circuit-for readings Reads''.Pre Reads''.Post
 
 abbrev pub After-counted : Type 0
-After-counted = Lts.After-counted (
-  Reads'.Asked,
-  Reads'.Learnt,
-  Reads'''''''''.Asked,
-  Reads'''''''''.Learnt,
-  Reads''''''.Asked,
-  Reads''''''.Learnt,
-  Reads''''''''.Asked,
-  Reads''''''''.Learnt,
-  Reads'''''''.Asked,
-  Reads'''''''.Learnt,
-  Reads'''''''''''.Asked,
-  Reads'''''''''''.Learnt,
-  Reads'''.Asked,
-  Reads'''.Learnt,
-  Reads''''''''''.Asked,
-  Reads''''''''''.Learnt,
-  Reads'''''.Asked,
-  Reads'''''.Learnt,
-  Reads.Asked,
-  Reads.Learnt,
-  Reads''''.Asked,
-  Reads''''.Learnt,
-  Reads''''''''''''.Asked,
-  Reads''''''''''''.Learnt,
-) Reads''.Pre Reads''.Post
+After-counted = Lts.After-counted readings Reads''.Pre Reads''.Post
 
 abbrev pub After-message : Type 0
-After-message = Lts.After-message (
-  Reads'.Asked,
-  Reads'.Learnt,
-  Reads'''''''''.Asked,
-  Reads'''''''''.Learnt,
-  Reads''''''.Asked,
-  Reads''''''.Learnt,
-  Reads''''''''.Asked,
-  Reads''''''''.Learnt,
-  Reads'''''''.Asked,
-  Reads'''''''.Learnt,
-  Reads'''''''''''.Asked,
-  Reads'''''''''''.Learnt,
-  Reads'''.Asked,
-  Reads'''.Learnt,
-  Reads''''''''''.Asked,
-  Reads''''''''''.Learnt,
-  Reads'''''.Asked,
-  Reads'''''.Learnt,
-  Reads.Asked,
-  Reads.Learnt,
-  Reads''''.Asked,
-  Reads''''.Learnt,
-  Reads''''''''''''.Asked,
-  Reads''''''''''''.Learnt,
-) Reads''.Pre Reads''.Post
+After-message = Lts.After-message readings Reads''.Pre Reads''.Post
 
 abbrev pub After-opened : Type 0
-After-opened = Lts.After-opened (
-  Reads'.Asked,
-  Reads'.Learnt,
-  Reads'''''''''.Asked,
-  Reads'''''''''.Learnt,
-  Reads''''''.Asked,
-  Reads''''''.Learnt,
-  Reads''''''''.Asked,
-  Reads''''''''.Learnt,
-  Reads'''''''.Asked,
-  Reads'''''''.Learnt,
-  Reads'''''''''''.Asked,
-  Reads'''''''''''.Learnt,
-  Reads'''.Asked,
-  Reads'''.Learnt,
-  Reads''''''''''.Asked,
-  Reads''''''''''.Learnt,
-  Reads'''''.Asked,
-  Reads'''''.Learnt,
-  Reads.Asked,
-  Reads.Learnt,
-  Reads''''.Asked,
-  Reads''''.Learnt,
-  Reads''''''''''''.Asked,
-  Reads''''''''''''.Learnt,
-) Reads''.Pre Reads''.Post
+After-opened = Lts.After-opened readings Reads''.Pre Reads''.Post
 
 abbrev pub After-asking : Type 0
-After-asking = Lts.After-asking (
-  Reads'.Asked,
-  Reads'.Learnt,
-  Reads'''''''''.Asked,
-  Reads'''''''''.Learnt,
-  Reads''''''.Asked,
-  Reads''''''.Learnt,
-  Reads''''''''.Asked,
-  Reads''''''''.Learnt,
-  Reads'''''''.Asked,
-  Reads'''''''.Learnt,
-  Reads'''''''''''.Asked,
-  Reads'''''''''''.Learnt,
-  Reads'''.Asked,
-  Reads'''.Learnt,
-  Reads''''''''''.Asked,
-  Reads''''''''''.Learnt,
-  Reads'''''.Asked,
-  Reads'''''.Learnt,
-  Reads.Asked,
-  Reads.Learnt,
-  Reads''''.Asked,
-  Reads''''.Learnt,
-  Reads''''''''''''.Asked,
-  Reads''''''''''''.Learnt,
-) Reads''.Pre Reads''.Post
+After-asking = Lts.After-asking readings Reads''.Pre Reads''.Post
 
 abbrev pub After-accept-written-arg : Type 0
-After-accept-written-arg = Lts.After-accept-written-arg (
-  Reads'.Asked,
-  Reads'.Learnt,
-  Reads'''''''''.Asked,
-  Reads'''''''''.Learnt,
-  Reads''''''.Asked,
-  Reads''''''.Learnt,
-  Reads''''''''.Asked,
-  Reads''''''''.Learnt,
-  Reads'''''''.Asked,
-  Reads'''''''.Learnt,
-  Reads'''''''''''.Asked,
-  Reads'''''''''''.Learnt,
-  Reads'''.Asked,
-  Reads'''.Learnt,
-  Reads''''''''''.Asked,
-  Reads''''''''''.Learnt,
-  Reads'''''.Asked,
-  Reads'''''.Learnt,
-  Reads.Asked,
-  Reads.Learnt,
-  Reads''''.Asked,
-  Reads''''.Learnt,
-  Reads''''''''''''.Asked,
-  Reads''''''''''''.Learnt,
-) Reads''.Pre Reads''.Post
+After-accept-written-arg = Lts.After-accept-written-arg readings Reads''.Pre Reads''.Post
 
 abbrev pub After-accept-written-arg2 : Type 0
-After-accept-written-arg2 = Lts.After-accept-written-arg2 (
-  Reads'.Asked,
-  Reads'.Learnt,
-  Reads'''''''''.Asked,
-  Reads'''''''''.Learnt,
-  Reads''''''.Asked,
-  Reads''''''.Learnt,
-  Reads''''''''.Asked,
-  Reads''''''''.Learnt,
-  Reads'''''''.Asked,
-  Reads'''''''.Learnt,
-  Reads'''''''''''.Asked,
-  Reads'''''''''''.Learnt,
-  Reads'''.Asked,
-  Reads'''.Learnt,
-  Reads''''''''''.Asked,
-  Reads''''''''''.Learnt,
-  Reads'''''.Asked,
-  Reads'''''.Learnt,
-  Reads.Asked,
-  Reads.Learnt,
-  Reads''''.Asked,
-  Reads''''.Learnt,
-  Reads''''''''''''.Asked,
-  Reads''''''''''''.Learnt,
-) Reads''.Pre Reads''.Post
+After-accept-written-arg2 = Lts.After-accept-written-arg2 readings Reads''.Pre Reads''.Post
 
 abbrev pub After-accept-written : Type 0
-After-accept-written = Lts.After-accept-written (
-  Reads'.Asked,
-  Reads'.Learnt,
-  Reads'''''''''.Asked,
-  Reads'''''''''.Learnt,
-  Reads''''''.Asked,
-  Reads''''''.Learnt,
-  Reads''''''''.Asked,
-  Reads''''''''.Learnt,
-  Reads'''''''.Asked,
-  Reads'''''''.Learnt,
-  Reads'''''''''''.Asked,
-  Reads'''''''''''.Learnt,
-  Reads'''.Asked,
-  Reads'''.Learnt,
-  Reads''''''''''.Asked,
-  Reads''''''''''.Learnt,
-  Reads'''''.Asked,
-  Reads'''''.Learnt,
-  Reads.Asked,
-  Reads.Learnt,
-  Reads''''.Asked,
-  Reads''''.Learnt,
-  Reads''''''''''''.Asked,
-  Reads''''''''''''.Learnt,
-) Reads''.Pre Reads''.Post
+After-accept-written = Lts.After-accept-written readings Reads''.Pre Reads''.Post
 
 abbrev pub After-pending : Type 0
-After-pending = Lts.After-pending (
-  Reads'.Asked,
-  Reads'.Learnt,
-  Reads'''''''''.Asked,
-  Reads'''''''''.Learnt,
-  Reads''''''.Asked,
-  Reads''''''.Learnt,
-  Reads''''''''.Asked,
-  Reads''''''''.Learnt,
-  Reads'''''''.Asked,
-  Reads'''''''.Learnt,
-  Reads'''''''''''.Asked,
-  Reads'''''''''''.Learnt,
-  Reads'''.Asked,
-  Reads'''.Learnt,
-  Reads''''''''''.Asked,
-  Reads''''''''''.Learnt,
-  Reads'''''.Asked,
-  Reads'''''.Learnt,
-  Reads.Asked,
-  Reads.Learnt,
-  Reads''''.Asked,
-  Reads''''.Learnt,
-  Reads''''''''''''.Asked,
-  Reads''''''''''''.Learnt,
-) Reads''.Pre Reads''.Post
+After-pending = Lts.After-pending readings Reads''.Pre Reads''.Post
 
 abbrev pub After-circuits : Type 0
-After-circuits = Lts.After-circuits (
-  Reads'.Asked,
-  Reads'.Learnt,
-  Reads'''''''''.Asked,
-  Reads'''''''''.Learnt,
-  Reads''''''.Asked,
-  Reads''''''.Learnt,
-  Reads''''''''.Asked,
-  Reads''''''''.Learnt,
-  Reads'''''''.Asked,
-  Reads'''''''.Learnt,
-  Reads'''''''''''.Asked,
-  Reads'''''''''''.Learnt,
-  Reads'''.Asked,
-  Reads'''.Learnt,
-  Reads''''''''''.Asked,
-  Reads''''''''''.Learnt,
-  Reads'''''.Asked,
-  Reads'''''.Learnt,
-  Reads.Asked,
-  Reads.Learnt,
-  Reads''''.Asked,
-  Reads''''.Learnt,
-  Reads''''''''''''.Asked,
-  Reads''''''''''''.Learnt,
-) Reads''.Pre Reads''.Post
+After-circuits = Lts.After-circuits readings Reads''.Pre Reads''.Post
 
 abbrev pub After-with-circuits : Type 0
-After-with-circuits = Lts.After-with-circuits (
-  Reads'.Asked,
-  Reads'.Learnt,
-  Reads'''''''''.Asked,
-  Reads'''''''''.Learnt,
-  Reads''''''.Asked,
-  Reads''''''.Learnt,
-  Reads''''''''.Asked,
-  Reads''''''''.Learnt,
-  Reads'''''''.Asked,
-  Reads'''''''.Learnt,
-  Reads'''''''''''.Asked,
-  Reads'''''''''''.Learnt,
-  Reads'''.Asked,
-  Reads'''.Learnt,
-  Reads''''''''''.Asked,
-  Reads''''''''''.Learnt,
-  Reads'''''.Asked,
-  Reads'''''.Learnt,
-  Reads.Asked,
-  Reads.Learnt,
-  Reads''''.Asked,
-  Reads''''.Learnt,
-  Reads''''''''''''.Asked,
-  Reads''''''''''''.Learnt,
-) Reads''.Pre Reads''.Post
+After-with-circuits = Lts.After-with-circuits readings Reads''.Pre Reads''.Post
 
 abbrev pub After-drop-and-scan-arg : Type 0
-After-drop-and-scan-arg = Lts.After-drop-and-scan-arg (
-  Reads'.Asked,
-  Reads'.Learnt,
-  Reads'''''''''.Asked,
-  Reads'''''''''.Learnt,
-  Reads''''''.Asked,
-  Reads''''''.Learnt,
-  Reads''''''''.Asked,
-  Reads''''''''.Learnt,
-  Reads'''''''.Asked,
-  Reads'''''''.Learnt,
-  Reads'''''''''''.Asked,
-  Reads'''''''''''.Learnt,
-  Reads'''.Asked,
-  Reads'''.Learnt,
-  Reads''''''''''.Asked,
-  Reads''''''''''.Learnt,
-  Reads'''''.Asked,
-  Reads'''''.Learnt,
-  Reads.Asked,
-  Reads.Learnt,
-  Reads''''.Asked,
-  Reads''''.Learnt,
-  Reads''''''''''''.Asked,
-  Reads''''''''''''.Learnt,
-) Reads''.Pre Reads''.Post
+After-drop-and-scan-arg = Lts.After-drop-and-scan-arg readings Reads''.Pre Reads''.Post
 
 abbrev pub After-drop-and-scan : Type 0
-After-drop-and-scan = Lts.After-drop-and-scan (
-  Reads'.Asked,
-  Reads'.Learnt,
-  Reads'''''''''.Asked,
-  Reads'''''''''.Learnt,
-  Reads''''''.Asked,
-  Reads''''''.Learnt,
-  Reads''''''''.Asked,
-  Reads''''''''.Learnt,
-  Reads'''''''.Asked,
-  Reads'''''''.Learnt,
-  Reads'''''''''''.Asked,
-  Reads'''''''''''.Learnt,
-  Reads'''.Asked,
-  Reads'''.Learnt,
-  Reads''''''''''.Asked,
-  Reads''''''''''.Learnt,
-  Reads'''''.Asked,
-  Reads'''''.Learnt,
-  Reads.Asked,
-  Reads.Learnt,
-  Reads''''.Asked,
-  Reads''''.Learnt,
-  Reads''''''''''''.Asked,
-  Reads''''''''''''.Learnt,
-) Reads''.Pre Reads''.Post
+After-drop-and-scan = Lts.After-drop-and-scan readings Reads''.Pre Reads''.Post
 
 abbrev pub After-inflight : Type 0
-After-inflight = Lts.After-inflight (
-  Reads'.Asked,
-  Reads'.Learnt,
-  Reads'''''''''.Asked,
-  Reads'''''''''.Learnt,
-  Reads''''''.Asked,
-  Reads''''''.Learnt,
-  Reads''''''''.Asked,
-  Reads''''''''.Learnt,
-  Reads'''''''.Asked,
-  Reads'''''''.Learnt,
-  Reads'''''''''''.Asked,
-  Reads'''''''''''.Learnt,
-  Reads'''.Asked,
-  Reads'''.Learnt,
-  Reads''''''''''.Asked,
-  Reads''''''''''.Learnt,
-  Reads'''''.Asked,
-  Reads'''''.Learnt,
-  Reads.Asked,
-  Reads.Learnt,
-  Reads''''.Asked,
-  Reads''''.Learnt,
-  Reads''''''''''''.Asked,
-  Reads''''''''''''.Learnt,
-) Reads''.Pre Reads''.Post
+After-inflight = Lts.After-inflight readings Reads''.Pre Reads''.Post
 
 abbrev pub After-to-bytes : Type 0
-After-to-bytes = Lts.After-to-bytes (
-  Reads'.Asked,
-  Reads'.Learnt,
-  Reads'''''''''.Asked,
-  Reads'''''''''.Learnt,
-  Reads''''''.Asked,
-  Reads''''''.Learnt,
-  Reads''''''''.Asked,
-  Reads''''''''.Learnt,
-  Reads'''''''.Asked,
-  Reads'''''''.Learnt,
-  Reads'''''''''''.Asked,
-  Reads'''''''''''.Learnt,
-  Reads'''.Asked,
-  Reads'''.Learnt,
-  Reads''''''''''.Asked,
-  Reads''''''''''.Learnt,
-  Reads'''''.Asked,
-  Reads'''''.Learnt,
-  Reads.Asked,
-  Reads.Learnt,
-  Reads''''.Asked,
-  Reads''''.Learnt,
-  Reads''''''''''''.Asked,
-  Reads''''''''''''.Learnt,
-) Reads''.Pre Reads''.Post
+After-to-bytes = Lts.After-to-bytes readings Reads''.Pre Reads''.Post
 
 abbrev pub After-send-arg : Type 0
-After-send-arg = Lts.After-send-arg (
-  Reads'.Asked,
-  Reads'.Learnt,
-  Reads'''''''''.Asked,
-  Reads'''''''''.Learnt,
-  Reads''''''.Asked,
-  Reads''''''.Learnt,
-  Reads''''''''.Asked,
-  Reads''''''''.Learnt,
-  Reads'''''''.Asked,
-  Reads'''''''.Learnt,
-  Reads'''''''''''.Asked,
-  Reads'''''''''''.Learnt,
-  Reads'''.Asked,
-  Reads'''.Learnt,
-  Reads''''''''''.Asked,
-  Reads''''''''''.Learnt,
-  Reads'''''.Asked,
-  Reads'''''.Learnt,
-  Reads.Asked,
-  Reads.Learnt,
-  Reads''''.Asked,
-  Reads''''.Learnt,
-  Reads''''''''''''.Asked,
-  Reads''''''''''''.Learnt,
-) Reads''.Pre Reads''.Post
+After-send-arg = Lts.After-send-arg readings Reads''.Pre Reads''.Post
 
 abbrev pub After-send-arg2 : Type 0
-After-send-arg2 = Lts.After-send-arg2 (
-  Reads'.Asked,
-  Reads'.Learnt,
-  Reads'''''''''.Asked,
-  Reads'''''''''.Learnt,
-  Reads''''''.Asked,
-  Reads''''''.Learnt,
-  Reads''''''''.Asked,
-  Reads''''''''.Learnt,
-  Reads'''''''.Asked,
-  Reads'''''''.Learnt,
-  Reads'''''''''''.Asked,
-  Reads'''''''''''.Learnt,
-  Reads'''.Asked,
-  Reads'''.Learnt,
-  Reads''''''''''.Asked,
-  Reads''''''''''.Learnt,
-  Reads'''''.Asked,
-  Reads'''''.Learnt,
-  Reads.Asked,
-  Reads.Learnt,
-  Reads''''.Asked,
-  Reads''''.Learnt,
-  Reads''''''''''''.Asked,
-  Reads''''''''''''.Learnt,
-) Reads''.Pre Reads''.Post
+After-send-arg2 = Lts.After-send-arg2 readings Reads''.Pre Reads''.Post
 
 abbrev pub After-bytes : Type 0
-After-bytes = Lts.After-bytes (
-  Reads'.Asked,
-  Reads'.Learnt,
-  Reads'''''''''.Asked,
-  Reads'''''''''.Learnt,
-  Reads''''''.Asked,
-  Reads''''''.Learnt,
-  Reads''''''''.Asked,
-  Reads''''''''.Learnt,
-  Reads'''''''.Asked,
-  Reads'''''''.Learnt,
-  Reads'''''''''''.Asked,
-  Reads'''''''''''.Learnt,
-  Reads'''.Asked,
-  Reads'''.Learnt,
-  Reads''''''''''.Asked,
-  Reads''''''''''.Learnt,
-  Reads'''''.Asked,
-  Reads'''''.Learnt,
-  Reads.Asked,
-  Reads.Learnt,
-  Reads''''.Asked,
-  Reads''''.Learnt,
-  Reads''''''''''''.Asked,
-  Reads''''''''''''.Learnt,
-) Reads''.Pre Reads''.Post
+After-bytes = Lts.After-bytes readings Reads''.Pre Reads''.Post
 
 abbrev pub After-send : Type 0
-After-send = Lts.After-send (
-  Reads'.Asked,
-  Reads'.Learnt,
-  Reads'''''''''.Asked,
-  Reads'''''''''.Learnt,
-  Reads''''''.Asked,
-  Reads''''''.Learnt,
-  Reads''''''''.Asked,
-  Reads''''''''.Learnt,
-  Reads'''''''.Asked,
-  Reads'''''''.Learnt,
-  Reads'''''''''''.Asked,
-  Reads'''''''''''.Learnt,
-  Reads'''.Asked,
-  Reads'''.Learnt,
-  Reads''''''''''.Asked,
-  Reads''''''''''.Learnt,
-  Reads'''''.Asked,
-  Reads'''''.Learnt,
-  Reads.Asked,
-  Reads.Learnt,
-  Reads''''.Asked,
-  Reads''''.Learnt,
-  Reads''''''''''''.Asked,
-  Reads''''''''''''.Learnt,
-) Reads''.Pre Reads''.Post
+After-send = Lts.After-send readings Reads''.Pre Reads''.Post
 
 abbrev pub After-inflight2 : Type 0
-After-inflight2 = Lts.After-inflight2 (
-  Reads'.Asked,
-  Reads'.Learnt,
-  Reads'''''''''.Asked,
-  Reads'''''''''.Learnt,
-  Reads''''''.Asked,
-  Reads''''''.Learnt,
-  Reads''''''''.Asked,
-  Reads''''''''.Learnt,
-  Reads'''''''.Asked,
-  Reads'''''''.Learnt,
-  Reads'''''''''''.Asked,
-  Reads'''''''''''.Learnt,
-  Reads'''.Asked,
-  Reads'''.Learnt,
-  Reads''''''''''.Asked,
-  Reads''''''''''.Learnt,
-  Reads'''''.Asked,
-  Reads'''''.Learnt,
-  Reads.Asked,
-  Reads.Learnt,
-  Reads''''.Asked,
-  Reads''''.Learnt,
-  Reads''''''''''''.Asked,
-  Reads''''''''''''.Learnt,
-) Reads''.Pre Reads''.Post
+After-inflight2 = Lts.After-inflight2 readings Reads''.Pre Reads''.Post
 
 abbrev pub After-out : Type 0
-After-out = Lts.After-out (
-  Reads'.Asked,
-  Reads'.Learnt,
-  Reads'''''''''.Asked,
-  Reads'''''''''.Learnt,
-  Reads''''''.Asked,
-  Reads''''''.Learnt,
-  Reads''''''''.Asked,
-  Reads''''''''.Learnt,
-  Reads'''''''.Asked,
-  Reads'''''''.Learnt,
-  Reads'''''''''''.Asked,
-  Reads'''''''''''.Learnt,
-  Reads'''.Asked,
-  Reads'''.Learnt,
-  Reads''''''''''.Asked,
-  Reads''''''''''.Learnt,
-  Reads'''''.Asked,
-  Reads'''''.Learnt,
-  Reads.Asked,
-  Reads.Learnt,
-  Reads''''.Asked,
-  Reads''''.Learnt,
-  Reads''''''''''''.Asked,
-  Reads''''''''''''.Learnt,
-) Reads''.Pre Reads''.Post
+After-out = Lts.After-out readings Reads''.Pre Reads''.Post
 
 abbrev pub After-slice-known2 : Type 0
-After-slice-known2 = Lts.After-slice-known2 (
-  Reads'.Asked,
-  Reads'.Learnt,
-  Reads'''''''''.Asked,
-  Reads'''''''''.Learnt,
-  Reads''''''.Asked,
-  Reads''''''.Learnt,
-  Reads''''''''.Asked,
-  Reads''''''''.Learnt,
-  Reads'''''''.Asked,
-  Reads'''''''.Learnt,
-  Reads'''''''''''.Asked,
-  Reads'''''''''''.Learnt,
-  Reads'''.Asked,
-  Reads'''.Learnt,
-  Reads''''''''''.Asked,
-  Reads''''''''''.Learnt,
-  Reads'''''.Asked,
-  Reads'''''.Learnt,
-  Reads.Asked,
-  Reads.Learnt,
-  Reads''''.Asked,
-  Reads''''.Learnt,
-  Reads''''''''''''.Asked,
-  Reads''''''''''''.Learnt,
-) Reads''.Pre Reads''.Post
+After-slice-known2 = Lts.After-slice-known2 readings Reads''.Pre Reads''.Post
 
 abbrev pub Else1 : Type 0
-Else1 = Lts.Else1 (
-  Reads'.Asked,
-  Reads'.Learnt,
-  Reads'''''''''.Asked,
-  Reads'''''''''.Learnt,
-  Reads''''''.Asked,
-  Reads''''''.Learnt,
-  Reads''''''''.Asked,
-  Reads''''''''.Learnt,
-  Reads'''''''.Asked,
-  Reads'''''''.Learnt,
-  Reads'''''''''''.Asked,
-  Reads'''''''''''.Learnt,
-  Reads'''.Asked,
-  Reads'''.Learnt,
-  Reads''''''''''.Asked,
-  Reads''''''''''.Learnt,
-  Reads'''''.Asked,
-  Reads'''''.Learnt,
-  Reads.Asked,
-  Reads.Learnt,
-  Reads''''.Asked,
-  Reads''''.Learnt,
-  Reads''''''''''''.Asked,
-  Reads''''''''''''.Learnt,
-) Reads''.Pre Reads''.Post
+Else1 = Lts.Else1 readings Reads''.Pre Reads''.Post
 
 abbrev pub After-refused : Type 0
-After-refused = Lts.After-refused (
-  Reads'.Asked,
-  Reads'.Learnt,
-  Reads'''''''''.Asked,
-  Reads'''''''''.Learnt,
-  Reads''''''.Asked,
-  Reads''''''.Learnt,
-  Reads''''''''.Asked,
-  Reads''''''''.Learnt,
-  Reads'''''''.Asked,
-  Reads'''''''.Learnt,
-  Reads'''''''''''.Asked,
-  Reads'''''''''''.Learnt,
-  Reads'''.Asked,
-  Reads'''.Learnt,
-  Reads''''''''''.Asked,
-  Reads''''''''''.Learnt,
-  Reads'''''.Asked,
-  Reads'''''.Learnt,
-  Reads.Asked,
-  Reads.Learnt,
-  Reads''''.Asked,
-  Reads''''.Learnt,
-  Reads''''''''''''.Asked,
-  Reads''''''''''''.Learnt,
-) Reads''.Pre Reads''.Post
+After-refused = Lts.After-refused readings Reads''.Pre Reads''.Post
 
 abbrev pub Need-accept-answered-requires : Type 0
-Need-accept-answered-requires = Lts.Need-accept-answered-requires (
-  Reads'.Asked,
-  Reads'.Learnt,
-  Reads'''''''''.Asked,
-  Reads'''''''''.Learnt,
-  Reads''''''.Asked,
-  Reads''''''.Learnt,
-  Reads''''''''.Asked,
-  Reads''''''''.Learnt,
-  Reads'''''''.Asked,
-  Reads'''''''.Learnt,
-  Reads'''''''''''.Asked,
-  Reads'''''''''''.Learnt,
-  Reads'''.Asked,
-  Reads'''.Learnt,
-  Reads''''''''''.Asked,
-  Reads''''''''''.Learnt,
-  Reads'''''.Asked,
-  Reads'''''.Learnt,
-  Reads.Asked,
-  Reads.Learnt,
-  Reads''''.Asked,
-  Reads''''.Learnt,
-  Reads''''''''''''.Asked,
-  Reads''''''''''''.Learnt,
-) Reads''.Pre Reads''.Post
+Need-accept-answered-requires = Lts.Need-accept-answered-requires readings Reads''.Pre Reads''.Post
 
 abbrev pub Need-is-taken-requires : Type 0
-Need-is-taken-requires = Lts.Need-is-taken-requires (
-  Reads'.Asked,
-  Reads'.Learnt,
-  Reads'''''''''.Asked,
-  Reads'''''''''.Learnt,
-  Reads''''''.Asked,
-  Reads''''''.Learnt,
-  Reads''''''''.Asked,
-  Reads''''''''.Learnt,
-  Reads'''''''.Asked,
-  Reads'''''''.Learnt,
-  Reads'''''''''''.Asked,
-  Reads'''''''''''.Learnt,
-  Reads'''.Asked,
-  Reads'''.Learnt,
-  Reads''''''''''.Asked,
-  Reads''''''''''.Learnt,
-  Reads'''''.Asked,
-  Reads'''''.Learnt,
-  Reads.Asked,
-  Reads.Learnt,
-  Reads''''.Asked,
-  Reads''''.Learnt,
-  Reads''''''''''''.Asked,
-  Reads''''''''''''.Learnt,
-) Reads''.Pre Reads''.Post
+Need-is-taken-requires = Lts.Need-is-taken-requires readings Reads''.Pre Reads''.Post
 
 abbrev pub Need-accept-plan-requires : Type 0
-Need-accept-plan-requires = Lts.Need-accept-plan-requires (
-  Reads'.Asked,
-  Reads'.Learnt,
-  Reads'''''''''.Asked,
-  Reads'''''''''.Learnt,
-  Reads''''''.Asked,
-  Reads''''''.Learnt,
-  Reads''''''''.Asked,
-  Reads''''''''.Learnt,
-  Reads'''''''.Asked,
-  Reads'''''''.Learnt,
-  Reads'''''''''''.Asked,
-  Reads'''''''''''.Learnt,
-  Reads'''.Asked,
-  Reads'''.Learnt,
-  Reads''''''''''.Asked,
-  Reads''''''''''.Learnt,
-  Reads'''''.Asked,
-  Reads'''''.Learnt,
-  Reads.Asked,
-  Reads.Learnt,
-  Reads''''.Asked,
-  Reads''''.Learnt,
-  Reads''''''''''''.Asked,
-  Reads''''''''''''.Learnt,
-) Reads''.Pre Reads''.Post
+Need-accept-plan-requires = Lts.Need-accept-plan-requires readings Reads''.Pre Reads''.Post
 
 abbrev pub Need-found-unmarked-requires : Type 0
-Need-found-unmarked-requires = Lts.Need-found-unmarked-requires (
-  Reads'.Asked,
-  Reads'.Learnt,
-  Reads'''''''''.Asked,
-  Reads'''''''''.Learnt,
-  Reads''''''.Asked,
-  Reads''''''.Learnt,
-  Reads''''''''.Asked,
-  Reads''''''''.Learnt,
-  Reads'''''''.Asked,
-  Reads'''''''.Learnt,
-  Reads'''''''''''.Asked,
-  Reads'''''''''''.Learnt,
-  Reads'''.Asked,
-  Reads'''.Learnt,
-  Reads''''''''''.Asked,
-  Reads''''''''''.Learnt,
-  Reads'''''.Asked,
-  Reads'''''.Learnt,
-  Reads.Asked,
-  Reads.Learnt,
-  Reads''''.Asked,
-  Reads''''.Learnt,
-  Reads''''''''''''.Asked,
-  Reads''''''''''''.Learnt,
-) Reads''.Pre Reads''.Post
+Need-found-unmarked-requires = Lts.Need-found-unmarked-requires readings Reads''.Pre Reads''.Post
 
 abbrev pub Need-circuit-for-requires : Type 0
-Need-circuit-for-requires = Lts.Need-circuit-for-requires (
-  Reads'.Asked,
-  Reads'.Learnt,
-  Reads'''''''''.Asked,
-  Reads'''''''''.Learnt,
-  Reads''''''.Asked,
-  Reads''''''.Learnt,
-  Reads''''''''.Asked,
-  Reads''''''''.Learnt,
-  Reads'''''''.Asked,
-  Reads'''''''.Learnt,
-  Reads'''''''''''.Asked,
-  Reads'''''''''''.Learnt,
-  Reads'''.Asked,
-  Reads'''.Learnt,
-  Reads''''''''''.Asked,
-  Reads''''''''''.Learnt,
-  Reads'''''.Asked,
-  Reads'''''.Learnt,
-  Reads.Asked,
-  Reads.Learnt,
-  Reads''''.Asked,
-  Reads''''.Learnt,
-  Reads''''''''''''.Asked,
-  Reads''''''''''''.Learnt,
-) Reads''.Pre Reads''.Post
+Need-circuit-for-requires = Lts.Need-circuit-for-requires readings Reads''.Pre Reads''.Post
 
 abbrev pub Need-asking-requires : Type 0
-Need-asking-requires = Lts.Need-asking-requires (
-  Reads'.Asked,
-  Reads'.Learnt,
-  Reads'''''''''.Asked,
-  Reads'''''''''.Learnt,
-  Reads''''''.Asked,
-  Reads''''''.Learnt,
-  Reads''''''''.Asked,
-  Reads''''''''.Learnt,
-  Reads'''''''.Asked,
-  Reads'''''''.Learnt,
-  Reads'''''''''''.Asked,
-  Reads'''''''''''.Learnt,
-  Reads'''.Asked,
-  Reads'''.Learnt,
-  Reads''''''''''.Asked,
-  Reads''''''''''.Learnt,
-  Reads'''''.Asked,
-  Reads'''''.Learnt,
-  Reads.Asked,
-  Reads.Learnt,
-  Reads''''.Asked,
-  Reads''''.Learnt,
-  Reads''''''''''''.Asked,
-  Reads''''''''''''.Learnt,
-) Reads''.Pre Reads''.Post
+Need-asking-requires = Lts.Need-asking-requires readings Reads''.Pre Reads''.Post
 
 abbrev pub Need-accept-written-requires : Type 0
-Need-accept-written-requires = Lts.Need-accept-written-requires (
-  Reads'.Asked,
-  Reads'.Learnt,
-  Reads'''''''''.Asked,
-  Reads'''''''''.Learnt,
-  Reads''''''.Asked,
-  Reads''''''.Learnt,
-  Reads''''''''.Asked,
-  Reads''''''''.Learnt,
-  Reads'''''''.Asked,
-  Reads'''''''.Learnt,
-  Reads'''''''''''.Asked,
-  Reads'''''''''''.Learnt,
-  Reads'''.Asked,
-  Reads'''.Learnt,
-  Reads''''''''''.Asked,
-  Reads''''''''''.Learnt,
-  Reads'''''.Asked,
-  Reads'''''.Learnt,
-  Reads.Asked,
-  Reads.Learnt,
-  Reads''''.Asked,
-  Reads''''.Learnt,
-  Reads''''''''''''.Asked,
-  Reads''''''''''''.Learnt,
-) Reads''.Pre Reads''.Post
+Need-accept-written-requires = Lts.Need-accept-written-requires readings Reads''.Pre Reads''.Post
 
 abbrev pub Need-with-circuits-requires : Type 0
-Need-with-circuits-requires = Lts.Need-with-circuits-requires (
-  Reads'.Asked,
-  Reads'.Learnt,
-  Reads'''''''''.Asked,
-  Reads'''''''''.Learnt,
-  Reads''''''.Asked,
-  Reads''''''.Learnt,
-  Reads''''''''.Asked,
-  Reads''''''''.Learnt,
-  Reads'''''''.Asked,
-  Reads'''''''.Learnt,
-  Reads'''''''''''.Asked,
-  Reads'''''''''''.Learnt,
-  Reads'''.Asked,
-  Reads'''.Learnt,
-  Reads''''''''''.Asked,
-  Reads''''''''''.Learnt,
-  Reads'''''.Asked,
-  Reads'''''.Learnt,
-  Reads.Asked,
-  Reads.Learnt,
-  Reads''''.Asked,
-  Reads''''.Learnt,
-  Reads''''''''''''.Asked,
-  Reads''''''''''''.Learnt,
-) Reads''.Pre Reads''.Post
+Need-with-circuits-requires = Lts.Need-with-circuits-requires readings Reads''.Pre Reads''.Post
 
 abbrev pub Need-drop-and-scan-requires : Type 0
-Need-drop-and-scan-requires = Lts.Need-drop-and-scan-requires (
-  Reads'.Asked,
-  Reads'.Learnt,
-  Reads'''''''''.Asked,
-  Reads'''''''''.Learnt,
-  Reads''''''.Asked,
-  Reads''''''.Learnt,
-  Reads''''''''.Asked,
-  Reads''''''''.Learnt,
-  Reads'''''''.Asked,
-  Reads'''''''.Learnt,
-  Reads'''''''''''.Asked,
-  Reads'''''''''''.Learnt,
-  Reads'''.Asked,
-  Reads'''.Learnt,
-  Reads''''''''''.Asked,
-  Reads''''''''''.Learnt,
-  Reads'''''.Asked,
-  Reads'''''.Learnt,
-  Reads.Asked,
-  Reads.Learnt,
-  Reads''''.Asked,
-  Reads''''.Learnt,
-  Reads''''''''''''.Asked,
-  Reads''''''''''''.Learnt,
-) Reads''.Pre Reads''.Post
+Need-drop-and-scan-requires = Lts.Need-drop-and-scan-requires readings Reads''.Pre Reads''.Post
 
 abbrev pub Need-to-bytes-requires : Type 0
-Need-to-bytes-requires = Lts.Need-to-bytes-requires (
-  Reads'.Asked,
-  Reads'.Learnt,
-  Reads'''''''''.Asked,
-  Reads'''''''''.Learnt,
-  Reads''''''.Asked,
-  Reads''''''.Learnt,
-  Reads''''''''.Asked,
-  Reads''''''''.Learnt,
-  Reads'''''''.Asked,
-  Reads'''''''.Learnt,
-  Reads'''''''''''.Asked,
-  Reads'''''''''''.Learnt,
-  Reads'''.Asked,
-  Reads'''.Learnt,
-  Reads''''''''''.Asked,
-  Reads''''''''''.Learnt,
-  Reads'''''.Asked,
-  Reads'''''.Learnt,
-  Reads.Asked,
-  Reads.Learnt,
-  Reads''''.Asked,
-  Reads''''.Learnt,
-  Reads''''''''''''.Asked,
-  Reads''''''''''''.Learnt,
-) Reads''.Pre Reads''.Post
+Need-to-bytes-requires = Lts.Need-to-bytes-requires readings Reads''.Pre Reads''.Post
 
 abbrev pub Need-slice-aggregate-send : Type 0
-Need-slice-aggregate-send = Lts.Need-slice-aggregate-send (
-  Reads'.Asked,
-  Reads'.Learnt,
-  Reads'''''''''.Asked,
-  Reads'''''''''.Learnt,
-  Reads''''''.Asked,
-  Reads''''''.Learnt,
-  Reads''''''''.Asked,
-  Reads''''''''.Learnt,
-  Reads'''''''.Asked,
-  Reads'''''''.Learnt,
-  Reads'''''''''''.Asked,
-  Reads'''''''''''.Learnt,
-  Reads'''.Asked,
-  Reads'''.Learnt,
-  Reads''''''''''.Asked,
-  Reads''''''''''.Learnt,
-  Reads'''''.Asked,
-  Reads'''''.Learnt,
-  Reads.Asked,
-  Reads.Learnt,
-  Reads''''.Asked,
-  Reads''''.Learnt,
-  Reads''''''''''''.Asked,
-  Reads''''''''''''.Learnt,
-) Reads''.Pre Reads''.Post
+Need-slice-aggregate-send = Lts.Need-slice-aggregate-send readings Reads''.Pre Reads''.Post
 
 abbrev pub Need-send-requires : Type 0
-Need-send-requires = Lts.Need-send-requires (
-  Reads'.Asked,
-  Reads'.Learnt,
-  Reads'''''''''.Asked,
-  Reads'''''''''.Learnt,
-  Reads''''''.Asked,
-  Reads''''''.Learnt,
-  Reads''''''''.Asked,
-  Reads''''''''.Learnt,
-  Reads'''''''.Asked,
-  Reads'''''''.Learnt,
-  Reads'''''''''''.Asked,
-  Reads'''''''''''.Learnt,
-  Reads'''.Asked,
-  Reads'''.Learnt,
-  Reads''''''''''.Asked,
-  Reads''''''''''.Learnt,
-  Reads'''''.Asked,
-  Reads'''''.Learnt,
-  Reads.Asked,
-  Reads.Learnt,
-  Reads''''.Asked,
-  Reads''''.Learnt,
-  Reads''''''''''''.Asked,
-  Reads''''''''''''.Learnt,
-) Reads''.Pre Reads''.Post
+Need-send-requires = Lts.Need-send-requires readings Reads''.Pre Reads''.Post
 
 abbrev pub Need-same-length : Type 0
-Need-same-length = Lts.Need-same-length (
-  Reads'.Asked,
-  Reads'.Learnt,
-  Reads'''''''''.Asked,
-  Reads'''''''''.Learnt,
-  Reads''''''.Asked,
-  Reads''''''.Learnt,
-  Reads''''''''.Asked,
-  Reads''''''''.Learnt,
-  Reads'''''''.Asked,
-  Reads'''''''.Learnt,
-  Reads'''''''''''.Asked,
-  Reads'''''''''''.Learnt,
-  Reads'''.Asked,
-  Reads'''.Learnt,
-  Reads''''''''''.Asked,
-  Reads''''''''''.Learnt,
-  Reads'''''.Asked,
-  Reads'''''.Learnt,
-  Reads.Asked,
-  Reads.Learnt,
-  Reads''''.Asked,
-  Reads''''.Learnt,
-  Reads''''''''''''.Asked,
-  Reads''''''''''''.Learnt,
-) Reads''.Pre Reads''.Post
+Need-same-length = Lts.Need-same-length readings Reads''.Pre Reads''.Post
 
 abbrev pub Need-same-length-2 : Type 0
-Need-same-length-2 = Lts.Need-same-length-2 (
-  Reads'.Asked,
-  Reads'.Learnt,
-  Reads'''''''''.Asked,
-  Reads'''''''''.Learnt,
-  Reads''''''.Asked,
-  Reads''''''.Learnt,
-  Reads''''''''.Asked,
-  Reads''''''''.Learnt,
-  Reads'''''''.Asked,
-  Reads'''''''.Learnt,
-  Reads'''''''''''.Asked,
-  Reads'''''''''''.Learnt,
-  Reads'''.Asked,
-  Reads'''.Learnt,
-  Reads''''''''''.Asked,
-  Reads''''''''''.Learnt,
-  Reads'''''.Asked,
-  Reads'''''.Learnt,
-  Reads.Asked,
-  Reads.Learnt,
-  Reads''''.Asked,
-  Reads''''.Learnt,
-  Reads''''''''''''.Asked,
-  Reads''''''''''''.Learnt,
-) Reads''.Pre Reads''.Post
+Need-same-length-2 = Lts.Need-same-length-2 readings Reads''.Pre Reads''.Post
 
 abbrev pub Need-same-length-3 : Type 0
-Need-same-length-3 = Lts.Need-same-length-3 (
-  Reads'.Asked,
-  Reads'.Learnt,
-  Reads'''''''''.Asked,
-  Reads'''''''''.Learnt,
-  Reads''''''.Asked,
-  Reads''''''.Learnt,
-  Reads''''''''.Asked,
-  Reads''''''''.Learnt,
-  Reads'''''''.Asked,
-  Reads'''''''.Learnt,
-  Reads'''''''''''.Asked,
-  Reads'''''''''''.Learnt,
-  Reads'''.Asked,
-  Reads'''.Learnt,
-  Reads''''''''''.Asked,
-  Reads''''''''''.Learnt,
-  Reads'''''.Asked,
-  Reads'''''.Learnt,
-  Reads.Asked,
-  Reads.Learnt,
-  Reads''''.Asked,
-  Reads''''.Learnt,
-  Reads''''''''''''.Asked,
-  Reads''''''''''''.Learnt,
-) Reads''.Pre Reads''.Post
+Need-same-length-3 = Lts.Need-same-length-3 readings Reads''.Pre Reads''.Post
 
 abbrev pub Need-same-length-4 : Type 0
-Need-same-length-4 = Lts.Need-same-length-4 (
-  Reads'.Asked,
-  Reads'.Learnt,
-  Reads'''''''''.Asked,
-  Reads'''''''''.Learnt,
-  Reads''''''.Asked,
-  Reads''''''.Learnt,
-  Reads''''''''.Asked,
-  Reads''''''''.Learnt,
-  Reads'''''''.Asked,
-  Reads'''''''.Learnt,
-  Reads'''''''''''.Asked,
-  Reads'''''''''''.Learnt,
-  Reads'''.Asked,
-  Reads'''.Learnt,
-  Reads''''''''''.Asked,
-  Reads''''''''''.Learnt,
-  Reads'''''.Asked,
-  Reads'''''.Learnt,
-  Reads.Asked,
-  Reads.Learnt,
-  Reads''''.Asked,
-  Reads''''.Learnt,
-  Reads''''''''''''.Asked,
-  Reads''''''''''''.Learnt,
-) Reads''.Pre Reads''.Post
+Need-same-length-4 = Lts.Need-same-length-4 readings Reads''.Pre Reads''.Post
 
 abbrev pub Need-returns : Type 0
-Need-returns = Lts.Need-returns (
-  Reads'.Asked,
-  Reads'.Learnt,
-  Reads'''''''''.Asked,
-  Reads'''''''''.Learnt,
-  Reads''''''.Asked,
-  Reads''''''.Learnt,
-  Reads''''''''.Asked,
-  Reads''''''''.Learnt,
-  Reads'''''''.Asked,
-  Reads'''''''.Learnt,
-  Reads'''''''''''.Asked,
-  Reads'''''''''''.Learnt,
-  Reads'''.Asked,
-  Reads'''.Learnt,
-  Reads''''''''''.Asked,
-  Reads''''''''''.Learnt,
-  Reads'''''.Asked,
-  Reads'''''.Learnt,
-  Reads.Asked,
-  Reads.Learnt,
-  Reads''''.Asked,
-  Reads''''.Learnt,
-  Reads''''''''''''.Asked,
-  Reads''''''''''''.Learnt,
-) Reads''.Pre Reads''.Post
+Need-returns = Lts.Need-returns readings Reads''.Pre Reads''.Post
 
 abbrev pub Need-refused-requires : Type 0
-Need-refused-requires = Lts.Need-refused-requires (
-  Reads'.Asked,
-  Reads'.Learnt,
-  Reads'''''''''.Asked,
-  Reads'''''''''.Learnt,
-  Reads''''''.Asked,
-  Reads''''''.Learnt,
-  Reads''''''''.Asked,
-  Reads''''''''.Learnt,
-  Reads'''''''.Asked,
-  Reads'''''''.Learnt,
-  Reads'''''''''''.Asked,
-  Reads'''''''''''.Learnt,
-  Reads'''.Asked,
-  Reads'''.Learnt,
-  Reads''''''''''.Asked,
-  Reads''''''''''.Learnt,
-  Reads'''''.Asked,
-  Reads'''''.Learnt,
-  Reads.Asked,
-  Reads.Learnt,
-  Reads''''.Asked,
-  Reads''''.Learnt,
-  Reads''''''''''''.Asked,
-  Reads''''''''''''.Learnt,
-) Reads''.Pre Reads''.Post
+Need-refused-requires = Lts.Need-refused-requires readings Reads''.Pre Reads''.Post
 
 abbrev pub Need-same-length-5 : Type 0
-Need-same-length-5 = Lts.Need-same-length-5 (
-  Reads'.Asked,
-  Reads'.Learnt,
-  Reads'''''''''.Asked,
-  Reads'''''''''.Learnt,
-  Reads''''''.Asked,
-  Reads''''''.Learnt,
-  Reads''''''''.Asked,
-  Reads''''''''.Learnt,
-  Reads'''''''.Asked,
-  Reads'''''''.Learnt,
-  Reads'''''''''''.Asked,
-  Reads'''''''''''.Learnt,
-  Reads'''.Asked,
-  Reads'''.Learnt,
-  Reads''''''''''.Asked,
-  Reads''''''''''.Learnt,
-  Reads'''''.Asked,
-  Reads'''''.Learnt,
-  Reads.Asked,
-  Reads.Learnt,
-  Reads''''.Asked,
-  Reads''''.Learnt,
-  Reads''''''''''''.Asked,
-  Reads''''''''''''.Learnt,
-) Reads''.Pre Reads''.Post
+Need-same-length-5 = Lts.Need-same-length-5 readings Reads''.Pre Reads''.Post
 
 abbrev pub Need-same-length-6 : Type 0
-Need-same-length-6 = Lts.Need-same-length-6 (
-  Reads'.Asked,
-  Reads'.Learnt,
-  Reads'''''''''.Asked,
-  Reads'''''''''.Learnt,
-  Reads''''''.Asked,
-  Reads''''''.Learnt,
-  Reads''''''''.Asked,
-  Reads''''''''.Learnt,
-  Reads'''''''.Asked,
-  Reads'''''''.Learnt,
-  Reads'''''''''''.Asked,
-  Reads'''''''''''.Learnt,
-  Reads'''.Asked,
-  Reads'''.Learnt,
-  Reads''''''''''.Asked,
-  Reads''''''''''.Learnt,
-  Reads'''''.Asked,
-  Reads'''''.Learnt,
-  Reads.Asked,
-  Reads.Learnt,
-  Reads''''.Asked,
-  Reads''''.Learnt,
-  Reads''''''''''''.Asked,
-  Reads''''''''''''.Learnt,
-) Reads''.Pre Reads''.Post
+Need-same-length-6 = Lts.Need-same-length-6 readings Reads''.Pre Reads''.Post
 
 abbrev pub Need-same-length-7 : Type 0
-Need-same-length-7 = Lts.Need-same-length-7 (
-  Reads'.Asked,
-  Reads'.Learnt,
-  Reads'''''''''.Asked,
-  Reads'''''''''.Learnt,
-  Reads''''''.Asked,
-  Reads''''''.Learnt,
-  Reads''''''''.Asked,
-  Reads''''''''.Learnt,
-  Reads'''''''.Asked,
-  Reads'''''''.Learnt,
-  Reads'''''''''''.Asked,
-  Reads'''''''''''.Learnt,
-  Reads'''.Asked,
-  Reads'''.Learnt,
-  Reads''''''''''.Asked,
-  Reads''''''''''.Learnt,
-  Reads'''''.Asked,
-  Reads'''''.Learnt,
-  Reads.Asked,
-  Reads.Learnt,
-  Reads''''.Asked,
-  Reads''''.Learnt,
-  Reads''''''''''''.Asked,
-  Reads''''''''''''.Learnt,
-) Reads''.Pre Reads''.Post
+Need-same-length-7 = Lts.Need-same-length-7 readings Reads''.Pre Reads''.Post
 
 abbrev pub Need-returns-2 : Type 0
-Need-returns-2 = Lts.Need-returns-2 (
-  Reads'.Asked,
-  Reads'.Learnt,
-  Reads'''''''''.Asked,
-  Reads'''''''''.Learnt,
-  Reads''''''.Asked,
-  Reads''''''.Learnt,
-  Reads''''''''.Asked,
-  Reads''''''''.Learnt,
-  Reads'''''''.Asked,
-  Reads'''''''.Learnt,
-  Reads'''''''''''.Asked,
-  Reads'''''''''''.Learnt,
-  Reads'''.Asked,
-  Reads'''.Learnt,
-  Reads''''''''''.Asked,
-  Reads''''''''''.Learnt,
-  Reads'''''.Asked,
-  Reads'''''.Learnt,
-  Reads.Asked,
-  Reads.Learnt,
-  Reads''''.Asked,
-  Reads''''.Learnt,
-  Reads''''''''''''.Asked,
-  Reads''''''''''''.Learnt,
-) Reads''.Pre Reads''.Post
+Need-returns-2 = Lts.Need-returns-2 readings Reads''.Pre Reads''.Post
 
 module _ {M : Type 1} where
-  pub spec : (answer : Need-accept-answered-requires) → (answer : Need-is-taken-requires) → (answer : Need-accept-plan-requires) → (answer :
-      Need-found-unmarked-requires) → (answer : Need-circuit-for-requires) → (answer : Need-asking-requires) → (answer : Need-accept-written-requires)
-      → (answer : Need-with-circuits-requires) → (answer : Need-drop-and-scan-requires) → (answer : Need-to-bytes-requires) → (answer :
-      Need-slice-aggregate-send) → (answer : Need-send-requires) → (answer : Need-same-length) → (answer : Need-same-length-2) → (answer :
-      Need-same-length-3) → (answer : Need-same-length-4) → (answer : Need-returns) → (answer : Need-refused-requires) → (answer : Need-same-length-5)
-      → (answer : Need-same-length-6) → (answer : Need-same-length-7) → (answer : Need-returns-2) → Lts.Closed (
-        Reads'.Asked,
-        Reads'.Learnt,
-        Reads'''''''''.Asked,
-        Reads'''''''''.Learnt,
-        Reads''''''.Asked,
-        Reads''''''.Learnt,
-        Reads''''''''.Asked,
-        Reads''''''''.Learnt,
-        Reads'''''''.Asked,
-        Reads'''''''.Learnt,
-        Reads'''''''''''.Asked,
-        Reads'''''''''''.Learnt,
-        Reads'''.Asked,
-        Reads'''.Learnt,
-        Reads''''''''''.Asked,
-        Reads''''''''''.Learnt,
-        Reads'''''.Asked,
-        Reads'''''.Learnt,
-        Reads.Asked,
-        Reads.Learnt,
-        Reads''''.Asked,
-        Reads''''.Learnt,
-        Reads''''''''''''.Asked,
-        Reads''''''''''''.Learnt,
-      ) Reads''.Pre Reads''.Post M
-  spec = λ answer answer' answer'' answer'3 answer'4 answer'5 answer'6 answer'7 answer'8 answer'9 answer'10 answer'11 answer'12 answer'13 answer'14
-      answer'15 answer'16 answer'17 answer'18 answer'19 answer'20 answer'21. Lts.spec (
-        Reads'.Asked,
-        Reads'.Learnt,
-        Reads'''''''''.Asked,
-        Reads'''''''''.Learnt,
-        Reads''''''.Asked,
-        Reads''''''.Learnt,
-        Reads''''''''.Asked,
-        Reads''''''''.Learnt,
-        Reads'''''''.Asked,
-        Reads'''''''.Learnt,
-        Reads'''''''''''.Asked,
-        Reads'''''''''''.Learnt,
-        Reads'''.Asked,
-        Reads'''.Learnt,
-        Reads''''''''''.Asked,
-        Reads''''''''''.Learnt,
-        Reads'''''.Asked,
-        Reads'''''.Learnt,
-        Reads.Asked,
-        Reads.Learnt,
-        Reads''''.Asked,
-        Reads''''.Learnt,
-        Reads''''''''''''.Asked,
-        Reads''''''''''''.Learnt,
-      ) Reads''.Pre Reads''.Post answer answer' answer'' answer'3 answer'4 answer'5 answer'6
-      answer'7 answer'8 answer'9 answer'10 answer'11 answer'12 answer'13 answer'14 answer'15 answer'16 answer'17 answer'18 answer'19 answer'20
-      answer'21
+  pub spec : (answer : Need-accept-answered-requires) → (answer : Need-is-taken-requires) →
+      (answer : Need-accept-plan-requires) → (answer : Need-found-unmarked-requires) →
+      (answer : Need-circuit-for-requires) → (answer : Need-asking-requires) → (answer : Need-accept-written-requires)
+      → (answer : Need-with-circuits-requires) → (answer : Need-drop-and-scan-requires) →
+      (answer : Need-to-bytes-requires) → (answer : Need-slice-aggregate-send) → (answer : Need-send-requires) →
+      (answer : Need-same-length) → (answer : Need-same-length-2) → (answer : Need-same-length-3) →
+      (answer : Need-same-length-4) → (answer : Need-returns) → (answer : Need-refused-requires) →
+      (answer : Need-same-length-5) → (answer : Need-same-length-6) → (answer : Need-same-length-7) →
+      (answer : Need-returns-2) → Lts.Closed readings Reads''.Pre Reads''.Post M
+  spec = λ answer answer' answer'' answer'3 answer'4 answer'5 answer'6 answer'7 answer'8 answer'9 answer'10 answer'11
+      answer'12 answer'13 answer'14 answer'15 answer'16 answer'17 answer'18 answer'19 answer'20 answer'21. Lts.spec
+      readings Reads''.Pre Reads''.Post answer answer' answer'' answer'3 answer'4 answer'5 answer'6 answer'7 answer'8
+      answer'9 answer'10 answer'11 answer'12 answer'13 answer'14 answer'15 answer'16 answer'17 answer'18 answer'19
+      answer'20 answer'21
 
-  pub close : Lts.Closed (
-    Reads'.Asked,
-    Reads'.Learnt,
-    Reads'''''''''.Asked,
-    Reads'''''''''.Learnt,
-    Reads''''''.Asked,
-    Reads''''''.Learnt,
-    Reads''''''''.Asked,
-    Reads''''''''.Learnt,
-    Reads'''''''.Asked,
-    Reads'''''''.Learnt,
-    Reads'''''''''''.Asked,
-    Reads'''''''''''.Learnt,
-    Reads'''.Asked,
-    Reads'''.Learnt,
-    Reads''''''''''.Asked,
-    Reads''''''''''.Learnt,
-    Reads'''''.Asked,
-    Reads'''''.Learnt,
-    Reads.Asked,
-    Reads.Learnt,
-    Reads''''.Asked,
-    Reads''''.Learnt,
-    Reads''''''''''''.Asked,
-    Reads''''''''''''.Learnt,
-  ) Reads''.Pre Reads''.Post M → Statement.statement M
+  pub close : Lts.Closed readings Reads''.Pre Reads''.Post M → Statement.statement M
   unfolding Code.routine Running.tablesOf
-  close = λ closed 𝓤 H 𝓜 𝓖 𝓡. Written.close 5 Kinds.ps Kinds.r Reads''.Ghost Reads''.requires Reads''.ensures Reads''.pre-read Reads''.Pinned
-      Reads''.Owned Reads''.post-read record { M = M; 𝓤 = 𝓤; H = H; 𝓜 = 𝓜; 𝓖 = 𝓖; 𝓡 = 𝓡 } Code.env Key.name Code.function (Code.unfolded 𝓤 H 𝓜 𝓡) (λ
-      κs a g. tt) (λ κs. Reads''.owns κs record { M = M; 𝓤 = 𝓤; H = H; 𝓜 = 𝓜; 𝓖 = 𝓖; 𝓡 = 𝓡 }) (Reads''.passes record {
-        M = M;
-        𝓤 = 𝓤;
-        H = H;
-        𝓜 = 𝓜;
-        𝓖 =
-            𝓖;
-        𝓡 = 𝓡;
-      }) λ g. closed 𝓤 H (𝓖 .A) (Running.givenOf 𝓤 H 𝓜 𝓖) (Run.Over 𝓤 H 𝓜 𝓖 𝓡 Code.env) (Reads'.known record {
-        M = M;
-        𝓤 = 𝓤;
-        H = H;
-        𝓜 = 𝓜;
-        𝓖
-            = 𝓖;
-        𝓡 = 𝓡;
-      } Code.env Symbol'''''.name Symbol'''''.routine Code.calls-hnsr-circuit·handle-accept·accept-answered (Met'''''.met 𝓤 H 𝓜 𝓖 𝓡))
-      (Reads'''''''''.known record { M = M; 𝓤 = 𝓤; H = H; 𝓜 = 𝓜; 𝓖 = 𝓖; 𝓡 = 𝓡 } Code.env Symbol''''.name Symbol''''.routine
-      Code.calls-hnsr-circuit·answer·is-taken (Met''''.met 𝓤 H 𝓜 𝓖 𝓡)) (Reads''''''.known record { M = M; 𝓤 = 𝓤; H = H; 𝓜 = 𝓜; 𝓖 = 𝓖; 𝓡 = 𝓡 } Code.env
-      Symbol'.name Symbol'.routine Code.calls-hnsr-circuit·accept·accept-plan (Met'.met 𝓤 H 𝓜 𝓖 𝓡)) (Reads''''''''.known record {
-        M = M;
-        𝓤 = 𝓤;
-        H = H;
-        𝓜 = 𝓜;
-        𝓖 = 𝓖;
-        𝓡 = 𝓡;
-      } Code.env Symbol'''.name Symbol'''.routine Code.calls-hnsr-circuit·accept·found-unmarked (Met'''.met 𝓤 H 𝓜 𝓖 𝓡))
-      (Reads'''''''.known record { M = M; 𝓤 = 𝓤; H = H; 𝓜 = 𝓜; 𝓖 = 𝓖; 𝓡 = 𝓡 } Code.env Symbol''.name Symbol''.routine
-      Code.calls-hnsr-circuit·accept·circuit-for (Met''.met 𝓤 H 𝓜 𝓖 𝓡)) (Reads'''''''''''.known record { M = M; 𝓤 = 𝓤; H = H; 𝓜 = 𝓜; 𝓖 = 𝓖; 𝓡 = 𝓡 }
-      Code.env Symbol''''''''.name Symbol''''''''.routine Code.calls-hnsr-circuit·queue·asking (Met''''''''.met 𝓤 H 𝓜 𝓖 𝓡)) (Reads'''.known record {
-        M
-            = M;
-        𝓤 = 𝓤;
-        H = H;
-        𝓜 = 𝓜;
-        𝓖 = 𝓖;
-        𝓡 = 𝓡;
-      } Code.env Symbol''''''.name Symbol''''''.routine Code.calls-hnsr-circuit·handle-accept·accept-written
-      (Met''''''.met 𝓤 H 𝓜 𝓖 𝓡)) (Reads''''''''''.known record { M = M; 𝓤 = 𝓤; H = H; 𝓜 = 𝓜; 𝓖 = 𝓖; 𝓡 = 𝓡 } Code.env Symbol'''''''.name
-      Symbol'''''''.routine Code.calls-hnsr-circuit·places·with-circuits (Met'''''''.met 𝓤 H 𝓜 𝓖 𝓡)) (Reads'''''.known record {
-        M = M;
-        𝓤 = 𝓤;
-        H = H;
-        𝓜
-            = 𝓜;
-        𝓖 = 𝓖;
-        𝓡 = 𝓡;
-      } Code.env Symbol'''''''''''.name Symbol'''''''''''.routine Code.calls-hnsr-circuit·tables·inflight·drop-and-scan
-      (Met'''''''''''.met 𝓤 H 𝓜 𝓖 𝓡)) (Reads.known record { M = M; 𝓤 = 𝓤; H = H; 𝓜 = 𝓜; 𝓖 = 𝓖; 𝓡 = 𝓡 } Code.env Symbol.name Symbol.routine
-      Code.calls-hnsr-body·accept-body·OpenedBody·to-bytes (Met.met 𝓤 H 𝓜 𝓖 𝓡)) (Reads''''.known record { M = M; 𝓤 = 𝓤; H = H; 𝓜 = 𝓜; 𝓖 = 𝓖; 𝓡 = 𝓡 }
-      Code.env Symbol'''''''''.name Symbol'''''''''.routine Code.calls-hnsr-circuit·queue·send (Met'''''''''.met 𝓤 H 𝓜 𝓖 𝓡)) (Reads''''''''''''.known
+  close = λ closed 𝓤 H 𝓜 𝓖 𝓡. Written.close 5 Kinds.ps Kinds.r Reads''.Ghost Reads''.requires Reads''.ensures
+      Reads''.pre-read Reads''.Pinned Reads''.Owned Reads''.post-read
+      record { M = M; 𝓤 = 𝓤; H = H; 𝓜 = 𝓜; 𝓖 = 𝓖; 𝓡 = 𝓡 } Code.env Key.name Code.function (Code.unfolded 𝓤 H 𝓜 𝓡)
+      (λ κs a g. tt) (λ κs. Reads''.owns κs record { M = M; 𝓤 = 𝓤; H = H; 𝓜 = 𝓜; 𝓖 = 𝓖; 𝓡 = 𝓡 }) (Reads''.passes
+      record { M = M; 𝓤 = 𝓤; H = H; 𝓜 = 𝓜; 𝓖 = 𝓖; 𝓡 = 𝓡 }) λ g. closed 𝓤 H (𝓖 .A) (Running.givenOf 𝓤 H 𝓜 𝓖)
+      (Run.Over 𝓤 H 𝓜 𝓖 𝓡 Code.env) (Reads'.known record { M = M; 𝓤 = 𝓤; H = H; 𝓜 = 𝓜; 𝓖 = 𝓖; 𝓡 = 𝓡 } Code.env
+      Symbol'''''.name Symbol'''''.routine Code.calls-hnsr-circuit·handle-accept·accept-answered
+      (Met'''''.met 𝓤 H 𝓜 𝓖 𝓡)) (Reads'''''''''.known record { M = M; 𝓤 = 𝓤; H = H; 𝓜 = 𝓜; 𝓖 = 𝓖; 𝓡 = 𝓡 } Code.env
+      Symbol''''.name Symbol''''.routine Code.calls-hnsr-circuit·answer·is-taken (Met''''.met 𝓤 H 𝓜 𝓖 𝓡)) (Reads''''''.known
+      record { M = M; 𝓤 = 𝓤; H = H; 𝓜 = 𝓜; 𝓖 = 𝓖; 𝓡 = 𝓡 } Code.env Symbol'.name Symbol'.routine
+      Code.calls-hnsr-circuit·accept·accept-plan (Met'.met 𝓤 H 𝓜 𝓖 𝓡)) (Reads''''''''.known
+      record { M = M; 𝓤 = 𝓤; H = H; 𝓜 = 𝓜; 𝓖 = 𝓖; 𝓡 = 𝓡 } Code.env Symbol'''.name Symbol'''.routine
+      Code.calls-hnsr-circuit·accept·found-unmarked (Met'''.met 𝓤 H 𝓜 𝓖 𝓡)) (Reads'''''''.known
+      record { M = M; 𝓤 = 𝓤; H = H; 𝓜 = 𝓜; 𝓖 = 𝓖; 𝓡 = 𝓡 } Code.env Symbol''.name Symbol''.routine
+      Code.calls-hnsr-circuit·accept·circuit-for (Met''.met 𝓤 H 𝓜 𝓖 𝓡)) (Reads'''''''''''.known
+      record { M = M; 𝓤 = 𝓤; H = H; 𝓜 = 𝓜; 𝓖 = 𝓖; 𝓡 = 𝓡 } Code.env Symbol''''''''.name Symbol''''''''.routine
+      Code.calls-hnsr-circuit·queue·asking (Met''''''''.met 𝓤 H 𝓜 𝓖 𝓡)) (Reads'''.known
+      record { M = M; 𝓤 = 𝓤; H = H; 𝓜 = 𝓜; 𝓖 = 𝓖; 𝓡 = 𝓡 } Code.env Symbol''''''.name Symbol''''''.routine
+      Code.calls-hnsr-circuit·handle-accept·accept-written (Met''''''.met 𝓤 H 𝓜 𝓖 𝓡)) (Reads''''''''''.known
+      record { M = M; 𝓤 = 𝓤; H = H; 𝓜 = 𝓜; 𝓖 = 𝓖; 𝓡 = 𝓡 } Code.env Symbol'''''''.name Symbol'''''''.routine
+      Code.calls-hnsr-circuit·places·with-circuits (Met'''''''.met 𝓤 H 𝓜 𝓖 𝓡)) (Reads'''''.known
+      record { M = M; 𝓤 = 𝓤; H = H; 𝓜 = 𝓜; 𝓖 = 𝓖; 𝓡 = 𝓡 } Code.env Symbol'''''''''''.name Symbol'''''''''''.routine
+      Code.calls-hnsr-circuit·tables·inflight·drop-and-scan (Met'''''''''''.met 𝓤 H 𝓜 𝓖 𝓡)) (Reads.known
+      record { M = M; 𝓤 = 𝓤; H = H; 𝓜 = 𝓜; 𝓖 = 𝓖; 𝓡 = 𝓡 } Code.env Symbol.name Symbol.routine
+      Code.calls-hnsr-body·accept-body·OpenedBody·to-bytes (Met.met 𝓤 H 𝓜 𝓖 𝓡)) (Reads''''.known
+      record { M = M; 𝓤 = 𝓤; H = H; 𝓜 = 𝓜; 𝓖 = 𝓖; 𝓡 = 𝓡 } Code.env Symbol'''''''''.name Symbol'''''''''.routine
+      Code.calls-hnsr-circuit·queue·send (Met'''''''''.met 𝓤 H 𝓜 𝓖 𝓡)) (Reads''''''''''''.known
       record { M = M; 𝓤 = 𝓤; H = H; 𝓜 = 𝓜; 𝓖 = 𝓖; 𝓡 = 𝓡 } Code.env Symbol''''''''''.name Symbol''''''''''.routine
       Code.calls-hnsr-circuit·revoking-calls·refused (Met''''''''''.met 𝓤 H 𝓜 𝓖 𝓡))

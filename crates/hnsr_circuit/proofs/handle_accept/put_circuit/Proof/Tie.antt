@@ -27,8 +27,8 @@ use borrow.Fn.Run
 use borrow.Fn.Written
 use contract.Running
 
-abbrev pub Start : Type 0
-Start = Lts.Start (
+abbrev pub readings : Lts.Claims
+readings = (
   Reads''.Asked,
   Reads''.Learnt,
   Reads''''''.Asked,
@@ -41,365 +41,89 @@ Start = Lts.Start (
   Reads'''.Learnt,
   Reads'''''.Asked,
   Reads'''''.Learnt,
-) Reads.Pre Reads.Post
+)
+
+abbrev pub Start : Type 0
+Start = Lts.Start readings Reads.Pre Reads.Post
 
 abbrev pub After-find-circuit-id-arg : Type 0
-After-find-circuit-id-arg = Lts.After-find-circuit-id-arg (
-  Reads''.Asked,
-  Reads''.Learnt,
-  Reads''''''.Asked,
-  Reads''''''.Learnt,
-  Reads'.Asked,
-  Reads'.Learnt,
-  Reads''''.Asked,
-  Reads''''.Learnt,
-  Reads'''.Asked,
-  Reads'''.Learnt,
-  Reads'''''.Asked,
-  Reads'''''.Learnt,
-) Reads.Pre Reads.Post
+After-find-circuit-id-arg = Lts.After-find-circuit-id-arg readings Reads.Pre Reads.Post
 
 abbrev pub After-find-circuit-id : Type 0
-After-find-circuit-id = Lts.After-find-circuit-id (
-  Reads''.Asked,
-  Reads''.Learnt,
-  Reads''''''.Asked,
-  Reads''''''.Learnt,
-  Reads'.Asked,
-  Reads'.Learnt,
-  Reads''''.Asked,
-  Reads''''.Learnt,
-  Reads'''.Asked,
-  Reads'''.Learnt,
-  Reads'''''.Asked,
-  Reads'''''.Learnt,
-) Reads.Pre Reads.Post
+After-find-circuit-id = Lts.After-find-circuit-id readings Reads.Pre Reads.Post
 
 abbrev pub After-unused : Type 0
-After-unused = Lts.After-unused (
-  Reads''.Asked,
-  Reads''.Learnt,
-  Reads''''''.Asked,
-  Reads''''''.Learnt,
-  Reads'.Asked,
-  Reads'.Learnt,
-  Reads''''.Asked,
-  Reads''''.Learnt,
-  Reads'''.Asked,
-  Reads'''.Learnt,
-  Reads'''''.Asked,
-  Reads'''''.Learnt,
-) Reads.Pre Reads.Post
+After-unused = Lts.After-unused readings Reads.Pre Reads.Post
 
 abbrev pub After-find-circuit-arg : Type 0
-After-find-circuit-arg = Lts.After-find-circuit-arg (
-  Reads''.Asked,
-  Reads''.Learnt,
-  Reads''''''.Asked,
-  Reads''''''.Learnt,
-  Reads'.Asked,
-  Reads'.Learnt,
-  Reads''''.Asked,
-  Reads''''.Learnt,
-  Reads'''.Asked,
-  Reads'''.Learnt,
-  Reads'''''.Asked,
-  Reads'''''.Learnt,
-) Reads.Pre Reads.Post
+After-find-circuit-arg = Lts.After-find-circuit-arg readings Reads.Pre Reads.Post
 
 abbrev pub After-find-circuit : Type 0
-After-find-circuit = Lts.After-find-circuit (
-  Reads''.Asked,
-  Reads''.Learnt,
-  Reads''''''.Asked,
-  Reads''''''.Learnt,
-  Reads'.Asked,
-  Reads'.Learnt,
-  Reads''''.Asked,
-  Reads''''.Learnt,
-  Reads'''.Asked,
-  Reads'''.Learnt,
-  Reads'''''.Asked,
-  Reads'''''.Learnt,
-) Reads.Pre Reads.Post
+After-find-circuit = Lts.After-find-circuit readings Reads.Pre Reads.Post
 
 abbrev pub After-put-place : Type 0
-After-put-place = Lts.After-put-place (
-  Reads''.Asked,
-  Reads''.Learnt,
-  Reads''''''.Asked,
-  Reads''''''.Learnt,
-  Reads'.Asked,
-  Reads'.Learnt,
-  Reads''''.Asked,
-  Reads''''.Learnt,
-  Reads'''.Asked,
-  Reads'''.Learnt,
-  Reads'''''.Asked,
-  Reads'''''.Learnt,
-) Reads.Pre Reads.Post
+After-put-place = Lts.After-put-place readings Reads.Pre Reads.Post
 
 abbrev pub After-set-circuit-arg : Type 0
-After-set-circuit-arg = Lts.After-set-circuit-arg (
-  Reads''.Asked,
-  Reads''.Learnt,
-  Reads''''''.Asked,
-  Reads''''''.Learnt,
-  Reads'.Asked,
-  Reads'.Learnt,
-  Reads''''.Asked,
-  Reads''''.Learnt,
-  Reads'''.Asked,
-  Reads'''.Learnt,
-  Reads'''''.Asked,
-  Reads'''''.Learnt,
-) Reads.Pre Reads.Post
+After-set-circuit-arg = Lts.After-set-circuit-arg readings Reads.Pre Reads.Post
 
 abbrev pub After-set-circuit : Type 0
-After-set-circuit = Lts.After-set-circuit (
-  Reads''.Asked,
-  Reads''.Learnt,
-  Reads''''''.Asked,
-  Reads''''''.Learnt,
-  Reads'.Asked,
-  Reads'.Learnt,
-  Reads''''.Asked,
-  Reads''''.Learnt,
-  Reads'''.Asked,
-  Reads'''.Learnt,
-  Reads'''''.Asked,
-  Reads'''''.Learnt,
-) Reads.Pre Reads.Post
+After-set-circuit = Lts.After-set-circuit readings Reads.Pre Reads.Post
 
 abbrev pub After-circuits : Type 0
-After-circuits = Lts.After-circuits (
-  Reads''.Asked,
-  Reads''.Learnt,
-  Reads''''''.Asked,
-  Reads''''''.Learnt,
-  Reads'.Asked,
-  Reads'.Learnt,
-  Reads''''.Asked,
-  Reads''''.Learnt,
-  Reads'''.Asked,
-  Reads'''.Learnt,
-  Reads'''''.Asked,
-  Reads'''''.Learnt,
-) Reads.Pre Reads.Post
+After-circuits = Lts.After-circuits readings Reads.Pre Reads.Post
 
 abbrev pub After-raised : Type 0
-After-raised = Lts.After-raised (
-  Reads''.Asked,
-  Reads''.Learnt,
-  Reads''''''.Asked,
-  Reads''''''.Learnt,
-  Reads'.Asked,
-  Reads'.Learnt,
-  Reads''''.Asked,
-  Reads''''.Learnt,
-  Reads'''.Asked,
-  Reads'''.Learnt,
-  Reads'''''.Asked,
-  Reads'''''.Learnt,
-) Reads.Pre Reads.Post
+After-raised = Lts.After-raised readings Reads.Pre Reads.Post
 
 abbrev pub Need-find-circuit-id-requires : Type 0
-Need-find-circuit-id-requires = Lts.Need-find-circuit-id-requires (
-  Reads''.Asked,
-  Reads''.Learnt,
-  Reads''''''.Asked,
-  Reads''''''.Learnt,
-  Reads'.Asked,
-  Reads'.Learnt,
-  Reads''''.Asked,
-  Reads''''.Learnt,
-  Reads'''.Asked,
-  Reads'''.Learnt,
-  Reads'''''.Asked,
-  Reads'''''.Learnt,
-) Reads.Pre Reads.Post
+Need-find-circuit-id-requires = Lts.Need-find-circuit-id-requires readings Reads.Pre Reads.Post
 
 abbrev pub Need-unused-requires : Type 0
-Need-unused-requires = Lts.Need-unused-requires (
-  Reads''.Asked,
-  Reads''.Learnt,
-  Reads''''''.Asked,
-  Reads''''''.Learnt,
-  Reads'.Asked,
-  Reads'.Learnt,
-  Reads''''.Asked,
-  Reads''''.Learnt,
-  Reads'''.Asked,
-  Reads'''.Learnt,
-  Reads'''''.Asked,
-  Reads'''''.Learnt,
-) Reads.Pre Reads.Post
+Need-unused-requires = Lts.Need-unused-requires readings Reads.Pre Reads.Post
 
 abbrev pub Need-find-circuit-requires : Type 0
-Need-find-circuit-requires = Lts.Need-find-circuit-requires (
-  Reads''.Asked,
-  Reads''.Learnt,
-  Reads''''''.Asked,
-  Reads''''''.Learnt,
-  Reads'.Asked,
-  Reads'.Learnt,
-  Reads''''.Asked,
-  Reads''''.Learnt,
-  Reads'''.Asked,
-  Reads'''.Learnt,
-  Reads'''''.Asked,
-  Reads'''''.Learnt,
-) Reads.Pre Reads.Post
+Need-find-circuit-requires = Lts.Need-find-circuit-requires readings Reads.Pre Reads.Post
 
 abbrev pub Need-put-place-requires : Type 0
-Need-put-place-requires = Lts.Need-put-place-requires (
-  Reads''.Asked,
-  Reads''.Learnt,
-  Reads''''''.Asked,
-  Reads''''''.Learnt,
-  Reads'.Asked,
-  Reads'.Learnt,
-  Reads''''.Asked,
-  Reads''''.Learnt,
-  Reads'''.Asked,
-  Reads'''.Learnt,
-  Reads'''''.Asked,
-  Reads'''''.Learnt,
-) Reads.Pre Reads.Post
+Need-put-place-requires = Lts.Need-put-place-requires readings Reads.Pre Reads.Post
 
 abbrev pub Need-set-circuit-requires : Type 0
-Need-set-circuit-requires = Lts.Need-set-circuit-requires (
-  Reads''.Asked,
-  Reads''.Learnt,
-  Reads''''''.Asked,
-  Reads''''''.Learnt,
-  Reads'.Asked,
-  Reads'.Learnt,
-  Reads''''.Asked,
-  Reads''''.Learnt,
-  Reads'''.Asked,
-  Reads'''.Learnt,
-  Reads'''''.Asked,
-  Reads'''''.Learnt,
-) Reads.Pre Reads.Post
+Need-set-circuit-requires = Lts.Need-set-circuit-requires readings Reads.Pre Reads.Post
 
 abbrev pub Need-raised-requires : Type 0
-Need-raised-requires = Lts.Need-raised-requires (
-  Reads''.Asked,
-  Reads''.Learnt,
-  Reads''''''.Asked,
-  Reads''''''.Learnt,
-  Reads'.Asked,
-  Reads'.Learnt,
-  Reads''''.Asked,
-  Reads''''.Learnt,
-  Reads'''.Asked,
-  Reads'''.Learnt,
-  Reads'''''.Asked,
-  Reads'''''.Learnt,
-) Reads.Pre Reads.Post
+Need-raised-requires = Lts.Need-raised-requires readings Reads.Pre Reads.Post
 
 abbrev pub Need-same-length : Type 0
-Need-same-length = Lts.Need-same-length (
-  Reads''.Asked,
-  Reads''.Learnt,
-  Reads''''''.Asked,
-  Reads''''''.Learnt,
-  Reads'.Asked,
-  Reads'.Learnt,
-  Reads''''.Asked,
-  Reads''''.Learnt,
-  Reads'''.Asked,
-  Reads'''.Learnt,
-  Reads'''''.Asked,
-  Reads'''''.Learnt,
-) Reads.Pre Reads.Post
+Need-same-length = Lts.Need-same-length readings Reads.Pre Reads.Post
 
 abbrev pub Need-returns : Type 0
-Need-returns = Lts.Need-returns (
-  Reads''.Asked,
-  Reads''.Learnt,
-  Reads''''''.Asked,
-  Reads''''''.Learnt,
-  Reads'.Asked,
-  Reads'.Learnt,
-  Reads''''.Asked,
-  Reads''''.Learnt,
-  Reads'''.Asked,
-  Reads'''.Learnt,
-  Reads'''''.Asked,
-  Reads'''''.Learnt,
-) Reads.Pre Reads.Post
+Need-returns = Lts.Need-returns readings Reads.Pre Reads.Post
 
 module _ {M : Type 1} where
-  pub spec : (answer : Need-find-circuit-id-requires) → (answer : Need-unused-requires) → (answer : Need-find-circuit-requires) → (answer :
-      Need-put-place-requires) → (answer : Need-set-circuit-requires) → (answer : Need-raised-requires) → (answer : Need-same-length) → (answer :
-      Need-returns) → Lts.Closed (
-        Reads''.Asked,
-        Reads''.Learnt,
-        Reads''''''.Asked,
-        Reads''''''.Learnt,
-        Reads'.Asked,
-        Reads'.Learnt,
-        Reads''''.Asked,
-        Reads''''.Learnt,
-        Reads'''.Asked,
-        Reads'''.Learnt,
-        Reads'''''.Asked,
-        Reads'''''.Learnt,
-      ) Reads.Pre Reads.Post M
-  spec = λ answer answer' answer'' answer'3 answer'4 answer'5 answer'6 answer'7. Lts.spec (
-    Reads''.Asked,
-    Reads''.Learnt,
-    Reads''''''.Asked,
-    Reads''''''.Learnt,
-    Reads'.Asked,
-    Reads'.Learnt,
-    Reads''''.Asked,
-    Reads''''.Learnt,
-    Reads'''.Asked,
-    Reads'''.Learnt,
-    Reads'''''.Asked,
-    Reads'''''.Learnt,
-  ) Reads.Pre Reads.Post answer answer' answer'' answer'3 answer'4 answer'5 answer'6 answer'7
+  pub spec : (answer : Need-find-circuit-id-requires) → (answer : Need-unused-requires) →
+      (answer : Need-find-circuit-requires) → (answer : Need-put-place-requires) → (answer : Need-set-circuit-requires)
+      → (answer : Need-raised-requires) → (answer : Need-same-length) → (answer : Need-returns) → Lts.Closed readings
+      Reads.Pre Reads.Post M
+  spec = λ answer answer' answer'' answer'3 answer'4 answer'5 answer'6 answer'7. Lts.spec readings Reads.Pre Reads.Post
+      answer answer' answer'' answer'3 answer'4 answer'5 answer'6 answer'7
 
-  pub close : Lts.Closed (
-    Reads''.Asked,
-    Reads''.Learnt,
-    Reads''''''.Asked,
-    Reads''''''.Learnt,
-    Reads'.Asked,
-    Reads'.Learnt,
-    Reads''''.Asked,
-    Reads''''.Learnt,
-    Reads'''.Asked,
-    Reads'''.Learnt,
-    Reads'''''.Asked,
-    Reads'''''.Learnt,
-  ) Reads.Pre Reads.Post M → Statement.statement M
+  pub close : Lts.Closed readings Reads.Pre Reads.Post M → Statement.statement M
   unfolding Code.routine Running.tablesOf
-  close = λ closed 𝓤 H 𝓜 𝓖 𝓡. Written.close 1 Kinds.ps Kinds.r Reads.Ghost Reads.requires Reads.ensures Reads.pre-read Reads.Pinned Reads.Owned
-      Reads.post-read record { M = M; 𝓤 = 𝓤; H = H; 𝓜 = 𝓜; 𝓖 = 𝓖; 𝓡 = 𝓡 } Code.env Key.name Code.function (Code.unfolded 𝓤 H 𝓜 𝓡) (λ κs a g. tt) (λ
-      κs. Reads.owns κs record { M = M; 𝓤 = 𝓤; H = H; 𝓜 = 𝓜; 𝓖 = 𝓖; 𝓡 = 𝓡 }) (Reads.passes record { M = M; 𝓤 = 𝓤; H = H; 𝓜 = 𝓜; 𝓖 = 𝓖; 𝓡 = 𝓡 }) λ g.
-      closed 𝓤 H (𝓖 .A) (Running.givenOf 𝓤 H 𝓜 𝓖) (Run.Over 𝓤 H 𝓜 𝓖 𝓡 Code.env) (Reads''.known record { M = M; 𝓤 = 𝓤; H = H; 𝓜 = 𝓜; 𝓖 = 𝓖; 𝓡 = 𝓡 }
-      Code.env Symbol''''.name Symbol''''.routine Code.calls-hnsr-circuit·tables·circuits·find-circuit-id (Met''''.met 𝓤 H 𝓜 𝓖 𝓡)) (Reads''''''.known
-      record { M = M; 𝓤 = 𝓤; H = H; 𝓜 = 𝓜; 𝓖 = 𝓖; 𝓡 = 𝓡 } Code.env Symbol''.name Symbol''.routine Code.calls-hnsr-circuit·question·unused (Met''.met 𝓤
-      H 𝓜 𝓖 𝓡)) (Reads'.known record { M = M; 𝓤 = 𝓤; H = H; 𝓜 = 𝓜; 𝓖 = 𝓖; 𝓡 = 𝓡 } Code.env Symbol'''.name Symbol'''.routine
-      Code.calls-hnsr-circuit·tables·circuits·find-circuit (Met'''.met 𝓤 H 𝓜 𝓖 𝓡)) (Reads''''.known record {
-        M = M;
-        𝓤 = 𝓤;
-        H = H;
-        𝓜 = 𝓜;
-        𝓖 = 𝓖;
-        𝓡 = 𝓡;
-      } Code.env Symbol.name Symbol.routine Code.calls-hnsr-circuit·handle-accept·put-place (Met.met 𝓤 H 𝓜 𝓖 𝓡)) (Reads'''.known record {
-        M = M;
-        𝓤 =
-            𝓤;
-        H = H;
-        𝓜 = 𝓜;
-        𝓖 = 𝓖;
-        𝓡 = 𝓡;
-      } Code.env Symbol'''''.name Symbol'''''.routine Code.calls-hnsr-circuit·tables·circuits·set-circuit (Met'''''.met
-      𝓤 H 𝓜 𝓖 𝓡)) (Reads'''''.known record { M = M; 𝓤 = 𝓤; H = H; 𝓜 = 𝓜; 𝓖 = 𝓖; 𝓡 = 𝓡 } Code.env Symbol'.name Symbol'.routine
+  close = λ closed 𝓤 H 𝓜 𝓖 𝓡. Written.close 1 Kinds.ps Kinds.r Reads.Ghost Reads.requires Reads.ensures Reads.pre-read
+      Reads.Pinned Reads.Owned Reads.post-read record { M = M; 𝓤 = 𝓤; H = H; 𝓜 = 𝓜; 𝓖 = 𝓖; 𝓡 = 𝓡 } Code.env Key.name
+      Code.function (Code.unfolded 𝓤 H 𝓜 𝓡) (λ κs a g. tt) (λ κs. Reads.owns κs
+      record { M = M; 𝓤 = 𝓤; H = H; 𝓜 = 𝓜; 𝓖 = 𝓖; 𝓡 = 𝓡 }) (Reads.passes
+      record { M = M; 𝓤 = 𝓤; H = H; 𝓜 = 𝓜; 𝓖 = 𝓖; 𝓡 = 𝓡 }) λ g. closed 𝓤 H (𝓖 .A) (Running.givenOf 𝓤 H 𝓜 𝓖)
+      (Run.Over 𝓤 H 𝓜 𝓖 𝓡 Code.env) (Reads''.known record { M = M; 𝓤 = 𝓤; H = H; 𝓜 = 𝓜; 𝓖 = 𝓖; 𝓡 = 𝓡 } Code.env
+      Symbol''''.name Symbol''''.routine Code.calls-hnsr-circuit·tables·circuits·find-circuit-id
+      (Met''''.met 𝓤 H 𝓜 𝓖 𝓡)) (Reads''''''.known record { M = M; 𝓤 = 𝓤; H = H; 𝓜 = 𝓜; 𝓖 = 𝓖; 𝓡 = 𝓡 } Code.env
+      Symbol''.name Symbol''.routine Code.calls-hnsr-circuit·question·unused (Met''.met 𝓤 H 𝓜 𝓖 𝓡)) (Reads'.known
+      record { M = M; 𝓤 = 𝓤; H = H; 𝓜 = 𝓜; 𝓖 = 𝓖; 𝓡 = 𝓡 } Code.env Symbol'''.name Symbol'''.routine
+      Code.calls-hnsr-circuit·tables·circuits·find-circuit (Met'''.met 𝓤 H 𝓜 𝓖 𝓡)) (Reads''''.known
+      record { M = M; 𝓤 = 𝓤; H = H; 𝓜 = 𝓜; 𝓖 = 𝓖; 𝓡 = 𝓡 } Code.env Symbol.name Symbol.routine
+      Code.calls-hnsr-circuit·handle-accept·put-place (Met.met 𝓤 H 𝓜 𝓖 𝓡)) (Reads'''.known
+      record { M = M; 𝓤 = 𝓤; H = H; 𝓜 = 𝓜; 𝓖 = 𝓖; 𝓡 = 𝓡 } Code.env Symbol'''''.name Symbol'''''.routine
+      Code.calls-hnsr-circuit·tables·circuits·set-circuit (Met'''''.met 𝓤 H 𝓜 𝓖 𝓡)) (Reads'''''.known
+      record { M = M; 𝓤 = 𝓤; H = H; 𝓜 = 𝓜; 𝓖 = 𝓖; 𝓡 = 𝓡 } Code.env Symbol'.name Symbol'.routine
       Code.calls-hnsr-circuit·places·raised (Met'.met 𝓤 H 𝓜 𝓖 𝓡))

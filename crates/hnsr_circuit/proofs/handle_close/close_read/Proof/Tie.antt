@@ -30,8 +30,8 @@ use borrow.Fn.Run
 use borrow.Fn.Written
 use contract.Running
 
-abbrev pub Start : Type 0
-Start = Lts.Start (
+abbrev pub readings : Lts.Claims
+readings = (
   Reads'.Asked,
   Reads'.Learnt,
   Reads''''''.Asked,
@@ -46,874 +46,166 @@ Start = Lts.Start (
   Reads''''.Learnt,
   Reads'''''''.Asked,
   Reads'''''''.Learnt,
-) Reads.Pre Reads.Post
+)
+
+abbrev pub Start : Type 0
+Start = Lts.Start readings Reads.Pre Reads.Post
 
 abbrev pub After-slice-known : Type 0
-After-slice-known = Lts.After-slice-known (
-  Reads'.Asked,
-  Reads'.Learnt,
-  Reads''''''.Asked,
-  Reads''''''.Learnt,
-  Reads'''.Asked,
-  Reads'''.Learnt,
-  Reads''.Asked,
-  Reads''.Learnt,
-  Reads'''''.Asked,
-  Reads'''''.Learnt,
-  Reads''''.Asked,
-  Reads''''.Learnt,
-  Reads'''''''.Asked,
-  Reads'''''''.Learnt,
-)
-    Reads.Pre Reads.Post
+After-slice-known = Lts.After-slice-known readings Reads.Pre Reads.Post
 
 abbrev pub After-shared-slice-known : Type 0
-After-shared-slice-known = Lts.After-shared-slice-known (
-  Reads'.Asked,
-  Reads'.Learnt,
-  Reads''''''.Asked,
-  Reads''''''.Learnt,
-  Reads'''.Asked,
-  Reads'''.Learnt,
-  Reads''.Asked,
-  Reads''.Learnt,
-  Reads'''''.Asked,
-  Reads'''''.Learnt,
-  Reads''''.Asked,
-  Reads''''.Learnt,
-  Reads'''''''.Asked,
-  Reads'''''''.Learnt,
-) Reads.Pre Reads.Post
+After-shared-slice-known = Lts.After-shared-slice-known readings Reads.Pre Reads.Post
 
 abbrev pub After-shared-slice-known2 : Type 0
-After-shared-slice-known2 = Lts.After-shared-slice-known2 (
-  Reads'.Asked,
-  Reads'.Learnt,
-  Reads''''''.Asked,
-  Reads''''''.Learnt,
-  Reads'''.Asked,
-  Reads'''.Learnt,
-  Reads''.Asked,
-  Reads''.Learnt,
-  Reads'''''.Asked,
-  Reads'''''.Learnt,
-  Reads''''.Asked,
-  Reads''''.Learnt,
-  Reads'''''''.Asked,
-  Reads'''''''.Learnt,
-) Reads.Pre Reads.Post
+After-shared-slice-known2 = Lts.After-shared-slice-known2 readings Reads.Pre Reads.Post
 
 abbrev pub After-plan-close-arg : Type 0
-After-plan-close-arg = Lts.After-plan-close-arg (
-  Reads'.Asked,
-  Reads'.Learnt,
-  Reads''''''.Asked,
-  Reads''''''.Learnt,
-  Reads'''.Asked,
-  Reads'''.Learnt,
-  Reads''.Asked,
-  Reads''.Learnt,
-  Reads'''''.Asked,
-  Reads'''''.Learnt,
-  Reads''''.Asked,
-  Reads''''.Learnt,
-  Reads'''''''.Asked,
-  Reads'''''''.Learnt,
-)
-    Reads.Pre Reads.Post
+After-plan-close-arg = Lts.After-plan-close-arg readings Reads.Pre Reads.Post
 
 abbrev pub After-plan-close-arg2 : Type 0
-After-plan-close-arg2 = Lts.After-plan-close-arg2 (
-  Reads'.Asked,
-  Reads'.Learnt,
-  Reads''''''.Asked,
-  Reads''''''.Learnt,
-  Reads'''.Asked,
-  Reads'''.Learnt,
-  Reads''.Asked,
-  Reads''.Learnt,
-  Reads'''''.Asked,
-  Reads'''''.Learnt,
-  Reads''''.Asked,
-  Reads''''.Learnt,
-  Reads'''''''.Asked,
-  Reads'''''''.Learnt,
-) Reads.Pre Reads.Post
+After-plan-close-arg2 = Lts.After-plan-close-arg2 readings Reads.Pre Reads.Post
 
 abbrev pub After-plan-close : Type 0
-After-plan-close = Lts.After-plan-close (
-  Reads'.Asked,
-  Reads'.Learnt,
-  Reads''''''.Asked,
-  Reads''''''.Learnt,
-  Reads'''.Asked,
-  Reads'''.Learnt,
-  Reads''.Asked,
-  Reads''.Learnt,
-  Reads'''''.Asked,
-  Reads'''''.Learnt,
-  Reads''''.Asked,
-  Reads''''.Learnt,
-  Reads'''''''.Asked,
-  Reads'''''''.Learnt,
-)
-    Reads.Pre Reads.Post
+After-plan-close = Lts.After-plan-close readings Reads.Pre Reads.Post
 
 abbrev pub After-counted : Type 0
-After-counted = Lts.After-counted (
-  Reads'.Asked,
-  Reads'.Learnt,
-  Reads''''''.Asked,
-  Reads''''''.Learnt,
-  Reads'''.Asked,
-  Reads'''.Learnt,
-  Reads''.Asked,
-  Reads''.Learnt,
-  Reads'''''.Asked,
-  Reads'''''.Learnt,
-  Reads''''.Asked,
-  Reads''''.Learnt,
-  Reads'''''''.Asked,
-  Reads'''''''.Learnt,
-) Reads.Pre
-    Reads.Post
+After-counted = Lts.After-counted readings Reads.Pre Reads.Post
 
 abbrev pub After-message : Type 0
-After-message = Lts.After-message (
-  Reads'.Asked,
-  Reads'.Learnt,
-  Reads''''''.Asked,
-  Reads''''''.Learnt,
-  Reads'''.Asked,
-  Reads'''.Learnt,
-  Reads''.Asked,
-  Reads''.Learnt,
-  Reads'''''.Asked,
-  Reads'''''.Learnt,
-  Reads''''.Asked,
-  Reads''''.Learnt,
-  Reads'''''''.Asked,
-  Reads'''''''.Learnt,
-) Reads.Pre
-    Reads.Post
+After-message = Lts.After-message readings Reads.Pre Reads.Post
 
 abbrev pub Then1 : Type 0
-Then1 = Lts.Then1 (
-  Reads'.Asked,
-  Reads'.Learnt,
-  Reads''''''.Asked,
-  Reads''''''.Learnt,
-  Reads'''.Asked,
-  Reads'''.Learnt,
-  Reads''.Asked,
-  Reads''.Learnt,
-  Reads'''''.Asked,
-  Reads'''''.Learnt,
-  Reads''''.Asked,
-  Reads''''.Learnt,
-  Reads'''''''.Asked,
-  Reads'''''''.Learnt,
-) Reads.Pre Reads.Post
+Then1 = Lts.Then1 readings Reads.Pre Reads.Post
 
 abbrev pub After-asking : Type 0
-After-asking = Lts.After-asking (
-  Reads'.Asked,
-  Reads'.Learnt,
-  Reads''''''.Asked,
-  Reads''''''.Learnt,
-  Reads'''.Asked,
-  Reads'''.Learnt,
-  Reads''.Asked,
-  Reads''.Learnt,
-  Reads'''''.Asked,
-  Reads'''''.Learnt,
-  Reads''''.Asked,
-  Reads''''.Learnt,
-  Reads'''''''.Asked,
-  Reads'''''''.Learnt,
-) Reads.Pre
-    Reads.Post
+After-asking = Lts.After-asking readings Reads.Pre Reads.Post
 
 abbrev pub After-unmark-pending-arg : Type 0
-After-unmark-pending-arg = Lts.After-unmark-pending-arg (
-  Reads'.Asked,
-  Reads'.Learnt,
-  Reads''''''.Asked,
-  Reads''''''.Learnt,
-  Reads'''.Asked,
-  Reads'''.Learnt,
-  Reads''.Asked,
-  Reads''.Learnt,
-  Reads'''''.Asked,
-  Reads'''''.Learnt,
-  Reads''''.Asked,
-  Reads''''.Learnt,
-  Reads'''''''.Asked,
-  Reads'''''''.Learnt,
-) Reads.Pre Reads.Post
+After-unmark-pending-arg = Lts.After-unmark-pending-arg readings Reads.Pre Reads.Post
 
 abbrev pub After-unmark-pending : Type 0
-After-unmark-pending = Lts.After-unmark-pending (
-  Reads'.Asked,
-  Reads'.Learnt,
-  Reads''''''.Asked,
-  Reads''''''.Learnt,
-  Reads'''.Asked,
-  Reads'''.Learnt,
-  Reads''.Asked,
-  Reads''.Learnt,
-  Reads'''''.Asked,
-  Reads'''''.Learnt,
-  Reads''''.Asked,
-  Reads''''.Learnt,
-  Reads'''''''.Asked,
-  Reads'''''''.Learnt,
-)
-    Reads.Pre Reads.Post
+After-unmark-pending = Lts.After-unmark-pending readings Reads.Pre Reads.Post
 
 abbrev pub After-pending : Type 0
-After-pending = Lts.After-pending (
-  Reads'.Asked,
-  Reads'.Learnt,
-  Reads''''''.Asked,
-  Reads''''''.Learnt,
-  Reads'''.Asked,
-  Reads'''.Learnt,
-  Reads''.Asked,
-  Reads''.Learnt,
-  Reads'''''.Asked,
-  Reads'''''.Learnt,
-  Reads''''.Asked,
-  Reads''''.Learnt,
-  Reads'''''''.Asked,
-  Reads'''''''.Learnt,
-) Reads.Pre
-    Reads.Post
+After-pending = Lts.After-pending readings Reads.Pre Reads.Post
 
 abbrev pub After-unmark-circuit-arg : Type 0
-After-unmark-circuit-arg = Lts.After-unmark-circuit-arg (
-  Reads'.Asked,
-  Reads'.Learnt,
-  Reads''''''.Asked,
-  Reads''''''.Learnt,
-  Reads'''.Asked,
-  Reads'''.Learnt,
-  Reads''.Asked,
-  Reads''.Learnt,
-  Reads'''''.Asked,
-  Reads'''''.Learnt,
-  Reads''''.Asked,
-  Reads''''.Learnt,
-  Reads'''''''.Asked,
-  Reads'''''''.Learnt,
-) Reads.Pre Reads.Post
+After-unmark-circuit-arg = Lts.After-unmark-circuit-arg readings Reads.Pre Reads.Post
 
 abbrev pub After-unmark-circuit : Type 0
-After-unmark-circuit = Lts.After-unmark-circuit (
-  Reads'.Asked,
-  Reads'.Learnt,
-  Reads''''''.Asked,
-  Reads''''''.Learnt,
-  Reads'''.Asked,
-  Reads'''.Learnt,
-  Reads''.Asked,
-  Reads''.Learnt,
-  Reads'''''.Asked,
-  Reads'''''.Learnt,
-  Reads''''.Asked,
-  Reads''''.Learnt,
-  Reads'''''''.Asked,
-  Reads'''''''.Learnt,
-)
-    Reads.Pre Reads.Post
+After-unmark-circuit = Lts.After-unmark-circuit readings Reads.Pre Reads.Post
 
 abbrev pub After-circuits : Type 0
-After-circuits = Lts.After-circuits (
-  Reads'.Asked,
-  Reads'.Learnt,
-  Reads''''''.Asked,
-  Reads''''''.Learnt,
-  Reads'''.Asked,
-  Reads'''.Learnt,
-  Reads''.Asked,
-  Reads''.Learnt,
-  Reads'''''.Asked,
-  Reads'''''.Learnt,
-  Reads''''.Asked,
-  Reads''''.Learnt,
-  Reads'''''''.Asked,
-  Reads'''''''.Learnt,
-)
-    Reads.Pre Reads.Post
+After-circuits = Lts.After-circuits readings Reads.Pre Reads.Post
 
 abbrev pub After-drop-and-scan-arg : Type 0
-After-drop-and-scan-arg = Lts.After-drop-and-scan-arg (
-  Reads'.Asked,
-  Reads'.Learnt,
-  Reads''''''.Asked,
-  Reads''''''.Learnt,
-  Reads'''.Asked,
-  Reads'''.Learnt,
-  Reads''.Asked,
-  Reads''.Learnt,
-  Reads'''''.Asked,
-  Reads'''''.Learnt,
-  Reads''''.Asked,
-  Reads''''.Learnt,
-  Reads'''''''.Asked,
-  Reads'''''''.Learnt,
-) Reads.Pre Reads.Post
+After-drop-and-scan-arg = Lts.After-drop-and-scan-arg readings Reads.Pre Reads.Post
 
 abbrev pub After-drop-and-scan : Type 0
-After-drop-and-scan = Lts.After-drop-and-scan (
-  Reads'.Asked,
-  Reads'.Learnt,
-  Reads''''''.Asked,
-  Reads''''''.Learnt,
-  Reads'''.Asked,
-  Reads'''.Learnt,
-  Reads''.Asked,
-  Reads''.Learnt,
-  Reads'''''.Asked,
-  Reads'''''.Learnt,
-  Reads''''.Asked,
-  Reads''''.Learnt,
-  Reads'''''''.Asked,
-  Reads'''''''.Learnt,
-)
-    Reads.Pre Reads.Post
+After-drop-and-scan = Lts.After-drop-and-scan readings Reads.Pre Reads.Post
 
 abbrev pub After-inflight : Type 0
-After-inflight = Lts.After-inflight (
-  Reads'.Asked,
-  Reads'.Learnt,
-  Reads''''''.Asked,
-  Reads''''''.Learnt,
-  Reads'''.Asked,
-  Reads'''.Learnt,
-  Reads''.Asked,
-  Reads''.Learnt,
-  Reads'''''.Asked,
-  Reads'''''.Learnt,
-  Reads''''.Asked,
-  Reads''''.Learnt,
-  Reads'''''''.Asked,
-  Reads'''''''.Learnt,
-)
-    Reads.Pre Reads.Post
+After-inflight = Lts.After-inflight readings Reads.Pre Reads.Post
 
 abbrev pub After-send-arg : Type 0
-After-send-arg = Lts.After-send-arg (
-  Reads'.Asked,
-  Reads'.Learnt,
-  Reads''''''.Asked,
-  Reads''''''.Learnt,
-  Reads'''.Asked,
-  Reads'''.Learnt,
-  Reads''.Asked,
-  Reads''.Learnt,
-  Reads'''''.Asked,
-  Reads'''''.Learnt,
-  Reads''''.Asked,
-  Reads''''.Learnt,
-  Reads'''''''.Asked,
-  Reads'''''''.Learnt,
-)
-    Reads.Pre Reads.Post
+After-send-arg = Lts.After-send-arg readings Reads.Pre Reads.Post
 
 abbrev pub After-send-arg2 : Type 0
-After-send-arg2 = Lts.After-send-arg2 (
-  Reads'.Asked,
-  Reads'.Learnt,
-  Reads''''''.Asked,
-  Reads''''''.Learnt,
-  Reads'''.Asked,
-  Reads'''.Learnt,
-  Reads''.Asked,
-  Reads''.Learnt,
-  Reads'''''.Asked,
-  Reads'''''.Learnt,
-  Reads''''.Asked,
-  Reads''''.Learnt,
-  Reads'''''''.Asked,
-  Reads'''''''.Learnt,
-)
-    Reads.Pre Reads.Post
+After-send-arg2 = Lts.After-send-arg2 readings Reads.Pre Reads.Post
 
 abbrev pub After-send : Type 0
-After-send = Lts.After-send (
-  Reads'.Asked,
-  Reads'.Learnt,
-  Reads''''''.Asked,
-  Reads''''''.Learnt,
-  Reads'''.Asked,
-  Reads'''.Learnt,
-  Reads''.Asked,
-  Reads''.Learnt,
-  Reads'''''.Asked,
-  Reads'''''.Learnt,
-  Reads''''.Asked,
-  Reads''''.Learnt,
-  Reads'''''''.Asked,
-  Reads'''''''.Learnt,
-) Reads.Pre
-    Reads.Post
+After-send = Lts.After-send readings Reads.Pre Reads.Post
 
 abbrev pub After-inflight2 : Type 0
-After-inflight2 = Lts.After-inflight2 (
-  Reads'.Asked,
-  Reads'.Learnt,
-  Reads''''''.Asked,
-  Reads''''''.Learnt,
-  Reads'''.Asked,
-  Reads'''.Learnt,
-  Reads''.Asked,
-  Reads''.Learnt,
-  Reads'''''.Asked,
-  Reads'''''.Learnt,
-  Reads''''.Asked,
-  Reads''''.Learnt,
-  Reads'''''''.Asked,
-  Reads'''''''.Learnt,
-)
-    Reads.Pre Reads.Post
+After-inflight2 = Lts.After-inflight2 readings Reads.Pre Reads.Post
 
 abbrev pub After-out : Type 0
-After-out = Lts.After-out (
-  Reads'.Asked,
-  Reads'.Learnt,
-  Reads''''''.Asked,
-  Reads''''''.Learnt,
-  Reads'''.Asked,
-  Reads'''.Learnt,
-  Reads''.Asked,
-  Reads''.Learnt,
-  Reads'''''.Asked,
-  Reads'''''.Learnt,
-  Reads''''.Asked,
-  Reads''''.Learnt,
-  Reads'''''''.Asked,
-  Reads'''''''.Learnt,
-) Reads.Pre
-    Reads.Post
+After-out = Lts.After-out readings Reads.Pre Reads.Post
 
 abbrev pub After-slice-known2 : Type 0
-After-slice-known2 = Lts.After-slice-known2 (
-  Reads'.Asked,
-  Reads'.Learnt,
-  Reads''''''.Asked,
-  Reads''''''.Learnt,
-  Reads'''.Asked,
-  Reads'''.Learnt,
-  Reads''.Asked,
-  Reads''.Learnt,
-  Reads'''''.Asked,
-  Reads'''''.Learnt,
-  Reads''''.Asked,
-  Reads''''.Learnt,
-  Reads'''''''.Asked,
-  Reads'''''''.Learnt,
-)
-    Reads.Pre Reads.Post
+After-slice-known2 = Lts.After-slice-known2 readings Reads.Pre Reads.Post
 
 abbrev pub Else1 : Type 0
-Else1 = Lts.Else1 (
-  Reads'.Asked,
-  Reads'.Learnt,
-  Reads''''''.Asked,
-  Reads''''''.Learnt,
-  Reads'''.Asked,
-  Reads'''.Learnt,
-  Reads''.Asked,
-  Reads''.Learnt,
-  Reads'''''.Asked,
-  Reads'''''.Learnt,
-  Reads''''.Asked,
-  Reads''''.Learnt,
-  Reads'''''''.Asked,
-  Reads'''''''.Learnt,
-) Reads.Pre Reads.Post
+Else1 = Lts.Else1 readings Reads.Pre Reads.Post
 
 abbrev pub After-refused : Type 0
-After-refused = Lts.After-refused (
-  Reads'.Asked,
-  Reads'.Learnt,
-  Reads''''''.Asked,
-  Reads''''''.Learnt,
-  Reads'''.Asked,
-  Reads'''.Learnt,
-  Reads''.Asked,
-  Reads''.Learnt,
-  Reads'''''.Asked,
-  Reads'''''.Learnt,
-  Reads''''.Asked,
-  Reads''''.Learnt,
-  Reads'''''''.Asked,
-  Reads'''''''.Learnt,
-) Reads.Pre
-    Reads.Post
+After-refused = Lts.After-refused readings Reads.Pre Reads.Post
 
 abbrev pub Need-plan-close-requires : Type 0
-Need-plan-close-requires = Lts.Need-plan-close-requires (
-  Reads'.Asked,
-  Reads'.Learnt,
-  Reads''''''.Asked,
-  Reads''''''.Learnt,
-  Reads'''.Asked,
-  Reads'''.Learnt,
-  Reads''.Asked,
-  Reads''.Learnt,
-  Reads'''''.Asked,
-  Reads'''''.Learnt,
-  Reads''''.Asked,
-  Reads''''.Learnt,
-  Reads'''''''.Asked,
-  Reads'''''''.Learnt,
-) Reads.Pre Reads.Post
+Need-plan-close-requires = Lts.Need-plan-close-requires readings Reads.Pre Reads.Post
 
 abbrev pub Need-asking-requires : Type 0
-Need-asking-requires = Lts.Need-asking-requires (
-  Reads'.Asked,
-  Reads'.Learnt,
-  Reads''''''.Asked,
-  Reads''''''.Learnt,
-  Reads'''.Asked,
-  Reads'''.Learnt,
-  Reads''.Asked,
-  Reads''.Learnt,
-  Reads'''''.Asked,
-  Reads'''''.Learnt,
-  Reads''''.Asked,
-  Reads''''.Learnt,
-  Reads'''''''.Asked,
-  Reads'''''''.Learnt,
-)
-    Reads.Pre Reads.Post
+Need-asking-requires = Lts.Need-asking-requires readings Reads.Pre Reads.Post
 
 abbrev pub Need-unmark-pending-requires : Type 0
-Need-unmark-pending-requires = Lts.Need-unmark-pending-requires (
-  Reads'.Asked,
-  Reads'.Learnt,
-  Reads''''''.Asked,
-  Reads''''''.Learnt,
-  Reads'''.Asked,
-  Reads'''.Learnt,
-  Reads''.Asked,
-  Reads''.Learnt,
-  Reads'''''.Asked,
-  Reads'''''.Learnt,
-  Reads''''.Asked,
-  Reads''''.Learnt,
-  Reads'''''''.Asked,
-  Reads'''''''.Learnt,
-) Reads.Pre Reads.Post
+Need-unmark-pending-requires = Lts.Need-unmark-pending-requires readings Reads.Pre Reads.Post
 
 abbrev pub Need-unmark-circuit-requires : Type 0
-Need-unmark-circuit-requires = Lts.Need-unmark-circuit-requires (
-  Reads'.Asked,
-  Reads'.Learnt,
-  Reads''''''.Asked,
-  Reads''''''.Learnt,
-  Reads'''.Asked,
-  Reads'''.Learnt,
-  Reads''.Asked,
-  Reads''.Learnt,
-  Reads'''''.Asked,
-  Reads'''''.Learnt,
-  Reads''''.Asked,
-  Reads''''.Learnt,
-  Reads'''''''.Asked,
-  Reads'''''''.Learnt,
-) Reads.Pre Reads.Post
+Need-unmark-circuit-requires = Lts.Need-unmark-circuit-requires readings Reads.Pre Reads.Post
 
 abbrev pub Need-drop-and-scan-requires : Type 0
-Need-drop-and-scan-requires = Lts.Need-drop-and-scan-requires (
-  Reads'.Asked,
-  Reads'.Learnt,
-  Reads''''''.Asked,
-  Reads''''''.Learnt,
-  Reads'''.Asked,
-  Reads'''.Learnt,
-  Reads''.Asked,
-  Reads''.Learnt,
-  Reads'''''.Asked,
-  Reads'''''.Learnt,
-  Reads''''.Asked,
-  Reads''''.Learnt,
-  Reads'''''''.Asked,
-  Reads'''''''.Learnt,
-) Reads.Pre Reads.Post
+Need-drop-and-scan-requires = Lts.Need-drop-and-scan-requires readings Reads.Pre Reads.Post
 
 abbrev pub Need-send-requires : Type 0
-Need-send-requires = Lts.Need-send-requires (
-  Reads'.Asked,
-  Reads'.Learnt,
-  Reads''''''.Asked,
-  Reads''''''.Learnt,
-  Reads'''.Asked,
-  Reads'''.Learnt,
-  Reads''.Asked,
-  Reads''.Learnt,
-  Reads'''''.Asked,
-  Reads'''''.Learnt,
-  Reads''''.Asked,
-  Reads''''.Learnt,
-  Reads'''''''.Asked,
-  Reads'''''''.Learnt,
-)
-    Reads.Pre Reads.Post
+Need-send-requires = Lts.Need-send-requires readings Reads.Pre Reads.Post
 
 abbrev pub Need-same-length : Type 0
-Need-same-length = Lts.Need-same-length (
-  Reads'.Asked,
-  Reads'.Learnt,
-  Reads''''''.Asked,
-  Reads''''''.Learnt,
-  Reads'''.Asked,
-  Reads'''.Learnt,
-  Reads''.Asked,
-  Reads''.Learnt,
-  Reads'''''.Asked,
-  Reads'''''.Learnt,
-  Reads''''.Asked,
-  Reads''''.Learnt,
-  Reads'''''''.Asked,
-  Reads'''''''.Learnt,
-)
-    Reads.Pre Reads.Post
+Need-same-length = Lts.Need-same-length readings Reads.Pre Reads.Post
 
 abbrev pub Need-same-length-2 : Type 0
-Need-same-length-2 = Lts.Need-same-length-2 (
-  Reads'.Asked,
-  Reads'.Learnt,
-  Reads''''''.Asked,
-  Reads''''''.Learnt,
-  Reads'''.Asked,
-  Reads'''.Learnt,
-  Reads''.Asked,
-  Reads''.Learnt,
-  Reads'''''.Asked,
-  Reads'''''.Learnt,
-  Reads''''.Asked,
-  Reads''''.Learnt,
-  Reads'''''''.Asked,
-  Reads'''''''.Learnt,
-)
-    Reads.Pre Reads.Post
+Need-same-length-2 = Lts.Need-same-length-2 readings Reads.Pre Reads.Post
 
 abbrev pub Need-same-length-3 : Type 0
-Need-same-length-3 = Lts.Need-same-length-3 (
-  Reads'.Asked,
-  Reads'.Learnt,
-  Reads''''''.Asked,
-  Reads''''''.Learnt,
-  Reads'''.Asked,
-  Reads'''.Learnt,
-  Reads''.Asked,
-  Reads''.Learnt,
-  Reads'''''.Asked,
-  Reads'''''.Learnt,
-  Reads''''.Asked,
-  Reads''''.Learnt,
-  Reads'''''''.Asked,
-  Reads'''''''.Learnt,
-)
-    Reads.Pre Reads.Post
+Need-same-length-3 = Lts.Need-same-length-3 readings Reads.Pre Reads.Post
 
 abbrev pub Need-same-length-4 : Type 0
-Need-same-length-4 = Lts.Need-same-length-4 (
-  Reads'.Asked,
-  Reads'.Learnt,
-  Reads''''''.Asked,
-  Reads''''''.Learnt,
-  Reads'''.Asked,
-  Reads'''.Learnt,
-  Reads''.Asked,
-  Reads''.Learnt,
-  Reads'''''.Asked,
-  Reads'''''.Learnt,
-  Reads''''.Asked,
-  Reads''''.Learnt,
-  Reads'''''''.Asked,
-  Reads'''''''.Learnt,
-)
-    Reads.Pre Reads.Post
+Need-same-length-4 = Lts.Need-same-length-4 readings Reads.Pre Reads.Post
 
 abbrev pub Need-returns : Type 0
-Need-returns = Lts.Need-returns (
-  Reads'.Asked,
-  Reads'.Learnt,
-  Reads''''''.Asked,
-  Reads''''''.Learnt,
-  Reads'''.Asked,
-  Reads'''.Learnt,
-  Reads''.Asked,
-  Reads''.Learnt,
-  Reads'''''.Asked,
-  Reads'''''.Learnt,
-  Reads''''.Asked,
-  Reads''''.Learnt,
-  Reads'''''''.Asked,
-  Reads'''''''.Learnt,
-) Reads.Pre
-    Reads.Post
+Need-returns = Lts.Need-returns readings Reads.Pre Reads.Post
 
 abbrev pub Need-refused-requires : Type 0
-Need-refused-requires = Lts.Need-refused-requires (
-  Reads'.Asked,
-  Reads'.Learnt,
-  Reads''''''.Asked,
-  Reads''''''.Learnt,
-  Reads'''.Asked,
-  Reads'''.Learnt,
-  Reads''.Asked,
-  Reads''.Learnt,
-  Reads'''''.Asked,
-  Reads'''''.Learnt,
-  Reads''''.Asked,
-  Reads''''.Learnt,
-  Reads'''''''.Asked,
-  Reads'''''''.Learnt,
-) Reads.Pre Reads.Post
+Need-refused-requires = Lts.Need-refused-requires readings Reads.Pre Reads.Post
 
 abbrev pub Need-same-length-5 : Type 0
-Need-same-length-5 = Lts.Need-same-length-5 (
-  Reads'.Asked,
-  Reads'.Learnt,
-  Reads''''''.Asked,
-  Reads''''''.Learnt,
-  Reads'''.Asked,
-  Reads'''.Learnt,
-  Reads''.Asked,
-  Reads''.Learnt,
-  Reads'''''.Asked,
-  Reads'''''.Learnt,
-  Reads''''.Asked,
-  Reads''''.Learnt,
-  Reads'''''''.Asked,
-  Reads'''''''.Learnt,
-)
-    Reads.Pre Reads.Post
+Need-same-length-5 = Lts.Need-same-length-5 readings Reads.Pre Reads.Post
 
 abbrev pub Need-same-length-6 : Type 0
-Need-same-length-6 = Lts.Need-same-length-6 (
-  Reads'.Asked,
-  Reads'.Learnt,
-  Reads''''''.Asked,
-  Reads''''''.Learnt,
-  Reads'''.Asked,
-  Reads'''.Learnt,
-  Reads''.Asked,
-  Reads''.Learnt,
-  Reads'''''.Asked,
-  Reads'''''.Learnt,
-  Reads''''.Asked,
-  Reads''''.Learnt,
-  Reads'''''''.Asked,
-  Reads'''''''.Learnt,
-)
-    Reads.Pre Reads.Post
+Need-same-length-6 = Lts.Need-same-length-6 readings Reads.Pre Reads.Post
 
 abbrev pub Need-returns-2 : Type 0
-Need-returns-2 = Lts.Need-returns-2 (
-  Reads'.Asked,
-  Reads'.Learnt,
-  Reads''''''.Asked,
-  Reads''''''.Learnt,
-  Reads'''.Asked,
-  Reads'''.Learnt,
-  Reads''.Asked,
-  Reads''.Learnt,
-  Reads'''''.Asked,
-  Reads'''''.Learnt,
-  Reads''''.Asked,
-  Reads''''.Learnt,
-  Reads'''''''.Asked,
-  Reads'''''''.Learnt,
-)
-    Reads.Pre Reads.Post
+Need-returns-2 = Lts.Need-returns-2 readings Reads.Pre Reads.Post
 
 module _ {M : Type 1} where
-  pub spec : (answer : Need-plan-close-requires) → (answer : Need-asking-requires) → (answer : Need-unmark-pending-requires) → (answer :
-      Need-unmark-circuit-requires) → (answer : Need-drop-and-scan-requires) → (answer : Need-send-requires) → (answer : Need-same-length) → (answer :
-      Need-same-length-2) → (answer : Need-same-length-3) → (answer : Need-same-length-4) → (answer : Need-returns) → (answer : Need-refused-requires)
-      → (answer : Need-same-length-5) → (answer : Need-same-length-6) → (answer : Need-returns-2) → Lts.Closed (
-        Reads'.Asked,
-        Reads'.Learnt,
-        Reads''''''.Asked,
-        Reads''''''.Learnt,
-        Reads'''.Asked,
-        Reads'''.Learnt,
-        Reads''.Asked,
-        Reads''.Learnt,
-        Reads'''''.Asked,
-        Reads'''''.Learnt,
-        Reads''''.Asked,
-        Reads''''.Learnt,
-        Reads'''''''.Asked,
-        Reads'''''''.Learnt,
-      ) Reads.Pre Reads.Post M
-  spec = λ answer answer' answer'' answer'3 answer'4 answer'5 answer'6 answer'7 answer'8 answer'9 answer'10 answer'11 answer'12 answer'13 answer'14.
-      Lts.spec (
-        Reads'.Asked,
-        Reads'.Learnt,
-        Reads''''''.Asked,
-        Reads''''''.Learnt,
-        Reads'''.Asked,
-        Reads'''.Learnt,
-        Reads''.Asked,
-        Reads''.Learnt,
-        Reads'''''.Asked,
-        Reads'''''.Learnt,
-        Reads''''.Asked,
-        Reads''''.Learnt,
-        Reads'''''''.Asked,
-        Reads'''''''.Learnt,
-      ) Reads.Pre Reads.Post answer
-      answer' answer'' answer'3 answer'4 answer'5 answer'6 answer'7 answer'8 answer'9 answer'10 answer'11 answer'12 answer'13 answer'14
+  pub spec : (answer : Need-plan-close-requires) → (answer : Need-asking-requires) →
+      (answer : Need-unmark-pending-requires) → (answer : Need-unmark-circuit-requires) →
+      (answer : Need-drop-and-scan-requires) → (answer : Need-send-requires) → (answer : Need-same-length) →
+      (answer : Need-same-length-2) → (answer : Need-same-length-3) → (answer : Need-same-length-4) →
+      (answer : Need-returns) → (answer : Need-refused-requires) → (answer : Need-same-length-5) →
+      (answer : Need-same-length-6) → (answer : Need-returns-2) → Lts.Closed readings Reads.Pre Reads.Post M
+  spec = λ answer answer' answer'' answer'3 answer'4 answer'5 answer'6 answer'7 answer'8 answer'9 answer'10 answer'11
+      answer'12 answer'13 answer'14. Lts.spec readings Reads.Pre Reads.Post answer answer' answer'' answer'3 answer'4
+      answer'5 answer'6 answer'7 answer'8 answer'9 answer'10 answer'11 answer'12 answer'13 answer'14
 
-  pub close : Lts.Closed (
-    Reads'.Asked,
-    Reads'.Learnt,
-    Reads''''''.Asked,
-    Reads''''''.Learnt,
-    Reads'''.Asked,
-    Reads'''.Learnt,
-    Reads''.Asked,
-    Reads''.Learnt,
-    Reads'''''.Asked,
-    Reads'''''.Learnt,
-    Reads''''.Asked,
-    Reads''''.Learnt,
-    Reads'''''''.Asked,
-    Reads'''''''.Learnt,
-  ) Reads.Pre
-      Reads.Post M → Statement.statement M
+  pub close : Lts.Closed readings Reads.Pre Reads.Post M → Statement.statement M
   unfolding Code.routine Running.tablesOf
-  close = λ closed 𝓤 H 𝓜 𝓖 𝓡. Written.close 6 Kinds.ps Kinds.r Reads.Ghost Reads.requires Reads.ensures Reads.pre-read Reads.Pinned Reads.Owned
-      Reads.post-read record { M = M; 𝓤 = 𝓤; H = H; 𝓜 = 𝓜; 𝓖 = 𝓖; 𝓡 = 𝓡 } Code.env Key.name Code.function (Code.unfolded 𝓤 H 𝓜 𝓡) (λ κs a g. tt) (λ
-      κs. Reads.owns κs record { M = M; 𝓤 = 𝓤; H = H; 𝓜 = 𝓜; 𝓖 = 𝓖; 𝓡 = 𝓡 }) (Reads.passes record { M = M; 𝓤 = 𝓤; H = H; 𝓜 = 𝓜; 𝓖 = 𝓖; 𝓡 = 𝓡 }) λ g.
-      closed 𝓤 H (𝓖 .A) (Running.givenOf 𝓤 H 𝓜 𝓖) (Run.Over 𝓤 H 𝓜 𝓖 𝓡 Code.env) (Reads'.known record { M = M; 𝓤 = 𝓤; H = H; 𝓜 = 𝓜; 𝓖 = 𝓖; 𝓡 = 𝓡 }
-      Code.env Symbol.name Symbol.routine Code.calls-hnsr-circuit·handle-close·plan-close (Met.met 𝓤 H 𝓜 𝓖 𝓡)) (Reads''''''.known record {
-        M = M;
-        𝓤 =
-            𝓤;
-        H = H;
-        𝓜 = 𝓜;
-        𝓖 = 𝓖;
-        𝓡 = 𝓡;
-      } Code.env Symbol'''.name Symbol'''.routine Code.calls-hnsr-circuit·queue·asking (Met'''.met 𝓤 H 𝓜 𝓖 𝓡))
-      (Reads'''.known record { M = M; 𝓤 = 𝓤; H = H; 𝓜 = 𝓜; 𝓖 = 𝓖; 𝓡 = 𝓡 } Code.env Symbol''.name Symbol''.routine
-      Code.calls-hnsr-circuit·handle-close·unmark-pending (Met''.met 𝓤 H 𝓜 𝓖 𝓡)) (Reads''.known record { M = M; 𝓤 = 𝓤; H = H; 𝓜 = 𝓜; 𝓖 = 𝓖; 𝓡 = 𝓡 }
-      Code.env Symbol'.name Symbol'.routine Code.calls-hnsr-circuit·handle-close·unmark-circuit (Met'.met 𝓤 H 𝓜 𝓖 𝓡)) (Reads'''''.known record {
-        M =
-            M;
-        𝓤 = 𝓤;
-        H = H;
-        𝓜 = 𝓜;
-        𝓖 = 𝓖;
-        𝓡 = 𝓡;
-      } Code.env Symbol''''''.name Symbol''''''.routine Code.calls-hnsr-circuit·tables·inflight·drop-and-scan
-      (Met''''''.met 𝓤 H 𝓜 𝓖 𝓡)) (Reads''''.known record { M = M; 𝓤 = 𝓤; H = H; 𝓜 = 𝓜; 𝓖 = 𝓖; 𝓡 = 𝓡 } Code.env Symbol''''.name Symbol''''.routine
-      Code.calls-hnsr-circuit·queue·send (Met''''.met 𝓤 H 𝓜 𝓖 𝓡)) (Reads'''''''.known record { M = M; 𝓤 = 𝓤; H = H; 𝓜 = 𝓜; 𝓖 = 𝓖; 𝓡 = 𝓡 } Code.env
-      Symbol'''''.name Symbol'''''.routine Code.calls-hnsr-circuit·revoking-calls·refused (Met'''''.met 𝓤 H 𝓜 𝓖 𝓡))
+  close = λ closed 𝓤 H 𝓜 𝓖 𝓡. Written.close 6 Kinds.ps Kinds.r Reads.Ghost Reads.requires Reads.ensures Reads.pre-read
+      Reads.Pinned Reads.Owned Reads.post-read record { M = M; 𝓤 = 𝓤; H = H; 𝓜 = 𝓜; 𝓖 = 𝓖; 𝓡 = 𝓡 } Code.env Key.name
+      Code.function (Code.unfolded 𝓤 H 𝓜 𝓡) (λ κs a g. tt) (λ κs. Reads.owns κs
+      record { M = M; 𝓤 = 𝓤; H = H; 𝓜 = 𝓜; 𝓖 = 𝓖; 𝓡 = 𝓡 }) (Reads.passes
+      record { M = M; 𝓤 = 𝓤; H = H; 𝓜 = 𝓜; 𝓖 = 𝓖; 𝓡 = 𝓡 }) λ g. closed 𝓤 H (𝓖 .A) (Running.givenOf 𝓤 H 𝓜 𝓖)
+      (Run.Over 𝓤 H 𝓜 𝓖 𝓡 Code.env) (Reads'.known record { M = M; 𝓤 = 𝓤; H = H; 𝓜 = 𝓜; 𝓖 = 𝓖; 𝓡 = 𝓡 } Code.env
+      Symbol.name Symbol.routine Code.calls-hnsr-circuit·handle-close·plan-close (Met.met 𝓤 H 𝓜 𝓖 𝓡)) (Reads''''''.known
+      record { M = M; 𝓤 = 𝓤; H = H; 𝓜 = 𝓜; 𝓖 = 𝓖; 𝓡 = 𝓡 } Code.env Symbol'''.name Symbol'''.routine
+      Code.calls-hnsr-circuit·queue·asking (Met'''.met 𝓤 H 𝓜 𝓖 𝓡)) (Reads'''.known
+      record { M = M; 𝓤 = 𝓤; H = H; 𝓜 = 𝓜; 𝓖 = 𝓖; 𝓡 = 𝓡 } Code.env Symbol''.name Symbol''.routine
+      Code.calls-hnsr-circuit·handle-close·unmark-pending (Met''.met 𝓤 H 𝓜 𝓖 𝓡)) (Reads''.known
+      record { M = M; 𝓤 = 𝓤; H = H; 𝓜 = 𝓜; 𝓖 = 𝓖; 𝓡 = 𝓡 } Code.env Symbol'.name Symbol'.routine
+      Code.calls-hnsr-circuit·handle-close·unmark-circuit (Met'.met 𝓤 H 𝓜 𝓖 𝓡)) (Reads'''''.known
+      record { M = M; 𝓤 = 𝓤; H = H; 𝓜 = 𝓜; 𝓖 = 𝓖; 𝓡 = 𝓡 } Code.env Symbol''''''.name Symbol''''''.routine
+      Code.calls-hnsr-circuit·tables·inflight·drop-and-scan (Met''''''.met 𝓤 H 𝓜 𝓖 𝓡)) (Reads''''.known
+      record { M = M; 𝓤 = 𝓤; H = H; 𝓜 = 𝓜; 𝓖 = 𝓖; 𝓡 = 𝓡 } Code.env Symbol''''.name Symbol''''.routine
+      Code.calls-hnsr-circuit·queue·send (Met''''.met 𝓤 H 𝓜 𝓖 𝓡)) (Reads'''''''.known
+      record { M = M; 𝓤 = 𝓤; H = H; 𝓜 = 𝓜; 𝓖 = 𝓖; 𝓡 = 𝓡 } Code.env Symbol'''''.name Symbol'''''.routine
+      Code.calls-hnsr-circuit·revoking-calls·refused (Met'''''.met 𝓤 H 𝓜 𝓖 𝓡))

@@ -24,8 +24,8 @@ use borrow.Fn.Run
 use borrow.Fn.Written
 use contract.Running
 
-abbrev pub Start : Type 0
-Start = Lts.Start (
+abbrev pub readings : Lts.Claims
+readings = (
   Reads.Asked,
   Reads.Learnt,
   Reads'''.Asked,
@@ -36,499 +36,124 @@ Start = Lts.Start (
   Reads'.Learnt,
   Reads'''''.Asked,
   Reads'''''.Learnt,
-) Reads''.Pre Reads''.Post
+)
+
+abbrev pub Start : Type 0
+Start = Lts.Start readings Reads''.Pre Reads''.Post
 
 abbrev pub After-slice-known : Type 0
-After-slice-known = Lts.After-slice-known (
-  Reads.Asked,
-  Reads.Learnt,
-  Reads'''.Asked,
-  Reads'''.Learnt,
-  Reads''''.Asked,
-  Reads''''.Learnt,
-  Reads'.Asked,
-  Reads'.Learnt,
-  Reads'''''.Asked,
-  Reads'''''.Learnt,
-) Reads''.Pre Reads''.Post
+After-slice-known = Lts.After-slice-known readings Reads''.Pre Reads''.Post
 
 abbrev pub After-shared-slice-known : Type 0
-After-shared-slice-known = Lts.After-shared-slice-known (
-  Reads.Asked,
-  Reads.Learnt,
-  Reads'''.Asked,
-  Reads'''.Learnt,
-  Reads''''.Asked,
-  Reads''''.Learnt,
-  Reads'.Asked,
-  Reads'.Learnt,
-  Reads'''''.Asked,
-  Reads'''''.Learnt,
-) Reads''.Pre Reads''.Post
+After-shared-slice-known = Lts.After-shared-slice-known readings Reads''.Pre Reads''.Post
 
 abbrev pub After-shared-slice-known2 : Type 0
-After-shared-slice-known2 = Lts.After-shared-slice-known2 (
-  Reads.Asked,
-  Reads.Learnt,
-  Reads'''.Asked,
-  Reads'''.Learnt,
-  Reads''''.Asked,
-  Reads''''.Learnt,
-  Reads'.Asked,
-  Reads'.Learnt,
-  Reads'''''.Asked,
-  Reads'''''.Learnt,
-) Reads''.Pre Reads''.Post
+After-shared-slice-known2 = Lts.After-shared-slice-known2 readings Reads''.Pre Reads''.Post
 
 abbrev pub After-decode : Type 0
-After-decode = Lts.After-decode (
-  Reads.Asked,
-  Reads.Learnt,
-  Reads'''.Asked,
-  Reads'''.Learnt,
-  Reads''''.Asked,
-  Reads''''.Learnt,
-  Reads'.Asked,
-  Reads'.Learnt,
-  Reads'''''.Asked,
-  Reads'''''.Learnt,
-) Reads''.Pre Reads''.Post
+After-decode = Lts.After-decode readings Reads''.Pre Reads''.Post
 
 abbrev pub After-body-answer : Type 0
-After-body-answer = Lts.After-body-answer (
-  Reads.Asked,
-  Reads.Learnt,
-  Reads'''.Asked,
-  Reads'''.Learnt,
-  Reads''''.Asked,
-  Reads''''.Learnt,
-  Reads'.Asked,
-  Reads'.Learnt,
-  Reads'''''.Asked,
-  Reads'''''.Learnt,
-) Reads''.Pre Reads''.Post
+After-body-answer = Lts.After-body-answer readings Reads''.Pre Reads''.Post
 
 abbrev pub After-is-taken : Type 0
-After-is-taken = Lts.After-is-taken (
-  Reads.Asked,
-  Reads.Learnt,
-  Reads'''.Asked,
-  Reads'''.Learnt,
-  Reads''''.Asked,
-  Reads''''.Learnt,
-  Reads'.Asked,
-  Reads'.Learnt,
-  Reads'''''.Asked,
-  Reads'''''.Learnt,
-) Reads''.Pre Reads''.Post
+After-is-taken = Lts.After-is-taken readings Reads''.Pre Reads''.Post
 
 abbrev pub Then1 : Type 0
-Then1 = Lts.Then1 (
-  Reads.Asked,
-  Reads.Learnt,
-  Reads'''.Asked,
-  Reads'''.Learnt,
-  Reads''''.Asked,
-  Reads''''.Learnt,
-  Reads'.Asked,
-  Reads'.Learnt,
-  Reads'''''.Asked,
-  Reads'''''.Learnt,
-) Reads''.Pre Reads''.Post
+Then1 = Lts.Then1 readings Reads''.Pre Reads''.Post
 
 abbrev pub After-close-read-arg : Type 0
-After-close-read-arg = Lts.After-close-read-arg (
-  Reads.Asked,
-  Reads.Learnt,
-  Reads'''.Asked,
-  Reads'''.Learnt,
-  Reads''''.Asked,
-  Reads''''.Learnt,
-  Reads'.Asked,
-  Reads'.Learnt,
-  Reads'''''.Asked,
-  Reads'''''.Learnt,
-) Reads''.Pre Reads''.Post
+After-close-read-arg = Lts.After-close-read-arg readings Reads''.Pre Reads''.Post
 
 abbrev pub After-close-read-arg2 : Type 0
-After-close-read-arg2 = Lts.After-close-read-arg2 (
-  Reads.Asked,
-  Reads.Learnt,
-  Reads'''.Asked,
-  Reads'''.Learnt,
-  Reads''''.Asked,
-  Reads''''.Learnt,
-  Reads'.Asked,
-  Reads'.Learnt,
-  Reads'''''.Asked,
-  Reads'''''.Learnt,
-) Reads''.Pre Reads''.Post
+After-close-read-arg2 = Lts.After-close-read-arg2 readings Reads''.Pre Reads''.Post
 
 abbrev pub After-close-read-arg3 : Type 0
-After-close-read-arg3 = Lts.After-close-read-arg3 (
-  Reads.Asked,
-  Reads.Learnt,
-  Reads'''.Asked,
-  Reads'''.Learnt,
-  Reads''''.Asked,
-  Reads''''.Learnt,
-  Reads'.Asked,
-  Reads'.Learnt,
-  Reads'''''.Asked,
-  Reads'''''.Learnt,
-) Reads''.Pre Reads''.Post
+After-close-read-arg3 = Lts.After-close-read-arg3 readings Reads''.Pre Reads''.Post
 
 abbrev pub After-close-read-arg4 : Type 0
-After-close-read-arg4 = Lts.After-close-read-arg4 (
-  Reads.Asked,
-  Reads.Learnt,
-  Reads'''.Asked,
-  Reads'''.Learnt,
-  Reads''''.Asked,
-  Reads''''.Learnt,
-  Reads'.Asked,
-  Reads'.Learnt,
-  Reads'''''.Asked,
-  Reads'''''.Learnt,
-) Reads''.Pre Reads''.Post
+After-close-read-arg4 = Lts.After-close-read-arg4 readings Reads''.Pre Reads''.Post
 
 abbrev pub After-close-read : Type 0
-After-close-read = Lts.After-close-read (
-  Reads.Asked,
-  Reads.Learnt,
-  Reads'''.Asked,
-  Reads'''.Learnt,
-  Reads''''.Asked,
-  Reads''''.Learnt,
-  Reads'.Asked,
-  Reads'.Learnt,
-  Reads'''''.Asked,
-  Reads'''''.Learnt,
-) Reads''.Pre Reads''.Post
+After-close-read = Lts.After-close-read readings Reads''.Pre Reads''.Post
 
 abbrev pub After-pending : Type 0
-After-pending = Lts.After-pending (
-  Reads.Asked,
-  Reads.Learnt,
-  Reads'''.Asked,
-  Reads'''.Learnt,
-  Reads''''.Asked,
-  Reads''''.Learnt,
-  Reads'.Asked,
-  Reads'.Learnt,
-  Reads'''''.Asked,
-  Reads'''''.Learnt,
-) Reads''.Pre Reads''.Post
+After-pending = Lts.After-pending readings Reads''.Pre Reads''.Post
 
 abbrev pub After-circuits : Type 0
-After-circuits = Lts.After-circuits (
-  Reads.Asked,
-  Reads.Learnt,
-  Reads'''.Asked,
-  Reads'''.Learnt,
-  Reads''''.Asked,
-  Reads''''.Learnt,
-  Reads'.Asked,
-  Reads'.Learnt,
-  Reads'''''.Asked,
-  Reads'''''.Learnt,
-) Reads''.Pre Reads''.Post
+After-circuits = Lts.After-circuits readings Reads''.Pre Reads''.Post
 
 abbrev pub After-inflight : Type 0
-After-inflight = Lts.After-inflight (
-  Reads.Asked,
-  Reads.Learnt,
-  Reads'''.Asked,
-  Reads'''.Learnt,
-  Reads''''.Asked,
-  Reads''''.Learnt,
-  Reads'.Asked,
-  Reads'.Learnt,
-  Reads'''''.Asked,
-  Reads'''''.Learnt,
-) Reads''.Pre Reads''.Post
+After-inflight = Lts.After-inflight readings Reads''.Pre Reads''.Post
 
 abbrev pub After-out : Type 0
-After-out = Lts.After-out (
-  Reads.Asked,
-  Reads.Learnt,
-  Reads'''.Asked,
-  Reads'''.Learnt,
-  Reads''''.Asked,
-  Reads''''.Learnt,
-  Reads'.Asked,
-  Reads'.Learnt,
-  Reads'''''.Asked,
-  Reads'''''.Learnt,
-) Reads''.Pre Reads''.Post
+After-out = Lts.After-out readings Reads''.Pre Reads''.Post
 
 abbrev pub After-slice-known2 : Type 0
-After-slice-known2 = Lts.After-slice-known2 (
-  Reads.Asked,
-  Reads.Learnt,
-  Reads'''.Asked,
-  Reads'''.Learnt,
-  Reads''''.Asked,
-  Reads''''.Learnt,
-  Reads'.Asked,
-  Reads'.Learnt,
-  Reads'''''.Asked,
-  Reads'''''.Learnt,
-) Reads''.Pre Reads''.Post
+After-slice-known2 = Lts.After-slice-known2 readings Reads''.Pre Reads''.Post
 
 abbrev pub Else1 : Type 0
-Else1 = Lts.Else1 (
-  Reads.Asked,
-  Reads.Learnt,
-  Reads'''.Asked,
-  Reads'''.Learnt,
-  Reads''''.Asked,
-  Reads''''.Learnt,
-  Reads'.Asked,
-  Reads'.Learnt,
-  Reads'''''.Asked,
-  Reads'''''.Learnt,
-) Reads''.Pre Reads''.Post
+Else1 = Lts.Else1 readings Reads''.Pre Reads''.Post
 
 abbrev pub After-refused : Type 0
-After-refused = Lts.After-refused (
-  Reads.Asked,
-  Reads.Learnt,
-  Reads'''.Asked,
-  Reads'''.Learnt,
-  Reads''''.Asked,
-  Reads''''.Learnt,
-  Reads'.Asked,
-  Reads'.Learnt,
-  Reads'''''.Asked,
-  Reads'''''.Learnt,
-) Reads''.Pre Reads''.Post
+After-refused = Lts.After-refused readings Reads''.Pre Reads''.Post
 
 abbrev pub Need-decode-requires : Type 0
-Need-decode-requires = Lts.Need-decode-requires (
-  Reads.Asked,
-  Reads.Learnt,
-  Reads'''.Asked,
-  Reads'''.Learnt,
-  Reads''''.Asked,
-  Reads''''.Learnt,
-  Reads'.Asked,
-  Reads'.Learnt,
-  Reads'''''.Asked,
-  Reads'''''.Learnt,
-) Reads''.Pre Reads''.Post
+Need-decode-requires = Lts.Need-decode-requires readings Reads''.Pre Reads''.Post
 
 abbrev pub Need-body-answer-requires : Type 0
-Need-body-answer-requires = Lts.Need-body-answer-requires (
-  Reads.Asked,
-  Reads.Learnt,
-  Reads'''.Asked,
-  Reads'''.Learnt,
-  Reads''''.Asked,
-  Reads''''.Learnt,
-  Reads'.Asked,
-  Reads'.Learnt,
-  Reads'''''.Asked,
-  Reads'''''.Learnt,
-) Reads''.Pre Reads''.Post
+Need-body-answer-requires = Lts.Need-body-answer-requires readings Reads''.Pre Reads''.Post
 
 abbrev pub Need-is-taken-requires : Type 0
-Need-is-taken-requires = Lts.Need-is-taken-requires (
-  Reads.Asked,
-  Reads.Learnt,
-  Reads'''.Asked,
-  Reads'''.Learnt,
-  Reads''''.Asked,
-  Reads''''.Learnt,
-  Reads'.Asked,
-  Reads'.Learnt,
-  Reads'''''.Asked,
-  Reads'''''.Learnt,
-) Reads''.Pre Reads''.Post
+Need-is-taken-requires = Lts.Need-is-taken-requires readings Reads''.Pre Reads''.Post
 
 abbrev pub Need-close-read-requires : Type 0
-Need-close-read-requires = Lts.Need-close-read-requires (
-  Reads.Asked,
-  Reads.Learnt,
-  Reads'''.Asked,
-  Reads'''.Learnt,
-  Reads''''.Asked,
-  Reads''''.Learnt,
-  Reads'.Asked,
-  Reads'.Learnt,
-  Reads'''''.Asked,
-  Reads'''''.Learnt,
-) Reads''.Pre Reads''.Post
+Need-close-read-requires = Lts.Need-close-read-requires readings Reads''.Pre Reads''.Post
 
 abbrev pub Need-same-length : Type 0
-Need-same-length = Lts.Need-same-length (
-  Reads.Asked,
-  Reads.Learnt,
-  Reads'''.Asked,
-  Reads'''.Learnt,
-  Reads''''.Asked,
-  Reads''''.Learnt,
-  Reads'.Asked,
-  Reads'.Learnt,
-  Reads'''''.Asked,
-  Reads'''''.Learnt,
-) Reads''.Pre Reads''.Post
+Need-same-length = Lts.Need-same-length readings Reads''.Pre Reads''.Post
 
 abbrev pub Need-same-length-2 : Type 0
-Need-same-length-2 = Lts.Need-same-length-2 (
-  Reads.Asked,
-  Reads.Learnt,
-  Reads'''.Asked,
-  Reads'''.Learnt,
-  Reads''''.Asked,
-  Reads''''.Learnt,
-  Reads'.Asked,
-  Reads'.Learnt,
-  Reads'''''.Asked,
-  Reads'''''.Learnt,
-) Reads''.Pre Reads''.Post
+Need-same-length-2 = Lts.Need-same-length-2 readings Reads''.Pre Reads''.Post
 
 abbrev pub Need-same-length-3 : Type 0
-Need-same-length-3 = Lts.Need-same-length-3 (
-  Reads.Asked,
-  Reads.Learnt,
-  Reads'''.Asked,
-  Reads'''.Learnt,
-  Reads''''.Asked,
-  Reads''''.Learnt,
-  Reads'.Asked,
-  Reads'.Learnt,
-  Reads'''''.Asked,
-  Reads'''''.Learnt,
-) Reads''.Pre Reads''.Post
+Need-same-length-3 = Lts.Need-same-length-3 readings Reads''.Pre Reads''.Post
 
 abbrev pub Need-same-length-4 : Type 0
-Need-same-length-4 = Lts.Need-same-length-4 (
-  Reads.Asked,
-  Reads.Learnt,
-  Reads'''.Asked,
-  Reads'''.Learnt,
-  Reads''''.Asked,
-  Reads''''.Learnt,
-  Reads'.Asked,
-  Reads'.Learnt,
-  Reads'''''.Asked,
-  Reads'''''.Learnt,
-) Reads''.Pre Reads''.Post
+Need-same-length-4 = Lts.Need-same-length-4 readings Reads''.Pre Reads''.Post
 
 abbrev pub Need-returns : Type 0
-Need-returns = Lts.Need-returns (
-  Reads.Asked,
-  Reads.Learnt,
-  Reads'''.Asked,
-  Reads'''.Learnt,
-  Reads''''.Asked,
-  Reads''''.Learnt,
-  Reads'.Asked,
-  Reads'.Learnt,
-  Reads'''''.Asked,
-  Reads'''''.Learnt,
-) Reads''.Pre Reads''.Post
+Need-returns = Lts.Need-returns readings Reads''.Pre Reads''.Post
 
 abbrev pub Need-refused-requires : Type 0
-Need-refused-requires = Lts.Need-refused-requires (
-  Reads.Asked,
-  Reads.Learnt,
-  Reads'''.Asked,
-  Reads'''.Learnt,
-  Reads''''.Asked,
-  Reads''''.Learnt,
-  Reads'.Asked,
-  Reads'.Learnt,
-  Reads'''''.Asked,
-  Reads'''''.Learnt,
-) Reads''.Pre Reads''.Post
+Need-refused-requires = Lts.Need-refused-requires readings Reads''.Pre Reads''.Post
 
 abbrev pub Need-returns-2 : Type 0
-Need-returns-2 = Lts.Need-returns-2 (
-  Reads.Asked,
-  Reads.Learnt,
-  Reads'''.Asked,
-  Reads'''.Learnt,
-  Reads''''.Asked,
-  Reads''''.Learnt,
-  Reads'.Asked,
-  Reads'.Learnt,
-  Reads'''''.Asked,
-  Reads'''''.Learnt,
-) Reads''.Pre Reads''.Post
+Need-returns-2 = Lts.Need-returns-2 readings Reads''.Pre Reads''.Post
 
 module _ {M : Type 1} where
-  pub spec : (answer : Need-decode-requires) → (answer : Need-body-answer-requires) → (answer : Need-is-taken-requires) → (answer :
-      Need-close-read-requires) → (answer : Need-same-length) → (answer : Need-same-length-2) → (answer : Need-same-length-3) → (answer :
-      Need-same-length-4) → (answer : Need-returns) → (answer : Need-refused-requires) → (answer : Need-returns-2) → Lts.Closed (
-        Reads.Asked,
-        Reads.Learnt,
-        Reads'''.Asked,
-        Reads'''.Learnt,
-        Reads''''.Asked,
-        Reads''''.Learnt,
-        Reads'.Asked,
-        Reads'.Learnt,
-        Reads'''''.Asked,
-        Reads'''''.Learnt,
-      ) Reads''.Pre Reads''.Post M
-  spec = λ answer answer' answer'' answer'3 answer'4 answer'5 answer'6 answer'7 answer'8 answer'9 answer'10. Lts.spec (
-    Reads.Asked,
-    Reads.Learnt,
-    Reads'''.Asked,
-    Reads'''.Learnt,
-    Reads''''.Asked,
-    Reads''''.Learnt,
-    Reads'.Asked,
-    Reads'.Learnt,
-    Reads'''''.Asked,
-    Reads'''''.Learnt,
-  )
-      Reads''.Pre Reads''.Post answer answer' answer'' answer'3 answer'4 answer'5 answer'6 answer'7 answer'8 answer'9 answer'10
+  pub spec : (answer : Need-decode-requires) → (answer : Need-body-answer-requires) → (answer : Need-is-taken-requires)
+      → (answer : Need-close-read-requires) → (answer : Need-same-length) → (answer : Need-same-length-2) →
+      (answer : Need-same-length-3) → (answer : Need-same-length-4) → (answer : Need-returns) →
+      (answer : Need-refused-requires) → (answer : Need-returns-2) → Lts.Closed readings Reads''.Pre Reads''.Post M
+  spec = λ answer answer' answer'' answer'3 answer'4 answer'5 answer'6 answer'7 answer'8 answer'9 answer'10. Lts.spec
+      readings Reads''.Pre Reads''.Post answer answer' answer'' answer'3 answer'4 answer'5 answer'6 answer'7 answer'8
+      answer'9 answer'10
 
-  pub close : Lts.Closed (
-    Reads.Asked,
-    Reads.Learnt,
-    Reads'''.Asked,
-    Reads'''.Learnt,
-    Reads''''.Asked,
-    Reads''''.Learnt,
-    Reads'.Asked,
-    Reads'.Learnt,
-    Reads'''''.Asked,
-    Reads'''''.Learnt,
-  ) Reads''.Pre Reads''.Post M → Statement.statement M
+  pub close : Lts.Closed readings Reads''.Pre Reads''.Post M → Statement.statement M
   unfolding Code.routine Running.tablesOf
-  close = λ closed 𝓤 H 𝓜 𝓖 𝓡. Written.close 6 Kinds.ps Kinds.r Reads''.Ghost Reads''.requires Reads''.ensures Reads''.pre-read Reads''.Pinned
-      Reads''.Owned Reads''.post-read record { M = M; 𝓤 = 𝓤; H = H; 𝓜 = 𝓜; 𝓖 = 𝓖; 𝓡 = 𝓡 } Code.env Key.name Code.function (Code.unfolded 𝓤 H 𝓜 𝓡) (λ
-      κs a g. tt) (λ κs. Reads''.owns κs record { M = M; 𝓤 = 𝓤; H = H; 𝓜 = 𝓜; 𝓖 = 𝓖; 𝓡 = 𝓡 }) (Reads''.passes record {
-        M = M;
-        𝓤 = 𝓤;
-        H = H;
-        𝓜 = 𝓜;
-        𝓖 =
-            𝓖;
-        𝓡 = 𝓡;
-      }) λ g. closed 𝓤 H (𝓖 .A) (Running.givenOf 𝓤 H 𝓜 𝓖) (Run.Over 𝓤 H 𝓜 𝓖 𝓡 Code.env) (Reads.known record {
-        M = M;
-        𝓤 = 𝓤;
-        H = H;
-        𝓜 = 𝓜;
-        𝓖 =
-            𝓖;
-        𝓡 = 𝓡;
-      } Code.env Symbol.name Symbol.routine Code.calls-hnsr-body·detail-body·ReasonDetail·decode (Met.met 𝓤 H 𝓜 𝓖 𝓡)) (Reads'''.known record
-      { M = M; 𝓤 = 𝓤; H = H; 𝓜 = 𝓜; 𝓖 = 𝓖; 𝓡 = 𝓡 } Code.env Symbol'.name Symbol'.routine Code.calls-hnsr-circuit·answer·body-answer (Met'.met 𝓤 H 𝓜 𝓖
-      𝓡)) (Reads''''.known record { M = M; 𝓤 = 𝓤; H = H; 𝓜 = 𝓜; 𝓖 = 𝓖; 𝓡 = 𝓡 } Code.env Symbol''.name Symbol''.routine
-      Code.calls-hnsr-circuit·answer·is-taken (Met''.met 𝓤 H 𝓜 𝓖 𝓡)) (Reads'.known record { M = M; 𝓤 = 𝓤; H = H; 𝓜 = 𝓜; 𝓖 = 𝓖; 𝓡 = 𝓡 } Code.env
-      Symbol'''.name Symbol'''.routine Code.calls-hnsr-circuit·handle-close·close-read (Met'''.met 𝓤 H 𝓜 𝓖 𝓡)) (Reads'''''.known record {
-        M = M;
-        𝓤 =
-            𝓤;
-        H = H;
-        𝓜 = 𝓜;
-        𝓖 = 𝓖;
-        𝓡 = 𝓡;
-      } Code.env Symbol''''.name Symbol''''.routine Code.calls-hnsr-circuit·revoking-calls·refused (Met''''.met 𝓤 H 𝓜 𝓖
-      𝓡))
+  close = λ closed 𝓤 H 𝓜 𝓖 𝓡. Written.close 6 Kinds.ps Kinds.r Reads''.Ghost Reads''.requires Reads''.ensures
+      Reads''.pre-read Reads''.Pinned Reads''.Owned Reads''.post-read
+      record { M = M; 𝓤 = 𝓤; H = H; 𝓜 = 𝓜; 𝓖 = 𝓖; 𝓡 = 𝓡 } Code.env Key.name Code.function (Code.unfolded 𝓤 H 𝓜 𝓡)
+      (λ κs a g. tt) (λ κs. Reads''.owns κs record { M = M; 𝓤 = 𝓤; H = H; 𝓜 = 𝓜; 𝓖 = 𝓖; 𝓡 = 𝓡 }) (Reads''.passes
+      record { M = M; 𝓤 = 𝓤; H = H; 𝓜 = 𝓜; 𝓖 = 𝓖; 𝓡 = 𝓡 }) λ g. closed 𝓤 H (𝓖 .A) (Running.givenOf 𝓤 H 𝓜 𝓖)
+      (Run.Over 𝓤 H 𝓜 𝓖 𝓡 Code.env) (Reads.known record { M = M; 𝓤 = 𝓤; H = H; 𝓜 = 𝓜; 𝓖 = 𝓖; 𝓡 = 𝓡 } Code.env
+      Symbol.name Symbol.routine Code.calls-hnsr-body·detail-body·ReasonDetail·decode (Met.met 𝓤 H 𝓜 𝓖 𝓡)) (Reads'''.known
+      record { M = M; 𝓤 = 𝓤; H = H; 𝓜 = 𝓜; 𝓖 = 𝓖; 𝓡 = 𝓡 } Code.env Symbol'.name Symbol'.routine
+      Code.calls-hnsr-circuit·answer·body-answer (Met'.met 𝓤 H 𝓜 𝓖 𝓡)) (Reads''''.known
+      record { M = M; 𝓤 = 𝓤; H = H; 𝓜 = 𝓜; 𝓖 = 𝓖; 𝓡 = 𝓡 } Code.env Symbol''.name Symbol''.routine
+      Code.calls-hnsr-circuit·answer·is-taken (Met''.met 𝓤 H 𝓜 𝓖 𝓡)) (Reads'.known
+      record { M = M; 𝓤 = 𝓤; H = H; 𝓜 = 𝓜; 𝓖 = 𝓖; 𝓡 = 𝓡 } Code.env Symbol'''.name Symbol'''.routine
+      Code.calls-hnsr-circuit·handle-close·close-read (Met'''.met 𝓤 H 𝓜 𝓖 𝓡)) (Reads'''''.known
+      record { M = M; 𝓤 = 𝓤; H = H; 𝓜 = 𝓜; 𝓖 = 𝓖; 𝓡 = 𝓡 } Code.env Symbol''''.name Symbol''''.routine
+      Code.calls-hnsr-circuit·revoking-calls·refused (Met''''.met 𝓤 H 𝓜 𝓖 𝓡))

@@ -27,8 +27,8 @@ use borrow.Fn.Run
 use borrow.Fn.Written
 use contract.Running
 
-abbrev pub Start : Type 0
-Start = Lts.Start (
+abbrev pub readings : Lts.Claims
+readings = (
   Reads'''''.Asked,
   Reads'''''.Learnt,
   Reads''''''.Asked,
@@ -41,310 +41,76 @@ Start = Lts.Start (
   Reads'.Learnt,
   Reads''''.Asked,
   Reads''''.Learnt,
-) Reads.Pre Reads.Post
+)
+
+abbrev pub Start : Type 0
+Start = Lts.Start readings Reads.Pre Reads.Post
 
 abbrev pub After-shared-slice-known : Type 0
-After-shared-slice-known = Lts.After-shared-slice-known (
-  Reads'''''.Asked,
-  Reads'''''.Learnt,
-  Reads''''''.Asked,
-  Reads''''''.Learnt,
-  Reads'''.Asked,
-  Reads'''.Learnt,
-  Reads''.Asked,
-  Reads''.Learnt,
-  Reads'.Asked,
-  Reads'.Learnt,
-  Reads''''.Asked,
-  Reads''''.Learnt,
-) Reads.Pre Reads.Post
+After-shared-slice-known = Lts.After-shared-slice-known readings Reads.Pre Reads.Post
 
 abbrev pub After-peer-of : Type 0
-After-peer-of = Lts.After-peer-of (
-  Reads'''''.Asked,
-  Reads'''''.Learnt,
-  Reads''''''.Asked,
-  Reads''''''.Learnt,
-  Reads'''.Asked,
-  Reads'''.Learnt,
-  Reads''.Asked,
-  Reads''.Learnt,
-  Reads'.Asked,
-  Reads'.Learnt,
-  Reads''''.Asked,
-  Reads''''.Learnt,
-) Reads.Pre Reads.Post
+After-peer-of = Lts.After-peer-of readings Reads.Pre Reads.Post
 
 abbrev pub After-named : Type 0
-After-named = Lts.After-named (
-  Reads'''''.Asked,
-  Reads'''''.Learnt,
-  Reads''''''.Asked,
-  Reads''''''.Learnt,
-  Reads'''.Asked,
-  Reads'''.Learnt,
-  Reads''.Asked,
-  Reads''.Learnt,
-  Reads'.Asked,
-  Reads'.Learnt,
-  Reads''''.Asked,
-  Reads''''.Learnt,
-) Reads.Pre Reads.Post
+After-named = Lts.After-named readings Reads.Pre Reads.Post
 
 abbrev pub After-count-pending : Type 0
-After-count-pending = Lts.After-count-pending (
-  Reads'''''.Asked,
-  Reads'''''.Learnt,
-  Reads''''''.Asked,
-  Reads''''''.Learnt,
-  Reads'''.Asked,
-  Reads'''.Learnt,
-  Reads''.Asked,
-  Reads''.Learnt,
-  Reads'.Asked,
-  Reads'.Learnt,
-  Reads''''.Asked,
-  Reads''''.Learnt,
-) Reads.Pre Reads.Post
+After-count-pending = Lts.After-count-pending readings Reads.Pre Reads.Post
 
 abbrev pub After-look-up-pending : Type 0
-After-look-up-pending = Lts.After-look-up-pending (
-  Reads'''''.Asked,
-  Reads'''''.Learnt,
-  Reads''''''.Asked,
-  Reads''''''.Learnt,
-  Reads'''.Asked,
-  Reads'''.Learnt,
-  Reads''.Asked,
-  Reads''.Learnt,
-  Reads'.Asked,
-  Reads'.Learnt,
-  Reads''''.Asked,
-  Reads''''.Learnt,
-) Reads.Pre Reads.Post
+After-look-up-pending = Lts.After-look-up-pending readings Reads.Pre Reads.Post
 
 abbrev pub After-circuit-by-id : Type 0
-After-circuit-by-id = Lts.After-circuit-by-id (
-  Reads'''''.Asked,
-  Reads'''''.Learnt,
-  Reads''''''.Asked,
-  Reads''''''.Learnt,
-  Reads'''.Asked,
-  Reads'''.Learnt,
-  Reads''.Asked,
-  Reads''.Learnt,
-  Reads'.Asked,
-  Reads'.Learnt,
-  Reads''''.Asked,
-  Reads''''.Learnt,
-) Reads.Pre Reads.Post
+After-circuit-by-id = Lts.After-circuit-by-id readings Reads.Pre Reads.Post
 
 abbrev pub After-close-plan : Type 0
-After-close-plan = Lts.After-close-plan (
-  Reads'''''.Asked,
-  Reads'''''.Learnt,
-  Reads''''''.Asked,
-  Reads''''''.Learnt,
-  Reads'''.Asked,
-  Reads'''.Learnt,
-  Reads''.Asked,
-  Reads''.Learnt,
-  Reads'.Asked,
-  Reads'.Learnt,
-  Reads''''.Asked,
-  Reads''''.Learnt,
-) Reads.Pre Reads.Post
+After-close-plan = Lts.After-close-plan readings Reads.Pre Reads.Post
 
 abbrev pub Need-peer-of-requires : Type 0
-Need-peer-of-requires = Lts.Need-peer-of-requires (
-  Reads'''''.Asked,
-  Reads'''''.Learnt,
-  Reads''''''.Asked,
-  Reads''''''.Learnt,
-  Reads'''.Asked,
-  Reads'''.Learnt,
-  Reads''.Asked,
-  Reads''.Learnt,
-  Reads'.Asked,
-  Reads'.Learnt,
-  Reads''''.Asked,
-  Reads''''.Learnt,
-) Reads.Pre Reads.Post
+Need-peer-of-requires = Lts.Need-peer-of-requires readings Reads.Pre Reads.Post
 
 abbrev pub Need-named-requires : Type 0
-Need-named-requires = Lts.Need-named-requires (
-  Reads'''''.Asked,
-  Reads'''''.Learnt,
-  Reads''''''.Asked,
-  Reads''''''.Learnt,
-  Reads'''.Asked,
-  Reads'''.Learnt,
-  Reads''.Asked,
-  Reads''.Learnt,
-  Reads'.Asked,
-  Reads'.Learnt,
-  Reads''''.Asked,
-  Reads''''.Learnt,
-) Reads.Pre Reads.Post
+Need-named-requires = Lts.Need-named-requires readings Reads.Pre Reads.Post
 
 abbrev pub Need-count-pending-requires : Type 0
-Need-count-pending-requires = Lts.Need-count-pending-requires (
-  Reads'''''.Asked,
-  Reads'''''.Learnt,
-  Reads''''''.Asked,
-  Reads''''''.Learnt,
-  Reads'''.Asked,
-  Reads'''.Learnt,
-  Reads''.Asked,
-  Reads''.Learnt,
-  Reads'.Asked,
-  Reads'.Learnt,
-  Reads''''.Asked,
-  Reads''''.Learnt,
-) Reads.Pre
-    Reads.Post
+Need-count-pending-requires = Lts.Need-count-pending-requires readings Reads.Pre Reads.Post
 
 abbrev pub Need-look-up-pending-requires : Type 0
-Need-look-up-pending-requires = Lts.Need-look-up-pending-requires (
-  Reads'''''.Asked,
-  Reads'''''.Learnt,
-  Reads''''''.Asked,
-  Reads''''''.Learnt,
-  Reads'''.Asked,
-  Reads'''.Learnt,
-  Reads''.Asked,
-  Reads''.Learnt,
-  Reads'.Asked,
-  Reads'.Learnt,
-  Reads''''.Asked,
-  Reads''''.Learnt,
-) Reads.Pre
-    Reads.Post
+Need-look-up-pending-requires = Lts.Need-look-up-pending-requires readings Reads.Pre Reads.Post
 
 abbrev pub Need-circuit-by-id-requires : Type 0
-Need-circuit-by-id-requires = Lts.Need-circuit-by-id-requires (
-  Reads'''''.Asked,
-  Reads'''''.Learnt,
-  Reads''''''.Asked,
-  Reads''''''.Learnt,
-  Reads'''.Asked,
-  Reads'''.Learnt,
-  Reads''.Asked,
-  Reads''.Learnt,
-  Reads'.Asked,
-  Reads'.Learnt,
-  Reads''''.Asked,
-  Reads''''.Learnt,
-) Reads.Pre
-    Reads.Post
+Need-circuit-by-id-requires = Lts.Need-circuit-by-id-requires readings Reads.Pre Reads.Post
 
 abbrev pub Need-close-plan-requires : Type 0
-Need-close-plan-requires = Lts.Need-close-plan-requires (
-  Reads'''''.Asked,
-  Reads'''''.Learnt,
-  Reads''''''.Asked,
-  Reads''''''.Learnt,
-  Reads'''.Asked,
-  Reads'''.Learnt,
-  Reads''.Asked,
-  Reads''.Learnt,
-  Reads'.Asked,
-  Reads'.Learnt,
-  Reads''''.Asked,
-  Reads''''.Learnt,
-) Reads.Pre Reads.Post
+Need-close-plan-requires = Lts.Need-close-plan-requires readings Reads.Pre Reads.Post
 
 abbrev pub Need-returns : Type 0
-Need-returns = Lts.Need-returns (
-  Reads'''''.Asked,
-  Reads'''''.Learnt,
-  Reads''''''.Asked,
-  Reads''''''.Learnt,
-  Reads'''.Asked,
-  Reads'''.Learnt,
-  Reads''.Asked,
-  Reads''.Learnt,
-  Reads'.Asked,
-  Reads'.Learnt,
-  Reads''''.Asked,
-  Reads''''.Learnt,
-) Reads.Pre Reads.Post
+Need-returns = Lts.Need-returns readings Reads.Pre Reads.Post
 
 module _ {M : Type 1} where
-  pub spec : (answer : Need-peer-of-requires) → (answer : Need-named-requires) → (answer : Need-count-pending-requires) → (answer :
-      Need-look-up-pending-requires) → (answer : Need-circuit-by-id-requires) → (answer : Need-close-plan-requires) → (answer : Need-returns) →
-      Lts.Closed (
-        Reads'''''.Asked,
-        Reads'''''.Learnt,
-        Reads''''''.Asked,
-        Reads''''''.Learnt,
-        Reads'''.Asked,
-        Reads'''.Learnt,
-        Reads''.Asked,
-        Reads''.Learnt,
-        Reads'.Asked,
-        Reads'.Learnt,
-        Reads''''.Asked,
-        Reads''''.Learnt,
-      ) Reads.Pre Reads.Post M
-  spec = λ answer answer' answer'' answer'3 answer'4 answer'5 answer'6. Lts.spec (
-    Reads'''''.Asked,
-    Reads'''''.Learnt,
-    Reads''''''.Asked,
-    Reads''''''.Learnt,
-    Reads'''.Asked,
-    Reads'''.Learnt,
-    Reads''.Asked,
-    Reads''.Learnt,
-    Reads'.Asked,
-    Reads'.Learnt,
-    Reads''''.Asked,
-    Reads''''.Learnt,
-  ) Reads.Pre Reads.Post answer answer' answer'' answer'3 answer'4 answer'5 answer'6
+  pub spec : (answer : Need-peer-of-requires) → (answer : Need-named-requires) → (answer : Need-count-pending-requires)
+      → (answer : Need-look-up-pending-requires) → (answer : Need-circuit-by-id-requires) →
+      (answer : Need-close-plan-requires) → (answer : Need-returns) → Lts.Closed readings Reads.Pre Reads.Post M
+  spec = λ answer answer' answer'' answer'3 answer'4 answer'5 answer'6. Lts.spec readings Reads.Pre Reads.Post answer
+      answer' answer'' answer'3 answer'4 answer'5 answer'6
 
-  pub close : Lts.Closed (
-    Reads'''''.Asked,
-    Reads'''''.Learnt,
-    Reads''''''.Asked,
-    Reads''''''.Learnt,
-    Reads'''.Asked,
-    Reads'''.Learnt,
-    Reads''.Asked,
-    Reads''.Learnt,
-    Reads'.Asked,
-    Reads'.Learnt,
-    Reads''''.Asked,
-    Reads''''.Learnt,
-  ) Reads.Pre Reads.Post M → Statement.statement M
+  pub close : Lts.Closed readings Reads.Pre Reads.Post M → Statement.statement M
   unfolding Code.routine Running.tablesOf
-  close = λ closed 𝓤 H 𝓜 𝓖 𝓡. Written.close 3 Kinds.ps Kinds.r Reads.Ghost Reads.requires Reads.ensures Reads.pre-read Reads.Pinned Reads.Owned
-      Reads.post-read record { M = M; 𝓤 = 𝓤; H = H; 𝓜 = 𝓜; 𝓖 = 𝓖; 𝓡 = 𝓡 } Code.env Key.name Code.function (Code.unfolded 𝓤 H 𝓜 𝓡) (λ κs a g. tt) (λ
-      κs. Reads.owns κs record { M = M; 𝓤 = 𝓤; H = H; 𝓜 = 𝓜; 𝓖 = 𝓖; 𝓡 = 𝓡 }) (Reads.passes record { M = M; 𝓤 = 𝓤; H = H; 𝓜 = 𝓜; 𝓖 = 𝓖; 𝓡 = 𝓡 }) λ g.
-      closed 𝓤 H (𝓖 .A) (Running.givenOf 𝓤 H 𝓜 𝓖) (Run.Over 𝓤 H 𝓜 𝓖 𝓡 Code.env) (Reads'''''.known record { M = M; 𝓤 = 𝓤; H = H; 𝓜 = 𝓜; 𝓖 = 𝓖; 𝓡 = 𝓡 }
-      Code.env Symbol'''.name Symbol'''.routine Code.calls-hnsr-circuit·peer·peer-of (Met'''.met 𝓤 H 𝓜 𝓖 𝓡)) (Reads''''''.known record {
-        M = M;
-        𝓤 = 𝓤;
-        H = H;
-        𝓜 = 𝓜;
-        𝓖 = 𝓖;
-        𝓡 = 𝓡;
-      } Code.env Symbol''''.name Symbol''''.routine Code.calls-hnsr-circuit·question·named (Met''''.met 𝓤 H 𝓜 𝓖 𝓡))
-      (Reads'''.known record { M = M; 𝓤 = 𝓤; H = H; 𝓜 = 𝓜; 𝓖 = 𝓖; 𝓡 = 𝓡 } Code.env Symbol'''''.name Symbol'''''.routine
-      Code.calls-hnsr-circuit·tables·pending·count-pending (Met'''''.met 𝓤 H 𝓜 𝓖 𝓡)) (Reads''.known record {
-        M = M;
-        𝓤 = 𝓤;
-        H = H;
-        𝓜 = 𝓜;
-        𝓖 = 𝓖;
-        𝓡 = 𝓡;
-      } Code.env Symbol''.name Symbol''.routine Code.calls-hnsr-circuit·lookup·look-up-pending (Met''.met 𝓤 H 𝓜 𝓖 𝓡)) (Reads'.known record {
-        M = M;
-        𝓤
-            = 𝓤;
-        H = H;
-        𝓜 = 𝓜;
-        𝓖 = 𝓖;
-        𝓡 = 𝓡;
-      } Code.env Symbol'.name Symbol'.routine Code.calls-hnsr-circuit·lookup·circuit-by-id (Met'.met 𝓤 H 𝓜 𝓖 𝓡))
-      (Reads''''.known record { M = M; 𝓤 = 𝓤; H = H; 𝓜 = 𝓜; 𝓖 = 𝓖; 𝓡 = 𝓡 } Code.env Symbol.name Symbol.routine
+  close = λ closed 𝓤 H 𝓜 𝓖 𝓡. Written.close 3 Kinds.ps Kinds.r Reads.Ghost Reads.requires Reads.ensures Reads.pre-read
+      Reads.Pinned Reads.Owned Reads.post-read record { M = M; 𝓤 = 𝓤; H = H; 𝓜 = 𝓜; 𝓖 = 𝓖; 𝓡 = 𝓡 } Code.env Key.name
+      Code.function (Code.unfolded 𝓤 H 𝓜 𝓡) (λ κs a g. tt) (λ κs. Reads.owns κs
+      record { M = M; 𝓤 = 𝓤; H = H; 𝓜 = 𝓜; 𝓖 = 𝓖; 𝓡 = 𝓡 }) (Reads.passes
+      record { M = M; 𝓤 = 𝓤; H = H; 𝓜 = 𝓜; 𝓖 = 𝓖; 𝓡 = 𝓡 }) λ g. closed 𝓤 H (𝓖 .A) (Running.givenOf 𝓤 H 𝓜 𝓖)
+      (Run.Over 𝓤 H 𝓜 𝓖 𝓡 Code.env) (Reads'''''.known record { M = M; 𝓤 = 𝓤; H = H; 𝓜 = 𝓜; 𝓖 = 𝓖; 𝓡 = 𝓡 } Code.env
+      Symbol'''.name Symbol'''.routine Code.calls-hnsr-circuit·peer·peer-of (Met'''.met 𝓤 H 𝓜 𝓖 𝓡)) (Reads''''''.known
+      record { M = M; 𝓤 = 𝓤; H = H; 𝓜 = 𝓜; 𝓖 = 𝓖; 𝓡 = 𝓡 } Code.env Symbol''''.name Symbol''''.routine
+      Code.calls-hnsr-circuit·question·named (Met''''.met 𝓤 H 𝓜 𝓖 𝓡)) (Reads'''.known
+      record { M = M; 𝓤 = 𝓤; H = H; 𝓜 = 𝓜; 𝓖 = 𝓖; 𝓡 = 𝓡 } Code.env Symbol'''''.name Symbol'''''.routine
+      Code.calls-hnsr-circuit·tables·pending·count-pending (Met'''''.met 𝓤 H 𝓜 𝓖 𝓡)) (Reads''.known
+      record { M = M; 𝓤 = 𝓤; H = H; 𝓜 = 𝓜; 𝓖 = 𝓖; 𝓡 = 𝓡 } Code.env Symbol''.name Symbol''.routine
+      Code.calls-hnsr-circuit·lookup·look-up-pending (Met''.met 𝓤 H 𝓜 𝓖 𝓡)) (Reads'.known
+      record { M = M; 𝓤 = 𝓤; H = H; 𝓜 = 𝓜; 𝓖 = 𝓖; 𝓡 = 𝓡 } Code.env Symbol'.name Symbol'.routine
+      Code.calls-hnsr-circuit·lookup·circuit-by-id (Met'.met 𝓤 H 𝓜 𝓖 𝓡)) (Reads''''.known
+      record { M = M; 𝓤 = 𝓤; H = H; 𝓜 = 𝓜; 𝓖 = 𝓖; 𝓡 = 𝓡 } Code.env Symbol.name Symbol.routine
       Code.calls-hnsr-circuit·close·close-plan (Met.met 𝓤 H 𝓜 𝓖 𝓡))

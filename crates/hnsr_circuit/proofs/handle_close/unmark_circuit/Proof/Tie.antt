@@ -18,98 +18,62 @@ use borrow.Fn.Run
 use borrow.Fn.Written
 use contract.Running
 
+abbrev pub readings : Lts.Claims
+readings = (Reads'.Asked, Reads'.Learnt, Reads'''.Asked, Reads'''.Learnt, Reads''.Asked, Reads''.Learnt)
+
 abbrev pub Start : Type 0
-Start = Lts.Start (Reads'.Asked, Reads'.Learnt, Reads'''.Asked, Reads'''.Learnt, Reads''.Asked, Reads''.Learnt) Reads.Pre Reads.Post
+Start = Lts.Start readings Reads.Pre Reads.Post
 
 abbrev pub After-circuit-at-arg : Type 0
-After-circuit-at-arg = Lts.After-circuit-at-arg (Reads'.Asked, Reads'.Learnt, Reads'''.Asked, Reads'''.Learnt, Reads''.Asked, Reads''.Learnt)
-    Reads.Pre Reads.Post
+After-circuit-at-arg = Lts.After-circuit-at-arg readings Reads.Pre Reads.Post
 
 abbrev pub After-circuit-at : Type 0
-After-circuit-at = Lts.After-circuit-at (Reads'.Asked, Reads'.Learnt, Reads'''.Asked, Reads'''.Learnt, Reads''.Asked, Reads''.Learnt) Reads.Pre
-    Reads.Post
+After-circuit-at = Lts.After-circuit-at readings Reads.Pre Reads.Post
 
 abbrev pub After-circuit-unmarked : Type 0
-After-circuit-unmarked = Lts.After-circuit-unmarked (Reads'.Asked, Reads'.Learnt, Reads'''.Asked, Reads'''.Learnt, Reads''.Asked, Reads''.Learnt)
-    Reads.Pre Reads.Post
+After-circuit-unmarked = Lts.After-circuit-unmarked readings Reads.Pre Reads.Post
 
 abbrev pub After-set-circuit-arg : Type 0
-After-set-circuit-arg = Lts.After-set-circuit-arg (Reads'.Asked, Reads'.Learnt, Reads'''.Asked, Reads'''.Learnt, Reads''.Asked, Reads''.Learnt)
-    Reads.Pre Reads.Post
+After-set-circuit-arg = Lts.After-set-circuit-arg readings Reads.Pre Reads.Post
 
 abbrev pub After-set-circuit : Type 0
-After-set-circuit = Lts.After-set-circuit (Reads'.Asked, Reads'.Learnt, Reads'''.Asked, Reads'''.Learnt, Reads''.Asked, Reads''.Learnt) Reads.Pre
-    Reads.Post
+After-set-circuit = Lts.After-set-circuit readings Reads.Pre Reads.Post
 
 abbrev pub After-circuits : Type 0
-After-circuits = Lts.After-circuits (Reads'.Asked, Reads'.Learnt, Reads'''.Asked, Reads'''.Learnt, Reads''.Asked, Reads''.Learnt) Reads.Pre
-    Reads.Post
+After-circuits = Lts.After-circuits readings Reads.Pre Reads.Post
 
 abbrev pub Need-circuit-at-requires : Type 0
-Need-circuit-at-requires = Lts.Need-circuit-at-requires (Reads'.Asked, Reads'.Learnt, Reads'''.Asked, Reads'''.Learnt, Reads''.Asked, Reads''.Learnt)
-    Reads.Pre Reads.Post
+Need-circuit-at-requires = Lts.Need-circuit-at-requires readings Reads.Pre Reads.Post
 
 abbrev pub Need-circuit-unmarked-requires : Type 0
-Need-circuit-unmarked-requires = Lts.Need-circuit-unmarked-requires (
-  Reads'.Asked,
-  Reads'.Learnt,
-  Reads'''.Asked,
-  Reads'''.Learnt,
-  Reads''.Asked,
-  Reads''.Learnt,
-) Reads.Pre Reads.Post
+Need-circuit-unmarked-requires = Lts.Need-circuit-unmarked-requires readings Reads.Pre Reads.Post
 
 abbrev pub Need-set-circuit-requires : Type 0
-Need-set-circuit-requires = Lts.Need-set-circuit-requires (
-  Reads'.Asked,
-  Reads'.Learnt,
-  Reads'''.Asked,
-  Reads'''.Learnt,
-  Reads''.Asked,
-  Reads''.Learnt,
-) Reads.Pre Reads.Post
+Need-set-circuit-requires = Lts.Need-set-circuit-requires readings Reads.Pre Reads.Post
 
 abbrev pub Need-same-length : Type 0
-Need-same-length = Lts.Need-same-length (Reads'.Asked, Reads'.Learnt, Reads'''.Asked, Reads'''.Learnt, Reads''.Asked, Reads''.Learnt) Reads.Pre
-    Reads.Post
+Need-same-length = Lts.Need-same-length readings Reads.Pre Reads.Post
 
 abbrev pub Need-returns : Type 0
-Need-returns = Lts.Need-returns (Reads'.Asked, Reads'.Learnt, Reads'''.Asked, Reads'''.Learnt, Reads''.Asked, Reads''.Learnt) Reads.Pre Reads.Post
+Need-returns = Lts.Need-returns readings Reads.Pre Reads.Post
 
 module _ {M : Type 1} where
-  pub spec : (answer : Need-circuit-at-requires) → (answer : Need-circuit-unmarked-requires) → (answer : Need-set-circuit-requires) → (answer :
-      Need-same-length) → (answer : Need-returns) → Lts.Closed (
-        Reads'.Asked,
-        Reads'.Learnt,
-        Reads'''.Asked,
-        Reads'''.Learnt,
-        Reads''.Asked,
-        Reads''.Learnt,
-      ) Reads.Pre Reads.Post M
-  spec = λ answer answer' answer'' answer'3 answer'4. Lts.spec (
-    Reads'.Asked,
-    Reads'.Learnt,
-    Reads'''.Asked,
-    Reads'''.Learnt,
-    Reads''.Asked,
-    Reads''.Learnt,
-  ) Reads.Pre Reads.Post answer answer' answer'' answer'3 answer'4
+  pub spec : (answer : Need-circuit-at-requires) → (answer : Need-circuit-unmarked-requires) →
+      (answer : Need-set-circuit-requires) → (answer : Need-same-length) → (answer : Need-returns) → Lts.Closed
+      readings Reads.Pre Reads.Post M
+  spec = λ answer answer' answer'' answer'3 answer'4. Lts.spec readings Reads.Pre Reads.Post answer answer' answer''
+      answer'3 answer'4
 
-  pub close : Lts.Closed (Reads'.Asked, Reads'.Learnt, Reads'''.Asked, Reads'''.Learnt, Reads''.Asked, Reads''.Learnt) Reads.Pre Reads.Post M →
-      Statement.statement M
+  pub close : Lts.Closed readings Reads.Pre Reads.Post M → Statement.statement M
   unfolding Code.routine Running.tablesOf
-  close = λ closed 𝓤 H 𝓜 𝓖 𝓡. Written.close 1 Kinds.ps Kinds.r Reads.Ghost Reads.requires Reads.ensures Reads.pre-read Reads.Pinned Reads.Owned
-      Reads.post-read record { M = M; 𝓤 = 𝓤; H = H; 𝓜 = 𝓜; 𝓖 = 𝓖; 𝓡 = 𝓡 } Code.env Key.name Code.function (Code.unfolded 𝓤 H 𝓜 𝓡) (λ κs a g. tt) (λ
-      κs. Reads.owns κs record { M = M; 𝓤 = 𝓤; H = H; 𝓜 = 𝓜; 𝓖 = 𝓖; 𝓡 = 𝓡 }) (Reads.passes record { M = M; 𝓤 = 𝓤; H = H; 𝓜 = 𝓜; 𝓖 = 𝓖; 𝓡 = 𝓡 }) λ g.
-      closed 𝓤 H (𝓖 .A) (Running.givenOf 𝓤 H 𝓜 𝓖) (Run.Over 𝓤 H 𝓜 𝓖 𝓡 Code.env) (Reads'.known record { M = M; 𝓤 = 𝓤; H = H; 𝓜 = 𝓜; 𝓖 = 𝓖; 𝓡 = 𝓡 }
-      Code.env Symbol'.name Symbol'.routine Code.calls-hnsr-circuit·tables·circuits·circuit-at (Met'.met 𝓤 H 𝓜 𝓖 𝓡)) (Reads'''.known record {
-        M = M;
-        𝓤
-            = 𝓤;
-        H = H;
-        𝓜 = 𝓜;
-        𝓖 = 𝓖;
-        𝓡 = 𝓡;
-      } Code.env Symbol.name Symbol.routine Code.calls-hnsr-circuit·circuits·circuit-unmarked (Met.met 𝓤 H 𝓜 𝓖 𝓡))
-      (Reads''.known record { M = M; 𝓤 = 𝓤; H = H; 𝓜 = 𝓜; 𝓖 = 𝓖; 𝓡 = 𝓡 } Code.env Symbol''.name Symbol''.routine
+  close = λ closed 𝓤 H 𝓜 𝓖 𝓡. Written.close 1 Kinds.ps Kinds.r Reads.Ghost Reads.requires Reads.ensures Reads.pre-read
+      Reads.Pinned Reads.Owned Reads.post-read record { M = M; 𝓤 = 𝓤; H = H; 𝓜 = 𝓜; 𝓖 = 𝓖; 𝓡 = 𝓡 } Code.env Key.name
+      Code.function (Code.unfolded 𝓤 H 𝓜 𝓡) (λ κs a g. tt) (λ κs. Reads.owns κs
+      record { M = M; 𝓤 = 𝓤; H = H; 𝓜 = 𝓜; 𝓖 = 𝓖; 𝓡 = 𝓡 }) (Reads.passes
+      record { M = M; 𝓤 = 𝓤; H = H; 𝓜 = 𝓜; 𝓖 = 𝓖; 𝓡 = 𝓡 }) λ g. closed 𝓤 H (𝓖 .A) (Running.givenOf 𝓤 H 𝓜 𝓖)
+      (Run.Over 𝓤 H 𝓜 𝓖 𝓡 Code.env) (Reads'.known record { M = M; 𝓤 = 𝓤; H = H; 𝓜 = 𝓜; 𝓖 = 𝓖; 𝓡 = 𝓡 } Code.env
+      Symbol'.name Symbol'.routine Code.calls-hnsr-circuit·tables·circuits·circuit-at (Met'.met 𝓤 H 𝓜 𝓖 𝓡)) (Reads'''.known
+      record { M = M; 𝓤 = 𝓤; H = H; 𝓜 = 𝓜; 𝓖 = 𝓖; 𝓡 = 𝓡 } Code.env Symbol.name Symbol.routine
+      Code.calls-hnsr-circuit·circuits·circuit-unmarked (Met.met 𝓤 H 𝓜 𝓖 𝓡)) (Reads''.known
+      record { M = M; 𝓤 = 𝓤; H = H; 𝓜 = 𝓜; 𝓖 = 𝓖; 𝓡 = 𝓡 } Code.env Symbol''.name Symbol''.routine
       Code.calls-hnsr-circuit·tables·circuits·set-circuit (Met''.met 𝓤 H 𝓜 𝓖 𝓡))

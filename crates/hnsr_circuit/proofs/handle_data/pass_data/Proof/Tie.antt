@@ -21,419 +21,131 @@ use borrow.Fn.Run
 use borrow.Fn.Written
 use contract.Running
 
+abbrev pub readings : Lts.Claims
+readings = (
+  Reads'.Asked,
+  Reads'.Learnt,
+  Reads''''.Asked,
+  Reads''''.Learnt,
+  Reads''.Asked,
+  Reads''.Learnt,
+  Reads'''.Asked,
+  Reads'''.Learnt,
+)
+
 abbrev pub Start : Type 0
-Start = Lts.Start (Reads'.Asked, Reads'.Learnt, Reads''''.Asked, Reads''''.Learnt, Reads''.Asked, Reads''.Learnt, Reads'''.Asked, Reads'''.Learnt)
-    Reads.Pre Reads.Post
+Start = Lts.Start readings Reads.Pre Reads.Post
 
 abbrev pub After-slice-known : Type 0
-After-slice-known = Lts.After-slice-known (
-  Reads'.Asked,
-  Reads'.Learnt,
-  Reads''''.Asked,
-  Reads''''.Learnt,
-  Reads''.Asked,
-  Reads''.Learnt,
-  Reads'''.Asked,
-  Reads'''.Learnt,
-) Reads.Pre Reads.Post
+After-slice-known = Lts.After-slice-known readings Reads.Pre Reads.Post
 
 abbrev pub After-shared-slice-known : Type 0
-After-shared-slice-known = Lts.After-shared-slice-known (
-  Reads'.Asked,
-  Reads'.Learnt,
-  Reads''''.Asked,
-  Reads''''.Learnt,
-  Reads''.Asked,
-  Reads''.Learnt,
-  Reads'''.Asked,
-  Reads'''.Learnt,
-) Reads.Pre Reads.Post
+After-shared-slice-known = Lts.After-shared-slice-known readings Reads.Pre Reads.Post
 
 abbrev pub After-shared-slice-known2 : Type 0
-After-shared-slice-known2 = Lts.After-shared-slice-known2 (
-  Reads'.Asked,
-  Reads'.Learnt,
-  Reads''''.Asked,
-  Reads''''.Learnt,
-  Reads''.Asked,
-  Reads''.Learnt,
-  Reads'''.Asked,
-  Reads'''.Learnt,
-) Reads.Pre Reads.Post
+After-shared-slice-known2 = Lts.After-shared-slice-known2 readings Reads.Pre Reads.Post
 
 abbrev pub After-plan-data-arg : Type 0
-After-plan-data-arg = Lts.After-plan-data-arg (
-  Reads'.Asked,
-  Reads'.Learnt,
-  Reads''''.Asked,
-  Reads''''.Learnt,
-  Reads''.Asked,
-  Reads''.Learnt,
-  Reads'''.Asked,
-  Reads'''.Learnt,
-) Reads.Pre Reads.Post
+After-plan-data-arg = Lts.After-plan-data-arg readings Reads.Pre Reads.Post
 
 abbrev pub After-plan-data-arg2 : Type 0
-After-plan-data-arg2 = Lts.After-plan-data-arg2 (
-  Reads'.Asked,
-  Reads'.Learnt,
-  Reads''''.Asked,
-  Reads''''.Learnt,
-  Reads''.Asked,
-  Reads''.Learnt,
-  Reads'''.Asked,
-  Reads'''.Learnt,
-) Reads.Pre Reads.Post
+After-plan-data-arg2 = Lts.After-plan-data-arg2 readings Reads.Pre Reads.Post
 
 abbrev pub After-plan-data : Type 0
-After-plan-data = Lts.After-plan-data (
-  Reads'.Asked,
-  Reads'.Learnt,
-  Reads''''.Asked,
-  Reads''''.Learnt,
-  Reads''.Asked,
-  Reads''.Learnt,
-  Reads'''.Asked,
-  Reads'''.Learnt,
-) Reads.Pre Reads.Post
+After-plan-data = Lts.After-plan-data readings Reads.Pre Reads.Post
 
 abbrev pub After-counted : Type 0
-After-counted = Lts.After-counted (
-  Reads'.Asked,
-  Reads'.Learnt,
-  Reads''''.Asked,
-  Reads''''.Learnt,
-  Reads''.Asked,
-  Reads''.Learnt,
-  Reads'''.Asked,
-  Reads'''.Learnt,
-) Reads.Pre Reads.Post
+After-counted = Lts.After-counted readings Reads.Pre Reads.Post
 
 abbrev pub After-message : Type 0
-After-message = Lts.After-message (
-  Reads'.Asked,
-  Reads'.Learnt,
-  Reads''''.Asked,
-  Reads''''.Learnt,
-  Reads''.Asked,
-  Reads''.Learnt,
-  Reads'''.Asked,
-  Reads'''.Learnt,
-) Reads.Pre Reads.Post
+After-message = Lts.After-message readings Reads.Pre Reads.Post
 
 abbrev pub After-scan : Type 0
-After-scan = Lts.After-scan (
-  Reads'.Asked,
-  Reads'.Learnt,
-  Reads''''.Asked,
-  Reads''''.Learnt,
-  Reads''.Asked,
-  Reads''.Learnt,
-  Reads'''.Asked,
-  Reads'''.Learnt,
-) Reads.Pre Reads.Post
+After-scan = Lts.After-scan readings Reads.Pre Reads.Post
 
 abbrev pub After-charge-circuit-arg : Type 0
-After-charge-circuit-arg = Lts.After-charge-circuit-arg (
-  Reads'.Asked,
-  Reads'.Learnt,
-  Reads''''.Asked,
-  Reads''''.Learnt,
-  Reads''.Asked,
-  Reads''.Learnt,
-  Reads'''.Asked,
-  Reads'''.Learnt,
-) Reads.Pre Reads.Post
+After-charge-circuit-arg = Lts.After-charge-circuit-arg readings Reads.Pre Reads.Post
 
 abbrev pub After-charge-circuit : Type 0
-After-charge-circuit = Lts.After-charge-circuit (
-  Reads'.Asked,
-  Reads'.Learnt,
-  Reads''''.Asked,
-  Reads''''.Learnt,
-  Reads''.Asked,
-  Reads''.Learnt,
-  Reads'''.Asked,
-  Reads'''.Learnt,
-) Reads.Pre Reads.Post
+After-charge-circuit = Lts.After-charge-circuit readings Reads.Pre Reads.Post
 
 abbrev pub After-circuits : Type 0
-After-circuits = Lts.After-circuits (
-  Reads'.Asked,
-  Reads'.Learnt,
-  Reads''''.Asked,
-  Reads''''.Learnt,
-  Reads''.Asked,
-  Reads''.Learnt,
-  Reads'''.Asked,
-  Reads'''.Learnt,
-) Reads.Pre Reads.Post
+After-circuits = Lts.After-circuits readings Reads.Pre Reads.Post
 
 abbrev pub After-spend-arg : Type 0
-After-spend-arg = Lts.After-spend-arg (
-  Reads'.Asked,
-  Reads'.Learnt,
-  Reads''''.Asked,
-  Reads''''.Learnt,
-  Reads''.Asked,
-  Reads''.Learnt,
-  Reads'''.Asked,
-  Reads'''.Learnt,
-) Reads.Pre Reads.Post
+After-spend-arg = Lts.After-spend-arg readings Reads.Pre Reads.Post
 
 abbrev pub After-spend : Type 0
-After-spend = Lts.After-spend (
-  Reads'.Asked,
-  Reads'.Learnt,
-  Reads''''.Asked,
-  Reads''''.Learnt,
-  Reads''.Asked,
-  Reads''.Learnt,
-  Reads'''.Asked,
-  Reads'''.Learnt,
-) Reads.Pre Reads.Post
+After-spend = Lts.After-spend readings Reads.Pre Reads.Post
 
 abbrev pub After-ledger : Type 0
-After-ledger = Lts.After-ledger (
-  Reads'.Asked,
-  Reads'.Learnt,
-  Reads''''.Asked,
-  Reads''''.Learnt,
-  Reads''.Asked,
-  Reads''.Learnt,
-  Reads'''.Asked,
-  Reads'''.Learnt,
-) Reads.Pre Reads.Post
+After-ledger = Lts.After-ledger readings Reads.Pre Reads.Post
 
 abbrev pub After-send-arg : Type 0
-After-send-arg = Lts.After-send-arg (
-  Reads'.Asked,
-  Reads'.Learnt,
-  Reads''''.Asked,
-  Reads''''.Learnt,
-  Reads''.Asked,
-  Reads''.Learnt,
-  Reads'''.Asked,
-  Reads'''.Learnt,
-) Reads.Pre Reads.Post
+After-send-arg = Lts.After-send-arg readings Reads.Pre Reads.Post
 
 abbrev pub After-send-arg2 : Type 0
-After-send-arg2 = Lts.After-send-arg2 (
-  Reads'.Asked,
-  Reads'.Learnt,
-  Reads''''.Asked,
-  Reads''''.Learnt,
-  Reads''.Asked,
-  Reads''.Learnt,
-  Reads'''.Asked,
-  Reads'''.Learnt,
-) Reads.Pre Reads.Post
+After-send-arg2 = Lts.After-send-arg2 readings Reads.Pre Reads.Post
 
 abbrev pub After-send : Type 0
-After-send = Lts.After-send (
-  Reads'.Asked,
-  Reads'.Learnt,
-  Reads''''.Asked,
-  Reads''''.Learnt,
-  Reads''.Asked,
-  Reads''.Learnt,
-  Reads'''.Asked,
-  Reads'''.Learnt,
-) Reads.Pre Reads.Post
+After-send = Lts.After-send readings Reads.Pre Reads.Post
 
 abbrev pub After-inflight : Type 0
-After-inflight = Lts.After-inflight (
-  Reads'.Asked,
-  Reads'.Learnt,
-  Reads''''.Asked,
-  Reads''''.Learnt,
-  Reads''.Asked,
-  Reads''.Learnt,
-  Reads'''.Asked,
-  Reads'''.Learnt,
-) Reads.Pre Reads.Post
+After-inflight = Lts.After-inflight readings Reads.Pre Reads.Post
 
 abbrev pub After-out : Type 0
-After-out = Lts.After-out (
-  Reads'.Asked,
-  Reads'.Learnt,
-  Reads''''.Asked,
-  Reads''''.Learnt,
-  Reads''.Asked,
-  Reads''.Learnt,
-  Reads'''.Asked,
-  Reads'''.Learnt,
-) Reads.Pre Reads.Post
+After-out = Lts.After-out readings Reads.Pre Reads.Post
 
 abbrev pub After-slice-known2 : Type 0
-After-slice-known2 = Lts.After-slice-known2 (
-  Reads'.Asked,
-  Reads'.Learnt,
-  Reads''''.Asked,
-  Reads''''.Learnt,
-  Reads''.Asked,
-  Reads''.Learnt,
-  Reads'''.Asked,
-  Reads'''.Learnt,
-) Reads.Pre Reads.Post
+After-slice-known2 = Lts.After-slice-known2 readings Reads.Pre Reads.Post
 
 abbrev pub Need-plan-data-requires : Type 0
-Need-plan-data-requires = Lts.Need-plan-data-requires (
-  Reads'.Asked,
-  Reads'.Learnt,
-  Reads''''.Asked,
-  Reads''''.Learnt,
-  Reads''.Asked,
-  Reads''.Learnt,
-  Reads'''.Asked,
-  Reads'''.Learnt,
-) Reads.Pre Reads.Post
+Need-plan-data-requires = Lts.Need-plan-data-requires readings Reads.Pre Reads.Post
 
 abbrev pub Need-charge-circuit-requires : Type 0
-Need-charge-circuit-requires = Lts.Need-charge-circuit-requires (
-  Reads'.Asked,
-  Reads'.Learnt,
-  Reads''''.Asked,
-  Reads''''.Learnt,
-  Reads''.Asked,
-  Reads''.Learnt,
-  Reads'''.Asked,
-  Reads'''.Learnt,
-) Reads.Pre Reads.Post
+Need-charge-circuit-requires = Lts.Need-charge-circuit-requires readings Reads.Pre Reads.Post
 
 abbrev pub Need-spend-requires : Type 0
-Need-spend-requires = Lts.Need-spend-requires (
-  Reads'.Asked,
-  Reads'.Learnt,
-  Reads''''.Asked,
-  Reads''''.Learnt,
-  Reads''.Asked,
-  Reads''.Learnt,
-  Reads'''.Asked,
-  Reads'''.Learnt,
-) Reads.Pre Reads.Post
+Need-spend-requires = Lts.Need-spend-requires readings Reads.Pre Reads.Post
 
 abbrev pub Need-send-requires : Type 0
-Need-send-requires = Lts.Need-send-requires (
-  Reads'.Asked,
-  Reads'.Learnt,
-  Reads''''.Asked,
-  Reads''''.Learnt,
-  Reads''.Asked,
-  Reads''.Learnt,
-  Reads'''.Asked,
-  Reads'''.Learnt,
-) Reads.Pre Reads.Post
+Need-send-requires = Lts.Need-send-requires readings Reads.Pre Reads.Post
 
 abbrev pub Need-same-length : Type 0
-Need-same-length = Lts.Need-same-length (
-  Reads'.Asked,
-  Reads'.Learnt,
-  Reads''''.Asked,
-  Reads''''.Learnt,
-  Reads''.Asked,
-  Reads''.Learnt,
-  Reads'''.Asked,
-  Reads'''.Learnt,
-) Reads.Pre Reads.Post
+Need-same-length = Lts.Need-same-length readings Reads.Pre Reads.Post
 
 abbrev pub Need-same-length-2 : Type 0
-Need-same-length-2 = Lts.Need-same-length-2 (
-  Reads'.Asked,
-  Reads'.Learnt,
-  Reads''''.Asked,
-  Reads''''.Learnt,
-  Reads''.Asked,
-  Reads''.Learnt,
-  Reads'''.Asked,
-  Reads'''.Learnt,
-) Reads.Pre Reads.Post
+Need-same-length-2 = Lts.Need-same-length-2 readings Reads.Pre Reads.Post
 
 abbrev pub Need-same-length-3 : Type 0
-Need-same-length-3 = Lts.Need-same-length-3 (
-  Reads'.Asked,
-  Reads'.Learnt,
-  Reads''''.Asked,
-  Reads''''.Learnt,
-  Reads''.Asked,
-  Reads''.Learnt,
-  Reads'''.Asked,
-  Reads'''.Learnt,
-) Reads.Pre Reads.Post
+Need-same-length-3 = Lts.Need-same-length-3 readings Reads.Pre Reads.Post
 
 abbrev pub Need-same-length-4 : Type 0
-Need-same-length-4 = Lts.Need-same-length-4 (
-  Reads'.Asked,
-  Reads'.Learnt,
-  Reads''''.Asked,
-  Reads''''.Learnt,
-  Reads''.Asked,
-  Reads''.Learnt,
-  Reads'''.Asked,
-  Reads'''.Learnt,
-) Reads.Pre Reads.Post
+Need-same-length-4 = Lts.Need-same-length-4 readings Reads.Pre Reads.Post
 
 abbrev pub Need-returns : Type 0
-Need-returns = Lts.Need-returns (
-  Reads'.Asked,
-  Reads'.Learnt,
-  Reads''''.Asked,
-  Reads''''.Learnt,
-  Reads''.Asked,
-  Reads''.Learnt,
-  Reads'''.Asked,
-  Reads'''.Learnt,
-) Reads.Pre Reads.Post
+Need-returns = Lts.Need-returns readings Reads.Pre Reads.Post
 
 module _ {M : Type 1} where
-  pub spec : (answer : Need-plan-data-requires) → (answer : Need-charge-circuit-requires) → (answer : Need-spend-requires) → (answer :
-      Need-send-requires) → (answer : Need-same-length) → (answer : Need-same-length-2) → (answer : Need-same-length-3) → (answer :
-      Need-same-length-4) → (answer : Need-returns) → Lts.Closed (
-        Reads'.Asked,
-        Reads'.Learnt,
-        Reads''''.Asked,
-        Reads''''.Learnt,
-        Reads''.Asked,
-        Reads''.Learnt,
-        Reads'''.Asked,
-        Reads'''.Learnt,
-      ) Reads.Pre Reads.Post M
-  spec = λ answer answer' answer'' answer'3 answer'4 answer'5 answer'6 answer'7 answer'8. Lts.spec (
-    Reads'.Asked,
-    Reads'.Learnt,
-    Reads''''.Asked,
-    Reads''''.Learnt,
-    Reads''.Asked,
-    Reads''.Learnt,
-    Reads'''.Asked,
-    Reads'''.Learnt,
-  ) Reads.Pre Reads.Post answer answer' answer'' answer'3
-      answer'4 answer'5 answer'6 answer'7 answer'8
+  pub spec : (answer : Need-plan-data-requires) → (answer : Need-charge-circuit-requires) →
+      (answer : Need-spend-requires) → (answer : Need-send-requires) → (answer : Need-same-length) →
+      (answer : Need-same-length-2) → (answer : Need-same-length-3) → (answer : Need-same-length-4) →
+      (answer : Need-returns) → Lts.Closed readings Reads.Pre Reads.Post M
+  spec = λ answer answer' answer'' answer'3 answer'4 answer'5 answer'6 answer'7 answer'8. Lts.spec readings Reads.Pre
+      Reads.Post answer answer' answer'' answer'3 answer'4 answer'5 answer'6 answer'7 answer'8
 
-  pub close : Lts.Closed (
-    Reads'.Asked,
-    Reads'.Learnt,
-    Reads''''.Asked,
-    Reads''''.Learnt,
-    Reads''.Asked,
-    Reads''.Learnt,
-    Reads'''.Asked,
-    Reads'''.Learnt,
-  ) Reads.Pre Reads.Post M → Statement.statement M
+  pub close : Lts.Closed readings Reads.Pre Reads.Post M → Statement.statement M
   unfolding Code.routine Running.tablesOf
-  close = λ closed 𝓤 H 𝓜 𝓖 𝓡. Written.close 6 Kinds.ps Kinds.r Reads.Ghost Reads.requires Reads.ensures Reads.pre-read Reads.Pinned Reads.Owned
-      Reads.post-read record { M = M; 𝓤 = 𝓤; H = H; 𝓜 = 𝓜; 𝓖 = 𝓖; 𝓡 = 𝓡 } Code.env Key.name Code.function (Code.unfolded 𝓤 H 𝓜 𝓡) (λ κs a g. tt) (λ
-      κs. Reads.owns κs record { M = M; 𝓤 = 𝓤; H = H; 𝓜 = 𝓜; 𝓖 = 𝓖; 𝓡 = 𝓡 }) (Reads.passes record { M = M; 𝓤 = 𝓤; H = H; 𝓜 = 𝓜; 𝓖 = 𝓖; 𝓡 = 𝓡 }) λ g.
-      closed 𝓤 H (𝓖 .A) (Running.givenOf 𝓤 H 𝓜 𝓖) (Run.Over 𝓤 H 𝓜 𝓖 𝓡 Code.env) (Reads'.known record { M = M; 𝓤 = 𝓤; H = H; 𝓜 = 𝓜; 𝓖 = 𝓖; 𝓡 = 𝓡 }
-      Code.env Symbol.name Symbol.routine Code.calls-hnsr-circuit·handle-data·plan-data (Met.met 𝓤 H 𝓜 𝓖 𝓡)) (Reads''''.known record {
-        M = M;
-        𝓤 = 𝓤;
-        H
-            = H;
-        𝓜 = 𝓜;
-        𝓖 = 𝓖;
-        𝓡 = 𝓡;
-      } Code.env Symbol'''.name Symbol'''.routine Code.calls-hnsr-circuit·tables·circuits·charge-circuit (Met'''.met 𝓤 H 𝓜 𝓖
-      𝓡)) (Reads''.known record { M = M; 𝓤 = 𝓤; H = H; 𝓜 = 𝓜; 𝓖 = 𝓖; 𝓡 = 𝓡 } Code.env Symbol'.name Symbol'.routine
-      Code.calls-hnsr-circuit·lookup·spend (Met'.met 𝓤 H 𝓜 𝓖 𝓡)) (Reads'''.known record { M = M; 𝓤 = 𝓤; H = H; 𝓜 = 𝓜; 𝓖 = 𝓖; 𝓡 = 𝓡 } Code.env
-      Symbol''.name Symbol''.routine Code.calls-hnsr-circuit·queue·send (Met''.met 𝓤 H 𝓜 𝓖 𝓡))
+  close = λ closed 𝓤 H 𝓜 𝓖 𝓡. Written.close 6 Kinds.ps Kinds.r Reads.Ghost Reads.requires Reads.ensures Reads.pre-read
+      Reads.Pinned Reads.Owned Reads.post-read record { M = M; 𝓤 = 𝓤; H = H; 𝓜 = 𝓜; 𝓖 = 𝓖; 𝓡 = 𝓡 } Code.env Key.name
+      Code.function (Code.unfolded 𝓤 H 𝓜 𝓡) (λ κs a g. tt) (λ κs. Reads.owns κs
+      record { M = M; 𝓤 = 𝓤; H = H; 𝓜 = 𝓜; 𝓖 = 𝓖; 𝓡 = 𝓡 }) (Reads.passes
+      record { M = M; 𝓤 = 𝓤; H = H; 𝓜 = 𝓜; 𝓖 = 𝓖; 𝓡 = 𝓡 }) λ g. closed 𝓤 H (𝓖 .A) (Running.givenOf 𝓤 H 𝓜 𝓖)
+      (Run.Over 𝓤 H 𝓜 𝓖 𝓡 Code.env) (Reads'.known record { M = M; 𝓤 = 𝓤; H = H; 𝓜 = 𝓜; 𝓖 = 𝓖; 𝓡 = 𝓡 } Code.env
+      Symbol.name Symbol.routine Code.calls-hnsr-circuit·handle-data·plan-data (Met.met 𝓤 H 𝓜 𝓖 𝓡)) (Reads''''.known
+      record { M = M; 𝓤 = 𝓤; H = H; 𝓜 = 𝓜; 𝓖 = 𝓖; 𝓡 = 𝓡 } Code.env Symbol'''.name Symbol'''.routine
+      Code.calls-hnsr-circuit·tables·circuits·charge-circuit (Met'''.met 𝓤 H 𝓜 𝓖 𝓡)) (Reads''.known
+      record { M = M; 𝓤 = 𝓤; H = H; 𝓜 = 𝓜; 𝓖 = 𝓖; 𝓡 = 𝓡 } Code.env Symbol'.name Symbol'.routine
+      Code.calls-hnsr-circuit·lookup·spend (Met'.met 𝓤 H 𝓜 𝓖 𝓡)) (Reads'''.known
+      record { M = M; 𝓤 = 𝓤; H = H; 𝓜 = 𝓜; 𝓖 = 𝓖; 𝓡 = 𝓡 } Code.env Symbol''.name Symbol''.routine
+      Code.calls-hnsr-circuit·queue·send (Met''.met 𝓤 H 𝓜 𝓖 𝓡))

@@ -33,8 +33,8 @@ use borrow.Fn.Run
 use borrow.Fn.Written
 use contract.Running
 
-abbrev pub Start : Type 0
-Start = Lts.Start (
+abbrev pub readings : Lts.Claims
+readings = (
   Reads''''''.Asked,
   Reads''''''.Learnt,
   Reads''''.Asked,
@@ -51,453 +51,93 @@ Start = Lts.Start (
   Reads'.Learnt,
   Reads'''.Asked,
   Reads'''.Learnt,
-) Reads.Pre Reads.Post
+)
+
+abbrev pub Start : Type 0
+Start = Lts.Start readings Reads.Pre Reads.Post
 
 abbrev pub After-shared-slice-known : Type 0
-After-shared-slice-known = Lts.After-shared-slice-known (
-  Reads''''''.Asked,
-  Reads''''''.Learnt,
-  Reads''''.Asked,
-  Reads''''.Learnt,
-  Reads''''''''.Asked,
-  Reads''''''''.Learnt,
-  Reads''.Asked,
-  Reads''.Learnt,
-  Reads'''''.Asked,
-  Reads'''''.Learnt,
-  Reads'''''''.Asked,
-  Reads'''''''.Learnt,
-  Reads'.Asked,
-  Reads'.Learnt,
-  Reads'''.Asked,
-  Reads'''.Learnt,
-) Reads.Pre Reads.Post
+After-shared-slice-known = Lts.After-shared-slice-known readings Reads.Pre Reads.Post
 
 abbrev pub After-peer-of : Type 0
-After-peer-of = Lts.After-peer-of (
-  Reads''''''.Asked,
-  Reads''''''.Learnt,
-  Reads''''.Asked,
-  Reads''''.Learnt,
-  Reads''''''''.Asked,
-  Reads''''''''.Learnt,
-  Reads''.Asked,
-  Reads''.Learnt,
-  Reads'''''.Asked,
-  Reads'''''.Learnt,
-  Reads'''''''.Asked,
-  Reads'''''''.Learnt,
-  Reads'.Asked,
-  Reads'.Learnt,
-  Reads'''.Asked,
-  Reads'''.Learnt,
-) Reads.Pre Reads.Post
+After-peer-of = Lts.After-peer-of readings Reads.Pre Reads.Post
 
 abbrev pub After-data-on : Type 0
-After-data-on = Lts.After-data-on (
-  Reads''''''.Asked,
-  Reads''''''.Learnt,
-  Reads''''.Asked,
-  Reads''''.Learnt,
-  Reads''''''''.Asked,
-  Reads''''''''.Learnt,
-  Reads''.Asked,
-  Reads''.Learnt,
-  Reads'''''.Asked,
-  Reads'''''.Learnt,
-  Reads'''''''.Asked,
-  Reads'''''''.Learnt,
-  Reads'.Asked,
-  Reads'.Learnt,
-  Reads'''.Asked,
-  Reads'''.Learnt,
-) Reads.Pre Reads.Post
+After-data-on = Lts.After-data-on readings Reads.Pre Reads.Post
 
 abbrev pub After-asking : Type 0
-After-asking = Lts.After-asking (
-  Reads''''''.Asked,
-  Reads''''''.Learnt,
-  Reads''''.Asked,
-  Reads''''.Learnt,
-  Reads''''''''.Asked,
-  Reads''''''''.Learnt,
-  Reads''.Asked,
-  Reads''.Learnt,
-  Reads'''''.Asked,
-  Reads'''''.Learnt,
-  Reads'''''''.Asked,
-  Reads'''''''.Learnt,
-  Reads'.Asked,
-  Reads'.Learnt,
-  Reads'''.Asked,
-  Reads'''.Learnt,
-) Reads.Pre Reads.Post
+After-asking = Lts.After-asking readings Reads.Pre Reads.Post
 
 abbrev pub After-scan-actions : Type 0
-After-scan-actions = Lts.After-scan-actions (
-  Reads''''''.Asked,
-  Reads''''''.Learnt,
-  Reads''''.Asked,
-  Reads''''.Learnt,
-  Reads''''''''.Asked,
-  Reads''''''''.Learnt,
-  Reads''.Asked,
-  Reads''.Learnt,
-  Reads'''''.Asked,
-  Reads'''''.Learnt,
-  Reads'''''''.Asked,
-  Reads'''''''.Learnt,
-  Reads'.Asked,
-  Reads'.Learnt,
-  Reads'''.Asked,
-  Reads'''.Learnt,
-) Reads.Pre Reads.Post
+After-scan-actions = Lts.After-scan-actions readings Reads.Pre Reads.Post
 
 abbrev pub After-reservation-of : Type 0
-After-reservation-of = Lts.After-reservation-of (
-  Reads''''''.Asked,
-  Reads''''''.Learnt,
-  Reads''''.Asked,
-  Reads''''.Learnt,
-  Reads''''''''.Asked,
-  Reads''''''''.Learnt,
-  Reads''.Asked,
-  Reads''.Learnt,
-  Reads'''''.Asked,
-  Reads'''''.Learnt,
-  Reads'''''''.Asked,
-  Reads'''''''.Learnt,
-  Reads'.Asked,
-  Reads'.Learnt,
-  Reads'''.Asked,
-  Reads'''.Learnt,
-) Reads.Pre Reads.Post
+After-reservation-of = Lts.After-reservation-of readings Reads.Pre Reads.Post
 
 abbrev pub After-at-reservation : Type 0
-After-at-reservation = Lts.After-at-reservation (
-  Reads''''''.Asked,
-  Reads''''''.Learnt,
-  Reads''''.Asked,
-  Reads''''.Learnt,
-  Reads''''''''.Asked,
-  Reads''''''''.Learnt,
-  Reads''.Asked,
-  Reads''.Learnt,
-  Reads'''''.Asked,
-  Reads'''''.Learnt,
-  Reads'''''''.Asked,
-  Reads'''''''.Learnt,
-  Reads'.Asked,
-  Reads'.Learnt,
-  Reads'''.Asked,
-  Reads'''.Learnt,
-) Reads.Pre Reads.Post
+After-at-reservation = Lts.After-at-reservation readings Reads.Pre Reads.Post
 
 abbrev pub After-look-up-usage : Type 0
-After-look-up-usage = Lts.After-look-up-usage (
-  Reads''''''.Asked,
-  Reads''''''.Learnt,
-  Reads''''.Asked,
-  Reads''''.Learnt,
-  Reads''''''''.Asked,
-  Reads''''''''.Learnt,
-  Reads''.Asked,
-  Reads''.Learnt,
-  Reads'''''.Asked,
-  Reads'''''.Learnt,
-  Reads'''''''.Asked,
-  Reads'''''''.Learnt,
-  Reads'.Asked,
-  Reads'.Learnt,
-  Reads'''.Asked,
-  Reads'''.Learnt,
-) Reads.Pre Reads.Post
+After-look-up-usage = Lts.After-look-up-usage readings Reads.Pre Reads.Post
 
 abbrev pub After-data-plan : Type 0
-After-data-plan = Lts.After-data-plan (
-  Reads''''''.Asked,
-  Reads''''''.Learnt,
-  Reads''''.Asked,
-  Reads''''.Learnt,
-  Reads''''''''.Asked,
-  Reads''''''''.Learnt,
-  Reads''.Asked,
-  Reads''.Learnt,
-  Reads'''''.Asked,
-  Reads'''''.Learnt,
-  Reads'''''''.Asked,
-  Reads'''''''.Learnt,
-  Reads'.Asked,
-  Reads'.Learnt,
-  Reads'''.Asked,
-  Reads'''.Learnt,
-) Reads.Pre Reads.Post
+After-data-plan = Lts.After-data-plan readings Reads.Pre Reads.Post
 
 abbrev pub Need-peer-of-requires : Type 0
-Need-peer-of-requires = Lts.Need-peer-of-requires (
-  Reads''''''.Asked,
-  Reads''''''.Learnt,
-  Reads''''.Asked,
-  Reads''''.Learnt,
-  Reads''''''''.Asked,
-  Reads''''''''.Learnt,
-  Reads''.Asked,
-  Reads''.Learnt,
-  Reads'''''.Asked,
-  Reads'''''.Learnt,
-  Reads'''''''.Asked,
-  Reads'''''''.Learnt,
-  Reads'.Asked,
-  Reads'.Learnt,
-  Reads'''.Asked,
-  Reads'''.Learnt,
-) Reads.Pre Reads.Post
+Need-peer-of-requires = Lts.Need-peer-of-requires readings Reads.Pre Reads.Post
 
 abbrev pub Need-data-on-requires : Type 0
-Need-data-on-requires = Lts.Need-data-on-requires (
-  Reads''''''.Asked,
-  Reads''''''.Learnt,
-  Reads''''.Asked,
-  Reads''''.Learnt,
-  Reads''''''''.Asked,
-  Reads''''''''.Learnt,
-  Reads''.Asked,
-  Reads''.Learnt,
-  Reads'''''.Asked,
-  Reads'''''.Learnt,
-  Reads'''''''.Asked,
-  Reads'''''''.Learnt,
-  Reads'.Asked,
-  Reads'.Learnt,
-  Reads'''.Asked,
-  Reads'''.Learnt,
-) Reads.Pre Reads.Post
+Need-data-on-requires = Lts.Need-data-on-requires readings Reads.Pre Reads.Post
 
 abbrev pub Need-asking-requires : Type 0
-Need-asking-requires = Lts.Need-asking-requires (
-  Reads''''''.Asked,
-  Reads''''''.Learnt,
-  Reads''''.Asked,
-  Reads''''.Learnt,
-  Reads''''''''.Asked,
-  Reads''''''''.Learnt,
-  Reads''.Asked,
-  Reads''.Learnt,
-  Reads'''''.Asked,
-  Reads'''''.Learnt,
-  Reads'''''''.Asked,
-  Reads'''''''.Learnt,
-  Reads'.Asked,
-  Reads'.Learnt,
-  Reads'''.Asked,
-  Reads'''.Learnt,
-) Reads.Pre Reads.Post
+Need-asking-requires = Lts.Need-asking-requires readings Reads.Pre Reads.Post
 
 abbrev pub Need-scan-actions-requires : Type 0
-Need-scan-actions-requires = Lts.Need-scan-actions-requires (
-  Reads''''''.Asked,
-  Reads''''''.Learnt,
-  Reads''''.Asked,
-  Reads''''.Learnt,
-  Reads''''''''.Asked,
-  Reads''''''''.Learnt,
-  Reads''.Asked,
-  Reads''.Learnt,
-  Reads'''''.Asked,
-  Reads'''''.Learnt,
-  Reads'''''''.Asked,
-  Reads'''''''.Learnt,
-  Reads'.Asked,
-  Reads'.Learnt,
-  Reads'''.Asked,
-  Reads'''.Learnt,
-) Reads.Pre Reads.Post
+Need-scan-actions-requires = Lts.Need-scan-actions-requires readings Reads.Pre Reads.Post
 
 abbrev pub Need-reservation-of-requires : Type 0
-Need-reservation-of-requires = Lts.Need-reservation-of-requires (
-  Reads''''''.Asked,
-  Reads''''''.Learnt,
-  Reads''''.Asked,
-  Reads''''.Learnt,
-  Reads''''''''.Asked,
-  Reads''''''''.Learnt,
-  Reads''.Asked,
-  Reads''.Learnt,
-  Reads'''''.Asked,
-  Reads'''''.Learnt,
-  Reads'''''''.Asked,
-  Reads'''''''.Learnt,
-  Reads'.Asked,
-  Reads'.Learnt,
-  Reads'''.Asked,
-  Reads'''.Learnt,
-) Reads.Pre Reads.Post
+Need-reservation-of-requires = Lts.Need-reservation-of-requires readings Reads.Pre Reads.Post
 
 abbrev pub Need-at-reservation-requires : Type 0
-Need-at-reservation-requires = Lts.Need-at-reservation-requires (
-  Reads''''''.Asked,
-  Reads''''''.Learnt,
-  Reads''''.Asked,
-  Reads''''.Learnt,
-  Reads''''''''.Asked,
-  Reads''''''''.Learnt,
-  Reads''.Asked,
-  Reads''.Learnt,
-  Reads'''''.Asked,
-  Reads'''''.Learnt,
-  Reads'''''''.Asked,
-  Reads'''''''.Learnt,
-  Reads'.Asked,
-  Reads'.Learnt,
-  Reads'''.Asked,
-  Reads'''.Learnt,
-) Reads.Pre Reads.Post
+Need-at-reservation-requires = Lts.Need-at-reservation-requires readings Reads.Pre Reads.Post
 
 abbrev pub Need-look-up-usage-requires : Type 0
-Need-look-up-usage-requires = Lts.Need-look-up-usage-requires (
-  Reads''''''.Asked,
-  Reads''''''.Learnt,
-  Reads''''.Asked,
-  Reads''''.Learnt,
-  Reads''''''''.Asked,
-  Reads''''''''.Learnt,
-  Reads''.Asked,
-  Reads''.Learnt,
-  Reads'''''.Asked,
-  Reads'''''.Learnt,
-  Reads'''''''.Asked,
-  Reads'''''''.Learnt,
-  Reads'.Asked,
-  Reads'.Learnt,
-  Reads'''.Asked,
-  Reads'''.Learnt,
-) Reads.Pre Reads.Post
+Need-look-up-usage-requires = Lts.Need-look-up-usage-requires readings Reads.Pre Reads.Post
 
 abbrev pub Need-data-plan-requires : Type 0
-Need-data-plan-requires = Lts.Need-data-plan-requires (
-  Reads''''''.Asked,
-  Reads''''''.Learnt,
-  Reads''''.Asked,
-  Reads''''.Learnt,
-  Reads''''''''.Asked,
-  Reads''''''''.Learnt,
-  Reads''.Asked,
-  Reads''.Learnt,
-  Reads'''''.Asked,
-  Reads'''''.Learnt,
-  Reads'''''''.Asked,
-  Reads'''''''.Learnt,
-  Reads'.Asked,
-  Reads'.Learnt,
-  Reads'''.Asked,
-  Reads'''.Learnt,
-) Reads.Pre Reads.Post
+Need-data-plan-requires = Lts.Need-data-plan-requires readings Reads.Pre Reads.Post
 
 abbrev pub Need-returns : Type 0
-Need-returns = Lts.Need-returns (
-  Reads''''''.Asked,
-  Reads''''''.Learnt,
-  Reads''''.Asked,
-  Reads''''.Learnt,
-  Reads''''''''.Asked,
-  Reads''''''''.Learnt,
-  Reads''.Asked,
-  Reads''.Learnt,
-  Reads'''''.Asked,
-  Reads'''''.Learnt,
-  Reads'''''''.Asked,
-  Reads'''''''.Learnt,
-  Reads'.Asked,
-  Reads'.Learnt,
-  Reads'''.Asked,
-  Reads'''.Learnt,
-) Reads.Pre Reads.Post
+Need-returns = Lts.Need-returns readings Reads.Pre Reads.Post
 
 module _ {M : Type 1} where
-  pub spec : (answer : Need-peer-of-requires) → (answer : Need-data-on-requires) → (answer : Need-asking-requires) → (answer :
-      Need-scan-actions-requires) → (answer : Need-reservation-of-requires) → (answer : Need-at-reservation-requires) → (answer :
-      Need-look-up-usage-requires) → (answer : Need-data-plan-requires) → (answer : Need-returns) → Lts.Closed (
-        Reads''''''.Asked,
-        Reads''''''.Learnt,
-        Reads''''.Asked,
-        Reads''''.Learnt,
-        Reads''''''''.Asked,
-        Reads''''''''.Learnt,
-        Reads''.Asked,
-        Reads''.Learnt,
-        Reads'''''.Asked,
-        Reads'''''.Learnt,
-        Reads'''''''.Asked,
-        Reads'''''''.Learnt,
-        Reads'.Asked,
-        Reads'.Learnt,
-        Reads'''.Asked,
-        Reads'''.Learnt,
-      ) Reads.Pre Reads.Post
-      M
-  spec = λ answer answer' answer'' answer'3 answer'4 answer'5 answer'6 answer'7 answer'8. Lts.spec (
-    Reads''''''.Asked,
-    Reads''''''.Learnt,
-    Reads''''.Asked,
-    Reads''''.Learnt,
-    Reads''''''''.Asked,
-    Reads''''''''.Learnt,
-    Reads''.Asked,
-    Reads''.Learnt,
-    Reads'''''.Asked,
-    Reads'''''.Learnt,
-    Reads'''''''.Asked,
-    Reads'''''''.Learnt,
-    Reads'.Asked,
-    Reads'.Learnt,
-    Reads'''.Asked,
-    Reads'''.Learnt,
-  ) Reads.Pre Reads.Post
-      answer answer' answer'' answer'3 answer'4 answer'5 answer'6 answer'7 answer'8
+  pub spec : (answer : Need-peer-of-requires) → (answer : Need-data-on-requires) → (answer : Need-asking-requires) →
+      (answer : Need-scan-actions-requires) → (answer : Need-reservation-of-requires) →
+      (answer : Need-at-reservation-requires) → (answer : Need-look-up-usage-requires) →
+      (answer : Need-data-plan-requires) → (answer : Need-returns) → Lts.Closed readings Reads.Pre Reads.Post M
+  spec = λ answer answer' answer'' answer'3 answer'4 answer'5 answer'6 answer'7 answer'8. Lts.spec readings Reads.Pre
+      Reads.Post answer answer' answer'' answer'3 answer'4 answer'5 answer'6 answer'7 answer'8
 
-  pub close : Lts.Closed (
-    Reads''''''.Asked,
-    Reads''''''.Learnt,
-    Reads''''.Asked,
-    Reads''''.Learnt,
-    Reads''''''''.Asked,
-    Reads''''''''.Learnt,
-    Reads''.Asked,
-    Reads''.Learnt,
-    Reads'''''.Asked,
-    Reads'''''.Learnt,
-    Reads'''''''.Asked,
-    Reads'''''''.Learnt,
-    Reads'.Asked,
-    Reads'.Learnt,
-    Reads'''.Asked,
-    Reads'''.Learnt,
-  ) Reads.Pre Reads.Post M → Statement.statement M
+  pub close : Lts.Closed readings Reads.Pre Reads.Post M → Statement.statement M
   unfolding Code.routine Running.tablesOf
-  close = λ closed 𝓤 H 𝓜 𝓖 𝓡. Written.close 3 Kinds.ps Kinds.r Reads.Ghost Reads.requires Reads.ensures Reads.pre-read Reads.Pinned Reads.Owned
-      Reads.post-read record { M = M; 𝓤 = 𝓤; H = H; 𝓜 = 𝓜; 𝓖 = 𝓖; 𝓡 = 𝓡 } Code.env Key.name Code.function (Code.unfolded 𝓤 H 𝓜 𝓡) (λ κs a g. tt) (λ
-      κs. Reads.owns κs record { M = M; 𝓤 = 𝓤; H = H; 𝓜 = 𝓜; 𝓖 = 𝓖; 𝓡 = 𝓡 }) (Reads.passes record { M = M; 𝓤 = 𝓤; H = H; 𝓜 = 𝓜; 𝓖 = 𝓖; 𝓡 = 𝓡 }) λ g.
-      closed 𝓤 H (𝓖 .A) (Running.givenOf 𝓤 H 𝓜 𝓖) (Run.Over 𝓤 H 𝓜 𝓖 𝓡 Code.env) (Reads''''''.known record { M = M; 𝓤 = 𝓤; H = H; 𝓜 = 𝓜; 𝓖 = 𝓖; 𝓡 = 𝓡 }
-      Code.env Symbol''''.name Symbol''''.routine Code.calls-hnsr-circuit·peer·peer-of (Met''''.met 𝓤 H 𝓜 𝓖 𝓡)) (Reads''''.known record {
-        M = M;
-        𝓤 =
-            𝓤;
-        H = H;
-        𝓜 = 𝓜;
-        𝓖 = 𝓖;
-        𝓡 = 𝓡;
-      } Code.env Symbol''.name Symbol''.routine Code.calls-hnsr-circuit·message·data-on (Met''.met 𝓤 H 𝓜 𝓖 𝓡))
-      (Reads''''''''.known record { M = M; 𝓤 = 𝓤; H = H; 𝓜 = 𝓜; 𝓖 = 𝓖; 𝓡 = 𝓡 } Code.env Symbol''''''.name Symbol''''''.routine
-      Code.calls-hnsr-circuit·queue·asking (Met''''''.met 𝓤 H 𝓜 𝓖 𝓡)) (Reads''.known record { M = M; 𝓤 = 𝓤; H = H; 𝓜 = 𝓜; 𝓖 = 𝓖; 𝓡 = 𝓡 } Code.env
-      Symbol'''''''.name Symbol'''''''.routine Code.calls-hnsr-circuit·tables·inflight·scan-actions (Met'''''''.met 𝓤 H 𝓜 𝓖 𝓡)) (Reads'''''.known
-      record { M = M; 𝓤 = 𝓤; H = H; 𝓜 = 𝓜; 𝓖 = 𝓖; 𝓡 = 𝓡 } Code.env Symbol'''.name Symbol'''.routine Code.calls-hnsr-circuit·message·reservation-of
-      (Met'''.met 𝓤 H 𝓜 𝓖 𝓡)) (Reads'''''''.known record { M = M; 𝓤 = 𝓤; H = H; 𝓜 = 𝓜; 𝓖 = 𝓖; 𝓡 = 𝓡 } Code.env Symbol'''''.name Symbol'''''.routine
-      Code.calls-hnsr-circuit·question·at-reservation (Met'''''.met 𝓤 H 𝓜 𝓖 𝓡)) (Reads'.known record { M = M; 𝓤 = 𝓤; H = H; 𝓜 = 𝓜; 𝓖 = 𝓖; 𝓡 = 𝓡 }
-      Code.env Symbol'.name Symbol'.routine Code.calls-hnsr-circuit·lookup·look-up-usage (Met'.met 𝓤 H 𝓜 𝓖 𝓡)) (Reads'''.known record {
-        M = M;
-        𝓤 = 𝓤;
-        H = H;
-        𝓜 = 𝓜;
-        𝓖 = 𝓖;
-        𝓡 = 𝓡;
-      } Code.env Symbol.name Symbol.routine Code.calls-hnsr-circuit·data·data-plan (Met.met 𝓤 H 𝓜 𝓖 𝓡))
+  close = λ closed 𝓤 H 𝓜 𝓖 𝓡. Written.close 3 Kinds.ps Kinds.r Reads.Ghost Reads.requires Reads.ensures Reads.pre-read
+      Reads.Pinned Reads.Owned Reads.post-read record { M = M; 𝓤 = 𝓤; H = H; 𝓜 = 𝓜; 𝓖 = 𝓖; 𝓡 = 𝓡 } Code.env Key.name
+      Code.function (Code.unfolded 𝓤 H 𝓜 𝓡) (λ κs a g. tt) (λ κs. Reads.owns κs
+      record { M = M; 𝓤 = 𝓤; H = H; 𝓜 = 𝓜; 𝓖 = 𝓖; 𝓡 = 𝓡 }) (Reads.passes
+      record { M = M; 𝓤 = 𝓤; H = H; 𝓜 = 𝓜; 𝓖 = 𝓖; 𝓡 = 𝓡 }) λ g. closed 𝓤 H (𝓖 .A) (Running.givenOf 𝓤 H 𝓜 𝓖)
+      (Run.Over 𝓤 H 𝓜 𝓖 𝓡 Code.env) (Reads''''''.known record { M = M; 𝓤 = 𝓤; H = H; 𝓜 = 𝓜; 𝓖 = 𝓖; 𝓡 = 𝓡 } Code.env
+      Symbol''''.name Symbol''''.routine Code.calls-hnsr-circuit·peer·peer-of (Met''''.met 𝓤 H 𝓜 𝓖 𝓡)) (Reads''''.known
+      record { M = M; 𝓤 = 𝓤; H = H; 𝓜 = 𝓜; 𝓖 = 𝓖; 𝓡 = 𝓡 } Code.env Symbol''.name Symbol''.routine
+      Code.calls-hnsr-circuit·message·data-on (Met''.met 𝓤 H 𝓜 𝓖 𝓡)) (Reads''''''''.known
+      record { M = M; 𝓤 = 𝓤; H = H; 𝓜 = 𝓜; 𝓖 = 𝓖; 𝓡 = 𝓡 } Code.env Symbol''''''.name Symbol''''''.routine
+      Code.calls-hnsr-circuit·queue·asking (Met''''''.met 𝓤 H 𝓜 𝓖 𝓡)) (Reads''.known
+      record { M = M; 𝓤 = 𝓤; H = H; 𝓜 = 𝓜; 𝓖 = 𝓖; 𝓡 = 𝓡 } Code.env Symbol'''''''.name Symbol'''''''.routine
+      Code.calls-hnsr-circuit·tables·inflight·scan-actions (Met'''''''.met 𝓤 H 𝓜 𝓖 𝓡)) (Reads'''''.known
+      record { M = M; 𝓤 = 𝓤; H = H; 𝓜 = 𝓜; 𝓖 = 𝓖; 𝓡 = 𝓡 } Code.env Symbol'''.name Symbol'''.routine
+      Code.calls-hnsr-circuit·message·reservation-of (Met'''.met 𝓤 H 𝓜 𝓖 𝓡)) (Reads'''''''.known
+      record { M = M; 𝓤 = 𝓤; H = H; 𝓜 = 𝓜; 𝓖 = 𝓖; 𝓡 = 𝓡 } Code.env Symbol'''''.name Symbol'''''.routine
+      Code.calls-hnsr-circuit·question·at-reservation (Met'''''.met 𝓤 H 𝓜 𝓖 𝓡)) (Reads'.known
+      record { M = M; 𝓤 = 𝓤; H = H; 𝓜 = 𝓜; 𝓖 = 𝓖; 𝓡 = 𝓡 } Code.env Symbol'.name Symbol'.routine
+      Code.calls-hnsr-circuit·lookup·look-up-usage (Met'.met 𝓤 H 𝓜 𝓖 𝓡)) (Reads'''.known
+      record { M = M; 𝓤 = 𝓤; H = H; 𝓜 = 𝓜; 𝓖 = 𝓖; 𝓡 = 𝓡 } Code.env Symbol.name Symbol.routine
+      Code.calls-hnsr-circuit·data·data-plan (Met.met 𝓤 H 𝓜 𝓖 𝓡))

@@ -27,161 +27,181 @@ use borrow.Fn.Run
 use borrow.Fn.Written
 use contract.Running
 
+abbrev pub readings : Lts.Claims
+readings = (
+  Reads.Asked,
+  Reads.Learnt,
+  Reads'''''.Asked,
+  Reads'''''.Learnt,
+  Reads''''.Asked,
+  Reads''''.Learnt,
+  Reads'''.Asked,
+  Reads'''.Learnt,
+  Reads''.Asked,
+  Reads''.Learnt,
+  Reads''''''.Asked,
+  Reads''''''.Learnt,
+)
+
 abbrev pub Start : Type 0
-Start = Lts.Start (Reads.Asked, Reads.Learnt, Reads'''''.Asked, Reads'''''.Learnt, Reads''''.Asked, Reads''''.Learnt, Reads'''.Asked, Reads'''.Learnt,
-    Reads''.Asked, Reads''.Learnt, Reads''''''.Asked, Reads''''''.Learnt,) Reads'.Pre Reads'.Post
+Start = Lts.Start readings Reads'.Pre Reads'.Post
+
 abbrev pub After-slice-known : Type 0
-After-slice-known = Lts.After-slice-known (Reads.Asked, Reads.Learnt, Reads'''''.Asked, Reads'''''.Learnt, Reads''''.Asked, Reads''''.Learnt,
-    Reads'''.Asked, Reads'''.Learnt, Reads''.Asked, Reads''.Learnt, Reads''''''.Asked, Reads''''''.Learnt,) Reads'.Pre Reads'.Post
+After-slice-known = Lts.After-slice-known readings Reads'.Pre Reads'.Post
+
 abbrev pub After-shared-slice-known : Type 0
-After-shared-slice-known = Lts.After-shared-slice-known (Reads.Asked, Reads.Learnt, Reads'''''.Asked, Reads'''''.Learnt, Reads''''.Asked,
-    Reads''''.Learnt, Reads'''.Asked, Reads'''.Learnt, Reads''.Asked, Reads''.Learnt, Reads''''''.Asked, Reads''''''.Learnt,) Reads'.Pre Reads'.Post
+After-shared-slice-known = Lts.After-shared-slice-known readings Reads'.Pre Reads'.Post
+
 abbrev pub After-shared-slice-known2 : Type 0
-After-shared-slice-known2 = Lts.After-shared-slice-known2 (Reads.Asked, Reads.Learnt, Reads'''''.Asked, Reads'''''.Learnt, Reads''''.Asked,
-    Reads''''.Learnt, Reads'''.Asked, Reads'''.Learnt, Reads''.Asked, Reads''.Learnt, Reads''''''.Asked, Reads''''''.Learnt,) Reads'.Pre Reads'.Post
+After-shared-slice-known2 = Lts.After-shared-slice-known2 readings Reads'.Pre Reads'.Post
+
 abbrev pub After-shared-slice-known3 : Type 0
-After-shared-slice-known3 = Lts.After-shared-slice-known3 (Reads.Asked, Reads.Learnt, Reads'''''.Asked, Reads'''''.Learnt, Reads''''.Asked,
-    Reads''''.Learnt, Reads'''.Asked, Reads'''.Learnt, Reads''.Asked, Reads''.Learnt, Reads''''''.Asked, Reads''''''.Learnt,) Reads'.Pre Reads'.Post
+After-shared-slice-known3 = Lts.After-shared-slice-known3 readings Reads'.Pre Reads'.Post
+
 abbrev pub After-shared-slice-known4 : Type 0
-After-shared-slice-known4 = Lts.After-shared-slice-known4 (Reads.Asked, Reads.Learnt, Reads'''''.Asked, Reads'''''.Learnt, Reads''''.Asked,
-    Reads''''.Learnt, Reads'''.Asked, Reads'''.Learnt, Reads''.Asked, Reads''.Learnt, Reads''''''.Asked, Reads''''''.Learnt,) Reads'.Pre Reads'.Post
+After-shared-slice-known4 = Lts.After-shared-slice-known4 readings Reads'.Pre Reads'.Post
+
 abbrev pub After-gather-arg : Type 0
-After-gather-arg = Lts.After-gather-arg (Reads.Asked, Reads.Learnt, Reads'''''.Asked, Reads'''''.Learnt, Reads''''.Asked, Reads''''.Learnt,
-    Reads'''.Asked, Reads'''.Learnt, Reads''.Asked, Reads''.Learnt, Reads''''''.Asked, Reads''''''.Learnt,) Reads'.Pre Reads'.Post
+After-gather-arg = Lts.After-gather-arg readings Reads'.Pre Reads'.Post
+
 abbrev pub After-gather-arg2 : Type 0
-After-gather-arg2 = Lts.After-gather-arg2 (Reads.Asked, Reads.Learnt, Reads'''''.Asked, Reads'''''.Learnt, Reads''''.Asked, Reads''''.Learnt,
-    Reads'''.Asked, Reads'''.Learnt, Reads''.Asked, Reads''.Learnt, Reads''''''.Asked, Reads''''''.Learnt,) Reads'.Pre Reads'.Post
+After-gather-arg2 = Lts.After-gather-arg2 readings Reads'.Pre Reads'.Post
+
 abbrev pub After-gather : Type 0
-After-gather = Lts.After-gather (Reads.Asked, Reads.Learnt, Reads'''''.Asked, Reads'''''.Learnt, Reads''''.Asked, Reads''''.Learnt, Reads'''.Asked,
-    Reads'''.Learnt, Reads''.Asked, Reads''.Learnt, Reads''''''.Asked, Reads''''''.Learnt,) Reads'.Pre Reads'.Post
+After-gather = Lts.After-gather readings Reads'.Pre Reads'.Post
+
 abbrev pub After-config : Type 0
-After-config = Lts.After-config (Reads.Asked, Reads.Learnt, Reads'''''.Asked, Reads'''''.Learnt, Reads''''.Asked, Reads''''.Learnt, Reads'''.Asked,
-    Reads'''.Learnt, Reads''.Asked, Reads''.Learnt, Reads''''''.Asked, Reads''''''.Learnt,) Reads'.Pre Reads'.Post
+After-config = Lts.After-config readings Reads'.Pre Reads'.Post
+
 abbrev pub After-open-rows : Type 0
-After-open-rows = Lts.After-open-rows (Reads.Asked, Reads.Learnt, Reads'''''.Asked, Reads'''''.Learnt, Reads''''.Asked, Reads''''.Learnt,
-    Reads'''.Asked, Reads'''.Learnt, Reads''.Asked, Reads''.Learnt, Reads''''''.Asked, Reads''''''.Learnt,) Reads'.Pre Reads'.Post
+After-open-rows = Lts.After-open-rows readings Reads'.Pre Reads'.Post
+
 abbrev pub After-is-taken : Type 0
-After-is-taken = Lts.After-is-taken (Reads.Asked, Reads.Learnt, Reads'''''.Asked, Reads'''''.Learnt, Reads''''.Asked, Reads''''.Learnt,
-    Reads'''.Asked, Reads'''.Learnt, Reads''.Asked, Reads''.Learnt, Reads''''''.Asked, Reads''''''.Learnt,) Reads'.Pre Reads'.Post
+After-is-taken = Lts.After-is-taken readings Reads'.Pre Reads'.Post
+
 abbrev pub Then1 : Type 0
-Then1 = Lts.Then1 (Reads.Asked, Reads.Learnt, Reads'''''.Asked, Reads'''''.Learnt, Reads''''.Asked, Reads''''.Learnt, Reads'''.Asked, Reads'''.Learnt,
-    Reads''.Asked, Reads''.Learnt, Reads''''''.Asked, Reads''''''.Learnt,) Reads'.Pre Reads'.Post
+Then1 = Lts.Then1 readings Reads'.Pre Reads'.Post
+
 abbrev pub After-drop-lapsed-arg : Type 0
-After-drop-lapsed-arg = Lts.After-drop-lapsed-arg (Reads.Asked, Reads.Learnt, Reads'''''.Asked, Reads'''''.Learnt, Reads''''.Asked, Reads''''.Learnt,
-    Reads'''.Asked, Reads'''.Learnt, Reads''.Asked, Reads''.Learnt, Reads''''''.Asked, Reads''''''.Learnt,) Reads'.Pre Reads'.Post
+After-drop-lapsed-arg = Lts.After-drop-lapsed-arg readings Reads'.Pre Reads'.Post
+
 abbrev pub After-drop-lapsed : Type 0
-After-drop-lapsed = Lts.After-drop-lapsed (Reads.Asked, Reads.Learnt, Reads'''''.Asked, Reads'''''.Learnt, Reads''''.Asked, Reads''''.Learnt,
-    Reads'''.Asked, Reads'''.Learnt, Reads''.Asked, Reads''.Learnt, Reads''''''.Asked, Reads''''''.Learnt,) Reads'.Pre Reads'.Post
+After-drop-lapsed = Lts.After-drop-lapsed readings Reads'.Pre Reads'.Post
+
 abbrev pub After-ledger : Type 0
-After-ledger = Lts.After-ledger (Reads.Asked, Reads.Learnt, Reads'''''.Asked, Reads'''''.Learnt, Reads''''.Asked, Reads''''.Learnt, Reads'''.Asked,
-    Reads'''.Learnt, Reads''.Asked, Reads''.Learnt, Reads''''''.Asked, Reads''''''.Learnt,) Reads'.Pre Reads'.Post
+After-ledger = Lts.After-ledger readings Reads'.Pre Reads'.Post
+
 abbrev pub After-open-lapsed-arg : Type 0
-After-open-lapsed-arg = Lts.After-open-lapsed-arg (Reads.Asked, Reads.Learnt, Reads'''''.Asked, Reads'''''.Learnt, Reads''''.Asked, Reads''''.Learnt,
-    Reads'''.Asked, Reads'''.Learnt, Reads''.Asked, Reads''.Learnt, Reads''''''.Asked, Reads''''''.Learnt,) Reads'.Pre Reads'.Post
+After-open-lapsed-arg = Lts.After-open-lapsed-arg readings Reads'.Pre Reads'.Post
+
 abbrev pub After-open-lapsed-arg2 : Type 0
-After-open-lapsed-arg2 = Lts.After-open-lapsed-arg2 (Reads.Asked, Reads.Learnt, Reads'''''.Asked, Reads'''''.Learnt, Reads''''.Asked,
-    Reads''''.Learnt, Reads'''.Asked, Reads'''.Learnt, Reads''.Asked, Reads''.Learnt, Reads''''''.Asked, Reads''''''.Learnt,) Reads'.Pre Reads'.Post
+After-open-lapsed-arg2 = Lts.After-open-lapsed-arg2 readings Reads'.Pre Reads'.Post
+
 abbrev pub After-open-lapsed-arg3 : Type 0
-After-open-lapsed-arg3 = Lts.After-open-lapsed-arg3 (Reads.Asked, Reads.Learnt, Reads'''''.Asked, Reads'''''.Learnt, Reads''''.Asked,
-    Reads''''.Learnt, Reads'''.Asked, Reads'''.Learnt, Reads''.Asked, Reads''.Learnt, Reads''''''.Asked, Reads''''''.Learnt,) Reads'.Pre Reads'.Post
+After-open-lapsed-arg3 = Lts.After-open-lapsed-arg3 readings Reads'.Pre Reads'.Post
+
 abbrev pub After-open-lapsed-arg4 : Type 0
-After-open-lapsed-arg4 = Lts.After-open-lapsed-arg4 (Reads.Asked, Reads.Learnt, Reads'''''.Asked, Reads'''''.Learnt, Reads''''.Asked,
-    Reads''''.Learnt, Reads'''.Asked, Reads'''.Learnt, Reads''.Asked, Reads''.Learnt, Reads''''''.Asked, Reads''''''.Learnt,) Reads'.Pre Reads'.Post
+After-open-lapsed-arg4 = Lts.After-open-lapsed-arg4 readings Reads'.Pre Reads'.Post
+
 abbrev pub After-open-lapsed-arg5 : Type 0
-After-open-lapsed-arg5 = Lts.After-open-lapsed-arg5 (Reads.Asked, Reads.Learnt, Reads'''''.Asked, Reads'''''.Learnt, Reads''''.Asked,
-    Reads''''.Learnt, Reads'''.Asked, Reads'''.Learnt, Reads''.Asked, Reads''.Learnt, Reads''''''.Asked, Reads''''''.Learnt,) Reads'.Pre Reads'.Post
+After-open-lapsed-arg5 = Lts.After-open-lapsed-arg5 readings Reads'.Pre Reads'.Post
+
 abbrev pub After-open-lapsed : Type 0
-After-open-lapsed = Lts.After-open-lapsed (Reads.Asked, Reads.Learnt, Reads'''''.Asked, Reads'''''.Learnt, Reads''''.Asked, Reads''''.Learnt,
-    Reads'''.Asked, Reads'''.Learnt, Reads''.Asked, Reads''.Learnt, Reads''''''.Asked, Reads''''''.Learnt,) Reads'.Pre Reads'.Post
+After-open-lapsed = Lts.After-open-lapsed readings Reads'.Pre Reads'.Post
+
 abbrev pub After-pending : Type 0
-After-pending = Lts.After-pending (Reads.Asked, Reads.Learnt, Reads'''''.Asked, Reads'''''.Learnt, Reads''''.Asked, Reads''''.Learnt, Reads'''.Asked,
-    Reads'''.Learnt, Reads''.Asked, Reads''.Learnt, Reads''''''.Asked, Reads''''''.Learnt,) Reads'.Pre Reads'.Post
+After-pending = Lts.After-pending readings Reads'.Pre Reads'.Post
+
 abbrev pub After-ledger2 : Type 0
-After-ledger2 = Lts.After-ledger2 (Reads.Asked, Reads.Learnt, Reads'''''.Asked, Reads'''''.Learnt, Reads''''.Asked, Reads''''.Learnt, Reads'''.Asked,
-    Reads'''.Learnt, Reads''.Asked, Reads''.Learnt, Reads''''''.Asked, Reads''''''.Learnt,) Reads'.Pre Reads'.Post
+After-ledger2 = Lts.After-ledger2 readings Reads'.Pre Reads'.Post
+
 abbrev pub After-inflight : Type 0
-After-inflight = Lts.After-inflight (Reads.Asked, Reads.Learnt, Reads'''''.Asked, Reads'''''.Learnt, Reads''''.Asked, Reads''''.Learnt,
-    Reads'''.Asked, Reads'''.Learnt, Reads''.Asked, Reads''.Learnt, Reads''''''.Asked, Reads''''''.Learnt,) Reads'.Pre Reads'.Post
+After-inflight = Lts.After-inflight readings Reads'.Pre Reads'.Post
+
 abbrev pub After-out : Type 0
-After-out = Lts.After-out (Reads.Asked, Reads.Learnt, Reads'''''.Asked, Reads'''''.Learnt, Reads''''.Asked, Reads''''.Learnt, Reads'''.Asked,
-    Reads'''.Learnt, Reads''.Asked, Reads''.Learnt, Reads''''''.Asked, Reads''''''.Learnt,) Reads'.Pre Reads'.Post
+After-out = Lts.After-out readings Reads'.Pre Reads'.Post
+
 abbrev pub After-slice-known2 : Type 0
-After-slice-known2 = Lts.After-slice-known2 (Reads.Asked, Reads.Learnt, Reads'''''.Asked, Reads'''''.Learnt, Reads''''.Asked, Reads''''.Learnt,
-    Reads'''.Asked, Reads'''.Learnt, Reads''.Asked, Reads''.Learnt, Reads''''''.Asked, Reads''''''.Learnt,) Reads'.Pre Reads'.Post
+After-slice-known2 = Lts.After-slice-known2 readings Reads'.Pre Reads'.Post
+
 abbrev pub Else1 : Type 0
-Else1 = Lts.Else1 (Reads.Asked, Reads.Learnt, Reads'''''.Asked, Reads'''''.Learnt, Reads''''.Asked, Reads''''.Learnt, Reads'''.Asked, Reads'''.Learnt,
-    Reads''.Asked, Reads''.Learnt, Reads''''''.Asked, Reads''''''.Learnt,) Reads'.Pre Reads'.Post
+Else1 = Lts.Else1 readings Reads'.Pre Reads'.Post
+
 abbrev pub After-refused : Type 0
-After-refused = Lts.After-refused (Reads.Asked, Reads.Learnt, Reads'''''.Asked, Reads'''''.Learnt, Reads''''.Asked, Reads''''.Learnt, Reads'''.Asked,
-    Reads'''.Learnt, Reads''.Asked, Reads''.Learnt, Reads''''''.Asked, Reads''''''.Learnt,) Reads'.Pre Reads'.Post
+After-refused = Lts.After-refused readings Reads'.Pre Reads'.Post
+
 abbrev pub Need-gather-requires : Type 0
-Need-gather-requires = Lts.Need-gather-requires (Reads.Asked, Reads.Learnt, Reads'''''.Asked, Reads'''''.Learnt, Reads''''.Asked, Reads''''.Learnt,
-    Reads'''.Asked, Reads'''.Learnt, Reads''.Asked, Reads''.Learnt, Reads''''''.Asked, Reads''''''.Learnt,) Reads'.Pre Reads'.Post
+Need-gather-requires = Lts.Need-gather-requires readings Reads'.Pre Reads'.Post
+
 abbrev pub Need-open-rows-requires : Type 0
-Need-open-rows-requires = Lts.Need-open-rows-requires (Reads.Asked, Reads.Learnt, Reads'''''.Asked, Reads'''''.Learnt, Reads''''.Asked,
-    Reads''''.Learnt, Reads'''.Asked, Reads'''.Learnt, Reads''.Asked, Reads''.Learnt, Reads''''''.Asked, Reads''''''.Learnt,) Reads'.Pre Reads'.Post
+Need-open-rows-requires = Lts.Need-open-rows-requires readings Reads'.Pre Reads'.Post
+
 abbrev pub Need-is-taken-requires : Type 0
-Need-is-taken-requires = Lts.Need-is-taken-requires (Reads.Asked, Reads.Learnt, Reads'''''.Asked, Reads'''''.Learnt, Reads''''.Asked,
-    Reads''''.Learnt, Reads'''.Asked, Reads'''.Learnt, Reads''.Asked, Reads''.Learnt, Reads''''''.Asked, Reads''''''.Learnt,) Reads'.Pre Reads'.Post
+Need-is-taken-requires = Lts.Need-is-taken-requires readings Reads'.Pre Reads'.Post
+
 abbrev pub Need-drop-lapsed-requires : Type 0
-Need-drop-lapsed-requires = Lts.Need-drop-lapsed-requires (Reads.Asked, Reads.Learnt, Reads'''''.Asked, Reads'''''.Learnt, Reads''''.Asked,
-    Reads''''.Learnt, Reads'''.Asked, Reads'''.Learnt, Reads''.Asked, Reads''.Learnt, Reads''''''.Asked, Reads''''''.Learnt,) Reads'.Pre Reads'.Post
+Need-drop-lapsed-requires = Lts.Need-drop-lapsed-requires readings Reads'.Pre Reads'.Post
+
 abbrev pub Need-open-lapsed-requires : Type 0
-Need-open-lapsed-requires = Lts.Need-open-lapsed-requires (Reads.Asked, Reads.Learnt, Reads'''''.Asked, Reads'''''.Learnt, Reads''''.Asked,
-    Reads''''.Learnt, Reads'''.Asked, Reads'''.Learnt, Reads''.Asked, Reads''.Learnt, Reads''''''.Asked, Reads''''''.Learnt,) Reads'.Pre Reads'.Post
+Need-open-lapsed-requires = Lts.Need-open-lapsed-requires readings Reads'.Pre Reads'.Post
+
 abbrev pub Need-same-length : Type 0
-Need-same-length = Lts.Need-same-length (Reads.Asked, Reads.Learnt, Reads'''''.Asked, Reads'''''.Learnt, Reads''''.Asked, Reads''''.Learnt,
-    Reads'''.Asked, Reads'''.Learnt, Reads''.Asked, Reads''.Learnt, Reads''''''.Asked, Reads''''''.Learnt,) Reads'.Pre Reads'.Post
+Need-same-length = Lts.Need-same-length readings Reads'.Pre Reads'.Post
+
 abbrev pub Need-same-length-2 : Type 0
-Need-same-length-2 = Lts.Need-same-length-2 (Reads.Asked, Reads.Learnt, Reads'''''.Asked, Reads'''''.Learnt, Reads''''.Asked, Reads''''.Learnt,
-    Reads'''.Asked, Reads'''.Learnt, Reads''.Asked, Reads''.Learnt, Reads''''''.Asked, Reads''''''.Learnt,) Reads'.Pre Reads'.Post
+Need-same-length-2 = Lts.Need-same-length-2 readings Reads'.Pre Reads'.Post
+
 abbrev pub Need-same-length-3 : Type 0
-Need-same-length-3 = Lts.Need-same-length-3 (Reads.Asked, Reads.Learnt, Reads'''''.Asked, Reads'''''.Learnt, Reads''''.Asked, Reads''''.Learnt,
-    Reads'''.Asked, Reads'''.Learnt, Reads''.Asked, Reads''.Learnt, Reads''''''.Asked, Reads''''''.Learnt,) Reads'.Pre Reads'.Post
+Need-same-length-3 = Lts.Need-same-length-3 readings Reads'.Pre Reads'.Post
+
 abbrev pub Need-same-length-4 : Type 0
-Need-same-length-4 = Lts.Need-same-length-4 (Reads.Asked, Reads.Learnt, Reads'''''.Asked, Reads'''''.Learnt, Reads''''.Asked, Reads''''.Learnt,
-    Reads'''.Asked, Reads'''.Learnt, Reads''.Asked, Reads''.Learnt, Reads''''''.Asked, Reads''''''.Learnt,) Reads'.Pre Reads'.Post
+Need-same-length-4 = Lts.Need-same-length-4 readings Reads'.Pre Reads'.Post
+
 abbrev pub Need-same-length-5 : Type 0
-Need-same-length-5 = Lts.Need-same-length-5 (Reads.Asked, Reads.Learnt, Reads'''''.Asked, Reads'''''.Learnt, Reads''''.Asked, Reads''''.Learnt,
-    Reads'''.Asked, Reads'''.Learnt, Reads''.Asked, Reads''.Learnt, Reads''''''.Asked, Reads''''''.Learnt,) Reads'.Pre Reads'.Post
+Need-same-length-5 = Lts.Need-same-length-5 readings Reads'.Pre Reads'.Post
+
 abbrev pub Need-returns : Type 0
-Need-returns = Lts.Need-returns (Reads.Asked, Reads.Learnt, Reads'''''.Asked, Reads'''''.Learnt, Reads''''.Asked, Reads''''.Learnt, Reads'''.Asked,
-    Reads'''.Learnt, Reads''.Asked, Reads''.Learnt, Reads''''''.Asked, Reads''''''.Learnt,) Reads'.Pre Reads'.Post
+Need-returns = Lts.Need-returns readings Reads'.Pre Reads'.Post
+
 abbrev pub Need-refused-requires : Type 0
-Need-refused-requires = Lts.Need-refused-requires (Reads.Asked, Reads.Learnt, Reads'''''.Asked, Reads'''''.Learnt, Reads''''.Asked, Reads''''.Learnt,
-    Reads'''.Asked, Reads'''.Learnt, Reads''.Asked, Reads''.Learnt, Reads''''''.Asked, Reads''''''.Learnt,) Reads'.Pre Reads'.Post
+Need-refused-requires = Lts.Need-refused-requires readings Reads'.Pre Reads'.Post
+
 abbrev pub Need-same-length-6 : Type 0
-Need-same-length-6 = Lts.Need-same-length-6 (Reads.Asked, Reads.Learnt, Reads'''''.Asked, Reads'''''.Learnt, Reads''''.Asked, Reads''''.Learnt,
-    Reads'''.Asked, Reads'''.Learnt, Reads''.Asked, Reads''.Learnt, Reads''''''.Asked, Reads''''''.Learnt,) Reads'.Pre Reads'.Post
+Need-same-length-6 = Lts.Need-same-length-6 readings Reads'.Pre Reads'.Post
+
 abbrev pub Need-same-length-7 : Type 0
-Need-same-length-7 = Lts.Need-same-length-7 (Reads.Asked, Reads.Learnt, Reads'''''.Asked, Reads'''''.Learnt, Reads''''.Asked, Reads''''.Learnt,
-    Reads'''.Asked, Reads'''.Learnt, Reads''.Asked, Reads''.Learnt, Reads''''''.Asked, Reads''''''.Learnt,) Reads'.Pre Reads'.Post
+Need-same-length-7 = Lts.Need-same-length-7 readings Reads'.Pre Reads'.Post
+
 abbrev pub Need-returns-2 : Type 0
-Need-returns-2 = Lts.Need-returns-2 (Reads.Asked, Reads.Learnt, Reads'''''.Asked, Reads'''''.Learnt, Reads''''.Asked, Reads''''.Learnt,
-    Reads'''.Asked, Reads'''.Learnt, Reads''.Asked, Reads''.Learnt, Reads''''''.Asked, Reads''''''.Learnt,) Reads'.Pre Reads'.Post
-module _ { M : Type 1 } where
-  pub spec : (answer : Need-gather-requires) → (answer : Need-open-rows-requires) → (answer : Need-is-taken-requires) → (answer :
-      Need-drop-lapsed-requires) → (answer : Need-open-lapsed-requires) → (answer : Need-same-length) → (answer : Need-same-length-2) → (answer :
-      Need-same-length-3) → (answer : Need-same-length-4) → (answer : Need-same-length-5) → (answer : Need-returns) → (answer : Need-refused-requires)
-      → (answer : Need-same-length-6) → (answer : Need-same-length-7) → (answer : Need-returns-2) → Lts.Closed (Reads.Asked, Reads.Learnt,
-      Reads'''''.Asked, Reads'''''.Learnt, Reads''''.Asked, Reads''''.Learnt, Reads'''.Asked, Reads'''.Learnt, Reads''.Asked, Reads''.Learnt,
-      Reads''''''.Asked, Reads''''''.Learnt,) Reads'.Pre Reads'.Post M
-  spec = λ answer answer' answer'' answer'3 answer'4 answer'5 answer'6 answer'7 answer'8 answer'9 answer'10 answer'11 answer'12 answer'13 answer'14.
-      Lts.spec (Reads.Asked, Reads.Learnt, Reads'''''.Asked, Reads'''''.Learnt, Reads''''.Asked, Reads''''.Learnt, Reads'''.Asked, Reads'''.Learnt,
-      Reads''.Asked, Reads''.Learnt, Reads''''''.Asked, Reads''''''.Learnt,) Reads'.Pre Reads'.Post answer answer' answer'' answer'3 answer'4 answer'5
-      answer'6 answer'7 answer'8 answer'9 answer'10 answer'11 answer'12 answer'13 answer'14
-  pub close : Lts.Closed (Reads.Asked, Reads.Learnt, Reads'''''.Asked, Reads'''''.Learnt, Reads''''.Asked, Reads''''.Learnt, Reads'''.Asked,
-      Reads'''.Learnt, Reads''.Asked, Reads''.Learnt, Reads''''''.Asked, Reads''''''.Learnt,) Reads'.Pre Reads'.Post M → Statement.statement M
+Need-returns-2 = Lts.Need-returns-2 readings Reads'.Pre Reads'.Post
+
+module _ {M : Type 1} where
+  pub spec : (answer : Need-gather-requires) → (answer : Need-open-rows-requires) → (answer : Need-is-taken-requires) →
+      (answer : Need-drop-lapsed-requires) → (answer : Need-open-lapsed-requires) → (answer : Need-same-length) →
+      (answer : Need-same-length-2) → (answer : Need-same-length-3) → (answer : Need-same-length-4) →
+      (answer : Need-same-length-5) → (answer : Need-returns) → (answer : Need-refused-requires) →
+      (answer : Need-same-length-6) → (answer : Need-same-length-7) → (answer : Need-returns-2) → Lts.Closed readings
+      Reads'.Pre Reads'.Post M
+  spec = λ answer answer' answer'' answer'3 answer'4 answer'5 answer'6 answer'7 answer'8 answer'9 answer'10 answer'11
+      answer'12 answer'13 answer'14. Lts.spec readings Reads'.Pre Reads'.Post answer answer' answer'' answer'3 answer'4
+      answer'5 answer'6 answer'7 answer'8 answer'9 answer'10 answer'11 answer'12 answer'13 answer'14
+
+  pub close : Lts.Closed readings Reads'.Pre Reads'.Post M → Statement.statement M
   unfolding Code.routine Running.tablesOf
-  close = λ closed 𝓤 H 𝓜 𝓖 𝓡. Written.close 9 Kinds.ps Kinds.r Reads'.Ghost Reads'.requires Reads'.ensures Reads'.pre-read Reads'.Pinned Reads'.Owned
-      Reads'.post-read record { M = M; 𝓤 = 𝓤; H = H; 𝓜 = 𝓜; 𝓖 = 𝓖; 𝓡 = 𝓡 } Code.env Key.name Code.function (Code.unfolded 𝓤 H 𝓜 𝓡) (λ κs a g. tt) (λ
-      κs. Reads'.owns κs record { M = M; 𝓤 = 𝓤; H = H; 𝓜 = 𝓜; 𝓖 = 𝓖; 𝓡 = 𝓡 }) (Reads'.passes record { M = M; 𝓤 = 𝓤; H = H; 𝓜 = 𝓜; 𝓖 = 𝓖; 𝓡 = 𝓡 }) λ g.
-      closed 𝓤 H (𝓖 .A) (Running.givenOf 𝓤 H 𝓜 𝓖) (Run.Over 𝓤 H 𝓜 𝓖 𝓡 Code.env) (Reads.known record { M = M; 𝓤 = 𝓤; H = H; 𝓜 = 𝓜; 𝓖 = 𝓖; 𝓡 = 𝓡 }
-      Code.env Symbol'.name Symbol'.routine Code.calls-hnsr-circuit·handle-open·gather (Met'.met 𝓤 H 𝓜 𝓖 𝓡)) (Reads'''''.known record { M = M; 𝓤 = 𝓤;
-      H = H; 𝓜 = 𝓜; 𝓖 = 𝓖; 𝓡 = 𝓡 } Code.env Symbol''''.name Symbol''''.routine Code.calls-hnsr-circuit·open·open-rows (Met''''.met 𝓤 H 𝓜 𝓖 𝓡))
-      (Reads''''.known record { M = M; 𝓤 = 𝓤; H = H; 𝓜 = 𝓜; 𝓖 = 𝓖; 𝓡 = 𝓡 } Code.env Symbol.name Symbol.routine Code.calls-hnsr-circuit·answer·is-taken
-      (Met.met 𝓤 H 𝓜 𝓖 𝓡)) (Reads'''.known record { M = M; 𝓤 = 𝓤; H = H; 𝓜 = 𝓜; 𝓖 = 𝓖; 𝓡 = 𝓡 } Code.env Symbol'''.name Symbol'''.routine
-      Code.calls-hnsr-circuit·lookup·drop-lapsed (Met'''.met 𝓤 H 𝓜 𝓖 𝓡)) (Reads''.known record { M = M; 𝓤 = 𝓤; H = H; 𝓜 = 𝓜; 𝓖 = 𝓖; 𝓡 = 𝓡 } Code.env
-      Symbol''.name Symbol''.routine Code.calls-hnsr-circuit·handle-open·open-lapsed (Met''.met 𝓤 H 𝓜 𝓖 𝓡)) (Reads''''''.known record { M = M; 𝓤 = 𝓤;
-      H = H; 𝓜 = 𝓜; 𝓖 = 𝓖; 𝓡 = 𝓡 } Code.env Symbol'''''.name Symbol'''''.routine Code.calls-hnsr-circuit·revoking-calls·refused (Met'''''.met 𝓤 H 𝓜 𝓖
-      𝓡))
+  close = λ closed 𝓤 H 𝓜 𝓖 𝓡. Written.close 9 Kinds.ps Kinds.r Reads'.Ghost Reads'.requires Reads'.ensures
+      Reads'.pre-read Reads'.Pinned Reads'.Owned Reads'.post-read record { M = M; 𝓤 = 𝓤; H = H; 𝓜 = 𝓜; 𝓖 = 𝓖; 𝓡 = 𝓡 }
+      Code.env Key.name Code.function (Code.unfolded 𝓤 H 𝓜 𝓡) (λ κs a g. tt) (λ κs. Reads'.owns κs
+      record { M = M; 𝓤 = 𝓤; H = H; 𝓜 = 𝓜; 𝓖 = 𝓖; 𝓡 = 𝓡 }) (Reads'.passes
+      record { M = M; 𝓤 = 𝓤; H = H; 𝓜 = 𝓜; 𝓖 = 𝓖; 𝓡 = 𝓡 }) λ g. closed 𝓤 H (𝓖 .A) (Running.givenOf 𝓤 H 𝓜 𝓖)
+      (Run.Over 𝓤 H 𝓜 𝓖 𝓡 Code.env) (Reads.known record { M = M; 𝓤 = 𝓤; H = H; 𝓜 = 𝓜; 𝓖 = 𝓖; 𝓡 = 𝓡 } Code.env
+      Symbol'.name Symbol'.routine Code.calls-hnsr-circuit·handle-open·gather (Met'.met 𝓤 H 𝓜 𝓖 𝓡)) (Reads'''''.known
+      record { M = M; 𝓤 = 𝓤; H = H; 𝓜 = 𝓜; 𝓖 = 𝓖; 𝓡 = 𝓡 } Code.env Symbol''''.name Symbol''''.routine
+      Code.calls-hnsr-circuit·open·open-rows (Met''''.met 𝓤 H 𝓜 𝓖 𝓡)) (Reads''''.known
+      record { M = M; 𝓤 = 𝓤; H = H; 𝓜 = 𝓜; 𝓖 = 𝓖; 𝓡 = 𝓡 } Code.env Symbol.name Symbol.routine
+      Code.calls-hnsr-circuit·answer·is-taken (Met.met 𝓤 H 𝓜 𝓖 𝓡)) (Reads'''.known
+      record { M = M; 𝓤 = 𝓤; H = H; 𝓜 = 𝓜; 𝓖 = 𝓖; 𝓡 = 𝓡 } Code.env Symbol'''.name Symbol'''.routine
+      Code.calls-hnsr-circuit·lookup·drop-lapsed (Met'''.met 𝓤 H 𝓜 𝓖 𝓡)) (Reads''.known
+      record { M = M; 𝓤 = 𝓤; H = H; 𝓜 = 𝓜; 𝓖 = 𝓖; 𝓡 = 𝓡 } Code.env Symbol''.name Symbol''.routine
+      Code.calls-hnsr-circuit·handle-open·open-lapsed (Met''.met 𝓤 H 𝓜 𝓖 𝓡)) (Reads''''''.known
+      record { M = M; 𝓤 = 𝓤; H = H; 𝓜 = 𝓜; 𝓖 = 𝓖; 𝓡 = 𝓡 } Code.env Symbol'''''.name Symbol'''''.routine
+      Code.calls-hnsr-circuit·revoking-calls·refused (Met'''''.met 𝓤 H 𝓜 𝓖 𝓡))

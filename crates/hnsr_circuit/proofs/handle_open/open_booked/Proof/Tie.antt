@@ -42,8 +42,8 @@ use borrow.Fn.Run
 use borrow.Fn.Written
 use contract.Running
 
-abbrev pub Start : Type 0
-Start = Lts.Start (
+abbrev pub readings : Lts.Claims
+readings = (
   Reads''''''.Asked,
   Reads''''''.Learnt,
   Reads''''.Asked,
@@ -66,1171 +66,170 @@ Start = Lts.Start (
   Reads'''.Learnt,
   Reads'''''''''''.Asked,
   Reads'''''''''''.Learnt,
-) Reads'.Pre Reads'.Post
+)
+
+abbrev pub Start : Type 0
+Start = Lts.Start readings Reads'.Pre Reads'.Post
 
 abbrev pub After-slice-known : Type 0
-After-slice-known = Lts.After-slice-known (
-  Reads''''''.Asked,
-  Reads''''''.Learnt,
-  Reads''''.Asked,
-  Reads''''.Learnt,
-  Reads'''''''''.Asked,
-  Reads'''''''''.Learnt,
-  Reads''.Asked,
-  Reads''.Learnt,
-  Reads''''''''''.Asked,
-  Reads''''''''''.Learnt,
-  Reads'''''.Asked,
-  Reads'''''.Learnt,
-  Reads''''''''.Asked,
-  Reads''''''''.Learnt,
-  Reads'''''''.Asked,
-  Reads'''''''.Learnt,
-  Reads.Asked,
-  Reads.Learnt,
-  Reads'''.Asked,
-  Reads'''.Learnt,
-  Reads'''''''''''.Asked,
-  Reads'''''''''''.Learnt,
-) Reads'.Pre Reads'.Post
+After-slice-known = Lts.After-slice-known readings Reads'.Pre Reads'.Post
 
 abbrev pub After-ticket : Type 0
-After-ticket = Lts.After-ticket (
-  Reads''''''.Asked,
-  Reads''''''.Learnt,
-  Reads''''.Asked,
-  Reads''''.Learnt,
-  Reads'''''''''.Asked,
-  Reads'''''''''.Learnt,
-  Reads''.Asked,
-  Reads''.Learnt,
-  Reads''''''''''.Asked,
-  Reads''''''''''.Learnt,
-  Reads'''''.Asked,
-  Reads'''''.Learnt,
-  Reads''''''''.Asked,
-  Reads''''''''.Learnt,
-  Reads'''''''.Asked,
-  Reads'''''''.Learnt,
-  Reads.Asked,
-  Reads.Learnt,
-  Reads'''.Asked,
-  Reads'''.Learnt,
-  Reads'''''''''''.Asked,
-  Reads'''''''''''.Learnt,
-) Reads'.Pre Reads'.Post
+After-ticket = Lts.After-ticket readings Reads'.Pre Reads'.Post
 
 abbrev pub After-usage-answer : Type 0
-After-usage-answer = Lts.After-usage-answer (
-  Reads''''''.Asked,
-  Reads''''''.Learnt,
-  Reads''''.Asked,
-  Reads''''.Learnt,
-  Reads'''''''''.Asked,
-  Reads'''''''''.Learnt,
-  Reads''.Asked,
-  Reads''.Learnt,
-  Reads''''''''''.Asked,
-  Reads''''''''''.Learnt,
-  Reads'''''.Asked,
-  Reads'''''.Learnt,
-  Reads''''''''.Asked,
-  Reads''''''''.Learnt,
-  Reads'''''''.Asked,
-  Reads'''''''.Learnt,
-  Reads.Asked,
-  Reads.Learnt,
-  Reads'''.Asked,
-  Reads'''.Learnt,
-  Reads'''''''''''.Asked,
-  Reads'''''''''''.Learnt,
-) Reads'.Pre Reads'.Post
+After-usage-answer = Lts.After-usage-answer readings Reads'.Pre Reads'.Post
 
 abbrev pub After-is-taken : Type 0
-After-is-taken = Lts.After-is-taken (
-  Reads''''''.Asked,
-  Reads''''''.Learnt,
-  Reads''''.Asked,
-  Reads''''.Learnt,
-  Reads'''''''''.Asked,
-  Reads'''''''''.Learnt,
-  Reads''.Asked,
-  Reads''.Learnt,
-  Reads''''''''''.Asked,
-  Reads''''''''''.Learnt,
-  Reads'''''.Asked,
-  Reads'''''.Learnt,
-  Reads''''''''.Asked,
-  Reads''''''''.Learnt,
-  Reads'''''''.Asked,
-  Reads'''''''.Learnt,
-  Reads.Asked,
-  Reads.Learnt,
-  Reads'''.Asked,
-  Reads'''.Learnt,
-  Reads'''''''''''.Asked,
-  Reads'''''''''''.Learnt,
-) Reads'.Pre Reads'.Post
+After-is-taken = Lts.After-is-taken readings Reads'.Pre Reads'.Post
 
 abbrev pub Then1 : Type 0
-Then1 = Lts.Then1 (
-  Reads''''''.Asked,
-  Reads''''''.Learnt,
-  Reads''''.Asked,
-  Reads''''.Learnt,
-  Reads'''''''''.Asked,
-  Reads'''''''''.Learnt,
-  Reads''.Asked,
-  Reads''.Learnt,
-  Reads''''''''''.Asked,
-  Reads''''''''''.Learnt,
-  Reads'''''.Asked,
-  Reads'''''.Learnt,
-  Reads''''''''.Asked,
-  Reads''''''''.Learnt,
-  Reads'''''''.Asked,
-  Reads'''''''.Learnt,
-  Reads.Asked,
-  Reads.Learnt,
-  Reads'''.Asked,
-  Reads'''.Learnt,
-  Reads'''''''''''.Asked,
-  Reads'''''''''''.Learnt,
-) Reads'.Pre Reads'.Post
+Then1 = Lts.Then1 readings Reads'.Pre Reads'.Post
 
 abbrev pub After-pending-for : Type 0
-After-pending-for = Lts.After-pending-for (
-  Reads''''''.Asked,
-  Reads''''''.Learnt,
-  Reads''''.Asked,
-  Reads''''.Learnt,
-  Reads'''''''''.Asked,
-  Reads'''''''''.Learnt,
-  Reads''.Asked,
-  Reads''.Learnt,
-  Reads''''''''''.Asked,
-  Reads''''''''''.Learnt,
-  Reads'''''.Asked,
-  Reads'''''.Learnt,
-  Reads''''''''.Asked,
-  Reads''''''''.Learnt,
-  Reads'''''''.Asked,
-  Reads'''''''.Learnt,
-  Reads.Asked,
-  Reads.Learnt,
-  Reads'''.Asked,
-  Reads'''.Learnt,
-  Reads'''''''''''.Asked,
-  Reads'''''''''''.Learnt,
-) Reads'.Pre Reads'.Post
+After-pending-for = Lts.After-pending-for readings Reads'.Pre Reads'.Post
 
 abbrev pub After-put-pending-arg : Type 0
-After-put-pending-arg = Lts.After-put-pending-arg (
-  Reads''''''.Asked,
-  Reads''''''.Learnt,
-  Reads''''.Asked,
-  Reads''''.Learnt,
-  Reads'''''''''.Asked,
-  Reads'''''''''.Learnt,
-  Reads''.Asked,
-  Reads''.Learnt,
-  Reads''''''''''.Asked,
-  Reads''''''''''.Learnt,
-  Reads'''''.Asked,
-  Reads'''''.Learnt,
-  Reads''''''''.Asked,
-  Reads''''''''.Learnt,
-  Reads'''''''.Asked,
-  Reads'''''''.Learnt,
-  Reads.Asked,
-  Reads.Learnt,
-  Reads'''.Asked,
-  Reads'''.Learnt,
-  Reads'''''''''''.Asked,
-  Reads'''''''''''.Learnt,
-) Reads'.Pre Reads'.Post
+After-put-pending-arg = Lts.After-put-pending-arg readings Reads'.Pre Reads'.Post
 
 abbrev pub After-put-pending : Type 0
-After-put-pending = Lts.After-put-pending (
-  Reads''''''.Asked,
-  Reads''''''.Learnt,
-  Reads''''.Asked,
-  Reads''''.Learnt,
-  Reads'''''''''.Asked,
-  Reads'''''''''.Learnt,
-  Reads''.Asked,
-  Reads''.Learnt,
-  Reads''''''''''.Asked,
-  Reads''''''''''.Learnt,
-  Reads'''''.Asked,
-  Reads'''''.Learnt,
-  Reads''''''''.Asked,
-  Reads''''''''.Learnt,
-  Reads'''''''.Asked,
-  Reads'''''''.Learnt,
-  Reads.Asked,
-  Reads.Learnt,
-  Reads'''.Asked,
-  Reads'''.Learnt,
-  Reads'''''''''''.Asked,
-  Reads'''''''''''.Learnt,
-) Reads'.Pre Reads'.Post
+After-put-pending = Lts.After-put-pending readings Reads'.Pre Reads'.Post
 
 abbrev pub After-pending : Type 0
-After-pending = Lts.After-pending (
-  Reads''''''.Asked,
-  Reads''''''.Learnt,
-  Reads''''.Asked,
-  Reads''''.Learnt,
-  Reads'''''''''.Asked,
-  Reads'''''''''.Learnt,
-  Reads''.Asked,
-  Reads''.Learnt,
-  Reads''''''''''.Asked,
-  Reads''''''''''.Learnt,
-  Reads'''''.Asked,
-  Reads'''''.Learnt,
-  Reads''''''''.Asked,
-  Reads''''''''.Learnt,
-  Reads'''''''.Asked,
-  Reads'''''''.Learnt,
-  Reads.Asked,
-  Reads.Learnt,
-  Reads'''.Asked,
-  Reads'''.Learnt,
-  Reads'''''''''''.Asked,
-  Reads'''''''''''.Learnt,
-) Reads'.Pre Reads'.Post
+After-pending = Lts.After-pending readings Reads'.Pre Reads'.Post
 
 abbrev pub After-with-pending : Type 0
-After-with-pending = Lts.After-with-pending (
-  Reads''''''.Asked,
-  Reads''''''.Learnt,
-  Reads''''.Asked,
-  Reads''''.Learnt,
-  Reads'''''''''.Asked,
-  Reads'''''''''.Learnt,
-  Reads''.Asked,
-  Reads''.Learnt,
-  Reads''''''''''.Asked,
-  Reads''''''''''.Learnt,
-  Reads'''''.Asked,
-  Reads'''''.Learnt,
-  Reads''''''''.Asked,
-  Reads''''''''.Learnt,
-  Reads'''''''.Asked,
-  Reads'''''''.Learnt,
-  Reads.Asked,
-  Reads.Learnt,
-  Reads'''.Asked,
-  Reads'''.Learnt,
-  Reads'''''''''''.Asked,
-  Reads'''''''''''.Learnt,
-) Reads'.Pre Reads'.Post
+After-with-pending = Lts.After-with-pending readings Reads'.Pre Reads'.Post
 
 abbrev pub After-opened : Type 0
-After-opened = Lts.After-opened (
-  Reads''''''.Asked,
-  Reads''''''.Learnt,
-  Reads''''.Asked,
-  Reads''''.Learnt,
-  Reads'''''''''.Asked,
-  Reads'''''''''.Learnt,
-  Reads''.Asked,
-  Reads''.Learnt,
-  Reads''''''''''.Asked,
-  Reads''''''''''.Learnt,
-  Reads'''''.Asked,
-  Reads'''''.Learnt,
-  Reads''''''''.Asked,
-  Reads''''''''.Learnt,
-  Reads'''''''.Asked,
-  Reads'''''''.Learnt,
-  Reads.Asked,
-  Reads.Learnt,
-  Reads'''.Asked,
-  Reads'''.Learnt,
-  Reads'''''''''''.Asked,
-  Reads'''''''''''.Learnt,
-) Reads'.Pre Reads'.Post
+After-opened = Lts.After-opened readings Reads'.Pre Reads'.Post
 
 abbrev pub After-incoming-out : Type 0
-After-incoming-out = Lts.After-incoming-out (
-  Reads''''''.Asked,
-  Reads''''''.Learnt,
-  Reads''''.Asked,
-  Reads''''.Learnt,
-  Reads'''''''''.Asked,
-  Reads'''''''''.Learnt,
-  Reads''.Asked,
-  Reads''.Learnt,
-  Reads''''''''''.Asked,
-  Reads''''''''''.Learnt,
-  Reads'''''.Asked,
-  Reads'''''.Learnt,
-  Reads''''''''.Asked,
-  Reads''''''''.Learnt,
-  Reads'''''''.Asked,
-  Reads'''''''.Learnt,
-  Reads.Asked,
-  Reads.Learnt,
-  Reads'''.Asked,
-  Reads'''.Learnt,
-  Reads'''''''''''.Asked,
-  Reads'''''''''''.Learnt,
-) Reads'.Pre Reads'.Post
+After-incoming-out = Lts.After-incoming-out readings Reads'.Pre Reads'.Post
 
 abbrev pub After-incoming-for : Type 0
-After-incoming-for = Lts.After-incoming-for (
-  Reads''''''.Asked,
-  Reads''''''.Learnt,
-  Reads''''.Asked,
-  Reads''''.Learnt,
-  Reads'''''''''.Asked,
-  Reads'''''''''.Learnt,
-  Reads''.Asked,
-  Reads''.Learnt,
-  Reads''''''''''.Asked,
-  Reads''''''''''.Learnt,
-  Reads'''''.Asked,
-  Reads'''''.Learnt,
-  Reads''''''''.Asked,
-  Reads''''''''.Learnt,
-  Reads'''''''.Asked,
-  Reads'''''''.Learnt,
-  Reads.Asked,
-  Reads.Learnt,
-  Reads'''.Asked,
-  Reads'''.Learnt,
-  Reads'''''''''''.Asked,
-  Reads'''''''''''.Learnt,
-) Reads'.Pre Reads'.Post
+After-incoming-for = Lts.After-incoming-for readings Reads'.Pre Reads'.Post
 
 abbrev pub After-to-bytes : Type 0
-After-to-bytes = Lts.After-to-bytes (
-  Reads''''''.Asked,
-  Reads''''''.Learnt,
-  Reads''''.Asked,
-  Reads''''.Learnt,
-  Reads'''''''''.Asked,
-  Reads'''''''''.Learnt,
-  Reads''.Asked,
-  Reads''.Learnt,
-  Reads''''''''''.Asked,
-  Reads''''''''''.Learnt,
-  Reads'''''.Asked,
-  Reads'''''.Learnt,
-  Reads''''''''.Asked,
-  Reads''''''''.Learnt,
-  Reads'''''''.Asked,
-  Reads'''''''.Learnt,
-  Reads.Asked,
-  Reads.Learnt,
-  Reads'''.Asked,
-  Reads'''.Learnt,
-  Reads'''''''''''.Asked,
-  Reads'''''''''''.Learnt,
-) Reads'.Pre Reads'.Post
+After-to-bytes = Lts.After-to-bytes readings Reads'.Pre Reads'.Post
 
 abbrev pub After-send-arg : Type 0
-After-send-arg = Lts.After-send-arg (
-  Reads''''''.Asked,
-  Reads''''''.Learnt,
-  Reads''''.Asked,
-  Reads''''.Learnt,
-  Reads'''''''''.Asked,
-  Reads'''''''''.Learnt,
-  Reads''.Asked,
-  Reads''.Learnt,
-  Reads''''''''''.Asked,
-  Reads''''''''''.Learnt,
-  Reads'''''.Asked,
-  Reads'''''.Learnt,
-  Reads''''''''.Asked,
-  Reads''''''''.Learnt,
-  Reads'''''''.Asked,
-  Reads'''''''.Learnt,
-  Reads.Asked,
-  Reads.Learnt,
-  Reads'''.Asked,
-  Reads'''.Learnt,
-  Reads'''''''''''.Asked,
-  Reads'''''''''''.Learnt,
-) Reads'.Pre Reads'.Post
+After-send-arg = Lts.After-send-arg readings Reads'.Pre Reads'.Post
 
 abbrev pub After-send-arg2 : Type 0
-After-send-arg2 = Lts.After-send-arg2 (
-  Reads''''''.Asked,
-  Reads''''''.Learnt,
-  Reads''''.Asked,
-  Reads''''.Learnt,
-  Reads'''''''''.Asked,
-  Reads'''''''''.Learnt,
-  Reads''.Asked,
-  Reads''.Learnt,
-  Reads''''''''''.Asked,
-  Reads''''''''''.Learnt,
-  Reads'''''.Asked,
-  Reads'''''.Learnt,
-  Reads''''''''.Asked,
-  Reads''''''''.Learnt,
-  Reads'''''''.Asked,
-  Reads'''''''.Learnt,
-  Reads.Asked,
-  Reads.Learnt,
-  Reads'''.Asked,
-  Reads'''.Learnt,
-  Reads'''''''''''.Asked,
-  Reads'''''''''''.Learnt,
-) Reads'.Pre Reads'.Post
+After-send-arg2 = Lts.After-send-arg2 readings Reads'.Pre Reads'.Post
 
 abbrev pub After-bytes : Type 0
-After-bytes = Lts.After-bytes (
-  Reads''''''.Asked,
-  Reads''''''.Learnt,
-  Reads''''.Asked,
-  Reads''''.Learnt,
-  Reads'''''''''.Asked,
-  Reads'''''''''.Learnt,
-  Reads''.Asked,
-  Reads''.Learnt,
-  Reads''''''''''.Asked,
-  Reads''''''''''.Learnt,
-  Reads'''''.Asked,
-  Reads'''''.Learnt,
-  Reads''''''''.Asked,
-  Reads''''''''.Learnt,
-  Reads'''''''.Asked,
-  Reads'''''''.Learnt,
-  Reads.Asked,
-  Reads.Learnt,
-  Reads'''.Asked,
-  Reads'''.Learnt,
-  Reads'''''''''''.Asked,
-  Reads'''''''''''.Learnt,
-) Reads'.Pre Reads'.Post
+After-bytes = Lts.After-bytes readings Reads'.Pre Reads'.Post
 
 abbrev pub After-send : Type 0
-After-send = Lts.After-send (
-  Reads''''''.Asked,
-  Reads''''''.Learnt,
-  Reads''''.Asked,
-  Reads''''.Learnt,
-  Reads'''''''''.Asked,
-  Reads'''''''''.Learnt,
-  Reads''.Asked,
-  Reads''.Learnt,
-  Reads''''''''''.Asked,
-  Reads''''''''''.Learnt,
-  Reads'''''.Asked,
-  Reads'''''.Learnt,
-  Reads''''''''.Asked,
-  Reads''''''''.Learnt,
-  Reads'''''''.Asked,
-  Reads'''''''.Learnt,
-  Reads.Asked,
-  Reads.Learnt,
-  Reads'''.Asked,
-  Reads'''.Learnt,
-  Reads'''''''''''.Asked,
-  Reads'''''''''''.Learnt,
-) Reads'.Pre Reads'.Post
+After-send = Lts.After-send readings Reads'.Pre Reads'.Post
 
 abbrev pub After-inflight : Type 0
-After-inflight = Lts.After-inflight (
-  Reads''''''.Asked,
-  Reads''''''.Learnt,
-  Reads''''.Asked,
-  Reads''''.Learnt,
-  Reads'''''''''.Asked,
-  Reads'''''''''.Learnt,
-  Reads''.Asked,
-  Reads''.Learnt,
-  Reads''''''''''.Asked,
-  Reads''''''''''.Learnt,
-  Reads'''''.Asked,
-  Reads'''''.Learnt,
-  Reads''''''''.Asked,
-  Reads''''''''.Learnt,
-  Reads'''''''.Asked,
-  Reads'''''''.Learnt,
-  Reads.Asked,
-  Reads.Learnt,
-  Reads'''.Asked,
-  Reads'''.Learnt,
-  Reads'''''''''''.Asked,
-  Reads'''''''''''.Learnt,
-) Reads'.Pre Reads'.Post
+After-inflight = Lts.After-inflight readings Reads'.Pre Reads'.Post
 
 abbrev pub After-out : Type 0
-After-out = Lts.After-out (
-  Reads''''''.Asked,
-  Reads''''''.Learnt,
-  Reads''''.Asked,
-  Reads''''.Learnt,
-  Reads'''''''''.Asked,
-  Reads'''''''''.Learnt,
-  Reads''.Asked,
-  Reads''.Learnt,
-  Reads''''''''''.Asked,
-  Reads''''''''''.Learnt,
-  Reads'''''.Asked,
-  Reads'''''.Learnt,
-  Reads''''''''.Asked,
-  Reads''''''''.Learnt,
-  Reads'''''''.Asked,
-  Reads'''''''.Learnt,
-  Reads.Asked,
-  Reads.Learnt,
-  Reads'''.Asked,
-  Reads'''.Learnt,
-  Reads'''''''''''.Asked,
-  Reads'''''''''''.Learnt,
-) Reads'.Pre Reads'.Post
+After-out = Lts.After-out readings Reads'.Pre Reads'.Post
 
 abbrev pub After-slice-known2 : Type 0
-After-slice-known2 = Lts.After-slice-known2 (
-  Reads''''''.Asked,
-  Reads''''''.Learnt,
-  Reads''''.Asked,
-  Reads''''.Learnt,
-  Reads'''''''''.Asked,
-  Reads'''''''''.Learnt,
-  Reads''.Asked,
-  Reads''.Learnt,
-  Reads''''''''''.Asked,
-  Reads''''''''''.Learnt,
-  Reads'''''.Asked,
-  Reads'''''.Learnt,
-  Reads''''''''.Asked,
-  Reads''''''''.Learnt,
-  Reads'''''''.Asked,
-  Reads'''''''.Learnt,
-  Reads.Asked,
-  Reads.Learnt,
-  Reads'''.Asked,
-  Reads'''.Learnt,
-  Reads'''''''''''.Asked,
-  Reads'''''''''''.Learnt,
-) Reads'.Pre Reads'.Post
+After-slice-known2 = Lts.After-slice-known2 readings Reads'.Pre Reads'.Post
 
 abbrev pub Else1 : Type 0
-Else1 = Lts.Else1 (
-  Reads''''''.Asked,
-  Reads''''''.Learnt,
-  Reads''''.Asked,
-  Reads''''.Learnt,
-  Reads'''''''''.Asked,
-  Reads'''''''''.Learnt,
-  Reads''.Asked,
-  Reads''.Learnt,
-  Reads''''''''''.Asked,
-  Reads''''''''''.Learnt,
-  Reads'''''.Asked,
-  Reads'''''.Learnt,
-  Reads''''''''.Asked,
-  Reads''''''''.Learnt,
-  Reads'''''''.Asked,
-  Reads'''''''.Learnt,
-  Reads.Asked,
-  Reads.Learnt,
-  Reads'''.Asked,
-  Reads'''.Learnt,
-  Reads'''''''''''.Asked,
-  Reads'''''''''''.Learnt,
-) Reads'.Pre Reads'.Post
+Else1 = Lts.Else1 readings Reads'.Pre Reads'.Post
 
 abbrev pub After-refused : Type 0
-After-refused = Lts.After-refused (
-  Reads''''''.Asked,
-  Reads''''''.Learnt,
-  Reads''''.Asked,
-  Reads''''.Learnt,
-  Reads'''''''''.Asked,
-  Reads'''''''''.Learnt,
-  Reads''.Asked,
-  Reads''.Learnt,
-  Reads''''''''''.Asked,
-  Reads''''''''''.Learnt,
-  Reads'''''.Asked,
-  Reads'''''.Learnt,
-  Reads''''''''.Asked,
-  Reads''''''''.Learnt,
-  Reads'''''''.Asked,
-  Reads'''''''.Learnt,
-  Reads.Asked,
-  Reads.Learnt,
-  Reads'''.Asked,
-  Reads'''.Learnt,
-  Reads'''''''''''.Asked,
-  Reads'''''''''''.Learnt,
-) Reads'.Pre Reads'.Post
+After-refused = Lts.After-refused readings Reads'.Pre Reads'.Post
 
 abbrev pub Need-usage-answer-requires : Type 0
-Need-usage-answer-requires = Lts.Need-usage-answer-requires (
-  Reads''''''.Asked,
-  Reads''''''.Learnt,
-  Reads''''.Asked,
-  Reads''''.Learnt,
-  Reads'''''''''.Asked,
-  Reads'''''''''.Learnt,
-  Reads''.Asked,
-  Reads''.Learnt,
-  Reads''''''''''.Asked,
-  Reads''''''''''.Learnt,
-  Reads'''''.Asked,
-  Reads'''''.Learnt,
-  Reads''''''''.Asked,
-  Reads''''''''.Learnt,
-  Reads'''''''.Asked,
-  Reads'''''''.Learnt,
-  Reads.Asked,
-  Reads.Learnt,
-  Reads'''.Asked,
-  Reads'''.Learnt,
-  Reads'''''''''''.Asked,
-  Reads'''''''''''.Learnt,
-) Reads'.Pre Reads'.Post
+Need-usage-answer-requires = Lts.Need-usage-answer-requires readings Reads'.Pre Reads'.Post
 
 abbrev pub Need-is-taken-requires : Type 0
-Need-is-taken-requires = Lts.Need-is-taken-requires (
-  Reads''''''.Asked,
-  Reads''''''.Learnt,
-  Reads''''.Asked,
-  Reads''''.Learnt,
-  Reads'''''''''.Asked,
-  Reads'''''''''.Learnt,
-  Reads''.Asked,
-  Reads''.Learnt,
-  Reads''''''''''.Asked,
-  Reads''''''''''.Learnt,
-  Reads'''''.Asked,
-  Reads'''''.Learnt,
-  Reads''''''''.Asked,
-  Reads''''''''.Learnt,
-  Reads'''''''.Asked,
-  Reads'''''''.Learnt,
-  Reads.Asked,
-  Reads.Learnt,
-  Reads'''.Asked,
-  Reads'''.Learnt,
-  Reads'''''''''''.Asked,
-  Reads'''''''''''.Learnt,
-) Reads'.Pre Reads'.Post
+Need-is-taken-requires = Lts.Need-is-taken-requires readings Reads'.Pre Reads'.Post
 
 abbrev pub Need-pending-for-requires : Type 0
-Need-pending-for-requires = Lts.Need-pending-for-requires (
-  Reads''''''.Asked,
-  Reads''''''.Learnt,
-  Reads''''.Asked,
-  Reads''''.Learnt,
-  Reads'''''''''.Asked,
-  Reads'''''''''.Learnt,
-  Reads''.Asked,
-  Reads''.Learnt,
-  Reads''''''''''.Asked,
-  Reads''''''''''.Learnt,
-  Reads'''''.Asked,
-  Reads'''''.Learnt,
-  Reads''''''''.Asked,
-  Reads''''''''.Learnt,
-  Reads'''''''.Asked,
-  Reads'''''''.Learnt,
-  Reads.Asked,
-  Reads.Learnt,
-  Reads'''.Asked,
-  Reads'''.Learnt,
-  Reads'''''''''''.Asked,
-  Reads'''''''''''.Learnt,
-) Reads'.Pre Reads'.Post
+Need-pending-for-requires = Lts.Need-pending-for-requires readings Reads'.Pre Reads'.Post
 
 abbrev pub Need-put-pending-requires : Type 0
-Need-put-pending-requires = Lts.Need-put-pending-requires (
-  Reads''''''.Asked,
-  Reads''''''.Learnt,
-  Reads''''.Asked,
-  Reads''''.Learnt,
-  Reads'''''''''.Asked,
-  Reads'''''''''.Learnt,
-  Reads''.Asked,
-  Reads''.Learnt,
-  Reads''''''''''.Asked,
-  Reads''''''''''.Learnt,
-  Reads'''''.Asked,
-  Reads'''''.Learnt,
-  Reads''''''''.Asked,
-  Reads''''''''.Learnt,
-  Reads'''''''.Asked,
-  Reads'''''''.Learnt,
-  Reads.Asked,
-  Reads.Learnt,
-  Reads'''.Asked,
-  Reads'''.Learnt,
-  Reads'''''''''''.Asked,
-  Reads'''''''''''.Learnt,
-) Reads'.Pre Reads'.Post
+Need-put-pending-requires = Lts.Need-put-pending-requires readings Reads'.Pre Reads'.Post
 
 abbrev pub Need-with-pending-requires : Type 0
-Need-with-pending-requires = Lts.Need-with-pending-requires (
-  Reads''''''.Asked,
-  Reads''''''.Learnt,
-  Reads''''.Asked,
-  Reads''''.Learnt,
-  Reads'''''''''.Asked,
-  Reads'''''''''.Learnt,
-  Reads''.Asked,
-  Reads''.Learnt,
-  Reads''''''''''.Asked,
-  Reads''''''''''.Learnt,
-  Reads'''''.Asked,
-  Reads'''''.Learnt,
-  Reads''''''''.Asked,
-  Reads''''''''.Learnt,
-  Reads'''''''.Asked,
-  Reads'''''''.Learnt,
-  Reads.Asked,
-  Reads.Learnt,
-  Reads'''.Asked,
-  Reads'''.Learnt,
-  Reads'''''''''''.Asked,
-  Reads'''''''''''.Learnt,
-) Reads'.Pre Reads'.Post
+Need-with-pending-requires = Lts.Need-with-pending-requires readings Reads'.Pre Reads'.Post
 
 abbrev pub Need-opened-requires : Type 0
-Need-opened-requires = Lts.Need-opened-requires (
-  Reads''''''.Asked,
-  Reads''''''.Learnt,
-  Reads''''.Asked,
-  Reads''''.Learnt,
-  Reads'''''''''.Asked,
-  Reads'''''''''.Learnt,
-  Reads''.Asked,
-  Reads''.Learnt,
-  Reads''''''''''.Asked,
-  Reads''''''''''.Learnt,
-  Reads'''''.Asked,
-  Reads'''''.Learnt,
-  Reads''''''''.Asked,
-  Reads''''''''.Learnt,
-  Reads'''''''.Asked,
-  Reads'''''''.Learnt,
-  Reads.Asked,
-  Reads.Learnt,
-  Reads'''.Asked,
-  Reads'''.Learnt,
-  Reads'''''''''''.Asked,
-  Reads'''''''''''.Learnt,
-) Reads'.Pre Reads'.Post
+Need-opened-requires = Lts.Need-opened-requires readings Reads'.Pre Reads'.Post
 
 abbrev pub Need-incoming-out-requires : Type 0
-Need-incoming-out-requires = Lts.Need-incoming-out-requires (
-  Reads''''''.Asked,
-  Reads''''''.Learnt,
-  Reads''''.Asked,
-  Reads''''.Learnt,
-  Reads'''''''''.Asked,
-  Reads'''''''''.Learnt,
-  Reads''.Asked,
-  Reads''.Learnt,
-  Reads''''''''''.Asked,
-  Reads''''''''''.Learnt,
-  Reads'''''.Asked,
-  Reads'''''.Learnt,
-  Reads''''''''.Asked,
-  Reads''''''''.Learnt,
-  Reads'''''''.Asked,
-  Reads'''''''.Learnt,
-  Reads.Asked,
-  Reads.Learnt,
-  Reads'''.Asked,
-  Reads'''.Learnt,
-  Reads'''''''''''.Asked,
-  Reads'''''''''''.Learnt,
-) Reads'.Pre Reads'.Post
+Need-incoming-out-requires = Lts.Need-incoming-out-requires readings Reads'.Pre Reads'.Post
 
 abbrev pub Need-incoming-for-requires : Type 0
-Need-incoming-for-requires = Lts.Need-incoming-for-requires (
-  Reads''''''.Asked,
-  Reads''''''.Learnt,
-  Reads''''.Asked,
-  Reads''''.Learnt,
-  Reads'''''''''.Asked,
-  Reads'''''''''.Learnt,
-  Reads''.Asked,
-  Reads''.Learnt,
-  Reads''''''''''.Asked,
-  Reads''''''''''.Learnt,
-  Reads'''''.Asked,
-  Reads'''''.Learnt,
-  Reads''''''''.Asked,
-  Reads''''''''.Learnt,
-  Reads'''''''.Asked,
-  Reads'''''''.Learnt,
-  Reads.Asked,
-  Reads.Learnt,
-  Reads'''.Asked,
-  Reads'''.Learnt,
-  Reads'''''''''''.Asked,
-  Reads'''''''''''.Learnt,
-) Reads'.Pre Reads'.Post
+Need-incoming-for-requires = Lts.Need-incoming-for-requires readings Reads'.Pre Reads'.Post
 
 abbrev pub Need-to-bytes-requires : Type 0
-Need-to-bytes-requires = Lts.Need-to-bytes-requires (
-  Reads''''''.Asked,
-  Reads''''''.Learnt,
-  Reads''''.Asked,
-  Reads''''.Learnt,
-  Reads'''''''''.Asked,
-  Reads'''''''''.Learnt,
-  Reads''.Asked,
-  Reads''.Learnt,
-  Reads''''''''''.Asked,
-  Reads''''''''''.Learnt,
-  Reads'''''.Asked,
-  Reads'''''.Learnt,
-  Reads''''''''.Asked,
-  Reads''''''''.Learnt,
-  Reads'''''''.Asked,
-  Reads'''''''.Learnt,
-  Reads.Asked,
-  Reads.Learnt,
-  Reads'''.Asked,
-  Reads'''.Learnt,
-  Reads'''''''''''.Asked,
-  Reads'''''''''''.Learnt,
-) Reads'.Pre Reads'.Post
+Need-to-bytes-requires = Lts.Need-to-bytes-requires readings Reads'.Pre Reads'.Post
 
 abbrev pub Need-slice-aggregate-send : Type 0
-Need-slice-aggregate-send = Lts.Need-slice-aggregate-send (
-  Reads''''''.Asked,
-  Reads''''''.Learnt,
-  Reads''''.Asked,
-  Reads''''.Learnt,
-  Reads'''''''''.Asked,
-  Reads'''''''''.Learnt,
-  Reads''.Asked,
-  Reads''.Learnt,
-  Reads''''''''''.Asked,
-  Reads''''''''''.Learnt,
-  Reads'''''.Asked,
-  Reads'''''.Learnt,
-  Reads''''''''.Asked,
-  Reads''''''''.Learnt,
-  Reads'''''''.Asked,
-  Reads'''''''.Learnt,
-  Reads.Asked,
-  Reads.Learnt,
-  Reads'''.Asked,
-  Reads'''.Learnt,
-  Reads'''''''''''.Asked,
-  Reads'''''''''''.Learnt,
-) Reads'.Pre Reads'.Post
+Need-slice-aggregate-send = Lts.Need-slice-aggregate-send readings Reads'.Pre Reads'.Post
 
 abbrev pub Need-send-requires : Type 0
-Need-send-requires = Lts.Need-send-requires (
-  Reads''''''.Asked,
-  Reads''''''.Learnt,
-  Reads''''.Asked,
-  Reads''''.Learnt,
-  Reads'''''''''.Asked,
-  Reads'''''''''.Learnt,
-  Reads''.Asked,
-  Reads''.Learnt,
-  Reads''''''''''.Asked,
-  Reads''''''''''.Learnt,
-  Reads'''''.Asked,
-  Reads'''''.Learnt,
-  Reads''''''''.Asked,
-  Reads''''''''.Learnt,
-  Reads'''''''.Asked,
-  Reads'''''''.Learnt,
-  Reads.Asked,
-  Reads.Learnt,
-  Reads'''.Asked,
-  Reads'''.Learnt,
-  Reads'''''''''''.Asked,
-  Reads'''''''''''.Learnt,
-) Reads'.Pre Reads'.Post
+Need-send-requires = Lts.Need-send-requires readings Reads'.Pre Reads'.Post
 
 abbrev pub Need-same-length : Type 0
-Need-same-length = Lts.Need-same-length (
-  Reads''''''.Asked,
-  Reads''''''.Learnt,
-  Reads''''.Asked,
-  Reads''''.Learnt,
-  Reads'''''''''.Asked,
-  Reads'''''''''.Learnt,
-  Reads''.Asked,
-  Reads''.Learnt,
-  Reads''''''''''.Asked,
-  Reads''''''''''.Learnt,
-  Reads'''''.Asked,
-  Reads'''''.Learnt,
-  Reads''''''''.Asked,
-  Reads''''''''.Learnt,
-  Reads'''''''.Asked,
-  Reads'''''''.Learnt,
-  Reads.Asked,
-  Reads.Learnt,
-  Reads'''.Asked,
-  Reads'''.Learnt,
-  Reads'''''''''''.Asked,
-  Reads'''''''''''.Learnt,
-) Reads'.Pre Reads'.Post
+Need-same-length = Lts.Need-same-length readings Reads'.Pre Reads'.Post
 
 abbrev pub Need-same-length-2 : Type 0
-Need-same-length-2 = Lts.Need-same-length-2 (
-  Reads''''''.Asked,
-  Reads''''''.Learnt,
-  Reads''''.Asked,
-  Reads''''.Learnt,
-  Reads'''''''''.Asked,
-  Reads'''''''''.Learnt,
-  Reads''.Asked,
-  Reads''.Learnt,
-  Reads''''''''''.Asked,
-  Reads''''''''''.Learnt,
-  Reads'''''.Asked,
-  Reads'''''.Learnt,
-  Reads''''''''.Asked,
-  Reads''''''''.Learnt,
-  Reads'''''''.Asked,
-  Reads'''''''.Learnt,
-  Reads.Asked,
-  Reads.Learnt,
-  Reads'''.Asked,
-  Reads'''.Learnt,
-  Reads'''''''''''.Asked,
-  Reads'''''''''''.Learnt,
-) Reads'.Pre Reads'.Post
+Need-same-length-2 = Lts.Need-same-length-2 readings Reads'.Pre Reads'.Post
 
 abbrev pub Need-same-length-3 : Type 0
-Need-same-length-3 = Lts.Need-same-length-3 (
-  Reads''''''.Asked,
-  Reads''''''.Learnt,
-  Reads''''.Asked,
-  Reads''''.Learnt,
-  Reads'''''''''.Asked,
-  Reads'''''''''.Learnt,
-  Reads''.Asked,
-  Reads''.Learnt,
-  Reads''''''''''.Asked,
-  Reads''''''''''.Learnt,
-  Reads'''''.Asked,
-  Reads'''''.Learnt,
-  Reads''''''''.Asked,
-  Reads''''''''.Learnt,
-  Reads'''''''.Asked,
-  Reads'''''''.Learnt,
-  Reads.Asked,
-  Reads.Learnt,
-  Reads'''.Asked,
-  Reads'''.Learnt,
-  Reads'''''''''''.Asked,
-  Reads'''''''''''.Learnt,
-) Reads'.Pre Reads'.Post
+Need-same-length-3 = Lts.Need-same-length-3 readings Reads'.Pre Reads'.Post
 
 abbrev pub Need-returns : Type 0
-Need-returns = Lts.Need-returns (
-  Reads''''''.Asked,
-  Reads''''''.Learnt,
-  Reads''''.Asked,
-  Reads''''.Learnt,
-  Reads'''''''''.Asked,
-  Reads'''''''''.Learnt,
-  Reads''.Asked,
-  Reads''.Learnt,
-  Reads''''''''''.Asked,
-  Reads''''''''''.Learnt,
-  Reads'''''.Asked,
-  Reads'''''.Learnt,
-  Reads''''''''.Asked,
-  Reads''''''''.Learnt,
-  Reads'''''''.Asked,
-  Reads'''''''.Learnt,
-  Reads.Asked,
-  Reads.Learnt,
-  Reads'''.Asked,
-  Reads'''.Learnt,
-  Reads'''''''''''.Asked,
-  Reads'''''''''''.Learnt,
-) Reads'.Pre Reads'.Post
+Need-returns = Lts.Need-returns readings Reads'.Pre Reads'.Post
 
 abbrev pub Need-refused-requires : Type 0
-Need-refused-requires = Lts.Need-refused-requires (
-  Reads''''''.Asked,
-  Reads''''''.Learnt,
-  Reads''''.Asked,
-  Reads''''.Learnt,
-  Reads'''''''''.Asked,
-  Reads'''''''''.Learnt,
-  Reads''.Asked,
-  Reads''.Learnt,
-  Reads''''''''''.Asked,
-  Reads''''''''''.Learnt,
-  Reads'''''.Asked,
-  Reads'''''.Learnt,
-  Reads''''''''.Asked,
-  Reads''''''''.Learnt,
-  Reads'''''''.Asked,
-  Reads'''''''.Learnt,
-  Reads.Asked,
-  Reads.Learnt,
-  Reads'''.Asked,
-  Reads'''.Learnt,
-  Reads'''''''''''.Asked,
-  Reads'''''''''''.Learnt,
-) Reads'.Pre Reads'.Post
+Need-refused-requires = Lts.Need-refused-requires readings Reads'.Pre Reads'.Post
 
 abbrev pub Need-returns-2 : Type 0
-Need-returns-2 = Lts.Need-returns-2 (
-  Reads''''''.Asked,
-  Reads''''''.Learnt,
-  Reads''''.Asked,
-  Reads''''.Learnt,
-  Reads'''''''''.Asked,
-  Reads'''''''''.Learnt,
-  Reads''.Asked,
-  Reads''.Learnt,
-  Reads''''''''''.Asked,
-  Reads''''''''''.Learnt,
-  Reads'''''.Asked,
-  Reads'''''.Learnt,
-  Reads''''''''.Asked,
-  Reads''''''''.Learnt,
-  Reads'''''''.Asked,
-  Reads'''''''.Learnt,
-  Reads.Asked,
-  Reads.Learnt,
-  Reads'''.Asked,
-  Reads'''.Learnt,
-  Reads'''''''''''.Asked,
-  Reads'''''''''''.Learnt,
-) Reads'.Pre Reads'.Post
+Need-returns-2 = Lts.Need-returns-2 readings Reads'.Pre Reads'.Post
 
 module _ {M : Type 1} where
-  pub spec : (answer : Need-usage-answer-requires) → (answer : Need-is-taken-requires) → (answer : Need-pending-for-requires) → (answer :
-      Need-put-pending-requires) → (answer : Need-with-pending-requires) → (answer : Need-opened-requires) → (answer : Need-incoming-out-requires) →
-      (answer : Need-incoming-for-requires) → (answer : Need-to-bytes-requires) → (answer : Need-slice-aggregate-send) → (answer : Need-send-requires)
-      → (answer : Need-same-length) → (answer : Need-same-length-2) → (answer : Need-same-length-3) → (answer : Need-returns) → (answer :
-      Need-refused-requires) → (answer : Need-returns-2) → Lts.Closed (
-        Reads''''''.Asked,
-        Reads''''''.Learnt,
-        Reads''''.Asked,
-        Reads''''.Learnt,
-        Reads'''''''''.Asked,
-        Reads'''''''''.Learnt,
-        Reads''.Asked,
-        Reads''.Learnt,
-        Reads''''''''''.Asked,
-        Reads''''''''''.Learnt,
-        Reads'''''.Asked,
-        Reads'''''.Learnt,
-        Reads''''''''.Asked,
-        Reads''''''''.Learnt,
-        Reads'''''''.Asked,
-        Reads'''''''.Learnt,
-        Reads.Asked,
-        Reads.Learnt,
-        Reads'''.Asked,
-        Reads'''.Learnt,
-        Reads'''''''''''.Asked,
-        Reads'''''''''''.Learnt,
-      ) Reads'.Pre Reads'.Post M
-  spec = λ answer answer' answer'' answer'3 answer'4 answer'5 answer'6 answer'7 answer'8 answer'9 answer'10 answer'11 answer'12 answer'13 answer'14
-      answer'15 answer'16. Lts.spec (
-        Reads''''''.Asked,
-        Reads''''''.Learnt,
-        Reads''''.Asked,
-        Reads''''.Learnt,
-        Reads'''''''''.Asked,
-        Reads'''''''''.Learnt,
-        Reads''.Asked,
-        Reads''.Learnt,
-        Reads''''''''''.Asked,
-        Reads''''''''''.Learnt,
-        Reads'''''.Asked,
-        Reads'''''.Learnt,
-        Reads''''''''.Asked,
-        Reads''''''''.Learnt,
-        Reads'''''''.Asked,
-        Reads'''''''.Learnt,
-        Reads.Asked,
-        Reads.Learnt,
-        Reads'''.Asked,
-        Reads'''.Learnt,
-        Reads'''''''''''.Asked,
-        Reads'''''''''''.Learnt,
-      ) Reads'.Pre Reads'.Post answer answer' answer'' answer'3 answer'4 answer'5 answer'6 answer'7
-      answer'8 answer'9 answer'10 answer'11 answer'12 answer'13 answer'14 answer'15 answer'16
+  pub spec : (answer : Need-usage-answer-requires) → (answer : Need-is-taken-requires) →
+      (answer : Need-pending-for-requires) → (answer : Need-put-pending-requires) →
+      (answer : Need-with-pending-requires) → (answer : Need-opened-requires) → (answer : Need-incoming-out-requires) →
+      (answer : Need-incoming-for-requires) → (answer : Need-to-bytes-requires) → (answer : Need-slice-aggregate-send)
+      → (answer : Need-send-requires) → (answer : Need-same-length) → (answer : Need-same-length-2) →
+      (answer : Need-same-length-3) → (answer : Need-returns) → (answer : Need-refused-requires) →
+      (answer : Need-returns-2) → Lts.Closed readings Reads'.Pre Reads'.Post M
+  spec = λ answer answer' answer'' answer'3 answer'4 answer'5 answer'6 answer'7 answer'8 answer'9 answer'10 answer'11
+      answer'12 answer'13 answer'14 answer'15 answer'16. Lts.spec readings Reads'.Pre Reads'.Post answer answer'
+      answer'' answer'3 answer'4 answer'5 answer'6 answer'7 answer'8 answer'9 answer'10 answer'11 answer'12 answer'13
+      answer'14 answer'15 answer'16
 
-  pub close : Lts.Closed (
-    Reads''''''.Asked,
-    Reads''''''.Learnt,
-    Reads''''.Asked,
-    Reads''''.Learnt,
-    Reads'''''''''.Asked,
-    Reads'''''''''.Learnt,
-    Reads''.Asked,
-    Reads''.Learnt,
-    Reads''''''''''.Asked,
-    Reads''''''''''.Learnt,
-    Reads'''''.Asked,
-    Reads'''''.Learnt,
-    Reads''''''''.Asked,
-    Reads''''''''.Learnt,
-    Reads'''''''.Asked,
-    Reads'''''''.Learnt,
-    Reads.Asked,
-    Reads.Learnt,
-    Reads'''.Asked,
-    Reads'''.Learnt,
-    Reads'''''''''''.Asked,
-    Reads'''''''''''.Learnt,
-  ) Reads'.Pre Reads'.Post M → Statement.statement M
+  pub close : Lts.Closed readings Reads'.Pre Reads'.Post M → Statement.statement M
   unfolding Code.routine Running.tablesOf
-  close = λ closed 𝓤 H 𝓜 𝓖 𝓡. Written.close 3 Kinds.ps Kinds.r Reads'.Ghost Reads'.requires Reads'.ensures Reads'.pre-read Reads'.Pinned Reads'.Owned
-      Reads'.post-read record { M = M; 𝓤 = 𝓤; H = H; 𝓜 = 𝓜; 𝓖 = 𝓖; 𝓡 = 𝓡 } Code.env Key.name Code.function (Code.unfolded 𝓤 H 𝓜 𝓡) (λ κs a g. tt) (λ
-      κs. Reads'.owns κs record { M = M; 𝓤 = 𝓤; H = H; 𝓜 = 𝓜; 𝓖 = 𝓖; 𝓡 = 𝓡 }) (Reads'.passes record { M = M; 𝓤 = 𝓤; H = H; 𝓜 = 𝓜; 𝓖 = 𝓖; 𝓡 = 𝓡 }) λ g.
-      closed 𝓤 H (𝓖 .A) (Running.givenOf 𝓤 H 𝓜 𝓖) (Run.Over 𝓤 H 𝓜 𝓖 𝓡 Code.env) (Reads''''''.known record { M = M; 𝓤 = 𝓤; H = H; 𝓜 = 𝓜; 𝓖 = 𝓖; 𝓡 = 𝓡 }
-      Code.env Symbol''''.name Symbol''''.routine Code.calls-hnsr-circuit·ledger·usage-answer (Met''''.met 𝓤 H 𝓜 𝓖 𝓡)) (Reads''''.known record {
-        M =
-            M;
-        𝓤 = 𝓤;
-        H = H;
-        𝓜 = 𝓜;
-        𝓖 = 𝓖;
-        𝓡 = 𝓡;
-      } Code.env Symbol'.name Symbol'.routine Code.calls-hnsr-circuit·answer·is-taken (Met'.met 𝓤 H 𝓜 𝓖 𝓡))
-      (Reads'''''''''.known record { M = M; 𝓤 = 𝓤; H = H; 𝓜 = 𝓜; 𝓖 = 𝓖; 𝓡 = 𝓡 } Code.env Symbol'''''''.name Symbol'''''''.routine
-      Code.calls-hnsr-circuit·open·pending-for (Met'''''''.met 𝓤 H 𝓜 𝓖 𝓡)) (Reads''.known record { M = M; 𝓤 = 𝓤; H = H; 𝓜 = 𝓜; 𝓖 = 𝓖; 𝓡 = 𝓡 } Code.env
-      Symbol''.name Symbol''.routine Code.calls-hnsr-circuit·handle-open·put-pending (Met''.met 𝓤 H 𝓜 𝓖 𝓡)) (Reads''''''''''.known record {
-        M = M;
-        𝓤 =
-            𝓤;
-        H = H;
-        𝓜 = 𝓜;
-        𝓖 = 𝓖;
-        𝓡 = 𝓡;
-      } Code.env Symbol''''''''.name Symbol''''''''.routine Code.calls-hnsr-circuit·places·with-pending (Met''''''''.met
-      𝓤 H 𝓜 𝓖 𝓡)) (Reads'''''.known record { M = M; 𝓤 = 𝓤; H = H; 𝓜 = 𝓜; 𝓖 = 𝓖; 𝓡 = 𝓡 } Code.env Symbol'''.name Symbol'''.routine
-      Code.calls-hnsr-circuit·header·opened (Met'''.met 𝓤 H 𝓜 𝓖 𝓡)) (Reads''''''''.known record { M = M; 𝓤 = 𝓤; H = H; 𝓜 = 𝓜; 𝓖 = 𝓖; 𝓡 = 𝓡 } Code.env
-      Symbol''''''.name Symbol''''''.routine Code.calls-hnsr-circuit·open·incoming-out (Met''''''.met 𝓤 H 𝓜 𝓖 𝓡)) (Reads'''''''.known record {
-        M = M;
-        𝓤 = 𝓤;
-        H = H;
-        𝓜 = 𝓜;
-        𝓖 = 𝓖;
-        𝓡 = 𝓡;
-      } Code.env Symbol'''''.name Symbol'''''.routine Code.calls-hnsr-circuit·open·incoming-for (Met'''''.met 𝓤 H 𝓜
-      𝓖 𝓡)) (Reads.known record { M = M; 𝓤 = 𝓤; H = H; 𝓜 = 𝓜; 𝓖 = 𝓖; 𝓡 = 𝓡 } Code.env Symbol.name Symbol.routine
-      Code.calls-hnsr-body·incoming-body·IncomingBody·to-bytes (Met.met 𝓤 H 𝓜 𝓖 𝓡)) (Reads'''.known record {
-        M = M;
-        𝓤 = 𝓤;
-        H = H;
-        𝓜 = 𝓜;
-        𝓖 = 𝓖;
-        𝓡 = 𝓡;
-      } Code.env Symbol'''''''''.name Symbol'''''''''.routine Code.calls-hnsr-circuit·queue·send (Met'''''''''.met 𝓤 H 𝓜 𝓖 𝓡)) (Reads'''''''''''.known
+  close = λ closed 𝓤 H 𝓜 𝓖 𝓡. Written.close 3 Kinds.ps Kinds.r Reads'.Ghost Reads'.requires Reads'.ensures
+      Reads'.pre-read Reads'.Pinned Reads'.Owned Reads'.post-read record { M = M; 𝓤 = 𝓤; H = H; 𝓜 = 𝓜; 𝓖 = 𝓖; 𝓡 = 𝓡 }
+      Code.env Key.name Code.function (Code.unfolded 𝓤 H 𝓜 𝓡) (λ κs a g. tt) (λ κs. Reads'.owns κs
+      record { M = M; 𝓤 = 𝓤; H = H; 𝓜 = 𝓜; 𝓖 = 𝓖; 𝓡 = 𝓡 }) (Reads'.passes
+      record { M = M; 𝓤 = 𝓤; H = H; 𝓜 = 𝓜; 𝓖 = 𝓖; 𝓡 = 𝓡 }) λ g. closed 𝓤 H (𝓖 .A) (Running.givenOf 𝓤 H 𝓜 𝓖)
+      (Run.Over 𝓤 H 𝓜 𝓖 𝓡 Code.env) (Reads''''''.known record { M = M; 𝓤 = 𝓤; H = H; 𝓜 = 𝓜; 𝓖 = 𝓖; 𝓡 = 𝓡 } Code.env
+      Symbol''''.name Symbol''''.routine Code.calls-hnsr-circuit·ledger·usage-answer (Met''''.met 𝓤 H 𝓜 𝓖 𝓡)) (Reads''''.known
+      record { M = M; 𝓤 = 𝓤; H = H; 𝓜 = 𝓜; 𝓖 = 𝓖; 𝓡 = 𝓡 } Code.env Symbol'.name Symbol'.routine
+      Code.calls-hnsr-circuit·answer·is-taken (Met'.met 𝓤 H 𝓜 𝓖 𝓡)) (Reads'''''''''.known
+      record { M = M; 𝓤 = 𝓤; H = H; 𝓜 = 𝓜; 𝓖 = 𝓖; 𝓡 = 𝓡 } Code.env Symbol'''''''.name Symbol'''''''.routine
+      Code.calls-hnsr-circuit·open·pending-for (Met'''''''.met 𝓤 H 𝓜 𝓖 𝓡)) (Reads''.known
+      record { M = M; 𝓤 = 𝓤; H = H; 𝓜 = 𝓜; 𝓖 = 𝓖; 𝓡 = 𝓡 } Code.env Symbol''.name Symbol''.routine
+      Code.calls-hnsr-circuit·handle-open·put-pending (Met''.met 𝓤 H 𝓜 𝓖 𝓡)) (Reads''''''''''.known
+      record { M = M; 𝓤 = 𝓤; H = H; 𝓜 = 𝓜; 𝓖 = 𝓖; 𝓡 = 𝓡 } Code.env Symbol''''''''.name Symbol''''''''.routine
+      Code.calls-hnsr-circuit·places·with-pending (Met''''''''.met 𝓤 H 𝓜 𝓖 𝓡)) (Reads'''''.known
+      record { M = M; 𝓤 = 𝓤; H = H; 𝓜 = 𝓜; 𝓖 = 𝓖; 𝓡 = 𝓡 } Code.env Symbol'''.name Symbol'''.routine
+      Code.calls-hnsr-circuit·header·opened (Met'''.met 𝓤 H 𝓜 𝓖 𝓡)) (Reads''''''''.known
+      record { M = M; 𝓤 = 𝓤; H = H; 𝓜 = 𝓜; 𝓖 = 𝓖; 𝓡 = 𝓡 } Code.env Symbol''''''.name Symbol''''''.routine
+      Code.calls-hnsr-circuit·open·incoming-out (Met''''''.met 𝓤 H 𝓜 𝓖 𝓡)) (Reads'''''''.known
+      record { M = M; 𝓤 = 𝓤; H = H; 𝓜 = 𝓜; 𝓖 = 𝓖; 𝓡 = 𝓡 } Code.env Symbol'''''.name Symbol'''''.routine
+      Code.calls-hnsr-circuit·open·incoming-for (Met'''''.met 𝓤 H 𝓜 𝓖 𝓡)) (Reads.known
+      record { M = M; 𝓤 = 𝓤; H = H; 𝓜 = 𝓜; 𝓖 = 𝓖; 𝓡 = 𝓡 } Code.env Symbol.name Symbol.routine
+      Code.calls-hnsr-body·incoming-body·IncomingBody·to-bytes (Met.met 𝓤 H 𝓜 𝓖 𝓡)) (Reads'''.known
+      record { M = M; 𝓤 = 𝓤; H = H; 𝓜 = 𝓜; 𝓖 = 𝓖; 𝓡 = 𝓡 } Code.env Symbol'''''''''.name Symbol'''''''''.routine
+      Code.calls-hnsr-circuit·queue·send (Met'''''''''.met 𝓤 H 𝓜 𝓖 𝓡)) (Reads'''''''''''.known
       record { M = M; 𝓤 = 𝓤; H = H; 𝓜 = 𝓜; 𝓖 = 𝓖; 𝓡 = 𝓡 } Code.env Symbol''''''''''.name Symbol''''''''''.routine
       Code.calls-hnsr-circuit·revoking-calls·refused (Met''''''''''.met 𝓤 H 𝓜 𝓖 𝓡))

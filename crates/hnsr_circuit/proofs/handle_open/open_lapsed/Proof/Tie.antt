@@ -33,8 +33,8 @@ use borrow.Fn.Run
 use borrow.Fn.Written
 use contract.Running
 
-abbrev pub Start : Type 0
-Start = Lts.Start (
+abbrev pub readings : Lts.Claims
+readings = (
   Reads''''.Asked,
   Reads''''.Learnt,
   Reads'''''.Asked,
@@ -51,863 +51,156 @@ Start = Lts.Start (
   Reads''.Learnt,
   Reads''''''''.Asked,
   Reads''''''''.Learnt,
-) Reads'.Pre Reads'.Post
+)
+
+abbrev pub Start : Type 0
+Start = Lts.Start readings Reads'.Pre Reads'.Post
 
 abbrev pub After-slice-known : Type 0
-After-slice-known = Lts.After-slice-known (
-  Reads''''.Asked,
-  Reads''''.Learnt,
-  Reads'''''.Asked,
-  Reads'''''.Learnt,
-  Reads.Asked,
-  Reads.Learnt,
-  Reads''''''.Asked,
-  Reads''''''.Learnt,
-  Reads'''''''.Asked,
-  Reads'''''''.Learnt,
-  Reads'''.Asked,
-  Reads'''.Learnt,
-  Reads''.Asked,
-  Reads''.Learnt,
-  Reads''''''''.Asked,
-  Reads''''''''.Learnt,
-) Reads'.Pre Reads'.Post
+After-slice-known = Lts.After-slice-known readings Reads'.Pre Reads'.Post
 
 abbrev pub After-shared-slice-known : Type 0
-After-shared-slice-known = Lts.After-shared-slice-known (
-  Reads''''.Asked,
-  Reads''''.Learnt,
-  Reads'''''.Asked,
-  Reads'''''.Learnt,
-  Reads.Asked,
-  Reads.Learnt,
-  Reads''''''.Asked,
-  Reads''''''.Learnt,
-  Reads'''''''.Asked,
-  Reads'''''''.Learnt,
-  Reads'''.Asked,
-  Reads'''.Learnt,
-  Reads''.Asked,
-  Reads''.Learnt,
-  Reads''''''''.Asked,
-  Reads''''''''.Learnt,
-) Reads'.Pre Reads'.Post
+After-shared-slice-known = Lts.After-shared-slice-known readings Reads'.Pre Reads'.Post
 
 abbrev pub After-config : Type 0
-After-config = Lts.After-config (
-  Reads''''.Asked,
-  Reads''''.Learnt,
-  Reads'''''.Asked,
-  Reads'''''.Learnt,
-  Reads.Asked,
-  Reads.Learnt,
-  Reads''''''.Asked,
-  Reads''''''.Learnt,
-  Reads'''''''.Asked,
-  Reads'''''''.Learnt,
-  Reads'''.Asked,
-  Reads'''.Learnt,
-  Reads''.Asked,
-  Reads''.Learnt,
-  Reads''''''''.Asked,
-  Reads''''''''.Learnt,
-) Reads'.Pre Reads'.Post
+After-config = Lts.After-config readings Reads'.Pre Reads'.Post
 
 abbrev pub After-first-draw : Type 0
-After-first-draw = Lts.After-first-draw (
-  Reads''''.Asked,
-  Reads''''.Learnt,
-  Reads'''''.Asked,
-  Reads'''''.Learnt,
-  Reads.Asked,
-  Reads.Learnt,
-  Reads''''''.Asked,
-  Reads''''''.Learnt,
-  Reads'''''''.Asked,
-  Reads'''''''.Learnt,
-  Reads'''.Asked,
-  Reads'''.Learnt,
-  Reads''.Asked,
-  Reads''.Learnt,
-  Reads''''''''.Asked,
-  Reads''''''''.Learnt,
-) Reads'.Pre Reads'.Post
+After-first-draw = Lts.After-first-draw readings Reads'.Pre Reads'.Post
 
 abbrev pub After-known-taken : Type 0
-After-known-taken = Lts.After-known-taken (
-  Reads''''.Asked,
-  Reads''''.Learnt,
-  Reads'''''.Asked,
-  Reads'''''.Learnt,
-  Reads.Asked,
-  Reads.Learnt,
-  Reads''''''.Asked,
-  Reads''''''.Learnt,
-  Reads'''''''.Asked,
-  Reads'''''''.Learnt,
-  Reads'''.Asked,
-  Reads'''.Learnt,
-  Reads''.Asked,
-  Reads''.Learnt,
-  Reads''''''''.Asked,
-  Reads''''''''.Learnt,
-) Reads'.Pre Reads'.Post
+After-known-taken = Lts.After-known-taken readings Reads'.Pre Reads'.Post
 
 abbrev pub After-draw-arg : Type 0
-After-draw-arg = Lts.After-draw-arg (
-  Reads''''.Asked,
-  Reads''''.Learnt,
-  Reads'''''.Asked,
-  Reads'''''.Learnt,
-  Reads.Asked,
-  Reads.Learnt,
-  Reads''''''.Asked,
-  Reads''''''.Learnt,
-  Reads'''''''.Asked,
-  Reads'''''''.Learnt,
-  Reads'''.Asked,
-  Reads'''.Learnt,
-  Reads''.Asked,
-  Reads''.Learnt,
-  Reads''''''''.Asked,
-  Reads''''''''.Learnt,
-) Reads'.Pre Reads'.Post
+After-draw-arg = Lts.After-draw-arg readings Reads'.Pre Reads'.Post
 
 abbrev pub After-draw : Type 0
-After-draw = Lts.After-draw (
-  Reads''''.Asked,
-  Reads''''.Learnt,
-  Reads'''''.Asked,
-  Reads'''''.Learnt,
-  Reads.Asked,
-  Reads.Learnt,
-  Reads''''''.Asked,
-  Reads''''''.Learnt,
-  Reads'''''''.Asked,
-  Reads'''''''.Learnt,
-  Reads'''.Asked,
-  Reads'''.Learnt,
-  Reads''.Asked,
-  Reads''.Learnt,
-  Reads''''''''.Asked,
-  Reads''''''''.Learnt,
-) Reads'.Pre Reads'.Post
+After-draw = Lts.After-draw readings Reads'.Pre Reads'.Post
 
 abbrev pub After-open-plan : Type 0
-After-open-plan = Lts.After-open-plan (
-  Reads''''.Asked,
-  Reads''''.Learnt,
-  Reads'''''.Asked,
-  Reads'''''.Learnt,
-  Reads.Asked,
-  Reads.Learnt,
-  Reads''''''.Asked,
-  Reads''''''.Learnt,
-  Reads'''''''.Asked,
-  Reads'''''''.Learnt,
-  Reads'''.Asked,
-  Reads'''.Learnt,
-  Reads''.Asked,
-  Reads''.Learnt,
-  Reads''''''''.Asked,
-  Reads''''''''.Learnt,
-) Reads'.Pre Reads'.Post
+After-open-plan = Lts.After-open-plan readings Reads'.Pre Reads'.Post
 
 abbrev pub After-placed-entry : Type 0
-After-placed-entry = Lts.After-placed-entry (
-  Reads''''.Asked,
-  Reads''''.Learnt,
-  Reads'''''.Asked,
-  Reads'''''.Learnt,
-  Reads.Asked,
-  Reads.Learnt,
-  Reads''''''.Asked,
-  Reads''''''.Learnt,
-  Reads'''''''.Asked,
-  Reads'''''''.Learnt,
-  Reads'''.Asked,
-  Reads'''.Learnt,
-  Reads''.Asked,
-  Reads''.Learnt,
-  Reads''''''''.Asked,
-  Reads''''''''.Learnt,
-) Reads'.Pre Reads'.Post
+After-placed-entry = Lts.After-placed-entry readings Reads'.Pre Reads'.Post
 
 abbrev pub After-is-taken : Type 0
-After-is-taken = Lts.After-is-taken (
-  Reads''''.Asked,
-  Reads''''.Learnt,
-  Reads'''''.Asked,
-  Reads'''''.Learnt,
-  Reads.Asked,
-  Reads.Learnt,
-  Reads''''''.Asked,
-  Reads''''''.Learnt,
-  Reads'''''''.Asked,
-  Reads'''''''.Learnt,
-  Reads'''.Asked,
-  Reads'''.Learnt,
-  Reads''.Asked,
-  Reads''.Learnt,
-  Reads''''''''.Asked,
-  Reads''''''''.Learnt,
-) Reads'.Pre Reads'.Post
+After-is-taken = Lts.After-is-taken readings Reads'.Pre Reads'.Post
 
 abbrev pub Then1 : Type 0
-Then1 = Lts.Then1 (
-  Reads''''.Asked,
-  Reads''''.Learnt,
-  Reads'''''.Asked,
-  Reads'''''.Learnt,
-  Reads.Asked,
-  Reads.Learnt,
-  Reads''''''.Asked,
-  Reads''''''.Learnt,
-  Reads'''''''.Asked,
-  Reads'''''''.Learnt,
-  Reads'''.Asked,
-  Reads'''.Learnt,
-  Reads''.Asked,
-  Reads''.Learnt,
-  Reads''''''''.Asked,
-  Reads''''''''.Learnt,
-) Reads'.Pre Reads'.Post
+Then1 = Lts.Then1 readings Reads'.Pre Reads'.Post
 
 abbrev pub After-open-placed-arg : Type 0
-After-open-placed-arg = Lts.After-open-placed-arg (
-  Reads''''.Asked,
-  Reads''''.Learnt,
-  Reads'''''.Asked,
-  Reads'''''.Learnt,
-  Reads.Asked,
-  Reads.Learnt,
-  Reads''''''.Asked,
-  Reads''''''.Learnt,
-  Reads'''''''.Asked,
-  Reads'''''''.Learnt,
-  Reads'''.Asked,
-  Reads'''.Learnt,
-  Reads''.Asked,
-  Reads''.Learnt,
-  Reads''''''''.Asked,
-  Reads''''''''.Learnt,
-) Reads'.Pre Reads'.Post
+After-open-placed-arg = Lts.After-open-placed-arg readings Reads'.Pre Reads'.Post
 
 abbrev pub After-open-placed-arg2 : Type 0
-After-open-placed-arg2 = Lts.After-open-placed-arg2 (
-  Reads''''.Asked,
-  Reads''''.Learnt,
-  Reads'''''.Asked,
-  Reads'''''.Learnt,
-  Reads.Asked,
-  Reads.Learnt,
-  Reads''''''.Asked,
-  Reads''''''.Learnt,
-  Reads'''''''.Asked,
-  Reads'''''''.Learnt,
-  Reads'''.Asked,
-  Reads'''.Learnt,
-  Reads''.Asked,
-  Reads''.Learnt,
-  Reads''''''''.Asked,
-  Reads''''''''.Learnt,
-) Reads'.Pre Reads'.Post
+After-open-placed-arg2 = Lts.After-open-placed-arg2 readings Reads'.Pre Reads'.Post
 
 abbrev pub After-open-placed-arg3 : Type 0
-After-open-placed-arg3 = Lts.After-open-placed-arg3 (
-  Reads''''.Asked,
-  Reads''''.Learnt,
-  Reads'''''.Asked,
-  Reads'''''.Learnt,
-  Reads.Asked,
-  Reads.Learnt,
-  Reads''''''.Asked,
-  Reads''''''.Learnt,
-  Reads'''''''.Asked,
-  Reads'''''''.Learnt,
-  Reads'''.Asked,
-  Reads'''.Learnt,
-  Reads''.Asked,
-  Reads''.Learnt,
-  Reads''''''''.Asked,
-  Reads''''''''.Learnt,
-) Reads'.Pre Reads'.Post
+After-open-placed-arg3 = Lts.After-open-placed-arg3 readings Reads'.Pre Reads'.Post
 
 abbrev pub After-open-placed-arg4 : Type 0
-After-open-placed-arg4 = Lts.After-open-placed-arg4 (
-  Reads''''.Asked,
-  Reads''''.Learnt,
-  Reads'''''.Asked,
-  Reads'''''.Learnt,
-  Reads.Asked,
-  Reads.Learnt,
-  Reads''''''.Asked,
-  Reads''''''.Learnt,
-  Reads'''''''.Asked,
-  Reads'''''''.Learnt,
-  Reads'''.Asked,
-  Reads'''.Learnt,
-  Reads''.Asked,
-  Reads''.Learnt,
-  Reads''''''''.Asked,
-  Reads''''''''.Learnt,
-) Reads'.Pre Reads'.Post
+After-open-placed-arg4 = Lts.After-open-placed-arg4 readings Reads'.Pre Reads'.Post
 
 abbrev pub After-open-placed : Type 0
-After-open-placed = Lts.After-open-placed (
-  Reads''''.Asked,
-  Reads''''.Learnt,
-  Reads'''''.Asked,
-  Reads'''''.Learnt,
-  Reads.Asked,
-  Reads.Learnt,
-  Reads''''''.Asked,
-  Reads''''''.Learnt,
-  Reads'''''''.Asked,
-  Reads'''''''.Learnt,
-  Reads'''.Asked,
-  Reads'''.Learnt,
-  Reads''.Asked,
-  Reads''.Learnt,
-  Reads''''''''.Asked,
-  Reads''''''''.Learnt,
-) Reads'.Pre Reads'.Post
+After-open-placed = Lts.After-open-placed readings Reads'.Pre Reads'.Post
 
 abbrev pub After-pending : Type 0
-After-pending = Lts.After-pending (
-  Reads''''.Asked,
-  Reads''''.Learnt,
-  Reads'''''.Asked,
-  Reads'''''.Learnt,
-  Reads.Asked,
-  Reads.Learnt,
-  Reads''''''.Asked,
-  Reads''''''.Learnt,
-  Reads'''''''.Asked,
-  Reads'''''''.Learnt,
-  Reads'''.Asked,
-  Reads'''.Learnt,
-  Reads''.Asked,
-  Reads''.Learnt,
-  Reads''''''''.Asked,
-  Reads''''''''.Learnt,
-) Reads'.Pre Reads'.Post
+After-pending = Lts.After-pending readings Reads'.Pre Reads'.Post
 
 abbrev pub After-ledger : Type 0
-After-ledger = Lts.After-ledger (
-  Reads''''.Asked,
-  Reads''''.Learnt,
-  Reads'''''.Asked,
-  Reads'''''.Learnt,
-  Reads.Asked,
-  Reads.Learnt,
-  Reads''''''.Asked,
-  Reads''''''.Learnt,
-  Reads'''''''.Asked,
-  Reads'''''''.Learnt,
-  Reads'''.Asked,
-  Reads'''.Learnt,
-  Reads''.Asked,
-  Reads''.Learnt,
-  Reads''''''''.Asked,
-  Reads''''''''.Learnt,
-) Reads'.Pre Reads'.Post
+After-ledger = Lts.After-ledger readings Reads'.Pre Reads'.Post
 
 abbrev pub After-inflight : Type 0
-After-inflight = Lts.After-inflight (
-  Reads''''.Asked,
-  Reads''''.Learnt,
-  Reads'''''.Asked,
-  Reads'''''.Learnt,
-  Reads.Asked,
-  Reads.Learnt,
-  Reads''''''.Asked,
-  Reads''''''.Learnt,
-  Reads'''''''.Asked,
-  Reads'''''''.Learnt,
-  Reads'''.Asked,
-  Reads'''.Learnt,
-  Reads''.Asked,
-  Reads''.Learnt,
-  Reads''''''''.Asked,
-  Reads''''''''.Learnt,
-) Reads'.Pre Reads'.Post
+After-inflight = Lts.After-inflight readings Reads'.Pre Reads'.Post
 
 abbrev pub After-out : Type 0
-After-out = Lts.After-out (
-  Reads''''.Asked,
-  Reads''''.Learnt,
-  Reads'''''.Asked,
-  Reads'''''.Learnt,
-  Reads.Asked,
-  Reads.Learnt,
-  Reads''''''.Asked,
-  Reads''''''.Learnt,
-  Reads'''''''.Asked,
-  Reads'''''''.Learnt,
-  Reads'''.Asked,
-  Reads'''.Learnt,
-  Reads''.Asked,
-  Reads''.Learnt,
-  Reads''''''''.Asked,
-  Reads''''''''.Learnt,
-) Reads'.Pre Reads'.Post
+After-out = Lts.After-out readings Reads'.Pre Reads'.Post
 
 abbrev pub After-slice-known2 : Type 0
-After-slice-known2 = Lts.After-slice-known2 (
-  Reads''''.Asked,
-  Reads''''.Learnt,
-  Reads'''''.Asked,
-  Reads'''''.Learnt,
-  Reads.Asked,
-  Reads.Learnt,
-  Reads''''''.Asked,
-  Reads''''''.Learnt,
-  Reads'''''''.Asked,
-  Reads'''''''.Learnt,
-  Reads'''.Asked,
-  Reads'''.Learnt,
-  Reads''.Asked,
-  Reads''.Learnt,
-  Reads''''''''.Asked,
-  Reads''''''''.Learnt,
-) Reads'.Pre Reads'.Post
+After-slice-known2 = Lts.After-slice-known2 readings Reads'.Pre Reads'.Post
 
 abbrev pub Else1 : Type 0
-Else1 = Lts.Else1 (
-  Reads''''.Asked,
-  Reads''''.Learnt,
-  Reads'''''.Asked,
-  Reads'''''.Learnt,
-  Reads.Asked,
-  Reads.Learnt,
-  Reads''''''.Asked,
-  Reads''''''.Learnt,
-  Reads'''''''.Asked,
-  Reads'''''''.Learnt,
-  Reads'''.Asked,
-  Reads'''.Learnt,
-  Reads''.Asked,
-  Reads''.Learnt,
-  Reads''''''''.Asked,
-  Reads''''''''.Learnt,
-) Reads'.Pre Reads'.Post
+Else1 = Lts.Else1 readings Reads'.Pre Reads'.Post
 
 abbrev pub After-refused : Type 0
-After-refused = Lts.After-refused (
-  Reads''''.Asked,
-  Reads''''.Learnt,
-  Reads'''''.Asked,
-  Reads'''''.Learnt,
-  Reads.Asked,
-  Reads.Learnt,
-  Reads''''''.Asked,
-  Reads''''''.Learnt,
-  Reads'''''''.Asked,
-  Reads'''''''.Learnt,
-  Reads'''.Asked,
-  Reads'''.Learnt,
-  Reads''.Asked,
-  Reads''.Learnt,
-  Reads''''''''.Asked,
-  Reads''''''''.Learnt,
-) Reads'.Pre Reads'.Post
+After-refused = Lts.After-refused readings Reads'.Pre Reads'.Post
 
 abbrev pub Need-first-draw-requires : Type 0
-Need-first-draw-requires = Lts.Need-first-draw-requires (
-  Reads''''.Asked,
-  Reads''''.Learnt,
-  Reads'''''.Asked,
-  Reads'''''.Learnt,
-  Reads.Asked,
-  Reads.Learnt,
-  Reads''''''.Asked,
-  Reads''''''.Learnt,
-  Reads'''''''.Asked,
-  Reads'''''''.Learnt,
-  Reads'''.Asked,
-  Reads'''.Learnt,
-  Reads''.Asked,
-  Reads''.Learnt,
-  Reads''''''''.Asked,
-  Reads''''''''.Learnt,
-) Reads'.Pre Reads'.Post
+Need-first-draw-requires = Lts.Need-first-draw-requires readings Reads'.Pre Reads'.Post
 
 abbrev pub Need-known-taken-requires : Type 0
-Need-known-taken-requires = Lts.Need-known-taken-requires (
-  Reads''''.Asked,
-  Reads''''.Learnt,
-  Reads'''''.Asked,
-  Reads'''''.Learnt,
-  Reads.Asked,
-  Reads.Learnt,
-  Reads''''''.Asked,
-  Reads''''''.Learnt,
-  Reads'''''''.Asked,
-  Reads'''''''.Learnt,
-  Reads'''.Asked,
-  Reads'''.Learnt,
-  Reads''.Asked,
-  Reads''.Learnt,
-  Reads''''''''.Asked,
-  Reads''''''''.Learnt,
-) Reads'.Pre Reads'.Post
+Need-known-taken-requires = Lts.Need-known-taken-requires readings Reads'.Pre Reads'.Post
 
 abbrev pub Need-draw-requires : Type 0
-Need-draw-requires = Lts.Need-draw-requires (
-  Reads''''.Asked,
-  Reads''''.Learnt,
-  Reads'''''.Asked,
-  Reads'''''.Learnt,
-  Reads.Asked,
-  Reads.Learnt,
-  Reads''''''.Asked,
-  Reads''''''.Learnt,
-  Reads'''''''.Asked,
-  Reads'''''''.Learnt,
-  Reads'''.Asked,
-  Reads'''.Learnt,
-  Reads''.Asked,
-  Reads''.Learnt,
-  Reads''''''''.Asked,
-  Reads''''''''.Learnt,
-) Reads'.Pre Reads'.Post
+Need-draw-requires = Lts.Need-draw-requires readings Reads'.Pre Reads'.Post
 
 abbrev pub Need-open-plan-requires : Type 0
-Need-open-plan-requires = Lts.Need-open-plan-requires (
-  Reads''''.Asked,
-  Reads''''.Learnt,
-  Reads'''''.Asked,
-  Reads'''''.Learnt,
-  Reads.Asked,
-  Reads.Learnt,
-  Reads''''''.Asked,
-  Reads''''''.Learnt,
-  Reads'''''''.Asked,
-  Reads'''''''.Learnt,
-  Reads'''.Asked,
-  Reads'''.Learnt,
-  Reads''.Asked,
-  Reads''.Learnt,
-  Reads''''''''.Asked,
-  Reads''''''''.Learnt,
-) Reads'.Pre Reads'.Post
+Need-open-plan-requires = Lts.Need-open-plan-requires readings Reads'.Pre Reads'.Post
 
 abbrev pub Need-placed-entry-requires : Type 0
-Need-placed-entry-requires = Lts.Need-placed-entry-requires (
-  Reads''''.Asked,
-  Reads''''.Learnt,
-  Reads'''''.Asked,
-  Reads'''''.Learnt,
-  Reads.Asked,
-  Reads.Learnt,
-  Reads''''''.Asked,
-  Reads''''''.Learnt,
-  Reads'''''''.Asked,
-  Reads'''''''.Learnt,
-  Reads'''.Asked,
-  Reads'''.Learnt,
-  Reads''.Asked,
-  Reads''.Learnt,
-  Reads''''''''.Asked,
-  Reads''''''''.Learnt,
-) Reads'.Pre Reads'.Post
+Need-placed-entry-requires = Lts.Need-placed-entry-requires readings Reads'.Pre Reads'.Post
 
 abbrev pub Need-is-taken-requires : Type 0
-Need-is-taken-requires = Lts.Need-is-taken-requires (
-  Reads''''.Asked,
-  Reads''''.Learnt,
-  Reads'''''.Asked,
-  Reads'''''.Learnt,
-  Reads.Asked,
-  Reads.Learnt,
-  Reads''''''.Asked,
-  Reads''''''.Learnt,
-  Reads'''''''.Asked,
-  Reads'''''''.Learnt,
-  Reads'''.Asked,
-  Reads'''.Learnt,
-  Reads''.Asked,
-  Reads''.Learnt,
-  Reads''''''''.Asked,
-  Reads''''''''.Learnt,
-) Reads'.Pre Reads'.Post
+Need-is-taken-requires = Lts.Need-is-taken-requires readings Reads'.Pre Reads'.Post
 
 abbrev pub Need-open-placed-requires : Type 0
-Need-open-placed-requires = Lts.Need-open-placed-requires (
-  Reads''''.Asked,
-  Reads''''.Learnt,
-  Reads'''''.Asked,
-  Reads'''''.Learnt,
-  Reads.Asked,
-  Reads.Learnt,
-  Reads''''''.Asked,
-  Reads''''''.Learnt,
-  Reads'''''''.Asked,
-  Reads'''''''.Learnt,
-  Reads'''.Asked,
-  Reads'''.Learnt,
-  Reads''.Asked,
-  Reads''.Learnt,
-  Reads''''''''.Asked,
-  Reads''''''''.Learnt,
-) Reads'.Pre Reads'.Post
+Need-open-placed-requires = Lts.Need-open-placed-requires readings Reads'.Pre Reads'.Post
 
 abbrev pub Need-same-length : Type 0
-Need-same-length = Lts.Need-same-length (
-  Reads''''.Asked,
-  Reads''''.Learnt,
-  Reads'''''.Asked,
-  Reads'''''.Learnt,
-  Reads.Asked,
-  Reads.Learnt,
-  Reads''''''.Asked,
-  Reads''''''.Learnt,
-  Reads'''''''.Asked,
-  Reads'''''''.Learnt,
-  Reads'''.Asked,
-  Reads'''.Learnt,
-  Reads''.Asked,
-  Reads''.Learnt,
-  Reads''''''''.Asked,
-  Reads''''''''.Learnt,
-) Reads'.Pre Reads'.Post
+Need-same-length = Lts.Need-same-length readings Reads'.Pre Reads'.Post
 
 abbrev pub Need-same-length-2 : Type 0
-Need-same-length-2 = Lts.Need-same-length-2 (
-  Reads''''.Asked,
-  Reads''''.Learnt,
-  Reads'''''.Asked,
-  Reads'''''.Learnt,
-  Reads.Asked,
-  Reads.Learnt,
-  Reads''''''.Asked,
-  Reads''''''.Learnt,
-  Reads'''''''.Asked,
-  Reads'''''''.Learnt,
-  Reads'''.Asked,
-  Reads'''.Learnt,
-  Reads''.Asked,
-  Reads''.Learnt,
-  Reads''''''''.Asked,
-  Reads''''''''.Learnt,
-) Reads'.Pre Reads'.Post
+Need-same-length-2 = Lts.Need-same-length-2 readings Reads'.Pre Reads'.Post
 
 abbrev pub Need-same-length-3 : Type 0
-Need-same-length-3 = Lts.Need-same-length-3 (
-  Reads''''.Asked,
-  Reads''''.Learnt,
-  Reads'''''.Asked,
-  Reads'''''.Learnt,
-  Reads.Asked,
-  Reads.Learnt,
-  Reads''''''.Asked,
-  Reads''''''.Learnt,
-  Reads'''''''.Asked,
-  Reads'''''''.Learnt,
-  Reads'''.Asked,
-  Reads'''.Learnt,
-  Reads''.Asked,
-  Reads''.Learnt,
-  Reads''''''''.Asked,
-  Reads''''''''.Learnt,
-) Reads'.Pre Reads'.Post
+Need-same-length-3 = Lts.Need-same-length-3 readings Reads'.Pre Reads'.Post
 
 abbrev pub Need-same-length-4 : Type 0
-Need-same-length-4 = Lts.Need-same-length-4 (
-  Reads''''.Asked,
-  Reads''''.Learnt,
-  Reads'''''.Asked,
-  Reads'''''.Learnt,
-  Reads.Asked,
-  Reads.Learnt,
-  Reads''''''.Asked,
-  Reads''''''.Learnt,
-  Reads'''''''.Asked,
-  Reads'''''''.Learnt,
-  Reads'''.Asked,
-  Reads'''.Learnt,
-  Reads''.Asked,
-  Reads''.Learnt,
-  Reads''''''''.Asked,
-  Reads''''''''.Learnt,
-) Reads'.Pre Reads'.Post
+Need-same-length-4 = Lts.Need-same-length-4 readings Reads'.Pre Reads'.Post
 
 abbrev pub Need-returns : Type 0
-Need-returns = Lts.Need-returns (
-  Reads''''.Asked,
-  Reads''''.Learnt,
-  Reads'''''.Asked,
-  Reads'''''.Learnt,
-  Reads.Asked,
-  Reads.Learnt,
-  Reads''''''.Asked,
-  Reads''''''.Learnt,
-  Reads'''''''.Asked,
-  Reads'''''''.Learnt,
-  Reads'''.Asked,
-  Reads'''.Learnt,
-  Reads''.Asked,
-  Reads''.Learnt,
-  Reads''''''''.Asked,
-  Reads''''''''.Learnt,
-) Reads'.Pre Reads'.Post
+Need-returns = Lts.Need-returns readings Reads'.Pre Reads'.Post
 
 abbrev pub Need-refused-requires : Type 0
-Need-refused-requires = Lts.Need-refused-requires (
-  Reads''''.Asked,
-  Reads''''.Learnt,
-  Reads'''''.Asked,
-  Reads'''''.Learnt,
-  Reads.Asked,
-  Reads.Learnt,
-  Reads''''''.Asked,
-  Reads''''''.Learnt,
-  Reads'''''''.Asked,
-  Reads'''''''.Learnt,
-  Reads'''.Asked,
-  Reads'''.Learnt,
-  Reads''.Asked,
-  Reads''.Learnt,
-  Reads''''''''.Asked,
-  Reads''''''''.Learnt,
-) Reads'.Pre Reads'.Post
+Need-refused-requires = Lts.Need-refused-requires readings Reads'.Pre Reads'.Post
 
 abbrev pub Need-same-length-5 : Type 0
-Need-same-length-5 = Lts.Need-same-length-5 (
-  Reads''''.Asked,
-  Reads''''.Learnt,
-  Reads'''''.Asked,
-  Reads'''''.Learnt,
-  Reads.Asked,
-  Reads.Learnt,
-  Reads''''''.Asked,
-  Reads''''''.Learnt,
-  Reads'''''''.Asked,
-  Reads'''''''.Learnt,
-  Reads'''.Asked,
-  Reads'''.Learnt,
-  Reads''.Asked,
-  Reads''.Learnt,
-  Reads''''''''.Asked,
-  Reads''''''''.Learnt,
-) Reads'.Pre Reads'.Post
+Need-same-length-5 = Lts.Need-same-length-5 readings Reads'.Pre Reads'.Post
 
 abbrev pub Need-returns-2 : Type 0
-Need-returns-2 = Lts.Need-returns-2 (
-  Reads''''.Asked,
-  Reads''''.Learnt,
-  Reads'''''.Asked,
-  Reads'''''.Learnt,
-  Reads.Asked,
-  Reads.Learnt,
-  Reads''''''.Asked,
-  Reads''''''.Learnt,
-  Reads'''''''.Asked,
-  Reads'''''''.Learnt,
-  Reads'''.Asked,
-  Reads'''.Learnt,
-  Reads''.Asked,
-  Reads''.Learnt,
-  Reads''''''''.Asked,
-  Reads''''''''.Learnt,
-) Reads'.Pre Reads'.Post
+Need-returns-2 = Lts.Need-returns-2 readings Reads'.Pre Reads'.Post
 
 module _ {M : Type 1} where
-  pub spec : (answer : Need-first-draw-requires) → (answer : Need-known-taken-requires) → (answer : Need-draw-requires) → (answer :
-      Need-open-plan-requires) → (answer : Need-placed-entry-requires) → (answer : Need-is-taken-requires) → (answer : Need-open-placed-requires) →
-      (answer : Need-same-length) → (answer : Need-same-length-2) → (answer : Need-same-length-3) → (answer : Need-same-length-4) → (answer :
-      Need-returns) → (answer : Need-refused-requires) → (answer : Need-same-length-5) → (answer : Need-returns-2) → Lts.Closed (
-        Reads''''.Asked,
-        Reads''''.Learnt,
-        Reads'''''.Asked,
-        Reads'''''.Learnt,
-        Reads.Asked,
-        Reads.Learnt,
-        Reads''''''.Asked,
-        Reads''''''.Learnt,
-        Reads'''''''.Asked,
-        Reads'''''''.Learnt,
-        Reads'''.Asked,
-        Reads'''.Learnt,
-        Reads''.Asked,
-        Reads''.Learnt,
-        Reads''''''''.Asked,
-        Reads''''''''.Learnt,
-      ) Reads'.Pre
-      Reads'.Post M
-  spec = λ answer answer' answer'' answer'3 answer'4 answer'5 answer'6 answer'7 answer'8 answer'9 answer'10 answer'11 answer'12 answer'13 answer'14.
-      Lts.spec (
-        Reads''''.Asked,
-        Reads''''.Learnt,
-        Reads'''''.Asked,
-        Reads'''''.Learnt,
-        Reads.Asked,
-        Reads.Learnt,
-        Reads''''''.Asked,
-        Reads''''''.Learnt,
-        Reads'''''''.Asked,
-        Reads'''''''.Learnt,
-        Reads'''.Asked,
-        Reads'''.Learnt,
-        Reads''.Asked,
-        Reads''.Learnt,
-        Reads''''''''.Asked,
-        Reads''''''''.Learnt,
-      ) Reads'.Pre Reads'.Post answer answer' answer'' answer'3 answer'4 answer'5 answer'6 answer'7 answer'8
-      answer'9 answer'10 answer'11 answer'12 answer'13 answer'14
+  pub spec : (answer : Need-first-draw-requires) → (answer : Need-known-taken-requires) → (answer : Need-draw-requires)
+      → (answer : Need-open-plan-requires) → (answer : Need-placed-entry-requires) → (answer : Need-is-taken-requires)
+      → (answer : Need-open-placed-requires) → (answer : Need-same-length) → (answer : Need-same-length-2) →
+      (answer : Need-same-length-3) → (answer : Need-same-length-4) → (answer : Need-returns) →
+      (answer : Need-refused-requires) → (answer : Need-same-length-5) → (answer : Need-returns-2) → Lts.Closed
+      readings Reads'.Pre Reads'.Post M
+  spec = λ answer answer' answer'' answer'3 answer'4 answer'5 answer'6 answer'7 answer'8 answer'9 answer'10 answer'11
+      answer'12 answer'13 answer'14. Lts.spec readings Reads'.Pre Reads'.Post answer answer' answer'' answer'3 answer'4
+      answer'5 answer'6 answer'7 answer'8 answer'9 answer'10 answer'11 answer'12 answer'13 answer'14
 
-  pub close : Lts.Closed (
-    Reads''''.Asked,
-    Reads''''.Learnt,
-    Reads'''''.Asked,
-    Reads'''''.Learnt,
-    Reads.Asked,
-    Reads.Learnt,
-    Reads''''''.Asked,
-    Reads''''''.Learnt,
-    Reads'''''''.Asked,
-    Reads'''''''.Learnt,
-    Reads'''.Asked,
-    Reads'''.Learnt,
-    Reads''.Asked,
-    Reads''.Learnt,
-    Reads''''''''.Asked,
-    Reads''''''''.Learnt,
-  ) Reads'.Pre Reads'.Post M → Statement.statement M
+  pub close : Lts.Closed readings Reads'.Pre Reads'.Post M → Statement.statement M
   unfolding Code.routine Running.tablesOf
-  close = λ closed 𝓤 H 𝓜 𝓖 𝓡. Written.close 6 Kinds.ps Kinds.r Reads'.Ghost Reads'.requires Reads'.ensures Reads'.pre-read Reads'.Pinned Reads'.Owned
-      Reads'.post-read record { M = M; 𝓤 = 𝓤; H = H; 𝓜 = 𝓜; 𝓖 = 𝓖; 𝓡 = 𝓡 } Code.env Key.name Code.function (Code.unfolded 𝓤 H 𝓜 𝓡) (λ κs a g. tt) (λ
-      κs. Reads'.owns κs record { M = M; 𝓤 = 𝓤; H = H; 𝓜 = 𝓜; 𝓖 = 𝓖; 𝓡 = 𝓡 }) (Reads'.passes record { M = M; 𝓤 = 𝓤; H = H; 𝓜 = 𝓜; 𝓖 = 𝓖; 𝓡 = 𝓡 }) λ g.
-      closed 𝓤 H (𝓖 .A) (Running.givenOf 𝓤 H 𝓜 𝓖) (Run.Over 𝓤 H 𝓜 𝓖 𝓡 Code.env) (Reads''''.known record { M = M; 𝓤 = 𝓤; H = H; 𝓜 = 𝓜; 𝓖 = 𝓖; 𝓡 = 𝓡 }
-      Code.env Symbol'.name Symbol'.routine Code.calls-hnsr-circuit·draw·first-draw (Met'.met 𝓤 H 𝓜 𝓖 𝓡)) (Reads'''''.known record {
-        M = M;
-        𝓤 = 𝓤;
-        H =
-            H;
-        𝓜 = 𝓜;
-        𝓖 = 𝓖;
-        𝓡 = 𝓡;
-      } Code.env Symbol''''.name Symbol''''.routine Code.calls-hnsr-circuit·open·known-taken (Met''''.met 𝓤 H 𝓜 𝓖 𝓡))
-      (Reads.known record { M = M; 𝓤 = 𝓤; H = H; 𝓜 = 𝓜; 𝓖 = 𝓖; 𝓡 = 𝓡 } Code.env Symbol''.name Symbol''.routine
-      Code.calls-hnsr-circuit·handle-open·draw (Met''.met 𝓤 H 𝓜 𝓖 𝓡)) (Reads''''''.known record { M = M; 𝓤 = 𝓤; H = H; 𝓜 = 𝓜; 𝓖 = 𝓖; 𝓡 = 𝓡 } Code.env
-      Symbol'''''.name Symbol'''''.routine Code.calls-hnsr-circuit·open·open-plan (Met'''''.met 𝓤 H 𝓜 𝓖 𝓡)) (Reads'''''''.known record {
-        M = M;
-        𝓤 = 𝓤;
-        H = H;
-        𝓜 = 𝓜;
-        𝓖 = 𝓖;
-        𝓡 = 𝓡;
-      } Code.env Symbol''''''.name Symbol''''''.routine Code.calls-hnsr-circuit·open·placed-entry (Met''''''.met 𝓤 H 𝓜 𝓖
-      𝓡)) (Reads'''.known record { M = M; 𝓤 = 𝓤; H = H; 𝓜 = 𝓜; 𝓖 = 𝓖; 𝓡 = 𝓡 } Code.env Symbol.name Symbol.routine
-      Code.calls-hnsr-circuit·answer·is-taken (Met.met 𝓤 H 𝓜 𝓖 𝓡)) (Reads''.known record { M = M; 𝓤 = 𝓤; H = H; 𝓜 = 𝓜; 𝓖 = 𝓖; 𝓡 = 𝓡 } Code.env
-      Symbol'''.name Symbol'''.routine Code.calls-hnsr-circuit·handle-open·open-placed (Met'''.met 𝓤 H 𝓜 𝓖 𝓡)) (Reads''''''''.known record {
-        M = M;
-        𝓤
-            = 𝓤;
-        H = H;
-        𝓜 = 𝓜;
-        𝓖 = 𝓖;
-        𝓡 = 𝓡;
-      } Code.env Symbol'''''''.name Symbol'''''''.routine Code.calls-hnsr-circuit·revoking-calls·refused
-      (Met'''''''.met 𝓤 H 𝓜 𝓖 𝓡))
+  close = λ closed 𝓤 H 𝓜 𝓖 𝓡. Written.close 6 Kinds.ps Kinds.r Reads'.Ghost Reads'.requires Reads'.ensures
+      Reads'.pre-read Reads'.Pinned Reads'.Owned Reads'.post-read record { M = M; 𝓤 = 𝓤; H = H; 𝓜 = 𝓜; 𝓖 = 𝓖; 𝓡 = 𝓡 }
+      Code.env Key.name Code.function (Code.unfolded 𝓤 H 𝓜 𝓡) (λ κs a g. tt) (λ κs. Reads'.owns κs
+      record { M = M; 𝓤 = 𝓤; H = H; 𝓜 = 𝓜; 𝓖 = 𝓖; 𝓡 = 𝓡 }) (Reads'.passes
+      record { M = M; 𝓤 = 𝓤; H = H; 𝓜 = 𝓜; 𝓖 = 𝓖; 𝓡 = 𝓡 }) λ g. closed 𝓤 H (𝓖 .A) (Running.givenOf 𝓤 H 𝓜 𝓖)
+      (Run.Over 𝓤 H 𝓜 𝓖 𝓡 Code.env) (Reads''''.known record { M = M; 𝓤 = 𝓤; H = H; 𝓜 = 𝓜; 𝓖 = 𝓖; 𝓡 = 𝓡 } Code.env
+      Symbol'.name Symbol'.routine Code.calls-hnsr-circuit·draw·first-draw (Met'.met 𝓤 H 𝓜 𝓖 𝓡)) (Reads'''''.known
+      record { M = M; 𝓤 = 𝓤; H = H; 𝓜 = 𝓜; 𝓖 = 𝓖; 𝓡 = 𝓡 } Code.env Symbol''''.name Symbol''''.routine
+      Code.calls-hnsr-circuit·open·known-taken (Met''''.met 𝓤 H 𝓜 𝓖 𝓡)) (Reads.known
+      record { M = M; 𝓤 = 𝓤; H = H; 𝓜 = 𝓜; 𝓖 = 𝓖; 𝓡 = 𝓡 } Code.env Symbol''.name Symbol''.routine
+      Code.calls-hnsr-circuit·handle-open·draw (Met''.met 𝓤 H 𝓜 𝓖 𝓡)) (Reads''''''.known
+      record { M = M; 𝓤 = 𝓤; H = H; 𝓜 = 𝓜; 𝓖 = 𝓖; 𝓡 = 𝓡 } Code.env Symbol'''''.name Symbol'''''.routine
+      Code.calls-hnsr-circuit·open·open-plan (Met'''''.met 𝓤 H 𝓜 𝓖 𝓡)) (Reads'''''''.known
+      record { M = M; 𝓤 = 𝓤; H = H; 𝓜 = 𝓜; 𝓖 = 𝓖; 𝓡 = 𝓡 } Code.env Symbol''''''.name Symbol''''''.routine
+      Code.calls-hnsr-circuit·open·placed-entry (Met''''''.met 𝓤 H 𝓜 𝓖 𝓡)) (Reads'''.known
+      record { M = M; 𝓤 = 𝓤; H = H; 𝓜 = 𝓜; 𝓖 = 𝓖; 𝓡 = 𝓡 } Code.env Symbol.name Symbol.routine
+      Code.calls-hnsr-circuit·answer·is-taken (Met.met 𝓤 H 𝓜 𝓖 𝓡)) (Reads''.known
+      record { M = M; 𝓤 = 𝓤; H = H; 𝓜 = 𝓜; 𝓖 = 𝓖; 𝓡 = 𝓡 } Code.env Symbol'''.name Symbol'''.routine
+      Code.calls-hnsr-circuit·handle-open·open-placed (Met'''.met 𝓤 H 𝓜 𝓖 𝓡)) (Reads''''''''.known
+      record { M = M; 𝓤 = 𝓤; H = H; 𝓜 = 𝓜; 𝓖 = 𝓖; 𝓡 = 𝓡 } Code.env Symbol'''''''.name Symbol'''''''.routine
+      Code.calls-hnsr-circuit·revoking-calls·refused (Met'''''''.met 𝓤 H 𝓜 𝓖 𝓡))

@@ -48,8 +48,8 @@ use borrow.Fn.Run
 use borrow.Fn.Written
 use contract.Running
 
-abbrev pub Start : Type 0
-Start = Lts.Start (
+abbrev pub readings : Lts.Claims
+readings = (
   Reads''''''''.Asked,
   Reads''''''''.Learnt,
   Reads''''''''''''.Asked,
@@ -76,1690 +76,208 @@ Start = Lts.Start (
   Reads.Learnt,
   Reads'''''''''''''.Asked,
   Reads'''''''''''''.Learnt,
-) Reads'.Pre
-    Reads'.Post
+)
+
+abbrev pub Start : Type 0
+Start = Lts.Start readings Reads'.Pre Reads'.Post
 
 abbrev pub After-slice-known : Type 0
-After-slice-known = Lts.After-slice-known (
-  Reads''''''''.Asked,
-  Reads''''''''.Learnt,
-  Reads''''''''''''.Asked,
-  Reads''''''''''''.Learnt,
-  Reads''.Asked,
-  Reads''.Learnt,
-  Reads'''.Asked,
-  Reads'''.Learnt,
-  Reads'''''''''.Asked,
-  Reads'''''''''.Learnt,
-  Reads'''''.Asked,
-  Reads'''''.Learnt,
-  Reads'''''''.Asked,
-  Reads'''''''.Learnt,
-  Reads''''''.Asked,
-  Reads''''''.Learnt,
-  Reads''''.Asked,
-  Reads''''.Learnt,
-  Reads''''''''''.Asked,
-  Reads''''''''''.Learnt,
-  Reads'''''''''''.Asked,
-  Reads'''''''''''.Learnt,
-  Reads.Asked,
-  Reads.Learnt,
-  Reads'''''''''''''.Asked,
-  Reads'''''''''''''.Learnt,
-) Reads'.Pre Reads'.Post
+After-slice-known = Lts.After-slice-known readings Reads'.Pre Reads'.Post
 
 abbrev pub After-config : Type 0
-After-config = Lts.After-config (
-  Reads''''''''.Asked,
-  Reads''''''''.Learnt,
-  Reads''''''''''''.Asked,
-  Reads''''''''''''.Learnt,
-  Reads''.Asked,
-  Reads''.Learnt,
-  Reads'''.Asked,
-  Reads'''.Learnt,
-  Reads'''''''''.Asked,
-  Reads'''''''''.Learnt,
-  Reads'''''.Asked,
-  Reads'''''.Learnt,
-  Reads'''''''.Asked,
-  Reads'''''''.Learnt,
-  Reads''''''.Asked,
-  Reads''''''.Learnt,
-  Reads''''.Asked,
-  Reads''''.Learnt,
-  Reads''''''''''.Asked,
-  Reads''''''''''.Learnt,
-  Reads'''''''''''.Asked,
-  Reads'''''''''''.Learnt,
-  Reads.Asked,
-  Reads.Learnt,
-  Reads'''''''''''''.Asked,
-  Reads'''''''''''''.Learnt,
-) Reads'.Pre Reads'.Post
+After-config = Lts.After-config readings Reads'.Pre Reads'.Post
 
 abbrev pub After-ticket : Type 0
-After-ticket = Lts.After-ticket (
-  Reads''''''''.Asked,
-  Reads''''''''.Learnt,
-  Reads''''''''''''.Asked,
-  Reads''''''''''''.Learnt,
-  Reads''.Asked,
-  Reads''.Learnt,
-  Reads'''.Asked,
-  Reads'''.Learnt,
-  Reads'''''''''.Asked,
-  Reads'''''''''.Learnt,
-  Reads'''''.Asked,
-  Reads'''''.Learnt,
-  Reads'''''''.Asked,
-  Reads'''''''.Learnt,
-  Reads''''''.Asked,
-  Reads''''''.Learnt,
-  Reads''''.Asked,
-  Reads''''.Learnt,
-  Reads''''''''''.Asked,
-  Reads''''''''''.Learnt,
-  Reads'''''''''''.Asked,
-  Reads'''''''''''.Learnt,
-  Reads.Asked,
-  Reads.Learnt,
-  Reads'''''''''''''.Asked,
-  Reads'''''''''''''.Learnt,
-) Reads'.Pre Reads'.Post
+After-ticket = Lts.After-ticket readings Reads'.Pre Reads'.Post
 
 abbrev pub After-id : Type 0
-After-id = Lts.After-id (
-  Reads''''''''.Asked,
-  Reads''''''''.Learnt,
-  Reads''''''''''''.Asked,
-  Reads''''''''''''.Learnt,
-  Reads''.Asked,
-  Reads''.Learnt,
-  Reads'''.Asked,
-  Reads'''.Learnt,
-  Reads'''''''''.Asked,
-  Reads'''''''''.Learnt,
-  Reads'''''.Asked,
-  Reads'''''.Learnt,
-  Reads'''''''.Asked,
-  Reads'''''''.Learnt,
-  Reads''''''.Asked,
-  Reads''''''.Learnt,
-  Reads''''.Asked,
-  Reads''''.Learnt,
-  Reads''''''''''.Asked,
-  Reads''''''''''.Learnt,
-  Reads'''''''''''.Asked,
-  Reads'''''''''''.Learnt,
-  Reads.Asked,
-  Reads.Learnt,
-  Reads'''''''''''''.Asked,
-  Reads'''''''''''''.Learnt,
-) Reads'.Pre
-    Reads'.Post
+After-id = Lts.After-id readings Reads'.Pre Reads'.Post
 
 abbrev pub After-incoming-out : Type 0
-After-incoming-out = Lts.After-incoming-out (
-  Reads''''''''.Asked,
-  Reads''''''''.Learnt,
-  Reads''''''''''''.Asked,
-  Reads''''''''''''.Learnt,
-  Reads''.Asked,
-  Reads''.Learnt,
-  Reads'''.Asked,
-  Reads'''.Learnt,
-  Reads'''''''''.Asked,
-  Reads'''''''''.Learnt,
-  Reads'''''.Asked,
-  Reads'''''.Learnt,
-  Reads'''''''.Asked,
-  Reads'''''''.Learnt,
-  Reads''''''.Asked,
-  Reads''''''.Learnt,
-  Reads''''.Asked,
-  Reads''''.Learnt,
-  Reads''''''''''.Asked,
-  Reads''''''''''.Learnt,
-  Reads'''''''''''.Asked,
-  Reads'''''''''''.Learnt,
-  Reads.Asked,
-  Reads.Learnt,
-  Reads'''''''''''''.Asked,
-  Reads'''''''''''''.Learnt,
-) Reads'.Pre Reads'.Post
+After-incoming-out = Lts.After-incoming-out readings Reads'.Pre Reads'.Post
 
 abbrev pub After-asking : Type 0
-After-asking = Lts.After-asking (
-  Reads''''''''.Asked,
-  Reads''''''''.Learnt,
-  Reads''''''''''''.Asked,
-  Reads''''''''''''.Learnt,
-  Reads''.Asked,
-  Reads''.Learnt,
-  Reads'''.Asked,
-  Reads'''.Learnt,
-  Reads'''''''''.Asked,
-  Reads'''''''''.Learnt,
-  Reads'''''.Asked,
-  Reads'''''.Learnt,
-  Reads'''''''.Asked,
-  Reads'''''''.Learnt,
-  Reads''''''.Asked,
-  Reads''''''.Learnt,
-  Reads''''.Asked,
-  Reads''''.Learnt,
-  Reads''''''''''.Asked,
-  Reads''''''''''.Learnt,
-  Reads'''''''''''.Asked,
-  Reads'''''''''''.Learnt,
-  Reads.Asked,
-  Reads.Learnt,
-  Reads'''''''''''''.Asked,
-  Reads'''''''''''''.Learnt,
-) Reads'.Pre Reads'.Post
+After-asking = Lts.After-asking readings Reads'.Pre Reads'.Post
 
 abbrev pub After-scan-actions-arg : Type 0
-After-scan-actions-arg = Lts.After-scan-actions-arg (
-  Reads''''''''.Asked,
-  Reads''''''''.Learnt,
-  Reads''''''''''''.Asked,
-  Reads''''''''''''.Learnt,
-  Reads''.Asked,
-  Reads''.Learnt,
-  Reads'''.Asked,
-  Reads'''.Learnt,
-  Reads'''''''''.Asked,
-  Reads'''''''''.Learnt,
-  Reads'''''.Asked,
-  Reads'''''.Learnt,
-  Reads'''''''.Asked,
-  Reads'''''''.Learnt,
-  Reads''''''.Asked,
-  Reads''''''.Learnt,
-  Reads''''.Asked,
-  Reads''''.Learnt,
-  Reads''''''''''.Asked,
-  Reads''''''''''.Learnt,
-  Reads'''''''''''.Asked,
-  Reads'''''''''''.Learnt,
-  Reads.Asked,
-  Reads.Learnt,
-  Reads'''''''''''''.Asked,
-  Reads'''''''''''''.Learnt,
-) Reads'.Pre Reads'.Post
+After-scan-actions-arg = Lts.After-scan-actions-arg readings Reads'.Pre Reads'.Post
 
 abbrev pub After-scan-actions : Type 0
-After-scan-actions = Lts.After-scan-actions (
-  Reads''''''''.Asked,
-  Reads''''''''.Learnt,
-  Reads''''''''''''.Asked,
-  Reads''''''''''''.Learnt,
-  Reads''.Asked,
-  Reads''.Learnt,
-  Reads'''.Asked,
-  Reads'''.Learnt,
-  Reads'''''''''.Asked,
-  Reads'''''''''.Learnt,
-  Reads'''''.Asked,
-  Reads'''''.Learnt,
-  Reads'''''''.Asked,
-  Reads'''''''.Learnt,
-  Reads''''''.Asked,
-  Reads''''''.Learnt,
-  Reads''''.Asked,
-  Reads''''.Learnt,
-  Reads''''''''''.Asked,
-  Reads''''''''''.Learnt,
-  Reads'''''''''''.Asked,
-  Reads'''''''''''.Learnt,
-  Reads.Asked,
-  Reads.Learnt,
-  Reads'''''''''''''.Asked,
-  Reads'''''''''''''.Learnt,
-) Reads'.Pre Reads'.Post
+After-scan-actions = Lts.After-scan-actions readings Reads'.Pre Reads'.Post
 
 abbrev pub After-scan-ledger-arg : Type 0
-After-scan-ledger-arg = Lts.After-scan-ledger-arg (
-  Reads''''''''.Asked,
-  Reads''''''''.Learnt,
-  Reads''''''''''''.Asked,
-  Reads''''''''''''.Learnt,
-  Reads''.Asked,
-  Reads''.Learnt,
-  Reads'''.Asked,
-  Reads'''.Learnt,
-  Reads'''''''''.Asked,
-  Reads'''''''''.Learnt,
-  Reads'''''.Asked,
-  Reads'''''.Learnt,
-  Reads'''''''.Asked,
-  Reads'''''''.Learnt,
-  Reads''''''.Asked,
-  Reads''''''.Learnt,
-  Reads''''.Asked,
-  Reads''''.Learnt,
-  Reads''''''''''.Asked,
-  Reads''''''''''.Learnt,
-  Reads'''''''''''.Asked,
-  Reads'''''''''''.Learnt,
-  Reads.Asked,
-  Reads.Learnt,
-  Reads'''''''''''''.Asked,
-  Reads'''''''''''''.Learnt,
-) Reads'.Pre Reads'.Post
+After-scan-ledger-arg = Lts.After-scan-ledger-arg readings Reads'.Pre Reads'.Post
 
 abbrev pub After-scan-ledger : Type 0
-After-scan-ledger = Lts.After-scan-ledger (
-  Reads''''''''.Asked,
-  Reads''''''''.Learnt,
-  Reads''''''''''''.Asked,
-  Reads''''''''''''.Learnt,
-  Reads''.Asked,
-  Reads''.Learnt,
-  Reads'''.Asked,
-  Reads'''.Learnt,
-  Reads'''''''''.Asked,
-  Reads'''''''''.Learnt,
-  Reads'''''.Asked,
-  Reads'''''.Learnt,
-  Reads'''''''.Asked,
-  Reads'''''''.Learnt,
-  Reads''''''.Asked,
-  Reads''''''.Learnt,
-  Reads''''.Asked,
-  Reads''''.Learnt,
-  Reads''''''''''.Asked,
-  Reads''''''''''.Learnt,
-  Reads'''''''''''.Asked,
-  Reads'''''''''''.Learnt,
-  Reads.Asked,
-  Reads.Learnt,
-  Reads'''''''''''''.Asked,
-  Reads'''''''''''''.Learnt,
-) Reads'.Pre Reads'.Post
+After-scan-ledger = Lts.After-scan-ledger readings Reads'.Pre Reads'.Post
 
 abbrev pub After-placed-rows : Type 0
-After-placed-rows = Lts.After-placed-rows (
-  Reads''''''''.Asked,
-  Reads''''''''.Learnt,
-  Reads''''''''''''.Asked,
-  Reads''''''''''''.Learnt,
-  Reads''.Asked,
-  Reads''.Learnt,
-  Reads'''.Asked,
-  Reads'''.Learnt,
-  Reads'''''''''.Asked,
-  Reads'''''''''.Learnt,
-  Reads'''''.Asked,
-  Reads'''''.Learnt,
-  Reads'''''''.Asked,
-  Reads'''''''.Learnt,
-  Reads''''''.Asked,
-  Reads''''''.Learnt,
-  Reads''''.Asked,
-  Reads''''.Learnt,
-  Reads''''''''''.Asked,
-  Reads''''''''''.Learnt,
-  Reads'''''''''''.Asked,
-  Reads'''''''''''.Learnt,
-  Reads.Asked,
-  Reads.Learnt,
-  Reads'''''''''''''.Asked,
-  Reads'''''''''''''.Learnt,
-) Reads'.Pre Reads'.Post
+After-placed-rows = Lts.After-placed-rows readings Reads'.Pre Reads'.Post
 
 abbrev pub After-is-taken : Type 0
-After-is-taken = Lts.After-is-taken (
-  Reads''''''''.Asked,
-  Reads''''''''.Learnt,
-  Reads''''''''''''.Asked,
-  Reads''''''''''''.Learnt,
-  Reads''.Asked,
-  Reads''.Learnt,
-  Reads'''.Asked,
-  Reads'''.Learnt,
-  Reads'''''''''.Asked,
-  Reads'''''''''.Learnt,
-  Reads'''''.Asked,
-  Reads'''''.Learnt,
-  Reads'''''''.Asked,
-  Reads'''''''.Learnt,
-  Reads''''''.Asked,
-  Reads''''''.Learnt,
-  Reads''''.Asked,
-  Reads''''.Learnt,
-  Reads''''''''''.Asked,
-  Reads''''''''''.Learnt,
-  Reads'''''''''''.Asked,
-  Reads'''''''''''.Learnt,
-  Reads.Asked,
-  Reads.Learnt,
-  Reads'''''''''''''.Asked,
-  Reads'''''''''''''.Learnt,
-) Reads'.Pre Reads'.Post
+After-is-taken = Lts.After-is-taken readings Reads'.Pre Reads'.Post
 
 abbrev pub Then1 : Type 0
-Then1 = Lts.Then1 (
-  Reads''''''''.Asked,
-  Reads''''''''.Learnt,
-  Reads''''''''''''.Asked,
-  Reads''''''''''''.Learnt,
-  Reads''.Asked,
-  Reads''.Learnt,
-  Reads'''.Asked,
-  Reads'''.Learnt,
-  Reads'''''''''.Asked,
-  Reads'''''''''.Learnt,
-  Reads'''''.Asked,
-  Reads'''''.Learnt,
-  Reads'''''''.Asked,
-  Reads'''''''.Learnt,
-  Reads''''''.Asked,
-  Reads''''''.Learnt,
-  Reads''''.Asked,
-  Reads''''.Learnt,
-  Reads''''''''''.Asked,
-  Reads''''''''''.Learnt,
-  Reads'''''''''''.Asked,
-  Reads'''''''''''.Learnt,
-  Reads.Asked,
-  Reads.Learnt,
-  Reads'''''''''''''.Asked,
-  Reads'''''''''''''.Learnt,
-) Reads'.Pre
-    Reads'.Post
+Then1 = Lts.Then1 readings Reads'.Pre Reads'.Post
 
 abbrev pub After-booked-usage : Type 0
-After-booked-usage = Lts.After-booked-usage (
-  Reads''''''''.Asked,
-  Reads''''''''.Learnt,
-  Reads''''''''''''.Asked,
-  Reads''''''''''''.Learnt,
-  Reads''.Asked,
-  Reads''.Learnt,
-  Reads'''.Asked,
-  Reads'''.Learnt,
-  Reads'''''''''.Asked,
-  Reads'''''''''.Learnt,
-  Reads'''''.Asked,
-  Reads'''''.Learnt,
-  Reads'''''''.Asked,
-  Reads'''''''.Learnt,
-  Reads''''''.Asked,
-  Reads''''''.Learnt,
-  Reads''''.Asked,
-  Reads''''.Learnt,
-  Reads''''''''''.Asked,
-  Reads''''''''''.Learnt,
-  Reads'''''''''''.Asked,
-  Reads'''''''''''.Learnt,
-  Reads.Asked,
-  Reads.Learnt,
-  Reads'''''''''''''.Asked,
-  Reads'''''''''''''.Learnt,
-) Reads'.Pre Reads'.Post
+After-booked-usage = Lts.After-booked-usage readings Reads'.Pre Reads'.Post
 
 abbrev pub After-booked-place : Type 0
-After-booked-place = Lts.After-booked-place (
-  Reads''''''''.Asked,
-  Reads''''''''.Learnt,
-  Reads''''''''''''.Asked,
-  Reads''''''''''''.Learnt,
-  Reads''.Asked,
-  Reads''.Learnt,
-  Reads'''.Asked,
-  Reads'''.Learnt,
-  Reads'''''''''.Asked,
-  Reads'''''''''.Learnt,
-  Reads'''''.Asked,
-  Reads'''''.Learnt,
-  Reads'''''''.Asked,
-  Reads'''''''.Learnt,
-  Reads''''''.Asked,
-  Reads''''''.Learnt,
-  Reads''''.Asked,
-  Reads''''.Learnt,
-  Reads''''''''''.Asked,
-  Reads''''''''''.Learnt,
-  Reads'''''''''''.Asked,
-  Reads'''''''''''.Learnt,
-  Reads.Asked,
-  Reads.Learnt,
-  Reads'''''''''''''.Asked,
-  Reads'''''''''''''.Learnt,
-) Reads'.Pre Reads'.Post
+After-booked-place = Lts.After-booked-place readings Reads'.Pre Reads'.Post
 
 abbrev pub After-set-usage-arg : Type 0
-After-set-usage-arg = Lts.After-set-usage-arg (
-  Reads''''''''.Asked,
-  Reads''''''''.Learnt,
-  Reads''''''''''''.Asked,
-  Reads''''''''''''.Learnt,
-  Reads''.Asked,
-  Reads''.Learnt,
-  Reads'''.Asked,
-  Reads'''.Learnt,
-  Reads'''''''''.Asked,
-  Reads'''''''''.Learnt,
-  Reads'''''.Asked,
-  Reads'''''.Learnt,
-  Reads'''''''.Asked,
-  Reads'''''''.Learnt,
-  Reads''''''.Asked,
-  Reads''''''.Learnt,
-  Reads''''.Asked,
-  Reads''''.Learnt,
-  Reads''''''''''.Asked,
-  Reads''''''''''.Learnt,
-  Reads'''''''''''.Asked,
-  Reads'''''''''''.Learnt,
-  Reads.Asked,
-  Reads.Learnt,
-  Reads'''''''''''''.Asked,
-  Reads'''''''''''''.Learnt,
-) Reads'.Pre Reads'.Post
+After-set-usage-arg = Lts.After-set-usage-arg readings Reads'.Pre Reads'.Post
 
 abbrev pub After-set-usage : Type 0
-After-set-usage = Lts.After-set-usage (
-  Reads''''''''.Asked,
-  Reads''''''''.Learnt,
-  Reads''''''''''''.Asked,
-  Reads''''''''''''.Learnt,
-  Reads''.Asked,
-  Reads''.Learnt,
-  Reads'''.Asked,
-  Reads'''.Learnt,
-  Reads'''''''''.Asked,
-  Reads'''''''''.Learnt,
-  Reads'''''.Asked,
-  Reads'''''.Learnt,
-  Reads'''''''.Asked,
-  Reads'''''''.Learnt,
-  Reads''''''.Asked,
-  Reads''''''.Learnt,
-  Reads''''.Asked,
-  Reads''''.Learnt,
-  Reads''''''''''.Asked,
-  Reads''''''''''.Learnt,
-  Reads'''''''''''.Asked,
-  Reads'''''''''''.Learnt,
-  Reads.Asked,
-  Reads.Learnt,
-  Reads'''''''''''''.Asked,
-  Reads'''''''''''''.Learnt,
-) Reads'.Pre Reads'.Post
+After-set-usage = Lts.After-set-usage readings Reads'.Pre Reads'.Post
 
 abbrev pub After-ledger : Type 0
-After-ledger = Lts.After-ledger (
-  Reads''''''''.Asked,
-  Reads''''''''.Learnt,
-  Reads''''''''''''.Asked,
-  Reads''''''''''''.Learnt,
-  Reads''.Asked,
-  Reads''.Learnt,
-  Reads'''.Asked,
-  Reads'''.Learnt,
-  Reads'''''''''.Asked,
-  Reads'''''''''.Learnt,
-  Reads'''''.Asked,
-  Reads'''''.Learnt,
-  Reads'''''''.Asked,
-  Reads'''''''.Learnt,
-  Reads''''''.Asked,
-  Reads''''''.Learnt,
-  Reads''''.Asked,
-  Reads''''.Learnt,
-  Reads''''''''''.Asked,
-  Reads''''''''''.Learnt,
-  Reads'''''''''''.Asked,
-  Reads'''''''''''.Learnt,
-  Reads.Asked,
-  Reads.Learnt,
-  Reads'''''''''''''.Asked,
-  Reads'''''''''''''.Learnt,
-) Reads'.Pre Reads'.Post
+After-ledger = Lts.After-ledger readings Reads'.Pre Reads'.Post
 
 abbrev pub After-raised : Type 0
-After-raised = Lts.After-raised (
-  Reads''''''''.Asked,
-  Reads''''''''.Learnt,
-  Reads''''''''''''.Asked,
-  Reads''''''''''''.Learnt,
-  Reads''.Asked,
-  Reads''.Learnt,
-  Reads'''.Asked,
-  Reads'''.Learnt,
-  Reads'''''''''.Asked,
-  Reads'''''''''.Learnt,
-  Reads'''''.Asked,
-  Reads'''''.Learnt,
-  Reads'''''''.Asked,
-  Reads'''''''.Learnt,
-  Reads''''''.Asked,
-  Reads''''''.Learnt,
-  Reads''''.Asked,
-  Reads''''.Learnt,
-  Reads''''''''''.Asked,
-  Reads''''''''''.Learnt,
-  Reads'''''''''''.Asked,
-  Reads'''''''''''.Learnt,
-  Reads.Asked,
-  Reads.Learnt,
-  Reads'''''''''''''.Asked,
-  Reads'''''''''''''.Learnt,
-) Reads'.Pre Reads'.Post
+After-raised = Lts.After-raised readings Reads'.Pre Reads'.Post
 
 abbrev pub After-with-ledger : Type 0
-After-with-ledger = Lts.After-with-ledger (
-  Reads''''''''.Asked,
-  Reads''''''''.Learnt,
-  Reads''''''''''''.Asked,
-  Reads''''''''''''.Learnt,
-  Reads''.Asked,
-  Reads''.Learnt,
-  Reads'''.Asked,
-  Reads'''.Learnt,
-  Reads'''''''''.Asked,
-  Reads'''''''''.Learnt,
-  Reads'''''.Asked,
-  Reads'''''.Learnt,
-  Reads'''''''.Asked,
-  Reads'''''''.Learnt,
-  Reads''''''.Asked,
-  Reads''''''.Learnt,
-  Reads''''.Asked,
-  Reads''''.Learnt,
-  Reads''''''''''.Asked,
-  Reads''''''''''.Learnt,
-  Reads'''''''''''.Asked,
-  Reads'''''''''''.Learnt,
-  Reads.Asked,
-  Reads.Learnt,
-  Reads'''''''''''''.Asked,
-  Reads'''''''''''''.Learnt,
-) Reads'.Pre Reads'.Post
+After-with-ledger = Lts.After-with-ledger readings Reads'.Pre Reads'.Post
 
 abbrev pub After-open-booked-arg : Type 0
-After-open-booked-arg = Lts.After-open-booked-arg (
-  Reads''''''''.Asked,
-  Reads''''''''.Learnt,
-  Reads''''''''''''.Asked,
-  Reads''''''''''''.Learnt,
-  Reads''.Asked,
-  Reads''.Learnt,
-  Reads'''.Asked,
-  Reads'''.Learnt,
-  Reads'''''''''.Asked,
-  Reads'''''''''.Learnt,
-  Reads'''''.Asked,
-  Reads'''''.Learnt,
-  Reads'''''''.Asked,
-  Reads'''''''.Learnt,
-  Reads''''''.Asked,
-  Reads''''''.Learnt,
-  Reads''''.Asked,
-  Reads''''.Learnt,
-  Reads''''''''''.Asked,
-  Reads''''''''''.Learnt,
-  Reads'''''''''''.Asked,
-  Reads'''''''''''.Learnt,
-  Reads.Asked,
-  Reads.Learnt,
-  Reads'''''''''''''.Asked,
-  Reads'''''''''''''.Learnt,
-) Reads'.Pre Reads'.Post
+After-open-booked-arg = Lts.After-open-booked-arg readings Reads'.Pre Reads'.Post
 
 abbrev pub After-open-booked-arg2 : Type 0
-After-open-booked-arg2 = Lts.After-open-booked-arg2 (
-  Reads''''''''.Asked,
-  Reads''''''''.Learnt,
-  Reads''''''''''''.Asked,
-  Reads''''''''''''.Learnt,
-  Reads''.Asked,
-  Reads''.Learnt,
-  Reads'''.Asked,
-  Reads'''.Learnt,
-  Reads'''''''''.Asked,
-  Reads'''''''''.Learnt,
-  Reads'''''.Asked,
-  Reads'''''.Learnt,
-  Reads'''''''.Asked,
-  Reads'''''''.Learnt,
-  Reads''''''.Asked,
-  Reads''''''.Learnt,
-  Reads''''.Asked,
-  Reads''''.Learnt,
-  Reads''''''''''.Asked,
-  Reads''''''''''.Learnt,
-  Reads'''''''''''.Asked,
-  Reads'''''''''''.Learnt,
-  Reads.Asked,
-  Reads.Learnt,
-  Reads'''''''''''''.Asked,
-  Reads'''''''''''''.Learnt,
-) Reads'.Pre Reads'.Post
+After-open-booked-arg2 = Lts.After-open-booked-arg2 readings Reads'.Pre Reads'.Post
 
 abbrev pub After-open-booked-arg3 : Type 0
-After-open-booked-arg3 = Lts.After-open-booked-arg3 (
-  Reads''''''''.Asked,
-  Reads''''''''.Learnt,
-  Reads''''''''''''.Asked,
-  Reads''''''''''''.Learnt,
-  Reads''.Asked,
-  Reads''.Learnt,
-  Reads'''.Asked,
-  Reads'''.Learnt,
-  Reads'''''''''.Asked,
-  Reads'''''''''.Learnt,
-  Reads'''''.Asked,
-  Reads'''''.Learnt,
-  Reads'''''''.Asked,
-  Reads'''''''.Learnt,
-  Reads''''''.Asked,
-  Reads''''''.Learnt,
-  Reads''''.Asked,
-  Reads''''.Learnt,
-  Reads''''''''''.Asked,
-  Reads''''''''''.Learnt,
-  Reads'''''''''''.Asked,
-  Reads'''''''''''.Learnt,
-  Reads.Asked,
-  Reads.Learnt,
-  Reads'''''''''''''.Asked,
-  Reads'''''''''''''.Learnt,
-) Reads'.Pre Reads'.Post
+After-open-booked-arg3 = Lts.After-open-booked-arg3 readings Reads'.Pre Reads'.Post
 
 abbrev pub After-open-booked : Type 0
-After-open-booked = Lts.After-open-booked (
-  Reads''''''''.Asked,
-  Reads''''''''.Learnt,
-  Reads''''''''''''.Asked,
-  Reads''''''''''''.Learnt,
-  Reads''.Asked,
-  Reads''.Learnt,
-  Reads'''.Asked,
-  Reads'''.Learnt,
-  Reads'''''''''.Asked,
-  Reads'''''''''.Learnt,
-  Reads'''''.Asked,
-  Reads'''''.Learnt,
-  Reads'''''''.Asked,
-  Reads'''''''.Learnt,
-  Reads''''''.Asked,
-  Reads''''''.Learnt,
-  Reads''''.Asked,
-  Reads''''.Learnt,
-  Reads''''''''''.Asked,
-  Reads''''''''''.Learnt,
-  Reads'''''''''''.Asked,
-  Reads'''''''''''.Learnt,
-  Reads.Asked,
-  Reads.Learnt,
-  Reads'''''''''''''.Asked,
-  Reads'''''''''''''.Learnt,
-) Reads'.Pre Reads'.Post
+After-open-booked = Lts.After-open-booked readings Reads'.Pre Reads'.Post
 
 abbrev pub After-pending : Type 0
-After-pending = Lts.After-pending (
-  Reads''''''''.Asked,
-  Reads''''''''.Learnt,
-  Reads''''''''''''.Asked,
-  Reads''''''''''''.Learnt,
-  Reads''.Asked,
-  Reads''.Learnt,
-  Reads'''.Asked,
-  Reads'''.Learnt,
-  Reads'''''''''.Asked,
-  Reads'''''''''.Learnt,
-  Reads'''''.Asked,
-  Reads'''''.Learnt,
-  Reads'''''''.Asked,
-  Reads'''''''.Learnt,
-  Reads''''''.Asked,
-  Reads''''''.Learnt,
-  Reads''''.Asked,
-  Reads''''.Learnt,
-  Reads''''''''''.Asked,
-  Reads''''''''''.Learnt,
-  Reads'''''''''''.Asked,
-  Reads'''''''''''.Learnt,
-  Reads.Asked,
-  Reads.Learnt,
-  Reads'''''''''''''.Asked,
-  Reads'''''''''''''.Learnt,
-) Reads'.Pre Reads'.Post
+After-pending = Lts.After-pending readings Reads'.Pre Reads'.Post
 
 abbrev pub After-inflight : Type 0
-After-inflight = Lts.After-inflight (
-  Reads''''''''.Asked,
-  Reads''''''''.Learnt,
-  Reads''''''''''''.Asked,
-  Reads''''''''''''.Learnt,
-  Reads''.Asked,
-  Reads''.Learnt,
-  Reads'''.Asked,
-  Reads'''.Learnt,
-  Reads'''''''''.Asked,
-  Reads'''''''''.Learnt,
-  Reads'''''.Asked,
-  Reads'''''.Learnt,
-  Reads'''''''.Asked,
-  Reads'''''''.Learnt,
-  Reads''''''.Asked,
-  Reads''''''.Learnt,
-  Reads''''.Asked,
-  Reads''''.Learnt,
-  Reads''''''''''.Asked,
-  Reads''''''''''.Learnt,
-  Reads'''''''''''.Asked,
-  Reads'''''''''''.Learnt,
-  Reads.Asked,
-  Reads.Learnt,
-  Reads'''''''''''''.Asked,
-  Reads'''''''''''''.Learnt,
-) Reads'.Pre Reads'.Post
+After-inflight = Lts.After-inflight readings Reads'.Pre Reads'.Post
 
 abbrev pub After-out : Type 0
-After-out = Lts.After-out (
-  Reads''''''''.Asked,
-  Reads''''''''.Learnt,
-  Reads''''''''''''.Asked,
-  Reads''''''''''''.Learnt,
-  Reads''.Asked,
-  Reads''.Learnt,
-  Reads'''.Asked,
-  Reads'''.Learnt,
-  Reads'''''''''.Asked,
-  Reads'''''''''.Learnt,
-  Reads'''''.Asked,
-  Reads'''''.Learnt,
-  Reads'''''''.Asked,
-  Reads'''''''.Learnt,
-  Reads''''''.Asked,
-  Reads''''''.Learnt,
-  Reads''''.Asked,
-  Reads''''.Learnt,
-  Reads''''''''''.Asked,
-  Reads''''''''''.Learnt,
-  Reads'''''''''''.Asked,
-  Reads'''''''''''.Learnt,
-  Reads.Asked,
-  Reads.Learnt,
-  Reads'''''''''''''.Asked,
-  Reads'''''''''''''.Learnt,
-) Reads'.Pre Reads'.Post
+After-out = Lts.After-out readings Reads'.Pre Reads'.Post
 
 abbrev pub After-slice-known2 : Type 0
-After-slice-known2 = Lts.After-slice-known2 (
-  Reads''''''''.Asked,
-  Reads''''''''.Learnt,
-  Reads''''''''''''.Asked,
-  Reads''''''''''''.Learnt,
-  Reads''.Asked,
-  Reads''.Learnt,
-  Reads'''.Asked,
-  Reads'''.Learnt,
-  Reads'''''''''.Asked,
-  Reads'''''''''.Learnt,
-  Reads'''''.Asked,
-  Reads'''''.Learnt,
-  Reads'''''''.Asked,
-  Reads'''''''.Learnt,
-  Reads''''''.Asked,
-  Reads''''''.Learnt,
-  Reads''''.Asked,
-  Reads''''.Learnt,
-  Reads''''''''''.Asked,
-  Reads''''''''''.Learnt,
-  Reads'''''''''''.Asked,
-  Reads'''''''''''.Learnt,
-  Reads.Asked,
-  Reads.Learnt,
-  Reads'''''''''''''.Asked,
-  Reads'''''''''''''.Learnt,
-) Reads'.Pre Reads'.Post
+After-slice-known2 = Lts.After-slice-known2 readings Reads'.Pre Reads'.Post
 
 abbrev pub Else1 : Type 0
-Else1 = Lts.Else1 (
-  Reads''''''''.Asked,
-  Reads''''''''.Learnt,
-  Reads''''''''''''.Asked,
-  Reads''''''''''''.Learnt,
-  Reads''.Asked,
-  Reads''.Learnt,
-  Reads'''.Asked,
-  Reads'''.Learnt,
-  Reads'''''''''.Asked,
-  Reads'''''''''.Learnt,
-  Reads'''''.Asked,
-  Reads'''''.Learnt,
-  Reads'''''''.Asked,
-  Reads'''''''.Learnt,
-  Reads''''''.Asked,
-  Reads''''''.Learnt,
-  Reads''''.Asked,
-  Reads''''.Learnt,
-  Reads''''''''''.Asked,
-  Reads''''''''''.Learnt,
-  Reads'''''''''''.Asked,
-  Reads'''''''''''.Learnt,
-  Reads.Asked,
-  Reads.Learnt,
-  Reads'''''''''''''.Asked,
-  Reads'''''''''''''.Learnt,
-) Reads'.Pre
-    Reads'.Post
+Else1 = Lts.Else1 readings Reads'.Pre Reads'.Post
 
 abbrev pub After-refused : Type 0
-After-refused = Lts.After-refused (
-  Reads''''''''.Asked,
-  Reads''''''''.Learnt,
-  Reads''''''''''''.Asked,
-  Reads''''''''''''.Learnt,
-  Reads''.Asked,
-  Reads''.Learnt,
-  Reads'''.Asked,
-  Reads'''.Learnt,
-  Reads'''''''''.Asked,
-  Reads'''''''''.Learnt,
-  Reads'''''.Asked,
-  Reads'''''.Learnt,
-  Reads'''''''.Asked,
-  Reads'''''''.Learnt,
-  Reads''''''.Asked,
-  Reads''''''.Learnt,
-  Reads''''.Asked,
-  Reads''''.Learnt,
-  Reads''''''''''.Asked,
-  Reads''''''''''.Learnt,
-  Reads'''''''''''.Asked,
-  Reads'''''''''''.Learnt,
-  Reads.Asked,
-  Reads.Learnt,
-  Reads'''''''''''''.Asked,
-  Reads'''''''''''''.Learnt,
-) Reads'.Pre Reads'.Post
+After-refused = Lts.After-refused readings Reads'.Pre Reads'.Post
 
 abbrev pub Need-incoming-out-requires : Type 0
-Need-incoming-out-requires = Lts.Need-incoming-out-requires (
-  Reads''''''''.Asked,
-  Reads''''''''.Learnt,
-  Reads''''''''''''.Asked,
-  Reads''''''''''''.Learnt,
-  Reads''.Asked,
-  Reads''.Learnt,
-  Reads'''.Asked,
-  Reads'''.Learnt,
-  Reads'''''''''.Asked,
-  Reads'''''''''.Learnt,
-  Reads'''''.Asked,
-  Reads'''''.Learnt,
-  Reads'''''''.Asked,
-  Reads'''''''.Learnt,
-  Reads''''''.Asked,
-  Reads''''''.Learnt,
-  Reads''''.Asked,
-  Reads''''.Learnt,
-  Reads''''''''''.Asked,
-  Reads''''''''''.Learnt,
-  Reads'''''''''''.Asked,
-  Reads'''''''''''.Learnt,
-  Reads.Asked,
-  Reads.Learnt,
-  Reads'''''''''''''.Asked,
-  Reads'''''''''''''.Learnt,
-) Reads'.Pre Reads'.Post
+Need-incoming-out-requires = Lts.Need-incoming-out-requires readings Reads'.Pre Reads'.Post
 
 abbrev pub Need-asking-requires : Type 0
-Need-asking-requires = Lts.Need-asking-requires (
-  Reads''''''''.Asked,
-  Reads''''''''.Learnt,
-  Reads''''''''''''.Asked,
-  Reads''''''''''''.Learnt,
-  Reads''.Asked,
-  Reads''.Learnt,
-  Reads'''.Asked,
-  Reads'''.Learnt,
-  Reads'''''''''.Asked,
-  Reads'''''''''.Learnt,
-  Reads'''''.Asked,
-  Reads'''''.Learnt,
-  Reads'''''''.Asked,
-  Reads'''''''.Learnt,
-  Reads''''''.Asked,
-  Reads''''''.Learnt,
-  Reads''''.Asked,
-  Reads''''.Learnt,
-  Reads''''''''''.Asked,
-  Reads''''''''''.Learnt,
-  Reads'''''''''''.Asked,
-  Reads'''''''''''.Learnt,
-  Reads.Asked,
-  Reads.Learnt,
-  Reads'''''''''''''.Asked,
-  Reads'''''''''''''.Learnt,
-) Reads'.Pre Reads'.Post
+Need-asking-requires = Lts.Need-asking-requires readings Reads'.Pre Reads'.Post
 
 abbrev pub Need-scan-actions-requires : Type 0
-Need-scan-actions-requires = Lts.Need-scan-actions-requires (
-  Reads''''''''.Asked,
-  Reads''''''''.Learnt,
-  Reads''''''''''''.Asked,
-  Reads''''''''''''.Learnt,
-  Reads''.Asked,
-  Reads''.Learnt,
-  Reads'''.Asked,
-  Reads'''.Learnt,
-  Reads'''''''''.Asked,
-  Reads'''''''''.Learnt,
-  Reads'''''.Asked,
-  Reads'''''.Learnt,
-  Reads'''''''.Asked,
-  Reads'''''''.Learnt,
-  Reads''''''.Asked,
-  Reads''''''.Learnt,
-  Reads''''.Asked,
-  Reads''''.Learnt,
-  Reads''''''''''.Asked,
-  Reads''''''''''.Learnt,
-  Reads'''''''''''.Asked,
-  Reads'''''''''''.Learnt,
-  Reads.Asked,
-  Reads.Learnt,
-  Reads'''''''''''''.Asked,
-  Reads'''''''''''''.Learnt,
-) Reads'.Pre Reads'.Post
+Need-scan-actions-requires = Lts.Need-scan-actions-requires readings Reads'.Pre Reads'.Post
 
 abbrev pub Need-scan-ledger-requires : Type 0
-Need-scan-ledger-requires = Lts.Need-scan-ledger-requires (
-  Reads''''''''.Asked,
-  Reads''''''''.Learnt,
-  Reads''''''''''''.Asked,
-  Reads''''''''''''.Learnt,
-  Reads''.Asked,
-  Reads''.Learnt,
-  Reads'''.Asked,
-  Reads'''.Learnt,
-  Reads'''''''''.Asked,
-  Reads'''''''''.Learnt,
-  Reads'''''.Asked,
-  Reads'''''.Learnt,
-  Reads'''''''.Asked,
-  Reads'''''''.Learnt,
-  Reads''''''.Asked,
-  Reads''''''.Learnt,
-  Reads''''.Asked,
-  Reads''''.Learnt,
-  Reads''''''''''.Asked,
-  Reads''''''''''.Learnt,
-  Reads'''''''''''.Asked,
-  Reads'''''''''''.Learnt,
-  Reads.Asked,
-  Reads.Learnt,
-  Reads'''''''''''''.Asked,
-  Reads'''''''''''''.Learnt,
-) Reads'.Pre Reads'.Post
+Need-scan-ledger-requires = Lts.Need-scan-ledger-requires readings Reads'.Pre Reads'.Post
 
 abbrev pub Need-placed-rows-requires : Type 0
-Need-placed-rows-requires = Lts.Need-placed-rows-requires (
-  Reads''''''''.Asked,
-  Reads''''''''.Learnt,
-  Reads''''''''''''.Asked,
-  Reads''''''''''''.Learnt,
-  Reads''.Asked,
-  Reads''.Learnt,
-  Reads'''.Asked,
-  Reads'''.Learnt,
-  Reads'''''''''.Asked,
-  Reads'''''''''.Learnt,
-  Reads'''''.Asked,
-  Reads'''''.Learnt,
-  Reads'''''''.Asked,
-  Reads'''''''.Learnt,
-  Reads''''''.Asked,
-  Reads''''''.Learnt,
-  Reads''''.Asked,
-  Reads''''.Learnt,
-  Reads''''''''''.Asked,
-  Reads''''''''''.Learnt,
-  Reads'''''''''''.Asked,
-  Reads'''''''''''.Learnt,
-  Reads.Asked,
-  Reads.Learnt,
-  Reads'''''''''''''.Asked,
-  Reads'''''''''''''.Learnt,
-) Reads'.Pre Reads'.Post
+Need-placed-rows-requires = Lts.Need-placed-rows-requires readings Reads'.Pre Reads'.Post
 
 abbrev pub Need-is-taken-requires : Type 0
-Need-is-taken-requires = Lts.Need-is-taken-requires (
-  Reads''''''''.Asked,
-  Reads''''''''.Learnt,
-  Reads''''''''''''.Asked,
-  Reads''''''''''''.Learnt,
-  Reads''.Asked,
-  Reads''.Learnt,
-  Reads'''.Asked,
-  Reads'''.Learnt,
-  Reads'''''''''.Asked,
-  Reads'''''''''.Learnt,
-  Reads'''''.Asked,
-  Reads'''''.Learnt,
-  Reads'''''''.Asked,
-  Reads'''''''.Learnt,
-  Reads''''''.Asked,
-  Reads''''''.Learnt,
-  Reads''''.Asked,
-  Reads''''.Learnt,
-  Reads''''''''''.Asked,
-  Reads''''''''''.Learnt,
-  Reads'''''''''''.Asked,
-  Reads'''''''''''.Learnt,
-  Reads.Asked,
-  Reads.Learnt,
-  Reads'''''''''''''.Asked,
-  Reads'''''''''''''.Learnt,
-) Reads'.Pre Reads'.Post
+Need-is-taken-requires = Lts.Need-is-taken-requires readings Reads'.Pre Reads'.Post
 
 abbrev pub Need-booked-usage-requires : Type 0
-Need-booked-usage-requires = Lts.Need-booked-usage-requires (
-  Reads''''''''.Asked,
-  Reads''''''''.Learnt,
-  Reads''''''''''''.Asked,
-  Reads''''''''''''.Learnt,
-  Reads''.Asked,
-  Reads''.Learnt,
-  Reads'''.Asked,
-  Reads'''.Learnt,
-  Reads'''''''''.Asked,
-  Reads'''''''''.Learnt,
-  Reads'''''.Asked,
-  Reads'''''.Learnt,
-  Reads'''''''.Asked,
-  Reads'''''''.Learnt,
-  Reads''''''.Asked,
-  Reads''''''.Learnt,
-  Reads''''.Asked,
-  Reads''''.Learnt,
-  Reads''''''''''.Asked,
-  Reads''''''''''.Learnt,
-  Reads'''''''''''.Asked,
-  Reads'''''''''''.Learnt,
-  Reads.Asked,
-  Reads.Learnt,
-  Reads'''''''''''''.Asked,
-  Reads'''''''''''''.Learnt,
-) Reads'.Pre Reads'.Post
+Need-booked-usage-requires = Lts.Need-booked-usage-requires readings Reads'.Pre Reads'.Post
 
 abbrev pub Need-booked-place-requires : Type 0
-Need-booked-place-requires = Lts.Need-booked-place-requires (
-  Reads''''''''.Asked,
-  Reads''''''''.Learnt,
-  Reads''''''''''''.Asked,
-  Reads''''''''''''.Learnt,
-  Reads''.Asked,
-  Reads''.Learnt,
-  Reads'''.Asked,
-  Reads'''.Learnt,
-  Reads'''''''''.Asked,
-  Reads'''''''''.Learnt,
-  Reads'''''.Asked,
-  Reads'''''.Learnt,
-  Reads'''''''.Asked,
-  Reads'''''''.Learnt,
-  Reads''''''.Asked,
-  Reads''''''.Learnt,
-  Reads''''.Asked,
-  Reads''''.Learnt,
-  Reads''''''''''.Asked,
-  Reads''''''''''.Learnt,
-  Reads'''''''''''.Asked,
-  Reads'''''''''''.Learnt,
-  Reads.Asked,
-  Reads.Learnt,
-  Reads'''''''''''''.Asked,
-  Reads'''''''''''''.Learnt,
-) Reads'.Pre Reads'.Post
+Need-booked-place-requires = Lts.Need-booked-place-requires readings Reads'.Pre Reads'.Post
 
 abbrev pub Need-set-usage-requires : Type 0
-Need-set-usage-requires = Lts.Need-set-usage-requires (
-  Reads''''''''.Asked,
-  Reads''''''''.Learnt,
-  Reads''''''''''''.Asked,
-  Reads''''''''''''.Learnt,
-  Reads''.Asked,
-  Reads''.Learnt,
-  Reads'''.Asked,
-  Reads'''.Learnt,
-  Reads'''''''''.Asked,
-  Reads'''''''''.Learnt,
-  Reads'''''.Asked,
-  Reads'''''.Learnt,
-  Reads'''''''.Asked,
-  Reads'''''''.Learnt,
-  Reads''''''.Asked,
-  Reads''''''.Learnt,
-  Reads''''.Asked,
-  Reads''''.Learnt,
-  Reads''''''''''.Asked,
-  Reads''''''''''.Learnt,
-  Reads'''''''''''.Asked,
-  Reads'''''''''''.Learnt,
-  Reads.Asked,
-  Reads.Learnt,
-  Reads'''''''''''''.Asked,
-  Reads'''''''''''''.Learnt,
-) Reads'.Pre Reads'.Post
+Need-set-usage-requires = Lts.Need-set-usage-requires readings Reads'.Pre Reads'.Post
 
 abbrev pub Need-raised-requires : Type 0
-Need-raised-requires = Lts.Need-raised-requires (
-  Reads''''''''.Asked,
-  Reads''''''''.Learnt,
-  Reads''''''''''''.Asked,
-  Reads''''''''''''.Learnt,
-  Reads''.Asked,
-  Reads''.Learnt,
-  Reads'''.Asked,
-  Reads'''.Learnt,
-  Reads'''''''''.Asked,
-  Reads'''''''''.Learnt,
-  Reads'''''.Asked,
-  Reads'''''.Learnt,
-  Reads'''''''.Asked,
-  Reads'''''''.Learnt,
-  Reads''''''.Asked,
-  Reads''''''.Learnt,
-  Reads''''.Asked,
-  Reads''''.Learnt,
-  Reads''''''''''.Asked,
-  Reads''''''''''.Learnt,
-  Reads'''''''''''.Asked,
-  Reads'''''''''''.Learnt,
-  Reads.Asked,
-  Reads.Learnt,
-  Reads'''''''''''''.Asked,
-  Reads'''''''''''''.Learnt,
-) Reads'.Pre Reads'.Post
+Need-raised-requires = Lts.Need-raised-requires readings Reads'.Pre Reads'.Post
 
 abbrev pub Need-with-ledger-requires : Type 0
-Need-with-ledger-requires = Lts.Need-with-ledger-requires (
-  Reads''''''''.Asked,
-  Reads''''''''.Learnt,
-  Reads''''''''''''.Asked,
-  Reads''''''''''''.Learnt,
-  Reads''.Asked,
-  Reads''.Learnt,
-  Reads'''.Asked,
-  Reads'''.Learnt,
-  Reads'''''''''.Asked,
-  Reads'''''''''.Learnt,
-  Reads'''''.Asked,
-  Reads'''''.Learnt,
-  Reads'''''''.Asked,
-  Reads'''''''.Learnt,
-  Reads''''''.Asked,
-  Reads''''''.Learnt,
-  Reads''''.Asked,
-  Reads''''.Learnt,
-  Reads''''''''''.Asked,
-  Reads''''''''''.Learnt,
-  Reads'''''''''''.Asked,
-  Reads'''''''''''.Learnt,
-  Reads.Asked,
-  Reads.Learnt,
-  Reads'''''''''''''.Asked,
-  Reads'''''''''''''.Learnt,
-) Reads'.Pre Reads'.Post
+Need-with-ledger-requires = Lts.Need-with-ledger-requires readings Reads'.Pre Reads'.Post
 
 abbrev pub Need-open-booked-requires : Type 0
-Need-open-booked-requires = Lts.Need-open-booked-requires (
-  Reads''''''''.Asked,
-  Reads''''''''.Learnt,
-  Reads''''''''''''.Asked,
-  Reads''''''''''''.Learnt,
-  Reads''.Asked,
-  Reads''.Learnt,
-  Reads'''.Asked,
-  Reads'''.Learnt,
-  Reads'''''''''.Asked,
-  Reads'''''''''.Learnt,
-  Reads'''''.Asked,
-  Reads'''''.Learnt,
-  Reads'''''''.Asked,
-  Reads'''''''.Learnt,
-  Reads''''''.Asked,
-  Reads''''''.Learnt,
-  Reads''''.Asked,
-  Reads''''.Learnt,
-  Reads''''''''''.Asked,
-  Reads''''''''''.Learnt,
-  Reads'''''''''''.Asked,
-  Reads'''''''''''.Learnt,
-  Reads.Asked,
-  Reads.Learnt,
-  Reads'''''''''''''.Asked,
-  Reads'''''''''''''.Learnt,
-) Reads'.Pre Reads'.Post
+Need-open-booked-requires = Lts.Need-open-booked-requires readings Reads'.Pre Reads'.Post
 
 abbrev pub Need-same-length : Type 0
-Need-same-length = Lts.Need-same-length (
-  Reads''''''''.Asked,
-  Reads''''''''.Learnt,
-  Reads''''''''''''.Asked,
-  Reads''''''''''''.Learnt,
-  Reads''.Asked,
-  Reads''.Learnt,
-  Reads'''.Asked,
-  Reads'''.Learnt,
-  Reads'''''''''.Asked,
-  Reads'''''''''.Learnt,
-  Reads'''''.Asked,
-  Reads'''''.Learnt,
-  Reads'''''''.Asked,
-  Reads'''''''.Learnt,
-  Reads''''''.Asked,
-  Reads''''''.Learnt,
-  Reads''''.Asked,
-  Reads''''.Learnt,
-  Reads''''''''''.Asked,
-  Reads''''''''''.Learnt,
-  Reads'''''''''''.Asked,
-  Reads'''''''''''.Learnt,
-  Reads.Asked,
-  Reads.Learnt,
-  Reads'''''''''''''.Asked,
-  Reads'''''''''''''.Learnt,
-) Reads'.Pre Reads'.Post
+Need-same-length = Lts.Need-same-length readings Reads'.Pre Reads'.Post
 
 abbrev pub Need-same-length-2 : Type 0
-Need-same-length-2 = Lts.Need-same-length-2 (
-  Reads''''''''.Asked,
-  Reads''''''''.Learnt,
-  Reads''''''''''''.Asked,
-  Reads''''''''''''.Learnt,
-  Reads''.Asked,
-  Reads''.Learnt,
-  Reads'''.Asked,
-  Reads'''.Learnt,
-  Reads'''''''''.Asked,
-  Reads'''''''''.Learnt,
-  Reads'''''.Asked,
-  Reads'''''.Learnt,
-  Reads'''''''.Asked,
-  Reads'''''''.Learnt,
-  Reads''''''.Asked,
-  Reads''''''.Learnt,
-  Reads''''.Asked,
-  Reads''''.Learnt,
-  Reads''''''''''.Asked,
-  Reads''''''''''.Learnt,
-  Reads'''''''''''.Asked,
-  Reads'''''''''''.Learnt,
-  Reads.Asked,
-  Reads.Learnt,
-  Reads'''''''''''''.Asked,
-  Reads'''''''''''''.Learnt,
-) Reads'.Pre Reads'.Post
+Need-same-length-2 = Lts.Need-same-length-2 readings Reads'.Pre Reads'.Post
 
 abbrev pub Need-same-length-3 : Type 0
-Need-same-length-3 = Lts.Need-same-length-3 (
-  Reads''''''''.Asked,
-  Reads''''''''.Learnt,
-  Reads''''''''''''.Asked,
-  Reads''''''''''''.Learnt,
-  Reads''.Asked,
-  Reads''.Learnt,
-  Reads'''.Asked,
-  Reads'''.Learnt,
-  Reads'''''''''.Asked,
-  Reads'''''''''.Learnt,
-  Reads'''''.Asked,
-  Reads'''''.Learnt,
-  Reads'''''''.Asked,
-  Reads'''''''.Learnt,
-  Reads''''''.Asked,
-  Reads''''''.Learnt,
-  Reads''''.Asked,
-  Reads''''.Learnt,
-  Reads''''''''''.Asked,
-  Reads''''''''''.Learnt,
-  Reads'''''''''''.Asked,
-  Reads'''''''''''.Learnt,
-  Reads.Asked,
-  Reads.Learnt,
-  Reads'''''''''''''.Asked,
-  Reads'''''''''''''.Learnt,
-) Reads'.Pre Reads'.Post
+Need-same-length-3 = Lts.Need-same-length-3 readings Reads'.Pre Reads'.Post
 
 abbrev pub Need-same-length-4 : Type 0
-Need-same-length-4 = Lts.Need-same-length-4 (
-  Reads''''''''.Asked,
-  Reads''''''''.Learnt,
-  Reads''''''''''''.Asked,
-  Reads''''''''''''.Learnt,
-  Reads''.Asked,
-  Reads''.Learnt,
-  Reads'''.Asked,
-  Reads'''.Learnt,
-  Reads'''''''''.Asked,
-  Reads'''''''''.Learnt,
-  Reads'''''.Asked,
-  Reads'''''.Learnt,
-  Reads'''''''.Asked,
-  Reads'''''''.Learnt,
-  Reads''''''.Asked,
-  Reads''''''.Learnt,
-  Reads''''.Asked,
-  Reads''''.Learnt,
-  Reads''''''''''.Asked,
-  Reads''''''''''.Learnt,
-  Reads'''''''''''.Asked,
-  Reads'''''''''''.Learnt,
-  Reads.Asked,
-  Reads.Learnt,
-  Reads'''''''''''''.Asked,
-  Reads'''''''''''''.Learnt,
-) Reads'.Pre Reads'.Post
+Need-same-length-4 = Lts.Need-same-length-4 readings Reads'.Pre Reads'.Post
 
 abbrev pub Need-returns : Type 0
-Need-returns = Lts.Need-returns (
-  Reads''''''''.Asked,
-  Reads''''''''.Learnt,
-  Reads''''''''''''.Asked,
-  Reads''''''''''''.Learnt,
-  Reads''.Asked,
-  Reads''.Learnt,
-  Reads'''.Asked,
-  Reads'''.Learnt,
-  Reads'''''''''.Asked,
-  Reads'''''''''.Learnt,
-  Reads'''''.Asked,
-  Reads'''''.Learnt,
-  Reads'''''''.Asked,
-  Reads'''''''.Learnt,
-  Reads''''''.Asked,
-  Reads''''''.Learnt,
-  Reads''''.Asked,
-  Reads''''.Learnt,
-  Reads''''''''''.Asked,
-  Reads''''''''''.Learnt,
-  Reads'''''''''''.Asked,
-  Reads'''''''''''.Learnt,
-  Reads.Asked,
-  Reads.Learnt,
-  Reads'''''''''''''.Asked,
-  Reads'''''''''''''.Learnt,
-) Reads'.Pre Reads'.Post
+Need-returns = Lts.Need-returns readings Reads'.Pre Reads'.Post
 
 abbrev pub Need-refused-requires : Type 0
-Need-refused-requires = Lts.Need-refused-requires (
-  Reads''''''''.Asked,
-  Reads''''''''.Learnt,
-  Reads''''''''''''.Asked,
-  Reads''''''''''''.Learnt,
-  Reads''.Asked,
-  Reads''.Learnt,
-  Reads'''.Asked,
-  Reads'''.Learnt,
-  Reads'''''''''.Asked,
-  Reads'''''''''.Learnt,
-  Reads'''''.Asked,
-  Reads'''''.Learnt,
-  Reads'''''''.Asked,
-  Reads'''''''.Learnt,
-  Reads''''''.Asked,
-  Reads''''''.Learnt,
-  Reads''''.Asked,
-  Reads''''.Learnt,
-  Reads''''''''''.Asked,
-  Reads''''''''''.Learnt,
-  Reads'''''''''''.Asked,
-  Reads'''''''''''.Learnt,
-  Reads.Asked,
-  Reads.Learnt,
-  Reads'''''''''''''.Asked,
-  Reads'''''''''''''.Learnt,
-) Reads'.Pre Reads'.Post
+Need-refused-requires = Lts.Need-refused-requires readings Reads'.Pre Reads'.Post
 
 abbrev pub Need-same-length-5 : Type 0
-Need-same-length-5 = Lts.Need-same-length-5 (
-  Reads''''''''.Asked,
-  Reads''''''''.Learnt,
-  Reads''''''''''''.Asked,
-  Reads''''''''''''.Learnt,
-  Reads''.Asked,
-  Reads''.Learnt,
-  Reads'''.Asked,
-  Reads'''.Learnt,
-  Reads'''''''''.Asked,
-  Reads'''''''''.Learnt,
-  Reads'''''.Asked,
-  Reads'''''.Learnt,
-  Reads'''''''.Asked,
-  Reads'''''''.Learnt,
-  Reads''''''.Asked,
-  Reads''''''.Learnt,
-  Reads''''.Asked,
-  Reads''''.Learnt,
-  Reads''''''''''.Asked,
-  Reads''''''''''.Learnt,
-  Reads'''''''''''.Asked,
-  Reads'''''''''''.Learnt,
-  Reads.Asked,
-  Reads.Learnt,
-  Reads'''''''''''''.Asked,
-  Reads'''''''''''''.Learnt,
-) Reads'.Pre Reads'.Post
+Need-same-length-5 = Lts.Need-same-length-5 readings Reads'.Pre Reads'.Post
 
 abbrev pub Need-same-length-6 : Type 0
-Need-same-length-6 = Lts.Need-same-length-6 (
-  Reads''''''''.Asked,
-  Reads''''''''.Learnt,
-  Reads''''''''''''.Asked,
-  Reads''''''''''''.Learnt,
-  Reads''.Asked,
-  Reads''.Learnt,
-  Reads'''.Asked,
-  Reads'''.Learnt,
-  Reads'''''''''.Asked,
-  Reads'''''''''.Learnt,
-  Reads'''''.Asked,
-  Reads'''''.Learnt,
-  Reads'''''''.Asked,
-  Reads'''''''.Learnt,
-  Reads''''''.Asked,
-  Reads''''''.Learnt,
-  Reads''''.Asked,
-  Reads''''.Learnt,
-  Reads''''''''''.Asked,
-  Reads''''''''''.Learnt,
-  Reads'''''''''''.Asked,
-  Reads'''''''''''.Learnt,
-  Reads.Asked,
-  Reads.Learnt,
-  Reads'''''''''''''.Asked,
-  Reads'''''''''''''.Learnt,
-) Reads'.Pre Reads'.Post
+Need-same-length-6 = Lts.Need-same-length-6 readings Reads'.Pre Reads'.Post
 
 abbrev pub Need-returns-2 : Type 0
-Need-returns-2 = Lts.Need-returns-2 (
-  Reads''''''''.Asked,
-  Reads''''''''.Learnt,
-  Reads''''''''''''.Asked,
-  Reads''''''''''''.Learnt,
-  Reads''.Asked,
-  Reads''.Learnt,
-  Reads'''.Asked,
-  Reads'''.Learnt,
-  Reads'''''''''.Asked,
-  Reads'''''''''.Learnt,
-  Reads'''''.Asked,
-  Reads'''''.Learnt,
-  Reads'''''''.Asked,
-  Reads'''''''.Learnt,
-  Reads''''''.Asked,
-  Reads''''''.Learnt,
-  Reads''''.Asked,
-  Reads''''.Learnt,
-  Reads''''''''''.Asked,
-  Reads''''''''''.Learnt,
-  Reads'''''''''''.Asked,
-  Reads'''''''''''.Learnt,
-  Reads.Asked,
-  Reads.Learnt,
-  Reads'''''''''''''.Asked,
-  Reads'''''''''''''.Learnt,
-) Reads'.Pre Reads'.Post
+Need-returns-2 = Lts.Need-returns-2 readings Reads'.Pre Reads'.Post
 
 module _ {M : Type 1} where
-  pub spec : (answer : Need-incoming-out-requires) → (answer : Need-asking-requires) → (answer : Need-scan-actions-requires) → (answer :
-      Need-scan-ledger-requires) → (answer : Need-placed-rows-requires) → (answer : Need-is-taken-requires) → (answer : Need-booked-usage-requires) →
-      (answer : Need-booked-place-requires) → (answer : Need-set-usage-requires) → (answer : Need-raised-requires) → (answer :
-      Need-with-ledger-requires) → (answer : Need-open-booked-requires) → (answer : Need-same-length) → (answer : Need-same-length-2) → (answer :
-      Need-same-length-3) → (answer : Need-same-length-4) → (answer : Need-returns) → (answer : Need-refused-requires) → (answer : Need-same-length-5)
-      → (answer : Need-same-length-6) → (answer : Need-returns-2) → Lts.Closed (
-        Reads''''''''.Asked,
-        Reads''''''''.Learnt,
-        Reads''''''''''''.Asked,
-        Reads''''''''''''.Learnt,
-        Reads''.Asked,
-        Reads''.Learnt,
-        Reads'''.Asked,
-        Reads'''.Learnt,
-        Reads'''''''''.Asked,
-        Reads'''''''''.Learnt,
-        Reads'''''.Asked,
-        Reads'''''.Learnt,
-        Reads'''''''.Asked,
-        Reads'''''''.Learnt,
-        Reads''''''.Asked,
-        Reads''''''.Learnt,
-        Reads''''.Asked,
-        Reads''''.Learnt,
-        Reads''''''''''.Asked,
-        Reads''''''''''.Learnt,
-        Reads'''''''''''.Asked,
-        Reads'''''''''''.Learnt,
-        Reads.Asked,
-        Reads.Learnt,
-        Reads'''''''''''''.Asked,
-        Reads'''''''''''''.Learnt,
-      ) Reads'.Pre Reads'.Post M
-  spec = λ answer answer' answer'' answer'3 answer'4 answer'5 answer'6 answer'7 answer'8 answer'9 answer'10 answer'11 answer'12 answer'13 answer'14
-      answer'15 answer'16 answer'17 answer'18 answer'19 answer'20. Lts.spec (
-        Reads''''''''.Asked,
-        Reads''''''''.Learnt,
-        Reads''''''''''''.Asked,
-        Reads''''''''''''.Learnt,
-        Reads''.Asked,
-        Reads''.Learnt,
-        Reads'''.Asked,
-        Reads'''.Learnt,
-        Reads'''''''''.Asked,
-        Reads'''''''''.Learnt,
-        Reads'''''.Asked,
-        Reads'''''.Learnt,
-        Reads'''''''.Asked,
-        Reads'''''''.Learnt,
-        Reads''''''.Asked,
-        Reads''''''.Learnt,
-        Reads''''.Asked,
-        Reads''''.Learnt,
-        Reads''''''''''.Asked,
-        Reads''''''''''.Learnt,
-        Reads'''''''''''.Asked,
-        Reads'''''''''''.Learnt,
-        Reads.Asked,
-        Reads.Learnt,
-        Reads'''''''''''''.Asked,
-        Reads'''''''''''''.Learnt,
-      ) Reads'.Pre Reads'.Post answer answer' answer'' answer'3 answer'4 answer'5 answer'6
-      answer'7 answer'8 answer'9 answer'10 answer'11 answer'12 answer'13 answer'14 answer'15 answer'16 answer'17 answer'18 answer'19 answer'20
+  pub spec : (answer : Need-incoming-out-requires) → (answer : Need-asking-requires) →
+      (answer : Need-scan-actions-requires) → (answer : Need-scan-ledger-requires) →
+      (answer : Need-placed-rows-requires) → (answer : Need-is-taken-requires) → (answer : Need-booked-usage-requires)
+      → (answer : Need-booked-place-requires) → (answer : Need-set-usage-requires) → (answer : Need-raised-requires) →
+      (answer : Need-with-ledger-requires) → (answer : Need-open-booked-requires) → (answer : Need-same-length) →
+      (answer : Need-same-length-2) → (answer : Need-same-length-3) → (answer : Need-same-length-4) →
+      (answer : Need-returns) → (answer : Need-refused-requires) → (answer : Need-same-length-5) →
+      (answer : Need-same-length-6) → (answer : Need-returns-2) → Lts.Closed readings Reads'.Pre Reads'.Post M
+  spec = λ answer answer' answer'' answer'3 answer'4 answer'5 answer'6 answer'7 answer'8 answer'9 answer'10 answer'11
+      answer'12 answer'13 answer'14 answer'15 answer'16 answer'17 answer'18 answer'19 answer'20. Lts.spec readings
+      Reads'.Pre Reads'.Post answer answer' answer'' answer'3 answer'4 answer'5 answer'6 answer'7 answer'8 answer'9
+      answer'10 answer'11 answer'12 answer'13 answer'14 answer'15 answer'16 answer'17 answer'18 answer'19 answer'20
 
-  pub close : Lts.Closed (
-    Reads''''''''.Asked,
-    Reads''''''''.Learnt,
-    Reads''''''''''''.Asked,
-    Reads''''''''''''.Learnt,
-    Reads''.Asked,
-    Reads''.Learnt,
-    Reads'''.Asked,
-    Reads'''.Learnt,
-    Reads'''''''''.Asked,
-    Reads'''''''''.Learnt,
-    Reads'''''.Asked,
-    Reads'''''.Learnt,
-    Reads'''''''.Asked,
-    Reads'''''''.Learnt,
-    Reads''''''.Asked,
-    Reads''''''.Learnt,
-    Reads''''.Asked,
-    Reads''''.Learnt,
-    Reads''''''''''.Asked,
-    Reads''''''''''.Learnt,
-    Reads'''''''''''.Asked,
-    Reads'''''''''''.Learnt,
-    Reads.Asked,
-    Reads.Learnt,
-    Reads'''''''''''''.Asked,
-    Reads'''''''''''''.Learnt,
-  ) Reads'.Pre
-      Reads'.Post M → Statement.statement M
+  pub close : Lts.Closed readings Reads'.Pre Reads'.Post M → Statement.statement M
   unfolding Code.routine Running.tablesOf
-  close = λ closed 𝓤 H 𝓜 𝓖 𝓡. Written.close 4 Kinds.ps Kinds.r Reads'.Ghost Reads'.requires Reads'.ensures Reads'.pre-read Reads'.Pinned Reads'.Owned
-      Reads'.post-read record { M = M; 𝓤 = 𝓤; H = H; 𝓜 = 𝓜; 𝓖 = 𝓖; 𝓡 = 𝓡 } Code.env Key.name Code.function (Code.unfolded 𝓤 H 𝓜 𝓡) (λ κs a g. tt) (λ
-      κs. Reads'.owns κs record { M = M; 𝓤 = 𝓤; H = H; 𝓜 = 𝓜; 𝓖 = 𝓖; 𝓡 = 𝓡 }) (Reads'.passes record { M = M; 𝓤 = 𝓤; H = H; 𝓜 = 𝓜; 𝓖 = 𝓖; 𝓡 = 𝓡 }) λ g.
-      closed 𝓤 H (𝓖 .A) (Running.givenOf 𝓤 H 𝓜 𝓖) (Run.Over 𝓤 H 𝓜 𝓖 𝓡 Code.env) (Reads''''''''.known record {
-        M = M;
-        𝓤 = 𝓤;
-        H = H;
-        𝓜 = 𝓜;
-        𝓖 = 𝓖;
-        𝓡 = 𝓡;
-      } Code.env Symbol''''.name Symbol''''.routine Code.calls-hnsr-circuit·open·incoming-out (Met''''.met 𝓤 H 𝓜 𝓖 𝓡)) (Reads''''''''''''.known record
-      { M = M; 𝓤 = 𝓤; H = H; 𝓜 = 𝓜; 𝓖 = 𝓖; 𝓡 = 𝓡 } Code.env Symbol''''''''.name Symbol''''''''.routine Code.calls-hnsr-circuit·queue·asking
-      (Met''''''''.met 𝓤 H 𝓜 𝓖 𝓡)) (Reads''.known record { M = M; 𝓤 = 𝓤; H = H; 𝓜 = 𝓜; 𝓖 = 𝓖; 𝓡 = 𝓡 } Code.env Symbol''''''''''.name
-      Symbol''''''''''.routine Code.calls-hnsr-circuit·tables·inflight·scan-actions (Met''''''''''.met 𝓤 H 𝓜 𝓖 𝓡)) (Reads'''.known record {
-        M = M;
-        𝓤 =
-            𝓤;
-        H = H;
-        𝓜 = 𝓜;
-        𝓖 = 𝓖;
-        𝓡 = 𝓡;
-      } Code.env Symbol'''''''''''.name Symbol'''''''''''.routine Code.calls-hnsr-circuit·tables·ledger·scan-ledger
-      (Met'''''''''''.met 𝓤 H 𝓜 𝓖 𝓡)) (Reads'''''''''.known record { M = M; 𝓤 = 𝓤; H = H; 𝓜 = 𝓜; 𝓖 = 𝓖; 𝓡 = 𝓡 } Code.env Symbol'''''.name
-      Symbol'''''.routine Code.calls-hnsr-circuit·open·placed-rows (Met'''''.met 𝓤 H 𝓜 𝓖 𝓡)) (Reads'''''.known record {
-        M = M;
-        𝓤 = 𝓤;
-        H = H;
-        𝓜 = 𝓜;
-        𝓖
-            = 𝓖;
-        𝓡 = 𝓡;
-      } Code.env Symbol.name Symbol.routine Code.calls-hnsr-circuit·answer·is-taken (Met.met 𝓤 H 𝓜 𝓖 𝓡)) (Reads'''''''.known record {
-        M =
-            M;
-        𝓤 = 𝓤;
-        H = H;
-        𝓜 = 𝓜;
-        𝓖 = 𝓖;
-        𝓡 = 𝓡;
-      } Code.env Symbol'''.name Symbol'''.routine Code.calls-hnsr-circuit·open·booked-usage (Met'''.met 𝓤 H 𝓜 𝓖
-      𝓡)) (Reads''''''.known record { M = M; 𝓤 = 𝓤; H = H; 𝓜 = 𝓜; 𝓖 = 𝓖; 𝓡 = 𝓡 } Code.env Symbol''.name Symbol''.routine
-      Code.calls-hnsr-circuit·open·booked-place (Met''.met 𝓤 H 𝓜 𝓖 𝓡)) (Reads''''.known record { M = M; 𝓤 = 𝓤; H = H; 𝓜 = 𝓜; 𝓖 = 𝓖; 𝓡 = 𝓡 } Code.env
-      Symbol''''''''''''.name Symbol''''''''''''.routine Code.calls-hnsr-circuit·tables·ledger·set-usage (Met''''''''''''.met 𝓤 H 𝓜 𝓖 𝓡))
-      (Reads''''''''''.known record { M = M; 𝓤 = 𝓤; H = H; 𝓜 = 𝓜; 𝓖 = 𝓖; 𝓡 = 𝓡 } Code.env Symbol''''''.name Symbol''''''.routine
-      Code.calls-hnsr-circuit·places·raised (Met''''''.met 𝓤 H 𝓜 𝓖 𝓡)) (Reads'''''''''''.known record { M = M; 𝓤 = 𝓤; H = H; 𝓜 = 𝓜; 𝓖 = 𝓖; 𝓡 = 𝓡 }
-      Code.env Symbol'''''''.name Symbol'''''''.routine Code.calls-hnsr-circuit·places·with-ledger (Met'''''''.met 𝓤 H 𝓜 𝓖 𝓡)) (Reads.known record {
-        M
-            = M;
-        𝓤 = 𝓤;
-        H = H;
-        𝓜 = 𝓜;
-        𝓖 = 𝓖;
-        𝓡 = 𝓡;
-      } Code.env Symbol'.name Symbol'.routine Code.calls-hnsr-circuit·handle-open·open-booked (Met'.met 𝓤 H 𝓜 𝓖
-      𝓡)) (Reads'''''''''''''.known record { M = M; 𝓤 = 𝓤; H = H; 𝓜 = 𝓜; 𝓖 = 𝓖; 𝓡 = 𝓡 } Code.env Symbol'''''''''.name Symbol'''''''''.routine
+  close = λ closed 𝓤 H 𝓜 𝓖 𝓡. Written.close 4 Kinds.ps Kinds.r Reads'.Ghost Reads'.requires Reads'.ensures
+      Reads'.pre-read Reads'.Pinned Reads'.Owned Reads'.post-read record { M = M; 𝓤 = 𝓤; H = H; 𝓜 = 𝓜; 𝓖 = 𝓖; 𝓡 = 𝓡 }
+      Code.env Key.name Code.function (Code.unfolded 𝓤 H 𝓜 𝓡) (λ κs a g. tt) (λ κs. Reads'.owns κs
+      record { M = M; 𝓤 = 𝓤; H = H; 𝓜 = 𝓜; 𝓖 = 𝓖; 𝓡 = 𝓡 }) (Reads'.passes
+      record { M = M; 𝓤 = 𝓤; H = H; 𝓜 = 𝓜; 𝓖 = 𝓖; 𝓡 = 𝓡 }) λ g. closed 𝓤 H (𝓖 .A) (Running.givenOf 𝓤 H 𝓜 𝓖)
+      (Run.Over 𝓤 H 𝓜 𝓖 𝓡 Code.env) (Reads''''''''.known record { M = M; 𝓤 = 𝓤; H = H; 𝓜 = 𝓜; 𝓖 = 𝓖; 𝓡 = 𝓡 } Code.env
+      Symbol''''.name Symbol''''.routine Code.calls-hnsr-circuit·open·incoming-out (Met''''.met 𝓤 H 𝓜 𝓖 𝓡)) (Reads''''''''''''.known
+      record { M = M; 𝓤 = 𝓤; H = H; 𝓜 = 𝓜; 𝓖 = 𝓖; 𝓡 = 𝓡 } Code.env Symbol''''''''.name Symbol''''''''.routine
+      Code.calls-hnsr-circuit·queue·asking (Met''''''''.met 𝓤 H 𝓜 𝓖 𝓡)) (Reads''.known
+      record { M = M; 𝓤 = 𝓤; H = H; 𝓜 = 𝓜; 𝓖 = 𝓖; 𝓡 = 𝓡 } Code.env Symbol''''''''''.name Symbol''''''''''.routine
+      Code.calls-hnsr-circuit·tables·inflight·scan-actions (Met''''''''''.met 𝓤 H 𝓜 𝓖 𝓡)) (Reads'''.known
+      record { M = M; 𝓤 = 𝓤; H = H; 𝓜 = 𝓜; 𝓖 = 𝓖; 𝓡 = 𝓡 } Code.env Symbol'''''''''''.name Symbol'''''''''''.routine
+      Code.calls-hnsr-circuit·tables·ledger·scan-ledger (Met'''''''''''.met 𝓤 H 𝓜 𝓖 𝓡)) (Reads'''''''''.known
+      record { M = M; 𝓤 = 𝓤; H = H; 𝓜 = 𝓜; 𝓖 = 𝓖; 𝓡 = 𝓡 } Code.env Symbol'''''.name Symbol'''''.routine
+      Code.calls-hnsr-circuit·open·placed-rows (Met'''''.met 𝓤 H 𝓜 𝓖 𝓡)) (Reads'''''.known
+      record { M = M; 𝓤 = 𝓤; H = H; 𝓜 = 𝓜; 𝓖 = 𝓖; 𝓡 = 𝓡 } Code.env Symbol.name Symbol.routine
+      Code.calls-hnsr-circuit·answer·is-taken (Met.met 𝓤 H 𝓜 𝓖 𝓡)) (Reads'''''''.known
+      record { M = M; 𝓤 = 𝓤; H = H; 𝓜 = 𝓜; 𝓖 = 𝓖; 𝓡 = 𝓡 } Code.env Symbol'''.name Symbol'''.routine
+      Code.calls-hnsr-circuit·open·booked-usage (Met'''.met 𝓤 H 𝓜 𝓖 𝓡)) (Reads''''''.known
+      record { M = M; 𝓤 = 𝓤; H = H; 𝓜 = 𝓜; 𝓖 = 𝓖; 𝓡 = 𝓡 } Code.env Symbol''.name Symbol''.routine
+      Code.calls-hnsr-circuit·open·booked-place (Met''.met 𝓤 H 𝓜 𝓖 𝓡)) (Reads''''.known
+      record { M = M; 𝓤 = 𝓤; H = H; 𝓜 = 𝓜; 𝓖 = 𝓖; 𝓡 = 𝓡 } Code.env Symbol''''''''''''.name Symbol''''''''''''.routine
+      Code.calls-hnsr-circuit·tables·ledger·set-usage (Met''''''''''''.met 𝓤 H 𝓜 𝓖 𝓡)) (Reads''''''''''.known
+      record { M = M; 𝓤 = 𝓤; H = H; 𝓜 = 𝓜; 𝓖 = 𝓖; 𝓡 = 𝓡 } Code.env Symbol''''''.name Symbol''''''.routine
+      Code.calls-hnsr-circuit·places·raised (Met''''''.met 𝓤 H 𝓜 𝓖 𝓡)) (Reads'''''''''''.known
+      record { M = M; 𝓤 = 𝓤; H = H; 𝓜 = 𝓜; 𝓖 = 𝓖; 𝓡 = 𝓡 } Code.env Symbol'''''''.name Symbol'''''''.routine
+      Code.calls-hnsr-circuit·places·with-ledger (Met'''''''.met 𝓤 H 𝓜 𝓖 𝓡)) (Reads.known
+      record { M = M; 𝓤 = 𝓤; H = H; 𝓜 = 𝓜; 𝓖 = 𝓖; 𝓡 = 𝓡 } Code.env Symbol'.name Symbol'.routine
+      Code.calls-hnsr-circuit·handle-open·open-booked (Met'.met 𝓤 H 𝓜 𝓖 𝓡)) (Reads'''''''''''''.known
+      record { M = M; 𝓤 = 𝓤; H = H; 𝓜 = 𝓜; 𝓖 = 𝓖; 𝓡 = 𝓡 } Code.env Symbol'''''''''.name Symbol'''''''''.routine
       Code.calls-hnsr-circuit·revoking-calls·refused (Met'''''''''.met 𝓤 H 𝓜 𝓖 𝓡))

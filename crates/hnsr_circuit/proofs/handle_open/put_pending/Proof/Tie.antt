@@ -21,212 +21,79 @@ use borrow.Fn.Run
 use borrow.Fn.Written
 use contract.Running
 
+abbrev pub readings : Lts.Claims
+readings = (
+  Reads''''.Asked,
+  Reads''''.Learnt,
+  Reads'.Asked,
+  Reads'.Learnt,
+  Reads''.Asked,
+  Reads''.Learnt,
+  Reads'''.Asked,
+  Reads'''.Learnt,
+)
+
 abbrev pub Start : Type 0
-Start = Lts.Start (Reads''''.Asked, Reads''''.Learnt, Reads'.Asked, Reads'.Learnt, Reads''.Asked, Reads''.Learnt, Reads'''.Asked, Reads'''.Learnt)
-    Reads.Pre Reads.Post
+Start = Lts.Start readings Reads.Pre Reads.Post
 
 abbrev pub After-unused : Type 0
-After-unused = Lts.After-unused (
-  Reads''''.Asked,
-  Reads''''.Learnt,
-  Reads'.Asked,
-  Reads'.Learnt,
-  Reads''.Asked,
-  Reads''.Learnt,
-  Reads'''.Asked,
-  Reads'''.Learnt,
-) Reads.Pre Reads.Post
+After-unused = Lts.After-unused readings Reads.Pre Reads.Post
 
 abbrev pub After-find-pending-arg : Type 0
-After-find-pending-arg = Lts.After-find-pending-arg (
-  Reads''''.Asked,
-  Reads''''.Learnt,
-  Reads'.Asked,
-  Reads'.Learnt,
-  Reads''.Asked,
-  Reads''.Learnt,
-  Reads'''.Asked,
-  Reads'''.Learnt,
-) Reads.Pre Reads.Post
+After-find-pending-arg = Lts.After-find-pending-arg readings Reads.Pre Reads.Post
 
 abbrev pub After-find-pending : Type 0
-After-find-pending = Lts.After-find-pending (
-  Reads''''.Asked,
-  Reads''''.Learnt,
-  Reads'.Asked,
-  Reads'.Learnt,
-  Reads''.Asked,
-  Reads''.Learnt,
-  Reads'''.Asked,
-  Reads'''.Learnt,
-) Reads.Pre Reads.Post
+After-find-pending = Lts.After-find-pending readings Reads.Pre Reads.Post
 
 abbrev pub After-set-pending-arg : Type 0
-After-set-pending-arg = Lts.After-set-pending-arg (
-  Reads''''.Asked,
-  Reads''''.Learnt,
-  Reads'.Asked,
-  Reads'.Learnt,
-  Reads''.Asked,
-  Reads''.Learnt,
-  Reads'''.Asked,
-  Reads'''.Learnt,
-) Reads.Pre Reads.Post
+After-set-pending-arg = Lts.After-set-pending-arg readings Reads.Pre Reads.Post
 
 abbrev pub After-set-pending : Type 0
-After-set-pending = Lts.After-set-pending (
-  Reads''''.Asked,
-  Reads''''.Learnt,
-  Reads'.Asked,
-  Reads'.Learnt,
-  Reads''.Asked,
-  Reads''.Learnt,
-  Reads'''.Asked,
-  Reads'''.Learnt,
-) Reads.Pre Reads.Post
+After-set-pending = Lts.After-set-pending readings Reads.Pre Reads.Post
 
 abbrev pub After-pending : Type 0
-After-pending = Lts.After-pending (
-  Reads''''.Asked,
-  Reads''''.Learnt,
-  Reads'.Asked,
-  Reads'.Learnt,
-  Reads''.Asked,
-  Reads''.Learnt,
-  Reads'''.Asked,
-  Reads'''.Learnt,
-) Reads.Pre Reads.Post
+After-pending = Lts.After-pending readings Reads.Pre Reads.Post
 
 abbrev pub After-raised : Type 0
-After-raised = Lts.After-raised (
-  Reads''''.Asked,
-  Reads''''.Learnt,
-  Reads'.Asked,
-  Reads'.Learnt,
-  Reads''.Asked,
-  Reads''.Learnt,
-  Reads'''.Asked,
-  Reads'''.Learnt,
-) Reads.Pre Reads.Post
+After-raised = Lts.After-raised readings Reads.Pre Reads.Post
 
 abbrev pub Need-unused-requires : Type 0
-Need-unused-requires = Lts.Need-unused-requires (
-  Reads''''.Asked,
-  Reads''''.Learnt,
-  Reads'.Asked,
-  Reads'.Learnt,
-  Reads''.Asked,
-  Reads''.Learnt,
-  Reads'''.Asked,
-  Reads'''.Learnt,
-) Reads.Pre Reads.Post
+Need-unused-requires = Lts.Need-unused-requires readings Reads.Pre Reads.Post
 
 abbrev pub Need-find-pending-requires : Type 0
-Need-find-pending-requires = Lts.Need-find-pending-requires (
-  Reads''''.Asked,
-  Reads''''.Learnt,
-  Reads'.Asked,
-  Reads'.Learnt,
-  Reads''.Asked,
-  Reads''.Learnt,
-  Reads'''.Asked,
-  Reads'''.Learnt,
-) Reads.Pre Reads.Post
+Need-find-pending-requires = Lts.Need-find-pending-requires readings Reads.Pre Reads.Post
 
 abbrev pub Need-set-pending-requires : Type 0
-Need-set-pending-requires = Lts.Need-set-pending-requires (
-  Reads''''.Asked,
-  Reads''''.Learnt,
-  Reads'.Asked,
-  Reads'.Learnt,
-  Reads''.Asked,
-  Reads''.Learnt,
-  Reads'''.Asked,
-  Reads'''.Learnt,
-) Reads.Pre Reads.Post
+Need-set-pending-requires = Lts.Need-set-pending-requires readings Reads.Pre Reads.Post
 
 abbrev pub Need-raised-requires : Type 0
-Need-raised-requires = Lts.Need-raised-requires (
-  Reads''''.Asked,
-  Reads''''.Learnt,
-  Reads'.Asked,
-  Reads'.Learnt,
-  Reads''.Asked,
-  Reads''.Learnt,
-  Reads'''.Asked,
-  Reads'''.Learnt,
-) Reads.Pre Reads.Post
+Need-raised-requires = Lts.Need-raised-requires readings Reads.Pre Reads.Post
 
 abbrev pub Need-same-length : Type 0
-Need-same-length = Lts.Need-same-length (
-  Reads''''.Asked,
-  Reads''''.Learnt,
-  Reads'.Asked,
-  Reads'.Learnt,
-  Reads''.Asked,
-  Reads''.Learnt,
-  Reads'''.Asked,
-  Reads'''.Learnt,
-) Reads.Pre Reads.Post
+Need-same-length = Lts.Need-same-length readings Reads.Pre Reads.Post
 
 abbrev pub Need-returns : Type 0
-Need-returns = Lts.Need-returns (
-  Reads''''.Asked,
-  Reads''''.Learnt,
-  Reads'.Asked,
-  Reads'.Learnt,
-  Reads''.Asked,
-  Reads''.Learnt,
-  Reads'''.Asked,
-  Reads'''.Learnt,
-) Reads.Pre Reads.Post
+Need-returns = Lts.Need-returns readings Reads.Pre Reads.Post
 
 module _ {M : Type 1} where
-  pub spec : (answer : Need-unused-requires) → (answer : Need-find-pending-requires) → (answer : Need-set-pending-requires) → (answer :
-      Need-raised-requires) → (answer : Need-same-length) → (answer : Need-returns) → Lts.Closed (
-        Reads''''.Asked,
-        Reads''''.Learnt,
-        Reads'.Asked,
-        Reads'.Learnt,
-        Reads''.Asked,
-        Reads''.Learnt,
-        Reads'''.Asked,
-        Reads'''.Learnt,
-      ) Reads.Pre Reads.Post M
-  spec = λ answer answer' answer'' answer'3 answer'4 answer'5. Lts.spec (
-    Reads''''.Asked,
-    Reads''''.Learnt,
-    Reads'.Asked,
-    Reads'.Learnt,
-    Reads''.Asked,
-    Reads''.Learnt,
-    Reads'''.Asked,
-    Reads'''.Learnt,
-  ) Reads.Pre Reads.Post answer answer' answer'' answer'3 answer'4 answer'5
+  pub spec : (answer : Need-unused-requires) → (answer : Need-find-pending-requires) →
+      (answer : Need-set-pending-requires) → (answer : Need-raised-requires) → (answer : Need-same-length) →
+      (answer : Need-returns) → Lts.Closed readings Reads.Pre Reads.Post M
+  spec = λ answer answer' answer'' answer'3 answer'4 answer'5. Lts.spec readings Reads.Pre Reads.Post answer answer'
+      answer'' answer'3 answer'4 answer'5
 
-  pub close : Lts.Closed (
-    Reads''''.Asked,
-    Reads''''.Learnt,
-    Reads'.Asked,
-    Reads'.Learnt,
-    Reads''.Asked,
-    Reads''.Learnt,
-    Reads'''.Asked,
-    Reads'''.Learnt,
-  ) Reads.Pre Reads.Post M → Statement.statement M
+  pub close : Lts.Closed readings Reads.Pre Reads.Post M → Statement.statement M
   unfolding Code.routine Running.tablesOf
-  close = λ closed 𝓤 H 𝓜 𝓖 𝓡. Written.close 1 Kinds.ps Kinds.r Reads.Ghost Reads.requires Reads.ensures Reads.pre-read Reads.Pinned Reads.Owned
-      Reads.post-read record { M = M; 𝓤 = 𝓤; H = H; 𝓜 = 𝓜; 𝓖 = 𝓖; 𝓡 = 𝓡 } Code.env Key.name Code.function (Code.unfolded 𝓤 H 𝓜 𝓡) (λ κs a g. tt) (λ
-      κs. Reads.owns κs record { M = M; 𝓤 = 𝓤; H = H; 𝓜 = 𝓜; 𝓖 = 𝓖; 𝓡 = 𝓡 }) (Reads.passes record { M = M; 𝓤 = 𝓤; H = H; 𝓜 = 𝓜; 𝓖 = 𝓖; 𝓡 = 𝓡 }) λ g.
-      closed 𝓤 H (𝓖 .A) (Running.givenOf 𝓤 H 𝓜 𝓖) (Run.Over 𝓤 H 𝓜 𝓖 𝓡 Code.env) (Reads''''.known record { M = M; 𝓤 = 𝓤; H = H; 𝓜 = 𝓜; 𝓖 = 𝓖; 𝓡 = 𝓡 }
-      Code.env Symbol'.name Symbol'.routine Code.calls-hnsr-circuit·question·unused (Met'.met 𝓤 H 𝓜 𝓖 𝓡)) (Reads'.known record {
-        M = M;
-        𝓤 = 𝓤;
-        H = H;
-        𝓜 = 𝓜;
-        𝓖 = 𝓖;
-        𝓡 = 𝓡;
-      } Code.env Symbol''.name Symbol''.routine Code.calls-hnsr-circuit·tables·pending·find-pending (Met''.met 𝓤 H 𝓜 𝓖 𝓡))
-      (Reads''.known record { M = M; 𝓤 = 𝓤; H = H; 𝓜 = 𝓜; 𝓖 = 𝓖; 𝓡 = 𝓡 } Code.env Symbol'''.name Symbol'''.routine
-      Code.calls-hnsr-circuit·tables·pending·set-pending (Met'''.met 𝓤 H 𝓜 𝓖 𝓡)) (Reads'''.known record { M = M; 𝓤 = 𝓤; H = H; 𝓜 = 𝓜; 𝓖 = 𝓖; 𝓡 = 𝓡 }
-      Code.env Symbol.name Symbol.routine Code.calls-hnsr-circuit·places·raised (Met.met 𝓤 H 𝓜 𝓖 𝓡))
+  close = λ closed 𝓤 H 𝓜 𝓖 𝓡. Written.close 1 Kinds.ps Kinds.r Reads.Ghost Reads.requires Reads.ensures Reads.pre-read
+      Reads.Pinned Reads.Owned Reads.post-read record { M = M; 𝓤 = 𝓤; H = H; 𝓜 = 𝓜; 𝓖 = 𝓖; 𝓡 = 𝓡 } Code.env Key.name
+      Code.function (Code.unfolded 𝓤 H 𝓜 𝓡) (λ κs a g. tt) (λ κs. Reads.owns κs
+      record { M = M; 𝓤 = 𝓤; H = H; 𝓜 = 𝓜; 𝓖 = 𝓖; 𝓡 = 𝓡 }) (Reads.passes
+      record { M = M; 𝓤 = 𝓤; H = H; 𝓜 = 𝓜; 𝓖 = 𝓖; 𝓡 = 𝓡 }) λ g. closed 𝓤 H (𝓖 .A) (Running.givenOf 𝓤 H 𝓜 𝓖)
+      (Run.Over 𝓤 H 𝓜 𝓖 𝓡 Code.env) (Reads''''.known record { M = M; 𝓤 = 𝓤; H = H; 𝓜 = 𝓜; 𝓖 = 𝓖; 𝓡 = 𝓡 } Code.env
+      Symbol'.name Symbol'.routine Code.calls-hnsr-circuit·question·unused (Met'.met 𝓤 H 𝓜 𝓖 𝓡)) (Reads'.known
+      record { M = M; 𝓤 = 𝓤; H = H; 𝓜 = 𝓜; 𝓖 = 𝓖; 𝓡 = 𝓡 } Code.env Symbol''.name Symbol''.routine
+      Code.calls-hnsr-circuit·tables·pending·find-pending (Met''.met 𝓤 H 𝓜 𝓖 𝓡)) (Reads''.known
+      record { M = M; 𝓤 = 𝓤; H = H; 𝓜 = 𝓜; 𝓖 = 𝓖; 𝓡 = 𝓡 } Code.env Symbol'''.name Symbol'''.routine
+      Code.calls-hnsr-circuit·tables·pending·set-pending (Met'''.met 𝓤 H 𝓜 𝓖 𝓡)) (Reads'''.known
+      record { M = M; 𝓤 = 𝓤; H = H; 𝓜 = 𝓜; 𝓖 = 𝓖; 𝓡 = 𝓡 } Code.env Symbol.name Symbol.routine
+      Code.calls-hnsr-circuit·places·raised (Met.met 𝓤 H 𝓜 𝓖 𝓡))

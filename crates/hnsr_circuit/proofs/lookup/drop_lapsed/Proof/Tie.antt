@@ -15,34 +15,49 @@ use borrow.Fn.Run
 use borrow.Fn.Written
 use contract.Running
 
+abbrev pub readings : Lts.Claims
+readings = (Reads''.Asked, Reads''.Learnt, Reads'.Asked, Reads'.Learnt)
+
 abbrev pub Start : Type 0
-Start = Lts.Start (Reads''.Asked, Reads''.Learnt, Reads'.Asked, Reads'.Learnt) Reads.Pre Reads.Post
+Start = Lts.Start readings Reads.Pre Reads.Post
+
 abbrev pub After-over : Type 0
-After-over = Lts.After-over (Reads''.Asked, Reads''.Learnt, Reads'.Asked, Reads'.Learnt) Reads.Pre Reads.Post
+After-over = Lts.After-over readings Reads.Pre Reads.Post
+
 abbrev pub After-clear-usage-arg : Type 0
-After-clear-usage-arg = Lts.After-clear-usage-arg (Reads''.Asked, Reads''.Learnt, Reads'.Asked, Reads'.Learnt,) Reads.Pre Reads.Post
+After-clear-usage-arg = Lts.After-clear-usage-arg readings Reads.Pre Reads.Post
+
 abbrev pub After-clear-usage : Type 0
-After-clear-usage = Lts.After-clear-usage (Reads''.Asked, Reads''.Learnt, Reads'.Asked, Reads'.Learnt,) Reads.Pre Reads.Post
+After-clear-usage = Lts.After-clear-usage readings Reads.Pre Reads.Post
+
 abbrev pub After-ledger : Type 0
-After-ledger = Lts.After-ledger (Reads''.Asked, Reads''.Learnt, Reads'.Asked, Reads'.Learnt) Reads.Pre Reads.Post
+After-ledger = Lts.After-ledger readings Reads.Pre Reads.Post
+
 abbrev pub Need-over-requires : Type 0
-Need-over-requires = Lts.Need-over-requires (Reads''.Asked, Reads''.Learnt, Reads'.Asked, Reads'.Learnt,) Reads.Pre Reads.Post
+Need-over-requires = Lts.Need-over-requires readings Reads.Pre Reads.Post
+
 abbrev pub Need-clear-usage-requires : Type 0
-Need-clear-usage-requires = Lts.Need-clear-usage-requires (Reads''.Asked, Reads''.Learnt, Reads'.Asked, Reads'.Learnt,) Reads.Pre Reads.Post
+Need-clear-usage-requires = Lts.Need-clear-usage-requires readings Reads.Pre Reads.Post
+
 abbrev pub Need-same-length : Type 0
-Need-same-length = Lts.Need-same-length (Reads''.Asked, Reads''.Learnt, Reads'.Asked, Reads'.Learnt,) Reads.Pre Reads.Post
+Need-same-length = Lts.Need-same-length readings Reads.Pre Reads.Post
+
 abbrev pub Need-returns : Type 0
-Need-returns = Lts.Need-returns (Reads''.Asked, Reads''.Learnt, Reads'.Asked, Reads'.Learnt) Reads.Pre Reads.Post
-module _ { M : Type 1 } where
-  pub spec : (answer : Need-over-requires) → (answer : Need-clear-usage-requires) → (answer : Need-same-length) → (answer : Need-returns) → Lts.Closed
-      (Reads''.Asked, Reads''.Learnt, Reads'.Asked, Reads'.Learnt) Reads.Pre Reads.Post M
-  spec = λ answer answer' answer'' answer'3. Lts.spec (Reads''.Asked, Reads''.Learnt, Reads'.Asked, Reads'.Learnt,) Reads.Pre Reads.Post answer
-      answer' answer'' answer'3
-  pub close : Lts.Closed (Reads''.Asked, Reads''.Learnt, Reads'.Asked, Reads'.Learnt) Reads.Pre Reads.Post M → Statement.statement M
+Need-returns = Lts.Need-returns readings Reads.Pre Reads.Post
+
+module _ {M : Type 1} where
+  pub spec : (answer : Need-over-requires) → (answer : Need-clear-usage-requires) → (answer : Need-same-length) →
+      (answer : Need-returns) → Lts.Closed readings Reads.Pre Reads.Post M
+  spec = λ answer answer' answer'' answer'3. Lts.spec readings Reads.Pre Reads.Post answer answer' answer'' answer'3
+
+  pub close : Lts.Closed readings Reads.Pre Reads.Post M → Statement.statement M
   unfolding Code.routine Running.tablesOf
-  close = λ closed 𝓤 H 𝓜 𝓖 𝓡. Written.close 1 Kinds.ps Kinds.r Reads.Ghost Reads.requires Reads.ensures Reads.pre-read Reads.Pinned Reads.Owned
-      Reads.post-read record { M = M; 𝓤 = 𝓤; H = H; 𝓜 = 𝓜; 𝓖 = 𝓖; 𝓡 = 𝓡 } Code.env Key.name Code.function (Code.unfolded 𝓤 H 𝓜 𝓡) (λ κs a g. tt) (λ
-      κs. Reads.owns κs record { M = M; 𝓤 = 𝓤; H = H; 𝓜 = 𝓜; 𝓖 = 𝓖; 𝓡 = 𝓡 }) (Reads.passes record { M = M; 𝓤 = 𝓤; H = H; 𝓜 = 𝓜; 𝓖 = 𝓖; 𝓡 = 𝓡 }) λ g.
-      closed 𝓤 H (𝓖 .A) (Running.givenOf 𝓤 H 𝓜 𝓖) (Run.Over 𝓤 H 𝓜 𝓖 𝓡 Code.env) (Reads''.known record { M = M; 𝓤 = 𝓤; H = H; 𝓜 = 𝓜; 𝓖 = 𝓖; 𝓡 = 𝓡 }
-      Code.env Symbol.name Symbol.routine Code.calls-hnsr-circuit·question·over (Met.met 𝓤 H 𝓜 𝓖 𝓡)) (Reads'.known record { M = M; 𝓤 = 𝓤; H = H; 𝓜 =
-      𝓜; 𝓖 = 𝓖; 𝓡 = 𝓡 } Code.env Symbol'.name Symbol'.routine Code.calls-hnsr-circuit·tables·ledger·clear-usage (Met'.met 𝓤 H 𝓜 𝓖 𝓡))
+  close = λ closed 𝓤 H 𝓜 𝓖 𝓡. Written.close 1 Kinds.ps Kinds.r Reads.Ghost Reads.requires Reads.ensures Reads.pre-read
+      Reads.Pinned Reads.Owned Reads.post-read record { M = M; 𝓤 = 𝓤; H = H; 𝓜 = 𝓜; 𝓖 = 𝓖; 𝓡 = 𝓡 } Code.env Key.name
+      Code.function (Code.unfolded 𝓤 H 𝓜 𝓡) (λ κs a g. tt) (λ κs. Reads.owns κs
+      record { M = M; 𝓤 = 𝓤; H = H; 𝓜 = 𝓜; 𝓖 = 𝓖; 𝓡 = 𝓡 }) (Reads.passes
+      record { M = M; 𝓤 = 𝓤; H = H; 𝓜 = 𝓜; 𝓖 = 𝓖; 𝓡 = 𝓡 }) λ g. closed 𝓤 H (𝓖 .A) (Running.givenOf 𝓤 H 𝓜 𝓖)
+      (Run.Over 𝓤 H 𝓜 𝓖 𝓡 Code.env) (Reads''.known record { M = M; 𝓤 = 𝓤; H = H; 𝓜 = 𝓜; 𝓖 = 𝓖; 𝓡 = 𝓡 } Code.env
+      Symbol.name Symbol.routine Code.calls-hnsr-circuit·question·over (Met.met 𝓤 H 𝓜 𝓖 𝓡)) (Reads'.known
+      record { M = M; 𝓤 = 𝓤; H = H; 𝓜 = 𝓜; 𝓖 = 𝓖; 𝓡 = 𝓡 } Code.env Symbol'.name Symbol'.routine
+      Code.calls-hnsr-circuit·tables·ledger·clear-usage (Met'.met 𝓤 H 𝓜 𝓖 𝓡))

@@ -18,91 +18,62 @@ use borrow.Fn.Run
 use borrow.Fn.Written
 use contract.Running
 
+abbrev pub readings : Lts.Claims
+readings = (Reads''.Asked, Reads''.Learnt, Reads'''.Asked, Reads'''.Learnt, Reads'.Asked, Reads'.Learnt)
+
 abbrev pub Start : Type 0
-Start = Lts.Start (Reads''.Asked, Reads''.Learnt, Reads'''.Asked, Reads'''.Learnt, Reads'.Asked, Reads'.Learnt) Reads.Pre Reads.Post
+Start = Lts.Start readings Reads.Pre Reads.Post
 
 abbrev pub After-usage-at-arg : Type 0
-After-usage-at-arg = Lts.After-usage-at-arg (Reads''.Asked, Reads''.Learnt, Reads'''.Asked, Reads'''.Learnt, Reads'.Asked, Reads'.Learnt) Reads.Pre
-    Reads.Post
+After-usage-at-arg = Lts.After-usage-at-arg readings Reads.Pre Reads.Post
 
 abbrev pub After-usage-at : Type 0
-After-usage-at = Lts.After-usage-at (Reads''.Asked, Reads''.Learnt, Reads'''.Asked, Reads'''.Learnt, Reads'.Asked, Reads'.Learnt) Reads.Pre
-    Reads.Post
+After-usage-at = Lts.After-usage-at readings Reads.Pre Reads.Post
 
 abbrev pub After-usage-spent : Type 0
-After-usage-spent = Lts.After-usage-spent (Reads''.Asked, Reads''.Learnt, Reads'''.Asked, Reads'''.Learnt, Reads'.Asked, Reads'.Learnt) Reads.Pre
-    Reads.Post
+After-usage-spent = Lts.After-usage-spent readings Reads.Pre Reads.Post
 
 abbrev pub After-set-usage-arg : Type 0
-After-set-usage-arg = Lts.After-set-usage-arg (Reads''.Asked, Reads''.Learnt, Reads'''.Asked, Reads'''.Learnt, Reads'.Asked, Reads'.Learnt) Reads.Pre
-    Reads.Post
+After-set-usage-arg = Lts.After-set-usage-arg readings Reads.Pre Reads.Post
 
 abbrev pub After-set-usage : Type 0
-After-set-usage = Lts.After-set-usage (Reads''.Asked, Reads''.Learnt, Reads'''.Asked, Reads'''.Learnt, Reads'.Asked, Reads'.Learnt) Reads.Pre
-    Reads.Post
+After-set-usage = Lts.After-set-usage readings Reads.Pre Reads.Post
 
 abbrev pub After-ledger : Type 0
-After-ledger = Lts.After-ledger (Reads''.Asked, Reads''.Learnt, Reads'''.Asked, Reads'''.Learnt, Reads'.Asked, Reads'.Learnt) Reads.Pre Reads.Post
+After-ledger = Lts.After-ledger readings Reads.Pre Reads.Post
 
 abbrev pub Need-usage-at-requires : Type 0
-Need-usage-at-requires = Lts.Need-usage-at-requires (Reads''.Asked, Reads''.Learnt, Reads'''.Asked, Reads'''.Learnt, Reads'.Asked, Reads'.Learnt)
-    Reads.Pre Reads.Post
+Need-usage-at-requires = Lts.Need-usage-at-requires readings Reads.Pre Reads.Post
 
 abbrev pub Need-usage-spent-requires : Type 0
-Need-usage-spent-requires = Lts.Need-usage-spent-requires (
-  Reads''.Asked,
-  Reads''.Learnt,
-  Reads'''.Asked,
-  Reads'''.Learnt,
-  Reads'.Asked,
-  Reads'.Learnt,
-) Reads.Pre Reads.Post
+Need-usage-spent-requires = Lts.Need-usage-spent-requires readings Reads.Pre Reads.Post
 
 abbrev pub Need-set-usage-requires : Type 0
-Need-set-usage-requires = Lts.Need-set-usage-requires (Reads''.Asked, Reads''.Learnt, Reads'''.Asked, Reads'''.Learnt, Reads'.Asked, Reads'.Learnt)
-    Reads.Pre Reads.Post
+Need-set-usage-requires = Lts.Need-set-usage-requires readings Reads.Pre Reads.Post
 
 abbrev pub Need-same-length : Type 0
-Need-same-length = Lts.Need-same-length (Reads''.Asked, Reads''.Learnt, Reads'''.Asked, Reads'''.Learnt, Reads'.Asked, Reads'.Learnt) Reads.Pre
-    Reads.Post
+Need-same-length = Lts.Need-same-length readings Reads.Pre Reads.Post
 
 abbrev pub Need-returns : Type 0
-Need-returns = Lts.Need-returns (Reads''.Asked, Reads''.Learnt, Reads'''.Asked, Reads'''.Learnt, Reads'.Asked, Reads'.Learnt) Reads.Pre Reads.Post
+Need-returns = Lts.Need-returns readings Reads.Pre Reads.Post
 
 module _ {M : Type 1} where
-  pub spec : (answer : Need-usage-at-requires) → (answer : Need-usage-spent-requires) → (answer : Need-set-usage-requires) → (answer :
-      Need-same-length) → (answer : Need-returns) → Lts.Closed (
-        Reads''.Asked,
-        Reads''.Learnt,
-        Reads'''.Asked,
-        Reads'''.Learnt,
-        Reads'.Asked,
-        Reads'.Learnt,
-      ) Reads.Pre Reads.Post M
-  spec = λ answer answer' answer'' answer'3 answer'4. Lts.spec (
-    Reads''.Asked,
-    Reads''.Learnt,
-    Reads'''.Asked,
-    Reads'''.Learnt,
-    Reads'.Asked,
-    Reads'.Learnt,
-  ) Reads.Pre Reads.Post answer answer' answer'' answer'3 answer'4
+  pub spec : (answer : Need-usage-at-requires) → (answer : Need-usage-spent-requires) →
+      (answer : Need-set-usage-requires) → (answer : Need-same-length) → (answer : Need-returns) → Lts.Closed readings
+      Reads.Pre Reads.Post M
+  spec = λ answer answer' answer'' answer'3 answer'4. Lts.spec readings Reads.Pre Reads.Post answer answer' answer''
+      answer'3 answer'4
 
-  pub close : Lts.Closed (Reads''.Asked, Reads''.Learnt, Reads'''.Asked, Reads'''.Learnt, Reads'.Asked, Reads'.Learnt) Reads.Pre Reads.Post M →
-      Statement.statement M
+  pub close : Lts.Closed readings Reads.Pre Reads.Post M → Statement.statement M
   unfolding Code.routine Running.tablesOf
-  close = λ closed 𝓤 H 𝓜 𝓖 𝓡. Written.close 1 Kinds.ps Kinds.r Reads.Ghost Reads.requires Reads.ensures Reads.pre-read Reads.Pinned Reads.Owned
-      Reads.post-read record { M = M; 𝓤 = 𝓤; H = H; 𝓜 = 𝓜; 𝓖 = 𝓖; 𝓡 = 𝓡 } Code.env Key.name Code.function (Code.unfolded 𝓤 H 𝓜 𝓡) (λ κs a g. tt) (λ
-      κs. Reads.owns κs record { M = M; 𝓤 = 𝓤; H = H; 𝓜 = 𝓜; 𝓖 = 𝓖; 𝓡 = 𝓡 }) (Reads.passes record { M = M; 𝓤 = 𝓤; H = H; 𝓜 = 𝓜; 𝓖 = 𝓖; 𝓡 = 𝓡 }) λ g.
-      closed 𝓤 H (𝓖 .A) (Running.givenOf 𝓤 H 𝓜 𝓖) (Run.Over 𝓤 H 𝓜 𝓖 𝓡 Code.env) (Reads''.known record { M = M; 𝓤 = 𝓤; H = H; 𝓜 = 𝓜; 𝓖 = 𝓖; 𝓡 = 𝓡 }
-      Code.env Symbol''.name Symbol''.routine Code.calls-hnsr-circuit·tables·ledger·usage-at (Met''.met 𝓤 H 𝓜 𝓖 𝓡)) (Reads'''.known record {
-        M = M;
-        𝓤
-            = 𝓤;
-        H = H;
-        𝓜 = 𝓜;
-        𝓖 = 𝓖;
-        𝓡 = 𝓡;
-      } Code.env Symbol.name Symbol.routine Code.calls-hnsr-circuit·ledger·usage-spent (Met.met 𝓤 H 𝓜 𝓖 𝓡))
-      (Reads'.known record { M = M; 𝓤 = 𝓤; H = H; 𝓜 = 𝓜; 𝓖 = 𝓖; 𝓡 = 𝓡 } Code.env Symbol'.name Symbol'.routine
+  close = λ closed 𝓤 H 𝓜 𝓖 𝓡. Written.close 1 Kinds.ps Kinds.r Reads.Ghost Reads.requires Reads.ensures Reads.pre-read
+      Reads.Pinned Reads.Owned Reads.post-read record { M = M; 𝓤 = 𝓤; H = H; 𝓜 = 𝓜; 𝓖 = 𝓖; 𝓡 = 𝓡 } Code.env Key.name
+      Code.function (Code.unfolded 𝓤 H 𝓜 𝓡) (λ κs a g. tt) (λ κs. Reads.owns κs
+      record { M = M; 𝓤 = 𝓤; H = H; 𝓜 = 𝓜; 𝓖 = 𝓖; 𝓡 = 𝓡 }) (Reads.passes
+      record { M = M; 𝓤 = 𝓤; H = H; 𝓜 = 𝓜; 𝓖 = 𝓖; 𝓡 = 𝓡 }) λ g. closed 𝓤 H (𝓖 .A) (Running.givenOf 𝓤 H 𝓜 𝓖)
+      (Run.Over 𝓤 H 𝓜 𝓖 𝓡 Code.env) (Reads''.known record { M = M; 𝓤 = 𝓤; H = H; 𝓜 = 𝓜; 𝓖 = 𝓖; 𝓡 = 𝓡 } Code.env
+      Symbol''.name Symbol''.routine Code.calls-hnsr-circuit·tables·ledger·usage-at (Met''.met 𝓤 H 𝓜 𝓖 𝓡)) (Reads'''.known
+      record { M = M; 𝓤 = 𝓤; H = H; 𝓜 = 𝓜; 𝓖 = 𝓖; 𝓡 = 𝓡 } Code.env Symbol.name Symbol.routine
+      Code.calls-hnsr-circuit·ledger·usage-spent (Met.met 𝓤 H 𝓜 𝓖 𝓡)) (Reads'.known
+      record { M = M; 𝓤 = 𝓤; H = H; 𝓜 = 𝓜; 𝓖 = 𝓖; 𝓡 = 𝓡 } Code.env Symbol'.name Symbol'.routine
       Code.calls-hnsr-circuit·tables·ledger·set-usage (Met'.met 𝓤 H 𝓜 𝓖 𝓡))

@@ -24,8 +24,8 @@ use borrow.Fn.Run
 use borrow.Fn.Written
 use contract.Running
 
-abbrev pub Start : Type 0
-Start = Lts.Start (
+abbrev pub readings : Lts.Claims
+readings = (
   Reads''''.Asked,
   Reads''''.Learnt,
   Reads'.Asked,
@@ -36,224 +36,65 @@ Start = Lts.Start (
   Reads''.Learnt,
   Reads'''''.Asked,
   Reads'''''.Learnt,
-) Reads.Pre Reads.Post
+)
+
+abbrev pub Start : Type 0
+Start = Lts.Start readings Reads.Pre Reads.Post
 
 abbrev pub After-trim-pending : Type 0
-After-trim-pending = Lts.After-trim-pending (
-  Reads''''.Asked,
-  Reads''''.Learnt,
-  Reads'.Asked,
-  Reads'.Learnt,
-  Reads'''.Asked,
-  Reads'''.Learnt,
-  Reads''.Asked,
-  Reads''.Learnt,
-  Reads'''''.Asked,
-  Reads'''''.Learnt,
-) Reads.Pre Reads.Post
+After-trim-pending = Lts.After-trim-pending readings Reads.Pre Reads.Post
 
 abbrev pub After-trim-circuits : Type 0
-After-trim-circuits = Lts.After-trim-circuits (
-  Reads''''.Asked,
-  Reads''''.Learnt,
-  Reads'.Asked,
-  Reads'.Learnt,
-  Reads'''.Asked,
-  Reads'''.Learnt,
-  Reads''.Asked,
-  Reads''.Learnt,
-  Reads'''''.Asked,
-  Reads'''''.Learnt,
-) Reads.Pre Reads.Post
+After-trim-circuits = Lts.After-trim-circuits readings Reads.Pre Reads.Post
 
 abbrev pub After-trim-ledger : Type 0
-After-trim-ledger = Lts.After-trim-ledger (
-  Reads''''.Asked,
-  Reads''''.Learnt,
-  Reads'.Asked,
-  Reads'.Learnt,
-  Reads'''.Asked,
-  Reads'''.Learnt,
-  Reads''.Asked,
-  Reads''.Learnt,
-  Reads'''''.Asked,
-  Reads'''''.Learnt,
-) Reads.Pre Reads.Post
+After-trim-ledger = Lts.After-trim-ledger readings Reads.Pre Reads.Post
 
 abbrev pub After-trim-actions : Type 0
-After-trim-actions = Lts.After-trim-actions (
-  Reads''''.Asked,
-  Reads''''.Learnt,
-  Reads'.Asked,
-  Reads'.Learnt,
-  Reads'''.Asked,
-  Reads'''.Learnt,
-  Reads''.Asked,
-  Reads''.Learnt,
-  Reads'''''.Asked,
-  Reads'''''.Learnt,
-) Reads.Pre Reads.Post
+After-trim-actions = Lts.After-trim-actions readings Reads.Pre Reads.Post
 
 abbrev pub After-places-of : Type 0
-After-places-of = Lts.After-places-of (
-  Reads''''.Asked,
-  Reads''''.Learnt,
-  Reads'.Asked,
-  Reads'.Learnt,
-  Reads'''.Asked,
-  Reads'''.Learnt,
-  Reads''.Asked,
-  Reads''.Learnt,
-  Reads'''''.Asked,
-  Reads'''''.Learnt,
-) Reads.Pre Reads.Post
+After-places-of = Lts.After-places-of readings Reads.Pre Reads.Post
 
 abbrev pub Need-trim-pending-requires : Type 0
-Need-trim-pending-requires = Lts.Need-trim-pending-requires (
-  Reads''''.Asked,
-  Reads''''.Learnt,
-  Reads'.Asked,
-  Reads'.Learnt,
-  Reads'''.Asked,
-  Reads'''.Learnt,
-  Reads''.Asked,
-  Reads''.Learnt,
-  Reads'''''.Asked,
-  Reads'''''.Learnt,
-) Reads.Pre Reads.Post
+Need-trim-pending-requires = Lts.Need-trim-pending-requires readings Reads.Pre Reads.Post
 
 abbrev pub Need-trim-circuits-requires : Type 0
-Need-trim-circuits-requires = Lts.Need-trim-circuits-requires (
-  Reads''''.Asked,
-  Reads''''.Learnt,
-  Reads'.Asked,
-  Reads'.Learnt,
-  Reads'''.Asked,
-  Reads'''.Learnt,
-  Reads''.Asked,
-  Reads''.Learnt,
-  Reads'''''.Asked,
-  Reads'''''.Learnt,
-) Reads.Pre Reads.Post
+Need-trim-circuits-requires = Lts.Need-trim-circuits-requires readings Reads.Pre Reads.Post
 
 abbrev pub Need-trim-ledger-requires : Type 0
-Need-trim-ledger-requires = Lts.Need-trim-ledger-requires (
-  Reads''''.Asked,
-  Reads''''.Learnt,
-  Reads'.Asked,
-  Reads'.Learnt,
-  Reads'''.Asked,
-  Reads'''.Learnt,
-  Reads''.Asked,
-  Reads''.Learnt,
-  Reads'''''.Asked,
-  Reads'''''.Learnt,
-) Reads.Pre Reads.Post
+Need-trim-ledger-requires = Lts.Need-trim-ledger-requires readings Reads.Pre Reads.Post
 
 abbrev pub Need-trim-actions-requires : Type 0
-Need-trim-actions-requires = Lts.Need-trim-actions-requires (
-  Reads''''.Asked,
-  Reads''''.Learnt,
-  Reads'.Asked,
-  Reads'.Learnt,
-  Reads'''.Asked,
-  Reads'''.Learnt,
-  Reads''.Asked,
-  Reads''.Learnt,
-  Reads'''''.Asked,
-  Reads'''''.Learnt,
-) Reads.Pre Reads.Post
+Need-trim-actions-requires = Lts.Need-trim-actions-requires readings Reads.Pre Reads.Post
 
 abbrev pub Need-places-of-requires : Type 0
-Need-places-of-requires = Lts.Need-places-of-requires (
-  Reads''''.Asked,
-  Reads''''.Learnt,
-  Reads'.Asked,
-  Reads'.Learnt,
-  Reads'''.Asked,
-  Reads'''.Learnt,
-  Reads''.Asked,
-  Reads''.Learnt,
-  Reads'''''.Asked,
-  Reads'''''.Learnt,
-) Reads.Pre Reads.Post
+Need-places-of-requires = Lts.Need-places-of-requires readings Reads.Pre Reads.Post
 
 abbrev pub Need-returns : Type 0
-Need-returns = Lts.Need-returns (
-  Reads''''.Asked,
-  Reads''''.Learnt,
-  Reads'.Asked,
-  Reads'.Learnt,
-  Reads'''.Asked,
-  Reads'''.Learnt,
-  Reads''.Asked,
-  Reads''.Learnt,
-  Reads'''''.Asked,
-  Reads'''''.Learnt,
-) Reads.Pre Reads.Post
+Need-returns = Lts.Need-returns readings Reads.Pre Reads.Post
 
 module _ {M : Type 1} where
-  pub spec : (answer : Need-trim-pending-requires) → (answer : Need-trim-circuits-requires) → (answer : Need-trim-ledger-requires) → (answer :
-      Need-trim-actions-requires) → (answer : Need-places-of-requires) → (answer : Need-returns) → Lts.Closed (
-        Reads''''.Asked,
-        Reads''''.Learnt,
-        Reads'.Asked,
-        Reads'.Learnt,
-        Reads'''.Asked,
-        Reads'''.Learnt,
-        Reads''.Asked,
-        Reads''.Learnt,
-        Reads'''''.Asked,
-        Reads'''''.Learnt,
-      ) Reads.Pre
-      Reads.Post M
-  spec = λ answer answer' answer'' answer'3 answer'4 answer'5. Lts.spec (
-    Reads''''.Asked,
-    Reads''''.Learnt,
-    Reads'.Asked,
-    Reads'.Learnt,
-    Reads'''.Asked,
-    Reads'''.Learnt,
-    Reads''.Asked,
-    Reads''.Learnt,
-    Reads'''''.Asked,
-    Reads'''''.Learnt,
-  ) Reads.Pre Reads.Post answer answer'
+  pub spec : (answer : Need-trim-pending-requires) → (answer : Need-trim-circuits-requires) →
+      (answer : Need-trim-ledger-requires) → (answer : Need-trim-actions-requires) → (answer : Need-places-of-requires)
+      → (answer : Need-returns) → Lts.Closed readings Reads.Pre Reads.Post M
+  spec = λ answer answer' answer'' answer'3 answer'4 answer'5. Lts.spec readings Reads.Pre Reads.Post answer answer'
       answer'' answer'3 answer'4 answer'5
 
-  pub close : Lts.Closed (
-    Reads''''.Asked,
-    Reads''''.Learnt,
-    Reads'.Asked,
-    Reads'.Learnt,
-    Reads'''.Asked,
-    Reads'''.Learnt,
-    Reads''.Asked,
-    Reads''.Learnt,
-    Reads'''''.Asked,
-    Reads'''''.Learnt,
-  ) Reads.Pre Reads.Post M → Statement.statement M
+  pub close : Lts.Closed readings Reads.Pre Reads.Post M → Statement.statement M
   unfolding Code.routine Running.tablesOf
-  close = λ closed 𝓤 H 𝓜 𝓖 𝓡. Written.close 4 Kinds.ps Kinds.r Reads.Ghost Reads.requires Reads.ensures Reads.pre-read Reads.Pinned Reads.Owned
-      Reads.post-read record { M = M; 𝓤 = 𝓤; H = H; 𝓜 = 𝓜; 𝓖 = 𝓖; 𝓡 = 𝓡 } Code.env Key.name Code.function (Code.unfolded 𝓤 H 𝓜 𝓡) (λ κs a g. tt) (λ
-      κs. Reads.owns κs record { M = M; 𝓤 = 𝓤; H = H; 𝓜 = 𝓜; 𝓖 = 𝓖; 𝓡 = 𝓡 }) (Reads.passes record { M = M; 𝓤 = 𝓤; H = H; 𝓜 = 𝓜; 𝓖 = 𝓖; 𝓡 = 𝓡 }) λ g.
-      closed 𝓤 H (𝓖 .A) (Running.givenOf 𝓤 H 𝓜 𝓖) (Run.Over 𝓤 H 𝓜 𝓖 𝓡 Code.env) (Reads''''.known record { M = M; 𝓤 = 𝓤; H = H; 𝓜 = 𝓜; 𝓖 = 𝓖; 𝓡 = 𝓡 }
-      Code.env Symbol''''.name Symbol''''.routine Code.calls-hnsr-circuit·tables·pending·trim-pending (Met''''.met 𝓤 H 𝓜 𝓖 𝓡)) (Reads'.known record {
-        M = M;
-        𝓤 = 𝓤;
-        H = H;
-        𝓜 = 𝓜;
-        𝓖 = 𝓖;
-        𝓡 = 𝓡;
-      } Code.env Symbol'.name Symbol'.routine Code.calls-hnsr-circuit·tables·circuits·trim-circuits (Met'.met
-      𝓤 H 𝓜 𝓖 𝓡)) (Reads'''.known record { M = M; 𝓤 = 𝓤; H = H; 𝓜 = 𝓜; 𝓖 = 𝓖; 𝓡 = 𝓡 } Code.env Symbol'''.name Symbol'''.routine
-      Code.calls-hnsr-circuit·tables·ledger·trim-ledger (Met'''.met 𝓤 H 𝓜 𝓖 𝓡)) (Reads''.known record { M = M; 𝓤 = 𝓤; H = H; 𝓜 = 𝓜; 𝓖 = 𝓖; 𝓡 = 𝓡 }
-      Code.env Symbol''.name Symbol''.routine Code.calls-hnsr-circuit·tables·inflight·trim-actions (Met''.met 𝓤 H 𝓜 𝓖 𝓡)) (Reads'''''.known record {
-        M
-            = M;
-        𝓤 = 𝓤;
-        H = H;
-        𝓜 = 𝓜;
-        𝓖 = 𝓖;
-        𝓡 = 𝓡;
-      } Code.env Symbol.name Symbol.routine Code.calls-hnsr-circuit·places·places-of (Met.met 𝓤 H 𝓜 𝓖 𝓡))
+  close = λ closed 𝓤 H 𝓜 𝓖 𝓡. Written.close 4 Kinds.ps Kinds.r Reads.Ghost Reads.requires Reads.ensures Reads.pre-read
+      Reads.Pinned Reads.Owned Reads.post-read record { M = M; 𝓤 = 𝓤; H = H; 𝓜 = 𝓜; 𝓖 = 𝓖; 𝓡 = 𝓡 } Code.env Key.name
+      Code.function (Code.unfolded 𝓤 H 𝓜 𝓡) (λ κs a g. tt) (λ κs. Reads.owns κs
+      record { M = M; 𝓤 = 𝓤; H = H; 𝓜 = 𝓜; 𝓖 = 𝓖; 𝓡 = 𝓡 }) (Reads.passes
+      record { M = M; 𝓤 = 𝓤; H = H; 𝓜 = 𝓜; 𝓖 = 𝓖; 𝓡 = 𝓡 }) λ g. closed 𝓤 H (𝓖 .A) (Running.givenOf 𝓤 H 𝓜 𝓖)
+      (Run.Over 𝓤 H 𝓜 𝓖 𝓡 Code.env) (Reads''''.known record { M = M; 𝓤 = 𝓤; H = H; 𝓜 = 𝓜; 𝓖 = 𝓖; 𝓡 = 𝓡 } Code.env
+      Symbol''''.name Symbol''''.routine Code.calls-hnsr-circuit·tables·pending·trim-pending (Met''''.met 𝓤 H 𝓜 𝓖 𝓡)) (Reads'.known
+      record { M = M; 𝓤 = 𝓤; H = H; 𝓜 = 𝓜; 𝓖 = 𝓖; 𝓡 = 𝓡 } Code.env Symbol'.name Symbol'.routine
+      Code.calls-hnsr-circuit·tables·circuits·trim-circuits (Met'.met 𝓤 H 𝓜 𝓖 𝓡)) (Reads'''.known
+      record { M = M; 𝓤 = 𝓤; H = H; 𝓜 = 𝓜; 𝓖 = 𝓖; 𝓡 = 𝓡 } Code.env Symbol'''.name Symbol'''.routine
+      Code.calls-hnsr-circuit·tables·ledger·trim-ledger (Met'''.met 𝓤 H 𝓜 𝓖 𝓡)) (Reads''.known
+      record { M = M; 𝓤 = 𝓤; H = H; 𝓜 = 𝓜; 𝓖 = 𝓖; 𝓡 = 𝓡 } Code.env Symbol''.name Symbol''.routine
+      Code.calls-hnsr-circuit·tables·inflight·trim-actions (Met''.met 𝓤 H 𝓜 𝓖 𝓡)) (Reads'''''.known
+      record { M = M; 𝓤 = 𝓤; H = H; 𝓜 = 𝓜; 𝓖 = 𝓖; 𝓡 = 𝓡 } Code.env Symbol.name Symbol.routine
+      Code.calls-hnsr-circuit·places·places-of (Met.met 𝓤 H 𝓜 𝓖 𝓡))

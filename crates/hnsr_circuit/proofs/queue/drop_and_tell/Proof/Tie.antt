@@ -21,359 +21,116 @@ use borrow.Fn.Run
 use borrow.Fn.Written
 use contract.Running
 
+abbrev pub readings : Lts.Claims
+readings = (
+  Reads''''.Asked,
+  Reads''''.Learnt,
+  Reads'''.Asked,
+  Reads'''.Learnt,
+  Reads.Asked,
+  Reads.Learnt,
+  Reads''.Asked,
+  Reads''.Learnt,
+)
+
 abbrev pub Start : Type 0
-Start = Lts.Start (Reads''''.Asked, Reads''''.Learnt, Reads'''.Asked, Reads'''.Learnt, Reads.Asked, Reads.Learnt, Reads''.Asked, Reads''.Learnt)
-    Reads'.Pre Reads'.Post
+Start = Lts.Start readings Reads'.Pre Reads'.Post
 
 abbrev pub After-slice-known : Type 0
-After-slice-known = Lts.After-slice-known (
-  Reads''''.Asked,
-  Reads''''.Learnt,
-  Reads'''.Asked,
-  Reads'''.Learnt,
-  Reads.Asked,
-  Reads.Learnt,
-  Reads''.Asked,
-  Reads''.Learnt,
-) Reads'.Pre Reads'.Post
+After-slice-known = Lts.After-slice-known readings Reads'.Pre Reads'.Post
 
 abbrev pub After-runtime : Type 0
-After-runtime = Lts.After-runtime (
-  Reads''''.Asked,
-  Reads''''.Learnt,
-  Reads'''.Asked,
-  Reads'''.Learnt,
-  Reads.Asked,
-  Reads.Learnt,
-  Reads''.Asked,
-  Reads''.Learnt,
-) Reads'.Pre Reads'.Post
+After-runtime = Lts.After-runtime readings Reads'.Pre Reads'.Post
 
 abbrev pub After-places : Type 0
-After-places = Lts.After-places (
-  Reads''''.Asked,
-  Reads''''.Learnt,
-  Reads'''.Asked,
-  Reads'''.Learnt,
-  Reads.Asked,
-  Reads.Learnt,
-  Reads''.Asked,
-  Reads''.Learnt,
-) Reads'.Pre Reads'.Post
+After-places = Lts.After-places readings Reads'.Pre Reads'.Post
 
 abbrev pub After-asking : Type 0
-After-asking = Lts.After-asking (
-  Reads''''.Asked,
-  Reads''''.Learnt,
-  Reads'''.Asked,
-  Reads'''.Learnt,
-  Reads.Asked,
-  Reads.Learnt,
-  Reads''.Asked,
-  Reads''.Learnt,
-) Reads'.Pre Reads'.Post
+After-asking = Lts.After-asking readings Reads'.Pre Reads'.Post
 
 abbrev pub After-drop-and-scan-arg : Type 0
-After-drop-and-scan-arg = Lts.After-drop-and-scan-arg (
-  Reads''''.Asked,
-  Reads''''.Learnt,
-  Reads'''.Asked,
-  Reads'''.Learnt,
-  Reads.Asked,
-  Reads.Learnt,
-  Reads''.Asked,
-  Reads''.Learnt,
-) Reads'.Pre Reads'.Post
+After-drop-and-scan-arg = Lts.After-drop-and-scan-arg readings Reads'.Pre Reads'.Post
 
 abbrev pub After-drop-and-scan : Type 0
-After-drop-and-scan = Lts.After-drop-and-scan (
-  Reads''''.Asked,
-  Reads''''.Learnt,
-  Reads'''.Asked,
-  Reads'''.Learnt,
-  Reads.Asked,
-  Reads.Learnt,
-  Reads''.Asked,
-  Reads''.Learnt,
-) Reads'.Pre Reads'.Post
+After-drop-and-scan = Lts.After-drop-and-scan readings Reads'.Pre Reads'.Post
 
 abbrev pub After-inflight : Type 0
-After-inflight = Lts.After-inflight (
-  Reads''''.Asked,
-  Reads''''.Learnt,
-  Reads'''.Asked,
-  Reads'''.Learnt,
-  Reads.Asked,
-  Reads.Learnt,
-  Reads''.Asked,
-  Reads''.Learnt,
-) Reads'.Pre Reads'.Post
+After-inflight = Lts.After-inflight readings Reads'.Pre Reads'.Post
 
 abbrev pub After-encode : Type 0
-After-encode = Lts.After-encode (
-  Reads''''.Asked,
-  Reads''''.Learnt,
-  Reads'''.Asked,
-  Reads'''.Learnt,
-  Reads.Asked,
-  Reads.Learnt,
-  Reads''.Asked,
-  Reads''.Learnt,
-) Reads'.Pre Reads'.Post
+After-encode = Lts.After-encode readings Reads'.Pre Reads'.Post
 
 abbrev pub After-bytes : Type 0
-After-bytes = Lts.After-bytes (
-  Reads''''.Asked,
-  Reads''''.Learnt,
-  Reads'''.Asked,
-  Reads'''.Learnt,
-  Reads.Asked,
-  Reads.Learnt,
-  Reads''.Asked,
-  Reads''.Learnt,
-) Reads'.Pre Reads'.Post
+After-bytes = Lts.After-bytes readings Reads'.Pre Reads'.Post
 
 abbrev pub After-tell-scanned-arg : Type 0
-After-tell-scanned-arg = Lts.After-tell-scanned-arg (
-  Reads''''.Asked,
-  Reads''''.Learnt,
-  Reads'''.Asked,
-  Reads'''.Learnt,
-  Reads.Asked,
-  Reads.Learnt,
-  Reads''.Asked,
-  Reads''.Learnt,
-) Reads'.Pre Reads'.Post
+After-tell-scanned-arg = Lts.After-tell-scanned-arg readings Reads'.Pre Reads'.Post
 
 abbrev pub After-tell-scanned-arg2 : Type 0
-After-tell-scanned-arg2 = Lts.After-tell-scanned-arg2 (
-  Reads''''.Asked,
-  Reads''''.Learnt,
-  Reads'''.Asked,
-  Reads'''.Learnt,
-  Reads.Asked,
-  Reads.Learnt,
-  Reads''.Asked,
-  Reads''.Learnt,
-) Reads'.Pre Reads'.Post
+After-tell-scanned-arg2 = Lts.After-tell-scanned-arg2 readings Reads'.Pre Reads'.Post
 
 abbrev pub After-bytes2 : Type 0
-After-bytes2 = Lts.After-bytes2 (
-  Reads''''.Asked,
-  Reads''''.Learnt,
-  Reads'''.Asked,
-  Reads'''.Learnt,
-  Reads.Asked,
-  Reads.Learnt,
-  Reads''.Asked,
-  Reads''.Learnt,
-) Reads'.Pre Reads'.Post
+After-bytes2 = Lts.After-bytes2 readings Reads'.Pre Reads'.Post
 
 abbrev pub After-tell-scanned : Type 0
-After-tell-scanned = Lts.After-tell-scanned (
-  Reads''''.Asked,
-  Reads''''.Learnt,
-  Reads'''.Asked,
-  Reads'''.Learnt,
-  Reads.Asked,
-  Reads.Learnt,
-  Reads''.Asked,
-  Reads''.Learnt,
-) Reads'.Pre Reads'.Post
+After-tell-scanned = Lts.After-tell-scanned readings Reads'.Pre Reads'.Post
 
 abbrev pub After-inflight2 : Type 0
-After-inflight2 = Lts.After-inflight2 (
-  Reads''''.Asked,
-  Reads''''.Learnt,
-  Reads'''.Asked,
-  Reads'''.Learnt,
-  Reads.Asked,
-  Reads.Learnt,
-  Reads''.Asked,
-  Reads''.Learnt,
-) Reads'.Pre Reads'.Post
+After-inflight2 = Lts.After-inflight2 readings Reads'.Pre Reads'.Post
 
 abbrev pub After-out : Type 0
-After-out = Lts.After-out (
-  Reads''''.Asked,
-  Reads''''.Learnt,
-  Reads'''.Asked,
-  Reads'''.Learnt,
-  Reads.Asked,
-  Reads.Learnt,
-  Reads''.Asked,
-  Reads''.Learnt,
-) Reads'.Pre Reads'.Post
+After-out = Lts.After-out readings Reads'.Pre Reads'.Post
 
 abbrev pub After-slice-known2 : Type 0
-After-slice-known2 = Lts.After-slice-known2 (
-  Reads''''.Asked,
-  Reads''''.Learnt,
-  Reads'''.Asked,
-  Reads'''.Learnt,
-  Reads.Asked,
-  Reads.Learnt,
-  Reads''.Asked,
-  Reads''.Learnt,
-) Reads'.Pre Reads'.Post
+After-slice-known2 = Lts.After-slice-known2 readings Reads'.Pre Reads'.Post
 
 abbrev pub Need-asking-requires : Type 0
-Need-asking-requires = Lts.Need-asking-requires (
-  Reads''''.Asked,
-  Reads''''.Learnt,
-  Reads'''.Asked,
-  Reads'''.Learnt,
-  Reads.Asked,
-  Reads.Learnt,
-  Reads''.Asked,
-  Reads''.Learnt,
-) Reads'.Pre Reads'.Post
+Need-asking-requires = Lts.Need-asking-requires readings Reads'.Pre Reads'.Post
 
 abbrev pub Need-drop-and-scan-requires : Type 0
-Need-drop-and-scan-requires = Lts.Need-drop-and-scan-requires (
-  Reads''''.Asked,
-  Reads''''.Learnt,
-  Reads'''.Asked,
-  Reads'''.Learnt,
-  Reads.Asked,
-  Reads.Learnt,
-  Reads''.Asked,
-  Reads''.Learnt,
-) Reads'.Pre Reads'.Post
+Need-drop-and-scan-requires = Lts.Need-drop-and-scan-requires readings Reads'.Pre Reads'.Post
 
 abbrev pub Need-encode-requires : Type 0
-Need-encode-requires = Lts.Need-encode-requires (
-  Reads''''.Asked,
-  Reads''''.Learnt,
-  Reads'''.Asked,
-  Reads'''.Learnt,
-  Reads.Asked,
-  Reads.Learnt,
-  Reads''.Asked,
-  Reads''.Learnt,
-) Reads'.Pre Reads'.Post
+Need-encode-requires = Lts.Need-encode-requires readings Reads'.Pre Reads'.Post
 
 abbrev pub Need-array-share-prefix-bytes : Type 0
-Need-array-share-prefix-bytes = Lts.Need-array-share-prefix-bytes (
-  Reads''''.Asked,
-  Reads''''.Learnt,
-  Reads'''.Asked,
-  Reads'''.Learnt,
-  Reads.Asked,
-  Reads.Learnt,
-  Reads''.Asked,
-  Reads''.Learnt,
-) Reads'.Pre Reads'.Post
+Need-array-share-prefix-bytes = Lts.Need-array-share-prefix-bytes readings Reads'.Pre Reads'.Post
 
 abbrev pub Need-slice-aggregate-tell-scanned : Type 0
-Need-slice-aggregate-tell-scanned = Lts.Need-slice-aggregate-tell-scanned (
-  Reads''''.Asked,
-  Reads''''.Learnt,
-  Reads'''.Asked,
-  Reads'''.Learnt,
-  Reads.Asked,
-  Reads.Learnt,
-  Reads''.Asked,
-  Reads''.Learnt,
-) Reads'.Pre Reads'.Post
+Need-slice-aggregate-tell-scanned = Lts.Need-slice-aggregate-tell-scanned readings Reads'.Pre Reads'.Post
 
 abbrev pub Need-tell-scanned-requires : Type 0
-Need-tell-scanned-requires = Lts.Need-tell-scanned-requires (
-  Reads''''.Asked,
-  Reads''''.Learnt,
-  Reads'''.Asked,
-  Reads'''.Learnt,
-  Reads.Asked,
-  Reads.Learnt,
-  Reads''.Asked,
-  Reads''.Learnt,
-) Reads'.Pre Reads'.Post
+Need-tell-scanned-requires = Lts.Need-tell-scanned-requires readings Reads'.Pre Reads'.Post
 
 abbrev pub Need-same-length : Type 0
-Need-same-length = Lts.Need-same-length (
-  Reads''''.Asked,
-  Reads''''.Learnt,
-  Reads'''.Asked,
-  Reads'''.Learnt,
-  Reads.Asked,
-  Reads.Learnt,
-  Reads''.Asked,
-  Reads''.Learnt,
-) Reads'.Pre Reads'.Post
+Need-same-length = Lts.Need-same-length readings Reads'.Pre Reads'.Post
 
 abbrev pub Need-same-length-2 : Type 0
-Need-same-length-2 = Lts.Need-same-length-2 (
-  Reads''''.Asked,
-  Reads''''.Learnt,
-  Reads'''.Asked,
-  Reads'''.Learnt,
-  Reads.Asked,
-  Reads.Learnt,
-  Reads''.Asked,
-  Reads''.Learnt,
-) Reads'.Pre Reads'.Post
+Need-same-length-2 = Lts.Need-same-length-2 readings Reads'.Pre Reads'.Post
 
 abbrev pub Need-returns : Type 0
-Need-returns = Lts.Need-returns (
-  Reads''''.Asked,
-  Reads''''.Learnt,
-  Reads'''.Asked,
-  Reads'''.Learnt,
-  Reads.Asked,
-  Reads.Learnt,
-  Reads''.Asked,
-  Reads''.Learnt,
-) Reads'.Pre Reads'.Post
+Need-returns = Lts.Need-returns readings Reads'.Pre Reads'.Post
 
 module _ {M : Type 1} where
-  pub spec : (answer : Need-asking-requires) → (answer : Need-drop-and-scan-requires) → (answer : Need-encode-requires) → (answer :
-      Need-array-share-prefix-bytes) → (answer : Need-slice-aggregate-tell-scanned) → (answer : Need-tell-scanned-requires) → (answer :
-      Need-same-length) → (answer : Need-same-length-2) → (answer : Need-returns) → Lts.Closed (
-        Reads''''.Asked,
-        Reads''''.Learnt,
-        Reads'''.Asked,
-        Reads'''.Learnt,
-        Reads.Asked,
-        Reads.Learnt,
-        Reads''.Asked,
-        Reads''.Learnt,
-      ) Reads'.Pre Reads'.Post M
-  spec = λ answer answer' answer'' answer'3 answer'4 answer'5 answer'6 answer'7 answer'8. Lts.spec (
-    Reads''''.Asked,
-    Reads''''.Learnt,
-    Reads'''.Asked,
-    Reads'''.Learnt,
-    Reads.Asked,
-    Reads.Learnt,
-    Reads''.Asked,
-    Reads''.Learnt,
-  ) Reads'.Pre Reads'.Post answer answer' answer'' answer'3 answer'4
-      answer'5 answer'6 answer'7 answer'8
+  pub spec : (answer : Need-asking-requires) → (answer : Need-drop-and-scan-requires) → (answer : Need-encode-requires)
+      → (answer : Need-array-share-prefix-bytes) → (answer : Need-slice-aggregate-tell-scanned) →
+      (answer : Need-tell-scanned-requires) → (answer : Need-same-length) → (answer : Need-same-length-2) →
+      (answer : Need-returns) → Lts.Closed readings Reads'.Pre Reads'.Post M
+  spec = λ answer answer' answer'' answer'3 answer'4 answer'5 answer'6 answer'7 answer'8. Lts.spec readings Reads'.Pre
+      Reads'.Post answer answer' answer'' answer'3 answer'4 answer'5 answer'6 answer'7 answer'8
 
-  pub close : Lts.Closed (
-    Reads''''.Asked,
-    Reads''''.Learnt,
-    Reads'''.Asked,
-    Reads'''.Learnt,
-    Reads.Asked,
-    Reads.Learnt,
-    Reads''.Asked,
-    Reads''.Learnt,
-  ) Reads'.Pre Reads'.Post M → Statement.statement M
+  pub close : Lts.Closed readings Reads'.Pre Reads'.Post M → Statement.statement M
   unfolding Code.routine Running.tablesOf
-  close = λ closed 𝓤 H 𝓜 𝓖 𝓡. Written.close 2 Kinds.ps Kinds.r Reads'.Ghost Reads'.requires Reads'.ensures Reads'.pre-read Reads'.Pinned Reads'.Owned
-      Reads'.post-read record { M = M; 𝓤 = 𝓤; H = H; 𝓜 = 𝓜; 𝓖 = 𝓖; 𝓡 = 𝓡 } Code.env Key.name Code.function (Code.unfolded 𝓤 H 𝓜 𝓡) (λ κs a g. tt) (λ
-      κs. Reads'.owns κs record { M = M; 𝓤 = 𝓤; H = H; 𝓜 = 𝓜; 𝓖 = 𝓖; 𝓡 = 𝓡 }) (Reads'.passes record { M = M; 𝓤 = 𝓤; H = H; 𝓜 = 𝓜; 𝓖 = 𝓖; 𝓡 = 𝓡 }) λ g.
-      closed 𝓤 H (𝓖 .A) (Running.givenOf 𝓤 H 𝓜 𝓖) (Run.Over 𝓤 H 𝓜 𝓖 𝓡 Code.env) (Reads''''.known record { M = M; 𝓤 = 𝓤; H = H; 𝓜 = 𝓜; 𝓖 = 𝓖; 𝓡 = 𝓡 }
-      Code.env Symbol'.name Symbol'.routine Code.calls-hnsr-circuit·queue·asking (Met'.met 𝓤 H 𝓜 𝓖 𝓡)) (Reads'''.known record {
-        M = M;
-        𝓤 = 𝓤;
-        H = H;
-        𝓜
-            = 𝓜;
-        𝓖 = 𝓖;
-        𝓡 = 𝓡;
-      } Code.env Symbol'''.name Symbol'''.routine Code.calls-hnsr-circuit·tables·inflight·drop-and-scan (Met'''.met 𝓤 H 𝓜 𝓖 𝓡))
-      (Reads.known record { M = M; 𝓤 = 𝓤; H = H; 𝓜 = 𝓜; 𝓖 = 𝓖; 𝓡 = 𝓡 } Code.env Symbol.name Symbol.routine Code.calls-hnsr-body·messages·Notice·encode
-      (Met.met 𝓤 H 𝓜 𝓖 𝓡)) (Reads''.known record { M = M; 𝓤 = 𝓤; H = H; 𝓜 = 𝓜; 𝓖 = 𝓖; 𝓡 = 𝓡 } Code.env Symbol''.name Symbol''.routine
+  close = λ closed 𝓤 H 𝓜 𝓖 𝓡. Written.close 2 Kinds.ps Kinds.r Reads'.Ghost Reads'.requires Reads'.ensures
+      Reads'.pre-read Reads'.Pinned Reads'.Owned Reads'.post-read record { M = M; 𝓤 = 𝓤; H = H; 𝓜 = 𝓜; 𝓖 = 𝓖; 𝓡 = 𝓡 }
+      Code.env Key.name Code.function (Code.unfolded 𝓤 H 𝓜 𝓡) (λ κs a g. tt) (λ κs. Reads'.owns κs
+      record { M = M; 𝓤 = 𝓤; H = H; 𝓜 = 𝓜; 𝓖 = 𝓖; 𝓡 = 𝓡 }) (Reads'.passes
+      record { M = M; 𝓤 = 𝓤; H = H; 𝓜 = 𝓜; 𝓖 = 𝓖; 𝓡 = 𝓡 }) λ g. closed 𝓤 H (𝓖 .A) (Running.givenOf 𝓤 H 𝓜 𝓖)
+      (Run.Over 𝓤 H 𝓜 𝓖 𝓡 Code.env) (Reads''''.known record { M = M; 𝓤 = 𝓤; H = H; 𝓜 = 𝓜; 𝓖 = 𝓖; 𝓡 = 𝓡 } Code.env
+      Symbol'.name Symbol'.routine Code.calls-hnsr-circuit·queue·asking (Met'.met 𝓤 H 𝓜 𝓖 𝓡)) (Reads'''.known
+      record { M = M; 𝓤 = 𝓤; H = H; 𝓜 = 𝓜; 𝓖 = 𝓖; 𝓡 = 𝓡 } Code.env Symbol'''.name Symbol'''.routine
+      Code.calls-hnsr-circuit·tables·inflight·drop-and-scan (Met'''.met 𝓤 H 𝓜 𝓖 𝓡)) (Reads.known
+      record { M = M; 𝓤 = 𝓤; H = H; 𝓜 = 𝓜; 𝓖 = 𝓖; 𝓡 = 𝓡 } Code.env Symbol.name Symbol.routine
+      Code.calls-hnsr-body·messages·Notice·encode (Met.met 𝓤 H 𝓜 𝓖 𝓡)) (Reads''.known
+      record { M = M; 𝓤 = 𝓤; H = H; 𝓜 = 𝓜; 𝓖 = 𝓖; 𝓡 = 𝓡 } Code.env Symbol''.name Symbol''.routine
       Code.calls-hnsr-circuit·queue·tell-scanned (Met''.met 𝓤 H 𝓜 𝓖 𝓡))

@@ -39,8 +39,8 @@ use borrow.Fn.Run
 use borrow.Fn.Written
 use contract.Running
 
-abbrev pub Start : Type 0
-Start = Lts.Start (
+abbrev pub readings : Lts.Claims
+readings = (
   Reads''''''.Asked,
   Reads''''''.Learnt,
   Reads'''''''.Asked,
@@ -61,849 +61,135 @@ Start = Lts.Start (
   Reads''''.Learnt,
   Reads''''''''''.Asked,
   Reads''''''''''.Learnt,
-) Reads.Pre Reads.Post
+)
+
+abbrev pub Start : Type 0
+Start = Lts.Start readings Reads.Pre Reads.Post
 
 abbrev pub After-slice-known : Type 0
-After-slice-known = Lts.After-slice-known (
-  Reads''''''.Asked,
-  Reads''''''.Learnt,
-  Reads'''''''.Asked,
-  Reads'''''''.Learnt,
-  Reads''''''''.Asked,
-  Reads''''''''.Learnt,
-  Reads'''''''''.Asked,
-  Reads'''''''''.Learnt,
-  Reads''.Asked,
-  Reads''.Learnt,
-  Reads'''.Asked,
-  Reads'''.Learnt,
-  Reads'.Asked,
-  Reads'.Learnt,
-  Reads'''''.Asked,
-  Reads'''''.Learnt,
-  Reads''''.Asked,
-  Reads''''.Learnt,
-  Reads''''''''''.Asked,
-  Reads''''''''''.Learnt,
-) Reads.Pre
-    Reads.Post
+After-slice-known = Lts.After-slice-known readings Reads.Pre Reads.Post
 
 abbrev pub After-shared-slice-known : Type 0
-After-shared-slice-known = Lts.After-shared-slice-known (
-  Reads''''''.Asked,
-  Reads''''''.Learnt,
-  Reads'''''''.Asked,
-  Reads'''''''.Learnt,
-  Reads''''''''.Asked,
-  Reads''''''''.Learnt,
-  Reads'''''''''.Asked,
-  Reads'''''''''.Learnt,
-  Reads''.Asked,
-  Reads''.Learnt,
-  Reads'''.Asked,
-  Reads'''.Learnt,
-  Reads'.Asked,
-  Reads'.Learnt,
-  Reads'''''.Asked,
-  Reads'''''.Learnt,
-  Reads''''.Asked,
-  Reads''''.Learnt,
-  Reads''''''''''.Asked,
-  Reads''''''''''.Learnt,
-) Reads.Pre Reads.Post
+After-shared-slice-known = Lts.After-shared-slice-known readings Reads.Pre Reads.Post
 
 abbrev pub After-queue : Type 0
-After-queue = Lts.After-queue (
-  Reads''''''.Asked,
-  Reads''''''.Learnt,
-  Reads'''''''.Asked,
-  Reads'''''''.Learnt,
-  Reads''''''''.Asked,
-  Reads''''''''.Learnt,
-  Reads'''''''''.Asked,
-  Reads'''''''''.Learnt,
-  Reads''.Asked,
-  Reads''.Learnt,
-  Reads'''.Asked,
-  Reads'''.Learnt,
-  Reads'.Asked,
-  Reads'.Learnt,
-  Reads'''''.Asked,
-  Reads'''''.Learnt,
-  Reads''''.Asked,
-  Reads''''.Learnt,
-  Reads''''''''''.Asked,
-  Reads''''''''''.Learnt,
-) Reads.Pre
-    Reads.Post
+After-queue = Lts.After-queue readings Reads.Pre Reads.Post
 
 abbrev pub After-queued-action : Type 0
-After-queued-action = Lts.After-queued-action (
-  Reads''''''.Asked,
-  Reads''''''.Learnt,
-  Reads'''''''.Asked,
-  Reads'''''''.Learnt,
-  Reads''''''''.Asked,
-  Reads''''''''.Learnt,
-  Reads'''''''''.Asked,
-  Reads'''''''''.Learnt,
-  Reads''.Asked,
-  Reads''.Learnt,
-  Reads'''.Asked,
-  Reads'''.Learnt,
-  Reads'.Asked,
-  Reads'.Learnt,
-  Reads'''''.Asked,
-  Reads'''''.Learnt,
-  Reads''''.Asked,
-  Reads''''.Learnt,
-  Reads''''''''''.Asked,
-  Reads''''''''''.Learnt,
-) Reads.Pre
-    Reads.Post
+After-queued-action = Lts.After-queued-action readings Reads.Pre Reads.Post
 
 abbrev pub After-queued-go : Type 0
-After-queued-go = Lts.After-queued-go (
-  Reads''''''.Asked,
-  Reads''''''.Learnt,
-  Reads'''''''.Asked,
-  Reads'''''''.Learnt,
-  Reads''''''''.Asked,
-  Reads''''''''.Learnt,
-  Reads'''''''''.Asked,
-  Reads'''''''''.Learnt,
-  Reads''.Asked,
-  Reads''.Learnt,
-  Reads'''.Asked,
-  Reads'''.Learnt,
-  Reads'.Asked,
-  Reads'.Learnt,
-  Reads'''''.Asked,
-  Reads'''''.Learnt,
-  Reads''''.Asked,
-  Reads''''.Learnt,
-  Reads''''''''''.Asked,
-  Reads''''''''''.Learnt,
-) Reads.Pre
-    Reads.Post
+After-queued-go = Lts.After-queued-go readings Reads.Pre Reads.Post
 
 abbrev pub After-queued-place : Type 0
-After-queued-place = Lts.After-queued-place (
-  Reads''''''.Asked,
-  Reads''''''.Learnt,
-  Reads'''''''.Asked,
-  Reads'''''''.Learnt,
-  Reads''''''''.Asked,
-  Reads''''''''.Learnt,
-  Reads'''''''''.Asked,
-  Reads'''''''''.Learnt,
-  Reads''.Asked,
-  Reads''.Learnt,
-  Reads'''.Asked,
-  Reads'''.Learnt,
-  Reads'.Asked,
-  Reads'.Learnt,
-  Reads'''''.Asked,
-  Reads'''''.Learnt,
-  Reads''''.Asked,
-  Reads''''.Learnt,
-  Reads''''''''''.Asked,
-  Reads''''''''''.Learnt,
-) Reads.Pre
-    Reads.Post
+After-queued-place = Lts.After-queued-place readings Reads.Pre Reads.Post
 
 abbrev pub After-raised : Type 0
-After-raised = Lts.After-raised (
-  Reads''''''.Asked,
-  Reads''''''.Learnt,
-  Reads'''''''.Asked,
-  Reads'''''''.Learnt,
-  Reads''''''''.Asked,
-  Reads''''''''.Learnt,
-  Reads'''''''''.Asked,
-  Reads'''''''''.Learnt,
-  Reads''.Asked,
-  Reads''.Learnt,
-  Reads'''.Asked,
-  Reads'''.Learnt,
-  Reads'.Asked,
-  Reads'.Learnt,
-  Reads'''''.Asked,
-  Reads'''''.Learnt,
-  Reads''''.Asked,
-  Reads''''.Learnt,
-  Reads''''''''''.Asked,
-  Reads''''''''''.Learnt,
-) Reads.Pre
-    Reads.Post
+After-raised = Lts.After-raised readings Reads.Pre Reads.Post
 
 abbrev pub After-with-actions : Type 0
-After-with-actions = Lts.After-with-actions (
-  Reads''''''.Asked,
-  Reads''''''.Learnt,
-  Reads'''''''.Asked,
-  Reads'''''''.Learnt,
-  Reads''''''''.Asked,
-  Reads''''''''.Learnt,
-  Reads'''''''''.Asked,
-  Reads'''''''''.Learnt,
-  Reads''.Asked,
-  Reads''.Learnt,
-  Reads'''.Asked,
-  Reads'''.Learnt,
-  Reads'.Asked,
-  Reads'.Learnt,
-  Reads'''''.Asked,
-  Reads'''''.Learnt,
-  Reads''''.Asked,
-  Reads''''.Learnt,
-  Reads''''''''''.Asked,
-  Reads''''''''''.Learnt,
-) Reads.Pre
-    Reads.Post
+After-with-actions = Lts.After-with-actions readings Reads.Pre Reads.Post
 
 abbrev pub After-set-action-arg : Type 0
-After-set-action-arg = Lts.After-set-action-arg (
-  Reads''''''.Asked,
-  Reads''''''.Learnt,
-  Reads'''''''.Asked,
-  Reads'''''''.Learnt,
-  Reads''''''''.Asked,
-  Reads''''''''.Learnt,
-  Reads'''''''''.Asked,
-  Reads'''''''''.Learnt,
-  Reads''.Asked,
-  Reads''.Learnt,
-  Reads'''.Asked,
-  Reads'''.Learnt,
-  Reads'.Asked,
-  Reads'.Learnt,
-  Reads'''''.Asked,
-  Reads'''''.Learnt,
-  Reads''''.Asked,
-  Reads''''.Learnt,
-  Reads''''''''''.Asked,
-  Reads''''''''''.Learnt,
-) Reads.Pre
-    Reads.Post
+After-set-action-arg = Lts.After-set-action-arg readings Reads.Pre Reads.Post
 
 abbrev pub After-set-action : Type 0
-After-set-action = Lts.After-set-action (
-  Reads''''''.Asked,
-  Reads''''''.Learnt,
-  Reads'''''''.Asked,
-  Reads'''''''.Learnt,
-  Reads''''''''.Asked,
-  Reads''''''''.Learnt,
-  Reads'''''''''.Asked,
-  Reads'''''''''.Learnt,
-  Reads''.Asked,
-  Reads''.Learnt,
-  Reads'''.Asked,
-  Reads'''.Learnt,
-  Reads'.Asked,
-  Reads'.Learnt,
-  Reads'''''.Asked,
-  Reads'''''.Learnt,
-  Reads''''.Asked,
-  Reads''''.Learnt,
-  Reads''''''''''.Asked,
-  Reads''''''''''.Learnt,
-) Reads.Pre
-    Reads.Post
+After-set-action = Lts.After-set-action readings Reads.Pre Reads.Post
 
 abbrev pub After-inflight : Type 0
-After-inflight = Lts.After-inflight (
-  Reads''''''.Asked,
-  Reads''''''.Learnt,
-  Reads'''''''.Asked,
-  Reads'''''''.Learnt,
-  Reads''''''''.Asked,
-  Reads''''''''.Learnt,
-  Reads'''''''''.Asked,
-  Reads'''''''''.Learnt,
-  Reads''.Asked,
-  Reads''.Learnt,
-  Reads'''.Asked,
-  Reads'''.Learnt,
-  Reads'.Asked,
-  Reads'.Learnt,
-  Reads'''''.Asked,
-  Reads'''''.Learnt,
-  Reads''''.Asked,
-  Reads''''.Learnt,
-  Reads''''''''''.Asked,
-  Reads''''''''''.Learnt,
-) Reads.Pre
-    Reads.Post
+After-inflight = Lts.After-inflight readings Reads.Pre Reads.Post
 
 abbrev pub After-put-queued-arg : Type 0
-After-put-queued-arg = Lts.After-put-queued-arg (
-  Reads''''''.Asked,
-  Reads''''''.Learnt,
-  Reads'''''''.Asked,
-  Reads'''''''.Learnt,
-  Reads''''''''.Asked,
-  Reads''''''''.Learnt,
-  Reads'''''''''.Asked,
-  Reads'''''''''.Learnt,
-  Reads''.Asked,
-  Reads''.Learnt,
-  Reads'''.Asked,
-  Reads'''.Learnt,
-  Reads'.Asked,
-  Reads'.Learnt,
-  Reads'''''.Asked,
-  Reads'''''.Learnt,
-  Reads''''.Asked,
-  Reads''''.Learnt,
-  Reads''''''''''.Asked,
-  Reads''''''''''.Learnt,
-) Reads.Pre
-    Reads.Post
+After-put-queued-arg = Lts.After-put-queued-arg readings Reads.Pre Reads.Post
 
 abbrev pub After-put-queued : Type 0
-After-put-queued = Lts.After-put-queued (
-  Reads''''''.Asked,
-  Reads''''''.Learnt,
-  Reads'''''''.Asked,
-  Reads'''''''.Learnt,
-  Reads''''''''.Asked,
-  Reads''''''''.Learnt,
-  Reads'''''''''.Asked,
-  Reads'''''''''.Learnt,
-  Reads''.Asked,
-  Reads''.Learnt,
-  Reads'''.Asked,
-  Reads'''.Learnt,
-  Reads'.Asked,
-  Reads'.Learnt,
-  Reads'''''.Asked,
-  Reads'''''.Learnt,
-  Reads''''.Asked,
-  Reads''''.Learnt,
-  Reads''''''''''.Asked,
-  Reads''''''''''.Learnt,
-) Reads.Pre
-    Reads.Post
+After-put-queued = Lts.After-put-queued readings Reads.Pre Reads.Post
 
 abbrev pub After-out : Type 0
-After-out = Lts.After-out (
-  Reads''''''.Asked,
-  Reads''''''.Learnt,
-  Reads'''''''.Asked,
-  Reads'''''''.Learnt,
-  Reads''''''''.Asked,
-  Reads''''''''.Learnt,
-  Reads'''''''''.Asked,
-  Reads'''''''''.Learnt,
-  Reads''.Asked,
-  Reads''.Learnt,
-  Reads'''.Asked,
-  Reads'''.Learnt,
-  Reads'.Asked,
-  Reads'.Learnt,
-  Reads'''''.Asked,
-  Reads'''''.Learnt,
-  Reads''''.Asked,
-  Reads''''.Learnt,
-  Reads''''''''''.Asked,
-  Reads''''''''''.Learnt,
-) Reads.Pre Reads.Post
+After-out = Lts.After-out readings Reads.Pre Reads.Post
 
 abbrev pub After-slice-known2 : Type 0
-After-slice-known2 = Lts.After-slice-known2 (
-  Reads''''''.Asked,
-  Reads''''''.Learnt,
-  Reads'''''''.Asked,
-  Reads'''''''.Learnt,
-  Reads''''''''.Asked,
-  Reads''''''''.Learnt,
-  Reads'''''''''.Asked,
-  Reads'''''''''.Learnt,
-  Reads''.Asked,
-  Reads''.Learnt,
-  Reads'''.Asked,
-  Reads'''.Learnt,
-  Reads'.Asked,
-  Reads'.Learnt,
-  Reads'''''.Asked,
-  Reads'''''.Learnt,
-  Reads''''.Asked,
-  Reads''''.Learnt,
-  Reads''''''''''.Asked,
-  Reads''''''''''.Learnt,
-) Reads.Pre
-    Reads.Post
+After-slice-known2 = Lts.After-slice-known2 readings Reads.Pre Reads.Post
 
 abbrev pub After-position-after : Type 0
-After-position-after = Lts.After-position-after (
-  Reads''''''.Asked,
-  Reads''''''.Learnt,
-  Reads'''''''.Asked,
-  Reads'''''''.Learnt,
-  Reads''''''''.Asked,
-  Reads''''''''.Learnt,
-  Reads'''''''''.Asked,
-  Reads'''''''''.Learnt,
-  Reads''.Asked,
-  Reads''.Learnt,
-  Reads'''.Asked,
-  Reads'''.Learnt,
-  Reads'.Asked,
-  Reads'.Learnt,
-  Reads'''''.Asked,
-  Reads'''''.Learnt,
-  Reads''''.Asked,
-  Reads''''.Learnt,
-  Reads''''''''''.Asked,
-  Reads''''''''''.Learnt,
-) Reads.Pre
-    Reads.Post
+After-position-after = Lts.After-position-after readings Reads.Pre Reads.Post
 
 abbrev pub After-relayed : Type 0
-After-relayed = Lts.After-relayed (
-  Reads''''''.Asked,
-  Reads''''''.Learnt,
-  Reads'''''''.Asked,
-  Reads'''''''.Learnt,
-  Reads''''''''.Asked,
-  Reads''''''''.Learnt,
-  Reads'''''''''.Asked,
-  Reads'''''''''.Learnt,
-  Reads''.Asked,
-  Reads''.Learnt,
-  Reads'''.Asked,
-  Reads'''.Learnt,
-  Reads'.Asked,
-  Reads'.Learnt,
-  Reads'''''.Asked,
-  Reads'''''.Learnt,
-  Reads''''.Asked,
-  Reads''''.Learnt,
-  Reads''''''''''.Asked,
-  Reads''''''''''.Learnt,
-) Reads.Pre
-    Reads.Post
+After-relayed = Lts.After-relayed readings Reads.Pre Reads.Post
 
 abbrev pub Need-queue-requires : Type 0
-Need-queue-requires = Lts.Need-queue-requires (
-  Reads''''''.Asked,
-  Reads''''''.Learnt,
-  Reads'''''''.Asked,
-  Reads'''''''.Learnt,
-  Reads''''''''.Asked,
-  Reads''''''''.Learnt,
-  Reads'''''''''.Asked,
-  Reads'''''''''.Learnt,
-  Reads''.Asked,
-  Reads''.Learnt,
-  Reads'''.Asked,
-  Reads'''.Learnt,
-  Reads'.Asked,
-  Reads'.Learnt,
-  Reads'''''.Asked,
-  Reads'''''.Learnt,
-  Reads''''.Asked,
-  Reads''''.Learnt,
-  Reads''''''''''.Asked,
-  Reads''''''''''.Learnt,
-) Reads.Pre
-    Reads.Post
+Need-queue-requires = Lts.Need-queue-requires readings Reads.Pre Reads.Post
 
 abbrev pub Need-queued-action-requires : Type 0
-Need-queued-action-requires = Lts.Need-queued-action-requires (
-  Reads''''''.Asked,
-  Reads''''''.Learnt,
-  Reads'''''''.Asked,
-  Reads'''''''.Learnt,
-  Reads''''''''.Asked,
-  Reads''''''''.Learnt,
-  Reads'''''''''.Asked,
-  Reads'''''''''.Learnt,
-  Reads''.Asked,
-  Reads''.Learnt,
-  Reads'''.Asked,
-  Reads'''.Learnt,
-  Reads'.Asked,
-  Reads'.Learnt,
-  Reads'''''.Asked,
-  Reads'''''.Learnt,
-  Reads''''.Asked,
-  Reads''''.Learnt,
-  Reads''''''''''.Asked,
-  Reads''''''''''.Learnt,
-) Reads.Pre Reads.Post
+Need-queued-action-requires = Lts.Need-queued-action-requires readings Reads.Pre Reads.Post
 
 abbrev pub Need-queued-go-requires : Type 0
-Need-queued-go-requires = Lts.Need-queued-go-requires (
-  Reads''''''.Asked,
-  Reads''''''.Learnt,
-  Reads'''''''.Asked,
-  Reads'''''''.Learnt,
-  Reads''''''''.Asked,
-  Reads''''''''.Learnt,
-  Reads'''''''''.Asked,
-  Reads'''''''''.Learnt,
-  Reads''.Asked,
-  Reads''.Learnt,
-  Reads'''.Asked,
-  Reads'''.Learnt,
-  Reads'.Asked,
-  Reads'.Learnt,
-  Reads'''''.Asked,
-  Reads'''''.Learnt,
-  Reads''''.Asked,
-  Reads''''.Learnt,
-  Reads''''''''''.Asked,
-  Reads''''''''''.Learnt,
-) Reads.Pre Reads.Post
+Need-queued-go-requires = Lts.Need-queued-go-requires readings Reads.Pre Reads.Post
 
 abbrev pub Need-queued-place-requires : Type 0
-Need-queued-place-requires = Lts.Need-queued-place-requires (
-  Reads''''''.Asked,
-  Reads''''''.Learnt,
-  Reads'''''''.Asked,
-  Reads'''''''.Learnt,
-  Reads''''''''.Asked,
-  Reads''''''''.Learnt,
-  Reads'''''''''.Asked,
-  Reads'''''''''.Learnt,
-  Reads''.Asked,
-  Reads''.Learnt,
-  Reads'''.Asked,
-  Reads'''.Learnt,
-  Reads'.Asked,
-  Reads'.Learnt,
-  Reads'''''.Asked,
-  Reads'''''.Learnt,
-  Reads''''.Asked,
-  Reads''''.Learnt,
-  Reads''''''''''.Asked,
-  Reads''''''''''.Learnt,
-) Reads.Pre Reads.Post
+Need-queued-place-requires = Lts.Need-queued-place-requires readings Reads.Pre Reads.Post
 
 abbrev pub Need-raised-requires : Type 0
-Need-raised-requires = Lts.Need-raised-requires (
-  Reads''''''.Asked,
-  Reads''''''.Learnt,
-  Reads'''''''.Asked,
-  Reads'''''''.Learnt,
-  Reads''''''''.Asked,
-  Reads''''''''.Learnt,
-  Reads'''''''''.Asked,
-  Reads'''''''''.Learnt,
-  Reads''.Asked,
-  Reads''.Learnt,
-  Reads'''.Asked,
-  Reads'''.Learnt,
-  Reads'.Asked,
-  Reads'.Learnt,
-  Reads'''''.Asked,
-  Reads'''''.Learnt,
-  Reads''''.Asked,
-  Reads''''.Learnt,
-  Reads''''''''''.Asked,
-  Reads''''''''''.Learnt,
-) Reads.Pre
-    Reads.Post
+Need-raised-requires = Lts.Need-raised-requires readings Reads.Pre Reads.Post
 
 abbrev pub Need-with-actions-requires : Type 0
-Need-with-actions-requires = Lts.Need-with-actions-requires (
-  Reads''''''.Asked,
-  Reads''''''.Learnt,
-  Reads'''''''.Asked,
-  Reads'''''''.Learnt,
-  Reads''''''''.Asked,
-  Reads''''''''.Learnt,
-  Reads'''''''''.Asked,
-  Reads'''''''''.Learnt,
-  Reads''.Asked,
-  Reads''.Learnt,
-  Reads'''.Asked,
-  Reads'''.Learnt,
-  Reads'.Asked,
-  Reads'.Learnt,
-  Reads'''''.Asked,
-  Reads'''''.Learnt,
-  Reads''''.Asked,
-  Reads''''.Learnt,
-  Reads''''''''''.Asked,
-  Reads''''''''''.Learnt,
-) Reads.Pre Reads.Post
+Need-with-actions-requires = Lts.Need-with-actions-requires readings Reads.Pre Reads.Post
 
 abbrev pub Need-set-action-requires : Type 0
-Need-set-action-requires = Lts.Need-set-action-requires (
-  Reads''''''.Asked,
-  Reads''''''.Learnt,
-  Reads'''''''.Asked,
-  Reads'''''''.Learnt,
-  Reads''''''''.Asked,
-  Reads''''''''.Learnt,
-  Reads'''''''''.Asked,
-  Reads'''''''''.Learnt,
-  Reads''.Asked,
-  Reads''.Learnt,
-  Reads'''.Asked,
-  Reads'''.Learnt,
-  Reads'.Asked,
-  Reads'.Learnt,
-  Reads'''''.Asked,
-  Reads'''''.Learnt,
-  Reads''''.Asked,
-  Reads''''.Learnt,
-  Reads''''''''''.Asked,
-  Reads''''''''''.Learnt,
-) Reads.Pre Reads.Post
+Need-set-action-requires = Lts.Need-set-action-requires readings Reads.Pre Reads.Post
 
 abbrev pub Need-put-queued-requires : Type 0
-Need-put-queued-requires = Lts.Need-put-queued-requires (
-  Reads''''''.Asked,
-  Reads''''''.Learnt,
-  Reads'''''''.Asked,
-  Reads'''''''.Learnt,
-  Reads''''''''.Asked,
-  Reads''''''''.Learnt,
-  Reads'''''''''.Asked,
-  Reads'''''''''.Learnt,
-  Reads''.Asked,
-  Reads''.Learnt,
-  Reads'''.Asked,
-  Reads'''.Learnt,
-  Reads'.Asked,
-  Reads'.Learnt,
-  Reads'''''.Asked,
-  Reads'''''.Learnt,
-  Reads''''.Asked,
-  Reads''''.Learnt,
-  Reads''''''''''.Asked,
-  Reads''''''''''.Learnt,
-) Reads.Pre Reads.Post
+Need-put-queued-requires = Lts.Need-put-queued-requires readings Reads.Pre Reads.Post
 
 abbrev pub Need-position-after-requires : Type 0
-Need-position-after-requires = Lts.Need-position-after-requires (
-  Reads''''''.Asked,
-  Reads''''''.Learnt,
-  Reads'''''''.Asked,
-  Reads'''''''.Learnt,
-  Reads''''''''.Asked,
-  Reads''''''''.Learnt,
-  Reads'''''''''.Asked,
-  Reads'''''''''.Learnt,
-  Reads''.Asked,
-  Reads''.Learnt,
-  Reads'''.Asked,
-  Reads'''.Learnt,
-  Reads'.Asked,
-  Reads'.Learnt,
-  Reads'''''.Asked,
-  Reads'''''.Learnt,
-  Reads''''.Asked,
-  Reads''''.Learnt,
-  Reads''''''''''.Asked,
-  Reads''''''''''.Learnt,
-) Reads.Pre Reads.Post
+Need-position-after-requires = Lts.Need-position-after-requires readings Reads.Pre Reads.Post
 
 abbrev pub Need-relayed-requires : Type 0
-Need-relayed-requires = Lts.Need-relayed-requires (
-  Reads''''''.Asked,
-  Reads''''''.Learnt,
-  Reads'''''''.Asked,
-  Reads'''''''.Learnt,
-  Reads''''''''.Asked,
-  Reads''''''''.Learnt,
-  Reads'''''''''.Asked,
-  Reads'''''''''.Learnt,
-  Reads''.Asked,
-  Reads''.Learnt,
-  Reads'''.Asked,
-  Reads'''.Learnt,
-  Reads'.Asked,
-  Reads'.Learnt,
-  Reads'''''.Asked,
-  Reads'''''.Learnt,
-  Reads''''.Asked,
-  Reads''''.Learnt,
-  Reads''''''''''.Asked,
-  Reads''''''''''.Learnt,
-) Reads.Pre Reads.Post
+Need-relayed-requires = Lts.Need-relayed-requires readings Reads.Pre Reads.Post
 
 abbrev pub Need-same-length : Type 0
-Need-same-length = Lts.Need-same-length (
-  Reads''''''.Asked,
-  Reads''''''.Learnt,
-  Reads'''''''.Asked,
-  Reads'''''''.Learnt,
-  Reads''''''''.Asked,
-  Reads''''''''.Learnt,
-  Reads'''''''''.Asked,
-  Reads'''''''''.Learnt,
-  Reads''.Asked,
-  Reads''.Learnt,
-  Reads'''.Asked,
-  Reads'''.Learnt,
-  Reads'.Asked,
-  Reads'.Learnt,
-  Reads'''''.Asked,
-  Reads'''''.Learnt,
-  Reads''''.Asked,
-  Reads''''.Learnt,
-  Reads''''''''''.Asked,
-  Reads''''''''''.Learnt,
-) Reads.Pre
-    Reads.Post
+Need-same-length = Lts.Need-same-length readings Reads.Pre Reads.Post
 
 abbrev pub Need-same-length-2 : Type 0
-Need-same-length-2 = Lts.Need-same-length-2 (
-  Reads''''''.Asked,
-  Reads''''''.Learnt,
-  Reads'''''''.Asked,
-  Reads'''''''.Learnt,
-  Reads''''''''.Asked,
-  Reads''''''''.Learnt,
-  Reads'''''''''.Asked,
-  Reads'''''''''.Learnt,
-  Reads''.Asked,
-  Reads''.Learnt,
-  Reads'''.Asked,
-  Reads'''.Learnt,
-  Reads'.Asked,
-  Reads'.Learnt,
-  Reads'''''.Asked,
-  Reads'''''.Learnt,
-  Reads''''.Asked,
-  Reads''''.Learnt,
-  Reads''''''''''.Asked,
-  Reads''''''''''.Learnt,
-) Reads.Pre
-    Reads.Post
+Need-same-length-2 = Lts.Need-same-length-2 readings Reads.Pre Reads.Post
 
 abbrev pub Need-returns : Type 0
-Need-returns = Lts.Need-returns (
-  Reads''''''.Asked,
-  Reads''''''.Learnt,
-  Reads'''''''.Asked,
-  Reads'''''''.Learnt,
-  Reads''''''''.Asked,
-  Reads''''''''.Learnt,
-  Reads'''''''''.Asked,
-  Reads'''''''''.Learnt,
-  Reads''.Asked,
-  Reads''.Learnt,
-  Reads'''.Asked,
-  Reads'''.Learnt,
-  Reads'.Asked,
-  Reads'.Learnt,
-  Reads'''''.Asked,
-  Reads'''''.Learnt,
-  Reads''''.Asked,
-  Reads''''.Learnt,
-  Reads''''''''''.Asked,
-  Reads''''''''''.Learnt,
-) Reads.Pre
-    Reads.Post
+Need-returns = Lts.Need-returns readings Reads.Pre Reads.Post
 
 module _ {M : Type 1} where
-  pub spec : (answer : Need-queue-requires) → (answer : Need-queued-action-requires) → (answer : Need-queued-go-requires) → (answer :
-      Need-queued-place-requires) → (answer : Need-raised-requires) → (answer : Need-with-actions-requires) → (answer : Need-set-action-requires) →
-      (answer : Need-put-queued-requires) → (answer : Need-position-after-requires) → (answer : Need-relayed-requires) → (answer : Need-same-length) →
-      (answer : Need-same-length-2) → (answer : Need-returns) → Lts.Closed (
-        Reads''''''.Asked,
-        Reads''''''.Learnt,
-        Reads'''''''.Asked,
-        Reads'''''''.Learnt,
-        Reads''''''''.Asked,
-        Reads''''''''.Learnt,
-        Reads'''''''''.Asked,
-        Reads'''''''''.Learnt,
-        Reads''.Asked,
-        Reads''.Learnt,
-        Reads'''.Asked,
-        Reads'''.Learnt,
-        Reads'.Asked,
-        Reads'.Learnt,
-        Reads'''''.Asked,
-        Reads'''''.Learnt,
-        Reads''''.Asked,
-        Reads''''.Learnt,
-        Reads''''''''''.Asked,
-        Reads''''''''''.Learnt,
-      ) Reads.Pre Reads.Post M
-  spec = λ answer answer' answer'' answer'3 answer'4 answer'5 answer'6 answer'7 answer'8 answer'9 answer'10 answer'11 answer'12. Lts.spec (
-    Reads''''''.Asked,
-    Reads''''''.Learnt,
-    Reads'''''''.Asked,
-    Reads'''''''.Learnt,
-    Reads''''''''.Asked,
-    Reads''''''''.Learnt,
-    Reads'''''''''.Asked,
-    Reads'''''''''.Learnt,
-    Reads''.Asked,
-    Reads''.Learnt,
-    Reads'''.Asked,
-    Reads'''.Learnt,
-    Reads'.Asked,
-    Reads'.Learnt,
-    Reads'''''.Asked,
-    Reads'''''.Learnt,
-    Reads''''.Asked,
-    Reads''''.Learnt,
-    Reads''''''''''.Asked,
-    Reads''''''''''.Learnt,
-  ) Reads.Pre Reads.Post
-      answer answer' answer'' answer'3 answer'4 answer'5 answer'6 answer'7 answer'8 answer'9 answer'10 answer'11 answer'12
+  pub spec : (answer : Need-queue-requires) → (answer : Need-queued-action-requires) →
+      (answer : Need-queued-go-requires) → (answer : Need-queued-place-requires) → (answer : Need-raised-requires) →
+      (answer : Need-with-actions-requires) → (answer : Need-set-action-requires) → (answer : Need-put-queued-requires)
+      → (answer : Need-position-after-requires) → (answer : Need-relayed-requires) → (answer : Need-same-length) →
+      (answer : Need-same-length-2) → (answer : Need-returns) → Lts.Closed readings Reads.Pre Reads.Post M
+  spec = λ answer answer' answer'' answer'3 answer'4 answer'5 answer'6 answer'7 answer'8 answer'9 answer'10 answer'11
+      answer'12. Lts.spec readings Reads.Pre Reads.Post answer answer' answer'' answer'3 answer'4 answer'5 answer'6
+      answer'7 answer'8 answer'9 answer'10 answer'11 answer'12
 
-  pub close : Lts.Closed (
-    Reads''''''.Asked,
-    Reads''''''.Learnt,
-    Reads'''''''.Asked,
-    Reads'''''''.Learnt,
-    Reads''''''''.Asked,
-    Reads''''''''.Learnt,
-    Reads'''''''''.Asked,
-    Reads'''''''''.Learnt,
-    Reads''.Asked,
-    Reads''.Learnt,
-    Reads'''.Asked,
-    Reads'''.Learnt,
-    Reads'.Asked,
-    Reads'.Learnt,
-    Reads'''''.Asked,
-    Reads'''''.Learnt,
-    Reads''''.Asked,
-    Reads''''.Learnt,
-    Reads''''''''''.Asked,
-    Reads''''''''''.Learnt,
-  ) Reads.Pre Reads.Post M →
-      Statement.statement M
+  pub close : Lts.Closed readings Reads.Pre Reads.Post M → Statement.statement M
   unfolding Code.routine Running.tablesOf
-  close = λ closed 𝓤 H 𝓜 𝓖 𝓡. Written.close 3 Kinds.ps Kinds.r Reads.Ghost Reads.requires Reads.ensures Reads.pre-read Reads.Pinned Reads.Owned
-      Reads.post-read record { M = M; 𝓤 = 𝓤; H = H; 𝓜 = 𝓜; 𝓖 = 𝓖; 𝓡 = 𝓡 } Code.env Key.name Code.function (Code.unfolded 𝓤 H 𝓜 𝓡) (λ κs a g. tt) (λ
-      κs. Reads.owns κs record { M = M; 𝓤 = 𝓤; H = H; 𝓜 = 𝓜; 𝓖 = 𝓖; 𝓡 = 𝓡 }) (Reads.passes record { M = M; 𝓤 = 𝓤; H = H; 𝓜 = 𝓜; 𝓖 = 𝓖; 𝓡 = 𝓡 }) λ g.
-      closed 𝓤 H (𝓖 .A) (Running.givenOf 𝓤 H 𝓜 𝓖) (Run.Over 𝓤 H 𝓜 𝓖 𝓡 Code.env) (Reads''''''.known record { M = M; 𝓤 = 𝓤; H = H; 𝓜 = 𝓜; 𝓖 = 𝓖; 𝓡 = 𝓡 }
-      Code.env Symbol''''.name Symbol''''.routine Code.calls-hnsr-circuit·queue·queue (Met''''.met 𝓤 H 𝓜 𝓖 𝓡)) (Reads'''''''.known record {
-        M = M;
-        𝓤 =
-            𝓤;
-        H = H;
-        𝓜 = 𝓜;
-        𝓖 = 𝓖;
-        𝓡 = 𝓡;
-      } Code.env Symbol'''''.name Symbol'''''.routine Code.calls-hnsr-circuit·queue·queued-action (Met'''''.met 𝓤 H 𝓜 𝓖
-      𝓡)) (Reads''''''''.known record { M = M; 𝓤 = 𝓤; H = H; 𝓜 = 𝓜; 𝓖 = 𝓖; 𝓡 = 𝓡 } Code.env Symbol''''''.name Symbol''''''.routine
-      Code.calls-hnsr-circuit·queue·queued-go (Met''''''.met 𝓤 H 𝓜 𝓖 𝓡)) (Reads'''''''''.known record { M = M; 𝓤 = 𝓤; H = H; 𝓜 = 𝓜; 𝓖 = 𝓖; 𝓡 = 𝓡 }
-      Code.env Symbol'''''''.name Symbol'''''''.routine Code.calls-hnsr-circuit·queue·queued-place (Met'''''''.met 𝓤 H 𝓜 𝓖 𝓡)) (Reads''.known record {
-        M = M;
-        𝓤 = 𝓤;
-        H = H;
-        𝓜 = 𝓜;
-        𝓖 = 𝓖;
-        𝓡 = 𝓡;
-      } Code.env Symbol.name Symbol.routine Code.calls-hnsr-circuit·places·raised (Met.met 𝓤 H 𝓜 𝓖 𝓡))
-      (Reads'''.known record { M = M; 𝓤 = 𝓤; H = H; 𝓜 = 𝓜; 𝓖 = 𝓖; 𝓡 = 𝓡 } Code.env Symbol'.name Symbol'.routine
-      Code.calls-hnsr-circuit·places·with-actions (Met'.met 𝓤 H 𝓜 𝓖 𝓡)) (Reads'.known record { M = M; 𝓤 = 𝓤; H = H; 𝓜 = 𝓜; 𝓖 = 𝓖; 𝓡 = 𝓡 } Code.env
-      Symbol'''''''''.name Symbol'''''''''.routine Code.calls-hnsr-circuit·tables·inflight·set-action (Met'''''''''.met 𝓤 H 𝓜 𝓖 𝓡)) (Reads'''''.known
-      record { M = M; 𝓤 = 𝓤; H = H; 𝓜 = 𝓜; 𝓖 = 𝓖; 𝓡 = 𝓡 } Code.env Symbol'''.name Symbol'''.routine Code.calls-hnsr-circuit·queue·put-queued
-      (Met'''.met 𝓤 H 𝓜 𝓖 𝓡)) (Reads''''.known record { M = M; 𝓤 = 𝓤; H = H; 𝓜 = 𝓜; 𝓖 = 𝓖; 𝓡 = 𝓡 } Code.env Symbol''.name Symbol''.routine
-      Code.calls-hnsr-circuit·queue·position-after (Met''.met 𝓤 H 𝓜 𝓖 𝓡)) (Reads''''''''''.known record { M = M; 𝓤 = 𝓤; H = H; 𝓜 = 𝓜; 𝓖 = 𝓖; 𝓡 = 𝓡 }
-      Code.env Symbol''''''''.name Symbol''''''''.routine Code.calls-hnsr-circuit·queue·relayed (Met''''''''.met 𝓤 H 𝓜 𝓖 𝓡))
+  close = λ closed 𝓤 H 𝓜 𝓖 𝓡. Written.close 3 Kinds.ps Kinds.r Reads.Ghost Reads.requires Reads.ensures Reads.pre-read
+      Reads.Pinned Reads.Owned Reads.post-read record { M = M; 𝓤 = 𝓤; H = H; 𝓜 = 𝓜; 𝓖 = 𝓖; 𝓡 = 𝓡 } Code.env Key.name
+      Code.function (Code.unfolded 𝓤 H 𝓜 𝓡) (λ κs a g. tt) (λ κs. Reads.owns κs
+      record { M = M; 𝓤 = 𝓤; H = H; 𝓜 = 𝓜; 𝓖 = 𝓖; 𝓡 = 𝓡 }) (Reads.passes
+      record { M = M; 𝓤 = 𝓤; H = H; 𝓜 = 𝓜; 𝓖 = 𝓖; 𝓡 = 𝓡 }) λ g. closed 𝓤 H (𝓖 .A) (Running.givenOf 𝓤 H 𝓜 𝓖)
+      (Run.Over 𝓤 H 𝓜 𝓖 𝓡 Code.env) (Reads''''''.known record { M = M; 𝓤 = 𝓤; H = H; 𝓜 = 𝓜; 𝓖 = 𝓖; 𝓡 = 𝓡 } Code.env
+      Symbol''''.name Symbol''''.routine Code.calls-hnsr-circuit·queue·queue (Met''''.met 𝓤 H 𝓜 𝓖 𝓡)) (Reads'''''''.known
+      record { M = M; 𝓤 = 𝓤; H = H; 𝓜 = 𝓜; 𝓖 = 𝓖; 𝓡 = 𝓡 } Code.env Symbol'''''.name Symbol'''''.routine
+      Code.calls-hnsr-circuit·queue·queued-action (Met'''''.met 𝓤 H 𝓜 𝓖 𝓡)) (Reads''''''''.known
+      record { M = M; 𝓤 = 𝓤; H = H; 𝓜 = 𝓜; 𝓖 = 𝓖; 𝓡 = 𝓡 } Code.env Symbol''''''.name Symbol''''''.routine
+      Code.calls-hnsr-circuit·queue·queued-go (Met''''''.met 𝓤 H 𝓜 𝓖 𝓡)) (Reads'''''''''.known
+      record { M = M; 𝓤 = 𝓤; H = H; 𝓜 = 𝓜; 𝓖 = 𝓖; 𝓡 = 𝓡 } Code.env Symbol'''''''.name Symbol'''''''.routine
+      Code.calls-hnsr-circuit·queue·queued-place (Met'''''''.met 𝓤 H 𝓜 𝓖 𝓡)) (Reads''.known
+      record { M = M; 𝓤 = 𝓤; H = H; 𝓜 = 𝓜; 𝓖 = 𝓖; 𝓡 = 𝓡 } Code.env Symbol.name Symbol.routine
+      Code.calls-hnsr-circuit·places·raised (Met.met 𝓤 H 𝓜 𝓖 𝓡)) (Reads'''.known
+      record { M = M; 𝓤 = 𝓤; H = H; 𝓜 = 𝓜; 𝓖 = 𝓖; 𝓡 = 𝓡 } Code.env Symbol'.name Symbol'.routine
+      Code.calls-hnsr-circuit·places·with-actions (Met'.met 𝓤 H 𝓜 𝓖 𝓡)) (Reads'.known
+      record { M = M; 𝓤 = 𝓤; H = H; 𝓜 = 𝓜; 𝓖 = 𝓖; 𝓡 = 𝓡 } Code.env Symbol'''''''''.name Symbol'''''''''.routine
+      Code.calls-hnsr-circuit·tables·inflight·set-action (Met'''''''''.met 𝓤 H 𝓜 𝓖 𝓡)) (Reads'''''.known
+      record { M = M; 𝓤 = 𝓤; H = H; 𝓜 = 𝓜; 𝓖 = 𝓖; 𝓡 = 𝓡 } Code.env Symbol'''.name Symbol'''.routine
+      Code.calls-hnsr-circuit·queue·put-queued (Met'''.met 𝓤 H 𝓜 𝓖 𝓡)) (Reads''''.known
+      record { M = M; 𝓤 = 𝓤; H = H; 𝓜 = 𝓜; 𝓖 = 𝓖; 𝓡 = 𝓡 } Code.env Symbol''.name Symbol''.routine
+      Code.calls-hnsr-circuit·queue·position-after (Met''.met 𝓤 H 𝓜 𝓖 𝓡)) (Reads''''''''''.known
+      record { M = M; 𝓤 = 𝓤; H = H; 𝓜 = 𝓜; 𝓖 = 𝓖; 𝓡 = 𝓡 } Code.env Symbol''''''''.name Symbol''''''''.routine
+      Code.calls-hnsr-circuit·queue·relayed (Met''''''''.met 𝓤 H 𝓜 𝓖 𝓡))

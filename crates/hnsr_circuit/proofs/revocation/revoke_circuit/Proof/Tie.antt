@@ -27,8 +27,8 @@ use borrow.Fn.Run
 use borrow.Fn.Written
 use contract.Running
 
-abbrev pub Start : Type 0
-Start = Lts.Start (
+abbrev pub readings : Lts.Claims
+readings = (
   Reads'''.Asked,
   Reads'''.Learnt,
   Reads'''''.Asked,
@@ -41,630 +41,138 @@ Start = Lts.Start (
   Reads.Learnt,
   Reads'.Asked,
   Reads'.Learnt,
-) Reads''.Pre Reads''.Post
+)
+
+abbrev pub Start : Type 0
+Start = Lts.Start readings Reads''.Pre Reads''.Post
 
 abbrev pub After-slice-known : Type 0
-After-slice-known = Lts.After-slice-known (
-  Reads'''.Asked,
-  Reads'''.Learnt,
-  Reads'''''.Asked,
-  Reads'''''.Learnt,
-  Reads''''''.Asked,
-  Reads''''''.Learnt,
-  Reads''''.Asked,
-  Reads''''.Learnt,
-  Reads.Asked,
-  Reads.Learnt,
-  Reads'.Asked,
-  Reads'.Learnt,
-) Reads''.Pre Reads''.Post
+After-slice-known = Lts.After-slice-known readings Reads''.Pre Reads''.Post
 
 abbrev pub After-places : Type 0
-After-places = Lts.After-places (
-  Reads'''.Asked,
-  Reads'''.Learnt,
-  Reads'''''.Asked,
-  Reads'''''.Learnt,
-  Reads''''''.Asked,
-  Reads''''''.Learnt,
-  Reads''''.Asked,
-  Reads''''.Learnt,
-  Reads.Asked,
-  Reads.Learnt,
-  Reads'.Asked,
-  Reads'.Learnt,
-) Reads''.Pre Reads''.Post
+After-places = Lts.After-places readings Reads''.Pre Reads''.Post
 
 abbrev pub After-circuit-at-arg : Type 0
-After-circuit-at-arg = Lts.After-circuit-at-arg (
-  Reads'''.Asked,
-  Reads'''.Learnt,
-  Reads'''''.Asked,
-  Reads'''''.Learnt,
-  Reads''''''.Asked,
-  Reads''''''.Learnt,
-  Reads''''.Asked,
-  Reads''''.Learnt,
-  Reads.Asked,
-  Reads.Learnt,
-  Reads'.Asked,
-  Reads'.Learnt,
-) Reads''.Pre Reads''.Post
+After-circuit-at-arg = Lts.After-circuit-at-arg readings Reads''.Pre Reads''.Post
 
 abbrev pub After-circuit-at : Type 0
-After-circuit-at = Lts.After-circuit-at (
-  Reads'''.Asked,
-  Reads'''.Learnt,
-  Reads'''''.Asked,
-  Reads'''''.Learnt,
-  Reads''''''.Asked,
-  Reads''''''.Learnt,
-  Reads''''.Asked,
-  Reads''''.Learnt,
-  Reads.Asked,
-  Reads.Learnt,
-  Reads'.Asked,
-  Reads'.Learnt,
-) Reads''.Pre Reads''.Post
+After-circuit-at = Lts.After-circuit-at readings Reads''.Pre Reads''.Post
 
 abbrev pub After-circuit-unmarked : Type 0
-After-circuit-unmarked = Lts.After-circuit-unmarked (
-  Reads'''.Asked,
-  Reads'''.Learnt,
-  Reads'''''.Asked,
-  Reads'''''.Learnt,
-  Reads''''''.Asked,
-  Reads''''''.Learnt,
-  Reads''''.Asked,
-  Reads''''.Learnt,
-  Reads.Asked,
-  Reads.Learnt,
-  Reads'.Asked,
-  Reads'.Learnt,
-) Reads''.Pre Reads''.Post
+After-circuit-unmarked = Lts.After-circuit-unmarked readings Reads''.Pre Reads''.Post
 
 abbrev pub After-plan-circuit : Type 0
-After-plan-circuit = Lts.After-plan-circuit (
-  Reads'''.Asked,
-  Reads'''.Learnt,
-  Reads'''''.Asked,
-  Reads'''''.Learnt,
-  Reads''''''.Asked,
-  Reads''''''.Learnt,
-  Reads''''.Asked,
-  Reads''''.Learnt,
-  Reads.Asked,
-  Reads.Learnt,
-  Reads'.Asked,
-  Reads'.Learnt,
-) Reads''.Pre Reads''.Post
+After-plan-circuit = Lts.After-plan-circuit readings Reads''.Pre Reads''.Post
 
 abbrev pub After-after : Type 0
-After-after = Lts.After-after (
-  Reads'''.Asked,
-  Reads'''.Learnt,
-  Reads'''''.Asked,
-  Reads'''''.Learnt,
-  Reads''''''.Asked,
-  Reads''''''.Learnt,
-  Reads''''.Asked,
-  Reads''''.Learnt,
-  Reads.Asked,
-  Reads.Learnt,
-  Reads'.Asked,
-  Reads'.Learnt,
-) Reads''.Pre Reads''.Post
+After-after = Lts.After-after readings Reads''.Pre Reads''.Post
 
 abbrev pub After-first : Type 0
-After-first = Lts.After-first (
-  Reads'''.Asked,
-  Reads'''.Learnt,
-  Reads'''''.Asked,
-  Reads'''''.Learnt,
-  Reads''''''.Asked,
-  Reads''''''.Learnt,
-  Reads''''.Asked,
-  Reads''''.Learnt,
-  Reads.Asked,
-  Reads.Learnt,
-  Reads'.Asked,
-  Reads'.Learnt,
-) Reads''.Pre Reads''.Post
+After-first = Lts.After-first readings Reads''.Pre Reads''.Post
 
 abbrev pub After-second : Type 0
-After-second = Lts.After-second (
-  Reads'''.Asked,
-  Reads'''.Learnt,
-  Reads'''''.Asked,
-  Reads'''''.Learnt,
-  Reads''''''.Asked,
-  Reads''''''.Learnt,
-  Reads''''.Asked,
-  Reads''''.Learnt,
-  Reads.Asked,
-  Reads.Learnt,
-  Reads'.Asked,
-  Reads'.Learnt,
-) Reads''.Pre Reads''.Post
+After-second = Lts.After-second readings Reads''.Pre Reads''.Post
 
 abbrev pub After-set-circuit-arg : Type 0
-After-set-circuit-arg = Lts.After-set-circuit-arg (
-  Reads'''.Asked,
-  Reads'''.Learnt,
-  Reads'''''.Asked,
-  Reads'''''.Learnt,
-  Reads''''''.Asked,
-  Reads''''''.Learnt,
-  Reads''''.Asked,
-  Reads''''.Learnt,
-  Reads.Asked,
-  Reads.Learnt,
-  Reads'.Asked,
-  Reads'.Learnt,
-) Reads''.Pre Reads''.Post
+After-set-circuit-arg = Lts.After-set-circuit-arg readings Reads''.Pre Reads''.Post
 
 abbrev pub After-set-circuit : Type 0
-After-set-circuit = Lts.After-set-circuit (
-  Reads'''.Asked,
-  Reads'''.Learnt,
-  Reads'''''.Asked,
-  Reads'''''.Learnt,
-  Reads''''''.Asked,
-  Reads''''''.Learnt,
-  Reads''''.Asked,
-  Reads''''.Learnt,
-  Reads.Asked,
-  Reads.Learnt,
-  Reads'.Asked,
-  Reads'.Learnt,
-) Reads''.Pre Reads''.Post
+After-set-circuit = Lts.After-set-circuit readings Reads''.Pre Reads''.Post
 
 abbrev pub After-circuits : Type 0
-After-circuits = Lts.After-circuits (
-  Reads'''.Asked,
-  Reads'''.Learnt,
-  Reads'''''.Asked,
-  Reads'''''.Learnt,
-  Reads''''''.Asked,
-  Reads''''''.Learnt,
-  Reads''''.Asked,
-  Reads''''.Learnt,
-  Reads.Asked,
-  Reads.Learnt,
-  Reads'.Asked,
-  Reads'.Learnt,
-) Reads''.Pre Reads''.Post
+After-circuits = Lts.After-circuits readings Reads''.Pre Reads''.Post
 
 abbrev pub After-drop-and-tell-arg : Type 0
-After-drop-and-tell-arg = Lts.After-drop-and-tell-arg (
-  Reads'''.Asked,
-  Reads'''.Learnt,
-  Reads'''''.Asked,
-  Reads'''''.Learnt,
-  Reads''''''.Asked,
-  Reads''''''.Learnt,
-  Reads''''.Asked,
-  Reads''''.Learnt,
-  Reads.Asked,
-  Reads.Learnt,
-  Reads'.Asked,
-  Reads'.Learnt,
-) Reads''.Pre Reads''.Post
+After-drop-and-tell-arg = Lts.After-drop-and-tell-arg readings Reads''.Pre Reads''.Post
 
 abbrev pub After-drop-and-tell-arg2 : Type 0
-After-drop-and-tell-arg2 = Lts.After-drop-and-tell-arg2 (
-  Reads'''.Asked,
-  Reads'''.Learnt,
-  Reads'''''.Asked,
-  Reads'''''.Learnt,
-  Reads''''''.Asked,
-  Reads''''''.Learnt,
-  Reads''''.Asked,
-  Reads''''.Learnt,
-  Reads.Asked,
-  Reads.Learnt,
-  Reads'.Asked,
-  Reads'.Learnt,
-) Reads''.Pre Reads''.Post
+After-drop-and-tell-arg2 = Lts.After-drop-and-tell-arg2 readings Reads''.Pre Reads''.Post
 
 abbrev pub After-drop-and-tell : Type 0
-After-drop-and-tell = Lts.After-drop-and-tell (
-  Reads'''.Asked,
-  Reads'''.Learnt,
-  Reads'''''.Asked,
-  Reads'''''.Learnt,
-  Reads''''''.Asked,
-  Reads''''''.Learnt,
-  Reads''''.Asked,
-  Reads''''.Learnt,
-  Reads.Asked,
-  Reads.Learnt,
-  Reads'.Asked,
-  Reads'.Learnt,
-) Reads''.Pre Reads''.Post
+After-drop-and-tell = Lts.After-drop-and-tell readings Reads''.Pre Reads''.Post
 
 abbrev pub After-inflight : Type 0
-After-inflight = Lts.After-inflight (
-  Reads'''.Asked,
-  Reads'''.Learnt,
-  Reads'''''.Asked,
-  Reads'''''.Learnt,
-  Reads''''''.Asked,
-  Reads''''''.Learnt,
-  Reads''''.Asked,
-  Reads''''.Learnt,
-  Reads.Asked,
-  Reads.Learnt,
-  Reads'.Asked,
-  Reads'.Learnt,
-) Reads''.Pre Reads''.Post
+After-inflight = Lts.After-inflight readings Reads''.Pre Reads''.Post
 
 abbrev pub After-out : Type 0
-After-out = Lts.After-out (
-  Reads'''.Asked,
-  Reads'''.Learnt,
-  Reads'''''.Asked,
-  Reads'''''.Learnt,
-  Reads''''''.Asked,
-  Reads''''''.Learnt,
-  Reads''''.Asked,
-  Reads''''.Learnt,
-  Reads.Asked,
-  Reads.Learnt,
-  Reads'.Asked,
-  Reads'.Learnt,
-) Reads''.Pre Reads''.Post
+After-out = Lts.After-out readings Reads''.Pre Reads''.Post
 
 abbrev pub After-slice-known2 : Type 0
-After-slice-known2 = Lts.After-slice-known2 (
-  Reads'''.Asked,
-  Reads'''.Learnt,
-  Reads'''''.Asked,
-  Reads'''''.Learnt,
-  Reads''''''.Asked,
-  Reads''''''.Learnt,
-  Reads''''.Asked,
-  Reads''''.Learnt,
-  Reads.Asked,
-  Reads.Learnt,
-  Reads'.Asked,
-  Reads'.Learnt,
-) Reads''.Pre Reads''.Post
+After-slice-known2 = Lts.After-slice-known2 readings Reads''.Pre Reads''.Post
 
 abbrev pub After-tell-notice-arg : Type 0
-After-tell-notice-arg = Lts.After-tell-notice-arg (
-  Reads'''.Asked,
-  Reads'''.Learnt,
-  Reads'''''.Asked,
-  Reads'''''.Learnt,
-  Reads''''''.Asked,
-  Reads''''''.Learnt,
-  Reads''''.Asked,
-  Reads''''.Learnt,
-  Reads.Asked,
-  Reads.Learnt,
-  Reads'.Asked,
-  Reads'.Learnt,
-) Reads''.Pre Reads''.Post
+After-tell-notice-arg = Lts.After-tell-notice-arg readings Reads''.Pre Reads''.Post
 
 abbrev pub After-tell-notice-arg2 : Type 0
-After-tell-notice-arg2 = Lts.After-tell-notice-arg2 (
-  Reads'''.Asked,
-  Reads'''.Learnt,
-  Reads'''''.Asked,
-  Reads'''''.Learnt,
-  Reads''''''.Asked,
-  Reads''''''.Learnt,
-  Reads''''.Asked,
-  Reads''''.Learnt,
-  Reads.Asked,
-  Reads.Learnt,
-  Reads'.Asked,
-  Reads'.Learnt,
-) Reads''.Pre Reads''.Post
+After-tell-notice-arg2 = Lts.After-tell-notice-arg2 readings Reads''.Pre Reads''.Post
 
 abbrev pub After-tell-notice : Type 0
-After-tell-notice = Lts.After-tell-notice (
-  Reads'''.Asked,
-  Reads'''.Learnt,
-  Reads'''''.Asked,
-  Reads'''''.Learnt,
-  Reads''''''.Asked,
-  Reads''''''.Learnt,
-  Reads''''.Asked,
-  Reads''''.Learnt,
-  Reads.Asked,
-  Reads.Learnt,
-  Reads'.Asked,
-  Reads'.Learnt,
-) Reads''.Pre Reads''.Post
+After-tell-notice = Lts.After-tell-notice readings Reads''.Pre Reads''.Post
 
 abbrev pub After-inflight2 : Type 0
-After-inflight2 = Lts.After-inflight2 (
-  Reads'''.Asked,
-  Reads'''.Learnt,
-  Reads'''''.Asked,
-  Reads'''''.Learnt,
-  Reads''''''.Asked,
-  Reads''''''.Learnt,
-  Reads''''.Asked,
-  Reads''''.Learnt,
-  Reads.Asked,
-  Reads.Learnt,
-  Reads'.Asked,
-  Reads'.Learnt,
-) Reads''.Pre Reads''.Post
+After-inflight2 = Lts.After-inflight2 readings Reads''.Pre Reads''.Post
 
 abbrev pub After-out2 : Type 0
-After-out2 = Lts.After-out2 (
-  Reads'''.Asked,
-  Reads'''.Learnt,
-  Reads'''''.Asked,
-  Reads'''''.Learnt,
-  Reads''''''.Asked,
-  Reads''''''.Learnt,
-  Reads''''.Asked,
-  Reads''''.Learnt,
-  Reads.Asked,
-  Reads.Learnt,
-  Reads'.Asked,
-  Reads'.Learnt,
-) Reads''.Pre Reads''.Post
+After-out2 = Lts.After-out2 readings Reads''.Pre Reads''.Post
 
 abbrev pub After-slice-known3 : Type 0
-After-slice-known3 = Lts.After-slice-known3 (
-  Reads'''.Asked,
-  Reads'''.Learnt,
-  Reads'''''.Asked,
-  Reads'''''.Learnt,
-  Reads''''''.Asked,
-  Reads''''''.Learnt,
-  Reads''''.Asked,
-  Reads''''.Learnt,
-  Reads.Asked,
-  Reads.Learnt,
-  Reads'.Asked,
-  Reads'.Learnt,
-) Reads''.Pre Reads''.Post
+After-slice-known3 = Lts.After-slice-known3 readings Reads''.Pre Reads''.Post
 
 abbrev pub Need-circuit-at-requires : Type 0
-Need-circuit-at-requires = Lts.Need-circuit-at-requires (
-  Reads'''.Asked,
-  Reads'''.Learnt,
-  Reads'''''.Asked,
-  Reads'''''.Learnt,
-  Reads''''''.Asked,
-  Reads''''''.Learnt,
-  Reads''''.Asked,
-  Reads''''.Learnt,
-  Reads.Asked,
-  Reads.Learnt,
-  Reads'.Asked,
-  Reads'.Learnt,
-) Reads''.Pre Reads''.Post
+Need-circuit-at-requires = Lts.Need-circuit-at-requires readings Reads''.Pre Reads''.Post
 
 abbrev pub Need-circuit-unmarked-requires : Type 0
-Need-circuit-unmarked-requires = Lts.Need-circuit-unmarked-requires (
-  Reads'''.Asked,
-  Reads'''.Learnt,
-  Reads'''''.Asked,
-  Reads'''''.Learnt,
-  Reads''''''.Asked,
-  Reads''''''.Learnt,
-  Reads''''.Asked,
-  Reads''''.Learnt,
-  Reads.Asked,
-  Reads.Learnt,
-  Reads'.Asked,
-  Reads'.Learnt,
-) Reads''.Pre
-    Reads''.Post
+Need-circuit-unmarked-requires = Lts.Need-circuit-unmarked-requires readings Reads''.Pre Reads''.Post
 
 abbrev pub Need-plan-circuit-requires : Type 0
-Need-plan-circuit-requires = Lts.Need-plan-circuit-requires (
-  Reads'''.Asked,
-  Reads'''.Learnt,
-  Reads'''''.Asked,
-  Reads'''''.Learnt,
-  Reads''''''.Asked,
-  Reads''''''.Learnt,
-  Reads''''.Asked,
-  Reads''''.Learnt,
-  Reads.Asked,
-  Reads.Learnt,
-  Reads'.Asked,
-  Reads'.Learnt,
-) Reads''.Pre Reads''.Post
+Need-plan-circuit-requires = Lts.Need-plan-circuit-requires readings Reads''.Pre Reads''.Post
 
 abbrev pub Need-set-circuit-requires : Type 0
-Need-set-circuit-requires = Lts.Need-set-circuit-requires (
-  Reads'''.Asked,
-  Reads'''.Learnt,
-  Reads'''''.Asked,
-  Reads'''''.Learnt,
-  Reads''''''.Asked,
-  Reads''''''.Learnt,
-  Reads''''.Asked,
-  Reads''''.Learnt,
-  Reads.Asked,
-  Reads.Learnt,
-  Reads'.Asked,
-  Reads'.Learnt,
-) Reads''.Pre Reads''.Post
+Need-set-circuit-requires = Lts.Need-set-circuit-requires readings Reads''.Pre Reads''.Post
 
 abbrev pub Need-drop-and-tell-requires : Type 0
-Need-drop-and-tell-requires = Lts.Need-drop-and-tell-requires (
-  Reads'''.Asked,
-  Reads'''.Learnt,
-  Reads'''''.Asked,
-  Reads'''''.Learnt,
-  Reads''''''.Asked,
-  Reads''''''.Learnt,
-  Reads''''.Asked,
-  Reads''''.Learnt,
-  Reads.Asked,
-  Reads.Learnt,
-  Reads'.Asked,
-  Reads'.Learnt,
-) Reads''.Pre
-    Reads''.Post
+Need-drop-and-tell-requires = Lts.Need-drop-and-tell-requires readings Reads''.Pre Reads''.Post
 
 abbrev pub Need-tell-notice-requires : Type 0
-Need-tell-notice-requires = Lts.Need-tell-notice-requires (
-  Reads'''.Asked,
-  Reads'''.Learnt,
-  Reads'''''.Asked,
-  Reads'''''.Learnt,
-  Reads''''''.Asked,
-  Reads''''''.Learnt,
-  Reads''''.Asked,
-  Reads''''.Learnt,
-  Reads.Asked,
-  Reads.Learnt,
-  Reads'.Asked,
-  Reads'.Learnt,
-) Reads''.Pre Reads''.Post
+Need-tell-notice-requires = Lts.Need-tell-notice-requires readings Reads''.Pre Reads''.Post
 
 abbrev pub Need-same-length : Type 0
-Need-same-length = Lts.Need-same-length (
-  Reads'''.Asked,
-  Reads'''.Learnt,
-  Reads'''''.Asked,
-  Reads'''''.Learnt,
-  Reads''''''.Asked,
-  Reads''''''.Learnt,
-  Reads''''.Asked,
-  Reads''''.Learnt,
-  Reads.Asked,
-  Reads.Learnt,
-  Reads'.Asked,
-  Reads'.Learnt,
-) Reads''.Pre Reads''.Post
+Need-same-length = Lts.Need-same-length readings Reads''.Pre Reads''.Post
 
 abbrev pub Need-same-length-2 : Type 0
-Need-same-length-2 = Lts.Need-same-length-2 (
-  Reads'''.Asked,
-  Reads'''.Learnt,
-  Reads'''''.Asked,
-  Reads'''''.Learnt,
-  Reads''''''.Asked,
-  Reads''''''.Learnt,
-  Reads''''.Asked,
-  Reads''''.Learnt,
-  Reads.Asked,
-  Reads.Learnt,
-  Reads'.Asked,
-  Reads'.Learnt,
-) Reads''.Pre Reads''.Post
+Need-same-length-2 = Lts.Need-same-length-2 readings Reads''.Pre Reads''.Post
 
 abbrev pub Need-same-length-3 : Type 0
-Need-same-length-3 = Lts.Need-same-length-3 (
-  Reads'''.Asked,
-  Reads'''.Learnt,
-  Reads'''''.Asked,
-  Reads'''''.Learnt,
-  Reads''''''.Asked,
-  Reads''''''.Learnt,
-  Reads''''.Asked,
-  Reads''''.Learnt,
-  Reads.Asked,
-  Reads.Learnt,
-  Reads'.Asked,
-  Reads'.Learnt,
-) Reads''.Pre Reads''.Post
+Need-same-length-3 = Lts.Need-same-length-3 readings Reads''.Pre Reads''.Post
 
 abbrev pub Need-returns : Type 0
-Need-returns = Lts.Need-returns (
-  Reads'''.Asked,
-  Reads'''.Learnt,
-  Reads'''''.Asked,
-  Reads'''''.Learnt,
-  Reads''''''.Asked,
-  Reads''''''.Learnt,
-  Reads''''.Asked,
-  Reads''''.Learnt,
-  Reads.Asked,
-  Reads.Learnt,
-  Reads'.Asked,
-  Reads'.Learnt,
-) Reads''.Pre Reads''.Post
+Need-returns = Lts.Need-returns readings Reads''.Pre Reads''.Post
 
 module _ {M : Type 1} where
-  pub spec : (answer : Need-circuit-at-requires) → (answer : Need-circuit-unmarked-requires) → (answer : Need-plan-circuit-requires) → (answer :
-      Need-set-circuit-requires) → (answer : Need-drop-and-tell-requires) → (answer : Need-tell-notice-requires) → (answer : Need-same-length) →
-      (answer : Need-same-length-2) → (answer : Need-same-length-3) → (answer : Need-returns) → Lts.Closed (
-        Reads'''.Asked,
-        Reads'''.Learnt,
-        Reads'''''.Asked,
-        Reads'''''.Learnt,
-        Reads''''''.Asked,
-        Reads''''''.Learnt,
-        Reads''''.Asked,
-        Reads''''.Learnt,
-        Reads.Asked,
-        Reads.Learnt,
-        Reads'.Asked,
-        Reads'.Learnt,
-      ) Reads''.Pre Reads''.Post M
-  spec = λ answer answer' answer'' answer'3 answer'4 answer'5 answer'6 answer'7 answer'8 answer'9. Lts.spec (
-    Reads'''.Asked,
-    Reads'''.Learnt,
-    Reads'''''.Asked,
-    Reads'''''.Learnt,
-    Reads''''''.Asked,
-    Reads''''''.Learnt,
-    Reads''''.Asked,
-    Reads''''.Learnt,
-    Reads.Asked,
-    Reads.Learnt,
-    Reads'.Asked,
-    Reads'.Learnt,
-  ) Reads''.Pre Reads''.Post answer answer' answer'' answer'3 answer'4 answer'5 answer'6 answer'7 answer'8 answer'9
+  pub spec : (answer : Need-circuit-at-requires) → (answer : Need-circuit-unmarked-requires) →
+      (answer : Need-plan-circuit-requires) → (answer : Need-set-circuit-requires) →
+      (answer : Need-drop-and-tell-requires) → (answer : Need-tell-notice-requires) → (answer : Need-same-length) →
+      (answer : Need-same-length-2) → (answer : Need-same-length-3) → (answer : Need-returns) → Lts.Closed readings
+      Reads''.Pre Reads''.Post M
+  spec = λ answer answer' answer'' answer'3 answer'4 answer'5 answer'6 answer'7 answer'8 answer'9. Lts.spec readings
+      Reads''.Pre Reads''.Post answer answer' answer'' answer'3 answer'4 answer'5 answer'6 answer'7 answer'8 answer'9
 
-  pub close : Lts.Closed (
-    Reads'''.Asked,
-    Reads'''.Learnt,
-    Reads'''''.Asked,
-    Reads'''''.Learnt,
-    Reads''''''.Asked,
-    Reads''''''.Learnt,
-    Reads''''.Asked,
-    Reads''''.Learnt,
-    Reads.Asked,
-    Reads.Learnt,
-    Reads'.Asked,
-    Reads'.Learnt,
-  ) Reads''.Pre Reads''.Post M → Statement.statement M
+  pub close : Lts.Closed readings Reads''.Pre Reads''.Post M → Statement.statement M
   unfolding Code.routine Running.tablesOf
-  close = λ closed 𝓤 H 𝓜 𝓖 𝓡. Written.close 3 Kinds.ps Kinds.r Reads''.Ghost Reads''.requires Reads''.ensures Reads''.pre-read Reads''.Pinned
-      Reads''.Owned Reads''.post-read record { M = M; 𝓤 = 𝓤; H = H; 𝓜 = 𝓜; 𝓖 = 𝓖; 𝓡 = 𝓡 } Code.env Key.name Code.function (Code.unfolded 𝓤 H 𝓜 𝓡) (λ
-      κs a g. tt) (λ κs. Reads''.owns κs record { M = M; 𝓤 = 𝓤; H = H; 𝓜 = 𝓜; 𝓖 = 𝓖; 𝓡 = 𝓡 }) (Reads''.passes record {
-        M = M;
-        𝓤 = 𝓤;
-        H = H;
-        𝓜 = 𝓜;
-        𝓖 =
-            𝓖;
-        𝓡 = 𝓡;
-      }) λ g. closed 𝓤 H (𝓖 .A) (Running.givenOf 𝓤 H 𝓜 𝓖) (Run.Over 𝓤 H 𝓜 𝓖 𝓡 Code.env) (Reads'''.known record {
-        M = M;
-        𝓤 = 𝓤;
-        H = H;
-        𝓜 = 𝓜;
-        𝓖 = 𝓖;
-        𝓡 = 𝓡;
-      } Code.env Symbol''''.name Symbol''''.routine Code.calls-hnsr-circuit·tables·circuits·circuit-at (Met''''.met 𝓤 H 𝓜 𝓖 𝓡))
-      (Reads'''''.known record { M = M; 𝓤 = 𝓤; H = H; 𝓜 = 𝓜; 𝓖 = 𝓖; 𝓡 = 𝓡 } Code.env Symbol.name Symbol.routine
-      Code.calls-hnsr-circuit·circuits·circuit-unmarked (Met.met 𝓤 H 𝓜 𝓖 𝓡)) (Reads''''''.known record { M = M; 𝓤 = 𝓤; H = H; 𝓜 = 𝓜; 𝓖 = 𝓖; 𝓡 = 𝓡 }
-      Code.env Symbol'''.name Symbol'''.routine Code.calls-hnsr-circuit·revocation·plan-circuit (Met'''.met 𝓤 H 𝓜 𝓖 𝓡)) (Reads''''.known record {
-        M =
-            M;
-        𝓤 = 𝓤;
-        H = H;
-        𝓜 = 𝓜;
-        𝓖 = 𝓖;
-        𝓡 = 𝓡;
-      } Code.env Symbol'''''.name Symbol'''''.routine Code.calls-hnsr-circuit·tables·circuits·set-circuit
-      (Met'''''.met 𝓤 H 𝓜 𝓖 𝓡)) (Reads.known record { M = M; 𝓤 = 𝓤; H = H; 𝓜 = 𝓜; 𝓖 = 𝓖; 𝓡 = 𝓡 } Code.env Symbol'.name Symbol'.routine
-      Code.calls-hnsr-circuit·queue·drop-and-tell (Met'.met 𝓤 H 𝓜 𝓖 𝓡)) (Reads'.known record { M = M; 𝓤 = 𝓤; H = H; 𝓜 = 𝓜; 𝓖 = 𝓖; 𝓡 = 𝓡 } Code.env
-      Symbol''.name Symbol''.routine Code.calls-hnsr-circuit·queue·tell-notice (Met''.met 𝓤 H 𝓜 𝓖 𝓡))
+  close = λ closed 𝓤 H 𝓜 𝓖 𝓡. Written.close 3 Kinds.ps Kinds.r Reads''.Ghost Reads''.requires Reads''.ensures
+      Reads''.pre-read Reads''.Pinned Reads''.Owned Reads''.post-read
+      record { M = M; 𝓤 = 𝓤; H = H; 𝓜 = 𝓜; 𝓖 = 𝓖; 𝓡 = 𝓡 } Code.env Key.name Code.function (Code.unfolded 𝓤 H 𝓜 𝓡)
+      (λ κs a g. tt) (λ κs. Reads''.owns κs record { M = M; 𝓤 = 𝓤; H = H; 𝓜 = 𝓜; 𝓖 = 𝓖; 𝓡 = 𝓡 }) (Reads''.passes
+      record { M = M; 𝓤 = 𝓤; H = H; 𝓜 = 𝓜; 𝓖 = 𝓖; 𝓡 = 𝓡 }) λ g. closed 𝓤 H (𝓖 .A) (Running.givenOf 𝓤 H 𝓜 𝓖)
+      (Run.Over 𝓤 H 𝓜 𝓖 𝓡 Code.env) (Reads'''.known record { M = M; 𝓤 = 𝓤; H = H; 𝓜 = 𝓜; 𝓖 = 𝓖; 𝓡 = 𝓡 } Code.env
+      Symbol''''.name Symbol''''.routine Code.calls-hnsr-circuit·tables·circuits·circuit-at (Met''''.met 𝓤 H 𝓜 𝓖 𝓡)) (Reads'''''.known
+      record { M = M; 𝓤 = 𝓤; H = H; 𝓜 = 𝓜; 𝓖 = 𝓖; 𝓡 = 𝓡 } Code.env Symbol.name Symbol.routine
+      Code.calls-hnsr-circuit·circuits·circuit-unmarked (Met.met 𝓤 H 𝓜 𝓖 𝓡)) (Reads''''''.known
+      record { M = M; 𝓤 = 𝓤; H = H; 𝓜 = 𝓜; 𝓖 = 𝓖; 𝓡 = 𝓡 } Code.env Symbol'''.name Symbol'''.routine
+      Code.calls-hnsr-circuit·revocation·plan-circuit (Met'''.met 𝓤 H 𝓜 𝓖 𝓡)) (Reads''''.known
+      record { M = M; 𝓤 = 𝓤; H = H; 𝓜 = 𝓜; 𝓖 = 𝓖; 𝓡 = 𝓡 } Code.env Symbol'''''.name Symbol'''''.routine
+      Code.calls-hnsr-circuit·tables·circuits·set-circuit (Met'''''.met 𝓤 H 𝓜 𝓖 𝓡)) (Reads.known
+      record { M = M; 𝓤 = 𝓤; H = H; 𝓜 = 𝓜; 𝓖 = 𝓖; 𝓡 = 𝓡 } Code.env Symbol'.name Symbol'.routine
+      Code.calls-hnsr-circuit·queue·drop-and-tell (Met'.met 𝓤 H 𝓜 𝓖 𝓡)) (Reads'.known
+      record { M = M; 𝓤 = 𝓤; H = H; 𝓜 = 𝓜; 𝓖 = 𝓖; 𝓡 = 𝓡 } Code.env Symbol''.name Symbol''.routine
+      Code.calls-hnsr-circuit·queue·tell-notice (Met''.met 𝓤 H 𝓜 𝓖 𝓡))

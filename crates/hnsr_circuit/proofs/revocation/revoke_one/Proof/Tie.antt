@@ -21,366 +21,124 @@ use borrow.Fn.Run
 use borrow.Fn.Written
 use contract.Running
 
+abbrev pub readings : Lts.Claims
+readings = (
+  Reads''''.Asked,
+  Reads''''.Learnt,
+  Reads''.Asked,
+  Reads''.Learnt,
+  Reads.Asked,
+  Reads.Learnt,
+  Reads'''.Asked,
+  Reads'''.Learnt,
+)
+
 abbrev pub Start : Type 0
-Start = Lts.Start (Reads''''.Asked, Reads''''.Learnt, Reads''.Asked, Reads''.Learnt, Reads.Asked, Reads.Learnt, Reads'''.Asked, Reads'''.Learnt)
-    Reads'.Pre Reads'.Post
+Start = Lts.Start readings Reads'.Pre Reads'.Post
 
 abbrev pub After-slice-known : Type 0
-After-slice-known = Lts.After-slice-known (
-  Reads''''.Asked,
-  Reads''''.Learnt,
-  Reads''.Asked,
-  Reads''.Learnt,
-  Reads.Asked,
-  Reads.Learnt,
-  Reads'''.Asked,
-  Reads'''.Learnt,
-) Reads'.Pre Reads'.Post
+After-slice-known = Lts.After-slice-known readings Reads'.Pre Reads'.Post
 
 abbrev pub After-started : Type 0
-After-started = Lts.After-started (
-  Reads''''.Asked,
-  Reads''''.Learnt,
-  Reads''.Asked,
-  Reads''.Learnt,
-  Reads.Asked,
-  Reads.Learnt,
-  Reads'''.Asked,
-  Reads'''.Learnt,
-) Reads'.Pre Reads'.Post
+After-started = Lts.After-started readings Reads'.Pre Reads'.Post
 
 abbrev pub After-find-circuit-id-arg : Type 0
-After-find-circuit-id-arg = Lts.After-find-circuit-id-arg (
-  Reads''''.Asked,
-  Reads''''.Learnt,
-  Reads''.Asked,
-  Reads''.Learnt,
-  Reads.Asked,
-  Reads.Learnt,
-  Reads'''.Asked,
-  Reads'''.Learnt,
-) Reads'.Pre Reads'.Post
+After-find-circuit-id-arg = Lts.After-find-circuit-id-arg readings Reads'.Pre Reads'.Post
 
 abbrev pub After-find-circuit-id : Type 0
-After-find-circuit-id = Lts.After-find-circuit-id (
-  Reads''''.Asked,
-  Reads''''.Learnt,
-  Reads''.Asked,
-  Reads''.Learnt,
-  Reads.Asked,
-  Reads.Learnt,
-  Reads'''.Asked,
-  Reads'''.Learnt,
-) Reads'.Pre Reads'.Post
+After-find-circuit-id = Lts.After-find-circuit-id readings Reads'.Pre Reads'.Post
 
 abbrev pub Then1 : Type 0
-Then1 = Lts.Then1 (Reads''''.Asked, Reads''''.Learnt, Reads''.Asked, Reads''.Learnt, Reads.Asked, Reads.Learnt, Reads'''.Asked, Reads'''.Learnt)
-    Reads'.Pre Reads'.Post
+Then1 = Lts.Then1 readings Reads'.Pre Reads'.Post
 
 abbrev pub After-revoke-circuit-arg : Type 0
-After-revoke-circuit-arg = Lts.After-revoke-circuit-arg (
-  Reads''''.Asked,
-  Reads''''.Learnt,
-  Reads''.Asked,
-  Reads''.Learnt,
-  Reads.Asked,
-  Reads.Learnt,
-  Reads'''.Asked,
-  Reads'''.Learnt,
-) Reads'.Pre Reads'.Post
+After-revoke-circuit-arg = Lts.After-revoke-circuit-arg readings Reads'.Pre Reads'.Post
 
 abbrev pub After-revoke-circuit-arg2 : Type 0
-After-revoke-circuit-arg2 = Lts.After-revoke-circuit-arg2 (
-  Reads''''.Asked,
-  Reads''''.Learnt,
-  Reads''.Asked,
-  Reads''.Learnt,
-  Reads.Asked,
-  Reads.Learnt,
-  Reads'''.Asked,
-  Reads'''.Learnt,
-) Reads'.Pre Reads'.Post
+After-revoke-circuit-arg2 = Lts.After-revoke-circuit-arg2 readings Reads'.Pre Reads'.Post
 
 abbrev pub After-revoke-circuit-arg3 : Type 0
-After-revoke-circuit-arg3 = Lts.After-revoke-circuit-arg3 (
-  Reads''''.Asked,
-  Reads''''.Learnt,
-  Reads''.Asked,
-  Reads''.Learnt,
-  Reads.Asked,
-  Reads.Learnt,
-  Reads'''.Asked,
-  Reads'''.Learnt,
-) Reads'.Pre Reads'.Post
+After-revoke-circuit-arg3 = Lts.After-revoke-circuit-arg3 readings Reads'.Pre Reads'.Post
 
 abbrev pub After-revoke-circuit : Type 0
-After-revoke-circuit = Lts.After-revoke-circuit (
-  Reads''''.Asked,
-  Reads''''.Learnt,
-  Reads''.Asked,
-  Reads''.Learnt,
-  Reads.Asked,
-  Reads.Learnt,
-  Reads'''.Asked,
-  Reads'''.Learnt,
-) Reads'.Pre Reads'.Post
+After-revoke-circuit = Lts.After-revoke-circuit readings Reads'.Pre Reads'.Post
 
 abbrev pub After-circuits : Type 0
-After-circuits = Lts.After-circuits (
-  Reads''''.Asked,
-  Reads''''.Learnt,
-  Reads''.Asked,
-  Reads''.Learnt,
-  Reads.Asked,
-  Reads.Learnt,
-  Reads'''.Asked,
-  Reads'''.Learnt,
-) Reads'.Pre Reads'.Post
+After-circuits = Lts.After-circuits readings Reads'.Pre Reads'.Post
 
 abbrev pub After-inflight : Type 0
-After-inflight = Lts.After-inflight (
-  Reads''''.Asked,
-  Reads''''.Learnt,
-  Reads''.Asked,
-  Reads''.Learnt,
-  Reads.Asked,
-  Reads.Learnt,
-  Reads'''.Asked,
-  Reads'''.Learnt,
-) Reads'.Pre Reads'.Post
+After-inflight = Lts.After-inflight readings Reads'.Pre Reads'.Post
 
 abbrev pub After-out : Type 0
-After-out = Lts.After-out (
-  Reads''''.Asked,
-  Reads''''.Learnt,
-  Reads''.Asked,
-  Reads''.Learnt,
-  Reads.Asked,
-  Reads.Learnt,
-  Reads'''.Asked,
-  Reads'''.Learnt,
-) Reads'.Pre Reads'.Post
+After-out = Lts.After-out readings Reads'.Pre Reads'.Post
 
 abbrev pub After-slice-known2 : Type 0
-After-slice-known2 = Lts.After-slice-known2 (
-  Reads''''.Asked,
-  Reads''''.Learnt,
-  Reads''.Asked,
-  Reads''.Learnt,
-  Reads.Asked,
-  Reads.Learnt,
-  Reads'''.Asked,
-  Reads'''.Learnt,
-) Reads'.Pre Reads'.Post
+After-slice-known2 = Lts.After-slice-known2 readings Reads'.Pre Reads'.Post
 
 abbrev pub After-finished : Type 0
-After-finished = Lts.After-finished (
-  Reads''''.Asked,
-  Reads''''.Learnt,
-  Reads''.Asked,
-  Reads''.Learnt,
-  Reads.Asked,
-  Reads.Learnt,
-  Reads'''.Asked,
-  Reads'''.Learnt,
-) Reads'.Pre Reads'.Post
+After-finished = Lts.After-finished readings Reads'.Pre Reads'.Post
 
 abbrev pub Else1 : Type 0
-Else1 = Lts.Else1 (Reads''''.Asked, Reads''''.Learnt, Reads''.Asked, Reads''.Learnt, Reads.Asked, Reads.Learnt, Reads'''.Asked, Reads'''.Learnt)
-    Reads'.Pre Reads'.Post
+Else1 = Lts.Else1 readings Reads'.Pre Reads'.Post
 
 abbrev pub After-finished2 : Type 0
-After-finished2 = Lts.After-finished2 (
-  Reads''''.Asked,
-  Reads''''.Learnt,
-  Reads''.Asked,
-  Reads''.Learnt,
-  Reads.Asked,
-  Reads.Learnt,
-  Reads'''.Asked,
-  Reads'''.Learnt,
-) Reads'.Pre Reads'.Post
+After-finished2 = Lts.After-finished2 readings Reads'.Pre Reads'.Post
 
 abbrev pub Need-started-requires : Type 0
-Need-started-requires = Lts.Need-started-requires (
-  Reads''''.Asked,
-  Reads''''.Learnt,
-  Reads''.Asked,
-  Reads''.Learnt,
-  Reads.Asked,
-  Reads.Learnt,
-  Reads'''.Asked,
-  Reads'''.Learnt,
-) Reads'.Pre Reads'.Post
+Need-started-requires = Lts.Need-started-requires readings Reads'.Pre Reads'.Post
 
 abbrev pub Need-find-circuit-id-requires : Type 0
-Need-find-circuit-id-requires = Lts.Need-find-circuit-id-requires (
-  Reads''''.Asked,
-  Reads''''.Learnt,
-  Reads''.Asked,
-  Reads''.Learnt,
-  Reads.Asked,
-  Reads.Learnt,
-  Reads'''.Asked,
-  Reads'''.Learnt,
-) Reads'.Pre Reads'.Post
+Need-find-circuit-id-requires = Lts.Need-find-circuit-id-requires readings Reads'.Pre Reads'.Post
 
 abbrev pub Need-revoke-circuit-requires : Type 0
-Need-revoke-circuit-requires = Lts.Need-revoke-circuit-requires (
-  Reads''''.Asked,
-  Reads''''.Learnt,
-  Reads''.Asked,
-  Reads''.Learnt,
-  Reads.Asked,
-  Reads.Learnt,
-  Reads'''.Asked,
-  Reads'''.Learnt,
-) Reads'.Pre Reads'.Post
+Need-revoke-circuit-requires = Lts.Need-revoke-circuit-requires readings Reads'.Pre Reads'.Post
 
 abbrev pub Need-finished-requires : Type 0
-Need-finished-requires = Lts.Need-finished-requires (
-  Reads''''.Asked,
-  Reads''''.Learnt,
-  Reads''.Asked,
-  Reads''.Learnt,
-  Reads.Asked,
-  Reads.Learnt,
-  Reads'''.Asked,
-  Reads'''.Learnt,
-) Reads'.Pre Reads'.Post
+Need-finished-requires = Lts.Need-finished-requires readings Reads'.Pre Reads'.Post
 
 abbrev pub Need-same-length : Type 0
-Need-same-length = Lts.Need-same-length (
-  Reads''''.Asked,
-  Reads''''.Learnt,
-  Reads''.Asked,
-  Reads''.Learnt,
-  Reads.Asked,
-  Reads.Learnt,
-  Reads'''.Asked,
-  Reads'''.Learnt,
-) Reads'.Pre Reads'.Post
+Need-same-length = Lts.Need-same-length readings Reads'.Pre Reads'.Post
 
 abbrev pub Need-same-length-2 : Type 0
-Need-same-length-2 = Lts.Need-same-length-2 (
-  Reads''''.Asked,
-  Reads''''.Learnt,
-  Reads''.Asked,
-  Reads''.Learnt,
-  Reads.Asked,
-  Reads.Learnt,
-  Reads'''.Asked,
-  Reads'''.Learnt,
-) Reads'.Pre Reads'.Post
+Need-same-length-2 = Lts.Need-same-length-2 readings Reads'.Pre Reads'.Post
 
 abbrev pub Need-same-length-3 : Type 0
-Need-same-length-3 = Lts.Need-same-length-3 (
-  Reads''''.Asked,
-  Reads''''.Learnt,
-  Reads''.Asked,
-  Reads''.Learnt,
-  Reads.Asked,
-  Reads.Learnt,
-  Reads'''.Asked,
-  Reads'''.Learnt,
-) Reads'.Pre Reads'.Post
+Need-same-length-3 = Lts.Need-same-length-3 readings Reads'.Pre Reads'.Post
 
 abbrev pub Need-returns : Type 0
-Need-returns = Lts.Need-returns (
-  Reads''''.Asked,
-  Reads''''.Learnt,
-  Reads''.Asked,
-  Reads''.Learnt,
-  Reads.Asked,
-  Reads.Learnt,
-  Reads'''.Asked,
-  Reads'''.Learnt,
-) Reads'.Pre Reads'.Post
+Need-returns = Lts.Need-returns readings Reads'.Pre Reads'.Post
 
 abbrev pub Need-finished-requires-2 : Type 0
-Need-finished-requires-2 = Lts.Need-finished-requires-2 (
-  Reads''''.Asked,
-  Reads''''.Learnt,
-  Reads''.Asked,
-  Reads''.Learnt,
-  Reads.Asked,
-  Reads.Learnt,
-  Reads'''.Asked,
-  Reads'''.Learnt,
-) Reads'.Pre Reads'.Post
+Need-finished-requires-2 = Lts.Need-finished-requires-2 readings Reads'.Pre Reads'.Post
 
 abbrev pub Need-same-length-4 : Type 0
-Need-same-length-4 = Lts.Need-same-length-4 (
-  Reads''''.Asked,
-  Reads''''.Learnt,
-  Reads''.Asked,
-  Reads''.Learnt,
-  Reads.Asked,
-  Reads.Learnt,
-  Reads'''.Asked,
-  Reads'''.Learnt,
-) Reads'.Pre Reads'.Post
+Need-same-length-4 = Lts.Need-same-length-4 readings Reads'.Pre Reads'.Post
 
 abbrev pub Need-returns-2 : Type 0
-Need-returns-2 = Lts.Need-returns-2 (
-  Reads''''.Asked,
-  Reads''''.Learnt,
-  Reads''.Asked,
-  Reads''.Learnt,
-  Reads.Asked,
-  Reads.Learnt,
-  Reads'''.Asked,
-  Reads'''.Learnt,
-) Reads'.Pre Reads'.Post
+Need-returns-2 = Lts.Need-returns-2 readings Reads'.Pre Reads'.Post
 
 module _ {M : Type 1} where
-  pub spec : (answer : Need-started-requires) → (answer : Need-find-circuit-id-requires) → (answer : Need-revoke-circuit-requires) → (answer :
-      Need-finished-requires) → (answer : Need-same-length) → (answer : Need-same-length-2) → (answer : Need-same-length-3) → (answer : Need-returns)
-      → (answer : Need-finished-requires-2) → (answer : Need-same-length-4) → (answer : Need-returns-2) → Lts.Closed (
-        Reads''''.Asked,
-        Reads''''.Learnt,
-        Reads''.Asked,
-        Reads''.Learnt,
-        Reads.Asked,
-        Reads.Learnt,
-        Reads'''.Asked,
-        Reads'''.Learnt,
-      ) Reads'.Pre Reads'.Post M
-  spec = λ answer answer' answer'' answer'3 answer'4 answer'5 answer'6 answer'7 answer'8 answer'9 answer'10. Lts.spec (
-    Reads''''.Asked,
-    Reads''''.Learnt,
-    Reads''.Asked,
-    Reads''.Learnt,
-    Reads.Asked,
-    Reads.Learnt,
-    Reads'''.Asked,
-    Reads'''.Learnt,
-  ) Reads'.Pre Reads'.Post answer
-      answer' answer'' answer'3 answer'4 answer'5 answer'6 answer'7 answer'8 answer'9 answer'10
+  pub spec : (answer : Need-started-requires) → (answer : Need-find-circuit-id-requires) →
+      (answer : Need-revoke-circuit-requires) → (answer : Need-finished-requires) → (answer : Need-same-length) →
+      (answer : Need-same-length-2) → (answer : Need-same-length-3) → (answer : Need-returns) →
+      (answer : Need-finished-requires-2) → (answer : Need-same-length-4) → (answer : Need-returns-2) → Lts.Closed
+      readings Reads'.Pre Reads'.Post M
+  spec = λ answer answer' answer'' answer'3 answer'4 answer'5 answer'6 answer'7 answer'8 answer'9 answer'10. Lts.spec
+      readings Reads'.Pre Reads'.Post answer answer' answer'' answer'3 answer'4 answer'5 answer'6 answer'7 answer'8
+      answer'9 answer'10
 
-  pub close : Lts.Closed (
-    Reads''''.Asked,
-    Reads''''.Learnt,
-    Reads''.Asked,
-    Reads''.Learnt,
-    Reads.Asked,
-    Reads.Learnt,
-    Reads'''.Asked,
-    Reads'''.Learnt,
-  ) Reads'.Pre Reads'.Post M → Statement.statement M
+  pub close : Lts.Closed readings Reads'.Pre Reads'.Post M → Statement.statement M
   unfolding Code.routine Running.tablesOf
-  close = λ closed 𝓤 H 𝓜 𝓖 𝓡. Written.close 3 Kinds.ps Kinds.r Reads'.Ghost Reads'.requires Reads'.ensures Reads'.pre-read Reads'.Pinned Reads'.Owned
-      Reads'.post-read record { M = M; 𝓤 = 𝓤; H = H; 𝓜 = 𝓜; 𝓖 = 𝓖; 𝓡 = 𝓡 } Code.env Key.name Code.function (Code.unfolded 𝓤 H 𝓜 𝓡) (λ κs a g. tt) (λ
-      κs. Reads'.owns κs record { M = M; 𝓤 = 𝓤; H = H; 𝓜 = 𝓜; 𝓖 = 𝓖; 𝓡 = 𝓡 }) (Reads'.passes record { M = M; 𝓤 = 𝓤; H = H; 𝓜 = 𝓜; 𝓖 = 𝓖; 𝓡 = 𝓡 }) λ g.
-      closed 𝓤 H (𝓖 .A) (Running.givenOf 𝓤 H 𝓜 𝓖) (Run.Over 𝓤 H 𝓜 𝓖 𝓡 Code.env) (Reads''''.known record { M = M; 𝓤 = 𝓤; H = H; 𝓜 = 𝓜; 𝓖 = 𝓖; 𝓡 = 𝓡 }
-      Code.env Symbol''.name Symbol''.routine Code.calls-hnsr-circuit·revocation·started (Met''.met 𝓤 H 𝓜 𝓖 𝓡)) (Reads''.known record {
-        M = M;
-        𝓤 = 𝓤;
-        H = H;
-        𝓜 = 𝓜;
-        𝓖 = 𝓖;
-        𝓡 = 𝓡;
-      } Code.env Symbol'''.name Symbol'''.routine Code.calls-hnsr-circuit·tables·circuits·find-circuit-id (Met'''.met 𝓤 H 𝓜
-      𝓖 𝓡)) (Reads.known record { M = M; 𝓤 = 𝓤; H = H; 𝓜 = 𝓜; 𝓖 = 𝓖; 𝓡 = 𝓡 } Code.env Symbol'.name Symbol'.routine
-      Code.calls-hnsr-circuit·revocation·revoke-circuit (Met'.met 𝓤 H 𝓜 𝓖 𝓡)) (Reads'''.known record { M = M; 𝓤 = 𝓤; H = H; 𝓜 = 𝓜; 𝓖 = 𝓖; 𝓡 = 𝓡 }
-      Code.env Symbol.name Symbol.routine Code.calls-hnsr-circuit·revocation·finished (Met.met 𝓤 H 𝓜 𝓖 𝓡))
+  close = λ closed 𝓤 H 𝓜 𝓖 𝓡. Written.close 3 Kinds.ps Kinds.r Reads'.Ghost Reads'.requires Reads'.ensures
+      Reads'.pre-read Reads'.Pinned Reads'.Owned Reads'.post-read record { M = M; 𝓤 = 𝓤; H = H; 𝓜 = 𝓜; 𝓖 = 𝓖; 𝓡 = 𝓡 }
+      Code.env Key.name Code.function (Code.unfolded 𝓤 H 𝓜 𝓡) (λ κs a g. tt) (λ κs. Reads'.owns κs
+      record { M = M; 𝓤 = 𝓤; H = H; 𝓜 = 𝓜; 𝓖 = 𝓖; 𝓡 = 𝓡 }) (Reads'.passes
+      record { M = M; 𝓤 = 𝓤; H = H; 𝓜 = 𝓜; 𝓖 = 𝓖; 𝓡 = 𝓡 }) λ g. closed 𝓤 H (𝓖 .A) (Running.givenOf 𝓤 H 𝓜 𝓖)
+      (Run.Over 𝓤 H 𝓜 𝓖 𝓡 Code.env) (Reads''''.known record { M = M; 𝓤 = 𝓤; H = H; 𝓜 = 𝓜; 𝓖 = 𝓖; 𝓡 = 𝓡 } Code.env
+      Symbol''.name Symbol''.routine Code.calls-hnsr-circuit·revocation·started (Met''.met 𝓤 H 𝓜 𝓖 𝓡)) (Reads''.known
+      record { M = M; 𝓤 = 𝓤; H = H; 𝓜 = 𝓜; 𝓖 = 𝓖; 𝓡 = 𝓡 } Code.env Symbol'''.name Symbol'''.routine
+      Code.calls-hnsr-circuit·tables·circuits·find-circuit-id (Met'''.met 𝓤 H 𝓜 𝓖 𝓡)) (Reads.known
+      record { M = M; 𝓤 = 𝓤; H = H; 𝓜 = 𝓜; 𝓖 = 𝓖; 𝓡 = 𝓡 } Code.env Symbol'.name Symbol'.routine
+      Code.calls-hnsr-circuit·revocation·revoke-circuit (Met'.met 𝓤 H 𝓜 𝓖 𝓡)) (Reads'''.known
+      record { M = M; 𝓤 = 𝓤; H = H; 𝓜 = 𝓜; 𝓖 = 𝓖; 𝓡 = 𝓡 } Code.env Symbol.name Symbol.routine
+      Code.calls-hnsr-circuit·revocation·finished (Met.met 𝓤 H 𝓜 𝓖 𝓡))

@@ -30,8 +30,8 @@ use borrow.Fn.Run
 use borrow.Fn.Written
 use contract.Running
 
-abbrev pub Start : Type 0
-Start = Lts.Start (
+abbrev pub readings : Lts.Claims
+readings = (
   Reads''''''.Asked,
   Reads''''''.Learnt,
   Reads'''.Asked,
@@ -46,768 +46,147 @@ Start = Lts.Start (
   Reads.Learnt,
   Reads'.Asked,
   Reads'.Learnt,
-) Reads''.Pre Reads''.Post
+)
+
+abbrev pub Start : Type 0
+Start = Lts.Start readings Reads''.Pre Reads''.Post
 
 abbrev pub After-slice-known : Type 0
-After-slice-known = Lts.After-slice-known (
-  Reads''''''.Asked,
-  Reads''''''.Learnt,
-  Reads'''.Asked,
-  Reads'''.Learnt,
-  Reads'''''.Asked,
-  Reads'''''.Learnt,
-  Reads'''''''.Asked,
-  Reads'''''''.Learnt,
-  Reads''''.Asked,
-  Reads''''.Learnt,
-  Reads.Asked,
-  Reads.Learnt,
-  Reads'.Asked,
-  Reads'.Learnt,
-) Reads''.Pre Reads''.Post
+After-slice-known = Lts.After-slice-known readings Reads''.Pre Reads''.Post
 
 abbrev pub After-places : Type 0
-After-places = Lts.After-places (
-  Reads''''''.Asked,
-  Reads''''''.Learnt,
-  Reads'''.Asked,
-  Reads'''.Learnt,
-  Reads'''''.Asked,
-  Reads'''''.Learnt,
-  Reads'''''''.Asked,
-  Reads'''''''.Learnt,
-  Reads''''.Asked,
-  Reads''''.Learnt,
-  Reads.Asked,
-  Reads.Learnt,
-  Reads'.Asked,
-  Reads'.Learnt,
-) Reads''.Pre
-    Reads''.Post
+After-places = Lts.After-places readings Reads''.Pre Reads''.Post
 
 abbrev pub After-pending-notice : Type 0
-After-pending-notice = Lts.After-pending-notice (
-  Reads''''''.Asked,
-  Reads''''''.Learnt,
-  Reads'''.Asked,
-  Reads'''.Learnt,
-  Reads'''''.Asked,
-  Reads'''''.Learnt,
-  Reads'''''''.Asked,
-  Reads'''''''.Learnt,
-  Reads''''.Asked,
-  Reads''''.Learnt,
-  Reads.Asked,
-  Reads.Learnt,
-  Reads'.Asked,
-  Reads'.Learnt,
-) Reads''.Pre Reads''.Post
+After-pending-notice = Lts.After-pending-notice readings Reads''.Pre Reads''.Post
 
 abbrev pub After-pending-at-arg : Type 0
-After-pending-at-arg = Lts.After-pending-at-arg (
-  Reads''''''.Asked,
-  Reads''''''.Learnt,
-  Reads'''.Asked,
-  Reads'''.Learnt,
-  Reads'''''.Asked,
-  Reads'''''.Learnt,
-  Reads'''''''.Asked,
-  Reads'''''''.Learnt,
-  Reads''''.Asked,
-  Reads''''.Learnt,
-  Reads.Asked,
-  Reads.Learnt,
-  Reads'.Asked,
-  Reads'.Learnt,
-) Reads''.Pre Reads''.Post
+After-pending-at-arg = Lts.After-pending-at-arg readings Reads''.Pre Reads''.Post
 
 abbrev pub After-pending-at : Type 0
-After-pending-at = Lts.After-pending-at (
-  Reads''''''.Asked,
-  Reads''''''.Learnt,
-  Reads'''.Asked,
-  Reads'''.Learnt,
-  Reads'''''.Asked,
-  Reads'''''.Learnt,
-  Reads'''''''.Asked,
-  Reads'''''''.Learnt,
-  Reads''''.Asked,
-  Reads''''.Learnt,
-  Reads.Asked,
-  Reads.Learnt,
-  Reads'.Asked,
-  Reads'.Learnt,
-) Reads''.Pre
-    Reads''.Post
+After-pending-at = Lts.After-pending-at readings Reads''.Pre Reads''.Post
 
 abbrev pub After-pending-unmarked : Type 0
-After-pending-unmarked = Lts.After-pending-unmarked (
-  Reads''''''.Asked,
-  Reads''''''.Learnt,
-  Reads'''.Asked,
-  Reads'''.Learnt,
-  Reads'''''.Asked,
-  Reads'''''.Learnt,
-  Reads'''''''.Asked,
-  Reads'''''''.Learnt,
-  Reads''''.Asked,
-  Reads''''.Learnt,
-  Reads.Asked,
-  Reads.Learnt,
-  Reads'.Asked,
-  Reads'.Learnt,
-) Reads''.Pre Reads''.Post
+After-pending-unmarked = Lts.After-pending-unmarked readings Reads''.Pre Reads''.Post
 
 abbrev pub After-plan-pending : Type 0
-After-plan-pending = Lts.After-plan-pending (
-  Reads''''''.Asked,
-  Reads''''''.Learnt,
-  Reads'''.Asked,
-  Reads'''.Learnt,
-  Reads'''''.Asked,
-  Reads'''''.Learnt,
-  Reads'''''''.Asked,
-  Reads'''''''.Learnt,
-  Reads''''.Asked,
-  Reads''''.Learnt,
-  Reads.Asked,
-  Reads.Learnt,
-  Reads'.Asked,
-  Reads'.Learnt,
-) Reads''.Pre Reads''.Post
+After-plan-pending = Lts.After-plan-pending readings Reads''.Pre Reads''.Post
 
 abbrev pub After-after : Type 0
-After-after = Lts.After-after (
-  Reads''''''.Asked,
-  Reads''''''.Learnt,
-  Reads'''.Asked,
-  Reads'''.Learnt,
-  Reads'''''.Asked,
-  Reads'''''.Learnt,
-  Reads'''''''.Asked,
-  Reads'''''''.Learnt,
-  Reads''''.Asked,
-  Reads''''.Learnt,
-  Reads.Asked,
-  Reads.Learnt,
-  Reads'.Asked,
-  Reads'.Learnt,
-) Reads''.Pre
-    Reads''.Post
+After-after = Lts.After-after readings Reads''.Pre Reads''.Post
 
 abbrev pub After-first : Type 0
-After-first = Lts.After-first (
-  Reads''''''.Asked,
-  Reads''''''.Learnt,
-  Reads'''.Asked,
-  Reads'''.Learnt,
-  Reads'''''.Asked,
-  Reads'''''.Learnt,
-  Reads'''''''.Asked,
-  Reads'''''''.Learnt,
-  Reads''''.Asked,
-  Reads''''.Learnt,
-  Reads.Asked,
-  Reads.Learnt,
-  Reads'.Asked,
-  Reads'.Learnt,
-) Reads''.Pre
-    Reads''.Post
+After-first = Lts.After-first readings Reads''.Pre Reads''.Post
 
 abbrev pub After-second : Type 0
-After-second = Lts.After-second (
-  Reads''''''.Asked,
-  Reads''''''.Learnt,
-  Reads'''.Asked,
-  Reads'''.Learnt,
-  Reads'''''.Asked,
-  Reads'''''.Learnt,
-  Reads'''''''.Asked,
-  Reads'''''''.Learnt,
-  Reads''''.Asked,
-  Reads''''.Learnt,
-  Reads.Asked,
-  Reads.Learnt,
-  Reads'.Asked,
-  Reads'.Learnt,
-) Reads''.Pre
-    Reads''.Post
+After-second = Lts.After-second readings Reads''.Pre Reads''.Post
 
 abbrev pub After-set-pending-arg : Type 0
-After-set-pending-arg = Lts.After-set-pending-arg (
-  Reads''''''.Asked,
-  Reads''''''.Learnt,
-  Reads'''.Asked,
-  Reads'''.Learnt,
-  Reads'''''.Asked,
-  Reads'''''.Learnt,
-  Reads'''''''.Asked,
-  Reads'''''''.Learnt,
-  Reads''''.Asked,
-  Reads''''.Learnt,
-  Reads.Asked,
-  Reads.Learnt,
-  Reads'.Asked,
-  Reads'.Learnt,
-) Reads''.Pre Reads''.Post
+After-set-pending-arg = Lts.After-set-pending-arg readings Reads''.Pre Reads''.Post
 
 abbrev pub After-set-pending : Type 0
-After-set-pending = Lts.After-set-pending (
-  Reads''''''.Asked,
-  Reads''''''.Learnt,
-  Reads'''.Asked,
-  Reads'''.Learnt,
-  Reads'''''.Asked,
-  Reads'''''.Learnt,
-  Reads'''''''.Asked,
-  Reads'''''''.Learnt,
-  Reads''''.Asked,
-  Reads''''.Learnt,
-  Reads.Asked,
-  Reads.Learnt,
-  Reads'.Asked,
-  Reads'.Learnt,
-) Reads''.Pre Reads''.Post
+After-set-pending = Lts.After-set-pending readings Reads''.Pre Reads''.Post
 
 abbrev pub After-pending : Type 0
-After-pending = Lts.After-pending (
-  Reads''''''.Asked,
-  Reads''''''.Learnt,
-  Reads'''.Asked,
-  Reads'''.Learnt,
-  Reads'''''.Asked,
-  Reads'''''.Learnt,
-  Reads'''''''.Asked,
-  Reads'''''''.Learnt,
-  Reads''''.Asked,
-  Reads''''.Learnt,
-  Reads.Asked,
-  Reads.Learnt,
-  Reads'.Asked,
-  Reads'.Learnt,
-) Reads''.Pre
-    Reads''.Post
+After-pending = Lts.After-pending readings Reads''.Pre Reads''.Post
 
 abbrev pub After-drop-and-tell-arg : Type 0
-After-drop-and-tell-arg = Lts.After-drop-and-tell-arg (
-  Reads''''''.Asked,
-  Reads''''''.Learnt,
-  Reads'''.Asked,
-  Reads'''.Learnt,
-  Reads'''''.Asked,
-  Reads'''''.Learnt,
-  Reads'''''''.Asked,
-  Reads'''''''.Learnt,
-  Reads''''.Asked,
-  Reads''''.Learnt,
-  Reads.Asked,
-  Reads.Learnt,
-  Reads'.Asked,
-  Reads'.Learnt,
-) Reads''.Pre Reads''.Post
+After-drop-and-tell-arg = Lts.After-drop-and-tell-arg readings Reads''.Pre Reads''.Post
 
 abbrev pub After-drop-and-tell-arg2 : Type 0
-After-drop-and-tell-arg2 = Lts.After-drop-and-tell-arg2 (
-  Reads''''''.Asked,
-  Reads''''''.Learnt,
-  Reads'''.Asked,
-  Reads'''.Learnt,
-  Reads'''''.Asked,
-  Reads'''''.Learnt,
-  Reads'''''''.Asked,
-  Reads'''''''.Learnt,
-  Reads''''.Asked,
-  Reads''''.Learnt,
-  Reads.Asked,
-  Reads.Learnt,
-  Reads'.Asked,
-  Reads'.Learnt,
-) Reads''.Pre Reads''.Post
+After-drop-and-tell-arg2 = Lts.After-drop-and-tell-arg2 readings Reads''.Pre Reads''.Post
 
 abbrev pub After-drop-and-tell : Type 0
-After-drop-and-tell = Lts.After-drop-and-tell (
-  Reads''''''.Asked,
-  Reads''''''.Learnt,
-  Reads'''.Asked,
-  Reads'''.Learnt,
-  Reads'''''.Asked,
-  Reads'''''.Learnt,
-  Reads'''''''.Asked,
-  Reads'''''''.Learnt,
-  Reads''''.Asked,
-  Reads''''.Learnt,
-  Reads.Asked,
-  Reads.Learnt,
-  Reads'.Asked,
-  Reads'.Learnt,
-) Reads''.Pre Reads''.Post
+After-drop-and-tell = Lts.After-drop-and-tell readings Reads''.Pre Reads''.Post
 
 abbrev pub After-inflight : Type 0
-After-inflight = Lts.After-inflight (
-  Reads''''''.Asked,
-  Reads''''''.Learnt,
-  Reads'''.Asked,
-  Reads'''.Learnt,
-  Reads'''''.Asked,
-  Reads'''''.Learnt,
-  Reads'''''''.Asked,
-  Reads'''''''.Learnt,
-  Reads''''.Asked,
-  Reads''''.Learnt,
-  Reads.Asked,
-  Reads.Learnt,
-  Reads'.Asked,
-  Reads'.Learnt,
-) Reads''.Pre
-    Reads''.Post
+After-inflight = Lts.After-inflight readings Reads''.Pre Reads''.Post
 
 abbrev pub After-out : Type 0
-After-out = Lts.After-out (
-  Reads''''''.Asked,
-  Reads''''''.Learnt,
-  Reads'''.Asked,
-  Reads'''.Learnt,
-  Reads'''''.Asked,
-  Reads'''''.Learnt,
-  Reads'''''''.Asked,
-  Reads'''''''.Learnt,
-  Reads''''.Asked,
-  Reads''''.Learnt,
-  Reads.Asked,
-  Reads.Learnt,
-  Reads'.Asked,
-  Reads'.Learnt,
-) Reads''.Pre
-    Reads''.Post
+After-out = Lts.After-out readings Reads''.Pre Reads''.Post
 
 abbrev pub After-slice-known2 : Type 0
-After-slice-known2 = Lts.After-slice-known2 (
-  Reads''''''.Asked,
-  Reads''''''.Learnt,
-  Reads'''.Asked,
-  Reads'''.Learnt,
-  Reads'''''.Asked,
-  Reads'''''.Learnt,
-  Reads'''''''.Asked,
-  Reads'''''''.Learnt,
-  Reads''''.Asked,
-  Reads''''.Learnt,
-  Reads.Asked,
-  Reads.Learnt,
-  Reads'.Asked,
-  Reads'.Learnt,
-) Reads''.Pre Reads''.Post
+After-slice-known2 = Lts.After-slice-known2 readings Reads''.Pre Reads''.Post
 
 abbrev pub After-tell-notice-arg : Type 0
-After-tell-notice-arg = Lts.After-tell-notice-arg (
-  Reads''''''.Asked,
-  Reads''''''.Learnt,
-  Reads'''.Asked,
-  Reads'''.Learnt,
-  Reads'''''.Asked,
-  Reads'''''.Learnt,
-  Reads'''''''.Asked,
-  Reads'''''''.Learnt,
-  Reads''''.Asked,
-  Reads''''.Learnt,
-  Reads.Asked,
-  Reads.Learnt,
-  Reads'.Asked,
-  Reads'.Learnt,
-) Reads''.Pre Reads''.Post
+After-tell-notice-arg = Lts.After-tell-notice-arg readings Reads''.Pre Reads''.Post
 
 abbrev pub After-tell-notice-arg2 : Type 0
-After-tell-notice-arg2 = Lts.After-tell-notice-arg2 (
-  Reads''''''.Asked,
-  Reads''''''.Learnt,
-  Reads'''.Asked,
-  Reads'''.Learnt,
-  Reads'''''.Asked,
-  Reads'''''.Learnt,
-  Reads'''''''.Asked,
-  Reads'''''''.Learnt,
-  Reads''''.Asked,
-  Reads''''.Learnt,
-  Reads.Asked,
-  Reads.Learnt,
-  Reads'.Asked,
-  Reads'.Learnt,
-) Reads''.Pre Reads''.Post
+After-tell-notice-arg2 = Lts.After-tell-notice-arg2 readings Reads''.Pre Reads''.Post
 
 abbrev pub After-tell-notice : Type 0
-After-tell-notice = Lts.After-tell-notice (
-  Reads''''''.Asked,
-  Reads''''''.Learnt,
-  Reads'''.Asked,
-  Reads'''.Learnt,
-  Reads'''''.Asked,
-  Reads'''''.Learnt,
-  Reads'''''''.Asked,
-  Reads'''''''.Learnt,
-  Reads''''.Asked,
-  Reads''''.Learnt,
-  Reads.Asked,
-  Reads.Learnt,
-  Reads'.Asked,
-  Reads'.Learnt,
-) Reads''.Pre Reads''.Post
+After-tell-notice = Lts.After-tell-notice readings Reads''.Pre Reads''.Post
 
 abbrev pub After-inflight2 : Type 0
-After-inflight2 = Lts.After-inflight2 (
-  Reads''''''.Asked,
-  Reads''''''.Learnt,
-  Reads'''.Asked,
-  Reads'''.Learnt,
-  Reads'''''.Asked,
-  Reads'''''.Learnt,
-  Reads'''''''.Asked,
-  Reads'''''''.Learnt,
-  Reads''''.Asked,
-  Reads''''.Learnt,
-  Reads.Asked,
-  Reads.Learnt,
-  Reads'.Asked,
-  Reads'.Learnt,
-) Reads''.Pre
-    Reads''.Post
+After-inflight2 = Lts.After-inflight2 readings Reads''.Pre Reads''.Post
 
 abbrev pub After-out2 : Type 0
-After-out2 = Lts.After-out2 (
-  Reads''''''.Asked,
-  Reads''''''.Learnt,
-  Reads'''.Asked,
-  Reads'''.Learnt,
-  Reads'''''.Asked,
-  Reads'''''.Learnt,
-  Reads'''''''.Asked,
-  Reads'''''''.Learnt,
-  Reads''''.Asked,
-  Reads''''.Learnt,
-  Reads.Asked,
-  Reads.Learnt,
-  Reads'.Asked,
-  Reads'.Learnt,
-) Reads''.Pre
-    Reads''.Post
+After-out2 = Lts.After-out2 readings Reads''.Pre Reads''.Post
 
 abbrev pub After-slice-known3 : Type 0
-After-slice-known3 = Lts.After-slice-known3 (
-  Reads''''''.Asked,
-  Reads''''''.Learnt,
-  Reads'''.Asked,
-  Reads'''.Learnt,
-  Reads'''''.Asked,
-  Reads'''''.Learnt,
-  Reads'''''''.Asked,
-  Reads'''''''.Learnt,
-  Reads''''.Asked,
-  Reads''''.Learnt,
-  Reads.Asked,
-  Reads.Learnt,
-  Reads'.Asked,
-  Reads'.Learnt,
-) Reads''.Pre Reads''.Post
+After-slice-known3 = Lts.After-slice-known3 readings Reads''.Pre Reads''.Post
 
 abbrev pub Need-pending-notice-requires : Type 0
-Need-pending-notice-requires = Lts.Need-pending-notice-requires (
-  Reads''''''.Asked,
-  Reads''''''.Learnt,
-  Reads'''.Asked,
-  Reads'''.Learnt,
-  Reads'''''.Asked,
-  Reads'''''.Learnt,
-  Reads'''''''.Asked,
-  Reads'''''''.Learnt,
-  Reads''''.Asked,
-  Reads''''.Learnt,
-  Reads.Asked,
-  Reads.Learnt,
-  Reads'.Asked,
-  Reads'.Learnt,
-) Reads''.Pre Reads''.Post
+Need-pending-notice-requires = Lts.Need-pending-notice-requires readings Reads''.Pre Reads''.Post
 
 abbrev pub Need-pending-at-requires : Type 0
-Need-pending-at-requires = Lts.Need-pending-at-requires (
-  Reads''''''.Asked,
-  Reads''''''.Learnt,
-  Reads'''.Asked,
-  Reads'''.Learnt,
-  Reads'''''.Asked,
-  Reads'''''.Learnt,
-  Reads'''''''.Asked,
-  Reads'''''''.Learnt,
-  Reads''''.Asked,
-  Reads''''.Learnt,
-  Reads.Asked,
-  Reads.Learnt,
-  Reads'.Asked,
-  Reads'.Learnt,
-) Reads''.Pre Reads''.Post
+Need-pending-at-requires = Lts.Need-pending-at-requires readings Reads''.Pre Reads''.Post
 
 abbrev pub Need-pending-unmarked-requires : Type 0
-Need-pending-unmarked-requires = Lts.Need-pending-unmarked-requires (
-  Reads''''''.Asked,
-  Reads''''''.Learnt,
-  Reads'''.Asked,
-  Reads'''.Learnt,
-  Reads'''''.Asked,
-  Reads'''''.Learnt,
-  Reads'''''''.Asked,
-  Reads'''''''.Learnt,
-  Reads''''.Asked,
-  Reads''''.Learnt,
-  Reads.Asked,
-  Reads.Learnt,
-  Reads'.Asked,
-  Reads'.Learnt,
-) Reads''.Pre Reads''.Post
+Need-pending-unmarked-requires = Lts.Need-pending-unmarked-requires readings Reads''.Pre Reads''.Post
 
 abbrev pub Need-plan-pending-requires : Type 0
-Need-plan-pending-requires = Lts.Need-plan-pending-requires (
-  Reads''''''.Asked,
-  Reads''''''.Learnt,
-  Reads'''.Asked,
-  Reads'''.Learnt,
-  Reads'''''.Asked,
-  Reads'''''.Learnt,
-  Reads'''''''.Asked,
-  Reads'''''''.Learnt,
-  Reads''''.Asked,
-  Reads''''.Learnt,
-  Reads.Asked,
-  Reads.Learnt,
-  Reads'.Asked,
-  Reads'.Learnt,
-) Reads''.Pre Reads''.Post
+Need-plan-pending-requires = Lts.Need-plan-pending-requires readings Reads''.Pre Reads''.Post
 
 abbrev pub Need-set-pending-requires : Type 0
-Need-set-pending-requires = Lts.Need-set-pending-requires (
-  Reads''''''.Asked,
-  Reads''''''.Learnt,
-  Reads'''.Asked,
-  Reads'''.Learnt,
-  Reads'''''.Asked,
-  Reads'''''.Learnt,
-  Reads'''''''.Asked,
-  Reads'''''''.Learnt,
-  Reads''''.Asked,
-  Reads''''.Learnt,
-  Reads.Asked,
-  Reads.Learnt,
-  Reads'.Asked,
-  Reads'.Learnt,
-) Reads''.Pre Reads''.Post
+Need-set-pending-requires = Lts.Need-set-pending-requires readings Reads''.Pre Reads''.Post
 
 abbrev pub Need-drop-and-tell-requires : Type 0
-Need-drop-and-tell-requires = Lts.Need-drop-and-tell-requires (
-  Reads''''''.Asked,
-  Reads''''''.Learnt,
-  Reads'''.Asked,
-  Reads'''.Learnt,
-  Reads'''''.Asked,
-  Reads'''''.Learnt,
-  Reads'''''''.Asked,
-  Reads'''''''.Learnt,
-  Reads''''.Asked,
-  Reads''''.Learnt,
-  Reads.Asked,
-  Reads.Learnt,
-  Reads'.Asked,
-  Reads'.Learnt,
-) Reads''.Pre Reads''.Post
+Need-drop-and-tell-requires = Lts.Need-drop-and-tell-requires readings Reads''.Pre Reads''.Post
 
 abbrev pub Need-tell-notice-requires : Type 0
-Need-tell-notice-requires = Lts.Need-tell-notice-requires (
-  Reads''''''.Asked,
-  Reads''''''.Learnt,
-  Reads'''.Asked,
-  Reads'''.Learnt,
-  Reads'''''.Asked,
-  Reads'''''.Learnt,
-  Reads'''''''.Asked,
-  Reads'''''''.Learnt,
-  Reads''''.Asked,
-  Reads''''.Learnt,
-  Reads.Asked,
-  Reads.Learnt,
-  Reads'.Asked,
-  Reads'.Learnt,
-) Reads''.Pre Reads''.Post
+Need-tell-notice-requires = Lts.Need-tell-notice-requires readings Reads''.Pre Reads''.Post
 
 abbrev pub Need-same-length : Type 0
-Need-same-length = Lts.Need-same-length (
-  Reads''''''.Asked,
-  Reads''''''.Learnt,
-  Reads'''.Asked,
-  Reads'''.Learnt,
-  Reads'''''.Asked,
-  Reads'''''.Learnt,
-  Reads'''''''.Asked,
-  Reads'''''''.Learnt,
-  Reads''''.Asked,
-  Reads''''.Learnt,
-  Reads.Asked,
-  Reads.Learnt,
-  Reads'.Asked,
-  Reads'.Learnt,
-) Reads''.Pre
-    Reads''.Post
+Need-same-length = Lts.Need-same-length readings Reads''.Pre Reads''.Post
 
 abbrev pub Need-same-length-2 : Type 0
-Need-same-length-2 = Lts.Need-same-length-2 (
-  Reads''''''.Asked,
-  Reads''''''.Learnt,
-  Reads'''.Asked,
-  Reads'''.Learnt,
-  Reads'''''.Asked,
-  Reads'''''.Learnt,
-  Reads'''''''.Asked,
-  Reads'''''''.Learnt,
-  Reads''''.Asked,
-  Reads''''.Learnt,
-  Reads.Asked,
-  Reads.Learnt,
-  Reads'.Asked,
-  Reads'.Learnt,
-) Reads''.Pre Reads''.Post
+Need-same-length-2 = Lts.Need-same-length-2 readings Reads''.Pre Reads''.Post
 
 abbrev pub Need-same-length-3 : Type 0
-Need-same-length-3 = Lts.Need-same-length-3 (
-  Reads''''''.Asked,
-  Reads''''''.Learnt,
-  Reads'''.Asked,
-  Reads'''.Learnt,
-  Reads'''''.Asked,
-  Reads'''''.Learnt,
-  Reads'''''''.Asked,
-  Reads'''''''.Learnt,
-  Reads''''.Asked,
-  Reads''''.Learnt,
-  Reads.Asked,
-  Reads.Learnt,
-  Reads'.Asked,
-  Reads'.Learnt,
-) Reads''.Pre Reads''.Post
+Need-same-length-3 = Lts.Need-same-length-3 readings Reads''.Pre Reads''.Post
 
 abbrev pub Need-returns : Type 0
-Need-returns = Lts.Need-returns (
-  Reads''''''.Asked,
-  Reads''''''.Learnt,
-  Reads'''.Asked,
-  Reads'''.Learnt,
-  Reads'''''.Asked,
-  Reads'''''.Learnt,
-  Reads'''''''.Asked,
-  Reads'''''''.Learnt,
-  Reads''''.Asked,
-  Reads''''.Learnt,
-  Reads.Asked,
-  Reads.Learnt,
-  Reads'.Asked,
-  Reads'.Learnt,
-) Reads''.Pre
-    Reads''.Post
+Need-returns = Lts.Need-returns readings Reads''.Pre Reads''.Post
 
 module _ {M : Type 1} where
-  pub spec : (answer : Need-pending-notice-requires) → (answer : Need-pending-at-requires) → (answer : Need-pending-unmarked-requires) → (answer :
-      Need-plan-pending-requires) → (answer : Need-set-pending-requires) → (answer : Need-drop-and-tell-requires) → (answer :
-      Need-tell-notice-requires) → (answer : Need-same-length) → (answer : Need-same-length-2) → (answer : Need-same-length-3) → (answer :
-      Need-returns) → Lts.Closed (
-        Reads''''''.Asked,
-        Reads''''''.Learnt,
-        Reads'''.Asked,
-        Reads'''.Learnt,
-        Reads'''''.Asked,
-        Reads'''''.Learnt,
-        Reads'''''''.Asked,
-        Reads'''''''.Learnt,
-        Reads''''.Asked,
-        Reads''''.Learnt,
-        Reads.Asked,
-        Reads.Learnt,
-        Reads'.Asked,
-        Reads'.Learnt,
-      ) Reads''.Pre
-      Reads''.Post M
-  spec = λ answer answer' answer'' answer'3 answer'4 answer'5 answer'6 answer'7 answer'8 answer'9 answer'10. Lts.spec (
-    Reads''''''.Asked,
-    Reads''''''.Learnt,
-    Reads'''.Asked,
-    Reads'''.Learnt,
-    Reads'''''.Asked,
-    Reads'''''.Learnt,
-    Reads'''''''.Asked,
-    Reads'''''''.Learnt,
-    Reads''''.Asked,
-    Reads''''.Learnt,
-    Reads.Asked,
-    Reads.Learnt,
-    Reads'.Asked,
-    Reads'.Learnt,
-  ) Reads''.Pre Reads''.Post answer answer' answer''
-      answer'3 answer'4 answer'5 answer'6 answer'7 answer'8 answer'9 answer'10
+  pub spec : (answer : Need-pending-notice-requires) → (answer : Need-pending-at-requires) →
+      (answer : Need-pending-unmarked-requires) → (answer : Need-plan-pending-requires) →
+      (answer : Need-set-pending-requires) → (answer : Need-drop-and-tell-requires) →
+      (answer : Need-tell-notice-requires) → (answer : Need-same-length) → (answer : Need-same-length-2) →
+      (answer : Need-same-length-3) → (answer : Need-returns) → Lts.Closed readings Reads''.Pre Reads''.Post M
+  spec = λ answer answer' answer'' answer'3 answer'4 answer'5 answer'6 answer'7 answer'8 answer'9 answer'10. Lts.spec
+      readings Reads''.Pre Reads''.Post answer answer' answer'' answer'3 answer'4 answer'5 answer'6 answer'7 answer'8
+      answer'9 answer'10
 
-  pub close : Lts.Closed (
-    Reads''''''.Asked,
-    Reads''''''.Learnt,
-    Reads'''.Asked,
-    Reads'''.Learnt,
-    Reads'''''.Asked,
-    Reads'''''.Learnt,
-    Reads'''''''.Asked,
-    Reads'''''''.Learnt,
-    Reads''''.Asked,
-    Reads''''.Learnt,
-    Reads.Asked,
-    Reads.Learnt,
-    Reads'.Asked,
-    Reads'.Learnt,
-  ) Reads''.Pre
-      Reads''.Post M → Statement.statement M
+  pub close : Lts.Closed readings Reads''.Pre Reads''.Post M → Statement.statement M
   unfolding Code.routine Running.tablesOf
-  close = λ closed 𝓤 H 𝓜 𝓖 𝓡. Written.close 3 Kinds.ps Kinds.r Reads''.Ghost Reads''.requires Reads''.ensures Reads''.pre-read Reads''.Pinned
-      Reads''.Owned Reads''.post-read record { M = M; 𝓤 = 𝓤; H = H; 𝓜 = 𝓜; 𝓖 = 𝓖; 𝓡 = 𝓡 } Code.env Key.name Code.function (Code.unfolded 𝓤 H 𝓜 𝓡) (λ
-      κs a g. tt) (λ κs. Reads''.owns κs record { M = M; 𝓤 = 𝓤; H = H; 𝓜 = 𝓜; 𝓖 = 𝓖; 𝓡 = 𝓡 }) (Reads''.passes record {
-        M = M;
-        𝓤 = 𝓤;
-        H = H;
-        𝓜 = 𝓜;
-        𝓖 =
-            𝓖;
-        𝓡 = 𝓡;
-      }) λ g. closed 𝓤 H (𝓖 .A) (Running.givenOf 𝓤 H 𝓜 𝓖) (Run.Over 𝓤 H 𝓜 𝓖 𝓡 Code.env) (Reads''''''.known record {
-        M = M;
-        𝓤 = 𝓤;
-        H = H;
-        𝓜 =
-            𝓜;
-        𝓖 = 𝓖;
-        𝓡 = 𝓡;
-      } Code.env Symbol'''.name Symbol'''.routine Code.calls-hnsr-circuit·revocation·pending-notice (Met'''.met 𝓤 H 𝓜 𝓖 𝓡))
-      (Reads'''.known record { M = M; 𝓤 = 𝓤; H = H; 𝓜 = 𝓜; 𝓖 = 𝓖; 𝓡 = 𝓡 } Code.env Symbol'''''.name Symbol'''''.routine
-      Code.calls-hnsr-circuit·tables·pending·pending-at (Met'''''.met 𝓤 H 𝓜 𝓖 𝓡)) (Reads'''''.known record {
-        M = M;
-        𝓤 = 𝓤;
-        H = H;
-        𝓜 = 𝓜;
-        𝓖 = 𝓖;
-        𝓡 = 𝓡;
-      } Code.env Symbol.name Symbol.routine Code.calls-hnsr-circuit·pending·pending-unmarked (Met.met 𝓤 H 𝓜 𝓖 𝓡)) (Reads'''''''.known record {
-        M = M;
-        𝓤 = 𝓤;
-        H = H;
-        𝓜 = 𝓜;
-        𝓖 = 𝓖;
-        𝓡 = 𝓡;
-      } Code.env Symbol''''.name Symbol''''.routine Code.calls-hnsr-circuit·revocation·plan-pending (Met''''.met 𝓤 H
-      𝓜 𝓖 𝓡)) (Reads''''.known record { M = M; 𝓤 = 𝓤; H = H; 𝓜 = 𝓜; 𝓖 = 𝓖; 𝓡 = 𝓡 } Code.env Symbol''''''.name Symbol''''''.routine
-      Code.calls-hnsr-circuit·tables·pending·set-pending (Met''''''.met 𝓤 H 𝓜 𝓖 𝓡)) (Reads.known record { M = M; 𝓤 = 𝓤; H = H; 𝓜 = 𝓜; 𝓖 = 𝓖; 𝓡 = 𝓡 }
-      Code.env Symbol'.name Symbol'.routine Code.calls-hnsr-circuit·queue·drop-and-tell (Met'.met 𝓤 H 𝓜 𝓖 𝓡)) (Reads'.known record {
-        M = M;
-        𝓤 = 𝓤;
-        H =
-            H;
-        𝓜 = 𝓜;
-        𝓖 = 𝓖;
-        𝓡 = 𝓡;
-      } Code.env Symbol''.name Symbol''.routine Code.calls-hnsr-circuit·queue·tell-notice (Met''.met 𝓤 H 𝓜 𝓖 𝓡))
+  close = λ closed 𝓤 H 𝓜 𝓖 𝓡. Written.close 3 Kinds.ps Kinds.r Reads''.Ghost Reads''.requires Reads''.ensures
+      Reads''.pre-read Reads''.Pinned Reads''.Owned Reads''.post-read
+      record { M = M; 𝓤 = 𝓤; H = H; 𝓜 = 𝓜; 𝓖 = 𝓖; 𝓡 = 𝓡 } Code.env Key.name Code.function (Code.unfolded 𝓤 H 𝓜 𝓡)
+      (λ κs a g. tt) (λ κs. Reads''.owns κs record { M = M; 𝓤 = 𝓤; H = H; 𝓜 = 𝓜; 𝓖 = 𝓖; 𝓡 = 𝓡 }) (Reads''.passes
+      record { M = M; 𝓤 = 𝓤; H = H; 𝓜 = 𝓜; 𝓖 = 𝓖; 𝓡 = 𝓡 }) λ g. closed 𝓤 H (𝓖 .A) (Running.givenOf 𝓤 H 𝓜 𝓖)
+      (Run.Over 𝓤 H 𝓜 𝓖 𝓡 Code.env) (Reads''''''.known record { M = M; 𝓤 = 𝓤; H = H; 𝓜 = 𝓜; 𝓖 = 𝓖; 𝓡 = 𝓡 } Code.env
+      Symbol'''.name Symbol'''.routine Code.calls-hnsr-circuit·revocation·pending-notice (Met'''.met 𝓤 H 𝓜 𝓖 𝓡)) (Reads'''.known
+      record { M = M; 𝓤 = 𝓤; H = H; 𝓜 = 𝓜; 𝓖 = 𝓖; 𝓡 = 𝓡 } Code.env Symbol'''''.name Symbol'''''.routine
+      Code.calls-hnsr-circuit·tables·pending·pending-at (Met'''''.met 𝓤 H 𝓜 𝓖 𝓡)) (Reads'''''.known
+      record { M = M; 𝓤 = 𝓤; H = H; 𝓜 = 𝓜; 𝓖 = 𝓖; 𝓡 = 𝓡 } Code.env Symbol.name Symbol.routine
+      Code.calls-hnsr-circuit·pending·pending-unmarked (Met.met 𝓤 H 𝓜 𝓖 𝓡)) (Reads'''''''.known
+      record { M = M; 𝓤 = 𝓤; H = H; 𝓜 = 𝓜; 𝓖 = 𝓖; 𝓡 = 𝓡 } Code.env Symbol''''.name Symbol''''.routine
+      Code.calls-hnsr-circuit·revocation·plan-pending (Met''''.met 𝓤 H 𝓜 𝓖 𝓡)) (Reads''''.known
+      record { M = M; 𝓤 = 𝓤; H = H; 𝓜 = 𝓜; 𝓖 = 𝓖; 𝓡 = 𝓡 } Code.env Symbol''''''.name Symbol''''''.routine
+      Code.calls-hnsr-circuit·tables·pending·set-pending (Met''''''.met 𝓤 H 𝓜 𝓖 𝓡)) (Reads.known
+      record { M = M; 𝓤 = 𝓤; H = H; 𝓜 = 𝓜; 𝓖 = 𝓖; 𝓡 = 𝓡 } Code.env Symbol'.name Symbol'.routine
+      Code.calls-hnsr-circuit·queue·drop-and-tell (Met'.met 𝓤 H 𝓜 𝓖 𝓡)) (Reads'.known
+      record { M = M; 𝓤 = 𝓤; H = H; 𝓜 = 𝓜; 𝓖 = 𝓖; 𝓡 = 𝓡 } Code.env Symbol''.name Symbol''.routine
+      Code.calls-hnsr-circuit·queue·tell-notice (Met''.met 𝓤 H 𝓜 𝓖 𝓡))

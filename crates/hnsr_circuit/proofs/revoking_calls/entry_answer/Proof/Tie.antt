@@ -24,8 +24,8 @@ use borrow.Fn.Run
 use borrow.Fn.Written
 use contract.Running
 
-abbrev pub Start : Type 0
-Start = Lts.Start (
+abbrev pub readings : Lts.Claims
+readings = (
   Reads''.Asked,
   Reads''.Learnt,
   Reads'.Asked,
@@ -36,218 +36,65 @@ Start = Lts.Start (
   Reads''''.Learnt,
   Reads'''.Asked,
   Reads'''.Learnt,
-) Reads.Pre Reads.Post
+)
+
+abbrev pub Start : Type 0
+Start = Lts.Start readings Reads.Pre Reads.Post
 
 abbrev pub After-survey-pending : Type 0
-After-survey-pending = Lts.After-survey-pending (
-  Reads''.Asked,
-  Reads''.Learnt,
-  Reads'.Asked,
-  Reads'.Learnt,
-  Reads'''''.Asked,
-  Reads'''''.Learnt,
-  Reads''''.Asked,
-  Reads''''.Learnt,
-  Reads'''.Asked,
-  Reads'''.Learnt,
-) Reads.Pre Reads.Post
+After-survey-pending = Lts.After-survey-pending readings Reads.Pre Reads.Post
 
 abbrev pub After-survey-circuit : Type 0
-After-survey-circuit = Lts.After-survey-circuit (
-  Reads''.Asked,
-  Reads''.Learnt,
-  Reads'.Asked,
-  Reads'.Learnt,
-  Reads'''''.Asked,
-  Reads'''''.Learnt,
-  Reads''''.Asked,
-  Reads''''.Learnt,
-  Reads'''.Asked,
-  Reads'''.Learnt,
-) Reads.Pre Reads.Post
+After-survey-circuit = Lts.After-survey-circuit readings Reads.Pre Reads.Post
 
 abbrev pub After-room-short : Type 0
-After-room-short = Lts.After-room-short (
-  Reads''.Asked,
-  Reads''.Learnt,
-  Reads'.Asked,
-  Reads'.Learnt,
-  Reads'''''.Asked,
-  Reads'''''.Learnt,
-  Reads''''.Asked,
-  Reads''''.Learnt,
-  Reads'''.Asked,
-  Reads'''.Learnt,
-) Reads.Pre Reads.Post
+After-room-short = Lts.After-room-short readings Reads.Pre Reads.Post
 
 abbrev pub After-room-answer : Type 0
-After-room-answer = Lts.After-room-answer (
-  Reads''.Asked,
-  Reads''.Learnt,
-  Reads'.Asked,
-  Reads'.Learnt,
-  Reads'''''.Asked,
-  Reads'''''.Learnt,
-  Reads''''.Asked,
-  Reads''''.Learnt,
-  Reads'''.Asked,
-  Reads'''.Learnt,
-) Reads.Pre Reads.Post
+After-room-answer = Lts.After-room-answer readings Reads.Pre Reads.Post
 
 abbrev pub After-entry-found : Type 0
-After-entry-found = Lts.After-entry-found (
-  Reads''.Asked,
-  Reads''.Learnt,
-  Reads'.Asked,
-  Reads'.Learnt,
-  Reads'''''.Asked,
-  Reads'''''.Learnt,
-  Reads''''.Asked,
-  Reads''''.Learnt,
-  Reads'''.Asked,
-  Reads'''.Learnt,
-) Reads.Pre Reads.Post
+After-entry-found = Lts.After-entry-found readings Reads.Pre Reads.Post
 
 abbrev pub Need-survey-pending-requires : Type 0
-Need-survey-pending-requires = Lts.Need-survey-pending-requires (
-  Reads''.Asked,
-  Reads''.Learnt,
-  Reads'.Asked,
-  Reads'.Learnt,
-  Reads'''''.Asked,
-  Reads'''''.Learnt,
-  Reads''''.Asked,
-  Reads''''.Learnt,
-  Reads'''.Asked,
-  Reads'''.Learnt,
-) Reads.Pre Reads.Post
+Need-survey-pending-requires = Lts.Need-survey-pending-requires readings Reads.Pre Reads.Post
 
 abbrev pub Need-survey-circuit-requires : Type 0
-Need-survey-circuit-requires = Lts.Need-survey-circuit-requires (
-  Reads''.Asked,
-  Reads''.Learnt,
-  Reads'.Asked,
-  Reads'.Learnt,
-  Reads'''''.Asked,
-  Reads'''''.Learnt,
-  Reads''''.Asked,
-  Reads''''.Learnt,
-  Reads'''.Asked,
-  Reads'''.Learnt,
-) Reads.Pre Reads.Post
+Need-survey-circuit-requires = Lts.Need-survey-circuit-requires readings Reads.Pre Reads.Post
 
 abbrev pub Need-room-short-requires : Type 0
-Need-room-short-requires = Lts.Need-room-short-requires (
-  Reads''.Asked,
-  Reads''.Learnt,
-  Reads'.Asked,
-  Reads'.Learnt,
-  Reads'''''.Asked,
-  Reads'''''.Learnt,
-  Reads''''.Asked,
-  Reads''''.Learnt,
-  Reads'''.Asked,
-  Reads'''.Learnt,
-) Reads.Pre Reads.Post
+Need-room-short-requires = Lts.Need-room-short-requires readings Reads.Pre Reads.Post
 
 abbrev pub Need-room-answer-requires : Type 0
-Need-room-answer-requires = Lts.Need-room-answer-requires (
-  Reads''.Asked,
-  Reads''.Learnt,
-  Reads'.Asked,
-  Reads'.Learnt,
-  Reads'''''.Asked,
-  Reads'''''.Learnt,
-  Reads''''.Asked,
-  Reads''''.Learnt,
-  Reads'''.Asked,
-  Reads'''.Learnt,
-) Reads.Pre Reads.Post
+Need-room-answer-requires = Lts.Need-room-answer-requires readings Reads.Pre Reads.Post
 
 abbrev pub Need-entry-found-requires : Type 0
-Need-entry-found-requires = Lts.Need-entry-found-requires (
-  Reads''.Asked,
-  Reads''.Learnt,
-  Reads'.Asked,
-  Reads'.Learnt,
-  Reads'''''.Asked,
-  Reads'''''.Learnt,
-  Reads''''.Asked,
-  Reads''''.Learnt,
-  Reads'''.Asked,
-  Reads'''.Learnt,
-) Reads.Pre Reads.Post
+Need-entry-found-requires = Lts.Need-entry-found-requires readings Reads.Pre Reads.Post
 
 abbrev pub Need-returns : Type 0
-Need-returns = Lts.Need-returns (
-  Reads''.Asked,
-  Reads''.Learnt,
-  Reads'.Asked,
-  Reads'.Learnt,
-  Reads'''''.Asked,
-  Reads'''''.Learnt,
-  Reads''''.Asked,
-  Reads''''.Learnt,
-  Reads'''.Asked,
-  Reads'''.Learnt,
-) Reads.Pre Reads.Post
+Need-returns = Lts.Need-returns readings Reads.Pre Reads.Post
 
 module _ {M : Type 1} where
-  pub spec : (answer : Need-survey-pending-requires) → (answer : Need-survey-circuit-requires) → (answer : Need-room-short-requires) → (answer :
-      Need-room-answer-requires) → (answer : Need-entry-found-requires) → (answer : Need-returns) → Lts.Closed (
-        Reads''.Asked,
-        Reads''.Learnt,
-        Reads'.Asked,
-        Reads'.Learnt,
-        Reads'''''.Asked,
-        Reads'''''.Learnt,
-        Reads''''.Asked,
-        Reads''''.Learnt,
-        Reads'''.Asked,
-        Reads'''.Learnt,
-      ) Reads.Pre
-      Reads.Post M
-  spec = λ answer answer' answer'' answer'3 answer'4 answer'5. Lts.spec (
-    Reads''.Asked,
-    Reads''.Learnt,
-    Reads'.Asked,
-    Reads'.Learnt,
-    Reads'''''.Asked,
-    Reads'''''.Learnt,
-    Reads''''.Asked,
-    Reads''''.Learnt,
-    Reads'''.Asked,
-    Reads'''.Learnt,
-  ) Reads.Pre Reads.Post answer answer' answer'' answer'3
-      answer'4 answer'5
+  pub spec : (answer : Need-survey-pending-requires) → (answer : Need-survey-circuit-requires) →
+      (answer : Need-room-short-requires) → (answer : Need-room-answer-requires) → (answer : Need-entry-found-requires)
+      → (answer : Need-returns) → Lts.Closed readings Reads.Pre Reads.Post M
+  spec = λ answer answer' answer'' answer'3 answer'4 answer'5. Lts.spec readings Reads.Pre Reads.Post answer answer'
+      answer'' answer'3 answer'4 answer'5
 
-  pub close : Lts.Closed (
-    Reads''.Asked,
-    Reads''.Learnt,
-    Reads'.Asked,
-    Reads'.Learnt,
-    Reads'''''.Asked,
-    Reads'''''.Learnt,
-    Reads''''.Asked,
-    Reads''''.Learnt,
-    Reads'''.Asked,
-    Reads'''.Learnt,
-  ) Reads.Pre Reads.Post M → Statement.statement M
+  pub close : Lts.Closed readings Reads.Pre Reads.Post M → Statement.statement M
   unfolding Code.routine Running.tablesOf
-  close = λ closed 𝓤 H 𝓜 𝓖 𝓡. Written.close 2 Kinds.ps Kinds.r Reads.Ghost Reads.requires Reads.ensures Reads.pre-read Reads.Pinned Reads.Owned
-      Reads.post-read record { M = M; 𝓤 = 𝓤; H = H; 𝓜 = 𝓜; 𝓖 = 𝓖; 𝓡 = 𝓡 } Code.env Key.name Code.function (Code.unfolded 𝓤 H 𝓜 𝓡) (λ κs a g. tt) (λ
-      κs. Reads.owns κs record { M = M; 𝓤 = 𝓤; H = H; 𝓜 = 𝓜; 𝓖 = 𝓖; 𝓡 = 𝓡 }) (Reads.passes record { M = M; 𝓤 = 𝓤; H = H; 𝓜 = 𝓜; 𝓖 = 𝓖; 𝓡 = 𝓡 }) λ g.
-      closed 𝓤 H (𝓖 .A) (Running.givenOf 𝓤 H 𝓜 𝓖) (Run.Over 𝓤 H 𝓜 𝓖 𝓡 Code.env) (Reads''.known record { M = M; 𝓤 = 𝓤; H = H; 𝓜 = 𝓜; 𝓖 = 𝓖; 𝓡 = 𝓡 }
-      Code.env Symbol''''.name Symbol''''.routine Code.calls-hnsr-circuit·tables·pending·survey-pending (Met''''.met 𝓤 H 𝓜 𝓖 𝓡)) (Reads'.known record
-      { M = M; 𝓤 = 𝓤; H = H; 𝓜 = 𝓜; 𝓖 = 𝓖; 𝓡 = 𝓡 } Code.env Symbol'''.name Symbol'''.routine Code.calls-hnsr-circuit·tables·circuits·survey-circuit
-      (Met'''.met 𝓤 H 𝓜 𝓖 𝓡)) (Reads'''''.known record { M = M; 𝓤 = 𝓤; H = H; 𝓜 = 𝓜; 𝓖 = 𝓖; 𝓡 = 𝓡 } Code.env Symbol''.name Symbol''.routine
-      Code.calls-hnsr-circuit·revoking-calls·room-short (Met''.met 𝓤 H 𝓜 𝓖 𝓡)) (Reads''''.known record { M = M; 𝓤 = 𝓤; H = H; 𝓜 = 𝓜; 𝓖 = 𝓖; 𝓡 = 𝓡 }
-      Code.env Symbol'.name Symbol'.routine Code.calls-hnsr-circuit·revoking-calls·room-answer (Met'.met 𝓤 H 𝓜 𝓖 𝓡)) (Reads'''.known record {
-        M = M;
-        𝓤
-            = 𝓤;
-        H = H;
-        𝓜 = 𝓜;
-        𝓖 = 𝓖;
-        𝓡 = 𝓡;
-      } Code.env Symbol.name Symbol.routine Code.calls-hnsr-circuit·revoking-calls·entry-found (Met.met 𝓤 H 𝓜 𝓖 𝓡))
+  close = λ closed 𝓤 H 𝓜 𝓖 𝓡. Written.close 2 Kinds.ps Kinds.r Reads.Ghost Reads.requires Reads.ensures Reads.pre-read
+      Reads.Pinned Reads.Owned Reads.post-read record { M = M; 𝓤 = 𝓤; H = H; 𝓜 = 𝓜; 𝓖 = 𝓖; 𝓡 = 𝓡 } Code.env Key.name
+      Code.function (Code.unfolded 𝓤 H 𝓜 𝓡) (λ κs a g. tt) (λ κs. Reads.owns κs
+      record { M = M; 𝓤 = 𝓤; H = H; 𝓜 = 𝓜; 𝓖 = 𝓖; 𝓡 = 𝓡 }) (Reads.passes
+      record { M = M; 𝓤 = 𝓤; H = H; 𝓜 = 𝓜; 𝓖 = 𝓖; 𝓡 = 𝓡 }) λ g. closed 𝓤 H (𝓖 .A) (Running.givenOf 𝓤 H 𝓜 𝓖)
+      (Run.Over 𝓤 H 𝓜 𝓖 𝓡 Code.env) (Reads''.known record { M = M; 𝓤 = 𝓤; H = H; 𝓜 = 𝓜; 𝓖 = 𝓖; 𝓡 = 𝓡 } Code.env
+      Symbol''''.name Symbol''''.routine Code.calls-hnsr-circuit·tables·pending·survey-pending (Met''''.met 𝓤 H 𝓜 𝓖 𝓡)) (Reads'.known
+      record { M = M; 𝓤 = 𝓤; H = H; 𝓜 = 𝓜; 𝓖 = 𝓖; 𝓡 = 𝓡 } Code.env Symbol'''.name Symbol'''.routine
+      Code.calls-hnsr-circuit·tables·circuits·survey-circuit (Met'''.met 𝓤 H 𝓜 𝓖 𝓡)) (Reads'''''.known
+      record { M = M; 𝓤 = 𝓤; H = H; 𝓜 = 𝓜; 𝓖 = 𝓖; 𝓡 = 𝓡 } Code.env Symbol''.name Symbol''.routine
+      Code.calls-hnsr-circuit·revoking-calls·room-short (Met''.met 𝓤 H 𝓜 𝓖 𝓡)) (Reads''''.known
+      record { M = M; 𝓤 = 𝓤; H = H; 𝓜 = 𝓜; 𝓖 = 𝓖; 𝓡 = 𝓡 } Code.env Symbol'.name Symbol'.routine
+      Code.calls-hnsr-circuit·revoking-calls·room-answer (Met'.met 𝓤 H 𝓜 𝓖 𝓡)) (Reads'''.known
+      record { M = M; 𝓤 = 𝓤; H = H; 𝓜 = 𝓜; 𝓖 = 𝓖; 𝓡 = 𝓡 } Code.env Symbol.name Symbol.routine
+      Code.calls-hnsr-circuit·revoking-calls·entry-found (Met.met 𝓤 H 𝓜 𝓖 𝓡))

@@ -39,8 +39,8 @@ use borrow.Fn.Run
 use borrow.Fn.Written
 use contract.Running
 
-abbrev pub Start : Type 0
-Start = Lts.Start (
+abbrev pub readings : Lts.Claims
+readings = (
   Reads''''''.Asked,
   Reads''''''.Learnt,
   Reads.Asked,
@@ -61,1391 +61,204 @@ Start = Lts.Start (
   Reads''''''''''.Learnt,
   Reads'''''''''.Asked,
   Reads'''''''''.Learnt,
-) Reads'.Pre Reads'.Post
+)
+
+abbrev pub Start : Type 0
+Start = Lts.Start readings Reads'.Pre Reads'.Post
 
 abbrev pub After-slice-known : Type 0
-After-slice-known = Lts.After-slice-known (
-  Reads''''''.Asked,
-  Reads''''''.Learnt,
-  Reads.Asked,
-  Reads.Learnt,
-  Reads'''.Asked,
-  Reads'''.Learnt,
-  Reads''''''''.Asked,
-  Reads''''''''.Learnt,
-  Reads'''''''.Asked,
-  Reads'''''''.Learnt,
-  Reads''''.Asked,
-  Reads''''.Learnt,
-  Reads'''''.Asked,
-  Reads'''''.Learnt,
-  Reads''.Asked,
-  Reads''.Learnt,
-  Reads''''''''''.Asked,
-  Reads''''''''''.Learnt,
-  Reads'''''''''.Asked,
-  Reads'''''''''.Learnt,
-)
-    Reads'.Pre Reads'.Post
+After-slice-known = Lts.After-slice-known readings Reads'.Pre Reads'.Post
 
 abbrev pub After-config : Type 0
-After-config = Lts.After-config (
-  Reads''''''.Asked,
-  Reads''''''.Learnt,
-  Reads.Asked,
-  Reads.Learnt,
-  Reads'''.Asked,
-  Reads'''.Learnt,
-  Reads''''''''.Asked,
-  Reads''''''''.Learnt,
-  Reads'''''''.Asked,
-  Reads'''''''.Learnt,
-  Reads''''.Asked,
-  Reads''''.Learnt,
-  Reads'''''.Asked,
-  Reads'''''.Learnt,
-  Reads''.Asked,
-  Reads''.Learnt,
-  Reads''''''''''.Asked,
-  Reads''''''''''.Learnt,
-  Reads'''''''''.Asked,
-  Reads'''''''''.Learnt,
-)
-    Reads'.Pre Reads'.Post
+After-config = Lts.After-config readings Reads'.Pre Reads'.Post
 
 abbrev pub After-used : Type 0
-After-used = Lts.After-used (
-  Reads''''''.Asked,
-  Reads''''''.Learnt,
-  Reads.Asked,
-  Reads.Learnt,
-  Reads'''.Asked,
-  Reads'''.Learnt,
-  Reads''''''''.Asked,
-  Reads''''''''.Learnt,
-  Reads'''''''.Asked,
-  Reads'''''''.Learnt,
-  Reads''''.Asked,
-  Reads''''.Learnt,
-  Reads'''''.Asked,
-  Reads'''''.Learnt,
-  Reads''.Asked,
-  Reads''.Learnt,
-  Reads''''''''''.Asked,
-  Reads''''''''''.Learnt,
-  Reads'''''''''.Asked,
-  Reads'''''''''.Learnt,
-) Reads'.Pre Reads'.Post
+After-used = Lts.After-used readings Reads'.Pre Reads'.Post
 
 abbrev pub After-entry-answer-arg : Type 0
-After-entry-answer-arg = Lts.After-entry-answer-arg (
-  Reads''''''.Asked,
-  Reads''''''.Learnt,
-  Reads.Asked,
-  Reads.Learnt,
-  Reads'''.Asked,
-  Reads'''.Learnt,
-  Reads''''''''.Asked,
-  Reads''''''''.Learnt,
-  Reads'''''''.Asked,
-  Reads'''''''.Learnt,
-  Reads''''.Asked,
-  Reads''''.Learnt,
-  Reads'''''.Asked,
-  Reads'''''.Learnt,
-  Reads''.Asked,
-  Reads''.Learnt,
-  Reads''''''''''.Asked,
-  Reads''''''''''.Learnt,
-  Reads'''''''''.Asked,
-  Reads'''''''''.Learnt,
-) Reads'.Pre Reads'.Post
+After-entry-answer-arg = Lts.After-entry-answer-arg readings Reads'.Pre Reads'.Post
 
 abbrev pub After-entry-answer-arg2 : Type 0
-After-entry-answer-arg2 = Lts.After-entry-answer-arg2 (
-  Reads''''''.Asked,
-  Reads''''''.Learnt,
-  Reads.Asked,
-  Reads.Learnt,
-  Reads'''.Asked,
-  Reads'''.Learnt,
-  Reads''''''''.Asked,
-  Reads''''''''.Learnt,
-  Reads'''''''.Asked,
-  Reads'''''''.Learnt,
-  Reads''''.Asked,
-  Reads''''.Learnt,
-  Reads'''''.Asked,
-  Reads'''''.Learnt,
-  Reads''.Asked,
-  Reads''.Learnt,
-  Reads''''''''''.Asked,
-  Reads''''''''''.Learnt,
-  Reads'''''''''.Asked,
-  Reads'''''''''.Learnt,
-) Reads'.Pre Reads'.Post
+After-entry-answer-arg2 = Lts.After-entry-answer-arg2 readings Reads'.Pre Reads'.Post
 
 abbrev pub After-entry-answer : Type 0
-After-entry-answer = Lts.After-entry-answer (
-  Reads''''''.Asked,
-  Reads''''''.Learnt,
-  Reads.Asked,
-  Reads.Learnt,
-  Reads'''.Asked,
-  Reads'''.Learnt,
-  Reads''''''''.Asked,
-  Reads''''''''.Learnt,
-  Reads'''''''.Asked,
-  Reads'''''''.Learnt,
-  Reads''''.Asked,
-  Reads''''.Learnt,
-  Reads'''''.Asked,
-  Reads'''''.Learnt,
-  Reads''.Asked,
-  Reads''.Learnt,
-  Reads''''''''''.Asked,
-  Reads''''''''''.Learnt,
-  Reads'''''''''.Asked,
-  Reads'''''''''.Learnt,
-)
-    Reads'.Pre Reads'.Post
+After-entry-answer = Lts.After-entry-answer readings Reads'.Pre Reads'.Post
 
 abbrev pub After-first : Type 0
-After-first = Lts.After-first (
-  Reads''''''.Asked,
-  Reads''''''.Learnt,
-  Reads.Asked,
-  Reads.Learnt,
-  Reads'''.Asked,
-  Reads'''.Learnt,
-  Reads''''''''.Asked,
-  Reads''''''''.Learnt,
-  Reads'''''''.Asked,
-  Reads'''''''.Learnt,
-  Reads''''.Asked,
-  Reads''''.Learnt,
-  Reads'''''.Asked,
-  Reads'''''.Learnt,
-  Reads''.Asked,
-  Reads''.Learnt,
-  Reads''''''''''.Asked,
-  Reads''''''''''.Learnt,
-  Reads'''''''''.Asked,
-  Reads'''''''''.Learnt,
-) Reads'.Pre Reads'.Post
+After-first = Lts.After-first readings Reads'.Pre Reads'.Post
 
 abbrev pub After-generation-answer : Type 0
-After-generation-answer = Lts.After-generation-answer (
-  Reads''''''.Asked,
-  Reads''''''.Learnt,
-  Reads.Asked,
-  Reads.Learnt,
-  Reads'''.Asked,
-  Reads'''.Learnt,
-  Reads''''''''.Asked,
-  Reads''''''''.Learnt,
-  Reads'''''''.Asked,
-  Reads'''''''.Learnt,
-  Reads''''.Asked,
-  Reads''''.Learnt,
-  Reads'''''.Asked,
-  Reads'''''.Learnt,
-  Reads''.Asked,
-  Reads''.Learnt,
-  Reads''''''''''.Asked,
-  Reads''''''''''.Learnt,
-  Reads'''''''''.Asked,
-  Reads'''''''''.Learnt,
-) Reads'.Pre Reads'.Post
+After-generation-answer = Lts.After-generation-answer readings Reads'.Pre Reads'.Post
 
 abbrev pub After-changed : Type 0
-After-changed = Lts.After-changed (
-  Reads''''''.Asked,
-  Reads''''''.Learnt,
-  Reads.Asked,
-  Reads.Learnt,
-  Reads'''.Asked,
-  Reads'''.Learnt,
-  Reads''''''''.Asked,
-  Reads''''''''.Learnt,
-  Reads'''''''.Asked,
-  Reads'''''''.Learnt,
-  Reads''''.Asked,
-  Reads''''.Learnt,
-  Reads'''''.Asked,
-  Reads'''''.Learnt,
-  Reads''.Asked,
-  Reads''.Learnt,
-  Reads''''''''''.Asked,
-  Reads''''''''''.Learnt,
-  Reads'''''''''.Asked,
-  Reads'''''''''.Learnt,
-)
-    Reads'.Pre Reads'.Post
+After-changed = Lts.After-changed readings Reads'.Pre Reads'.Post
 
 abbrev pub After-change-answer : Type 0
-After-change-answer = Lts.After-change-answer (
-  Reads''''''.Asked,
-  Reads''''''.Learnt,
-  Reads.Asked,
-  Reads.Learnt,
-  Reads'''.Asked,
-  Reads'''.Learnt,
-  Reads''''''''.Asked,
-  Reads''''''''.Learnt,
-  Reads'''''''.Asked,
-  Reads'''''''.Learnt,
-  Reads''''.Asked,
-  Reads''''.Learnt,
-  Reads'''''.Asked,
-  Reads'''''.Learnt,
-  Reads''.Asked,
-  Reads''.Learnt,
-  Reads''''''''''.Asked,
-  Reads''''''''''.Learnt,
-  Reads'''''''''.Asked,
-  Reads'''''''''.Learnt,
-)
-    Reads'.Pre Reads'.Post
+After-change-answer = Lts.After-change-answer readings Reads'.Pre Reads'.Post
 
 abbrev pub After-first-refusal : Type 0
-After-first-refusal = Lts.After-first-refusal (
-  Reads''''''.Asked,
-  Reads''''''.Learnt,
-  Reads.Asked,
-  Reads.Learnt,
-  Reads'''.Asked,
-  Reads'''.Learnt,
-  Reads''''''''.Asked,
-  Reads''''''''.Learnt,
-  Reads'''''''.Asked,
-  Reads'''''''.Learnt,
-  Reads''''.Asked,
-  Reads''''.Learnt,
-  Reads'''''.Asked,
-  Reads'''''.Learnt,
-  Reads''.Asked,
-  Reads''.Learnt,
-  Reads''''''''''.Asked,
-  Reads''''''''''.Learnt,
-  Reads'''''''''.Asked,
-  Reads'''''''''.Learnt,
-)
-    Reads'.Pre Reads'.Post
+After-first-refusal = Lts.After-first-refusal readings Reads'.Pre Reads'.Post
 
 abbrev pub After-first-refusal2 : Type 0
-After-first-refusal2 = Lts.After-first-refusal2 (
-  Reads''''''.Asked,
-  Reads''''''.Learnt,
-  Reads.Asked,
-  Reads.Learnt,
-  Reads'''.Asked,
-  Reads'''.Learnt,
-  Reads''''''''.Asked,
-  Reads''''''''.Learnt,
-  Reads'''''''.Asked,
-  Reads'''''''.Learnt,
-  Reads''''.Asked,
-  Reads''''.Learnt,
-  Reads'''''.Asked,
-  Reads'''''.Learnt,
-  Reads''.Asked,
-  Reads''.Learnt,
-  Reads''''''''''.Asked,
-  Reads''''''''''.Learnt,
-  Reads'''''''''.Asked,
-  Reads'''''''''.Learnt,
-)
-    Reads'.Pre Reads'.Post
+After-first-refusal2 = Lts.After-first-refusal2 readings Reads'.Pre Reads'.Post
 
 abbrev pub After-is-taken : Type 0
-After-is-taken = Lts.After-is-taken (
-  Reads''''''.Asked,
-  Reads''''''.Learnt,
-  Reads.Asked,
-  Reads.Learnt,
-  Reads'''.Asked,
-  Reads'''.Learnt,
-  Reads''''''''.Asked,
-  Reads''''''''.Learnt,
-  Reads'''''''.Asked,
-  Reads'''''''.Learnt,
-  Reads''''.Asked,
-  Reads''''.Learnt,
-  Reads'''''.Asked,
-  Reads'''''.Learnt,
-  Reads''.Asked,
-  Reads''.Learnt,
-  Reads''''''''''.Asked,
-  Reads''''''''''.Learnt,
-  Reads'''''''''.Asked,
-  Reads'''''''''.Learnt,
-)
-    Reads'.Pre Reads'.Post
+After-is-taken = Lts.After-is-taken readings Reads'.Pre Reads'.Post
 
 abbrev pub Then1 : Type 0
-Then1 = Lts.Then1 (
-  Reads''''''.Asked,
-  Reads''''''.Learnt,
-  Reads.Asked,
-  Reads.Learnt,
-  Reads'''.Asked,
-  Reads'''.Learnt,
-  Reads''''''''.Asked,
-  Reads''''''''.Learnt,
-  Reads'''''''.Asked,
-  Reads'''''''.Learnt,
-  Reads''''.Asked,
-  Reads''''.Learnt,
-  Reads'''''.Asked,
-  Reads'''''.Learnt,
-  Reads''.Asked,
-  Reads''.Learnt,
-  Reads''''''''''.Asked,
-  Reads''''''''''.Learnt,
-  Reads'''''''''.Asked,
-  Reads'''''''''.Learnt,
-) Reads'.Pre Reads'.Post
+Then1 = Lts.Then1 readings Reads'.Pre Reads'.Post
 
 abbrev pub Then2 : Type 0
-Then2 = Lts.Then2 (
-  Reads''''''.Asked,
-  Reads''''''.Learnt,
-  Reads.Asked,
-  Reads.Learnt,
-  Reads'''.Asked,
-  Reads'''.Learnt,
-  Reads''''''''.Asked,
-  Reads''''''''.Learnt,
-  Reads'''''''.Asked,
-  Reads'''''''.Learnt,
-  Reads''''.Asked,
-  Reads''''.Learnt,
-  Reads'''''.Asked,
-  Reads'''''.Learnt,
-  Reads''.Asked,
-  Reads''.Learnt,
-  Reads''''''''''.Asked,
-  Reads''''''''''.Learnt,
-  Reads'''''''''.Asked,
-  Reads'''''''''.Learnt,
-) Reads'.Pre Reads'.Post
+Then2 = Lts.Then2 readings Reads'.Pre Reads'.Post
 
 abbrev pub After-switch-to-arg : Type 0
-After-switch-to-arg = Lts.After-switch-to-arg (
-  Reads''''''.Asked,
-  Reads''''''.Learnt,
-  Reads.Asked,
-  Reads.Learnt,
-  Reads'''.Asked,
-  Reads'''.Learnt,
-  Reads''''''''.Asked,
-  Reads''''''''.Learnt,
-  Reads'''''''.Asked,
-  Reads'''''''.Learnt,
-  Reads''''.Asked,
-  Reads''''.Learnt,
-  Reads'''''.Asked,
-  Reads'''''.Learnt,
-  Reads''.Asked,
-  Reads''.Learnt,
-  Reads''''''''''.Asked,
-  Reads''''''''''.Learnt,
-  Reads'''''''''.Asked,
-  Reads'''''''''.Learnt,
-)
-    Reads'.Pre Reads'.Post
+After-switch-to-arg = Lts.After-switch-to-arg readings Reads'.Pre Reads'.Post
 
 abbrev pub After-switch-to-arg2 : Type 0
-After-switch-to-arg2 = Lts.After-switch-to-arg2 (
-  Reads''''''.Asked,
-  Reads''''''.Learnt,
-  Reads.Asked,
-  Reads.Learnt,
-  Reads'''.Asked,
-  Reads'''.Learnt,
-  Reads''''''''.Asked,
-  Reads''''''''.Learnt,
-  Reads'''''''.Asked,
-  Reads'''''''.Learnt,
-  Reads''''.Asked,
-  Reads''''.Learnt,
-  Reads'''''.Asked,
-  Reads'''''.Learnt,
-  Reads''.Asked,
-  Reads''.Learnt,
-  Reads''''''''''.Asked,
-  Reads''''''''''.Learnt,
-  Reads'''''''''.Asked,
-  Reads'''''''''.Learnt,
-)
-    Reads'.Pre Reads'.Post
+After-switch-to-arg2 = Lts.After-switch-to-arg2 readings Reads'.Pre Reads'.Post
 
 abbrev pub After-switch-to-arg3 : Type 0
-After-switch-to-arg3 = Lts.After-switch-to-arg3 (
-  Reads''''''.Asked,
-  Reads''''''.Learnt,
-  Reads.Asked,
-  Reads.Learnt,
-  Reads'''.Asked,
-  Reads'''.Learnt,
-  Reads''''''''.Asked,
-  Reads''''''''.Learnt,
-  Reads'''''''.Asked,
-  Reads'''''''.Learnt,
-  Reads''''.Asked,
-  Reads''''.Learnt,
-  Reads'''''.Asked,
-  Reads'''''.Learnt,
-  Reads''.Asked,
-  Reads''.Learnt,
-  Reads''''''''''.Asked,
-  Reads''''''''''.Learnt,
-  Reads'''''''''.Asked,
-  Reads'''''''''.Learnt,
-)
-    Reads'.Pre Reads'.Post
+After-switch-to-arg3 = Lts.After-switch-to-arg3 readings Reads'.Pre Reads'.Post
 
 abbrev pub After-switch-to-arg4 : Type 0
-After-switch-to-arg4 = Lts.After-switch-to-arg4 (
-  Reads''''''.Asked,
-  Reads''''''.Learnt,
-  Reads.Asked,
-  Reads.Learnt,
-  Reads'''.Asked,
-  Reads'''.Learnt,
-  Reads''''''''.Asked,
-  Reads''''''''.Learnt,
-  Reads'''''''.Asked,
-  Reads'''''''.Learnt,
-  Reads''''.Asked,
-  Reads''''.Learnt,
-  Reads'''''.Asked,
-  Reads'''''.Learnt,
-  Reads''.Asked,
-  Reads''.Learnt,
-  Reads''''''''''.Asked,
-  Reads''''''''''.Learnt,
-  Reads'''''''''.Asked,
-  Reads'''''''''.Learnt,
-)
-    Reads'.Pre Reads'.Post
+After-switch-to-arg4 = Lts.After-switch-to-arg4 readings Reads'.Pre Reads'.Post
 
 abbrev pub After-switch-to : Type 0
-After-switch-to = Lts.After-switch-to (
-  Reads''''''.Asked,
-  Reads''''''.Learnt,
-  Reads.Asked,
-  Reads.Learnt,
-  Reads'''.Asked,
-  Reads'''.Learnt,
-  Reads''''''''.Asked,
-  Reads''''''''.Learnt,
-  Reads'''''''.Asked,
-  Reads'''''''.Learnt,
-  Reads''''.Asked,
-  Reads''''.Learnt,
-  Reads'''''.Asked,
-  Reads'''''.Learnt,
-  Reads''.Asked,
-  Reads''.Learnt,
-  Reads''''''''''.Asked,
-  Reads''''''''''.Learnt,
-  Reads'''''''''.Asked,
-  Reads'''''''''.Learnt,
-)
-    Reads'.Pre Reads'.Post
+After-switch-to = Lts.After-switch-to readings Reads'.Pre Reads'.Post
 
 abbrev pub After-pending : Type 0
-After-pending = Lts.After-pending (
-  Reads''''''.Asked,
-  Reads''''''.Learnt,
-  Reads.Asked,
-  Reads.Learnt,
-  Reads'''.Asked,
-  Reads'''.Learnt,
-  Reads''''''''.Asked,
-  Reads''''''''.Learnt,
-  Reads'''''''.Asked,
-  Reads'''''''.Learnt,
-  Reads''''.Asked,
-  Reads''''.Learnt,
-  Reads'''''.Asked,
-  Reads'''''.Learnt,
-  Reads''.Asked,
-  Reads''.Learnt,
-  Reads''''''''''.Asked,
-  Reads''''''''''.Learnt,
-  Reads'''''''''.Asked,
-  Reads'''''''''.Learnt,
-)
-    Reads'.Pre Reads'.Post
+After-pending = Lts.After-pending readings Reads'.Pre Reads'.Post
 
 abbrev pub After-circuits : Type 0
-After-circuits = Lts.After-circuits (
-  Reads''''''.Asked,
-  Reads''''''.Learnt,
-  Reads.Asked,
-  Reads.Learnt,
-  Reads'''.Asked,
-  Reads'''.Learnt,
-  Reads''''''''.Asked,
-  Reads''''''''.Learnt,
-  Reads'''''''.Asked,
-  Reads'''''''.Learnt,
-  Reads''''.Asked,
-  Reads''''.Learnt,
-  Reads'''''.Asked,
-  Reads'''''.Learnt,
-  Reads''.Asked,
-  Reads''.Learnt,
-  Reads''''''''''.Asked,
-  Reads''''''''''.Learnt,
-  Reads'''''''''.Asked,
-  Reads'''''''''.Learnt,
-)
-    Reads'.Pre Reads'.Post
+After-circuits = Lts.After-circuits readings Reads'.Pre Reads'.Post
 
 abbrev pub After-inflight : Type 0
-After-inflight = Lts.After-inflight (
-  Reads''''''.Asked,
-  Reads''''''.Learnt,
-  Reads.Asked,
-  Reads.Learnt,
-  Reads'''.Asked,
-  Reads'''.Learnt,
-  Reads''''''''.Asked,
-  Reads''''''''.Learnt,
-  Reads'''''''.Asked,
-  Reads'''''''.Learnt,
-  Reads''''.Asked,
-  Reads''''.Learnt,
-  Reads'''''.Asked,
-  Reads'''''.Learnt,
-  Reads''.Asked,
-  Reads''.Learnt,
-  Reads''''''''''.Asked,
-  Reads''''''''''.Learnt,
-  Reads'''''''''.Asked,
-  Reads'''''''''.Learnt,
-)
-    Reads'.Pre Reads'.Post
+After-inflight = Lts.After-inflight readings Reads'.Pre Reads'.Post
 
 abbrev pub After-out : Type 0
-After-out = Lts.After-out (
-  Reads''''''.Asked,
-  Reads''''''.Learnt,
-  Reads.Asked,
-  Reads.Learnt,
-  Reads'''.Asked,
-  Reads'''.Learnt,
-  Reads''''''''.Asked,
-  Reads''''''''.Learnt,
-  Reads'''''''.Asked,
-  Reads'''''''.Learnt,
-  Reads''''.Asked,
-  Reads''''.Learnt,
-  Reads'''''.Asked,
-  Reads'''''.Learnt,
-  Reads''.Asked,
-  Reads''.Learnt,
-  Reads''''''''''.Asked,
-  Reads''''''''''.Learnt,
-  Reads'''''''''.Asked,
-  Reads'''''''''.Learnt,
-) Reads'.Pre Reads'.Post
+After-out = Lts.After-out readings Reads'.Pre Reads'.Post
 
 abbrev pub After-slice-known2 : Type 0
-After-slice-known2 = Lts.After-slice-known2 (
-  Reads''''''.Asked,
-  Reads''''''.Learnt,
-  Reads.Asked,
-  Reads.Learnt,
-  Reads'''.Asked,
-  Reads'''.Learnt,
-  Reads''''''''.Asked,
-  Reads''''''''.Learnt,
-  Reads'''''''.Asked,
-  Reads'''''''.Learnt,
-  Reads''''.Asked,
-  Reads''''.Learnt,
-  Reads'''''.Asked,
-  Reads'''''.Learnt,
-  Reads''.Asked,
-  Reads''.Learnt,
-  Reads''''''''''.Asked,
-  Reads''''''''''.Learnt,
-  Reads'''''''''.Asked,
-  Reads'''''''''.Learnt,
-)
-    Reads'.Pre Reads'.Post
+After-slice-known2 = Lts.After-slice-known2 readings Reads'.Pre Reads'.Post
 
 abbrev pub Else2 : Type 0
-Else2 = Lts.Else2 (
-  Reads''''''.Asked,
-  Reads''''''.Learnt,
-  Reads.Asked,
-  Reads.Learnt,
-  Reads'''.Asked,
-  Reads'''.Learnt,
-  Reads''''''''.Asked,
-  Reads''''''''.Learnt,
-  Reads'''''''.Asked,
-  Reads'''''''.Learnt,
-  Reads''''.Asked,
-  Reads''''.Learnt,
-  Reads'''''.Asked,
-  Reads'''''.Learnt,
-  Reads''.Asked,
-  Reads''.Learnt,
-  Reads''''''''''.Asked,
-  Reads''''''''''.Learnt,
-  Reads'''''''''.Asked,
-  Reads'''''''''.Learnt,
-) Reads'.Pre Reads'.Post
+Else2 = Lts.Else2 readings Reads'.Pre Reads'.Post
 
 abbrev pub After-taken-with : Type 0
-After-taken-with = Lts.After-taken-with (
-  Reads''''''.Asked,
-  Reads''''''.Learnt,
-  Reads.Asked,
-  Reads.Learnt,
-  Reads'''.Asked,
-  Reads'''.Learnt,
-  Reads''''''''.Asked,
-  Reads''''''''.Learnt,
-  Reads'''''''.Asked,
-  Reads'''''''.Learnt,
-  Reads''''.Asked,
-  Reads''''.Learnt,
-  Reads'''''.Asked,
-  Reads'''''.Learnt,
-  Reads''.Asked,
-  Reads''.Learnt,
-  Reads''''''''''.Asked,
-  Reads''''''''''.Learnt,
-  Reads'''''''''.Asked,
-  Reads'''''''''.Learnt,
-)
-    Reads'.Pre Reads'.Post
+After-taken-with = Lts.After-taken-with readings Reads'.Pre Reads'.Post
 
 abbrev pub Else1 : Type 0
-Else1 = Lts.Else1 (
-  Reads''''''.Asked,
-  Reads''''''.Learnt,
-  Reads.Asked,
-  Reads.Learnt,
-  Reads'''.Asked,
-  Reads'''.Learnt,
-  Reads''''''''.Asked,
-  Reads''''''''.Learnt,
-  Reads'''''''.Asked,
-  Reads'''''''.Learnt,
-  Reads''''.Asked,
-  Reads''''.Learnt,
-  Reads'''''.Asked,
-  Reads'''''.Learnt,
-  Reads''.Asked,
-  Reads''.Learnt,
-  Reads''''''''''.Asked,
-  Reads''''''''''.Learnt,
-  Reads'''''''''.Asked,
-  Reads'''''''''.Learnt,
-) Reads'.Pre Reads'.Post
+Else1 = Lts.Else1 readings Reads'.Pre Reads'.Post
 
 abbrev pub After-refused : Type 0
-After-refused = Lts.After-refused (
-  Reads''''''.Asked,
-  Reads''''''.Learnt,
-  Reads.Asked,
-  Reads.Learnt,
-  Reads'''.Asked,
-  Reads'''.Learnt,
-  Reads''''''''.Asked,
-  Reads''''''''.Learnt,
-  Reads'''''''.Asked,
-  Reads'''''''.Learnt,
-  Reads''''.Asked,
-  Reads''''.Learnt,
-  Reads'''''.Asked,
-  Reads'''''.Learnt,
-  Reads''.Asked,
-  Reads''.Learnt,
-  Reads''''''''''.Asked,
-  Reads''''''''''.Learnt,
-  Reads'''''''''.Asked,
-  Reads'''''''''.Learnt,
-)
-    Reads'.Pre Reads'.Post
+After-refused = Lts.After-refused readings Reads'.Pre Reads'.Post
 
 abbrev pub Need-used-requires : Type 0
-Need-used-requires = Lts.Need-used-requires (
-  Reads''''''.Asked,
-  Reads''''''.Learnt,
-  Reads.Asked,
-  Reads.Learnt,
-  Reads'''.Asked,
-  Reads'''.Learnt,
-  Reads''''''''.Asked,
-  Reads''''''''.Learnt,
-  Reads'''''''.Asked,
-  Reads'''''''.Learnt,
-  Reads''''.Asked,
-  Reads''''.Learnt,
-  Reads'''''.Asked,
-  Reads'''''.Learnt,
-  Reads''.Asked,
-  Reads''.Learnt,
-  Reads''''''''''.Asked,
-  Reads''''''''''.Learnt,
-  Reads'''''''''.Asked,
-  Reads'''''''''.Learnt,
-)
-    Reads'.Pre Reads'.Post
+Need-used-requires = Lts.Need-used-requires readings Reads'.Pre Reads'.Post
 
 abbrev pub Need-entry-answer-requires : Type 0
-Need-entry-answer-requires = Lts.Need-entry-answer-requires (
-  Reads''''''.Asked,
-  Reads''''''.Learnt,
-  Reads.Asked,
-  Reads.Learnt,
-  Reads'''.Asked,
-  Reads'''.Learnt,
-  Reads''''''''.Asked,
-  Reads''''''''.Learnt,
-  Reads'''''''.Asked,
-  Reads'''''''.Learnt,
-  Reads''''.Asked,
-  Reads''''.Learnt,
-  Reads'''''.Asked,
-  Reads'''''.Learnt,
-  Reads''.Asked,
-  Reads''.Learnt,
-  Reads''''''''''.Asked,
-  Reads''''''''''.Learnt,
-  Reads'''''''''.Asked,
-  Reads'''''''''.Learnt,
-) Reads'.Pre Reads'.Post
+Need-entry-answer-requires = Lts.Need-entry-answer-requires readings Reads'.Pre Reads'.Post
 
 abbrev pub Need-generation-answer-requires : Type 0
-Need-generation-answer-requires = Lts.Need-generation-answer-requires (
-  Reads''''''.Asked,
-  Reads''''''.Learnt,
-  Reads.Asked,
-  Reads.Learnt,
-  Reads'''.Asked,
-  Reads'''.Learnt,
-  Reads''''''''.Asked,
-  Reads''''''''.Learnt,
-  Reads'''''''.Asked,
-  Reads'''''''.Learnt,
-  Reads''''.Asked,
-  Reads''''.Learnt,
-  Reads'''''.Asked,
-  Reads'''''.Learnt,
-  Reads''.Asked,
-  Reads''.Learnt,
-  Reads''''''''''.Asked,
-  Reads''''''''''.Learnt,
-  Reads'''''''''.Asked,
-  Reads'''''''''.Learnt,
-) Reads'.Pre Reads'.Post
+Need-generation-answer-requires = Lts.Need-generation-answer-requires readings Reads'.Pre Reads'.Post
 
 abbrev pub Need-changed-requires : Type 0
-Need-changed-requires = Lts.Need-changed-requires (
-  Reads''''''.Asked,
-  Reads''''''.Learnt,
-  Reads.Asked,
-  Reads.Learnt,
-  Reads'''.Asked,
-  Reads'''.Learnt,
-  Reads''''''''.Asked,
-  Reads''''''''.Learnt,
-  Reads'''''''.Asked,
-  Reads'''''''.Learnt,
-  Reads''''.Asked,
-  Reads''''.Learnt,
-  Reads'''''.Asked,
-  Reads'''''.Learnt,
-  Reads''.Asked,
-  Reads''.Learnt,
-  Reads''''''''''.Asked,
-  Reads''''''''''.Learnt,
-  Reads'''''''''.Asked,
-  Reads'''''''''.Learnt,
-)
-    Reads'.Pre Reads'.Post
+Need-changed-requires = Lts.Need-changed-requires readings Reads'.Pre Reads'.Post
 
 abbrev pub Need-change-answer-requires : Type 0
-Need-change-answer-requires = Lts.Need-change-answer-requires (
-  Reads''''''.Asked,
-  Reads''''''.Learnt,
-  Reads.Asked,
-  Reads.Learnt,
-  Reads'''.Asked,
-  Reads'''.Learnt,
-  Reads''''''''.Asked,
-  Reads''''''''.Learnt,
-  Reads'''''''.Asked,
-  Reads'''''''.Learnt,
-  Reads''''.Asked,
-  Reads''''.Learnt,
-  Reads'''''.Asked,
-  Reads'''''.Learnt,
-  Reads''.Asked,
-  Reads''.Learnt,
-  Reads''''''''''.Asked,
-  Reads''''''''''.Learnt,
-  Reads'''''''''.Asked,
-  Reads'''''''''.Learnt,
-) Reads'.Pre Reads'.Post
+Need-change-answer-requires = Lts.Need-change-answer-requires readings Reads'.Pre Reads'.Post
 
 abbrev pub Need-first-refusal-requires : Type 0
-Need-first-refusal-requires = Lts.Need-first-refusal-requires (
-  Reads''''''.Asked,
-  Reads''''''.Learnt,
-  Reads.Asked,
-  Reads.Learnt,
-  Reads'''.Asked,
-  Reads'''.Learnt,
-  Reads''''''''.Asked,
-  Reads''''''''.Learnt,
-  Reads'''''''.Asked,
-  Reads'''''''.Learnt,
-  Reads''''.Asked,
-  Reads''''.Learnt,
-  Reads'''''.Asked,
-  Reads'''''.Learnt,
-  Reads''.Asked,
-  Reads''.Learnt,
-  Reads''''''''''.Asked,
-  Reads''''''''''.Learnt,
-  Reads'''''''''.Asked,
-  Reads'''''''''.Learnt,
-) Reads'.Pre Reads'.Post
+Need-first-refusal-requires = Lts.Need-first-refusal-requires readings Reads'.Pre Reads'.Post
 
 abbrev pub Need-first-refusal-requires-2 : Type 0
-Need-first-refusal-requires-2 = Lts.Need-first-refusal-requires-2 (
-  Reads''''''.Asked,
-  Reads''''''.Learnt,
-  Reads.Asked,
-  Reads.Learnt,
-  Reads'''.Asked,
-  Reads'''.Learnt,
-  Reads''''''''.Asked,
-  Reads''''''''.Learnt,
-  Reads'''''''.Asked,
-  Reads'''''''.Learnt,
-  Reads''''.Asked,
-  Reads''''.Learnt,
-  Reads'''''.Asked,
-  Reads'''''.Learnt,
-  Reads''.Asked,
-  Reads''.Learnt,
-  Reads''''''''''.Asked,
-  Reads''''''''''.Learnt,
-  Reads'''''''''.Asked,
-  Reads'''''''''.Learnt,
-) Reads'.Pre Reads'.Post
+Need-first-refusal-requires-2 = Lts.Need-first-refusal-requires-2 readings Reads'.Pre Reads'.Post
 
 abbrev pub Need-is-taken-requires : Type 0
-Need-is-taken-requires = Lts.Need-is-taken-requires (
-  Reads''''''.Asked,
-  Reads''''''.Learnt,
-  Reads.Asked,
-  Reads.Learnt,
-  Reads'''.Asked,
-  Reads'''.Learnt,
-  Reads''''''''.Asked,
-  Reads''''''''.Learnt,
-  Reads'''''''.Asked,
-  Reads'''''''.Learnt,
-  Reads''''.Asked,
-  Reads''''.Learnt,
-  Reads'''''.Asked,
-  Reads'''''.Learnt,
-  Reads''.Asked,
-  Reads''.Learnt,
-  Reads''''''''''.Asked,
-  Reads''''''''''.Learnt,
-  Reads'''''''''.Asked,
-  Reads'''''''''.Learnt,
-) Reads'.Pre Reads'.Post
+Need-is-taken-requires = Lts.Need-is-taken-requires readings Reads'.Pre Reads'.Post
 
 abbrev pub Need-switch-to-requires : Type 0
-Need-switch-to-requires = Lts.Need-switch-to-requires (
-  Reads''''''.Asked,
-  Reads''''''.Learnt,
-  Reads.Asked,
-  Reads.Learnt,
-  Reads'''.Asked,
-  Reads'''.Learnt,
-  Reads''''''''.Asked,
-  Reads''''''''.Learnt,
-  Reads'''''''.Asked,
-  Reads'''''''.Learnt,
-  Reads''''.Asked,
-  Reads''''.Learnt,
-  Reads'''''.Asked,
-  Reads'''''.Learnt,
-  Reads''.Asked,
-  Reads''.Learnt,
-  Reads''''''''''.Asked,
-  Reads''''''''''.Learnt,
-  Reads'''''''''.Asked,
-  Reads'''''''''.Learnt,
-) Reads'.Pre Reads'.Post
+Need-switch-to-requires = Lts.Need-switch-to-requires readings Reads'.Pre Reads'.Post
 
 abbrev pub Need-same-length : Type 0
-Need-same-length = Lts.Need-same-length (
-  Reads''''''.Asked,
-  Reads''''''.Learnt,
-  Reads.Asked,
-  Reads.Learnt,
-  Reads'''.Asked,
-  Reads'''.Learnt,
-  Reads''''''''.Asked,
-  Reads''''''''.Learnt,
-  Reads'''''''.Asked,
-  Reads'''''''.Learnt,
-  Reads''''.Asked,
-  Reads''''.Learnt,
-  Reads'''''.Asked,
-  Reads'''''.Learnt,
-  Reads''.Asked,
-  Reads''.Learnt,
-  Reads''''''''''.Asked,
-  Reads''''''''''.Learnt,
-  Reads'''''''''.Asked,
-  Reads'''''''''.Learnt,
-)
-    Reads'.Pre Reads'.Post
+Need-same-length = Lts.Need-same-length readings Reads'.Pre Reads'.Post
 
 abbrev pub Need-same-length-2 : Type 0
-Need-same-length-2 = Lts.Need-same-length-2 (
-  Reads''''''.Asked,
-  Reads''''''.Learnt,
-  Reads.Asked,
-  Reads.Learnt,
-  Reads'''.Asked,
-  Reads'''.Learnt,
-  Reads''''''''.Asked,
-  Reads''''''''.Learnt,
-  Reads'''''''.Asked,
-  Reads'''''''.Learnt,
-  Reads''''.Asked,
-  Reads''''.Learnt,
-  Reads'''''.Asked,
-  Reads'''''.Learnt,
-  Reads''.Asked,
-  Reads''.Learnt,
-  Reads''''''''''.Asked,
-  Reads''''''''''.Learnt,
-  Reads'''''''''.Asked,
-  Reads'''''''''.Learnt,
-)
-    Reads'.Pre Reads'.Post
+Need-same-length-2 = Lts.Need-same-length-2 readings Reads'.Pre Reads'.Post
 
 abbrev pub Need-same-length-3 : Type 0
-Need-same-length-3 = Lts.Need-same-length-3 (
-  Reads''''''.Asked,
-  Reads''''''.Learnt,
-  Reads.Asked,
-  Reads.Learnt,
-  Reads'''.Asked,
-  Reads'''.Learnt,
-  Reads''''''''.Asked,
-  Reads''''''''.Learnt,
-  Reads'''''''.Asked,
-  Reads'''''''.Learnt,
-  Reads''''.Asked,
-  Reads''''.Learnt,
-  Reads'''''.Asked,
-  Reads'''''.Learnt,
-  Reads''.Asked,
-  Reads''.Learnt,
-  Reads''''''''''.Asked,
-  Reads''''''''''.Learnt,
-  Reads'''''''''.Asked,
-  Reads'''''''''.Learnt,
-)
-    Reads'.Pre Reads'.Post
+Need-same-length-3 = Lts.Need-same-length-3 readings Reads'.Pre Reads'.Post
 
 abbrev pub Need-same-length-4 : Type 0
-Need-same-length-4 = Lts.Need-same-length-4 (
-  Reads''''''.Asked,
-  Reads''''''.Learnt,
-  Reads.Asked,
-  Reads.Learnt,
-  Reads'''.Asked,
-  Reads'''.Learnt,
-  Reads''''''''.Asked,
-  Reads''''''''.Learnt,
-  Reads'''''''.Asked,
-  Reads'''''''.Learnt,
-  Reads''''.Asked,
-  Reads''''.Learnt,
-  Reads'''''.Asked,
-  Reads'''''.Learnt,
-  Reads''.Asked,
-  Reads''.Learnt,
-  Reads''''''''''.Asked,
-  Reads''''''''''.Learnt,
-  Reads'''''''''.Asked,
-  Reads'''''''''.Learnt,
-)
-    Reads'.Pre Reads'.Post
+Need-same-length-4 = Lts.Need-same-length-4 readings Reads'.Pre Reads'.Post
 
 abbrev pub Need-returns : Type 0
-Need-returns = Lts.Need-returns (
-  Reads''''''.Asked,
-  Reads''''''.Learnt,
-  Reads.Asked,
-  Reads.Learnt,
-  Reads'''.Asked,
-  Reads'''.Learnt,
-  Reads''''''''.Asked,
-  Reads''''''''.Learnt,
-  Reads'''''''.Asked,
-  Reads'''''''.Learnt,
-  Reads''''.Asked,
-  Reads''''.Learnt,
-  Reads'''''.Asked,
-  Reads'''''.Learnt,
-  Reads''.Asked,
-  Reads''.Learnt,
-  Reads''''''''''.Asked,
-  Reads''''''''''.Learnt,
-  Reads'''''''''.Asked,
-  Reads'''''''''.Learnt,
-)
-    Reads'.Pre Reads'.Post
+Need-returns = Lts.Need-returns readings Reads'.Pre Reads'.Post
 
 abbrev pub Need-taken-with-requires : Type 0
-Need-taken-with-requires = Lts.Need-taken-with-requires (
-  Reads''''''.Asked,
-  Reads''''''.Learnt,
-  Reads.Asked,
-  Reads.Learnt,
-  Reads'''.Asked,
-  Reads'''.Learnt,
-  Reads''''''''.Asked,
-  Reads''''''''.Learnt,
-  Reads'''''''.Asked,
-  Reads'''''''.Learnt,
-  Reads''''.Asked,
-  Reads''''.Learnt,
-  Reads'''''.Asked,
-  Reads'''''.Learnt,
-  Reads''.Asked,
-  Reads''.Learnt,
-  Reads''''''''''.Asked,
-  Reads''''''''''.Learnt,
-  Reads'''''''''.Asked,
-  Reads'''''''''.Learnt,
-) Reads'.Pre Reads'.Post
+Need-taken-with-requires = Lts.Need-taken-with-requires readings Reads'.Pre Reads'.Post
 
 abbrev pub Need-same-length-5 : Type 0
-Need-same-length-5 = Lts.Need-same-length-5 (
-  Reads''''''.Asked,
-  Reads''''''.Learnt,
-  Reads.Asked,
-  Reads.Learnt,
-  Reads'''.Asked,
-  Reads'''.Learnt,
-  Reads''''''''.Asked,
-  Reads''''''''.Learnt,
-  Reads'''''''.Asked,
-  Reads'''''''.Learnt,
-  Reads''''.Asked,
-  Reads''''.Learnt,
-  Reads'''''.Asked,
-  Reads'''''.Learnt,
-  Reads''.Asked,
-  Reads''.Learnt,
-  Reads''''''''''.Asked,
-  Reads''''''''''.Learnt,
-  Reads'''''''''.Asked,
-  Reads'''''''''.Learnt,
-)
-    Reads'.Pre Reads'.Post
+Need-same-length-5 = Lts.Need-same-length-5 readings Reads'.Pre Reads'.Post
 
 abbrev pub Need-same-length-6 : Type 0
-Need-same-length-6 = Lts.Need-same-length-6 (
-  Reads''''''.Asked,
-  Reads''''''.Learnt,
-  Reads.Asked,
-  Reads.Learnt,
-  Reads'''.Asked,
-  Reads'''.Learnt,
-  Reads''''''''.Asked,
-  Reads''''''''.Learnt,
-  Reads'''''''.Asked,
-  Reads'''''''.Learnt,
-  Reads''''.Asked,
-  Reads''''.Learnt,
-  Reads'''''.Asked,
-  Reads'''''.Learnt,
-  Reads''.Asked,
-  Reads''.Learnt,
-  Reads''''''''''.Asked,
-  Reads''''''''''.Learnt,
-  Reads'''''''''.Asked,
-  Reads'''''''''.Learnt,
-)
-    Reads'.Pre Reads'.Post
+Need-same-length-6 = Lts.Need-same-length-6 readings Reads'.Pre Reads'.Post
 
 abbrev pub Need-returns-2 : Type 0
-Need-returns-2 = Lts.Need-returns-2 (
-  Reads''''''.Asked,
-  Reads''''''.Learnt,
-  Reads.Asked,
-  Reads.Learnt,
-  Reads'''.Asked,
-  Reads'''.Learnt,
-  Reads''''''''.Asked,
-  Reads''''''''.Learnt,
-  Reads'''''''.Asked,
-  Reads'''''''.Learnt,
-  Reads''''.Asked,
-  Reads''''.Learnt,
-  Reads'''''.Asked,
-  Reads'''''.Learnt,
-  Reads''.Asked,
-  Reads''.Learnt,
-  Reads''''''''''.Asked,
-  Reads''''''''''.Learnt,
-  Reads'''''''''.Asked,
-  Reads'''''''''.Learnt,
-)
-    Reads'.Pre Reads'.Post
+Need-returns-2 = Lts.Need-returns-2 readings Reads'.Pre Reads'.Post
 
 abbrev pub Need-refused-requires : Type 0
-Need-refused-requires = Lts.Need-refused-requires (
-  Reads''''''.Asked,
-  Reads''''''.Learnt,
-  Reads.Asked,
-  Reads.Learnt,
-  Reads'''.Asked,
-  Reads'''.Learnt,
-  Reads''''''''.Asked,
-  Reads''''''''.Learnt,
-  Reads'''''''.Asked,
-  Reads'''''''.Learnt,
-  Reads''''.Asked,
-  Reads''''.Learnt,
-  Reads'''''.Asked,
-  Reads'''''.Learnt,
-  Reads''.Asked,
-  Reads''.Learnt,
-  Reads''''''''''.Asked,
-  Reads''''''''''.Learnt,
-  Reads'''''''''.Asked,
-  Reads'''''''''.Learnt,
-)
-    Reads'.Pre Reads'.Post
+Need-refused-requires = Lts.Need-refused-requires readings Reads'.Pre Reads'.Post
 
 abbrev pub Need-same-length-7 : Type 0
-Need-same-length-7 = Lts.Need-same-length-7 (
-  Reads''''''.Asked,
-  Reads''''''.Learnt,
-  Reads.Asked,
-  Reads.Learnt,
-  Reads'''.Asked,
-  Reads'''.Learnt,
-  Reads''''''''.Asked,
-  Reads''''''''.Learnt,
-  Reads'''''''.Asked,
-  Reads'''''''.Learnt,
-  Reads''''.Asked,
-  Reads''''.Learnt,
-  Reads'''''.Asked,
-  Reads'''''.Learnt,
-  Reads''.Asked,
-  Reads''.Learnt,
-  Reads''''''''''.Asked,
-  Reads''''''''''.Learnt,
-  Reads'''''''''.Asked,
-  Reads'''''''''.Learnt,
-)
-    Reads'.Pre Reads'.Post
+Need-same-length-7 = Lts.Need-same-length-7 readings Reads'.Pre Reads'.Post
 
 abbrev pub Need-same-length-8 : Type 0
-Need-same-length-8 = Lts.Need-same-length-8 (
-  Reads''''''.Asked,
-  Reads''''''.Learnt,
-  Reads.Asked,
-  Reads.Learnt,
-  Reads'''.Asked,
-  Reads'''.Learnt,
-  Reads''''''''.Asked,
-  Reads''''''''.Learnt,
-  Reads'''''''.Asked,
-  Reads'''''''.Learnt,
-  Reads''''.Asked,
-  Reads''''.Learnt,
-  Reads'''''.Asked,
-  Reads'''''.Learnt,
-  Reads''.Asked,
-  Reads''.Learnt,
-  Reads''''''''''.Asked,
-  Reads''''''''''.Learnt,
-  Reads'''''''''.Asked,
-  Reads'''''''''.Learnt,
-)
-    Reads'.Pre Reads'.Post
+Need-same-length-8 = Lts.Need-same-length-8 readings Reads'.Pre Reads'.Post
 
 abbrev pub Need-returns-3 : Type 0
-Need-returns-3 = Lts.Need-returns-3 (
-  Reads''''''.Asked,
-  Reads''''''.Learnt,
-  Reads.Asked,
-  Reads.Learnt,
-  Reads'''.Asked,
-  Reads'''.Learnt,
-  Reads''''''''.Asked,
-  Reads''''''''.Learnt,
-  Reads'''''''.Asked,
-  Reads'''''''.Learnt,
-  Reads''''.Asked,
-  Reads''''.Learnt,
-  Reads'''''.Asked,
-  Reads'''''.Learnt,
-  Reads''.Asked,
-  Reads''.Learnt,
-  Reads''''''''''.Asked,
-  Reads''''''''''.Learnt,
-  Reads'''''''''.Asked,
-  Reads'''''''''.Learnt,
-)
-    Reads'.Pre Reads'.Post
+Need-returns-3 = Lts.Need-returns-3 readings Reads'.Pre Reads'.Post
 
 module _ {M : Type 1} where
-  pub spec : (answer : Need-used-requires) → (answer : Need-entry-answer-requires) → (answer : Need-generation-answer-requires) → (answer :
-      Need-changed-requires) → (answer : Need-change-answer-requires) → (answer : Need-first-refusal-requires) → (answer :
-      Need-first-refusal-requires-2) → (answer : Need-is-taken-requires) → (answer : Need-switch-to-requires) → (answer : Need-same-length) → (answer
-      : Need-same-length-2) → (answer : Need-same-length-3) → (answer : Need-same-length-4) → (answer : Need-returns) → (answer :
-      Need-taken-with-requires) → (answer : Need-same-length-5) → (answer : Need-same-length-6) → (answer : Need-returns-2) → (answer :
-      Need-refused-requires) → (answer : Need-same-length-7) → (answer : Need-same-length-8) → (answer : Need-returns-3) → Lts.Closed (
-        Reads''''''.Asked,
-        Reads''''''.Learnt,
-        Reads.Asked,
-        Reads.Learnt,
-        Reads'''.Asked,
-        Reads'''.Learnt,
-        Reads''''''''.Asked,
-        Reads''''''''.Learnt,
-        Reads'''''''.Asked,
-        Reads'''''''.Learnt,
-        Reads''''.Asked,
-        Reads''''.Learnt,
-        Reads'''''.Asked,
-        Reads'''''.Learnt,
-        Reads''.Asked,
-        Reads''.Learnt,
-        Reads''''''''''.Asked,
-        Reads''''''''''.Learnt,
-        Reads'''''''''.Asked,
-        Reads'''''''''.Learnt,
-      ) Reads'.Pre Reads'.Post M
-  spec = λ answer answer' answer'' answer'3 answer'4 answer'5 answer'6 answer'7 answer'8 answer'9 answer'10 answer'11 answer'12 answer'13 answer'14
-      answer'15 answer'16 answer'17 answer'18 answer'19 answer'20 answer'21. Lts.spec (
-        Reads''''''.Asked,
-        Reads''''''.Learnt,
-        Reads.Asked,
-        Reads.Learnt,
-        Reads'''.Asked,
-        Reads'''.Learnt,
-        Reads''''''''.Asked,
-        Reads''''''''.Learnt,
-        Reads'''''''.Asked,
-        Reads'''''''.Learnt,
-        Reads''''.Asked,
-        Reads''''.Learnt,
-        Reads'''''.Asked,
-        Reads'''''.Learnt,
-        Reads''.Asked,
-        Reads''.Learnt,
-        Reads''''''''''.Asked,
-        Reads''''''''''.Learnt,
-        Reads'''''''''.Asked,
-        Reads'''''''''.Learnt,
-      ) Reads'.Pre Reads'.Post answer answer' answer'' answer'3 answer'4 answer'5
-      answer'6 answer'7 answer'8 answer'9 answer'10 answer'11 answer'12 answer'13 answer'14 answer'15 answer'16 answer'17 answer'18 answer'19
+  pub spec : (answer : Need-used-requires) → (answer : Need-entry-answer-requires) →
+      (answer : Need-generation-answer-requires) → (answer : Need-changed-requires) →
+      (answer : Need-change-answer-requires) → (answer : Need-first-refusal-requires) →
+      (answer : Need-first-refusal-requires-2) → (answer : Need-is-taken-requires) → (answer : Need-switch-to-requires)
+      → (answer : Need-same-length) → (answer : Need-same-length-2) → (answer : Need-same-length-3) →
+      (answer : Need-same-length-4) → (answer : Need-returns) → (answer : Need-taken-with-requires) →
+      (answer : Need-same-length-5) → (answer : Need-same-length-6) → (answer : Need-returns-2) →
+      (answer : Need-refused-requires) → (answer : Need-same-length-7) → (answer : Need-same-length-8) →
+      (answer : Need-returns-3) → Lts.Closed readings Reads'.Pre Reads'.Post M
+  spec = λ answer answer' answer'' answer'3 answer'4 answer'5 answer'6 answer'7 answer'8 answer'9 answer'10 answer'11
+      answer'12 answer'13 answer'14 answer'15 answer'16 answer'17 answer'18 answer'19 answer'20 answer'21. Lts.spec
+      readings Reads'.Pre Reads'.Post answer answer' answer'' answer'3 answer'4 answer'5 answer'6 answer'7 answer'8
+      answer'9 answer'10 answer'11 answer'12 answer'13 answer'14 answer'15 answer'16 answer'17 answer'18 answer'19
       answer'20 answer'21
 
-  pub close : Lts.Closed (
-    Reads''''''.Asked,
-    Reads''''''.Learnt,
-    Reads.Asked,
-    Reads.Learnt,
-    Reads'''.Asked,
-    Reads'''.Learnt,
-    Reads''''''''.Asked,
-    Reads''''''''.Learnt,
-    Reads'''''''.Asked,
-    Reads'''''''.Learnt,
-    Reads''''.Asked,
-    Reads''''.Learnt,
-    Reads'''''.Asked,
-    Reads'''''.Learnt,
-    Reads''.Asked,
-    Reads''.Learnt,
-    Reads''''''''''.Asked,
-    Reads''''''''''.Learnt,
-    Reads'''''''''.Asked,
-    Reads'''''''''.Learnt,
-  ) Reads'.Pre
-      Reads'.Post M → Statement.statement M
+  pub close : Lts.Closed readings Reads'.Pre Reads'.Post M → Statement.statement M
   unfolding Code.routine Running.tablesOf
-  close = λ closed 𝓤 H 𝓜 𝓖 𝓡. Written.close 4 Kinds.ps Kinds.r Reads'.Ghost Reads'.requires Reads'.ensures Reads'.pre-read Reads'.Pinned Reads'.Owned
-      Reads'.post-read record { M = M; 𝓤 = 𝓤; H = H; 𝓜 = 𝓜; 𝓖 = 𝓖; 𝓡 = 𝓡 } Code.env Key.name Code.function (Code.unfolded 𝓤 H 𝓜 𝓡) (λ κs a g. tt) (λ
-      κs. Reads'.owns κs record { M = M; 𝓤 = 𝓤; H = H; 𝓜 = 𝓜; 𝓖 = 𝓖; 𝓡 = 𝓡 }) (Reads'.passes record { M = M; 𝓤 = 𝓤; H = H; 𝓜 = 𝓜; 𝓖 = 𝓖; 𝓡 = 𝓡 }) λ g.
-      closed 𝓤 H (𝓖 .A) (Running.givenOf 𝓤 H 𝓜 𝓖) (Run.Over 𝓤 H 𝓜 𝓖 𝓡 Code.env) (Reads''''''.known record { M = M; 𝓤 = 𝓤; H = H; 𝓜 = 𝓜; 𝓖 = 𝓖; 𝓡 = 𝓡 }
-      Code.env Symbol'''.name Symbol'''.routine Code.calls-hnsr-circuit·question·used (Met'''.met 𝓤 H 𝓜 𝓖 𝓡)) (Reads.known record {
-        M = M;
-        𝓤 = 𝓤;
-        H =
-            H;
-        𝓜 = 𝓜;
-        𝓖 = 𝓖;
-        𝓡 = 𝓡;
-      } Code.env Symbol''''''.name Symbol''''''.routine Code.calls-hnsr-circuit·revoking-calls·entry-answer (Met''''''.met 𝓤 H
-      𝓜 𝓖 𝓡)) (Reads'''.known record { M = M; 𝓤 = 𝓤; H = H; 𝓜 = 𝓜; 𝓖 = 𝓖; 𝓡 = 𝓡 } Code.env Symbol.name Symbol.routine
-      Code.calls-hnsr-circuit·acknowledge·generation-answer (Met.met 𝓤 H 𝓜 𝓖 𝓡)) (Reads''''''''.known record {
-        M = M;
-        𝓤 = 𝓤;
-        H = H;
-        𝓜 = 𝓜;
-        𝓖 = 𝓖;
-        𝓡 =
-            𝓡;
-      } Code.env Symbol'''''.name Symbol'''''.routine Code.calls-hnsr-circuit·revoking-calls·changed (Met'''''.met 𝓤 H 𝓜 𝓖 𝓡)) (Reads'''''''.known
+  close = λ closed 𝓤 H 𝓜 𝓖 𝓡. Written.close 4 Kinds.ps Kinds.r Reads'.Ghost Reads'.requires Reads'.ensures
+      Reads'.pre-read Reads'.Pinned Reads'.Owned Reads'.post-read record { M = M; 𝓤 = 𝓤; H = H; 𝓜 = 𝓜; 𝓖 = 𝓖; 𝓡 = 𝓡 }
+      Code.env Key.name Code.function (Code.unfolded 𝓤 H 𝓜 𝓡) (λ κs a g. tt) (λ κs. Reads'.owns κs
+      record { M = M; 𝓤 = 𝓤; H = H; 𝓜 = 𝓜; 𝓖 = 𝓖; 𝓡 = 𝓡 }) (Reads'.passes
+      record { M = M; 𝓤 = 𝓤; H = H; 𝓜 = 𝓜; 𝓖 = 𝓖; 𝓡 = 𝓡 }) λ g. closed 𝓤 H (𝓖 .A) (Running.givenOf 𝓤 H 𝓜 𝓖)
+      (Run.Over 𝓤 H 𝓜 𝓖 𝓡 Code.env) (Reads''''''.known record { M = M; 𝓤 = 𝓤; H = H; 𝓜 = 𝓜; 𝓖 = 𝓖; 𝓡 = 𝓡 } Code.env
+      Symbol'''.name Symbol'''.routine Code.calls-hnsr-circuit·question·used (Met'''.met 𝓤 H 𝓜 𝓖 𝓡)) (Reads.known
+      record { M = M; 𝓤 = 𝓤; H = H; 𝓜 = 𝓜; 𝓖 = 𝓖; 𝓡 = 𝓡 } Code.env Symbol''''''.name Symbol''''''.routine
+      Code.calls-hnsr-circuit·revoking-calls·entry-answer (Met''''''.met 𝓤 H 𝓜 𝓖 𝓡)) (Reads'''.known
+      record { M = M; 𝓤 = 𝓤; H = H; 𝓜 = 𝓜; 𝓖 = 𝓖; 𝓡 = 𝓡 } Code.env Symbol.name Symbol.routine
+      Code.calls-hnsr-circuit·acknowledge·generation-answer (Met.met 𝓤 H 𝓜 𝓖 𝓡)) (Reads''''''''.known
+      record { M = M; 𝓤 = 𝓤; H = H; 𝓜 = 𝓜; 𝓖 = 𝓖; 𝓡 = 𝓡 } Code.env Symbol'''''.name Symbol'''''.routine
+      Code.calls-hnsr-circuit·revoking-calls·changed (Met'''''.met 𝓤 H 𝓜 𝓖 𝓡)) (Reads'''''''.known
       record { M = M; 𝓤 = 𝓤; H = H; 𝓜 = 𝓜; 𝓖 = 𝓖; 𝓡 = 𝓡 } Code.env Symbol''''.name Symbol''''.routine
-      Code.calls-hnsr-circuit·revoking-calls·change-answer (Met''''.met 𝓤 H 𝓜 𝓖 𝓡)) (Reads''''.known record {
-        M = M;
-        𝓤 = 𝓤;
-        H = H;
-        𝓜 = 𝓜;
-        𝓖 = 𝓖;
-        𝓡 = 𝓡;
-      } Code.env Symbol'.name Symbol'.routine Code.calls-hnsr-circuit·answer·first-refusal (Met'.met 𝓤 H 𝓜 𝓖 𝓡)) (Reads'''''.known record {
-        M = M;
-        𝓤 =
-            𝓤;
-        H = H;
-        𝓜 = 𝓜;
-        𝓖 = 𝓖;
-        𝓡 = 𝓡;
-      } Code.env Symbol''.name Symbol''.routine Code.calls-hnsr-circuit·answer·is-taken (Met''.met 𝓤 H 𝓜 𝓖 𝓡))
-      (Reads''.known record { M = M; 𝓤 = 𝓤; H = H; 𝓜 = 𝓜; 𝓖 = 𝓖; 𝓡 = 𝓡 } Code.env Symbol''''''''.name Symbol''''''''.routine
-      Code.calls-hnsr-circuit·revoking-calls·switch-to (Met''''''''.met 𝓤 H 𝓜 𝓖 𝓡)) (Reads''''''''''.known record {
-        M = M;
-        𝓤 = 𝓤;
-        H = H;
-        𝓜 = 𝓜;
-        𝓖 = 𝓖;
-        𝓡 = 𝓡;
-      } Code.env Symbol'''''''''.name Symbol'''''''''.routine Code.calls-hnsr-circuit·revoking-calls·taken-with (Met'''''''''.met 𝓤 H 𝓜 𝓖 𝓡))
-      (Reads'''''''''.known record { M = M; 𝓤 = 𝓤; H = H; 𝓜 = 𝓜; 𝓖 = 𝓖; 𝓡 = 𝓡 } Code.env Symbol'''''''.name Symbol'''''''.routine
+      Code.calls-hnsr-circuit·revoking-calls·change-answer (Met''''.met 𝓤 H 𝓜 𝓖 𝓡)) (Reads''''.known
+      record { M = M; 𝓤 = 𝓤; H = H; 𝓜 = 𝓜; 𝓖 = 𝓖; 𝓡 = 𝓡 } Code.env Symbol'.name Symbol'.routine
+      Code.calls-hnsr-circuit·answer·first-refusal (Met'.met 𝓤 H 𝓜 𝓖 𝓡)) (Reads'''''.known
+      record { M = M; 𝓤 = 𝓤; H = H; 𝓜 = 𝓜; 𝓖 = 𝓖; 𝓡 = 𝓡 } Code.env Symbol''.name Symbol''.routine
+      Code.calls-hnsr-circuit·answer·is-taken (Met''.met 𝓤 H 𝓜 𝓖 𝓡)) (Reads''.known
+      record { M = M; 𝓤 = 𝓤; H = H; 𝓜 = 𝓜; 𝓖 = 𝓖; 𝓡 = 𝓡 } Code.env Symbol''''''''.name Symbol''''''''.routine
+      Code.calls-hnsr-circuit·revoking-calls·switch-to (Met''''''''.met 𝓤 H 𝓜 𝓖 𝓡)) (Reads''''''''''.known
+      record { M = M; 𝓤 = 𝓤; H = H; 𝓜 = 𝓜; 𝓖 = 𝓖; 𝓡 = 𝓡 } Code.env Symbol'''''''''.name Symbol'''''''''.routine
+      Code.calls-hnsr-circuit·revoking-calls·taken-with (Met'''''''''.met 𝓤 H 𝓜 𝓖 𝓡)) (Reads'''''''''.known
+      record { M = M; 𝓤 = 𝓤; H = H; 𝓜 = 𝓜; 𝓖 = 𝓖; 𝓡 = 𝓡 } Code.env Symbol'''''''.name Symbol'''''''.routine
       Code.calls-hnsr-circuit·revoking-calls·refused (Met'''''''.met 𝓤 H 𝓜 𝓖 𝓡))

@@ -30,8 +30,8 @@ use borrow.Fn.Run
 use borrow.Fn.Written
 use contract.Running
 
-abbrev pub Start : Type 0
-Start = Lts.Start (
+abbrev pub readings : Lts.Claims
+readings = (
   Reads'''''.Asked,
   Reads'''''.Learnt,
   Reads''.Asked,
@@ -46,866 +46,164 @@ Start = Lts.Start (
   Reads'.Learnt,
   Reads''''''.Asked,
   Reads''''''.Learnt,
-) Reads'''.Pre Reads'''.Post
+)
+
+abbrev pub Start : Type 0
+Start = Lts.Start readings Reads'''.Pre Reads'''.Post
 
 abbrev pub After-slice-known : Type 0
-After-slice-known = Lts.After-slice-known (
-  Reads'''''.Asked,
-  Reads'''''.Learnt,
-  Reads''.Asked,
-  Reads''.Learnt,
-  Reads''''.Asked,
-  Reads''''.Learnt,
-  Reads'''''''.Asked,
-  Reads'''''''.Learnt,
-  Reads.Asked,
-  Reads.Learnt,
-  Reads'.Asked,
-  Reads'.Learnt,
-  Reads''''''.Asked,
-  Reads''''''.Learnt,
-)
-    Reads'''.Pre Reads'''.Post
+After-slice-known = Lts.After-slice-known readings Reads'''.Pre Reads'''.Post
 
 abbrev pub After-config : Type 0
-After-config = Lts.After-config (
-  Reads'''''.Asked,
-  Reads'''''.Learnt,
-  Reads''.Asked,
-  Reads''.Learnt,
-  Reads''''.Asked,
-  Reads''''.Learnt,
-  Reads'''''''.Asked,
-  Reads'''''''.Learnt,
-  Reads.Asked,
-  Reads.Learnt,
-  Reads'.Asked,
-  Reads'.Learnt,
-  Reads''''''.Asked,
-  Reads''''''.Learnt,
-)
-    Reads'''.Pre Reads'''.Post
+After-config = Lts.After-config readings Reads'''.Pre Reads'''.Post
 
 abbrev pub After-under : Type 0
-After-under = Lts.After-under (
-  Reads'''''.Asked,
-  Reads'''''.Learnt,
-  Reads''.Asked,
-  Reads''.Learnt,
-  Reads''''.Asked,
-  Reads''''.Learnt,
-  Reads'''''''.Asked,
-  Reads'''''''.Learnt,
-  Reads.Asked,
-  Reads.Learnt,
-  Reads'.Asked,
-  Reads'.Learnt,
-  Reads''''''.Asked,
-  Reads''''''.Learnt,
-)
-    Reads'''.Pre Reads'''.Post
+After-under = Lts.After-under readings Reads'''.Pre Reads'''.Post
 
 abbrev pub After-entry-answer-arg : Type 0
-After-entry-answer-arg = Lts.After-entry-answer-arg (
-  Reads'''''.Asked,
-  Reads'''''.Learnt,
-  Reads''.Asked,
-  Reads''.Learnt,
-  Reads''''.Asked,
-  Reads''''.Learnt,
-  Reads'''''''.Asked,
-  Reads'''''''.Learnt,
-  Reads.Asked,
-  Reads.Learnt,
-  Reads'.Asked,
-  Reads'.Learnt,
-  Reads''''''.Asked,
-  Reads''''''.Learnt,
-) Reads'''.Pre Reads'''.Post
+After-entry-answer-arg = Lts.After-entry-answer-arg readings Reads'''.Pre Reads'''.Post
 
 abbrev pub After-entry-answer-arg2 : Type 0
-After-entry-answer-arg2 = Lts.After-entry-answer-arg2 (
-  Reads'''''.Asked,
-  Reads'''''.Learnt,
-  Reads''.Asked,
-  Reads''.Learnt,
-  Reads''''.Asked,
-  Reads''''.Learnt,
-  Reads'''''''.Asked,
-  Reads'''''''.Learnt,
-  Reads.Asked,
-  Reads.Learnt,
-  Reads'.Asked,
-  Reads'.Learnt,
-  Reads''''''.Asked,
-  Reads''''''.Learnt,
-) Reads'''.Pre Reads'''.Post
+After-entry-answer-arg2 = Lts.After-entry-answer-arg2 readings Reads'''.Pre Reads'''.Post
 
 abbrev pub After-entry-answer : Type 0
-After-entry-answer = Lts.After-entry-answer (
-  Reads'''''.Asked,
-  Reads'''''.Learnt,
-  Reads''.Asked,
-  Reads''.Learnt,
-  Reads''''.Asked,
-  Reads''''.Learnt,
-  Reads'''''''.Asked,
-  Reads'''''''.Learnt,
-  Reads.Asked,
-  Reads.Learnt,
-  Reads'.Asked,
-  Reads'.Learnt,
-  Reads''''''.Asked,
-  Reads''''''.Learnt,
-)
-    Reads'''.Pre Reads'''.Post
+After-entry-answer = Lts.After-entry-answer readings Reads'''.Pre Reads'''.Post
 
 abbrev pub After-first : Type 0
-After-first = Lts.After-first (
-  Reads'''''.Asked,
-  Reads'''''.Learnt,
-  Reads''.Asked,
-  Reads''.Learnt,
-  Reads''''.Asked,
-  Reads''''.Learnt,
-  Reads'''''''.Asked,
-  Reads'''''''.Learnt,
-  Reads.Asked,
-  Reads.Learnt,
-  Reads'.Asked,
-  Reads'.Learnt,
-  Reads''''''.Asked,
-  Reads''''''.Learnt,
-)
-    Reads'''.Pre Reads'''.Post
+After-first = Lts.After-first readings Reads'''.Pre Reads'''.Post
 
 abbrev pub After-is-taken : Type 0
-After-is-taken = Lts.After-is-taken (
-  Reads'''''.Asked,
-  Reads'''''.Learnt,
-  Reads''.Asked,
-  Reads''.Learnt,
-  Reads''''.Asked,
-  Reads''''.Learnt,
-  Reads'''''''.Asked,
-  Reads'''''''.Learnt,
-  Reads.Asked,
-  Reads.Learnt,
-  Reads'.Asked,
-  Reads'.Learnt,
-  Reads''''''.Asked,
-  Reads''''''.Learnt,
-)
-    Reads'''.Pre Reads'''.Post
+After-is-taken = Lts.After-is-taken readings Reads'''.Pre Reads'''.Post
 
 abbrev pub Then1 : Type 0
-Then1 = Lts.Then1 (
-  Reads'''''.Asked,
-  Reads'''''.Learnt,
-  Reads''.Asked,
-  Reads''.Learnt,
-  Reads''''.Asked,
-  Reads''''.Learnt,
-  Reads'''''''.Asked,
-  Reads'''''''.Learnt,
-  Reads.Asked,
-  Reads.Learnt,
-  Reads'.Asked,
-  Reads'.Learnt,
-  Reads''''''.Asked,
-  Reads''''''.Learnt,
-) Reads'''.Pre Reads'''.Post
+Then1 = Lts.Then1 readings Reads'''.Pre Reads'''.Post
 
 abbrev pub After-revoking : Type 0
-After-revoking = Lts.After-revoking (
-  Reads'''''.Asked,
-  Reads'''''.Learnt,
-  Reads''.Asked,
-  Reads''.Learnt,
-  Reads''''.Asked,
-  Reads''''.Learnt,
-  Reads'''''''.Asked,
-  Reads'''''''.Learnt,
-  Reads.Asked,
-  Reads.Learnt,
-  Reads'.Asked,
-  Reads'.Learnt,
-  Reads''''''.Asked,
-  Reads''''''.Learnt,
-)
-    Reads'''.Pre Reads'''.Post
+After-revoking = Lts.After-revoking readings Reads'''.Pre Reads'''.Post
 
 abbrev pub After-drop-usage-arg : Type 0
-After-drop-usage-arg = Lts.After-drop-usage-arg (
-  Reads'''''.Asked,
-  Reads'''''.Learnt,
-  Reads''.Asked,
-  Reads''.Learnt,
-  Reads''''.Asked,
-  Reads''''.Learnt,
-  Reads'''''''.Asked,
-  Reads'''''''.Learnt,
-  Reads.Asked,
-  Reads.Learnt,
-  Reads'.Asked,
-  Reads'.Learnt,
-  Reads''''''.Asked,
-  Reads''''''.Learnt,
-) Reads'''.Pre Reads'''.Post
+After-drop-usage-arg = Lts.After-drop-usage-arg readings Reads'''.Pre Reads'''.Post
 
 abbrev pub After-drop-usage : Type 0
-After-drop-usage = Lts.After-drop-usage (
-  Reads'''''.Asked,
-  Reads'''''.Learnt,
-  Reads''.Asked,
-  Reads''.Learnt,
-  Reads''''.Asked,
-  Reads''''.Learnt,
-  Reads'''''''.Asked,
-  Reads'''''''.Learnt,
-  Reads.Asked,
-  Reads.Learnt,
-  Reads'.Asked,
-  Reads'.Learnt,
-  Reads''''''.Asked,
-  Reads''''''.Learnt,
-)
-    Reads'''.Pre Reads'''.Post
+After-drop-usage = Lts.After-drop-usage readings Reads'''.Pre Reads'''.Post
 
 abbrev pub After-ledger : Type 0
-After-ledger = Lts.After-ledger (
-  Reads'''''.Asked,
-  Reads'''''.Learnt,
-  Reads''.Asked,
-  Reads''.Learnt,
-  Reads''''.Asked,
-  Reads''''.Learnt,
-  Reads'''''''.Asked,
-  Reads'''''''.Learnt,
-  Reads.Asked,
-  Reads.Learnt,
-  Reads'.Asked,
-  Reads'.Learnt,
-  Reads''''''.Asked,
-  Reads''''''.Learnt,
-)
-    Reads'''.Pre Reads'''.Post
+After-ledger = Lts.After-ledger readings Reads'''.Pre Reads'''.Post
 
 abbrev pub After-revoke-all-arg : Type 0
-After-revoke-all-arg = Lts.After-revoke-all-arg (
-  Reads'''''.Asked,
-  Reads'''''.Learnt,
-  Reads''.Asked,
-  Reads''.Learnt,
-  Reads''''.Asked,
-  Reads''''.Learnt,
-  Reads'''''''.Asked,
-  Reads'''''''.Learnt,
-  Reads.Asked,
-  Reads.Learnt,
-  Reads'.Asked,
-  Reads'.Learnt,
-  Reads''''''.Asked,
-  Reads''''''.Learnt,
-) Reads'''.Pre Reads'''.Post
+After-revoke-all-arg = Lts.After-revoke-all-arg readings Reads'''.Pre Reads'''.Post
 
 abbrev pub After-revoke-all-arg2 : Type 0
-After-revoke-all-arg2 = Lts.After-revoke-all-arg2 (
-  Reads'''''.Asked,
-  Reads'''''.Learnt,
-  Reads''.Asked,
-  Reads''.Learnt,
-  Reads''''.Asked,
-  Reads''''.Learnt,
-  Reads'''''''.Asked,
-  Reads'''''''.Learnt,
-  Reads.Asked,
-  Reads.Learnt,
-  Reads'.Asked,
-  Reads'.Learnt,
-  Reads''''''.Asked,
-  Reads''''''.Learnt,
-) Reads'''.Pre Reads'''.Post
+After-revoke-all-arg2 = Lts.After-revoke-all-arg2 readings Reads'''.Pre Reads'''.Post
 
 abbrev pub After-revoke-all-arg3 : Type 0
-After-revoke-all-arg3 = Lts.After-revoke-all-arg3 (
-  Reads'''''.Asked,
-  Reads'''''.Learnt,
-  Reads''.Asked,
-  Reads''.Learnt,
-  Reads''''.Asked,
-  Reads''''.Learnt,
-  Reads'''''''.Asked,
-  Reads'''''''.Learnt,
-  Reads.Asked,
-  Reads.Learnt,
-  Reads'.Asked,
-  Reads'.Learnt,
-  Reads''''''.Asked,
-  Reads''''''.Learnt,
-) Reads'''.Pre Reads'''.Post
+After-revoke-all-arg3 = Lts.After-revoke-all-arg3 readings Reads'''.Pre Reads'''.Post
 
 abbrev pub After-revoke-all-arg4 : Type 0
-After-revoke-all-arg4 = Lts.After-revoke-all-arg4 (
-  Reads'''''.Asked,
-  Reads'''''.Learnt,
-  Reads''.Asked,
-  Reads''.Learnt,
-  Reads''''.Asked,
-  Reads''''.Learnt,
-  Reads'''''''.Asked,
-  Reads'''''''.Learnt,
-  Reads.Asked,
-  Reads.Learnt,
-  Reads'.Asked,
-  Reads'.Learnt,
-  Reads''''''.Asked,
-  Reads''''''.Learnt,
-) Reads'''.Pre Reads'''.Post
+After-revoke-all-arg4 = Lts.After-revoke-all-arg4 readings Reads'''.Pre Reads'''.Post
 
 abbrev pub After-revoke-all : Type 0
-After-revoke-all = Lts.After-revoke-all (
-  Reads'''''.Asked,
-  Reads'''''.Learnt,
-  Reads''.Asked,
-  Reads''.Learnt,
-  Reads''''.Asked,
-  Reads''''.Learnt,
-  Reads'''''''.Asked,
-  Reads'''''''.Learnt,
-  Reads.Asked,
-  Reads.Learnt,
-  Reads'.Asked,
-  Reads'.Learnt,
-  Reads''''''.Asked,
-  Reads''''''.Learnt,
-)
-    Reads'''.Pre Reads'''.Post
+After-revoke-all = Lts.After-revoke-all readings Reads'''.Pre Reads'''.Post
 
 abbrev pub After-pending : Type 0
-After-pending = Lts.After-pending (
-  Reads'''''.Asked,
-  Reads'''''.Learnt,
-  Reads''.Asked,
-  Reads''.Learnt,
-  Reads''''.Asked,
-  Reads''''.Learnt,
-  Reads'''''''.Asked,
-  Reads'''''''.Learnt,
-  Reads.Asked,
-  Reads.Learnt,
-  Reads'.Asked,
-  Reads'.Learnt,
-  Reads''''''.Asked,
-  Reads''''''.Learnt,
-)
-    Reads'''.Pre Reads'''.Post
+After-pending = Lts.After-pending readings Reads'''.Pre Reads'''.Post
 
 abbrev pub After-circuits : Type 0
-After-circuits = Lts.After-circuits (
-  Reads'''''.Asked,
-  Reads'''''.Learnt,
-  Reads''.Asked,
-  Reads''.Learnt,
-  Reads''''.Asked,
-  Reads''''.Learnt,
-  Reads'''''''.Asked,
-  Reads'''''''.Learnt,
-  Reads.Asked,
-  Reads.Learnt,
-  Reads'.Asked,
-  Reads'.Learnt,
-  Reads''''''.Asked,
-  Reads''''''.Learnt,
-)
-    Reads'''.Pre Reads'''.Post
+After-circuits = Lts.After-circuits readings Reads'''.Pre Reads'''.Post
 
 abbrev pub After-inflight : Type 0
-After-inflight = Lts.After-inflight (
-  Reads'''''.Asked,
-  Reads'''''.Learnt,
-  Reads''.Asked,
-  Reads''.Learnt,
-  Reads''''.Asked,
-  Reads''''.Learnt,
-  Reads'''''''.Asked,
-  Reads'''''''.Learnt,
-  Reads.Asked,
-  Reads.Learnt,
-  Reads'.Asked,
-  Reads'.Learnt,
-  Reads''''''.Asked,
-  Reads''''''.Learnt,
-)
-    Reads'''.Pre Reads'''.Post
+After-inflight = Lts.After-inflight readings Reads'''.Pre Reads'''.Post
 
 abbrev pub After-out : Type 0
-After-out = Lts.After-out (
-  Reads'''''.Asked,
-  Reads'''''.Learnt,
-  Reads''.Asked,
-  Reads''.Learnt,
-  Reads''''.Asked,
-  Reads''''.Learnt,
-  Reads'''''''.Asked,
-  Reads'''''''.Learnt,
-  Reads.Asked,
-  Reads.Learnt,
-  Reads'.Asked,
-  Reads'.Learnt,
-  Reads''''''.Asked,
-  Reads''''''.Learnt,
-) Reads'''.Pre Reads'''.Post
+After-out = Lts.After-out readings Reads'''.Pre Reads'''.Post
 
 abbrev pub After-slice-known2 : Type 0
-After-slice-known2 = Lts.After-slice-known2 (
-  Reads'''''.Asked,
-  Reads'''''.Learnt,
-  Reads''.Asked,
-  Reads''.Learnt,
-  Reads''''.Asked,
-  Reads''''.Learnt,
-  Reads'''''''.Asked,
-  Reads'''''''.Learnt,
-  Reads.Asked,
-  Reads.Learnt,
-  Reads'.Asked,
-  Reads'.Learnt,
-  Reads''''''.Asked,
-  Reads''''''.Learnt,
-)
-    Reads'''.Pre Reads'''.Post
+After-slice-known2 = Lts.After-slice-known2 readings Reads'''.Pre Reads'''.Post
 
 abbrev pub Else1 : Type 0
-Else1 = Lts.Else1 (
-  Reads'''''.Asked,
-  Reads'''''.Learnt,
-  Reads''.Asked,
-  Reads''.Learnt,
-  Reads''''.Asked,
-  Reads''''.Learnt,
-  Reads'''''''.Asked,
-  Reads'''''''.Learnt,
-  Reads.Asked,
-  Reads.Learnt,
-  Reads'.Asked,
-  Reads'.Learnt,
-  Reads''''''.Asked,
-  Reads''''''.Learnt,
-) Reads'''.Pre Reads'''.Post
+Else1 = Lts.Else1 readings Reads'''.Pre Reads'''.Post
 
 abbrev pub After-refused : Type 0
-After-refused = Lts.After-refused (
-  Reads'''''.Asked,
-  Reads'''''.Learnt,
-  Reads''.Asked,
-  Reads''.Learnt,
-  Reads''''.Asked,
-  Reads''''.Learnt,
-  Reads'''''''.Asked,
-  Reads'''''''.Learnt,
-  Reads.Asked,
-  Reads.Learnt,
-  Reads'.Asked,
-  Reads'.Learnt,
-  Reads''''''.Asked,
-  Reads''''''.Learnt,
-)
-    Reads'''.Pre Reads'''.Post
+After-refused = Lts.After-refused readings Reads'''.Pre Reads'''.Post
 
 abbrev pub Need-under-requires : Type 0
-Need-under-requires = Lts.Need-under-requires (
-  Reads'''''.Asked,
-  Reads'''''.Learnt,
-  Reads''.Asked,
-  Reads''.Learnt,
-  Reads''''.Asked,
-  Reads''''.Learnt,
-  Reads'''''''.Asked,
-  Reads'''''''.Learnt,
-  Reads.Asked,
-  Reads.Learnt,
-  Reads'.Asked,
-  Reads'.Learnt,
-  Reads''''''.Asked,
-  Reads''''''.Learnt,
-)
-    Reads'''.Pre Reads'''.Post
+Need-under-requires = Lts.Need-under-requires readings Reads'''.Pre Reads'''.Post
 
 abbrev pub Need-entry-answer-requires : Type 0
-Need-entry-answer-requires = Lts.Need-entry-answer-requires (
-  Reads'''''.Asked,
-  Reads'''''.Learnt,
-  Reads''.Asked,
-  Reads''.Learnt,
-  Reads''''.Asked,
-  Reads''''.Learnt,
-  Reads'''''''.Asked,
-  Reads'''''''.Learnt,
-  Reads.Asked,
-  Reads.Learnt,
-  Reads'.Asked,
-  Reads'.Learnt,
-  Reads''''''.Asked,
-  Reads''''''.Learnt,
-) Reads'''.Pre Reads'''.Post
+Need-entry-answer-requires = Lts.Need-entry-answer-requires readings Reads'''.Pre Reads'''.Post
 
 abbrev pub Need-is-taken-requires : Type 0
-Need-is-taken-requires = Lts.Need-is-taken-requires (
-  Reads'''''.Asked,
-  Reads'''''.Learnt,
-  Reads''.Asked,
-  Reads''.Learnt,
-  Reads''''.Asked,
-  Reads''''.Learnt,
-  Reads'''''''.Asked,
-  Reads'''''''.Learnt,
-  Reads.Asked,
-  Reads.Learnt,
-  Reads'.Asked,
-  Reads'.Learnt,
-  Reads''''''.Asked,
-  Reads''''''.Learnt,
-) Reads'''.Pre Reads'''.Post
+Need-is-taken-requires = Lts.Need-is-taken-requires readings Reads'''.Pre Reads'''.Post
 
 abbrev pub Need-revoking-requires : Type 0
-Need-revoking-requires = Lts.Need-revoking-requires (
-  Reads'''''.Asked,
-  Reads'''''.Learnt,
-  Reads''.Asked,
-  Reads''.Learnt,
-  Reads''''.Asked,
-  Reads''''.Learnt,
-  Reads'''''''.Asked,
-  Reads'''''''.Learnt,
-  Reads.Asked,
-  Reads.Learnt,
-  Reads'.Asked,
-  Reads'.Learnt,
-  Reads''''''.Asked,
-  Reads''''''.Learnt,
-) Reads'''.Pre Reads'''.Post
+Need-revoking-requires = Lts.Need-revoking-requires readings Reads'''.Pre Reads'''.Post
 
 abbrev pub Need-drop-usage-requires : Type 0
-Need-drop-usage-requires = Lts.Need-drop-usage-requires (
-  Reads'''''.Asked,
-  Reads'''''.Learnt,
-  Reads''.Asked,
-  Reads''.Learnt,
-  Reads''''.Asked,
-  Reads''''.Learnt,
-  Reads'''''''.Asked,
-  Reads'''''''.Learnt,
-  Reads.Asked,
-  Reads.Learnt,
-  Reads'.Asked,
-  Reads'.Learnt,
-  Reads''''''.Asked,
-  Reads''''''.Learnt,
-) Reads'''.Pre Reads'''.Post
+Need-drop-usage-requires = Lts.Need-drop-usage-requires readings Reads'''.Pre Reads'''.Post
 
 abbrev pub Need-revoke-all-requires : Type 0
-Need-revoke-all-requires = Lts.Need-revoke-all-requires (
-  Reads'''''.Asked,
-  Reads'''''.Learnt,
-  Reads''.Asked,
-  Reads''.Learnt,
-  Reads''''.Asked,
-  Reads''''.Learnt,
-  Reads'''''''.Asked,
-  Reads'''''''.Learnt,
-  Reads.Asked,
-  Reads.Learnt,
-  Reads'.Asked,
-  Reads'.Learnt,
-  Reads''''''.Asked,
-  Reads''''''.Learnt,
-) Reads'''.Pre Reads'''.Post
+Need-revoke-all-requires = Lts.Need-revoke-all-requires readings Reads'''.Pre Reads'''.Post
 
 abbrev pub Need-same-length : Type 0
-Need-same-length = Lts.Need-same-length (
-  Reads'''''.Asked,
-  Reads'''''.Learnt,
-  Reads''.Asked,
-  Reads''.Learnt,
-  Reads''''.Asked,
-  Reads''''.Learnt,
-  Reads'''''''.Asked,
-  Reads'''''''.Learnt,
-  Reads.Asked,
-  Reads.Learnt,
-  Reads'.Asked,
-  Reads'.Learnt,
-  Reads''''''.Asked,
-  Reads''''''.Learnt,
-)
-    Reads'''.Pre Reads'''.Post
+Need-same-length = Lts.Need-same-length readings Reads'''.Pre Reads'''.Post
 
 abbrev pub Need-same-length-2 : Type 0
-Need-same-length-2 = Lts.Need-same-length-2 (
-  Reads'''''.Asked,
-  Reads'''''.Learnt,
-  Reads''.Asked,
-  Reads''.Learnt,
-  Reads''''.Asked,
-  Reads''''.Learnt,
-  Reads'''''''.Asked,
-  Reads'''''''.Learnt,
-  Reads.Asked,
-  Reads.Learnt,
-  Reads'.Asked,
-  Reads'.Learnt,
-  Reads''''''.Asked,
-  Reads''''''.Learnt,
-)
-    Reads'''.Pre Reads'''.Post
+Need-same-length-2 = Lts.Need-same-length-2 readings Reads'''.Pre Reads'''.Post
 
 abbrev pub Need-same-length-3 : Type 0
-Need-same-length-3 = Lts.Need-same-length-3 (
-  Reads'''''.Asked,
-  Reads'''''.Learnt,
-  Reads''.Asked,
-  Reads''.Learnt,
-  Reads''''.Asked,
-  Reads''''.Learnt,
-  Reads'''''''.Asked,
-  Reads'''''''.Learnt,
-  Reads.Asked,
-  Reads.Learnt,
-  Reads'.Asked,
-  Reads'.Learnt,
-  Reads''''''.Asked,
-  Reads''''''.Learnt,
-)
-    Reads'''.Pre Reads'''.Post
+Need-same-length-3 = Lts.Need-same-length-3 readings Reads'''.Pre Reads'''.Post
 
 abbrev pub Need-same-length-4 : Type 0
-Need-same-length-4 = Lts.Need-same-length-4 (
-  Reads'''''.Asked,
-  Reads'''''.Learnt,
-  Reads''.Asked,
-  Reads''.Learnt,
-  Reads''''.Asked,
-  Reads''''.Learnt,
-  Reads'''''''.Asked,
-  Reads'''''''.Learnt,
-  Reads.Asked,
-  Reads.Learnt,
-  Reads'.Asked,
-  Reads'.Learnt,
-  Reads''''''.Asked,
-  Reads''''''.Learnt,
-)
-    Reads'''.Pre Reads'''.Post
+Need-same-length-4 = Lts.Need-same-length-4 readings Reads'''.Pre Reads'''.Post
 
 abbrev pub Need-same-length-5 : Type 0
-Need-same-length-5 = Lts.Need-same-length-5 (
-  Reads'''''.Asked,
-  Reads'''''.Learnt,
-  Reads''.Asked,
-  Reads''.Learnt,
-  Reads''''.Asked,
-  Reads''''.Learnt,
-  Reads'''''''.Asked,
-  Reads'''''''.Learnt,
-  Reads.Asked,
-  Reads.Learnt,
-  Reads'.Asked,
-  Reads'.Learnt,
-  Reads''''''.Asked,
-  Reads''''''.Learnt,
-)
-    Reads'''.Pre Reads'''.Post
+Need-same-length-5 = Lts.Need-same-length-5 readings Reads'''.Pre Reads'''.Post
 
 abbrev pub Need-returns : Type 0
-Need-returns = Lts.Need-returns (
-  Reads'''''.Asked,
-  Reads'''''.Learnt,
-  Reads''.Asked,
-  Reads''.Learnt,
-  Reads''''.Asked,
-  Reads''''.Learnt,
-  Reads'''''''.Asked,
-  Reads'''''''.Learnt,
-  Reads.Asked,
-  Reads.Learnt,
-  Reads'.Asked,
-  Reads'.Learnt,
-  Reads''''''.Asked,
-  Reads''''''.Learnt,
-)
-    Reads'''.Pre Reads'''.Post
+Need-returns = Lts.Need-returns readings Reads'''.Pre Reads'''.Post
 
 abbrev pub Need-refused-requires : Type 0
-Need-refused-requires = Lts.Need-refused-requires (
-  Reads'''''.Asked,
-  Reads'''''.Learnt,
-  Reads''.Asked,
-  Reads''.Learnt,
-  Reads''''.Asked,
-  Reads''''.Learnt,
-  Reads'''''''.Asked,
-  Reads'''''''.Learnt,
-  Reads.Asked,
-  Reads.Learnt,
-  Reads'.Asked,
-  Reads'.Learnt,
-  Reads''''''.Asked,
-  Reads''''''.Learnt,
-) Reads'''.Pre Reads'''.Post
+Need-refused-requires = Lts.Need-refused-requires readings Reads'''.Pre Reads'''.Post
 
 abbrev pub Need-same-length-6 : Type 0
-Need-same-length-6 = Lts.Need-same-length-6 (
-  Reads'''''.Asked,
-  Reads'''''.Learnt,
-  Reads''.Asked,
-  Reads''.Learnt,
-  Reads''''.Asked,
-  Reads''''.Learnt,
-  Reads'''''''.Asked,
-  Reads'''''''.Learnt,
-  Reads.Asked,
-  Reads.Learnt,
-  Reads'.Asked,
-  Reads'.Learnt,
-  Reads''''''.Asked,
-  Reads''''''.Learnt,
-)
-    Reads'''.Pre Reads'''.Post
+Need-same-length-6 = Lts.Need-same-length-6 readings Reads'''.Pre Reads'''.Post
 
 abbrev pub Need-same-length-7 : Type 0
-Need-same-length-7 = Lts.Need-same-length-7 (
-  Reads'''''.Asked,
-  Reads'''''.Learnt,
-  Reads''.Asked,
-  Reads''.Learnt,
-  Reads''''.Asked,
-  Reads''''.Learnt,
-  Reads'''''''.Asked,
-  Reads'''''''.Learnt,
-  Reads.Asked,
-  Reads.Learnt,
-  Reads'.Asked,
-  Reads'.Learnt,
-  Reads''''''.Asked,
-  Reads''''''.Learnt,
-)
-    Reads'''.Pre Reads'''.Post
+Need-same-length-7 = Lts.Need-same-length-7 readings Reads'''.Pre Reads'''.Post
 
 abbrev pub Need-returns-2 : Type 0
-Need-returns-2 = Lts.Need-returns-2 (
-  Reads'''''.Asked,
-  Reads'''''.Learnt,
-  Reads''.Asked,
-  Reads''.Learnt,
-  Reads''''.Asked,
-  Reads''''.Learnt,
-  Reads'''''''.Asked,
-  Reads'''''''.Learnt,
-  Reads.Asked,
-  Reads.Learnt,
-  Reads'.Asked,
-  Reads'.Learnt,
-  Reads''''''.Asked,
-  Reads''''''.Learnt,
-)
-    Reads'''.Pre Reads'''.Post
+Need-returns-2 = Lts.Need-returns-2 readings Reads'''.Pre Reads'''.Post
 
 module _ {M : Type 1} where
-  pub spec : (answer : Need-under-requires) → (answer : Need-entry-answer-requires) → (answer : Need-is-taken-requires) → (answer :
-      Need-revoking-requires) → (answer : Need-drop-usage-requires) → (answer : Need-revoke-all-requires) → (answer : Need-same-length) → (answer :
-      Need-same-length-2) → (answer : Need-same-length-3) → (answer : Need-same-length-4) → (answer : Need-same-length-5) → (answer : Need-returns) →
-      (answer : Need-refused-requires) → (answer : Need-same-length-6) → (answer : Need-same-length-7) → (answer : Need-returns-2) → Lts.Closed (
-        Reads'''''.Asked,
-        Reads'''''.Learnt,
-        Reads''.Asked,
-        Reads''.Learnt,
-        Reads''''.Asked,
-        Reads''''.Learnt,
-        Reads'''''''.Asked,
-        Reads'''''''.Learnt,
-        Reads.Asked,
-        Reads.Learnt,
-        Reads'.Asked,
-        Reads'.Learnt,
-        Reads''''''.Asked,
-        Reads''''''.Learnt,
-      ) Reads'''.Pre Reads'''.Post M
-  spec = λ answer answer' answer'' answer'3 answer'4 answer'5 answer'6 answer'7 answer'8 answer'9 answer'10 answer'11 answer'12 answer'13 answer'14
-      answer'15. Lts.spec (
-        Reads'''''.Asked,
-        Reads'''''.Learnt,
-        Reads''.Asked,
-        Reads''.Learnt,
-        Reads''''.Asked,
-        Reads''''.Learnt,
-        Reads'''''''.Asked,
-        Reads'''''''.Learnt,
-        Reads.Asked,
-        Reads.Learnt,
-        Reads'.Asked,
-        Reads'.Learnt,
-        Reads''''''.Asked,
-        Reads''''''.Learnt,
-      ) Reads'''.Pre Reads'''.Post
-      answer answer' answer'' answer'3 answer'4 answer'5 answer'6 answer'7 answer'8 answer'9 answer'10 answer'11 answer'12 answer'13 answer'14
+  pub spec : (answer : Need-under-requires) → (answer : Need-entry-answer-requires) → (answer : Need-is-taken-requires)
+      → (answer : Need-revoking-requires) → (answer : Need-drop-usage-requires) → (answer : Need-revoke-all-requires) →
+      (answer : Need-same-length) → (answer : Need-same-length-2) → (answer : Need-same-length-3) →
+      (answer : Need-same-length-4) → (answer : Need-same-length-5) → (answer : Need-returns) →
+      (answer : Need-refused-requires) → (answer : Need-same-length-6) → (answer : Need-same-length-7) →
+      (answer : Need-returns-2) → Lts.Closed readings Reads'''.Pre Reads'''.Post M
+  spec = λ answer answer' answer'' answer'3 answer'4 answer'5 answer'6 answer'7 answer'8 answer'9 answer'10 answer'11
+      answer'12 answer'13 answer'14 answer'15. Lts.spec readings Reads'''.Pre Reads'''.Post answer answer' answer''
+      answer'3 answer'4 answer'5 answer'6 answer'7 answer'8 answer'9 answer'10 answer'11 answer'12 answer'13 answer'14
       answer'15
 
-  pub close : Lts.Closed (
-    Reads'''''.Asked,
-    Reads'''''.Learnt,
-    Reads''.Asked,
-    Reads''.Learnt,
-    Reads''''.Asked,
-    Reads''''.Learnt,
-    Reads'''''''.Asked,
-    Reads'''''''.Learnt,
-    Reads.Asked,
-    Reads.Learnt,
-    Reads'.Asked,
-    Reads'.Learnt,
-    Reads''''''.Asked,
-    Reads''''''.Learnt,
-  ) Reads'''.Pre Reads'''.Post
-      M → Statement.statement M
+  pub close : Lts.Closed readings Reads'''.Pre Reads'''.Post M → Statement.statement M
   unfolding Code.routine Running.tablesOf
-  close = λ closed 𝓤 H 𝓜 𝓖 𝓡. Written.close 5 Kinds.ps Kinds.r Reads'''.Ghost Reads'''.requires Reads'''.ensures Reads'''.pre-read Reads'''.Pinned
-      Reads'''.Owned Reads'''.post-read record { M = M; 𝓤 = 𝓤; H = H; 𝓜 = 𝓜; 𝓖 = 𝓖; 𝓡 = 𝓡 } Code.env Key.name Code.function (Code.unfolded 𝓤 H 𝓜 𝓡) (λ
-      κs a g. tt) (λ κs. Reads'''.owns κs record { M = M; 𝓤 = 𝓤; H = H; 𝓜 = 𝓜; 𝓖 = 𝓖; 𝓡 = 𝓡 }) (Reads'''.passes record {
-        M = M;
-        𝓤 = 𝓤;
-        H = H;
-        𝓜 = 𝓜;
-        𝓖
-            = 𝓖;
-        𝓡 = 𝓡;
-      }) λ g. closed 𝓤 H (𝓖 .A) (Running.givenOf 𝓤 H 𝓜 𝓖) (Run.Over 𝓤 H 𝓜 𝓖 𝓡 Code.env) (Reads'''''.known record {
-        M = M;
-        𝓤 = 𝓤;
-        H = H;
-        𝓜 =
-            𝓜;
-        𝓖 = 𝓖;
-        𝓡 = 𝓡;
-      } Code.env Symbol''.name Symbol''.routine Code.calls-hnsr-circuit·question·under (Met''.met 𝓤 H 𝓜 𝓖 𝓡)) (Reads''.known record {
-        M = M;
-        𝓤 = 𝓤;
-        H = H;
-        𝓜 = 𝓜;
-        𝓖 = 𝓖;
-        𝓡 = 𝓡;
-      } Code.env Symbol''''.name Symbol''''.routine Code.calls-hnsr-circuit·revoking-calls·entry-answer
-      (Met''''.met 𝓤 H 𝓜 𝓖 𝓡)) (Reads''''.known record { M = M; 𝓤 = 𝓤; H = H; 𝓜 = 𝓜; 𝓖 = 𝓖; 𝓡 = 𝓡 } Code.env Symbol.name Symbol.routine
-      Code.calls-hnsr-circuit·answer·is-taken (Met.met 𝓤 H 𝓜 𝓖 𝓡)) (Reads'''''''.known record { M = M; 𝓤 = 𝓤; H = H; 𝓜 = 𝓜; 𝓖 = 𝓖; 𝓡 = 𝓡 } Code.env
-      Symbol''''''.name Symbol''''''.routine Code.calls-hnsr-circuit·revoking-calls·revoking (Met''''''.met 𝓤 H 𝓜 𝓖 𝓡)) (Reads.known record {
-        M = M;
-        𝓤
-            = 𝓤;
-        H = H;
-        𝓜 = 𝓜;
-        𝓖 = 𝓖;
-        𝓡 = 𝓡;
-      } Code.env Symbol'.name Symbol'.routine Code.calls-hnsr-circuit·lookup·drop-usage (Met'.met 𝓤 H 𝓜 𝓖 𝓡))
-      (Reads'.known record { M = M; 𝓤 = 𝓤; H = H; 𝓜 = 𝓜; 𝓖 = 𝓖; 𝓡 = 𝓡 } Code.env Symbol'''.name Symbol'''.routine
-      Code.calls-hnsr-circuit·revocation·revoke-all (Met'''.met 𝓤 H 𝓜 𝓖 𝓡)) (Reads''''''.known record { M = M; 𝓤 = 𝓤; H = H; 𝓜 = 𝓜; 𝓖 = 𝓖; 𝓡 = 𝓡 }
-      Code.env Symbol'''''.name Symbol'''''.routine Code.calls-hnsr-circuit·revoking-calls·refused (Met'''''.met 𝓤 H 𝓜 𝓖 𝓡))
+  close = λ closed 𝓤 H 𝓜 𝓖 𝓡. Written.close 5 Kinds.ps Kinds.r Reads'''.Ghost Reads'''.requires Reads'''.ensures
+      Reads'''.pre-read Reads'''.Pinned Reads'''.Owned Reads'''.post-read
+      record { M = M; 𝓤 = 𝓤; H = H; 𝓜 = 𝓜; 𝓖 = 𝓖; 𝓡 = 𝓡 } Code.env Key.name Code.function (Code.unfolded 𝓤 H 𝓜 𝓡)
+      (λ κs a g. tt) (λ κs. Reads'''.owns κs record { M = M; 𝓤 = 𝓤; H = H; 𝓜 = 𝓜; 𝓖 = 𝓖; 𝓡 = 𝓡 }) (Reads'''.passes
+      record { M = M; 𝓤 = 𝓤; H = H; 𝓜 = 𝓜; 𝓖 = 𝓖; 𝓡 = 𝓡 }) λ g. closed 𝓤 H (𝓖 .A) (Running.givenOf 𝓤 H 𝓜 𝓖)
+      (Run.Over 𝓤 H 𝓜 𝓖 𝓡 Code.env) (Reads'''''.known record { M = M; 𝓤 = 𝓤; H = H; 𝓜 = 𝓜; 𝓖 = 𝓖; 𝓡 = 𝓡 } Code.env
+      Symbol''.name Symbol''.routine Code.calls-hnsr-circuit·question·under (Met''.met 𝓤 H 𝓜 𝓖 𝓡)) (Reads''.known
+      record { M = M; 𝓤 = 𝓤; H = H; 𝓜 = 𝓜; 𝓖 = 𝓖; 𝓡 = 𝓡 } Code.env Symbol''''.name Symbol''''.routine
+      Code.calls-hnsr-circuit·revoking-calls·entry-answer (Met''''.met 𝓤 H 𝓜 𝓖 𝓡)) (Reads''''.known
+      record { M = M; 𝓤 = 𝓤; H = H; 𝓜 = 𝓜; 𝓖 = 𝓖; 𝓡 = 𝓡 } Code.env Symbol.name Symbol.routine
+      Code.calls-hnsr-circuit·answer·is-taken (Met.met 𝓤 H 𝓜 𝓖 𝓡)) (Reads'''''''.known
+      record { M = M; 𝓤 = 𝓤; H = H; 𝓜 = 𝓜; 𝓖 = 𝓖; 𝓡 = 𝓡 } Code.env Symbol''''''.name Symbol''''''.routine
+      Code.calls-hnsr-circuit·revoking-calls·revoking (Met''''''.met 𝓤 H 𝓜 𝓖 𝓡)) (Reads.known
+      record { M = M; 𝓤 = 𝓤; H = H; 𝓜 = 𝓜; 𝓖 = 𝓖; 𝓡 = 𝓡 } Code.env Symbol'.name Symbol'.routine
+      Code.calls-hnsr-circuit·lookup·drop-usage (Met'.met 𝓤 H 𝓜 𝓖 𝓡)) (Reads'.known
+      record { M = M; 𝓤 = 𝓤; H = H; 𝓜 = 𝓜; 𝓖 = 𝓖; 𝓡 = 𝓡 } Code.env Symbol'''.name Symbol'''.routine
+      Code.calls-hnsr-circuit·revocation·revoke-all (Met'''.met 𝓤 H 𝓜 𝓖 𝓡)) (Reads''''''.known
+      record { M = M; 𝓤 = 𝓤; H = H; 𝓜 = 𝓜; 𝓖 = 𝓖; 𝓡 = 𝓡 } Code.env Symbol'''''.name Symbol'''''.routine
+      Code.calls-hnsr-circuit·revoking-calls·refused (Met'''''.met 𝓤 H 𝓜 𝓖 𝓡))

@@ -27,8 +27,8 @@ use borrow.Fn.Run
 use borrow.Fn.Written
 use contract.Running
 
-abbrev pub Start : Type 0
-Start = Lts.Start (
+abbrev pub readings : Lts.Claims
+readings = (
   Reads''''.Asked,
   Reads''''.Learnt,
   Reads'''.Asked,
@@ -41,606 +41,136 @@ Start = Lts.Start (
   Reads'''''.Learnt,
   Reads.Asked,
   Reads.Learnt,
-) Reads'.Pre Reads'.Post
+)
+
+abbrev pub Start : Type 0
+Start = Lts.Start readings Reads'.Pre Reads'.Post
 
 abbrev pub After-slice-known : Type 0
-After-slice-known = Lts.After-slice-known (
-  Reads''''.Asked,
-  Reads''''.Learnt,
-  Reads'''.Asked,
-  Reads'''.Learnt,
-  Reads''.Asked,
-  Reads''.Learnt,
-  Reads''''''.Asked,
-  Reads''''''.Learnt,
-  Reads'''''.Asked,
-  Reads'''''.Learnt,
-  Reads.Asked,
-  Reads.Learnt,
-) Reads'.Pre Reads'.Post
+After-slice-known = Lts.After-slice-known readings Reads'.Pre Reads'.Post
 
 abbrev pub After-used : Type 0
-After-used = Lts.After-used (
-  Reads''''.Asked,
-  Reads''''.Learnt,
-  Reads'''.Asked,
-  Reads'''.Learnt,
-  Reads''.Asked,
-  Reads''.Learnt,
-  Reads''''''.Asked,
-  Reads''''''.Learnt,
-  Reads'''''.Asked,
-  Reads'''''.Learnt,
-  Reads.Asked,
-  Reads.Learnt,
-) Reads'.Pre Reads'.Post
+After-used = Lts.After-used readings Reads'.Pre Reads'.Post
 
 abbrev pub After-with-enabled : Type 0
-After-with-enabled = Lts.After-with-enabled (
-  Reads''''.Asked,
-  Reads''''.Learnt,
-  Reads'''.Asked,
-  Reads'''.Learnt,
-  Reads''.Asked,
-  Reads''.Learnt,
-  Reads''''''.Asked,
-  Reads''''''.Learnt,
-  Reads'''''.Asked,
-  Reads'''''.Learnt,
-  Reads.Asked,
-  Reads.Learnt,
-) Reads'.Pre Reads'.Post
+After-with-enabled = Lts.After-with-enabled readings Reads'.Pre Reads'.Post
 
 abbrev pub After-clear-action-arg : Type 0
-After-clear-action-arg = Lts.After-clear-action-arg (
-  Reads''''.Asked,
-  Reads''''.Learnt,
-  Reads'''.Asked,
-  Reads'''.Learnt,
-  Reads''.Asked,
-  Reads''.Learnt,
-  Reads''''''.Asked,
-  Reads''''''.Learnt,
-  Reads'''''.Asked,
-  Reads'''''.Learnt,
-  Reads.Asked,
-  Reads.Learnt,
-) Reads'.Pre Reads'.Post
+After-clear-action-arg = Lts.After-clear-action-arg readings Reads'.Pre Reads'.Post
 
 abbrev pub After-clear-action : Type 0
-After-clear-action = Lts.After-clear-action (
-  Reads''''.Asked,
-  Reads''''.Learnt,
-  Reads'''.Asked,
-  Reads'''.Learnt,
-  Reads''.Asked,
-  Reads''.Learnt,
-  Reads''''''.Asked,
-  Reads''''''.Learnt,
-  Reads'''''.Asked,
-  Reads'''''.Learnt,
-  Reads.Asked,
-  Reads.Learnt,
-) Reads'.Pre Reads'.Post
+After-clear-action = Lts.After-clear-action readings Reads'.Pre Reads'.Post
 
 abbrev pub After-inflight : Type 0
-After-inflight = Lts.After-inflight (
-  Reads''''.Asked,
-  Reads''''.Learnt,
-  Reads'''.Asked,
-  Reads'''.Learnt,
-  Reads''.Asked,
-  Reads''.Learnt,
-  Reads''''''.Asked,
-  Reads''''''.Learnt,
-  Reads'''''.Asked,
-  Reads'''''.Learnt,
-  Reads.Asked,
-  Reads.Learnt,
-) Reads'.Pre Reads'.Post
+After-inflight = Lts.After-inflight readings Reads'.Pre Reads'.Post
 
 abbrev pub Then1 : Type 0
-Then1 = Lts.Then1 (
-  Reads''''.Asked,
-  Reads''''.Learnt,
-  Reads'''.Asked,
-  Reads'''.Learnt,
-  Reads''.Asked,
-  Reads''.Learnt,
-  Reads''''''.Asked,
-  Reads''''''.Learnt,
-  Reads'''''.Asked,
-  Reads'''''.Learnt,
-  Reads.Asked,
-  Reads.Learnt,
-) Reads'.Pre Reads'.Post
+Then1 = Lts.Then1 readings Reads'.Pre Reads'.Post
 
 abbrev pub After-taken-with : Type 0
-After-taken-with = Lts.After-taken-with (
-  Reads''''.Asked,
-  Reads''''.Learnt,
-  Reads'''.Asked,
-  Reads'''.Learnt,
-  Reads''.Asked,
-  Reads''.Learnt,
-  Reads''''''.Asked,
-  Reads''''''.Learnt,
-  Reads'''''.Asked,
-  Reads'''''.Learnt,
-  Reads.Asked,
-  Reads.Learnt,
-) Reads'.Pre Reads'.Post
+After-taken-with = Lts.After-taken-with readings Reads'.Pre Reads'.Post
 
 abbrev pub Else1 : Type 0
-Else1 = Lts.Else1 (
-  Reads''''.Asked,
-  Reads''''.Learnt,
-  Reads'''.Asked,
-  Reads'''.Learnt,
-  Reads''.Asked,
-  Reads''.Learnt,
-  Reads''''''.Asked,
-  Reads''''''.Learnt,
-  Reads'''''.Asked,
-  Reads'''''.Learnt,
-  Reads.Asked,
-  Reads.Learnt,
-) Reads'.Pre Reads'.Post
+Else1 = Lts.Else1 readings Reads'.Pre Reads'.Post
 
 abbrev pub After-revoking : Type 0
-After-revoking = Lts.After-revoking (
-  Reads''''.Asked,
-  Reads''''.Learnt,
-  Reads'''.Asked,
-  Reads'''.Learnt,
-  Reads''.Asked,
-  Reads''.Learnt,
-  Reads''''''.Asked,
-  Reads''''''.Learnt,
-  Reads'''''.Asked,
-  Reads'''''.Learnt,
-  Reads.Asked,
-  Reads.Learnt,
-) Reads'.Pre Reads'.Post
+After-revoking = Lts.After-revoking readings Reads'.Pre Reads'.Post
 
 abbrev pub After-revoke-all-arg : Type 0
-After-revoke-all-arg = Lts.After-revoke-all-arg (
-  Reads''''.Asked,
-  Reads''''.Learnt,
-  Reads'''.Asked,
-  Reads'''.Learnt,
-  Reads''.Asked,
-  Reads''.Learnt,
-  Reads''''''.Asked,
-  Reads''''''.Learnt,
-  Reads'''''.Asked,
-  Reads'''''.Learnt,
-  Reads.Asked,
-  Reads.Learnt,
-) Reads'.Pre Reads'.Post
+After-revoke-all-arg = Lts.After-revoke-all-arg readings Reads'.Pre Reads'.Post
 
 abbrev pub After-revoke-all-arg2 : Type 0
-After-revoke-all-arg2 = Lts.After-revoke-all-arg2 (
-  Reads''''.Asked,
-  Reads''''.Learnt,
-  Reads'''.Asked,
-  Reads'''.Learnt,
-  Reads''.Asked,
-  Reads''.Learnt,
-  Reads''''''.Asked,
-  Reads''''''.Learnt,
-  Reads'''''.Asked,
-  Reads'''''.Learnt,
-  Reads.Asked,
-  Reads.Learnt,
-) Reads'.Pre Reads'.Post
+After-revoke-all-arg2 = Lts.After-revoke-all-arg2 readings Reads'.Pre Reads'.Post
 
 abbrev pub After-revoke-all-arg3 : Type 0
-After-revoke-all-arg3 = Lts.After-revoke-all-arg3 (
-  Reads''''.Asked,
-  Reads''''.Learnt,
-  Reads'''.Asked,
-  Reads'''.Learnt,
-  Reads''.Asked,
-  Reads''.Learnt,
-  Reads''''''.Asked,
-  Reads''''''.Learnt,
-  Reads'''''.Asked,
-  Reads'''''.Learnt,
-  Reads.Asked,
-  Reads.Learnt,
-) Reads'.Pre Reads'.Post
+After-revoke-all-arg3 = Lts.After-revoke-all-arg3 readings Reads'.Pre Reads'.Post
 
 abbrev pub After-revoke-all-arg4 : Type 0
-After-revoke-all-arg4 = Lts.After-revoke-all-arg4 (
-  Reads''''.Asked,
-  Reads''''.Learnt,
-  Reads'''.Asked,
-  Reads'''.Learnt,
-  Reads''.Asked,
-  Reads''.Learnt,
-  Reads''''''.Asked,
-  Reads''''''.Learnt,
-  Reads'''''.Asked,
-  Reads'''''.Learnt,
-  Reads.Asked,
-  Reads.Learnt,
-) Reads'.Pre Reads'.Post
+After-revoke-all-arg4 = Lts.After-revoke-all-arg4 readings Reads'.Pre Reads'.Post
 
 abbrev pub After-revoke-all : Type 0
-After-revoke-all = Lts.After-revoke-all (
-  Reads''''.Asked,
-  Reads''''.Learnt,
-  Reads'''.Asked,
-  Reads'''.Learnt,
-  Reads''.Asked,
-  Reads''.Learnt,
-  Reads''''''.Asked,
-  Reads''''''.Learnt,
-  Reads'''''.Asked,
-  Reads'''''.Learnt,
-  Reads.Asked,
-  Reads.Learnt,
-) Reads'.Pre Reads'.Post
+After-revoke-all = Lts.After-revoke-all readings Reads'.Pre Reads'.Post
 
 abbrev pub After-pending : Type 0
-After-pending = Lts.After-pending (
-  Reads''''.Asked,
-  Reads''''.Learnt,
-  Reads'''.Asked,
-  Reads'''.Learnt,
-  Reads''.Asked,
-  Reads''.Learnt,
-  Reads''''''.Asked,
-  Reads''''''.Learnt,
-  Reads'''''.Asked,
-  Reads'''''.Learnt,
-  Reads.Asked,
-  Reads.Learnt,
-) Reads'.Pre Reads'.Post
+After-pending = Lts.After-pending readings Reads'.Pre Reads'.Post
 
 abbrev pub After-circuits : Type 0
-After-circuits = Lts.After-circuits (
-  Reads''''.Asked,
-  Reads''''.Learnt,
-  Reads'''.Asked,
-  Reads'''.Learnt,
-  Reads''.Asked,
-  Reads''.Learnt,
-  Reads''''''.Asked,
-  Reads''''''.Learnt,
-  Reads'''''.Asked,
-  Reads'''''.Learnt,
-  Reads.Asked,
-  Reads.Learnt,
-) Reads'.Pre Reads'.Post
+After-circuits = Lts.After-circuits readings Reads'.Pre Reads'.Post
 
 abbrev pub After-inflight2 : Type 0
-After-inflight2 = Lts.After-inflight2 (
-  Reads''''.Asked,
-  Reads''''.Learnt,
-  Reads'''.Asked,
-  Reads'''.Learnt,
-  Reads''.Asked,
-  Reads''.Learnt,
-  Reads''''''.Asked,
-  Reads''''''.Learnt,
-  Reads'''''.Asked,
-  Reads'''''.Learnt,
-  Reads.Asked,
-  Reads.Learnt,
-) Reads'.Pre Reads'.Post
+After-inflight2 = Lts.After-inflight2 readings Reads'.Pre Reads'.Post
 
 abbrev pub After-out : Type 0
-After-out = Lts.After-out (
-  Reads''''.Asked,
-  Reads''''.Learnt,
-  Reads'''.Asked,
-  Reads'''.Learnt,
-  Reads''.Asked,
-  Reads''.Learnt,
-  Reads''''''.Asked,
-  Reads''''''.Learnt,
-  Reads'''''.Asked,
-  Reads'''''.Learnt,
-  Reads.Asked,
-  Reads.Learnt,
-) Reads'.Pre Reads'.Post
+After-out = Lts.After-out readings Reads'.Pre Reads'.Post
 
 abbrev pub After-slice-known2 : Type 0
-After-slice-known2 = Lts.After-slice-known2 (
-  Reads''''.Asked,
-  Reads''''.Learnt,
-  Reads'''.Asked,
-  Reads'''.Learnt,
-  Reads''.Asked,
-  Reads''.Learnt,
-  Reads''''''.Asked,
-  Reads''''''.Learnt,
-  Reads'''''.Asked,
-  Reads'''''.Learnt,
-  Reads.Asked,
-  Reads.Learnt,
-) Reads'.Pre Reads'.Post
+After-slice-known2 = Lts.After-slice-known2 readings Reads'.Pre Reads'.Post
 
 abbrev pub Need-used-requires : Type 0
-Need-used-requires = Lts.Need-used-requires (
-  Reads''''.Asked,
-  Reads''''.Learnt,
-  Reads'''.Asked,
-  Reads'''.Learnt,
-  Reads''.Asked,
-  Reads''.Learnt,
-  Reads''''''.Asked,
-  Reads''''''.Learnt,
-  Reads'''''.Asked,
-  Reads'''''.Learnt,
-  Reads.Asked,
-  Reads.Learnt,
-) Reads'.Pre Reads'.Post
+Need-used-requires = Lts.Need-used-requires readings Reads'.Pre Reads'.Post
 
 abbrev pub Need-with-enabled-requires : Type 0
-Need-with-enabled-requires = Lts.Need-with-enabled-requires (
-  Reads''''.Asked,
-  Reads''''.Learnt,
-  Reads'''.Asked,
-  Reads'''.Learnt,
-  Reads''.Asked,
-  Reads''.Learnt,
-  Reads''''''.Asked,
-  Reads''''''.Learnt,
-  Reads'''''.Asked,
-  Reads'''''.Learnt,
-  Reads.Asked,
-  Reads.Learnt,
-) Reads'.Pre Reads'.Post
+Need-with-enabled-requires = Lts.Need-with-enabled-requires readings Reads'.Pre Reads'.Post
 
 abbrev pub Need-clear-action-requires : Type 0
-Need-clear-action-requires = Lts.Need-clear-action-requires (
-  Reads''''.Asked,
-  Reads''''.Learnt,
-  Reads'''.Asked,
-  Reads'''.Learnt,
-  Reads''.Asked,
-  Reads''.Learnt,
-  Reads''''''.Asked,
-  Reads''''''.Learnt,
-  Reads'''''.Asked,
-  Reads'''''.Learnt,
-  Reads.Asked,
-  Reads.Learnt,
-) Reads'.Pre Reads'.Post
+Need-clear-action-requires = Lts.Need-clear-action-requires readings Reads'.Pre Reads'.Post
 
 abbrev pub Need-taken-with-requires : Type 0
-Need-taken-with-requires = Lts.Need-taken-with-requires (
-  Reads''''.Asked,
-  Reads''''.Learnt,
-  Reads'''.Asked,
-  Reads'''.Learnt,
-  Reads''.Asked,
-  Reads''.Learnt,
-  Reads''''''.Asked,
-  Reads''''''.Learnt,
-  Reads'''''.Asked,
-  Reads'''''.Learnt,
-  Reads.Asked,
-  Reads.Learnt,
-) Reads'.Pre Reads'.Post
+Need-taken-with-requires = Lts.Need-taken-with-requires readings Reads'.Pre Reads'.Post
 
 abbrev pub Need-same-length : Type 0
-Need-same-length = Lts.Need-same-length (
-  Reads''''.Asked,
-  Reads''''.Learnt,
-  Reads'''.Asked,
-  Reads'''.Learnt,
-  Reads''.Asked,
-  Reads''.Learnt,
-  Reads''''''.Asked,
-  Reads''''''.Learnt,
-  Reads'''''.Asked,
-  Reads'''''.Learnt,
-  Reads.Asked,
-  Reads.Learnt,
-) Reads'.Pre Reads'.Post
+Need-same-length = Lts.Need-same-length readings Reads'.Pre Reads'.Post
 
 abbrev pub Need-returns : Type 0
-Need-returns = Lts.Need-returns (
-  Reads''''.Asked,
-  Reads''''.Learnt,
-  Reads'''.Asked,
-  Reads'''.Learnt,
-  Reads''.Asked,
-  Reads''.Learnt,
-  Reads''''''.Asked,
-  Reads''''''.Learnt,
-  Reads'''''.Asked,
-  Reads'''''.Learnt,
-  Reads.Asked,
-  Reads.Learnt,
-) Reads'.Pre Reads'.Post
+Need-returns = Lts.Need-returns readings Reads'.Pre Reads'.Post
 
 abbrev pub Need-revoking-requires : Type 0
-Need-revoking-requires = Lts.Need-revoking-requires (
-  Reads''''.Asked,
-  Reads''''.Learnt,
-  Reads'''.Asked,
-  Reads'''.Learnt,
-  Reads''.Asked,
-  Reads''.Learnt,
-  Reads''''''.Asked,
-  Reads''''''.Learnt,
-  Reads'''''.Asked,
-  Reads'''''.Learnt,
-  Reads.Asked,
-  Reads.Learnt,
-) Reads'.Pre Reads'.Post
+Need-revoking-requires = Lts.Need-revoking-requires readings Reads'.Pre Reads'.Post
 
 abbrev pub Need-revoke-all-requires : Type 0
-Need-revoke-all-requires = Lts.Need-revoke-all-requires (
-  Reads''''.Asked,
-  Reads''''.Learnt,
-  Reads'''.Asked,
-  Reads'''.Learnt,
-  Reads''.Asked,
-  Reads''.Learnt,
-  Reads''''''.Asked,
-  Reads''''''.Learnt,
-  Reads'''''.Asked,
-  Reads'''''.Learnt,
-  Reads.Asked,
-  Reads.Learnt,
-) Reads'.Pre Reads'.Post
+Need-revoke-all-requires = Lts.Need-revoke-all-requires readings Reads'.Pre Reads'.Post
 
 abbrev pub Need-same-length-2 : Type 0
-Need-same-length-2 = Lts.Need-same-length-2 (
-  Reads''''.Asked,
-  Reads''''.Learnt,
-  Reads'''.Asked,
-  Reads'''.Learnt,
-  Reads''.Asked,
-  Reads''.Learnt,
-  Reads''''''.Asked,
-  Reads''''''.Learnt,
-  Reads'''''.Asked,
-  Reads'''''.Learnt,
-  Reads.Asked,
-  Reads.Learnt,
-) Reads'.Pre Reads'.Post
+Need-same-length-2 = Lts.Need-same-length-2 readings Reads'.Pre Reads'.Post
 
 abbrev pub Need-same-length-3 : Type 0
-Need-same-length-3 = Lts.Need-same-length-3 (
-  Reads''''.Asked,
-  Reads''''.Learnt,
-  Reads'''.Asked,
-  Reads'''.Learnt,
-  Reads''.Asked,
-  Reads''.Learnt,
-  Reads''''''.Asked,
-  Reads''''''.Learnt,
-  Reads'''''.Asked,
-  Reads'''''.Learnt,
-  Reads.Asked,
-  Reads.Learnt,
-) Reads'.Pre Reads'.Post
+Need-same-length-3 = Lts.Need-same-length-3 readings Reads'.Pre Reads'.Post
 
 abbrev pub Need-same-length-4 : Type 0
-Need-same-length-4 = Lts.Need-same-length-4 (
-  Reads''''.Asked,
-  Reads''''.Learnt,
-  Reads'''.Asked,
-  Reads'''.Learnt,
-  Reads''.Asked,
-  Reads''.Learnt,
-  Reads''''''.Asked,
-  Reads''''''.Learnt,
-  Reads'''''.Asked,
-  Reads'''''.Learnt,
-  Reads.Asked,
-  Reads.Learnt,
-) Reads'.Pre Reads'.Post
+Need-same-length-4 = Lts.Need-same-length-4 readings Reads'.Pre Reads'.Post
 
 abbrev pub Need-same-length-5 : Type 0
-Need-same-length-5 = Lts.Need-same-length-5 (
-  Reads''''.Asked,
-  Reads''''.Learnt,
-  Reads'''.Asked,
-  Reads'''.Learnt,
-  Reads''.Asked,
-  Reads''.Learnt,
-  Reads''''''.Asked,
-  Reads''''''.Learnt,
-  Reads'''''.Asked,
-  Reads'''''.Learnt,
-  Reads.Asked,
-  Reads.Learnt,
-) Reads'.Pre Reads'.Post
+Need-same-length-5 = Lts.Need-same-length-5 readings Reads'.Pre Reads'.Post
 
 abbrev pub Need-returns-2 : Type 0
-Need-returns-2 = Lts.Need-returns-2 (
-  Reads''''.Asked,
-  Reads''''.Learnt,
-  Reads'''.Asked,
-  Reads'''.Learnt,
-  Reads''.Asked,
-  Reads''.Learnt,
-  Reads''''''.Asked,
-  Reads''''''.Learnt,
-  Reads'''''.Asked,
-  Reads'''''.Learnt,
-  Reads.Asked,
-  Reads.Learnt,
-) Reads'.Pre Reads'.Post
+Need-returns-2 = Lts.Need-returns-2 readings Reads'.Pre Reads'.Post
 
 module _ {M : Type 1} where
-  pub spec : (answer : Need-used-requires) → (answer : Need-with-enabled-requires) → (answer : Need-clear-action-requires) → (answer :
-      Need-taken-with-requires) → (answer : Need-same-length) → (answer : Need-returns) → (answer : Need-revoking-requires) → (answer :
-      Need-revoke-all-requires) → (answer : Need-same-length-2) → (answer : Need-same-length-3) → (answer : Need-same-length-4) → (answer :
-      Need-same-length-5) → (answer : Need-returns-2) → Lts.Closed (
-        Reads''''.Asked,
-        Reads''''.Learnt,
-        Reads'''.Asked,
-        Reads'''.Learnt,
-        Reads''.Asked,
-        Reads''.Learnt,
-        Reads''''''.Asked,
-        Reads''''''.Learnt,
-        Reads'''''.Asked,
-        Reads'''''.Learnt,
-        Reads.Asked,
-        Reads.Learnt,
-      ) Reads'.Pre Reads'.Post M
-  spec = λ answer answer' answer'' answer'3 answer'4 answer'5 answer'6 answer'7 answer'8 answer'9 answer'10 answer'11 answer'12. Lts.spec (
-    Reads''''.Asked,
-    Reads''''.Learnt,
-    Reads'''.Asked,
-    Reads'''.Learnt,
-    Reads''.Asked,
-    Reads''.Learnt,
-    Reads''''''.Asked,
-    Reads''''''.Learnt,
-    Reads'''''.Asked,
-    Reads'''''.Learnt,
-    Reads.Asked,
-    Reads.Learnt,
-  ) Reads'.Pre Reads'.Post answer answer' answer'' answer'3 answer'4 answer'5
-      answer'6 answer'7 answer'8 answer'9 answer'10 answer'11 answer'12
+  pub spec : (answer : Need-used-requires) → (answer : Need-with-enabled-requires) →
+      (answer : Need-clear-action-requires) → (answer : Need-taken-with-requires) → (answer : Need-same-length) →
+      (answer : Need-returns) → (answer : Need-revoking-requires) → (answer : Need-revoke-all-requires) →
+      (answer : Need-same-length-2) → (answer : Need-same-length-3) → (answer : Need-same-length-4) →
+      (answer : Need-same-length-5) → (answer : Need-returns-2) → Lts.Closed readings Reads'.Pre Reads'.Post M
+  spec = λ answer answer' answer'' answer'3 answer'4 answer'5 answer'6 answer'7 answer'8 answer'9 answer'10 answer'11
+      answer'12. Lts.spec readings Reads'.Pre Reads'.Post answer answer' answer'' answer'3 answer'4 answer'5 answer'6
+      answer'7 answer'8 answer'9 answer'10 answer'11 answer'12
 
-  pub close : Lts.Closed (
-    Reads''''.Asked,
-    Reads''''.Learnt,
-    Reads'''.Asked,
-    Reads'''.Learnt,
-    Reads''.Asked,
-    Reads''.Learnt,
-    Reads''''''.Asked,
-    Reads''''''.Learnt,
-    Reads'''''.Asked,
-    Reads'''''.Learnt,
-    Reads.Asked,
-    Reads.Learnt,
-  ) Reads'.Pre Reads'.Post M → Statement.statement M
+  pub close : Lts.Closed readings Reads'.Pre Reads'.Post M → Statement.statement M
   unfolding Code.routine Running.tablesOf
-  close = λ closed 𝓤 H 𝓜 𝓖 𝓡. Written.close 4 Kinds.ps Kinds.r Reads'.Ghost Reads'.requires Reads'.ensures Reads'.pre-read Reads'.Pinned Reads'.Owned
-      Reads'.post-read record { M = M; 𝓤 = 𝓤; H = H; 𝓜 = 𝓜; 𝓖 = 𝓖; 𝓡 = 𝓡 } Code.env Key.name Code.function (Code.unfolded 𝓤 H 𝓜 𝓡) (λ κs a g. tt) (λ
-      κs. Reads'.owns κs record { M = M; 𝓤 = 𝓤; H = H; 𝓜 = 𝓜; 𝓖 = 𝓖; 𝓡 = 𝓡 }) (Reads'.passes record { M = M; 𝓤 = 𝓤; H = H; 𝓜 = 𝓜; 𝓖 = 𝓖; 𝓡 = 𝓡 }) λ g.
-      closed 𝓤 H (𝓖 .A) (Running.givenOf 𝓤 H 𝓜 𝓖) (Run.Over 𝓤 H 𝓜 𝓖 𝓡 Code.env) (Reads''''.known record { M = M; 𝓤 = 𝓤; H = H; 𝓜 = 𝓜; 𝓖 = 𝓖; 𝓡 = 𝓡 }
-      Code.env Symbol'.name Symbol'.routine Code.calls-hnsr-circuit·question·used (Met'.met 𝓤 H 𝓜 𝓖 𝓡)) (Reads'''.known record {
-        M = M;
-        𝓤 = 𝓤;
-        H = H;
-        𝓜 = 𝓜;
-        𝓖 = 𝓖;
-        𝓡 = 𝓡;
-      } Code.env Symbol.name Symbol.routine Code.calls-hnsr-circuit·header·with-enabled (Met.met 𝓤 H 𝓜 𝓖 𝓡)) (Reads''.known record
-      { M = M; 𝓤 = 𝓤; H = H; 𝓜 = 𝓜; 𝓖 = 𝓖; 𝓡 = 𝓡 } Code.env Symbol'''''.name Symbol'''''.routine Code.calls-hnsr-circuit·tables·inflight·clear-action
-      (Met'''''.met 𝓤 H 𝓜 𝓖 𝓡)) (Reads''''''.known record { M = M; 𝓤 = 𝓤; H = H; 𝓜 = 𝓜; 𝓖 = 𝓖; 𝓡 = 𝓡 } Code.env Symbol''''.name Symbol''''.routine
-      Code.calls-hnsr-circuit·revoking-calls·taken-with (Met''''.met 𝓤 H 𝓜 𝓖 𝓡)) (Reads'''''.known record { M = M; 𝓤 = 𝓤; H = H; 𝓜 = 𝓜; 𝓖 = 𝓖; 𝓡 = 𝓡 }
-      Code.env Symbol'''.name Symbol'''.routine Code.calls-hnsr-circuit·revoking-calls·revoking (Met'''.met 𝓤 H 𝓜 𝓖 𝓡)) (Reads.known record {
-        M = M;
-        𝓤
-            = 𝓤;
-        H = H;
-        𝓜 = 𝓜;
-        𝓖 = 𝓖;
-        𝓡 = 𝓡;
-      } Code.env Symbol''.name Symbol''.routine Code.calls-hnsr-circuit·revocation·revoke-all (Met''.met 𝓤 H 𝓜 𝓖 𝓡))
+  close = λ closed 𝓤 H 𝓜 𝓖 𝓡. Written.close 4 Kinds.ps Kinds.r Reads'.Ghost Reads'.requires Reads'.ensures
+      Reads'.pre-read Reads'.Pinned Reads'.Owned Reads'.post-read record { M = M; 𝓤 = 𝓤; H = H; 𝓜 = 𝓜; 𝓖 = 𝓖; 𝓡 = 𝓡 }
+      Code.env Key.name Code.function (Code.unfolded 𝓤 H 𝓜 𝓡) (λ κs a g. tt) (λ κs. Reads'.owns κs
+      record { M = M; 𝓤 = 𝓤; H = H; 𝓜 = 𝓜; 𝓖 = 𝓖; 𝓡 = 𝓡 }) (Reads'.passes
+      record { M = M; 𝓤 = 𝓤; H = H; 𝓜 = 𝓜; 𝓖 = 𝓖; 𝓡 = 𝓡 }) λ g. closed 𝓤 H (𝓖 .A) (Running.givenOf 𝓤 H 𝓜 𝓖)
+      (Run.Over 𝓤 H 𝓜 𝓖 𝓡 Code.env) (Reads''''.known record { M = M; 𝓤 = 𝓤; H = H; 𝓜 = 𝓜; 𝓖 = 𝓖; 𝓡 = 𝓡 } Code.env
+      Symbol'.name Symbol'.routine Code.calls-hnsr-circuit·question·used (Met'.met 𝓤 H 𝓜 𝓖 𝓡)) (Reads'''.known
+      record { M = M; 𝓤 = 𝓤; H = H; 𝓜 = 𝓜; 𝓖 = 𝓖; 𝓡 = 𝓡 } Code.env Symbol.name Symbol.routine
+      Code.calls-hnsr-circuit·header·with-enabled (Met.met 𝓤 H 𝓜 𝓖 𝓡)) (Reads''.known
+      record { M = M; 𝓤 = 𝓤; H = H; 𝓜 = 𝓜; 𝓖 = 𝓖; 𝓡 = 𝓡 } Code.env Symbol'''''.name Symbol'''''.routine
+      Code.calls-hnsr-circuit·tables·inflight·clear-action (Met'''''.met 𝓤 H 𝓜 𝓖 𝓡)) (Reads''''''.known
+      record { M = M; 𝓤 = 𝓤; H = H; 𝓜 = 𝓜; 𝓖 = 𝓖; 𝓡 = 𝓡 } Code.env Symbol''''.name Symbol''''.routine
+      Code.calls-hnsr-circuit·revoking-calls·taken-with (Met''''.met 𝓤 H 𝓜 𝓖 𝓡)) (Reads'''''.known
+      record { M = M; 𝓤 = 𝓤; H = H; 𝓜 = 𝓜; 𝓖 = 𝓖; 𝓡 = 𝓡 } Code.env Symbol'''.name Symbol'''.routine
+      Code.calls-hnsr-circuit·revoking-calls·revoking (Met'''.met 𝓤 H 𝓜 𝓖 𝓡)) (Reads.known
+      record { M = M; 𝓤 = 𝓤; H = H; 𝓜 = 𝓜; 𝓖 = 𝓖; 𝓡 = 𝓡 } Code.env Symbol''.name Symbol''.routine
+      Code.calls-hnsr-circuit·revocation·revoke-all (Met''.met 𝓤 H 𝓜 𝓖 𝓡))

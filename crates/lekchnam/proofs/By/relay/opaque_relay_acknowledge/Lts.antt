@@ -9,10 +9,12 @@ use Rattle.hnsr_circuit.proofs.runtime.Relayed.Laws as Laws''
 use Rattle.lekchnam.proofs.By.InflightAction
 use Rattle.lekchnam.proofs.By.RelayCircuit
 use Rattle.lekchnam.proofs.By.RelayPending
+use Rattle.lekchnam.proofs.StructRow
 use Rattle.lekchnam.proofs.relay.RelayReply
 use Rattle.lekchnam.proofs.relay.RelayReply.Laws as Laws'''
 use borrow.Author.Called
 use borrow.Fn.Any
+use borrow.Fn.Args as Args'
 use borrow.Fn.Call
 use borrow.Fn.Enter
 use borrow.Fn.Frame
@@ -22,7 +24,6 @@ use borrow.Fn.Plain
 use borrow.Kind.Bool
 use borrow.Kind.MutSlice
 use borrow.Kind.Num
-use borrow.Kind.Value
 use borrow.Rule.Lifetime
 use borrow.Rule.Local
 use borrow.Rule.Scalar
@@ -38,9 +39,7 @@ use borrow.Table.Row
 use borrow.Table.Rows
 use borrow.Table.Typed
 use contract.Lifetimes
-use denote.Exit
 use denote.Struct.Declared
-use denote.Struct.Laws as Laws''''
 use denote.Triple.Clauses
 use denote.Triple.Statement
 use ghost.Atoms
@@ -57,1054 +56,1709 @@ use mathlib.Core.List.{_∷_}
 
 abbrev ref0 : Syntax.Ty
 ref0 = Syntax.tyRef Syntax.erased Syntax.mut RelayPending.to
+
 abbrev ref1 : Syntax.Ty
 ref1 = Syntax.tyRef Syntax.erased Syntax.mut RelayCircuit.to
+
 abbrev ref2 : Syntax.Ty
 ref2 = Syntax.tyRef Syntax.erased Syntax.mut InflightAction.to
+
 abbrev ref3 : Syntax.Ty
 ref3 = Syntax.tyRef Syntax.erased Syntax.mut (Syntax.tyInt Syntax.w32)
+
 abbrev ref4 : Syntax.Ty
 ref4 = Syntax.tyRef (Syntax.named 0) Syntax.mut RelayPending.to
+
 abbrev ref5 : Syntax.Ty
 ref5 = Syntax.tyRef (Syntax.named 1) Syntax.mut RelayCircuit.to
+
 abbrev ref6 : Syntax.Ty
 ref6 = Syntax.tyRef (Syntax.named 2) Syntax.mut InflightAction.to
+
 abbrev ref7 : Syntax.Ty
 ref7 = Syntax.tyRef (Syntax.named 3) Syntax.mut (Syntax.tyInt Syntax.w32)
+
+abbrev slice0 : Syntax.Ty
+slice0 = Syntax.tyStruct (38 ∷ 91 ∷ 93 ∷ List.[]) (Syntax.tcons ref0
+    (Syntax.tcons (Syntax.tyInt Syntax.w64) Syntax.tnil))
+
+abbrev slice1 : Syntax.Ty
+slice1 = Syntax.tyStruct (38 ∷ 91 ∷ 93 ∷ List.[]) (Syntax.tcons ref1
+    (Syntax.tcons (Syntax.tyInt Syntax.w64) Syntax.tnil))
+
+abbrev slice2 : Syntax.Ty
+slice2 = Syntax.tyStruct (38 ∷ 91 ∷ 93 ∷ List.[]) (Syntax.tcons ref2
+    (Syntax.tcons (Syntax.tyInt Syntax.w64) Syntax.tnil))
+
+abbrev slice3 : Syntax.Ty
+slice3 = Syntax.tyStruct (38 ∷ 91 ∷ 93 ∷ List.[]) (Syntax.tcons ref3
+    (Syntax.tcons (Syntax.tyInt Syntax.w64) Syntax.tnil))
+
 abbrev pub ps : List.List (Kinds.PK 4)
-ps = (MutSlice.pMutS RelayPending.row 0 tt) ∷ (MutSlice.pMutS RelayCircuit.row 1 tt) ∷ (MutSlice.pMutS InflightAction.row 2 tt) ∷ (MutSlice.pMutS
-    (Referent.rtF (Referent.fInt Syntax.w32)) 3 tt) ∷ (Value.pVal record { ty = Declared.row OpaqueRelayRuntime.the-type; one = Path.refl; val =
-    Laws''''.val OpaqueRelayRuntime.the-type Laws'.the-laws; tells = Laws''''.tells OpaqueRelayRuntime.the-type Laws'.the-laws; still = Laws''''.still
-    OpaqueRelayRuntime.the-type Laws'.the-copy Exit.yes; row = Rows.whole (Declared.row OpaqueRelayRuntime.the-type); rd = λ x. x; mk = λ x. x; } λ M
-    𝓤 H A W. record { copies = Laws''''.copy OpaqueRelayRuntime.the-type Laws'.the-copy 𝓤 H A W; lawful = Laws''''.lawful OpaqueRelayRuntime.the-type
-    Laws'.the-laws 𝓤 H A W; makes = Laws''''.makes OpaqueRelayRuntime.the-type Laws'.the-plain 𝓤 H A; in-mem = Local.mem-whole 𝓤 H A W (Declared.row
-    OpaqueRelayRuntime.the-type); of-mem = Local.whole-mem 𝓤 H A W (Declared.row OpaqueRelayRuntime.the-type); }) ∷ (Value.pVal record { ty =
-    Declared.row Places.the-type; one = Path.refl; val = Laws''''.val Places.the-type Laws.the-laws; tells = Laws''''.tells Places.the-type
-    Laws.the-laws; still = Laws''''.still Places.the-type Laws.the-copy Exit.yes; row = Rows.whole (Declared.row Places.the-type); rd = λ x. x; mk = λ
-    x. x; } λ M 𝓤 H A W. record { copies = Laws''''.copy Places.the-type Laws.the-copy 𝓤 H A W; lawful = Laws''''.lawful Places.the-type Laws.the-laws
-    𝓤 H A W; makes = Laws''''.makes Places.the-type Laws.the-plain 𝓤 H A; in-mem = Local.mem-whole 𝓤 H A W (Declared.row Places.the-type); of-mem =
-    Local.whole-mem 𝓤 H A W (Declared.row Places.the-type); }) ∷ (Num.pNum Syntax.w64) ∷ (Num.pNum Syntax.w64) ∷ Bool.pBool ∷ List.[]
+ps = (MutSlice.pMutS RelayPending.row 0 tt) ∷ (MutSlice.pMutS RelayCircuit.row 1 tt) ∷
+    (MutSlice.pMutS InflightAction.row 2 tt) ∷ (MutSlice.pMutS (Referent.rtF (Referent.fInt Syntax.w32)) 3 tt) ∷ (StructRow.param
+    OpaqueRelayRuntime.the-type Laws'.the-laws Laws'.the-copy Laws'.the-plain) ∷ (StructRow.param Places.the-type
+    Laws.the-laws Laws.the-copy Laws.the-plain) ∷ (Num.pNum Syntax.w64) ∷ (Num.pNum Syntax.w64) ∷ Bool.pBool ∷ List.[]
+
 abbrev pub r : Kinds.RK 4
-r = Value.rVal record { ty = Declared.row RelayReply.the-type; one = Path.refl; val = Laws''''.val RelayReply.the-type Laws'''.the-laws; tells =
-    Laws''''.tells RelayReply.the-type Laws'''.the-laws; still = Laws''''.still RelayReply.the-type Laws'''.the-copy Exit.yes; row = Rows.whole
-    (Declared.row RelayReply.the-type); rd = λ x. x; mk = λ x. x; } λ M 𝓤 H A W. record { copies = Laws''''.copy RelayReply.the-type Laws'''.the-copy
-    𝓤 H A W; lawful = Laws''''.lawful RelayReply.the-type Laws'''.the-laws 𝓤 H A W; makes = Laws''''.makes RelayReply.the-type Laws'''.the-plain 𝓤 H
-    A; in-mem = Local.mem-whole 𝓤 H A W (Declared.row RelayReply.the-type); of-mem = Local.whole-mem 𝓤 H A W (Declared.row RelayReply.the-type); }
+r = StructRow.result RelayReply.the-type Laws'''.the-laws Laws'''.the-copy Laws'''.the-plain
+
 abbrev pub xs : List.List Syntax.Ty
-xs = Laws''.mir ∷ ref0 ∷ (Syntax.tyStruct (38 ∷ 91 ∷ 93 ∷ List.[]) (Syntax.tcons ref0 (Syntax.tcons (Syntax.tyInt Syntax.w64) Syntax.tnil))) ∷ ref1 ∷
-    (Syntax.tyStruct (38 ∷ 91 ∷ 93 ∷ List.[]) (Syntax.tcons ref1 (Syntax.tcons (Syntax.tyInt Syntax.w64) Syntax.tnil))) ∷ ref2 ∷ (Syntax.tyStruct (38
-    ∷ 91 ∷ 93 ∷ List.[]) (Syntax.tcons ref2 (Syntax.tcons (Syntax.tyInt Syntax.w64) Syntax.tnil))) ∷ ref3 ∷ (Syntax.tyStruct (38 ∷ 91 ∷ 93 ∷ List.[])
-    (Syntax.tcons ref3 (Syntax.tcons (Syntax.tyInt Syntax.w64) Syntax.tnil))) ∷ List.[]
+xs = Laws''.mir ∷ ref0 ∷ slice0 ∷ ref1 ∷ slice1 ∷ ref2 ∷ slice2 ∷ ref3 ∷ slice3 ∷ List.[]
+
 abbrev pub m : Nat.ℕ
 m = 4
+
 abbrev pub ps·0 : List.List (Kinds.PK 4)
-ps·0 = (MutSlice.pMutS RelayPending.row 0 tt) ∷ (MutSlice.pMutS RelayCircuit.row 1 tt) ∷ (MutSlice.pMutS InflightAction.row 2 tt) ∷ (MutSlice.pMutS
-    (Referent.rtF (Referent.fInt Syntax.w32)) 3 tt) ∷ (Value.pVal record { ty = Declared.row OpaqueRelayRuntime.the-type; one = Path.refl; val =
-    Laws''''.val OpaqueRelayRuntime.the-type Laws'.the-laws; tells = Laws''''.tells OpaqueRelayRuntime.the-type Laws'.the-laws; still = Laws''''.still
-    OpaqueRelayRuntime.the-type Laws'.the-copy Exit.yes; row = Rows.whole (Declared.row OpaqueRelayRuntime.the-type); rd = λ x. x; mk = λ x. x; } λ M
-    𝓤 H A W. record { copies = Laws''''.copy OpaqueRelayRuntime.the-type Laws'.the-copy 𝓤 H A W; lawful = Laws''''.lawful OpaqueRelayRuntime.the-type
-    Laws'.the-laws 𝓤 H A W; makes = Laws''''.makes OpaqueRelayRuntime.the-type Laws'.the-plain 𝓤 H A; in-mem = Local.mem-whole 𝓤 H A W (Declared.row
-    OpaqueRelayRuntime.the-type); of-mem = Local.whole-mem 𝓤 H A W (Declared.row OpaqueRelayRuntime.the-type); }) ∷ (Value.pVal record { ty =
-    Declared.row Places.the-type; one = Path.refl; val = Laws''''.val Places.the-type Laws.the-laws; tells = Laws''''.tells Places.the-type
-    Laws.the-laws; still = Laws''''.still Places.the-type Laws.the-copy Exit.yes; row = Rows.whole (Declared.row Places.the-type); rd = λ x. x; mk = λ
-    x. x; } λ M 𝓤 H A W. record { copies = Laws''''.copy Places.the-type Laws.the-copy 𝓤 H A W; lawful = Laws''''.lawful Places.the-type Laws.the-laws
-    𝓤 H A W; makes = Laws''''.makes Places.the-type Laws.the-plain 𝓤 H A; in-mem = Local.mem-whole 𝓤 H A W (Declared.row Places.the-type); of-mem =
-    Local.whole-mem 𝓤 H A W (Declared.row Places.the-type); }) ∷ (Num.pNum Syntax.w64) ∷ (Num.pNum Syntax.w64) ∷ Bool.pBool ∷ List.[]
+ps·0 = (MutSlice.pMutS RelayPending.row 0 tt) ∷ (MutSlice.pMutS RelayCircuit.row 1 tt) ∷
+    (MutSlice.pMutS InflightAction.row 2 tt) ∷ (MutSlice.pMutS (Referent.rtF (Referent.fInt Syntax.w32)) 3 tt) ∷ (StructRow.param
+    OpaqueRelayRuntime.the-type Laws'.the-laws Laws'.the-copy Laws'.the-plain) ∷ (StructRow.param Places.the-type
+    Laws.the-laws Laws.the-copy Laws.the-plain) ∷ (Num.pNum Syntax.w64) ∷ (Num.pNum Syntax.w64) ∷ Bool.pBool ∷ List.[]
+
 abbrev pub r·0 : Kinds.RK 4
-r·0 = Value.rVal record { ty = Declared.row Relayed.the-type; one = Path.refl; val = Laws''''.val Relayed.the-type Laws''.the-laws; tells =
-    Laws''''.tells Relayed.the-type Laws''.the-laws; still = Laws''''.still Relayed.the-type Laws''.the-copy Exit.yes; row = Rows.whole (Declared.row
-    Relayed.the-type); rd = λ x. x; mk = λ x. x; } λ M 𝓤 H A W. record { copies = Laws''''.copy Relayed.the-type Laws''.the-copy 𝓤 H A W; lawful =
-    Laws''''.lawful Relayed.the-type Laws''.the-laws 𝓤 H A W; makes = Laws''''.makes Relayed.the-type Laws''.the-plain 𝓤 H A; in-mem = Local.mem-whole
-    𝓤 H A W (Declared.row Relayed.the-type); of-mem = Local.whole-mem 𝓤 H A W (Declared.row Relayed.the-type); }
+r·0 = StructRow.result Relayed.the-type Laws''.the-laws Laws''.the-copy Laws''.the-plain
+
 abbrev pub ps·1 : List.List (Kinds.PK 0)
-ps·1 = (Value.pVal record { ty = Declared.row Relayed.the-type; one = Path.refl; val = Laws''''.val Relayed.the-type Laws''.the-laws; tells =
-    Laws''''.tells Relayed.the-type Laws''.the-laws; still = Laws''''.still Relayed.the-type Laws''.the-copy Exit.yes; row = Rows.whole (Declared.row
-    Relayed.the-type); rd = λ x. x; mk = λ x. x; } λ M 𝓤 H A W. record { copies = Laws''''.copy Relayed.the-type Laws''.the-copy 𝓤 H A W; lawful =
-    Laws''''.lawful Relayed.the-type Laws''.the-laws 𝓤 H A W; makes = Laws''''.makes Relayed.the-type Laws''.the-plain 𝓤 H A; in-mem = Local.mem-whole
-    𝓤 H A W (Declared.row Relayed.the-type); of-mem = Local.whole-mem 𝓤 H A W (Declared.row Relayed.the-type); }) ∷ List.[]
+ps·1 = (StructRow.param Relayed.the-type Laws''.the-laws Laws''.the-copy Laws''.the-plain) ∷ List.[]
+
 abbrev pub r·1 : Kinds.RK 0
-r·1 = Value.rVal record { ty = Declared.row RelayReply.the-type; one = Path.refl; val = Laws''''.val RelayReply.the-type Laws'''.the-laws; tells =
-    Laws''''.tells RelayReply.the-type Laws'''.the-laws; still = Laws''''.still RelayReply.the-type Laws'''.the-copy Exit.yes; row = Rows.whole
-    (Declared.row RelayReply.the-type); rd = λ x. x; mk = λ x. x; } λ M 𝓤 H A W. record { copies = Laws''''.copy RelayReply.the-type Laws'''.the-copy
-    𝓤 H A W; lawful = Laws''''.lawful RelayReply.the-type Laws'''.the-laws 𝓤 H A W; makes = Laws''''.makes RelayReply.the-type Laws'''.the-plain 𝓤 H
-    A; in-mem = Local.mem-whole 𝓤 H A W (Declared.row RelayReply.the-type); of-mem = Local.whole-mem 𝓤 H A W (Declared.row RelayReply.the-type); }
+r·1 = StructRow.result RelayReply.the-type Laws'''.the-laws Laws'''.the-copy Laws'''.the-plain
+
 abbrev pub hs : List.List Syntax.Home
-hs = Syntax.valueLocal ∷ Syntax.valueLocal ∷ Syntax.valueLocal ∷ Syntax.valueLocal ∷ Syntax.valueLocal ∷ Syntax.valueLocal ∷ Syntax.valueLocal ∷
-    Syntax.valueLocal ∷ Syntax.valueLocal ∷ Syntax.valueLocal ∷ Syntax.valueLocal ∷ Syntax.valueLocal ∷ Syntax.valueLocal ∷ Syntax.valueLocal ∷
-    Syntax.valueLocal ∷ Syntax.valueLocal ∷ Syntax.valueLocal ∷ Syntax.valueLocal ∷ Syntax.valueLocal ∷ List.[]
+hs = Syntax.valueLocal ∷ Syntax.valueLocal ∷ Syntax.valueLocal ∷ Syntax.valueLocal ∷ Syntax.valueLocal ∷
+    Syntax.valueLocal ∷ Syntax.valueLocal ∷ Syntax.valueLocal ∷ Syntax.valueLocal ∷ Syntax.valueLocal ∷
+    Syntax.valueLocal ∷ Syntax.valueLocal ∷ Syntax.valueLocal ∷ Syntax.valueLocal ∷ Syntax.valueLocal ∷
+    Syntax.valueLocal ∷ Syntax.valueLocal ∷ Syntax.valueLocal ∷ Syntax.valueLocal ∷ List.[]
+
 abbrev b0 : Syntax.Body
-b0 = Syntax.assign (Syntax.place 11 List.[]) (Syntax.addrOf (Syntax.place 1 ((Syntax.field 0) ∷ (Syntax.deref RelayPending.ty) ∷ List.[])))
+b0 = Syntax.assign (Syntax.place 11 List.[]) (Syntax.addrOf (Syntax.place 1 ((Syntax.field 0) ∷
+    (Syntax.deref RelayPending.ty) ∷ List.[])))
+
 abbrev b1 : Syntax.Body
-b1 = Syntax.assign (Syntax.place 12 List.[]) (Syntax.aggregate ((Syntax.copy (Syntax.place 11 List.[])) ∷ (Syntax.copy (Syntax.place 1 ((Syntax.field
-    1) ∷ List.[]))) ∷ List.[]))
+b1 = Syntax.assign (Syntax.place 12 List.[]) (Syntax.aggregate ((Syntax.copy (Syntax.place 11 List.[])) ∷
+    (Syntax.copy (Syntax.place 1 ((Syntax.field 1) ∷ List.[]))) ∷ List.[]))
+
 abbrev b2 : Syntax.Body
-b2 = Syntax.assign (Syntax.place 13 List.[]) (Syntax.addrOf (Syntax.place 2 ((Syntax.field 0) ∷ (Syntax.deref RelayCircuit.ty) ∷ List.[])))
+b2 = Syntax.assign (Syntax.place 13 List.[]) (Syntax.addrOf (Syntax.place 2 ((Syntax.field 0) ∷
+    (Syntax.deref RelayCircuit.ty) ∷ List.[])))
+
 abbrev b3 : Syntax.Body
-b3 = Syntax.assign (Syntax.place 14 List.[]) (Syntax.aggregate ((Syntax.copy (Syntax.place 13 List.[])) ∷ (Syntax.copy (Syntax.place 2 ((Syntax.field
-    1) ∷ List.[]))) ∷ List.[]))
+b3 = Syntax.assign (Syntax.place 14 List.[]) (Syntax.aggregate ((Syntax.copy (Syntax.place 13 List.[])) ∷
+    (Syntax.copy (Syntax.place 2 ((Syntax.field 1) ∷ List.[]))) ∷ List.[]))
+
 abbrev b4 : Syntax.Body
-b4 = Syntax.assign (Syntax.place 15 List.[]) (Syntax.addrOf (Syntax.place 3 ((Syntax.field 0) ∷ (Syntax.deref InflightAction.ty) ∷ List.[])))
+b4 = Syntax.assign (Syntax.place 15 List.[]) (Syntax.addrOf (Syntax.place 3 ((Syntax.field 0) ∷
+    (Syntax.deref InflightAction.ty) ∷ List.[])))
+
 abbrev b5 : Syntax.Body
-b5 = Syntax.assign (Syntax.place 16 List.[]) (Syntax.aggregate ((Syntax.copy (Syntax.place 15 List.[])) ∷ (Syntax.copy (Syntax.place 3 ((Syntax.field
-    1) ∷ List.[]))) ∷ List.[]))
+b5 = Syntax.assign (Syntax.place 16 List.[]) (Syntax.aggregate ((Syntax.copy (Syntax.place 15 List.[])) ∷
+    (Syntax.copy (Syntax.place 3 ((Syntax.field 1) ∷ List.[]))) ∷ List.[]))
+
 abbrev b6 : Syntax.Body
-b6 = Syntax.assign (Syntax.place 17 List.[]) (Syntax.addrOf (Syntax.place 4 ((Syntax.field 0) ∷ (Syntax.deref (Syntax.tyInt Syntax.w32)) ∷ List.[])))
+b6 = Syntax.assign (Syntax.place 17 List.[]) (Syntax.addrOf (Syntax.place 4 ((Syntax.field 0) ∷
+    (Syntax.deref (Syntax.tyInt Syntax.w32)) ∷ List.[])))
+
 abbrev b7 : Syntax.Body
-b7 = Syntax.assign (Syntax.place 18 List.[]) (Syntax.aggregate ((Syntax.copy (Syntax.place 17 List.[])) ∷ (Syntax.copy (Syntax.place 4 ((Syntax.field
-    1) ∷ List.[]))) ∷ List.[]))
+b7 = Syntax.assign (Syntax.place 18 List.[]) (Syntax.aggregate ((Syntax.copy (Syntax.place 17 List.[])) ∷
+    (Syntax.copy (Syntax.place 4 ((Syntax.field 1) ∷ List.[]))) ∷ List.[]))
+
 abbrev b8 : Syntax.Body
-b8 = Syntax.call "hnsr_circuit::acknowledge::acknowledge" ((Syntax.copy (Syntax.place 12 List.[])) ∷ (Syntax.copy (Syntax.place 14 List.[])) ∷
-    (Syntax.copy (Syntax.place 16 List.[])) ∷ (Syntax.copy (Syntax.place 18 List.[])) ∷ (Syntax.copy (Syntax.place 5 List.[])) ∷ (Syntax.copy
-    (Syntax.place 6 List.[])) ∷ (Syntax.copy (Syntax.place 7 List.[])) ∷ (Syntax.copy (Syntax.place 8 List.[])) ∷ (Syntax.copy (Syntax.place 9
-    List.[])) ∷ List.[]) (Syntax.place 10 List.[])
+b8 = Syntax.call "hnsr_circuit::acknowledge::acknowledge" ((Syntax.copy (Syntax.place 12 List.[])) ∷
+    (Syntax.copy (Syntax.place 14 List.[])) ∷ (Syntax.copy (Syntax.place 16 List.[])) ∷
+    (Syntax.copy (Syntax.place 18 List.[])) ∷ (Syntax.copy (Syntax.place 5 List.[])) ∷
+    (Syntax.copy (Syntax.place 6 List.[])) ∷ (Syntax.copy (Syntax.place 7 List.[])) ∷
+    (Syntax.copy (Syntax.place 8 List.[])) ∷ (Syntax.copy (Syntax.place 9 List.[])) ∷ List.[])
+    (Syntax.place 10 List.[])
+
 abbrev b9 : Syntax.Body
 b9 = Syntax.call "lekchnam::relay::reply" ((Syntax.copy (Syntax.place 10 List.[])) ∷ List.[]) (Syntax.place 0 List.[])
+
 abbrev b10 : Syntax.Body
 b10 = Syntax.return
+
 abbrev b11 : Syntax.Body
 b11 = Syntax.seq b9 b10
+
 abbrev b12 : Syntax.Body
 b12 = Syntax.seq b8 b11
+
 abbrev b13 : Syntax.Body
 b13 = Syntax.seq b7 b12
+
 abbrev b14 : Syntax.Body
 b14 = Syntax.seq b6 b13
+
 abbrev b15 : Syntax.Body
 b15 = Syntax.seq b5 b14
+
 abbrev b16 : Syntax.Body
 b16 = Syntax.seq b4 b15
+
 abbrev b17 : Syntax.Body
 b17 = Syntax.seq b3 b16
+
 abbrev b18 : Syntax.Body
 b18 = Syntax.seq b2 b17
+
 abbrev b19 : Syntax.Body
 b19 = Syntax.seq b1 b18
+
 abbrev b20 : Syntax.Body
 b20 = Syntax.seq b0 b19
+
 abbrev pub body : Syntax.Body
 body = b20
+
 abbrev pub Claims : Type 1
 Claims = Kinds.In 4 ps·0 × Kinds.Out 4 ps·0 r·0 × Kinds.In 0 ps·1 × Kinds.Out 0 ps·1 r·1
+
 abbrev e0 : Row.Entry
 e0 = (0, Rows.any-gone Laws'''.mir)
+
 abbrev e1 : Row.Entry
 e1 = (1, Mut.mslice RelayPending.row ref4 0)
+
 abbrev e2 : Row.Entry
 e2 = (2, Mut.mslice RelayCircuit.row ref5 1)
+
 abbrev e3 : Row.Entry
 e3 = (3, Mut.mslice InflightAction.row ref6 2)
+
 abbrev e4 : Row.Entry
 e4 = (4, Mut.mslice (Referent.rtF (Referent.fInt Syntax.w32)) ref7 3)
+
 abbrev e5 : Row.Entry
 e5 = (5, Rows.whole (Declared.row OpaqueRelayRuntime.the-type))
+
 abbrev e6 : Row.Entry
 e6 = (6, Rows.whole (Declared.row Places.the-type))
+
 abbrev e7 : Row.Entry
 e7 = (7, Rows.sc-here (Row.sInt Syntax.w64))
+
 abbrev e8 : Row.Entry
 e8 = (8, Rows.sc-here (Row.sInt Syntax.w64))
+
 abbrev e9 : Row.Entry
 e9 = (9, Rows.sc-here Row.sBool)
+
 abbrev e10 : Row.Entry
 e10 = (10, Rows.any-gone Laws''.mir)
+
 abbrev e11 : Row.Entry
 e11 = (11, Rows.any-gone ref0)
+
 abbrev e12 : Row.Entry
-e12 = (12, Rows.any-gone (Syntax.tyStruct (38 ∷ 91 ∷ 93 ∷ List.[]) (Syntax.tcons ref0 (Syntax.tcons (Syntax.tyInt Syntax.w64) Syntax.tnil))))
+e12 = (12, Rows.any-gone slice0)
+
 abbrev e13 : Row.Entry
 e13 = (13, Rows.any-gone ref1)
+
 abbrev e14 : Row.Entry
-e14 = (14, Rows.any-gone (Syntax.tyStruct (38 ∷ 91 ∷ 93 ∷ List.[]) (Syntax.tcons ref1 (Syntax.tcons (Syntax.tyInt Syntax.w64) Syntax.tnil))))
+e14 = (14, Rows.any-gone slice1)
+
 abbrev e15 : Row.Entry
 e15 = (15, Rows.any-gone ref2)
+
 abbrev e16 : Row.Entry
-e16 = (16, Rows.any-gone (Syntax.tyStruct (38 ∷ 91 ∷ 93 ∷ List.[]) (Syntax.tcons ref2 (Syntax.tcons (Syntax.tyInt Syntax.w64) Syntax.tnil))))
+e16 = (16, Rows.any-gone slice2)
+
 abbrev e17 : Row.Entry
 e17 = (17, Rows.any-gone ref3)
+
 abbrev e18 : Row.Entry
-e18 = (18, Rows.any-gone (Syntax.tyStruct (38 ∷ 91 ∷ 93 ∷ List.[]) (Syntax.tcons ref3 (Syntax.tcons (Syntax.tyInt Syntax.w64) Syntax.tnil))))
+e18 = (18, Rows.any-gone slice3)
+
 abbrev e0·1 : Row.Entry
 e0·1 = (0, Rows.whole (Declared.row RelayReply.the-type))
+
 abbrev e5·1 : Row.Entry
 e5·1 = (5, Rows.any-gone Laws'.mir)
+
 abbrev e6·1 : Row.Entry
 e6·1 = (6, Rows.any-gone Laws.mir)
+
 abbrev e7·1 : Row.Entry
 e7·1 = (7, Rows.any-gone (Syntax.tyInt Syntax.w64))
+
 abbrev e8·1 : Row.Entry
 e8·1 = (8, Rows.any-gone (Syntax.tyInt Syntax.w64))
+
 abbrev e9·1 : Row.Entry
 e9·1 = (9, Rows.any-gone Syntax.tyBool)
+
 abbrev e1·1 : Row.Entry
 e1·1 = (1, Relend.mslice-owed RelayPending.row ref4 0 4 Row.off)
+
 abbrev e11·1 : Row.Entry
 e11·1 = (11, Relend.msptr RelayPending.row ref0 4)
+
 abbrev e12·1 : Row.Entry
 e12·1 = (12, Mut.mslice RelayPending.row ref0 4)
+
 abbrev e2·1 : Row.Entry
 e2·1 = (2, Relend.mslice-owed RelayCircuit.row ref5 1 5 Row.off)
+
 abbrev e13·1 : Row.Entry
 e13·1 = (13, Relend.msptr RelayCircuit.row ref1 5)
+
 abbrev e14·1 : Row.Entry
 e14·1 = (14, Mut.mslice RelayCircuit.row ref1 5)
+
 abbrev e3·1 : Row.Entry
 e3·1 = (3, Relend.mslice-owed InflightAction.row ref6 2 6 Row.off)
+
 abbrev e15·1 : Row.Entry
 e15·1 = (15, Relend.msptr InflightAction.row ref2 6)
+
 abbrev e16·1 : Row.Entry
 e16·1 = (16, Mut.mslice InflightAction.row ref2 6)
+
 abbrev e4·1 : Row.Entry
 e4·1 = (4, Relend.mslice-owed (Referent.rtF (Referent.fInt Syntax.w32)) ref7 3 7 Row.off)
+
 abbrev e17·1 : Row.Entry
 e17·1 = (17, Relend.msptr (Referent.rtF (Referent.fInt Syntax.w32)) ref3 7)
+
 abbrev e18·1 : Row.Entry
 e18·1 = (18, Mut.mslice (Referent.rtF (Referent.fInt Syntax.w32)) ref3 7)
+
 abbrev e10·1 : Row.Entry
 e10·1 = (10, Rows.whole (Declared.row Relayed.the-type))
+
 abbrev e12·2 : Row.Entry
 e12·2 = (12, Mut.msleft RelayPending.row ref0)
+
 abbrev e14·2 : Row.Entry
 e14·2 = (14, Mut.msleft RelayCircuit.row ref1)
+
 abbrev e16·2 : Row.Entry
 e16·2 = (16, Mut.msleft InflightAction.row ref2)
+
 abbrev e18·2 : Row.Entry
 e18·2 = (18, Mut.msleft (Referent.rtF (Referent.fInt Syntax.w32)) ref3)
+
 abbrev pub t0 : List.List Row.Entry
 t0 = e0 ∷ e1 ∷ e2 ∷ e3 ∷ e4 ∷ e5 ∷ e6 ∷ e7 ∷ e8 ∷ e9 ∷ e10 ∷ e11 ∷ e12 ∷ e13 ∷ e14 ∷ e15 ∷ List.[]
+
 abbrev pub t1 : List.List Row.Entry
 t1 = e16 ∷ e17 ∷ e18 ∷ List.[]
+
 abbrev pub t2 : List.List Row.Entry
 t2 = e0·1 ∷ e1 ∷ e2 ∷ e3 ∷ e4 ∷ e5·1 ∷ e6·1 ∷ e7·1 ∷ e8·1 ∷ e9·1 ∷ e10 ∷ e11 ∷ e12 ∷ e13 ∷ e14 ∷ e15 ∷ List.[]
+
 abbrev pub t3 : List.List Row.Entry
 t3 = e0 ∷ e1·1 ∷ e2 ∷ e3 ∷ e4 ∷ e5 ∷ e6 ∷ e7 ∷ e8 ∷ e9 ∷ e10 ∷ e11·1 ∷ e12 ∷ e13 ∷ e14 ∷ e15 ∷ List.[]
+
 abbrev pub t4 : List.List Row.Entry
 t4 = e0 ∷ e1·1 ∷ e2 ∷ e3 ∷ e4 ∷ e5 ∷ e6 ∷ e7 ∷ e8 ∷ e9 ∷ e10 ∷ e11 ∷ e12·1 ∷ e13 ∷ e14 ∷ e15 ∷ List.[]
+
 abbrev pub t5 : List.List Row.Entry
 t5 = e0 ∷ e1·1 ∷ e2·1 ∷ e3 ∷ e4 ∷ e5 ∷ e6 ∷ e7 ∷ e8 ∷ e9 ∷ e10 ∷ e11 ∷ e12·1 ∷ e13·1 ∷ e14 ∷ e15 ∷ List.[]
+
 abbrev pub t6 : List.List Row.Entry
 t6 = e0 ∷ e1·1 ∷ e2·1 ∷ e3 ∷ e4 ∷ e5 ∷ e6 ∷ e7 ∷ e8 ∷ e9 ∷ e10 ∷ e11 ∷ e12·1 ∷ e13 ∷ e14·1 ∷ e15 ∷ List.[]
+
 abbrev pub t7 : List.List Row.Entry
 t7 = e0 ∷ e1·1 ∷ e2·1 ∷ e3·1 ∷ e4 ∷ e5 ∷ e6 ∷ e7 ∷ e8 ∷ e9 ∷ e10 ∷ e11 ∷ e12·1 ∷ e13 ∷ e14·1 ∷ e15·1 ∷ List.[]
+
 abbrev pub t8 : List.List Row.Entry
 t8 = e0 ∷ e1·1 ∷ e2·1 ∷ e3·1 ∷ e4 ∷ e5 ∷ e6 ∷ e7 ∷ e8 ∷ e9 ∷ e10 ∷ e11 ∷ e12·1 ∷ e13 ∷ e14·1 ∷ e15 ∷ List.[]
+
 abbrev pub t9 : List.List Row.Entry
 t9 = e16·1 ∷ e17 ∷ e18 ∷ List.[]
+
 abbrev pub t10 : List.List Row.Entry
 t10 = e0 ∷ e1·1 ∷ e2·1 ∷ e3·1 ∷ e4·1 ∷ e5 ∷ e6 ∷ e7 ∷ e8 ∷ e9 ∷ e10 ∷ e11 ∷ e12·1 ∷ e13 ∷ e14·1 ∷ e15 ∷ List.[]
+
 abbrev pub t11 : List.List Row.Entry
 t11 = e16·1 ∷ e17·1 ∷ e18 ∷ List.[]
+
 abbrev pub t12 : List.List Row.Entry
 t12 = e16·1 ∷ e17 ∷ e18·1 ∷ List.[]
+
 abbrev pub t13 : List.List Row.Entry
 t13 = e0 ∷ e1·1 ∷ e2·1 ∷ e3·1 ∷ e4·1 ∷ e5 ∷ e6 ∷ e7 ∷ e8 ∷ e9 ∷ e10·1 ∷ e11 ∷ e12·2 ∷ e13 ∷ e14·2 ∷ e15 ∷ List.[]
+
 abbrev pub t14 : List.List Row.Entry
 t14 = e16·2 ∷ e17 ∷ e18·2 ∷ List.[]
+
 abbrev pub t15 : List.List Row.Entry
 t15 = e0 ∷ e1·1 ∷ e2·1 ∷ e3·1 ∷ e4·1 ∷ e5·1 ∷ e6 ∷ e7 ∷ e8 ∷ e9 ∷ e10·1 ∷ e11 ∷ e12·2 ∷ e13 ∷ e14·2 ∷ e15 ∷ List.[]
+
 abbrev pub t16 : List.List Row.Entry
 t16 = e0 ∷ e1·1 ∷ e2·1 ∷ e3·1 ∷ e4·1 ∷ e5·1 ∷ e6·1 ∷ e7 ∷ e8 ∷ e9 ∷ e10·1 ∷ e11 ∷ e12·2 ∷ e13 ∷ e14·2 ∷ e15 ∷ List.[]
+
 abbrev pub t17 : List.List Row.Entry
 t17 = e0 ∷ e1 ∷ e2·1 ∷ e3·1 ∷ e4·1 ∷ e5·1 ∷ e6·1 ∷ e7 ∷ e8 ∷ e9 ∷ e10·1 ∷ e11 ∷ e12 ∷ e13 ∷ e14·2 ∷ e15 ∷ List.[]
+
 abbrev pub t18 : List.List Row.Entry
 t18 = e0 ∷ e1 ∷ e2 ∷ e3·1 ∷ e4·1 ∷ e5·1 ∷ e6·1 ∷ e7 ∷ e8 ∷ e9 ∷ e10·1 ∷ e11 ∷ e12 ∷ e13 ∷ e14 ∷ e15 ∷ List.[]
+
 abbrev pub t19 : List.List Row.Entry
 t19 = e0 ∷ e1 ∷ e2 ∷ e3 ∷ e4·1 ∷ e5·1 ∷ e6·1 ∷ e7 ∷ e8 ∷ e9 ∷ e10·1 ∷ e11 ∷ e12 ∷ e13 ∷ e14 ∷ e15 ∷ List.[]
+
 abbrev pub t20 : List.List Row.Entry
 t20 = e16 ∷ e17 ∷ e18·2 ∷ List.[]
+
 abbrev pub t21 : List.List Row.Entry
 t21 = e0 ∷ e1 ∷ e2 ∷ e3 ∷ e4 ∷ e5·1 ∷ e6·1 ∷ e7 ∷ e8 ∷ e9 ∷ e10·1 ∷ e11 ∷ e12 ∷ e13 ∷ e14 ∷ e15 ∷ List.[]
+
 abbrev pub t22 : List.List Row.Entry
 t22 = e0·1 ∷ e1 ∷ e2 ∷ e3 ∷ e4 ∷ e5·1 ∷ e6·1 ∷ e7 ∷ e8 ∷ e9 ∷ e10·1 ∷ e11 ∷ e12 ∷ e13 ∷ e14 ∷ e15 ∷ List.[]
+
 abbrev pub t23 : List.List Row.Entry
 t23 = e0·1 ∷ e1 ∷ e2 ∷ e3 ∷ e4 ∷ e5·1 ∷ e6·1 ∷ e7 ∷ e8 ∷ e9 ∷ e10 ∷ e11 ∷ e12 ∷ e13 ∷ e14 ∷ e15 ∷ List.[]
+
 abbrev pub t24 : List.List Row.Entry
 t24 = e0·1 ∷ e1 ∷ e2 ∷ e3 ∷ e4 ∷ e5·1 ∷ e6·1 ∷ e7·1 ∷ e8 ∷ e9 ∷ e10 ∷ e11 ∷ e12 ∷ e13 ∷ e14 ∷ e15 ∷ List.[]
+
 abbrev pub t25 : List.List Row.Entry
 t25 = e0·1 ∷ e1 ∷ e2 ∷ e3 ∷ e4 ∷ e5·1 ∷ e6·1 ∷ e7·1 ∷ e8·1 ∷ e9 ∷ e10 ∷ e11 ∷ e12 ∷ e13 ∷ e14 ∷ e15 ∷ List.[]
+
 abbrev pub T0 : Row.Cx
 T0 = record { locals = List._++_ t0 t1; slots = List.[] }
+
 abbrev pub T1 : Row.Cx
 T1 = record { locals = List._++_ t2 t1; slots = List.[] }
+
 abbrev pub T2 : Row.Cx
 T2 = record { locals = List._++_ t0 t1; slots = List.[] }
+
 abbrev pub T4 : Row.Cx
 T4 = record { locals = List._++_ t3 t1; slots = List.[] }
+
 abbrev pub T5 : Row.Cx
 T5 = record { locals = List._++_ t4 t1; slots = List.[] }
+
 abbrev pub T7 : Row.Cx
 T7 = record { locals = List._++_ t5 t1; slots = List.[] }
+
 abbrev pub T8 : Row.Cx
 T8 = record { locals = List._++_ t6 t1; slots = List.[] }
+
 abbrev pub T10 : Row.Cx
 T10 = record { locals = List._++_ t7 t1; slots = List.[] }
+
 abbrev pub T11 : Row.Cx
 T11 = record { locals = List._++_ t8 t9; slots = List.[] }
+
 abbrev pub T13 : Row.Cx
 T13 = record { locals = List._++_ t10 t11; slots = List.[] }
+
 abbrev pub T14 : Row.Cx
 T14 = record { locals = List._++_ t10 t12; slots = List.[] }
+
 abbrev pub T15 : Row.Cx
 T15 = record { locals = List._++_ t13 t14; slots = List.[] }
+
 abbrev pub T16 : Row.Cx
 T16 = record { locals = List._++_ t15 t14; slots = List.[] }
+
 abbrev pub T17 : Row.Cx
 T17 = record { locals = List._++_ t16 t14; slots = List.[] }
+
 abbrev pub T19 : Row.Cx
 T19 = record { locals = List._++_ t17 t14; slots = List.[] }
+
 abbrev pub T22 : Row.Cx
 T22 = record { locals = List._++_ t18 t14; slots = List.[] }
+
 abbrev pub T25 : Row.Cx
 T25 = record { locals = List._++_ t19 t20; slots = List.[] }
+
 abbrev pub T28 : Row.Cx
 T28 = record { locals = List._++_ t21 t1; slots = List.[] }
+
 abbrev pub T29 : Row.Cx
 T29 = record { locals = List._++_ t21 t1; slots = List.[] }
+
 abbrev pub T31 : Row.Cx
 T31 = record { locals = List._++_ t22 t1; slots = List.[] }
+
 abbrev pub T32 : Row.Cx
 T32 = record { locals = List._++_ t23 t1; slots = List.[] }
+
 abbrev pub T33 : Row.Cx
 T33 = record { locals = List._++_ t24 t1; slots = List.[] }
+
 abbrev pub T34 : Row.Cx
 T34 = record { locals = List._++_ t25 t1; slots = List.[] }
+
 abbrev pub T35 : Row.Cx
 T35 = record { locals = List._++_ t2 t1; slots = List.[] }
+
 abbrev pub O0 : Typed.Outs
 O0 = record { next = Option.none; exits = List.[]; returns = Option.some T1 }
+
 module _ (claims· : Claims) where
   abbrev s0 : Typed.Gives T0 T2
   s0 = Know.k-sl-known (Referent.fInt Syntax.w32) T0 4 3 ref7 Row.off 0 λ x. x
+
   abbrev s2 : Typed.Gives T2 T4
   s2 = Relend.k-sl-relend RelayPending.row T2 1 11 0 4 ref4 ref0 Row.off λ x. x
+
   abbrev s3 : Typed.Asks T4 T5
-  s3 = Relend.k-sl-aggregate RelayPending.row (Relend.asMut RelayPending.row) T4 11 12 4 ref0 ref0 (λ x. x) (Scalar.oFld 1 ((Syntax.field 1) ∷
-      List.[]) (Syntax.tyInt Syntax.w64) 8 λ v. Shared.lenV (v .0))
+  s3 = Relend.k-sl-aggregate RelayPending.row (Relend.asMut RelayPending.row) T4 11 12 4 ref0 ref0 (λ x. x) (Scalar.oFld
+      1 ((Syntax.field 1) ∷ List.[]) (Syntax.tyInt Syntax.w64) 8 λ v. Shared.lenV (v .0))
+
   abbrev s5 : Typed.Gives T5 T7
   s5 = Relend.k-sl-relend RelayCircuit.row T5 2 13 1 5 ref5 ref1 Row.off λ x. x
+
   abbrev s6 : Typed.Asks T7 T8
-  s6 = Relend.k-sl-aggregate RelayCircuit.row (Relend.asMut RelayCircuit.row) T7 13 14 5 ref1 ref1 (λ x. x) (Scalar.oFld 2 ((Syntax.field 1) ∷
-      List.[]) (Syntax.tyInt Syntax.w64) 8 λ v. Shared.lenV (v .0))
+  s6 = Relend.k-sl-aggregate RelayCircuit.row (Relend.asMut RelayCircuit.row) T7 13 14 5 ref1 ref1 (λ x. x) (Scalar.oFld
+      2 ((Syntax.field 1) ∷ List.[]) (Syntax.tyInt Syntax.w64) 8 λ v. Shared.lenV (v .0))
+
   abbrev s8 : Typed.Gives T8 T10
   s8 = Relend.k-sl-relend InflightAction.row T8 3 15 2 6 ref6 ref2 Row.off λ x. x
+
   abbrev s9 : Typed.Asks T10 T11
-  s9 = Relend.k-sl-aggregate InflightAction.row (Relend.asMut InflightAction.row) T10 15 16 6 ref2 ref2 (λ x. x) (Scalar.oFld 3 ((Syntax.field 1) ∷
-      List.[]) (Syntax.tyInt Syntax.w64) 8 λ v. Shared.lenV (v .0))
+  s9 = Relend.k-sl-aggregate InflightAction.row (Relend.asMut InflightAction.row) T10 15 16 6 ref2 ref2 (λ x. x) (Scalar.oFld
+      3 ((Syntax.field 1) ∷ List.[]) (Syntax.tyInt Syntax.w64) 8 λ v. Shared.lenV (v .0))
+
   abbrev s11 : Typed.Gives T11 T13
   s11 = Relend.k-sl-relend (Referent.rtF (Referent.fInt Syntax.w32)) T11 4 17 3 7 ref7 ref3 Row.off λ x. x
+
   abbrev s12 : Typed.Asks T13 T14
-  s12 = Relend.k-sl-aggregate (Referent.rtF (Referent.fInt Syntax.w32)) (Relend.asMut (Referent.rtF (Referent.fInt Syntax.w32))) T13 17 18 7 ref3 ref3
-      (λ x. x) (Scalar.oFld 4 ((Syntax.field 1) ∷ List.[]) (Syntax.tyInt Syntax.w64) 8 λ v. Shared.lenV (v .0))
+  s12 = Relend.k-sl-aggregate (Referent.rtF (Referent.fInt Syntax.w32))
+      (Relend.asMut (Referent.rtF (Referent.fInt Syntax.w32))) T13 17 18 7 ref3 ref3 (λ x. x) (Scalar.oFld 4
+      ((Syntax.field 1) ∷ List.[]) (Syntax.tyInt Syntax.w64) 8 λ v. Shared.lenV (v .0))
+
+  abbrev args13 : Args'.ArgsT ps·0 (T14 .locals)
+  args13 = (
+    record { pos = 12; ty = ref0; ref = λ x. x },
+    (
+      record { pos = 14; ty = ref1; ref = λ x. x },
+      (
+        record { pos = 16; ty = ref2; ref = λ x. x },
+        (
+          record { pos = 18; ty = ref3; ref = λ x. x },
+          (
+            record { pos = 5; st = List.[]; d = 0; at = λ x. x },
+            (
+              record { pos = 6; st = List.[]; d = 0; at = λ x. x },
+              (Num.vAt 7 λ x. x, (Num.vAt 8 λ x. x, (Bool.bAt 9 λ x. x, tt))),
+            ),
+          ),
+        ),
+      ),
+    ),
+  )
+
   abbrev s13 : Typed.Both T14 T15
-  s13 = Call.callB ps·0 r·0 (claims· .0) (claims· .1) T14 (record { pos = 12; ty = Syntax.tyRef Syntax.erased Syntax.mut RelayPending.to; ref = λ x.
-      x; }, (record { pos = 14; ty = Syntax.tyRef Syntax.erased Syntax.mut RelayCircuit.to; ref = λ x. x; }, (record { pos = 16; ty = Syntax.tyRef
-      Syntax.erased Syntax.mut InflightAction.to; ref = λ x. x; }, (record { pos = 18; ty = Syntax.tyRef Syntax.erased Syntax.mut (Syntax.tyInt
-      Syntax.w32); ref = λ x. x; }, (record { pos = 5; st = List.[]; d = 0; at = λ x. x }, (record { pos = 6; st = List.[]; d = 0; at = λ x. x },
-      (Num.vAt 7 λ x. x, (Num.vAt 8 λ x. x, (Bool.bAt 9 λ x. x, tt))),),),),),),) 10 (4 ∷ 5 ∷ 6 ∷ 7 ∷ List.[]) Laws''.mir
+  s13 = Call.callB ps·0 r·0 (claims· .0) (claims· .1) T14 args13 10 (4 ∷ 5 ∷ 6 ∷ 7 ∷ List.[]) Laws''.mir
+
   abbrev s14 : Typed.Mo T15 → Typed.Mo T16
   s14 = Scalar.n-room T15 5 Laws'.mir
+
   abbrev s15 : Typed.Mo T16 → Typed.Mo T17
   s15 = Scalar.n-room T16 6 Laws.mir
+
   abbrev s17 : Typed.Both T17 T19
   s17 = Relend.k-back-sl RelayPending.row T17 12 1 0 4 ref4 ref0 Row.off (λ x. x) λ x. x
+
   abbrev s20 : Typed.Both T19 T22
   s20 = Relend.k-back-sl RelayCircuit.row T19 14 2 1 5 ref5 ref1 Row.off (λ x. x) λ x. x
+
   abbrev s23 : Typed.Both T22 T25
   s23 = Relend.k-back-sl InflightAction.row T22 16 3 2 6 ref6 ref2 Row.off (λ x. x) λ x. x
+
   abbrev s26 : Typed.Both T25 T28
   s26 = Relend.k-back-sl (Referent.rtF (Referent.fInt Syntax.w32)) T25 18 4 3 7 ref7 ref3 Row.off (λ x. x) λ x. x
+
   abbrev s27 : Typed.Gives T28 T29
   s27 = Know.k-sl-known (Referent.fInt Syntax.w32) T28 4 3 ref7 Row.off 0 λ x. x
+
+  abbrev args29 : Args'.ArgsT ps·1 (T29 .locals)
+  args29 = (record { pos = 10; st = List.[]; d = 0; at = λ x. x }, tt)
+
   abbrev s29 : Typed.Both T29 T31
-  s29 = Call.callB ps·1 r·1 (claims· .2) (claims· .3) T29 (record { pos = 10; st = List.[]; d = 0; at = λ x. x }, tt,) 0 List.[] Laws'''.mir
+  s29 = Call.callB ps·1 r·1 (claims· .2) (claims· .3) T29 args29 0 List.[] Laws'''.mir
+
   abbrev s30 : Typed.Mo T31 → Typed.Mo T32
   s30 = Scalar.n-room T31 10 Laws''.mir
+
   abbrev s31 : Typed.Mo T32 → Typed.Mo T33
   s31 = Scalar.n-room T32 7 (Syntax.tyInt Syntax.w64)
+
   abbrev s32 : Typed.Mo T33 → Typed.Mo T34
   s32 = Scalar.n-room T33 8 (Syntax.tyInt Syntax.w64)
+
   abbrev s33 : Typed.Mo T34 → Typed.Mo T35
   s33 = Scalar.n-room T34 9 Syntax.tyBool
-  module _ (Pre· : (κs : Lifetimes.Lfts 4) → Kinds.Dens κs ps → Type 0) (Post· : (κs : Lifetimes.Lfts 4) → (a : Kinds.Dens κs ps) → Kinds.Plain 4 ps r
-      κs) where
+
+  module _ (Pre· : (κs : Lifetimes.Lfts 4) → Kinds.Dens κs ps → Type 0) (Post· : (κs : Lifetimes.Lfts 4) →
+      (a : Kinds.Dens κs ps) → Kinds.Plain 4 ps r κs) where
     module _ (M : Type 1) where
       abbrev pub Closed : Type 2
-      Closed = (𝓤 : URA.URA M) (H : Wp.Heap 𝓤) (A : Atoms.Atoms 𝓤) (W : Kit.Given 𝓤 H A) (𝓣 : Wp.Tables 𝓤 H) (known0 : Plain.Known 𝓤 H A W 𝓣 4 ps·0
-          r·0 (claims· .0) (claims· .1) "hnsr_circuit::acknowledge::acknowledge") (known1 : Plain.Known 𝓤 H A W 𝓣 0 ps·1 r·1 (claims· .2) (claims· .3)
-          "lekchnam::relay::reply") → Statement.Triple 𝓤 (Wp.WpFn 𝓤 H (𝓣 .C) (𝓣 .Λ) (Function.fnOf 4 ps r xs m hs body)) (Function.plainOf 𝓤 H A 4 ps
-          r Pre· Post·)
+      Closed = (𝓤 : URA.URA M) (H : Wp.Heap 𝓤) (A : Atoms.Atoms 𝓤) (W : Kit.Given 𝓤 H A) (𝓣 : Wp.Tables 𝓤 H) (known0 :
+          Plain.Known 𝓤 H A W 𝓣 4 ps·0 r·0 (claims· .0) (claims· .1) "hnsr_circuit::acknowledge::acknowledge") (known1
+          : Plain.Known 𝓤 H A W 𝓣 0 ps·1 r·1 (claims· .2) (claims· .3) "lekchnam::relay::reply") → Statement.Triple 𝓤 (Wp.WpFn
+          𝓤 H (𝓣 .C) (𝓣 .Λ) (Function.fnOf 4 ps r xs m hs body)) (Function.plainOf 𝓤 H A 4 ps r Pre· Post·)
+
     module _ where
       abbrev at0 : Typed.TF T35 O0
       at0 = Typed.atRet O0
+
       abbrev at1 : Typed.TF T34 O0
       at1 = λ Ψ. Typed.pass T34 T35 s33 (at0 Ψ)
+
       abbrev at2 : Typed.TF T33 O0
       at2 = λ Ψ. Typed.pass T33 T34 s32 (at1 Ψ)
+
       abbrev at3 : Typed.TF T32 O0
       at3 = λ Ψ. Typed.pass T32 T33 s31 (at2 Ψ)
+
       abbrev at4 : Typed.TF T31 O0
       at4 = λ Ψ. Typed.pass T31 T32 s30 (at3 Ψ)
+
       abbrev at5 : Typed.TF T29 O0
       at5 = λ Ψ. Typed.both s29 (at4 Ψ)
+
       abbrev at6 : Typed.TF T29 O0
       at6 = λ Ψ. at5 Ψ
+
       abbrev at7 : Typed.TF T28 O0
       at7 = λ Ψ. Typed.give s27 (at6 Ψ)
+
       abbrev at8 : Typed.TF T25 O0
       at8 = λ Ψ. Typed.both s26 (at7 Ψ)
+
       abbrev at9 : Typed.TF T25 O0
       at9 = λ Ψ. at8 Ψ
+
       abbrev at10 : Typed.TF T25 O0
       at10 = λ Ψ. at9 Ψ
+
       abbrev at11 : Typed.TF T22 O0
       at11 = λ Ψ. Typed.both s23 (at10 Ψ)
+
       abbrev at12 : Typed.TF T22 O0
       at12 = λ Ψ. at11 Ψ
+
       abbrev at13 : Typed.TF T22 O0
       at13 = λ Ψ. at12 Ψ
+
       abbrev at14 : Typed.TF T19 O0
       at14 = λ Ψ. Typed.both s20 (at13 Ψ)
+
       abbrev at15 : Typed.TF T19 O0
       at15 = λ Ψ. at14 Ψ
+
       abbrev at16 : Typed.TF T19 O0
       at16 = λ Ψ. at15 Ψ
+
       abbrev at17 : Typed.TF T17 O0
       at17 = λ Ψ. Typed.both s17 (at16 Ψ)
+
       abbrev at18 : Typed.TF T17 O0
       at18 = λ Ψ. at17 Ψ
+
       abbrev at19 : Typed.TF T16 O0
       at19 = λ Ψ. Typed.pass T16 T17 s15 (at18 Ψ)
+
       abbrev at20 : Typed.TF T15 O0
       at20 = λ Ψ. Typed.pass T15 T16 s14 (at19 Ψ)
+
       abbrev at21 : Typed.TF T14 O0
       at21 = λ Ψ. Typed.both s13 (at20 Ψ)
+
       abbrev at22 : Typed.TF T13 O0
       at22 = λ Ψ. Typed.ask s12 (at21 Ψ)
+
       abbrev at23 : Typed.TF T11 O0
       at23 = λ Ψ. Typed.give s11 (at22 Ψ)
+
       abbrev at24 : Typed.TF T11 O0
       at24 = λ Ψ. at23 Ψ
+
       abbrev at25 : Typed.TF T10 O0
       at25 = λ Ψ. Typed.ask s9 (at24 Ψ)
+
       abbrev at26 : Typed.TF T8 O0
       at26 = λ Ψ. Typed.give s8 (at25 Ψ)
+
       abbrev at27 : Typed.TF T8 O0
       at27 = λ Ψ. at26 Ψ
+
       abbrev at28 : Typed.TF T7 O0
       at28 = λ Ψ. Typed.ask s6 (at27 Ψ)
+
       abbrev at29 : Typed.TF T5 O0
       at29 = λ Ψ. Typed.give s5 (at28 Ψ)
+
       abbrev at30 : Typed.TF T5 O0
       at30 = λ Ψ. at29 Ψ
+
       abbrev at31 : Typed.TF T4 O0
       at31 = λ Ψ. Typed.ask s3 (at30 Ψ)
+
       abbrev at32 : Typed.TF T2 O0
       at32 = λ Ψ. Typed.give s2 (at31 Ψ)
+
       abbrev at33 : Typed.TF T2 O0
       at33 = λ Ψ. at32 Ψ
+
       abbrev at34 : Typed.TF T0 O0
       at34 = λ Ψ. Typed.give s0 (at33 Ψ)
+
       abbrev pub Φ : Typed.TF T0 O0
       Φ = at34
-      module _ { M : Type 1 } (𝓤 : URA.URA M) (H : Wp.Heap 𝓤) (A : Atoms.Atoms 𝓤) (W : Kit.Given 𝓤 H A) (𝓣 : Wp.Tables 𝓤 H) where
+
+      module _ {M : Type 1} (𝓤 : URA.URA M) (H : Wp.Heap 𝓤) (A : Atoms.Atoms 𝓤) (W : Kit.Given 𝓤 H A)
+          (𝓣 : Wp.Tables 𝓤 H) where
         abbrev Knowns : Type 1
-        Knowns = Plain.Known 𝓤 H A W 𝓣 4 ps·0 r·0 (claims· .0) (claims· .1) "hnsr_circuit::acknowledge::acknowledge" × Plain.Known 𝓤 H A W 𝓣 0 ps·1
-            r·1 (claims· .2) (claims· .3) "lekchnam::relay::reply"
+        Knowns = Plain.Known 𝓤 H A W 𝓣 4 ps·0 r·0 (claims· .0) (claims· .1) "hnsr_circuit::acknowledge::acknowledge" ×
+            Plain.Known 𝓤 H A W 𝓣 0 ps·1 r·1 (claims· .2) (claims· .3) "lekchnam::relay::reply"
+
       module _ (κs : Lifetimes.Lfts 4) (qs : Lifetimes.Shares 4) where
         abbrev life0 : Row.Life
         life0 = Row.lease (κs .0) (qs .0)
+
         abbrev life1 : Row.Life
         life1 = Row.lease (κs .1 .0) (qs .1 .0)
+
         abbrev life2 : Row.Life
         life2 = Row.lease (κs .1 .1 .0) (qs .1 .1 .0)
+
         abbrev life3 : Row.Life
         life3 = Row.lease (κs .1 .1 .1 .0) (qs .1 .1 .1 .0)
+
+        abbrev l1 : Row.Entry
+        l1 = (1, Relend.mslice-owed RelayPending.row ref4 0 4 life0)
+
+        abbrev l2 : Row.Entry
+        l2 = (2, Relend.mslice-owed RelayCircuit.row ref5 1 5 life1)
+
+        abbrev l3 : Row.Entry
+        l3 = (3, Relend.mslice-owed InflightAction.row ref6 2 6 life2)
+
+        abbrev l4 : Row.Entry
+        l4 = (4, Relend.mslice-owed (Referent.rtF (Referent.fInt Syntax.w32)) ref7 3 7 life3)
+
         abbrev g3 : List.List Row.Entry
-        g3 = (0, Rows.any-gone Laws'''.mir,) ∷ (1, Relend.mslice-owed RelayPending.row ref4 0 4 life0,) ∷ (2, Mut.mslice RelayCircuit.row ref5 1,) ∷
-            (3, Mut.mslice InflightAction.row ref6 2,) ∷ (4, Mut.mslice (Referent.rtF (Referent.fInt Syntax.w32)) ref7 3,) ∷ (5, Rows.whole
-            (Declared.row OpaqueRelayRuntime.the-type)) ∷ (6, Rows.whole (Declared.row Places.the-type),) ∷ (7, Rows.sc-here (Row.sInt Syntax.w64)) ∷
-            (8, Rows.sc-here (Row.sInt Syntax.w64),) ∷ (9, Rows.sc-here Row.sBool) ∷ (10, Rows.any-gone Laws''.mir,) ∷ (11, Relend.msptr
-            RelayPending.row ref0 4,) ∷ (12, Rows.any-gone (Syntax.tyStruct (38 ∷ 91 ∷ 93 ∷ List.[]) (Syntax.tcons ref0 (Syntax.tcons (Syntax.tyInt
-            Syntax.w64) Syntax.tnil))),) ∷ (13, Rows.any-gone ref1,) ∷ (14, Rows.any-gone (Syntax.tyStruct (38 ∷ 91 ∷ 93 ∷ List.[]) (Syntax.tcons ref1
-            (Syntax.tcons (Syntax.tyInt Syntax.w64) Syntax.tnil))),) ∷ (15, Rows.any-gone ref2,) ∷ List.[]
+        g3 = e0 ∷ l1 ∷ e2 ∷ e3 ∷ e4 ∷ e5 ∷ e6 ∷ e7 ∷ e8 ∷ e9 ∷ e10 ∷ e11·1 ∷ e12 ∷ e13 ∷ e14 ∷ e15 ∷ List.[]
+
         abbrev g4 : List.List Row.Entry
-        g4 = (0, Rows.any-gone Laws'''.mir,) ∷ (1, Relend.mslice-owed RelayPending.row ref4 0 4 life0,) ∷ (2, Mut.mslice RelayCircuit.row ref5 1,) ∷
-            (3, Mut.mslice InflightAction.row ref6 2,) ∷ (4, Mut.mslice (Referent.rtF (Referent.fInt Syntax.w32)) ref7 3,) ∷ (5, Rows.whole
-            (Declared.row OpaqueRelayRuntime.the-type)) ∷ (6, Rows.whole (Declared.row Places.the-type),) ∷ (7, Rows.sc-here (Row.sInt Syntax.w64)) ∷
-            (8, Rows.sc-here (Row.sInt Syntax.w64),) ∷ (9, Rows.sc-here Row.sBool) ∷ (10, Rows.any-gone Laws''.mir,) ∷ (11, Rows.any-gone ref0,) ∷
-            (12, Mut.mslice RelayPending.row ref0 4,) ∷ (13, Rows.any-gone ref1,) ∷ (14, Rows.any-gone (Syntax.tyStruct (38 ∷ 91 ∷ 93 ∷ List.[])
-            (Syntax.tcons ref1 (Syntax.tcons (Syntax.tyInt Syntax.w64) Syntax.tnil))),) ∷ (15, Rows.any-gone ref2,) ∷ List.[]
+        g4 = e0 ∷ l1 ∷ e2 ∷ e3 ∷ e4 ∷ e5 ∷ e6 ∷ e7 ∷ e8 ∷ e9 ∷ e10 ∷ e11 ∷ e12·1 ∷ e13 ∷ e14 ∷ e15 ∷ List.[]
+
         abbrev g5 : List.List Row.Entry
-        g5 = (0, Rows.any-gone Laws'''.mir,) ∷ (1, Relend.mslice-owed RelayPending.row ref4 0 4 life0,) ∷ (2, Relend.mslice-owed RelayCircuit.row ref5
-            1 5 life1,) ∷ (3, Mut.mslice InflightAction.row ref6 2,) ∷ (4, Mut.mslice (Referent.rtF (Referent.fInt Syntax.w32)) ref7 3,) ∷ (5,
-            Rows.whole (Declared.row OpaqueRelayRuntime.the-type)) ∷ (6, Rows.whole (Declared.row Places.the-type),) ∷ (7, Rows.sc-here (Row.sInt
-            Syntax.w64)) ∷ (8, Rows.sc-here (Row.sInt Syntax.w64),) ∷ (9, Rows.sc-here Row.sBool) ∷ (10, Rows.any-gone Laws''.mir,) ∷ (11,
-            Rows.any-gone ref0,) ∷ (12, Mut.mslice RelayPending.row ref0 4,) ∷ (13, Relend.msptr RelayCircuit.row ref1 5,) ∷ (14, Rows.any-gone
-            (Syntax.tyStruct (38 ∷ 91 ∷ 93 ∷ List.[]) (Syntax.tcons ref1 (Syntax.tcons (Syntax.tyInt Syntax.w64) Syntax.tnil))),) ∷ (15, Rows.any-gone
-            ref2,) ∷ List.[]
+        g5 = e0 ∷ l1 ∷ l2 ∷ e3 ∷ e4 ∷ e5 ∷ e6 ∷ e7 ∷ e8 ∷ e9 ∷ e10 ∷ e11 ∷ e12·1 ∷ e13·1 ∷ e14 ∷ e15 ∷ List.[]
+
         abbrev g6 : List.List Row.Entry
-        g6 = (0, Rows.any-gone Laws'''.mir,) ∷ (1, Relend.mslice-owed RelayPending.row ref4 0 4 life0,) ∷ (2, Relend.mslice-owed RelayCircuit.row ref5
-            1 5 life1,) ∷ (3, Mut.mslice InflightAction.row ref6 2,) ∷ (4, Mut.mslice (Referent.rtF (Referent.fInt Syntax.w32)) ref7 3,) ∷ (5,
-            Rows.whole (Declared.row OpaqueRelayRuntime.the-type)) ∷ (6, Rows.whole (Declared.row Places.the-type),) ∷ (7, Rows.sc-here (Row.sInt
-            Syntax.w64)) ∷ (8, Rows.sc-here (Row.sInt Syntax.w64),) ∷ (9, Rows.sc-here Row.sBool) ∷ (10, Rows.any-gone Laws''.mir,) ∷ (11,
-            Rows.any-gone ref0,) ∷ (12, Mut.mslice RelayPending.row ref0 4,) ∷ (13, Rows.any-gone ref1,) ∷ (14, Mut.mslice RelayCircuit.row ref1 5,) ∷
-            (15, Rows.any-gone ref2,) ∷ List.[]
+        g6 = e0 ∷ l1 ∷ l2 ∷ e3 ∷ e4 ∷ e5 ∷ e6 ∷ e7 ∷ e8 ∷ e9 ∷ e10 ∷ e11 ∷ e12·1 ∷ e13 ∷ e14·1 ∷ e15 ∷ List.[]
+
         abbrev g7 : List.List Row.Entry
-        g7 = (0, Rows.any-gone Laws'''.mir,) ∷ (1, Relend.mslice-owed RelayPending.row ref4 0 4 life0,) ∷ (2, Relend.mslice-owed RelayCircuit.row ref5
-            1 5 life1,) ∷ (3, Relend.mslice-owed InflightAction.row ref6 2 6 life2,) ∷ (4, Mut.mslice (Referent.rtF (Referent.fInt Syntax.w32)) ref7
-            3,) ∷ (5, Rows.whole (Declared.row OpaqueRelayRuntime.the-type)) ∷ (6, Rows.whole (Declared.row Places.the-type),) ∷ (7, Rows.sc-here
-            (Row.sInt Syntax.w64)) ∷ (8, Rows.sc-here (Row.sInt Syntax.w64),) ∷ (9, Rows.sc-here Row.sBool) ∷ (10, Rows.any-gone Laws''.mir,) ∷ (11,
-            Rows.any-gone ref0,) ∷ (12, Mut.mslice RelayPending.row ref0 4,) ∷ (13, Rows.any-gone ref1,) ∷ (14, Mut.mslice RelayCircuit.row ref1 5,) ∷
-            (15, Relend.msptr InflightAction.row ref2 6,) ∷ List.[]
+        g7 = e0 ∷ l1 ∷ l2 ∷ l3 ∷ e4 ∷ e5 ∷ e6 ∷ e7 ∷ e8 ∷ e9 ∷ e10 ∷ e11 ∷ e12·1 ∷ e13 ∷ e14·1 ∷ e15·1 ∷ List.[]
+
         abbrev g8 : List.List Row.Entry
-        g8 = (0, Rows.any-gone Laws'''.mir,) ∷ (1, Relend.mslice-owed RelayPending.row ref4 0 4 life0,) ∷ (2, Relend.mslice-owed RelayCircuit.row ref5
-            1 5 life1,) ∷ (3, Relend.mslice-owed InflightAction.row ref6 2 6 life2,) ∷ (4, Mut.mslice (Referent.rtF (Referent.fInt Syntax.w32)) ref7
-            3,) ∷ (5, Rows.whole (Declared.row OpaqueRelayRuntime.the-type)) ∷ (6, Rows.whole (Declared.row Places.the-type),) ∷ (7, Rows.sc-here
-            (Row.sInt Syntax.w64)) ∷ (8, Rows.sc-here (Row.sInt Syntax.w64),) ∷ (9, Rows.sc-here Row.sBool) ∷ (10, Rows.any-gone Laws''.mir,) ∷ (11,
-            Rows.any-gone ref0,) ∷ (12, Mut.mslice RelayPending.row ref0 4,) ∷ (13, Rows.any-gone ref1,) ∷ (14, Mut.mslice RelayCircuit.row ref1 5,) ∷
-            (15, Rows.any-gone ref2,) ∷ List.[]
+        g8 = e0 ∷ l1 ∷ l2 ∷ l3 ∷ e4 ∷ e5 ∷ e6 ∷ e7 ∷ e8 ∷ e9 ∷ e10 ∷ e11 ∷ e12·1 ∷ e13 ∷ e14·1 ∷ e15 ∷ List.[]
+
         abbrev g10 : List.List Row.Entry
-        g10 = (0, Rows.any-gone Laws'''.mir,) ∷ (1, Relend.mslice-owed RelayPending.row ref4 0 4 life0,) ∷ (2, Relend.mslice-owed RelayCircuit.row
-            ref5 1 5 life1,) ∷ (3, Relend.mslice-owed InflightAction.row ref6 2 6 life2,) ∷ (4, Relend.mslice-owed (Referent.rtF (Referent.fInt
-            Syntax.w32)) ref7 3 7 life3,) ∷ (5, Rows.whole (Declared.row OpaqueRelayRuntime.the-type)) ∷ (6, Rows.whole (Declared.row
-            Places.the-type),) ∷ (7, Rows.sc-here (Row.sInt Syntax.w64)) ∷ (8, Rows.sc-here (Row.sInt Syntax.w64),) ∷ (9, Rows.sc-here Row.sBool) ∷
-            (10, Rows.any-gone Laws''.mir,) ∷ (11, Rows.any-gone ref0,) ∷ (12, Mut.mslice RelayPending.row ref0 4,) ∷ (13, Rows.any-gone ref1,) ∷ (14,
-            Mut.mslice RelayCircuit.row ref1 5,) ∷ (15, Rows.any-gone ref2,) ∷ List.[]
+        g10 = e0 ∷ l1 ∷ l2 ∷ l3 ∷ l4 ∷ e5 ∷ e6 ∷ e7 ∷ e8 ∷ e9 ∷ e10 ∷ e11 ∷ e12·1 ∷ e13 ∷ e14·1 ∷ e15 ∷ List.[]
+
         abbrev g13 : List.List Row.Entry
-        g13 = (0, Rows.any-gone Laws'''.mir,) ∷ (1, Relend.mslice-owed RelayPending.row ref4 0 4 life0,) ∷ (2, Relend.mslice-owed RelayCircuit.row
-            ref5 1 5 life1,) ∷ (3, Relend.mslice-owed InflightAction.row ref6 2 6 life2,) ∷ (4, Relend.mslice-owed (Referent.rtF (Referent.fInt
-            Syntax.w32)) ref7 3 7 life3,) ∷ (5, Rows.whole (Declared.row OpaqueRelayRuntime.the-type)) ∷ (6, Rows.whole (Declared.row
-            Places.the-type),) ∷ (7, Rows.sc-here (Row.sInt Syntax.w64)) ∷ (8, Rows.sc-here (Row.sInt Syntax.w64),) ∷ (9, Rows.sc-here Row.sBool) ∷
-            (10, Rows.whole (Declared.row Relayed.the-type),) ∷ (11, Rows.any-gone ref0,) ∷ (12, Mut.msleft RelayPending.row ref0,) ∷ (13,
-            Rows.any-gone ref1,) ∷ (14, Mut.msleft RelayCircuit.row ref1,) ∷ (15, Rows.any-gone ref2,) ∷ List.[]
+        g13 = e0 ∷ l1 ∷ l2 ∷ l3 ∷ l4 ∷ e5 ∷ e6 ∷ e7 ∷ e8 ∷ e9 ∷ e10·1 ∷ e11 ∷ e12·2 ∷ e13 ∷ e14·2 ∷ e15 ∷ List.[]
+
         abbrev g15 : List.List Row.Entry
-        g15 = (0, Rows.any-gone Laws'''.mir,) ∷ (1, Relend.mslice-owed RelayPending.row ref4 0 4 life0,) ∷ (2, Relend.mslice-owed RelayCircuit.row
-            ref5 1 5 life1,) ∷ (3, Relend.mslice-owed InflightAction.row ref6 2 6 life2,) ∷ (4, Relend.mslice-owed (Referent.rtF (Referent.fInt
-            Syntax.w32)) ref7 3 7 life3,) ∷ (5, Rows.any-gone Laws'.mir,) ∷ (6, Rows.whole (Declared.row Places.the-type)) ∷ (7, Rows.sc-here
-            (Row.sInt Syntax.w64),) ∷ (8, Rows.sc-here (Row.sInt Syntax.w64)) ∷ (9, Rows.sc-here Row.sBool,) ∷ (10, Rows.whole (Declared.row
-            Relayed.the-type)) ∷ (11, Rows.any-gone ref0,) ∷ (12, Mut.msleft RelayPending.row ref0,) ∷ (13, Rows.any-gone ref1,) ∷ (14, Mut.msleft
-            RelayCircuit.row ref1,) ∷ (15, Rows.any-gone ref2,) ∷ List.[]
+        g15 = e0 ∷ l1 ∷ l2 ∷ l3 ∷ l4 ∷ e5·1 ∷ e6 ∷ e7 ∷ e8 ∷ e9 ∷ e10·1 ∷ e11 ∷ e12·2 ∷ e13 ∷ e14·2 ∷ e15 ∷ List.[]
+
         abbrev g16 : List.List Row.Entry
-        g16 = (0, Rows.any-gone Laws'''.mir,) ∷ (1, Relend.mslice-owed RelayPending.row ref4 0 4 life0,) ∷ (2, Relend.mslice-owed RelayCircuit.row
-            ref5 1 5 life1,) ∷ (3, Relend.mslice-owed InflightAction.row ref6 2 6 life2,) ∷ (4, Relend.mslice-owed (Referent.rtF (Referent.fInt
-            Syntax.w32)) ref7 3 7 life3,) ∷ (5, Rows.any-gone Laws'.mir,) ∷ (6, Rows.any-gone Laws.mir,) ∷ (7, Rows.sc-here (Row.sInt Syntax.w64)) ∷
-            (8, Rows.sc-here (Row.sInt Syntax.w64),) ∷ (9, Rows.sc-here Row.sBool) ∷ (10, Rows.whole (Declared.row Relayed.the-type),) ∷ (11,
-            Rows.any-gone ref0,) ∷ (12, Mut.msleft RelayPending.row ref0,) ∷ (13, Rows.any-gone ref1,) ∷ (14, Mut.msleft RelayCircuit.row ref1,) ∷
-            (15, Rows.any-gone ref2,) ∷ List.[]
+        g16 = e0 ∷ l1 ∷ l2 ∷ l3 ∷ l4 ∷ e5·1 ∷ e6·1 ∷ e7 ∷ e8 ∷ e9 ∷ e10·1 ∷ e11 ∷ e12·2 ∷ e13 ∷ e14·2 ∷ e15 ∷ List.[]
+
         abbrev g17 : List.List Row.Entry
-        g17 = (0, Rows.any-gone Laws'''.mir,) ∷ (1, Mut.mslice RelayPending.row ref4 0,) ∷ (2, Relend.mslice-owed RelayCircuit.row ref5 1 5 life1,) ∷
-            (3, Relend.mslice-owed InflightAction.row ref6 2 6 life2,) ∷ (4, Relend.mslice-owed (Referent.rtF (Referent.fInt Syntax.w32)) ref7 3 7
-            life3,) ∷ (5, Rows.any-gone Laws'.mir,) ∷ (6, Rows.any-gone Laws.mir,) ∷ (7, Rows.sc-here (Row.sInt Syntax.w64)) ∷ (8, Rows.sc-here
-            (Row.sInt Syntax.w64),) ∷ (9, Rows.sc-here Row.sBool) ∷ (10, Rows.whole (Declared.row Relayed.the-type),) ∷ (11, Rows.any-gone ref0,) ∷
-            (12, Rows.any-gone (Syntax.tyStruct (38 ∷ 91 ∷ 93 ∷ List.[]) (Syntax.tcons ref0 (Syntax.tcons (Syntax.tyInt Syntax.w64) Syntax.tnil))),) ∷
-            (13, Rows.any-gone ref1,) ∷ (14, Mut.msleft RelayCircuit.row ref1,) ∷ (15, Rows.any-gone ref2,) ∷ List.[]
+        g17 = e0 ∷ e1 ∷ l2 ∷ l3 ∷ l4 ∷ e5·1 ∷ e6·1 ∷ e7 ∷ e8 ∷ e9 ∷ e10·1 ∷ e11 ∷ e12 ∷ e13 ∷ e14·2 ∷ e15 ∷ List.[]
+
         abbrev g18 : List.List Row.Entry
-        g18 = (0, Rows.any-gone Laws'''.mir,) ∷ (1, Mut.mslice RelayPending.row ref4 0,) ∷ (2, Mut.mslice RelayCircuit.row ref5 1,) ∷ (3,
-            Relend.mslice-owed InflightAction.row ref6 2 6 life2,) ∷ (4, Relend.mslice-owed (Referent.rtF (Referent.fInt Syntax.w32)) ref7 3 7 life3,)
-            ∷ (5, Rows.any-gone Laws'.mir,) ∷ (6, Rows.any-gone Laws.mir,) ∷ (7, Rows.sc-here (Row.sInt Syntax.w64)) ∷ (8, Rows.sc-here (Row.sInt
-            Syntax.w64),) ∷ (9, Rows.sc-here Row.sBool) ∷ (10, Rows.whole (Declared.row Relayed.the-type),) ∷ (11, Rows.any-gone ref0,) ∷ (12,
-            Rows.any-gone (Syntax.tyStruct (38 ∷ 91 ∷ 93 ∷ List.[]) (Syntax.tcons ref0 (Syntax.tcons (Syntax.tyInt Syntax.w64) Syntax.tnil))),) ∷ (13,
-            Rows.any-gone ref1,) ∷ (14, Rows.any-gone (Syntax.tyStruct (38 ∷ 91 ∷ 93 ∷ List.[]) (Syntax.tcons ref1 (Syntax.tcons (Syntax.tyInt
-            Syntax.w64) Syntax.tnil))),) ∷ (15, Rows.any-gone ref2,) ∷ List.[]
+        g18 = e0 ∷ e1 ∷ e2 ∷ l3 ∷ l4 ∷ e5·1 ∷ e6·1 ∷ e7 ∷ e8 ∷ e9 ∷ e10·1 ∷ e11 ∷ e12 ∷ e13 ∷ e14 ∷ e15 ∷ List.[]
+
         abbrev g19 : List.List Row.Entry
-        g19 = (0, Rows.any-gone Laws'''.mir,) ∷ (1, Mut.mslice RelayPending.row ref4 0,) ∷ (2, Mut.mslice RelayCircuit.row ref5 1,) ∷ (3, Mut.mslice
-            InflightAction.row ref6 2,) ∷ (4, Relend.mslice-owed (Referent.rtF (Referent.fInt Syntax.w32)) ref7 3 7 life3,) ∷ (5, Rows.any-gone
-            Laws'.mir,) ∷ (6, Rows.any-gone Laws.mir,) ∷ (7, Rows.sc-here (Row.sInt Syntax.w64)) ∷ (8, Rows.sc-here (Row.sInt Syntax.w64),) ∷ (9,
-            Rows.sc-here Row.sBool) ∷ (10, Rows.whole (Declared.row Relayed.the-type),) ∷ (11, Rows.any-gone ref0,) ∷ (12, Rows.any-gone
-            (Syntax.tyStruct (38 ∷ 91 ∷ 93 ∷ List.[]) (Syntax.tcons ref0 (Syntax.tcons (Syntax.tyInt Syntax.w64) Syntax.tnil))),) ∷ (13, Rows.any-gone
-            ref1,) ∷ (14, Rows.any-gone (Syntax.tyStruct (38 ∷ 91 ∷ 93 ∷ List.[]) (Syntax.tcons ref1 (Syntax.tcons (Syntax.tyInt Syntax.w64)
-            Syntax.tnil))),) ∷ (15, Rows.any-gone ref2,) ∷ List.[]
+        g19 = e0 ∷ e1 ∷ e2 ∷ e3 ∷ l4 ∷ e5·1 ∷ e6·1 ∷ e7 ∷ e8 ∷ e9 ∷ e10·1 ∷ e11 ∷ e12 ∷ e13 ∷ e14 ∷ e15 ∷ List.[]
+
         abbrev G0 : Row.Cx
-        G0 = record { locals = List._++_ t0 t1; slots = life0 ∷ life1 ∷ life2 ∷ life3 ∷ Row.off ∷ Row.off ∷ Row.off ∷ Row.off ∷ List.[]; }
+        G0 = record {
+          locals = List._++_ t0 t1;
+          slots = life0 ∷ life1 ∷ life2 ∷ life3 ∷ Row.off ∷ Row.off ∷ Row.off ∷ Row.off ∷ List.[];
+        }
+
         abbrev G1 : Row.Cx
-        G1 = record { locals = List._++_ t2 t1; slots = life0 ∷ life1 ∷ life2 ∷ life3 ∷ Row.off ∷ Row.off ∷ Row.off ∷ Row.off ∷ List.[]; }
+        G1 = record {
+          locals = List._++_ t2 t1;
+          slots = life0 ∷ life1 ∷ life2 ∷ life3 ∷ Row.off ∷ Row.off ∷ Row.off ∷ Row.off ∷ List.[];
+        }
+
         abbrev G2 : Row.Cx
-        G2 = record { locals = List._++_ t0 t1; slots = life0 ∷ life1 ∷ life2 ∷ life3 ∷ Row.off ∷ Row.off ∷ Row.off ∷ Row.off ∷ List.[]; }
+        G2 = record {
+          locals = List._++_ t0 t1;
+          slots = life0 ∷ life1 ∷ life2 ∷ life3 ∷ Row.off ∷ Row.off ∷ Row.off ∷ Row.off ∷ List.[];
+        }
+
         abbrev G3 : Row.Cx
-        G3 = record { locals = List._++_ t0 t1; slots = life0 ∷ life1 ∷ life2 ∷ life3 ∷ Row.alive ∷ Row.off ∷ Row.off ∷ Row.off ∷ List.[]; }
+        G3 = record {
+          locals = List._++_ t0 t1;
+          slots = life0 ∷ life1 ∷ life2 ∷ life3 ∷ Row.alive ∷ Row.off ∷ Row.off ∷ Row.off ∷ List.[];
+        }
+
         abbrev G4 : Row.Cx
-        G4 = record { locals = List._++_ g3 t1; slots = Row.off ∷ life1 ∷ life2 ∷ life3 ∷ Row.alive ∷ Row.off ∷ Row.off ∷ Row.off ∷ List.[]; }
+        G4 = record {
+          locals = List._++_ g3 t1;
+          slots = Row.off ∷ life1 ∷ life2 ∷ life3 ∷ Row.alive ∷ Row.off ∷ Row.off ∷ Row.off ∷ List.[];
+        }
+
         abbrev G5 : Row.Cx
-        G5 = record { locals = List._++_ g4 t1; slots = Row.off ∷ life1 ∷ life2 ∷ life3 ∷ Row.alive ∷ Row.off ∷ Row.off ∷ Row.off ∷ List.[]; }
+        G5 = record {
+          locals = List._++_ g4 t1;
+          slots = Row.off ∷ life1 ∷ life2 ∷ life3 ∷ Row.alive ∷ Row.off ∷ Row.off ∷ Row.off ∷ List.[];
+        }
+
         abbrev G6 : Row.Cx
-        G6 = record { locals = List._++_ g4 t1; slots = Row.off ∷ life1 ∷ life2 ∷ life3 ∷ Row.alive ∷ Row.alive ∷ Row.off ∷ Row.off ∷ List.[]; }
+        G6 = record {
+          locals = List._++_ g4 t1;
+          slots = Row.off ∷ life1 ∷ life2 ∷ life3 ∷ Row.alive ∷ Row.alive ∷ Row.off ∷ Row.off ∷ List.[];
+        }
+
         abbrev G7 : Row.Cx
-        G7 = record { locals = List._++_ g5 t1; slots = Row.off ∷ Row.off ∷ life2 ∷ life3 ∷ Row.alive ∷ Row.alive ∷ Row.off ∷ Row.off ∷ List.[]; }
+        G7 = record {
+          locals = List._++_ g5 t1;
+          slots = Row.off ∷ Row.off ∷ life2 ∷ life3 ∷ Row.alive ∷ Row.alive ∷ Row.off ∷ Row.off ∷ List.[];
+        }
+
         abbrev G8 : Row.Cx
-        G8 = record { locals = List._++_ g6 t1; slots = Row.off ∷ Row.off ∷ life2 ∷ life3 ∷ Row.alive ∷ Row.alive ∷ Row.off ∷ Row.off ∷ List.[]; }
+        G8 = record {
+          locals = List._++_ g6 t1;
+          slots = Row.off ∷ Row.off ∷ life2 ∷ life3 ∷ Row.alive ∷ Row.alive ∷ Row.off ∷ Row.off ∷ List.[];
+        }
+
         abbrev G9 : Row.Cx
-        G9 = record { locals = List._++_ g6 t1; slots = Row.off ∷ Row.off ∷ life2 ∷ life3 ∷ Row.alive ∷ Row.alive ∷ Row.alive ∷ Row.off ∷ List.[]; }
+        G9 = record {
+          locals = List._++_ g6 t1;
+          slots = Row.off ∷ Row.off ∷ life2 ∷ life3 ∷ Row.alive ∷ Row.alive ∷ Row.alive ∷ Row.off ∷ List.[];
+        }
+
         abbrev G10 : Row.Cx
-        G10 = record { locals = List._++_ g7 t1; slots = Row.off ∷ Row.off ∷ Row.off ∷ life3 ∷ Row.alive ∷ Row.alive ∷ Row.alive ∷ Row.off ∷ List.[];
-            }
+        G10 = record {
+          locals = List._++_ g7 t1;
+          slots = Row.off ∷ Row.off ∷ Row.off ∷ life3 ∷ Row.alive ∷ Row.alive ∷ Row.alive ∷ Row.off ∷ List.[];
+        }
+
         abbrev G11 : Row.Cx
-        G11 = record { locals = List._++_ g8 t9; slots = Row.off ∷ Row.off ∷ Row.off ∷ life3 ∷ Row.alive ∷ Row.alive ∷ Row.alive ∷ Row.off ∷ List.[];
-            }
+        G11 = record {
+          locals = List._++_ g8 t9;
+          slots = Row.off ∷ Row.off ∷ Row.off ∷ life3 ∷ Row.alive ∷ Row.alive ∷ Row.alive ∷ Row.off ∷ List.[];
+        }
+
         abbrev G12 : Row.Cx
-        G12 = record { locals = List._++_ g8 t9; slots = Row.off ∷ Row.off ∷ Row.off ∷ life3 ∷ Row.alive ∷ Row.alive ∷ Row.alive ∷ Row.alive ∷
-            List.[]; }
+        G12 = record {
+          locals = List._++_ g8 t9;
+          slots = Row.off ∷ Row.off ∷ Row.off ∷ life3 ∷ Row.alive ∷ Row.alive ∷ Row.alive ∷ Row.alive ∷ List.[];
+        }
+
         abbrev G13 : Row.Cx
-        G13 = record { locals = List._++_ g10 t11; slots = Row.off ∷ Row.off ∷ Row.off ∷ Row.off ∷ Row.alive ∷ Row.alive ∷ Row.alive ∷ Row.alive ∷
-            List.[]; }
+        G13 = record {
+          locals = List._++_ g10 t11;
+          slots = Row.off ∷ Row.off ∷ Row.off ∷ Row.off ∷ Row.alive ∷ Row.alive ∷ Row.alive ∷ Row.alive ∷ List.[];
+        }
+
         abbrev G14 : Row.Cx
-        G14 = record { locals = List._++_ g10 t12; slots = Row.off ∷ Row.off ∷ Row.off ∷ Row.off ∷ Row.alive ∷ Row.alive ∷ Row.alive ∷ Row.alive ∷
-            List.[]; }
+        G14 = record {
+          locals = List._++_ g10 t12;
+          slots = Row.off ∷ Row.off ∷ Row.off ∷ Row.off ∷ Row.alive ∷ Row.alive ∷ Row.alive ∷ Row.alive ∷ List.[];
+        }
+
         abbrev G15 : Row.Cx
-        G15 = record { locals = List._++_ g13 t14; slots = Row.off ∷ Row.off ∷ Row.off ∷ Row.off ∷ Row.alive ∷ Row.alive ∷ Row.alive ∷ Row.alive ∷
-            List.[]; }
+        G15 = record {
+          locals = List._++_ g13 t14;
+          slots = Row.off ∷ Row.off ∷ Row.off ∷ Row.off ∷ Row.alive ∷ Row.alive ∷ Row.alive ∷ Row.alive ∷ List.[];
+        }
+
         abbrev G16 : Row.Cx
-        G16 = record { locals = List._++_ g15 t14; slots = Row.off ∷ Row.off ∷ Row.off ∷ Row.off ∷ Row.alive ∷ Row.alive ∷ Row.alive ∷ Row.alive ∷
-            List.[]; }
+        G16 = record {
+          locals = List._++_ g15 t14;
+          slots = Row.off ∷ Row.off ∷ Row.off ∷ Row.off ∷ Row.alive ∷ Row.alive ∷ Row.alive ∷ Row.alive ∷ List.[];
+        }
+
         abbrev G17 : Row.Cx
-        G17 = record { locals = List._++_ g16 t14; slots = Row.off ∷ Row.off ∷ Row.off ∷ Row.off ∷ Row.alive ∷ Row.alive ∷ Row.alive ∷ Row.alive ∷
-            List.[]; }
+        G17 = record {
+          locals = List._++_ g16 t14;
+          slots = Row.off ∷ Row.off ∷ Row.off ∷ Row.off ∷ Row.alive ∷ Row.alive ∷ Row.alive ∷ Row.alive ∷ List.[];
+        }
+
         abbrev G18 : Row.Cx
-        G18 = record { locals = List._++_ g16 t14; slots = Row.off ∷ Row.off ∷ Row.off ∷ Row.off ∷ Row.dead ∷ Row.alive ∷ Row.alive ∷ Row.alive ∷
-            List.[]; }
+        G18 = record {
+          locals = List._++_ g16 t14;
+          slots = Row.off ∷ Row.off ∷ Row.off ∷ Row.off ∷ Row.dead ∷ Row.alive ∷ Row.alive ∷ Row.alive ∷ List.[];
+        }
+
         abbrev G19 : Row.Cx
-        G19 = record { locals = List._++_ g17 t14; slots = life0 ∷ Row.off ∷ Row.off ∷ Row.off ∷ Row.dead ∷ Row.alive ∷ Row.alive ∷ Row.alive ∷
-            List.[]; }
+        G19 = record {
+          locals = List._++_ g17 t14;
+          slots = life0 ∷ Row.off ∷ Row.off ∷ Row.off ∷ Row.dead ∷ Row.alive ∷ Row.alive ∷ Row.alive ∷ List.[];
+        }
+
         abbrev G20 : Row.Cx
-        G20 = record { locals = List._++_ g17 t14; slots = life0 ∷ Row.off ∷ Row.off ∷ Row.off ∷ Row.off ∷ Row.alive ∷ Row.alive ∷ Row.alive ∷
-            List.[]; }
+        G20 = record {
+          locals = List._++_ g17 t14;
+          slots = life0 ∷ Row.off ∷ Row.off ∷ Row.off ∷ Row.off ∷ Row.alive ∷ Row.alive ∷ Row.alive ∷ List.[];
+        }
+
         abbrev G21 : Row.Cx
-        G21 = record { locals = List._++_ g17 t14; slots = life0 ∷ Row.off ∷ Row.off ∷ Row.off ∷ Row.off ∷ Row.dead ∷ Row.alive ∷ Row.alive ∷ List.[];
-            }
+        G21 = record {
+          locals = List._++_ g17 t14;
+          slots = life0 ∷ Row.off ∷ Row.off ∷ Row.off ∷ Row.off ∷ Row.dead ∷ Row.alive ∷ Row.alive ∷ List.[];
+        }
+
         abbrev G22 : Row.Cx
-        G22 = record { locals = List._++_ g18 t14; slots = life0 ∷ life1 ∷ Row.off ∷ Row.off ∷ Row.off ∷ Row.dead ∷ Row.alive ∷ Row.alive ∷ List.[]; }
+        G22 = record {
+          locals = List._++_ g18 t14;
+          slots = life0 ∷ life1 ∷ Row.off ∷ Row.off ∷ Row.off ∷ Row.dead ∷ Row.alive ∷ Row.alive ∷ List.[];
+        }
+
         abbrev G23 : Row.Cx
-        G23 = record { locals = List._++_ g18 t14; slots = life0 ∷ life1 ∷ Row.off ∷ Row.off ∷ Row.off ∷ Row.off ∷ Row.alive ∷ Row.alive ∷ List.[]; }
+        G23 = record {
+          locals = List._++_ g18 t14;
+          slots = life0 ∷ life1 ∷ Row.off ∷ Row.off ∷ Row.off ∷ Row.off ∷ Row.alive ∷ Row.alive ∷ List.[];
+        }
+
         abbrev G24 : Row.Cx
-        G24 = record { locals = List._++_ g18 t14; slots = life0 ∷ life1 ∷ Row.off ∷ Row.off ∷ Row.off ∷ Row.off ∷ Row.dead ∷ Row.alive ∷ List.[]; }
+        G24 = record {
+          locals = List._++_ g18 t14;
+          slots = life0 ∷ life1 ∷ Row.off ∷ Row.off ∷ Row.off ∷ Row.off ∷ Row.dead ∷ Row.alive ∷ List.[];
+        }
+
         abbrev G25 : Row.Cx
-        G25 = record { locals = List._++_ g19 t20; slots = life0 ∷ life1 ∷ life2 ∷ Row.off ∷ Row.off ∷ Row.off ∷ Row.dead ∷ Row.alive ∷ List.[]; }
+        G25 = record {
+          locals = List._++_ g19 t20;
+          slots = life0 ∷ life1 ∷ life2 ∷ Row.off ∷ Row.off ∷ Row.off ∷ Row.dead ∷ Row.alive ∷ List.[];
+        }
+
         abbrev G26 : Row.Cx
-        G26 = record { locals = List._++_ g19 t20; slots = life0 ∷ life1 ∷ life2 ∷ Row.off ∷ Row.off ∷ Row.off ∷ Row.off ∷ Row.alive ∷ List.[]; }
+        G26 = record {
+          locals = List._++_ g19 t20;
+          slots = life0 ∷ life1 ∷ life2 ∷ Row.off ∷ Row.off ∷ Row.off ∷ Row.off ∷ Row.alive ∷ List.[];
+        }
+
         abbrev G27 : Row.Cx
-        G27 = record { locals = List._++_ g19 t20; slots = life0 ∷ life1 ∷ life2 ∷ Row.off ∷ Row.off ∷ Row.off ∷ Row.off ∷ Row.dead ∷ List.[]; }
+        G27 = record {
+          locals = List._++_ g19 t20;
+          slots = life0 ∷ life1 ∷ life2 ∷ Row.off ∷ Row.off ∷ Row.off ∷ Row.off ∷ Row.dead ∷ List.[];
+        }
+
         abbrev G28 : Row.Cx
-        G28 = record { locals = List._++_ t21 t1; slots = life0 ∷ life1 ∷ life2 ∷ life3 ∷ Row.off ∷ Row.off ∷ Row.off ∷ Row.dead ∷ List.[]; }
+        G28 = record {
+          locals = List._++_ t21 t1;
+          slots = life0 ∷ life1 ∷ life2 ∷ life3 ∷ Row.off ∷ Row.off ∷ Row.off ∷ Row.dead ∷ List.[];
+        }
+
         abbrev G29 : Row.Cx
-        G29 = record { locals = List._++_ t21 t1; slots = life0 ∷ life1 ∷ life2 ∷ life3 ∷ Row.off ∷ Row.off ∷ Row.off ∷ Row.dead ∷ List.[]; }
+        G29 = record {
+          locals = List._++_ t21 t1;
+          slots = life0 ∷ life1 ∷ life2 ∷ life3 ∷ Row.off ∷ Row.off ∷ Row.off ∷ Row.dead ∷ List.[];
+        }
+
         abbrev G30 : Row.Cx
-        G30 = record { locals = List._++_ t21 t1; slots = life0 ∷ life1 ∷ life2 ∷ life3 ∷ Row.off ∷ Row.off ∷ Row.off ∷ Row.off ∷ List.[]; }
+        G30 = record {
+          locals = List._++_ t21 t1;
+          slots = life0 ∷ life1 ∷ life2 ∷ life3 ∷ Row.off ∷ Row.off ∷ Row.off ∷ Row.off ∷ List.[];
+        }
+
         abbrev G31 : Row.Cx
-        G31 = record { locals = List._++_ t22 t1; slots = life0 ∷ life1 ∷ life2 ∷ life3 ∷ Row.off ∷ Row.off ∷ Row.off ∷ Row.off ∷ List.[]; }
+        G31 = record {
+          locals = List._++_ t22 t1;
+          slots = life0 ∷ life1 ∷ life2 ∷ life3 ∷ Row.off ∷ Row.off ∷ Row.off ∷ Row.off ∷ List.[];
+        }
+
         abbrev G32 : Row.Cx
-        G32 = record { locals = List._++_ t23 t1; slots = life0 ∷ life1 ∷ life2 ∷ life3 ∷ Row.off ∷ Row.off ∷ Row.off ∷ Row.off ∷ List.[]; }
+        G32 = record {
+          locals = List._++_ t23 t1;
+          slots = life0 ∷ life1 ∷ life2 ∷ life3 ∷ Row.off ∷ Row.off ∷ Row.off ∷ Row.off ∷ List.[];
+        }
+
         abbrev G33 : Row.Cx
-        G33 = record { locals = List._++_ t24 t1; slots = life0 ∷ life1 ∷ life2 ∷ life3 ∷ Row.off ∷ Row.off ∷ Row.off ∷ Row.off ∷ List.[]; }
+        G33 = record {
+          locals = List._++_ t24 t1;
+          slots = life0 ∷ life1 ∷ life2 ∷ life3 ∷ Row.off ∷ Row.off ∷ Row.off ∷ Row.off ∷ List.[];
+        }
+
         abbrev G34 : Row.Cx
-        G34 = record { locals = List._++_ t25 t1; slots = life0 ∷ life1 ∷ life2 ∷ life3 ∷ Row.off ∷ Row.off ∷ Row.off ∷ Row.off ∷ List.[]; }
+        G34 = record {
+          locals = List._++_ t25 t1;
+          slots = life0 ∷ life1 ∷ life2 ∷ life3 ∷ Row.off ∷ Row.off ∷ Row.off ∷ Row.off ∷ List.[];
+        }
+
         abbrev G35 : Row.Cx
-        G35 = record { locals = List._++_ t2 t1; slots = life0 ∷ life1 ∷ life2 ∷ life3 ∷ Row.off ∷ Row.off ∷ Row.off ∷ Row.off ∷ List.[]; }
+        G35 = record {
+          locals = List._++_ t2 t1;
+          slots = life0 ∷ life1 ∷ life2 ∷ life3 ∷ Row.off ∷ Row.off ∷ Row.off ∷ Row.off ∷ List.[];
+        }
+
         abbrev Δ0 : Typed.Outs
         Δ0 = record { next = Option.none; exits = List.[]; returns = Option.some G1 }
-        module _ { M : Type 1 } (𝓤 : URA.URA M) (H : Wp.Heap 𝓤) (A : Atoms.Atoms 𝓤) (W : Kit.Given 𝓤 H A) (𝓣 : Wp.Tables 𝓤 H) (known : Knowns 𝓤 H A W
-            𝓣) (bs : List.List Nat.ℕ) (bd : Lifetimes.AllOutlive 4 (Kinds.osR r) κs) where
+
+        module _ {M : Type 1} (𝓤 : URA.URA M) (H : Wp.Heap 𝓤) (A : Atoms.Atoms 𝓤) (W : Kit.Given 𝓤 H A)
+            (𝓣 : Wp.Tables 𝓤 H) (known : Knowns 𝓤 H A W 𝓣) (bs : List.List Nat.ℕ)
+            (bd : Lifetimes.AllOutlive 4 (Kinds.osR r) κs) where
           abbrev E : Wp.Env 𝓤 H
           E = Frame.EnvOf 𝓤 H ((Kinds.tyR r) ∷ (Enter.tysP ps xs)) bs
+
           d0 : Typed.Typed 𝓤 H A 𝓣 E G35 b10 Δ0 at0
           d0 = Typed.t-return 𝓤 H A W 𝓣 E Δ0 tt
+
           d1 : Typed.Typed 𝓤 H A 𝓣 E G34 b10 Δ0 at1
-          d1 = Typed.g-pre 𝓤 H A W 𝓣 E G34 G35 b10 Δ0 (Typed.pass T34 T35 s33) at0 (Scalar.g-room 𝓤 H A W E G34 9 Syntax.tyBool (Scalar.room-sc 𝓤 H A
-              W Row.sBool)) d0
+          d1 = Typed.g-pre 𝓤 H A W 𝓣 E G34 G35 b10 Δ0 (Typed.pass T34 T35 s33) at0 (Scalar.g-room 𝓤 H A W E G34 9
+              Syntax.tyBool (Scalar.room-sc 𝓤 H A W Row.sBool)) d0
+
           d2 : Typed.Typed 𝓤 H A 𝓣 E G33 b10 Δ0 at2
-          d2 = Typed.g-pre 𝓤 H A W 𝓣 E G33 G34 b10 Δ0 (Typed.pass T33 T34 s32) at1 (Scalar.g-room 𝓤 H A W E G33 8 (Syntax.tyInt Syntax.w64)
-              (Scalar.room-sc 𝓤 H A W (Row.sInt Syntax.w64))) d1
+          d2 = Typed.g-pre 𝓤 H A W 𝓣 E G33 G34 b10 Δ0 (Typed.pass T33 T34 s32) at1 (Scalar.g-room 𝓤 H A W E G33 8
+              (Syntax.tyInt Syntax.w64) (Scalar.room-sc 𝓤 H A W (Row.sInt Syntax.w64))) d1
+
           d3 : Typed.Typed 𝓤 H A 𝓣 E G32 b10 Δ0 at3
-          d3 = Typed.g-pre 𝓤 H A W 𝓣 E G32 G33 b10 Δ0 (Typed.pass T32 T33 s31) at2 (Scalar.g-room 𝓤 H A W E G32 7 (Syntax.tyInt Syntax.w64)
-              (Scalar.room-sc 𝓤 H A W (Row.sInt Syntax.w64))) d2
+          d3 = Typed.g-pre 𝓤 H A W 𝓣 E G32 G33 b10 Δ0 (Typed.pass T32 T33 s31) at2 (Scalar.g-room 𝓤 H A W E G32 7
+              (Syntax.tyInt Syntax.w64) (Scalar.room-sc 𝓤 H A W (Row.sInt Syntax.w64))) d2
+
           d4 : Typed.Typed 𝓤 H A 𝓣 E G31 b10 Δ0 at4
-          d4 = Typed.g-pre 𝓤 H A W 𝓣 E G31 G32 b10 Δ0 (Typed.pass T31 T32 s30) at3 (Scalar.g-room 𝓤 H A W E G31 10 Laws''.mir (Local.room-whole 𝓤 H A
-              W (Declared.row Relayed.the-type) Laws''.mir Path.refl)) d3
+          d4 = Typed.g-pre 𝓤 H A W 𝓣 E G31 G32 b10 Δ0 (Typed.pass T31 T32 s30) at3 (Scalar.g-room 𝓤 H A W E G31 10
+              Laws''.mir (Local.room-whole 𝓤 H A W (Declared.row Relayed.the-type) Laws''.mir Path.refl)) d3
+
           d5 : Typed.Typed 𝓤 H A 𝓣 E G30 b11 Δ0 at5
-          d5 = Typed.s-seq 𝓤 H A W 𝓣 E G30 G31 b9 b10 Δ0 (Typed.both s29) at4 (Plain.t-call-plain 𝓤 H A W 𝓣 0 ps·1 r·1 (claims· .2) (claims· .3)
-              "lekchnam::relay::reply" (known .1) E (λ pos β. β) G30 (record { pos = 10; st = List.[]; d = 0; at = λ x. x }, tt) 0 List.[]
-              (Call.sub-id 𝓤 H A W (G30 .slots)) ((Yields.yields-copy 𝓤 H A W (λ ρ. Unit) (Declared.row Relayed.the-type) Path.refl (Copies.cStruct
-              Relayed.the-type Laws''.the-laws Laws''.the-copy .copy 𝓤 H A W) (Rows.whole (Declared.row Relayed.the-type)) (λ x. x) (λ x. x) (λ ρ
-              told. Local.mem-whole 𝓤 H A W (Declared.row Relayed.the-type) ρ) λ ρ told. Local.whole-mem 𝓤 H A W (Declared.row Relayed.the-type) ρ,
-              Path.refl,), tt,) (Reads.room-gone 𝓤 H A Laws'''.mir) tt Path.refl) d4
+          d5 = Typed.s-seq 𝓤 H A W 𝓣 E G30 G31 b9 b10 Δ0 (Typed.both s29) at4 (Plain.t-call-plain 𝓤 H A W 𝓣 0 ps·1 r·1
+              (claims· .2) (claims· .3) "lekchnam::relay::reply" (known .1) E (λ pos β. β) G30
+              (record { pos = 10; st = List.[]; d = 0; at = λ x. x }, tt) 0 List.[] (Call.sub-id 𝓤 H A W (G30 .slots)) (
+                (
+                  Yields.yields-copy 𝓤 H A W (λ ρ. Unit) (Declared.row Relayed.the-type) Path.refl (Copies.cStruct
+                      Relayed.the-type Laws''.the-laws Laws''.the-copy .copy 𝓤 H A W)
+                      (Rows.whole (Declared.row Relayed.the-type)) (λ x. x) (λ x. x) (λ ρ told. Local.mem-whole 𝓤 H A W
+                      (Declared.row Relayed.the-type) ρ) λ ρ told. Local.whole-mem 𝓤 H A W
+                      (Declared.row Relayed.the-type) ρ,
+                  Path.refl,
+                ),
+                tt,
+              ) (Reads.room-gone 𝓤 H A Laws'''.mir) tt Path.refl) d4
+
           d6 : Typed.Typed 𝓤 H A 𝓣 E G29 b11 Δ0 at6
-          d6 = Typed.g-pre 𝓤 H A W 𝓣 E G29 G30 b11 Δ0 (λ Ψ. Ψ) at5 (Lifetime.g-forget 𝓤 H A W E G29 7 Row.dead Path.refl) d5
+          d6 = Typed.g-pre 𝓤 H A W 𝓣 E G29 G30 b11 Δ0 (λ Ψ. Ψ) at5
+              (Lifetime.g-forget 𝓤 H A W E G29 7 Row.dead Path.refl) d5
+
           d7 : Typed.Typed 𝓤 H A 𝓣 E G28 b11 Δ0 at7
-          d7 = Typed.g-pre 𝓤 H A W 𝓣 E G28 G29 b11 Δ0 (Typed.give s27) at6 (Know.g-sl-known 𝓤 H A W (Referent.fInt Syntax.w32) E G28 4 3 ref7 life3 0
-              (λ x. x) record { fits = Dec.lit< tt } (Reads.as-is 𝓤 H A (Mut.mslice (Referent.rtF (Referent.fInt Syntax.w32)) ref7 3)) Path.refl tt)
-              d6
+          d7 = Typed.g-pre 𝓤 H A W 𝓣 E G28 G29 b11 Δ0 (Typed.give s27) at6 (Know.g-sl-known 𝓤 H A W
+              (Referent.fInt Syntax.w32) E G28 4 3 ref7 life3 0 (λ x. x) record { fits = Dec.lit< tt } (Reads.as-is 𝓤 H
+              A (Mut.mslice (Referent.rtF (Referent.fInt Syntax.w32)) ref7 3)) Path.refl tt) d6
+
           d8 : Typed.Typed 𝓤 H A 𝓣 E G27 b11 Δ0 at8
-          d8 = Typed.g-pre 𝓤 H A W 𝓣 E G27 G28 b11 Δ0 (Typed.both s26) at7 (Relend.g-back-sl 𝓤 H A W E (Referent.rtF (Referent.fInt Syntax.w32)) G27
-              18 4 3 7 ref7 ref3 life3 (λ x. x) (λ x. x) (Reads.as-is 𝓤 H A (Mut.msleft (Referent.rtF (Referent.fInt Syntax.w32)) ref3)) (Reads.as-is
-              𝓤 H A (Relend.mslice-owed (Referent.rtF (Referent.fInt Syntax.w32)) ref7 3 7 life3)) Path.refl Path.refl) d7
+          d8 = Typed.g-pre 𝓤 H A W 𝓣 E G27 G28 b11 Δ0 (Typed.both s26) at7 (Relend.g-back-sl 𝓤 H A W E
+              (Referent.rtF (Referent.fInt Syntax.w32)) G27 18 4 3 7 ref7 ref3 life3 (λ x. x) (λ x. x) (Reads.as-is 𝓤 H
+              A (Mut.msleft (Referent.rtF (Referent.fInt Syntax.w32)) ref3)) (Reads.as-is 𝓤 H A (Relend.mslice-owed
+              (Referent.rtF (Referent.fInt Syntax.w32)) ref7 3 7 life3)) Path.refl Path.refl) d7
+
           d9 : Typed.Typed 𝓤 H A 𝓣 E G26 b11 Δ0 at9
           d9 = Typed.g-pre 𝓤 H A W 𝓣 E G26 G27 b11 Δ0 (λ Ψ. Ψ) at8 (Lifetime.g-end 𝓤 H A W E G26 7 Path.refl) d8
+
           d10 : Typed.Typed 𝓤 H A 𝓣 E G25 b11 Δ0 at10
-          d10 = Typed.g-pre 𝓤 H A W 𝓣 E G25 G26 b11 Δ0 (λ Ψ. Ψ) at9 (Lifetime.g-forget 𝓤 H A W E G25 6 Row.dead Path.refl) d9
+          d10 = Typed.g-pre 𝓤 H A W 𝓣 E G25 G26 b11 Δ0 (λ Ψ. Ψ) at9
+              (Lifetime.g-forget 𝓤 H A W E G25 6 Row.dead Path.refl) d9
+
           d11 : Typed.Typed 𝓤 H A 𝓣 E G24 b11 Δ0 at11
-          d11 = Typed.g-pre 𝓤 H A W 𝓣 E G24 G25 b11 Δ0 (Typed.both s23) at10 (Relend.g-back-sl 𝓤 H A W E InflightAction.row G24 16 3 2 6 ref6 ref2
-              life2 (λ x. x) (λ x. x) (Reads.as-is 𝓤 H A (Mut.msleft InflightAction.row ref2)) (Reads.as-is 𝓤 H A (Relend.mslice-owed
-              InflightAction.row ref6 2 6 life2)) Path.refl Path.refl) d10
+          d11 = Typed.g-pre 𝓤 H A W 𝓣 E G24 G25 b11 Δ0 (Typed.both s23) at10 (Relend.g-back-sl 𝓤 H A W E
+              InflightAction.row G24 16 3 2 6 ref6 ref2 life2 (λ x. x) (λ x. x)
+              (Reads.as-is 𝓤 H A (Mut.msleft InflightAction.row ref2)) (Reads.as-is 𝓤 H A
+              (Relend.mslice-owed InflightAction.row ref6 2 6 life2)) Path.refl Path.refl) d10
+
           d12 : Typed.Typed 𝓤 H A 𝓣 E G23 b11 Δ0 at12
           d12 = Typed.g-pre 𝓤 H A W 𝓣 E G23 G24 b11 Δ0 (λ Ψ. Ψ) at11 (Lifetime.g-end 𝓤 H A W E G23 6 Path.refl) d11
+
           d13 : Typed.Typed 𝓤 H A 𝓣 E G22 b11 Δ0 at13
-          d13 = Typed.g-pre 𝓤 H A W 𝓣 E G22 G23 b11 Δ0 (λ Ψ. Ψ) at12 (Lifetime.g-forget 𝓤 H A W E G22 5 Row.dead Path.refl) d12
+          d13 = Typed.g-pre 𝓤 H A W 𝓣 E G22 G23 b11 Δ0 (λ Ψ. Ψ) at12
+              (Lifetime.g-forget 𝓤 H A W E G22 5 Row.dead Path.refl) d12
+
           d14 : Typed.Typed 𝓤 H A 𝓣 E G21 b11 Δ0 at14
-          d14 = Typed.g-pre 𝓤 H A W 𝓣 E G21 G22 b11 Δ0 (Typed.both s20) at13 (Relend.g-back-sl 𝓤 H A W E RelayCircuit.row G21 14 2 1 5 ref5 ref1 life1
-              (λ x. x) (λ x. x) (Reads.as-is 𝓤 H A (Mut.msleft RelayCircuit.row ref1)) (Reads.as-is 𝓤 H A (Relend.mslice-owed RelayCircuit.row ref5 1
-              5 life1)) Path.refl Path.refl) d13
+          d14 = Typed.g-pre 𝓤 H A W 𝓣 E G21 G22 b11 Δ0 (Typed.both s20) at13 (Relend.g-back-sl 𝓤 H A W E
+              RelayCircuit.row G21 14 2 1 5 ref5 ref1 life1 (λ x. x) (λ x. x)
+              (Reads.as-is 𝓤 H A (Mut.msleft RelayCircuit.row ref1)) (Reads.as-is 𝓤 H A
+              (Relend.mslice-owed RelayCircuit.row ref5 1 5 life1)) Path.refl Path.refl) d13
+
           d15 : Typed.Typed 𝓤 H A 𝓣 E G20 b11 Δ0 at15
           d15 = Typed.g-pre 𝓤 H A W 𝓣 E G20 G21 b11 Δ0 (λ Ψ. Ψ) at14 (Lifetime.g-end 𝓤 H A W E G20 5 Path.refl) d14
+
           d16 : Typed.Typed 𝓤 H A 𝓣 E G19 b11 Δ0 at16
-          d16 = Typed.g-pre 𝓤 H A W 𝓣 E G19 G20 b11 Δ0 (λ Ψ. Ψ) at15 (Lifetime.g-forget 𝓤 H A W E G19 4 Row.dead Path.refl) d15
+          d16 = Typed.g-pre 𝓤 H A W 𝓣 E G19 G20 b11 Δ0 (λ Ψ. Ψ) at15
+              (Lifetime.g-forget 𝓤 H A W E G19 4 Row.dead Path.refl) d15
+
           d17 : Typed.Typed 𝓤 H A 𝓣 E G18 b11 Δ0 at17
-          d17 = Typed.g-pre 𝓤 H A W 𝓣 E G18 G19 b11 Δ0 (Typed.both s17) at16 (Relend.g-back-sl 𝓤 H A W E RelayPending.row G18 12 1 0 4 ref4 ref0 life0
-              (λ x. x) (λ x. x) (Reads.as-is 𝓤 H A (Mut.msleft RelayPending.row ref0)) (Reads.as-is 𝓤 H A (Relend.mslice-owed RelayPending.row ref4 0
-              4 life0)) Path.refl Path.refl) d16
+          d17 = Typed.g-pre 𝓤 H A W 𝓣 E G18 G19 b11 Δ0 (Typed.both s17) at16 (Relend.g-back-sl 𝓤 H A W E
+              RelayPending.row G18 12 1 0 4 ref4 ref0 life0 (λ x. x) (λ x. x)
+              (Reads.as-is 𝓤 H A (Mut.msleft RelayPending.row ref0)) (Reads.as-is 𝓤 H A
+              (Relend.mslice-owed RelayPending.row ref4 0 4 life0)) Path.refl Path.refl) d16
+
           d18 : Typed.Typed 𝓤 H A 𝓣 E G17 b11 Δ0 at18
           d18 = Typed.g-pre 𝓤 H A W 𝓣 E G17 G18 b11 Δ0 (λ Ψ. Ψ) at17 (Lifetime.g-end 𝓤 H A W E G17 4 Path.refl) d17
+
           d19 : Typed.Typed 𝓤 H A 𝓣 E G16 b11 Δ0 at19
-          d19 = Typed.g-pre 𝓤 H A W 𝓣 E G16 G17 b11 Δ0 (Typed.pass T16 T17 s15) at18 (Scalar.g-room 𝓤 H A W E G16 6 Laws.mir (Local.room-whole 𝓤 H A W
-              (Declared.row Places.the-type) Laws.mir Path.refl)) d18
+          d19 = Typed.g-pre 𝓤 H A W 𝓣 E G16 G17 b11 Δ0 (Typed.pass T16 T17 s15) at18 (Scalar.g-room 𝓤 H A W E G16 6
+              Laws.mir (Local.room-whole 𝓤 H A W (Declared.row Places.the-type) Laws.mir Path.refl)) d18
+
           d20 : Typed.Typed 𝓤 H A 𝓣 E G15 b11 Δ0 at20
-          d20 = Typed.g-pre 𝓤 H A W 𝓣 E G15 G16 b11 Δ0 (Typed.pass T15 T16 s14) at19 (Scalar.g-room 𝓤 H A W E G15 5 Laws'.mir (Local.room-whole 𝓤 H A
-              W (Declared.row OpaqueRelayRuntime.the-type) Laws'.mir Path.refl)) d19
+          d20 = Typed.g-pre 𝓤 H A W 𝓣 E G15 G16 b11 Δ0 (Typed.pass T15 T16 s14) at19 (Scalar.g-room 𝓤 H A W E G15 5
+              Laws'.mir (Local.room-whole 𝓤 H A W (Declared.row OpaqueRelayRuntime.the-type) Laws'.mir Path.refl)) d19
+
           d21 : Typed.Typed 𝓤 H A 𝓣 E G14 b12 Δ0 at21
-          d21 = Typed.s-seq 𝓤 H A W 𝓣 E G14 G15 b8 b11 Δ0 (Typed.both s13) at20 (Plain.t-call-plain 𝓤 H A W 𝓣 4 ps·0 r·0 (claims· .0) (claims· .1)
-              "hnsr_circuit::acknowledge::acknowledge" (known .0) E (λ pos β. β) G14 (record { pos = 12; ty = Syntax.tyRef Syntax.erased Syntax.mut
-              RelayPending.to; ref = λ x. x; }, (record { pos = 14; ty = Syntax.tyRef Syntax.erased Syntax.mut RelayCircuit.to; ref = λ x. x; },
-              (record { pos = 16; ty = Syntax.tyRef Syntax.erased Syntax.mut InflightAction.to; ref = λ x. x; }, (record { pos = 18; ty = Syntax.tyRef
-              Syntax.erased Syntax.mut (Syntax.tyInt Syntax.w32); ref = λ x. x; }, (record { pos = 5; st = List.[]; d = 0; at = λ x. x }, (record {
-              pos = 6; st = List.[]; d = 0; at = λ x. x }, (Num.vAt 7 λ x. x, (Num.vAt 8 λ x. x, (Bool.bAt 9 λ x. x, tt))),),),),),),) 10 (4 ∷ 5 ∷ 6 ∷
-              7 ∷ List.[]) (Call.sub-id 𝓤 H A W (G14 .slots)) (Reads.as-is 𝓤 H A (Mut.mslice RelayPending.row ref0 4), Mut.reads-mslice 𝓤 H A W
-              RelayPending.row ref0 4, Path.refl, (Reads.as-is 𝓤 H A (Mut.mslice RelayCircuit.row ref1 5), Mut.reads-mslice 𝓤 H A W RelayCircuit.row
-              ref1 5, Path.refl, (Reads.as-is 𝓤 H A (Mut.mslice InflightAction.row ref2 6), Mut.reads-mslice 𝓤 H A W InflightAction.row ref2 6,
-              Path.refl, (Reads.as-is 𝓤 H A (Mut.mslice (Referent.rtF (Referent.fInt Syntax.w32)) ref3 7), Mut.reads-mslice 𝓤 H A W (Referent.rtF
-              (Referent.fInt Syntax.w32)) ref3 7, Path.refl, ((Yields.yields-copy 𝓤 H A W (λ ρ. Unit) (Declared.row OpaqueRelayRuntime.the-type)
-              Path.refl (Copies.cStruct OpaqueRelayRuntime.the-type Laws'.the-laws Laws'.the-copy .copy 𝓤 H A W) (Rows.whole (Declared.row
-              OpaqueRelayRuntime.the-type)) (λ x. x) (λ x. x) (λ ρ told. Local.mem-whole 𝓤 H A W (Declared.row OpaqueRelayRuntime.the-type) ρ) λ ρ
-              told. Local.whole-mem 𝓤 H A W (Declared.row OpaqueRelayRuntime.the-type) ρ, Path.refl,), ((Yields.yields-copy 𝓤 H A W (λ ρ. Unit)
-              (Declared.row Places.the-type) Path.refl (Copies.cStruct Places.the-type Laws.the-laws Laws.the-copy .copy 𝓤 H A W) (Rows.whole
-              (Declared.row Places.the-type)) (λ x. x) (λ x. x) (λ ρ told. Local.mem-whole 𝓤 H A W (Declared.row Places.the-type) ρ) λ ρ told.
-              Local.whole-mem 𝓤 H A W (Declared.row Places.the-type) ρ, Path.refl,), ((Scalar.reads-sc 𝓤 H A W (Row.sInt Syntax.w64), Path.refl),
-              ((Scalar.reads-sc 𝓤 H A W (Row.sInt Syntax.w64), Path.refl), ((Scalar.reads-sc 𝓤 H A W Row.sBool, Path.refl), tt),),),),),),),),)
-              (Reads.room-gone 𝓤 H A Laws''.mir) (tt, (tt, (tt, (tt, tt)))) Path.refl) d20
+          d21 = Typed.s-seq 𝓤 H A W 𝓣 E G14 G15 b8 b11 Δ0 (Typed.both s13) at20 (Plain.t-call-plain 𝓤 H A W 𝓣 4 ps·0
+              r·0 (claims· .0) (claims· .1) "hnsr_circuit::acknowledge::acknowledge" (known .0) E (λ pos β. β) G14 (
+                record { pos = 12; ty = ref0; ref = λ x. x },
+                (
+                  record { pos = 14; ty = ref1; ref = λ x. x },
+                  (
+                    record { pos = 16; ty = ref2; ref = λ x. x },
+                    (
+                      record { pos = 18; ty = ref3; ref = λ x. x },
+                      (
+                        record { pos = 5; st = List.[]; d = 0; at = λ x. x },
+                        (
+                          record { pos = 6; st = List.[]; d = 0; at = λ x. x },
+                          (Num.vAt 7 λ x. x, (Num.vAt 8 λ x. x, (Bool.bAt 9 λ x. x, tt))),
+                        ),
+                      ),
+                    ),
+                  ),
+                ),
+              ) 10 (4 ∷ 5 ∷ 6 ∷ 7 ∷ List.[]) (Call.sub-id 𝓤 H A W (G14 .slots)) (
+                Reads.as-is 𝓤 H A (Mut.mslice RelayPending.row ref0 4),
+                Mut.reads-mslice 𝓤 H A W RelayPending.row ref0 4,
+                Path.refl,
+                (
+                  Reads.as-is 𝓤 H A (Mut.mslice RelayCircuit.row ref1 5),
+                  Mut.reads-mslice 𝓤 H A W RelayCircuit.row ref1 5,
+                  Path.refl,
+                  (
+                    Reads.as-is 𝓤 H A (Mut.mslice InflightAction.row ref2 6),
+                    Mut.reads-mslice 𝓤 H A W InflightAction.row ref2 6,
+                    Path.refl,
+                    (
+                      Reads.as-is 𝓤 H A (Mut.mslice (Referent.rtF (Referent.fInt Syntax.w32)) ref3 7),
+                      Mut.reads-mslice 𝓤 H A W (Referent.rtF (Referent.fInt Syntax.w32)) ref3 7,
+                      Path.refl,
+                      (
+                        (
+                          Yields.yields-copy 𝓤 H A W (λ ρ. Unit) (Declared.row OpaqueRelayRuntime.the-type) Path.refl (Copies.cStruct
+                              OpaqueRelayRuntime.the-type Laws'.the-laws Laws'.the-copy .copy 𝓤 H A W)
+                              (Rows.whole (Declared.row OpaqueRelayRuntime.the-type)) (λ x. x) (λ x. x) (λ ρ told.
+                              Local.mem-whole 𝓤 H A W (Declared.row OpaqueRelayRuntime.the-type) ρ) λ ρ told.
+                              Local.whole-mem 𝓤 H A W (Declared.row OpaqueRelayRuntime.the-type) ρ,
+                          Path.refl,
+                        ),
+                        (
+                          (
+                            Yields.yields-copy 𝓤 H A W (λ ρ. Unit) (Declared.row Places.the-type) Path.refl (Copies.cStruct
+                                Places.the-type Laws.the-laws Laws.the-copy .copy 𝓤 H A W)
+                                (Rows.whole (Declared.row Places.the-type)) (λ x. x) (λ x. x) (λ ρ told.
+                                Local.mem-whole 𝓤 H A W (Declared.row Places.the-type) ρ) λ ρ told. Local.whole-mem 𝓤 H
+                                A W (Declared.row Places.the-type) ρ,
+                            Path.refl,
+                          ),
+                          (
+                            (Scalar.reads-sc 𝓤 H A W (Row.sInt Syntax.w64), Path.refl),
+                            (
+                              (Scalar.reads-sc 𝓤 H A W (Row.sInt Syntax.w64), Path.refl),
+                              ((Scalar.reads-sc 𝓤 H A W Row.sBool, Path.refl), tt),
+                            ),
+                          ),
+                        ),
+                      ),
+                    ),
+                  ),
+                ),
+              ) (Reads.room-gone 𝓤 H A Laws''.mir) (tt, (tt, (tt, (tt, tt)))) Path.refl) d20
+
           d22 : Typed.Typed 𝓤 H A 𝓣 E G13 b13 Δ0 at22
-          d22 = Typed.s-seq 𝓤 H A W 𝓣 E G13 G14 b7 b12 Δ0 (Typed.ask s12) at21 (Relend.t-sl-aggregate 𝓤 H A W E (Referent.rtF (Referent.fInt
-              Syntax.w32)) 𝓣 (Relend.asMut (Referent.rtF (Referent.fInt Syntax.w32))) G13 17 18 7 ref3 ref3 (λ x. x) (Scalar.oFld 4 ((Syntax.field 1)
-              ∷ List.[]) (Syntax.tyInt Syntax.w64) 8 λ v. Shared.lenV (v .0)) (Reads.as-is 𝓤 H A (Relend.msptr (Referent.rtF (Referent.fInt
-              Syntax.w32)) ref3 7)) (Reads.room-gone 𝓤 H A (Syntax.tyStruct (38 ∷ 91 ∷ 93 ∷ List.[]) (Syntax.tcons ref3 (Syntax.tcons (Syntax.tyInt
-              Syntax.w64) Syntax.tnil)))) (Relend.reads-owed-len 𝓤 H A W (Referent.rtF (Referent.fInt Syntax.w32)) ref7 3 7 life3 8 Path.refl,
-              Path.refl,) Path.refl Path.refl λ b o k. tt) d21
+          d22 = Typed.s-seq 𝓤 H A W 𝓣 E G13 G14 b7 b12 Δ0 (Typed.ask s12) at21 (Relend.t-sl-aggregate 𝓤 H A W E
+              (Referent.rtF (Referent.fInt Syntax.w32)) 𝓣 (Relend.asMut (Referent.rtF (Referent.fInt Syntax.w32))) G13
+              17 18 7 ref3 ref3 (λ x. x) (Scalar.oFld 4 ((Syntax.field 1) ∷ List.[]) (Syntax.tyInt Syntax.w64) 8 λ v.
+              Shared.lenV (v .0)) (Reads.as-is 𝓤 H A (Relend.msptr (Referent.rtF (Referent.fInt Syntax.w32)) ref3 7))
+              (Reads.room-gone 𝓤 H A slice3) (
+                Relend.reads-owed-len 𝓤 H A W (Referent.rtF (Referent.fInt Syntax.w32)) ref7 3 7 life3 8 Path.refl,
+                Path.refl,
+              ) Path.refl Path.refl λ b o k. tt) d21
+
           d23 : Typed.Typed 𝓤 H A 𝓣 E G12 b14 Δ0 at23
-          d23 = Typed.s-seq 𝓤 H A W 𝓣 E G12 G13 b6 b13 Δ0 (Typed.give s11) at22 (Relend.t-sl-relend 𝓤 H A W E (Referent.rtF (Referent.fInt
-              Syntax.w32)) 𝓣 G12 4 17 3 7 ref7 ref3 life3 0 (λ x. x) (Reads.as-is 𝓤 H A (Mut.mslice (Referent.rtF (Referent.fInt Syntax.w32)) ref7 3))
-              (Reads.room-gone 𝓤 H A ref3) Path.refl tt Path.refl Path.refl Path.refl λ b o. tt) d22
+          d23 = Typed.s-seq 𝓤 H A W 𝓣 E G12 G13 b6 b13 Δ0 (Typed.give s11) at22 (Relend.t-sl-relend 𝓤 H A W E
+              (Referent.rtF (Referent.fInt Syntax.w32)) 𝓣 G12 4 17 3 7 ref7 ref3 life3 0 (λ x. x) (Reads.as-is 𝓤 H A (Mut.mslice
+              (Referent.rtF (Referent.fInt Syntax.w32)) ref7 3)) (Reads.room-gone 𝓤 H A ref3) Path.refl tt Path.refl
+              Path.refl Path.refl λ b o. tt) d22
+
           d24 : Typed.Typed 𝓤 H A 𝓣 E G11 b14 Δ0 at24
-          d24 = Typed.g-pre 𝓤 H A W 𝓣 E G11 G12 b14 Δ0 (λ Ψ. Ψ) at23 (Lifetime.g-begin 𝓤 H A W E G11 7 (tt, ((tt, tt), ((tt, tt), ((tt, tt), (tt, (tt,
-              (tt, (tt, (tt, (tt, (tt, (tt, (tt, (tt, (tt, (tt, (tt, (tt, (tt, tt))))))))),),),),),),),),),),)) d23
+          d24 = Typed.g-pre 𝓤 H A W 𝓣 E G11 G12 b14 Δ0 (λ Ψ. Ψ) at23 (Lifetime.g-begin 𝓤 H A W E G11 7 (
+            tt,
+            (
+              (tt, tt),
+              (
+                (tt, tt),
+                (
+                  (tt, tt),
+                  (tt, (tt, (tt, (tt, (tt, (tt, (tt, (tt, (tt, (tt, (tt, (tt, (tt, (tt, (tt, tt))))))))))))))),
+                ),
+              ),
+            ),
+          )) d23
+
           d25 : Typed.Typed 𝓤 H A 𝓣 E G10 b15 Δ0 at25
-          d25 = Typed.s-seq 𝓤 H A W 𝓣 E G10 G11 b5 b14 Δ0 (Typed.ask s9) at24 (Relend.t-sl-aggregate 𝓤 H A W E InflightAction.row 𝓣 (Relend.asMut
-              InflightAction.row) G10 15 16 6 ref2 ref2 (λ x. x) (Scalar.oFld 3 ((Syntax.field 1) ∷ List.[]) (Syntax.tyInt Syntax.w64) 8 λ v.
-              Shared.lenV (v .0)) (Reads.as-is 𝓤 H A (Relend.msptr InflightAction.row ref2 6)) (Reads.room-gone 𝓤 H A (Syntax.tyStruct (38 ∷ 91 ∷ 93 ∷
-              List.[]) (Syntax.tcons ref2 (Syntax.tcons (Syntax.tyInt Syntax.w64) Syntax.tnil)))) (Relend.reads-owed-len 𝓤 H A W InflightAction.row
-              ref6 2 6 life2 8 Path.refl, Path.refl,) Path.refl Path.refl λ b o k. tt) d24
+          d25 = Typed.s-seq 𝓤 H A W 𝓣 E G10 G11 b5 b14 Δ0 (Typed.ask s9) at24 (Relend.t-sl-aggregate 𝓤 H A W E
+              InflightAction.row 𝓣 (Relend.asMut InflightAction.row) G10 15 16 6 ref2 ref2 (λ x. x) (Scalar.oFld 3
+              ((Syntax.field 1) ∷ List.[]) (Syntax.tyInt Syntax.w64) 8 λ v. Shared.lenV (v .0)) (Reads.as-is 𝓤 H A
+              (Relend.msptr InflightAction.row ref2 6)) (Reads.room-gone 𝓤 H A slice2) (
+                Relend.reads-owed-len 𝓤 H A W InflightAction.row ref6 2 6 life2 8 Path.refl,
+                Path.refl,
+              ) Path.refl Path.refl λ b o k. tt) d24
+
           d26 : Typed.Typed 𝓤 H A 𝓣 E G9 b16 Δ0 at26
-          d26 = Typed.s-seq 𝓤 H A W 𝓣 E G9 G10 b4 b15 Δ0 (Typed.give s8) at25 (Relend.t-sl-relend 𝓤 H A W E InflightAction.row 𝓣 G9 3 15 2 6 ref6 ref2
-              life2 0 (λ x. x) (Reads.as-is 𝓤 H A (Mut.mslice InflightAction.row ref6 2)) (Reads.room-gone 𝓤 H A ref2) Path.refl tt Path.refl
-              Path.refl Path.refl λ b o. tt) d25
+          d26 = Typed.s-seq 𝓤 H A W 𝓣 E G9 G10 b4 b15 Δ0 (Typed.give s8) at25 (Relend.t-sl-relend 𝓤 H A W E
+              InflightAction.row 𝓣 G9 3 15 2 6 ref6 ref2 life2 0 (λ x. x)
+              (Reads.as-is 𝓤 H A (Mut.mslice InflightAction.row ref6 2)) (Reads.room-gone 𝓤 H A ref2) Path.refl tt
+              Path.refl Path.refl Path.refl λ b o. tt) d25
+
           d27 : Typed.Typed 𝓤 H A 𝓣 E G8 b16 Δ0 at27
-          d27 = Typed.g-pre 𝓤 H A W 𝓣 E G8 G9 b16 Δ0 (λ Ψ. Ψ) at26 (Lifetime.g-begin 𝓤 H A W E G8 6 (tt, ((tt, tt), ((tt, tt), (tt, (tt, (tt, (tt,
-              (tt, (tt, (tt, (tt, (tt, (tt, (tt, (tt, (tt, (tt, (tt, (tt, tt))))))))),),),),),),),),),),)) d26
+          d27 = Typed.g-pre 𝓤 H A W 𝓣 E G8 G9 b16 Δ0 (λ Ψ. Ψ) at26 (Lifetime.g-begin 𝓤 H A W E G8 6 (
+            tt,
+            (
+              (tt, tt),
+              (
+                (tt, tt),
+                (tt, (tt, (tt, (tt, (tt, (tt, (tt, (tt, (tt, (tt, (tt, (tt, (tt, (tt, (tt, (tt, tt)))))))))))))))),
+              ),
+            ),
+          )) d26
+
           d28 : Typed.Typed 𝓤 H A 𝓣 E G7 b17 Δ0 at28
-          d28 = Typed.s-seq 𝓤 H A W 𝓣 E G7 G8 b3 b16 Δ0 (Typed.ask s6) at27 (Relend.t-sl-aggregate 𝓤 H A W E RelayCircuit.row 𝓣 (Relend.asMut
-              RelayCircuit.row) G7 13 14 5 ref1 ref1 (λ x. x) (Scalar.oFld 2 ((Syntax.field 1) ∷ List.[]) (Syntax.tyInt Syntax.w64) 8 λ v. Shared.lenV
-              (v .0)) (Reads.as-is 𝓤 H A (Relend.msptr RelayCircuit.row ref1 5)) (Reads.room-gone 𝓤 H A (Syntax.tyStruct (38 ∷ 91 ∷ 93 ∷ List.[])
-              (Syntax.tcons ref1 (Syntax.tcons (Syntax.tyInt Syntax.w64) Syntax.tnil)))) (Relend.reads-owed-len 𝓤 H A W RelayCircuit.row ref5 1 5
-              life1 8 Path.refl, Path.refl,) Path.refl Path.refl λ b o k. tt) d27
+          d28 = Typed.s-seq 𝓤 H A W 𝓣 E G7 G8 b3 b16 Δ0 (Typed.ask s6) at27 (Relend.t-sl-aggregate 𝓤 H A W E
+              RelayCircuit.row 𝓣 (Relend.asMut RelayCircuit.row) G7 13 14 5 ref1 ref1 (λ x. x) (Scalar.oFld 2
+              ((Syntax.field 1) ∷ List.[]) (Syntax.tyInt Syntax.w64) 8 λ v. Shared.lenV (v .0))
+              (Reads.as-is 𝓤 H A (Relend.msptr RelayCircuit.row ref1 5)) (Reads.room-gone 𝓤 H A slice1) (
+                Relend.reads-owed-len 𝓤 H A W RelayCircuit.row ref5 1 5 life1 8 Path.refl,
+                Path.refl,
+              ) Path.refl Path.refl λ b o k. tt) d27
+
           d29 : Typed.Typed 𝓤 H A 𝓣 E G6 b18 Δ0 at29
-          d29 = Typed.s-seq 𝓤 H A W 𝓣 E G6 G7 b2 b17 Δ0 (Typed.give s5) at28 (Relend.t-sl-relend 𝓤 H A W E RelayCircuit.row 𝓣 G6 2 13 1 5 ref5 ref1
-              life1 0 (λ x. x) (Reads.as-is 𝓤 H A (Mut.mslice RelayCircuit.row ref5 1)) (Reads.room-gone 𝓤 H A ref1) Path.refl tt Path.refl Path.refl
-              Path.refl λ b o. tt) d28
+          d29 = Typed.s-seq 𝓤 H A W 𝓣 E G6 G7 b2 b17 Δ0 (Typed.give s5) at28 (Relend.t-sl-relend 𝓤 H A W E
+              RelayCircuit.row 𝓣 G6 2 13 1 5 ref5 ref1 life1 0 (λ x. x)
+              (Reads.as-is 𝓤 H A (Mut.mslice RelayCircuit.row ref5 1)) (Reads.room-gone 𝓤 H A ref1) Path.refl tt
+              Path.refl Path.refl Path.refl λ b o. tt) d28
+
           d30 : Typed.Typed 𝓤 H A 𝓣 E G5 b18 Δ0 at30
-          d30 = Typed.g-pre 𝓤 H A W 𝓣 E G5 G6 b18 Δ0 (λ Ψ. Ψ) at29 (Lifetime.g-begin 𝓤 H A W E G5 5 (tt, ((tt, tt), (tt, (tt, (tt, (tt, (tt, (tt, (tt,
-              (tt, (tt, (tt, (tt, (tt, (tt, (tt, (tt, (tt, (tt, tt))))))))),),),),),),),),),),)) d29
+          d30 = Typed.g-pre 𝓤 H A W 𝓣 E G5 G6 b18 Δ0 (λ Ψ. Ψ) at29 (Lifetime.g-begin 𝓤 H A W E G5 5 (
+            tt,
+            (
+              (tt, tt),
+              (tt, (tt, (tt, (tt, (tt, (tt, (tt, (tt, (tt, (tt, (tt, (tt, (tt, (tt, (tt, (tt, (tt, tt))))))))))))))))),
+            ),
+          )) d29
+
           d31 : Typed.Typed 𝓤 H A 𝓣 E G4 b19 Δ0 at31
-          d31 = Typed.s-seq 𝓤 H A W 𝓣 E G4 G5 b1 b18 Δ0 (Typed.ask s3) at30 (Relend.t-sl-aggregate 𝓤 H A W E RelayPending.row 𝓣 (Relend.asMut
-              RelayPending.row) G4 11 12 4 ref0 ref0 (λ x. x) (Scalar.oFld 1 ((Syntax.field 1) ∷ List.[]) (Syntax.tyInt Syntax.w64) 8 λ v. Shared.lenV
-              (v .0)) (Reads.as-is 𝓤 H A (Relend.msptr RelayPending.row ref0 4)) (Reads.room-gone 𝓤 H A (Syntax.tyStruct (38 ∷ 91 ∷ 93 ∷ List.[])
-              (Syntax.tcons ref0 (Syntax.tcons (Syntax.tyInt Syntax.w64) Syntax.tnil)))) (Relend.reads-owed-len 𝓤 H A W RelayPending.row ref4 0 4
-              life0 8 Path.refl, Path.refl,) Path.refl Path.refl λ b o k. tt) d30
+          d31 = Typed.s-seq 𝓤 H A W 𝓣 E G4 G5 b1 b18 Δ0 (Typed.ask s3) at30 (Relend.t-sl-aggregate 𝓤 H A W E
+              RelayPending.row 𝓣 (Relend.asMut RelayPending.row) G4 11 12 4 ref0 ref0 (λ x. x) (Scalar.oFld 1
+              ((Syntax.field 1) ∷ List.[]) (Syntax.tyInt Syntax.w64) 8 λ v. Shared.lenV (v .0))
+              (Reads.as-is 𝓤 H A (Relend.msptr RelayPending.row ref0 4)) (Reads.room-gone 𝓤 H A slice0) (
+                Relend.reads-owed-len 𝓤 H A W RelayPending.row ref4 0 4 life0 8 Path.refl,
+                Path.refl,
+              ) Path.refl Path.refl λ b o k. tt) d30
+
           d32 : Typed.Typed 𝓤 H A 𝓣 E G3 b20 Δ0 at32
-          d32 = Typed.s-seq 𝓤 H A W 𝓣 E G3 G4 b0 b19 Δ0 (Typed.give s2) at31 (Relend.t-sl-relend 𝓤 H A W E RelayPending.row 𝓣 G3 1 11 0 4 ref4 ref0
-              life0 0 (λ x. x) (Reads.as-is 𝓤 H A (Mut.mslice RelayPending.row ref4 0)) (Reads.room-gone 𝓤 H A ref0) Path.refl tt Path.refl Path.refl
-              Path.refl λ b o. tt) d31
+          d32 = Typed.s-seq 𝓤 H A W 𝓣 E G3 G4 b0 b19 Δ0 (Typed.give s2) at31 (Relend.t-sl-relend 𝓤 H A W E
+              RelayPending.row 𝓣 G3 1 11 0 4 ref4 ref0 life0 0 (λ x. x)
+              (Reads.as-is 𝓤 H A (Mut.mslice RelayPending.row ref4 0)) (Reads.room-gone 𝓤 H A ref0) Path.refl tt
+              Path.refl Path.refl Path.refl λ b o. tt) d31
+
           d33 : Typed.Typed 𝓤 H A 𝓣 E G2 b20 Δ0 at33
-          d33 = Typed.g-pre 𝓤 H A W 𝓣 E G2 G3 b20 Δ0 (λ Ψ. Ψ) at32 (Lifetime.g-begin 𝓤 H A W E G2 4 (tt, (tt, (tt, (tt, (tt, (tt, (tt, (tt, (tt, (tt,
-              (tt, (tt, (tt, (tt, (tt, (tt, (tt, (tt, (tt, tt))))))))),),),),),),),),),),)) d32
+          d33 = Typed.g-pre 𝓤 H A W 𝓣 E G2 G3 b20 Δ0 (λ Ψ. Ψ) at32 (Lifetime.g-begin 𝓤 H A W E G2 4 (
+            tt,
+            (
+              tt,
+              (tt, (tt, (tt, (tt, (tt, (tt, (tt, (tt, (tt, (tt, (tt, (tt, (tt, (tt, (tt, (tt, (tt, tt))))))))))))))))),
+            ),
+          )) d32
+
           d34 : Typed.Typed 𝓤 H A 𝓣 E G0 b20 Δ0 at34
-          d34 = Typed.g-pre 𝓤 H A W 𝓣 E G0 G2 b20 Δ0 (Typed.give s0) at33 (Know.g-sl-known 𝓤 H A W (Referent.fInt Syntax.w32) E G0 4 3 ref7 life3 0 (λ
-              x. x) record { fits = Dec.lit< tt } (Reads.as-is 𝓤 H A (Mut.mslice (Referent.rtF (Referent.fInt Syntax.w32)) ref7 3)) Path.refl tt) d33
+          d34 = Typed.g-pre 𝓤 H A W 𝓣 E G0 G2 b20 Δ0 (Typed.give s0) at33 (Know.g-sl-known 𝓤 H A W
+              (Referent.fInt Syntax.w32) E G0 4 3 ref7 life3 0 (λ x. x) record { fits = Dec.lit< tt } (Reads.as-is 𝓤 H
+              A (Mut.mslice (Referent.rtF (Referent.fInt Syntax.w32)) ref7 3)) Path.refl tt) d33
+
           pub typed : Typed.Typed 𝓤 H A 𝓣 E (Function.Γin 4 ps r xs m κs qs) b20 (Function.Δret 4 ps r xs m κs qs) Φ
           typed = d34
+
       module _ (κs : Lifetimes.Lfts 4) where
         pub record Args : Type 0 where
-          pub pending : Kinds.Den { n = 4 } κs (MutSlice.pMutS RelayPending.row 0 tt)
-          pub circuits : Kinds.Den { n = 4 } κs (MutSlice.pMutS RelayCircuit.row 1 tt)
-          pub inflight : Kinds.Den { n = 4 } κs (MutSlice.pMutS InflightAction.row 2 tt)
-          pub out : Kinds.Den { n = 4 } κs (MutSlice.pMutS (Referent.rtF (Referent.fInt Syntax.w32)) 3 tt)
-          pub runtime : Kinds.Den { n = 4 } κs (Value.pVal record { ty = Declared.row OpaqueRelayRuntime.the-type; one = Path.refl; val = Laws''''.val
-              OpaqueRelayRuntime.the-type Laws'.the-laws; tells = Laws''''.tells OpaqueRelayRuntime.the-type Laws'.the-laws; still = Laws''''.still
-              OpaqueRelayRuntime.the-type Laws'.the-copy Exit.yes; row = Rows.whole (Declared.row OpaqueRelayRuntime.the-type); rd = λ x. x; mk = λ x.
-              x; } λ M 𝓤 H A W. record { copies = Laws''''.copy OpaqueRelayRuntime.the-type Laws'.the-copy 𝓤 H A W; lawful = Laws''''.lawful
-              OpaqueRelayRuntime.the-type Laws'.the-laws 𝓤 H A W; makes = Laws''''.makes OpaqueRelayRuntime.the-type Laws'.the-plain 𝓤 H A; in-mem =
-              Local.mem-whole 𝓤 H A W (Declared.row OpaqueRelayRuntime.the-type); of-mem = Local.whole-mem 𝓤 H A W (Declared.row
-              OpaqueRelayRuntime.the-type); })
-          pub places : Kinds.Den { n = 4 } κs (Value.pVal record { ty = Declared.row Places.the-type; one = Path.refl; val = Laws''''.val
-              Places.the-type Laws.the-laws; tells = Laws''''.tells Places.the-type Laws.the-laws; still = Laws''''.still Places.the-type
-              Laws.the-copy Exit.yes; row = Rows.whole (Declared.row Places.the-type); rd = λ x. x; mk = λ x. x; } λ M 𝓤 H A W. record { copies =
-              Laws''''.copy Places.the-type Laws.the-copy 𝓤 H A W; lawful = Laws''''.lawful Places.the-type Laws.the-laws 𝓤 H A W; makes =
-              Laws''''.makes Places.the-type Laws.the-plain 𝓤 H A; in-mem = Local.mem-whole 𝓤 H A W (Declared.row Places.the-type); of-mem =
-              Local.whole-mem 𝓤 H A W (Declared.row Places.the-type); })
-          pub generation : Kinds.Den { n = 4 } κs (Num.pNum Syntax.w64)
-          pub sequence : Kinds.Den { n = 4 } κs (Num.pNum Syntax.w64)
-          pub delivered : Kinds.Den { n = 4 } κs Bool.pBool
+          pub pending : Kinds.Den {n = 4} κs (MutSlice.pMutS RelayPending.row 0 tt)
+          pub circuits : Kinds.Den {n = 4} κs (MutSlice.pMutS RelayCircuit.row 1 tt)
+          pub inflight : Kinds.Den {n = 4} κs (MutSlice.pMutS InflightAction.row 2 tt)
+          pub out : Kinds.Den {n = 4} κs (MutSlice.pMutS (Referent.rtF (Referent.fInt Syntax.w32)) 3 tt)
+          pub runtime : Kinds.Den {n = 4} κs (StructRow.param OpaqueRelayRuntime.the-type Laws'.the-laws Laws'.the-copy
+              Laws'.the-plain)
+          pub places : Kinds.Den {n = 4} κs (StructRow.param Places.the-type Laws.the-laws Laws.the-copy Laws.the-plain)
+          pub generation : Kinds.Den {n = 4} κs (Num.pNum Syntax.w64)
+          pub sequence : Kinds.Den {n = 4} κs (Num.pNum Syntax.w64)
+          pub delivered : Kinds.Den {n = 4} κs Bool.pBool
+
         abbrev pub dens : (a : Args) → Kinds.Dens κs ps
-        dens = λ a. (a .pending, (a .circuits, (a .inflight, (a .out, (a .runtime, (a .places, (a .generation, (a .sequence, (a .delivered,
-            tt))))),),),),)
+        dens = λ a. (
+          a .pending,
+          (
+            a .circuits,
+            (a .inflight, (a .out, (a .runtime, (a .places, (a .generation, (a .sequence, (a .delivered, tt))))))),
+          ),
+        )
+
         module _ (args· : Args) where
           pub record Ranges : Type 0 where
             pub generation : Val.Fits Syntax.w64 (args· .generation)
             pub sequence : Val.Fits Syntax.w64 (args· .sequence)
+
       abbrev pub m0 : (κs : Lifetimes.Lfts 4) → (args : Args κs) → Typed.Mo T0
       m0 = λ κs args. (tt, Enter.partsP κs 1 ps xs (dens κs args))
+
       abbrev W0 : (κs : Lifetimes.Lfts 4) → (args : Args κs) → Typed.Want O0
-      W0 = λ κs args. (λ u. ⊥, tt, λ u. Enter.Fixs κs 1 ps xs (dens κs args) (u .1) × Post· κs (dens κs args) (Function.resV r κs (u .0))
-          (Clauses.atExit (Kinds.endedOf 4 ps r) κs (dens κs args) (Enter.lastsP κs 1 ps xs (dens κs args) (u .1))),)
+      W0 = λ κs args. (
+        λ u. ⊥,
+        tt,
+        λ u. Enter.Fixs κs 1 ps xs (dens κs args) (u .1) × Post· κs (dens κs args) (Function.resV r κs (u .0)) (Clauses.atExit
+            (Kinds.endedOf 4 ps r) κs (dens κs args) (Enter.lastsP κs 1 ps xs (dens κs args) (u .1))),
+      )
+
       pub record Start : Type 0 where
         pub κs : Lifetimes.Lfts 4
         pub args : Args κs
         pub good : Kinds.GoodsP κs ps (dens κs args)
         pub fits : Ranges κs args
         pub pre : Pre· κs (dens κs args)
+
       abbrev pub m1 : (before : Start) → (given : s0 .gives (m0 (before .κs) (before .args))) → Typed.Mo T2
       m1 = λ before given. s0 .next (m0 (before .κs) (before .args)) given
+
       module _ (before· : Start) where
         pub record After-slice-known·own : Type 0 where
           pub given : s0 .gives (m0 (before· .κs) (before· .args))
+
       pub record After-slice-known : Type 0 where
         pub before : Start
         pub slice-known : After-slice-known·own before
-      abbrev pub m2 : (before : After-slice-known) → (given : s2 .gives (m1 (before .before) (before .slice-known .given))) → Typed.Mo T4
+
+      abbrev pub m2 : (before : After-slice-known) → (given : s2 .gives
+          (m1 (before .before) (before .slice-known .given))) → Typed.Mo T4
       m2 = λ before given. s2 .next (m1 (before .before) (before .slice-known .given)) given
-      abbrev pub m3 : (before : After-slice-known) → (given : s2 .gives (m1 (before .before) (before .slice-known .given))) → Typed.Mo T5
+
+      abbrev pub m3 : (before : After-slice-known) → (given : s2 .gives
+          (m1 (before .before) (before .slice-known .given))) → Typed.Mo T5
       m3 = λ before given. s3 .next (m2 before given)
+
       module _ (before· : After-slice-known) where
         pub record After-acknowledge-arg·own : Type 0 where
           pub given : s2 .gives (m1 (before· .before) (before· .slice-known .given))
+
       pub record After-acknowledge-arg : Type 0 where
         pub before : After-slice-known
         pub acknowledge-arg : After-acknowledge-arg·own before
-      abbrev pub m4 : (before : After-acknowledge-arg) → (given : s5 .gives (m3 (before .before) (before .acknowledge-arg .given))) → Typed.Mo T7
+
+      abbrev pub m4 : (before : After-acknowledge-arg) → (given : s5 .gives
+          (m3 (before .before) (before .acknowledge-arg .given))) → Typed.Mo T7
       m4 = λ before given. s5 .next (m3 (before .before) (before .acknowledge-arg .given)) given
-      abbrev pub m5 : (before : After-acknowledge-arg) → (given : s5 .gives (m3 (before .before) (before .acknowledge-arg .given))) → Typed.Mo T8
+
+      abbrev pub m5 : (before : After-acknowledge-arg) → (given : s5 .gives
+          (m3 (before .before) (before .acknowledge-arg .given))) → Typed.Mo T8
       m5 = λ before given. s6 .next (m4 before given)
+
       module _ (before· : After-acknowledge-arg) where
         pub record After-acknowledge-arg2·own : Type 0 where
           pub given : s5 .gives (m3 (before· .before) (before· .acknowledge-arg .given))
+
       pub record After-acknowledge-arg2 : Type 0 where
         pub before : After-acknowledge-arg
         pub acknowledge-arg2 : After-acknowledge-arg2·own before
-      abbrev pub m6 : (before : After-acknowledge-arg2) → (given : s8 .gives (m5 (before .before) (before .acknowledge-arg2 .given))) → Typed.Mo T10
+
+      abbrev pub m6 : (before : After-acknowledge-arg2) → (given : s8 .gives
+          (m5 (before .before) (before .acknowledge-arg2 .given))) → Typed.Mo T10
       m6 = λ before given. s8 .next (m5 (before .before) (before .acknowledge-arg2 .given)) given
-      abbrev pub m7 : (before : After-acknowledge-arg2) → (given : s8 .gives (m5 (before .before) (before .acknowledge-arg2 .given))) → Typed.Mo T11
+
+      abbrev pub m7 : (before : After-acknowledge-arg2) → (given : s8 .gives
+          (m5 (before .before) (before .acknowledge-arg2 .given))) → Typed.Mo T11
       m7 = λ before given. s9 .next (m6 before given)
+
       module _ (before· : After-acknowledge-arg2) where
         pub record After-acknowledge-arg3·own : Type 0 where
           pub given : s8 .gives (m5 (before· .before) (before· .acknowledge-arg2 .given))
+
       pub record After-acknowledge-arg3 : Type 0 where
         pub before : After-acknowledge-arg2
         pub acknowledge-arg3 : After-acknowledge-arg3·own before
-      abbrev pub m8 : (before : After-acknowledge-arg3) → (given : s11 .gives (m7 (before .before) (before .acknowledge-arg3 .given))) → Typed.Mo T13
+
+      abbrev pub m8 : (before : After-acknowledge-arg3) → (given : s11 .gives
+          (m7 (before .before) (before .acknowledge-arg3 .given))) → Typed.Mo T13
       m8 = λ before given. s11 .next (m7 (before .before) (before .acknowledge-arg3 .given)) given
-      abbrev pub m9 : (before : After-acknowledge-arg3) → (given : s11 .gives (m7 (before .before) (before .acknowledge-arg3 .given))) → Typed.Mo T14
+
+      abbrev pub m9 : (before : After-acknowledge-arg3) → (given : s11 .gives
+          (m7 (before .before) (before .acknowledge-arg3 .given))) → Typed.Mo T14
       m9 = λ before given. s12 .next (m8 before given)
+
       module _ (before· : After-acknowledge-arg3) where
         pub record After-acknowledge-arg4·own : Type 0 where
           pub given : s11 .gives (m7 (before· .before) (before· .acknowledge-arg3 .given))
+
       pub record After-acknowledge-arg4 : Type 0 where
         pub before : After-acknowledge-arg3
         pub acknowledge-arg4 : After-acknowledge-arg4·own before
+
       abbrev pub Need-acknowledge-requires : Type 0
-      Need-acknowledge-requires = (c : After-acknowledge-arg4) → s13 .asks (m9 (c .before) (c .acknowledge-arg4 .given))
-      abbrev pub m10 : (before : After-acknowledge-arg4) → (given : s13 .gives (m9 (before .before) (before .acknowledge-arg4 .given))) → Typed.Mo T15
+      Need-acknowledge-requires = (c : After-acknowledge-arg4) → s13 .asks
+          (m9 (c .before) (c .acknowledge-arg4 .given))
+
+      abbrev pub m10 : (before : After-acknowledge-arg4) → (given : s13 .gives
+          (m9 (before .before) (before .acknowledge-arg4 .given))) → Typed.Mo T15
       m10 = λ before given. s13 .next (m9 (before .before) (before .acknowledge-arg4 .given)) given
+
       module _ (before· : After-acknowledge-arg4) where
         abbrev pub After-acknowledge·own : Type 0
-        After-acknowledge·own = Called.Called ps·0 r·0 (claims· .1) T14 (record { pos = 12; ty = Syntax.tyRef Syntax.erased Syntax.mut
-            RelayPending.to; ref = λ x. x; }, (record { pos = 14; ty = Syntax.tyRef Syntax.erased Syntax.mut RelayCircuit.to; ref = λ x. x; }, (record
-            { pos = 16; ty = Syntax.tyRef Syntax.erased Syntax.mut InflightAction.to; ref = λ x. x; }, (record { pos = 18; ty = Syntax.tyRef
-            Syntax.erased Syntax.mut (Syntax.tyInt Syntax.w32); ref = λ x. x; }, (record { pos = 5; st = List.[]; d = 0; at = λ x. x }, (record { pos
-            = 6; st = List.[]; d = 0; at = λ x. x }, (Num.vAt 7 λ x. x, (Num.vAt 8 λ x. x, (Bool.bAt 9 λ x. x, tt))),),),),),),) (m9 (before· .before)
-            (before· .acknowledge-arg4 .given))
+        After-acknowledge·own = Called.Called ps·0 r·0 (claims· .1) T14 args13
+            (m9 (before· .before) (before· .acknowledge-arg4 .given))
+
       pub record After-acknowledge : Type 0 where
         pub before : After-acknowledge-arg4
         pub acknowledge : After-acknowledge·own before
-      abbrev pub After-acknowledge·gave : (c : After-acknowledge) → s13 .gives (m9 (c .before .before) (c .before .acknowledge-arg4 .given))
-      After-acknowledge·gave = λ c. Called.given ps·0 r·0 (claims· .1) T14 (record { pos = 12; ty = Syntax.tyRef Syntax.erased Syntax.mut
-          RelayPending.to; ref = λ x. x; }, (record { pos = 14; ty = Syntax.tyRef Syntax.erased Syntax.mut RelayCircuit.to; ref = λ x. x; }, (record {
-          pos = 16; ty = Syntax.tyRef Syntax.erased Syntax.mut InflightAction.to; ref = λ x. x; }, (record { pos = 18; ty = Syntax.tyRef Syntax.erased
-          Syntax.mut (Syntax.tyInt Syntax.w32); ref = λ x. x; }, (record { pos = 5; st = List.[]; d = 0; at = λ x. x }, (record { pos = 6; st =
-          List.[]; d = 0; at = λ x. x }, (Num.vAt 7 λ x. x, (Num.vAt 8 λ x. x, (Bool.bAt 9 λ x. x, tt))),),),),),),) (m9 (c .before .before) (c
-          .before .acknowledge-arg4 .given)) (c .acknowledge)
-      abbrev pub m11 : (before : After-acknowledge-arg4) → (given : s13 .gives (m9 (before .before) (before .acknowledge-arg4 .given))) → Typed.Mo T16
+
+      abbrev pub After-acknowledge·gave : (c : After-acknowledge) → s13 .gives (m9 (c .before .before)
+          (c .before .acknowledge-arg4 .given))
+      After-acknowledge·gave = λ c. Called.given ps·0 r·0 (claims· .1) T14 args13 (m9 (c .before .before)
+          (c .before .acknowledge-arg4 .given)) (c .acknowledge)
+
+      abbrev pub m11 : (before : After-acknowledge-arg4) → (given : s13 .gives
+          (m9 (before .before) (before .acknowledge-arg4 .given))) → Typed.Mo T16
       m11 = λ before given. s14 (m10 before given)
-      abbrev pub m12 : (before : After-acknowledge-arg4) → (given : s13 .gives (m9 (before .before) (before .acknowledge-arg4 .given))) → Typed.Mo T17
+
+      abbrev pub m12 : (before : After-acknowledge-arg4) → (given : s13 .gives
+          (m9 (before .before) (before .acknowledge-arg4 .given))) → Typed.Mo T17
       m12 = λ before given. s15 (m11 before given)
-      abbrev pub m13 : (before : After-acknowledge) → (given : s17 .gives (m12 (before .before) (After-acknowledge·gave before))) → Typed.Mo T19
+
+      abbrev pub m13 : (before : After-acknowledge) → (given : s17 .gives
+          (m12 (before .before) (After-acknowledge·gave before))) → Typed.Mo T19
       m13 = λ before given. s17 .next (m12 (before .before) (After-acknowledge·gave before)) given
+
       module _ (before· : After-acknowledge) where
         pub record After-pending·own : Type 0 where
           pub given : s17 .gives (m12 (before· .before) (After-acknowledge·gave before·))
+
       pub record After-pending : Type 0 where
         pub before : After-acknowledge
         pub pending : After-pending·own before
-      abbrev pub m14 : (before : After-pending) → (given : s20 .gives (m13 (before .before) (before .pending .given))) → Typed.Mo T22
+
+      abbrev pub m14 : (before : After-pending) → (given : s20 .gives (m13 (before .before) (before .pending .given)))
+          → Typed.Mo T22
       m14 = λ before given. s20 .next (m13 (before .before) (before .pending .given)) given
+
       module _ (before· : After-pending) where
         pub record After-circuits·own : Type 0 where
           pub given : s20 .gives (m13 (before· .before) (before· .pending .given))
+
       pub record After-circuits : Type 0 where
         pub before : After-pending
         pub circuits : After-circuits·own before
-      abbrev pub m15 : (before : After-circuits) → (given : s23 .gives (m14 (before .before) (before .circuits .given))) → Typed.Mo T25
+
+      abbrev pub m15 : (before : After-circuits) → (given : s23 .gives (m14 (before .before) (before .circuits .given)))
+          → Typed.Mo T25
       m15 = λ before given. s23 .next (m14 (before .before) (before .circuits .given)) given
+
       module _ (before· : After-circuits) where
         pub record After-inflight·own : Type 0 where
           pub given : s23 .gives (m14 (before· .before) (before· .circuits .given))
+
       pub record After-inflight : Type 0 where
         pub before : After-circuits
         pub inflight : After-inflight·own before
-      abbrev pub m16 : (before : After-inflight) → (given : s26 .gives (m15 (before .before) (before .inflight .given))) → Typed.Mo T28
+
+      abbrev pub m16 : (before : After-inflight) → (given : s26 .gives (m15 (before .before) (before .inflight .given)))
+          → Typed.Mo T28
       m16 = λ before given. s26 .next (m15 (before .before) (before .inflight .given)) given
+
       module _ (before· : After-inflight) where
         pub record After-out·own : Type 0 where
           pub given : s26 .gives (m15 (before· .before) (before· .inflight .given))
+
       pub record After-out : Type 0 where
         pub before : After-inflight
         pub out : After-out·own before
-      abbrev pub m17 : (before : After-out) → (given : s27 .gives (m16 (before .before) (before .out .given))) → Typed.Mo T29
+
+      abbrev pub m17 : (before : After-out) → (given : s27 .gives (m16 (before .before) (before .out .given))) →
+          Typed.Mo T29
       m17 = λ before given. s27 .next (m16 (before .before) (before .out .given)) given
+
       module _ (before· : After-out) where
         pub record After-slice-known2·own : Type 0 where
           pub given : s27 .gives (m16 (before· .before) (before· .out .given))
+
       pub record After-slice-known2 : Type 0 where
         pub before : After-out
         pub slice-known2 : After-slice-known2·own before
+
       abbrev pub Need-reply-requires : Type 0
       Need-reply-requires = (c : After-slice-known2) → s29 .asks (m17 (c .before) (c .slice-known2 .given))
-      abbrev pub m18 : (before : After-slice-known2) → (given : s29 .gives (m17 (before .before) (before .slice-known2 .given))) → Typed.Mo T31
+
+      abbrev pub m18 : (before : After-slice-known2) → (given : s29 .gives
+          (m17 (before .before) (before .slice-known2 .given))) → Typed.Mo T31
       m18 = λ before given. s29 .next (m17 (before .before) (before .slice-known2 .given)) given
+
       module _ (before· : After-slice-known2) where
         abbrev pub After-reply·own : Type 0
-        After-reply·own = Called.Called ps·1 r·1 (claims· .3) T29 (record { pos = 10; st = List.[]; d = 0; at = λ x. x }, tt,) (m17 (before· .before)
-            (before· .slice-known2 .given))
+        After-reply·own = Called.Called ps·1 r·1 (claims· .3) T29 args29
+            (m17 (before· .before) (before· .slice-known2 .given))
+
       pub record After-reply : Type 0 where
         pub before : After-slice-known2
         pub reply : After-reply·own before
-      abbrev pub After-reply·gave : (c : After-reply) → s29 .gives (m17 (c .before .before) (c .before .slice-known2 .given))
-      After-reply·gave = λ c. Called.given ps·1 r·1 (claims· .3) T29 (record { pos = 10; st = List.[]; d = 0; at = λ x. x }, tt,) (m17 (c .before
-          .before) (c .before .slice-known2 .given)) (c .reply)
-      abbrev pub m19 : (before : After-slice-known2) → (given : s29 .gives (m17 (before .before) (before .slice-known2 .given))) → Typed.Mo T32
+
+      abbrev pub After-reply·gave : (c : After-reply) → s29 .gives
+          (m17 (c .before .before) (c .before .slice-known2 .given))
+      After-reply·gave = λ c. Called.given ps·1 r·1 (claims· .3) T29 args29
+          (m17 (c .before .before) (c .before .slice-known2 .given)) (c .reply)
+
+      abbrev pub m19 : (before : After-slice-known2) → (given : s29 .gives
+          (m17 (before .before) (before .slice-known2 .given))) → Typed.Mo T32
       m19 = λ before given. s30 (m18 before given)
-      abbrev pub m20 : (before : After-slice-known2) → (given : s29 .gives (m17 (before .before) (before .slice-known2 .given))) → Typed.Mo T33
+
+      abbrev pub m20 : (before : After-slice-known2) → (given : s29 .gives
+          (m17 (before .before) (before .slice-known2 .given))) → Typed.Mo T33
       m20 = λ before given. s31 (m19 before given)
-      abbrev pub m21 : (before : After-slice-known2) → (given : s29 .gives (m17 (before .before) (before .slice-known2 .given))) → Typed.Mo T34
+
+      abbrev pub m21 : (before : After-slice-known2) → (given : s29 .gives
+          (m17 (before .before) (before .slice-known2 .given))) → Typed.Mo T34
       m21 = λ before given. s32 (m20 before given)
-      abbrev pub m22 : (before : After-slice-known2) → (given : s29 .gives (m17 (before .before) (before .slice-known2 .given))) → Typed.Mo T35
+
+      abbrev pub m22 : (before : After-slice-known2) → (given : s29 .gives
+          (m17 (before .before) (before .slice-known2 .given))) → Typed.Mo T35
       m22 = λ before given. s33 (m21 before given)
+
       abbrev pub Need-same-length : Type 0
-      Need-same-length = (c : After-reply) → MutSlice.SameLen (Row.get 1 (T35 .locals) (m22 (c .before) (After-reply·gave c))) (dens (c .before
-          .before .before .before .before .before .before .before .before .before .before .before .κs) (c .before .before .before .before .before
-          .before .before .before .before .before .before .before .args) .0)
+      Need-same-length = (c : After-reply) → MutSlice.SameLen (Row.get 1 (T35 .locals)
+          (m22 (c .before) (After-reply·gave c))) (dens (c .before .before .before .before .before .before .before
+          .before .before .before .before .before .κs) (c .before .before .before .before .before .before .before
+          .before .before .before .before .before .args) .0)
+
       abbrev pub Need-same-length-2 : Type 0
-      Need-same-length-2 = (c : After-reply) → MutSlice.SameLen (Row.get 2 (T35 .locals) (m22 (c .before) (After-reply·gave c))) (dens (c .before
-          .before .before .before .before .before .before .before .before .before .before .before .κs) (c .before .before .before .before .before
-          .before .before .before .before .before .before .before .args) .1 .0)
+      Need-same-length-2 = (c : After-reply) → MutSlice.SameLen (Row.get 2 (T35 .locals)
+          (m22 (c .before) (After-reply·gave c))) (dens (c .before .before .before .before .before .before .before
+          .before .before .before .before .before .κs) (c .before .before .before .before .before .before .before
+          .before .before .before .before .before .args) .1 .0)
+
       abbrev pub Need-same-length-3 : Type 0
-      Need-same-length-3 = (c : After-reply) → MutSlice.SameLen (Row.get 3 (T35 .locals) (m22 (c .before) (After-reply·gave c))) (dens (c .before
-          .before .before .before .before .before .before .before .before .before .before .before .κs) (c .before .before .before .before .before
-          .before .before .before .before .before .before .before .args) .1 .1 .0)
+      Need-same-length-3 = (c : After-reply) → MutSlice.SameLen (Row.get 3 (T35 .locals)
+          (m22 (c .before) (After-reply·gave c))) (dens (c .before .before .before .before .before .before .before
+          .before .before .before .before .before .κs) (c .before .before .before .before .before .before .before
+          .before .before .before .before .before .args) .1 .1 .0)
+
       abbrev pub Need-same-length-4 : Type 0
-      Need-same-length-4 = (c : After-reply) → MutSlice.SameLen (Row.get 4 (T35 .locals) (m22 (c .before) (After-reply·gave c))) (dens (c .before
-          .before .before .before .before .before .before .before .before .before .before .before .κs) (c .before .before .before .before .before
-          .before .before .before .before .before .before .before .args) .1 .1 .1 .0)
+      Need-same-length-4 = (c : After-reply) → MutSlice.SameLen (Row.get 4 (T35 .locals)
+          (m22 (c .before) (After-reply·gave c))) (dens (c .before .before .before .before .before .before .before
+          .before .before .before .before .before .κs) (c .before .before .before .before .before .before .before
+          .before .before .before .before .before .args) .1 .1 .1 .0)
+
       abbrev pub Need-returns : Type 0
-      Need-returns = (c : After-reply) → Post· (c .before .before .before .before .before .before .before .before .before .before .before .before .κs)
-          (dens (c .before .before .before .before .before .before .before .before .before .before .before .before .κs) (c .before .before .before
-          .before .before .before .before .before .before .before .before .before .args)) (Function.resV r (c .before .before .before .before .before
-          .before .before .before .before .before .before .before .κs) (m22 (c .before) (After-reply·gave c) .0)) (Clauses.atExit (Kinds.endedOf 4 ps
-          r) (c .before .before .before .before .before .before .before .before .before .before .before .before .κs) (dens (c .before .before .before
-          .before .before .before .before .before .before .before .before .before .κs) (c .before .before .before .before .before .before .before
-          .before .before .before .before .before .args)) (Enter.lastsP (c .before .before .before .before .before .before .before .before .before
-          .before .before .before .κs) 1 ps xs (dens (c .before .before .before .before .before .before .before .before .before .before .before
-          .before .κs) (c .before .before .before .before .before .before .before .before .before .before .before .before .args)) (m22 (c .before)
-          (After-reply·gave c) .1)))
-      module _ (acknowledge-requires : Need-acknowledge-requires) (reply-requires : Need-reply-requires) (same-length : Need-same-length)
-          (same-length-2 : Need-same-length-2) (same-length-3 : Need-same-length-3) (same-length-4 : Need-same-length-4) (returns : Need-returns)
-          where
-        lay2 : (c : After-reply) → at4 (W0 (c .before .before .before .before .before .before .before .before .before .before .before .before .κs) (c
-            .before .before .before .before .before .before .before .before .before .before .before .before .args)) (m18 (c .before) (After-reply·gave
-            c))
-        lay2 = λ c. ((MutSlice.fix-len (Row.get 1 (T35 .locals) (m22 (c .before) (After-reply·gave c)) .ptr) (Row.get 1 (T35 .locals) (m22 (c .before)
-            (After-reply·gave c)) .name) (Row.get 1 (T35 .locals) (m22 (c .before) (After-reply·gave c)) .now) (dens (c .before .before .before
-            .before .before .before .before .before .before .before .before .before .κs) (c .before .before .before .before .before .before .before
-            .before .before .before .before .before .args) .0 .now) (same-length record { before = c .before; reply = c .reply }), (MutSlice.fix-len
-            (Row.get 2 (T35 .locals) (m22 (c .before) (After-reply·gave c)) .ptr) (Row.get 2 (T35 .locals) (m22 (c .before) (After-reply·gave c))
-            .name) (Row.get 2 (T35 .locals) (m22 (c .before) (After-reply·gave c)) .now) (dens (c .before .before .before .before .before .before
-            .before .before .before .before .before .before .κs) (c .before .before .before .before .before .before .before .before .before .before
-            .before .before .args) .1 .0 .now) (same-length-2 record { before = c .before; reply = c .reply }), (MutSlice.fix-len (Row.get 3 (T35
-            .locals) (m22 (c .before) (After-reply·gave c)) .ptr) (Row.get 3 (T35 .locals) (m22 (c .before) (After-reply·gave c)) .name) (Row.get 3
-            (T35 .locals) (m22 (c .before) (After-reply·gave c)) .now) (dens (c .before .before .before .before .before .before .before .before
-            .before .before .before .before .κs) (c .before .before .before .before .before .before .before .before .before .before .before .before
-            .args) .1 .1 .0 .now) (same-length-3 record { before = c .before; reply = c .reply }), (MutSlice.fix-len (Row.get 4 (T35 .locals) (m22 (c
-            .before) (After-reply·gave c)) .ptr) (Row.get 4 (T35 .locals) (m22 (c .before) (After-reply·gave c)) .name) (Row.get 4 (T35 .locals) (m22
-            (c .before) (After-reply·gave c)) .now) (dens (c .before .before .before .before .before .before .before .before .before .before .before
-            .before .κs) (c .before .before .before .before .before .before .before .before .before .before .before .before .args) .1 .1 .1 .0 .now)
-            (same-length-4 record { before = c .before; reply = c .reply }), (tt, (tt, (tt, (tt, (tt, tt))))),),),),), returns record { before = c
-            .before; reply = c .reply },)
-        lay1 : (c : After-acknowledge) → at20 (W0 (c .before .before .before .before .before .before .κs) (c .before .before .before .before .before
-            .before .args)) (m10 (c .before) (After-acknowledge·gave c))
-        lay1 = λ c. (Path.refl, λ g. (Path.refl, λ g'. (Path.refl, λ g''. (Path.refl, λ g'3. λ g'4. (reply-requires record { before = record { before
-            = record { before = record { before = record { before = record { before = c .before; acknowledge = c .acknowledge }; pending = record {
-            given = g }; }; circuits = record { given = g' }; }; inflight = record { given = g'' }; }; out = record { given = g'3 }; }; slice-known2 =
-            record { given = g'4 }; }, λ g'5. lay2 record { before = record { before = record { before = record { before = record { before = record {
-            before = record { before = c .before; acknowledge = c .acknowledge; }; pending = record { given = g }; }; circuits = record { given = g'
-            }; }; inflight = record { given = g'' }; }; out = record { given = g'3 }; }; slice-known2 = record { given = g'4 }; }; reply =
-            Called.called ps·1 r·1 (claims· .3) T29 (record { pos = 10; st = List.[]; d = 0; at = λ x. x }, tt,) (m17 record { before = record {
-            before = record { before = record { before = record { before = c .before; acknowledge = c .acknowledge }; pending = record { given = g };
-            }; circuits = record { given = g' }; }; inflight = record { given = g'' }; }; out = record { given = g'3 }; } g'4) g'5; },),),),),)
+      Need-returns = (c : After-reply) → Post· (c .before .before .before .before .before .before .before .before
+          .before .before .before .before .κs) (dens (c .before .before .before .before .before .before .before .before
+          .before .before .before .before .κs) (c .before .before .before .before .before .before .before .before
+          .before .before .before .before .args)) (Function.resV r (c .before .before .before .before .before .before
+          .before .before .before .before .before .before .κs) (m22 (c .before) (After-reply·gave c) .0)) (Clauses.atExit
+          (Kinds.endedOf 4 ps r) (c .before .before .before .before .before .before .before .before .before .before
+          .before .before .κs) (dens (c .before .before .before .before .before .before .before .before .before .before
+          .before .before .κs) (c .before .before .before .before .before .before .before .before .before .before
+          .before .before .args)) (Enter.lastsP (c .before .before .before .before .before .before .before .before
+          .before .before .before .before .κs) 1 ps xs (dens (c .before .before .before .before .before .before .before
+          .before .before .before .before .before .κs) (c .before .before .before .before .before .before .before
+          .before .before .before .before .before .args)) (m22 (c .before) (After-reply·gave c) .1)))
+
+      module _ (acknowledge-requires : Need-acknowledge-requires) (reply-requires : Need-reply-requires)
+          (same-length : Need-same-length) (same-length-2 : Need-same-length-2) (same-length-3 : Need-same-length-3)
+          (same-length-4 : Need-same-length-4) (returns : Need-returns) where
+        lay2 : (c : After-reply) → at4 (W0 (c .before .before .before .before .before .before .before .before .before
+            .before .before .before .κs) (c .before .before .before .before .before .before .before .before .before
+            .before .before .before .args)) (m18 (c .before) (After-reply·gave c))
+        lay2 = λ c. (
+          (
+            MutSlice.fix-len (Row.get 1 (T35 .locals) (m22 (c .before) (After-reply·gave c)) .ptr) (Row.get 1
+                (T35 .locals) (m22 (c .before) (After-reply·gave c)) .name) (Row.get 1 (T35 .locals)
+                (m22 (c .before) (After-reply·gave c)) .now) (dens (c .before .before .before .before .before .before
+                .before .before .before .before .before .before .κs) (c .before .before .before .before .before .before
+                .before .before .before .before .before .before .args) .0 .now) (same-length
+                record { before = c .before; reply = c .reply }),
+            (
+              MutSlice.fix-len (Row.get 2 (T35 .locals) (m22 (c .before) (After-reply·gave c)) .ptr) (Row.get 2
+                  (T35 .locals) (m22 (c .before) (After-reply·gave c)) .name) (Row.get 2 (T35 .locals)
+                  (m22 (c .before) (After-reply·gave c)) .now) (dens (c .before .before .before .before .before .before
+                  .before .before .before .before .before .before .κs) (c .before .before .before .before .before
+                  .before .before .before .before .before .before .before .args) .1 .0 .now) (same-length-2
+                  record { before = c .before; reply = c .reply }),
+              (
+                MutSlice.fix-len (Row.get 3 (T35 .locals) (m22 (c .before) (After-reply·gave c)) .ptr) (Row.get 3
+                    (T35 .locals) (m22 (c .before) (After-reply·gave c)) .name) (Row.get 3 (T35 .locals)
+                    (m22 (c .before) (After-reply·gave c)) .now) (dens (c .before .before .before .before .before
+                    .before .before .before .before .before .before .before .κs) (c .before .before .before .before
+                    .before .before .before .before .before .before .before .before .args) .1 .1 .0 .now) (same-length-3
+                    record { before = c .before; reply = c .reply }),
+                (
+                  MutSlice.fix-len (Row.get 4 (T35 .locals) (m22 (c .before) (After-reply·gave c)) .ptr) (Row.get 4
+                      (T35 .locals) (m22 (c .before) (After-reply·gave c)) .name) (Row.get 4 (T35 .locals)
+                      (m22 (c .before) (After-reply·gave c)) .now) (dens (c .before .before .before .before .before
+                      .before .before .before .before .before .before .before .κs) (c .before .before .before .before
+                      .before .before .before .before .before .before .before .before .args) .1 .1 .1 .0 .now) (same-length-4
+                      record { before = c .before; reply = c .reply }),
+                  (tt, (tt, (tt, (tt, (tt, tt))))),
+                ),
+              ),
+            ),
+          ),
+          returns record { before = c .before; reply = c .reply },
+        )
+
+        lay1 : (c : After-acknowledge) → at20 (W0 (c .before .before .before .before .before .before .κs)
+            (c .before .before .before .before .before .before .args)) (m10 (c .before) (After-acknowledge·gave c))
+        lay1 = λ c. (
+          Path.refl,
+          λ g. (
+            Path.refl,
+            λ g'. (
+              Path.refl,
+              λ g''. (
+                Path.refl,
+                λ g'3. λ g'4. (
+                  reply-requires record {
+                    before = record {
+                      before = record {
+                        before = record {
+                          before = record {
+                            before = record { before = c .before; acknowledge = c .acknowledge };
+                            pending = record { given = g };
+                          };
+                          circuits = record { given = g' };
+                        };
+                        inflight = record { given = g'' };
+                      };
+                      out = record { given = g'3 };
+                    };
+                    slice-known2 = record { given = g'4 };
+                  },
+                  λ g'5. lay2 record {
+                    before = record {
+                      before = record {
+                        before = record {
+                          before = record {
+                            before = record {
+                              before = record { before = c .before; acknowledge = c .acknowledge };
+                              pending = record { given = g };
+                            };
+                            circuits = record { given = g' };
+                          };
+                          inflight = record { given = g'' };
+                        };
+                        out = record { given = g'3 };
+                      };
+                      slice-known2 = record { given = g'4 };
+                    };
+                    reply = Called.called ps·1 r·1 (claims· .3) T29 args29 (m17
+                        record {
+                          before = record {
+                            before = record {
+                              before = record {
+                                before = record { before = c .before; acknowledge = c .acknowledge };
+                                pending = record { given = g };
+                              };
+                              circuits = record { given = g' };
+                            };
+                            inflight = record { given = g'' };
+                          };
+                          out = record { given = g'3 };
+                        } g'4) g'5;
+                  },
+                ),
+              ),
+            ),
+          ),
+        )
+
         pub laid : (c : Start) → at34 (W0 (c .κs) (c .args)) (m0 (c .κs) (c .args))
-        laid = λ c. λ g. λ g'. (Path.refl, λ g''. (Path.refl, λ g'3. (Path.refl, λ g'4. (Path.refl, (acknowledge-requires record { before = record {
-            before = record { before = record { before = record { before = c; slice-known = record { given = g } }; acknowledge-arg = record { given =
-            g' }; }; acknowledge-arg2 = record { given = g'' }; }; acknowledge-arg3 = record { given = g'3 }; }; acknowledge-arg4 = record { given =
-            g'4 }; }, λ g'5. lay1 record { before = record { before = record { before = record { before = record { before = record { before = c;
-            slice-known = record { given = g } }; acknowledge-arg = record { given = g' }; }; acknowledge-arg2 = record { given = g'' }; };
-            acknowledge-arg3 = record { given = g'3 }; }; acknowledge-arg4 = record { given = g'4 }; }; acknowledge = Called.called ps·0 r·0 (claims·
-            .1) T14 (record { pos = 12; ty = Syntax.tyRef Syntax.erased Syntax.mut RelayPending.to; ref = λ x. x; }, (record { pos = 14; ty =
-            Syntax.tyRef Syntax.erased Syntax.mut RelayCircuit.to; ref = λ x. x; }, (record { pos = 16; ty = Syntax.tyRef Syntax.erased Syntax.mut
-            InflightAction.to; ref = λ x. x; }, (record { pos = 18; ty = Syntax.tyRef Syntax.erased Syntax.mut (Syntax.tyInt Syntax.w32); ref = λ x.
-            x; }, (record { pos = 5; st = List.[]; d = 0; at = λ x. x }, (record { pos = 6; st = List.[]; d = 0; at = λ x. x }, (Num.vAt 7 λ x. x,
-            (Num.vAt 8 λ x. x, (Bool.bAt 9 λ x. x, tt))),),),),),),) (m9 record { before = record { before = record { before = record { before = c;
-            slice-known = record { given = g } }; acknowledge-arg = record { given = g' }; }; acknowledge-arg2 = record { given = g'' }; };
-            acknowledge-arg3 = record { given = g'3 }; } g'4) g'5; },),),),),)
+        laid = λ c. λ g. λ g'. (
+          Path.refl,
+          λ g''. (
+            Path.refl,
+            λ g'3. (
+              Path.refl,
+              λ g'4. (
+                Path.refl,
+                (
+                  acknowledge-requires record {
+                    before = record {
+                      before = record {
+                        before = record {
+                          before = record { before = c; slice-known = record { given = g } };
+                          acknowledge-arg = record { given = g' };
+                        };
+                        acknowledge-arg2 = record { given = g'' };
+                      };
+                      acknowledge-arg3 = record { given = g'3 };
+                    };
+                    acknowledge-arg4 = record { given = g'4 };
+                  },
+                  λ g'5. lay1 record {
+                    before = record {
+                      before = record {
+                        before = record {
+                          before = record {
+                            before = record { before = c; slice-known = record { given = g } };
+                            acknowledge-arg = record { given = g' };
+                          };
+                          acknowledge-arg2 = record { given = g'' };
+                        };
+                        acknowledge-arg3 = record { given = g'3 };
+                      };
+                      acknowledge-arg4 = record { given = g'4 };
+                    };
+                    acknowledge = Called.called ps·0 r·0 (claims· .1) T14 args13 (m9
+                        record {
+                          before = record {
+                            before = record {
+                              before = record { before = c; slice-known = record { given = g } };
+                              acknowledge-arg = record { given = g' };
+                            };
+                            acknowledge-arg2 = record { given = g'' };
+                          };
+                          acknowledge-arg3 = record { given = g'3 };
+                        } g'4) g'5;
+                  },
+                ),
+              ),
+            ),
+          ),
+        )
+
         module _ (κs : Lifetimes.Lfts 4) (qs : Lifetimes.Shares 4) where
-          pub asked : (a : Kinds.Dens κs ps) → (good : Kinds.GoodsP κs ps a) → (pre : Pre· κs a) → (bs : List.List Nat.ℕ) → Φ (Any.wantQ 4 ps r xs m
-              κs qs a (Post· κs a)) (Function.init 4 ps r xs m κs qs a)
-          asked = λ a good pre bs. laid record { κs = κs; args = record { pending = a .0; circuits = a .1 .0; inflight = a .1 .1 .0; out = a .1 .1 .1
-              .0; runtime = a .1 .1 .1 .1 .0; places = a .1 .1 .1 .1 .1 .0; generation = a .1 .1 .1 .1 .1 .1 .0; sequence = a .1 .1 .1 .1 .1 .1 .1 .0;
-              delivered = a .1 .1 .1 .1 .1 .1 .1 .1 .0; }; good = good; fits = record { generation = record { fits = good .1 .1 .1 .1 .1 .1 .0 .1 };
-              sequence = record { fits = good .1 .1 .1 .1 .1 .1 .1 .0 .1 }; }; pre = pre; }
-        module _ { M : Type 1 } (𝓤 : URA.URA M) (H : Wp.Heap 𝓤) (A : Atoms.Atoms 𝓤) (W : Kit.Given 𝓤 H A) (𝓣 : Wp.Tables 𝓤 H) (known0 : Plain.Known 𝓤
-            H A W 𝓣 4 ps·0 r·0 (claims· .0) (claims· .1) "hnsr_circuit::acknowledge::acknowledge") (known1 : Plain.Known 𝓤 H A W 𝓣 0 ps·1 r·1 (claims·
-            .2) (claims· .3) "lekchnam::relay::reply") where
-          pub spec : Statement.Triple 𝓤 (Wp.WpFn 𝓤 H (𝓣 .C) (𝓣 .Λ) (Function.fnOf 4 ps r xs m hs body)) (Function.plainOf 𝓤 H A 4 ps r Pre· Post·)
-          spec = Plain.t-fn-plain 𝓤 H A W 𝓣 4 ps r xs m hs body (λ κs qs bs. Φ) (λ κs qs bs bd. typed κs qs 𝓤 H A W 𝓣 (known0, known1) bs bd) Pre·
-              Post· asked
+          pub asked : (a : Kinds.Dens κs ps) → (good : Kinds.GoodsP κs ps a) → (pre : Pre· κs a) →
+              (bs : List.List Nat.ℕ) → Φ (Any.wantQ 4 ps r xs m κs qs a (Post· κs a))
+              (Function.init 4 ps r xs m κs qs a)
+          asked = λ a good pre bs. laid record {
+            κs = κs;
+            args = record {
+              pending = a .0;
+              circuits = a .1 .0;
+              inflight = a .1 .1 .0;
+              out = a .1 .1 .1 .0;
+              runtime = a .1 .1 .1 .1 .0;
+              places = a .1 .1 .1 .1 .1 .0;
+              generation = a .1 .1 .1 .1 .1 .1 .0;
+              sequence = a .1 .1 .1 .1 .1 .1 .1 .0;
+              delivered = a .1 .1 .1 .1 .1 .1 .1 .1 .0;
+            };
+            good = good;
+            fits = record {
+              generation = record { fits = good .1 .1 .1 .1 .1 .1 .0 .1 };
+              sequence = record { fits = good .1 .1 .1 .1 .1 .1 .1 .0 .1 };
+            };
+            pre = pre;
+          }
+
+        module _ {M : Type 1} (𝓤 : URA.URA M) (H : Wp.Heap 𝓤) (A : Atoms.Atoms 𝓤) (W : Kit.Given 𝓤 H A)
+            (𝓣 : Wp.Tables 𝓤 H) (known0 : Plain.Known 𝓤 H A W 𝓣 4 ps·0 r·0 (claims· .0) (claims· .1)
+            "hnsr_circuit::acknowledge::acknowledge") (known1 : Plain.Known 𝓤 H A W 𝓣 0 ps·1 r·1 (claims· .2)
+            (claims· .3) "lekchnam::relay::reply") where
+          pub spec : Statement.Triple 𝓤 (Wp.WpFn 𝓤 H (𝓣 .C) (𝓣 .Λ) (Function.fnOf 4 ps r xs m hs body))
+              (Function.plainOf 𝓤 H A 4 ps r Pre· Post·)
+          spec = Plain.t-fn-plain 𝓤 H A W 𝓣 4 ps r xs m hs body (λ κs qs bs. Φ) (λ κs qs bs bd. typed κs qs 𝓤 H A W 𝓣
+              (known0, known1) bs bd) Pre· Post· asked

@@ -5,35 +5,22 @@ use Rattle.lekchnam.proofs.By.InflightAction
 use Rattle.lekchnam.proofs.By.RelayCircuit
 use Rattle.lekchnam.proofs.By.RelayPending
 use Rattle.lekchnam.proofs.By.ReservationUsage
+use Rattle.lekchnam.proofs.StructRow
 use Rattle.lekchnam.proofs.relay.RelayReply
 use Rattle.lekchnam.proofs.relay.RelayReply.Laws as Laws'
 use borrow.Fn.Kinds
 use borrow.Kind.ShrSlice
-use borrow.Kind.Value
-use borrow.Rule.Local
 use borrow.Table.Referent
-use borrow.Table.Rows
 use denote.Array
-use denote.Exit
-use denote.Struct.Declared
-use denote.Struct.Laws as Laws''
 use mathlib.Core.List
-use mathlib.Core.Path
 use mir.Syntax
 use mathlib.Core.List.{_∷_}
 
 abbrev pub ps : List.List (Kinds.PK 5)
-ps = (ShrSlice.pShrS RelayPending.row 0 tt) ∷ (ShrSlice.pShrS RelayCircuit.row 1 tt) ∷ (ShrSlice.pShrS ReservationUsage.row 2 tt) ∷ (ShrSlice.pShrS
-    InflightAction.row 3 tt) ∷ (Kinds.pShr (Array.Array (Referent.rtF (Referent.fInt Syntax.w8)) 16) 4 tt) ∷ (Kinds.pNum Syntax.w64) ∷ (Value.pVal
-    record { ty = Declared.row OpaqueRelayConfig.the-type; one = Path.refl; val = Laws''.val OpaqueRelayConfig.the-type Laws.the-laws; tells =
-    Laws''.tells OpaqueRelayConfig.the-type Laws.the-laws; still = Laws''.still OpaqueRelayConfig.the-type Laws.the-copy Exit.yes; row = Rows.whole
-    (Declared.row OpaqueRelayConfig.the-type); rd = λ x. x; mk = λ x. x; } λ M 𝓤 H A W. record { copies = Laws''.copy OpaqueRelayConfig.the-type
-    Laws.the-copy 𝓤 H A W; lawful = Laws''.lawful OpaqueRelayConfig.the-type Laws.the-laws 𝓤 H A W; makes = Laws''.makes OpaqueRelayConfig.the-type
-    Laws.the-plain 𝓤 H A; in-mem = Local.mem-whole 𝓤 H A W (Declared.row OpaqueRelayConfig.the-type); of-mem = Local.whole-mem 𝓤 H A W (Declared.row
-    OpaqueRelayConfig.the-type); }) ∷ (Kinds.pNum Syntax.w64) ∷ List.[]
+ps = (ShrSlice.pShrS RelayPending.row 0 tt) ∷ (ShrSlice.pShrS RelayCircuit.row 1 tt) ∷
+    (ShrSlice.pShrS ReservationUsage.row 2 tt) ∷ (ShrSlice.pShrS InflightAction.row 3 tt) ∷ (Kinds.pShr
+    (Array.Array (Referent.rtF (Referent.fInt Syntax.w8)) 16) 4 tt) ∷ (Kinds.pNum Syntax.w64) ∷ (StructRow.param
+    OpaqueRelayConfig.the-type Laws.the-laws Laws.the-copy Laws.the-plain) ∷ (Kinds.pNum Syntax.w64) ∷ List.[]
+
 abbrev pub r : Kinds.RK 5
-r = Value.rVal record { ty = Declared.row RelayReply.the-type; one = Path.refl; val = Laws''.val RelayReply.the-type Laws'.the-laws; tells =
-    Laws''.tells RelayReply.the-type Laws'.the-laws; still = Laws''.still RelayReply.the-type Laws'.the-copy Exit.yes; row = Rows.whole (Declared.row
-    RelayReply.the-type); rd = λ x. x; mk = λ x. x; } λ M 𝓤 H A W. record { copies = Laws''.copy RelayReply.the-type Laws'.the-copy 𝓤 H A W; lawful =
-    Laws''.lawful RelayReply.the-type Laws'.the-laws 𝓤 H A W; makes = Laws''.makes RelayReply.the-type Laws'.the-plain 𝓤 H A; in-mem = Local.mem-whole
-    𝓤 H A W (Declared.row RelayReply.the-type); of-mem = Local.whole-mem 𝓤 H A W (Declared.row RelayReply.the-type); }
+r = StructRow.result RelayReply.the-type Laws'.the-laws Laws'.the-copy Laws'.the-plain

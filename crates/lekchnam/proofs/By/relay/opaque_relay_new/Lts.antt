@@ -8,10 +8,12 @@ use Rattle.lekchnam.proofs.By.InflightAction
 use Rattle.lekchnam.proofs.By.RelayCircuit
 use Rattle.lekchnam.proofs.By.RelayPending
 use Rattle.lekchnam.proofs.By.ReservationUsage
+use Rattle.lekchnam.proofs.StructRow
 use Rattle.lekchnam.proofs.relay.RelayReply
 use Rattle.lekchnam.proofs.relay.RelayReply.Laws as Laws''
 use borrow.Author.Called
 use borrow.Fn.Any
+use borrow.Fn.Args as Args'
 use borrow.Fn.Call
 use borrow.Fn.Enter
 use borrow.Fn.Frame
@@ -22,7 +24,6 @@ use borrow.Kind.Array
 use borrow.Kind.Num
 use borrow.Kind.ShrRef
 use borrow.Kind.ShrSlice
-use borrow.Kind.Value
 use borrow.Rule.Array.Init
 use borrow.Rule.Array.Rows
 use borrow.Rule.Array.Whole
@@ -40,9 +41,7 @@ use borrow.Table.Rows as Rows'
 use borrow.Table.Typed
 use contract.Lifetimes
 use denote.Array as Array'
-use denote.Exit
 use denote.Struct.Declared
-use denote.Struct.Laws as Laws'''
 use denote.Triple.Clauses
 use denote.Triple.Statement
 use ghost.Atoms
@@ -58,420 +57,636 @@ use mathlib.Core.List.{_∷_}
 
 abbrev ref0 : Syntax.Ty
 ref0 = Syntax.tyRef (Syntax.named 0) Syntax.imm RelayPending.to
+
 abbrev ref1 : Syntax.Ty
 ref1 = Syntax.tyRef (Syntax.named 1) Syntax.imm RelayCircuit.to
+
 abbrev ref2 : Syntax.Ty
 ref2 = Syntax.tyRef (Syntax.named 2) Syntax.imm ReservationUsage.to
+
 abbrev ref3 : Syntax.Ty
 ref3 = Syntax.tyRef (Syntax.named 3) Syntax.imm InflightAction.to
+
 abbrev ref4 : Syntax.Ty
 ref4 = Syntax.tyRef (Syntax.named 4) Syntax.imm (Syntax.tyArray (Syntax.tyInt Syntax.w8) 16)
+
 abbrev pub ps : List.List (Kinds.PK 5)
-ps = (ShrSlice.pShrS RelayPending.row 0 tt) ∷ (ShrSlice.pShrS RelayCircuit.row 1 tt) ∷ (ShrSlice.pShrS ReservationUsage.row 2 tt) ∷ (ShrSlice.pShrS
-    InflightAction.row 3 tt) ∷ (ShrRef.pShr (Array'.Array (Referent.rtF (Referent.fInt Syntax.w8)) 16) 4 tt) ∷ (Num.pNum Syntax.w64) ∷ (Value.pVal
-    record { ty = Declared.row OpaqueRelayConfig.the-type; one = Path.refl; val = Laws'''.val OpaqueRelayConfig.the-type Laws.the-laws; tells =
-    Laws'''.tells OpaqueRelayConfig.the-type Laws.the-laws; still = Laws'''.still OpaqueRelayConfig.the-type Laws.the-copy Exit.yes; row = Rows'.whole
-    (Declared.row OpaqueRelayConfig.the-type); rd = λ x. x; mk = λ x. x; } λ M 𝓤 H A W. record { copies = Laws'''.copy OpaqueRelayConfig.the-type
-    Laws.the-copy 𝓤 H A W; lawful = Laws'''.lawful OpaqueRelayConfig.the-type Laws.the-laws 𝓤 H A W; makes = Laws'''.makes OpaqueRelayConfig.the-type
-    Laws.the-plain 𝓤 H A; in-mem = Local.mem-whole 𝓤 H A W (Declared.row OpaqueRelayConfig.the-type); of-mem = Local.whole-mem 𝓤 H A W (Declared.row
-    OpaqueRelayConfig.the-type); }) ∷ (Num.pNum Syntax.w64) ∷ List.[]
+ps = (ShrSlice.pShrS RelayPending.row 0 tt) ∷ (ShrSlice.pShrS RelayCircuit.row 1 tt) ∷
+    (ShrSlice.pShrS ReservationUsage.row 2 tt) ∷ (ShrSlice.pShrS InflightAction.row 3 tt) ∷ (ShrRef.pShr
+    (Array'.Array (Referent.rtF (Referent.fInt Syntax.w8)) 16) 4 tt) ∷ (Num.pNum Syntax.w64) ∷ (StructRow.param
+    OpaqueRelayConfig.the-type Laws.the-laws Laws.the-copy Laws.the-plain) ∷ (Num.pNum Syntax.w64) ∷ List.[]
+
 abbrev pub r : Kinds.RK 5
-r = Value.rVal record { ty = Declared.row RelayReply.the-type; one = Path.refl; val = Laws'''.val RelayReply.the-type Laws''.the-laws; tells =
-    Laws'''.tells RelayReply.the-type Laws''.the-laws; still = Laws'''.still RelayReply.the-type Laws''.the-copy Exit.yes; row = Rows'.whole
-    (Declared.row RelayReply.the-type); rd = λ x. x; mk = λ x. x; } λ M 𝓤 H A W. record { copies = Laws'''.copy RelayReply.the-type Laws''.the-copy 𝓤
-    H A W; lawful = Laws'''.lawful RelayReply.the-type Laws''.the-laws 𝓤 H A W; makes = Laws'''.makes RelayReply.the-type Laws''.the-plain 𝓤 H A;
-    in-mem = Local.mem-whole 𝓤 H A W (Declared.row RelayReply.the-type); of-mem = Local.whole-mem 𝓤 H A W (Declared.row RelayReply.the-type); }
+r = StructRow.result RelayReply.the-type Laws''.the-laws Laws''.the-copy Laws''.the-plain
+
 abbrev pub xs : List.List Syntax.Ty
 xs = (Syntax.tyArray (Syntax.tyInt Syntax.w8) 16) ∷ Laws'.mir ∷ List.[]
+
 abbrev pub m : Nat.ℕ
 m = 0
+
 abbrev pub ps·0 : List.List (Kinds.PK 4)
-ps·0 = (ShrSlice.pShrS RelayPending.row 0 tt) ∷ (ShrSlice.pShrS RelayCircuit.row 1 tt) ∷ (ShrSlice.pShrS ReservationUsage.row 2 tt) ∷ (ShrSlice.pShrS
-    InflightAction.row 3 tt) ∷ (Array.pArr (Array.eInt Syntax.w8) (Array.eInt-laws Syntax.w8) 16) ∷ (Num.pNum Syntax.w64) ∷ (Value.pVal record { ty =
-    Declared.row OpaqueRelayConfig.the-type; one = Path.refl; val = Laws'''.val OpaqueRelayConfig.the-type Laws.the-laws; tells = Laws'''.tells
-    OpaqueRelayConfig.the-type Laws.the-laws; still = Laws'''.still OpaqueRelayConfig.the-type Laws.the-copy Exit.yes; row = Rows'.whole (Declared.row
-    OpaqueRelayConfig.the-type); rd = λ x. x; mk = λ x. x; } λ M 𝓤 H A W. record { copies = Laws'''.copy OpaqueRelayConfig.the-type Laws.the-copy 𝓤 H
-    A W; lawful = Laws'''.lawful OpaqueRelayConfig.the-type Laws.the-laws 𝓤 H A W; makes = Laws'''.makes OpaqueRelayConfig.the-type Laws.the-plain 𝓤 H
-    A; in-mem = Local.mem-whole 𝓤 H A W (Declared.row OpaqueRelayConfig.the-type); of-mem = Local.whole-mem 𝓤 H A W (Declared.row
-    OpaqueRelayConfig.the-type); }) ∷ (Num.pNum Syntax.w64) ∷ List.[]
+ps·0 = (ShrSlice.pShrS RelayPending.row 0 tt) ∷ (ShrSlice.pShrS RelayCircuit.row 1 tt) ∷
+    (ShrSlice.pShrS ReservationUsage.row 2 tt) ∷ (ShrSlice.pShrS InflightAction.row 3 tt) ∷ (Array.pArr
+    (Array.eInt Syntax.w8) (Array.eInt-laws Syntax.w8) 16) ∷ (Num.pNum Syntax.w64) ∷ (StructRow.param
+    OpaqueRelayConfig.the-type Laws.the-laws Laws.the-copy Laws.the-plain) ∷ (Num.pNum Syntax.w64) ∷ List.[]
+
 abbrev pub r·0 : Kinds.RK 4
-r·0 = Value.rVal record { ty = Declared.row Relayed.the-type; one = Path.refl; val = Laws'''.val Relayed.the-type Laws'.the-laws; tells =
-    Laws'''.tells Relayed.the-type Laws'.the-laws; still = Laws'''.still Relayed.the-type Laws'.the-copy Exit.yes; row = Rows'.whole (Declared.row
-    Relayed.the-type); rd = λ x. x; mk = λ x. x; } λ M 𝓤 H A W. record { copies = Laws'''.copy Relayed.the-type Laws'.the-copy 𝓤 H A W; lawful =
-    Laws'''.lawful Relayed.the-type Laws'.the-laws 𝓤 H A W; makes = Laws'''.makes Relayed.the-type Laws'.the-plain 𝓤 H A; in-mem = Local.mem-whole 𝓤 H
-    A W (Declared.row Relayed.the-type); of-mem = Local.whole-mem 𝓤 H A W (Declared.row Relayed.the-type); }
+r·0 = StructRow.result Relayed.the-type Laws'.the-laws Laws'.the-copy Laws'.the-plain
+
 abbrev pub ps·1 : List.List (Kinds.PK 0)
-ps·1 = (Value.pVal record { ty = Declared.row Relayed.the-type; one = Path.refl; val = Laws'''.val Relayed.the-type Laws'.the-laws; tells =
-    Laws'''.tells Relayed.the-type Laws'.the-laws; still = Laws'''.still Relayed.the-type Laws'.the-copy Exit.yes; row = Rows'.whole (Declared.row
-    Relayed.the-type); rd = λ x. x; mk = λ x. x; } λ M 𝓤 H A W. record { copies = Laws'''.copy Relayed.the-type Laws'.the-copy 𝓤 H A W; lawful =
-    Laws'''.lawful Relayed.the-type Laws'.the-laws 𝓤 H A W; makes = Laws'''.makes Relayed.the-type Laws'.the-plain 𝓤 H A; in-mem = Local.mem-whole 𝓤 H
-    A W (Declared.row Relayed.the-type); of-mem = Local.whole-mem 𝓤 H A W (Declared.row Relayed.the-type); }) ∷ List.[]
+ps·1 = (StructRow.param Relayed.the-type Laws'.the-laws Laws'.the-copy Laws'.the-plain) ∷ List.[]
+
 abbrev pub r·1 : Kinds.RK 0
-r·1 = Value.rVal record { ty = Declared.row RelayReply.the-type; one = Path.refl; val = Laws'''.val RelayReply.the-type Laws''.the-laws; tells =
-    Laws'''.tells RelayReply.the-type Laws''.the-laws; still = Laws'''.still RelayReply.the-type Laws''.the-copy Exit.yes; row = Rows'.whole
-    (Declared.row RelayReply.the-type); rd = λ x. x; mk = λ x. x; } λ M 𝓤 H A W. record { copies = Laws'''.copy RelayReply.the-type Laws''.the-copy 𝓤
-    H A W; lawful = Laws'''.lawful RelayReply.the-type Laws''.the-laws 𝓤 H A W; makes = Laws'''.makes RelayReply.the-type Laws''.the-plain 𝓤 H A;
-    in-mem = Local.mem-whole 𝓤 H A W (Declared.row RelayReply.the-type); of-mem = Local.whole-mem 𝓤 H A W (Declared.row RelayReply.the-type); }
+r·1 = StructRow.result RelayReply.the-type Laws''.the-laws Laws''.the-copy Laws''.the-plain
+
 abbrev pub hs : List.List Syntax.Home
-hs = Syntax.valueLocal ∷ Syntax.valueLocal ∷ Syntax.valueLocal ∷ Syntax.valueLocal ∷ Syntax.valueLocal ∷ Syntax.valueLocal ∷ Syntax.valueLocal ∷
-    Syntax.valueLocal ∷ Syntax.valueLocal ∷ Syntax.valueLocal ∷ Syntax.valueLocal ∷ List.[]
+hs = Syntax.valueLocal ∷ Syntax.valueLocal ∷ Syntax.valueLocal ∷ Syntax.valueLocal ∷ Syntax.valueLocal ∷
+    Syntax.valueLocal ∷ Syntax.valueLocal ∷ Syntax.valueLocal ∷ Syntax.valueLocal ∷ Syntax.valueLocal ∷
+    Syntax.valueLocal ∷ List.[]
+
 abbrev b0 : Syntax.Body
-b0 = Syntax.assign (Syntax.place 9 List.[]) (Syntax.rvOpd (Syntax.copy (Syntax.place 5 ((Syntax.deref (Syntax.tyArray (Syntax.tyInt Syntax.w8) 16)) ∷
-    List.[]))))
+b0 = Syntax.assign (Syntax.place 9 List.[]) (Syntax.rvOpd (Syntax.copy (Syntax.place 5 ((Syntax.deref
+    (Syntax.tyArray (Syntax.tyInt Syntax.w8) 16)) ∷ List.[]))))
+
 abbrev b1 : Syntax.Body
-b1 = Syntax.call "hnsr_circuit::calls::new" ((Syntax.copy (Syntax.place 1 List.[])) ∷ (Syntax.copy (Syntax.place 2 List.[])) ∷ (Syntax.copy
-    (Syntax.place 3 List.[])) ∷ (Syntax.copy (Syntax.place 4 List.[])) ∷ (Syntax.copy (Syntax.place 9 List.[])) ∷ (Syntax.copy (Syntax.place 6
-    List.[])) ∷ (Syntax.copy (Syntax.place 7 List.[])) ∷ (Syntax.copy (Syntax.place 8 List.[])) ∷ List.[]) (Syntax.place 10 List.[])
+b1 = Syntax.call "hnsr_circuit::calls::new" ((Syntax.copy (Syntax.place 1 List.[])) ∷
+    (Syntax.copy (Syntax.place 2 List.[])) ∷ (Syntax.copy (Syntax.place 3 List.[])) ∷
+    (Syntax.copy (Syntax.place 4 List.[])) ∷ (Syntax.copy (Syntax.place 9 List.[])) ∷
+    (Syntax.copy (Syntax.place 6 List.[])) ∷ (Syntax.copy (Syntax.place 7 List.[])) ∷
+    (Syntax.copy (Syntax.place 8 List.[])) ∷ List.[]) (Syntax.place 10 List.[])
+
 abbrev b2 : Syntax.Body
 b2 = Syntax.call "lekchnam::relay::reply" ((Syntax.copy (Syntax.place 10 List.[])) ∷ List.[]) (Syntax.place 0 List.[])
+
 abbrev b3 : Syntax.Body
 b3 = Syntax.return
+
 abbrev b4 : Syntax.Body
 b4 = Syntax.seq b2 b3
+
 abbrev b5 : Syntax.Body
 b5 = Syntax.seq b1 b4
+
 abbrev b6 : Syntax.Body
 b6 = Syntax.seq b0 b5
+
 abbrev pub body : Syntax.Body
 body = b6
+
 abbrev pub Claims : Type 1
 Claims = Kinds.In 4 ps·0 × Kinds.Out 4 ps·0 r·0 × Kinds.In 0 ps·1 × Kinds.Out 0 ps·1 r·1
+
 abbrev e0 : Row.Entry
 e0 = (0, Rows'.any-gone Laws''.mir)
+
 abbrev e1 : Row.Entry
 e1 = (1, Rows'.sslice RelayPending.row ref0 0)
+
 abbrev e2 : Row.Entry
 e2 = (2, Rows'.sslice RelayCircuit.row ref1 1)
+
 abbrev e3 : Row.Entry
 e3 = (3, Rows'.sslice ReservationUsage.row ref2 2)
+
 abbrev e4 : Row.Entry
 e4 = (4, Rows'.sslice InflightAction.row ref3 3)
+
 abbrev e5 : Row.Entry
 e5 = (5, Rows'.sref (Array'.Array (Referent.rtF (Referent.fInt Syntax.w8)) 16) ref4 4)
+
 abbrev e6 : Row.Entry
 e6 = (6, Rows'.sc-here (Row.sInt Syntax.w64))
+
 abbrev e7 : Row.Entry
 e7 = (7, Rows'.whole (Declared.row OpaqueRelayConfig.the-type))
+
 abbrev e8 : Row.Entry
 e8 = (8, Rows'.sc-here (Row.sInt Syntax.w64))
+
 abbrev e9 : Row.Entry
 e9 = (9, Rows'.any-gone (Syntax.tyArray (Syntax.tyInt Syntax.w8) 16))
+
 abbrev e10 : Row.Entry
 e10 = (10, Rows'.any-gone Laws'.mir)
+
 abbrev e0·1 : Row.Entry
 e0·1 = (0, Rows'.whole (Declared.row RelayReply.the-type))
+
 abbrev e6·1 : Row.Entry
 e6·1 = (6, Rows'.any-gone (Syntax.tyInt Syntax.w64))
+
 abbrev e7·1 : Row.Entry
 e7·1 = (7, Rows'.any-gone Laws.mir)
+
 abbrev e8·1 : Row.Entry
 e8·1 = (8, Rows'.any-gone (Syntax.tyInt Syntax.w64))
+
 abbrev e9·1 : Row.Entry
 e9·1 = (9, Rows.arrF (Referent.rtF (Referent.fInt Syntax.w8)) 16 0)
+
 abbrev e10·1 : Row.Entry
 e10·1 = (10, Rows'.whole (Declared.row Relayed.the-type))
+
 abbrev pub t0 : List.List Row.Entry
 t0 = e0 ∷ e1 ∷ e2 ∷ e3 ∷ e4 ∷ e5 ∷ e6 ∷ e7 ∷ e8 ∷ e9 ∷ e10 ∷ List.[]
+
 abbrev pub t1 : List.List Row.Entry
 t1 = e0·1 ∷ e1 ∷ e2 ∷ e3 ∷ e4 ∷ e5 ∷ e6·1 ∷ e7·1 ∷ e8·1 ∷ e9 ∷ e10 ∷ List.[]
+
 abbrev pub t2 : List.List Row.Entry
 t2 = e0 ∷ e1 ∷ e2 ∷ e3 ∷ e4 ∷ e5 ∷ e6 ∷ e7 ∷ e8 ∷ e9·1 ∷ e10 ∷ List.[]
+
 abbrev pub t3 : List.List Row.Entry
 t3 = e0 ∷ e1 ∷ e2 ∷ e3 ∷ e4 ∷ e5 ∷ e6 ∷ e7 ∷ e8 ∷ e9·1 ∷ e10·1 ∷ List.[]
+
 abbrev pub t4 : List.List Row.Entry
 t4 = e0 ∷ e1 ∷ e2 ∷ e3 ∷ e4 ∷ e5 ∷ e6 ∷ e7·1 ∷ e8 ∷ e9·1 ∷ e10·1 ∷ List.[]
+
 abbrev pub t5 : List.List Row.Entry
 t5 = e0 ∷ e1 ∷ e2 ∷ e3 ∷ e4 ∷ e5 ∷ e6 ∷ e7·1 ∷ e8 ∷ e9 ∷ e10·1 ∷ List.[]
+
 abbrev pub t6 : List.List Row.Entry
 t6 = e0·1 ∷ e1 ∷ e2 ∷ e3 ∷ e4 ∷ e5 ∷ e6 ∷ e7·1 ∷ e8 ∷ e9 ∷ e10·1 ∷ List.[]
+
 abbrev pub t7 : List.List Row.Entry
 t7 = e0·1 ∷ e1 ∷ e2 ∷ e3 ∷ e4 ∷ e5 ∷ e6 ∷ e7·1 ∷ e8 ∷ e9 ∷ e10 ∷ List.[]
+
 abbrev pub t8 : List.List Row.Entry
 t8 = e0·1 ∷ e1 ∷ e2 ∷ e3 ∷ e4 ∷ e5 ∷ e6·1 ∷ e7·1 ∷ e8 ∷ e9 ∷ e10 ∷ List.[]
+
 abbrev pub T0 : Row.Cx
 T0 = record { locals = t0; slots = List.[] }
+
 abbrev pub T1 : Row.Cx
 T1 = record { locals = t1; slots = List.[] }
+
 abbrev pub T2 : Row.Cx
 T2 = record { locals = t2; slots = List.[] }
+
 abbrev pub T3 : Row.Cx
 T3 = record { locals = t3; slots = List.[] }
+
 abbrev pub T4 : Row.Cx
 T4 = record { locals = t4; slots = List.[] }
+
 abbrev pub T5 : Row.Cx
 T5 = record { locals = t5; slots = List.[] }
+
 abbrev pub T6 : Row.Cx
 T6 = record { locals = t6; slots = List.[] }
+
 abbrev pub T7 : Row.Cx
 T7 = record { locals = t7; slots = List.[] }
+
 abbrev pub T8 : Row.Cx
 T8 = record { locals = t8; slots = List.[] }
+
 abbrev pub T9 : Row.Cx
 T9 = record { locals = t1; slots = List.[] }
+
 abbrev pub O0 : Typed.Outs
 O0 = record { next = Option.none; exits = List.[]; returns = Option.some T1 }
+
 module _ (claims· : Claims) where
   abbrev s0 : Typed.Gives T0 T2
-  s0 = DerefMove.k-ref-read-copy T0 5 9 4 (Array'.Array (Referent.rtF (Referent.fInt Syntax.w8)) 16) (Rows'.sref (Array'.Array (Referent.rtF
-      (Referent.fInt Syntax.w8)) 16) ref4 4) Row.off (Rows.arrF (Referent.rtF (Referent.fInt Syntax.w8)) 16 0) (λ x. x) (λ x. x) (λ x. x) λ x. Unit
+  s0 = DerefMove.k-ref-read-copy T0 5 9 4 (Array'.Array (Referent.rtF (Referent.fInt Syntax.w8)) 16) (Rows'.sref
+      (Array'.Array (Referent.rtF (Referent.fInt Syntax.w8)) 16) ref4 4) Row.off
+      (Rows.arrF (Referent.rtF (Referent.fInt Syntax.w8)) 16 0) (λ x. x) (λ x. x) (λ x. x) λ x. Unit
+
+  abbrev args1 : Args'.ArgsT ps·0 (T2 .locals)
+  args1 = (
+    record { pos = 1; ty = ref0; ref = λ x. x },
+    (
+      record { pos = 2; ty = ref1; ref = λ x. x },
+      (
+        record { pos = 3; ty = ref2; ref = λ x. x },
+        (
+          record { pos = 4; ty = ref3; ref = λ x. x },
+          (
+            record { pos = 9; st = List.[]; d = 0; at = λ x. x },
+            (Num.vAt 6 λ x. x, (record { pos = 7; st = List.[]; d = 0; at = λ x. x }, (Num.vAt 8 λ x. x, tt))),
+          ),
+        ),
+      ),
+    ),
+  )
+
   abbrev s1 : Typed.Both T2 T3
-  s1 = Call.callB ps·0 r·0 (claims· .0) (claims· .1) T2 (record { pos = 1; ty = Syntax.tyRef (Syntax.named 0) Syntax.imm RelayPending.to; ref = λ x.
-      x; }, (record { pos = 2; ty = Syntax.tyRef (Syntax.named 1) Syntax.imm RelayCircuit.to; ref = λ x. x; }, (record { pos = 3; ty = Syntax.tyRef
-      (Syntax.named 2) Syntax.imm ReservationUsage.to; ref = λ x. x; }, (record { pos = 4; ty = Syntax.tyRef (Syntax.named 3) Syntax.imm
-      InflightAction.to; ref = λ x. x; }, (record { pos = 9; st = List.[]; d = 0; at = λ x. x }, (Num.vAt 6 λ x. x, (record { pos = 7; st = List.[]; d
-      = 0; at = λ x. x }, (Num.vAt 8 λ x. x, tt)),),),),),),) 10 (0 ∷ 1 ∷ 2 ∷ 3 ∷ List.[]) Laws'.mir
+  s1 = Call.callB ps·0 r·0 (claims· .0) (claims· .1) T2 args1 10 (0 ∷ 1 ∷ 2 ∷ 3 ∷ List.[]) Laws'.mir
+
   abbrev s2 : Typed.Mo T3 → Typed.Mo T4
   s2 = Scalar.n-room T3 7 Laws.mir
+
   abbrev s3 : Typed.Mo T4 → Typed.Mo T5
   s3 = Scalar.n-room T4 9 (Syntax.tyArray (Syntax.tyInt Syntax.w8) 16)
+
+  abbrev args4 : Args'.ArgsT ps·1 (T5 .locals)
+  args4 = (record { pos = 10; st = List.[]; d = 0; at = λ x. x }, tt)
+
   abbrev s4 : Typed.Both T5 T6
-  s4 = Call.callB ps·1 r·1 (claims· .2) (claims· .3) T5 (record { pos = 10; st = List.[]; d = 0; at = λ x. x }, tt,) 0 List.[] Laws''.mir
+  s4 = Call.callB ps·1 r·1 (claims· .2) (claims· .3) T5 args4 0 List.[] Laws''.mir
+
   abbrev s5 : Typed.Mo T6 → Typed.Mo T7
   s5 = Scalar.n-room T6 10 Laws'.mir
+
   abbrev s6 : Typed.Mo T7 → Typed.Mo T8
   s6 = Scalar.n-room T7 6 (Syntax.tyInt Syntax.w64)
+
   abbrev s7 : Typed.Mo T8 → Typed.Mo T9
   s7 = Scalar.n-room T8 8 (Syntax.tyInt Syntax.w64)
-  module _ (Pre· : (κs : Lifetimes.Lfts 5) → Kinds.Dens κs ps → Type 0) (Post· : (κs : Lifetimes.Lfts 5) → (a : Kinds.Dens κs ps) → Kinds.Plain 5 ps r
-      κs) where
+
+  module _ (Pre· : (κs : Lifetimes.Lfts 5) → Kinds.Dens κs ps → Type 0) (Post· : (κs : Lifetimes.Lfts 5) →
+      (a : Kinds.Dens κs ps) → Kinds.Plain 5 ps r κs) where
     module _ (M : Type 1) where
       abbrev pub Closed : Type 2
-      Closed = (𝓤 : URA.URA M) (H : Wp.Heap 𝓤) (A : Atoms.Atoms 𝓤) (W : Kit.Given 𝓤 H A) (𝓣 : Wp.Tables 𝓤 H) (known0 : Plain.Known 𝓤 H A W 𝓣 4 ps·0
-          r·0 (claims· .0) (claims· .1) "hnsr_circuit::calls::new") (known1 : Plain.Known 𝓤 H A W 𝓣 0 ps·1 r·1 (claims· .2) (claims· .3)
-          "lekchnam::relay::reply") → Statement.Triple 𝓤 (Wp.WpFn 𝓤 H (𝓣 .C) (𝓣 .Λ) (Function.fnOf 5 ps r xs m hs body)) (Function.plainOf 𝓤 H A 5 ps
-          r Pre· Post·)
+      Closed = (𝓤 : URA.URA M) (H : Wp.Heap 𝓤) (A : Atoms.Atoms 𝓤) (W : Kit.Given 𝓤 H A) (𝓣 : Wp.Tables 𝓤 H) (known0 :
+          Plain.Known 𝓤 H A W 𝓣 4 ps·0 r·0 (claims· .0) (claims· .1) "hnsr_circuit::calls::new") (known1 : Plain.Known
+          𝓤 H A W 𝓣 0 ps·1 r·1 (claims· .2) (claims· .3) "lekchnam::relay::reply") → Statement.Triple 𝓤 (Wp.WpFn 𝓤 H
+          (𝓣 .C) (𝓣 .Λ) (Function.fnOf 5 ps r xs m hs body)) (Function.plainOf 𝓤 H A 5 ps r Pre· Post·)
+
     module _ where
       abbrev at0 : Typed.TF T9 O0
       at0 = Typed.atRet O0
+
       abbrev at1 : Typed.TF T8 O0
       at1 = λ Ψ. Typed.pass T8 T9 s7 (at0 Ψ)
+
       abbrev at2 : Typed.TF T7 O0
       at2 = λ Ψ. Typed.pass T7 T8 s6 (at1 Ψ)
+
       abbrev at3 : Typed.TF T6 O0
       at3 = λ Ψ. Typed.pass T6 T7 s5 (at2 Ψ)
+
       abbrev at4 : Typed.TF T5 O0
       at4 = λ Ψ. Typed.both s4 (at3 Ψ)
+
       abbrev at5 : Typed.TF T4 O0
       at5 = λ Ψ. Typed.pass T4 T5 s3 (at4 Ψ)
+
       abbrev at6 : Typed.TF T3 O0
       at6 = λ Ψ. Typed.pass T3 T4 s2 (at5 Ψ)
+
       abbrev at7 : Typed.TF T2 O0
       at7 = λ Ψ. Typed.both s1 (at6 Ψ)
+
       abbrev at8 : Typed.TF T0 O0
       at8 = λ Ψ. Typed.give s0 (at7 Ψ)
+
       abbrev pub Φ : Typed.TF T0 O0
       Φ = at8
-      module _ { M : Type 1 } (𝓤 : URA.URA M) (H : Wp.Heap 𝓤) (A : Atoms.Atoms 𝓤) (W : Kit.Given 𝓤 H A) (𝓣 : Wp.Tables 𝓤 H) where
+
+      module _ {M : Type 1} (𝓤 : URA.URA M) (H : Wp.Heap 𝓤) (A : Atoms.Atoms 𝓤) (W : Kit.Given 𝓤 H A)
+          (𝓣 : Wp.Tables 𝓤 H) where
         abbrev Knowns : Type 1
-        Knowns = Plain.Known 𝓤 H A W 𝓣 4 ps·0 r·0 (claims· .0) (claims· .1) "hnsr_circuit::calls::new" × Plain.Known 𝓤 H A W 𝓣 0 ps·1 r·1 (claims· .2)
-            (claims· .3) "lekchnam::relay::reply"
+        Knowns = Plain.Known 𝓤 H A W 𝓣 4 ps·0 r·0 (claims· .0) (claims· .1) "hnsr_circuit::calls::new" × Plain.Known 𝓤
+            H A W 𝓣 0 ps·1 r·1 (claims· .2) (claims· .3) "lekchnam::relay::reply"
+
       module _ (κs : Lifetimes.Lfts 5) (qs : Lifetimes.Shares 5) where
         abbrev life0 : Row.Life
         life0 = Row.lease (κs .0) (qs .0)
+
         abbrev life1 : Row.Life
         life1 = Row.lease (κs .1 .0) (qs .1 .0)
+
         abbrev life2 : Row.Life
         life2 = Row.lease (κs .1 .1 .0) (qs .1 .1 .0)
+
         abbrev life3 : Row.Life
         life3 = Row.lease (κs .1 .1 .1 .0) (qs .1 .1 .1 .0)
+
         abbrev life4 : Row.Life
         life4 = Row.lease (κs .1 .1 .1 .1 .0) (qs .1 .1 .1 .1 .0)
+
         abbrev G0 : Row.Cx
-        G0 = record { locals = t0; slots = life0 ∷ life1 ∷ life2 ∷ life3 ∷ life4 ∷ List.[]; }
+        G0 = record { locals = t0; slots = life0 ∷ life1 ∷ life2 ∷ life3 ∷ life4 ∷ List.[] }
+
         abbrev G1 : Row.Cx
-        G1 = record { locals = t1; slots = life0 ∷ life1 ∷ life2 ∷ life3 ∷ life4 ∷ List.[]; }
+        G1 = record { locals = t1; slots = life0 ∷ life1 ∷ life2 ∷ life3 ∷ life4 ∷ List.[] }
+
         abbrev G2 : Row.Cx
-        G2 = record { locals = t2; slots = life0 ∷ life1 ∷ life2 ∷ life3 ∷ life4 ∷ List.[]; }
+        G2 = record { locals = t2; slots = life0 ∷ life1 ∷ life2 ∷ life3 ∷ life4 ∷ List.[] }
+
         abbrev G3 : Row.Cx
-        G3 = record { locals = t3; slots = life0 ∷ life1 ∷ life2 ∷ life3 ∷ life4 ∷ List.[]; }
+        G3 = record { locals = t3; slots = life0 ∷ life1 ∷ life2 ∷ life3 ∷ life4 ∷ List.[] }
+
         abbrev G4 : Row.Cx
-        G4 = record { locals = t4; slots = life0 ∷ life1 ∷ life2 ∷ life3 ∷ life4 ∷ List.[]; }
+        G4 = record { locals = t4; slots = life0 ∷ life1 ∷ life2 ∷ life3 ∷ life4 ∷ List.[] }
+
         abbrev G5 : Row.Cx
-        G5 = record { locals = t5; slots = life0 ∷ life1 ∷ life2 ∷ life3 ∷ life4 ∷ List.[]; }
+        G5 = record { locals = t5; slots = life0 ∷ life1 ∷ life2 ∷ life3 ∷ life4 ∷ List.[] }
+
         abbrev G6 : Row.Cx
-        G6 = record { locals = t6; slots = life0 ∷ life1 ∷ life2 ∷ life3 ∷ life4 ∷ List.[]; }
+        G6 = record { locals = t6; slots = life0 ∷ life1 ∷ life2 ∷ life3 ∷ life4 ∷ List.[] }
+
         abbrev G7 : Row.Cx
-        G7 = record { locals = t7; slots = life0 ∷ life1 ∷ life2 ∷ life3 ∷ life4 ∷ List.[]; }
+        G7 = record { locals = t7; slots = life0 ∷ life1 ∷ life2 ∷ life3 ∷ life4 ∷ List.[] }
+
         abbrev G8 : Row.Cx
-        G8 = record { locals = t8; slots = life0 ∷ life1 ∷ life2 ∷ life3 ∷ life4 ∷ List.[]; }
+        G8 = record { locals = t8; slots = life0 ∷ life1 ∷ life2 ∷ life3 ∷ life4 ∷ List.[] }
+
         abbrev G9 : Row.Cx
-        G9 = record { locals = t1; slots = life0 ∷ life1 ∷ life2 ∷ life3 ∷ life4 ∷ List.[]; }
+        G9 = record { locals = t1; slots = life0 ∷ life1 ∷ life2 ∷ life3 ∷ life4 ∷ List.[] }
+
         abbrev Δ0 : Typed.Outs
         Δ0 = record { next = Option.none; exits = List.[]; returns = Option.some G1 }
-        module _ { M : Type 1 } (𝓤 : URA.URA M) (H : Wp.Heap 𝓤) (A : Atoms.Atoms 𝓤) (W : Kit.Given 𝓤 H A) (𝓣 : Wp.Tables 𝓤 H) (known : Knowns 𝓤 H A W
-            𝓣) (bs : List.List Nat.ℕ) (bd : Lifetimes.AllOutlive 5 (Kinds.osR r) κs) where
+
+        module _ {M : Type 1} (𝓤 : URA.URA M) (H : Wp.Heap 𝓤) (A : Atoms.Atoms 𝓤) (W : Kit.Given 𝓤 H A)
+            (𝓣 : Wp.Tables 𝓤 H) (known : Knowns 𝓤 H A W 𝓣) (bs : List.List Nat.ℕ)
+            (bd : Lifetimes.AllOutlive 5 (Kinds.osR r) κs) where
           abbrev E : Wp.Env 𝓤 H
           E = Frame.EnvOf 𝓤 H ((Kinds.tyR r) ∷ (Enter.tysP ps xs)) bs
+
           d0 : Typed.Typed 𝓤 H A 𝓣 E G9 b3 Δ0 at0
           d0 = Typed.t-return 𝓤 H A W 𝓣 E Δ0 tt
+
           d1 : Typed.Typed 𝓤 H A 𝓣 E G8 b3 Δ0 at1
-          d1 = Typed.g-pre 𝓤 H A W 𝓣 E G8 G9 b3 Δ0 (Typed.pass T8 T9 s7) at0 (Scalar.g-room 𝓤 H A W E G8 8 (Syntax.tyInt Syntax.w64) (Scalar.room-sc 𝓤
-              H A W (Row.sInt Syntax.w64))) d0
+          d1 = Typed.g-pre 𝓤 H A W 𝓣 E G8 G9 b3 Δ0 (Typed.pass T8 T9 s7) at0 (Scalar.g-room 𝓤 H A W E G8 8
+              (Syntax.tyInt Syntax.w64) (Scalar.room-sc 𝓤 H A W (Row.sInt Syntax.w64))) d0
+
           d2 : Typed.Typed 𝓤 H A 𝓣 E G7 b3 Δ0 at2
-          d2 = Typed.g-pre 𝓤 H A W 𝓣 E G7 G8 b3 Δ0 (Typed.pass T7 T8 s6) at1 (Scalar.g-room 𝓤 H A W E G7 6 (Syntax.tyInt Syntax.w64) (Scalar.room-sc 𝓤
-              H A W (Row.sInt Syntax.w64))) d1
+          d2 = Typed.g-pre 𝓤 H A W 𝓣 E G7 G8 b3 Δ0 (Typed.pass T7 T8 s6) at1 (Scalar.g-room 𝓤 H A W E G7 6
+              (Syntax.tyInt Syntax.w64) (Scalar.room-sc 𝓤 H A W (Row.sInt Syntax.w64))) d1
+
           d3 : Typed.Typed 𝓤 H A 𝓣 E G6 b3 Δ0 at3
-          d3 = Typed.g-pre 𝓤 H A W 𝓣 E G6 G7 b3 Δ0 (Typed.pass T6 T7 s5) at2 (Scalar.g-room 𝓤 H A W E G6 10 Laws'.mir (Local.room-whole 𝓤 H A W
-              (Declared.row Relayed.the-type) Laws'.mir Path.refl)) d2
+          d3 = Typed.g-pre 𝓤 H A W 𝓣 E G6 G7 b3 Δ0 (Typed.pass T6 T7 s5) at2 (Scalar.g-room 𝓤 H A W E G6 10 Laws'.mir (Local.room-whole
+              𝓤 H A W (Declared.row Relayed.the-type) Laws'.mir Path.refl)) d2
+
           d4 : Typed.Typed 𝓤 H A 𝓣 E G5 b4 Δ0 at4
-          d4 = Typed.s-seq 𝓤 H A W 𝓣 E G5 G6 b2 b3 Δ0 (Typed.both s4) at3 (Plain.t-call-plain 𝓤 H A W 𝓣 0 ps·1 r·1 (claims· .2) (claims· .3)
-              "lekchnam::relay::reply" (known .1) E (λ pos β. β) G5 (record { pos = 10; st = List.[]; d = 0; at = λ x. x }, tt) 0 List.[] (Call.sub-id
-              𝓤 H A W (G5 .slots)) ((Yields.yields-copy 𝓤 H A W (λ ρ. Unit) (Declared.row Relayed.the-type) Path.refl (Copies.cStruct Relayed.the-type
-              Laws'.the-laws Laws'.the-copy .copy 𝓤 H A W) (Rows'.whole (Declared.row Relayed.the-type)) (λ x. x) (λ x. x) (λ ρ told. Local.mem-whole
-              𝓤 H A W (Declared.row Relayed.the-type) ρ) λ ρ told. Local.whole-mem 𝓤 H A W (Declared.row Relayed.the-type) ρ, Path.refl,), tt,)
-              (Reads.room-gone 𝓤 H A Laws''.mir) tt Path.refl) d3
+          d4 = Typed.s-seq 𝓤 H A W 𝓣 E G5 G6 b2 b3 Δ0 (Typed.both s4) at3 (Plain.t-call-plain 𝓤 H A W 𝓣 0 ps·1 r·1
+              (claims· .2) (claims· .3) "lekchnam::relay::reply" (known .1) E (λ pos β. β) G5
+              (record { pos = 10; st = List.[]; d = 0; at = λ x. x }, tt) 0 List.[] (Call.sub-id 𝓤 H A W (G5 .slots)) (
+                (
+                  Yields.yields-copy 𝓤 H A W (λ ρ. Unit) (Declared.row Relayed.the-type) Path.refl (Copies.cStruct
+                      Relayed.the-type Laws'.the-laws Laws'.the-copy .copy 𝓤 H A W)
+                      (Rows'.whole (Declared.row Relayed.the-type)) (λ x. x) (λ x. x) (λ ρ told. Local.mem-whole 𝓤 H A
+                      W (Declared.row Relayed.the-type) ρ) λ ρ told. Local.whole-mem 𝓤 H A W
+                      (Declared.row Relayed.the-type) ρ,
+                  Path.refl,
+                ),
+                tt,
+              ) (Reads.room-gone 𝓤 H A Laws''.mir) tt Path.refl) d3
+
           d5 : Typed.Typed 𝓤 H A 𝓣 E G4 b4 Δ0 at5
-          d5 = Typed.g-pre 𝓤 H A W 𝓣 E G4 G5 b4 Δ0 (Typed.pass T4 T5 s3) at4 (Scalar.g-room 𝓤 H A W E G4 9 (Syntax.tyArray (Syntax.tyInt Syntax.w8)
-              16) (Init.room-arr 𝓤 H A W (Referent.rtF (Referent.fInt Syntax.w8)) 16 0 16 Path.refl)) d4
+          d5 = Typed.g-pre 𝓤 H A W 𝓣 E G4 G5 b4 Δ0 (Typed.pass T4 T5 s3) at4 (Scalar.g-room 𝓤 H A W E G4 9
+              (Syntax.tyArray (Syntax.tyInt Syntax.w8) 16) (Init.room-arr 𝓤 H A W
+              (Referent.rtF (Referent.fInt Syntax.w8)) 16 0 16 Path.refl)) d4
+
           d6 : Typed.Typed 𝓤 H A 𝓣 E G3 b4 Δ0 at6
-          d6 = Typed.g-pre 𝓤 H A W 𝓣 E G3 G4 b4 Δ0 (Typed.pass T3 T4 s2) at5 (Scalar.g-room 𝓤 H A W E G3 7 Laws.mir (Local.room-whole 𝓤 H A W
-              (Declared.row OpaqueRelayConfig.the-type) Laws.mir Path.refl)) d5
+          d6 = Typed.g-pre 𝓤 H A W 𝓣 E G3 G4 b4 Δ0 (Typed.pass T3 T4 s2) at5 (Scalar.g-room 𝓤 H A W E G3 7 Laws.mir (Local.room-whole
+              𝓤 H A W (Declared.row OpaqueRelayConfig.the-type) Laws.mir Path.refl)) d5
+
           d7 : Typed.Typed 𝓤 H A 𝓣 E G2 b5 Δ0 at7
-          d7 = Typed.s-seq 𝓤 H A W 𝓣 E G2 G3 b1 b4 Δ0 (Typed.both s1) at6 (Plain.t-call-plain 𝓤 H A W 𝓣 4 ps·0 r·0 (claims· .0) (claims· .1)
-              "hnsr_circuit::calls::new" (known .0) E (λ pos β. β) G2 (record { pos = 1; ty = Syntax.tyRef (Syntax.named 0) Syntax.imm
-              RelayPending.to; ref = λ x. x; }, (record { pos = 2; ty = Syntax.tyRef (Syntax.named 1) Syntax.imm RelayCircuit.to; ref = λ x. x; },
-              (record { pos = 3; ty = Syntax.tyRef (Syntax.named 2) Syntax.imm ReservationUsage.to; ref = λ x. x; }, (record { pos = 4; ty =
-              Syntax.tyRef (Syntax.named 3) Syntax.imm InflightAction.to; ref = λ x. x; }, (record { pos = 9; st = List.[]; d = 0; at = λ x. x },
-              (Num.vAt 6 λ x. x, (record { pos = 7; st = List.[]; d = 0; at = λ x. x }, (Num.vAt 8 λ x. x, tt),),),),),),),) 10 (0 ∷ 1 ∷ 2 ∷ 3 ∷
-              List.[]) (Call.sub-id 𝓤 H A W (G2 .slots)) (ShrSlice.spares-sslice 𝓤 H A W RelayPending.row ref0 0, Shared.reads-sslice 𝓤 H A W
-              RelayPending.row ref0 0, Path.refl, (ShrSlice.spares-sslice 𝓤 H A W RelayCircuit.row ref1 1, Shared.reads-sslice 𝓤 H A W
-              RelayCircuit.row ref1 1, Path.refl, (ShrSlice.spares-sslice 𝓤 H A W ReservationUsage.row ref2 2, Shared.reads-sslice 𝓤 H A W
-              ReservationUsage.row ref2 2, Path.refl, (ShrSlice.spares-sslice 𝓤 H A W InflightAction.row ref3 3, Shared.reads-sslice 𝓤 H A W
-              InflightAction.row ref3 3, Path.refl, ((Array.arr-yields 𝓤 H A W (Array.eInt Syntax.w8) (Array.eInt-laws Syntax.w8) 16, Path.refl,),
-              ((Scalar.reads-sc 𝓤 H A W (Row.sInt Syntax.w64), Path.refl), ((Yields.yields-copy 𝓤 H A W (λ ρ. Unit) (Declared.row
-              OpaqueRelayConfig.the-type) Path.refl (Copies.cStruct OpaqueRelayConfig.the-type Laws.the-laws Laws.the-copy .copy 𝓤 H A W) (Rows'.whole
-              (Declared.row OpaqueRelayConfig.the-type)) (λ x. x) (λ x. x) (λ ρ told. Local.mem-whole 𝓤 H A W (Declared.row
-              OpaqueRelayConfig.the-type) ρ) λ ρ told. Local.whole-mem 𝓤 H A W (Declared.row OpaqueRelayConfig.the-type) ρ, Path.refl,),
-              ((Scalar.reads-sc 𝓤 H A W (Row.sInt Syntax.w64), Path.refl), tt),),),),),),),) (Reads.room-gone 𝓤 H A Laws'.mir) (tt, (tt, (tt, (tt,
-              tt)))) Path.refl) d6
+          d7 = Typed.s-seq 𝓤 H A W 𝓣 E G2 G3 b1 b4 Δ0 (Typed.both s1) at6 (Plain.t-call-plain 𝓤 H A W 𝓣 4 ps·0 r·0
+              (claims· .0) (claims· .1) "hnsr_circuit::calls::new" (known .0) E (λ pos β. β) G2 (
+                record { pos = 1; ty = ref0; ref = λ x. x },
+                (
+                  record { pos = 2; ty = ref1; ref = λ x. x },
+                  (
+                    record { pos = 3; ty = ref2; ref = λ x. x },
+                    (
+                      record { pos = 4; ty = ref3; ref = λ x. x },
+                      (
+                        record { pos = 9; st = List.[]; d = 0; at = λ x. x },
+                        (
+                          Num.vAt 6 λ x. x,
+                          (record { pos = 7; st = List.[]; d = 0; at = λ x. x }, (Num.vAt 8 λ x. x, tt)),
+                        ),
+                      ),
+                    ),
+                  ),
+                ),
+              ) 10 (0 ∷ 1 ∷ 2 ∷ 3 ∷ List.[]) (Call.sub-id 𝓤 H A W (G2 .slots)) (
+                ShrSlice.spares-sslice 𝓤 H A W RelayPending.row ref0 0,
+                Shared.reads-sslice 𝓤 H A W RelayPending.row ref0 0,
+                Path.refl,
+                (
+                  ShrSlice.spares-sslice 𝓤 H A W RelayCircuit.row ref1 1,
+                  Shared.reads-sslice 𝓤 H A W RelayCircuit.row ref1 1,
+                  Path.refl,
+                  (
+                    ShrSlice.spares-sslice 𝓤 H A W ReservationUsage.row ref2 2,
+                    Shared.reads-sslice 𝓤 H A W ReservationUsage.row ref2 2,
+                    Path.refl,
+                    (
+                      ShrSlice.spares-sslice 𝓤 H A W InflightAction.row ref3 3,
+                      Shared.reads-sslice 𝓤 H A W InflightAction.row ref3 3,
+                      Path.refl,
+                      (
+                        (Array.arr-yields 𝓤 H A W (Array.eInt Syntax.w8) (Array.eInt-laws Syntax.w8) 16, Path.refl),
+                        (
+                          (Scalar.reads-sc 𝓤 H A W (Row.sInt Syntax.w64), Path.refl),
+                          (
+                            (
+                              Yields.yields-copy 𝓤 H A W (λ ρ. Unit) (Declared.row OpaqueRelayConfig.the-type)
+                                  Path.refl (Copies.cStruct OpaqueRelayConfig.the-type Laws.the-laws Laws.the-copy
+                                  .copy 𝓤 H A W) (Rows'.whole (Declared.row OpaqueRelayConfig.the-type)) (λ x. x)
+                                  (λ x. x) (λ ρ told. Local.mem-whole 𝓤 H A W (Declared.row OpaqueRelayConfig.the-type)
+                                  ρ) λ ρ told. Local.whole-mem 𝓤 H A W (Declared.row OpaqueRelayConfig.the-type) ρ,
+                              Path.refl,
+                            ),
+                            ((Scalar.reads-sc 𝓤 H A W (Row.sInt Syntax.w64), Path.refl), tt),
+                          ),
+                        ),
+                      ),
+                    ),
+                  ),
+                ),
+              ) (Reads.room-gone 𝓤 H A Laws'.mir) (tt, (tt, (tt, (tt, tt)))) Path.refl) d6
+
           d8 : Typed.Typed 𝓤 H A 𝓣 E G0 b6 Δ0 at8
-          d8 = Typed.s-seq 𝓤 H A W 𝓣 E G0 G2 b0 b5 Δ0 (Typed.give s0) at7 (DerefMove.t-sref-read-copy 𝓤 H A W E 𝓣 (λ ρ. Unit) G0 5 9 4 (Array'.Array
-              (Referent.rtF (Referent.fInt Syntax.w8)) 16) ref4 (Syntax.tyArray (Syntax.tyInt Syntax.w8) 16) (Syntax.tyArray (Syntax.tyInt Syntax.w8)
-              16) life4 (λ x. x) (Rows.arrF (Referent.rtF (Referent.fInt Syntax.w8)) 16 0) (λ x. x) (λ x. Unit) Path.refl Path.refl Path.refl
-              (Copies.cArr (Referent.rtF (Referent.fInt Syntax.w8)) (Copies.cRf (Referent.fInt Syntax.w8)) 16 .copy 𝓤 H A W) (DerefMove.learns-nothing
-              𝓤 H A (Array'.Array (Referent.rtF (Referent.fInt Syntax.w8)) 16)) (Own.told-none 𝓤 H A (G0 .slots)) (Copies.halves 𝓤 H A W (Copies.cArr
-              (Referent.rtF (Referent.fInt Syntax.w8)) (Copies.cRf (Referent.fInt Syntax.w8)) 16)) (Reads.as-is 𝓤 H A (Rows'.sref (Array'.Array
-              (Referent.rtF (Referent.fInt Syntax.w8)) 16) ref4 4)) (Reads.room-gone 𝓤 H A (Syntax.tyArray (Syntax.tyInt Syntax.w8) 16))
-              (Yields.makes-mem 𝓤 H A W (λ ρ. Unit) (Array'.Array (Referent.rtF (Referent.fInt Syntax.w8)) 16) Path.refl (Rows.arrF (Referent.rtF
-              (Referent.fInt Syntax.w8)) 16 0) (λ x. x) λ ρ told. Whole.arr-mem 𝓤 H A W (Referent.rtF (Referent.fInt Syntax.w8)) 16 tt ρ) Path.refl tt
-              Path.refl Path.refl) d7
+          d8 = Typed.s-seq 𝓤 H A W 𝓣 E G0 G2 b0 b5 Δ0 (Typed.give s0) at7 (DerefMove.t-sref-read-copy 𝓤 H A W E 𝓣
+              (λ ρ. Unit) G0 5 9 4 (Array'.Array (Referent.rtF (Referent.fInt Syntax.w8)) 16) ref4
+              (Syntax.tyArray (Syntax.tyInt Syntax.w8) 16) (Syntax.tyArray (Syntax.tyInt Syntax.w8) 16) life4 (λ x. x)
+              (Rows.arrF (Referent.rtF (Referent.fInt Syntax.w8)) 16 0) (λ x. x) (λ x. Unit) Path.refl Path.refl
+              Path.refl (Copies.cArr (Referent.rtF (Referent.fInt Syntax.w8)) (Copies.cRf (Referent.fInt Syntax.w8)) 16
+              .copy 𝓤 H A W) (DerefMove.learns-nothing 𝓤 H A (Array'.Array (Referent.rtF (Referent.fInt Syntax.w8)) 16))
+              (Own.told-none 𝓤 H A (G0 .slots)) (Copies.halves 𝓤 H A W (Copies.cArr
+              (Referent.rtF (Referent.fInt Syntax.w8)) (Copies.cRf (Referent.fInt Syntax.w8)) 16)) (Reads.as-is 𝓤 H A (Rows'.sref
+              (Array'.Array (Referent.rtF (Referent.fInt Syntax.w8)) 16) ref4 4)) (Reads.room-gone 𝓤 H A
+              (Syntax.tyArray (Syntax.tyInt Syntax.w8) 16)) (Yields.makes-mem 𝓤 H A W (λ ρ. Unit)
+              (Array'.Array (Referent.rtF (Referent.fInt Syntax.w8)) 16) Path.refl
+              (Rows.arrF (Referent.rtF (Referent.fInt Syntax.w8)) 16 0) (λ x. x) λ ρ told. Whole.arr-mem 𝓤 H A W
+              (Referent.rtF (Referent.fInt Syntax.w8)) 16 tt ρ) Path.refl tt Path.refl Path.refl) d7
+
           pub typed : Typed.Typed 𝓤 H A 𝓣 E (Function.Γin 5 ps r xs m κs qs) b6 (Function.Δret 5 ps r xs m κs qs) Φ
           typed = d8
+
       module _ (κs : Lifetimes.Lfts 5) where
         pub record Args : Type 0 where
-          pub pending : Kinds.Den { n = 5 } κs (ShrSlice.pShrS RelayPending.row 0 tt)
-          pub circuits : Kinds.Den { n = 5 } κs (ShrSlice.pShrS RelayCircuit.row 1 tt)
-          pub ledger : Kinds.Den { n = 5 } κs (ShrSlice.pShrS ReservationUsage.row 2 tt)
-          pub inflight : Kinds.Den { n = 5 } κs (ShrSlice.pShrS InflightAction.row 3 tt)
-          pub session : Kinds.Den { n = 5 } κs (ShrRef.pShr (Array'.Array (Referent.rtF (Referent.fInt Syntax.w8)) 16) 4 tt)
-          pub generation : Kinds.Den { n = 5 } κs (Num.pNum Syntax.w64)
-          pub config : Kinds.Den { n = 5 } κs (Value.pVal record { ty = Declared.row OpaqueRelayConfig.the-type; one = Path.refl; val = Laws'''.val
-              OpaqueRelayConfig.the-type Laws.the-laws; tells = Laws'''.tells OpaqueRelayConfig.the-type Laws.the-laws; still = Laws'''.still
-              OpaqueRelayConfig.the-type Laws.the-copy Exit.yes; row = Rows'.whole (Declared.row OpaqueRelayConfig.the-type); rd = λ x. x; mk = λ x.
-              x; } λ M 𝓤 H A W. record { copies = Laws'''.copy OpaqueRelayConfig.the-type Laws.the-copy 𝓤 H A W; lawful = Laws'''.lawful
-              OpaqueRelayConfig.the-type Laws.the-laws 𝓤 H A W; makes = Laws'''.makes OpaqueRelayConfig.the-type Laws.the-plain 𝓤 H A; in-mem =
-              Local.mem-whole 𝓤 H A W (Declared.row OpaqueRelayConfig.the-type); of-mem = Local.whole-mem 𝓤 H A W (Declared.row
-              OpaqueRelayConfig.the-type); })
-          pub time : Kinds.Den { n = 5 } κs (Num.pNum Syntax.w64)
+          pub pending : Kinds.Den {n = 5} κs (ShrSlice.pShrS RelayPending.row 0 tt)
+          pub circuits : Kinds.Den {n = 5} κs (ShrSlice.pShrS RelayCircuit.row 1 tt)
+          pub ledger : Kinds.Den {n = 5} κs (ShrSlice.pShrS ReservationUsage.row 2 tt)
+          pub inflight : Kinds.Den {n = 5} κs (ShrSlice.pShrS InflightAction.row 3 tt)
+          pub session : Kinds.Den {n = 5} κs (ShrRef.pShr (Array'.Array (Referent.rtF (Referent.fInt Syntax.w8)) 16) 4
+              tt)
+          pub generation : Kinds.Den {n = 5} κs (Num.pNum Syntax.w64)
+          pub config : Kinds.Den {n = 5} κs (StructRow.param OpaqueRelayConfig.the-type Laws.the-laws Laws.the-copy
+              Laws.the-plain)
+          pub time : Kinds.Den {n = 5} κs (Num.pNum Syntax.w64)
+
         abbrev pub dens : (a : Args) → Kinds.Dens κs ps
-        dens = λ a. (a .pending, (a .circuits, (a .ledger, (a .inflight, (a .session, (a .generation, (a .config, (a .time, tt))))),),),)
+        dens = λ a. (
+          a .pending,
+          (a .circuits, (a .ledger, (a .inflight, (a .session, (a .generation, (a .config, (a .time, tt))))))),
+        )
+
         module _ (args· : Args) where
           pub record Ranges : Type 0 where
             pub generation : Val.Fits Syntax.w64 (args· .generation)
             pub time : Val.Fits Syntax.w64 (args· .time)
+
       abbrev pub m0 : (κs : Lifetimes.Lfts 5) → (args : Args κs) → Typed.Mo T0
       m0 = λ κs args. (tt, Enter.partsP κs 1 ps xs (dens κs args))
+
       abbrev W0 : (κs : Lifetimes.Lfts 5) → (args : Args κs) → Typed.Want O0
-      W0 = λ κs args. (λ u. ⊥, tt, λ u. Enter.Fixs κs 1 ps xs (dens κs args) (u .1) × Post· κs (dens κs args) (Function.resV r κs (u .0))
-          (Clauses.atExit (Kinds.endedOf 5 ps r) κs (dens κs args) (Enter.lastsP κs 1 ps xs (dens κs args) (u .1))),)
+      W0 = λ κs args. (
+        λ u. ⊥,
+        tt,
+        λ u. Enter.Fixs κs 1 ps xs (dens κs args) (u .1) × Post· κs (dens κs args) (Function.resV r κs (u .0)) (Clauses.atExit
+            (Kinds.endedOf 5 ps r) κs (dens κs args) (Enter.lastsP κs 1 ps xs (dens κs args) (u .1))),
+      )
+
       pub record Start : Type 0 where
         pub κs : Lifetimes.Lfts 5
         pub args : Args κs
         pub good : Kinds.GoodsP κs ps (dens κs args)
         pub fits : Ranges κs args
         pub pre : Pre· κs (dens κs args)
+
       abbrev pub m1 : (before : Start) → (given : s0 .gives (m0 (before .κs) (before .args))) → Typed.Mo T2
       m1 = λ before given. s0 .next (m0 (before .κs) (before .args)) given
+
       module _ (before· : Start) where
         pub record After-name·own : Type 0 where
           pub given : s0 .gives (m0 (before· .κs) (before· .args))
+
       pub record After-name : Type 0 where
         pub before : Start
         pub name : After-name·own before
+
       abbrev pub Need-new-requires : Type 0
       Need-new-requires = (c : After-name) → s1 .asks (m1 (c .before) (c .name .given))
-      abbrev pub m2 : (before : After-name) → (given : s1 .gives (m1 (before .before) (before .name .given))) → Typed.Mo T3
+
+      abbrev pub m2 : (before : After-name) → (given : s1 .gives (m1 (before .before) (before .name .given))) →
+          Typed.Mo T3
       m2 = λ before given. s1 .next (m1 (before .before) (before .name .given)) given
+
       module _ (before· : After-name) where
         abbrev pub After-new·own : Type 0
-        After-new·own = Called.Called ps·0 r·0 (claims· .1) T2 (record { pos = 1; ty = Syntax.tyRef (Syntax.named 0) Syntax.imm RelayPending.to; ref =
-            λ x. x; }, (record { pos = 2; ty = Syntax.tyRef (Syntax.named 1) Syntax.imm RelayCircuit.to; ref = λ x. x; }, (record { pos = 3; ty =
-            Syntax.tyRef (Syntax.named 2) Syntax.imm ReservationUsage.to; ref = λ x. x; }, (record { pos = 4; ty = Syntax.tyRef (Syntax.named 3)
-            Syntax.imm InflightAction.to; ref = λ x. x; }, (record { pos = 9; st = List.[]; d = 0; at = λ x. x }, (Num.vAt 6 λ x. x, (record { pos =
-            7; st = List.[]; d = 0; at = λ x. x }, (Num.vAt 8 λ x. x, tt),),),),),),),) (m1 (before· .before) (before· .name .given))
+        After-new·own = Called.Called ps·0 r·0 (claims· .1) T2 args1 (m1 (before· .before) (before· .name .given))
+
       pub record After-new : Type 0 where
         pub before : After-name
         pub new : After-new·own before
+
       abbrev pub After-new·gave : (c : After-new) → s1 .gives (m1 (c .before .before) (c .before .name .given))
-      After-new·gave = λ c. Called.given ps·0 r·0 (claims· .1) T2 (record { pos = 1; ty = Syntax.tyRef (Syntax.named 0) Syntax.imm RelayPending.to;
-          ref = λ x. x; }, (record { pos = 2; ty = Syntax.tyRef (Syntax.named 1) Syntax.imm RelayCircuit.to; ref = λ x. x; }, (record { pos = 3; ty =
-          Syntax.tyRef (Syntax.named 2) Syntax.imm ReservationUsage.to; ref = λ x. x; }, (record { pos = 4; ty = Syntax.tyRef (Syntax.named 3)
-          Syntax.imm InflightAction.to; ref = λ x. x; }, (record { pos = 9; st = List.[]; d = 0; at = λ x. x }, (Num.vAt 6 λ x. x, (record { pos = 7;
-          st = List.[]; d = 0; at = λ x. x }, (Num.vAt 8 λ x. x, tt)),),),),),),) (m1 (c .before .before) (c .before .name .given)) (c .new)
-      abbrev pub m3 : (before : After-name) → (given : s1 .gives (m1 (before .before) (before .name .given))) → Typed.Mo T4
+      After-new·gave = λ c. Called.given ps·0 r·0 (claims· .1) T2 args1
+          (m1 (c .before .before) (c .before .name .given)) (c .new)
+
+      abbrev pub m3 : (before : After-name) → (given : s1 .gives (m1 (before .before) (before .name .given))) →
+          Typed.Mo T4
       m3 = λ before given. s2 (m2 before given)
-      abbrev pub m4 : (before : After-name) → (given : s1 .gives (m1 (before .before) (before .name .given))) → Typed.Mo T5
+
+      abbrev pub m4 : (before : After-name) → (given : s1 .gives (m1 (before .before) (before .name .given))) →
+          Typed.Mo T5
       m4 = λ before given. s3 (m3 before given)
+
       abbrev pub Need-reply-requires : Type 0
       Need-reply-requires = (c : After-new) → s4 .asks (m4 (c .before) (After-new·gave c))
-      abbrev pub m5 : (before : After-new) → (given : s4 .gives (m4 (before .before) (After-new·gave before))) → Typed.Mo T6
+
+      abbrev pub m5 : (before : After-new) → (given : s4 .gives (m4 (before .before) (After-new·gave before))) →
+          Typed.Mo T6
       m5 = λ before given. s4 .next (m4 (before .before) (After-new·gave before)) given
+
       module _ (before· : After-new) where
         abbrev pub After-reply·own : Type 0
-        After-reply·own = Called.Called ps·1 r·1 (claims· .3) T5 (record { pos = 10; st = List.[]; d = 0; at = λ x. x }, tt,) (m4 (before· .before)
-            (After-new·gave before·))
+        After-reply·own = Called.Called ps·1 r·1 (claims· .3) T5 args4 (m4 (before· .before) (After-new·gave before·))
+
       pub record After-reply : Type 0 where
         pub before : After-new
         pub reply : After-reply·own before
+
       abbrev pub After-reply·gave : (c : After-reply) → s4 .gives (m4 (c .before .before) (After-new·gave (c .before)))
-      After-reply·gave = λ c. Called.given ps·1 r·1 (claims· .3) T5 (record { pos = 10; st = List.[]; d = 0; at = λ x. x }, tt,) (m4 (c .before
-          .before) (After-new·gave (c .before))) (c .reply)
-      abbrev pub m6 : (before : After-new) → (given : s4 .gives (m4 (before .before) (After-new·gave before))) → Typed.Mo T7
+      After-reply·gave = λ c. Called.given ps·1 r·1 (claims· .3) T5 args4
+          (m4 (c .before .before) (After-new·gave (c .before))) (c .reply)
+
+      abbrev pub m6 : (before : After-new) → (given : s4 .gives (m4 (before .before) (After-new·gave before))) →
+          Typed.Mo T7
       m6 = λ before given. s5 (m5 before given)
-      abbrev pub m7 : (before : After-new) → (given : s4 .gives (m4 (before .before) (After-new·gave before))) → Typed.Mo T8
+
+      abbrev pub m7 : (before : After-new) → (given : s4 .gives (m4 (before .before) (After-new·gave before))) →
+          Typed.Mo T8
       m7 = λ before given. s6 (m6 before given)
-      abbrev pub m8 : (before : After-new) → (given : s4 .gives (m4 (before .before) (After-new·gave before))) → Typed.Mo T9
+
+      abbrev pub m8 : (before : After-new) → (given : s4 .gives (m4 (before .before) (After-new·gave before))) →
+          Typed.Mo T9
       m8 = λ before given. s7 (m7 before given)
+
       abbrev pub Need-returns : Type 0
-      Need-returns = (c : After-reply) → Post· (c .before .before .before .κs) (dens (c .before .before .before .κs) (c .before .before .before
-          .args)) (Function.resV r (c .before .before .before .κs) (m8 (c .before) (After-reply·gave c) .0)) (Clauses.atExit (Kinds.endedOf 5 ps r) (c
-          .before .before .before .κs) (dens (c .before .before .before .κs) (c .before .before .before .args)) (Enter.lastsP (c .before .before
-          .before .κs) 1 ps xs (dens (c .before .before .before .κs) (c .before .before .before .args)) (m8 (c .before) (After-reply·gave c) .1)))
+      Need-returns = (c : After-reply) → Post· (c .before .before .before .κs) (dens (c .before .before .before .κs)
+          (c .before .before .before .args)) (Function.resV r (c .before .before .before .κs)
+          (m8 (c .before) (After-reply·gave c) .0)) (Clauses.atExit (Kinds.endedOf 5 ps r)
+          (c .before .before .before .κs) (dens (c .before .before .before .κs) (c .before .before .before .args)) (Enter.lastsP
+          (c .before .before .before .κs) 1 ps xs (dens (c .before .before .before .κs)
+          (c .before .before .before .args)) (m8 (c .before) (After-reply·gave c) .1)))
+
       module _ (new-requires : Need-new-requires) (reply-requires : Need-reply-requires) (returns : Need-returns) where
-        lay2 : (c : After-reply) → at3 (W0 (c .before .before .before .κs) (c .before .before .before .args)) (m5 (c .before) (After-reply·gave c))
-        lay2 = λ c. ((Path.refl, (Path.refl, (Path.refl, (Path.refl, (Path.refl, (tt, (tt, (tt, tt))))))),), returns record { before = c .before;
-            reply = c .reply },)
-        lay1 : (c : After-new) → at6 (W0 (c .before .before .κs) (c .before .before .args)) (m2 (c .before) (After-new·gave c))
-        lay1 = λ c. (reply-requires record { before = c .before; new = c .new }, λ g. lay2 record { before = record { before = c .before; new = c .new
-            }; reply = Called.called ps·1 r·1 (claims· .3) T5 (record { pos = 10; st = List.[]; d = 0; at = λ x. x }, tt,) (m4 (c .before)
-            (After-new·gave c)) g; },)
+        lay2 : (c : After-reply) → at3 (W0 (c .before .before .before .κs) (c .before .before .before .args))
+            (m5 (c .before) (After-reply·gave c))
+        lay2 = λ c. (
+          (Path.refl, (Path.refl, (Path.refl, (Path.refl, (Path.refl, (tt, (tt, (tt, tt)))))))),
+          returns record { before = c .before; reply = c .reply },
+        )
+
+        lay1 : (c : After-new) → at6 (W0 (c .before .before .κs) (c .before .before .args))
+            (m2 (c .before) (After-new·gave c))
+        lay1 = λ c. (
+          reply-requires record { before = c .before; new = c .new },
+          λ g. lay2 record {
+            before = record { before = c .before; new = c .new };
+            reply = Called.called ps·1 r·1 (claims· .3) T5 args4 (m4 (c .before) (After-new·gave c)) g;
+          },
+        )
+
         pub laid : (c : Start) → at8 (W0 (c .κs) (c .args)) (m0 (c .κs) (c .args))
-        laid = λ c. λ g. (new-requires record { before = c; name = record { given = g } }, λ g'. lay1 record { before = record { before = c; name =
-            record { given = g } }; new = Called.called ps·0 r·0 (claims· .1) T2 (record { pos = 1; ty = Syntax.tyRef (Syntax.named 0) Syntax.imm
-            RelayPending.to; ref = λ x. x; }, (record { pos = 2; ty = Syntax.tyRef (Syntax.named 1) Syntax.imm RelayCircuit.to; ref = λ x. x; },
-            (record { pos = 3; ty = Syntax.tyRef (Syntax.named 2) Syntax.imm ReservationUsage.to; ref = λ x. x; }, (record { pos = 4; ty =
-            Syntax.tyRef (Syntax.named 3) Syntax.imm InflightAction.to; ref = λ x. x; }, (record { pos = 9; st = List.[]; d = 0; at = λ x. x },
-            (Num.vAt 6 λ x. x, (record { pos = 7; st = List.[]; d = 0; at = λ x. x }, (Num.vAt 8 λ x. x, tt),),),),),),),) (m1 c g) g'; },)
+        laid = λ c. λ g. (
+          new-requires record { before = c; name = record { given = g } },
+          λ g'. lay1 record {
+            before = record { before = c; name = record { given = g } };
+            new = Called.called ps·0 r·0 (claims· .1) T2 args1 (m1 c g) g';
+          },
+        )
+
         module _ (κs : Lifetimes.Lfts 5) (qs : Lifetimes.Shares 5) where
-          pub asked : (a : Kinds.Dens κs ps) → (good : Kinds.GoodsP κs ps a) → (pre : Pre· κs a) → (bs : List.List Nat.ℕ) → Φ (Any.wantQ 5 ps r xs m
-              κs qs a (Post· κs a)) (Function.init 5 ps r xs m κs qs a)
-          asked = λ a good pre bs. laid record { κs = κs; args = record { pending = a .0; circuits = a .1 .0; ledger = a .1 .1 .0; inflight = a .1 .1
-              .1 .0; session = a .1 .1 .1 .1 .0; generation = a .1 .1 .1 .1 .1 .0; config = a .1 .1 .1 .1 .1 .1 .0; time = a .1 .1 .1 .1 .1 .1 .1 .0;
-              }; good = good; fits = record { generation = record { fits = good .1 .1 .1 .1 .1 .0 .1 }; time = record { fits = good .1 .1 .1 .1 .1 .1
-              .1 .0 .1 }; }; pre = pre; }
-        module _ { M : Type 1 } (𝓤 : URA.URA M) (H : Wp.Heap 𝓤) (A : Atoms.Atoms 𝓤) (W : Kit.Given 𝓤 H A) (𝓣 : Wp.Tables 𝓤 H) (known0 : Plain.Known 𝓤
-            H A W 𝓣 4 ps·0 r·0 (claims· .0) (claims· .1) "hnsr_circuit::calls::new") (known1 : Plain.Known 𝓤 H A W 𝓣 0 ps·1 r·1 (claims· .2) (claims·
-            .3) "lekchnam::relay::reply") where
-          pub spec : Statement.Triple 𝓤 (Wp.WpFn 𝓤 H (𝓣 .C) (𝓣 .Λ) (Function.fnOf 5 ps r xs m hs body)) (Function.plainOf 𝓤 H A 5 ps r Pre· Post·)
-          spec = Plain.t-fn-plain 𝓤 H A W 𝓣 5 ps r xs m hs body (λ κs qs bs. Φ) (λ κs qs bs bd. typed κs qs 𝓤 H A W 𝓣 (known0, known1) bs bd) Pre·
-              Post· asked
+          pub asked : (a : Kinds.Dens κs ps) → (good : Kinds.GoodsP κs ps a) → (pre : Pre· κs a) →
+              (bs : List.List Nat.ℕ) → Φ (Any.wantQ 5 ps r xs m κs qs a (Post· κs a))
+              (Function.init 5 ps r xs m κs qs a)
+          asked = λ a good pre bs. laid record {
+            κs = κs;
+            args = record {
+              pending = a .0;
+              circuits = a .1 .0;
+              ledger = a .1 .1 .0;
+              inflight = a .1 .1 .1 .0;
+              session = a .1 .1 .1 .1 .0;
+              generation = a .1 .1 .1 .1 .1 .0;
+              config = a .1 .1 .1 .1 .1 .1 .0;
+              time = a .1 .1 .1 .1 .1 .1 .1 .0;
+            };
+            good = good;
+            fits = record {
+              generation = record { fits = good .1 .1 .1 .1 .1 .0 .1 };
+              time = record { fits = good .1 .1 .1 .1 .1 .1 .1 .0 .1 };
+            };
+            pre = pre;
+          }
+
+        module _ {M : Type 1} (𝓤 : URA.URA M) (H : Wp.Heap 𝓤) (A : Atoms.Atoms 𝓤) (W : Kit.Given 𝓤 H A)
+            (𝓣 : Wp.Tables 𝓤 H) (known0 : Plain.Known 𝓤 H A W 𝓣 4 ps·0 r·0 (claims· .0) (claims· .1)
+            "hnsr_circuit::calls::new") (known1 : Plain.Known 𝓤 H A W 𝓣 0 ps·1 r·1 (claims· .2) (claims· .3)
+            "lekchnam::relay::reply") where
+          pub spec : Statement.Triple 𝓤 (Wp.WpFn 𝓤 H (𝓣 .C) (𝓣 .Λ) (Function.fnOf 5 ps r xs m hs body))
+              (Function.plainOf 𝓤 H A 5 ps r Pre· Post·)
+          spec = Plain.t-fn-plain 𝓤 H A W 𝓣 5 ps r xs m hs body (λ κs qs bs. Φ) (λ κs qs bs bd. typed κs qs 𝓤 H A W 𝓣
+              (known0, known1) bs bd) Pre· Post· asked

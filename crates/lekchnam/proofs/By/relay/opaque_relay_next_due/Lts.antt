@@ -9,10 +9,12 @@ use Rattle.hnsr_circuit.proofs.runtime.OpaqueRelayRuntime.Laws as Laws''
 use Rattle.lekchnam.proofs.By.InflightAction
 use Rattle.lekchnam.proofs.By.RelayCircuit
 use Rattle.lekchnam.proofs.By.RelayPending
+use Rattle.lekchnam.proofs.StructRow
 use Rattle.lekchnam.proofs.relay.DueReply
 use Rattle.lekchnam.proofs.relay.DueReply.Laws as Laws'''
 use borrow.Author.Called
 use borrow.Fn.Any
+use borrow.Fn.Args as Args'
 use borrow.Fn.Call
 use borrow.Fn.Enter
 use borrow.Fn.Frame
@@ -20,7 +22,6 @@ use borrow.Fn.Function
 use borrow.Fn.Kinds
 use borrow.Fn.Plain
 use borrow.Kind.ShrSlice
-use borrow.Kind.Value
 use borrow.Rule.Local
 use borrow.Rule.Scalar
 use borrow.Rule.Slice.Shared
@@ -31,9 +32,7 @@ use borrow.Table.Row
 use borrow.Table.Rows
 use borrow.Table.Typed
 use contract.Lifetimes
-use denote.Exit
 use denote.Struct.Declared
-use denote.Struct.Laws as Laws''''
 use denote.Triple.Clauses
 use denote.Triple.Statement
 use ghost.Atoms
@@ -48,330 +47,476 @@ use mathlib.Core.List.{_∷_}
 
 abbrev ref0 : Syntax.Ty
 ref0 = Syntax.tyRef (Syntax.named 0) Syntax.imm RelayPending.to
+
 abbrev ref1 : Syntax.Ty
 ref1 = Syntax.tyRef (Syntax.named 1) Syntax.imm RelayCircuit.to
+
 abbrev ref2 : Syntax.Ty
 ref2 = Syntax.tyRef (Syntax.named 2) Syntax.imm InflightAction.to
+
 abbrev pub ps : List.List (Kinds.PK 3)
-ps = (ShrSlice.pShrS RelayPending.row 0 tt) ∷ (ShrSlice.pShrS RelayCircuit.row 1 tt) ∷ (ShrSlice.pShrS InflightAction.row 2 tt) ∷ (Value.pVal record {
-    ty = Declared.row OpaqueRelayRuntime.the-type; one = Path.refl; val = Laws''''.val OpaqueRelayRuntime.the-type Laws''.the-laws; tells =
-    Laws''''.tells OpaqueRelayRuntime.the-type Laws''.the-laws; still = Laws''''.still OpaqueRelayRuntime.the-type Laws''.the-copy Exit.yes; row =
-    Rows.whole (Declared.row OpaqueRelayRuntime.the-type); rd = λ x. x; mk = λ x. x; } λ M 𝓤 H A W. record { copies = Laws''''.copy
-    OpaqueRelayRuntime.the-type Laws''.the-copy 𝓤 H A W; lawful = Laws''''.lawful OpaqueRelayRuntime.the-type Laws''.the-laws 𝓤 H A W; makes =
-    Laws''''.makes OpaqueRelayRuntime.the-type Laws''.the-plain 𝓤 H A; in-mem = Local.mem-whole 𝓤 H A W (Declared.row OpaqueRelayRuntime.the-type);
-    of-mem = Local.whole-mem 𝓤 H A W (Declared.row OpaqueRelayRuntime.the-type); }) ∷ (Value.pVal record { ty = Declared.row Places.the-type; one =
-    Path.refl; val = Laws''''.val Places.the-type Laws.the-laws; tells = Laws''''.tells Places.the-type Laws.the-laws; still = Laws''''.still
-    Places.the-type Laws.the-copy Exit.yes; row = Rows.whole (Declared.row Places.the-type); rd = λ x. x; mk = λ x. x; } λ M 𝓤 H A W. record { copies
-    = Laws''''.copy Places.the-type Laws.the-copy 𝓤 H A W; lawful = Laws''''.lawful Places.the-type Laws.the-laws 𝓤 H A W; makes = Laws''''.makes
-    Places.the-type Laws.the-plain 𝓤 H A; in-mem = Local.mem-whole 𝓤 H A W (Declared.row Places.the-type); of-mem = Local.whole-mem 𝓤 H A W
-    (Declared.row Places.the-type); }) ∷ List.[]
+ps = (ShrSlice.pShrS RelayPending.row 0 tt) ∷ (ShrSlice.pShrS RelayCircuit.row 1 tt) ∷
+    (ShrSlice.pShrS InflightAction.row 2 tt) ∷ (StructRow.param OpaqueRelayRuntime.the-type Laws''.the-laws
+    Laws''.the-copy Laws''.the-plain) ∷ (StructRow.param Places.the-type Laws.the-laws Laws.the-copy Laws.the-plain) ∷
+    List.[]
+
 abbrev pub r : Kinds.RK 3
-r = Value.rVal record { ty = Declared.row DueReply.the-type; one = Path.refl; val = Laws''''.val DueReply.the-type Laws'''.the-laws; tells =
-    Laws''''.tells DueReply.the-type Laws'''.the-laws; still = Laws''''.still DueReply.the-type Laws'''.the-copy Exit.yes; row = Rows.whole
-    (Declared.row DueReply.the-type); rd = λ x. x; mk = λ x. x; } λ M 𝓤 H A W. record { copies = Laws''''.copy DueReply.the-type Laws'''.the-copy 𝓤 H
-    A W; lawful = Laws''''.lawful DueReply.the-type Laws'''.the-laws 𝓤 H A W; makes = Laws''''.makes DueReply.the-type Laws'''.the-plain 𝓤 H A; in-mem
-    = Local.mem-whole 𝓤 H A W (Declared.row DueReply.the-type); of-mem = Local.whole-mem 𝓤 H A W (Declared.row DueReply.the-type); }
+r = StructRow.result DueReply.the-type Laws'''.the-laws Laws'''.the-copy Laws'''.the-plain
+
 abbrev pub xs : List.List Syntax.Ty
 xs = Laws'.mir ∷ List.[]
+
 abbrev pub m : Nat.ℕ
 m = 0
+
 abbrev pub ps·0 : List.List (Kinds.PK 3)
-ps·0 = (ShrSlice.pShrS RelayPending.row 0 tt) ∷ (ShrSlice.pShrS RelayCircuit.row 1 tt) ∷ (ShrSlice.pShrS InflightAction.row 2 tt) ∷ (Value.pVal record
-    { ty = Declared.row OpaqueRelayRuntime.the-type; one = Path.refl; val = Laws''''.val OpaqueRelayRuntime.the-type Laws''.the-laws; tells =
-    Laws''''.tells OpaqueRelayRuntime.the-type Laws''.the-laws; still = Laws''''.still OpaqueRelayRuntime.the-type Laws''.the-copy Exit.yes; row =
-    Rows.whole (Declared.row OpaqueRelayRuntime.the-type); rd = λ x. x; mk = λ x. x; } λ M 𝓤 H A W. record { copies = Laws''''.copy
-    OpaqueRelayRuntime.the-type Laws''.the-copy 𝓤 H A W; lawful = Laws''''.lawful OpaqueRelayRuntime.the-type Laws''.the-laws 𝓤 H A W; makes =
-    Laws''''.makes OpaqueRelayRuntime.the-type Laws''.the-plain 𝓤 H A; in-mem = Local.mem-whole 𝓤 H A W (Declared.row OpaqueRelayRuntime.the-type);
-    of-mem = Local.whole-mem 𝓤 H A W (Declared.row OpaqueRelayRuntime.the-type); }) ∷ (Value.pVal record { ty = Declared.row Places.the-type; one =
-    Path.refl; val = Laws''''.val Places.the-type Laws.the-laws; tells = Laws''''.tells Places.the-type Laws.the-laws; still = Laws''''.still
-    Places.the-type Laws.the-copy Exit.yes; row = Rows.whole (Declared.row Places.the-type); rd = λ x. x; mk = λ x. x; } λ M 𝓤 H A W. record { copies
-    = Laws''''.copy Places.the-type Laws.the-copy 𝓤 H A W; lawful = Laws''''.lawful Places.the-type Laws.the-laws 𝓤 H A W; makes = Laws''''.makes
-    Places.the-type Laws.the-plain 𝓤 H A; in-mem = Local.mem-whole 𝓤 H A W (Declared.row Places.the-type); of-mem = Local.whole-mem 𝓤 H A W
-    (Declared.row Places.the-type); }) ∷ List.[]
-abbrev pub r·0 : Kinds.RK 3
-r·0 = Value.rVal record { ty = Declared.row DueTold.the-type; one = Path.refl; val = Laws''''.val DueTold.the-type Laws'.the-laws; tells =
-    Laws''''.tells DueTold.the-type Laws'.the-laws; still = Laws''''.still DueTold.the-type Laws'.the-copy Exit.yes; row = Rows.whole (Declared.row
-    DueTold.the-type); rd = λ x. x; mk = λ x. x; } λ M 𝓤 H A W. record { copies = Laws''''.copy DueTold.the-type Laws'.the-copy 𝓤 H A W; lawful =
-    Laws''''.lawful DueTold.the-type Laws'.the-laws 𝓤 H A W; makes = Laws''''.makes DueTold.the-type Laws'.the-plain 𝓤 H A; in-mem = Local.mem-whole 𝓤
-    H A W (Declared.row DueTold.the-type); of-mem = Local.whole-mem 𝓤 H A W (Declared.row DueTold.the-type); }
-abbrev pub ps·1 : List.List (Kinds.PK 0)
-ps·1 = (Value.pVal record { ty = Declared.row DueTold.the-type; one = Path.refl; val = Laws''''.val DueTold.the-type Laws'.the-laws; tells =
-    Laws''''.tells DueTold.the-type Laws'.the-laws; still = Laws''''.still DueTold.the-type Laws'.the-copy Exit.yes; row = Rows.whole (Declared.row
-    DueTold.the-type); rd = λ x. x; mk = λ x. x; } λ M 𝓤 H A W. record { copies = Laws''''.copy DueTold.the-type Laws'.the-copy 𝓤 H A W; lawful =
-    Laws''''.lawful DueTold.the-type Laws'.the-laws 𝓤 H A W; makes = Laws''''.makes DueTold.the-type Laws'.the-plain 𝓤 H A; in-mem = Local.mem-whole 𝓤
-    H A W (Declared.row DueTold.the-type); of-mem = Local.whole-mem 𝓤 H A W (Declared.row DueTold.the-type); }) ∷ List.[]
-abbrev pub r·1 : Kinds.RK 0
-r·1 = Value.rVal record { ty = Declared.row DueReply.the-type; one = Path.refl; val = Laws''''.val DueReply.the-type Laws'''.the-laws; tells =
-    Laws''''.tells DueReply.the-type Laws'''.the-laws; still = Laws''''.still DueReply.the-type Laws'''.the-copy Exit.yes; row = Rows.whole
-    (Declared.row DueReply.the-type); rd = λ x. x; mk = λ x. x; } λ M 𝓤 H A W. record { copies = Laws''''.copy DueReply.the-type Laws'''.the-copy 𝓤 H
-    A W; lawful = Laws''''.lawful DueReply.the-type Laws'''.the-laws 𝓤 H A W; makes = Laws''''.makes DueReply.the-type Laws'''.the-plain 𝓤 H A; in-mem
-    = Local.mem-whole 𝓤 H A W (Declared.row DueReply.the-type); of-mem = Local.whole-mem 𝓤 H A W (Declared.row DueReply.the-type); }
-abbrev pub hs : List.List Syntax.Home
-hs = Syntax.valueLocal ∷ Syntax.valueLocal ∷ Syntax.valueLocal ∷ Syntax.valueLocal ∷ Syntax.valueLocal ∷ Syntax.valueLocal ∷ Syntax.valueLocal ∷
+ps·0 = (ShrSlice.pShrS RelayPending.row 0 tt) ∷ (ShrSlice.pShrS RelayCircuit.row 1 tt) ∷
+    (ShrSlice.pShrS InflightAction.row 2 tt) ∷ (StructRow.param OpaqueRelayRuntime.the-type Laws''.the-laws
+    Laws''.the-copy Laws''.the-plain) ∷ (StructRow.param Places.the-type Laws.the-laws Laws.the-copy Laws.the-plain) ∷
     List.[]
+
+abbrev pub r·0 : Kinds.RK 3
+r·0 = StructRow.result DueTold.the-type Laws'.the-laws Laws'.the-copy Laws'.the-plain
+
+abbrev pub ps·1 : List.List (Kinds.PK 0)
+ps·1 = (StructRow.param DueTold.the-type Laws'.the-laws Laws'.the-copy Laws'.the-plain) ∷ List.[]
+
+abbrev pub r·1 : Kinds.RK 0
+r·1 = StructRow.result DueReply.the-type Laws'''.the-laws Laws'''.the-copy Laws'''.the-plain
+
+abbrev pub hs : List.List Syntax.Home
+hs = Syntax.valueLocal ∷ Syntax.valueLocal ∷ Syntax.valueLocal ∷ Syntax.valueLocal ∷ Syntax.valueLocal ∷
+    Syntax.valueLocal ∷ Syntax.valueLocal ∷ List.[]
+
 abbrev b0 : Syntax.Body
-b0 = Syntax.call "hnsr_circuit::calls::next_due" ((Syntax.copy (Syntax.place 1 List.[])) ∷ (Syntax.copy (Syntax.place 2 List.[])) ∷ (Syntax.copy
-    (Syntax.place 3 List.[])) ∷ (Syntax.copy (Syntax.place 4 List.[])) ∷ (Syntax.copy (Syntax.place 5 List.[])) ∷ List.[]) (Syntax.place 6 List.[])
+b0 = Syntax.call "hnsr_circuit::calls::next_due" ((Syntax.copy (Syntax.place 1 List.[])) ∷
+    (Syntax.copy (Syntax.place 2 List.[])) ∷ (Syntax.copy (Syntax.place 3 List.[])) ∷
+    (Syntax.copy (Syntax.place 4 List.[])) ∷ (Syntax.copy (Syntax.place 5 List.[])) ∷ List.[]) (Syntax.place 6 List.[])
+
 abbrev b1 : Syntax.Body
-b1 = Syntax.call "lekchnam::relay::due_reply" ((Syntax.copy (Syntax.place 6 List.[])) ∷ List.[]) (Syntax.place 0 List.[])
+b1 = Syntax.call "lekchnam::relay::due_reply" ((Syntax.copy (Syntax.place 6 List.[])) ∷ List.[])
+    (Syntax.place 0 List.[])
+
 abbrev b2 : Syntax.Body
 b2 = Syntax.return
+
 abbrev b3 : Syntax.Body
 b3 = Syntax.seq b1 b2
+
 abbrev b4 : Syntax.Body
 b4 = Syntax.seq b0 b3
+
 abbrev pub body : Syntax.Body
 body = b4
+
 abbrev pub Claims : Type 1
 Claims = Kinds.In 3 ps·0 × Kinds.Out 3 ps·0 r·0 × Kinds.In 0 ps·1 × Kinds.Out 0 ps·1 r·1
+
 abbrev e0 : Row.Entry
 e0 = (0, Rows.any-gone Laws'''.mir)
+
 abbrev e1 : Row.Entry
 e1 = (1, Rows.sslice RelayPending.row ref0 0)
+
 abbrev e2 : Row.Entry
 e2 = (2, Rows.sslice RelayCircuit.row ref1 1)
+
 abbrev e3 : Row.Entry
 e3 = (3, Rows.sslice InflightAction.row ref2 2)
+
 abbrev e4 : Row.Entry
 e4 = (4, Rows.whole (Declared.row OpaqueRelayRuntime.the-type))
+
 abbrev e5 : Row.Entry
 e5 = (5, Rows.whole (Declared.row Places.the-type))
+
 abbrev e6 : Row.Entry
 e6 = (6, Rows.any-gone Laws'.mir)
+
 abbrev e0·1 : Row.Entry
 e0·1 = (0, Rows.whole (Declared.row DueReply.the-type))
+
 abbrev e4·1 : Row.Entry
 e4·1 = (4, Rows.any-gone Laws''.mir)
+
 abbrev e5·1 : Row.Entry
 e5·1 = (5, Rows.any-gone Laws.mir)
+
 abbrev e6·1 : Row.Entry
 e6·1 = (6, Rows.whole (Declared.row DueTold.the-type))
+
 abbrev pub t0 : List.List Row.Entry
 t0 = e0 ∷ e1 ∷ e2 ∷ e3 ∷ e4 ∷ e5 ∷ e6 ∷ List.[]
+
 abbrev pub t1 : List.List Row.Entry
 t1 = e0·1 ∷ e1 ∷ e2 ∷ e3 ∷ e4·1 ∷ e5·1 ∷ e6 ∷ List.[]
+
 abbrev pub t2 : List.List Row.Entry
 t2 = e0 ∷ e1 ∷ e2 ∷ e3 ∷ e4 ∷ e5 ∷ e6·1 ∷ List.[]
+
 abbrev pub t3 : List.List Row.Entry
 t3 = e0 ∷ e1 ∷ e2 ∷ e3 ∷ e4·1 ∷ e5 ∷ e6·1 ∷ List.[]
+
 abbrev pub t4 : List.List Row.Entry
 t4 = e0 ∷ e1 ∷ e2 ∷ e3 ∷ e4·1 ∷ e5·1 ∷ e6·1 ∷ List.[]
+
 abbrev pub t5 : List.List Row.Entry
 t5 = e0·1 ∷ e1 ∷ e2 ∷ e3 ∷ e4·1 ∷ e5·1 ∷ e6·1 ∷ List.[]
+
 abbrev pub T0 : Row.Cx
 T0 = record { locals = t0; slots = List.[] }
+
 abbrev pub T1 : Row.Cx
 T1 = record { locals = t1; slots = List.[] }
+
 abbrev pub T2 : Row.Cx
 T2 = record { locals = t2; slots = List.[] }
+
 abbrev pub T3 : Row.Cx
 T3 = record { locals = t3; slots = List.[] }
+
 abbrev pub T4 : Row.Cx
 T4 = record { locals = t4; slots = List.[] }
+
 abbrev pub T5 : Row.Cx
 T5 = record { locals = t5; slots = List.[] }
+
 abbrev pub T6 : Row.Cx
 T6 = record { locals = t1; slots = List.[] }
+
 abbrev pub O0 : Typed.Outs
 O0 = record { next = Option.none; exits = List.[]; returns = Option.some T1 }
+
 module _ (claims· : Claims) where
+  abbrev args0 : Args'.ArgsT ps·0 (T0 .locals)
+  args0 = (
+    record { pos = 1; ty = ref0; ref = λ x. x },
+    (
+      record { pos = 2; ty = ref1; ref = λ x. x },
+      (
+        record { pos = 3; ty = ref2; ref = λ x. x },
+        (
+          record { pos = 4; st = List.[]; d = 0; at = λ x. x },
+          (record { pos = 5; st = List.[]; d = 0; at = λ x. x }, tt),
+        ),
+      ),
+    ),
+  )
+
   abbrev s0 : Typed.Both T0 T2
-  s0 = Call.callB ps·0 r·0 (claims· .0) (claims· .1) T0 (record { pos = 1; ty = Syntax.tyRef (Syntax.named 0) Syntax.imm RelayPending.to; ref = λ x.
-      x; }, (record { pos = 2; ty = Syntax.tyRef (Syntax.named 1) Syntax.imm RelayCircuit.to; ref = λ x. x; }, (record { pos = 3; ty = Syntax.tyRef
-      (Syntax.named 2) Syntax.imm InflightAction.to; ref = λ x. x; }, (record { pos = 4; st = List.[]; d = 0; at = λ x. x }, (record { pos = 5; st =
-      List.[]; d = 0; at = λ x. x }, tt),),),),) 6 (0 ∷ 1 ∷ 2 ∷ List.[]) Laws'.mir
+  s0 = Call.callB ps·0 r·0 (claims· .0) (claims· .1) T0 args0 6 (0 ∷ 1 ∷ 2 ∷ List.[]) Laws'.mir
+
   abbrev s1 : Typed.Mo T2 → Typed.Mo T3
   s1 = Scalar.n-room T2 4 Laws''.mir
+
   abbrev s2 : Typed.Mo T3 → Typed.Mo T4
   s2 = Scalar.n-room T3 5 Laws.mir
+
+  abbrev args3 : Args'.ArgsT ps·1 (T4 .locals)
+  args3 = (record { pos = 6; st = List.[]; d = 0; at = λ x. x }, tt)
+
   abbrev s3 : Typed.Both T4 T5
-  s3 = Call.callB ps·1 r·1 (claims· .2) (claims· .3) T4 (record { pos = 6; st = List.[]; d = 0; at = λ x. x }, tt,) 0 List.[] Laws'''.mir
+  s3 = Call.callB ps·1 r·1 (claims· .2) (claims· .3) T4 args3 0 List.[] Laws'''.mir
+
   abbrev s4 : Typed.Mo T5 → Typed.Mo T6
   s4 = Scalar.n-room T5 6 Laws'.mir
-  module _ (Pre· : (κs : Lifetimes.Lfts 3) → Kinds.Dens κs ps → Type 0) (Post· : (κs : Lifetimes.Lfts 3) → (a : Kinds.Dens κs ps) → Kinds.Plain 3 ps r
-      κs) where
+
+  module _ (Pre· : (κs : Lifetimes.Lfts 3) → Kinds.Dens κs ps → Type 0) (Post· : (κs : Lifetimes.Lfts 3) →
+      (a : Kinds.Dens κs ps) → Kinds.Plain 3 ps r κs) where
     module _ (M : Type 1) where
       abbrev pub Closed : Type 2
-      Closed = (𝓤 : URA.URA M) (H : Wp.Heap 𝓤) (A : Atoms.Atoms 𝓤) (W : Kit.Given 𝓤 H A) (𝓣 : Wp.Tables 𝓤 H) (known0 : Plain.Known 𝓤 H A W 𝓣 3 ps·0
-          r·0 (claims· .0) (claims· .1) "hnsr_circuit::calls::next_due") (known1 : Plain.Known 𝓤 H A W 𝓣 0 ps·1 r·1 (claims· .2) (claims· .3)
-          "lekchnam::relay::due_reply") → Statement.Triple 𝓤 (Wp.WpFn 𝓤 H (𝓣 .C) (𝓣 .Λ) (Function.fnOf 3 ps r xs m hs body)) (Function.plainOf 𝓤 H A 3
-          ps r Pre· Post·)
+      Closed = (𝓤 : URA.URA M) (H : Wp.Heap 𝓤) (A : Atoms.Atoms 𝓤) (W : Kit.Given 𝓤 H A) (𝓣 : Wp.Tables 𝓤 H) (known0 :
+          Plain.Known 𝓤 H A W 𝓣 3 ps·0 r·0 (claims· .0) (claims· .1) "hnsr_circuit::calls::next_due") (known1 :
+          Plain.Known 𝓤 H A W 𝓣 0 ps·1 r·1 (claims· .2) (claims· .3) "lekchnam::relay::due_reply") → Statement.Triple 𝓤 (Wp.WpFn
+          𝓤 H (𝓣 .C) (𝓣 .Λ) (Function.fnOf 3 ps r xs m hs body)) (Function.plainOf 𝓤 H A 3 ps r Pre· Post·)
+
     module _ where
       abbrev at0 : Typed.TF T6 O0
       at0 = Typed.atRet O0
+
       abbrev at1 : Typed.TF T5 O0
       at1 = λ Ψ. Typed.pass T5 T6 s4 (at0 Ψ)
+
       abbrev at2 : Typed.TF T4 O0
       at2 = λ Ψ. Typed.both s3 (at1 Ψ)
+
       abbrev at3 : Typed.TF T3 O0
       at3 = λ Ψ. Typed.pass T3 T4 s2 (at2 Ψ)
+
       abbrev at4 : Typed.TF T2 O0
       at4 = λ Ψ. Typed.pass T2 T3 s1 (at3 Ψ)
+
       abbrev at5 : Typed.TF T0 O0
       at5 = λ Ψ. Typed.both s0 (at4 Ψ)
+
       abbrev pub Φ : Typed.TF T0 O0
       Φ = at5
-      module _ { M : Type 1 } (𝓤 : URA.URA M) (H : Wp.Heap 𝓤) (A : Atoms.Atoms 𝓤) (W : Kit.Given 𝓤 H A) (𝓣 : Wp.Tables 𝓤 H) where
+
+      module _ {M : Type 1} (𝓤 : URA.URA M) (H : Wp.Heap 𝓤) (A : Atoms.Atoms 𝓤) (W : Kit.Given 𝓤 H A)
+          (𝓣 : Wp.Tables 𝓤 H) where
         abbrev Knowns : Type 1
-        Knowns = Plain.Known 𝓤 H A W 𝓣 3 ps·0 r·0 (claims· .0) (claims· .1) "hnsr_circuit::calls::next_due" × Plain.Known 𝓤 H A W 𝓣 0 ps·1 r·1
-            (claims· .2) (claims· .3) "lekchnam::relay::due_reply"
+        Knowns = Plain.Known 𝓤 H A W 𝓣 3 ps·0 r·0 (claims· .0) (claims· .1) "hnsr_circuit::calls::next_due" ×
+            Plain.Known 𝓤 H A W 𝓣 0 ps·1 r·1 (claims· .2) (claims· .3) "lekchnam::relay::due_reply"
+
       module _ (κs : Lifetimes.Lfts 3) (qs : Lifetimes.Shares 3) where
         abbrev life0 : Row.Life
         life0 = Row.lease (κs .0) (qs .0)
+
         abbrev life1 : Row.Life
         life1 = Row.lease (κs .1 .0) (qs .1 .0)
+
         abbrev life2 : Row.Life
         life2 = Row.lease (κs .1 .1 .0) (qs .1 .1 .0)
+
         abbrev G0 : Row.Cx
-        G0 = record { locals = t0; slots = life0 ∷ life1 ∷ life2 ∷ List.[]; }
+        G0 = record { locals = t0; slots = life0 ∷ life1 ∷ life2 ∷ List.[] }
+
         abbrev G1 : Row.Cx
-        G1 = record { locals = t1; slots = life0 ∷ life1 ∷ life2 ∷ List.[]; }
+        G1 = record { locals = t1; slots = life0 ∷ life1 ∷ life2 ∷ List.[] }
+
         abbrev G2 : Row.Cx
-        G2 = record { locals = t2; slots = life0 ∷ life1 ∷ life2 ∷ List.[]; }
+        G2 = record { locals = t2; slots = life0 ∷ life1 ∷ life2 ∷ List.[] }
+
         abbrev G3 : Row.Cx
-        G3 = record { locals = t3; slots = life0 ∷ life1 ∷ life2 ∷ List.[]; }
+        G3 = record { locals = t3; slots = life0 ∷ life1 ∷ life2 ∷ List.[] }
+
         abbrev G4 : Row.Cx
-        G4 = record { locals = t4; slots = life0 ∷ life1 ∷ life2 ∷ List.[]; }
+        G4 = record { locals = t4; slots = life0 ∷ life1 ∷ life2 ∷ List.[] }
+
         abbrev G5 : Row.Cx
-        G5 = record { locals = t5; slots = life0 ∷ life1 ∷ life2 ∷ List.[]; }
+        G5 = record { locals = t5; slots = life0 ∷ life1 ∷ life2 ∷ List.[] }
+
         abbrev G6 : Row.Cx
-        G6 = record { locals = t1; slots = life0 ∷ life1 ∷ life2 ∷ List.[]; }
+        G6 = record { locals = t1; slots = life0 ∷ life1 ∷ life2 ∷ List.[] }
+
         abbrev Δ0 : Typed.Outs
         Δ0 = record { next = Option.none; exits = List.[]; returns = Option.some G1 }
-        module _ { M : Type 1 } (𝓤 : URA.URA M) (H : Wp.Heap 𝓤) (A : Atoms.Atoms 𝓤) (W : Kit.Given 𝓤 H A) (𝓣 : Wp.Tables 𝓤 H) (known : Knowns 𝓤 H A W
-            𝓣) (bs : List.List Nat.ℕ) (bd : Lifetimes.AllOutlive 3 (Kinds.osR r) κs) where
+
+        module _ {M : Type 1} (𝓤 : URA.URA M) (H : Wp.Heap 𝓤) (A : Atoms.Atoms 𝓤) (W : Kit.Given 𝓤 H A)
+            (𝓣 : Wp.Tables 𝓤 H) (known : Knowns 𝓤 H A W 𝓣) (bs : List.List Nat.ℕ)
+            (bd : Lifetimes.AllOutlive 3 (Kinds.osR r) κs) where
           abbrev E : Wp.Env 𝓤 H
           E = Frame.EnvOf 𝓤 H ((Kinds.tyR r) ∷ (Enter.tysP ps xs)) bs
+
           d0 : Typed.Typed 𝓤 H A 𝓣 E G6 b2 Δ0 at0
           d0 = Typed.t-return 𝓤 H A W 𝓣 E Δ0 tt
+
           d1 : Typed.Typed 𝓤 H A 𝓣 E G5 b2 Δ0 at1
-          d1 = Typed.g-pre 𝓤 H A W 𝓣 E G5 G6 b2 Δ0 (Typed.pass T5 T6 s4) at0 (Scalar.g-room 𝓤 H A W E G5 6 Laws'.mir (Local.room-whole 𝓤 H A W
-              (Declared.row DueTold.the-type) Laws'.mir Path.refl)) d0
+          d1 = Typed.g-pre 𝓤 H A W 𝓣 E G5 G6 b2 Δ0 (Typed.pass T5 T6 s4) at0 (Scalar.g-room 𝓤 H A W E G5 6 Laws'.mir (Local.room-whole
+              𝓤 H A W (Declared.row DueTold.the-type) Laws'.mir Path.refl)) d0
+
           d2 : Typed.Typed 𝓤 H A 𝓣 E G4 b3 Δ0 at2
-          d2 = Typed.s-seq 𝓤 H A W 𝓣 E G4 G5 b1 b2 Δ0 (Typed.both s3) at1 (Plain.t-call-plain 𝓤 H A W 𝓣 0 ps·1 r·1 (claims· .2) (claims· .3)
-              "lekchnam::relay::due_reply" (known .1) E (λ pos β. β) G4 (record { pos = 6; st = List.[]; d = 0; at = λ x. x }, tt) 0 List.[]
-              (Call.sub-id 𝓤 H A W (G4 .slots)) ((Yields.yields-copy 𝓤 H A W (λ ρ. Unit) (Declared.row DueTold.the-type) Path.refl (Copies.cStruct
-              DueTold.the-type Laws'.the-laws Laws'.the-copy .copy 𝓤 H A W) (Rows.whole (Declared.row DueTold.the-type)) (λ x. x) (λ x. x) (λ ρ told.
-              Local.mem-whole 𝓤 H A W (Declared.row DueTold.the-type) ρ) λ ρ told. Local.whole-mem 𝓤 H A W (Declared.row DueTold.the-type) ρ,
-              Path.refl,), tt,) (Reads.room-gone 𝓤 H A Laws'''.mir) tt Path.refl) d1
+          d2 = Typed.s-seq 𝓤 H A W 𝓣 E G4 G5 b1 b2 Δ0 (Typed.both s3) at1 (Plain.t-call-plain 𝓤 H A W 𝓣 0 ps·1 r·1
+              (claims· .2) (claims· .3) "lekchnam::relay::due_reply" (known .1) E (λ pos β. β) G4
+              (record { pos = 6; st = List.[]; d = 0; at = λ x. x }, tt) 0 List.[] (Call.sub-id 𝓤 H A W (G4 .slots)) (
+                (
+                  Yields.yields-copy 𝓤 H A W (λ ρ. Unit) (Declared.row DueTold.the-type) Path.refl (Copies.cStruct
+                      DueTold.the-type Laws'.the-laws Laws'.the-copy .copy 𝓤 H A W)
+                      (Rows.whole (Declared.row DueTold.the-type)) (λ x. x) (λ x. x) (λ ρ told. Local.mem-whole 𝓤 H A W
+                      (Declared.row DueTold.the-type) ρ) λ ρ told. Local.whole-mem 𝓤 H A W
+                      (Declared.row DueTold.the-type) ρ,
+                  Path.refl,
+                ),
+                tt,
+              ) (Reads.room-gone 𝓤 H A Laws'''.mir) tt Path.refl) d1
+
           d3 : Typed.Typed 𝓤 H A 𝓣 E G3 b3 Δ0 at3
-          d3 = Typed.g-pre 𝓤 H A W 𝓣 E G3 G4 b3 Δ0 (Typed.pass T3 T4 s2) at2 (Scalar.g-room 𝓤 H A W E G3 5 Laws.mir (Local.room-whole 𝓤 H A W
-              (Declared.row Places.the-type) Laws.mir Path.refl)) d2
+          d3 = Typed.g-pre 𝓤 H A W 𝓣 E G3 G4 b3 Δ0 (Typed.pass T3 T4 s2) at2 (Scalar.g-room 𝓤 H A W E G3 5 Laws.mir (Local.room-whole
+              𝓤 H A W (Declared.row Places.the-type) Laws.mir Path.refl)) d2
+
           d4 : Typed.Typed 𝓤 H A 𝓣 E G2 b3 Δ0 at4
-          d4 = Typed.g-pre 𝓤 H A W 𝓣 E G2 G3 b3 Δ0 (Typed.pass T2 T3 s1) at3 (Scalar.g-room 𝓤 H A W E G2 4 Laws''.mir (Local.room-whole 𝓤 H A W
-              (Declared.row OpaqueRelayRuntime.the-type) Laws''.mir Path.refl)) d3
+          d4 = Typed.g-pre 𝓤 H A W 𝓣 E G2 G3 b3 Δ0 (Typed.pass T2 T3 s1) at3 (Scalar.g-room 𝓤 H A W E G2 4 Laws''.mir (Local.room-whole
+              𝓤 H A W (Declared.row OpaqueRelayRuntime.the-type) Laws''.mir Path.refl)) d3
+
           d5 : Typed.Typed 𝓤 H A 𝓣 E G0 b4 Δ0 at5
-          d5 = Typed.s-seq 𝓤 H A W 𝓣 E G0 G2 b0 b3 Δ0 (Typed.both s0) at4 (Plain.t-call-plain 𝓤 H A W 𝓣 3 ps·0 r·0 (claims· .0) (claims· .1)
-              "hnsr_circuit::calls::next_due" (known .0) E (λ pos β. β) G0 (record { pos = 1; ty = Syntax.tyRef (Syntax.named 0) Syntax.imm
-              RelayPending.to; ref = λ x. x; }, (record { pos = 2; ty = Syntax.tyRef (Syntax.named 1) Syntax.imm RelayCircuit.to; ref = λ x. x; },
-              (record { pos = 3; ty = Syntax.tyRef (Syntax.named 2) Syntax.imm InflightAction.to; ref = λ x. x; }, (record { pos = 4; st = List.[]; d
-              = 0; at = λ x. x }, (record { pos = 5; st = List.[]; d = 0; at = λ x. x }, tt),),),),) 6 (0 ∷ 1 ∷ 2 ∷ List.[]) (Call.sub-id 𝓤 H A W (G0
-              .slots)) (ShrSlice.spares-sslice 𝓤 H A W RelayPending.row ref0 0, Shared.reads-sslice 𝓤 H A W RelayPending.row ref0 0, Path.refl,
-              (ShrSlice.spares-sslice 𝓤 H A W RelayCircuit.row ref1 1, Shared.reads-sslice 𝓤 H A W RelayCircuit.row ref1 1, Path.refl,
-              (ShrSlice.spares-sslice 𝓤 H A W InflightAction.row ref2 2, Shared.reads-sslice 𝓤 H A W InflightAction.row ref2 2, Path.refl,
-              ((Yields.yields-copy 𝓤 H A W (λ ρ. Unit) (Declared.row OpaqueRelayRuntime.the-type) Path.refl (Copies.cStruct
-              OpaqueRelayRuntime.the-type Laws''.the-laws Laws''.the-copy .copy 𝓤 H A W) (Rows.whole (Declared.row OpaqueRelayRuntime.the-type)) (λ x.
-              x) (λ x. x) (λ ρ told. Local.mem-whole 𝓤 H A W (Declared.row OpaqueRelayRuntime.the-type) ρ) λ ρ told. Local.whole-mem 𝓤 H A W
-              (Declared.row OpaqueRelayRuntime.the-type) ρ, Path.refl,), ((Yields.yields-copy 𝓤 H A W (λ ρ. Unit) (Declared.row Places.the-type)
-              Path.refl (Copies.cStruct Places.the-type Laws.the-laws Laws.the-copy .copy 𝓤 H A W) (Rows.whole (Declared.row Places.the-type)) (λ x.
-              x) (λ x. x) (λ ρ told. Local.mem-whole 𝓤 H A W (Declared.row Places.the-type) ρ) λ ρ told. Local.whole-mem 𝓤 H A W (Declared.row
-              Places.the-type) ρ, Path.refl,), tt,),),),),) (Reads.room-gone 𝓤 H A Laws'.mir) (tt, (tt, (tt, tt))) Path.refl) d4
+          d5 = Typed.s-seq 𝓤 H A W 𝓣 E G0 G2 b0 b3 Δ0 (Typed.both s0) at4 (Plain.t-call-plain 𝓤 H A W 𝓣 3 ps·0 r·0
+              (claims· .0) (claims· .1) "hnsr_circuit::calls::next_due" (known .0) E (λ pos β. β) G0 (
+                record { pos = 1; ty = ref0; ref = λ x. x },
+                (
+                  record { pos = 2; ty = ref1; ref = λ x. x },
+                  (
+                    record { pos = 3; ty = ref2; ref = λ x. x },
+                    (
+                      record { pos = 4; st = List.[]; d = 0; at = λ x. x },
+                      (record { pos = 5; st = List.[]; d = 0; at = λ x. x }, tt),
+                    ),
+                  ),
+                ),
+              ) 6 (0 ∷ 1 ∷ 2 ∷ List.[]) (Call.sub-id 𝓤 H A W (G0 .slots)) (
+                ShrSlice.spares-sslice 𝓤 H A W RelayPending.row ref0 0,
+                Shared.reads-sslice 𝓤 H A W RelayPending.row ref0 0,
+                Path.refl,
+                (
+                  ShrSlice.spares-sslice 𝓤 H A W RelayCircuit.row ref1 1,
+                  Shared.reads-sslice 𝓤 H A W RelayCircuit.row ref1 1,
+                  Path.refl,
+                  (
+                    ShrSlice.spares-sslice 𝓤 H A W InflightAction.row ref2 2,
+                    Shared.reads-sslice 𝓤 H A W InflightAction.row ref2 2,
+                    Path.refl,
+                    (
+                      (
+                        Yields.yields-copy 𝓤 H A W (λ ρ. Unit) (Declared.row OpaqueRelayRuntime.the-type) Path.refl (Copies.cStruct
+                            OpaqueRelayRuntime.the-type Laws''.the-laws Laws''.the-copy .copy 𝓤 H A W)
+                            (Rows.whole (Declared.row OpaqueRelayRuntime.the-type)) (λ x. x) (λ x. x) (λ ρ told.
+                            Local.mem-whole 𝓤 H A W (Declared.row OpaqueRelayRuntime.the-type) ρ) λ ρ told.
+                            Local.whole-mem 𝓤 H A W (Declared.row OpaqueRelayRuntime.the-type) ρ,
+                        Path.refl,
+                      ),
+                      (
+                        (
+                          Yields.yields-copy 𝓤 H A W (λ ρ. Unit) (Declared.row Places.the-type) Path.refl (Copies.cStruct
+                              Places.the-type Laws.the-laws Laws.the-copy .copy 𝓤 H A W)
+                              (Rows.whole (Declared.row Places.the-type)) (λ x. x) (λ x. x) (λ ρ told. Local.mem-whole
+                              𝓤 H A W (Declared.row Places.the-type) ρ) λ ρ told. Local.whole-mem 𝓤 H A W
+                              (Declared.row Places.the-type) ρ,
+                          Path.refl,
+                        ),
+                        tt,
+                      ),
+                    ),
+                  ),
+                ),
+              ) (Reads.room-gone 𝓤 H A Laws'.mir) (tt, (tt, (tt, tt))) Path.refl) d4
+
           pub typed : Typed.Typed 𝓤 H A 𝓣 E (Function.Γin 3 ps r xs m κs qs) b4 (Function.Δret 3 ps r xs m κs qs) Φ
           typed = d5
+
       module _ (κs : Lifetimes.Lfts 3) where
         pub record Args : Type 0 where
-          pub pending : Kinds.Den { n = 3 } κs (ShrSlice.pShrS RelayPending.row 0 tt)
-          pub circuits : Kinds.Den { n = 3 } κs (ShrSlice.pShrS RelayCircuit.row 1 tt)
-          pub inflight : Kinds.Den { n = 3 } κs (ShrSlice.pShrS InflightAction.row 2 tt)
-          pub runtime : Kinds.Den { n = 3 } κs (Value.pVal record { ty = Declared.row OpaqueRelayRuntime.the-type; one = Path.refl; val = Laws''''.val
-              OpaqueRelayRuntime.the-type Laws''.the-laws; tells = Laws''''.tells OpaqueRelayRuntime.the-type Laws''.the-laws; still = Laws''''.still
-              OpaqueRelayRuntime.the-type Laws''.the-copy Exit.yes; row = Rows.whole (Declared.row OpaqueRelayRuntime.the-type); rd = λ x. x; mk = λ
-              x. x; } λ M 𝓤 H A W. record { copies = Laws''''.copy OpaqueRelayRuntime.the-type Laws''.the-copy 𝓤 H A W; lawful = Laws''''.lawful
-              OpaqueRelayRuntime.the-type Laws''.the-laws 𝓤 H A W; makes = Laws''''.makes OpaqueRelayRuntime.the-type Laws''.the-plain 𝓤 H A; in-mem =
-              Local.mem-whole 𝓤 H A W (Declared.row OpaqueRelayRuntime.the-type); of-mem = Local.whole-mem 𝓤 H A W (Declared.row
-              OpaqueRelayRuntime.the-type); })
-          pub places : Kinds.Den { n = 3 } κs (Value.pVal record { ty = Declared.row Places.the-type; one = Path.refl; val = Laws''''.val
-              Places.the-type Laws.the-laws; tells = Laws''''.tells Places.the-type Laws.the-laws; still = Laws''''.still Places.the-type
-              Laws.the-copy Exit.yes; row = Rows.whole (Declared.row Places.the-type); rd = λ x. x; mk = λ x. x; } λ M 𝓤 H A W. record { copies =
-              Laws''''.copy Places.the-type Laws.the-copy 𝓤 H A W; lawful = Laws''''.lawful Places.the-type Laws.the-laws 𝓤 H A W; makes =
-              Laws''''.makes Places.the-type Laws.the-plain 𝓤 H A; in-mem = Local.mem-whole 𝓤 H A W (Declared.row Places.the-type); of-mem =
-              Local.whole-mem 𝓤 H A W (Declared.row Places.the-type); })
+          pub pending : Kinds.Den {n = 3} κs (ShrSlice.pShrS RelayPending.row 0 tt)
+          pub circuits : Kinds.Den {n = 3} κs (ShrSlice.pShrS RelayCircuit.row 1 tt)
+          pub inflight : Kinds.Den {n = 3} κs (ShrSlice.pShrS InflightAction.row 2 tt)
+          pub runtime : Kinds.Den {n = 3} κs (StructRow.param OpaqueRelayRuntime.the-type Laws''.the-laws
+              Laws''.the-copy Laws''.the-plain)
+          pub places : Kinds.Den {n = 3} κs (StructRow.param Places.the-type Laws.the-laws Laws.the-copy Laws.the-plain)
+
         abbrev pub dens : (a : Args) → Kinds.Dens κs ps
         dens = λ a. (a .pending, (a .circuits, (a .inflight, (a .runtime, (a .places, tt)))))
+
       abbrev pub m0 : (κs : Lifetimes.Lfts 3) → (args : Args κs) → Typed.Mo T0
       m0 = λ κs args. (tt, Enter.partsP κs 1 ps xs (dens κs args))
+
       abbrev W0 : (κs : Lifetimes.Lfts 3) → (args : Args κs) → Typed.Want O0
-      W0 = λ κs args. (λ u. ⊥, tt, λ u. Enter.Fixs κs 1 ps xs (dens κs args) (u .1) × Post· κs (dens κs args) (Function.resV r κs (u .0))
-          (Clauses.atExit (Kinds.endedOf 3 ps r) κs (dens κs args) (Enter.lastsP κs 1 ps xs (dens κs args) (u .1))),)
+      W0 = λ κs args. (
+        λ u. ⊥,
+        tt,
+        λ u. Enter.Fixs κs 1 ps xs (dens κs args) (u .1) × Post· κs (dens κs args) (Function.resV r κs (u .0)) (Clauses.atExit
+            (Kinds.endedOf 3 ps r) κs (dens κs args) (Enter.lastsP κs 1 ps xs (dens κs args) (u .1))),
+      )
+
       pub record Start : Type 0 where
         pub κs : Lifetimes.Lfts 3
         pub args : Args κs
         pub good : Kinds.GoodsP κs ps (dens κs args)
         pub pre : Pre· κs (dens κs args)
+
       abbrev pub Need-next-due-requires : Type 0
       Need-next-due-requires = (c : Start) → s0 .asks (m0 (c .κs) (c .args))
+
       abbrev pub m1 : (before : Start) → (given : s0 .gives (m0 (before .κs) (before .args))) → Typed.Mo T2
       m1 = λ before given. s0 .next (m0 (before .κs) (before .args)) given
+
       module _ (before· : Start) where
         abbrev pub After-next-due·own : Type 0
-        After-next-due·own = Called.Called ps·0 r·0 (claims· .1) T0 (record { pos = 1; ty = Syntax.tyRef (Syntax.named 0) Syntax.imm RelayPending.to;
-            ref = λ x. x; }, (record { pos = 2; ty = Syntax.tyRef (Syntax.named 1) Syntax.imm RelayCircuit.to; ref = λ x. x; }, (record { pos = 3; ty
-            = Syntax.tyRef (Syntax.named 2) Syntax.imm InflightAction.to; ref = λ x. x; }, (record { pos = 4; st = List.[]; d = 0; at = λ x. x },
-            (record { pos = 5; st = List.[]; d = 0; at = λ x. x }, tt),),),),) (m0 (before· .κs) (before· .args))
+        After-next-due·own = Called.Called ps·0 r·0 (claims· .1) T0 args0 (m0 (before· .κs) (before· .args))
+
       pub record After-next-due : Type 0 where
         pub before : Start
         pub next-due : After-next-due·own before
+
       abbrev pub After-next-due·gave : (c : After-next-due) → s0 .gives (m0 (c .before .κs) (c .before .args))
-      After-next-due·gave = λ c. Called.given ps·0 r·0 (claims· .1) T0 (record { pos = 1; ty = Syntax.tyRef (Syntax.named 0) Syntax.imm
-          RelayPending.to; ref = λ x. x; }, (record { pos = 2; ty = Syntax.tyRef (Syntax.named 1) Syntax.imm RelayCircuit.to; ref = λ x. x; }, (record
-          { pos = 3; ty = Syntax.tyRef (Syntax.named 2) Syntax.imm InflightAction.to; ref = λ x. x; }, (record { pos = 4; st = List.[]; d = 0; at = λ
-          x. x }, (record { pos = 5; st = List.[]; d = 0; at = λ x. x }, tt),),),),) (m0 (c .before .κs) (c .before .args)) (c .next-due)
+      After-next-due·gave = λ c. Called.given ps·0 r·0 (claims· .1) T0 args0 (m0 (c .before .κs) (c .before .args))
+          (c .next-due)
+
       abbrev pub m2 : (before : Start) → (given : s0 .gives (m0 (before .κs) (before .args))) → Typed.Mo T3
       m2 = λ before given. s1 (m1 before given)
+
       abbrev pub m3 : (before : Start) → (given : s0 .gives (m0 (before .κs) (before .args))) → Typed.Mo T4
       m3 = λ before given. s2 (m2 before given)
+
       abbrev pub Need-due-reply-requires : Type 0
       Need-due-reply-requires = (c : After-next-due) → s3 .asks (m3 (c .before) (After-next-due·gave c))
-      abbrev pub m4 : (before : After-next-due) → (given : s3 .gives (m3 (before .before) (After-next-due·gave before))) → Typed.Mo T5
+
+      abbrev pub m4 : (before : After-next-due) → (given : s3 .gives (m3 (before .before) (After-next-due·gave before)))
+          → Typed.Mo T5
       m4 = λ before given. s3 .next (m3 (before .before) (After-next-due·gave before)) given
+
       module _ (before· : After-next-due) where
         abbrev pub After-due-reply·own : Type 0
-        After-due-reply·own = Called.Called ps·1 r·1 (claims· .3) T4 (record { pos = 6; st = List.[]; d = 0; at = λ x. x }, tt,) (m3 (before· .before)
-            (After-next-due·gave before·))
+        After-due-reply·own = Called.Called ps·1 r·1 (claims· .3) T4 args3
+            (m3 (before· .before) (After-next-due·gave before·))
+
       pub record After-due-reply : Type 0 where
         pub before : After-next-due
         pub due-reply : After-due-reply·own before
-      abbrev pub After-due-reply·gave : (c : After-due-reply) → s3 .gives (m3 (c .before .before) (After-next-due·gave (c .before)))
-      After-due-reply·gave = λ c. Called.given ps·1 r·1 (claims· .3) T4 (record { pos = 6; st = List.[]; d = 0; at = λ x. x }, tt,) (m3 (c .before
-          .before) (After-next-due·gave (c .before))) (c .due-reply)
-      abbrev pub m5 : (before : After-next-due) → (given : s3 .gives (m3 (before .before) (After-next-due·gave before))) → Typed.Mo T6
+
+      abbrev pub After-due-reply·gave : (c : After-due-reply) → s3 .gives
+          (m3 (c .before .before) (After-next-due·gave (c .before)))
+      After-due-reply·gave = λ c. Called.given ps·1 r·1 (claims· .3) T4 args3
+          (m3 (c .before .before) (After-next-due·gave (c .before))) (c .due-reply)
+
+      abbrev pub m5 : (before : After-next-due) → (given : s3 .gives (m3 (before .before) (After-next-due·gave before)))
+          → Typed.Mo T6
       m5 = λ before given. s4 (m4 before given)
+
       abbrev pub Need-returns : Type 0
-      Need-returns = (c : After-due-reply) → Post· (c .before .before .κs) (dens (c .before .before .κs) (c .before .before .args)) (Function.resV r
-          (c .before .before .κs) (m5 (c .before) (After-due-reply·gave c) .0)) (Clauses.atExit (Kinds.endedOf 3 ps r) (c .before .before .κs) (dens
-          (c .before .before .κs) (c .before .before .args)) (Enter.lastsP (c .before .before .κs) 1 ps xs (dens (c .before .before .κs) (c .before
-          .before .args)) (m5 (c .before) (After-due-reply·gave c) .1)))
-      module _ (next-due-requires : Need-next-due-requires) (due-reply-requires : Need-due-reply-requires) (returns : Need-returns) where
-        lay2 : (c : After-due-reply) → at1 (W0 (c .before .before .κs) (c .before .before .args)) (m4 (c .before) (After-due-reply·gave c))
-        lay2 = λ c. ((Path.refl, (Path.refl, (Path.refl, (tt, (tt, tt))))), returns record { before = c .before; due-reply = c .due-reply },)
-        lay1 : (c : After-next-due) → at4 (W0 (c .before .κs) (c .before .args)) (m1 (c .before) (After-next-due·gave c))
-        lay1 = λ c. (due-reply-requires record { before = c .before; next-due = c .next-due }, λ g. lay2 record { before = record { before = c
-            .before; next-due = c .next-due }; due-reply = Called.called ps·1 r·1 (claims· .3) T4 (record { pos = 6; st = List.[]; d = 0; at = λ x. x
-            }, tt,) (m3 (c .before) (After-next-due·gave c)) g; },)
+      Need-returns = (c : After-due-reply) → Post· (c .before .before .κs)
+          (dens (c .before .before .κs) (c .before .before .args)) (Function.resV r (c .before .before .κs)
+          (m5 (c .before) (After-due-reply·gave c) .0)) (Clauses.atExit (Kinds.endedOf 3 ps r) (c .before .before .κs)
+          (dens (c .before .before .κs) (c .before .before .args)) (Enter.lastsP (c .before .before .κs) 1 ps xs
+          (dens (c .before .before .κs) (c .before .before .args)) (m5 (c .before) (After-due-reply·gave c) .1)))
+
+      module _ (next-due-requires : Need-next-due-requires) (due-reply-requires : Need-due-reply-requires)
+          (returns : Need-returns) where
+        lay2 : (c : After-due-reply) → at1 (W0 (c .before .before .κs) (c .before .before .args))
+            (m4 (c .before) (After-due-reply·gave c))
+        lay2 = λ c. (
+          (Path.refl, (Path.refl, (Path.refl, (tt, (tt, tt))))),
+          returns record { before = c .before; due-reply = c .due-reply },
+        )
+
+        lay1 : (c : After-next-due) → at4 (W0 (c .before .κs) (c .before .args))
+            (m1 (c .before) (After-next-due·gave c))
+        lay1 = λ c. (
+          due-reply-requires record { before = c .before; next-due = c .next-due },
+          λ g. lay2 record {
+            before = record { before = c .before; next-due = c .next-due };
+            due-reply = Called.called ps·1 r·1 (claims· .3) T4 args3 (m3 (c .before) (After-next-due·gave c)) g;
+          },
+        )
+
         pub laid : (c : Start) → at5 (W0 (c .κs) (c .args)) (m0 (c .κs) (c .args))
-        laid = λ c. (next-due-requires c, λ g. lay1 record { before = c; next-due = Called.called ps·0 r·0 (claims· .1) T0 (record { pos = 1; ty =
-            Syntax.tyRef (Syntax.named 0) Syntax.imm RelayPending.to; ref = λ x. x; }, (record { pos = 2; ty = Syntax.tyRef (Syntax.named 1)
-            Syntax.imm RelayCircuit.to; ref = λ x. x; }, (record { pos = 3; ty = Syntax.tyRef (Syntax.named 2) Syntax.imm InflightAction.to; ref = λ
-            x. x; }, (record { pos = 4; st = List.[]; d = 0; at = λ x. x }, (record { pos = 5; st = List.[]; d = 0; at = λ x. x }, tt),),),),) (m0 (c
-            .κs) (c .args)) g; },)
+        laid = λ c. (
+          next-due-requires c,
+          λ g. lay1 record {
+            before = c;
+            next-due = Called.called ps·0 r·0 (claims· .1) T0 args0 (m0 (c .κs) (c .args)) g;
+          },
+        )
+
         module _ (κs : Lifetimes.Lfts 3) (qs : Lifetimes.Shares 3) where
-          pub asked : (a : Kinds.Dens κs ps) → (good : Kinds.GoodsP κs ps a) → (pre : Pre· κs a) → (bs : List.List Nat.ℕ) → Φ (Any.wantQ 3 ps r xs m
-              κs qs a (Post· κs a)) (Function.init 3 ps r xs m κs qs a)
-          asked = λ a good pre bs. laid record { κs = κs; args = record { pending = a .0; circuits = a .1 .0; inflight = a .1 .1 .0; runtime = a .1 .1
-              .1 .0; places = a .1 .1 .1 .1 .0; }; good = good; pre = pre; }
-        module _ { M : Type 1 } (𝓤 : URA.URA M) (H : Wp.Heap 𝓤) (A : Atoms.Atoms 𝓤) (W : Kit.Given 𝓤 H A) (𝓣 : Wp.Tables 𝓤 H) (known0 : Plain.Known 𝓤
-            H A W 𝓣 3 ps·0 r·0 (claims· .0) (claims· .1) "hnsr_circuit::calls::next_due") (known1 : Plain.Known 𝓤 H A W 𝓣 0 ps·1 r·1 (claims· .2)
-            (claims· .3) "lekchnam::relay::due_reply") where
-          pub spec : Statement.Triple 𝓤 (Wp.WpFn 𝓤 H (𝓣 .C) (𝓣 .Λ) (Function.fnOf 3 ps r xs m hs body)) (Function.plainOf 𝓤 H A 3 ps r Pre· Post·)
-          spec = Plain.t-fn-plain 𝓤 H A W 𝓣 3 ps r xs m hs body (λ κs qs bs. Φ) (λ κs qs bs bd. typed κs qs 𝓤 H A W 𝓣 (known0, known1) bs bd) Pre·
-              Post· asked
+          pub asked : (a : Kinds.Dens κs ps) → (good : Kinds.GoodsP κs ps a) → (pre : Pre· κs a) →
+              (bs : List.List Nat.ℕ) → Φ (Any.wantQ 3 ps r xs m κs qs a (Post· κs a))
+              (Function.init 3 ps r xs m κs qs a)
+          asked = λ a good pre bs. laid record {
+            κs = κs;
+            args = record {
+              pending = a .0;
+              circuits = a .1 .0;
+              inflight = a .1 .1 .0;
+              runtime = a .1 .1 .1 .0;
+              places = a .1 .1 .1 .1 .0;
+            };
+            good = good;
+            pre = pre;
+          }
+
+        module _ {M : Type 1} (𝓤 : URA.URA M) (H : Wp.Heap 𝓤) (A : Atoms.Atoms 𝓤) (W : Kit.Given 𝓤 H A)
+            (𝓣 : Wp.Tables 𝓤 H) (known0 : Plain.Known 𝓤 H A W 𝓣 3 ps·0 r·0 (claims· .0) (claims· .1)
+            "hnsr_circuit::calls::next_due") (known1 : Plain.Known 𝓤 H A W 𝓣 0 ps·1 r·1 (claims· .2) (claims· .3)
+            "lekchnam::relay::due_reply") where
+          pub spec : Statement.Triple 𝓤 (Wp.WpFn 𝓤 H (𝓣 .C) (𝓣 .Λ) (Function.fnOf 3 ps r xs m hs body))
+              (Function.plainOf 𝓤 H A 3 ps r Pre· Post·)
+          spec = Plain.t-fn-plain 𝓤 H A W 𝓣 3 ps r xs m hs body (λ κs qs bs. Φ) (λ κs qs bs bd. typed κs qs 𝓤 H A W 𝓣
+              (known0, known1) bs bd) Pre· Post· asked

@@ -6,38 +6,21 @@ use Rattle.hnsr_circuit.proofs.runtime.OpaqueRelayRuntime.Laws as Laws'
 use Rattle.lekchnam.proofs.By.InflightAction
 use Rattle.lekchnam.proofs.By.RelayCircuit
 use Rattle.lekchnam.proofs.By.RelayPending
+use Rattle.lekchnam.proofs.StructRow
 use Rattle.lekchnam.proofs.relay.RelayReply
 use Rattle.lekchnam.proofs.relay.RelayReply.Laws as Laws''
 use borrow.Fn.Kinds
 use borrow.Kind.MutSlice
-use borrow.Kind.Value
-use borrow.Rule.Local
 use borrow.Table.Referent
-use borrow.Table.Rows
-use denote.Exit
-use denote.Struct.Declared
-use denote.Struct.Laws as Laws'''
 use mathlib.Core.List
-use mathlib.Core.Path
 use mir.Syntax
 use mathlib.Core.List.{_∷_}
 
 abbrev pub ps : List.List (Kinds.PK 4)
-ps = (MutSlice.pMutS RelayPending.row 0 tt) ∷ (MutSlice.pMutS RelayCircuit.row 1 tt) ∷ (MutSlice.pMutS InflightAction.row 2 tt) ∷ (MutSlice.pMutS
-    (Referent.rtF (Referent.fInt Syntax.w32)) 3 tt) ∷ (Value.pVal record { ty = Declared.row OpaqueRelayRuntime.the-type; one = Path.refl; val =
-    Laws'''.val OpaqueRelayRuntime.the-type Laws'.the-laws; tells = Laws'''.tells OpaqueRelayRuntime.the-type Laws'.the-laws; still = Laws'''.still
-    OpaqueRelayRuntime.the-type Laws'.the-copy Exit.yes; row = Rows.whole (Declared.row OpaqueRelayRuntime.the-type); rd = λ x. x; mk = λ x. x; } λ M
-    𝓤 H A W. record { copies = Laws'''.copy OpaqueRelayRuntime.the-type Laws'.the-copy 𝓤 H A W; lawful = Laws'''.lawful OpaqueRelayRuntime.the-type
-    Laws'.the-laws 𝓤 H A W; makes = Laws'''.makes OpaqueRelayRuntime.the-type Laws'.the-plain 𝓤 H A; in-mem = Local.mem-whole 𝓤 H A W (Declared.row
-    OpaqueRelayRuntime.the-type); of-mem = Local.whole-mem 𝓤 H A W (Declared.row OpaqueRelayRuntime.the-type); }) ∷ (Value.pVal record { ty =
-    Declared.row Places.the-type; one = Path.refl; val = Laws'''.val Places.the-type Laws.the-laws; tells = Laws'''.tells Places.the-type
-    Laws.the-laws; still = Laws'''.still Places.the-type Laws.the-copy Exit.yes; row = Rows.whole (Declared.row Places.the-type); rd = λ x. x; mk = λ
-    x. x; } λ M 𝓤 H A W. record { copies = Laws'''.copy Places.the-type Laws.the-copy 𝓤 H A W; lawful = Laws'''.lawful Places.the-type Laws.the-laws 𝓤
-    H A W; makes = Laws'''.makes Places.the-type Laws.the-plain 𝓤 H A; in-mem = Local.mem-whole 𝓤 H A W (Declared.row Places.the-type); of-mem =
-    Local.whole-mem 𝓤 H A W (Declared.row Places.the-type); }) ∷ (Kinds.pNum Syntax.w64) ∷ Kinds.pBool ∷ List.[]
+ps = (MutSlice.pMutS RelayPending.row 0 tt) ∷ (MutSlice.pMutS RelayCircuit.row 1 tt) ∷
+    (MutSlice.pMutS InflightAction.row 2 tt) ∷ (MutSlice.pMutS (Referent.rtF (Referent.fInt Syntax.w32)) 3 tt) ∷ (StructRow.param
+    OpaqueRelayRuntime.the-type Laws'.the-laws Laws'.the-copy Laws'.the-plain) ∷ (StructRow.param Places.the-type
+    Laws.the-laws Laws.the-copy Laws.the-plain) ∷ (Kinds.pNum Syntax.w64) ∷ Kinds.pBool ∷ List.[]
+
 abbrev pub r : Kinds.RK 4
-r = Value.rVal record { ty = Declared.row RelayReply.the-type; one = Path.refl; val = Laws'''.val RelayReply.the-type Laws''.the-laws; tells =
-    Laws'''.tells RelayReply.the-type Laws''.the-laws; still = Laws'''.still RelayReply.the-type Laws''.the-copy Exit.yes; row = Rows.whole
-    (Declared.row RelayReply.the-type); rd = λ x. x; mk = λ x. x; } λ M 𝓤 H A W. record { copies = Laws'''.copy RelayReply.the-type Laws''.the-copy 𝓤
-    H A W; lawful = Laws'''.lawful RelayReply.the-type Laws''.the-laws 𝓤 H A W; makes = Laws'''.makes RelayReply.the-type Laws''.the-plain 𝓤 H A;
-    in-mem = Local.mem-whole 𝓤 H A W (Declared.row RelayReply.the-type); of-mem = Local.whole-mem 𝓤 H A W (Declared.row RelayReply.the-type); }
+r = StructRow.result RelayReply.the-type Laws''.the-laws Laws''.the-copy Laws''.the-plain

@@ -6,36 +6,19 @@ use Rattle.hnsr_circuit.proofs.runtime.OpaqueRelayRuntime.Laws as Laws'
 use Rattle.lekchnam.proofs.By.InflightAction
 use Rattle.lekchnam.proofs.By.RelayCircuit
 use Rattle.lekchnam.proofs.By.RelayPending
+use Rattle.lekchnam.proofs.StructRow
 use Rattle.lekchnam.proofs.relay.StatusReply
 use Rattle.lekchnam.proofs.relay.StatusReply.Laws as Laws''
 use borrow.Fn.Kinds
 use borrow.Kind.ShrSlice
-use borrow.Kind.Value
-use borrow.Rule.Local
-use borrow.Table.Rows
-use denote.Exit
-use denote.Struct.Declared
-use denote.Struct.Laws as Laws'''
 use mathlib.Core.List
-use mathlib.Core.Path
 use mathlib.Core.List.{_∷_}
 
 abbrev pub ps : List.List (Kinds.PK 3)
-ps = (ShrSlice.pShrS RelayPending.row 0 tt) ∷ (ShrSlice.pShrS RelayCircuit.row 1 tt) ∷ (ShrSlice.pShrS InflightAction.row 2 tt) ∷ (Value.pVal record {
-    ty = Declared.row OpaqueRelayRuntime.the-type; one = Path.refl; val = Laws'''.val OpaqueRelayRuntime.the-type Laws'.the-laws; tells =
-    Laws'''.tells OpaqueRelayRuntime.the-type Laws'.the-laws; still = Laws'''.still OpaqueRelayRuntime.the-type Laws'.the-copy Exit.yes; row =
-    Rows.whole (Declared.row OpaqueRelayRuntime.the-type); rd = λ x. x; mk = λ x. x; } λ M 𝓤 H A W. record { copies = Laws'''.copy
-    OpaqueRelayRuntime.the-type Laws'.the-copy 𝓤 H A W; lawful = Laws'''.lawful OpaqueRelayRuntime.the-type Laws'.the-laws 𝓤 H A W; makes =
-    Laws'''.makes OpaqueRelayRuntime.the-type Laws'.the-plain 𝓤 H A; in-mem = Local.mem-whole 𝓤 H A W (Declared.row OpaqueRelayRuntime.the-type);
-    of-mem = Local.whole-mem 𝓤 H A W (Declared.row OpaqueRelayRuntime.the-type); }) ∷ (Value.pVal record { ty = Declared.row Places.the-type; one =
-    Path.refl; val = Laws'''.val Places.the-type Laws.the-laws; tells = Laws'''.tells Places.the-type Laws.the-laws; still = Laws'''.still
-    Places.the-type Laws.the-copy Exit.yes; row = Rows.whole (Declared.row Places.the-type); rd = λ x. x; mk = λ x. x; } λ M 𝓤 H A W. record { copies
-    = Laws'''.copy Places.the-type Laws.the-copy 𝓤 H A W; lawful = Laws'''.lawful Places.the-type Laws.the-laws 𝓤 H A W; makes = Laws'''.makes
-    Places.the-type Laws.the-plain 𝓤 H A; in-mem = Local.mem-whole 𝓤 H A W (Declared.row Places.the-type); of-mem = Local.whole-mem 𝓤 H A W
-    (Declared.row Places.the-type); }) ∷ List.[]
+ps = (ShrSlice.pShrS RelayPending.row 0 tt) ∷ (ShrSlice.pShrS RelayCircuit.row 1 tt) ∷
+    (ShrSlice.pShrS InflightAction.row 2 tt) ∷ (StructRow.param OpaqueRelayRuntime.the-type Laws'.the-laws
+    Laws'.the-copy Laws'.the-plain) ∷ (StructRow.param Places.the-type Laws.the-laws Laws.the-copy Laws.the-plain) ∷
+    List.[]
+
 abbrev pub r : Kinds.RK 3
-r = Value.rVal record { ty = Declared.row StatusReply.the-type; one = Path.refl; val = Laws'''.val StatusReply.the-type Laws''.the-laws; tells =
-    Laws'''.tells StatusReply.the-type Laws''.the-laws; still = Laws'''.still StatusReply.the-type Laws''.the-copy Exit.yes; row = Rows.whole
-    (Declared.row StatusReply.the-type); rd = λ x. x; mk = λ x. x; } λ M 𝓤 H A W. record { copies = Laws'''.copy StatusReply.the-type Laws''.the-copy
-    𝓤 H A W; lawful = Laws'''.lawful StatusReply.the-type Laws''.the-laws 𝓤 H A W; makes = Laws'''.makes StatusReply.the-type Laws''.the-plain 𝓤 H A;
-    in-mem = Local.mem-whole 𝓤 H A W (Declared.row StatusReply.the-type); of-mem = Local.whole-mem 𝓤 H A W (Declared.row StatusReply.the-type); }
+r = StructRow.result StatusReply.the-type Laws''.the-laws Laws''.the-copy Laws''.the-plain

@@ -15,89 +15,84 @@ use borrow.Fn.Run
 use borrow.Fn.Written
 use contract.Running
 
+abbrev pub readings : Lts.Claims
+readings = (Reads.Asked, Reads.Learnt, Reads''.Asked, Reads''.Learnt)
+
 abbrev pub Start : Type 0
-Start = Lts.Start (Reads.Asked, Reads.Learnt, Reads''.Asked, Reads''.Learnt) Reads'.Pre Reads'.Post
+Start = Lts.Start readings Reads'.Pre Reads'.Post
 
 abbrev pub After-slice-known : Type 0
-After-slice-known = Lts.After-slice-known (Reads.Asked, Reads.Learnt, Reads''.Asked, Reads''.Learnt) Reads'.Pre Reads'.Post
+After-slice-known = Lts.After-slice-known readings Reads'.Pre Reads'.Post
 
 abbrev pub After-acknowledge-arg : Type 0
-After-acknowledge-arg = Lts.After-acknowledge-arg (Reads.Asked, Reads.Learnt, Reads''.Asked, Reads''.Learnt) Reads'.Pre Reads'.Post
+After-acknowledge-arg = Lts.After-acknowledge-arg readings Reads'.Pre Reads'.Post
 
 abbrev pub After-acknowledge-arg2 : Type 0
-After-acknowledge-arg2 = Lts.After-acknowledge-arg2 (Reads.Asked, Reads.Learnt, Reads''.Asked, Reads''.Learnt) Reads'.Pre Reads'.Post
+After-acknowledge-arg2 = Lts.After-acknowledge-arg2 readings Reads'.Pre Reads'.Post
 
 abbrev pub After-acknowledge-arg3 : Type 0
-After-acknowledge-arg3 = Lts.After-acknowledge-arg3 (Reads.Asked, Reads.Learnt, Reads''.Asked, Reads''.Learnt) Reads'.Pre Reads'.Post
+After-acknowledge-arg3 = Lts.After-acknowledge-arg3 readings Reads'.Pre Reads'.Post
 
 abbrev pub After-acknowledge-arg4 : Type 0
-After-acknowledge-arg4 = Lts.After-acknowledge-arg4 (Reads.Asked, Reads.Learnt, Reads''.Asked, Reads''.Learnt) Reads'.Pre Reads'.Post
+After-acknowledge-arg4 = Lts.After-acknowledge-arg4 readings Reads'.Pre Reads'.Post
 
 abbrev pub After-acknowledge : Type 0
-After-acknowledge = Lts.After-acknowledge (Reads.Asked, Reads.Learnt, Reads''.Asked, Reads''.Learnt) Reads'.Pre Reads'.Post
+After-acknowledge = Lts.After-acknowledge readings Reads'.Pre Reads'.Post
 
 abbrev pub After-pending : Type 0
-After-pending = Lts.After-pending (Reads.Asked, Reads.Learnt, Reads''.Asked, Reads''.Learnt) Reads'.Pre Reads'.Post
+After-pending = Lts.After-pending readings Reads'.Pre Reads'.Post
 
 abbrev pub After-circuits : Type 0
-After-circuits = Lts.After-circuits (Reads.Asked, Reads.Learnt, Reads''.Asked, Reads''.Learnt) Reads'.Pre Reads'.Post
+After-circuits = Lts.After-circuits readings Reads'.Pre Reads'.Post
 
 abbrev pub After-inflight : Type 0
-After-inflight = Lts.After-inflight (Reads.Asked, Reads.Learnt, Reads''.Asked, Reads''.Learnt) Reads'.Pre Reads'.Post
+After-inflight = Lts.After-inflight readings Reads'.Pre Reads'.Post
 
 abbrev pub After-out : Type 0
-After-out = Lts.After-out (Reads.Asked, Reads.Learnt, Reads''.Asked, Reads''.Learnt) Reads'.Pre Reads'.Post
+After-out = Lts.After-out readings Reads'.Pre Reads'.Post
 
 abbrev pub After-slice-known2 : Type 0
-After-slice-known2 = Lts.After-slice-known2 (Reads.Asked, Reads.Learnt, Reads''.Asked, Reads''.Learnt) Reads'.Pre Reads'.Post
+After-slice-known2 = Lts.After-slice-known2 readings Reads'.Pre Reads'.Post
 
 abbrev pub After-reply : Type 0
-After-reply = Lts.After-reply (Reads.Asked, Reads.Learnt, Reads''.Asked, Reads''.Learnt) Reads'.Pre Reads'.Post
+After-reply = Lts.After-reply readings Reads'.Pre Reads'.Post
 
 abbrev pub Need-acknowledge-requires : Type 0
-Need-acknowledge-requires = Lts.Need-acknowledge-requires (Reads.Asked, Reads.Learnt, Reads''.Asked, Reads''.Learnt) Reads'.Pre Reads'.Post
+Need-acknowledge-requires = Lts.Need-acknowledge-requires readings Reads'.Pre Reads'.Post
 
 abbrev pub Need-reply-requires : Type 0
-Need-reply-requires = Lts.Need-reply-requires (Reads.Asked, Reads.Learnt, Reads''.Asked, Reads''.Learnt) Reads'.Pre Reads'.Post
+Need-reply-requires = Lts.Need-reply-requires readings Reads'.Pre Reads'.Post
 
 abbrev pub Need-same-length : Type 0
-Need-same-length = Lts.Need-same-length (Reads.Asked, Reads.Learnt, Reads''.Asked, Reads''.Learnt) Reads'.Pre Reads'.Post
+Need-same-length = Lts.Need-same-length readings Reads'.Pre Reads'.Post
 
 abbrev pub Need-same-length-2 : Type 0
-Need-same-length-2 = Lts.Need-same-length-2 (Reads.Asked, Reads.Learnt, Reads''.Asked, Reads''.Learnt) Reads'.Pre Reads'.Post
+Need-same-length-2 = Lts.Need-same-length-2 readings Reads'.Pre Reads'.Post
 
 abbrev pub Need-same-length-3 : Type 0
-Need-same-length-3 = Lts.Need-same-length-3 (Reads.Asked, Reads.Learnt, Reads''.Asked, Reads''.Learnt) Reads'.Pre Reads'.Post
+Need-same-length-3 = Lts.Need-same-length-3 readings Reads'.Pre Reads'.Post
 
 abbrev pub Need-same-length-4 : Type 0
-Need-same-length-4 = Lts.Need-same-length-4 (Reads.Asked, Reads.Learnt, Reads''.Asked, Reads''.Learnt) Reads'.Pre Reads'.Post
+Need-same-length-4 = Lts.Need-same-length-4 readings Reads'.Pre Reads'.Post
 
 abbrev pub Need-returns : Type 0
-Need-returns = Lts.Need-returns (Reads.Asked, Reads.Learnt, Reads''.Asked, Reads''.Learnt) Reads'.Pre Reads'.Post
+Need-returns = Lts.Need-returns readings Reads'.Pre Reads'.Post
 
 module _ {M : Type 1} where
-  pub spec : (answer : Need-acknowledge-requires) → (answer : Need-reply-requires) → (answer : Need-same-length) → (answer : Need-same-length-2) →
-      (answer : Need-same-length-3) → (answer : Need-same-length-4) → (answer : Need-returns) → Lts.Closed (
-        Reads.Asked,
-        Reads.Learnt,
-        Reads''.Asked,
-        Reads''.Learnt,
-      ) Reads'.Pre Reads'.Post M
-  spec = λ answer answer' answer'' answer'3 answer'4 answer'5 answer'6. Lts.spec (Reads.Asked, Reads.Learnt, Reads''.Asked, Reads''.Learnt)
-      Reads'.Pre Reads'.Post answer answer' answer'' answer'3 answer'4 answer'5 answer'6
+  pub spec : (answer : Need-acknowledge-requires) → (answer : Need-reply-requires) → (answer : Need-same-length) →
+      (answer : Need-same-length-2) → (answer : Need-same-length-3) → (answer : Need-same-length-4) →
+      (answer : Need-returns) → Lts.Closed readings Reads'.Pre Reads'.Post M
+  spec = λ answer answer' answer'' answer'3 answer'4 answer'5 answer'6. Lts.spec readings Reads'.Pre Reads'.Post answer
+      answer' answer'' answer'3 answer'4 answer'5 answer'6
 
-  pub close : Lts.Closed (Reads.Asked, Reads.Learnt, Reads''.Asked, Reads''.Learnt) Reads'.Pre Reads'.Post M → Statement.statement M
+  pub close : Lts.Closed readings Reads'.Pre Reads'.Post M → Statement.statement M
   unfolding Code.routine Running.tablesOf
-  close = λ closed 𝓤 H 𝓜 𝓖 𝓡. Written.close 4 Kinds.ps Kinds.r Reads'.Ghost Reads'.requires Reads'.ensures Reads'.pre-read Reads'.Pinned Reads'.Owned
-      Reads'.post-read record { M = M; 𝓤 = 𝓤; H = H; 𝓜 = 𝓜; 𝓖 = 𝓖; 𝓡 = 𝓡 } Code.env Key.name Code.function (Code.unfolded 𝓤 H 𝓜 𝓡) (λ κs a g. tt) (λ
-      κs. Reads'.owns κs record { M = M; 𝓤 = 𝓤; H = H; 𝓜 = 𝓜; 𝓖 = 𝓖; 𝓡 = 𝓡 }) (Reads'.passes record { M = M; 𝓤 = 𝓤; H = H; 𝓜 = 𝓜; 𝓖 = 𝓖; 𝓡 = 𝓡 }) λ g.
-      closed 𝓤 H (𝓖 .A) (Running.givenOf 𝓤 H 𝓜 𝓖) (Run.Over 𝓤 H 𝓜 𝓖 𝓡 Code.env) (Reads.known record { M = M; 𝓤 = 𝓤; H = H; 𝓜 = 𝓜; 𝓖 = 𝓖; 𝓡 = 𝓡 }
-      Code.env Symbol.name Symbol.routine Code.calls-hnsr-circuit·acknowledge·acknowledge (Met.met 𝓤 H 𝓜 𝓖 𝓡)) (Reads''.known record {
-        M = M;
-        𝓤 = 𝓤;
-        H
-            = H;
-        𝓜 = 𝓜;
-        𝓖 = 𝓖;
-        𝓡 = 𝓡;
-      } Code.env Symbol'.name Symbol'.routine Code.calls-lekchnam·relay·reply (Met'.met 𝓤 H 𝓜 𝓖 𝓡))
+  close = λ closed 𝓤 H 𝓜 𝓖 𝓡. Written.close 4 Kinds.ps Kinds.r Reads'.Ghost Reads'.requires Reads'.ensures
+      Reads'.pre-read Reads'.Pinned Reads'.Owned Reads'.post-read record { M = M; 𝓤 = 𝓤; H = H; 𝓜 = 𝓜; 𝓖 = 𝓖; 𝓡 = 𝓡 }
+      Code.env Key.name Code.function (Code.unfolded 𝓤 H 𝓜 𝓡) (λ κs a g. tt) (λ κs. Reads'.owns κs
+      record { M = M; 𝓤 = 𝓤; H = H; 𝓜 = 𝓜; 𝓖 = 𝓖; 𝓡 = 𝓡 }) (Reads'.passes
+      record { M = M; 𝓤 = 𝓤; H = H; 𝓜 = 𝓜; 𝓖 = 𝓖; 𝓡 = 𝓡 }) λ g. closed 𝓤 H (𝓖 .A) (Running.givenOf 𝓤 H 𝓜 𝓖)
+      (Run.Over 𝓤 H 𝓜 𝓖 𝓡 Code.env) (Reads.known record { M = M; 𝓤 = 𝓤; H = H; 𝓜 = 𝓜; 𝓖 = 𝓖; 𝓡 = 𝓡 } Code.env
+      Symbol.name Symbol.routine Code.calls-hnsr-circuit·acknowledge·acknowledge (Met.met 𝓤 H 𝓜 𝓖 𝓡)) (Reads''.known
+      record { M = M; 𝓤 = 𝓤; H = H; 𝓜 = 𝓜; 𝓖 = 𝓖; 𝓡 = 𝓡 } Code.env Symbol'.name Symbol'.routine
+      Code.calls-lekchnam·relay·reply (Met'.met 𝓤 H 𝓜 𝓖 𝓡))

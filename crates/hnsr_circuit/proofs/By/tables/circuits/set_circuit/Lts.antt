@@ -3,6 +3,7 @@ use Prim.Native.Nat
 use Rattle.hnsr_circuit.proofs.By.RelayCircuit
 use borrow.Author.Called
 use borrow.Fn.Any
+use borrow.Fn.Args as Args'
 use borrow.Fn.Call
 use borrow.Fn.Enter
 use borrow.Fn.Frame
@@ -42,474 +43,743 @@ use mathlib.Core.List.{_∷_}
 
 abbrev ref0 : Syntax.Ty
 ref0 = Syntax.tyRef (Syntax.named 0) Syntax.mut RelayCircuit.to
+
 abbrev pub ps : List.List (Kinds.PK 1)
 ps = (MutSlice.pMutS RelayCircuit.row 0 tt) ∷ Bool.pBool ∷ (Num.pNum Syntax.w64) ∷ RelayCircuit.param ∷ List.[]
+
 abbrev pub r : Kinds.RK 1
 r = Unit.rUnit
+
 abbrev pub xs : List.List Syntax.Ty
 xs = Syntax.tyBool ∷ (Syntax.tyInt Syntax.w64) ∷ (Syntax.tyInt Syntax.w64) ∷ Syntax.tyPtr ∷ List.[]
+
 abbrev pub m : Nat.ℕ
 m = 0
+
 abbrev pub ps·0 : List.List (Kinds.PK 0)
 ps·0 = Bool.pBool ∷ (Num.pNum Syntax.w64) ∷ (Num.pNum Syntax.w64) ∷ List.[]
+
 abbrev pub r·0 : Kinds.RK 0
 r·0 = Bool.rBool
+
 abbrev pub hs : List.List Syntax.Home
-hs = Syntax.valueLocal ∷ Syntax.valueLocal ∷ Syntax.valueLocal ∷ Syntax.valueLocal ∷ Syntax.valueLocal ∷ Syntax.valueLocal ∷ Syntax.valueLocal ∷
-    Syntax.valueLocal ∷ Syntax.valueLocal ∷ List.[]
+hs = Syntax.valueLocal ∷ Syntax.valueLocal ∷ Syntax.valueLocal ∷ Syntax.valueLocal ∷ Syntax.valueLocal ∷
+    Syntax.valueLocal ∷ Syntax.valueLocal ∷ Syntax.valueLocal ∷ Syntax.valueLocal ∷ List.[]
+
 abbrev b0 : Syntax.Body
 b0 = Syntax.assign (Syntax.place 6 List.[]) (Syntax.rvOpd (Syntax.copy (Syntax.place 1 ((Syntax.field 1) ∷ List.[]))))
+
 abbrev b1 : Syntax.Body
-b1 = Syntax.call "hnsr_circuit::scan::within" ((Syntax.copy (Syntax.place 2 List.[])) ∷ (Syntax.copy (Syntax.place 3 List.[])) ∷ (Syntax.copy
-    (Syntax.place 6 List.[])) ∷ List.[]) (Syntax.place 5 List.[])
+b1 = Syntax.call "hnsr_circuit::scan::within" ((Syntax.copy (Syntax.place 2 List.[])) ∷
+    (Syntax.copy (Syntax.place 3 List.[])) ∷ (Syntax.copy (Syntax.place 6 List.[])) ∷ List.[]) (Syntax.place 5 List.[])
+
 abbrev b2 : Syntax.Body
-b2 = Syntax.assign (Syntax.place 7 List.[]) (Syntax.op2 (Syntax.mul Syntax.unsigned) (Syntax.copy (Syntax.place 3 List.[])) (Syntax.int Syntax.w64
-    360))
+b2 = Syntax.assign (Syntax.place 7 List.[]) (Syntax.op2 (Syntax.mul Syntax.unsigned)
+    (Syntax.copy (Syntax.place 3 List.[])) (Syntax.int Syntax.w64 360))
+
 abbrev b3 : Syntax.Body
-b3 = Syntax.assign (Syntax.place 8 List.[]) (Syntax.op2 Syntax.offset (Syntax.copy (Syntax.place 1 ((Syntax.field 0) ∷ List.[]))) (Syntax.copy
-    (Syntax.place 7 List.[])))
+b3 = Syntax.assign (Syntax.place 8 List.[]) (Syntax.op2 Syntax.offset
+    (Syntax.copy (Syntax.place 1 ((Syntax.field 0) ∷ List.[]))) (Syntax.copy (Syntax.place 7 List.[])))
+
 abbrev b4 : Syntax.Body
-b4 = Syntax.assign (Syntax.place 8 ((Syntax.deref RelayCircuit.ty) ∷ List.[])) (Syntax.rvOpd (Syntax.copy (Syntax.place 4 List.[])))
+b4 = Syntax.assign (Syntax.place 8 ((Syntax.deref RelayCircuit.ty) ∷ List.[]))
+    (Syntax.rvOpd (Syntax.copy (Syntax.place 4 List.[])))
+
 abbrev b5 : Syntax.Body
 b5 = Syntax.seq b3 b4
+
 abbrev b6 : Syntax.Body
 b6 = Syntax.seq b2 b5
+
 abbrev b7 : Syntax.Body
 b7 = Syntax.skip
+
 abbrev b8 : Syntax.Body
 b8 = Syntax.cond (Syntax.copy (Syntax.place 5 List.[])) b6 b7
+
 abbrev b9 : Syntax.Body
 b9 = Syntax.assign (Syntax.place 0 List.[]) (Syntax.rvOpd Syntax.opdUnit)
+
 abbrev b10 : Syntax.Body
 b10 = Syntax.return
+
 abbrev b11 : Syntax.Body
 b11 = Syntax.seq b9 b10
+
 abbrev b12 : Syntax.Body
 b12 = Syntax.seq b8 b11
+
 abbrev b13 : Syntax.Body
 b13 = Syntax.seq b1 b12
+
 abbrev b14 : Syntax.Body
 b14 = Syntax.seq b0 b13
+
 abbrev pub body : Syntax.Body
 body = b14
+
 abbrev pub Claims : Type 1
 Claims = Kinds.In 0 ps·0 × Kinds.Out 0 ps·0 r·0
+
 abbrev e0 : Row.Entry
 e0 = (0, Rows.any-gone Syntax.tyUnit)
+
 abbrev e1 : Row.Entry
 e1 = (1, Mut.mslice RelayCircuit.row ref0 0)
+
 abbrev e2 : Row.Entry
 e2 = (2, Rows.sc-here Row.sBool)
+
 abbrev e3 : Row.Entry
 e3 = (3, Rows.sc-here (Row.sInt Syntax.w64))
+
 abbrev e4 : Row.Entry
 e4 = (4, RelayCircuit.held)
+
 abbrev e5 : Row.Entry
 e5 = (5, Rows.any-gone Syntax.tyBool)
+
 abbrev e6 : Row.Entry
 e6 = (6, Rows.any-gone (Syntax.tyInt Syntax.w64))
+
 abbrev e7 : Row.Entry
 e7 = (7, Rows.any-gone (Syntax.tyInt Syntax.w64))
+
 abbrev e8 : Row.Entry
 e8 = (8, Rows.any-gone Syntax.tyPtr)
+
 abbrev e0·1 : Row.Entry
 e0·1 = (0, Rows.sc-here Row.sUnit)
+
 abbrev e2·1 : Row.Entry
 e2·1 = (2, Rows.any-gone Syntax.tyBool)
+
 abbrev e3·1 : Row.Entry
 e3·1 = (3, Rows.any-gone (Syntax.tyInt Syntax.w64))
+
 abbrev e4·1 : Row.Entry
 e4·1 = (4, Rows.any-gone RelayCircuit.ty)
+
 abbrev e6·1 : Row.Entry
 e6·1 = (6, Rows.sc-here (Row.sInt Syntax.w64))
+
 abbrev e5·1 : Row.Entry
 e5·1 = (5, Rows.sc-here Row.sBool)
+
 abbrev e7·1 : Row.Entry
 e7·1 = (7, Rows.sc-here (Row.sInt Syntax.w64))
+
 abbrev e8·1 : Row.Entry
 e8·1 = (8, Rows.sc-here Row.sPtr)
+
 abbrev pub t0 : List.List Row.Entry
 t0 = e0 ∷ e1 ∷ e2 ∷ e3 ∷ e4 ∷ e5 ∷ e6 ∷ e7 ∷ e8 ∷ List.[]
+
 abbrev pub t1 : List.List Row.Entry
 t1 = e0·1 ∷ e1 ∷ e2·1 ∷ e3·1 ∷ e4·1 ∷ e5 ∷ e6 ∷ e7 ∷ e8 ∷ List.[]
+
 abbrev pub t2 : List.List Row.Entry
 t2 = e0 ∷ e1 ∷ e2 ∷ e3 ∷ e4 ∷ e5 ∷ e6·1 ∷ e7 ∷ e8 ∷ List.[]
+
 abbrev pub t3 : List.List Row.Entry
 t3 = e0 ∷ e1 ∷ e2 ∷ e3 ∷ e4 ∷ e5·1 ∷ e6·1 ∷ e7 ∷ e8 ∷ List.[]
+
 abbrev pub t4 : List.List Row.Entry
 t4 = e0 ∷ e1 ∷ e2 ∷ e3 ∷ e4·1 ∷ e5 ∷ e6 ∷ e7 ∷ e8 ∷ List.[]
+
 abbrev pub t5 : List.List Row.Entry
 t5 = e0 ∷ e1 ∷ e2 ∷ e3 ∷ e4 ∷ e5·1 ∷ e6 ∷ e7 ∷ e8 ∷ List.[]
+
 abbrev pub t6 : List.List Row.Entry
 t6 = e0 ∷ e1 ∷ e2 ∷ e3 ∷ e4 ∷ e5 ∷ e6 ∷ e7·1 ∷ e8 ∷ List.[]
+
 abbrev pub t7 : List.List Row.Entry
 t7 = e0 ∷ e1 ∷ e2 ∷ e3 ∷ e4 ∷ e5 ∷ e6 ∷ e7·1 ∷ e8·1 ∷ List.[]
+
 abbrev pub t8 : List.List Row.Entry
 t8 = e0 ∷ e1 ∷ e2 ∷ e3 ∷ e4·1 ∷ e5 ∷ e6 ∷ e7·1 ∷ e8·1 ∷ List.[]
+
 abbrev pub t9 : List.List Row.Entry
 t9 = e0 ∷ e1 ∷ e2 ∷ e3 ∷ e4·1 ∷ e5 ∷ e6 ∷ e7 ∷ e8·1 ∷ List.[]
+
 abbrev pub t10 : List.List Row.Entry
 t10 = e0 ∷ e1 ∷ e2 ∷ e3 ∷ e4·1 ∷ e5·1 ∷ e6 ∷ e7 ∷ e8 ∷ List.[]
+
 abbrev pub t11 : List.List Row.Entry
 t11 = e0·1 ∷ e1 ∷ e2 ∷ e3 ∷ e4·1 ∷ e5 ∷ e6 ∷ e7 ∷ e8 ∷ List.[]
+
 abbrev pub t12 : List.List Row.Entry
 t12 = e0·1 ∷ e1 ∷ e2·1 ∷ e3 ∷ e4·1 ∷ e5 ∷ e6 ∷ e7 ∷ e8 ∷ List.[]
+
 abbrev pub T0 : Row.Cx
 T0 = record { locals = t0; slots = List.[] }
+
 abbrev pub T1 : Row.Cx
 T1 = record { locals = t1; slots = List.[] }
+
 abbrev pub T2 : Row.Cx
 T2 = record { locals = t2; slots = List.[] }
+
 abbrev pub T3 : Row.Cx
 T3 = record { locals = t3; slots = List.[] }
+
 abbrev pub T4 : Row.Cx
 T4 = record { locals = t4; slots = List.[] }
+
 abbrev pub T5 : Row.Cx
 T5 = record { locals = t5; slots = List.[] }
+
 abbrev pub T6 : Row.Cx
 T6 = record { locals = t0; slots = List.[] }
+
 abbrev pub T7 : Row.Cx
 T7 = record { locals = t6; slots = List.[] }
+
 abbrev pub T8 : Row.Cx
 T8 = record { locals = t7; slots = List.[] }
+
 abbrev pub T9 : Row.Cx
 T9 = record { locals = t7; slots = List.[] }
+
 abbrev pub T10 : Row.Cx
 T10 = record { locals = t8; slots = List.[] }
+
 abbrev pub T11 : Row.Cx
 T11 = record { locals = t9; slots = List.[] }
+
 abbrev pub T12 : Row.Cx
 T12 = record { locals = t4; slots = List.[] }
+
 abbrev pub T13 : Row.Cx
 T13 = record { locals = t10; slots = List.[] }
+
 abbrev pub T14 : Row.Cx
 T14 = record { locals = t4; slots = List.[] }
+
 abbrev pub T15 : Row.Cx
 T15 = record { locals = t11; slots = List.[] }
+
 abbrev pub T16 : Row.Cx
 T16 = record { locals = t12; slots = List.[] }
+
 abbrev pub T17 : Row.Cx
 T17 = record { locals = t1; slots = List.[] }
+
 abbrev pub O0 : Typed.Outs
 O0 = record { next = Option.none; exits = List.[]; returns = Option.some T1 }
+
 abbrev pub O1 : Typed.Outs
 O1 = Typed.withNext (Option.some T4) O0
+
 module _ (claims· : Claims) where
   abbrev s0 : Typed.Mo T0 → Typed.Mo T2
-  s0 = Scalar.n-use T0 (Scalar.oFld 1 ((Syntax.field 1) ∷ List.[]) (Syntax.tyInt Syntax.w64) 8 Shared.lenV) 6 (Rows.sc-here (Row.sInt Syntax.w64))
-      (Row.sInt Syntax.w64 .of)
+  s0 = Scalar.n-use T0 (Scalar.oFld 1 ((Syntax.field 1) ∷ List.[]) (Syntax.tyInt Syntax.w64) 8 Shared.lenV) 6
+      (Rows.sc-here (Row.sInt Syntax.w64)) (Row.sInt Syntax.w64 .of)
+
+  abbrev args1 : Args'.ArgsT ps·0 (T2 .locals)
+  args1 = (Bool.bAt 2 λ x. x, (Num.vAt 3 λ x. x, (Num.vAt 6 λ x. x, tt)))
+
   abbrev s1 : Typed.Both T2 T3
-  s1 = Call.callB ps·0 r·0 (claims· .0) (claims· .1) T2 (Bool.bAt 2 λ x. x, (Num.vAt 3 λ x. x, (Num.vAt 6 λ x. x, tt)),) 5 List.[] Syntax.tyBool
+  s1 = Call.callB ps·0 r·0 (claims· .0) (claims· .1) T2 args1 5 List.[] Syntax.tyBool
+
   abbrev s2 : Typed.Mo T3 → Typed.Mo T5
   s2 = Scalar.n-room T3 6 (Syntax.tyInt Syntax.w64)
+
   abbrev s3 : Typed.Mo T5 → Typed.Mo T6
   s3 = Scalar.n-room T5 5 Syntax.tyBool
+
   abbrev s4 : Typed.Asks T6 T7
-  s4 = Scalar.k-op2 T6 (Syntax.mul Syntax.unsigned) (Scalar.oAt 3 (Syntax.tyInt Syntax.w64) (Row.valS (Row.sInt Syntax.w64))) (Scalar.oInt Syntax.w64
-      360) 7 (Rows.sc-here (Row.sInt Syntax.w64)) (Row.sInt Syntax.w64 .of)
+  s4 = Scalar.k-op2 T6 (Syntax.mul Syntax.unsigned) (Scalar.oAt 3 (Syntax.tyInt Syntax.w64)
+      (Row.valS (Row.sInt Syntax.w64))) (Scalar.oInt Syntax.w64 360) 7 (Rows.sc-here (Row.sInt Syntax.w64))
+      (Row.sInt Syntax.w64 .of)
+
   abbrev s5 : Typed.Asks T7 T8
-  s5 = Scalar.k-op2 T7 Syntax.offset (Scalar.oFld 1 ((Syntax.field 0) ∷ List.[]) ref0 0 Reads.ptrVal) (Scalar.oAt 7 (Syntax.tyInt Syntax.w64)
-      (Row.valS (Row.sInt Syntax.w64))) 8 (Rows.sc-here Row.sPtr) (Row.sPtr .of)
+  s5 = Scalar.k-op2 T7 Syntax.offset (Scalar.oFld 1 ((Syntax.field 0) ∷ List.[]) ref0 0 Reads.ptrVal) (Scalar.oAt 7
+      (Syntax.tyInt Syntax.w64) (Row.valS (Row.sInt Syntax.w64))) 8 (Rows.sc-here Row.sPtr) (Row.sPtr .of)
+
   abbrev s6 : Typed.Asks T8 T9
-  s6 = Move.k-sl-set-from RelayCircuit.row T8 1 8 4 0 ref0 Row.off RelayCircuit.held (Shared.bySize 360) (λ u. u .1 .1 .1 .0) (λ x. x) (λ x. x) (λ x.
-      x) λ x. x
+  s6 = Move.k-sl-set-from RelayCircuit.row T8 1 8 4 0 ref0 Row.off RelayCircuit.held (Shared.bySize 360)
+      (λ u. u .1 .1 .1 .0) (λ x. x) (λ x. x) (λ x. x) λ x. x
+
   abbrev s7 : Typed.Mo T9 → Typed.Mo T10
   s7 = Scalar.n-room T9 4 RelayCircuit.ty
+
   abbrev s8 : Typed.Mo T10 → Typed.Mo T11
   s8 = Scalar.n-room T10 7 (Syntax.tyInt Syntax.w64)
+
   abbrev s9 : Typed.Mo T11 → Typed.Mo T12
   s9 = Scalar.n-room T11 8 Syntax.tyPtr
+
   abbrev s10 : Typed.Mo T5 → Typed.Mo T13
   s10 = Scalar.n-room T5 4 RelayCircuit.ty
+
   abbrev s11 : Typed.Mo T13 → Typed.Mo T14
   s11 = Scalar.n-room T13 5 Syntax.tyBool
+
   abbrev s12 : Typed.Mo T4 → Typed.Mo T15
   s12 = Scalar.n-use T4 Scalar.oUnit 0 (Rows.sc-here Row.sUnit) (Row.sUnit .of)
+
   abbrev s13 : Typed.Mo T15 → Typed.Mo T16
   s13 = Scalar.n-room T15 2 Syntax.tyBool
+
   abbrev s14 : Typed.Mo T16 → Typed.Mo T17
   s14 = Scalar.n-room T16 3 (Syntax.tyInt Syntax.w64)
-  module _ (Pre· : (κs : Lifetimes.Lfts 1) → Kinds.Dens κs ps → Type 0) (Post· : (κs : Lifetimes.Lfts 1) → (a : Kinds.Dens κs ps) → Kinds.Plain 1 ps r
-      κs) where
+
+  module _ (Pre· : (κs : Lifetimes.Lfts 1) → Kinds.Dens κs ps → Type 0) (Post· : (κs : Lifetimes.Lfts 1) →
+      (a : Kinds.Dens κs ps) → Kinds.Plain 1 ps r κs) where
     module _ (M : Type 1) where
       abbrev pub Closed : Type 2
-      Closed = (𝓤 : URA.URA M) (H : Wp.Heap 𝓤) (A : Atoms.Atoms 𝓤) (W : Kit.Given 𝓤 H A) (𝓣 : Wp.Tables 𝓤 H) (known0 : Plain.Known 𝓤 H A W 𝓣 0 ps·0
-          r·0 (claims· .0) (claims· .1) "hnsr_circuit::scan::within") → Statement.Triple 𝓤 (Wp.WpFn 𝓤 H (𝓣 .C) (𝓣 .Λ) (Function.fnOf 1 ps r xs m hs
-          body)) (Function.plainOf 𝓤 H A 1 ps r Pre· Post·)
+      Closed = (𝓤 : URA.URA M) (H : Wp.Heap 𝓤) (A : Atoms.Atoms 𝓤) (W : Kit.Given 𝓤 H A) (𝓣 : Wp.Tables 𝓤 H) (known0 :
+          Plain.Known 𝓤 H A W 𝓣 0 ps·0 r·0 (claims· .0) (claims· .1) "hnsr_circuit::scan::within") → Statement.Triple 𝓤 (Wp.WpFn
+          𝓤 H (𝓣 .C) (𝓣 .Λ) (Function.fnOf 1 ps r xs m hs body)) (Function.plainOf 𝓤 H A 1 ps r Pre· Post·)
+
     module _ where
       abbrev at0 : Typed.TF T8 O1
       at0 = λ Ψ. Typed.ask s6 (Typed.pass T9 T10 s7 (Typed.pass T10 T11 s8 (Typed.pass T11 T12 s9 (Typed.atNext O1 Ψ))))
+
       abbrev at1 : Typed.TF T7 O1
       at1 = λ Ψ. Typed.ask s5 (at0 Ψ)
+
       abbrev at2 : Typed.TF T6 O1
       at2 = λ Ψ. Typed.ask s4 (at1 Ψ)
+
       abbrev at3 : Typed.TF T5 O1
       at3 = λ Ψ. Typed.pass T5 T6 s3 (at2 Ψ)
+
       abbrev at4 : Typed.TF T14 O1
       at4 = Typed.atNext O1
+
       abbrev at5 : Typed.TF T13 O1
       at5 = λ Ψ. Typed.pass T13 T14 s11 (at4 Ψ)
+
       abbrev at6 : Typed.TF T5 O1
       at6 = λ Ψ. Typed.pass T5 T13 s10 (at5 Ψ)
+
       abbrev at7 : Typed.TF T5 O1
       at7 = Scalar.Φcond T5 O1 5 (λ x. x) at3 at6
+
       abbrev at8 : Typed.TF T3 O1
       at8 = λ Ψ. Typed.pass T3 T5 s2 (at7 Ψ)
+
       abbrev at9 : Typed.TF T17 O0
       at9 = Typed.atRet O0
+
       abbrev at10 : Typed.TF T16 O0
       at10 = λ Ψ. Typed.pass T16 T17 s14 (at9 Ψ)
+
       abbrev at11 : Typed.TF T15 O0
       at11 = λ Ψ. Typed.pass T15 T16 s13 (at10 Ψ)
+
       abbrev at12 : Typed.TF T4 O0
       at12 = λ Ψ. Typed.pass T4 T15 s12 (at11 Ψ)
+
       abbrev at13 : Typed.TF T3 O0
       at13 = λ Ψ. at8 (Typed.wantNext T4 O0 (at12 Ψ) Ψ)
+
       abbrev at14 : Typed.TF T2 O0
       at14 = λ Ψ. Typed.both s1 (at13 Ψ)
+
       abbrev at15 : Typed.TF T0 O0
       at15 = λ Ψ. Typed.pass T0 T2 s0 (at14 Ψ)
+
       abbrev pub Φ : Typed.TF T0 O0
       Φ = at15
-      module _ { M : Type 1 } (𝓤 : URA.URA M) (H : Wp.Heap 𝓤) (A : Atoms.Atoms 𝓤) (W : Kit.Given 𝓤 H A) (𝓣 : Wp.Tables 𝓤 H) where
+
+      module _ {M : Type 1} (𝓤 : URA.URA M) (H : Wp.Heap 𝓤) (A : Atoms.Atoms 𝓤) (W : Kit.Given 𝓤 H A)
+          (𝓣 : Wp.Tables 𝓤 H) where
         abbrev Knowns : Type 1
         Knowns = Plain.Known 𝓤 H A W 𝓣 0 ps·0 r·0 (claims· .0) (claims· .1) "hnsr_circuit::scan::within"
+
       module _ (κs : Lifetimes.Lfts 1) (qs : Lifetimes.Shares 1) where
         abbrev life0 : Row.Life
         life0 = Row.lease (κs .0) (qs .0)
+
         abbrev G0 : Row.Cx
         G0 = record { locals = t0; slots = life0 ∷ List.[] }
+
         abbrev G1 : Row.Cx
         G1 = record { locals = t1; slots = life0 ∷ List.[] }
+
         abbrev G2 : Row.Cx
         G2 = record { locals = t2; slots = life0 ∷ List.[] }
+
         abbrev G3 : Row.Cx
         G3 = record { locals = t3; slots = life0 ∷ List.[] }
+
         abbrev G4 : Row.Cx
         G4 = record { locals = t4; slots = life0 ∷ List.[] }
+
         abbrev G5 : Row.Cx
         G5 = record { locals = t5; slots = life0 ∷ List.[] }
+
         abbrev G6 : Row.Cx
         G6 = record { locals = t0; slots = life0 ∷ List.[] }
+
         abbrev G7 : Row.Cx
         G7 = record { locals = t6; slots = life0 ∷ List.[] }
+
         abbrev G8 : Row.Cx
         G8 = record { locals = t7; slots = life0 ∷ List.[] }
+
         abbrev G9 : Row.Cx
         G9 = record { locals = t7; slots = life0 ∷ List.[] }
+
         abbrev G10 : Row.Cx
         G10 = record { locals = t8; slots = life0 ∷ List.[] }
+
         abbrev G11 : Row.Cx
         G11 = record { locals = t9; slots = life0 ∷ List.[] }
+
         abbrev G12 : Row.Cx
         G12 = record { locals = t4; slots = life0 ∷ List.[] }
+
         abbrev G13 : Row.Cx
         G13 = record { locals = t10; slots = life0 ∷ List.[] }
+
         abbrev G14 : Row.Cx
         G14 = record { locals = t4; slots = life0 ∷ List.[] }
+
         abbrev G15 : Row.Cx
         G15 = record { locals = t11; slots = life0 ∷ List.[] }
+
         abbrev G16 : Row.Cx
         G16 = record { locals = t12; slots = life0 ∷ List.[] }
+
         abbrev G17 : Row.Cx
         G17 = record { locals = t1; slots = life0 ∷ List.[] }
+
         abbrev Δ0 : Typed.Outs
         Δ0 = record { next = Option.none; exits = List.[]; returns = Option.some G1 }
+
         abbrev Δ1 : Typed.Outs
         Δ1 = Typed.withNext (Option.some G4) Δ0
-        module _ { M : Type 1 } (𝓤 : URA.URA M) (H : Wp.Heap 𝓤) (A : Atoms.Atoms 𝓤) (W : Kit.Given 𝓤 H A) (𝓣 : Wp.Tables 𝓤 H) (known : Knowns 𝓤 H A W
-            𝓣) (bs : List.List Nat.ℕ) (bd : Lifetimes.AllOutlive 1 (Kinds.osR r) κs) where
+
+        module _ {M : Type 1} (𝓤 : URA.URA M) (H : Wp.Heap 𝓤) (A : Atoms.Atoms 𝓤) (W : Kit.Given 𝓤 H A)
+            (𝓣 : Wp.Tables 𝓤 H) (known : Knowns 𝓤 H A W 𝓣) (bs : List.List Nat.ℕ)
+            (bd : Lifetimes.AllOutlive 1 (Kinds.osR r) κs) where
           abbrev E : Wp.Env 𝓤 H
           E = Frame.EnvOf 𝓤 H ((Kinds.tyR r) ∷ (Enter.tysP ps xs)) bs
+
           d0 : Typed.Typed 𝓤 H A 𝓣 E G8 b4 Δ1 at0
-          d0 = Typed.s-typed 𝓤 H A W 𝓣 E G8 b4 Δ1 (λ Ψ. Typed.ask s6 (Typed.pass T9 T10 s7 (Typed.pass T10 T11 s8 (Typed.pass T11 T12 s9 Ψ)))) tt
-              (Typed.g-post 𝓤 H A W 𝓣 E G8 G11 G12 b4 (λ Ψ. Typed.ask s6 (Typed.pass T9 T10 s7 (Typed.pass T10 T11 s8 Ψ))) (Typed.pass T11 T12 s9)
-              (Typed.g-post 𝓤 H A W 𝓣 E G8 G10 G11 b4 (λ Ψ. Typed.ask s6 (Typed.pass T9 T10 s7 Ψ)) (Typed.pass T10 T11 s8) (Typed.g-post 𝓤 H A W 𝓣 E
-              G8 G9 G10 b4 (Typed.ask s6) (Typed.pass T9 T10 s7) (Move.t-sl-set-from 𝓤 H A W E RelayCircuit.row 𝓣 Path.refl (λ ρ. Unit) G8 1 8 4 0
-              ref0 life0 RelayCircuit.ty RelayCircuit.ty RelayCircuit.held (Shared.bySize 360) (λ u. u .1 .1 .1 .0) (λ x. x) (λ x. x) (λ x. x) (λ x.
-              x) (λ i o. Elements.at-mul o 360 i) Path.refl Path.refl (Own.told-none 𝓤 H A (G8 .slots)) (Reads.as-is 𝓤 H A (Mut.mslice
-              RelayCircuit.row ref0 0)) (Reads.as-is 𝓤 H A (Rows.sc-here Row.sPtr)) (Yields.yields-copy 𝓤 H A W (λ ρ. Unit) RelayCircuit.row Path.refl
-              (RelayCircuit.copies .copy 𝓤 H A W) RelayCircuit.held (λ x. x) (λ x. x) (λ ρ told. Local.mem-whole 𝓤 H A W RelayCircuit.row ρ) λ ρ told.
-              Local.whole-mem 𝓤 H A W RelayCircuit.row ρ) Path.refl tt Path.refl Path.refl) (Scalar.g-room 𝓤 H A W E G9 4 RelayCircuit.ty
-              (Local.room-whole 𝓤 H A W RelayCircuit.row RelayCircuit.ty Path.refl))) (Scalar.g-room 𝓤 H A W E G10 7 (Syntax.tyInt Syntax.w64)
-              (Scalar.room-sc 𝓤 H A W (Row.sInt Syntax.w64)))) (Scalar.g-room 𝓤 H A W E G11 8 Syntax.tyPtr (Scalar.room-sc 𝓤 H A W Row.sPtr)))
+          d0 = Typed.s-typed 𝓤 H A W 𝓣 E G8 b4 Δ1 (λ Ψ. Typed.ask s6 (Typed.pass T9 T10 s7
+              (Typed.pass T10 T11 s8 (Typed.pass T11 T12 s9 Ψ)))) tt (Typed.g-post 𝓤 H A W 𝓣 E G8 G11 G12 b4 (λ Ψ.
+              Typed.ask s6 (Typed.pass T9 T10 s7 (Typed.pass T10 T11 s8 Ψ))) (Typed.pass T11 T12 s9) (Typed.g-post 𝓤 H
+              A W 𝓣 E G8 G10 G11 b4 (λ Ψ. Typed.ask s6 (Typed.pass T9 T10 s7 Ψ)) (Typed.pass T10 T11 s8) (Typed.g-post
+              𝓤 H A W 𝓣 E G8 G9 G10 b4 (Typed.ask s6) (Typed.pass T9 T10 s7) (Move.t-sl-set-from 𝓤 H A W E
+              RelayCircuit.row 𝓣 Path.refl (λ ρ. Unit) G8 1 8 4 0 ref0 life0 RelayCircuit.ty RelayCircuit.ty
+              RelayCircuit.held (Shared.bySize 360) (λ u. u .1 .1 .1 .0) (λ x. x) (λ x. x) (λ x. x) (λ x. x)
+              (λ i o. Elements.at-mul o 360 i) Path.refl Path.refl (Own.told-none 𝓤 H A (G8 .slots))
+              (Reads.as-is 𝓤 H A (Mut.mslice RelayCircuit.row ref0 0)) (Reads.as-is 𝓤 H A (Rows.sc-here Row.sPtr)) (Yields.yields-copy
+              𝓤 H A W (λ ρ. Unit) RelayCircuit.row Path.refl (RelayCircuit.copies .copy 𝓤 H A W) RelayCircuit.held
+              (λ x. x) (λ x. x) (λ ρ told. Local.mem-whole 𝓤 H A W RelayCircuit.row ρ) λ ρ told. Local.whole-mem 𝓤 H A
+              W RelayCircuit.row ρ) Path.refl tt Path.refl Path.refl) (Scalar.g-room 𝓤 H A W E G9 4 RelayCircuit.ty (Local.room-whole
+              𝓤 H A W RelayCircuit.row RelayCircuit.ty Path.refl))) (Scalar.g-room 𝓤 H A W E G10 7
+              (Syntax.tyInt Syntax.w64) (Scalar.room-sc 𝓤 H A W (Row.sInt Syntax.w64)))) (Scalar.g-room 𝓤 H A W E G11 8
+              Syntax.tyPtr (Scalar.room-sc 𝓤 H A W Row.sPtr)))
+
           d1 : Typed.Typed 𝓤 H A 𝓣 E G7 b5 Δ1 at1
-          d1 = Typed.s-seq 𝓤 H A W 𝓣 E G7 G8 b3 b4 Δ1 (Typed.ask s5) at0 (Scalar.t-op2 𝓤 H A W E 𝓣 G7 Syntax.offset (Scalar.oFld 1 ((Syntax.field 0) ∷
-              List.[]) ref0 0 Reads.ptrVal) (Scalar.oAt 7 (Syntax.tyInt Syntax.w64) (Row.valS (Row.sInt Syntax.w64))) 8 (Rows.sc-here Row.sPtr)
-              Syntax.tyPtr (Row.valS Row.sPtr) (Row.sPtr .of) (Mut.reads-mslice-ptr 𝓤 H A W RelayCircuit.row ref0 0 0 Path.refl, Path.refl,)
-              (Scalar.reads-sc 𝓤 H A W (Row.sInt Syntax.w64), Path.refl) (Reads.room-gone 𝓤 H A Syntax.tyPtr) (Scalar.holds-sc 𝓤 H A W Row.sPtr)
-              Path.refl (λ u. Path.refl) λ u. tt) d0
+          d1 = Typed.s-seq 𝓤 H A W 𝓣 E G7 G8 b3 b4 Δ1 (Typed.ask s5) at0 (Scalar.t-op2 𝓤 H A W E 𝓣 G7 Syntax.offset (Scalar.oFld
+              1 ((Syntax.field 0) ∷ List.[]) ref0 0 Reads.ptrVal) (Scalar.oAt 7 (Syntax.tyInt Syntax.w64)
+              (Row.valS (Row.sInt Syntax.w64))) 8 (Rows.sc-here Row.sPtr) Syntax.tyPtr (Row.valS Row.sPtr)
+              (Row.sPtr .of) (Mut.reads-mslice-ptr 𝓤 H A W RelayCircuit.row ref0 0 0 Path.refl, Path.refl)
+              (Scalar.reads-sc 𝓤 H A W (Row.sInt Syntax.w64), Path.refl) (Reads.room-gone 𝓤 H A Syntax.tyPtr)
+              (Scalar.holds-sc 𝓤 H A W Row.sPtr) Path.refl (λ u. Path.refl) λ u. tt) d0
+
           d2 : Typed.Typed 𝓤 H A 𝓣 E G6 b6 Δ1 at2
-          d2 = Typed.s-seq 𝓤 H A W 𝓣 E G6 G7 b2 b5 Δ1 (Typed.ask s4) at1 (Scalar.t-op2 𝓤 H A W E 𝓣 G6 (Syntax.mul Syntax.unsigned) (Scalar.oAt 3
-              (Syntax.tyInt Syntax.w64) (Row.valS (Row.sInt Syntax.w64))) (Scalar.oInt Syntax.w64 360) 7 (Rows.sc-here (Row.sInt Syntax.w64))
-              (Syntax.tyInt Syntax.w64) (Row.valS (Row.sInt Syntax.w64)) (Row.sInt Syntax.w64 .of) (Scalar.reads-sc 𝓤 H A W (Row.sInt Syntax.w64),
-              Path.refl) tt (Reads.room-gone 𝓤 H A (Syntax.tyInt Syntax.w64)) (Scalar.holds-sc 𝓤 H A W (Row.sInt Syntax.w64)) Path.refl (λ u.
-              Path.refl) λ u. tt) d1
+          d2 = Typed.s-seq 𝓤 H A W 𝓣 E G6 G7 b2 b5 Δ1 (Typed.ask s4) at1 (Scalar.t-op2 𝓤 H A W E 𝓣 G6
+              (Syntax.mul Syntax.unsigned) (Scalar.oAt 3 (Syntax.tyInt Syntax.w64) (Row.valS (Row.sInt Syntax.w64)))
+              (Scalar.oInt Syntax.w64 360) 7 (Rows.sc-here (Row.sInt Syntax.w64)) (Syntax.tyInt Syntax.w64)
+              (Row.valS (Row.sInt Syntax.w64)) (Row.sInt Syntax.w64 .of)
+              (Scalar.reads-sc 𝓤 H A W (Row.sInt Syntax.w64), Path.refl) tt
+              (Reads.room-gone 𝓤 H A (Syntax.tyInt Syntax.w64)) (Scalar.holds-sc 𝓤 H A W (Row.sInt Syntax.w64))
+              Path.refl (λ u. Path.refl) λ u. tt) d1
+
           d3 : Typed.Typed 𝓤 H A 𝓣 E G5 b6 Δ1 at3
-          d3 = Typed.g-pre 𝓤 H A W 𝓣 E G5 G6 b6 Δ1 (Typed.pass T5 T6 s3) at2 (Scalar.g-room 𝓤 H A W E G5 5 Syntax.tyBool (Scalar.room-sc 𝓤 H A W
-              Row.sBool)) d2
+          d3 = Typed.g-pre 𝓤 H A W 𝓣 E G5 G6 b6 Δ1 (Typed.pass T5 T6 s3) at2 (Scalar.g-room 𝓤 H A W E G5 5
+              Syntax.tyBool (Scalar.room-sc 𝓤 H A W Row.sBool)) d2
+
           d4 : Typed.Typed 𝓤 H A 𝓣 E G14 b7 Δ1 at4
           d4 = Typed.t-skip 𝓤 H A W 𝓣 E Δ1 tt
+
           d5 : Typed.Typed 𝓤 H A 𝓣 E G13 b7 Δ1 at5
-          d5 = Typed.g-pre 𝓤 H A W 𝓣 E G13 G14 b7 Δ1 (Typed.pass T13 T14 s11) at4 (Scalar.g-room 𝓤 H A W E G13 5 Syntax.tyBool (Scalar.room-sc 𝓤 H A W
-              Row.sBool)) d4
+          d5 = Typed.g-pre 𝓤 H A W 𝓣 E G13 G14 b7 Δ1 (Typed.pass T13 T14 s11) at4 (Scalar.g-room 𝓤 H A W E G13 5
+              Syntax.tyBool (Scalar.room-sc 𝓤 H A W Row.sBool)) d4
+
           d6 : Typed.Typed 𝓤 H A 𝓣 E G5 b7 Δ1 at6
-          d6 = Typed.g-pre 𝓤 H A W 𝓣 E G5 G13 b7 Δ1 (Typed.pass T5 T13 s10) at5 (Scalar.g-room 𝓤 H A W E G5 4 RelayCircuit.ty (Local.room-whole 𝓤 H A
-              W RelayCircuit.row RelayCircuit.ty Path.refl)) d5
+          d6 = Typed.g-pre 𝓤 H A W 𝓣 E G5 G13 b7 Δ1 (Typed.pass T5 T13 s10) at5 (Scalar.g-room 𝓤 H A W E G5 4
+              RelayCircuit.ty (Local.room-whole 𝓤 H A W RelayCircuit.row RelayCircuit.ty Path.refl)) d5
+
           d7 : Typed.Typed 𝓤 H A 𝓣 E G5 b8 Δ1 at7
-          d7 = Scalar.t-cond 𝓤 H A W E 𝓣 G5 5 (λ x. x) b6 b7 Δ1 at3 at6 (Scalar.reads-sc 𝓤 H A W Row.sBool) Path.refl d3 d6
+          d7 = Scalar.t-cond 𝓤 H A W E 𝓣 G5 5 (λ x. x) b6 b7 Δ1 at3 at6 (Scalar.reads-sc 𝓤 H A W Row.sBool) Path.refl
+              d3 d6
+
           d8 : Typed.Typed 𝓤 H A 𝓣 E G3 b8 Δ1 at8
-          d8 = Typed.g-pre 𝓤 H A W 𝓣 E G3 G5 b8 Δ1 (Typed.pass T3 T5 s2) at7 (Scalar.g-room 𝓤 H A W E G3 6 (Syntax.tyInt Syntax.w64) (Scalar.room-sc 𝓤
-              H A W (Row.sInt Syntax.w64))) d7
+          d8 = Typed.g-pre 𝓤 H A W 𝓣 E G3 G5 b8 Δ1 (Typed.pass T3 T5 s2) at7 (Scalar.g-room 𝓤 H A W E G3 6
+              (Syntax.tyInt Syntax.w64) (Scalar.room-sc 𝓤 H A W (Row.sInt Syntax.w64))) d7
+
           d9 : Typed.Typed 𝓤 H A 𝓣 E G17 b10 Δ0 at9
           d9 = Typed.t-return 𝓤 H A W 𝓣 E Δ0 tt
+
           d10 : Typed.Typed 𝓤 H A 𝓣 E G16 b10 Δ0 at10
-          d10 = Typed.g-pre 𝓤 H A W 𝓣 E G16 G17 b10 Δ0 (Typed.pass T16 T17 s14) at9 (Scalar.g-room 𝓤 H A W E G16 3 (Syntax.tyInt Syntax.w64)
-              (Scalar.room-sc 𝓤 H A W (Row.sInt Syntax.w64))) d9
+          d10 = Typed.g-pre 𝓤 H A W 𝓣 E G16 G17 b10 Δ0 (Typed.pass T16 T17 s14) at9 (Scalar.g-room 𝓤 H A W E G16 3
+              (Syntax.tyInt Syntax.w64) (Scalar.room-sc 𝓤 H A W (Row.sInt Syntax.w64))) d9
+
           d11 : Typed.Typed 𝓤 H A 𝓣 E G15 b10 Δ0 at11
-          d11 = Typed.g-pre 𝓤 H A W 𝓣 E G15 G16 b10 Δ0 (Typed.pass T15 T16 s13) at10 (Scalar.g-room 𝓤 H A W E G15 2 Syntax.tyBool (Scalar.room-sc 𝓤 H
-              A W Row.sBool)) d10
+          d11 = Typed.g-pre 𝓤 H A W 𝓣 E G15 G16 b10 Δ0 (Typed.pass T15 T16 s13) at10 (Scalar.g-room 𝓤 H A W E G15 2
+              Syntax.tyBool (Scalar.room-sc 𝓤 H A W Row.sBool)) d10
+
           d12 : Typed.Typed 𝓤 H A 𝓣 E G4 b11 Δ0 at12
-          d12 = Typed.s-seq 𝓤 H A W 𝓣 E G4 G15 b9 b10 Δ0 (Typed.pass T4 T15 s12) at11 (Scalar.t-use 𝓤 H A W E 𝓣 G4 Scalar.oUnit 0 (Rows.sc-here
-              Row.sUnit) Syntax.tyUnit (Row.valS Row.sUnit) (Row.sUnit .of) tt (Reads.room-gone 𝓤 H A Syntax.tyUnit) (Scalar.holds-sc 𝓤 H A W
-              Row.sUnit) Path.refl (λ u. Path.refl) λ u. tt) d11
+          d12 = Typed.s-seq 𝓤 H A W 𝓣 E G4 G15 b9 b10 Δ0 (Typed.pass T4 T15 s12) at11 (Scalar.t-use 𝓤 H A W E 𝓣 G4
+              Scalar.oUnit 0 (Rows.sc-here Row.sUnit) Syntax.tyUnit (Row.valS Row.sUnit) (Row.sUnit .of) tt
+              (Reads.room-gone 𝓤 H A Syntax.tyUnit) (Scalar.holds-sc 𝓤 H A W Row.sUnit) Path.refl (λ u. Path.refl) λ u.
+              tt) d11
+
           d13 : Typed.Typed 𝓤 H A 𝓣 E G3 b12 Δ0 at13
           d13 = Typed.t-seq 𝓤 H A W 𝓣 E G3 G4 b8 b11 Δ0 at8 at12 d8 d12
+
           d14 : Typed.Typed 𝓤 H A 𝓣 E G2 b13 Δ0 at14
-          d14 = Typed.s-seq 𝓤 H A W 𝓣 E G2 G3 b1 b12 Δ0 (Typed.both s1) at13 (Plain.t-call-plain 𝓤 H A W 𝓣 0 ps·0 r·0 (claims· .0) (claims· .1)
-              "hnsr_circuit::scan::within" known E (λ pos β. β) G2 (Bool.bAt 2 λ x. x, (Num.vAt 3 λ x. x, (Num.vAt 6 λ x. x, tt))) 5 List.[]
-              (Call.sub-id 𝓤 H A W (G2 .slots)) ((Scalar.reads-sc 𝓤 H A W Row.sBool, Path.refl), ((Scalar.reads-sc 𝓤 H A W (Row.sInt Syntax.w64),
-              Path.refl), ((Scalar.reads-sc 𝓤 H A W (Row.sInt Syntax.w64), Path.refl), tt),),) (Reads.room-gone 𝓤 H A Syntax.tyBool) tt Path.refl) d13
+          d14 = Typed.s-seq 𝓤 H A W 𝓣 E G2 G3 b1 b12 Δ0 (Typed.both s1) at13 (Plain.t-call-plain 𝓤 H A W 𝓣 0 ps·0 r·0
+              (claims· .0) (claims· .1) "hnsr_circuit::scan::within" known E (λ pos β. β) G2 (
+                Bool.bAt 2 λ x. x,
+                (Num.vAt 3 λ x. x, (Num.vAt 6 λ x. x, tt)),
+              ) 5 List.[] (Call.sub-id 𝓤 H A W (G2 .slots)) (
+                (Scalar.reads-sc 𝓤 H A W Row.sBool, Path.refl),
+                (
+                  (Scalar.reads-sc 𝓤 H A W (Row.sInt Syntax.w64), Path.refl),
+                  ((Scalar.reads-sc 𝓤 H A W (Row.sInt Syntax.w64), Path.refl), tt),
+                ),
+              ) (Reads.room-gone 𝓤 H A Syntax.tyBool) tt Path.refl) d13
+
           d15 : Typed.Typed 𝓤 H A 𝓣 E G0 b14 Δ0 at15
-          d15 = Typed.s-seq 𝓤 H A W 𝓣 E G0 G2 b0 b13 Δ0 (Typed.pass T0 T2 s0) at14 (Scalar.t-use 𝓤 H A W E 𝓣 G0 (Scalar.oFld 1 ((Syntax.field 1) ∷
-              List.[]) (Syntax.tyInt Syntax.w64) 8 Shared.lenV) 6 (Rows.sc-here (Row.sInt Syntax.w64)) (Syntax.tyInt Syntax.w64) (Row.valS (Row.sInt
-              Syntax.w64)) (Row.sInt Syntax.w64 .of) (Mut.reads-mslice-len 𝓤 H A W RelayCircuit.row ref0 0 8 Path.refl, Path.refl,) (Reads.room-gone 𝓤
-              H A (Syntax.tyInt Syntax.w64)) (Scalar.holds-sc 𝓤 H A W (Row.sInt Syntax.w64)) Path.refl (λ u. Path.refl) λ u. tt) d14
+          d15 = Typed.s-seq 𝓤 H A W 𝓣 E G0 G2 b0 b13 Δ0 (Typed.pass T0 T2 s0) at14 (Scalar.t-use 𝓤 H A W E 𝓣 G0 (Scalar.oFld
+              1 ((Syntax.field 1) ∷ List.[]) (Syntax.tyInt Syntax.w64) 8 Shared.lenV) 6
+              (Rows.sc-here (Row.sInt Syntax.w64)) (Syntax.tyInt Syntax.w64) (Row.valS (Row.sInt Syntax.w64))
+              (Row.sInt Syntax.w64 .of) (Mut.reads-mslice-len 𝓤 H A W RelayCircuit.row ref0 0 8 Path.refl, Path.refl)
+              (Reads.room-gone 𝓤 H A (Syntax.tyInt Syntax.w64)) (Scalar.holds-sc 𝓤 H A W (Row.sInt Syntax.w64))
+              Path.refl (λ u. Path.refl) λ u. tt) d14
+
           pub typed : Typed.Typed 𝓤 H A 𝓣 E (Function.Γin 1 ps r xs m κs qs) b14 (Function.Δret 1 ps r xs m κs qs) Φ
           typed = d15
+
       module _ (κs : Lifetimes.Lfts 1) where
         pub record Args : Type 0 where
-          pub circuits : Kinds.Den { n = 1 } κs (MutSlice.pMutS RelayCircuit.row 0 tt)
-          pub go : Kinds.Den { n = 1 } κs Bool.pBool
-          pub place : Kinds.Den { n = 1 } κs (Num.pNum Syntax.w64)
-          pub row : Kinds.Den { n = 1 } κs RelayCircuit.param
+          pub circuits : Kinds.Den {n = 1} κs (MutSlice.pMutS RelayCircuit.row 0 tt)
+          pub go : Kinds.Den {n = 1} κs Bool.pBool
+          pub place : Kinds.Den {n = 1} κs (Num.pNum Syntax.w64)
+          pub row : Kinds.Den {n = 1} κs RelayCircuit.param
+
         abbrev pub dens : (a : Args) → Kinds.Dens κs ps
         dens = λ a. (a .circuits, (a .go, (a .place, (a .row, tt))))
+
         module _ (args· : Args) where
           pub record Ranges : Type 0 where
             pub place : Val.Fits Syntax.w64 (args· .place)
+
       abbrev pub m0 : (κs : Lifetimes.Lfts 1) → (args : Args κs) → Typed.Mo T0
       m0 = λ κs args. (tt, Enter.partsP κs 1 ps xs (dens κs args))
+
       abbrev W0 : (κs : Lifetimes.Lfts 1) → (args : Args κs) → Typed.Want O0
-      W0 = λ κs args. (λ u. ⊥, tt, λ u. Enter.Fixs κs 1 ps xs (dens κs args) (u .1) × Post· κs (dens κs args) (Function.resV r κs (u .0))
-          (Clauses.atExit (Kinds.endedOf 1 ps r) κs (dens κs args) (Enter.lastsP κs 1 ps xs (dens κs args) (u .1))),)
+      W0 = λ κs args. (
+        λ u. ⊥,
+        tt,
+        λ u. Enter.Fixs κs 1 ps xs (dens κs args) (u .1) × Post· κs (dens κs args) (Function.resV r κs (u .0)) (Clauses.atExit
+            (Kinds.endedOf 1 ps r) κs (dens κs args) (Enter.lastsP κs 1 ps xs (dens κs args) (u .1))),
+      )
+
       pub record Start : Type 0 where
         pub κs : Lifetimes.Lfts 1
         pub args : Args κs
         pub good : Kinds.GoodsP κs ps (dens κs args)
         pub fits : Ranges κs args
         pub pre : Pre· κs (dens κs args)
+
       abbrev pub m1 : (κs : Lifetimes.Lfts 1) → (args : Args κs) → Typed.Mo T2
       m1 = λ κs args. s0 (m0 κs args)
+
       abbrev pub Need-within-requires : Type 0
       Need-within-requires = (c : Start) → s1 .asks (m1 (c .κs) (c .args))
+
       abbrev pub m2 : (before : Start) → (given : s1 .gives (m1 (before .κs) (before .args))) → Typed.Mo T3
       m2 = λ before given. s1 .next (m1 (before .κs) (before .args)) given
+
       module _ (before· : Start) where
         abbrev pub After-within·own : Type 0
-        After-within·own = Called.Called ps·0 r·0 (claims· .1) T2 (Bool.bAt 2 λ x. x, (Num.vAt 3 λ x. x, (Num.vAt 6 λ x. x, tt)),) (m1 (before· .κs)
-            (before· .args))
+        After-within·own = Called.Called ps·0 r·0 (claims· .1) T2 args1 (m1 (before· .κs) (before· .args))
+
       pub record After-within : Type 0 where
         pub before : Start
         pub within : After-within·own before
+
       abbrev pub After-within·gave : (c : After-within) → s1 .gives (m1 (c .before .κs) (c .before .args))
-      After-within·gave = λ c. Called.given ps·0 r·0 (claims· .1) T2 (Bool.bAt 2 λ x. x, (Num.vAt 3 λ x. x, (Num.vAt 6 λ x. x, tt)),) (m1 (c .before
-          .κs) (c .before .args)) (c .within)
+      After-within·gave = λ c. Called.given ps·0 r·0 (claims· .1) T2 args1 (m1 (c .before .κs) (c .before .args))
+          (c .within)
+
       abbrev W1 : (before : Start) → (given : s1 .gives (m1 (before .κs) (before .args))) → Typed.Want O1
-      W1 = λ before given. Typed.wantNext T4 O0 (at12 (W0 (before .κs) (before .args))) (W0 (before .κs) (before .args))
+      W1 = λ before given. Typed.wantNext T4 O0 (at12 (W0 (before .κs) (before .args)))
+          (W0 (before .κs) (before .args))
+
       abbrev pub m3 : (before : Start) → (given : s1 .gives (m1 (before .κs) (before .args))) → Typed.Mo T5
       m3 = λ before given. s2 (m2 before given)
+
       abbrev pub m4 : (before : After-within) → Typed.Mo T6
       m4 = λ before. s3 (m3 (before .before) (After-within·gave before))
+
       module _ (before· : After-within) where
         pub record Then1·own : Type 0 where
           pub taken : Path._≡_ (Row.get 5 (T5 .locals) (m3 (before· .before) (After-within·gave before·))) Bool'.true
+
       pub record Then1 : Type 0 where
         pub before : After-within
         pub if1 : Then1·own before
+
       abbrev pub Need-mul-row : Type 0
       Need-mul-row = (c : Then1) → s4 .asks (m4 (c .before))
+
       abbrev pub m5 : (before : After-within) → Typed.Mo T7
       m5 = λ before. s4 .next (m4 before)
+
       abbrev pub m6 : (before : After-within) → Typed.Mo T8
       m6 = λ before. s5 .next (m5 before)
+
       abbrev pub Need-slice-set-from-row : Type 0
       Need-slice-set-from-row = (c : Then1) → Shared.InSlice T8 1 8 (λ x. x) (λ u. u .1 .1 .1 .0) (m6 (c .before))
+
       abbrev pub m7 : (before : After-within) → Typed.Mo T9
       m7 = λ before. s6 .next (m6 before)
+
       abbrev pub m8 : (before : After-within) → Typed.Mo T10
       m8 = λ before. s7 (m7 before)
+
       abbrev pub m9 : (before : After-within) → Typed.Mo T11
       m9 = λ before. s8 (m8 before)
+
       abbrev pub m10 : (before : After-within) → Typed.Mo T12
       m10 = λ before. s9 (m9 before)
+
       abbrev pub m11 : (before : After-within) → Typed.Mo T13
       m11 = λ before. s10 (m3 (before .before) (After-within·gave before))
+
       abbrev pub m12 : (before : After-within) → Typed.Mo T14
       m12 = λ before. s11 (m11 before)
+
       module _ (before· : After-within) where
         pub record Else1·own : Type 0 where
           pub left : Path._≡_ (Row.get 5 (T5 .locals) (m3 (before· .before) (After-within·gave before·))) Bool'.false
+
       pub record Else1 : Type 0 where
         pub before : After-within
         pub if1 : Else1·own before
+
       abbrev pub m13 : (before : After-within) → Typed.Mo T15
       m13 = λ before. s12 (m10 before)
+
       abbrev pub m14 : (before : After-within) → Typed.Mo T16
       m14 = λ before. s13 (m13 before)
+
       abbrev pub m15 : (before : After-within) → Typed.Mo T17
       m15 = λ before. s14 (m14 before)
+
       abbrev pub Need-same-length : Type 0
-      Need-same-length = (c : Then1) → MutSlice.SameLen (Row.get 1 (T17 .locals) (m15 (c .before))) (dens (c .before .before .κs) (c .before .before
-          .args) .0)
+      Need-same-length = (c : Then1) → MutSlice.SameLen (Row.get 1 (T17 .locals) (m15 (c .before)))
+          (dens (c .before .before .κs) (c .before .before .args) .0)
+
       abbrev pub Need-returns : Type 0
-      Need-returns = (c : Then1) → Post· (c .before .before .κs) (dens (c .before .before .κs) (c .before .before .args)) (Function.resV r (c .before
-          .before .κs) (m15 (c .before) .0)) (Clauses.atExit (Kinds.endedOf 1 ps r) (c .before .before .κs) (dens (c .before .before .κs) (c .before
-          .before .args)) (Enter.lastsP (c .before .before .κs) 1 ps xs (dens (c .before .before .κs) (c .before .before .args)) (m15 (c .before)
-          .1)))
+      Need-returns = (c : Then1) → Post· (c .before .before .κs)
+          (dens (c .before .before .κs) (c .before .before .args)) (Function.resV r (c .before .before .κs)
+          (m15 (c .before) .0)) (Clauses.atExit (Kinds.endedOf 1 ps r) (c .before .before .κs)
+          (dens (c .before .before .κs) (c .before .before .args)) (Enter.lastsP (c .before .before .κs) 1 ps xs
+          (dens (c .before .before .κs) (c .before .before .args)) (m15 (c .before) .1)))
+
       abbrev pub m16 : (before : After-within) → Typed.Mo T15
       m16 = λ before. s12 (m12 before)
+
       abbrev pub m17 : (before : After-within) → Typed.Mo T16
       m17 = λ before. s13 (m16 before)
+
       abbrev pub m18 : (before : After-within) → Typed.Mo T17
       m18 = λ before. s14 (m17 before)
+
       abbrev pub Need-returns-2 : Type 0
-      Need-returns-2 = (c : Else1) → Post· (c .before .before .κs) (dens (c .before .before .κs) (c .before .before .args)) (Function.resV r (c
-          .before .before .κs) (m18 (c .before) .0)) (Clauses.atExit (Kinds.endedOf 1 ps r) (c .before .before .κs) (dens (c .before .before .κs) (c
-          .before .before .args)) (Enter.lastsP (c .before .before .κs) 1 ps xs (dens (c .before .before .κs) (c .before .before .args)) (m18 (c
-          .before) .1)))
-      module _ (within-requires : Need-within-requires) (mul-row : Need-mul-row) (slice-set-from-row : Need-slice-set-from-row) (same-length :
-          Need-same-length) (returns : Need-returns) (returns-2 : Need-returns-2) where
+      Need-returns-2 = (c : Else1) → Post· (c .before .before .κs)
+          (dens (c .before .before .κs) (c .before .before .args)) (Function.resV r (c .before .before .κs)
+          (m18 (c .before) .0)) (Clauses.atExit (Kinds.endedOf 1 ps r) (c .before .before .κs)
+          (dens (c .before .before .κs) (c .before .before .args)) (Enter.lastsP (c .before .before .κs) 1 ps xs
+          (dens (c .before .before .κs) (c .before .before .args)) (m18 (c .before) .1)))
+
+      module _ (within-requires : Need-within-requires) (mul-row : Need-mul-row)
+          (slice-set-from-row : Need-slice-set-from-row) (same-length : Need-same-length) (returns : Need-returns)
+          (returns-2 : Need-returns-2) where
         lay3 : (c : Else1) → at12 (W0 (c .before .before .κs) (c .before .before .args)) (m12 (c .before))
-        lay3 = λ c. ((Path.refl, (tt, (tt, (tt, tt)))), returns-2 record { before = c .before; if1 = c .if1 },)
+        lay3 = λ c. ((Path.refl, (tt, (tt, (tt, tt)))), returns-2 record { before = c .before; if1 = c .if1 })
+
         lay2 : (c : Then1) → at12 (W0 (c .before .before .κs) (c .before .before .args)) (m10 (c .before))
-        lay2 = λ c. ((MutSlice.fix-len (Row.get 1 (T17 .locals) (m15 (c .before)) .ptr) (Row.get 1 (T17 .locals) (m15 (c .before)) .name) (Row.get 1
-            (T17 .locals) (m15 (c .before)) .now) (dens (c .before .before .κs) (c .before .before .args) .0 .now) (same-length record { before = c
-            .before; if1 = c .if1 }), (tt, (tt, (tt, tt))),), returns record { before = c .before; if1 = c .if1 },)
+        lay2 = λ c. (
+          (
+            MutSlice.fix-len (Row.get 1 (T17 .locals) (m15 (c .before)) .ptr)
+                (Row.get 1 (T17 .locals) (m15 (c .before)) .name) (Row.get 1 (T17 .locals) (m15 (c .before)) .now) (dens
+                (c .before .before .κs) (c .before .before .args) .0 .now)
+                (same-length record { before = c .before; if1 = c .if1 }),
+            (tt, (tt, (tt, tt))),
+          ),
+          returns record { before = c .before; if1 = c .if1 },
+        )
+
         lay1 : (c : After-within) → at13 (W0 (c .before .κs) (c .before .args)) (m2 (c .before) (After-within·gave c))
-        lay1 = λ c. (λ taken. (mul-row record { before = record { before = c .before; within = c .within }; if1 = record { taken = taken }; }, (tt,
-            ((Path.refl, Path.refl, slice-set-from-row record { before = record { before = c .before; within = c .within }; if1 = record { taken =
-            taken }; },), lay2 record { before = record { before = c .before; within = c .within }; if1 = record { taken = taken }; },),),), λ left.
-            lay3 record { before = record { before = c .before; within = c .within }; if1 = record { left = left }; },)
+        lay1 = λ c. (
+          λ taken. (
+            mul-row record {
+              before = record { before = c .before; within = c .within };
+              if1 = record { taken = taken };
+            },
+            (
+              tt,
+              (
+                (
+                  Path.refl,
+                  Path.refl,
+                  slice-set-from-row record {
+                    before = record { before = c .before; within = c .within };
+                    if1 = record { taken = taken };
+                  },
+                ),
+                lay2 record {
+                  before = record { before = c .before; within = c .within };
+                  if1 = record { taken = taken };
+                },
+              ),
+            ),
+          ),
+          λ left. lay3 record {
+            before = record { before = c .before; within = c .within };
+            if1 = record { left = left };
+          },
+        )
+
         pub laid : (c : Start) → at15 (W0 (c .κs) (c .args)) (m0 (c .κs) (c .args))
-        laid = λ c. (within-requires c, λ g. lay1 record { before = c; within = Called.called ps·0 r·0 (claims· .1) T2 (Bool.bAt 2 λ x. x, (Num.vAt 3
-            λ x. x, (Num.vAt 6 λ x. x, tt)),) (m1 (c .κs) (c .args)) g; },)
+        laid = λ c. (
+          within-requires c,
+          λ g. lay1 record {
+            before = c;
+            within = Called.called ps·0 r·0 (claims· .1) T2 args1 (m1 (c .κs) (c .args)) g;
+          },
+        )
+
         module _ (κs : Lifetimes.Lfts 1) (qs : Lifetimes.Shares 1) where
-          pub asked : (a : Kinds.Dens κs ps) → (good : Kinds.GoodsP κs ps a) → (pre : Pre· κs a) → (bs : List.List Nat.ℕ) → Φ (Any.wantQ 1 ps r xs m
-              κs qs a (Post· κs a)) (Function.init 1 ps r xs m κs qs a)
-          asked = λ a good pre bs. laid record { κs = κs; args = record { circuits = a .0; go = a .1 .0; place = a .1 .1 .0; row = a .1 .1 .1 .0; };
-              good = good; fits = record { place = record { fits = good .1 .1 .0 .1 } }; pre = pre; }
-        module _ { M : Type 1 } (𝓤 : URA.URA M) (H : Wp.Heap 𝓤) (A : Atoms.Atoms 𝓤) (W : Kit.Given 𝓤 H A) (𝓣 : Wp.Tables 𝓤 H) (known0 : Plain.Known 𝓤
-            H A W 𝓣 0 ps·0 r·0 (claims· .0) (claims· .1) "hnsr_circuit::scan::within") where
-          pub spec : Statement.Triple 𝓤 (Wp.WpFn 𝓤 H (𝓣 .C) (𝓣 .Λ) (Function.fnOf 1 ps r xs m hs body)) (Function.plainOf 𝓤 H A 1 ps r Pre· Post·)
-          spec = Plain.t-fn-plain 𝓤 H A W 𝓣 1 ps r xs m hs body (λ κs qs bs. Φ) (λ κs qs bs bd. typed κs qs 𝓤 H A W 𝓣 known0 bs bd) Pre· Post· asked
+          pub asked : (a : Kinds.Dens κs ps) → (good : Kinds.GoodsP κs ps a) → (pre : Pre· κs a) →
+              (bs : List.List Nat.ℕ) → Φ (Any.wantQ 1 ps r xs m κs qs a (Post· κs a))
+              (Function.init 1 ps r xs m κs qs a)
+          asked = λ a good pre bs. laid record {
+            κs = κs;
+            args = record { circuits = a .0; go = a .1 .0; place = a .1 .1 .0; row = a .1 .1 .1 .0 };
+            good = good;
+            fits = record { place = record { fits = good .1 .1 .0 .1 } };
+            pre = pre;
+          }
+
+        module _ {M : Type 1} (𝓤 : URA.URA M) (H : Wp.Heap 𝓤) (A : Atoms.Atoms 𝓤) (W : Kit.Given 𝓤 H A)
+            (𝓣 : Wp.Tables 𝓤 H) (known0 : Plain.Known 𝓤 H A W 𝓣 0 ps·0 r·0 (claims· .0) (claims· .1)
+            "hnsr_circuit::scan::within") where
+          pub spec : Statement.Triple 𝓤 (Wp.WpFn 𝓤 H (𝓣 .C) (𝓣 .Λ) (Function.fnOf 1 ps r xs m hs body))
+              (Function.plainOf 𝓤 H A 1 ps r Pre· Post·)
+          spec = Plain.t-fn-plain 𝓤 H A W 𝓣 1 ps r xs m hs body (λ κs qs bs. Φ)
+              (λ κs qs bs bd. typed κs qs 𝓤 H A W 𝓣 known0 bs bd) Pre· Post· asked

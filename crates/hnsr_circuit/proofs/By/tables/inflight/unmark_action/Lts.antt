@@ -3,6 +3,7 @@ use Prim.Native.Nat
 use Rattle.hnsr_circuit.proofs.By.InflightAction
 use borrow.Author.Called
 use borrow.Fn.Any
+use borrow.Fn.Args as Args'
 use borrow.Fn.Call
 use borrow.Fn.Enter
 use borrow.Fn.Frame
@@ -44,692 +45,1105 @@ use mathlib.Core.List.{_∷_}
 
 abbrev ref0 : Syntax.Ty
 ref0 = Syntax.tyRef (Syntax.named 0) Syntax.mut InflightAction.to
+
 abbrev pub ps : List.List (Kinds.PK 1)
 ps = (MutSlice.pMutS InflightAction.row 0 tt) ∷ Bool.pBool ∷ (Num.pNum Syntax.w64) ∷ List.[]
+
 abbrev pub r : Kinds.RK 1
 r = Unit.rUnit
+
 abbrev pub xs : List.List Syntax.Ty
-xs = InflightAction.ty ∷ InflightAction.ty ∷ Syntax.tyBool ∷ (Syntax.tyInt Syntax.w64) ∷ (Syntax.tyInt Syntax.w64) ∷ Syntax.tyPtr ∷ InflightAction.ty
-    ∷ Syntax.tyPtr ∷ List.[]
+xs = InflightAction.ty ∷ InflightAction.ty ∷ Syntax.tyBool ∷ (Syntax.tyInt Syntax.w64) ∷ (Syntax.tyInt Syntax.w64) ∷
+    Syntax.tyPtr ∷ InflightAction.ty ∷ Syntax.tyPtr ∷ List.[]
+
 abbrev pub m : Nat.ℕ
 m = 0
+
 abbrev pub ps·0 : List.List (Kinds.PK 0)
 ps·0 = Bool.pBool ∷ (Num.pNum Syntax.w64) ∷ (Num.pNum Syntax.w64) ∷ List.[]
+
 abbrev pub r·0 : Kinds.RK 0
 r·0 = Bool.rBool
+
 abbrev pub ps·1 : List.List (Kinds.PK 0)
 ps·1 = InflightAction.param ∷ List.[]
+
 abbrev pub r·1 : Kinds.RK 0
 r·1 = InflightAction.result
+
 abbrev pub hs : List.List Syntax.Home
-hs = Syntax.valueLocal ∷ Syntax.valueLocal ∷ Syntax.valueLocal ∷ Syntax.valueLocal ∷ Syntax.valueLocal ∷ Syntax.valueLocal ∷ Syntax.valueLocal ∷
-    Syntax.valueLocal ∷ Syntax.valueLocal ∷ Syntax.valueLocal ∷ Syntax.valueLocal ∷ Syntax.valueLocal ∷ List.[]
+hs = Syntax.valueLocal ∷ Syntax.valueLocal ∷ Syntax.valueLocal ∷ Syntax.valueLocal ∷ Syntax.valueLocal ∷
+    Syntax.valueLocal ∷ Syntax.valueLocal ∷ Syntax.valueLocal ∷ Syntax.valueLocal ∷ Syntax.valueLocal ∷
+    Syntax.valueLocal ∷ Syntax.valueLocal ∷ List.[]
+
 abbrev b0 : Syntax.Body
 b0 = Syntax.assign (Syntax.place 7 List.[]) (Syntax.rvOpd (Syntax.copy (Syntax.place 1 ((Syntax.field 1) ∷ List.[]))))
+
 abbrev b1 : Syntax.Body
-b1 = Syntax.call "hnsr_circuit::scan::within" ((Syntax.copy (Syntax.place 2 List.[])) ∷ (Syntax.copy (Syntax.place 3 List.[])) ∷ (Syntax.copy
-    (Syntax.place 7 List.[])) ∷ List.[]) (Syntax.place 6 List.[])
+b1 = Syntax.call "hnsr_circuit::scan::within" ((Syntax.copy (Syntax.place 2 List.[])) ∷
+    (Syntax.copy (Syntax.place 3 List.[])) ∷ (Syntax.copy (Syntax.place 7 List.[])) ∷ List.[]) (Syntax.place 6 List.[])
+
 abbrev b2 : Syntax.Body
-b2 = Syntax.assign (Syntax.place 8 List.[]) (Syntax.op2 (Syntax.mul Syntax.unsigned) (Syntax.copy (Syntax.place 3 List.[])) (Syntax.int Syntax.w64
-    184))
+b2 = Syntax.assign (Syntax.place 8 List.[]) (Syntax.op2 (Syntax.mul Syntax.unsigned)
+    (Syntax.copy (Syntax.place 3 List.[])) (Syntax.int Syntax.w64 184))
+
 abbrev b3 : Syntax.Body
-b3 = Syntax.assign (Syntax.place 9 List.[]) (Syntax.op2 Syntax.offset (Syntax.copy (Syntax.place 1 ((Syntax.field 0) ∷ List.[]))) (Syntax.copy
-    (Syntax.place 8 List.[])))
+b3 = Syntax.assign (Syntax.place 9 List.[]) (Syntax.op2 Syntax.offset
+    (Syntax.copy (Syntax.place 1 ((Syntax.field 0) ∷ List.[]))) (Syntax.copy (Syntax.place 8 List.[])))
+
 abbrev b4 : Syntax.Body
-b4 = Syntax.assign (Syntax.place 10 List.[]) (Syntax.rvOpd (Syntax.copy (Syntax.place 9 ((Syntax.deref InflightAction.ty) ∷ List.[]))))
+b4 = Syntax.assign (Syntax.place 10 List.[]) (Syntax.rvOpd (Syntax.copy (Syntax.place 9
+    ((Syntax.deref InflightAction.ty) ∷ List.[]))))
+
 abbrev b5 : Syntax.Body
 b5 = Syntax.assign (Syntax.place 4 List.[]) (Syntax.rvOpd (Syntax.copy (Syntax.place 10 List.[])))
+
 abbrev b6 : Syntax.Body
-b6 = Syntax.call "hnsr_circuit::inflight::action_unmarked" ((Syntax.copy (Syntax.place 4 List.[])) ∷ List.[]) (Syntax.place 5 List.[])
+b6 = Syntax.call "hnsr_circuit::inflight::action_unmarked" ((Syntax.copy (Syntax.place 4 List.[])) ∷ List.[])
+    (Syntax.place 5 List.[])
+
 abbrev b7 : Syntax.Body
-b7 = Syntax.assign (Syntax.place 8 List.[]) (Syntax.op2 (Syntax.mul Syntax.unsigned) (Syntax.copy (Syntax.place 3 List.[])) (Syntax.int Syntax.w64
-    184))
+b7 = Syntax.assign (Syntax.place 8 List.[]) (Syntax.op2 (Syntax.mul Syntax.unsigned)
+    (Syntax.copy (Syntax.place 3 List.[])) (Syntax.int Syntax.w64 184))
+
 abbrev b8 : Syntax.Body
-b8 = Syntax.assign (Syntax.place 11 List.[]) (Syntax.op2 Syntax.offset (Syntax.copy (Syntax.place 1 ((Syntax.field 0) ∷ List.[]))) (Syntax.copy
-    (Syntax.place 8 List.[])))
+b8 = Syntax.assign (Syntax.place 11 List.[]) (Syntax.op2 Syntax.offset
+    (Syntax.copy (Syntax.place 1 ((Syntax.field 0) ∷ List.[]))) (Syntax.copy (Syntax.place 8 List.[])))
+
 abbrev b9 : Syntax.Body
-b9 = Syntax.assign (Syntax.place 11 ((Syntax.deref InflightAction.ty) ∷ List.[])) (Syntax.rvOpd (Syntax.copy (Syntax.place 5 List.[])))
+b9 = Syntax.assign (Syntax.place 11 ((Syntax.deref InflightAction.ty) ∷ List.[]))
+    (Syntax.rvOpd (Syntax.copy (Syntax.place 5 List.[])))
+
 abbrev b10 : Syntax.Body
 b10 = Syntax.seq b8 b9
+
 abbrev b11 : Syntax.Body
 b11 = Syntax.seq b7 b10
+
 abbrev b12 : Syntax.Body
 b12 = Syntax.seq b6 b11
+
 abbrev b13 : Syntax.Body
 b13 = Syntax.seq b5 b12
+
 abbrev b14 : Syntax.Body
 b14 = Syntax.seq b4 b13
+
 abbrev b15 : Syntax.Body
 b15 = Syntax.seq b3 b14
+
 abbrev b16 : Syntax.Body
 b16 = Syntax.seq b2 b15
+
 abbrev b17 : Syntax.Body
 b17 = Syntax.skip
+
 abbrev b18 : Syntax.Body
 b18 = Syntax.cond (Syntax.copy (Syntax.place 6 List.[])) b16 b17
+
 abbrev b19 : Syntax.Body
 b19 = Syntax.assign (Syntax.place 0 List.[]) (Syntax.rvOpd Syntax.opdUnit)
+
 abbrev b20 : Syntax.Body
 b20 = Syntax.return
+
 abbrev b21 : Syntax.Body
 b21 = Syntax.seq b19 b20
+
 abbrev b22 : Syntax.Body
 b22 = Syntax.seq b18 b21
+
 abbrev b23 : Syntax.Body
 b23 = Syntax.seq b1 b22
+
 abbrev b24 : Syntax.Body
 b24 = Syntax.seq b0 b23
+
 abbrev pub body : Syntax.Body
 body = b24
+
 abbrev pub Claims : Type 1
 Claims = Kinds.In 0 ps·0 × Kinds.Out 0 ps·0 r·0 × Kinds.In 0 ps·1 × Kinds.Out 0 ps·1 r·1
+
 abbrev e0 : Row.Entry
 e0 = (0, Rows.any-gone Syntax.tyUnit)
+
 abbrev e1 : Row.Entry
 e1 = (1, Mut.mslice InflightAction.row ref0 0)
+
 abbrev e2 : Row.Entry
 e2 = (2, Rows.sc-here Row.sBool)
+
 abbrev e3 : Row.Entry
 e3 = (3, Rows.sc-here (Row.sInt Syntax.w64))
+
 abbrev e4 : Row.Entry
 e4 = (4, Rows.any-gone InflightAction.ty)
+
 abbrev e5 : Row.Entry
 e5 = (5, Rows.any-gone InflightAction.ty)
+
 abbrev e6 : Row.Entry
 e6 = (6, Rows.any-gone Syntax.tyBool)
+
 abbrev e7 : Row.Entry
 e7 = (7, Rows.any-gone (Syntax.tyInt Syntax.w64))
+
 abbrev e8 : Row.Entry
 e8 = (8, Rows.any-gone (Syntax.tyInt Syntax.w64))
+
 abbrev e9 : Row.Entry
 e9 = (9, Rows.any-gone Syntax.tyPtr)
+
 abbrev e10 : Row.Entry
 e10 = (10, Rows.any-gone InflightAction.ty)
+
 abbrev e11 : Row.Entry
 e11 = (11, Rows.any-gone Syntax.tyPtr)
+
 abbrev e0·1 : Row.Entry
 e0·1 = (0, Rows.sc-here Row.sUnit)
+
 abbrev e2·1 : Row.Entry
 e2·1 = (2, Rows.any-gone Syntax.tyBool)
+
 abbrev e3·1 : Row.Entry
 e3·1 = (3, Rows.any-gone (Syntax.tyInt Syntax.w64))
+
 abbrev e7·1 : Row.Entry
 e7·1 = (7, Rows.sc-here (Row.sInt Syntax.w64))
+
 abbrev e6·1 : Row.Entry
 e6·1 = (6, Rows.sc-here Row.sBool)
+
 abbrev e8·1 : Row.Entry
 e8·1 = (8, Rows.sc-here (Row.sInt Syntax.w64))
+
 abbrev e9·1 : Row.Entry
 e9·1 = (9, Rows.sc-here Row.sPtr)
+
 abbrev e10·1 : Row.Entry
 e10·1 = (10, InflightAction.held)
+
 abbrev e4·1 : Row.Entry
 e4·1 = (4, InflightAction.held)
+
 abbrev e5·1 : Row.Entry
 e5·1 = (5, InflightAction.held)
+
 abbrev e11·1 : Row.Entry
 e11·1 = (11, Rows.sc-here Row.sPtr)
+
 abbrev pub t0 : List.List Row.Entry
 t0 = e0 ∷ e1 ∷ e2 ∷ e3 ∷ e4 ∷ e5 ∷ e6 ∷ e7 ∷ e8 ∷ e9 ∷ e10 ∷ e11 ∷ List.[]
+
 abbrev pub t1 : List.List Row.Entry
 t1 = e0·1 ∷ e1 ∷ e2·1 ∷ e3·1 ∷ e4 ∷ e5 ∷ e6 ∷ e7 ∷ e8 ∷ e9 ∷ e10 ∷ e11 ∷ List.[]
+
 abbrev pub t2 : List.List Row.Entry
 t2 = e0 ∷ e1 ∷ e2 ∷ e3 ∷ e4 ∷ e5 ∷ e6 ∷ e7·1 ∷ e8 ∷ e9 ∷ e10 ∷ e11 ∷ List.[]
+
 abbrev pub t3 : List.List Row.Entry
 t3 = e0 ∷ e1 ∷ e2 ∷ e3 ∷ e4 ∷ e5 ∷ e6·1 ∷ e7·1 ∷ e8 ∷ e9 ∷ e10 ∷ e11 ∷ List.[]
+
 abbrev pub t4 : List.List Row.Entry
 t4 = e0 ∷ e1 ∷ e2 ∷ e3 ∷ e4 ∷ e5 ∷ e6·1 ∷ e7 ∷ e8 ∷ e9 ∷ e10 ∷ e11 ∷ List.[]
+
 abbrev pub t5 : List.List Row.Entry
 t5 = e0 ∷ e1 ∷ e2 ∷ e3 ∷ e4 ∷ e5 ∷ e6 ∷ e7 ∷ e8·1 ∷ e9 ∷ e10 ∷ e11 ∷ List.[]
+
 abbrev pub t6 : List.List Row.Entry
 t6 = e0 ∷ e1 ∷ e2 ∷ e3 ∷ e4 ∷ e5 ∷ e6 ∷ e7 ∷ e8·1 ∷ e9·1 ∷ e10 ∷ e11 ∷ List.[]
+
 abbrev pub t7 : List.List Row.Entry
 t7 = e0 ∷ e1 ∷ e2 ∷ e3 ∷ e4 ∷ e5 ∷ e6 ∷ e7 ∷ e8·1 ∷ e9·1 ∷ e10·1 ∷ e11 ∷ List.[]
+
 abbrev pub t8 : List.List Row.Entry
 t8 = e0 ∷ e1 ∷ e2 ∷ e3 ∷ e4 ∷ e5 ∷ e6 ∷ e7 ∷ e8 ∷ e9·1 ∷ e10·1 ∷ e11 ∷ List.[]
+
 abbrev pub t9 : List.List Row.Entry
 t9 = e0 ∷ e1 ∷ e2 ∷ e3 ∷ e4 ∷ e5 ∷ e6 ∷ e7 ∷ e8 ∷ e9 ∷ e10·1 ∷ e11 ∷ List.[]
+
 abbrev pub t10 : List.List Row.Entry
 t10 = e0 ∷ e1 ∷ e2 ∷ e3 ∷ e4·1 ∷ e5 ∷ e6 ∷ e7 ∷ e8 ∷ e9 ∷ e10·1 ∷ e11 ∷ List.[]
+
 abbrev pub t11 : List.List Row.Entry
 t11 = e0 ∷ e1 ∷ e2 ∷ e3 ∷ e4·1 ∷ e5 ∷ e6 ∷ e7 ∷ e8 ∷ e9 ∷ e10 ∷ e11 ∷ List.[]
+
 abbrev pub t12 : List.List Row.Entry
 t12 = e0 ∷ e1 ∷ e2 ∷ e3 ∷ e4·1 ∷ e5·1 ∷ e6 ∷ e7 ∷ e8 ∷ e9 ∷ e10 ∷ e11 ∷ List.[]
+
 abbrev pub t13 : List.List Row.Entry
 t13 = e0 ∷ e1 ∷ e2 ∷ e3 ∷ e4 ∷ e5·1 ∷ e6 ∷ e7 ∷ e8 ∷ e9 ∷ e10 ∷ e11 ∷ List.[]
+
 abbrev pub t14 : List.List Row.Entry
 t14 = e0 ∷ e1 ∷ e2 ∷ e3 ∷ e4 ∷ e5·1 ∷ e6 ∷ e7 ∷ e8·1 ∷ e9 ∷ e10 ∷ e11 ∷ List.[]
+
 abbrev pub t15 : List.List Row.Entry
 t15 = e0 ∷ e1 ∷ e2 ∷ e3 ∷ e4 ∷ e5·1 ∷ e6 ∷ e7 ∷ e8·1 ∷ e9 ∷ e10 ∷ e11·1 ∷ List.[]
+
 abbrev pub t16 : List.List Row.Entry
 t16 = e0 ∷ e1 ∷ e2 ∷ e3 ∷ e4 ∷ e5 ∷ e6 ∷ e7 ∷ e8·1 ∷ e9 ∷ e10 ∷ e11·1 ∷ List.[]
+
 abbrev pub t17 : List.List Row.Entry
 t17 = e0 ∷ e1 ∷ e2 ∷ e3 ∷ e4 ∷ e5 ∷ e6 ∷ e7 ∷ e8 ∷ e9 ∷ e10 ∷ e11·1 ∷ List.[]
+
 abbrev pub t18 : List.List Row.Entry
 t18 = e0·1 ∷ e1 ∷ e2 ∷ e3 ∷ e4 ∷ e5 ∷ e6 ∷ e7 ∷ e8 ∷ e9 ∷ e10 ∷ e11 ∷ List.[]
+
 abbrev pub t19 : List.List Row.Entry
 t19 = e0·1 ∷ e1 ∷ e2·1 ∷ e3 ∷ e4 ∷ e5 ∷ e6 ∷ e7 ∷ e8 ∷ e9 ∷ e10 ∷ e11 ∷ List.[]
+
 abbrev pub T0 : Row.Cx
 T0 = record { locals = t0; slots = List.[] }
+
 abbrev pub T1 : Row.Cx
 T1 = record { locals = t1; slots = List.[] }
+
 abbrev pub T2 : Row.Cx
 T2 = record { locals = t2; slots = List.[] }
+
 abbrev pub T3 : Row.Cx
 T3 = record { locals = t3; slots = List.[] }
+
 abbrev pub T4 : Row.Cx
 T4 = record { locals = t0; slots = List.[] }
+
 abbrev pub T5 : Row.Cx
 T5 = record { locals = t4; slots = List.[] }
+
 abbrev pub T6 : Row.Cx
 T6 = record { locals = t0; slots = List.[] }
+
 abbrev pub T7 : Row.Cx
 T7 = record { locals = t5; slots = List.[] }
+
 abbrev pub T8 : Row.Cx
 T8 = record { locals = t6; slots = List.[] }
+
 abbrev pub T9 : Row.Cx
 T9 = record { locals = t7; slots = List.[] }
+
 abbrev pub T10 : Row.Cx
 T10 = record { locals = t8; slots = List.[] }
+
 abbrev pub T11 : Row.Cx
 T11 = record { locals = t9; slots = List.[] }
+
 abbrev pub T12 : Row.Cx
 T12 = record { locals = t10; slots = List.[] }
+
 abbrev pub T13 : Row.Cx
 T13 = record { locals = t11; slots = List.[] }
+
 abbrev pub T14 : Row.Cx
 T14 = record { locals = t12; slots = List.[] }
+
 abbrev pub T15 : Row.Cx
 T15 = record { locals = t13; slots = List.[] }
+
 abbrev pub T16 : Row.Cx
 T16 = record { locals = t14; slots = List.[] }
+
 abbrev pub T17 : Row.Cx
 T17 = record { locals = t15; slots = List.[] }
+
 abbrev pub T18 : Row.Cx
 T18 = record { locals = t15; slots = List.[] }
+
 abbrev pub T19 : Row.Cx
 T19 = record { locals = t16; slots = List.[] }
+
 abbrev pub T20 : Row.Cx
 T20 = record { locals = t17; slots = List.[] }
+
 abbrev pub T21 : Row.Cx
 T21 = record { locals = t0; slots = List.[] }
+
 abbrev pub T22 : Row.Cx
 T22 = record { locals = t0; slots = List.[] }
+
 abbrev pub T23 : Row.Cx
 T23 = record { locals = t18; slots = List.[] }
+
 abbrev pub T24 : Row.Cx
 T24 = record { locals = t19; slots = List.[] }
+
 abbrev pub T25 : Row.Cx
 T25 = record { locals = t1; slots = List.[] }
+
 abbrev pub O0 : Typed.Outs
 O0 = record { next = Option.none; exits = List.[]; returns = Option.some T1 }
+
 abbrev pub O1 : Typed.Outs
 O1 = Typed.withNext (Option.some T4) O0
+
 module _ (claims· : Claims) where
   abbrev s0 : Typed.Mo T0 → Typed.Mo T2
-  s0 = Scalar.n-use T0 (Scalar.oFld 1 ((Syntax.field 1) ∷ List.[]) (Syntax.tyInt Syntax.w64) 8 Shared.lenV) 7 (Rows.sc-here (Row.sInt Syntax.w64))
-      (Row.sInt Syntax.w64 .of)
+  s0 = Scalar.n-use T0 (Scalar.oFld 1 ((Syntax.field 1) ∷ List.[]) (Syntax.tyInt Syntax.w64) 8 Shared.lenV) 7
+      (Rows.sc-here (Row.sInt Syntax.w64)) (Row.sInt Syntax.w64 .of)
+
+  abbrev args1 : Args'.ArgsT ps·0 (T2 .locals)
+  args1 = (Bool.bAt 2 λ x. x, (Num.vAt 3 λ x. x, (Num.vAt 7 λ x. x, tt)))
+
   abbrev s1 : Typed.Both T2 T3
-  s1 = Call.callB ps·0 r·0 (claims· .0) (claims· .1) T2 (Bool.bAt 2 λ x. x, (Num.vAt 3 λ x. x, (Num.vAt 7 λ x. x, tt)),) 6 List.[] Syntax.tyBool
+  s1 = Call.callB ps·0 r·0 (claims· .0) (claims· .1) T2 args1 6 List.[] Syntax.tyBool
+
   abbrev s2 : Typed.Mo T3 → Typed.Mo T5
   s2 = Scalar.n-room T3 7 (Syntax.tyInt Syntax.w64)
+
   abbrev s3 : Typed.Mo T5 → Typed.Mo T6
   s3 = Scalar.n-room T5 6 Syntax.tyBool
+
   abbrev s4 : Typed.Asks T6 T7
-  s4 = Scalar.k-op2 T6 (Syntax.mul Syntax.unsigned) (Scalar.oAt 3 (Syntax.tyInt Syntax.w64) (Row.valS (Row.sInt Syntax.w64))) (Scalar.oInt Syntax.w64
-      184) 8 (Rows.sc-here (Row.sInt Syntax.w64)) (Row.sInt Syntax.w64 .of)
+  s4 = Scalar.k-op2 T6 (Syntax.mul Syntax.unsigned) (Scalar.oAt 3 (Syntax.tyInt Syntax.w64)
+      (Row.valS (Row.sInt Syntax.w64))) (Scalar.oInt Syntax.w64 184) 8 (Rows.sc-here (Row.sInt Syntax.w64))
+      (Row.sInt Syntax.w64 .of)
+
   abbrev s5 : Typed.Asks T7 T8
-  s5 = Scalar.k-op2 T7 Syntax.offset (Scalar.oFld 1 ((Syntax.field 0) ∷ List.[]) ref0 0 Reads.ptrVal) (Scalar.oAt 8 (Syntax.tyInt Syntax.w64)
-      (Row.valS (Row.sInt Syntax.w64))) 9 (Rows.sc-here Row.sPtr) (Row.sPtr .of)
+  s5 = Scalar.k-op2 T7 Syntax.offset (Scalar.oFld 1 ((Syntax.field 0) ∷ List.[]) ref0 0 Reads.ptrVal) (Scalar.oAt 8
+      (Syntax.tyInt Syntax.w64) (Row.valS (Row.sInt Syntax.w64))) 9 (Rows.sc-here Row.sPtr) (Row.sPtr .of)
+
   abbrev s6 : Typed.Both T8 T9
-  s6 = Move.k-sl-copy-out InflightAction.row T8 1 9 10 0 ref0 Row.off InflightAction.held (Shared.bySize 184) (λ u. u .1 .1 .1 .0) (λ x. x)
-      InflightAction.none (λ x. Unit) (λ x. x) λ x. x
+  s6 = Move.k-sl-copy-out InflightAction.row T8 1 9 10 0 ref0 Row.off InflightAction.held (Shared.bySize 184)
+      (λ u. u .1 .1 .1 .0) (λ x. x) InflightAction.none (λ x. Unit) (λ x. x) λ x. x
+
   abbrev s7 : Typed.Mo T9 → Typed.Mo T10
   s7 = Scalar.n-room T9 8 (Syntax.tyInt Syntax.w64)
+
   abbrev s8 : Typed.Mo T10 → Typed.Mo T11
   s8 = Scalar.n-room T10 9 Syntax.tyPtr
+
   abbrev s9 : Typed.Mo T11 → Typed.Mo T12
-  s9 = LocalCopy.n-val-copy T11 10 4 InflightAction.row InflightAction.held InflightAction.held (λ x. x) (λ x. x) λ x. x
+  s9 = LocalCopy.n-val-copy T11 10 4 InflightAction.row InflightAction.held InflightAction.held (λ x. x) (λ x. x) λ x.
+      x
+
   abbrev s10 : Typed.Mo T12 → Typed.Mo T13
   s10 = Scalar.n-room T12 10 InflightAction.ty
+
+  abbrev args11 : Args'.ArgsT ps·1 (T13 .locals)
+  args11 = (record { pos = 4; st = List.[]; d = 0; at = λ x. x }, tt)
+
   abbrev s11 : Typed.Both T13 T14
-  s11 = Call.callB ps·1 r·1 (claims· .2) (claims· .3) T13 (record { pos = 4; st = List.[]; d = 0; at = λ x. x }, tt,) 5 List.[] InflightAction.ty
+  s11 = Call.callB ps·1 r·1 (claims· .2) (claims· .3) T13 args11 5 List.[] InflightAction.ty
+
   abbrev s12 : Typed.Mo T14 → Typed.Mo T15
   s12 = Scalar.n-room T14 4 InflightAction.ty
+
   abbrev s13 : Typed.Asks T15 T16
-  s13 = Scalar.k-op2 T15 (Syntax.mul Syntax.unsigned) (Scalar.oAt 3 (Syntax.tyInt Syntax.w64) (Row.valS (Row.sInt Syntax.w64))) (Scalar.oInt
-      Syntax.w64 184) 8 (Rows.sc-here (Row.sInt Syntax.w64)) (Row.sInt Syntax.w64 .of)
+  s13 = Scalar.k-op2 T15 (Syntax.mul Syntax.unsigned) (Scalar.oAt 3 (Syntax.tyInt Syntax.w64)
+      (Row.valS (Row.sInt Syntax.w64))) (Scalar.oInt Syntax.w64 184) 8 (Rows.sc-here (Row.sInt Syntax.w64))
+      (Row.sInt Syntax.w64 .of)
+
   abbrev s14 : Typed.Asks T16 T17
-  s14 = Scalar.k-op2 T16 Syntax.offset (Scalar.oFld 1 ((Syntax.field 0) ∷ List.[]) ref0 0 Reads.ptrVal) (Scalar.oAt 8 (Syntax.tyInt Syntax.w64)
-      (Row.valS (Row.sInt Syntax.w64))) 11 (Rows.sc-here Row.sPtr) (Row.sPtr .of)
+  s14 = Scalar.k-op2 T16 Syntax.offset (Scalar.oFld 1 ((Syntax.field 0) ∷ List.[]) ref0 0 Reads.ptrVal) (Scalar.oAt 8
+      (Syntax.tyInt Syntax.w64) (Row.valS (Row.sInt Syntax.w64))) 11 (Rows.sc-here Row.sPtr) (Row.sPtr .of)
+
   abbrev s15 : Typed.Asks T17 T18
-  s15 = Move.k-sl-set-from InflightAction.row T17 1 11 5 0 ref0 Row.off InflightAction.held (Shared.bySize 184) (λ u. u .1 .1 .1 .0) (λ x. x) (λ x. x)
-      (λ x. x) λ x. x
+  s15 = Move.k-sl-set-from InflightAction.row T17 1 11 5 0 ref0 Row.off InflightAction.held (Shared.bySize 184)
+      (λ u. u .1 .1 .1 .0) (λ x. x) (λ x. x) (λ x. x) λ x. x
+
   abbrev s16 : Typed.Mo T18 → Typed.Mo T19
   s16 = Scalar.n-room T18 5 InflightAction.ty
+
   abbrev s17 : Typed.Mo T19 → Typed.Mo T20
   s17 = Scalar.n-room T19 8 (Syntax.tyInt Syntax.w64)
+
   abbrev s18 : Typed.Mo T20 → Typed.Mo T21
   s18 = Scalar.n-room T20 11 Syntax.tyPtr
+
   abbrev s19 : Typed.Mo T5 → Typed.Mo T22
   s19 = Scalar.n-room T5 6 Syntax.tyBool
+
   abbrev s20 : Typed.Mo T4 → Typed.Mo T23
   s20 = Scalar.n-use T4 Scalar.oUnit 0 (Rows.sc-here Row.sUnit) (Row.sUnit .of)
+
   abbrev s21 : Typed.Mo T23 → Typed.Mo T24
   s21 = Scalar.n-room T23 2 Syntax.tyBool
+
   abbrev s22 : Typed.Mo T24 → Typed.Mo T25
   s22 = Scalar.n-room T24 3 (Syntax.tyInt Syntax.w64)
-  module _ (Pre· : (κs : Lifetimes.Lfts 1) → Kinds.Dens κs ps → Type 0) (Post· : (κs : Lifetimes.Lfts 1) → (a : Kinds.Dens κs ps) → Kinds.Plain 1 ps r
-      κs) where
+
+  module _ (Pre· : (κs : Lifetimes.Lfts 1) → Kinds.Dens κs ps → Type 0) (Post· : (κs : Lifetimes.Lfts 1) →
+      (a : Kinds.Dens κs ps) → Kinds.Plain 1 ps r κs) where
     module _ (M : Type 1) where
       abbrev pub Closed : Type 2
-      Closed = (𝓤 : URA.URA M) (H : Wp.Heap 𝓤) (A : Atoms.Atoms 𝓤) (W : Kit.Given 𝓤 H A) (𝓣 : Wp.Tables 𝓤 H) (known0 : Plain.Known 𝓤 H A W 𝓣 0 ps·0
-          r·0 (claims· .0) (claims· .1) "hnsr_circuit::scan::within") (known1 : Plain.Known 𝓤 H A W 𝓣 0 ps·1 r·1 (claims· .2) (claims· .3)
-          "hnsr_circuit::inflight::action_unmarked") → Statement.Triple 𝓤 (Wp.WpFn 𝓤 H (𝓣 .C) (𝓣 .Λ) (Function.fnOf 1 ps r xs m hs body))
+      Closed = (𝓤 : URA.URA M) (H : Wp.Heap 𝓤) (A : Atoms.Atoms 𝓤) (W : Kit.Given 𝓤 H A) (𝓣 : Wp.Tables 𝓤 H) (known0 :
+          Plain.Known 𝓤 H A W 𝓣 0 ps·0 r·0 (claims· .0) (claims· .1) "hnsr_circuit::scan::within") (known1 :
+          Plain.Known 𝓤 H A W 𝓣 0 ps·1 r·1 (claims· .2) (claims· .3) "hnsr_circuit::inflight::action_unmarked") →
+          Statement.Triple 𝓤 (Wp.WpFn 𝓤 H (𝓣 .C) (𝓣 .Λ) (Function.fnOf 1 ps r xs m hs body))
           (Function.plainOf 𝓤 H A 1 ps r Pre· Post·)
+
     module _ where
       abbrev at0 : Typed.TF T17 O1
-      at0 = λ Ψ. Typed.ask s15 (Typed.pass T18 T19 s16 (Typed.pass T19 T20 s17 (Typed.pass T20 T21 s18 (Typed.atNext O1 Ψ))))
+      at0 = λ Ψ. Typed.ask s15 (Typed.pass T18 T19 s16 (Typed.pass T19 T20 s17
+          (Typed.pass T20 T21 s18 (Typed.atNext O1 Ψ))))
+
       abbrev at1 : Typed.TF T16 O1
       at1 = λ Ψ. Typed.ask s14 (at0 Ψ)
+
       abbrev at2 : Typed.TF T15 O1
       at2 = λ Ψ. Typed.ask s13 (at1 Ψ)
+
       abbrev at3 : Typed.TF T14 O1
       at3 = λ Ψ. Typed.pass T14 T15 s12 (at2 Ψ)
+
       abbrev at4 : Typed.TF T13 O1
       at4 = λ Ψ. Typed.both s11 (at3 Ψ)
+
       abbrev at5 : Typed.TF T12 O1
       at5 = λ Ψ. Typed.pass T12 T13 s10 (at4 Ψ)
+
       abbrev at6 : Typed.TF T11 O1
       at6 = λ Ψ. Typed.pass T11 T12 s9 (at5 Ψ)
+
       abbrev at7 : Typed.TF T10 O1
       at7 = λ Ψ. Typed.pass T10 T11 s8 (at6 Ψ)
+
       abbrev at8 : Typed.TF T9 O1
       at8 = λ Ψ. Typed.pass T9 T10 s7 (at7 Ψ)
+
       abbrev at9 : Typed.TF T8 O1
       at9 = λ Ψ. Typed.both s6 (at8 Ψ)
+
       abbrev at10 : Typed.TF T7 O1
       at10 = λ Ψ. Typed.ask s5 (at9 Ψ)
+
       abbrev at11 : Typed.TF T6 O1
       at11 = λ Ψ. Typed.ask s4 (at10 Ψ)
+
       abbrev at12 : Typed.TF T5 O1
       at12 = λ Ψ. Typed.pass T5 T6 s3 (at11 Ψ)
+
       abbrev at13 : Typed.TF T22 O1
       at13 = Typed.atNext O1
+
       abbrev at14 : Typed.TF T5 O1
       at14 = λ Ψ. Typed.pass T5 T22 s19 (at13 Ψ)
+
       abbrev at15 : Typed.TF T5 O1
       at15 = Scalar.Φcond T5 O1 6 (λ x. x) at12 at14
+
       abbrev at16 : Typed.TF T3 O1
       at16 = λ Ψ. Typed.pass T3 T5 s2 (at15 Ψ)
+
       abbrev at17 : Typed.TF T25 O0
       at17 = Typed.atRet O0
+
       abbrev at18 : Typed.TF T24 O0
       at18 = λ Ψ. Typed.pass T24 T25 s22 (at17 Ψ)
+
       abbrev at19 : Typed.TF T23 O0
       at19 = λ Ψ. Typed.pass T23 T24 s21 (at18 Ψ)
+
       abbrev at20 : Typed.TF T4 O0
       at20 = λ Ψ. Typed.pass T4 T23 s20 (at19 Ψ)
+
       abbrev at21 : Typed.TF T3 O0
       at21 = λ Ψ. at16 (Typed.wantNext T4 O0 (at20 Ψ) Ψ)
+
       abbrev at22 : Typed.TF T2 O0
       at22 = λ Ψ. Typed.both s1 (at21 Ψ)
+
       abbrev at23 : Typed.TF T0 O0
       at23 = λ Ψ. Typed.pass T0 T2 s0 (at22 Ψ)
+
       abbrev pub Φ : Typed.TF T0 O0
       Φ = at23
-      module _ { M : Type 1 } (𝓤 : URA.URA M) (H : Wp.Heap 𝓤) (A : Atoms.Atoms 𝓤) (W : Kit.Given 𝓤 H A) (𝓣 : Wp.Tables 𝓤 H) where
+
+      module _ {M : Type 1} (𝓤 : URA.URA M) (H : Wp.Heap 𝓤) (A : Atoms.Atoms 𝓤) (W : Kit.Given 𝓤 H A)
+          (𝓣 : Wp.Tables 𝓤 H) where
         abbrev Knowns : Type 1
-        Knowns = Plain.Known 𝓤 H A W 𝓣 0 ps·0 r·0 (claims· .0) (claims· .1) "hnsr_circuit::scan::within" × Plain.Known 𝓤 H A W 𝓣 0 ps·1 r·1 (claims·
-            .2) (claims· .3) "hnsr_circuit::inflight::action_unmarked"
+        Knowns = Plain.Known 𝓤 H A W 𝓣 0 ps·0 r·0 (claims· .0) (claims· .1) "hnsr_circuit::scan::within" × Plain.Known
+            𝓤 H A W 𝓣 0 ps·1 r·1 (claims· .2) (claims· .3) "hnsr_circuit::inflight::action_unmarked"
+
       module _ (κs : Lifetimes.Lfts 1) (qs : Lifetimes.Shares 1) where
         abbrev life0 : Row.Life
         life0 = Row.lease (κs .0) (qs .0)
+
         abbrev G0 : Row.Cx
         G0 = record { locals = t0; slots = life0 ∷ List.[] }
+
         abbrev G1 : Row.Cx
         G1 = record { locals = t1; slots = life0 ∷ List.[] }
+
         abbrev G2 : Row.Cx
         G2 = record { locals = t2; slots = life0 ∷ List.[] }
+
         abbrev G3 : Row.Cx
         G3 = record { locals = t3; slots = life0 ∷ List.[] }
+
         abbrev G4 : Row.Cx
         G4 = record { locals = t0; slots = life0 ∷ List.[] }
+
         abbrev G5 : Row.Cx
         G5 = record { locals = t4; slots = life0 ∷ List.[] }
+
         abbrev G6 : Row.Cx
         G6 = record { locals = t0; slots = life0 ∷ List.[] }
+
         abbrev G7 : Row.Cx
         G7 = record { locals = t5; slots = life0 ∷ List.[] }
+
         abbrev G8 : Row.Cx
         G8 = record { locals = t6; slots = life0 ∷ List.[] }
+
         abbrev G9 : Row.Cx
         G9 = record { locals = t7; slots = life0 ∷ List.[] }
+
         abbrev G10 : Row.Cx
         G10 = record { locals = t8; slots = life0 ∷ List.[] }
+
         abbrev G11 : Row.Cx
         G11 = record { locals = t9; slots = life0 ∷ List.[] }
+
         abbrev G12 : Row.Cx
         G12 = record { locals = t10; slots = life0 ∷ List.[] }
+
         abbrev G13 : Row.Cx
         G13 = record { locals = t11; slots = life0 ∷ List.[] }
+
         abbrev G14 : Row.Cx
         G14 = record { locals = t12; slots = life0 ∷ List.[] }
+
         abbrev G15 : Row.Cx
         G15 = record { locals = t13; slots = life0 ∷ List.[] }
+
         abbrev G16 : Row.Cx
         G16 = record { locals = t14; slots = life0 ∷ List.[] }
+
         abbrev G17 : Row.Cx
         G17 = record { locals = t15; slots = life0 ∷ List.[] }
+
         abbrev G18 : Row.Cx
         G18 = record { locals = t15; slots = life0 ∷ List.[] }
+
         abbrev G19 : Row.Cx
         G19 = record { locals = t16; slots = life0 ∷ List.[] }
+
         abbrev G20 : Row.Cx
         G20 = record { locals = t17; slots = life0 ∷ List.[] }
+
         abbrev G21 : Row.Cx
         G21 = record { locals = t0; slots = life0 ∷ List.[] }
+
         abbrev G22 : Row.Cx
         G22 = record { locals = t0; slots = life0 ∷ List.[] }
+
         abbrev G23 : Row.Cx
         G23 = record { locals = t18; slots = life0 ∷ List.[] }
+
         abbrev G24 : Row.Cx
         G24 = record { locals = t19; slots = life0 ∷ List.[] }
+
         abbrev G25 : Row.Cx
         G25 = record { locals = t1; slots = life0 ∷ List.[] }
+
         abbrev Δ0 : Typed.Outs
         Δ0 = record { next = Option.none; exits = List.[]; returns = Option.some G1 }
+
         abbrev Δ1 : Typed.Outs
         Δ1 = Typed.withNext (Option.some G4) Δ0
-        module _ { M : Type 1 } (𝓤 : URA.URA M) (H : Wp.Heap 𝓤) (A : Atoms.Atoms 𝓤) (W : Kit.Given 𝓤 H A) (𝓣 : Wp.Tables 𝓤 H) (known : Knowns 𝓤 H A W
-            𝓣) (bs : List.List Nat.ℕ) (bd : Lifetimes.AllOutlive 1 (Kinds.osR r) κs) where
+
+        module _ {M : Type 1} (𝓤 : URA.URA M) (H : Wp.Heap 𝓤) (A : Atoms.Atoms 𝓤) (W : Kit.Given 𝓤 H A)
+            (𝓣 : Wp.Tables 𝓤 H) (known : Knowns 𝓤 H A W 𝓣) (bs : List.List Nat.ℕ)
+            (bd : Lifetimes.AllOutlive 1 (Kinds.osR r) κs) where
           abbrev E : Wp.Env 𝓤 H
           E = Frame.EnvOf 𝓤 H ((Kinds.tyR r) ∷ (Enter.tysP ps xs)) bs
+
           d0 : Typed.Typed 𝓤 H A 𝓣 E G17 b9 Δ1 at0
-          d0 = Typed.s-typed 𝓤 H A W 𝓣 E G17 b9 Δ1 (λ Ψ. Typed.ask s15 (Typed.pass T18 T19 s16 (Typed.pass T19 T20 s17 (Typed.pass T20 T21 s18 Ψ))))
-              tt (Typed.g-post 𝓤 H A W 𝓣 E G17 G20 G21 b9 (λ Ψ. Typed.ask s15 (Typed.pass T18 T19 s16 (Typed.pass T19 T20 s17 Ψ))) (Typed.pass T20 T21
-              s18) (Typed.g-post 𝓤 H A W 𝓣 E G17 G19 G20 b9 (λ Ψ. Typed.ask s15 (Typed.pass T18 T19 s16 Ψ)) (Typed.pass T19 T20 s17) (Typed.g-post 𝓤 H
-              A W 𝓣 E G17 G18 G19 b9 (Typed.ask s15) (Typed.pass T18 T19 s16) (Move.t-sl-set-from 𝓤 H A W E InflightAction.row 𝓣 Path.refl (λ ρ. Unit)
-              G17 1 11 5 0 ref0 life0 InflightAction.ty InflightAction.ty InflightAction.held (Shared.bySize 184) (λ u. u .1 .1 .1 .0) (λ x. x) (λ x.
-              x) (λ x. x) (λ x. x) (λ i o. Elements.at-mul o 184 i) Path.refl Path.refl (Own.told-none 𝓤 H A (G17 .slots)) (Reads.as-is 𝓤 H A
-              (Mut.mslice InflightAction.row ref0 0)) (Reads.as-is 𝓤 H A (Rows.sc-here Row.sPtr)) (Yields.yields-copy 𝓤 H A W (λ ρ. Unit)
-              InflightAction.row Path.refl (InflightAction.copies .copy 𝓤 H A W) InflightAction.held (λ x. x) (λ x. x) (λ ρ told. Local.mem-whole 𝓤 H
-              A W InflightAction.row ρ) λ ρ told. Local.whole-mem 𝓤 H A W InflightAction.row ρ) Path.refl tt Path.refl Path.refl) (Scalar.g-room 𝓤 H A
-              W E G18 5 InflightAction.ty (Local.room-whole 𝓤 H A W InflightAction.row InflightAction.ty Path.refl))) (Scalar.g-room 𝓤 H A W E G19 8
-              (Syntax.tyInt Syntax.w64) (Scalar.room-sc 𝓤 H A W (Row.sInt Syntax.w64)))) (Scalar.g-room 𝓤 H A W E G20 11 Syntax.tyPtr (Scalar.room-sc
-              𝓤 H A W Row.sPtr)))
+          d0 = Typed.s-typed 𝓤 H A W 𝓣 E G17 b9 Δ1 (λ Ψ. Typed.ask s15 (Typed.pass T18 T19 s16
+              (Typed.pass T19 T20 s17 (Typed.pass T20 T21 s18 Ψ)))) tt (Typed.g-post 𝓤 H A W 𝓣 E G17 G20 G21 b9 (λ Ψ.
+              Typed.ask s15 (Typed.pass T18 T19 s16 (Typed.pass T19 T20 s17 Ψ))) (Typed.pass T20 T21 s18) (Typed.g-post
+              𝓤 H A W 𝓣 E G17 G19 G20 b9 (λ Ψ. Typed.ask s15 (Typed.pass T18 T19 s16 Ψ)) (Typed.pass T19 T20 s17) (Typed.g-post
+              𝓤 H A W 𝓣 E G17 G18 G19 b9 (Typed.ask s15) (Typed.pass T18 T19 s16) (Move.t-sl-set-from 𝓤 H A W E
+              InflightAction.row 𝓣 Path.refl (λ ρ. Unit) G17 1 11 5 0 ref0 life0 InflightAction.ty InflightAction.ty
+              InflightAction.held (Shared.bySize 184) (λ u. u .1 .1 .1 .0) (λ x. x) (λ x. x) (λ x. x) (λ x. x)
+              (λ i o. Elements.at-mul o 184 i) Path.refl Path.refl (Own.told-none 𝓤 H A (G17 .slots))
+              (Reads.as-is 𝓤 H A (Mut.mslice InflightAction.row ref0 0)) (Reads.as-is 𝓤 H A (Rows.sc-here Row.sPtr)) (Yields.yields-copy
+              𝓤 H A W (λ ρ. Unit) InflightAction.row Path.refl (InflightAction.copies .copy 𝓤 H A W)
+              InflightAction.held (λ x. x) (λ x. x) (λ ρ told. Local.mem-whole 𝓤 H A W InflightAction.row ρ) λ ρ told.
+              Local.whole-mem 𝓤 H A W InflightAction.row ρ) Path.refl tt Path.refl Path.refl) (Scalar.g-room 𝓤 H A W E
+              G18 5 InflightAction.ty (Local.room-whole 𝓤 H A W InflightAction.row InflightAction.ty Path.refl))) (Scalar.g-room
+              𝓤 H A W E G19 8 (Syntax.tyInt Syntax.w64) (Scalar.room-sc 𝓤 H A W (Row.sInt Syntax.w64)))) (Scalar.g-room
+              𝓤 H A W E G20 11 Syntax.tyPtr (Scalar.room-sc 𝓤 H A W Row.sPtr)))
+
           d1 : Typed.Typed 𝓤 H A 𝓣 E G16 b10 Δ1 at1
-          d1 = Typed.s-seq 𝓤 H A W 𝓣 E G16 G17 b8 b9 Δ1 (Typed.ask s14) at0 (Scalar.t-op2 𝓤 H A W E 𝓣 G16 Syntax.offset (Scalar.oFld 1 ((Syntax.field
-              0) ∷ List.[]) ref0 0 Reads.ptrVal) (Scalar.oAt 8 (Syntax.tyInt Syntax.w64) (Row.valS (Row.sInt Syntax.w64))) 11 (Rows.sc-here Row.sPtr)
-              Syntax.tyPtr (Row.valS Row.sPtr) (Row.sPtr .of) (Mut.reads-mslice-ptr 𝓤 H A W InflightAction.row ref0 0 0 Path.refl, Path.refl,)
-              (Scalar.reads-sc 𝓤 H A W (Row.sInt Syntax.w64), Path.refl) (Reads.room-gone 𝓤 H A Syntax.tyPtr) (Scalar.holds-sc 𝓤 H A W Row.sPtr)
-              Path.refl (λ u. Path.refl) λ u. tt) d0
+          d1 = Typed.s-seq 𝓤 H A W 𝓣 E G16 G17 b8 b9 Δ1 (Typed.ask s14) at0 (Scalar.t-op2 𝓤 H A W E 𝓣 G16 Syntax.offset (Scalar.oFld
+              1 ((Syntax.field 0) ∷ List.[]) ref0 0 Reads.ptrVal) (Scalar.oAt 8 (Syntax.tyInt Syntax.w64)
+              (Row.valS (Row.sInt Syntax.w64))) 11 (Rows.sc-here Row.sPtr) Syntax.tyPtr (Row.valS Row.sPtr)
+              (Row.sPtr .of) (Mut.reads-mslice-ptr 𝓤 H A W InflightAction.row ref0 0 0 Path.refl, Path.refl)
+              (Scalar.reads-sc 𝓤 H A W (Row.sInt Syntax.w64), Path.refl) (Reads.room-gone 𝓤 H A Syntax.tyPtr)
+              (Scalar.holds-sc 𝓤 H A W Row.sPtr) Path.refl (λ u. Path.refl) λ u. tt) d0
+
           d2 : Typed.Typed 𝓤 H A 𝓣 E G15 b11 Δ1 at2
-          d2 = Typed.s-seq 𝓤 H A W 𝓣 E G15 G16 b7 b10 Δ1 (Typed.ask s13) at1 (Scalar.t-op2 𝓤 H A W E 𝓣 G15 (Syntax.mul Syntax.unsigned) (Scalar.oAt 3
-              (Syntax.tyInt Syntax.w64) (Row.valS (Row.sInt Syntax.w64))) (Scalar.oInt Syntax.w64 184) 8 (Rows.sc-here (Row.sInt Syntax.w64))
-              (Syntax.tyInt Syntax.w64) (Row.valS (Row.sInt Syntax.w64)) (Row.sInt Syntax.w64 .of) (Scalar.reads-sc 𝓤 H A W (Row.sInt Syntax.w64),
-              Path.refl) tt (Reads.room-gone 𝓤 H A (Syntax.tyInt Syntax.w64)) (Scalar.holds-sc 𝓤 H A W (Row.sInt Syntax.w64)) Path.refl (λ u.
-              Path.refl) λ u. tt) d1
+          d2 = Typed.s-seq 𝓤 H A W 𝓣 E G15 G16 b7 b10 Δ1 (Typed.ask s13) at1 (Scalar.t-op2 𝓤 H A W E 𝓣 G15
+              (Syntax.mul Syntax.unsigned) (Scalar.oAt 3 (Syntax.tyInt Syntax.w64) (Row.valS (Row.sInt Syntax.w64)))
+              (Scalar.oInt Syntax.w64 184) 8 (Rows.sc-here (Row.sInt Syntax.w64)) (Syntax.tyInt Syntax.w64)
+              (Row.valS (Row.sInt Syntax.w64)) (Row.sInt Syntax.w64 .of)
+              (Scalar.reads-sc 𝓤 H A W (Row.sInt Syntax.w64), Path.refl) tt
+              (Reads.room-gone 𝓤 H A (Syntax.tyInt Syntax.w64)) (Scalar.holds-sc 𝓤 H A W (Row.sInt Syntax.w64))
+              Path.refl (λ u. Path.refl) λ u. tt) d1
+
           d3 : Typed.Typed 𝓤 H A 𝓣 E G14 b11 Δ1 at3
-          d3 = Typed.g-pre 𝓤 H A W 𝓣 E G14 G15 b11 Δ1 (Typed.pass T14 T15 s12) at2 (Scalar.g-room 𝓤 H A W E G14 4 InflightAction.ty (Local.room-whole
-              𝓤 H A W InflightAction.row InflightAction.ty Path.refl)) d2
+          d3 = Typed.g-pre 𝓤 H A W 𝓣 E G14 G15 b11 Δ1 (Typed.pass T14 T15 s12) at2 (Scalar.g-room 𝓤 H A W E G14 4
+              InflightAction.ty (Local.room-whole 𝓤 H A W InflightAction.row InflightAction.ty Path.refl)) d2
+
           d4 : Typed.Typed 𝓤 H A 𝓣 E G13 b12 Δ1 at4
-          d4 = Typed.s-seq 𝓤 H A W 𝓣 E G13 G14 b6 b11 Δ1 (Typed.both s11) at3 (Plain.t-call-plain 𝓤 H A W 𝓣 0 ps·1 r·1 (claims· .2) (claims· .3)
-              "hnsr_circuit::inflight::action_unmarked" (known .1) E (λ pos β. β) G13 (record { pos = 4; st = List.[]; d = 0; at = λ x. x }, tt) 5
-              List.[] (Call.sub-id 𝓤 H A W (G13 .slots)) ((Yields.yields-copy 𝓤 H A W (λ ρ. Unit) InflightAction.row Path.refl (InflightAction.copies
-              .copy 𝓤 H A W) InflightAction.held (λ x. x) (λ x. x) (λ ρ told. Local.mem-whole 𝓤 H A W InflightAction.row ρ) λ ρ told. Local.whole-mem
-              𝓤 H A W InflightAction.row ρ, Path.refl,), tt,) (Reads.room-gone 𝓤 H A InflightAction.ty) tt Path.refl) d3
+          d4 = Typed.s-seq 𝓤 H A W 𝓣 E G13 G14 b6 b11 Δ1 (Typed.both s11) at3 (Plain.t-call-plain 𝓤 H A W 𝓣 0 ps·1 r·1
+              (claims· .2) (claims· .3) "hnsr_circuit::inflight::action_unmarked" (known .1) E (λ pos β. β) G13
+              (record { pos = 4; st = List.[]; d = 0; at = λ x. x }, tt) 5 List.[] (Call.sub-id 𝓤 H A W (G13 .slots)) (
+                (
+                  Yields.yields-copy 𝓤 H A W (λ ρ. Unit) InflightAction.row Path.refl
+                      (InflightAction.copies .copy 𝓤 H A W) InflightAction.held (λ x. x) (λ x. x)
+                      (λ ρ told. Local.mem-whole 𝓤 H A W InflightAction.row ρ) λ ρ told. Local.whole-mem 𝓤 H A W
+                      InflightAction.row ρ,
+                  Path.refl,
+                ),
+                tt,
+              ) (Reads.room-gone 𝓤 H A InflightAction.ty) tt Path.refl) d3
+
           d5 : Typed.Typed 𝓤 H A 𝓣 E G12 b12 Δ1 at5
-          d5 = Typed.g-pre 𝓤 H A W 𝓣 E G12 G13 b12 Δ1 (Typed.pass T12 T13 s10) at4 (Scalar.g-room 𝓤 H A W E G12 10 InflightAction.ty (Local.room-whole
-              𝓤 H A W InflightAction.row InflightAction.ty Path.refl)) d4
+          d5 = Typed.g-pre 𝓤 H A W 𝓣 E G12 G13 b12 Δ1 (Typed.pass T12 T13 s10) at4 (Scalar.g-room 𝓤 H A W E G12 10
+              InflightAction.ty (Local.room-whole 𝓤 H A W InflightAction.row InflightAction.ty Path.refl)) d4
+
           d6 : Typed.Typed 𝓤 H A 𝓣 E G11 b13 Δ1 at6
-          d6 = Typed.s-seq 𝓤 H A W 𝓣 E G11 G12 b5 b12 Δ1 (Typed.pass T11 T12 s9) at5 (LocalCopy.t-val-copy 𝓤 H A W E 𝓣 (λ ρ. Unit) G11 10 4
-              InflightAction.row InflightAction.ty InflightAction.ty InflightAction.held InflightAction.held (λ x. x) (λ x. x) (λ x. x) Path.refl
-              (Own.told-none 𝓤 H A (G11 .slots)) (Yields.yields-copy 𝓤 H A W (λ ρ. Unit) InflightAction.row Path.refl (InflightAction.copies .copy 𝓤 H
-              A W) InflightAction.held (λ x. x) (λ x. x) (λ ρ told. Local.mem-whole 𝓤 H A W InflightAction.row ρ) λ ρ told. Local.whole-mem 𝓤 H A W
-              InflightAction.row ρ) (Reads.room-gone 𝓤 H A InflightAction.ty) (Yields.makes-mem 𝓤 H A W (λ ρ. Unit) InflightAction.row Path.refl
-              InflightAction.held (λ x. x) λ ρ told. Local.whole-mem 𝓤 H A W InflightAction.row ρ) Path.refl Path.refl) d5
+          d6 = Typed.s-seq 𝓤 H A W 𝓣 E G11 G12 b5 b12 Δ1 (Typed.pass T11 T12 s9) at5 (LocalCopy.t-val-copy 𝓤 H A W E 𝓣
+              (λ ρ. Unit) G11 10 4 InflightAction.row InflightAction.ty InflightAction.ty InflightAction.held
+              InflightAction.held (λ x. x) (λ x. x) (λ x. x) Path.refl (Own.told-none 𝓤 H A (G11 .slots)) (Yields.yields-copy
+              𝓤 H A W (λ ρ. Unit) InflightAction.row Path.refl (InflightAction.copies .copy 𝓤 H A W)
+              InflightAction.held (λ x. x) (λ x. x) (λ ρ told. Local.mem-whole 𝓤 H A W InflightAction.row ρ) λ ρ told.
+              Local.whole-mem 𝓤 H A W InflightAction.row ρ) (Reads.room-gone 𝓤 H A InflightAction.ty) (Yields.makes-mem
+              𝓤 H A W (λ ρ. Unit) InflightAction.row Path.refl InflightAction.held (λ x. x) λ ρ told. Local.whole-mem 𝓤
+              H A W InflightAction.row ρ) Path.refl Path.refl) d5
+
           d7 : Typed.Typed 𝓤 H A 𝓣 E G10 b13 Δ1 at7
-          d7 = Typed.g-pre 𝓤 H A W 𝓣 E G10 G11 b13 Δ1 (Typed.pass T10 T11 s8) at6 (Scalar.g-room 𝓤 H A W E G10 9 Syntax.tyPtr (Scalar.room-sc 𝓤 H A W
-              Row.sPtr)) d6
+          d7 = Typed.g-pre 𝓤 H A W 𝓣 E G10 G11 b13 Δ1 (Typed.pass T10 T11 s8) at6 (Scalar.g-room 𝓤 H A W E G10 9
+              Syntax.tyPtr (Scalar.room-sc 𝓤 H A W Row.sPtr)) d6
+
           d8 : Typed.Typed 𝓤 H A 𝓣 E G9 b13 Δ1 at8
-          d8 = Typed.g-pre 𝓤 H A W 𝓣 E G9 G10 b13 Δ1 (Typed.pass T9 T10 s7) at7 (Scalar.g-room 𝓤 H A W E G9 8 (Syntax.tyInt Syntax.w64)
-              (Scalar.room-sc 𝓤 H A W (Row.sInt Syntax.w64))) d7
+          d8 = Typed.g-pre 𝓤 H A W 𝓣 E G9 G10 b13 Δ1 (Typed.pass T9 T10 s7) at7 (Scalar.g-room 𝓤 H A W E G9 8
+              (Syntax.tyInt Syntax.w64) (Scalar.room-sc 𝓤 H A W (Row.sInt Syntax.w64))) d7
+
           d9 : Typed.Typed 𝓤 H A 𝓣 E G8 b14 Δ1 at9
-          d9 = Typed.s-seq 𝓤 H A W 𝓣 E G8 G9 b4 b13 Δ1 (Typed.both s6) at8 (Move.t-sl-copy-out 𝓤 H A W E InflightAction.row 𝓣 Path.refl
-              (InflightAction.copies .copy 𝓤 H A W) (λ ρ. Unit) G8 1 9 10 0 ref0 life0 InflightAction.ty InflightAction.ty InflightAction.held
-              (Shared.bySize 184) (λ u. u .1 .1 .1 .0) (λ x. x) InflightAction.none (λ x. Unit) (λ x. x) (λ x. x) (λ i o. Elements.at-mul o 184 i)
-              Path.refl Path.refl (Own.told-none 𝓤 H A (G8 .slots)) (DerefMove.learns-nothing 𝓤 H A InflightAction.row) (Reads.as-is 𝓤 H A (Mut.mslice
-              InflightAction.row ref0 0)) (Reads.as-is 𝓤 H A (Rows.sc-here Row.sPtr)) (Reads.room-gone 𝓤 H A InflightAction.ty) (Yields.makes-mem 𝓤 H
-              A W (λ ρ. Unit) InflightAction.row Path.refl InflightAction.held (λ x. x) λ ρ told. Local.whole-mem 𝓤 H A W InflightAction.row ρ)
-              Path.refl tt Path.refl Path.refl) d8
+          d9 = Typed.s-seq 𝓤 H A W 𝓣 E G8 G9 b4 b13 Δ1 (Typed.both s6) at8 (Move.t-sl-copy-out 𝓤 H A W E
+              InflightAction.row 𝓣 Path.refl (InflightAction.copies .copy 𝓤 H A W) (λ ρ. Unit) G8 1 9 10 0 ref0 life0
+              InflightAction.ty InflightAction.ty InflightAction.held (Shared.bySize 184) (λ u. u .1 .1 .1 .0) (λ x. x)
+              InflightAction.none (λ x. Unit) (λ x. x) (λ x. x) (λ i o. Elements.at-mul o 184 i) Path.refl Path.refl
+              (Own.told-none 𝓤 H A (G8 .slots)) (DerefMove.learns-nothing 𝓤 H A InflightAction.row)
+              (Reads.as-is 𝓤 H A (Mut.mslice InflightAction.row ref0 0)) (Reads.as-is 𝓤 H A (Rows.sc-here Row.sPtr))
+              (Reads.room-gone 𝓤 H A InflightAction.ty) (Yields.makes-mem 𝓤 H A W (λ ρ. Unit) InflightAction.row
+              Path.refl InflightAction.held (λ x. x) λ ρ told. Local.whole-mem 𝓤 H A W InflightAction.row ρ) Path.refl
+              tt Path.refl Path.refl) d8
+
           d10 : Typed.Typed 𝓤 H A 𝓣 E G7 b15 Δ1 at10
-          d10 = Typed.s-seq 𝓤 H A W 𝓣 E G7 G8 b3 b14 Δ1 (Typed.ask s5) at9 (Scalar.t-op2 𝓤 H A W E 𝓣 G7 Syntax.offset (Scalar.oFld 1 ((Syntax.field 0)
-              ∷ List.[]) ref0 0 Reads.ptrVal) (Scalar.oAt 8 (Syntax.tyInt Syntax.w64) (Row.valS (Row.sInt Syntax.w64))) 9 (Rows.sc-here Row.sPtr)
-              Syntax.tyPtr (Row.valS Row.sPtr) (Row.sPtr .of) (Mut.reads-mslice-ptr 𝓤 H A W InflightAction.row ref0 0 0 Path.refl, Path.refl,)
-              (Scalar.reads-sc 𝓤 H A W (Row.sInt Syntax.w64), Path.refl) (Reads.room-gone 𝓤 H A Syntax.tyPtr) (Scalar.holds-sc 𝓤 H A W Row.sPtr)
-              Path.refl (λ u. Path.refl) λ u. tt) d9
+          d10 = Typed.s-seq 𝓤 H A W 𝓣 E G7 G8 b3 b14 Δ1 (Typed.ask s5) at9 (Scalar.t-op2 𝓤 H A W E 𝓣 G7 Syntax.offset (Scalar.oFld
+              1 ((Syntax.field 0) ∷ List.[]) ref0 0 Reads.ptrVal) (Scalar.oAt 8 (Syntax.tyInt Syntax.w64)
+              (Row.valS (Row.sInt Syntax.w64))) 9 (Rows.sc-here Row.sPtr) Syntax.tyPtr (Row.valS Row.sPtr)
+              (Row.sPtr .of) (Mut.reads-mslice-ptr 𝓤 H A W InflightAction.row ref0 0 0 Path.refl, Path.refl)
+              (Scalar.reads-sc 𝓤 H A W (Row.sInt Syntax.w64), Path.refl) (Reads.room-gone 𝓤 H A Syntax.tyPtr)
+              (Scalar.holds-sc 𝓤 H A W Row.sPtr) Path.refl (λ u. Path.refl) λ u. tt) d9
+
           d11 : Typed.Typed 𝓤 H A 𝓣 E G6 b16 Δ1 at11
-          d11 = Typed.s-seq 𝓤 H A W 𝓣 E G6 G7 b2 b15 Δ1 (Typed.ask s4) at10 (Scalar.t-op2 𝓤 H A W E 𝓣 G6 (Syntax.mul Syntax.unsigned) (Scalar.oAt 3
-              (Syntax.tyInt Syntax.w64) (Row.valS (Row.sInt Syntax.w64))) (Scalar.oInt Syntax.w64 184) 8 (Rows.sc-here (Row.sInt Syntax.w64))
-              (Syntax.tyInt Syntax.w64) (Row.valS (Row.sInt Syntax.w64)) (Row.sInt Syntax.w64 .of) (Scalar.reads-sc 𝓤 H A W (Row.sInt Syntax.w64),
-              Path.refl) tt (Reads.room-gone 𝓤 H A (Syntax.tyInt Syntax.w64)) (Scalar.holds-sc 𝓤 H A W (Row.sInt Syntax.w64)) Path.refl (λ u.
-              Path.refl) λ u. tt) d10
+          d11 = Typed.s-seq 𝓤 H A W 𝓣 E G6 G7 b2 b15 Δ1 (Typed.ask s4) at10 (Scalar.t-op2 𝓤 H A W E 𝓣 G6
+              (Syntax.mul Syntax.unsigned) (Scalar.oAt 3 (Syntax.tyInt Syntax.w64) (Row.valS (Row.sInt Syntax.w64)))
+              (Scalar.oInt Syntax.w64 184) 8 (Rows.sc-here (Row.sInt Syntax.w64)) (Syntax.tyInt Syntax.w64)
+              (Row.valS (Row.sInt Syntax.w64)) (Row.sInt Syntax.w64 .of)
+              (Scalar.reads-sc 𝓤 H A W (Row.sInt Syntax.w64), Path.refl) tt
+              (Reads.room-gone 𝓤 H A (Syntax.tyInt Syntax.w64)) (Scalar.holds-sc 𝓤 H A W (Row.sInt Syntax.w64))
+              Path.refl (λ u. Path.refl) λ u. tt) d10
+
           d12 : Typed.Typed 𝓤 H A 𝓣 E G5 b16 Δ1 at12
-          d12 = Typed.g-pre 𝓤 H A W 𝓣 E G5 G6 b16 Δ1 (Typed.pass T5 T6 s3) at11 (Scalar.g-room 𝓤 H A W E G5 6 Syntax.tyBool (Scalar.room-sc 𝓤 H A W
-              Row.sBool)) d11
+          d12 = Typed.g-pre 𝓤 H A W 𝓣 E G5 G6 b16 Δ1 (Typed.pass T5 T6 s3) at11 (Scalar.g-room 𝓤 H A W E G5 6
+              Syntax.tyBool (Scalar.room-sc 𝓤 H A W Row.sBool)) d11
+
           d13 : Typed.Typed 𝓤 H A 𝓣 E G22 b17 Δ1 at13
           d13 = Typed.t-skip 𝓤 H A W 𝓣 E Δ1 tt
+
           d14 : Typed.Typed 𝓤 H A 𝓣 E G5 b17 Δ1 at14
-          d14 = Typed.g-pre 𝓤 H A W 𝓣 E G5 G22 b17 Δ1 (Typed.pass T5 T22 s19) at13 (Scalar.g-room 𝓤 H A W E G5 6 Syntax.tyBool (Scalar.room-sc 𝓤 H A W
-              Row.sBool)) d13
+          d14 = Typed.g-pre 𝓤 H A W 𝓣 E G5 G22 b17 Δ1 (Typed.pass T5 T22 s19) at13 (Scalar.g-room 𝓤 H A W E G5 6
+              Syntax.tyBool (Scalar.room-sc 𝓤 H A W Row.sBool)) d13
+
           d15 : Typed.Typed 𝓤 H A 𝓣 E G5 b18 Δ1 at15
-          d15 = Scalar.t-cond 𝓤 H A W E 𝓣 G5 6 (λ x. x) b16 b17 Δ1 at12 at14 (Scalar.reads-sc 𝓤 H A W Row.sBool) Path.refl d12 d14
+          d15 = Scalar.t-cond 𝓤 H A W E 𝓣 G5 6 (λ x. x) b16 b17 Δ1 at12 at14 (Scalar.reads-sc 𝓤 H A W Row.sBool)
+              Path.refl d12 d14
+
           d16 : Typed.Typed 𝓤 H A 𝓣 E G3 b18 Δ1 at16
-          d16 = Typed.g-pre 𝓤 H A W 𝓣 E G3 G5 b18 Δ1 (Typed.pass T3 T5 s2) at15 (Scalar.g-room 𝓤 H A W E G3 7 (Syntax.tyInt Syntax.w64)
-              (Scalar.room-sc 𝓤 H A W (Row.sInt Syntax.w64))) d15
+          d16 = Typed.g-pre 𝓤 H A W 𝓣 E G3 G5 b18 Δ1 (Typed.pass T3 T5 s2) at15 (Scalar.g-room 𝓤 H A W E G3 7
+              (Syntax.tyInt Syntax.w64) (Scalar.room-sc 𝓤 H A W (Row.sInt Syntax.w64))) d15
+
           d17 : Typed.Typed 𝓤 H A 𝓣 E G25 b20 Δ0 at17
           d17 = Typed.t-return 𝓤 H A W 𝓣 E Δ0 tt
+
           d18 : Typed.Typed 𝓤 H A 𝓣 E G24 b20 Δ0 at18
-          d18 = Typed.g-pre 𝓤 H A W 𝓣 E G24 G25 b20 Δ0 (Typed.pass T24 T25 s22) at17 (Scalar.g-room 𝓤 H A W E G24 3 (Syntax.tyInt Syntax.w64)
-              (Scalar.room-sc 𝓤 H A W (Row.sInt Syntax.w64))) d17
+          d18 = Typed.g-pre 𝓤 H A W 𝓣 E G24 G25 b20 Δ0 (Typed.pass T24 T25 s22) at17 (Scalar.g-room 𝓤 H A W E G24 3
+              (Syntax.tyInt Syntax.w64) (Scalar.room-sc 𝓤 H A W (Row.sInt Syntax.w64))) d17
+
           d19 : Typed.Typed 𝓤 H A 𝓣 E G23 b20 Δ0 at19
-          d19 = Typed.g-pre 𝓤 H A W 𝓣 E G23 G24 b20 Δ0 (Typed.pass T23 T24 s21) at18 (Scalar.g-room 𝓤 H A W E G23 2 Syntax.tyBool (Scalar.room-sc 𝓤 H
-              A W Row.sBool)) d18
+          d19 = Typed.g-pre 𝓤 H A W 𝓣 E G23 G24 b20 Δ0 (Typed.pass T23 T24 s21) at18 (Scalar.g-room 𝓤 H A W E G23 2
+              Syntax.tyBool (Scalar.room-sc 𝓤 H A W Row.sBool)) d18
+
           d20 : Typed.Typed 𝓤 H A 𝓣 E G4 b21 Δ0 at20
-          d20 = Typed.s-seq 𝓤 H A W 𝓣 E G4 G23 b19 b20 Δ0 (Typed.pass T4 T23 s20) at19 (Scalar.t-use 𝓤 H A W E 𝓣 G4 Scalar.oUnit 0 (Rows.sc-here
-              Row.sUnit) Syntax.tyUnit (Row.valS Row.sUnit) (Row.sUnit .of) tt (Reads.room-gone 𝓤 H A Syntax.tyUnit) (Scalar.holds-sc 𝓤 H A W
-              Row.sUnit) Path.refl (λ u. Path.refl) λ u. tt) d19
+          d20 = Typed.s-seq 𝓤 H A W 𝓣 E G4 G23 b19 b20 Δ0 (Typed.pass T4 T23 s20) at19 (Scalar.t-use 𝓤 H A W E 𝓣 G4
+              Scalar.oUnit 0 (Rows.sc-here Row.sUnit) Syntax.tyUnit (Row.valS Row.sUnit) (Row.sUnit .of) tt
+              (Reads.room-gone 𝓤 H A Syntax.tyUnit) (Scalar.holds-sc 𝓤 H A W Row.sUnit) Path.refl (λ u. Path.refl) λ u.
+              tt) d19
+
           d21 : Typed.Typed 𝓤 H A 𝓣 E G3 b22 Δ0 at21
           d21 = Typed.t-seq 𝓤 H A W 𝓣 E G3 G4 b18 b21 Δ0 at16 at20 d16 d20
+
           d22 : Typed.Typed 𝓤 H A 𝓣 E G2 b23 Δ0 at22
-          d22 = Typed.s-seq 𝓤 H A W 𝓣 E G2 G3 b1 b22 Δ0 (Typed.both s1) at21 (Plain.t-call-plain 𝓤 H A W 𝓣 0 ps·0 r·0 (claims· .0) (claims· .1)
-              "hnsr_circuit::scan::within" (known .0) E (λ pos β. β) G2 (Bool.bAt 2 λ x. x, (Num.vAt 3 λ x. x, (Num.vAt 7 λ x. x, tt))) 6 List.[]
-              (Call.sub-id 𝓤 H A W (G2 .slots)) ((Scalar.reads-sc 𝓤 H A W Row.sBool, Path.refl), ((Scalar.reads-sc 𝓤 H A W (Row.sInt Syntax.w64),
-              Path.refl), ((Scalar.reads-sc 𝓤 H A W (Row.sInt Syntax.w64), Path.refl), tt),),) (Reads.room-gone 𝓤 H A Syntax.tyBool) tt Path.refl) d21
+          d22 = Typed.s-seq 𝓤 H A W 𝓣 E G2 G3 b1 b22 Δ0 (Typed.both s1) at21 (Plain.t-call-plain 𝓤 H A W 𝓣 0 ps·0 r·0
+              (claims· .0) (claims· .1) "hnsr_circuit::scan::within" (known .0) E (λ pos β. β) G2 (
+                Bool.bAt 2 λ x. x,
+                (Num.vAt 3 λ x. x, (Num.vAt 7 λ x. x, tt)),
+              ) 6 List.[] (Call.sub-id 𝓤 H A W (G2 .slots)) (
+                (Scalar.reads-sc 𝓤 H A W Row.sBool, Path.refl),
+                (
+                  (Scalar.reads-sc 𝓤 H A W (Row.sInt Syntax.w64), Path.refl),
+                  ((Scalar.reads-sc 𝓤 H A W (Row.sInt Syntax.w64), Path.refl), tt),
+                ),
+              ) (Reads.room-gone 𝓤 H A Syntax.tyBool) tt Path.refl) d21
+
           d23 : Typed.Typed 𝓤 H A 𝓣 E G0 b24 Δ0 at23
-          d23 = Typed.s-seq 𝓤 H A W 𝓣 E G0 G2 b0 b23 Δ0 (Typed.pass T0 T2 s0) at22 (Scalar.t-use 𝓤 H A W E 𝓣 G0 (Scalar.oFld 1 ((Syntax.field 1) ∷
-              List.[]) (Syntax.tyInt Syntax.w64) 8 Shared.lenV) 7 (Rows.sc-here (Row.sInt Syntax.w64)) (Syntax.tyInt Syntax.w64) (Row.valS (Row.sInt
-              Syntax.w64)) (Row.sInt Syntax.w64 .of) (Mut.reads-mslice-len 𝓤 H A W InflightAction.row ref0 0 8 Path.refl, Path.refl,) (Reads.room-gone
-              𝓤 H A (Syntax.tyInt Syntax.w64)) (Scalar.holds-sc 𝓤 H A W (Row.sInt Syntax.w64)) Path.refl (λ u. Path.refl) λ u. tt) d22
+          d23 = Typed.s-seq 𝓤 H A W 𝓣 E G0 G2 b0 b23 Δ0 (Typed.pass T0 T2 s0) at22 (Scalar.t-use 𝓤 H A W E 𝓣 G0 (Scalar.oFld
+              1 ((Syntax.field 1) ∷ List.[]) (Syntax.tyInt Syntax.w64) 8 Shared.lenV) 7
+              (Rows.sc-here (Row.sInt Syntax.w64)) (Syntax.tyInt Syntax.w64) (Row.valS (Row.sInt Syntax.w64))
+              (Row.sInt Syntax.w64 .of) (Mut.reads-mslice-len 𝓤 H A W InflightAction.row ref0 0 8 Path.refl, Path.refl)
+              (Reads.room-gone 𝓤 H A (Syntax.tyInt Syntax.w64)) (Scalar.holds-sc 𝓤 H A W (Row.sInt Syntax.w64))
+              Path.refl (λ u. Path.refl) λ u. tt) d22
+
           pub typed : Typed.Typed 𝓤 H A 𝓣 E (Function.Γin 1 ps r xs m κs qs) b24 (Function.Δret 1 ps r xs m κs qs) Φ
           typed = d23
+
       module _ (κs : Lifetimes.Lfts 1) where
         pub record Args : Type 0 where
-          pub inflight : Kinds.Den { n = 1 } κs (MutSlice.pMutS InflightAction.row 0 tt)
-          pub go : Kinds.Den { n = 1 } κs Bool.pBool
-          pub place : Kinds.Den { n = 1 } κs (Num.pNum Syntax.w64)
+          pub inflight : Kinds.Den {n = 1} κs (MutSlice.pMutS InflightAction.row 0 tt)
+          pub go : Kinds.Den {n = 1} κs Bool.pBool
+          pub place : Kinds.Den {n = 1} κs (Num.pNum Syntax.w64)
+
         abbrev pub dens : (a : Args) → Kinds.Dens κs ps
         dens = λ a. (a .inflight, (a .go, (a .place, tt)))
+
         module _ (args· : Args) where
           pub record Ranges : Type 0 where
             pub place : Val.Fits Syntax.w64 (args· .place)
+
       abbrev pub m0 : (κs : Lifetimes.Lfts 1) → (args : Args κs) → Typed.Mo T0
       m0 = λ κs args. (tt, Enter.partsP κs 1 ps xs (dens κs args))
+
       abbrev W0 : (κs : Lifetimes.Lfts 1) → (args : Args κs) → Typed.Want O0
-      W0 = λ κs args. (λ u. ⊥, tt, λ u. Enter.Fixs κs 1 ps xs (dens κs args) (u .1) × Post· κs (dens κs args) (Function.resV r κs (u .0))
-          (Clauses.atExit (Kinds.endedOf 1 ps r) κs (dens κs args) (Enter.lastsP κs 1 ps xs (dens κs args) (u .1))),)
+      W0 = λ κs args. (
+        λ u. ⊥,
+        tt,
+        λ u. Enter.Fixs κs 1 ps xs (dens κs args) (u .1) × Post· κs (dens κs args) (Function.resV r κs (u .0)) (Clauses.atExit
+            (Kinds.endedOf 1 ps r) κs (dens κs args) (Enter.lastsP κs 1 ps xs (dens κs args) (u .1))),
+      )
+
       pub record Start : Type 0 where
         pub κs : Lifetimes.Lfts 1
         pub args : Args κs
         pub good : Kinds.GoodsP κs ps (dens κs args)
         pub fits : Ranges κs args
         pub pre : Pre· κs (dens κs args)
+
       abbrev pub m1 : (κs : Lifetimes.Lfts 1) → (args : Args κs) → Typed.Mo T2
       m1 = λ κs args. s0 (m0 κs args)
+
       abbrev pub Need-within-requires : Type 0
       Need-within-requires = (c : Start) → s1 .asks (m1 (c .κs) (c .args))
+
       abbrev pub m2 : (before : Start) → (given : s1 .gives (m1 (before .κs) (before .args))) → Typed.Mo T3
       m2 = λ before given. s1 .next (m1 (before .κs) (before .args)) given
+
       module _ (before· : Start) where
         abbrev pub After-within·own : Type 0
-        After-within·own = Called.Called ps·0 r·0 (claims· .1) T2 (Bool.bAt 2 λ x. x, (Num.vAt 3 λ x. x, (Num.vAt 7 λ x. x, tt)),) (m1 (before· .κs)
-            (before· .args))
+        After-within·own = Called.Called ps·0 r·0 (claims· .1) T2 args1 (m1 (before· .κs) (before· .args))
+
       pub record After-within : Type 0 where
         pub before : Start
         pub within : After-within·own before
+
       abbrev pub After-within·gave : (c : After-within) → s1 .gives (m1 (c .before .κs) (c .before .args))
-      After-within·gave = λ c. Called.given ps·0 r·0 (claims· .1) T2 (Bool.bAt 2 λ x. x, (Num.vAt 3 λ x. x, (Num.vAt 7 λ x. x, tt)),) (m1 (c .before
-          .κs) (c .before .args)) (c .within)
+      After-within·gave = λ c. Called.given ps·0 r·0 (claims· .1) T2 args1 (m1 (c .before .κs) (c .before .args))
+          (c .within)
+
       abbrev W1 : (before : Start) → (given : s1 .gives (m1 (before .κs) (before .args))) → Typed.Want O1
-      W1 = λ before given. Typed.wantNext T4 O0 (at20 (W0 (before .κs) (before .args))) (W0 (before .κs) (before .args))
+      W1 = λ before given. Typed.wantNext T4 O0 (at20 (W0 (before .κs) (before .args)))
+          (W0 (before .κs) (before .args))
+
       abbrev pub m3 : (before : Start) → (given : s1 .gives (m1 (before .κs) (before .args))) → Typed.Mo T5
       m3 = λ before given. s2 (m2 before given)
+
       abbrev pub m4 : (before : After-within) → Typed.Mo T6
       m4 = λ before. s3 (m3 (before .before) (After-within·gave before))
+
       module _ (before· : After-within) where
         pub record Then1·own : Type 0 where
           pub taken : Path._≡_ (Row.get 6 (T5 .locals) (m3 (before· .before) (After-within·gave before·))) Bool'.true
+
       pub record Then1 : Type 0 where
         pub before : After-within
         pub if1 : Then1·own before
+
       abbrev pub Need-mul-row : Type 0
       Need-mul-row = (c : Then1) → s4 .asks (m4 (c .before))
+
       abbrev pub m5 : (before : After-within) → Typed.Mo T7
       m5 = λ before. s4 .next (m4 before)
+
       abbrev pub m6 : (before : After-within) → Typed.Mo T8
       m6 = λ before. s5 .next (m5 before)
+
       abbrev pub Need-slice-copy-out-row : Type 0
       Need-slice-copy-out-row = (c : Then1) → Shared.InSlice T8 1 9 (λ x. x) (λ u. u .1 .1 .1 .0) (m6 (c .before))
+
       abbrev pub m7 : (before : Then1) → (given : s6 .gives (m6 (before .before))) → Typed.Mo T9
       m7 = λ before given. s6 .next (m6 (before .before)) given
+
       abbrev pub m8 : (before : Then1) → (given : s6 .gives (m6 (before .before))) → Typed.Mo T10
       m8 = λ before given. s7 (m7 before given)
+
       abbrev pub m9 : (before : Then1) → (given : s6 .gives (m6 (before .before))) → Typed.Mo T11
       m9 = λ before given. s8 (m8 before given)
+
       abbrev pub m10 : (before : Then1) → (given : s6 .gives (m6 (before .before))) → Typed.Mo T12
       m10 = λ before given. s9 (m9 before given)
+
       abbrev pub m11 : (before : Then1) → (given : s6 .gives (m6 (before .before))) → Typed.Mo T13
       m11 = λ before given. s10 (m10 before given)
+
       module _ (before· : Then1) where
         pub record After-row·own : Type 0 where
           pub given : s6 .gives (m6 (before· .before))
+
       pub record After-row : Type 0 where
         pub before : Then1
         pub row : After-row·own before
+
       abbrev pub Need-action-unmarked-requires : Type 0
       Need-action-unmarked-requires = (c : After-row) → s11 .asks (m11 (c .before) (c .row .given))
-      abbrev pub m12 : (before : After-row) → (given : s11 .gives (m11 (before .before) (before .row .given))) → Typed.Mo T14
+
+      abbrev pub m12 : (before : After-row) → (given : s11 .gives (m11 (before .before) (before .row .given))) →
+          Typed.Mo T14
       m12 = λ before given. s11 .next (m11 (before .before) (before .row .given)) given
+
       module _ (before· : After-row) where
         abbrev pub After-action-unmarked·own : Type 0
-        After-action-unmarked·own = Called.Called ps·1 r·1 (claims· .3) T13 (record { pos = 4; st = List.[]; d = 0; at = λ x. x }, tt,) (m11 (before·
-            .before) (before· .row .given))
+        After-action-unmarked·own = Called.Called ps·1 r·1 (claims· .3) T13 args11
+            (m11 (before· .before) (before· .row .given))
+
       pub record After-action-unmarked : Type 0 where
         pub before : After-row
         pub action-unmarked : After-action-unmarked·own before
-      abbrev pub After-action-unmarked·gave : (c : After-action-unmarked) → s11 .gives (m11 (c .before .before) (c .before .row .given))
-      After-action-unmarked·gave = λ c. Called.given ps·1 r·1 (claims· .3) T13 (record { pos = 4; st = List.[]; d = 0; at = λ x. x }, tt,) (m11 (c
-          .before .before) (c .before .row .given)) (c .action-unmarked)
-      abbrev pub m13 : (before : After-row) → (given : s11 .gives (m11 (before .before) (before .row .given))) → Typed.Mo T15
+
+      abbrev pub After-action-unmarked·gave : (c : After-action-unmarked) → s11 .gives
+          (m11 (c .before .before) (c .before .row .given))
+      After-action-unmarked·gave = λ c. Called.given ps·1 r·1 (claims· .3) T13 args11
+          (m11 (c .before .before) (c .before .row .given)) (c .action-unmarked)
+
+      abbrev pub m13 : (before : After-row) → (given : s11 .gives (m11 (before .before) (before .row .given))) →
+          Typed.Mo T15
       m13 = λ before given. s12 (m12 before given)
+
       abbrev pub Need-mul-after : Type 0
       Need-mul-after = (c : After-action-unmarked) → s13 .asks (m13 (c .before) (After-action-unmarked·gave c))
-      abbrev pub m14 : (before : After-row) → (given : s11 .gives (m11 (before .before) (before .row .given))) → Typed.Mo T16
+
+      abbrev pub m14 : (before : After-row) → (given : s11 .gives (m11 (before .before) (before .row .given))) →
+          Typed.Mo T16
       m14 = λ before given. s13 .next (m13 before given)
-      abbrev pub m15 : (before : After-row) → (given : s11 .gives (m11 (before .before) (before .row .given))) → Typed.Mo T17
+
+      abbrev pub m15 : (before : After-row) → (given : s11 .gives (m11 (before .before) (before .row .given))) →
+          Typed.Mo T17
       m15 = λ before given. s14 .next (m14 before given)
+
       abbrev pub Need-slice-set-from-after : Type 0
-      Need-slice-set-from-after = (c : After-action-unmarked) → Shared.InSlice T17 1 11 (λ x. x) (λ u. u .1 .1 .1 .0) (m15 (c .before)
-          (After-action-unmarked·gave c))
-      abbrev pub m16 : (before : After-row) → (given : s11 .gives (m11 (before .before) (before .row .given))) → Typed.Mo T18
+      Need-slice-set-from-after = (c : After-action-unmarked) → Shared.InSlice T17 1 11 (λ x. x) (λ u. u .1 .1 .1 .0)
+          (m15 (c .before) (After-action-unmarked·gave c))
+
+      abbrev pub m16 : (before : After-row) → (given : s11 .gives (m11 (before .before) (before .row .given))) →
+          Typed.Mo T18
       m16 = λ before given. s15 .next (m15 before given)
-      abbrev pub m17 : (before : After-row) → (given : s11 .gives (m11 (before .before) (before .row .given))) → Typed.Mo T19
+
+      abbrev pub m17 : (before : After-row) → (given : s11 .gives (m11 (before .before) (before .row .given))) →
+          Typed.Mo T19
       m17 = λ before given. s16 (m16 before given)
-      abbrev pub m18 : (before : After-row) → (given : s11 .gives (m11 (before .before) (before .row .given))) → Typed.Mo T20
+
+      abbrev pub m18 : (before : After-row) → (given : s11 .gives (m11 (before .before) (before .row .given))) →
+          Typed.Mo T20
       m18 = λ before given. s17 (m17 before given)
-      abbrev pub m19 : (before : After-row) → (given : s11 .gives (m11 (before .before) (before .row .given))) → Typed.Mo T21
+
+      abbrev pub m19 : (before : After-row) → (given : s11 .gives (m11 (before .before) (before .row .given))) →
+          Typed.Mo T21
       m19 = λ before given. s18 (m18 before given)
+
       abbrev pub m20 : (before : After-within) → Typed.Mo T22
       m20 = λ before. s19 (m3 (before .before) (After-within·gave before))
+
       module _ (before· : After-within) where
         pub record Else1·own : Type 0 where
           pub left : Path._≡_ (Row.get 6 (T5 .locals) (m3 (before· .before) (After-within·gave before·))) Bool'.false
+
       pub record Else1 : Type 0 where
         pub before : After-within
         pub if1 : Else1·own before
-      abbrev pub m21 : (before : After-row) → (given : s11 .gives (m11 (before .before) (before .row .given))) → Typed.Mo T23
+
+      abbrev pub m21 : (before : After-row) → (given : s11 .gives (m11 (before .before) (before .row .given))) →
+          Typed.Mo T23
       m21 = λ before given. s20 (m19 before given)
-      abbrev pub m22 : (before : After-row) → (given : s11 .gives (m11 (before .before) (before .row .given))) → Typed.Mo T24
+
+      abbrev pub m22 : (before : After-row) → (given : s11 .gives (m11 (before .before) (before .row .given))) →
+          Typed.Mo T24
       m22 = λ before given. s21 (m21 before given)
-      abbrev pub m23 : (before : After-row) → (given : s11 .gives (m11 (before .before) (before .row .given))) → Typed.Mo T25
+
+      abbrev pub m23 : (before : After-row) → (given : s11 .gives (m11 (before .before) (before .row .given))) →
+          Typed.Mo T25
       m23 = λ before given. s22 (m22 before given)
+
       abbrev pub Need-same-length : Type 0
-      Need-same-length = (c : After-action-unmarked) → MutSlice.SameLen (Row.get 1 (T25 .locals) (m23 (c .before) (After-action-unmarked·gave c)))
-          (dens (c .before .before .before .before .κs) (c .before .before .before .before .args) .0)
+      Need-same-length = (c : After-action-unmarked) → MutSlice.SameLen (Row.get 1 (T25 .locals)
+          (m23 (c .before) (After-action-unmarked·gave c))) (dens (c .before .before .before .before .κs)
+          (c .before .before .before .before .args) .0)
+
       abbrev pub Need-returns : Type 0
-      Need-returns = (c : After-action-unmarked) → Post· (c .before .before .before .before .κs) (dens (c .before .before .before .before .κs) (c
-          .before .before .before .before .args)) (Function.resV r (c .before .before .before .before .κs) (m23 (c .before)
-          (After-action-unmarked·gave c) .0)) (Clauses.atExit (Kinds.endedOf 1 ps r) (c .before .before .before .before .κs) (dens (c .before .before
-          .before .before .κs) (c .before .before .before .before .args)) (Enter.lastsP (c .before .before .before .before .κs) 1 ps xs (dens (c
-          .before .before .before .before .κs) (c .before .before .before .before .args)) (m23 (c .before) (After-action-unmarked·gave c) .1)))
+      Need-returns = (c : After-action-unmarked) → Post· (c .before .before .before .before .κs) (dens
+          (c .before .before .before .before .κs) (c .before .before .before .before .args)) (Function.resV r
+          (c .before .before .before .before .κs) (m23 (c .before) (After-action-unmarked·gave c) .0)) (Clauses.atExit
+          (Kinds.endedOf 1 ps r) (c .before .before .before .before .κs) (dens (c .before .before .before .before .κs)
+          (c .before .before .before .before .args)) (Enter.lastsP (c .before .before .before .before .κs) 1 ps xs (dens
+          (c .before .before .before .before .κs) (c .before .before .before .before .args))
+          (m23 (c .before) (After-action-unmarked·gave c) .1)))
+
       abbrev pub m24 : (before : After-within) → Typed.Mo T23
       m24 = λ before. s20 (m20 before)
+
       abbrev pub m25 : (before : After-within) → Typed.Mo T24
       m25 = λ before. s21 (m24 before)
+
       abbrev pub m26 : (before : After-within) → Typed.Mo T25
       m26 = λ before. s22 (m25 before)
+
       abbrev pub Need-returns-2 : Type 0
-      Need-returns-2 = (c : Else1) → Post· (c .before .before .κs) (dens (c .before .before .κs) (c .before .before .args)) (Function.resV r (c
-          .before .before .κs) (m26 (c .before) .0)) (Clauses.atExit (Kinds.endedOf 1 ps r) (c .before .before .κs) (dens (c .before .before .κs) (c
-          .before .before .args)) (Enter.lastsP (c .before .before .κs) 1 ps xs (dens (c .before .before .κs) (c .before .before .args)) (m26 (c
-          .before) .1)))
-      module _ (within-requires : Need-within-requires) (mul-row : Need-mul-row) (slice-copy-out-row : Need-slice-copy-out-row)
-          (action-unmarked-requires : Need-action-unmarked-requires) (mul-after : Need-mul-after) (slice-set-from-after : Need-slice-set-from-after)
+      Need-returns-2 = (c : Else1) → Post· (c .before .before .κs)
+          (dens (c .before .before .κs) (c .before .before .args)) (Function.resV r (c .before .before .κs)
+          (m26 (c .before) .0)) (Clauses.atExit (Kinds.endedOf 1 ps r) (c .before .before .κs)
+          (dens (c .before .before .κs) (c .before .before .args)) (Enter.lastsP (c .before .before .κs) 1 ps xs
+          (dens (c .before .before .κs) (c .before .before .args)) (m26 (c .before) .1)))
+
+      module _ (within-requires : Need-within-requires) (mul-row : Need-mul-row)
+          (slice-copy-out-row : Need-slice-copy-out-row) (action-unmarked-requires : Need-action-unmarked-requires)
+          (mul-after : Need-mul-after) (slice-set-from-after : Need-slice-set-from-after)
           (same-length : Need-same-length) (returns : Need-returns) (returns-2 : Need-returns-2) where
         lay4 : (c : Else1) → at20 (W0 (c .before .before .κs) (c .before .before .args)) (m20 (c .before))
-        lay4 = λ c. ((Path.refl, (tt, (tt, tt))), returns-2 record { before = c .before; if1 = c .if1 },)
-        lay3 : (c : After-action-unmarked) → at20 (W0 (c .before .before .before .before .κs) (c .before .before .before .before .args)) (m19 (c
-            .before) (After-action-unmarked·gave c))
-        lay3 = λ c. ((MutSlice.fix-len (Row.get 1 (T25 .locals) (m23 (c .before) (After-action-unmarked·gave c)) .ptr) (Row.get 1 (T25 .locals) (m23
-            (c .before) (After-action-unmarked·gave c)) .name) (Row.get 1 (T25 .locals) (m23 (c .before) (After-action-unmarked·gave c)) .now) (dens
-            (c .before .before .before .before .κs) (c .before .before .before .before .args) .0 .now) (same-length record { before = c .before;
-            action-unmarked = c .action-unmarked }), (tt, (tt, tt)),), returns record { before = c .before; action-unmarked = c .action-unmarked },)
-        lay2 : (c : After-action-unmarked) → at3 (W1 (c .before .before .before .before) (After-within·gave (c .before .before .before))) (m12 (c
-            .before) (After-action-unmarked·gave c))
-        lay2 = λ c. (mul-after record { before = c .before; action-unmarked = c .action-unmarked }, (tt, ((Path.refl, Path.refl, slice-set-from-after
-            record { before = c .before; action-unmarked = c .action-unmarked; },), lay3 record { before = c .before; action-unmarked = c
-            .action-unmarked },),),)
+        lay4 = λ c. ((Path.refl, (tt, (tt, tt))), returns-2 record { before = c .before; if1 = c .if1 })
+
+        lay3 : (c : After-action-unmarked) → at20 (W0 (c .before .before .before .before .κs)
+            (c .before .before .before .before .args)) (m19 (c .before) (After-action-unmarked·gave c))
+        lay3 = λ c. (
+          (
+            MutSlice.fix-len (Row.get 1 (T25 .locals) (m23 (c .before) (After-action-unmarked·gave c)) .ptr) (Row.get 1
+                (T25 .locals) (m23 (c .before) (After-action-unmarked·gave c)) .name) (Row.get 1 (T25 .locals)
+                (m23 (c .before) (After-action-unmarked·gave c)) .now) (dens (c .before .before .before .before .κs)
+                (c .before .before .before .before .args) .0 .now) (same-length
+                record { before = c .before; action-unmarked = c .action-unmarked }),
+            (tt, (tt, tt)),
+          ),
+          returns record { before = c .before; action-unmarked = c .action-unmarked },
+        )
+
+        lay2 : (c : After-action-unmarked) → at3 (W1 (c .before .before .before .before)
+            (After-within·gave (c .before .before .before))) (m12 (c .before) (After-action-unmarked·gave c))
+        lay2 = λ c. (
+          mul-after record { before = c .before; action-unmarked = c .action-unmarked },
+          (
+            tt,
+            (
+              (
+                Path.refl,
+                Path.refl,
+                slice-set-from-after record { before = c .before; action-unmarked = c .action-unmarked },
+              ),
+              lay3 record { before = c .before; action-unmarked = c .action-unmarked },
+            ),
+          ),
+        )
+
         lay1 : (c : After-within) → at21 (W0 (c .before .κs) (c .before .args)) (m2 (c .before) (After-within·gave c))
-        lay1 = λ c. (λ taken. (mul-row record { before = record { before = c .before; within = c .within }; if1 = record { taken = taken }; }, (tt,
-            ((Path.refl, Path.refl, slice-copy-out-row record { before = record { before = c .before; within = c .within }; if1 = record { taken =
-            taken }; },), λ g. (action-unmarked-requires record { before = record { before = record { before = c .before; within = c .within }; if1 =
-            record { taken = taken }; }; row = record { given = g }; }, λ g'. lay2 record { before = record { before = record { before = record {
-            before = c .before; within = c .within }; if1 = record { taken = taken }; }; row = record { given = g }; }; action-unmarked =
-            Called.called ps·1 r·1 (claims· .3) T13 (record { pos = 4; st = List.[]; d = 0; at = λ x. x }, tt,) (m11 record { before = record { before
-            = c .before; within = c .within }; if1 = record { taken = taken }; } g) g'; },),),),), λ left. lay4 record { before = record { before = c
-            .before; within = c .within }; if1 = record { left = left }; },)
+        lay1 = λ c. (
+          λ taken. (
+            mul-row record {
+              before = record { before = c .before; within = c .within };
+              if1 = record { taken = taken };
+            },
+            (
+              tt,
+              (
+                (
+                  Path.refl,
+                  Path.refl,
+                  slice-copy-out-row record {
+                    before = record { before = c .before; within = c .within };
+                    if1 = record { taken = taken };
+                  },
+                ),
+                λ g. (
+                  action-unmarked-requires record {
+                    before = record {
+                      before = record { before = c .before; within = c .within };
+                      if1 = record { taken = taken };
+                    };
+                    row = record { given = g };
+                  },
+                  λ g'. lay2 record {
+                    before = record {
+                      before = record {
+                        before = record { before = c .before; within = c .within };
+                        if1 = record { taken = taken };
+                      };
+                      row = record { given = g };
+                    };
+                    action-unmarked = Called.called ps·1 r·1 (claims· .3) T13 args11 (m11
+                        record {
+                          before = record { before = c .before; within = c .within };
+                          if1 = record { taken = taken };
+                        } g) g';
+                  },
+                ),
+              ),
+            ),
+          ),
+          λ left. lay4 record {
+            before = record { before = c .before; within = c .within };
+            if1 = record { left = left };
+          },
+        )
+
         pub laid : (c : Start) → at23 (W0 (c .κs) (c .args)) (m0 (c .κs) (c .args))
-        laid = λ c. (within-requires c, λ g. lay1 record { before = c; within = Called.called ps·0 r·0 (claims· .1) T2 (Bool.bAt 2 λ x. x, (Num.vAt 3
-            λ x. x, (Num.vAt 7 λ x. x, tt)),) (m1 (c .κs) (c .args)) g; },)
+        laid = λ c. (
+          within-requires c,
+          λ g. lay1 record {
+            before = c;
+            within = Called.called ps·0 r·0 (claims· .1) T2 args1 (m1 (c .κs) (c .args)) g;
+          },
+        )
+
         module _ (κs : Lifetimes.Lfts 1) (qs : Lifetimes.Shares 1) where
-          pub asked : (a : Kinds.Dens κs ps) → (good : Kinds.GoodsP κs ps a) → (pre : Pre· κs a) → (bs : List.List Nat.ℕ) → Φ (Any.wantQ 1 ps r xs m
-              κs qs a (Post· κs a)) (Function.init 1 ps r xs m κs qs a)
-          asked = λ a good pre bs. laid record { κs = κs; args = record { inflight = a .0; go = a .1 .0; place = a .1 .1 .0 }; good = good; fits =
-              record { place = record { fits = good .1 .1 .0 .1 } }; pre = pre; }
-        module _ { M : Type 1 } (𝓤 : URA.URA M) (H : Wp.Heap 𝓤) (A : Atoms.Atoms 𝓤) (W : Kit.Given 𝓤 H A) (𝓣 : Wp.Tables 𝓤 H) (known0 : Plain.Known 𝓤
-            H A W 𝓣 0 ps·0 r·0 (claims· .0) (claims· .1) "hnsr_circuit::scan::within") (known1 : Plain.Known 𝓤 H A W 𝓣 0 ps·1 r·1 (claims· .2)
-            (claims· .3) "hnsr_circuit::inflight::action_unmarked") where
-          pub spec : Statement.Triple 𝓤 (Wp.WpFn 𝓤 H (𝓣 .C) (𝓣 .Λ) (Function.fnOf 1 ps r xs m hs body)) (Function.plainOf 𝓤 H A 1 ps r Pre· Post·)
-          spec = Plain.t-fn-plain 𝓤 H A W 𝓣 1 ps r xs m hs body (λ κs qs bs. Φ) (λ κs qs bs bd. typed κs qs 𝓤 H A W 𝓣 (known0, known1) bs bd) Pre·
-              Post· asked
+          pub asked : (a : Kinds.Dens κs ps) → (good : Kinds.GoodsP κs ps a) → (pre : Pre· κs a) →
+              (bs : List.List Nat.ℕ) → Φ (Any.wantQ 1 ps r xs m κs qs a (Post· κs a))
+              (Function.init 1 ps r xs m κs qs a)
+          asked = λ a good pre bs. laid record {
+            κs = κs;
+            args = record { inflight = a .0; go = a .1 .0; place = a .1 .1 .0 };
+            good = good;
+            fits = record { place = record { fits = good .1 .1 .0 .1 } };
+            pre = pre;
+          }
+
+        module _ {M : Type 1} (𝓤 : URA.URA M) (H : Wp.Heap 𝓤) (A : Atoms.Atoms 𝓤) (W : Kit.Given 𝓤 H A)
+            (𝓣 : Wp.Tables 𝓤 H) (known0 : Plain.Known 𝓤 H A W 𝓣 0 ps·0 r·0 (claims· .0) (claims· .1)
+            "hnsr_circuit::scan::within") (known1 : Plain.Known 𝓤 H A W 𝓣 0 ps·1 r·1 (claims· .2) (claims· .3)
+            "hnsr_circuit::inflight::action_unmarked") where
+          pub spec : Statement.Triple 𝓤 (Wp.WpFn 𝓤 H (𝓣 .C) (𝓣 .Λ) (Function.fnOf 1 ps r xs m hs body))
+              (Function.plainOf 𝓤 H A 1 ps r Pre· Post·)
+          spec = Plain.t-fn-plain 𝓤 H A W 𝓣 1 ps r xs m hs body (λ κs qs bs. Φ) (λ κs qs bs bd. typed κs qs 𝓤 H A W 𝓣
+              (known0, known1) bs bd) Pre· Post· asked

@@ -2,37 +2,19 @@
 use Rattle.hnsr_body.proofs.values.ReservationId
 use Rattle.hnsr_body.proofs.values.ReservationId.Laws
 use Rattle.hnsr_circuit.proofs.By.ReservationUsage
+use Rattle.hnsr_circuit.proofs.StructRow
 use Rattle.hnsr_circuit.proofs.places.Places
 use Rattle.hnsr_circuit.proofs.places.Places.Laws as Laws'
 use Rattle.hnsr_circuit.proofs.records.LedgerRoom
 use Rattle.hnsr_circuit.proofs.records.LedgerRoom.Laws as Laws''
 use borrow.Fn.Kinds
 use borrow.Kind.ShrSlice
-use borrow.Kind.Value
-use borrow.Rule.Local
-use borrow.Table.Rows
-use denote.Exit
-use denote.Struct.Declared
-use denote.Struct.Laws as Laws'''
 use mathlib.Core.List
-use mathlib.Core.Path
 use mathlib.Core.List.{_∷_}
 
 abbrev pub ps : List.List (Kinds.PK 1)
-ps = (ShrSlice.pShrS ReservationUsage.row 0 tt) ∷ (Value.pVal record { ty = Declared.row Places.the-type; one = Path.refl; val = Laws'''.val
-    Places.the-type Laws'.the-laws; tells = Laws'''.tells Places.the-type Laws'.the-laws; still = Laws'''.still Places.the-type Laws'.the-copy
-    Exit.yes; row = Rows.whole (Declared.row Places.the-type); rd = λ x. x; mk = λ x. x; } λ M 𝓤 H A W. record { copies = Laws'''.copy Places.the-type
-    Laws'.the-copy 𝓤 H A W; lawful = Laws'''.lawful Places.the-type Laws'.the-laws 𝓤 H A W; makes = Laws'''.makes Places.the-type Laws'.the-plain 𝓤 H
-    A; in-mem = Local.mem-whole 𝓤 H A W (Declared.row Places.the-type); of-mem = Local.whole-mem 𝓤 H A W (Declared.row Places.the-type); }) ∷
-    (Value.pVal record { ty = Declared.row ReservationId.the-type; one = Path.refl; val = Laws'''.val ReservationId.the-type Laws.the-laws; tells =
-    Laws'''.tells ReservationId.the-type Laws.the-laws; still = Laws'''.still ReservationId.the-type Laws.the-copy Exit.yes; row = Rows.whole
-    (Declared.row ReservationId.the-type); rd = λ x. x; mk = λ x. x; } λ M 𝓤 H A W. record { copies = Laws'''.copy ReservationId.the-type
-    Laws.the-copy 𝓤 H A W; lawful = Laws'''.lawful ReservationId.the-type Laws.the-laws 𝓤 H A W; makes = Laws'''.makes ReservationId.the-type
-    Laws.the-plain 𝓤 H A; in-mem = Local.mem-whole 𝓤 H A W (Declared.row ReservationId.the-type); of-mem = Local.whole-mem 𝓤 H A W (Declared.row
-    ReservationId.the-type); }) ∷ List.[]
+ps = (ShrSlice.pShrS ReservationUsage.row 0 tt) ∷ (StructRow.param Places.the-type Laws'.the-laws Laws'.the-copy
+    Laws'.the-plain) ∷ (StructRow.param ReservationId.the-type Laws.the-laws Laws.the-copy Laws.the-plain) ∷ List.[]
+
 abbrev pub r : Kinds.RK 1
-r = Value.rVal record { ty = Declared.row LedgerRoom.the-type; one = Path.refl; val = Laws'''.val LedgerRoom.the-type Laws''.the-laws; tells =
-    Laws'''.tells LedgerRoom.the-type Laws''.the-laws; still = Laws'''.still LedgerRoom.the-type Laws''.the-copy Exit.yes; row = Rows.whole
-    (Declared.row LedgerRoom.the-type); rd = λ x. x; mk = λ x. x; } λ M 𝓤 H A W. record { copies = Laws'''.copy LedgerRoom.the-type Laws''.the-copy 𝓤
-    H A W; lawful = Laws'''.lawful LedgerRoom.the-type Laws''.the-laws 𝓤 H A W; makes = Laws'''.makes LedgerRoom.the-type Laws''.the-plain 𝓤 H A;
-    in-mem = Local.mem-whole 𝓤 H A W (Declared.row LedgerRoom.the-type); of-mem = Local.whole-mem 𝓤 H A W (Declared.row LedgerRoom.the-type); }
+r = StructRow.result LedgerRoom.the-type Laws''.the-laws Laws''.the-copy Laws''.the-plain

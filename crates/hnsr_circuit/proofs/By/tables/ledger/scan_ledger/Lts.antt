@@ -3,6 +3,7 @@ use Prim.Native.Nat
 use Rattle.hnsr_body.proofs.values.ReservationId
 use Rattle.hnsr_body.proofs.values.ReservationId.Laws
 use Rattle.hnsr_circuit.proofs.By.ReservationUsage
+use Rattle.hnsr_circuit.proofs.StructRow
 use Rattle.hnsr_circuit.proofs.places.Places
 use Rattle.hnsr_circuit.proofs.places.Places.Laws as Laws'
 use Rattle.hnsr_circuit.proofs.records.LedgerRoom
@@ -10,6 +11,7 @@ use Rattle.hnsr_circuit.proofs.records.LedgerRoom.Laws as Laws''
 use borrow.Author.Called
 use borrow.Author.Tests
 use borrow.Fn.Any
+use borrow.Fn.Args as Args'
 use borrow.Fn.Call
 use borrow.Fn.Enter
 use borrow.Fn.Frame
@@ -18,7 +20,6 @@ use borrow.Fn.Kinds
 use borrow.Fn.Plain
 use borrow.Kind.Num
 use borrow.Kind.ShrSlice
-use borrow.Kind.Value
 use borrow.Rule.DerefMove
 use borrow.Rule.Local
 use borrow.Rule.LocalCopy
@@ -35,9 +36,7 @@ use borrow.Table.Row
 use borrow.Table.Rows
 use borrow.Table.Typed
 use contract.Lifetimes
-use denote.Exit
 use denote.Struct.Declared
-use denote.Struct.Laws as Laws'''
 use denote.Triple.Clauses
 use denote.Triple.Statement
 use ghost.Atoms
@@ -52,963 +51,1468 @@ use mathlib.Core.List.{_∷_}
 
 abbrev ref0 : Syntax.Ty
 ref0 = Syntax.tyRef (Syntax.named 0) Syntax.imm ReservationUsage.to
+
 abbrev pub ps : List.List (Kinds.PK 1)
-ps = (ShrSlice.pShrS ReservationUsage.row 0 tt) ∷ (Value.pVal record { ty = Declared.row Places.the-type; one = Path.refl; val = Laws'''.val
-    Places.the-type Laws'.the-laws; tells = Laws'''.tells Places.the-type Laws'.the-laws; still = Laws'''.still Places.the-type Laws'.the-copy
-    Exit.yes; row = Rows.whole (Declared.row Places.the-type); rd = λ x. x; mk = λ x. x; } λ M 𝓤 H A W. record { copies = Laws'''.copy Places.the-type
-    Laws'.the-copy 𝓤 H A W; lawful = Laws'''.lawful Places.the-type Laws'.the-laws 𝓤 H A W; makes = Laws'''.makes Places.the-type Laws'.the-plain 𝓤 H
-    A; in-mem = Local.mem-whole 𝓤 H A W (Declared.row Places.the-type); of-mem = Local.whole-mem 𝓤 H A W (Declared.row Places.the-type); }) ∷
-    (Value.pVal record { ty = Declared.row ReservationId.the-type; one = Path.refl; val = Laws'''.val ReservationId.the-type Laws.the-laws; tells =
-    Laws'''.tells ReservationId.the-type Laws.the-laws; still = Laws'''.still ReservationId.the-type Laws.the-copy Exit.yes; row = Rows.whole
-    (Declared.row ReservationId.the-type); rd = λ x. x; mk = λ x. x; } λ M 𝓤 H A W. record { copies = Laws'''.copy ReservationId.the-type
-    Laws.the-copy 𝓤 H A W; lawful = Laws'''.lawful ReservationId.the-type Laws.the-laws 𝓤 H A W; makes = Laws'''.makes ReservationId.the-type
-    Laws.the-plain 𝓤 H A; in-mem = Local.mem-whole 𝓤 H A W (Declared.row ReservationId.the-type); of-mem = Local.whole-mem 𝓤 H A W (Declared.row
-    ReservationId.the-type); }) ∷ List.[]
+ps = (ShrSlice.pShrS ReservationUsage.row 0 tt) ∷ (StructRow.param Places.the-type Laws'.the-laws Laws'.the-copy
+    Laws'.the-plain) ∷ (StructRow.param ReservationId.the-type Laws.the-laws Laws.the-copy Laws.the-plain) ∷ List.[]
+
 abbrev pub r : Kinds.RK 1
-r = Value.rVal record { ty = Declared.row LedgerRoom.the-type; one = Path.refl; val = Laws'''.val LedgerRoom.the-type Laws''.the-laws; tells =
-    Laws'''.tells LedgerRoom.the-type Laws''.the-laws; still = Laws'''.still LedgerRoom.the-type Laws''.the-copy Exit.yes; row = Rows.whole
-    (Declared.row LedgerRoom.the-type); rd = λ x. x; mk = λ x. x; } λ M 𝓤 H A W. record { copies = Laws'''.copy LedgerRoom.the-type Laws''.the-copy 𝓤
-    H A W; lawful = Laws'''.lawful LedgerRoom.the-type Laws''.the-laws 𝓤 H A W; makes = Laws'''.makes LedgerRoom.the-type Laws''.the-plain 𝓤 H A;
-    in-mem = Local.mem-whole 𝓤 H A W (Declared.row LedgerRoom.the-type); of-mem = Local.whole-mem 𝓤 H A W (Declared.row LedgerRoom.the-type); }
+r = StructRow.result LedgerRoom.the-type Laws''.the-laws Laws''.the-copy Laws''.the-plain
+
 abbrev pub xs : List.List Syntax.Ty
-xs = (Syntax.tyInt Syntax.w64) ∷ (Syntax.tyInt Syntax.w64) ∷ Laws''.mir ∷ (Syntax.tyInt Syntax.w64) ∷ ReservationUsage.ty ∷ Syntax.tyBool ∷
-    (Syntax.tyInt Syntax.w64) ∷ Syntax.tyPtr ∷ ReservationUsage.ty ∷ List.[]
+xs = (Syntax.tyInt Syntax.w64) ∷ (Syntax.tyInt Syntax.w64) ∷ Laws''.mir ∷ (Syntax.tyInt Syntax.w64) ∷
+    ReservationUsage.ty ∷ Syntax.tyBool ∷ (Syntax.tyInt Syntax.w64) ∷ Syntax.tyPtr ∷ ReservationUsage.ty ∷ List.[]
+
 abbrev pub m : Nat.ℕ
 m = 0
+
 abbrev pub ps·0 : List.List (Kinds.PK 0)
 ps·0 = (Num.pNum Syntax.w64) ∷ (Num.pNum Syntax.w64) ∷ List.[]
+
 abbrev pub r·0 : Kinds.RK 0
 r·0 = Num.rNum Syntax.w64
+
 abbrev pub ps·1 : List.List (Kinds.PK 0)
 ps·1 = (Num.pNum Syntax.w64) ∷ List.[]
+
 abbrev pub r·1 : Kinds.RK 0
-r·1 = Value.rVal record { ty = Declared.row LedgerRoom.the-type; one = Path.refl; val = Laws'''.val LedgerRoom.the-type Laws''.the-laws; tells =
-    Laws'''.tells LedgerRoom.the-type Laws''.the-laws; still = Laws'''.still LedgerRoom.the-type Laws''.the-copy Exit.yes; row = Rows.whole
-    (Declared.row LedgerRoom.the-type); rd = λ x. x; mk = λ x. x; } λ M 𝓤 H A W. record { copies = Laws'''.copy LedgerRoom.the-type Laws''.the-copy 𝓤
-    H A W; lawful = Laws'''.lawful LedgerRoom.the-type Laws''.the-laws 𝓤 H A W; makes = Laws'''.makes LedgerRoom.the-type Laws''.the-plain 𝓤 H A;
-    in-mem = Local.mem-whole 𝓤 H A W (Declared.row LedgerRoom.the-type); of-mem = Local.whole-mem 𝓤 H A W (Declared.row LedgerRoom.the-type); }
+r·1 = StructRow.result LedgerRoom.the-type Laws''.the-laws Laws''.the-copy Laws''.the-plain
+
 abbrev pub ps·2 : List.List (Kinds.PK 0)
-ps·2 = (Value.pVal record { ty = Declared.row LedgerRoom.the-type; one = Path.refl; val = Laws'''.val LedgerRoom.the-type Laws''.the-laws; tells =
-    Laws'''.tells LedgerRoom.the-type Laws''.the-laws; still = Laws'''.still LedgerRoom.the-type Laws''.the-copy Exit.yes; row = Rows.whole
-    (Declared.row LedgerRoom.the-type); rd = λ x. x; mk = λ x. x; } λ M 𝓤 H A W. record { copies = Laws'''.copy LedgerRoom.the-type Laws''.the-copy 𝓤
-    H A W; lawful = Laws'''.lawful LedgerRoom.the-type Laws''.the-laws 𝓤 H A W; makes = Laws'''.makes LedgerRoom.the-type Laws''.the-plain 𝓤 H A;
-    in-mem = Local.mem-whole 𝓤 H A W (Declared.row LedgerRoom.the-type); of-mem = Local.whole-mem 𝓤 H A W (Declared.row LedgerRoom.the-type); }) ∷
-    ReservationUsage.param ∷ (Value.pVal record { ty = Declared.row ReservationId.the-type; one = Path.refl; val = Laws'''.val ReservationId.the-type
-    Laws.the-laws; tells = Laws'''.tells ReservationId.the-type Laws.the-laws; still = Laws'''.still ReservationId.the-type Laws.the-copy Exit.yes;
-    row = Rows.whole (Declared.row ReservationId.the-type); rd = λ x. x; mk = λ x. x; } λ M 𝓤 H A W. record { copies = Laws'''.copy
-    ReservationId.the-type Laws.the-copy 𝓤 H A W; lawful = Laws'''.lawful ReservationId.the-type Laws.the-laws 𝓤 H A W; makes = Laws'''.makes
-    ReservationId.the-type Laws.the-plain 𝓤 H A; in-mem = Local.mem-whole 𝓤 H A W (Declared.row ReservationId.the-type); of-mem = Local.whole-mem 𝓤 H
-    A W (Declared.row ReservationId.the-type); }) ∷ (Num.pNum Syntax.w64) ∷ List.[]
+ps·2 = (StructRow.param LedgerRoom.the-type Laws''.the-laws Laws''.the-copy Laws''.the-plain) ∷ ReservationUsage.param
+    ∷ (StructRow.param ReservationId.the-type Laws.the-laws Laws.the-copy Laws.the-plain) ∷ (Num.pNum Syntax.w64) ∷
+    List.[]
+
 abbrev pub r·2 : Kinds.RK 0
-r·2 = Value.rVal record { ty = Declared.row LedgerRoom.the-type; one = Path.refl; val = Laws'''.val LedgerRoom.the-type Laws''.the-laws; tells =
-    Laws'''.tells LedgerRoom.the-type Laws''.the-laws; still = Laws'''.still LedgerRoom.the-type Laws''.the-copy Exit.yes; row = Rows.whole
-    (Declared.row LedgerRoom.the-type); rd = λ x. x; mk = λ x. x; } λ M 𝓤 H A W. record { copies = Laws'''.copy LedgerRoom.the-type Laws''.the-copy 𝓤
-    H A W; lawful = Laws'''.lawful LedgerRoom.the-type Laws''.the-laws 𝓤 H A W; makes = Laws'''.makes LedgerRoom.the-type Laws''.the-plain 𝓤 H A;
-    in-mem = Local.mem-whole 𝓤 H A W (Declared.row LedgerRoom.the-type); of-mem = Local.whole-mem 𝓤 H A W (Declared.row LedgerRoom.the-type); }
+r·2 = StructRow.result LedgerRoom.the-type Laws''.the-laws Laws''.the-copy Laws''.the-plain
+
 abbrev pub ps·3 : List.List (Kinds.PK 0)
-ps·3 = (Value.pVal record { ty = Declared.row LedgerRoom.the-type; one = Path.refl; val = Laws'''.val LedgerRoom.the-type Laws''.the-laws; tells =
-    Laws'''.tells LedgerRoom.the-type Laws''.the-laws; still = Laws'''.still LedgerRoom.the-type Laws''.the-copy Exit.yes; row = Rows.whole
-    (Declared.row LedgerRoom.the-type); rd = λ x. x; mk = λ x. x; } λ M 𝓤 H A W. record { copies = Laws'''.copy LedgerRoom.the-type Laws''.the-copy 𝓤
-    H A W; lawful = Laws'''.lawful LedgerRoom.the-type Laws''.the-laws 𝓤 H A W; makes = Laws'''.makes LedgerRoom.the-type Laws''.the-plain 𝓤 H A;
-    in-mem = Local.mem-whole 𝓤 H A W (Declared.row LedgerRoom.the-type); of-mem = Local.whole-mem 𝓤 H A W (Declared.row LedgerRoom.the-type); }) ∷
-    (Num.pNum Syntax.w64) ∷ (Num.pNum Syntax.w64) ∷ List.[]
+ps·3 = (StructRow.param LedgerRoom.the-type Laws''.the-laws Laws''.the-copy Laws''.the-plain) ∷ (Num.pNum Syntax.w64) ∷
+    (Num.pNum Syntax.w64) ∷ List.[]
+
 abbrev pub r·3 : Kinds.RK 0
-r·3 = Value.rVal record { ty = Declared.row LedgerRoom.the-type; one = Path.refl; val = Laws'''.val LedgerRoom.the-type Laws''.the-laws; tells =
-    Laws'''.tells LedgerRoom.the-type Laws''.the-laws; still = Laws'''.still LedgerRoom.the-type Laws''.the-copy Exit.yes; row = Rows.whole
-    (Declared.row LedgerRoom.the-type); rd = λ x. x; mk = λ x. x; } λ M 𝓤 H A W. record { copies = Laws'''.copy LedgerRoom.the-type Laws''.the-copy 𝓤
-    H A W; lawful = Laws'''.lawful LedgerRoom.the-type Laws''.the-laws 𝓤 H A W; makes = Laws'''.makes LedgerRoom.the-type Laws''.the-plain 𝓤 H A;
-    in-mem = Local.mem-whole 𝓤 H A W (Declared.row LedgerRoom.the-type); of-mem = Local.whole-mem 𝓤 H A W (Declared.row LedgerRoom.the-type); }
+r·3 = StructRow.result LedgerRoom.the-type Laws''.the-laws Laws''.the-copy Laws''.the-plain
+
 abbrev pub hs : List.List Syntax.Home
-hs = Syntax.valueLocal ∷ Syntax.valueLocal ∷ Syntax.valueLocal ∷ Syntax.valueLocal ∷ Syntax.valueLocal ∷ Syntax.valueLocal ∷ Syntax.valueLocal ∷
-    Syntax.valueLocal ∷ Syntax.valueLocal ∷ Syntax.valueLocal ∷ Syntax.valueLocal ∷ Syntax.valueLocal ∷ Syntax.valueLocal ∷ List.[]
+hs = Syntax.valueLocal ∷ Syntax.valueLocal ∷ Syntax.valueLocal ∷ Syntax.valueLocal ∷ Syntax.valueLocal ∷
+    Syntax.valueLocal ∷ Syntax.valueLocal ∷ Syntax.valueLocal ∷ Syntax.valueLocal ∷ Syntax.valueLocal ∷
+    Syntax.valueLocal ∷ Syntax.valueLocal ∷ Syntax.valueLocal ∷ List.[]
+
 abbrev b0 : Syntax.Body
 b0 = Syntax.assign (Syntax.place 4 List.[]) (Syntax.rvOpd (Syntax.copy (Syntax.place 1 ((Syntax.field 1) ∷ List.[]))))
+
 abbrev b1 : Syntax.Body
-b1 = Syntax.call "hns_encoding::numbers::min_usize" ((Syntax.copy (Syntax.place 2 ((Syntax.field 2) ∷ List.[]))) ∷ (Syntax.copy (Syntax.place 4
-    List.[])) ∷ List.[]) (Syntax.place 5 List.[])
+b1 = Syntax.call "hns_encoding::numbers::min_usize" ((Syntax.copy (Syntax.place 2 ((Syntax.field 2) ∷ List.[]))) ∷
+    (Syntax.copy (Syntax.place 4 List.[])) ∷ List.[]) (Syntax.place 5 List.[])
+
 abbrev b2 : Syntax.Body
-b2 = Syntax.call "hnsr_circuit::scan::no_room" ((Syntax.copy (Syntax.place 4 List.[])) ∷ List.[]) (Syntax.place 6 List.[])
+b2 = Syntax.call "hnsr_circuit::scan::no_room" ((Syntax.copy (Syntax.place 4 List.[])) ∷ List.[])
+    (Syntax.place 6 List.[])
+
 abbrev b3 : Syntax.Body
 b3 = Syntax.assign (Syntax.place 7 List.[]) (Syntax.rvOpd (Syntax.int Syntax.w64 0))
+
 abbrev b4 : Syntax.Body
-b4 = Syntax.assign (Syntax.place 9 List.[]) (Syntax.op2 (Syntax.lt Syntax.unsigned) (Syntax.copy (Syntax.place 7 List.[])) (Syntax.copy (Syntax.place
-    5 List.[])))
+b4 = Syntax.assign (Syntax.place 9 List.[]) (Syntax.op2 (Syntax.lt Syntax.unsigned)
+    (Syntax.copy (Syntax.place 7 List.[])) (Syntax.copy (Syntax.place 5 List.[])))
+
 abbrev b5 : Syntax.Body
 b5 = Syntax.skip
+
 abbrev b6 : Syntax.Body
 b6 = Syntax.exit 1
+
 abbrev b7 : Syntax.Body
 b7 = Syntax.cond (Syntax.copy (Syntax.place 9 List.[])) b5 b6
+
 abbrev b8 : Syntax.Body
-b8 = Syntax.assign (Syntax.place 10 List.[]) (Syntax.op2 (Syntax.mul Syntax.unsigned) (Syntax.copy (Syntax.place 7 List.[])) (Syntax.int Syntax.w64
-    40))
+b8 = Syntax.assign (Syntax.place 10 List.[]) (Syntax.op2 (Syntax.mul Syntax.unsigned)
+    (Syntax.copy (Syntax.place 7 List.[])) (Syntax.int Syntax.w64 40))
+
 abbrev b9 : Syntax.Body
-b9 = Syntax.assign (Syntax.place 11 List.[]) (Syntax.op2 Syntax.offset (Syntax.copy (Syntax.place 1 ((Syntax.field 0) ∷ List.[]))) (Syntax.copy
-    (Syntax.place 10 List.[])))
+b9 = Syntax.assign (Syntax.place 11 List.[]) (Syntax.op2 Syntax.offset
+    (Syntax.copy (Syntax.place 1 ((Syntax.field 0) ∷ List.[]))) (Syntax.copy (Syntax.place 10 List.[])))
+
 abbrev b10 : Syntax.Body
-b10 = Syntax.assign (Syntax.place 12 List.[]) (Syntax.rvOpd (Syntax.copy (Syntax.place 11 ((Syntax.deref ReservationUsage.ty) ∷ List.[]))))
+b10 = Syntax.assign (Syntax.place 12 List.[]) (Syntax.rvOpd (Syntax.copy (Syntax.place 11
+    ((Syntax.deref ReservationUsage.ty) ∷ List.[]))))
+
 abbrev b11 : Syntax.Body
 b11 = Syntax.assign (Syntax.place 8 List.[]) (Syntax.rvOpd (Syntax.copy (Syntax.place 12 List.[])))
+
 abbrev b12 : Syntax.Body
-b12 = Syntax.call "hnsr_circuit::scan::room_on" ((Syntax.copy (Syntax.place 6 List.[])) ∷ (Syntax.copy (Syntax.place 8 List.[])) ∷ (Syntax.copy
-    (Syntax.place 3 List.[])) ∷ (Syntax.copy (Syntax.place 7 List.[])) ∷ List.[]) (Syntax.place 6 List.[])
+b12 = Syntax.call "hnsr_circuit::scan::room_on" ((Syntax.copy (Syntax.place 6 List.[])) ∷
+    (Syntax.copy (Syntax.place 8 List.[])) ∷ (Syntax.copy (Syntax.place 3 List.[])) ∷
+    (Syntax.copy (Syntax.place 7 List.[])) ∷ List.[]) (Syntax.place 6 List.[])
+
 abbrev b13 : Syntax.Body
-b13 = Syntax.assign (Syntax.place 7 List.[]) (Syntax.op2 (Syntax.add Syntax.unsigned) (Syntax.copy (Syntax.place 7 List.[])) (Syntax.int Syntax.w64
-    1))
+b13 = Syntax.assign (Syntax.place 7 List.[]) (Syntax.op2 (Syntax.add Syntax.unsigned)
+    (Syntax.copy (Syntax.place 7 List.[])) (Syntax.int Syntax.w64 1))
+
 abbrev b14 : Syntax.Body
 b14 = Syntax.seq b12 b13
+
 abbrev b15 : Syntax.Body
 b15 = Syntax.seq b11 b14
+
 abbrev b16 : Syntax.Body
 b16 = Syntax.seq b10 b15
+
 abbrev b17 : Syntax.Body
 b17 = Syntax.seq b9 b16
+
 abbrev b18 : Syntax.Body
 b18 = Syntax.seq b8 b17
+
 abbrev b19 : Syntax.Body
 b19 = Syntax.seq b7 b18
+
 abbrev b20 : Syntax.Body
 b20 = Syntax.seq b4 b19
+
 abbrev b21 : Syntax.Body
 b21 = Syntax.loop b20
+
 abbrev b22 : Syntax.Body
 b22 = Syntax.block b21
+
 abbrev b23 : Syntax.Body
-b23 = Syntax.call "hnsr_circuit::places::room_spared" ((Syntax.copy (Syntax.place 6 List.[])) ∷ (Syntax.copy (Syntax.place 7 List.[])) ∷ (Syntax.copy
-    (Syntax.place 4 List.[])) ∷ List.[]) (Syntax.place 0 List.[])
+b23 = Syntax.call "hnsr_circuit::places::room_spared" ((Syntax.copy (Syntax.place 6 List.[])) ∷
+    (Syntax.copy (Syntax.place 7 List.[])) ∷ (Syntax.copy (Syntax.place 4 List.[])) ∷ List.[]) (Syntax.place 0 List.[])
+
 abbrev b24 : Syntax.Body
 b24 = Syntax.return
+
 abbrev b25 : Syntax.Body
 b25 = Syntax.seq b23 b24
+
 abbrev b26 : Syntax.Body
 b26 = Syntax.seq b22 b25
+
 abbrev b27 : Syntax.Body
 b27 = Syntax.seq b3 b26
+
 abbrev b28 : Syntax.Body
 b28 = Syntax.seq b2 b27
+
 abbrev b29 : Syntax.Body
 b29 = Syntax.seq b1 b28
+
 abbrev b30 : Syntax.Body
 b30 = Syntax.seq b0 b29
+
 abbrev pub body : Syntax.Body
 body = b30
+
 abbrev pub Claims : Type 1
-Claims = Kinds.In 0 ps·0 × Kinds.Out 0 ps·0 r·0 × Kinds.In 0 ps·1 × Kinds.Out 0 ps·1 r·1 × Kinds.In 0 ps·2 × Kinds.Out 0 ps·2 r·2 × Kinds.In 0 ps·3 ×
-    Kinds.Out 0 ps·3 r·3
+Claims = Kinds.In 0 ps·0 × Kinds.Out 0 ps·0 r·0 × Kinds.In 0 ps·1 × Kinds.Out 0 ps·1 r·1 × Kinds.In 0 ps·2 × Kinds.Out
+    0 ps·2 r·2 × Kinds.In 0 ps·3 × Kinds.Out 0 ps·3 r·3
+
 abbrev e0 : Row.Entry
 e0 = (0, Rows.any-gone Laws''.mir)
+
 abbrev e1 : Row.Entry
 e1 = (1, Rows.sslice ReservationUsage.row ref0 0)
+
 abbrev e2 : Row.Entry
 e2 = (2, Rows.whole (Declared.row Places.the-type))
+
 abbrev e3 : Row.Entry
 e3 = (3, Rows.whole (Declared.row ReservationId.the-type))
+
 abbrev e4 : Row.Entry
 e4 = (4, Rows.any-gone (Syntax.tyInt Syntax.w64))
+
 abbrev e5 : Row.Entry
 e5 = (5, Rows.any-gone (Syntax.tyInt Syntax.w64))
+
 abbrev e6 : Row.Entry
 e6 = (6, Rows.any-gone Laws''.mir)
+
 abbrev e7 : Row.Entry
 e7 = (7, Rows.any-gone (Syntax.tyInt Syntax.w64))
+
 abbrev e8 : Row.Entry
 e8 = (8, Rows.any-gone ReservationUsage.ty)
+
 abbrev e9 : Row.Entry
 e9 = (9, Rows.any-gone Syntax.tyBool)
+
 abbrev e10 : Row.Entry
 e10 = (10, Rows.any-gone (Syntax.tyInt Syntax.w64))
+
 abbrev e11 : Row.Entry
 e11 = (11, Rows.any-gone Syntax.tyPtr)
+
 abbrev e12 : Row.Entry
 e12 = (12, Rows.any-gone ReservationUsage.ty)
+
 abbrev e0·1 : Row.Entry
 e0·1 = (0, Rows.whole (Declared.row LedgerRoom.the-type))
+
 abbrev e2·1 : Row.Entry
 e2·1 = (2, Rows.any-gone Laws'.mir)
+
 abbrev e3·1 : Row.Entry
 e3·1 = (3, Rows.any-gone Laws.mir)
+
 abbrev e4·1 : Row.Entry
 e4·1 = (4, Rows.sc-here (Row.sInt Syntax.w64))
+
 abbrev e5·1 : Row.Entry
 e5·1 = (5, Rows.sc-here (Row.sInt Syntax.w64))
+
 abbrev e6·1 : Row.Entry
 e6·1 = (6, Rows.whole (Declared.row LedgerRoom.the-type))
+
 abbrev e7·1 : Row.Entry
 e7·1 = (7, Rows.sc-here (Row.sInt Syntax.w64))
+
 abbrev e9·1 : Row.Entry
 e9·1 = (9, Rows.sc-here Row.sBool)
+
 abbrev e10·1 : Row.Entry
 e10·1 = (10, Rows.sc-here (Row.sInt Syntax.w64))
+
 abbrev e11·1 : Row.Entry
 e11·1 = (11, Rows.sc-here Row.sPtr)
+
 abbrev e12·1 : Row.Entry
 e12·1 = (12, ReservationUsage.held)
+
 abbrev e8·1 : Row.Entry
 e8·1 = (8, ReservationUsage.held)
+
 abbrev pub t0 : List.List Row.Entry
 t0 = e0 ∷ e1 ∷ e2 ∷ e3 ∷ e4 ∷ e5 ∷ e6 ∷ e7 ∷ e8 ∷ e9 ∷ e10 ∷ e11 ∷ e12 ∷ List.[]
+
 abbrev pub t1 : List.List Row.Entry
 t1 = e0·1 ∷ e1 ∷ e2·1 ∷ e3·1 ∷ e4 ∷ e5 ∷ e6 ∷ e7 ∷ e8 ∷ e9 ∷ e10 ∷ e11 ∷ e12 ∷ List.[]
+
 abbrev pub t2 : List.List Row.Entry
 t2 = e0 ∷ e1 ∷ e2 ∷ e3 ∷ e4·1 ∷ e5 ∷ e6 ∷ e7 ∷ e8 ∷ e9 ∷ e10 ∷ e11 ∷ e12 ∷ List.[]
+
 abbrev pub t3 : List.List Row.Entry
 t3 = e0 ∷ e1 ∷ e2 ∷ e3 ∷ e4·1 ∷ e5·1 ∷ e6 ∷ e7 ∷ e8 ∷ e9 ∷ e10 ∷ e11 ∷ e12 ∷ List.[]
+
 abbrev pub t4 : List.List Row.Entry
 t4 = e0 ∷ e1 ∷ e2·1 ∷ e3 ∷ e4·1 ∷ e5·1 ∷ e6 ∷ e7 ∷ e8 ∷ e9 ∷ e10 ∷ e11 ∷ e12 ∷ List.[]
+
 abbrev pub t5 : List.List Row.Entry
 t5 = e0 ∷ e1 ∷ e2·1 ∷ e3 ∷ e4·1 ∷ e5·1 ∷ e6·1 ∷ e7 ∷ e8 ∷ e9 ∷ e10 ∷ e11 ∷ e12 ∷ List.[]
+
 abbrev pub t6 : List.List Row.Entry
 t6 = e0 ∷ e1 ∷ e2·1 ∷ e3 ∷ e4·1 ∷ e5·1 ∷ e6·1 ∷ e7·1 ∷ e8 ∷ e9 ∷ e10 ∷ e11 ∷ e12 ∷ List.[]
+
 abbrev pub t7 : List.List Row.Entry
 t7 = e0 ∷ e1 ∷ e2·1 ∷ e3·1 ∷ e4·1 ∷ e5·1 ∷ e6·1 ∷ e7·1 ∷ e8 ∷ e9 ∷ e10 ∷ e11 ∷ e12 ∷ List.[]
+
 abbrev pub t8 : List.List Row.Entry
 t8 = e0 ∷ e1 ∷ e2·1 ∷ e3 ∷ e4·1 ∷ e5·1 ∷ e6·1 ∷ e7·1 ∷ e8 ∷ e9·1 ∷ e10 ∷ e11 ∷ e12 ∷ List.[]
+
 abbrev pub t9 : List.List Row.Entry
 t9 = e0 ∷ e1 ∷ e2·1 ∷ e3·1 ∷ e4·1 ∷ e5·1 ∷ e6·1 ∷ e7·1 ∷ e8 ∷ e9·1 ∷ e10 ∷ e11 ∷ e12 ∷ List.[]
+
 abbrev pub t10 : List.List Row.Entry
 t10 = e0 ∷ e1 ∷ e2·1 ∷ e3 ∷ e4·1 ∷ e5·1 ∷ e6·1 ∷ e7·1 ∷ e8 ∷ e9 ∷ e10·1 ∷ e11 ∷ e12 ∷ List.[]
+
 abbrev pub t11 : List.List Row.Entry
 t11 = e0 ∷ e1 ∷ e2·1 ∷ e3 ∷ e4·1 ∷ e5·1 ∷ e6·1 ∷ e7·1 ∷ e8 ∷ e9 ∷ e10·1 ∷ e11·1 ∷ e12 ∷ List.[]
+
 abbrev pub t12 : List.List Row.Entry
 t12 = e0 ∷ e1 ∷ e2·1 ∷ e3 ∷ e4·1 ∷ e5·1 ∷ e6·1 ∷ e7·1 ∷ e8 ∷ e9 ∷ e10·1 ∷ e11·1 ∷ e12·1 ∷ List.[]
+
 abbrev pub t13 : List.List Row.Entry
 t13 = e0 ∷ e1 ∷ e2·1 ∷ e3 ∷ e4·1 ∷ e5·1 ∷ e6·1 ∷ e7·1 ∷ e8 ∷ e9 ∷ e10 ∷ e11·1 ∷ e12·1 ∷ List.[]
+
 abbrev pub t14 : List.List Row.Entry
 t14 = e0 ∷ e1 ∷ e2·1 ∷ e3 ∷ e4·1 ∷ e5·1 ∷ e6·1 ∷ e7·1 ∷ e8 ∷ e9 ∷ e10 ∷ e11 ∷ e12·1 ∷ List.[]
+
 abbrev pub t15 : List.List Row.Entry
 t15 = e0 ∷ e1 ∷ e2·1 ∷ e3 ∷ e4·1 ∷ e5·1 ∷ e6·1 ∷ e7·1 ∷ e8·1 ∷ e9 ∷ e10 ∷ e11 ∷ e12·1 ∷ List.[]
+
 abbrev pub t16 : List.List Row.Entry
 t16 = e0 ∷ e1 ∷ e2·1 ∷ e3 ∷ e4·1 ∷ e5·1 ∷ e6·1 ∷ e7·1 ∷ e8·1 ∷ e9 ∷ e10 ∷ e11 ∷ e12 ∷ List.[]
+
 abbrev pub t17 : List.List Row.Entry
 t17 = e0·1 ∷ e1 ∷ e2·1 ∷ e3·1 ∷ e4·1 ∷ e5·1 ∷ e6·1 ∷ e7·1 ∷ e8 ∷ e9 ∷ e10 ∷ e11 ∷ e12 ∷ List.[]
+
 abbrev pub t18 : List.List Row.Entry
 t18 = e0·1 ∷ e1 ∷ e2·1 ∷ e3·1 ∷ e4 ∷ e5·1 ∷ e6·1 ∷ e7·1 ∷ e8 ∷ e9 ∷ e10 ∷ e11 ∷ e12 ∷ List.[]
+
 abbrev pub t19 : List.List Row.Entry
 t19 = e0·1 ∷ e1 ∷ e2·1 ∷ e3·1 ∷ e4 ∷ e5 ∷ e6·1 ∷ e7·1 ∷ e8 ∷ e9 ∷ e10 ∷ e11 ∷ e12 ∷ List.[]
+
 abbrev pub t20 : List.List Row.Entry
 t20 = e0·1 ∷ e1 ∷ e2·1 ∷ e3·1 ∷ e4 ∷ e5 ∷ e6 ∷ e7·1 ∷ e8 ∷ e9 ∷ e10 ∷ e11 ∷ e12 ∷ List.[]
+
 abbrev pub T0 : Row.Cx
 T0 = record { locals = t0; slots = List.[] }
+
 abbrev pub T1 : Row.Cx
 T1 = record { locals = t1; slots = List.[] }
+
 abbrev pub T2 : Row.Cx
 T2 = record { locals = t2; slots = List.[] }
+
 abbrev pub T3 : Row.Cx
 T3 = record { locals = t3; slots = List.[] }
+
 abbrev pub T4 : Row.Cx
 T4 = record { locals = t4; slots = List.[] }
+
 abbrev pub T5 : Row.Cx
 T5 = record { locals = t5; slots = List.[] }
+
 abbrev pub T6 : Row.Cx
 T6 = record { locals = t6; slots = List.[] }
+
 abbrev pub T7 : Row.Cx
 T7 = record { locals = t7; slots = List.[] }
+
 abbrev pub T8 : Row.Cx
 T8 = record { locals = t8; slots = List.[] }
+
 abbrev pub T9 : Row.Cx
 T9 = record { locals = t6; slots = List.[] }
+
 abbrev pub T10 : Row.Cx
 T10 = record { locals = t6; slots = List.[] }
+
 abbrev pub T11 : Row.Cx
 T11 = record { locals = t9; slots = List.[] }
+
 abbrev pub T12 : Row.Cx
 T12 = record { locals = t7; slots = List.[] }
+
 abbrev pub T13 : Row.Cx
 T13 = record { locals = t10; slots = List.[] }
+
 abbrev pub T14 : Row.Cx
 T14 = record { locals = t11; slots = List.[] }
+
 abbrev pub T15 : Row.Cx
 T15 = record { locals = t12; slots = List.[] }
+
 abbrev pub T16 : Row.Cx
 T16 = record { locals = t13; slots = List.[] }
+
 abbrev pub T17 : Row.Cx
 T17 = record { locals = t14; slots = List.[] }
+
 abbrev pub T18 : Row.Cx
 T18 = record { locals = t15; slots = List.[] }
+
 abbrev pub T19 : Row.Cx
 T19 = record { locals = t16; slots = List.[] }
+
 abbrev pub T20 : Row.Cx
 T20 = record { locals = t16; slots = List.[] }
+
 abbrev pub T21 : Row.Cx
 T21 = record { locals = t6; slots = List.[] }
+
 abbrev pub T22 : Row.Cx
 T22 = record { locals = t6; slots = List.[] }
+
 abbrev pub T23 : Row.Cx
 T23 = record { locals = t17; slots = List.[] }
+
 abbrev pub T24 : Row.Cx
 T24 = record { locals = t18; slots = List.[] }
+
 abbrev pub T25 : Row.Cx
 T25 = record { locals = t19; slots = List.[] }
+
 abbrev pub T26 : Row.Cx
 T26 = record { locals = t20; slots = List.[] }
+
 abbrev pub T27 : Row.Cx
 T27 = record { locals = t1; slots = List.[] }
+
 abbrev pub O0 : Typed.Outs
 O0 = record { next = Option.none; exits = List.[]; returns = Option.some T1 }
+
 abbrev pub O1 : Typed.Outs
 O1 = Typed.withNext (Option.some T7) O0
+
 abbrev pub O2 : Typed.Outs
 O2 = Typed.inBlock₀ O1
+
 abbrev pub O3 : Typed.Outs
 O3 = Typed.inLoop₀ T6 O2
+
 abbrev pub O4 : Typed.Outs
 O4 = Typed.withNext (Option.some T9) O3
+
 abbrev pub InvT-loop : Type 1
-InvT-loop = List.List (ReservationUsage.row .Denot) → Rows.whole (Declared.row ReservationId.the-type) .Mod → Rows.sc-here (Row.sInt Syntax.w64) .Mod
-    → Rows.sc-here (Row.sInt Syntax.w64) .Mod → Rows.whole (Declared.row LedgerRoom.the-type) .Mod → Rows.sc-here (Row.sInt Syntax.w64) .Mod →
-    Rows.whole (Declared.row LedgerRoom.the-type) .Mod → Rows.sc-here (Row.sInt Syntax.w64) .Mod → Type 0
+InvT-loop = List.List (ReservationUsage.row .Denot) → Rows.whole (Declared.row ReservationId.the-type) .Mod →
+    Rows.sc-here (Row.sInt Syntax.w64) .Mod → Rows.sc-here (Row.sInt Syntax.w64) .Mod → Rows.whole
+    (Declared.row LedgerRoom.the-type) .Mod → Rows.sc-here (Row.sInt Syntax.w64) .Mod → Rows.whole
+    (Declared.row LedgerRoom.the-type) .Mod → Rows.sc-here (Row.sInt Syntax.w64) .Mod → Type 0
+
 abbrev pub MeasureT-loop : Type 0
-MeasureT-loop = List.List (ReservationUsage.row .Denot) → Rows.whole (Declared.row ReservationId.the-type) .Mod → Rows.sc-here (Row.sInt Syntax.w64)
-    .Mod → Rows.sc-here (Row.sInt Syntax.w64) .Mod → Rows.whole (Declared.row LedgerRoom.the-type) .Mod → Rows.sc-here (Row.sInt Syntax.w64) .Mod →
-    Rows.whole (Declared.row LedgerRoom.the-type) .Mod → Rows.sc-here (Row.sInt Syntax.w64) .Mod → Nat.ℕ
+MeasureT-loop = List.List (ReservationUsage.row .Denot) → Rows.whole (Declared.row ReservationId.the-type) .Mod →
+    Rows.sc-here (Row.sInt Syntax.w64) .Mod → Rows.sc-here (Row.sInt Syntax.w64) .Mod → Rows.whole
+    (Declared.row LedgerRoom.the-type) .Mod → Rows.sc-here (Row.sInt Syntax.w64) .Mod → Rows.whole
+    (Declared.row LedgerRoom.the-type) .Mod → Rows.sc-here (Row.sInt Syntax.w64) .Mod → Nat.ℕ
+
 module _ (claims· : Claims) where
   abbrev s0 : Typed.Mo T0 → Typed.Mo T2
-  s0 = Scalar.n-use T0 (Scalar.oFld 1 ((Syntax.field 1) ∷ List.[]) (Syntax.tyInt Syntax.w64) 8 Shared.lenV) 4 (Rows.sc-here (Row.sInt Syntax.w64))
-      (Row.sInt Syntax.w64 .of)
+  s0 = Scalar.n-use T0 (Scalar.oFld 1 ((Syntax.field 1) ∷ List.[]) (Syntax.tyInt Syntax.w64) 8 Shared.lenV) 4
+      (Rows.sc-here (Row.sInt Syntax.w64)) (Row.sInt Syntax.w64 .of)
+
+  abbrev args1 : Args'.ArgsT ps·0 (T2 .locals)
+  args1 = (Num.vFld 2 ((Syntax.field 2) ∷ List.[]) 16 λ x. Places.struct .as-values x .1 .1 .0, (Num.vAt 4 λ x. x, tt))
+
   abbrev s1 : Typed.Both T2 T3
-  s1 = Call.callB ps·0 r·0 (claims· .0) (claims· .1) T2 (Num.vFld 2 ((Syntax.field 2) ∷ List.[]) 16 λ x. Places.struct .as-values x .1 .1 .0, (Num.vAt
-      4 λ x. x, tt),) 5 List.[] (Syntax.tyInt Syntax.w64)
+  s1 = Call.callB ps·0 r·0 (claims· .0) (claims· .1) T2 args1 5 List.[] (Syntax.tyInt Syntax.w64)
+
   abbrev s2 : Typed.Mo T3 → Typed.Mo T4
   s2 = Scalar.n-room T3 2 Laws'.mir
+
+  abbrev args3 : Args'.ArgsT ps·1 (T4 .locals)
+  args3 = (Num.vAt 4 λ x. x, tt)
+
   abbrev s3 : Typed.Both T4 T5
-  s3 = Call.callB ps·1 r·1 (claims· .2) (claims· .3) T4 (Num.vAt 4 λ x. x, tt) 6 List.[] Laws''.mir
+  s3 = Call.callB ps·1 r·1 (claims· .2) (claims· .3) T4 args3 6 List.[] Laws''.mir
+
   abbrev s4 : Typed.Mo T5 → Typed.Mo T6
   s4 = Scalar.n-use T5 (Scalar.oInt Syntax.w64 0) 7 (Rows.sc-here (Row.sInt Syntax.w64)) (Row.sInt Syntax.w64 .of)
+
   abbrev s5 : Typed.Asks T6 T8
-  s5 = Scalar.k-op2 T6 (Syntax.lt Syntax.unsigned) (Scalar.oAt 7 (Syntax.tyInt Syntax.w64) (Row.valS (Row.sInt Syntax.w64))) (Scalar.oAt 5
-      (Syntax.tyInt Syntax.w64) (Row.valS (Row.sInt Syntax.w64))) 9 (Rows.sc-here Row.sBool) (Row.sBool .of)
+  s5 = Scalar.k-op2 T6 (Syntax.lt Syntax.unsigned) (Scalar.oAt 7 (Syntax.tyInt Syntax.w64)
+      (Row.valS (Row.sInt Syntax.w64))) (Scalar.oAt 5 (Syntax.tyInt Syntax.w64) (Row.valS (Row.sInt Syntax.w64))) 9
+      (Rows.sc-here Row.sBool) (Row.sBool .of)
+
   abbrev s6 : Typed.Mo T8 → Typed.Mo T10
   s6 = Scalar.n-room T8 9 Syntax.tyBool
+
   abbrev s7 : Typed.Mo T8 → Typed.Mo T11
   s7 = Scalar.n-room T8 3 Laws.mir
+
   abbrev s8 : Typed.Mo T11 → Typed.Mo T12
   s8 = Scalar.n-room T11 9 Syntax.tyBool
+
   abbrev s9 : Typed.Asks T9 T13
-  s9 = Scalar.k-op2 T9 (Syntax.mul Syntax.unsigned) (Scalar.oAt 7 (Syntax.tyInt Syntax.w64) (Row.valS (Row.sInt Syntax.w64))) (Scalar.oInt Syntax.w64
-      40) 10 (Rows.sc-here (Row.sInt Syntax.w64)) (Row.sInt Syntax.w64 .of)
+  s9 = Scalar.k-op2 T9 (Syntax.mul Syntax.unsigned) (Scalar.oAt 7 (Syntax.tyInt Syntax.w64)
+      (Row.valS (Row.sInt Syntax.w64))) (Scalar.oInt Syntax.w64 40) 10 (Rows.sc-here (Row.sInt Syntax.w64))
+      (Row.sInt Syntax.w64 .of)
+
   abbrev s10 : Typed.Asks T13 T14
-  s10 = Scalar.k-op2 T13 Syntax.offset (Scalar.oFld 1 ((Syntax.field 0) ∷ List.[]) ref0 0 Reads'.ptrVal) (Scalar.oAt 10 (Syntax.tyInt Syntax.w64)
-      (Row.valS (Row.sInt Syntax.w64))) 11 (Rows.sc-here Row.sPtr) (Row.sPtr .of)
+  s10 = Scalar.k-op2 T13 Syntax.offset (Scalar.oFld 1 ((Syntax.field 0) ∷ List.[]) ref0 0 Reads'.ptrVal) (Scalar.oAt 10
+      (Syntax.tyInt Syntax.w64) (Row.valS (Row.sInt Syntax.w64))) 11 (Rows.sc-here Row.sPtr) (Row.sPtr .of)
+
   abbrev s11 : Typed.Both T14 T15
-  s11 = Move.k-shs-copy-out ReservationUsage.row T14 1 11 12 0 ref0 Row.off ReservationUsage.held (Shared.bySize 40) (λ u. u .1 .1 .1 .1 .1 .1 .1 .0)
-      (λ x. x) ReservationUsage.none (λ x. Unit) (λ x. x) λ x. x
+  s11 = Move.k-shs-copy-out ReservationUsage.row T14 1 11 12 0 ref0 Row.off ReservationUsage.held (Shared.bySize 40)
+      (λ u. u .1 .1 .1 .1 .1 .1 .1 .0) (λ x. x) ReservationUsage.none (λ x. Unit) (λ x. x) λ x. x
+
   abbrev s12 : Typed.Mo T15 → Typed.Mo T16
   s12 = Scalar.n-room T15 10 (Syntax.tyInt Syntax.w64)
+
   abbrev s13 : Typed.Mo T16 → Typed.Mo T17
   s13 = Scalar.n-room T16 11 Syntax.tyPtr
+
   abbrev s14 : Typed.Mo T17 → Typed.Mo T18
-  s14 = LocalCopy.n-val-copy T17 12 8 ReservationUsage.row ReservationUsage.held ReservationUsage.held (λ x. x) (λ x. x) λ x. x
+  s14 = LocalCopy.n-val-copy T17 12 8 ReservationUsage.row ReservationUsage.held ReservationUsage.held (λ x. x)
+      (λ x. x) λ x. x
+
   abbrev s15 : Typed.Mo T18 → Typed.Mo T19
   s15 = Scalar.n-room T18 12 ReservationUsage.ty
+
+  abbrev args16 : Args'.ArgsT ps·2 (T19 .locals)
+  args16 = (
+    record { pos = 6; st = List.[]; d = 0; at = λ x. x },
+    (
+      record { pos = 8; st = List.[]; d = 0; at = λ x. x },
+      (record { pos = 3; st = List.[]; d = 0; at = λ x. x }, (Num.vAt 7 λ x. x, tt)),
+    ),
+  )
+
   abbrev s16 : Typed.Both T19 T20
-  s16 = Call.callB ps·2 r·2 (claims· .4) (claims· .5) T19 (record { pos = 6; st = List.[]; d = 0; at = λ x. x }, (record { pos = 8; st = List.[]; d =
-      0; at = λ x. x }, (record { pos = 3; st = List.[]; d = 0; at = λ x. x }, (Num.vAt 7 λ x. x, tt)),),) 6 List.[] Laws''.mir
+  s16 = Call.callB ps·2 r·2 (claims· .4) (claims· .5) T19 args16 6 List.[] Laws''.mir
+
   abbrev s17 : Typed.Mo T20 → Typed.Mo T21
   s17 = Scalar.n-room T20 8 ReservationUsage.ty
+
   abbrev s18 : Typed.Asks T21 T22
-  s18 = Scalar.k-op2 T21 (Syntax.add Syntax.unsigned) (Scalar.oAt 7 (Syntax.tyInt Syntax.w64) (Row.valS (Row.sInt Syntax.w64))) (Scalar.oInt
-      Syntax.w64 1) 7 (Rows.sc-here (Row.sInt Syntax.w64)) (Row.sInt Syntax.w64 .of)
+  s18 = Scalar.k-op2 T21 (Syntax.add Syntax.unsigned) (Scalar.oAt 7 (Syntax.tyInt Syntax.w64)
+      (Row.valS (Row.sInt Syntax.w64))) (Scalar.oInt Syntax.w64 1) 7 (Rows.sc-here (Row.sInt Syntax.w64))
+      (Row.sInt Syntax.w64 .of)
+
+  abbrev args19 : Args'.ArgsT ps·3 (T7 .locals)
+  args19 = (record { pos = 6; st = List.[]; d = 0; at = λ x. x }, (Num.vAt 7 λ x. x, (Num.vAt 4 λ x. x, tt)))
+
   abbrev s19 : Typed.Both T7 T23
-  s19 = Call.callB ps·3 r·3 (claims· .6) (claims· .7) T7 (record { pos = 6; st = List.[]; d = 0; at = λ x. x }, (Num.vAt 7 λ x. x, (Num.vAt 4 λ x. x,
-      tt)),) 0 List.[] Laws''.mir
+  s19 = Call.callB ps·3 r·3 (claims· .6) (claims· .7) T7 args19 0 List.[] Laws''.mir
+
   abbrev s20 : Typed.Mo T23 → Typed.Mo T24
   s20 = Scalar.n-room T23 4 (Syntax.tyInt Syntax.w64)
+
   abbrev s21 : Typed.Mo T24 → Typed.Mo T25
   s21 = Scalar.n-room T24 5 (Syntax.tyInt Syntax.w64)
+
   abbrev s22 : Typed.Mo T25 → Typed.Mo T26
   s22 = Scalar.n-room T25 6 Laws''.mir
+
   abbrev s23 : Typed.Mo T26 → Typed.Mo T27
   s23 = Scalar.n-room T26 7 (Syntax.tyInt Syntax.w64)
-  abbrev put0 : Rows.whole (Declared.row LedgerRoom.the-type) .Mod × Rows.sc-here (Row.sInt Syntax.w64) .Mod → Typed.Mo T6 → Typed.Mo T6
-  put0 = λ vs u. Row.set 7 (7, Rows.sc-here (Row.sInt Syntax.w64)) (vs .1) (T6 .locals) (Row.set 6 (6, Rows.whole (Declared.row LedgerRoom.the-type),)
-      (vs .0) (T6 .locals) u)
-  module _ (Pre· : (κs : Lifetimes.Lfts 1) → Kinds.Dens κs ps → Type 0) (Post· : (κs : Lifetimes.Lfts 1) → (a : Kinds.Dens κs ps) → Kinds.Plain 1 ps r
-      κs) where
+
+  abbrev put0 : Rows.whole (Declared.row LedgerRoom.the-type) .Mod × Rows.sc-here (Row.sInt Syntax.w64) .Mod → Typed.Mo
+      T6 → Typed.Mo T6
+  put0 = λ vs u. Row.set 7 (7, Rows.sc-here (Row.sInt Syntax.w64)) (vs .1) (T6 .locals) (Row.set 6
+      (6, Rows.whole (Declared.row LedgerRoom.the-type)) (vs .0) (T6 .locals) u)
+
+  module _ (Pre· : (κs : Lifetimes.Lfts 1) → Kinds.Dens κs ps → Type 0) (Post· : (κs : Lifetimes.Lfts 1) →
+      (a : Kinds.Dens κs ps) → Kinds.Plain 1 ps r κs) where
     module _ (M : Type 1) where
       abbrev pub Closed : Type 2
-      Closed = (𝓤 : URA.URA M) (H : Wp.Heap 𝓤) (A : Atoms.Atoms 𝓤) (W : Kit.Given 𝓤 H A) (𝓣 : Wp.Tables 𝓤 H) (known0 : Plain.Known 𝓤 H A W 𝓣 0 ps·0
-          r·0 (claims· .0) (claims· .1) "hns_encoding::numbers::min_usize") (known1 : Plain.Known 𝓤 H A W 𝓣 0 ps·1 r·1 (claims· .2) (claims· .3)
-          "hnsr_circuit::scan::no_room") (known2 : Plain.Known 𝓤 H A W 𝓣 0 ps·2 r·2 (claims· .4) (claims· .5) "hnsr_circuit::scan::room_on") (known3 :
-          Plain.Known 𝓤 H A W 𝓣 0 ps·3 r·3 (claims· .6) (claims· .7) "hnsr_circuit::places::room_spared") → Statement.Triple 𝓤 (Wp.WpFn 𝓤 H (𝓣 .C) (𝓣
-          .Λ) (Function.fnOf 1 ps r xs m hs body)) (Function.plainOf 𝓤 H A 1 ps r Pre· Post·)
+      Closed = (𝓤 : URA.URA M) (H : Wp.Heap 𝓤) (A : Atoms.Atoms 𝓤) (W : Kit.Given 𝓤 H A) (𝓣 : Wp.Tables 𝓤 H) (known0 :
+          Plain.Known 𝓤 H A W 𝓣 0 ps·0 r·0 (claims· .0) (claims· .1) "hns_encoding::numbers::min_usize") (known1 :
+          Plain.Known 𝓤 H A W 𝓣 0 ps·1 r·1 (claims· .2) (claims· .3) "hnsr_circuit::scan::no_room") (known2 :
+          Plain.Known 𝓤 H A W 𝓣 0 ps·2 r·2 (claims· .4) (claims· .5) "hnsr_circuit::scan::room_on") (known3 :
+          Plain.Known 𝓤 H A W 𝓣 0 ps·3 r·3 (claims· .6) (claims· .7) "hnsr_circuit::places::room_spared") →
+          Statement.Triple 𝓤 (Wp.WpFn 𝓤 H (𝓣 .C) (𝓣 .Λ) (Function.fnOf 1 ps r xs m hs body))
+          (Function.plainOf 𝓤 H A 1 ps r Pre· Post·)
+
     module _ (Inv·0 : InvT-loop) (μ·0 : MeasureT-loop) where
       abbrev at0 : Typed.TF T10 O4
       at0 = Typed.atNext O4
+
       abbrev at1 : Typed.TF T8 O4
       at1 = λ Ψ. Typed.pass T8 T10 s6 (at0 Ψ)
+
       abbrev at2 : Typed.TF T12 O4
       at2 = Typed.atExit 1 O4
+
       abbrev at3 : Typed.TF T11 O4
       at3 = λ Ψ. Typed.pass T11 T12 s8 (at2 Ψ)
+
       abbrev at4 : Typed.TF T8 O4
       at4 = λ Ψ. Typed.pass T8 T11 s7 (at3 Ψ)
+
       abbrev at5 : Typed.TF T8 O4
       at5 = Scalar.Φcond T8 O4 9 (λ x. x) at1 at4
+
       abbrev at6 : Typed.TF T21 O3
       at6 = λ Ψ. Typed.ask s18 (Typed.atNext O3 Ψ)
+
       abbrev at7 : Typed.TF T20 O3
       at7 = λ Ψ. Typed.pass T20 T21 s17 (at6 Ψ)
+
       abbrev at8 : Typed.TF T19 O3
       at8 = λ Ψ. Typed.both s16 (at7 Ψ)
+
       abbrev at9 : Typed.TF T18 O3
       at9 = λ Ψ. Typed.pass T18 T19 s15 (at8 Ψ)
+
       abbrev at10 : Typed.TF T17 O3
       at10 = λ Ψ. Typed.pass T17 T18 s14 (at9 Ψ)
+
       abbrev at11 : Typed.TF T16 O3
       at11 = λ Ψ. Typed.pass T16 T17 s13 (at10 Ψ)
+
       abbrev at12 : Typed.TF T15 O3
       at12 = λ Ψ. Typed.pass T15 T16 s12 (at11 Ψ)
+
       abbrev at13 : Typed.TF T14 O3
       at13 = λ Ψ. Typed.both s11 (at12 Ψ)
+
       abbrev at14 : Typed.TF T13 O3
       at14 = λ Ψ. Typed.ask s10 (at13 Ψ)
+
       abbrev at15 : Typed.TF T9 O3
       at15 = λ Ψ. Typed.ask s9 (at14 Ψ)
+
       abbrev at16 : Typed.TF T8 O3
       at16 = λ Ψ. at5 (Typed.wantNext T9 O3 (at15 Ψ) Ψ)
+
       abbrev at17 : Typed.TF T6 O3
       at17 = λ Ψ. Typed.ask s5 (at16 Ψ)
+
       abbrev at18 : Typed.TF T6 O2
-      at18 = Typed.LoopBy T6 O2 put0 (λ u vs. Inv·0 (Row.get 1 (T6 .locals) u .now) (Row.get 3 (T6 .locals) u) (Row.get 4 (T6 .locals) u) (Row.get 5
-          (T6 .locals) u) (Row.get 6 (T6 .locals) u) (Row.get 7 (T6 .locals) u) (vs .0) (vs .1)) (λ u vs. μ·0 (Row.get 1 (T6 .locals) u .now) (Row.get
-          3 (T6 .locals) u) (Row.get 4 (T6 .locals) u) (Row.get 5 (T6 .locals) u) (Row.get 6 (T6 .locals) u) (Row.get 7 (T6 .locals) u) (vs .0) (vs
-          .1)) at17
+      at18 = Typed.LoopBy T6 O2 put0 (λ u vs. Inv·0 (Row.get 1 (T6 .locals) u .now) (Row.get 3 (T6 .locals) u)
+          (Row.get 4 (T6 .locals) u) (Row.get 5 (T6 .locals) u) (Row.get 6 (T6 .locals) u) (Row.get 7 (T6 .locals) u)
+          (vs .0) (vs .1)) (λ u vs. μ·0 (Row.get 1 (T6 .locals) u .now) (Row.get 3 (T6 .locals) u)
+          (Row.get 4 (T6 .locals) u) (Row.get 5 (T6 .locals) u) (Row.get 6 (T6 .locals) u) (Row.get 7 (T6 .locals) u)
+          (vs .0) (vs .1)) at17
+
       abbrev at19 : Typed.TF T6 O1
       at19 = λ Ψ. at18 (Typed.inBlock O1 Ψ)
+
       abbrev at20 : Typed.TF T27 O0
       at20 = Typed.atRet O0
+
       abbrev at21 : Typed.TF T26 O0
       at21 = λ Ψ. Typed.pass T26 T27 s23 (at20 Ψ)
+
       abbrev at22 : Typed.TF T25 O0
       at22 = λ Ψ. Typed.pass T25 T26 s22 (at21 Ψ)
+
       abbrev at23 : Typed.TF T24 O0
       at23 = λ Ψ. Typed.pass T24 T25 s21 (at22 Ψ)
+
       abbrev at24 : Typed.TF T23 O0
       at24 = λ Ψ. Typed.pass T23 T24 s20 (at23 Ψ)
+
       abbrev at25 : Typed.TF T7 O0
       at25 = λ Ψ. Typed.both s19 (at24 Ψ)
+
       abbrev at26 : Typed.TF T6 O0
       at26 = λ Ψ. at19 (Typed.wantNext T7 O0 (at25 Ψ) Ψ)
+
       abbrev at27 : Typed.TF T5 O0
       at27 = λ Ψ. Typed.pass T5 T6 s4 (at26 Ψ)
+
       abbrev at28 : Typed.TF T4 O0
       at28 = λ Ψ. Typed.both s3 (at27 Ψ)
+
       abbrev at29 : Typed.TF T3 O0
       at29 = λ Ψ. Typed.pass T3 T4 s2 (at28 Ψ)
+
       abbrev at30 : Typed.TF T2 O0
       at30 = λ Ψ. Typed.both s1 (at29 Ψ)
+
       abbrev at31 : Typed.TF T0 O0
       at31 = λ Ψ. Typed.pass T0 T2 s0 (at30 Ψ)
+
       abbrev pub Φ : Typed.TF T0 O0
       Φ = at31
-      module _ { M : Type 1 } (𝓤 : URA.URA M) (H : Wp.Heap 𝓤) (A : Atoms.Atoms 𝓤) (W : Kit.Given 𝓤 H A) (𝓣 : Wp.Tables 𝓤 H) where
+
+      module _ {M : Type 1} (𝓤 : URA.URA M) (H : Wp.Heap 𝓤) (A : Atoms.Atoms 𝓤) (W : Kit.Given 𝓤 H A)
+          (𝓣 : Wp.Tables 𝓤 H) where
         abbrev Knowns : Type 1
-        Knowns = Plain.Known 𝓤 H A W 𝓣 0 ps·0 r·0 (claims· .0) (claims· .1) "hns_encoding::numbers::min_usize" × Plain.Known 𝓤 H A W 𝓣 0 ps·1 r·1
-            (claims· .2) (claims· .3) "hnsr_circuit::scan::no_room" × Plain.Known 𝓤 H A W 𝓣 0 ps·2 r·2 (claims· .4) (claims· .5)
-            "hnsr_circuit::scan::room_on" × Plain.Known 𝓤 H A W 𝓣 0 ps·3 r·3 (claims· .6) (claims· .7) "hnsr_circuit::places::room_spared"
+        Knowns = Plain.Known 𝓤 H A W 𝓣 0 ps·0 r·0 (claims· .0) (claims· .1) "hns_encoding::numbers::min_usize" ×
+            Plain.Known 𝓤 H A W 𝓣 0 ps·1 r·1 (claims· .2) (claims· .3) "hnsr_circuit::scan::no_room" × Plain.Known 𝓤 H
+            A W 𝓣 0 ps·2 r·2 (claims· .4) (claims· .5) "hnsr_circuit::scan::room_on" × Plain.Known 𝓤 H A W 𝓣 0 ps·3 r·3
+            (claims· .6) (claims· .7) "hnsr_circuit::places::room_spared"
+
       module _ (κs : Lifetimes.Lfts 1) (qs : Lifetimes.Shares 1) where
         abbrev life0 : Row.Life
         life0 = Row.lease (κs .0) (qs .0)
+
         abbrev G0 : Row.Cx
         G0 = record { locals = t0; slots = life0 ∷ List.[] }
+
         abbrev G1 : Row.Cx
         G1 = record { locals = t1; slots = life0 ∷ List.[] }
+
         abbrev G2 : Row.Cx
         G2 = record { locals = t2; slots = life0 ∷ List.[] }
+
         abbrev G3 : Row.Cx
         G3 = record { locals = t3; slots = life0 ∷ List.[] }
+
         abbrev G4 : Row.Cx
         G4 = record { locals = t4; slots = life0 ∷ List.[] }
+
         abbrev G5 : Row.Cx
         G5 = record { locals = t5; slots = life0 ∷ List.[] }
+
         abbrev G6 : Row.Cx
         G6 = record { locals = t6; slots = life0 ∷ List.[] }
+
         abbrev G7 : Row.Cx
         G7 = record { locals = t7; slots = life0 ∷ List.[] }
+
         abbrev G8 : Row.Cx
         G8 = record { locals = t8; slots = life0 ∷ List.[] }
+
         abbrev G9 : Row.Cx
         G9 = record { locals = t6; slots = life0 ∷ List.[] }
+
         abbrev G10 : Row.Cx
         G10 = record { locals = t6; slots = life0 ∷ List.[] }
+
         abbrev G11 : Row.Cx
         G11 = record { locals = t9; slots = life0 ∷ List.[] }
+
         abbrev G12 : Row.Cx
         G12 = record { locals = t7; slots = life0 ∷ List.[] }
+
         abbrev G13 : Row.Cx
         G13 = record { locals = t10; slots = life0 ∷ List.[] }
+
         abbrev G14 : Row.Cx
         G14 = record { locals = t11; slots = life0 ∷ List.[] }
+
         abbrev G15 : Row.Cx
         G15 = record { locals = t12; slots = life0 ∷ List.[] }
+
         abbrev G16 : Row.Cx
         G16 = record { locals = t13; slots = life0 ∷ List.[] }
+
         abbrev G17 : Row.Cx
         G17 = record { locals = t14; slots = life0 ∷ List.[] }
+
         abbrev G18 : Row.Cx
         G18 = record { locals = t15; slots = life0 ∷ List.[] }
+
         abbrev G19 : Row.Cx
         G19 = record { locals = t16; slots = life0 ∷ List.[] }
+
         abbrev G20 : Row.Cx
         G20 = record { locals = t16; slots = life0 ∷ List.[] }
+
         abbrev G21 : Row.Cx
         G21 = record { locals = t6; slots = life0 ∷ List.[] }
+
         abbrev G22 : Row.Cx
         G22 = record { locals = t6; slots = life0 ∷ List.[] }
+
         abbrev G23 : Row.Cx
         G23 = record { locals = t17; slots = life0 ∷ List.[] }
+
         abbrev G24 : Row.Cx
         G24 = record { locals = t18; slots = life0 ∷ List.[] }
+
         abbrev G25 : Row.Cx
         G25 = record { locals = t19; slots = life0 ∷ List.[] }
+
         abbrev G26 : Row.Cx
         G26 = record { locals = t20; slots = life0 ∷ List.[] }
+
         abbrev G27 : Row.Cx
         G27 = record { locals = t1; slots = life0 ∷ List.[] }
+
         abbrev Δ0 : Typed.Outs
         Δ0 = record { next = Option.none; exits = List.[]; returns = Option.some G1 }
+
         abbrev Δ1 : Typed.Outs
         Δ1 = Typed.withNext (Option.some G7) Δ0
+
         abbrev Δ2 : Typed.Outs
         Δ2 = Typed.inBlock₀ Δ1
+
         abbrev Δ3 : Typed.Outs
         Δ3 = Typed.inLoop₀ G6 Δ2
+
         abbrev Δ4 : Typed.Outs
         Δ4 = Typed.withNext (Option.some G9) Δ3
-        module _ { M : Type 1 } (𝓤 : URA.URA M) (H : Wp.Heap 𝓤) (A : Atoms.Atoms 𝓤) (W : Kit.Given 𝓤 H A) (𝓣 : Wp.Tables 𝓤 H) (known : Knowns 𝓤 H A W
-            𝓣) (bs : List.List Nat.ℕ) (bd : Lifetimes.AllOutlive 1 (Kinds.osR r) κs) where
+
+        module _ {M : Type 1} (𝓤 : URA.URA M) (H : Wp.Heap 𝓤) (A : Atoms.Atoms 𝓤) (W : Kit.Given 𝓤 H A)
+            (𝓣 : Wp.Tables 𝓤 H) (known : Knowns 𝓤 H A W 𝓣) (bs : List.List Nat.ℕ)
+            (bd : Lifetimes.AllOutlive 1 (Kinds.osR r) κs) where
           abbrev E : Wp.Env 𝓤 H
           E = Frame.EnvOf 𝓤 H ((Kinds.tyR r) ∷ (Enter.tysP ps xs)) bs
+
           d0 : Typed.Typed 𝓤 H A 𝓣 E G10 b5 Δ4 at0
           d0 = Typed.t-skip 𝓤 H A W 𝓣 E Δ4 tt
+
           d1 : Typed.Typed 𝓤 H A 𝓣 E G8 b5 Δ4 at1
-          d1 = Typed.g-pre 𝓤 H A W 𝓣 E G8 G10 b5 Δ4 (Typed.pass T8 T10 s6) at0 (Scalar.g-room 𝓤 H A W E G8 9 Syntax.tyBool (Scalar.room-sc 𝓤 H A W
-              Row.sBool)) d0
+          d1 = Typed.g-pre 𝓤 H A W 𝓣 E G8 G10 b5 Δ4 (Typed.pass T8 T10 s6) at0 (Scalar.g-room 𝓤 H A W E G8 9
+              Syntax.tyBool (Scalar.room-sc 𝓤 H A W Row.sBool)) d0
+
           d2 : Typed.Typed 𝓤 H A 𝓣 E G12 b6 Δ4 at2
           d2 = Typed.t-exit 𝓤 H A W 𝓣 E 1 Δ4 tt
+
           d3 : Typed.Typed 𝓤 H A 𝓣 E G11 b6 Δ4 at3
-          d3 = Typed.g-pre 𝓤 H A W 𝓣 E G11 G12 b6 Δ4 (Typed.pass T11 T12 s8) at2 (Scalar.g-room 𝓤 H A W E G11 9 Syntax.tyBool (Scalar.room-sc 𝓤 H A W
-              Row.sBool)) d2
+          d3 = Typed.g-pre 𝓤 H A W 𝓣 E G11 G12 b6 Δ4 (Typed.pass T11 T12 s8) at2 (Scalar.g-room 𝓤 H A W E G11 9
+              Syntax.tyBool (Scalar.room-sc 𝓤 H A W Row.sBool)) d2
+
           d4 : Typed.Typed 𝓤 H A 𝓣 E G8 b6 Δ4 at4
-          d4 = Typed.g-pre 𝓤 H A W 𝓣 E G8 G11 b6 Δ4 (Typed.pass T8 T11 s7) at3 (Scalar.g-room 𝓤 H A W E G8 3 Laws.mir (Local.room-whole 𝓤 H A W
-              (Declared.row ReservationId.the-type) Laws.mir Path.refl)) d3
+          d4 = Typed.g-pre 𝓤 H A W 𝓣 E G8 G11 b6 Δ4 (Typed.pass T8 T11 s7) at3 (Scalar.g-room 𝓤 H A W E G8 3 Laws.mir (Local.room-whole
+              𝓤 H A W (Declared.row ReservationId.the-type) Laws.mir Path.refl)) d3
+
           d5 : Typed.Typed 𝓤 H A 𝓣 E G8 b7 Δ4 at5
-          d5 = Scalar.t-cond 𝓤 H A W E 𝓣 G8 9 (λ x. x) b5 b6 Δ4 at1 at4 (Scalar.reads-sc 𝓤 H A W Row.sBool) Path.refl d1 d4
+          d5 = Scalar.t-cond 𝓤 H A W E 𝓣 G8 9 (λ x. x) b5 b6 Δ4 at1 at4 (Scalar.reads-sc 𝓤 H A W Row.sBool) Path.refl
+              d1 d4
+
           d6 : Typed.Typed 𝓤 H A 𝓣 E G21 b13 Δ3 at6
-          d6 = Typed.s-typed 𝓤 H A W 𝓣 E G21 b13 Δ3 (Typed.ask s18) tt (Scalar.t-op2 𝓤 H A W E 𝓣 G21 (Syntax.add Syntax.unsigned) (Scalar.oAt 7
-              (Syntax.tyInt Syntax.w64) (Row.valS (Row.sInt Syntax.w64))) (Scalar.oInt Syntax.w64 1) 7 (Rows.sc-here (Row.sInt Syntax.w64))
-              (Syntax.tyInt Syntax.w64) (Row.valS (Row.sInt Syntax.w64)) (Row.sInt Syntax.w64 .of) (Scalar.reads-sc 𝓤 H A W (Row.sInt Syntax.w64),
-              Path.refl) tt (Scalar.room-sc 𝓤 H A W (Row.sInt Syntax.w64)) (Scalar.holds-sc 𝓤 H A W (Row.sInt Syntax.w64)) Path.refl (λ u. Path.refl)
-              λ u. tt)
+          d6 = Typed.s-typed 𝓤 H A W 𝓣 E G21 b13 Δ3 (Typed.ask s18) tt (Scalar.t-op2 𝓤 H A W E 𝓣 G21
+              (Syntax.add Syntax.unsigned) (Scalar.oAt 7 (Syntax.tyInt Syntax.w64) (Row.valS (Row.sInt Syntax.w64)))
+              (Scalar.oInt Syntax.w64 1) 7 (Rows.sc-here (Row.sInt Syntax.w64)) (Syntax.tyInt Syntax.w64)
+              (Row.valS (Row.sInt Syntax.w64)) (Row.sInt Syntax.w64 .of)
+              (Scalar.reads-sc 𝓤 H A W (Row.sInt Syntax.w64), Path.refl) tt
+              (Scalar.room-sc 𝓤 H A W (Row.sInt Syntax.w64)) (Scalar.holds-sc 𝓤 H A W (Row.sInt Syntax.w64)) Path.refl
+              (λ u. Path.refl) λ u. tt)
+
           d7 : Typed.Typed 𝓤 H A 𝓣 E G20 b13 Δ3 at7
-          d7 = Typed.g-pre 𝓤 H A W 𝓣 E G20 G21 b13 Δ3 (Typed.pass T20 T21 s17) at6 (Scalar.g-room 𝓤 H A W E G20 8 ReservationUsage.ty
-              (Local.room-whole 𝓤 H A W ReservationUsage.row ReservationUsage.ty Path.refl)) d6
+          d7 = Typed.g-pre 𝓤 H A W 𝓣 E G20 G21 b13 Δ3 (Typed.pass T20 T21 s17) at6 (Scalar.g-room 𝓤 H A W E G20 8
+              ReservationUsage.ty (Local.room-whole 𝓤 H A W ReservationUsage.row ReservationUsage.ty Path.refl)) d6
+
           d8 : Typed.Typed 𝓤 H A 𝓣 E G19 b14 Δ3 at8
-          d8 = Typed.s-seq 𝓤 H A W 𝓣 E G19 G20 b12 b13 Δ3 (Typed.both s16) at7 (Plain.t-call-plain 𝓤 H A W 𝓣 0 ps·2 r·2 (claims· .4) (claims· .5)
-              "hnsr_circuit::scan::room_on" (known .2) E (λ pos β. β) G19 (record { pos = 6; st = List.[]; d = 0; at = λ x. x }, (record { pos = 8; st
-              = List.[]; d = 0; at = λ x. x }, (record { pos = 3; st = List.[]; d = 0; at = λ x. x }, (Num.vAt 7 λ x. x, tt)),),) 6 List.[]
-              (Call.sub-id 𝓤 H A W (G19 .slots)) ((Yields.yields-copy 𝓤 H A W (λ ρ. Unit) (Declared.row LedgerRoom.the-type) Path.refl (Copies.cStruct
-              LedgerRoom.the-type Laws''.the-laws Laws''.the-copy .copy 𝓤 H A W) (Rows.whole (Declared.row LedgerRoom.the-type)) (λ x. x) (λ x. x) (λ
-              ρ told. Local.mem-whole 𝓤 H A W (Declared.row LedgerRoom.the-type) ρ) λ ρ told. Local.whole-mem 𝓤 H A W (Declared.row
-              LedgerRoom.the-type) ρ, Path.refl,), ((Yields.yields-copy 𝓤 H A W (λ ρ. Unit) ReservationUsage.row Path.refl (ReservationUsage.copies
-              .copy 𝓤 H A W) ReservationUsage.held (λ x. x) (λ x. x) (λ ρ told. Local.mem-whole 𝓤 H A W ReservationUsage.row ρ) λ ρ told.
-              Local.whole-mem 𝓤 H A W ReservationUsage.row ρ, Path.refl,), ((Yields.yields-copy 𝓤 H A W (λ ρ. Unit) (Declared.row
-              ReservationId.the-type) Path.refl (Copies.cStruct ReservationId.the-type Laws.the-laws Laws.the-copy .copy 𝓤 H A W) (Rows.whole
-              (Declared.row ReservationId.the-type)) (λ x. x) (λ x. x) (λ ρ told. Local.mem-whole 𝓤 H A W (Declared.row ReservationId.the-type) ρ) λ ρ
-              told. Local.whole-mem 𝓤 H A W (Declared.row ReservationId.the-type) ρ, Path.refl,), ((Scalar.reads-sc 𝓤 H A W (Row.sInt Syntax.w64),
-              Path.refl), tt),),),) (Local.room-whole 𝓤 H A W (Declared.row LedgerRoom.the-type) Laws''.mir Path.refl) tt Path.refl) d7
+          d8 = Typed.s-seq 𝓤 H A W 𝓣 E G19 G20 b12 b13 Δ3 (Typed.both s16) at7 (Plain.t-call-plain 𝓤 H A W 𝓣 0 ps·2 r·2
+              (claims· .4) (claims· .5) "hnsr_circuit::scan::room_on" (known .2) E (λ pos β. β) G19 (
+                record { pos = 6; st = List.[]; d = 0; at = λ x. x },
+                (
+                  record { pos = 8; st = List.[]; d = 0; at = λ x. x },
+                  (record { pos = 3; st = List.[]; d = 0; at = λ x. x }, (Num.vAt 7 λ x. x, tt)),
+                ),
+              ) 6 List.[] (Call.sub-id 𝓤 H A W (G19 .slots)) (
+                (
+                  Yields.yields-copy 𝓤 H A W (λ ρ. Unit) (Declared.row LedgerRoom.the-type) Path.refl (Copies.cStruct
+                      LedgerRoom.the-type Laws''.the-laws Laws''.the-copy .copy 𝓤 H A W)
+                      (Rows.whole (Declared.row LedgerRoom.the-type)) (λ x. x) (λ x. x) (λ ρ told. Local.mem-whole 𝓤 H
+                      A W (Declared.row LedgerRoom.the-type) ρ) λ ρ told. Local.whole-mem 𝓤 H A W
+                      (Declared.row LedgerRoom.the-type) ρ,
+                  Path.refl,
+                ),
+                (
+                  (
+                    Yields.yields-copy 𝓤 H A W (λ ρ. Unit) ReservationUsage.row Path.refl
+                        (ReservationUsage.copies .copy 𝓤 H A W) ReservationUsage.held (λ x. x) (λ x. x)
+                        (λ ρ told. Local.mem-whole 𝓤 H A W ReservationUsage.row ρ) λ ρ told. Local.whole-mem 𝓤 H A W
+                        ReservationUsage.row ρ,
+                    Path.refl,
+                  ),
+                  (
+                    (
+                      Yields.yields-copy 𝓤 H A W (λ ρ. Unit) (Declared.row ReservationId.the-type) Path.refl (Copies.cStruct
+                          ReservationId.the-type Laws.the-laws Laws.the-copy .copy 𝓤 H A W)
+                          (Rows.whole (Declared.row ReservationId.the-type)) (λ x. x) (λ x. x) (λ ρ told.
+                          Local.mem-whole 𝓤 H A W (Declared.row ReservationId.the-type) ρ) λ ρ told. Local.whole-mem 𝓤
+                          H A W (Declared.row ReservationId.the-type) ρ,
+                      Path.refl,
+                    ),
+                    ((Scalar.reads-sc 𝓤 H A W (Row.sInt Syntax.w64), Path.refl), tt),
+                  ),
+                ),
+              ) (Local.room-whole 𝓤 H A W (Declared.row LedgerRoom.the-type) Laws''.mir Path.refl) tt Path.refl) d7
+
           d9 : Typed.Typed 𝓤 H A 𝓣 E G18 b14 Δ3 at9
-          d9 = Typed.g-pre 𝓤 H A W 𝓣 E G18 G19 b14 Δ3 (Typed.pass T18 T19 s15) at8 (Scalar.g-room 𝓤 H A W E G18 12 ReservationUsage.ty
-              (Local.room-whole 𝓤 H A W ReservationUsage.row ReservationUsage.ty Path.refl)) d8
+          d9 = Typed.g-pre 𝓤 H A W 𝓣 E G18 G19 b14 Δ3 (Typed.pass T18 T19 s15) at8 (Scalar.g-room 𝓤 H A W E G18 12
+              ReservationUsage.ty (Local.room-whole 𝓤 H A W ReservationUsage.row ReservationUsage.ty Path.refl)) d8
+
           d10 : Typed.Typed 𝓤 H A 𝓣 E G17 b15 Δ3 at10
-          d10 = Typed.s-seq 𝓤 H A W 𝓣 E G17 G18 b11 b14 Δ3 (Typed.pass T17 T18 s14) at9 (LocalCopy.t-val-copy 𝓤 H A W E 𝓣 (λ ρ. Unit) G17 12 8
-              ReservationUsage.row ReservationUsage.ty ReservationUsage.ty ReservationUsage.held ReservationUsage.held (λ x. x) (λ x. x) (λ x. x)
-              Path.refl (Own.told-none 𝓤 H A (G17 .slots)) (Yields.yields-copy 𝓤 H A W (λ ρ. Unit) ReservationUsage.row Path.refl
-              (ReservationUsage.copies .copy 𝓤 H A W) ReservationUsage.held (λ x. x) (λ x. x) (λ ρ told. Local.mem-whole 𝓤 H A W ReservationUsage.row
-              ρ) λ ρ told. Local.whole-mem 𝓤 H A W ReservationUsage.row ρ) (Reads'.room-gone 𝓤 H A ReservationUsage.ty) (Yields.makes-mem 𝓤 H A W (λ
-              ρ. Unit) ReservationUsage.row Path.refl ReservationUsage.held (λ x. x) λ ρ told. Local.whole-mem 𝓤 H A W ReservationUsage.row ρ)
-              Path.refl Path.refl) d9
+          d10 = Typed.s-seq 𝓤 H A W 𝓣 E G17 G18 b11 b14 Δ3 (Typed.pass T17 T18 s14) at9 (LocalCopy.t-val-copy 𝓤 H A W E
+              𝓣 (λ ρ. Unit) G17 12 8 ReservationUsage.row ReservationUsage.ty ReservationUsage.ty ReservationUsage.held
+              ReservationUsage.held (λ x. x) (λ x. x) (λ x. x) Path.refl (Own.told-none 𝓤 H A (G17 .slots)) (Yields.yields-copy
+              𝓤 H A W (λ ρ. Unit) ReservationUsage.row Path.refl (ReservationUsage.copies .copy 𝓤 H A W)
+              ReservationUsage.held (λ x. x) (λ x. x) (λ ρ told. Local.mem-whole 𝓤 H A W ReservationUsage.row ρ) λ ρ
+              told. Local.whole-mem 𝓤 H A W ReservationUsage.row ρ) (Reads'.room-gone 𝓤 H A ReservationUsage.ty) (Yields.makes-mem
+              𝓤 H A W (λ ρ. Unit) ReservationUsage.row Path.refl ReservationUsage.held (λ x. x) λ ρ told.
+              Local.whole-mem 𝓤 H A W ReservationUsage.row ρ) Path.refl Path.refl) d9
+
           d11 : Typed.Typed 𝓤 H A 𝓣 E G16 b15 Δ3 at11
-          d11 = Typed.g-pre 𝓤 H A W 𝓣 E G16 G17 b15 Δ3 (Typed.pass T16 T17 s13) at10 (Scalar.g-room 𝓤 H A W E G16 11 Syntax.tyPtr (Scalar.room-sc 𝓤 H
-              A W Row.sPtr)) d10
+          d11 = Typed.g-pre 𝓤 H A W 𝓣 E G16 G17 b15 Δ3 (Typed.pass T16 T17 s13) at10 (Scalar.g-room 𝓤 H A W E G16 11
+              Syntax.tyPtr (Scalar.room-sc 𝓤 H A W Row.sPtr)) d10
+
           d12 : Typed.Typed 𝓤 H A 𝓣 E G15 b15 Δ3 at12
-          d12 = Typed.g-pre 𝓤 H A W 𝓣 E G15 G16 b15 Δ3 (Typed.pass T15 T16 s12) at11 (Scalar.g-room 𝓤 H A W E G15 10 (Syntax.tyInt Syntax.w64)
-              (Scalar.room-sc 𝓤 H A W (Row.sInt Syntax.w64))) d11
+          d12 = Typed.g-pre 𝓤 H A W 𝓣 E G15 G16 b15 Δ3 (Typed.pass T15 T16 s12) at11 (Scalar.g-room 𝓤 H A W E G15 10
+              (Syntax.tyInt Syntax.w64) (Scalar.room-sc 𝓤 H A W (Row.sInt Syntax.w64))) d11
+
           d13 : Typed.Typed 𝓤 H A 𝓣 E G14 b16 Δ3 at13
-          d13 = Typed.s-seq 𝓤 H A W 𝓣 E G14 G15 b10 b15 Δ3 (Typed.both s11) at12 (Move.t-shs-copy-out 𝓤 H A W E ReservationUsage.row 𝓣 Path.refl
-              (ReservationUsage.copies .copy 𝓤 H A W) (Copies.halved 𝓤 H A W ReservationUsage.copies) (λ ρ. Unit) G14 1 11 12 0 ref0 life0
-              ReservationUsage.ty ReservationUsage.ty ReservationUsage.held (Shared.bySize 40) (λ u. u .1 .1 .1 .1 .1 .1 .1 .0) (λ x. x)
-              ReservationUsage.none (λ x. Unit) (λ x. x) (λ x. x) (λ i o. Elements.at-mul o 40 i) Path.refl Path.refl (Own.told-none 𝓤 H A (G14
-              .slots)) (DerefMove.learns-nothing 𝓤 H A ReservationUsage.row) (Reads'.as-is 𝓤 H A (Rows.sslice ReservationUsage.row ref0 0))
-              (Reads'.as-is 𝓤 H A (Rows.sc-here Row.sPtr)) (Reads'.room-gone 𝓤 H A ReservationUsage.ty) (Yields.makes-mem 𝓤 H A W (λ ρ. Unit)
-              ReservationUsage.row Path.refl ReservationUsage.held (λ x. x) λ ρ told. Local.whole-mem 𝓤 H A W ReservationUsage.row ρ) Path.refl tt
-              Path.refl Path.refl) d12
+          d13 = Typed.s-seq 𝓤 H A W 𝓣 E G14 G15 b10 b15 Δ3 (Typed.both s11) at12 (Move.t-shs-copy-out 𝓤 H A W E
+              ReservationUsage.row 𝓣 Path.refl (ReservationUsage.copies .copy 𝓤 H A W)
+              (Copies.halved 𝓤 H A W ReservationUsage.copies) (λ ρ. Unit) G14 1 11 12 0 ref0 life0 ReservationUsage.ty
+              ReservationUsage.ty ReservationUsage.held (Shared.bySize 40) (λ u. u .1 .1 .1 .1 .1 .1 .1 .0) (λ x. x)
+              ReservationUsage.none (λ x. Unit) (λ x. x) (λ x. x) (λ i o. Elements.at-mul o 40 i) Path.refl Path.refl
+              (Own.told-none 𝓤 H A (G14 .slots)) (DerefMove.learns-nothing 𝓤 H A ReservationUsage.row) (Reads'.as-is 𝓤
+              H A (Rows.sslice ReservationUsage.row ref0 0)) (Reads'.as-is 𝓤 H A (Rows.sc-here Row.sPtr))
+              (Reads'.room-gone 𝓤 H A ReservationUsage.ty) (Yields.makes-mem 𝓤 H A W (λ ρ. Unit) ReservationUsage.row
+              Path.refl ReservationUsage.held (λ x. x) λ ρ told. Local.whole-mem 𝓤 H A W ReservationUsage.row ρ)
+              Path.refl tt Path.refl Path.refl) d12
+
           d14 : Typed.Typed 𝓤 H A 𝓣 E G13 b17 Δ3 at14
-          d14 = Typed.s-seq 𝓤 H A W 𝓣 E G13 G14 b9 b16 Δ3 (Typed.ask s10) at13 (Scalar.t-op2 𝓤 H A W E 𝓣 G13 Syntax.offset (Scalar.oFld 1
-              ((Syntax.field 0) ∷ List.[]) ref0 0 Reads'.ptrVal) (Scalar.oAt 10 (Syntax.tyInt Syntax.w64) (Row.valS (Row.sInt Syntax.w64))) 11
-              (Rows.sc-here Row.sPtr) Syntax.tyPtr (Row.valS Row.sPtr) (Row.sPtr .of) (Shared.reads-sslice-ptr 𝓤 H A W ReservationUsage.row ref0 0 0
-              Path.refl, Path.refl,) (Scalar.reads-sc 𝓤 H A W (Row.sInt Syntax.w64), Path.refl) (Reads'.room-gone 𝓤 H A Syntax.tyPtr) (Scalar.holds-sc
-              𝓤 H A W Row.sPtr) Path.refl (λ u. Path.refl) λ u. tt) d13
+          d14 = Typed.s-seq 𝓤 H A W 𝓣 E G13 G14 b9 b16 Δ3 (Typed.ask s10) at13 (Scalar.t-op2 𝓤 H A W E 𝓣 G13
+              Syntax.offset (Scalar.oFld 1 ((Syntax.field 0) ∷ List.[]) ref0 0 Reads'.ptrVal) (Scalar.oAt 10
+              (Syntax.tyInt Syntax.w64) (Row.valS (Row.sInt Syntax.w64))) 11 (Rows.sc-here Row.sPtr) Syntax.tyPtr
+              (Row.valS Row.sPtr) (Row.sPtr .of) (
+                Shared.reads-sslice-ptr 𝓤 H A W ReservationUsage.row ref0 0 0 Path.refl,
+                Path.refl,
+              ) (Scalar.reads-sc 𝓤 H A W (Row.sInt Syntax.w64), Path.refl) (Reads'.room-gone 𝓤 H A Syntax.tyPtr)
+              (Scalar.holds-sc 𝓤 H A W Row.sPtr) Path.refl (λ u. Path.refl) λ u. tt) d13
+
           d15 : Typed.Typed 𝓤 H A 𝓣 E G9 b18 Δ3 at15
-          d15 = Typed.s-seq 𝓤 H A W 𝓣 E G9 G13 b8 b17 Δ3 (Typed.ask s9) at14 (Scalar.t-op2 𝓤 H A W E 𝓣 G9 (Syntax.mul Syntax.unsigned) (Scalar.oAt 7
-              (Syntax.tyInt Syntax.w64) (Row.valS (Row.sInt Syntax.w64))) (Scalar.oInt Syntax.w64 40) 10 (Rows.sc-here (Row.sInt Syntax.w64))
-              (Syntax.tyInt Syntax.w64) (Row.valS (Row.sInt Syntax.w64)) (Row.sInt Syntax.w64 .of) (Scalar.reads-sc 𝓤 H A W (Row.sInt Syntax.w64),
-              Path.refl) tt (Reads'.room-gone 𝓤 H A (Syntax.tyInt Syntax.w64)) (Scalar.holds-sc 𝓤 H A W (Row.sInt Syntax.w64)) Path.refl (λ u.
-              Path.refl) λ u. tt) d14
+          d15 = Typed.s-seq 𝓤 H A W 𝓣 E G9 G13 b8 b17 Δ3 (Typed.ask s9) at14 (Scalar.t-op2 𝓤 H A W E 𝓣 G9
+              (Syntax.mul Syntax.unsigned) (Scalar.oAt 7 (Syntax.tyInt Syntax.w64) (Row.valS (Row.sInt Syntax.w64)))
+              (Scalar.oInt Syntax.w64 40) 10 (Rows.sc-here (Row.sInt Syntax.w64)) (Syntax.tyInt Syntax.w64)
+              (Row.valS (Row.sInt Syntax.w64)) (Row.sInt Syntax.w64 .of)
+              (Scalar.reads-sc 𝓤 H A W (Row.sInt Syntax.w64), Path.refl) tt
+              (Reads'.room-gone 𝓤 H A (Syntax.tyInt Syntax.w64)) (Scalar.holds-sc 𝓤 H A W (Row.sInt Syntax.w64))
+              Path.refl (λ u. Path.refl) λ u. tt) d14
+
           d16 : Typed.Typed 𝓤 H A 𝓣 E G8 b19 Δ3 at16
           d16 = Typed.t-seq 𝓤 H A W 𝓣 E G8 G9 b7 b18 Δ3 at5 at15 d5 d15
+
           d17 : Typed.Typed 𝓤 H A 𝓣 E G6 b20 Δ3 at17
-          d17 = Typed.s-seq 𝓤 H A W 𝓣 E G6 G8 b4 b19 Δ3 (Typed.ask s5) at16 (Scalar.t-op2 𝓤 H A W E 𝓣 G6 (Syntax.lt Syntax.unsigned) (Scalar.oAt 7
-              (Syntax.tyInt Syntax.w64) (Row.valS (Row.sInt Syntax.w64))) (Scalar.oAt 5 (Syntax.tyInt Syntax.w64) (Row.valS (Row.sInt Syntax.w64))) 9
-              (Rows.sc-here Row.sBool) Syntax.tyBool (Row.valS Row.sBool) (Row.sBool .of) (Scalar.reads-sc 𝓤 H A W (Row.sInt Syntax.w64), Path.refl)
-              (Scalar.reads-sc 𝓤 H A W (Row.sInt Syntax.w64), Path.refl) (Reads'.room-gone 𝓤 H A Syntax.tyBool) (Scalar.holds-sc 𝓤 H A W Row.sBool)
-              Path.refl (λ u. Path.refl) λ u. tt) d16
+          d17 = Typed.s-seq 𝓤 H A W 𝓣 E G6 G8 b4 b19 Δ3 (Typed.ask s5) at16 (Scalar.t-op2 𝓤 H A W E 𝓣 G6
+              (Syntax.lt Syntax.unsigned) (Scalar.oAt 7 (Syntax.tyInt Syntax.w64) (Row.valS (Row.sInt Syntax.w64))) (Scalar.oAt
+              5 (Syntax.tyInt Syntax.w64) (Row.valS (Row.sInt Syntax.w64))) 9 (Rows.sc-here Row.sBool) Syntax.tyBool
+              (Row.valS Row.sBool) (Row.sBool .of) (Scalar.reads-sc 𝓤 H A W (Row.sInt Syntax.w64), Path.refl)
+              (Scalar.reads-sc 𝓤 H A W (Row.sInt Syntax.w64), Path.refl) (Reads'.room-gone 𝓤 H A Syntax.tyBool)
+              (Scalar.holds-sc 𝓤 H A W Row.sBool) Path.refl (λ u. Path.refl) λ u. tt) d16
+
           d18 : Typed.Typed 𝓤 H A 𝓣 E G6 b21 Δ2 at18
-          d18 = Typed.t-loop-by 𝓤 H A W 𝓣 E G6 b20 Δ2 put0 (λ u vs. Inv·0 (Row.get 1 (T6 .locals) u .now) (Row.get 3 (T6 .locals) u) (Row.get 4 (T6
-              .locals) u) (Row.get 5 (T6 .locals) u) (Row.get 6 (T6 .locals) u) (Row.get 7 (T6 .locals) u) (vs .0) (vs .1)) (λ u vs. μ·0 (Row.get 1
-              (T6 .locals) u .now) (Row.get 3 (T6 .locals) u) (Row.get 4 (T6 .locals) u) (Row.get 5 (T6 .locals) u) (Row.get 6 (T6 .locals) u)
-              (Row.get 7 (T6 .locals) u) (vs .0) (vs .1)) at17 d17
+          d18 = Typed.t-loop-by 𝓤 H A W 𝓣 E G6 b20 Δ2 put0 (λ u vs. Inv·0 (Row.get 1 (T6 .locals) u .now)
+              (Row.get 3 (T6 .locals) u) (Row.get 4 (T6 .locals) u) (Row.get 5 (T6 .locals) u)
+              (Row.get 6 (T6 .locals) u) (Row.get 7 (T6 .locals) u) (vs .0) (vs .1)) (λ u vs. μ·0
+              (Row.get 1 (T6 .locals) u .now) (Row.get 3 (T6 .locals) u) (Row.get 4 (T6 .locals) u)
+              (Row.get 5 (T6 .locals) u) (Row.get 6 (T6 .locals) u) (Row.get 7 (T6 .locals) u) (vs .0) (vs .1)) at17
+              d17
+
           d19 : Typed.Typed 𝓤 H A 𝓣 E G6 b22 Δ1 at19
           d19 = Typed.t-block 𝓤 H A W 𝓣 E G6 b21 Δ1 at18 d18
+
           d20 : Typed.Typed 𝓤 H A 𝓣 E G27 b24 Δ0 at20
           d20 = Typed.t-return 𝓤 H A W 𝓣 E Δ0 tt
+
           d21 : Typed.Typed 𝓤 H A 𝓣 E G26 b24 Δ0 at21
-          d21 = Typed.g-pre 𝓤 H A W 𝓣 E G26 G27 b24 Δ0 (Typed.pass T26 T27 s23) at20 (Scalar.g-room 𝓤 H A W E G26 7 (Syntax.tyInt Syntax.w64)
-              (Scalar.room-sc 𝓤 H A W (Row.sInt Syntax.w64))) d20
+          d21 = Typed.g-pre 𝓤 H A W 𝓣 E G26 G27 b24 Δ0 (Typed.pass T26 T27 s23) at20 (Scalar.g-room 𝓤 H A W E G26 7
+              (Syntax.tyInt Syntax.w64) (Scalar.room-sc 𝓤 H A W (Row.sInt Syntax.w64))) d20
+
           d22 : Typed.Typed 𝓤 H A 𝓣 E G25 b24 Δ0 at22
-          d22 = Typed.g-pre 𝓤 H A W 𝓣 E G25 G26 b24 Δ0 (Typed.pass T25 T26 s22) at21 (Scalar.g-room 𝓤 H A W E G25 6 Laws''.mir (Local.room-whole 𝓤 H A
-              W (Declared.row LedgerRoom.the-type) Laws''.mir Path.refl)) d21
+          d22 = Typed.g-pre 𝓤 H A W 𝓣 E G25 G26 b24 Δ0 (Typed.pass T25 T26 s22) at21 (Scalar.g-room 𝓤 H A W E G25 6
+              Laws''.mir (Local.room-whole 𝓤 H A W (Declared.row LedgerRoom.the-type) Laws''.mir Path.refl)) d21
+
           d23 : Typed.Typed 𝓤 H A 𝓣 E G24 b24 Δ0 at23
-          d23 = Typed.g-pre 𝓤 H A W 𝓣 E G24 G25 b24 Δ0 (Typed.pass T24 T25 s21) at22 (Scalar.g-room 𝓤 H A W E G24 5 (Syntax.tyInt Syntax.w64)
-              (Scalar.room-sc 𝓤 H A W (Row.sInt Syntax.w64))) d22
+          d23 = Typed.g-pre 𝓤 H A W 𝓣 E G24 G25 b24 Δ0 (Typed.pass T24 T25 s21) at22 (Scalar.g-room 𝓤 H A W E G24 5
+              (Syntax.tyInt Syntax.w64) (Scalar.room-sc 𝓤 H A W (Row.sInt Syntax.w64))) d22
+
           d24 : Typed.Typed 𝓤 H A 𝓣 E G23 b24 Δ0 at24
-          d24 = Typed.g-pre 𝓤 H A W 𝓣 E G23 G24 b24 Δ0 (Typed.pass T23 T24 s20) at23 (Scalar.g-room 𝓤 H A W E G23 4 (Syntax.tyInt Syntax.w64)
-              (Scalar.room-sc 𝓤 H A W (Row.sInt Syntax.w64))) d23
+          d24 = Typed.g-pre 𝓤 H A W 𝓣 E G23 G24 b24 Δ0 (Typed.pass T23 T24 s20) at23 (Scalar.g-room 𝓤 H A W E G23 4
+              (Syntax.tyInt Syntax.w64) (Scalar.room-sc 𝓤 H A W (Row.sInt Syntax.w64))) d23
+
           d25 : Typed.Typed 𝓤 H A 𝓣 E G7 b25 Δ0 at25
-          d25 = Typed.s-seq 𝓤 H A W 𝓣 E G7 G23 b23 b24 Δ0 (Typed.both s19) at24 (Plain.t-call-plain 𝓤 H A W 𝓣 0 ps·3 r·3 (claims· .6) (claims· .7)
-              "hnsr_circuit::places::room_spared" (known .3) E (λ pos β. β) G7 (record { pos = 6; st = List.[]; d = 0; at = λ x. x }, (Num.vAt 7 λ x.
-              x, (Num.vAt 4 λ x. x, tt)),) 0 List.[] (Call.sub-id 𝓤 H A W (G7 .slots)) ((Yields.yields-copy 𝓤 H A W (λ ρ. Unit) (Declared.row
-              LedgerRoom.the-type) Path.refl (Copies.cStruct LedgerRoom.the-type Laws''.the-laws Laws''.the-copy .copy 𝓤 H A W) (Rows.whole
-              (Declared.row LedgerRoom.the-type)) (λ x. x) (λ x. x) (λ ρ told. Local.mem-whole 𝓤 H A W (Declared.row LedgerRoom.the-type) ρ) λ ρ told.
-              Local.whole-mem 𝓤 H A W (Declared.row LedgerRoom.the-type) ρ, Path.refl,), ((Scalar.reads-sc 𝓤 H A W (Row.sInt Syntax.w64), Path.refl),
-              ((Scalar.reads-sc 𝓤 H A W (Row.sInt Syntax.w64), Path.refl), tt),),) (Reads'.room-gone 𝓤 H A Laws''.mir) tt Path.refl) d24
+          d25 = Typed.s-seq 𝓤 H A W 𝓣 E G7 G23 b23 b24 Δ0 (Typed.both s19) at24 (Plain.t-call-plain 𝓤 H A W 𝓣 0 ps·3
+              r·3 (claims· .6) (claims· .7) "hnsr_circuit::places::room_spared" (known .3) E (λ pos β. β) G7 (
+                record { pos = 6; st = List.[]; d = 0; at = λ x. x },
+                (Num.vAt 7 λ x. x, (Num.vAt 4 λ x. x, tt)),
+              ) 0 List.[] (Call.sub-id 𝓤 H A W (G7 .slots)) (
+                (
+                  Yields.yields-copy 𝓤 H A W (λ ρ. Unit) (Declared.row LedgerRoom.the-type) Path.refl (Copies.cStruct
+                      LedgerRoom.the-type Laws''.the-laws Laws''.the-copy .copy 𝓤 H A W)
+                      (Rows.whole (Declared.row LedgerRoom.the-type)) (λ x. x) (λ x. x) (λ ρ told. Local.mem-whole 𝓤 H
+                      A W (Declared.row LedgerRoom.the-type) ρ) λ ρ told. Local.whole-mem 𝓤 H A W
+                      (Declared.row LedgerRoom.the-type) ρ,
+                  Path.refl,
+                ),
+                (
+                  (Scalar.reads-sc 𝓤 H A W (Row.sInt Syntax.w64), Path.refl),
+                  ((Scalar.reads-sc 𝓤 H A W (Row.sInt Syntax.w64), Path.refl), tt),
+                ),
+              ) (Reads'.room-gone 𝓤 H A Laws''.mir) tt Path.refl) d24
+
           d26 : Typed.Typed 𝓤 H A 𝓣 E G6 b26 Δ0 at26
           d26 = Typed.t-seq 𝓤 H A W 𝓣 E G6 G7 b22 b25 Δ0 at19 at25 d19 d25
+
           d27 : Typed.Typed 𝓤 H A 𝓣 E G5 b27 Δ0 at27
-          d27 = Typed.s-seq 𝓤 H A W 𝓣 E G5 G6 b3 b26 Δ0 (Typed.pass T5 T6 s4) at26 (Scalar.t-use 𝓤 H A W E 𝓣 G5 (Scalar.oInt Syntax.w64 0) 7
-              (Rows.sc-here (Row.sInt Syntax.w64)) (Syntax.tyInt Syntax.w64) (Row.valS (Row.sInt Syntax.w64)) (Row.sInt Syntax.w64 .of) tt
-              (Reads'.room-gone 𝓤 H A (Syntax.tyInt Syntax.w64)) (Scalar.holds-sc 𝓤 H A W (Row.sInt Syntax.w64)) Path.refl (λ u. Path.refl) λ u. tt)
-              d26
+          d27 = Typed.s-seq 𝓤 H A W 𝓣 E G5 G6 b3 b26 Δ0 (Typed.pass T5 T6 s4) at26 (Scalar.t-use 𝓤 H A W E 𝓣 G5
+              (Scalar.oInt Syntax.w64 0) 7 (Rows.sc-here (Row.sInt Syntax.w64)) (Syntax.tyInt Syntax.w64)
+              (Row.valS (Row.sInt Syntax.w64)) (Row.sInt Syntax.w64 .of) tt
+              (Reads'.room-gone 𝓤 H A (Syntax.tyInt Syntax.w64)) (Scalar.holds-sc 𝓤 H A W (Row.sInt Syntax.w64))
+              Path.refl (λ u. Path.refl) λ u. tt) d26
+
           d28 : Typed.Typed 𝓤 H A 𝓣 E G4 b28 Δ0 at28
-          d28 = Typed.s-seq 𝓤 H A W 𝓣 E G4 G5 b2 b27 Δ0 (Typed.both s3) at27 (Plain.t-call-plain 𝓤 H A W 𝓣 0 ps·1 r·1 (claims· .2) (claims· .3)
-              "hnsr_circuit::scan::no_room" (known .1) E (λ pos β. β) G4 (Num.vAt 4 λ x. x, tt) 6 List.[] (Call.sub-id 𝓤 H A W (G4 .slots))
-              ((Scalar.reads-sc 𝓤 H A W (Row.sInt Syntax.w64), Path.refl), tt) (Reads'.room-gone 𝓤 H A Laws''.mir) tt Path.refl) d27
+          d28 = Typed.s-seq 𝓤 H A W 𝓣 E G4 G5 b2 b27 Δ0 (Typed.both s3) at27 (Plain.t-call-plain 𝓤 H A W 𝓣 0 ps·1 r·1
+              (claims· .2) (claims· .3) "hnsr_circuit::scan::no_room" (known .1) E (λ pos β. β) G4
+              (Num.vAt 4 λ x. x, tt) 6 List.[] (Call.sub-id 𝓤 H A W (G4 .slots)) (
+                (Scalar.reads-sc 𝓤 H A W (Row.sInt Syntax.w64), Path.refl),
+                tt,
+              ) (Reads'.room-gone 𝓤 H A Laws''.mir) tt Path.refl) d27
+
           d29 : Typed.Typed 𝓤 H A 𝓣 E G3 b28 Δ0 at29
-          d29 = Typed.g-pre 𝓤 H A W 𝓣 E G3 G4 b28 Δ0 (Typed.pass T3 T4 s2) at28 (Scalar.g-room 𝓤 H A W E G3 2 Laws'.mir (Local.room-whole 𝓤 H A W
-              (Declared.row Places.the-type) Laws'.mir Path.refl)) d28
+          d29 = Typed.g-pre 𝓤 H A W 𝓣 E G3 G4 b28 Δ0 (Typed.pass T3 T4 s2) at28 (Scalar.g-room 𝓤 H A W E G3 2 Laws'.mir (Local.room-whole
+              𝓤 H A W (Declared.row Places.the-type) Laws'.mir Path.refl)) d28
+
           d30 : Typed.Typed 𝓤 H A 𝓣 E G2 b29 Δ0 at30
-          d30 = Typed.s-seq 𝓤 H A W 𝓣 E G2 G3 b1 b28 Δ0 (Typed.both s1) at29 (Plain.t-call-plain 𝓤 H A W 𝓣 0 ps·0 r·0 (claims· .0) (claims· .1)
-              "hns_encoding::numbers::min_usize" (known .0) E (λ pos β. β) G2 (Num.vFld 2 ((Syntax.field 2) ∷ List.[]) 16 λ x. Places.struct
-              .as-values x .1 .1 .0, (Num.vAt 4 λ x. x, tt),) 5 List.[] (Call.sub-id 𝓤 H A W (G2 .slots)) ((Reads.reads-field 𝓤 H A W Places.the-type
-              Laws'.the-laws 2 (Syntax.tyInt Syntax.w64) 16 Path.refl, Path.refl,), ((Scalar.reads-sc 𝓤 H A W (Row.sInt Syntax.w64), Path.refl), tt),)
-              (Reads'.room-gone 𝓤 H A (Syntax.tyInt Syntax.w64)) tt Path.refl) d29
+          d30 = Typed.s-seq 𝓤 H A W 𝓣 E G2 G3 b1 b28 Δ0 (Typed.both s1) at29 (Plain.t-call-plain 𝓤 H A W 𝓣 0 ps·0 r·0
+              (claims· .0) (claims· .1) "hns_encoding::numbers::min_usize" (known .0) E (λ pos β. β) G2 (
+                Num.vFld 2 ((Syntax.field 2) ∷ List.[]) 16 λ x. Places.struct .as-values x .1 .1 .0,
+                (Num.vAt 4 λ x. x, tt),
+              ) 5 List.[] (Call.sub-id 𝓤 H A W (G2 .slots)) (
+                (
+                  Reads.reads-field 𝓤 H A W Places.the-type Laws'.the-laws 2 (Syntax.tyInt Syntax.w64) 16 Path.refl,
+                  Path.refl,
+                ),
+                ((Scalar.reads-sc 𝓤 H A W (Row.sInt Syntax.w64), Path.refl), tt),
+              ) (Reads'.room-gone 𝓤 H A (Syntax.tyInt Syntax.w64)) tt Path.refl) d29
+
           d31 : Typed.Typed 𝓤 H A 𝓣 E G0 b30 Δ0 at31
-          d31 = Typed.s-seq 𝓤 H A W 𝓣 E G0 G2 b0 b29 Δ0 (Typed.pass T0 T2 s0) at30 (Scalar.t-use 𝓤 H A W E 𝓣 G0 (Scalar.oFld 1 ((Syntax.field 1) ∷
-              List.[]) (Syntax.tyInt Syntax.w64) 8 Shared.lenV) 4 (Rows.sc-here (Row.sInt Syntax.w64)) (Syntax.tyInt Syntax.w64) (Row.valS (Row.sInt
-              Syntax.w64)) (Row.sInt Syntax.w64 .of) (Shared.reads-sslice-len 𝓤 H A W ReservationUsage.row ref0 0 8 Path.refl, Path.refl,)
-              (Reads'.room-gone 𝓤 H A (Syntax.tyInt Syntax.w64)) (Scalar.holds-sc 𝓤 H A W (Row.sInt Syntax.w64)) Path.refl (λ u. Path.refl) λ u. tt)
-              d30
+          d31 = Typed.s-seq 𝓤 H A W 𝓣 E G0 G2 b0 b29 Δ0 (Typed.pass T0 T2 s0) at30 (Scalar.t-use 𝓤 H A W E 𝓣 G0 (Scalar.oFld
+              1 ((Syntax.field 1) ∷ List.[]) (Syntax.tyInt Syntax.w64) 8 Shared.lenV) 4
+              (Rows.sc-here (Row.sInt Syntax.w64)) (Syntax.tyInt Syntax.w64) (Row.valS (Row.sInt Syntax.w64))
+              (Row.sInt Syntax.w64 .of) (
+                Shared.reads-sslice-len 𝓤 H A W ReservationUsage.row ref0 0 8 Path.refl,
+                Path.refl,
+              ) (Reads'.room-gone 𝓤 H A (Syntax.tyInt Syntax.w64)) (Scalar.holds-sc 𝓤 H A W (Row.sInt Syntax.w64))
+              Path.refl (λ u. Path.refl) λ u. tt) d30
+
           pub typed : Typed.Typed 𝓤 H A 𝓣 E (Function.Γin 1 ps r xs m κs qs) b30 (Function.Δret 1 ps r xs m κs qs) Φ
           typed = d31
+
       module _ (κs : Lifetimes.Lfts 1) where
         pub record Args : Type 0 where
-          pub ledger : Kinds.Den { n = 1 } κs (ShrSlice.pShrS ReservationUsage.row 0 tt)
-          pub places : Kinds.Den { n = 1 } κs (Value.pVal record { ty = Declared.row Places.the-type; one = Path.refl; val = Laws'''.val
-              Places.the-type Laws'.the-laws; tells = Laws'''.tells Places.the-type Laws'.the-laws; still = Laws'''.still Places.the-type
-              Laws'.the-copy Exit.yes; row = Rows.whole (Declared.row Places.the-type); rd = λ x. x; mk = λ x. x; } λ M 𝓤 H A W. record { copies =
-              Laws'''.copy Places.the-type Laws'.the-copy 𝓤 H A W; lawful = Laws'''.lawful Places.the-type Laws'.the-laws 𝓤 H A W; makes =
-              Laws'''.makes Places.the-type Laws'.the-plain 𝓤 H A; in-mem = Local.mem-whole 𝓤 H A W (Declared.row Places.the-type); of-mem =
-              Local.whole-mem 𝓤 H A W (Declared.row Places.the-type); })
-          pub id : Kinds.Den { n = 1 } κs (Value.pVal record { ty = Declared.row ReservationId.the-type; one = Path.refl; val = Laws'''.val
-              ReservationId.the-type Laws.the-laws; tells = Laws'''.tells ReservationId.the-type Laws.the-laws; still = Laws'''.still
-              ReservationId.the-type Laws.the-copy Exit.yes; row = Rows.whole (Declared.row ReservationId.the-type); rd = λ x. x; mk = λ x. x; } λ M 𝓤
-              H A W. record { copies = Laws'''.copy ReservationId.the-type Laws.the-copy 𝓤 H A W; lawful = Laws'''.lawful ReservationId.the-type
-              Laws.the-laws 𝓤 H A W; makes = Laws'''.makes ReservationId.the-type Laws.the-plain 𝓤 H A; in-mem = Local.mem-whole 𝓤 H A W (Declared.row
-              ReservationId.the-type); of-mem = Local.whole-mem 𝓤 H A W (Declared.row ReservationId.the-type); })
+          pub ledger : Kinds.Den {n = 1} κs (ShrSlice.pShrS ReservationUsage.row 0 tt)
+          pub places : Kinds.Den {n = 1} κs (StructRow.param Places.the-type Laws'.the-laws Laws'.the-copy
+              Laws'.the-plain)
+          pub id : Kinds.Den {n = 1} κs (StructRow.param ReservationId.the-type Laws.the-laws Laws.the-copy
+              Laws.the-plain)
+
         abbrev pub dens : (a : Args) → Kinds.Dens κs ps
         dens = λ a. (a .ledger, (a .places, (a .id, tt)))
+
       abbrev pub m0 : (κs : Lifetimes.Lfts 1) → (args : Args κs) → Typed.Mo T0
       m0 = λ κs args. (tt, Enter.partsP κs 1 ps xs (dens κs args))
+
       abbrev W0 : (κs : Lifetimes.Lfts 1) → (args : Args κs) → Typed.Want O0
-      W0 = λ κs args. (λ u. ⊥, tt, λ u. Enter.Fixs κs 1 ps xs (dens κs args) (u .1) × Post· κs (dens κs args) (Function.resV r κs (u .0))
-          (Clauses.atExit (Kinds.endedOf 1 ps r) κs (dens κs args) (Enter.lastsP κs 1 ps xs (dens κs args) (u .1))),)
+      W0 = λ κs args. (
+        λ u. ⊥,
+        tt,
+        λ u. Enter.Fixs κs 1 ps xs (dens κs args) (u .1) × Post· κs (dens κs args) (Function.resV r κs (u .0)) (Clauses.atExit
+            (Kinds.endedOf 1 ps r) κs (dens κs args) (Enter.lastsP κs 1 ps xs (dens κs args) (u .1))),
+      )
+
       pub record Start : Type 0 where
         pub κs : Lifetimes.Lfts 1
         pub args : Args κs
         pub good : Kinds.GoodsP κs ps (dens κs args)
         pub pre : Pre· κs (dens κs args)
+
       abbrev pub m1 : (κs : Lifetimes.Lfts 1) → (args : Args κs) → Typed.Mo T2
       m1 = λ κs args. s0 (m0 κs args)
+
       abbrev pub Need-min-usize-requires : Type 0
       Need-min-usize-requires = (c : Start) → s1 .asks (m1 (c .κs) (c .args))
+
       abbrev pub m2 : (before : Start) → (given : s1 .gives (m1 (before .κs) (before .args))) → Typed.Mo T3
       m2 = λ before given. s1 .next (m1 (before .κs) (before .args)) given
+
       module _ (before· : Start) where
         abbrev pub After-min-usize·own : Type 0
-        After-min-usize·own = Called.Called ps·0 r·0 (claims· .1) T2 (Num.vFld 2 ((Syntax.field 2) ∷ List.[]) 16 λ x. Places.struct .as-values x .1 .1
-            .0, (Num.vAt 4 λ x. x, tt),) (m1 (before· .κs) (before· .args))
+        After-min-usize·own = Called.Called ps·0 r·0 (claims· .1) T2 args1 (m1 (before· .κs) (before· .args))
+
       pub record After-min-usize : Type 0 where
         pub before : Start
         pub min-usize : After-min-usize·own before
+
       abbrev pub After-min-usize·gave : (c : After-min-usize) → s1 .gives (m1 (c .before .κs) (c .before .args))
-      After-min-usize·gave = λ c. Called.given ps·0 r·0 (claims· .1) T2 (Num.vFld 2 ((Syntax.field 2) ∷ List.[]) 16 λ x. Places.struct .as-values x .1
-          .1 .0, (Num.vAt 4 λ x. x, tt),) (m1 (c .before .κs) (c .before .args)) (c .min-usize)
+      After-min-usize·gave = λ c. Called.given ps·0 r·0 (claims· .1) T2 args1 (m1 (c .before .κs) (c .before .args))
+          (c .min-usize)
+
       abbrev pub m3 : (before : Start) → (given : s1 .gives (m1 (before .κs) (before .args))) → Typed.Mo T4
       m3 = λ before given. s2 (m2 before given)
+
       abbrev pub Need-no-room-requires : Type 0
       Need-no-room-requires = (c : After-min-usize) → s3 .asks (m3 (c .before) (After-min-usize·gave c))
-      abbrev pub m4 : (before : After-min-usize) → (given : s3 .gives (m3 (before .before) (After-min-usize·gave before))) → Typed.Mo T5
+
+      abbrev pub m4 : (before : After-min-usize) → (given : s3 .gives
+          (m3 (before .before) (After-min-usize·gave before))) → Typed.Mo T5
       m4 = λ before given. s3 .next (m3 (before .before) (After-min-usize·gave before)) given
+
       module _ (before· : After-min-usize) where
         abbrev pub After-no-room·own : Type 0
-        After-no-room·own = Called.Called ps·1 r·1 (claims· .3) T4 (Num.vAt 4 λ x. x, tt) (m3 (before· .before) (After-min-usize·gave before·))
+        After-no-room·own = Called.Called ps·1 r·1 (claims· .3) T4 args3
+            (m3 (before· .before) (After-min-usize·gave before·))
+
       pub record After-no-room : Type 0 where
         pub before : After-min-usize
         pub no-room : After-no-room·own before
-      abbrev pub After-no-room·gave : (c : After-no-room) → s3 .gives (m3 (c .before .before) (After-min-usize·gave (c .before)))
-      After-no-room·gave = λ c. Called.given ps·1 r·1 (claims· .3) T4 (Num.vAt 4 λ x. x, tt) (m3 (c .before .before) (After-min-usize·gave (c
-          .before))) (c .no-room)
-      abbrev pub m5 : (before : After-min-usize) → (given : s3 .gives (m3 (before .before) (After-min-usize·gave before))) → Typed.Mo T6
+
+      abbrev pub After-no-room·gave : (c : After-no-room) → s3 .gives
+          (m3 (c .before .before) (After-min-usize·gave (c .before)))
+      After-no-room·gave = λ c. Called.given ps·1 r·1 (claims· .3) T4 args3
+          (m3 (c .before .before) (After-min-usize·gave (c .before))) (c .no-room)
+
+      abbrev pub m5 : (before : After-min-usize) → (given : s3 .gives
+          (m3 (before .before) (After-min-usize·gave before))) → Typed.Mo T6
       m5 = λ before given. s4 (m4 before given)
-      abbrev W1 : (before : After-min-usize) → (given : s3 .gives (m3 (before .before) (After-min-usize·gave before))) → Typed.Want O1
-      W1 = λ before given. Typed.wantNext T7 O0 (at25 (W0 (before .before .κs) (before .before .args))) (W0 (before .before .κs) (before .before
-          .args))
-      abbrev W2 : (before : After-min-usize) → (given : s3 .gives (m3 (before .before) (After-min-usize·gave before))) → Typed.Want O2
+
+      abbrev W1 : (before : After-min-usize) → (given : s3 .gives (m3 (before .before) (After-min-usize·gave before)))
+          → Typed.Want O1
+      W1 = λ before given. Typed.wantNext T7 O0 (at25 (W0 (before .before .κs) (before .before .args)))
+          (W0 (before .before .κs) (before .before .args))
+
+      abbrev W2 : (before : After-min-usize) → (given : s3 .gives (m3 (before .before) (After-min-usize·gave before)))
+          → Typed.Want O2
       W2 = λ before given. Typed.inBlock O1 (W1 before given)
+
       abbrev pub Need-loop-holds : Type 0
-      Need-loop-holds = (c : After-no-room) → Inv·0 (Row.get 1 (T6 .locals) (m5 (c .before) (After-no-room·gave c)) .now) (Row.get 3 (T6 .locals) (m5
-          (c .before) (After-no-room·gave c))) (Row.get 4 (T6 .locals) (m5 (c .before) (After-no-room·gave c))) (Row.get 5 (T6 .locals) (m5 (c
-          .before) (After-no-room·gave c))) (Row.get 6 (T6 .locals) (m5 (c .before) (After-no-room·gave c))) (Row.get 7 (T6 .locals) (m5 (c .before)
-          (After-no-room·gave c))) (Row.get 6 (T6 .locals) (m5 (c .before) (After-no-room·gave c))) (Row.get 7 (T6 .locals) (m5 (c .before)
-          (After-no-room·gave c)))
-      abbrev pub m6 : (before : After-no-room) → (room : Rows.whole (Declared.row LedgerRoom.the-type) .Mod) → (i : Rows.sc-here (Row.sInt Syntax.w64)
-          .Mod) → Typed.Mo T6
-      m6 = λ before room i. Row.set 7 (7, Rows.sc-here (Row.sInt Syntax.w64)) i (Row.setRow 6 (6, Rows.whole (Declared.row LedgerRoom.the-type),) (T6
-          .locals)) (Row.set 6 (6, Rows.whole (Declared.row LedgerRoom.the-type)) room (T6 .locals) (m5 (before .before) (After-no-room·gave before)))
-      abbrev W3 : (before : After-no-room) → (room : Rows.whole (Declared.row LedgerRoom.the-type) .Mod) → (i : Rows.sc-here (Row.sInt Syntax.w64)
-          .Mod) → Typed.Want O3
-      W3 = λ before room i. Typed.inLoop T6 O2 (Typed.Round T6 O2 put0 (λ u vs. Inv·0 (Row.get 1 (T6 .locals) u .now) (Row.get 3 (T6 .locals) u)
-          (Row.get 4 (T6 .locals) u) (Row.get 5 (T6 .locals) u) (Row.get 6 (T6 .locals) u) (Row.get 7 (T6 .locals) u) (vs .0) (vs .1)) (λ u vs. μ·0
-          (Row.get 1 (T6 .locals) u .now) (Row.get 3 (T6 .locals) u) (Row.get 4 (T6 .locals) u) (Row.get 5 (T6 .locals) u) (Row.get 6 (T6 .locals) u)
-          (Row.get 7 (T6 .locals) u) (vs .0) (vs .1)) at17 (m5 (before .before) (After-no-room·gave before)) (room, i)) (W2 (before .before)
-          (After-no-room·gave before))
-      abbrev pub m7 : (before : After-no-room) → (room : Rows.whole (Declared.row LedgerRoom.the-type) .Mod) → (i : Rows.sc-here (Row.sInt Syntax.w64)
-          .Mod) → Typed.Mo T8
+      Need-loop-holds = (c : After-no-room) → Inv·0 (Row.get 1 (T6 .locals) (m5 (c .before) (After-no-room·gave c))
+          .now) (Row.get 3 (T6 .locals) (m5 (c .before) (After-no-room·gave c))) (Row.get 4 (T6 .locals)
+          (m5 (c .before) (After-no-room·gave c))) (Row.get 5 (T6 .locals) (m5 (c .before) (After-no-room·gave c))) (Row.get
+          6 (T6 .locals) (m5 (c .before) (After-no-room·gave c))) (Row.get 7 (T6 .locals)
+          (m5 (c .before) (After-no-room·gave c))) (Row.get 6 (T6 .locals) (m5 (c .before) (After-no-room·gave c))) (Row.get
+          7 (T6 .locals) (m5 (c .before) (After-no-room·gave c)))
+
+      abbrev pub m6 : (before : After-no-room) → (room : Rows.whole (Declared.row LedgerRoom.the-type) .Mod) →
+          (i : Rows.sc-here (Row.sInt Syntax.w64) .Mod) → Typed.Mo T6
+      m6 = λ before room i. Row.set 7 (7, Rows.sc-here (Row.sInt Syntax.w64)) i (Row.setRow 6
+          (6, Rows.whole (Declared.row LedgerRoom.the-type)) (T6 .locals)) (Row.set 6
+          (6, Rows.whole (Declared.row LedgerRoom.the-type)) room (T6 .locals)
+          (m5 (before .before) (After-no-room·gave before)))
+
+      abbrev W3 : (before : After-no-room) → (room : Rows.whole (Declared.row LedgerRoom.the-type) .Mod) →
+          (i : Rows.sc-here (Row.sInt Syntax.w64) .Mod) → Typed.Want O3
+      W3 = λ before room i. Typed.inLoop T6 O2 (Typed.Round T6 O2 put0 (λ u vs. Inv·0 (Row.get 1 (T6 .locals) u .now)
+          (Row.get 3 (T6 .locals) u) (Row.get 4 (T6 .locals) u) (Row.get 5 (T6 .locals) u) (Row.get 6 (T6 .locals) u)
+          (Row.get 7 (T6 .locals) u) (vs .0) (vs .1)) (λ u vs. μ·0 (Row.get 1 (T6 .locals) u .now)
+          (Row.get 3 (T6 .locals) u) (Row.get 4 (T6 .locals) u) (Row.get 5 (T6 .locals) u) (Row.get 6 (T6 .locals) u)
+          (Row.get 7 (T6 .locals) u) (vs .0) (vs .1)) at17 (m5 (before .before) (After-no-room·gave before)) (room, i))
+          (W2 (before .before) (After-no-room·gave before))
+
+      abbrev pub m7 : (before : After-no-room) → (room : Rows.whole (Declared.row LedgerRoom.the-type) .Mod) →
+          (i : Rows.sc-here (Row.sInt Syntax.w64) .Mod) → Typed.Mo T8
       m7 = λ before room i. s5 .next (m6 before room i)
-      abbrev W4 : (before : After-no-room) → (room : Rows.whole (Declared.row LedgerRoom.the-type) .Mod) → (i : Rows.sc-here (Row.sInt Syntax.w64)
-          .Mod) → Typed.Want O4
+
+      abbrev W4 : (before : After-no-room) → (room : Rows.whole (Declared.row LedgerRoom.the-type) .Mod) →
+          (i : Rows.sc-here (Row.sInt Syntax.w64) .Mod) → Typed.Want O4
       W4 = λ before room i. Typed.wantNext T9 O3 (at15 (W3 before room i)) (W3 before room i)
+
       module _ (before· : After-no-room) where
         pub record At-loop·own : Type 0 where
           pub room : Rows.whole (Declared.row LedgerRoom.the-type) .Mod
           pub i : Rows.sc-here (Row.sInt Syntax.w64) .Mod
-          pub inv : Inv·0 (Row.get 1 (T6 .locals) (m5 (before· .before) (After-no-room·gave before·)) .now) (Row.get 3 (T6 .locals) (m5 (before·
-              .before) (After-no-room·gave before·))) (Row.get 4 (T6 .locals) (m5 (before· .before) (After-no-room·gave before·))) (Row.get 5 (T6
-              .locals) (m5 (before· .before) (After-no-room·gave before·))) (Row.get 6 (T6 .locals) (m5 (before· .before) (After-no-room·gave
-              before·))) (Row.get 7 (T6 .locals) (m5 (before· .before) (After-no-room·gave before·))) room i
+          pub inv : Inv·0 (Row.get 1 (T6 .locals) (m5 (before· .before) (After-no-room·gave before·)) .now) (Row.get 3
+              (T6 .locals) (m5 (before· .before) (After-no-room·gave before·))) (Row.get 4 (T6 .locals)
+              (m5 (before· .before) (After-no-room·gave before·))) (Row.get 5 (T6 .locals)
+              (m5 (before· .before) (After-no-room·gave before·))) (Row.get 6 (T6 .locals)
+              (m5 (before· .before) (After-no-room·gave before·))) (Row.get 7 (T6 .locals)
+              (m5 (before· .before) (After-no-room·gave before·))) room i
+
       pub record At-loop : Type 0 where
         pub before : After-no-room
         pub loop : At-loop·own before
+
       module _ (before· : At-loop) where
         pub record In-loop·own : Type 0 where
-          pub taken : Nat._<_ (Row.get 7 (T6 .locals) (m6 (before· .before) (before· .loop .room) (before· .loop .i))) (Row.get 5 (T6 .locals) (m6
-              (before· .before) (before· .loop .room) (before· .loop .i)))
+          pub taken : Nat._<_ (Row.get 7 (T6 .locals) (m6 (before· .before) (before· .loop .room) (before· .loop .i))) (Row.get
+              5 (T6 .locals) (m6 (before· .before) (before· .loop .room) (before· .loop .i)))
+
       pub record In-loop : Type 0 where
         pub before : At-loop
         pub loop-test : In-loop·own before
+
       abbrev pub m8 : (before : At-loop) → Typed.Mo T10
       m8 = λ before. s6 (m7 (before .before) (before .loop .room) (before .loop .i))
+
       module _ (before· : At-loop) where
         pub record After-loop·own : Type 0 where
-          pub left : Nat._≤_ (Row.get 5 (T6 .locals) (m6 (before· .before) (before· .loop .room) (before· .loop .i))) (Row.get 7 (T6 .locals) (m6
-              (before· .before) (before· .loop .room) (before· .loop .i)))
+          pub left : Nat._≤_ (Row.get 5 (T6 .locals) (m6 (before· .before) (before· .loop .room) (before· .loop .i))) (Row.get
+              7 (T6 .locals) (m6 (before· .before) (before· .loop .room) (before· .loop .i)))
+
       pub record After-loop : Type 0 where
         pub before : At-loop
         pub loop-test : After-loop·own before
+
       abbrev pub m9 : (before : At-loop) → Typed.Mo T11
       m9 = λ before. s7 (m7 (before .before) (before .loop .room) (before .loop .i))
+
       abbrev pub m10 : (before : At-loop) → Typed.Mo T12
       m10 = λ before. s8 (m9 before)
+
       abbrev pub Need-mul-row : Type 0
       Need-mul-row = (c : In-loop) → s9 .asks (m8 (c .before))
+
       abbrev pub m11 : (before : At-loop) → Typed.Mo T13
       m11 = λ before. s9 .next (m8 before)
+
       abbrev pub m12 : (before : At-loop) → Typed.Mo T14
       m12 = λ before. s10 .next (m11 before)
+
       abbrev pub Need-shared-slice-copy-out-row : Type 0
-      Need-shared-slice-copy-out-row = (c : In-loop) → Shared.InSlice T14 1 11 (λ x. x) (λ u. u .1 .1 .1 .1 .1 .1 .1 .0) (m12 (c .before))
+      Need-shared-slice-copy-out-row = (c : In-loop) → Shared.InSlice T14 1 11 (λ x. x)
+          (λ u. u .1 .1 .1 .1 .1 .1 .1 .0) (m12 (c .before))
+
       abbrev pub m13 : (before : In-loop) → (given : s11 .gives (m12 (before .before))) → Typed.Mo T15
       m13 = λ before given. s11 .next (m12 (before .before)) given
+
       abbrev pub m14 : (before : In-loop) → (given : s11 .gives (m12 (before .before))) → Typed.Mo T16
       m14 = λ before given. s12 (m13 before given)
+
       abbrev pub m15 : (before : In-loop) → (given : s11 .gives (m12 (before .before))) → Typed.Mo T17
       m15 = λ before given. s13 (m14 before given)
+
       abbrev pub m16 : (before : In-loop) → (given : s11 .gives (m12 (before .before))) → Typed.Mo T18
       m16 = λ before given. s14 (m15 before given)
+
       abbrev pub m17 : (before : In-loop) → (given : s11 .gives (m12 (before .before))) → Typed.Mo T19
       m17 = λ before given. s15 (m16 before given)
+
       module _ (before· : In-loop) where
         pub record After-row·own : Type 0 where
           pub given : s11 .gives (m12 (before· .before))
+
       pub record After-row : Type 0 where
         pub before : In-loop
         pub row : After-row·own before
+
       abbrev pub Need-room-on-requires : Type 0
       Need-room-on-requires = (c : After-row) → s16 .asks (m17 (c .before) (c .row .given))
-      abbrev pub m18 : (before : After-row) → (given : s16 .gives (m17 (before .before) (before .row .given))) → Typed.Mo T20
+
+      abbrev pub m18 : (before : After-row) → (given : s16 .gives (m17 (before .before) (before .row .given))) →
+          Typed.Mo T20
       m18 = λ before given. s16 .next (m17 (before .before) (before .row .given)) given
+
       module _ (before· : After-row) where
         abbrev pub After-room-on·own : Type 0
-        After-room-on·own = Called.Called ps·2 r·2 (claims· .5) T19 (record { pos = 6; st = List.[]; d = 0; at = λ x. x }, (record { pos = 8; st =
-            List.[]; d = 0; at = λ x. x }, (record { pos = 3; st = List.[]; d = 0; at = λ x. x }, (Num.vAt 7 λ x. x, tt)),),) (m17 (before· .before)
-            (before· .row .given))
+        After-room-on·own = Called.Called ps·2 r·2 (claims· .5) T19 args16
+            (m17 (before· .before) (before· .row .given))
+
       pub record After-room-on : Type 0 where
         pub before : After-row
         pub room-on : After-room-on·own before
-      abbrev pub After-room-on·gave : (c : After-room-on) → s16 .gives (m17 (c .before .before) (c .before .row .given))
-      After-room-on·gave = λ c. Called.given ps·2 r·2 (claims· .5) T19 (record { pos = 6; st = List.[]; d = 0; at = λ x. x }, (record { pos = 8; st =
-          List.[]; d = 0; at = λ x. x }, (record { pos = 3; st = List.[]; d = 0; at = λ x. x }, (Num.vAt 7 λ x. x, tt)),),) (m17 (c .before .before)
-          (c .before .row .given)) (c .room-on)
-      abbrev pub m19 : (before : After-row) → (given : s16 .gives (m17 (before .before) (before .row .given))) → Typed.Mo T21
+
+      abbrev pub After-room-on·gave : (c : After-room-on) → s16 .gives
+          (m17 (c .before .before) (c .before .row .given))
+      After-room-on·gave = λ c. Called.given ps·2 r·2 (claims· .5) T19 args16
+          (m17 (c .before .before) (c .before .row .given)) (c .room-on)
+
+      abbrev pub m19 : (before : After-row) → (given : s16 .gives (m17 (before .before) (before .row .given))) →
+          Typed.Mo T21
       m19 = λ before given. s17 (m18 before given)
+
       abbrev pub Need-add-i : Type 0
       Need-add-i = (c : After-room-on) → s18 .asks (m19 (c .before) (After-room-on·gave c))
-      abbrev pub m20 : (before : After-row) → (given : s16 .gives (m17 (before .before) (before .row .given))) → Typed.Mo T22
+
+      abbrev pub m20 : (before : After-row) → (given : s16 .gives (m17 (before .before) (before .row .given))) →
+          Typed.Mo T22
       m20 = λ before given. s18 .next (m19 before given)
+
       abbrev pub Need-loop-less : Type 0
-      Need-loop-less = (c : After-room-on) → Nat._<_ (μ·0 (Row.get 1 (T6 .locals) (m5 (c .before .before .before .before .before) (After-no-room·gave
-          (c .before .before .before .before))) .now) (Row.get 3 (T6 .locals) (m5 (c .before .before .before .before .before) (After-no-room·gave (c
-          .before .before .before .before)))) (Row.get 4 (T6 .locals) (m5 (c .before .before .before .before .before) (After-no-room·gave (c .before
-          .before .before .before)))) (Row.get 5 (T6 .locals) (m5 (c .before .before .before .before .before) (After-no-room·gave (c .before .before
-          .before .before)))) (Row.get 6 (T6 .locals) (m5 (c .before .before .before .before .before) (After-no-room·gave (c .before .before .before
-          .before)))) (Row.get 7 (T6 .locals) (m5 (c .before .before .before .before .before) (After-no-room·gave (c .before .before .before
-          .before)))) (Row.get 6 (T6 .locals) (m20 (c .before) (After-room-on·gave c))) (Row.get 7 (T6 .locals) (m20 (c .before) (After-room-on·gave
-          c)))) (μ·0 (Row.get 1 (T6 .locals) (m5 (c .before .before .before .before .before) (After-no-room·gave (c .before .before .before .before)))
-          .now) (Row.get 3 (T6 .locals) (m5 (c .before .before .before .before .before) (After-no-room·gave (c .before .before .before .before))))
-          (Row.get 4 (T6 .locals) (m5 (c .before .before .before .before .before) (After-no-room·gave (c .before .before .before .before)))) (Row.get
-          5 (T6 .locals) (m5 (c .before .before .before .before .before) (After-no-room·gave (c .before .before .before .before)))) (Row.get 6 (T6
-          .locals) (m5 (c .before .before .before .before .before) (After-no-room·gave (c .before .before .before .before)))) (Row.get 7 (T6 .locals)
-          (m5 (c .before .before .before .before .before) (After-no-room·gave (c .before .before .before .before)))) (c .before .before .before .loop
-          .room) (c .before .before .before .loop .i))
+      Need-loop-less = (c : After-room-on) → Nat._<_ (μ·0 (Row.get 1 (T6 .locals) (m5
+          (c .before .before .before .before .before) (After-no-room·gave (c .before .before .before .before))) .now) (Row.get
+          3 (T6 .locals) (m5 (c .before .before .before .before .before)
+          (After-no-room·gave (c .before .before .before .before)))) (Row.get 4 (T6 .locals) (m5
+          (c .before .before .before .before .before) (After-no-room·gave (c .before .before .before .before)))) (Row.get
+          5 (T6 .locals) (m5 (c .before .before .before .before .before)
+          (After-no-room·gave (c .before .before .before .before)))) (Row.get 6 (T6 .locals) (m5
+          (c .before .before .before .before .before) (After-no-room·gave (c .before .before .before .before)))) (Row.get
+          7 (T6 .locals) (m5 (c .before .before .before .before .before)
+          (After-no-room·gave (c .before .before .before .before)))) (Row.get 6 (T6 .locals)
+          (m20 (c .before) (After-room-on·gave c))) (Row.get 7 (T6 .locals) (m20 (c .before) (After-room-on·gave c)))) (μ·0 (Row.get
+          1 (T6 .locals) (m5 (c .before .before .before .before .before)
+          (After-no-room·gave (c .before .before .before .before))) .now) (Row.get 3 (T6 .locals) (m5
+          (c .before .before .before .before .before) (After-no-room·gave (c .before .before .before .before)))) (Row.get
+          4 (T6 .locals) (m5 (c .before .before .before .before .before)
+          (After-no-room·gave (c .before .before .before .before)))) (Row.get 5 (T6 .locals) (m5
+          (c .before .before .before .before .before) (After-no-room·gave (c .before .before .before .before)))) (Row.get
+          6 (T6 .locals) (m5 (c .before .before .before .before .before)
+          (After-no-room·gave (c .before .before .before .before)))) (Row.get 7 (T6 .locals) (m5
+          (c .before .before .before .before .before) (After-no-room·gave (c .before .before .before .before))))
+          (c .before .before .before .loop .room) (c .before .before .before .loop .i))
+
       abbrev pub Need-loop-again : Type 0
-      Need-loop-again = (c : After-room-on) → Inv·0 (Row.get 1 (T6 .locals) (m5 (c .before .before .before .before .before) (After-no-room·gave (c
-          .before .before .before .before))) .now) (Row.get 3 (T6 .locals) (m5 (c .before .before .before .before .before) (After-no-room·gave (c
-          .before .before .before .before)))) (Row.get 4 (T6 .locals) (m5 (c .before .before .before .before .before) (After-no-room·gave (c .before
-          .before .before .before)))) (Row.get 5 (T6 .locals) (m5 (c .before .before .before .before .before) (After-no-room·gave (c .before .before
-          .before .before)))) (Row.get 6 (T6 .locals) (m5 (c .before .before .before .before .before) (After-no-room·gave (c .before .before .before
-          .before)))) (Row.get 7 (T6 .locals) (m5 (c .before .before .before .before .before) (After-no-room·gave (c .before .before .before
-          .before)))) (Row.get 6 (T6 .locals) (m20 (c .before) (After-room-on·gave c))) (Row.get 7 (T6 .locals) (m20 (c .before) (After-room-on·gave
-          c)))
+      Need-loop-again = (c : After-room-on) → Inv·0 (Row.get 1 (T6 .locals) (m5
+          (c .before .before .before .before .before) (After-no-room·gave (c .before .before .before .before))) .now) (Row.get
+          3 (T6 .locals) (m5 (c .before .before .before .before .before)
+          (After-no-room·gave (c .before .before .before .before)))) (Row.get 4 (T6 .locals) (m5
+          (c .before .before .before .before .before) (After-no-room·gave (c .before .before .before .before)))) (Row.get
+          5 (T6 .locals) (m5 (c .before .before .before .before .before)
+          (After-no-room·gave (c .before .before .before .before)))) (Row.get 6 (T6 .locals) (m5
+          (c .before .before .before .before .before) (After-no-room·gave (c .before .before .before .before)))) (Row.get
+          7 (T6 .locals) (m5 (c .before .before .before .before .before)
+          (After-no-room·gave (c .before .before .before .before)))) (Row.get 6 (T6 .locals)
+          (m20 (c .before) (After-room-on·gave c))) (Row.get 7 (T6 .locals) (m20 (c .before) (After-room-on·gave c)))
+
       abbrev pub Need-room-spared-requires : Type 0
       Need-room-spared-requires = (c : After-loop) → s19 .asks (m10 (c .before))
+
       abbrev pub m21 : (before : After-loop) → (given : s19 .gives (m10 (before .before))) → Typed.Mo T23
       m21 = λ before given. s19 .next (m10 (before .before)) given
+
       module _ (before· : After-loop) where
         abbrev pub After-room-spared·own : Type 0
-        After-room-spared·own = Called.Called ps·3 r·3 (claims· .7) T7 (record { pos = 6; st = List.[]; d = 0; at = λ x. x }, (Num.vAt 7 λ x. x,
-            (Num.vAt 4 λ x. x, tt)),) (m10 (before· .before))
+        After-room-spared·own = Called.Called ps·3 r·3 (claims· .7) T7 args19 (m10 (before· .before))
+
       pub record After-room-spared : Type 0 where
         pub before : After-loop
         pub room-spared : After-room-spared·own before
+
       abbrev pub After-room-spared·gave : (c : After-room-spared) → s19 .gives (m10 (c .before .before))
-      After-room-spared·gave = λ c. Called.given ps·3 r·3 (claims· .7) T7 (record { pos = 6; st = List.[]; d = 0; at = λ x. x }, (Num.vAt 7 λ x. x,
-          (Num.vAt 4 λ x. x, tt)),) (m10 (c .before .before)) (c .room-spared)
+      After-room-spared·gave = λ c. Called.given ps·3 r·3 (claims· .7) T7 args19 (m10 (c .before .before))
+          (c .room-spared)
+
       abbrev pub m22 : (before : After-loop) → (given : s19 .gives (m10 (before .before))) → Typed.Mo T24
       m22 = λ before given. s20 (m21 before given)
+
       abbrev pub m23 : (before : After-loop) → (given : s19 .gives (m10 (before .before))) → Typed.Mo T25
       m23 = λ before given. s21 (m22 before given)
+
       abbrev pub m24 : (before : After-loop) → (given : s19 .gives (m10 (before .before))) → Typed.Mo T26
       m24 = λ before given. s22 (m23 before given)
+
       abbrev pub m25 : (before : After-loop) → (given : s19 .gives (m10 (before .before))) → Typed.Mo T27
       m25 = λ before given. s23 (m24 before given)
+
       abbrev pub Need-returns : Type 0
-      Need-returns = (c : After-room-spared) → Post· (c .before .before .before .before .before .κs) (dens (c .before .before .before .before .before
-          .κs) (c .before .before .before .before .before .args)) (Function.resV r (c .before .before .before .before .before .κs) (m25 (c .before)
-          (After-room-spared·gave c) .0)) (Clauses.atExit (Kinds.endedOf 1 ps r) (c .before .before .before .before .before .κs) (dens (c .before
-          .before .before .before .before .κs) (c .before .before .before .before .before .args)) (Enter.lastsP (c .before .before .before .before
-          .before .κs) 1 ps xs (dens (c .before .before .before .before .before .κs) (c .before .before .before .before .before .args)) (m25 (c
-          .before) (After-room-spared·gave c) .1)))
-      module _ (min-usize-requires : Need-min-usize-requires) (no-room-requires : Need-no-room-requires) (loop-holds : Need-loop-holds) (mul-row :
-          Need-mul-row) (shared-slice-copy-out-row : Need-shared-slice-copy-out-row) (room-on-requires : Need-room-on-requires) (add-i : Need-add-i)
-          (loop-less : Need-loop-less) (loop-again : Need-loop-again) (room-spared-requires : Need-room-spared-requires) (returns : Need-returns)
-          where
-        lay8 : (c : After-room-spared) → at24 (W0 (c .before .before .before .before .before .κs) (c .before .before .before .before .before .args))
-            (m21 (c .before) (After-room-spared·gave c))
-        lay8 = λ c. ((Path.refl, (tt, (tt, tt))), returns record { before = c .before; room-spared = c .room-spared },)
-        lay7 : (c : After-loop) → at25 (W0 (c .before .before .before .before .κs) (c .before .before .before .before .args)) (m10 (c .before))
-        lay7 = λ c. (room-spared-requires record { before = c .before; loop-test = c .loop-test }, λ g. lay8 record { before = record { before = c
-            .before; loop-test = c .loop-test }; room-spared = Called.called ps·3 r·3 (claims· .7) T7 (record { pos = 6; st = List.[]; d = 0; at = λ
-            x. x }, (Num.vAt 7 λ x. x, (Num.vAt 4 λ x. x, tt)),) (m10 (c .before)) g; },)
-        lay6 : (c : After-room-on) → at7 (W3 (c .before .before .before .before) (c .before .before .before .loop .room) (c .before .before .before
-            .loop .i)) (m18 (c .before) (After-room-on·gave c))
-        lay6 = λ c. (add-i record { before = c .before; room-on = c .room-on }, (μ·0 (Row.get 1 (T6 .locals) (m5 (c .before .before .before .before
-            .before) (After-no-room·gave (c .before .before .before .before))) .now) (Row.get 3 (T6 .locals) (m5 (c .before .before .before .before
-            .before) (After-no-room·gave (c .before .before .before .before)))) (Row.get 4 (T6 .locals) (m5 (c .before .before .before .before
-            .before) (After-no-room·gave (c .before .before .before .before)))) (Row.get 5 (T6 .locals) (m5 (c .before .before .before .before
-            .before) (After-no-room·gave (c .before .before .before .before)))) (Row.get 6 (T6 .locals) (m5 (c .before .before .before .before
-            .before) (After-no-room·gave (c .before .before .before .before)))) (Row.get 7 (T6 .locals) (m5 (c .before .before .before .before
-            .before) (After-no-room·gave (c .before .before .before .before)))) (Row.get 6 (T6 .locals) (m20 (c .before) (After-room-on·gave c)))
-            (Row.get 7 (T6 .locals) (m20 (c .before) (After-room-on·gave c))), loop-less record { before = c .before; room-on = c .room-on },
-            ((Row.get 6 (T6 .locals) (m20 (c .before) (After-room-on·gave c)), Row.get 7 (T6 .locals) (m20 (c .before) (After-room-on·gave c)),),
-            Path.refl { a = m20 (c .before) (After-room-on·gave c) }, loop-again record { before = c .before; room-on = c .room-on }, Path.refl { a =
-            μ·0 (Row.get 1 (T6 .locals) (m5 (c .before .before .before .before .before) (After-no-room·gave (c .before .before .before .before)))
-            .now) (Row.get 3 (T6 .locals) (m5 (c .before .before .before .before .before) (After-no-room·gave (c .before .before .before .before))))
-            (Row.get 4 (T6 .locals) (m5 (c .before .before .before .before .before) (After-no-room·gave (c .before .before .before .before))))
-            (Row.get 5 (T6 .locals) (m5 (c .before .before .before .before .before) (After-no-room·gave (c .before .before .before .before))))
-            (Row.get 6 (T6 .locals) (m5 (c .before .before .before .before .before) (After-no-room·gave (c .before .before .before .before))))
-            (Row.get 7 (T6 .locals) (m5 (c .before .before .before .before .before) (After-no-room·gave (c .before .before .before .before))))
-            (Row.get 6 (T6 .locals) (m20 (c .before) (After-room-on·gave c))) (Row.get 7 (T6 .locals) (m20 (c .before) (After-room-on·gave c)))
-            },),),)
-        lay5 : (c : In-loop) → at15 (W3 (c .before .before) (c .before .loop .room) (c .before .loop .i)) (m8 (c .before))
-        lay5 = λ c. (mul-row record { before = c .before; loop-test = c .loop-test }, (tt, ((Path.refl, Path.refl, shared-slice-copy-out-row record {
-            before = c .before; loop-test = c .loop-test },), λ g. (room-on-requires record { before = record { before = c .before; loop-test = c
-            .loop-test }; row = record { given = g }; }, λ g'. lay6 record { before = record { before = record { before = c .before; loop-test = c
-            .loop-test }; row = record { given = g }; }; room-on = Called.called ps·2 r·2 (claims· .5) T19 (record { pos = 6; st = List.[]; d = 0; at
-            = λ x. x }, (record { pos = 8; st = List.[]; d = 0; at = λ x. x }, (record { pos = 3; st = List.[]; d = 0; at = λ x. x }, (Num.vAt 7 λ x.
-            x, tt),),),) (m17 record { before = c .before; loop-test = c .loop-test } g) g'; },),),),)
-        lay4 : (c : After-loop) → at4 (W4 (c .before .before) (c .before .loop .room) (c .before .loop .i)) (m7 (c .before .before) (c .before .loop
-            .room) (c .before .loop .i))
+      Need-returns = (c : After-room-spared) → Post· (c .before .before .before .before .before .κs) (dens
+          (c .before .before .before .before .before .κs) (c .before .before .before .before .before .args)) (Function.resV
+          r (c .before .before .before .before .before .κs) (m25 (c .before) (After-room-spared·gave c) .0)) (Clauses.atExit
+          (Kinds.endedOf 1 ps r) (c .before .before .before .before .before .κs) (dens
+          (c .before .before .before .before .before .κs) (c .before .before .before .before .before .args)) (Enter.lastsP
+          (c .before .before .before .before .before .κs) 1 ps xs (dens (c .before .before .before .before .before .κs)
+          (c .before .before .before .before .before .args)) (m25 (c .before) (After-room-spared·gave c) .1)))
+
+      module _ (min-usize-requires : Need-min-usize-requires) (no-room-requires : Need-no-room-requires)
+          (loop-holds : Need-loop-holds) (mul-row : Need-mul-row) (shared-slice-copy-out-row :
+          Need-shared-slice-copy-out-row) (room-on-requires : Need-room-on-requires) (add-i : Need-add-i)
+          (loop-less : Need-loop-less) (loop-again : Need-loop-again)
+          (room-spared-requires : Need-room-spared-requires) (returns : Need-returns) where
+        lay8 : (c : After-room-spared) → at24 (W0 (c .before .before .before .before .before .κs)
+            (c .before .before .before .before .before .args)) (m21 (c .before) (After-room-spared·gave c))
+        lay8 = λ c. ((Path.refl, (tt, (tt, tt))), returns record { before = c .before; room-spared = c .room-spared })
+
+        lay7 : (c : After-loop) → at25 (W0 (c .before .before .before .before .κs)
+            (c .before .before .before .before .args)) (m10 (c .before))
+        lay7 = λ c. (
+          room-spared-requires record { before = c .before; loop-test = c .loop-test },
+          λ g. lay8 record {
+            before = record { before = c .before; loop-test = c .loop-test };
+            room-spared = Called.called ps·3 r·3 (claims· .7) T7 args19 (m10 (c .before)) g;
+          },
+        )
+
+        lay6 : (c : After-room-on) → at7 (W3 (c .before .before .before .before)
+            (c .before .before .before .loop .room) (c .before .before .before .loop .i))
+            (m18 (c .before) (After-room-on·gave c))
+        lay6 = λ c. (
+          add-i record { before = c .before; room-on = c .room-on },
+          (
+            μ·0 (Row.get 1 (T6 .locals) (m5 (c .before .before .before .before .before)
+                (After-no-room·gave (c .before .before .before .before))) .now) (Row.get 3 (T6 .locals) (m5
+                (c .before .before .before .before .before) (After-no-room·gave (c .before .before .before .before)))) (Row.get
+                4 (T6 .locals) (m5 (c .before .before .before .before .before)
+                (After-no-room·gave (c .before .before .before .before)))) (Row.get 5 (T6 .locals) (m5
+                (c .before .before .before .before .before) (After-no-room·gave (c .before .before .before .before)))) (Row.get
+                6 (T6 .locals) (m5 (c .before .before .before .before .before)
+                (After-no-room·gave (c .before .before .before .before)))) (Row.get 7 (T6 .locals) (m5
+                (c .before .before .before .before .before) (After-no-room·gave (c .before .before .before .before)))) (Row.get
+                6 (T6 .locals) (m20 (c .before) (After-room-on·gave c))) (Row.get 7 (T6 .locals)
+                (m20 (c .before) (After-room-on·gave c))),
+            loop-less record { before = c .before; room-on = c .room-on },
+            (
+              (
+                Row.get 6 (T6 .locals) (m20 (c .before) (After-room-on·gave c)),
+                Row.get 7 (T6 .locals) (m20 (c .before) (After-room-on·gave c)),
+              ),
+              Path.refl {a = m20 (c .before) (After-room-on·gave c)},
+              loop-again record { before = c .before; room-on = c .room-on },
+              Path.refl {a = μ·0 (Row.get 1 (T6 .locals) (m5 (c .before .before .before .before .before)
+                  (After-no-room·gave (c .before .before .before .before))) .now) (Row.get 3 (T6 .locals) (m5
+                  (c .before .before .before .before .before) (After-no-room·gave (c .before .before .before .before)))) (Row.get
+                  4 (T6 .locals) (m5 (c .before .before .before .before .before)
+                  (After-no-room·gave (c .before .before .before .before)))) (Row.get 5 (T6 .locals) (m5
+                  (c .before .before .before .before .before) (After-no-room·gave (c .before .before .before .before)))) (Row.get
+                  6 (T6 .locals) (m5 (c .before .before .before .before .before)
+                  (After-no-room·gave (c .before .before .before .before)))) (Row.get 7 (T6 .locals) (m5
+                  (c .before .before .before .before .before) (After-no-room·gave (c .before .before .before .before)))) (Row.get
+                  6 (T6 .locals) (m20 (c .before) (After-room-on·gave c))) (Row.get 7 (T6 .locals)
+                  (m20 (c .before) (After-room-on·gave c)))},
+            ),
+          ),
+        )
+
+        lay5 : (c : In-loop) → at15 (W3 (c .before .before) (c .before .loop .room) (c .before .loop .i))
+            (m8 (c .before))
+        lay5 = λ c. (
+          mul-row record { before = c .before; loop-test = c .loop-test },
+          (
+            tt,
+            (
+              (
+                Path.refl,
+                Path.refl,
+                shared-slice-copy-out-row record { before = c .before; loop-test = c .loop-test },
+              ),
+              λ g. (
+                room-on-requires record {
+                  before = record { before = c .before; loop-test = c .loop-test };
+                  row = record { given = g };
+                },
+                λ g'. lay6 record {
+                  before = record {
+                    before = record { before = c .before; loop-test = c .loop-test };
+                    row = record { given = g };
+                  };
+                  room-on = Called.called ps·2 r·2 (claims· .5) T19 args16 (m17
+                      record { before = c .before; loop-test = c .loop-test } g) g';
+                },
+              ),
+            ),
+          ),
+        )
+
+        lay4 : (c : After-loop) → at4 (W4 (c .before .before) (c .before .loop .room) (c .before .loop .i)) (m7
+            (c .before .before) (c .before .loop .room) (c .before .loop .i))
         lay4 = λ c. lay7 record { before = c .before; loop-test = c .loop-test }
-        lay3 : (c : In-loop) → at1 (W4 (c .before .before) (c .before .loop .room) (c .before .loop .i)) (m7 (c .before .before) (c .before .loop
-            .room) (c .before .loop .i))
+
+        lay3 : (c : In-loop) → at1 (W4 (c .before .before) (c .before .loop .room) (c .before .loop .i)) (m7
+            (c .before .before) (c .before .loop .room) (c .before .loop .i))
         lay3 = λ c. lay5 record { before = c .before; loop-test = c .loop-test }
-        lay2 : (c : After-no-room) → at27 (W0 (c .before .before .κs) (c .before .before .args)) (m4 (c .before) (After-no-room·gave c))
-        lay2 = λ c. (((Row.get 6 (T6 .locals) (m5 (c .before) (After-no-room·gave c)), Row.get 7 (T6 .locals) (m5 (c .before) (After-no-room·gave
-            c)),), Path.refl { a = m5 (c .before) (After-no-room·gave c) }, loop-holds record { before = c .before; no-room = c .no-room },), λ vs
-            inv. (tt, (λ taken. lay3 record { before = record { before = record { before = c .before; no-room = c .no-room }; loop = record { room =
-            vs .0; i = vs .1; inv = inv }; }; loop-test = record { taken = Tests.ltb-true (Row.get 7 (T6 .locals) (m6 record { before = c .before;
-            no-room = c .no-room; } (vs .0) (vs .1))) (Row.get 5 (T6 .locals) (m6 record { before = c .before; no-room = c .no-room; } (vs .0) (vs
-            .1))) taken; }; }, λ left. lay4 record { before = record { before = record { before = c .before; no-room = c .no-room }; loop = record {
-            room = vs .0; i = vs .1; inv = inv }; }; loop-test = record { left = Tests.ltb-false (Row.get 7 (T6 .locals) (m6 record { before = c
-            .before; no-room = c .no-room; } (vs .0) (vs .1))) (Row.get 5 (T6 .locals) (m6 record { before = c .before; no-room = c .no-room; } (vs
-            .0) (vs .1))) left; }; },),),)
-        lay1 : (c : After-min-usize) → at29 (W0 (c .before .κs) (c .before .args)) (m2 (c .before) (After-min-usize·gave c))
-        lay1 = λ c. (no-room-requires record { before = c .before; min-usize = c .min-usize }, λ g. lay2 record { before = record { before = c
-            .before; min-usize = c .min-usize }; no-room = Called.called ps·1 r·1 (claims· .3) T4 (Num.vAt 4 λ x. x, tt) (m3 (c .before)
-            (After-min-usize·gave c)) g; },)
+
+        lay2 : (c : After-no-room) → at27 (W0 (c .before .before .κs) (c .before .before .args))
+            (m4 (c .before) (After-no-room·gave c))
+        lay2 = λ c. (
+          (
+            (
+              Row.get 6 (T6 .locals) (m5 (c .before) (After-no-room·gave c)),
+              Row.get 7 (T6 .locals) (m5 (c .before) (After-no-room·gave c)),
+            ),
+            Path.refl {a = m5 (c .before) (After-no-room·gave c)},
+            loop-holds record { before = c .before; no-room = c .no-room },
+          ),
+          λ vs inv. (
+            tt,
+            (
+              λ taken. lay3 record {
+                before = record {
+                  before = record { before = c .before; no-room = c .no-room };
+                  loop = record { room = vs .0; i = vs .1; inv = inv };
+                };
+                loop-test = record {
+                  taken = Tests.ltb-true (Row.get 7 (T6 .locals) (m6 record {
+                    before = c .before;
+                    no-room = c .no-room;
+                  } (vs .0) (vs .1))) (Row.get 5 (T6 .locals) (m6 record { before = c .before; no-room = c .no-room }
+                      (vs .0) (vs .1))) taken;
+                };
+              },
+              λ left. lay4 record {
+                before = record {
+                  before = record { before = c .before; no-room = c .no-room };
+                  loop = record { room = vs .0; i = vs .1; inv = inv };
+                };
+                loop-test = record {
+                  left = Tests.ltb-false (Row.get 7 (T6 .locals) (m6 record {
+                    before = c .before;
+                    no-room = c .no-room;
+                  } (vs .0) (vs .1))) (Row.get 5 (T6 .locals) (m6 record { before = c .before; no-room = c .no-room }
+                      (vs .0) (vs .1))) left;
+                };
+              },
+            ),
+          ),
+        )
+
+        lay1 : (c : After-min-usize) → at29 (W0 (c .before .κs) (c .before .args))
+            (m2 (c .before) (After-min-usize·gave c))
+        lay1 = λ c. (
+          no-room-requires record { before = c .before; min-usize = c .min-usize },
+          λ g. lay2 record {
+            before = record { before = c .before; min-usize = c .min-usize };
+            no-room = Called.called ps·1 r·1 (claims· .3) T4 args3 (m3 (c .before) (After-min-usize·gave c)) g;
+          },
+        )
+
         pub laid : (c : Start) → at31 (W0 (c .κs) (c .args)) (m0 (c .κs) (c .args))
-        laid = λ c. (min-usize-requires c, λ g. lay1 record { before = c; min-usize = Called.called ps·0 r·0 (claims· .1) T2 (Num.vFld 2
-            ((Syntax.field 2) ∷ List.[]) 16 λ x. Places.struct .as-values x .1 .1 .0, (Num.vAt 4 λ x. x, tt),) (m1 (c .κs) (c .args)) g; },)
+        laid = λ c. (
+          min-usize-requires c,
+          λ g. lay1 record {
+            before = c;
+            min-usize = Called.called ps·0 r·0 (claims· .1) T2 args1 (m1 (c .κs) (c .args)) g;
+          },
+        )
+
         module _ (κs : Lifetimes.Lfts 1) (qs : Lifetimes.Shares 1) where
-          pub asked : (a : Kinds.Dens κs ps) → (good : Kinds.GoodsP κs ps a) → (pre : Pre· κs a) → (bs : List.List Nat.ℕ) → Φ (Any.wantQ 1 ps r xs m
-              κs qs a (Post· κs a)) (Function.init 1 ps r xs m κs qs a)
-          asked = λ a good pre bs. laid record { κs = κs; args = record { ledger = a .0; places = a .1 .0; id = a .1 .1 .0 }; good = good; pre = pre;
-              }
-        module _ { M : Type 1 } (𝓤 : URA.URA M) (H : Wp.Heap 𝓤) (A : Atoms.Atoms 𝓤) (W : Kit.Given 𝓤 H A) (𝓣 : Wp.Tables 𝓤 H) (known0 : Plain.Known 𝓤
-            H A W 𝓣 0 ps·0 r·0 (claims· .0) (claims· .1) "hns_encoding::numbers::min_usize") (known1 : Plain.Known 𝓤 H A W 𝓣 0 ps·1 r·1 (claims· .2)
-            (claims· .3) "hnsr_circuit::scan::no_room") (known2 : Plain.Known 𝓤 H A W 𝓣 0 ps·2 r·2 (claims· .4) (claims· .5)
-            "hnsr_circuit::scan::room_on") (known3 : Plain.Known 𝓤 H A W 𝓣 0 ps·3 r·3 (claims· .6) (claims· .7) "hnsr_circuit::places::room_spared")
-            where
-          pub spec : Statement.Triple 𝓤 (Wp.WpFn 𝓤 H (𝓣 .C) (𝓣 .Λ) (Function.fnOf 1 ps r xs m hs body)) (Function.plainOf 𝓤 H A 1 ps r Pre· Post·)
-          spec = Plain.t-fn-plain 𝓤 H A W 𝓣 1 ps r xs m hs body (λ κs qs bs. Φ) (λ κs qs bs bd. typed κs qs 𝓤 H A W 𝓣 (known0, known1, known2, known3)
-              bs bd) Pre· Post· asked
+          pub asked : (a : Kinds.Dens κs ps) → (good : Kinds.GoodsP κs ps a) → (pre : Pre· κs a) →
+              (bs : List.List Nat.ℕ) → Φ (Any.wantQ 1 ps r xs m κs qs a (Post· κs a))
+              (Function.init 1 ps r xs m κs qs a)
+          asked = λ a good pre bs. laid record {
+            κs = κs;
+            args = record { ledger = a .0; places = a .1 .0; id = a .1 .1 .0 };
+            good = good;
+            pre = pre;
+          }
+
+        module _ {M : Type 1} (𝓤 : URA.URA M) (H : Wp.Heap 𝓤) (A : Atoms.Atoms 𝓤) (W : Kit.Given 𝓤 H A)
+            (𝓣 : Wp.Tables 𝓤 H) (known0 : Plain.Known 𝓤 H A W 𝓣 0 ps·0 r·0 (claims· .0) (claims· .1)
+            "hns_encoding::numbers::min_usize") (known1 : Plain.Known 𝓤 H A W 𝓣 0 ps·1 r·1 (claims· .2) (claims· .3)
+            "hnsr_circuit::scan::no_room") (known2 : Plain.Known 𝓤 H A W 𝓣 0 ps·2 r·2 (claims· .4) (claims· .5)
+            "hnsr_circuit::scan::room_on") (known3 : Plain.Known 𝓤 H A W 𝓣 0 ps·3 r·3 (claims· .6) (claims· .7)
+            "hnsr_circuit::places::room_spared") where
+          pub spec : Statement.Triple 𝓤 (Wp.WpFn 𝓤 H (𝓣 .C) (𝓣 .Λ) (Function.fnOf 1 ps r xs m hs body))
+              (Function.plainOf 𝓤 H A 1 ps r Pre· Post·)
+          spec = Plain.t-fn-plain 𝓤 H A W 𝓣 1 ps r xs m hs body (λ κs qs bs. Φ) (λ κs qs bs bd. typed κs qs 𝓤 H A W 𝓣
+              (known0, known1, known2, known3) bs bd) Pre· Post· asked

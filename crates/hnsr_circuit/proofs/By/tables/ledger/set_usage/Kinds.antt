@@ -7,6 +7,8 @@ use mir.Syntax
 use mathlib.Core.List.{_∷_}
 
 abbrev pub ps : List.List (Kinds.PK 1)
-ps = (MutSlice.pMutS ReservationUsage.row 0 tt) ∷ Kinds.pBool ∷ (Kinds.pNum Syntax.w64) ∷ ReservationUsage.param ∷ List.[]
+ps = (MutSlice.pMutS ReservationUsage.row 0 tt) ∷ Kinds.pBool ∷ (Kinds.pNum Syntax.w64) ∷ ReservationUsage.param ∷
+    List.[]
+
 abbrev pub r : Kinds.RK 1
 r = Kinds.rUnit

@@ -8,5 +8,6 @@ use mathlib.Core.List.{_∷_}
 
 abbrev pub ps : List.List (Kinds.PK 1)
 ps = (MutSlice.pMutS ReservationUsage.row 0 tt) ∷ Kinds.pBool ∷ (Kinds.pNum Syntax.w64) ∷ List.[]
+
 abbrev pub r : Kinds.RK 1
 r = Kinds.rUnit

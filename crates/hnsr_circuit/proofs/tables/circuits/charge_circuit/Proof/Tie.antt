@@ -15,68 +15,63 @@ use borrow.Fn.Run
 use borrow.Fn.Written
 use contract.Running
 
+abbrev pub readings : Lts.Claims
+readings = (Reads''.Asked, Reads''.Learnt, Reads.Asked, Reads.Learnt)
+
 abbrev pub Start : Type 0
-Start = Lts.Start (Reads''.Asked, Reads''.Learnt, Reads.Asked, Reads.Learnt) Reads'.Pre Reads'.Post
+Start = Lts.Start readings Reads'.Pre Reads'.Post
 
 abbrev pub After-within : Type 0
-After-within = Lts.After-within (Reads''.Asked, Reads''.Learnt, Reads.Asked, Reads.Learnt) Reads'.Pre Reads'.Post
+After-within = Lts.After-within readings Reads'.Pre Reads'.Post
 
 abbrev pub Then1 : Type 0
-Then1 = Lts.Then1 (Reads''.Asked, Reads''.Learnt, Reads.Asked, Reads.Learnt) Reads'.Pre Reads'.Post
+Then1 = Lts.Then1 readings Reads'.Pre Reads'.Post
 
 abbrev pub After-charge-arg : Type 0
-After-charge-arg = Lts.After-charge-arg (Reads''.Asked, Reads''.Learnt, Reads.Asked, Reads.Learnt) Reads'.Pre Reads'.Post
+After-charge-arg = Lts.After-charge-arg readings Reads'.Pre Reads'.Post
 
 abbrev pub After-charge : Type 0
-After-charge = Lts.After-charge (Reads''.Asked, Reads''.Learnt, Reads.Asked, Reads.Learnt) Reads'.Pre Reads'.Post
+After-charge = Lts.After-charge readings Reads'.Pre Reads'.Post
 
 abbrev pub Else1 : Type 0
-Else1 = Lts.Else1 (Reads''.Asked, Reads''.Learnt, Reads.Asked, Reads.Learnt) Reads'.Pre Reads'.Post
+Else1 = Lts.Else1 readings Reads'.Pre Reads'.Post
 
 abbrev pub Need-within-requires : Type 0
-Need-within-requires = Lts.Need-within-requires (Reads''.Asked, Reads''.Learnt, Reads.Asked, Reads.Learnt) Reads'.Pre Reads'.Post
+Need-within-requires = Lts.Need-within-requires readings Reads'.Pre Reads'.Post
 
 abbrev pub Need-mul-charge : Type 0
-Need-mul-charge = Lts.Need-mul-charge (Reads''.Asked, Reads''.Learnt, Reads.Asked, Reads.Learnt) Reads'.Pre Reads'.Post
+Need-mul-charge = Lts.Need-mul-charge readings Reads'.Pre Reads'.Post
 
 abbrev pub Need-index-1-charge : Type 0
-Need-index-1-charge = Lts.Need-index-1-charge (Reads''.Asked, Reads''.Learnt, Reads.Asked, Reads.Learnt) Reads'.Pre Reads'.Post
+Need-index-1-charge = Lts.Need-index-1-charge readings Reads'.Pre Reads'.Post
 
 abbrev pub Need-charge-requires : Type 0
-Need-charge-requires = Lts.Need-charge-requires (Reads''.Asked, Reads''.Learnt, Reads.Asked, Reads.Learnt) Reads'.Pre Reads'.Post
+Need-charge-requires = Lts.Need-charge-requires readings Reads'.Pre Reads'.Post
 
 abbrev pub Need-same-length : Type 0
-Need-same-length = Lts.Need-same-length (Reads''.Asked, Reads''.Learnt, Reads.Asked, Reads.Learnt) Reads'.Pre Reads'.Post
+Need-same-length = Lts.Need-same-length readings Reads'.Pre Reads'.Post
 
 abbrev pub Need-returns : Type 0
-Need-returns = Lts.Need-returns (Reads''.Asked, Reads''.Learnt, Reads.Asked, Reads.Learnt) Reads'.Pre Reads'.Post
+Need-returns = Lts.Need-returns readings Reads'.Pre Reads'.Post
 
 abbrev pub Need-returns-2 : Type 0
-Need-returns-2 = Lts.Need-returns-2 (Reads''.Asked, Reads''.Learnt, Reads.Asked, Reads.Learnt) Reads'.Pre Reads'.Post
+Need-returns-2 = Lts.Need-returns-2 readings Reads'.Pre Reads'.Post
 
 module _ {M : Type 1} where
-  pub spec : (answer : Need-within-requires) → (answer : Need-mul-charge) → (answer : Need-index-1-charge) → (answer : Need-charge-requires) → (answer
-      : Need-same-length) → (answer : Need-returns) → (answer : Need-returns-2) → Lts.Closed (
-        Reads''.Asked,
-        Reads''.Learnt,
-        Reads.Asked,
-        Reads.Learnt,
-      ) Reads'.Pre Reads'.Post M
-  spec = λ answer answer' answer'' answer'3 answer'4 answer'5 answer'6. Lts.spec (Reads''.Asked, Reads''.Learnt, Reads.Asked, Reads.Learnt)
-      Reads'.Pre Reads'.Post answer answer' answer'' answer'3 answer'4 answer'5 answer'6
+  pub spec : (answer : Need-within-requires) → (answer : Need-mul-charge) → (answer : Need-index-1-charge) →
+      (answer : Need-charge-requires) → (answer : Need-same-length) → (answer : Need-returns) →
+      (answer : Need-returns-2) → Lts.Closed readings Reads'.Pre Reads'.Post M
+  spec = λ answer answer' answer'' answer'3 answer'4 answer'5 answer'6. Lts.spec readings Reads'.Pre Reads'.Post answer
+      answer' answer'' answer'3 answer'4 answer'5 answer'6
 
-  pub close : Lts.Closed (Reads''.Asked, Reads''.Learnt, Reads.Asked, Reads.Learnt) Reads'.Pre Reads'.Post M → Statement.statement M
+  pub close : Lts.Closed readings Reads'.Pre Reads'.Post M → Statement.statement M
   unfolding Code.routine Running.tablesOf
-  close = λ closed 𝓤 H 𝓜 𝓖 𝓡. Written.close 1 Kinds.ps Kinds.r Reads'.Ghost Reads'.requires Reads'.ensures Reads'.pre-read Reads'.Pinned Reads'.Owned
-      Reads'.post-read record { M = M; 𝓤 = 𝓤; H = H; 𝓜 = 𝓜; 𝓖 = 𝓖; 𝓡 = 𝓡 } Code.env Key.name Code.function (Code.unfolded 𝓤 H 𝓜 𝓡) (λ κs a g. tt) (λ
-      κs. Reads'.owns κs record { M = M; 𝓤 = 𝓤; H = H; 𝓜 = 𝓜; 𝓖 = 𝓖; 𝓡 = 𝓡 }) (Reads'.passes record { M = M; 𝓤 = 𝓤; H = H; 𝓜 = 𝓜; 𝓖 = 𝓖; 𝓡 = 𝓡 }) λ g.
-      closed 𝓤 H (𝓖 .A) (Running.givenOf 𝓤 H 𝓜 𝓖) (Run.Over 𝓤 H 𝓜 𝓖 𝓡 Code.env) (Reads''.known record { M = M; 𝓤 = 𝓤; H = H; 𝓜 = 𝓜; 𝓖 = 𝓖; 𝓡 = 𝓡 }
-      Code.env Symbol.name Symbol.routine Code.calls-hnsr-circuit·scan·within (Met.met 𝓤 H 𝓜 𝓖 𝓡)) (Reads.known record {
-        M = M;
-        𝓤 = 𝓤;
-        H = H;
-        𝓜 = 𝓜;
-        𝓖
-            = 𝓖;
-        𝓡 = 𝓡;
-      } Code.env Symbol'.name Symbol'.routine Code.calls-hnsr-circuit·tables·circuits·charge (Met'.met 𝓤 H 𝓜 𝓖 𝓡))
+  close = λ closed 𝓤 H 𝓜 𝓖 𝓡. Written.close 1 Kinds.ps Kinds.r Reads'.Ghost Reads'.requires Reads'.ensures
+      Reads'.pre-read Reads'.Pinned Reads'.Owned Reads'.post-read record { M = M; 𝓤 = 𝓤; H = H; 𝓜 = 𝓜; 𝓖 = 𝓖; 𝓡 = 𝓡 }
+      Code.env Key.name Code.function (Code.unfolded 𝓤 H 𝓜 𝓡) (λ κs a g. tt) (λ κs. Reads'.owns κs
+      record { M = M; 𝓤 = 𝓤; H = H; 𝓜 = 𝓜; 𝓖 = 𝓖; 𝓡 = 𝓡 }) (Reads'.passes
+      record { M = M; 𝓤 = 𝓤; H = H; 𝓜 = 𝓜; 𝓖 = 𝓖; 𝓡 = 𝓡 }) λ g. closed 𝓤 H (𝓖 .A) (Running.givenOf 𝓤 H 𝓜 𝓖)
+      (Run.Over 𝓤 H 𝓜 𝓖 𝓡 Code.env) (Reads''.known record { M = M; 𝓤 = 𝓤; H = H; 𝓜 = 𝓜; 𝓖 = 𝓖; 𝓡 = 𝓡 } Code.env
+      Symbol.name Symbol.routine Code.calls-hnsr-circuit·scan·within (Met.met 𝓤 H 𝓜 𝓖 𝓡)) (Reads.known
+      record { M = M; 𝓤 = 𝓤; H = H; 𝓜 = 𝓜; 𝓖 = 𝓖; 𝓡 = 𝓡 } Code.env Symbol'.name Symbol'.routine
+      Code.calls-hnsr-circuit·tables·circuits·charge (Met'.met 𝓤 H 𝓜 𝓖 𝓡))

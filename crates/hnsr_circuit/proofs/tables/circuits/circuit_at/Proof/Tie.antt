@@ -15,64 +15,63 @@ use borrow.Fn.Run
 use borrow.Fn.Written
 use contract.Running
 
+abbrev pub readings : Lts.Claims
+readings = (Reads''.Asked, Reads''.Learnt, Reads'.Asked, Reads'.Learnt)
+
 abbrev pub Start : Type 0
-Start = Lts.Start (Reads''.Asked, Reads''.Learnt, Reads'.Asked, Reads'.Learnt) Reads.Pre Reads.Post
+Start = Lts.Start readings Reads.Pre Reads.Post
 
 abbrev pub Then1 : Type 0
-Then1 = Lts.Then1 (Reads''.Asked, Reads''.Learnt, Reads'.Asked, Reads'.Learnt) Reads.Pre Reads.Post
+Then1 = Lts.Then1 readings Reads.Pre Reads.Post
 
 abbrev pub After-row : Type 0
-After-row = Lts.After-row (Reads''.Asked, Reads''.Learnt, Reads'.Asked, Reads'.Learnt) Reads.Pre Reads.Post
+After-row = Lts.After-row readings Reads.Pre Reads.Post
 
 abbrev pub After-struct-known : Type 0
-After-struct-known = Lts.After-struct-known (Reads''.Asked, Reads''.Learnt, Reads'.Asked, Reads'.Learnt) Reads.Pre Reads.Post
+After-struct-known = Lts.After-struct-known readings Reads.Pre Reads.Post
 
 abbrev pub After-held-circuit : Type 0
-After-held-circuit = Lts.After-held-circuit (Reads''.Asked, Reads''.Learnt, Reads'.Asked, Reads'.Learnt) Reads.Pre Reads.Post
+After-held-circuit = Lts.After-held-circuit readings Reads.Pre Reads.Post
 
 abbrev pub Else1 : Type 0
-Else1 = Lts.Else1 (Reads''.Asked, Reads''.Learnt, Reads'.Asked, Reads'.Learnt) Reads.Pre Reads.Post
+Else1 = Lts.Else1 readings Reads.Pre Reads.Post
 
 abbrev pub After-no-circuit : Type 0
-After-no-circuit = Lts.After-no-circuit (Reads''.Asked, Reads''.Learnt, Reads'.Asked, Reads'.Learnt) Reads.Pre Reads.Post
+After-no-circuit = Lts.After-no-circuit readings Reads.Pre Reads.Post
 
 abbrev pub Need-mul-row : Type 0
-Need-mul-row = Lts.Need-mul-row (Reads''.Asked, Reads''.Learnt, Reads'.Asked, Reads'.Learnt) Reads.Pre Reads.Post
+Need-mul-row = Lts.Need-mul-row readings Reads.Pre Reads.Post
 
 abbrev pub Need-shared-slice-copy-out-row : Type 0
-Need-shared-slice-copy-out-row = Lts.Need-shared-slice-copy-out-row (Reads''.Asked, Reads''.Learnt, Reads'.Asked, Reads'.Learnt) Reads.Pre Reads.Post
+Need-shared-slice-copy-out-row = Lts.Need-shared-slice-copy-out-row readings Reads.Pre Reads.Post
 
 abbrev pub Need-held-circuit-requires : Type 0
-Need-held-circuit-requires = Lts.Need-held-circuit-requires (Reads''.Asked, Reads''.Learnt, Reads'.Asked, Reads'.Learnt) Reads.Pre Reads.Post
+Need-held-circuit-requires = Lts.Need-held-circuit-requires readings Reads.Pre Reads.Post
 
 abbrev pub Need-returns : Type 0
-Need-returns = Lts.Need-returns (Reads''.Asked, Reads''.Learnt, Reads'.Asked, Reads'.Learnt) Reads.Pre Reads.Post
+Need-returns = Lts.Need-returns readings Reads.Pre Reads.Post
 
 abbrev pub Need-no-circuit-requires : Type 0
-Need-no-circuit-requires = Lts.Need-no-circuit-requires (Reads''.Asked, Reads''.Learnt, Reads'.Asked, Reads'.Learnt) Reads.Pre Reads.Post
+Need-no-circuit-requires = Lts.Need-no-circuit-requires readings Reads.Pre Reads.Post
 
 abbrev pub Need-returns-2 : Type 0
-Need-returns-2 = Lts.Need-returns-2 (Reads''.Asked, Reads''.Learnt, Reads'.Asked, Reads'.Learnt) Reads.Pre Reads.Post
+Need-returns-2 = Lts.Need-returns-2 readings Reads.Pre Reads.Post
 
 module _ {M : Type 1} where
-  pub spec : (answer : Need-mul-row) → (answer : Need-shared-slice-copy-out-row) → (answer : Need-held-circuit-requires) → (answer : Need-returns) →
-      (answer : Need-no-circuit-requires) → (answer : Need-returns-2) → Lts.Closed (Reads''.Asked, Reads''.Learnt, Reads'.Asked, Reads'.Learnt)
-      Reads.Pre Reads.Post M
-  spec = λ answer answer' answer'' answer'3 answer'4 answer'5. Lts.spec (Reads''.Asked, Reads''.Learnt, Reads'.Asked, Reads'.Learnt) Reads.Pre
-      Reads.Post answer answer' answer'' answer'3 answer'4 answer'5
+  pub spec : (answer : Need-mul-row) → (answer : Need-shared-slice-copy-out-row) →
+      (answer : Need-held-circuit-requires) → (answer : Need-returns) → (answer : Need-no-circuit-requires) →
+      (answer : Need-returns-2) → Lts.Closed readings Reads.Pre Reads.Post M
+  spec = λ answer answer' answer'' answer'3 answer'4 answer'5. Lts.spec readings Reads.Pre Reads.Post answer answer'
+      answer'' answer'3 answer'4 answer'5
 
-  pub close : Lts.Closed (Reads''.Asked, Reads''.Learnt, Reads'.Asked, Reads'.Learnt) Reads.Pre Reads.Post M → Statement.statement M
+  pub close : Lts.Closed readings Reads.Pre Reads.Post M → Statement.statement M
   unfolding Code.routine Running.tablesOf
-  close = λ closed 𝓤 H 𝓜 𝓖 𝓡. Written.close 1 Kinds.ps Kinds.r Reads.Ghost Reads.requires Reads.ensures Reads.pre-read Reads.Pinned Reads.Owned
-      Reads.post-read record { M = M; 𝓤 = 𝓤; H = H; 𝓜 = 𝓜; 𝓖 = 𝓖; 𝓡 = 𝓡 } Code.env Key.name Code.function (Code.unfolded 𝓤 H 𝓜 𝓡) (λ κs a g. tt) (λ
-      κs. Reads.owns κs record { M = M; 𝓤 = 𝓤; H = H; 𝓜 = 𝓜; 𝓖 = 𝓖; 𝓡 = 𝓡 }) (Reads.passes record { M = M; 𝓤 = 𝓤; H = H; 𝓜 = 𝓜; 𝓖 = 𝓖; 𝓡 = 𝓡 }) λ g.
-      closed 𝓤 H (𝓖 .A) (Running.givenOf 𝓤 H 𝓜 𝓖) (Run.Over 𝓤 H 𝓜 𝓖 𝓡 Code.env) (Reads''.known record { M = M; 𝓤 = 𝓤; H = H; 𝓜 = 𝓜; 𝓖 = 𝓖; 𝓡 = 𝓡 }
-      Code.env Symbol'.name Symbol'.routine Code.calls-hnsr-circuit·places·held-circuit (Met'.met 𝓤 H 𝓜 𝓖 𝓡)) (Reads'.known record {
-        M = M;
-        𝓤 = 𝓤;
-        H =
-            H;
-        𝓜 = 𝓜;
-        𝓖 = 𝓖;
-        𝓡 = 𝓡;
-      } Code.env Symbol.name Symbol.routine Code.calls-hnsr-circuit·circuits·no-circuit (Met.met 𝓤 H 𝓜 𝓖 𝓡))
+  close = λ closed 𝓤 H 𝓜 𝓖 𝓡. Written.close 1 Kinds.ps Kinds.r Reads.Ghost Reads.requires Reads.ensures Reads.pre-read
+      Reads.Pinned Reads.Owned Reads.post-read record { M = M; 𝓤 = 𝓤; H = H; 𝓜 = 𝓜; 𝓖 = 𝓖; 𝓡 = 𝓡 } Code.env Key.name
+      Code.function (Code.unfolded 𝓤 H 𝓜 𝓡) (λ κs a g. tt) (λ κs. Reads.owns κs
+      record { M = M; 𝓤 = 𝓤; H = H; 𝓜 = 𝓜; 𝓖 = 𝓖; 𝓡 = 𝓡 }) (Reads.passes
+      record { M = M; 𝓤 = 𝓤; H = H; 𝓜 = 𝓜; 𝓖 = 𝓖; 𝓡 = 𝓡 }) λ g. closed 𝓤 H (𝓖 .A) (Running.givenOf 𝓤 H 𝓜 𝓖)
+      (Run.Over 𝓤 H 𝓜 𝓖 𝓡 Code.env) (Reads''.known record { M = M; 𝓤 = 𝓤; H = H; 𝓜 = 𝓜; 𝓖 = 𝓖; 𝓡 = 𝓡 } Code.env
+      Symbol'.name Symbol'.routine Code.calls-hnsr-circuit·places·held-circuit (Met'.met 𝓤 H 𝓜 𝓖 𝓡)) (Reads'.known
+      record { M = M; 𝓤 = 𝓤; H = H; 𝓜 = 𝓜; 𝓖 = 𝓖; 𝓡 = 𝓡 } Code.env Symbol.name Symbol.routine
+      Code.calls-hnsr-circuit·circuits·no-circuit (Met.met 𝓤 H 𝓜 𝓖 𝓡))
